@@ -1,0 +1,13 @@
+//! The trees of the source language and what they mean.
+#![tactic(auto)]
+
+mod name;
+mod tree;
+
+pub use name::Name;
+pub use prem_list::Sequence;
+pub use prem_word::{BinOp, Kind};
+pub use tree::{
+    Expr, ForNames, Function, Global, Initial, Item, Local, Mark, Param, Place, Program, Region,
+    Stmt, Ty, UnOp,
+};
