@@ -1,3 +1,13 @@
 pub mod Name
 pub mod Syntax
 pub mod SyntaxOf
+pub mod Resolved
+pub mod Resolve
+pub mod Expressions
+pub mod Statements
+pub mod Source
+pub mod Sums
+pub mod Rules
+pub mod Breaches
+pub mod GroupTwo
+pub mod Checked

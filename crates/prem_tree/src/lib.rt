@@ -1,12 +1,16 @@
 //! The trees of the source language and what they mean.
 #![tactic(auto)]
 
+mod checked;
 mod name;
+mod rules;
 mod tree;
 
+pub use checked::Checked;
 pub use name::Name;
 pub use prem_list::Sequence;
 pub use prem_word::{BinOp, Kind};
+pub use rules::{Count, TypeRule};
 pub use tree::{
     Expr, ForNames, Function, Global, Initial, Item, Local, Mark, Param, Place, Program, Region,
     Stmt, Ty, UnOp,

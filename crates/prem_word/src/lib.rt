@@ -2,5 +2,9 @@
 #![tactic(auto)]
 
 mod kind;
+mod range;
+mod word;
 
 pub use kind::{BinOp, Kind};
+pub use range::Range;
+pub use word::{apply, signed};

@@ -1,0 +1,74 @@
+-- What the program answers to its words, over files by name: a status and a text.
+use Rattle.std.specs.Prelude.{◌≡◌, ℕ, ◌==◌, nat_le, Bool, true, false, ◌&&◌, not, if◌then◌else◌, List, [], ◌∷◌, ◌++◌, length, take, Option, None, Some, IfSome, codes, decimal}
+use Rattle.std.specs.Str.{bytes_eq}
+use Rattle.std.specs.Io.KnownBytes.{append_known}
+use Rattle.prem_io.specs.Files.{Files, stored}
+use Rattle.prem_tree.specs.Syntax.{ProgramText}
+use Rattle.prem_tree.specs.Source.{source}
+use Rattle.prem_small.specs.Runs.{outputs_of}
+use Rattle.prem_front.specs.Reads.{reads}
+use Rattle.prem_cli.specs.declared.top.Status.{Status}
+use Rattle.prem_cli.specs.declared.top.Status.TheVariants.{Done, Refused, Usage, Form, ReadFault, WriteFault, OutOfMemory, Missing}
+
+-- a file's name that begins with '-' is none
+abbrev pub begins_with_dash : List ℕ → Bool
+begins_with_dash [] = false
+begins_with_dash (b ∷ bs) = b == 45
+
+-- the file of `one FILE`
+abbrev pub one_file : List (List ℕ) → Option (List ℕ)
+one_file (command ∷ file ∷ []) = if bytes_eq command (codes "one") && not (begins_with_dash file) then Some file else None
+one_file _ = None
+
+-- the line of an output word, in unsigned decimal
+abbrev pub output_line : ℕ → List ℕ
+output_line v = codes "out " ++ (decimal v ++ codes "\n")
+
+abbrev pub output_lines : List ℕ → List ℕ
+output_lines [] = []
+output_lines (v ∷ vs) = output_line v ++ output_lines vs
+
+-- to a source's program: what one job of it writes, without input
+abbrev pub program_answer : Option ProgramText → Status × List ℕ
+program_answer None = (Refused, codes "refused one unbuilt\n")
+program_answer (Some p) = (Done, output_lines (outputs_of (source p [] 1)))
+
+-- to a file's bytes
+abbrev pub file_answer : List ℕ → Option (List ℕ) → Status × List ℕ
+file_answer name None = (Missing, codes "missing " ++ (name ++ codes "\n"))
+file_answer name (Some bytes) =
+    if nat_le (length bytes) 1048576 then program_answer (reads bytes) else (Form, codes "form " ++ (name ++ codes " too-long\n"))
+
+abbrev pub command_answer : Option (List ℕ) → Files → Status × List ℕ
+command_answer None files = (Usage, codes "usage: prem one FILE\n")
+command_answer (Some name) files = file_answer name (stored files name)
+
+-- the status and the text for the words, over the files
+abbrev pub answer : List (List ℕ) → Files → Status × List ℕ
+answer words files = command_answer (one_file words) files
+
+-- a status that an answer may have: no fault, and memory is there
+abbrev pub is_settled : Status → Bool
+is_settled ReadFault = false
+is_settled WriteFault = false
+is_settled OutOfMemory = false
+is_settled _ = true
+
+-- a status and a text are the answer over the files that the store tells, or over some where it tells none
+pub record IsAnswer (words : List (List ℕ)) (told : Option Files) (given : Status × List ℕ) : Type 0 where
+  pub files : Files
+  pub are_told : IfSome told (λ t. t ≡ files)
+  pub is : given ≡ answer words files
+
+-- what a call with this status wrote, where its answer is `given`, by what the sink tells before and after
+abbrev pub Ends : Status × List ℕ → Option (List ℕ) → Option (List ℕ) → Status → Type 0
+Ends given old new WriteFault = (n : ℕ) × (new ≡ append_known old (take n given.1))
+Ends given old new ReadFault = new ≡ old
+Ends given old new OutOfMemory = new ≡ old
+Ends given old new status = (status ≡ given.0) × (new ≡ append_known old given.1)
+
+-- the top call: its status and what it wrote are those of the answer, a prefix of it behind a fault of the sink, or nothing
+pub record Answered (words : List (List ℕ)) (told : Option Files) (old new : Option (List ℕ)) (status : Status) : Type 0 where
+  pub given : Status × List ℕ
+  pub answer : IsAnswer words told given
+  pub ends : Ends given old new status

@@ -1,0 +1,185 @@
+// What the program answers and writes, over stores and sinks in memory.
+use crate::top::{Status, prem};
+use prem_io::{FileMap, MemorySink, MemoryStore, SteadySink, SteadyStore};
+use std::alloc::{AllocError, Global};
+use std::test::Fail;
+
+fn words(alloc: Global, texts: &[&str]) -> Result<Vec<String>, AllocError> {
+    let mut all = Vec::new(alloc);
+    for text in texts {
+        all.push(String::from_str(alloc, text)?)?;
+    }
+    Ok(all)
+}
+
+// A status with the bytes written, of `one a.c` over this source.
+fn one(alloc: Global, source: &[u8]) -> Result<(Status, Vec<u8>), AllocError> {
+    let mut files = FileMap::new(alloc);
+    let _added = files.add(alloc, "a.c", source)?;
+    let mut store = MemoryStore::new(files, Vec::new(alloc));
+    let mut sink = MemorySink::new(alloc, 100000, 7, Vec::new(alloc))?;
+    let status = prem(
+        alloc,
+        &words(alloc, &["one", "a.c"])?,
+        &mut store,
+        &mut sink,
+    );
+    Ok((status, sink.bytes().to_vec(alloc)?))
+}
+
+#[test]
+fn answers_to_sources(rt: HostRuntime) -> Result<(), Fail> {
+    let alloc = rt.alloc();
+    let unbuilt = "refused one unbuilt\n";
+    let rows: [(&str, Status, &str); 14] = [
+        ("void job(void){ out(2+3); }", Status::Done, "out 5\n"),
+        ("void job(void){}", Status::Done, ""),
+        (
+            "void job(void){ out(0-1); }",
+            Status::Done,
+            "out 4294967295\n",
+        ),
+        (
+            "void job ( void )\n{\n\tout(7-2+1);\n\tout(10 - 20 - 30);\n}\n",
+            Status::Done,
+            "out 6\nout 4294967256\n",
+        ),
+        (
+            "void job(void){ out(0); out(2147483647); }",
+            Status::Done,
+            "out 0\nout 2147483647\n",
+        ),
+        (
+            "void job(void){ out(2047+0); out(2048+0); }",
+            Status::Done,
+            "out 2047\nout 2048\n",
+        ),
+        (
+            "void job(void){ out(4095); out(4096+6143); }",
+            Status::Done,
+            "out 4095\nout 10239\n",
+        ),
+        (
+            "void job(void){ out(2147483647+2147483647); }",
+            Status::Done,
+            "out 4294967294\n",
+        ),
+        ("void job(void){ out(2*3); }", Status::Refused, unbuilt),
+        (
+            "void job(void){ out(2147483648); }",
+            Status::Refused,
+            unbuilt,
+        ),
+        ("void job(void){ out(00); }", Status::Refused, unbuilt),
+        (
+            "void job(void){ /* five */ out(5); }",
+            Status::Refused,
+            unbuilt,
+        ),
+        ("void job(void){ out((5)); }", Status::Refused, unbuilt),
+        ("", Status::Refused, unbuilt),
+    ];
+    for (source, status, text) in rows {
+        let (got, written) = one(alloc, source.as_bytes())?;
+        assert_eq!(rt; got, status, "at {source}");
+        assert_eq!(rt; written.as_slice(), text.as_bytes(), "at {source}");
+    }
+    Ok(())
+}
+
+// A source of this many statements `out(1);`.
+fn ones(alloc: Global, statements: usize) -> Result<String, AllocError> {
+    let mut source = String::from_str(alloc, "void job(void){")?;
+    for _ in 0..statements {
+        source.push_str(" out(1);")?;
+    }
+    source.push_str("}")?;
+    Ok(source)
+}
+
+// A source of one statement, whose expression has one literal and this many additions of 1.
+fn sum(alloc: Global, additions: usize) -> Result<String, AllocError> {
+    let mut source = String::from_str(alloc, "void job(void){ out(1")?;
+    for _ in 0..additions {
+        source.push_str("+1")?;
+    }
+    source.push_str("); }")?;
+    Ok(source)
+}
+
+#[test]
+fn limits_of_small_texts(rt: HostRuntime) -> Result<(), Fail> {
+    let alloc = rt.alloc();
+    // A statement `out(1);` counts two: the statement and its literal.
+    let (most, written) = one(alloc, ones(alloc, 2048)?.as_bytes())?;
+    assert_eq!(rt; most, Status::Done);
+    assert_eq!(rt; written.len(), 2048 * 6);
+    assert_eq!(rt;
+        one(alloc, ones(alloc, 2049)?.as_bytes())?.0,
+        Status::Refused
+    );
+    // 127 additions are 255 tokens, 128 are 257.
+    let (long, written) = one(alloc, sum(alloc, 127)?.as_bytes())?;
+    assert_eq!(rt; long, Status::Done);
+    assert_eq!(rt; written.as_slice(), b"out 128\n".as_slice());
+    assert_eq!(rt; one(alloc, sum(alloc, 128)?.as_bytes())?.0, Status::Refused);
+    Ok(())
+}
+
+#[test]
+fn faults_and_files(rt: HostRuntime) -> Result<(), Fail> {
+    let alloc = rt.alloc();
+    let rows: [(&[&str], u64, u64, Status, &str); 8] = [
+        (&["one", "five.c"], 0, 2, Status::WriteFault, "out "),
+        (&["one", "five.c"], 0, 1, Status::WriteFault, ""),
+        (&["one", "five.c"], 0, 3, Status::Done, "out 5\n"),
+        (&["one", "five.c"], 1, 0, Status::ReadFault, ""),
+        (&["one", "no.c"], 0, 0, Status::Missing, "missing no.c\n"),
+        (
+            &["one", "long.c"],
+            0,
+            0,
+            Status::Form,
+            "form long.c too-long\n",
+        ),
+        (
+            &["one", "-five.c"],
+            0,
+            0,
+            Status::Usage,
+            "usage: prem one FILE\n",
+        ),
+        (&[], 0, 0, Status::Usage, "usage: prem one FILE\n"),
+    ];
+    for (texts, read_fault, write_fault, status, text) in rows {
+        let mut files = FileMap::new(alloc);
+        assert!(rt; files.add(alloc, "five.c", b"void job(void){ out(2+3); }")?);
+        assert!(rt; files.add(alloc, "long.c", &vec![in alloc; b' '; 1048577]?)?);
+        let mut store = MemoryStore::new(files, vec![in alloc; read_fault]?);
+        let mut sink = MemorySink::new(alloc, 100, 4, vec![in alloc; write_fault]?)?;
+        let got = prem(alloc, &words(alloc, texts)?, &mut store, &mut sink);
+        assert_eq!(rt; got, status);
+        assert_eq!(rt; sink.bytes(), text.as_bytes());
+    }
+    Ok(())
+}
+
+// Over a steady store and a steady sink no fault is answered: the prover shows those arms unreachable.
+#[test]
+fn steady_outside(rt: HostRuntime) -> Result<(), Fail> {
+    let alloc = rt.alloc();
+    let mut files = FileMap::new(alloc);
+    assert!(rt; files.add(alloc, "five.c", b"void job(void){ out(2+3); }")?);
+    let mut store = SteadyStore::new(files);
+    let mut sink = SteadySink::new();
+    match prem(
+        alloc,
+        &words(alloc, &["one", "five.c"])?,
+        &mut store,
+        &mut sink,
+    ) {
+        Status::ReadFault | Status::WriteFault => unreachable!(),
+        status => assert_eq!(rt; status, Status::Done),
+    }
+    Ok(())
+}

@@ -1,0 +1,59 @@
+// The texts that the program writes.
+ghost use Rattle.std.specs.Prelude.{◌≡◌, ◌++◌, IfOk, codes, string_bytes};
+ghost use Rattle.prem_cli.specs.Answer.{output_line, output_lines};
+
+use crate::top::Status;
+use std::alloc::{AllocError, Global};
+
+/// A status with its text.
+#[derive(Drop)]
+pub struct Answer {
+    pub status: Status,
+    pub text: Vec<u8>,
+}
+
+/// A status with a text of its own.
+pub fn fixed(alloc: Global, status: Status, text: &str) -> Result<Answer, AllocError>
+    ensures { IfOk result (λ a. (a.status ≡ status) × (a.text.items ≡ text.now)) }
+{
+    let text = text.as_bytes().to_vec(alloc)?;
+    Ok(Answer { status, text })
+}
+
+/// `missing FILE`.
+pub fn missing(alloc: Global, name: &str) -> Result<Answer, AllocError>
+    ensures { IfOk result (λ a. (a.status ≡ Status.Missing) × (a.text.items ≡ codes "missing " ++ (name.now ++ codes "\n"))) }
+{
+    Ok(Answer {
+        status: Status::Missing,
+        text: format!(in alloc; "missing {name}\n")?.into_bytes(),
+    })
+}
+
+/// `form FILE too-long`.
+pub fn too_long(alloc: Global, name: &str) -> Result<Answer, AllocError>
+    ensures { IfOk result (λ a. (a.status ≡ Status.Form) × (a.text.items ≡ codes "form " ++ (name.now ++ codes " too-long\n"))) }
+{
+    Ok(Answer {
+        status: Status::Form,
+        text: format!(in alloc; "form {name} too-long\n")?.into_bytes(),
+    })
+}
+
+// The line of one output word, in unsigned decimal.
+fn line(alloc: Global, word: u32) -> Result<String, AllocError>
+    ensures { IfOk result (λ s. string_bytes s ≡ output_line word) }
+{
+    format!(in alloc; "out {word}\n")
+}
+
+/// One line for each output word.
+pub fn lines(alloc: Global, words: &[u32]) -> Result<Vec<u8>, AllocError>
+    ensures { IfOk result (λ text. text.items ≡ output_lines words.now) }
+{
+    let mut text = Vec::new(alloc);
+    for word in words {
+        text.extend_from_slice(line(alloc, *word)?.as_bytes())?;
+    }
+    Ok(text)
+}

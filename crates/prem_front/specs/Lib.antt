@@ -1,0 +1,5 @@
+pub mod Tokens
+pub mod Phrases
+pub mod Small
+pub mod Reads
+pub mod Parts

@@ -1,0 +1,24 @@
+//! The instructions of the machine: RV32I and the six `pm` instructions, their words, costs and meaning.
+#![tactic(auto)]
+
+mod alu;
+mod codes;
+mod decoding;
+mod effect;
+mod encoding;
+mod execution;
+mod fields;
+mod instr;
+mod registers;
+
+pub use decoding::decode;
+pub use effect::{
+    Access, AccessKind, Cause, Change, DataLoad, Decision, Effect, Outcome, Phase, Stored,
+};
+pub use encoding::{cost, encode, fits};
+pub use execution::execute;
+pub use instr::{AluOp, BranchOp, Instr, LoadOp, StoreOp};
+pub use registers::{first_registers, set_register};
+
+#[cfg(test)]
+mod tests;

@@ -1,0 +1,10 @@
+//! What a task set stands on: its names, the plant with its devices, and the places of all parts in memory.
+#![tactic(auto)]
+
+mod label;
+mod layout;
+mod plant;
+
+pub use label::{Label, is_name};
+pub use layout::{FnId, Layout, PartKind, PartSize, PlantFail, TaskId, place_parts};
+pub use plant::{Device, Plant};

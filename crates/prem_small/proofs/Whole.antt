@@ -1,0 +1,155 @@
+-- One job of a small program runs to its end and puts out its words.
+use Rattle.std.proofs.Common.{◌≡◌, ◌<◌, ◌≤◌, ℕ, suc, ◌+◌, ◌-◌, ◌*◌, ◌/◌, ◌%◌, ◌^◌, ◌==◌, pos, negsuc, nat_le, Bool, true, false, List, [], ◌∷◌, ◌++◌, length, Some, None, get_or, refl, ap, ◌∙◌, sym, subst, arith, length-append, lit<, lit≤, eq-eqb}
+use Rattle.std.specs.Prelude.{if◌then◌else◌, replicate, slice_index}
+use Rattle.std.proofs.lemmas.Bool.{le-leb}
+use Rattle.prem_word.specs.Bytes.{number_at, put_number}
+use Rattle.prem_word.proofs.Bytes.{number_at-put_number}
+use Rattle.prem_isa.specs.declared.instr.Instr.{Instr}
+use Rattle.prem_isa.specs.declared.instr.Instr.TheVariants.{Jal, Jalr, Load, Store, OpImm, PmDone}
+use Rattle.prem_isa.specs.declared.instr.LoadOp.TheVariants.{Lw}
+use Rattle.prem_isa.specs.declared.instr.StoreOp.TheVariants.{Sw}
+use Rattle.prem_isa.specs.declared.instr.AluOp.TheVariants.{Add}
+use Rattle.prem_isa.specs.declared.effect.Phase.TheVariants.{Compatible}
+use Rattle.prem_isa.specs.declared.effect.Outcome.{Outcome}
+use Rattle.prem_isa.specs.declared.effect.Outcome.TheVariants.{Trap}
+use Rattle.prem_isa.specs.declared.effect.Cause.TheVariants.{Align, Outside}
+use Rattle.prem_isa.specs.Alu.{plus, word_of_int}
+use Rattle.prem_isa.specs.Act.{act, accesses, first_registers, jumps, loads, stores, with_register}
+use Rattle.prem_isa.specs.Plain.{TaskRun, PlainState, plain_run, plain_steps, plain_start}
+use Rattle.prem_tree.specs.Syntax.{Statements}
+use Rattle.prem_front.specs.Small.{IsSmallBody, body_size}
+use Rattle.prem_small.specs.Code.{body_code, epilogue, prologue, job_code, start_code, code_of, code_end, stack_top}
+use Rattle.prem_small.specs.Image.{memory_size, code_bytes, image_of, Stands}
+use Rattle.prem_small.specs.Runs.{body_values, task_run, EndsWith}
+use Rattle.prem_small.proofs.Stands.{stands_there, stands-append, stands_kept}
+use Rattle.prem_small.proofs.Straight.{going, Goes, goes_then, step_here}
+use Rattle.prem_small.proofs.Body.{task, body_goes}
+use Rattle.prem_small.proofs.Sizes.{code_length, code_fits, body_length}
+
+-- ---- the frame's word
+
+accesses_done : (size address : ℕ) (o : Outcome) → address % 4 ≡ 0 → address + 4 ≤ size → accesses size address 4 o ≡ o
+accesses_done size address o aligned within =
+    ap (λ b. if b then (if nat_le (address + 4) size then o else Trap Outside) else Trap Align) (eq-eqb (address % 4) 0 aligned)
+    ∙ ap (λ b. if b then o else Trap Outside) (le-leb (address + 4) size within)
+
+store_acts : (size sp : ℕ) (view registers : ℕ → ℕ) (pc : ℕ) → registers 2 ≡ sp → sp < 2 ^ 32 → sp % 4 ≡ 0 → sp + 4 ≤ size →
+    act size view registers pc Compatible 0 (Store Sw 2 1 (pos 0)) ≡ stores (pc + 4) Sw sp (registers 1)
+store_acts size sp view registers pc is small aligned within =
+    let address : plus sp (pos 0) ≡ sp = omega arith in
+    ap (λ a. accesses size (plus a (pos 0)) 4 (stores (pc + 4) Sw (plus a (pos 0)) (registers 1))) is
+    ∙ ap (λ a. accesses size a 4 (stores (pc + 4) Sw a (registers 1))) address
+    ∙ accesses_done size sp (stores (pc + 4) Sw sp (registers 1)) aligned within
+
+load_acts : (size sp : ℕ) (view registers : ℕ → ℕ) (pc : ℕ) → registers 2 ≡ sp → sp < 2 ^ 32 → sp % 4 ≡ 0 → sp + 4 ≤ size →
+    act size view registers pc Compatible 0 (Load Lw 1 2 (pos 0)) ≡ loads (pc + 4) Lw 1 sp (number_at view sp 4)
+load_acts size sp view registers pc is small aligned within =
+    let address : plus sp (pos 0) ≡ sp = omega arith in
+    ap (λ a. accesses size (plus a (pos 0)) 4 (loads (pc + 4) Lw 1 (plus a (pos 0)) (number_at view (plus a (pos 0)) 4))) is
+    ∙ ap (λ a. accesses size a 4 (loads (pc + 4) Lw 1 a (number_at view a 4))) address
+    ∙ accesses_done size sp (loads (pc + 4) Lw 1 sp (number_at view sp 4)) aligned within
+
+-- ---- before the statements
+
+-- the state behind the prologue: the return address 4 in x1 and in the frame
+pub record Entered (run : TaskRun) (sp : ℕ) (view : ℕ → ℕ) : Type 0 where
+  pub registers : ℕ → ℕ
+  pub zer : registers 0 ≡ 0
+  pub stack : registers 2 ≡ sp
+  pub goes : Goes run (going (task (first_registers run.stack) view []) 0) 3 (going (task registers (put_number 4 sp 4 view) []) 16)
+
+entered : (run : TaskRun) (sp : ℕ) (view : ℕ → ℕ) (rest : List Instr) → run.jobs ≡ 1 → run.stack ≡ sp + 16 → sp + 16 < 2 ^ 32 → sp % 4 ≡ 0 → sp + 4 ≤ run.size → 16 ≤ run.size →
+    Stands (start_code ++ (prologue ++ rest)) 0 view → Entered run sp view
+entered run sp view rest one stack small aligned within room stands =
+    let r1 = with_register 1 4 (first_registers run.stack) in
+    let r2 = with_register 2 ((r1 2 + word_of_int (negsuc 15)) % 2 ^ 32) r1 in
+    let down : (run.stack + word_of_int (negsuc 15)) % 2 ^ 32 ≡ sp = omega arith in
+    let sp_small : sp < 2 ^ 32 = omega arith in
+    let four : 0 + 4 ≤ run.size = omega arith in
+    let twelve : 8 + 4 ≤ run.size = omega arith in
+    let sixteen : 12 + 4 ≤ run.size = omega arith in
+    let jal = step_here run (task (first_registers run.stack) view []) 0 (Jal 1 (pos 8)) _ one four stands.0 stands.1 refl in
+    let addi = step_here run (task r1 view []) 8 (OpImm Add 2 2 (negsuc 15)) _ one twelve stands.2.2.0 stands.2.2.1 refl in
+    let sw = step_here run (task r2 view []) 12 (Store Sw 2 1 (pos 0)) _ one sixteen stands.2.2.2.0 stands.2.2.2.1
+    (store_acts run.size sp view r2 12 down sp_small aligned within) in
+    record {
+      registers = r2;
+      zer = refl;
+      stack = down;
+      goes = goes_then run _ _ _ 2 1 (goes_then run _ _ _ 1 1 jal addi) sw;
+    }
+
+-- ---- behind the statements
+
+-- from the epilogue on the job ends
+pub record Left (run : TaskRun) (registers view : ℕ → ℕ) (words : List ℕ) (at : ℕ) : Type 0 where
+  pub last : PlainState
+  pub goes : Goes run (going (task registers view words) at) 4 last
+  pub ended : last.ended ≡ 1
+  pub untrapped : last.trapped ≡ None
+  pub outputs : last.task.outputs ≡ words
+
+left : (run : TaskRun) (sp : ℕ) (registers view : ℕ → ℕ) (words : List ℕ) (at : ℕ) → run.jobs ≡ 1 → registers 2 ≡ sp → sp < 2 ^ 32 → sp % 4 ≡ 0 →
+    sp + 4 ≤ run.size → at + 12 ≤ run.size → number_at view sp 4 ≡ 4 → Stands epilogue at view → Stands start_code 0 view → Left run registers view words at
+left run sp registers view words at one stack small aligned within room saved stands start =
+    let r1 = with_register 1 (number_at view sp 4) registers in
+    let r2 = with_register 2 ((r1 2 + word_of_int (pos 16)) % 2 ^ 32) r1 in
+    let load_room : at + 4 ≤ run.size = omega arith in
+    let add_room : at + 4 + 4 ≤ run.size = omega arith in
+    let jump_room : at + 4 + 4 + 4 ≤ run.size = omega arith in
+    let done_room : 4 + 4 ≤ run.size = omega arith in
+    let lw = step_here run (task registers view words) at (Load Lw 1 2 (pos 0)) _ one load_room stands.0 stands.1
+    (load_acts run.size sp view registers at stack small aligned within) in
+    let addi = step_here run (task r1 view words) (at + 4) (OpImm Add 2 2 (pos 16)) _ one add_room stands.2.0 stands.2.1 refl in
+    let jalr = step_here run (task r2 view words) (at + 4 + 4) (Jalr 0 1 (pos 0)) _ one jump_room stands.2.2.0 stands.2.2.1
+    (ap (λ w. jumps (plus w (pos 0) / 2 * 2) 0 (at + 4 + 4 + 4)) saved) in
+    let done = step_here run (task r2 view words) 4 PmDone _ one done_room start.2.0 start.2.1 refl in
+    record {
+      last = _;
+      goes = goes_then run _ _ _ 3 1 (goes_then run _ _ _ 2 1 (goes_then run _ _ _ 1 1 lw addi) jalr) done;
+      ended = refl;
+      untrapped = refl;
+      outputs = refl;
+    }
+
+-- ---- the whole run
+
+-- the stack begins at or behind the end of the code
+stack_behind : (b : Statements) → (sp : ℕ) × (stack_top b ≡ sp + 16) × (code_end b ≤ sp) × (sp ≤ code_end b + 15) × (sp % 4 ≡ 0)
+stack_behind b =
+    ((code_end b + 15) / 16 * 16, refl, omega arith, omega arith, omega arith)
+
+pub small_runs : (b : Statements) → IsSmallBody b → body_size b ≤ 4096 → EndsWith (task_run b) (length (code_of b)) (body_values b)
+small_runs b small counted =
+    let run = task_run b in
+    let code = code_of b in
+    let n = length (body_code b) in
+    let bottom = stack_behind b in
+    let sp = bottom.0 in
+    let count : length (code_of b) ≡ length (body_code b) + 7 = code_length b in
+    let size : length (body_code b) ≤ 2 * body_size b = body_length b small in
+    let low : code_end b ≤ bottom.0 = bottom.2 in
+    let near : bottom.0 ≤ code_end b + 15 = bottom.3 in
+    let stack_small : bottom.0 + 16 < 2 ^ 32 = omega (arith, count, size, near) in
+    let within : bottom.0 + 4 ≤ memory_size = omega (arith, count, size, near) in
+    let view = slice_index (image_of code) in
+    let saved = put_number 4 sp 4 view in
+    let stands : Stands (code_of b) 0 (slice_index (image_of (code_of b))) = stands_there (code_of b) [] (replicate (memory_size - 4 * length (code_of b)) 0) (code_fits b small) in
+    let kept : Stands (code_of b) 0 (put_number 4 bottom.0 4 (slice_index (image_of (code_of b)))) = stands_kept (code_of b) 0 4 bottom.0 4 view (omega (arith, low)) stands in
+    let sp_small : bottom.0 < 2 ^ 32 = omega arith in
+    let first = entered run sp view (body_code b ++ epilogue) refl bottom.1 stack_small bottom.4 within (lit≤ tt) stands in
+    let parts = stands-append (body_code b) epilogue 16 saved kept.2.2.2.2 in
+    let body_room : 16 + 4 * length (body_code b) ≤ memory_size = omega (arith, size) in
+    let middle = body_goes run b first.registers saved [] 16 refl small first.zer body_room parts.0 in
+    let at = 16 + 4 * n in
+    let end_room : 16 + 4 * length (body_code b) + 12 ≤ memory_size = omega (arith, size) in
+    let last = left run sp middle.after saved (body_values b) at refl (middle.below 2 (lit< tt) ∙ first.stack) sp_small bottom.4 within end_room
+    (number_at-put_number 4 sp 4 view) parts.1 (kept.0, kept.1, (kept.2.0, kept.2.1, tt)) in
+    let all = goes_then run _ _ _ (3 + n) 4 (goes_then run _ _ _ 3 n first.goes middle.goes) last.goes in
+    let steps : length (code_of b) ≡ 3 + length (body_code b) + 4 = omega (arith, count) in
+    let is : plain_run (task_run b) (length (code_of b)) ≡ last.last = ap (λ k. plain_steps run k (plain_start run)) steps ∙ all.is in
+    record {
+      ended = ap (λ s. s.ended) is ∙ last.ended;
+      untrapped = ap (λ s. s.trapped) is ∙ last.untrapped;
+      outputs = ap (λ s. s.task.outputs) is ∙ last.outputs;
+    }

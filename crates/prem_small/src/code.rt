@@ -1,0 +1,167 @@
+// The code of small programs.
+ghost use Rattle.std.specs.Prelude.{◌≡◌, ◌<◌, ◌≤◌, ◌^◌, ◌++◌, OnOk, IfOk, vec_len};
+ghost use Rattle.prem_tree.specs.SyntaxOf.{expression_of, statements_of};
+ghost use Rattle.prem_front.specs.Small.{IsSum, IsIntLiteral, IsSmallBody, body_size};
+ghost use Rattle.prem_isa.specs.declared.instr.Instr.TheVariants.{OpImm};
+ghost use Rattle.prem_isa.specs.declared.instr.AluOp.TheVariants.{Add};
+ghost use Rattle.prem_small.specs.Code.{constant_code, right_code, sum_code, body_code, start_code, prologue, epilogue, code_of};
+ghost use Rattle.prem_small.specs.Image.{AllFit};
+
+use prem_isa::{AluOp, Instr, LoadOp, StoreOp};
+use prem_tree::{BinOp, Expr, Stmt};
+use std::alloc::{AllocError, Global};
+
+/// The register of a statement's value.
+const VALUE: u8 = 10;
+
+/// The register of an operator's right side.
+const RIGHT: u8 = 11;
+
+// `addi`.
+fn add_immediate(rd: u8, rs1: u8, imm: i32) -> Instr
+    ensures { result ≡ OpImm Add rd rs1 imm }
+{
+    Instr::OpImm {
+        op: AluOp::Add,
+        rd,
+        rs1,
+        imm,
+    }
+}
+
+// A constant into a register.
+fn emit_constant(code: &mut Vec<Instr>, rd: u8, c: u32) -> Result<(), AllocError>
+    requires { c < 2 ^ 31 }
+    ensures { OnOk result (code.new.items ≡ code.old.items ++ constant_code rd c) }
+{
+    if c < 2048 {
+        code.push(add_immediate(rd, 0, c as i32))?;
+        return Ok(());
+    }
+    let low = (c % 4096) as i32;
+    code.push(Instr::Lui {
+        rd,
+        imm: (c + 2048) / 4096,
+    })?;
+    let low = if low < 2048 { low } else { low - 4096 };
+    code.push(add_immediate(rd, rd, low))?;
+    Ok(())
+}
+
+// The right side of an operator, a literal, into its register.
+fn emit_right(code: &mut Vec<Instr>, e: &Expr) -> Result<(), AllocError>
+    requires { IsIntLiteral (expression_of e.now) }
+    ensures { OnOk result (code.new.items ≡ code.old.items ++ right_code (expression_of e.now)) }
+{
+    match e {
+        Expr::Literal { value, .. } => emit_constant(code, RIGHT, *value),
+        _ => unreachable!(),
+    }
+}
+
+// A sum into the register of values.
+fn emit_sum(code: &mut Vec<Instr>, e: &Expr) -> Result<(), AllocError>
+    requires { IsSum (expression_of e.now) }
+    ensures { OnOk result (code.new.items ≡ code.old.items ++ sum_code (expression_of e.now)) }
+{
+    match e {
+        Expr::Literal { value, .. } => emit_constant(code, VALUE, *value),
+        Expr::Binary {
+            op,
+            left,
+            right,
+            ..
+        } => {
+            emit_sum(code, left)?;
+            emit_right(code, right)?;
+            let op = match op {
+                BinOp::Sub => AluOp::Sub,
+                _ => AluOp::Add,
+            };
+            code.push(Instr::Op {
+                op,
+                rd: VALUE,
+                rs1: VALUE,
+                rs2: RIGHT,
+            })?;
+            Ok(())
+        }
+        _ => unreachable!(),
+    }
+}
+
+// The statements of `job`.
+fn emit_body(code: &mut Vec<Instr>, body: &[Stmt]) -> Result<(), AllocError>
+    requires { IsSmallBody (statements_of body.now) }
+    ensures { OnOk result (code.new.items ≡ code.old.items ++ body_code (statements_of body.now)) }
+{
+    for statement in body {
+        match statement {
+            Stmt::Output { value, .. } => {
+                emit_sum(code, value)?;
+                code.push(Instr::PmOut { rs1: VALUE })?;
+            }
+            _ => unreachable!(),
+        }
+    }
+    Ok(())
+}
+
+// The call of `job`, which stands behind it, and the end of the job.
+fn emit_start(code: &mut Vec<Instr>) -> Result<(), AllocError>
+    ensures { OnOk result (code.new.items ≡ code.old.items ++ start_code) }
+{
+    code.push(Instr::Jal { rd: 1, offset: 8 })?;
+    code.push(Instr::PmDone)?;
+    Ok(())
+}
+
+// The frame is taken and the return address saved.
+fn emit_prologue(code: &mut Vec<Instr>) -> Result<(), AllocError>
+    ensures { OnOk result (code.new.items ≡ code.old.items ++ prologue) }
+{
+    code.push(add_immediate(2, 2, -16))?;
+    code.push(Instr::Store {
+        op: StoreOp::Sw,
+        rs1: 2,
+        rs2: 1,
+        offset: 0,
+    })?;
+    Ok(())
+}
+
+// The return address is loaded and the frame given back.
+fn emit_epilogue(code: &mut Vec<Instr>) -> Result<(), AllocError>
+    ensures { OnOk result (code.new.items ≡ code.old.items ++ epilogue) }
+{
+    code.push(Instr::Load {
+        op: LoadOp::Lw,
+        rd: 1,
+        rs1: 2,
+        offset: 0,
+    })?;
+    code.push(add_immediate(2, 2, 16))?;
+    code.push(Instr::Jalr {
+        rd: 0,
+        rs1: 1,
+        offset: 0,
+    })?;
+    Ok(())
+}
+
+/// The code of a program whose `job` has this body, from address 0 on: the start, then `job`.
+#[tactic(auto, using(crate::proofs::Sizes::code_fits, crate::proofs::Sizes::code_small))]
+pub fn code_of(alloc: Global, body: &[Stmt]) -> Result<Vec<Instr>, AllocError>
+    requires small { IsSmallBody (statements_of body.now) }
+    requires counted { body_size (statements_of body.now) ≤ 4096 }
+    ensures code { IfOk result (λ code. code.items ≡ code_of (statements_of body.now)) }
+    ensures fit { IfOk result (λ code. AllFit code.items) }
+    ensures few { IfOk result (λ code. vec_len code ≤ 8199) }
+{
+    let mut code = Vec::new(alloc);
+    emit_start(&mut code)?;
+    emit_prologue(&mut code)?;
+    emit_body(&mut code, body)?;
+    emit_epilogue(&mut code)?;
+    Ok(code)
+}
