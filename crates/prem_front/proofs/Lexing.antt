@@ -22,10 +22,10 @@ word_length-cons c rest is = let e : 1 + word_length rest ≡ suc (word_length r
 word_length-stop : (c : ℕ) (rest : List ℕ) → is_word_byte c ≡ false → word_length (c ∷ rest) ≡ 0
 word_length-stop c rest is = rw is
 
-cons_word : (c : ℕ) (rest : List ℕ) → is_word_byte c ≡ true → pieces_of (c ∷ rest) ≡ put_word_byte c (pieces_of rest)
+pub cons_word : (c : ℕ) (rest : List ℕ) → is_word_byte c ≡ true → pieces_of (c ∷ rest) ≡ put_word_byte c (pieces_of rest)
 cons_word c rest is = rw is
 
-cons_other : (c : ℕ) (rest : List ℕ) → is_word_byte c ≡ false → pieces_of (c ∷ rest) ≡ other c ∷ pieces_of rest
+pub cons_other : (c : ℕ) (rest : List ℕ) → is_word_byte c ≡ false → pieces_of (c ∷ rest) ≡ other c ∷ pieces_of rest
 cons_other c rest is = rw is
 
 -- the word at the front of a text and the pieces behind it, the word with another byte before it

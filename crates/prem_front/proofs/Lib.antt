@@ -5,4 +5,5 @@ pub mod Sizes
 pub mod Laws
 pub mod Digits
 pub mod Lexing
+pub mod Pieces
 pub mod Fronts

@@ -1,4 +1,5 @@
 pub mod Tokens
+pub mod Pieces
 pub mod Phrases
 pub mod Small
 pub mod Reads

@@ -7,6 +7,7 @@ ghost use Rattle.prem_tree.specs.Syntax.{ProgramText};
 ghost use Rattle.prem_tree.specs.SyntaxOf.{expression_of, statement_of, statements_of, program_of};
 ghost use Rattle.prem_front.specs.Phrases.{job_program, Spells};
 ghost use Rattle.prem_front.specs.Reads.{body_from, sum_from, reads};
+ghost use Rattle.prem_front.specs.Small.{IsSmallTree};
 ghost use Rattle.prem_front.specs.Parts.{job_place, is_end, out_place, first_literal, first_addend, with_addend, is_closed, sum_start, statement_before, body_of};
 
 use crate::fail::FrontFail;
@@ -136,10 +137,13 @@ fn with_addend(alloc: Global, left: Expr, addend: Addend) -> Result<Expr, AllocE
 // A sum, and the place behind it among the tokens.
 fn sum(alloc: Global, all: &[Seen], from: usize) -> Result<(Expr, usize), FrontFail>
     requires { from ≤ length all.now }
-    ensures ok { IfOk result (λ r. (at : Place) → sum_start at (drop from all.now) ≡ sum_from at (expression_of r.0) (r.1 - from) (drop r.1 all.now)) }
-    ensures further { IfOk result (λ r. (from < r.1) × (r.1 ≤ length all.now) × (r.1 ≤ from + SUM_TOKENS)) }
+    ensures ok { IfOk result (λ r. (at : Place) → sum_start at (drop from all.now)
+        ≡ sum_from at (expression_of r.0) (r.1 - from) (drop r.1 all.now)) }
+    ensures further { IfOk result (λ r.
+        (from < r.1) × (r.1 ≤ length all.now) × (r.1 ≤ from + SUM_TOKENS)) }
     ensures ended { IfOk result (λ r. first_addend (drop r.1 all.now) ≡ None) }
-    ensures unbuilt { IsErrOf result FrontFail.Unbuilt → (at : Place) → sum_start at (drop from all.now) ≡ None }
+    ensures unbuilt { IsErrOf result FrontFail.Unbuilt
+        → (at : Place) → sum_start at (drop from all.now) ≡ None }
 {
     let Some(mut value) = first_literal(all, from) else {
         return Err(FrontFail::Unbuilt);
@@ -165,7 +169,8 @@ fn is_closed(all: &[Seen], from: usize) -> bool
     matches!(&all[from..], [(Token::Close, _), (Token::Semicolon, _), ..])
 }
 
-// A statement that was read, how many statements, literals and operators it has, and the place behind it.
+// A statement that was read, how many statements, literals and operators it has, and the place
+// behind it among the tokens.
 #[derive(Drop)]
 struct Taken {
     statement: Stmt,
@@ -176,8 +181,11 @@ struct Taken {
 fn statement(alloc: Global, all: &[Seen], from: usize) -> Result<Taken, FrontFail>
     requires within { from ≤ length all.now }
     requires more { is_end (drop from all.now) ≡ false }
-    ensures ok { IfOk result (λ taken. body_from (drop from all.now) ≡ option_map (statement_before (statement_of taken.statement) taken.counted) (body_from (drop taken.next all.now))) }
-    ensures further { IfOk result (λ taken. (from < taken.next) × (taken.next ≤ length all.now) × (taken.counted ≤ SUM_TOKENS + 1)) }
+    ensures ok { IfOk result (λ taken. body_from (drop from all.now)
+        ≡ option_map (statement_before (statement_of taken.statement) taken.counted)
+        (body_from (drop taken.next all.now))) }
+    ensures further { IfOk result (λ taken. (from < taken.next)
+        × (taken.next ≤ length all.now) × (taken.counted ≤ SUM_TOKENS + 1)) }
     ensures unbuilt { IsErrOf result FrontFail.Unbuilt → body_from (drop from all.now) ≡ None }
 {
     let Some(at) = out_place(all, from) else {
@@ -246,7 +254,9 @@ pub fn parse(alloc: Global, text: &[u8]) -> Result<Program, FrontFail>
     ensures exact { IfOk result (λ p. reads text.now ≡ Some (program_of p)) }
     ensures unbuilt { IsErrOf result FrontFail.Unbuilt → reads text.now ≡ None }
     ensures small { IfOk result (λ p. Spells text.now (program_of p)) }
-    ensures only { (tree : ProgramText) → Spells text.now tree → MatchResult result (λ p. program_of p ≡ tree) (λ fail. fail ≡ FrontFail.OutOfMemory) }
+    ensures form { IfOk result (λ p. IsSmallTree (program_of p)) }
+    ensures only { (tree : ProgramText) → Spells text.now tree
+        → MatchResult result (λ p. program_of p ≡ tree) (λ fail. fail ≡ FrontFail.OutOfMemory) }
 {
     if text.len() > TEXT_BYTES {
         return Err(FrontFail::Unbuilt);

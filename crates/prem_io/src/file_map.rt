@@ -39,7 +39,9 @@ impl FileMap {
         }
     }
 
-    /// Puts a file behind the others, and answers whether it did: not where the name is there.
+    /// Puts a file behind the others and answers true, or answers false where the name is there.
+    ///
+    /// Where it doesn't add the file, for want of memory too, nothing changes.
     pub fn add(&mut self, alloc: Global, name: &str, bytes: &[u8]) -> Result<bool, AllocError>
         ensures there { IfOk result (λ added. (added ≡ false) ↔ IsSome (stored self.old name.now)) }
         ensures added { IfOk result

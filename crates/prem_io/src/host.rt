@@ -12,7 +12,9 @@ use std::io::Read;
 use std::marker::Model;
 use std::rt::Files;
 
-/// The files of the computer. Contracts see it as the count of its faults.
+/// The files of the computer, of which contracts see the count of faults alone.
+///
+/// Only a file that isn't there is `Missing`. A folder, a path that can't be and a read that fails are faults.
 #[derive(Drop)]
 pub struct DiskStore<'r, R: Files> {
     rt: &'r R,
@@ -84,7 +86,9 @@ impl<'r, R: Files> Store for DiskStore<'r, R> {
     }
 }
 
-/// The standard output of the program. Contracts see it as the count of its faults.
+/// The standard output of the program, of which contracts see the count of faults alone.
+///
+/// An output that takes nothing of a piece that isn't empty has a fault.
 #[derive(Drop)]
 pub struct OutSink<'r, R: Print> {
     rt: &'r R,

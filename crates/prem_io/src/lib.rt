@@ -1,4 +1,7 @@
-//! The program's outside: stores that give files, sinks that take bytes, each with a count of its faults.
+//! The program's outside: stores that give files and sinks that take bytes, each with a count of its faults.
+//!
+//! Programs are generic over a `Store` and a `Sink`. `DiskStore` and `OutSink` are the computer's own: what
+//! its files hold and what its output received is trusted. The others stand in for them in memory.
 #![tactic(auto)]
 
 mod file_map;

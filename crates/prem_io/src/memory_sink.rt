@@ -7,7 +7,8 @@ use crate::sink::{Sink, SinkFailed};
 use std::alloc::{AllocError, Global};
 use std::marker::Model;
 
-/// A sink in memory, of a fixed room, that takes few bytes in a call, and some of whose calls fail.
+/// A sink in memory that holds few bytes, takes few in a call and fails at given calls, to try out what
+/// comes of faults and of pieces that are taken in part.
 #[derive(Drop)]
 pub struct MemorySink {
     held: Vec<u8>,
@@ -35,8 +36,8 @@ impl Model for MemorySink {
 }
 
 impl MemorySink {
-    /// An empty sink for `room` bytes, with all of their memory, that takes at most `piece` bytes in a call
-    /// and fails at the calls of these numbers, counted from 1.
+    /// An empty sink for `room` bytes that takes at most `piece` bytes in a call and fails at the calls of
+    /// these numbers, counted from 1. All of its memory is taken here.
     pub fn new(
         alloc: Global,
         room: usize,
@@ -101,7 +102,7 @@ impl Sink for MemorySink {
     }
 }
 
-/// A sink that takes every piece whole, and keeps the number of its bytes alone.
+/// A sink that never fails: it takes every piece whole, and keeps the number of its bytes alone.
 #[derive(Drop)]
 pub struct SteadySink {
     count: u64,
@@ -141,6 +142,10 @@ mod tests {
     use super::*;
     use std::test::Fail;
 
+    fn three_writes(sink: &mut MemorySink) -> [Result<usize, SinkFailed>; 3] {
+        [sink.write(b"out 5"), sink.write(b""), sink.write(b"!")]
+    }
+
     #[test]
     fn takes_pieces_and_fails_where_told(rt: HostRuntime) -> Result<(), Fail> {
         let alloc = rt.alloc();
@@ -157,9 +162,7 @@ mod tests {
         for ((room, piece, failing), answers, bytes, faults) in rows {
             assert!(rt; piece > 0);
             let mut sink = MemorySink::new(alloc, room, piece, [failing].to_vec(alloc)?)?;
-            assert_eq!(rt; sink.write(b"out 5"), answers[0]);
-            assert_eq!(rt; sink.write(b""), answers[1]);
-            assert_eq!(rt; sink.write(b"!"), answers[2]);
+            assert_eq!(rt; three_writes(&mut sink), answers);
             assert_eq!(rt; sink.bytes(), bytes);
             assert_eq!(rt; sink.faults, faults);
         }

@@ -7,7 +7,7 @@ ghost use Rattle.prem_io.specs.Counts.{Rose};
 #[derive(Clone, Copy, Debug, PartialEq, Eq)]
 pub struct SinkFailed;
 
-/// Bytes, taken piece by piece.
+/// Bytes that are taken piece by piece, with a count of faults that never falls.
 pub trait Sink {
     // The bytes so far, where the sink tells them.
     ghost bytes: { Self → Option (List ℕ) };

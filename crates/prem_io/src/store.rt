@@ -18,7 +18,7 @@ pub enum StoreFail {
     OutOfMemory,
 }
 
-/// Files by name.
+/// Files by name, with a count of faults that never falls.
 pub trait Store {
     // The files, where the store tells them.
     ghost files: { Self → Option Files };
@@ -28,7 +28,7 @@ pub trait Store {
 
     /// Reads a whole file of at most `limit` bytes into the empty vector, which a refusal leaves empty.
     ///
-    /// No call changes the files. A fault or want of memory may come before the other answers.
+    /// No call changes the files. A fault and want of memory may come in place of any other answer.
     fn read_file(
         &mut self,
         alloc: Global,
@@ -43,7 +43,8 @@ pub trait Store {
         ensures failed { IsErrOf result StoreFail.Failed → Rose (faults self.old) (faults self.new) }
         ensures count { faults self.old ≤ faults self.new }
 
-        // Where the files are told, these three give the one answer that a file and a limit have.
+        // Where the files are told, these leave one answer beside a fault and want of memory: `Missing`
+        // where no file has the name, `TooLong` where its bytes pass the limit, else `Ok` with its bytes.
         ensures bytes { IfSome (files self.old)
             (λ told. OnOk result (stored told name.now ≡ Some into.new.items)) }
         ensures missing { IsErrOf result StoreFail.Missing

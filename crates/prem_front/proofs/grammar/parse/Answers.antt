@@ -7,7 +7,7 @@ use Rattle.prem_front.specs.Phrases.{job_program}
 use Rattle.prem_front.specs.Reads.{reads}
 use Rattle.prem_front.specs.Parts.{job_place, body_of}
 use Rattle.prem_front.proofs.Fronts.{reads_head}
-use Rattle.prem_front.proofs.Laws.{only_tree, only_memory, reads_spelled}
+use Rattle.prem_front.proofs.Laws.{only_tree, only_memory, reads_spelled, reads_small}
 use Rattle.prem_front.proofs.grammar.parse.Goals as goal
 
 pub returns-in_err-body-clause-only : goal.returns-in_err-body-clause-only
@@ -29,6 +29,13 @@ returns-clause-small c =
     let tree = program_of c.in_ok-job.field-0 in
     let read : reads text ≡ Some tree = search rules in
     reads_spelled text tree read
+
+pub returns-clause-form : goal.returns-clause-form
+returns-clause-form c =
+    let text = c.args.text.now in
+    let tree = program_of c.in_ok-job.field-0 in
+    let read : reads text ≡ Some tree = search rules in
+    reads_small text tree read
 
 pub returns-clause-only : goal.returns-clause-only
 returns-clause-only c =
