@@ -91,7 +91,7 @@ pub struct Effect {
     pub rd: u8,
     /// The word written to it.
     pub value: u32,
-    /// The next program counter. At `pm.done` the next job's entry stands in its place.
+    /// The next program counter; behind `pm.done` the next job begins at its entry instead.
     pub pc: u32,
     /// The data access of a load or a store.
     pub access: Option<Access>,

@@ -9,6 +9,7 @@ mod encoding;
 mod execution;
 mod fields;
 mod instr;
+mod laws;
 mod registers;
 
 pub use decoding::decode;
@@ -18,6 +19,7 @@ pub use effect::{
 pub use encoding::{cost, encode, fits};
 pub use execution::execute;
 pub use instr::{AluOp, BranchOp, Instr, LoadOp, StoreOp};
+pub use laws::{instructions_keep_bounds, instructions_read_their_bytes, runs_compose_and_fit};
 pub use registers::{first_registers, set_register};
 
 #[cfg(test)]

@@ -6,48 +6,51 @@ use crate::{
     Phase, StoreOp, cost, decode, encode, execute, first_registers, fits, set_register,
 };
 
+fn branch(op: BranchOp, rs1: u8, rs2: u8, offset: i32) -> Instr {
+    Instr::Branch {
+        op,
+        rs1,
+        rs2,
+        offset,
+    }
+}
+
+fn load(op: LoadOp, rd: u8, rs1: u8, offset: i32) -> Instr {
+    Instr::Load {
+        op,
+        rd,
+        rs1,
+        offset,
+    }
+}
+
+fn store(op: StoreOp, rs1: u8, rs2: u8, offset: i32) -> Instr {
+    Instr::Store {
+        op,
+        rs1,
+        rs2,
+        offset,
+    }
+}
+
+fn constant(op: AluOp, rd: u8, rs1: u8, imm: i32) -> Instr {
+    Instr::OpImm { op, rd, rs1, imm }
+}
+
+fn operation(op: AluOp, rd: u8, rs1: u8, rs2: u8) -> Instr {
+    Instr::Op { op, rd, rs1, rs2 }
+}
+
 #[test]
 fn words_of_instructions(rt: HostRuntime) {
     let cases = [
-        (
-            0x00200513,
-            Instr::OpImm {
-                op: AluOp::Add,
-                rd: 10,
-                rs1: 0,
-                imm: 2,
-            },
-        ),
-        (
-            0xff010113,
-            Instr::OpImm {
-                op: AluOp::Add,
-                rd: 2,
-                rs1: 2,
-                imm: -16,
-            },
-        ),
-        (
-            0x00112023,
-            Instr::Store {
-                op: StoreOp::Sw,
-                rs1: 2,
-                rs2: 1,
-                offset: 0,
-            },
-        ),
+        (0x00200513, constant(AluOp::Add, 10, 0, 2)),
+        (0xff010113, constant(AluOp::Add, 2, 2, -16)),
+        (0x00112023, store(StoreOp::Sw, 2, 1, 0)),
         (0x02c000ef, Instr::Jal { rd: 1, offset: 44 }),
         (0x0000300b, Instr::PmDone),
         (0x0005500b, Instr::PmOut { rs1: 10 }),
-        (
-            0x0002a003,
-            Instr::Load {
-                op: LoadOp::Lw,
-                rd: 0,
-                rs1: 5,
-                offset: 0,
-            },
-        ),
+        (0x0002a003, load(LoadOp::Lw, 0, 5, 0)),
         (
             0xffffffb7,
             Instr::Lui {
@@ -116,321 +119,41 @@ fn words_of_instructions(rt: HostRuntime) {
                 offset: 2047,
             },
         ),
-        (
-            0x00208463,
-            Instr::Branch {
-                op: BranchOp::Beq,
-                rs1: 1,
-                rs2: 2,
-                offset: 8,
-            },
-        ),
-        (
-            0x800f9063,
-            Instr::Branch {
-                op: BranchOp::Bne,
-                rs1: 31,
-                rs2: 0,
-                offset: -4096,
-            },
-        ),
-        (
-            0x7eb54fe3,
-            Instr::Branch {
-                op: BranchOp::Blt,
-                rs1: 10,
-                rs2: 11,
-                offset: 4094,
-            },
-        ),
-        (
-            0x00a5d0e3,
-            Instr::Branch {
-                op: BranchOp::Bge,
-                rs1: 11,
-                rs2: 10,
-                offset: 2048,
-            },
-        ),
-        (
-            0xfe62efe3,
-            Instr::Branch {
-                op: BranchOp::Bltu,
-                rs1: 5,
-                rs2: 6,
-                offset: -2,
-            },
-        ),
-        (
-            0x41f87063,
-            Instr::Branch {
-                op: BranchOp::Bgeu,
-                rs1: 16,
-                rs2: 31,
-                offset: 1024,
-            },
-        ),
-        (
-            0x80010483,
-            Instr::Load {
-                op: LoadOp::Lb,
-                rd: 9,
-                rs1: 2,
-                offset: -2048,
-            },
-        ),
-        (
-            0x7fff9f83,
-            Instr::Load {
-                op: LoadOp::Lh,
-                rd: 31,
-                rs1: 31,
-                offset: 2047,
-            },
-        ),
-        (
-            0x00412503,
-            Instr::Load {
-                op: LoadOp::Lw,
-                rd: 10,
-                rs1: 2,
-                offset: 4,
-            },
-        ),
-        (
-            0xfff84083,
-            Instr::Load {
-                op: LoadOp::Lbu,
-                rd: 1,
-                rs1: 16,
-                offset: -1,
-            },
-        ),
-        (
-            0x0200d803,
-            Instr::Load {
-                op: LoadOp::Lhu,
-                rd: 16,
-                rs1: 1,
-                offset: 32,
-            },
-        ),
-        (
-            0x81f08023,
-            Instr::Store {
-                op: StoreOp::Sb,
-                rs1: 1,
-                rs2: 31,
-                offset: -2048,
-            },
-        ),
-        (
-            0x7f0f9fa3,
-            Instr::Store {
-                op: StoreOp::Sh,
-                rs1: 31,
-                rs2: 16,
-                offset: 2047,
-            },
-        ),
-        (
-            0xfea12fa3,
-            Instr::Store {
-                op: StoreOp::Sw,
-                rs1: 2,
-                rs2: 10,
-                offset: -1,
-            },
-        ),
-        (
-            0x80050a93,
-            Instr::OpImm {
-                op: AluOp::Add,
-                rd: 21,
-                rs1: 10,
-                imm: -2048,
-            },
-        ),
-        (
-            0x7ff52a93,
-            Instr::OpImm {
-                op: AluOp::Slt,
-                rd: 21,
-                rs1: 10,
-                imm: 2047,
-            },
-        ),
-        (
-            0x00153a93,
-            Instr::OpImm {
-                op: AluOp::Sltu,
-                rd: 21,
-                rs1: 10,
-                imm: 1,
-            },
-        ),
-        (
-            0xfff54a93,
-            Instr::OpImm {
-                op: AluOp::Xor,
-                rd: 21,
-                rs1: 10,
-                imm: -1,
-            },
-        ),
-        (
-            0xc0056a93,
-            Instr::OpImm {
-                op: AluOp::Or,
-                rd: 21,
-                rs1: 10,
-                imm: -1024,
-            },
-        ),
-        (
-            0x0ff57a93,
-            Instr::OpImm {
-                op: AluOp::And,
-                rd: 21,
-                rs1: 10,
-                imm: 255,
-            },
-        ),
-        (
-            0x01f81f93,
-            Instr::OpImm {
-                op: AluOp::Sll,
-                rd: 31,
-                rs1: 16,
-                imm: 31,
-            },
-        ),
-        (
-            0x00009093,
-            Instr::OpImm {
-                op: AluOp::Sll,
-                rd: 1,
-                rs1: 1,
-                imm: 0,
-            },
-        ),
-        (
-            0x01f3d393,
-            Instr::OpImm {
-                op: AluOp::Srl,
-                rd: 7,
-                rs1: 7,
-                imm: 31,
-            },
-        ),
-        (
-            0x41f55e93,
-            Instr::OpImm {
-                op: AluOp::Sra,
-                rd: 29,
-                rs1: 10,
-                imm: 31,
-            },
-        ),
-        (
-            0x40115093,
-            Instr::OpImm {
-                op: AluOp::Sra,
-                rd: 1,
-                rs1: 2,
-                imm: 1,
-            },
-        ),
-        (
-            0x01008fb3,
-            Instr::Op {
-                op: AluOp::Add,
-                rd: 31,
-                rs1: 1,
-                rs2: 16,
-            },
-        ),
-        (
-            0x41110f33,
-            Instr::Op {
-                op: AluOp::Sub,
-                rd: 30,
-                rs1: 2,
-                rs2: 17,
-            },
-        ),
-        (
-            0x01219eb3,
-            Instr::Op {
-                op: AluOp::Sll,
-                rd: 29,
-                rs1: 3,
-                rs2: 18,
-            },
-        ),
-        (
-            0x01322e33,
-            Instr::Op {
-                op: AluOp::Slt,
-                rd: 28,
-                rs1: 4,
-                rs2: 19,
-            },
-        ),
-        (
-            0x0142bdb3,
-            Instr::Op {
-                op: AluOp::Sltu,
-                rd: 27,
-                rs1: 5,
-                rs2: 20,
-            },
-        ),
-        (
-            0x01534d33,
-            Instr::Op {
-                op: AluOp::Xor,
-                rd: 26,
-                rs1: 6,
-                rs2: 21,
-            },
-        ),
-        (
-            0x0163dcb3,
-            Instr::Op {
-                op: AluOp::Srl,
-                rd: 25,
-                rs1: 7,
-                rs2: 22,
-            },
-        ),
-        (
-            0x41745c33,
-            Instr::Op {
-                op: AluOp::Sra,
-                rd: 24,
-                rs1: 8,
-                rs2: 23,
-            },
-        ),
-        (
-            0x0184ebb3,
-            Instr::Op {
-                op: AluOp::Or,
-                rd: 23,
-                rs1: 9,
-                rs2: 24,
-            },
-        ),
-        (
-            0x01957b33,
-            Instr::Op {
-                op: AluOp::And,
-                rd: 22,
-                rs1: 10,
-                rs2: 25,
-            },
-        ),
+        (0x00208463, branch(BranchOp::Beq, 1, 2, 8)),
+        (0x800f9063, branch(BranchOp::Bne, 31, 0, -4096)),
+        (0x7eb54fe3, branch(BranchOp::Blt, 10, 11, 4094)),
+        (0x00a5d0e3, branch(BranchOp::Bge, 11, 10, 2048)),
+        (0xfe62efe3, branch(BranchOp::Bltu, 5, 6, -2)),
+        (0x41f87063, branch(BranchOp::Bgeu, 16, 31, 1024)),
+        (0x80010483, load(LoadOp::Lb, 9, 2, -2048)),
+        (0x7fff9f83, load(LoadOp::Lh, 31, 31, 2047)),
+        (0x00412503, load(LoadOp::Lw, 10, 2, 4)),
+        (0xfff84083, load(LoadOp::Lbu, 1, 16, -1)),
+        (0x0200d803, load(LoadOp::Lhu, 16, 1, 32)),
+        (0x81f08023, store(StoreOp::Sb, 1, 31, -2048)),
+        (0x7f0f9fa3, store(StoreOp::Sh, 31, 16, 2047)),
+        (0xfea12fa3, store(StoreOp::Sw, 2, 10, -1)),
+        (0x80050a93, constant(AluOp::Add, 21, 10, -2048)),
+        (0x7ff52a93, constant(AluOp::Slt, 21, 10, 2047)),
+        (0x00153a93, constant(AluOp::Sltu, 21, 10, 1)),
+        (0xfff54a93, constant(AluOp::Xor, 21, 10, -1)),
+        (0xc0056a93, constant(AluOp::Or, 21, 10, -1024)),
+        (0x0ff57a93, constant(AluOp::And, 21, 10, 255)),
+        (0x01f81f93, constant(AluOp::Sll, 31, 16, 31)),
+        (0x00009093, constant(AluOp::Sll, 1, 1, 0)),
+        (0x01f3d393, constant(AluOp::Srl, 7, 7, 31)),
+        (0x41f55e93, constant(AluOp::Sra, 29, 10, 31)),
+        (0x40115093, constant(AluOp::Sra, 1, 2, 1)),
+        (0x01008fb3, operation(AluOp::Add, 31, 1, 16)),
+        (0x41110f33, operation(AluOp::Sub, 30, 2, 17)),
+        (0x01219eb3, operation(AluOp::Sll, 29, 3, 18)),
+        (0x01322e33, operation(AluOp::Slt, 28, 4, 19)),
+        (0x0142bdb3, operation(AluOp::Sltu, 27, 5, 20)),
+        (0x01534d33, operation(AluOp::Xor, 26, 6, 21)),
+        (0x0163dcb3, operation(AluOp::Srl, 25, 7, 22)),
+        (0x41745c33, operation(AluOp::Sra, 24, 8, 23)),
+        (0x0184ebb3, operation(AluOp::Or, 23, 9, 24)),
+        (0x01957b33, operation(AluOp::And, 22, 10, 25)),
         (0x0330000f, Instr::Fence { high: 0x660, rd: 0 }),
         (
             0x0ff0000f,
@@ -513,90 +236,20 @@ fn instructions_without_a_word(rt: HostRuntime) {
             rs1: 1,
             offset: 2048,
         },
-        Instr::Branch {
-            op: BranchOp::Beq,
-            rs1: 0,
-            rs2: 0,
-            offset: 4096,
-        },
-        Instr::Branch {
-            op: BranchOp::Beq,
-            rs1: 0,
-            rs2: 0,
-            offset: -4098,
-        },
-        Instr::Branch {
-            op: BranchOp::Beq,
-            rs1: 0,
-            rs2: 0,
-            offset: -3,
-        },
-        Instr::Branch {
-            op: BranchOp::Bgeu,
-            rs1: 0,
-            rs2: 255,
-            offset: 0,
-        },
-        Instr::Load {
-            op: LoadOp::Lw,
-            rd: 32,
-            rs1: 0,
-            offset: 0,
-        },
-        Instr::Load {
-            op: LoadOp::Lb,
-            rd: 0,
-            rs1: 0,
-            offset: -2049,
-        },
-        Instr::Store {
-            op: StoreOp::Sb,
-            rs1: 0,
-            rs2: 0,
-            offset: 2048,
-        },
-        Instr::Store {
-            op: StoreOp::Sw,
-            rs1: 0,
-            rs2: 32,
-            offset: 0,
-        },
-        Instr::OpImm {
-            op: AluOp::Sub,
-            rd: 0,
-            rs1: 0,
-            imm: 0,
-        },
-        Instr::OpImm {
-            op: AluOp::Add,
-            rd: 0,
-            rs1: 0,
-            imm: 2048,
-        },
-        Instr::OpImm {
-            op: AluOp::Sltu,
-            rd: 0,
-            rs1: 0,
-            imm: -2049,
-        },
-        Instr::OpImm {
-            op: AluOp::Sll,
-            rd: 0,
-            rs1: 0,
-            imm: 32,
-        },
-        Instr::OpImm {
-            op: AluOp::Sra,
-            rd: 0,
-            rs1: 0,
-            imm: -1,
-        },
-        Instr::Op {
-            op: AluOp::And,
-            rd: 0,
-            rs1: 32,
-            rs2: 0,
-        },
+        branch(BranchOp::Beq, 0, 0, 4096),
+        branch(BranchOp::Beq, 0, 0, -4098),
+        branch(BranchOp::Beq, 0, 0, -3),
+        branch(BranchOp::Bgeu, 0, 255, 0),
+        load(LoadOp::Lw, 32, 0, 0),
+        load(LoadOp::Lb, 0, 0, -2049),
+        store(StoreOp::Sb, 0, 0, 2048),
+        store(StoreOp::Sw, 0, 32, 0),
+        constant(AluOp::Sub, 0, 0, 0),
+        constant(AluOp::Add, 0, 0, 2048),
+        constant(AluOp::Sltu, 0, 0, -2049),
+        constant(AluOp::Sll, 0, 0, 32),
+        constant(AluOp::Sra, 0, 0, -1),
+        operation(AluOp::And, 0, 32, 0),
         Instr::Fence {
             high: 1 << 17,
             rd: 0,
@@ -613,33 +266,9 @@ fn instructions_without_a_word(rt: HostRuntime) {
 #[test]
 fn costs(rt: HostRuntime) {
     let cases = [
-        (
-            2,
-            Instr::Load {
-                op: LoadOp::Lw,
-                rd: 0,
-                rs1: 5,
-                offset: 0,
-            },
-        ),
-        (
-            2,
-            Instr::Store {
-                op: StoreOp::Sb,
-                rs1: 2,
-                rs2: 1,
-                offset: 0,
-            },
-        ),
-        (
-            2,
-            Instr::Branch {
-                op: BranchOp::Bne,
-                rs1: 1,
-                rs2: 2,
-                offset: 8,
-            },
-        ),
+        (2, load(LoadOp::Lw, 0, 5, 0)),
+        (2, store(StoreOp::Sb, 2, 1, 0)),
+        (2, branch(BranchOp::Bne, 1, 2, 8)),
         (2, Instr::Jal { rd: 1, offset: 44 }),
         (
             2,
@@ -650,24 +279,8 @@ fn costs(rt: HostRuntime) {
             },
         ),
         (1, Instr::Lui { rd: 1, imm: 1 }),
-        (
-            1,
-            Instr::OpImm {
-                op: AluOp::Add,
-                rd: 10,
-                rs1: 0,
-                imm: 2,
-            },
-        ),
-        (
-            1,
-            Instr::Op {
-                op: AluOp::Sra,
-                rd: 1,
-                rs1: 2,
-                rs2: 3,
-            },
-        ),
+        (1, constant(AluOp::Add, 10, 0, 2)),
+        (1, operation(AluOp::Sra, 1, 2, 3)),
         (1, Instr::Fence { high: 0, rd: 0 }),
         (1, Instr::PmMem),
         (1, Instr::PmDone),
@@ -840,12 +453,7 @@ fn decisions(rt: HostRuntime) {
     let mut registers = first_registers(64);
     set_register(&mut registers, 0, 7);
     set_register(&mut registers, 5, 3);
-    let slot = Instr::Load {
-        op: LoadOp::Lb,
-        rd: 6,
-        rs1: 2,
-        offset: -1,
-    };
+    let slot = load(LoadOp::Lb, 6, 2, -1);
     let load = DataLoad {
         op: LoadOp::Lb,
         rd: 6,
@@ -858,15 +466,7 @@ fn decisions(rt: HostRuntime) {
         ..Effect::going(12)
     };
     let cases = [
-        (
-            Instr::Op {
-                op: AluOp::Add,
-                rd: 6,
-                rs1: 2,
-                rs2: 5,
-            },
-            Decision::Known(sum),
-        ),
+        (operation(AluOp::Add, 6, 2, 5), Decision::Known(sum)),
         (slot, Decision::Pending(load)),
         (
             Instr::Jalr {
