@@ -36,3 +36,14 @@ power_divides j n m (k, e) le h =
 -- memory is of whole lines
 pub lines_whole : (p : Plant) → IsPlant p → p.memory % p.line ≡ 0
 lines_whole p h = power_divides 12 p.line p.memory (power_of_two p.line (omega arith) h.line_power) (omega arith) h.memory_pages
+
+-- a power of two from 2 ^ j on is a multiple of it
+power_multiple : (j n : ℕ) → IsPowerOfTwo n → 2 ^ j ≤ n → n % 2 ^ j ≡ 0
+power_multiple j n (k, e) le =
+    let large : j ≤ k = ⊎_elim (λ (lt : k < j). absurd (omega (arith, pow_below k j lt))) (λ (ge : j ≤ k). ge) (cases_lt k j) in
+    let split : n ≡ 2 ^ (k - j) * 2 ^ j = e ∙ ap (λ i. 2 ^ i) (omega arith) ∙ pow-add 2 (k - j) j in
+    ap (λ x. x % 2 ^ j) split ∙ mul-mod_left (2 ^ (k - j)) (2 ^ j)
+
+-- a line is of whole words
+pub line_of_words : (p : Plant) → IsPlant p → p.line % 4 ≡ 0
+line_of_words p h = power_multiple 2 p.line (power_of_two p.line (omega arith) h.line_power) (omega arith)

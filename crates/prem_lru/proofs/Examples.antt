@@ -1,0 +1,83 @@
+-- The definitions at small values, computed: two sets of two lines of four bytes, over 40 bytes of memory.
+use Rattle.std.proofs.Common.{◌≡◌, ℕ, suc, ◌+◌, List, [], ◌∷◌, Bool, true, false, Some, None, refl, length, take, drop}
+use Rattle.std.specs.List.{range_with_len}
+use Rattle.prem_plant.specs.declared.plant.Plant.{Plant}
+use Rattle.prem_word.specs.Bytes.{number_at}
+use Rattle.prem_lru.specs.Splice.{spliced, bytes_of, line_bytes}
+use Rattle.prem_lru.specs.Entries.{Entry, to_front}
+use Rattle.prem_lru.specs.CacheState.{CacheState, Touched, empty_cache, entry_of, is_resident, view_of, touch_of, store_of}
+use Rattle.prem_lru.specs.Order.{lines_in, lru, misses_of, orders_after, cache_misses, of_set}
+
+abbrev plant : Plant
+plant = record { line = 4; sets = 2; ways = 2; fill = 10; back = 10; switch = 20; memory = 40 }
+
+-- the bytes 100, 101, ..
+abbrev memory : List ℕ
+memory = range_with_len 100 40
+
+abbrev touched : List ℕ → Touched → Touched
+touched [] t = t
+touched (x ∷ xs) t = touched xs (touch_of to_front t.cache x t.memory)
+
+abbrev start : Touched
+start = record { cache = empty_cache plant; memory = memory; hit = false; back = false }
+
+abbrev after : List ℕ → Touched
+after xs = touched xs start
+
+row_empty : lines_in start.cache ≡ [] ∷ [] ∷ []
+row_empty = refl
+
+row_fills : lines_in (after (0 ∷ 3 ∷ 2 ∷ [])).cache ≡ (2 ∷ 0 ∷ []) ∷ (3 ∷ []) ∷ []
+row_fills = refl
+
+-- a hit brings its line to the front, so that the other one goes
+row_order : lines_in (after (0 ∷ 2 ∷ 0 ∷ [])).cache ≡ (0 ∷ 2 ∷ []) ∷ [] ∷ []
+row_order = refl
+
+row_hit : (after (0 ∷ 2 ∷ 0 ∷ [])).hit ≡ true
+row_hit = refl
+
+row_gone : lines_in (after (0 ∷ 2 ∷ 0 ∷ 4 ∷ [])).cache ≡ (4 ∷ 0 ∷ []) ∷ [] ∷ []
+row_gone = refl
+
+row_clean_gone : (after (0 ∷ 2 ∷ 0 ∷ 4 ∷ [])).back ≡ false
+row_clean_gone = refl
+
+row_filled : entry_of (after (3 ∷ [])).cache 3 ≡ Some (record { line = 3; dirty = false; bytes = 112 ∷ 113 ∷ 114 ∷ 115 ∷ [] })
+row_filled = refl
+
+-- a half is stored at the end of line 2; memory has it once the line goes
+abbrev stored : Touched
+stored = let t = after (2 ∷ 0 ∷ []) in record t { cache = store_of t.cache 10 2 0x12345 }
+
+row_stored : entry_of stored.cache 2 ≡ Some (record { line = 2; dirty = true; bytes = 108 ∷ 109 ∷ 0x45 ∷ 0x23 ∷ [] })
+row_stored = refl
+
+row_view : (view_of stored.cache stored.memory 9 ∷ view_of stored.cache stored.memory 10 ∷ view_of stored.cache stored.memory 11 ∷ view_of stored.cache stored.memory 12 ∷ []) ≡ 109 ∷ 0x45 ∷ 0x23 ∷ 112 ∷ []
+row_view = refl
+
+row_number : number_at (view_of stored.cache stored.memory) 8 4 ≡ 0x23456d6c
+row_number = refl
+
+row_memory : take 4 (drop 8 stored.memory) ≡ 108 ∷ 109 ∷ 110 ∷ 111 ∷ []
+row_memory = refl
+
+row_back : (touched (4 ∷ []) stored).back ≡ true
+row_back = refl
+
+row_written : take 6 (drop 7 (touched (4 ∷ []) stored).memory) ≡ 107 ∷ 108 ∷ 109 ∷ 0x45 ∷ 0x23 ∷ 112 ∷ []
+row_written = refl
+
+-- under LRU a fourth line of a set of three takes the place of the one that was used first
+row_misses : misses_of lru 3 [] (5 ∷ 6 ∷ 7 ∷ 5 ∷ 8 ∷ 6 ∷ 5 ∷ []) ≡ 5 ∷ 6 ∷ 7 ∷ 8 ∷ 6 ∷ []
+row_misses = refl
+
+row_orders : orders_after lru 3 [] (5 ∷ 6 ∷ 7 ∷ 5 ∷ 8 ∷ 6 ∷ 5 ∷ []) ≡ 5 ∷ 6 ∷ 8 ∷ []
+row_orders = refl
+
+row_cache_misses : cache_misses lru 2 ([] ∷ [] ∷ []) (0 ∷ 1 ∷ 2 ∷ 0 ∷ 4 ∷ 1 ∷ 2 ∷ []) ≡ 0 ∷ 1 ∷ 2 ∷ 4 ∷ 2 ∷ []
+row_cache_misses = refl
+
+row_of_set : of_set 4 3 (3 ∷ 4 ∷ 7 ∷ 11 ∷ 12 ∷ []) ≡ 3 ∷ 7 ∷ 11 ∷ []
+row_of_set = refl

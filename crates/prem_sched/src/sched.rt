@@ -1,0 +1,142 @@
+// Periodic tasks, the jobs of each that have ended, and what the core does next.
+ghost use Rattle.std.specs.Prelude.{◌≡◌, ◌≤◌, IfOk, All, length};
+ghost use Rattle.prem_sched.specs.Schedule.{IsChoice, IsDone, IsReady, IsTask, choice, earlier, job_ended, starts_of};
+
+use std::alloc::{AllocError, Global};
+use std::marker::Model;
+
+/// The place of a task in its set, from 0.
+pub type TaskId = u16;
+
+/// What the core does at a scheduling point.
+#[derive(Clone, Copy, Debug, PartialEq, Eq)]
+pub enum Choice {
+    /// It runs this task.
+    Run(TaskId),
+    /// It idles up to this cycle, which is the next scheduling point.
+    Idle { until: u64 },
+    /// All jobs of all tasks have ended.
+    Finished,
+}
+
+/// A task's jobs. Job number k, from 0, is released at cycle `k * period`.
+#[derive(Clone, Copy)]
+struct TaskJobs {
+    /// The cycles from one release to the next.
+    period: u32,
+    /// How many jobs the task has.
+    jobs: u32,
+    /// How many of them have ended.
+    ended: u32,
+}
+
+/// The tasks of a set in order of priority, the highest one first.
+#[derive(Drop)]
+pub struct Sched {
+    tasks: Vec<TaskJobs>,
+}
+
+impl Model for Sched {
+    ghost use Rattle.std.specs.Prelude.{List};
+    ghost use Rattle.prem_sched.specs.declared.sched.TaskJobs.{TaskJobs};
+    ghost use Rattle.prem_sched.specs.Schedule.{IsSet};
+
+    ghost Value = { List TaskJobs };
+
+    ghost view = { λ s. s.tasks.items };
+
+    ghost invariant = { λ s. IsSet s.tasks.items };
+}
+
+impl TaskJobs {
+    ghost use Rattle.std.specs.Prelude.{◌≡◌, ◌<◌, ◌≤◌, false};
+    ghost use Rattle.prem_sched.specs.Schedule.{is_ready, next_release, with_job};
+
+    /// Whether fewer jobs have ended than are released.
+    fn is_ready(&self, now: u64) -> bool
+        requires { 1 ≤ self.now.period }
+        ensures { result ≡ is_ready now self.now }
+    {
+        self.ended < self.jobs && u64::from(self.ended) <= now / u64::from(self.period)
+    }
+
+    /// The first release to come.
+    fn next_release(&self, now: u64) -> Option<u64>
+        requires period { 1 ≤ self.now.period }
+        requires waits { is_ready now self.now ≡ false }
+        ensures { result ≡ next_release now self.now }
+    {
+        let period = u64::from(self.period);
+        (self.ended < self.jobs).then(|| (now / period + 1) * period)
+    }
+
+    /// One more job has ended.
+    fn end_job(&mut self)
+        requires { self.old.ended < self.old.jobs }
+        ensures { self.new ≡ with_job self.old }
+    {
+        self.ended += 1;
+    }
+}
+
+impl Sched {
+    /// The set of tasks of these periods, in cycles, and numbers of jobs, of which none has ended.
+    ///
+    /// It fails only for want of memory.
+    pub fn new(alloc: Global, tasks: &[(u32, u32)]) -> Result<Sched, AllocError>
+        requires positive { All IsTask tasks.now }
+        requires count { length tasks.now ≤ 16 }
+        ensures { IfOk result (λ sched. sched ≡ starts_of tasks.now) }
+    {
+        let mut started = Vec::with_capacity(alloc, tasks.len())?;
+        for &(period, jobs) in tasks {
+            started.push(TaskJobs {
+                period,
+                jobs,
+                ended: 0,
+            })?;
+        }
+        Ok(Sched { tasks: started })
+    }
+
+    /// What the core does where it may choose in this cycle: it runs the first ready task. Where none is ready, it
+    /// idles up to the next release. Where no job is left, it has finished.
+    pub fn choose(&self, now: u64) -> Choice
+        ensures choice { result ≡ choice now self.now }
+        ensures meaning { IsChoice now self.now result }
+        ensures finished { All IsDone self.now → result ≡ Choice.Finished }
+    {
+        let mut least = None;
+        for (k, task) in self.tasks.iter().enumerate() {
+            if task.is_ready(now) {
+                return Choice::Run(k as TaskId);
+            }
+            least = earlier(least, task.next_release(now));
+        }
+        match least {
+            Some(until) => Choice::Idle { until },
+            None => Choice::Finished,
+        }
+    }
+
+    /// A job of a task that is ready now has ended.
+    pub fn end_job(&mut self, t: TaskId, now: u64)
+        requires { IsReady now self.old t }
+        ensures { self.new ≡ job_ended t self.old }
+    {
+        self.tasks[usize::from(t)].end_job();
+    }
+}
+
+/// The earlier of two times.
+fn earlier(first: Option<u64>, second: Option<u64>) -> Option<u64>
+    ensures { result ≡ earlier first second }
+{
+    match (first, second) {
+        (Some(u), Some(v)) => Some(u.min(v)),
+        (None, other) | (other, None) => other,
+    }
+}
+
+#[cfg(test)]
+mod tests;
