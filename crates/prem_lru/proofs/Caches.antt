@@ -1,7 +1,6 @@
 -- The code's cache as its state: one of its sets is read or changed.
-use Rattle.std.proofs.Common.{◌≡◌, ℕ, suc, ◌+◌, ◌-◌, ◌*◌, ◌/◌, ◌%◌, ◌<◌, ◌≤◌, refl, ap, ◌∙◌, sym, subst, arith, inl, inr, ⊎_elim, List, [], ◌∷◌, length, get_or, set, map, Some, None, Option}
+use Rattle.std.proofs.Common.{◌≡◌, ℕ, ◌+◌, ◌*◌, ◌/◌, ◌%◌, ◌<◌, ◌≤◌, ap, ◌∙◌, sym, subst, arith, ⊎_elim, List, [], length, get_or, set, map, Some}
 use Rattle.std.specs.Prelude.{All, slice_set}
-use Rattle.std.specs.List.{AllByRecursion}
 use Rattle.std.specs.Vec.{with_item}
 use Rattle.std.proofs.lemmas.Nat.{mod_below, div-add-mod'}
 use Rattle.std.proofs.lemmas.List.{length-map, map-set, get_or-map}
@@ -14,7 +13,7 @@ use Rattle.prem_lru.specs.declared.cache.Cache.TheInside.{Inside}
 use Rattle.prem_lru.specs.Access.{IsWidth}
 use Rattle.prem_lru.specs.Splice.{bytes_of}
 use Rattle.prem_lru.specs.Entries.{Entry, SetTouch, find_line, to_front, touch_set, write_line}
-use Rattle.prem_lru.specs.CacheState.{CacheState, set_of, entry_of, with_set, touch_of, store_of, IsEntry, IsSet, IsCache}
+use Rattle.prem_lru.specs.CacheState.{CacheState, set_of, entry_of, with_set, touch_of, store_of, IsEntry, IsCache}
 use Rattle.prem_lru.specs.Fields.{set_entries, IsRoomy}
 use Rattle.prem_lru.specs.CacheFields.{cache_state, IsWhole}
 use Rattle.prem_lru.proofs.Touches.{some_sets, set_at, entry_at, entry_within, to_front_rule}

@@ -1,11 +1,10 @@
 -- The definitions at small values, computed: two sets of two lines of four bytes, over 40 bytes of memory.
-use Rattle.std.proofs.Common.{◌≡◌, ℕ, suc, ◌+◌, List, [], ◌∷◌, Bool, true, false, Some, None, refl, length, take, drop}
+use Rattle.std.proofs.Common.{◌≡◌, ℕ, List, [], ◌∷◌, true, false, Some, refl, take, drop}
 use Rattle.std.specs.List.{range_with_len}
 use Rattle.prem_plant.specs.declared.plant.Plant.{Plant}
 use Rattle.prem_word.specs.Bytes.{number_at}
-use Rattle.prem_lru.specs.Splice.{spliced, bytes_of, line_bytes}
-use Rattle.prem_lru.specs.Entries.{Entry, to_front}
-use Rattle.prem_lru.specs.CacheState.{CacheState, Touched, empty_cache, entry_of, is_resident, view_of, touch_of, store_of}
+use Rattle.prem_lru.specs.Entries.{to_front}
+use Rattle.prem_lru.specs.CacheState.{Touched, empty_cache, entry_of, view_of, touch_of, store_of}
 use Rattle.prem_lru.specs.Order.{lines_in, lru, misses_of, orders_after, cache_misses, of_set}
 
 abbrev plant : Plant

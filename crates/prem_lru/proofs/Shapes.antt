@@ -1,14 +1,13 @@
 -- A touch keeps the cache one, and moves lines by the order of their set.
-use Rattle.std.proofs.Common.{◌≡◌, ◌≢◌, ℕ, zero, suc, ◌+◌, ◌-◌, ◌*◌, ◌/◌, ◌%◌, ◌<◌, ◌≤◌, refl, ap, ◌∙◌, sym, subst, arith, cond, eqb, ltb, Some, None, Option, true, false, Bool, List, [], ◌∷◌, ◌++◌, length, take, get_or, map, inl, inr, ⊎_elim}
+use Rattle.std.proofs.Common.{◌≡◌, ◌≢◌, ℕ, ◌+◌, ◌-◌, ◌*◌, ◌/◌, ◌%◌, ◌<◌, ◌≤◌, refl, ap, ◌∙◌, sym, subst, arith, cond, eqb, ltb, Some, None, true, false, Bool, List, [], ◌∷◌, ◌++◌, length, take, get_or, map, ⊎_elim}
 use Rattle.std.specs.Prelude.{slice_set, is_some}
-use Rattle.std.specs.List.{AllByRecursion}
-use Rattle.std.proofs.lemmas.Bool.{cond_both, cases_eq, eq-eqb, eqb-true, ltb-true, ltb-false}
+use Rattle.std.proofs.lemmas.Bool.{cond_both, cases_eq, ltb-true, ltb-false}
 use Rattle.std.proofs.lemmas.Nat.{mod_below}
 use Rattle.std.proofs.lemmas.List.{get_or-set_same, get_or-set_other, length-set, length-take-le, length-map, take_all, take_more, take-map, map-set, get_or-map, set-get_or}
 use Rattle.prem_plant.specs.declared.plant.Plant.{Plant}
 use Rattle.prem_lru.specs.Entries.{Entry, Rule, SetTouch, find_line, has_line, without_line, filled, written_back, no_entry, last_entry, hit_in, brought_in, replaced, touch_set, to_front}
-use Rattle.prem_lru.specs.CacheState.{CacheState, Touched, set_of, entry_of, is_resident, with_set, touched_by, touch_of, IsEntry, AreDistinct, IsSet, IsCache}
-use Rattle.prem_lru.specs.Rules.{IsRule, Orders}
+use Rattle.prem_lru.specs.CacheState.{CacheState, set_of, is_resident, with_set, touch_of, IsEntry, IsSet, IsCache}
+use Rattle.prem_lru.specs.Rules.{IsRule, MovesBy}
 use Rattle.prem_lru.specs.Order.{is_in, without, OrderRule, lru, order_after, lines_of, lines_in, order_of, cache_after}
 use Rattle.prem_lru.proofs.Lookup.{none_of, some_of, found_line, Last, last_of, to_front_is}
 use Rattle.prem_lru.proofs.Splices.{length-line_bytes, line_within, length-back}
@@ -87,14 +86,14 @@ lines-without line (x ∷ xs) =
     (λ t. ap (λ b. cond b (lines_of xs) (x.line ∷ without line (lines_of xs))) (sym t))
     (λ f. ap (λ zs. x.line ∷ zs) (lines-without line xs) ∙ ap (λ b. cond b (lines_of xs) (x.line ∷ without line (lines_of xs))) (sym f))
 
-pub to_front_orders : Orders to_front lru
-to_front_orders line es h =
+pub to_front_moves : MovesBy to_front lru
+to_front_moves line es h =
     let s : (e : Entry) × (find_line line es ≡ Some e) = some_of (find_line line es) h in
     ap lines_of (to_front_is line es s.0 s.1)
     ∙ ap (λ l. l ∷ lines_of (without_line line es)) (found_line line es s.0 s.1)
     ∙ ap (λ zs. line ∷ zs) (lines-without line es)
 
-lines-touch_set : (rule : Rule) (order : OrderRule) (size room line : ℕ) (es : List Entry) (memory : List ℕ) → Orders rule order → length es ≤ room → lines_of (touch_set rule size room line es memory).entries ≡ order_after order room (lines_of es) line
+lines-touch_set : (rule : Rule) (order : OrderRule) (size room line : ℕ) (es : List Entry) (memory : List ℕ) → MovesBy rule order → length es ≤ room → lines_of (touch_set rule size room line es memory).entries ≡ order_after order room (lines_of es) line
 lines-touch_set rule order size room line es memory o le =
     let m : length (lines_of es) ≡ length es = length-map es (λ (e : Entry). e.line) in
     let P : SetTouch → Type 0 = λ t. lines_of t.entries ≡ order_after order room (lines_of es) line in
@@ -135,7 +134,7 @@ lines_in-with c line es =
     map-set lines_of c.sets (line % length c.sets) es
     ∙ ap (λ n. slice_set (lines_in c) (line % n) (lines_of es)) (sym (length-map c.sets lines_of))
 
-pub lines_in-touch : (rule : Rule) (order : OrderRule) (c : CacheState) (line : ℕ) (memory : List ℕ) → Orders rule order → IsCache c → lines_in (touch_of rule c line memory).cache ≡ cache_after order c.plant.ways (lines_in c) line
+pub lines_in-touch : (rule : Rule) (order : OrderRule) (c : CacheState) (line : ℕ) (memory : List ℕ) → MovesBy rule order → IsCache c → lines_in (touch_of rule c line memory).cache ≡ cache_after order c.plant.ways (lines_in c) line
 lines_in-touch rule order c line memory o h =
     lines_in-with c line (touch_set rule c.plant.line c.plant.ways line (set_of c line) memory).entries
     ∙ ap (slice_set (lines_in c) (line % length (lines_in c)))

@@ -1,9 +1,9 @@
 -- The slots of a set as its entries.
-use Rattle.std.proofs.Common.{◌≡◌, ℕ, zero, suc, ◌+◌, ◌-◌, ◌*◌, ◌<◌, ◌≤◌, refl, ap, ◌∙◌, sym, subst, arith, cond, eqb, ltb, Some, None, Option, true, false, Bool, List, [], ◌∷◌, ◌++◌, length, take, drop, get_or, add-one}
+use Rattle.std.proofs.Common.{◌≡◌, ℕ, zero, suc, ◌+◌, ◌-◌, ◌<◌, ◌≤◌, refl, ap, ◌∙◌, sym, subst, arith, cond, eqb, ltb, Some, None, Option, true, false, List, [], ◌∷◌, ◌++◌, length, take, drop, get_or, add-one}
 use Rattle.std.specs.Prelude.{map, All, MatchOption, slice_set, is_some}
 use Rattle.std.proofs.lemmas.List.Elements.{All-append, All-take, All-drop, All-cons}
-use Rattle.std.proofs.lemmas.Bool.{eqb-true, eq-eqb, cond_both, lt-ltb, le-ltb}
-use Rattle.std.proofs.lemmas.List.{drop_more, take_more, length-map, length-take-le, length-take, get_or-map, get_or-take, drop_at, take_at, map-append, take-map, drop-map, map-set, set_split}
+use Rattle.std.proofs.lemmas.Bool.{eq-eqb, cond_both, lt-ltb}
+use Rattle.std.proofs.lemmas.List.{take_more, length-map, length-take-le, length-take, get_or-map, get_or-take, drop_at, take_at, map-append, take-map, drop-map, map-set, set_split}
 use Rattle.std.proofs.lemmas.Grind.{common_steps}
 use Rattle.prem_lru.specs.declared.set.Slot.{Slot}
 use Rattle.prem_lru.specs.declared.set.Set.{Set}

@@ -1,17 +1,16 @@
 -- A touch by cases, for every replacement rule, and what it keeps: the view, clean lines, and the shape of the cache.
-use Rattle.std.proofs.Common.{◌≡◌, ◌≢◌, ℕ, zero, suc, ◌+◌, ◌-◌, ◌*◌, ◌/◌, ◌%◌, ◌<◌, ◌≤◌, refl, ap, ◌∙◌, sym, subst, arith, cond, eqb, ltb, Some, None, Option, true, false, Bool, List, [], ◌∷◌, ◌++◌, length, take, get_or, inl, inr, ⊎_elim, add-one}
+use Rattle.std.proofs.Common.{◌≡◌, ◌≢◌, ℕ, ◌+◌, ◌-◌, ◌*◌, ◌/◌, ◌%◌, ◌<◌, ◌≤◌, refl, ap, ◌∙◌, sym, subst, arith, cond, ltb, Some, None, Option, true, false, List, [], ◌∷◌, ◌++◌, length, take, get_or, ⊎_elim}
 use Rattle.std.specs.Prelude.{slice_set, is_some}
-use Rattle.std.specs.List.{AllByRecursion}
-use Rattle.std.proofs.lemmas.Bool.{cond_both, cases_eq, ltb-true, ltb-false}
+use Rattle.std.proofs.lemmas.Bool.{cond_both, cases_eq, ltb-false}
 use Rattle.std.proofs.lemmas.Nat.{mod_below, div-add-mod'}
-use Rattle.std.proofs.lemmas.List.{get_or-set_same, get_or-set_other, length-set, length-take-le, take_all, take_more}
+use Rattle.std.proofs.lemmas.List.{get_or-set_same, get_or-set_other, length-set, take_all, take_more}
 use Rattle.prem_plant.specs.declared.plant.Plant.{Plant}
 use Rattle.prem_lru.specs.Splice.{line_bytes}
-use Rattle.prem_lru.specs.Entries.{Entry, Rule, SetTouch, find_line, has_line, filled, written_back, no_entry, last_entry, hit_in, brought_in, replaced, touch_set, to_front}
-use Rattle.prem_lru.specs.CacheState.{CacheState, Touched, set_of, entry_of, is_resident, byte_in, view_of, IsClean, with_set, touched_by, touch_of, IsEntry, AreDistinct, IsSet, IsCache}
+use Rattle.prem_lru.specs.Entries.{Entry, Rule, SetTouch, find_line, has_line, filled, written_back, no_entry, last_entry, hit_in, brought_in, replaced, to_front}
+use Rattle.prem_lru.specs.CacheState.{CacheState, Touched, set_of, entry_of, is_resident, byte_in, view_of, IsClean, with_set, touched_by, touch_of, IsEntry, IsSet, IsCache}
 use Rattle.prem_lru.specs.Rules.{IsRule}
-use Rattle.prem_lru.proofs.Lookup.{none_of, some_of, find_head, find_tail, found_all, found_line, Last, last_of, Fronted, fronted}
-use Rattle.prem_lru.proofs.Splices.{line_byte, length-line_bytes, line_within, length-back, line-back, line-back_other}
+use Rattle.prem_lru.proofs.Lookup.{none_of, find_head, find_tail, found_all, Last, last_of, Fronted, fronted}
+use Rattle.prem_lru.proofs.Splices.{line_byte, line_within, length-back, line-back, line-back_other}
 
 -- ---- LRU is a rule
 

@@ -1,5 +1,5 @@
 -- A cache over memory: its sets, what the core sees through it, and what touches and stores make of it.
-use Rattle.std.specs.Prelude.{◌≡◌, ℕ, ◌+◌, ◌/◌, ◌%◌, ◌<◌, ◌≤◌, Bool, true, false, List, [], ◌∷◌, Option, Some, None, length, slice_index, slice_index_or, slice_set, is_some, replicate}
+use Rattle.std.specs.Prelude.{◌≡◌, ℕ, ◌/◌, ◌%◌, ◌<◌, ◌≤◌, Bool, false, List, [], ◌∷◌, Option, Some, None, length, slice_index, slice_index_or, slice_set, is_some, replicate}
 use Rattle.std.specs.List.{AllByRecursion}
 use Rattle.prem_plant.specs.declared.plant.Plant.{Plant}
 use Rattle.prem_plant.specs.Ranges.{IsPlant}

@@ -11,5 +11,5 @@ pub record IsRule (rule : Rule) : Type 0 where
   pub set : (p : Plant) (i line : ℕ) (es : List Entry) → has_line line es ≡ true → IsSet p i es → IsSet p i (rule line es)
 
 -- the lines move by a rule of their own
-abbrev pub Orders : Rule → OrderRule → Type 0
-Orders rule order = (line : ℕ) (es : List Entry) → has_line line es ≡ true → lines_of (rule line es) ≡ order line (lines_of es)
+abbrev pub MovesBy : Rule → OrderRule → Type 0
+MovesBy rule order = (line : ℕ) (es : List Entry) → has_line line es ≡ true → lines_of (rule line es) ≡ order line (lines_of es)

@@ -64,10 +64,12 @@ impl Cache {
         // It hits where the line was resident. The line is then, and no other line came.
         ensures was { result.hit ≡ is_resident self.old line }
         ensures resident { IsTrue (is_resident self.new line) }
-        ensures others { (q : ℕ) → q ≢ line → IsTrue (is_resident self.new q) → IsTrue (is_resident self.old q) }
+        ensures others { (q : ℕ) → q ≢ line
+            → IsTrue (is_resident self.new q) → IsTrue (is_resident self.old q) }
 
         // What the core sees stays, if the lines that aren't dirty have the bytes of memory; and they do then.
-        ensures view { IsClean self.old mem.old → (a : ℕ) → view_of self.new mem.new a ≡ view_of self.old mem.old a }
+        ensures view { IsClean self.old mem.old
+            → (a : ℕ) → view_of self.new mem.new a ≡ view_of self.old mem.old a }
         ensures clean { IsClean self.old mem.old → IsClean self.new mem.new }
         ensures kept { IsCache self.new }
         ensures len { length mem.new ≡ length mem.old }
@@ -100,8 +102,9 @@ impl Cache {
         requires aligned { address % size ≡ 0 }
         requires resident { IsTrue (is_resident self.old (address / self.old.plant.line)) }
         ensures cache { self.new ≡ store_of self.old address size value }
-        ensures view { (memory : List ℕ) (a : ℕ) → view_of self.new memory a ≡ put_number size address value (view_of self.old memory) a }
-        ensures dirty { IfSome (entry_of self.new (address / self.old.plant.line)) (λ entry. IsTrue entry.dirty) }
+        ensures view { (memory : List ℕ) (a : ℕ)
+            → view_of self.new memory a ≡ put_number size address value (view_of self.old memory) a }
+        ensures dirty { IfSome (entry_of self.new (address / self.old.plant.line)) (λ e. IsTrue e.dirty) }
         ensures clean { (memory : List ℕ) → IsClean self.old memory → IsClean self.new memory }
         ensures resident { (line : ℕ) → is_resident self.new line ≡ is_resident self.old line }
         ensures kept { IsCache self.new }

@@ -56,7 +56,9 @@ fn empty_slot(alloc: Global, size: usize) -> Result<Slot, AllocError>
 /// Where a line is in the set.
 pub fn place_of(set: &Set, line: u32) -> Option<usize>
     requires { set.now.used ≤ length set.now.slots.items }
-    ensures { MatchOption result (find_line line (set_entries set.now) ≡ None) (IsPlaceOf line (set_entries set.now)) }
+    ensures { MatchOption result
+        (find_line line (set_entries set.now) ≡ None)
+        (IsPlaceOf line (set_entries set.now)) }
 {
     for i in 0..set.used {
         if set.slots[i].line == line {
@@ -73,13 +75,17 @@ pub fn touch_line(set: &mut Set, size: usize, memory: &mut [u8], line: u32) -> T
     requires line { line * size + size ≤ length memory.old }
     requires lines { All (λ e. e.line * size + size ≤ length memory.old) (set_entries set.old) }
     ensures roomy { IsRoomy size (length set.old.slots.items) set.new }
-    ensures entries { set_entries set.new ≡ (touch_set to_front size (length set.old.slots.items) line (set_entries set.old) memory.old).entries }
-    ensures memory { memory.new ≡ (touch_set to_front size (length set.old.slots.items) line (set_entries set.old) memory.old).memory }
-    ensures hit { result.hit ≡ (touch_set to_front size (length set.old.slots.items) line (set_entries set.old) memory.old).hit }
-    ensures back { result.back ≡ (touch_set to_front size (length set.old.slots.items) line (set_entries set.old) memory.old).back }
+    ensures entries { set_entries set.new
+        ≡ (touch_set to_front size (length set.old.slots.items) line (set_entries set.old) memory.old).entries }
+    ensures memory { memory.new
+        ≡ (touch_set to_front size (length set.old.slots.items) line (set_entries set.old) memory.old).memory }
+    ensures hit { result.hit
+        ≡ (touch_set to_front size (length set.old.slots.items) line (set_entries set.old) memory.old).hit }
+    ensures back { result.back
+        ≡ (touch_set to_front size (length set.old.slots.items) line (set_entries set.old) memory.old).back }
 {
     if let Some(i) = place_of(set, line) {
-        move_to_front(&mut set.slots, i, size);
+        move_to_front(&mut set.slots, i);
         return Touch {
             hit: true,
             back: false,
@@ -100,12 +106,11 @@ pub fn touch_line(set: &mut Set, size: usize, memory: &mut [u8], line: u32) -> T
 }
 
 /// Moves a slot to the front. No byte of a line is copied.
-fn move_to_front(slots: &mut [Slot], at: usize, size: usize)
-    requires bound { at < length slots.old }
-    requires room { All (HasRoom size) slots.old }
+fn move_to_front(slots: &mut [Slot], at: usize)
+    requires { at < length slots.old }
     ensures entries { map slot_entry slots.new ≡ fronted (map slot_entry slots.old) at }
     ensures len { length slots.new ≡ length slots.old }
-    ensures room { All (HasRoom size) slots.new }
+    ensures room { (size : ℕ) → All (HasRoom size) slots.old → All (HasRoom size) slots.new }
 {
     slots[..at + 1].rotate_right(1);
 }
@@ -115,11 +120,12 @@ fn bring_in(slots: &mut [Slot], at: usize, size: usize, memory: &[u8], line: u32
     requires bound { at < length slots.old }
     requires room { All (HasRoom size) slots.old }
     requires memory { line * size + size ≤ length memory.now }
-    ensures entries { map slot_entry slots.new ≡ slice_set (fronted (map slot_entry slots.old) at) 0 (filled size line memory.now) }
+    ensures entries { map slot_entry slots.new
+        ≡ slice_set (fronted (map slot_entry slots.old) at) 0 (filled size line memory.now) }
     ensures len { length slots.new ≡ length slots.old }
     ensures room { All (HasRoom size) slots.new }
 {
-    move_to_front(slots, at, size);
+    move_to_front(slots, at);
     fill(&mut slots[0], size, memory, line);
 }
 
@@ -141,8 +147,10 @@ fn fill(slot: &mut Slot, size: usize, memory: &[u8], line: u32)
 fn write_back(slots: &[Slot], at: usize, size: usize, memory: &mut [u8]) -> bool
     requires bound { at < length slots.now }
     requires room { All (HasRoom size) slots.now }
-    requires memory { (slice_index_or (map slot_entry slots.now) at no_entry).line * size + size ≤ length memory.old }
-    ensures memory { memory.new ≡ written_back size (slice_index_or (map slot_entry slots.now) at no_entry) memory.old }
+    requires memory { (slice_index_or (map slot_entry slots.now) at no_entry).line * size + size
+        ≤ length memory.old }
+    ensures memory { memory.new
+        ≡ written_back size (slice_index_or (map slot_entry slots.now) at no_entry) memory.old }
     ensures back { result ≡ (slice_index_or (map slot_entry slots.now) at no_entry).dirty }
 {
     let slot = &slots[at];
@@ -158,7 +166,8 @@ pub fn load_from(set: &Set, line: u32, at: usize, size: usize) -> u32
     requires used { set.now.used ≤ length set.now.slots.items }
     requires size { size ≤ 4 }
     requires resident { IsSome (find_line line (set_entries set.now)) }
-    requires within { (e : Entry) → find_line line (set_entries set.now) ≡ Some e → at + size ≤ length e.bytes }
+    requires within { (e : Entry) → find_line line (set_entries set.now) ≡ Some e
+        → at + size ≤ length e.bytes }
     ensures { (e : Entry) → find_line line (set_entries set.now) ≡ Some e
         → result ≡ number_at (slice_index e.bytes) at size }
 {
@@ -170,8 +179,10 @@ pub fn load_from(set: &Set, line: u32, at: usize, size: usize) -> u32
 pub fn store_in(set: &mut Set, line: u32, at: usize, size: usize, value: u32)
     requires used { set.old.used ≤ length set.old.slots.items }
     requires resident { IsSome (find_line line (set_entries set.old)) }
-    requires within { (e : Entry) → find_line line (set_entries set.old) ≡ Some e → at + size ≤ length e.bytes }
-    ensures entries { set_entries set.new ≡ write_line line at (bytes_of size value) (set_entries set.old) }
+    requires within { (e : Entry) → find_line line (set_entries set.old) ≡ Some e
+        → at + size ≤ length e.bytes }
+    ensures entries { set_entries set.new
+        ≡ write_line line at (bytes_of size value) (set_entries set.old) }
     ensures roomy { (bytes room : ℕ) → IsRoomy bytes room set.old → IsRoomy bytes room set.new }
 {
     let i = place_of(set, line).unwrap();

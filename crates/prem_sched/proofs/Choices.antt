@@ -1,14 +1,13 @@
 -- What a choice means.
-use Rattle.std.proofs.Common.{◌≡◌, ℕ, zero, suc, ◌+◌, ◌-◌, ◌*◌, ◌/◌, ◌%◌, ◌<◌, ◌≤◌, nat_lt, Bool, true, false, List, [], ◌∷◌, Option, Some, None, length, refl, ap, sym, ◌∙◌, arith, get_or, min, ◌↔◌, add-one, subst}
+use Rattle.std.proofs.Common.{◌≡◌, ℕ, zero, suc, ◌+◌, ◌*◌, ◌/◌, ◌<◌, ◌≤◌, Bool, true, false, List, [], ◌∷◌, Option, Some, None, length, refl, ap, sym, ◌∙◌, arith, get_or, subst}
 use Rattle.std.proofs.lemmas.List.{get_or-map, length-map}
-use Rattle.std.specs.Prelude.{All, slice_index_or, map}
+use Rattle.std.specs.Prelude.{All}
 use Rattle.std.proofs.Math.Nat.{div-lt_iff_lt-mul, lt-div-mul-add}
 use Rattle.std.proofs.lemmas.Bool.{false_from_ne_true}
 use Rattle.std.proofs.lemmas.Bool.Decides.{nat_tests}
 use Rattle.prem_sched.specs.declared.sched.TaskJobs.{TaskJobs}
-use Rattle.prem_sched.specs.declared.sched.Choice.{Choice}
-use Rattle.prem_sched.specs.declared.sched.Choice.TheVariants.{Run, Idle, Finished}
-use Rattle.prem_sched.specs.Schedule.{released, is_ready, has_jobs_left, next_release, earlier, least_release, rest, first_ready, run_or, choice, start_of, starts_of, no_task, task_at, IsTask, IsReady, IsDone, NoneReady, IsChoice, IsSet}
+use Rattle.prem_sched.specs.declared.sched.Choice.TheVariants.{Finished}
+use Rattle.prem_sched.specs.Schedule.{is_ready, has_jobs_left, next_release, earlier, least_release, rest, first_ready, run_or, choice, start_of, starts_of, no_task, task_at, IsTask, IsReady, IsDone, NoneReady, IsChoice, IsSet}
 
 -- ---- one task
 

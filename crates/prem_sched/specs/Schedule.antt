@@ -1,5 +1,5 @@
 -- Which task of a set runs next. Tasks stand in order of priority, and time is in cycles.
-use Rattle.std.specs.Prelude.{◌≡◌, ℕ, ◌+◌, ◌*◌, ◌/◌, ◌<◌, ◌≤◌, ◌&&◌, nat_lt, min, Bool, true, List, [], ◌∷◌, Option, Some, None, length, map, slice_index_or, slice_set, All, if◌then◌else◌}
+use Rattle.std.specs.Prelude.{◌≡◌, ℕ, ◌+◌, ◌*◌, ◌/◌, ◌<◌, ◌≤◌, nat_lt, min, Bool, true, List, [], ◌∷◌, Option, Some, None, length, map, slice_index_or, slice_set, All, if◌then◌else◌}
 use Rattle.prem_sched.specs.declared.sched.TaskJobs.{TaskJobs}
 use Rattle.prem_sched.specs.declared.sched.Choice.{Choice}
 use Rattle.prem_sched.specs.declared.sched.Choice.TheVariants.{Run, Idle, Finished}

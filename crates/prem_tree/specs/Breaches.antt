@@ -9,8 +9,10 @@ use Rattle.prem_tree.specs.declared.tree.Ty.{Ty}
 use Rattle.prem_tree.specs.declared.tree.Ty.TheVariants.{Void as VoidTy, Int as IntTy, Unsigned as UnsignedTy, Short, Ushort, Schar, Uchar}
 use Rattle.prem_tree.specs.declared.rules.Count.TheVariants.{Functions, Globals, Parameters, Regions, Length, Stated}
 use Rattle.prem_tree.specs.declared.rules.TypeRule.TheVariants.{Void, Narrow, Scalar, Initial, Count as CountRule, Target, Return, Marked, Region, Range, Job}
+use Rattle.prem_tree.specs.declared.names.Meaning.{Meaning}
+use Rattle.prem_tree.specs.declared.names.Meaning.TheVariants.{Nothing, Local as LocalName, Scalar as ScalarName, Array as ArrayName, Function as FunctionName}
 use Rattle.prem_tree.specs.Syntax.{Text, Expression, literal, variable, element, unary, binary, LoopNames, Statement, block, if_then, if_else, bounded_while, counting_for, assign, output, input, call, Statements, no_statements, next_statement, Parameter, LocalVariable, RegionText, MarkText, InitialValue, absent, one, many, GlobalVariable, FunctionText, ItemText, global_item, function_item, ProgramText}
-use Rattle.prem_tree.specs.Resolve.{Scope, Meaning, Nothing, LocalName, ScalarName, ArrayName, FunctionName, meaning_of, find_global, find_function, kind_of, resolve_term, declared, scope_at, scope_in, globals_of, functions_of}
+use Rattle.prem_tree.specs.Resolve.{Scope, meaning_of, find_global, find_function, kind_of, resolve_term, declared, scope_at, scope_in, globals_of, functions_of}
 use Rattle.prem_tree.specs.Rules.{Rule, Limit, NoJob, Unknown, Twice, OfTypes, CallOrder, MarkedCall, SystemCall, LoopForm, Breach}
 
 abbrev pub if_broken : Bool → Option Place → Rule → List Breach
@@ -36,14 +38,14 @@ unknown at name m = []
 -- without an index there is no array and no function
 abbrev pub used_plain : Place → Meaning → List Breach
 used_plain at (ArrayName number ty n) = broken_at at (OfTypes Scalar)
-used_plain at (FunctionName number f) = broken_at at (OfTypes Scalar)
+used_plain at (FunctionName number) = broken_at at (OfTypes Scalar)
 used_plain at m = []
 
 -- an index stands on an array
 abbrev pub used_indexed : Place → Meaning → List Breach
 used_indexed at (LocalName number ty) = broken_at at (OfTypes Scalar)
 used_indexed at (ScalarName number ty) = broken_at at (OfTypes Scalar)
-used_indexed at (FunctionName number f) = broken_at at (OfTypes Scalar)
+used_indexed at (FunctionName number) = broken_at at (OfTypes Scalar)
 used_indexed at m = []
 
 -- ---- expressions

@@ -11,3 +11,5 @@ pub mod Rules
 pub mod Breaches
 pub mod GroupTwo
 pub mod Checked
+pub mod ResolvedOf
+pub mod NamesOf

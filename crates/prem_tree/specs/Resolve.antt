@@ -1,5 +1,5 @@
 -- What the names of a program stand for, and the kinds of its expressions.
-use Rattle.std.specs.Prelude.{ℕ, ◌+◌, List, [], ◌∷◌, ◌++◌, length, map, Option, None, Some, Bool, if◌then◌else◌, codes}
+use Rattle.std.specs.Prelude.{ℕ, ◌+◌, List, [], ◌∷◌, ◌++◌, length, map, Option, None, Some, Bool, if◌then◌else◌, unwrap_or, codes}
 use Rattle.std.specs.Option.{option_map}
 use Rattle.std.specs.Str.{bytes_eq}
 use Rattle.prem_word.specs.declared.kind.Kind.{Kind}
@@ -11,21 +11,16 @@ use Rattle.prem_tree.specs.declared.tree.Ty.{Ty}
 use Rattle.prem_tree.specs.declared.tree.Ty.TheVariants.{Unsigned as UnsignedTy}
 use Rattle.prem_tree.specs.declared.tree.UnOp.{UnOp}
 use Rattle.prem_tree.specs.declared.tree.UnOp.TheVariants.{Not}
+use Rattle.prem_tree.specs.declared.names.Meaning.{Meaning}
+use Rattle.prem_tree.specs.declared.names.Meaning.TheVariants.{Nothing, Local as LocalName, Scalar as ScalarName, Array as ArrayName, Function as FunctionName}
 use Rattle.prem_tree.specs.Syntax.{Text, Expression, literal, variable, element, unary, binary, Statement, block, if_then, if_else, bounded_while, counting_for, assign, output, input, call, Statements, no_statements, next_statement, Parameter, LocalVariable, GlobalVariable, FunctionText, global_item, function_item, ProgramText}
-use Rattle.prem_tree.specs.Resolved.{Term, Constant, Local, Scalar, Element, Unary, Binary, AndAlso, OrElse, Steps, Done, SetLocal, SetScalar, SetElement, Output, Input, If, For, While, Call, Routine, Resolved}
+use Rattle.prem_tree.specs.Resolved.{Term, Constant, Local, Scalar, Element, Unary, Binary, AndAlso, OrElse, operator, Steps, Done, SetLocal, SetScalar, SetElement, Output, Input, If, For, While, Call, Routine, Resolved}
 
 -- what has a name at a place of a function
 pub record Scope : Type 0 where
   pub locals : List (Text × Ty)  -- parameters, then the locals that are declared before
   pub globals : List GlobalVariable  -- those that stand before the function
   pub functions : List FunctionText  -- all of the program
-
-pub data Meaning : Type 0 where
-  Nothing : Meaning
-  LocalName : (number : ℕ) (ty : Ty) → Meaning
-  ScalarName : (number : ℕ) (ty : Ty) → Meaning
-  ArrayName : (number : ℕ) (ty : Ty) (length : ℕ) → Meaning
-  FunctionName : (number : ℕ) (function : FunctionText) → Meaning
 
 -- the first of the things with a name, and its number, counted from n on
 abbrev pub find_named : {A : Type 0} → (A → Text) → Text → ℕ → List A → Option (ℕ × A)
@@ -49,7 +44,7 @@ global_meaning number ty (Some n) = ArrayName number ty n
 abbrev pub first_meaning : Option (ℕ × (Text × Ty)) → Option (ℕ × GlobalVariable) → Option (ℕ × FunctionText) → Meaning
 first_meaning (Some l) g f = LocalName l.0 l.1.1
 first_meaning None (Some g) f = global_meaning g.0 g.1.ty g.1.len
-first_meaning None None (Some f) = FunctionName f.0 f.1
+first_meaning None None (Some f) = FunctionName f.0
 first_meaning None None None = Nothing
 
 -- a parameter or local, then a global that stands before, then a function
@@ -72,7 +67,7 @@ operand_kind Shl a b = a
 operand_kind Shr a b = a
 operand_kind op a b = common a b
 
--- the kind of what an operator gives: comparisons give an int
+-- the kind of what an operator gives: comparisons, && and || give an int
 abbrev pub result_kind : BinOp → Kind → Kind
 result_kind Lt k = Int
 result_kind Le k = Int
@@ -80,6 +75,8 @@ result_kind Gt k = Int
 result_kind Ge k = Int
 result_kind Eq k = Int
 result_kind Ne k = Int
+result_kind AndAlsoOp k = Int
+result_kind OrElseOp k = Int
 result_kind op k = k
 
 abbrev pub unary_kind : UnOp → Kind → Kind
@@ -108,9 +105,7 @@ element_term at (ArrayName number ty length) index = Element at number ty index
 element_term at m index = Constant at 0 Int
 
 abbrev pub binary_term : Place → BinOp → Term → Term → Term
-binary_term at AndAlsoOp left right = AndAlso at left right
-binary_term at OrElseOp left right = OrElse at left right
-binary_term at op left right = Binary at op (operand_kind op (kind_of left) (kind_of right)) left right
+binary_term at op left right = operator at op (operand_kind op (kind_of left) (kind_of right)) left right
 
 abbrev pub resolve_term : Scope → Expression → Term
 resolve_term scope (literal at value kind) = Constant at value kind
@@ -146,9 +141,10 @@ abbrev pub input_steps : Place → Meaning → Steps → Steps
 input_steps at (LocalName number ty) rest = Input at number rest
 input_steps at m rest = rest
 
-abbrev pub loop_steps : Place → Meaning → Term → Bool → Term → ℕ → ℕ → Steps → Steps → Steps
-loop_steps at (LocalName number ty) low closed high step turns body rest = For at number low closed high step turns body rest
-loop_steps at m low closed high step turns body rest = rest
+-- the variable of a loop
+abbrev pub loop_local : Meaning → ℕ
+loop_local (LocalName number ty) = number
+loop_local m = 0
 
 -- the number of a local
 abbrev pub local_number : Meaning → Option ℕ
@@ -159,9 +155,13 @@ abbrev pub target_of : Scope → Option Text → Option ℕ
 target_of scope None = None
 target_of scope (Some name) = local_number (meaning_of scope name)
 
-abbrev pub call_steps : Place → Option ℕ → Option (ℕ × FunctionText) → List Term → Steps → Steps
+-- the number of the first function with a name
+abbrev pub number_named : List FunctionText → Text → Option ℕ
+number_named functions name = option_map (λ (f : ℕ × FunctionText). f.0) (find_function functions name)
+
+abbrev pub call_steps : Place → Option ℕ → Option ℕ → List Term → Steps → Steps
 call_steps at target None arguments rest = rest
-call_steps at target (Some f) arguments rest = Call at target f.0 arguments rest
+call_steps at target (Some f) arguments rest = Call at target f arguments rest
 
 -- a statement and the steps behind it; the loops from number n on have so many turns
 abbrev mutual
@@ -174,13 +174,13 @@ abbrev mutual
   resolve_statement scope turns n (bounded_while at most condition body) rest =
       While at most (resolve_term scope condition) (resolve_statement scope turns n body Done) rest
   resolve_statement scope turns n (counting_for at names low closed high step body) rest =
-      loop_steps at (meaning_of scope names.first) (resolve_term scope low) closed (resolve_term scope high) step (turns n) (resolve_statement scope turns (n + 1) body Done) rest
+      For at (loop_local (meaning_of scope names.first)) (resolve_term scope low) closed (resolve_term scope high) step (turns n) (resolve_statement scope turns (n + 1) body Done) rest
   resolve_statement scope turns n (assign at name index value) rest =
       set_steps at (meaning_of scope name) (option_map (resolve_term scope) index) (resolve_term scope value) rest
   resolve_statement scope turns n (output at value) rest = Output at (resolve_term scope value) rest
   resolve_statement scope turns n (input at name) rest = input_steps at (meaning_of scope name) rest
   resolve_statement scope turns n (call at target callee arguments) rest =
-      call_steps at (target_of scope target) (find_function scope.functions callee) (map (resolve_term scope) arguments) rest
+      call_steps at (target_of scope target) (number_named scope.functions callee) (map (resolve_term scope) arguments) rest
 
   pub resolve_statements : Scope → (ℕ → ℕ) → ℕ → Statements → Steps → Steps
   resolve_statements scope turns n no_statements rest = rest
@@ -233,15 +233,10 @@ resolve_items functions turns n globals (global_item g ∷ items) = resolve_item
 resolve_items functions turns n globals (function_item f ∷ items) =
     resolve_function functions turns n globals f ∷ resolve_items functions turns (n + loops_within f.body) globals items
 
--- a function's number, or that behind the last one where there is none
-abbrev pub function_number : ℕ → Option (ℕ × FunctionText) → ℕ
-function_number none None = none
-function_number none (Some f) = f.0
-
 -- the program, where its n-th counting loop has so many turns
 abbrev pub resolve : (ℕ → ℕ) → ProgramText → Resolved
 resolve turns p = record {
   globals = globals_of p;
   routines = resolve_items (functions_of p) turns 0 [] p;
-  job = function_number (length (functions_of p)) (find_function (functions_of p) (codes "job"));
+  job = unwrap_or (number_named (functions_of p) (codes "job")) (length (functions_of p));
 }

@@ -2,6 +2,7 @@
 use Rattle.std.specs.Prelude.{ℕ, List, Option, Bool}
 use Rattle.prem_word.specs.declared.kind.Kind.{Kind}
 use Rattle.prem_word.specs.declared.kind.BinOp.{BinOp}
+use Rattle.prem_word.specs.declared.kind.BinOp.TheVariants.{AndAlso as AndAlsoOp, OrElse as OrElseOp}
 use Rattle.prem_tree.specs.declared.tree.Place.{Place}
 use Rattle.prem_tree.specs.declared.tree.Ty.{Ty}
 use Rattle.prem_tree.specs.declared.tree.UnOp.{UnOp}
@@ -17,6 +18,12 @@ pub data Term : Type 0 where
   Binary : (at : Place) (op : BinOp) (kind : Kind) (left right : Term) → Term
   AndAlso : (at : Place) (left right : Term) → Term
   OrElse : (at : Place) (left right : Term) → Term
+
+-- && and || are no operators on two words
+abbrev pub operator : Place → BinOp → Kind → Term → Term → Term
+operator at AndAlsoOp kind left right = AndAlso at left right
+operator at OrElseOp kind left right = OrElse at left right
+operator at op kind left right = Binary at op kind left right
 
 -- a statement with what follows it; a block is its statements
 pub data Steps : Type 0 where

@@ -3,6 +3,9 @@
 
 mod checked;
 mod name;
+mod names;
+mod resolve;
+pub mod resolved;
 mod rules;
 mod tree;
 

@@ -79,10 +79,11 @@ fn walks_through_two_sets(rt: HostRuntime) -> Result<(), Fail> {
     let mut mem = Memory::new(rt.alloc(), 4096, &[])?;
     let mut cache = Cache::new(rt.alloc(), &PLANT)?;
     for (line, store, hit, back, first, second) in STEPS {
+        assert!(rt; line < 8);
         let touch = touched(&rt, &mut cache, &mut mem, line);
         assert_eq!(rt; (touch.hit, touch.back), (hit, back), "at {line}");
         if store {
-            stored(&rt, &mut cache, 16 * (line % 8), 4, line + 100);
+            stored(&rt, &mut cache, line * 16, 4, line + 100);
         }
         for (set, lines) in cache.sets.iter().zip([first, second]) {
             assert!(rt; has_order(set, lines), "after {line}");

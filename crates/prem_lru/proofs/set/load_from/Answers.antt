@@ -1,6 +1,6 @@
-use Rattle.std.proofs.Common.{◌≡◌, ◌+◌, ◌≤◌, ◌∙◌, ℕ, List, Some, ap, sym, subst, length, slice_index}
+use Rattle.std.proofs.Common.{◌+◌, ◌≤◌, ◌∙◌, ℕ, List, ap, sym, subst, length, slice_index}
 use Rattle.prem_word.specs.Bytes.{number_at}
-use Rattle.prem_lru.specs.Entries.{Entry, find_line}
+use Rattle.prem_lru.specs.Entries.{Entry}
 use Rattle.prem_lru.specs.Fields.{slot_entry, set_entries}
 use Rattle.prem_lru.proofs.Slots.{place_at, slot_found, same_found}
 use Rattle.prem_lru.proofs.set.load_from.Goals as goal

@@ -1,6 +1,5 @@
-use Rattle.std.proofs.Common.{◌≡◌, ◌∙◌, ◌+◌, ◌%◌, ◌/◌, ◌≤◌, true, ℕ, List, ap, sym, subst, length, slice_index, rules}
+use Rattle.std.proofs.Common.{◌≡◌, ◌∙◌, ◌%◌, ◌/◌, true, ap, sym, subst, length, rules}
 use Rattle.prem_word.specs.Bytes.{number_at}
-use Rattle.prem_lru.specs.Entries.{Entry}
 use Rattle.prem_lru.specs.CacheState.{CacheState, entry_of, is_resident, view_of}
 use Rattle.prem_lru.specs.CacheFields.{cache_state}
 use Rattle.prem_lru.proofs.Lookup.{some_of}

@@ -1,0 +1,12 @@
+//! The gates of the devices and the bus: which requests wait, which transfer runs, and who has the bus.
+#![tactic(auto)]
+
+mod bus;
+mod gate;
+mod gates;
+pub mod laws;
+mod request;
+
+pub use bus::{BusTurn, CoreWant, Transfer, Window};
+pub use gates::{Arrived, Gates};
+pub use request::{Request, RunInput};
