@@ -1,11 +1,12 @@
 -- An image that keeps the rules, and some that do not.
-use Rattle.std.proofs.Common.{◌≡◌, ℕ, ◌≤◌, List, [], ◌∷◌, map, refl, arith}
-use Rattle.std.specs.Prelude.{codes}
+use Rattle.std.proofs.Common.{◌≡◌, ℕ, zero, suc, ◌+◌, ◌<◌, ◌≤◌, List, [], ◌∷◌, Option, Some, None, map, refl, arith, subst}
+use Rattle.std.specs.Prelude.{codes, slice_get, All}
+use Rattle.std.specs.Int.Count.{ones}
 use Rattle.prem_plant.specs.declared.plant.Plant.{Plant}
-use Rattle.prem_plant.specs.Places.{AreApart}
+use Rattle.prem_plant.specs.Places.{Place, AreApart, AreDisjoint}
 use Rattle.prem_image.specs.declared.image.TaskRecord.{TaskRecord}
 use Rattle.prem_image.specs.declared.image.DeviceRecord.{DeviceRecord}
-use Rattle.prem_image.specs.Records.{IsTask, IsPlaced, AreDistinct, area_of, task_names}
+use Rattle.prem_image.specs.Records.{IsTask, IsPlaced, AreDistinct, IsImage, area_of, task_names}
 
 abbrev plant : Plant
 plant = record { line = 16; sets = 64; ways = 4; fill = 10; back = 10; switch = 20; memory = 4096 }
@@ -38,3 +39,79 @@ row_stack h = absurd (let e : 8 ≡ 0 = h.stack_aligned in omega arith)
 
 row_past : IsPlaced 16 4096 (placed (codes "dma") 4048) → ⊥
 row_past h = absurd (let e : 4112 ≤ 4096 = h.within in omega arith)
+
+-- ---- an image that keeps all rules
+
+abbrev one_task : List TaskRecord
+one_task = task (codes "m") 0 304 ∷ []
+
+abbrev one_device : List DeviceRecord
+one_device = placed (codes "dma") 304 ∷ []
+
+row_task : IsTask 4096 (task (codes "m") 0 304)
+row_task =
+    record {
+      name = record { some = omega arith; short = omega arith; each = refl };
+      period = (omega arith, omega arith);
+      jobs = (omega arith, omega arith);
+      entry_aligned = refl;
+      entry_within = omega arith;
+      stack_aligned = refl;
+      stack_within = omega arith;
+    }
+
+row_placed : IsPlaced 16 4096 (placed (codes "dma") 304)
+row_placed =
+    record {
+      device = record {
+        name = record { some = omega arith; short = omega arith; each = refl };
+        queue = (omega arith, omega arith);
+        cost = (omega arith, omega arith);
+        lines = (omega arith, omega arith);
+      };
+      aligned = refl;
+      within = omega arith;
+    }
+
+each_task : All (IsTask 4096) one_task
+each_task zero d h = row_task
+each_task (suc k) d h = absurd (let x : suc k < 1 = h in omega arith)
+
+each_device : All (IsPlaced 16 4096) one_device
+each_device zero d h = row_placed
+each_device (suc k) d h = absurd (let x : suc k < 1 = h in omega arith)
+
+forward : (i : ℕ) (p : Place) → slice_get (map (area_of 16) one_device) i ≡ Some p → p.0 ≤ p.1
+forward zero p h = let e : Some (304, 368) ≡ Some p = h in let q : (304, 368) ≡ p = cc in subst (λ (r : Place). r.0 ≤ r.1) q (omega arith)
+forward (suc i) p h = absurd (let e : None ≡ Some p = h in cc)
+
+apart : AreDisjoint (map (area_of 16) one_device)
+apart zero zero a p q hp hq x y = refl
+apart zero (suc j) a p q hp hq x y = absurd (let e : None ≡ Some q = hq in cc)
+apart (suc i) j a p q hp hq x y = absurd (let e : None ≡ Some p = hp in cc)
+
+row_image : IsImage plant one_task one_device []
+unfolding ones
+row_image =
+    record {
+      plant = record {
+        line = (omega arith, omega arith);
+        line_power = refl;
+        sets = (omega arith, omega arith);
+        sets_power = refl;
+        ways = (omega arith, omega arith);
+        fill = (omega arith, omega arith);
+        back = (omega arith, omega arith);
+        switch = omega arith;
+        memory = (omega arith, omega arith);
+        memory_pages = refl;
+      };
+      task_count = (omega arith, omega arith);
+      device_count = omega arith;
+      each_task = each_task;
+      task_names = λ i j x y e. let x' : i < 1 = x in let y' : j < 1 = y in omega arith;
+      each_device = each_device;
+      device_names = λ i j x y e. let x' : i < 1 = x in let y' : j < 1 = y in omega arith;
+      apart = record { forward = forward; disjoint = apart };
+      within = omega arith;
+    }

@@ -7,20 +7,11 @@ use Rattle.prem_machine.specs.declared.state.Mode.{Mode}
 use Rattle.prem_machine.specs.declared.state.Mode.TheVariants.{Point, Switching, Running, Idle}
 use Rattle.prem_machine.specs.declared.state.Interval.{Interval}
 use Rattle.prem_machine.specs.State.{Setup, Work, CoreState, Counts, State}
-use Rattle.prem_machine.specs.Issue.{Attempt, Traps, Executes, attempt_of, issued_by}
-use Rattle.prem_machine.specs.Core.{CoreMove, Passes, Issues, core_issue, core_turn}
+use Rattle.prem_machine.specs.Issue.{Attempt, Traps, Executes, attempt_of}
+use Rattle.prem_machine.specs.Core.{attempted, moved, CoreMove, Passes, Issues, core_issue, core_turn}
 use Rattle.prem_machine.specs.Cycle.{Arrivals, with_memory, with_clash, move_at, core_at, joined, at_point, close_interval, settle, with_now, next_cycle, cycle_with}
 
 -- ---- the work: what a transfer writes, and then one instruction or none
-
-abbrev pub attempted : Rule → Setup → ℕ → Attempt → Work → Work
-attempted rule p k (Traps cause) w = w
-attempted rule p k (Executes instr e) w = (issued_by rule p k e w).work
-
--- the work after the core's move
-abbrev pub moved : Rule → Setup → CoreMove → Work → Work
-moved rule p (Passes c) w = w
-moved rule p (Issues k i) w = attempted rule p k (attempt_of p k w) w
 
 issue_work : (rule : Rule) (p : Setup) (now k : ℕ) (i : Interval) (a : Attempt) (w : Work) (c : CoreState) (n : Counts) → (core_issue rule p now k i a w c n).work ≡ attempted rule p k a w
 issue_work rule p now k i (Traps cause) w c n = refl
@@ -87,3 +78,18 @@ pub cycle_goes : (rule : Rule) (p : Setup) (a : Arrivals) (b : Turned) (s : Stat
 cycle_goes rule p a b s h =
     let j : State = joined a b (core_at rule p b s) s in
     ap (λ o. (cond (is_some o) j (next_cycle j)).now) h ∙ (settle_keeps j.core.mode (with_now j (j.now + 1))).now
+
+next_trapped : (s : State) → (next_cycle s).trapped ≡ s.trapped
+next_trapped s = (settle_keeps s.core.mode (with_now s (s.now + 1))).trapped
+
+ticked_trapped : (o : Bool) (s : State) → (cond o s (next_cycle s)).trapped ≡ s.trapped
+ticked_trapped true s = refl
+ticked_trapped false s = next_trapped s
+
+-- the trap is that of the core's move
+pub cycle_trapped : (rule : Rule) (p : Setup) (a : Arrivals) (b : Turned) (s : State) → (cycle_with rule p a b s).trapped ≡ (core_at rule p b s).trapped
+cycle_trapped rule p a b s = ticked_trapped (is_some (core_at rule p b s).trapped) (joined a b (core_at rule p b s) s)
+
+-- a cycle whose instruction traps leaves now and the core as they were
+pub cycle_traps : (rule : Rule) (p : Setup) (a : Arrivals) (b : Turned) (s : State) → is_some (core_at rule p b s).trapped ≡ true → (cycle_with rule p a b s).now ≡ s.now
+cycle_traps rule p a b s h = let j : State = joined a b (core_at rule p b s) s in ap (λ o. (cond o j (next_cycle j)).now) h

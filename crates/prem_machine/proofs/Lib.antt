@@ -1,6 +1,7 @@
 pub mod RunLaws
 pub mod CoreCases
 pub mod CycleParts
+pub mod Time
 pub mod SamePlain
 pub mod Images
 pub mod Told

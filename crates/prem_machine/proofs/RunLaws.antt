@@ -23,7 +23,7 @@ cycles_of-add rule p requests m (suc n) s =
 pub step_of-goes : (rule : Rule) (p : Setup) (requests : List Request) (s : State) → is_over s ≡ false → step_of rule p requests s ≡ cycle_of rule p requests s
 step_of-goes rule p requests s h = ap (λ b. cond b s (cycle_of rule p requests s)) h
 
-step_of-stays : (rule : Rule) (p : Setup) (requests : List Request) (s : State) → is_over s ≡ true → step_of rule p requests s ≡ s
+pub step_of-stays : (rule : Rule) (p : Setup) (requests : List Request) (s : State) → is_over s ≡ true → step_of rule p requests s ≡ s
 step_of-stays rule p requests s h = ap (λ b. cond b s (cycle_of rule p requests s)) h
 
 -- a state that is finished, has trapped or has a full log stays as it is

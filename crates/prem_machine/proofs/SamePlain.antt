@@ -1,5 +1,5 @@
 -- An instruction that a task executes in the machine is the one that its run on its own executes.
-use Rattle.std.proofs.Common.{◌≡◌, ℕ, ◌+◌, ◌<◌, refl, ap, ◌∙◌, sym, arith, cond, true, None, length}
+use Rattle.std.proofs.Common.{◌≡◌, ℕ, ◌+◌, ◌<◌, refl, ap, ◌∙◌, sym, arith, cond, true, length}
 use Rattle.std.specs.Prelude.{Result, Ok, Err, slice_index, replicate}
 use Rattle.prem_isa.specs.declared.instr.Instr.{Instr}
 use Rattle.prem_isa.specs.declared.effect.Cause.{Cause}
@@ -13,32 +13,8 @@ use Rattle.prem_isa.specs.Plain.{TaskRun, PlainState, next_input, moved_by, afte
 use Rattle.prem_isa.proofs.RegisterFile.{zeros, slice_index-list_with_register}
 use Rattle.prem_image.specs.declared.image.TaskRecord.{TaskRecord}
 use Rattle.prem_machine.specs.State.{Task, first_list}
+use Rattle.prem_machine.specs.Alone.{plain_of, ended_after}
 use Rattle.prem_machine.specs.Issue.{Traps, Executes, attempt_by, attempt_fetched, attempt_in, task_moved, task_changed, task_after}
-
--- a task as its run on its own has it, where memory reads as a view and so many jobs have ended
-abbrev pub plain_of : Task → (ℕ → ℕ) → ℕ → PlainState
-plain_of t view ended =
-    record {
-      task = record {
-        registers = slice_index t.registers;
-        view = view;
-        phase = t.phase;
-        left = t.left;
-        used = t.used;
-        outputs = t.outputs;
-      };
-      pc = t.pc;
-      ended = ended;
-      trapped = None;
-    }
-
--- the jobs that have ended behind an instruction
-abbrev pub ended_after : Change → ℕ → ℕ
-ended_after Stay ended = ended
-ended_after Memory ended = ended
-ended_after (Execute stated) ended = ended
-ended_after End ended = ended
-ended_after Job ended = ended + 1
 
 -- ---- the effect
 

@@ -158,3 +158,14 @@ core_issue rule p now k i (Executes instr e) w c n =
 abbrev pub core_turn : Rule → Setup → ℕ → CoreMove → Work → CoreState → Counts → CoreTurn
 core_turn rule p now (Passes c') w c n = record { work = w; core = c'; counts = n; trapped = None }
 core_turn rule p now (Issues k i) w c n = core_issue rule p now k i (attempt_of p k w) w c n
+
+-- ---- what it does to the work
+
+abbrev pub attempted : Rule → Setup → ℕ → Attempt → Work → Work
+attempted rule p k (Traps cause) w = w
+attempted rule p k (Executes instr e) w = (issued_by rule p k e w).work
+
+-- the work after the core's move
+abbrev pub moved : Rule → Setup → CoreMove → Work → Work
+moved rule p (Passes c) w = w
+moved rule p (Issues k i) w = attempted rule p k (attempt_of p k w) w

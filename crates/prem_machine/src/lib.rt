@@ -2,8 +2,12 @@
 #![tactic(auto)]
 
 mod facts;
+mod laws;
 mod state;
 
 pub use facts::{DeviceFacts, EndedInterval, Facts, TaskFacts};
+pub use laws::{
+    a_cycle_executes_one_instruction, cycles_are_counted, runs_compose, tasks_execute_as_alone,
+};
 pub use prem_isa::Cause;
 pub use state::{Interval, Mode, Stop, Trap, Turn};

@@ -100,8 +100,7 @@ global_behind : group_two global_behind_text ≡ broken 1 22 (Unknown (codes "g"
 unfolding global_behind_text group_two
 global_behind = refl
 
--- a local has its name from behind its own declaration on
---   void job(void) { int x = x; }
+-- a local has its name from behind its own declaration on: void job(void) { int x = x; }
 local_in_itself_text : ProgramText
 local_in_itself_text = function (at 1 6) None VoidTy (codes "job") [] (local (at 1 22) IntTy (codes "x") (variable (at 1 26) (codes "x")) ∷ []) no_statements None ∷ []
 
@@ -791,8 +790,7 @@ types_before_order : group_two types_before_order_text ≡ broken 2 3 (OfTypes C
 unfolding types_before_order_text group_two
 types_before_order = refl
 
--- the rules on types have their order
---   PREDICTABLE(9) short job(int x) { }
+-- the rules on types have their order: PREDICTABLE(9) short job(int x) { }
 all_of_types_text : ProgramText
 all_of_types_text = function (at 1 22) (Some (record { stated = 9; regions = [] })) Short (codes "job") (parameter (at 1 30) IntTy (codes "x") None ∷ []) [] no_statements None ∷ []
 
