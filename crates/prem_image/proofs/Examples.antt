@@ -1,5 +1,5 @@
 -- An image that keeps the rules, and some that do not.
-use Rattle.std.proofs.Common.{◌≡◌, ℕ, zero, suc, ◌+◌, ◌<◌, ◌≤◌, List, [], ◌∷◌, Option, Some, None, map, refl, arith, subst}
+use Rattle.std.proofs.Common.{◌≡◌, ℕ, zero, suc, ◌<◌, ◌≤◌, List, [], ◌∷◌, Some, None, map, refl, arith, subst}
 use Rattle.std.specs.Prelude.{codes, slice_get, All}
 use Rattle.std.specs.Int.Count.{ones}
 use Rattle.prem_plant.specs.declared.plant.Plant.{Plant}
