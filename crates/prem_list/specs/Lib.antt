@@ -1,1 +1,3 @@
 pub mod Sequence
+pub mod Lending
+pub mod LendingItems

@@ -1,5 +1,5 @@
 // The whole cache.
-ghost use Rattle.std.specs.Prelude.{◌≡◌, ◌≢◌, ◌+◌, ◌/◌, ◌%◌, ◌<◌, ◌≤◌, ℕ, List, [], false, All, IfOk, IfSome, IsTrue, length, map, replicate};
+ghost use Rattle.std.specs.Prelude.{◌≡◌, ◌≢◌, ◌+◌, ◌/◌, ◌%◌, ◌^◌, ◌<◌, ◌≤◌, ℕ, List, [], false, All, IfOk, IfSome, IsTrue, length, map, replicate};
 ghost use Rattle.prem_plant.specs.Ranges.{IsPlant};
 ghost use Rattle.prem_word.specs.Bytes.{number_at, put_number};
 ghost use Rattle.prem_lru.specs.Access.{IsWidth};
@@ -8,6 +8,7 @@ ghost use Rattle.prem_lru.specs.CacheState.{CacheState, IsCache, IsClean, empty_
 ghost use Rattle.prem_lru.specs.Fields.{IsRoomy, set_entries};
 
 use crate::memory::Memory;
+use crate::number::read_at;
 use crate::set::{Set, Touch, empty_set, load_from, place_of, store_in, touch_line};
 use prem_plant::Plant;
 use std::alloc::{AllocError, Global};
@@ -48,6 +49,14 @@ impl Cache {
         Ok(Cache { plant: *p, sets })
     }
 
+    /// The plant with which the cache was made.
+    pub fn plant(&self) -> Plant
+        ensures same { result ≡ self.now.plant }
+        ensures range { IsPlant result }
+    {
+        self.plant
+    }
+
     /// Touches a line of memory, as each fetch, load and store does first: the line is resident then, and the
     /// most recently used one of its set. Where it comes into a full set, the least recently used line goes,
     /// and is written back to memory if it is dirty.
@@ -84,7 +93,8 @@ impl Cache {
         requires size { IsWidth size }
         requires aligned { address % size ≡ 0 }
         requires resident { IsTrue (is_resident self.now (address / self.now.plant.line)) }
-        ensures { (memory : List ℕ) → result ≡ number_at (view_of self.now memory) address size }
+        ensures number { (memory : List ℕ) → result ≡ number_at (view_of self.now memory) address size }
+        ensures small { result < 256 ^ size }
     {
         let line = address / self.plant.line;
         let at = (address % self.plant.line) as usize;
@@ -94,6 +104,30 @@ impl Cache {
             at,
             size as usize,
         )
+    }
+
+    /// The little endian number of so many bytes of memory from an address up, as the core sees them, whether their
+    /// line is resident or not. It touches nothing.
+    pub fn peek(&self, mem: &Memory, address: u32, size: u8) -> u32
+        requires size { IsWidth size }
+        requires aligned { address % size ≡ 0 }
+        requires within { address + size ≤ length mem.now }
+        ensures number { result ≡ number_at (view_of self.now mem.now) address size }
+        ensures small { result < 256 ^ size }
+    {
+        if self.resident(address / self.plant.line) {
+            return self.load(address, size);
+        }
+        read_at(&mem.bytes, address as usize, size as usize)
+    }
+
+    /// The number of the line of an address.
+    pub fn line_of(&self, address: u32) -> u32
+        ensures line { result ≡ address / self.now.plant.line }
+        ensures within { address < self.now.plant.memory
+            → result < self.now.plant.memory / self.now.plant.line }
+    {
+        address / self.plant.line
     }
 
     /// Puts the lowest bytes of a value from an address up. Their line, which is resident, is dirty then.

@@ -35,6 +35,13 @@ fn loaded(rt: &impl Abort, cache: &Cache, address: u32, size: u8) -> u32
     cache.load(address, size)
 }
 
+fn peeked(rt: &impl Abort, cache: &Cache, mem: &Memory, address: u32) -> u32
+    requires { length mem.now ≡ 4096 }
+{
+    assert!(rt; address % 4 == 0 && address < 4096);
+    cache.peek(mem, address, 4)
+}
+
 fn stored(rt: &impl Abort, cache: &mut Cache, address: u32, size: u8, value: u32)
     requires { cache.old.plant.line ≡ 16 }
     ensures { cache.new.plant ≡ cache.old.plant }
@@ -135,6 +142,10 @@ fn loads_and_stores_at_edges(rt: HostRuntime) -> Result<(), Fail> {
 
     // Memory has them once the line went, and the lines beside it are as they were.
     assert_eq!(rt; (mem.word(16), mem.word(28)), (0x2322_2120, 0x2f2e_2d2c));
+    assert_eq!(rt;
+        (peeked(&rt, &cache, &mem, 12), peeked(&rt, &cache, &mem, 16)),
+        (0x1f1e_1d1c, 0x2322_1234)
+    );
     touched(&rt, &mut cache, &mut mem, 3);
     let touch = touched(&rt, &mut cache, &mut mem, 5);
     assert!(rt; touch.back && !cache.resident(1));
