@@ -1,0 +1,11 @@
+pub mod RunLaws
+pub mod CoreCases
+pub mod CycleParts
+pub mod Time
+pub mod SamePlain
+pub mod Images
+pub mod Told
+pub mod RowsAlone
+pub mod RowsGates
+pub mod RowsTasks
+pub mod RowsMoments
