@@ -1,0 +1,17 @@
+//! The core of the cycle machine: what one task computes, and what an instruction of it does to cache and memory.
+#![tactic(auto)]
+
+mod attempt;
+mod counting;
+mod task;
+mod touches;
+mod transactions;
+
+pub use attempt::Attempt;
+pub use counting::count;
+pub use task::{Core, INPUTS};
+pub use touches::{LineTouch, Touches, touch_lines};
+pub use transactions::Transactions;
+
+#[cfg(test)]
+mod tests;
