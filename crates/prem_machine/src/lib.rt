@@ -1,13 +1,20 @@
-//! The cycle machine: one core with its cache, the devices with their gates, and the bus that they share.
+//! The running cycle machine: a run of an image that goes cycle by cycle, each the cycle that the definitions give.
 #![tactic(auto)]
 
-mod facts;
-mod laws;
-mod state;
+mod arrivals;
+mod copies;
+mod fits;
+mod log;
+mod machine;
+mod moment;
+mod owed;
+mod parts;
+mod start;
+mod work;
 
-pub use facts::{DeviceFacts, EndedInterval, Facts, TaskFacts};
-pub use laws::{
-    a_cycle_executes_one_instruction, cycles_are_counted, runs_compose, tasks_execute_as_alone,
+pub use fits::run_fits;
+pub use machine::Machine;
+pub use prem_core::Core;
+pub use prem_cycle::{
+    Cause, DeviceFacts, EndedInterval, Facts, Interval, Mode, Stop, TaskFacts, Trap, Turn,
 };
-pub use prem_isa::Cause;
-pub use state::{Interval, Mode, Stop, Trap, Turn};
