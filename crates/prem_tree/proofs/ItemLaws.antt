@@ -1,8 +1,7 @@
 -- Functions resolved one after another.
-use Rattle.std.proofs.Common.{◌≡◌, ℕ, ◌+◌, List, [], ◌∷◌, ◌++◌, refl, ap, ◌∙◌, sym, arith, append_assoc, append-nil, map, ◌<◌, length, take, get_or}
-use Rattle.prem_list.specs.Sequence.{items_of}
+use Rattle.std.proofs.Common.{◌≡◌, ℕ, ◌+◌, List, [], ◌∷◌, ◌++◌, refl, ap, ◌∙◌, sym, arith, append_assoc, append-nil}
 use Rattle.prem_tree.specs.declared.resolved.Routine.{Routine as RoutineTree}
-use Rattle.prem_tree.specs.Syntax.{GlobalVariable, FunctionText, ItemText, ProgramText, global_item, function_item}
+use Rattle.prem_tree.specs.Syntax.{GlobalVariable, FunctionText, ProgramText, global_item, function_item}
 use Rattle.prem_tree.specs.Resolve.{Scope, resolve_function, resolve_items, globals_of, loops_within}
 use Rattle.prem_tree.specs.ResolvedOf.{loops_of, routine_of, routines_of, all_loops, item_loops, IsRoutine, AreRoutines}
 use Rattle.prem_tree.specs.NamesOf.{SameItems, AreBehind}

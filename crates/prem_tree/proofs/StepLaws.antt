@@ -1,5 +1,5 @@
 -- What steps that are made of others stand for.
-use Rattle.std.proofs.Common.{◌≡◌, ℕ, ◌+◌, List, [], ◌∷◌, ◌++◌, refl, ap, ◌∙◌, arith, Bool, sym, length, take, get_or, ◌<◌, Bor, Option, map}
+use Rattle.std.proofs.Common.{◌≡◌, ℕ, ◌+◌, List, [], ◌∷◌, ◌++◌, ap, ◌∙◌, arith, Bool, sym, length, take, get_or, ◌<◌, Bor, Option, map}
 use Rattle.std.specs.Option.{option_map}
 use Rattle.prem_list.specs.declared.Sequence.{Sequence}
 use Rattle.prem_list.specs.Sequence.{items_of}

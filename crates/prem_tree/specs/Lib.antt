@@ -13,3 +13,6 @@ pub mod GroupTwo
 pub mod Checked
 pub mod ResolvedOf
 pub mod NamesOf
+pub mod Machine
+pub mod StepMeaning
+pub mod SourceRun

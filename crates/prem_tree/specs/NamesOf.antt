@@ -1,9 +1,6 @@
 -- What names in memory stand for.
 use Rattle.std.specs.Prelude.{◌≡◌, ℕ, List, ◌++◌, map, Option}
 use Rattle.prem_tree.specs.declared.tree.Ty.{Ty}
-use Rattle.prem_tree.specs.declared.tree.Global.{Global}
-use Rattle.prem_tree.specs.declared.tree.Function.{Function}
-use Rattle.prem_tree.specs.declared.name.Name.{Name}
 use Rattle.prem_tree.specs.declared.names.Names.{Names}
 use Rattle.prem_tree.specs.Name.{name_bytes}
 use Rattle.prem_tree.specs.Syntax.{Text, GlobalVariable, FunctionText, ProgramText}

@@ -1,4 +1,4 @@
-use Rattle.std.proofs.Common.{◌≡◌, ◌+◌, ap, ◌∷◌, [], ◌++◌, arith, take, map}
+use Rattle.std.proofs.Common.{◌≡◌, ◌+◌, ◌∷◌, [], ◌++◌, arith, take, map}
 use Rattle.std.proofs.lemmas.Grind.{common_steps}
 use Rattle.prem_list.specs.Sequence.{items_of}
 use Rattle.prem_tree.specs.Resolve.{functions_of}

@@ -1,6 +1,5 @@
-use Rattle.std.proofs.Common.{◌≡◌, ap, sym, ◌∙◌, arith, rules}
+use Rattle.std.proofs.Common.{◌≡◌, arith, rules}
 use Rattle.std.proofs.lemmas.Grind.{common_steps}
-use Rattle.prem_list.specs.Sequence.{items_of}
 use Rattle.prem_tree.specs.SyntaxOf.{function_of}
 use Rattle.prem_tree.specs.Resolve.{scope_at, scope_in}
 use Rattle.prem_tree.specs.NamesOf.{scope_of}

@@ -1,7 +1,6 @@
-use Rattle.std.proofs.Common.{◌≡◌, ap, ◌∷◌, [], ◌++◌, arith, refl, List}
+use Rattle.std.proofs.Common.{◌≡◌, ap, ◌∷◌, [], ◌++◌, arith, refl}
 use Rattle.std.proofs.lemmas.Grind.{common_steps}
 use Rattle.prem_list.specs.Sequence.{items_of}
-use Rattle.prem_tree.specs.Syntax.{GlobalVariable}
 use Rattle.prem_tree.specs.Resolve.{Scope}
 use Rattle.prem_tree.specs.SyntaxOf.{item_of, global_of, function_of}
 use Rattle.prem_tree.specs.NamesOf.{scope_of}

@@ -1,0 +1,44 @@
+-- Words in lists, and stores to them.
+use Rattle.std.proofs.Common.{◌≡◌, ℕ, zero, suc, ◌-◌, ◌<◌, ◌≤◌, List, [], ◌∷◌, ◌++◌, length, get_or, map, take, replicate, refl, ap, sym, ◌∙◌, arith, None, Some, Ok}
+use Rattle.std.specs.Prelude.{slice_get, slice_set}
+use Rattle.std.proofs.lemmas.List.{take_all, length-replicate}
+use Rattle.prem_tree.specs.declared.tree.Ty.{Ty}
+use Rattle.prem_tree.specs.Statements.{State, store, stored}
+use Rattle.prem_tree.specs.Source.{everywhere}
+
+take-longer : {X : Type 0} (n k : ℕ) (xs : List X) (d : X) → n ≤ k → take n (xs ++ replicate k d) ≡ take n (xs ++ replicate n d)
+take-longer zero k xs d h = refl
+take-longer (suc n) zero xs d h = absurd (omega arith)
+take-longer (suc n) (suc k) [] d h = ap (λ ys. d ∷ ys) (take-longer n k [] d (omega arith))
+take-longer (suc n) (suc k) (x ∷ xs) d h = ap (λ ys. x ∷ ys) (take-longer n (suc k) xs d (omega arith) ∙ sym (take-longer n (suc n) xs d (omega arith)))
+
+-- cut to n, or filled up to n
+pub padded : {X : Type 0} (n : ℕ) (xs : List X) (d : X) → take n xs ++ replicate (n - length xs) d ≡ take n (xs ++ replicate n d)
+padded zero xs d = let none : 0 - length xs ≡ 0 = omega arith in rw none
+padded (suc n) [] d =
+    let all : suc n - 0 ≡ suc n = omega arith in
+    rw all (sym (take_all (suc n) (replicate (suc n) d) (omega (arith, length-replicate (suc n) d))))
+padded (suc n) (x ∷ xs) d =
+    let less : suc n - suc (length xs) ≡ n - length xs = omega arith in
+    rw less (ap (λ ys. x ∷ ys) (padded n xs d ∙ sym (take-longer n (suc n) xs d (omega arith))))
+
+-- an element that is there
+pub slice_get-map : {X Y : Type 0} (f : X → Y) (xs : List X) (i : ℕ) (x : X) → i < length xs → x ≡ get_or xs i x → slice_get (map f xs) i ≡ Some (f x)
+slice_get-map f [] i x inside is = absurd (omega arith)
+slice_get-map f (y ∷ ys) zero x inside is = ap (λ z. Some (f z)) (sym is)
+slice_get-map f (y ∷ ys) (suc i) x inside is = slice_get-map f ys i x (omega arith) is
+
+pub slice_get-at : {X : Type 0} (xs : List X) (i : ℕ) (x : X) → i < length xs → x ≡ get_or xs i x → slice_get xs i ≡ Some x
+slice_get-at [] i x inside is = absurd (omega arith)
+slice_get-at (y ∷ ys) zero x inside is = ap Some (sym is)
+slice_get-at (y ∷ ys) (suc i) x inside is = slice_get-at ys i x (omega arith) is
+
+pub slice_get_past : {X : Type 0} (xs : List X) (i : ℕ) → length xs ≤ i → slice_get xs i ≡ None
+slice_get_past [] i past = refl
+slice_get_past (y ∷ ys) zero past = absurd (omega arith)
+slice_get_past (y ∷ ys) (suc i) past = slice_get_past ys i (omega arith)
+
+-- a store to an element that is there
+pub store_at : (line g j w old : ℕ) (ty : Ty) (s : State) (words : List ℕ) (globals : List (List ℕ)) → slice_get s.globals g ≡ Some words → slice_get words j ≡ Some old →
+    globals ≡ slice_set s.globals g (slice_set words j (stored ty w)) → store everywhere line ty g j w s ≡ Ok (record s { globals = globals })
+store_at line g j w old ty s words globals here there is = rw (here, there, is)
