@@ -1,0 +1,8 @@
+//! From the bytes of a text to its tokens.
+#![tactic(auto)]
+
+mod lexer;
+mod literal;
+mod spelling;
+
+pub use lexer::tokens;
