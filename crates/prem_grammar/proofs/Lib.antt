@@ -1,0 +1,20 @@
+mod Examples
+pub mod Steps
+pub mod Complete
+pub mod Sound
+pub mod Stand
+pub mod Turns
+pub mod Taken
+pub mod TakenWhole
+pub mod TakenAll
+pub mod Nested
+pub mod Fill
+pub mod Exact
+pub mod ItemTaken
+pub mod ItemWhole
+pub mod FunctionWhole
+pub mod Program
+pub mod ItemStand
+pub mod ProgramSound
+pub mod ItemFill
+pub mod ProgramBegun

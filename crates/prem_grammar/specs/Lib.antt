@@ -1,0 +1,9 @@
+pub mod Slots
+pub mod Expression
+pub mod Statement
+pub mod Item
+pub mod Reader
+pub mod Phrases
+pub mod StatementPhrases
+pub mod ProgramPhrases
+pub mod Law
