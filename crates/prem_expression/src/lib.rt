@@ -1,0 +1,8 @@
+//! The reader of expressions: one token after the other, without recursion.
+#![tactic(auto)]
+
+mod copy;
+mod expression;
+
+pub use copy::{copy_expression, copy_name};
+pub use expression::{Move, Open, State, advance};

@@ -1,0 +1,2 @@
+pub mod SlotOf
+pub mod PointOf
