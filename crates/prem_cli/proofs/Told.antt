@@ -9,7 +9,7 @@ use Rattle.prem_io.specs.Files.{Files, stored}
 use Rattle.prem_front.specs.Reads.{reads}
 use Rattle.prem_cli.specs.declared.top.Status.{Status}
 use Rattle.prem_cli.specs.declared.top.Status.TheVariants.{Usage, Form, Missing, ReadFault, OutOfMemory}
-use Rattle.prem_cli.specs.Answer.{one_file, program_answer, file_answer, command_answer, answer, IsAnswer, Answered}
+use Rattle.prem_cli.specs.Answer.{one_file, source_answer, file_answer, command_answer, answer, IsAnswer, Answered}
 
 same_bytes : (xs : List ℕ) → bytes_eq xs xs ≡ true
 same_bytes [] = refl
@@ -48,13 +48,13 @@ usage_is words told status text none is_usage is_line =
     over words told (status, text) [] (told_always P told each) (each [])
 
 pub found_is : (words : List (List ℕ)) (told : Option Files) (name bytes : List ℕ) (given : Status × List ℕ) → one_file words ≡ Some name →
-    IfSome told (λ files. stored files name ≡ Some bytes) → length bytes ≤ 1048576 → given ≡ program_answer (reads bytes) → IsAnswer words told given
+    IfSome told (λ files. stored files name ≡ Some bytes) → length bytes ≤ 1048576 → given ≡ source_answer (reads bytes) → IsAnswer words told given
 found_is words told name bytes given command there short is =
     let P : Files → Type 0 = λ files. stored files name ≡ Some bytes in
     let Q : Files → Type 0 = λ files. given ≡ answer words files in
     let each : (files : Files) → stored files name ≡ Some bytes → given ≡ answer words files = λ files found.
     is
-    ∙ sym (ap (λ b. if b then program_answer (reads bytes) else (Form, codes "form " ++ (name ++ codes " too-long\n"))) (le-leb (length bytes) 1048576 short))
+    ∙ sym (ap (λ b. if b then source_answer (reads bytes) else (Form, codes "form " ++ (name ++ codes " too-long\n"))) (le-leb (length bytes) 1048576 short))
     ∙ sym (ap (file_answer name) found)
     ∙ sym (ap (λ o. command_answer o files) command) in
     over words told given ((name, bytes) ∷ []) (told_then P Q told each there) (each ((name, bytes) ∷ []) (stored_alone name bytes))
@@ -72,7 +72,7 @@ too_long : (name : List ℕ) (o : Option (List ℕ)) → IsSomeAnd o (λ bytes. 
 too_long name None h = absurd h
 too_long name (Some bytes) h =
     let not_short : nat_le (length bytes) 1048576 ≡ false = grind (arith, nat_tests) in
-    ap (λ b. if b then program_answer (reads bytes) else (Form, codes "form " ++ (name ++ codes " too-long\n"))) not_short
+    ap (λ b. if b then source_answer (reads bytes) else (Form, codes "form " ++ (name ++ codes " too-long\n"))) not_short
 
 -- where no file is told, one of n zeros is too long
 long_with : (n : ℕ) → 1048576 < n → (words : List (List ℕ)) (told : Option Files) (name : List ℕ) (status : Status) (text : List ℕ) → one_file words ≡ Some name →

@@ -1,11 +1,16 @@
 -- What the program answers to its words, over files by name: a status and a text.
-use Rattle.std.specs.Prelude.{◌≡◌, ℕ, ◌==◌, nat_le, Bool, true, false, ◌&&◌, not, if◌then◌else◌, List, [], ◌∷◌, ◌++◌, length, take, Option, None, Some, IfSome, codes, decimal}
+use Rattle.std.specs.Prelude.{◌≡◌, ℕ, ◌==◌, nat_le, Bool, true, false, ◌&&◌, not, if◌then◌else◌, List, [], ◌∷◌, ◌++◌, length, take, Option, None, Some, IfSome, unwrap_or, Result, Ok, Err, codes, decimal}
 use Rattle.std.specs.Str.{bytes_eq}
 use Rattle.std.specs.Io.KnownBytes.{append_known}
 use Rattle.prem_io.specs.Files.{Files, stored}
 use Rattle.prem_tree.specs.Syntax.{ProgramText}
 use Rattle.prem_tree.specs.Source.{source}
-use Rattle.prem_small.specs.Runs.{outputs_of}
+use Rattle.prem_cycle.specs.State.{Counts, State}
+use Rattle.prem_cycle.specs.FactsOf.{TaskReport}
+use Rattle.prem_token.specs.declared.fail.FrontFail.{FrontFail}
+use Rattle.prem_token.specs.declared.fail.FrontFail.TheVariants.{NotText, Token, Syntax, TooLong, TooDeep, OutOfMemory as NoMemory}
+use Rattle.prem_small.specs.Small.{is_small, body_of}
+use Rattle.prem_small.specs.Runs.{machine_run, outputs_of}
 use Rattle.prem_front.specs.Reads.{reads}
 use Rattle.prem_cli.specs.declared.top.Status.{Status}
 use Rattle.prem_cli.specs.declared.top.Status.TheVariants.{Done, Refused, Usage, Form, ReadFault, WriteFault, OutOfMemory, Missing}
@@ -28,16 +33,50 @@ abbrev pub output_lines : List ℕ → List ℕ
 output_lines [] = []
 output_lines (v ∷ vs) = output_line v ++ output_lines vs
 
--- to a source's program: what one job of it writes, without input
-abbrev pub program_answer : Option ProgramText → Status × List ℕ
-program_answer None = (Refused, codes "refused one unbuilt\n")
-program_answer (Some p) = (Done, output_lines (outputs_of (source p [] 1)))
+-- the line of a refusal by tokens and grammar; want of memory is none
+abbrev pub fail_line : FrontFail → Option (List ℕ)
+fail_line TooLong = Some (codes "refused one too-long\n")
+fail_line (NotText at) = Some (codes "refused one not-text " ++ (decimal at ++ codes "\n"))
+fail_line (Token line col) = Some (codes "refused one token " ++ (decimal line ++ (codes " " ++ (decimal col ++ codes "\n"))))
+fail_line (Syntax line col) = Some (codes "refused one syntax " ++ (decimal line ++ (codes " " ++ (decimal col ++ codes "\n"))))
+fail_line (TooDeep line) = Some (codes "refused one too-deep " ++ (decimal line ++ codes "\n"))
+fail_line NoMemory = None
+
+-- the words that the first task of a report has put out
+abbrev pub first_outputs : List TaskReport → List ℕ
+first_outputs [] = []
+first_outputs (t ∷ tasks) = t.outputs
+
+-- the lines of a run's cycles, and of what its cache counted
+abbrev pub run_lines : ℕ → Counts → List ℕ
+run_lines cycles n =
+    codes "cycles " ++ (decimal cycles ++ (codes "\nhits " ++ (decimal n.hits
+    ++ (codes " misses " ++ (decimal n.misses ++ (codes " writebacks " ++ (decimal n.writebacks ++ codes "\n")))))))
+
+-- the outputs of a run, and what a state of the machine tells of it
+abbrev pub run_text : List ℕ → State → List ℕ
+run_text words s = output_lines words ++ run_lines s.now s.log.counts
+
+-- the cycles that a run takes at most
+abbrev pub cycle_limit : ℕ
+cycle_limit = 10000000
+
+-- to a program: one job of it without input puts out what the program means, and the rest is what the machine tells
+abbrev pub program_answer : ProgramText → Status × List ℕ
+program_answer p =
+    if is_small p then (Done, run_text (outputs_of (source p [] 1)) (machine_run (body_of p) cycle_limit))
+    else (Refused, codes "refused one unbuilt\n")
+
+-- to what reading a source gives
+abbrev pub source_answer : Result ProgramText FrontFail → Status × List ℕ
+source_answer (Err fail) = (Refused, unwrap_or (fail_line fail) [])
+source_answer (Ok p) = program_answer p
 
 -- to a file's bytes
 abbrev pub file_answer : List ℕ → Option (List ℕ) → Status × List ℕ
 file_answer name None = (Missing, codes "missing " ++ (name ++ codes "\n"))
 file_answer name (Some bytes) =
-    if nat_le (length bytes) 1048576 then program_answer (reads bytes) else (Form, codes "form " ++ (name ++ codes " too-long\n"))
+    if nat_le (length bytes) 1048576 then source_answer (reads bytes) else (Form, codes "form " ++ (name ++ codes " too-long\n"))
 
 abbrev pub command_answer : Option (List ℕ) → Files → Status × List ℕ
 command_answer None files = (Usage, codes "usage: prem one FILE\n")

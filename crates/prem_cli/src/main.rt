@@ -1,6 +1,7 @@
 //! The program `prem`: its words, its files and its answer.
 #![tactic(auto)]
 
+mod machine;
 #[cfg(test)]
 mod tests;
 mod texts;

@@ -1,16 +1,19 @@
 // The top call.
 ghost use Rattle.std.specs.Prelude.{◌≡◌, ◌≤◌, ◌⊎◌, IfOk, IsErrOf, IsTrue, map, string_bytes};
 ghost use Rattle.prem_io.specs.Counts.{Rose};
-ghost use Rattle.prem_cli.specs.Answer.{program_answer, is_settled, Ends, Answered, IsAnswer};
+ghost use Rattle.prem_tree.specs.SyntaxOf.{program_of};
+ghost use Rattle.prem_cli.specs.Answer.{program_answer, source_answer, is_settled, Ends, Answered, IsAnswer};
 ghost use Rattle.prem_front.specs.Reads.{reads};
 ghost use Rattle.prem_cli.specs.declared.top.Stop.TheVariants.{OutOfMemory};
 
-use crate::texts::{Answer, fixed, lines, missing, too_long};
+use crate::machine::run_text;
+use crate::texts::{Answer, fail_line, fixed, missing, too_long};
 use crate::words::one_file;
 use crate::write::write_all;
-use prem_front::{FrontFail, parse};
+use prem_front::parse;
 use prem_io::{Sink, Store, StoreFail};
-use prem_small::small_outputs;
+use prem_small::is_small;
+use prem_tree::Program;
 use std::alloc::{AllocError, Global};
 
 /// How the program ends; the exit status is the variant's place, from 0.
@@ -45,21 +48,35 @@ impl From<AllocError> for Stop {
     }
 }
 
-// The answer to a source: its outputs, or that it isn't built yet.
+// The answer to a program.
+fn program_answer(alloc: Global, program: &Program) -> Result<Answer, AllocError>
+    ensures answer { IfOk result (λ a. (a.status, a.text.items) ≡ program_answer (program_of program.now)) }
+    ensures settled { IfOk result (λ a. IsTrue (is_settled a.status)) }
+{
+    if !is_small(program) {
+        return fixed(alloc, Status::Refused, "refused one unbuilt\n");
+    }
+    let text = run_text(alloc, program)?;
+    Ok(Answer {
+        status: Status::Done,
+        text,
+    })
+}
+
+// The answer to a source: the refusal of its tokens or grammar, else that to its program.
 fn source_answer(alloc: Global, source: &[u8]) -> Result<Answer, AllocError>
-    ensures answer { IfOk result (λ a. (a.status, a.text.items) ≡ program_answer (reads source.now)) }
+    ensures answer { IfOk result (λ a. (a.status, a.text.items) ≡ source_answer (reads source.now)) }
     ensures settled { IfOk result (λ a. IsTrue (is_settled a.status)) }
 {
     match parse(alloc, source) {
-        Ok(program) => {
-            let words = small_outputs(alloc, &program)?;
+        Ok(program) => program_answer(alloc, &program),
+        Err(fail) => {
+            let text = fail_line(alloc, &fail)?.into_bytes();
             Ok(Answer {
-                status: Status::Done,
-                text: lines(alloc, &words)?,
+                status: Status::Refused,
+                text,
             })
         }
-        Err(FrontFail::Unbuilt) => fixed(alloc, Status::Refused, "refused one unbuilt\n"),
-        Err(FrontFail::OutOfMemory) => Err(AllocError),
     }
 }
 

@@ -1,9 +1,1 @@
-pub mod Examples
-pub mod Complete
-pub mod Sound
-pub mod Sizes
-pub mod Laws
-pub mod Digits
-pub mod Lexing
-pub mod Pieces
-pub mod Fronts
+pub mod Passing

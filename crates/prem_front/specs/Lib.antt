@@ -1,6 +1,2 @@
-pub mod Tokens
-pub mod Pieces
-pub mod Phrases
-pub mod Small
+pub mod StageOf
 pub mod Reads
-pub mod Parts

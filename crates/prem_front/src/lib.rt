@@ -1,14 +1,16 @@
 //! From the text of a program to its tree.
 #![tactic(auto)]
 
-mod fail;
-mod grammar;
-mod language;
-mod token;
+mod annotation;
+mod function;
+mod global;
+mod item;
+mod program;
+mod stage;
+mod typing;
 
-pub use fail::FrontFail;
-pub use grammar::parse;
-pub use language::small_texts;
+pub use prem_token::FrontFail;
+pub use program::parse;
 
 #[cfg(test)]
 mod tests;

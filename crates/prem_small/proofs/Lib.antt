@@ -1,8 +1,14 @@
+pub mod Tests
+pub mod Sizes
 pub mod Stands
 pub mod Straight
 pub mod Sums
 pub mod Body
-pub mod Sizes
 pub mod Whole
-pub mod Bytes
 pub mod Meaning
+pub mod Images
+pub mod Fits
+pub mod Counts
+pub mod Machine
+pub mod ImageRuns
+pub mod Examples

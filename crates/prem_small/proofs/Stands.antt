@@ -1,15 +1,14 @@
 -- Code stands where its bytes are.
 use Rattle.std.proofs.Common.{◌≡◌, ◌<◌, ◌≤◌, ℕ, suc, ◌+◌, ◌*◌, ◌/◌, ◌%◌, ◌^◌, List, [], ◌∷◌, ◌++◌, length, get_or, refl, ap, ◌∙◌, sym, subst, arith, append_assoc, length-append}
 use Rattle.std.specs.Int.{w32, to_le_bytes}
-use Rattle.std.proofs.lemmas.List.{get_or-append-add, take_all}
+use Rattle.std.proofs.lemmas.List.{get_or-append-add}
 use Rattle.prem_word.specs.Bytes.{number_at, put_number}
 use Rattle.prem_word.proofs.Bytes.{number_at-put_number-below}
 use Rattle.prem_isa.specs.Fields.{FieldsFit}
 use Rattle.prem_isa.proofs.Round.{fits_instr}
 use Rattle.prem_isa.specs.declared.instr.Instr.{Instr}
 use Rattle.prem_isa.specs.Decode.{Fits, word_of, fields_of_instr}
-use Rattle.std.specs.Prelude.{replicate, take, ◌-◌}
-use Rattle.prem_small.specs.Image.{memory_size, AllFit, code_bytes, image_of, Stands}
+use Rattle.prem_small.specs.Image.{AllFit, code_bytes, Stands}
 
 word_below : (i : Instr) → Fits i → word_of i < 2 ^ 32
 word_below i fits =
@@ -72,12 +71,3 @@ code_bytes_length [] = refl
 code_bytes_length (i ∷ code) =
     let e : length (to_le_bytes w32 (word_of i) ++ code_bytes code) ≡ 4 + length (code_bytes code) = length-append (to_le_bytes w32 (word_of i)) (code_bytes code) in
     omega (arith, e, code_bytes_length code)
-
--- the code's bytes, filled up with zeros, are its image
-pub padded : (code : List Instr) (bytes : List ℕ) → bytes ≡ code_bytes code → 4 * length code ≤ memory_size →
-    take memory_size bytes ++ replicate (memory_size - length bytes) 0 ≡ image_of code
-padded code bytes is room =
-    let size : length bytes ≡ 4 * length code = ap length is ∙ code_bytes_length code in
-    let fits : length bytes ≤ memory_size = omega arith in
-    ap (λ xs. xs ++ replicate (memory_size - length bytes) 0) (take_all memory_size bytes fits ∙ is)
-    ∙ ap (λ n. code_bytes code ++ replicate (memory_size - n) 0) size

@@ -1,14 +1,15 @@
 -- The code of a sum leaves its word in x10 and changes x10 and x11 alone.
-use Rattle.std.proofs.Common.{◌≡◌, ◌≢◌, ◌<◌, ◌≤◌, ℕ, suc, ◌+◌, ◌-◌, ◌*◌, ◌/◌, ◌%◌, ◌^◌, ℤ, pos, negsuc, nat_lt, Bool, true, false, ◌&&◌, List, [], ◌∷◌, ◌++◌, length, refl, ap, ◌∙◌, sym, subst, arith, cond, lit<}
-use Rattle.std.specs.Prelude.{if◌then◌else◌, ◌+ℤ◌, ◌-ℤ◌}
+use Rattle.std.proofs.Common.{◌≡◌, ◌≢◌, ◌<◌, ◌≤◌, ℕ, ◌+◌, ◌-◌, ◌*◌, ◌/◌, ◌%◌, ◌^◌, ℤ, pos, negsuc, nat_lt, Bool, true, false, ◌&&◌, List, [], ◌∷◌, ◌++◌, refl, ap, ◌∙◌, sym, subst, arith, lit<}
+use Rattle.std.specs.Prelude.{◌+ℤ◌, ◌-ℤ◌}
 use Rattle.std.specs.Int.{w32, cast_signed, cast_unsigned, int_wrap}
 use Rattle.std.proofs.lemmas.Int.{ints, wrapping_add-bits, wrapping_sub-bits, of_z-to_z}
 use Rattle.std.proofs.lemmas.Bool.{ltb-true, ltb-false}
 use Rattle.std.proofs.lemmas.Bool.Decides.{nat_tests}
-use Rattle.prem_word.specs.declared.kind.Kind.TheVariants.{Int}
+use Rattle.prem_word.specs.declared.kind.Kind.{Kind}
+use Rattle.prem_word.specs.declared.kind.Kind.TheVariants.{Int, Unsigned}
 use Rattle.prem_word.specs.declared.kind.BinOp.{BinOp}
 use Rattle.prem_word.specs.declared.kind.BinOp.TheVariants.{Add as Plus, Sub as Minus}
-use Rattle.prem_word.specs.Words.{word_of, value_in, apply_op}
+use Rattle.prem_word.specs.Words.{word_of, apply_op}
 use Rattle.prem_isa.specs.declared.instr.Instr.{Instr}
 use Rattle.prem_isa.specs.declared.instr.Instr.TheVariants.{Lui, OpImm, Op}
 use Rattle.prem_isa.specs.declared.instr.AluOp.TheVariants.{Add, Sub}
@@ -17,9 +18,11 @@ use Rattle.prem_isa.specs.Alu.{word_of_int, compute}
 use Rattle.prem_isa.specs.Act.{with_register}
 use Rattle.prem_tree.specs.Syntax.{Expression, literal, variable, element, unary, binary}
 use Rattle.prem_tree.specs.Sums.{sum_kind, sum_word}
-use Rattle.prem_front.specs.Small.{IsPlusOrMinus, IsSum, IsIntLiteral}
+use Rattle.prem_tree.specs.Resolve.{common}
+use Rattle.prem_small.specs.Small.{is_plus_or_minus, is_literal, is_sum}
 use Rattle.prem_small.specs.Code.{constant_code, right_code, sum_code, operation}
-use Rattle.prem_small.proofs.Straight.{registers_after, registers_behind, registers_behind-append, with_register-same, with_register-other, are_straight, both}
+use Rattle.prem_small.proofs.Straight.{registers_behind, registers_behind-append, with_register-same, with_register-other, are_straight}
+use Rattle.prem_small.proofs.Tests.{both}
 
 -- ---- words
 
@@ -34,18 +37,20 @@ wrap_word z = refl
 same_word : (m n : ℕ) → m < 2 ^ 32 → n < 2 ^ 32 → cast_signed w32 m ≡ cast_signed w32 n → m ≡ n
 same_word m n hm hn e = sym (of_z-to_z w32 m hm) ∙ ap (cast_unsigned w32) e ∙ of_z-to_z w32 n hn
 
--- the machine's sums and differences are those of C99's words
-pub sum_of_words : (a b : ℕ) → a < 2 ^ 32 → b < 2 ^ 32 → compute Add a b ≡ apply_op Plus Int a b
-sum_of_words a b ha hb =
+-- the machine's sums and differences are those of C99's words, of either kind
+sum_of_words : (k : Kind) (a b : ℕ) → a < 2 ^ 32 → b < 2 ^ 32 → compute Add a b ≡ apply_op Plus k a b
+sum_of_words Int a b ha hb =
     let z = cast_signed w32 a +ℤ cast_signed w32 b in
     let small : (a + b) % 2 ^ 32 < 2 ^ 32 = omega arith in
     same_word _ _ small (word_bound z) (wrapping_add-bits w32 a b ha hb ∙ wrap_word z)
+sum_of_words Unsigned a b ha hb = grind (arith, nat_tests, ints)
 
-pub difference_of_words : (a b : ℕ) → a < 2 ^ 32 → b < 2 ^ 32 → compute Sub a b ≡ apply_op Minus Int a b
-difference_of_words a b ha hb =
+difference_of_words : (k : Kind) (a b : ℕ) → a < 2 ^ 32 → b < 2 ^ 32 → compute Sub a b ≡ apply_op Minus k a b
+difference_of_words Int a b ha hb =
     let z = cast_signed w32 a -ℤ cast_signed w32 b in
     let small : (a + (2 ^ 32 - b)) % 2 ^ 32 < 2 ^ 32 = omega arith in
     same_word _ _ small (word_bound z) (wrapping_sub-bits w32 a b ha hb ∙ wrap_word z)
+difference_of_words Unsigned a b ha hb = grind (arith, nat_tests, ints)
 
 -- ---- constants
 
@@ -54,16 +59,17 @@ pub record Sets (code : List Instr) (registers : ℕ → ℕ) (r w : ℕ) : Type
   pub same : registers_behind code registers r ≡ w
   pub others : (q : ℕ) → q ≢ r → registers_behind code registers q ≡ registers q
 
-small_constant : (r c : ℕ) (registers : ℕ → ℕ) → 0 < r → c < 2 ^ 11 → registers 0 ≡ 0 → Sets (OpImm Add r 0 (pos c) ∷ []) registers r c
-small_constant r c registers some small zer =
-    let sum : (0 + c) % 2 ^ 32 ≡ c = omega arith in
+-- a number added to x0
+added_to_zero : (r c : ℕ) (z : ℤ) (registers : ℕ → ℕ) → 0 < r → (0 + word_of_int z) % 2 ^ 32 ≡ c → registers 0 ≡ 0 →
+    Sets (OpImm Add r 0 z ∷ []) registers r c
+added_to_zero r c z registers some sum zer =
     record {
-      same = with_register-same r _ registers some ∙ ap (λ x. (x + word_of_int (pos c)) % 2 ^ 32) zer ∙ sum;
+      same = with_register-same r _ registers some ∙ ap (λ x. (x + word_of_int z) % 2 ^ 32) zer ∙ sum;
       others = with_register-other r _ registers;
     }
 
 -- the upper 20 bits, rounded to the nearest, and the lower 12 as a signed number make the constant
-halves : (c : ℕ) → c < 2 ^ 31 → ((c + 2 ^ 11) / 2 ^ 12 * 2 ^ 12 + word_of_int (signed (2 ^ 11) (c % 2 ^ 12))) % 2 ^ 32 ≡ c
+halves : (c : ℕ) → c < 2 ^ 32 - 2 ^ 11 → ((c + 2 ^ 11) / 2 ^ 12 * 2 ^ 12 + word_of_int (signed (2 ^ 11) (c % 2 ^ 12))) % 2 ^ 32 ≡ c
 halves c small = by_half (nat_lt (c % 2 ^ 12) (2 ^ 11)) refl where
   by_half : (b : Bool) → nat_lt (c % 2 ^ 12) (2 ^ 11) ≡ b → ((c + 2 ^ 11) / 2 ^ 12 * 2 ^ 12 + word_of_int (signed (2 ^ 11) (c % 2 ^ 12))) % 2 ^ 32 ≡ c
   by_half true is =
@@ -75,7 +81,7 @@ halves c small = by_half (nat_lt (c % 2 ^ 12) (2 ^ 11)) refl where
       let sum : ((c + 2 ^ 11) / 2 ^ 12 * 2 ^ 12 + word_of_int (negsuc (2 * 2 ^ 11 - 1 - c % 2 ^ 12))) % 2 ^ 32 ≡ c = omega arith in
       rw is sum
 
-large_constant : (r c : ℕ) (registers : ℕ → ℕ) → 0 < r → c < 2 ^ 31 →
+large_constant : (r c : ℕ) (registers : ℕ → ℕ) → 0 < r → c < 2 ^ 32 - 2 ^ 11 →
     Sets (Lui r ((c + 2 ^ 11) / 2 ^ 12) ∷ OpImm Add r r (signed (2 ^ 11) (c % 2 ^ 12)) ∷ []) registers r c
 large_constant r c registers some small =
     let upper = with_register r ((c + 2 ^ 11) / 2 ^ 12 * 2 ^ 12) registers in
@@ -85,17 +91,25 @@ large_constant r c registers some small =
       others = λ q other. with_register-other r _ upper q other ∙ with_register-other r _ registers q other;
     }
 
-pub constant_sets : (r c : ℕ) (registers : ℕ → ℕ) → 0 < r → c < 2 ^ 31 → registers 0 ≡ 0 → Sets (constant_code r c) registers r c
-constant_sets r c registers some small zer = by_size (nat_lt c (2 ^ 11)) refl where
-  by_size : (b : Bool) → nat_lt c (2 ^ 11) ≡ b → Sets (constant_code r c) registers r c
-  by_size true is = rw is (small_constant r c registers some (ltb-true _ _ is) zer)
-  by_size false is = rw is (large_constant r c registers some small)
+constant_sets : (r c : ℕ) (registers : ℕ → ℕ) → 0 < r → c < 2 ^ 32 → registers 0 ≡ 0 → Sets (constant_code r c) registers r c
+constant_sets r c registers some word zer = by_size (nat_lt c (2 ^ 11)) (nat_lt c (2 ^ 32 - 2 ^ 11)) refl refl where
+  by_size : (b d : Bool) → nat_lt c (2 ^ 11) ≡ b → nat_lt c (2 ^ 32 - 2 ^ 11) ≡ d → Sets (constant_code r c) registers r c
+  by_size true d is also =
+      let small : c < 2 ^ 11 = ltb-true _ _ is in
+      let sum : (0 + word_of_int (pos c)) % 2 ^ 32 ≡ c = omega arith in
+      rw is (added_to_zero r c (pos c) registers some sum zer)
+  by_size false true is also = rw (is, also) (large_constant r c registers some (ltb-true _ _ also))
+  by_size false false is also =
+      let above : 2 ^ 32 - 2 ^ 11 ≤ c = ltb-false _ _ also in
+      let sum : (0 + word_of_int (negsuc (2 ^ 32 - 1 - c))) % 2 ^ 32 ≡ c = omega arith in
+      rw (is, also) (added_to_zero r c (negsuc (2 ^ 32 - 1 - c)) registers some sum zer)
 
-pub constant_straight : (r c : ℕ) → are_straight (constant_code r c) ≡ true
-constant_straight r c = by_size (nat_lt c (2 ^ 11)) refl where
-  by_size : (b : Bool) → nat_lt c (2 ^ 11) ≡ b → are_straight (constant_code r c) ≡ true
-  by_size true is = rw is
-  by_size false is = rw is
+constant_straight : (r c : ℕ) → are_straight (constant_code r c) ≡ true
+constant_straight r c = by_size (nat_lt c (2 ^ 11)) (nat_lt c (2 ^ 32 - 2 ^ 11)) refl refl where
+  by_size : (b d : Bool) → nat_lt c (2 ^ 11) ≡ b → nat_lt c (2 ^ 32 - 2 ^ 11) ≡ d → are_straight (constant_code r c) ≡ true
+  by_size true d is also = rw is
+  by_size false true is also = rw (is, also)
+  by_size false false is also = rw (is, also)
 
 -- ---- sums
 
@@ -118,30 +132,16 @@ sum_straight (variable at name) = refl
 sum_straight (element at name index) = refl
 sum_straight (unary at op operand) = refl
 
-right_is_int : (e : Expression) → IsIntLiteral e → sum_kind e ≡ Int
-right_is_int (literal at value kind) h = h.0
-right_is_int (variable at name) h = absurd h
-right_is_int (element at name index) h = absurd h
-right_is_int (unary at op operand) h = absurd h
-right_is_int (binary at op left right) h = absurd h
-
-sum_is_int : (e : Expression) → IsSum e → sum_kind e ≡ Int
-sum_is_int (literal at value kind) h = h.0
-sum_is_int (binary at op left right) h = rw (sum_is_int left h.1, right_is_int right h.2) refl
-sum_is_int (variable at name) h = absurd h
-sum_is_int (element at name index) h = absurd h
-sum_is_int (unary at op operand) h = absurd h
-
 -- the machine's operation is the operator's
-operated : (op : BinOp) (a b : ℕ) → IsPlusOrMinus op → a < 2 ^ 32 → b < 2 ^ 32 → compute (operation op) a b ≡ apply_op op Int a b
-operated Plus a b h small small' = sum_of_words a b small small'
-operated Minus a b h small small' = difference_of_words a b small small'
-operated _ a b h small small' = absurd h
+operated : (op : BinOp) (k : Kind) (a b : ℕ) → is_plus_or_minus op ≡ true → a < 2 ^ 32 → b < 2 ^ 32 → compute (operation op) a b ≡ apply_op op k a b
+operated Plus k a b h small small' = sum_of_words k a b small small'
+operated Minus k a b h small small' = difference_of_words k a b small small'
+operated _ k a b h small small' = cc
 
-operated_bound : (op : BinOp) (a b : ℕ) → IsPlusOrMinus op → compute (operation op) a b < 2 ^ 32
+operated_bound : (op : BinOp) (a b : ℕ) → is_plus_or_minus op ≡ true → compute (operation op) a b < 2 ^ 32
 operated_bound Plus a b h = omega arith
 operated_bound Minus a b h = omega arith
-operated_bound _ a b h = absurd h
+operated_bound _ a b h = absurd cc
 
 -- code leaves a sum's word in x10, and every register below as it was
 pub record SumLeft (e : Expression) (registers : ℕ → ℕ) : Type 0 where
@@ -150,53 +150,52 @@ pub record SumLeft (e : Expression) (registers : ℕ → ℕ) : Type 0 where
   pub word : sum_word e < 2 ^ 32
 
 -- the right side, and then the operation
-right_left : (op : BinOp) (right : Expression) (registers : ℕ → ℕ) (w : ℕ) → IsPlusOrMinus op → IsIntLiteral right → registers 0 ≡ 0 →
-    registers 10 ≡ w → w < 2 ^ 32 →
+right_left : (op : BinOp) (k : Kind) (right : Expression) (registers : ℕ → ℕ) (w : ℕ) → is_plus_or_minus op ≡ true → is_literal right ≡ true →
+    registers 0 ≡ 0 → registers 10 ≡ w → w < 2 ^ 32 →
     let behind = registers_behind (right_code right ++ Op (operation op) 10 10 11 ∷ []) registers in
-    (behind 10 ≡ apply_op op Int w (sum_word right)) × ((q : ℕ) → q < 10 → behind q ≡ registers q)
-right_left op (literal at value kind) registers w h is zer left small =
+    (behind 10 ≡ apply_op op k w (sum_word right)) × ((q : ℕ) → q < 10 → behind q ≡ registers q)
+right_left op k (literal at value kind) registers w h is zer left small =
     let code = constant_code 11 value in
-    let sets = constant_sets 11 value registers (lit< tt) is.1 zer in
+    let right_small : value < 2 ^ 32 = ltb-true _ _ is in
+    let sets = constant_sets 11 value registers (lit< tt) right_small zer in
     let after = registers_behind code registers in
     let split = registers_behind-append code (Op (operation op) 10 10 11 ∷ []) registers in
-    let ten : registers_behind code registers 10 ≡ w = sets.others 10 (λ e. omega arith) ∙ left in
-    let right_small : value < 2 ^ 32 = omega (arith, is.1) in (
+    let ten : registers_behind code registers 10 ≡ w = sets.others 10 (λ e. omega arith) ∙ left in (
       ap (λ f. f 10) split
           ∙ with_register-same 10 _ after (lit< tt)
           ∙ ap (λ a. compute (operation op) a (after 11)) ten
           ∙ ap (compute (operation op) w) sets.same
-          ∙ operated op w value h small right_small,
+          ∙ operated op k w value h small right_small,
       λ q below. ap (λ f. f q) split ∙ with_register-other 10 _ after q (λ e. omega arith) ∙ sets.others q (λ e. omega arith),
     )
-right_left op (variable at name) registers w h is zer left small = absurd is
-right_left op (element at name index) registers w h is zer left small = absurd is
-right_left op (unary at op' operand) registers w h is zer left small = absurd is
-right_left op (binary at op' left' right) registers w h is zer left small = absurd is
+right_left op k (variable at name) registers w h is zer left small = cc
+right_left op k (element at name index) registers w h is zer left small = cc
+right_left op k (unary at op' operand) registers w h is zer left small = cc
+right_left op k (binary at op' left' right') registers w h is zer left small = cc
 
-right_bound : (e : Expression) → IsIntLiteral e → sum_word e < 2 ^ 32
-right_bound (literal at value kind) h = omega (arith, h.1)
-right_bound (variable at name) h = absurd h
-right_bound (element at name index) h = absurd h
-right_bound (unary at op operand) h = absurd h
-right_bound (binary at op left right) h = absurd h
+right_bound : (e : Expression) → is_literal e ≡ true → sum_word e < 2 ^ 32
+right_bound (literal at value kind) h = ltb-true _ _ h
+right_bound _ h = absurd cc
 
-pub sum_left : (e : Expression) (registers : ℕ → ℕ) → IsSum e → registers 0 ≡ 0 → SumLeft e registers
+pub sum_left : (e : Expression) (registers : ℕ → ℕ) → is_sum e ≡ true → registers 0 ≡ 0 → SumLeft e registers
 sum_left (literal at value kind) registers h zer =
-    let sets = constant_sets 10 value registers (lit< tt) h.1 zer in
-    record { value = sets.same; below = λ q small. sets.others q (λ e. omega arith); word = omega (arith, h.1) }
+    let small : value < 2 ^ 32 = ltb-true _ _ h in
+    let sets = constant_sets 10 value registers (lit< tt) small zer in
+    record { value = sets.same; below = λ q below. sets.others q (λ e. omega arith); word = small }
 sum_left (binary at op left right) registers h zer =
-    let l = sum_left left registers h.1 zer in
+    let parts = both (is_plus_or_minus op) (is_literal right && is_sum left) h in
+    let sides = both (is_literal right) (is_sum left) parts.1 in
+    let k = common (sum_kind left) (sum_kind right) in
+    let l = sum_left left registers sides.1 zer in
     let after = registers_behind (sum_code left) registers in
-    let r = right_left op right after (sum_word left) h.0 h.2 (l.below 0 (lit< tt) ∙ zer) l.value l.word in
+    let r = right_left op k right after (sum_word left) parts.0 sides.0 (l.below 0 (lit< tt) ∙ zer) l.value l.word in
     let split = registers_behind-append (sum_code left) (right_code right ++ Op (operation op) 10 10 11 ∷ []) registers in
-    let same : apply_op op Int (sum_word left) (sum_word right) ≡ sum_word (binary at op left right) = rw (sum_is_int left h.1, right_is_int right h.2) refl in
-    let bound : apply_op op Int (sum_word left) (sum_word right) < 2 ^ 32 =
-    subst (λ x. x < 2 ^ 32) (operated op (sum_word left) (sum_word right) h.0 l.word (right_bound right h.2)) (operated_bound op (sum_word left) (sum_word right) h.0) in
     record {
-      value = ap (λ f. f 10) split ∙ r.0 ∙ same;
+      value = ap (λ f. f 10) split ∙ r.0;
       below = λ q small. ap (λ f. f q) split ∙ r.1 q small ∙ l.below q small;
-      word = subst (λ x. x < 2 ^ 32) same bound;
+      word = subst (λ x. x < 2 ^ 32) (operated op k (sum_word left) (sum_word right) parts.0 l.word (right_bound right sides.0))
+          (operated_bound op (sum_word left) (sum_word right) parts.0);
     }
-sum_left (variable at name) registers h zer = absurd h
-sum_left (element at name index) registers h zer = absurd h
-sum_left (unary at op operand) registers h zer = absurd h
+sum_left (variable at name) registers h zer = absurd cc
+sum_left (element at name index) registers h zer = absurd cc
+sum_left (unary at op operand) registers h zer = absurd cc

@@ -1,7 +1,7 @@
 -- One job of a small program runs to its end and puts out its words.
-use Rattle.std.proofs.Common.{◌≡◌, ◌<◌, ◌≤◌, ℕ, suc, ◌+◌, ◌-◌, ◌*◌, ◌/◌, ◌%◌, ◌^◌, ◌==◌, pos, negsuc, nat_le, Bool, true, false, List, [], ◌∷◌, ◌++◌, length, Some, None, get_or, refl, ap, ◌∙◌, sym, subst, arith, length-append, lit<, lit≤, eq-eqb}
+use Rattle.std.proofs.Common.{◌≡◌, ◌<◌, ◌≤◌, ℕ, ◌+◌, ◌-◌, ◌*◌, ◌/◌, ◌%◌, ◌^◌, pos, negsuc, nat_le, true, List, [], ◌++◌, length, None, refl, ap, ◌∙◌, sym, subst, arith, append_assoc, lit<, lit≤, eq-eqb}
 use Rattle.std.specs.Prelude.{if◌then◌else◌, replicate, slice_index}
-use Rattle.std.proofs.lemmas.Bool.{le-leb}
+use Rattle.std.proofs.lemmas.Bool.{le-leb, leb-true}
 use Rattle.prem_word.specs.Bytes.{number_at, put_number}
 use Rattle.prem_word.proofs.Bytes.{number_at-put_number}
 use Rattle.prem_isa.specs.declared.instr.Instr.{Instr}
@@ -15,12 +15,14 @@ use Rattle.prem_isa.specs.declared.effect.Outcome.TheVariants.{Trap}
 use Rattle.prem_isa.specs.declared.effect.Cause.TheVariants.{Align, Outside}
 use Rattle.prem_isa.specs.Alu.{plus, word_of_int}
 use Rattle.prem_isa.specs.Act.{act, accesses, first_registers, jumps, loads, stores, with_register}
-use Rattle.prem_isa.specs.Plain.{TaskRun, PlainState, plain_run, plain_steps, plain_start}
-use Rattle.prem_tree.specs.Syntax.{Statements}
-use Rattle.prem_front.specs.Small.{IsSmallBody, body_size}
-use Rattle.prem_small.specs.Code.{body_code, epilogue, prologue, job_code, start_code, code_of, code_end, stack_top}
-use Rattle.prem_small.specs.Image.{memory_size, code_bytes, image_of, Stands}
+use Rattle.prem_isa.specs.Plain.{TaskRun, PlainState, plain_start}
+use Rattle.prem_cycle.specs.Cycle.{log_size}
+use Rattle.prem_tree.specs.Syntax.{Statements, no_statements, next_statement, output}
+use Rattle.prem_small.specs.Small.{are_outputs, body_size, is_small_body}
+use Rattle.prem_small.specs.Code.{body_code, epilogue, prologue, start_code, code_of, code_end, stack_top}
+use Rattle.prem_small.specs.Image.{default_plant, code_bytes, content_of, Stands}
 use Rattle.prem_small.specs.Runs.{body_values, task_run, EndsWith}
+use Rattle.prem_small.proofs.Tests.{both}
 use Rattle.prem_small.proofs.Stands.{stands_there, stands-append, stands_kept}
 use Rattle.prem_small.proofs.Straight.{going, Goes, goes_then, step_here}
 use Rattle.prem_small.proofs.Body.{task, body_goes}
@@ -68,10 +70,10 @@ entered run sp view rest one stack small aligned within room stands =
     let four : 0 + 4 ≤ run.size = omega arith in
     let twelve : 8 + 4 ≤ run.size = omega arith in
     let sixteen : 12 + 4 ≤ run.size = omega arith in
-    let jal = step_here run (task (first_registers run.stack) view []) 0 (Jal 1 (pos 8)) _ one four stands.0 stands.1 refl in
-    let addi = step_here run (task r1 view []) 8 (OpImm Add 2 2 (negsuc 15)) _ one twelve stands.2.2.0 stands.2.2.1 refl in
+    let jal = step_here run (task (first_registers run.stack) view []) 0 (Jal 1 (pos 8)) _ one four stands.0 stands.1 refl refl refl in
+    let addi = step_here run (task r1 view []) 8 (OpImm Add 2 2 (negsuc 15)) _ one twelve stands.2.2.0 stands.2.2.1 refl refl refl in
     let sw = step_here run (task r2 view []) 12 (Store Sw 2 1 (pos 0)) _ one sixteen stands.2.2.2.0 stands.2.2.2.1
-    (store_acts run.size sp view r2 12 down sp_small aligned within) in
+    (store_acts run.size sp view r2 12 down sp_small aligned within) refl refl in
     record {
       registers = r2;
       zer = refl;
@@ -99,11 +101,11 @@ left run sp registers view words at one stack small aligned within room saved st
     let jump_room : at + 4 + 4 + 4 ≤ run.size = omega arith in
     let done_room : 4 + 4 ≤ run.size = omega arith in
     let lw = step_here run (task registers view words) at (Load Lw 1 2 (pos 0)) _ one load_room stands.0 stands.1
-    (load_acts run.size sp view registers at stack small aligned within) in
-    let addi = step_here run (task r1 view words) (at + 4) (OpImm Add 2 2 (pos 16)) _ one add_room stands.2.0 stands.2.1 refl in
+    (load_acts run.size sp view registers at stack small aligned within) refl refl in
+    let addi = step_here run (task r1 view words) (at + 4) (OpImm Add 2 2 (pos 16)) _ one add_room stands.2.0 stands.2.1 refl refl refl in
     let jalr = step_here run (task r2 view words) (at + 4 + 4) (Jalr 0 1 (pos 0)) _ one jump_room stands.2.2.0 stands.2.2.1
-    (ap (λ w. jumps (plus w (pos 0) / 2 * 2) 0 (at + 4 + 4 + 4)) saved) in
-    let done = step_here run (task r2 view words) 4 PmDone _ one done_room start.2.0 start.2.1 refl in
+    (ap (λ w. jumps (plus w (pos 0) / 2 * 2) 0 (at + 4 + 4 + 4)) saved) refl refl in
+    let done = step_here run (task r2 view words) 4 PmDone _ one done_room start.2.0 start.2.1 refl refl refl in
     record {
       last = _;
       goes = goes_then run _ _ _ 3 1 (goes_then run _ _ _ 2 1 (goes_then run _ _ _ 1 1 lw addi) jalr) done;
@@ -119,37 +121,69 @@ stack_behind : (b : Statements) → (sp : ℕ) × (stack_top b ≡ sp + 16) × (
 stack_behind b =
     ((code_end b + 15) / 16 * 16, refl, omega arith, omega arith, omega arith)
 
-pub small_runs : (b : Statements) → IsSmallBody b → body_size b ≤ 4096 → EndsWith (task_run b) (length (code_of b)) (body_values b)
-small_runs b small counted =
+-- a word is put out for each statement
+values_length : (b : Statements) → length (body_values b) ≤ body_size b
+values_length no_statements = omega arith
+values_length (next_statement (output at e) rest) = omega (arith, values_length rest)
+values_length (next_statement _ rest) = values_length rest
+
+-- memory at the start
+abbrev bytes : Statements → ℕ → ℕ
+bytes b = (task_run b).bytes
+
+code_stands : (b : Statements) → Stands (code_of b) 0 (bytes b)
+code_stands b =
+    let pad = replicate (stack_top b - code_end b) 0 in
+    let rest = replicate (default_plant.memory - length (content_of b)) 0 in
+    subst (λ m. Stands (code_of b) 0 (slice_index m)) (sym (append_assoc (code_bytes (code_of b)) pad rest))
+    (stands_there (code_of b) [] (pad ++ rest) (code_fits b))
+
+-- three pieces one after another end the job
+joined : (run : TaskRun) (words : List ℕ) (n : ℕ) (inside behind last : PlainState) → run.jobs ≡ 1 → length words < log_size →
+    Goes run (plain_start run) 3 inside → Goes run inside n behind → Goes run behind 4 last →
+    last.ended ≡ 1 → last.trapped ≡ None → last.task.outputs ≡ words → EndsWith run (3 + n + 4) words
+joined run words n inside behind last one few first middle end ended untrapped outputs =
+    let all = goes_then run (plain_start run) behind last (3 + n) 4 (goes_then run (plain_start run) inside behind 3 n first middle) end in
+    let out = ap (λ s. s.task.outputs) all.is ∙ outputs in
+    record {
+      ends = record {
+        ended = ap (λ s. s.ended) all.is ∙ ended ∙ sym one;
+        untrapped = ap (λ s. s.trapped) all.is ∙ untrapped;
+        compatible = all.compatible;
+        outputs = subst (λ ws. length ws < log_size) (sym out) few;
+      };
+      outputs = out;
+    }
+
+pub body_runs : (b : Statements) → is_small_body b ≡ true → EndsWith (task_run b) (length (code_of b)) (body_values b)
+body_runs b small =
     let run = task_run b in
     let code = code_of b in
     let n = length (body_code b) in
+    let parts = both (are_outputs b) (nat_le (body_size b) 4096) small in
+    let counted : body_size b ≤ 4096 = leb-true _ _ parts.1 in
     let bottom = stack_behind b in
     let sp = bottom.0 in
     let count : length (code_of b) ≡ length (body_code b) + 7 = code_length b in
-    let size : length (body_code b) ≤ 2 * body_size b = body_length b small in
+    let size : length (body_code b) ≤ 2 * body_size b = body_length b in
     let low : code_end b ≤ bottom.0 = bottom.2 in
     let near : bottom.0 ≤ code_end b + 15 = bottom.3 in
     let stack_small : bottom.0 + 16 < 2 ^ 32 = omega (arith, count, size, near) in
-    let within : bottom.0 + 4 ≤ memory_size = omega (arith, count, size, near) in
-    let view = slice_index (image_of code) in
+    let within : bottom.0 + 4 ≤ 1048576 = omega (arith, count, size, near) in
+    let view = bytes b in
     let saved = put_number 4 sp 4 view in
-    let stands : Stands (code_of b) 0 (slice_index (image_of (code_of b))) = stands_there (code_of b) [] (replicate (memory_size - 4 * length (code_of b)) 0) (code_fits b small) in
-    let kept : Stands (code_of b) 0 (put_number 4 bottom.0 4 (slice_index (image_of (code_of b)))) = stands_kept (code_of b) 0 4 bottom.0 4 view (omega (arith, low)) stands in
+    let stands : Stands (code_of b) 0 (bytes b) = code_stands b in
+    let kept : Stands (code_of b) 0 (put_number 4 bottom.0 4 (bytes b)) = stands_kept (code_of b) 0 4 bottom.0 4 view (omega (arith, low)) stands in
     let sp_small : bottom.0 < 2 ^ 32 = omega arith in
     let first = entered run sp view (body_code b ++ epilogue) refl bottom.1 stack_small bottom.4 within (lit≤ tt) stands in
-    let parts = stands-append (body_code b) epilogue 16 saved kept.2.2.2.2 in
-    let body_room : 16 + 4 * length (body_code b) ≤ memory_size = omega (arith, size) in
-    let middle = body_goes run b first.registers saved [] 16 refl small first.zer body_room parts.0 in
+    let halves = stands-append (body_code b) epilogue 16 saved kept.2.2.2.2 in
+    let body_room : 16 + 4 * length (body_code b) ≤ 1048576 = omega (arith, size) in
+    let middle = body_goes run b first.registers saved [] 16 refl parts.0 first.zer body_room halves.0 in
     let at = 16 + 4 * n in
-    let end_room : 16 + 4 * length (body_code b) + 12 ≤ memory_size = omega (arith, size) in
+    let end_room : 16 + 4 * length (body_code b) + 12 ≤ 1048576 = omega (arith, size) in
     let last = left run sp middle.after saved (body_values b) at refl (middle.below 2 (lit< tt) ∙ first.stack) sp_small bottom.4 within end_room
-    (number_at-put_number 4 sp 4 view) parts.1 (kept.0, kept.1, (kept.2.0, kept.2.1, tt)) in
-    let all = goes_then run _ _ _ (3 + n) 4 (goes_then run _ _ _ 3 n first.goes middle.goes) last.goes in
-    let steps : length (code_of b) ≡ 3 + length (body_code b) + 4 = omega (arith, count) in
-    let is : plain_run (task_run b) (length (code_of b)) ≡ last.last = ap (λ k. plain_steps run k (plain_start run)) steps ∙ all.is in
-    record {
-      ended = ap (λ s. s.ended) is ∙ last.ended;
-      untrapped = ap (λ s. s.trapped) is ∙ last.untrapped;
-      outputs = ap (λ s. s.task.outputs) is ∙ last.outputs;
-    }
+    (number_at-put_number 4 sp 4 view) halves.1 (kept.0, kept.1, (kept.2.0, kept.2.1, tt)) in
+    let few : length (body_values b) < 262144 = omega (arith, values_length b) in
+    let steps : 3 + length (body_code b) + 4 ≡ length (code_of b) = omega (arith, count) in
+    subst (λ k. EndsWith (task_run b) k (body_values b)) steps
+    (joined run (body_values b) n _ _ last.last refl few first.goes middle.goes last.goes last.ended last.untrapped last.outputs)

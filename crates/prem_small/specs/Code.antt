@@ -1,7 +1,7 @@
 -- The code of small programs.
-use Rattle.std.specs.Prelude.{ℕ, ◌+◌, ◌*◌, ◌/◌, ◌%◌, ◌^◌, ℤ, pos, negsuc, nat_lt, if◌then◌else◌, List, [], ◌∷◌, ◌++◌, length}
+use Rattle.std.specs.Prelude.{ℕ, ◌+◌, ◌-◌, ◌*◌, ◌/◌, ◌%◌, ◌^◌, pos, negsuc, nat_lt, if◌then◌else◌, List, [], ◌∷◌, ◌++◌, length}
 use Rattle.prem_word.specs.declared.kind.BinOp.{BinOp}
-use Rattle.prem_word.specs.declared.kind.BinOp.TheVariants.{Add as Plus, Sub as Minus}
+use Rattle.prem_word.specs.declared.kind.BinOp.TheVariants.{Sub as Minus}
 use Rattle.prem_isa.specs.declared.instr.Instr.{Instr}
 use Rattle.prem_isa.specs.declared.instr.Instr.TheVariants.{Lui, Jal, Jalr, Load, Store, OpImm, Op, PmDone, PmOut}
 use Rattle.prem_isa.specs.declared.instr.LoadOp.TheVariants.{Lw}
@@ -9,13 +9,16 @@ use Rattle.prem_isa.specs.declared.instr.StoreOp.TheVariants.{Sw}
 use Rattle.prem_isa.specs.declared.instr.AluOp.{AluOp}
 use Rattle.prem_isa.specs.declared.instr.AluOp.TheVariants.{Add, Sub}
 use Rattle.prem_isa.specs.Fields.{signed}
-use Rattle.prem_tree.specs.Syntax.{Expression, literal, binary, Statements, no_statements, next_statement, output, ProgramText, FunctionText, ItemText, function_item}
+use Rattle.prem_tree.specs.Syntax.{Expression, literal, binary, Statements, no_statements, next_statement, output}
 
--- a constant below 2 ^ 31 into a register: one instruction for 11 bits, else the upper 20 bits and then the lower 12, signed
+-- a constant into a register: one instruction where its signed number is from -2 ^ 11 to 2 ^ 11 - 1, else the upper 20
+-- bits, rounded, and then the lower 12, signed
 abbrev pub constant_code : ℕ → ℕ → List Instr
 constant_code r c =
     if nat_lt c (2 ^ 11) then OpImm Add r 0 (pos c) ∷ []
-    else Lui r ((c + 2 ^ 11) / 2 ^ 12) ∷ OpImm Add r r (signed (2 ^ 11) (c % 2 ^ 12)) ∷ []
+    else if nat_lt c (2 ^ 32 - 2 ^ 11)
+    then Lui r ((c + 2 ^ 11) / 2 ^ 12) ∷ OpImm Add r r (signed (2 ^ 11) (c % 2 ^ 12)) ∷ []
+    else OpImm Add r 0 (negsuc (2 ^ 32 - 1 - c)) ∷ []
 
 abbrev pub operation : BinOp → AluOp
 operation Minus = Sub

@@ -1,13 +1,21 @@
--- The words of code in memory.
-use Rattle.std.specs.Prelude.{◌≡◌, ℕ, ◌+◌, ◌-◌, ◌*◌, ◌^◌, List, [], ◌∷◌, ◌++◌, length, replicate}
+-- The image of a small program.
+use Rattle.std.specs.Prelude.{◌≡◌, ℕ, ◌+◌, ◌-◌, List, [], ◌∷◌, ◌++◌, replicate, codes}
 use Rattle.std.specs.Int.{w32, to_le_bytes}
+use Rattle.prem_list.specs.Sequence.{items_of}
 use Rattle.prem_word.specs.Bytes.{number_at}
 use Rattle.prem_isa.specs.declared.instr.Instr.{Instr}
 use Rattle.prem_isa.specs.Decode.{Fits, word_of}
+use Rattle.prem_plant.specs.declared.plant.Plant.{Plant}
+use Rattle.prem_image.specs.declared.image.TaskRecord.{TaskRecord}
+use Rattle.prem_image.specs.declared.image.Image.{Image}
+use Rattle.prem_tree.specs.Syntax.{Statements}
+use Rattle.prem_small.specs.Code.{code_of, code_end, stack_top}
 
--- the bytes of memory, as many as those of the default plant
-abbrev pub memory_size : ℕ
-memory_size = 1048576
+-- the numbers of a plant where nothing else is stated
+abbrev pub default_plant : Plant
+default_plant = record { line = 16; sets = 64; «ways» = 4; fill = 10; back = 10; switch = 20; memory = 1048576 }
+
+-- ---- content
 
 -- each instruction has a word
 abbrev pub AllFit : List Instr → Type 0
@@ -19,11 +27,24 @@ abbrev pub code_bytes : List Instr → List ℕ
 code_bytes [] = []
 code_bytes (i ∷ code) = to_le_bytes w32 (word_of i) ++ code_bytes code
 
--- memory with the code from address 0 on, and 0 behind it
-abbrev pub image_of : List Instr → List ℕ
-image_of code = code_bytes code ++ replicate (memory_size - 4 * length code) 0
+-- the code from address 0 on, and 0 up to the end of the stack
+abbrev pub content_of : Statements → List ℕ
+content_of body = code_bytes (code_of body) ++ replicate (stack_top body - code_end body) 0
 
 -- the words of the code stand from an address on
 abbrev pub Stands : List Instr → ℕ → (ℕ → ℕ) → Type 0
 Stands [] at view = Unit {0}
 Stands (i ∷ code) at view = (number_at view at 4 ≡ word_of i) × Fits i × Stands code (at + 4) view
+
+-- ---- what the machine runs
+
+-- one job
+abbrev pub task_of : Statements → TaskRecord
+task_of body = record { name = codes "one"; period = 1; jobs = 1; entry = 0; stack = stack_top body }
+
+-- the image of a program with this body: its one task, without a device
+pub record IsImageOf (body : Statements) (i : Image) : Type 0 where
+  pub plant : i.plant ≡ default_plant
+  pub tasks : items_of i.tasks ≡ task_of body ∷ []
+  pub devices : items_of i.devices ≡ []
+  pub content : items_of i.content ≡ content_of body

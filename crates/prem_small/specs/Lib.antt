@@ -1,4 +1,4 @@
+pub mod Small
 pub mod Code
 pub mod Image
 pub mod Runs
-pub mod PlainTask

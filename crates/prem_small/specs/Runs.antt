@@ -1,16 +1,16 @@
--- What a small program's code does when it runs: what it gives, and that it ends.
-use Rattle.std.specs.Prelude.{◌≡◌, ℕ, ◌≤◌, List, [], ◌∷◌, length, None, slice_index, Ok, Err}
-use Rattle.prem_isa.specs.Plain.{TaskRun, PlainState, plain_run}
-use Rattle.prem_tree.specs.Syntax.{Statements, no_statements, next_statement, output, ProgramText}
-use Rattle.prem_tree.specs.declared.tree.Place.{Place}
+-- What a small program's code does when it runs: on instructions alone, and on the machine.
+use Rattle.std.specs.Prelude.{◌≡◌, ℕ, true, List, [], ◌∷◌, None, Ok, Err}
+use Rattle.prem_isa.specs.Plain.{TaskRun, plain_run}
+use Rattle.prem_lru.specs.Entries.{to_front}
+use Rattle.prem_cycle.specs.State.{State}
+use Rattle.prem_cycle.specs.Cycle.{is_finished}
+use Rattle.prem_cycle.specs.FactsOf.{report_of}
+use Rattle.prem_position.specs.Finish.{run_alone, lone_run, EndsIn}
+use Rattle.prem_tree.specs.Syntax.{Statements, no_statements, next_statement, output}
 use Rattle.prem_tree.specs.Expressions.{Outcome}
-use Rattle.prem_tree.specs.Statements.{State}
-use Rattle.prem_tree.specs.Source.{source}
+use Rattle.prem_tree.specs.Statements.{State as SourceState}
 use Rattle.prem_tree.specs.Sums.{sum_word}
-use Rattle.prem_front.specs.Phrases.{job_program}
-use Rattle.prem_front.specs.Small.{IsSmallBody, body_size}
-use Rattle.prem_small.specs.Code.{code_of, stack_top}
-use Rattle.prem_small.specs.Image.{memory_size, image_of}
+use Rattle.prem_small.specs.Image.{default_plant, content_of, task_of}
 
 -- the words that the statements put out
 abbrev pub body_values : Statements → List ℕ
@@ -19,38 +19,30 @@ body_values (next_statement (output at value) rest) = sum_word value ∷ body_va
 body_values (next_statement first rest) = body_values rest
 
 -- the outputs of a program's meaning
-abbrev pub outputs_of : Outcome State → List ℕ
+abbrev pub outputs_of : Outcome SourceState → List ℕ
 outputs_of (Ok s) = s.outputs
 outputs_of (Err line) = []
 
--- one job without input, whose first instruction stands at address 0
-abbrev pub one_job : (ℕ → ℕ) → ℕ → TaskRun
-one_job bytes stack = record { size = memory_size; bytes = bytes; entry = 0; stack = stack; inputs = []; jobs = 1 }
+-- ---- on instructions alone
 
--- the same, for what goes on without regard to the bytes at its start
-abbrev pub job_on : ℕ → TaskRun
-job_on stack = one_job (λ a. 0) stack
-
--- one job of the program with this body, on its code's words in memory
+-- the run of the task of a program with this body, without input
 abbrev pub task_run : Statements → TaskRun
-task_run body = one_job (slice_index (image_of (code_of body))) (stack_top body)
+task_run body = run_alone default_plant (task_of body) (content_of body) []
 
--- a run of n instructions has ended its one job without a trap, with these words as its outputs
+-- n instructions of a run end its jobs without a trap and without a predictable interval, with these words as its outputs
 pub record EndsWith (run : TaskRun) (n : ℕ) (words : List ℕ) : Type 0 where
-  pub ended : (plain_run run n).ended ≡ 1
-  pub untrapped : (plain_run run n).trapped ≡ None
+  pub ends : EndsIn run n
   pub outputs : (plain_run run n).task.outputs ≡ words
 
--- the program is `job` alone, with these statements
-pub record IsBody (p : ProgramText) (b : Statements) : Type 0 where
-  pub at : Place
-  pub is_job : p ≡ job_program at b
-  pub small : IsSmallBody b
-  pub counted : body_size b ≤ 4096
+-- ---- on the machine
 
--- these words are what the program's code puts out when it runs, and what the program means
-pub record Gives (p : ProgramText) (words : List ℕ) : Type 0 where
-  pub body : Statements
-  pub is_body : IsBody p body
-  pub runs : EndsWith (task_run body) (length (code_of body)) words
-  pub means : outputs_of (source p [] 1) ≡ words
+-- the machine's state after n cycles of the image of a program with this body, without input
+abbrev pub machine_run : Statements → ℕ → State
+machine_run body n = lone_run to_front default_plant (task_of body) (content_of body) [] n
+
+-- the one task has finished without a trap, with these words as its outputs
+pub record FinishesWith (s : State) (words : List ℕ) : Type 0 where
+  pub finished : is_finished s ≡ true
+  pub untrapped : s.trapped ≡ None
+  pub ended : ℕ
+  pub report : (report_of s).tasks ≡ record { outputs = words; ended = ended } ∷ []

@@ -1,9 +1,10 @@
 // The code of small programs.
-ghost use Rattle.std.specs.Prelude.{◌≡◌, ◌<◌, ◌≤◌, ◌^◌, ◌++◌, OnOk, IfOk, vec_len};
+ghost use Rattle.std.specs.Prelude.{◌≡◌, ◌≤◌, ◌%◌, ◌^◌, ◌++◌, OnOk, IfOk, vec_len};
+ghost use Rattle.prem_isa.specs.Fields.{signed};
 ghost use Rattle.prem_tree.specs.SyntaxOf.{expression_of, statements_of};
-ghost use Rattle.prem_front.specs.Small.{IsSum, IsIntLiteral, IsSmallBody, body_size};
 ghost use Rattle.prem_isa.specs.declared.instr.Instr.TheVariants.{OpImm};
 ghost use Rattle.prem_isa.specs.declared.instr.AluOp.TheVariants.{Add};
+ghost use Rattle.prem_small.specs.Small.{body_size};
 ghost use Rattle.prem_small.specs.Code.{constant_code, right_code, sum_code, body_code, start_code, prologue, epilogue, code_of};
 ghost use Rattle.prem_small.specs.Image.{AllFit};
 
@@ -17,6 +18,9 @@ const VALUE: u8 = 10;
 /// The register of an operator's right side.
 const RIGHT: u8 = 11;
 
+/// The word of -2048, from which on words stand for small negative numbers.
+const SMALL_NEGATIVE: u32 = 0xffff_f800;
+
 // `addi`.
 fn add_immediate(rd: u8, rs1: u8, imm: i32) -> Instr
     ensures { result ≡ OpImm Add rd rs1 imm }
@@ -29,39 +33,43 @@ fn add_immediate(rd: u8, rs1: u8, imm: i32) -> Instr
     }
 }
 
+// The lowest 12 bits of a word as a signed number.
+fn low_bits(c: u32) -> i32
+    ensures { result ≡ signed (2 ^ 11) (c % 2 ^ 12) }
+{
+    let low = (c % 4096) as i32;
+    if low < 2048 { low } else { low - 4096 }
+}
+
 // A constant into a register.
 fn emit_constant(code: &mut Vec<Instr>, rd: u8, c: u32) -> Result<(), AllocError>
-    requires { c < 2 ^ 31 }
     ensures { OnOk result (code.new.items ≡ code.old.items ++ constant_code rd c) }
 {
     if c < 2048 {
         code.push(add_immediate(rd, 0, c as i32))?;
-        return Ok(());
+    } else if c < SMALL_NEGATIVE {
+        let imm = (c + 2048) / 4096;
+        code.push(Instr::Lui { rd, imm })?;
+        code.push(add_immediate(rd, rd, low_bits(c)))?;
+    } else {
+        let below = (u32::MAX - c) as i32;
+        code.push(add_immediate(rd, 0, -1 - below))?;
     }
-    let low = (c % 4096) as i32;
-    code.push(Instr::Lui {
-        rd,
-        imm: (c + 2048) / 4096,
-    })?;
-    let low = if low < 2048 { low } else { low - 4096 };
-    code.push(add_immediate(rd, rd, low))?;
     Ok(())
 }
 
 // The right side of an operator, a literal, into its register.
 fn emit_right(code: &mut Vec<Instr>, e: &Expr) -> Result<(), AllocError>
-    requires { IsIntLiteral (expression_of e.now) }
     ensures { OnOk result (code.new.items ≡ code.old.items ++ right_code (expression_of e.now)) }
 {
     match e {
         Expr::Literal { value, .. } => emit_constant(code, RIGHT, *value),
-        _ => unreachable!(),
+        _ => Ok(()),
     }
 }
 
 // A sum into the register of values.
 fn emit_sum(code: &mut Vec<Instr>, e: &Expr) -> Result<(), AllocError>
-    requires { IsSum (expression_of e.now) }
     ensures { OnOk result (code.new.items ≡ code.old.items ++ sum_code (expression_of e.now)) }
 {
     match e {
@@ -86,22 +94,18 @@ fn emit_sum(code: &mut Vec<Instr>, e: &Expr) -> Result<(), AllocError>
             })?;
             Ok(())
         }
-        _ => unreachable!(),
+        _ => Ok(()),
     }
 }
 
-// The statements of `job`.
+// The outputs among the statements of `job`.
 fn emit_body(code: &mut Vec<Instr>, body: &[Stmt]) -> Result<(), AllocError>
-    requires { IsSmallBody (statements_of body.now) }
     ensures { OnOk result (code.new.items ≡ code.old.items ++ body_code (statements_of body.now)) }
 {
     for statement in body {
-        match statement {
-            Stmt::Output { value, .. } => {
-                emit_sum(code, value)?;
-                code.push(Instr::PmOut { rs1: VALUE })?;
-            }
-            _ => unreachable!(),
+        if let Stmt::Output { value, .. } = statement {
+            emit_sum(code, value)?;
+            code.push(Instr::PmOut { rs1: VALUE })?;
         }
     }
     Ok(())
@@ -149,11 +153,11 @@ fn emit_epilogue(code: &mut Vec<Instr>) -> Result<(), AllocError>
     Ok(())
 }
 
-/// The code of a program whose `job` has this body, from address 0 on: the start, then `job`.
+/// The code of a program whose `job` has this body, from address 0 on: the start, then `job`. It has the
+/// templates and the places of the whole compiler.
 #[tactic(auto, using(crate::proofs::Sizes::code_fits, crate::proofs::Sizes::code_small))]
 pub fn code_of(alloc: Global, body: &[Stmt]) -> Result<Vec<Instr>, AllocError>
-    requires small { IsSmallBody (statements_of body.now) }
-    requires counted { body_size (statements_of body.now) ≤ 4096 }
+    requires { body_size (statements_of body.now) ≤ 4096 }
     ensures code { IfOk result (λ code. code.items ≡ code_of (statements_of body.now)) }
     ensures fit { IfOk result (λ code. AllFit code.items) }
     ensures few { IfOk result (λ code. vec_len code ≤ 8199) }

@@ -1,14 +1,14 @@
-//! Small programs: their code for RV32I, its words in memory, and the outputs of running these words.
+//! Small programs: which they are, their code for RV32I, and the image that the machine runs.
 //!
 //! The code has the templates and the places of the whole compiler: the start, the prologue of `job`,
 //! its statements, its epilogue, and `job`'s stack.
 #![tactic(auto)]
 
 mod code;
-mod image;
-mod memory;
-mod outputs;
-mod plain;
-mod run;
+mod laws;
+mod setup;
+mod shape;
 
-pub use outputs::small_outputs;
+pub use laws::{small_programs_finish_on_the_machine, small_programs_give_their_outputs};
+pub use setup::image;
+pub use shape::is_small;

@@ -1,5 +1,5 @@
 use Rattle.std.proofs.Common.{◌≡◌, ◌≤◌, refl, ap, ◌∙◌, sym, length, subst}
-use Rattle.prem_cli.specs.Answer.{program_answer}
+use Rattle.prem_cli.specs.Answer.{source_answer}
 use Rattle.prem_front.specs.Reads.{reads}
 use Rattle.prem_cli.proofs.Told.{usage_is, found_is, missing_is, too_long_is}
 use Rattle.prem_cli.proofs.top.find_answer.Goals as goal
@@ -11,7 +11,7 @@ pub returns-in-Ok-clause-found : goal.returns-in-Ok-clause-found
 returns-in-Ok-clause-found g c =
     let into = c.read_file.new.into in
     let short : length into.items ≤ 1048576 = subst (λ n. n ≤ 1048576) into.ok.0 c.in-Ok.ensures.limit in
-    let is = c.in_ok-source_answer-in-Ok.ensures.answer ∙ ap (λ bytes. program_answer (reads bytes)) c.deref.ensures.value in
+    let is = c.in_ok-source_answer-in-Ok.ensures.answer ∙ ap (λ bytes. source_answer (reads bytes)) c.deref.ensures.value in
     found_is _ _ c.in-Some.name.now into.items _ (sym c.in-Some.ensures) c.in-Ok.ensures.bytes short is
 
 pub returns-in-Err-Missing-clause-found : goal.returns-in-Err-Missing-clause-found

@@ -1,0 +1,239 @@
+// Functions behind their name.
+ghost use Rattle.std.specs.Prelude.{◌≡◌, IfOk, map};
+ghost use Rattle.prem_list.specs.Sequence.{items_of};
+ghost use Rattle.prem_tree.specs.SyntaxOf.{expression_of, statement_of, parameter_of, local_of, function_of};
+ghost use Rattle.prem_token.specs.Lexeme.{seen_of};
+ghost use Rattle.prem_expression.specs.StateOf.{state_of};
+ghost use Rattle.prem_statement.specs.PointOf.{turn_of};
+ghost use Rattle.prem_grammar.specs.Statement.{listed};
+ghost use Rattle.prem_grammar.specs.Item.{parameter_begins, parameter_ends, parameter_goes_on, with_local, with_body, with_result, value_begins, body_ends, statement_step, local_begins, value_ends, value_goes_on};
+ghost use Rattle.prem_front.specs.StageOf.{value_of, stage_of, step_of};
+
+use crate::global::{begin_row, with_parameter};
+use crate::stage::{Declared, ItemRow, Stage, Step, Typing, Value};
+use crate::typing::{NOTHING, begins_type, type_begins};
+use prem_expression::{Move, Open, State, advance};
+use prem_list::Sequence;
+use prem_statement::{
+    Around, Point, Slot, Turn, is_comma, is_right_brace, is_right_parenthesis, is_semicolon, turn,
+};
+use prem_token::{Spotted, Token, Word};
+use prem_tree::{Expr, Function, Item, Local, Param, Stmt};
+use std::alloc::{AllocError, Global};
+
+/// The greatest number of tokens of an expression, and one more: past it nothing is left of the room.
+const ROOM: u32 = 257;
+
+/// Behind `void )`.
+static BODY_ROW: [Slot; 1] = [Slot::LeftBrace];
+
+/// The first token between the parentheses; `void` there is the empty list.
+pub(crate) fn parameter_begins(
+    alloc: Global,
+    function: Function,
+    spotted: &Spotted,
+) -> Result<Step, AllocError>
+    ensures { IfOk result (λ s. step_of s ≡ parameter_begins (function_of function) (seen_of spotted.now)) }
+{
+    match &spotted.token {
+        Token::Word(Word::Void) => {
+            let row = ItemRow::BodyRow { function };
+            begin_row(alloc, row, spotted, Slot::RightParenthesis, &BODY_ROW)
+        }
+        _ => type_begins(alloc, Declared::AParameter { function }, spotted),
+    }
+}
+
+/// A token behind a parameter.
+pub(crate) fn parameter_ends(
+    alloc: Global,
+    function: Function,
+    spotted: &Spotted,
+) -> Result<Step, AllocError>
+    ensures { IfOk result (λ s. step_of s ≡ parameter_ends (function_of function) (seen_of spotted.now)) }
+{
+    if is_comma(&spotted.token) {
+        return Ok(Step::Ahead {
+            stage: Stage::InType {
+                declared: Declared::AParameter { function },
+                typing: Typing::NoType,
+            },
+        });
+    }
+    if !is_right_parenthesis(&spotted.token) {
+        return Ok(Step::Refused);
+    }
+    let row = ItemRow::BodyRow { function };
+    begin_row(alloc, row, spotted, Slot::LeftBrace, &NOTHING)
+}
+
+/// A token behind the name of a parameter.
+pub(crate) fn parameter_goes_on(
+    alloc: Global,
+    function: Function,
+    param: Param,
+    spotted: &Spotted,
+) -> Result<Step, AllocError>
+    ensures { IfOk result (λ s. step_of s ≡ parameter_goes_on (function_of function) (parameter_of param) (seen_of spotted.now)) }
+{
+    match &spotted.token {
+        Token::Word(Word::Range) => {
+            let row = ItemRow::RangeRow { function, param };
+            begin_row(alloc, row, spotted, Slot::LeftParenthesis, &NOTHING)
+        }
+        _ => {
+            let function = with_parameter(function, param)?;
+            parameter_ends(alloc, function, spotted)
+        }
+    }
+}
+
+fn with_local(mut function: Function, local: Local) -> Result<Function, AllocError>
+    ensures { IfOk result (λ f. function_of f ≡ with_local (function_of function) (local_of local)) }
+{
+    function.locals.push(local)?;
+    Ok(function)
+}
+
+#[tactic(auto, using(prem_statement::proofs::Blocks::statements_listed))]
+fn with_body(mut function: Function, body: Sequence<Stmt>) -> Function
+    ensures { function_of result ≡ with_body (function_of function) (listed (map statement_of (items_of body))) }
+{
+    function.body = body;
+    function
+}
+
+fn with_result(mut function: Function, value: Expr) -> Function
+    ensures { function_of result ≡ with_result (function_of function) (expression_of value) }
+{
+    function.result = Some(value);
+    function
+}
+
+/// An expression outside statements is read from its beginning.
+pub(crate) fn value_begins(value: Value) -> Stage
+    ensures { stage_of result ≡ value_begins (value_of value) }
+{
+    Stage::InValue {
+        value,
+        state: State::Wants {
+            around: Open::Bottom,
+        },
+        room: ROOM,
+    }
+}
+
+// A token behind the last statement.
+fn body_ends(function: Function, spotted: &Spotted) -> Step
+    ensures { step_of result ≡ body_ends (function_of function) (seen_of spotted.now) }
+{
+    match &spotted.token {
+        Token::Word(Word::Return) => Step::Ahead {
+            stage: value_begins(Value::OfResult { function }),
+        },
+        token => {
+            if !is_right_brace(token) {
+                return Step::Refused;
+            }
+            Step::Made {
+                item: Item::Function(function),
+            }
+        }
+    }
+}
+
+/// A token that the statements have taken, or left.
+pub(crate) fn statement_step(function: Function, taken: Turn, spotted: &Spotted) -> Step
+    ensures { step_of result ≡ statement_step (function_of function) (turn_of taken) (seen_of spotted.now) }
+{
+    match taken {
+        Turn::On { point } => Step::Ahead {
+            stage: Stage::InStatements { function, point },
+        },
+        Turn::Leaves { statements } => body_ends(with_body(function, statements), spotted),
+        Turn::Wrong => Step::Refused,
+    }
+}
+
+/// A token before a local or the first statement.
+pub(crate) fn local_begins(
+    alloc: Global,
+    function: Function,
+    spotted: &Spotted,
+) -> Result<Step, AllocError>
+    ensures { IfOk result (λ s. step_of s ≡ local_begins (function_of function) (seen_of spotted.now)) }
+{
+    if begins_type(&spotted.token) {
+        return type_begins(alloc, Declared::ALocal { function }, spotted);
+    }
+    let point = Point::Between {
+        around: Around::Body {
+            before: Sequence::new(alloc),
+        },
+    };
+    let taken = turn(alloc, point, spotted)?;
+    Ok(statement_step(function, taken, spotted))
+}
+
+// The `;` behind an expression outside statements.
+fn value_ends(
+    alloc: Global,
+    what: Value,
+    value: Expr,
+    spotted: &Spotted,
+) -> Result<Step, AllocError>
+    ensures { IfOk result (λ s. step_of s ≡ value_ends (value_of what) (expression_of value) (seen_of spotted.now)) }
+{
+    match what {
+        Value::OfLocal {
+            function,
+            ty,
+            at,
+            name,
+        } => {
+            let local = Local {
+                at,
+                ty,
+                name,
+                value,
+            };
+            let function = with_local(function, local)?;
+            Ok(Step::Ahead {
+                stage: Stage::BeforeLocal { function },
+            })
+        }
+        Value::OfResult { function } => {
+            let function = with_result(function, value);
+            let row = ItemRow::EndRow { function };
+            begin_row(alloc, row, spotted, Slot::RightBrace, &NOTHING)
+        }
+    }
+}
+
+/// A token of an expression outside statements, or the first one behind it.
+pub(crate) fn value_goes_on(
+    alloc: Global,
+    what: Value,
+    state: State,
+    room: u32,
+    spotted: &Spotted,
+) -> Result<Step, AllocError>
+    ensures { IfOk result (λ s. step_of s ≡ value_goes_on (value_of what) (state_of state) room (seen_of spotted.now)) }
+{
+    match advance(alloc, 1, state, spotted)? {
+        Move::Goes { state } => Ok(Step::Ahead {
+            stage: Stage::InValue {
+                value: what,
+                state,
+                room: room.saturating_sub(1),
+            },
+        }),
+        Move::Ends { value } => {
+            if !is_semicolon(&spotted.token) {
+                return Ok(Step::Refused);
+            }
+            value_ends(alloc, what, value, spotted)
+        }
+        Move::Stops => Ok(Step::Refused),
+    }
+}

@@ -1,0 +1,156 @@
+// Reading the items of a program, one token after the other.
+ghost use Rattle.std.specs.Prelude.{◌≡◌, IfOk, map};
+ghost use Rattle.prem_list.specs.Sequence.{items_of};
+ghost use Rattle.prem_token.specs.Lexeme.{lexeme_of, seen_of};
+ghost use Rattle.prem_grammar.specs.Item.{in_row, row_ends, row_goes_on, step, is_too_deep};
+ghost use Rattle.prem_statement.specs.SlotOf.{slot_of};
+ghost use Rattle.prem_front.specs.StageOf.{row_of, stage_of, step_of};
+
+use crate::annotation::{behind_mark, item_begins, mark_ends, region_ends};
+use crate::function::{
+    local_begins, parameter_begins, parameter_ends, parameter_goes_on, statement_step,
+    value_begins, value_goes_on,
+};
+use crate::global::{
+    constant, constant_ends, global_ends, initial_begins, item_goes_on, with_length,
+};
+use crate::stage::{Constant, ItemRow, Stage, Step, Value};
+use crate::typing::type_or_name;
+use prem_list::Sequence;
+use prem_statement::{Slot, copy_spotted, fits, is_past, turn, value_at};
+use prem_token::Spotted;
+use prem_tree::Item;
+use std::alloc::{AllocError, Global};
+
+// A row has all its tokens.
+fn row_ends(alloc: Global, row: ItemRow, got: &[Spotted]) -> Result<Step, AllocError>
+    ensures { IfOk result (λ s. step_of s ≡ row_ends (row_of row) (map seen_of got.now)) }
+{
+    let stage = match row {
+        ItemRow::MarkRow => return Ok(mark_ends(alloc, got)),
+        ItemRow::RegionRow { mark } => return region_ends(alloc, mark, got),
+        ItemRow::GlobalRow { global } => {
+            return Ok(Step::Made {
+                item: Item::Global(global),
+            });
+        }
+        ItemRow::EndRow { function } => {
+            return Ok(Step::Made {
+                item: Item::Function(function),
+            });
+        }
+        ItemRow::LengthRow { global } => Stage::BehindGlobal {
+            global: with_length(global, value_at(got, 1)),
+        },
+        ItemRow::BodyRow { function } => Stage::BeforeLocal { function },
+        ItemRow::RangeRow { function, param } => Stage::BeforeConstant {
+            constant: Constant::RangeLow { function, param },
+            negative: false,
+        },
+        ItemRow::LocalRow {
+            function,
+            ty,
+            at,
+            name,
+        } => value_begins(Value::OfLocal {
+            function,
+            ty,
+            at,
+            name,
+        }),
+    };
+    Ok(Step::Ahead { stage })
+}
+
+fn row_goes_on(
+    alloc: Global,
+    row: ItemRow,
+    got: Sequence<Spotted>,
+    later: &'static [Slot],
+) -> Result<Step, AllocError>
+    ensures { IfOk result (λ s. step_of s ≡ row_goes_on (row_of row) (map seen_of (items_of got)) (map slot_of later.now)) }
+{
+    match later {
+        [] => row_ends(alloc, row, got.items()),
+        [wanted, rest @ ..] => Ok(Step::Ahead {
+            stage: Stage::InRow {
+                row,
+                got,
+                wanted: *wanted,
+                later: rest,
+            },
+        }),
+    }
+}
+
+// A token in a row.
+fn in_row(
+    alloc: Global,
+    row: ItemRow,
+    mut got: Sequence<Spotted>,
+    wanted: Slot,
+    later: &'static [Slot],
+    spotted: &Spotted,
+) -> Result<Step, AllocError>
+    ensures { IfOk result (λ s. step_of s ≡ step (in_row (row_of row) (map seen_of (items_of got)) (slot_of wanted) (map slot_of later.now)) (seen_of spotted.now)) }
+{
+    if !fits(wanted, &spotted.token) {
+        return Ok(Step::Refused);
+    }
+    got.push(copy_spotted(alloc, spotted)?)?;
+    row_goes_on(alloc, row, got, later)
+}
+
+/// What a token is to the program of which the tokens up to `stage` have been read.
+pub(crate) fn step(alloc: Global, stage: Stage, spotted: &Spotted) -> Result<Step, AllocError>
+    ensures { IfOk result (λ s. step_of s ≡ step (stage_of stage) (seen_of spotted.now)) }
+{
+    match stage {
+        Stage::Outside => item_begins(alloc, spotted),
+        Stage::Marked { mark } => behind_mark(alloc, mark, spotted),
+        Stage::InRow {
+            row,
+            got,
+            wanted,
+            later,
+        } => { in_row(alloc, row, got, wanted, later, spotted) }
+        Stage::InType { declared, typing } => type_or_name(alloc, declared, typing, spotted),
+        Stage::BehindItem { mark, ty, at, name } => {
+            item_goes_on(alloc, mark, ty, at, name, spotted)
+        }
+        Stage::BehindGlobal { global } => Ok(global_ends(global, spotted)),
+        Stage::BeforeInitial { global } => Ok(initial_begins(alloc, global, spotted)),
+        Stage::BeforeConstant {
+            constant: what,
+            negative,
+        } => { Ok(constant(what, negative, &spotted.token)) }
+        Stage::BehindConstant { constant, value } => {
+            constant_ends(alloc, constant, value, spotted)
+        }
+        Stage::BeforeParameter { function } => parameter_begins(alloc, function, spotted),
+        Stage::OnParameter { function, param } => {
+            parameter_goes_on(alloc, function, param, spotted)
+        }
+        Stage::BehindParameter { function } => parameter_ends(alloc, function, spotted),
+        Stage::BeforeLocal { function } => local_begins(alloc, function, spotted),
+        Stage::InStatements { function, point } => {
+            let taken = turn(alloc, point, spotted)?;
+            Ok(statement_step(function, taken, spotted))
+        }
+        Stage::InValue { value, state, room } => {
+            value_goes_on(alloc, value, state, room, spotted)
+        }
+        Stage::Finished => Ok(Step::Refused),
+    }
+}
+
+/// Whether the last token was the 257th of an expression, or the first one of a statement of nesting 65.
+pub(crate) fn is_too_deep(stage: &Stage) -> bool
+    ensures { result ≡ is_too_deep (stage_of stage.now) }
+{
+    match stage {
+        Stage::InStatements { point, .. } => is_past(point),
+        Stage::InValue { room, .. } => *room == 0,
+        _ => false,
+    }
+}
