@@ -1,0 +1,3 @@
+pub mod PastEnd
+pub mod Extended
+pub mod History

@@ -1,0 +1,38 @@
+// What becomes of words that are put behind a task's input words while its run goes on.
+ghost use Rattle.prem_inputs.specs.PastEnd.{ReadsAreWanted};
+ghost use Rattle.prem_inputs.specs.Extended.{CyclesLeaveTheWord, InputsExtend, ReadsStay, RunsGoOn};
+ghost use Rattle.prem_inputs.specs.History.{HistoriesAreRuns};
+
+/// A task has not read past the end of its list of input words exactly where at no cycle so far it was the one whose
+/// `pm.in` was to issue with its list used up.
+pub fn reads_are_wanted()
+    ensures { ReadsAreWanted }
+{}
+
+/// Unless a task reads past the end of its list within some cycles, a word may as well be put behind its list before
+/// them as after them. This holds from every state, also of a task that isn't there.
+pub fn cycles_leave_the_word()
+    ensures { CyclesLeaveTheWord }
+{}
+
+/// Where a task has not read past the end of its list before a word is put behind it, the state is then that of the
+/// run which has had the longer list from the start.
+pub fn inputs_extend()
+    ensures { InputsExtend }
+{}
+
+/// And so it stays while the run goes on.
+pub fn runs_go_on()
+    ensures { RunsGoOn }
+{}
+
+/// In the run on the longer list the same tasks have read past the end so far, so the next word may come.
+pub fn reads_stay()
+    ensures { ReadsStay }
+{}
+
+/// Words may come time and again, for any tasks: where no task had read past the end of its list before a word was put
+/// behind it, the state is that of the run on the lists with all appended words.
+pub fn histories_are_runs()
+    ensures { HistoriesAreRuns }
+{}
