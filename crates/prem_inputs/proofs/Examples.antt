@@ -79,27 +79,31 @@ not_the_run e =
 
 -- ---- two tasks
 
--- the second one, at address 16, comes when the first one has ended its job
+-- the first one's `pm.done` issues in cycle 32; after a switch the `pm.in` of the second one, at address 16, issues in cycle 53
 abbrev two : Setup
 two = record { plant = plant 32; tasks = task 1000 1 0 16 ∷ task 1000 1 16 32 ∷ []; devices = [] }
 
 abbrev two_bytes : List ℕ
 two_bytes = bytes_in (echo ++ 0 ∷ echo)
 
-first_past : run_reads_past_end to_front two two_bytes ([] ∷ [] ∷ []) [] 50 0 ≡ true
+first_past : run_reads_past_end to_front two two_bytes ([] ∷ [] ∷ []) [] 53 0 ≡ true
 unfolding cycles_of steps_of
 first_past = refl
 
-second_not_past : run_reads_past_end to_front two two_bytes ([] ∷ [] ∷ []) [] 50 1 ≡ false
+second_not_past : run_reads_past_end to_front two two_bytes ([] ∷ [] ∷ []) [] 53 1 ≡ false
 unfolding cycles_of steps_of
 second_not_past = refl
 
--- a word is still in time for the second one: it issues in cycle 53
-second_in_time : told_of two 1 (with_input 1 7 (run_of to_front two two_bytes ([] ∷ [] ∷ []) [] 50)) ≡ (0, 7 ∷ [], 7 ∷ [])
+second_past : run_reads_past_end to_front two two_bytes ([] ∷ [] ∷ []) [] 54 1 ≡ true
+unfolding cycles_of steps_of
+second_past = refl
+
+-- a word is still in time for the second one
+second_in_time : told_of two 1 (with_input 1 7 (run_of to_front two two_bytes ([] ∷ [] ∷ []) [] 53)) ≡ (0, 7 ∷ [], 7 ∷ [])
 unfolding cycles_of
 second_in_time = refl
 
-second_from_the_start : told_of two 1 (run_of to_front two two_bytes ([] ∷ (7 ∷ []) ∷ []) [] 50) ≡ (0, 7 ∷ [], 7 ∷ [])
+second_from_the_start : told_of two 1 (run_of to_front two two_bytes ([] ∷ (7 ∷ []) ∷ []) [] 53) ≡ (0, 7 ∷ [], 7 ∷ [])
 unfolding cycles_of
 second_from_the_start = refl
 

@@ -1,9 +1,10 @@
 -- Words that are put behind a task's input words while its run goes on.
-use Rattle.std.specs.Prelude.{◌≡◌, ℕ, ◌+◌, ◌<◌, false, List, [], ◌∷◌, ◌++◌, length, slice_index_or, slice_set}
+use Rattle.std.specs.Prelude.{◌≡◌, ℕ, ◌+◌, ◌<◌, true, false, List, [], ◌∷◌, ◌++◌, length, slice_index_or, slice_set}
 use Rattle.prem_lru.specs.Entries.{Rule}
 use Rattle.prem_gate.specs.declared.request.Request.{Request}
 use Rattle.prem_cycle.specs.State.{Setup, State}
-use Rattle.prem_cycle.specs.FactsOf.{with_input}
+use Rattle.prem_cycle.specs.FactsOf.{has_room_for_word, with_input}
+use Rattle.prem_cycle.specs.Inputs.{FitsRun}
 use Rattle.prem_cycle.specs.Run.{cycles_of, run_of}
 use Rattle.prem_inputs.specs.PastEnd.{has_read_past_end, run_reads_past_end}
 
@@ -42,3 +43,11 @@ ReadsStay =
     k < length inputs → run_reads_past_end rule p content inputs requests n k ≡ false →
     run_reads_past_end rule p content (with_word_for k word inputs) requests n j
     ≡ run_reads_past_end rule p content inputs requests n j
+
+-- and the longer lists fit the machine, where the task had room for the word
+abbrev pub ListsStayFit : Type 0
+ListsStayFit =
+    (rule : Rule) (p : Setup) (content : List ℕ) (inputs : List (List ℕ)) (requests : List Request) (n k word : ℕ) →
+    k < length p.tasks → FitsRun p inputs requests →
+    has_room_for_word k (run_of rule p content inputs requests n) ≡ true →
+    FitsRun p (with_word_for k word inputs) requests

@@ -1,7 +1,15 @@
 // What becomes of words that are put behind a task's input words while its run goes on.
 ghost use Rattle.prem_inputs.specs.PastEnd.{ReadsAreWanted};
-ghost use Rattle.prem_inputs.specs.Extended.{CyclesLeaveTheWord, InputsExtend, ReadsStay, RunsGoOn};
+ghost use Rattle.prem_inputs.specs.Extended.{CyclesLeaveTheWord, InputsExtend, ListsStayFit, ReadsStay, RunsGoOn};
 ghost use Rattle.prem_inputs.specs.History.{HistoriesAreRuns};
+ghost use Rattle.prem_inputs.specs.Taken.{RoomIsOfTheList, WordsAreTakenInOrder};
+
+/// The words that a task has taken are those at the front of its list, and the others are left. So there is room for
+/// one more exactly where the list has room.
+pub fn words_are_taken_in_order()
+    ensures taken { WordsAreTakenInOrder }
+    ensures room { RoomIsOfTheList }
+{}
 
 /// A task has not read past the end of its list of input words exactly where at no cycle so far it was the one whose
 /// `pm.in` was to issue with its list used up.
@@ -16,9 +24,10 @@ pub fn cycles_leave_the_word()
 {}
 
 /// Where a task has not read past the end of its list before a word is put behind it, the state is then that of the
-/// run which has had the longer list from the start.
+/// run which has had the longer list from the start. Where the task had room for the word, that run fits the machine.
 pub fn inputs_extend()
-    ensures { InputsExtend }
+    ensures state { InputsExtend }
+    ensures fits { ListsStayFit }
 {}
 
 /// And so it stays while the run goes on.
