@@ -82,7 +82,7 @@ next_trapped limit k from s (Some t) e h =
     let over : is_over s ≡ true = over_trapped (is_finished s) s.trapped (is_full s) t e in
     cycles_of-over to_front from.setup from.requests (limit - s.now) s over ∙ sym (cycles_of-over to_front from.setup from.requests k s over)
 
-within_next : (limit now now' : ℕ) (t : Option Trap) → now < limit → (t ≡ None → now' ≡ now + 1) → (is_some t ≡ true → now' ≡ now) → now' ≤ limit
+pub within_next : (limit now now' : ℕ) (t : Option Trap) → now < limit → (t ≡ None → now' ≡ now + 1) → (is_some t ≡ true → now' ≡ now) → now' ≤ limit
 within_next limit now now' None lt next stays = omega (arith, next refl)
 within_next limit now now' (Some t) lt next stays = omega (arith, stays refl)
 

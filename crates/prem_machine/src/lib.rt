@@ -10,6 +10,7 @@ mod moment;
 mod owed;
 mod parts;
 mod start;
+mod wanted;
 mod work;
 
 pub use fits::run_fits;

@@ -3,10 +3,10 @@ ghost use Rattle.std.specs.Prelude.{◌≡◌, ◌||◌, nat_le, length, sum_by}
 ghost use Rattle.prem_list.specs.Sequence.{items_of};
 ghost use Rattle.prem_cycle.specs.Cycle.{is_finished_in, log_size};
 
-use crate::copies;
 use crate::parts::Parts;
 use crate::start::{LOG, first_parts};
 use crate::work::Setting;
+use crate::{copies, wanted};
 use prem_cycle::{Facts, Mode, Stop, TaskFacts, Trap, Turn};
 use prem_gate::{Request, RunInput};
 use prem_image::Image;
@@ -45,7 +45,7 @@ impl Machine {
     ghost use Rattle.prem_lru.specs.Entries.{to_front};
     ghost use Rattle.prem_cycle.specs.Cycle.{cycle_of, is_over};
     ghost use Rattle.prem_cycle.specs.declared.state.Turn.{Turn};
-    ghost use Rattle.prem_cycle.specs.Run.{cycles_of};
+    ghost use Rattle.prem_cycle.specs.Run.{cycles_of, wants_input_of};
     ghost use Rattle.prem_cycle.specs.FactsOf.{has_room_for_word, report_in, report_of, stop_of, with_input};
     ghost use Rattle.prem_machine.specs.States.{requests_in, setup_in, state_of, with_state};
 
@@ -126,6 +126,27 @@ impl Machine {
     {
         let core = &mut self.parts.work.cores[usize::from(t)];
         core.append_input(word)
+    }
+
+    /// The task whose `pm.in` the coming cycle issues while its input words are used up, if there is one. A run that
+    /// is over takes none. It takes no memory, and changes nothing.
+    pub fn wants_input(&self) -> Option<TaskId>
+        ensures { result ≡ wants_input_of to_front (setup_in self.now) (requests_in self.now) (state_of self.now) }
+    {
+        if self.is_over() {
+            return None;
+        }
+        wanted::wants_input(&self.setting, &self.parts)
+    }
+
+    /// Whether the run has finished, trapped or filled a log.
+    fn is_over(&self) -> bool
+        ensures { result ≡ is_over (state_of self.now) }
+    {
+        let parts = &self.parts;
+        is_finished(parts.now, &parts.sched, parts.moment.mode)
+            || parts.trapped.is_some()
+            || are_full(&parts.facts)
     }
 
     /// Why the run stops here, if it does.
