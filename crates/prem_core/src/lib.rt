@@ -5,13 +5,11 @@ mod attempt;
 mod counting;
 mod task;
 mod touches;
-mod transactions;
 
 pub use attempt::Attempt;
 pub use counting::count;
 pub use task::{Core, INPUTS};
 pub use touches::{LineTouch, Touches, touch_lines};
-pub use transactions::Transactions;
 
 #[cfg(test)]
 mod tests;
