@@ -1,17 +1,17 @@
 -- Every text is divided or refused, and the lexer does what its division says.
 use Rattle.std.proofs.Common.{◌≡◌, ◌≤◌, ◌<◌, ℕ, zero, suc, ◌+◌, ◌-◌, Bool, true, false, List, [], ◌∷◌, ◌++◌, length, Option, None, Some, Result, Ok, Err, refl, sym, ap, subst, ◌∙◌, arith, ◌&&◌, ◌||◌, ◌==◌, not, nat_lt, append_assoc, append-nil, length-append, eqb-true, slice_index, inl, inr, lt-ltb, le-ltb, if◌then◌else◌}
-use Rattle.std.proofs.lemmas.Bool.{and_parts, and_from, or_right, or_from, or_left, cases_lt}
+use Rattle.std.proofs.lemmas.Bool.{and_parts, and_from, or_right, or_from, cases_lt}
 use Rattle.std.specs.Prelude.{◌⊎◌}
 use Rattle.prem_token.specs.declared.fail.FrontFail.{FrontFail}
 use Rattle.prem_token.specs.declared.fail.FrontFail.TheVariants.{NotText, Token, TooLong}
 use Rattle.prem_token.specs.Lexeme.{Lexeme, end_of_text, Seen}
 use Rattle.prem_lexer.specs.declared.lexer.Mode.TheVariants.{Skip}
 use Rattle.prem_lexer.specs.declared.lexer.Cursor.{Cursor}
-use Rattle.prem_lexer.specs.Tokens.{is_blank, is_printable, first_token, begins_with, put, lex, with_front, beginning, tokens_of}
+use Rattle.prem_lexer.specs.Tokens.{is_blank, is_printable, first_token, begins_with, lex, with_front, tokens_of}
 use Rattle.prem_spelling.specs.Spellings.{every}
 use Rattle.prem_spelling.specs.Division.{is_feed, has_close, ends_line, Gap, a_blank, a_block, a_line, opens_comment, IsToken, place_behind, Divides, up_to, gap, token, AreTokens, Sticks, is_text, Refused, too_long, too_many, no_text, no_token}
 use Rattle.prem_spelling.proofs.Marks.{same_front}
-use Rattle.prem_spelling.proofs.Front.{token_ready, Taken, token_taken}
+use Rattle.prem_spelling.proofs.Front.{token_ready, token_taken}
 use Rattle.prem_spelling.proofs.Steps.{cursor_behind, gap_passes, token_passes, token_refused, byte_refused, comment_refused}
 
 -- ---- what begins at the front of a text

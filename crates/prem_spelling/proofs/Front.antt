@@ -1,5 +1,5 @@
 -- The token at the front of a text.
-use Rattle.std.proofs.Common.{◌≡◌, ◌≤◌, ◌<◌, ℕ, zero, suc, Bool, true, false, List, [], ◌∷◌, ◌++◌, length, Option, None, Some, refl, sym, ap, subst, ◌∙◌, arith, nat_le, ◌&&◌, ◌==◌, not, cond, slice_index, take_while, option_map, le-leb, leb-true, if◌then◌else◌}
+use Rattle.std.proofs.Common.{◌≡◌, ◌≤◌, ℕ, Bool, true, false, List, [], ◌∷◌, ◌++◌, length, Option, None, Some, refl, sym, ap, subst, ◌∙◌, nat_le, ◌&&◌, not, cond, slice_index, take_while, option_map, le-leb, leb-true, if◌then◌else◌}
 use Rattle.std.proofs.lemmas.Bool.{and_parts, and_from, not-true}
 use Rattle.std.proofs.lemmas.List.Sums.{take_while-cons}
 use Rattle.prem_word.specs.declared.kind.Kind.{Kind}
@@ -8,10 +8,10 @@ use Rattle.prem_token.specs.declared.token.Mark.{Mark}
 use Rattle.prem_token.specs.Lexeme.{Lexeme, name, number, word, mark}
 use Rattle.prem_lexer.specs.Spelling.{reserved_word, longest_mark, marks}
 use Rattle.prem_lexer.specs.Literal.{literal_word}
-use Rattle.prem_lexer.specs.Tokens.{is_digit, is_name_byte, is_blank, is_printable, plain_word, word_token, first_token, begins_with}
+use Rattle.prem_lexer.specs.Tokens.{is_digit, is_name_byte, is_blank, is_printable, plain_word, word_token, first_token}
 use Rattle.prem_spelling.specs.Spellings.{StandsIn, every, is_letter, Literal, Reserved, Spells, as_name, as_word, as_literal, as_mark}
 use Rattle.prem_spelling.specs.Division.{goes_on, is_mark, opens_comment, IsToken}
-use Rattle.prem_spelling.proofs.Bytes.{letter_name, letter_digit, name_letter, digit_name, name_blank, name_printable, run_is, Run, run_of, run_longest}
+use Rattle.prem_spelling.proofs.Bytes.{letter_name, letter_digit, name_letter, digit_name, name_blank, name_printable, run_is, run_of, run_longest}
 use Rattle.prem_spelling.proofs.Literals.{literal_read, literal_found, is_number_row, literal_row}
 use Rattle.prem_spelling.proofs.Tables.{reserved_read, reserved_found, is_word_row, reserved_row}
 use Rattle.prem_spelling.proofs.Marks.{is_mark_byte, is_mark_text, mark_text, mark_read, MarkFront, front_mark}

@@ -5,3 +5,4 @@ pub mod Marks
 pub mod Front
 pub mod Steps
 pub mod Exact
+pub mod Examples

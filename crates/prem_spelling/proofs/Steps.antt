@@ -1,5 +1,5 @@
 -- What the lexer does at a gap, at a token, and where neither begins.
-use Rattle.std.proofs.Common.{◌≡◌, ◌≤◌, ◌<◌, ℕ, zero, suc, ◌+◌, ◌-◌, Bool, true, false, List, [], ◌∷◌, ◌++◌, length, Option, None, Some, Result, Ok, Err, refl, sym, ap, subst, ◌∙◌, arith, ◌&&◌, ◌||◌, ◌==◌, not, cond, slice_index, reverse, take_while, count_by, sum_by, append_assoc, append-nil, length-append, eqb-true, if◌then◌else◌}
+use Rattle.std.proofs.Common.{◌≡◌, ℕ, zero, suc, ◌+◌, ◌-◌, Bool, true, false, List, [], ◌∷◌, ◌++◌, length, None, Some, Result, Ok, Err, refl, sym, ap, subst, ◌∙◌, arith, ◌==◌, not, cond, reverse, take_while, count_by, append_assoc, append-nil, length-append, eqb-true, if◌then◌else◌}
 use Rattle.std.proofs.lemmas.Bool.{and_parts, or_parts, and_right}
 use Rattle.std.proofs.lemmas.List.{reverse-append}
 use Rattle.std.proofs.lemmas.List.Sums.{take_while-cons, sum_by-append, sum_by-cons}
@@ -14,7 +14,7 @@ use Rattle.prem_lexer.specs.declared.lexer.Cursor.{Cursor}
 use Rattle.prem_lexer.specs.Tokens.{is_blank, is_printable, first_token, place, behind, begins_with, start, step, put, lex, with_front}
 use Rattle.prem_spelling.specs.Spellings.{every}
 use Rattle.prem_spelling.specs.Division.{is_feed, has_close, ends_line, Gap, a_blank, a_block, a_line, opens_comment, IsToken, place_behind}
-use Rattle.prem_spelling.proofs.Front.{Ready, token_ready}
+use Rattle.prem_spelling.proofs.Front.{token_ready}
 
 -- ---- places
 
