@@ -1,12 +1,10 @@
-use Rattle.std.proofs.Common.{◌≡◌, ◌≤◌, ◌<◌, ◌+◌, ◌-◌, ◌++◌, ◌∷◌, [], suc, Ok, Err, Some, None, length, get_or, drop, refl, sym, ap, subst, ◌∙◌, arith, rules, vec_len, map, true, false, nat_lt}
-use Rattle.std.proofs.lemmas.Bool.Decides.{nat_tests}
+use Rattle.std.proofs.Common.{◌≡◌, ◌<◌, ◌-◌, ◌++◌, ◌∷◌, [], suc, Ok, Err, Some, None, length, drop, refl, sym, ap, ◌∙◌, arith, rules, vec_len, map}
 use Rattle.std.proofs.lemmas.Result.{err_from_is_err_and}
 use Rattle.std.proofs.lemmas.List.{map_push, take_rest}
-use Rattle.prem_token.specs.declared.fail.FrontFail.TheVariants.{TooLong, Token}
+use Rattle.prem_token.specs.declared.fail.FrontFail.TheVariants.{Token}
 use Rattle.prem_token.specs.Reading.{Fails}
 use Rattle.prem_token.specs.Lexeme.{seen_of, lexeme_of}
-use Rattle.prem_lexer.specs.declared.lexer.Mode.TheVariants.{Skip, Block}
-use Rattle.prem_lexer.specs.Tokens.{lex, beginning, step, behind, place, with_front, tokens_of, at_end}
+use Rattle.prem_lexer.specs.Tokens.{step, place, at_end}
 use Rattle.prem_lexer.proofs.Lexing.{passed, taken, full, wrong, whole, at_last, none_is, may_end}
 use Rattle.prem_lexer.proofs.lexer.tokens.Goals as goal
 use Rattle.prem_lexer.proofs.lexer.tokens.Goals.{in-Some+else-len-eq-TEXT_TOKENS+in_ok-push, in_default}
