@@ -11,6 +11,7 @@ use Rattle.prem_lexer.specs.Literal.{literal_word}
 use Rattle.prem_lexer.specs.Tokens.{first_token, start, step, lex, tokens_of}
 use Rattle.prem_spelling.specs.Spellings.{value_in}
 use Rattle.prem_spelling.specs.Division.{has_close, opens_comment, place_behind, AreTokens, Refused}
+use Rattle.prem_spelling.specs.Spelled.{Spelling, joined, placed}
 use Rattle.prem_spelling.proofs.Exact.{sound, refusals_sound}
 
 abbrev on : ℕ → ℕ → Lexeme → Seen
@@ -131,3 +132,14 @@ first_byte_decides = refusals_sound _ _ refl
 no_token_begins : Refused (codes "a;@" ++ (128 ∷ [])) (Token 1 3)
 unfolding tokens_of lex step start first_token reserved_word used_word is_unused longest_mark literal_word
 no_token_begins = refusals_sound _ _ refl
+
+-- ---- texts of spellings
+
+abbrev spellings : List Spelling
+spellings = (codes "x", name (codes "x")) ∷ (codes "/", mark m.Slash) ∷ (codes "0X0a", number 10 Int) ∷ []
+
+spelled_out : joined spellings ≡ codes "x / 0X0a"
+spelled_out = refl
+
+spelled_places : placed [] spellings ≡ on 1 1 (name (codes "x")) ∷ on 1 3 (mark m.Slash) ∷ on 1 5 (number 10 Int) ∷ []
+spelled_places = refl

@@ -19,7 +19,7 @@ use Rattle.prem_spelling.proofs.Marks.{is_mark_byte, is_mark_text, mark_text, ma
 -- ---- the shape of spellings
 
 -- bytes are a word of name bytes, or a mark
-data Shape : List ℕ → Type 0 where
+pub data Shape : List ℕ → Type 0 where
   a_word : (b : ℕ) (more : List ℕ) → is_name_byte b ≡ true → every is_name_byte more ≡ true → Shape (b ∷ more)
   a_mark : (bytes : List ℕ) (m : Mark) → StandsIn (bytes, m) marks → Shape bytes
 
@@ -31,7 +31,7 @@ number_shape : (bytes : List ℕ) → is_number_row bytes ≡ true → Shape byt
 number_shape [] row = absurd cc
 number_shape (b ∷ more) row = let parts = and_parts (is_digit b) (every is_name_byte more) row in a_word b more (digit_name b parts.0) parts.1
 
-shape : (bytes : List ℕ) (t : Lexeme) → Spells bytes t → Shape bytes
+pub shape : (bytes : List ℕ) (t : Lexeme) → Spells bytes t → Shape bytes
 shape _ _ (as_name b more letter all le free) = a_word b more (letter_name b letter) all
 shape _ _ (as_word bytes k r) = word_shape bytes (reserved_row bytes k r)
 shape _ _ (as_literal bytes n kind l) = number_shape bytes (literal_row bytes n kind l)
@@ -57,7 +57,7 @@ mark_no_name b is = not-true (is_name_byte b) (first_of_three (not (is_name_byte
     first_of_three true y z e = refl
     first_of_three false y z e = e
 
-mark_no_blank : (b : ℕ) → is_mark_byte b ≡ true → is_blank b ≡ false
+pub mark_no_blank : (b : ℕ) → is_mark_byte b ≡ true → is_blank b ≡ false
 mark_no_blank b is = not-true (is_blank b) (second_of_three (not (is_name_byte b)) (not (is_blank b)) (is_printable b) is)
   where
     second_of_three : (x y z : Bool) → (x && y && z) ≡ true → y ≡ true

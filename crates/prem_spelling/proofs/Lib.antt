@@ -6,3 +6,4 @@ pub mod Front
 pub mod Steps
 pub mod Exact
 pub mod Examples
+pub mod Joined

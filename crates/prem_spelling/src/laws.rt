@@ -1,9 +1,10 @@
 // What the lexer reads, and how a text divides into tokens.
-ghost use Rattle.std.specs.Prelude.{◌≡◌, ℕ, List, [], Ok, Err};
+ghost use Rattle.std.specs.Prelude.{◌≡◌, ◌≤◌, ◌++◌, ◌∷◌, ℕ, List, [], length, Ok, Err};
 ghost use Rattle.prem_token.specs.declared.fail.FrontFail.{FrontFail};
-ghost use Rattle.prem_token.specs.Lexeme.{Seen};
+ghost use Rattle.prem_token.specs.Lexeme.{Seen, end_of_text};
 ghost use Rattle.prem_lexer.specs.Tokens.{tokens_of};
-ghost use Rattle.prem_spelling.specs.Division.{Divides, AreTokens, Refused};
+ghost use Rattle.prem_spelling.specs.Division.{Divides, AreTokens, Refused, place_behind};
+ghost use Rattle.prem_spelling.specs.Spelled.{Spelling, AreSpellings, joined, placed};
 
 /// The lexer is exact. What it gives for a text are the tokens into which the text divides, each with the place of
 /// its first byte, and the end with the place behind the last byte; and the tokens of a text of at most 1048576 bytes
@@ -21,4 +22,10 @@ pub fn divisions_are_exact()
 pub fn refusals_are_exact()
     ensures sound { (text : List ℕ) (fail : FrontFail) → tokens_of text ≡ Err fail → Refused text fail }
     ensures complete { (text : List ℕ) (fail : FrontFail) → Refused text fail → tokens_of text ≡ Err fail }
+{}
+
+/// Whatever tokens are spelled with a blank between each two, the lexer gives just these, within its limits.
+pub fn spelled_tokens_are_read()
+    ensures { (xs : List Spelling) → AreSpellings xs → length (joined xs) ≤ 1048576 → length xs ≤ 200000
+        → tokens_of (joined xs) ≡ Ok (placed [] xs ++ (end_of_text, place_behind (joined xs)) ∷ []) }
 {}

@@ -6,4 +6,4 @@
 
 mod laws;
 
-pub use laws::{divisions_are_exact, refusals_are_exact};
+pub use laws::{divisions_are_exact, refusals_are_exact, spelled_tokens_are_read};
