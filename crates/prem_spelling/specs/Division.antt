@@ -1,5 +1,5 @@
 -- What a text's division into tokens is, apart from any reader.
-use Rattle.std.specs.Prelude.{◌≡◌, ℕ, ◌+◌, ◌<◌, ◌≤◌, ◌==◌, Bool, true, false, ◌||◌, not, List, [], ◌∷◌, ◌++◌, length, reverse, take_while, count_by}
+use Rattle.std.specs.Prelude.{◌≡◌, ℕ, ◌+◌, ◌<◌, ◌≤◌, ◌==◌, Bool, true, false, ◌||◌, not, List, [], ◌∷◌, ◌++◌, length, reverse, take_while, count_by, codes}
 use Rattle.prem_tree.specs.declared.tree.Place.{Place}
 use Rattle.prem_token.specs.declared.fail.FrontFail.{FrontFail}
 use Rattle.prem_token.specs.declared.fail.FrontFail.TheVariants.{NotText, Token, TooLong}
@@ -25,8 +25,8 @@ ends_line (b ∷ rest) = is_feed b
 -- bytes that may stand between tokens, before the rest of a text: a blank, a comment `/* .. */` that its first `*/` ends, or one `// ..` up to the end of its line
 pub data Gap : List ℕ → List ℕ → Type 0 where
   a_blank : (b : ℕ) (rest : List ℕ) → is_blank b ≡ true → Gap (b ∷ []) rest
-  a_block : (body rest : List ℕ) → has_close body ≡ false → Gap (47 ∷ 42 ∷ body ++ 42 ∷ 47 ∷ []) rest
-  a_line : (body rest : List ℕ) → every (λ b. not (is_feed b)) body ≡ true → ends_line rest ≡ true → Gap (47 ∷ 47 ∷ body) rest
+  a_block : (body rest : List ℕ) → has_close body ≡ false → Gap (codes "/*" ++ body ++ codes "*/") rest
+  a_line : (body rest : List ℕ) → every (λ b. not (is_feed b)) body ≡ true → ends_line rest ≡ true → Gap (codes "//" ++ body) rest
 
 -- ---- a token in a text
 
@@ -39,6 +39,7 @@ abbrev pub goes_on : List ℕ → Bool
 goes_on [] = false
 goes_on (b ∷ rest) = is_name_byte b
 
+-- `/*` or `//`
 abbrev pub opens_comment : List ℕ → Bool
 opens_comment text = begins_with 47 42 text || begins_with 47 47 text
 

@@ -1,5 +1,5 @@
 -- How each token is spelled.
-use Rattle.std.specs.Prelude.{◌≡◌, ℕ, ◌+◌, ◌*◌, ◌^◌, ◌<◌, ◌≤◌, ◌==◌, Bool, true, false, ◌&&◌, ◌||◌, nat_lt, nat_le, List, [], ◌∷◌, ◌++◌, length}
+use Rattle.std.specs.Prelude.{◌≡◌, ℕ, ◌+◌, ◌*◌, ◌^◌, ◌<◌, ◌≤◌, ◌==◌, Bool, true, false, ◌&&◌, ◌||◌, nat_lt, nat_le, List, [], ◌∷◌, ◌++◌, length, codes}
 use Rattle.prem_word.specs.declared.kind.Kind.{Kind}
 use Rattle.prem_word.specs.declared.kind.Kind.TheVariants.{Int, Unsigned}
 use Rattle.prem_token.specs.declared.token.Word.{Word}
@@ -31,9 +31,9 @@ value_in base (d ∷ ds) = digit_value d * base ^ length ds + value_in base ds
 
 -- `0`, or decimal digits without a leading zero, or `0x` or `0X` and hexadecimal digits, which the flag tells; and their number
 pub data Digits : Bool → List ℕ → ℕ → Type 0 where
-  just_zero : Digits false (48 ∷ []) 0
+  just_zero : Digits false (codes "0") 0
   decimal : (d : ℕ) (ds : List ℕ) → every is_digit (d ∷ ds) ≡ true → (d == 48) ≡ false → Digits false (d ∷ ds) (value_in 10 (d ∷ ds))
-  hexadecimal : (x d : ℕ) (ds : List ℕ) → (x == 120 || x == 88) ≡ true → every is_hexadecimal (d ∷ ds) ≡ true → Digits true (48 ∷ x ∷ d ∷ ds) (value_in 16 (d ∷ ds))
+  hexadecimal : (x d : ℕ) (ds : List ℕ) → (x == 120 || x == 88) ≡ true → every is_hexadecimal (d ∷ ds) ≡ true → Digits true (codes "0" ++ x ∷ d ∷ ds) (value_in 16 (d ∷ ds))
 
 -- without a suffix a literal is int up to 2147483647, and a hexadecimal one past it unsigned; with `u` or `U` it is unsigned
 pub data Literal : List ℕ → ℕ → Kind → Type 0 where
