@@ -48,6 +48,7 @@ impl Machine {
     ghost use Rattle.prem_cycle.specs.Run.{cycles_of, wants_input_of};
     ghost use Rattle.prem_cycle.specs.FactsOf.{has_room_for_word, report_in, report_of, stop_of, with_input};
     ghost use Rattle.prem_machine.specs.States.{requests_in, setup_in, state_of, with_state};
+    ghost use Rattle.prem_machine.specs.Appended.{RunExtends};
 
     /// The machine before the first cycle of a run of an image. It fails only for want of memory, of which it takes
     /// all here that the run needs.
@@ -118,11 +119,15 @@ impl Machine {
 
     /// Puts a word behind the input words of a task. It answers false where the task has 100000 of them, taken
     /// ones counted, and then nothing changes.
+    ///
+    /// Where the task has not read past the end of its words so far, the state is then that of the run which has
+    /// had the word from the start.
     pub fn append_input(&mut self, t: TaskId, word: u32) -> bool
         requires { t < length (setup_in self.old).tasks }
         ensures room { result ≡ has_room_for_word t (state_of self.old) }
         ensures appended { result ≡ true → self.new ≡ with_state self.old (with_input t word (state_of self.old)) }
         ensures kept { result ≡ false → self.new ≡ self.old }
+        ensures extends { result ≡ true → RunExtends t word self.old self.new }
     {
         let core = &mut self.parts.work.cores[usize::from(t)];
         core.append_input(word)
