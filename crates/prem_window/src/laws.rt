@@ -14,12 +14,12 @@ pub fn transfers_lie_inside_windows()
 
 /// In a cycle in which a task issues that isn't in its execution phase, no transfer is carried, none starts, and none
 /// ends, so the bus leaves memory as it was: an instruction of a compatible interval or of a memory phase meets none.
-pub fn transfers_keep_off_other_phases()
+pub fn instructions_outside_execution_meet_no_transfer()
     ensures { QuietOutsideExecution }
 {}
 
 /// Whether the coming cycle takes an input word that isn't there, and of which task, is seen on the state before it: no
 /// request and no transfer of that cycle changes it.
-pub fn inputs_are_wanted_by_the_state()
+pub fn wanted_inputs_are_seen_before_the_cycle()
     ensures { WantsAreSeen }
 {}
