@@ -1,0 +1,3 @@
+pub mod Inner
+pub mod Whole
+pub mod Examples
