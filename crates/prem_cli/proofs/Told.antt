@@ -6,7 +6,7 @@ use Rattle.std.proofs.lemmas.Bool.{le-leb}
 use Rattle.std.proofs.lemmas.Bool.Decides.{nat_tests}
 use Rattle.std.proofs.lemmas.List.{length-replicate}
 use Rattle.prem_io.specs.Files.{Files, stored}
-use Rattle.prem_front.specs.Reads.{reads}
+use Rattle.prem_text.specs.Texts.{reads}
 use Rattle.prem_cli.specs.declared.top.Status.{Status}
 use Rattle.prem_cli.specs.declared.top.Status.TheVariants.{Usage, Form, Missing, ReadFault, OutOfMemory}
 use Rattle.prem_cli.specs.Answer.{one_file, source_answer, file_answer, command_answer, answer, IsAnswer, Answered}

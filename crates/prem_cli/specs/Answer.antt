@@ -11,7 +11,7 @@ use Rattle.prem_token.specs.declared.fail.FrontFail.{FrontFail}
 use Rattle.prem_token.specs.declared.fail.FrontFail.TheVariants.{NotText, Token, Syntax, TooLong, TooDeep, OutOfMemory as NoMemory}
 use Rattle.prem_small.specs.Small.{is_small, body_of}
 use Rattle.prem_small.specs.Runs.{machine_run, outputs_of}
-use Rattle.prem_front.specs.Reads.{reads}
+use Rattle.prem_text.specs.Texts.{reads}
 use Rattle.prem_cli.specs.declared.top.Status.{Status}
 use Rattle.prem_cli.specs.declared.top.Status.TheVariants.{Done, Refused, Usage, Form, ReadFault, WriteFault, OutOfMemory, Missing}
 

@@ -3,7 +3,7 @@ ghost use Rattle.std.specs.Prelude.{◌≡◌, ◌≤◌, ◌⊎◌, IfOk, IsErr
 ghost use Rattle.prem_io.specs.Counts.{Rose};
 ghost use Rattle.prem_tree.specs.SyntaxOf.{program_of};
 ghost use Rattle.prem_cli.specs.Answer.{program_answer, source_answer, is_settled, Ends, Answered, IsAnswer};
-ghost use Rattle.prem_front.specs.Reads.{reads};
+ghost use Rattle.prem_text.specs.Texts.{reads};
 ghost use Rattle.prem_cli.specs.declared.top.Stop.TheVariants.{OutOfMemory};
 
 use crate::machine::run_text;

@@ -1,2 +1,1 @@
 pub mod StageOf
-pub mod Reads

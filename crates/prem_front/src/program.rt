@@ -6,7 +6,7 @@ ghost use Rattle.prem_token.specs.Reading.{Gives};
 ghost use Rattle.prem_token.specs.Lexeme.{seen_of};
 ghost use Rattle.prem_grammar.specs.Reader.{at_end, read};
 ghost use Rattle.prem_front.specs.StageOf.{stage_of};
-ghost use Rattle.prem_front.specs.Reads.{reads};
+ghost use Rattle.prem_text.specs.Texts.{reads};
 
 use crate::item::{is_too_deep, step};
 use crate::stage::{Stage, Step};

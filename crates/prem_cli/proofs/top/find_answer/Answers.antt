@@ -1,6 +1,6 @@
 use Rattle.std.proofs.Common.{◌≡◌, ◌≤◌, refl, ap, ◌∙◌, sym, length, subst}
 use Rattle.prem_cli.specs.Answer.{source_answer}
-use Rattle.prem_front.specs.Reads.{reads}
+use Rattle.prem_text.specs.Texts.{reads}
 use Rattle.prem_cli.proofs.Told.{usage_is, found_is, missing_is, too_long_is}
 use Rattle.prem_cli.proofs.top.find_answer.Goals as goal
 
