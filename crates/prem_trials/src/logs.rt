@@ -34,16 +34,43 @@ fn limits_may_come_anywhere(rt: HostRuntime) -> Result<(), Fail> {
     Ok(())
 }
 
-// pm.out x0; jal x0,-4. The first one's line is filled in 10 cycles, and from cycle 33 on there is a word every three
-// cycles: the last one comes in cycle 30 + 3 * 262143.
+/// pm.out x0
+const OUTS: [u32; 63] = [0x0000_500b; 63];
+
+/// addi x5,x0,2, and then pm.mem, pm.exec x5 and pm.end five times.
+const PHASES: [u32; 16] = [
+    0x0020_0293,
+    0x0000_000b,
+    0x0002_900b,
+    0x0000_200b,
+    0x0000_000b,
+    0x0002_900b,
+    0x0000_200b,
+    0x0000_000b,
+    0x0002_900b,
+    0x0000_200b,
+    0x0000_000b,
+    0x0002_900b,
+    0x0000_200b,
+    0x0000_000b,
+    0x0002_900b,
+    0x0000_200b,
+];
+
+// Behind the outputs stands jal x0,-252. All is one line, which is filled in the cycles 21 to 30. A turn takes 65
+// cycles, so the last word, which is the first one of turn 4162, comes in cycle 30 + 65 * 4161.
 #[test]
 fn output_log_fills(rt: HostRuntime) -> Result<(), Fail> {
-    let trial = alone(&[0x0000_500b, 0xffdf_f06f], &[(1000, 1, 0, 0)]);
+    let trial = Trial {
+        plant: Plant { line: 256, ..PLANT },
+        behind: &[0xf05f_f06f],
+        ..alone(&OUTS, &[(1000, 1, 0, 0)])
+    };
     let mut machine = machine(&rt, rt.alloc(), &trial)?;
     assert!(rt; machine.now() == 0);
     let stop = machine.run_to(1_000_000);
     assert_eq!(rt; stop, Stop::LogFull { length: LOG });
-    assert_eq!(rt; machine.now(), 786_460);
+    assert_eq!(rt; machine.now(), 270_496);
     let facts = machine.facts();
     let put_out = facts
         .tasks
@@ -53,36 +80,32 @@ fn output_log_fills(rt: HostRuntime) -> Result<(), Fail> {
     assert_eq!(rt; put_out, Some(LOG as usize));
     assert_eq!(rt;
         (facts.hits, facts.misses, facts.intervals.items().len()),
-        (524_286, 1, 0)
+        (266_304, 1, 0)
     );
     Ok(())
 }
 
-// addi x5,x0,2, and then pm.mem, pm.exec x5, pm.end and jal x0,-12 in a loop. Without a switch, and but for the misses
-// of the two lines in the cycles 0 and 14, a turn takes five cycles: three of a compatible interval and two of a
-// predictable one. The second turn ends with cycle 28, so the last one of 131072 does with cycle 28 + 5 * 131070.
+// Behind the phases stands jal x0,-60. All is one line, which is filled in the cycles 1 to 10, and a switch takes no
+// cycle. A turn has ten intervals, of one cycle or of two, and takes 17 cycles with the jump: turn 1 ends with cycle
+// 25, and turn 26214 with cycle 25 + 17 * 26213. Four intervals of the next one are left, for which 8 cycles pass.
 #[test]
 fn interval_log_fills(rt: HostRuntime) -> Result<(), Fail> {
     let trial = Trial {
-        plant: Plant { switch: 0, ..PLANT },
-        ..alone(
-            &[
-                0x0020_0293,
-                0x0000_000b,
-                0x0002_900b,
-                0x0000_200b,
-                0xff5f_f06f,
-            ],
-            &[(1000, 1, 0, 0)],
-        )
+        plant: Plant {
+            line: 256,
+            switch: 0,
+            ..PLANT
+        },
+        behind: &[0xfc5f_f06f],
+        ..alone(&PHASES, &[(1000, 1, 0, 0)])
     };
     let mut machine = machine(&rt, rt.alloc(), &trial)?;
     assert!(rt; machine.now() == 0);
     let stop = machine.run_to(1_000_000);
     assert_eq!(rt; stop, Stop::LogFull { length: LOG });
-    assert_eq!(rt; machine.now(), 655_379);
+    assert_eq!(rt; machine.now(), 445_655);
     let facts = machine.facts();
     assert_eq!(rt; facts.intervals.items().len(), LOG as usize);
-    assert_eq!(rt; (facts.hits, facts.misses, facts.overruns), (524_286, 2, 0));
+    assert_eq!(rt; (facts.hits, facts.misses, facts.overruns), (419_430, 1, 0));
     Ok(())
 }
