@@ -1,6 +1,6 @@
 -- Answers over the files that a store tells, or over some where it tells none.
-use Rattle.std.proofs.Common.{◌≡◌, ◌≤◌, ◌<◌, ℕ, ◌+◌, List, [], ◌∷◌, ◌++◌, length, Bool, true, false, ◌&&◌, Option, None, Some, IfSome, IsSomeAnd, refl, ap, ◌∙◌, sym, arith, eq-eqb, nat_le, subst, lit<}
-use Rattle.std.specs.Prelude.{if◌then◌else◌, ◌==◌, replicate, unwrap_or, codes}
+use Rattle.std.proofs.Common.{◌≡◌, ◌≤◌, ◌<◌, ℕ, ◌+◌, List, [], ◌∷◌, ◌++◌, length, true, false, ◌&&◌, Option, None, Some, IfSome, IsSomeAnd, refl, ap, ◌∙◌, sym, arith, eq-eqb, nat_le, subst, lit<}
+use Rattle.std.specs.Prelude.{if◌then◌else◌, replicate, codes}
 use Rattle.std.specs.Str.{bytes_eq}
 use Rattle.std.proofs.lemmas.Bool.{le-leb}
 use Rattle.std.proofs.lemmas.Bool.Decides.{nat_tests}

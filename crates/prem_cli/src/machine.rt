@@ -22,7 +22,7 @@ use std::alloc::{AllocError, Global};
 /// The cycles that a run takes at most.
 const CYCLE_LIMIT: u64 = 10_000_000;
 
-// What a run of one task is given where no word and no request comes in.
+/// What a run of one task is given where no word and no request comes in.
 fn no_input(alloc: Global) -> Result<RunInput, AllocError>
     ensures words { IfOk result (λ r. words_of r ≡ [] ∷ []) }
     ensures requests { IfOk result (λ r. items_of r.requests ≡ []) }
@@ -35,7 +35,7 @@ fn no_input(alloc: Global) -> Result<RunInput, AllocError>
     })
 }
 
-// The machine behind one job of a small program.
+/// The machine behind one job of a small program.
 fn run_job(alloc: Global, program: &Program) -> Result<Machine, AllocError>
     requires { is_small (program_of program.now) ≡ true }
     ensures { IfOk result (λ m. state_of m ≡ machine_run (body_of (program_of program.now)) cycle_limit) }
@@ -47,7 +47,7 @@ fn run_job(alloc: Global, program: &Program) -> Result<Machine, AllocError>
     Ok(machine)
 }
 
-// The words that the first task has put out.
+/// The words that the first task has put out.
 fn first_outputs(facts: &Facts) -> &[u32]
     ensures { result.now ≡ first_outputs (report_in facts.now).tasks }
 {

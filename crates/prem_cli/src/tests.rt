@@ -12,7 +12,7 @@ fn words(alloc: Global, texts: &[&str]) -> Result<Vec<String>, AllocError> {
     Ok(all)
 }
 
-// A status with the bytes written, of `one a.c` over this source.
+/// A status with the bytes written, of `one a.c` over this source.
 fn one(alloc: Global, source: &[u8]) -> Result<(Status, Vec<u8>), AllocError> {
     let mut files = FileMap::new(alloc);
     let _added = files.add(alloc, "a.c", source)?;
@@ -90,7 +90,7 @@ fn answers_to_sources(rt: HostRuntime) -> Result<(), Fail> {
     Ok(())
 }
 
-// A source of this many statements `out(1);`.
+/// A source of this many statements `out(1);`.
 fn ones(alloc: Global, statements: usize) -> Result<String, AllocError> {
     let mut source = String::from_str(alloc, "void job(void){")?;
     for _ in 0..statements {
@@ -100,7 +100,7 @@ fn ones(alloc: Global, statements: usize) -> Result<String, AllocError> {
     Ok(source)
 }
 
-// A source of one statement, whose expression has one literal and this many additions of 1.
+/// A source of one statement, whose expression has one literal and this many additions of 1.
 fn sum(alloc: Global, additions: usize) -> Result<String, AllocError> {
     let mut source = String::from_str(alloc, "void job(void){ out(1")?;
     for _ in 0..additions {

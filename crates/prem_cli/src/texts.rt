@@ -43,7 +43,7 @@ pub fn too_long(alloc: Global, name: &str) -> Result<Answer, AllocError>
     })
 }
 
-// The line of one output word, in unsigned decimal.
+/// The line of one output word, in unsigned decimal.
 fn line(alloc: Global, word: u32) -> Result<String, AllocError>
     ensures { IfOk result (λ s. string_bytes s ≡ output_line word) }
 {

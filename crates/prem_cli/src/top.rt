@@ -19,21 +19,30 @@ use std::alloc::{AllocError, Global};
 /// How the program ends; the exit status is the variant's place, from 0.
 #[derive(Clone, Copy, Debug, PartialEq, Eq)]
 pub enum Status {
+    /// The answer is written.
     Done,
+    /// The text is no program, or its program isn't built yet.
     Refused,
+    /// The words are no command.
     Usage,
+    /// A file is not in its form.
     Form,
+    /// The store counted a fault; nothing is written.
     ReadFault,
+    /// The sink counted a fault; a part of the answer is written.
     WriteFault,
+    /// There was no memory; nothing is written.
     OutOfMemory,
+    /// There is no such file.
     Missing,
+    /// A run was stopped by a trap. No command answers so yet.
     Trap,
 }
 
 /// The greatest number of bytes of a source.
 const SOURCE_LIMIT: usize = 1048576;
 
-// Why there is no answer.
+/// Why there is no answer.
 #[derive(Clone, Copy)]
 enum Stop {
     ReadFault,
@@ -48,7 +57,7 @@ impl From<AllocError> for Stop {
     }
 }
 
-// The answer to a program.
+/// The answer to a program.
 fn program_answer(alloc: Global, program: &Program) -> Result<Answer, AllocError>
     ensures answer { IfOk result (λ a. (a.status, a.text.items) ≡ program_answer (program_of program.now)) }
     ensures settled { IfOk result (λ a. IsTrue (is_settled a.status)) }
@@ -63,7 +72,7 @@ fn program_answer(alloc: Global, program: &Program) -> Result<Answer, AllocError
     })
 }
 
-// The answer to a source: the refusal of its tokens or grammar, else that to its program.
+/// The answer to a source: the refusal of its tokens or grammar, else that to its program.
 fn source_answer(alloc: Global, source: &[u8]) -> Result<Answer, AllocError>
     ensures answer { IfOk result (λ a. (a.status, a.text.items) ≡ source_answer (reads source.now)) }
     ensures settled { IfOk result (λ a. IsTrue (is_settled a.status)) }
@@ -80,7 +89,7 @@ fn source_answer(alloc: Global, source: &[u8]) -> Result<Answer, AllocError>
     }
 }
 
-// The answer to the words, over what the store gives.
+/// The answer to the words, over what the store gives.
 fn find_answer<S: Store>(alloc: Global, words: &[String], store: &mut S) -> Result<Answer, Stop>
     ensures found { IfOk result (λ a. IsAnswer (map string_bytes words.now) (S.files store.old) (a.status, a.text.items)) }
     ensures settled { IfOk result (λ a. IsTrue (is_settled a.status)) }
@@ -101,7 +110,7 @@ fn find_answer<S: Store>(alloc: Global, words: &[String], store: &mut S) -> Resu
     }
 }
 
-// Writes an answer.
+/// Writes an answer.
 fn finish<K: Sink>(sink: &mut K, answer: Answer) -> Status
     requires { IsTrue (is_settled answer.status) }
     ensures ends { Ends (answer.status, answer.text.items) (K.bytes sink.old) (K.bytes sink.new) result }
@@ -117,7 +126,7 @@ fn finish<K: Sink>(sink: &mut K, answer: Answer) -> Status
 
 /// Does what the words say: reads from the store, and writes the whole answer to the sink.
 ///
-/// The stages are the words, the source, its rules, the run and the writing; the first one that
+/// The stages are the words, the source, the run and the writing; the first one that
 /// doesn't go through decides. The text is built whole before the first write, and writing takes no
 /// memory. The answer is that to the store's files where the store tells them, else to some files.
 pub fn prem<S: Store, K: Sink>(

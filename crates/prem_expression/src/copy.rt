@@ -6,7 +6,7 @@ ghost use Rattle.prem_tree.specs.SyntaxOf.{expression_of};
 use prem_tree::{Expr, Name};
 use std::alloc::{AllocError, Global};
 
-/// A copy of a name.
+/// A copy of a name. It fails only for want of memory.
 pub fn copy_name(alloc: Global, name: &Name) -> Result<Name, AllocError>
     ensures { IfOk result (λ copy. name_bytes copy ≡ name_bytes name.now) }
 {
@@ -16,7 +16,7 @@ pub fn copy_name(alloc: Global, name: &Name) -> Result<Name, AllocError>
     Ok(copy)
 }
 
-/// A copy of an expression, with the places of its parts.
+/// A copy of an expression, with the places of its parts. It fails only for want of memory.
 pub fn copy_expression(alloc: Global, expression: &Expr) -> Result<Expr, AllocError>
     ensures { IfOk result (λ copy. expression_of copy ≡ expression_of expression.now) }
 {

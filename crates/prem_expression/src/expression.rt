@@ -88,7 +88,7 @@ fn infix_of(mark: Mark) -> Option<BinOp>
     }
 }
 
-// The level of an operator, from the loosest to the tightest.
+/// The level of an operator, from the loosest to the tightest.
 fn level_of(op: BinOp) -> u32
     ensures { result ≡ level_of op }
 {
@@ -117,7 +117,7 @@ fn prefix_of(mark: Mark) -> Option<UnOp>
     }
 }
 
-// An operand with the open operators that bind it before an operator of a level does.
+/// An operand with the open operators that bind it before an operator of a level does.
 fn bind(alloc: Global, level: u32, value: Expr, around: Open) -> Result<(Expr, Open), AllocError>
     ensures { IfOk result (λ r. (expression_of r.0, open_of r.1) ≡ bind level (expression_of value) (open_of around)) }
 {
@@ -199,7 +199,7 @@ fn operand(alloc: Global, around: Open, token: &Token, at: Place) -> Result<Move
     Ok(Move::Goes { state })
 }
 
-// An operator behind an operand; at the bottom those looser than a level are behind the expression.
+/// An operator behind an operand; at the bottom those looser than a level are behind the expression.
 fn operator(
     alloc: Global,
     least: u32,
@@ -226,7 +226,7 @@ fn operator(
     })
 }
 
-// A token behind an operand that is no operator.
+/// A token behind an operand that is no operator.
 fn closing(alloc: Global, value: Expr, around: Open, token: &Token) -> Result<Move, AllocError>
     ensures { IfOk result (λ m. move_of m ≡ closing (expression_of value, open_of around) (lexeme_of token.now)) }
 {
@@ -251,7 +251,7 @@ fn closing(alloc: Global, value: Expr, around: Open, token: &Token) -> Result<Mo
     }
 }
 
-// A token behind an operand.
+/// A token behind an operand.
 fn behind(
     alloc: Global,
     least: u32,
@@ -273,6 +273,7 @@ fn behind(
 
 /// What a token is to the expression of which `state` has been read. Operators looser than `least`
 /// don't belong to it, outside parentheses and brackets; the levels go from 1, `||`, to 10, `*`.
+/// It fails only for want of memory.
 pub fn advance(
     alloc: Global,
     least: u32,

@@ -1,5 +1,5 @@
 -- A refusal passed on.
-use Rattle.std.proofs.Common.{◌≡◌, Result, ap}
+use Rattle.std.proofs.Common.{Result, ap}
 use Rattle.prem_token.specs.declared.fail.FrontFail.{FrontFail}
 use Rattle.prem_token.specs.declared.fail.FrontFail.TheVariants.{NotText, Token, Syntax, TooLong, TooDeep, OutOfMemory}
 use Rattle.prem_token.specs.Reading.{◌>>=◌, Fails}

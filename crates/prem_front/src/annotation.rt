@@ -62,7 +62,7 @@ pub(crate) fn behind_mark(alloc: Global, mark: Mark, spotted: &Spotted) -> Resul
     }
 }
 
-// A mark with one more region.
+/// A mark with one more region.
 fn with_region(mut mark: Mark, region: Region) -> Result<Mark, AllocError>
     ensures { IfOk result (λ m. mark_of m ≡ with_region (mark_of mark) (region_of region)) }
 {

@@ -123,7 +123,7 @@ pub(crate) fn value_begins(value: Value) -> Stage
     }
 }
 
-// A token behind the last statement.
+/// A token behind the last statement.
 fn body_ends(function: Function, spotted: &Spotted) -> Step
     ensures { step_of result ≡ body_ends (function_of function) (seen_of spotted.now) }
 {
@@ -175,7 +175,7 @@ pub(crate) fn local_begins(
     Ok(statement_step(function, taken, spotted))
 }
 
-// The `;` behind an expression outside statements.
+/// The `;` behind an expression outside statements.
 fn value_ends(
     alloc: Global,
     what: Value,

@@ -45,7 +45,7 @@ pub(crate) fn begin_row(
     })
 }
 
-// A global without a length and an initial value.
+/// A global without a length and an initial value.
 fn scalar(ty: Ty, at: Place, name: Name) -> Variable
     ensures { global_of result ≡ scalar ty at (name_bytes name) }
 {
@@ -100,7 +100,7 @@ pub(crate) fn global_ends(global: Variable, spotted: &Spotted) -> Step
     Step::Refused
 }
 
-// A function of which only the beginning is read.
+/// A function of which only the beginning is read.
 fn new_function(alloc: Global, mark: Option<Mark>, ty: Ty, at: Place, name: Name) -> Function
     ensures { function_of result ≡ new_function (option_map mark_of mark) ty at (name_bytes name) }
 {
@@ -116,7 +116,7 @@ fn new_function(alloc: Global, mark: Option<Mark>, ty: Ty, at: Place, name: Name
     }
 }
 
-// A token behind the name of a global; behind a mark there is none.
+/// A token behind the name of a global; behind a mark there is none.
 fn global_or(
     alloc: Global,
     mark: Option<Mark>,
@@ -158,7 +158,7 @@ pub(crate) fn item_goes_on(
     global_or(alloc, mark, ty, at, name, spotted)
 }
 
-// The whole number of a literal, made negative by `-`.
+/// The whole number of a literal, made negative by `-`.
 fn number_of(negative: bool, value: u32) -> i64
     ensures { result ≡ number_of negative value }
 {
@@ -169,7 +169,7 @@ fn number_of(negative: bool, value: u32) -> i64
     }
 }
 
-// The `-` of a constant stands once.
+/// The `-` of a constant stands once.
 fn minus_once(what: Constant, negative: bool) -> Step
     ensures { step_of result ≡ minus_once (constant_of what) negative }
 {
@@ -219,7 +219,7 @@ fn with_range(param: Param, low: i64, high: i64) -> Param
     }
 }
 
-// A token behind an element of a list of constants.
+/// A token behind an element of a list of constants.
 fn element_ends(
     alloc: Global,
     global: Variable,
@@ -248,7 +248,7 @@ fn element_ends(
     begin_row(alloc, row, spotted, Slot::Semicolon, &NOTHING)
 }
 
-// A token behind the upper limit of a parameter's range.
+/// A token behind the upper limit of a parameter's range.
 fn range_ends(
     function: Function,
     param: Param,
@@ -267,7 +267,7 @@ fn range_ends(
     })
 }
 
-// A token behind the initial value of a scalar.
+/// A token behind the initial value of a scalar.
 fn scalar_ends(global: Variable, value: i64, spotted: &Spotted) -> Step
     ensures { step_of result ≡ constant_ends (only_value (global_of global)) value (seen_of spotted.now) }
 {

@@ -22,7 +22,7 @@ use prem_token::Spotted;
 use prem_tree::Item;
 use std::alloc::{AllocError, Global};
 
-// A row has all its tokens.
+/// A row has all its tokens.
 fn row_ends(alloc: Global, row: ItemRow, got: &[Spotted]) -> Result<Step, AllocError>
     ensures { IfOk result (λ s. step_of s ≡ row_ends (row_of row) (map seen_of got.now)) }
 {
@@ -83,7 +83,7 @@ fn row_goes_on(
     }
 }
 
-// A token in a row.
+/// A token in a row.
 fn in_row(
     alloc: Global,
     row: ItemRow,

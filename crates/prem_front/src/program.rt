@@ -16,7 +16,7 @@ use prem_token::{FrontFail, Spotted};
 use prem_tree::{Item, Place, Program};
 use std::alloc::Global;
 
-// No program has the token at a place.
+/// No program has the token at a place.
 fn syntax(at: Place) -> FrontFail
     ensures { result ≡ FrontFail.Syntax at.line at.col }
 {
@@ -26,7 +26,7 @@ fn syntax(at: Place) -> FrontFail
     }
 }
 
-// The program of these items, where the end of the text is the last token.
+/// The program of these items, where the end of the text is the last token.
 fn at_end(items: Sequence<Item>, stage: Stage) -> Result<Program, FrontFail>
     ensures { Gives program_of result (at_end (map item_of (items_of items)) (stage_of stage)) }
 {
@@ -50,7 +50,7 @@ fn at_end(items: Sequence<Item>, stage: Stage) -> Result<Program, FrontFail>
     }
 }
 
-// The program that tokens are, the last of which is the end of the text.
+/// The program that tokens are, the last of which is the end of the text.
 fn read(alloc: Global, all: &[Spotted]) -> Result<Program, FrontFail>
     ensures { Gives program_of result (read (map seen_of all.now)) }
 {

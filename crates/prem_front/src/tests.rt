@@ -135,7 +135,7 @@ void job(void){ for (i = 0; i < 9; i++) => syntax 1 40
 void job(void){ BOUNDED(5) while (x) => syntax 1 37
 ";
 
-// The number of items of a text, or why it has no tree.
+/// The number of items of a text, or why it has no tree.
 fn outcome(alloc: Global, text: &[u8]) -> Result<String, AllocError> {
     match parse(alloc, text) {
         Ok(program) => {
@@ -151,7 +151,7 @@ fn outcome(alloc: Global, text: &[u8]) -> Result<String, AllocError> {
     }
 }
 
-// A text that repeats two pieces, one before and one behind a middle.
+/// A text that repeats two pieces, one before and one behind a middle.
 fn repeated(
     alloc: Global,
     piece: &str,

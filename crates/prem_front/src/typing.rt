@@ -50,7 +50,7 @@ fn behind_unsigned(word: Word) -> Option<Typing>
     }
 }
 
-// A further word of a type.
+/// A further word of a type.
 fn type_word(typing: Typing, word: Word) -> Option<Typing>
     ensures { option_map typing_of result ≡ type_word (typing_of typing) word }
 {
@@ -62,7 +62,7 @@ fn type_word(typing: Typing, word: Word) -> Option<Typing>
     }
 }
 
-// The type that a name may follow.
+/// The type that a name may follow.
 fn type_in(typing: Typing) -> Option<Ty>
     ensures { result ≡ type_in (typing_of typing) }
 {
@@ -73,7 +73,7 @@ fn type_in(typing: Typing) -> Option<Ty>
     }
 }
 
-// Behind a type and a name.
+/// Behind a type and a name.
 fn declared(alloc: Global, what: Declared, ty: Ty, at: Place, name: Name) -> Stage
     ensures { stage_of result ≡ declared (declared_of what) ty at (name_bytes name) }
 {

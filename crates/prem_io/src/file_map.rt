@@ -61,7 +61,7 @@ impl FileMap {
         Ok(true)
     }
 
-    // The bytes of the file of this name.
+    /// The bytes of the file of this name.
     pub(crate) fn find(&self, name: &str) -> Option<&[u8]>
         ensures { option_copied result ≡ stored self.now name.now }
     {

@@ -36,7 +36,7 @@ impl<'r, R: Files> DiskStore<'r, R> {
     }
 }
 
-// Reads a file up to one byte past the limit, behind what is there.
+/// Reads a file up to one byte past the limit, behind what is there.
 fn read_past<R: Files>(rt: &R, name: &str, limit: usize, into: &mut Vec<u8>) -> io::Result<()> {
     let file = File::open(rt, name)?;
     let _count = file
@@ -45,7 +45,7 @@ fn read_past<R: Files>(rt: &R, name: &str, limit: usize, into: &mut Vec<u8>) -> 
     Ok(())
 }
 
-// A file that isn't there and want of memory have answers of their own. All else is a fault.
+/// A file that isn't there and want of memory have answers of their own. All else is a fault.
 fn fail_of(error: &io::Error) -> StoreFail {
     match error.kind() {
         io::ErrorKind::NotFound => StoreFail::Missing,
@@ -163,7 +163,7 @@ mod tests {
         Ok(())
     }
 
-    // An output that takes at most so many bytes in a call, or fails.
+    /// An output that takes at most so many bytes in a call, or fails.
     #[derive(Drop)]
     struct Pipe(Option<usize>);
 

@@ -116,7 +116,7 @@ impl Store for SteadyStore {
     }
 }
 
-// Copies the file of this name, where it has at most `limit` bytes.
+/// Copies the file of this name, where it has at most `limit` bytes.
 fn copy_file(files: &FileMap, name: &str, limit: usize, into: &mut Vec<u8>) -> Result<(), StoreFail>
     requires { into.old.items ≡ [] }
     ensures limit { OnOk result (vec_len into.new ≤ limit) }

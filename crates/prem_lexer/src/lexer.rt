@@ -17,17 +17,18 @@ const TEXT_BYTES: usize = 1048576;
 /// The greatest number of tokens of a text; its end doesn't count.
 const TEXT_TOKENS: usize = 200000;
 
-// Where the reading of bytes stands: so many bytes of a token are still to be passed over, and behind
-// them a token or a blank may begin; in a comment up to the end of the line; in a comment that began
-// at a place, of which so many bytes are still to be passed over before it may end.
+/// Where the reading of bytes stands.
 #[derive(Clone, Copy, Debug)]
 pub enum Mode {
+    /// So many bytes of a token are left; behind them a token or a blank may begin.
     Skip { left: usize },
+    /// In a comment up to the end of the line.
     Line,
+    /// In a comment that began at a place; it may end when so many bytes have passed.
     Block { left: usize, from: Place },
 }
 
-// A byte's offset and its place.
+/// A byte's offset from 0, and its place.
 #[derive(Clone, Copy, Debug)]
 pub struct Cursor {
     pub offset: u32,
@@ -78,14 +79,14 @@ fn is_printable(byte: u8) -> bool
     byte.is_ascii_graphic()
 }
 
-// The number of name bytes at the front.
+/// The number of name bytes at the front.
 fn word_length(text: &[u8]) -> usize
     ensures { result ≡ length (take_while is_name_byte text.now) }
 {
     text.iter().take_while(|byte| is_name_byte(**byte)).count()
 }
 
-// The token that a run of name bytes spells.
+/// The token that a run of name bytes spells.
 fn word_token(alloc: Global, word: &[u8]) -> Result<Option<Token>, FrontFail>
     requires { 0 < length word.now }
     ensures { Gives (option_map lexeme_of) result (Ok (word_token word.now)) }
@@ -105,7 +106,7 @@ fn word_token(alloc: Global, word: &[u8]) -> Result<Option<Token>, FrontFail>
     })
 }
 
-// The token at the front of a text that isn't empty, and its number of bytes.
+/// The token at the front of a text that isn't empty, and its number of bytes.
 #[tactic(auto, unfolding(crate::specs::Tokens::first_token))]
 fn first_token(alloc: Global, text: &[u8]) -> Result<Option<(Token, usize)>, FrontFail>
     requires { 0 < length text.now }
@@ -133,7 +134,7 @@ fn begins_with(text: &[u8], first: u8, second: u8) -> bool
     text.len() > 1 && text[0] == first && text[1] == second
 }
 
-// What begins at the front of a text: the mode behind its first byte, and a token that begins there.
+/// What begins at the front of a text: the mode behind its first byte, and a token that begins there.
 #[tactic(auto, unfolding(crate::specs::Tokens::start))]
 fn start(alloc: Global, at: Cursor, text: &[u8]) -> Result<(Mode, Option<Token>), FrontFail>
     requires { 0 < length text.now }
@@ -164,7 +165,7 @@ fn start(alloc: Global, at: Cursor, text: &[u8]) -> Result<(Mode, Option<Token>)
     }
 }
 
-// What the byte at the front of a text does: the mode behind it, and a token that begins with it.
+/// What the byte at the front of a text does: the mode behind it, and a token that begins with it.
 #[tactic(auto, unfolding(crate::specs::Tokens::step))]
 fn step(
     alloc: Global,
@@ -198,6 +199,7 @@ fn step(
 /// A text of more than 1048576 bytes is `TooLong`. Otherwise the first of these decides: `NotText` for
 /// a byte outside comments that is neither a blank nor printable ASCII, `Token` where no token begins,
 /// or one is refused, or a comment begins that isn't closed, and `TooLong` for the 200001st token.
+/// `OutOfMemory` comes only for want of memory.
 #[tactic(auto, unfolding(crate::specs::Tokens::tokens_of))]
 pub fn tokens(alloc: Global, text: &[u8]) -> Result<Vec<Spotted>, FrontFail>
     ensures { Gives (λ all. map seen_of all.items) result (tokens_of text.now) }

@@ -4,7 +4,7 @@ ghost use Rattle.prem_lexer.specs.Literal.{digit_value, is_suffix, digits, with_
 
 use prem_tree::Kind;
 
-// The value of a digit, or 16.
+/// The value of a digit, or 16.
 fn value_of(b: u8) -> u32
     ensures value { result ≡ digit_value b }
     ensures small { result ≤ 16 }
@@ -17,7 +17,7 @@ fn value_of(b: u8) -> u32
     }
 }
 
-// The number that digits spell, and whether a `u` ends them.
+/// The number that digits spell, and whether a `u` ends them.
 fn number(base: u32, word: &[u8]) -> Option<(u32, bool)>
     requires { base ≤ 16 }
     ensures { result ≡ digits base 0 word.now }
@@ -58,7 +58,7 @@ fn kind(hex: bool, value: u32, suffix: bool) -> Option<(u32, Kind)>
     }
 }
 
-// The value and kind of a word that begins with a digit; none where it is no literal.
+/// The value and kind of a word that begins with a digit; none where it is no literal.
 #[tactic(auto, unfolding(crate::specs::Literal::literal_word))]
 pub(crate) fn literal_of(word: &[u8]) -> Option<(u32, Kind)>
     requires { 0 < length word.now }

@@ -4,7 +4,7 @@ ghost use Rattle.prem_lexer.specs.Spelling.{used_word, is_unused, reserved_word,
 
 use prem_token::{Mark, Word};
 
-// The word of the grammar that these bytes spell.
+/// The word of the grammar that these bytes spell.
 #[tactic(auto, unfolding(crate::specs::Spelling::used_word))]
 fn used_word(bytes: &[u8]) -> Option<Word>
     ensures { result ≡ used_word bytes.now }
@@ -48,7 +48,7 @@ fn used_word(bytes: &[u8]) -> Option<Word>
     }
 }
 
-// Whether these bytes spell a reserved word that the grammar has no use for.
+/// Whether these bytes spell a reserved word that the grammar has no use for.
 #[tactic(auto, unfolding(crate::specs::Spelling::is_unused))]
 fn is_unused(bytes: &[u8]) -> bool
     ensures { result ≡ is_unused bytes.now }
@@ -81,7 +81,7 @@ fn is_unused(bytes: &[u8]) -> bool
         || bytes == b"_Imaginary".as_slice()
 }
 
-// The reserved word that these bytes spell.
+/// The reserved word that these bytes spell.
 #[tactic(auto, unfolding(crate::specs::Spelling::reserved_word))]
 pub(crate) fn reserved_word(bytes: &[u8]) -> Option<Word>
     ensures { result ≡ reserved_word bytes.now }
@@ -98,7 +98,7 @@ pub(crate) fn reserved_word(bytes: &[u8]) -> Option<Word>
     }
 }
 
-// The longest mark that begins with a byte which another byte, or 0, follows; and its number of bytes.
+/// The longest mark that begins with a byte which another byte, or 0, follows; and its number of bytes.
 #[tactic(auto, unfolding(crate::specs::Spelling::longest_mark))]
 pub(crate) fn longest_mark(first: u8, second: u8) -> Option<(Mark, usize)>
     ensures { result ≡ longest_mark first second }

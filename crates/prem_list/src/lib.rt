@@ -28,7 +28,8 @@ impl<T> Sequence<T> {
         }
     }
 
-    /// The empty list, with room for so many items. All memory that they need is taken here.
+    /// The empty list, with room for so many items. All memory that they need is taken here. It
+    /// fails only for want of memory.
     pub fn with_room(alloc: Global, room: usize) -> Result<Sequence<T>, AllocError>
         ensures items { IfOk result (λ list. items_of list ≡ []) }
         ensures room { IfOk result (λ list. room_of list ≡ room) }

@@ -52,6 +52,8 @@ impl Machine {
 
     /// The machine before the first cycle of a run of an image. It fails only for want of memory, of which it takes
     /// all here that the run needs.
+    ///
+    /// Condition: the run fits the image (`run_fits`).
     pub fn new(alloc: Global, image: &Image, run: &RunInput) -> Result<Machine, AllocError>
         requires { FitsRun (setup_of image.now) (words_of run.now) (items_of run.now.requests) }
         ensures state { IfOk result (λ m. state_of m ≡ image_run to_front image.now run.now 0) }
@@ -83,6 +85,8 @@ impl Machine {
     }
 
     /// One cycle of a run that is not over. A cycle whose instruction traps is not counted.
+    ///
+    /// Conditions: the run is not over, and fewer than 2^61 cycles have passed.
     pub fn cycle(&mut self) -> Turn
         requires now { (state_of self.old).now < 2 ^ 61 }
         requires going { is_over (state_of self.old) ≡ false }
@@ -100,6 +104,8 @@ impl Machine {
     /// It looks before each cycle whether all jobs have ended, then whether an instruction has trapped, then
     /// whether a log is full, then whether the cycle has come, and tells the first of these that is so. A run that
     /// stopped before stays as it is.
+    ///
+    /// Conditions: this cycle hasn't passed, and is at most 2^61.
     pub fn run_to(&mut self, limit: u64) -> Stop
         requires now { (state_of self.old).now ≤ limit }
         requires limit { limit ≤ 2 ^ 61 }
@@ -122,6 +128,8 @@ impl Machine {
     ///
     /// Where the task has not read past the end of its words so far, the state is then that of the run which has
     /// had the word from the start.
+    ///
+    /// Condition: the image has the task.
     pub fn append_input(&mut self, t: TaskId, word: u32) -> bool
         requires { t < length (setup_in self.old).tasks }
         ensures room { result ≡ has_room_for_word t (state_of self.old) }

@@ -105,7 +105,7 @@ impl Layout {
 
 /// Places parts one behind another from address 0 up, each at the next multiple of its alignment.
 ///
-/// `MemoryFull` comes exactly where the last of them would end past memory.
+/// `MemoryFull` comes exactly where the last of them would end past memory, `OutOfMemory` only for want of memory.
 pub fn place_parts(alloc: Global, sizes: &[PartSize], p: &Plant) -> Result<Layout, PlantFail>
     requires aligned { All (λ part. 1 ≤ part.align) sizes.now }
     requires count { length sizes.now ≤ 100000 }

@@ -21,7 +21,7 @@ const RIGHT: u8 = 11;
 /// The word of -2048, from which on words stand for small negative numbers.
 const SMALL_NEGATIVE: u32 = 0xffff_f800;
 
-// `addi`.
+/// `addi`.
 fn add_immediate(rd: u8, rs1: u8, imm: i32) -> Instr
     ensures { result ≡ OpImm Add rd rs1 imm }
 {
@@ -33,7 +33,7 @@ fn add_immediate(rd: u8, rs1: u8, imm: i32) -> Instr
     }
 }
 
-// The lowest 12 bits of a word as a signed number.
+/// The lowest 12 bits of a word as a signed number.
 fn low_bits(c: u32) -> i32
     ensures { result ≡ signed (2 ^ 11) (c % 2 ^ 12) }
 {
@@ -41,7 +41,7 @@ fn low_bits(c: u32) -> i32
     if low < 2048 { low } else { low - 4096 }
 }
 
-// A constant into a register.
+/// A constant into a register.
 fn emit_constant(code: &mut Vec<Instr>, rd: u8, c: u32) -> Result<(), AllocError>
     ensures { OnOk result (code.new.items ≡ code.old.items ++ constant_code rd c) }
 {
@@ -58,7 +58,7 @@ fn emit_constant(code: &mut Vec<Instr>, rd: u8, c: u32) -> Result<(), AllocError
     Ok(())
 }
 
-// The right side of an operator, a literal, into its register.
+/// The right side of an operator, a literal, into its register.
 fn emit_right(code: &mut Vec<Instr>, e: &Expr) -> Result<(), AllocError>
     ensures { OnOk result (code.new.items ≡ code.old.items ++ right_code (expression_of e.now)) }
 {
@@ -68,7 +68,7 @@ fn emit_right(code: &mut Vec<Instr>, e: &Expr) -> Result<(), AllocError>
     }
 }
 
-// A sum into the register of values.
+/// A sum into the register of values.
 fn emit_sum(code: &mut Vec<Instr>, e: &Expr) -> Result<(), AllocError>
     ensures { OnOk result (code.new.items ≡ code.old.items ++ sum_code (expression_of e.now)) }
 {
@@ -98,7 +98,7 @@ fn emit_sum(code: &mut Vec<Instr>, e: &Expr) -> Result<(), AllocError>
     }
 }
 
-// The outputs among the statements of `job`.
+/// The outputs among the statements of `job`.
 fn emit_body(code: &mut Vec<Instr>, body: &[Stmt]) -> Result<(), AllocError>
     ensures { OnOk result (code.new.items ≡ code.old.items ++ body_code (statements_of body.now)) }
 {
@@ -111,7 +111,7 @@ fn emit_body(code: &mut Vec<Instr>, body: &[Stmt]) -> Result<(), AllocError>
     Ok(())
 }
 
-// The call of `job`, which stands behind it, and the end of the job.
+/// The call of `job`, which stands behind it, and the end of the job.
 fn emit_start(code: &mut Vec<Instr>) -> Result<(), AllocError>
     ensures { OnOk result (code.new.items ≡ code.old.items ++ start_code) }
 {
@@ -120,7 +120,7 @@ fn emit_start(code: &mut Vec<Instr>) -> Result<(), AllocError>
     Ok(())
 }
 
-// The frame is taken and the return address saved.
+/// The frame is taken and the return address saved.
 fn emit_prologue(code: &mut Vec<Instr>) -> Result<(), AllocError>
     ensures { OnOk result (code.new.items ≡ code.old.items ++ prologue) }
 {
@@ -134,7 +134,7 @@ fn emit_prologue(code: &mut Vec<Instr>) -> Result<(), AllocError>
     Ok(())
 }
 
-// The return address is loaded and the frame given back.
+/// The return address is loaded and the frame given back.
 fn emit_epilogue(code: &mut Vec<Instr>) -> Result<(), AllocError>
     ensures { OnOk result (code.new.items ≡ code.old.items ++ epilogue) }
 {
@@ -154,7 +154,7 @@ fn emit_epilogue(code: &mut Vec<Instr>) -> Result<(), AllocError>
 }
 
 /// The code of a program whose `job` has this body, from address 0 on: the start, then `job`. It has the
-/// templates and the places of the whole compiler.
+/// templates and the places that the whole compiler is to have.
 #[tactic(auto, using(crate::proofs::Sizes::code_fits, crate::proofs::Sizes::code_small))]
 pub fn code_of(alloc: Global, body: &[Stmt]) -> Result<Vec<Instr>, AllocError>
     requires { body_size (statements_of body.now) ≤ 4096 }

@@ -1,6 +1,6 @@
 //! Small programs: which they are, their code for RV32I, and the image that the machine runs.
 //!
-//! The code has the templates and the places of the whole compiler: the start, the prologue of `job`,
+//! The code has the templates and the places that the whole compiler is to have: the start, the prologue of `job`,
 //! its statements, its epilogue, and `job`'s stack.
 #![tactic(auto)]
 

@@ -31,7 +31,7 @@ fn default_plant() -> Plant
     }
 }
 
-// The end of the stack behind so many instructions, which stand from address 0 on.
+/// The end of the stack behind so many instructions, which stand from address 0 on.
 fn stack_end(instructions: usize) -> u32
     requires { instructions < 2 ^ 28 }
     ensures { result ≡ (4 * instructions + 15) / 16 * 16 + 16 }
@@ -39,7 +39,7 @@ fn stack_end(instructions: usize) -> u32
     ((4 * instructions + 15) / 16 * 16 + 16) as u32
 }
 
-// The bytes of a word, the lowest one first.
+/// The bytes of a word, the lowest one first.
 fn push_word(content: &mut Sequence<u8>, word: u32) -> Result<(), AllocError>
     ensures { OnOk result (items_of content.new ≡ items_of content.old ++ to_le_bytes w32 word) }
 {
@@ -50,7 +50,7 @@ fn push_word(content: &mut Sequence<u8>, word: u32) -> Result<(), AllocError>
     content.push(fourth)
 }
 
-// The words of the code.
+/// The words of the code.
 fn push_code(content: &mut Sequence<u8>, code: &[Instr]) -> Result<(), AllocError>
     requires { AllFit code.now }
     ensures { OnOk result (items_of content.new ≡ items_of content.old ++ code_bytes code.now) }
@@ -61,7 +61,7 @@ fn push_code(content: &mut Sequence<u8>, code: &[Instr]) -> Result<(), AllocErro
     Ok(())
 }
 
-// So many zeros.
+/// So many zeros.
 fn push_zeros(content: &mut Sequence<u8>, count: usize) -> Result<(), AllocError>
     ensures { OnOk result (items_of content.new ≡ items_of content.old ++ replicate count 0) }
 {
@@ -71,7 +71,7 @@ fn push_zeros(content: &mut Sequence<u8>, count: usize) -> Result<(), AllocError
     Ok(())
 }
 
-// What memory holds up to the end of the stack: the code, and then 0.
+/// What memory holds up to the end of the stack: the code, and then 0.
 fn content_of(alloc: Global, code: &[Instr], stack: u32) -> Result<Sequence<u8>, AllocError>
     requires fit { AllFit code.now }
     requires room { 4 * length code.now ≤ stack }
@@ -83,7 +83,7 @@ fn content_of(alloc: Global, code: &[Instr], stack: u32) -> Result<Sequence<u8>,
     Ok(content)
 }
 
-// The one task, `one`, whose only job begins at address 0.
+/// The one task, `one`, whose only job begins at address 0.
 fn tasks_of(alloc: Global, stack: u32) -> Result<Sequence<TaskRecord>, AllocError>
     ensures { IfOk result (λ tasks. items_of tasks ≡ record { name = codes "one"; period = 1; jobs = 1; entry = 0; stack = stack } ∷ []) }
 {
@@ -99,7 +99,7 @@ fn tasks_of(alloc: Global, stack: u32) -> Result<Sequence<TaskRecord>, AllocErro
 }
 
 /// The image of a small program: its words from address 0 on, and one task of one job without a device,
-/// on the plant of the default numbers.
+/// on the plant of the default numbers. It fails only for want of memory.
 pub fn image(alloc: Global, program: &Program) -> Result<Image, AllocError>
     requires { is_small (program_of program.now) ≡ true }
     ensures { IfOk result (λ i. IsImageOf (body_of (program_of program.now)) i) }

@@ -41,7 +41,7 @@ fn is_sum(e: &Expr) -> bool
     }
 }
 
-// The literals and operators of a sum, counted up to the greatest `usize`.
+/// The literals and operators of a sum, counted up to the greatest `usize`.
 fn sum_size(e: &Expr) -> usize
     ensures { result ≡ min (sum_size (expression_of e.now)) (2 ^ 64 - 1) }
 {
@@ -63,7 +63,7 @@ fn are_outputs(body: &[Stmt]) -> bool
     true
 }
 
-// The statements, literals and operators of a body, counted up to the greatest `usize`.
+/// The statements, literals and operators of a body, counted up to the greatest `usize`.
 fn body_size(body: &[Stmt]) -> usize
     ensures { result ≡ min (body_size (statements_of body.now)) (2 ^ 64 - 1) }
 {
@@ -82,7 +82,7 @@ fn is_small_body(body: &[Stmt]) -> bool
     are_outputs(body) && body_size(body) <= LIMIT
 }
 
-// Whether a function is `void job(void)` without a mark, parameters, locals and a result.
+/// Whether a function is `void job(void)` without a mark, parameters, locals and a result.
 fn is_plain_job(f: &Function) -> bool
     ensures { result ≡ is_plain_job (function_of f.now) }
 {

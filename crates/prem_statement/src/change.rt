@@ -21,7 +21,7 @@ use std::alloc::{AllocError, Global};
 /// The greatest number of tokens of an expression, and one more: past it nothing is left of the room.
 const ROOM: u32 = 257;
 
-// An expression is read from its beginning.
+/// An expression is read from its beginning.
 pub(crate) fn expression(purpose: Purpose, around: Around) -> Turn
     ensures { turn_of result ≡ expression (use_of purpose) (around_of around) }
 {
@@ -38,7 +38,7 @@ pub(crate) fn expression(purpose: Purpose, around: Around) -> Turn
     }
 }
 
-// A row begins with a token.
+/// A row begins with a token.
 pub(crate) fn begin(
     alloc: Global,
     row: Row,
@@ -62,7 +62,7 @@ pub(crate) fn begin(
     })
 }
 
-// Only the `;` of a statement is left.
+/// Only the `;` of a statement is left.
 pub(crate) fn finish(
     alloc: Global,
     statement: Stmt,
@@ -75,7 +75,7 @@ pub(crate) fn finish(
     begin(alloc, row, spotted, Slot::Semicolon, &NOTHING, around)
 }
 
-// The tree of a left side, read as an operand.
+/// The tree of a left side, read as an operand.
 fn side(alloc: Global, at: Place, name: &Name, index: &Option<Expr>) -> Result<Expr, AllocError>
     ensures { IfOk result (λ e. expression_of e ≡ side at (name_bytes name.now) (option_map expression_of index.now)) }
 {
@@ -89,7 +89,7 @@ fn side(alloc: Global, at: Place, name: &Name, index: &Option<Expr>) -> Result<E
     }
 }
 
-// `x += e` is `x = x + (e)`, and `x -= e` is `x = x - (e)`; what is made stands at the sign.
+/// `x += e` is `x = x + (e)`, and `x -= e` is `x = x - (e)`; what is made stands at the sign.
 pub(crate) fn changed(
     alloc: Global,
     at: Place,
@@ -117,7 +117,7 @@ pub(crate) fn changed(
     })
 }
 
-// `x++` is `x = x + 1`, and `x--` is `x = x - 1`.
+/// `x++` is `x = x + 1`, and `x--` is `x = x - 1`.
 fn by_one(
     alloc: Global,
     at: Place,
@@ -136,7 +136,7 @@ fn by_one(
     changed(alloc, at, name, index, op, sign, one)
 }
 
-// The sign of an assignment.
+/// The sign of an assignment.
 pub(crate) fn change(
     alloc: Global,
     at: Place,

@@ -16,7 +16,7 @@ use std::alloc::{AllocError, Global};
 /// The greatest nesting of a statement; those of a function's body have nesting 1.
 const NESTING: u32 = 64;
 
-// A block with its statements.
+/// A block with its statements.
 pub(crate) fn block(at: Place, body: Sequence<Stmt>) -> Stmt
     ensures { statement_of result ≡ block at (listed (map statement_of (items_of body))) }
 {
@@ -95,7 +95,7 @@ fn counting_for(
     })
 }
 
-// A statement has ended, and perhaps those that it ends; an `if` waits for its `else`.
+/// A statement has ended, and perhaps those that it ends; an `if` waits for its `else`.
 pub(crate) fn ended(alloc: Global, around: Around, statement: Stmt) -> Result<Point, AllocError>
     ensures { IfOk result (λ p. point_of p ≡ ended (statement_of statement) (around_of around)) }
 {
@@ -157,7 +157,7 @@ pub(crate) fn ended(alloc: Global, around: Around, statement: Stmt) -> Result<Po
     }
 }
 
-// The same where no `else` comes.
+/// The same where no `else` comes.
 fn settled(alloc: Global, around: Around, statement: Stmt) -> Result<Around, AllocError>
     ensures { IfOk result (λ a. around_of a ≡ settled (statement_of statement) (around_of around)) }
 {
@@ -215,7 +215,7 @@ fn settled(alloc: Global, around: Around, statement: Stmt) -> Result<Around, All
     }
 }
 
-// An `if` has ended without an `else`.
+/// An `if` has ended without an `else`.
 pub(crate) fn no_else(
     alloc: Global,
     at: Place,
@@ -229,7 +229,7 @@ pub(crate) fn no_else(
     settled(alloc, around, whole)
 }
 
-// Whether at most so many statements are open.
+/// Whether at most so many statements are open.
 fn nests(around: &Around, most: u32) -> bool
     ensures { result ≡ nests most (around_of around.now) }
 {
@@ -243,7 +243,7 @@ fn nests(around: &Around, most: u32) -> bool
     }
 }
 
-// Whether the last token began a block inside more than 63 other statements.
+/// Whether the last token began a block inside more than 63 other statements.
 fn has_begun_block(around: &Around) -> bool
     ensures { result ≡ has_begun_block (around_of around.now) }
 {
@@ -255,7 +255,7 @@ fn has_begun_block(around: &Around) -> bool
     }
 }
 
-// Whether a row is that of a statement, of which it has the first token.
+/// Whether a row is that of a statement, of which it has the first token.
 fn begins_row(row: &Row, got: &[Spotted]) -> bool
     ensures { result ≡ begins_row (row_of row.now) (map seen_of got.now) }
 {

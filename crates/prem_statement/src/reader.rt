@@ -40,7 +40,7 @@ fn least_of(purpose: &Purpose) -> u32
     }
 }
 
-// The first token of a statement.
+/// The first token of a statement.
 fn statement(alloc: Global, around: Around, spotted: &Spotted) -> Result<Turn, AllocError>
     ensures { IfOk result (λ t. turn_of t ≡ statement (around_of around) (seen_of spotted.now) (lexeme_of spotted.now.token)) }
 {
@@ -82,7 +82,7 @@ fn begins_statement(token: &Token) -> bool
     )
 }
 
-// A token that begins no statement is behind the body, or it closes a block.
+/// A token that begins no statement is behind the body, or it closes a block.
 fn without(alloc: Global, around: Around, spotted: &Spotted) -> Result<Turn, AllocError>
     ensures { IfOk result (λ t. turn_of t ≡ without (around_of around) (seen_of spotted.now)) }
 {
@@ -108,7 +108,7 @@ fn next(alloc: Global, around: Around, spotted: &Spotted) -> Result<Turn, AllocE
     without(alloc, around, spotted)
 }
 
-// An `else` belongs to the nearest `if`.
+/// An `else` belongs to the nearest `if`.
 fn else_or(
     alloc: Global,
     at: Place,
@@ -134,7 +134,7 @@ fn else_or(
     next(alloc, around, spotted)
 }
 
-// The step of a `for` has all its tokens.
+/// The step of a `for` has all its tokens.
 fn step_filled(
     alloc: Global,
     header: Header,
@@ -169,7 +169,7 @@ fn step_filled(
     })
 }
 
-// A row has all its tokens.
+/// A row has all its tokens.
 fn filled(
     alloc: Global,
     row: Row,
@@ -246,7 +246,7 @@ fn filled_or(
     }
 }
 
-// A token in a row.
+/// A token in a row.
 fn filling(
     alloc: Global,
     row: Row,
@@ -265,7 +265,7 @@ fn filling(
     filled_or(alloc, row, got, later, around)
 }
 
-// A token behind the name that begins a statement.
+/// A token behind the name that begins a statement.
 fn behind_name(
     alloc: Global,
     at: Place,
@@ -290,7 +290,7 @@ fn behind_name(
     change(alloc, at, name, None, around, spotted)
 }
 
-// A token behind an argument of a call.
+/// A token behind an argument of a call.
 fn argument_ends(
     alloc: Global,
     at: Place,
@@ -325,7 +325,7 @@ fn argument_ends(
     finish(alloc, whole, spotted, around)
 }
 
-// A token behind the condition of an `if`, or of a `while` where it has a number of turns.
+/// A token behind the condition of an `if`, or of a `while` where it has a number of turns.
 fn condition_ends(
     alloc: Global,
     at: Place,
@@ -358,7 +358,7 @@ fn condition_ends(
     })
 }
 
-// A token behind the first value of a `for`.
+/// A token behind the first value of a `for`.
 fn low_ends(
     alloc: Global,
     at: Place,
@@ -376,7 +376,7 @@ fn low_ends(
     begin(alloc, row, spotted, Slot::AName, &BOUND_ROW, around)
 }
 
-// A token behind the bound of a `for`.
+/// A token behind the bound of a `for`.
 fn high_ends(
     alloc: Global,
     header: Header,
@@ -392,7 +392,7 @@ fn high_ends(
     begin(alloc, row, spotted, Slot::AName, &SIGN_ROW, around)
 }
 
-// A statement has ended with its `;`.
+/// A statement has ended with its `;`.
 fn statement_ends(
     alloc: Global,
     statement: Stmt,
@@ -408,7 +408,7 @@ fn statement_ends(
     Ok(Turn::On { point })
 }
 
-// The token behind an expression.
+/// The token behind an expression.
 fn used(
     alloc: Global,
     purpose: Purpose,
@@ -501,7 +501,7 @@ fn is_start(state: &State) -> bool
     )
 }
 
-// `in` where the value of `name =` begins.
+/// `in` where the value of `name =` begins.
 fn input_begins(
     alloc: Global,
     at: Place,
@@ -526,7 +526,7 @@ fn input_begins(
     )
 }
 
-// `)` where the first argument of a call begins.
+/// `)` where the first argument of a call begins.
 fn no_arguments(
     alloc: Global,
     at: Place,
@@ -549,8 +549,8 @@ fn no_arguments(
     finish(alloc, whole, spotted, around)
 }
 
-// Where no expression has a token at its beginning: `in` behind `name =`, and `)` where a call has no
-// arguments.
+/// Where no expression has a token at its beginning: `in` behind `name =`, and `)` where a call has no
+/// arguments.
 #[tactic(auto, using(crate::proofs::Starts::no_argument, crate::proofs::Starts::another_argument))]
 fn at_start(
     alloc: Global,
@@ -584,7 +584,7 @@ fn at_start(
     }
 }
 
-// The name that is all of an expression, where the token behind it is `(`.
+/// The name that is all of an expression, where the token behind it is `(`.
 fn callee_at(alloc: Global, state: &State, token: &Token) -> Result<Option<Name>, AllocError>
     ensures { IfOk result (λ name. option_map name_bytes name ≡ (if is_left_parenthesis (lexeme_of token.now) then lone_name (state_of state.now) else None)) }
 {
@@ -601,7 +601,7 @@ fn callee_at(alloc: Global, state: &State, token: &Token) -> Result<Option<Name>
     }
 }
 
-// `(` behind `name = name` begins the arguments of a call.
+/// `(` behind `name = name` begins the arguments of a call.
 fn called(alloc: Global, purpose: Purpose, callee: Name, around: Around) -> Turn
     ensures { turn_of result ≡ called (use_of purpose) (name_bytes callee) (around_of around) }
 {
@@ -629,7 +629,7 @@ fn called(alloc: Global, purpose: Purpose, callee: Name, around: Around) -> Turn
     }
 }
 
-// A token of an expression, or the first one behind it.
+/// A token of an expression, or the first one behind it.
 fn within(
     alloc: Global,
     purpose: Purpose,
@@ -670,7 +670,8 @@ fn within(
     }
 }
 
-/// What a token is to the statements of a body of which the tokens up to `point` have been read.
+/// What a token is to the statements of a body of which the tokens up to `point` have been read. It fails
+/// only for want of memory.
 pub fn turn(alloc: Global, point: Point, spotted: &Spotted) -> Result<Turn, AllocError>
     ensures { IfOk result (λ t. turn_of t ≡ turn (point_of point) (seen_of spotted.now)) }
 {

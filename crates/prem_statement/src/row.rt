@@ -35,7 +35,7 @@ static CLOSING: [Slot; 1] = [Slot::RightParenthesis];
 /// Behind `name = name`.
 static SUM: [Slot; 3] = [Slot::PlusSign, Slot::ALiteral, Slot::RightParenthesis];
 
-/// A copy of a token with its place.
+/// A copy of a token with its place. It fails only for want of memory.
 pub fn copy_spotted(alloc: Global, spotted: &Spotted) -> Result<Spotted, AllocError>
     ensures { IfOk result (λ copy. seen_of copy ≡ seen_of spotted.now) }
 {
@@ -55,7 +55,7 @@ pub fn copy_spotted(alloc: Global, spotted: &Spotted) -> Result<Spotted, AllocEr
     })
 }
 
-// The name that a token is.
+/// The name that a token is.
 fn text_of(alloc: Global, token: &Token) -> Result<Option<Name>, AllocError>
     ensures { IfOk result (λ name. option_map name_bytes name ≡ text_of (lexeme_of token.now)) }
 {
@@ -65,7 +65,7 @@ fn text_of(alloc: Global, token: &Token) -> Result<Option<Name>, AllocError>
     }
 }
 
-/// The name at a place of a row, from 0 on.
+/// The name at a place of a row, from 0 on, if one stands there. It fails only for want of memory.
 #[tactic(auto, using(crate::proofs::Rows::text_at_within, crate::proofs::Rows::text_at_past))]
 pub fn name_at(alloc: Global, got: &[Spotted], at: usize) -> Result<Option<Name>, AllocError>
     ensures { IfOk result (λ name. option_map name_bytes name ≡ text_at at (map seen_of got.now)) }
@@ -76,7 +76,7 @@ pub fn name_at(alloc: Global, got: &[Spotted], at: usize) -> Result<Option<Name>
     text_of(alloc, &got[at].token)
 }
 
-// The value of a literal.
+/// The value of a literal.
 fn value_of(token: &Token) -> u32
     ensures { result ≡ value_of (lexeme_of token.now) }
 {
@@ -108,7 +108,7 @@ pub fn place_at(got: &[Spotted], at: usize) -> Place
     got[at].at
 }
 
-// Whether the token at a place of a row, from 0 on, is of a slot.
+/// Whether the token at a place of a row, from 0 on, is of a slot.
 #[tactic(auto, using(crate::proofs::Rows::slot_at_within, crate::proofs::Rows::slot_at_past))]
 fn slot_at(got: &[Spotted], at: usize, slot: Slot) -> bool
     ensures { result ≡ slot_at at (slot_of slot) (map seen_of got.now) }
@@ -119,7 +119,7 @@ fn slot_at(got: &[Spotted], at: usize, slot: Slot) -> bool
     fits(slot, &got[at].token)
 }
 
-// Behind `; name` and the sign of a step: what comes next, and what comes behind that.
+/// Behind `; name` and the sign of a step: what comes next, and what comes behind that.
 pub(crate) fn rest_of_step(got: &[Spotted]) -> (Slot, &'static [Slot])
     ensures { (slot_of result.0, map slot_of result.1.now) ≡ rest_of_step (map seen_of got.now) }
 {
@@ -132,7 +132,7 @@ pub(crate) fn rest_of_step(got: &[Spotted]) -> (Slot, &'static [Slot])
     (Slot::AName, &SUM)
 }
 
-// The number of a step: of `++` it is 1.
+/// The number of a step: of `++` it is 1.
 pub(crate) fn step_in(got: &[Spotted]) -> u32
     ensures { result ≡ step_in (map seen_of got.now) }
 {
@@ -145,7 +145,7 @@ pub(crate) fn step_in(got: &[Spotted]) -> u32
     value_at(got, 5)
 }
 
-// The last name of a step.
+/// The last name of a step.
 pub(crate) fn fourth_in(alloc: Global, got: &[Spotted]) -> Result<Option<Name>, AllocError>
     ensures { IfOk result (λ name. option_map name_bytes name ≡ fourth_in (map seen_of got.now)) }
 {
@@ -155,7 +155,7 @@ pub(crate) fn fourth_in(alloc: Global, got: &[Spotted]) -> Result<Option<Name>, 
     name_at(alloc, got, 1)
 }
 
-// Whether the last token is `<=`.
+/// Whether the last token is `<=`.
 #[tactic(auto, using(crate::proofs::Rows::is_at_most_last))]
 pub(crate) fn is_at_most(got: &[Spotted]) -> bool
     ensures { result ≡ is_at_most (map seen_of got.now) }

@@ -17,7 +17,7 @@ impl Name {
     /// The greatest number of bytes of a name.
     pub const LIMIT: usize = 64;
 
-    /// The name of these bytes, or none where there aren't 1 to 64 of them.
+    /// The name of these bytes, or none where there aren't 1 to 64 of them. It fails only for want of memory.
     pub fn new(alloc: Global, bytes: &[u8]) -> Result<Option<Name>, AllocError>
         ensures none { IfOk result (λ found. IsNone found ↔ ((length bytes.now ≡ 0) ⊎ (64 < length bytes.now))) }
         ensures holds { IfOk result (λ found. IfSome found (λ name. name_bytes name ≡ bytes.now)) }

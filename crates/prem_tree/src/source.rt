@@ -174,8 +174,9 @@ fn run_resolved(
 
 /// Runs so many jobs of a program, one after another, as the language defines it.
 ///
-/// It gives what the run did, or the line at which it goes wrong. It returns on every program, and takes time in
-/// proportion to the statements that the run does.
+/// It gives what the run did, or fails with `Wrong` and the line at which the run goes wrong, or with `OutOfMemory` for
+/// want of memory. It returns on every program; that its time is in proportion to the statements that the run does is
+/// no part of its contract.
 pub fn source_run(
     alloc: Allocator,
     p: &Checked,
