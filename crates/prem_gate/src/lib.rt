@@ -9,4 +9,5 @@ mod request;
 
 pub use bus::{BusTurn, CoreWant, Transfer, Window};
 pub use gates::{Arrived, Gates};
+pub use prem_list::Sequence;
 pub use request::{Request, RunInput};
