@@ -1,6 +1,6 @@
 // The gate of one device.
 ghost use Rattle.std.specs.Prelude.{◌≡◌, ◌%◌, ◌<◌, ◌≤◌, IfOk, IfSome, false, length};
-ghost use Rattle.prem_plant.specs.Ranges.{IsDevice};
+ghost use Rattle.prem_plant.specs.Ranges.{HasDeviceNumbers};
 ghost use Rattle.prem_gate.specs.Gates.{gate_of, is_full, memory_after, queued, slot_in, start_of, value_of, without_head};
 ghost use Rattle.prem_gate.specs.Ranges.{LiesIn};
 
@@ -41,7 +41,7 @@ impl Model for DeviceGate {
 impl DeviceGate {
     /// The gate of a device whose area begins at this address. No request waits.
     pub fn new(alloc: Global, device: &Device, area: u32) -> Result<DeviceGate, AllocError>
-        requires device { IsDevice device.now }
+        requires device { HasDeviceNumbers device.now }
         requires aligned { area % 4 ≡ 0 }
         ensures { IfOk result (λ gate. gate ≡ gate_of device.now area) }
     {

@@ -1,6 +1,6 @@
 // The gates of all devices, and a cycle of the bus.
 ghost use Rattle.std.specs.Prelude.{◌≡◌, ◌%◌, ◌≤◌, IfOk, All, None, length};
-ghost use Rattle.prem_plant.specs.Ranges.{IsDevice};
+ghost use Rattle.prem_plant.specs.Ranges.{HasDeviceNumbers};
 ghost use Rattle.prem_gate.specs.Gates.{after_arrival, arrival_of, bus_turn, carries, first_gates, startable, waiting_of};
 ghost use Rattle.prem_gate.specs.Ranges.{HasLine, IsInPlace, IsLineSize, LiesIn};
 
@@ -50,7 +50,7 @@ impl Gates {
         areas: &[u32],
         line: u32,
     ) -> Result<Gates, AllocError>
-        requires devices { All IsDevice devices.now }
+        requires devices { All HasDeviceNumbers devices.now }
         requires count { length devices.now ≤ 8 }
         requires areas { length areas.now ≡ length devices.now }
         requires line { IsLineSize line }

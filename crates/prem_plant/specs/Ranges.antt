@@ -20,6 +20,12 @@ pub record IsPlant (p : Plant) : Type 0 where
   pub memory : Between 4096 16777216 p.memory
   pub memory_pages : p.memory % 4096 ≡ 0
 
+-- the numbers of a device, whatever its name is
+pub record HasDeviceNumbers (d : Device) : Type 0 where
+  pub queue : Between 1 1024 d.queue
+  pub cost : Between 1 100000 d.cost
+  pub lines : Between 1 1024 d.lines
+
 pub record IsDevice (d : Device) : Type 0 where
   pub name : IsName d.name
   pub queue : Between 1 1024 d.queue

@@ -1,6 +1,6 @@
 // Two devices on one bus. The cycles, words and counts are worked out by hand.
 ghost use Rattle.std.specs.Prelude.{◌≡◌, ◌%◌, IsTrue, All, length};
-ghost use Rattle.prem_plant.specs.Ranges.{IsDevice};
+ghost use Rattle.prem_plant.specs.Ranges.{HasDeviceNumbers};
 ghost use Rattle.prem_gate.specs.Ranges.{LiesIn};
 
 use super::*;
@@ -46,7 +46,7 @@ fn ended(first: u64, request: Request, value: u32) -> Option<Transfer> {
 }
 
 fn are_devices(devices: &[Device]) -> bool
-    ensures { IsTrue result → All IsDevice devices.now }
+    ensures { IsTrue result → All HasDeviceNumbers devices.now }
 {
     devices.iter().all(|device| device.is_in_range())
 }
