@@ -119,6 +119,7 @@ fn limits_of_small_texts(rt: HostRuntime) -> Result<(), Fail> {
     // 4103 words and the stack lie in 1027 lines. The first line and the stack's come in twice, and the
     // latter is written back once: a switch, 4107 of cost, 1029 fills and a write back.
     let told = b"cycles 14427\nhits 3076 misses 1029 writebacks 1\n".as_slice();
+    assert!(rt; written.len() >= 2048 * 6);
     assert_eq!(rt; &written[2048 * 6..], told);
     assert_eq!(rt;
         one(alloc, ones(alloc, 2049)?.as_bytes())?.0,
