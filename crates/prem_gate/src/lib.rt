@@ -4,10 +4,11 @@
 mod bus;
 mod gate;
 mod gates;
-pub mod laws;
+mod laws;
 mod request;
 
 pub use bus::{BusTurn, CoreWant, Transfer, Window};
 pub use gates::{Arrived, Gates};
+pub use laws::{areas_stay, transfers_fit};
 pub use prem_list::Sequence;
 pub use request::{Request, RunInput};

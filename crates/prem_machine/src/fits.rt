@@ -5,12 +5,10 @@ ghost use Rattle.prem_list.specs.Sequence.{items_of};
 ghost use Rattle.prem_cycle.specs.Inputs.{FitsRun, IsRequest, IsTrace, setup_of, words_of};
 ghost use Rattle.prem_cycle.specs.FactsOf.{inputs_size};
 
+use prem_core::INPUTS;
 use prem_gate::{Request, RunInput};
 use prem_image::{DeviceRecord, Image};
 use prem_list::Sequence;
-
-/// The input words that a task may have.
-pub(crate) const INPUTS: usize = 100_000;
 
 /// The requests that a run may have.
 const REQUESTS: usize = 100_000;

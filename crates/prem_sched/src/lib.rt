@@ -3,4 +3,5 @@
 
 mod sched;
 
-pub use sched::{Choice, Sched, TaskId};
+pub use prem_plant::TaskId;
+pub use sched::{Choice, Sched};

@@ -2,11 +2,9 @@
 ghost use Rattle.std.specs.Prelude.{◌≡◌, ◌≤◌, IfOk, All, length};
 ghost use Rattle.prem_sched.specs.Schedule.{IsChoice, IsDone, IsReady, IsTask, choice, earlier, job_ended, starts_of};
 
+use prem_plant::TaskId;
 use std::alloc::{AllocError, Global};
 use std::marker::Model;
-
-/// The place of a task in its set, from 0.
-pub type TaskId = u16;
 
 /// What the core does at a scheduling point.
 #[derive(Clone, Copy, Debug, PartialEq, Eq)]
