@@ -18,3 +18,4 @@ pub mod ItemStand
 pub mod ProgramSound
 pub mod ItemFill
 pub mod ProgramBegun
+pub mod ProgramRefused

@@ -1,4 +1,4 @@
--- Programs are read as the grammar says, and a token that is refused can stand in no program there.
+-- Programs are read as the grammar says, up to the first token past a limit.
 use Rattle.std.proofs.Common.{◌≡◌, ◌<◌, ℕ, List, [], ◌∷◌, ◌++◌, Option, None, Some, Result, Ok, Err, Bool, true, false, refl, ap, sym, subst, ◌∙◌, append_assoc, arith}
 use Rattle.std.proofs.lemmas.List.{append-nil}
 use Rattle.prem_tree.specs.declared.tree.Place.{Place}
@@ -147,7 +147,7 @@ programs_read p is within =
     let r = program_stages p is in
     read_whole (program_tokens p) [] outside (reached (program_tree p) finished) r.0 (ap are_within r.1 ∙ within)
 
--- ---- a token that is refused
+-- ---- lists of tokens in two parts
 
 pub stages_split : (xs ys : List Seen) (items : List ItemText) (s : Stage) (q : Reached) → stages items s xs ≡ Some q → stages items s (xs ++ ys) ≡ stages q.0 q.1 ys
 stages_split [] ys items s q is = ap (λ (r : Reached). stages r.0 r.1 ys) (some_same items s q is)
@@ -157,44 +157,6 @@ stages_split (t ∷ ts) ys items s q is = by (step s t) refl (λ items' next is'
     by (ahead next) is' go_on = stages_step items s t (ts ++ ys) (ahead next) is' ∙ go_on items next (sym (stages_step items s t ts (ahead next) is') ∙ is)
     by (made item) is' go_on = stages_step items s t (ts ++ ys) (made item) is' ∙ go_on (items ++ item ∷ []) outside (sym (stages_step items s t ts (made item) is') ∙ is)
     by refused is' go_on = let none : None ≡ Some q = sym (stages_step items s t ts refused is') ∙ is in absurd cc
-
-pub no_program_has : (items : List ItemText) (s : Stage) (good : List Seen) (t : Seen) → stages [] outside good ≡ Some (reached items s) → step s t ≡ refused → (more : List Seen) (p : ProgramPhrase) → IsProgram p → program_tokens p ≡ good ++ t ∷ more → ⊥
-no_program_has items s good t is stuck more p right spells =
-    let r = program_stages p right in
-    let whole : stages [] outside (good ++ t ∷ more) ≡ Some (reached (program_tree p) finished) = subst (λ (l : List Seen). stages [] outside l ≡ Some (reached (program_tree p) finished)) spells r.0 in
-    let none : None ≡ Some (reached (program_tree p) finished) = sym (stages_split good (t ∷ more) [] outside (reached items s) is ∙ stages_step items s t more refused stuck) ∙ whole in
-    absurd cc
-
-pub end_stops : (items : List ItemText) (s : Stage) (line col : ℕ) → at_end items s ≡ Err (Syntax line col) → 0 < line → ⊥
-end_stops items finished line col is some = absurd cc
-end_stops items _ line col is some = let zero_line : 0 ≡ line = cc in omega (arith, zero_line, some)
-
--- a token that may be past a limit
-pub deeper : (ts : List Seen) (items : List ItemText) (s : Stage) (good : List Seen) (line col : ℕ) (t : Seen) (next : Stage) (b : Bool) → stages [] outside good ≡ Some (reached items s) → read_on items s (t ∷ ts) ≡ Err (Syntax line col) →
-    is_too_deep next ≡ b → step s t ≡ ahead next →
-    ((items' : List ItemText) (next : Stage) → stages [] outside (good ++ t ∷ []) ≡ Some (reached items' next) → read_on items' next ts ≡ Err (Syntax line col) → IsUnexpected (good ++ t ∷ ts) line col) → IsUnexpected (good ++ t ∷ ts) line col
-deeper ts items s good line col t next true is read' flag is' further =
-    let same : too_deep t.1 ≡ Err (Syntax line col) = sym (deep next t.1 (read_on items next ts) flag) ∙ (sym (read_step items s t ts (ahead next) is') ∙ read') in absurd cc
-deeper ts items s good line col t next false is read' flag is' further =
-    further items next (stages_split good (t ∷ []) [] outside (reached items s) is ∙ stages_step items s t [] (ahead next) is') (sym (shallow next t.1 (read_on items next ts) flag) ∙ (sym (read_step items s t ts (ahead next) is') ∙ read'))
-
-pub stopped_by : (begun : (good : List Seen) (items : List ItemText) (s : Stage) → stages [] outside good ≡ Some (reached items s) → Begins good) (ts : List Seen) (items : List ItemText) (s : Stage) (good : List Seen) (line col : ℕ) (t : Seen) (x : Step) → stages [] outside good ≡ Some (reached items s) → read_on items s (t ∷ ts) ≡ Err (Syntax line col) → step s t ≡ x →
-    ((items' : List ItemText) (next : Stage) → stages [] outside (good ++ t ∷ []) ≡ Some (reached items' next) → read_on items' next ts ≡ Err (Syntax line col) → IsUnexpected (good ++ t ∷ ts) line col) → IsUnexpected (good ++ t ∷ ts) line col
-stopped_by begun ts items s good line col t (ahead next) is read' is' further = deeper ts items s good line col t next (is_too_deep next) is read' refl is' further
-stopped_by begun ts items s good line col t (made item) is read' is' further =
-    further (items ++ item ∷ []) outside (stages_split good (t ∷ []) [] outside (reached items s) is ∙ stages_step items s t [] (made item) is') (sym (read_step items s t ts (made item) is') ∙ read')
-stopped_by begun ts items s good line col t refused is read' is' further =
-    let same : Err (Syntax t.1.line t.1.col) ≡ Err (Syntax line col) = sym (read_step items s t ts refused is') ∙ read' in
-    record { good = good; token = t; rest = ts; parts = refl; line_is = cc; col_is = cc; begun = begun good items s is; none = λ more p right spells. no_program_has items s good t is is' more p right spells }
-
-pub stopped : (begun : (good : List Seen) (items : List ItemText) (s : Stage) → stages [] outside good ≡ Some (reached items s) → Begins good) (ts : List Seen) (items : List ItemText) (s : Stage) (good : List Seen) (line col : ℕ) → stages [] outside good ≡ Some (reached items s) → read_on items s ts ≡ Err (Syntax line col) → 0 < line → IsUnexpected (good ++ ts) line col
-stopped begun [] items s good line col is read' some = absurd (end_stops items s line col read' some)
-stopped begun (t ∷ ts) items s good line col is read' some =
-    stopped_by begun ts items s good line col t (step s t) is read' refl
-    (λ items' next is' read''. subst (λ (l : List Seen). IsUnexpected l line col) (append_assoc good (t ∷ []) ts) (stopped begun ts items' next (good ++ t ∷ []) line col is' read'' some))
-
-pub refusals_stop : (begun : (good : List Seen) (items : List ItemText) (s : Stage) → stages [] outside good ≡ Some (reached items s) → Begins good) (ts : List Seen) (line col : ℕ) → read ts ≡ Err (Syntax line col) → 0 < line → IsUnexpected ts line col
-refusals_stop begun ts line col is some = stopped begun ts [] outside [] line col refl is some
 
 -- ---- the first token past a limit
 

@@ -70,7 +70,7 @@ pub record Begins (ts : List Seen) : Type 0 where
   pub right : IsProgram phrase
   pub tokens : program_tokens phrase ≡ ts ++ more
 
--- a token stands at a place, and no program has it behind the tokens before it, with which some program begins
+-- a token stands at a place, and no program has it behind the tokens before it, with which some program begins and of which none is past a limit there
 pub record IsUnexpected (ts : List Seen) (line col : ℕ) : Type 0 where
   pub good : List Seen
   pub token : Seen
@@ -79,6 +79,8 @@ pub record IsUnexpected (ts : List Seen) (line col : ℕ) : Type 0 where
   pub line_is : token.1.line ≡ line
   pub col_is : token.1.col ≡ col
   pub begun : Begins good
+  pub later : List Bool
+  pub within : program_past begun.phrase ≡ quiet good ++ later
   pub none : (more : List Seen) (p : ProgramPhrase) → IsProgram p → program_tokens p ≡ good ++ token ∷ more → ⊥
 
 -- a token stands in a line, and a program has it behind the tokens before it as its first one past a limit

@@ -1,13 +1,12 @@
 // What the reader takes, and what the grammar spells.
-ghost use Rattle.std.specs.Prelude.{◌≡◌, ◌≤◌, ◌<◌, ◌++◌, ◌∷◌, ℕ, List, Bool, Some, Ok, Err, true, false};
+ghost use Rattle.std.specs.Prelude.{◌≡◌, ◌≤◌, ◌<◌, ◌++◌, ◌∷◌, ℕ, List, Some, Ok, Err, true, false};
 ghost use Rattle.prem_tree.specs.Syntax.{Expression, Statement, ProgramText};
 ghost use Rattle.prem_token.specs.declared.fail.FrontFail.TheVariants.{Syntax, TooDeep};
 ghost use Rattle.prem_token.specs.Lexeme.{Seen};
-ghost use Rattle.prem_token.specs.Reading.{too_deep};
 ghost use Rattle.prem_grammar.specs.Expression.{State, bottom, wants, ends, stops, move};
 ghost use Rattle.prem_grammar.specs.Statement.{Point, leaves, turn};
 ghost use Rattle.prem_grammar.specs.Reader.{read};
-ghost use Rattle.prem_grammar.specs.Phrases.{Phrase, spelled, tree, IsExpression, Spells, quiet};
+ghost use Rattle.prem_grammar.specs.Phrases.{Phrase, spelled, tree, IsExpression, Spells};
 ghost use Rattle.prem_grammar.specs.StatementPhrases.{StatementPhrases, AreStatements, all_written, all_meant, all_past};
 ghost use Rattle.prem_grammar.specs.ProgramPhrases.{ProgramPhrase, IsProgram, program_tokens, program_tree, program_past};
 ghost use Rattle.prem_grammar.specs.Law.{moves, is_closer, body_begins, turns, goes_on, limits, ends_body, are_within, IsUnexpected, IsPast};
@@ -45,9 +44,9 @@ pub fn statements_are_exact()
 {}
 
 /// The reader of programs is exact. It gives the tree of a program none of whose tokens is past a limit, and what it
-/// gives a tree for is such a program. Where it refuses a token with `Syntax`, the tokens before it begin a program,
-/// and no program has that token behind them. (Lines count from 1.) Where a token is the first past a limit, it is
-/// refused with `TooDeep`, whatever stands behind it; and a token refused so is the first past a limit in a program.
+/// gives a tree for is such a program. It refuses a token with `Syntax` exactly where the tokens before it begin a
+/// program, with none of them past a limit, and no program has that token behind them. (Lines count from 1.) It refuses
+/// a token with `TooDeep` exactly where it is the first past a limit in a program, whatever stands behind it.
 pub fn programs_are_exact()
     ensures read { (p : ProgramPhrase) → IsProgram p → are_within (program_past p) ≡ true
         → read (program_tokens p) ≡ Ok (program_tree p) }
@@ -56,8 +55,7 @@ pub fn programs_are_exact()
         × (are_within (program_past p) ≡ true) }
     ensures stops { (ts : List Seen) (line col : ℕ) → read ts ≡ Err (Syntax line col) → 0 < line
         → IsUnexpected ts line col }
-    ensures deep { (p : ProgramPhrase) (good : List Seen) (t : Seen) (more later : List Seen) (bs : List Bool) → IsProgram p
-        → program_tokens p ≡ good ++ t ∷ more → program_past p ≡ quiet good ++ true ∷ bs
-        → read (good ++ t ∷ later) ≡ too_deep t.1 }
+    ensures unexpected { (ts : List Seen) (line col : ℕ) → IsUnexpected ts line col → read ts ≡ Err (Syntax line col) }
     ensures limits { (ts : List Seen) (line : ℕ) → read ts ≡ Err (TooDeep line) → IsPast ts line }
+    ensures past { (ts : List Seen) (line : ℕ) → IsPast ts line → read ts ≡ Err (TooDeep line) }
 {}

@@ -13,10 +13,11 @@ use Rattle.prem_grammar.specs.Item.{Stage, outside, finished, Step, ahead, made,
 use Rattle.prem_grammar.specs.Reader.{unless_deep, at_end, read_on, read}
 use Rattle.prem_grammar.specs.Phrases.{IsRow}
 use Rattle.prem_grammar.specs.ProgramPhrases.{items_tokens, program_tokens, program_tree}
-use Rattle.prem_grammar.specs.Law.{stages, Begins, IsUnexpected}
-use Rattle.prem_grammar.proofs.Program.{Reached, reached, read_by, stages_step, read_step, shallow, deep, program_stages, programs_read, refusals_stop}
+use Rattle.prem_grammar.specs.Law.{stages, Begins}
+use Rattle.prem_grammar.proofs.Program.{Reached, reached, read_by, stages_step, read_step, shallow, deep, program_stages, programs_read}
 use Rattle.prem_grammar.proofs.ProgramSound.{programs_sound}
-use Rattle.prem_grammar.proofs.ProgramBegun.{begins_after, limits_stop}
+use Rattle.prem_grammar.proofs.ProgramBegun.{begins_after}
+use Rattle.prem_grammar.proofs.ProgramRefused.{refused_for, unexpected_refused, past_refused}
 use Rattle.prem_spelling.specs.Spellings.{every}
 use Rattle.prem_spelling.specs.Division.{place_behind, Divides, up_to, gap, token, AreTokens, Refused}
 use Rattle.prem_spelling.proofs.Bytes.{every_append}
@@ -124,10 +125,6 @@ all_lines : (text : List ℕ) (all : List Seen) → AreTokens text all → every
 all_lines text all a =
     ap (every has_line) a.is_all ∙ every_append has_line a.tokens ((end_of_text, place_behind text) ∷ []) (lines [] text a.tokens [] a.divides) (and_from (has_line (end_of_text, place_behind text)) true (behind_line text) refl)
 
-syntax_by : (text : List ℕ) (all : List Seen) (line col : ℕ) → AreTokens text all → read all ≡ Err (Syntax line col) → IsUnexpected all line col
-syntax_by text all zero col a is = absurd (not_short text all col a (short all [] outside col (all_lines text all a) is))
-syntax_by text all (suc line) col a is = refusals_stop begins_after all (suc line) col is (omega arith)
-
 -- ---- whole texts
 
 pub text_read : (text : List ℕ) (items : ProgramText) → IsProgramText text items → (tokens_of text >>= read) ≡ Ok items
@@ -144,56 +141,28 @@ sound_by (Ok all) text items tokens is =
 pub text_sound : (text : List ℕ) (items : ProgramText) → (tokens_of text >>= read) ≡ Ok items → IsProgramText text items
 text_sound text items is = sound_by (tokens_of text) text items refl is
 
-pub text_divided : (text : List ℕ) (fail : FrontFail) → Refused text fail → (tokens_of text >>= read) ≡ Err fail
-text_divided text fail r = ap (λ (x : Result (List Seen) FrontFail). x >>= read) (refusals_complete text fail r)
-
--- the grammar refuses a token or a depth, and nothing else
-abbrev OfGrammar : FrontFail → Type 0
-OfGrammar (Syntax line col) = Unit {0}
-OfGrammar (TooDeep line) = Unit {0}
-OfGrammar _ = ⊥
-
-syntax_fail : (line col : ℕ) (fail : FrontFail) → Syntax line col ≡ fail → OfGrammar fail
-syntax_fail line col fail is = subst OfGrammar is tt
-
-deep_fail : (line : ℕ) (fail : FrontFail) → TooDeep line ≡ fail → OfGrammar fail
-deep_fail line fail is = subst OfGrammar is tt
-
-end_fails : (items : List ItemText) (s : Stage) (fail : FrontFail) → at_end items s ≡ Err fail → OfGrammar fail
-end_fails items finished fail e = absurd cc
-end_fails items outside fail e = let same : Syntax 0 0 ≡ fail = cc in syntax_fail 0 0 fail same
-end_fails items _ fail e = let same : Syntax 0 0 ≡ fail = cc in syntax_fail 0 0 fail same
-
-ahead_fails : (b : Bool) (items : List ItemText) (next : Stage) (t : Seen) (ts : List Seen) (fail : FrontFail) → is_too_deep next ≡ b → unless_deep next t.1 (read_on items next ts) ≡ Err fail →
-    (read_on items next ts ≡ Err fail → OfGrammar fail) → OfGrammar fail
-ahead_fails true items next t ts fail is e rec =
-    let too : too_deep t.1 ≡ Err fail = sym (deep next t.1 (read_on items next ts) is) ∙ e in
-    let same : TooDeep t.1.line ≡ fail = cc in deep_fail t.1.line fail same
-ahead_fails false items next t ts fail is e rec = rec (sym (shallow next t.1 (read_on items next ts) is) ∙ e)
-
-step_fails : (x : Step) (items : List ItemText) (t : Seen) (ts : List Seen) (fail : FrontFail) → read_by items t ts x ≡ Err fail →
-    ((more : List ItemText) (next : Stage) → read_on more next ts ≡ Err fail → OfGrammar fail) → OfGrammar fail
-step_fails (ahead next) items t ts fail e rec = ahead_fails (is_too_deep next) items next t ts fail refl e (rec items next)
-step_fails (made item) items t ts fail e rec = rec (items ++ item ∷ []) outside e
-step_fails refused items t ts fail e rec = let same : Syntax t.1.line t.1.col ≡ fail = cc in syntax_fail t.1.line t.1.col fail same
-
-fails : (ts : List Seen) (items : List ItemText) (s : Stage) (fail : FrontFail) → read_on items s ts ≡ Err fail → OfGrammar fail
-fails [] items s fail e = end_fails items s fail e
-fails (t ∷ ts) items s fail e = step_fails (step s t) items t ts fail (sym (read_step items s t ts (step s t) refl) ∙ e) (λ more next is. fails ts more next fail is)
-
-wrong_by : (fail : FrontFail) (text : List ℕ) (all : List Seen) → AreTokens text all → read all ≡ Err fail → OfGrammar fail → IsNoProgram text fail
-wrong_by (Syntax line col) text all a is of = unexpected all line col a (syntax_by text all line col a is)
-wrong_by (TooDeep line) text all a is of = past all line a (limits_stop all line is)
-wrong_by (NotText n) text all a is of = absurd of
-wrong_by (Token line col) text all a is of = absurd of
-wrong_by TooLong text all a is of = absurd of
-wrong_by OutOfMemory text all a is of = absurd of
+wrong_by : (fail : FrontFail) (text : List ℕ) (all : List Seen) → AreTokens text all → read all ≡ Err fail → IsNoProgram text fail
+wrong_by (Syntax zero col) text all a is = absurd (not_short text all col a (short all [] outside col (all_lines text all a) is))
+wrong_by (Syntax (suc line) col) text all a is = unexpected all (suc line) col a (refused_for all (Syntax (suc line) col) is (omega arith))
+wrong_by (TooDeep line) text all a is = past all line a (refused_for all (TooDeep line) is)
+wrong_by (NotText n) text all a is = absurd (refused_for all (NotText n) is)
+wrong_by (Token line col) text all a is = absurd (refused_for all (Token line col) is)
+wrong_by TooLong text all a is = absurd (refused_for all TooLong is)
+wrong_by OutOfMemory text all a is = absurd (refused_for all OutOfMemory is)
 
 refused_by : (r : Result (List Seen) FrontFail) (text : List ℕ) (fail : FrontFail) → tokens_of text ≡ r → (r >>= read) ≡ Err fail → IsNoProgram text fail
 refused_by (Err other) text fail tokens is =
     let same : other ≡ fail = cc in
     not_divided fail (refusals_sound text fail (tokens ∙ ap (λ (f : FrontFail). Err f) same))
-refused_by (Ok all) text fail tokens is = wrong_by fail text all (sound text all tokens) is (fails all [] outside fail is)
+refused_by (Ok all) text fail tokens is = wrong_by fail text all (sound text all tokens) is
 
 pub text_refused : (text : List ℕ) (fail : FrontFail) → (tokens_of text >>= read) ≡ Err fail → IsNoProgram text fail
 text_refused text fail is = refused_by (tokens_of text) text fail refl is
+
+tokens_read : (text : List ℕ) (all : List Seen) → AreTokens text all → (tokens_of text >>= read) ≡ read all
+tokens_read text all a = ap (λ (r : Result (List Seen) FrontFail). r >>= read) (complete text all a)
+
+pub no_program_refused : (text : List ℕ) (fail : FrontFail) → IsNoProgram text fail → (tokens_of text >>= read) ≡ Err fail
+no_program_refused text _ (not_divided fail r) = ap (λ (x : Result (List Seen) FrontFail). x >>= read) (refusals_complete text fail r)
+no_program_refused text _ (unexpected all line col a u) = tokens_read text all a ∙ unexpected_refused all line col u
+no_program_refused text _ (past all line a p) = tokens_read text all a ∙ past_refused all line p

@@ -25,7 +25,7 @@ pub record IsProgramText (text : List ℕ) (items : ProgramText) : Type 0 where
   pub within : are_within (program_past phrase) ≡ true
   pub tree : program_tree phrase ≡ items
 
--- a text doesn't divide into tokens; or of its tokens one stands where no program has it behind those before; or one is the first past a limit in some program
+-- a text doesn't divide into tokens; or of its tokens one stands where no program has it behind those before, none of which is past a limit; or one is the first past a limit in some program
 pub data IsNoProgram (text : List ℕ) : FrontFail → Type 0 where
   not_divided : (fail : FrontFail) → Refused text fail → IsNoProgram text fail
   unexpected : (all : List Seen) (line col : ℕ) → AreTokens text all → IsUnexpected all line col → IsNoProgram text (Syntax line col)
