@@ -7,8 +7,8 @@ use Rattle.prem_gate.specs.declared.request.RunInput.{RunInput}
 use Rattle.prem_cycle.specs.Inputs.{setup_of, image_run}
 use Rattle.prem_cycle.specs.Run.{cycles_of}
 use Rattle.prem_cycle.specs.FactsOf.{report_of}
-use Rattle.prem_tree.specs.Syntax.{ProgramText}
-use Rattle.prem_tree.specs.Source.{source}
+use Rattle.prem_syntax.specs.Syntax.{ProgramText}
+use Rattle.prem_meaning.specs.Source.{source}
 use Rattle.prem_small.specs.Small.{is_small, body_of}
 use Rattle.prem_small.specs.Runs.{machine_run, outputs_of}
 use Rattle.prem_small.proofs.Machine.{small_finishes}

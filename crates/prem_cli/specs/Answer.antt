@@ -3,8 +3,8 @@ use Rattle.std.specs.Prelude.{◌≡◌, ℕ, ◌==◌, nat_le, Bool, true, fals
 use Rattle.std.specs.Str.{bytes_eq}
 use Rattle.std.specs.Io.KnownBytes.{append_known}
 use Rattle.prem_io.specs.Files.{Files, stored}
-use Rattle.prem_tree.specs.Syntax.{ProgramText}
-use Rattle.prem_tree.specs.Source.{source}
+use Rattle.prem_syntax.specs.Syntax.{ProgramText}
+use Rattle.prem_meaning.specs.Source.{source}
 use Rattle.prem_cycle.specs.State.{Counts, State}
 use Rattle.prem_cycle.specs.FactsOf.{TaskReport}
 use Rattle.prem_token.specs.declared.fail.FrontFail.{FrontFail}

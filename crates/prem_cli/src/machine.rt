@@ -1,8 +1,8 @@
 // One job of a small program on the machine.
 ghost use Rattle.std.specs.Prelude.{◌≡◌, [], ◌∷◌, true, IfOk};
 ghost use Rattle.prem_list.specs.Sequence.{items_of};
-ghost use Rattle.prem_tree.specs.SyntaxOf.{program_of};
-ghost use Rattle.prem_tree.specs.Source.{source};
+ghost use Rattle.prem_syntax.specs.SyntaxOf.{program_of};
+ghost use Rattle.prem_meaning.specs.Source.{source};
 ghost use Rattle.prem_cycle.specs.Inputs.{words_of};
 ghost use Rattle.prem_cycle.specs.FactsOf.{report_in};
 ghost use Rattle.prem_machine.specs.States.{state_of};
@@ -16,7 +16,7 @@ use prem_gate::RunInput;
 use prem_list::Sequence;
 use prem_machine::Machine;
 use prem_small::image;
-use prem_tree::Program;
+use prem_syntax::Program;
 use std::alloc::{AllocError, Global};
 
 /// The cycles that a run takes at most.

@@ -1,7 +1,7 @@
 // The top call.
 ghost use Rattle.std.specs.Prelude.{◌≡◌, ◌≤◌, ◌⊎◌, IfOk, IsErrOf, IsTrue, map, string_bytes};
 ghost use Rattle.prem_io.specs.Counts.{Rose};
-ghost use Rattle.prem_tree.specs.SyntaxOf.{program_of};
+ghost use Rattle.prem_syntax.specs.SyntaxOf.{program_of};
 ghost use Rattle.prem_cli.specs.Answer.{program_answer, source_answer, is_settled, Ends, Answered, IsAnswer};
 ghost use Rattle.prem_text.specs.Texts.{reads};
 ghost use Rattle.prem_cli.specs.declared.top.Stop.TheVariants.{OutOfMemory};
@@ -13,7 +13,7 @@ use crate::write::write_all;
 use prem_front::parse;
 use prem_io::{Sink, Store, StoreFail};
 use prem_small::is_small;
-use prem_tree::Program;
+use prem_syntax::Program;
 use std::alloc::{AllocError, Global};
 
 /// How the program ends; the exit status is the variant's place, from 0.

@@ -1,6 +1,6 @@
 -- What the reader's states in memory stand for.
-use Rattle.prem_tree.specs.Name.{name_bytes}
-use Rattle.prem_tree.specs.SyntaxOf.{expression_of}
+use Rattle.prem_syntax.specs.Name.{name_bytes}
+use Rattle.prem_syntax.specs.SyntaxOf.{expression_of}
 use Rattle.prem_grammar.specs.Expression.{Open, bottom, under, right_of, bracket, index_of, State, wants, named, has, Move, goes, ends, stops}
 use Rattle.prem_expression.specs.declared.expression.Open.{Open as CodeOpen}
 use Rattle.prem_expression.specs.declared.expression.Open.TheVariants as code

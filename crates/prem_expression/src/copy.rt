@@ -1,9 +1,9 @@
 // Copies of names and expressions.
 ghost use Rattle.std.specs.Prelude.{◌≡◌, IfOk};
-ghost use Rattle.prem_tree.specs.Name.{name_bytes};
-ghost use Rattle.prem_tree.specs.SyntaxOf.{expression_of};
+ghost use Rattle.prem_syntax.specs.Name.{name_bytes};
+ghost use Rattle.prem_syntax.specs.SyntaxOf.{expression_of};
 
-use prem_tree::{Expr, Name};
+use prem_syntax::{Expr, Name};
 use std::alloc::{AllocError, Global};
 
 /// A copy of a name. It fails only for want of memory.

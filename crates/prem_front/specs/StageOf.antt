@@ -2,8 +2,8 @@
 use Rattle.std.specs.Prelude.{map}
 use Rattle.std.specs.Option.{option_map}
 use Rattle.prem_list.specs.Sequence.{items_of}
-use Rattle.prem_tree.specs.Name.{name_bytes}
-use Rattle.prem_tree.specs.SyntaxOf.{mark_of, global_of, parameter_of, function_of, item_of}
+use Rattle.prem_syntax.specs.Name.{name_bytes}
+use Rattle.prem_syntax.specs.SyntaxOf.{mark_of, global_of, parameter_of, function_of, item_of}
 use Rattle.prem_token.specs.Lexeme.{seen_of}
 use Rattle.prem_expression.specs.StateOf.{state_of}
 use Rattle.prem_statement.specs.SlotOf.{slot_of}

@@ -1,7 +1,7 @@
 // Functions behind their name.
 ghost use Rattle.std.specs.Prelude.{◌≡◌, IfOk, map};
 ghost use Rattle.prem_list.specs.Sequence.{items_of};
-ghost use Rattle.prem_tree.specs.SyntaxOf.{expression_of, statement_of, parameter_of, local_of, function_of};
+ghost use Rattle.prem_syntax.specs.SyntaxOf.{expression_of, statement_of, parameter_of, local_of, function_of};
 ghost use Rattle.prem_token.specs.Lexeme.{seen_of};
 ghost use Rattle.prem_expression.specs.StateOf.{state_of};
 ghost use Rattle.prem_statement.specs.PointOf.{turn_of};
@@ -17,8 +17,8 @@ use prem_list::Sequence;
 use prem_statement::{
     Around, Point, Slot, Turn, is_comma, is_right_brace, is_right_parenthesis, is_semicolon, turn,
 };
+use prem_syntax::{Expr, Function, Item, Local, Param, Stmt};
 use prem_token::{Spotted, Token, Word};
-use prem_tree::{Expr, Function, Item, Local, Param, Stmt};
 use std::alloc::{AllocError, Global};
 
 /// The greatest number of tokens of an expression, and one more: past it nothing is left of the room.

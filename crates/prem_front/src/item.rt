@@ -18,8 +18,8 @@ use crate::stage::{Constant, ItemRow, Stage, Step, Value};
 use crate::typing::type_or_name;
 use prem_list::Sequence;
 use prem_statement::{Slot, copy_spotted, fits, is_past, turn, value_at};
+use prem_syntax::Item;
 use prem_token::Spotted;
-use prem_tree::Item;
 use std::alloc::{AllocError, Global};
 
 /// A row has all its tokens.

@@ -1,7 +1,7 @@
 // Reading a text.
 ghost use Rattle.std.specs.Prelude.{◌≡◌, map};
 ghost use Rattle.prem_list.specs.Sequence.{items_of};
-ghost use Rattle.prem_tree.specs.SyntaxOf.{item_of, program_of};
+ghost use Rattle.prem_syntax.specs.SyntaxOf.{item_of, program_of};
 ghost use Rattle.prem_token.specs.Reading.{Gives};
 ghost use Rattle.prem_token.specs.Lexeme.{seen_of};
 ghost use Rattle.prem_grammar.specs.Reader.{at_end, read};
@@ -12,8 +12,8 @@ use crate::item::{is_too_deep, step};
 use crate::stage::{Stage, Step};
 use prem_lexer::tokens;
 use prem_list::Sequence;
+use prem_syntax::{Item, Place, Program};
 use prem_token::{FrontFail, Spotted};
-use prem_tree::{Item, Place, Program};
 use std::alloc::Global;
 
 /// No program has the token at a place.

@@ -2,8 +2,8 @@
 use prem_expression::State;
 use prem_list::Sequence;
 use prem_statement::{Point, Slot};
+use prem_syntax::{Function, Global, Item, Mark, Name, Param, Place, Ty};
 use prem_token::Spotted;
-use prem_tree::{Function, Global, Item, Mark, Name, Param, Place, Ty};
 
 /// How far a type is read: `unsigned` is one, and the beginning of others.
 #[derive(Clone, Copy, Debug)]

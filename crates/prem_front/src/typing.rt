@@ -1,7 +1,7 @@
 // Types and the names behind them.
 ghost use Rattle.std.specs.Prelude.{◌≡◌, IfOk};
 ghost use Rattle.std.specs.Option.{option_map};
-ghost use Rattle.prem_tree.specs.Name.{name_bytes};
+ghost use Rattle.prem_syntax.specs.Name.{name_bytes};
 ghost use Rattle.prem_token.specs.Lexeme.{lexeme_of, seen_of};
 ghost use Rattle.prem_grammar.specs.Item.{type_begun, behind_signed, behind_unsigned, type_word, type_in, declared, type_or_name, type_begins, begins_type};
 ghost use Rattle.prem_front.specs.StageOf.{typing_of, declared_of, stage_of, step_of};
@@ -10,8 +10,8 @@ use crate::stage::{Declared, ItemRow, Stage, Step, Typing};
 use prem_expression::copy_name;
 use prem_list::Sequence;
 use prem_statement::Slot;
+use prem_syntax::{Name, Param, Place, Ty};
 use prem_token::{Spotted, Token, Word};
-use prem_tree::{Name, Param, Place, Ty};
 use std::alloc::{AllocError, Global};
 
 /// No tokens.

@@ -1,10 +1,10 @@
 -- What the grammar spells is read.
 use Rattle.std.proofs.Common.{◌≡◌, ◌≤◌, ℕ, List, Option, None, Some, true, false, refl, ap, ◌∙◌, arith, nat_le, nat_lt}
 use Rattle.std.proofs.lemmas.Bool.Decides.{nat_tests}
-use Rattle.prem_tree.specs.declared.tree.Place.{Place}
-use Rattle.prem_tree.specs.declared.tree.UnOp.{UnOp}
+use Rattle.prem_syntax.specs.declared.tree.Place.{Place}
+use Rattle.prem_syntax.specs.declared.tree.UnOp.{UnOp}
 use Rattle.prem_word.specs.declared.kind.BinOp.{BinOp}
-use Rattle.prem_tree.specs.Syntax.{Text, Expression, literal, variable, element, unary, binary}
+use Rattle.prem_syntax.specs.Syntax.{Text, Expression, literal, variable, element, unary, binary}
 use Rattle.prem_token.specs.declared.token.Mark.{Mark}
 use Rattle.prem_token.specs.declared.token.Mark.TheVariants as m
 use Rattle.prem_token.specs.Lexeme.{Lexeme, name, number, word, mark, end_of_text, Seen}

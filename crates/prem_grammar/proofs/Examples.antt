@@ -2,10 +2,10 @@
 use Rattle.std.specs.Prelude.{◌≡◌, ℕ, ◌+◌, pos, neg_ℤ, Bool, true, false, List, [], ◌∷◌, ◌++◌, replicate, None, Some, Result, Ok, Err, refl}
 use Rattle.prem_word.specs.declared.kind.Kind.TheVariants.{Int, Unsigned}
 use Rattle.prem_word.specs.declared.kind.BinOp.TheVariants.{Add, Sub, Mul, Shl, Eq, And}
-use Rattle.prem_tree.specs.declared.tree.Place.{Place}
-use Rattle.prem_tree.specs.declared.tree.UnOp.TheVariants.{Neg}
-use Rattle.prem_tree.specs.declared.tree.Ty.TheVariants as ty
-use Rattle.prem_tree.specs.Syntax.{Text, literal, variable, element, unary, binary, block, if_then, if_else, bounded_while, counting_for, assign, output, input, call, Statements, no_statements, next_statement, absent, one, many, FunctionText, global_item, function_item, ProgramText}
+use Rattle.prem_syntax.specs.declared.tree.Place.{Place}
+use Rattle.prem_syntax.specs.declared.tree.UnOp.TheVariants.{Neg}
+use Rattle.prem_syntax.specs.declared.tree.Ty.TheVariants as ty
+use Rattle.prem_syntax.specs.Syntax.{Text, literal, variable, element, unary, binary, block, if_then, if_else, bounded_while, counting_for, assign, output, input, call, Statements, no_statements, next_statement, absent, one, many, FunctionText, global_item, function_item, ProgramText}
 use Rattle.prem_token.specs.declared.fail.FrontFail.{FrontFail}
 use Rattle.prem_token.specs.declared.token.Mark.TheVariants as m
 use Rattle.prem_token.specs.declared.token.Word.TheVariants as w

@@ -2,7 +2,7 @@
 use Rattle.std.proofs.Common.{◌≡◌, ◌≤◌, ℕ, List, [], ◌∷◌, ◌++◌, true, refl, ap, sym, subst, ◌∙◌, append_assoc, arith}
 use Rattle.std.proofs.lemmas.List.{append-nil}
 use Rattle.prem_word.specs.declared.kind.Kind.TheVariants.{Int}
-use Rattle.prem_tree.specs.declared.tree.Place.{Place}
+use Rattle.prem_syntax.specs.declared.tree.Place.{Place}
 use Rattle.prem_token.specs.declared.token.Mark.TheVariants as m
 use Rattle.prem_token.specs.declared.token.Word.TheVariants as w
 use Rattle.prem_token.specs.Lexeme.{Lexeme, name, number, word, mark, end_of_text, Seen}

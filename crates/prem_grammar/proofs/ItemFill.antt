@@ -1,7 +1,7 @@
 -- Whatever the reader of items has taken begins an item.
 use Rattle.std.proofs.Common.{◌≡◌, ◌⊎◌, inl, inr, List, [], ◌∷◌, ◌++◌, Option, None, Some, Bool, true, false, refl, ap, sym, subst, ◌∙◌, append_assoc, arith}
 use Rattle.std.proofs.lemmas.List.{append-nil}
-use Rattle.prem_tree.specs.Syntax.{FunctionText, ItemText}
+use Rattle.prem_syntax.specs.Syntax.{FunctionText, ItemText}
 use Rattle.prem_token.specs.Lexeme.{Seen}
 use Rattle.prem_grammar.specs.Item.{Typing, Declared, Constant, Value, ItemRow, Stage}
 use Rattle.prem_grammar.specs.Phrases.{Phrase, spelled, IsExpression, IsRow}

@@ -1,9 +1,9 @@
 -- What the grammar of items spells is read, and each token past a limit is seen to be.
 use Rattle.std.proofs.Common.{◌≡◌, List, [], ◌∷◌, ◌++◌, Option, None, Some, Bool, true, false, refl, ap, sym, subst, ◌∙◌, append_assoc}
-use Rattle.prem_tree.specs.declared.tree.Place.{Place}
-use Rattle.prem_tree.specs.declared.tree.Ty.{Ty}
-use Rattle.prem_tree.specs.declared.tree.Ty.TheVariants.{Void, Int, Unsigned, Short, Ushort, Schar, Uchar}
-use Rattle.prem_tree.specs.Syntax.{Text}
+use Rattle.prem_syntax.specs.declared.tree.Place.{Place}
+use Rattle.prem_syntax.specs.declared.tree.Ty.{Ty}
+use Rattle.prem_syntax.specs.declared.tree.Ty.TheVariants.{Void, Int, Unsigned, Short, Ushort, Schar, Uchar}
+use Rattle.prem_syntax.specs.Syntax.{Text}
 use Rattle.prem_token.specs.declared.token.Mark.TheVariants as m
 use Rattle.prem_token.specs.declared.token.Word.TheVariants as w
 use Rattle.prem_token.specs.Lexeme.{Lexeme, name, number, word, mark, end_of_text, Seen}

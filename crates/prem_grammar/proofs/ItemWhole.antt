@@ -1,9 +1,9 @@
 -- Globals and functions are read as the grammar says.
 use Rattle.std.proofs.Common.{◌≡◌, ℕ, ℤ, List, [], ◌∷◌, ◌++◌, Option, None, Some, Bool, true, false, refl, ap, sym, subst, ◌∙◌, append_assoc}
 use Rattle.std.proofs.lemmas.List.{append-nil}
-use Rattle.prem_tree.specs.declared.tree.Place.{Place}
-use Rattle.prem_tree.specs.declared.tree.Ty.{Ty}
-use Rattle.prem_tree.specs.Syntax.{Text, RegionText, MarkText, InitialValue, absent, one, many, GlobalVariable, global_item}
+use Rattle.prem_syntax.specs.declared.tree.Place.{Place}
+use Rattle.prem_syntax.specs.declared.tree.Ty.{Ty}
+use Rattle.prem_syntax.specs.Syntax.{Text, RegionText, MarkText, InitialValue, absent, one, many, GlobalVariable, global_item}
 use Rattle.prem_token.specs.declared.token.Mark.TheVariants as m
 use Rattle.prem_token.specs.declared.token.Word.TheVariants as w
 use Rattle.prem_token.specs.Lexeme.{Lexeme, word, mark, Seen}

@@ -1,8 +1,8 @@
 -- All statements of a body are read as the grammar says.
 use Rattle.std.proofs.Common.{◌≡◌, ℕ, suc, List, [], ◌∷◌, ◌++◌, None, Some, Bool, true, false, refl, ap, sym, subst, ◌∙◌, append_assoc}
 use Rattle.std.proofs.lemmas.List.{append-nil}
-use Rattle.prem_tree.specs.declared.tree.Place.{Place}
-use Rattle.prem_tree.specs.Syntax.{Expression, Statement, block, if_then}
+use Rattle.prem_syntax.specs.declared.tree.Place.{Place}
+use Rattle.prem_syntax.specs.Syntax.{Expression, Statement, block, if_then}
 use Rattle.prem_token.specs.declared.token.Mark.TheVariants as m
 use Rattle.prem_token.specs.Lexeme.{Lexeme, mark, Seen}
 use Rattle.prem_grammar.specs.Slots.{right_brace, value_at, place_at, is_else, is_right_brace}

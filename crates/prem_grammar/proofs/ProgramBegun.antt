@@ -1,7 +1,7 @@
 -- What the reader has taken begins a program, also where it refuses the next token.
 use Rattle.std.proofs.Common.{◌≡◌, ◌⊎◌, inl, inr, ℕ, List, [], ◌∷◌, ◌++◌, None, Some, Err, Bool, true, false, refl, ap, sym, subst, ◌∙◌, append_assoc}
 use Rattle.std.proofs.lemmas.List.{append-nil}
-use Rattle.prem_tree.specs.Syntax.{ItemText}
+use Rattle.prem_syntax.specs.Syntax.{ItemText}
 use Rattle.prem_token.specs.declared.fail.FrontFail.TheVariants.{TooDeep}
 use Rattle.prem_token.specs.Lexeme.{Seen}
 use Rattle.prem_token.specs.Reading.{no_program}

@@ -1,6 +1,6 @@
 -- Which tokens are refused: those that stand in no program, and the first ones past a limit.
 use Rattle.std.proofs.Common.{◌≡◌, ◌<◌, ℕ, List, [], ◌∷◌, ◌++◌, None, Some, Err, Bool, true, false, refl, ap, sym, subst, ◌∙◌, append_assoc, arith}
-use Rattle.prem_tree.specs.Syntax.{ItemText}
+use Rattle.prem_syntax.specs.Syntax.{ItemText}
 use Rattle.prem_token.specs.declared.fail.FrontFail.{FrontFail}
 use Rattle.prem_token.specs.declared.fail.FrontFail.TheVariants.{Syntax, TooDeep}
 use Rattle.prem_token.specs.Lexeme.{Seen}

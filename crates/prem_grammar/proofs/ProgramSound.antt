@@ -1,7 +1,7 @@
 -- What is read as a program is one, within the limits.
 use Rattle.std.proofs.Common.{◌≡◌, List, [], ◌∷◌, ◌++◌, Ok, Bool, true, false, refl, ap, sym, subst, ◌∙◌, append_assoc}
 use Rattle.std.proofs.lemmas.List.{append-nil}
-use Rattle.prem_tree.specs.Syntax.{ItemText, ProgramText}
+use Rattle.prem_syntax.specs.Syntax.{ItemText, ProgramText}
 use Rattle.prem_token.specs.Lexeme.{Seen}
 use Rattle.prem_token.specs.Reading.{no_program, too_deep}
 use Rattle.prem_grammar.specs.Item.{Stage, outside, finished, Step, ahead, made, refused, step, is_too_deep}

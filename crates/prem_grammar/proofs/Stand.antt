@@ -2,8 +2,8 @@
 use Rattle.std.proofs.Common.{◌≡◌, ℕ, List, [], ◌∷◌, ◌++◌, None, Some, Bool, true, false, refl, ap, sym, subst, ◌∙◌, append_assoc}
 use Rattle.std.specs.Prelude.{if◌then◌else◌}
 use Rattle.std.proofs.lemmas.List.{append-nil}
-use Rattle.prem_tree.specs.declared.tree.Place.{Place}
-use Rattle.prem_tree.specs.Syntax.{Text, Statement}
+use Rattle.prem_syntax.specs.declared.tree.Place.{Place}
+use Rattle.prem_syntax.specs.Syntax.{Text, Statement}
 use Rattle.prem_token.specs.declared.token.Mark.TheVariants as m
 use Rattle.prem_token.specs.Lexeme.{name, mark, Seen}
 use Rattle.prem_grammar.specs.Slots.{Slot, right_parenthesis, left_brace, semicolon, equal_sign, step_sign, a_name, the_else, value_at, place_at}

@@ -2,8 +2,8 @@
 use Rattle.std.proofs.Common.{◌≡◌, ◌+◌, ◌-◌, ℕ, zero, suc, List, [], ◌∷◌, ◌++◌, Option, None, Some, Bool, true, false, ◌&&◌, not, refl, ap, subst, ◌∙◌, append_assoc, arith, nat_lt, nat_le}
 use Rattle.std.specs.Prelude.{if◌then◌else◌}
 use Rattle.std.proofs.lemmas.Bool.Decides.{nat_tests}
-use Rattle.prem_tree.specs.declared.tree.Place.{Place}
-use Rattle.prem_tree.specs.Syntax.{Text, Statement, if_else, bounded_while, counting_for}
+use Rattle.prem_syntax.specs.declared.tree.Place.{Place}
+use Rattle.prem_syntax.specs.Syntax.{Text, Statement, if_else, bounded_while, counting_for}
 use Rattle.prem_token.specs.declared.token.Mark.TheVariants as m
 use Rattle.prem_token.specs.declared.token.Word.TheVariants as w
 use Rattle.prem_token.specs.Lexeme.{Lexeme, name, number, word, mark, end_of_text, Seen}

@@ -1,8 +1,8 @@
 -- Whole statements are read as the grammar says, also where they are nested.
 use Rattle.std.proofs.Common.{◌≡◌, ℕ, suc, List, [], ◌∷◌, ◌++◌, Option, None, Some, true, false, refl, ap, sym, subst, ◌∙◌, append_assoc}
 use Rattle.std.proofs.lemmas.List.{append-nil}
-use Rattle.prem_tree.specs.declared.tree.Place.{Place}
-use Rattle.prem_tree.specs.Syntax.{Text, Expression, Statement, output, call}
+use Rattle.prem_syntax.specs.declared.tree.Place.{Place}
+use Rattle.prem_syntax.specs.Syntax.{Text, Expression, Statement, output, call}
 use Rattle.prem_token.specs.declared.token.Mark.TheVariants as m
 use Rattle.prem_token.specs.Lexeme.{Lexeme, mark, Seen}
 use Rattle.prem_grammar.specs.Slots.{left_parenthesis, right_parenthesis, semicolon, comma, equal_sign, comparison, step_sign, a_name, a_literal, the_if, the_for, the_while, the_bounded, the_out, fits, text_at, value_at, place_at, is_comma}

@@ -2,10 +2,10 @@
 use Rattle.std.specs.Prelude.{ℕ, nat_le, nat_lt, if◌then◌else◌, Option, None, Some}
 use Rattle.prem_word.specs.declared.kind.BinOp.{BinOp}
 use Rattle.prem_word.specs.declared.kind.BinOp.TheVariants.{Add, Sub, Mul, Div, Rem, Shl, Shr, Lt, Le, Gt, Ge, Eq, Ne, And, Xor, Or, AndAlso, OrElse}
-use Rattle.prem_tree.specs.declared.tree.Place.{Place}
-use Rattle.prem_tree.specs.declared.tree.UnOp.{UnOp}
-use Rattle.prem_tree.specs.declared.tree.UnOp.TheVariants.{Neg, Flip, Not}
-use Rattle.prem_tree.specs.Syntax.{Text, Expression, literal, variable, element, unary, binary}
+use Rattle.prem_syntax.specs.declared.tree.Place.{Place}
+use Rattle.prem_syntax.specs.declared.tree.UnOp.{UnOp}
+use Rattle.prem_syntax.specs.declared.tree.UnOp.TheVariants.{Neg, Flip, Not}
+use Rattle.prem_syntax.specs.Syntax.{Text, Expression, literal, variable, element, unary, binary}
 use Rattle.prem_token.specs.declared.token.Mark.{Mark}
 use Rattle.prem_token.specs.declared.token.Mark.TheVariants as m
 use Rattle.prem_token.specs.Lexeme.{Lexeme, name, number, mark, Seen}

@@ -1,6 +1,6 @@
 -- What the reader does with a list of tokens, for the laws that hold it to the grammar.
 use Rattle.std.specs.Prelude.{◌≡◌, ℕ, Bool, true, false, List, [], ◌∷◌, ◌++◌, Option, None, Some}
-use Rattle.prem_tree.specs.Syntax.{ItemText}
+use Rattle.prem_syntax.specs.Syntax.{ItemText}
 use Rattle.prem_token.specs.declared.token.Mark.TheVariants as m
 use Rattle.prem_token.specs.declared.token.Word.TheVariants as w
 use Rattle.prem_token.specs.Lexeme.{Lexeme, word, mark, Seen}

@@ -2,8 +2,8 @@
 use Rattle.std.specs.Prelude.{◌≡◌, ℕ, suc, nat_lt, Bool, true, false, List, [], ◌∷◌, ◌++◌, Option, None, Some}
 use Rattle.prem_word.specs.declared.kind.BinOp.{BinOp}
 use Rattle.prem_word.specs.declared.kind.BinOp.TheVariants.{Add, Sub}
-use Rattle.prem_tree.specs.declared.tree.Place.{Place}
-use Rattle.prem_tree.specs.Syntax.{Text, Expression, LoopNames, Statement, block, if_then, if_else, bounded_while, counting_for, assign, output, input, call}
+use Rattle.prem_syntax.specs.declared.tree.Place.{Place}
+use Rattle.prem_syntax.specs.Syntax.{Text, Expression, LoopNames, Statement, block, if_then, if_else, bounded_while, counting_for, assign, output, input, call}
 use Rattle.prem_token.specs.declared.token.Mark.TheVariants as m
 use Rattle.prem_token.specs.Lexeme.{name, mark, Seen}
 use Rattle.prem_grammar.specs.Slots.{Slot, left_parenthesis, right_parenthesis, left_brace, right_brace, semicolon, comma, equal_sign, plus_sign, plus_plus, plus_equal, minus_minus, minus_equal, comparison, a_name, a_literal, the_if, the_else, the_for, the_while, the_bounded, the_in, the_out, value_at, place_at}

@@ -1,6 +1,6 @@
 // What the reader takes, and what the grammar spells.
 ghost use Rattle.std.specs.Prelude.{◌≡◌, ◌≤◌, ◌<◌, ◌++◌, ◌∷◌, ℕ, List, Some, Ok, Err, true, false};
-ghost use Rattle.prem_tree.specs.Syntax.{Expression, Statement, ProgramText};
+ghost use Rattle.prem_syntax.specs.Syntax.{Expression, Statement, ProgramText};
 ghost use Rattle.prem_token.specs.declared.fail.FrontFail.TheVariants.{Syntax, TooDeep};
 ghost use Rattle.prem_token.specs.Lexeme.{Seen};
 ghost use Rattle.prem_grammar.specs.Expression.{State, bottom, wants, ends, stops, move};

@@ -7,8 +7,8 @@ ghost use Rattle.prem_lexer.specs.Tokens.{is_name_byte, is_blank, is_printable, 
 
 use crate::literal::literal_of;
 use crate::spelling::{longest_mark, reserved_word};
+use prem_syntax::{Name, Place};
 use prem_token::{FrontFail, Spotted, Token};
-use prem_tree::{Name, Place};
 use std::alloc::Global;
 
 /// The greatest number of bytes of a text.

@@ -2,7 +2,7 @@
 ghost use Rattle.std.specs.Prelude.{◌≡◌, ◌≤◌, ◌<◌, ◌^◌, length, slice_index, IfSome};
 ghost use Rattle.prem_lexer.specs.Literal.{digit_value, is_suffix, digits, with_kind, literal_word};
 
-use prem_tree::Kind;
+use prem_syntax::Kind;
 
 /// The value of a digit, or 16.
 fn value_of(b: u8) -> u32

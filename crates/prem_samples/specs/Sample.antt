@@ -1,6 +1,6 @@
 -- Which texts are samples.
 use Rattle.std.specs.Prelude.{ℕ, List, IsOkAnd}
-use Rattle.prem_tree.specs.GroupTwo.{IsWellFormed}
+use Rattle.prem_meaning.specs.GroupTwo.{IsWellFormed}
 use Rattle.prem_text.specs.Texts.{reads}
 
 -- a text is that of a program which breaks no rule

@@ -3,8 +3,8 @@ use Rattle.std.proofs.Common.{◌≡◌, true, subst, ◌<◌, ◌≤◌, ℕ, s
 use Rattle.prem_isa.specs.declared.instr.Instr.TheVariants.{PmOut}
 use Rattle.prem_isa.specs.declared.effect.Phase.TheVariants.{Compatible}
 use Rattle.prem_isa.specs.Plain.{TaskRun, TaskState}
-use Rattle.prem_tree.specs.Syntax.{Statements, no_statements, next_statement, block, if_then, if_else, bounded_while, counting_for, assign, output, input, call}
-use Rattle.prem_tree.specs.Sums.{sum_word}
+use Rattle.prem_syntax.specs.Syntax.{Statements, no_statements, next_statement, block, if_then, if_else, bounded_while, counting_for, assign, output, input, call}
+use Rattle.prem_meaning.specs.Sums.{sum_word}
 use Rattle.prem_small.specs.Small.{is_sum, are_outputs}
 use Rattle.prem_small.specs.Code.{sum_code, body_code}
 use Rattle.prem_small.specs.Image.{Stands}

@@ -5,10 +5,10 @@ use Rattle.prem_word.specs.declared.kind.Kind.TheVariants.{Int, Unsigned}
 use Rattle.prem_word.specs.declared.kind.BinOp.TheVariants.{Add, Sub, Mul}
 use Rattle.prem_isa.specs.declared.instr.Instr.{Instr}
 use Rattle.prem_isa.specs.Decode.{word_of}
-use Rattle.prem_tree.specs.declared.tree.Place.{Place}
-use Rattle.prem_tree.specs.declared.tree.Ty.TheVariants.{Int as IntType}
-use Rattle.prem_tree.specs.Syntax.{Expression, literal, variable, binary, Statements, input, next_statement, no_statements, absent, global_item, function_item}
-use Rattle.prem_tree.specs.Sums.{outputs, job_function, job_program}
+use Rattle.prem_syntax.specs.declared.tree.Place.{Place}
+use Rattle.prem_syntax.specs.declared.tree.Ty.TheVariants.{Int as IntType}
+use Rattle.prem_syntax.specs.Syntax.{Expression, literal, variable, binary, Statements, input, next_statement, no_statements, absent, global_item, function_item}
+use Rattle.prem_meaning.specs.Sums.{outputs, job_function, job_program}
 use Rattle.prem_small.specs.Small.{is_small}
 use Rattle.prem_small.specs.Code.{constant_code, code_of, stack_top}
 use Rattle.prem_small.specs.Image.{content_of}

@@ -5,7 +5,7 @@ use Rattle.std.specs.Int.{w32, to_le_bytes}
 use Rattle.prem_isa.specs.declared.instr.Instr.{Instr}
 use Rattle.prem_isa.specs.Decode.{word_of}
 use Rattle.prem_position.specs.Finish.{IsLone}
-use Rattle.prem_tree.specs.Syntax.{Statements, ProgramText}
+use Rattle.prem_syntax.specs.Syntax.{Statements, ProgramText}
 use Rattle.prem_small.specs.Small.{body_size, is_small, body_of}
 use Rattle.prem_small.specs.Code.{code_of, code_end, stack_top}
 use Rattle.prem_small.specs.Image.{default_plant, code_bytes, content_of, task_of}

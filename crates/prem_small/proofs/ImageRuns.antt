@@ -12,7 +12,7 @@ use Rattle.prem_cycle.specs.Run.{run_of}
 use Rattle.prem_cycle.specs.Inputs.{FitsRun, setup_of, words_of, image_run}
 use Rattle.prem_cycle.specs.FactsOf.{inputs_size}
 use Rattle.prem_position.specs.Finish.{lone}
-use Rattle.prem_tree.specs.Syntax.{Statements}
+use Rattle.prem_syntax.specs.Syntax.{Statements}
 use Rattle.prem_small.specs.Image.{default_plant, task_of, content_of, IsImageOf}
 use Rattle.prem_small.specs.Runs.{machine_run}
 

@@ -8,7 +8,7 @@ use Rattle.prem_image.specs.declared.image.TaskRecord.{TaskRecord}
 use Rattle.prem_image.specs.declared.image.DeviceRecord.{DeviceRecord}
 use Rattle.prem_image.specs.Records.{IsTask, IsImage}
 use Rattle.prem_isa.specs.declared.instr.Instr.{Instr}
-use Rattle.prem_tree.specs.Syntax.{Statements}
+use Rattle.prem_syntax.specs.Syntax.{Statements}
 use Rattle.prem_small.specs.Small.{body_size}
 use Rattle.prem_small.specs.Code.{code_of, code_end, stack_top}
 use Rattle.prem_small.specs.Image.{default_plant, code_bytes, content_of, task_of}

@@ -7,8 +7,8 @@ use Rattle.prem_cycle.specs.Run.{memory_of}
 use Rattle.prem_cycle.specs.FactsOf.{TaskReport}
 use Rattle.prem_position.specs.Finish.{lone}
 use Rattle.prem_position.proofs.Finishes.{finishes_one_job}
-use Rattle.prem_tree.specs.Syntax.{ProgramText}
-use Rattle.prem_tree.specs.Source.{source}
+use Rattle.prem_syntax.specs.Syntax.{ProgramText}
+use Rattle.prem_meaning.specs.Source.{source}
 use Rattle.prem_small.specs.Small.{is_small, body_of}
 use Rattle.prem_small.specs.Code.{code_of}
 use Rattle.prem_small.specs.Image.{default_plant, content_of, task_of}

@@ -5,13 +5,13 @@ use Rattle.std.proofs.lemmas.Bool.{leb-true}
 use Rattle.std.proofs.lemmas.Slice.Eq.{bytes_eq-Decides}
 use Rattle.prem_word.specs.declared.kind.BinOp.{BinOp}
 use Rattle.prem_word.specs.declared.kind.BinOp.TheVariants.{Add as Plus, Sub as Minus}
-use Rattle.prem_tree.specs.declared.tree.Place.{Place}
-use Rattle.prem_tree.specs.declared.tree.Ty.{Ty}
-use Rattle.prem_tree.specs.declared.tree.Ty.TheVariants.{Void}
-use Rattle.prem_tree.specs.Syntax.{Expression, literal, binary, Statements, no_statements, next_statement, output, Text, MarkText, Parameter, LocalVariable, FunctionText, function_item, ProgramText}
-use Rattle.prem_tree.specs.Source.{source}
-use Rattle.prem_tree.specs.Sums.{job_function, job_program, outputs, AreSums, sum_word, sum_words, IsSum}
-use Rattle.prem_tree.proofs.Sums.{source-sums}
+use Rattle.prem_syntax.specs.declared.tree.Place.{Place}
+use Rattle.prem_syntax.specs.declared.tree.Ty.{Ty}
+use Rattle.prem_syntax.specs.declared.tree.Ty.TheVariants.{Void}
+use Rattle.prem_syntax.specs.Syntax.{Expression, literal, binary, Statements, no_statements, next_statement, output, Text, MarkText, Parameter, LocalVariable, FunctionText, function_item, ProgramText}
+use Rattle.prem_meaning.specs.Source.{source}
+use Rattle.prem_meaning.specs.Sums.{job_function, job_program, outputs, AreSums, sum_word, sum_words, IsSum}
+use Rattle.prem_meaning.proofs.Sums.{source-sums}
 use Rattle.prem_small.specs.Small.{is_plus_or_minus, is_literal, is_sum, are_outputs, body_size, is_small_body, is_void, is_plain_job, is_small, body_of}
 use Rattle.prem_small.specs.Code.{code_of}
 use Rattle.prem_small.specs.Runs.{outputs_of, body_values, task_run, EndsWith}

@@ -4,7 +4,7 @@ use Rattle.std.proofs.lemmas.Bool.{ltb-true, ltb-false}
 use Rattle.prem_isa.specs.declared.instr.Instr.{Instr}
 use Rattle.prem_isa.specs.declared.instr.Instr.TheVariants.{Op, PmOut}
 use Rattle.prem_isa.proofs.Round.{InBits-signed}
-use Rattle.prem_tree.specs.Syntax.{Expression, literal, binary, Statements, no_statements, next_statement, output}
+use Rattle.prem_syntax.specs.Syntax.{Expression, literal, binary, Statements, no_statements, next_statement, output}
 use Rattle.prem_small.specs.Small.{sum_size, body_size}
 use Rattle.prem_small.specs.Code.{constant_code, operation, right_code, sum_code, body_code, epilogue, code_of}
 use Rattle.prem_small.specs.Image.{AllFit}

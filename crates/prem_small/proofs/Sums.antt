@@ -16,9 +16,9 @@ use Rattle.prem_isa.specs.declared.instr.AluOp.TheVariants.{Add, Sub}
 use Rattle.prem_isa.specs.Fields.{signed}
 use Rattle.prem_isa.specs.Alu.{word_of_int, compute}
 use Rattle.prem_isa.specs.Act.{with_register}
-use Rattle.prem_tree.specs.Syntax.{Expression, literal, variable, element, unary, binary}
-use Rattle.prem_tree.specs.Sums.{sum_kind, sum_word}
-use Rattle.prem_tree.specs.Resolve.{common}
+use Rattle.prem_syntax.specs.Syntax.{Expression, literal, variable, element, unary, binary}
+use Rattle.prem_meaning.specs.Sums.{sum_kind, sum_word}
+use Rattle.prem_meaning.specs.Resolve.{common}
 use Rattle.prem_small.specs.Small.{is_plus_or_minus, is_literal, is_sum}
 use Rattle.prem_small.specs.Code.{constant_code, right_code, sum_code, operation}
 use Rattle.prem_small.proofs.Straight.{registers_behind, registers_behind-append, with_register-same, with_register-other, are_straight}

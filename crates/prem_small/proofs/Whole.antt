@@ -17,7 +17,7 @@ use Rattle.prem_isa.specs.Alu.{plus, word_of_int}
 use Rattle.prem_isa.specs.Act.{act, accesses, first_registers, jumps, loads, stores, with_register}
 use Rattle.prem_isa.specs.Plain.{TaskRun, PlainState, plain_start}
 use Rattle.prem_cycle.specs.Cycle.{log_size}
-use Rattle.prem_tree.specs.Syntax.{Statements, no_statements, next_statement, output}
+use Rattle.prem_syntax.specs.Syntax.{Statements, no_statements, next_statement, output}
 use Rattle.prem_small.specs.Small.{are_outputs, body_size, is_small_body}
 use Rattle.prem_small.specs.Code.{body_code, epilogue, prologue, start_code, code_of, code_end, stack_top}
 use Rattle.prem_small.specs.Image.{default_plant, code_bytes, content_of, Stands}

@@ -9,7 +9,7 @@ use Rattle.prem_isa.specs.declared.instr.StoreOp.TheVariants.{Sw}
 use Rattle.prem_isa.specs.declared.instr.AluOp.{AluOp}
 use Rattle.prem_isa.specs.declared.instr.AluOp.TheVariants.{Add, Sub}
 use Rattle.prem_isa.specs.Fields.{signed}
-use Rattle.prem_tree.specs.Syntax.{Expression, literal, binary, Statements, no_statements, next_statement, output}
+use Rattle.prem_syntax.specs.Syntax.{Expression, literal, binary, Statements, no_statements, next_statement, output}
 
 -- a constant into a register: one instruction where its signed number is from -2 ^ 11 to 2 ^ 11 - 1, else the upper 20
 -- bits, rounded, and then the lower 12, signed

@@ -8,7 +8,7 @@ use Rattle.prem_isa.specs.Decode.{Fits, word_of}
 use Rattle.prem_plant.specs.declared.plant.Plant.{Plant}
 use Rattle.prem_image.specs.declared.image.TaskRecord.{TaskRecord}
 use Rattle.prem_image.specs.declared.image.Image.{Image}
-use Rattle.prem_tree.specs.Syntax.{Statements}
+use Rattle.prem_syntax.specs.Syntax.{Statements}
 use Rattle.prem_small.specs.Code.{code_of, code_end, stack_top}
 
 -- the numbers of a plant where nothing else is stated

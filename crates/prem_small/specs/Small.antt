@@ -3,9 +3,9 @@ use Rattle.std.specs.Prelude.{ℕ, ◌+◌, ◌^◌, ◌==◌, ◌&&◌, nat_lt,
 use Rattle.std.specs.Str.{bytes_eq}
 use Rattle.prem_word.specs.declared.kind.BinOp.{BinOp}
 use Rattle.prem_word.specs.declared.kind.BinOp.TheVariants.{Add, Sub}
-use Rattle.prem_tree.specs.declared.tree.Ty.{Ty}
-use Rattle.prem_tree.specs.declared.tree.Ty.TheVariants.{Void}
-use Rattle.prem_tree.specs.Syntax.{Expression, literal, binary, Statements, no_statements, next_statement, output, FunctionText, function_item, ProgramText}
+use Rattle.prem_syntax.specs.declared.tree.Ty.{Ty}
+use Rattle.prem_syntax.specs.declared.tree.Ty.TheVariants.{Void}
+use Rattle.prem_syntax.specs.Syntax.{Expression, literal, binary, Statements, no_statements, next_statement, output, FunctionText, function_item, ProgramText}
 
 abbrev pub is_plus_or_minus : BinOp → Bool
 is_plus_or_minus Add = true

@@ -1,7 +1,7 @@
 // The code of small programs.
 ghost use Rattle.std.specs.Prelude.{◌≡◌, ◌≤◌, ◌%◌, ◌^◌, ◌++◌, OnOk, IfOk, vec_len};
 ghost use Rattle.prem_isa.specs.Fields.{signed};
-ghost use Rattle.prem_tree.specs.SyntaxOf.{expression_of, statements_of};
+ghost use Rattle.prem_syntax.specs.SyntaxOf.{expression_of, statements_of};
 ghost use Rattle.prem_isa.specs.declared.instr.Instr.TheVariants.{OpImm};
 ghost use Rattle.prem_isa.specs.declared.instr.AluOp.TheVariants.{Add};
 ghost use Rattle.prem_small.specs.Small.{body_size};
@@ -9,7 +9,7 @@ ghost use Rattle.prem_small.specs.Code.{constant_code, right_code, sum_code, bod
 ghost use Rattle.prem_small.specs.Image.{AllFit};
 
 use prem_isa::{AluOp, Instr, LoadOp, StoreOp};
-use prem_tree::{BinOp, Expr, Stmt};
+use prem_syntax::{BinOp, Expr, Stmt};
 use std::alloc::{AllocError, Global};
 
 /// The register of a statement's value.

@@ -1,8 +1,8 @@
 // What the words of small programs do.
 ghost use Rattle.std.specs.Prelude.{◌≡◌, ℕ, ◌≤◌, [], true, length};
 ghost use Rattle.prem_position.specs.Finish.{IsLone};
-ghost use Rattle.prem_tree.specs.Syntax.{ProgramText};
-ghost use Rattle.prem_tree.specs.Source.{source};
+ghost use Rattle.prem_syntax.specs.Syntax.{ProgramText};
+ghost use Rattle.prem_meaning.specs.Source.{source};
 ghost use Rattle.prem_small.specs.Small.{is_small, body_of};
 ghost use Rattle.prem_small.specs.Code.{code_of};
 ghost use Rattle.prem_small.specs.Image.{default_plant, task_of, content_of};

@@ -2,7 +2,7 @@
 ghost use Rattle.std.specs.Prelude.{◌≡◌, ◌≤◌, ◌<◌, [], ◌∷◌, ◌++◌, ◌+◌, ◌-◌, ◌*◌, ◌/◌, ◌^◌, true, OnOk, IfOk, length, replicate, codes};
 ghost use Rattle.std.specs.Int.{w32, to_le_bytes};
 ghost use Rattle.prem_list.specs.Sequence.{items_of};
-ghost use Rattle.prem_tree.specs.SyntaxOf.{statements_of, program_of};
+ghost use Rattle.prem_syntax.specs.SyntaxOf.{statements_of, program_of};
 ghost use Rattle.prem_small.specs.Small.{is_small, body_of, body_size};
 ghost use Rattle.prem_small.specs.Code.{stack_top};
 ghost use Rattle.prem_small.specs.Image.{AllFit, IsImageOf, default_plant, code_bytes, content_of};
@@ -13,7 +13,7 @@ use prem_image::{Image, TaskRecord};
 use prem_isa::{Instr, encode};
 use prem_list::Sequence;
 use prem_plant::{Label, Plant};
-use prem_tree::{Program, Stmt};
+use prem_syntax::{Program, Stmt};
 use std::alloc::{AllocError, Global};
 
 /// The numbers of a plant where nothing else is stated.

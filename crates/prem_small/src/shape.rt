@@ -1,9 +1,9 @@
 // Which programs are small.
 ghost use Rattle.std.specs.Prelude.{◌≡◌, ◌+◌, ◌-◌, ◌^◌, true, length, min};
-ghost use Rattle.prem_tree.specs.SyntaxOf.{expression_of, statements_of, function_of, program_of};
+ghost use Rattle.prem_syntax.specs.SyntaxOf.{expression_of, statements_of, function_of, program_of};
 ghost use Rattle.prem_small.specs.Small.{is_plus_or_minus, is_literal, is_sum, sum_size, are_outputs, body_size, is_small_body, is_plain_job, is_small, body_of};
 
-use prem_tree::{BinOp, Expr, Function, Item, Program, Stmt, Ty};
+use prem_syntax::{BinOp, Expr, Function, Item, Program, Stmt, Ty};
 
 /// The greatest number of statements, literals and operators together.
 const LIMIT: usize = 4096;

@@ -1,7 +1,7 @@
 -- Small texts and their divisions by hand.
 use Rattle.std.proofs.Common.{◌≡◌, ℕ, Bool, true, false, List, [], ◌∷◌, ◌++◌, codes, refl, replicate}
 use Rattle.prem_word.specs.declared.kind.Kind.TheVariants.{Int, Unsigned}
-use Rattle.prem_tree.specs.declared.tree.Place.{Place}
+use Rattle.prem_syntax.specs.declared.tree.Place.{Place}
 use Rattle.prem_token.specs.declared.fail.FrontFail.TheVariants.{NotText, Token}
 use Rattle.prem_token.specs.declared.token.Mark.TheVariants as m
 use Rattle.prem_token.specs.declared.token.Word.TheVariants as w

@@ -3,7 +3,7 @@ use Rattle.std.proofs.Common.{◌≡◌, ℕ, zero, suc, ◌+◌, ◌-◌, Bool,
 use Rattle.std.proofs.lemmas.Bool.{and_parts, or_parts, and_right}
 use Rattle.std.proofs.lemmas.List.{reverse-append}
 use Rattle.std.proofs.lemmas.List.Sums.{take_while-cons, sum_by-append, sum_by-cons}
-use Rattle.prem_tree.specs.declared.tree.Place.{Place}
+use Rattle.prem_syntax.specs.declared.tree.Place.{Place}
 use Rattle.prem_token.specs.declared.fail.FrontFail.{FrontFail}
 use Rattle.prem_token.specs.declared.fail.FrontFail.TheVariants.{NotText}
 use Rattle.prem_token.specs.Reading.{◌>>=◌, no_token}

@@ -1,6 +1,6 @@
 -- What a text's division into tokens is, apart from any reader.
 use Rattle.std.specs.Prelude.{◌≡◌, ℕ, ◌+◌, ◌<◌, ◌≤◌, ◌==◌, Bool, true, false, ◌||◌, not, List, [], ◌∷◌, ◌++◌, length, reverse, take_while, count_by, codes}
-use Rattle.prem_tree.specs.declared.tree.Place.{Place}
+use Rattle.prem_syntax.specs.declared.tree.Place.{Place}
 use Rattle.prem_token.specs.declared.fail.FrontFail.{FrontFail}
 use Rattle.prem_token.specs.declared.fail.FrontFail.TheVariants.{NotText, Token, TooLong}
 use Rattle.prem_token.specs.Lexeme.{Lexeme, mark, end_of_text, Seen}

@@ -2,11 +2,11 @@
 use Rattle.std.proofs.Common.{◌≡◌, List, [], ◌∷◌, refl, ap, ◌∙◌, map}
 use Rattle.prem_list.specs.declared.Sequence.{Sequence}
 use Rattle.prem_list.specs.Sequence.{items_of}
-use Rattle.prem_tree.specs.declared.tree.Place.{Place}
-use Rattle.prem_tree.specs.declared.tree.Stmt.{Stmt, Block}
-use Rattle.prem_tree.specs.Syntax.{block, next_statement}
-use Rattle.prem_tree.specs.SyntaxOf.{statement_of, statements_of}
-use Rattle.prem_tree.proofs.Rows.{statement_of-Block}
+use Rattle.prem_syntax.specs.declared.tree.Place.{Place}
+use Rattle.prem_syntax.specs.declared.tree.Stmt.{Stmt, Block}
+use Rattle.prem_syntax.specs.Syntax.{block, next_statement}
+use Rattle.prem_syntax.specs.SyntaxOf.{statement_of, statements_of}
+use Rattle.prem_syntax.proofs.Rows.{statement_of-Block}
 use Rattle.prem_grammar.specs.Statement.{listed}
 
 pub statements_listed : (xs : List Stmt) → statements_of xs ≡ listed (map statement_of xs)

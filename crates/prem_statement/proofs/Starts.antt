@@ -1,9 +1,9 @@
 -- Where the first argument of a call begins, and where another one does.
 use Rattle.std.proofs.Common.{◌≡◌, ◌≤◌, ◌<◌, ℕ, List, [], ◌∷◌, length, map, Option, refl, arith}
-use Rattle.prem_tree.specs.declared.tree.Place.{Place}
-use Rattle.prem_tree.specs.declared.tree.Expr.{Expr}
-use Rattle.prem_tree.specs.Syntax.{Text}
-use Rattle.prem_tree.specs.SyntaxOf.{expression_of}
+use Rattle.prem_syntax.specs.declared.tree.Place.{Place}
+use Rattle.prem_syntax.specs.declared.tree.Expr.{Expr}
+use Rattle.prem_syntax.specs.Syntax.{Text}
+use Rattle.prem_syntax.specs.SyntaxOf.{expression_of}
 use Rattle.prem_token.specs.Lexeme.{Seen}
 use Rattle.prem_grammar.specs.Statement.{Around, for_argument, wrong, at_start}
 

@@ -1,8 +1,8 @@
 // Assignments behind their left side.
 ghost use Rattle.std.specs.Prelude.{◌≡◌, IfOk};
 ghost use Rattle.std.specs.Option.{option_map};
-ghost use Rattle.prem_tree.specs.Name.{name_bytes};
-ghost use Rattle.prem_tree.specs.SyntaxOf.{expression_of, statement_of};
+ghost use Rattle.prem_syntax.specs.Name.{name_bytes};
+ghost use Rattle.prem_syntax.specs.SyntaxOf.{expression_of, statement_of};
 ghost use Rattle.prem_token.specs.Lexeme.{lexeme_of, seen_of};
 ghost use Rattle.prem_grammar.specs.Statement.{expression, begin, finish, side, changed, by_one, change};
 ghost use Rattle.prem_statement.specs.SlotOf.{slot_of};
@@ -14,8 +14,8 @@ use crate::row::{NOTHING, copy_spotted};
 use crate::slot::Slot;
 use prem_expression::{Open, State, copy_expression, copy_name};
 use prem_list::Sequence;
+use prem_syntax::{BinOp, Expr, Kind, Name, Place, Stmt};
 use prem_token::{Mark, Spotted, Token};
-use prem_tree::{BinOp, Expr, Kind, Name, Place, Stmt};
 use std::alloc::{AllocError, Global};
 
 /// The greatest number of tokens of an expression, and one more: past it nothing is left of the room.

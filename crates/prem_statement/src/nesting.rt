@@ -1,16 +1,16 @@
 // Statements in statements: their ends and their nesting.
 ghost use Rattle.std.specs.Prelude.{◌≡◌, IfOk, map};
 ghost use Rattle.prem_list.specs.Sequence.{items_of};
-ghost use Rattle.prem_tree.specs.Syntax.{block, if_then, if_else, bounded_while, counting_for};
-ghost use Rattle.prem_tree.specs.SyntaxOf.{expression_of, loop_names_of, statement_of};
+ghost use Rattle.prem_syntax.specs.Syntax.{block, if_then, if_else, bounded_while, counting_for};
+ghost use Rattle.prem_syntax.specs.SyntaxOf.{expression_of, loop_names_of, statement_of};
 ghost use Rattle.prem_token.specs.Lexeme.{seen_of};
 ghost use Rattle.prem_grammar.specs.Statement.{listed, ended, settled, nests, has_begun_block, begins_row, is_past};
 ghost use Rattle.prem_statement.specs.PointOf.{around_of, row_of, point_of};
 
 use crate::point::{Around, Point, Row};
 use prem_list::Sequence;
+use prem_syntax::{Expr, ForNames, Place, Stmt};
 use prem_token::Spotted;
-use prem_tree::{Expr, ForNames, Place, Stmt};
 use std::alloc::{AllocError, Global};
 
 /// The greatest nesting of a statement; those of a function's body have nesting 1.

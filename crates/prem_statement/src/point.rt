@@ -2,8 +2,8 @@
 use crate::slot::Slot;
 use prem_expression::State;
 use prem_list::Sequence;
+use prem_syntax::{BinOp, Expr, ForNames, Name, Place, Stmt};
 use prem_token::Spotted;
-use prem_tree::{BinOp, Expr, ForNames, Name, Place, Stmt};
 
 /// What is open around a statement, the innermost first.
 #[derive(Drop)]

@@ -2,8 +2,8 @@
 ghost use Rattle.std.specs.Prelude.{◌≡◌, IfOk, map, if◌then◌else◌, None, Some, []};
 ghost use Rattle.std.specs.Option.{option_map};
 ghost use Rattle.prem_list.specs.Sequence.{items_of};
-ghost use Rattle.prem_tree.specs.Name.{name_bytes};
-ghost use Rattle.prem_tree.specs.SyntaxOf.{expression_of, statement_of};
+ghost use Rattle.prem_syntax.specs.Name.{name_bytes};
+ghost use Rattle.prem_syntax.specs.SyntaxOf.{expression_of, statement_of};
 ghost use Rattle.prem_token.specs.Lexeme.{lexeme_of, seen_of};
 ghost use Rattle.prem_grammar.specs.Slots.{is_left_parenthesis, semicolon};
 ghost use Rattle.prem_grammar.specs.Statement.{step_row, filling, for_if, for_while, for_low, for_high, for_value, for_argument, on, when, ended as grammar_ended, least_of, begins_statement, statement, without, next, else_or, filled, filled_or, behind_name, used, is_start, at_start, lone_name, called, within, turn};
@@ -24,8 +24,8 @@ use crate::slot::{
 };
 use prem_expression::{Move, Open, State, advance, copy_name};
 use prem_list::Sequence;
+use prem_syntax::{Expr, ForNames, Name, Place, Stmt};
 use prem_token::{Mark, Spotted, Token, Word};
-use prem_tree::{Expr, ForNames, Name, Place, Stmt};
 use std::alloc::{AllocError, Global};
 
 /// The level of the operators of a `for`'s bound, `<<` and `>>`: looser ones don't belong to it.

@@ -1,7 +1,7 @@
 // Rows of tokens of which no other choice is left.
 ghost use Rattle.std.specs.Prelude.{◌≡◌, IfOk, map};
 ghost use Rattle.std.specs.Option.{option_map};
-ghost use Rattle.prem_tree.specs.Name.{name_bytes};
+ghost use Rattle.prem_syntax.specs.Name.{name_bytes};
 ghost use Rattle.prem_token.specs.Lexeme.{lexeme_of, seen_of};
 ghost use Rattle.prem_grammar.specs.Slots.{text_of, value_of, text_at, value_at, place_at, slot_at};
 ghost use Rattle.prem_grammar.specs.Statement.{rest_of_step, step_in, fourth_in, is_at_most};
@@ -9,8 +9,8 @@ ghost use Rattle.prem_statement.specs.SlotOf.{slot_of};
 
 use crate::slot::{Slot, fits, is_less_equal};
 use prem_expression::copy_name;
+use prem_syntax::{Name, Place};
 use prem_token::{Spotted, Token};
-use prem_tree::{Name, Place};
 use std::alloc::{AllocError, Global};
 
 /// No tokens.

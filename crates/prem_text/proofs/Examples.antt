@@ -1,7 +1,7 @@
 -- Small texts that are programs, and some that are none.
 use Rattle.std.proofs.Common.{[], ◌∷◌, ◌++◌, None, codes, refl, replicate}
-use Rattle.prem_tree.specs.declared.tree.Ty.TheVariants as ty
-use Rattle.prem_tree.specs.Syntax.{ProgramText, absent, global_item, function_item, no_statements}
+use Rattle.prem_syntax.specs.declared.tree.Ty.TheVariants as ty
+use Rattle.prem_syntax.specs.Syntax.{ProgramText, absent, global_item, function_item, no_statements}
 use Rattle.prem_token.specs.declared.fail.FrontFail.TheVariants.{Token, Syntax, TooDeep}
 use Rattle.prem_lexer.specs.Spelling.{used_word, is_unused, reserved_word, longest_mark}
 use Rattle.prem_lexer.specs.Literal.{literal_word}

@@ -2,7 +2,7 @@
 use Rattle.std.proofs.Common.{◌≡◌, ℕ, zero, suc, ◌+◌, Bool, true, false, List, [], ◌∷◌, ◌++◌, Some, Result, Ok, Err, refl, sym, ap, subst, ◌∙◌, arith, nat_lt, append_assoc, lt-ltb}
 use Rattle.std.proofs.lemmas.Bool.{and_parts, and_from}
 use Rattle.std.proofs.lemmas.Bool.Decides.{nat_tests}
-use Rattle.prem_tree.specs.Syntax.{ItemText, ProgramText}
+use Rattle.prem_syntax.specs.Syntax.{ItemText, ProgramText}
 use Rattle.prem_token.specs.declared.fail.FrontFail.{FrontFail}
 use Rattle.prem_token.specs.declared.fail.FrontFail.TheVariants.{NotText, Token, Syntax, TooLong, TooDeep, OutOfMemory}
 use Rattle.prem_token.specs.Reading.{◌>>=◌, too_deep}

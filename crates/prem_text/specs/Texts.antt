@@ -1,6 +1,6 @@
 -- Which texts are programs, and why another is none.
 use Rattle.std.specs.Prelude.{◌≡◌, ℕ, true, List, Result}
-use Rattle.prem_tree.specs.Syntax.{ProgramText}
+use Rattle.prem_syntax.specs.Syntax.{ProgramText}
 use Rattle.prem_token.specs.declared.fail.FrontFail.{FrontFail}
 use Rattle.prem_token.specs.declared.fail.FrontFail.TheVariants.{Syntax, TooDeep}
 use Rattle.prem_token.specs.Reading.{◌>>=◌}

@@ -1,6 +1,6 @@
 // What is read of a text, and what the text is.
 ghost use Rattle.std.specs.Prelude.{◌≡◌, ℕ, List, Ok, Err};
-ghost use Rattle.prem_tree.specs.Syntax.{ProgramText};
+ghost use Rattle.prem_syntax.specs.Syntax.{ProgramText};
 ghost use Rattle.prem_token.specs.declared.fail.FrontFail.{FrontFail};
 ghost use Rattle.prem_text.specs.Texts.{reads, IsProgramText, IsNoProgram};
 

@@ -1,9 +1,9 @@
 -- Tokens as plain data: what a token says, wherever its name lies in memory.
 use Rattle.std.specs.Prelude.{ℕ}
 use Rattle.prem_word.specs.declared.kind.Kind.{Kind}
-use Rattle.prem_tree.specs.declared.tree.Place.{Place}
-use Rattle.prem_tree.specs.Name.{name_bytes}
-use Rattle.prem_tree.specs.Syntax.{Text}
+use Rattle.prem_syntax.specs.declared.tree.Place.{Place}
+use Rattle.prem_syntax.specs.Name.{name_bytes}
+use Rattle.prem_syntax.specs.Syntax.{Text}
 use Rattle.prem_token.specs.declared.token.Word.{Word}
 use Rattle.prem_token.specs.declared.token.Mark.{Mark}
 use Rattle.prem_token.specs.declared.token.Token.{Token}

@@ -1,6 +1,6 @@
 -- Reading that may be refused.
 use Rattle.std.specs.Prelude.{◌≡◌, Result, Ok, Err}
-use Rattle.prem_tree.specs.declared.tree.Place.{Place}
+use Rattle.prem_syntax.specs.declared.tree.Place.{Place}
 use Rattle.prem_token.specs.declared.fail.FrontFail.{FrontFail}
 use Rattle.prem_token.specs.declared.fail.FrontFail.TheVariants.{NotText, Token, Syntax, TooLong, TooDeep, OutOfMemory}
 

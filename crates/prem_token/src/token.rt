@@ -1,5 +1,5 @@
 // Words, marks, and the tokens that they make.
-use prem_tree::{Kind, Name, Place};
+use prem_syntax::{Kind, Name, Place};
 
 /// A reserved word: a keyword of C99 or an annotation word.
 #[derive(Clone, Copy, Debug, PartialEq, Eq)]

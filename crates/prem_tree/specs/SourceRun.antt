@@ -2,11 +2,11 @@
 use Rattle.std.specs.Prelude.{◌≡◌, ℕ, List, map, IsOkAnd}
 use Rattle.prem_list.specs.Sequence.{items_of}
 use Rattle.prem_tree.specs.declared.source.SourceRun.{SourceRun}
-use Rattle.prem_tree.specs.Expressions.{Outcome}
-use Rattle.prem_tree.specs.Statements.{MarkedCall, State}
-use Rattle.prem_tree.specs.declared.resolved.Resolved.{Resolved}
-use Rattle.prem_tree.specs.ResolvedOf.{resolved_of}
-use Rattle.prem_tree.specs.Source.{unlimited, start, do_jobs}
+use Rattle.prem_meaning.specs.Expressions.{Outcome}
+use Rattle.prem_meaning.specs.Statements.{MarkedCall, State}
+use Rattle.prem_resolve.specs.declared.resolved.Resolved.{Resolved}
+use Rattle.prem_resolve.specs.ResolvedOf.{resolved_of}
+use Rattle.prem_meaning.specs.Source.{unlimited, start, do_jobs}
 
 -- the run ends in a state, of whose marked calls it names the functions
 pub record EndsIn (run : SourceRun) (s : State) : Type 0 where

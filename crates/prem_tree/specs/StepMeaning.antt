@@ -2,33 +2,19 @@
 use Rattle.std.specs.Prelude.{ℕ, zero, suc, ◌^◌, ◌==◌, Bool, true, false, List, [], ◌∷◌, map, length, slice_get, is_some, Option, None, Some, Ok, Err}
 use Rattle.std.specs.Option.{option_map}
 use Rattle.prem_list.specs.Sequence.{items_of}
-use Rattle.prem_tree.specs.declared.resolved.Step.{Step, Row_of-Step, end_of-Step, more_of-Step}
-use Rattle.prem_tree.specs.declared.resolved.Step.TheVariants.{Block', SetLocal, SetScalar, SetElement, Output, Input, If', For', While', Call}
-use Rattle.prem_tree.specs.declared.resolved.Routine.{Routine}
-use Rattle.prem_tree.specs.declared.tree.Ty.{Ty}
-use Rattle.prem_tree.specs.Resolved.{Term}
-use Rattle.prem_tree.specs.ResolvedOf.{term_of}
-use Rattle.prem_tree.specs.Expressions.{Outcome, and_then}
-use Rattle.prem_tree.specs.Statements.{State, choose, value, values, with_local, store, with_output, take_input, holds, loop_test, loop_step, counting, bounded, with_target, declare, result_of, with_mark}
-use Rattle.prem_tree.specs.Source.{everywhere}
-use Rattle.prem_tree.specs.Machine.{noted}
+use Rattle.prem_resolve.specs.declared.resolved.Step.{Step, Row_of-Step, end_of-Step, more_of-Step}
+use Rattle.prem_resolve.specs.declared.resolved.Step.TheVariants.{Block', SetLocal, SetScalar, SetElement, Output, Input, If', For', While', Call}
+use Rattle.prem_resolve.specs.declared.resolved.Routine.{Routine}
+use Rattle.prem_meaning.specs.Resolved.{Term}
+use Rattle.prem_resolve.specs.ResolvedOf.{term_of}
+use Rattle.prem_meaning.specs.Expressions.{Outcome, and_then}
+use Rattle.prem_meaning.specs.Statements.{State, choose, values, take_input, holds, loop_test, loop_step, counting, bounded, with_target, declare, result_of}
+use Rattle.prem_meaning.specs.Source.{everywhere}
+use Rattle.prem_state.specs.Single.{do_set_local, do_set_scalar, do_set_element, do_output, noted_in}
 
 -- what a call does: the function's number, the arguments
 abbrev pub NotedCalls : Type 0
 NotedCalls = ℕ → List ℕ → State → Outcome (ℕ × State)
-
-abbrev pub do_set_local : ℕ → Term → State → Outcome State
-do_set_local k e s = and_then (value everywhere s e) (λ w. Ok (with_local k w s))
-
-abbrev pub do_set_scalar : ℕ → ℕ → Ty → Term → State → Outcome State
-do_set_scalar line g ty e s = and_then (value everywhere s e) (λ w. store everywhere line ty g 0 w s)
-
-abbrev pub do_set_element : ℕ → ℕ → Ty → Term → Term → State → Outcome State
-do_set_element line g ty index e s =
-    and_then (value everywhere s e) (λ w. and_then (value everywhere s index) (λ j. store everywhere line ty g j w s))
-
-abbrev pub do_output : Term → State → Outcome State
-do_output e s = and_then (value everywhere s e) (λ w. Ok (with_output w s))
 
 abbrev pub do_counting : ℕ → ℕ → ℕ → Bool → Term → ℕ → (State → Outcome State) → State → Outcome State
 do_counting turns line k closed high step body s =
@@ -62,10 +48,6 @@ abbrev mutual
 abbrev pub do_list : NotedCalls → List Step → State → Outcome State
 do_list calls [] s = Ok s
 do_list calls (first ∷ rest) s = and_then (do_step calls first s) (do_list calls rest)
-
--- a call is noted, if the function is marked
-abbrev pub noted_in : Bool → ℕ → State → State
-noted_in marked n s = record s { marks = with_mark marked (noted n) s.marks }
 
 -- back in the caller, whose state was s: its locals stand, and a marked call is noted
 abbrev pub back_in : Routine → ℕ → State → State → State

@@ -1,8 +1,8 @@
 // Programs that break no rule.
-ghost use Rattle.prem_tree.specs.SyntaxOf.{program_of};
-ghost use Rattle.prem_tree.specs.GroupTwo.{IsWellFormed};
+ghost use Rattle.prem_syntax.specs.SyntaxOf.{program_of};
+ghost use Rattle.prem_meaning.specs.GroupTwo.{IsWellFormed};
 
-use crate::tree::Program;
+use prem_syntax::Program;
 
 /// A well-formed program: its names are known and distinct, its types fit, its calls go to earlier functions, and its
 /// loops have the form of a counting or a bounded loop.
@@ -16,8 +16,8 @@ pub struct Checked {
 
 impl Checked {
     ghost use Rattle.std.specs.Prelude.{◌≡◌};
-    ghost use Rattle.prem_tree.specs.SyntaxOf.{program_of};
-    ghost use Rattle.prem_tree.specs.GroupTwo.{IsWellFormed};
+    ghost use Rattle.prem_syntax.specs.SyntaxOf.{program_of};
+    ghost use Rattle.prem_meaning.specs.GroupTwo.{IsWellFormed};
     ghost use Rattle.prem_tree.specs.Checked.{checked_program};
 
     /// Takes a program of which it is known that it breaks no rule.

@@ -1,25 +1,14 @@
-//! The trees of the source language and what they mean.
+//! Programs that break no rule, and their runs as the language defines them.
 #![tactic(auto)]
 
 mod checked;
-mod eval;
-mod machine;
-mod name;
-mod names;
-mod resolve;
-pub mod resolved;
-mod rules;
 mod run;
 mod source;
-mod tree;
 
 pub use checked::Checked;
-pub use name::Name;
-pub use prem_list::Sequence;
-pub use prem_word::{BinOp, Kind};
-pub use rules::{Count, TypeRule};
-pub use source::{FnId, SourceFail, SourceRun, source_run};
-pub use tree::{
-    Expr, ForNames, Function, Global, Initial, Item, Local, Mark, Param, Place, Program, Region,
-    Stmt, Ty, UnOp,
+pub use prem_state::{FnId, SourceFail};
+pub use prem_syntax::{
+    BinOp, Count, Expr, ForNames, Function, Global, Initial, Item, Kind, Local, Mark, Name, Param,
+    Place, Program, Region, Sequence, Stmt, Ty, TypeRule, UnOp,
 };
+pub use source::{SourceRun, source_run};

@@ -1,25 +1,19 @@
 // Runs programs as the language defines them.
 ghost use Rattle.std.specs.Prelude.{◌≡◌, ◌≤◌, ℕ, length, map, IfOk, IsErrOf};
 ghost use Rattle.prem_list.specs.Sequence.{items_of};
-ghost use Rattle.prem_tree.specs.SyntaxOf.{initial_of, global_of, program_of};
+ghost use Rattle.prem_syntax.specs.SyntaxOf.{initial_of, global_of, program_of};
 ghost use Rattle.prem_tree.specs.Checked.{checked_program};
-ghost use Rattle.prem_tree.specs.Machine.{constant_word};
-ghost use Rattle.prem_tree.specs.Source.{constants_of, initial_words, source};
+ghost use Rattle.prem_tree.specs.Constant.{constant_word};
+ghost use Rattle.prem_meaning.specs.Source.{constants_of, initial_words, source};
 ghost use Rattle.prem_tree.specs.SourceRun.{IsRun, resolved_outcome};
-ghost use Rattle.prem_tree.specs.declared.source.SourceFail.TheVariants.{Wrong, OutOfMemory};
 
 use crate::checked::Checked;
-use crate::machine::{Machine, stored};
-use crate::resolve::resolve;
-use crate::resolved::Resolved;
 use crate::run::Callees;
-use crate::tree::{Global, Initial, Ty};
 use prem_list::Sequence;
-use std::alloc::{AllocError, AllocFailed, Global as Allocator};
-use thiserror::Error;
-
-/// A function's place among the functions of its text, from 0.
-pub type FnId = u16;
+use prem_resolve::{Resolved, resolve};
+use prem_state::{FnId, Machine, SourceFail, stored};
+use prem_syntax::{Global, Initial, Ty};
+use std::alloc::{AllocError, Global as Allocator};
 
 /// What a run of a program gives.
 #[derive(Drop)]
@@ -32,41 +26,6 @@ pub struct SourceRun {
     pub globals: Sequence<Sequence<u32>>,
     /// The number of words taken from the inputs.
     pub used: usize,
-}
-
-/// Why a run gives nothing.
-#[derive(Clone, Copy, Debug, PartialEq, Eq, Error)]
-pub enum SourceFail {
-    /// The program goes wrong at this line: it divides by 0, accesses an element that isn't there, or a counting loop
-    /// passes 2147483647.
-    #[error("wrong at line {line}")]
-    Wrong { line: u32 },
-    #[error("out of memory")]
-    OutOfMemory,
-}
-
-impl From<u32> for SourceFail {
-    ghost from_gives = { λ line e. e ≡ Wrong line };
-
-    fn from(line: u32) -> SourceFail {
-        SourceFail::Wrong { line }
-    }
-}
-
-impl From<AllocError> for SourceFail {
-    ghost from_gives = { λ _ e. e ≡ OutOfMemory };
-
-    fn from(_e: AllocError) -> SourceFail {
-        SourceFail::OutOfMemory
-    }
-}
-
-impl<T: Drop> From<AllocFailed<T>> for SourceFail {
-    ghost from_gives = { λ _ e. e ≡ OutOfMemory };
-
-    fn from(_e: AllocFailed<T>) -> SourceFail {
-        SourceFail::OutOfMemory
-    }
 }
 
 fn constant_word(ty: Ty, z: i64) -> u32
@@ -96,7 +55,7 @@ fn stated_words(alloc: Allocator, g: &Global) -> Result<Vec<u32>, AllocError>
 }
 
 /// The words of a global at the start: those that aren't stated are 0.
-#[tactic(auto, using(crate::proofs::Cells::padded), unfolding(crate::specs::Machine::constant_word))]
+#[tactic(auto, using(crate::proofs::Filled::padded), unfolding(crate::specs::Constant::constant_word))]
 fn initial_words(alloc: Allocator, g: &Global) -> Result<Vec<u32>, AllocError>
     ensures { IfOk result (λ words. words.items ≡ initial_words (global_of g.now)) }
 {
@@ -189,6 +148,3 @@ pub fn source_run(
     let resolved = resolve(alloc, p.program())?;
     run_resolved(alloc, &resolved, inputs, jobs)
 }
-
-#[cfg(test)]
-mod tests;

@@ -1,6 +1,6 @@
 use Rattle.std.proofs.Common.{◌≡◌, ◌≤◌, ◌-◌, ap, ◌∙◌, sym, subst, lit≤}
 use Rattle.prem_list.specs.Sequence.{items_of}
-use Rattle.prem_tree.specs.SyntaxOf.{program_of}
+use Rattle.prem_syntax.specs.SyntaxOf.{program_of}
 use Rattle.prem_lru.specs.Entries.{to_front}
 use Rattle.prem_cycle.specs.State.{Setup, State}
 use Rattle.prem_cycle.specs.Inputs.{setup_of, image_run}

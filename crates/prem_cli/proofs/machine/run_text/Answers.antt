@@ -1,6 +1,6 @@
 use Rattle.std.proofs.Common.{◌≡◌, [], ◌++◌, ap, ◌∙◌}
-use Rattle.prem_tree.specs.SyntaxOf.{program_of}
-use Rattle.prem_tree.specs.Source.{source}
+use Rattle.prem_syntax.specs.SyntaxOf.{program_of}
+use Rattle.prem_meaning.specs.Source.{source}
 use Rattle.prem_cycle.specs.State.{State}
 use Rattle.prem_cycle.specs.FactsOf.{Report, report_in, report_of}
 use Rattle.prem_small.specs.Small.{body_of}

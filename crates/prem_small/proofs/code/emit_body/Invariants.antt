@@ -1,5 +1,5 @@
 use Rattle.std.proofs.Common.{◌≡◌, ◌++◌, drop}
-use Rattle.prem_tree.specs.SyntaxOf.{statements_of}
+use Rattle.prem_syntax.specs.SyntaxOf.{statements_of}
 use Rattle.prem_small.specs.Code.{body_code}
 use Rattle.prem_small.proofs.code.emit_body.Given as goal
 

@@ -1,6 +1,6 @@
 use Rattle.std.proofs.Common.{ℕ, ◌≡◌, ◌≤◌, ◌+◌, ◌*◌, ◌/◌, ◌-◌, List, [], ◌∷◌, ◌++◌, length, ap, ◌∙◌, sym, subst}
 use Rattle.std.specs.Prelude.{replicate, codes}
-use Rattle.prem_tree.specs.SyntaxOf.{statements_of, program_of}
+use Rattle.prem_syntax.specs.SyntaxOf.{statements_of, program_of}
 use Rattle.prem_image.specs.declared.image.TaskRecord.{TaskRecord}
 use Rattle.prem_small.specs.Small.{body_size}
 use Rattle.prem_small.specs.Code.{code_of, stack_top}

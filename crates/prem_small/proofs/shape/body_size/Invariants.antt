@@ -1,6 +1,6 @@
 use Rattle.std.proofs.Common.{◌≡◌, ◌≤◌, ◌+◌, ◌-◌, ◌^◌, drop}
 use Rattle.std.specs.Prelude.{min}
-use Rattle.prem_tree.specs.SyntaxOf.{statements_of}
+use Rattle.prem_syntax.specs.SyntaxOf.{statements_of}
 use Rattle.prem_small.specs.Small.{body_size}
 use Rattle.prem_small.proofs.shape.body_size.Given as goal
 

@@ -1,5 +1,5 @@
 use Rattle.std.proofs.Common.{◌≡◌, map, take}
-use Rattle.prem_tree.specs.Machine.{constant_word}
+use Rattle.prem_tree.specs.Constant.{constant_word}
 use Rattle.prem_tree.proofs.source.constant_words.Given as goal
 
 abbrev pub invariant-loop-z : goal.invariant-loop-z

@@ -1,13 +1,13 @@
 use Rattle.std.proofs.Common.{◌≡◌, List, [], map, refl, sym, ◌∙◌, ap}
 use Rattle.std.proofs.lemmas.Result.{err_from_is_err_and}
 use Rattle.prem_list.specs.Sequence.{items_of}
-use Rattle.prem_tree.specs.declared.machine.Machine.{Machine}
-use Rattle.prem_tree.specs.declared.source.SourceFail.TheVariants.{Wrong}
-use Rattle.prem_tree.specs.declared.resolved.Routine.{Routine}
-use Rattle.prem_tree.specs.SyntaxOf.{global_of}
-use Rattle.prem_tree.specs.Machine.{state_of}
+use Rattle.prem_state.specs.declared.machine.Machine.{Machine}
+use Rattle.prem_state.specs.declared.fail.SourceFail.TheVariants.{Wrong}
+use Rattle.prem_resolve.specs.declared.resolved.Routine.{Routine}
+use Rattle.prem_syntax.specs.SyntaxOf.{global_of}
+use Rattle.prem_state.specs.Machine.{state_of}
 use Rattle.prem_tree.specs.StepMeaning.{noted_jobs}
-use Rattle.prem_tree.specs.Source.{initial_words}
+use Rattle.prem_meaning.specs.Source.{initial_words}
 use Rattle.prem_tree.specs.SourceRun.{resolved_outcome}
 use Rattle.prem_tree.proofs.RunLaws.{starts, run_agrees, run_ends, run_goes_wrong}
 use Rattle.prem_tree.proofs.source.run_resolved.Goals as goal

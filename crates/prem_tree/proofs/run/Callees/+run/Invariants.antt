@@ -1,8 +1,8 @@
 use Rattle.std.proofs.Common.{◌≡◌, ◌+◌, ◌*◌, drop}
-use Rattle.prem_tree.specs.ResolvedOf.{term_of}
-use Rattle.prem_tree.specs.Statements.{bounded, holds}
-use Rattle.prem_tree.specs.Source.{everywhere}
-use Rattle.prem_tree.specs.Machine.{state_of}
+use Rattle.prem_resolve.specs.ResolvedOf.{term_of}
+use Rattle.prem_meaning.specs.Statements.{bounded, holds}
+use Rattle.prem_meaning.specs.Source.{everywhere}
+use Rattle.prem_state.specs.Machine.{state_of}
 use Rattle.prem_tree.specs.StepMeaning.{do_step, do_list, do_counting, noted_calls}
 use Rattle.prem_tree.proofs.Weights.{weight, list_weight, left_of}
 use Rattle.prem_tree.proofs.run.Callees.+run.Given as goal

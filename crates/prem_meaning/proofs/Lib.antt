@@ -1,0 +1,5 @@
+pub mod Samples
+pub mod Examples
+pub mod BreachExamples
+pub mod KindLaws
+pub mod Sums

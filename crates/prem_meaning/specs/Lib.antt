@@ -1,0 +1,9 @@
+pub mod Resolved
+pub mod Resolve
+pub mod Expressions
+pub mod Statements
+pub mod Source
+pub mod Sums
+pub mod Rules
+pub mod Breaches
+pub mod GroupTwo

@@ -1,0 +1,3 @@
+pub mod StepRows
+pub mod StepLaws
+pub mod ItemLaws

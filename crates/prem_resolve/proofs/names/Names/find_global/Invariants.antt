@@ -1,0 +1,12 @@
+use Rattle.std.proofs.Common.{◌≡◌, map, drop}
+use Rattle.prem_syntax.specs.Name.{name_bytes}
+use Rattle.prem_syntax.specs.Syntax.{GlobalVariable}
+use Rattle.prem_syntax.specs.SyntaxOf.{global_of}
+use Rattle.prem_meaning.specs.Resolve.{find_named, find_global}
+use Rattle.prem_resolve.specs.NamesOf.{scope_of}
+use Rattle.prem_resolve.proofs.names.Names.find_global.Given as goal
+
+abbrev pub invariant-loop-k : goal.invariant-loop-k
+invariant-loop-k l =
+    find_global (scope_of l.self) (name_bytes l.name)
+    ≡ find_named (λ (g : GlobalVariable). g.name) (name_bytes l.name) l.k (map (λ g. global_of g.now) (drop l.k l.self.globals.items))

@@ -1,0 +1,2 @@
+pub mod ResolvedOf
+pub mod NamesOf

@@ -1,0 +1,9 @@
+//! The state of a run, and what single statements do to it.
+#![tactic(auto)]
+
+mod eval;
+mod fail;
+mod machine;
+
+pub use fail::{FnId, SourceFail};
+pub use machine::{Counter, Machine, set_local, stored};

@@ -1,0 +1,17 @@
+//! The trees of the source language, and its syntax as plain data.
+#![tactic(auto)]
+
+mod meaning;
+mod name;
+mod rules;
+mod tree;
+
+pub use meaning::Meaning;
+pub use name::Name;
+pub use prem_list::Sequence;
+pub use prem_word::{BinOp, Kind};
+pub use rules::{Count, TypeRule};
+pub use tree::{
+    Expr, ForNames, Function, Global, Initial, Item, Local, Mark, Param, Place, Program, Region,
+    Stmt, Ty, UnOp,
+};
