@@ -1,1 +1,2 @@
 pub mod StageOf
+pub mod Ends

@@ -58,8 +58,8 @@ row_of (r.EndRow function) = end_row (function_of function)
 abbrev pub stage_of : CodeStage → Stage
 stage_of s.Outside = outside
 stage_of (s.Marked mark) = marked (mark_of mark)
-stage_of (s.InRow row got wanted later) = in_row (row_of row) (map seen_of (items_of got)) (slot_of wanted) (map slot_of later.now)
-stage_of (s.InType declared typing) = in_type (declared_of declared) (typing_of typing)
+stage_of (s.InRow row got wanted later) = in_row (row_of row.value) (map seen_of (items_of got)) (slot_of wanted) (map slot_of later.now)
+stage_of (s.InType declared typing) = in_type (declared_of declared.value) (typing_of typing)
 stage_of (s.BehindItem mark ty at name) = behind_item (option_map mark_of mark) ty at (name_bytes name)
 stage_of (s.BehindGlobal global) = behind_global (global_of global)
 stage_of (s.BeforeInitial global) = before_initial (global_of global)
@@ -69,8 +69,8 @@ stage_of (s.BeforeParameter function) = before_parameter (function_of function)
 stage_of (s.OnParameter function param) = on_parameter (function_of function) (parameter_of param)
 stage_of (s.BehindParameter function) = behind_parameter (function_of function)
 stage_of (s.BeforeLocal function) = before_local (function_of function)
-stage_of (s.InStatements function point) = in_statements (function_of function) (point_of point)
-stage_of (s.InValue value state room) = in_value (value_of value) (state_of state) room
+stage_of (s.InStatements function point) = in_statements (function_of function) (point_of point.value)
+stage_of (s.InValue value state room) = in_value (value_of value.value) (state_of state) room
 stage_of s.Finished = finished
 
 abbrev pub step_of : CodeStep → Step

@@ -15,7 +15,8 @@ use crate::typing::{NOTHING, begins_type, type_begins};
 use prem_expression::{Move, Open, State, advance};
 use prem_list::Sequence;
 use prem_statement::{
-    Around, Point, Slot, Turn, is_comma, is_right_brace, is_right_parenthesis, is_semicolon, turn,
+    Around, Point, Slot, Turn, boxed, is_comma, is_right_brace, is_right_parenthesis, is_semicolon,
+    turn,
 };
 use prem_syntax::{Expr, Function, Item, Local, Param, Stmt};
 use prem_token::{Spotted, Token, Word};
@@ -55,7 +56,7 @@ pub(crate) fn parameter_ends(
     if is_comma(&spotted.token) {
         return Ok(Step::Ahead {
             stage: Stage::InType {
-                declared: Declared::AParameter { function },
+                declared: boxed(alloc, Declared::AParameter { function })?,
                 typing: Typing::NoType,
             },
         });
@@ -111,47 +112,54 @@ fn with_result(mut function: Function, value: Expr) -> Function
 }
 
 /// An expression outside statements is read from its beginning.
-pub(crate) fn value_begins(value: Value) -> Stage
-    ensures { stage_of result ≡ value_begins (value_of value) }
+pub(crate) fn value_begins(alloc: Global, value: Value) -> Result<Stage, AllocError>
+    ensures { IfOk result (λ s. stage_of s ≡ value_begins (value_of value)) }
 {
-    Stage::InValue {
-        value,
-        state: State::Wants {
-            around: Open::Bottom,
-        },
-        room: ROOM,
-    }
+    let value = boxed(alloc, value)?;
+    let state = State::Wants {
+        around: Open::Bottom,
+    };
+    let room = ROOM;
+    Ok(Stage::InValue { value, state, room })
 }
 
 /// A token behind the last statement.
-fn body_ends(function: Function, spotted: &Spotted) -> Step
-    ensures { step_of result ≡ body_ends (function_of function) (seen_of spotted.now) }
+fn body_ends(alloc: Global, function: Function, spotted: &Spotted) -> Result<Step, AllocError>
+    ensures { IfOk result (λ s. step_of s ≡ body_ends (function_of function) (seen_of spotted.now)) }
 {
     match &spotted.token {
-        Token::Word(Word::Return) => Step::Ahead {
-            stage: value_begins(Value::OfResult { function }),
-        },
+        Token::Word(Word::Return) => Ok(Step::Ahead {
+            stage: value_begins(alloc, Value::OfResult { function })?,
+        }),
         token => {
             if !is_right_brace(token) {
-                return Step::Refused;
+                return Ok(Step::Refused);
             }
-            Step::Made {
+            Ok(Step::Made {
                 item: Item::Function(function),
-            }
+            })
         }
     }
 }
 
 /// A token that the statements have taken, or left.
-pub(crate) fn statement_step(function: Function, taken: Turn, spotted: &Spotted) -> Step
-    ensures { step_of result ≡ statement_step (function_of function) (turn_of taken) (seen_of spotted.now) }
+pub(crate) fn statement_step(
+    alloc: Global,
+    function: Function,
+    taken: Turn,
+    spotted: &Spotted,
+) -> Result<Step, AllocError>
+    ensures { IfOk result (λ s. step_of s ≡ statement_step (function_of function) (turn_of taken) (seen_of spotted.now)) }
 {
     match taken {
-        Turn::On { point } => Step::Ahead {
-            stage: Stage::InStatements { function, point },
-        },
-        Turn::Leaves { statements } => body_ends(with_body(function, statements), spotted),
-        Turn::Wrong => Step::Refused,
+        Turn::On { point } => {
+            let point = boxed(alloc, point)?;
+            Ok(Step::Ahead {
+                stage: Stage::InStatements { function, point },
+            })
+        }
+        Turn::Leaves { statements } => body_ends(alloc, with_body(function, statements), spotted),
+        Turn::Wrong => Ok(Step::Refused),
     }
 }
 
@@ -166,13 +174,10 @@ pub(crate) fn local_begins(
     if begins_type(&spotted.token) {
         return type_begins(alloc, Declared::ALocal { function }, spotted);
     }
-    let point = Point::Between {
-        around: Around::Body {
-            before: Sequence::new(alloc),
-        },
-    };
-    let taken = turn(alloc, point, spotted)?;
-    Ok(statement_step(function, taken, spotted))
+    let before = Sequence::new(alloc);
+    let around = boxed(alloc, Around::Body { before })?;
+    let taken = turn(alloc, Point::Between { around }, spotted)?;
+    statement_step(alloc, function, taken, spotted)
 }
 
 /// The `;` behind an expression outside statements.
@@ -213,12 +218,12 @@ fn value_ends(
 /// A token of an expression outside statements, or the first one behind it.
 pub(crate) fn value_goes_on(
     alloc: Global,
-    what: Value,
+    what: Box<Value>,
     state: State,
     room: u32,
     spotted: &Spotted,
 ) -> Result<Step, AllocError>
-    ensures { IfOk result (λ s. step_of s ≡ value_goes_on (value_of what) (state_of state) room (seen_of spotted.now)) }
+    ensures { IfOk result (λ s. step_of s ≡ value_goes_on (value_of what.value) (state_of state) room (seen_of spotted.now)) }
 {
     match advance(alloc, 1, state, spotted)? {
         Move::Goes { state } => Ok(Step::Ahead {
@@ -232,7 +237,7 @@ pub(crate) fn value_goes_on(
             if !is_semicolon(&spotted.token) {
                 return Ok(Step::Refused);
             }
-            value_ends(alloc, what, value, spotted)
+            value_ends(alloc, Box::into_inner(what), value, spotted)
         }
         Move::Stops => Ok(Step::Refused),
     }

@@ -13,8 +13,8 @@ use crate::stage::{Constant, ItemRow, Stage, Step};
 use crate::typing::NOTHING;
 use prem_list::Sequence;
 use prem_statement::{
-    Slot, copy_spotted, is_comma, is_equal, is_left_brace, is_left_bracket, is_left_parenthesis,
-    is_right_brace, is_right_parenthesis, is_semicolon,
+    Slot, boxed, copy_spotted, is_comma, is_equal, is_left_brace, is_left_bracket,
+    is_left_parenthesis, is_right_brace, is_right_parenthesis, is_semicolon,
 };
 use prem_syntax::{Function, Global as Variable, Initial, Item, Mark, Name, Param, Place, Ty};
 use prem_token::{Mark as Sign, Spotted, Token};
@@ -33,6 +33,7 @@ pub(crate) fn begin_row(
 ) -> Result<Step, AllocError>
     ensures { IfOk result (λ s. step_of s ≡ begin_row (row_of row) (seen_of spotted.now) (slot_of wanted) (map slot_of later.now)) }
 {
+    let row = boxed(alloc, row)?;
     let mut got = Sequence::new(alloc);
     got.push(copy_spotted(alloc, spotted)?)?;
     Ok(Step::Ahead {

@@ -52,26 +52,29 @@ fn row_ends(alloc: Global, row: ItemRow, got: &[Spotted]) -> Result<Step, AllocE
             ty,
             at,
             name,
-        } => value_begins(Value::OfLocal {
-            function,
-            ty,
-            at,
-            name,
-        }),
+        } => {
+            let value = Value::OfLocal {
+                function,
+                ty,
+                at,
+                name,
+            };
+            value_begins(alloc, value)?
+        }
     };
     Ok(Step::Ahead { stage })
 }
 
 fn row_goes_on(
     alloc: Global,
-    row: ItemRow,
+    row: Box<ItemRow>,
     got: Sequence<Spotted>,
     later: &'static [Slot],
 ) -> Result<Step, AllocError>
-    ensures { IfOk result (λ s. step_of s ≡ row_goes_on (row_of row) (map seen_of (items_of got)) (map slot_of later.now)) }
+    ensures { IfOk result (λ s. step_of s ≡ row_goes_on (row_of row.value) (map seen_of (items_of got)) (map slot_of later.now)) }
 {
     match later {
-        [] => row_ends(alloc, row, got.items()),
+        [] => row_ends(alloc, Box::into_inner(row), got.items()),
         [wanted, rest @ ..] => Ok(Step::Ahead {
             stage: Stage::InRow {
                 row,
@@ -86,13 +89,13 @@ fn row_goes_on(
 /// A token in a row.
 fn in_row(
     alloc: Global,
-    row: ItemRow,
+    row: Box<ItemRow>,
     mut got: Sequence<Spotted>,
     wanted: Slot,
     later: &'static [Slot],
     spotted: &Spotted,
 ) -> Result<Step, AllocError>
-    ensures { IfOk result (λ s. step_of s ≡ step (in_row (row_of row) (map seen_of (items_of got)) (slot_of wanted) (map slot_of later.now)) (seen_of spotted.now)) }
+    ensures { IfOk result (λ s. step_of s ≡ step (in_row (row_of row.value) (map seen_of (items_of got)) (slot_of wanted) (map slot_of later.now)) (seen_of spotted.now)) }
 {
     if !fits(wanted, &spotted.token) {
         return Ok(Step::Refused);
@@ -134,8 +137,8 @@ pub(crate) fn step(alloc: Global, stage: Stage, spotted: &Spotted) -> Result<Ste
         Stage::BehindParameter { function } => parameter_ends(alloc, function, spotted),
         Stage::BeforeLocal { function } => local_begins(alloc, function, spotted),
         Stage::InStatements { function, point } => {
-            let taken = turn(alloc, point, spotted)?;
-            Ok(statement_step(function, taken, spotted))
+            let taken = turn(alloc, Box::into_inner(point), spotted)?;
+            statement_step(alloc, function, taken, spotted)
         }
         Stage::InValue { value, state, room } => {
             value_goes_on(alloc, value, state, room, spotted)

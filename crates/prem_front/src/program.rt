@@ -5,6 +5,7 @@ ghost use Rattle.prem_syntax.specs.SyntaxOf.{item_of, program_of};
 ghost use Rattle.prem_token.specs.Reading.{Gives};
 ghost use Rattle.prem_token.specs.Lexeme.{seen_of};
 ghost use Rattle.prem_grammar.specs.Reader.{at_end, read};
+ghost use Rattle.prem_front.specs.Ends.{is_finished};
 ghost use Rattle.prem_front.specs.StageOf.{stage_of};
 ghost use Rattle.prem_text.specs.Texts.{reads};
 
@@ -26,28 +27,22 @@ fn syntax(at: Place) -> FrontFail
     }
 }
 
-/// The program of these items, where the end of the text is the last token.
-fn at_end(items: Sequence<Item>, stage: Stage) -> Result<Program, FrontFail>
-    ensures { Gives program_of result (at_end (map item_of (items_of items)) (stage_of stage)) }
+/// Whether the end of the text has been read.
+fn is_finished(stage: &Stage) -> bool
+    ensures { result ≡ is_finished (stage_of stage.now) }
 {
-    match stage {
-        Stage::Finished => Ok(Program { items }),
-        Stage::Outside
-        | Stage::Marked { .. }
-        | Stage::InRow { .. }
-        | Stage::InType { .. }
-        | Stage::BehindItem { .. }
-        | Stage::BehindGlobal { .. }
-        | Stage::BeforeInitial { .. }
-        | Stage::BeforeConstant { .. }
-        | Stage::BehindConstant { .. }
-        | Stage::BeforeParameter { .. }
-        | Stage::OnParameter { .. }
-        | Stage::BehindParameter { .. }
-        | Stage::BeforeLocal { .. }
-        | Stage::InStatements { .. }
-        | Stage::InValue { .. } => Err(syntax(Place { line: 0, col: 0 })),
+    matches!(stage, Stage::Finished)
+}
+
+/// The program of these items, where the end of the text is the last token.
+#[tactic(auto, using(crate::proofs::Ends::finished_at_end, crate::proofs::Ends::unfinished_at_end))]
+fn at_end(items: Sequence<Item>, stage: &Stage) -> Result<Program, FrontFail>
+    ensures { Gives program_of result (at_end (map item_of (items_of items)) (stage_of stage.now)) }
+{
+    if is_finished(stage) {
+        return Ok(Program { items });
     }
+    Err(syntax(Place { line: 0, col: 0 }))
 }
 
 /// The program that tokens are, the last of which is the end of the text.
@@ -73,7 +68,7 @@ fn read(alloc: Global, all: &[Spotted]) -> Result<Program, FrontFail>
             Step::Refused => return Err(syntax(spotted.at)),
         }
     }
-    at_end(items, stage)
+    at_end(items, &stage)
 }
 
 /// Reads the text of a program: an annotated subset of C99 (ISO/IEC 9899:1999).

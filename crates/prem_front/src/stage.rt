@@ -1,4 +1,4 @@
-// Where the reader of a program stands.
+// Where the reader of a program stands. What is large in a stage stands behind a `Box`, as in a point of statements.
 use prem_expression::State;
 use prem_list::Sequence;
 use prem_statement::{Point, Slot};
@@ -113,14 +113,14 @@ pub enum Stage {
     },
     /// In a row of tokens.
     InRow {
-        row: ItemRow,
+        row: Box<ItemRow>,
         got: Sequence<Spotted>,
         wanted: Slot,
         later: &'static [Slot],
     },
     /// In a type, or before the name behind it.
     InType {
-        declared: Declared,
+        declared: Box<Declared>,
         typing: Typing,
     },
     /// Behind the name of an item.
@@ -168,11 +168,11 @@ pub enum Stage {
     /// In the statements of a function.
     InStatements {
         function: Function,
-        point: Point,
+        point: Box<Point>,
     },
     /// In an expression outside statements that may have `room` - 1 more tokens.
     InValue {
-        value: Value,
+        value: Box<Value>,
         state: State,
         room: u32,
     },

@@ -9,7 +9,7 @@ ghost use Rattle.prem_front.specs.StageOf.{typing_of, declared_of, stage_of, ste
 use crate::stage::{Declared, ItemRow, Stage, Step, Typing};
 use prem_expression::copy_name;
 use prem_list::Sequence;
-use prem_statement::Slot;
+use prem_statement::{Slot, boxed};
 use prem_syntax::{Name, Param, Place, Ty};
 use prem_token::{Spotted, Token, Word};
 use std::alloc::{AllocError, Global};
@@ -74,42 +74,52 @@ fn type_in(typing: Typing) -> Option<Ty>
 }
 
 /// Behind a type and a name.
-fn declared(alloc: Global, what: Declared, ty: Ty, at: Place, name: Name) -> Stage
-    ensures { stage_of result ≡ declared (declared_of what) ty at (name_bytes name) }
+fn declared(
+    alloc: Global,
+    what: Declared,
+    ty: Ty,
+    at: Place,
+    name: Name,
+) -> Result<Stage, AllocError>
+    ensures { IfOk result (λ s. stage_of s ≡ declared (declared_of what) ty at (name_bytes name)) }
 {
     match what {
-        Declared::AnItem { mark } => Stage::BehindItem { mark, ty, at, name },
-        Declared::AParameter { function } => Stage::OnParameter {
-            function,
-            param: Param {
+        Declared::AnItem { mark } => Ok(Stage::BehindItem { mark, ty, at, name }),
+        Declared::AParameter { function } => {
+            let range = None;
+            let param = Param {
                 at,
                 ty,
                 name,
-                range: None,
-            },
-        },
-        Declared::ALocal { function } => Stage::InRow {
-            row: ItemRow::LocalRow {
+                range,
+            };
+            Ok(Stage::OnParameter { function, param })
+        }
+        Declared::ALocal { function } => {
+            let row = ItemRow::LocalRow {
                 function,
                 ty,
                 at,
                 name,
-            },
-            got: Sequence::new(alloc),
-            wanted: Slot::EqualSign,
-            later: &NOTHING,
-        },
+            };
+            Ok(Stage::InRow {
+                row: boxed(alloc, row)?,
+                got: Sequence::new(alloc),
+                wanted: Slot::EqualSign,
+                later: &NOTHING,
+            })
+        }
     }
 }
 
 /// A token in a type, or the name behind it.
 pub(crate) fn type_or_name(
     alloc: Global,
-    what: Declared,
+    what: Box<Declared>,
     typing: Typing,
     spotted: &Spotted,
 ) -> Result<Step, AllocError>
-    ensures { IfOk result (λ s. step_of s ≡ type_or_name (declared_of what) (typing_of typing) spotted.now.at (lexeme_of spotted.now.token)) }
+    ensures { IfOk result (λ s. step_of s ≡ type_or_name (declared_of what.value) (typing_of typing) spotted.now.at (lexeme_of spotted.now.token)) }
 {
     match &spotted.token {
         Token::Word(word) => Ok(match type_word(typing, *word) {
@@ -124,7 +134,7 @@ pub(crate) fn type_or_name(
         Token::Name(name) => match type_in(typing) {
             Some(ty) => {
                 let name = copy_name(alloc, name)?;
-                let stage = declared(alloc, what, ty, spotted.at, name);
+                let stage = declared(alloc, Box::into_inner(what), ty, spotted.at, name)?;
                 Ok(Step::Ahead { stage })
             }
             None => Ok(Step::Refused),
@@ -141,7 +151,7 @@ pub(crate) fn type_begins(
 ) -> Result<Step, AllocError>
     ensures { IfOk result (λ s. step_of s ≡ type_begins (declared_of what) (seen_of spotted.now)) }
 {
-    type_or_name(alloc, what, Typing::NoType, spotted)
+    type_or_name(alloc, boxed(alloc, what)?, Typing::NoType, spotted)
 }
 
 /// Whether a type begins with a token.

@@ -24,7 +24,7 @@ abbrev pub around_of : CodeAround → Around
 around_of (a.Body before) = in_body (map statement_of (items_of before))
 around_of (a.Block' at before p around) = in_block at (map statement_of (items_of before)) (around_of around)
 around_of (a.Taken' at condition p around) = in_taken at (expression_of condition) (around_of around)
-around_of (a.Other' at condition taken p around) = in_other at (expression_of condition) (statement_of taken) (around_of around)
+around_of (a.Other' at condition taken p around) = in_other at (expression_of condition) (statement_of taken.value) (around_of around)
 around_of (a.While' at turns condition p around) = in_while at turns (expression_of condition) (around_of around)
 around_of (a.For' at names low closed high step p around) =
     in_for at (loop_names_of names) (expression_of low) closed (expression_of high) step (around_of around)
@@ -59,16 +59,16 @@ row_of r.For = for_row
 row_of (r.Bound at first low) = bound_row at (name_bytes first) (expression_of low)
 row_of (r.Sign header) = sign_row (header_of header)
 row_of (r.Step header) = step_row (header_of header)
-row_of (r.Last statement) = last_row (statement_of statement)
+row_of (r.Last statement) = last_row (statement_of statement.value)
 
 abbrev pub point_of : CodePoint → Point
-point_of (p.Between around) = between (around_of around)
-point_of (p.MayElse at condition taken around) = may_else at (expression_of condition) (statement_of taken) (around_of around)
+point_of (p.Between around) = between (around_of around.value)
+point_of (p.MayElse at condition taken around) = may_else at (expression_of condition) (statement_of taken.value) (around_of around.value)
 point_of (p.Filling row got wanted later around) =
-    filling (row_of row) (map seen_of (items_of got)) (slot_of wanted) (map slot_of later.now) (around_of around)
-point_of (p.Inside purpose state room around) = inside (use_of purpose) (state_of state) room (around_of around)
-point_of (p.OnName at name around) = on_name at (name_bytes name) (around_of around)
-point_of (p.OnElement at name index around) = on_element at (name_bytes name) (expression_of index) (around_of around)
+    filling (row_of row.value) (map seen_of (items_of got)) (slot_of wanted) (map slot_of later.now) (around_of around.value)
+point_of (p.Inside purpose state room around) = inside (use_of purpose.value) (state_of state) room (around_of around.value)
+point_of (p.OnName at name around) = on_name at (name_bytes name) (around_of around.value)
+point_of (p.OnElement at name index around) = on_element at (name_bytes name) (expression_of index) (around_of around.value)
 
 abbrev pub turn_of : CodeTurn → Turn
 turn_of (t.On point) = on (point_of point)

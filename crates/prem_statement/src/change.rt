@@ -1,15 +1,15 @@
 // Assignments behind their left side.
-ghost use Rattle.std.specs.Prelude.{◌≡◌, IfOk};
+ghost use Rattle.std.specs.Prelude.{◌≡◌, IfOk, [], ◌∷◌, map};
 ghost use Rattle.std.specs.Option.{option_map};
+ghost use Rattle.prem_list.specs.Sequence.{items_of};
 ghost use Rattle.prem_syntax.specs.Name.{name_bytes};
 ghost use Rattle.prem_syntax.specs.SyntaxOf.{expression_of, statement_of};
 ghost use Rattle.prem_token.specs.Lexeme.{lexeme_of, seen_of};
 ghost use Rattle.prem_grammar.specs.Statement.{expression, begin, finish, side, changed, by_one, change};
 ghost use Rattle.prem_statement.specs.SlotOf.{slot_of};
 ghost use Rattle.prem_statement.specs.PointOf.{around_of, use_of, row_of, turn_of};
-ghost use Rattle.std.specs.Prelude.{map};
 
-use crate::point::{Around, Point, Purpose, Row, Turn};
+use crate::point::{Around, Point, Purpose, Row, Turn, boxed};
 use crate::row::{NOTHING, copy_spotted};
 use crate::slot::Slot;
 use prem_expression::{Open, State, copy_expression, copy_name};
@@ -22,20 +22,34 @@ use std::alloc::{AllocError, Global};
 const ROOM: u32 = 257;
 
 /// An expression is read from its beginning.
-pub(crate) fn expression(purpose: Purpose, around: Around) -> Turn
-    ensures { turn_of result ≡ expression (use_of purpose) (around_of around) }
+pub(crate) fn expression(
+    alloc: Global,
+    purpose: Purpose,
+    around: Box<Around>,
+) -> Result<Turn, AllocError>
+    ensures { IfOk result (λ t. turn_of t ≡ expression (use_of purpose) (around_of around.value)) }
 {
+    let purpose = boxed(alloc, purpose)?;
     let state = State::Wants {
         around: Open::Bottom,
     };
-    Turn::On {
+    Ok(Turn::On {
         point: Point::Inside {
             purpose,
             state,
             room: ROOM,
             around,
         },
-    }
+    })
+}
+
+/// The first token of a row.
+fn first_of(alloc: Global, spotted: &Spotted) -> Result<Sequence<Spotted>, AllocError>
+    ensures { IfOk result (λ got. map seen_of (items_of got) ≡ seen_of spotted.now ∷ []) }
+{
+    let mut got = Sequence::new(alloc);
+    got.push(copy_spotted(alloc, spotted)?)?;
+    Ok(got)
 }
 
 /// A row begins with a token.
@@ -45,12 +59,12 @@ pub(crate) fn begin(
     spotted: &Spotted,
     wanted: Slot,
     later: &'static [Slot],
-    around: Around,
+    around: Box<Around>,
 ) -> Result<Turn, AllocError>
-    ensures { IfOk result (λ t. turn_of t ≡ begin (row_of row) (seen_of spotted.now) (slot_of wanted) (map slot_of later.now) (around_of around)) }
+    ensures { IfOk result (λ t. turn_of t ≡ begin (row_of row) (seen_of spotted.now) (slot_of wanted) (map slot_of later.now) (around_of around.value)) }
 {
-    let mut got = Sequence::new(alloc);
-    got.push(copy_spotted(alloc, spotted)?)?;
+    let row = boxed(alloc, row)?;
+    let got = first_of(alloc, spotted)?;
     Ok(Turn::On {
         point: Point::Filling {
             row,
@@ -67,10 +81,11 @@ pub(crate) fn finish(
     alloc: Global,
     statement: Stmt,
     spotted: &Spotted,
-    around: Around,
+    around: Box<Around>,
 ) -> Result<Turn, AllocError>
-    ensures { IfOk result (λ t. turn_of t ≡ finish (statement_of statement) (seen_of spotted.now) (around_of around)) }
+    ensures { IfOk result (λ t. turn_of t ≡ finish (statement_of statement) (seen_of spotted.now) (around_of around.value)) }
 {
+    let statement = boxed(alloc, statement)?;
     let row = Row::Last { statement };
     begin(alloc, row, spotted, Slot::Semicolon, &NOTHING, around)
 }
@@ -83,7 +98,7 @@ fn side(alloc: Global, at: Place, name: &Name, index: &Option<Expr>) -> Result<E
     match index {
         None => Ok(Expr::Var { at, name }),
         Some(index) => {
-            let index = Box::new(alloc, copy_expression(alloc, index)?)?;
+            let index = boxed(alloc, copy_expression(alloc, index)?)?;
             Ok(Expr::Elem { at, name, index })
         }
     }
@@ -101,8 +116,8 @@ pub(crate) fn changed(
 ) -> Result<Stmt, AllocError>
     ensures { IfOk result (λ s. statement_of s ≡ changed at (name_bytes name) (option_map expression_of index) op sign (expression_of change)) }
 {
-    let left = Box::new(alloc, side(alloc, at, &name, &index)?)?;
-    let right = Box::new(alloc, change)?;
+    let left = boxed(alloc, side(alloc, at, &name, &index)?)?;
+    let right = boxed(alloc, change)?;
     let value = Expr::Binary {
         at: sign,
         op,
@@ -142,37 +157,44 @@ pub(crate) fn change(
     at: Place,
     name: Name,
     index: Option<Expr>,
-    around: Around,
+    around: Box<Around>,
     spotted: &Spotted,
 ) -> Result<Turn, AllocError>
-    ensures { IfOk result (λ t. turn_of t ≡ change at (name_bytes name) (option_map expression_of index) (around_of around) (seen_of spotted.now) (lexeme_of spotted.now.token)) }
+    ensures { IfOk result (λ t. turn_of t ≡ change at (name_bytes name) (option_map expression_of index) (around_of around.value) (seen_of spotted.now) (lexeme_of spotted.now.token)) }
 {
     let sign = spotted.at;
-    let purpose = match &spotted.token {
-        Token::Mark(Mark::Equal) => Purpose::Value { at, name, index },
-        Token::Mark(Mark::PlusEqual) => Purpose::Change {
-            at,
-            name,
-            index,
-            op: BinOp::Add,
-            sign,
-        },
-        Token::Mark(Mark::MinusEqual) => Purpose::Change {
-            at,
-            name,
-            index,
-            op: BinOp::Sub,
-            sign,
-        },
+    match &spotted.token {
+        Token::Mark(Mark::Equal) => expression(alloc, Purpose::Value { at, name, index }, around),
+        Token::Mark(Mark::PlusEqual) => {
+            let op = BinOp::Add;
+            let purpose = Purpose::Change {
+                at,
+                name,
+                index,
+                op,
+                sign,
+            };
+            expression(alloc, purpose, around)
+        }
+        Token::Mark(Mark::MinusEqual) => {
+            let op = BinOp::Sub;
+            let purpose = Purpose::Change {
+                at,
+                name,
+                index,
+                op,
+                sign,
+            };
+            expression(alloc, purpose, around)
+        }
         Token::Mark(Mark::PlusPlus) => {
             let whole = by_one(alloc, at, name, index, BinOp::Add, sign)?;
-            return finish(alloc, whole, spotted, around);
+            finish(alloc, whole, spotted, around)
         }
         Token::Mark(Mark::MinusMinus) => {
             let whole = by_one(alloc, at, name, index, BinOp::Sub, sign)?;
-            return finish(alloc, whole, spotted, around);
+            finish(alloc, whole, spotted, around)
         }
-        _ => return Ok(Turn::Wrong),
-    };
-    Ok(expression(purpose, around))
+        _ => Ok(Turn::Wrong),
+    }
 }

@@ -9,7 +9,7 @@ mod row;
 mod slot;
 
 pub use nesting::is_past;
-pub use point::{Around, Header, Point, Purpose, Row, Turn};
+pub use point::{Around, Header, Point, Purpose, Row, Turn, boxed};
 pub use reader::turn;
 pub use row::{copy_spotted, name_at, place_at, value_at};
 pub use slot::{

@@ -7,7 +7,7 @@ ghost use Rattle.prem_token.specs.Lexeme.{seen_of};
 ghost use Rattle.prem_grammar.specs.Statement.{listed, ended, settled, nests, has_begun_block, begins_row, is_past};
 ghost use Rattle.prem_statement.specs.PointOf.{around_of, row_of, point_of};
 
-use crate::point::{Around, Point, Row};
+use crate::point::{Around, Point, Row, boxed};
 use prem_list::Sequence;
 use prem_syntax::{Expr, ForNames, Place, Stmt};
 use prem_token::Spotted;
@@ -23,68 +23,53 @@ pub(crate) fn block(at: Place, body: Sequence<Stmt>) -> Stmt
     Stmt::Block { at, body }
 }
 
-fn if_then(alloc: Global, at: Place, cond: Expr, taken: Stmt) -> Result<Stmt, AllocError>
-    ensures { IfOk result (λ s. statement_of s ≡ if_then at (expression_of cond) (statement_of taken)) }
+fn if_then(at: Place, cond: Expr, taken: Box<Stmt>) -> Stmt
+    ensures { statement_of result ≡ if_then at (expression_of cond) (statement_of taken.value) }
 {
-    Ok(Stmt::If {
-        at,
-        cond,
-        taken: Box::new(alloc, taken)?,
-        other: None,
-    })
-}
-
-fn if_else(
-    alloc: Global,
-    at: Place,
-    cond: Expr,
-    taken: Stmt,
-    other: Stmt,
-) -> Result<Stmt, AllocError>
-    ensures { IfOk result (λ s. statement_of s ≡ if_else at (expression_of cond) (statement_of taken) (statement_of other)) }
-{
-    let taken = Box::new(alloc, taken)?;
-    let other = Some(Box::new(alloc, other)?);
-    Ok(Stmt::If {
+    let other = None;
+    Stmt::If {
         at,
         cond,
         taken,
         other,
-    })
+    }
 }
 
-fn bounded_while(
-    alloc: Global,
-    at: Place,
-    turns: u32,
-    cond: Expr,
-    body: Stmt,
-) -> Result<Stmt, AllocError>
-    ensures { IfOk result (λ s. statement_of s ≡ bounded_while at turns (expression_of cond) (statement_of body)) }
+fn if_else(at: Place, cond: Expr, taken: Box<Stmt>, other: Box<Stmt>) -> Stmt
+    ensures { statement_of result ≡ if_else at (expression_of cond) (statement_of taken.value) (statement_of other.value) }
 {
-    let body = Box::new(alloc, body)?;
-    Ok(Stmt::While {
+    let other = Some(other);
+    Stmt::If {
+        at,
+        cond,
+        taken,
+        other,
+    }
+}
+
+fn bounded_while(at: Place, turns: u32, cond: Expr, body: Box<Stmt>) -> Stmt
+    ensures { statement_of result ≡ bounded_while at turns (expression_of cond) (statement_of body.value) }
+{
+    Stmt::While {
         at,
         turns,
         cond,
         body,
-    })
+    }
 }
 
 fn counting_for(
-    alloc: Global,
     at: Place,
     names: ForNames,
     low: Expr,
     closed: bool,
     high: Expr,
     step: u32,
-    body: Stmt,
-) -> Result<Stmt, AllocError>
-    ensures { IfOk result (λ s. statement_of s ≡ counting_for at (loop_names_of names) (expression_of low) closed (expression_of high) step (statement_of body)) }
+    body: Box<Stmt>,
+) -> Stmt
+    ensures { statement_of result ≡ counting_for at (loop_names_of names) (expression_of low) closed (expression_of high) step (statement_of body.value) }
 {
-    let body = Box::new(alloc, body)?;
-    Ok(Stmt::For {
+    Stmt::For {
         at,
         names,
         low,
@@ -92,17 +77,21 @@ fn counting_for(
         high,
         step,
         body,
-    })
+    }
 }
 
 /// A statement has ended, and perhaps those that it ends; an `if` waits for its `else`.
-pub(crate) fn ended(alloc: Global, around: Around, statement: Stmt) -> Result<Point, AllocError>
-    ensures { IfOk result (λ p. point_of p ≡ ended (statement_of statement) (around_of around)) }
+pub(crate) fn ended(
+    alloc: Global,
+    around: Box<Around>,
+    statement: Stmt,
+) -> Result<Point, AllocError>
+    ensures { IfOk result (λ p. point_of p ≡ ended (statement_of statement) (around_of around.value)) }
 {
-    match around {
+    match Box::into_inner(around) {
         Around::Body { mut before } => {
             before.push(statement)?;
-            let around = Around::Body { before };
+            let around = boxed(alloc, Around::Body { before })?;
             Ok(Point::Between { around })
         }
         Around::Block {
@@ -111,27 +100,30 @@ pub(crate) fn ended(alloc: Global, around: Around, statement: Stmt) -> Result<Po
             around,
         } => {
             before.push(statement)?;
-            let around = Around::Block { at, before, around };
+            let around = boxed(alloc, Around::Block { at, before, around })?;
             Ok(Point::Between { around })
         }
         Around::Taken {
             at,
             condition,
             around,
-        } => Ok(Point::MayElse {
-            at,
-            condition,
-            taken: statement,
-            around: Box::into_inner(around),
-        }),
+        } => {
+            let taken = boxed(alloc, statement)?;
+            Ok(Point::MayElse {
+                at,
+                condition,
+                taken,
+                around,
+            })
+        }
         Around::Other {
             at,
             condition,
             taken,
             around,
         } => {
-            let whole = if_else(alloc, at, condition, taken, statement)?;
-            ended(alloc, Box::into_inner(around), whole)
+            let other = boxed(alloc, statement)?;
+            ended(alloc, around, if_else(at, condition, taken, other))
         }
         Around::While {
             at,
@@ -139,8 +131,8 @@ pub(crate) fn ended(alloc: Global, around: Around, statement: Stmt) -> Result<Po
             condition,
             around,
         } => {
-            let whole = bounded_while(alloc, at, turns, condition, statement)?;
-            ended(alloc, Box::into_inner(around), whole)
+            let body = boxed(alloc, statement)?;
+            ended(alloc, around, bounded_while(at, turns, condition, body))
         }
         Around::For {
             at,
@@ -151,20 +143,21 @@ pub(crate) fn ended(alloc: Global, around: Around, statement: Stmt) -> Result<Po
             step,
             around,
         } => {
-            let whole = counting_for(alloc, at, names, low, closed, high, step, statement)?;
-            ended(alloc, Box::into_inner(around), whole)
+            let body = boxed(alloc, statement)?;
+            let whole = counting_for(at, names, low, closed, high, step, body);
+            ended(alloc, around, whole)
         }
     }
 }
 
 /// The same where no `else` comes.
-fn settled(alloc: Global, around: Around, statement: Stmt) -> Result<Around, AllocError>
-    ensures { IfOk result (λ a. around_of a ≡ settled (statement_of statement) (around_of around)) }
+fn settled(alloc: Global, around: Box<Around>, statement: Stmt) -> Result<Box<Around>, AllocError>
+    ensures { IfOk result (λ a. around_of a.value ≡ settled (statement_of statement) (around_of around.value)) }
 {
-    match around {
+    match Box::into_inner(around) {
         Around::Body { mut before } => {
             before.push(statement)?;
-            Ok(Around::Body { before })
+            boxed(alloc, Around::Body { before })
         }
         Around::Block {
             at,
@@ -172,15 +165,15 @@ fn settled(alloc: Global, around: Around, statement: Stmt) -> Result<Around, All
             around,
         } => {
             before.push(statement)?;
-            Ok(Around::Block { at, before, around })
+            boxed(alloc, Around::Block { at, before, around })
         }
         Around::Taken {
             at,
             condition,
             around,
         } => {
-            let whole = if_then(alloc, at, condition, statement)?;
-            settled(alloc, Box::into_inner(around), whole)
+            let taken = boxed(alloc, statement)?;
+            settled(alloc, around, if_then(at, condition, taken))
         }
         Around::Other {
             at,
@@ -188,8 +181,8 @@ fn settled(alloc: Global, around: Around, statement: Stmt) -> Result<Around, All
             taken,
             around,
         } => {
-            let whole = if_else(alloc, at, condition, taken, statement)?;
-            settled(alloc, Box::into_inner(around), whole)
+            let other = boxed(alloc, statement)?;
+            settled(alloc, around, if_else(at, condition, taken, other))
         }
         Around::While {
             at,
@@ -197,8 +190,8 @@ fn settled(alloc: Global, around: Around, statement: Stmt) -> Result<Around, All
             condition,
             around,
         } => {
-            let whole = bounded_while(alloc, at, turns, condition, statement)?;
-            settled(alloc, Box::into_inner(around), whole)
+            let body = boxed(alloc, statement)?;
+            settled(alloc, around, bounded_while(at, turns, condition, body))
         }
         Around::For {
             at,
@@ -209,8 +202,9 @@ fn settled(alloc: Global, around: Around, statement: Stmt) -> Result<Around, All
             step,
             around,
         } => {
-            let whole = counting_for(alloc, at, names, low, closed, high, step, statement)?;
-            settled(alloc, Box::into_inner(around), whole)
+            let body = boxed(alloc, statement)?;
+            let whole = counting_for(at, names, low, closed, high, step, body);
+            settled(alloc, around, whole)
         }
     }
 }
@@ -220,13 +214,12 @@ pub(crate) fn no_else(
     alloc: Global,
     at: Place,
     condition: Expr,
-    taken: Stmt,
-    around: Around,
-) -> Result<Around, AllocError>
-    ensures { IfOk result (λ a. around_of a ≡ settled (if_then at (expression_of condition) (statement_of taken)) (around_of around)) }
+    taken: Box<Stmt>,
+    around: Box<Around>,
+) -> Result<Box<Around>, AllocError>
+    ensures { IfOk result (λ a. around_of a.value ≡ settled (if_then at (expression_of condition) (statement_of taken.value)) (around_of around.value)) }
 {
-    let whole = if_then(alloc, at, condition, taken)?;
-    settled(alloc, around, whole)
+    settled(alloc, around, if_then(at, condition, taken))
 }
 
 /// Whether at most so many statements are open.

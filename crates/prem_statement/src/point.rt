@@ -1,9 +1,13 @@
-// Where the reader of statements stands.
+// Where the reader of statements stands. What is large stands behind a `Box`: a way out of a function on which it
+// lets go of a large enum by value is dear to prove, and one on which it lets go of a box is cheap.
+ghost use Rattle.std.specs.Prelude.{◌≡◌, IfOk};
+
 use crate::slot::Slot;
 use prem_expression::State;
 use prem_list::Sequence;
 use prem_syntax::{BinOp, Expr, ForNames, Name, Place, Stmt};
 use prem_token::Spotted;
+use std::alloc::{AllocError, Global};
 
 /// What is open around a statement, the innermost first.
 #[derive(Drop)]
@@ -28,7 +32,7 @@ pub enum Around {
     Other {
         at: Place,
         condition: Expr,
-        taken: Stmt,
+        taken: Box<Stmt>,
         around: Box<Around>,
     },
     /// `BOUNDED(turns) while (condition)`.
@@ -133,7 +137,7 @@ pub enum Row {
     /// The end of a step.
     Step { header: Header },
     /// The end of a statement.
-    Last { statement: Stmt },
+    Last { statement: Box<Stmt> },
 }
 
 /// Where the reader of statements stands.
@@ -141,42 +145,42 @@ pub enum Row {
 pub enum Point {
     /// Before a statement.
     Between {
-        around: Around,
+        around: Box<Around>,
     },
     /// Behind the statement of an `if`, where an `else` may come.
     MayElse {
         at: Place,
         condition: Expr,
-        taken: Stmt,
-        around: Around,
+        taken: Box<Stmt>,
+        around: Box<Around>,
     },
     /// In a row of tokens.
     Filling {
-        row: Row,
+        row: Box<Row>,
         got: Sequence<Spotted>,
         wanted: Slot,
         later: &'static [Slot],
-        around: Around,
+        around: Box<Around>,
     },
     /// In an expression that may have `room` - 1 more tokens.
     Inside {
-        purpose: Purpose,
+        purpose: Box<Purpose>,
         state: State,
         room: u32,
-        around: Around,
+        around: Box<Around>,
     },
     /// Behind the name that begins a statement.
     OnName {
         at: Place,
         name: Name,
-        around: Around,
+        around: Box<Around>,
     },
     /// Behind the element that begins a statement.
     OnElement {
         at: Place,
         name: Name,
         index: Expr,
-        around: Around,
+        around: Box<Around>,
     },
 }
 
@@ -189,4 +193,11 @@ pub enum Turn {
     Leaves { statements: Sequence<Stmt> },
     /// No body has it here.
     Wrong,
+}
+
+/// A box of a value. Where memory is out, the value is dropped.
+pub fn boxed<T: Drop>(alloc: Global, value: T) -> Result<Box<T>, AllocError>
+    ensures { IfOk result (λ b. b.value ≡ value) }
+{
+    Ok(Box::new(alloc, value)?)
 }

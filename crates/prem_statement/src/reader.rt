@@ -5,15 +5,15 @@ ghost use Rattle.prem_list.specs.Sequence.{items_of};
 ghost use Rattle.prem_syntax.specs.Name.{name_bytes};
 ghost use Rattle.prem_syntax.specs.SyntaxOf.{expression_of, statement_of};
 ghost use Rattle.prem_token.specs.Lexeme.{lexeme_of, seen_of};
-ghost use Rattle.prem_grammar.specs.Slots.{is_left_parenthesis, semicolon};
-ghost use Rattle.prem_grammar.specs.Statement.{step_row, filling, for_if, for_while, for_low, for_high, for_value, for_argument, on, when, ended as grammar_ended, least_of, begins_statement, statement, without, next, else_or, filled, filled_or, behind_name, used, is_start, at_start, lone_name, called, within, turn};
+ghost use Rattle.prem_grammar.specs.Slots.{is_left_parenthesis};
+ghost use Rattle.prem_grammar.specs.Statement.{between, in_block, for_row, bound_row, sign_row, step_row, filling, for_output, for_index, for_if, for_while, for_low, for_high, for_value, for_argument, on, ended as grammar_ended, least_of, begins_statement, statement, without, next, else_or, filled, filled_or, behind_name, used, is_start, at_start, lone_name, called, within, turn};
 ghost use Rattle.prem_expression.specs.StateOf.{state_of};
 ghost use Rattle.prem_statement.specs.SlotOf.{slot_of};
 ghost use Rattle.prem_statement.specs.PointOf.{around_of, header_of, use_of, row_of, point_of, turn_of};
 
 use crate::change::{begin, change, changed, expression, finish};
 use crate::nesting::{block, ended, no_else};
-use crate::point::{Around, Header, Point, Purpose, Row, Turn};
+use crate::point::{Around, Header, Point, Purpose, Row, Turn, boxed};
 use crate::row::{
     BOUND_ROW, FOR_ROW, INPUT_ROW, NOTHING, SIGN_ROW, WHILE_ROW, copy_spotted, fourth_in,
     is_at_most, name_at, place_at, rest_of_step, step_in, value_at,
@@ -40,35 +40,39 @@ fn least_of(purpose: &Purpose) -> u32
     }
 }
 
+/// A block begins.
+fn block_begins(alloc: Global, at: Place, around: Box<Around>) -> Result<Turn, AllocError>
+    ensures { IfOk result (λ t. turn_of t ≡ on (between (in_block at [] (around_of around.value)))) }
+{
+    let before = Sequence::new(alloc);
+    let around = boxed(alloc, Around::Block { at, before, around })?;
+    Ok(Turn::On {
+        point: Point::Between { around },
+    })
+}
+
 /// The first token of a statement.
-fn statement(alloc: Global, around: Around, spotted: &Spotted) -> Result<Turn, AllocError>
-    ensures { IfOk result (λ t. turn_of t ≡ statement (around_of around) (seen_of spotted.now) (lexeme_of spotted.now.token)) }
+fn statement(alloc: Global, around: Box<Around>, spotted: &Spotted) -> Result<Turn, AllocError>
+    ensures { IfOk result (λ t. turn_of t ≡ statement (around_of around.value) (seen_of spotted.now) (lexeme_of spotted.now.token)) }
 {
     let at = spotted.at;
-    let (row, later): (Row, &'static [Slot]) = match &spotted.token {
-        Token::Mark(Mark::OpenBrace) => {
-            let around = Around::Block {
-                at,
-                before: Sequence::new(alloc),
-                around: Box::new(alloc, around)?,
-            };
-            return Ok(Turn::On {
-                point: Point::Between { around },
-            });
-        }
+    let left = Slot::LeftParenthesis;
+    match &spotted.token {
+        Token::Mark(Mark::OpenBrace) => block_begins(alloc, at, around),
         Token::Name(name) => {
             let name = copy_name(alloc, name)?;
-            return Ok(Turn::On {
+            Ok(Turn::On {
                 point: Point::OnName { at, name, around },
-            });
+            })
         }
-        Token::Word(Word::If) => (Row::If, &NOTHING),
-        Token::Word(Word::Out) => (Row::Out, &NOTHING),
-        Token::Word(Word::Bounded) => (Row::While, &WHILE_ROW),
-        Token::Word(Word::For) => (Row::For, &FOR_ROW),
-        _ => return Ok(Turn::Wrong),
-    };
-    begin(alloc, row, spotted, Slot::LeftParenthesis, later, around)
+        Token::Word(Word::If) => begin(alloc, Row::If, spotted, left, &NOTHING, around),
+        Token::Word(Word::Out) => begin(alloc, Row::Out, spotted, left, &NOTHING, around),
+        Token::Word(Word::Bounded) => {
+            begin(alloc, Row::While, spotted, left, &WHILE_ROW, around)
+        }
+        Token::Word(Word::For) => begin(alloc, Row::For, spotted, left, &FOR_ROW, around),
+        _ => Ok(Turn::Wrong),
+    }
 }
 
 fn begins_statement(token: &Token) -> bool
@@ -82,25 +86,35 @@ fn begins_statement(token: &Token) -> bool
     )
 }
 
-/// A token that begins no statement is behind the body, or it closes a block.
-fn without(alloc: Global, around: Around, spotted: &Spotted) -> Result<Turn, AllocError>
-    ensures { IfOk result (λ t. turn_of t ≡ without (around_of around) (seen_of spotted.now)) }
+/// A block ends.
+fn block_ends(
+    alloc: Global,
+    at: Place,
+    before: Sequence<Stmt>,
+    around: Box<Around>,
+    spotted: &Spotted,
+) -> Result<Turn, AllocError>
+    ensures { IfOk result (λ t. turn_of t ≡ without (in_block at (map statement_of (items_of before)) (around_of around.value)) (seen_of spotted.now)) }
 {
-    match around {
+    if !is_right_brace(&spotted.token) {
+        return Ok(Turn::Wrong);
+    }
+    statement_ends(alloc, around, block(at, before))
+}
+
+/// A token that begins no statement is behind the body, or it closes a block.
+fn without(alloc: Global, around: Box<Around>, spotted: &Spotted) -> Result<Turn, AllocError>
+    ensures { IfOk result (λ t. turn_of t ≡ without (around_of around.value) (seen_of spotted.now)) }
+{
+    match Box::into_inner(around) {
         Around::Body { before } => Ok(Turn::Leaves { statements: before }),
-        Around::Block { at, before, around } => {
-            if !is_right_brace(&spotted.token) {
-                return Ok(Turn::Wrong);
-            }
-            let point = ended(alloc, Box::into_inner(around), block(at, before))?;
-            Ok(Turn::On { point })
-        }
+        Around::Block { at, before, around } => block_ends(alloc, at, before, around, spotted),
         _around => Ok(Turn::Wrong),
     }
 }
 
-fn next(alloc: Global, around: Around, spotted: &Spotted) -> Result<Turn, AllocError>
-    ensures { IfOk result (λ t. turn_of t ≡ next (around_of around) (seen_of spotted.now)) }
+fn next(alloc: Global, around: Box<Around>, spotted: &Spotted) -> Result<Turn, AllocError>
+    ensures { IfOk result (λ t. turn_of t ≡ next (around_of around.value) (seen_of spotted.now)) }
 {
     if begins_statement(&spotted.token) {
         return statement(alloc, around, spotted);
@@ -113,19 +127,20 @@ fn else_or(
     alloc: Global,
     at: Place,
     condition: Expr,
-    taken: Stmt,
-    around: Around,
+    taken: Box<Stmt>,
+    around: Box<Around>,
     spotted: &Spotted,
 ) -> Result<Turn, AllocError>
-    ensures { IfOk result (λ t. turn_of t ≡ else_or at (expression_of condition) (statement_of taken) (around_of around) (seen_of spotted.now)) }
+    ensures { IfOk result (λ t. turn_of t ≡ else_or at (expression_of condition) (statement_of taken.value) (around_of around.value) (seen_of spotted.now)) }
 {
     if is_else(&spotted.token) {
         let around = Around::Other {
             at,
             condition,
             taken,
-            around: Box::new(alloc, around)?,
+            around,
         };
+        let around = boxed(alloc, around)?;
         return Ok(Turn::On {
             point: Point::Between { around },
         });
@@ -139,9 +154,9 @@ fn step_filled(
     alloc: Global,
     header: Header,
     got: &[Spotted],
-    around: Around,
+    around: Box<Around>,
 ) -> Result<Turn, AllocError>
-    ensures { IfOk result (λ t. turn_of t ≡ filled (step_row (header_of header)) (map seen_of got.now) (around_of around)) }
+    ensures { IfOk result (λ t. turn_of t ≡ filled (step_row (header_of header)) (map seen_of got.now) (around_of around.value)) }
 {
     let Some(third) = name_at(alloc, got, 1)? else {
         return Ok(Turn::Wrong);
@@ -162,10 +177,71 @@ fn step_filled(
         closed: header.closed,
         high: header.high,
         step: step_in(got),
-        around: Box::new(alloc, around)?,
+        around,
     };
+    let around = boxed(alloc, around)?;
     Ok(Turn::On {
         point: Point::Between { around },
+    })
+}
+
+/// The first row of a `for` has all its tokens.
+fn for_filled(alloc: Global, got: &[Spotted], around: Box<Around>) -> Result<Turn, AllocError>
+    ensures { IfOk result (λ t. turn_of t ≡ filled for_row (map seen_of got.now) (around_of around.value)) }
+{
+    let at = place_at(got, 0);
+    match name_at(alloc, got, 2)? {
+        Some(first) => expression(alloc, Purpose::Low { at, first }, around),
+        None => Ok(Turn::Wrong),
+    }
+}
+
+/// The row before the bound of a `for` has all its tokens.
+fn bound_filled(
+    alloc: Global,
+    at: Place,
+    first: Name,
+    low: Expr,
+    got: &[Spotted],
+    around: Box<Around>,
+) -> Result<Turn, AllocError>
+    ensures { IfOk result (λ t. turn_of t ≡ filled (bound_row at (name_bytes first) (expression_of low)) (map seen_of got.now) (around_of around.value)) }
+{
+    let closed = is_at_most(got);
+    match name_at(alloc, got, 1)? {
+        Some(second) => {
+            let purpose = Purpose::High {
+                at,
+                first,
+                low,
+                second,
+                closed,
+            };
+            expression(alloc, purpose, around)
+        }
+        None => Ok(Turn::Wrong),
+    }
+}
+
+/// The row up to the sign of a step has all its tokens.
+fn sign_filled(
+    alloc: Global,
+    header: Header,
+    got: Sequence<Spotted>,
+    around: Box<Around>,
+) -> Result<Turn, AllocError>
+    ensures { IfOk result (λ t. turn_of t ≡ filled (sign_row (header_of header)) (map seen_of (items_of got)) (around_of around.value)) }
+{
+    let (wanted, later) = rest_of_step(got.items());
+    let row = boxed(alloc, Row::Step { header })?;
+    Ok(Turn::On {
+        point: Point::Filling {
+            row,
+            got,
+            wanted,
+            later,
+            around,
+        },
     })
 }
 
@@ -174,66 +250,39 @@ fn filled(
     alloc: Global,
     row: Row,
     got: Sequence<Spotted>,
-    around: Around,
+    around: Box<Around>,
 ) -> Result<Turn, AllocError>
-    ensures { IfOk result (λ t. turn_of t ≡ filled (row_of row) (map seen_of (items_of got)) (around_of around)) }
+    ensures { IfOk result (λ t. turn_of t ≡ filled (row_of row) (map seen_of (items_of got)) (around_of around.value)) }
 {
-    let tokens = got.items();
-    let at = place_at(tokens, 0);
-    let purpose = match row {
-        Row::If => Purpose::If { at },
-        Row::Out => Purpose::Output { at },
-        Row::While => Purpose::While {
-            at,
-            turns: value_at(tokens, 2),
-        },
-        Row::For => match name_at(alloc, tokens, 2)? {
-            Some(first) => Purpose::Low { at, first },
-            None => return Ok(Turn::Wrong),
-        },
-        Row::Bound { at, first, low } => match name_at(alloc, tokens, 1)? {
-            Some(second) => Purpose::High {
-                at,
-                first,
-                low,
-                second,
-                closed: is_at_most(tokens),
-            },
-            None => return Ok(Turn::Wrong),
-        },
-        Row::Sign { header } => {
-            let (wanted, later) = rest_of_step(tokens);
-            let row = Row::Step { header };
-            return Ok(Turn::On {
-                point: Point::Filling {
-                    row,
-                    got,
-                    wanted,
-                    later,
-                    around,
-                },
-            });
+    let at = place_at(got.items(), 0);
+    match row {
+        Row::If => expression(alloc, Purpose::If { at }, around),
+        Row::Out => expression(alloc, Purpose::Output { at }, around),
+        Row::While => {
+            let turns = value_at(got.items(), 2);
+            expression(alloc, Purpose::While { at, turns }, around)
         }
-        Row::Step { header } => return step_filled(alloc, header, tokens, around),
-        Row::Last { statement } => {
-            let point = ended(alloc, around, statement)?;
-            return Ok(Turn::On { point });
+        Row::For => for_filled(alloc, got.items(), around),
+        Row::Bound { at, first, low } => {
+            bound_filled(alloc, at, first, low, got.items(), around)
         }
-    };
-    Ok(expression(purpose, around))
+        Row::Sign { header } => sign_filled(alloc, header, got, around),
+        Row::Step { header } => step_filled(alloc, header, got.items(), around),
+        Row::Last { statement } => statement_ends(alloc, around, Box::into_inner(statement)),
+    }
 }
 
 fn filled_or(
     alloc: Global,
-    row: Row,
+    row: Box<Row>,
     got: Sequence<Spotted>,
     later: &'static [Slot],
-    around: Around,
+    around: Box<Around>,
 ) -> Result<Turn, AllocError>
-    ensures { IfOk result (λ t. turn_of t ≡ filled_or (row_of row) (map seen_of (items_of got)) (map slot_of later.now) (around_of around)) }
+    ensures { IfOk result (λ t. turn_of t ≡ filled_or (row_of row.value) (map seen_of (items_of got)) (map slot_of later.now) (around_of around.value)) }
 {
     match later {
-        [] => filled(alloc, row, got, around),
+        [] => filled(alloc, Box::into_inner(row), got, around),
         [wanted, rest @ ..] => Ok(Turn::On {
             point: Point::Filling {
                 row,
@@ -249,14 +298,14 @@ fn filled_or(
 /// A token in a row.
 fn filling(
     alloc: Global,
-    row: Row,
+    row: Box<Row>,
     mut got: Sequence<Spotted>,
     wanted: Slot,
     later: &'static [Slot],
-    around: Around,
+    around: Box<Around>,
     spotted: &Spotted,
 ) -> Result<Turn, AllocError>
-    ensures { IfOk result (λ t. turn_of t ≡ turn (filling (row_of row) (map seen_of (items_of got)) (slot_of wanted) (map slot_of later.now) (around_of around)) (seen_of spotted.now)) }
+    ensures { IfOk result (λ t. turn_of t ≡ turn (filling (row_of row.value) (map seen_of (items_of got)) (slot_of wanted) (map slot_of later.now) (around_of around.value)) (seen_of spotted.now)) }
 {
     if !fits(wanted, &spotted.token) {
         return Ok(Turn::Wrong);
@@ -270,10 +319,10 @@ fn behind_name(
     alloc: Global,
     at: Place,
     name: Name,
-    around: Around,
+    around: Box<Around>,
     spotted: &Spotted,
 ) -> Result<Turn, AllocError>
-    ensures { IfOk result (λ t. turn_of t ≡ behind_name at (name_bytes name) (around_of around) (seen_of spotted.now)) }
+    ensures { IfOk result (λ t. turn_of t ≡ behind_name at (name_bytes name) (around_of around.value) (seen_of spotted.now)) }
 {
     if is_left_parenthesis(&spotted.token) {
         let purpose = Purpose::Argument {
@@ -282,10 +331,10 @@ fn behind_name(
             callee: name,
             before: Sequence::new(alloc),
         };
-        return Ok(expression(purpose, around));
+        return expression(alloc, purpose, around);
     }
     if is_left_bracket(&spotted.token) {
-        return Ok(expression(Purpose::Index { at, name }, around));
+        return expression(alloc, Purpose::Index { at, name }, around);
     }
     change(alloc, at, name, None, around, spotted)
 }
@@ -298,10 +347,10 @@ fn argument_ends(
     callee: Name,
     mut before: Sequence<Expr>,
     value: Expr,
-    around: Around,
+    around: Box<Around>,
     spotted: &Spotted,
 ) -> Result<Turn, AllocError>
-    ensures { IfOk result (λ t. turn_of t ≡ used (for_argument at (option_map name_bytes target) (name_bytes callee) (map expression_of (items_of before))) (expression_of value) (around_of around) (seen_of spotted.now)) }
+    ensures { IfOk result (λ t. turn_of t ≡ used (for_argument at (option_map name_bytes target) (name_bytes callee) (map expression_of (items_of before))) (expression_of value) (around_of around.value) (seen_of spotted.now)) }
 {
     before.push(value)?;
     if is_comma(&spotted.token) {
@@ -311,7 +360,7 @@ fn argument_ends(
             callee,
             before,
         };
-        return Ok(expression(purpose, around));
+        return expression(alloc, purpose, around);
     }
     if !is_right_parenthesis(&spotted.token) {
         return Ok(Turn::Wrong);
@@ -331,15 +380,14 @@ fn condition_ends(
     at: Place,
     turns: Option<u32>,
     condition: Expr,
-    around: Around,
+    around: Box<Around>,
     spotted: &Spotted,
 ) -> Result<Turn, AllocError>
-    ensures { IfOk result (λ t. turn_of t ≡ used (elim turns [ None ↦ for_if at | Some n ↦ for_while at n ]) (expression_of condition) (around_of around) (seen_of spotted.now)) }
+    ensures { IfOk result (λ t. turn_of t ≡ used (elim turns [ None ↦ for_if at | Some n ↦ for_while at n ]) (expression_of condition) (around_of around.value) (seen_of spotted.now)) }
 {
     if !is_right_parenthesis(&spotted.token) {
         return Ok(Turn::Wrong);
     }
-    let around = Box::new(alloc, around)?;
     let around = match turns {
         None => Around::Taken {
             at,
@@ -353,6 +401,7 @@ fn condition_ends(
             around,
         },
     };
+    let around = boxed(alloc, around)?;
     Ok(Turn::On {
         point: Point::Between { around },
     })
@@ -364,10 +413,10 @@ fn low_ends(
     at: Place,
     first: Name,
     low: Expr,
-    around: Around,
+    around: Box<Around>,
     spotted: &Spotted,
 ) -> Result<Turn, AllocError>
-    ensures { IfOk result (λ t. turn_of t ≡ used (for_low at (name_bytes first)) (expression_of low) (around_of around) (seen_of spotted.now)) }
+    ensures { IfOk result (λ t. turn_of t ≡ used (for_low at (name_bytes first)) (expression_of low) (around_of around.value) (seen_of spotted.now)) }
 {
     if !is_semicolon(&spotted.token) {
         return Ok(Turn::Wrong);
@@ -380,10 +429,10 @@ fn low_ends(
 fn high_ends(
     alloc: Global,
     header: Header,
-    around: Around,
+    around: Box<Around>,
     spotted: &Spotted,
 ) -> Result<Turn, AllocError>
-    ensures { IfOk result (λ t. turn_of t ≡ used (for_high header.at (name_bytes header.first) (expression_of header.low) (name_bytes header.second) header.closed) (expression_of header.high) (around_of around) (seen_of spotted.now)) }
+    ensures { IfOk result (λ t. turn_of t ≡ used (for_high header.at (name_bytes header.first) (expression_of header.low) (name_bytes header.second) header.closed) (expression_of header.high) (around_of around.value) (seen_of spotted.now)) }
 {
     if !is_semicolon(&spotted.token) {
         return Ok(Turn::Wrong);
@@ -392,20 +441,69 @@ fn high_ends(
     begin(alloc, row, spotted, Slot::AName, &SIGN_ROW, around)
 }
 
-/// A statement has ended with its `;`.
-fn statement_ends(
+/// A statement has ended.
+fn statement_ends(alloc: Global, around: Box<Around>, statement: Stmt) -> Result<Turn, AllocError>
+    ensures { IfOk result (λ t. turn_of t ≡ on (grammar_ended (statement_of statement) (around_of around.value))) }
+{
+    let point = ended(alloc, around, statement)?;
+    Ok(Turn::On { point })
+}
+
+/// A token behind the value of an output.
+fn output_ends(
     alloc: Global,
-    statement: Stmt,
-    around: Around,
+    at: Place,
+    value: Expr,
+    around: Box<Around>,
     spotted: &Spotted,
 ) -> Result<Turn, AllocError>
-    ensures { IfOk result (λ t. turn_of t ≡ when semicolon (seen_of spotted.now) (on (grammar_ended (statement_of statement) (around_of around)))) }
+    ensures { IfOk result (λ t. turn_of t ≡ used (for_output at) (expression_of value) (around_of around.value) (seen_of spotted.now)) }
+{
+    if !is_right_parenthesis(&spotted.token) {
+        return Ok(Turn::Wrong);
+    }
+    finish(alloc, Stmt::Output { at, value }, spotted, around)
+}
+
+/// A token behind the index at the left of an assignment.
+fn index_ends(at: Place, name: Name, index: Expr, around: Box<Around>, spotted: &Spotted) -> Turn
+    ensures { turn_of result ≡ used (for_index at (name_bytes name)) (expression_of index) (around_of around.value) (seen_of spotted.now) }
+{
+    if !is_right_bracket(&spotted.token) {
+        return Turn::Wrong;
+    }
+    Turn::On {
+        point: Point::OnElement {
+            at,
+            name,
+            index,
+            around,
+        },
+    }
+}
+
+/// A token behind the right side of `=`.
+fn value_ends(
+    alloc: Global,
+    at: Place,
+    name: Name,
+    index: Option<Expr>,
+    value: Expr,
+    around: Box<Around>,
+    spotted: &Spotted,
+) -> Result<Turn, AllocError>
+    ensures { IfOk result (λ t. turn_of t ≡ used (for_value at (name_bytes name) (option_map expression_of index)) (expression_of value) (around_of around.value) (seen_of spotted.now)) }
 {
     if !is_semicolon(&spotted.token) {
         return Ok(Turn::Wrong);
     }
-    let point = ended(alloc, around, statement)?;
-    Ok(Turn::On { point })
+    let whole = Stmt::Set {
+        at,
+        name,
+        index,
+        value,
+    };
+    statement_ends(alloc, around, whole)
 }
 
 /// The token behind an expression.
@@ -413,18 +511,13 @@ fn used(
     alloc: Global,
     purpose: Purpose,
     value: Expr,
-    around: Around,
+    around: Box<Around>,
     spotted: &Spotted,
 ) -> Result<Turn, AllocError>
-    ensures { IfOk result (λ t. turn_of t ≡ used (use_of purpose) (expression_of value) (around_of around) (seen_of spotted.now)) }
+    ensures { IfOk result (λ t. turn_of t ≡ used (use_of purpose) (expression_of value) (around_of around.value) (seen_of spotted.now)) }
 {
     match purpose {
-        Purpose::Output { at } => {
-            if !is_right_parenthesis(&spotted.token) {
-                return Ok(Turn::Wrong);
-            }
-            finish(alloc, Stmt::Output { at, value }, spotted, around)
-        }
+        Purpose::Output { at } => output_ends(alloc, at, value, around, spotted),
         Purpose::If { at } => condition_ends(alloc, at, None, value, around, spotted),
         Purpose::While { at, turns } => {
             condition_ends(alloc, at, Some(turns), value, around, spotted)
@@ -448,28 +541,9 @@ fn used(
             };
             high_ends(alloc, header, around, spotted)
         }
-        Purpose::Index { at, name } => {
-            if !is_right_bracket(&spotted.token) {
-                return Ok(Turn::Wrong);
-            }
-            let index = value;
-            Ok(Turn::On {
-                point: Point::OnElement {
-                    at,
-                    name,
-                    index,
-                    around,
-                },
-            })
-        }
+        Purpose::Index { at, name } => Ok(index_ends(at, name, value, around, spotted)),
         Purpose::Value { at, name, index } => {
-            let whole = Stmt::Set {
-                at,
-                name,
-                index,
-                value,
-            };
-            statement_ends(alloc, whole, around, spotted)
+            value_ends(alloc, at, name, index, value, around, spotted)
         }
         Purpose::Change {
             at,
@@ -478,8 +552,11 @@ fn used(
             op,
             sign,
         } => {
+            if !is_semicolon(&spotted.token) {
+                return Ok(Turn::Wrong);
+            }
             let whole = changed(alloc, at, name, index, op, sign, value)?;
-            statement_ends(alloc, whole, around, spotted)
+            statement_ends(alloc, around, whole)
         }
         Purpose::Argument {
             at,
@@ -506,15 +583,15 @@ fn input_begins(
     alloc: Global,
     at: Place,
     name: Name,
-    around: Around,
+    around: Box<Around>,
     spotted: &Spotted,
 ) -> Result<Turn, AllocError>
-    ensures { IfOk result (λ t. turn_of t ≡ at_start (for_value at (name_bytes name) None) (around_of around) (seen_of spotted.now)) }
+    ensures { IfOk result (λ t. turn_of t ≡ at_start (for_value at (name_bytes name) None) (around_of around.value) (seen_of spotted.now)) }
 {
     if !is_in(&spotted.token) {
         return Ok(Turn::Wrong);
     }
-    let statement = Stmt::Input { at, name };
+    let statement = boxed(alloc, Stmt::Input { at, name })?;
     let row = Row::Last { statement };
     begin(
         alloc,
@@ -532,10 +609,10 @@ fn no_arguments(
     at: Place,
     target: Option<Name>,
     callee: Name,
-    around: Around,
+    around: Box<Around>,
     spotted: &Spotted,
 ) -> Result<Turn, AllocError>
-    ensures { IfOk result (λ t. turn_of t ≡ at_start (for_argument at (option_map name_bytes target) (name_bytes callee) []) (around_of around) (seen_of spotted.now)) }
+    ensures { IfOk result (λ t. turn_of t ≡ at_start (for_argument at (option_map name_bytes target) (name_bytes callee) []) (around_of around.value) (seen_of spotted.now)) }
 {
     if !is_right_parenthesis(&spotted.token) {
         return Ok(Turn::Wrong);
@@ -555,10 +632,10 @@ fn no_arguments(
 fn at_start(
     alloc: Global,
     purpose: Purpose,
-    around: Around,
+    around: Box<Around>,
     spotted: &Spotted,
 ) -> Result<Turn, AllocError>
-    ensures { IfOk result (λ t. turn_of t ≡ at_start (use_of purpose) (around_of around) (seen_of spotted.now)) }
+    ensures { IfOk result (λ t. turn_of t ≡ at_start (use_of purpose) (around_of around.value) (seen_of spotted.now)) }
 {
     match purpose {
         Purpose::Value { at, name, index } => match index {
@@ -602,8 +679,13 @@ fn callee_at(alloc: Global, state: &State, token: &Token) -> Result<Option<Name>
 }
 
 /// `(` behind `name = name` begins the arguments of a call.
-fn called(alloc: Global, purpose: Purpose, callee: Name, around: Around) -> Turn
-    ensures { turn_of result ≡ called (use_of purpose) (name_bytes callee) (around_of around) }
+fn called(
+    alloc: Global,
+    purpose: Purpose,
+    callee: Name,
+    around: Box<Around>,
+) -> Result<Turn, AllocError>
+    ensures { IfOk result (λ t. turn_of t ≡ called (use_of purpose) (name_bytes callee) (around_of around.value)) }
 {
     match purpose {
         Purpose::Value { at, name, index } => match index {
@@ -614,9 +696,9 @@ fn called(alloc: Global, purpose: Purpose, callee: Name, around: Around) -> Turn
                     callee,
                     before: Sequence::new(alloc),
                 };
-                expression(purpose, around)
+                expression(alloc, purpose, around)
             }
-            Some(_index) => Turn::Wrong,
+            Some(_index) => Ok(Turn::Wrong),
         },
         Purpose::Output { .. }
         | Purpose::If { .. }
@@ -625,20 +707,20 @@ fn called(alloc: Global, purpose: Purpose, callee: Name, around: Around) -> Turn
         | Purpose::High { .. }
         | Purpose::Index { .. }
         | Purpose::Change { .. }
-        | Purpose::Argument { .. } => Turn::Wrong,
+        | Purpose::Argument { .. } => Ok(Turn::Wrong),
     }
 }
 
 /// A token of an expression, or the first one behind it.
 fn within(
     alloc: Global,
-    purpose: Purpose,
+    purpose: Box<Purpose>,
     state: State,
     room: u32,
-    around: Around,
+    around: Box<Around>,
     spotted: &Spotted,
 ) -> Result<Turn, AllocError>
-    ensures { IfOk result (λ t. turn_of t ≡ within (use_of purpose) (state_of state) room (around_of around) (seen_of spotted.now)) }
+    ensures { IfOk result (λ t. turn_of t ≡ within (use_of purpose.value) (state_of state) room (around_of around.value) (seen_of spotted.now)) }
 {
     let starts = is_start(&state);
     let callee = callee_at(alloc, &state, &spotted.token)?;
@@ -654,16 +736,16 @@ fn within(
         }),
         Move::Ends { value } => {
             if !is_left_parenthesis(&spotted.token) {
-                return used(alloc, purpose, value, around, spotted);
+                return used(alloc, Box::into_inner(purpose), value, around, spotted);
             }
             match callee {
-                Some(callee) => Ok(called(alloc, purpose, callee, around)),
+                Some(callee) => called(alloc, Box::into_inner(purpose), callee, around),
                 None => Ok(Turn::Wrong),
             }
         }
         Move::Stops => {
             if starts {
-                return at_start(alloc, purpose, around, spotted);
+                return at_start(alloc, Box::into_inner(purpose), around, spotted);
             }
             Ok(Turn::Wrong)
         }
