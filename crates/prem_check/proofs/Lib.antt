@@ -1,0 +1,9 @@
+pub mod First
+pub mod Blocks
+pub mod Steps
+pub mod Names
+pub mod Taken
+pub mod Around
+pub mod Callees
+pub mod Passed
+pub mod LimitsFirst

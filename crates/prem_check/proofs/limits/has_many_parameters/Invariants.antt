@@ -1,0 +1,9 @@
+use Rattle.std.proofs.Common.{◌≡◌, map, drop, nat_lt, length}
+use Rattle.std.specs.List.{list_any}
+use Rattle.prem_syntax.specs.Syntax.{FunctionText}
+use Rattle.prem_syntax.specs.SyntaxOf.{function_of}
+use Rattle.prem_check.proofs.limits.has_many_parameters.Given as goal
+
+abbrev pub invariant-loop-f : goal.invariant-loop-f
+invariant-loop-f l =
+    list_any (λ (f : FunctionText). nat_lt 8 (length f.params)) (map (λ f. function_of f.now) l.functions) ≡ list_any (λ (f : FunctionText). nat_lt 8 (length f.params)) (map (λ f. function_of f.now) (drop l.f-index l.functions))

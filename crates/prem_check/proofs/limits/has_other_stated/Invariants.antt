@@ -1,0 +1,10 @@
+use Rattle.std.proofs.Common.{◌≡◌, map, drop, not}
+use Rattle.std.specs.List.{list_any}
+use Rattle.prem_syntax.specs.Syntax.{FunctionText}
+use Rattle.prem_syntax.specs.SyntaxOf.{function_of}
+use Rattle.prem_meaning.specs.Breaches.{is_stated}
+use Rattle.prem_check.proofs.limits.has_other_stated.Given as goal
+
+abbrev pub invariant-loop-f : goal.invariant-loop-f
+invariant-loop-f l =
+    list_any (λ (f : FunctionText). not (is_stated f.mark)) (map (λ f. function_of f.now) l.functions) ≡ list_any (λ (f : FunctionText). not (is_stated f.mark)) (map (λ f. function_of f.now) (drop l.f-index l.functions))

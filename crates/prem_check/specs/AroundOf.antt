@@ -1,0 +1,7 @@
+-- Where a statement in memory stands.
+use Rattle.prem_resolve.specs.NamesOf.{scope_of}
+use Rattle.prem_meaning.specs.Breaches.{Around}
+use Rattle.prem_check.specs.declared.call.Around.{Around as CodeAround}
+
+abbrev pub around_of : CodeAround → Around
+around_of a = record { scope = scope_of a.names.now; number = a.number; is_job = a.is_job; is_within_marked = a.is_within_marked }

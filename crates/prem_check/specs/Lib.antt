@@ -1,0 +1,6 @@
+pub mod FoundOf
+pub mod AroundOf
+pub mod Taken
+pub mod Reach
+pub mod Walk
+pub mod Told
