@@ -5,6 +5,9 @@ use Rattle.std.specs.Io.KnownBytes.{append_known}
 use Rattle.prem_io.specs.Files.{Files, stored}
 use Rattle.prem_syntax.specs.Syntax.{ProgramText}
 use Rattle.prem_meaning.specs.Source.{source}
+use Rattle.prem_meaning.specs.Rules.{Breach}
+use Rattle.prem_meaning.specs.GroupTwo.{group_two}
+use Rattle.prem_check.specs.Told.{told_of}
 use Rattle.prem_cycle.specs.State.{Counts, State}
 use Rattle.prem_cycle.specs.FactsOf.{TaskReport}
 use Rattle.prem_token.specs.declared.fail.FrontFail.{FrontFail}
@@ -12,6 +15,7 @@ use Rattle.prem_token.specs.declared.fail.FrontFail.TheVariants.{NotText, Token,
 use Rattle.prem_small.specs.Small.{is_small, body_of}
 use Rattle.prem_small.specs.Runs.{machine_run, outputs_of}
 use Rattle.prem_text.specs.Texts.{reads}
+use Rattle.prem_cli.specs.Refusal.{told_line}
 use Rattle.prem_cli.specs.declared.top.Status.{Status}
 use Rattle.prem_cli.specs.declared.top.Status.TheVariants.{Done, Refused, Usage, Form, ReadFault, WriteFault, OutOfMemory, Missing}
 
@@ -61,11 +65,19 @@ run_text words s = output_lines words ++ run_lines s.now s.log.counts
 abbrev pub cycle_limit : ℕ
 cycle_limit = 10000000
 
--- to a program: one job of it without input puts out what the program means, and the rest is what the machine tells
-abbrev pub program_answer : ProgramText → Status × List ℕ
-program_answer p =
+-- to a program that breaks no rule: one job of it without input puts out what the program means, and the rest is what the machine tells
+abbrev pub well_formed_answer : ProgramText → Status × List ℕ
+well_formed_answer p =
     if is_small p then (Done, run_text (outputs_of (source p [] 1)) (machine_run (body_of p) cycle_limit))
     else (Refused, codes "refused one unbuilt\n")
+
+-- to a program with its first broken rule
+abbrev pub checked_answer : Option Breach → ProgramText → Status × List ℕ
+checked_answer (Some breach) p = (Refused, told_line (told_of breach))
+checked_answer None p = well_formed_answer p
+
+abbrev pub program_answer : ProgramText → Status × List ℕ
+program_answer p = checked_answer (group_two p) p
 
 -- to what reading a source gives
 abbrev pub source_answer : Result ProgramText FrontFail → Status × List ℕ

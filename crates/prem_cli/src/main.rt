@@ -2,6 +2,7 @@
 #![tactic(auto)]
 
 mod machine;
+mod refusal;
 #[cfg(test)]
 mod tests;
 mod texts;

@@ -90,6 +90,45 @@ fn answers_to_sources(rt: HostRuntime) -> Result<(), Fail> {
     Ok(())
 }
 
+/// Sources of programs that break a rule, each in a line with the rule that is told.
+const BROKEN: &str = "\
+void f(void) {} => no-job
+PREDICTABLE(0) void f(void) {} void job(void) {} => limit stated
+int a[0]; void job(void) {} => limit length
+void job(void) { int x = x; } => unknown 1 x
+void job(void) { out(g); } int g; => unknown 1 g
+int g; short g; void job(void) {} => twice 1 g
+void g; void job(void) {} => type 1 void
+int f(short x) { return x; } void job(void) {} => type 1 narrow
+int a[2]; void job(void) { out(a); } => type 1 scalar
+int a[2] = 1; void job(void) {} => type 1 initial
+void f(void) {} void job(void) { f(1); } => type 1 count
+void f(void) {} void job(void) { int x = 1; x = f(); } => type 1 target
+int f(void) {} void job(void) {} => type 1 return
+PREDICTABLE(1) void job(void) {} => type 1 marked
+int g; PREDICTABLE(1) REGION(g, 0, 1) void f(void) {} void job(void) {} => type 1 region
+void f(int x RANGE(1, 0)) {} void job(void) {} => type 1 range
+void job(int x) {} => type 1 job
+void job(void) { f(); } void f(void) {} => call-order 1
+PREDICTABLE(1) void f(void) {} void h(void) { f(); } void job(void) { h(); } => marked-call 1
+void h(void) { out(1); } PREDICTABLE(900) void f(void) { h(); } void job(void) { f(); } => system-call 1
+void job(void) { int i = 0; int j = 0; for (i = 0; j < 3; i++) {} } => loop-form 1
+";
+
+#[test]
+fn broken_rules(rt: HostRuntime) -> Result<(), Fail> {
+    let alloc = rt.alloc();
+    for row in BROKEN.lines() {
+        if let Some((source, rule)) = row.split_once(" => ") {
+            let text = format!(in alloc; "refused one {rule}\n")?;
+            let (status, written) = one(alloc, source.as_bytes())?;
+            assert_eq!(rt; status, Status::Refused, "at {source}");
+            assert_eq!(rt; written.as_slice(), text.as_bytes(), "at {source}");
+        }
+    }
+    Ok(())
+}
+
 /// A source of this many statements `out(1);`.
 fn ones(alloc: Global, statements: usize) -> Result<String, AllocError> {
     let mut source = String::from_str(alloc, "void job(void){")?;

@@ -2,14 +2,16 @@
 ghost use Rattle.std.specs.Prelude.{◌≡◌, ◌≤◌, ◌⊎◌, IfOk, IsErrOf, IsTrue, map, string_bytes};
 ghost use Rattle.prem_io.specs.Counts.{Rose};
 ghost use Rattle.prem_syntax.specs.SyntaxOf.{program_of};
-ghost use Rattle.prem_cli.specs.Answer.{program_answer, source_answer, is_settled, Ends, Answered, IsAnswer};
+ghost use Rattle.prem_cli.specs.Answer.{well_formed_answer, program_answer, source_answer, is_settled, Ends, Answered, IsAnswer};
 ghost use Rattle.prem_text.specs.Texts.{reads};
 ghost use Rattle.prem_cli.specs.declared.top.Stop.TheVariants.{OutOfMemory};
 
 use crate::machine::run_text;
+use crate::refusal::check_line;
 use crate::texts::{Answer, fail_line, fixed, missing, too_long};
 use crate::words::one_file;
 use crate::write::write_all;
+use prem_check::check;
 use prem_front::parse;
 use prem_io::{Sink, Store, StoreFail};
 use prem_small::is_small;
@@ -21,7 +23,7 @@ use std::alloc::{AllocError, Global};
 pub enum Status {
     /// The answer is written.
     Done,
-    /// The text is no program, or its program isn't built yet.
+    /// The text is no program, its program breaks a rule, or it isn't built yet.
     Refused,
     /// The words are no command.
     Usage,
@@ -57,9 +59,9 @@ impl From<AllocError> for Stop {
     }
 }
 
-/// The answer to a program.
-fn program_answer(alloc: Global, program: &Program) -> Result<Answer, AllocError>
-    ensures answer { IfOk result (λ a. (a.status, a.text.items) ≡ program_answer (program_of program.now)) }
+/// The answer to a program that breaks no rule.
+fn well_formed_answer(alloc: Global, program: &Program) -> Result<Answer, AllocError>
+    ensures answer { IfOk result (λ a. (a.status, a.text.items) ≡ well_formed_answer (program_of program.now)) }
     ensures settled { IfOk result (λ a. IsTrue (is_settled a.status)) }
 {
     if !is_small(program) {
@@ -72,13 +74,31 @@ fn program_answer(alloc: Global, program: &Program) -> Result<Answer, AllocError
     })
 }
 
+/// The answer to a program: the refusal by the first rule that it breaks, if it breaks one.
+#[tactic(auto, using(crate::proofs::Refusals::refusal_told))]
+fn program_answer(alloc: Global, program: Program) -> Result<Answer, AllocError>
+    ensures answer { IfOk result (λ a. (a.status, a.text.items) ≡ program_answer (program_of program)) }
+    ensures settled { IfOk result (λ a. IsTrue (is_settled a.status)) }
+{
+    match check(alloc, program) {
+        Ok(checked) => well_formed_answer(alloc, checked.program()),
+        Err(fail) => {
+            let text = check_line(alloc, &fail)?;
+            Ok(Answer {
+                status: Status::Refused,
+                text,
+            })
+        }
+    }
+}
+
 /// The answer to a source: the refusal of its tokens or grammar, else that to its program.
 fn source_answer(alloc: Global, source: &[u8]) -> Result<Answer, AllocError>
     ensures answer { IfOk result (λ a. (a.status, a.text.items) ≡ source_answer (reads source.now)) }
     ensures settled { IfOk result (λ a. IsTrue (is_settled a.status)) }
 {
     match parse(alloc, source) {
-        Ok(program) => program_answer(alloc, &program),
+        Ok(program) => program_answer(alloc, program),
         Err(fail) => {
             let text = fail_line(alloc, &fail)?.into_bytes();
             Ok(Answer {
@@ -126,7 +146,7 @@ fn finish<K: Sink>(sink: &mut K, answer: Answer) -> Status
 
 /// Does what the words say: reads from the store, and writes the whole answer to the sink.
 ///
-/// The stages are the words, the source, the run and the writing; the first one that
+/// The stages are the words, the source, its rules, the run and the writing; the first one that
 /// doesn't go through decides. The text is built whole before the first write, and writing takes no
 /// memory. The answer is that to the store's files where the store tells them, else to some files.
 pub fn prem<S: Store, K: Sink>(
