@@ -121,24 +121,3 @@ impl DeviceGate {
         }
     }
 }
-
-#[cfg(test)]
-impl DeviceGate {
-    ghost use Rattle.std.specs.Prelude.{◌↔◌, ◌<◌, IsTrue};
-    ghost use Rattle.prem_gate.specs.Ranges.{LiesIn};
-
-    /// Whether the device's area has this line.
-    pub fn has_line(&self, line: u32) -> bool
-        ensures { IsTrue result ↔ (line < self.now.lines) }
-    {
-        line < self.lines
-    }
-
-    /// Whether its area lies in a memory of so many bytes, where a line has `size` bytes.
-    pub fn lies_in(&self, size: u32, bytes: usize) -> bool
-        ensures { IsTrue result → LiesIn size bytes self.now }
-    {
-        let end = u64::from(self.area) + u64::from(self.lines) * u64::from(size);
-        end <= bytes as u64 && end <= 1 << 32
-    }
-}

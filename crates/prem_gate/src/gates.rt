@@ -175,6 +175,3 @@ impl Gates {
         }
     }
 }
-
-#[cfg(test)]
-mod tests;

@@ -1,7 +1,8 @@
 -- What the parts of an image keep.
-use Rattle.std.specs.Prelude.{◌≡◌, ℕ, ◌+◌, ◌*◌, ◌%◌, ◌<◌, ◌≤◌, All, List, [], length, map, slice_index_or}
+use Rattle.std.specs.Prelude.{◌≡◌, ℕ, ◌+◌, ◌*◌, ◌%◌, ◌<◌, ◌≤◌, All, List, length, map}
 use Rattle.prem_plant.specs.declared.plant.Plant.{Plant}
 use Rattle.prem_plant.specs.Label.{IsName}
+pub use Rattle.prem_plant.specs.Label.{AreDistinct}
 use Rattle.prem_plant.specs.Places.{Place, AreApart}
 use Rattle.prem_plant.specs.Ranges.{Between, IsPlant, IsDevice}
 use Rattle.prem_image.specs.declared.image.TaskRecord.{TaskRecord}
@@ -30,11 +31,6 @@ pub record IsPlaced (line memory : ℕ) (d : DeviceRecord) : Type 0 where
   pub within : (area_of line d).1 ≤ memory
 
 -- ---- an image
-
--- no two of them are the same
-abbrev pub AreDistinct : List (List ℕ) → Type 0
-AreDistinct names =
-    (i j : ℕ) → i < length names → j < length names → slice_index_or names i [] ≡ slice_index_or names j [] → i ≡ j
 
 abbrev pub task_names : List TaskRecord → List (List ℕ)
 task_names tasks = map (λ t. t.name) tasks

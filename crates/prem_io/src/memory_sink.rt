@@ -136,36 +136,3 @@ impl Sink for SteadySink {
         Ok(piece.len())
     }
 }
-
-#[cfg(test)]
-mod tests {
-    use super::*;
-    use std::test::Fail;
-
-    fn three_writes(sink: &mut MemorySink) -> [Result<usize, SinkFailed>; 3] {
-        [sink.write(b"out 5"), sink.write(b""), sink.write(b"!")]
-    }
-
-    #[test]
-    fn takes_pieces_and_fails_where_told(rt: HostRuntime) -> Result<(), Fail> {
-        let alloc = rt.alloc();
-        let failed = Err(SinkFailed);
-        // The room, the most in a call and the call that fails; the answers to `out 5`, to nothing and to `!`;
-        // the bytes and the faults.
-        let rows = [
-            ((9, 9, 0), [Ok(5), Ok(0), Ok(1)], b"out 5!".as_slice(), 0),
-            ((9, 4, 0), [Ok(4), Ok(0), Ok(1)], b"out !", 0),
-            ((4, 9, 0), [Ok(4), Ok(0), failed], b"out ", 1),
-            ((9, 4, 2), [Ok(4), failed, Ok(1)], b"out !", 1),
-            ((0, 1, 1), [failed, Ok(0), failed], b"", 2),
-        ];
-        for ((room, piece, failing), answers, bytes, faults) in rows {
-            assert!(rt; piece > 0);
-            let mut sink = MemorySink::new(alloc, room, piece, [failing].to_vec(alloc)?)?;
-            assert_eq!(rt; three_writes(&mut sink), answers);
-            assert_eq!(rt; sink.bytes(), bytes);
-            assert_eq!(rt; sink.faults, faults);
-        }
-        Ok(())
-    }
-}

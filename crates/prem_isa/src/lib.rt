@@ -21,6 +21,3 @@ pub use execution::execute;
 pub use instr::{AluOp, BranchOp, Instr, LoadOp, StoreOp};
 pub use laws::{instructions_keep_bounds, instructions_read_their_bytes, runs_compose_and_fit};
 pub use registers::{first_registers, set_register};
-
-#[cfg(test)]
-mod tests;

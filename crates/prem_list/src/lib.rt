@@ -83,29 +83,3 @@ impl<T> Sequence<T> {
         self.all.as_slice()
     }
 }
-
-#[cfg(test)]
-mod tests {
-    use super::*;
-    use std::test::Fail;
-
-    #[test]
-    fn keeps_the_order(rt: HostRuntime) -> Result<(), Fail> {
-        let mut list = Sequence::new(rt.alloc());
-        assert!(rt; list.items().is_empty());
-        list.push(3u8)?;
-        list.push(1u8)?;
-        assert_eq!(rt; list.items(), [3, 1].as_slice());
-        Ok(())
-    }
-
-    #[test]
-    fn puts_into_its_room(rt: HostRuntime) -> Result<(), Fail> {
-        let mut list = Sequence::with_room(rt.alloc(), 2)?;
-        list.put(3u32);
-        list.put(1u32);
-        *list.item_mut(0) += 4;
-        assert_eq!(rt; list.items(), [7, 1].as_slice());
-        Ok(())
-    }
-}

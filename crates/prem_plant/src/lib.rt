@@ -5,6 +5,7 @@ mod label;
 mod layout;
 mod plant;
 
-pub use label::{Label, is_name};
-pub use layout::{FnId, Layout, PartKind, PartSize, PlantFail, TaskId, place_parts};
-pub use plant::{Device, Plant};
+pub use label::{Label, has_name_bytes, is_name};
+pub use layout::{Layout, PartKind, PartSize, PlantFail, TaskId, place_parts};
+pub use plant::{Device, Plant, default_plant};
+pub use prem_word::FnId;

@@ -174,6 +174,7 @@ module _ (rule : Rule) (plant : Plant) (task : TaskRecord) (content words : List
         finished = finished;
         untrapped = a.position.untrapped;
         room = not_full cycles;
+        ended = omega (arith, ended, ap (λ (q : PlainState). q.ended) same, ends.ended);
         outputs = ap (λ (q : PlainState). q.task.outputs) ((a.position.stands.each 0 (omega arith)).same ∙ same);
         bytes = λ b. a.position.stands.view 0 b (omega arith) refl ∙ ap (λ (q : PlainState). q.task.view b) same;
       }

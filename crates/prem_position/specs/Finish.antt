@@ -7,6 +7,7 @@ use Rattle.prem_isa.specs.declared.effect.Phase.TheVariants.{Compatible}
 use Rattle.prem_isa.specs.declared.effect.Access.{Access}
 use Rattle.prem_isa.specs.Decode.{cost_of}
 use Rattle.prem_isa.specs.Plain.{TaskRun, plain_start, plain_run, Did, plain_did, plain_trace}
+use Rattle.prem_sched.specs.Schedule.{task_at}
 use Rattle.prem_lru.specs.Entries.{Rule}
 use Rattle.prem_lru.specs.CacheState.{view_of}
 use Rattle.prem_lru.specs.Rules.{IsRule}
@@ -114,6 +115,7 @@ pub record FinishedAs (run : TaskRun) (n : ℕ) (s : State) : Type 0 where
   pub finished : is_finished s ≡ true
   pub untrapped : s.trapped ≡ None
   pub room : is_full s ≡ false
+  pub ended : (task_at s.sched 0).ended ≡ run.jobs
   pub outputs : (task_in s.work 0).outputs ≡ (plain_run run n).task.outputs
   pub bytes : (a : ℕ) → view_of s.work.cache s.work.memory a ≡ (plain_run run n).task.view a
 

@@ -135,6 +135,3 @@ fn earlier(first: Option<u64>, second: Option<u64>) -> Option<u64>
         (None, other) | (other, None) => other,
     }
 }
-
-#[cfg(test)]
-mod tests;

@@ -1,0 +1,5 @@
+pub mod Lines
+pub mod Numbers
+pub mod Cut
+pub mod Spelled
+pub mod Chain
