@@ -1,0 +1,3 @@
+pub mod Bus
+pub mod Cycles
+pub mod Examples
