@@ -4,6 +4,5 @@ pub mod Steps
 pub mod Names
 pub mod Taken
 pub mod Around
-pub mod Callees
 pub mod Passed
 pub mod LimitsFirst

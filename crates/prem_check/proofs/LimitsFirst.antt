@@ -8,7 +8,8 @@ use Rattle.prem_syntax.specs.declared.rules.Count.TheVariants.{Functions, Global
 use Rattle.prem_syntax.specs.Syntax.{GlobalVariable, FunctionText, ProgramText}
 use Rattle.prem_meaning.specs.Resolve.{globals_of, functions_of}
 use Rattle.prem_meaning.specs.GroupTwo.{group_two}
-use Rattle.prem_meaning.specs.Rules.{Rule, Limit, NoJob, Breach, rank, less, key, first, first_of}
+use Rattle.prem_meaning.specs.Order.{less, key_of}
+use Rattle.prem_meaning.specs.Rules.{Limit, NoJob, Breach, rank, first, first_of}
 use Rattle.prem_meaning.specs.Breaches.{if_broken, is_length, is_stated, regions_of, is_job_name, item_names, reached, in_limits, in_items}
 use Rattle.prem_check.specs.declared.found.Broken.{Broken}
 use Rattle.prem_check.specs.FoundOf.{found_of}
@@ -21,9 +22,9 @@ Stays o = (later : Option Breach) → is_some o ≡ true → first o later ≡ o
 below_none : (n : ℕ) → (nat_lt n 0 || (n == 0 && false)) ≡ false
 below_none n = grind (arith, nat_tests)
 
-none_before : (at : Option Place) (rule : Rule) → less (key at rule) (0 ∷ 0 ∷ 0 ∷ 0 ∷ []) ≡ false
-none_before None rule = below_none (rank rule)
-none_before (Some at) rule = refl
+none_before : (at : Option Place) (n : ℕ) → less (key_of at n) (0 ∷ 0 ∷ 0 ∷ 0 ∷ []) ≡ false
+none_before None n = below_none n
+none_before (Some at) n = refl
 
 kept : (a b : Breach) (t : Bool) → t ≡ false → (if t then Some b else Some a) ≡ Some a
 kept a b t e = ap (λ x. if x then Some b else Some a) e
@@ -31,7 +32,7 @@ kept a b t e = ap (λ x. if x then Some b else Some a) e
 one_stays : (broken : Bool) (which : Count) → Stays (first_of (if_broken broken None (Limit which)))
 one_stays false which later t = ap (λ b. if b then None else later) t
 one_stays true which None t = refl
-one_stays true which (Some b) t = kept (record { at = None; rule = Limit which }) b (less (key b.at b.rule) (0 ∷ 0 ∷ 0 ∷ 0 ∷ [])) (none_before b.at b.rule)
+one_stays true which (Some b) t = kept (record { at = None; rule = Limit which }) b (less (key_of b.at (rank b.rule)) (0 ∷ 0 ∷ 0 ∷ 0 ∷ [])) (none_before b.at (rank b.rule))
 
 two_stay : (p q : Option Breach) → Stays p → Stays q → Stays (first p q)
 two_stay None q hp hq = hq

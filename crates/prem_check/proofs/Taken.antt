@@ -1,15 +1,13 @@
 -- Names that are taken, and one more.
 use Rattle.std.proofs.Common.{◌≡◌, ℕ, ◌+◌, ◌<◌, length, take, get_or, List, [], ◌∷◌, ◌++◌, Bool, true, false, ◌||◌, map, refl, ap, ◌∙◌, sym, append_assoc}
 use Rattle.std.proofs.lemmas.List.{take_more}
-use Rattle.std.specs.Borrow.{Bor}
 use Rattle.std.specs.Str.{bytes_eq}
-use Rattle.prem_syntax.specs.declared.name.Name.{Name}
 use Rattle.prem_syntax.specs.declared.tree.Ty.{Ty}
 use Rattle.prem_syntax.specs.Syntax.{Text, Parameter}
 use Rattle.prem_meaning.specs.Resolve.{Scope, parameter_names}
-use Rattle.prem_resolve.specs.NamesOf.{with_locals}
+use Rattle.prem_names.specs.Scopes.{with_locals, local_texts}
 use Rattle.prem_meaning.specs.Breaches.{has_name, parameter_texts}
-use Rattle.prem_check.specs.Taken.{texts_of, local_texts, taken_of}
+use Rattle.prem_check.specs.Taken.{taken_of}
 
 either : (a b c : Bool) → (a || (b || c)) ≡ ((a || b) || c)
 either true b c = refl
@@ -25,9 +23,9 @@ texts_append [] name ty = refl
 texts_append (l ∷ ls) name ty = ap (λ xs. l.0 ∷ xs) (texts_append ls name ty)
 
 -- with one more local
-pub taken_more : (items : List (Bor Name)) (scope : Scope) (name : Text) (ty : Ty) →
+pub taken_more : (items : List Text) (scope : Scope) (name : Text) (ty : Ty) →
     taken_of items (with_locals scope ((name, ty) ∷ [])) ≡ taken_of items scope ++ name ∷ []
-taken_more items scope name ty = ap (λ xs. texts_of items ++ xs) (texts_append scope.locals name ty) ∙ sym (append_assoc (texts_of items) (local_texts scope) (name ∷ []))
+taken_more items scope name ty = ap (λ xs. items ++ xs) (texts_append scope.locals name ty) ∙ sym (append_assoc items (local_texts scope) (name ∷ []))
 
 pub with_locals_twice : (scope : Scope) (xs ys : List (Text × Ty)) → with_locals (with_locals scope xs) ys ≡ with_locals scope (xs ++ ys)
 with_locals_twice scope xs ys = ap (λ ls. record scope { locals = ls }) (append_assoc scope.locals xs ys)

@@ -1,11 +1,7 @@
 -- The breaches that the code finds.
-use Rattle.std.specs.Prelude.{ℕ, Option, None, Some}
-use Rattle.std.specs.Borrow.{Bor}
+use Rattle.std.specs.Prelude.{Option, None, Some}
 use Rattle.std.specs.Option.{option_map}
-use Rattle.prem_syntax.specs.declared.tree.Function.{Function}
-use Rattle.prem_syntax.specs.declared.tree.Global.{Global}
 use Rattle.prem_syntax.specs.Name.{name_bytes}
-use Rattle.prem_syntax.specs.Syntax.{GlobalVariable, FunctionText}
 use Rattle.prem_syntax.specs.SyntaxOf.{function_of, global_of}
 use Rattle.prem_meaning.specs.Rules.{Rule, Limit, NoJob, Unknown, Twice, OfTypes, CallOrder, MarkedCall, SystemCall, LoopForm, Breach}
 use Rattle.prem_check.specs.declared.found.Rule.{Rule as CodeRule}
@@ -29,10 +25,3 @@ breach_of (b.At at rule) = record { at = Some at; rule = rule_of rule }
 
 abbrev pub found_of : Option Broken → Option Breach
 found_of found = option_map breach_of found
-
--- what was found under a name, with its number
-abbrev pub function_found : ℕ × Bor Function → ℕ × FunctionText
-function_found f = (f.0, function_of f.1.now)
-
-abbrev pub global_found : ℕ × Bor Global → ℕ × GlobalVariable
-global_found g = (g.0, global_of g.1.now)

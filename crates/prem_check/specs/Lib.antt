@@ -1,6 +1,5 @@
 pub mod FoundOf
 pub mod AroundOf
 pub mod Taken
-pub mod Reach
 pub mod Walk
 pub mod Told

@@ -1,10 +1,9 @@
 -- The items of a program that are passed, and what is broken behind them.
 use Rattle.std.specs.Prelude.{◌≡◌, ◌+◌, Bool, List, [], ◌∷◌, ◌++◌, Option}
 use Rattle.prem_syntax.specs.Syntax.{Text, GlobalVariable, FunctionText, ProgramText}
-use Rattle.prem_resolve.specs.NamesOf.{scope_of}
+use Rattle.prem_names.specs.Scopes.{scope_of}
 use Rattle.prem_meaning.specs.Rules.{Breach, first_of}
 use Rattle.prem_meaning.specs.Breaches.{in_items}
-use Rattle.prem_check.specs.Taken.{texts_of}
 use Rattle.prem_check.specs.declared.program.Walk.{Walk}
 
 abbrev pub functions_in : Walk → List FunctionText
@@ -14,7 +13,7 @@ abbrev pub globals_in : Walk → List GlobalVariable
 globals_in w = (scope_of w.names).globals
 
 abbrev pub before_in : Walk → List Text
-before_in w = texts_of w.before.items
+before_in w = w.before
 
 -- the first breach among items behind those that are passed, where all items have these names and these functions are reached from marked ones
 abbrev pub first_behind : Walk → List Text → List Bool → ProgramText → Option Breach

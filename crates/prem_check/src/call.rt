@@ -3,7 +3,7 @@ ghost use Rattle.std.specs.Prelude.{◌≡◌, [], Some, length, map, is_some, n
 ghost use Rattle.std.specs.Option.{option_map};
 ghost use Rattle.prem_syntax.specs.Name.{name_bytes};
 ghost use Rattle.prem_syntax.specs.SyntaxOf.{expression_of, function_of};
-ghost use Rattle.prem_resolve.specs.NamesOf.{scope_of};
+ghost use Rattle.prem_names.specs.Scopes.{scope_of};
 ghost use Rattle.prem_meaning.specs.Resolve.{find_function};
 ghost use Rattle.prem_meaning.specs.Rules.{first_of};
 ghost use Rattle.prem_meaning.specs.Breaches.{is_void, is_local, is_marked_text, in_target, in_call_target, in_callee, in_expressions};
@@ -12,7 +12,6 @@ ghost use Rattle.prem_check.specs.AroundOf.{around_of};
 
 use crate::expression::{in_expressions, unknown};
 use crate::found::{Broken, Rule, broken_at, earlier, if_at, if_type_at};
-use crate::lookup::find_function;
 use prem_resolve::{Meaning, Names};
 use prem_syntax::{Expr, Function, Name, Place, Ty, TypeRule};
 
@@ -115,7 +114,7 @@ fn in_callee<'a>(
     ensures { found_of result ≡ first_of (in_callee at (around_of around.now) (name_bytes callee.now) has_target arguments
         (find_function (around_of around.now).scope.functions (name_bytes callee.now))) }
 {
-    match find_function(around.names, callee) {
+    match around.names.find_function(callee.bytes()) {
         Some((number, f)) => in_called(at, around, has_target, arguments, number, f),
         None => broken_at(at, Rule::Unknown { name: callee }),
     }

@@ -1,7 +1,6 @@
 // Checks a program.
 ghost use Rattle.std.specs.Prelude.{◌≡◌, Some, IsNone, IfSome, IfOk};
 ghost use Rattle.std.specs.Option.{option_map};
-ghost use Rattle.prem_syntax.specs.Name.{name_bytes};
 ghost use Rattle.prem_syntax.specs.SyntaxOf.{program_of};
 ghost use Rattle.prem_meaning.specs.GroupTwo.{IsWellFormed, group_two};
 ghost use Rattle.prem_check.specs.FoundOf.{breach_of, rule_of};
@@ -10,17 +9,9 @@ ghost use Rattle.prem_check.specs.Told.{at_line, told_of, said, IsAnswer};
 use crate::fail::CheckFail;
 use crate::found::{Broken, Rule};
 use crate::program::first_broken;
-use prem_tree::{Checked, Name, Program};
+use prem_syntax::copy_name;
+use prem_tree::{Checked, Program};
 use std::alloc::{AllocError, Global};
-
-fn copy_name(alloc: Global, name: &Name) -> Result<Name, AllocError>
-    ensures { IfOk result (λ copy. name_bytes copy ≡ name_bytes name.now) }
-{
-    let Some(copy) = Name::new(alloc, name.bytes())? else {
-        unreachable!()
-    };
-    Ok(copy)
-}
 
 /// What is told of a rule that is broken at a line.
 fn told_at(alloc: Global, line: u32, rule: Rule) -> Result<CheckFail, AllocError>

@@ -2,49 +2,33 @@
 ghost use Rattle.std.specs.Prelude.{◌≡◌, ◌++◌, map, IfOk, OnOk, not};
 ghost use Rattle.prem_syntax.specs.Name.{name_bytes};
 ghost use Rattle.prem_syntax.specs.SyntaxOf.{parameter_of, local_of};
-ghost use Rattle.prem_resolve.specs.NamesOf.{scope_of, with_locals};
+ghost use Rattle.prem_names.specs.Scopes.{scope_of, with_locals};
 ghost use Rattle.prem_meaning.specs.Resolve.{parameter_names, local_names};
 ghost use Rattle.prem_meaning.specs.Rules.{OfTypes, first_of};
 ghost use Rattle.prem_meaning.specs.Breaches.{if_at, has_name, is_narrow, is_from, fits_type, is_range, in_declared, in_parameters, in_expression, in_locals};
 ghost use Rattle.prem_check.specs.FoundOf.{found_of};
-ghost use Rattle.prem_check.specs.Taken.{texts_of, local_texts, taken_of};
+ghost use Rattle.prem_check.specs.Taken.{taken_of};
 
 use crate::call::is_void;
 use crate::expression::in_expression;
 use crate::found::{Broken, Rule, earlier, if_at, if_type_at};
-use prem_resolve::Names;
+use prem_names::{Index, Names};
 use prem_syntax::{Local, Name, Param, Place, Ty, TypeRule};
 use std::alloc::AllocError;
 
 /// Whether a name is among names.
-pub fn has_name(all: &[&Name], name: &Name) -> bool
-    ensures { result ≡ has_name (texts_of all.now) (name_bytes name.now) }
+pub fn has_name(all: &Index, name: &Name) -> bool
+    ensures { result ≡ has_name all.now (name_bytes name.now) }
 {
-    for other in all {
-        if other.bytes() == name.bytes() {
-            return true;
-        }
-    }
-    false
-}
-
-fn has_local(names: &Names, name: &Name) -> bool
-    ensures { result ≡ has_name (local_texts (scope_of names.now)) (name_bytes name.now) }
-{
-    for (local, _) in names.locals.iter() {
-        if local.bytes() == name.bytes() {
-            return true;
-        }
-    }
-    false
+    all.has(name.bytes())
 }
 
 /// Whether a name is that of an item, or of a parameter or local.
 #[tactic(auto, using(crate::proofs::Taken::has_name_append))]
-fn is_taken(items: &[&Name], names: &Names, name: &Name) -> bool
+fn is_taken(items: &Index, names: &Names, name: &Name) -> bool
     ensures { result ≡ has_name (taken_of items.now (scope_of names.now)) (name_bytes name.now) }
 {
-    has_name(items, name) || has_local(names, name)
+    has_name(items, name) || names.has_local(name)
 }
 
 /// Whether a type is narrower than int.
@@ -86,7 +70,7 @@ fn is_range(ty: Ty, range: Option<(i64, i64)>) -> bool
 /// A parameter or local, among the names of items and those that are declared before.
 #[tactic(auto, using(crate::proofs::First::first_of_append))]
 fn in_declared<'a>(
-    items: &[&'a Name],
+    items: &Index,
     names: &Names,
     at: Place,
     ty: Ty,
@@ -101,7 +85,7 @@ fn in_declared<'a>(
 }
 
 #[tactic(auto, using(crate::proofs::First::first_of_append))]
-fn in_parameter<'a>(items: &[&'a Name], names: &Names, p: &'a Param) -> Option<Broken<'a>>
+fn in_parameter<'a>(items: &Index, names: &Names, p: &'a Param) -> Option<Broken<'a>>
     ensures { found_of result ≡ first_of (in_declared (taken_of items.now (scope_of names.now)) p.now.at p.now.ty (name_bytes p.now.name)
         ++ if_at (not (is_range p.now.ty p.now.range)) p.now.at (OfTypes TypeRule.Range)) }
 {
@@ -114,7 +98,7 @@ fn in_parameter<'a>(items: &[&'a Name], names: &Names, p: &'a Param) -> Option<B
 
 /// The first breach in parameters, whose names are added.
 pub fn in_parameters<'a>(
-    items: &[&'a Name],
+    items: &Index,
     names: &mut Names<'a>,
     params: &'a [Param],
 ) -> Result<Option<Broken<'a>>, AllocError>
@@ -124,13 +108,13 @@ pub fn in_parameters<'a>(
     let mut found = None;
     for param in params {
         found = earlier(found, in_parameter(items, names, param));
-        names.locals.push((&param.name, param.ty))?;
+        names.add_local(&param.name, param.ty)?;
     }
     Ok(found)
 }
 
 #[tactic(auto, using(crate::proofs::First::first_of_append))]
-fn in_local<'a>(items: &[&'a Name], names: &Names, l: &'a Local) -> Option<Broken<'a>>
+fn in_local<'a>(items: &Index, names: &Names, l: &'a Local) -> Option<Broken<'a>>
     ensures { found_of result ≡ first_of (in_declared (taken_of items.now (scope_of names.now)) l.now.at l.now.ty (name_bytes l.now.name)
         ++ in_expression (scope_of names.now) (local_of l.now).value) }
 {
@@ -140,7 +124,7 @@ fn in_local<'a>(items: &[&'a Name], names: &Names, l: &'a Local) -> Option<Broke
 
 /// The first breach in locals, whose names are added. Each local has its name behind its own declaration.
 pub fn in_locals<'a>(
-    items: &[&'a Name],
+    items: &Index,
     names: &mut Names<'a>,
     locals: &'a [Local],
 ) -> Result<Option<Broken<'a>>, AllocError>
@@ -150,7 +134,7 @@ pub fn in_locals<'a>(
     let mut found = None;
     for local in locals {
         found = earlier(found, in_local(items, names, local));
-        names.locals.push((&local.name, local.ty))?;
+        names.add_local(&local.name, local.ty)?;
     }
     Ok(found)
 }

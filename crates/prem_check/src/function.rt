@@ -1,11 +1,10 @@
 // The breaches in functions.
 ghost use Rattle.std.specs.Prelude.{◌≡◌, ◌&&◌, ◌||◌, ◌==◌, not, is_some, is_none, length, IfOk, OnOk};
 ghost use Rattle.prem_syntax.specs.SyntaxOf.{function_of};
-ghost use Rattle.prem_resolve.specs.NamesOf.{scope_of, SameItems};
+ghost use Rattle.prem_names.specs.Scopes.{scope_of, SameItems};
 ghost use Rattle.prem_meaning.specs.Rules.{first_of};
 ghost use Rattle.prem_meaning.specs.Breaches.{is_void, is_job_name, is_marked_text, in_heading, in_function};
 ghost use Rattle.prem_check.specs.FoundOf.{found_of};
-ghost use Rattle.prem_check.specs.Taken.{texts_of};
 
 use crate::call::{Around, is_void};
 use crate::declaration::{has_name, in_locals, in_parameters, is_narrow};
@@ -13,8 +12,8 @@ use crate::expression::in_option;
 use crate::found::{Broken, Rule, earlier, if_at, if_type_at};
 use crate::global::in_mark;
 use crate::statement::in_statements;
-use prem_resolve::Names;
-use prem_syntax::{Function, Name, TypeRule};
+use prem_names::{Index, Names};
+use prem_syntax::{Function, TypeRule};
 use std::alloc::AllocError;
 
 /// Whether a function has the name `job`.
@@ -47,8 +46,8 @@ fn is_wrong_job(f: &Function) -> bool
 }
 
 /// What is said of a function at its name, behind items with these names.
-fn in_heading<'a>(before: &[&Name], f: &'a Function) -> Option<Broken<'a>>
-    ensures { found_of result ≡ first_of (in_heading (texts_of before.now) (function_of f.now)) }
+fn in_heading<'a>(before: &Index, f: &'a Function) -> Option<Broken<'a>>
+    ensures { found_of result ≡ first_of (in_heading (before.now) (function_of f.now)) }
 {
     let twice = if_at(
         has_name(before, &f.name),
@@ -68,18 +67,18 @@ fn in_heading<'a>(before: &[&Name], f: &'a Function) -> Option<Broken<'a>>
 /// The first breach in a function: the names of all items, those before it, its number, and whether it is marked or
 /// reached from a marked one.
 pub fn in_function<'a>(
-    items: &[&'a Name],
-    before: &[&Name],
+    items: &Index,
+    before: &Index,
     number: usize,
     is_within_marked: bool,
     names: &mut Names<'a>,
     f: &'a Function,
 ) -> Result<Option<Broken<'a>>, AllocError>
     ensures found { IfOk result (λ found. found_of found
-        ≡ first_of (in_function (scope_of names.old).functions (texts_of items.now) number is_within_marked (scope_of names.old).globals (texts_of before.now) (function_of f.now))) }
+        ≡ first_of (in_function (scope_of names.old).functions (items.now) number is_within_marked (scope_of names.old).globals (before.now) (function_of f.now))) }
     ensures names { OnOk result (SameItems (scope_of names.new) (scope_of names.old)) }
 {
-    names.locals.clear();
+    names.drop_locals();
     let head = earlier(in_mark(names, &f.mark), in_heading(before, f));
     let params = in_parameters(items, names, f.params.items())?;
     let locals = in_locals(items, names, f.locals.items())?;

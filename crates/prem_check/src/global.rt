@@ -3,19 +3,17 @@ ghost use Rattle.std.specs.Prelude.{◌≡◌, ◌||◌, nat_lt, nat_le, unwrap_
 ghost use Rattle.std.specs.Option.{option_map};
 ghost use Rattle.prem_syntax.specs.Name.{name_bytes};
 ghost use Rattle.prem_syntax.specs.SyntaxOf.{initial_of, global_of, region_of, mark_of};
-ghost use Rattle.prem_resolve.specs.NamesOf.{scope_of};
+ghost use Rattle.prem_names.specs.Scopes.{scope_of};
 ghost use Rattle.prem_meaning.specs.Resolve.{find_global};
 ghost use Rattle.prem_meaning.specs.Rules.{first_of};
 ghost use Rattle.prem_meaning.specs.Breaches.{is_initial, in_global, in_region, in_regions, regions_of};
 ghost use Rattle.prem_check.specs.FoundOf.{found_of};
-ghost use Rattle.prem_check.specs.Taken.{texts_of};
 
 use crate::call::is_void;
 use crate::declaration::has_name;
 use crate::found::{Broken, Rule, broken_at, earlier, if_at, if_type_at};
-use crate::lookup::find_global;
-use prem_resolve::Names;
-use prem_syntax::{Global, Initial, Mark, Name, Region, TypeRule};
+use prem_names::{Index, Names};
+use prem_syntax::{Global, Initial, Mark, Region, TypeRule};
 
 fn is_initial(len: Option<u32>, initial: &Initial) -> bool
     ensures { result ≡ is_initial len (initial_of initial.now) }
@@ -32,8 +30,8 @@ fn is_initial(len: Option<u32>, initial: &Initial) -> bool
 
 /// The first breach in a global, behind items with these names.
 #[tactic(auto, using(crate::proofs::First::first_of_append))]
-pub fn in_global<'a>(before: &[&Name], g: &'a Global) -> Option<Broken<'a>>
-    ensures { found_of result ≡ first_of (in_global (texts_of before.now) (global_of g.now)) }
+pub fn in_global<'a>(before: &Index, g: &'a Global) -> Option<Broken<'a>>
+    ensures { found_of result ≡ first_of (in_global (before.now) (global_of g.now)) }
 {
     let twice = if_at(
         has_name(before, &g.name),
@@ -55,7 +53,7 @@ fn is_outside(r: &Region, g: &Global) -> bool
 fn in_region<'a>(names: &Names, r: &'a Region) -> Option<Broken<'a>>
     ensures { found_of result ≡ first_of (in_region (region_of r.now) (find_global (scope_of names.now) (name_bytes r.now.name))) }
 {
-    match find_global(names, &r.name) {
+    match names.find_global(&r.name) {
         Some((_, g)) => if_type_at(is_outside(r, g), r.at, TypeRule::Region),
         None => broken_at(r.at, Rule::Unknown { name: &r.name }),
     }

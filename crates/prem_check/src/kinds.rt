@@ -1,7 +1,7 @@
 // The kinds of expressions, as far as their names are known.
 ghost use Rattle.std.specs.Prelude.{◌≡◌};
 ghost use Rattle.prem_syntax.specs.SyntaxOf.{expression_of};
-ghost use Rattle.prem_resolve.specs.NamesOf.{scope_of};
+ghost use Rattle.prem_names.specs.Scopes.{scope_of};
 ghost use Rattle.prem_meaning.specs.Resolved.{Term};
 ghost use Rattle.prem_meaning.specs.Resolve.{kind_of, variable_term, element_term, resolve_term};
 

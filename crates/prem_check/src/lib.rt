@@ -11,10 +11,8 @@ mod function;
 mod global;
 mod kinds;
 mod limits;
-mod lookup;
 mod loops;
 mod program;
-mod reach;
 mod statement;
 
 pub use checking::check;

@@ -6,18 +6,19 @@ ghost use Rattle.prem_syntax.specs.Syntax.{ProgramText};
 ghost use Rattle.prem_syntax.specs.SyntaxOf.{global_of, function_of, item_of, program_of};
 ghost use Rattle.prem_meaning.specs.Resolve.{globals_of, functions_of};
 ghost use Rattle.prem_meaning.specs.Rules.{first, first_of};
-ghost use Rattle.prem_meaning.specs.Breaches.{in_global, in_function, is_in_set, item_name, item_names, in_items, reached};
+ghost use Rattle.prem_meaning.specs.Breaches.{in_global, in_function, item_name, item_names, in_items, reached};
+ghost use Rattle.prem_meaning.specs.Reach.{is_in_set};
 ghost use Rattle.prem_meaning.specs.GroupTwo.{group_two};
 ghost use Rattle.prem_check.specs.FoundOf.{found_of};
-ghost use Rattle.prem_check.specs.Taken.{texts_of};
 ghost use Rattle.prem_check.specs.Walk.{functions_in, globals_in, before_in, first_behind, BehindGlobal, BehindFunction};
 
 use crate::found::{Broken, earlier};
 use crate::function::in_function;
 use crate::global::in_global;
 use crate::limits::{in_limits, no_job};
-use crate::reach::{is_in_set, reached};
-use prem_resolve::{Names, functions_of};
+use prem_names::{Index, Names};
+use prem_reach::{is_in_set, reached};
+use prem_resolve::functions_of;
 use prem_syntax::{Function, Global, Item, Name, Program};
 use std::alloc::{AllocError, Global as Allocator};
 
@@ -27,7 +28,7 @@ pub struct Walk<'a> {
     /// The globals among them, and all functions of the program.
     pub names: Names<'a>,
     /// The names of the items.
-    pub before: Vec<&'a Name>,
+    pub before: Index<'a>,
     /// The number of functions among them.
     pub number: usize,
 }
@@ -41,12 +42,12 @@ fn item_name<'a>(item: &'a Item) -> &'a Name
     }
 }
 
-fn item_names<'a>(alloc: Allocator, items: &'a [Item]) -> Result<Vec<&'a Name>, AllocError>
-    ensures { IfOk result (λ names. texts_of names.items ≡ item_names (map item_of items.now)) }
+fn item_names<'a>(alloc: Allocator, items: &'a [Item]) -> Result<Index<'a>, AllocError>
+    ensures { IfOk result (λ names. names ≡ item_names (map item_of items.now)) }
 {
-    let mut names = Vec::new(alloc);
+    let mut names = Index::new(alloc);
     for item in items {
-        names.push(item_name(item))?;
+        names.push(item_name(item).bytes())?;
     }
     Ok(names)
 }
@@ -68,19 +69,19 @@ fn pass_global<'a>(walk: &mut Walk<'a>, g: &'a Global) -> Result<Option<Broken<'
     ensures walk { OnOk result (BehindGlobal walk.new walk.old (global_of g.now)) }
 {
     let found = in_global(&walk.before, g);
-    walk.names.globals.push(g)?;
-    walk.before.push(&g.name)?;
+    walk.names.add_global(g)?;
+    walk.before.push(g.name.bytes())?;
     Ok(found)
 }
 
 fn pass_function<'a>(
-    items: &[&'a Name],
+    items: &Index,
     within: &[bool],
     walk: &mut Walk<'a>,
     f: &'a Function,
 ) -> Result<Option<Broken<'a>>, AllocError>
     requires { walk.old.number + 1 < 2 ^ 64 }
-    ensures found { IfOk result (λ found. found_of found ≡ first_of (in_function (functions_in walk.old) (texts_of items.now) walk.old.number (is_in_set within.now walk.old.number)
+    ensures found { IfOk result (λ found. found_of found ≡ first_of (in_function (functions_in walk.old) (items.now) walk.old.number (is_in_set within.now walk.old.number)
         (globals_in walk.old) (before_in walk.old) (function_of f.now))) }
     ensures walk { OnOk result (BehindFunction walk.new walk.old (function_of f.now)) }
 {
@@ -93,21 +94,21 @@ fn pass_function<'a>(
         &mut walk.names,
         f,
     )?;
-    walk.before.push(&f.name)?;
+    walk.before.push(f.name.bytes())?;
     walk.number += 1;
     Ok(found)
 }
 
 /// The first breach in an item, which is passed.
 fn pass_item<'a>(
-    items: &[&'a Name],
+    items: &Index,
     within: &[bool],
     walk: &mut Walk<'a>,
     item: &'a Item,
 ) -> Result<Option<Broken<'a>>, AllocError>
     requires { walk.old.number + 1 < 2 ^ 64 }
     ensures found { IfOk result (λ found. (rest : ProgramText) →
-        first_behind walk.old (texts_of items.now) within.now (item_of item.now ∷ rest) ≡ first (found_of found) (first_behind walk.new (texts_of items.now) within.now rest)) }
+        first_behind walk.old (items.now) within.now (item_of item.now ∷ rest) ≡ first (found_of found) (first_behind walk.new (items.now) within.now rest)) }
     ensures number { OnOk result (walk.new.number ≤ walk.old.number + 1) }
 {
     match item {
@@ -119,13 +120,13 @@ fn pass_item<'a>(
 /// The first breach in all items.
 #[tactic(auto, using(crate::proofs::First::first_none))]
 fn pass_items<'a>(
-    names: &[&'a Name],
+    names: &Index,
     within: &[bool],
     walk: &mut Walk<'a>,
     items: &'a [Item],
 ) -> Result<Option<Broken<'a>>, AllocError>
     requires { walk.old.number ≡ 0 }
-    ensures { IfOk result (λ found. found_of found ≡ first_behind walk.old (texts_of names.now) within.now (map item_of items.now)) }
+    ensures { IfOk result (λ found. found_of found ≡ first_behind walk.old (names.now) within.now (map item_of items.now)) }
 {
     let mut found = None;
     for item in items {
@@ -145,12 +146,8 @@ fn in_items<'a>(
 {
     let names = item_names(alloc, items)?;
     let mut walk = Walk {
-        names: Names {
-            locals: Vec::new(alloc),
-            globals: Vec::new(alloc),
-            functions,
-        },
-        before: Vec::new(alloc),
+        names: Names::new(alloc, functions)?,
+        before: Index::new(alloc),
         number: 0,
     };
     let within = reached(alloc, &walk.names)?;

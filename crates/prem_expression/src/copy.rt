@@ -1,20 +1,9 @@
-// Copies of names and expressions.
+// Copies of expressions.
 ghost use Rattle.std.specs.Prelude.{◌≡◌, IfOk};
-ghost use Rattle.prem_syntax.specs.Name.{name_bytes};
 ghost use Rattle.prem_syntax.specs.SyntaxOf.{expression_of};
 
-use prem_syntax::{Expr, Name};
+use prem_syntax::{Expr, copy_name};
 use std::alloc::{AllocError, Global};
-
-/// A copy of a name. It fails only for want of memory.
-pub fn copy_name(alloc: Global, name: &Name) -> Result<Name, AllocError>
-    ensures { IfOk result (λ copy. name_bytes copy ≡ name_bytes name.now) }
-{
-    let Some(copy) = Name::new(alloc, name.bytes())? else {
-        unreachable!()
-    };
-    Ok(copy)
-}
 
 /// A copy of an expression, with the places of its parts. It fails only for want of memory.
 pub fn copy_expression(alloc: Global, expression: &Expr) -> Result<Expr, AllocError>

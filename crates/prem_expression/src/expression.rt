@@ -5,8 +5,7 @@ ghost use Rattle.prem_token.specs.Lexeme.{lexeme_of, seen_of};
 ghost use Rattle.prem_grammar.specs.Expression.{infix_of, prefix_of, level_of, bind, operand, operator, closing, behind, move as move_by};
 ghost use Rattle.prem_expression.specs.StateOf.{open_of, state_of, move_of};
 
-use crate::copy::copy_name;
-use prem_syntax::{BinOp, Expr, Name, Place, UnOp};
+use prem_syntax::{BinOp, Expr, Name, Place, UnOp, copy_name};
 use prem_token::{Mark, Spotted, Token};
 use std::alloc::{AllocError, Global};
 

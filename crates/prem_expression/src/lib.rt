@@ -4,5 +4,5 @@
 mod copy;
 mod expression;
 
-pub use copy::{copy_expression, copy_name};
+pub use copy::copy_expression;
 pub use expression::{Move, Open, State, advance};

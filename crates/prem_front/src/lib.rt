@@ -11,6 +11,3 @@ mod typing;
 
 pub use prem_token::FrontFail;
 pub use program::parse;
-
-#[cfg(test)]
-mod tests;

@@ -7,10 +7,9 @@ ghost use Rattle.prem_grammar.specs.Item.{type_begun, behind_signed, behind_unsi
 ghost use Rattle.prem_front.specs.StageOf.{typing_of, declared_of, stage_of, step_of};
 
 use crate::stage::{Declared, ItemRow, Stage, Step, Typing};
-use prem_expression::copy_name;
 use prem_list::Sequence;
 use prem_statement::{Slot, boxed};
-use prem_syntax::{Name, Param, Place, Ty};
+use prem_syntax::{Name, Param, Place, Ty, copy_name};
 use prem_token::{Spotted, Token, Word};
 use std::alloc::{AllocError, Global};
 

@@ -1,5 +1,5 @@
 -- The breaches of a program's rules, in the order of the text.
-use Rattle.std.specs.Prelude.{ℕ, zero, suc, ◌+◌, ◌==◌, nat_lt, nat_le, ℤ, pos, neg_ℤ, int_lt, Bool, true, false, not, ◌&&◌, ◌||◌, List, [], ◌∷◌, ◌++◌, length, map, slice_get, Option, None, Some, is_some, is_none, unwrap_or, codes}
+use Rattle.std.specs.Prelude.{ℕ, ◌+◌, ◌==◌, nat_lt, nat_le, ℤ, pos, neg_ℤ, int_lt, Bool, true, false, not, ◌&&◌, ◌||◌, List, [], ◌∷◌, ◌++◌, length, map, Option, None, Some, is_some, is_none, unwrap_or, codes}
 use Rattle.std.specs.List.{list_any, flat_map}
 use Rattle.std.specs.Str.{bytes_eq}
 use Rattle.prem_word.specs.declared.kind.Kind.{Kind}
@@ -13,6 +13,7 @@ use Rattle.prem_syntax.specs.declared.meaning.Meaning.{Meaning}
 use Rattle.prem_syntax.specs.declared.meaning.Meaning.TheVariants.{Nothing, Local as LocalName, Scalar as ScalarName, Array as ArrayName, Function as FunctionName}
 use Rattle.prem_syntax.specs.Syntax.{Text, Expression, literal, variable, element, unary, binary, LoopNames, Statement, block, if_then, if_else, bounded_while, counting_for, assign, output, input, call, Statements, no_statements, next_statement, Parameter, LocalVariable, RegionText, MarkText, InitialValue, absent, one, many, GlobalVariable, FunctionText, ItemText, global_item, function_item, ProgramText}
 use Rattle.prem_meaning.specs.Resolve.{Scope, meaning_of, find_global, find_function, kind_of, resolve_term, declared, scope_at, scope_in, globals_of, functions_of}
+use Rattle.prem_meaning.specs.Reach.{is_in_set, reached_by}
 use Rattle.prem_meaning.specs.Rules.{Rule, Limit, NoJob, Unknown, Twice, OfTypes, CallOrder, MarkedCall, SystemCall, LoopForm, Breach}
 
 abbrev pub if_broken : Bool → Option Place → Rule → List Breach
@@ -130,28 +131,13 @@ abbrev mutual
 abbrev pub is_marked_text : FunctionText → Bool
 is_marked_text f = is_some f.mark
 
-abbrev pub has_number : List ℕ → ℕ → Bool
-has_number ks n = list_any (λ k. k == n) ks
-
--- A set of functions has one Bool for each. Whether one of its functions calls function n:
-abbrev pub is_called_from : List FunctionText → List FunctionText → List Bool → ℕ → Bool
-is_called_from fs [] set n = false
-is_called_from fs (g ∷ gs) [] n = false
-is_called_from fs (g ∷ gs) (is_in ∷ set) n = (is_in && has_number (callees_within fs g.body) n) || is_called_from fs gs set n
-
--- the functions from number n on that are in a set, or that one of it calls
-abbrev pub with_callees : List FunctionText → List Bool → ℕ → List Bool → List Bool
-with_callees fs set n [] = []
-with_callees fs set n (is_in ∷ rest) = (is_in || is_called_from fs fs set n) ∷ with_callees fs set (n + 1) rest
-
--- the marked functions, and those that they reach by so many calls
-abbrev pub reached_by : List FunctionText → ℕ → List Bool
-reached_by fs zero = map is_marked_text fs
-reached_by fs (suc n) = with_callees fs (reached_by fs n) 0 (reached_by fs n)
+-- the callees of each function
+abbrev pub table_of : List FunctionText → List (List ℕ)
+table_of fs = map (λ (f : FunctionText). callees_within fs f.body) fs
 
 -- the marked functions, and all that they reach: no chain of calls needs a function twice
 abbrev pub reached : List FunctionText → List Bool
-reached fs = reached_by fs (length fs)
+reached fs = reached_by (table_of fs) (map is_marked_text fs) (length fs)
 
 -- ---- statements
 
@@ -308,9 +294,6 @@ is_initial (Some n) (many zs) = nat_le (length zs) n
 abbrev pub in_global : List Text → GlobalVariable → List Breach
 in_global earlier g =
     if_at (has_name earlier g.name) g.at (Twice g.name) ++ if_at (is_void g.ty) g.at (OfTypes Void) ++ if_at (not (is_initial g.len g.initial)) g.at (OfTypes Initial)
-
-abbrev pub is_in_set : List Bool → ℕ → Bool
-is_in_set set n = unwrap_or (slice_get set n) false
 
 abbrev pub in_items : List FunctionText → List Text → List Bool → ℕ → List GlobalVariable → List Text → ProgramText → List Breach
 in_items fs taken within n globals earlier [] = []

@@ -4,6 +4,9 @@ pub mod Expressions
 pub mod Statements
 pub mod Source
 pub mod Sums
+pub mod Order
+pub mod Reach
+pub mod Assigned
 pub mod Rules
 pub mod Breaches
 pub mod GroupTwo

@@ -5,7 +5,8 @@ use Rattle.std.specs.Str.{bytes_eq}
 use Rattle.prem_word.specs.declared.kind.Kind.{Kind}
 use Rattle.prem_word.specs.declared.kind.Kind.TheVariants.{Int, Unsigned}
 use Rattle.prem_word.specs.declared.kind.BinOp.{BinOp}
-use Rattle.prem_word.specs.declared.kind.BinOp.TheVariants.{Shl, Shr, Lt, Le, Gt, Ge, Eq, Ne, AndAlso as AndAlsoOp, OrElse as OrElseOp}
+use Rattle.prem_word.specs.declared.kind.BinOp.TheVariants.{Shl, Shr}
+use Rattle.prem_word.specs.Words.{result_kind}
 use Rattle.prem_syntax.specs.declared.tree.Place.{Place}
 use Rattle.prem_syntax.specs.declared.tree.Ty.{Ty}
 use Rattle.prem_syntax.specs.declared.tree.Ty.TheVariants.{Unsigned as UnsignedTy}
@@ -66,18 +67,6 @@ abbrev pub operand_kind : BinOp → Kind → Kind → Kind
 operand_kind Shl a b = a
 operand_kind Shr a b = a
 operand_kind op a b = common a b
-
--- the kind of what an operator gives: comparisons, && and || give an int
-abbrev pub result_kind : BinOp → Kind → Kind
-result_kind Lt k = Int
-result_kind Le k = Int
-result_kind Gt k = Int
-result_kind Ge k = Int
-result_kind Eq k = Int
-result_kind Ne k = Int
-result_kind AndAlsoOp k = Int
-result_kind OrElseOp k = Int
-result_kind op k = k
 
 abbrev pub unary_kind : UnOp → Kind → Kind
 unary_kind Not k = Int

@@ -1,10 +1,11 @@
--- The rules of a well-formed program, their breaches, and which breach comes first.
-use Rattle.std.specs.Prelude.{ℕ, ◌+◌, ◌==◌, nat_lt, Bool, false, ◌&&◌, ◌||◌, if◌then◌else◌, List, [], ◌∷◌, Option, None, Some}
+-- The rules of a well-formed program, their breaches, and where each stands in the order of breaches.
+use Rattle.std.specs.Prelude.{ℕ, ◌+◌, Bool, List, Option}
 use Rattle.prem_syntax.specs.declared.tree.Place.{Place}
 use Rattle.prem_syntax.specs.declared.rules.Count.{Count}
 use Rattle.prem_syntax.specs.declared.rules.TypeRule.{TypeRule}
 use Rattle.prem_syntax.specs.declared.rules.TypeRule.TheVariants.{Void, Narrow, Scalar, Initial, Count as CountRule, Target, Return, Marked, Region, Range, Job}
 use Rattle.prem_syntax.specs.Syntax.{Text}
+use Rattle.prem_meaning.specs.Order.{Standing, stands_before, first_by, first_of_by}
 
 pub data Rule : Type 0 where
   Limit : Count → Rule
@@ -48,27 +49,15 @@ rank MarkedCall = 16
 rank SystemCall = 17
 rank LoopForm = 18
 
--- whether a list of numbers is below another at the first difference
-abbrev pub less : List ℕ → List ℕ → Bool
-less (x ∷ xs) (y ∷ ys) = nat_lt x y || (x == y && less xs ys)
-less _ _ = false
+-- where it stands in the order of breaches
+abbrev pub standing : Breach → Standing
+standing b = record { at = b.at; rank = rank b.rule }
 
--- the whole comes before all places
-abbrev pub key : Option Place → Rule → List ℕ
-key None rule = 0 ∷ 0 ∷ 0 ∷ rank rule ∷ []
-key (Some at) rule = 1 ∷ at.line ∷ at.col ∷ rank rule ∷ []
-
--- by place, then by rule
 abbrev pub comes_before : Breach → Breach → Bool
-comes_before a b = less (key a.at a.rule) (key b.at b.rule)
+comes_before a b = stands_before (standing a) (standing b)
 
--- the first of two, where there are any: the left one if neither comes before the other
 abbrev pub first : Option Breach → Option Breach → Option Breach
-first None b = b
-first (Some a) None = Some a
-first (Some a) (Some b) = if comes_before b a then Some b else Some a
+first a b = first_by standing a b
 
--- the first of a list that follows the text
 abbrev pub first_of : List Breach → Option Breach
-first_of [] = None
-first_of (b ∷ bs) = first (Some b) (first_of bs)
+first_of bs = first_of_by standing bs

@@ -4,7 +4,8 @@ use Rattle.prem_resolve.specs.declared.resolved.Routine.{Routine as RoutineTree}
 use Rattle.prem_syntax.specs.Syntax.{GlobalVariable, FunctionText, ProgramText, global_item, function_item}
 use Rattle.prem_meaning.specs.Resolve.{Scope, resolve_function, resolve_items, globals_of, loops_within}
 use Rattle.prem_resolve.specs.ResolvedOf.{loops_of, routine_of, routines_of, all_loops, item_loops, IsRoutine, AreRoutines}
-use Rattle.prem_resolve.specs.NamesOf.{SameItems, AreBehind}
+use Rattle.prem_names.specs.Scopes.{SameItems}
+use Rattle.prem_resolve.specs.NamesOf.{AreBehind}
 
 pub globals_of-append : (xs ys : ProgramText) → globals_of (xs ++ ys) ≡ globals_of xs ++ globals_of ys
 globals_of-append [] ys = refl

@@ -6,13 +6,15 @@ ghost use Rattle.prem_syntax.specs.Syntax.{FunctionText, ProgramText};
 ghost use Rattle.prem_meaning.specs.Resolved.{Constant};
 ghost use Rattle.prem_syntax.specs.SyntaxOf.{item_of, program_of, parameter_of, function_of, expression_of, local_of, statement_of, statements_of};
 ghost use Rattle.std.specs.Option.{option_map};
-ghost use Rattle.prem_meaning.specs.Resolve.{functions_of, parameter_names, resolve_locals, local_names, resolve_statement, resolve_statements, loops_in, loops_within, set_steps, input_steps, call_steps, target_of, loop_local, promoted, common, operand_kind, result_kind, unary_kind, kind_of, variable_term, element_term, binary_term, resolve_term, meaning_of};
-ghost use Rattle.prem_resolve.specs.NamesOf.{scope_of, with_locals, SameItems, AreBehind};
+ghost use Rattle.prem_meaning.specs.Resolve.{functions_of, parameter_names, resolve_locals, local_names, resolve_statement, resolve_statements, loops_in, loops_within, set_steps, input_steps, call_steps, target_of, loop_local, promoted, common, operand_kind, unary_kind, kind_of, variable_term, element_term, binary_term, resolve_term, meaning_of};
+ghost use Rattle.prem_word.specs.Words.{result_kind};
+ghost use Rattle.prem_names.specs.Scopes.{scope_of, with_locals, SameItems};
+ghost use Rattle.prem_resolve.specs.NamesOf.{AreBehind};
 ghost use Rattle.prem_resolve.specs.ResolvedOf.{term_of, IsStep, AreSteps, IsRoutine, IsResolved};
 
-use crate::names::Names;
 use crate::resolved::{Resolved, Routine, Step, Term};
 use prem_list::Sequence;
+use prem_names::Names;
 use prem_syntax::{
     Expr, Function, Item, Local, Meaning, Name, Param, Place, Program, Stmt, Ty, UnOp,
 };
@@ -366,7 +368,7 @@ pub fn resolve_stmt(alloc: Global, names: &Names, stmt: &Stmt) -> Result<Step, A
                 alloc,
                 *at,
                 target(names, name),
-                names.find_function(callee.bytes()),
+                names.number_of_function(callee.bytes()),
                 arguments,
             ))
         }
@@ -401,7 +403,7 @@ fn resolve_locals<'a>(
     let mut terms = Sequence::new(alloc);
     for local in locals {
         terms.push(resolve_term(alloc, names, &local.value)?)?;
-        names.locals.push((&local.name, local.ty))?;
+        names.add_local(&local.name, local.ty)?;
     }
     Ok(terms)
 }
@@ -410,7 +412,7 @@ fn add_params<'a>(names: &mut Names<'a>, params: &'a [Param]) -> Result<(), Allo
     ensures { OnOk result (scope_of names.new ≡ with_locals (scope_of names.old) (parameter_names (map parameter_of params.now))) }
 {
     for param in params {
-        names.locals.push((&param.name, param.ty))?;
+        names.add_local(&param.name, param.ty)?;
     }
     Ok(())
 }
@@ -424,7 +426,7 @@ fn resolve_function<'a>(
     ensures routine { IfOk result (λ r. IsRoutine r (scope_of names.old).functions (scope_of names.old).globals (function_of f.now)) }
     ensures names { OnOk result (SameItems (scope_of names.new) (scope_of names.old)) }
 {
-    names.locals.clear();
+    names.drop_locals();
     add_params(names, f.params.items())?;
     let locals = resolve_locals(alloc, names, f.locals.items())?;
     let body = Step::Block {
@@ -462,7 +464,7 @@ fn resolve_item<'a>(
         AreBehind (scope_of names.old) (items_of routines.old) functions items → AreBehind (scope_of names.new) (items_of routines.new) functions (items ++ item_of item.now ∷ [])) }
 {
     match item {
-        Item::Global(g) => names.globals.push(g)?,
+        Item::Global(g) => names.add_global(g)?,
         Item::Function(f) => routines.push(resolve_function(alloc, names, f)?)?,
     }
     Ok(())
@@ -472,18 +474,16 @@ fn resolve_item<'a>(
 pub fn resolve<'a>(alloc: Global, p: &'a Program) -> Result<Resolved<'a>, AllocError>
     ensures { IfOk result (λ r. IsResolved r (program_of p.now)) }
 {
-    let mut names = Names {
-        locals: Vec::new(alloc),
-        globals: Vec::new(alloc),
-        functions: functions_of(alloc, p.items.items())?,
-    };
+    let functions = functions_of(alloc, p.items.items())?;
+    let count = functions.len();
+    let mut names = Names::new(alloc, functions)?;
     let mut routines = Sequence::new(alloc);
     for item in p.items.items() {
         resolve_item(alloc, &mut names, &mut routines, item)?;
     }
-    let job = names.find_function(b"job").unwrap_or(names.functions.len());
+    let job = names.number_of_function(b"job").unwrap_or(count);
     Ok(Resolved {
-        globals: names.globals,
+        globals: names.into_globals(),
         routines,
         job,
     })

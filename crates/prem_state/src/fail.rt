@@ -1,12 +1,9 @@
-// Numbers of functions, and why a run gives nothing.
+// Why a run gives nothing.
 ghost use Rattle.std.specs.Prelude.{◌≡◌};
 ghost use Rattle.prem_state.specs.declared.fail.SourceFail.TheVariants.{Wrong, OutOfMemory};
 
 use std::alloc::{AllocError, AllocFailed};
 use thiserror::Error;
-
-/// A function's place among the functions of its text, from 0.
-pub type FnId = u16;
 
 /// Why a run gives nothing.
 #[derive(Clone, Copy, Debug, PartialEq, Eq, Error)]

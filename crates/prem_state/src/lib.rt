@@ -5,5 +5,6 @@ mod eval;
 mod fail;
 mod machine;
 
-pub use fail::{FnId, SourceFail};
+pub use fail::SourceFail;
 pub use machine::{Counter, Machine, set_local, stored};
+pub use prem_word::FnId;

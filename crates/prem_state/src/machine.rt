@@ -9,11 +9,11 @@ ghost use Rattle.prem_state.specs.Machine.{state_of, Gives, Yields};
 ghost use Rattle.prem_state.specs.Single.{do_set_local, do_set_scalar, do_set_element, do_output, noted_in};
 
 use crate::eval::{Line, eval};
-use crate::fail::{FnId, SourceFail};
+use crate::fail::SourceFail;
 use prem_list::Sequence;
 use prem_resolve::Term;
 use prem_syntax::{Function, Ty};
-use prem_word::signed;
+use prem_word::{FnId, signed};
 use std::alloc::{AllocError, Global};
 
 /// What a run works on, but for the locals of the function at work.

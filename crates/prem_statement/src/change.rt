@@ -12,9 +12,9 @@ ghost use Rattle.prem_statement.specs.PointOf.{around_of, use_of, row_of, turn_o
 use crate::point::{Around, Point, Purpose, Row, Turn, boxed};
 use crate::row::{NOTHING, copy_spotted};
 use crate::slot::Slot;
-use prem_expression::{Open, State, copy_expression, copy_name};
+use prem_expression::{Open, State, copy_expression};
 use prem_list::Sequence;
-use prem_syntax::{BinOp, Expr, Kind, Name, Place, Stmt};
+use prem_syntax::{BinOp, Expr, Kind, Name, Place, Stmt, copy_name};
 use prem_token::{Mark, Spotted, Token};
 use std::alloc::{AllocError, Global};
 

@@ -22,9 +22,9 @@ use crate::slot::{
     Slot, fits, is_comma, is_else, is_in, is_left_bracket, is_left_parenthesis, is_right_brace,
     is_right_bracket, is_right_parenthesis, is_semicolon,
 };
-use prem_expression::{Move, Open, State, advance, copy_name};
+use prem_expression::{Move, Open, State, advance};
 use prem_list::Sequence;
-use prem_syntax::{Expr, ForNames, Name, Place, Stmt};
+use prem_syntax::{Expr, ForNames, Name, Place, Stmt, copy_name};
 use prem_token::{Mark, Spotted, Token, Word};
 use std::alloc::{AllocError, Global};
 

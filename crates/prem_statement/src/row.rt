@@ -8,8 +8,7 @@ ghost use Rattle.prem_grammar.specs.Statement.{rest_of_step, step_in, fourth_in,
 ghost use Rattle.prem_statement.specs.SlotOf.{slot_of};
 
 use crate::slot::{Slot, fits, is_less_equal};
-use prem_expression::copy_name;
-use prem_syntax::{Name, Place};
+use prem_syntax::{Name, Place, copy_name};
 use prem_token::{Spotted, Token};
 use std::alloc::{AllocError, Global};
 

@@ -1,3 +1,4 @@
+pub mod Literals
 pub mod Name
 pub mod Syntax
 pub mod SyntaxOf

@@ -1,11 +1,14 @@
 //! The trees of the source language, and its syntax as plain data.
 #![tactic(auto)]
 
+mod copy;
 mod meaning;
 mod name;
 mod rules;
 mod tree;
+mod words;
 
+pub use copy::copy_name;
 pub use meaning::Meaning;
 pub use name::Name;
 pub use prem_list::Sequence;
@@ -15,3 +18,4 @@ pub use tree::{
     Expr, ForNames, Function, Global, Initial, Item, Local, Mark, Param, Place, Program, Region,
     Stmt, Ty, UnOp,
 };
+pub use words::have_words;

@@ -11,4 +11,4 @@ pub use prem_syntax::{
     BinOp, Count, Expr, ForNames, Function, Global, Initial, Item, Kind, Local, Mark, Name, Param,
     Place, Program, Region, Sequence, Stmt, Ty, TypeRule, UnOp,
 };
-pub use source::{SourceRun, source_run};
+pub use source::{SourceRun, initial_words, source_run};

@@ -56,7 +56,7 @@ fn stated_words(alloc: Allocator, g: &Global) -> Result<Vec<u32>, AllocError>
 
 /// The words of a global at the start: those that aren't stated are 0.
 #[tactic(auto, using(crate::proofs::Filled::padded), unfolding(crate::specs::Constant::constant_word))]
-fn initial_words(alloc: Allocator, g: &Global) -> Result<Vec<u32>, AllocError>
+pub fn initial_words(alloc: Allocator, g: &Global) -> Result<Vec<u32>, AllocError>
     ensures { IfOk result (λ words. words.items ≡ initial_words (global_of g.now)) }
 {
     let mut words = stated_words(alloc, g)?;

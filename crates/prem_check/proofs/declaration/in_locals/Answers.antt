@@ -5,7 +5,7 @@ use Rattle.prem_syntax.specs.Name.{name_bytes}
 use Rattle.prem_syntax.specs.Syntax.{LocalVariable}
 use Rattle.prem_syntax.specs.SyntaxOf.{local_of}
 use Rattle.prem_meaning.specs.Resolve.{Scope, declared, local_names}
-use Rattle.prem_resolve.specs.NamesOf.{scope_of, with_locals}
+use Rattle.prem_names.specs.Scopes.{scope_of, with_locals}
 use Rattle.prem_meaning.specs.Rules.{first, first_of}
 use Rattle.prem_meaning.specs.Breaches.{in_declared, in_expression, in_locals}
 use Rattle.prem_check.specs.FoundOf.{found_of}
@@ -23,12 +23,12 @@ loop-local-preserved c =
     let name = name_bytes l.name in
     let scope = scope_of c.loop-local.names in
     let taken = taken_of items scope in
-    let behind : Scope = scope_of (record { locals = c.push.new.self; globals = c.loop-local.names.globals; functions = c.loop-local.names.functions }) in
+    let behind = scope_of c.add_local.new.self in
     let old = found_of c.loop-local.found in
     let new = found_of c.earlier-found.result in
     let rest = map local_of (drop (i + 1) locals) in
     let left : drop i locals ≡ l ∷ drop (i + 1) locals = drop_more locals i l (omega arith) ∙ ap (λ x. x ∷ drop (i + 1) locals) (sym c.local-item.is) in
-    let added : behind ≡ with_locals scope ((name, l.ty) ∷ []) = grind (arith, common_steps) in
+    let added : behind ≡ with_locals scope ((name, l.ty) ∷ []) = c.in_ok-add_local.ensures in
     record {
       found =
           ap (λ s. first new (first_of (in_locals (taken_of items s) s rest))) added

@@ -6,7 +6,7 @@ use Rattle.prem_syntax.specs.Name.{name_bytes}
 use Rattle.prem_syntax.specs.Syntax.{Parameter}
 use Rattle.prem_syntax.specs.SyntaxOf.{parameter_of}
 use Rattle.prem_meaning.specs.Resolve.{Scope, parameter_names}
-use Rattle.prem_resolve.specs.NamesOf.{scope_of, with_locals}
+use Rattle.prem_names.specs.Scopes.{scope_of, with_locals}
 use Rattle.prem_meaning.specs.Rules.{OfTypes, first, first_of}
 use Rattle.prem_meaning.specs.Breaches.{if_at, is_range, in_declared, in_parameters}
 use Rattle.prem_check.specs.FoundOf.{found_of}
@@ -24,12 +24,12 @@ loop-param-preserved c =
     let name = name_bytes p.name in
     let scope = scope_of c.loop-param.names in
     let taken = taken_of items scope in
-    let behind : Scope = scope_of (record { locals = c.push.new.self; globals = c.loop-param.names.globals; functions = c.loop-param.names.functions }) in
+    let behind = scope_of c.add_local.new.self in
     let old = found_of c.loop-param.found in
     let new = found_of c.earlier-found.result in
     let rest = map parameter_of (drop (i + 1) params) in
     let left : drop i params ≡ p ∷ drop (i + 1) params = drop_more params i p (omega arith) ∙ ap (λ x. x ∷ drop (i + 1) params) (sym c.param-item.is) in
-    let added : behind ≡ with_locals scope ((name, p.ty) ∷ []) = grind (arith, common_steps) in
+    let added : behind ≡ with_locals scope ((name, p.ty) ∷ []) = c.in_ok-add_local.ensures in
     record {
       found =
           ap (λ s. first new (first_of (in_parameters (taken_of items s) rest))) added

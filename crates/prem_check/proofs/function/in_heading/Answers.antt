@@ -4,7 +4,6 @@ use Rattle.prem_syntax.specs.declared.rules.TypeRule.TheVariants.{Narrow, Return
 use Rattle.prem_syntax.specs.SyntaxOf.{function_of}
 use Rattle.prem_meaning.specs.Breaches.{if_at, has_name, is_narrow, is_void, is_marked_text, is_job_name}
 use Rattle.prem_check.specs.FoundOf.{found_of}
-use Rattle.prem_check.specs.Taken.{texts_of}
 use Rattle.prem_check.proofs.Steps.{in_five}
 use Rattle.prem_check.proofs.function.in_heading.Goals as goal
 
@@ -12,7 +11,7 @@ pub returns : goal.returns
 returns c =
     let f = function_of c.args.f.now in
     let at = f.at in
-    in_five (if_at (has_name (texts_of c.args.before.now) f.name) at (Twice f.name)) (if_at (is_narrow f.ty) at (OfTypes Narrow))
+    in_five (if_at (has_name (c.args.before.now) f.name) at (Twice f.name)) (if_at (is_narrow f.ty) at (OfTypes Narrow))
     (if_at ((is_void f.ty && is_some f.result) || (not (is_void f.ty) && is_none f.result)) at (OfTypes Return))
     (if_at (is_marked_text f && (not (is_void f.ty) || is_job_name f.name)) at (OfTypes Marked)) (if_at (is_job_name f.name && not (is_void f.ty && length f.params == 0)) at (OfTypes Job))
     (found_of c.if_at-twice.result) (found_of c.if_type_at-narrow.result) (found_of c.if_type_at-result.result) (found_of c.if_type_at-marked.result) (found_of c.if_type_at-job.result)

@@ -1,8 +1,7 @@
 use Rattle.std.proofs.Common.{◌≡◌, map, take}
 use Rattle.prem_syntax.specs.SyntaxOf.{item_of}
 use Rattle.prem_meaning.specs.Breaches.{item_names}
-use Rattle.prem_check.specs.Taken.{texts_of}
 use Rattle.prem_check.proofs.program.item_names.Given as goal
 
 abbrev pub invariant-loop-item : goal.invariant-loop-item
-invariant-loop-item l = texts_of l.names.items ≡ item_names (map item_of (take l.item-index l.items))
+invariant-loop-item l = l.names ≡ item_names (map item_of (take l.item-index l.items))

@@ -3,7 +3,6 @@ use Rattle.std.proofs.lemmas.List.{drop_more}
 use Rattle.prem_syntax.specs.SyntaxOf.{item_of}
 use Rattle.prem_meaning.specs.Rules.{first}
 use Rattle.prem_check.specs.FoundOf.{found_of}
-use Rattle.prem_check.specs.Taken.{texts_of}
 use Rattle.prem_check.specs.Walk.{first_behind}
 use Rattle.prem_check.proofs.First.{first_assoc}
 use Rattle.prem_check.proofs.Passed.{at_most_one_more}
@@ -11,7 +10,7 @@ use Rattle.prem_check.proofs.program.pass_items.Goals as goal
 
 pub loop-item-preserved : goal.loop-item-preserved
 loop-item-preserved c =
-    let taken = texts_of c.args.names.now in
+    let taken = c.args.names.now in
     let within = c.args.within.now in
     let items = c.args.items.now in
     let i = c.loop-item.item-index in

@@ -2,7 +2,7 @@ use Rattle.std.proofs.Common.{take}
 use Rattle.prem_list.specs.Sequence.{items_of}
 use Rattle.prem_syntax.specs.SyntaxOf.{statements_of}
 use Rattle.prem_meaning.specs.Resolve.{resolve_statements, loops_within}
-use Rattle.prem_resolve.specs.NamesOf.{scope_of}
+use Rattle.prem_names.specs.Scopes.{scope_of}
 use Rattle.prem_resolve.specs.ResolvedOf.{AreSteps}
 use Rattle.prem_resolve.proofs.program.+steps.Given as goal
 

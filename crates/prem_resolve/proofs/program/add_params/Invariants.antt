@@ -1,7 +1,7 @@
 use Rattle.std.proofs.Common.{◌≡◌, map, take}
 use Rattle.prem_syntax.specs.SyntaxOf.{parameter_of}
 use Rattle.prem_meaning.specs.Resolve.{parameter_names}
-use Rattle.prem_resolve.specs.NamesOf.{scope_of, with_locals}
+use Rattle.prem_names.specs.Scopes.{scope_of, with_locals}
 use Rattle.prem_resolve.proofs.program.add_params.Given as goal
 
 abbrev pub invariant-loop-param : goal.invariant-loop-param

@@ -2,7 +2,8 @@ use Rattle.std.proofs.Common.{map, take}
 use Rattle.prem_list.specs.Sequence.{items_of}
 use Rattle.prem_syntax.specs.SyntaxOf.{item_of, program_of}
 use Rattle.prem_meaning.specs.Resolve.{functions_of}
-use Rattle.prem_resolve.specs.NamesOf.{scope_of, AreBehind}
+use Rattle.prem_names.specs.Scopes.{scope_of}
+use Rattle.prem_resolve.specs.NamesOf.{AreBehind}
 use Rattle.prem_resolve.proofs.program.resolve.Given as goal
 
 abbrev pub invariant-loop-item : goal.invariant-loop-item

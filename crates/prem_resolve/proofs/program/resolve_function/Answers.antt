@@ -2,7 +2,7 @@ use Rattle.std.proofs.Common.{◌≡◌, arith, rules}
 use Rattle.std.proofs.lemmas.Grind.{common_steps}
 use Rattle.prem_syntax.specs.SyntaxOf.{function_of}
 use Rattle.prem_meaning.specs.Resolve.{scope_at, scope_in}
-use Rattle.prem_resolve.specs.NamesOf.{scope_of}
+use Rattle.prem_names.specs.Scopes.{scope_of}
 use Rattle.prem_resolve.proofs.StepLaws.{IsRoutine_made}
 use Rattle.prem_resolve.proofs.program.resolve_function.Goals as goal
 

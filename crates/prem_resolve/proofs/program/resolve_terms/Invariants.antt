@@ -2,7 +2,7 @@ use Rattle.std.proofs.Common.{◌≡◌, map, take}
 use Rattle.prem_list.specs.Sequence.{items_of}
 use Rattle.prem_syntax.specs.SyntaxOf.{expression_of}
 use Rattle.prem_meaning.specs.Resolve.{resolve_term}
-use Rattle.prem_resolve.specs.NamesOf.{scope_of}
+use Rattle.prem_names.specs.Scopes.{scope_of}
 use Rattle.prem_resolve.specs.ResolvedOf.{term_of}
 use Rattle.prem_resolve.proofs.program.resolve_terms.Given as goal
 

@@ -1,0 +1,8 @@
+//! The names of a program: what has a name at a place of a function, found by an index and without a walk.
+#![tactic(auto)]
+
+mod index;
+mod names;
+
+pub use index::Index;
+pub use names::Names;
