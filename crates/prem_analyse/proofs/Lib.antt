@@ -1,0 +1,4 @@
+pub mod Naming
+pub mod Counts
+pub mod Lookup
+pub mod Bounded

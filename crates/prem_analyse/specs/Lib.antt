@@ -1,0 +1,4 @@
+pub mod Analysed
+pub mod Told
+pub mod Named
+pub mod Words

@@ -1,0 +1,9 @@
+use Rattle.std.proofs.Common.{drop}
+use Rattle.prem_walk.specs.View.{env_of}
+use Rattle.prem_walk.specs.SiteOf.{site_of}
+use Rattle.prem_analysis.specs.Seen.{seen_of}
+use Rattle.prem_analysis.proofs.Behind.{Walking}
+use Rattle.prem_analysis.proofs.steps.+walking.Given as goal
+
+abbrev pub invariant-walk_all-loop-s : goal.invariant-walk_all-loop-s
+invariant-walk_all-loop-s l = Walking (site_of l.site) l.around l.steps (drop l.s-index l.steps) (env_of l.env.items) (env_of l.fn.env.items) (seen_of l.seen) (seen_of l.fn.seen)

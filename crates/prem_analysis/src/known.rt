@@ -1,0 +1,84 @@
+// What is known of locals, in a vector: each of these changes it as its namesake does a slice.
+ghost use Rattle.std.specs.Prelude.{◌≡◌, true, IfOk};
+ghost use Rattle.prem_resolve.specs.ResolvedOf.{term_of};
+ghost use Rattle.prem_ranges.specs.Environment.{at_local, with_range, assigned, any_again};
+ghost use Rattle.prem_ranges.specs.RangeOf.{refined};
+ghost use Rattle.prem_ranges.specs.After.{in_counting, in_while, behind_call};
+ghost use Rattle.prem_walk.specs.View.{span_of, env_of};
+ghost use Rattle.prem_walk.specs.Plain.{plain};
+
+use prem_resolve::{Step, Term};
+use prem_walk::{Known, Range, assign, loosen, loosen_assigned, refine, set_range};
+use std::alloc::{AllocError, Global};
+
+fn loosen_loop(env: &mut [Known], k: usize, body: &Step)
+    ensures { env_of env.new ≡ in_counting k (plain body.now) (env_of env.old) }
+{
+    loosen(env, k);
+    loosen_assigned(env, body);
+}
+
+/// No more is known of a counting loop's variable, and of the locals that its body assigns.
+pub fn at_counting(env: &mut Vec<Known>, k: usize, body: &Step)
+    ensures { env_of env.new.items ≡ in_counting k (plain body.now) (env_of env.old.items) }
+{
+    loosen_loop(env, k, body);
+}
+
+/// No more is known of the locals that the body of a `while` assigns.
+pub fn at_while(env: &mut Vec<Known>, body: &Step)
+    ensures { env_of env.new.items ≡ in_while (plain body.now) (env_of env.old.items) }
+{
+    loosen_assigned(env, body);
+}
+
+/// A condition is true.
+pub fn at_true(env: &mut Vec<Known>, condition: &Term)
+    ensures { env_of env.new.items ≡ refined true (env_of env.old.items) (term_of condition.now) }
+{
+    refine(true, env, condition);
+}
+
+/// A local has a range.
+pub fn at_range(env: &mut Vec<Known>, k: usize, r: Range)
+    ensures { env_of env.new.items ≡ at_local k (with_range (span_of r)) (env_of env.old.items) }
+{
+    set_range(env, k, r);
+}
+
+/// A local gets a value of a range.
+pub fn at_value(env: &mut Vec<Known>, k: usize, r: Range)
+    ensures { env_of env.new.items ≡ at_local k (assigned (span_of r)) (env_of env.old.items) }
+{
+    assign(env, k, r);
+}
+
+/// A local gets any value.
+pub fn at_input(env: &mut Vec<Known>, k: usize)
+    ensures { env_of env.new.items ≡ at_local k any_again (env_of env.old.items) }
+{
+    loosen(env, k);
+}
+
+/// A call comes back.
+pub fn at_return(env: &mut Vec<Known>, target: Option<usize>)
+    ensures { env_of env.new.items ≡ behind_call target (env_of env.old.items) }
+{
+    if let Some(k) = target {
+        loosen(env, k);
+    }
+}
+
+/// What is known of locals, where one has a range.
+pub fn with_local(
+    alloc: Global,
+    env: &[Known],
+    k: usize,
+    r: Range,
+) -> Result<Vec<Known>, AllocError>
+    ensures { IfOk result (λ inner. env_of inner.items ≡ at_local k (with_range (span_of r)) (env_of env.now)) }
+{
+    let mut inner = env.to_vec(alloc)?;
+    set_range(&mut inner, k, r);
+    Ok(inner)
+}

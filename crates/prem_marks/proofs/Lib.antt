@@ -1,0 +1,4 @@
+pub mod Stated
+pub mod CalledTrees
+pub mod Sets
+pub mod Watched

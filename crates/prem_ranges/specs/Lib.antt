@@ -1,0 +1,13 @@
+pub mod Environment
+pub mod RangeOf
+pub mod After
+pub mod Regions
+pub mod RangeRules
+pub mod RangeBreaches
+pub mod GroupThree
+pub mod Sound
+pub mod Promises
+pub mod Turns
+pub mod Wrong
+pub mod Counts
+pub mod Sequence
