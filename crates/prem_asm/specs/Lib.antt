@@ -1,0 +1,12 @@
+pub mod Pieces
+pub mod Runs
+pub mod PiecesOf
+pub mod Lines
+pub mod Fit
+pub mod Steps
+pub mod Quiet
+pub mod OwnRun
+pub mod Ways
+pub mod Listing
+pub mod Table
+pub mod Laws

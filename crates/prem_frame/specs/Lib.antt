@@ -1,0 +1,2 @@
+pub mod FrameOf
+pub mod Bounded

@@ -1,0 +1,4 @@
+pub mod Numbers
+pub mod Breaches
+pub mod Resolving
+pub mod StepTrees
