@@ -1,0 +1,5 @@
+pub mod Sums
+pub mod Calls
+pub mod Steps
+pub mod Told
+pub mod StubNumbers

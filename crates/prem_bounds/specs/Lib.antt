@@ -1,0 +1,4 @@
+pub mod Scale
+pub mod TableOf
+pub mod Told
+pub mod Laws

@@ -1,0 +1,8 @@
+//! How many outputs and marked calls a job has at most, by the turns of its loops.
+#![tactic(auto)]
+
+mod count;
+mod sum;
+mod table;
+
+pub use table::{marked_calls, outputs};

@@ -1,0 +1,4 @@
+pub mod Clashes
+pub mod FactOf
+pub mod Large
+pub mod Laws

@@ -1,0 +1,16 @@
+//! The lines that a marked function touches while it is predictable, and whether they fit the cache.
+#![tactic(auto)]
+
+mod laws;
+mod lines;
+mod places;
+mod runs;
+mod sets;
+
+pub use laws::{places_are_exact, plans_stand};
+pub use lines::{Lines, fits, footprint, most, ranges_of};
+pub use places::TaskPlaces;
+pub use prem_plant::Plant;
+pub use prem_split::IntervalPlan;
+pub use runs::line_count;
+pub use sets::Conflict;

@@ -1,0 +1,5 @@
+pub mod Samples
+mod Rows
+pub mod Lines
+pub mod Lawful
+pub mod StubLaws

@@ -1,0 +1,7 @@
+pub mod TableLaws
+pub mod StepRows
+pub mod Plain
+pub mod Depths
+pub mod PlanLaws
+pub mod PlansAre
+pub mod MayHave
