@@ -1,0 +1,58 @@
+-- What the compiler's side shows of an image, so that the machine's side makes it sound.
+use Rattle.std.specs.Prelude.{◌≡◌, ℕ, ◌+◌, ◌*◌, ◌/◌, ◌<◌, ◌≤◌, Bool, true, All, List, [], length, slice_index, slice_index_or}
+use Rattle.prem_image.specs.Records.{IsImage}
+use Rattle.prem_isa.specs.Plain.{TaskRun, PlainState}
+use Rattle.prem_lru.specs.Entries.{Rule}
+use Rattle.prem_lru.specs.Order.{OrderRule}
+use Rattle.prem_cycle.specs.State.{Setup, record_of}
+use Rattle.prem_cycle.specs.Cycle.{log_size}
+use Rattle.prem_cycle.specs.Run.{memory_of}
+use Rattle.prem_position.specs.Own.{IsFree}
+use Rattle.prem_script.specs.Scripts.{Promise, sum_below, last_release}
+use Rattle.prem_serve.specs.Requests.{AreasAreZero}
+use Rattle.prem_resident.specs.Faultless.{IsPolicy}
+use Rattle.prem_sound.specs.Sound.{AreInputs, Sound}
+use Rattle.prem_weave.specs.Weave.{Weave, calls_of, IsWoven, EndsAsPromised}
+
+-- the run of task k on its own, on the bytes of the image
+abbrev pub run_in : Setup → (content : List ℕ) → (inputs : List (List ℕ)) → ℕ → TaskRun
+run_in p content inputs k = record {
+  size = p.plant.memory;
+  bytes = slice_index (memory_of p content);
+  entry = (record_of p k).entry;
+  stack = (record_of p k).stack;
+  inputs = slice_index_or inputs k [];
+  jobs = (record_of p k).jobs;
+}
+
+-- what a job of a task takes at most: cycles, output words, and marked calls
+pub record JobLimits : Type 0 where
+  pub cycles : ℕ
+  pub outputs : ℕ
+  pub calls : ℕ
+
+-- a task's run goes along a weave, gives what is promised, and stays within what its jobs may take
+pub record TaskJoins (p : Setup) (passes : ℕ → ℕ) (own : ℕ → Bool) (run : TaskRun) (most : JobLimits) (q : Promise) : Type 0 where
+  pub weave : Weave
+  pub ending : PlainState
+  pub woven : IsWoven p passes own q.reads run (run.jobs * most.cycles) weave ending
+  pub promised : EndsAsPromised own weave ending q
+  pub outputs : length q.outputs ≤ run.jobs * most.outputs
+  pub calls : length (calls_of weave) ≤ run.jobs * most.calls
+
+-- what holds of an image and all its tasks
+pub record IsJoined (passes : ℕ → ℕ) (p : Setup) (content : List ℕ) (own : ℕ → ℕ → Bool) (most : ℕ → JobLimits) (promises : List (List ℕ) → ℕ → Promise) (limit : ℕ) : Type 0 where
+  pub image : IsImage p.plant p.tasks p.devices content
+  pub bytes : All (λ byte. byte < 256) content
+  pub zero : AreasAreZero p (memory_of p content)
+  pub apart : (j k a : ℕ) → j < length p.tasks → k < length p.tasks → own j a ≡ true → own k a ≡ true → j ≡ k
+  pub free : (k a : ℕ) → k < length p.tasks → own k a ≡ true → IsFree p (a / p.plant.line)
+  pub each : (inputs : List (List ℕ)) → AreInputs p inputs → (k : ℕ) → k < length p.tasks → TaskJoins p passes (own k) (run_in p content inputs k) (most k) (promises inputs k)
+  pub outputs : sum_below (length p.tasks) (λ k. (record_of p k).jobs * (most k).outputs) < log_size
+  pub intervals : sum_below (length p.tasks) (λ k. (record_of p k).jobs * (1 + 2 * (most k).calls)) < log_size
+  pub limits : last_release p.tasks + sum_below (length p.tasks) (λ k. (record_of p k).jobs * (most k).cycles) ≤ limit
+
+abbrev pub JoinedImagesAreSound : Type 0
+JoinedImagesAreSound =
+    (rule : Rule) (order : OrderRule) (passes : ℕ → ℕ) (p : Setup) (content : List ℕ) (own : ℕ → ℕ → Bool) (most : ℕ → JobLimits) (promises : List (List ℕ) → ℕ → Promise) (limit : ℕ) →
+    IsPolicy rule order passes → IsJoined passes p content own most promises limit → Sound rule p content promises limit
