@@ -1,26 +1,14 @@
-//! The program `prem`: its words, its files and its answer.
+//! The program `prem`: its words, the computer's files and its standard output.
 #![tactic(auto)]
 
-mod machine;
-mod refusal;
-#[cfg(test)]
-mod tests;
-mod texts;
-mod top;
-mod words;
-mod write;
-
 use prem_io::{DiskStore, OutSink};
+use prem_top::{Status, prem};
 use std::process::ExitCode;
 use std::rt::Env;
 use std::{env, io};
-use top::prem;
 
-/// The exit status where there is no memory for the words.
-const NO_MEMORY: u8 = 6;
-
-/// The exit status where the words aren't UTF-8.
-const NOT_UTF8: u8 = 9;
+/// The exit status where the words aren't UTF-8, or can't be had for another reason.
+const NO_WORDS: u8 = 9;
 
 /// The words of the command line, without the program's name.
 fn words_of(rt: &(impl Env + AllocGlobal)) -> io::Result<Vec<String>> {
@@ -36,11 +24,11 @@ fn main(rt: HostRuntime) -> ExitCode {
         Ok(words) => {
             let mut store = DiskStore::new(&rt);
             let mut sink = OutSink::new(&rt);
-            ExitCode::from(prem(rt.alloc(), &words, &mut store, &mut sink) as u8)
+            ExitCode::from(prem(rt.alloc(), &words, &mut store, &mut sink).code())
         }
         Err(error) => match error.kind() {
-            io::ErrorKind::OutOfMemory => ExitCode::from(NO_MEMORY),
-            _ => ExitCode::from(NOT_UTF8),
+            io::ErrorKind::OutOfMemory => ExitCode::from(Status::OutOfMemory.code()),
+            _ => ExitCode::from(NO_WORDS),
         },
     }
 }

@@ -91,12 +91,9 @@ cycles_one rule p requests (suc n) s one =
 
 -- ---- reports
 
-pub record OneReport (tasks : List Task) (sched : List TaskJobs) : Type 0 where
-  pub ended : ℕ
-  pub is : tasks_reported tasks sched ≡ record { outputs = (slice_index_or tasks 0 (first_task no_record [])).outputs; ended = ended } ∷ []
-
-pub one_report : (tasks : List Task) (sched : List TaskJobs) → length tasks ≡ 1 → length sched ≡ 1 → OneReport tasks sched
+pub one_report : (tasks : List Task) (sched : List TaskJobs) → length tasks ≡ 1 → length sched ≡ 1 →
+    tasks_reported tasks sched ≡ record { outputs = (slice_index_or tasks 0 (first_task no_record [])).outputs; ended = (task_at sched 0).ended } ∷ []
 one_report [] sched h k = absurd (omega arith)
 one_report (t ∷ u ∷ tasks) sched h k = absurd (omega arith)
 one_report (t ∷ []) [] h k = absurd (omega arith)
-one_report (t ∷ []) (j ∷ sched) h k = record { ended = j.ended; is = refl }
+one_report (t ∷ []) (j ∷ sched) h k = refl

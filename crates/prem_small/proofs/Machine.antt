@@ -1,5 +1,5 @@
 -- Small programs on the machine.
-use Rattle.std.proofs.Common.{◌≡◌, ◌≤◌, ℕ, ◌+◌, ◌*◌, List, [], ◌∷◌, length, true, refl, arith, ap, ◌∙◌}
+use Rattle.std.proofs.Common.{◌≡◌, ◌≤◌, ℕ, ◌+◌, ◌*◌, List, [], ◌∷◌, length, true, refl, arith, ap, ap₂, ◌∙◌}
 use Rattle.prem_lru.specs.Entries.{to_front}
 use Rattle.prem_lru.proofs.Touches.{to_front_rule}
 use Rattle.prem_cycle.specs.State.{start_of}
@@ -35,6 +35,5 @@ small_finishes p n small late =
     record {
       finished = end.finished;
       untrapped = end.untrapped;
-      ended = told.ended;
-      report = told.is ∙ ap (report_with told.ended) (end.outputs ∙ gives.outputs);
+      report = told ∙ ap₂ report_with end.ended (end.outputs ∙ gives.outputs);
     }

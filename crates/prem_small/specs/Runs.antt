@@ -40,9 +40,8 @@ pub record EndsWith (run : TaskRun) (n : ℕ) (words : List ℕ) : Type 0 where
 abbrev pub machine_run : Statements → ℕ → State
 machine_run body n = lone_run to_front default_plant (task_of body) (content_of body) [] n
 
--- the one task has finished without a trap, with these words as its outputs
+-- the one task has finished its one job without a trap, with these words as its outputs
 pub record FinishesWith (s : State) (words : List ℕ) : Type 0 where
   pub finished : is_finished s ≡ true
   pub untrapped : s.trapped ≡ None
-  pub ended : ℕ
-  pub report : (report_of s).tasks ≡ record { outputs = words; ended = ended } ∷ []
+  pub report : (report_of s).tasks ≡ record { outputs = words; ended = 1 } ∷ []

@@ -1,0 +1,8 @@
+//! Runs of image files.
+#![tactic(auto)]
+
+mod exec;
+mod files;
+mod run;
+
+pub use exec::exec_answer;

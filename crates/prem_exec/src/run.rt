@@ -1,0 +1,71 @@
+// The run of an image, and what is told of it.
+ghost use Rattle.std.specs.Prelude.{◌≡◌, ◌≤◌, ◌^◌, IfOk};
+ghost use Rattle.prem_list.specs.Sequence.{items_of};
+ghost use Rattle.prem_cycle.specs.Inputs.{FitsRun, setup_of, words_of};
+ghost use Rattle.prem_imagefile.specs.Parts.{parts_of};
+ghost use Rattle.prem_answer.specs.Stages.{reply_of};
+ghost use Rattle.prem_exec.specs.Exec.{input_of, run_reply, state_at, stop_at, stop_status};
+ghost use Rattle.prem_machine.specs.States.{state_of};
+
+use prem_answer::{Answer, Status};
+use prem_cycle::Stop;
+use prem_gate::RunInput;
+use prem_image::Image;
+use prem_machine::Machine;
+use prem_report::report;
+use std::alloc::{AllocError, Global};
+
+/// A run that traps has a status of its own.
+fn stop_status(stop: Stop) -> Status
+    ensures { result ≡ stop_status stop }
+{
+    match stop {
+        Stop::Trap { .. } => Status::Trap,
+        Stop::Finished | Stop::LogFull { .. } | Stop::Limit => Status::Done,
+    }
+}
+
+/// The machine behind the run of an image up to a cycle, and why it stopped.
+fn run_image(
+    alloc: Global,
+    image: &Image,
+    input: &RunInput,
+    limit: u64,
+) -> Result<(Machine, Stop), AllocError>
+    requires fits { FitsRun (setup_of image.now) (words_of input.now) (items_of input.now.requests) }
+    requires limit { limit ≤ 2 ^ 61 }
+    ensures state { IfOk result (λ r. state_of r.0 ≡ state_at (parts_of image.now) (input_of input.now) limit) }
+    ensures stop { IfOk result (λ r. r.1 ≡ stop_at limit (state_at (parts_of image.now) (input_of input.now) limit)) }
+{
+    let mut machine = Machine::new(alloc, image, input)?;
+    let stop = machine.run_to(limit);
+    Ok((machine, stop))
+}
+
+/// What is told of the run of an image up to a cycle, with its intervals and transfers where `times` says so.
+pub(crate) fn run_answer(
+    alloc: Global,
+    image: &Image,
+    input: &RunInput,
+    times: bool,
+    limit: u64,
+) -> Result<Answer, AllocError>
+    requires fits { FitsRun (setup_of image.now) (words_of input.now) (items_of input.now.requests) }
+    requires limit { limit ≤ 2 ^ 61 }
+    ensures { IfOk result (λ a. reply_of a ≡ run_reply (parts_of image.now) (input_of input.now) times limit) }
+{
+    let (machine, stop) = run_image(alloc, image, input, limit)?;
+    let text = report(
+        alloc,
+        image.tasks.items(),
+        image.devices.items(),
+        times,
+        machine.now(),
+        machine.facts(),
+        stop,
+    )?;
+    Ok(Answer {
+        status: stop_status(stop),
+        text,
+    })
+}
