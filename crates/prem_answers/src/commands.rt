@@ -1,0 +1,90 @@
+// Answers to commands, over files in memory and an outside that fails at calls.
+//
+// Each line of a file has the call at which the store fails and that at which the sink does, 0 for none, and then the
+// words.
+
+use crate::sources::on_one_line;
+use prem_io::{FileMap, MemorySink, MemoryStore, SteadySink, SteadyStore};
+use prem_top::{Status, prem};
+use std::alloc::{AllocError, Global};
+use std::rt::Files;
+use std::{fs, io};
+
+/// Where the content of the image `marked.img` begins: its first word is that of the first instruction.
+const CONTENT: usize = 82;
+
+/// Adds what is made of the image: one whose first word is no instruction, and one that is a byte too short and one that
+/// is a byte too long.
+fn add_images(alloc: Global, files: &mut FileMap, image: &[u8]) -> Result<(), AllocError> {
+    let mut trap = Vec::new(alloc);
+    for (at, byte) in image.iter().enumerate() {
+        let is_first = CONTENT <= at && at < CONTENT + 4;
+        trap.push(if is_first { 0 } else { *byte })?;
+    }
+    let _trap = files.add(alloc, "trap.img", &trap)?;
+    let _short = files.add(alloc, "short.img", &image[..image.len().saturating_sub(1)])?;
+    let mut long = image.to_vec(alloc)?;
+    long.push(0)?;
+    let _long = files.add(alloc, "long.img", &long)?;
+    Ok(())
+}
+
+/// The files of the store: those of the folder, a source that is a byte too long, and images.
+fn files(rt: &(impl Files + AllocGlobal)) -> io::Result<FileMap> {
+    let alloc = rt.alloc();
+    let mut files = FileMap::new(alloc);
+    for name in ["five.c", "marked.run", "marked.img"] {
+        let bytes = fs::read(rt, name)?;
+        let _added = files.add(alloc, name, &bytes)?;
+    }
+    let _long = files.add(alloc, "long.c", &vec![in alloc; b' '; 1_048_577]?)?;
+    add_images(alloc, &mut files, &fs::read(rt, "marked.img")?)?;
+    Ok(files)
+}
+
+/// A number, or 0 where the word is none.
+fn number(word: Option<&str>) -> u64 {
+    match word {
+        Some(text) => text.parse::<u64>().unwrap_or(0),
+        None => 0,
+    }
+}
+
+/// Tells the answer to a line. The sink takes four bytes in a call. The calls count from 1.
+fn tell_line(rt: &(impl Print + Files + AllocGlobal), line: &str) -> io::Result<()> {
+    let alloc = rt.alloc();
+    let mut parts = line.split_whitespace();
+    let read_fault = number(parts.next());
+    let write_fault = number(parts.next());
+    let mut words = Vec::new(alloc);
+    for word in parts {
+        words.push(String::from_str(alloc, word)?)?;
+    }
+    let mut store = MemoryStore::new(files(rt)?, vec![in alloc; read_fault]?);
+    let mut sink = MemorySink::new(alloc, 1000, 4, vec![in alloc; write_fault]?)?;
+    let status = prem(alloc, &words, &mut store, &mut sink);
+    let written = on_one_line(alloc, sink.bytes())?;
+    println!(rt; "{line} => {status:?} {written}")
+}
+
+pub fn tell(rt: &(impl Print + Files + AllocGlobal)) -> io::Result<()> {
+    let file = fs::read_to_string(rt, "commands.txt")?;
+    for line in file.lines() {
+        tell_line(rt, line)?;
+    }
+    Ok(())
+}
+
+/// Tells an answer over a steady store and a steady sink. No fault is answered there, as the checker shows.
+pub fn tell_steady(rt: &(impl Print + Files + AllocGlobal)) -> io::Result<()> {
+    let alloc = rt.alloc();
+    let mut store = SteadyStore::new(files(rt)?);
+    let mut sink = SteadySink::new();
+    let mut words = Vec::new(alloc);
+    words.push(String::from_str(alloc, "one")?)?;
+    words.push(String::from_str(alloc, "five.c")?)?;
+    match prem(alloc, &words, &mut store, &mut sink) {
+        Status::ReadFault | Status::WriteFault => unreachable!(),
+        status => println!(rt; "steady => {status:?}"),
+    }
+}

@@ -1,0 +1,18 @@
+//! Answers of the program over stores and sinks in memory: to sources, at limits, and to commands whose outside may fail.
+//!
+//! Each answer is a line, with a `$` for each end of a line of what is written. `stdout` has the lines as they were
+//! worked out by hand.
+#![tactic(auto)]
+
+mod commands;
+mod limits;
+mod sources;
+
+use std::io;
+
+fn main(rt: HostRuntime) -> io::Result<()> {
+    sources::tell(&rt)?;
+    limits::tell(&rt, rt.alloc())?;
+    commands::tell(&rt)?;
+    commands::tell_steady(&rt)
+}

@@ -1,0 +1,20 @@
+//! Texts of programs, read from files, with what comes of each: of its tokens and grammar, of its rules, or of its runs.
+//!
+//! The files lie in `data/`, and `blocks` says how those of longer texts are written. Each text is answered by a
+//! line. `stdout` has the lines as they were worked out by hand.
+#![tactic(auto)]
+
+mod blocks;
+mod checking;
+mod lines;
+mod reading;
+mod running;
+
+use std::io;
+
+fn main(rt: HostRuntime) -> io::Result<()> {
+    lines::tell_grammar(&rt)?;
+    lines::tell_rules(&rt)?;
+    blocks::tell(&rt, "limits.txt")?;
+    blocks::tell(&rt, "runs.txt")
+}
