@@ -5,6 +5,7 @@ use Rattle.prem_isa.specs.Plain.{TaskRun, PlainState}
 use Rattle.prem_lru.specs.Entries.{Rule}
 use Rattle.prem_lru.specs.Order.{OrderRule}
 use Rattle.prem_cycle.specs.State.{Setup, record_of}
+pub use Rattle.prem_cycle.specs.Alone.{run_in}
 use Rattle.prem_cycle.specs.Cycle.{log_size}
 use Rattle.prem_cycle.specs.Run.{memory_of}
 use Rattle.prem_position.specs.Own.{IsFree}
@@ -13,17 +14,6 @@ use Rattle.prem_serve.specs.Requests.{AreasAreZero}
 use Rattle.prem_resident.specs.Faultless.{IsPolicy}
 use Rattle.prem_sound.specs.Sound.{AreInputs, Sound}
 use Rattle.prem_weave.specs.Weave.{Weave, calls_of, IsWoven, EndsAsPromised}
-
--- the run of task k on its own, on the bytes of the image
-abbrev pub run_in : Setup → (content : List ℕ) → (inputs : List (List ℕ)) → ℕ → TaskRun
-run_in p content inputs k = record {
-  size = p.plant.memory;
-  bytes = slice_index (memory_of p content);
-  entry = (record_of p k).entry;
-  stack = (record_of p k).stack;
-  inputs = slice_index_or inputs k [];
-  jobs = (record_of p k).jobs;
-}
 
 -- what a job of a task takes at most: cycles, output words, and marked calls
 pub record JobLimits : Type 0 where

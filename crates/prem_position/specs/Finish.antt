@@ -14,6 +14,7 @@ use Rattle.prem_lru.specs.Rules.{IsRule}
 use Rattle.prem_cycle.specs.State.{Setup, State, start_of, task_in}
 use Rattle.prem_cycle.specs.Cycle.{is_finished, is_full, log_size}
 use Rattle.prem_cycle.specs.Run.{Step, coming_step, did_in, memory_of, run_of}
+use Rattle.prem_cycle.specs.Alone.{run_in}
 use Rattle.prem_position.specs.Issued.{issued_of}
 
 -- ---- the run
@@ -24,15 +25,7 @@ lone plant task = record { plant = plant; tasks = task ∷ []; devices = [] }
 
 -- the task's run on its own, on the same content and input words
 abbrev pub run_alone : Plant → TaskRecord → (content words : List ℕ) → TaskRun
-run_alone plant task content words =
-    record {
-      size = plant.memory;
-      bytes = slice_index (memory_of (lone plant task) content);
-      entry = task.entry;
-      stack = task.stack;
-      inputs = words;
-      jobs = task.jobs;
-    }
+run_alone plant task content words = run_in (lone plant task) content (words ∷ []) 0
 
 -- the state of the machine after n cycles
 abbrev pub lone_run : Rule → Plant → TaskRecord → (content words : List ℕ) → ℕ → State
