@@ -9,8 +9,9 @@ use Rattle.prem_syntax.specs.declared.tree.Place.{Place}
 use Rattle.prem_syntax.specs.declared.tree.Ty.TheVariants.{Int as IntType}
 use Rattle.prem_syntax.specs.Syntax.{Expression, literal, variable, binary, Statements, input, next_statement, no_statements, absent, global_item, function_item}
 use Rattle.prem_meaning.specs.Sums.{outputs, job_function, job_program}
+use Rattle.prem_template.specs.Terms.{constant}
 use Rattle.prem_small.specs.Small.{is_small}
-use Rattle.prem_small.specs.Code.{constant_code, code_of, stack_top}
+use Rattle.prem_small.specs.Code.{code_of, stack_top}
 use Rattle.prem_small.specs.Image.{content_of}
 
 abbrev words_of : List Instr → List ℕ
@@ -19,31 +20,31 @@ words_of code = map word_of code
 -- ---- constants
 
 -- `addi x10,x0,2047`
-constant_2047 : words_of (constant_code 10 2047) ≡ 0x7ff00513 ∷ []
+constant_2047 : words_of (constant 10 2047) ≡ 0x7ff00513 ∷ []
 constant_2047 = refl
 
 -- `lui x10,1`, `addi x10,x10,-2048`
-constant_2048 : words_of (constant_code 10 2048) ≡ 0x00001537 ∷ 0x80050513 ∷ []
+constant_2048 : words_of (constant 10 2048) ≡ 0x00001537 ∷ 0x80050513 ∷ []
 constant_2048 = refl
 
 -- `lui x10,524288`, `addi x10,x10,-1`
-greatest_int : words_of (constant_code 10 (2 ^ 31 - 1)) ≡ 0x80000537 ∷ 0xfff50513 ∷ []
+greatest_int : words_of (constant 10 (2 ^ 31 - 1)) ≡ 0x80000537 ∷ 0xfff50513 ∷ []
 greatest_int = refl
 
 -- `lui x10,524288`, `addi x10,x10,0`
-least_int : words_of (constant_code 10 (2 ^ 31)) ≡ 0x80000537 ∷ 0x00050513 ∷ []
+least_int : words_of (constant 10 (2 ^ 31)) ≡ 0x80000537 ∷ 0x00050513 ∷ []
 least_int = refl
 
 -- `lui x10,1048575`, `addi x10,x10,2047`
-minus_2049 : words_of (constant_code 10 (2 ^ 32 - 2049)) ≡ 0xfffff537 ∷ 0x7ff50513 ∷ []
+minus_2049 : words_of (constant 10 (2 ^ 32 - 2049)) ≡ 0xfffff537 ∷ 0x7ff50513 ∷ []
 minus_2049 = refl
 
 -- `addi x10,x0,-2048`
-minus_2048 : words_of (constant_code 10 (2 ^ 32 - 2048)) ≡ 0x80000513 ∷ []
+minus_2048 : words_of (constant 10 (2 ^ 32 - 2048)) ≡ 0x80000513 ∷ []
 minus_2048 = refl
 
 -- `addi x10,x0,-1`
-minus_1 : words_of (constant_code 10 (2 ^ 32 - 1)) ≡ 0xfff00513 ∷ []
+minus_1 : words_of (constant 10 (2 ^ 32 - 1)) ≡ 0xfff00513 ∷ []
 minus_1 = refl
 
 -- ---- programs

@@ -6,9 +6,11 @@ use Rattle.prem_isa.specs.declared.instr.Instr.{Instr}
 use Rattle.prem_isa.specs.Decode.{word_of}
 use Rattle.prem_position.specs.Finish.{IsLone}
 use Rattle.prem_syntax.specs.Syntax.{Statements, ProgramText}
+use Rattle.prem_plant.specs.Ranges.{default_plant}
+use Rattle.prem_asm.specs.Bytes.{code_bytes}
 use Rattle.prem_small.specs.Small.{body_size, is_small, body_of}
 use Rattle.prem_small.specs.Code.{code_of, code_end, stack_top}
-use Rattle.prem_small.specs.Image.{default_plant, code_bytes, content_of, task_of}
+use Rattle.prem_small.specs.Image.{content_of, task_of}
 use Rattle.prem_small.proofs.Images.{one_image, stack_within}
 use Rattle.prem_small.proofs.Meaning.{small_counts}
 

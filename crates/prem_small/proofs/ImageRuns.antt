@@ -13,7 +13,8 @@ use Rattle.prem_cycle.specs.Inputs.{FitsRun, setup_of, words_of, image_run}
 use Rattle.prem_cycle.specs.FactsOf.{inputs_size}
 use Rattle.prem_position.specs.Finish.{lone}
 use Rattle.prem_syntax.specs.Syntax.{Statements}
-use Rattle.prem_small.specs.Image.{default_plant, task_of, content_of, IsImageOf}
+use Rattle.prem_plant.specs.Ranges.{default_plant}
+use Rattle.prem_small.specs.Image.{task_of, content_of, IsImageOf}
 use Rattle.prem_small.specs.Runs.{machine_run}
 
 abbrev made : Plant → List TaskRecord → List DeviceRecord → Setup

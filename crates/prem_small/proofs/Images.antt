@@ -3,15 +3,17 @@ use Rattle.std.proofs.Common.{◌≡◌, ◌<◌, ◌≤◌, ℕ, ◌+◌, ◌-�
 use Rattle.std.specs.Prelude.{replicate}
 use Rattle.std.proofs.lemmas.List.{length-replicate}
 use Rattle.prem_plant.specs.declared.plant.Plant.{Plant}
-use Rattle.prem_plant.specs.Ranges.{IsPlant}
 use Rattle.prem_image.specs.declared.image.TaskRecord.{TaskRecord}
 use Rattle.prem_image.specs.declared.image.DeviceRecord.{DeviceRecord}
 use Rattle.prem_image.specs.Records.{IsTask, IsImage}
 use Rattle.prem_isa.specs.declared.instr.Instr.{Instr}
 use Rattle.prem_syntax.specs.Syntax.{Statements}
+use Rattle.prem_plant.specs.Ranges.{default_plant}
+use Rattle.prem_plant.proofs.Powers.{default_is_plant}
+use Rattle.prem_asm.specs.Bytes.{code_bytes}
 use Rattle.prem_small.specs.Small.{body_size}
 use Rattle.prem_small.specs.Code.{code_of, code_end, stack_top}
-use Rattle.prem_small.specs.Image.{default_plant, code_bytes, content_of, task_of}
+use Rattle.prem_small.specs.Image.{content_of, task_of}
 use Rattle.prem_small.proofs.Sizes.{code_small}
 use Rattle.prem_small.proofs.Stands.{code_bytes_length}
 
@@ -36,22 +38,6 @@ content_length b = padded_length (code_of b) (stack_top b - code_end b) ∙ fill
 
 pub stack_within : (b : Statements) → body_size b ≤ 4096 → stack_top b ≤ 1048576
 stack_within b counted = let small : length (code_of b) ≤ 8199 = code_small b counted in omega arith
-
-default_is_plant : IsPlant default_plant
-unfolding lib.Count.ones
-default_is_plant =
-    record {
-      line = (lit≤ tt, lit≤ tt);
-      line_power = refl;
-      sets = (lit≤ tt, lit≤ tt);
-      sets_power = refl;
-      «ways» = (lit≤ tt, lit≤ tt);
-      fill = (lit≤ tt, lit≤ tt);
-      back = (lit≤ tt, lit≤ tt);
-      switch = lit≤ tt;
-      memory = (lit≤ tt, lit≤ tt);
-      memory_pages = refl;
-    }
 
 one_is_task : (b : Statements) → body_size b ≤ 4096 → IsTask 1048576 (task_of b)
 one_is_task b counted =

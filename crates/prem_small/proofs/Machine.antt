@@ -1,5 +1,5 @@
 -- Small programs on the machine.
-use Rattle.std.proofs.Common.{◌≡◌, ◌≤◌, ℕ, ◌+◌, ◌*◌, List, [], ◌∷◌, length, true, refl, arith, ap, ap₂, ◌∙◌}
+use Rattle.std.proofs.Common.{◌≡◌, ◌≤◌, ℕ, ◌+◌, ◌*◌, List, [], ◌∷◌, length, true, refl, arith, ap₂, ◌∙◌}
 use Rattle.prem_lru.specs.Entries.{to_front}
 use Rattle.prem_lru.proofs.Touches.{to_front_rule}
 use Rattle.prem_cycle.specs.State.{start_of}
@@ -9,9 +9,10 @@ use Rattle.prem_position.specs.Finish.{lone}
 use Rattle.prem_position.proofs.Finishes.{finishes_one_job}
 use Rattle.prem_syntax.specs.Syntax.{ProgramText}
 use Rattle.prem_meaning.specs.Source.{source}
+use Rattle.prem_plant.specs.Ranges.{default_plant}
 use Rattle.prem_small.specs.Small.{is_small, body_of}
 use Rattle.prem_small.specs.Code.{code_of}
-use Rattle.prem_small.specs.Image.{default_plant, content_of, task_of}
+use Rattle.prem_small.specs.Image.{content_of, task_of}
 use Rattle.prem_small.specs.Runs.{machine_run, FinishesWith, outputs_of}
 use Rattle.prem_small.proofs.Counts.{cycles_one, one_report}
 use Rattle.prem_small.proofs.Fits.{small_is_lone}

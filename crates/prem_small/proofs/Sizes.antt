@@ -1,38 +1,30 @@
 -- The code of small programs has words, and is small.
-use Rattle.std.proofs.Common.{◌≡◌, ◌<◌, ◌≤◌, ℕ, suc, ◌+◌, ◌-◌, ◌*◌, ◌/◌, ◌%◌, ◌^◌, nat_lt, Bool, true, false, List, [], ◌∷◌, ◌++◌, length, refl, arith, length-append, lit<}
-use Rattle.std.proofs.lemmas.Bool.{ltb-true, ltb-false}
+use Rattle.std.proofs.Common.{◌≡◌, ◌<◌, ◌≤◌, ℕ, suc, ◌+◌, ◌*◌, ◌^◌, Bool, true, false, List, [], ◌∷◌, ◌++◌, length, refl, arith, length-append, lit<}
 use Rattle.prem_isa.specs.declared.instr.Instr.{Instr}
 use Rattle.prem_isa.specs.declared.instr.Instr.TheVariants.{Op, PmOut}
-use Rattle.prem_isa.proofs.Round.{InBits-signed}
 use Rattle.prem_syntax.specs.Syntax.{Expression, literal, binary, Statements, no_statements, next_statement, output}
+use Rattle.prem_asm.proofs.Flat.{lower_fits, upper_fits}
+use Rattle.prem_template.specs.Terms.{is_short, constant}
+use Rattle.prem_template.specs.Steps.{closing}
 use Rattle.prem_small.specs.Small.{sum_size, body_size}
-use Rattle.prem_small.specs.Code.{constant_code, operation, right_code, sum_code, body_code, epilogue, code_of}
+use Rattle.prem_small.specs.Code.{operation, right_code, sum_code, body_code, frame, code_of}
 use Rattle.prem_small.specs.Image.{AllFit}
 
 pub fit-append : (xs ys : List Instr) → AllFit xs → AllFit ys → AllFit (xs ++ ys)
 fit-append [] ys a b = b
 fit-append (x ∷ xs) ys a b = (a.0, fit-append xs ys a.1 b)
 
-constant_fits : (r c : ℕ) → r < 2 ^ 5 → AllFit (constant_code r c)
-constant_fits r c reg = by_size (nat_lt c (2 ^ 11)) (nat_lt c (2 ^ 32 - 2 ^ 11)) refl refl where
-  by_size : (b d : Bool) → nat_lt c (2 ^ 11) ≡ b → nat_lt c (2 ^ 32 - 2 ^ 11) ≡ d → AllFit (constant_code r c)
-  by_size true d is also = rw is ((reg, lit< tt, ltb-true _ _ is), tt)
-  by_size false true is also =
-      let below : c < 2 ^ 32 - 2 ^ 11 = ltb-true _ _ also in
-      let upper : (c + 2 ^ 11) / 2 ^ 12 < 2 ^ 20 = omega arith in
-      let low : c % 2 ^ 12 < 2 * 2 ^ 11 = omega arith in
-      rw (is, also) ((reg, upper), ((reg, reg, InBits-signed (2 ^ 11) (c % 2 ^ 12) low), tt))
-  by_size false false is also =
-      let above : 2 ^ 32 - 2 ^ 11 ≤ c = ltb-false _ _ also in
-      let near : 2 ^ 32 - 1 - c < 2 ^ 11 = omega arith in
-      rw (is, also) ((reg, lit< tt, near), tt)
+constant_fits : (r c : ℕ) → r < 2 ^ 5 → AllFit (constant r c)
+constant_fits r c reg = by_size (is_short c) refl where
+  by_size : (b : Bool) → is_short c ≡ b → AllFit (constant r c)
+  by_size true is = rw is ((reg, lit< tt, lower_fits c), tt)
+  by_size false is = rw is (upper_fits r c reg, ((reg, reg, lower_fits c), tt))
 
-constant_length : (r c : ℕ) → length (constant_code r c) ≤ 2
-constant_length r c = by_size (nat_lt c (2 ^ 11)) (nat_lt c (2 ^ 32 - 2 ^ 11)) refl refl where
-  by_size : (b d : Bool) → nat_lt c (2 ^ 11) ≡ b → nat_lt c (2 ^ 32 - 2 ^ 11) ≡ d → length (constant_code r c) ≤ 2
-  by_size true d is also = rw is (omega arith)
-  by_size false true is also = rw (is, also) (omega arith)
-  by_size false false is also = rw (is, also) (omega arith)
+constant_length : (r c : ℕ) → length (constant r c) ≤ 2
+constant_length r c = by_size (is_short c) refl where
+  by_size : (b : Bool) → is_short c ≡ b → length (constant r c) ≤ 2
+  by_size true is = rw is (omega arith)
+  by_size false is = rw is (omega arith)
 
 right_fits : (e : Expression) → AllFit (right_code e)
 right_fits (literal at value kind) = constant_fits 11 value (lit< tt)
@@ -72,7 +64,7 @@ body_length (next_statement _ rest) = body_length rest
 -- seven instructions stand around those of the statements
 pub code_length : (b : Statements) → length (code_of b) ≡ length (body_code b) + 7
 code_length b =
-    let whole : length (body_code b ++ epilogue) ≡ length (body_code b) + 3 = length-append (body_code b) epilogue in
+    let whole : length (body_code b ++ closing frame) ≡ length (body_code b) + 3 = length-append (body_code b) (closing frame) in
     omega (arith, whole)
 
 pub code_fits : (b : Statements) → AllFit (code_of b)
@@ -84,7 +76,7 @@ code_fits b = (
       (lit< tt, lit< tt, lit< tt),
       (
         (lit< tt, lit< tt, lit< tt),
-        fit-append (body_code b) epilogue (body_fits b)
+        fit-append (body_code b) (closing frame) (body_fits b)
             ((lit< tt, lit< tt, lit< tt), ((lit< tt, lit< tt, lit< tt), ((lit< tt, lit< tt, lit< tt), tt))),
       ),
     ),

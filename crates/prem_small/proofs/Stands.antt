@@ -8,7 +8,8 @@ use Rattle.prem_isa.specs.Fields.{FieldsFit}
 use Rattle.prem_isa.proofs.Round.{fits_instr}
 use Rattle.prem_isa.specs.declared.instr.Instr.{Instr}
 use Rattle.prem_isa.specs.Decode.{Fits, word_of, fields_of_instr}
-use Rattle.prem_small.specs.Image.{AllFit, code_bytes, Stands}
+use Rattle.prem_asm.specs.Bytes.{code_bytes}
+use Rattle.prem_small.specs.Image.{AllFit, Stands}
 
 word_below : (i : Instr) → Fits i → word_of i < 2 ^ 32
 word_below i fits =

@@ -1,9 +1,9 @@
 -- The code of a sum leaves its word in x10 and changes x10 and x11 alone.
-use Rattle.std.proofs.Common.{◌≡◌, ◌≢◌, ◌<◌, ◌≤◌, ℕ, ◌+◌, ◌-◌, ◌*◌, ◌/◌, ◌%◌, ◌^◌, ℤ, pos, negsuc, nat_lt, Bool, true, false, ◌&&◌, List, [], ◌∷◌, ◌++◌, refl, ap, ◌∙◌, sym, subst, arith, lit<}
+use Rattle.std.proofs.Common.{◌≡◌, ◌≢◌, ◌<◌, ◌≤◌, ℕ, ◌+◌, ◌-◌, ◌*◌, ◌%◌, ◌^◌, ℤ, pos, negsuc, nat_lt, nat_le, ◌||◌, Bool, true, false, ◌&&◌, List, [], ◌∷◌, ◌++◌, refl, ap, ◌∙◌, sym, subst, arith, lit<}
 use Rattle.std.specs.Prelude.{◌+ℤ◌, ◌-ℤ◌}
 use Rattle.std.specs.Int.{w32, cast_signed, cast_unsigned, int_wrap}
 use Rattle.std.proofs.lemmas.Int.{ints, wrapping_add-bits, wrapping_sub-bits, of_z-to_z}
-use Rattle.std.proofs.lemmas.Bool.{ltb-true, ltb-false}
+use Rattle.std.proofs.lemmas.Bool.{ltb-true, ltb-false, leb-true}
 use Rattle.std.proofs.lemmas.Bool.Decides.{nat_tests}
 use Rattle.prem_word.specs.declared.kind.Kind.{Kind}
 use Rattle.prem_word.specs.declared.kind.Kind.TheVariants.{Int, Unsigned}
@@ -11,16 +11,17 @@ use Rattle.prem_word.specs.declared.kind.BinOp.{BinOp}
 use Rattle.prem_word.specs.declared.kind.BinOp.TheVariants.{Add as Plus, Sub as Minus}
 use Rattle.prem_word.specs.Words.{word_of, apply_op}
 use Rattle.prem_isa.specs.declared.instr.Instr.{Instr}
-use Rattle.prem_isa.specs.declared.instr.Instr.TheVariants.{Lui, OpImm, Op}
+use Rattle.prem_isa.specs.declared.instr.Instr.TheVariants.{OpImm, Op}
 use Rattle.prem_isa.specs.declared.instr.AluOp.TheVariants.{Add, Sub}
-use Rattle.prem_isa.specs.Fields.{signed}
 use Rattle.prem_isa.specs.Alu.{word_of_int, compute}
 use Rattle.prem_isa.specs.Act.{with_register}
 use Rattle.prem_syntax.specs.Syntax.{Expression, literal, variable, element, unary, binary}
 use Rattle.prem_meaning.specs.Sums.{sum_kind, sum_word}
 use Rattle.prem_meaning.specs.Resolve.{common}
+use Rattle.prem_asm.specs.Pieces.{upper, lower, address_code}
+use Rattle.prem_template.specs.Terms.{is_short, constant}
 use Rattle.prem_small.specs.Small.{is_plus_or_minus, is_literal, is_sum}
-use Rattle.prem_small.specs.Code.{constant_code, right_code, sum_code, operation}
+use Rattle.prem_small.specs.Code.{right_code, sum_code, operation}
 use Rattle.prem_small.proofs.Straight.{registers_behind, registers_behind-append, with_register-same, with_register-other, are_straight}
 use Rattle.prem_small.proofs.Tests.{both}
 
@@ -69,47 +70,49 @@ added_to_zero r c z registers some sum zer =
     }
 
 -- the upper 20 bits, rounded to the nearest, and the lower 12 as a signed number make the constant
-halves : (c : ℕ) → c < 2 ^ 32 - 2 ^ 11 → ((c + 2 ^ 11) / 2 ^ 12 * 2 ^ 12 + word_of_int (signed (2 ^ 11) (c % 2 ^ 12))) % 2 ^ 32 ≡ c
+halves : (c : ℕ) → c < 2 ^ 32 → (upper c * 2 ^ 12 + word_of_int (lower c)) % 2 ^ 32 ≡ c
 halves c small = by_half (nat_lt (c % 2 ^ 12) (2 ^ 11)) refl where
-  by_half : (b : Bool) → nat_lt (c % 2 ^ 12) (2 ^ 11) ≡ b → ((c + 2 ^ 11) / 2 ^ 12 * 2 ^ 12 + word_of_int (signed (2 ^ 11) (c % 2 ^ 12))) % 2 ^ 32 ≡ c
+  by_half : (b : Bool) → nat_lt (c % 2 ^ 12) (2 ^ 11) ≡ b → (upper c * 2 ^ 12 + word_of_int (lower c)) % 2 ^ 32 ≡ c
   by_half true is =
       let low : c % 2 ^ 12 < 2 ^ 11 = ltb-true _ _ is in
-      let sum : ((c + 2 ^ 11) / 2 ^ 12 * 2 ^ 12 + c % 2 ^ 12) % 2 ^ 32 ≡ c = omega arith in
+      let sum : (upper c * 2 ^ 12 + c % 2 ^ 12) % 2 ^ 32 ≡ c = omega arith in
       rw is sum
   by_half false is =
       let high : 2 ^ 11 ≤ c % 2 ^ 12 = ltb-false _ _ is in
-      let sum : ((c + 2 ^ 11) / 2 ^ 12 * 2 ^ 12 + word_of_int (negsuc (2 * 2 ^ 11 - 1 - c % 2 ^ 12))) % 2 ^ 32 ≡ c = omega arith in
+      let sum : (upper c * 2 ^ 12 + word_of_int (negsuc (2 * 2 ^ 11 - 1 - c % 2 ^ 12))) % 2 ^ 32 ≡ c = omega arith in
       rw is sum
 
-large_constant : (r c : ℕ) (registers : ℕ → ℕ) → 0 < r → c < 2 ^ 32 - 2 ^ 11 →
-    Sets (Lui r ((c + 2 ^ 11) / 2 ^ 12) ∷ OpImm Add r r (signed (2 ^ 11) (c % 2 ^ 12)) ∷ []) registers r c
+large_constant : (r c : ℕ) (registers : ℕ → ℕ) → 0 < r → c < 2 ^ 32 → Sets (address_code r c) registers r c
 large_constant r c registers some small =
-    let upper = with_register r ((c + 2 ^ 11) / 2 ^ 12 * 2 ^ 12) registers in
-    let low = word_of_int (signed (2 ^ 11) (c % 2 ^ 12)) in
+    let high = with_register r (upper c * 2 ^ 12) registers in
+    let low = word_of_int (lower c) in
     record {
-      same = with_register-same r _ upper some ∙ ap (λ x. (x + low) % 2 ^ 32) (with_register-same r _ registers some) ∙ halves c small;
-      others = λ q other. with_register-other r _ upper q other ∙ with_register-other r _ registers q other;
+      same = with_register-same r _ high some ∙ ap (λ x. (x + low) % 2 ^ 32) (with_register-same r _ registers some) ∙ halves c small;
+      others = λ q other. with_register-other r _ high q other ∙ with_register-other r _ registers q other;
     }
 
-constant_sets : (r c : ℕ) (registers : ℕ → ℕ) → 0 < r → c < 2 ^ 32 → registers 0 ≡ 0 → Sets (constant_code r c) registers r c
-constant_sets r c registers some word zer = by_size (nat_lt c (2 ^ 11)) (nat_lt c (2 ^ 32 - 2 ^ 11)) refl refl where
-  by_size : (b d : Bool) → nat_lt c (2 ^ 11) ≡ b → nat_lt c (2 ^ 32 - 2 ^ 11) ≡ d → Sets (constant_code r c) registers r c
-  by_size true d is also =
-      let small : c < 2 ^ 11 = ltb-true _ _ is in
-      let sum : (0 + word_of_int (pos c)) % 2 ^ 32 ≡ c = omega arith in
-      rw is (added_to_zero r c (pos c) registers some sum zer)
-  by_size false true is also = rw (is, also) (large_constant r c registers some (ltb-true _ _ also))
-  by_size false false is also =
-      let above : 2 ^ 32 - 2 ^ 11 ≤ c = ltb-false _ _ also in
-      let sum : (0 + word_of_int (negsuc (2 ^ 32 - 1 - c))) % 2 ^ 32 ≡ c = omega arith in
-      rw (is, also) (added_to_zero r c (negsuc (2 ^ 32 - 1 - c)) registers some sum zer)
+-- where the upper 20 bits round to 0
+short_constant : (c : ℕ) → c < 2 ^ 32 → is_short c ≡ true → (0 + word_of_int (lower c)) % 2 ^ 32 ≡ c
+short_constant c word is = by_size (nat_lt c (2 ^ 11)) (nat_le (2 ^ 32 - 2 ^ 11) c) refl refl is where
+  none : upper c ≡ 0 → (0 + word_of_int (lower c)) % 2 ^ 32 ≡ c
+  none zer = ap (λ u. (u * 2 ^ 12 + word_of_int (lower c)) % 2 ^ 32) (sym zer) ∙ halves c word
 
-constant_straight : (r c : ℕ) → are_straight (constant_code r c) ≡ true
-constant_straight r c = by_size (nat_lt c (2 ^ 11)) (nat_lt c (2 ^ 32 - 2 ^ 11)) refl refl where
-  by_size : (b d : Bool) → nat_lt c (2 ^ 11) ≡ b → nat_lt c (2 ^ 32 - 2 ^ 11) ≡ d → are_straight (constant_code r c) ≡ true
-  by_size true d is also = rw is
-  by_size false true is also = rw (is, also)
-  by_size false false is also = rw (is, also)
+  by_size : (b d : Bool) → nat_lt c (2 ^ 11) ≡ b → nat_le (2 ^ 32 - 2 ^ 11) c ≡ d → (b || d) ≡ true → (0 + word_of_int (lower c)) % 2 ^ 32 ≡ c
+  by_size true d below also either = let small : c < 2 ^ 11 = ltb-true _ _ below in none (omega arith)
+  by_size false true below also either = let above : 2 ^ 32 - 2 ^ 11 ≤ c = leb-true _ _ also in none (omega arith)
+  by_size false false below also either = absurd cc
+
+constant_sets : (r c : ℕ) (registers : ℕ → ℕ) → 0 < r → c < 2 ^ 32 → registers 0 ≡ 0 → Sets (constant r c) registers r c
+constant_sets r c registers some word zer = by_size (is_short c) refl where
+  by_size : (b : Bool) → is_short c ≡ b → Sets (constant r c) registers r c
+  by_size true is = rw is (added_to_zero r c (lower c) registers some (short_constant c word is) zer)
+  by_size false is = rw is (large_constant r c registers some word)
+
+constant_straight : (r c : ℕ) → are_straight (constant r c) ≡ true
+constant_straight r c = by_size (is_short c) refl where
+  by_size : (b : Bool) → is_short c ≡ b → are_straight (constant r c) ≡ true
+  by_size true is = rw is
+  by_size false is = rw is
 
 -- ---- sums
 
@@ -155,7 +158,7 @@ right_left : (op : BinOp) (k : Kind) (right : Expression) (registers : ℕ → �
     let behind = registers_behind (right_code right ++ Op (operation op) 10 10 11 ∷ []) registers in
     (behind 10 ≡ apply_op op k w (sum_word right)) × ((q : ℕ) → q < 10 → behind q ≡ registers q)
 right_left op k (literal at value kind) registers w h is zer left small =
-    let code = constant_code 11 value in
+    let code = constant 11 value in
     let right_small : value < 2 ^ 32 = ltb-true _ _ is in
     let sets = constant_sets 11 value registers (lit< tt) right_small zer in
     let after = registers_behind code registers in

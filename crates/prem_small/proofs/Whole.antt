@@ -18,9 +18,12 @@ use Rattle.prem_isa.specs.Act.{act, accesses, first_registers, jumps, loads, sto
 use Rattle.prem_isa.specs.Plain.{TaskRun, PlainState, plain_start}
 use Rattle.prem_cycle.specs.Cycle.{log_size}
 use Rattle.prem_syntax.specs.Syntax.{Statements, no_statements, next_statement, output}
+use Rattle.prem_plant.specs.Ranges.{default_plant}
+use Rattle.prem_asm.specs.Bytes.{code_bytes}
+use Rattle.prem_template.specs.Steps.{opening, closing}
 use Rattle.prem_small.specs.Small.{are_outputs, body_size, is_small_body}
-use Rattle.prem_small.specs.Code.{body_code, epilogue, prologue, start_code, code_of, code_end, stack_top}
-use Rattle.prem_small.specs.Image.{default_plant, code_bytes, content_of, Stands}
+use Rattle.prem_small.specs.Code.{body_code, frame, start_code, code_of, code_end, stack_top}
+use Rattle.prem_small.specs.Image.{content_of, Stands}
 use Rattle.prem_small.specs.Runs.{body_values, task_run, EndsWith}
 use Rattle.prem_small.proofs.Tests.{both}
 use Rattle.prem_small.proofs.Stands.{stands_there, stands-append, stands_kept}
@@ -53,7 +56,7 @@ load_acts size sp view registers pc is small aligned within =
 
 -- ---- before the statements
 
--- the state behind the prologue: the return address 4 in x1 and in the frame
+-- the state where the frame is taken: the return address 4 in x1 and in the frame
 pub record Entered (run : TaskRun) (sp : ℕ) (view : ℕ → ℕ) : Type 0 where
   pub registers : ℕ → ℕ
   pub zer : registers 0 ≡ 0
@@ -61,7 +64,7 @@ pub record Entered (run : TaskRun) (sp : ℕ) (view : ℕ → ℕ) : Type 0 wher
   pub goes : Goes run (going (task (first_registers run.stack) view []) 0) 3 (going (task registers (put_number 4 sp 4 view) []) 16)
 
 entered : (run : TaskRun) (sp : ℕ) (view : ℕ → ℕ) (rest : List Instr) → run.jobs ≡ 1 → run.stack ≡ sp + 16 → sp + 16 < 2 ^ 32 → sp % 4 ≡ 0 → sp + 4 ≤ run.size → 16 ≤ run.size →
-    Stands (start_code ++ (prologue ++ rest)) 0 view → Entered run sp view
+    Stands (start_code ++ (opening frame ++ rest)) 0 view → Entered run sp view
 entered run sp view rest one stack small aligned within room stands =
     let r1 = with_register 1 4 (first_registers run.stack) in
     let r2 = with_register 2 ((r1 2 + word_of_int (negsuc 15)) % 2 ^ 32) r1 in
@@ -83,7 +86,7 @@ entered run sp view rest one stack small aligned within room stands =
 
 -- ---- behind the statements
 
--- from the epilogue on the job ends
+-- from where the frame is given back the job ends
 pub record Left (run : TaskRun) (registers view : ℕ → ℕ) (words : List ℕ) (at : ℕ) : Type 0 where
   pub last : PlainState
   pub goes : Goes run (going (task registers view words) at) 4 last
@@ -92,7 +95,7 @@ pub record Left (run : TaskRun) (registers view : ℕ → ℕ) (words : List ℕ
   pub outputs : last.task.outputs ≡ words
 
 left : (run : TaskRun) (sp : ℕ) (registers view : ℕ → ℕ) (words : List ℕ) (at : ℕ) → run.jobs ≡ 1 → registers 2 ≡ sp → sp < 2 ^ 32 → sp % 4 ≡ 0 →
-    sp + 4 ≤ run.size → at + 12 ≤ run.size → number_at view sp 4 ≡ 4 → Stands epilogue at view → Stands start_code 0 view → Left run registers view words at
+    sp + 4 ≤ run.size → at + 12 ≤ run.size → number_at view sp 4 ≡ 4 → Stands (closing frame) at view → Stands start_code 0 view → Left run registers view words at
 left run sp registers view words at one stack small aligned within room saved stands start =
     let r1 = with_register 1 (number_at view sp 4) registers in
     let r2 = with_register 2 ((r1 2 + word_of_int (pos 16)) % 2 ^ 32) r1 in
@@ -175,8 +178,8 @@ body_runs b small =
     let stands : Stands (code_of b) 0 (bytes b) = code_stands b in
     let kept : Stands (code_of b) 0 (put_number 4 bottom.0 4 (bytes b)) = stands_kept (code_of b) 0 4 bottom.0 4 view (omega (arith, low)) stands in
     let sp_small : bottom.0 < 2 ^ 32 = omega arith in
-    let first = entered run sp view (body_code b ++ epilogue) refl bottom.1 stack_small bottom.4 within (lit≤ tt) stands in
-    let halves = stands-append (body_code b) epilogue 16 saved kept.2.2.2.2 in
+    let first = entered run sp view (body_code b ++ closing frame) refl bottom.1 stack_small bottom.4 within (lit≤ tt) stands in
+    let halves = stands-append (body_code b) (closing frame) 16 saved kept.2.2.2.2 in
     let body_room : 16 + 4 * length (body_code b) ≤ 1048576 = omega (arith, size) in
     let middle = body_goes run b first.registers saved [] 16 refl parts.0 first.zer body_room halves.0 in
     let at = 16 + 4 * n in

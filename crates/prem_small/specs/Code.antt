@@ -1,24 +1,15 @@
 -- The code of small programs.
-use Rattle.std.specs.Prelude.{ℕ, ◌+◌, ◌-◌, ◌*◌, ◌/◌, ◌%◌, ◌^◌, pos, negsuc, nat_lt, if◌then◌else◌, List, [], ◌∷◌, ◌++◌, length}
+use Rattle.std.specs.Prelude.{ℕ, ◌+◌, ◌*◌, ◌/◌, List, [], ◌∷◌, ◌++◌, length}
 use Rattle.prem_word.specs.declared.kind.BinOp.{BinOp}
 use Rattle.prem_word.specs.declared.kind.BinOp.TheVariants.{Sub as Minus}
 use Rattle.prem_isa.specs.declared.instr.Instr.{Instr}
-use Rattle.prem_isa.specs.declared.instr.Instr.TheVariants.{Lui, Jal, Jalr, Load, Store, OpImm, Op, PmDone, PmOut}
-use Rattle.prem_isa.specs.declared.instr.LoadOp.TheVariants.{Lw}
-use Rattle.prem_isa.specs.declared.instr.StoreOp.TheVariants.{Sw}
+use Rattle.prem_isa.specs.declared.instr.Instr.TheVariants.{Op, PmOut}
 use Rattle.prem_isa.specs.declared.instr.AluOp.{AluOp}
 use Rattle.prem_isa.specs.declared.instr.AluOp.TheVariants.{Add, Sub}
-use Rattle.prem_isa.specs.Fields.{signed}
 use Rattle.prem_syntax.specs.Syntax.{Expression, literal, binary, Statements, no_statements, next_statement, output}
-
--- a constant into a register: one instruction where its signed number is from -2 ^ 11 to 2 ^ 11 - 1, else the upper 20
--- bits, rounded, and then the lower 12, signed
-abbrev pub constant_code : ℕ → ℕ → List Instr
-constant_code r c =
-    if nat_lt c (2 ^ 11) then OpImm Add r 0 (pos c) ∷ []
-    else if nat_lt c (2 ^ 32 - 2 ^ 11)
-    then Lui r ((c + 2 ^ 11) / 2 ^ 12) ∷ OpImm Add r r (signed (2 ^ 11) (c % 2 ^ 12)) ∷ []
-    else OpImm Add r 0 (negsuc (2 ^ 32 - 1 - c)) ∷ []
+use Rattle.prem_template.specs.Terms.{constant}
+use Rattle.prem_asm.specs.Pieces.{code_of as instructions_of}
+use Rattle.prem_template.specs.Steps.{opening, closing, start_code as start_pieces}
 
 abbrev pub operation : BinOp → AluOp
 operation Minus = Sub
@@ -26,12 +17,12 @@ operation _ = Add
 
 -- the right side of an operator into x11
 abbrev pub right_code : Expression → List Instr
-right_code (literal at value kind) = constant_code 11 value
+right_code (literal at value kind) = constant 11 value
 right_code _ = []
 
 -- a sum into x10
 abbrev pub sum_code : Expression → List Instr
-sum_code (literal at value kind) = constant_code 10 value
+sum_code (literal at value kind) = constant 10 value
 sum_code (binary at op left right) = sum_code left ++ (right_code right ++ Op (operation op) 10 10 11 ∷ [])
 sum_code _ = []
 
@@ -46,18 +37,10 @@ frame = 16
 
 -- the call of `job`, whose code stands behind the start, and the job's end
 abbrev pub start_code : List Instr
-start_code = Jal 1 (pos 8) ∷ PmDone ∷ []
-
--- the frame is taken and the return address saved
-abbrev pub prologue : List Instr
-prologue = OpImm Add 2 2 (negsuc 15) ∷ Store Sw 2 1 (pos 0) ∷ []
-
--- the return address is loaded, the frame given back
-abbrev pub epilogue : List Instr
-epilogue = Load Lw 1 2 (pos 0) ∷ OpImm Add 2 2 (pos 16) ∷ Jalr 0 1 (pos 0) ∷ []
+start_code = instructions_of (λ part. 8) 0 (start_pieces 1)
 
 abbrev pub job_code : Statements → List Instr
-job_code body = prologue ++ (body_code body ++ epilogue)
+job_code body = opening frame ++ (body_code body ++ closing frame)
 
 -- all code of a program with this body, from address 0 on
 abbrev pub code_of : Statements → List Instr

@@ -1,19 +1,15 @@
 -- The image of a small program.
 use Rattle.std.specs.Prelude.{◌≡◌, ℕ, ◌+◌, ◌-◌, List, [], ◌∷◌, ◌++◌, replicate, codes}
-use Rattle.std.specs.Int.{w32, to_le_bytes}
 use Rattle.prem_list.specs.Sequence.{items_of}
 use Rattle.prem_word.specs.Bytes.{number_at}
 use Rattle.prem_isa.specs.declared.instr.Instr.{Instr}
 use Rattle.prem_isa.specs.Decode.{Fits, word_of}
-use Rattle.prem_plant.specs.declared.plant.Plant.{Plant}
+use Rattle.prem_plant.specs.Ranges.{default_plant}
+use Rattle.prem_asm.specs.Bytes.{code_bytes}
 use Rattle.prem_image.specs.declared.image.TaskRecord.{TaskRecord}
 use Rattle.prem_image.specs.declared.image.Image.{Image}
 use Rattle.prem_syntax.specs.Syntax.{Statements}
 use Rattle.prem_small.specs.Code.{code_of, code_end, stack_top}
-
--- the numbers of a plant where nothing else is stated
-abbrev pub default_plant : Plant
-default_plant = record { line = 16; sets = 64; «ways» = 4; fill = 10; back = 10; switch = 20; memory = 1048576 }
 
 -- ---- content
 
@@ -21,11 +17,6 @@ default_plant = record { line = 16; sets = 64; «ways» = 4; fill = 10; back = 1
 abbrev pub AllFit : List Instr → Type 0
 AllFit [] = Unit {0}
 AllFit (i ∷ code) = Fits i × AllFit code
-
--- the words of the code, each of them little endian
-abbrev pub code_bytes : List Instr → List ℕ
-code_bytes [] = []
-code_bytes (i ∷ code) = to_le_bytes w32 (word_of i) ++ code_bytes code
 
 -- the code from address 0 on, and 0 up to the end of the stack
 abbrev pub content_of : Statements → List ℕ

@@ -5,12 +5,13 @@ use Rattle.prem_lru.specs.Entries.{to_front}
 use Rattle.prem_cycle.specs.State.{State}
 use Rattle.prem_cycle.specs.Cycle.{is_finished}
 use Rattle.prem_cycle.specs.FactsOf.{report_of}
+use Rattle.prem_plant.specs.Ranges.{default_plant}
 use Rattle.prem_position.specs.Finish.{run_alone, lone_run, EndsIn}
 use Rattle.prem_syntax.specs.Syntax.{Statements, no_statements, next_statement, output}
 use Rattle.prem_meaning.specs.Expressions.{Outcome}
 use Rattle.prem_meaning.specs.Statements.{State as SourceState}
 use Rattle.prem_meaning.specs.Sums.{sum_word}
-use Rattle.prem_small.specs.Image.{default_plant, content_of, task_of}
+use Rattle.prem_small.specs.Image.{content_of, task_of}
 
 -- the words that the statements put out
 abbrev pub body_values : Statements → List ℕ

@@ -1,11 +1,13 @@
 // The code of small programs.
 ghost use Rattle.std.specs.Prelude.{◌≡◌, ◌≤◌, ◌%◌, ◌^◌, ◌++◌, OnOk, IfOk, vec_len};
-ghost use Rattle.prem_isa.specs.Fields.{signed};
 ghost use Rattle.prem_syntax.specs.SyntaxOf.{expression_of, statements_of};
 ghost use Rattle.prem_isa.specs.declared.instr.Instr.TheVariants.{OpImm};
 ghost use Rattle.prem_isa.specs.declared.instr.AluOp.TheVariants.{Add};
+ghost use Rattle.prem_asm.specs.Pieces.{upper, lower};
+ghost use Rattle.prem_template.specs.Terms.{constant};
+ghost use Rattle.prem_template.specs.Steps.{opening, closing};
 ghost use Rattle.prem_small.specs.Small.{body_size};
-ghost use Rattle.prem_small.specs.Code.{constant_code, right_code, sum_code, body_code, start_code, prologue, epilogue, code_of};
+ghost use Rattle.prem_small.specs.Code.{right_code, sum_code, body_code, frame, start_code, code_of};
 ghost use Rattle.prem_small.specs.Image.{AllFit};
 
 use prem_isa::{AluOp, Instr, LoadOp, StoreOp};
@@ -33,9 +35,16 @@ fn add_immediate(rd: u8, rs1: u8, imm: i32) -> Instr
     }
 }
 
+/// The upper 20 bits of a word, for a lower part with a sign.
+fn upper_bits(c: u32) -> u32
+    ensures { result ≡ upper c }
+{
+    ((c as u64 + 2048) / 4096 % 1_048_576) as u32
+}
+
 /// The lowest 12 bits of a word as a signed number.
 fn low_bits(c: u32) -> i32
-    ensures { result ≡ signed (2 ^ 11) (c % 2 ^ 12) }
+    ensures { result ≡ lower c }
 {
     let low = (c % 4096) as i32;
     if low < 2048 { low } else { low - 4096 }
@@ -43,17 +52,14 @@ fn low_bits(c: u32) -> i32
 
 /// A constant into a register.
 fn emit_constant(code: &mut Vec<Instr>, rd: u8, c: u32) -> Result<(), AllocError>
-    ensures { OnOk result (code.new.items ≡ code.old.items ++ constant_code rd c) }
+    ensures { OnOk result (code.new.items ≡ code.old.items ++ constant rd c) }
 {
-    if c < 2048 {
-        code.push(add_immediate(rd, 0, c as i32))?;
-    } else if c < SMALL_NEGATIVE {
-        let imm = (c + 2048) / 4096;
+    if c < 2048 || c >= SMALL_NEGATIVE {
+        code.push(add_immediate(rd, 0, low_bits(c)))?;
+    } else {
+        let imm = upper_bits(c);
         code.push(Instr::Lui { rd, imm })?;
         code.push(add_immediate(rd, rd, low_bits(c)))?;
-    } else {
-        let below = (u32::MAX - c) as i32;
-        code.push(add_immediate(rd, 0, -1 - below))?;
     }
     Ok(())
 }
@@ -122,7 +128,7 @@ fn emit_start(code: &mut Vec<Instr>) -> Result<(), AllocError>
 
 /// The frame is taken and the return address saved.
 fn emit_prologue(code: &mut Vec<Instr>) -> Result<(), AllocError>
-    ensures { OnOk result (code.new.items ≡ code.old.items ++ prologue) }
+    ensures { OnOk result (code.new.items ≡ code.old.items ++ opening frame) }
 {
     code.push(add_immediate(2, 2, -16))?;
     code.push(Instr::Store {
@@ -136,7 +142,7 @@ fn emit_prologue(code: &mut Vec<Instr>) -> Result<(), AllocError>
 
 /// The return address is loaded and the frame given back.
 fn emit_epilogue(code: &mut Vec<Instr>) -> Result<(), AllocError>
-    ensures { OnOk result (code.new.items ≡ code.old.items ++ epilogue) }
+    ensures { OnOk result (code.new.items ≡ code.old.items ++ closing frame) }
 {
     code.push(Instr::Load {
         op: LoadOp::Lw,

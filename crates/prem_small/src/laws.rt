@@ -1,11 +1,12 @@
 // What the words of small programs do.
 ghost use Rattle.std.specs.Prelude.{◌≡◌, ℕ, ◌≤◌, [], true, length};
+ghost use Rattle.prem_plant.specs.Ranges.{default_plant};
 ghost use Rattle.prem_position.specs.Finish.{IsLone};
 ghost use Rattle.prem_syntax.specs.Syntax.{ProgramText};
 ghost use Rattle.prem_meaning.specs.Source.{source};
 ghost use Rattle.prem_small.specs.Small.{is_small, body_of};
 ghost use Rattle.prem_small.specs.Code.{code_of};
-ghost use Rattle.prem_small.specs.Image.{default_plant, task_of, content_of};
+ghost use Rattle.prem_small.specs.Image.{task_of, content_of};
 ghost use Rattle.prem_small.specs.Runs.{EndsWith, FinishesWith, machine_run, outputs_of, task_run};
 
 /// The task of a small program's image, run on its own for as many instructions as its code has, ends its

@@ -3,33 +3,19 @@ ghost use Rattle.std.specs.Prelude.{◌≡◌, ◌≤◌, ◌<◌, [], ◌∷◌
 ghost use Rattle.std.specs.Int.{w32, to_le_bytes};
 ghost use Rattle.prem_list.specs.Sequence.{items_of};
 ghost use Rattle.prem_syntax.specs.SyntaxOf.{statements_of, program_of};
+ghost use Rattle.prem_asm.specs.Bytes.{code_bytes};
 ghost use Rattle.prem_small.specs.Small.{is_small, body_of, body_size};
 ghost use Rattle.prem_small.specs.Code.{stack_top};
-ghost use Rattle.prem_small.specs.Image.{AllFit, IsImageOf, default_plant, code_bytes, content_of};
+ghost use Rattle.prem_small.specs.Image.{AllFit, IsImageOf, content_of};
 
 use crate::code::code_of;
 use crate::shape::body_of;
 use prem_image::{Image, TaskRecord};
 use prem_isa::{Instr, encode};
 use prem_list::Sequence;
-use prem_plant::{Label, Plant};
+use prem_plant::{Label, default_plant};
 use prem_syntax::{Program, Stmt};
 use std::alloc::{AllocError, Global};
-
-/// The numbers of a plant where nothing else is stated.
-fn default_plant() -> Plant
-    ensures { result ≡ default_plant }
-{
-    Plant {
-        line: 16,
-        sets: 64,
-        ways: 4,
-        fill: 10,
-        back: 10,
-        switch: 20,
-        memory: 1_048_576,
-    }
-}
 
 /// The end of the stack behind so many instructions, which stand from address 0 on.
 fn stack_end(instructions: usize) -> u32

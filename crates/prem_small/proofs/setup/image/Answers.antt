@@ -2,9 +2,9 @@ use Rattle.std.proofs.Common.{ℕ, ◌≡◌, ◌≤◌, ◌+◌, ◌*◌, ◌/�
 use Rattle.std.specs.Prelude.{replicate, codes}
 use Rattle.prem_syntax.specs.SyntaxOf.{statements_of, program_of}
 use Rattle.prem_image.specs.declared.image.TaskRecord.{TaskRecord}
+use Rattle.prem_asm.specs.Bytes.{code_bytes}
 use Rattle.prem_small.specs.Small.{body_size}
 use Rattle.prem_small.specs.Code.{code_of, stack_top}
-use Rattle.prem_small.specs.Image.{code_bytes}
 use Rattle.prem_small.proofs.Meaning.{small_counts}
 use Rattle.prem_small.proofs.Images.{small_image}
 use Rattle.prem_small.proofs.setup.image.Goals as goal
@@ -26,4 +26,4 @@ invariant_of-result c =
     let content = c.in_ok-content_of.ensures
     ∙ ap (λ xs. code_bytes xs ++ replicate (c.stack_end-stack.result - 4 * length xs) 0) passed
     ∙ ap (λ s. code_bytes (code_of b) ++ replicate (s - 4 * length (code_of b)) 0) top in
-    record { lawful = small_image b _ _ _ _ counted c.default_plant.ensures (c.in_ok-tasks_of.ensures ∙ ap one_task top) c.new.ensures content }
+    record { lawful = small_image b _ _ _ _ counted c.default_plant.ensures.numbers (c.in_ok-tasks_of.ensures ∙ ap one_task top) c.new.ensures content }

@@ -1,6 +1,7 @@
 use Rattle.std.proofs.Common.{◌≡◌, ◌++◌, drop}
 use Rattle.prem_list.specs.Sequence.{items_of}
-use Rattle.prem_small.specs.Image.{AllFit, code_bytes}
+use Rattle.prem_asm.specs.Bytes.{code_bytes}
+use Rattle.prem_small.specs.Image.{AllFit}
 use Rattle.prem_small.proofs.setup.push_code.Given as goal
 
 abbrev pub invariant-loop-instr : goal.invariant-loop-instr
