@@ -1,5 +1,5 @@
 // The rules that a call can break.
-ghost use Rattle.std.specs.Prelude.{◌≡◌, map, slice_get, IfOk};
+ghost use Rattle.std.specs.Prelude.{◌≡◌, map, slice_get, IfOk, OnOk};
 ghost use Rattle.std.specs.Option.{option_map};
 ghost use Rattle.prem_list.specs.Sequence.{items_of};
 ghost use Rattle.prem_word.specs.Ranges.{from_to, encloses};
@@ -51,16 +51,17 @@ fn in_given(at: Place, env: &[Known], e: &Term, ps: &[Param], i: usize) -> Optio
     }
 }
 
-/// The first rule that arguments break.
+/// The first rule that arguments break. What is known stays the same.
 pub fn in_arguments(
     alloc: Global,
     at: Place,
     site: &Site,
-    env: &[Known],
+    env: &mut [Known],
     es: &[Term],
     ps: &[Param],
 ) -> Result<Option<Broken>, AllocError>
-    ensures { IfOk result (λ found. found_of found ≡ first_of (in_arguments at (site_of site.now) (env_of env.now) (map term_of es.now) (map parameter_of ps.now))) }
+    ensures env { OnOk result (env_of env.new ≡ env_of env.old) }
+    ensures found { IfOk result (λ found. found_of found ≡ first_of (in_arguments at (site_of site.now) (env_of env.old) (map term_of es.now) (map parameter_of ps.now))) }
 {
     let mut found = None;
     for i in 0..es.len() {

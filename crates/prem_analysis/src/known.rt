@@ -1,15 +1,17 @@
 // What is known of locals, in a vector: each of these changes it as its namesake does a slice.
-ghost use Rattle.std.specs.Prelude.{◌≡◌, true, IfOk};
+ghost use Rattle.std.specs.Prelude.{◌≡◌};
 ghost use Rattle.prem_resolve.specs.ResolvedOf.{term_of};
 ghost use Rattle.prem_ranges.specs.Environment.{at_local, with_range, assigned, any_again};
 ghost use Rattle.prem_ranges.specs.RangeOf.{refined};
 ghost use Rattle.prem_ranges.specs.After.{in_counting, in_while, behind_call};
-ghost use Rattle.prem_walk.specs.View.{span_of, env_of};
+ghost use Rattle.prem_saves.specs.Saves.{restored, merged};
+ghost use Rattle.prem_walk.specs.View.{span_of, env_of, saves_of};
 ghost use Rattle.prem_walk.specs.Plain.{plain};
 
 use prem_resolve::{Step, Term};
-use prem_walk::{Known, Range, assign, loosen, loosen_assigned, refine, set_range};
-use std::alloc::{AllocError, Global};
+use prem_walk::{
+    Known, Range, Saved, assign, loosen, loosen_assigned, merge, refine, restore, set_range,
+};
 
 fn loosen_loop(env: &mut [Known], k: usize, body: &Step)
     ensures { env_of env.new ≡ in_counting k (plain body.now) (env_of env.old) }
@@ -32,11 +34,11 @@ pub fn at_while(env: &mut Vec<Known>, body: &Step)
     loosen_assigned(env, body);
 }
 
-/// A condition is true.
-pub fn at_true(env: &mut Vec<Known>, condition: &Term)
-    ensures { env_of env.new.items ≡ refined true (env_of env.old.items) (term_of condition.now) }
+/// A condition is true, or false.
+pub fn at_condition(b: bool, env: &mut Vec<Known>, condition: &Term)
+    ensures { env_of env.new.items ≡ refined b (env_of env.old.items) (term_of condition.now) }
 {
-    refine(true, env, condition);
+    refine(b, env, condition);
 }
 
 /// A local has a range.
@@ -69,16 +71,16 @@ pub fn at_return(env: &mut Vec<Known>, target: Option<usize>)
     }
 }
 
-/// What is known of locals, where one has a range.
-pub fn with_local(
-    alloc: Global,
-    env: &[Known],
-    k: usize,
-    r: Range,
-) -> Result<Vec<Known>, AllocError>
-    ensures { IfOk result (λ inner. env_of inner.items ≡ at_local k (with_range (span_of r)) (env_of env.now)) }
+/// The same is known again as was saved.
+pub fn put_back(env: &mut Vec<Known>, saves: &[Saved])
+    ensures { env_of env.new.items ≡ restored (saves_of saves.now) (env_of env.old.items) }
 {
-    let mut inner = env.to_vec(alloc)?;
-    set_range(&mut inner, k, r);
-    Ok(inner)
+    restore(env, saves);
+}
+
+/// Behind either of two ways, where what is known behind the first was saved.
+pub fn at_either(env: &mut Vec<Known>, saves: &[Saved])
+    ensures { env_of env.new.items ≡ merged (saves_of saves.now) (env_of env.old.items) }
+{
+    merge(env, saves);
 }

@@ -1,42 +1,70 @@
 // Loops are entered.
-ghost use Rattle.std.specs.Prelude.{◌≡◌, true, false, IfOk, OnOk};
+ghost use Rattle.std.specs.Prelude.{◌≡◌, ◌++◌, ◌∷◌, ◌≤ℤ◌, pos, negsuc, true, false, length, IfOk, OnOk};
 ghost use Rattle.prem_resolve.specs.ResolvedOf.{term_of};
-ghost use Rattle.prem_ranges.specs.RangeOf.{range_of, refined};
-ghost use Rattle.prem_ranges.specs.After.{loop_end, in_counting, in_body, behind_loop, in_while};
-ghost use Rattle.prem_walk.specs.View.{span_of, env_of, found_of};
+ghost use Rattle.prem_ranges.specs.Environment.{at_local, with_range};
+ghost use Rattle.prem_ranges.specs.RangeOf.{refined};
+ghost use Rattle.prem_ranges.specs.RangeRules.{first_of};
+ghost use Rattle.prem_ranges.specs.RangeBreaches.{in_term};
+ghost use Rattle.prem_ranges.specs.After.{loop_end, body_range, range_behind, in_body, behind_loop, in_while};
+ghost use Rattle.prem_saves.specs.Saves.{named, few_or_all, saved, saved_few, restored};
+ghost use Rattle.prem_walk.specs.View.{span_of, env_of, found_of, saves_of};
 ghost use Rattle.prem_walk.specs.SiteOf.{site_of};
 ghost use Rattle.prem_walk.specs.Plain.{plain};
+ghost use Rattle.prem_walk.specs.Targets.{targets};
 ghost use Rattle.prem_analysis.specs.Seen.{seen_of, noted, counted};
 ghost use Rattle.prem_analysis.specs.Arms.{capped, at_term, at_counting, at_while, bound_of};
 
-use crate::known::{at_counting, at_range, at_true, at_while, with_local};
+use crate::known::{at_condition, at_counting, at_range, at_while, put_back};
+use crate::locals::{locals_of_counting, locals_of_if, locals_of_while};
 use crate::seen::Seen;
 use prem_resolve::{Step, Term};
 use prem_syntax::Place;
 use prem_walk::{
-    Broken, Known, Site, body_range, end_of, in_counting_loop, in_term, in_turns, range_behind,
-    range_of, refined, times, turn_bound,
+    Broken, Known, Range, Saved, Site, body_range, end_of, in_counting_loop, in_term, in_turns,
+    range_behind, range_of, save, times, turn_bound,
 };
 use std::alloc::{AllocError, Global};
 
-/// A loop's body: what is known where it begins, and the product of the turn bounds of the loops around it.
+/// A loop that is entered: the product of the turn bounds of the loops around its body, and what is known behind it of
+/// the locals that differ in the body.
 #[derive(Drop)]
 pub struct Inner {
     pub around: u64,
-    pub env: Vec<Known>,
+    pub behind: Vec<Saved>,
 }
 
-/// An expression is looked at.
+/// An `if` that is entered: the locals that differ in its arms, or all of them, and what was known of them before it.
+#[derive(Drop)]
+pub struct Arms {
+    pub locals: Vec<usize>,
+    pub before: Vec<Saved>,
+}
+
+/// The first rule that an expression breaks. What is known stays the same.
+fn find(
+    alloc: Global,
+    site: &Site,
+    env: &mut Vec<Known>,
+    term: &Term,
+) -> Result<Option<Broken>, AllocError>
+    ensures env { OnOk result (env_of env.new.items ≡ env_of env.old.items) }
+    ensures found { IfOk result (λ found. found_of found ≡ first_of (in_term (site_of site.now) (env_of env.old.items) (term_of term.now))) }
+{
+    in_term(alloc, site, env, term)
+}
+
+/// An expression is looked at. What is known stays the same.
 pub fn look(
     alloc: Global,
     site: &Site,
-    env: &[Known],
+    env: &mut Vec<Known>,
     seen: &mut Seen,
     term: &Term,
 ) -> Result<(), AllocError>
-    ensures { OnOk result (seen_of seen.new ≡ at_term (site_of site.now) (env_of env.now) (term_of term.now) (seen_of seen.old)) }
+    ensures env { OnOk result (env_of env.new.items ≡ env_of env.old.items) }
+    ensures seen { OnOk result (seen_of seen.new ≡ at_term (site_of site.now) (env_of env.old.items) (term_of term.now) (seen_of seen.old)) }
 {
-    seen.note(in_term(alloc, site, env, term)?);
+    seen.note(find(alloc, site, env, term)?);
     Ok(())
 }
 
@@ -56,14 +84,15 @@ pub struct Counting<'a> {
 fn see_counting(
     alloc: Global,
     site: &Site,
-    env: &[Known],
+    env: &mut Vec<Known>,
     seen: &mut Seen,
     own: Option<Broken>,
     in_low: Option<Broken>,
     high: &Term,
     bound: u64,
 ) -> Result<(), AllocError>
-    ensures { OnOk result (seen_of seen.new ≡ counted bound (at_term (site_of site.now) (env_of env.now) (term_of high.now) (noted (found_of in_low) (noted (found_of own) (seen_of seen.old))))) }
+    ensures env { OnOk result (env_of env.new.items ≡ env_of env.old.items) }
+    ensures seen { OnOk result (seen_of seen.new ≡ counted bound (at_term (site_of site.now) (env_of env.old.items) (term_of high.now) (noted (found_of in_low) (noted (found_of own) (seen_of seen.old))))) }
 {
     seen.note(own);
     seen.note(in_low);
@@ -71,7 +100,28 @@ fn see_counting(
     seen.count(bound)
 }
 
-/// Enters a counting loop. What is known becomes what is known behind it.
+/// Enters a counting loop's body: gives what is known behind the loop of the locals that differ in it.
+#[tactic(auto, using(crate::proofs::InPlace::set_again))]
+fn enter_body(
+    alloc: Global,
+    env: &mut Vec<Known>,
+    l: &Counting,
+    first: Range,
+    end: i64,
+) -> Result<Vec<Saved>, AllocError>
+    requires least { negsuc 2147483647 ≤ℤ end }
+    requires greatest { end ≤ℤ pos 4294967296 }
+    ensures behind { IfOk result (λ behind. saves_of behind.items ≡ saved_few (at_local l.now.number (with_range (range_behind (span_of first) end l.now.step)) (env_of env.old.items)) (l.now.number ∷ targets l.now.body.now)) }
+    ensures env { OnOk result (env_of env.new.items ≡ at_local l.now.number (with_range (body_range (span_of first) end)) (env_of env.old.items)) }
+{
+    at_range(env, l.number, range_behind(first, end, l.step));
+    let locals = locals_of_counting(alloc, env, l.number, l.body)?;
+    let behind = save(alloc, env, &locals)?;
+    at_range(env, l.number, body_range(first, end));
+    Ok(behind)
+}
+
+/// Enters a counting loop. What is known becomes what is known in its body.
 pub fn enter_counting(
     alloc: Global,
     site: &Site,
@@ -81,27 +131,26 @@ pub fn enter_counting(
     l: &Counting,
 ) -> Result<Inner, AllocError>
     ensures around { IfOk result (λ inner. inner.around ≡ capped around (bound_of (env_of env.old.items) l.now.number (term_of l.now.low.now) l.now.closed (term_of l.now.high.now) l.now.step (plain l.now.body.now))) }
-    ensures inner { IfOk result (λ inner. env_of inner.env.items ≡ in_body (env_of env.old.items) l.now.number (term_of l.now.low.now) (loop_end (env_of env.old.items) l.now.number l.now.closed (term_of l.now.high.now) (plain l.now.body.now)) (plain l.now.body.now)) }
-    ensures env { OnOk result (env_of env.new.items ≡ behind_loop (env_of env.old.items) l.now.number (term_of l.now.low.now) (loop_end (env_of env.old.items) l.now.number l.now.closed (term_of l.now.high.now) (plain l.now.body.now)) l.now.step (plain l.now.body.now)) }
+    ensures behind { IfOk result (λ inner. saves_of inner.behind.items ≡ saved_few (behind_loop (env_of env.old.items) l.now.number (term_of l.now.low.now) (loop_end (env_of env.old.items) l.now.number l.now.closed (term_of l.now.high.now) (plain l.now.body.now)) l.now.step (plain l.now.body.now)) (l.now.number ∷ targets l.now.body.now)) }
+    ensures env { OnOk result (env_of env.new.items ≡ in_body (env_of env.old.items) l.now.number (term_of l.now.low.now) (loop_end (env_of env.old.items) l.now.number l.now.closed (term_of l.now.high.now) (plain l.now.body.now)) (plain l.now.body.now)) }
     ensures seen { OnOk result (seen_of seen.new ≡ at_counting (site_of site.now) around (env_of env.old.items) l.now.at l.now.number (term_of l.now.low.now) (term_of l.now.high.now) (loop_end (env_of env.old.items) l.now.number l.now.closed (term_of l.now.high.now) (plain l.now.body.now)) l.now.step (bound_of (env_of env.old.items) l.now.number (term_of l.now.low.now) l.now.closed (term_of l.now.high.now) l.now.step (plain l.now.body.now)) (plain l.now.body.now) (seen_of seen.old)) }
 {
     let first = range_of(env, l.low);
-    let in_low = in_term(alloc, site, env, l.low)?;
+    let in_low = find(alloc, site, env, l.low)?;
     at_counting(env, l.number, l.body);
     let end = end_of(l.closed, range_of(env, l.high));
     let bound = turn_bound(first, end, l.step);
     let product = times(around, bound);
     let own = in_counting_loop(l.at, end, l.step, product);
     see_counting(alloc, site, env, seen, own, in_low, l.high, bound)?;
-    let inner = with_local(alloc, env, l.number, body_range(first, end))?;
-    at_range(env, l.number, range_behind(first, end, l.step));
+    let behind = enter_body(alloc, env, l, first, end)?;
     Ok(Inner {
         around: product,
-        env: inner,
+        behind,
     })
 }
 
-/// Enters a `while`. What is known becomes what is known behind it.
+/// Enters a `while`. What is known becomes what is known in its body.
 pub fn enter_while(
     alloc: Global,
     site: &Site,
@@ -114,34 +163,57 @@ pub fn enter_while(
     body: &Step,
 ) -> Result<Inner, AllocError>
     ensures around { IfOk result (λ inner. inner.around ≡ capped around most) }
-    ensures inner { IfOk result (λ inner. env_of inner.env.items ≡ refined true (in_while (plain body.now) (env_of env.old.items)) (term_of condition.now)) }
-    ensures env { OnOk result (env_of env.new.items ≡ in_while (plain body.now) (env_of env.old.items)) }
+    ensures behind { IfOk result (λ inner. saves_of inner.behind.items ≡ saved_few (in_while (plain body.now) (env_of env.old.items)) (named (term_of condition.now) ++ targets body.now)) }
+    ensures env { OnOk result (env_of env.new.items ≡ refined true (in_while (plain body.now) (env_of env.old.items)) (term_of condition.now)) }
     ensures seen { OnOk result (seen_of seen.new ≡ at_while (site_of site.now) around (env_of env.old.items) at most (term_of condition.now) (plain body.now) (seen_of seen.old)) }
 {
     at_while(env, body);
     let product = times(around, u64::from(most));
     seen.note(in_turns(at, product));
     look(alloc, site, env, seen, condition)?;
+    let locals = locals_of_while(alloc, env, condition, body)?;
+    let behind = save(alloc, env, &locals)?;
+    at_condition(true, env, condition);
     Ok(Inner {
         around: product,
-        env: refined(alloc, true, env, condition)?,
+        behind,
     })
 }
 
-/// Enters the arms of an `if`: gives what is known in the other one. What is known becomes what is known in the first.
+/// Enters an `if`. What is known becomes what is known in the first arm.
 pub fn enter_if(
     alloc: Global,
     site: &Site,
     env: &mut Vec<Known>,
     seen: &mut Seen,
     condition: &Term,
-) -> Result<Vec<Known>, AllocError>
-    ensures other { IfOk result (λ other. env_of other.items ≡ refined false (env_of env.old.items) (term_of condition.now)) }
+    taken: &Step,
+    other: &Step,
+) -> Result<Arms, AllocError>
+    ensures locals { IfOk result (λ arms. arms.locals.items ≡ few_or_all (length (env_of env.old.items)) (named (term_of condition.now) ++ targets taken.now ++ targets other.now)) }
+    ensures before { IfOk result (λ arms. saves_of arms.before.items ≡ saved_few (env_of env.old.items) (named (term_of condition.now) ++ targets taken.now ++ targets other.now)) }
     ensures env { OnOk result (env_of env.new.items ≡ refined true (env_of env.old.items) (term_of condition.now)) }
     ensures seen { OnOk result (seen_of seen.new ≡ at_term (site_of site.now) (env_of env.old.items) (term_of condition.now) (seen_of seen.old)) }
 {
     look(alloc, site, env, seen, condition)?;
-    let other = refined(alloc, false, env, condition)?;
-    at_true(env, condition);
-    Ok(other)
+    let locals = locals_of_if(alloc, env, condition, taken, other)?;
+    let before = save(alloc, env, &locals)?;
+    at_condition(true, env, condition);
+    Ok(Arms { locals, before })
+}
+
+/// Enters the other arm of an `if`: gives what is known behind the first. What is known becomes what is known in the other.
+pub fn enter_other(
+    alloc: Global,
+    env: &mut Vec<Known>,
+    condition: &Term,
+    arms: &Arms,
+) -> Result<Vec<Saved>, AllocError>
+    ensures behind { IfOk result (λ behind. saves_of behind.items ≡ saved (env_of env.old.items) arms.now.locals.items) }
+    ensures env { OnOk result (env_of env.new.items ≡ refined false (restored (saves_of arms.now.before.items) (env_of env.old.items)) (term_of condition.now)) }
+{
+    let behind = save(alloc, env, &arms.locals)?;
+    put_back(env, &arms.before);
+    at_condition(false, env, condition);
+    Ok(behind)
 }

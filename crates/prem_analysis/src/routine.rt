@@ -109,11 +109,11 @@ fn declare_all(
 fn see_result(
     alloc: Global,
     site: &Site,
-    env: &[Known],
+    env: &mut Vec<Known>,
     seen: &mut Seen,
     value: &Option<Term>,
 ) -> Result<(), AllocError>
-    ensures { OnOk result (seen_of seen.new ≡ noted (first_of (in_result (site_of site.now) (env_of env.now) (option_map term_of value.now))) (seen_of seen.old)) }
+    ensures { OnOk result (seen_of seen.new ≡ noted (first_of (in_result (site_of site.now) (env_of env.old.items) (option_map term_of value.now))) (seen_of seen.old)) }
 {
     match value {
         Some(e) => look(alloc, site, env, seen, e),
@@ -141,6 +141,6 @@ pub fn walk_routine(
         f.locals.items(),
     )?;
     walk(alloc, site, 1, &mut env, seen, &f.body)?;
-    see_result(alloc, site, &env, seen, &f.result)?;
+    see_result(alloc, site, &mut env, seen, &f.result)?;
     Ok(())
 }

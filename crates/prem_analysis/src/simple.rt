@@ -23,11 +23,12 @@ use std::alloc::{AllocError, Global};
 pub fn output(
     alloc: Global,
     site: &Site,
-    env: &[Known],
+    env: &mut Vec<Known>,
     seen: &mut Seen,
     value: &Term,
 ) -> Result<(), AllocError>
-    ensures { OnOk result (seen_of seen.new ≡ looked (in_term (site_of site.now) (env_of env.now) (term_of value.now)) (seen_of seen.old)) }
+    ensures env { OnOk result (env_of env.new.items ≡ env_of env.old.items) }
+    ensures seen { OnOk result (seen_of seen.new ≡ looked (in_term (site_of site.now) (env_of env.old.items) (term_of value.now)) (seen_of seen.old)) }
 {
     look(alloc, site, env, seen, value)?;
     Ok(())
@@ -54,13 +55,14 @@ pub fn set_local(
 pub fn set_scalar(
     alloc: Global,
     site: &Site,
-    env: &[Known],
+    env: &mut Vec<Known>,
     seen: &mut Seen,
     at: Place,
     g: usize,
     value: &Term,
 ) -> Result<(), AllocError>
-    ensures { OnOk result (seen_of seen.new ≡ looked (in_scalar (site_of site.now) at g ++ in_term (site_of site.now) (env_of env.now) (term_of value.now)) (seen_of seen.old)) }
+    ensures env { OnOk result (env_of env.new.items ≡ env_of env.old.items) }
+    ensures seen { OnOk result (seen_of seen.new ≡ looked (in_scalar (site_of site.now) at g ++ in_term (site_of site.now) (env_of env.old.items) (term_of value.now)) (seen_of seen.old)) }
 {
     seen.note(in_scalar(site, at, g));
     look(alloc, site, env, seen, value)?;
@@ -71,14 +73,15 @@ pub fn set_scalar(
 pub fn set_element(
     alloc: Global,
     site: &Site,
-    env: &[Known],
+    env: &mut Vec<Known>,
     seen: &mut Seen,
     at: Place,
     g: usize,
     index: &Term,
     value: &Term,
 ) -> Result<(), AllocError>
-    ensures { OnOk result (seen_of seen.new ≡ looked (in_element (site_of site.now) at g (range_of (env_of env.now) (term_of index.now)) ++ in_term (site_of site.now) (env_of env.now) (term_of index.now) ++ in_term (site_of site.now) (env_of env.now) (term_of value.now)) (seen_of seen.old)) }
+    ensures env { OnOk result (env_of env.new.items ≡ env_of env.old.items) }
+    ensures seen { OnOk result (seen_of seen.new ≡ looked (in_element (site_of site.now) at g (range_of (env_of env.old.items) (term_of index.now)) ++ in_term (site_of site.now) (env_of env.old.items) (term_of index.now) ++ in_term (site_of site.now) (env_of env.old.items) (term_of value.now)) (seen_of seen.old)) }
 {
     seen.note(in_element(site, at, g, range_of(env, index)));
     look(alloc, site, env, seen, index)?;
@@ -90,13 +93,14 @@ pub fn set_element(
 fn arguments(
     alloc: Global,
     site: &Site,
-    env: &[Known],
+    env: &mut Vec<Known>,
     seen: &mut Seen,
     at: Place,
     f: usize,
     es: &[Term],
 ) -> Result<(), AllocError>
-    ensures { OnOk result (seen_of seen.new ≡ looked (in_arguments at (site_of site.now) (env_of env.now) (map term_of es.now) (parameters_of (slice_get (site_of site.now).routines f))) (seen_of seen.old)) }
+    ensures env { OnOk result (env_of env.new.items ≡ env_of env.old.items) }
+    ensures seen { OnOk result (seen_of seen.new ≡ looked (in_arguments at (site_of site.now) (env_of env.old.items) (map term_of es.now) (parameters_of (slice_get (site_of site.now).routines f))) (seen_of seen.old)) }
 {
     seen.note(in_arguments(alloc, at, site, env, es, parameters_of(site.routines, f))?);
     Ok(())

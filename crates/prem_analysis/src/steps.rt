@@ -6,12 +6,12 @@ ghost use Rattle.prem_walk.specs.SiteOf.{site_of};
 ghost use Rattle.prem_walk.specs.Plain.{plain, plain_list};
 ghost use Rattle.prem_analysis.specs.Seen.{seen_of, behind};
 
-use crate::known::at_input;
-use crate::loops::{Counting, enter_counting, enter_if, enter_while};
+use crate::known::{at_either, at_input, put_back};
+use crate::loops::{Counting, enter_counting, enter_if, enter_other, enter_while};
 use crate::seen::Seen;
 use crate::simple::{call, output, set_element, set_local, set_scalar};
 use prem_resolve::Step;
-use prem_walk::{Known, Site, joined};
+use prem_walk::{Known, Site};
 use std::alloc::{AllocError, Global};
 
 /// Walks over a step: what is known becomes what is known behind it, and what is seen of it is put behind what was seen.
@@ -57,10 +57,11 @@ pub fn walk(
             other,
             ..
         } => {
-            let mut right = enter_if(alloc, site, env, seen, condition)?;
+            let arms = enter_if(alloc, site, env, seen, condition, taken, other)?;
             walk(alloc, site, around, env, seen, taken)?;
-            walk(alloc, site, around, &mut right, seen, other)?;
-            *env = joined(alloc, env, &right)?;
+            let behind = enter_other(alloc, env, condition, &arms)?;
+            walk(alloc, site, around, env, seen, other)?;
+            at_either(env, &behind);
             Ok(())
         }
         Step::For {
@@ -81,8 +82,9 @@ pub fn walk(
                 step: *step,
                 body,
             };
-            let mut inner = enter_counting(alloc, site, around, env, seen, &counting)?;
-            walk(alloc, site, inner.around, &mut inner.env, seen, body)?;
+            let inner = enter_counting(alloc, site, around, env, seen, &counting)?;
+            walk(alloc, site, inner.around, env, seen, body)?;
+            put_back(env, &inner.behind);
             Ok(())
         }
         Step::While {
@@ -91,10 +93,9 @@ pub fn walk(
             condition,
             body,
         } => {
-            let mut inner = enter_while(
-                alloc, site, around, env, seen, *at, *turns, condition, body,
-            )?;
-            walk(alloc, site, inner.around, &mut inner.env, seen, body)?;
+            let inner = enter_while(alloc, site, around, env, seen, *at, *turns, condition, body)?;
+            walk(alloc, site, inner.around, env, seen, body)?;
+            put_back(env, &inner.behind);
             Ok(())
         }
         Step::Call {

@@ -1,10 +1,10 @@
 // The range of an expression, and the first rule that it breaks.
-ghost use Rattle.std.specs.Prelude.{◌≡◌, IfOk};
+ghost use Rattle.std.specs.Prelude.{◌≡◌, IfOk, OnOk};
 ghost use Rattle.prem_resolve.specs.ResolvedOf.{term_of};
 ghost use Rattle.prem_word.specs.Words.{value_in};
 ghost use Rattle.prem_meaning.specs.Resolve.{kind_of};
 ghost use Rattle.prem_word.specs.Ranges.{exactly, truths, converted, range_of_op};
-ghost use Rattle.prem_ranges.specs.RangeOf.{range_of, refined};
+ghost use Rattle.prem_ranges.specs.RangeOf.{range_of};
 ghost use Rattle.prem_ranges.specs.RangeRules.{first, first_of};
 ghost use Rattle.prem_ranges.specs.RangeBreaches.{in_divisor, in_term};
 ghost use Rattle.prem_walk.specs.View.{span_of, env_of, found_of};
@@ -12,9 +12,10 @@ ghost use Rattle.prem_walk.specs.SiteOf.{site_of};
 ghost use Rattle.prem_walk.specs.Shortcut.{shortcut_of};
 
 use crate::access::{in_element, in_scalar};
-use crate::environment::{range_at, refine};
+use crate::environment::range_at;
 use crate::found::{Broken, Known, Rule, earlier, if_at};
 use crate::range::Range;
+use crate::saves::{refine_saved, restore};
 use crate::site::Site;
 use crate::table::{convert, operator, range_of_type, unary};
 use prem_resolve::{Term, binary_kind, promoted};
@@ -107,15 +108,6 @@ fn shortcut(op: BinOp) -> Option<bool>
     }
 }
 
-/// The environment where a condition is true, or where it is false.
-pub fn refined(alloc: Global, b: bool, env: &[Known], term: &Term) -> Result<Vec<Known>, AllocError>
-    ensures { IfOk result (λ inner. env_of inner.items ≡ refined b (env_of env.now) (term_of term.now)) }
-{
-    let mut inner = env.to_vec(alloc)?;
-    refine(b, &mut inner, term);
-    Ok(inner)
-}
-
 /// What is seen of an expression: its range, and the first rule that it breaks.
 #[derive(Clone, Copy)]
 pub struct Looked {
@@ -137,11 +129,18 @@ fn operator_range(op: BinOp, kind: Kind, left: Range, right: Range) -> Range
     operator(op, kind, convert(kind, left), convert(kind, right))
 }
 
-/// Looks at an expression once: no operand's range is computed again at each level.
-#[tactic(auto, using(prem_ranges::proofs::FirstBreach::first_of_append, crate::proofs::Operators::first_of_some, crate::proofs::Operators::first_of_none, crate::proofs::Operators::range_of_some, crate::proofs::Operators::range_of_operator))]
-pub fn look_at(alloc: Global, site: &Site, env: &[Known], term: &Term) -> Result<Looked, AllocError>
-    ensures range { IfOk result (λ l. span_of l.range ≡ range_of (env_of env.now) (term_of term.now)) }
-    ensures found { IfOk result (λ l. found_of l.found ≡ first_of (in_term (site_of site.now) (env_of env.now) (term_of term.now))) }
+/// Looks at an expression once: no operand's range is computed again at each level. The right side of `&&` and `||` is
+/// looked at in the same environment, in which the locals that the left side names are put back behind it.
+#[tactic(auto, using(prem_ranges::proofs::FirstBreach::first_of_append, prem_saves::proofs::Back::back_from_refined, crate::proofs::Operators::first_of_some, crate::proofs::Operators::first_of_none, crate::proofs::Operators::range_of_some, crate::proofs::Operators::range_of_operator))]
+pub fn look_at(
+    alloc: Global,
+    site: &Site,
+    env: &mut [Known],
+    term: &Term,
+) -> Result<Looked, AllocError>
+    ensures env { OnOk result (env_of env.new ≡ env_of env.old) }
+    ensures range { IfOk result (λ l. span_of l.range ≡ range_of (env_of env.old) (term_of term.now)) }
+    ensures found { IfOk result (λ l. found_of l.found ≡ first_of (in_term (site_of site.now) (env_of env.old) (term_of term.now))) }
 {
     match term {
         Term::Constant { word, kind, .. } => Ok(Looked {
@@ -187,8 +186,9 @@ pub fn look_at(alloc: Global, site: &Site, env: &[Known], term: &Term) -> Result
             let first = look_at(alloc, site, env, left)?;
             match shortcut(*op) {
                 Some(b) => {
-                    let inner = refined(alloc, b, env, left)?;
-                    let second = look_at(alloc, site, &inner, right)?;
+                    let saves = refine_saved(alloc, b, env, left)?;
+                    let second = look_at(alloc, site, env, right)?;
+                    restore(env, &saves);
                     Ok(Looked {
                         range: truths(),
                         found: earlier(first.found, second.found),
@@ -206,14 +206,15 @@ pub fn look_at(alloc: Global, site: &Site, env: &[Known], term: &Term) -> Result
     }
 }
 
-/// The first rule that an expression breaks.
+/// The first rule that an expression breaks. What is known stays the same.
 pub fn in_term(
     alloc: Global,
     site: &Site,
-    env: &[Known],
+    env: &mut [Known],
     term: &Term,
 ) -> Result<Option<Broken>, AllocError>
-    ensures { IfOk result (λ found. found_of found ≡ first_of (in_term (site_of site.now) (env_of env.now) (term_of term.now))) }
+    ensures env { OnOk result (env_of env.new ≡ env_of env.old) }
+    ensures found { IfOk result (λ found. found_of found ≡ first_of (in_term (site_of site.now) (env_of env.old) (term_of term.now))) }
 {
     let looked = look_at(alloc, site, env, term)?;
     Ok(looked.found)

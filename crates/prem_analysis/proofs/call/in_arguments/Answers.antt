@@ -4,7 +4,7 @@ use Rattle.std.specs.Option.{option_map}
 use Rattle.prem_syntax.specs.SyntaxOf.{parameter_of}
 use Rattle.prem_resolve.specs.ResolvedOf.{term_of}
 use Rattle.prem_ranges.specs.RangeRules.{RangeBreach, first, first_of}
-use Rattle.prem_ranges.specs.RangeBreaches.{in_arguments}
+use Rattle.prem_ranges.specs.RangeBreaches.{in_arguments, in_term}
 use Rattle.prem_walk.specs.View.{env_of, found_of}
 use Rattle.prem_walk.specs.SiteOf.{site_of}
 use Rattle.prem_analysis.specs.Arms.{in_given}
@@ -14,9 +14,13 @@ use Rattle.prem_analysis.proofs.call.in_arguments.Goals as goal
 pub loop-i-preserved : goal.loop-i-preserved
 loop-i-preserved c =
     let site = site_of c.args.site.now in let env = env_of c.args.env.now in let es = c.args.es.now in let ps = c.args.ps.now in let i = c.loop-i.i in let at = c.args.at in
-    let e = c.index-es-i.result in let o = found_of c.loop-i.found in
+    let e = c.index-es-i.result in let o = found_of c.loop-i.found in let same = c.loop-i.invariant.known in
     let rest = first_of (in_arguments at site env (map term_of (drop (i + 1) es)) (map parameter_of (drop (i + 1) ps))) in
-    let given = first_of (in_given at env (term_of e) (option_map parameter_of (slice_get ps i))) in
-    ap (λ (x : Option RangeBreach). first x rest)
-    (c.earlier-found-in-loop-i.ensures ∙ ap (λ (x : Option RangeBreach). first x (found_of c.in_ok-in_term.field-0)) (c.earlier-found.ensures ∙ ap (first o) c.in_given.ensures) ∙ ap (first (first o given)) c.in_ok-in_term.ensures)
-    ∙ next_argument at site env es ps i e o (omega arith) c.index-es-i.is ∙ c.loop-i.invariant
+    let p = option_map parameter_of (slice_get ps i) in
+    record {
+      known = c.in_ok-in_term.ensures.env ∙ same;
+      seen = ap (λ (x : Option RangeBreach). first x rest)
+          (c.earlier-found-in-loop-i.ensures ∙ ap (λ (x : Option RangeBreach). first x (found_of c.in_ok-in_term.field-0)) (c.earlier-found.ensures ∙ ap (first o) (c.in_given.ensures ∙ ap (λ v. first_of (in_given at v (term_of e) p)) same))
+          ∙ ap (first (first o (first_of (in_given at env (term_of e) p)))) (c.in_ok-in_term.ensures.found ∙ ap (λ v. first_of (in_term site v (term_of e))) same))
+          ∙ next_argument at site env es ps i e o (omega arith) c.index-es-i.is ∙ c.loop-i.invariant.seen;
+    }
