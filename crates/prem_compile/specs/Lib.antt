@@ -1,5 +1,1 @@
-pub mod Told
-pub mod Broken
-pub mod SetOf
-pub mod Stops
-pub mod Stages
+pub mod CompiledOf

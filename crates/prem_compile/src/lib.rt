@@ -1,13 +1,8 @@
 //! The compiler: from a task set to an image, or the first rule that the set breaks.
 #![tactic(auto)]
 
-mod check;
-mod fail;
-mod read;
-mod rule;
-mod set;
-mod stop;
+mod compiled;
 
-pub use fail::CompileFail;
-pub use rule::{Refusal, Rule};
-pub use set::{TaskSet, TaskText};
+pub use compiled::Compiled;
+pub use prem_facts::IntervalFact;
+pub use prem_tasks::{CompileFail, Refusal, Rule, TaskSet, TaskText};

@@ -1,0 +1,44 @@
+-- A compiled set in memory as plain data.
+use Rattle.std.specs.Prelude.{◌≡◌, ℕ, List, map, None, Some, Result, MatchResult}
+use Rattle.prem_list.specs.Sequence.{items_of}
+use Rattle.prem_image.specs.declared.image.Image.{Image}
+use Rattle.prem_syntax.specs.Name.{name_bytes}
+use Rattle.prem_layout.specs.Image.{ImageText}
+use Rattle.prem_facts.specs.FactOf.{fact_of}
+use Rattle.prem_facts.specs.declared.facts.IntervalFact.{IntervalFact}
+use Rattle.prem_tasks.specs.Broken.{TaskSet, broken}
+use Rattle.prem_tasks.specs.Compiled.{TaskFact, CompiledText, compiled}
+use Rattle.prem_tasks.specs.Told.{refusal_of}
+use Rattle.prem_compile.specs.declared.compiled.Compiled.{Compiled}
+use Rattle.prem_tasks.specs.declared.fail.CompileFail.{CompileFail}
+use Rattle.prem_tasks.specs.declared.fail.CompileFail.TheVariants.{Refused, OutOfMemory}
+
+abbrev pub image_text : Image → ImageText
+image_text i = record { plant = i.plant; tasks = items_of i.tasks; devices = items_of i.devices; content = items_of i.content }
+
+abbrev pub task_fact : IntervalFact → TaskFact
+task_fact f = (f.task, fact_of f)
+
+abbrev pub compiled_of : Compiled → CompiledText
+compiled_of c = record {
+  image = image_text c.image;
+  layout = c.layout;
+  parts = items_of c.parts;
+  names = map name_bytes (items_of c.names);
+  intervals = map task_fact (items_of c.intervals);
+  jobs = items_of c.jobs;
+  limit = c.limit;
+}
+
+-- a set that breaks no rule is compiled as it is meant
+pub record IsCompiled (set : TaskSet) (c : Compiled) : Type 0 where
+  pub lawful : broken set ≡ None
+  pub compiled : compiled_of c ≡ compiled set
+
+-- a refusal is the first rule that the set breaks; that memory is out tells nothing
+abbrev pub IsRefused : TaskSet → CompileFail → Type 0
+IsRefused set (Refused refusal) = broken set ≡ Some (refusal_of refusal)
+IsRefused set OutOfMemory = Unit {0}
+
+abbrev pub IsAnswer : TaskSet → Result Compiled CompileFail → Type 0
+IsAnswer set result = MatchResult result (IsCompiled set) (IsRefused set)

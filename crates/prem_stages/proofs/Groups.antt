@@ -1,0 +1,170 @@
+-- The groups of rules up to code, one after another.
+use Rattle.std.proofs.Common.{◌≡◌, ℕ, suc, ◌+◌, ◌≤◌, List, [], ◌∷◌, Option, None, Some, Result, Ok, Err, length, map, refl, ap, sym, ◌∙◌, subst, arith}
+use Rattle.std.specs.Option.{option_map}
+use Rattle.prem_syntax.specs.Syntax.{ProgramText}
+use Rattle.prem_token.specs.declared.fail.FrontFail.{FrontFail}
+use Rattle.prem_text.specs.Texts.{reads}
+use Rattle.prem_asm.specs.Pieces.{Pieces}
+use Rattle.prem_analyse.specs.Analysed.{analysed_text}
+use Rattle.prem_layout.specs.Placed.{Coded as CodedText}
+use Rattle.prem_layout.specs.Rules.{LateRule, Refusal, or_else, refused_by, first_among, over_tasks, group_four}
+use Rattle.prem_layout.specs.Broken.{broken_at_places, broken_late}
+use Rattle.prem_tasks.specs.Told.{Told, of_code}
+use Rattle.prem_tasks.specs.Broken.{TaskText, TaskSet, unread, group_one, program_before, programs_of, group_two, group_three, bounded, coded_of, late_refusal, broken_programs, broken}
+use Rattle.prem_tasks.specs.SetOf.{task_of}
+use Rattle.prem_tasks.specs.declared.set.TaskText.{TaskText as TaskTree}
+use Rattle.prem_tasks.specs.Compiled.{coded_in, places_in}
+use Rattle.prem_tasks.specs.Stops.{Stops}
+use Rattle.prem_tasks.specs.declared.stop.Stop.{Stop}
+use Rattle.prem_stages.specs.Stages.{uncoded}
+use Rattle.prem_stages.specs.Code.{code_in, program_code}
+use Rattle.prem_stages.specs.Coded.{IsCoded}
+use Rattle.prem_stages.specs.declared.front.Coded.{Coded}
+use Rattle.prem_stages.proofs.Passing.{same_stop, first_stops, none_passes}
+
+-- ---- texts that are read
+
+read_count : (n : ℕ) (ts : List TaskText) → first_among group_one n ts ≡ None → length (programs_of ts) ≡ length ts
+read_count n [] e = refl
+read_count n (t ∷ ts) e = by (reads t.text) e (read_count (n + 1) ts)
+  where
+    by : (read : Result ProgramText FrontFail) → or_else (refused_by (Some n) (unread read)) (first_among group_one (n + 1) ts) ≡ None →
+        (first_among group_one (n + 1) ts ≡ None → length (programs_of ts) ≡ length ts) → length (program_before read (programs_of ts)) ≡ suc (length ts)
+    by (Ok p) e more = ap suc (more e)
+    by (Err fail) e more = absurd cc
+
+pub as_many_programs : (ts : List TaskText) → over_tasks group_one ts ≡ None → length (programs_of ts) ≡ length ts
+as_many_programs ts e = read_count 0 ts e
+
+map_count : {A B : Type 0} (f : A → B) (xs : List A) → length (map f xs) ≡ length xs
+map_count f [] = refl
+map_count f (x ∷ xs) = ap suc (map_count f xs)
+
+-- no more than there are tasks
+pub few_programs : {A : Type 0} (text_of : A → ProgramText) (all : List A) (tasks : List TaskTree) → map text_of all ≡ programs_of (map task_of tasks) → over_tasks group_one (map task_of tasks) ≡ None → length tasks ≤ 16 →
+    length all ≤ 16
+few_programs text_of all tasks are read few =
+    let same : length all ≡ length tasks = sym (map_count text_of all) ∙ ap length are ∙ as_many_programs (map task_of tasks) read ∙ map_count task_of tasks in
+    omega (arith, same)
+
+-- ---- code
+
+pub late_or : (a b : Option (Refusal LateRule)) → late_refusal (or_else a b) ≡ or_else (late_refusal a) (late_refusal b)
+late_or None b = refl
+late_or (Some r) b = refl
+
+pub late_by : (task : Option ℕ) (rule : Option LateRule) → late_refusal (refused_by task rule) ≡ refused_by task (option_map of_code rule)
+late_by task None = refl
+late_by task (Some rule) = refl
+
+abbrev late_four : CodedText → Option LateRule
+late_four c = group_four c.program
+
+late_among : (n : ℕ) (ts : List TaskText) (ps : List ProgramText) → length ps ≡ length ts → late_refusal (first_among late_four n (coded_of ts ps)) ≡ first_among uncoded n ps
+late_among n [] [] count = refl
+late_among n [] (p ∷ ps) count = absurd (omega (arith, count))
+late_among n (t ∷ ts) [] count = refl
+late_among n (t ∷ ts) (p ∷ ps) count =
+    late_or (refused_by (Some n) (group_four (bounded p))) (first_among late_four (n + 1) (coded_of ts ps))
+    ∙ ap (λ (x : Option (Refusal Told)). or_else x (late_refusal (first_among late_four (n + 1) (coded_of ts ps)))) (late_by (Some n) (group_four (bounded p)))
+    ∙ ap (λ (x : Option (Refusal Told)). or_else (refused_by (Some n) (uncoded p)) x) (late_among (n + 1) ts ps (omega (arith, count)))
+
+pub late_none : (found : Option (Refusal LateRule)) → late_refusal found ≡ None → found ≡ None
+late_none None e = refl
+late_none (Some r) e = absurd cc
+
+codes_listed : (ts : List TaskText) (ps : List ProgramText) → length ps ≡ length ts → map program_code ps ≡ map (λ (c : CodedText). c.code) (coded_of ts ps)
+codes_listed [] [] count = refl
+codes_listed [] (p ∷ ps) count = absurd (omega (arith, count))
+codes_listed (t ∷ ts) [] count = refl
+codes_listed (t ∷ ts) (p ∷ ps) count = ap (λ (codes : List (List Pieces)). program_code p ∷ codes) (codes_listed ts ps (omega (arith, count)))
+
+-- ---- where a set is refused
+
+-- the groups so far refuse nothing
+pub record ReadWell (set : TaskSet) : Type 0 where
+  pub texts : over_tasks group_one set.tasks ≡ None
+
+pub record FormedWell (set : TaskSet) : Type 0 where
+  pub texts : over_tasks group_one set.tasks ≡ None
+  pub programs : over_tasks group_two (programs_of set.tasks) ≡ None
+
+pub record KeptWell (set : TaskSet) : Type 0 where
+  pub texts : over_tasks group_one set.tasks ≡ None
+  pub programs : over_tasks group_two (programs_of set.tasks) ≡ None
+  pub ranges : over_tasks group_three (programs_of set.tasks) ≡ None
+
+-- what the stages up to the analysis tell
+pub kept_well : (set : TaskSet) (ts : List TaskText) (ps qs : List ProgramText) → ts ≡ set.tasks → over_tasks group_one ts ≡ None → ps ≡ programs_of ts → over_tasks group_two ps ≡ None →
+    qs ≡ ps → over_tasks group_three qs ≡ None → KeptWell set
+kept_well set ts ps qs tasks one are two same three =
+    let listed : ps ≡ programs_of set.tasks = are ∙ ap programs_of tasks in
+    record {
+      texts = ap (λ (xs : List TaskText). over_tasks group_one xs) (sym tasks) ∙ one;
+      programs = ap (λ (xs : List ProgramText). over_tasks group_two xs) (sym listed) ∙ two;
+      ranges = ap (λ (xs : List ProgramText). over_tasks group_three xs) (sym (same ∙ listed)) ∙ three;
+    }
+
+abbrev late_in : TaskSet → Option (Refusal Told)
+late_in set = late_refusal (broken_late set.plant set.devices (coded_in set))
+
+abbrev from_ranges : TaskSet → Option (Refusal Told)
+from_ranges set = or_else (over_tasks group_three (programs_of set.tasks)) (late_in set)
+
+behind_texts : (set : TaskSet) → over_tasks group_one set.tasks ≡ None → broken set ≡ broken_programs set (programs_of set.tasks)
+behind_texts set one = none_passes (over_tasks group_one set.tasks) (broken_programs set (programs_of set.tasks)) one
+
+behind_programs : (set : TaskSet) → FormedWell set → broken set ≡ from_ranges set
+behind_programs set well = behind_texts set well.texts ∙ none_passes (over_tasks group_two (programs_of set.tasks)) (from_ranges set) well.programs
+
+behind_ranges : (set : TaskSet) → KeptWell set → broken set ≡ late_in set
+behind_ranges set well =
+    behind_programs set (record { texts = well.texts; programs = well.programs })
+    ∙ none_passes (over_tasks group_three (programs_of set.tasks)) (late_in set) well.ranges
+
+pub at_texts : (set : TaskSet) (stop : Stop) → Stops stop (over_tasks group_one set.tasks) → Stops stop (broken set)
+at_texts set stop s = first_stops stop (over_tasks group_one set.tasks) (broken_programs set (programs_of set.tasks)) (broken set) s refl
+
+pub at_programs : (set : TaskSet) (stop : Stop) (ps : List ProgramText) → ps ≡ programs_of set.tasks → ReadWell set → Stops stop (over_tasks group_two ps) → Stops stop (broken set)
+at_programs set stop ps are well s =
+    let here : Stops stop (over_tasks group_two (programs_of set.tasks)) = subst (λ (qs : List ProgramText). Stops stop (over_tasks group_two qs)) are s in
+    first_stops stop (over_tasks group_two (programs_of set.tasks)) (from_ranges set) (broken set) here (sym (behind_texts set well.texts))
+
+pub at_ranges : (set : TaskSet) (stop : Stop) (ps : List ProgramText) → ps ≡ programs_of set.tasks → FormedWell set → Stops stop (over_tasks group_three ps) → Stops stop (broken set)
+at_ranges set stop ps are well s =
+    let here : Stops stop (over_tasks group_three (programs_of set.tasks)) = subst (λ (qs : List ProgramText). Stops stop (over_tasks group_three qs)) are s in
+    first_stops stop (over_tasks group_three (programs_of set.tasks)) (late_in set) (broken set) here (sym (behind_programs set well))
+
+-- the rules behind code generation
+abbrev placed_in_set : TaskSet → Option (Refusal LateRule)
+placed_in_set set = broken_at_places set.plant (places_in set) (coded_in set)
+
+four_is : (set : TaskSet) → over_tasks group_one set.tasks ≡ None → late_refusal (over_tasks late_four (coded_in set)) ≡ over_tasks uncoded (programs_of set.tasks)
+four_is set one = late_among 0 set.tasks (programs_of set.tasks) (as_many_programs set.tasks one)
+
+late_parts : (set : TaskSet) → late_in set ≡ or_else (late_refusal (over_tasks late_four (coded_in set))) (late_refusal (placed_in_set set))
+late_parts set = late_or (over_tasks late_four (coded_in set)) (placed_in_set set)
+
+pub at_code : (set : TaskSet) (stop : Stop) (ps : List ProgramText) → ps ≡ programs_of set.tasks → KeptWell set → Stops stop (over_tasks uncoded ps) → Stops stop (broken set)
+at_code set stop ps are well s =
+    let here : Stops stop (over_tasks uncoded (programs_of set.tasks)) = subst (λ (qs : List ProgramText). Stops stop (over_tasks uncoded qs)) are s in
+    let four : Stops stop (late_refusal (over_tasks late_four (coded_in set))) = same_stop stop _ _ (four_is set well.texts) here in
+    first_stops stop (late_refusal (over_tasks late_four (coded_in set))) (late_refusal (placed_in_set set)) (broken set) four (sym (behind_ranges set well ∙ late_parts set))
+
+-- ---- where it isn't
+
+pub set_is_coded : (set : TaskSet) (c : Coded) (ps : List ProgramText) → KeptWell set → map analysed_text c.programs.items ≡ ps → ps ≡ programs_of set.tasks → over_tasks uncoded ps ≡ None →
+    map code_in c.codes.items ≡ map program_code ps → IsCoded set c
+set_is_coded set c ps well programs are coded codes =
+    let count = as_many_programs set.tasks well.texts in
+    let none : late_refusal (over_tasks late_four (coded_in set)) ≡ None = four_is set well.texts ∙ ap (λ (qs : List ProgramText). over_tasks uncoded qs) (sym are) ∙ coded in
+    record {
+      texts_are_read = well.texts;
+      programs_are_formed = well.programs;
+      ranges_are_kept = well.ranges;
+      code_is_there = late_none (over_tasks late_four (coded_in set)) none;
+      broken_is = behind_ranges set well ∙ late_parts set ∙ none_passes (late_refusal (over_tasks late_four (coded_in set))) (late_refusal (placed_in_set set)) none;
+      count = count;
+      programs_are = programs ∙ are;
+      codes_are = codes ∙ ap (λ (qs : List ProgramText). map program_code qs) are ∙ codes_listed set.tasks (programs_of set.tasks) count;
+    }

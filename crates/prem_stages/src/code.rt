@@ -1,0 +1,64 @@
+// The fourth group of rules: the programs of all tasks get their code.
+ghost use Rattle.std.specs.Prelude.{◌≡◌, ◌≤◌, ◌<◌, Some, IfOk, length, map};
+ghost use Rattle.prem_template.specs.Limits.{excess};
+ghost use Rattle.prem_term.specs.Excess.{Exceeds};
+ghost use Rattle.prem_analyse.specs.Analysed.{analysed_text};
+ghost use Rattle.prem_gen.specs.Compiled.{compiled};
+ghost use Rattle.prem_layout.specs.Rules.{refused_by, over_tasks};
+ghost use Rattle.prem_tasks.specs.Told.{told_of};
+ghost use Rattle.prem_tasks.specs.Stops.{Ends};
+ghost use Rattle.prem_stages.specs.Stages.{uncoded};
+ghost use Rattle.prem_stages.specs.Code.{code_in, program_code};
+
+use crate::names::{item_names, name_at};
+use prem_analyse::Analysed;
+use prem_gen::{GenFail, Piece, Sequence, gen_all};
+use prem_tasks::{Rule, Stop, refused};
+use std::alloc::{AllocError, Global};
+
+/// The code of the functions of a program, in the order of the text.
+pub type Codes = Sequence<Sequence<Piece>>;
+
+/// The rule that a program breaks which has no code, with a name in place of a number. Want of memory is no rule.
+fn code_rule(alloc: Global, program: &Analysed, fail: GenFail) -> Result<Rule, AllocError>
+    requires { Exceeds fail (excess (compiled program.now)) }
+    ensures { IfOk result (λ rule. uncoded (analysed_text program.now) ≡ Some (told_of rule)) }
+{
+    match fail {
+        GenFail::Frame { function } => {
+            let checked = program.checked();
+            let names = item_names(alloc, checked.program())?;
+            let function = name_at(alloc, &names.functions, function)?;
+            Ok(Rule::Frame { function })
+        }
+        GenFail::Depth { line } => Ok(Rule::Depth { line }),
+        GenFail::OutOfMemory => Err(AllocError),
+    }
+}
+
+/// The code of a task's program, or why it has none.
+fn code_one(alloc: Global, task: usize, program: &Analysed) -> Result<Codes, Stop>
+    requires { task < 16 }
+    ensures ends { Ends result (refused_by (Some task) (uncoded (analysed_text program.now))) }
+    ensures code { IfOk result (λ codes. code_in codes ≡ program_code (analysed_text program.now)) }
+{
+    match gen_all(alloc, program) {
+        Ok(codes) => Ok(codes),
+        Err(fail) => Err(refused(alloc, task, code_rule(alloc, program, fail)?)),
+    }
+}
+
+/// The code of all programs, or the first that has none: a frame passes 2032 bytes, or an expression needs a register past
+/// the twelfth.
+pub fn code_all(alloc: Global, programs: &[Analysed]) -> Result<Vec<Codes>, Stop>
+    requires { length programs.now ≤ 16 }
+    ensures ends { Ends result (over_tasks uncoded (map analysed_text programs.now)) }
+    ensures codes { IfOk result (λ all. map code_in all.items ≡ map program_code (map analysed_text programs.now)) }
+{
+    let mut all = Vec::new(alloc);
+    for n in 0..programs.len() {
+        let codes = code_one(alloc, n, &programs[n])?;
+        all.push(codes)?;
+    }
+    Ok(all)
+}
