@@ -1,7 +1,7 @@
 pub mod TableLaws
 pub mod StepRows
 pub mod Plain
-pub mod Depths
+pub mod DepthsAre
 pub mod PlanLaws
 pub mod PlansAre
 pub mod MayHave

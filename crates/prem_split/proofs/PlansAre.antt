@@ -15,7 +15,7 @@ use Rattle.prem_split.specs.Walk.{callees_of, frame_of as frame_of_tree}
 use Rattle.prem_split.specs.Tables.{depths_of}
 use Rattle.prem_split.specs.PlansWith.{Known, plan_with, plan_if, plans_with, marks_of, calls_of, known_of, plans_in}
 use Rattle.prem_split.proofs.Plain.{step_calls, step_counts}
-use Rattle.prem_split.proofs.Depths.{depths_are}
+use Rattle.prem_split.proofs.DepthsAre.{depths_are}
 
 calls_same : (turns : ℕ → ℕ) (n : ℕ) (fs : List RoutineTree) → calls_of fs ≡ callee_table (routines_of turns n fs)
 calls_same turns n [] = refl

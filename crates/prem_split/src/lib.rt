@@ -14,4 +14,5 @@ pub use plan::IntervalPlan;
 pub use plans::intervals_of;
 pub use prem_list::Sequence;
 pub use prem_plant::FnId;
-pub use walk::frame;
+pub use tables::{depths, greatest, value_at};
+pub use walk::{callee_table, frame, frames};

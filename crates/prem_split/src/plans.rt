@@ -8,7 +8,7 @@ ghost use Rattle.prem_split.specs.PlanOf.{plan_of};
 ghost use Rattle.prem_split.specs.PlansWith.{MayHavePlans, plan_with, plan_if, plans_in};
 
 use crate::plan::IntervalPlan;
-use crate::tables::{depths, frame_at, members, reach_set};
+use crate::tables::{depths, members, reach_set, value_at};
 use crate::walk::{callee_table, frames};
 use prem_list::Sequence;
 use prem_plant::FnId;
@@ -110,7 +110,7 @@ pub fn intervals_of(alloc: Global, r: &Resolved) -> Result<Sequence<IntervalPlan
     let frames = frames(alloc, fs)?;
     let table = callee_table(alloc, fs)?;
     let depths = depths(alloc, &frames, &table)?;
-    let base = frame_at(&frames, r.job);
+    let base = value_at(&frames, r.job);
     let mut plans = Sequence::new(alloc);
     for n in 0..fs.len() {
         let text = fs[n].text;
