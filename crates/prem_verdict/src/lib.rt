@@ -1,0 +1,15 @@
+//! The rules on the lines, bounds and lengths of the marked functions of placed tasks.
+#![tactic(auto)]
+
+mod bounds;
+mod conflicts;
+mod lengths;
+mod told;
+mod verdict;
+
+pub use bounds::bounds_of_all;
+pub use conflicts::{first_conflict, footprints_of_all};
+pub use lengths::first_short_interval;
+pub use prem_placed::PlacedTask;
+pub use told::{TaskBounds, VerdictFail};
+pub use verdict::{Blame, Verdict, function_name};
