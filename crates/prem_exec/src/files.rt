@@ -83,7 +83,7 @@ fn which_word(which: Which) -> &'static str
 }
 
 /// The answer to a run file whose line n is refused.
-fn line_form(alloc: Global, name: &str, n: u32, which: Which) -> Result<Answer, AllocError>
+pub fn line_form(alloc: Global, name: &str, n: u32, which: Which) -> Result<Answer, AllocError>
     ensures { IfOk result (λ a. reply_of a ≡ form_reply name.now (line_why (n, which))) }
 {
     let word = which_word(which);

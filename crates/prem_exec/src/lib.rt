@@ -6,3 +6,4 @@ mod files;
 mod run;
 
 pub use exec::exec_answer;
+pub use files::line_form;
