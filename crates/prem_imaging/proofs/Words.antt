@@ -5,7 +5,8 @@ use Rattle.std.specs.List.{flat_map}
 use Rattle.prem_isa.specs.declared.instr.Instr.{Instr}
 use Rattle.prem_isa.specs.Decode.{word_of}
 use Rattle.prem_layout.specs.Placed.{Block}
-use Rattle.prem_layout.specs.Image.{code_bytes, patched, with_blocks}
+use Rattle.prem_asm.specs.Bytes.{code_bytes}
+use Rattle.prem_layout.specs.Image.{patched, with_blocks}
 use Rattle.prem_content.specs.Blocks.{Words, with_words}
 use Rattle.prem_imaging.specs.Standing.{words_of}
 
