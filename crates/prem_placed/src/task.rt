@@ -8,13 +8,13 @@ use prem_split::IntervalPlan;
 
 /// A task with the places of its parts, the plans of its marked functions, and all its code.
 #[derive(Drop)]
-pub struct PlacedTask<'a> {
+pub struct PlacedTask<'a, 'p> {
     pub name: &'a Label,
     /// The cycles from one release of a job to the next.
     pub period: u32,
     /// How many jobs are released.
     pub jobs: u32,
-    pub program: &'a Resolved<'a>,
+    pub program: &'a Resolved<'p>,
     /// The turns of its counting loops, in the order of the text.
     pub turns: &'a [u32],
     pub places: TaskPlaces,
