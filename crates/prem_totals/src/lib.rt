@@ -3,7 +3,6 @@
 
 mod ending;
 mod logs;
-mod sum;
 
 pub use ending::limit;
 pub use logs::{LogRule, full_log};

@@ -6,8 +6,7 @@ ghost use Rattle.prem_counts.specs.Count.{clipped};
 ghost use Rattle.prem_placed.specs.PlacedOf.{coded_of};
 ghost use Rattle.prem_totals.specs.Logs.{told_of};
 
-use crate::sum::{plus, times};
-use prem_counts::{marked_calls, outputs};
+use prem_counts::{marked_calls, outputs, plus, times};
 use prem_placed::PlacedTask;
 use std::alloc::{AllocError, Global};
 
