@@ -1,9 +1,8 @@
 -- A compiled set in memory as plain data.
 use Rattle.std.specs.Prelude.{◌≡◌, ℕ, List, map, None, Some, Result, MatchResult}
 use Rattle.prem_list.specs.Sequence.{items_of}
-use Rattle.prem_image.specs.declared.image.Image.{Image}
 use Rattle.prem_syntax.specs.Name.{name_bytes}
-use Rattle.prem_layout.specs.Image.{ImageText}
+use Rattle.prem_build_image.specs.Built.{image_text}
 use Rattle.prem_facts.specs.FactOf.{fact_of}
 use Rattle.prem_facts.specs.declared.facts.IntervalFact.{IntervalFact}
 use Rattle.prem_tasks.specs.Broken.{TaskSet, broken}
@@ -12,9 +11,6 @@ use Rattle.prem_tasks.specs.Told.{refusal_of}
 use Rattle.prem_compile.specs.declared.compiled.Compiled.{Compiled}
 use Rattle.prem_tasks.specs.declared.fail.CompileFail.{CompileFail}
 use Rattle.prem_tasks.specs.declared.fail.CompileFail.TheVariants.{Refused, OutOfMemory}
-
-abbrev pub image_text : Image → ImageText
-image_text i = record { plant = i.plant; tasks = items_of i.tasks; devices = items_of i.devices; content = items_of i.content }
 
 abbrev pub task_fact : IntervalFact → TaskFact
 task_fact f = (f.task, fact_of f)

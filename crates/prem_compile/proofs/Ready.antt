@@ -1,0 +1,207 @@
+-- What an image asks of placed tasks holds of the tasks of a set.
+use Rattle.std.proofs.Common.{◌≡◌, ℕ, zero, suc, ◌+◌, ◌≤◌, List, [], ◌∷◌, length, map, refl, ap, sym, ◌∙◌, subst, arith, Vec, Global}
+use Rattle.std.specs.Prelude.{All}
+use Rattle.std.specs.List.{AllByRecursion}
+use Rattle.std.proofs.lemmas.List.Elements.{recursion_from_All}
+use Rattle.prem_plant.specs.declared.plant.Plant.{Plant}
+use Rattle.prem_plant.specs.declared.plant.Device.{Device}
+use Rattle.prem_plant.specs.declared.layout.PartSize.{PartSize}
+use Rattle.prem_plant.specs.Label.{IsName, AreDistinct}
+use Rattle.prem_plant.specs.Places.{Place, ArePlaces}
+use Rattle.prem_plant.specs.Ranges.{Between, IsPlant}
+use Rattle.prem_syntax.specs.Syntax.{Text, ProgramText}
+use Rattle.prem_syntax.specs.Name.{name_bytes}
+use Rattle.prem_list.specs.Sequence.{items_of}
+use Rattle.prem_content.specs.Blocks.{Words, block_of}
+use Rattle.prem_content.specs.declared.content.Block.{Block}
+use Rattle.prem_layout.specs.Bounds.{JobBound, limit_of}
+use Rattle.prem_layout.specs.Image.{image_of}
+use Rattle.prem_layout.specs.Placed.{Coded, Placed, parts_of, placed_from}
+use Rattle.prem_placed.specs.PlacedOf.{coded_of, placed_of}
+use Rattle.prem_placed.specs.declared.task.PlacedTask.{PlacedTask}
+use Rattle.prem_placing.specs.Standing.{stands_in}
+use Rattle.prem_words.specs.Far.{words_in}
+use Rattle.prem_build_image.specs.Built as built
+use Rattle.prem_build_image.specs.Built.{image_text, HasRanges, HaveBlocks, IsBuilt}
+use Rattle.prem_tasks.specs.Broken.{TaskText, TaskSet, bounded, coded_one, programs_of}
+use Rattle.prem_tasks.specs.Broken as tasks
+use Rattle.prem_tasks.specs.Lawful as lawful
+use Rattle.prem_tasks.specs.Lawful.{IsTaskText, AreDevices, AreTasks}
+use Rattle.prem_tasks.specs.SetOf.{task_of}
+use Rattle.prem_tasks.specs.declared.set.TaskText.{TaskText as TaskTree}
+use Rattle.prem_tasks.specs.Compiled.{coded_in, parts_in, places_in, placed_in, part_name, facts_from, job_bounds, compiled}
+use Rattle.prem_totals.specs.Limits.{HasJobs}
+use Rattle.prem_telling.specs.There.{IsThere, HasName, HasCode}
+use Rattle.prem_telling.proofs.PartsThere.{parts_there}
+use Rattle.prem_compile.specs.CompiledOf.{task_fact, compiled_of}
+use Rattle.prem_compile.specs.declared.compiled.Compiled.{Compiled}
+use Rattle.prem_compile.specs.Joined.{HasPlaces}
+
+map_count : {A B : Type 0} (f : A → B) (xs : List A) → length (map f xs) ≡ length xs
+map_count f [] = refl
+map_count f (x ∷ xs) = ap suc (map_count f xs)
+
+first_is : {A : Type 0} (x y : A) (xs ys : List A) → x ∷ xs ≡ y ∷ ys → x ≡ y
+first_is x y xs ys e = cc
+
+rest_is : {A : Type 0} (x y : A) (xs ys : List A) → x ∷ xs ≡ y ∷ ys → xs ≡ ys
+rest_is x y xs ys e = cc
+
+-- ---- tasks in memory stand for stated tasks in their order
+
+abbrev head_of : TaskTree → ProgramText → Coded
+head_of t p = coded_one (task_of t) (bounded p)
+
+abbrev coded_all : List TaskTree → List ProgramText → List Coded
+coded_all ts ps = tasks.coded_of (map task_of ts) ps
+
+names_same : (xs : List PlacedTask) (ts : List TaskTree) (ps : List ProgramText) → map coded_of xs ≡ coded_all ts ps → length ps ≡ length ts → built.task_names xs ≡ lawful.task_names ts
+names_same [] [] ps e l = refl
+names_same [] (t ∷ ts) [] e l = absurd (omega (arith, l))
+names_same [] (t ∷ ts) (p ∷ ps) e l = absurd cc
+names_same (x ∷ xs) [] ps e l = absurd cc
+names_same (x ∷ xs) (t ∷ ts) [] e l = absurd (omega (arith, l))
+names_same (x ∷ xs) (t ∷ ts) (p ∷ ps) e l =
+    let here : coded_of x ≡ head_of t p = first_is (coded_of x) (head_of t p) (map coded_of xs) (coded_all ts ps) e in
+    let more : built.task_names xs ≡ lawful.task_names ts = names_same xs ts ps (rest_is (coded_of x) (head_of t p) (map coded_of xs) (coded_all ts ps) e) (omega (arith, l)) in
+    ap (λ (n : List ℕ). n ∷ built.task_names xs) (ap (λ (c : Coded). c.name) here) ∙ ap (λ (ns : List (List ℕ)). t.name ∷ ns) more
+
+as_many : (xs : List PlacedTask) (ts : List TaskTree) (ps : List ProgramText) → map coded_of xs ≡ coded_all ts ps → length ps ≡ length ts → length xs ≡ length ts
+as_many xs ts ps e l =
+    sym (map_count (λ (x : PlacedTask). x.name.now) xs) ∙ ap (λ (ns : List (List ℕ)). length ns) (names_same xs ts ps e l) ∙ map_count (λ (t : TaskTree). t.name) ts
+
+ranges_of : (x : PlacedTask) (t : TaskTree) (p : ProgramText) → coded_of x ≡ head_of t p → stands_in x → IsTaskText t → HasRanges x
+ranges_of x t p here s is =
+    let name : x.name.now ≡ t.name = ap (λ (c : Coded). c.name) here in
+    let period : x.period ≡ t.period = ap (λ (c : Coded). c.period) here in
+    let jobs : x.jobs ≡ t.jobs = ap (λ (c : Coded). c.jobs) here in
+    let globals : length (coded_of x).program.globals ≡ length x.program.now.globals.items = map_count _ x.program.now.globals.items in
+    let few = s.few in
+    record {
+      name = subst IsName (sym name) is.name;
+      period = subst (λ n. Between 1 4294967295 n) (sym period) is.period;
+      jobs = subst (λ n. Between 1 65535 n) (sym jobs) is.jobs;
+      globals = omega (arith, globals, few);
+      code = s.parts.code;
+    }
+
+each_in_range : (xs : List PlacedTask) (ts : List TaskTree) (ps : List ProgramText) → map coded_of xs ≡ coded_all ts ps → length ps ≡ length ts → AllByRecursion stands_in xs → AllByRecursion IsTaskText ts →
+    AllByRecursion HasRanges xs
+each_in_range [] ts ps e l s is = tt
+each_in_range (x ∷ xs) [] ps e l s is = absurd cc
+each_in_range (x ∷ xs) (t ∷ ts) [] e l s is = absurd (omega (arith, l))
+each_in_range (x ∷ xs) (t ∷ ts) (p ∷ ps) e l s is = (
+  ranges_of x t p (first_is (coded_of x) (head_of t p) (map coded_of xs) (coded_all ts ps) e) s.0 is.0,
+  each_in_range xs ts ps (rest_is (coded_of x) (head_of t p) (map coded_of xs) (coded_all ts ps) e) (omega (arith, l)) s.1 is.1,
+)
+
+-- ---- blocks
+
+abbrev views_of : List (List Block) → List (List Words)
+views_of bss = map (λ (bs : List Block). map block_of bs) bss
+
+pub views_lent : (all : List (Vec Block Global)) → views_of (map (λ (bs : Vec Block Global). bs.items) all) ≡ map (λ (bs : Vec Block Global). map block_of bs.items) all
+views_lent [] = refl
+views_lent (bs ∷ all) = ap (λ (views : List (List Words)). map block_of bs.items ∷ views) (views_lent all)
+
+blocks_are : (xs : List PlacedTask) (bss : List (List Block)) → views_of bss ≡ map words_in xs → HaveBlocks xs bss
+blocks_are [] bss e = tt
+blocks_are (x ∷ xs) [] e = absurd cc
+blocks_are (x ∷ xs) (bs ∷ bss) e =
+    (first_is (map block_of bs) (words_in x) (views_of bss) (map words_in xs) e, blocks_are xs bss (rest_is (map block_of bs) (words_in x) (views_of bss) (map words_in xs) e))
+
+-- ---- the whole
+
+pub set_is_built : (set : TaskSet) (ts : List TaskTree) (parts : List PartSize) (layout : List Place) (xs : List PlacedTask) (bss : List (List Block)) →
+    IsPlant set.plant → AreDevices set.devices → AreTasks ts → map task_of ts ≡ set.tasks → HasPlaces set parts layout xs → views_of bss ≡ map words_in xs → IsBuilt set.plant xs bss set.devices layout
+set_is_built set ts parts layout xs bss plant devices stated same h blocks =
+    let coded : map coded_of xs ≡ coded_all ts (programs_of set.tasks) = h.coded ∙ ap (λ (texts : List TaskText). tasks.coded_of texts (programs_of set.tasks)) (sym same) in
+    let long : length (programs_of set.tasks) ≡ length ts = h.as_many ∙ ap (λ (texts : List TaskText). length texts) (sym same) ∙ map_count task_of ts in
+    let count : length xs ≡ length ts = as_many xs ts (programs_of set.tasks) coded long in
+    record {
+      plant = plant;
+      task_count = subst (λ n. Between 1 16 n) (sym count) stated.count;
+      each_task = each_in_range xs ts (programs_of set.tasks) coded long h.standing (recursion_from_All IsTaskText ts stated.each);
+      named = subst (λ (ns : List (List ℕ)). AreDistinct ns) (sym (names_same xs ts (programs_of set.tasks) coded long)) stated.names;
+      device_count = devices.count;
+      each_device = devices.each;
+      devices_named = devices.names;
+      same = h.placed ∙ ap (λ (ps : List Place). placed_from set.plant ps (coded_in set)) (sym h.layout_is) ∙ ap (λ (cs : List Coded). placed_from set.plant layout cs) (sym h.coded);
+      coded = blocks_are xs bss blocks;
+      few = h.few;
+      placed = subst (λ (ps : List PartSize). ArePlaces set.plant.memory ps layout) (h.parts_are ∙ ap (λ (cs : List Coded). parts_of set.plant set.devices cs) (sym h.coded)) h.apart;
+    }
+
+-- as plant and devices are lent
+pub lent_is_built : (set : TaskSet) (p : Plant) (ds : List Device) (ts : List TaskTree) (parts : List PartSize) (layout : List Place) (xs : List PlacedTask) (all : List (Vec Block Global)) → p ≡ set.plant → ds ≡ set.devices →
+    IsPlant p → AreDevices ds → AreTasks ts → map task_of ts ≡ set.tasks → HasPlaces set parts layout xs → map (λ (bs : Vec Block Global). map block_of bs.items) all ≡ map words_in xs →
+    IsBuilt p xs (map (λ (bs : Vec Block Global). bs.items) all) ds layout
+lent_is_built set p ds ts parts layout xs all ep ed plant devices stated same h blocks =
+    let bss : List (List Block) = map (λ (bs : Vec Block Global). bs.items) all in
+    let base : IsBuilt set.plant xs bss set.devices layout =
+    set_is_built set ts parts layout xs bss (subst IsPlant ep plant) (subst AreDevices ed devices) stated same h (views_lent all ∙ blocks) in
+    let here : IsBuilt p xs bss set.devices layout = subst (λ (q : Plant). IsBuilt q xs bss set.devices layout) (sym ep) base in
+    subst (λ (es : List Device). IsBuilt p xs bss es layout) (sym ed) here
+
+-- ---- what names and the limit ask for
+
+has_names : (xs : List PlacedTask) → AllByRecursion HasRanges xs → AllByRecursion HasName xs
+has_names [] h = tt
+has_names (x ∷ xs) h = (h.0.name, has_names xs h.1)
+
+has_jobs : (xs : List PlacedTask) → AllByRecursion HasRanges xs → AllByRecursion HasJobs xs
+has_jobs [] h = tt
+has_jobs (x ∷ xs) h = (h.0.jobs.1, has_jobs xs h.1)
+
+has_code : (xs : List PlacedTask) → AllByRecursion HasRanges xs → AllByRecursion HasCode (map coded_of xs)
+has_code [] h = tt
+has_code (x ∷ xs) h = let same = h.0.code in (omega (arith, same), has_code xs h.1)
+
+-- what a set's placed tasks are
+pub record AreReady (set : TaskSet) (parts : List PartSize) (xs : List PlacedTask) : Type 0 where
+  pub names : AllByRecursion HasName xs
+  pub jobs : AllByRecursion HasJobs xs
+  pub there : All (IsThere set.devices (map coded_of xs)) parts
+
+pub tasks_are_ready : (set : TaskSet) (ts : List TaskTree) (parts : List PartSize) (layout : List Place) (xs : List PlacedTask) →
+    AreTasks ts → map task_of ts ≡ set.tasks → HasPlaces set parts layout xs → AreReady set parts xs
+tasks_are_ready set ts parts layout xs stated same h =
+    let coded : map coded_of xs ≡ coded_all ts (programs_of set.tasks) = h.coded ∙ ap (λ (texts : List TaskText). tasks.coded_of texts (programs_of set.tasks)) (sym same) in
+    let long : length (programs_of set.tasks) ≡ length ts = h.as_many ∙ ap (λ (texts : List TaskText). length texts) (sym same) ∙ map_count task_of ts in
+    let ranges : AllByRecursion HasRanges xs = each_in_range xs ts (programs_of set.tasks) coded long h.standing (recursion_from_All IsTaskText ts stated.each) in
+    let all : parts_of set.plant set.devices (map coded_of xs) ≡ parts = ap (λ (cs : List Coded). parts_of set.plant set.devices cs) h.coded ∙ sym h.parts_are in
+    record {
+      names = has_names xs ranges;
+      jobs = has_jobs xs ranges;
+      there = subst (λ (ps : List PartSize). All (IsThere set.devices (map coded_of xs)) ps) all (parts_there set.plant set.devices (map coded_of xs) (has_code xs ranges));
+    }
+
+pub lent_there : (set : TaskSet) (ds : List Device) (parts : List PartSize) (xs : List PlacedTask) → ds ≡ set.devices → AreReady set parts xs → All (IsThere ds (map coded_of xs)) parts
+lent_there set ds parts xs ed ready = subst (λ (es : List Device). All (IsThere es (map coded_of xs)) parts) (sym ed) ready.there
+
+-- ---- what is told of all parts together
+
+pub compiled_is : (set : TaskSet) (parts : List PartSize) (layout : List Place) (xs : List PlacedTask) (c : Compiled) → HasPlaces set parts layout xs →
+    image_text c.image ≡ image_of set.plant set.devices layout (map coded_of xs) → c.layout ≡ layout → items_of c.parts ≡ parts →
+    map name_bytes (items_of c.names) ≡ map (part_name set.devices (map coded_of xs)) parts → map task_fact (items_of c.intervals) ≡ facts_from set.plant 0 (map placed_of xs) →
+    items_of c.jobs ≡ map (λ (j : JobBound). j.bound) (job_bounds set.plant (map placed_of xs)) → c.limit ≡ limit_of (job_bounds set.plant (map placed_of xs)) → compiled_of c ≡ compiled set
+compiled_is set parts layout xs c h image at all names intervals jobs limit =
+    let image_is : image_text c.image ≡ image_of set.plant set.devices (places_in set) (coded_in set) =
+    image ∙ ap (λ (ps : List Place). image_of set.plant set.devices ps (map coded_of xs)) h.layout_is ∙ ap (λ (cs : List Coded). image_of set.plant set.devices (places_in set) cs) h.coded in
+    let layout_is : c.layout ≡ places_in set = at ∙ h.layout_is in
+    let parts_are : items_of c.parts ≡ parts_in set = all ∙ h.parts_are in
+    let names_are : map name_bytes (items_of c.names) ≡ map (part_name set.devices (coded_in set)) (parts_in set) =
+    names ∙ ap (λ (cs : List Coded). map (part_name set.devices cs) parts) h.coded ∙ ap (λ (ps : List PartSize). map (part_name set.devices (coded_in set)) ps) h.parts_are in
+    let intervals_are : map task_fact (items_of c.intervals) ≡ facts_from set.plant 0 (placed_in set) = intervals ∙ ap (λ (ps : List Placed). facts_from set.plant 0 ps) h.placed in
+    let jobs_are : items_of c.jobs ≡ map (λ (j : JobBound). j.bound) (job_bounds set.plant (placed_in set)) =
+    jobs ∙ ap (λ (ps : List Placed). map (λ (j : JobBound). j.bound) (job_bounds set.plant ps)) h.placed in
+    let limit_is : c.limit ≡ limit_of (job_bounds set.plant (placed_in set)) = limit ∙ ap (λ (ps : List Placed). limit_of (job_bounds set.plant ps)) h.placed in
+    λ i. record {
+      image = image_is i;
+      layout = layout_is i;
+      parts = parts_are i;
+      names = names_are i;
+      intervals = intervals_are i;
+      jobs = jobs_are i;
+      limit = limit_is i;
+    }

@@ -1,0 +1,4 @@
+pub mod PartsThere
+pub mod Naming
+pub mod Flattened
+pub mod Limits
