@@ -1,4 +1,4 @@
-//! From the text of a program to its tree.
+//! From the text of a program to its tree, and back to its canonical spelling.
 #![tactic(auto)]
 
 mod annotation;
@@ -9,5 +9,6 @@ mod program;
 mod stage;
 mod typing;
 
+pub use prem_print::print;
 pub use prem_token::FrontFail;
 pub use program::parse;
