@@ -3,7 +3,7 @@
 // Each line of a file has the call at which the store fails and that at which the sink does, 0 for none, and then the
 // words.
 
-use crate::sources::on_one_line;
+use crate::sources::{on_one_line, with_lines};
 use prem_io::{FileMap, MemorySink, MemoryStore, SteadySink, SteadyStore};
 use prem_top::{Status, prem};
 use std::alloc::{AllocError, Global};
@@ -29,7 +29,17 @@ fn add_images(alloc: Global, files: &mut FileMap, image: &[u8]) -> Result<(), Al
     Ok(())
 }
 
-/// The files of the store: those of the folder, a source that is a byte too long, and images.
+/// Adds the files of a list: each of its lines has a name, a blank, and a text with a `$` for each end of a line.
+fn add_listed(alloc: Global, files: &mut FileMap, list: &str) -> Result<(), AllocError> {
+    for line in list.lines() {
+        if let Some((name, text)) = line.split_once(' ') {
+            let _added = files.add(alloc, name, &with_lines(alloc, text.as_bytes())?)?;
+        }
+    }
+    Ok(())
+}
+
+/// The files of the store: those of the folder, those of a list, a source that is a byte too long, and images.
 fn files(rt: &(impl Files + AllocGlobal)) -> io::Result<FileMap> {
     let alloc = rt.alloc();
     let mut files = FileMap::new(alloc);
@@ -37,6 +47,7 @@ fn files(rt: &(impl Files + AllocGlobal)) -> io::Result<FileMap> {
         let bytes = fs::read(rt, name)?;
         let _added = files.add(alloc, name, &bytes)?;
     }
+    add_listed(alloc, &mut files, &fs::read_to_string(rt, "files.txt")?)?;
     let _long = files.add(alloc, "long.c", &vec![in alloc; b' '; 1_048_577]?)?;
     add_images(alloc, &mut files, &fs::read(rt, "marked.img")?)?;
     Ok(files)
@@ -50,6 +61,30 @@ fn number(word: Option<&str>) -> u64 {
     }
 }
 
+/// A byte as two hexadecimal digits.
+fn push_hex(text: &mut String, byte: u8) -> Result<(), AllocError> {
+    for digit in [byte / 16, byte % 16] {
+        text.push(char::from(if digit < 10 {
+            b'0' + digit
+        } else {
+            b'W' + digit
+        }))?;
+    }
+    Ok(())
+}
+
+/// What was written: an image by its bytes, any other text on one line.
+fn shown(alloc: Global, bytes: &[u8]) -> Result<String, AllocError> {
+    if !bytes.starts_with(b"PREM") {
+        return on_one_line(alloc, bytes);
+    }
+    let mut text = String::new(alloc);
+    for byte in bytes {
+        push_hex(&mut text, *byte)?;
+    }
+    Ok(text)
+}
+
 /// Tells the answer to a line. The sink takes four bytes in a call. The calls count from 1.
 fn tell_line(rt: &(impl Print + Files + AllocGlobal), line: &str) -> io::Result<()> {
     let alloc = rt.alloc();
@@ -61,14 +96,15 @@ fn tell_line(rt: &(impl Print + Files + AllocGlobal), line: &str) -> io::Result<
         words.push(String::from_str(alloc, word)?)?;
     }
     let mut store = MemoryStore::new(files(rt)?, vec![in alloc; read_fault]?);
-    let mut sink = MemorySink::new(alloc, 1000, 4, vec![in alloc; write_fault]?)?;
+    let mut sink = MemorySink::new(alloc, 100_000, 4, vec![in alloc; write_fault]?)?;
     let status = prem(alloc, &words, &mut store, &mut sink);
-    let written = on_one_line(alloc, sink.bytes())?;
+    let written = shown(alloc, sink.bytes())?;
     println!(rt; "{line} => {status:?} {written}")
 }
 
-pub fn tell(rt: &(impl Print + Files + AllocGlobal)) -> io::Result<()> {
-    let file = fs::read_to_string(rt, "commands.txt")?;
+/// Tells the answers to the lines of a file.
+pub fn tell(rt: &(impl Print + Files + AllocGlobal), name: &str) -> io::Result<()> {
+    let file = fs::read_to_string(rt, name)?;
     for line in file.lines() {
         tell_line(rt, line)?;
     }

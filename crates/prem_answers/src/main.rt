@@ -13,6 +13,8 @@ use std::io;
 fn main(rt: HostRuntime) -> io::Result<()> {
     sources::tell(&rt)?;
     limits::tell(&rt, rt.alloc())?;
-    commands::tell(&rt)?;
+    commands::tell(&rt, "commands.txt")?;
+    commands::tell(&rt, "sets.txt")?;
+    commands::tell(&rt, "runs.txt")?;
     commands::tell_steady(&rt)
 }

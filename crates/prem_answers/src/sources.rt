@@ -33,7 +33,7 @@ pub fn on_one_line(alloc: Global, bytes: &[u8]) -> Result<String, AllocError> {
 }
 
 /// A source with the end of a line for each `$`.
-fn with_lines(alloc: Global, text: &[u8]) -> Result<Vec<u8>, AllocError> {
+pub fn with_lines(alloc: Global, text: &[u8]) -> Result<Vec<u8>, AllocError> {
     let mut bytes = Vec::new(alloc);
     for byte in text {
         bytes.push(if *byte == b'$' { b'\n' } else { *byte })?;

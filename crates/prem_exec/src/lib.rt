@@ -7,3 +7,4 @@ mod run;
 
 pub use exec::exec_answer;
 pub use files::line_form;
+pub use run::{run_answer, run_image, stop_status};

@@ -16,7 +16,7 @@ use prem_report::report;
 use std::alloc::{AllocError, Global};
 
 /// A run that traps has a status of its own.
-fn stop_status(stop: Stop) -> Status
+pub fn stop_status(stop: Stop) -> Status
     ensures { result ≡ stop_status stop }
 {
     match stop {
@@ -26,7 +26,7 @@ fn stop_status(stop: Stop) -> Status
 }
 
 /// The machine behind the run of an image up to a cycle, and why it stopped.
-fn run_image(
+pub fn run_image(
     alloc: Global,
     image: &Image,
     input: &RunInput,
@@ -43,7 +43,7 @@ fn run_image(
 }
 
 /// What is told of the run of an image up to a cycle, with its intervals and transfers where `times` says so.
-pub(crate) fn run_answer(
+pub fn run_answer(
     alloc: Global,
     image: &Image,
     input: &RunInput,

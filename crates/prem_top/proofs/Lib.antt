@@ -1,4 +1,4 @@
 pub mod Written
 pub mod Told
-pub mod Runs
-pub mod Refusals
+pub mod Complete
+pub mod Rows

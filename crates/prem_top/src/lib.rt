@@ -1,8 +1,6 @@
 //! The answer of the program to its words: over the files of a store, written to a sink.
 #![tactic(auto)]
 
-mod machine;
-mod texts;
 mod top;
 mod write;
 

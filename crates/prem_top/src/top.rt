@@ -1,114 +1,36 @@
 // The top call.
-ghost use Rattle.std.specs.Prelude.{◌≡◌, ◌≤◌, ◌⊎◌, IfOk, IsErrOf, IsTrue, Ok, map, string_bytes};
+ghost use Rattle.std.specs.Prelude.{◌≡◌, ◌≤◌, ◌⊎◌, IsErrOf, IsTrue, Ok, map, string_bytes};
 ghost use Rattle.prem_io.specs.Counts.{Rose};
-ghost use Rattle.prem_syntax.specs.SyntaxOf.{program_of};
-ghost use Rattle.prem_text.specs.Texts.{reads};
 ghost use Rattle.prem_command.specs.Words.{asked_in, command_of};
 ghost use Rattle.prem_answer.specs.Stages.{Comes, IsGiven, is_settled, reply_of};
-ghost use Rattle.prem_top.specs.Answer.{Answered, Ends, asked_answer, command_answer, one_stages, program_answer, refusal_line, source_answer, usage_reply, well_formed_answer};
+ghost use Rattle.prem_top.specs.Answer.{Answered, Ends, asked_answer, command_answer, usage_reply};
+ghost use Rattle.prem_top.specs.Complete.{IsComplete};
 
-use crate::machine::run_text;
-use crate::texts::fail_line;
 use crate::write::write_all;
-use prem_answer::{Answer, Halt, Status, read_file};
+use prem_answer::{Answer, Halt, Status};
+use prem_build::{Sheet, sheet_answer};
 use prem_command::{Said, WordsFail, command};
 use prem_exec::exec_answer;
-use prem_front::parse;
 use prem_io::{Sink, Store};
-use prem_judge::{Judged, judge};
-use prem_small::is_small;
-use prem_syntax::Program;
-use std::alloc::{AllocError, Global};
+use prem_one::one_answer;
+use prem_running::run_answer;
+use prem_sample::sample_answer;
+use prem_source::source_answer;
+use std::alloc::Global;
 
-/// The greatest number of bytes of a source.
-const SOURCE_LIMIT: usize = 1048576;
-
-/// The answer to a program that breaks no rule.
-fn well_formed_answer(alloc: Global, program: &Program) -> Result<Answer, AllocError>
-    ensures answer { IfOk result (λ a. reply_of a ≡ well_formed_answer (program_of program.now)) }
-{
-    if !is_small(program) {
-        return Ok(Answer {
-            status: Status::Refused,
-            text: b"refused one unbuilt\n".to_vec(alloc)?,
-        });
-    }
-    let text = run_text(alloc, program)?;
-    Ok(Answer {
-        status: Status::Done,
-        text,
-    })
-}
-
-/// The line of a refusal by a rule.
-fn refusal_line(alloc: Global, text: &[u8]) -> Result<Vec<u8>, AllocError>
-    ensures { IfOk result (λ line. line.items ≡ refusal_line text.now) }
-{
-    let mut line = b"refused one ".to_vec(alloc)?;
-    line.extend_from_slice(text)?;
-    line.extend_from_slice(b"\n")?;
-    Ok(line)
-}
-
-/// The answer to a program: the refusal by the first rule that it breaks, if it breaks one.
-fn program_answer(alloc: Global, program: Program) -> Result<Answer, AllocError>
-    ensures answer { IfOk result (λ a. reply_of a ≡ program_answer (program_of program)) }
-{
-    match judge(alloc, program)? {
-        Judged::Kept(analysed) => {
-            let answer = well_formed_answer(alloc, analysed.checked().program())?;
-            Ok(answer)
-        }
-        Judged::Broken(text) => {
-            let text = refusal_line(alloc, &text)?;
-            Ok(Answer {
-                status: Status::Refused,
-                text,
-            })
-        }
-    }
-}
-
-/// The answer to a source: the refusal of its tokens or grammar, else that to its program.
-fn source_answer(alloc: Global, source: &[u8]) -> Result<Answer, AllocError>
-    ensures answer { IfOk result (λ a. reply_of a ≡ source_answer (reads source.now)) }
-{
-    match parse(alloc, source) {
-        Ok(program) => program_answer(alloc, program),
-        Err(fail) => {
-            let text = fail_line(alloc, &fail)?.into_bytes();
-            Ok(Answer {
-                status: Status::Refused,
-                text,
-            })
-        }
-    }
-}
+/// The usage line.
+const USAGE: &str =
+    "usage: prem one FILE | check SET | build SET | list SET | source SET RUN | run SET RUN [--cycles N] [--intervals] | exec IMAGE RUN [--cycles N] [--intervals] | sample N\n";
 
 /// The usage line, where there is no such command.
 fn no_command(alloc: Global) -> Result<Answer, Halt>
     ensures usage { Comes reply_of (λ given. given ≡ Ok usage_reply) result }
     ensures unread { IsErrOf result Halt.ReadFault → ⊥ }
 {
-    let line = "usage: prem one FILE | exec IMAGE RUN [--cycles N] [--intervals]\n";
     Ok(Answer {
         status: Status::Usage,
-        text: line.as_bytes().to_vec(alloc)?,
+        text: USAGE.as_bytes().to_vec(alloc)?,
     })
-}
-
-/// The answer to `one FILE`.
-fn one_answer<S: Store>(alloc: Global, file: &str, store: &mut S) -> Result<Answer, Halt>
-    ensures answer { Comes reply_of (IsGiven (S.files store.old) (one_stages file.now)) result }
-    ensures fault { IsErrOf result Halt.ReadFault → Rose (S.faults store.old) (S.faults store.new) }
-    ensures later { S.faults store.old ≤ S.faults store.new }
-    ensures same { S.files store.new ≡ S.files store.old }
-{
-    let source = match read_file(alloc, store, file, SOURCE_LIMIT) {
-        Ok(source) => source,
-        Err(halt) => return Err(halt),
-    };
-    Ok(source_answer(alloc, &source)?)
 }
 
 /// The answer to what the words ask for.
@@ -121,12 +43,12 @@ fn asked_answer<S: Store>(alloc: Global, said: &Said, store: &mut S) -> Result<A
     match said {
         Said::One { file } => one_answer(alloc, file, store),
         Said::Exec(asked) => exec_answer(alloc, asked, store),
-        Said::Check { .. } => no_command(alloc),
-        Said::Build { .. } => no_command(alloc),
-        Said::List { .. } => no_command(alloc),
-        Said::Source { .. } => no_command(alloc),
-        Said::Run(_) => no_command(alloc),
-        Said::Sample { .. } => no_command(alloc),
+        Said::Check { set } => sheet_answer(alloc, Sheet::Bounds, set, store),
+        Said::Build { set } => sheet_answer(alloc, Sheet::Image, set, store),
+        Said::List { set } => sheet_answer(alloc, Sheet::Listing, set, store),
+        Said::Source { set, run } => source_answer(alloc, set, run, store),
+        Said::Run(asked) => run_answer(alloc, asked, store),
+        Said::Sample { seed } => sample_answer(alloc, *seed),
     }
 }
 
@@ -170,6 +92,9 @@ pub fn prem<S: Store, K: Sink>(
     sink: &mut K,
 ) -> Status
     ensures answered { Answered (map string_bytes words.now) (S.files store.old) (K.bytes sink.old) (K.bytes sink.new) result }
+
+    // Where a command's files are there and in form, no rule is broken and no fault is counted, its text is written, but for want of memory.
+    ensures complete { (Rose (S.faults store.old) (S.faults store.new) → ⊥) → (Rose (K.faults sink.old) (K.faults sink.new) → ⊥) → IsComplete (map string_bytes words.now) (S.files store.old) (K.bytes sink.old) (K.bytes sink.new) result }
 
     // A fault is answered only where it was counted.
     ensures read { result ≡ Status.ReadFault → Rose (S.faults store.old) (S.faults store.new) }

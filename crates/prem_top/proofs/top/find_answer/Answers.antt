@@ -3,8 +3,8 @@ use Rattle.std.proofs.Common.{◌≡◌, sym, subst}
 use Rattle.prem_io.specs.Files.{Files}
 use Rattle.prem_command.specs.Words.{Asked}
 use Rattle.prem_answer.specs.Stages.{Comes, IsGiven, reply_of}
-use Rattle.prem_top.specs.Answer.{command_answer}
-use Rattle.prem_top.proofs.Told.{none_given}
+use Rattle.prem_top.specs.Answer.{command_answer, usage_reply}
+use Rattle.prem_top.proofs.Told.{given_at_once}
 use Rattle.prem_top.proofs.top.find_answer.Goals as goal
 
 pub returns-in-Ok-clause-answer : goal.returns-in-Ok-clause-answer
@@ -16,7 +16,7 @@ pub returns-in-Err-Usage-clause-answer : goal.returns-in-Err-Usage-clause-answer
 returns-in-Err-Usage-clause-answer g c =
     let told : Option Files = g.S.Store.files c.args.store.now in
     let none = rw c.in-Err-Usage.field-0-is at c.in-Err-Usage.ensures in
-    subst (λ (o : Option Asked). Comes reply_of (IsGiven told (command_answer o)) c.no_command.result) (sym none) (none_given told c.no_command.result c.no_command.ensures.usage)
+    subst (λ (o : Option Asked). Comes reply_of (IsGiven told (command_answer o)) c.no_command.result) (sym none) (given_at_once told usage_reply c.no_command.result c.no_command.ensures.usage)
 
 pub returns-in-Err-Usage-clause-fault : goal.returns-in-Err-Usage-clause-fault
 returns-in-Err-Usage-clause-fault g c h = absurd (c.no_command.ensures.unread h)

@@ -2,6 +2,7 @@ use Rattle.std.specs.Prelude.{Option, Ok, Err, map, string_bytes}
 use Rattle.prem_io.specs.Files.{Files}
 use Rattle.prem_answer.specs.Stages.{reply_of}
 use Rattle.prem_top.proofs.Told.{given_is_answer, given_is_settled, read_fault_is, no_memory_is}
+use Rattle.prem_top.proofs.Complete.{complete_is, not_read_fault}
 use Rattle.prem_top.proofs.top.prem.Goals as goal
 
 pub finish-requires : goal.finish-requires
@@ -33,3 +34,16 @@ returns-in-Err-ReadFault-clause-answered g c = read_fault_is _ _ _
 
 pub returns-in-Err-OutOfMemory-clause-answered : goal.returns-in-Err-OutOfMemory-clause-answered
 returns-in-Err-OutOfMemory-clause-answered g c = no_memory_is _ _ _
+
+pub returns-in-Ok-clause-complete : goal.returns-in-Ok-clause-complete
+returns-in-Ok-clause-complete g c unread unwritten =
+    complete_is _ _ _ _ _ (returns-in-Ok-clause-answered g c) (not_read_fault c.finish.result c.finish.ensures.others) (λ is. unwritten (c.finish.ensures.write is))
+
+pub returns-in-Err-Answered-clause-complete : goal.returns-in-Err-Answered-clause-complete
+returns-in-Err-Answered-clause-complete g c unread unwritten =
+    complete_is _ _ _ _ _ (returns-in-Err-Answered-clause-answered g c) (not_read_fault c.finish-in-Err-Answered.result c.finish-in-Err-Answered.ensures.others)
+    (λ is. unwritten (c.finish-in-Err-Answered.ensures.write is))
+
+pub returns-in-Err-OutOfMemory-clause-complete : goal.returns-in-Err-OutOfMemory-clause-complete
+returns-in-Err-OutOfMemory-clause-complete g c unread unwritten =
+    complete_is _ _ _ _ _ (returns-in-Err-OutOfMemory-clause-answered g c) (λ is. cc) (λ is. cc)

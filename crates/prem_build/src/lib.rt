@@ -1,0 +1,8 @@
+//! The answers to `check SET`, `build SET` and `list SET`.
+#![tactic(auto)]
+
+mod answer;
+mod sheet;
+
+pub use answer::sheet_answer;
+pub use sheet::Sheet;

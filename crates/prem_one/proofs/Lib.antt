@@ -1,0 +1,10 @@
+pub mod Jobs
+pub mod Kept
+pub mod Sets
+pub mod Stages
+pub mod Told
+pub mod Runs
+pub mod Charges
+pub mod Begins
+pub mod Small
+pub mod Samples

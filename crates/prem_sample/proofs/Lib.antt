@@ -1,0 +1,5 @@
+pub mod Numbers
+pub mod Lawful
+pub mod Told
+pub mod Texts
+pub mod Samples

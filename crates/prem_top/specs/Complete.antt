@@ -1,0 +1,101 @@
+-- When a command succeeds: its files are there and in form, and no rule is broken.
+use Rattle.std.specs.Prelude.{◌≡◌, ◌≤◌, ◌⊎◌, ⊤, ℕ, List, [], ◌∷◌, length, Option, None, Some, Ok}
+use Rattle.std.specs.Io.KnownBytes.{append_known}
+use Rattle.prem_io.specs.Files.{Files, stored}
+use Rattle.prem_set.specs.declared.task.TaskEntry.{TaskEntry}
+use Rattle.prem_set.specs.SetFile.{SetData, set_of as set_of_text}
+use Rattle.prem_run.specs.Run.{Gathered, run_of as lines_of_run}
+use Rattle.prem_imagefile.specs.Parts.{Parts}
+use Rattle.prem_imagefile.specs.Reading.{read_as}
+use Rattle.prem_imagefile.specs.Spelling.{image_bytes}
+use Rattle.prem_fitting.specs.Named.{names_for}
+use Rattle.prem_tasks.specs.Broken.{TaskText, TaskSet, broken, programs_of}
+use Rattle.prem_tasks.specs.Compiled.{compiled}
+use Rattle.prem_command.specs.Words.{Asked, one, check, build, list, source, run, exec, sample, RunAsked, command_of}
+use Rattle.prem_answer.specs.declared.status.Status.{Status}
+use Rattle.prem_answer.specs.declared.status.Status.TheVariants.{Done, OutOfMemory}
+use Rattle.prem_answer.specs.Stages.{Reply}
+use Rattle.prem_exec.specs.Forms.{RunText}
+use Rattle.prem_exec.specs.Exec.{exec_limit, image_limit, run_reply}
+use Rattle.prem_sources.specs.Sources.{names_of, run_limit, set_limit, set_with, source_limit, task_with}
+use Rattle.prem_sheet.specs.Check.{check_text}
+use Rattle.prem_sheet.specs.Listing.{list_text}
+use Rattle.prem_build.specs.Build.{file_parts}
+use Rattle.prem_one.specs.One.{one_set, run_text, state_of}
+use Rattle.prem_source.specs.Source.{tasks_text}
+use Rattle.prem_running.specs.Running.{compiled_reply as run_reply_of}
+use Rattle.prem_sample.specs.Trace.{sample_set}
+use Rattle.prem_sample.specs.Sample.{compiled_reply as sample_reply_of}
+
+-- ---- files
+
+-- a file of at most so many bytes is there
+pub record IsThere (files : Files) (limit : ℕ) (name bytes : List ℕ) : Type 0 where
+  pub bytes_are : stored files name ≡ Some bytes
+  pub short : length bytes ≤ limit
+
+-- the sources of a set's entries are there, and are the texts of these tasks
+abbrev pub SourcesAreThere : Files → List TaskEntry → List TaskText → Type 0
+SourcesAreThere files [] [] = ⊤
+SourcesAreThere files [] (t ∷ ts) = ⊥
+SourcesAreThere files (e ∷ es) [] = ⊥
+SourcesAreThere files (e ∷ es) (t ∷ ts) = (t ≡ task_with e t.text) × IsThere files source_limit e.source t.text × SourcesAreThere files es ts
+
+-- a set's file is there and in form, and so are its sources
+pub record SetIsThere (files : Files) (name : List ℕ) (set : TaskSet) : Type 0 where
+  pub bytes : List ℕ
+  pub file : IsThere files set_limit name bytes
+  pub stated : SetData
+  pub formed : set_of_text bytes ≡ Ok stated
+  pub sources : SourcesAreThere files stated.tasks set.tasks
+  pub set_is : set ≡ set_with stated set.tasks
+
+abbrev pub run_text_of : Gathered → RunText
+run_text_of g = record { words = g.words; requests = g.requests }
+
+-- a set's run file is there and in form
+pub record RunIsThere (files : Files) (set : TaskSet) (name : List ℕ) (input : RunText) : Type 0 where
+  pub bytes : List ℕ
+  pub file : IsThere files run_limit name bytes
+  pub lines : Gathered
+  pub formed : lines_of_run bytes (names_of set) ≡ Ok lines
+  pub input_is : input ≡ run_text_of lines
+
+-- an image file and its run file are there and in form
+pub record ImageIsThere (files : Files) (asked : RunAsked) (image : Parts) (input : RunText) : Type 0 where
+  pub bytes : List ℕ
+  pub file : IsThere files image_limit asked.of bytes
+  pub formed : read_as bytes ≡ Ok image
+  pub run_bytes : List ℕ
+  pub run_file : IsThere files run_limit asked.run run_bytes
+  pub lines : Gathered
+  pub run_formed : lines_of_run run_bytes (names_for image.tasks image.devices) ≡ Ok lines
+  pub input_is : input ≡ run_text_of lines
+
+-- ---- commands
+
+-- what is asked for succeeds over these files, with this status and text
+pub data Succeeds (files : Files) : Asked → Reply → Type 0 where
+  one_succeeds : {file bytes : List ℕ} → IsThere files source_limit file bytes → broken (one_set bytes) ≡ None →
+      Succeeds files (one file) (Done, run_text (state_of (compiled (one_set bytes))))
+  check_succeeds : {name : List ℕ} {set : TaskSet} → SetIsThere files name set → broken set ≡ None → Succeeds files (check name) (Done, check_text (compiled set))
+  build_succeeds : {name : List ℕ} {set : TaskSet} → SetIsThere files name set → broken set ≡ None →
+      Succeeds files (build name) (Done, image_bytes (file_parts (compiled set).image))
+  list_succeeds : {name : List ℕ} {set : TaskSet} → SetIsThere files name set → broken set ≡ None → Succeeds files (list name) (Done, list_text (compiled set))
+  source_succeeds : {name run : List ℕ} {set : TaskSet} {input : RunText} → SetIsThere files name set → RunIsThere files set run input → broken set ≡ None →
+      Succeeds files (source name run) (Done, tasks_text set.tasks (programs_of set.tasks) input.words)
+  run_succeeds : {asked : RunAsked} {set : TaskSet} {input : RunText} → SetIsThere files asked.of set → RunIsThere files set asked.run input → broken set ≡ None →
+      Succeeds files (run asked) (run_reply_of asked input (compiled set))
+  exec_succeeds : {asked : RunAsked} {image : Parts} {input : RunText} → ImageIsThere files asked image input →
+      Succeeds files (exec asked) (run_reply image input asked.intervals (exec_limit asked.cycles))
+  sample_succeeds : {seed : ℕ} → broken (sample_set seed) ≡ None → Succeeds files (sample seed) (sample_reply_of seed (compiled (sample_set seed)))
+
+-- what a call wrote with this status: the whole text, or nothing for want of memory
+abbrev pub Completes : Reply → Option (List ℕ) → Option (List ℕ) → Status → Type 0
+Completes reply old new status =
+    ((status ≡ OutOfMemory) × (new ≡ old)) ⊎ ((status ≡ reply.0) × (new ≡ append_known old reply.1))
+
+-- with words that ask for this, over files that a store tells, what a call wrote completes the command
+abbrev pub IsComplete : List (List ℕ) → Option Files → Option (List ℕ) → Option (List ℕ) → Status → Type 0
+IsComplete words told old new status =
+    (files : Files) (asked : Asked) (reply : Reply) → told ≡ Some files → command_of words ≡ Some asked → Succeeds files asked reply → Completes reply old new status
