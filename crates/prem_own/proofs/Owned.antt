@@ -22,7 +22,7 @@ use Rattle.prem_own.specs.Owned.{is_held, owns_first, own_of, HasCode, OwnBytesA
 
 -- ---- lists
 
-get_drop : {A : Type 0} → (n i : ℕ) (xs : List A) → slice_get (drop n xs) i ≡ slice_get xs (n + i)
+pub get_drop : {A : Type 0} → (n i : ℕ) (xs : List A) → slice_get (drop n xs) i ≡ slice_get xs (n + i)
 get_drop zero i xs = let e : 0 + i ≡ i = omega arith in ap (slice_get xs) (sym e)
 get_drop (suc n) i [] = nothing i (suc n + i) where
   nothing : {B : Type 0} → (i j : ℕ) → slice_get {X = B} [] i ≡ slice_get {X = B} [] j
@@ -32,7 +32,7 @@ get_drop (suc n) i [] = nothing i (suc n + i) where
   nothing (suc i) (suc j) = refl
 get_drop (suc n) i (x ∷ xs) = let e : suc n + i ≡ suc (n + i) = omega arith in get_drop n i xs ∙ ap (slice_get (x ∷ xs)) (sym e)
 
-get_behind : {A : Type 0} → (xs ys : List A) (i : ℕ) → slice_get (xs ++ ys) (length xs + i) ≡ slice_get ys i
+pub get_behind : {A : Type 0} → (xs ys : List A) (i : ℕ) → slice_get (xs ++ ys) (length xs + i) ≡ slice_get ys i
 get_behind [] ys i = let e : 0 + i ≡ i = omega arith in ap (slice_get ys) e
 get_behind (x ∷ xs) ys i = let e : suc (length xs) + i ≡ suc (length xs + i) = omega arith in ap (slice_get (x ∷ (xs ++ ys))) e ∙ get_behind xs ys i
 
@@ -98,7 +98,7 @@ globals_long : (task n : ℕ) (gs : List GlobalVariable) → length (global_part
 globals_long task n [] = refl
 globals_long task n (g ∷ gs) = ap suc (globals_long task (n + 1) gs)
 
-task_long : (passes : Passes) (n : ℕ) (c : Coded) → HasCode c → length (task_parts passes n (sized_of c).sizes c.program) ≡ part_count c.program
+pub task_long : (passes : Passes) (n : ℕ) (c : Coded) → HasCode c → length (task_parts passes n (sized_of c).sizes c.program) ≡ part_count c.program
 task_long passes n c h =
     let a : List PartSize = code_parts n 0 (map size_of c.code) in
     let b : List PartSize = stub_parts passes n (plans_of c.program) in
@@ -109,7 +109,7 @@ task_long passes n c h =
     let tail : List PartSize = part n Stack (stack_size c.program) 16 ∷ [] in
     omega (arith, length-append a (b ++ (g ++ tail)), length-append b (g ++ tail), length-append g tail, x, y, z)
 
-parts_long : (passes : Passes) (n : ℕ) (tasks : List Coded) → All HasCode tasks → length (parts_from passes n (map sized_of tasks)) ≡ part_total tasks
+pub parts_long : (passes : Passes) (n : ℕ) (tasks : List Coded) → All HasCode tasks → length (parts_from passes n (map sized_of tasks)) ≡ part_total tasks
 parts_long passes n [] h = refl
 parts_long passes n (c ∷ cs) h =
     let one : length (task_parts passes n (sized_of c).sizes c.program) ≡ part_count c.program = task_long passes n c (h 0 c (omega arith)) in
@@ -117,16 +117,16 @@ parts_long passes n (c ∷ cs) h =
     omega (arith, length-append (task_parts passes n (sized_of c).sizes c.program) (parts_from passes (n + 1) (map sized_of cs)), one, rest)
 
 -- a device of the image: its part, its place, and its area
-record AreaAt (line n : ℕ) (devices : List Device) (places : List Place) (d : ℕ) : Type 0 where
-  this : PartSize
-  place : Place
-  there : slice_get (area_parts line n devices) d ≡ Some this
-  area : IsArea this.kind
-  at : slice_get places d ≡ Some place
-  record_is : (slice_index_or (device_records devices places) d no_device).area ≡ place.0
-  size_is : this.size ≡ (slice_index_or (device_records devices places) d no_device).device.lines * line
+pub record AreaAt (line n : ℕ) (devices : List Device) (places : List Place) (d : ℕ) : Type 0 where
+  pub this : PartSize
+  pub place : Place
+  pub there : slice_get (area_parts line n devices) d ≡ Some this
+  pub area : IsArea this.kind
+  pub at : slice_get places d ≡ Some place
+  pub record_is : (slice_index_or (device_records devices places) d no_device).area ≡ place.0
+  pub size_is : this.size ≡ (slice_index_or (device_records devices places) d no_device).device.lines * line
 
-area_at : (line n : ℕ) (devices : List Device) (places : List Place) (d : ℕ) → d < length (device_records devices places) → AreaAt line n devices places d
+pub area_at : (line n : ℕ) (devices : List Device) (places : List Place) (d : ℕ) → d < length (device_records devices places) → AreaAt line n devices places d
 area_at line n [] places d lt = absurd (omega (arith, lt))
 area_at line n (x ∷ xs) [] d lt = absurd (omega (arith, lt))
 area_at line n (x ∷ xs) (q ∷ places) zero lt = record { this = part 0 (Area n) (x.lines * line) line; place = q; there = refl; area = tt; at = refl; record_is = refl; size_is = refl }

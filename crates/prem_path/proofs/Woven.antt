@@ -115,7 +115,7 @@ module _ (plant : Plant) (passes : ℕ → ℕ) (reads : Reading) (s : Setting) 
         fits = y.fits;
       }
 
-  woven_is_way : IsWay s own ended CalmAt R
+  pub woven_is_way : IsWay s own ended CalmAt R
   woven_is_way = record {
     none = λ at t phase fits. record { weave = ends; dids = refl; is_weave = tt; goes_along = refl; phase = phase; fits = fits };
     join = woven_join;

@@ -213,9 +213,9 @@ module _ (plant : Plant) (passes : ℕ → ℕ) (reads : Reading) (marks : List 
 -- ---- the run
 
 -- a run along a weave executes its instructions
-record Runs (run : TaskRun) (x : PlainState) (w : Weave) (y : PlainState) : Type 0 where
-  state : plain_steps run (length (dids_of w)) x ≡ y
-  trace : plain_trace run (length (dids_of w)) x ≡ dids_of w
+pub record Runs (run : TaskRun) (x : PlainState) (w : Weave) (y : PlainState) : Type 0 where
+  pub state : plain_steps run (length (dids_of w)) x ≡ y
+  pub trace : plain_trace run (length (dids_of w)) x ≡ dids_of w
 
 no_steps : (run : TaskRun) (x : PlainState) → (plain_steps run 0 x ≡ x) × (plain_trace run 0 x ≡ [])
 unfolding plain_steps plain_trace
@@ -229,7 +229,7 @@ one_state : (run : TaskRun) (x : PlainState) → plain_steps run 1 x ≡ plain_s
 unfolding plain_steps
 one_state run x = refl
 
-weave_runs : (reads : Reading) (run : TaskRun) (x : PlainState) (w : Weave) (y : PlainState) → Goes reads run x w y → Runs run x w y
+pub weave_runs : (reads : Reading) (run : TaskRun) (x : PlainState) (w : Weave) (y : PlainState) → Goes reads run x w y → Runs run x w y
 weave_runs reads run x ends y g = record { state = (no_steps run x).0 ∙ g; trace = (no_steps run x).1 }
 weave_runs reads run x (goes d rest) y g =
     let r = weave_runs reads run (plain_step run x) rest y g.1 in

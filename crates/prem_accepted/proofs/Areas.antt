@@ -1,0 +1,91 @@
+-- The areas of devices at the places behind those of the tasks' parts.
+use Rattle.std.proofs.Common.{◌≡◌, ℕ, suc, ◌+◌, ◌*◌, ◌%◌, ◌≤◌, refl, ap, sym, ◌∙◌, subst, arith, List, [], ◌∷◌, ◌++◌, length, map, drop, get_or, length-append, Some, slice_get}
+use Rattle.std.specs.List.{AllByRecursion, AllZip}
+use Rattle.std.proofs.lemmas.List.{length-drop}
+use Rattle.std.proofs.lemmas.Option.{slice_get_within, slice_get-get_or}
+use Rattle.prem_plant.specs.declared.plant.Device.{Device}
+use Rattle.prem_plant.specs.declared.layout.PartKind.TheVariants.{Start}
+use Rattle.prem_plant.specs.declared.layout.PartSize.{PartSize}
+use Rattle.prem_plant.specs.Places.{Place, AreApart, ArePlaces}
+use Rattle.prem_plant.specs.Ranges.{IsDevice}
+use Rattle.prem_image.specs.Records.{area_of, IsPlaced, device_names}
+use Rattle.prem_tasks.specs.Lawful.{device_names as names_of}
+use Rattle.prem_layout.specs.Parts.{part, area_parts}
+use Rattle.prem_layout.specs.Image.{device_records}
+use Rattle.prem_own.proofs.Owned.{get_drop, get_behind}
+
+-- a place of a part, within memory
+pub record IsAt (memory : ℕ) (x : PartSize) (q : Place) : Type 0 where
+  pub ends : q.1 ≡ q.0 + x.size
+  pub aligned : q.0 % x.align ≡ 0
+  pub within : q.1 ≤ memory
+
+zipped : (memory : ℕ) (xs : List PartSize) (qs : List Place) → length xs ≡ length qs → ((i : ℕ) (x : PartSize) (q : Place) → slice_get xs i ≡ Some x → slice_get qs i ≡ Some q → IsAt memory x q) → AllZip (IsAt memory) xs qs
+zipped memory [] [] long h = tt
+zipped memory [] (q ∷ qs) long h = absurd (omega (arith, long))
+zipped memory (x ∷ xs) [] long h = absurd (omega (arith, long))
+zipped memory (x ∷ xs) (q ∷ qs) long h = (h 0 x q refl refl, zipped memory xs qs (omega (arith, long)) (λ i y r e f. h (suc i) y r e f))
+
+areas_counted : (line n : ℕ) (ds : List Device) → length (area_parts line n ds) ≡ length ds
+areas_counted line n [] = refl
+areas_counted line n (d ∷ ds) = ap suc (areas_counted line (n + 1) ds)
+
+-- ---- where they are
+
+pub areas_stand : (memory line first : ℕ) (parts : List PartSize) (ds : List Device) (whole : List Place) → length parts ≡ first → ArePlaces memory (parts ++ area_parts line 0 ds) whole →
+    AllZip (IsAt memory) (area_parts line 0 ds) (drop first whole)
+areas_stand memory line first parts ds whole long a =
+    let areas = area_parts line 0 ds in
+    let count = a.count in
+    let l = length-append parts areas in
+    let d = length-drop first whole in
+    zipped memory areas (drop first whole) (omega (arith, long, count, l, d)) (λ i x q e f.
+    let there : slice_get (parts ++ areas) (first + i) ≡ Some x = ap (λ m. slice_get (parts ++ areas) (m + i)) (sym long) ∙ get_behind parts areas i ∙ e in
+    let at : slice_get whole (first + i) ≡ Some q = sym (get_drop first i whole) ∙ f in
+    record { ends = a.ends (first + i) x q there at; aligned = a.aligned (first + i) x q there at; within = a.within (first + i) q at })
+
+pub each_placed : (memory line n : ℕ) (ds : List Device) (qs : List Place) → AllByRecursion IsDevice ds → AllZip (IsAt memory) (area_parts line n ds) qs → AllByRecursion (IsPlaced line memory) (device_records ds qs)
+each_placed memory line n [] [] is h = tt
+each_placed memory line n [] (q ∷ qs) is h = absurd h
+each_placed memory line n (d ∷ ds) [] is h = absurd h
+each_placed memory line n (d ∷ ds) (q ∷ qs) is h =
+    (record { device = is.0; aligned = h.0.aligned; within = subst (λ k. k ≤ memory) h.0.ends h.0.within }, each_placed memory line (n + 1) ds qs is.1 h.1)
+
+pub areas_same : (memory line n : ℕ) (ds : List Device) (qs : List Place) → AllZip (IsAt memory) (area_parts line n ds) qs → map (area_of line) (device_records ds qs) ≡ qs
+areas_same memory line n [] [] h = refl
+areas_same memory line n [] (q ∷ qs) h = absurd h
+areas_same memory line n (d ∷ ds) [] h = absurd h
+areas_same memory line n (d ∷ ds) (q ∷ qs) h =
+    let same : ◌≡◌ {A = Place} (q.0, q.0 + d.lines * line) q = ap (λ k. (q.0, k)) (sym h.0.ends) in
+    ap (λ (k : Place). k ∷ map (area_of line) (device_records ds qs)) same ∙ ap (λ l. q ∷ l) (areas_same memory line (n + 1) ds qs h.1)
+
+pub areas_named : (memory line n : ℕ) (ds : List Device) (qs : List Place) → AllZip (IsAt memory) (area_parts line n ds) qs → device_names (device_records ds qs) ≡ names_of ds
+areas_named memory line n [] [] h = refl
+areas_named memory line n [] (q ∷ qs) h = absurd h
+areas_named memory line n (d ∷ ds) [] h = absurd h
+areas_named memory line n (d ∷ ds) (q ∷ qs) h = ap (λ l. d.name ∷ l) (areas_named memory line (n + 1) ds qs h.1)
+
+pub records_long : (memory line n : ℕ) (ds : List Device) (qs : List Place) → AllZip (IsAt memory) (area_parts line n ds) qs → length (device_records ds qs) ≡ length ds
+records_long memory line n [] [] h = refl
+records_long memory line n [] (q ∷ qs) h = absurd h
+records_long memory line n (d ∷ ds) [] h = absurd h
+records_long memory line n (d ∷ ds) (q ∷ qs) h = ap suc (records_long memory line (n + 1) ds qs h.1)
+
+-- ---- apart
+
+some_part : PartSize
+some_part = part 0 Start 0 0
+
+pub rest_apart : (memory n : ℕ) (parts : List PartSize) (whole : List Place) → ArePlaces memory parts whole → AreApart (drop n whole)
+rest_apart memory n parts whole a =
+    record {
+      forward = λ i q e.
+          let there : slice_get whole (n + i) ≡ Some q = sym (get_drop n i whole) ∙ e in
+          let lt = slice_get_within whole (n + i) q there in
+          let count = a.count in
+          let ends = a.ends (n + i) (get_or parts (n + i) some_part) q (slice_get-get_or parts (n + i) some_part (omega (arith, lt, count))) there in
+          omega (arith, ends);
+      disjoint = λ i j x q r h k in_q in_r.
+          let s : n + i ≡ n + j = a.disjoint (n + i) (n + j) x q r (sym (get_drop n i whole) ∙ h) (sym (get_drop n j whole) ∙ k) in_q in_r in
+          omega (arith, s);
+    }

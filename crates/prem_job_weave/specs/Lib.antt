@@ -1,0 +1,4 @@
+pub mod Owned
+pub mod Calm
+pub mod Confined
+pub mod Jobs
