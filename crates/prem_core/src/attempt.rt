@@ -5,7 +5,7 @@ ghost use Rattle.prem_isa.specs.Act.{act, fetch};
 ghost use Rattle.prem_isa.specs.Plain.{next_input};
 ghost use Rattle.prem_isa.specs.Bounds.{OnDone};
 ghost use Rattle.prem_lru.specs.CacheState.{view_of};
-ghost use Rattle.prem_cycle.specs.Issue.{attempt_in};
+ghost use Rattle.prem_cycle.specs.Issue.{attempt_in, effect_in};
 ghost use Rattle.prem_core.specs.Attempts.{CanIssue, IsReady, attempt_as};
 
 use crate::task::Core;
@@ -22,7 +22,8 @@ pub enum Attempt {
 }
 
 impl Core {
-    /// What the task's next instruction comes to, on the bytes that the core sees. It touches nothing.
+    /// What the task's next instruction comes to, on the bytes that the core sees. It touches nothing. The number that a
+    /// load takes is read again behind its touches.
     pub fn attempt(&self, cache: &Cache, mem: &Memory) -> Attempt
         requires { length mem.now ≡ cache.now.plant.memory }
         ensures outcome { attempt_as result
@@ -37,6 +38,28 @@ impl Core {
             Outcome::Trap(cause) => Attempt::Traps(cause),
             Outcome::Done(effect) => Attempt::Executes { instr, effect },
         }
+    }
+
+    /// The effect of an instruction that stands at the program counter, with its register's word as the core sees it
+    /// now.
+    pub(crate) fn effect_now(
+        &self,
+        cache: &Cache,
+        mem: &Memory,
+        instr: Instr,
+        effect: Effect,
+    ) -> Effect
+        requires memory { length mem.now ≡ cache.now.plant.memory }
+        requires fits { Fits instr }
+        requires place { self.now.pc + 4 ≤ cache.now.plant.memory }
+        ensures { result
+            ≡ effect_in cache.now.plant.memory (view_of cache.now mem.now) self.now instr effect }
+    {
+        let value = match self.outcome(cache, mem, instr) {
+            Outcome::Trap(_) => effect.value,
+            Outcome::Done(seen) => seen.value,
+        };
+        Effect { value, ..effect }
     }
 
     /// The instruction whose word stands at the program counter, or why there is none.

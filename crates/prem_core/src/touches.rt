@@ -1,13 +1,15 @@
 // The lines that an instruction touches, and what that does to cache and memory.
 ghost use Rattle.std.specs.Prelude.{◌≡◌, ◌/◌, ◌<◌, true, List, length};
+ghost use Rattle.prem_isa.specs.Decode.{Fits};
 ghost use Rattle.prem_lru.specs.Entries.{to_front};
 ghost use Rattle.prem_lru.specs.CacheState.{IsCache, is_resident, touch_of};
 ghost use Rattle.prem_cycle.specs.State.{Task};
-ghost use Rattle.prem_cycle.specs.Issue.{issued_with, line_touch};
+ghost use Rattle.prem_cycle.specs.Issue.{effect_in, issued_with, line_touch, view_touched};
 ghost use Rattle.prem_core.specs.Attempts.{CanIssue};
 ghost use Rattle.prem_core.specs.Touches.{line_touch_as};
 
-use prem_isa::Effect;
+use crate::task::Core;
+use prem_isa::{Effect, Instr};
 use prem_lru::{Cache, Memory};
 use std::marker::Model;
 
@@ -50,22 +52,33 @@ impl Touches {
     }
 }
 
-/// An instruction that stands at `pc` issues: the line of its fetch is touched, then that of its data, and then what
-/// it stores comes into the resident line.
-pub fn touch_lines(cache: &mut Cache, mem: &mut Memory, pc: u32, effect: Effect) -> Touches
+/// The next instruction of a task issues: the line of its fetch is touched, then that of its data, and then what it
+/// loads is read, and what it stores comes into the resident line. Gives its effect as it is behind the touches.
+pub fn touch_lines(
+    cache: &mut Cache,
+    mem: &mut Memory,
+    core: &Core,
+    instr: Instr,
+    effect: Effect,
+) -> (Touches, Effect)
     requires memory { length mem.old ≡ cache.old.plant.memory }
-    requires ready { CanIssue cache.old.plant.memory pc effect }
+    requires fits { Fits instr }
+    requires ready { CanIssue cache.old.plant.memory core.now.pc effect }
     ensures issued { (tasks : List Task)
-        → issued_with to_front cache.old.plant.line tasks effect.stored (pc / cache.old.plant.line)
-        (touch_of to_front cache.old (pc / cache.old.plant.line) mem.old) effect.access
+        → issued_with to_front cache.old.plant.line tasks effect.stored (core.now.pc / cache.old.plant.line)
+        (touch_of to_front cache.old (core.now.pc / cache.old.plant.line) mem.old) effect.access
         ≡ record {
           work = record { tasks = tasks; cache = cache.new; memory = mem.new };
-          touches = result;
+          touches = result.0;
         } }
+    ensures effect { result.1
+        ≡ effect_in cache.old.plant.memory
+        (view_touched to_front cache.old.plant.line cache.old mem.old core.now.pc effect.access) core.now instr effect }
     ensures plant { cache.new.plant ≡ cache.old.plant }
     ensures len { length mem.new ≡ length mem.old }
     ensures kept { IsCache cache.new }
 {
+    let pc = core.pc();
     let line = cache.line_of(pc);
     let fetch = touch_line(cache, mem, line);
     let access = match effect.access {
@@ -75,10 +88,11 @@ pub fn touch_lines(cache: &mut Cache, mem: &mut Memory, pc: u32, effect: Effect)
             Some(touch_line(cache, mem, line))
         }
     };
+    let effect = core.effect_now(cache, mem, instr, effect);
     if let Some(stored) = effect.stored {
         cache.store(stored.address, stored.size as u8, stored.value);
     }
-    Touches { fetch, access }
+    (Touches { fetch, access }, effect)
 }
 
 fn touch_line(cache: &mut Cache, mem: &mut Memory, line: u32) -> LineTouch

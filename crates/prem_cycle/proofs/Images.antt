@@ -7,7 +7,7 @@ use Rattle.prem_image.specs.declared.image.DeviceRecord.{DeviceRecord}
 use Rattle.prem_gate.specs.declared.request.Request.{Request}
 use Rattle.prem_lru.specs.Splice.{bytes_of}
 use Rattle.prem_lru.specs.Entries.{to_front}
-use Rattle.prem_cycle.specs.State.{Setup, State}
+use Rattle.prem_cycle.specs.State.{Setup, MachineState}
 use Rattle.prem_cycle.specs.Run.{run_of}
 
 -- ---- contents
@@ -88,5 +88,5 @@ abbrev pub get : (cycle device line : ℕ) → Request
 get cycle device line = record { cycle = cycle; device = device; line = line; put = None }
 
 -- n cycles of a run on these words, without input words
-abbrev pub run : Setup → List ℕ → List Request → ℕ → State
+abbrev pub run : Setup → List ℕ → List Request → ℕ → MachineState
 run p words requests n = run_of to_front p (bytes_in words) [] requests n

@@ -4,10 +4,10 @@ use Rattle.std.specs.List.Sorted.{IsNonDecreasingBy}
 use Rattle.prem_list.specs.Sequence.{items_of}
 use Rattle.prem_image.specs.declared.image.DeviceRecord.{DeviceRecord}
 use Rattle.prem_image.specs.declared.image.Image.{Image}
-use Rattle.prem_lru.specs.Entries.{Rule}
+use Rattle.prem_lru.specs.Entries.{ReplacementRule}
 use Rattle.prem_gate.specs.declared.request.Request.{Request}
 use Rattle.prem_gate.specs.declared.request.RunInput.{RunInput}
-use Rattle.prem_cycle.specs.State.{Setup, State}
+use Rattle.prem_cycle.specs.State.{Setup, MachineState}
 use Rattle.prem_cycle.specs.FactsOf.{inputs_size}
 use Rattle.prem_cycle.specs.Run.{run_of}
 
@@ -19,7 +19,7 @@ abbrev pub words_of : RunInput → List (List ℕ)
 words_of run = map (λ words. items_of words) (items_of run.words)
 
 -- the state after n cycles of an image
-abbrev pub image_run : Rule → Image → RunInput → ℕ → State
+abbrev pub image_run : ReplacementRule → Image → RunInput → ℕ → MachineState
 image_run rule image run n =
     run_of rule (setup_of image) (items_of image.content) (words_of run) (items_of run.requests) n
 

@@ -2,7 +2,7 @@
 use Rattle.std.proofs.Common.{◌≡◌, ℕ, ◌<◌, ◌≤◌, ◌∙◌, sym, arith, ltb-true, true, List, [], ◌∷◌, ◌++◌, length, length-append, length-set}
 use Rattle.std.specs.Prelude.{slice_index_or}
 use Rattle.std.proofs.lemmas.List.Elements.{All-set}
-use Rattle.prem_lru.specs.Entries.{Rule}
+use Rattle.prem_lru.specs.Entries.{ReplacementRule}
 use Rattle.prem_gate.specs.declared.request.Request.{Request}
 use Rattle.prem_cycle.specs.State.{Setup}
 use Rattle.prem_cycle.specs.FactsOf.{has_room_for_word, inputs_size}
@@ -14,7 +14,7 @@ use Rattle.prem_inputs.proofs.Taken.{room_is_of_the_list}
 one_more : (words : List ℕ) (word size : ℕ) → length words < size → length (words ++ word ∷ []) ≤ size
 one_more words word size lt = omega (arith, length-append words (word ∷ []))
 
-pub lists_stay_fit : (rule : Rule) (p : Setup) (content : List ℕ) (inputs : List (List ℕ)) (requests : List Request) (n k word : ℕ) → k < length p.tasks → FitsRun p inputs requests → has_room_for_word k (run_of rule p content inputs requests n) ≡ true → FitsRun p (with_word_for k word inputs) requests
+pub lists_stay_fit : (rule : ReplacementRule) (p : Setup) (content : List ℕ) (inputs : List (List ℕ)) (requests : List Request) (n k word : ℕ) → k < length p.tasks → FitsRun p inputs requests → has_room_for_word k (run_of rule p content inputs requests n) ≡ true → FitsRun p (with_word_for k word inputs) requests
 lists_stay_fit rule p content inputs requests n k word lt fits room =
     let words : List ℕ = slice_index_or inputs k [] in
     let less : length words < inputs_size =

@@ -1,5 +1,5 @@
 -- A task with one more input word: what it attempts, and where an effect leaves it.
-use Rattle.std.proofs.Common.{◌≡◌, ℕ, zero, suc, ◌+◌, refl, ap, ap₂, ◌∙◌, sym, Bool, true, false, List, [], ◌∷◌, ◌++◌, length}
+use Rattle.std.proofs.Common.{◌≡◌, ℕ, zero, suc, ◌+◌, refl, ap, ap₂, ◌∙◌, sym, Bool, true, false, List, [], ◌∷◌, ◌++◌, Option, length}
 use Rattle.std.specs.Prelude.{◌&&◌, Result, Ok, Err, slice_index, slice_index_or, slice_set}
 use Rattle.std.proofs.lemmas.List.Sums.{sum_by-cons}
 use Rattle.prem_image.specs.declared.image.TaskRecord.{TaskRecord}
@@ -8,13 +8,16 @@ use Rattle.prem_isa.specs.declared.instr.Instr.TheVariants.{PmIn}
 use Rattle.prem_isa.specs.declared.effect.Phase.{Phase}
 use Rattle.prem_isa.specs.declared.effect.Phase.TheVariants.{Compatible, Memory as MemoryPhase, Execution}
 use Rattle.prem_isa.specs.declared.effect.Cause.{Cause}
+use Rattle.prem_isa.specs.declared.effect.Access.{Access}
 use Rattle.prem_isa.specs.declared.effect.Change.{Change}
 use Rattle.prem_isa.specs.declared.effect.Change.TheVariants.{Stay, Memory, Execute, End, Job}
 use Rattle.prem_isa.specs.declared.effect.Effect.{Effect}
+use Rattle.prem_isa.specs.declared.effect.Outcome.{Outcome}
+use Rattle.prem_isa.specs.declared.effect.Outcome.TheVariants.{Trap, Done}
 use Rattle.prem_isa.specs.Act.{act, fetch}
 use Rattle.prem_isa.specs.Plain.{next_input, left_after, used_after}
 use Rattle.prem_cycle.specs.State.{Task, first_task, no_record}
-use Rattle.prem_cycle.specs.Issue.{Attempt, Traps, Executes, attempt_by, attempt_fetched, attempt_in, task_moved, task_changed, task_after}
+use Rattle.prem_cycle.specs.Issue.{Attempt, Traps, Executes, attempt_by, attempt_fetched, attempt_in, value_of, attempt_seen, task_moved, task_changed, task_after}
 use Rattle.prem_cycle.specs.Core.{is_empty}
 use Rattle.prem_cycle.specs.Cycle.{output_count}
 use Rattle.prem_cycle.specs.FactsOf.{with_word}
@@ -81,6 +84,35 @@ fetched_with size view t word (Ok i) h = act_with size view (slice_index t.regis
 
 pub attempt_with : (size : ℕ) (view : ℕ → ℕ) (t : Task) (word : ℕ) → takes_past t.left (attempt_in size view t) ≡ false → attempt_in size view (with_word word t) ≡ attempt_in size view t
 attempt_with size view t word h = fetched_with size view t word (fetch size view t.pc) h
+
+-- ---- an attempt, behind its touches
+
+value_on_any : (size : ℕ) (view seen registers : ℕ → ℕ) (pc : ℕ) (phase : Phase) (a b value : ℕ) (i : Instr) → takes_past [] (attempt_by i (act size view registers pc phase a i)) ≡ false → value_of value (act size seen registers pc phase b i) ≡ value_of value (act size seen registers pc phase a i)
+value_on_any size view seen registers pc Compatible a b value (PmIn rd) h = absurd (let x : true ≡ false = h in cc)
+value_on_any size view seen registers pc MemoryPhase a b value (PmIn rd) h = refl
+value_on_any size view seen registers pc Execution a b value (PmIn rd) h = refl
+value_on_any size view seen registers pc phase a b value _ h = refl
+
+value_with : (size : ℕ) (view seen registers : ℕ → ℕ) (pc : ℕ) (phase : Phase) (left : List ℕ) (word value : ℕ) (i : Instr) → takes_past left (attempt_by i (act size view registers pc phase (next_input left) i)) ≡ false → value_of value (act size seen registers pc phase (next_input (left ++ word ∷ [])) i) ≡ value_of value (act size seen registers pc phase (next_input left) i)
+value_with size view seen registers pc phase [] word value i h = value_on_any size view seen registers pc phase 0 word value i h
+value_with size view seen registers pc phase (x ∷ left) word value i h = refl
+
+outcome_seen : (size : ℕ) (view : ℕ → ℕ) (seen : Option Access → ℕ → ℕ) (t : Task) (word : ℕ) (i : Instr) (o : Outcome) → act size view (slice_index t.registers) t.pc t.phase (next_input t.left) i ≡ o → takes_past t.left (attempt_by i o) ≡ false → attempt_seen size seen (with_word word t) (attempt_by i o) ≡ attempt_seen size seen t (attempt_by i o)
+outcome_seen size view seen t word i (Trap cause) d h = refl
+outcome_seen size view seen t word i (Done e) d h =
+    let with_value : ℕ → Effect = λ v. record e { value = v } in
+    ap (λ v. Executes i (with_value v))
+    (value_with size view (seen e.access) (slice_index t.registers) t.pc t.phase t.left word e.value i
+    (ap (λ o. takes_past t.left (attempt_by i o)) d ∙ h))
+
+fetched_seen : (size : ℕ) (view : ℕ → ℕ) (seen : Option Access → ℕ → ℕ) (t : Task) (word : ℕ) (f : Result Instr Cause) → takes_past t.left (attempt_fetched size view t f) ≡ false → attempt_seen size seen (with_word word t) (attempt_fetched size view t f) ≡ attempt_seen size seen t (attempt_fetched size view t f)
+fetched_seen size view seen t word (Err cause) h = refl
+fetched_seen size view seen t word (Ok i) h =
+    outcome_seen size view seen t word i (act size view (slice_index t.registers) t.pc t.phase (next_input t.left) i) refl h
+
+-- a word behind others leaves it as it is
+pub seen_with : (size : ℕ) (view : ℕ → ℕ) (seen : Option Access → ℕ → ℕ) (t : Task) (word : ℕ) → takes_past t.left (attempt_in size view t) ≡ false → attempt_seen size seen (with_word word t) (attempt_in size view t) ≡ attempt_seen size seen t (attempt_in size view t)
+seen_with size view seen t word h = fetched_seen size view seen t word (fetch size view t.pc) h
 
 -- ---- an effect
 

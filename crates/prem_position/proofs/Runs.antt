@@ -3,15 +3,16 @@ use Rattle.std.proofs.Common.{◌≡◌, ℕ, zero, suc, ◌+◌, refl, ap, ◌�
 use Rattle.std.proofs.lemmas.Bool.{cases_Bool}
 use Rattle.std.proofs.lemmas.List.Sums.{sum_by-append}
 use Rattle.prem_isa.specs.Plain.{TaskRun, with_last}
-use Rattle.prem_lru.specs.Entries.{Rule}
+use Rattle.prem_lru.specs.Entries.{ReplacementRule}
 use Rattle.prem_lru.specs.Rules.{IsRule}
 use Rattle.prem_gate.specs.declared.request.Request.{Request}
 use Rattle.prem_gate.specs.Gates.{Turned}
 use Rattle.prem_sched.specs.declared.sched.TaskJobs.{TaskJobs}
-use Rattle.prem_cycle.specs.State.{Setup, Work, State}
+use Rattle.prem_cycle.specs.State.{Setup, Work, MachineState}
+use Rattle.prem_cycle.specs.Issue.{behind_touches}
 use Rattle.prem_cycle.specs.Core.{CoreMove, Passes, Issues}
 use Rattle.prem_cycle.specs.Cycle.{Arrivals, arrivals_at, bus_at, with_memory, move_at, is_over, cycle_of, step_of}
-use Rattle.prem_cycle.specs.Run.{Step, step_by, step_in, step_with, coming_step, memory_of, cycles_of, steps_of}
+use Rattle.prem_cycle.specs.Run.{CycleStep, step_by, step_in, step_with, coming_step, memory_of, cycles_of, steps_of}
 use Rattle.prem_cycle.proofs.CoreCases.{move_cases}
 use Rattle.prem_cycle.proofs.CycleParts.{cycle_gates}
 use Rattle.prem_position.specs.Issued.{count_of, issued_of, IsRunOf, AreOwn, IsRunnable}
@@ -22,8 +23,8 @@ use Rattle.prem_position.proofs.Gated.{AreGates, arrivals_gates, Turns, bus_turn
 
 -- ---- how many instructions
 
-count_more : (j : ℕ) (st : Step) (xs : List Step) → count_of j (xs ++ st ∷ []) ≡ bump st.task (λ i. count_of i xs) j
-count_more j st xs = sum_by-append (λ (s : Step). cond (eqb s.task j) 1 0) xs (st ∷ []) ∙ by (eqb st.task j) where
+count_more : (j : ℕ) (st : CycleStep) (xs : List CycleStep) → count_of j (xs ++ st ∷ []) ≡ bump st.task (λ i. count_of i xs) j
+count_more j st xs = sum_by-append (λ (s : CycleStep). cond (eqb s.task j) 1 0) xs (st ∷ []) ∙ by (eqb st.task j) where
   by : (b : Bool) → count_of j xs + (0 + cond b 1 0) ≡ cond b (count_of j xs + 1) (count_of j xs)
   by true = omega arith
   by false = omega arith
@@ -39,18 +40,18 @@ abbrev pub IsIssued : Setup → Work → CoreMove → Type 0
 IsIssued p w (Passes c) = Unit {0}
 IsIssued p w (Issues k i) = IsIssue p k w
 
-pub count_move : (rule : Rule) (p : Setup) (now : ℕ) (w : Work) (m : CoreMove) (xs : List Step) (j : ℕ) → IsIssued p w m → bump_move m (λ i. count_of i xs) j ≡ count_of j (with_last (step_in rule p now w m) xs)
+pub count_move : (rule : ReplacementRule) (p : Setup) (now : ℕ) (w : Work) (m : CoreMove) (xs : List CycleStep) (j : ℕ) → IsIssued p w m → bump_move m (λ i. count_of i xs) j ≡ count_of j (with_last (step_in rule p now w m) xs)
 count_move rule p now w (Passes c) xs j h = refl
 count_move rule p now w (Issues k i) xs j h =
-    sym (ap (λ a. count_of j (with_last (step_by rule p now k i w a) xs)) h.issue.does ∙ count_more j _ xs)
+    sym (ap (λ a. count_of j (with_last (step_by rule p now k i w (behind_touches rule p k w a)) xs)) h.issue.does ∙ count_more j _ xs)
 
 -- ---- a cycle
 
-pub record AllAt (p : Setup) (own : ℕ → ℕ → Bool) (runs : ℕ → TaskRun) (at : ℕ → ℕ) (s : State) : Type 0 where
+pub record AllAt (p : Setup) (own : ℕ → ℕ → Bool) (runs : ℕ → TaskRun) (at : ℕ → ℕ) (s : MachineState) : Type 0 where
   pub position : Position p own runs at s
   pub gates : AreGates p s.gates
 
-module _ (rule : Rule) (p : Setup) (content : List ℕ) (inputs : List (List ℕ)) (requests : List Request) (own : ℕ → ℕ → Bool) (runs : ℕ → TaskRun) (r : IsRule rule) (q : IsRunnable p content requests) (o : AreOwn p content inputs own runs) where
+module _ (rule : ReplacementRule) (p : Setup) (content : List ℕ) (inputs : List (List ℕ)) (requests : List Request) (own : ℕ → ℕ → Bool) (runs : ℕ → TaskRun) (r : IsRule rule) (q : IsRunnable p content requests) (o : AreOwn p content inputs own runs) where
   pub runs_of : Runs p own runs
   runs_of = record {
     is = λ k lt. let x : IsRunOf p (memory_of p content) inputs (own k) k (runs k) = o.runs_are k lt in record { size = x.size; entry = x.entry; stack = x.stack; fits = x.fits };
@@ -59,7 +60,7 @@ module _ (rule : Rule) (p : Setup) (content : List ℕ) (inputs : List (List ℕ
   }
 
   -- what the bus writes in the coming cycle
-  pub keeps_of : (at : ℕ → ℕ) (s : State) → AllAt p own runs at s → BusKeeps p own s.work (bus_at (arrivals_at requests s).gates s).memory
+  pub keeps_of : (at : ℕ → ℕ) (s : MachineState) → AllAt p own runs at s → BusKeeps p own s.work (bus_at (arrivals_at requests s).gates s).memory
   keeps_of at s h =
       let a : Arrivals = arrivals_at requests s in
       let t : Turns p s.work.memory (bus_at a.gates s) = bus_turns p s.now s.core.window _ a.gates s.work.memory (arrivals_gates p s.now requests _ q.asked h.gates) in
@@ -69,7 +70,7 @@ module _ (rule : Rule) (p : Setup) (content : List ℕ) (inputs : List (List ℕ
   is_issued at sched w (Passes c) s m = tt
   is_issued at sched w (Issues k i) s m = record { own = own k; run = runs k; n = at k; issue = issuing p own runs at w k runs_of s m.unfinished }
 
-  cycle_all : (s : State) (xs : List Step) → AllAt p own runs (λ k. count_of k xs) s → AllAt p own runs (λ k. count_of k (with_last (step_with rule p (bus_at (arrivals_at requests s).gates s) s) xs)) (cycle_of rule p requests s)
+  cycle_all : (s : MachineState) (xs : List CycleStep) → AllAt p own runs (λ k. count_of k xs) s → AllAt p own runs (λ k. count_of k (with_last (step_with rule p (bus_at (arrivals_at requests s).gates s) s) xs)) (cycle_of rule p requests s)
   cycle_all s xs h =
       let at : ℕ → ℕ = λ k. count_of k xs in
       let a : Arrivals = arrivals_at requests s in
@@ -86,16 +87,16 @@ module _ (rule : Rule) (p : Setup) (content : List ℕ) (inputs : List (List ℕ
         gates = subst (AreGates p) (sym (cycle_gates rule p a b s)) t.gates;
       }
 
-  step_all : (s : State) (xs : List Step) → AllAt p own runs (λ k. count_of k xs) s → AllAt p own runs (λ k. count_of k (with_last (coming_step rule p requests s) xs)) (step_of rule p requests s)
+  step_all : (s : MachineState) (xs : List CycleStep) → AllAt p own runs (λ k. count_of k xs) s → AllAt p own runs (λ k. count_of k (with_last (coming_step rule p requests s) xs)) (step_of rule p requests s)
   step_all s xs h =
-      let none : Option Step = None in
+      let none : Option CycleStep = None in
       ⊎_elim (λ (e : is_over s ≡ true).
       subst (λ b. AllAt p own runs (λ k. count_of k (with_last (cond b none (step_with rule p (bus_at (arrivals_at requests s).gates s) s)) xs)) (cond b s (cycle_of rule p requests s))) (sym e) h)
       (λ (e : is_over s ≡ false).
       subst (λ b. AllAt p own runs (λ k. count_of k (with_last (cond b none (step_with rule p (bus_at (arrivals_at requests s).gates s) s)) xs)) (cond b s (cycle_of rule p requests s))) (sym e) (cycle_all s xs h))
       (cases_Bool (is_over s))
 
-  pub run_all : (n : ℕ) (s : State) → AllAt p own runs (λ k. 0) s → AllAt p own runs (issued_of rule p requests n s) (cycles_of rule p requests n s)
+  pub run_all : (n : ℕ) (s : MachineState) → AllAt p own runs (λ k. 0) s → AllAt p own runs (issued_of rule p requests n s) (cycles_of rule p requests n s)
   unfolding cycles_of steps_of
   run_all zero s h = h
   run_all (suc n) s h = step_all (cycles_of rule p requests n s) (steps_of rule p requests n s) (run_all n s h)

@@ -7,14 +7,14 @@ use Rattle.prem_word.proofs.Bytes.{number_at-agrees}
 use Rattle.prem_plant.specs.Places.{AreApart}
 use Rattle.prem_image.specs.Records.{area_of}
 use Rattle.prem_isa.specs.Plain.{TaskRun, with_last}
-use Rattle.prem_lru.specs.Entries.{Rule}
+use Rattle.prem_lru.specs.Entries.{ReplacementRule}
 use Rattle.prem_lru.specs.CacheState.{empty_cache, view_of}
 use Rattle.prem_lru.specs.Rules.{IsRule}
 use Rattle.prem_gate.specs.declared.request.Request.{Request}
 use Rattle.prem_gate.specs.declared.bus.Transfer.{Transfer}
 use Rattle.prem_gate.specs.Gates.{Turned}
 use Rattle.prem_sched.specs.declared.sched.TaskJobs.{TaskJobs}
-use Rattle.prem_cycle.specs.State.{Setup, record_of, Work, State, task_in, start_of}
+use Rattle.prem_cycle.specs.State.{Setup, record_of, Work, MachineState, task_in, start_of}
 use Rattle.prem_cycle.specs.Issue.{task_after, issued_by}
 use Rattle.prem_cycle.specs.Core.{want_of, attempted, moved, CoreMove, Passes, Issues}
 use Rattle.prem_cycle.specs.Cycle.{Arrivals, arrivals_at, bus_at, with_memory, move_at, cycle_with, cycle_of, is_over, step_of}
@@ -35,20 +35,20 @@ use Rattle.prem_serve.proofs.Puts.{HoldAll, arrivals_all, cycles_all, start_all}
 use Rattle.prem_serve.proofs.Slots.{slot}
 use Rattle.prem_serve.proofs.Words.{AreWords, PutsWord, turn_words, issue_words}
 
-module _ (rule : Rule) (p : Setup) (content : List ℕ) (inputs : List (List ℕ)) (requests : List Request) (own : ℕ → ℕ → Bool) (runs : ℕ → TaskRun) (r : IsRule rule) (q : IsRunnable p content requests) (o : AreOwn p content inputs own runs) (apart : AreApart (map (area_of p.plant.line) p.devices)) (puts : PutWords requests) where
+module _ (rule : ReplacementRule) (p : Setup) (content : List ℕ) (inputs : List (List ℕ)) (requests : List Request) (own : ℕ → ℕ → Bool) (runs : ℕ → TaskRun) (r : IsRule rule) (q : IsRunnable p content requests) (o : AreOwn p content inputs own runs) (apart : AreApart (map (area_of p.plant.line) p.devices)) (puts : PutWords requests) where
   moved_words : (at : ℕ → ℕ) (sched : List TaskJobs) (w : Work) (m : CoreMove) (transfers : List Transfer) → Stands p own runs at w → Scheduled p runs at sched m → AreWords p w.cache w.memory transfers → AreWords p (moved rule p m w).cache (moved rule p m w).memory transfers
   moved_words at sched w (Passes c) transfers s m h = h
   moved_words at sched w (Issues k i) transfers s m h =
       let lt : k < length p.tasks = m.unfinished.bound in
       let x : Issuing p (own k) (runs k) (at k) k w = issuing p own runs at w k (runs_of rule p content inputs requests own runs r q o) s m.unfinished in
-      subst (λ a. AreWords p (attempted rule p k a w).cache (attempted rule p k a w).memory transfers) (sym x.does)
+      subst (λ a. AreWords p (attempted rule p k a w).cache (attempted rule p k a w).memory transfers) (sym (x.behind rule r))
       (issue_words p q.devices apart (own k) (slice_set w.tasks k (task_after (record_of p k) x.effect (task_in w k))) x.effect.stored w (issued_by rule p k x.effect w).work transfers s.kept
       (λ a y. o.free k a lt y) x.stays.stores (x.work rule r) h)
 
-  abbrev WordsIn : State → Type 0
+  abbrev WordsIn : MachineState → Type 0
   WordsIn s = AreWords p s.work.cache s.work.memory s.log.transfers
 
-  cycle_words : (at : ℕ → ℕ) (s : State) → AllAt p own runs at s → HoldAll PutsWord s.gates → WordsIn s → WordsIn (cycle_of rule p requests s)
+  cycle_words : (at : ℕ → ℕ) (s : MachineState) → AllAt p own runs at s → HoldAll PutsWord s.gates → WordsIn s → WordsIn (cycle_of rule p requests s)
   cycle_words at s k all h =
       let a : Arrivals = arrivals_at requests s in
       let b : Turned = bus_at a.gates s in
@@ -63,10 +63,10 @@ module _ (rule : Rule) (p : Setup) (content : List ℕ) (inputs : List (List ℕ
       (subst (AreWords p (moved rule p (move_at p b s) w).cache (moved rule p (move_at p b s) w).memory) (sym (cycle_transfers rule p a b s))
       (moved_words at s.sched w (move_at p b s) (with_last b.turn.ended s.log.transfers) st m t))
 
-  step_words : (at : ℕ → ℕ) (s : State) → AllAt p own runs at s → HoldAll PutsWord s.gates → WordsIn s → WordsIn (step_of rule p requests s)
+  step_words : (at : ℕ → ℕ) (s : MachineState) → AllAt p own runs at s → HoldAll PutsWord s.gates → WordsIn s → WordsIn (step_of rule p requests s)
   step_words at s k all h = cond_both (is_over s) s (cycle_of rule p requests s) WordsIn (λ _. h) (λ _. cycle_words at s k all h)
 
-  abbrev start : State
+  abbrev start : MachineState
   start = start_of p inputs (memory_of p content)
 
   zero_word : (at : ℕ) → ((i : ℕ) → i < 4 → slice_index (memory_of p content) (at + i) ≡ 0) → number_at (view_of (empty_cache p.plant) (memory_of p content)) at 4 ≡ 0

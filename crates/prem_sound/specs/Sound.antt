@@ -4,12 +4,12 @@ use Rattle.prem_plant.specs.Places.{AreApart}
 use Rattle.prem_image.specs.declared.image.TaskRecord.{TaskRecord}
 use Rattle.prem_image.specs.Records.{area_of, IsImage}
 use Rattle.prem_isa.specs.Plain.{TaskRun}
-use Rattle.prem_lru.specs.Entries.{Rule}
+use Rattle.prem_lru.specs.Entries.{ReplacementRule}
 use Rattle.prem_lru.specs.Order.{OrderRule, CacheMissesOnce, IsCacheFullAfter}
 use Rattle.prem_lru.specs.Rules.{IsRule, MovesBy}
 use Rattle.prem_gate.specs.declared.request.Request.{Request}
 use Rattle.prem_cycle.specs.Inputs.{IsTrace}
-use Rattle.prem_cycle.specs.State.{Setup, State}
+use Rattle.prem_cycle.specs.State.{Setup, MachineState}
 use Rattle.prem_cycle.specs.Cycle.{is_finished}
 use Rattle.prem_cycle.specs.Run.{memory_of, run_of}
 use Rattle.prem_position.specs.Issued.{AreOwn, IsRunnable}
@@ -33,7 +33,7 @@ pub record AreInputs (p : Setup) (inputs : List (List ℕ)) : Type 0 where
   pub words : All (λ words. All (λ word. word < 2 ^ 32) words) inputs
 
 -- for all input words and all requests each state of a run is good, and from some cycle on the run has finished
-pub record Sound (rule : Rule) (p : Setup) (content : List ℕ) (promises : List (List ℕ) → ℕ → Promise) (limit : ℕ) : Type 0 where
+pub record Sound (rule : ReplacementRule) (p : Setup) (content : List ℕ) (promises : List (List ℕ) → ℕ → Promise) (limit : ℕ) : Type 0 where
   pub good : (inputs : List (List ℕ)) (requests : List Request) (n : ℕ) → AreInputs p inputs → IsTrace p.devices requests → PutWords requests → Good rule p content inputs requests (promises inputs) n
   pub finished : (inputs : List (List ℕ)) (requests : List Request) (n : ℕ) → AreInputs p inputs → IsTrace p.devices requests → PutWords requests → limit ≤ n → is_finished (run_of rule p content inputs requests n) ≡ true
 
@@ -51,24 +51,24 @@ pub record HasScripts (passes : ℕ → ℕ) (p : Setup) (content : List ℕ) (p
 -- and each predictable interval that has ended has lasted the cycles that it states, so none is an overrun
 abbrev pub ScriptsLast : Type 0
 ScriptsLast =
-    (rule : Rule) (order : OrderRule) (passes : ℕ → ℕ) (p : Setup) (content : List ℕ) (inputs : List (List ℕ)) (requests : List Request) (own : ℕ → ℕ → Bool) (runs : ℕ → TaskRun) (scripts : ℕ → Script) (n : ℕ) →
+    (rule : ReplacementRule) (order : OrderRule) (passes : ℕ → ℕ) (p : Setup) (content : List ℕ) (inputs : List (List ℕ)) (requests : List Request) (own : ℕ → ℕ → Bool) (runs : ℕ → TaskRun) (scripts : ℕ → Script) (n : ℕ) →
     IsPolicy rule order passes → IsRunnable p content requests → AreOwn p content inputs own runs → ((k : ℕ) → k < length p.tasks → IsScript p.plant passes (runs k) (scripts k)) →
     All LastsAsStated (run_of rule p content inputs requests n).log.intervals × ((run_of rule p content inputs requests n).log.counts.overruns ≡ 0)
 
 -- where all tasks have scripts, each state of their run is good
 abbrev pub ScriptsAreGood : Type 0
 ScriptsAreGood =
-    (rule : Rule) (order : OrderRule) (passes : ℕ → ℕ) (p : Setup) (content : List ℕ) (inputs : List (List ℕ)) (requests : List Request) (own : ℕ → ℕ → Bool) (runs : ℕ → TaskRun) (scripts : ℕ → Script) (promises : ℕ → Promise) (n : ℕ) →
+    (rule : ReplacementRule) (order : OrderRule) (passes : ℕ → ℕ) (p : Setup) (content : List ℕ) (inputs : List (List ℕ)) (requests : List Request) (own : ℕ → ℕ → Bool) (runs : ℕ → TaskRun) (scripts : ℕ → Script) (promises : ℕ → Promise) (n : ℕ) →
     IsPolicy rule order passes → IsRun p content requests → AreScripts p passes content inputs own runs scripts → AreKept p own runs scripts promises → Good rule p content inputs requests promises n
 
 -- and from the limit on the run has finished
 abbrev pub ScriptsFinish : Type 0
 ScriptsFinish =
-    (rule : Rule) (order : OrderRule) (passes : ℕ → ℕ) (p : Setup) (content : List ℕ) (inputs : List (List ℕ)) (requests : List Request) (own : ℕ → ℕ → Bool) (runs : ℕ → TaskRun) (scripts : ℕ → Script) (n : ℕ) →
+    (rule : ReplacementRule) (order : OrderRule) (passes : ℕ → ℕ) (p : Setup) (content : List ℕ) (inputs : List (List ℕ)) (requests : List Request) (own : ℕ → ℕ → Bool) (runs : ℕ → TaskRun) (scripts : ℕ → Script) (n : ℕ) →
     IsPolicy rule order passes → IsRun p content requests → AreScripts p passes content inputs own runs scripts → limit_of p scripts ≤ n → is_finished (run_of rule p content inputs requests n) ≡ true
 
 -- so such an image is sound
 abbrev pub ImagesAreSound : Type 0
 ImagesAreSound =
-    (rule : Rule) (order : OrderRule) (passes : ℕ → ℕ) (p : Setup) (content : List ℕ) (promises : List (List ℕ) → ℕ → Promise) (limit : ℕ) →
+    (rule : ReplacementRule) (order : OrderRule) (passes : ℕ → ℕ) (p : Setup) (content : List ℕ) (promises : List (List ℕ) → ℕ → Promise) (limit : ℕ) →
     IsPolicy rule order passes → HasScripts passes p content promises limit → Sound rule p content promises limit

@@ -3,12 +3,12 @@ use Rattle.std.proofs.Common.{◌≡◌, ℕ, zero, suc, ◌+◌, refl, ap, sym,
 use Rattle.std.specs.Prelude.{is_some, ◌&&◌, ◌||◌}
 use Rattle.std.proofs.lemmas.Bool.{cond_both}
 use Rattle.prem_image.specs.declared.image.DeviceRecord.{DeviceRecord}
-use Rattle.prem_lru.specs.Entries.{Rule}
+use Rattle.prem_lru.specs.Entries.{ReplacementRule}
 use Rattle.prem_gate.specs.declared.request.Request.{Request}
 use Rattle.prem_gate.specs.Gates.{Turned, gates_of}
 use Rattle.prem_cycle.specs.declared.state.Mode.{Mode}
 use Rattle.prem_cycle.specs.declared.state.Mode.TheVariants.{Point, Switching, Running, Idle}
-use Rattle.prem_cycle.specs.State.{Setup, State, start_of}
+use Rattle.prem_cycle.specs.State.{Setup, MachineState, start_of}
 use Rattle.prem_cycle.specs.Core.{is_paid, want_of}
 use Rattle.prem_cycle.specs.Cycle.{Arrivals, arrivals_at, bus_at, core_at, joined, ends_before, at_point, close_interval, settle, with_now, next_cycle, ticked, cycle_of, is_finished, is_full, is_over, step_of}
 use Rattle.prem_cycle.specs.Run.{memory_of, cycles_of, run_of}
@@ -19,20 +19,20 @@ use Rattle.prem_transfer.proofs.Bus.{costs_of, costs_in, GatesKeep, TurnKeeps, a
 -- ---- states
 
 -- a state of a run
-record Keeps (devices : List DeviceRecord) (s : State) : Type 0 where
+record Keeps (devices : List DeviceRecord) (s : MachineState) : Type 0 where
   costs : costs_of s.gates.gates ≡ costs_in devices
   carried : s.trapped ≡ None → IfSome s.gates.carried (IsOnItsWay devices s.now)
 
 -- what is over is settled without the gates and the transfers
-record Settles (s next : State) : Type 0 where
+record Settles (s next : MachineState) : Type 0 where
   gates : next.gates ≡ s.gates
   transfers : next.log.transfers ≡ s.log.transfers
   now : next.now ≡ s.now
 
-same_state : (s : State) → Settles s s
+same_state : (s : MachineState) → Settles s s
 same_state s = record { gates = refl; transfers = refl; now = refl }
 
-settles : (m : Mode) (s : State) → Settles s (settle m s)
+settles : (m : Mode) (s : MachineState) → Settles s (settle m s)
 settles Point s = same_state s
 settles (Switching k left) s = same_state s
 settles (Running k) s =
@@ -45,16 +45,16 @@ settles (Idle until) s =
 -- ---- a cycle
 
 -- behind the core's move
-record Ticking (devices : List DeviceRecord) (old s : State) : Type 0 where
+record Ticking (devices : List DeviceRecord) (old s : MachineState) : Type 0 where
   gates : GatesKeep devices (s.now + 1) s.gates
   ended : EndsInTime devices old s
 
 -- behind the cycle
-record Went (devices : List DeviceRecord) (s next : State) : Type 0 where
+record Went (devices : List DeviceRecord) (s next : MachineState) : Type 0 where
   keeps : Keeps devices next
   ended : EndsInTime devices s next
 
-ticked_keeps : (devices : List DeviceRecord) (old s : State) → Ticking devices old s → Went devices old (ticked s)
+ticked_keeps : (devices : List DeviceRecord) (old s : MachineState) → Ticking devices old s → Went devices old (ticked s)
 ticked_keeps devices old s h = by (is_some s.trapped) refl
   where
     by : (b : Bool) → is_some s.trapped ≡ b → Went devices old (cond b s (next_cycle s))
@@ -69,7 +69,7 @@ ticked_keeps devices old s h = by (is_some s.trapped) refl
           ended = record { ended = h.ended.ended; log = t.transfers ∙ h.ended.log; time = h.ended.time };
         }
 
-cycle_keeps : (devices : List DeviceRecord) (rule : Rule) (p : Setup) (requests : List Request) (s : State) → HaveCosts devices → s.trapped ≡ None → Keeps devices s → Went devices s (cycle_of rule p requests s)
+cycle_keeps : (devices : List DeviceRecord) (rule : ReplacementRule) (p : Setup) (requests : List Request) (s : MachineState) → HaveCosts devices → s.trapped ≡ None → Keeps devices s → Went devices s (cycle_of rule p requests s)
 cycle_keeps devices rule p requests s all none h =
     let a : Arrivals = arrivals_at requests s in
     let b : Turned = bus_at a.gates s in
@@ -82,7 +82,7 @@ cycle_keeps devices rule p requests s all none h =
 
 -- ---- runs
 
-stays : (devices : List DeviceRecord) (s : State) → Keeps devices s → Went devices s s
+stays : (devices : List DeviceRecord) (s : MachineState) → Keeps devices s → Went devices s s
 stays devices s h = record { keeps = h; ended = record { ended = None; log = refl; time = tt } }
 
 or_false : (a b : Bool) → (a || b) ≡ false → (a ≡ false) × (b ≡ false)
@@ -94,15 +94,15 @@ none_is None is = refl
 none_is (Some x) is = absurd (let y : ◌≡◌ {A = Bool} true false = is in cc)
 
 -- a state that isn't over hasn't trapped
-goes_on : (s : State) → is_over s ≡ false → s.trapped ≡ None
+goes_on : (s : MachineState) → is_over s ≡ false → s.trapped ≡ None
 goes_on s is = none_is s.trapped (or_false (is_finished s) (is_some s.trapped) (or_false (is_finished s || is_some s.trapped) (is_full s) is).0).1
 
-step_keeps : (devices : List DeviceRecord) (rule : Rule) (p : Setup) (requests : List Request) (s : State) → HaveCosts devices → Keeps devices s → Went devices s (step_of rule p requests s)
+step_keeps : (devices : List DeviceRecord) (rule : ReplacementRule) (p : Setup) (requests : List Request) (s : MachineState) → HaveCosts devices → Keeps devices s → Went devices s (step_of rule p requests s)
 step_keeps devices rule p requests s all h =
     cond_both (is_over s) s (cycle_of rule p requests s) (Went devices s) (λ _. stays devices s h)
     (λ on. cycle_keeps devices rule p requests s all (goes_on s on) h)
 
-cycles_keep : (devices : List DeviceRecord) (rule : Rule) (p : Setup) (requests : List Request) (n : ℕ) (s : State) → HaveCosts devices → Keeps devices s → Keeps devices (cycles_of rule p requests n s)
+cycles_keep : (devices : List DeviceRecord) (rule : ReplacementRule) (p : Setup) (requests : List Request) (n : ℕ) (s : MachineState) → HaveCosts devices → Keeps devices s → Keeps devices (cycles_of rule p requests n s)
 unfolding cycles_of
 cycles_keep devices rule p requests zero s all h = h
 cycles_keep devices rule p requests (suc n) s all h =
@@ -115,11 +115,11 @@ start_costs (d ∷ devices) = ap (λ t. d.device.cost ∷ t) (start_costs device
 start_keeps : (p : Setup) (inputs : List (List ℕ)) (memory : List ℕ) → Keeps p.devices (start_of p inputs memory)
 start_keeps p inputs memory = record { costs = start_costs p.devices; carried = λ none. tt }
 
-run_keeps : (rule : Rule) (p : Setup) (content : List ℕ) (inputs : List (List ℕ)) (requests : List Request) (n : ℕ) → HaveCosts p.devices → Keeps p.devices (run_of rule p content inputs requests n)
+run_keeps : (rule : ReplacementRule) (p : Setup) (content : List ℕ) (inputs : List (List ℕ)) (requests : List Request) (n : ℕ) → HaveCosts p.devices → Keeps p.devices (run_of rule p content inputs requests n)
 run_keeps rule p content inputs requests n all =
     cycles_keep p.devices rule p requests n (start_of p inputs (memory_of p content)) all (start_keeps p inputs (memory_of p content))
 
-next_is : (rule : Rule) (p : Setup) (requests : List Request) (n : ℕ) (s : State) → cycles_of rule p requests (suc n) s ≡ step_of rule p requests (cycles_of rule p requests n s)
+next_is : (rule : ReplacementRule) (p : Setup) (requests : List Request) (n : ℕ) (s : MachineState) → cycles_of rule p requests (suc n) s ≡ step_of rule p requests (cycles_of rule p requests n s)
 unfolding cycles_of
 next_is rule p requests n s = refl
 

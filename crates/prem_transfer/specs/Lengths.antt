@@ -3,11 +3,11 @@ use Rattle.std.specs.Prelude.{◌≡◌, ℕ, ◌+◌, ◌≤◌, List, None, Op
 use Rattle.std.specs.Option.{option_map_or}
 use Rattle.prem_image.specs.declared.image.DeviceRecord.{DeviceRecord}
 use Rattle.prem_isa.specs.Plain.{with_last}
-use Rattle.prem_lru.specs.Entries.{Rule}
+use Rattle.prem_lru.specs.Entries.{ReplacementRule}
 use Rattle.prem_gate.specs.declared.request.Request.{Request}
 use Rattle.prem_gate.specs.declared.bus.Carried.{Carried}
 use Rattle.prem_gate.specs.declared.bus.Transfer.{Transfer}
-use Rattle.prem_cycle.specs.State.{Setup, State}
+use Rattle.prem_cycle.specs.State.{Setup, MachineState}
 use Rattle.prem_cycle.specs.Run.{run_of}
 use Rattle.prem_window.specs.Windows.{HaveCosts}
 
@@ -25,7 +25,7 @@ abbrev pub EndsIn : List DeviceRecord → ℕ → Transfer → Type 0
 EndsIn devices now t = t.first + device_cost devices t.device ≡ now + 1
 
 -- between two states the cycle of the first one ends a transfer, in the last of its cycles, or none
-pub record EndsInTime (devices : List DeviceRecord) (s next : State) : Type 0 where
+pub record EndsInTime (devices : List DeviceRecord) (s next : MachineState) : Type 0 where
   pub ended : Option Transfer
   pub log : next.log.transfers ≡ with_last ended s.log.transfers
   pub time : IfSome ended (EndsIn devices s.now)
@@ -35,12 +35,12 @@ pub record EndsInTime (devices : List DeviceRecord) (s next : State) : Type 0 wh
 -- from each state of a run to the next one
 abbrev pub TransfersTakeTheirCycles : Type 0
 TransfersTakeTheirCycles =
-    (rule : Rule) (p : Setup) (content : List ℕ) (inputs : List (List ℕ)) (requests : List Request) (n : ℕ) →
+    (rule : ReplacementRule) (p : Setup) (content : List ℕ) (inputs : List (List ℕ)) (requests : List Request) (n : ℕ) →
     HaveCosts p.devices → EndsInTime p.devices (run_of rule p content inputs requests n) (run_of rule p content inputs requests (n + 1))
 
 -- in each state of a run that hasn't trapped
 abbrev pub TransfersAreOnTheirWay : Type 0
 TransfersAreOnTheirWay =
-    (rule : Rule) (p : Setup) (content : List ℕ) (inputs : List (List ℕ)) (requests : List Request) (n : ℕ) →
+    (rule : ReplacementRule) (p : Setup) (content : List ℕ) (inputs : List (List ℕ)) (requests : List Request) (n : ℕ) →
     HaveCosts p.devices → (run_of rule p content inputs requests n).trapped ≡ None →
     IfSome (run_of rule p content inputs requests n).gates.carried (IsOnItsWay p.devices (run_of rule p content inputs requests n).now)
