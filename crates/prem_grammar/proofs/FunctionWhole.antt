@@ -9,7 +9,7 @@ use Rattle.prem_token.specs.declared.token.Word.TheVariants as w
 use Rattle.prem_token.specs.Lexeme.{Lexeme, name, number, word, mark, end_of_text, Seen}
 use Rattle.prem_grammar.specs.Expression.{bottom, State, wants, has, Move, goes, ends, stops, move}
 use Rattle.prem_grammar.specs.Statement.{in_body, Point, Turn, on, turn, listed}
-use Rattle.prem_grammar.specs.Item.{no_type, an_item, a_parameter, a_local, range_low, range_high, Value, local_value, result_value, body_row, range_row, local_row, end_row, Stage, in_row, in_type, behind_item, before_constant, behind_constant, before_parameter, on_parameter, behind_parameter, before_local, in_statements, in_value, Step, ahead, made, refused, type_begins, with_parameter, with_range, parameter_ends, with_body, with_result, body_ends, statement_step, begins_type, value_ends, step}
+use Rattle.prem_grammar.specs.Item.{no_type, an_item, a_parameter, a_local, range_low, range_high, Value, local_value, result_value, body_row, range_row, local_row, end_row, Stage, in_row, in_type, behind_item, before_constant, behind_constant, before_parameter, on_parameter, behind_parameter, before_local, in_statements, in_value, ItemStep, ahead, made, refused, type_begins, with_parameter, with_range, parameter_ends, with_body, with_result, body_ends, statement_step, begins_type, value_ends, step}
 use Rattle.prem_grammar.specs.Phrases.{Phrase, spelled, tree, level, IsExpression, IsRow, name_at, quiet, counted}
 use Rattle.prem_grammar.specs.StatementPhrases.{StatementPhrases, AreStatements, all_written, all_meant, all_past}
 use Rattle.prem_grammar.specs.ProgramPhrases.{TypeForm, void_type, int_type, short_type, signed_char_type, unsigned_type, unsigned_int_type, unsigned_short_type, unsigned_char_type, type_of, Declaration, IsDeclaration, declaration_tokens, constant_tree, MarkPhrase, mark_tokens, mark_tree, RangePhrase, IsRange, range_tokens, range_tree, ParameterPhrase, IsParameter, parameter_tokens, parameter_tree, PartedParameter, ParametersPhrase, of_void, of_parameters, is_void_form, begins_void, ArePartedParameters, AreParameters, parted_parameter_tokens, parted_parameter_trees, parameters_tokens, parameters_tree, LocalPhrase, AreLocals, local_tokens, local_trees, local_past, ResultPhrase, IsResult, result_tokens, result_tree, result_past, FunctionPhrase, IsFunction, of_function, item_tokens, item_past}
@@ -155,7 +155,7 @@ pub record CountedValue (v : Value) (s end : State) (room n : ℕ) (ts : List Se
   left : ℕ
   runs : Runs (in_value v s room) ts (counted n ts) (in_value v end left)
 
-abbrev pub value_moves : Value → ℕ → Seen → Move → Step
+abbrev pub value_moves : Value → ℕ → Seen → Move → ItemStep
 value_moves v room t (goes s') = ahead (in_value v s' (room - 1))
 value_moves v room t (ends e) = if is_semicolon t.0 then value_ends v e t else refused
 value_moves v room t stops = refused

@@ -9,7 +9,7 @@ use Rattle.prem_token.specs.declared.token.Word.TheVariants as w
 use Rattle.prem_token.specs.Lexeme.{Lexeme, name, number, word, mark, Seen}
 use Rattle.prem_grammar.specs.Expression.{bottom, State, wants, Move, goes, ends, stops, move}
 use Rattle.prem_grammar.specs.Statement.{in_body, Point, Turn, on, leaves, wrong, turn, listed}
-use Rattle.prem_grammar.specs.Item.{global_ends, global_or, constant_ends, Typing, no_type, after_signed, after_unsigned, a_type, Declared, an_item, a_parameter, a_local, Constant, range_low, range_high, only_value, next_value, Value, local_value, result_value, ItemRow, mark_row, region_row, length_row, global_row, body_row, range_row, local_row, end_row, Stage, outside, marked, in_row, in_type, behind_item, behind_global, before_initial, before_constant, behind_constant, before_parameter, on_parameter, behind_parameter, before_local, in_statements, in_value, finished, Step, ahead, made, refused, declared, type_or_name, with_initial, constant, with_parameter, parameter_ends, with_local, with_body, with_result, body_ends, statement_step, begins_type, value_ends, with_region, row_ends, row_goes_on, step}
+use Rattle.prem_grammar.specs.Item.{global_ends, global_or, constant_ends, Typing, no_type, after_signed, after_unsigned, a_type, Declared, an_item, a_parameter, a_local, Constant, range_low, range_high, only_value, next_value, Value, local_value, result_value, ItemRow, mark_row, region_row, length_row, global_row, body_row, range_row, local_row, end_row, Stage, outside, marked, in_row, in_type, behind_item, behind_global, before_initial, before_constant, behind_constant, before_parameter, on_parameter, behind_parameter, before_local, in_statements, in_value, finished, ItemStep, ahead, made, refused, declared, type_or_name, with_initial, constant, with_parameter, parameter_ends, with_local, with_body, with_result, body_ends, statement_step, begins_type, value_ends, with_region, row_ends, row_goes_on, step}
 use Rattle.prem_grammar.specs.Phrases.{Phrase, spelled, tree, IsExpression, IsRow, name_at}
 use Rattle.prem_grammar.specs.StatementPhrases.{StatementPhrases, no_phrases, AreStatements, all_written, all_meant}
 use Rattle.prem_grammar.specs.ProgramPhrases.{TypeForm, void_type, int_type, short_type, signed_char_type, unsigned_type, unsigned_int_type, unsigned_short_type, unsigned_char_type, type_slots, type_of, Declaration, IsDeclaration, declaration_tokens, ConstantPhrase, IsConstant, constant_tree, PartedConstant, no_initial, one_initial, many_initial, ArePartedConstants, constants_tokens, constants_tree, IsLength, length_tokens, length_tree, MarkPhrase, AreRegions, region_tokens, region_trees, IsMark, mark_tokens, mark_tree, ParameterPhrase, IsParameter, parameter_tokens, parameter_tree, PartedParameter, ParametersPhrase, of_void, of_parameters, is_void_form, begins_void, ArePartedParameters, AreParameters, parted_parameter_tokens, parted_parameter_trees, parameters_tokens, parameters_tree, LocalPhrase, AreLocals, local_tokens, local_trees, ItemPhrase, of_global, of_function, IsItem, item_tokens, item_tree}
@@ -120,12 +120,12 @@ pub data StageIs : Stage → List Seen → Type 0 where
   is_finished : (t : Seen) → fits the_end t.0 ≡ true → StageIs finished (t ∷ [])
 
 -- what a step says of the tokens with its own
-abbrev pub FineStep : List Seen → Step → Type 0
+abbrev pub FineStep : List Seen → ItemStep → Type 0
 FineStep now (ahead stage) = StageIs stage now
 FineStep now (made item) = Whole item now
 FineStep now refused = Unit {0}
 
-pub if_step : (now : List Seen) (b : Bool) (x y : Step) → (b ≡ true → FineStep now x) → (b ≡ false → FineStep now y) → FineStep now (if b then x else y)
+pub if_step : (now : List Seen) (b : Bool) (x y : ItemStep) → (b ≡ true → FineStep now x) → (b ≡ false → FineStep now y) → FineStep now (if b then x else y)
 if_step now true x y first second = first refl
 if_step now false x y first second = second refl
 
@@ -432,7 +432,7 @@ region_fine p all is fit =
 pub row_ends_fine : (row : ItemRow) (before all : List Seen) → ItemRowIs row before all → FineStep (before ++ all) (row_ends row all)
 row_ends_fine _ _ _ (mark_is all fit) = stage_same _ (all ++ []) _ (simp append-nil) (is_marked record { head = all; regions = [] } (fit, tt))
 row_ends_fine _ _ _ (region_is p all is fit) =
-    subst (λ (x : Step). FineStep (mark_tokens (Some p) ++ all) x) (sym (region_ends (mark_text p.head (region_trees p.regions)) all fit)) (region_fine p all is fit)
+    subst (λ (x : ItemStep). FineStep (mark_tokens (Some p) ++ all) x) (sym (region_ends (mark_text p.head (region_trees p.regions)) all fit)) (region_fine p all is fit)
 row_ends_fine _ _ _ (length_is d all is fit) = is_global d (Some all) is fit
 row_ends_fine _ _ _ (global_is g before all whole) = whole
 row_ends_fine _ _ _ (body_is f before all begun) = is_local f _ begun
@@ -466,5 +466,5 @@ step_fine _ _ t (is_parameter f ts before q begun is ok) = parameter_ends_fine f
 step_fine _ _ t (is_local f ts begun) = local_fine f ts t begun
 step_fine _ _ t (is_statements f ts mid p begun stands) = statement_fine f ts mid t (turn p t) begun (turn_fine p mid t stands)
 step_fine _ _ t (is_value v before mid s room is stands) =
-    subst (λ (x : Step). FineStep (before ++ mid ++ t ∷ []) x) (sym (value_step v s room t (move 1 s t) refl)) (value_fine v before mid room t (move 1 s t) is (move_fine 1 s mid t (omega arith) stands))
+    subst (λ (x : ItemStep). FineStep (before ++ mid ++ t ∷ []) x) (sym (value_step v s room t (move 1 s t) refl)) (value_fine v before mid room t (move 1 s t) is (move_fine 1 s mid t (omega arith) stands))
 step_fine _ _ t (is_finished u h) = tt

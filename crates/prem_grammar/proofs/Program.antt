@@ -8,7 +8,7 @@ use Rattle.prem_token.specs.declared.fail.FrontFail.TheVariants.{Syntax}
 use Rattle.prem_token.specs.Lexeme.{Seen}
 use Rattle.prem_token.specs.Reading.{no_program, too_deep}
 use Rattle.prem_grammar.specs.Slots.{the_end, fits}
-use Rattle.prem_grammar.specs.Item.{Stage, outside, finished, Step, ahead, made, refused, step, is_too_deep}
+use Rattle.prem_grammar.specs.Item.{Stage, outside, finished, ItemStep, ahead, made, refused, step, is_too_deep}
 use Rattle.prem_grammar.specs.Reader.{unless_deep, at_end, read_on, read}
 use Rattle.prem_grammar.specs.Phrases.{IsRow, quiet}
 use Rattle.prem_grammar.specs.ProgramPhrases.{ItemPhrase, of_global, of_function, IsItem, item_tokens, item_tree, item_past, AreItems, items_tokens, items_tree, items_past, ProgramPhrase, IsProgram, program_tokens, program_tree, program_past}
@@ -20,41 +20,41 @@ use Rattle.prem_grammar.proofs.FunctionWhole.{function_read}
 abbrev pub Reached : Type 0
 Reached = List ItemText × Stage
 
-abbrev pub stages_by : List ItemText → List Seen → Step → Option Reached
+abbrev pub stages_by : List ItemText → List Seen → ItemStep → Option Reached
 stages_by items ts (ahead next) = stages items next ts
 stages_by items ts (made item) = stages (items ++ item ∷ []) outside ts
 stages_by items ts refused = None
 
-abbrev pub depths_by : List Seen → Step → List Bool
+abbrev pub depths_by : List Seen → ItemStep → List Bool
 depths_by ts (ahead next) = is_too_deep next ∷ depths next ts
 depths_by ts (made item) = false ∷ depths outside ts
 depths_by ts refused = []
 
-abbrev pub read_by : List ItemText → Seen → List Seen → Step → Result ProgramText FrontFail
+abbrev pub read_by : List ItemText → Seen → List Seen → ItemStep → Result ProgramText FrontFail
 read_by items t ts (ahead next) = unless_deep next t.1 (read_on items next ts)
 read_by items t ts (made item) = read_on (items ++ item ∷ []) outside ts
 read_by items t ts refused = no_program t.1
 
-pub stages_step : (items : List ItemText) (s : Stage) (t : Seen) (ts : List Seen) (x : Step) → step s t ≡ x → stages items s (t ∷ ts) ≡ stages_by items ts x
+pub stages_step : (items : List ItemText) (s : Stage) (t : Seen) (ts : List Seen) (x : ItemStep) → step s t ≡ x → stages items s (t ∷ ts) ≡ stages_by items ts x
 stages_step items s t ts x is = by (step s t) ∙ ap (stages_by items ts) is
   where
-    by : (y : Step) → (elim y [ ahead next ↦ stages items next ts | made item ↦ stages (items ++ item ∷ []) outside ts | refused ↦ None ]) ≡ stages_by items ts y
+    by : (y : ItemStep) → (elim y [ ahead next ↦ stages items next ts | made item ↦ stages (items ++ item ∷ []) outside ts | refused ↦ None ]) ≡ stages_by items ts y
     by (ahead next) = refl
     by (made item) = refl
     by refused = refl
 
-pub depths_step : (s : Stage) (t : Seen) (ts : List Seen) (x : Step) → step s t ≡ x → depths s (t ∷ ts) ≡ depths_by ts x
+pub depths_step : (s : Stage) (t : Seen) (ts : List Seen) (x : ItemStep) → step s t ≡ x → depths s (t ∷ ts) ≡ depths_by ts x
 depths_step s t ts x is = by (step s t) ∙ ap (depths_by ts) is
   where
-    by : (y : Step) → (elim y [ ahead next ↦ is_too_deep next ∷ depths next ts | made item ↦ false ∷ depths outside ts | refused ↦ [] ]) ≡ depths_by ts y
+    by : (y : ItemStep) → (elim y [ ahead next ↦ is_too_deep next ∷ depths next ts | made item ↦ false ∷ depths outside ts | refused ↦ [] ]) ≡ depths_by ts y
     by (ahead next) = refl
     by (made item) = refl
     by refused = refl
 
-pub read_step : (items : List ItemText) (s : Stage) (t : Seen) (ts : List Seen) (x : Step) → step s t ≡ x → read_on items s (t ∷ ts) ≡ read_by items t ts x
+pub read_step : (items : List ItemText) (s : Stage) (t : Seen) (ts : List Seen) (x : ItemStep) → step s t ≡ x → read_on items s (t ∷ ts) ≡ read_by items t ts x
 read_step items s t ts x is = by (step s t) ∙ ap (read_by items t ts) is
   where
-    by : (y : Step) → (elim y [ ahead next ↦ unless_deep next t.1 (read_on items next ts) | made item ↦ read_on (items ++ item ∷ []) outside ts | refused ↦ no_program t.1 ]) ≡ read_by items t ts y
+    by : (y : ItemStep) → (elim y [ ahead next ↦ unless_deep next t.1 (read_on items next ts) | made item ↦ read_on (items ++ item ∷ []) outside ts | refused ↦ no_program t.1 ]) ≡ read_by items t ts y
     by (ahead next) = refl
     by (made item) = refl
     by refused = refl
@@ -132,7 +132,7 @@ pub read_whole : (ts : List Seen) (items : List ItemText) (s : Stage) (q : Reach
 read_whole [] items s q is within = ap (λ (r : Reached). at_end r.0 r.1) (some_same items s q is)
 read_whole (t ∷ ts) items s q is within = by (step s t) refl (λ items' next is' inside. read_whole ts items' next q is' inside)
   where
-    by : (x : Step) → step s t ≡ x → ((items' : List ItemText) (next : Stage) → stages items' next ts ≡ Some q → are_within (depths next ts) ≡ true → read_on items' next ts ≡ at_end q.0 q.1) → read_on items s (t ∷ ts) ≡ at_end q.0 q.1
+    by : (x : ItemStep) → step s t ≡ x → ((items' : List ItemText) (next : Stage) → stages items' next ts ≡ Some q → are_within (depths next ts) ≡ true → read_on items' next ts ≡ at_end q.0 q.1) → read_on items s (t ∷ ts) ≡ at_end q.0 q.1
     by (ahead next) is' go_on =
         let inside : are_within (is_too_deep next ∷ depths next ts) ≡ true = sym (ap are_within (depths_step s t ts (ahead next) is')) ∙ within in
         let both = first_within (is_too_deep next) (depths next ts) inside in
@@ -153,7 +153,7 @@ pub stages_split : (xs ys : List Seen) (items : List ItemText) (s : Stage) (q : 
 stages_split [] ys items s q is = ap (λ (r : Reached). stages r.0 r.1 ys) (some_same items s q is)
 stages_split (t ∷ ts) ys items s q is = by (step s t) refl (λ items' next is'. stages_split ts ys items' next q is')
   where
-    by : (x : Step) → step s t ≡ x → ((items' : List ItemText) (next : Stage) → stages items' next ts ≡ Some q → stages items' next (ts ++ ys) ≡ stages q.0 q.1 ys) → stages items s (t ∷ (ts ++ ys)) ≡ stages q.0 q.1 ys
+    by : (x : ItemStep) → step s t ≡ x → ((items' : List ItemText) (next : Stage) → stages items' next ts ≡ Some q → stages items' next (ts ++ ys) ≡ stages q.0 q.1 ys) → stages items s (t ∷ (ts ++ ys)) ≡ stages q.0 q.1 ys
     by (ahead next) is' go_on = stages_step items s t (ts ++ ys) (ahead next) is' ∙ go_on items next (sym (stages_step items s t ts (ahead next) is') ∙ is)
     by (made item) is' go_on = stages_step items s t (ts ++ ys) (made item) is' ∙ go_on (items ++ item ∷ []) outside (sym (stages_step items s t ts (made item) is') ∙ is)
     by refused is' go_on = let none : None ≡ Some q = sym (stages_step items s t ts refused is') ∙ is in absurd cc
@@ -163,7 +163,7 @@ stages_split (t ∷ ts) ys items s q is = by (step s t) refl (λ items' next is'
 pub deep_at : (good : List Seen) (items : List ItemText) (s : Stage) (t : Seen) (more later : List Seen) (bs : List Bool) → depths s (good ++ t ∷ more) ≡ quiet good ++ true ∷ bs → read_on items s (good ++ t ∷ later) ≡ too_deep t.1
 deep_at [] items s t more later bs is = by (step s t) refl
   where
-    by : (x : Step) → step s t ≡ x → read_on items s (t ∷ later) ≡ too_deep t.1
+    by : (x : ItemStep) → step s t ≡ x → read_on items s (t ∷ later) ≡ too_deep t.1
     by (ahead next) is' =
         let same : is_too_deep next ∷ depths next more ≡ true ∷ bs = sym (depths_step s t more (ahead next) is') ∙ is in
         let flag : is_too_deep next ≡ true = cc in
@@ -172,7 +172,7 @@ deep_at [] items s t more later bs is = by (step s t) refl
     by refused is' = let same : [] ≡ true ∷ bs = sym (depths_step s t more refused is') ∙ is in absurd cc
 deep_at (g ∷ good) items s t more later bs is = by (step s g) refl (λ items' next is'. deep_at good items' next t more later bs is')
   where
-    by : (x : Step) → step s g ≡ x → ((items' : List ItemText) (next : Stage) → depths next (good ++ t ∷ more) ≡ quiet good ++ true ∷ bs → read_on items' next (good ++ t ∷ later) ≡ too_deep t.1) → read_on items s (g ∷ (good ++ t ∷ later)) ≡ too_deep t.1
+    by : (x : ItemStep) → step s g ≡ x → ((items' : List ItemText) (next : Stage) → depths next (good ++ t ∷ more) ≡ quiet good ++ true ∷ bs → read_on items' next (good ++ t ∷ later) ≡ too_deep t.1) → read_on items s (g ∷ (good ++ t ∷ later)) ≡ too_deep t.1
     by (ahead next) is' go_on =
         let same : is_too_deep next ∷ depths next (good ++ t ∷ more) ≡ false ∷ (quiet good ++ true ∷ bs) = sym (depths_step s g (good ++ t ∷ more) (ahead next) is') ∙ is in
         let flag : is_too_deep next ≡ false = cc in

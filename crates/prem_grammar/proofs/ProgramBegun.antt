@@ -6,7 +6,7 @@ use Rattle.prem_token.specs.declared.fail.FrontFail.TheVariants.{TooDeep}
 use Rattle.prem_token.specs.Lexeme.{Seen}
 use Rattle.prem_token.specs.Reading.{no_program}
 use Rattle.prem_grammar.specs.Slots.{the_end}
-use Rattle.prem_grammar.specs.Item.{Stage, outside, finished, Step, ahead, made, refused, step, is_too_deep}
+use Rattle.prem_grammar.specs.Item.{Stage, outside, finished, ItemStep, ahead, made, refused, step, is_too_deep}
 use Rattle.prem_grammar.specs.Reader.{at_end, read_on, read}
 use Rattle.prem_grammar.specs.Phrases.{IsRow, quiet}
 use Rattle.prem_grammar.specs.ProgramPhrases.{items_tokens, program_tokens}
@@ -30,7 +30,7 @@ begins_far items s pre far = by (fill_stage s far.mid far.stage)
     }
     by (inr row) = record { more = []; phrase = record { items = far.phrases; end = far.mid }; right = (far.right, row); tokens = far.tokens ∙ sym (append-nil pre) }
 
-far_by : (items : List ItemText) (s : Stage) (pre : List Seen) (t : Seen) (ts : List Seen) (q : Reached) (x : Step) → step s t ≡ x → SoFar items s pre → stages items s (t ∷ ts) ≡ Some q →
+far_by : (items : List ItemText) (s : Stage) (pre : List Seen) (t : Seen) (ts : List Seen) (q : Reached) (x : ItemStep) → step s t ≡ x → SoFar items s pre → stages items s (t ∷ ts) ≡ Some q →
     ((more : List ItemText) (next : Stage) → SoFar more next (pre ++ t ∷ []) → stages more next ts ≡ Some q → SoFar q.0 q.1 ((pre ++ t ∷ []) ++ ts)) → SoFar q.0 q.1 (pre ++ t ∷ ts)
 far_by items s pre t ts q (ahead next) is far went go_on =
     subst (λ (l : List Seen). SoFar q.0 q.1 l) (append_assoc pre (t ∷ []) ts) (go_on items next (far_ahead items s next pre t far is) (sym (stages_step items s t ts (ahead next) is) ∙ went))

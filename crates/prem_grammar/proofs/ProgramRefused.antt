@@ -5,7 +5,7 @@ use Rattle.prem_token.specs.declared.fail.FrontFail.{FrontFail}
 use Rattle.prem_token.specs.declared.fail.FrontFail.TheVariants.{Syntax, TooDeep}
 use Rattle.prem_token.specs.Lexeme.{Seen}
 use Rattle.prem_token.specs.Reading.{no_program, too_deep}
-use Rattle.prem_grammar.specs.Item.{Stage, outside, finished, Step, ahead, made, refused, step, is_too_deep}
+use Rattle.prem_grammar.specs.Item.{Stage, outside, finished, ItemStep, ahead, made, refused, step, is_too_deep}
 use Rattle.prem_grammar.specs.Reader.{unless_deep, at_end, read_on, read}
 use Rattle.prem_grammar.specs.Phrases.{quiet}
 use Rattle.prem_grammar.specs.ProgramPhrases.{ProgramPhrase, IsProgram, program_tokens, program_tree, program_past}
@@ -19,7 +19,7 @@ depths_split : (xs ys : List Seen) (items : List ItemText) (s : Stage) (q : Reac
 depths_split [] ys items s q went = ap (λ (r : Reached). depths r.1 ys) (some_same items s q went)
 depths_split (t ∷ ts) ys items s q went = by (step s t) refl (λ more next went'. depths_split ts ys more next q went')
   where
-    by : (x : Step) → step s t ≡ x → ((more : List ItemText) (next : Stage) → stages more next ts ≡ Some q → depths next (ts ++ ys) ≡ depths next ts ++ depths q.1 ys) → depths s (t ∷ (ts ++ ys)) ≡ depths s (t ∷ ts) ++ depths q.1 ys
+    by : (x : ItemStep) → step s t ≡ x → ((more : List ItemText) (next : Stage) → stages more next ts ≡ Some q → depths next (ts ++ ys) ≡ depths next ts ++ depths q.1 ys) → depths s (t ∷ (ts ++ ys)) ≡ depths s (t ∷ ts) ++ depths q.1 ys
     by (ahead next) is go_on =
         depths_step s t (ts ++ ys) (ahead next) is ∙ ap (λ (l : List Bool). is_too_deep next ∷ l) (go_on items next (sym (stages_step items s t ts (ahead next) is) ∙ went))
         ∙ ap (λ (l : List Bool). l ++ depths q.1 ys) (sym (depths_step s t ts (ahead next) is))
@@ -118,7 +118,7 @@ ahead_reason true good items s next t ts fail h is flag e go_on =
 ahead_reason false good items s next t ts fail h is flag e go_on =
     subst (λ (l : List Seen). Reason fail l) (append_assoc good (t ∷ []) ts) (go_on items next (took_ahead good items s next t h is flag) (sym (shallow next t.1 (read_on items next ts) flag) ∙ e))
 
-step_reason : (x : Step) (good : List Seen) (items : List ItemText) (s : Stage) (t : Seen) (ts : List Seen) (fail : FrontFail) → Took good items s → step s t ≡ x → read_by items t ts x ≡ Err fail →
+step_reason : (x : ItemStep) (good : List Seen) (items : List ItemText) (s : Stage) (t : Seen) (ts : List Seen) (fail : FrontFail) → Took good items s → step s t ≡ x → read_by items t ts x ≡ Err fail →
     ((more : List ItemText) (after : Stage) → Took (good ++ t ∷ []) more after → read_on more after ts ≡ Err fail → Reason fail ((good ++ t ∷ []) ++ ts)) → Reason fail (good ++ t ∷ ts)
 step_reason (ahead next) good items s t ts fail h is e go_on = ahead_reason (is_too_deep next) good items s next t ts fail h is refl e go_on
 step_reason (made item) good items s t ts fail h is e go_on =
@@ -148,7 +148,7 @@ passes : (good more : List Seen) (items : List ItemText) (s : Stage) (q : Reache
 passes [] more items s q later went within = record { made_items = items; stage = s; went = refl; reads = λ ys. refl }
 passes (t ∷ ts) more items s q later went within = by (step s t) refl (λ items' next went' within'. passes ts more items' next q later went' within')
   where
-    by : (x : Step) → step s t ≡ x → ((items' : List ItemText) (next : Stage) → stages items' next (ts ++ more) ≡ Some q → depths next (ts ++ more) ≡ quiet ts ++ later → Passes ts items' next) → Passes (t ∷ ts) items s
+    by : (x : ItemStep) → step s t ≡ x → ((items' : List ItemText) (next : Stage) → stages items' next (ts ++ more) ≡ Some q → depths next (ts ++ more) ≡ quiet ts ++ later → Passes ts items' next) → Passes (t ∷ ts) items s
     by (ahead next) is go_on =
         let same : is_too_deep next ∷ depths next (ts ++ more) ≡ false ∷ (quiet ts ++ later) = sym (depths_step s t (ts ++ more) (ahead next) is) ∙ within in
         let flag : is_too_deep next ≡ false = cc in
@@ -185,7 +185,7 @@ passed_good ts line col u =
     passes u.good u.begun.more [] outside (reached (program_tree u.begun.phrase) finished) u.later
     (ap (λ (l : List Seen). stages [] outside l) (sym u.begun.tokens) ∙ whole.0) (ap (λ (l : List Seen). depths outside l) (sym u.begun.tokens) ∙ whole.1 ∙ u.within)
 
-refused_next : (ts : List Seen) (line col : ℕ) (u : IsUnexpected ts line col) (p : Passes u.good [] outside) (x : Step) → step p.stage u.token ≡ x → read_on p.made_items p.stage (u.token ∷ u.rest) ≡ Err (Syntax line col)
+refused_next : (ts : List Seen) (line col : ℕ) (u : IsUnexpected ts line col) (p : Passes u.good [] outside) (x : ItemStep) → step p.stage u.token ≡ x → read_on p.made_items p.stage (u.token ∷ u.rest) ≡ Err (Syntax line col)
 refused_next ts line col u p (ahead next) is =
     absurd (no_more_has u.good p.made_items p.made_items p.stage next u.token p.went (stages_step p.made_items p.stage u.token [] (ahead next) is) u.none)
 refused_next ts line col u p (made item) is =

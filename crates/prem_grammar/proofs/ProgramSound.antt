@@ -4,7 +4,7 @@ use Rattle.std.proofs.lemmas.List.{append-nil}
 use Rattle.prem_syntax.specs.Syntax.{ItemText, ProgramText}
 use Rattle.prem_token.specs.Lexeme.{Seen}
 use Rattle.prem_token.specs.Reading.{no_program, too_deep}
-use Rattle.prem_grammar.specs.Item.{Stage, outside, finished, Step, ahead, made, refused, step, is_too_deep}
+use Rattle.prem_grammar.specs.Item.{Stage, outside, finished, ItemStep, ahead, made, refused, step, is_too_deep}
 use Rattle.prem_grammar.specs.Reader.{at_end, read_on, read}
 use Rattle.prem_grammar.specs.ProgramPhrases.{ItemPhrase, IsItem, item_tokens, item_tree, AreItems, items_tokens, items_tree, ProgramPhrase, IsProgram, program_tokens, program_tree, program_past}
 use Rattle.prem_grammar.specs.Law.{depths, are_within}
@@ -51,12 +51,12 @@ far_ahead items s next pre t far is = record {
   right = far.right;
   tree_is = far.tree_is;
   mid = far.mid ++ t ∷ [];
-  stage = subst (λ (y : Step). FineStep (far.mid ++ t ∷ []) y) is (step_fine s far.mid t far.stage);
+  stage = subst (λ (y : ItemStep). FineStep (far.mid ++ t ∷ []) y) is (step_fine s far.mid t far.stage);
   tokens = sym (append_assoc (items_tokens far.phrases) far.mid (t ∷ [])) ∙ ap (λ (l : List Seen). l ++ t ∷ []) far.tokens;
 }
 
 pub far_made : (items : List ItemText) (item : ItemText) (s : Stage) (pre : List Seen) (t : Seen) → SoFar items s pre → step s t ≡ made item → SoFar (items ++ item ∷ []) outside (pre ++ t ∷ [])
-far_made items item s pre t far is = by (subst (λ (y : Step). FineStep (far.mid ++ t ∷ []) y) is (step_fine s far.mid t far.stage))
+far_made items item s pre t far is = by (subst (λ (y : ItemStep). FineStep (far.mid ++ t ∷ []) y) is (step_fine s far.mid t far.stage))
   where
     by : Whole item (far.mid ++ t ∷ []) → SoFar (items ++ item ∷ []) outside (pre ++ t ∷ [])
     by w = record {
@@ -69,7 +69,7 @@ far_made items item s pre t far is = by (subst (λ (y : Step). FineStep (far.mid
           ∙ sym (append_assoc (items_tokens far.phrases) far.mid (t ∷ [])) ∙ ap (λ (l : List Seen). l ++ t ∷ []) far.tokens;
     }
 
-pub step_far : (items items' : List ItemText) (s : Stage) (pre : List Seen) (t : Seen) (ts : List Seen) (x : Step) → step s t ≡ x → SoFar items s pre → read_on items s (t ∷ ts) ≡ Ok items' →
+pub step_far : (items items' : List ItemText) (s : Stage) (pre : List Seen) (t : Seen) (ts : List Seen) (x : ItemStep) → step s t ≡ x → SoFar items s pre → read_on items s (t ∷ ts) ≡ Ok items' →
     ((more : List ItemText) (next : Stage) → SoFar more next (pre ++ t ∷ []) → read_on more next ts ≡ Ok items' → IsSpelled ((pre ++ t ∷ []) ++ ts) items') → IsSpelled (pre ++ t ∷ ts) items'
 step_far items items' s pre t ts (ahead next) is far read' go_on = by (is_too_deep next) refl
   where
@@ -90,7 +90,7 @@ spelled_on (t ∷ ts) items items' s pre far read' =
 
 -- ---- limits
 
-pub within_by : (items items' : List ItemText) (s : Stage) (t : Seen) (ts : List Seen) (x : Step) → step s t ≡ x → read_on items s (t ∷ ts) ≡ Ok items' →
+pub within_by : (items items' : List ItemText) (s : Stage) (t : Seen) (ts : List Seen) (x : ItemStep) → step s t ≡ x → read_on items s (t ∷ ts) ≡ Ok items' →
     ((more : List ItemText) (next : Stage) → read_on more next ts ≡ Ok items' → are_within (depths next ts) ≡ true) → are_within (depths s (t ∷ ts)) ≡ true
 within_by items items' s t ts (ahead next) is read' go_on = ap are_within (depths_step s t ts (ahead next) is) ∙ by (is_too_deep next) refl
   where

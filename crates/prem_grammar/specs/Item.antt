@@ -107,12 +107,12 @@ pub data Stage : Type 0 where
   finished : Stage
 
 -- a token continues the program, it ends an item, or no program has it here
-pub data Step : Type 0 where
-  ahead : (stage : Stage) → Step
-  made : (item : ItemText) → Step
-  refused : Step
+pub data ItemStep : Type 0 where
+  ahead : (stage : Stage) → ItemStep
+  made : (item : ItemText) → ItemStep
+  refused : ItemStep
 
-abbrev pub begin_row : ItemRow → Seen → Slot → List Slot → Step
+abbrev pub begin_row : ItemRow → Seen → Slot → List Slot → ItemStep
 begin_row row t wanted later = ahead (in_row row (t ∷ []) wanted later)
 
 -- ---- types and names
@@ -122,20 +122,20 @@ declared (an_item annotation) ty at x = behind_item annotation ty at x
 declared (a_parameter f) ty at x = on_parameter f record { at = at; ty = ty; name = x; range = None }
 declared (a_local f) ty at x = in_row (local_row f ty at x) [] equal_sign []
 
-abbrev pub type_or_name : Declared → Typing → Place → Lexeme → Step
+abbrev pub type_or_name : Declared → Typing → Place → Lexeme → ItemStep
 type_or_name d typing at (word x) = elim (type_word typing x) [ Some more ↦ ahead (in_type d more) | None ↦ refused ]
 type_or_name d typing at (name x) = elim (type_in typing) [ Some ty ↦ ahead (declared d ty at x) | None ↦ refused ]
 type_or_name d typing at _ = refused
 
-abbrev pub type_begins : Declared → Seen → Step
+abbrev pub type_begins : Declared → Seen → ItemStep
 type_begins d t = type_or_name d no_type t.1 t.0
 
-abbrev pub item_begins : Seen → Step
+abbrev pub item_begins : Seen → ItemStep
 item_begins t =
     if is_end t.0 then ahead finished else
     if is_predictable t.0 then begin_row mark_row t left_parenthesis (a_literal ∷ right_parenthesis ∷ []) else type_begins (an_item None) t
 
-abbrev pub behind_mark : MarkText → Seen → Step
+abbrev pub behind_mark : MarkText → Seen → ItemStep
 behind_mark annotation t =
     if is_region t.0 then begin_row (region_row annotation) t left_parenthesis (a_name ∷ comma ∷ a_literal ∷ comma ∷ a_literal ∷ right_parenthesis ∷ [])
     else type_begins (an_item (Some annotation)) t
@@ -151,18 +151,18 @@ with_length g n = record g { len = Some n }
 abbrev pub with_initial : GlobalVariable → InitialValue → GlobalVariable
 with_initial g initial = record g { initial = initial }
 
-abbrev pub global_ends : GlobalVariable → Seen → Step
+abbrev pub global_ends : GlobalVariable → Seen → ItemStep
 global_ends g t = if is_equal t.0 then ahead (before_initial g) else if is_semicolon t.0 then made (global_item g) else refused
 
 abbrev pub new_function : Option MarkText → Ty → Place → Text → FunctionText
 new_function annotation ty at x = record { at = at; mark = annotation; ty = ty; name = x; params = []; locals = []; body = no_statements; result = None }
 
-abbrev pub global_or : Option MarkText → Ty → Place → Text → Seen → Step
+abbrev pub global_or : Option MarkText → Ty → Place → Text → Seen → ItemStep
 global_or (Some annotation) ty at x t = refused
 global_or None ty at x t =
     if is_left_bracket t.0 then begin_row (length_row (scalar ty at x)) t a_literal (right_bracket ∷ []) else global_ends (scalar ty at x) t
 
-abbrev pub item_goes_on : Option MarkText → Ty → Place → Text → Seen → Step
+abbrev pub item_goes_on : Option MarkText → Ty → Place → Text → Seen → ItemStep
 item_goes_on annotation ty at x t = if is_left_parenthesis t.0 then ahead (before_parameter (new_function annotation ty at x)) else global_or annotation ty at x t
 
 -- ---- constants
@@ -171,11 +171,11 @@ abbrev pub constant_of : Bool → ℕ → ℤ
 constant_of false n = pos n
 constant_of true n = neg_ℤ (pos n)
 
-abbrev pub minus_once : Constant → Bool → Step
+abbrev pub minus_once : Constant → Bool → ItemStep
 minus_once c true = refused
 minus_once c false = ahead (before_constant c true)
 
-abbrev pub constant : Constant → Bool → Lexeme → Step
+abbrev pub constant : Constant → Bool → Lexeme → ItemStep
 constant c negative (number n kind) = ahead (behind_constant c (constant_of negative n))
 constant c negative (mark m.Minus) = minus_once c negative
 constant c negative _ = refused
@@ -186,7 +186,7 @@ with_parameter f p = record f { params = f.params ++ p ∷ [] }
 abbrev pub with_range : Parameter → ℤ → ℤ → Parameter
 with_range p low high = record p { range = Some (low, high) }
 
-abbrev pub constant_ends : Constant → ℤ → Seen → Step
+abbrev pub constant_ends : Constant → ℤ → Seen → ItemStep
 constant_ends (range_low f p) value t = if is_comma t.0 then ahead (before_constant (range_high f p value) false) else refused
 constant_ends (range_high f p low) value t = if is_right_parenthesis t.0 then ahead (behind_parameter (with_parameter f (with_range p low value))) else refused
 constant_ends (only_value g) value t = if is_semicolon t.0 then made (global_item (with_initial g (one value))) else refused
@@ -194,21 +194,21 @@ constant_ends (next_value g before) value t =
     if is_comma t.0 then ahead (before_constant (next_value g (before ++ value ∷ [])) false) else
     if is_right_brace t.0 then begin_row (global_row (with_initial g (many (before ++ value ∷ [])))) t semicolon [] else refused
 
-abbrev pub initial_begins : GlobalVariable → Seen → Step
+abbrev pub initial_begins : GlobalVariable → Seen → ItemStep
 initial_begins g t = if is_left_brace t.0 then ahead (before_constant (next_value g []) false) else constant (only_value g) false t.0
 
 -- ---- functions
 
 -- `void` alone is the empty list of parameters
-abbrev pub parameter_begins : FunctionText → Seen → Step
+abbrev pub parameter_begins : FunctionText → Seen → ItemStep
 parameter_begins f t = if is_void t.0 then begin_row (body_row f) t right_parenthesis (left_brace ∷ []) else type_begins (a_parameter f) t
 
-abbrev pub parameter_ends : FunctionText → Seen → Step
+abbrev pub parameter_ends : FunctionText → Seen → ItemStep
 parameter_ends f t =
     if is_comma t.0 then ahead (in_type (a_parameter f) no_type) else
     if is_right_parenthesis t.0 then begin_row (body_row f) t left_brace [] else refused
 
-abbrev pub parameter_goes_on : FunctionText → Parameter → Seen → Step
+abbrev pub parameter_goes_on : FunctionText → Parameter → Seen → ItemStep
 parameter_goes_on f p t = if is_range t.0 then begin_row (range_row f p) t left_parenthesis [] else parameter_ends (with_parameter f p) t
 
 abbrev pub with_local : FunctionText → LocalVariable → FunctionText
@@ -225,10 +225,10 @@ abbrev pub value_begins : Value → Stage
 value_begins v = in_value v (wants bottom) 257
 
 -- behind the last statement
-abbrev pub body_ends : FunctionText → Seen → Step
+abbrev pub body_ends : FunctionText → Seen → ItemStep
 body_ends f t = if is_right_brace t.0 then made (function_item f) else if is_return t.0 then ahead (value_begins (result_value f)) else refused
 
-abbrev pub statement_step : FunctionText → Turn → Seen → Step
+abbrev pub statement_step : FunctionText → Turn → Seen → ItemStep
 statement_step f (on p) t = ahead (in_statements f p)
 statement_step f (leaves statements) t = body_ends (with_body f (listed statements)) t
 statement_step f wrong t = refused
@@ -242,14 +242,14 @@ begins_type (word w.Unsigned) = true
 begins_type _ = false
 
 -- locals stand before the first statement
-abbrev pub local_begins : FunctionText → Seen → Step
+abbrev pub local_begins : FunctionText → Seen → ItemStep
 local_begins f t = if begins_type t.0 then type_begins (a_local f) t else statement_step f (turn (between (in_body [])) t) t
 
-abbrev pub value_ends : Value → Expression → Seen → Step
+abbrev pub value_ends : Value → Expression → Seen → ItemStep
 value_ends (local_value f ty at x) e t = ahead (before_local (with_local f record { at = at; ty = ty; name = x; value = e }))
 value_ends (result_value f) e t = begin_row (end_row (with_result f e)) t right_brace []
 
-abbrev pub value_goes_on : Value → State → ℕ → Seen → Step
+abbrev pub value_goes_on : Value → State → ℕ → Seen → ItemStep
 value_goes_on v s room t = elim (move 1 s t) [
   | goes s' ↦ ahead (in_value v s' (room - 1))
   | ends e ↦ if is_semicolon t.0 then value_ends v e t else refused
@@ -262,7 +262,7 @@ abbrev pub with_region : MarkText → RegionText → MarkText
 with_region annotation r = record annotation { regions = annotation.regions ++ r ∷ [] }
 
 -- a row has all its tokens
-abbrev pub row_ends : ItemRow → List Seen → Step
+abbrev pub row_ends : ItemRow → List Seen → ItemStep
 row_ends mark_row got = ahead (marked record { stated = value_at 2 got; regions = [] })
 row_ends (region_row annotation) got = elim (text_at 2 got) [
   | Some x ↦ ahead (marked (with_region annotation record { at = place_at 2 got; name = x; low = value_at 4 got; high = value_at 6 got }))
@@ -275,11 +275,11 @@ row_ends (range_row f p) got = ahead (before_constant (range_low f p) false)
 row_ends (local_row f ty at x) got = ahead (value_begins (local_value f ty at x))
 row_ends (end_row f) got = made (function_item f)
 
-abbrev pub row_goes_on : ItemRow → List Seen → List Slot → Step
+abbrev pub row_goes_on : ItemRow → List Seen → List Slot → ItemStep
 row_goes_on row got [] = row_ends row got
 row_goes_on row got (wanted ∷ later) = ahead (in_row row got wanted later)
 
-abbrev pub step : Stage → Seen → Step
+abbrev pub step : Stage → Seen → ItemStep
 step outside t = item_begins t
 step (marked annotation) t = behind_mark annotation t
 step (in_row row got wanted later) t = if fits wanted t.0 then row_goes_on row (got ++ t ∷ []) later else refused

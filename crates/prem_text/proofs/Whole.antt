@@ -9,7 +9,7 @@ use Rattle.prem_token.specs.Reading.{◌>>=◌, too_deep}
 use Rattle.prem_token.specs.Lexeme.{end_of_text, Seen}
 use Rattle.prem_lexer.specs.Tokens.{tokens_of}
 use Rattle.prem_grammar.specs.Slots.{the_end}
-use Rattle.prem_grammar.specs.Item.{Stage, outside, finished, Step, ahead, made, refused, step, is_too_deep}
+use Rattle.prem_grammar.specs.Item.{Stage, outside, finished, ItemStep, ahead, made, refused, step, is_too_deep}
 use Rattle.prem_grammar.specs.Reader.{unless_deep, at_end, read_on, read}
 use Rattle.prem_grammar.specs.Phrases.{IsRow}
 use Rattle.prem_grammar.specs.ProgramPhrases.{items_tokens, program_tokens, program_tree}
@@ -55,7 +55,7 @@ ahead_by : (b : Bool) (items : List ItemText) (next : Stage) (t : Seen) (ts : Li
 ahead_by true items next t ts col is e rec = let off : too_deep t.1 ≡ Err (Syntax 0 col) = sym (deep next t.1 (read_on items next ts) is) ∙ e in absurd cc
 ahead_by false items next t ts col is e rec = rec (sym (shallow next t.1 (read_on items next ts) is) ∙ e)
 
-step_by : (x : Step) (items : List ItemText) (s : Stage) (t : Seen) (ts : List Seen) (col : ℕ) → step s t ≡ x → has_line t ≡ true → read_by items t ts x ≡ Err (Syntax 0 col) →
+step_by : (x : ItemStep) (items : List ItemText) (s : Stage) (t : Seen) (ts : List Seen) (col : ℕ) → step s t ≡ x → has_line t ≡ true → read_by items t ts x ≡ Err (Syntax 0 col) →
     ((more : List ItemText) (next : Stage) → read_on more next ts ≡ Err (Syntax 0 col) → Short more next ts col) → Short items s (t ∷ ts) col
 step_by (ahead next) items s t ts col is lined e rec =
     let r = ahead_by (is_too_deep next) items next t ts col refl e (rec items next) in

@@ -1,0 +1,4 @@
+pub mod PhraseWords
+pub mod StatementWords
+pub mod ProgramWords
+mod Examples
