@@ -3,9 +3,9 @@ use Rattle.std.specs.Prelude.{◌≡◌, ◌<◌, ℕ, ◌+◌, ◌%◌, ◌^◌
 use Rattle.prem_isa.specs.declared.effect.Phase.{Phase}
 use Rattle.prem_isa.specs.declared.effect.Phase.TheVariants.{Compatible}
 use Rattle.prem_isa.specs.Plain.{TaskState}
-use Rattle.prem_plant.specs.Places.{Place}
+use Rattle.prem_plant.specs.Places.{Extent}
 use Rattle.prem_meaning.specs.Expressions.{Outcome, Access}
-use Rattle.prem_meaning.specs.Statements.{State, Calls as SourceCalls}
+use Rattle.prem_meaning.specs.Statements.{ProgramState, Calls as SourceCalls}
 use Rattle.prem_asm.specs.Pieces.{size_of}
 use Rattle.prem_asm.specs.Runs.{Guard, Setting, Calls, Ending, run}
 use Rattle.prem_template.specs.Steps.{Parts}
@@ -27,8 +27,8 @@ stub_run s c x total n t = run (with_guard x.guard s) (code_calls (with_guard x.
 -- a stub is called like its function, by x4, from the frame k
 abbrev pub ConfinedStubsAreCalled : Type 0
 ConfinedStubsAreCalled =
-    (s : Setting) (h : Guard) (calls : Calls) (gs : Globals) (may : Access) (k inner : Stack) (line : ℕ) → Lines (with_guard h s) line → (ranges : List Place) → AllInMemory (with_guard h s) ranges →
-    (passes : PassCount) → passes_of passes < 2 ^ 32 → (n stated part frame depth params : ℕ) (returns : Bool) (call : List ℕ → State → Outcome (ℕ × State)) → stated < 2 ^ 32 → gs.stated n ≡ stated →
+    (s : Setting) (h : Guard) (calls : Calls) (gs : Globals) (may : Access) (k inner : Stack) (line : ℕ) → Lines (with_guard h s) line → (ranges : List Extent) → AllInMemory (with_guard h s) ranges →
+    (passes : PassCount) → passes_of passes < 2 ^ 32 → (n stated part frame depth params : ℕ) (returns : Bool) (call : List ℕ → ProgramState → Outcome (ℕ × ProgramState)) → stated < 2 ^ 32 → gs.stated n ≡ stated →
     Confines s h gs k inner (calls part) frame params returns call → (at : ℕ) → at % 4 ≡ 0 → at + size_of (stub_code passes line ranges stated part) < 2 ^ 32 →
     CallRunsAt s gs may k Compatible (run (with_guard h s) calls at (stub_code passes line ranges stated part)) 4 frame depth params returns (noted n call)
 

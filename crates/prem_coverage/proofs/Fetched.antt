@@ -3,7 +3,7 @@ use Rattle.std.proofs.Common.{◌≡◌, ℕ, ◌*◌, ◌/◌, ◌<◌, ◌≤�
 use Rattle.std.proofs.lemmas.Bool.{cases_lt, eqb-true}
 use Rattle.std.proofs.lemmas.Nat.{le-div}
 use Rattle.std.proofs.Math.Nat.{div-mul-le_self, mul-div_cancel}
-use Rattle.prem_plant.specs.Places.{Place}
+use Rattle.prem_plant.specs.Places.{Extent}
 use Rattle.prem_layout.specs.Footprint.{lines_of}
 use Rattle.prem_layout.specs.Laws.{IsAmong, HasByteIn, SomeHasByteIn}
 use Rattle.prem_layout.proofs.Lines.{div_rises, lines_are_exact}
@@ -25,7 +25,7 @@ in_among n (x ∷ xs) h = by (eqb x n) refl (λ g. in_among n xs g) h where
   by false e k h = inr (k h)
 
 -- a byte in the line, and the line of a byte
-byte_line : (line l : ℕ) (r : Place) → 0 < line → HasByteIn line l r → (r.0 / line ≤ l) × (l * line < r.1)
+byte_line : (line l : ℕ) (r : Extent) → 0 < line → HasByteIn line l r → (r.0 / line ≤ l) × (l * line < r.1)
 byte_line line l r some h =
     let a : ℕ = h.0 in
     let rise : r.0 / line ≤ a / line = div_rises r.0 a line some h.1.0 in
@@ -34,7 +34,7 @@ byte_line line l r some h =
       below : (x a y : ℕ) → x ≤ a → a < y → x < y
       below x a y p q = omega (arith, p, q)
 
-line_byte : (line l : ℕ) (r : Place) → 0 < line → r.0 < r.1 → r.0 / line ≤ l → l * line < r.1 → HasByteIn line l r
+line_byte : (line l : ℕ) (r : Extent) → 0 < line → r.0 < r.1 → r.0 / line ≤ l → l * line < r.1 → HasByteIn line l r
 line_byte line l r some full low high = ⊎_elim inner first (cases_lt r.0 (l * line)) where
   inner : r.0 < l * line → HasByteIn line l r
   inner lt = (l * line, (omega (arith, lt), high), mul-div_cancel l some)
@@ -44,12 +44,12 @@ line_byte line l r some full low high = ⊎_elim inner first (cases_lt r.0 (l * 
     same : (x y : ℕ) → x ≤ y → y ≤ x → x ≡ y
     same x y p q = omega (arith, p, q)
 
-some_line : (line l : ℕ) (ranges : List Place) → 0 < line → SomeHasByteIn line l ranges → IsLineOf line ranges l
+some_line : (line l : ℕ) (ranges : List Extent) → 0 < line → SomeHasByteIn line l ranges → IsLineOf line ranges l
 some_line line l [] some h = absurd h
 some_line line l (r ∷ rs) some (inl h) = inl (byte_line line l r some h)
 some_line line l (r ∷ rs) some (inr h) = inr (some_line line l rs some h)
 
-line_some : (line l : ℕ) (ranges : List Place) → 0 < line → HaveBytes ranges → IsLineOf line ranges l → SomeHasByteIn line l ranges
+line_some : (line l : ℕ) (ranges : List Extent) → 0 < line → HaveBytes ranges → IsLineOf line ranges l → SomeHasByteIn line l ranges
 line_some line l [] some full h = absurd h
 line_some line l (r ∷ rs) some full (inl h) = inl (line_byte line l r some full.0 h.0 h.1)
 line_some line l (r ∷ rs) some full (inr h) = inr (line_some line l rs some full.1 h)
@@ -59,7 +59,7 @@ footprints_are_fetched line ranges some full l =
     let x = (lines_are_exact line ranges some).1 l in
     (λ h. some_line line l ranges some (x.0 (in_among l (lines_of line ranges) h)), λ h. among_in l (lines_of line ranges) (x.1 (line_some line l ranges some full h)))
 
-held_some : (line a : ℕ) (ranges : List Place) → SomeHolds ranges a → SomeHasByteIn line (a / line) ranges
+held_some : (line a : ℕ) (ranges : List Extent) → SomeHolds ranges a → SomeHasByteIn line (a / line) ranges
 held_some line a [] h = absurd h
 held_some line a (r ∷ rs) (inl h) = inl (a, h, refl)
 held_some line a (r ∷ rs) (inr h) = inr (held_some line a rs h)

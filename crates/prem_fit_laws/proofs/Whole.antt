@@ -7,7 +7,7 @@ use Rattle.std.proofs.lemmas.List.Elements.{All-nil, All-cons, All-head, All-tai
 use Rattle.prem_isa.specs.declared.instr.Instr.TheVariants.{PmExec, PmEnd}
 use Rattle.prem_syntax.specs.declared.tree.Place.{Place as TextPlace}
 use Rattle.prem_syntax.specs.Syntax.{MarkText, GlobalVariable, FunctionText, ProgramText, global_item, function_item}
-use Rattle.prem_plant.specs.Places.{Place}
+use Rattle.prem_plant.specs.Places.{Extent}
 use Rattle.prem_meaning.specs.Resolve.{find_function, functions_of, loops_within, resolve_items, resolve}
 use Rattle.prem_meaning.specs.Resolved.{Routine, Resolved}
 use Rattle.prem_meaning.specs.Statements.{is_marked}
@@ -158,13 +158,13 @@ module _ (places : List ℕ) (line : ℕ) (short : line < 2 ^ 11) where
   abbrev Fine : Pieces → Type 0
   Fine ps = Fitting (length places) (slice_index places) ps
 
-  range_fits : (range : Place) (rest : Pieces) → Fine rest → Fine (range_code line range rest)
+  range_fits : (range : Extent) (rest : Pieces) → Fine rest → Fine (range_code line range rest)
   range_fits range rest h = (
     each_behind (address_code 5 (range.0 / line * line)) (address_code 6 range.1) (address_fits 5 (range.0 / line * line) r5) (address_fits 6 range.1 r6),
     ((tt, (r5, r6), (((r0, r5, i0), ((r5, r5, short), tt)), tt)), h),
   )
 
-  ranges_fit : (ranges : List Place) (rest : Pieces) → Fine rest → Fine (ranges_code line ranges rest)
+  ranges_fit : (ranges : List Extent) (rest : Pieces) → Fine rest → Fine (ranges_code line ranges rest)
   ranges_fit [] rest h = h
   ranges_fit (range ∷ ranges) rest h = range_fits range (ranges_code line ranges rest) (ranges_fit ranges rest h)
 

@@ -13,7 +13,7 @@ use Rattle.prem_isa.specs.Act.{with_register}
 use Rattle.prem_isa.specs.Plain.{TaskState, Did}
 use Rattle.prem_meaning.specs.Resolved.{Term}
 use Rattle.prem_meaning.specs.Expressions.{Outcome, and_then, Access, truth_of}
-use Rattle.prem_meaning.specs.Statements.{State, value, choose, holds, bounded}
+use Rattle.prem_meaning.specs.Statements.{ProgramState, value, choose, holds, bounded}
 use Rattle.prem_asm.specs.Pieces.{Pieces, no_pieces, straight, either, followed, test_at, back_at, repeat_end}
 use Rattle.prem_asm.specs.Runs.{Calls, Setting, Ending, Falls, run, run_turns, control}
 use Rattle.prem_asm.specs.Quiet.{IsQuiet, EachPiece}
@@ -42,7 +42,7 @@ module _ (s : Setting) (calls : Calls) (gs : Globals) (may : Access) (k : Stack)
   Counts view r = number_at view (slot_at k c) 4 ≡ r
 
   -- x10 into the counter
-  pub counter_then : (at : ℕ) (is : List Instr) (rest : Pieces) (t : TaskState) (p : State) (r : ℕ) (after : State) → Matches s gs k phase count p t → t.registers 10 ≡ r → r < 2 ^ 32 →
+  pub counter_then : (at : ℕ) (is : List Instr) (rest : Pieces) (t : TaskState) (p : ProgramState) (r : ℕ) (after : ProgramState) → Matches s gs k phase count p t → t.registers 10 ≡ r → r < 2 ^ 32 →
       ((t1 : TaskState) → Matches s gs k phase count p t1 → Counts t1.view r → Ends s gs k phase count lo hi (run s calls (at + 4) (straight is rest) t1) t1 p.marks after) →
       Ends s gs k phase count lo hi (run s calls at (straight (store_slot c ∷ is) rest) t) t p.marks after
   counter_then at is rest t p r after m ten small next =
@@ -67,7 +67,7 @@ module _ (s : Setting) (calls : Calls) (gs : Globals) (may : Access) (k : Stack)
         right : lo ≤ c → (c < count) ⊎ (lo ≤ c)
         right h = grind arith
 
-  counter_matches : (t : TaskState) (p : State) (r : ℕ) → Matches s gs k phase count p t → Matches s gs k phase count p (record t { view = put_number 4 (slot_at k c) r t.view })
+  counter_matches : (t : TaskState) (p : ProgramState) (r : ℕ) → Matches s gs k phase count p t → Matches s gs k phase count p (record t { view = put_number 4 (slot_at k c) r t.view })
   counter_matches t p r m =
       let room : k.sp + 4 + 4 * k.slots ≤ k.top = ground.room in
       let floor : k.low ≤ k.sp = ground.floor in
@@ -91,7 +91,7 @@ module _ (s : Setting) (calls : Calls) (gs : Globals) (may : Access) (k : Stack)
     right h = grind arith
 
   -- the counter goes down by 1
-  record Lowered (at : ℕ) (t : TaskState) (p : State) (r : ℕ) : Type 0 where
+  record Lowered (at : ℕ) (t : TaskState) (p : ProgramState) (r : ℕ) : Type 0 where
     to : TaskState
     trace : List Did
     goes : run s calls at (only (count_code c)) t ≡ Falls to trace
@@ -100,7 +100,7 @@ module _ (s : Setting) (calls : Calls) (gs : Globals) (may : Access) (k : Stack)
     counts : Counts to.view r
     kept : (a : ℕ) → IsKept k count lo hi a → to.view a ≡ t.view a
 
-  lowered : (at : ℕ) (t : TaskState) (p : State) (r : ℕ) → Matches s gs k phase count p t → Counts t.view (suc r) → suc r < 2 ^ 32 → Lowered at t p r
+  lowered : (at : ℕ) (t : TaskState) (p : ProgramState) (r : ℕ) → Matches s gs k phase count p t → Counts t.view (suc r) → suc r < 2 ^ 32 → Lowered at t p r
   lowered at t p r m is small =
       let f = load_falls s at Lw 10 2 (slot c) t (slot_at k c) (suc r) (omega arith) (slot_place s gs may k ground t.registers c inside m.stack) (slot_readable s gs may k ground t.view c (suc r) inside is small) in
       let f1 = with_register 10 (suc r) t.registers in
@@ -129,7 +129,7 @@ module _ (s : Setting) (calls : Calls) (gs : Globals) (may : Access) (k : Stack)
       }
 
   -- x10 tells whether a turn is left and the condition holds
-  record Headed (at : ℕ) (e : Term) (t : TaskState) (p : State) (w : ℕ) : Type 0 where
+  record Headed (at : ℕ) (e : Term) (t : TaskState) (p : ProgramState) (w : ℕ) : Type 0 where
     registers : ℕ → ℕ
     trace : List Did
     goes : run s calls at (turn_code gs.part c e) t ≡ Falls (record t { registers = registers }) trace
@@ -137,7 +137,7 @@ module _ (s : Setting) (calls : Calls) (gs : Globals) (may : Access) (k : Stack)
     matches : Matches s gs k phase count p (record t { registers = registers })
     marks : Marked s gs t trace (record t { registers = registers }) p.marks p.marks
 
-  headed : (at : ℕ) (e : Term) (t : TaskState) (p : State) (r w : ℕ) → Matches s gs k phase count p t → Counts t.view r → r < 2 ^ 32 → Fits gs count 10 e → cond (eqb r 0) (Ok 0) (truth_of (value may p e)) ≡ ok_of w → Headed at e t p w
+  headed : (at : ℕ) (e : Term) (t : TaskState) (p : ProgramState) (r w : ℕ) → Matches s gs k phase count p t → Counts t.view r → r < 2 ^ 32 → Fits gs count 10 e → cond (eqb r 0) (Ok 0) (truth_of (value may p e)) ≡ ok_of w → Headed at e t p w
   headed at e t p r w m is small fit pw =
       let f = load_falls s at Lw 10 2 (slot c) t (slot_at k c) r (omega arith) (slot_place s gs may k ground t.registers c inside m.stack) (slot_readable s gs may k ground t.view c r inside is small) in
       let t1 : TaskState = record t { registers = with_register 10 r t.registers } in
@@ -158,20 +158,20 @@ module _ (s : Setting) (calls : Calls) (gs : Globals) (may : Access) (k : Stack)
         matches = still s calls gs may k ground phase count (at + 4) ps t1 p 10 w (omega arith) m1 g;
       }
 
-  module _ (e : Term) (fit : Fits gs count 10 e) (sem : State → Outcome State) (ps : Pieces) (at : ℕ)
-      (body_runs : (t : TaskState) (p p1 : State) → Matches s gs k phase count p t → sem p ≡ Ok p1 → Ends s gs k phase count (suc c) hi (run s calls (test_at at (turn_code gs.part c e) + 8 + 12) ps t) t p.marks p1) where
+  module _ (e : Term) (fit : Fits gs count 10 e) (sem : ProgramState → Outcome ProgramState) (ps : Pieces) (at : ℕ)
+      (body_runs : (t : TaskState) (p p1 : ProgramState) → Matches s gs k phase count p t → sem p ≡ Ok p1 → Ends s gs k phase count (suc c) hi (run s calls (test_at at (turn_code gs.part c e) + 8 + 12) ps t) t p.marks p1) where
     abbrev looping : ℕ → TaskState → Ending
     looping n t = run_turns n (loop_of s calls at (turn_code gs.part c e) (nonzero 10) (straight (count_code c) ps)) t
 
     -- the head says no
-    stopped : (n : ℕ) (t : TaskState) (p p' : State) → Headed at e t p 0 → p ≡ p' → Ends s gs k phase count lo hi (looping n t) t p.marks p'
+    stopped : (n : ℕ) (t : TaskState) (p p' : ProgramState) → Headed at e t p 0 → p ≡ p' → Ends s gs k phase count lo hi (looping n t) t p.marks p'
     stopped n t p p' h same =
         let t1 : TaskState = record t { registers = h.registers } in
         let l = loop_of s calls at (turn_code gs.part c e) (nonzero 10) (straight (count_code c) ps) in
         record {
           to = t1;
           trace = h.trace ++ l.leaves t1;
-          marks = subst (λ (q : State). Marked s gs t (h.trace ++ l.leaves t1) t1 p.marks q.marks) same
+          marks = subst (λ (q : ProgramState). Marked s gs t (h.trace ++ l.leaves t1) t1 p.marks q.marks) same
               (marks_join s gs t h.trace t1 (l.leaves t1) t1 p.marks p.marks p.marks h.marks
               (marked_other s gs (test_at at (turn_code gs.part c e)) (nonzero 10) (repeat_end at (turn_code gs.part c e) (straight (count_code c) ps)) t1 p.marks));
           goes = turn_off l n t t1 h.trace h.goes (tested 10 t1 0 h.matches.words h.ten);
@@ -185,7 +185,7 @@ module _ (s : Setting) (calls : Calls) (gs : Globals) (may : Access) (k : Stack)
       by : (b : ℕ) → slot_at k c ≤ b → b < slot_at k c + 4 → IsKept k count (suc c) hi b
       by b le lt = grind arith
 
-    went : (n : ℕ) (t : TaskState) (p p1 p' : State) → Headed at e t p 1 → Counts t.view (suc n) → suc n < 2 ^ 32 → sem p ≡ Ok p1 →
+    went : (n : ℕ) (t : TaskState) (p p1 p' : ProgramState) → Headed at e t p 1 → Counts t.view (suc n) → suc n < 2 ^ 32 → sem p ≡ Ok p1 →
         ((t2 : TaskState) → Matches s gs k phase count p1 t2 → Counts t2.view n → Ends s gs k phase count lo hi (looping n t2) t2 p1.marks p') → Ends s gs k phase count lo hi (looping (suc n) t) t p.marks p'
     went n t p p1 p' h is small e1 again =
         let t1 : TaskState = record t { registers = h.registers } in
@@ -207,9 +207,9 @@ module _ (s : Setting) (calls : Calls) (gs : Globals) (may : Access) (k : Stack)
           kept = λ a x. z.kept a x ∙ b.kept a (widen k count lo (suc c) hi hi a (omega arith) (omega arith) x) ∙ d.kept a x;
         }
 
-    by : (n : ℕ) (t : TaskState) (p p' : State) (w : ℕ) → Matches s gs k phase count p t → Counts t.view (suc n) → suc n < 2 ^ 32 → value may p e ≡ Ok w → (b : Bool) → not (eqb w 0) ≡ b →
+    by : (n : ℕ) (t : TaskState) (p p' : ProgramState) (w : ℕ) → Matches s gs k phase count p t → Counts t.view (suc n) → suc n < 2 ^ 32 → value may p e ≡ Ok w → (b : Bool) → not (eqb w 0) ≡ b →
         choose b (λ q. and_then (sem q) (bounded n (holds may e) sem)) Ok p ≡ Ok p' →
-        ((p1 : State) → bounded n (holds may e) sem p1 ≡ Ok p' → (t2 : TaskState) → Matches s gs k phase count p1 t2 → Counts t2.view n → Ends s gs k phase count lo hi (looping n t2) t2 p1.marks p') → Ends s gs k phase count lo hi (looping (suc n) t) t p.marks p'
+        ((p1 : ProgramState) → bounded n (holds may e) sem p1 ≡ Ok p' → (t2 : TaskState) → Matches s gs k phase count p1 t2 → Counts t2.view n → Ends s gs k phase count lo hi (looping n t2) t2 p1.marks p') → Ends s gs k phase count lo hi (looping (suc n) t) t p.marks p'
     by n t p p' w m is small val true z e1 again =
         let x = then_ok (sem p) (bounded n (holds may e) sem) p' e1 in
         let h = headed at e t p (suc n) 1 m is small fit (ap (λ b. cond b (ok_of 0) (truth_of (value may p e))) (eqb-suc-zero n) ∙ ap truth_of val ∙ ap (λ b. ok_of (truth b)) z) in
@@ -219,7 +219,7 @@ module _ (s : Setting) (calls : Calls) (gs : Globals) (may : Access) (k : Stack)
         stopped (suc n) t p p' h (same_ok p p' e1)
 
     -- as many turns at most as the counter has
-    pub bound_looped : (n : ℕ) (t : TaskState) (p p' : State) → Matches s gs k phase count p t → Counts t.view n → n < 2 ^ 32 → bounded n (holds may e) sem p ≡ Ok p' → Ends s gs k phase count lo hi (looping n t) t p.marks p'
+    pub bound_looped : (n : ℕ) (t : TaskState) (p p' : ProgramState) → Matches s gs k phase count p t → Counts t.view n → n < 2 ^ 32 → bounded n (holds may e) sem p ≡ Ok p' → Ends s gs k phase count lo hi (looping n t) t p.marks p'
     unfolding bounded
     bound_looped zero t p p' m is small e1 = stopped zero t p p' (headed at e t p 0 0 m is small fit refl) (same_ok p p' e1)
     bound_looped (suc n) t p p' m is small e1 =

@@ -8,7 +8,7 @@ use Rattle.prem_isa.specs.Act.{with_register}
 use Rattle.prem_isa.specs.Plain.{TaskState, Did}
 use Rattle.prem_meaning.specs.Resolved.{Term}
 use Rattle.prem_meaning.specs.Expressions.{Access}
-use Rattle.prem_meaning.specs.Statements.{State, Calls as SourceCalls, value, values, with_target}
+use Rattle.prem_meaning.specs.Statements.{ProgramState, Calls as SourceCalls, value, values, with_target}
 use Rattle.prem_asm.specs.Pieces.{Pieces, no_pieces, straight, call_to, size_of, followed, jump_to}
 use Rattle.prem_asm.specs.Runs.{Calls, Setting, Ending, Falls, Stuck, with_trace, run, control, called, linked}
 use Rattle.prem_template.specs.Terms.{term_code}
@@ -28,7 +28,7 @@ use Rattle.prem_gen_laws.proofs.Parts.{kept_floor, kept_top, evaluated, changed,
 
 module _ (s : Setting) (calls : Calls) (gs : Globals) (may : Access) (k : Stack) (ground : Ground s gs may k) (phase : Phase) (count : ℕ) where
   -- arguments stored from number j on
-  pub record Passed (o : Ending) (t : TaskState) (p : State) (frame j : ℕ) (ws : List ℕ) : Type 0 where
+  pub record Passed (o : Ending) (t : TaskState) (p : ProgramState) (frame j : ℕ) (ws : List ℕ) : Type 0 where
     pub to : TaskState
     pub trace : List Did
     pub goes : o ≡ Falls to trace
@@ -42,7 +42,7 @@ module _ (s : Setting) (calls : Calls) (gs : Globals) (may : Access) (k : Stack)
   below_slots : (a i : ℕ) → a + 4 ≤ k.sp → AreApart (slot_at k i) 4 a 4
   below_slots a i h = grind arith
 
-  pub passed : (frame : ℕ) (es : List Term) (j at : ℕ) (t : TaskState) (p : State) (ws : List ℕ) → Matches s gs k phase count p t → AllFit gs count es → values may p es ≡ Ok ws →
+  pub passed : (frame : ℕ) (es : List Term) (j at : ℕ) (t : TaskState) (p : ProgramState) (ws : List ℕ) → Matches s gs k phase count p t → AllFit gs count es → values may p es ≡ Ok ws →
       4 + 4 * (j + length es) ≤ frame → frame % 4 ≡ 0 → k.low + frame ≤ k.sp → Passed (run s calls at (argument_code gs.part frame j es) t) t p frame j ws
   passed frame [] j at t p ws m fit is room al deep =
       let e : [] ≡ ws = same_ok [] ws is in
@@ -121,7 +121,7 @@ module _ (s : Setting) (calls : Calls) (gs : Globals) (may : Access) (k : Stack)
         small_at zero w ws lt small h = small
         small_at (suc i) w ws lt small h = h i (omega arith)
 
-  pub values_length : (es : List Term) (p : State) (ws : List ℕ) → values may p es ≡ Ok ws → length ws ≡ length es
+  pub values_length : (es : List Term) (p : ProgramState) (ws : List ℕ) → values may p es ≡ Ok ws → length ws ≡ length es
   values_length [] p ws is = let e : [] ≡ ws = same_ok [] ws is in ap length (sym e)
   values_length (e ∷ es) p ws is =
       let x = then_ok (value may p e) _ ws is in
@@ -131,7 +131,7 @@ module _ (s : Setting) (calls : Calls) (gs : Globals) (may : Access) (k : Stack)
 
   module _ (lo hi : ℕ) (fits : count ≤ k.slots) (bound : lo ≤ k.slots) (above : count ≤ hi) where
     -- the result to its target
-    target_then : (returns : Bool) (target : Option ℕ) (at : ℕ) (rest : Pieces) (t : TaskState) (p : State) (w : ℕ) (after : State) → Matches s gs k phase count p t → TargetFits count returns target → (returns ≡ true → t.registers 10 ≡ w) →
+    target_then : (returns : Bool) (target : Option ℕ) (at : ℕ) (rest : Pieces) (t : TaskState) (p : ProgramState) (w : ℕ) (after : ProgramState) → Matches s gs k phase count p t → TargetFits count returns target → (returns ≡ true → t.registers 10 ≡ w) →
         ((t1 : TaskState) → Matches s gs k phase count (with_target target w p) t1 → Ends s gs k phase count lo hi (run s calls (at + size_of (target_code target no_pieces)) rest t1) t1 (with_target target w p).marks after) →
         Ends s gs k phase count lo hi (run s calls at (target_code target rest) t) t p.marks after
     target_then returns None at rest t p w after m fit ten next =
@@ -141,7 +141,7 @@ module _ (s : Setting) (calls : Calls) (gs : Globals) (may : Access) (k : Stack)
 
     pub call_then : (parts : Parts) (cs : Callees) (source : SourceCalls) (under : ℕ) → k.low + under ≤ k.sp →
         (f : ℕ) → CallRunsAt s gs may k phase (calls (parts.callee f)) (parts.link f) (parts.frame f) (cs.depth f) (cs.params f) (cs.returns f) (λ words p. source may f words p) →
-        (target : Option ℕ) (es : List Term) (at : ℕ) (rest : Pieces) (t : TaskState) (p : State) (ws : List ℕ) (w : ℕ) (p1 after : State) →
+        (target : Option ℕ) (es : List Term) (at : ℕ) (rest : Pieces) (t : TaskState) (p : ProgramState) (ws : List ℕ) (w : ℕ) (p1 after : ProgramState) →
         at % 4 ≡ 0 → at + size_of (argument_code gs.part (parts.frame f) 0 es) + 4 < 2 ^ 32 → CallFits gs parts cs count under target f es → Matches s gs k phase count p t →
         values may p es ≡ Ok ws → source may f ws p ≡ Ok (w, p1) →
         ((t1 : TaskState) → Matches s gs k phase count (with_target target w p1) t1 → Ends s gs k phase count lo hi (run s calls (at + size_of (argument_code gs.part (parts.frame f) 0 es) + 4 + size_of (target_code target no_pieces)) rest t1) t1 (with_target target w p1).marks after) →

@@ -11,7 +11,7 @@ use Rattle.prem_isa.specs.Act.{with_register, goes, puts, takes}
 use Rattle.prem_isa.specs.Plain.{TaskState, next_input, left_after, used_after, did_of}
 use Rattle.prem_syntax.specs.declared.tree.Ty.{Ty}
 use Rattle.prem_meaning.specs.Expressions.{Access, cell, or_wrong}
-use Rattle.prem_meaning.specs.Statements.{State, with_local, with_cell, with_output, take_input, stored, store}
+use Rattle.prem_meaning.specs.Statements.{ProgramState, with_local, with_cell, with_output, take_input, stored, store}
 use Rattle.prem_asm.specs.Pieces.{Pieces, no_pieces, straight, address_of, address_code}
 use Rattle.prem_asm.specs.Runs.{Calls, Setting, Ending, Falls, Stuck, run_one, run, control, outcome_at, stepped}
 use Rattle.prem_template.specs.Terms.{shift_of, scale}
@@ -42,7 +42,7 @@ module _ (s : Setting) (calls : Calls) (gs : Globals) (may : Access) (k : Stack)
     by out room floor = grind arith
 
   -- a word into an element
-  cell_matches : (g j w : ℕ) (t : TaskState) (p : State) → Matches s gs k phase count p t → j < gs.count g → w < 2 ^ 32 →
+  cell_matches : (g j w : ℕ) (t : TaskState) (p : ProgramState) → Matches s gs k phase count p t → j < gs.count g → w < 2 ^ 32 →
       Matches s gs k phase count (with_cell g j (stored (gs.type g) w) p) (record t { view = put_number (element_size (gs.type g)) (element_at s gs g j) w t.view })
   cell_matches g j w t p m lt small = record {
     globals = globals_set s gs may k ground p.globals t.view g j w m.globals lt small;
@@ -58,7 +58,7 @@ module _ (s : Setting) (calls : Calls) (gs : Globals) (may : Access) (k : Stack)
   }
 
   -- the store itself, from the element's place in a register
-  cell_then : (at rs : ℕ) (rest : Pieces) (t : TaskState) (p : State) (g j w : ℕ) (after : State) → Matches s gs k phase count p t → j < gs.count g → may g j ≡ true → plus (t.registers rs) (pos 0) ≡ element_at s gs g j → t.registers 10 ≡ w → w < 2 ^ 32 →
+  cell_then : (at rs : ℕ) (rest : Pieces) (t : TaskState) (p : ProgramState) (g j w : ℕ) (after : ProgramState) → Matches s gs k phase count p t → j < gs.count g → may g j ≡ true → plus (t.registers rs) (pos 0) ≡ element_at s gs g j → t.registers 10 ≡ w → w < 2 ^ 32 →
       ((t1 : TaskState) → Matches s gs k phase count (with_cell g j (stored (gs.type g) w) p) t1 → Ends s gs k phase count lo hi (run s calls (at + 4) rest t1) t1 p.marks after) →
       Ends s gs k phase count lo hi (run s calls at (straight (Store (store_of (gs.type g)) rs 10 (pos 0) ∷ []) rest) t) t p.marks after
   cell_then at rs rest t p g j w after m lt granted place ten small next =
@@ -74,7 +74,7 @@ module _ (s : Setting) (calls : Calls) (gs : Globals) (may : Access) (k : Stack)
       (λ b h. byte_apart n a w t.view b (beside_element b g j lt h))
       (none_then s calls gs may k ground phase count lo hi (at + 4) rest t1 after (next t1 (cell_matches g j w t p m lt small)))
 
-  pub scalar_then : (at line g w : ℕ) (ty : Ty) (rest : Pieces) (t : TaskState) (p p1 after : State) → gs.type g ≡ ty → Matches s gs k phase count p t → t.registers 10 ≡ w → w < 2 ^ 32 → store may line ty g 0 w p ≡ Ok p1 →
+  pub scalar_then : (at line g w : ℕ) (ty : Ty) (rest : Pieces) (t : TaskState) (p p1 after : ProgramState) → gs.type g ≡ ty → Matches s gs k phase count p t → t.registers 10 ≡ w → w < 2 ^ 32 → store may line ty g 0 w p ≡ Ok p1 →
       ((t1 : TaskState) → Matches s gs k phase count p1 t1 → Ends s gs k phase count lo hi (run s calls (at + 8 + 4) rest t1) t1 p1.marks after) →
       Ends s gs k phase count lo hi (run s calls at (scalar_store (gs.part g) ty rest) t) t p.marks after
   scalar_then at line g w ty rest t p p1 after is m ten small e next =
@@ -91,7 +91,7 @@ module _ (s : Setting) (calls : Calls) (gs : Globals) (may : Access) (k : Stack)
       let five : f 5 ≡ a = q.value in
       let place : (f 5 + 0) % 2 ^ 32 ≡ s.places (gs.part g) + 0 * 2 ^ shift_of (gs.type g) = omega arith in
       let m1 = changed s calls gs may k ground phase count t p f m q.words (q.kept 2 (omega arith) ∙ m.stack) in
-      let same_marks : p.marks ≡ p1.marks = ap (λ (r : State). r.marks) (same_ok _ p1 x.1.1) in
+      let same_marks : p.marks ≡ p1.marks = ap (λ (r : ProgramState). r.marks) (same_ok _ p1 x.1.1) in
       let d = cell_then (at + 8) 5 rest t1 p g 0 w after m1 lt found.granted place (q.kept 10 (omega arith) ∙ ten) small
       (λ t2 m2. subst (λ ms. Ends s gs k phase count lo hi (run s calls (at + 8 + 4) rest t2) t2 ms after) (sym same_marks) (next t2 (subst (λ r. Matches s gs k phase count r t2) (ap (λ ty. with_cell g 0 (stored ty w) p) is ∙ same_ok _ p1 x.1.1) m2))) in
       subst (λ ty. Ends s gs k phase count lo hi (run s calls at (scalar_store (gs.part g) ty rest) t) t p.marks after) is (record {
@@ -104,7 +104,7 @@ module _ (s : Setting) (calls : Calls) (gs : Globals) (may : Access) (k : Stack)
         kept = d.kept;
       })
 
-  pub element_then : (at line g j w : ℕ) (ty : Ty) (rest : Pieces) (t : TaskState) (p p1 after : State) → gs.type g ≡ ty → Matches s gs k phase count p t → t.registers 10 ≡ w → w < 2 ^ 32 → t.registers 11 ≡ j → store may line ty g j w p ≡ Ok p1 →
+  pub element_then : (at line g j w : ℕ) (ty : Ty) (rest : Pieces) (t : TaskState) (p p1 after : ProgramState) → gs.type g ≡ ty → Matches s gs k phase count p t → t.registers 10 ≡ w → w < 2 ^ 32 → t.registers 11 ≡ j → store may line ty g j w p ≡ Ok p1 →
       ((t1 : TaskState) → Matches s gs k phase count p1 t1 → Ends s gs k phase count lo hi (run s calls (at + 4 * length (scale 11 (shift_of (gs.type g))) + 8 + 4 + 4) rest t1) t1 p1.marks after) →
       Ends s gs k phase count lo hi (run s calls at (element_store (gs.part g) ty rest) t) t p.marks after
   element_then at line g j w ty rest t p p1 after is m ten small eleven e next =
@@ -127,7 +127,7 @@ module _ (s : Setting) (calls : Calls) (gs : Globals) (may : Access) (k : Stack)
       let at_y : f2 11 ≡ element_at s gs g j = q.value in
       let place : (f2 11 + 0) % 2 ^ 32 ≡ element_at s gs g j = omega arith in
       let m2 = changed s calls gs may k ground phase count t p f2 m q.words (q.kept 2 (omega arith) ∙ z.kept 2 (omega arith) (omega arith) ∙ m.stack) in
-      let same_marks : p.marks ≡ p1.marks = ap (λ (r : State). r.marks) (same_ok _ p1 x.1.1) in
+      let same_marks : p.marks ≡ p1.marks = ap (λ (r : ProgramState). r.marks) (same_ok _ p1 x.1.1) in
       let d = cell_then (at1 + 4) 11 rest t2 p g j w after m2 lt found.granted place (q.kept 10 (omega arith) ∙ z.kept 10 (omega arith) (omega arith) ∙ ten) small
       (λ t3 m3. subst (λ ms. Ends s gs k phase count lo hi (run s calls (at1 + 4 + 4) rest t3) t3 ms after) (sym same_marks) (next t3 (subst (λ r. Matches s gs k phase count r t3) (ap (λ ty. with_cell g j (stored ty w) p) is ∙ same_ok _ p1 x.1.1) m3))) in
       let tail = straight (add ∷ Store (store_of (gs.type g)) 11 10 (pos 0) ∷ []) rest in
@@ -145,7 +145,7 @@ module _ (s : Setting) (calls : Calls) (gs : Globals) (may : Access) (k : Stack)
 
   -- ---- outputs and inputs
 
-  pub output_then : (at : ℕ) (rest : Pieces) (t : TaskState) (p : State) (w : ℕ) (after : State) → phase ≡ Compatible → Matches s gs k phase count p t → t.registers 10 ≡ w →
+  pub output_then : (at : ℕ) (rest : Pieces) (t : TaskState) (p : ProgramState) (w : ℕ) (after : ProgramState) → phase ≡ Compatible → Matches s gs k phase count p t → t.registers 10 ≡ w →
       ((t1 : TaskState) → Matches s gs k phase count (with_output w p) t1 → Ends s gs k phase count lo hi (run s calls (at + 4) rest t1) t1 p.marks after) →
       Ends s gs k phase count lo hi (run s calls at (straight (PmOut 10 ∷ []) rest) t) t p.marks after
   output_then at rest t p w after is m ten next =
@@ -170,16 +170,16 @@ module _ (s : Setting) (calls : Calls) (gs : Globals) (may : Access) (k : Stack)
       })))
 
   -- the state behind an input, but for the local that takes it
-  taken : List ℕ → State → State
+  taken : List ℕ → ProgramState → ProgramState
   taken [] p = p
   taken (w ∷ ws) p = record p { inputs = ws; used = p.used + 1 }
 
-  taken_local : (i : ℕ) (ws : List ℕ) (p : State) → take_input i ws p ≡ with_local i (next_input ws) (taken ws p)
+  taken_local : (i : ℕ) (ws : List ℕ) (p : ProgramState) → take_input i ws p ≡ with_local i (next_input ws) (taken ws p)
   unfolding taken
   taken_local i [] p = refl
   taken_local i (w ∷ ws) p = refl
 
-  taken_marks : (ws : List ℕ) (p : State) → (taken ws p).marks ≡ p.marks
+  taken_marks : (ws : List ℕ) (p : ProgramState) → (taken ws p).marks ≡ p.marks
   unfolding taken
   taken_marks [] p = refl
   taken_marks (w ∷ ws) p = refl
@@ -188,7 +188,7 @@ module _ (s : Setting) (calls : Calls) (gs : Globals) (may : Access) (k : Stack)
   first_word [] h = omega arith
   first_word (w ∷ ws) h = h 0 0 (omega arith)
 
-  taken_matches : (ws : List ℕ) (t : TaskState) (p : State) (f : ℕ → ℕ) → Matches s gs k phase count p t → AreWords f → f 2 ≡ k.sp → p.inputs ≡ ws →
+  taken_matches : (ws : List ℕ) (t : TaskState) (p : ProgramState) (f : ℕ → ℕ) → Matches s gs k phase count p t → AreWords f → f 2 ≡ k.sp → p.inputs ≡ ws →
       Matches s gs k phase count (taken ws p) (record t { registers = f; left = left_after true ws; used = used_after true ws t.used })
   unfolding taken
   taken_matches [] t p f m ws two e = record {
@@ -216,7 +216,7 @@ module _ (s : Setting) (calls : Calls) (gs : Globals) (may : Access) (k : Stack)
     inputs = λ i d lt. subst (All (λ w. w < 2 ^ 32)) e m.inputs (suc i) d (omega arith);
   }
 
-  pub input_then : (at i : ℕ) (rest : Pieces) (t : TaskState) (p after : State) → phase ≡ Compatible → count ≤ hi → Matches s gs k phase count p t → i < count →
+  pub input_then : (at i : ℕ) (rest : Pieces) (t : TaskState) (p after : ProgramState) → phase ≡ Compatible → count ≤ hi → Matches s gs k phase count p t → i < count →
       ((t1 : TaskState) → Matches s gs k phase count (take_input i p.inputs p) t1 → Ends s gs k phase count lo hi (run s calls (at + 4 + 4) rest t1) t1 (take_input i p.inputs p).marks after) →
       Ends s gs k phase count lo hi (run s calls at (straight (PmIn 10 ∷ store_slot i ∷ []) rest) t) t p.marks after
   input_then at i rest t p after is le m lt next =
@@ -237,4 +237,4 @@ module _ (s : Setting) (calls : Calls) (gs : Globals) (may : Access) (k : Stack)
       (subst (λ ms. Ends s gs k phase count lo hi (run s calls (at + 4) (straight (store_slot i ∷ []) rest) t1) t1 ms after) (taken_marks p.inputs p)
       (local_then s calls gs may k ground phase count lo hi (at + 4) i [] rest t1 (taken p.inputs p) w after fits le m1 lt (reg_same 10 w t.registers (omega arith)) small
       (λ t2 m2. none_then s calls gs may k ground phase count lo hi (at + 4 + 4) rest t2 after
-      (subst (λ ms. Ends s gs k phase count lo hi (run s calls (at + 4 + 4) rest t2) t2 ms after) (ap (λ (q : State). q.marks) (taken_local i p.inputs p)) (next t2 (subst (λ q. Matches s gs k phase count q t2) (sym (taken_local i p.inputs p)) m2))))))
+      (subst (λ ms. Ends s gs k phase count lo hi (run s calls (at + 4 + 4) rest t2) t2 ms after) (ap (λ (q : ProgramState). q.marks) (taken_local i p.inputs p)) (next t2 (subst (λ q. Matches s gs k phase count q t2) (sym (taken_local i p.inputs p)) m2))))))

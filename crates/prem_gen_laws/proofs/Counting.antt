@@ -12,7 +12,7 @@ use Rattle.prem_isa.specs.Plain.{TaskState, Did}
 use Rattle.prem_isa.proofs.Operators.{add_is}
 use Rattle.prem_meaning.specs.Resolved.{Term}
 use Rattle.prem_meaning.specs.Expressions.{Outcome, and_then, Access}
-use Rattle.prem_meaning.specs.Statements.{State, value, with_local, choose, in_bound, int_local, loop_test, loop_step, counting}
+use Rattle.prem_meaning.specs.Statements.{ProgramState, value, with_local, choose, in_bound, int_local, loop_test, loop_step, counting}
 use Rattle.prem_asm.specs.Pieces.{Pieces, no_pieces, straight, size_of, followed, test_at, back_at, repeat_end}
 use Rattle.prem_asm.specs.Runs.{Calls, Setting, Ending, Falls, run, run_turns, test_holds}
 use Rattle.prem_template.specs.Terms.{only, term_code}
@@ -38,11 +38,11 @@ stepped_word i step h lt =
 
 module _ (s : Setting) (calls : Calls) (gs : Globals) (may : Access) (k : Stack) (ground : Ground s gs may k) (phase : Phase) (count lo hi : ℕ) (fits : count ≤ k.slots) (above : count ≤ hi) (i : ℕ) (inside : i < count) where
   -- a local's word
-  local_word : (t : TaskState) (p : State) → Matches s gs k phase count p t → slice_index p.locals i < 2 ^ 32
+  local_word : (t : TaskState) (p : ProgramState) → Matches s gs k phase count p t → slice_index p.locals i < 2 ^ 32
   local_word t p m = let len : length p.locals ≡ count = m.count_is in m.locals.word i (omega arith)
 
   -- the variable and the bound are in x10 and x11
-  record Headed (at : ℕ) (high : Term) (t : TaskState) (p : State) (h : ℕ) : Type 0 where
+  record Headed (at : ℕ) (high : Term) (t : TaskState) (p : ProgramState) (h : ℕ) : Type 0 where
     registers : ℕ → ℕ
     trace : List Did
     goes : run s calls at (straight (load_slot i ∷ []) (term_code gs.part 11 high)) t ≡ Falls (record t { registers = registers }) trace
@@ -51,7 +51,7 @@ module _ (s : Setting) (calls : Calls) (gs : Globals) (may : Access) (k : Stack)
     matches : Matches s gs k phase count p (record t { registers = registers })
     marks : Marked s gs t trace (record t { registers = registers }) p.marks p.marks
 
-  headed : (at : ℕ) (high : Term) (t : TaskState) (p : State) (h : ℕ) → Matches s gs k phase count p t → Fits gs count 11 high → value may p high ≡ Ok h → Headed at high t p h
+  headed : (at : ℕ) (high : Term) (t : TaskState) (p : ProgramState) (h : ℕ) → Matches s gs k phase count p t → Fits gs count 11 high → value may p high ≡ Ok h → Headed at high t p h
   headed at high t p h m fit e =
       let w = slice_index p.locals i in
       let len : length p.locals ≡ count = m.count_is in
@@ -78,7 +78,7 @@ module _ (s : Setting) (calls : Calls) (gs : Globals) (may : Access) (k : Stack)
   tested false t a b e f = ap (λ x. int_lt (value_in Int x) (value_in Int (t.registers 11))) e ∙ ap (λ x. int_lt (value_in Int a) (value_in Int x)) f
 
   -- the variable's next value
-  stepped : (at step : ℕ) (t : TaskState) (p : State) → step < 2048 → Matches s gs k phase count p t →
+  stepped : (at step : ℕ) (t : TaskState) (p : ProgramState) → step < 2048 → Matches s gs k phase count p t →
       Ends s gs k phase count lo hi (run s calls at (only (step_code i step)) t) t p.marks (with_local i (word_of (int_local i p +ℤ pos step)) p)
   stepped at step t p small m =
       let w = slice_index p.locals i in
@@ -92,31 +92,31 @@ module _ (s : Setting) (calls : Calls) (gs : Globals) (may : Access) (k : Stack)
       (subst (λ x. x < 2 ^ 32) (stepped_word w step w_small small) (omega arith))
       (λ t3 m3. none_then s calls gs may k ground phase count lo hi (at + 4 + 4 + 4) no_pieces t3 (with_local i next p) (ends_nothing s calls gs may k ground phase count lo hi (at + 4 + 4 + 4) t3 (with_local i next p) m3))))
 
-  step_ok : (line step : ℕ) (p p1 : State) → loop_step line i step p ≡ Ok p1 → with_local i (word_of (int_local i p +ℤ pos step)) p ≡ p1
+  step_ok : (line step : ℕ) (p p1 : ProgramState) → loop_step line i step p ≡ Ok p1 → with_local i (word_of (int_local i p +ℤ pos step)) p ≡ p1
   step_ok line step p p1 e =
       cond_both (int_lt (pos 2147483647) (int_local i p +ℤ pos step)) (Err line) (Ok (with_local i (word_of (int_local i p +ℤ pos step)) p))
       (λ o. o ≡ Ok p1 → with_local i (word_of (int_local i p +ℤ pos step)) p ≡ p1) (λ _ e. cc) (λ _ e. same_ok _ p1 e) e
 
-  module _ (line step : ℕ) (closed : Bool) (high : Term) (body : Pieces) (sem : State → Outcome State) (at : ℕ) (fit : Fits gs count 11 high) (small : step < 2048) where
+  module _ (line step : ℕ) (closed : Bool) (high : Term) (body : Pieces) (sem : ProgramState → Outcome ProgramState) (at : ℕ) (fit : Fits gs count 11 high) (small : step < 2048) where
     abbrev whole : Pieces
     whole = followed body (only (step_code i step))
 
     abbrev head : Pieces
     head = straight (load_slot i ∷ []) (term_code gs.part 11 high)
 
-    abbrev turn : State → Outcome State
+    abbrev turn : ProgramState → Outcome ProgramState
     turn p = and_then (sem p) (loop_step line i step)
 
     abbrev looping : ℕ → TaskState → Ending
     looping n t = run_turns n (loop_of s calls at head (bound_test closed) whole) t
 
-    ended : (n : ℕ) (t : TaskState) (p p' : State) (h : ℕ) → Headed at high t p h → in_bound closed (int_local i p) (value_in Int h) ≡ false → p ≡ p' → Ends s gs k phase count lo hi (looping n t) t p.marks p'
+    ended : (n : ℕ) (t : TaskState) (p p' : ProgramState) (h : ℕ) → Headed at high t p h → in_bound closed (int_local i p) (value_in Int h) ≡ false → p ≡ p' → Ends s gs k phase count lo hi (looping n t) t p.marks p'
     ended n t p p' h d is e =
         let t1 : TaskState = record t { registers = d.registers } in
         record {
           to = t1;
           trace = d.trace ++ (loop_of s calls at head (bound_test closed) whole).leaves t1;
-          marks = subst (λ (q : State). Marked s gs t (d.trace ++ (loop_of s calls at head (bound_test closed) whole).leaves t1) t1 p.marks q.marks) e
+          marks = subst (λ (q : ProgramState). Marked s gs t (d.trace ++ (loop_of s calls at head (bound_test closed) whole).leaves t1) t1 p.marks q.marks) e
               (marks_join s gs t d.trace t1 ((loop_of s calls at head (bound_test closed) whole).leaves t1) t1 p.marks p.marks p.marks d.marks
               (marked_other s gs (test_at at head) (bound_test closed) (repeat_end at head whole) t1 p.marks));
           goes = turn_off (loop_of s calls at head (bound_test closed) whole) n t t1 d.trace d.goes (tested closed t1 (slice_index p.locals i) h d.ten d.eleven ∙ is);
@@ -124,7 +124,7 @@ module _ (s : Setting) (calls : Calls) (gs : Globals) (may : Access) (k : Stack)
           kept = λ a h. refl;
         }
 
-    went : (n : ℕ) (t : TaskState) (p p2 p' : State) (h : ℕ) (d : Headed at high t p h) → in_bound closed (int_local i p) (value_in Int h) ≡ true →
+    went : (n : ℕ) (t : TaskState) (p p2 p' : ProgramState) (h : ℕ) (d : Headed at high t p h) → in_bound closed (int_local i p) (value_in Int h) ≡ true →
         (b : Ends s gs k phase count lo hi (run s calls (test_at at head + 8) whole (record t { registers = d.registers })) (record t { registers = d.registers }) p.marks p2) →
         Ends s gs k phase count lo hi (looping n b.to) b.to p2.marks p' → Ends s gs k phase count lo hi (looping (suc n) t) t p.marks p'
     went n t p p2 p' h d is b z =
@@ -143,14 +143,14 @@ module _ (s : Setting) (calls : Calls) (gs : Globals) (may : Access) (k : Stack)
         }
 
     abbrev BodyRuns : Type 0
-    BodyRuns = (t : TaskState) (p p1 : State) → Matches s gs k phase count p t → sem p ≡ Ok p1 → Ends s gs k phase count lo hi (run s calls (test_at at head + 8) body t) t p.marks p1
+    BodyRuns = (t : TaskState) (p p1 : ProgramState) → Matches s gs k phase count p t → sem p ≡ Ok p1 → Ends s gs k phase count lo hi (run s calls (test_at at head + 8) body t) t p.marks p1
 
-    by_zero : (b : Bool) (t : TaskState) (p p' : State) (h : ℕ) → Headed at high t p h → in_bound closed (int_local i p) (value_in Int h) ≡ b → choose b (λ q. Err line) Ok p ≡ Ok p' → Ends s gs k phase count lo hi (looping zero t) t p.marks p'
+    by_zero : (b : Bool) (t : TaskState) (p p' : ProgramState) (h : ℕ) → Headed at high t p h → in_bound closed (int_local i p) (value_in Int h) ≡ b → choose b (λ q. Err line) Ok p ≡ Ok p' → Ends s gs k phase count lo hi (looping zero t) t p.marks p'
     by_zero true t p p' h d is e = cc
     by_zero false t p p' h d is e = ended zero t p p' h d is (same_ok p p' e)
 
-    by_suc : (b : Bool) (n : ℕ) (t : TaskState) (p p' : State) (h : ℕ) → Headed at high t p h → in_bound closed (int_local i p) (value_in Int h) ≡ b → choose b (λ q. and_then (turn q) (counting line n (loop_test may i closed high) turn)) Ok p ≡ Ok p' → BodyRuns →
-        ((t2 : TaskState) (p2 : State) → Matches s gs k phase count p2 t2 → counting line n (loop_test may i closed high) turn p2 ≡ Ok p' → Ends s gs k phase count lo hi (looping n t2) t2 p2.marks p') → Ends s gs k phase count lo hi (looping (suc n) t) t p.marks p'
+    by_suc : (b : Bool) (n : ℕ) (t : TaskState) (p p' : ProgramState) (h : ℕ) → Headed at high t p h → in_bound closed (int_local i p) (value_in Int h) ≡ b → choose b (λ q. and_then (turn q) (counting line n (loop_test may i closed high) turn)) Ok p ≡ Ok p' → BodyRuns →
+        ((t2 : TaskState) (p2 : ProgramState) → Matches s gs k phase count p2 t2 → counting line n (loop_test may i closed high) turn p2 ≡ Ok p' → Ends s gs k phase count lo hi (looping n t2) t2 p2.marks p') → Ends s gs k phase count lo hi (looping (suc n) t) t p.marks p'
     by_suc false n t p p' h d is e body_runs again = ended (suc n) t p p' h d is (same_ok p p' e)
     by_suc true n t p p' h d is e body_runs again =
         let x = then_ok (turn p) (counting line n (loop_test may i closed high) turn) p' e in
@@ -165,7 +165,7 @@ module _ (s : Setting) (calls : Calls) (gs : Globals) (may : Access) (k : Stack)
         (again both.to p2 both.matches (subst (λ q. counting line n (loop_test may i closed high) turn q ≡ Ok p') (sym (step_ok line step y.0 x.0 y.1.1)) x.1.1))
 
     -- as many turns at most as the meaning has
-    pub looped : BodyRuns → (n : ℕ) (t : TaskState) (p p' : State) → Matches s gs k phase count p t → counting line n (loop_test may i closed high) turn p ≡ Ok p' → Ends s gs k phase count lo hi (looping n t) t p.marks p'
+    pub looped : BodyRuns → (n : ℕ) (t : TaskState) (p p' : ProgramState) → Matches s gs k phase count p t → counting line n (loop_test may i closed high) turn p ≡ Ok p' → Ends s gs k phase count lo hi (looping n t) t p.marks p'
     unfolding counting
     looped body_runs zero t p p' m e =
         let x = then_ok (loop_test may i closed high p) _ p' e in

@@ -13,7 +13,7 @@ use Rattle.prem_isa.specs.Act.{with_register, jumps, sets}
 use Rattle.prem_isa.specs.Plain.{TaskState, Did}
 use Rattle.prem_meaning.specs.Resolved.{Term}
 use Rattle.prem_meaning.specs.Expressions.{Access}
-use Rattle.prem_meaning.specs.Statements.{State, value, declare, with_new_local}
+use Rattle.prem_meaning.specs.Statements.{ProgramState, value, declare, with_new_local}
 use Rattle.prem_asm.specs.Pieces.{straight, size_of}
 use Rattle.prem_asm.specs.Runs.{Calls, Setting, Falls, Returns, with_trace, then_run, stepped, run_one, run_code, run, control, all_of}
 use Rattle.prem_template.specs.Terms.{only, term_code}
@@ -36,11 +36,11 @@ use Rattle.prem_gen_laws.proofs.Parts.{beside_slot, evaluated, still, value_word
 -- ---- locals come into being one after another
 
 module _ (s : Setting) (calls : Calls) (gs : Globals) (may : Access) (k : Stack) (ground : Ground s gs may k) (phase : Phase) (total lo hi : ℕ) (bound : total ≤ k.slots) (above : total ≤ hi) where
-  pub declared : (es : List Term) (n at : ℕ) (t : TaskState) (p p' : State) → Matches s gs k phase n p t → DeclaredFit gs n es → n + length es ≡ total → declare may es p ≡ Ok p' →
+  pub declared : (es : List Term) (n at : ℕ) (t : TaskState) (p p' : ProgramState) → Matches s gs k phase n p t → DeclaredFit gs n es → n + length es ≡ total → declare may es p ≡ Ok p' →
       Ends s gs k phase total lo hi (run s calls at (declare_code gs.part n es) t) t p.marks p'
   declared [] n at t p p' m fit sum e =
       let same : n ≡ total = omega arith in
-      record { to = t; trace = []; goes = refl; kept = λ a h. refl; marks = subst (λ (q : State). Marked s gs t [] t p.marks q.marks) (same_ok p p' e) (marked_nothing s gs t p.marks); matches = subst (λ c. Matches s gs k phase c p' t) same (subst (λ q. Matches s gs k phase n q t) (same_ok p p' e) m) }
+      record { to = t; trace = []; goes = refl; kept = λ a h. refl; marks = subst (λ (q : ProgramState). Marked s gs t [] t p.marks q.marks) (same_ok p p' e) (marked_nothing s gs t p.marks); matches = subst (λ c. Matches s gs k phase c p' t) same (subst (λ q. Matches s gs k phase n q t) (same_ok p p' e) m) }
   declared (e ∷ es) n at t p p' m fit sum is =
       let x = then_ok (value may p e) _ p' is in
       let w = x.0 in

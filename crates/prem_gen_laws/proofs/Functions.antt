@@ -9,7 +9,7 @@ use Rattle.prem_isa.specs.declared.effect.Phase.{Phase}
 use Rattle.prem_isa.specs.Plain.{TaskState, Did}
 use Rattle.prem_meaning.specs.Resolved.{Term, Routine}
 use Rattle.prem_meaning.specs.Expressions.{Access}
-use Rattle.prem_meaning.specs.Statements.{State, MarkedCall, Calls as SourceCalls, declare, result_of, run as run_source}
+use Rattle.prem_meaning.specs.Statements.{ProgramState, MarkedCall, Calls as SourceCalls, declare, result_of, run as run_source}
 use Rattle.prem_asm.specs.Pieces.{Pieces, straight, size_of, followed}
 use Rattle.prem_asm.specs.Runs.{Calls, Setting, Ending, Falls, Returns, with_trace, then_run, run_code, run}
 use Rattle.prem_template.specs.Terms.{only, term_code}
@@ -103,7 +103,7 @@ five_marks s gs t t1 t2 t3 t4 t5 x0 x1 x2 x3 x4 ms ns ks a0 s0 m1 m2 m3 a4 s4 =
 
 -- ---- the result
 
-pub record Resulted (s : Setting) (calls : Calls) (gs : Globals) (k : Stack) (phase : Phase) (count at : ℕ) (o : Option Term) (t : TaskState) (p : State) (w : ℕ) : Type 0 where
+pub record Resulted (s : Setting) (calls : Calls) (gs : Globals) (k : Stack) (phase : Phase) (count at : ℕ) (o : Option Term) (t : TaskState) (p : ProgramState) (w : ℕ) : Type 0 where
   pub to : TaskState
   pub trace : List Did
   pub goes : run s calls at (result_code gs.part o) t ≡ Falls to trace
@@ -112,7 +112,7 @@ pub record Resulted (s : Setting) (calls : Calls) (gs : Globals) (k : Stack) (ph
   pub result : is_some o ≡ true → to.registers 10 ≡ w
   pub view : to.view ≡ t.view
 
-pub resulted : (s : Setting) (calls : Calls) (gs : Globals) (may : Access) (k : Stack) → Ground s gs may k → (phase : Phase) (count at : ℕ) (o : Option Term) (t : TaskState) (p : State) (w : ℕ) → Matches s gs k phase count p t → ResultFits gs count o → result_of may o p ≡ Ok w →
+pub resulted : (s : Setting) (calls : Calls) (gs : Globals) (may : Access) (k : Stack) → Ground s gs may k → (phase : Phase) (count at : ℕ) (o : Option Term) (t : TaskState) (p : ProgramState) (w : ℕ) → Matches s gs k phase count p t → ResultFits gs count o → result_of may o p ≡ Ok w →
     Resulted s calls gs k phase count at o t p w
 resulted s calls gs may k ground phase count at None t p w m fit e = record { to = t; trace = []; goes = refl; marks = marked_nothing s gs t p.marks; matches = m; result = λ h. cc; view = refl }
 resulted s calls gs may k ground phase count at (Some x) t p w m fit e =
@@ -141,7 +141,7 @@ module _ (s : Setting) (calls : Calls) (gs : Globals) (parts : Parts) (cs : Call
   total = locals_of f
 
   -- the state behind the opening
-  entered : (k : Stack) (count : ℕ) (p : State) (ws : List ℕ) (t : TaskState) (back : ℕ) → Ground s gs may k → Matches s gs k phase count p t →
+  entered : (k : Stack) (count : ℕ) (p : ProgramState) (ws : List ℕ) (t : TaskState) (back : ℕ) → Ground s gs may k → Matches s gs k phase count p t →
       k.low + frame ≤ k.sp → length ws ≡ length f.text.params → ArgumentsStand t.view (k.sp - frame) ws → (op : Opened s at frame (k.sp - frame) back t) →
       Matches s gs (inner k frame slots) phase (length f.text.params) (record p { locals = ws }) (record t { registers = op.registers; view = put_number 4 (k.sp - frame) back t.view })
   entered k count p ws t back ground m space len args op =
@@ -166,7 +166,7 @@ module _ (s : Setting) (calls : Calls) (gs : Globals) (parts : Parts) (cs : Call
       }
 
   -- the caller's state behind the return
-  left_behind : (k : Stack) (count : ℕ) (p u : State) (t v : TaskState) (registers : ℕ → ℕ) → Matches s gs k phase count p t → Matches s gs (inner k frame slots) phase total u v →
+  left_behind : (k : Stack) (count : ℕ) (p u : ProgramState) (t v : TaskState) (registers : ℕ → ℕ) → Matches s gs k phase count p t → Matches s gs (inner k frame slots) phase total u v →
       ((b : ℕ) → k.sp ≤ b → b < k.top → v.view b ≡ t.view b) → k.sp + 4 + 4 * k.slots ≤ k.top → registers 2 ≡ k.sp → AreWords registers → Matches s gs k phase count (record u { locals = p.locals }) (record v { registers = registers })
   left_behind k count p u t v registers m mu kept room two ws = record {
     globals = record { shaped = mu.globals.shaped; stands = mu.globals.stands; word = mu.globals.word };
@@ -185,9 +185,9 @@ module _ (s : Setting) (calls : Calls) (gs : Globals) (parts : Parts) (cs : Call
     inputs = mu.inputs;
   }
 
-  module _ (k : Stack) (count : ℕ) (p : State) (t : TaskState) (back : ℕ) (ground : Ground s gs may k) (m : Matches s gs k phase count p t) (back_al : back % 4 ≡ 0) (back_small : back < 2 ^ 32) (space : k.low + depth ≤ k.sp) where
+  module _ (k : Stack) (count : ℕ) (p : ProgramState) (t : TaskState) (back : ℕ) (ground : Ground s gs may k) (m : Matches s gs k phase count p t) (back_al : back % 4 ≡ 0) (back_small : back < 2 ^ 32) (space : k.low + depth ≤ k.sp) where
     -- from the state behind the opening on
-    goes_back : (w : ℕ) (p0 p1 p2 : State) (op : Opened s at frame (k.sp - frame) back t) →
+    goes_back : (w : ℕ) (p0 p1 p2 : ProgramState) (op : Opened s at frame (k.sp - frame) back t) →
         Matches s gs (inner k frame slots) phase (length f.text.params) p0 (record t { registers = op.registers; view = put_number 4 (k.sp - frame) back t.view }) →
         declare may f.locals p0 ≡ Ok p1 → run_source may source f.body p1 ≡ Ok p2 → result_of may f.result p2 ≡ Ok w →
         Back s gs k phase count (run s calls at (function_code (with_globals gs parts) f) t) t back (is_some f.result) w p0.marks (record p2 { locals = p.locals })
@@ -244,7 +244,7 @@ module _ (s : Setting) (calls : Calls) (gs : Globals) (parts : Parts) (cs : Call
           kept = upper;
         }
 
-  function_back : (k : Stack) (count : ℕ) (p : State) (ws : List ℕ) (t : TaskState) (back w : ℕ) (after : State) →
+  function_back : (k : Stack) (count : ℕ) (p : ProgramState) (ws : List ℕ) (t : TaskState) (back w : ℕ) (after : ProgramState) →
       Ground s gs may k → Matches s gs k phase count p t → t.registers 1 ≡ back → back % 4 ≡ 0 → back < 2 ^ 32 →
       k.low + depth ≤ k.sp → length ws ≡ length f.text.params → ArgumentsStand t.view (k.sp - frame) ws → performed source may f ws p ≡ Ok (w, after) →
       Back s gs k phase count (run s calls at (function_code (with_globals gs parts) f) t) t back (is_some f.result) w p.marks after
@@ -259,13 +259,13 @@ module _ (s : Setting) (calls : Calls) (gs : Globals) (parts : Parts) (cs : Call
       let sal : k.sp % 4 ≡ 0 = ground.aligned in
       let op = opened s at frame k.sp back t m.words m.stack one (omega arith) (omega arith) (omega arith) (omega arith) (omega arith)
       (all_between s.guard.store k.low k.top ground.stores 4 (k.sp - frame) (omega arith) (omega arith)) in
-      let p0 : State = record p { locals = ws } in
+      let p0 : ProgramState = record p { locals = ws } in
       let x = then_ok (declare may f.locals p0) _ (w, after) is in
       let y = then_ok (run_source may source f.body x.0) _ (w, after) x.1.1 in
       let z = then_ok (result_of may f.result y.0) _ (w, after) y.1.1 in
-      let left : State = record y.0 { locals = p.locals } in
+      let left : ProgramState = record y.0 { locals = p.locals } in
       let pair : (z.0, left) ≡ (w, after) = same_ok (z.0, left) (w, after) z.1.1 in
-      subst (λ (q : ℕ × State). Back s gs k phase count (run s calls at (function_code (with_globals gs parts) f) t) t back (is_some f.result) q.0 p.marks q.1) pair
+      subst (λ (q : ℕ × ProgramState). Back s gs k phase count (run s calls at (function_code (with_globals gs parts) f) t) t back (is_some f.result) q.0 p.marks q.1) pair
       (goes_back k count p t back ground m back_al back_small space z.0 p0 x.0 y.0 op (entered k count p ws t back ground m (omega arith) len args op) x.1.0 y.1.0 z.1.0)
 
 pub function_runs : FunctionRuns

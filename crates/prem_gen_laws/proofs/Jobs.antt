@@ -8,7 +8,7 @@ use Rattle.prem_isa.specs.declared.effect.Phase.{Phase}
 use Rattle.prem_isa.specs.Plain.{TaskState}
 use Rattle.prem_meaning.specs.Resolved.{Routine}
 use Rattle.prem_meaning.specs.Expressions.{Access}
-use Rattle.prem_meaning.specs.Statements.{State, Calls as SourceCalls, declare, result_of, run as run_source}
+use Rattle.prem_meaning.specs.Statements.{ProgramState, Calls as SourceCalls, declare, result_of, run as run_source}
 use Rattle.prem_asm.specs.Pieces.{size_of, followed}
 use Rattle.prem_asm.specs.Runs.{Calls, Setting, run}
 use Rattle.prem_template.specs.Terms.{only}
@@ -42,7 +42,7 @@ module _ (s : Setting) (calls : Calls) (gs : Globals) (may : Access) (parts : Pa
   total = locals_of f
 
   -- from the state behind the opening on
-  goes_back : (p : State) (t : TaskState) (back w : ℕ) (p0 p1 p2 : State) → back % 4 ≡ 0 → back < 2 ^ 32 → k.sp + frame < 2 ^ 32 → (op : Opened s at frame k.sp back t) →
+  goes_back : (p : ProgramState) (t : TaskState) (back w : ℕ) (p0 p1 p2 : ProgramState) → back % 4 ≡ 0 → back < 2 ^ 32 → k.sp + frame < 2 ^ 32 → (op : Opened s at frame k.sp back t) →
       Matches s gs k phase (length f.text.params) p0 (record t { registers = op.registers; view = put_number 4 k.sp back t.view }) →
       declare may f.locals p0 ≡ Ok p1 → run_source may source f.body p1 ≡ Ok p2 → result_of may f.result p2 ≡ Ok w →
       FrameBack s gs phase (run s calls at (function_code (with_globals gs parts) f) t) t back (k.sp + frame) (is_some f.result) w p0.marks (record p2 { locals = p.locals })
@@ -105,7 +105,7 @@ module _ (s : Setting) (calls : Calls) (gs : Globals) (may : Access) (parts : Pa
         result = λ h. d4.result ∙ d3.result h;
       }
 
-  frame_back : (ws : List ℕ) (p : State) (t : TaskState) (back word : ℕ) (after : State) → length ws ≡ length f.text.params → ArgumentsStand t.view k.sp ws → Between s gs phase p t → t.registers 2 ≡ k.sp + frame → k.sp + frame < 2 ^ 32 →
+  frame_back : (ws : List ℕ) (p : ProgramState) (t : TaskState) (back word : ℕ) (after : ProgramState) → length ws ≡ length f.text.params → ArgumentsStand t.view k.sp ws → Between s gs phase p t → t.registers 2 ≡ k.sp + frame → k.sp + frame < 2 ^ 32 →
       t.registers 1 ≡ back → back % 4 ≡ 0 → back < 2 ^ 32 → performed source may f ws p ≡ Ok (word, after) →
       FrameBack s gs phase (run s calls at (function_code (with_globals gs parts) f) t) t back (k.sp + frame) (is_some f.result) word p.marks after
   frame_back ws p t back word after len args b two top_small one back_al back_small is =
@@ -119,7 +119,7 @@ module _ (s : Setting) (calls : Calls) (gs : Globals) (may : Access) (parts : Pa
       let op0 = opened s at frame (k.sp + frame) back t b.words two one (omega arith) (omega arith) top_small (omega arith) (omega arith)
       (all_between s.guard.store k.low k.top ground.stores 4 (k.sp + frame - frame) (omega arith) (omega arith)) in
       let op = subst (λ sp. Opened s at frame sp back t) below op0 in
-      let p0 : State = record p { locals = ws } in
+      let p0 : ProgramState = record p { locals = ws } in
       let same_slots : k.slots ≡ slots_of f = slots_is in
       let m0 : Matches s gs k phase (length f.text.params) p0 (record t { registers = op.registers; view = put_number 4 k.sp back t.view }) = record {
         globals = globals_stack s gs may k ground p.globals 4 k.sp back t.view (omega arith) (omega arith) b.globals;
@@ -140,9 +140,9 @@ module _ (s : Setting) (calls : Calls) (gs : Globals) (may : Access) (parts : Pa
       let x = then_ok (declare may f.locals p0) _ (word, after) is in
       let y = then_ok (run_source may source f.body x.0) _ (word, after) x.1.1 in
       let z = then_ok (result_of may f.result y.0) _ (word, after) y.1.1 in
-      let left : State = record y.0 { locals = p.locals } in
+      let left : ProgramState = record y.0 { locals = p.locals } in
       let pair : ok_of (z.0, left) ≡ ok_of (word, after) = z.1.1 in
-      subst (λ (q : ℕ × State). FrameBack s gs phase (run s calls at (function_code (with_globals gs parts) f) t) t back (k.sp + frame) (is_some f.result) q.0 p.marks q.1) (same_ok (z.0, left) (word, after) pair)
+      subst (λ (q : ℕ × ProgramState). FrameBack s gs phase (run s calls at (function_code (with_globals gs parts) f) t) t back (k.sp + frame) (is_some f.result) q.0 p.marks q.1) (same_ok (z.0, left) (word, after) pair)
       (goes_back p t back z.0 p0 x.0 y.0 back_al back_small top_small op m0 x.1.0 y.1.0 z.1.0)
 
 pub frame_runs : FrameRuns

@@ -14,7 +14,7 @@ use Rattle.prem_isa.specs.Act.{with_register}
 use Rattle.prem_isa.specs.Plain.{TaskState, Did}
 use Rattle.prem_meaning.specs.Resolved.{Term}
 use Rattle.prem_meaning.specs.Expressions.{Outcome, Access}
-use Rattle.prem_meaning.specs.Statements.{State, MarkedCall, value, with_local, with_cell, stored, store}
+use Rattle.prem_meaning.specs.Statements.{ProgramState, MarkedCall, value, with_local, with_cell, stored, store}
 use Rattle.prem_asm.specs.Pieces.{Pieces, no_pieces, straight, either, size_of, followed, skip_words, skip_at, other_at, either_end}
 use Rattle.prem_asm.specs.Runs.{Calls, Setting, Ending, Falls, run_one, run, control, taken_steps, other_steps, skip_steps}
 use Rattle.prem_template.specs.Terms.{slot, nonzero, term_code}
@@ -56,15 +56,15 @@ module _ (s : Setting) (calls : Calls) (gs : Globals) (may : Access) (k : Stack)
   -- ---- values
 
   -- where nothing is called
-  pub valued : (e : Term) (r at : ℕ) (t : TaskState) (p : State) (w : ℕ) → 10 ≤ r → Matches s gs k phase count p t → Fits gs count r e → value may p e ≡ Ok w → Gives s silent at (term_code gs.part r e) t r w
+  pub valued : (e : Term) (r at : ℕ) (t : TaskState) (p : ProgramState) (w : ℕ) → 10 ≤ r → Matches s gs k phase count p t → Fits gs count r e → value may p e ≡ Ok w → Gives s silent at (term_code gs.part r e) t r w
   valued e r at t p w ten m fit is =
       term_runs s silent gs may k ground p.globals p.locals e r at t w ten fit.deep (subst (λ n. Rattle.prem_expr_laws.specs.Gives.TermFits gs n e) (sym m.count_is) fit.term) m.globals m.locals m.words m.stack is
 
-  pub evaluated : (e : Term) (r at : ℕ) (t : TaskState) (p : State) (w : ℕ) → 10 ≤ r → Matches s gs k phase count p t → Fits gs count r e → value may p e ≡ Ok w → Gave s calls at (term_code gs.part r e) t r w
+  pub evaluated : (e : Term) (r at : ℕ) (t : TaskState) (p : ProgramState) (w : ℕ) → 10 ≤ r → Matches s gs k phase count p t → Fits gs count r e → value may p e ≡ Ok w → Gave s calls at (term_code gs.part r e) t r w
   evaluated e r at t p w ten m fit is = gave s calls r at (term_code gs.part r e) t w (quiet_term gs.part r e ten) (valued e r at t p w ten m fit is)
 
   -- registers change, and the state still stands
-  pub changed : (t : TaskState) (p : State) (f : ℕ → ℕ) → Matches s gs k phase count p t → AreWords f → f 2 ≡ k.sp → Matches s gs k phase count p (record t { registers = f })
+  pub changed : (t : TaskState) (p : ProgramState) (f : ℕ → ℕ) → Matches s gs k phase count p t → AreWords f → f 2 ≡ k.sp → Matches s gs k phase count p (record t { registers = f })
   changed t p f m ws two = record {
     globals = m.globals;
     locals = m.locals;
@@ -78,7 +78,7 @@ module _ (s : Setting) (calls : Calls) (gs : Globals) (may : Access) (k : Stack)
     inputs = m.inputs;
   }
 
-  pub still : (at : ℕ) (ps : Pieces) (t : TaskState) (p : State) (r w : ℕ) → 10 ≤ r → Matches s gs k phase count p t → (g : Gave s calls at ps t r w) → Matches s gs k phase count p (record t { registers = g.registers })
+  pub still : (at : ℕ) (ps : Pieces) (t : TaskState) (p : ProgramState) (r w : ℕ) → 10 ≤ r → Matches s gs k phase count p t → (g : Gave s calls at ps t r w) → Matches s gs k phase count p (record t { registers = g.registers })
   still at ps t p r w ten m g =
       changed t p g.registers m g.words (g.kept 2 (record { below = omega arith; not_five = omega arith; not_six = omega arith; not_seven = omega arith }) ∙ m.stack)
 
@@ -87,14 +87,14 @@ module _ (s : Setting) (calls : Calls) (gs : Globals) (may : Access) (k : Stack)
 
   -- ---- what follows
 
-  pub ends_nothing : (lo hi at : ℕ) (t : TaskState) (p : State) → Matches s gs k phase count p t → Ends s gs k phase count lo hi (run s calls at no_pieces t) t p.marks p
+  pub ends_nothing : (lo hi at : ℕ) (t : TaskState) (p : ProgramState) → Matches s gs k phase count p t → Ends s gs k phase count lo hi (run s calls at no_pieces t) t p.marks p
   ends_nothing lo hi at t p m = record { to = t; trace = []; goes = refl; marks = marked_nothing s gs t p.marks; matches = m; kept = λ a h. refl }
 
-  pub widened : {ms : List MarkedCall} (lo lo' hi' hi : ℕ) (o : Ending) (t : TaskState) (p : State) → lo ≤ lo' → hi' ≤ hi → Ends s gs k phase count lo' hi' o t ms p → Ends s gs k phase count lo hi o t ms p
+  pub widened : {ms : List MarkedCall} (lo lo' hi' hi : ℕ) (o : Ending) (t : TaskState) (p : ProgramState) → lo ≤ lo' → hi' ≤ hi → Ends s gs k phase count lo' hi' o t ms p → Ends s gs k phase count lo hi o t ms p
   widened lo lo' hi' hi o t p le ge e = record { to = e.to; trace = e.trace; goes = e.goes; marks = e.marks; matches = e.matches; kept = λ a h. e.kept a (widen k count lo lo' hi' hi a le ge h) }
 
   module _ (lo hi : ℕ) where
-    pub gives_then : {ms : List MarkedCall} (at : ℕ) (ps rest : Pieces) (t : TaskState) (r w : ℕ) (after : State) (g : Gave s calls at ps t r w) →
+    pub gives_then : {ms : List MarkedCall} (at : ℕ) (ps rest : Pieces) (t : TaskState) (r w : ℕ) (after : ProgramState) (g : Gave s calls at ps t r w) →
         Ends s gs k phase count lo hi (run s calls (at + size_of ps) rest (record t { registers = g.registers })) (record t { registers = g.registers }) ms after → Ends s gs k phase count lo hi (run s calls at (followed ps rest) t) t ms after
     gives_then {ms} at ps rest t r w after g e = record {
       marks = marks_join s gs t g.trace (record t { registers = g.registers }) e.trace e.to ms ms after.marks (marked_gave s gs calls at ps t r w ms g) e.marks;
@@ -106,7 +106,7 @@ module _ (s : Setting) (calls : Calls) (gs : Globals) (may : Access) (k : Stack)
     }
 
     -- pieces, and those behind them
-    pub ends_then : {ms : List MarkedCall} (at : ℕ) (ps rest : Pieces) (t : TaskState) (p after : State) (d : Ends s gs k phase count lo hi (run s calls at ps t) t ms p) →
+    pub ends_then : {ms : List MarkedCall} (at : ℕ) (ps rest : Pieces) (t : TaskState) (p after : ProgramState) (d : Ends s gs k phase count lo hi (run s calls at ps t) t ms p) →
         Ends s gs k phase count lo hi (run s calls (at + size_of ps) rest d.to) d.to p.marks after → Ends s gs k phase count lo hi (run s calls at (followed ps rest) t) t ms after
     ends_then {ms} at ps rest t p after d e = record {
       marks = marks_join s gs t d.trace d.to e.trace e.to ms p.marks after.marks d.marks e.marks;
@@ -118,7 +118,7 @@ module _ (s : Setting) (calls : Calls) (gs : Globals) (may : Access) (k : Stack)
     }
 
     -- one instruction, and what follows it
-    pub one_then : {ms : List MarkedCall} (at : ℕ) (i : Instr) (is : List Instr) (rest : Pieces) (t t1 : TaskState) (x : List Did) (p : State) → run_one s at i t ≡ Falls t1 x → AllSteps Stays x → ((a : ℕ) → IsKept k count lo hi a → t1.view a ≡ t.view a) →
+    pub one_then : {ms : List MarkedCall} (at : ℕ) (i : Instr) (is : List Instr) (rest : Pieces) (t t1 : TaskState) (x : List Did) (p : ProgramState) → run_one s at i t ≡ Falls t1 x → AllSteps Stays x → ((a : ℕ) → IsKept k count lo hi a → t1.view a ≡ t.view a) →
         Ends s gs k phase count lo hi (run s calls (at + 4) (straight is rest) t1) t1 ms p → Ends s gs k phase count lo hi (run s calls at (straight (i ∷ is) rest) t) t ms p
     one_then {ms} at i is rest t t1 x p e stays kept d = record {
       marks = marks_join s gs t x t1 d.trace d.to ms ms p.marks (marked_one s gs at i t t1 x ms e stays) d.marks;
@@ -130,12 +130,12 @@ module _ (s : Setting) (calls : Calls) (gs : Globals) (may : Access) (k : Stack)
     }
 
     -- no instruction is left
-    pub none_then : {ms : List MarkedCall} (at : ℕ) (rest : Pieces) (t : TaskState) (p : State) → Ends s gs k phase count lo hi (run s calls at rest t) t ms p → Ends s gs k phase count lo hi (run s calls at (straight [] rest) t) t ms p
+    pub none_then : {ms : List MarkedCall} (at : ℕ) (rest : Pieces) (t : TaskState) (p : ProgramState) → Ends s gs k phase count lo hi (run s calls at rest t) t ms p → Ends s gs k phase count lo hi (run s calls at (straight [] rest) t) t ms p
     none_then at rest t p d = record { to = d.to; trace = d.trace; goes = after s calls at rest t d.to d.trace d.goes; marks = d.marks; matches = d.matches; kept = d.kept }
 
     -- ---- slots of the frame
 
-    pub slot_falls : (at i : ℕ) (t : TaskState) (p : State) (w : ℕ) → Matches s gs k phase count p t → i < k.slots → t.registers 10 ≡ w →
+    pub slot_falls : (at i : ℕ) (t : TaskState) (p : ProgramState) (w : ℕ) → Matches s gs k phase count p t → i < k.slots → t.registers 10 ≡ w →
         (x : List Did) × (run_one s at (store_slot i) t ≡ Falls (record t { view = put_number 4 (slot_at k i) w t.view }) x)
     slot_falls at i t p w m lt is =
         let room : k.sp + 4 + 4 * k.slots ≤ k.top = ground.room in
@@ -146,7 +146,7 @@ module _ (s : Setting) (calls : Calls) (gs : Globals) (may : Access) (k : Stack)
         (all_between s.guard.store k.low k.top ground.stores 4 (slot_at k i) (omega arith) (omega arith))
 
     -- x10 into a local
-    pub stored_matches : (i : ℕ) (t : TaskState) (p : State) (w : ℕ) → count ≤ k.slots → Matches s gs k phase count p t → i < count → w < 2 ^ 32 → Matches s gs k phase count (with_local i w p) (record t { view = put_number 4 (slot_at k i) w t.view })
+    pub stored_matches : (i : ℕ) (t : TaskState) (p : ProgramState) (w : ℕ) → count ≤ k.slots → Matches s gs k phase count p t → i < count → w < 2 ^ 32 → Matches s gs k phase count (with_local i w p) (record t { view = put_number 4 (slot_at k i) w t.view })
     stored_matches i t p w fits m lt small =
         let room : k.sp + 4 + 4 * k.slots ≤ k.top = ground.room in
         let floor : k.low ≤ k.sp = ground.floor in
@@ -164,7 +164,7 @@ module _ (s : Setting) (calls : Calls) (gs : Globals) (may : Access) (k : Stack)
           inputs = m.inputs;
         }
 
-    pub local_then : (at i : ℕ) (is : List Instr) (rest : Pieces) (t : TaskState) (p : State) (w : ℕ) (after : State) → count ≤ k.slots → count ≤ hi → Matches s gs k phase count p t → i < count → t.registers 10 ≡ w → w < 2 ^ 32 →
+    pub local_then : (at i : ℕ) (is : List Instr) (rest : Pieces) (t : TaskState) (p : ProgramState) (w : ℕ) (after : ProgramState) → count ≤ k.slots → count ≤ hi → Matches s gs k phase count p t → i < count → t.registers 10 ≡ w → w < 2 ^ 32 →
         ((t1 : TaskState) → Matches s gs k phase count (with_local i w p) t1 → Ends s gs k phase count lo hi (run s calls (at + 4) (straight is rest) t1) t1 p.marks after) →
         Ends s gs k phase count lo hi (run s calls at (straight (store_slot i ∷ is) rest) t) t p.marks after
     local_then at i is rest t p w after fits le m lt is_w small next =
@@ -176,7 +176,7 @@ module _ (s : Setting) (calls : Calls) (gs : Globals) (may : Access) (k : Stack)
           left h = grind arith
 
     -- a word that stands in a slot into x10
-    pub load_then : (at i : ℕ) (is : List Instr) (rest : Pieces) (t : TaskState) (p : State) (w : ℕ) (after : State) → Matches s gs k phase count p t → i < k.slots → number_at t.view (slot_at k i) 4 ≡ w → w < 2 ^ 32 →
+    pub load_then : (at i : ℕ) (is : List Instr) (rest : Pieces) (t : TaskState) (p : ProgramState) (w : ℕ) (after : ProgramState) → Matches s gs k phase count p t → i < k.slots → number_at t.view (slot_at k i) 4 ≡ w → w < 2 ^ 32 →
         ((t1 : TaskState) → Matches s gs k phase count p t1 → t1.registers 10 ≡ w → t1.view ≡ t.view → Ends s gs k phase count lo hi (run s calls (at + 4) (straight is rest) t1) t1 p.marks after) →
         Ends s gs k phase count lo hi (run s calls at (straight (load_slot i ∷ is) rest) t) t p.marks after
     load_then at i is rest t p w after m lt stands small next =
@@ -186,7 +186,7 @@ module _ (s : Setting) (calls : Calls) (gs : Globals) (may : Access) (k : Stack)
         (next t1 (changed t p (with_register 10 w t.registers) m (reg_words 10 w t.registers small m.words) (reg_other 10 w t.registers 2 (omega arith) ∙ m.stack)) (reg_same 10 w t.registers (omega arith)) refl)
 
     -- a constant added to x10
-    pub add_then : (at : ℕ) (z : ℤ) (is : List Instr) (rest : Pieces) (t : TaskState) (p : State) (w : ℕ) (after : State) → Matches s gs k phase count p t → plus (t.registers 10) z ≡ w →
+    pub add_then : (at : ℕ) (z : ℤ) (is : List Instr) (rest : Pieces) (t : TaskState) (p : ProgramState) (w : ℕ) (after : ProgramState) → Matches s gs k phase count p t → plus (t.registers 10) z ≡ w →
         ((t1 : TaskState) → Matches s gs k phase count p t1 → t1.registers 10 ≡ w → t1.view ≡ t.view → Ends s gs k phase count lo hi (run s calls (at + 4) (straight is rest) t1) t1 p.marks after) →
         Ends s gs k phase count lo hi (run s calls at (straight (OpImm Add 10 10 z ∷ is) rest) t) t p.marks after
     add_then at z is rest t p w after m sum next =
@@ -198,8 +198,8 @@ module _ (s : Setting) (calls : Calls) (gs : Globals) (may : Access) (k : Stack)
 
     -- ---- choices
 
-    pub chosen : (at r : ℕ) (taken other rest : Pieces) (t : TaskState) (w : ℕ) (p p1 after : State) → AreWords t.registers → t.registers r ≡ w →
-        (f g : State → Outcome State) (b : Bool) → not (eqb w 0) ≡ b → Rattle.prem_meaning.specs.Statements.choose b f g p ≡ Ok p1 →
+    pub chosen : (at r : ℕ) (taken other rest : Pieces) (t : TaskState) (w : ℕ) (p p1 after : ProgramState) → AreWords t.registers → t.registers r ≡ w →
+        (f g : ProgramState → Outcome ProgramState) (b : Bool) → not (eqb w 0) ≡ b → Rattle.prem_meaning.specs.Statements.choose b f g p ≡ Ok p1 →
         (f p ≡ Ok p1 → Ends s gs k phase count lo hi (run s calls (at + 8) taken t) t p.marks p1) → (g p ≡ Ok p1 → Ends s gs k phase count lo hi (run s calls (other_at at taken other) other t) t p.marks p1) →
         ((t1 : TaskState) → Matches s gs k phase count p1 t1 → Ends s gs k phase count lo hi (run s calls (either_end at taken other) rest t1) t1 p1.marks after) →
         Ends s gs k phase count lo hi (run s calls at (either (nonzero r) taken other rest) t) t p.marks after

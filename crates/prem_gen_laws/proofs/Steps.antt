@@ -5,7 +5,7 @@ use Rattle.prem_isa.specs.declared.effect.Phase.{Phase}
 use Rattle.prem_isa.specs.Plain.{TaskState}
 use Rattle.prem_meaning.specs.Resolved.{Term, Steps, Done as NoSteps, SetLocal, SetScalar, SetElement, Output, Input, If, For, While, Call}
 use Rattle.prem_meaning.specs.Expressions.{and_then, Access}
-use Rattle.prem_meaning.specs.Statements.{State, MarkedCall, Calls as SourceCalls, value, values, with_local, with_output, take_input, store, choose, holds, loop_test, loop_step, counting, bounded, with_target, run as run_source}
+use Rattle.prem_meaning.specs.Statements.{ProgramState, MarkedCall, Calls as SourceCalls, value, values, with_local, with_output, take_input, store, choose, holds, loop_test, loop_step, counting, bounded, with_target, run as run_source}
 use Rattle.prem_asm.specs.Pieces.{Pieces, no_pieces, straight, address_of, either, repeat, call_to, words, size_of, followed, other_at, either_end, test_at, repeat_end}
 use Rattle.prem_asm.specs.declared.piece.Test.{Test}
 use Rattle.prem_asm.specs.Runs.{Calls, Setting, Ending, run, run_turns}
@@ -49,16 +49,16 @@ module _ (s : Setting) (calls : Calls) (gs : Globals) (may : Access) (k : Stack)
   abbrev term : ℕ → Term → Pieces
   term r e = term_code gs.part r e
 
-  abbrev Done : (lo hi : ℕ) → Ending → TaskState → List MarkedCall → State → Type 0
+  abbrev Done : (lo hi : ℕ) → Ending → TaskState → List MarkedCall → ProgramState → Type 0
   Done lo hi o t ms p = Ends s gs k phase count lo hi o t ms p
 
   -- what follows a statement uses fewer counters
-  rest_ends : {ms : List MarkedCall} (lo n hi at : ℕ) (rest : Steps) (t : TaskState) (after : State) → lo ≤ n → n + counters_in rest ≤ hi →
+  rest_ends : {ms : List MarkedCall} (lo n hi at : ℕ) (rest : Steps) (t : TaskState) (after : ProgramState) → lo ≤ n → n + counters_in rest ≤ hi →
       Done n (n + counters_in rest) (run s calls at (code n rest) t) t ms after → Done lo hi (run s calls at (code n rest) t) t ms after
   rest_ends lo n hi at rest t after le ge d = widened s calls gs may k ground phase count lo n (n + counters_in rest) hi (run s calls at (code n rest) t) t after le ge d
 
   -- a loop, and what follows it
-  repeat_then : {ms : List MarkedCall} (lo hi at turns : ℕ) (head : Pieces) (test : Test) (body rest : Pieces) (t : TaskState) (p after : State) →
+  repeat_then : {ms : List MarkedCall} (lo hi at turns : ℕ) (head : Pieces) (test : Test) (body rest : Pieces) (t : TaskState) (p after : ProgramState) →
       Done lo hi (run_turns turns (loop_of s calls at head test body) t) t ms p → ((t1 : TaskState) → Matches s gs k phase count p t1 → Done lo hi (run s calls (repeat_end at head body) rest t1) t1 p.marks after) →
       Done lo hi (run s calls at (repeat turns head test body rest) t) t ms after
   repeat_then {ms} lo hi at turns head test body rest t p after d next =
@@ -72,7 +72,7 @@ module _ (s : Setting) (calls : Calls) (gs : Globals) (may : Access) (k : Stack)
         kept = λ a h. z.kept a h ∙ d.kept a h;
       }
 
-  pub steps_end : (p : Steps) (n at : ℕ) (t : TaskState) (st after : State) → count ≤ n → n + counters_in p ≤ k.slots → at % 4 ≡ 0 → at + size_of (code n p) < 2 ^ 32 →
+  pub steps_end : (p : Steps) (n at : ℕ) (t : TaskState) (st after : ProgramState) → count ≤ n → n + counters_in p ≤ k.slots → at % 4 ≡ 0 → at + size_of (code n p) < 2 ^ 32 →
       StepsFit gs parts cs phase count under p → Matches s gs k phase count st t → run_source may source p st ≡ Ok after → Done n (n + counters_in p) (run s calls at (code n p) t) t st.marks after
   steps_end NoSteps n at t st after le room al size fit m e =
       subst (λ q. Done n (n + 0) (run s calls at no_pieces t) t st.marks q) (same_ok st after e) (ends_nothing s calls gs may k ground phase count n (n + 0) at t st m)
@@ -173,7 +173,7 @@ module _ (s : Setting) (calls : Calls) (gs : Globals) (may : Access) (k : Stack)
       let x = then_ok (value may st low) _ after is in
       let w = x.0 in
       let sem = run_source may source body in
-      let turn = λ (q : State). and_then (sem q) (loop_step pl.line i step) in
+      let turn = λ (q : ProgramState). and_then (sem q) (loop_step pl.line i step) in
       let y = then_ok (counting pl.line turns (loop_test may i closed high) turn (with_local i w st)) (run_source may source rest) after x.1.1 in
       let n1 = n + counters_in body in
       let hi = n + (counters_in body + counters_in rest) in

@@ -5,7 +5,7 @@ use Rattle.prem_isa.specs.Act.{first_registers}
 use Rattle.prem_isa.specs.Plain.{TaskRun, TaskState, PlainState, Did, plain_step, plain_steps, plain_trace, with_last}
 use Rattle.prem_isa.proofs.PlainLaws.{plain_steps-next, plain_steps-add, plain_trace-add}
 use Rattle.prem_meaning.specs.Resolved.{Resolved}
-use Rattle.prem_meaning.specs.Statements.{State, MarkedCall}
+use Rattle.prem_meaning.specs.Statements.{ProgramState, MarkedCall}
 use Rattle.prem_meaning.specs.Source.{Limits, calls_below, do_jobs, everywhere}
 use Rattle.prem_asm.specs.Pieces.{call_to, no_pieces, jump_to}
 use Rattle.prem_asm.specs.Runs.{Setting, Calls, Falls, Stuck, with_trace, called, run, control, linked}
@@ -42,7 +42,7 @@ module _ (s : Setting) (gs : Globals) (limits : Limits) (program : Resolved) (ow
   back = own.entry + 4
 
   -- the call of `job`
-  record Called (ended : ℕ) (t : TaskState) (before : List MarkedCall) (after : State) : Type 0 where
+  record Called (ended : ℕ) (t : TaskState) (before : List MarkedCall) (after : ProgramState) : Type 0 where
     to : TaskState
     trace : List Did
     leads : Leads own ended trace own.entry t back to
@@ -50,7 +50,7 @@ module _ (s : Setting) (gs : Globals) (limits : Limits) (program : Resolved) (ow
     between : Between s gs Compatible after to
     agrees : Agrees s.guard bytes to.view
 
-  job_called : (ended : ℕ) → ended < own.jobs → (p : State) (t : TaskState) (word : ℕ) (after : State) → Between s gs Compatible p t → t.registers ≡ first_registers own.stack → Agrees s.guard bytes t.view →
+  job_called : (ended : ℕ) → ended < own.jobs → (p : ProgramState) (t : TaskState) (word : ℕ) (after : ProgramState) → Between s gs Compatible p t → t.registers ≡ first_registers own.stack → Agrees s.guard bytes t.view →
       calls_below limits program.routines (length program.routines) everywhere program.job [] p ≡ Ok (word, after) → Called ended t p.marks after
   job_called ended lt p t word after b first agrees is =
       let r = running ended lt in
@@ -88,7 +88,7 @@ module _ (s : Setting) (gs : Globals) (limits : Limits) (program : Resolved) (ow
         agrees = f.1;
       }
 
-  one_job : (ended : ℕ) → ended < own.jobs → (p : State) (t : TaskState) (word : ℕ) (after : State) → Between s gs Compatible p t → t.registers ≡ first_registers own.stack → Agrees s.guard bytes t.view →
+  one_job : (ended : ℕ) → ended < own.jobs → (p : ProgramState) (t : TaskState) (word : ℕ) (after : ProgramState) → Between s gs Compatible p t → t.registers ≡ first_registers own.stack → Agrees s.guard bytes t.view →
       calls_below limits program.routines (length program.routines) everywhere program.job [] p ≡ Ok (word, after) → JobsDone s gs own bytes ended (ended + 1) t p.marks after
   one_job ended lt p t word after b first agrees is =
       let x = job_called ended lt p t word after b first agrees is in
@@ -122,7 +122,7 @@ module _ (s : Setting) (gs : Globals) (limits : Limits) (program : Resolved) (ow
         first_words : AreWords (first_registers own.stack)
         first_words = reg_words 2 own.stack (λ q. 0) stack_small (record { zero = refl; word = λ q. omega arith })
 
-  many_jobs : (n ended : ℕ) → ended + n ≤ own.jobs → (p : State) (t : TaskState) (after : State) →
+  many_jobs : (n ended : ℕ) → ended + n ≤ own.jobs → (p : ProgramState) (t : TaskState) (after : ProgramState) →
       Between s gs Compatible p t → t.registers ≡ first_registers own.stack → Agrees s.guard bytes t.view → do_jobs limits program n p ≡ Ok after → JobsDone s gs own bytes ended (ended + n) t p.marks after
   many_jobs zero ended le p t after b first agrees is =
       let same : ended ≡ ended + 0 = omega arith in
@@ -130,14 +130,14 @@ module _ (s : Setting) (gs : Globals) (limits : Limits) (program : Resolved) (ow
         trace = [];
         then_state = t;
         steps = no_trace own (in_job ended own.entry t);
-        marks = no_notes s gs own (in_job ended own.entry t) p.marks after.marks (ap (λ (q : State). q.marks) (same_ok p after is));
+        marks = no_notes s gs own (in_job ended own.entry t) p.marks after.marks (ap (λ (q : ProgramState). q.marks) (same_ok p after is));
         state = no_steps own (in_job ended own.entry t) ∙ ap (λ e. in_job e own.entry t) same;
         between = subst (λ q. Between s gs Compatible q t) (same_ok p after is) b;
         registers = first;
         agrees = agrees;
       }
   many_jobs (suc n) ended le p t after b first agrees is =
-      let x = then_ok (calls_below limits program.routines (length program.routines) everywhere program.job [] p) (λ (r : ℕ × State). do_jobs limits program n r.1) after is in
+      let x = then_ok (calls_below limits program.routines (length program.routines) everywhere program.job [] p) (λ (r : ℕ × ProgramState). do_jobs limits program n r.1) after is in
       let one = one_job ended (omega arith) p t x.0.0 x.0.1 b first agrees x.1.0 in
       let more = many_jobs n (ended + 1) (omega arith) x.0.1 one.then_state after one.between one.registers one.agrees x.1.1 in
       let same : ended + 1 + n ≡ ended + suc n = omega arith in

@@ -4,7 +4,7 @@ use Rattle.prem_isa.specs.declared.effect.Phase.{Phase}
 use Rattle.prem_isa.specs.Plain.{TaskState}
 use Rattle.prem_meaning.specs.Resolved.{Steps}
 use Rattle.prem_meaning.specs.Expressions.{Access}
-use Rattle.prem_meaning.specs.Statements.{State, Calls, run as run_source}
+use Rattle.prem_meaning.specs.Statements.{ProgramState, Calls, run as run_source}
 use Rattle.prem_asm.specs.Pieces.{size_of}
 use Rattle.prem_asm.specs.Runs.{Setting, run, Calls as CodeCalls}
 use Rattle.prem_template.specs.Frames.{counters_in}
@@ -33,7 +33,7 @@ StepsRun =
     (s : Setting) (calls : CodeCalls) (gs : Globals) (may : Access) (k : Stack) → Ground s gs may k →
     (parts : Parts) (cs : Callees) (phase : Phase) (source : Calls) → CalleesAt s gs may k calls parts cs phase source →
     (count under : ℕ) → k.low + under ≤ k.sp →
-    (steps : Steps) (n at : ℕ) (t : TaskState) (p after : State) →
+    (steps : Steps) (n at : ℕ) (t : TaskState) (p after : ProgramState) →
     count ≤ n → n + counters_in steps ≤ k.slots → at % 4 ≡ 0 → at + size_of (steps_code (with_globals gs parts) n steps) < 2 ^ 32 →
     StepsFit gs parts cs phase count under steps → Matches s gs k phase count p t → run_source may source steps p ≡ Ok after →
     Ends s gs k phase count n (n + counters_in steps) (run s calls at (steps_code (with_globals gs parts) n steps) t) t p.marks after

@@ -8,7 +8,7 @@ use Rattle.std.proofs.lemmas.List.{length-map}
 use Rattle.prem_plant.specs.declared.plant.Device.{Device}
 use Rattle.prem_plant.specs.declared.layout.PartSize.{PartSize}
 use Rattle.prem_plant.specs.declared.layout.PartKind.TheVariants.{Area, Stack}
-use Rattle.prem_plant.specs.Places.{Place, Holds, IsArea}
+use Rattle.prem_plant.specs.Places.{Extent, Holds, IsArea}
 use Rattle.prem_image.specs.declared.image.DeviceRecord.{DeviceRecord}
 use Rattle.prem_syntax.specs.Syntax.{GlobalVariable}
 use Rattle.prem_cycle.specs.Inputs.{no_device}
@@ -38,19 +38,19 @@ get_behind (x ∷ xs) ys i = let e : suc (length xs) + i ≡ suc (length xs + i)
 
 -- ---- where an own byte is
 
-held : (q : Place) (a : ℕ) → is_held q a ≡ true → Holds q a
+held : (q : Extent) (a : ℕ) → is_held q a ≡ true → Holds q a
 held q a h = let x = and_parts (leb q.0 a) (ltb a q.1) h in (leb-true q.0 a x.0, ltb-true a q.1 x.1)
 
-holds : (q : Place) (a : ℕ) → Holds q a → is_held q a ≡ true
+holds : (q : Extent) (a : ℕ) → Holds q a → is_held q a ≡ true
 holds q a h = ap (λ b. b && ltb a q.1) (le-leb q.0 a h.0) ∙ lt-ltb a q.1 h.1
 
 -- a place that holds it
-record Held (places : List Place) (a i : ℕ) : Type 0 where
-  place : Place
+record Held (places : List Extent) (a i : ℕ) : Type 0 where
+  place : Extent
   there : slice_get places i ≡ Some place
   byte : Holds place a
 
-first_held : (n : ℕ) (places : List Place) (a : ℕ) → owns_first n places a ≡ true → (i : ℕ) × ((i < n) × Held places a i)
+first_held : (n : ℕ) (places : List Extent) (a : ℕ) → owns_first n places a ≡ true → (i : ℕ) × ((i < n) × Held places a i)
 first_held zero places a h = cc
 first_held (suc n) [] a h = cc
 first_held (suc n) (q ∷ places) a h =
@@ -58,7 +58,7 @@ first_held (suc n) (q ∷ places) a h =
     (λ (e : owns_first n places a ≡ true). let r = first_held n places a e in (suc r.0, (omega (arith, r.1.0), record { place = r.1.1.place; there = r.1.1.there; byte = r.1.1.byte })))
     (or_cases (is_held q a) (owns_first n places a) h)
 
-own_held : (tasks : List Coded) (places : List Place) (k a : ℕ) → own_of tasks places k a ≡ true → (i : ℕ) × (IsPartOf tasks k i × Held places a i)
+own_held : (tasks : List Coded) (places : List Extent) (k a : ℕ) → own_of tasks places k a ≡ true → (i : ℕ) × (IsPartOf tasks k i × Held places a i)
 own_held [] places k a h = cc
 own_held (c ∷ cs) places zero a h = first_held (part_count c.program) places a h
 own_held (c ∷ cs) places (suc k) a h =
@@ -117,16 +117,16 @@ parts_long passes n (c ∷ cs) h =
     omega (arith, length-append (task_parts passes n (sized_of c).sizes c.program) (parts_from passes (n + 1) (map sized_of cs)), one, rest)
 
 -- a device of the image: its part, its place, and its area
-pub record AreaAt (line n : ℕ) (devices : List Device) (places : List Place) (d : ℕ) : Type 0 where
+pub record AreaAt (line n : ℕ) (devices : List Device) (places : List Extent) (d : ℕ) : Type 0 where
   pub this : PartSize
-  pub place : Place
+  pub place : Extent
   pub there : slice_get (area_parts line n devices) d ≡ Some this
   pub area : IsArea this.kind
   pub at : slice_get places d ≡ Some place
   pub record_is : (slice_index_or (device_records devices places) d no_device).area ≡ place.0
   pub size_is : this.size ≡ (slice_index_or (device_records devices places) d no_device).device.lines * line
 
-pub area_at : (line n : ℕ) (devices : List Device) (places : List Place) (d : ℕ) → d < length (device_records devices places) → AreaAt line n devices places d
+pub area_at : (line n : ℕ) (devices : List Device) (places : List Extent) (d : ℕ) → d < length (device_records devices places) → AreaAt line n devices places d
 area_at line n [] places d lt = absurd (omega (arith, lt))
 area_at line n (x ∷ xs) [] d lt = absurd (omega (arith, lt))
 area_at line n (x ∷ xs) (q ∷ places) zero lt = record { this = part 0 (Area n) (x.lines * line) line; place = q; there = refl; area = tt; at = refl; record_is = refl; size_is = refl }
@@ -159,7 +159,7 @@ own_bytes_are_free p devices tasks places pos coded lawful k a h d j ld lj e =
 
 -- ---- the other way
 
-first_owns : (n i : ℕ) (places : List Place) (a : ℕ) (q : Place) → i < n → slice_get places i ≡ Some q → Holds q a → owns_first n places a ≡ true
+first_owns : (n i : ℕ) (places : List Extent) (a : ℕ) (q : Extent) → i < n → slice_get places i ≡ Some q → Holds q a → owns_first n places a ≡ true
 first_owns zero i places a q lt e h = absurd (omega (arith, lt))
 first_owns (suc n) zero [] a q lt e h = cc
 first_owns (suc n) (suc i) [] a q lt e h = cc

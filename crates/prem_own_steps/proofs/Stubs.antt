@@ -2,7 +2,7 @@
 use Rattle.std.proofs.Common.{◌≡◌, ℕ, ◌+◌, ◌*◌, ◌/◌, ◌<◌, ◌≤◌, ◌⊎◌, inl, inr, ap, ◌∙◌, sym, subst, arith, List, [], ◌∷◌, ◌++◌, Some, None, Option, IfSome}
 use Rattle.std.proofs.lemmas.Nat.{le-div}
 use Rattle.std.proofs.Math.Nat.{mul-div_cancel}
-use Rattle.prem_plant.specs.Places.{Place}
+use Rattle.prem_plant.specs.Places.{Extent}
 use Rattle.prem_isa.specs.declared.effect.Access.{Access}
 use Rattle.prem_isa.specs.declared.effect.Phase.TheVariants.{Memory as MemoryPhase}
 use Rattle.prem_isa.specs.Plain.{Did}
@@ -45,7 +45,7 @@ div_is : (a l line : ℕ) → 0 < line → l * line ≤ a → a / line ≤ l →
 div_is a l line some ge le = let h = le-div l a line some ge in omega (arith, h, le)
 
 -- a line of a range that has bytes has one of them
-line_byte : (line : ℕ) → 0 < line → (ranges : List Place) → HaveBytes ranges → (l : ℕ) → IsLineOf line ranges l → (a : ℕ) × (SomeHolds ranges a × (a / line ≡ l))
+line_byte : (line : ℕ) → 0 < line → (ranges : List Extent) → HaveBytes ranges → (l : ℕ) → IsLineOf line ranges l → (a : ℕ) × (SomeHolds ranges a × (a / line ≡ l))
 line_byte line some [] bytes l h = absurd h
 line_byte line some (r ∷ rs) bytes l (inr h) = let x = line_byte line some rs bytes.1 l h in (x.0, (inr x.1.0, x.1.1))
 line_byte line some (r ∷ rs) bytes l (inl h) = by (first l r.0) where

@@ -4,9 +4,9 @@ use Rattle.std.specs.Prelude.{None}
 use Rattle.prem_isa.specs.declared.effect.Phase.TheVariants.{Compatible, Memory as MemoryPhase, Execution}
 use Rattle.prem_isa.specs.declared.effect.Change.TheVariants.{Stay}
 use Rattle.prem_isa.specs.Plain.{TaskState, Did}
-use Rattle.prem_plant.specs.Places.{Place}
+use Rattle.prem_plant.specs.Places.{Extent}
 use Rattle.prem_meaning.specs.Expressions.{Outcome, Access}
-use Rattle.prem_meaning.specs.Statements.{State}
+use Rattle.prem_meaning.specs.Statements.{ProgramState}
 use Rattle.prem_asm.specs.Pieces.{call_to, size_of, jump_to}
 use Rattle.prem_asm.specs.Runs.{Guard, Calls, Setting, Returns, Stuck, with_trace, then_run, called, run, run_code, control, linked}
 use Rattle.prem_layout.specs.Parts.{Passes as PassCount}
@@ -27,16 +27,16 @@ use Rattle.prem_gen_laws.specs.Functions.{with_own_mark}
 use Rattle.prem_gen_laws.proofs.Marks.{marks_left, leads_still}
 use Rattle.prem_prefetch_laws.proofs.Phases.{ending_code, execute_code, whole_code, stub_is, memory_falls, executed, ended, words_prefetch, memory_leads, prefetched_leads, executed_leads, ended_leads, section_leads, section_marked}
 
-pub passes_before : (n line : ℕ) (ranges : List Place) (x y : List Did) → Passes n line ranges x → Passes n line ranges (x ++ y)
+pub passes_before : (n line : ℕ) (ranges : List Extent) (x y : List Did) → Passes n line ranges x → Passes n line ranges (x ++ y)
 passes_before zero line ranges x y h = tt
 passes_before (suc n) line ranges x y h =
     (h.0, (h.1.0 ++ y, (ap (λ z. z ++ y) h.1.1.0 ∙ append_assoc h.0 h.1.0 y, (h.1.1.1.0, passes_before n line ranges h.1.0 y h.1.1.1.1))))
 
-confined_back : (s : Setting) (h : Guard) (calls : Calls) (gs : Globals) (may : Access) (k inner : Stack) (line : ℕ) → Lines (with_guard h s) line → (ranges : List Place) → AllInMemory (with_guard h s) ranges →
-    (passes : PassCount) → passes_of passes < 2 ^ 32 → (n stated part frame params : ℕ) (returns : Bool) (call : List ℕ → State → Outcome (ℕ × State)) → stated < 2 ^ 32 → gs.stated n ≡ stated →
+confined_back : (s : Setting) (h : Guard) (calls : Calls) (gs : Globals) (may : Access) (k inner : Stack) (line : ℕ) → Lines (with_guard h s) line → (ranges : List Extent) → AllInMemory (with_guard h s) ranges →
+    (passes : PassCount) → passes_of passes < 2 ^ 32 → (n stated part frame params : ℕ) (returns : Bool) (call : List ℕ → ProgramState → Outcome (ℕ × ProgramState)) → stated < 2 ^ 32 → gs.stated n ≡ stated →
     Confines s h gs k inner (calls part) frame params returns call →
     (at : ℕ) → at % 4 ≡ 0 → at + size_of (whole_code passes line ranges stated part) < 2 ^ 32 →
-    (count : ℕ) (p : State) (words : List ℕ) (t : TaskState) (back word : ℕ) (after : State) →
+    (count : ℕ) (p : ProgramState) (words : List ℕ) (t : TaskState) (back word : ℕ) (after : ProgramState) →
     Ground s gs may k → Matches s gs k Compatible count p t → t.registers 4 ≡ back → back % 4 ≡ 0 → back < 2 ^ 32 →
     length words ≡ params → ArgumentsStand t.view (k.sp - frame) words → call words p ≡ Ok (word, after) →
     ConfinedBack (calls part) s gs k count at line ranges (passes_of passes) stated (run (with_guard h s) calls at (whole_code passes line ranges stated part) t) t back returns word p.marks (with_own_mark n p.globals after)
@@ -151,7 +151,7 @@ pub confined_stub_runs : ConfinedStubRuns
 confined_stub_runs s h calls gs may k inner line fit ranges inside passes count_small n stated part frame params returns call stated_small length_is c at at_al size count p ws t back word after ground m four al small len args is =
     let x = then_ok (call ws p) _ (word, after) is in
     let same = stub_is passes line ranges stated part in
-    subst (λ (q : ℕ × State). ConfinedBack (calls part) s gs k count at line ranges (passes_of passes) stated (run (with_guard h s) calls at (stub_code passes line ranges stated part) t) t back returns q.0 p.marks q.1)
+    subst (λ (q : ℕ × ProgramState). ConfinedBack (calls part) s gs k count at line ranges (passes_of passes) stated (run (with_guard h s) calls at (stub_code passes line ranges stated part) t) t back returns q.0 p.marks q.1)
     (same_ok (x.0.0, with_own_mark n p.globals x.0.1) (word, after) x.1.1)
     (subst (λ ps. ConfinedBack (calls part) s gs k count at line ranges (passes_of passes) stated (run (with_guard h s) calls at ps t) t back returns x.0.0 p.marks (with_own_mark n p.globals x.0.1)) (sym same)
     (confined_back s h calls gs may k inner line fit ranges inside passes count_small n stated part frame params returns call stated_small length_is c at at_al (subst (λ ps. at + size_of ps < 2 ^ 32) same size) count p ws t back x.0.0 x.0.1 ground m four al small len args x.1.0))

@@ -9,7 +9,7 @@ use Rattle.prem_isa.specs.Bounds.{OnDone}
 use Rattle.prem_isa.specs.Plain.{TaskState, Did}
 use Rattle.prem_meaning.specs.Resolved.{Routine}
 use Rattle.prem_meaning.specs.Expressions.{Access}
-use Rattle.prem_meaning.specs.Statements.{State, declare, result_of, leave, enter, run as run_source}
+use Rattle.prem_meaning.specs.Statements.{ProgramState, declare, result_of, leave, enter, run as run_source}
 use Rattle.prem_meaning.specs.Source.{Limits, calls_below}
 use Rattle.prem_asm.specs.Pieces.{code_of}
 use Rattle.prem_asm.specs.Runs.{Guard, Setting, Ending, stepped, outcome_at, run}
@@ -75,14 +75,14 @@ stores_stay s c n part t u back trace e a no_store = (subst (Holds Step (Fixed s
 
 -- ---- what a call leaves
 
-locals_left : (calls : Rattle.prem_meaning.specs.Statements.Calls) (may : Access) (f : Routine) (ws : List ℕ) (p : State) (word : ℕ) (after : State) → performed calls may f ws p ≡ Ok (word, after) → after.locals ≡ p.locals
+locals_left : (calls : Rattle.prem_meaning.specs.Statements.Calls) (may : Access) (f : Routine) (ws : List ℕ) (p : ProgramState) (word : ℕ) (after : ProgramState) → performed calls may f ws p ≡ Ok (word, after) → after.locals ≡ p.locals
 locals_left calls may f ws p word after is =
     let x = then_ok (declare may f.locals (record p { locals = ws })) _ (word, after) is in
     let y = then_ok (run_source may calls f.body x.0) _ (word, after) x.1.1 in
     let z = then_ok (result_of may f.result y.0) _ (word, after) y.1.1 in
-    let left : State = record y.0 { locals = p.locals } in
+    let left : ProgramState = record y.0 { locals = p.locals } in
     let pair : ok_of (z.0, left) ≡ ok_of (word, after) = z.1.1 in
-    sym (ap (λ (q : ℕ × State). q.1.locals) (same_ok (z.0, left) (word, after) pair))
+    sym (ap (λ (q : ℕ × ProgramState). q.1.locals) (same_ok (z.0, left) (word, after) pair))
 
 -- ---- a marked function
 

@@ -3,9 +3,9 @@ use Rattle.std.proofs.Common.{◌≡◌, ◌≢◌, ℕ, ◌+◌, ◌-◌, ◌*�
 use Rattle.prem_isa.specs.declared.effect.Phase.TheVariants.{Compatible, Memory as MemoryPhase, Execution}
 use Rattle.prem_isa.specs.Act.{with_register}
 use Rattle.prem_isa.specs.Plain.{TaskState}
-use Rattle.prem_plant.specs.Places.{Place}
+use Rattle.prem_plant.specs.Places.{Extent}
 use Rattle.prem_meaning.specs.Expressions.{Outcome, Access}
-use Rattle.prem_meaning.specs.Statements.{State}
+use Rattle.prem_meaning.specs.Statements.{ProgramState}
 use Rattle.prem_asm.specs.Pieces.{call_to, size_of, jump_to}
 use Rattle.prem_asm.specs.Runs.{Calls, Setting, Returns, Stuck, with_trace, then_run, called, run, run_code, control, linked}
 use Rattle.prem_layout.specs.Parts.{Passes as PassCount}
@@ -39,11 +39,11 @@ narrowed s gs may inner k le g = record {
 }
 
 module _ (s : Setting) (calls : Calls) (gs : Globals) (may inner : Access) (narrow : (g j : ℕ) → inner g j ≡ true → may g j ≡ true)
-    (line : ℕ) (fit : Lines s line) (ranges : List Place) (inside : AllInMemory s ranges) (passes : PassCount) (count_small : passes_of passes < 2 ^ 32)
-    (n stated part frame depth params : ℕ) (returns : Bool) (call : List ℕ → State → Outcome (ℕ × State)) (stated_small : stated < 2 ^ 32) (length_is : gs.stated n ≡ stated)
+    (line : ℕ) (fit : Lines s line) (ranges : List Extent) (inside : AllInMemory s ranges) (passes : PassCount) (count_small : passes_of passes < 2 ^ 32)
+    (n stated part frame depth params : ℕ) (returns : Bool) (call : List ℕ → ProgramState → Outcome (ℕ × ProgramState)) (stated_small : stated < 2 ^ 32) (length_is : gs.stated n ≡ stated)
     (callee : CallRuns s gs inner Execution (calls part) 1 frame depth params returns call) (keeps : KeepsFour (calls part)) (interval : KeepsInterval (calls part))
     (at : ℕ) (at_al : at % 4 ≡ 0) (ends : at + size_of (whole_code passes line ranges stated part) < 2 ^ 32) where
-  stub_back : (k : Stack) (count : ℕ) (p : State) (ws : List ℕ) (t : TaskState) (back word : ℕ) (after : State) →
+  stub_back : (k : Stack) (count : ℕ) (p : ProgramState) (ws : List ℕ) (t : TaskState) (back word : ℕ) (after : ProgramState) →
       Ground s gs may k → Matches s gs k Compatible count p t → t.registers 4 ≡ back → back % 4 ≡ 0 → back < 2 ^ 32 →
       k.low + depth ≤ k.sp → length ws ≡ params → ArgumentsStand t.view (k.sp - frame) ws → call ws p ≡ Ok (word, after) →
       StubBack s gs k count at line ranges (passes_of passes) (run s calls at (whole_code passes line ranges stated part) t) t back returns word p.marks (with_own_mark n p.globals after)
@@ -129,7 +129,7 @@ pub stub_runs : StubRuns
 stub_runs s calls gs may inner narrow line fit ranges inside passes count_small n stated part frame depth params returns call stated_small length_is callee keeps interval at at_al ends k count p ws t back word after ground m four al small space len args is =
     let x = then_ok (call ws p) _ (word, after) is in
     let same = stub_is passes line ranges stated part in
-    subst (λ (q : ℕ × State). StubBack s gs k count at line ranges (passes_of passes) (run s calls at (stub_code passes line ranges stated part) t) t back returns q.0 p.marks q.1)
+    subst (λ (q : ℕ × ProgramState). StubBack s gs k count at line ranges (passes_of passes) (run s calls at (stub_code passes line ranges stated part) t) t back returns q.0 p.marks q.1)
     (same_ok (x.0.0, with_own_mark n p.globals x.0.1) (word, after) x.1.1)
     (subst (λ ps. StubBack s gs k count at line ranges (passes_of passes) (run s calls at ps t) t back returns x.0.0 p.marks (with_own_mark n p.globals x.0.1)) (sym same)
     (stub_back s calls gs may inner narrow line fit ranges inside passes count_small n stated part frame depth params returns call stated_small length_is callee keeps interval at at_al (subst (λ ps. at + size_of ps < 2 ^ 32) same ends)

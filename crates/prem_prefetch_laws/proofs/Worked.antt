@@ -9,13 +9,13 @@ use Rattle.std.proofs.lemmas.Bool.{eqb-true, le-leb}
 use Rattle.prem_word.specs.declared.kind.Kind.TheVariants.{Int}
 use Rattle.prem_isa.specs.declared.effect.Phase.TheVariants.{Compatible, Execution}
 use Rattle.prem_isa.specs.Plain.{TaskState}
-use Rattle.prem_plant.specs.Places.{Place}
+use Rattle.prem_plant.specs.Places.{Extent}
 use Rattle.prem_syntax.specs.declared.tree.Place.{Place as TextPlace}
 use Rattle.prem_syntax.specs.declared.tree.Ty.TheVariants.{Void, Int as IntTy}
 use Rattle.prem_syntax.specs.Syntax.{no_statements}
 use Rattle.prem_meaning.specs.Resolved.{Routine, Constant, Local, Scalar, Done as NoSteps, SetScalar, Output, Call}
 use Rattle.prem_meaning.specs.Expressions.{Access}
-use Rattle.prem_meaning.specs.Statements.{State, Calls as SourceCalls}
+use Rattle.prem_meaning.specs.Statements.{ProgramState, Calls as SourceCalls}
 use Rattle.prem_meaning.specs.Source.{Limits, calls_below, everywhere}
 use Rattle.prem_asm.specs.Pieces.{no_pieces}
 use Rattle.prem_asm.specs.Runs.{Setting, Calls, run}
@@ -72,7 +72,7 @@ parts = parts_of routines
 abbrev limits : Limits
 limits = record { turns = λ n. 0; inside = λ f g j. eqb g 0 }
 
-abbrev ranges : List Place
+abbrev ranges : List Extent
 ranges = (92, 264) ∷ (8, 44) ∷ (272, 288) ∷ (264, 268) ∷ []
 
 abbrev c : Codes
@@ -222,10 +222,10 @@ job_fits = record {
   );
 }
 
-abbrev before : State
+abbrev before : ProgramState
 before = record { globals = (0 ∷ []) ∷ []; locals = []; inputs = []; used = 0; outputs = []; marks = [] }
 
-abbrev after : State
+abbrev after : ProgramState
 after = record {
   globals = (7 ∷ []) ∷ [];
   locals = [];

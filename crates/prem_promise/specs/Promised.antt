@@ -7,7 +7,7 @@ use Rattle.prem_syntax.specs.Syntax.{GlobalVariable, ProgramText}
 use Rattle.prem_syntax.specs.Syntax.{MarkText}
 use Rattle.prem_meaning.specs.Resolved.{Routine}
 use Rattle.prem_meaning.specs.Expressions.{Outcome}
-use Rattle.prem_meaning.specs.Statements.{State, MarkedCall}
+use Rattle.prem_meaning.specs.Statements.{ProgramState, MarkedCall}
 use Rattle.prem_meaning.specs.Source.{unlimited, source}
 use Rattle.prem_meaning.specs.Resolve.{resolve}
 use Rattle.prem_asm.specs.Runs.{Setting}
@@ -54,11 +54,11 @@ stated_at routines f = unwrap_or (option_map stated_of (slice_get routines f)) 0
 abbrev pub mark_of : List Routine → MarkedCall → Mark
 mark_of routines m = record { stated = stated_at routines m.function; before = m.before; after = m.after }
 
-abbrev pub promise_of : Reading → List Routine → State → Promise
+abbrev pub promise_of : Reading → List Routine → ProgramState → Promise
 promise_of reads routines s = record { reads = reads; outputs = s.outputs; marks = map (mark_of routines) s.marks; finals = s.globals }
 
 -- a program that goes wrong promises nothing
-abbrev pub promised : Reading → List Routine → Outcome State → Promise
+abbrev pub promised : Reading → List Routine → Outcome ProgramState → Promise
 promised reads routines (Ok s) = promise_of reads routines s
 promised reads routines (Err line) = record { reads = reads; outputs = []; marks = []; finals = [] }
 
@@ -94,5 +94,5 @@ ReadingsAreOwn =
 -- what a meaning that is no line promises
 abbrev pub MeaningsPromise : Type 0
 MeaningsPromise =
-    (places : ℕ → ℕ) (p : ProgramText) (inputs : List ℕ) (jobs : ℕ) (s : State) → source p inputs jobs ≡ Ok s →
+    (places : ℕ → ℕ) (p : ProgramText) (inputs : List ℕ) (jobs : ℕ) (s : ProgramState) → source p inputs jobs ≡ Ok s →
     promise_in places p inputs jobs ≡ promise_of (read_globals places (resolve unlimited.turns p).globals) (resolve unlimited.turns p).routines s

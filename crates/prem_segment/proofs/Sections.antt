@@ -4,7 +4,7 @@ use Rattle.std.specs.Prelude.{All, pos}
 use Rattle.std.specs.List.{concat}
 use Rattle.std.proofs.Math.Nat.{mul-div_cancel}
 use Rattle.std.proofs.lemmas.List.Sums.{sum_by-cons}
-use Rattle.prem_plant.specs.Places.{Place}
+use Rattle.prem_plant.specs.Places.{Extent}
 use Rattle.prem_isa.specs.declared.instr.Instr.{Instr}
 use Rattle.prem_isa.specs.declared.instr.Instr.TheVariants.{Jalr, PmMem}
 use Rattle.prem_isa.specs.declared.effect.Access.{Access}
@@ -110,7 +110,7 @@ module _ (line : ℕ) (members : List ℕ) where
 
 -- ---- accesses
 
-module _ (line : ℕ) (some : 0 < line) (ranges : List Place) (members : List ℕ) (into : (l : ℕ) → IsLineOf line ranges l → is_in l members ≡ true) (from : (l : ℕ) → is_in l members ≡ true → IsLineOf line ranges l) where
+module _ (line : ℕ) (some : 0 < line) (ranges : List Extent) (members : List ℕ) (into : (l : ℕ) → IsLineOf line ranges l → is_in l members ≡ true) (from : (l : ℕ) → is_in l members ≡ true → IsLineOf line ranges l) where
   loads_in : (o : Option Access) → LoadsLine line (IsLineOf line ranges) o → AllIn members (access_lines line o)
   loads_in None h = tt
   loads_in (Some a) h =
@@ -128,7 +128,7 @@ module _ (line : ℕ) (some : 0 < line) (ranges : List Place) (members : List �
       in_right l (d.pc / line ∷ []) (access_lines line d.access ++ lines_of_dids line ds) (in_append_left l (access_lines line d.access) (lines_of_dids line ds) here)
   touched_in l (d ∷ ds) (inr r) = in_right l (lines_of_did line d) (lines_of_dids line ds) (touched_in l ds r)
 
-  covers_line : (rs : List Place) (ds : List Did) (l : ℕ) → CoversAll line rs ds → IsLineOf line rs l → Touches (l * line) ds
+  covers_line : (rs : List Extent) (ds : List Did) (l : ℕ) → CoversAll line rs ds → IsLineOf line rs l → Touches (l * line) ds
   covers_line [] ds l c h = absurd h
   covers_line (r ∷ rs) ds l c (inl h) = c.0.lines l h.0 h.1
   covers_line (r ∷ rs) ds l c (inr h) = covers_line rs ds l c.1 h
@@ -181,7 +181,7 @@ abbrev Running : Did → Type 0
 Running d = (d.phase ≡ Execution) × (d.change ≡ Stay)
 
 pub stubs_are_sections : StubsAreSections
-stubs_are_sections plant passes s c ranges members n part at kind stated mark t u back trace some w goes x marked cost =
+stubs_are_sections plant passes s c ranges members n part at kind stated mark t u back trace some w goes room x marked cost =
     let line : ℕ = plant.line in
     let stub : Pieces = stub_code kind line ranges stated part in
     let ending : Did = end_step x.ended_at in
@@ -216,6 +216,7 @@ stubs_are_sections plant passes s c ranges members n part at kind stated mark t 
       lasts = (refl, refl);
       stated = marked;
       within = lines_in line members seg seg_pcs seg_access;
+      room = room;
       covered = covered line some ranges members w.in_members w.members_are (passes plant.ways) x.before x.passes_are before_in;
       fits = fitted (cost_of_dids seg) (total charge seg) (total charge trace) (weighted cost_of (code_costs c n) stub) (length members * (plant.fill + plant.back)) stated (cost_of PmMem) (cost_of (Jalr 0 4 (pos 0)))
           (cost_total seg) sum weight cost;

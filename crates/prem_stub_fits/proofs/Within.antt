@@ -8,7 +8,7 @@ use Rattle.prem_isa.specs.declared.instr.Instr.TheVariants.{Lui, Auipc, Jal, Jal
 use Rattle.prem_plant.specs.declared.plant.Plant.{Plant}
 use Rattle.prem_plant.specs.declared.layout.PartKind.TheVariants.{Stub, Code, Stack}
 use Rattle.prem_plant.specs.declared.layout.PartSize.{PartSize}
-use Rattle.prem_plant.specs.Places.{Place, Holds}
+use Rattle.prem_plant.specs.Places.{Extent, Holds}
 use Rattle.prem_syntax.specs.Syntax.{MarkText}
 use Rattle.prem_meaning.specs.Resolved.{Routine, Resolved}
 use Rattle.prem_asm.specs.Pieces.{Pieces, no_pieces, straight, address_of, either, repeat, call_to, size_of}
@@ -100,7 +100,7 @@ stub_numbers_agree p j plan e =
 
 -- ---- the places of parts
 
-sized_at : (f : ℕ → Place) (n : ℕ) (xs : List PartSize) (i : ℕ) (x : PartSize) → Sized f n xs → slice_get xs i ≡ Some x → IsSized x (f (n + i))
+sized_at : (f : ℕ → Extent) (n : ℕ) (xs : List PartSize) (i : ℕ) (x : PartSize) → Sized f n xs → slice_get xs i ≡ Some x → IsSized x (f (n + i))
 sized_at f n [] i x s e = cc
 sized_at f n (y ∷ ys) zero x s e =
     let same : y ≡ x = cc in
@@ -132,7 +132,7 @@ stub_at passes task [] j plan e = cc
 stub_at passes task (x ∷ xs) zero plan e = let same : x ≡ plan = cc in ap (λ (y : Plan). Some (part task (Stub y.function) (stub_size passes y) 4)) same
 stub_at passes task (x ∷ xs) (suc j) plan e = stub_at passes task xs j plan e
 
-module _ (p : Plant) (all : List Place) (high : ℕ) (t : Placed) (f : TaskAt p all high t) where
+module _ (p : Plant) (all : List Extent) (high : ℕ) (t : Placed) (f : TaskAt p all high t) where
   plans_are : t.plans ≡ plans_of t.task.program
   plans_are = ap (λ (u : Placed). u.plans) f.is
 
@@ -180,19 +180,19 @@ module _ (p : Plant) (all : List Place) (high : ℕ) (t : Placed) (f : TaskAt p 
 
 -- ---- bytes of ranges
 
-holds_left : (xs ys : List Place) (a : ℕ) → SomeHolds xs a → SomeHolds (xs ++ ys) a
+holds_left : (xs ys : List Extent) (a : ℕ) → SomeHolds xs a → SomeHolds (xs ++ ys) a
 holds_left [] ys a h = absurd h
 holds_left (x ∷ xs) ys a (inl h) = inl h
 holds_left (x ∷ xs) ys a (inr h) = inr (holds_left xs ys a h)
 
-holds_right : (xs ys : List Place) (a : ℕ) → SomeHolds ys a → SomeHolds (xs ++ ys) a
+holds_right : (xs ys : List Extent) (a : ℕ) → SomeHolds ys a → SomeHolds (xs ++ ys) a
 holds_right [] ys a h = h
 holds_right (x ∷ xs) ys a h = inr (holds_right xs ys a h)
 
-held : (q : Place) (a : ℕ) → is_held q a ≡ true → Holds q a
+held : (q : Extent) (a : ℕ) → is_held q a ≡ true → Holds q a
 held q a h = let x = and_parts (leb q.0 a) (ltb a q.1) h in (leb-true q.0 a x.0, ltb-true a q.1 x.1)
 
-any_held : (qs : List Place) (a : ℕ) → any_holds qs a ≡ true → SomeHolds qs a
+any_held : (qs : List Extent) (a : ℕ) → any_holds qs a ≡ true → SomeHolds qs a
 any_held [] a h = cc
 any_held (q ∷ qs) a h =
     ⊎_elim (λ (e : is_held q a ≡ true). inl (held q a e)) (λ (e : any_holds qs a ≡ true). inr (any_held qs a e)) (or_cases (is_held q a) (any_holds qs a) h)
@@ -248,7 +248,7 @@ stubs_are_within p devices tasks places laid some k t e j plan planned bytes qui
     let ranges = ranges_of t.at plan in
     let fetched = footprints_are_fetched p.line (ranges_of t.at plan) some bytes in
     let lies = ranges_lie_in_footprints p.line (ranges_of t.at plan) some in
-    let rest : List Place = stack_range t.at plan ∷ map (region_range t.at) plan.regions in
+    let rest : List Extent = stack_range t.at plan ∷ map (region_range t.at) plan.regions in
     let reached : (m : ℕ) → EachPiece IsQuiet ((reached_in t plan).code m) = λ m. cond_both (is_in m plan.reach) ((codes_in t).code m) no_pieces (EachPiece IsQuiet) (quiet m) (λ n. tt) in
     record {
       code = record {
@@ -258,7 +258,7 @@ stubs_are_within p devices tasks places laid some k t e j plan planned bytes qui
         loads = λ a h. lies a (inr (holds_right (map (code_range t.at) plan.reach) rest a (any_held rest a h)));
         stores = λ a h. lies a (inr (holds_right (map (code_range t.at) plan.reach) rest a (any_held rest a h)));
       };
-      own = λ a ge lt. lies a (inl (subst (λ (q : Place). Holds q a) (sym (stub_range_is p places (0 + part_total tasks) t f j plan planned)) (ge, (let s = stub_sized p places (0 + part_total tasks) t f j plan planned in omega (arith, s, lt)))));
+      own = λ a ge lt. lies a (inl (subst (λ (q : Extent). Holds q a) (sym (stub_range_is p places (0 + part_total tasks) t f j plan planned)) (ge, (let s = stub_sized p places (0 + part_total tasks) t f j plan planned in omega (arith, s, lt)))));
       in_members = λ l h. (fetched l).1 h;
       members_are = λ l h. (fetched l).0 h;
     }

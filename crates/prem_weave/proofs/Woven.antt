@@ -8,6 +8,7 @@ use Rattle.prem_isa.specs.declared.effect.Change.{Change}
 use Rattle.prem_isa.specs.declared.effect.Change.TheVariants.{Stay, Memory, Execute, End, Job}
 use Rattle.prem_isa.specs.Plain.{TaskRun, PlainState, Did, plain_did, plain_start, plain_step, plain_steps, plain_run, plain_trace, with_last}
 use Rattle.prem_isa.proofs.PlainLaws.{plain_steps-next, plain_run-add, plain_steps-first, plain_steps-add, plain_trace-add}
+use Rattle.prem_lru.specs.Order.{HaveRoom}
 use Rattle.prem_cycle.specs.Core.{is_predictable}
 use Rattle.prem_position.specs.Finish.{due_of}
 use Rattle.prem_script.specs.Script.{Begun, none_begun, begun_after, Call, no_call, call_at, Script, did_due, change_due}
@@ -253,6 +254,12 @@ weave_runs reads run x (calls m rest) y g =
 
 -- ---- the laws
 
+-- each marked call has room
+all_room : (plant : Plant) (passes : ℕ → ℕ) (w : Weave) → IsWeave plant passes w → All (λ (c : Call). HaveRoom plant.sets plant.ways c.members) (calls_of w)
+all_room plant passes ends h = All-nil (λ (c : Call). HaveRoom plant.sets plant.ways c.members)
+all_room plant passes (goes d rest) h = all_room plant passes rest h.1
+all_room plant passes (calls m rest) h = All-cons (λ (c : Call). HaveRoom plant.sets plant.ways c.members) m.call (calls_of rest) h.0.room (all_room plant passes rest h.1)
+
 all_calls : (s : Script) (w : Weave) → s.calls ≡ calls_of w → Aligned s none_begun w
 all_calls s w e i lt = let z : 0 + i ≡ i = omega arith in ap (call_at s) z ∙ ap (λ cs. slice_index_or cs i no_call) e
 
@@ -265,7 +272,7 @@ woven_runs_conform p passes own reads run due w y h =
       trace = r.trace;
       ends = ap (λ (x : PlainState). x.ended) r.state ∙ h.jobs_end;
       own_dids = h.own_dids;
-      room = h.room;
+      room = all_room p.plant passes w h.weave;
       keeps = k.keeps;
       calls_are = k.count ∙ plain_zero (length (calls_of w));
       dues = subst (λ n. n ≤ due) (sym k.due) h.dues;
@@ -273,7 +280,7 @@ woven_runs_conform p passes own reads run due w y h =
       plain_zero : (n : ℕ) → 0 + n ≡ n
       plain_zero n = omega arith
 
-marks_counted : (w : Weave) → length (marks_of w) ≡ length (calls_of w)
+pub marks_counted : (w : Weave) → length (marks_of w) ≡ length (calls_of w)
 marks_counted ends = refl
 marks_counted (goes d rest) = marks_counted rest
 marks_counted (calls m rest) = ap suc (marks_counted rest)

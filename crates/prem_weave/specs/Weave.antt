@@ -2,13 +2,15 @@
 use Rattle.std.specs.Prelude.{◌≡◌, ℕ, ◌+◌, ◌*◌, ◌≤◌, Bool, All, IfSome, None, Some, List, [], ◌∷◌, ◌++◌, length}
 use Rattle.prem_plant.specs.declared.plant.Plant.{Plant}
 use Rattle.prem_isa.specs.declared.effect.Phase.TheVariants.{Compatible, Memory as MemoryPhase, Execution}
-use Rattle.prem_isa.specs.declared.effect.Change.TheVariants.{Stay, Memory, Execute, End}
+use Rattle.prem_isa.specs.declared.effect.Change.{Change}
+use Rattle.prem_isa.specs.declared.effect.Change.TheVariants.{Stay, Memory, Execute, End, Job}
 use Rattle.prem_isa.specs.declared.effect.AccessKind.TheVariants.{Loads}
 use Rattle.prem_isa.specs.Plain.{TaskRun, PlainState, Did, plain_did, plain_start, plain_step, plain_steps, plain_trace}
 use Rattle.prem_lru.specs.Order.{AllIn, HaveRoom}
 use Rattle.prem_cycle.specs.State.{Setup}
 use Rattle.prem_position.specs.Finish.{due_of}
-use Rattle.prem_script.specs.Script.{lines_of_dids, cost_of_dids, Call, IsCovered, change_due}
+use Rattle.prem_asm.specs.Steps.{total}
+use Rattle.prem_script.specs.Script.{lines_of_dids, cost_of_dids, Call, IsCovered, did_due, change_due}
 use Rattle.prem_script.specs.Scripts.{Reading, Mark, Promise, ReadsOwn}
 use Rattle.prem_script.specs.Conforms.{IsOwnDid, IsStretch, Conforms, GivesPromise}
 
@@ -40,6 +42,7 @@ pub record IsSection (plant : Plant) (passes : ℕ → ℕ) (m : Section) : Type
   pub lasts : (m.last.phase ≡ Execution) × (m.last.change ≡ End)
   pub stated : m.mark.stated ≡ m.call.stated
   pub within : AllIn m.call.members (lines_of_dids plant.line (segment_of m))
+  pub room : HaveRoom plant.sets plant.ways m.call.members
   pub covered : IsCovered (passes plant.ways) m.call.members (lines_of_dids plant.line m.before)
   pub fits : cost_of_dids (segment_of m) + length m.call.members * (plant.fill + plant.back) ≤ m.call.stated
 
@@ -87,6 +90,19 @@ due_along plant ends = 0
 due_along plant (goes d rest) = due_of plant d + change_due plant 0 d.change + due_along plant rest
 due_along plant (calls m rest) = due_of plant m.begin + (2 * plant.switch + m.call.stated) + due_along plant rest
 
+-- the length that a change states
+abbrev pub stated_by : Change → ℕ
+stated_by Stay = 0
+stated_by Memory = 0
+stated_by (Execute stated) = stated
+stated_by End = 0
+stated_by Job = 0
+
+-- what one step is charged: in a compatible phase its own cycles, and the switches of a predictable interval that it begins or of a job
+-- that it ends; in others the length of the interval for the step that states it
+abbrev pub charge : Plant → Did → ℕ
+charge plant d = did_due plant 0 d.phase d + stated_by d.change
+
 -- ---- a task's own run
 
 -- it takes a marked call, with the task's words as they are marked
@@ -108,8 +124,8 @@ pub record IsWoven (p : Setup) (passes : ℕ → ℕ) (own : ℕ → Bool) (read
   pub weave : IsWeave p.plant passes w
   pub goes_along : Goes reads run (plain_start run) w y
   pub jobs_end : y.ended ≡ run.jobs
+  pub untrapped : y.trapped ≡ None
   pub own_dids : All (IsOwnDid p own) (dids_of w)
-  pub room : All (λ (c : Call). HaveRoom p.plant.sets p.plant.ways c.members) (calls_of w)
   pub dues : due_along p.plant w ≤ due
 
 abbrev pub WovenRunsConform : Type 0
@@ -145,3 +161,7 @@ RunsJoin =
 
 abbrev pub DuesJoin : Type 0
 DuesJoin = (plant : Plant) (w v : Weave) → due_along plant (joined w v) ≡ due_along plant w + due_along plant v
+
+-- what is due along a weave is what its steps are charged
+abbrev pub WeavesAreCharged : Type 0
+WeavesAreCharged = (plant : Plant) (passes : ℕ → ℕ) (w : Weave) → IsWeave plant passes w → due_along plant w ≡ total (charge plant) (dids_of w)
