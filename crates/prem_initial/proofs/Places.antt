@@ -13,7 +13,7 @@ use Rattle.prem_asm.proofs.Shape.{code-length}
 use Rattle.prem_plant.specs.declared.plant.Plant.{Plant}
 use Rattle.prem_plant.specs.declared.layout.PartKind.TheVariants.{Stack}
 use Rattle.prem_plant.specs.declared.layout.PartSize.{PartSize}
-use Rattle.prem_plant.specs.Places.{Place, ArePlaces}
+use Rattle.prem_plant.specs.Places.{Extent, ArePlaces}
 use Rattle.prem_syntax.specs.declared.tree.Ty.{Ty}
 use Rattle.prem_syntax.specs.declared.tree.Ty.TheVariants.{Short, Ushort, Schar, Uchar}
 use Rattle.prem_syntax.specs.Syntax.{Text, GlobalVariable}
@@ -32,22 +32,22 @@ use Rattle.prem_own.specs.Owned.{HasCode}
 use Rattle.prem_initial.specs.Patches.{Patch, code_patch, global_patches, task_patches}
 use Rattle.prem_initial.proofs.Patched.{LiesAt, Lie, lie_append, lie_higher}
 
-abbrev pub place_in : List Place → ℕ → Place
+abbrev pub place_in : List Extent → ℕ → Extent
 place_in places n = slice_index_or places n no_place
 
 -- ---- sizes
 
 -- a place of a part's size at a multiple of its alignment
-pub record IsSized (x : PartSize) (q : Place) : Type 0 where
+pub record IsSized (x : PartSize) (q : Extent) : Type 0 where
   pub ends : q.1 ≡ q.0 + x.size
   pub aligned : q.0 % x.align ≡ 0
 
 -- the parts from number n on have such places
-abbrev pub Sized : (ℕ → Place) → ℕ → List PartSize → Type 0
+abbrev pub Sized : (ℕ → Extent) → ℕ → List PartSize → Type 0
 Sized f n [] = Unit {0}
 Sized f n (x ∷ xs) = IsSized x (f n) × Sized f (n + 1) xs
 
-sized_from : (f : ℕ → Place) (n : ℕ) (xs : List PartSize) → ((i : ℕ) (x : PartSize) → slice_get xs i ≡ Some x → IsSized x (f (n + i))) → Sized f n xs
+sized_from : (f : ℕ → Extent) (n : ℕ) (xs : List PartSize) → ((i : ℕ) (x : PartSize) → slice_get xs i ≡ Some x → IsSized x (f (n + i))) → Sized f n xs
 sized_from f n [] h = tt
 sized_from f n (x ∷ xs) h =
     let z : n + 0 ≡ n = omega arith in (
@@ -55,7 +55,7 @@ sized_from f n (x ∷ xs) h =
       sized_from f (n + 1) xs (λ i y e. let s : n + suc i ≡ n + 1 + i = omega arith in subst (λ k. IsSized y (f k)) s (h (suc i) y e)),
     )
 
-pub all_sized : (memory : ℕ) (parts : List PartSize) (places : List Place) → ArePlaces memory parts places → Sized (place_in places) 0 parts
+pub all_sized : (memory : ℕ) (parts : List PartSize) (places : List Extent) → ArePlaces memory parts places → Sized (place_in places) 0 parts
 all_sized memory parts places a =
     sized_from (place_in places) 0 parts (λ i x e.
     let lt = slice_get_within parts i x e in
@@ -64,22 +64,22 @@ all_sized memory parts places a =
     let z : i ≡ 0 + i = omega arith in
     subst (λ k. IsSized x (place_in places k)) z (record { ends = a.ends i x (place_in places i) e there; aligned = a.aligned i x (place_in places i) e there }))
 
-pub sized_left : (f : ℕ → Place) (n : ℕ) (xs ys : List PartSize) → Sized f n (xs ++ ys) → Sized f n xs
+pub sized_left : (f : ℕ → Extent) (n : ℕ) (xs ys : List PartSize) → Sized f n (xs ++ ys) → Sized f n xs
 sized_left f n [] ys h = tt
 sized_left f n (x ∷ xs) ys h = (h.0, sized_left f (n + 1) xs ys h.1)
 
-pub sized_right : (f : ℕ → Place) (n : ℕ) (xs ys : List PartSize) → Sized f n (xs ++ ys) → Sized f (n + length xs) ys
+pub sized_right : (f : ℕ → Extent) (n : ℕ) (xs ys : List PartSize) → Sized f n (xs ++ ys) → Sized f (n + length xs) ys
 sized_right f n [] ys h = let z : n ≡ n + 0 = omega arith in subst (λ k. Sized f k ys) z h
 sized_right f n (x ∷ xs) ys h = let z : n + 1 + length xs ≡ n + suc (length xs) = omega arith in subst (λ k. Sized f k ys) z (sized_right f (n + 1) xs ys h.1)
 
 -- the same places by other numbers
-pub sized_as : (f g : ℕ → Place) (m n : ℕ) (xs : List PartSize) → ((i : ℕ) → i < length xs → f (m + i) ≡ g (n + i)) → Sized f m xs → Sized g n xs
+pub sized_as : (f g : ℕ → Extent) (m n : ℕ) (xs : List PartSize) → ((i : ℕ) → i < length xs → f (m + i) ≡ g (n + i)) → Sized f m xs → Sized g n xs
 sized_as f g m n [] same h = tt
 sized_as f g m n (x ∷ xs) same h =
     let a : m + 0 ≡ m = omega arith in
     let b : n + 0 ≡ n = omega arith in
     let e : f m ≡ g n = ap f (sym a) ∙ same 0 (omega arith) ∙ ap g b in (
-      subst (λ (q : Place). IsSized x q) e h.0,
+      subst (λ (q : Extent). IsSized x q) e h.0,
       sized_as f g (m + 1) (n + 1) xs (λ i lt. let u : m + suc i ≡ m + 1 + i = omega arith in let v : n + suc i ≡ n + 1 + i = omega arith in ap f (sym u) ∙ same (suc i) (omega (arith, lt)) ∙ ap g v) h.1,
     )
 
@@ -181,7 +181,7 @@ code_counted : (task n : ℕ) (sizes : List ℕ) → length (code_parts task n s
 code_counted task n [] = refl
 code_counted task n (size ∷ sizes) = ap suc (code_counted task (n + 1) sizes)
 
-pub task_lies : (p : Plant) (task : ℕ) (c : Coded) (places : List Place) → HasCode c → Sized (place_at (task_places c.program places)) 0 (task_parts (passes_of p) task (map size_of c.code) c.program) →
+pub task_lies : (p : Plant) (task : ℕ) (c : Coded) (places : List Extent) → HasCode c → Sized (place_at (task_places c.program places)) 0 (task_parts (passes_of p) task (map size_of c.code) c.program) →
     Lie (place_at (task_places c.program places)) 0 (part_count c.program) (task_patches (placed_at p c (task_places c.program places)))
 task_lies p task c places coded h =
     let t = task_places c.program places in

@@ -8,7 +8,7 @@ use Rattle.prem_plant.specs.declared.plant.Plant.{Plant}
 use Rattle.prem_plant.specs.declared.plant.Device.{Device}
 use Rattle.prem_plant.specs.declared.layout.PartKind.TheVariants.{Stack}
 use Rattle.prem_plant.specs.declared.layout.PartSize.{PartSize}
-use Rattle.prem_plant.specs.Places.{Place}
+use Rattle.prem_plant.specs.Places.{Extent}
 use Rattle.prem_syntax.specs.Syntax.{GlobalVariable}
 use Rattle.prem_meaning.specs.Resolved.{Resolved}
 use Rattle.prem_template.specs.Frames.{stack_size}
@@ -24,10 +24,10 @@ use Rattle.prem_initial.proofs.Places.{place_in, Sized, all_sized, sized_left, s
 use Rattle.prem_initial.proofs.Whole.{there}
 
 -- the task's places begin behind so many of all
-pub record TaskAt (p : Plant) (all : List Place) (high : ℕ) (t : Placed) : Type 0 where
+pub record TaskAt (p : Plant) (all : List Extent) (high : ℕ) (t : Placed) : Type 0 where
   pub number : ℕ
   pub behind : ℕ
-  pub own : List Place
+  pub own : List Extent
   pub is : t ≡ placed_at p t.task (task_places t.task.program own)
   pub coded : HasCode t.task
   pub same : (i : ℕ) → i < part_count t.task.program → place_at t.at i ≡ place_in all (behind + i)
@@ -35,12 +35,12 @@ pub record TaskAt (p : Plant) (all : List Place) (high : ℕ) (t : Placed) : Typ
   pub below : behind + part_count t.task.program ≤ high
   pub sized : Sized (place_at t.at) 0 (task_parts (passes_of p) number (map size_of t.task.code) t.task.program)
 
-none_behind : (qs : List Place) (i : ℕ) → length qs ≤ i → slice_index_or qs i no_place ≡ no_place
+none_behind : (qs : List Extent) (i : ℕ) → length qs ≤ i → slice_index_or qs i no_place ≡ no_place
 none_behind [] i le = refl
 none_behind (q ∷ qs) zero le = absurd (omega arith)
 none_behind (q ∷ qs) (suc i) le = none_behind qs i (omega arith)
 
-find_task : (p : Plant) (n m : ℕ) (all : List Place) (cs : List Coded) (more : List PartSize) → All HasCode cs → Sized (place_in all) m (parts_from (passes_of p) n (map sized_of cs) ++ more) →
+find_task : (p : Plant) (n m : ℕ) (all : List Extent) (cs : List Coded) (more : List PartSize) → All HasCode cs → Sized (place_in all) m (parts_from (passes_of p) n (map sized_of cs) ++ more) →
     (k : ℕ) (t : Placed) → slice_get (placed_from p (drop m all) cs) k ≡ Some t → TaskAt p all (m + part_total cs) t
 find_task p n m all [] more coded h k t e = cc
 find_task p n m all (c ∷ cs) more coded h k t e =
@@ -92,9 +92,9 @@ find_task p n m all (c ∷ cs) more coded h k t e =
     by zero e next = let same : placed_at p c (task_places c.program (drop m all)) ≡ t = cc in subst (λ (u : Placed). TaskAt p all (m + part_total (c ∷ cs)) u) same first
     by (suc j) e next =
         let dropped : drop count (drop m all) ≡ drop (m + count) all = drop-drop count m all in
-        raised (next j (sym (ap (λ (qs : List Place). slice_get (placed_from p qs cs) j) dropped) ∙ e))
+        raised (next j (sym (ap (λ (qs : List Extent). slice_get (placed_from p qs cs) j) dropped) ∙ e))
 
-pub task_at : (p : Plant) (devices : List Device) (tasks : List Coded) (places : List Place) → AreLaid p devices tasks places →
+pub task_at : (p : Plant) (devices : List Device) (tasks : List Coded) (places : List Extent) → AreLaid p devices tasks places →
     (k : ℕ) (t : Placed) → slice_get (placed_from p places tasks) k ≡ Some t → TaskAt p places (0 + part_total tasks) t
 task_at p devices tasks places laid k t e =
     find_task p 0 0 places tasks (area_parts p.line 0 devices) laid.coded (all_sized p.memory (parts_of p devices tasks) places laid.placed) k t e
@@ -133,7 +133,7 @@ four : (n align : ℕ) → n % align ≡ 0 → (align ≡ 4) ⊎ (align ≡ 16) 
 four n align e (inl is) = let f : n % 4 ≡ 0 = ap (λ k. n % k) (sym is) ∙ e in f
 four n align e (inr is) = let f : n % 16 ≡ 0 = ap (λ k. n % k) (sym is) ∙ e in omega (arith, f)
 
-fours_at : (f : ℕ → Place) (n : ℕ) (xs : List PartSize) → AllByRecursion IsFour xs → Sized f n xs → (i : ℕ) → i < length xs → (f (n + i)).0 % 4 ≡ 0
+fours_at : (f : ℕ → Extent) (n : ℕ) (xs : List PartSize) → AllByRecursion IsFour xs → Sized f n xs → (i : ℕ) → i < length xs → (f (n + i)).0 % 4 ≡ 0
 fours_at f n [] h s i lt = absurd (omega arith)
 fours_at f n (x ∷ xs) h s zero lt = let z : n ≡ n + 0 = omega arith in subst (λ k. (f k).0 % 4 ≡ 0) z (four (f n).0 x.align s.0.aligned h.0)
 fours_at f n (x ∷ xs) h s (suc i) lt = let z : n + 1 + i ≡ n + suc i = omega arith in subst (λ k. (f k).0 % 4 ≡ 0) z (fours_at f (n + 1) xs h.1 s.1 i (omega arith))
@@ -155,7 +155,7 @@ parts_have_addresses p devices tasks places laid k t e n =
         let lt' : n < part_count t.task.program = omega (arith, lt, is) in
         let below = f.below in
         let there' = there p devices tasks places laid (f.behind + n) (omega (arith, lt', below)) in
-        (h lt, subst (λ (q : Place). q.1 ≤ p.memory) (sym (f.same n lt')) (laid.placed.within (f.behind + n) (place_in places (f.behind + n)) there'))
+        (h lt, subst (λ (q : Extent). q.1 ≤ p.memory) (sym (f.same n lt')) (laid.placed.within (f.behind + n) (place_in places (f.behind + n)) there'))
     by n f count (inr le) h is =
         let none : place_at t.at n ≡ no_place = f.nothing n (omega (arith, le, is)) in
-        subst (λ (q : Place). (q.0 % 4 ≡ 0) × (q.1 ≤ p.memory)) (sym none) (refl, omega arith)
+        subst (λ (q : Extent). (q.0 % 4 ≡ 0) × (q.1 ≤ p.memory)) (sym none) (refl, omega arith)

@@ -12,7 +12,7 @@ use Rattle.prem_word.proofs.Corners.{word_below}
 use Rattle.prem_isa.specs.Alu.{loaded}
 use Rattle.prem_plant.specs.declared.plant.Plant.{Plant}
 use Rattle.prem_plant.specs.declared.layout.PartSize.{PartSize}
-use Rattle.prem_plant.specs.Places.{Place, Holds}
+use Rattle.prem_plant.specs.Places.{Extent, Holds}
 use Rattle.prem_image.specs.declared.image.DeviceRecord.{DeviceRecord}
 use Rattle.prem_syntax.specs.declared.tree.Ty.{Ty}
 use Rattle.prem_syntax.specs.declared.tree.Ty.TheVariants.{Void, Int, Unsigned, Short, Ushort, Schar, Uchar}
@@ -188,7 +188,7 @@ plans_counted p n (f ∷ fs) = by f.text.mark (plans_from p (n + 1) fs) (plans_c
     by (Some mark) plans e = omega (arith, e)
 
 -- a global's part as the code names it, and as its places have it
-pub part_same : (p : Plant) (places : List Place) (high : ℕ) (t : Placed) → TaskAt p places high t → (g : ℕ) → place_at t.at (global_part t.task.program.routines g) ≡ global_range t.at g
+pub part_same : (p : Plant) (places : List Extent) (high : ℕ) (t : Placed) → TaskAt p places high t → (g : ℕ) → place_at t.at (global_part t.task.program.routines g) ≡ global_range t.at g
 part_same p places high t f g =
     let a : t.at.functions ≡ length t.task.program.routines = ap (λ (u : Placed). u.at.functions) f.is in
     let b : length t.at.marked ≡ length (plans_of t.task.program) = ap (λ (u : Placed). length u.at.marked) f.is ∙ length-map (plans_of t.task.program) _ in
@@ -201,7 +201,7 @@ globals_stand_first p devices tasks places laid k t e guard =
     let f = task_at p devices tasks places laid k t e in
     let gs = t.task.program.globals in
     let stands = tasks_stand p devices tasks places laid k t e in
-    let base : (g : ℕ) → (place_at t.at (global_part t.task.program.routines g)).0 ≡ (global_range t.at g).0 = λ g. ap (λ (q : Place). q.0) (part_same p places (0 + part_total tasks) t f g) in
+    let base : (g : ℕ) → (place_at t.at (global_part t.task.program.routines g)).0 ≡ (global_range t.at g).0 = λ g. ap (λ (q : Extent). q.0) (part_same p places (0 + part_total tasks) t f g) in
     record {
       shaped = λ g. shaped gs g (slice_get gs g) refl;
       stands = λ g j lt. reads gs g j (slice_get gs g) refl lt (place_at t.at (global_part t.task.program.routines g)).0 (slice_index (content_of p places tasks))

@@ -13,7 +13,7 @@ use Rattle.prem_asm.specs.Pieces.{size_of}
 use Rattle.prem_plant.specs.declared.plant.Plant.{Plant}
 use Rattle.prem_plant.specs.declared.plant.Device.{Device}
 use Rattle.prem_plant.specs.declared.layout.PartSize.{PartSize}
-use Rattle.prem_plant.specs.Places.{Place, Holds}
+use Rattle.prem_plant.specs.Places.{Extent, Holds}
 use Rattle.prem_syntax.specs.Syntax.{GlobalVariable}
 use Rattle.prem_meaning.specs.Source.{initial_words}
 use Rattle.prem_layout.specs.Parts.{element_size, passes_of, part_count, task_parts, parts_from, area_parts}
@@ -30,7 +30,7 @@ use Rattle.prem_initial.proofs.Places.{place_in, Sized, all_sized, sized_left, s
 
 -- ---- the patches of all tasks lie in the places of their parts
 
-set_lies : (p : Plant) (n m : ℕ) (all : List Place) (cs : List Coded) (more : List PartSize) → All HasCode cs → Sized (place_in all) m (parts_from (passes_of p) n (map sized_of cs) ++ more) →
+set_lies : (p : Plant) (n m : ℕ) (all : List Extent) (cs : List Coded) (more : List PartSize) → All HasCode cs → Sized (place_in all) m (parts_from (passes_of p) n (map sized_of cs) ++ more) →
     Lie (place_in all) m (m + part_total cs) (all_patches (placed_from p (drop m all) cs))
 set_lies p n m all [] more coded h = omega arith
 set_lies p n m all (c ∷ cs) more coded h =
@@ -52,7 +52,7 @@ set_lies p n m all (c ∷ cs) more coded h =
     let y : m + count + part_total cs ≡ m + (count + part_total cs) = omega arith in
     let others' : Lie (place_in all) (m + count) (m + (count + part_total cs)) (all_patches (placed_from p (drop count (drop m all)) cs)) =
     subst (λ k. Lie (place_in all) (m + count) k (all_patches (placed_from p (drop count (drop m all)) cs))) y
-    (subst (λ (qs : List Place). Lie (place_in all) (m + count) (m + count + part_total cs) (all_patches (placed_from p qs cs))) dropped others) in
+    (subst (λ (qs : List Extent). Lie (place_in all) (m + count) (m + count + part_total cs) (all_patches (placed_from p qs cs))) dropped others) in
     lie_append (place_in all) m (m + count) (m + (count + part_total cs)) (task_patches (placed_at p c t)) (all_patches (placed_from p (drop count (drop m all)) cs)) first others'
   where
     back : (count m i : ℕ) → i < count → slice_index_or (take count (drop m all)) i no_place ≡ place_in all (m + i)
@@ -63,13 +63,13 @@ set_lies p n m all (c ∷ cs) more coded h =
 
 -- ---- where places end
 
-below_greatest : (count i : ℕ) (places : List Place) → i < count → (place_in places i).1 ≤ greatest_end (take count places)
+below_greatest : (count i : ℕ) (places : List Extent) → i < count → (place_in places i).1 ≤ greatest_end (take count places)
 below_greatest zero i places lt = absurd (omega arith)
 below_greatest (suc count) i [] lt = omega arith
 below_greatest (suc count) zero (q ∷ qs) lt = omega arith
 below_greatest (suc count) (suc i) (q ∷ qs) lt = let r = below_greatest count i qs (omega arith) in omega (arith, r)
 
-greatest_within : (memory count : ℕ) (places : List Place) → ((i : ℕ) (q : Place) → slice_get places i ≡ Some q → q.1 ≤ memory) → greatest_end (take count places) ≤ memory
+greatest_within : (memory count : ℕ) (places : List Extent) → ((i : ℕ) (q : Extent) → slice_get places i ≡ Some q → q.1 ≤ memory) → greatest_end (take count places) ≤ memory
 greatest_within memory zero places h = omega arith
 greatest_within memory (suc count) [] h = omega arith
 greatest_within memory (suc count) (q ∷ qs) h =
@@ -77,7 +77,7 @@ greatest_within memory (suc count) (q ∷ qs) h =
     let b = greatest_within memory count qs (λ i r e. h (suc i) r e) in
     omega (arith, a, b)
 
-module _ (p : Plant) (devices : List Device) (tasks : List Coded) (places : List Place) (laid : AreLaid p devices tasks places) where
+module _ (p : Plant) (devices : List Device) (tasks : List Coded) (places : List Extent) (laid : AreLaid p devices tasks places) where
   total : ℕ
   total = part_total tasks
 
@@ -185,7 +185,7 @@ tasks_stand p devices tasks places laid k t e = record {
 }
 
 -- code ends within memory
-pub code_ends : (p : Plant) (devices : List Device) (tasks : List Coded) (places : List Place) → AreLaid p devices tasks places → (k : ℕ) (t : Placed) → slice_get (placed_from p places tasks) k ≡ Some t →
+pub code_ends : (p : Plant) (devices : List Device) (tasks : List Coded) (places : List Extent) → AreLaid p devices tasks places → (k : ℕ) (t : Placed) → slice_get (placed_from p places tasks) k ≡ Some t →
     (i : ℕ) (b : Block) → slice_get (blocks_of t) i ≡ Some b → b.at + length (code_bytes b.code) ≤ p.memory
 code_ends p devices tasks places laid k t e i b is =
     patch_within p devices tasks places laid (code_patch b)

@@ -2,7 +2,7 @@
 use Rattle.std.specs.Prelude.{◌≡◌, ◌<◌, ◌≤◌, ℕ, ◌+◌, ◌%◌, false, List, ◌∷◌, ◌++◌, map, Option, None, Some, slice_get, slice_index, unwrap_or}
 use Rattle.prem_plant.specs.declared.plant.Plant.{Plant}
 use Rattle.prem_plant.specs.declared.plant.Device.{Device}
-use Rattle.prem_plant.specs.Places.{Place}
+use Rattle.prem_plant.specs.Places.{Extent}
 use Rattle.prem_syntax.specs.declared.tree.Ty.{Ty}
 use Rattle.prem_syntax.specs.declared.tree.Ty.TheVariants.{Int}
 use Rattle.prem_syntax.specs.Syntax.{GlobalVariable}
@@ -57,13 +57,13 @@ globals_in p = record {
 -- each part stands at a multiple of 4, and in memory
 abbrev pub PartsHaveAddresses : Type 0
 PartsHaveAddresses =
-    (p : Plant) (devices : List Device) (tasks : List Coded) (places : List Place) → AreLaid p devices tasks places →
+    (p : Plant) (devices : List Device) (tasks : List Coded) (places : List Extent) → AreLaid p devices tasks places →
     (k : ℕ) (t : Placed) → slice_get (placed_from p places tasks) k ≡ Some t → (n : ℕ) → ((place_at t.at n).0 % 4 ≡ 0) × ((place_at t.at n).1 ≤ p.memory)
 
 -- where no jump is out of reach, the words of each part stand at its place
 abbrev pub CodeStandsFirst : Type 0
 CodeStandsFirst =
-    (p : Plant) (devices : List Device) (tasks : List Coded) (places : List Place) → AreLaid p devices tasks places →
+    (p : Plant) (devices : List Device) (tasks : List Coded) (places : List Extent) → AreLaid p devices tasks places →
     (k : ℕ) (t : Placed) → slice_get (placed_from p places tasks) k ≡ Some t → group_six t ≡ None → (guard : Guard) → KeepsCode guard t →
     (part : ℕ) (ps : Pieces) → slice_get (code_in t) part ≡ Some ps → (parts : ℕ) → PiecesFit parts (λ n. (place_at t.at n).0) ps →
     PartStands (setting_of p guard t) (slice_index (content_of p places tasks)) parts part ps
@@ -71,18 +71,18 @@ CodeStandsFirst =
 -- the globals stand with the words of their initial values
 abbrev pub GlobalsStandFirst : Type 0
 GlobalsStandFirst =
-    (p : Plant) (devices : List Device) (tasks : List Coded) (places : List Place) → AreLaid p devices tasks places →
+    (p : Plant) (devices : List Device) (tasks : List Coded) (places : List Extent) → AreLaid p devices tasks places →
     (k : ℕ) (t : Placed) → slice_get (placed_from p places tasks) k ≡ Some t → (guard : Guard) →
     GlobalsStand (setting_of p guard t) (globals_in t.task.program) (map initial_words t.task.program.globals) (slice_index (content_of p places tasks))
 
 -- the words of devices are 0, where a line has a word
 abbrev pub DevicesHoldZero : Type 0
 DevicesHoldZero =
-    (p : Plant) (devices : List Device) (tasks : List Coded) (places : List Place) → AreLaid p devices tasks places → 4 ≤ p.line →
+    (p : Plant) (devices : List Device) (tasks : List Coded) (places : List Extent) → AreLaid p devices tasks places → 4 ≤ p.line →
     AreasAreZero (setup_of p devices places tasks) (memory_of (setup_of p devices places tasks) (content_of p places tasks))
 
 -- what the machine has of the content in its memory is what the content has
 abbrev pub MemoryIsContent : Type 0
 MemoryIsContent =
-    (p : Plant) (devices : List Device) (tasks : List Coded) (places : List Place) (a : ℕ) →
+    (p : Plant) (devices : List Device) (tasks : List Coded) (places : List Extent) (a : ℕ) →
     slice_index (memory_of (setup_of p devices places tasks) (content_of p places tasks)) a ≡ slice_index (content_of p places tasks) a

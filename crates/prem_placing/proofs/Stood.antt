@@ -7,7 +7,7 @@ use Rattle.std.proofs.lemmas.List.Elements.{All-nil, All-cons, recursion_from_Al
 use Rattle.prem_plant.specs.declared.plant.Plant.{Plant}
 use Rattle.prem_plant.specs.declared.layout.PartSize.{PartSize}
 use Rattle.prem_plant.specs.Ranges.{IsPlant}
-use Rattle.prem_plant.specs.Places.{Place, default_places, last_end}
+use Rattle.prem_plant.specs.Places.{Extent, default_places, last_end}
 use Rattle.prem_syntax.specs.Syntax.{Text, MarkText, ProgramText}
 use Rattle.prem_meaning.specs.GroupTwo.{IsWellFormed}
 use Rattle.prem_meaning.specs.Resolve.{functions_of, resolve}
@@ -81,14 +81,14 @@ within_right f part (x ∷ xs) ys h =
 
 -- ---- a task
 
-pub record Stood (p : Plant) (c : Coded) (places : List Place) : Type 0 where
+pub record Stood (p : Plant) (c : Coded) (places : List Extent) : Type 0 where
   pub plans : AllByRecursion (IsPlanAt (task_places c.program places)) (plans_of c.program)
   pub standing : IsStanding (placed_at p c (task_places c.program places))
 
 abbrev made : Text → ℕ → ℕ → Resolved → List Pieces → Coded
 made name period jobs program code = record { name = name; period = period; jobs = jobs; program = program; code = code }
 
-made_stands : (p : Plant) (name : Text) (period jobs : ℕ) (text : ProgramText) (bounds : ℕ → ℕ) (places : List Place) → IsPlant p → IsWellFormed text → excess (resolve bounds text) ≡ None →
+made_stands : (p : Plant) (name : Text) (period jobs : ℕ) (text : ProgramText) (bounds : ℕ → ℕ) (places : List Extent) → IsPlant p → IsWellFormed text → excess (resolve bounds text) ≡ None →
     TaskRises p (made name period jobs (resolve bounds text) (codes_of (parts_of (resolve bounds text).routines) (resolve bounds text).routines)) places →
     Stood p (made name period jobs (resolve bounds text) (codes_of (parts_of (resolve bounds text).routines) (resolve bounds text).routines)) places
 made_stands p name period jobs text bounds places plant formed none rises =
@@ -123,7 +123,7 @@ made_stands p name period jobs text bounds places plant formed none rises =
           code_within = within_left (slice_index starts) 1 code stubs within.1;
           stubs_within = within_right (slice_index starts) 1 code stubs within.1;
         };
-        count = sym (length-map at.places (λ (place : Place). place.0)) ∙ st.addresses.count;
+        count = sym (length-map at.places (λ (place : Extent). place.0)) ∙ st.addresses.count;
         few = omega (arith, functions, plans, globals);
         plans = refl;
         aligned = aligned_all starts st.addresses.aligned;
@@ -135,7 +135,7 @@ made_stands p name period jobs text bounds places plant formed none rises =
       };
     }
 
-pub stood : (p : Plant) (c : Coded) (text : ProgramText) (bounds : ℕ → ℕ) (places : List Place) → IsPlant p → c.program ≡ resolve bounds text → IsWellFormed text → excess c.program ≡ None →
+pub stood : (p : Plant) (c : Coded) (text : ProgramText) (bounds : ℕ → ℕ) (places : List Extent) → IsPlant p → c.program ≡ resolve bounds text → IsWellFormed text → excess c.program ≡ None →
     c.code ≡ codes_of (parts_of c.program.routines) c.program.routines → TaskRises p c places → Stood p c places
 stood p c text bounds places plant same formed none code rises =
     let q : Resolved = resolve bounds text in
@@ -147,16 +147,16 @@ stood p c text bounds places plant same formed none code rises =
 
 -- ---- all tasks
 
-pub all_rise : (p : Plant) (cs : List Coded) (places : List Place) → IsPlant p → AreDefault p cs places → TasksRise p cs places
+pub all_rise : (p : Plant) (cs : List Coded) (places : List Extent) → IsPlant p → AreDefault p cs places → TasksRise p cs places
 all_rise p cs places plant h =
     let parts : List PartSize = layout.parts_of p h.devices cs in
     let line = plant.line in
     let one : 1 ≤ p.line = omega (arith, line.0) in
     let may = parts_may_be_placed (passes_of p) p.line (map sized_of cs) h.devices one in
-    let rise : Rise p.memory 0 parts (default_places parts) = defaults_rise p.memory parts may.0 (subst (λ (ps : List Place). last_end ps ≤ p.memory) h.same h.within) in
+    let rise : Rise p.memory 0 parts (default_places parts) = defaults_rise p.memory parts may.0 (subst (λ (ps : List Extent). last_end ps ≤ p.memory) h.same h.within) in
     record { least = 0; number = 0; others = area_parts p.line 0 h.devices; rise = subst (Rise p.memory 0 parts) (sym h.same) rise }
 
-pub first_rises : (p : Plant) (c : Coded) (cs : List Coded) (places : List Place) → TasksRise p (c ∷ cs) places → TaskRises p c places
+pub first_rises : (p : Plant) (c : Coded) (cs : List Coded) (places : List Extent) → TasksRise p (c ∷ cs) places → TaskRises p c places
 first_rises p c cs places h =
     let mine : List PartSize = task_parts (passes_of p) h.number (map size_of c.code) c.program in
     let more : List PartSize = parts_from (passes_of p) (h.number + 1) (map sized_of cs) in
@@ -167,7 +167,7 @@ first_rises p c cs places h =
       rise = subst (λ (xs : List PartSize). Rise p.memory h.least xs places) (append_assoc mine more h.others) h.rise;
     }
 
-pub rest_rises : (p : Plant) (c : Coded) (cs : List Coded) (places : List Place) → length c.code ≡ length c.program.routines → TasksRise p (c ∷ cs) places → TasksRise p cs (drop (part_count c.program) places)
+pub rest_rises : (p : Plant) (c : Coded) (cs : List Coded) (places : List Extent) → length c.code ≡ length c.program.routines → TasksRise p (c ∷ cs) places → TasksRise p cs (drop (part_count c.program) places)
 unfolding first_rises
 rest_rises p c cs places long h =
     let t = first_rises p c cs places h in

@@ -7,7 +7,7 @@ use Rattle.std.proofs.lemmas.List.Elements.{recursion_from_All}
 use Rattle.std.proofs.lemmas.Nat.{div-add-mod', mod_below}
 use Rattle.std.proofs.Math.Nat.{add-mod-mod, mul-mod_left}
 use Rattle.prem_plant.specs.declared.layout.PartSize.{PartSize}
-use Rattle.prem_plant.specs.Places.{Place, places_from, end_behind}
+use Rattle.prem_plant.specs.Places.{Extent, places_from, end_behind}
 use Rattle.prem_plant.proofs.Placing.{end_from}
 use Rattle.prem_asm.specs.Pieces.{Pieces, size_of}
 use Rattle.prem_layout.specs.Footprint.{no_place}
@@ -43,22 +43,22 @@ defaults_rise memory parts aligned le = defaults memory 0 parts (recursion_from_
 
 -- ---- some of the parts
 
-pub rise_left : (memory least : ℕ) (xs ys : List PartSize) (places : List Place) → Rise memory least (xs ++ ys) places → Rise memory least xs places
+pub rise_left : (memory least : ℕ) (xs ys : List PartSize) (places : List Extent) → Rise memory least (xs ++ ys) places → Rise memory least xs places
 rise_left memory least [] ys places h = tt
 rise_left memory least (x ∷ xs) ys [] h = h
 rise_left memory least (x ∷ xs) ys (q ∷ qs) h = (h.0, rise_left memory q.1 xs ys qs h.1)
 
-pub rise_right : (memory least : ℕ) (xs ys : List PartSize) (places : List Place) → Rise memory least (xs ++ ys) places → RestRises memory ys (drop (length xs) places)
+pub rise_right : (memory least : ℕ) (xs ys : List PartSize) (places : List Extent) → Rise memory least (xs ++ ys) places → RestRises memory ys (drop (length xs) places)
 rise_right memory least [] ys places h = record { least = least; rises = h }
 rise_right memory least (x ∷ xs) ys [] h = absurd h
 rise_right memory least (x ∷ xs) ys (q ∷ qs) h = rise_right memory q.1 xs ys qs h.1
 
-pub rise_long : (memory least : ℕ) (xs : List PartSize) (places : List Place) → Rise memory least xs places → length xs ≤ length places
+pub rise_long : (memory least : ℕ) (xs : List PartSize) (places : List Extent) → Rise memory least xs places → length xs ≤ length places
 rise_long memory least [] places h = omega arith
 rise_long memory least (x ∷ xs) [] h = absurd h
 rise_long memory least (x ∷ xs) (q ∷ qs) h = let le = rise_long memory q.1 xs qs h.1 in omega (arith, le)
 
-pub are_parts : (memory least : ℕ) (xs : List PartSize) (places : List Place) → Rise memory least xs places → ArePartsAt memory xs places
+pub are_parts : (memory least : ℕ) (xs : List PartSize) (places : List Extent) → Rise memory least xs places → ArePartsAt memory xs places
 are_parts memory least [] places h k part e = cc
 are_parts memory least (x ∷ xs) [] h k part e = absurd h
 are_parts memory least (x ∷ xs) (q ∷ qs) h zero part e =
@@ -77,14 +77,14 @@ four : (n align : ℕ) → n % align ≡ 0 → (align ≡ 4) ⊎ (align ≡ 16) 
 four n align e (inl is) = let f : n % 4 ≡ 0 = ap (λ k. n % k) (sym is) ∙ e in f
 four n align e (inr is) = let f : n % 16 ≡ 0 = ap (λ k. n % k) (sym is) ∙ e in omega (arith, f)
 
-abbrev pub first_byte : Place → ℕ
+abbrev pub first_byte : Extent → ℕ
 first_byte place = place.0
 
 pub record IsAddress (memory n : ℕ) : Type 0 where
   pub aligned : n % 4 ≡ 0
   pub small : n ≤ memory
 
-pub addresses : (memory least : ℕ) (xs : List PartSize) (places : List Place) → AllByRecursion IsFour xs → Rise memory least xs places →
+pub addresses : (memory least : ℕ) (xs : List PartSize) (places : List Extent) → AllByRecursion IsFour xs → Rise memory least xs places →
     (n : ℕ) → IsAddress memory (slice_index (map first_byte (take (length xs) places)) n)
 addresses memory least [] [] f h n = record { aligned = refl; small = omega arith }
 addresses memory least [] (q ∷ qs) f h n = record { aligned = refl; small = omega arith }
@@ -92,12 +92,12 @@ addresses memory least (x ∷ xs) [] f h n = absurd h
 addresses memory least (x ∷ xs) (q ∷ qs) f h zero = record { aligned = four q.0 x.align h.0.aligned f.0; small = let e = h.0.ends in let w = h.0.within in omega (arith, e, w) }
 addresses memory least (x ∷ xs) (q ∷ qs) f h (suc n) = addresses memory q.1 xs qs f.1 h.1 n
 
-pub index_same : (places : List Place) (n : ℕ) → slice_index (map first_byte places) n ≡ (slice_index_or places n no_place).0
+pub index_same : (places : List Extent) (n : ℕ) → slice_index (map first_byte places) n ≡ (slice_index_or places n no_place).0
 index_same [] n = refl
 index_same (q ∷ qs) zero = refl
 index_same (q ∷ qs) (suc n) = index_same qs n
 
-pub taken_same : (count n : ℕ) (places : List Place) → n < count → slice_index_or (take count places) n no_place ≡ slice_index_or places n no_place
+pub taken_same : (count n : ℕ) (places : List Extent) → n < count → slice_index_or (take count places) n no_place ≡ slice_index_or places n no_place
 taken_same zero n places lt = absurd (omega arith)
 taken_same (suc count) n [] lt = refl
 taken_same (suc count) zero (q ∷ qs) lt = refl
@@ -111,16 +111,16 @@ HasSizes [] xs = ⊤
 HasSizes (ps ∷ pss) [] = ⊥
 HasSizes (ps ∷ pss) (x ∷ xs) = (size_of ps ≡ x.size) × HasSizes pss xs
 
-abbrev pub Agrees : (ℕ → ℕ) → ℕ → ℕ → List Place → Type 0
+abbrev pub Agrees : (ℕ → ℕ) → ℕ → ℕ → List Extent → Type 0
 Agrees f part count places = (i : ℕ) → i < count → f (part + i) ≡ (slice_index_or places i no_place).0
 
-agrees_here : (f : ℕ → ℕ) (part count : ℕ) (q : Place) (qs : List Place) → Agrees f part (suc count) (q ∷ qs) → f part ≡ q.0
+agrees_here : (f : ℕ → ℕ) (part count : ℕ) (q : Extent) (qs : List Extent) → Agrees f part (suc count) (q ∷ qs) → f part ≡ q.0
 agrees_here f part count q qs h = let z : part ≡ part + 0 = omega arith in ap f z ∙ h 0 (omega arith)
 
-agrees_next : (f : ℕ → ℕ) (part count : ℕ) (q : Place) (qs : List Place) → Agrees f part (suc count) (q ∷ qs) → Agrees f (part + 1) count qs
+agrees_next : (f : ℕ → ℕ) (part count : ℕ) (q : Extent) (qs : List Extent) → Agrees f part (suc count) (q ∷ qs) → Agrees f (part + 1) count qs
 agrees_next f part count q qs h i lt = let z : part + 1 + i ≡ part + suc i = omega arith in ap f z ∙ h (suc i) (omega arith)
 
-pub code_rises : (f : ℕ → ℕ) (memory low least part : ℕ) (pss : List Pieces) (xs : List PartSize) (places : List Place) → HasSizes pss xs → low ≤ least → Rise memory least xs places →
+pub code_rises : (f : ℕ → ℕ) (memory low least part : ℕ) (pss : List Pieces) (xs : List PartSize) (places : List Extent) → HasSizes pss xs → low ≤ least → Rise memory least xs places →
     Agrees f part (length pss) places → RisesFrom f low part pss
 code_rises f memory low least part [] xs places s le h a = tt
 code_rises f memory low least part (ps ∷ pss) [] places s le h a = absurd s
@@ -131,7 +131,7 @@ code_rises f memory low least part (ps ∷ pss) (x ∷ xs) (q ∷ qs) s le h a =
     let ends = h.0.ends in
     (omega (arith, here, behind, le), code_rises f memory (f part + size_of ps) q.1 (part + 1) pss xs qs s.1 (omega (arith, here, ends, s.0)) h.1 (agrees_next f part (length pss) q qs a))
 
-pub code_within : (f : ℕ → ℕ) (memory least part : ℕ) (pss : List Pieces) (xs : List PartSize) (places : List Place) → memory ≤ 2 ^ 24 → HasSizes pss xs → Rise memory least xs places →
+pub code_within : (f : ℕ → ℕ) (memory least part : ℕ) (pss : List Pieces) (xs : List PartSize) (places : List Extent) → memory ≤ 2 ^ 24 → HasSizes pss xs → Rise memory least xs places →
     Agrees f part (length pss) places → EndWithin f part pss
 code_within f memory least part [] xs places small s h a = tt
 code_within f memory least part (ps ∷ pss) [] places small s h a = absurd s
