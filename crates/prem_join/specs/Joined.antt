@@ -1,8 +1,8 @@
 -- What the compiler's side shows of an image, so that the machine's side makes it sound.
-use Rattle.std.specs.Prelude.{◌≡◌, ℕ, ◌+◌, ◌*◌, ◌/◌, ◌<◌, ◌≤◌, Bool, true, All, List, [], length, slice_index, slice_index_or}
+use Rattle.std.specs.Prelude.{◌≡◌, ℕ, ◌+◌, ◌*◌, ◌/◌, ◌<◌, ◌≤◌, Bool, true, All, List, [], length, None, slice_index, slice_index_or}
 use Rattle.prem_image.specs.Records.{IsImage}
-use Rattle.prem_isa.specs.Plain.{TaskRun, PlainState}
-use Rattle.prem_lru.specs.Entries.{Rule}
+use Rattle.prem_isa.specs.Plain.{TaskRun, PlainState, plain_run}
+use Rattle.prem_lru.specs.Entries.{ReplacementRule}
 use Rattle.prem_lru.specs.Order.{OrderRule}
 use Rattle.prem_cycle.specs.State.{Setup, record_of}
 pub use Rattle.prem_cycle.specs.Alone.{run_in}
@@ -30,6 +30,18 @@ pub record TaskJoins (p : Setup) (passes : ℕ → ℕ) (own : ℕ → Bool) (ru
   pub outputs : length q.outputs ≤ run.jobs * most.outputs
   pub calls : length (calls_of weave) ≤ run.jobs * most.calls
 
+-- the run on its own has ended without a trap after n instructions, with the outputs and the final words that are promised
+pub record EndsWith (run : TaskRun) (n : ℕ) (q : Promise) : Type 0 where
+  pub ended : (plain_run run n).ended ≡ run.jobs
+  pub untrapped : (plain_run run n).trapped ≡ None
+  pub outputs : (plain_run run n).task.outputs ≡ q.outputs
+  pub finals : q.reads (plain_run run n).task.view ≡ q.finals
+
+-- so ends a task that joins by as many instructions as its jobs may take cycles
+abbrev pub JoinedRunsEnd : Type 0
+JoinedRunsEnd =
+    (p : Setup) (passes : ℕ → ℕ) (own : ℕ → Bool) (run : TaskRun) (most : JobLimits) (q : Promise) → TaskJoins p passes own run most q → EndsWith run (run.jobs * most.cycles) q
+
 -- what holds of an image and all its tasks
 pub record IsJoined (passes : ℕ → ℕ) (p : Setup) (content : List ℕ) (own : ℕ → ℕ → Bool) (most : ℕ → JobLimits) (promises : List (List ℕ) → ℕ → Promise) (limit : ℕ) : Type 0 where
   pub image : IsImage p.plant p.tasks p.devices content
@@ -44,5 +56,5 @@ pub record IsJoined (passes : ℕ → ℕ) (p : Setup) (content : List ℕ) (own
 
 abbrev pub JoinedImagesAreSound : Type 0
 JoinedImagesAreSound =
-    (rule : Rule) (order : OrderRule) (passes : ℕ → ℕ) (p : Setup) (content : List ℕ) (own : ℕ → ℕ → Bool) (most : ℕ → JobLimits) (promises : List (List ℕ) → ℕ → Promise) (limit : ℕ) →
+    (rule : ReplacementRule) (order : OrderRule) (passes : ℕ → ℕ) (p : Setup) (content : List ℕ) (own : ℕ → ℕ → Bool) (most : ℕ → JobLimits) (promises : List (List ℕ) → ℕ → Promise) (limit : ℕ) →
     IsPolicy rule order passes → IsJoined passes p content own most promises limit → Sound rule p content promises limit
