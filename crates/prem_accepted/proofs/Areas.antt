@@ -6,7 +6,7 @@ use Rattle.std.proofs.lemmas.Option.{slice_get_within, slice_get-get_or}
 use Rattle.prem_plant.specs.declared.plant.Device.{Device}
 use Rattle.prem_plant.specs.declared.layout.PartKind.TheVariants.{Start}
 use Rattle.prem_plant.specs.declared.layout.PartSize.{PartSize}
-use Rattle.prem_plant.specs.Places.{Place, AreApart, ArePlaces}
+use Rattle.prem_plant.specs.Places.{Extent, AreApart, ArePlaces}
 use Rattle.prem_plant.specs.Ranges.{IsDevice}
 use Rattle.prem_image.specs.Records.{area_of, IsPlaced, device_names}
 use Rattle.prem_tasks.specs.Lawful.{device_names as names_of}
@@ -15,12 +15,12 @@ use Rattle.prem_layout.specs.Image.{device_records}
 use Rattle.prem_own.proofs.Owned.{get_drop, get_behind}
 
 -- a place of a part, within memory
-pub record IsAt (memory : ℕ) (x : PartSize) (q : Place) : Type 0 where
+pub record IsAt (memory : ℕ) (x : PartSize) (q : Extent) : Type 0 where
   pub ends : q.1 ≡ q.0 + x.size
   pub aligned : q.0 % x.align ≡ 0
   pub within : q.1 ≤ memory
 
-zipped : (memory : ℕ) (xs : List PartSize) (qs : List Place) → length xs ≡ length qs → ((i : ℕ) (x : PartSize) (q : Place) → slice_get xs i ≡ Some x → slice_get qs i ≡ Some q → IsAt memory x q) → AllZip (IsAt memory) xs qs
+zipped : (memory : ℕ) (xs : List PartSize) (qs : List Extent) → length xs ≡ length qs → ((i : ℕ) (x : PartSize) (q : Extent) → slice_get xs i ≡ Some x → slice_get qs i ≡ Some q → IsAt memory x q) → AllZip (IsAt memory) xs qs
 zipped memory [] [] long h = tt
 zipped memory [] (q ∷ qs) long h = absurd (omega (arith, long))
 zipped memory (x ∷ xs) [] long h = absurd (omega (arith, long))
@@ -32,7 +32,7 @@ areas_counted line n (d ∷ ds) = ap suc (areas_counted line (n + 1) ds)
 
 -- ---- where they are
 
-pub areas_stand : (memory line first : ℕ) (parts : List PartSize) (ds : List Device) (whole : List Place) → length parts ≡ first → ArePlaces memory (parts ++ area_parts line 0 ds) whole →
+pub areas_stand : (memory line first : ℕ) (parts : List PartSize) (ds : List Device) (whole : List Extent) → length parts ≡ first → ArePlaces memory (parts ++ area_parts line 0 ds) whole →
     AllZip (IsAt memory) (area_parts line 0 ds) (drop first whole)
 areas_stand memory line first parts ds whole long a =
     let areas = area_parts line 0 ds in
@@ -44,28 +44,28 @@ areas_stand memory line first parts ds whole long a =
     let at : slice_get whole (first + i) ≡ Some q = sym (get_drop first i whole) ∙ f in
     record { ends = a.ends (first + i) x q there at; aligned = a.aligned (first + i) x q there at; within = a.within (first + i) q at })
 
-pub each_placed : (memory line n : ℕ) (ds : List Device) (qs : List Place) → AllByRecursion IsDevice ds → AllZip (IsAt memory) (area_parts line n ds) qs → AllByRecursion (IsPlaced line memory) (device_records ds qs)
+pub each_placed : (memory line n : ℕ) (ds : List Device) (qs : List Extent) → AllByRecursion IsDevice ds → AllZip (IsAt memory) (area_parts line n ds) qs → AllByRecursion (IsPlaced line memory) (device_records ds qs)
 each_placed memory line n [] [] is h = tt
 each_placed memory line n [] (q ∷ qs) is h = absurd h
 each_placed memory line n (d ∷ ds) [] is h = absurd h
 each_placed memory line n (d ∷ ds) (q ∷ qs) is h =
     (record { device = is.0; aligned = h.0.aligned; within = subst (λ k. k ≤ memory) h.0.ends h.0.within }, each_placed memory line (n + 1) ds qs is.1 h.1)
 
-pub areas_same : (memory line n : ℕ) (ds : List Device) (qs : List Place) → AllZip (IsAt memory) (area_parts line n ds) qs → map (area_of line) (device_records ds qs) ≡ qs
+pub areas_same : (memory line n : ℕ) (ds : List Device) (qs : List Extent) → AllZip (IsAt memory) (area_parts line n ds) qs → map (area_of line) (device_records ds qs) ≡ qs
 areas_same memory line n [] [] h = refl
 areas_same memory line n [] (q ∷ qs) h = absurd h
 areas_same memory line n (d ∷ ds) [] h = absurd h
 areas_same memory line n (d ∷ ds) (q ∷ qs) h =
-    let same : ◌≡◌ {A = Place} (q.0, q.0 + d.lines * line) q = ap (λ k. (q.0, k)) (sym h.0.ends) in
-    ap (λ (k : Place). k ∷ map (area_of line) (device_records ds qs)) same ∙ ap (λ l. q ∷ l) (areas_same memory line (n + 1) ds qs h.1)
+    let same : ◌≡◌ {A = Extent} (q.0, q.0 + d.lines * line) q = ap (λ k. (q.0, k)) (sym h.0.ends) in
+    ap (λ (k : Extent). k ∷ map (area_of line) (device_records ds qs)) same ∙ ap (λ l. q ∷ l) (areas_same memory line (n + 1) ds qs h.1)
 
-pub areas_named : (memory line n : ℕ) (ds : List Device) (qs : List Place) → AllZip (IsAt memory) (area_parts line n ds) qs → device_names (device_records ds qs) ≡ names_of ds
+pub areas_named : (memory line n : ℕ) (ds : List Device) (qs : List Extent) → AllZip (IsAt memory) (area_parts line n ds) qs → device_names (device_records ds qs) ≡ names_of ds
 areas_named memory line n [] [] h = refl
 areas_named memory line n [] (q ∷ qs) h = absurd h
 areas_named memory line n (d ∷ ds) [] h = absurd h
 areas_named memory line n (d ∷ ds) (q ∷ qs) h = ap (λ l. d.name ∷ l) (areas_named memory line (n + 1) ds qs h.1)
 
-pub records_long : (memory line n : ℕ) (ds : List Device) (qs : List Place) → AllZip (IsAt memory) (area_parts line n ds) qs → length (device_records ds qs) ≡ length ds
+pub records_long : (memory line n : ℕ) (ds : List Device) (qs : List Extent) → AllZip (IsAt memory) (area_parts line n ds) qs → length (device_records ds qs) ≡ length ds
 records_long memory line n [] [] h = refl
 records_long memory line n [] (q ∷ qs) h = absurd h
 records_long memory line n (d ∷ ds) [] h = absurd h
@@ -76,7 +76,7 @@ records_long memory line n (d ∷ ds) (q ∷ qs) h = ap suc (records_long memory
 some_part : PartSize
 some_part = part 0 Start 0 0
 
-pub rest_apart : (memory n : ℕ) (parts : List PartSize) (whole : List Place) → ArePlaces memory parts whole → AreApart (drop n whole)
+pub rest_apart : (memory n : ℕ) (parts : List PartSize) (whole : List Extent) → ArePlaces memory parts whole → AreApart (drop n whole)
 rest_apart memory n parts whole a =
     record {
       forward = λ i q e.

@@ -4,7 +4,7 @@ use Rattle.std.specs.Prelude.{if◌then◌else◌}
 use Rattle.std.specs.List.{AllByRecursion}
 use Rattle.std.proofs.lemmas.Bool.Decides.{nat_tests}
 use Rattle.prem_plant.specs.declared.plant.Plant.{Plant}
-use Rattle.prem_plant.specs.Places.{Place, last_end}
+use Rattle.prem_plant.specs.Places.{Extent, last_end}
 use Rattle.prem_syntax.specs.Syntax.{ProgramText}
 use Rattle.prem_token.specs.declared.fail.FrontFail.{FrontFail}
 use Rattle.prem_text.specs.Texts.{reads}
@@ -115,7 +115,7 @@ pub record Keeps (set : TaskSet) : Type 0 where
   pub fits : last_end (places_in set) ≤ set.plant.memory
   pub logs : group_ten (coded_in set) ≡ None
 
-late_keeps : (p : Plant) (places : List Place) (tasks : List Coded) → broken_at_places p places tasks ≡ None → (last_end places ≤ p.memory) × (group_ten tasks ≡ None)
+late_keeps : (p : Plant) (places : List Extent) (tasks : List Coded) → broken_at_places p places tasks ≡ None → (last_end places ≤ p.memory) × (group_ten tasks ≡ None)
 late_keeps p places tasks h =
     let placed = placed_from p places tasks in
     let five = both_none (refused_by None (group_five p places)) (broken_when_placed p tasks placed) h in

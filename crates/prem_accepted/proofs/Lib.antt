@@ -1,4 +1,3 @@
-pub mod StackWhole
 pub mod Areas
 pub mod Records
 pub mod Sums

@@ -10,7 +10,7 @@ use Rattle.prem_plant.specs.declared.plant.Device.{Device}
 use Rattle.prem_plant.specs.declared.layout.PartKind.TheVariants.{Start, Stack}
 use Rattle.prem_plant.specs.declared.layout.PartSize.{PartSize}
 use Rattle.prem_plant.specs.Label.{AreDistinct}
-use Rattle.prem_plant.specs.Places.{Place, AreApart}
+use Rattle.prem_plant.specs.Places.{Extent, AreApart}
 use Rattle.prem_plant.specs.Ranges.{Between, IsDevice}
 use Rattle.prem_image.specs.Records.{IsTask, IsPlaced, IsImage, task_names}
 use Rattle.prem_syntax.specs.Syntax.{GlobalVariable}
@@ -27,7 +27,7 @@ use Rattle.prem_initial.proofs.Places.{IsSized, Sized, sized_right}
 use Rattle.prem_initial.proofs.Tasks.{TaskAt, task_at, parts_have_addresses}
 use Rattle.prem_initial.proofs.Whole.{content_fits}
 use Rattle.prem_accepted.specs.Accepted.{HasCodedValues, IsLaidOut}
-use Rattle.prem_accepted.proofs.StackWhole.{stack_whole}
+use Rattle.prem_task_ground.proofs.Depths.{stack_size_whole}
 use Rattle.prem_accepted.proofs.Areas.{areas_stand, each_placed, areas_same, areas_named, records_long, rest_apart}
 
 -- ---- where a task starts, and its stack
@@ -50,7 +50,7 @@ sixteens : (a b c : ℕ) → a ≡ b + c → b % 16 ≡ 0 → c % 16 ≡ 0 → a
 sixteens a b c e x y = omega (arith, e, x, y)
 
 -- the place of a task's stack is that of its last part
-stack_sized : (p : Plant) (all : List Place) (high : ℕ) (t : Placed) → TaskAt p all high t → IsSized (part 0 Stack (stack_size t.task.program) 16) (stack_place t.at)
+stack_sized : (p : Plant) (all : List Extent) (high : ℕ) (t : Placed) → TaskAt p all high t → IsSized (part 0 Stack (stack_size t.task.program) 16) (stack_place t.at)
 stack_sized p all high t f =
     let q = t.task.program in
     let task = f.number in
@@ -72,7 +72,7 @@ stack_sized p all high t f =
     let top : IsSized (part task Stack (stack_size q) 16) (stack_place t.at) = subst (λ k. IsSized (part task Stack (stack_size q) 16) (g k)) z h4.0 in
     record { ends = top.ends; aligned = top.aligned }
 
-spots : (p : Plant) (devices : List Device) (tasks : List Coded) (places : List Place) → AreLaid p devices tasks places → (k : ℕ) (t : Placed) → slice_get (placed_from p places tasks) k ≡ Some t → Spots p.memory t
+spots : (p : Plant) (devices : List Device) (tasks : List Coded) (places : List Extent) → AreLaid p devices tasks places → (k : ℕ) (t : Placed) → slice_get (placed_from p places tasks) k ≡ Some t → Spots p.memory t
 spots p devices tasks places laid k t e =
     let f = task_at p devices tasks places laid k t e in
     let first : IsSized (part f.number Start start_size 4) (place_at t.at 0) = f.sized.0 in
@@ -84,13 +84,13 @@ spots p devices tasks places laid k t e =
     record {
       entry_aligned = low.0;
       entry_within = omega (arith, ends, within);
-      stack_aligned = sixteens (stack_place t.at).1 (stack_place t.at).0 (stack_size t.task.program) top.ends top.aligned (stack_whole t.task.program);
+      stack_aligned = sixteens (stack_place t.at).1 (stack_place t.at).0 (stack_size t.task.program) top.ends top.aligned (stack_size_whole t.task.program);
       stack_within = high.1;
     }
 
 -- ---- records of tasks
 
-each_task : (p : Plant) (places : List Place) (cs : List Coded) → AllByRecursion HasCodedValues cs → ((k : ℕ) (t : Placed) → slice_get (placed_from p places cs) k ≡ Some t → Spots p.memory t) →
+each_task : (p : Plant) (places : List Extent) (cs : List Coded) → AllByRecursion HasCodedValues cs → ((k : ℕ) (t : Placed) → slice_get (placed_from p places cs) k ≡ Some t → Spots p.memory t) →
     AllByRecursion (IsTask p.memory) (map task_record (placed_from p places cs))
 each_task p places [] values h = tt
 each_task p places (c ∷ cs) values h =
@@ -107,11 +107,11 @@ each_task p places (c ∷ cs) values h =
       each_task p (drop (part_count c.program) places) cs values.1 (λ k t e. h (suc k) t e),
     )
 
-names_same : (p : Plant) (places : List Place) (cs : List Coded) → task_names (map task_record (placed_from p places cs)) ≡ map (λ (c : Coded). c.name) cs
+names_same : (p : Plant) (places : List Extent) (cs : List Coded) → task_names (map task_record (placed_from p places cs)) ≡ map (λ (c : Coded). c.name) cs
 names_same p places [] = refl
 names_same p places (c ∷ cs) = ap (λ l. c.name ∷ l) (names_same p (drop (part_count c.program) places) cs)
 
-pub tasks_long : (p : Plant) (places : List Place) (cs : List Coded) → length (map task_record (placed_from p places cs)) ≡ length cs
+pub tasks_long : (p : Plant) (places : List Extent) (cs : List Coded) → length (map task_record (placed_from p places cs)) ≡ length cs
 tasks_long p places [] = refl
 tasks_long p places (c ∷ cs) = ap suc (tasks_long p (drop (part_count c.program) places) cs)
 
@@ -124,15 +124,15 @@ coded_all (c ∷ cs) h = (h.0.coded, coded_all cs h.1)
 pub have_code : (cs : List Coded) → All HasCodedValues cs → All HasCode cs
 have_code cs h = All-from_recursion HasCode cs (coded_all cs (recursion_from_All HasCodedValues cs h))
 
-pub are_laid : (p : Plant) (devices : List Device) (tasks : List Coded) (places : List Place) → IsLaidOut p devices tasks places → AreLaid p devices tasks places
+pub are_laid : (p : Plant) (devices : List Device) (tasks : List Coded) (places : List Extent) → IsLaidOut p devices tasks places → AreLaid p devices tasks places
 are_laid p devices tasks places h = record { coded = have_code tasks h.each; placed = h.lawful.placed }
 
-pub records_lawful : (p : Plant) (devices : List Device) (tasks : List Coded) (places : List Place) → IsLaidOut p devices tasks places →
+pub records_lawful : (p : Plant) (devices : List Device) (tasks : List Coded) (places : List Extent) → IsLaidOut p devices tasks places →
     IsImage p (map task_record (placed_from p places tasks)) (device_records devices (drop (part_total tasks) places)) (content_of p places tasks)
 records_lawful p devices tasks places h =
     let laid = are_laid p devices tasks places h in
     let total = part_total tasks in
-    let rest : List Place = drop total places in
+    let rest : List Extent = drop total places in
     let parts : List PartSize = parts_from (passes_of p) 0 (map sized_of tasks) in
     let long : length parts ≡ total = parts_long (passes_of p) 0 tasks laid.coded in
     let stand = areas_stand p.memory p.line total parts devices places long laid.placed in

@@ -3,7 +3,7 @@ use Rattle.std.proofs.Common.{◌≡◌, ℕ, zero, suc, ◌+◌, refl, ap, sym,
 use Rattle.std.specs.List.{AllByRecursion}
 use Rattle.std.specs.Option.{option_map}
 use Rattle.prem_plant.specs.declared.plant.Plant.{Plant}
-use Rattle.prem_plant.specs.Places.{Place}
+use Rattle.prem_plant.specs.Places.{Extent}
 use Rattle.prem_syntax.specs.Syntax.{ProgramText}
 use Rattle.prem_text.specs.Texts.{reads}
 use Rattle.prem_layout.specs.Parts.{part_count}
@@ -62,7 +62,7 @@ record HasProgram (ts : List TaskText) (k : ℕ) (t : Placed) : Type 0 where
   is_coded : t.task ≡ coded_one text (bounded program)
   four : group_four t.task.program ≡ None
 
-find_program : (p : Plant) (places : List Place) (ts : List TaskText) (qs : List ProgramText) → Read ts qs →
+find_program : (p : Plant) (places : List Extent) (ts : List TaskText) (qs : List ProgramText) → Read ts qs →
     AllByRecursion (λ q. group_two q ≡ None) qs → AllByRecursion (λ q. group_three q ≡ None) qs → AllByRecursion (λ (c : Coded). group_four c.program ≡ None) (coded_of ts qs) →
     (k : ℕ) (t : Placed) → slice_get (placed_from p places (coded_of ts qs)) k ≡ Some t → HasProgram ts k t
 find_program p places [] [] r two three four k t e = absurd cc

@@ -1,4 +1,4 @@
--- A set of two tasks and a device, computed: it breaks no rule, so all but the runs of its tasks is there. The first task has a marked function.
+-- A set of two tasks and a device, computed: it breaks no rule, so all but the runs of its tasks is there. The first task has a marked function, and takes an input in each of its jobs.
 use Rattle.std.proofs.Common.{◌≡◌, ℕ, zero, suc, ap, List, [], ◌∷◌, refl, None, arith, length}
 use Rattle.std.specs.Prelude.{codes}
 use Rattle.std.specs.List.{AllByRecursion}
@@ -17,19 +17,19 @@ use Rattle.prem_tasks.specs.Compiled.{coded_in, places_in, placed_in}
 use Rattle.prem_accepted.specs.Accepted.{HasTextValues, HasValues, IsLaidOut, limits_at}
 use Rattle.prem_accepted.proofs.Whole.{accepted_sets_are_laid_out, default_places_are_lawful}
 
-abbrev first : TaskText
-first = record { name = codes "first"; text = codes "int n; PREDICTABLE(2000) REGION(n, 0, 0) void step(void) { n = 5; } void job(void) { step(); out(n); }"; period = 20000; jobs = 3 }
+abbrev pub first : TaskText
+first = record { name = codes "first"; text = codes "int n; PREDICTABLE(2000) REGION(n, 0, 0) void step(void) { n = 5; } void job(void) { int k = 0; k = in(); step(); out(n + k); }"; period = 20000; jobs = 3 }
 
-abbrev second : TaskText
+abbrev pub second : TaskText
 second = record { name = codes "second"; text = codes "void job(void){ out(2+3); }"; period = 50000; jobs = 1 }
 
-abbrev net : Device
+abbrev pub net : Device
 net = record { name = codes "net"; queue = 8; cost = 60; lines = 4 }
 
-abbrev sample : TaskSet
+abbrev pub sample : TaskSet
 sample = record { plant = default_plant; devices = net ∷ []; tasks = first ∷ second ∷ [] }
 
-sample_breaks_nothing : broken sample ≡ None
+pub sample_breaks_nothing : broken sample ≡ None
 unfolding tokens_of lex step start first_token reserved_word used_word is_unused longest_mark literal_word group_two group_three
 sample_breaks_nothing = refl
 
@@ -66,7 +66,7 @@ two_names (suc zero) (suc zero) li lj e = refl
 two_names (suc (suc i)) j li lj e = absurd (omega (arith, li))
 two_names i (suc (suc j)) li lj e = absurd (omega (arith, lj))
 
-sample_values : HasValues sample
+pub sample_values : HasValues sample
 sample_values = record {
   plant_is = default_is_plant;
   devices_are = record { count = omega arith; each = All-from_recursion IsDevice (net ∷ []) (net_is, tt); names = one_name (codes "net") };
@@ -75,7 +75,7 @@ sample_values = record {
   names = two_names;
 }
 
-sample_is_laid_out : IsLaidOut default_plant (net ∷ []) (coded_in sample) (places_in sample)
+pub sample_is_laid_out : IsLaidOut default_plant (net ∷ []) (coded_in sample) (places_in sample)
 sample_is_laid_out = accepted_sets_are_laid_out sample (places_in sample) sample_values sample_breaks_nothing (default_places_are_lawful sample sample_values sample_breaks_nothing)
 
 -- ---- what its jobs take

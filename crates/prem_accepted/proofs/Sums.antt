@@ -3,7 +3,7 @@ use Rattle.std.proofs.Common.{◌≡◌, ℕ, zero, suc, ◌+◌, ◌-◌, ◌*�
 use Rattle.std.specs.Prelude.{max, slice_index_or, if◌then◌else◌}
 use Rattle.std.proofs.lemmas.Bool.Decides.{nat_tests}
 use Rattle.prem_plant.specs.declared.plant.Plant.{Plant}
-use Rattle.prem_plant.specs.Places.{Place}
+use Rattle.prem_plant.specs.Places.{Extent}
 use Rattle.prem_cycle.specs.State.{no_record}
 use Rattle.prem_script.specs.Scripts.{sum_below, last_release}
 use Rattle.prem_meaning.specs.Resolved.{Resolved}
@@ -15,7 +15,8 @@ use Rattle.prem_layout.specs.Parts.{part_count}
 use Rattle.prem_layout.specs.Placed.{Coded, Placed, task_places, placed_at, placed_from}
 use Rattle.prem_layout.specs.Rules.{Outputs, Intervals, total_of, group_ten, log_room}
 use Rattle.prem_join.specs.Joined.{JobLimits}
-use Rattle.prem_accepted.specs.Accepted.{limits_of, limits_at}
+use Rattle.prem_accepted.specs.Accepted.{limits_at}
+use Rattle.prem_task_frame.specs.Limits.{task_limits}
 
 -- the first summand in front
 shifted : (n : ℕ) (f : ℕ → ℕ) → sum_below (suc n) f ≡ f 0 + sum_below n (λ k. f (suc k))
@@ -26,11 +27,11 @@ shifted (suc n) f = omega (arith, shifted n f)
 abbrev pub taken : Plant → (JobLimits → ℕ) → List Placed → ℕ
 taken p part ts = sum_below (length (map task_record ts)) (λ k. (slice_index_or (map task_record ts) k no_record).jobs * part (limits_at p ts k))
 
-taken_first : (p : Plant) (part : JobLimits → ℕ) (t : Placed) (ts : List Placed) → taken p part (t ∷ ts) ≡ t.task.jobs * part (limits_of p t) + taken p part ts
+taken_first : (p : Plant) (part : JobLimits → ℕ) (t : Placed) (ts : List Placed) → taken p part (t ∷ ts) ≡ t.task.jobs * part (task_limits p t) + taken p part ts
 taken_first p part t ts = shifted (length (map task_record ts)) (λ k. (slice_index_or (map task_record (t ∷ ts)) k no_record).jobs * part (limits_at p (t ∷ ts) k))
 
 -- a limit that a program alone tells is summed as the program's
-taken_total : (p : Plant) (part : JobLimits → ℕ) (count : Resolved → ℕ) (places : List Place) (cs : List Coded) → ((t : Placed) → part (limits_of p t) ≡ count t.task.program) →
+taken_total : (p : Plant) (part : JobLimits → ℕ) (count : Resolved → ℕ) (places : List Extent) (cs : List Coded) → ((t : Placed) → part (task_limits p t) ≡ count t.task.program) →
     taken p part (placed_from p places cs) ≡ total_of count cs
 taken_total p part count places [] same = refl
 taken_total p part count places (c ∷ cs) same =
@@ -40,7 +41,7 @@ taken_total p part count places (c ∷ cs) same =
 
 taken_work : (p : Plant) (ts : List Placed) → taken p (λ m. m.cycles) ts ≡ work_of (map (job_fact p) ts)
 taken_work p [] = refl
-taken_work p (t ∷ ts) = taken_first p (λ m. m.cycles) t ts ∙ ap (λ n. t.task.jobs * (limits_of p t).cycles + n) (taken_work p ts)
+taken_work p (t ∷ ts) = taken_first p (λ m. m.cycles) t ts ∙ ap (λ n. t.task.jobs * (task_limits p t).cycles + n) (taken_work p ts)
 
 released : (p : Plant) (ts : List Placed) → last_release (map task_record ts) ≡ last_bound (map (job_fact p) ts)
 released p [] = refl
@@ -62,13 +63,13 @@ within outputs intervals h = by (nat_lt log_room outputs) (nat_lt log_room inter
   by false true e f h = absurd cc
   by false false e f h = record { outputs_fit = not_above log_room outputs e; intervals_fit = not_above log_room intervals f }
 
-pub outputs_fit : (p : Plant) (places : List Place) (cs : List Coded) → group_ten cs ≡ None → taken p (λ m. m.outputs) (placed_from p places cs) < 262144
+pub outputs_fit : (p : Plant) (places : List Extent) (cs : List Coded) → group_ten cs ≡ None → taken p (λ m. m.outputs) (placed_from p places cs) < 262144
 outputs_fit p places cs h =
     let e = taken_total p (λ m. m.outputs) outputs_of places cs (λ t. refl) in
     let w = (within (total_of outputs_of cs) (total_of intervals_of cs) h).outputs_fit in
     omega (arith, e, w)
 
-pub intervals_fit : (p : Plant) (places : List Place) (cs : List Coded) → group_ten cs ≡ None → taken p (λ m. 1 + 2 * m.calls) (placed_from p places cs) < 262144
+pub intervals_fit : (p : Plant) (places : List Extent) (cs : List Coded) → group_ten cs ≡ None → taken p (λ m. 1 + 2 * m.calls) (placed_from p places cs) < 262144
 intervals_fit p places cs h =
     let e = taken_total p (λ m. 1 + 2 * m.calls) intervals_of places cs (λ t. refl) in
     let w = (within (total_of outputs_of cs) (total_of intervals_of cs) h).intervals_fit in

@@ -5,8 +5,8 @@ use Rattle.prem_plant.specs.declared.plant.Plant.{Plant}
 use Rattle.prem_plant.specs.declared.plant.Device.{Device}
 use Rattle.prem_plant.specs.Label.{IsName, AreDistinct}
 use Rattle.prem_plant.specs.Ranges.{Between, IsPlant}
-use Rattle.prem_plant.specs.Places.{Place, AreLawful}
-use Rattle.prem_lru.specs.Entries.{Rule}
+use Rattle.prem_plant.specs.Places.{Extent, AreLawful}
+use Rattle.prem_lru.specs.Entries.{ReplacementRule}
 use Rattle.prem_lru.specs.Order.{OrderRule}
 use Rattle.prem_cycle.specs.Alone.{run_in}
 use Rattle.prem_cycle.specs.State.{Setup}
@@ -17,8 +17,7 @@ use Rattle.prem_syntax.specs.Syntax.{ProgramText}
 use Rattle.prem_text.specs.Texts.{reads}
 use Rattle.prem_meaning.specs.GroupTwo as meaning
 use Rattle.prem_ranges.specs.GroupThree as ranges
-use Rattle.prem_layout.specs.Bounds.{job_bound_of, limit_of}
-use Rattle.prem_layout.specs.Counts.{outputs_of, marked_calls_of}
+use Rattle.prem_layout.specs.Bounds.{limit_of}
 use Rattle.prem_layout.specs.Placed.{Coded, Placed, parts_of, placed_from}
 use Rattle.prem_layout.specs.Rules.{group_four, group_six, group_seven, group_eight, group_nine, group_ten}
 use Rattle.prem_tasks.specs.Broken.{TaskText, TaskSet, bounded, coded_one, broken}
@@ -29,6 +28,7 @@ use Rattle.prem_tasks.specs.declared.set.TaskSet.{TaskSet as SetTree}
 use Rattle.prem_own.specs.Owned.{HasCode, own_of, setup_of}
 use Rattle.prem_initial.specs.Initial.{content_of}
 use Rattle.prem_join.specs.Joined.{JobLimits, TaskJoins, IsJoined}
+use Rattle.prem_task_frame.specs.Limits.{task_limits}
 
 -- ---- values in their ranges
 
@@ -58,7 +58,7 @@ pub record HasCodedValues (c : Coded) : Type 0 where
   pub coded : HasCode c
 
 -- a plant, devices and tasks with values in their ranges, at lawful places, whose jobs leave room in both logs
-pub record IsLaidOut (p : Plant) (devices : List Device) (tasks : List Coded) (places : List Place) : Type 0 where
+pub record IsLaidOut (p : Plant) (devices : List Device) (tasks : List Coded) (places : List Extent) : Type 0 where
   pub plant_is : IsPlant p
   pub devices_are : AreDevices devices
   pub count : Between 1 16 (length tasks)
@@ -72,17 +72,13 @@ pub record IsLaidOut (p : Plant) (devices : List Device) (tasks : List Coded) (p
 abbrev pub no_limits : JobLimits
 no_limits = record { cycles = 0; outputs = 0; calls = 0 }
 
--- the bound of a job, and its counts by the turns of its loops
-abbrev pub limits_of : Plant → Placed → JobLimits
-limits_of p t = record { cycles = job_bound_of p t.plans t.table; outputs = outputs_of t.task.program; calls = marked_calls_of t.task.program }
-
 abbrev pub limits_at : Plant → List Placed → ℕ → JobLimits
-limits_at p placed k = slice_index_or (map (limits_of p) placed) k no_limits
+limits_at p placed k = slice_index_or (map (task_limits p) placed) k no_limits
 
 -- ---- the laws
 
 -- for all input words the run of each task goes along a weave, gives what is promised, and stays within its limits
-abbrev pub EachJoins : (passes : ℕ → ℕ) → Plant → List Device → List Coded → List Place → (promises : List (List ℕ) → ℕ → Promise) → Type 0
+abbrev pub EachJoins : (passes : ℕ → ℕ) → Plant → List Device → List Coded → List Extent → (promises : List (List ℕ) → ℕ → Promise) → Type 0
 EachJoins passes p devices tasks places promises =
     (inputs : List (List ℕ)) → AreInputs (setup_of p devices places tasks) inputs → (k : ℕ) → k < length (setup_of p devices places tasks).tasks →
     TaskJoins (setup_of p devices places tasks) passes (own_of tasks places k) (run_in (setup_of p devices places tasks) (content_of p places tasks) inputs k) (limits_at p (placed_from p places tasks) k) (promises inputs k)
@@ -90,14 +86,14 @@ EachJoins passes p devices tasks places promises =
 -- all else that makes an image sound holds at any lawful places
 abbrev pub LaidOutImagesJoin : Type 0
 LaidOutImagesJoin =
-    (passes : ℕ → ℕ) (p : Plant) (devices : List Device) (tasks : List Coded) (places : List Place) (promises : List (List ℕ) → ℕ → Promise) →
+    (passes : ℕ → ℕ) (p : Plant) (devices : List Device) (tasks : List Coded) (places : List Extent) (promises : List (List ℕ) → ℕ → Promise) →
     IsLaidOut p devices tasks places → EachJoins passes p devices tasks places promises →
     IsJoined passes (setup_of p devices places tasks) (content_of p places tasks) (own_of tasks places) (limits_at p (placed_from p places tasks)) promises (limit_of (job_bounds p (placed_from p places tasks)))
 
 -- a set that breaks no rule is laid out by any lawful places of its parts
 abbrev pub AcceptedSetsAreLaidOut : Type 0
 AcceptedSetsAreLaidOut =
-    (set : TaskSet) (places : List Place) → HasValues set → broken set ≡ None → AreLawful set.plant.line set.plant.memory (parts_in set) places →
+    (set : TaskSet) (places : List Extent) → HasValues set → broken set ≡ None → AreLawful set.plant.line set.plant.memory (parts_in set) places →
     IsLaidOut set.plant set.devices (coded_in set) places
 
 -- and its default places are lawful
@@ -118,7 +114,7 @@ AcceptedSetsJoin =
 -- so such an image is sound, within the limit that is told
 abbrev pub AcceptedSetsAreSound : Type 0
 AcceptedSetsAreSound =
-    (rule : Rule) (order : OrderRule) (passes : ℕ → ℕ) (set : TaskSet) (promises : List (List ℕ) → ℕ → Promise) → IsPolicy rule order passes → HasValues set → broken set ≡ None →
+    (rule : ReplacementRule) (order : OrderRule) (passes : ℕ → ℕ) (set : TaskSet) (promises : List (List ℕ) → ℕ → Promise) → IsPolicy rule order passes → HasValues set → broken set ≡ None →
     EachJoins passes set.plant set.devices (coded_in set) (places_in set) promises →
     Sound rule (setup_in set) (compiled set).image.content promises (compiled set).limit
 

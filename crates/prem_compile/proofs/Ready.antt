@@ -3,11 +3,12 @@ use Rattle.std.proofs.Common.{◌≡◌, ℕ, zero, suc, ◌+◌, ◌≤◌, Lis
 use Rattle.std.specs.Prelude.{All}
 use Rattle.std.specs.List.{AllByRecursion}
 use Rattle.std.proofs.lemmas.List.Elements.{recursion_from_All}
+use Rattle.std.proofs.lemmas.List.{length-map}
 use Rattle.prem_plant.specs.declared.plant.Plant.{Plant}
 use Rattle.prem_plant.specs.declared.plant.Device.{Device}
 use Rattle.prem_plant.specs.declared.layout.PartSize.{PartSize}
 use Rattle.prem_plant.specs.Label.{IsName, AreDistinct}
-use Rattle.prem_plant.specs.Places.{Place, ArePlaces}
+use Rattle.prem_plant.specs.Places.{Extent, ArePlaces}
 use Rattle.prem_plant.specs.Ranges.{Between, IsPlant}
 use Rattle.prem_syntax.specs.Syntax.{Text, ProgramText}
 use Rattle.prem_syntax.specs.Name.{name_bytes}
@@ -33,13 +34,10 @@ use Rattle.prem_tasks.specs.Compiled.{coded_in, parts_in, places_in, placed_in, 
 use Rattle.prem_totals.specs.Limits.{HasJobs}
 use Rattle.prem_telling.specs.There.{IsThere, HasName, HasCode}
 use Rattle.prem_telling.proofs.PartsThere.{parts_there}
-use Rattle.prem_compile.specs.CompiledOf.{task_fact, compiled_of}
+use Rattle.prem_compile.specs.CompiledOf.{compiled_of}
+use Rattle.prem_verdict.specs.Told.{numbered}
 use Rattle.prem_compile.specs.declared.compiled.Compiled.{Compiled}
 use Rattle.prem_compile.specs.Joined.{HasPlaces}
-
-map_count : {A B : Type 0} (f : A → B) (xs : List A) → length (map f xs) ≡ length xs
-map_count f [] = refl
-map_count f (x ∷ xs) = ap suc (map_count f xs)
 
 first_is : {A : Type 0} (x y : A) (xs ys : List A) → x ∷ xs ≡ y ∷ ys → x ≡ y
 first_is x y xs ys e = cc
@@ -68,14 +66,14 @@ names_same (x ∷ xs) (t ∷ ts) (p ∷ ps) e l =
 
 as_many : (xs : List PlacedTask) (ts : List TaskTree) (ps : List ProgramText) → map coded_of xs ≡ coded_all ts ps → length ps ≡ length ts → length xs ≡ length ts
 as_many xs ts ps e l =
-    sym (map_count (λ (x : PlacedTask). x.name.now) xs) ∙ ap (λ (ns : List (List ℕ)). length ns) (names_same xs ts ps e l) ∙ map_count (λ (t : TaskTree). t.name) ts
+    sym (length-map xs (λ (x : PlacedTask). x.name.now)) ∙ ap (λ (ns : List (List ℕ)). length ns) (names_same xs ts ps e l) ∙ length-map ts (λ (t : TaskTree). t.name)
 
 ranges_of : (x : PlacedTask) (t : TaskTree) (p : ProgramText) → coded_of x ≡ head_of t p → stands_in x → IsTaskText t → HasRanges x
 ranges_of x t p here s is =
     let name : x.name.now ≡ t.name = ap (λ (c : Coded). c.name) here in
     let period : x.period ≡ t.period = ap (λ (c : Coded). c.period) here in
     let jobs : x.jobs ≡ t.jobs = ap (λ (c : Coded). c.jobs) here in
-    let globals : length (coded_of x).program.globals ≡ length x.program.now.globals.items = map_count _ x.program.now.globals.items in
+    let globals : length (coded_of x).program.globals ≡ length x.program.now.globals.items = length-map x.program.now.globals.items _ in
     let few = s.few in
     record {
       name = subst IsName (sym name) is.name;
@@ -112,11 +110,11 @@ blocks_are (x ∷ xs) (bs ∷ bss) e =
 
 -- ---- the whole
 
-pub set_is_built : (set : TaskSet) (ts : List TaskTree) (parts : List PartSize) (layout : List Place) (xs : List PlacedTask) (bss : List (List Block)) →
+pub set_is_built : (set : TaskSet) (ts : List TaskTree) (parts : List PartSize) (layout : List Extent) (xs : List PlacedTask) (bss : List (List Block)) →
     IsPlant set.plant → AreDevices set.devices → AreTasks ts → map task_of ts ≡ set.tasks → HasPlaces set parts layout xs → views_of bss ≡ map words_in xs → IsBuilt set.plant xs bss set.devices layout
 set_is_built set ts parts layout xs bss plant devices stated same h blocks =
     let coded : map coded_of xs ≡ coded_all ts (programs_of set.tasks) = h.coded ∙ ap (λ (texts : List TaskText). tasks.coded_of texts (programs_of set.tasks)) (sym same) in
-    let long : length (programs_of set.tasks) ≡ length ts = h.as_many ∙ ap (λ (texts : List TaskText). length texts) (sym same) ∙ map_count task_of ts in
+    let long : length (programs_of set.tasks) ≡ length ts = h.as_many ∙ ap (λ (texts : List TaskText). length texts) (sym same) ∙ length-map ts task_of in
     let count : length xs ≡ length ts = as_many xs ts (programs_of set.tasks) coded long in
     record {
       plant = plant;
@@ -126,14 +124,14 @@ set_is_built set ts parts layout xs bss plant devices stated same h blocks =
       device_count = devices.count;
       each_device = devices.each;
       devices_named = devices.names;
-      same = h.placed ∙ ap (λ (ps : List Place). placed_from set.plant ps (coded_in set)) (sym h.layout_is) ∙ ap (λ (cs : List Coded). placed_from set.plant layout cs) (sym h.coded);
+      same = h.placed ∙ ap (λ (ps : List Extent). placed_from set.plant ps (coded_in set)) (sym h.layout_is) ∙ ap (λ (cs : List Coded). placed_from set.plant layout cs) (sym h.coded);
       coded = blocks_are xs bss blocks;
       few = h.few;
       placed = subst (λ (ps : List PartSize). ArePlaces set.plant.memory ps layout) (h.parts_are ∙ ap (λ (cs : List Coded). parts_of set.plant set.devices cs) (sym h.coded)) h.apart;
     }
 
 -- as plant and devices are lent
-pub lent_is_built : (set : TaskSet) (p : Plant) (ds : List Device) (ts : List TaskTree) (parts : List PartSize) (layout : List Place) (xs : List PlacedTask) (all : List (Vec Block Global)) → p ≡ set.plant → ds ≡ set.devices →
+pub lent_is_built : (set : TaskSet) (p : Plant) (ds : List Device) (ts : List TaskTree) (parts : List PartSize) (layout : List Extent) (xs : List PlacedTask) (all : List (Vec Block Global)) → p ≡ set.plant → ds ≡ set.devices →
     IsPlant p → AreDevices ds → AreTasks ts → map task_of ts ≡ set.tasks → HasPlaces set parts layout xs → map (λ (bs : Vec Block Global). map block_of bs.items) all ≡ map words_in xs →
     IsBuilt p xs (map (λ (bs : Vec Block Global). bs.items) all) ds layout
 lent_is_built set p ds ts parts layout xs all ep ed plant devices stated same h blocks =
@@ -163,11 +161,11 @@ pub record AreReady (set : TaskSet) (parts : List PartSize) (xs : List PlacedTas
   pub jobs : AllByRecursion HasJobs xs
   pub there : All (IsThere set.devices (map coded_of xs)) parts
 
-pub tasks_are_ready : (set : TaskSet) (ts : List TaskTree) (parts : List PartSize) (layout : List Place) (xs : List PlacedTask) →
+pub tasks_are_ready : (set : TaskSet) (ts : List TaskTree) (parts : List PartSize) (layout : List Extent) (xs : List PlacedTask) →
     AreTasks ts → map task_of ts ≡ set.tasks → HasPlaces set parts layout xs → AreReady set parts xs
 tasks_are_ready set ts parts layout xs stated same h =
     let coded : map coded_of xs ≡ coded_all ts (programs_of set.tasks) = h.coded ∙ ap (λ (texts : List TaskText). tasks.coded_of texts (programs_of set.tasks)) (sym same) in
-    let long : length (programs_of set.tasks) ≡ length ts = h.as_many ∙ ap (λ (texts : List TaskText). length texts) (sym same) ∙ map_count task_of ts in
+    let long : length (programs_of set.tasks) ≡ length ts = h.as_many ∙ ap (λ (texts : List TaskText). length texts) (sym same) ∙ length-map ts task_of in
     let ranges : AllByRecursion HasRanges xs = each_in_range xs ts (programs_of set.tasks) coded long h.standing (recursion_from_All IsTaskText ts stated.each) in
     let all : parts_of set.plant set.devices (map coded_of xs) ≡ parts = ap (λ (cs : List Coded). parts_of set.plant set.devices cs) h.coded ∙ sym h.parts_are in
     record {
@@ -181,18 +179,18 @@ lent_there set ds parts xs ed ready = subst (λ (es : List Device). All (IsThere
 
 -- ---- what is told of all parts together
 
-pub compiled_is : (set : TaskSet) (parts : List PartSize) (layout : List Place) (xs : List PlacedTask) (c : Compiled) → HasPlaces set parts layout xs →
+pub compiled_is : (set : TaskSet) (parts : List PartSize) (layout : List Extent) (xs : List PlacedTask) (c : Compiled) → HasPlaces set parts layout xs →
     image_text c.image ≡ image_of set.plant set.devices layout (map coded_of xs) → c.layout ≡ layout → items_of c.parts ≡ parts →
-    map name_bytes (items_of c.names) ≡ map (part_name set.devices (map coded_of xs)) parts → map task_fact (items_of c.intervals) ≡ facts_from set.plant 0 (map placed_of xs) →
+    map name_bytes (items_of c.names) ≡ map (part_name set.devices (map coded_of xs)) parts → map numbered (items_of c.intervals) ≡ facts_from set.plant 0 (map placed_of xs) →
     items_of c.jobs ≡ map (λ (j : JobBound). j.bound) (job_bounds set.plant (map placed_of xs)) → c.limit ≡ limit_of (job_bounds set.plant (map placed_of xs)) → compiled_of c ≡ compiled set
 compiled_is set parts layout xs c h image at all names intervals jobs limit =
     let image_is : image_text c.image ≡ image_of set.plant set.devices (places_in set) (coded_in set) =
-    image ∙ ap (λ (ps : List Place). image_of set.plant set.devices ps (map coded_of xs)) h.layout_is ∙ ap (λ (cs : List Coded). image_of set.plant set.devices (places_in set) cs) h.coded in
+    image ∙ ap (λ (ps : List Extent). image_of set.plant set.devices ps (map coded_of xs)) h.layout_is ∙ ap (λ (cs : List Coded). image_of set.plant set.devices (places_in set) cs) h.coded in
     let layout_is : c.layout ≡ places_in set = at ∙ h.layout_is in
     let parts_are : items_of c.parts ≡ parts_in set = all ∙ h.parts_are in
     let names_are : map name_bytes (items_of c.names) ≡ map (part_name set.devices (coded_in set)) (parts_in set) =
     names ∙ ap (λ (cs : List Coded). map (part_name set.devices cs) parts) h.coded ∙ ap (λ (ps : List PartSize). map (part_name set.devices (coded_in set)) ps) h.parts_are in
-    let intervals_are : map task_fact (items_of c.intervals) ≡ facts_from set.plant 0 (placed_in set) = intervals ∙ ap (λ (ps : List Placed). facts_from set.plant 0 ps) h.placed in
+    let intervals_are : map numbered (items_of c.intervals) ≡ facts_from set.plant 0 (placed_in set) = intervals ∙ ap (λ (ps : List Placed). facts_from set.plant 0 ps) h.placed in
     let jobs_are : items_of c.jobs ≡ map (λ (j : JobBound). j.bound) (job_bounds set.plant (placed_in set)) =
     jobs ∙ ap (λ (ps : List Placed). map (λ (j : JobBound). j.bound) (job_bounds set.plant ps)) h.placed in
     let limit_is : c.limit ≡ limit_of (job_bounds set.plant (placed_in set)) = limit ∙ ap (λ (ps : List Placed). limit_of (job_bounds set.plant ps)) h.placed in

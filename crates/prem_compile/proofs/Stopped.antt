@@ -1,9 +1,10 @@
 -- Where the stages behind code generation stop, and what stands where they don't.
 use Rattle.std.proofs.Common.{◌≡◌, ◌≤◌, ℕ, suc, List, [], ◌∷◌, Option, None, Some, length, map, drop, refl, ap, sym, ◌∙◌, subst, arith}
 use Rattle.std.specs.List.{AllByRecursion}
+use Rattle.std.proofs.lemmas.List.{length-map}
 use Rattle.prem_plant.specs.declared.plant.Plant.{Plant}
 use Rattle.prem_plant.specs.declared.layout.PartSize.{PartSize}
-use Rattle.prem_plant.specs.Places.{Place, ArePlaces, default_places}
+use Rattle.prem_plant.specs.Places.{Extent, ArePlaces, default_places}
 use Rattle.prem_layout.specs.Placed.{Coded, Placed, parts_of, placed_from}
 use Rattle.prem_layout.specs.Parts.{part_count}
 use Rattle.prem_layout.specs.Rules.{LateRule, Refusal, or_else, refused_by, over_tasks, group_five, group_six}
@@ -47,7 +48,7 @@ at_memory set tasks stop parts h are s =
 
 -- ---- places
 
-tasks_placed : (p : Plant) (places : List Place) (cs : List Coded) → map (λ (t : Placed). t.task) (placed_from p places cs) ≡ cs
+tasks_placed : (p : Plant) (places : List Extent) (cs : List Coded) → map (λ (t : Placed). t.task) (placed_from p places cs) ≡ cs
 tasks_placed p places [] = refl
 tasks_placed p places (c ∷ cs) = ap (λ (xs : List Coded). c ∷ xs) (tasks_placed p (drop (part_count c.program) places) cs)
 
@@ -55,22 +56,18 @@ tasks_coded : (tasks : List PlacedTask) → map coded_of tasks ≡ map (λ (t : 
 tasks_coded [] = refl
 tasks_coded (t ∷ ts) = ap (λ (xs : List Coded). coded_of t ∷ xs) (tasks_coded ts)
 
-map_count : {A B : Type 0} (f : A → B) (xs : List A) → length (map f xs) ≡ length xs
-map_count f [] = refl
-map_count f (x ∷ xs) = ap suc (map_count f xs)
-
 -- all parts of a set have places
-pub set_has_places : (set : TaskSet) (tasks : List CodedTask) (parts : List PartSize) (layout : List Place) (placed : List PlacedTask) → HasCode set tasks → parts ≡ parts_in set → length parts ≤ 100000 →
+pub set_has_places : (set : TaskSet) (tasks : List CodedTask) (parts : List PartSize) (layout : List Extent) (placed : List PlacedTask) → HasCode set tasks → parts ≡ parts_in set → length parts ≤ 100000 →
     layout ≡ default_places parts → ArePlaces set.plant.memory parts layout → refused_by None (group_five set.plant (default_places parts)) ≡ None →
     map placed_of placed ≡ placed_from set.plant layout (map coded_task tasks) → AllByRecursion (IsPlacedTask set.plant) placed → AllByRecursion stands_in placed → HasPlaces set parts layout placed
 set_has_places set tasks parts layout placed h are few laid apart none same each standing =
     let layout_is : layout ≡ places_in set = laid ∙ ap default_places are in
     let placed_is : map placed_of placed ≡ placed_in set =
-    same ∙ ap (λ (places : List Place). placed_from set.plant places (map coded_task tasks)) layout_is ∙ ap (λ (cs : List Coded). placed_from set.plant (places_in set) cs) h.tasks_are.same in
+    same ∙ ap (λ (places : List Extent). placed_from set.plant places (map coded_task tasks)) layout_is ∙ ap (λ (cs : List Coded). placed_from set.plant (places_in set) cs) h.tasks_are.same in
     let coded : map coded_of placed ≡ coded_in set =
     tasks_coded placed ∙ ap (λ (ts : List Placed). map (λ (t : Placed). t.task) ts) placed_is ∙ tasks_placed set.plant (places_in set) (coded_in set) in
     let long : length placed ≡ length tasks =
-    sym (map_count coded_of placed) ∙ ap (λ (cs : List Coded). length cs) (coded ∙ sym h.tasks_are.same) ∙ map_count coded_task tasks in
+    sym (length-map placed coded_of) ∙ ap (λ (cs : List Coded). length cs) (coded ∙ sym h.tasks_are.same) ∙ length-map tasks coded_task in
     let count = h.tasks_are.count in
     let places = apart.count in
     let kept : memory_rule set ≡ None = ap (λ (ps : List PartSize). refused_by None (group_five set.plant (default_places ps))) (sym are) ∙ none in
@@ -89,7 +86,7 @@ set_has_places set tasks parts layout placed h are few laid apart none same each
     }
 
 -- as plant, parts and tasks are lent
-pub lent_has_places : (set : TaskSet) (tasks : List CodedTask) (p : Plant) (lent parts shown : List PartSize) (layout : List Place) (placed told : List PlacedTask) → p ≡ set.plant → lent ≡ parts → shown ≡ parts → told ≡ placed →
+pub lent_has_places : (set : TaskSet) (tasks : List CodedTask) (p : Plant) (lent parts shown : List PartSize) (layout : List Extent) (placed told : List PlacedTask) → p ≡ set.plant → lent ≡ parts → shown ≡ parts → told ≡ placed →
     HasCode set tasks → parts ≡ parts_in set → length parts ≤ 100000 → layout ≡ default_places lent → ArePlaces p.memory lent layout → refused_by None (group_five p (default_places lent)) ≡ None →
     map placed_of placed ≡ placed_from p layout (map coded_task tasks) → AllByRecursion (IsPlacedTask p) placed → AllByRecursion stands_in placed → HasPlaces set shown layout told
 lent_has_places set tasks p lent parts shown layout placed told ep el es et h are few laid apart none same each standing =
@@ -112,13 +109,13 @@ jump_rule set = over_tasks group_six (placed_in set)
 abbrev behind_jumps : TaskSet → Option (Refusal LateRule)
 behind_jumps set = broken_behind set.plant (coded_in set) (placed_in set)
 
-pub at_jumps : (set : TaskSet) (parts : List PartSize) (layout : List Place) (tasks : List PlacedTask) (stop : Stop) → HasPlaces set parts layout tasks →
+pub at_jumps : (set : TaskSet) (parts : List PartSize) (layout : List Extent) (tasks : List PlacedTask) (stop : Stop) → HasPlaces set parts layout tasks →
     Stops stop (late_refusal (over_tasks group_six (map placed_of tasks))) → Stops stop (broken set)
 at_jumps set parts layout tasks stop h s =
     let here : Stops stop (late_refusal (jump_rule set)) = subst (λ (ts : List Placed). Stops stop (late_refusal (over_tasks group_six ts))) h.placed s in
     first_stops stop (late_refusal (jump_rule set)) (late_refusal (behind_jumps set)) (broken set) here (late_first (jump_rule set) (behind_jumps set) (broken set) h.broken_is)
 
-behind_is : (set : TaskSet) (parts : List PartSize) (layout : List Place) (tasks : List PlacedTask) → HasPlaces set parts layout tasks → over_tasks group_six (map placed_of tasks) ≡ None →
+behind_is : (set : TaskSet) (parts : List PartSize) (layout : List Extent) (tasks : List PlacedTask) → HasPlaces set parts layout tasks → over_tasks group_six (map placed_of tasks) ≡ None →
     broken set ≡ late_refusal (broken_behind set.plant (map coded_of tasks) (map placed_of tasks))
 behind_is set parts layout tasks h none =
     let reach : jump_rule set ≡ None = ap (λ (ts : List Placed). over_tasks group_six ts) (sym h.placed) ∙ none in
@@ -126,11 +123,11 @@ behind_is set parts layout tasks h none =
     ∙ ap (λ (cs : List Coded). late_refusal (broken_behind set.plant cs (placed_in set))) (sym h.coded)
     ∙ ap (λ (ts : List Placed). late_refusal (broken_behind set.plant (map coded_of tasks) ts)) (sym h.placed)
 
-pub at_rules : (set : TaskSet) (parts : List PartSize) (layout : List Place) (tasks : List PlacedTask) (stop : Stop) → HasPlaces set parts layout tasks → over_tasks group_six (map placed_of tasks) ≡ None →
+pub at_rules : (set : TaskSet) (parts : List PartSize) (layout : List Extent) (tasks : List PlacedTask) (stop : Stop) → HasPlaces set parts layout tasks → over_tasks group_six (map placed_of tasks) ≡ None →
     Stops stop (late_refusal (broken_behind set.plant (map coded_of tasks) (map placed_of tasks))) → Stops stop (broken set)
 at_rules set parts layout tasks stop h none s = same_stop stop _ _ (behind_is set parts layout tasks h none) s
 
 -- no rule is broken
-pub nothing_broken : (set : TaskSet) (parts : List PartSize) (layout : List Place) (tasks : List PlacedTask) → HasPlaces set parts layout tasks → over_tasks group_six (map placed_of tasks) ≡ None →
+pub nothing_broken : (set : TaskSet) (parts : List PartSize) (layout : List Extent) (tasks : List PlacedTask) → HasPlaces set parts layout tasks → over_tasks group_six (map placed_of tasks) ≡ None →
     broken_behind set.plant (map coded_of tasks) (map placed_of tasks) ≡ None → broken set ≡ None
 nothing_broken set parts layout tasks h none behind = behind_is set parts layout tasks h none ∙ ap (λ (x : Option (Refusal LateRule)). late_refusal x) behind

@@ -3,17 +3,14 @@ use Rattle.std.specs.Prelude.{◌≡◌, ℕ, List, map, None, Some, Result, Mat
 use Rattle.prem_list.specs.Sequence.{items_of}
 use Rattle.prem_syntax.specs.Name.{name_bytes}
 use Rattle.prem_build_image.specs.Built.{image_text}
-use Rattle.prem_facts.specs.FactOf.{fact_of}
-use Rattle.prem_facts.specs.declared.facts.IntervalFact.{IntervalFact}
 use Rattle.prem_tasks.specs.Broken.{TaskSet, broken}
-use Rattle.prem_tasks.specs.Compiled.{TaskFact, CompiledText, compiled}
+use Rattle.prem_tasks.specs.Compiled.{CompiledText, compiled}
 use Rattle.prem_tasks.specs.Told.{refusal_of}
+use Rattle.prem_verdict.specs.Told.{numbered}
+use Rattle.prem_sets_sound.specs.Sound.{IsSoundSet}
 use Rattle.prem_compile.specs.declared.compiled.Compiled.{Compiled}
 use Rattle.prem_tasks.specs.declared.fail.CompileFail.{CompileFail}
 use Rattle.prem_tasks.specs.declared.fail.CompileFail.TheVariants.{Refused, OutOfMemory}
-
-abbrev pub task_fact : IntervalFact → TaskFact
-task_fact f = (f.task, fact_of f)
 
 abbrev pub compiled_of : Compiled → CompiledText
 compiled_of c = record {
@@ -21,15 +18,16 @@ compiled_of c = record {
   layout = c.layout;
   parts = items_of c.parts;
   names = map name_bytes (items_of c.names);
-  intervals = map task_fact (items_of c.intervals);
+  intervals = map numbered (items_of c.intervals);
   jobs = items_of c.jobs;
   limit = c.limit;
 }
 
--- a set that breaks no rule is compiled as it is meant
+-- a set that breaks no rule is compiled as it is meant, and its image is sound
 pub record IsCompiled (set : TaskSet) (c : Compiled) : Type 0 where
   pub lawful : broken set ≡ None
   pub compiled : compiled_of c ≡ compiled set
+  pub sound : IsSoundSet set
 
 -- a refusal is the first rule that the set breaks; that memory is out tells nothing
 abbrev pub IsRefused : TaskSet → CompileFail → Type 0

@@ -1,4 +1,0 @@
-pub mod Small
-pub mod Code
-pub mod Image
-pub mod Runs
