@@ -7,7 +7,7 @@ use Rattle.prem_list.specs.Sequence.{items_of}
 use Rattle.prem_image.specs.declared.image.Image.{Image}
 use Rattle.prem_lru.specs.Entries.{to_front}
 use Rattle.prem_gate.specs.declared.request.RunInput.{RunInput}
-use Rattle.prem_cycle.specs.State.{State}
+use Rattle.prem_cycle.specs.State.{MachineState}
 use Rattle.prem_cycle.specs.Run.{cycles_of}
 use Rattle.prem_cycle.specs.Inputs.{image_run, setup_of, words_of}
 use Rattle.prem_cycle.specs.FactsOf.{Report, report_of, stop_of}
@@ -118,11 +118,11 @@ pub goes_from_start : (image : Image) (input : RunInput) (n : ℕ) →
 unfolding cycles_of
 goes_from_start image input n = refl
 
-pub stop_is : (stop : Stop) (limit : ℕ) (s : State) → Some stop ≡ stop_of limit s → stop ≡ stop_at limit s
+pub stop_is : (stop : Stop) (limit : ℕ) (s : MachineState) → Some stop ≡ stop_of limit s → stop ≡ stop_at limit s
 stop_is stop limit s is = ap (λ o. unwrap_or o Limit) is
 
 -- what is told, from what the machine says of itself
-pub told_is : (i : Parts) (times : Bool) (limit : ℕ) (s : State) (stop : Stop) (status : Status) (text : List ℕ) (now : ℕ) (r : Report) → stop ≡ stop_at limit s →
+pub told_is : (i : Parts) (times : Bool) (limit : ℕ) (s : MachineState) (stop : Stop) (status : Status) (text : List ℕ) (now : ℕ) (r : Report) → stop ≡ stop_at limit s →
     status ≡ stop_status stop → now ≡ s.now → r ≡ report_of s → text ≡ report_text i.tasks i.devices times now r stop → reply status text ≡ told_reply i times limit s
 told_is i times limit s stop status text now r stops ends at told is =
     let texts : text ≡ report_text i.tasks i.devices times s.now (report_of s) (stop_at limit s) =

@@ -6,7 +6,7 @@ use Rattle.prem_lru.specs.Entries.{to_front}
 use Rattle.prem_gate.specs.declared.request.RunInput.{RunInput}
 use Rattle.prem_cycle.specs.declared.state.Stop.{Stop}
 use Rattle.prem_cycle.specs.declared.state.Stop.TheVariants.{Finished, Trap, LogFull, Limit}
-use Rattle.prem_cycle.specs.State.{Setup, State}
+use Rattle.prem_cycle.specs.State.{Setup, MachineState}
 use Rattle.prem_cycle.specs.Run.{run_of}
 use Rattle.prem_cycle.specs.FactsOf.{report_of, stop_of}
 use Rattle.prem_cycle.specs.Inputs.{words_of}
@@ -27,11 +27,11 @@ abbrev pub setup_in : Parts → Setup
 setup_in i = record { plant = i.plant; tasks = i.tasks; devices = i.devices }
 
 -- the state after n cycles
-abbrev pub state_at : Parts → RunText → ℕ → State
+abbrev pub state_at : Parts → RunText → ℕ → MachineState
 state_at i input n = run_of to_front (setup_in i) i.content input.words input.requests n
 
 -- why the run up to a cycle stops
-abbrev pub stop_at : ℕ → State → Stop
+abbrev pub stop_at : ℕ → MachineState → Stop
 stop_at limit s = unwrap_or (stop_of limit s) Limit
 
 -- a run that traps has a status of its own
@@ -41,7 +41,7 @@ stop_status (Trap task pc cause) = Trapped
 stop_status (LogFull length) = Done
 stop_status Limit = Done
 
-abbrev pub told_reply : Parts → (times : Bool) → (limit : ℕ) → State → Reply
+abbrev pub told_reply : Parts → (times : Bool) → (limit : ℕ) → MachineState → Reply
 told_reply i times limit s =
     (stop_status (stop_at limit s), report_text i.tasks i.devices times s.now (report_of s) (stop_at limit s))
 

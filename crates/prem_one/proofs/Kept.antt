@@ -3,7 +3,7 @@ use Rattle.std.proofs.Common.{◌≡◌, ℕ, ◌+◌, ◌^◌, ◌<◌, ◌≤�
 use Rattle.std.specs.Prelude.{◌==◌, if◌then◌else◌, option_map, slice_index}
 use Rattle.std.proofs.lemmas.Bool.Decides.{nat_tests}
 use Rattle.prem_plant.specs.Ranges.{default_plant}
-use Rattle.prem_plant.specs.Places.{default_places}
+use Rattle.prem_plant.specs.Places.{Extent, default_places}
 use Rattle.prem_syntax.specs.Syntax.{Text, ProgramText}
 use Rattle.prem_token.specs.declared.fail.FrontFail.{FrontFail}
 use Rattle.prem_text.specs.Texts.{reads}
@@ -13,16 +13,25 @@ use Rattle.prem_meaning.specs.Statements.{is_marked}
 use Rattle.prem_ranges.specs.GroupThree.{turn_bounds}
 use Rattle.prem_layout.specs.Bounds.{job_bound_of, limit_of}
 use Rattle.prem_layout.specs.Facts.{IntervalFact, interval_facts}
-use Rattle.prem_layout.specs.Placed.{Coded, parts_of, placed_from}
+use Rattle.prem_layout.specs.Placed.{Coded, Placed, parts_of, placed_at, placed_from, task_places}
 use Rattle.prem_layout.specs.Rules.{LateRule, BoundTooLarge, or_else, Refusal, refused_by, greatest_bound, if_large, marked_bound, facts_behind, large_bound, group_four, group_five, group_six, group_seven, group_eight, group_nine, group_ten}
 use Rattle.prem_layout.specs.Broken.{broken_late}
 use Rattle.prem_layout.specs.Image.{image_of}
 use Rattle.prem_tasks.specs.Told.{Told}
 use Rattle.prem_tasks.specs.Broken.{unread, program_before, group_two, group_three, coded_one, coded_of, bounded, late_refusal, broken_programs, broken}
 use Rattle.prem_tasks.specs.Compiled.{compiled, job_bounds}
-use Rattle.prem_small_image.specs.Compiled.{places_alone, placed_alone}
 use Rattle.prem_one.specs.One.{one_task, one_set}
 use Rattle.prem_one.proofs.Jobs.{job_below}
+
+-- ---- a task alone
+
+-- the default places of its parts, where there is no other task and no device
+abbrev places_alone : Coded → List Extent
+places_alone c = default_places (parts_of default_plant [] (c ∷ []))
+
+-- the task at these places
+abbrev pub placed_alone : Coded → Placed
+placed_alone c = placed_at default_plant c (task_places c.program (places_alone c))
 
 -- ---- answers that are none
 

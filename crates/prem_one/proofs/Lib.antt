@@ -4,7 +4,3 @@ pub mod Sets
 pub mod Stages
 pub mod Told
 pub mod Runs
-pub mod Charges
-pub mod Begins
-pub mod Small
-pub mod Samples

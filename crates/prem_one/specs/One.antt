@@ -2,7 +2,7 @@
 use Rattle.std.specs.Prelude.{ℕ, List, [], ◌∷◌, ◌++◌, Option, None, Some, Ok, codes, decimal}
 use Rattle.prem_plant.specs.Ranges.{default_plant}
 use Rattle.prem_lru.specs.Entries.{to_front}
-use Rattle.prem_cycle.specs.State.{Setup, Counts, State}
+use Rattle.prem_cycle.specs.State.{Setup, Counts, MachineState}
 use Rattle.prem_cycle.specs.Run.{run_of}
 use Rattle.prem_cycle.specs.FactsOf.{TaskReport, report_of}
 use Rattle.prem_layout.specs.Rules.{Refusal}
@@ -31,11 +31,11 @@ abbrev pub setup_in : ImageText → Setup
 setup_in i = record { plant = i.plant; tasks = i.tasks; devices = i.devices }
 
 -- the state after n cycles of an image of one task, without input
-abbrev pub state_at : ImageText → ℕ → State
+abbrev pub state_at : ImageText → ℕ → MachineState
 state_at i n = run_of to_front (setup_in i) i.content ([] ∷ []) [] n
 
 -- what a set of one task is compiled to runs up to its limit
-abbrev pub state_of : CompiledText → State
+abbrev pub state_of : CompiledText → MachineState
 state_of c = state_at c.image c.limit
 
 -- ---- what is told of it
@@ -57,7 +57,7 @@ run_lines cycles n =
     ++ (codes " misses " ++ (decimal n.misses ++ (codes " writebacks " ++ (decimal n.writebacks ++ codes "\n")))))))
 
 -- the outputs of a run, its cycles and its counts
-abbrev pub run_text : State → List ℕ
+abbrev pub run_text : MachineState → List ℕ
 run_text s = output_lines (first_outputs (report_of s).tasks) ++ run_lines s.now (report_of s).counts
 
 -- ---- the answer

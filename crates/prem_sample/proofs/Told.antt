@@ -8,7 +8,7 @@ use Rattle.prem_tasks.specs.Broken.{TaskText, TaskSet, broken}
 use Rattle.prem_tasks.specs.Compiled.{CompiledText, compiled}
 use Rattle.prem_compile.specs.declared.compiled.Compiled.{Compiled}
 use Rattle.prem_compile.specs.CompiledOf.{IsCompiled, compiled_of}
-use Rattle.prem_cycle.specs.State.{State}
+use Rattle.prem_cycle.specs.State.{MachineState}
 use Rattle.prem_cycle.specs.FactsOf.{Report, report_of}
 use Rattle.prem_imagefile.specs.Parts.{Parts}
 use Rattle.prem_answer.specs.declared.status.Status.{Status}
@@ -52,7 +52,7 @@ refused_is seed set refusal tasks reply is first same told =
 abbrev reply : Status → List ℕ → Reply
 reply status text = (status, text)
 
-pub run_is : (seed : ℕ) (i : Parts) (limit : ℕ) (s : State) (stop : Stop) (text : List ℕ) (now : ℕ) (r : Report) → stop ≡ stop_at limit s →
+pub run_is : (seed : ℕ) (i : Parts) (limit : ℕ) (s : MachineState) (stop : Stop) (text : List ℕ) (now : ℕ) (r : Report) → stop ≡ stop_at limit s →
     now ≡ s.now → r ≡ report_of s → text ≡ sample_text seed i.tasks i.devices now r stop → reply Done text ≡ told_reply seed i limit s
 run_is seed i limit s stop text now r stops at told is =
     let texts : text ≡ sample_text seed i.tasks i.devices s.now (report_of s) (stop_at limit s) =

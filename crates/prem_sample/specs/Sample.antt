@@ -4,7 +4,7 @@ use Rattle.std.specs.List.{flat_map, sum}
 use Rattle.prem_image.specs.declared.image.DeviceRecord.{DeviceRecord}
 use Rattle.prem_image.specs.declared.image.TaskRecord.{TaskRecord}
 use Rattle.prem_cycle.specs.declared.state.Stop.{Stop}
-use Rattle.prem_cycle.specs.State.{State}
+use Rattle.prem_cycle.specs.State.{MachineState}
 use Rattle.prem_cycle.specs.FactsOf.{TaskReport, Report, report_of}
 use Rattle.prem_imagefile.specs.Parts.{Parts}
 use Rattle.prem_layout.specs.Rules.{Refusal}
@@ -43,7 +43,7 @@ sample_text seed tasks devices cycles r stop =
 -- ---- the answer
 
 -- what is told of a state of a run that was to go up to a cycle
-abbrev pub told_reply : ℕ → Parts → (limit : ℕ) → State → Reply
+abbrev pub told_reply : ℕ → Parts → (limit : ℕ) → MachineState → Reply
 told_reply seed i limit s =
     (Done, sample_text seed i.tasks i.devices s.now (report_of s) (stop_at limit s))
 

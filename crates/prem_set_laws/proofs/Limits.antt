@@ -8,7 +8,7 @@ use Rattle.std.proofs.lemmas.List.{length-map}
 use Rattle.std.proofs.lemmas.List.Elements.{All-head, All-tail}
 use Rattle.prem_list.specs.Sequence.{items_of}
 use Rattle.prem_plant.specs.declared.plant.Plant.{Plant}
-use Rattle.prem_plant.specs.Places.{Place}
+use Rattle.prem_plant.specs.Places.{Extent}
 use Rattle.prem_syntax.specs.Syntax.{Text, ProgramText}
 use Rattle.prem_meaning.specs.GroupTwo as meaning
 use Rattle.prem_meaning.specs.Resolved.{Routine}
@@ -58,7 +58,7 @@ InRange t = (t.period ≤ 4294967295) × (t.jobs ≤ 65535)
 abbrev IsSmall : JobBound → Type 0
 IsSmall j = ((j.period ≤ 4294967295) × (j.jobs ≤ 65535)) × (j.bound ≤ 1099511627776)
 
-bounds_are_small : (p : Plant) (m n : ℕ) (places : List Place) (ts : List TaskText) (qs : List ProgramText) → AllByRecursion InRange ts →
+bounds_are_small : (p : Plant) (m n : ℕ) (places : List Extent) (ts : List TaskText) (qs : List ProgramText) → AllByRecursion InRange ts →
     first_among group_two m qs ≡ None → first_among (group_eight p) n (placed_from p places (coded_of ts qs)) ≡ None →
     AllByRecursion IsSmall (job_bounds p (placed_from p places (coded_of ts qs)))
 bounds_are_small p m n places [] qs ranges two eight = tt
@@ -76,7 +76,7 @@ bounds_are_small p m n places (t ∷ ts) (q ∷ qs) ranges two eight =
     (omega (arith, job_below (slice_index (turn_bounds q)) q formed)) in
     ((ranges.0, small), bounds_are_small p (m + 1) (n + 1) rest ts qs ranges.1 others (none_second (refused_by (Some n) (group_eight p placed)) behind eight))
 
-few_bounds : (p : Plant) (places : List Place) (ts : List TaskText) (qs : List ProgramText) → length (job_bounds p (placed_from p places (coded_of ts qs))) ≤ length ts
+few_bounds : (p : Plant) (places : List Extent) (ts : List TaskText) (qs : List ProgramText) → length (job_bounds p (placed_from p places (coded_of ts qs))) ≤ length ts
 few_bounds p places [] qs = omega arith
 few_bounds p places (t ∷ ts) [] = omega arith
 few_bounds p places (t ∷ ts) (q ∷ qs) =

@@ -7,7 +7,7 @@ use Rattle.prem_plant.specs.declared.plant.Plant.{Plant}
 use Rattle.prem_plant.specs.declared.plant.Device.{Device}
 use Rattle.prem_plant.specs.declared.layout.PartKind.TheVariants.{Stack}
 use Rattle.prem_plant.specs.declared.layout.PartSize.{PartSize}
-use Rattle.prem_plant.specs.Places.{Place, places_from, default_places}
+use Rattle.prem_plant.specs.Places.{Extent, places_from, default_places}
 use Rattle.prem_image.specs.Records.{task_names}
 use Rattle.prem_gate.specs.declared.request.Request.{Request}
 use Rattle.prem_syntax.specs.Syntax.{Text, GlobalVariable, ProgramText}
@@ -60,7 +60,7 @@ names_are_stated [] ps count = refl
 names_are_stated (t ∷ ts) [] count = absurd (omega (arith, count))
 names_are_stated (t ∷ ts) (p ∷ ps) count = ap (λ (xs : List Text). t.name ∷ xs) (names_are_stated ts ps (omega (arith, count)))
 
-names_are_placed : (p : Plant) (places : List Place) (cs : List Coded) → task_names (map task_record (placed_from p places cs)) ≡ coded_names cs
+names_are_placed : (p : Plant) (places : List Extent) (cs : List Coded) → task_names (map task_record (placed_from p places cs)) ≡ coded_names cs
 names_are_placed p places [] = refl
 names_are_placed p places (c ∷ cs) = ap (λ (xs : List Text). c.name ∷ xs) (names_are_placed p (drop (part_count c.program) places) cs)
 
@@ -129,7 +129,7 @@ areas_left p ds cs h =
 
 -- ---- the devices
 
-devices_are_recorded : (ds : List Device) (places : List Place) → length places ≡ length ds → devices_in (device_records ds places) ≡ ds
+devices_are_recorded : (ds : List Device) (places : List Extent) → length places ≡ length ds → devices_in (device_records ds places) ≡ ds
 devices_are_recorded [] places count = refl
 devices_are_recorded (d ∷ ds) [] count = absurd (omega (arith, count))
 devices_are_recorded (d ∷ ds) (p ∷ places) count = ap (λ (xs : List Device). d ∷ xs) (devices_are_recorded ds places (omega (arith, count)))

@@ -4,7 +4,7 @@ use Rattle.std.specs.Int.{w32, from_le_bytes}
 use Rattle.prem_plant.specs.declared.layout.PartKind.{PartKind}
 use Rattle.prem_plant.specs.declared.layout.PartKind.TheVariants.{Start, Code, Stub, Global, Stack, Area}
 use Rattle.prem_plant.specs.declared.layout.PartSize.{PartSize}
-use Rattle.prem_plant.specs.Places.{Place}
+use Rattle.prem_plant.specs.Places.{Extent}
 use Rattle.prem_syntax.specs.Syntax.{Text}
 use Rattle.prem_asm.specs.Listing.{hex_word, listing}
 use Rattle.prem_tasks.specs.Compiled.{CompiledText}
@@ -13,7 +13,7 @@ use Rattle.prem_sheet.specs.Names.{first_name, rest_names}
 -- ---- words
 
 -- the bytes of a place
-abbrev pub bytes_at : List ℕ → Place → List ℕ
+abbrev pub bytes_at : List ℕ → Extent → List ℕ
 bytes_at content p = take (p.1 - p.0) (drop p.0 content)
 
 -- bytes by fours, as little endian words
@@ -30,11 +30,11 @@ abbrev pub part_line : List ℕ → Text → ℕ → List ℕ
 part_line kind name at = codes "part " ++ (kind ++ (codes " " ++ (name ++ (codes " " ++ (hex_word at ++ codes "\n")))))
 
 -- a part that has code, and its words
-abbrev pub code_text : List ℕ → List ℕ → Text → Place → List ℕ
+abbrev pub code_text : List ℕ → List ℕ → Text → Extent → List ℕ
 code_text content kind name p = part_line kind name p.0 ++ listing p.0 (words_of (bytes_at content p))
 
 -- a task is told where it starts
-abbrev pub placed_text : List ℕ → PartKind → Text → Place → List ℕ
+abbrev pub placed_text : List ℕ → PartKind → Text → Extent → List ℕ
 placed_text content Start name p = task_line name ++ code_text content (codes "start") name p
 placed_text content (Code f) name p = code_text content (codes "code") name p
 placed_text content (Stub f) name p = code_text content (codes "stub") name p
@@ -42,12 +42,12 @@ placed_text content (Global g) name p = []
 placed_text content Stack name p = []
 placed_text content (Area d) name p = []
 
-unfoldable pub part_text : List ℕ → PartKind → Text → Option Place → List ℕ
+unfoldable pub part_text : List ℕ → PartKind → Text → Option Extent → List ℕ
 part_text content kind name None = []
 part_text content kind name (Some p) = placed_text content kind name p
 
 -- the parts from the n-th on
-abbrev pub parts_text : List ℕ → List Place → ℕ → List PartSize → List Text → List ℕ
+abbrev pub parts_text : List ℕ → List Extent → ℕ → List PartSize → List Text → List ℕ
 parts_text content places n [] names = []
 parts_text content places n (part ∷ parts) names =
     part_text content part.kind (first_name names) (slice_get places n) ++ parts_text content places (n + 1) parts (rest_names names)

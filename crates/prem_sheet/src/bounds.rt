@@ -4,7 +4,8 @@ ghost use Rattle.std.specs.List.{flat_map};
 ghost use Rattle.prem_list.specs.Sequence.{items_of};
 ghost use Rattle.prem_syntax.specs.Name.{name_bytes};
 ghost use Rattle.prem_facts.specs.FactOf.{fact_of};
-ghost use Rattle.prem_compile.specs.CompiledOf.{compiled_of, task_fact};
+ghost use Rattle.prem_compile.specs.CompiledOf.{compiled_of};
+ghost use Rattle.prem_verdict.specs.Told.{numbered};
 ghost use Rattle.prem_sheet.specs.Names.{first_name, rest_names};
 ghost use Rattle.prem_sheet.specs.Check.{bound_line, check_text, fact_text, interval_text, part_text, parts_text};
 
@@ -50,7 +51,7 @@ fn push_interval(
     functions: &[Name],
     fact: &IntervalFact,
 ) -> Result<(), AllocError>
-    ensures { OnOk result (text.new.items ≡ text.old.items ++ interval_text task (map name_bytes functions.now) (task_fact fact.now)) }
+    ensures { OnOk result (text.new.items ≡ text.old.items ++ interval_text task (map name_bytes functions.now) (numbered fact.now)) }
 {
     if fact.task != task {
         return Ok(());
@@ -68,7 +69,7 @@ fn push_intervals(
     functions: &[Name],
     facts: &[IntervalFact],
 ) -> Result<(), AllocError>
-    ensures { OnOk result (text.new.items ≡ text.old.items ++ flat_map (interval_text task (map name_bytes functions.now)) (map task_fact facts.now)) }
+    ensures { OnOk result (text.new.items ≡ text.old.items ++ flat_map (interval_text task (map name_bytes functions.now)) (map numbered facts.now)) }
 {
     for fact in facts {
         push_interval(alloc, text, task, functions, fact)?;

@@ -3,7 +3,7 @@ use Rattle.std.specs.Prelude.{◌≡◌, ℕ, List, [], ◌∷◌, ◌++◌, Opt
 use Rattle.std.specs.List.{flat_map}
 use Rattle.prem_syntax.specs.Syntax.{ProgramText}
 use Rattle.prem_meaning.specs.Expressions.{Outcome}
-use Rattle.prem_meaning.specs.Statements.{State}
+use Rattle.prem_meaning.specs.Statements.{ProgramState}
 use Rattle.prem_meaning.specs.Source.{source}
 use Rattle.prem_layout.specs.Rules.{Refusal}
 use Rattle.prem_tasks.specs.Told.{Told}
@@ -16,7 +16,7 @@ use Rattle.prem_refusal.specs.Texts.{refused_reply}
 use Rattle.prem_sources.specs.Sources.{reading_set, reading_run}
 
 -- the outputs of a run, and none where it goes wrong, as no run of a program does that breaks no rule
-abbrev pub outputs_in : Outcome State → List ℕ
+abbrev pub outputs_in : Outcome ProgramState → List ℕ
 outputs_in (Ok s) = s.outputs
 outputs_in (Err line) = []
 

@@ -1,4 +1,11 @@
 pub mod Written
+pub mod Readings
+pub mod Values
+pub mod OneTask
+pub mod One
+pub mod Commands
+pub mod Samples
+pub mod Headline
 pub mod Told
 pub mod Complete
 pub mod Rows

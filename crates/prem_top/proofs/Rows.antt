@@ -4,17 +4,14 @@ use Rattle.std.specs.Prelude.{codes}
 use Rattle.std.specs.Fmt.{digits}
 use Rattle.clap.proofs.OnLiterals.{clap_on_literals}
 use Rattle.prem_io.specs.Files.{Files}
-use Rattle.prem_cycle.specs.State.{State}
-use Rattle.prem_cycle.specs.FactsOf.{TaskReport, report_of}
-use Rattle.prem_tasks.specs.Compiled.{compiled}
+use Rattle.prem_cycle.specs.FactsOf.{report_of}
 use Rattle.prem_command.specs.Words.{one, command_of, name_of, read_by}
 use Rattle.prem_answer.specs.declared.status.Status.{Status}
 use Rattle.prem_answer.specs.declared.status.Status.TheVariants.{Done, ReadFault, WriteFault}
 use Rattle.prem_answer.specs.Stages.{Reply}
 use Rattle.prem_sources.specs.Sources.{source_limit}
-use Rattle.prem_one.specs.One.{first_outputs, one_set, output_lines, run_lines, state_of}
-use Rattle.prem_one.proofs.Small.{small_is_kept}
-use Rattle.prem_one.proofs.Samples.{five_text, five_is_small, five_finishes}
+use Rattle.prem_one.specs.One.{output_lines, run_lines}
+use Rattle.prem_top.proofs.Samples.{five_text, five_state, five_is_unbroken, five_is_told}
 use Rattle.prem_top.specs.Answer.{Answered}
 use Rattle.prem_top.specs.Complete.{IsThere, Succeeds, one_succeeds, Completes}
 use Rattle.prem_top.proofs.Complete.{complete_is}
@@ -24,9 +21,6 @@ five_words = codes "one" ∷ codes "five.c" ∷ []
 
 abbrev five_files : Files
 five_files = (codes "five.c", five_text) ∷ []
-
-abbrev five_state : State
-five_state = state_of (compiled (one_set five_text))
 
 abbrev five_reply : Reply
 five_reply = (Done, codes "out 5\n" ++ run_lines five_state.now (report_of five_state).counts)
@@ -42,16 +36,14 @@ five_line : output_lines (5 ∷ []) ≡ codes "out 5\n"
 unfolding digits
 five_line = refl
 
-abbrev with_lines : List ℕ → Reply
-with_lines lines = (Done, lines ++ run_lines five_state.now (report_of five_state).counts)
-
-abbrev lines_of : List TaskReport → List ℕ
-lines_of tasks = output_lines (first_outputs tasks)
+abbrev done : List ℕ → Reply
+done text = (Done, text)
 
 five_succeeds : Succeeds five_files (one (codes "five.c")) five_reply
 five_succeeds =
-    subst (λ lines. Succeeds five_files (one (codes "five.c")) (with_lines lines)) (ap lines_of five_finishes.report ∙ five_line)
-    (one_succeeds five_is_there (small_is_kept five_text _ five_is_small))
+    subst (λ text. Succeeds five_files (one (codes "five.c")) (done text))
+    (five_is_told ∙ ap (λ lines. lines ++ run_lines five_state.now (report_of five_state).counts) five_line)
+    (one_succeeds five_is_there five_is_unbroken)
 
 -- so a call with these words over these files writes this text, unless it meets a fault or memory is out
 five_completes : (old new : Option (List ℕ)) (status : Status) → Answered five_words (Some five_files) old new status → status ≢ ReadFault → status ≢ WriteFault → Completes five_reply old new status

@@ -16,6 +16,7 @@ use Rattle.prem_source.proofs.Source.{source_is_fine}
 use Rattle.prem_running.proofs.Runs.{run_is_fine}
 use Rattle.prem_sample.proofs.Told.{sample_is_fine}
 use Rattle.prem_top.specs.Answer.{asked_answer, command_answer, answer, IsAnswer, Answered as IsAnswered}
+use Rattle.prem_top.proofs.Headline.{headline_is}
 
 -- ---- every answer may be given
 
@@ -54,10 +55,10 @@ some_answer : (words : List (List ℕ)) (told : Option Files) → (given : Reply
 some_answer words told = let (reads, are) = some_reads told in (answer words reads, record { reads = reads; are_read = are; is = refl })
 
 pub read_fault_is : (words : List (List ℕ)) (told : Option Files) (bytes : Option (List ℕ)) → IsAnswered words told bytes bytes ReadFault
-read_fault_is words told bytes = let (given, is) = some_answer words told in record { given = given; answer = is; ends = refl }
+read_fault_is words told bytes = let (given, is) = some_answer words told in record { given = given; answer = is; headline = headline_is words told given is; ends = refl }
 
 pub no_memory_is : (words : List (List ℕ)) (told : Option Files) (bytes : Option (List ℕ)) → IsAnswered words told bytes bytes OutOfMemory
-no_memory_is words told bytes = let (given, is) = some_answer words told in record { given = given; answer = is; ends = refl }
+no_memory_is words told bytes = let (given, is) = some_answer words told in record { given = given; answer = is; headline = headline_is words told given is; ends = refl }
 
 -- ---- what needs no file
 

@@ -13,6 +13,7 @@ use Rattle.prem_build.specs.Build.{sheet_stages}
 use Rattle.prem_source.specs.Source.{source_stages}
 use Rattle.prem_running.specs.Running.{run_stages}
 use Rattle.prem_sample.specs.Sample.{sample_stages}
+use Rattle.prem_top.specs.Headline.{CommandKeeps}
 
 -- ---- the commands
 
@@ -56,8 +57,10 @@ Ends given old new ReadFault = new ≡ old
 Ends given old new OutOfMemory = new ≡ old
 Ends given old new status = (status ≡ given.0) × (new ≡ append_known old given.1)
 
--- the top call: its status and what it wrote are those of the answer, a prefix of it behind a fault of the sink, or nothing
+-- the top call: its status and what it wrote are those of the answer, a prefix of it behind a fault of the sink, or nothing; and the answer
+-- keeps the headline, over what is read
 pub record Answered (words : List (List ℕ)) (told : Option Files) (old new : Option (List ℕ)) (status : Status) : Type 0 where
   pub given : Reply
   pub answer : IsAnswer words told given
+  pub headline : CommandKeeps (command_of words) answer.reads given
   pub ends : Ends given old new status

@@ -84,7 +84,8 @@ fn finish<K: Sink>(sink: &mut K, answer: Answer) -> Status
 ///
 /// The stages are the words, the files with their forms, the rules, the run and the writing; the first one that
 /// doesn't go through decides. The text is built whole before the first write, and writing takes no
-/// memory. The answer is that over the store's files where the store tells them, else over some readings.
+/// memory. The answer is that over the store's files where the store tells them, else over some readings. It keeps the headline: where it is
+/// Done, the set that is read breaks no rule and all runs of its image are good; where it is Refused, the rule told is the first one broken.
 pub fn prem<S: Store, K: Sink>(
     alloc: Global,
     words: &[String],

@@ -1,7 +1,7 @@
 use Rattle.std.proofs.Common.{◌≡◌, ap, ◌∙◌, sym}
 use Rattle.prem_list.specs.Sequence.{items_of}
 use Rattle.prem_imagefile.specs.Parts.{parts_of}
-use Rattle.prem_cycle.specs.State.{State}
+use Rattle.prem_cycle.specs.State.{MachineState}
 use Rattle.prem_cycle.specs.FactsOf.{report_of, report_in}
 use Rattle.prem_report.specs.Report.{report_text}
 use Rattle.prem_exec.specs.Exec.{input_of, state_at}
@@ -18,4 +18,4 @@ returns c =
     ∙ ap (λ ts. report_text ts c.items-2.result.now c.args.times c.now.result (report_in c.facts.result.now) stop) c.items.ensures
     ∙ ap (λ ds. report_text i.tasks ds c.args.times c.now.result (report_in c.facts.result.now) stop) c.items-2.ensures in
     told_is i c.args.times c.args.limit s stop _ _ _ _ c.in_ok-machine.ensures.stop c.stop_status.ensures
-    (c.now.ensures ∙ ap (λ (x : State). x.now) state) (c.facts.ensures ∙ ap report_of state) text
+    (c.now.ensures ∙ ap (λ (x : MachineState). x.now) state) (c.facts.ensures ∙ ap report_of state) text

@@ -1,7 +1,7 @@
 use Rattle.std.proofs.Common.{◌≡◌, ◌≤◌, ◌-◌, ap, ◌∙◌, sym, subst, arith}
 use Rattle.prem_list.specs.Sequence.{items_of}
 use Rattle.prem_lru.specs.Entries.{to_front}
-use Rattle.prem_cycle.specs.State.{State}
+use Rattle.prem_cycle.specs.State.{MachineState}
 use Rattle.prem_cycle.specs.Inputs.{setup_of, image_run}
 use Rattle.prem_cycle.specs.Run.{cycles_of}
 use Rattle.prem_machine.specs.States.{state_of, setup_in, requests_in}
@@ -11,7 +11,7 @@ use Rattle.prem_exec.proofs.run.run_image.Goals as goal
 
 pub run_to-stop-requires-clause-now : goal.run_to-stop-requires-clause-now
 run_to-stop-requires-clause-now c =
-    let now = ap (λ (s : State). s.now) c.in_ok-machine.ensures.state ∙ starts_at c.args.image.now c.args.input.now in
+    let now = ap (λ (s : MachineState). s.now) c.in_ok-machine.ensures.state ∙ starts_at c.args.image.now c.args.input.now in
     subst (λ n. n ≤ c.args.limit) (sym now) (omega arith)
 
 pub returns-clause-state : goal.returns-clause-state

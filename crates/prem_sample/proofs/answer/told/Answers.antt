@@ -1,6 +1,6 @@
 use Rattle.std.proofs.Common.{ap, ◌∙◌}
 use Rattle.prem_imagefile.specs.Parts.{parts_of}
-use Rattle.prem_cycle.specs.State.{State}
+use Rattle.prem_cycle.specs.State.{MachineState}
 use Rattle.prem_cycle.specs.FactsOf.{report_of, report_in}
 use Rattle.prem_exec.specs.Exec.{input_of, state_at}
 use Rattle.prem_sample.specs.Sample.{sample_text}
@@ -17,4 +17,4 @@ returns c =
     ∙ ap (λ ts. sample_text c.args.seed ts c.items-2.result.now c.now.result (report_in c.facts.result.now) stop) c.items.ensures
     ∙ ap (λ ds. sample_text c.args.seed i.tasks ds c.now.result (report_in c.facts.result.now) stop) c.items-2.ensures in
     run_is c.args.seed i c.args.limit s stop _ _ _ c.in_ok-machine.ensures.stop
-    (c.now.ensures ∙ ap (λ (x : State). x.now) state) (c.facts.ensures ∙ ap report_of state) text
+    (c.now.ensures ∙ ap (λ (x : MachineState). x.now) state) (c.facts.ensures ∙ ap report_of state) text

@@ -1,0 +1,198 @@
+-- The answers to commands keep what they promise.
+use Rattle.std.proofs.Common.{◌≡◌, ◌+◌, ℕ, true, List, length, Option, None, Some, Ok, Err, refl, ap, ◌∙◌, sym, subst}
+use Rattle.prem_layout.specs.Rules.{Refusal}
+use Rattle.prem_line.proofs.Chain.{same_Ok}
+use Rattle.prem_tasks.specs.Told.{Told}
+use Rattle.prem_tasks.specs.Broken.{TaskSet, broken, programs_of}
+use Rattle.prem_tasks.specs.Compiled.{compiled}
+use Rattle.prem_lru.specs.Entries.{to_front}
+use Rattle.prem_accepted.specs.Accepted.{setup_in}
+use Rattle.prem_sets_sound.specs.Meant.{promises_in}
+use Rattle.prem_sets_sound.proofs.Sound.{sets_are_sound}
+use Rattle.prem_run_sound.specs.Runs.{SuitsRun}
+use Rattle.prem_run_sound.proofs.Reports.{sound_reports_end}
+use Rattle.prem_run_sound.proofs.SetRuns.{inputs_are_lawful}
+use Rattle.prem_command.specs.Words.{RunAsked}
+use Rattle.prem_answer.specs.declared.status.Status.{Status}
+use Rattle.prem_answer.specs.declared.status.Status.TheVariants.{Done, Refused}
+use Rattle.prem_answer.specs.Stages.{Reply, Reads, replied}
+use Rattle.prem_exec.specs.Forms.{RunText}
+use Rattle.prem_refusal.specs.Texts.{refused_reply}
+use Rattle.prem_build.specs.declared.sheet.Sheet.{Sheet}
+use Rattle.prem_build.specs.declared.sheet.Sheet.TheVariants.{Bounds, Image, Listing}
+use Rattle.prem_build.specs.Build.{compiled_reply as sheet_reply, judged_reply as sheet_judged, sheet_stages, sheet_text}
+use Rattle.prem_source.specs.Source.{judged_reply as source_judged, source_reply, source_stages, tasks_text}
+use Rattle.prem_sources.specs.Sources.{reading_run, source_limit}
+use Rattle.prem_running.specs.Running.{compiled_reply, judged_reply as run_judged, run_limit, run_stages, set_reply}
+use Rattle.prem_one.specs.One.{judged_answer as one_judged, one_answer, one_set, one_stages, run_text, state_of}
+use Rattle.prem_sample.specs.Trace.{sample_set}
+use Rattle.prem_sample.specs.Sample.{compiled_reply as sample_compiled, judged_reply as sample_judged, sample_stages}
+use Rattle.prem_top.specs.Read.{IsRead, SetIsRead, RunIsRead}
+use Rattle.prem_top.specs.Promises.{IsAccepted, IsSoundTelling, IsSoundRun, IsSoundSource, IsSoundOne, Keeps, TellsFirstBroken, IsFirstBroken, IsFirstBrokenRun, IsFirstBrokenOne}
+use Rattle.prem_top.specs.PromiseLaws.{BuildsKeep, ChecksKeep, ListsKeep, OnesKeep, RunsKeep, SamplesKeep, SourcesKeep}
+use Rattle.prem_top.proofs.Readings.{GoesOn, goes_on, RunGoes, run_goes, SetGoes, set_goes, is_judged}
+use Rattle.prem_top.proofs.Values.{sample_has_values, sets_read_have_values}
+use Rattle.prem_top.proofs.One.{gives, sound, text_told}
+
+-- ---- by the first broken rule
+
+-- where an answer is Done no rule is broken and this is told; where it is Refused the first broken rule is
+record Judged (set : TaskSet) (text : List ℕ) (given : Reply) : Type 0 where
+  on_done : given.0 ≡ Done → (broken set ≡ None) × (given.1 ≡ text)
+  on_refused : given.0 ≡ Refused → TellsFirstBroken set given.1
+
+judged_by : (set : TaskSet) (judge : Option (Refusal Told) → Reply) (text : List ℕ) (given : Reply) → judge None ≡ (Done, text) →
+    ((r : Refusal Told) → judge (Some r) ≡ refused_reply set.tasks r) → (first : Option (Refusal Told)) → broken set ≡ first → judge first ≡ given → Judged set text given
+judged_by set judge text given kept refused None is gives =
+    let same : given ≡ (Done, text) = sym gives ∙ kept in
+    record {
+      on_done = λ done. (is, ap (λ (r : Reply). r.1) same);
+      on_refused = λ other. let other_is : Done ≡ Refused = sym (ap (λ (r : Reply). r.0) same) ∙ other in absurd cc;
+    }
+judged_by set judge text given kept refused (Some r) is gives =
+    let same : given ≡ refused_reply set.tasks r = sym gives ∙ refused r in
+    record {
+      on_done = λ other. let other_is : Refused ≡ Done = sym (ap (λ (r : Reply). r.0) same) ∙ other in absurd cc;
+      on_refused = λ it. record { refusal = r; is_first = is; text_is = ap (λ (r : Reply). r.1) same };
+    }
+
+done_is_judged : (status : Status) → status ≡ Done → is_judged status ≡ true
+done_is_judged status is = ap is_judged is
+
+refused_is_judged : (status : Status) → status ≡ Refused → is_judged status ≡ true
+refused_is_judged status is = ap is_judged is
+
+accepted : (reads : Reads) (name : List ℕ) (set : TaskSet) → SetIsRead reads name set → broken set ≡ None → IsAccepted reads name set
+accepted reads name set read none =
+    let values = sets_read_have_values reads name set read in
+    record { read = read; values = values; unbroken = none; sound = sets_are_sound set values none }
+
+-- ---- `check`, `build` and `list`
+
+sheets_keep : (sheet : Sheet) (reads : Reads) (name : List ℕ) (given : Reply) → replied (sheet_stages sheet name reads) ≡ given →
+    Keeps (IsSoundTelling (sheet_text sheet) reads name) (IsFirstBroken reads name) given
+sheets_keep sheet reads name given is = record {
+  on_done = λ done.
+      let g = set_goes reads name (λ set reads. Ok (sheet_reply sheet set)) given (done_is_judged given.0 done) is in
+      let judged = judged_by g.set (sheet_judged sheet g.set) (sheet_text sheet (compiled g.set)) given refl (λ r. refl) (broken g.set) refl g.goes in
+      let told = judged.on_done done in
+      record { set = g.set; accepted = accepted reads name g.set g.read told.0; text_is = told.1 };
+  on_refused = λ refused.
+      let g = set_goes reads name (λ set reads. Ok (sheet_reply sheet set)) given (refused_is_judged given.0 refused) is in
+      let judged = judged_by g.set (sheet_judged sheet g.set) (sheet_text sheet (compiled g.set)) given refl (λ r. refl) (broken g.set) refl g.goes in
+      record { set = g.set; read = g.read; first = judged.on_refused refused };
+}
+
+pub checks_keep : ChecksKeep
+checks_keep = sheets_keep Bounds
+
+pub builds_keep : BuildsKeep
+builds_keep = sheets_keep Image
+
+pub lists_keep : ListsKeep
+lists_keep = sheets_keep Listing
+
+-- ---- `run` and `source`
+
+-- a set and its run file are read, and the set is judged
+record Ran (reads : Reads) (name run : List ℕ) (judge : TaskSet → RunText → Option (Refusal Told) → Reply) (given : Reply) : Type 0 where
+  set : TaskSet
+  read : SetIsRead reads name set
+  input : RunText
+  run_read : RunIsRead reads set run input
+  goes : judge set input (broken set) ≡ given
+
+ran : (reads : Reads) (name run : List ℕ) (judge : TaskSet → RunText → Option (Refusal Told) → Reply) (given : Reply) → is_judged given.0 ≡ true →
+    (g : SetGoes reads name (λ set. reading_run set run (λ input reads. Ok (judge set input (broken set)))) given) → Ran reads name run judge given
+ran reads name run judge given judged g =
+    let r = run_goes reads g.set run (λ input. judge g.set input (broken g.set)) given judged g.goes in
+    record { set = g.set; read = g.read; input = r.input; run_read = r.read; goes = r.goes }
+
+pub runs_keep : RunsKeep
+runs_keep reads asked given is = record {
+  on_done = λ done.
+      let answered = done_is_judged given.0 done in
+      let g = ran reads asked.of asked.run (run_judged asked) given answered (set_goes reads asked.of (λ set. reading_run set asked.run (λ input reads. Ok (set_reply asked set input))) given answered is) in
+      let judged = judged_by g.set (run_judged asked g.set g.input) (compiled_reply asked g.input (compiled g.set)).1 given refl (λ r. refl) (broken g.set) refl g.goes in
+      let told = judged.on_done done in
+      let accepted_is = accepted reads asked.of g.set g.read told.0 in
+      let r = g.run_read in
+      let suits = subst (λ (i : RunText). SuitsRun (setup_in g.set) i.words i.requests) (sym r.input_is) (inputs_are_lawful g.set r.bytes r.lines told.0 r.formed) in
+      record {
+        set = g.set;
+        accepted = accepted_is;
+        input = g.input;
+        run_read = r;
+        suits = suits;
+        ends = sound_reports_end to_front (setup_in g.set) (compiled g.set).image.content (promises_in g.set) (compiled g.set).limit g.input.words g.input.requests (run_limit asked.cycles (compiled g.set).limit) accepted_is.sound suits;
+        text_is = told.1;
+      };
+  on_refused = λ refused.
+      let answered = refused_is_judged given.0 refused in
+      let g = ran reads asked.of asked.run (run_judged asked) given answered (set_goes reads asked.of (λ set. reading_run set asked.run (λ input reads. Ok (set_reply asked set input))) given answered is) in
+      let judged = judged_by g.set (run_judged asked g.set g.input) (compiled_reply asked g.input (compiled g.set)).1 given refl (λ r. refl) (broken g.set) refl g.goes in
+      record { set = g.set; read = g.read; input = g.input; run_read = g.run_read; first = judged.on_refused refused };
+}
+
+pub sources_keep : SourcesKeep
+sources_keep reads name run given is = record {
+  on_done = λ done.
+      let answered = done_is_judged given.0 done in
+      let g = ran reads name run source_judged given answered (set_goes reads name (λ set. reading_run set run (λ input reads. Ok (source_reply set input))) given answered is) in
+      let judged = judged_by g.set (source_judged g.set g.input) (tasks_text g.set.tasks (programs_of g.set.tasks) g.input.words) given refl (λ r. refl) (broken g.set) refl g.goes in
+      let told = judged.on_done done in
+      record { set = g.set; accepted = accepted reads name g.set g.read told.0; input = g.input; run_read = g.run_read; text_is = told.1 };
+  on_refused = λ refused.
+      let answered = refused_is_judged given.0 refused in
+      let g = ran reads name run source_judged given answered (set_goes reads name (λ set. reading_run set run (λ input reads. Ok (source_reply set input))) given answered is) in
+      let judged = judged_by g.set (source_judged g.set g.input) (tasks_text g.set.tasks (programs_of g.set.tasks) g.input.words) given refl (λ r. refl) (broken g.set) refl g.goes in
+      record { set = g.set; read = g.read; input = g.input; run_read = g.run_read; first = judged.on_refused refused };
+}
+
+-- ---- `one`
+
+-- a source is read and judged
+record One (reads : Reads) (file : List ℕ) (given : Reply) : Type 0 where
+  bytes : List ℕ
+  read : IsRead reads 0 source_limit file bytes
+  judged : Judged (one_set bytes) (run_text (state_of (compiled (one_set bytes)))) given
+
+one_goes : (reads : Reads) (file : List ℕ) (given : Reply) → is_judged given.0 ≡ true → replied (one_stages file reads) ≡ given → One reads file given
+one_goes reads file given answered is =
+    let g = goes_on reads source_limit file Ok (λ bytes reads. Ok (one_answer bytes)) given (λ bytes reply is. cc) answered is in
+    let goes : one_answer g.bytes ≡ given = subst (λ bytes. one_answer bytes ≡ given) (sym (same_Ok g.bytes g.made g.made_is)) g.goes in
+    record {
+      bytes = g.bytes;
+      read = g.read;
+      judged = judged_by (one_set g.bytes) (one_judged (one_set g.bytes)) (run_text (state_of (compiled (one_set g.bytes)))) given refl (λ r. refl) (broken (one_set g.bytes)) refl goes;
+    }
+
+pub ones_keep : OnesKeep
+ones_keep reads file given is = record {
+  on_done = λ done.
+      let g = one_goes reads file given (done_is_judged given.0 done) is in
+      let told = g.judged.on_done done in
+      record {
+        bytes = g.bytes;
+        read = g.read;
+        unbroken = told.0;
+        sound = sound g.bytes told.0;
+        gives = gives g.bytes told.0;
+        text_is = told.1 ∙ text_told g.bytes told.0;
+      };
+  on_refused = λ refused.
+      let g = one_goes reads file given (refused_is_judged given.0 refused) is in
+      record { bytes = g.bytes; read = g.read; first = g.judged.on_refused refused };
+}
+
+-- ---- `sample`
+
+pub samples_keep : SamplesKeep
+samples_keep reads seed given is =
+    let judged = judged_by (sample_set seed) (sample_judged seed) (sample_compiled seed (compiled (sample_set seed))).1 given refl (λ r. refl) (broken (sample_set seed)) refl is in
+    record {
+      on_done = λ done.
+          let told = judged.on_done done in
+          record { unbroken = told.0; sound = sets_are_sound (sample_set seed) (sample_has_values seed) told.0; text_is = told.1 };
+      on_refused = judged.on_refused;
+    }

@@ -1,0 +1,45 @@
+-- The laws on the answers to commands.
+use Rattle.std.specs.Prelude.{◌≡◌, ℕ, List}
+use Rattle.prem_accepted.specs.Accepted.{HasValues}
+use Rattle.prem_tasks.specs.Broken.{TaskSet}
+use Rattle.prem_command.specs.Words.{RunAsked}
+use Rattle.prem_answer.specs.Stages.{Reply, Reads, replied}
+use Rattle.prem_build.specs.declared.sheet.Sheet.TheVariants.{Bounds, Image, Listing}
+use Rattle.prem_build.specs.Build.{sheet_stages}
+use Rattle.prem_source.specs.Source.{source_stages}
+use Rattle.prem_running.specs.Running.{run_stages}
+use Rattle.prem_one.specs.One.{one_stages}
+use Rattle.prem_sample.specs.Trace.{sample_set}
+use Rattle.prem_sample.specs.Sample.{sample_stages}
+use Rattle.prem_top.specs.Read.{SetIsRead}
+use Rattle.prem_top.specs.Promises.{Keeps, IsSoundCheck, IsSoundBuild, IsSoundList, IsSoundRun, IsSoundSource, IsSoundOne, IsSoundSample, TellsFirstBroken, IsFirstBroken, IsFirstBrokenRun, IsFirstBrokenOne}
+
+-- the values of a set that is read are in their ranges
+abbrev pub SetsReadHaveValues : Type 0
+SetsReadHaveValues = (reads : Reads) (name : List ℕ) (set : TaskSet) → SetIsRead reads name set → HasValues set
+
+abbrev pub ChecksKeep : Type 0
+ChecksKeep = (reads : Reads) (name : List ℕ) (given : Reply) → replied (sheet_stages Bounds name reads) ≡ given → Keeps (IsSoundCheck reads name) (IsFirstBroken reads name) given
+
+abbrev pub BuildsKeep : Type 0
+BuildsKeep = (reads : Reads) (name : List ℕ) (given : Reply) → replied (sheet_stages Image name reads) ≡ given → Keeps (IsSoundBuild reads name) (IsFirstBroken reads name) given
+
+abbrev pub ListsKeep : Type 0
+ListsKeep = (reads : Reads) (name : List ℕ) (given : Reply) → replied (sheet_stages Listing name reads) ≡ given → Keeps (IsSoundList reads name) (IsFirstBroken reads name) given
+
+abbrev pub RunsKeep : Type 0
+RunsKeep =
+    (reads : Reads) (asked : RunAsked) (given : Reply) → replied (run_stages asked reads) ≡ given →
+    Keeps (IsSoundRun reads asked) (IsFirstBrokenRun reads asked.of asked.run) given
+
+abbrev pub SourcesKeep : Type 0
+SourcesKeep =
+    (reads : Reads) (name run : List ℕ) (given : Reply) → replied (source_stages name run reads) ≡ given →
+    Keeps (IsSoundSource reads name run) (IsFirstBrokenRun reads name run) given
+
+abbrev pub OnesKeep : Type 0
+OnesKeep = (reads : Reads) (file : List ℕ) (given : Reply) → replied (one_stages file reads) ≡ given → Keeps (IsSoundOne reads file) (IsFirstBrokenOne reads file) given
+
+abbrev pub SamplesKeep : Type 0
+SamplesKeep =
+    (reads : Reads) (seed : ℕ) (given : Reply) → replied (sample_stages seed reads) ≡ given → Keeps (IsSoundSample seed) (TellsFirstBroken (sample_set seed)) given

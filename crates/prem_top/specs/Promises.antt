@@ -1,0 +1,138 @@
+-- What the answers to commands promise: where a set is accepted, its image is sound; where it is refused, the rule told is the first one broken.
+use Rattle.std.specs.Prelude.{◌≡◌, ℕ, true, List, [], ◌++◌, None, Some, Ok}
+use Rattle.prem_cycle.specs.State.{MachineState, task_in}
+use Rattle.prem_cycle.specs.Cycle.{is_finished}
+use Rattle.prem_cycle.specs.FactsOf.{report_of}
+use Rattle.prem_syntax.specs.Syntax.{ProgramText}
+use Rattle.prem_text.specs.Texts.{reads as program_of}
+use Rattle.prem_meaning.specs.Statements.{ProgramState}
+use Rattle.prem_meaning.specs.Source.{source}
+use Rattle.prem_layout.specs.Rules.{Refusal}
+use Rattle.prem_tasks.specs.Told.{Told}
+use Rattle.prem_tasks.specs.Broken.{TaskSet, broken, programs_of}
+use Rattle.prem_tasks.specs.Compiled.{CompiledText, compiled}
+use Rattle.prem_accepted.specs.Accepted.{HasValues, setup_in}
+use Rattle.prem_sets_sound.specs.Sound.{IsSoundSet}
+use Rattle.prem_imagefile.specs.Spelling.{image_bytes}
+use Rattle.prem_command.specs.Words.{RunAsked}
+use Rattle.prem_answer.specs.declared.status.Status.TheVariants.{Done, Refused}
+use Rattle.prem_answer.specs.Stages.{Reply, Reads}
+use Rattle.prem_exec.specs.Forms.{RunText}
+use Rattle.prem_exec.specs.Exec.{state_at}
+use Rattle.prem_run_sound.specs.Runs.{SuitsRun, EndsWell}
+use Rattle.prem_refusal.specs.Texts.{refusal_line}
+use Rattle.prem_sources.specs.Sources.{source_limit}
+use Rattle.prem_sheet.specs.Check.{check_text}
+use Rattle.prem_sheet.specs.Listing.{list_text}
+use Rattle.prem_build.specs.Build.{file_parts}
+use Rattle.prem_source.specs.Source.{tasks_text}
+use Rattle.prem_running.specs.Running.{run_parts, run_limit, compiled_reply}
+use Rattle.prem_one.specs.One.{one_set, output_lines, run_lines, state_of}
+use Rattle.prem_sample.specs.Trace.{sample_set}
+use Rattle.prem_sample.specs.Sample.{compiled_reply as sample_reply}
+use Rattle.prem_top.specs.Read.{IsRead, SetIsRead, RunIsRead}
+
+-- ---- accepted
+
+-- the set of the files read breaks no rule: each run of its image is good
+pub record IsAccepted (reads : Reads) (name : List ℕ) (set : TaskSet) : Type 0 where
+  pub read : SetIsRead reads name set
+  pub values : HasValues set
+  pub unbroken : broken set ≡ None
+  pub sound : IsSoundSet set
+
+-- a text tells this of what such a set is compiled to
+pub record IsSoundTelling (tell : CompiledText → List ℕ) (reads : Reads) (name text : List ℕ) : Type 0 where
+  pub set : TaskSet
+  pub accepted : IsAccepted reads name set
+  pub text_is : text ≡ tell (compiled set)
+
+-- its bounds
+abbrev pub IsSoundCheck : Reads → List ℕ → List ℕ → Type 0
+IsSoundCheck = IsSoundTelling check_text
+
+-- the bytes of its image
+abbrev pub IsSoundBuild : Reads → List ℕ → List ℕ → Type 0
+IsSoundBuild = IsSoundTelling (λ c. image_bytes (file_parts c.image))
+
+-- its listing
+abbrev pub IsSoundList : Reads → List ℕ → List ℕ → Type 0
+IsSoundList = IsSoundTelling list_text
+
+-- a text is the report of the run of such a set's image, with the words and requests of the run file; these are input words and requests of
+-- which the soundness of the set speaks, and the report ends as finished or stopped, never with a trap or a full log
+pub record IsSoundRun (reads : Reads) (asked : RunAsked) (text : List ℕ) : Type 0 where
+  pub set : TaskSet
+  pub accepted : IsAccepted reads asked.of set
+  pub input : RunText
+  pub run_read : RunIsRead reads set asked.run input
+  pub suits : SuitsRun (setup_in set) input.words input.requests
+  pub ends : EndsWell (compiled set).limit (run_limit asked.cycles (compiled set).limit) (state_at (run_parts (compiled set).image) input (run_limit asked.cycles (compiled set).limit))
+  pub text_is : text ≡ (compiled_reply asked input (compiled set)).1
+
+-- a text tells what the sources of such a set put out, with the words of the run file
+pub record IsSoundSource (reads : Reads) (name run text : List ℕ) : Type 0 where
+  pub set : TaskSet
+  pub accepted : IsAccepted reads name set
+  pub input : RunText
+  pub run_read : RunIsRead reads set run input
+  pub text_is : text ≡ tasks_text set.tasks (programs_of set.tasks) input.words
+
+-- a state has finished, and its first task has put out what the program of these bytes puts out by its meaning
+pub record GivesSource (bytes : List ℕ) (s : MachineState) : Type 0 where
+  pub finished : is_finished s ≡ true
+  pub program : ProgramText
+  pub program_is : program_of bytes ≡ Ok program
+  pub after : ProgramState
+  pub source_is : source program [] 1 ≡ Ok after
+  pub outputs : (task_in s.work 0).outputs ≡ after.outputs
+
+-- a text tells the outputs of the program of a file, and the cycles and counts of the run of its image, which is sound
+pub record IsSoundOne (reads : Reads) (file text : List ℕ) : Type 0 where
+  pub bytes : List ℕ
+  pub read : IsRead reads 0 source_limit file bytes
+  pub unbroken : broken (one_set bytes) ≡ None
+  pub sound : IsSoundSet (one_set bytes)
+  pub gives : GivesSource bytes (state_of (compiled (one_set bytes)))
+  pub text_is : text ≡ output_lines gives.after.outputs ++ run_lines (state_of (compiled (one_set bytes))).now (report_of (state_of (compiled (one_set bytes)))).counts
+
+-- a text tells in sums the run of the image of a sample's set, which is sound
+pub record IsSoundSample (seed : ℕ) (text : List ℕ) : Type 0 where
+  pub unbroken : broken (sample_set seed) ≡ None
+  pub sound : IsSoundSet (sample_set seed)
+  pub text_is : text ≡ (sample_reply seed (compiled (sample_set seed))).1
+
+-- ---- refused
+
+-- a text tells the first rule that a set breaks
+pub record TellsFirstBroken (set : TaskSet) (text : List ℕ) : Type 0 where
+  pub refusal : Refusal Told
+  pub is_first : broken set ≡ Some refusal
+  pub text_is : text ≡ refusal_line set.tasks refusal
+
+-- that of the set of the files read
+pub record IsFirstBroken (reads : Reads) (name text : List ℕ) : Type 0 where
+  pub set : TaskSet
+  pub read : SetIsRead reads name set
+  pub first : TellsFirstBroken set text
+
+-- that of the set of the files read, of which one is a run file
+pub record IsFirstBrokenRun (reads : Reads) (name run text : List ℕ) : Type 0 where
+  pub set : TaskSet
+  pub read : SetIsRead reads name set
+  pub input : RunText
+  pub run_read : RunIsRead reads set run input
+  pub first : TellsFirstBroken set text
+
+-- that of the program of a file
+pub record IsFirstBrokenOne (reads : Reads) (file text : List ℕ) : Type 0 where
+  pub bytes : List ℕ
+  pub read : IsRead reads 0 source_limit file bytes
+  pub first : TellsFirstBroken (one_set bytes) text
+
+-- ---- both
+
+-- what holds of the text of an answer that is Done, and of one that is Refused
+pub record Keeps (done refused : List ℕ → Type 0) (given : Reply) : Type 0 where
+  pub on_done : given.0 ≡ Done → done given.1
+  pub on_refused : given.0 ≡ Refused → refused given.1
