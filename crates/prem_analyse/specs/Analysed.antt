@@ -4,7 +4,7 @@ use Rattle.prem_syntax.specs.Syntax.{ProgramText}
 use Rattle.prem_syntax.specs.SyntaxOf.{program_of}
 use Rattle.prem_tree.specs.declared.checked.Checked.{Checked}
 use Rattle.prem_tree.specs.Checked.{checked_program}
-use Rattle.prem_meaning.specs.Statements.{State}
+use Rattle.prem_meaning.specs.Statements.{ProgramState}
 use Rattle.prem_meaning.specs.Source.{source_within, source}
 use Rattle.prem_ranges.specs.GroupThree.{limits_of}
 use Rattle.prem_ranges.specs.Sound.{AreWords}
@@ -19,4 +19,4 @@ analysed_text a = program_of (checked_program a.checked)
 
 -- whatever the input words and however many jobs, a run doesn't go wrong, and it keeps to the turn bounds and regions
 abbrev pub NeverGoesWrong : ProgramText → Type 0
-NeverGoesWrong p = (inputs : List ℕ) → AreWords inputs → (jobs : ℕ) → (s : State) × (source_within (limits_of p) p inputs jobs ≡ Ok s) × (source p inputs jobs ≡ Ok s)
+NeverGoesWrong p = (inputs : List ℕ) → AreWords inputs → (jobs : ℕ) → (s : ProgramState) × (source_within (limits_of p) p inputs jobs ≡ Ok s) × (source p inputs jobs ≡ Ok s)

@@ -4,7 +4,7 @@ use Rattle.std.specs.Prelude.{◌==◌, slice_get}
 use Rattle.std.proofs.lemmas.Bool.{eq-eqb, ne_eqb}
 use Rattle.prem_asm.specs.Pieces.{Pieces, no_pieces, straight, address_of, either, repeat, call_to, followed}
 use Rattle.prem_plant.specs.declared.plant.Plant.{Plant}
-use Rattle.prem_plant.specs.Places.{Place}
+use Rattle.prem_plant.specs.Places.{Extent}
 use Rattle.prem_syntax.specs.Syntax.{MarkText}
 use Rattle.prem_meaning.specs.Resolved.{Routine, Resolved}
 use Rattle.prem_layout.specs.Plans.{Plan, plan_of, plan_before, plans_from}
@@ -24,11 +24,11 @@ call_before (either test taken other rest) q part e = call_before rest q part e
 call_before (repeat turns head test body rest) q part e = call_before rest q part e
 call_before (call_to link to rest) q part e = e
 
-ranges_call : (line : ℕ) (ranges : List Place) (rest : Pieces) → first_call (ranges_code line ranges rest) ≡ first_call rest
+ranges_call : (line : ℕ) (ranges : List Extent) (rest : Pieces) → first_call (ranges_code line ranges rest) ≡ first_call rest
 ranges_call line [] rest = refl
 ranges_call line (r ∷ rs) rest = ranges_call line rs rest
 
-passes_call : (passes : Passes) (line : ℕ) (ranges : List Place) (rest : Pieces) → first_call (passes_code passes line ranges rest) ≡ first_call rest
+passes_call : (passes : Passes) (line : ℕ) (ranges : List Extent) (rest : Pieces) → first_call (passes_code passes line ranges rest) ≡ first_call rest
 passes_call once line ranges rest = ranges_call line ranges rest
 passes_call (times n) line ranges rest = refl
 

@@ -4,25 +4,25 @@ use Rattle.std.specs.Prelude.{⊤, max, slice_index_or}
 use Rattle.std.specs.List.{AllZip}
 use Rattle.std.proofs.lemmas.Option.{slice_get_within, slice_get-get_or}
 use Rattle.prem_plant.specs.declared.layout.PartSize.{PartSize}
-use Rattle.prem_plant.specs.Places.{Place, ArePlaces}
+use Rattle.prem_plant.specs.Places.{Extent, ArePlaces}
 use Rattle.prem_layout.specs.Footprint.{no_place}
 use Rattle.prem_layout.specs.Image.{greatest_end}
 
 -- a part has its size at a multiple of its alignment, and ends by an address
-pub record IsAt (end : ℕ) (x : PartSize) (q : Place) : Type 0 where
+pub record IsAt (end : ℕ) (x : PartSize) (q : Extent) : Type 0 where
   pub ends : q.1 ≡ q.0 + x.size
   pub aligned : q.0 % x.align ≡ 0
   pub within : q.1 ≤ end
 
 -- parts, from a number on
-abbrev pub Stand : ℕ → (ℕ → Place) → ℕ → List PartSize → Type 0
+abbrev pub Stand : ℕ → (ℕ → Extent) → ℕ → List PartSize → Type 0
 Stand end f n [] = ⊤
 Stand end f n (x ∷ xs) = IsAt end x (f n) × Stand end f (n + 1) xs
 
-abbrev pub place_in : List Place → ℕ → Place
+abbrev pub place_in : List Extent → ℕ → Extent
 place_in places n = slice_index_or places n no_place
 
-stand_from : (end : ℕ) (f : ℕ → Place) (n : ℕ) (xs : List PartSize) → ((i : ℕ) (x : PartSize) → slice_get xs i ≡ Some x → IsAt end x (f (n + i))) → Stand end f n xs
+stand_from : (end : ℕ) (f : ℕ → Extent) (n : ℕ) (xs : List PartSize) → ((i : ℕ) (x : PartSize) → slice_get xs i ≡ Some x → IsAt end x (f (n + i))) → Stand end f n xs
 stand_from end f n [] h = tt
 stand_from end f n (x ∷ xs) h =
     let z : n + 0 ≡ n = omega arith in (
@@ -30,7 +30,7 @@ stand_from end f n (x ∷ xs) h =
       stand_from end f (n + 1) xs (λ i y e. let s : n + suc i ≡ n + 1 + i = omega arith in subst (λ k. IsAt end y (f k)) s (h (suc i) y e)),
     )
 
-pub all_stand : (memory : ℕ) (parts : List PartSize) (places : List Place) → ArePlaces memory parts places → Stand memory (place_in places) 0 parts
+pub all_stand : (memory : ℕ) (parts : List PartSize) (places : List Extent) → ArePlaces memory parts places → Stand memory (place_in places) 0 parts
 all_stand memory parts places a =
     stand_from memory (place_in places) 0 parts (λ i x e.
     let lt = slice_get_within parts i x e in
@@ -40,16 +40,16 @@ all_stand memory parts places a =
     subst (λ k. IsAt memory x (place_in places k)) z
     (record { ends = a.ends i x (place_in places i) e there; aligned = a.aligned i x (place_in places i) e there; within = a.within i (place_in places i) there }))
 
-pub stand_left : (end : ℕ) (f : ℕ → Place) (n : ℕ) (xs ys : List PartSize) → Stand end f n (xs ++ ys) → Stand end f n xs
+pub stand_left : (end : ℕ) (f : ℕ → Extent) (n : ℕ) (xs ys : List PartSize) → Stand end f n (xs ++ ys) → Stand end f n xs
 stand_left end f n [] ys h = tt
 stand_left end f n (x ∷ xs) ys h = (h.0, stand_left end f (n + 1) xs ys h.1)
 
-pub stand_right : (end : ℕ) (f : ℕ → Place) (n : ℕ) (xs ys : List PartSize) → Stand end f n (xs ++ ys) → Stand end f (n + length xs) ys
+pub stand_right : (end : ℕ) (f : ℕ → Extent) (n : ℕ) (xs ys : List PartSize) → Stand end f n (xs ++ ys) → Stand end f (n + length xs) ys
 stand_right end f n [] ys h = let z : n ≡ n + 0 = omega arith in subst (λ k. Stand end f k ys) z h
 stand_right end f n (x ∷ xs) ys h = let z : n + 1 + length xs ≡ n + suc (length xs) = omega arith in subst (λ k. Stand end f k ys) z (stand_right end f (n + 1) xs ys h.1)
 
 -- the same places by other numbers, and another address by which they end
-pub stand_as : (memory end : ℕ) (f g : ℕ → Place) (a b : ℕ) (xs : List PartSize) → ((i : ℕ) → i < length xs → (f (a + i) ≡ g (b + i)) × ((f (a + i)).1 ≤ end)) → Stand memory f a xs → Stand end g b xs
+pub stand_as : (memory end : ℕ) (f g : ℕ → Extent) (a b : ℕ) (xs : List PartSize) → ((i : ℕ) → i < length xs → (f (a + i) ≡ g (b + i)) × ((f (a + i)).1 ≤ end)) → Stand memory f a xs → Stand end g b xs
 stand_as memory end f g a b [] same h = tt
 stand_as memory end f g a b (x ∷ xs) same h =
     let za : a + 0 ≡ a = omega arith in
@@ -65,13 +65,13 @@ stand_as memory end f g a b (x ∷ xs) same h =
           (ap f (sym sa) ∙ t.0 ∙ ap g sb, subst (λ k. (f k).1 ≤ end) sa t.1)) h.1,
     )
 
-pub stand_within : (end : ℕ) (f : ℕ → Place) (n : ℕ) (xs : List PartSize) → Stand end f n xs → (i : ℕ) → i < length xs → (f (n + i)).1 ≤ end
+pub stand_within : (end : ℕ) (f : ℕ → Extent) (n : ℕ) (xs : List PartSize) → Stand end f n xs → (i : ℕ) → i < length xs → (f (n + i)).1 ≤ end
 stand_within end f n [] h i lt = absurd (omega arith)
 stand_within end f n (x ∷ xs) h zero lt = let z : n ≡ n + 0 = omega arith in subst (λ k. (f k).1 ≤ end) z h.0.within
 stand_within end f n (x ∷ xs) h (suc i) lt = let z : n + 1 + i ≡ n + suc i = omega arith in subst (λ k. (f k).1 ≤ end) z (stand_within end f (n + 1) xs h.1 i (omega arith))
 
 -- parts and places, one by one
-pub zipped : (end : ℕ) (f : ℕ → Place) (n : ℕ) (xs : List PartSize) (qs : List Place) → length qs ≡ length xs → ((i : ℕ) → f (n + i) ≡ place_in qs i) → Stand end f n xs → AllZip (IsAt end) xs qs
+pub zipped : (end : ℕ) (f : ℕ → Extent) (n : ℕ) (xs : List PartSize) (qs : List Extent) → length qs ≡ length xs → ((i : ℕ) → f (n + i) ≡ place_in qs i) → Stand end f n xs → AllZip (IsAt end) xs qs
 zipped end f n [] [] long same h = tt
 zipped end f n [] (q ∷ qs) long same h = absurd (omega (arith, long))
 zipped end f n (x ∷ xs) [] long same h = absurd (omega (arith, long))
@@ -83,13 +83,13 @@ zipped end f n (x ∷ xs) (q ∷ qs) long same h =
 
 -- ---- the greatest end
 
-pub below_greatest : (count i : ℕ) (places : List Place) → i < count → (place_in places i).1 ≤ greatest_end (take count places)
+pub below_greatest : (count i : ℕ) (places : List Extent) → i < count → (place_in places i).1 ≤ greatest_end (take count places)
 below_greatest zero i places lt = absurd (omega arith)
 below_greatest (suc count) i [] lt = omega arith
 below_greatest (suc count) zero (q ∷ qs) lt = omega arith
 below_greatest (suc count) (suc i) (q ∷ qs) lt = let r = below_greatest count i qs (omega arith) in omega (arith, r)
 
-pub greatest_within : (memory count : ℕ) (places : List Place) → ((i : ℕ) → i < count → (place_in places i).1 ≤ memory) → greatest_end (take count places) ≤ memory
+pub greatest_within : (memory count : ℕ) (places : List Extent) → ((i : ℕ) → i < count → (place_in places i).1 ≤ memory) → greatest_end (take count places) ≤ memory
 greatest_within memory zero places h = omega arith
 greatest_within memory (suc count) [] h = omega arith
 greatest_within memory (suc count) (q ∷ qs) h =
@@ -97,16 +97,16 @@ greatest_within memory (suc count) (q ∷ qs) h =
     let b = greatest_within memory count qs (λ i lt. h (suc i) (omega arith)) in
     omega (arith, a, b)
 
-greatest_next : (n : ℕ) (places : List Place) → greatest_end (take (suc n) places) ≡ max (greatest_end (take n places)) (place_in places n).1
+greatest_next : (n : ℕ) (places : List Extent) → greatest_end (take (suc n) places) ≡ max (greatest_end (take n places)) (place_in places n).1
 greatest_next zero [] = refl
 greatest_next (suc n) [] = refl
 greatest_next zero (q ∷ qs) = omega arith
 greatest_next (suc n) (q ∷ qs) = let r = greatest_next n qs in omega (arith, r)
 
-pub greatest_more : (n : ℕ) (places : List Place) → greatest_end (take (n + 1) places) ≡ max (greatest_end (take n places)) (place_in places n).1
+pub greatest_more : (n : ℕ) (places : List Extent) → greatest_end (take (n + 1) places) ≡ max (greatest_end (take n places)) (place_in places n).1
 greatest_more n places = let z : n + 1 ≡ suc n = omega arith in ap (λ k. greatest_end (take k places)) z ∙ greatest_next n places
 
-pub taken_same : (count n : ℕ) (places : List Place) → n < count → place_in (take count places) n ≡ place_in places n
+pub taken_same : (count n : ℕ) (places : List Extent) → n < count → place_in (take count places) n ≡ place_in places n
 taken_same zero n places lt = absurd (omega arith)
 taken_same (suc count) n [] lt = refl
 taken_same (suc count) zero (q ∷ qs) lt = refl

@@ -6,7 +6,7 @@ use Rattle.std.proofs.lemmas.List.{length-map, drop-drop, get_or-drop}
 use Rattle.prem_plant.specs.declared.plant.Plant.{Plant}
 use Rattle.prem_plant.specs.declared.layout.PartKind.TheVariants.{Start, Stack}
 use Rattle.prem_plant.specs.declared.layout.PartSize.{PartSize}
-use Rattle.prem_plant.specs.Places.{Place}
+use Rattle.prem_plant.specs.Places.{Extent}
 use Rattle.prem_syntax.specs.Syntax.{Text, GlobalVariable}
 use Rattle.prem_meaning.specs.Resolved.{Routine, Resolved}
 use Rattle.prem_template.specs.Frames.{stack_size}
@@ -114,7 +114,7 @@ start_sized job = refl
 sixteens : (a b c : ℕ) → a ≡ b + c → b % 16 ≡ 0 → c % 16 ≡ 0 → a % 16 ≡ 0
 sixteens a b c e x y = omega (arith, e, x, y)
 
-task_laid : (p : Plant) (task end : ℕ) (c : Coded) (places : List Place) → HasCode c → Stand end (place_at (task_places c.program places)) 0 (task_parts (passes_of p) task (map size_of c.code) c.program) →
+task_laid : (p : Plant) (task end : ℕ) (c : Coded) (places : List Extent) → HasCode c → Stand end (place_at (task_places c.program places)) 0 (task_parts (passes_of p) task (map size_of c.code) c.program) →
     IsLaid end (placed_at p c (task_places c.program places))
 task_laid p task end c places long h =
     let at = task_places c.program places in
@@ -160,7 +160,7 @@ task_laid p task end c places long h =
 
 -- ---- all tasks
 
-pub all_laid : (p : Plant) (memory end n first : ℕ) (whole : List Place) (cs : List Coded) → AllByRecursion HasCode cs → Stand memory (place_in whole) first (parts_from (passes_of p) n (map sized_of cs)) →
+pub all_laid : (p : Plant) (memory end n first : ℕ) (whole : List Extent) (cs : List Coded) → AllByRecursion HasCode cs → Stand memory (place_in whole) first (parts_from (passes_of p) n (map sized_of cs)) →
     ((i : ℕ) → i < first + part_total cs → (place_in whole i).1 ≤ end) → AllByRecursion (IsLaid end) (placed_from p (drop first whole) cs)
 all_laid p memory end n first whole [] code h within = tt
 all_laid p memory end n first whole (c ∷ cs) code h within =

@@ -4,7 +4,7 @@ use Rattle.std.specs.Prelude.{max, unwrap_or}
 use Rattle.std.proofs.lemmas.List.{at_drop_more, drop_more}
 use Rattle.std.proofs.lemmas.Option.{unwrap_or-slice_get}
 use Rattle.prem_plant.specs.declared.plant.Device.{Device}
-use Rattle.prem_plant.specs.Places.{Place}
+use Rattle.prem_plant.specs.Places.{Extent}
 use Rattle.prem_image.specs.declared.image.TaskRecord.{TaskRecord}
 use Rattle.prem_image.specs.declared.image.DeviceRecord.{DeviceRecord}
 use Rattle.prem_layout.specs.Footprint.{no_place}
@@ -14,12 +14,12 @@ use Rattle.prem_placed.specs.declared.task.PlacedTask.{PlacedTask}
 use Rattle.prem_build_image.specs.Built.{count_of, total_of}
 use Rattle.prem_build_image.proofs.Ground.{place_in, greatest_more}
 
-pub greatest_turn : (n greatest new : ℕ) (places : List Place) (found : Option Place) (q : Place) → greatest ≡ greatest_end (take n places) → found ≡ slice_get places n → q ≡ unwrap_or found (0, 0) → new ≡ max greatest q.1 →
+pub greatest_turn : (n greatest new : ℕ) (places : List Extent) (found : Option Extent) (q : Extent) → greatest ≡ greatest_end (take n places) → found ≡ slice_get places n → q ≡ unwrap_or found (0, 0) → new ≡ max greatest q.1 →
     new ≡ greatest_end (take (n + 1) places)
 greatest_turn n greatest new places found q e f here en =
     let same : q ≡ place_in places n = here ∙ ap (λ o. unwrap_or o no_place) f ∙ unwrap_or-slice_get places n no_place in
     en ∙ ap (λ g. max g q.1) e
-    ∙ ap (λ (k : Place). max (greatest_end (take n places)) k.1) same
+    ∙ ap (λ (k : Extent). max (greatest_end (take n places)) k.1) same
     ∙ sym (greatest_more n places)
 
 rest_is : (tasks : List PlacedTask) (n : ℕ) (t : PlacedTask) → n < length tasks → t ≡ get_or tasks n t → total_of (drop n tasks) ≡ count_of t + total_of (drop (n + 1) tasks)
@@ -44,10 +44,10 @@ record_turn tasks n t old new whole r lt is er en e =
     ∙ ap (λ (q : PlacedTask). old ++ (task_record (placed_of q) ∷ rest)) is
     ∙ ap (λ l. old ++ l) (sym (at_drop_more (λ (ts : List PlacedTask). map task_record (map placed_of ts)) tasks n t lt)) ∙ e
 
-abbrev area_record : Device → Place → DeviceRecord
+abbrev area_record : Device → Extent → DeviceRecord
 area_record d q = record { device = d; area = q.0 }
 
-pub area_turn : (devices : List Device) (places : List Place) (first n : ℕ) (d : Device) (found : Option Place) (at : Place) (old new whole : List DeviceRecord) (r : DeviceRecord) → length places ≡ first + length devices → n < length devices → d ≡ get_or devices n d →
+pub area_turn : (devices : List Device) (places : List Extent) (first n : ℕ) (d : Device) (found : Option Extent) (at : Extent) (old new whole : List DeviceRecord) (r : DeviceRecord) → length places ≡ first + length devices → n < length devices → d ≡ get_or devices n d →
     found ≡ slice_get places (first + n) → at ≡ unwrap_or found (0, 0) → r ≡ record { device = d; area = at.0 } → new ≡ old ++ r ∷ [] →
     old ++ device_records (drop n devices) (drop (first + n) places) ≡ whole → new ++ device_records (drop (n + 1) devices) (drop (first + (n + 1)) places) ≡ whole
 area_turn devices places first n d found at old new whole r long lt is ef ea er en e =

@@ -8,7 +8,7 @@ use Rattle.prem_isa.specs.Decode.{word_of}
 use Rattle.prem_plant.specs.declared.plant.Plant.{Plant}
 use Rattle.prem_plant.specs.declared.plant.Device.{Device}
 use Rattle.prem_plant.specs.Label.{AreDistinct}
-use Rattle.prem_plant.specs.Places.{Place, AreApart}
+use Rattle.prem_plant.specs.Places.{Extent, AreApart}
 use Rattle.prem_plant.specs.Ranges.{Between, IsDevice}
 use Rattle.prem_image.specs.declared.image.TaskRecord.{TaskRecord}
 use Rattle.prem_image.specs.declared.image.DeviceRecord.{DeviceRecord}
@@ -36,7 +36,7 @@ routines_long : (turns : ℕ → ℕ) (m : ℕ) (rs : List Routine) → length (
 routines_long turns m [] = refl
 routines_long turns m (r ∷ rs) = ap suc (routines_long turns (m + loops_of r.body) rs)
 
-count_is : (p : Plant) (whole : List Place) (t : PlacedTask) → placed_of t ≡ placed_at p (coded_of t) (task_places (coded_of t).program whole) → count_of t ≡ part_count (coded_of t).program
+count_is : (p : Plant) (whole : List Extent) (t : PlacedTask) → placed_of t ≡ placed_at p (coded_of t) (task_places (coded_of t).program whole) → count_of t ≡ part_count (coded_of t).program
 count_is p whole t e =
     let a : length (coded_of t).program.routines ≡ length (routines_of t) = routines_long (slice_index t.turns.now) 0 (routines_of t) in
     let b : length (placed_of t).plans ≡ length (plans.plans_of (coded_of t).program) = ap (λ (q : Placed). length q.plans) e in
@@ -44,7 +44,7 @@ count_is p whole t e =
     let d : length (coded_of t).program.globals ≡ length t.program.now.globals.items = length-map t.program.now.globals.items _ in
     omega (arith, a, b, c, d)
 
-pub total_is : (p : Plant) (whole : List Place) (tasks : List PlacedTask) → map placed_of tasks ≡ placed_from p whole (map coded_of tasks) → total_of tasks ≡ part_total (map coded_of tasks)
+pub total_is : (p : Plant) (whole : List Extent) (tasks : List PlacedTask) → map placed_of tasks ≡ placed_from p whole (map coded_of tasks) → total_of tasks ≡ part_total (map coded_of tasks)
 total_is p whole [] e = refl
 total_is p whole (t ∷ ts) e =
     let head : placed_of t ≡ placed_at p (coded_of t) (task_places (coded_of t).program whole) = cc in
@@ -111,11 +111,11 @@ pub record EndsAt (p : Plant) (tasks : List PlacedTask) (end : ℕ) : Type 0 whe
   pub laid : AllByRecursion (IsLaid end) (map placed_of tasks)
   pub within : end ≤ p.memory
 
-counted : (p : Plant) (tasks : List PlacedTask) (bss : List (List BlockFound)) (devices : List Device) (whole : List Place) → IsBuilt p tasks bss devices whole →
+counted : (p : Plant) (tasks : List PlacedTask) (bss : List (List BlockFound)) (devices : List Device) (whole : List Extent) → IsBuilt p tasks bss devices whole →
     length (parts_from (passes_of p) 0 (map sized_of (map coded_of tasks))) ≡ part_total (map coded_of tasks)
 counted p tasks bss devices whole b = tasks_counted (passes_of p) 0 (map coded_of tasks) (coded_all tasks b.each_task)
 
-pub ends_at : (p : Plant) (tasks : List PlacedTask) (bss : List (List BlockFound)) (devices : List Device) (whole : List Place) → IsBuilt p tasks bss devices whole → EndsAt p tasks (greatest_end (take (part_total (map coded_of tasks)) whole))
+pub ends_at : (p : Plant) (tasks : List PlacedTask) (bss : List (List BlockFound)) (devices : List Device) (whole : List Extent) → IsBuilt p tasks bss devices whole → EndsAt p tasks (greatest_end (take (part_total (map coded_of tasks)) whole))
 ends_at p tasks bss devices whole b =
     let cs = map coded_of tasks in
     let total = part_total cs in
@@ -128,31 +128,31 @@ ends_at p tasks bss devices whole b =
       within = greatest_within p.memory total whole (λ i lt. let z : 0 + i ≡ i = omega arith in subst (λ k. (place_in whole k).1 ≤ p.memory) z (stand_within p.memory (place_in whole) 0 parts here i (omega (arith, lt, long))));
     }
 
-pub first_is : (p : Plant) (tasks : List PlacedTask) (bss : List (List BlockFound)) (devices : List Device) (whole : List Place) → IsBuilt p tasks bss devices whole → total_of tasks ≡ part_total (map coded_of tasks)
+pub first_is : (p : Plant) (tasks : List PlacedTask) (bss : List (List BlockFound)) (devices : List Device) (whole : List Extent) → IsBuilt p tasks bss devices whole → total_of tasks ≡ part_total (map coded_of tasks)
 first_is p tasks bss devices whole b = total_is p whole tasks b.same
 
-pub places_long : (p : Plant) (tasks : List PlacedTask) (bss : List (List BlockFound)) (devices : List Device) (whole : List Place) → IsBuilt p tasks bss devices whole → length whole ≡ total_of tasks + length devices
+pub places_long : (p : Plant) (tasks : List PlacedTask) (bss : List (List BlockFound)) (devices : List Device) (whole : List Extent) → IsBuilt p tasks bss devices whole → length whole ≡ total_of tasks + length devices
 places_long p tasks bss devices whole b =
     let parts = parts_from (passes_of p) 0 (map sized_of (map coded_of tasks)) in
     let a = first_is p tasks bss devices whole b in
     let long = counted p tasks bss devices whole b in
     whole_long p.memory p.line (total_of tasks) parts devices whole (long ∙ sym a) b.placed
 
-pub total_few : (p : Plant) (tasks : List PlacedTask) (bss : List (List BlockFound)) (devices : List Device) (whole : List Place) → IsBuilt p tasks bss devices whole → total_of tasks ≤ 100000
+pub total_few : (p : Plant) (tasks : List PlacedTask) (bss : List (List BlockFound)) (devices : List Device) (whole : List Extent) → IsBuilt p tasks bss devices whole → total_of tasks ≤ 100000
 total_few p tasks bss devices whole b =
     let long = places_long p tasks bss devices whole b in
     let few = b.few in
     omega (arith, long, few)
 
-end_is : (whole : List Place) (tasks : List PlacedTask) (first end : ℕ) → total_of tasks ≡ part_total (map coded_of tasks) → first ≡ total_of tasks → end ≡ greatest_end (take first whole) → end ≡ greatest_end (take (part_total (map coded_of tasks)) whole)
+end_is : (whole : List Extent) (tasks : List PlacedTask) (first end : ℕ) → total_of tasks ≡ part_total (map coded_of tasks) → first ≡ total_of tasks → end ≡ greatest_end (take first whole) → end ≡ greatest_end (take (part_total (map coded_of tasks)) whole)
 end_is whole tasks first end t ef ee = ee ∙ ap (λ n. greatest_end (take n whole)) (ef ∙ t)
 
-pub set_fits : (p : Plant) (tasks : List PlacedTask) (bss : List (List BlockFound)) (devices : List Device) (whole : List Place) (first end : ℕ) → IsBuilt p tasks bss devices whole → first ≡ total_of tasks → end ≡ greatest_end (take first whole) →
+pub set_fits : (p : Plant) (tasks : List PlacedTask) (bss : List (List BlockFound)) (devices : List Device) (whole : List Extent) (first end : ℕ) → IsBuilt p tasks bss devices whole → first ≡ total_of tasks → end ≡ greatest_end (take first whole) →
     AllFit end tasks bss
 set_fits p tasks bss devices whole first end b ef ee =
     subst (λ e. AllFit e tasks bss) (sym (end_is whole tasks first end (first_is p tasks bss devices whole b) ef ee)) (all_fit _ tasks bss b.each_task b.coded (ends_at p tasks bss devices whole b).laid)
 
-records_lawful : (p : Plant) (tasks : List PlacedTask) (bss : List (List BlockFound)) (devices : List Device) (whole : List Place) (content : List ℕ) → IsBuilt p tasks bss devices whole →
+records_lawful : (p : Plant) (tasks : List PlacedTask) (bss : List (List BlockFound)) (devices : List Device) (whole : List Extent) (content : List ℕ) → IsBuilt p tasks bss devices whole →
     length content ≡ greatest_end (take (part_total (map coded_of tasks)) whole) → IsImage p (map task_record (map placed_of tasks)) (device_records devices (drop (part_total (map coded_of tasks)) whole)) content
 records_lawful p tasks bss devices whole content b long =
     let total = part_total (map coded_of tasks) in
@@ -172,11 +172,11 @@ records_lawful p tasks bss devices whole content b long =
       within = omega (arith, within, long);
     }
 
-areas_are : (devices : List Device) (whole : List Place) (tasks : List PlacedTask) (first : ℕ) (areas : List DeviceRecord) → total_of tasks ≡ part_total (map coded_of tasks) → first ≡ total_of tasks → areas ≡ device_records devices (drop first whole) →
+areas_are : (devices : List Device) (whole : List Extent) (tasks : List PlacedTask) (first : ℕ) (areas : List DeviceRecord) → total_of tasks ≡ part_total (map coded_of tasks) → first ≡ total_of tasks → areas ≡ device_records devices (drop first whole) →
     areas ≡ device_records devices (drop (part_total (map coded_of tasks)) whole)
 areas_are devices whole tasks first areas t ef ea = ea ∙ ap (λ n. device_records devices (drop n whole)) (ef ∙ t)
 
-pub is_lawful : (p : Plant) (tasks : List PlacedTask) (bss : List (List BlockFound)) (devices : List Device) (whole : List Place) (first end : ℕ) (records : List TaskRecord) (areas : List DeviceRecord) (content : List ℕ) → IsBuilt p tasks bss devices whole →
+pub is_lawful : (p : Plant) (tasks : List PlacedTask) (bss : List (List BlockFound)) (devices : List Device) (whole : List Extent) (first end : ℕ) (records : List TaskRecord) (areas : List DeviceRecord) (content : List ℕ) → IsBuilt p tasks bss devices whole →
     first ≡ total_of tasks → end ≡ greatest_end (take first whole) → records ≡ map task_record (map placed_of tasks) → areas ≡ device_records devices (drop first whole) → length content ≡ end → IsImage p records areas content
 is_lawful p tasks bss devices whole first end records areas content b ef ee er ea ec =
     let t = first_is p tasks bss devices whole b in
@@ -187,7 +187,7 @@ is_lawful p tasks bss devices whole first end records areas content b ef ee er e
 abbrev image_with : Plant → List TaskRecord → List DeviceRecord → List ℕ → ImageText
 image_with p records areas content = record { plant = p; tasks = records; devices = areas; content = content }
 
-pub image_is : (p : Plant) (tasks : List PlacedTask) (bss : List (List BlockFound)) (devices : List Device) (whole : List Place) (first end : ℕ) (records : List TaskRecord) (areas : List DeviceRecord) (content : List ℕ) → IsBuilt p tasks bss devices whole →
+pub image_is : (p : Plant) (tasks : List PlacedTask) (bss : List (List BlockFound)) (devices : List Device) (whole : List Extent) (first end : ℕ) (records : List TaskRecord) (areas : List DeviceRecord) (content : List ℕ) → IsBuilt p tasks bss devices whole →
     first ≡ total_of tasks → end ≡ greatest_end (take first whole) → records ≡ map task_record (map placed_of tasks) → areas ≡ device_records devices (drop first whole) → content ≡ with_tasks (map placed_of tasks) (replicate end 0) →
     record { plant = p; tasks = records; devices = areas; content = content } ≡ image_of p devices whole (map coded_of tasks)
 image_is p tasks bss devices whole first end records areas content b ef ee er ea ec =

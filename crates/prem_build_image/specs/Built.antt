@@ -5,7 +5,7 @@ use Rattle.prem_list.specs.Sequence.{items_of}
 use Rattle.prem_plant.specs.declared.plant.Plant.{Plant}
 use Rattle.prem_plant.specs.declared.plant.Device.{Device}
 use Rattle.prem_plant.specs.Label.{IsName, AreDistinct}
-use Rattle.prem_plant.specs.Places.{Place, ArePlaces}
+use Rattle.prem_plant.specs.Places.{Extent, ArePlaces}
 use Rattle.prem_plant.specs.Ranges.{Between, IsPlant, IsDevice}
 use Rattle.prem_image.specs.declared.image.Image.{Image}
 use Rattle.prem_layout.specs.Image.{ImageText}
@@ -46,7 +46,7 @@ HaveBlocks [] blocks = Unit {0}
 HaveBlocks (t ∷ ts) [] = ⊥
 HaveBlocks (t ∷ ts) (bs ∷ bss) = HasBlocks t bs × HaveBlocks ts bss
 
-pub record IsBuilt (p : Plant) (tasks : List PlacedTask) (blocks : List (List Block)) (devices : List Device) (places : List Place) : Type 0 where
+pub record IsBuilt (p : Plant) (tasks : List PlacedTask) (blocks : List (List Block)) (devices : List Device) (places : List Extent) : Type 0 where
   pub plant : IsPlant p
   pub task_count : Between 1 16 (length tasks)
   pub each_task : AllByRecursion HasRanges tasks

@@ -1,7 +1,7 @@
 -- The places of a task by its text.
 use Rattle.std.proofs.Common.{◌≡◌, ◌≤◌, List, length, ap, ◌∙◌}
 use Rattle.prem_list.specs.Sequence.{items_of}
-use Rattle.prem_plant.specs.Places.{Place}
+use Rattle.prem_plant.specs.Places.{Extent}
 use Rattle.prem_syntax.specs.Syntax.{ProgramText}
 use Rattle.prem_meaning.specs.GroupTwo.{IsWellFormed}
 use Rattle.prem_meaning.specs.Resolved.{Resolved}
@@ -17,5 +17,5 @@ use Rattle.prem_foot.proofs.PlacesAre.{places_are}
 pub few : (r : ResolvedTree) (p : ProgramText) → IsResolved r p → IsWellFormed p → (length (items_of r.routines) ≤ 256) × (length r.globals.items ≤ 256)
 few r p h well = (few_functions_there r p h well, few_globals_there r p h well)
 
-pub places_are_by_text : (r : ResolvedTree) (p : ProgramText) (places : List Place) → IsResolved r p → places_in r places ≡ places_of p places
+pub places_are_by_text : (r : ResolvedTree) (p : ProgramText) (places : List Extent) → IsResolved r p → places_in r places ≡ places_of p places
 places_are_by_text r p places h = places_are unlimited.turns r places ∙ ap (λ (q : Resolved). task_places q places) (h.same unlimited.turns)

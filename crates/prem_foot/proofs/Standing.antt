@@ -7,7 +7,7 @@ use Rattle.std.specs.Str.{bytes_eq}
 use Rattle.std.proofs.lemmas.Nat.{mul-le}
 use Rattle.std.proofs.lemmas.List.{length-map, append-nil}
 use Rattle.std.proofs.lemmas.Bool.Decides.{nat_tests}
-use Rattle.prem_plant.specs.Places.{Place}
+use Rattle.prem_plant.specs.Places.{Extent}
 use Rattle.prem_plant.specs.declared.layout.PartKind.TheVariants.{Global, Stack}
 use Rattle.prem_plant.specs.declared.layout.PartSize.{PartSize}
 use Rattle.prem_syntax.specs.declared.rules.TypeRule.TheVariants.{Region as RegionRule}
@@ -148,7 +148,7 @@ stack_there task gs size =
 
 -- ---- places by number
 
-place_taken : (places : List Place) (n k : ℕ) (p : Place) → k < n → slice_get places k ≡ Some p → slice_index_or (take n places) k no_place ≡ p
+place_taken : (places : List Extent) (n k : ℕ) (p : Extent) → k < n → slice_get places k ≡ Some p → slice_index_or (take n places) k no_place ≡ p
 place_taken [] n k p lt e = absurd cc
 place_taken (q ∷ qs) zero k p lt e = absurd (omega arith)
 place_taken (q ∷ qs) (suc n) zero p lt e = cc
@@ -206,14 +206,14 @@ get_inside (x ∷ xs) zero g e = omega arith
 get_inside (x ∷ xs) (suc k) g e = let lt = get_inside xs k g e in omega (arith, lt)
 
 -- the place of what stands k parts behind the stubs
-behind_at : (p : Resolved) (places : List Place) (sizes : List ℕ) (memory k number : ℕ) (part : PartSize) → length sizes ≡ length p.routines → k ≤ length p.globals → number ≡ 1 + length sizes + length (plans_of p) + k →
+behind_at : (p : Resolved) (places : List Extent) (sizes : List ℕ) (memory k number : ℕ) (part : PartSize) → length sizes ≡ length p.routines → k ≤ length p.globals → number ≡ 1 + length sizes + length (plans_of p) + k →
     (s : StandsAt memory places number part) → place_at (task_places p places) (1 + length p.routines + length (task_places p places).marked + k) ≡ s.at
 behind_at p places sizes memory k number part long le is s =
     let marked : length (task_places p places).marked ≡ length (plans_of p) = length-map (plans_of p) (λ (plan : Plan). plan.function) in
     let z : 1 + length p.routines + length (task_places p places).marked + k ≡ number = omega (arith, marked, long, is) in
     ap (place_at (task_places p places)) z ∙ place_taken places (part_count p) number s.at (omega (arith, long, is)) s.there
 
-region_stands : (p : Resolved) (places : List Place) (sizes : List ℕ) (passes : Passes) (task memory : ℕ) (r : RegionText) → length sizes ≡ length p.routines → memory ≤ 2 ^ 24 → ArePartsAt memory (task_parts passes task sizes p) places → RegionFits p.globals r → IsRegionAt (task_places p places) (region_of p.globals r)
+region_stands : (p : Resolved) (places : List Extent) (sizes : List ℕ) (passes : Passes) (task memory : ℕ) (r : RegionText) → length sizes ≡ length p.routines → memory ≤ 2 ^ 24 → ArePartsAt memory (task_parts passes task sizes p) places → RegionFits p.globals r → IsRegionAt (task_places p places) (region_of p.globals r)
 region_stands p places sizes passes task memory r long small stand fit =
     let t = task_places p places in
     let g = fit.global in
@@ -226,7 +226,7 @@ region_stands p places sizes passes task memory r long small stand fit =
     let place : global_range t k ≡ s.at = behind_at p places sizes memory k (1 + length sizes + length (plans_of p) + k) (part task (Global (0 + k)) (global_size g) 4) long (omega (arith, inside)) refl s in
     let element : slice_index_or t.elements k 0 ≡ element_size g.ty = element_at p.globals k g there in
     let fits : (r.high + 1) * element_size g.ty ≤ global_size g = inside_global (element_size g.ty) r.high (unwrap_or g.len 1) fit.inside in
-    let start : (global_range t k).0 ≡ s.at.0 = ap (λ (q : Place). q.0) place in
+    let start : (global_range t k).0 ≡ s.at.0 = ap (λ (q : Extent). q.0) place in
     let end : (global_range t k).0 + (r.high + 1) * slice_index_or t.elements k 0 ≤ memory =
     subst (λ n. n + (r.high + 1) * slice_index_or t.elements k 0 ≤ memory) (sym start)
     (subst (λ n. s.at.0 + (r.high + 1) * n ≤ memory) (sym element) (let a = s.ends in let b = s.within in omega (arith, fits, a, b))) in
@@ -234,13 +234,13 @@ region_stands p places sizes passes task memory r long small stand fit =
     let Q : ℕ → Type 0 = λ n. IsRegionAt t (n, r.low, r.high) in
     subst Q (sym number) (record { order = fit.order; small = few; ends = omega (arith, end, small) })
 
-regions_stand : (p : Resolved) (places : List Place) (sizes : List ℕ) (passes : Passes) (task memory : ℕ) (rs : List RegionText) → length sizes ≡ length p.routines → memory ≤ 2 ^ 24 → ArePartsAt memory (task_parts passes task sizes p) places → AllByRecursion (RegionFits p.globals) rs → AllByRecursion (IsRegionAt (task_places p places)) (map (region_of p.globals) rs)
+regions_stand : (p : Resolved) (places : List Extent) (sizes : List ℕ) (passes : Passes) (task memory : ℕ) (rs : List RegionText) → length sizes ≡ length p.routines → memory ≤ 2 ^ 24 → ArePartsAt memory (task_parts passes task sizes p) places → AllByRecursion (RegionFits p.globals) rs → AllByRecursion (IsRegionAt (task_places p places)) (map (region_of p.globals) rs)
 regions_stand p places sizes passes task memory [] long small stand fits = tt
 regions_stand p places sizes passes task memory (r ∷ rs) long small stand fits = (region_stands p places sizes passes task memory r long small stand fits.0, regions_stand p places sizes passes task memory rs long small stand fits.1)
 
 -- ---- all plans
 
-plan_stands : (p : Resolved) (places : List Place) (sizes : List ℕ) (passes : Passes) (task memory most : ℕ) (plan : Plan) → length sizes ≡ length p.routines → memory ≤ 2 ^ 24 → ArePartsAt memory (task_parts passes task sizes p) places →
+plan_stands : (p : Resolved) (places : List Extent) (sizes : List ℕ) (passes : Passes) (task memory most : ℕ) (plan : Plan) → length sizes ≡ length p.routines → memory ≤ 2 ^ 24 → ArePartsAt memory (task_parts passes task sizes p) places →
     frame_at p.routines p.job + most ≤ stack_size p → PlanFits p most plan → IsPlanAt (task_places p places) plan
 plan_stands p places sizes passes task memory most plan long small stand room fit =
     let t = task_places p places in
@@ -249,13 +249,13 @@ plan_stands p places sizes passes task memory most plan long small stand room fi
     let s = stand (1 + length sizes + length (plans_of p) + gs) (part task Stack (stack_size p) 16) at_part in
     let elements : length t.elements ≡ gs = length-map p.globals (λ (g : GlobalVariable). element_size g.ty) in
     let place : stack_place t ≡ s.at = ap (λ k. place_at t (1 + t.functions + length t.marked + k)) elements ∙ behind_at p places sizes memory gs (1 + length sizes + length (plans_of p) + gs) (part task Stack (stack_size p) 16) long (omega arith) refl s in
-    let top : (stack_place t).1 ≡ s.at.1 = ap (λ (q : Place). q.1) place in
+    let top : (stack_place t).1 ≡ s.at.1 = ap (λ (q : Extent). q.1) place in
     record {
       stack = let a = s.ends in let b = fit.base in let d = fit.depth in omega (arith, top, a, b, d, room);
       regions = let P : List Region → Type 0 = λ rs. AllByRecursion (IsRegionAt t) rs in subst P (sym fit.regions) (regions_stand p places sizes passes task memory fit.mark.regions long small stand fit.fits);
     }
 
-each_stands : (p : Resolved) (places : List Place) (sizes : List ℕ) (passes : Passes) (task memory most : ℕ) (plans : List Plan) → length sizes ≡ length p.routines → memory ≤ 2 ^ 24 → ArePartsAt memory (task_parts passes task sizes p) places →
+each_stands : (p : Resolved) (places : List Extent) (sizes : List ℕ) (passes : Passes) (task memory most : ℕ) (plans : List Plan) → length sizes ≡ length p.routines → memory ≤ 2 ^ 24 → ArePartsAt memory (task_parts passes task sizes p) places →
     frame_at p.routines p.job + most ≤ stack_size p → AllByRecursion (PlanFits p most) plans → AllByRecursion (IsPlanAt (task_places p places)) plans
 each_stands p places sizes passes task memory most [] long small stand room fits = tt
 each_stands p places sizes passes task memory most (plan ∷ plans) long small stand room fits =

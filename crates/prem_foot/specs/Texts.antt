@@ -1,6 +1,6 @@
 -- The places of a task by its text.
 use Rattle.std.specs.Prelude.{List}
-use Rattle.prem_plant.specs.Places.{Place}
+use Rattle.prem_plant.specs.Places.{Extent}
 use Rattle.prem_syntax.specs.Syntax.{ProgramText}
 use Rattle.prem_meaning.specs.Resolve.{resolve}
 use Rattle.prem_meaning.specs.Source.{unlimited}
@@ -8,5 +8,5 @@ use Rattle.prem_layout.specs.Footprint.{TaskPlaces}
 use Rattle.prem_layout.specs.Placed.{task_places}
 
 -- the turns of loops don't matter
-abbrev pub places_of : ProgramText → List Place → TaskPlaces
+abbrev pub places_of : ProgramText → List Extent → TaskPlaces
 places_of p places = task_places (resolve unlimited.turns p) places

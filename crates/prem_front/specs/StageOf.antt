@@ -8,7 +8,7 @@ use Rattle.prem_token.specs.Lexeme.{seen_of}
 use Rattle.prem_expression.specs.StateOf.{state_of}
 use Rattle.prem_statement.specs.SlotOf.{slot_of}
 use Rattle.prem_statement.specs.PointOf.{point_of}
-use Rattle.prem_grammar.specs.Item.{Typing, no_type, after_signed, after_unsigned, a_type, Declared, an_item, a_parameter, a_local, Constant, range_low, range_high, only_value, next_value, Value, local_value, result_value, ItemRow, mark_row, region_row, length_row, global_row, body_row, range_row, local_row, end_row, Stage, outside, marked, in_row, in_type, behind_item, behind_global, before_initial, before_constant, behind_constant, before_parameter, on_parameter, behind_parameter, before_local, in_statements, in_value, finished, Step, ahead, made, refused}
+use Rattle.prem_grammar.specs.Item.{Typing, no_type, after_signed, after_unsigned, a_type, Declared, an_item, a_parameter, a_local, Constant, range_low, range_high, only_value, next_value, Value, local_value, result_value, ItemRow, mark_row, region_row, length_row, global_row, body_row, range_row, local_row, end_row, Stage, outside, marked, in_row, in_type, behind_item, behind_global, before_initial, before_constant, behind_constant, before_parameter, on_parameter, behind_parameter, before_local, in_statements, in_value, finished, ItemStep, ahead, made, refused}
 use Rattle.prem_front.specs.declared.stage.Typing.{Typing as CodeTyping}
 use Rattle.prem_front.specs.declared.stage.Typing.TheVariants as t
 use Rattle.prem_front.specs.declared.stage.Declared.{Declared as CodeDeclared}
@@ -21,8 +21,8 @@ use Rattle.prem_front.specs.declared.stage.ItemRow.{ItemRow as CodeRow}
 use Rattle.prem_front.specs.declared.stage.ItemRow.TheVariants as r
 use Rattle.prem_front.specs.declared.stage.Stage.{Stage as CodeStage}
 use Rattle.prem_front.specs.declared.stage.Stage.TheVariants as s
-use Rattle.prem_front.specs.declared.stage.Step.{Step as CodeStep}
-use Rattle.prem_front.specs.declared.stage.Step.TheVariants as steps
+use Rattle.prem_front.specs.declared.stage.ItemStep.{ItemStep as CodeStep}
+use Rattle.prem_front.specs.declared.stage.ItemStep.TheVariants as steps
 
 abbrev pub typing_of : CodeTyping → Typing
 typing_of t.NoType = no_type
@@ -73,7 +73,7 @@ stage_of (s.InStatements function point) = in_statements (function_of function) 
 stage_of (s.InValue value state room) = in_value (value_of value.value) (state_of state) room
 stage_of s.Finished = finished
 
-abbrev pub step_of : CodeStep → Step
+abbrev pub step_of : CodeStep → ItemStep
 step_of (steps.Ahead stage) = ahead (stage_of stage)
 step_of (steps.Made item) = made (item_of item)
 step_of steps.Refused = refused

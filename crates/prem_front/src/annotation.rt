@@ -7,7 +7,7 @@ ghost use Rattle.prem_grammar.specs.Item.{item_begins, behind_mark, with_region,
 ghost use Rattle.prem_front.specs.StageOf.{step_of};
 
 use crate::global::begin_row;
-use crate::stage::{Declared, ItemRow, Stage, Step};
+use crate::stage::{Declared, ItemRow, ItemStep, Stage};
 use crate::typing::type_begins;
 use prem_list::Sequence;
 use prem_statement::{Slot, name_at, place_at, value_at};
@@ -28,11 +28,11 @@ static REGION_ROW: [Slot; 6] = [
 ];
 
 /// A token before an item.
-pub(crate) fn item_begins(alloc: Global, spotted: &Spotted) -> Result<Step, AllocError>
+pub(crate) fn item_begins(alloc: Global, spotted: &Spotted) -> Result<ItemStep, AllocError>
     ensures { IfOk result (λ s. step_of s ≡ item_begins (seen_of spotted.now)) }
 {
     match &spotted.token {
-        Token::End => Ok(Step::Ahead {
+        Token::End => Ok(ItemStep::Ahead {
             stage: Stage::Finished,
         }),
         Token::Word(Word::Predictable) => begin_row(
@@ -47,7 +47,11 @@ pub(crate) fn item_begins(alloc: Global, spotted: &Spotted) -> Result<Step, Allo
 }
 
 /// A token behind a mark and some of its regions.
-pub(crate) fn behind_mark(alloc: Global, mark: Mark, spotted: &Spotted) -> Result<Step, AllocError>
+pub(crate) fn behind_mark(
+    alloc: Global,
+    mark: Mark,
+    spotted: &Spotted,
+) -> Result<ItemStep, AllocError>
     ensures { IfOk result (λ s. step_of s ≡ behind_mark (mark_of mark) (seen_of spotted.now)) }
 {
     match &spotted.token {
@@ -71,24 +75,28 @@ fn with_region(mut mark: Mark, region: Region) -> Result<Mark, AllocError>
 }
 
 /// `PREDICTABLE ( literal )` has all its tokens.
-pub(crate) fn mark_ends(alloc: Global, got: &[Spotted]) -> Step
+pub(crate) fn mark_ends(alloc: Global, got: &[Spotted]) -> ItemStep
     ensures { step_of result ≡ row_ends mark_row (map seen_of got.now) }
 {
     let mark = Mark {
         stated: value_at(got, 2),
         regions: Sequence::new(alloc),
     };
-    Step::Ahead {
+    ItemStep::Ahead {
         stage: Stage::Marked { mark },
     }
 }
 
 /// `REGION ( name , literal , literal )` has all its tokens.
-pub(crate) fn region_ends(alloc: Global, mark: Mark, got: &[Spotted]) -> Result<Step, AllocError>
+pub(crate) fn region_ends(
+    alloc: Global,
+    mark: Mark,
+    got: &[Spotted],
+) -> Result<ItemStep, AllocError>
     ensures { IfOk result (λ s. step_of s ≡ row_ends (region_row (mark_of mark)) (map seen_of got.now)) }
 {
     let Some(name) = name_at(alloc, got, 2)? else {
-        return Ok(Step::Refused);
+        return Ok(ItemStep::Refused);
     };
     let region = Region {
         at: place_at(got, 2),
@@ -97,7 +105,7 @@ pub(crate) fn region_ends(alloc: Global, mark: Mark, got: &[Spotted]) -> Result<
         high: value_at(got, 6),
     };
     let mark = with_region(mark, region)?;
-    Ok(Step::Ahead {
+    Ok(ItemStep::Ahead {
         stage: Stage::Marked { mark },
     })
 }

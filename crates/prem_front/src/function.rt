@@ -10,7 +10,7 @@ ghost use Rattle.prem_grammar.specs.Item.{parameter_begins, parameter_ends, para
 ghost use Rattle.prem_front.specs.StageOf.{value_of, stage_of, step_of};
 
 use crate::global::{begin_row, with_parameter};
-use crate::stage::{Declared, ItemRow, Stage, Step, Typing, Value};
+use crate::stage::{Declared, ItemRow, ItemStep, Stage, Typing, Value};
 use crate::typing::{NOTHING, begins_type, type_begins};
 use prem_expression::{Move, Open, State, advance};
 use prem_list::Sequence;
@@ -33,7 +33,7 @@ pub(crate) fn parameter_begins(
     alloc: Global,
     function: Function,
     spotted: &Spotted,
-) -> Result<Step, AllocError>
+) -> Result<ItemStep, AllocError>
     ensures { IfOk result (λ s. step_of s ≡ parameter_begins (function_of function) (seen_of spotted.now)) }
 {
     match &spotted.token {
@@ -50,11 +50,11 @@ pub(crate) fn parameter_ends(
     alloc: Global,
     function: Function,
     spotted: &Spotted,
-) -> Result<Step, AllocError>
+) -> Result<ItemStep, AllocError>
     ensures { IfOk result (λ s. step_of s ≡ parameter_ends (function_of function) (seen_of spotted.now)) }
 {
     if is_comma(&spotted.token) {
-        return Ok(Step::Ahead {
+        return Ok(ItemStep::Ahead {
             stage: Stage::InType {
                 declared: boxed(alloc, Declared::AParameter { function })?,
                 typing: Typing::NoType,
@@ -62,7 +62,7 @@ pub(crate) fn parameter_ends(
         });
     }
     if !is_right_parenthesis(&spotted.token) {
-        return Ok(Step::Refused);
+        return Ok(ItemStep::Refused);
     }
     let row = ItemRow::BodyRow { function };
     begin_row(alloc, row, spotted, Slot::LeftBrace, &NOTHING)
@@ -74,7 +74,7 @@ pub(crate) fn parameter_goes_on(
     function: Function,
     param: Param,
     spotted: &Spotted,
-) -> Result<Step, AllocError>
+) -> Result<ItemStep, AllocError>
     ensures { IfOk result (λ s. step_of s ≡ parameter_goes_on (function_of function) (parameter_of param) (seen_of spotted.now)) }
 {
     match &spotted.token {
@@ -124,18 +124,18 @@ pub(crate) fn value_begins(alloc: Global, value: Value) -> Result<Stage, AllocEr
 }
 
 /// A token behind the last statement.
-fn body_ends(alloc: Global, function: Function, spotted: &Spotted) -> Result<Step, AllocError>
+fn body_ends(alloc: Global, function: Function, spotted: &Spotted) -> Result<ItemStep, AllocError>
     ensures { IfOk result (λ s. step_of s ≡ body_ends (function_of function) (seen_of spotted.now)) }
 {
     match &spotted.token {
-        Token::Word(Word::Return) => Ok(Step::Ahead {
+        Token::Word(Word::Return) => Ok(ItemStep::Ahead {
             stage: value_begins(alloc, Value::OfResult { function })?,
         }),
         token => {
             if !is_right_brace(token) {
-                return Ok(Step::Refused);
+                return Ok(ItemStep::Refused);
             }
-            Ok(Step::Made {
+            Ok(ItemStep::Made {
                 item: Item::Function(function),
             })
         }
@@ -148,18 +148,18 @@ pub(crate) fn statement_step(
     function: Function,
     taken: Turn,
     spotted: &Spotted,
-) -> Result<Step, AllocError>
+) -> Result<ItemStep, AllocError>
     ensures { IfOk result (λ s. step_of s ≡ statement_step (function_of function) (turn_of taken) (seen_of spotted.now)) }
 {
     match taken {
         Turn::On { point } => {
             let point = boxed(alloc, point)?;
-            Ok(Step::Ahead {
+            Ok(ItemStep::Ahead {
                 stage: Stage::InStatements { function, point },
             })
         }
         Turn::Leaves { statements } => body_ends(alloc, with_body(function, statements), spotted),
-        Turn::Wrong => Ok(Step::Refused),
+        Turn::Wrong => Ok(ItemStep::Refused),
     }
 }
 
@@ -168,7 +168,7 @@ pub(crate) fn local_begins(
     alloc: Global,
     function: Function,
     spotted: &Spotted,
-) -> Result<Step, AllocError>
+) -> Result<ItemStep, AllocError>
     ensures { IfOk result (λ s. step_of s ≡ local_begins (function_of function) (seen_of spotted.now)) }
 {
     if begins_type(&spotted.token) {
@@ -186,7 +186,7 @@ fn value_ends(
     what: Value,
     value: Expr,
     spotted: &Spotted,
-) -> Result<Step, AllocError>
+) -> Result<ItemStep, AllocError>
     ensures { IfOk result (λ s. step_of s ≡ value_ends (value_of what) (expression_of value) (seen_of spotted.now)) }
 {
     match what {
@@ -203,7 +203,7 @@ fn value_ends(
                 value,
             };
             let function = with_local(function, local)?;
-            Ok(Step::Ahead {
+            Ok(ItemStep::Ahead {
                 stage: Stage::BeforeLocal { function },
             })
         }
@@ -222,11 +222,11 @@ pub(crate) fn value_goes_on(
     state: State,
     room: u32,
     spotted: &Spotted,
-) -> Result<Step, AllocError>
+) -> Result<ItemStep, AllocError>
     ensures { IfOk result (λ s. step_of s ≡ value_goes_on (value_of what.value) (state_of state) room (seen_of spotted.now)) }
 {
     match advance(alloc, 1, state, spotted)? {
-        Move::Goes { state } => Ok(Step::Ahead {
+        Move::Goes { state } => Ok(ItemStep::Ahead {
             stage: Stage::InValue {
                 value: what,
                 state,
@@ -235,10 +235,10 @@ pub(crate) fn value_goes_on(
         }),
         Move::Ends { value } => {
             if !is_semicolon(&spotted.token) {
-                return Ok(Step::Refused);
+                return Ok(ItemStep::Refused);
             }
             value_ends(alloc, Box::into_inner(what), value, spotted)
         }
-        Move::Stops => Ok(Step::Refused),
+        Move::Stops => Ok(ItemStep::Refused),
     }
 }

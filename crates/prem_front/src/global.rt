@@ -9,7 +9,7 @@ ghost use Rattle.prem_grammar.specs.Item.{begin_row, scalar, with_length, with_i
 ghost use Rattle.prem_statement.specs.SlotOf.{slot_of};
 ghost use Rattle.prem_front.specs.StageOf.{row_of, constant_of, stage_of, step_of};
 
-use crate::stage::{Constant, ItemRow, Stage, Step};
+use crate::stage::{Constant, ItemRow, ItemStep, Stage};
 use crate::typing::NOTHING;
 use prem_list::Sequence;
 use prem_statement::{
@@ -30,13 +30,13 @@ pub(crate) fn begin_row(
     spotted: &Spotted,
     wanted: Slot,
     later: &'static [Slot],
-) -> Result<Step, AllocError>
+) -> Result<ItemStep, AllocError>
     ensures { IfOk result (λ s. step_of s ≡ begin_row (row_of row) (seen_of spotted.now) (slot_of wanted) (map slot_of later.now)) }
 {
     let row = boxed(alloc, row)?;
     let mut got = Sequence::new(alloc);
     got.push(copy_spotted(alloc, spotted)?)?;
-    Ok(Step::Ahead {
+    Ok(ItemStep::Ahead {
         stage: Stage::InRow {
             row,
             got,
@@ -85,20 +85,20 @@ fn with_initial(global: Variable, initial: Initial) -> Variable
 }
 
 /// A token behind the name or the length of a global.
-pub(crate) fn global_ends(global: Variable, spotted: &Spotted) -> Step
+pub(crate) fn global_ends(global: Variable, spotted: &Spotted) -> ItemStep
     ensures { step_of result ≡ global_ends (global_of global) (seen_of spotted.now) }
 {
     if is_equal(&spotted.token) {
-        return Step::Ahead {
+        return ItemStep::Ahead {
             stage: Stage::BeforeInitial { global },
         };
     }
     if is_semicolon(&spotted.token) {
-        return Step::Made {
+        return ItemStep::Made {
             item: Item::Global(global),
         };
     }
-    Step::Refused
+    ItemStep::Refused
 }
 
 /// A function of which only the beginning is read.
@@ -125,11 +125,11 @@ fn global_or(
     at: Place,
     name: Name,
     spotted: &Spotted,
-) -> Result<Step, AllocError>
+) -> Result<ItemStep, AllocError>
     ensures { IfOk result (λ s. step_of s ≡ global_or (option_map mark_of mark) ty at (name_bytes name) (seen_of spotted.now)) }
 {
     if mark.is_some() {
-        return Ok(Step::Refused);
+        return Ok(ItemStep::Refused);
     }
     let global = scalar(ty, at, name);
     if is_left_bracket(&spotted.token) {
@@ -147,12 +147,12 @@ pub(crate) fn item_goes_on(
     at: Place,
     name: Name,
     spotted: &Spotted,
-) -> Result<Step, AllocError>
+) -> Result<ItemStep, AllocError>
     ensures { IfOk result (λ s. step_of s ≡ item_goes_on (option_map mark_of mark) ty at (name_bytes name) (seen_of spotted.now)) }
 {
     if is_left_parenthesis(&spotted.token) {
         let function = new_function(alloc, mark, ty, at, name);
-        return Ok(Step::Ahead {
+        return Ok(ItemStep::Ahead {
             stage: Stage::BeforeParameter { function },
         });
     }
@@ -171,13 +171,13 @@ fn number_of(negative: bool, value: u32) -> i64
 }
 
 /// The `-` of a constant stands once.
-fn minus_once(what: Constant, negative: bool) -> Step
+fn minus_once(what: Constant, negative: bool) -> ItemStep
     ensures { step_of result ≡ minus_once (constant_of what) negative }
 {
     if negative {
-        return Step::Refused;
+        return ItemStep::Refused;
     }
-    Step::Ahead {
+    ItemStep::Ahead {
         stage: Stage::BeforeConstant {
             constant: what,
             negative: true,
@@ -186,18 +186,18 @@ fn minus_once(what: Constant, negative: bool) -> Step
 }
 
 /// A token of a constant.
-pub(crate) fn constant(what: Constant, negative: bool, token: &Token) -> Step
+pub(crate) fn constant(what: Constant, negative: bool, token: &Token) -> ItemStep
     ensures { step_of result ≡ constant (constant_of what) negative (lexeme_of token.now) }
 {
     match token {
-        Token::Literal { value, .. } => Step::Ahead {
+        Token::Literal { value, .. } => ItemStep::Ahead {
             stage: Stage::BehindConstant {
                 constant: what,
                 value: number_of(negative, *value),
             },
         },
         Token::Mark(Sign::Minus) => minus_once(what, negative),
-        _ => Step::Refused,
+        _ => ItemStep::Refused,
     }
 }
 
@@ -227,13 +227,13 @@ fn element_ends(
     mut before: Sequence<i64>,
     value: i64,
     spotted: &Spotted,
-) -> Result<Step, AllocError>
+) -> Result<ItemStep, AllocError>
     ensures { IfOk result (λ s. step_of s ≡ constant_ends (next_value (global_of global) (items_of before)) value (seen_of spotted.now)) }
 {
     before.push(value)?;
     if is_comma(&spotted.token) {
         let constant = Constant::NextValue { global, before };
-        return Ok(Step::Ahead {
+        return Ok(ItemStep::Ahead {
             stage: Stage::BeforeConstant {
                 constant,
                 negative: false,
@@ -241,7 +241,7 @@ fn element_ends(
         });
     }
     if !is_right_brace(&spotted.token) {
-        return Ok(Step::Refused);
+        return Ok(ItemStep::Refused);
     }
     let initial = Initial::Many { values: before };
     let global = with_initial(global, initial);
@@ -256,27 +256,27 @@ fn range_ends(
     low: i64,
     high: i64,
     spotted: &Spotted,
-) -> Result<Step, AllocError>
+) -> Result<ItemStep, AllocError>
     ensures { IfOk result (λ s. step_of s ≡ constant_ends (range_high (function_of function) (parameter_of param) low) high (seen_of spotted.now)) }
 {
     if !is_right_parenthesis(&spotted.token) {
-        return Ok(Step::Refused);
+        return Ok(ItemStep::Refused);
     }
     let function = with_parameter(function, with_range(param, low, high))?;
-    Ok(Step::Ahead {
+    Ok(ItemStep::Ahead {
         stage: Stage::BehindParameter { function },
     })
 }
 
 /// A token behind the initial value of a scalar.
-fn scalar_ends(global: Variable, value: i64, spotted: &Spotted) -> Step
+fn scalar_ends(global: Variable, value: i64, spotted: &Spotted) -> ItemStep
     ensures { step_of result ≡ constant_ends (only_value (global_of global)) value (seen_of spotted.now) }
 {
     if !is_semicolon(&spotted.token) {
-        return Step::Refused;
+        return ItemStep::Refused;
     }
     let global = with_initial(global, Initial::One { value });
-    Step::Made {
+    ItemStep::Made {
         item: Item::Global(global),
     }
 }
@@ -287,13 +287,13 @@ pub(crate) fn constant_ends(
     what: Constant,
     value: i64,
     spotted: &Spotted,
-) -> Result<Step, AllocError>
+) -> Result<ItemStep, AllocError>
     ensures { IfOk result (λ s. step_of s ≡ constant_ends (constant_of what) value (seen_of spotted.now)) }
 {
     match what {
         Constant::RangeLow { function, param } => {
             if !is_comma(&spotted.token) {
-                return Ok(Step::Refused);
+                return Ok(ItemStep::Refused);
             }
             let low = value;
             let constant = Constant::RangeHigh {
@@ -301,7 +301,7 @@ pub(crate) fn constant_ends(
                 param,
                 low,
             };
-            Ok(Step::Ahead {
+            Ok(ItemStep::Ahead {
                 stage: Stage::BeforeConstant {
                     constant,
                     negative: false,
@@ -321,7 +321,7 @@ pub(crate) fn constant_ends(
 }
 
 /// The first token of an initial value.
-pub(crate) fn initial_begins(alloc: Global, global: Variable, spotted: &Spotted) -> Step
+pub(crate) fn initial_begins(alloc: Global, global: Variable, spotted: &Spotted) -> ItemStep
     ensures { step_of result ≡ initial_begins (global_of global) (seen_of spotted.now) }
 {
     if is_left_brace(&spotted.token) {
@@ -329,7 +329,7 @@ pub(crate) fn initial_begins(alloc: Global, global: Variable, spotted: &Spotted)
             global,
             before: Sequence::new(alloc),
         };
-        return Step::Ahead {
+        return ItemStep::Ahead {
             stage: Stage::BeforeConstant {
                 constant,
                 negative: false,

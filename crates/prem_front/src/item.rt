@@ -14,7 +14,7 @@ use crate::function::{
 use crate::global::{
     constant, constant_ends, global_ends, initial_begins, item_goes_on, with_length,
 };
-use crate::stage::{Constant, ItemRow, Stage, Step, Value};
+use crate::stage::{Constant, ItemRow, ItemStep, Stage, Value};
 use crate::typing::type_or_name;
 use prem_list::Sequence;
 use prem_statement::{Slot, copy_spotted, fits, is_past, turn, value_at};
@@ -23,19 +23,19 @@ use prem_token::Spotted;
 use std::alloc::{AllocError, Global};
 
 /// A row has all its tokens.
-fn row_ends(alloc: Global, row: ItemRow, got: &[Spotted]) -> Result<Step, AllocError>
+fn row_ends(alloc: Global, row: ItemRow, got: &[Spotted]) -> Result<ItemStep, AllocError>
     ensures { IfOk result (λ s. step_of s ≡ row_ends (row_of row) (map seen_of got.now)) }
 {
     let stage = match row {
         ItemRow::MarkRow => return Ok(mark_ends(alloc, got)),
         ItemRow::RegionRow { mark } => return region_ends(alloc, mark, got),
         ItemRow::GlobalRow { global } => {
-            return Ok(Step::Made {
+            return Ok(ItemStep::Made {
                 item: Item::Global(global),
             });
         }
         ItemRow::EndRow { function } => {
-            return Ok(Step::Made {
+            return Ok(ItemStep::Made {
                 item: Item::Function(function),
             });
         }
@@ -62,7 +62,7 @@ fn row_ends(alloc: Global, row: ItemRow, got: &[Spotted]) -> Result<Step, AllocE
             value_begins(alloc, value)?
         }
     };
-    Ok(Step::Ahead { stage })
+    Ok(ItemStep::Ahead { stage })
 }
 
 fn row_goes_on(
@@ -70,12 +70,12 @@ fn row_goes_on(
     row: Box<ItemRow>,
     got: Sequence<Spotted>,
     later: &'static [Slot],
-) -> Result<Step, AllocError>
+) -> Result<ItemStep, AllocError>
     ensures { IfOk result (λ s. step_of s ≡ row_goes_on (row_of row.value) (map seen_of (items_of got)) (map slot_of later.now)) }
 {
     match later {
         [] => row_ends(alloc, Box::into_inner(row), got.items()),
-        [wanted, rest @ ..] => Ok(Step::Ahead {
+        [wanted, rest @ ..] => Ok(ItemStep::Ahead {
             stage: Stage::InRow {
                 row,
                 got,
@@ -94,18 +94,18 @@ fn in_row(
     wanted: Slot,
     later: &'static [Slot],
     spotted: &Spotted,
-) -> Result<Step, AllocError>
+) -> Result<ItemStep, AllocError>
     ensures { IfOk result (λ s. step_of s ≡ step (in_row (row_of row.value) (map seen_of (items_of got)) (slot_of wanted) (map slot_of later.now)) (seen_of spotted.now)) }
 {
     if !fits(wanted, &spotted.token) {
-        return Ok(Step::Refused);
+        return Ok(ItemStep::Refused);
     }
     got.push(copy_spotted(alloc, spotted)?)?;
     row_goes_on(alloc, row, got, later)
 }
 
 /// What a token is to the program of which the tokens up to `stage` have been read.
-pub(crate) fn step(alloc: Global, stage: Stage, spotted: &Spotted) -> Result<Step, AllocError>
+pub(crate) fn step(alloc: Global, stage: Stage, spotted: &Spotted) -> Result<ItemStep, AllocError>
     ensures { IfOk result (λ s. step_of s ≡ step (stage_of stage) (seen_of spotted.now)) }
 {
     match stage {
@@ -143,7 +143,7 @@ pub(crate) fn step(alloc: Global, stage: Stage, spotted: &Spotted) -> Result<Ste
         Stage::InValue { value, state, room } => {
             value_goes_on(alloc, value, state, room, spotted)
         }
-        Stage::Finished => Ok(Step::Refused),
+        Stage::Finished => Ok(ItemStep::Refused),
     }
 }
 

@@ -10,7 +10,7 @@ ghost use Rattle.prem_front.specs.StageOf.{stage_of};
 ghost use Rattle.prem_text.specs.Texts.{reads};
 
 use crate::item::{is_too_deep, step};
-use crate::stage::{Stage, Step};
+use crate::stage::{ItemStep, Stage};
 use prem_lexer::tokens;
 use prem_list::Sequence;
 use prem_syntax::{Item, Place, Program};
@@ -53,7 +53,7 @@ fn read(alloc: Global, all: &[Spotted]) -> Result<Program, FrontFail>
     let mut stage = Stage::Outside;
     for spotted in all {
         match step(alloc, stage, spotted)? {
-            Step::Ahead { stage: next } => {
+            ItemStep::Ahead { stage: next } => {
                 if is_too_deep(&next) {
                     return Err(FrontFail::TooDeep {
                         line: spotted.at.line,
@@ -61,11 +61,11 @@ fn read(alloc: Global, all: &[Spotted]) -> Result<Program, FrontFail>
                 }
                 stage = next;
             }
-            Step::Made { item } => {
+            ItemStep::Made { item } => {
                 items.push(item)?;
                 stage = Stage::Outside;
             }
-            Step::Refused => return Err(syntax(spotted.at)),
+            ItemStep::Refused => return Err(syntax(spotted.at)),
         }
     }
     at_end(items, &stage)

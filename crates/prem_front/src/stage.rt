@@ -182,7 +182,7 @@ pub enum Stage {
 
 /// What a token is to the program.
 #[derive(Drop)]
-pub enum Step {
+pub enum ItemStep {
     /// The program goes on with it.
     Ahead { stage: Stage },
     /// It ends an item.

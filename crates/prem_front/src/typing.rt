@@ -6,7 +6,7 @@ ghost use Rattle.prem_token.specs.Lexeme.{lexeme_of, seen_of};
 ghost use Rattle.prem_grammar.specs.Item.{type_begun, behind_signed, behind_unsigned, type_word, type_in, declared, type_or_name, type_begins, begins_type};
 ghost use Rattle.prem_front.specs.StageOf.{typing_of, declared_of, stage_of, step_of};
 
-use crate::stage::{Declared, ItemRow, Stage, Step, Typing};
+use crate::stage::{Declared, ItemRow, ItemStep, Stage, Typing};
 use prem_list::Sequence;
 use prem_statement::{Slot, boxed};
 use prem_syntax::{Name, Param, Place, Ty, copy_name};
@@ -117,28 +117,28 @@ pub(crate) fn type_or_name(
     what: Box<Declared>,
     typing: Typing,
     spotted: &Spotted,
-) -> Result<Step, AllocError>
+) -> Result<ItemStep, AllocError>
     ensures { IfOk result (λ s. step_of s ≡ type_or_name (declared_of what.value) (typing_of typing) spotted.now.at (lexeme_of spotted.now.token)) }
 {
     match &spotted.token {
         Token::Word(word) => Ok(match type_word(typing, *word) {
-            Some(typing) => Step::Ahead {
+            Some(typing) => ItemStep::Ahead {
                 stage: Stage::InType {
                     declared: what,
                     typing,
                 },
             },
-            None => Step::Refused,
+            None => ItemStep::Refused,
         }),
         Token::Name(name) => match type_in(typing) {
             Some(ty) => {
                 let name = copy_name(alloc, name)?;
                 let stage = declared(alloc, Box::into_inner(what), ty, spotted.at, name)?;
-                Ok(Step::Ahead { stage })
+                Ok(ItemStep::Ahead { stage })
             }
-            None => Ok(Step::Refused),
+            None => Ok(ItemStep::Refused),
         },
-        _ => Ok(Step::Refused),
+        _ => Ok(ItemStep::Refused),
     }
 }
 
@@ -147,7 +147,7 @@ pub(crate) fn type_begins(
     alloc: Global,
     what: Declared,
     spotted: &Spotted,
-) -> Result<Step, AllocError>
+) -> Result<ItemStep, AllocError>
     ensures { IfOk result (λ s. step_of s ≡ type_begins (declared_of what) (seen_of spotted.now)) }
 {
     type_or_name(alloc, boxed(alloc, what)?, Typing::NoType, spotted)

@@ -3,7 +3,7 @@ use Rattle.std.proofs.Common.{◌≡◌, ℕ, zero, suc, ◌<◌, ◌≤◌, Lis
 use Rattle.std.specs.Prelude.{codes, slice_get, All}
 use Rattle.std.specs.Int.Count.{ones}
 use Rattle.prem_plant.specs.declared.plant.Plant.{Plant}
-use Rattle.prem_plant.specs.Places.{Place, AreApart, AreDisjoint}
+use Rattle.prem_plant.specs.Places.{Extent, AreApart, AreDisjoint}
 use Rattle.prem_image.specs.declared.image.TaskRecord.{TaskRecord}
 use Rattle.prem_image.specs.declared.image.DeviceRecord.{DeviceRecord}
 use Rattle.prem_image.specs.Records.{IsTask, IsPlaced, AreDistinct, IsImage, area_of, task_names}
@@ -81,8 +81,8 @@ each_device : All (IsPlaced 16 4096) one_device
 each_device zero d h = row_placed
 each_device (suc k) d h = absurd (let x : suc k < 1 = h in omega arith)
 
-forward : (i : ℕ) (p : Place) → slice_get (map (area_of 16) one_device) i ≡ Some p → p.0 ≤ p.1
-forward zero p h = let e : Some (304, 368) ≡ Some p = h in let q : (304, 368) ≡ p = cc in subst (λ (r : Place). r.0 ≤ r.1) q (omega arith)
+forward : (i : ℕ) (p : Extent) → slice_get (map (area_of 16) one_device) i ≡ Some p → p.0 ≤ p.1
+forward zero p h = let e : Some (304, 368) ≡ Some p = h in let q : (304, 368) ≡ p = cc in subst (λ (r : Extent). r.0 ≤ r.1) q (omega arith)
 forward (suc i) p h = absurd (let e : None ≡ Some p = h in cc)
 
 apart : AreDisjoint (map (area_of 16) one_device)

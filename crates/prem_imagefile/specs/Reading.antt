@@ -6,7 +6,7 @@ use Rattle.std.specs.Int.{is_power_of_two}
 use Rattle.byteorder.specs.Endian.{little_number}
 pub use Rattle.prem_line.specs.Chain.{◌>>=◌}
 use Rattle.prem_plant.specs.Label.{is_name_byte}
-use Rattle.prem_plant.specs.Places.{Place}
+use Rattle.prem_plant.specs.Places.{Extent}
 use Rattle.prem_plant.specs.declared.plant.Plant.{Plant}
 use Rattle.prem_image.specs.declared.image.TaskRecord.{TaskRecord}
 use Rattle.prem_image.specs.declared.image.DeviceRecord.{DeviceRecord}
@@ -164,7 +164,7 @@ abbrev pub tasks_at : ℕ → ℕ → Unread → Result (List TaskRecord × Unre
 tasks_at memory n u = many_at (task_at memory) n [] u
 
 -- two places that share no byte, where neither is empty
-abbrev pub is_clear : Place → Place → Bool
+abbrev pub is_clear : Extent → Extent → Bool
 is_clear p q = nat_le p.1 q.0 || nat_le q.1 p.0
 
 -- an area of so many lines may begin at n: at a line, within memory, and clear of the areas of those in front

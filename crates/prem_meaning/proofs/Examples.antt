@@ -6,11 +6,11 @@ use Rattle.prem_syntax.specs.declared.tree.Ty.TheVariants.{Void, Int as IntTy, S
 use Rattle.prem_syntax.specs.declared.tree.UnOp.TheVariants.{Not}
 use Rattle.prem_syntax.specs.Syntax.{variable, element, unary, binary, block, if_then, if_else, bounded_while, counting_for, assign, output, input, call, no_statements, absent, one, many, ProgramText}
 use Rattle.prem_meaning.specs.Expressions.{Outcome, and_then}
-use Rattle.prem_meaning.specs.Statements.{State, counting, bounded}
+use Rattle.prem_meaning.specs.Statements.{ProgramState, counting, bounded}
 use Rattle.prem_meaning.specs.Source.{source}
 use Rattle.prem_meaning.proofs.Samples.{at, int, uint, statements, one_name, parameter, local, region, global, function, plain}
 
-abbrev outputs_of : Outcome State → Outcome (List ℕ)
+abbrev outputs_of : Outcome ProgramState → Outcome (List ℕ)
 outputs_of r = and_then r (λ s. Ok s.outputs)
 
 -- sums and differences of ints wrap, and an output is a word

@@ -6,7 +6,7 @@ use Rattle.prem_syntax.specs.Syntax.{Expression, literal, variable, element, una
 use Rattle.prem_meaning.specs.Resolved.{Done}
 use Rattle.prem_meaning.specs.Resolve.{Scope, kind_of, resolve_term, resolve_statements}
 use Rattle.prem_meaning.specs.Expressions.{Access, eval}
-use Rattle.prem_meaning.specs.Statements.{State, Calls, run}
+use Rattle.prem_meaning.specs.Statements.{ProgramState, Calls, run}
 use Rattle.prem_meaning.specs.Source.{source, everywhere}
 use Rattle.prem_meaning.specs.Sums.{job_function, job_program, outputs, IsSum, sum_kind, sum_word, AreSums, sum_words}
 
@@ -32,10 +32,10 @@ eval-sum may gs ls scope (variable at name) h = absurd h
 eval-sum may gs ls scope (element at name index) h = absurd h
 eval-sum may gs ls scope (unary at op operand) h = absurd h
 
-abbrev with_outputs : State → List ℕ → State
+abbrev with_outputs : ProgramState → List ℕ → ProgramState
 with_outputs s ws = record s { outputs = ws }
 
-run-sums : (may : Access) (calls : Calls) (scope : Scope) (turns : ℕ → ℕ) (n : ℕ) (os : List (Place × Expression)) (s : State) → AreSums os →
+run-sums : (may : Access) (calls : Calls) (scope : Scope) (turns : ℕ → ℕ) (n : ℕ) (os : List (Place × Expression)) (s : ProgramState) → AreSums os →
     run may calls (resolve_statements scope turns n (outputs os) Done) s ≡ Ok (with_outputs s (s.outputs ++ sum_words os))
 run-sums may calls scope turns n [] s h = ap (λ ws. Ok (with_outputs s ws)) (sym (append-nil s.outputs))
 run-sums may calls scope turns n (o ∷ os) s h =

@@ -5,7 +5,7 @@ use Rattle.prem_syntax.specs.Syntax.{InitialValue, absent, one, many, GlobalVari
 use Rattle.prem_meaning.specs.Resolved.{Routine, Resolved}
 use Rattle.prem_meaning.specs.Resolve.{resolve}
 use Rattle.prem_meaning.specs.Expressions.{Outcome, and_then, Access}
-use Rattle.prem_meaning.specs.Statements.{State, Calls, stored, is_marked, enter}
+use Rattle.prem_meaning.specs.Statements.{ProgramState, Calls, stored, is_marked, enter}
 
 -- What a run may do. In the meaning of a program nothing is ever refused: an int has 2 ^ 32 values, so no counting loop takes more turns.
 pub record Limits : Type 0 where
@@ -42,7 +42,7 @@ constants_of (many zs) = zs
 abbrev pub initial_words : GlobalVariable → List ℕ
 initial_words g = take (unwrap_or g.len 1) (map (λ z. stored g.ty (word_of z)) (constants_of g.initial) ++ replicate (unwrap_or g.len 1) 0)
 
-abbrev pub start : Resolved → List ℕ → State
+abbrev pub start : Resolved → List ℕ → ProgramState
 start p inputs = record {
   globals = map initial_words p.globals;
   locals = [];
@@ -56,14 +56,14 @@ abbrev pub everywhere : Access
 everywhere g j = true
 
 -- jobs, one after another
-abbrev pub do_jobs : Limits → Resolved → ℕ → State → Outcome State
+abbrev pub do_jobs : Limits → Resolved → ℕ → ProgramState → Outcome ProgramState
 do_jobs limits p zero s = Ok s
 do_jobs limits p (suc n) s =
     and_then (calls_below limits p.routines (length p.routines) everywhere p.job [] s) (λ r. do_jobs limits p n r.1)
 
-abbrev pub source_within : Limits → ProgramText → List ℕ → ℕ → Outcome State
+abbrev pub source_within : Limits → ProgramText → List ℕ → ℕ → Outcome ProgramState
 source_within limits p inputs jobs = do_jobs limits (resolve limits.turns p) jobs (start (resolve limits.turns p) inputs)
 
 -- the state after so many jobs, or wrong at a line
-abbrev pub source : ProgramText → List ℕ → ℕ → Outcome State
+abbrev pub source : ProgramText → List ℕ → ℕ → Outcome ProgramState
 source p inputs jobs = source_within unlimited p inputs jobs

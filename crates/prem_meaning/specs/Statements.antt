@@ -14,7 +14,7 @@ pub record MarkedCall : Type 0 where
   pub before : List (List ℕ)
   pub after : List (List ℕ)
 
-pub record State : Type 0 where
+pub record ProgramState : Type 0 where
   pub globals : List (List ℕ)  -- the words of each, in the order of the text
   pub locals : List ℕ  -- of the function at work: parameters, then locals
   pub inputs : List ℕ  -- that are left
@@ -24,20 +24,20 @@ pub record State : Type 0 where
 
 -- what a call does: the function's access, its number, the arguments; it gives the result and the caller's state behind it
 abbrev pub Calls : Type 0
-Calls = Access → ℕ → List ℕ → State → Outcome (ℕ × State)
+Calls = Access → ℕ → List ℕ → ProgramState → Outcome (ℕ × ProgramState)
 
 -- one of two ways on
-abbrev pub choose : Bool → (State → Outcome State) → (State → Outcome State) → State → Outcome State
+abbrev pub choose : Bool → (ProgramState → Outcome ProgramState) → (ProgramState → Outcome ProgramState) → ProgramState → Outcome ProgramState
 choose true taken other s = taken s
 choose false taken other s = other s
 
-abbrev pub value : Access → State → Term → Outcome ℕ
+abbrev pub value : Access → ProgramState → Term → Outcome ℕ
 value may s e = eval may s.globals s.locals e
 
-abbrev pub values : Access → State → List Term → Outcome (List ℕ)
+abbrev pub values : Access → ProgramState → List Term → Outcome (List ℕ)
 values may s es = eval_all may s.globals s.locals es
 
-abbrev pub with_local : ℕ → ℕ → State → State
+abbrev pub with_local : ℕ → ℕ → ProgramState → ProgramState
 with_local k w s = record s { locals = slice_set s.locals k w }
 
 -- a store keeps the low bits that fit the type, and the element is held as its promoted word
@@ -48,22 +48,22 @@ stored Schar w = word_of (cast_signed w8 (w % 2 ^ 8))
 stored Uchar w = w % 2 ^ 8
 stored ty w = w
 
-abbrev pub with_cell : ℕ → ℕ → ℕ → State → State
+abbrev pub with_cell : ℕ → ℕ → ℕ → ProgramState → ProgramState
 with_cell g j w s = record s { globals = slice_set s.globals g (slice_set (words_of s.globals g) j w) }
 
 -- a store to an element, which has to be there
-abbrev pub store : Access → ℕ → Ty → ℕ → ℕ → ℕ → State → Outcome State
+abbrev pub store : Access → ℕ → Ty → ℕ → ℕ → ℕ → ProgramState → Outcome ProgramState
 store may line ty g j w s = and_then (or_wrong line (cell may s.globals g j)) (λ old. Ok (with_cell g j (stored ty w) s))
 
-abbrev pub with_output : ℕ → State → State
+abbrev pub with_output : ℕ → ProgramState → ProgramState
 with_output w s = record s { outputs = s.outputs ++ w ∷ [] }
 
 -- the next input to a local; 0 behind the last one
-abbrev pub take_input : ℕ → List ℕ → State → State
+abbrev pub take_input : ℕ → List ℕ → ProgramState → ProgramState
 take_input k [] s = with_local k 0 s
 take_input k (w ∷ rest) s = with_local k w (record s { inputs = rest; used = s.used + 1 })
 
-abbrev pub holds : Access → Term → State → Outcome Bool
+abbrev pub holds : Access → Term → ProgramState → Outcome Bool
 holds may condition s = and_then (value may s condition) (λ c. Ok (not (c == 0)))
 
 -- whether i is below a loop's bound, or at it
@@ -71,32 +71,32 @@ abbrev pub in_bound : Bool → ℤ → ℤ → Bool
 in_bound false i high = int_lt i high
 in_bound true i high = not (int_lt high i)
 
-abbrev pub int_local : ℕ → State → ℤ
+abbrev pub int_local : ℕ → ProgramState → ℤ
 int_local k s = value_in Int (slice_index s.locals k)
 
-abbrev pub loop_test : Access → ℕ → Bool → Term → State → Outcome Bool
+abbrev pub loop_test : Access → ℕ → Bool → Term → ProgramState → Outcome Bool
 loop_test may k closed high s = and_then (value may s high) (λ h. Ok (in_bound closed (int_local k s) (value_in Int h)))
 
 -- i goes on by the step, and is wrong past 2147483647
-abbrev pub loop_step : ℕ → ℕ → ℕ → State → Outcome State
+abbrev pub loop_step : ℕ → ℕ → ℕ → ProgramState → Outcome ProgramState
 loop_step line k step s =
     if int_lt (pos 2147483647) (int_local k s +ℤ pos step) then Err line else Ok (with_local k (word_of (int_local k s +ℤ pos step)) s)
 
 -- turns while the test holds; wrong where there would be more than so many
-unfoldable pub counting : ℕ → ℕ → (State → Outcome Bool) → (State → Outcome State) → State → Outcome State
+unfoldable pub counting : ℕ → ℕ → (ProgramState → Outcome Bool) → (ProgramState → Outcome ProgramState) → ProgramState → Outcome ProgramState
 counting line zero test turn s = and_then (test s) (λ go. choose go (λ t. Err line) Ok s)
 counting line (suc n) test turn s = and_then (test s) (λ go. choose go (λ t. and_then (turn t) (counting line n test turn)) Ok s)
 
 -- turns while the test holds, but so many at most; with none left there is no test
-unfoldable pub bounded : ℕ → (State → Outcome Bool) → (State → Outcome State) → State → Outcome State
+unfoldable pub bounded : ℕ → (ProgramState → Outcome Bool) → (ProgramState → Outcome ProgramState) → ProgramState → Outcome ProgramState
 bounded zero test turn s = Ok s
 bounded (suc n) test turn s = and_then (test s) (λ go. choose go (λ t. and_then (turn t) (bounded n test turn)) Ok s)
 
-abbrev pub with_target : Option ℕ → ℕ → State → State
+abbrev pub with_target : Option ℕ → ℕ → ProgramState → ProgramState
 with_target None w s = s
 with_target (Some k) w s = with_local k w s
 
-abbrev pub run : Access → Calls → Steps → State → Outcome State
+abbrev pub run : Access → Calls → Steps → ProgramState → Outcome ProgramState
 run may calls Done s = Ok s
 run may calls (SetLocal at k e rest) s = and_then (value may s e) (λ w. run may calls rest (with_local k w s))
 run may calls (SetScalar at g ty e rest) s =
@@ -115,16 +115,16 @@ run may calls (While at turns condition body rest) s =
 run may calls (Call at target f arguments rest) s =
     and_then (values may s arguments) (λ ws. and_then (calls may f ws s) (λ r. run may calls rest (with_target target r.0 r.1)))
 
-abbrev pub with_new_local : ℕ → State → State
+abbrev pub with_new_local : ℕ → ProgramState → ProgramState
 with_new_local w s = record s { locals = s.locals ++ w ∷ [] }
 
 -- the locals, each with the value of its initialiser
-abbrev pub declare : Access → List Term → State → Outcome State
+abbrev pub declare : Access → List Term → ProgramState → Outcome ProgramState
 declare may [] s = Ok s
 declare may (e ∷ es) s = and_then (value may s e) (λ w. declare may es (with_new_local w s))
 
 -- a function without a result gives 0
-abbrev pub result_of : Access → Option Term → State → Outcome ℕ
+abbrev pub result_of : Access → Option Term → ProgramState → Outcome ℕ
 result_of may None s = Ok 0
 result_of may (Some e) s = value may s e
 
@@ -136,14 +136,14 @@ abbrev pub is_marked : Routine → Bool
 is_marked f = is_some f.text.mark
 
 -- back in the caller, whose state was s: its locals stand, and a marked call is noted
-abbrev pub leave : Routine → ℕ → State → State → State
+abbrev pub leave : Routine → ℕ → ProgramState → ProgramState → ProgramState
 leave f n s t = record t {
   locals = s.locals;
   marks = with_mark (is_marked f) (record { function = n; before = s.globals; after = t.globals }) t.marks;
 }
 
 -- parameters and locals are new at each call
-abbrev pub enter : Calls → Access → Routine → ℕ → List ℕ → State → Outcome (ℕ × State)
+abbrev pub enter : Calls → Access → Routine → ℕ → List ℕ → ProgramState → Outcome (ℕ × ProgramState)
 enter calls may f n ws s =
     and_then (declare may f.locals (record s { locals = ws })) (λ t.
     and_then (run may calls f.body t) (λ u.

@@ -3,7 +3,7 @@ use Rattle.std.proofs.Common.{◌≡◌, ℕ, ◌^◌, ◌<◌, ◌≤◌, List,
 use Rattle.std.specs.Prelude.{slice_index, is_none, IsTrue}
 use Rattle.prem_syntax.specs.Syntax.{ProgramText}
 use Rattle.prem_meaning.specs.Resolve.{resolve}
-use Rattle.prem_meaning.specs.Statements.{State}
+use Rattle.prem_meaning.specs.Statements.{ProgramState}
 use Rattle.prem_meaning.specs.Source.{unlimited, source_within, source}
 use Rattle.prem_ranges.specs.RangeBreaches.{range_breaches}
 use Rattle.prem_ranges.specs.GroupThree.{resolved, group_three, StaysInRange, turn_bounds, limits_of}
@@ -29,7 +29,7 @@ unbroken_ranges p stays = none_first (range_breaches (resolved p)) (is_none_tell
 
 -- with names and kinds that are right, however many turns the loops are resolved with
 pub sound_when_typed : (p : ProgramText) → ((t : ℕ → ℕ) → TypedProgram (resolve t p)) → StaysInRange p → (inputs : List ℕ) → AreWords inputs → (jobs : ℕ) →
-    (s : State) × (source_within (limits_of p) p inputs jobs ≡ Ok s) × (source p inputs jobs ≡ Ok s)
+    (s : ProgramState) × (source_within (limits_of p) p inputs jobs ≡ Ok s) × (source p inputs jobs ≡ Ok s)
 unfolding turn_bounds
 sound_when_typed p typed stays inputs words jobs =
     let limits = limits_of p in
@@ -43,7 +43,7 @@ sound_when_typed p typed stays inputs words jobs =
     (ran.gives, ran.is, limits_grow p limits unlimited (record { turns = fewer; inside = λ f g j h. refl }) inputs jobs ran.gives ran.is)
 
 -- a well-formed program that breaks no rule on ranges does any number of jobs with any inputs, within its turn bounds and regions
-pub analysis_sound : (p : ProgramText) → IsWellFormed p → ProgramHasWords p → StaysInRange p → (inputs : List ℕ) → AreWords inputs → (jobs : ℕ) → (s : State) × (source_within (limits_of p) p inputs jobs ≡ Ok s) × (source p inputs jobs ≡ Ok s)
+pub analysis_sound : (p : ProgramText) → IsWellFormed p → ProgramHasWords p → StaysInRange p → (inputs : List ℕ) → AreWords inputs → (jobs : ℕ) → (s : ProgramState) × (source_within (limits_of p) p inputs jobs ≡ Ok s) × (source p inputs jobs ≡ Ok s)
 analysis_sound p formed literals stays inputs words jobs = sound_when_typed p (well_formed_is_typed p formed literals) stays inputs words jobs
 
 -- no loop has more turns than an int has values

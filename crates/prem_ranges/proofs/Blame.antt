@@ -16,7 +16,7 @@ use Rattle.prem_meaning.specs.Resolved.{Term, Constant, Local, Scalar, Element, 
 use Rattle.prem_meaning.specs.Resolve.{promoted}
 use Rattle.prem_meaning.specs.Reach.{IsAmong}
 use Rattle.prem_meaning.specs.Expressions.{Outcome, and_then, Access, words_of, cell, or_wrong, unary_word, divide, operate, truth_of, eval, eval_all}
-use Rattle.prem_meaning.specs.Statements.{State, Calls, choose, value, values, with_local, stored, with_cell, store, with_output, take_input, holds, int_local, loop_test, loop_step, counting, bounded, with_target, run, with_new_local, declare, result_of, leave, enter}
+use Rattle.prem_meaning.specs.Statements.{ProgramState, Calls, choose, value, values, with_local, stored, with_cell, store, with_output, take_input, holds, int_local, loop_test, loop_step, counting, bounded, with_target, run, with_new_local, declare, result_of, leave, enter}
 use Rattle.prem_meaning.specs.Source.{unlimited, access_of, enter_if_there, this_or, calls_below, start, everywhere, do_jobs, initial_words, source}
 use Rattle.prem_meaning.specs.GroupTwo.{IsWellFormed}
 use Rattle.prem_ranges.specs.GroupThree.{resolved}
@@ -68,7 +68,7 @@ wrong_here all line (Some x) among = any_here all x
 record HasCells (gs : List GlobalVariable) (globals : List (List ℕ)) : Type 0 where
   pub count : (g : ℕ) (v : GlobalVariable) → slice_get gs g ≡ Some v → length (words_of globals g) ≡ unwrap_or v.len 1
 
-record Stands (p : Resolved) (s : State) : Type 0 where
+record Stands (p : Resolved) (s : ProgramState) : Type 0 where
   pub cells : HasCells p.globals s.globals
 
 -- nothing is refused
@@ -96,7 +96,7 @@ words_kept (x ∷ xs) zero (suc h) ws same = refl
 words_kept (x ∷ xs) (suc g) zero ws same = refl
 words_kept (x ∷ xs) (suc g) (suc h) ws same = words_kept xs g h ws same
 
-cell_kept : (p : Resolved) (g j w : ℕ) (s : State) → Stands p s → Stands p (with_cell g j w s)
+cell_kept : (p : Resolved) (g j w : ℕ) (s : ProgramState) → Stands p s → Stands p (with_cell g j w s)
 cell_kept p g j w s now = record { cells = record { count = λ h v there. words_kept s.globals g h (slice_set (words_of s.globals g) j w) (length-set (words_of s.globals g) j w) ∙ now.cells.count h v there } }
 
 -- ---- expressions
@@ -169,8 +169,8 @@ terms_blamed gs globals has may free locals ks all (e ∷ es) typed sub =
 
 -- ---- loops
 
-counting_blamed : (p : Resolved) (all : List ℕ) (line n : ℕ) (test : State → Outcome Bool) (turn : State → Outcome State) → IsAmong line all → ((t : State) → Stands p t → Blamed Any all (test t)) → ((t : State) → Stands p t → Blamed (Stands p) all (turn t)) →
-    (s : State) → Stands p s → Blamed (Stands p) all (counting line n test turn s)
+counting_blamed : (p : Resolved) (all : List ℕ) (line n : ℕ) (test : ProgramState → Outcome Bool) (turn : ProgramState → Outcome ProgramState) → IsAmong line all → ((t : ProgramState) → Stands p t → Blamed Any all (test t)) → ((t : ProgramState) → Stands p t → Blamed (Stands p) all (turn t)) →
+    (s : ProgramState) → Stands p s → Blamed (Stands p) all (counting line n test turn s)
 unfolding counting
 counting_blamed p all line zero test turn among tests turns s now =
     blamed_then all (test s) (λ go. choose go (λ t. Err line) Ok s) (tests s now) (λ go any. by go)
@@ -181,22 +181,22 @@ counting_blamed p all line zero test turn among tests turns s now =
 counting_blamed p all line (suc n) test turn among tests turns s now =
     blamed_then all (test s) (λ go. choose go (λ t. and_then (turn t) (counting line n test turn)) Ok s) (tests s now) (λ go any. by go (λ t h. counting_blamed p all line n test turn among tests turns t h))
   where
-    by : (go : Bool) → ((t : State) → Stands p t → Blamed (Stands p) all (counting line n test turn t)) → Blamed (Stands p) all (choose go (λ t. and_then (turn t) (counting line n test turn)) Ok s)
+    by : (go : Bool) → ((t : ProgramState) → Stands p t → Blamed (Stands p) all (counting line n test turn t)) → Blamed (Stands p) all (choose go (λ t. and_then (turn t) (counting line n test turn)) Ok s)
     by true more = blamed_then all (turn s) (counting line n test turn) (turns s now) more
     by false more = blamed_here (Stands p) all s now
 
-bounded_blamed : (p : Resolved) (all : List ℕ) (n : ℕ) (test : State → Outcome Bool) (turn : State → Outcome State) → ((t : State) → Stands p t → Blamed Any all (test t)) → ((t : State) → Stands p t → Blamed (Stands p) all (turn t)) →
-    (s : State) → Stands p s → Blamed (Stands p) all (bounded n test turn s)
+bounded_blamed : (p : Resolved) (all : List ℕ) (n : ℕ) (test : ProgramState → Outcome Bool) (turn : ProgramState → Outcome ProgramState) → ((t : ProgramState) → Stands p t → Blamed Any all (test t)) → ((t : ProgramState) → Stands p t → Blamed (Stands p) all (turn t)) →
+    (s : ProgramState) → Stands p s → Blamed (Stands p) all (bounded n test turn s)
 unfolding bounded
 bounded_blamed p all zero test turn tests turns s now = blamed_here (Stands p) all s now
 bounded_blamed p all (suc n) test turn tests turns s now =
     blamed_then all (test s) (λ go. choose go (λ t. and_then (turn t) (bounded n test turn)) Ok s) (tests s now) (λ go any. by go (λ t h. bounded_blamed p all n test turn tests turns t h))
   where
-    by : (go : Bool) → ((t : State) → Stands p t → Blamed (Stands p) all (bounded n test turn t)) → Blamed (Stands p) all (choose go (λ t. and_then (turn t) (bounded n test turn)) Ok s)
+    by : (go : Bool) → ((t : ProgramState) → Stands p t → Blamed (Stands p) all (bounded n test turn t)) → Blamed (Stands p) all (choose go (λ t. and_then (turn t) (bounded n test turn)) Ok s)
     by true more = blamed_then all (turn s) (bounded n test turn) (turns s now) more
     by false more = blamed_here (Stands p) all s now
 
-stepped : (p : Resolved) (all : List ℕ) (line k step : ℕ) (s : State) → IsAmong line all → Stands p s → Blamed (Stands p) all (loop_step line k step s)
+stepped : (p : Resolved) (all : List ℕ) (line k step : ℕ) (s : ProgramState) → IsAmong line all → Stands p s → Blamed (Stands p) all (loop_step line k step s)
 stepped p all line k step s among now = by (int_lt (pos 2147483647) (int_local k s +ℤ pos step))
   where
     by : (b : Bool) → Blamed (Stands p) all (cond b (Err line) (Ok (with_local k (word_of (int_local k s +ℤ pos step)) s)))
@@ -205,37 +205,37 @@ stepped p all line k step s among now = by (int_lt (pos 2147483647) (int_local k
 
 -- ---- statements
 
-stored_blamed : (p : Resolved) (all : List ℕ) (may : Access) (line g : ℕ) (ty : Ty) (j w : ℕ) (s : State) → Stands p s → Blamed Any all (or_wrong line (cell may s.globals g j)) → Blamed (Stands p) all (store may line ty g j w s)
+stored_blamed : (p : Resolved) (all : List ℕ) (may : Access) (line g : ℕ) (ty : Ty) (j w : ℕ) (s : ProgramState) → Stands p s → Blamed Any all (or_wrong line (cell may s.globals g j)) → Blamed (Stands p) all (store may line ty g j w s)
 stored_blamed p all may line g ty j w s now h =
     blamed_then all (or_wrong line (cell may s.globals g j)) (λ old. Ok (with_cell g j (stored ty w) s)) h (λ old any. blamed_here (Stands p) all (with_cell g j (stored ty w) s) (cell_kept p g j (stored ty w) s now))
 
-input_stands : (p : Resolved) (k : ℕ) (inputs : List ℕ) (s : State) → Stands p s → Stands p (take_input k inputs s)
+input_stands : (p : Resolved) (k : ℕ) (inputs : List ℕ) (s : ProgramState) → Stands p s → Stands p (take_input k inputs s)
 input_stands p k [] s now = record { cells = now.cells }
 input_stands p k (w ∷ ws) s now = record { cells = now.cells }
 
-target_stands : (p : Resolved) (target : Option ℕ) (w : ℕ) (s : State) → Stands p s → Stands p (with_target target w s)
+target_stands : (p : Resolved) (target : Option ℕ) (w : ℕ) (s : ProgramState) → Stands p s → Stands p (with_target target w s)
 target_stands p None w s now = now
 target_stands p (Some k) w s now = record { cells = now.cells }
 
-choose_blamed : (p : Resolved) (all : List ℕ) (go : Bool) (f g : State → Outcome State) (s : State) → Blamed (Stands p) all (f s) → Blamed (Stands p) all (g s) → Blamed (Stands p) all (choose go f g s)
+choose_blamed : (p : Resolved) (all : List ℕ) (go : Bool) (f g : ProgramState → Outcome ProgramState) (s : ProgramState) → Blamed (Stands p) all (f s) → Blamed (Stands p) all (g s) → Blamed (Stands p) all (choose go f g s)
 choose_blamed p all true f g s h k = h
 choose_blamed p all false f g s h k = k
 
-record Returns (p : Resolved) (r : ℕ × State) : Type 0 where
+record Returns (p : Resolved) (r : ℕ × ProgramState) : Type 0 where
   pub stands : Stands p r.1
 
 -- calls of the functions below a number go wrong at one of the lines
 record CallsBlamed (p : Resolved) (n : ℕ) (all : List ℕ) (calls : Calls) : Type 0 where
-  pub blamed : (may : Access) → Free may → (f : ℕ) (routine : Routine) (ws : List ℕ) (s : State) → f < n → slice_get p.routines f ≡ Some routine → Stands p s → Blamed (Returns p) all (calls may f ws s)
+  pub blamed : (may : Access) → Free may → (f : ℕ) (routine : Routine) (ws : List ℕ) (s : ProgramState) → f < n → slice_get p.routines f ≡ Some routine → Stands p s → Blamed (Returns p) all (calls may f ws s)
 
 module _ (p : Resolved) (n : ℕ) (all : List ℕ) (may : Access) (free : Free may) (calls : Calls) (known : CallsBlamed p n all calls) (ks : List Kind) where
-  valued : (s : State) → Stands p s → (e : Term) → Typed p.globals ks e → Within (term_lines e) all → Blamed Any all (value may s e)
+  valued : (s : ProgramState) → Stands p s → (e : Term) → Typed p.globals ks e → Within (term_lines e) all → Blamed Any all (value may s e)
   valued s now e typed sub = term_blamed p.globals s.globals now.cells may free s.locals ks all e typed sub
 
-  tested : (s : State) → Stands p s → (e : Term) → Typed p.globals ks e → Within (term_lines e) all → Blamed Any all (holds may e s)
+  tested : (s : ProgramState) → Stands p s → (e : Term) → Typed p.globals ks e → Within (term_lines e) all → Blamed Any all (holds may e s)
   tested s now e typed sub = blamed_then all (value may s e) (λ c. Ok _) (valued s now e typed sub) (λ c any. any_here all _)
 
-  steps_blamed : (steps : Steps) → TypedSteps p n ks steps → Within (steps_lines steps) all → (s : State) → Stands p s → Blamed (Stands p) all (run may calls steps s)
+  steps_blamed : (steps : Steps) → TypedSteps p n ks steps → Within (steps_lines steps) all → (s : ProgramState) → Stands p s → Blamed (Stands p) all (run may calls steps s)
   steps_blamed Done typed sub s now = blamed_here (Stands p) all s now
   steps_blamed (SetLocal at k e rest) typed sub s now =
       blamed_then all (value may s e) (λ w. run may calls rest (with_local k w s)) (valued s now e typed.0 (first_in (term_lines e) (steps_lines rest) all sub))
@@ -269,7 +269,7 @@ module _ (p : Resolved) (n : ℕ) (all : List ℕ) (may : Access) (free : Free m
       let one = tail_in at.line (term_lines low ++ (term_lines high ++ (steps_lines body ++ steps_lines rest))) all sub in
       let two = rest_in (term_lines low) (term_lines high ++ (steps_lines body ++ steps_lines rest)) all one in
       let three = rest_in (term_lines high) (steps_lines body ++ steps_lines rest) all two in
-      let turn : State → Outcome State = λ t. and_then (run may calls body t) (loop_step at.line k step) in
+      let turn : ProgramState → Outcome ProgramState = λ t. and_then (run may calls body t) (loop_step at.line k step) in
       let test = loop_test may k closed high in
       blamed_then all (value may s low) (λ w. and_then (counting at.line turns test turn (with_local k w s)) (run may calls rest)) (valued s now low typed.1 (first_in (term_lines low) (term_lines high ++ (steps_lines body ++ steps_lines rest)) all one))
       (λ w any. blamed_then all (counting at.line turns test turn (with_local k w s)) (run may calls rest)
@@ -284,13 +284,13 @@ module _ (p : Resolved) (n : ℕ) (all : List ℕ) (may : Access) (free : Free m
       (bounded_blamed p all turns (holds may c) (run may calls body) (λ t stands. tested t stands c typed.0 (first_in (term_lines c) (steps_lines body ++ steps_lines rest) all sub)) (λ t stands. steps_blamed body typed.1 (first_in (steps_lines body) (steps_lines rest) all one) t stands) s now)
       (λ t stands. steps_blamed rest typed.2 (rest_in (steps_lines body) (steps_lines rest) all one) t stands)
   steps_blamed (Call at target f arguments rest) typed sub s now =
-      blamed_then all (values may s arguments) (λ ws. and_then (calls may f ws s) (λ (r : ℕ × State). run may calls rest (with_target target r.0 r.1))) (terms_blamed p.globals s.globals now.cells may free s.locals ks all arguments typed.1 (first_in (all_lines arguments) (steps_lines rest) all sub))
-      (λ ws any. blamed_then all (calls may f ws s) (λ (r : ℕ × State). run may calls rest (with_target target r.0 r.1)) (known.blamed may free f typed.0.routine ws s typed.0.before typed.0.there now)
+      blamed_then all (values may s arguments) (λ ws. and_then (calls may f ws s) (λ (r : ℕ × ProgramState). run may calls rest (with_target target r.0 r.1))) (terms_blamed p.globals s.globals now.cells may free s.locals ks all arguments typed.1 (first_in (all_lines arguments) (steps_lines rest) all sub))
+      (λ ws any. blamed_then all (calls may f ws s) (λ (r : ℕ × ProgramState). run may calls rest (with_target target r.0 r.1)) (known.blamed may free f typed.0.routine ws s typed.0.before typed.0.there now)
       (λ r back. steps_blamed rest typed.2 (rest_in (all_lines arguments) (steps_lines rest) all sub) (with_target target r.0 r.1) (target_stands p target r.0 r.1 back.stands)))
 
 -- ---- functions
 
-declared_blamed : (p : Resolved) (all : List ℕ) (may : Access) → Free may → (ks : List Kind) (ls : List LocalVariable) (es : List Term) → TypedLocals p.globals ks ls es → Within (all_lines es) all → (s : State) → Stands p s → Blamed (Stands p) all (declare may es s)
+declared_blamed : (p : Resolved) (all : List ℕ) (may : Access) → Free may → (ks : List Kind) (ls : List LocalVariable) (es : List Term) → TypedLocals p.globals ks ls es → Within (all_lines es) all → (s : ProgramState) → Stands p s → Blamed (Stands p) all (declare may es s)
 declared_blamed p all may free ks [] [] typed sub s now = blamed_here (Stands p) all s now
 declared_blamed p all may free ks [] (e ∷ es) typed sub s now = absurd typed
 declared_blamed p all may free ks (l ∷ ls) [] typed sub s now = absurd typed
@@ -298,16 +298,16 @@ declared_blamed p all may free ks (l ∷ ls) (e ∷ es) typed sub s now =
     blamed_then all (value may s e) (λ w. declare may es (with_new_local w s)) (term_blamed p.globals s.globals now.cells may free s.locals ks all e typed.0 (first_in (term_lines e) (all_lines es) all sub))
     (λ w any. declared_blamed p all may free (ks ++ promoted l.ty ∷ []) ls es typed.1 (rest_in (term_lines e) (all_lines es) all sub) (with_new_local w s) (record { cells = now.cells }))
 
-result_blamed : (p : Resolved) (all : List ℕ) (may : Access) → Free may → (ks : List Kind) (result : Option Term) → TypedResult p.globals ks result → Within (result_lines result) all → (s : State) → Stands p s → Blamed Any all (result_of may result s)
+result_blamed : (p : Resolved) (all : List ℕ) (may : Access) → Free may → (ks : List Kind) (result : Option Term) → TypedResult p.globals ks result → Within (result_lines result) all → (s : ProgramState) → Stands p s → Blamed Any all (result_of may result s)
 result_blamed p all may free ks None typed sub s now = any_here all 0
 result_blamed p all may free ks (Some e) typed sub s now = term_blamed p.globals s.globals now.cells may free s.locals ks all e typed sub
 
-enter_blamed : (p : Resolved) (n : ℕ) (all : List ℕ) (may : Access) → Free may → (calls : Calls) → CallsBlamed p n all calls → TypedProgram p → (f : Routine) → slice_get p.routines n ≡ Some f → Within (routine_lines f) all → (ws : List ℕ) (s : State) → Stands p s → Blamed (Returns p) all (enter calls may f n ws s)
+enter_blamed : (p : Resolved) (n : ℕ) (all : List ℕ) (may : Access) → Free may → (calls : Calls) → CallsBlamed p n all calls → TypedProgram p → (f : Routine) → slice_get p.routines n ≡ Some f → Within (routine_lines f) all → (ws : List ℕ) (s : ProgramState) → Stands p s → Blamed (Returns p) all (enter calls may f n ws s)
 enter_blamed p n all may free calls known program f there sub ws s now =
     let typed = program.each n f there in
     let later = rest_in (all_lines f.locals) (steps_lines f.body ++ result_lines f.result) all sub in
-    let fresh : State = record s { locals = ws } in
-    let back : State → Outcome (ℕ × State) = λ u. and_then (result_of may f.result u) (λ w. Ok (w, leave f n s u)) in
+    let fresh : ProgramState = record s { locals = ws } in
+    let back : ProgramState → Outcome (ℕ × ProgramState) = λ u. and_then (result_of may f.result u) (λ w. Ok (w, leave f n s u)) in
     blamed_then all (declare may f.locals fresh) (λ t. and_then (run may calls f.body t) back)
     (declared_blamed p all may free _ f.text.locals f.locals typed.locals (first_in (all_lines f.locals) (steps_lines f.body ++ result_lines f.result) all sub) fresh (record { cells = now.cells }))
     (λ t stands. blamed_then all (run may calls f.body t) back (steps_blamed p n all may free calls known _ f.body typed.body (first_in (steps_lines f.body) (result_lines f.result) all later) t stands)
@@ -334,7 +334,7 @@ calls_blamed p typed (suc n) =
     let before = calls_blamed p typed n in
     record { blamed = λ may free f routine ws s below there now. by before may free f routine ws s below there now (eqb f n) refl }
   where
-    by : CallsBlamed p n (program_lines p.routines) (calls_below unlimited p.routines n) → (may : Access) → Free may → (f : ℕ) (routine : Routine) (ws : List ℕ) (s : State) → f < suc n → slice_get p.routines f ≡ Some routine → Stands p s → (b : Bool) → eqb f n ≡ b →
+    by : CallsBlamed p n (program_lines p.routines) (calls_below unlimited p.routines n) → (may : Access) → Free may → (f : ℕ) (routine : Routine) (ws : List ℕ) (s : ProgramState) → f < suc n → slice_get p.routines f ≡ Some routine → Stands p s → (b : Bool) → eqb f n ≡ b →
         Blamed (Returns p) (program_lines p.routines) (this_or b (enter_if_there unlimited (calls_below unlimited p.routines n) (slice_get p.routines n) n) (calls_below unlimited p.routines n) may f ws s)
     by before may free f routine ws s below there now false is = before.blamed may free f routine ws s (let other : f ≡ n → ⊥ = (λ e. grind (arith, nat_tests)) in omega arith) there now
     by before may free f routine ws s below there now true is =
@@ -343,11 +343,11 @@ calls_blamed p typed (suc n) =
         rw there_n
         (enter_blamed p n (program_lines p.routines) (access_of unlimited routine n may) (free_access routine n may free) (calls_below unlimited p.routines n) before typed routine there_n (lines_of_one p.routines n routine there_n) ws s now)
 
-jobs_blamed : (p : Resolved) → TypedProgram p → (jobs : ℕ) (s : State) → Stands p s → Blamed (Stands p) (program_lines p.routines) (do_jobs unlimited p jobs s)
+jobs_blamed : (p : Resolved) → TypedProgram p → (jobs : ℕ) (s : ProgramState) → Stands p s → Blamed (Stands p) (program_lines p.routines) (do_jobs unlimited p jobs s)
 jobs_blamed p typed zero s now = blamed_here (Stands p) (program_lines p.routines) s now
 jobs_blamed p typed (suc jobs) s now =
     let below = slice_get_within p.routines p.job typed.job typed.job_there in
-    blamed_then (program_lines p.routines) (calls_below unlimited p.routines (length p.routines) everywhere p.job [] s) (λ (r : ℕ × State). do_jobs unlimited p jobs r.1)
+    blamed_then (program_lines p.routines) (calls_below unlimited p.routines (length p.routines) everywhere p.job [] s) (λ (r : ℕ × ProgramState). do_jobs unlimited p jobs r.1)
     ((calls_blamed p typed (length p.routines)).blamed everywhere (record { may_all = λ g j. refl }) p.job typed.job [] s below typed.job_there now) (λ r back. jobs_blamed p typed jobs r.1 back.stands)
 
 initial_count : (gs : List GlobalVariable) (g : ℕ) (v : GlobalVariable) → slice_get gs g ≡ Some v → length (words_of (map initial_words gs) g) ≡ unwrap_or v.len 1

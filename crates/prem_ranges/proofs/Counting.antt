@@ -12,7 +12,7 @@ use Rattle.prem_syntax.specs.declared.tree.Place.{Place}
 use Rattle.prem_syntax.specs.Syntax.{GlobalVariable}
 use Rattle.prem_meaning.specs.Resolved.{Term, Steps}
 use Rattle.prem_meaning.specs.Expressions.{and_then, Access}
-use Rattle.prem_meaning.specs.Statements.{State, Calls, value, with_local, int_local, in_bound, loop_test, loop_step, counting, run}
+use Rattle.prem_meaning.specs.Statements.{ProgramState, Calls, value, with_local, int_local, in_bound, loop_test, loop_step, counting, run}
 use Rattle.prem_word.specs.Ranges.{Span, LiesIn, from_to, whole, within, encloses}
 use Rattle.prem_word.proofs.Corners.{word_in_whole}
 use Rattle.prem_unary.specs.TableLaws.{TableLaws}
@@ -76,22 +76,22 @@ within_lies kind r z in_r in_kind = by (encloses (whole kind) r)
 
 -- ---- the loop
 
-record Keeps (gs : List GlobalVariable) (env : Environment) (k : ℕ) (body : Steps) (s : State) (low top : ℤ) (t : State) : Type 0 where
+record Keeps (gs : List GlobalVariable) (env : Environment) (k : ℕ) (body : Steps) (s : ProgramState) (low top : ℤ) (t : ProgramState) : Type 0 where
   pub good : Good gs (in_counting k body env) t
   pub kept : (j : ℕ) → (eqb k j || assigns j body) ≡ false → slice_index t.locals j ≡ slice_index s.locals j
   pub least : low ≤ℤ int_local k t
   pub most : int_local k t ≤ℤ top
 
-record KeepsTurns (gs : List GlobalVariable) (env : Environment) (k : ℕ) (body : Steps) (s : State) (low top end : ℤ) (step r : ℕ) (t : State) : Type 0 where
+record KeepsTurns (gs : List GlobalVariable) (env : Environment) (k : ℕ) (body : Steps) (s : ProgramState) (low top end : ℤ) (step r : ℕ) (t : ProgramState) : Type 0 where
   pub now : Keeps gs env k body s low top t
   pub enough : end ≤ℤ (int_local k t +ℤ pos (r * step))
 
-pub record Behind (gs : List GlobalVariable) (env : Environment) (k : ℕ) (low : Term) (end : ℤ) (step : ℕ) (body : Steps) (s t : State) : Type 0 where
+pub record Behind (gs : List GlobalVariable) (env : Environment) (k : ℕ) (low : Term) (end : ℤ) (step : ℕ) (body : Steps) (s t : ProgramState) : Type 0 where
   pub good : Good gs (behind_loop env k low end step body) t
   pub kept : (j : ℕ) → (eqb k j || assigns j body) ≡ false → slice_index t.locals j ≡ slice_index s.locals j
 
 -- the variable lies in a range, in a loop
-narrowed : (gs : List GlobalVariable) (env : Environment) (k : ℕ) (body : Steps) (r : Span) (t : State) → slice_get (kinds_of env) k ≡ Some Int → Good gs (in_counting k body env) t → LiesIn r (int_local k t) →
+narrowed : (gs : List GlobalVariable) (env : Environment) (k : ℕ) (body : Steps) (r : Span) (t : ProgramState) → slice_get (kinds_of env) k ≡ Some Int → Good gs (in_counting k body env) t → LiesIn r (int_local k t) →
     Good gs (at_local k (with_range r) (in_counting k body env)) t
 narrowed gs env k body r t is_int good lies =
     let env' = in_counting k body env in
@@ -104,12 +104,12 @@ narrowed gs env k body r t is_int good lies =
     }
 
 -- what a loop's body leaves as it was
-loosely : (gs : List GlobalVariable) (env : Environment) (k : ℕ) (body : Steps) (s t : State) → Good gs env s → AreWords t.locals → length t.locals ≡ length s.locals → Shaped gs t.globals → AreWords t.inputs →
+loosely : (gs : List GlobalVariable) (env : Environment) (k : ℕ) (body : Steps) (s t : ProgramState) → Good gs env s → AreWords t.locals → length t.locals ≡ length s.locals → Shaped gs t.globals → AreWords t.inputs →
     ((j : ℕ) → (eqb k j || assigns j body) ≡ false → slice_index t.locals j ≡ slice_index s.locals j) → Good gs (in_counting k body env) t
 loosely gs env k body s t good small count shaped inputs kept =
     record { locals = holds_loosened good.locals (λ j. eqb k j || assigns j body) t.locals small count kept; globals = shaped; inputs = inputs }
 
-stepped : (gs : List GlobalVariable) (env : Environment) (at : Place) (k : ℕ) (low : Term) (end : ℤ) (step r : ℕ) (body : Steps) (s t u : State) (top : ℤ) → Good gs env s → slice_get (kinds_of env) k ≡ Some Int → assigns k body ≡ false →
+stepped : (gs : List GlobalVariable) (env : Environment) (at : Place) (k : ℕ) (low : Term) (end : ℤ) (step r : ℕ) (body : Steps) (s t u : ProgramState) (top : ℤ) → Good gs env s → slice_get (kinds_of env) k ≡ Some Int → assigns k body ≡ false →
     kinds_of (after (in_body env k low end body) body) ≡ kinds_of env → int_lt (pos 2147483647) (end -ℤ pos 1 +ℤ pos step) ≡ false → (end -ℤ pos 1 +ℤ pos step) ≤ℤ top →
     KeepsTurns gs env k body s (range_of env low).lo top end step (suc r) t → int_local k t ≤ℤ (end -ℤ pos 1) → Ran gs (in_body env k low end body) body t u →
     Always (KeepsTurns gs env k body s (range_of env low).lo top end step r) (loop_step at.line k step u)
@@ -146,7 +146,7 @@ raised : (end low i : ℤ) (m : ℕ) → end ≤ℤ (low +ℤ pos m) → low ≤
 raised end low i m h le = omega (arith, ints)
 
 -- a turn, where the variable is below the end
-one_more : (gs : List GlobalVariable) (env : Environment) (at : Place) (k : ℕ) (low : Term) (end : ℤ) (step r : ℕ) (body : Steps) (s t : State) (may : Access) (calls : Calls) (top : ℤ) → Good gs env s → slice_get (kinds_of env) k ≡ Some Int → assigns k body ≡ false →
+one_more : (gs : List GlobalVariable) (env : Environment) (at : Place) (k : ℕ) (low : Term) (end : ℤ) (step r : ℕ) (body : Steps) (s t : ProgramState) (may : Access) (calls : Calls) (top : ℤ) → Good gs env s → slice_get (kinds_of env) k ≡ Some Int → assigns k body ≡ false →
     kinds_of (after (in_body env k low end body) body) ≡ kinds_of env → int_lt (pos 2147483647) (end -ℤ pos 1 +ℤ pos step) ≡ false → (end -ℤ pos 1 +ℤ pos step) ≤ℤ top →
     KeepsTurns gs env k body s (range_of env low).lo top end step r t → int_local k t ≤ℤ (end -ℤ pos 1) → Always (Ran gs (in_body env k low end body) body t) (run may calls body t) →
     (fewer : ℕ) × (r ≡ suc fewer) × Always (KeepsTurns gs env k body s (range_of env low).lo top end step fewer) (and_then (run may calls body t) (loop_step at.line k step))
@@ -155,11 +155,11 @@ one_more gs env at k low end step (suc r) body s t may calls top good is_int alo
     (r, refl, always_then (run may calls body t) (loop_step at.line k step) ran (λ u after_body. stepped gs env at k low end step r body s t u top good is_int alone kinds fits above keeps below after_body))
 
 -- a loop from its first value on, where its body is right
-pub counted : TableLaws → (site : Site) (may : Access) (calls : Calls) (env : Environment) (at : Place) (k : ℕ) (low : Term) (closed : Bool) (high : Term) (step turns : ℕ) (body : Steps) (s : State) (w : ℕ) →
+pub counted : TableLaws → (site : Site) (may : Access) (calls : Calls) (env : Environment) (at : Place) (k : ℕ) (low : Term) (closed : Bool) (high : Term) (step turns : ℕ) (body : Steps) (s : ProgramState) (w : ℕ) →
     Allows may site.watches → Good site.globals env s → IsValue env s.locals low w → IsCounting (kinds_of env) k low high step body → Typed site.globals (kinds_of env) high →
     kinds_of (after (in_body env k low (loop_end env k closed high body) body) body) ≡ kinds_of env → turns ≡ turn_bound (range_of env low).lo (loop_end env k closed high body) step →
     in_range_of_int at (loop_end env k closed high body) step ≡ [] → in_term site (in_counting k body env) high ≡ [] →
-    ((t : State) → Good site.globals (in_body env k low (loop_end env k closed high body) body) t → Always (Ran site.globals (in_body env k low (loop_end env k closed high body) body) body t) (run may calls body t)) →
+    ((t : ProgramState) → Good site.globals (in_body env k low (loop_end env k closed high body) body) t → Always (Ran site.globals (in_body env k low (loop_end env k closed high body) body) body t) (run may calls body t)) →
     Always (Behind site.globals env k low (loop_end env k closed high body) step body s)
     (counting at.line turns (loop_test may k closed high) (λ t. and_then (run may calls body t) (loop_step at.line k step)) (with_local k w s))
 counted laws site may calls env at k low closed high step turns body s w allows good first is_counting typed kinds turns_are fits unbroken_high goes =

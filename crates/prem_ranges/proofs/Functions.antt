@@ -12,7 +12,7 @@ use Rattle.prem_meaning.specs.Resolved.{Term, Steps, Done, SetLocal, SetScalar, 
 use Rattle.prem_meaning.specs.Resolve.{kind_of, promoted}
 use Rattle.prem_meaning.specs.Reach.{callees_in, IsAmong}
 use Rattle.prem_meaning.specs.Expressions.{and_then, Access}
-use Rattle.prem_meaning.specs.Statements.{State, Calls, stored, value, run, with_new_local, declare, result_of, leave, enter}
+use Rattle.prem_meaning.specs.Statements.{ProgramState, Calls, stored, value, run, with_new_local, declare, result_of, leave, enter}
 use Rattle.prem_meaning.specs.Source.{Limits, access_of, enter_if_there, this_or, calls_below, constants_of, initial_words, start, everywhere, do_jobs}
 use Rattle.prem_unary.specs.TableLaws.{TableLaws}
 use Rattle.prem_ranges.specs.Environment.{Known, Environment}
@@ -53,7 +53,7 @@ ordered p typed = record { before = λ n f called there calls. calls_before p n 
 
 -- ---- functions
 
-declares : TableLaws → (site : Site) (may : Access) → Allows may site.watches → (ls : List LocalVariable) (es : List Term) (env : Environment) (s : State) → TypedLocals site.globals (kinds_of env) ls es → in_locals site env ls es ≡ [] → Good site.globals env s →
+declares : TableLaws → (site : Site) (may : Access) → Allows may site.watches → (ls : List LocalVariable) (es : List Term) (env : Environment) (s : ProgramState) → TypedLocals site.globals (kinds_of env) ls es → in_locals site env ls es ≡ [] → Good site.globals env s →
     Always (Good site.globals (declared env ls es)) (declare may es s)
 declares laws site may allows [] [] env s typed unbroken good = always_here s good
 declares laws site may allows [] (e ∷ es) env s typed unbroken good = absurd typed
@@ -68,13 +68,13 @@ declares laws site may allows (l ∷ ls) (e ∷ es) env s typed unbroken good =
     let has : HasValue l' w = record { small = v.small; lies = laws.conversions (kind_of e) (promoted l.ty) w (range_of env e) v.small v.lies } in
     declares laws site may allows ls es env' (with_new_local w s) (rw kinds typed.1) (none_right (in_term site env e) rest unbroken) (record { locals = holds_more good.locals l' w has; globals = good.globals; inputs = good.inputs }))
 
-results : TableLaws → (site : Site) (may : Access) → Allows may site.watches → (result : Option Term) (env : Environment) (s : State) → TypedResult site.globals (kinds_of env) result → in_result site env result ≡ [] → Good site.globals env s →
+results : TableLaws → (site : Site) (may : Access) → Allows may site.watches → (result : Option Term) (env : Environment) (s : ProgramState) → TypedResult site.globals (kinds_of env) result → in_result site env result ≡ [] → Good site.globals env s →
     Always (λ w. w < 2 ^ 32) (result_of may result s)
 results laws site may allows None env s typed unbroken good = always_here 0 (omega arith)
 results laws site may allows (Some e) env s typed unbroken good =
     always_mapped (value may s e) (expression laws site may s.globals good.globals allows e env s.locals typed good.locals unbroken) (λ w v. v.small)
 
-pub enters : TableLaws → (p : Resolved) (n : ℕ) (f : Routine) (may : Access) (calls : Calls) → TypedProgram p → slice_get p.routines n ≡ Some f → turns_in f.body ≡ bounds_in f → in_routine (site_of p n) f ≡ [] → Allows may (watches_of p n) → CallsReturn p n calls → (ws : List ℕ) (s : State) →
+pub enters : TableLaws → (p : Resolved) (n : ℕ) (f : Routine) (may : Access) (calls : Calls) → TypedProgram p → slice_get p.routines n ≡ Some f → turns_in f.body ≡ bounds_in f → in_routine (site_of p n) f ≡ [] → Allows may (watches_of p n) → CallsReturn p n calls → (ws : List ℕ) (s : ProgramState) →
     Holds (map known_parameter f.text.params) ws → Shaped p.globals s.globals → AreWords s.inputs → Always (IsBack p.globals s) (enter calls may f n ws s)
 enters laws p n f may calls program there turned unbroken allows returns ws s known shaped inputs =
     let site = site_of p n in
@@ -84,7 +84,7 @@ enters laws p n f may calls program there turned unbroken allows returns ws s kn
     let steps = in_steps site 1 (at_body f) f.body in
     let result = in_result site (after (at_body f) f.body) f.result in
     let both = none_left (locals ++ steps) result unbroken in
-    let s' : State = record s { locals = ws } in
+    let s' : ProgramState = record s { locals = ws } in
     always_then (declare may f.locals s') (λ t. and_then (run may calls f.body t) (λ u. and_then (result_of may f.result u) (λ w. Ok (w, leave f n s u))))
     (declares laws site may allows f.text.locals f.locals env s' typed.locals (none_left locals steps both) (record { locals = known; globals = shaped; inputs = inputs }))
     (λ t good_t.
@@ -126,7 +126,7 @@ calls_return laws limits p regions typed turned unbroken (suc n) =
     let before = calls_return laws limits p regions typed turned unbroken n in
     record { returns = λ may f routine ws s below there allows known shaped inputs. by before may f routine ws s below there allows known shaped inputs (eqb f n) refl }
   where
-    by : CallsReturn p n (calls_below limits p.routines n) → (may : Access) (f : ℕ) (routine : Routine) (ws : List ℕ) (s : State) → f < suc n → slice_get p.routines f ≡ Some routine → Allows may (watches_of p f) → Holds (map known_parameter routine.text.params) ws →
+    by : CallsReturn p n (calls_below limits p.routines n) → (may : Access) (f : ℕ) (routine : Routine) (ws : List ℕ) (s : ProgramState) → f < suc n → slice_get p.routines f ≡ Some routine → Allows may (watches_of p f) → Holds (map known_parameter routine.text.params) ws →
         Shaped p.globals s.globals → AreWords s.inputs → (b : Bool) → eqb f n ≡ b →
         Always (IsBack p.globals s) (this_or b (enter_if_there limits (calls_below limits p.routines n) (slice_get p.routines n) n) (calls_below limits p.routines n) may f ws s)
     by before may f routine ws s below there allows known shaped inputs false is = before.returns may f routine ws s (let other : f ≡ n → ⊥ = (λ same. grind (arith, nat_tests)) in omega arith) there allows known shaped inputs
@@ -145,17 +145,17 @@ calls_return laws limits p regions typed turned unbroken (suc n) =
 pub everywhere_allows : (p : Resolved) (n : ℕ) → Allows everywhere (watches_of p n)
 everywhere_allows p n = record { allowed = λ at g j r unbroken lies. refl }
 
-pub record Stands (p : Resolved) (s : State) : Type 0 where
+pub record Stands (p : Resolved) (s : ProgramState) : Type 0 where
   pub globals : Shaped p.globals s.globals
   pub inputs : AreWords s.inputs
 
-pub jobs_done : TableLaws → (limits : Limits) (p : Resolved) → HasRegions limits p → TypedProgram p → HasBounds p → range_breaches p ≡ [] → (jobs : ℕ) (s : State) → Stands p s → Always (Stands p) (do_jobs limits p jobs s)
+pub jobs_done : TableLaws → (limits : Limits) (p : Resolved) → HasRegions limits p → TypedProgram p → HasBounds p → range_breaches p ≡ [] → (jobs : ℕ) (s : ProgramState) → Stands p s → Always (Stands p) (do_jobs limits p jobs s)
 jobs_done laws limits p regions typed turned unbroken zero s stands = always_here s stands
 jobs_done laws limits p regions typed turned unbroken (suc jobs) s stands =
     let calls = calls_return laws limits p regions typed turned unbroken (length p.routines) in
     let below : p.job < length p.routines = slice_get_within p.routines p.job typed.job typed.job_there in
     let known : Holds (map known_parameter typed.job.text.params) [] = rw typed.job_alone no_locals in
-    always_then (calls_below limits p.routines (length p.routines) everywhere p.job [] s) (λ (r : ℕ × State). do_jobs limits p jobs r.1)
+    always_then (calls_below limits p.routines (length p.routines) everywhere p.job [] s) (λ (r : ℕ × ProgramState). do_jobs limits p jobs r.1)
     (calls.returns everywhere p.job typed.job [] s below typed.job_there (everywhere_allows p p.job) known stands.globals stands.inputs)
     (λ r back. jobs_done laws limits p regions typed turned unbroken jobs r.1 (record { globals = back.globals; inputs = back.inputs }))
 

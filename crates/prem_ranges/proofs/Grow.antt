@@ -6,7 +6,7 @@ use Rattle.prem_syntax.specs.Syntax.{FunctionText, ProgramText}
 use Rattle.prem_meaning.specs.Resolved.{Term, Constant, Local, Scalar, Element, Unary, Binary, AndAlso, OrElse, Steps, Routine, Resolved}
 use Rattle.prem_meaning.specs.Resolve.{resolve}
 use Rattle.prem_meaning.specs.Expressions.{Outcome, and_then, Access, cell, words_of, or_wrong, unary_word, operate, truth_of, eval, eval_all}
-use Rattle.prem_meaning.specs.Statements.{State, Calls, choose, value, values, with_local, stored, with_cell, store, with_output, take_input, holds, loop_test, loop_step, counting, bounded, with_target, run, with_new_local, declare, result_of, with_mark, leave, enter}
+use Rattle.prem_meaning.specs.Statements.{ProgramState, Calls, choose, value, values, with_local, stored, with_cell, store, with_output, take_input, holds, loop_test, loop_step, counting, bounded, with_target, run, with_new_local, declare, result_of, with_mark, leave, enter}
 use Rattle.prem_meaning.specs.Source.{Limits, access_of, enter_if_there, this_or, calls_below, start, everywhere, do_jobs, source_within}
 use Rattle.prem_ranges.specs.Promises.{WiderLimits}
 use Rattle.prem_ranges.specs.Sound.{Alike, alike_done, alike_local, alike_scalar, alike_element, alike_output, alike_input, alike_if, alike_for, alike_while, alike_call, AlikeRoutine, AlikeRoutines, no_routines, next_routine}
@@ -79,47 +79,47 @@ values_follow may more wider globals locals (e ∷ es) =
 
 -- ---- loops
 
-abbrev pub Grows : (State → Outcome State) → (State → Outcome State) → Type 0
-Grows f g = (s : State) → Follows (f s) (g s)
+abbrev pub Grows : (ProgramState → Outcome ProgramState) → (ProgramState → Outcome ProgramState) → Type 0
+Grows f g = (s : ProgramState) → Follows (f s) (g s)
 
-choose_follows : (go : Bool) (f f' g g' : State → Outcome State) → Grows f f' → Grows g g' → (s : State) → Follows (choose go f g s) (choose go f' g' s)
+choose_follows : (go : Bool) (f f' g g' : ProgramState → Outcome ProgramState) → Grows f f' → Grows g g' → (s : ProgramState) → Follows (choose go f g s) (choose go f' g' s)
 choose_follows true f f' g g' h k s = h s
 choose_follows false f f' g g' h k s = k s
 
-counting_follows : (line n m : ℕ) (test test' : State → Outcome Bool) (turn turn' : State → Outcome State) → n ≤ m → ((s : State) → Follows (test s) (test' s)) → Grows turn turn' → (s : State) →
+counting_follows : (line n m : ℕ) (test test' : ProgramState → Outcome Bool) (turn turn' : ProgramState → Outcome ProgramState) → n ≤ m → ((s : ProgramState) → Follows (test s) (test' s)) → Grows turn turn' → (s : ProgramState) →
     Follows (counting line n test turn s) (counting line m test' turn' s)
 unfolding counting
 counting_follows line zero zero test test' turn turn' le ht hn s =
     follows_then (test s) (test' s) (λ go. choose go (λ t. Err line) Ok s) (λ go. choose go (λ t. Err line) Ok s) (ht s) (λ go. same_follows (choose go (λ t. Err line) Ok s))
 counting_follows line zero (suc m) test test' turn turn' le ht hn s =
-    let goes' = λ (t : State). and_then (turn' t) (counting line m test' turn') in
+    let goes' = λ (t : ProgramState). and_then (turn' t) (counting line m test' turn') in
     follows_then (test s) (test' s) (λ go. choose go (λ t. Err line) Ok s) (λ go. choose go goes' Ok s) (ht s)
     (λ go. choose_follows go (λ t. Err line) goes' Ok Ok (λ t x (e : Err line ≡ Ok x). let no : goes' t ≡ Ok x = cc in no) (λ t. same_follows (Ok t)) s)
 counting_follows line (suc n) zero test test' turn turn' le ht hn s = absurd (omega arith)
 counting_follows line (suc n) (suc m) test test' turn turn' le ht hn s =
-    let goes = λ (t : State). and_then (turn t) (counting line n test turn) in
-    let goes' = λ (t : State). and_then (turn' t) (counting line m test' turn') in
+    let goes = λ (t : ProgramState). and_then (turn t) (counting line n test turn) in
+    let goes' = λ (t : ProgramState). and_then (turn' t) (counting line m test' turn') in
     follows_then (test s) (test' s) (λ go. choose go goes Ok s) (λ go. choose go goes' Ok s) (ht s)
     (λ go. choose_follows go goes goes' Ok Ok (λ t. follows_then (turn t) (turn' t) (counting line n test turn) (counting line m test' turn') (hn t) (λ u. counting_follows line n m test test' turn turn' (omega arith) ht hn u)) (λ t. same_follows (Ok t)) s)
 
-bounded_follows : (n : ℕ) (test test' : State → Outcome Bool) (turn turn' : State → Outcome State) → ((s : State) → Follows (test s) (test' s)) → Grows turn turn' → (s : State) → Follows (bounded n test turn s) (bounded n test' turn' s)
+bounded_follows : (n : ℕ) (test test' : ProgramState → Outcome Bool) (turn turn' : ProgramState → Outcome ProgramState) → ((s : ProgramState) → Follows (test s) (test' s)) → Grows turn turn' → (s : ProgramState) → Follows (bounded n test turn s) (bounded n test' turn' s)
 unfolding bounded
 bounded_follows zero test test' turn turn' ht hn s = same_follows (Ok s)
 bounded_follows (suc n) test test' turn turn' ht hn s =
-    let goes = λ (t : State). and_then (turn t) (bounded n test turn) in
-    let goes' = λ (t : State). and_then (turn' t) (bounded n test' turn') in
+    let goes = λ (t : ProgramState). and_then (turn t) (bounded n test turn) in
+    let goes' = λ (t : ProgramState). and_then (turn' t) (bounded n test' turn') in
     follows_then (test s) (test' s) (λ go. choose go goes Ok s) (λ go. choose go goes' Ok s) (ht s)
     (λ go. choose_follows go goes goes' Ok Ok (λ t. follows_then (turn t) (turn' t) (bounded n test turn) (bounded n test' turn') (hn t) (λ u. bounded_follows n test test' turn turn' ht hn u)) (λ t. same_follows (Ok t)) s)
 
 -- ---- steps
 
 pub record CallsGrow (calls more : Calls) : Type 0 where
-  pub grows : (may wide : Access) → Wider may wide → (f : ℕ) (ws : List ℕ) (s : State) → Follows (calls may f ws s) (more wide f ws s)
+  pub grows : (may wide : Access) → Wider may wide → (f : ℕ) (ws : List ℕ) (s : ProgramState) → Follows (calls may f ws s) (more wide f ws s)
 
-holds_follow : (may more : Access) → Wider may more → (c : Term) (s : State) → Follows (holds may c s) (holds more c s)
+holds_follow : (may more : Access) → Wider may more → (c : Term) (s : ProgramState) → Follows (holds may c s) (holds more c s)
 holds_follow may more wider c s = follows_then (value may s c) (value more s c) (λ w. Ok (not (eqb w 0))) (λ w. Ok (not (eqb w 0))) (eval_follows may more wider s.globals s.locals c) (λ w. same_follows (Ok (not (eqb w 0))))
 
-store_follows : (may more : Access) → Wider may more → (line g : ℕ) (ty : Ty) (j w : ℕ) (s : State) → Follows (store may line ty g j w s) (store more line ty g j w s)
+store_follows : (may more : Access) → Wider may more → (line g : ℕ) (ty : Ty) (j w : ℕ) (s : ProgramState) → Follows (store may line ty g j w s) (store more line ty g j w s)
 store_follows may more wider line g ty j w s =
     follows_then (or_wrong line (cell may s.globals g j)) (or_wrong line (cell more s.globals g j)) (λ old. Ok (with_cell g j (stored ty w) s)) (λ old. Ok (with_cell g j (stored ty w) s)) (cell_follows may more wider s.globals g j line)
     (λ old. same_follows (Ok (with_cell g j (stored ty w) s)))
@@ -144,8 +144,8 @@ run_grows may more wider calls calls' grow (alike_if at c {c = x} {d = x'} {e = 
     (λ go. follows_then (choose go (run may calls x) (run may calls y) s) (choose go (run more calls' x') (run more calls' y') s) (run may calls a) (run more calls' b)
     (choose_follows go (run may calls x) (run more calls' x') (run may calls y) (run more calls' y') (run_grows may more wider calls calls' grow taken) (run_grows may more wider calls calls' grow other) s) (run_grows may more wider calls calls' grow rest))
 run_grows may more wider calls calls' grow (alike_for at k low closed high step {n = n} {m = m} {c = x} {d = x'} {a = a} {b = b} le body rest) s =
-    let turn = λ (t : State). and_then (run may calls x t) (loop_step at.line k step) in
-    let turn' = λ (t : State). and_then (run more calls' x' t) (loop_step at.line k step) in
+    let turn = λ (t : ProgramState). and_then (run may calls x t) (loop_step at.line k step) in
+    let turn' = λ (t : ProgramState). and_then (run more calls' x' t) (loop_step at.line k step) in
     follows_then (value may s low) (value more s low) (λ w. and_then (counting at.line n (loop_test may k closed high) turn (with_local k w s)) (run may calls a)) (λ w. and_then (counting at.line m (loop_test more k closed high) turn' (with_local k w s)) (run more calls' b))
     (eval_follows may more wider s.globals s.locals low)
     (λ w. follows_then (counting at.line n (loop_test may k closed high) turn (with_local k w s)) (counting at.line m (loop_test more k closed high) turn' (with_local k w s)) (run may calls a) (run more calls' b)
@@ -158,9 +158,9 @@ run_grows may more wider calls calls' grow (alike_while at n c {c = x} {d = x'} 
     follows_then (bounded n (holds may c) (run may calls x) s) (bounded n (holds more c) (run more calls' x') s) (run may calls a) (run more calls' b)
     (bounded_follows n (holds may c) (holds more c) (run may calls x) (run more calls' x') (holds_follow may more wider c) (run_grows may more wider calls calls' grow body) s) (run_grows may more wider calls calls' grow rest)
 run_grows may more wider calls calls' grow (alike_call at target f arguments {a = a} {b = b} rest) s =
-    follows_then (values may s arguments) (values more s arguments) (λ ws. and_then (calls may f ws s) (λ (r : ℕ × State). run may calls a (with_target target r.0 r.1))) (λ ws. and_then (calls' more f ws s) (λ (r : ℕ × State). run more calls' b (with_target target r.0 r.1)))
+    follows_then (values may s arguments) (values more s arguments) (λ ws. and_then (calls may f ws s) (λ (r : ℕ × ProgramState). run may calls a (with_target target r.0 r.1))) (λ ws. and_then (calls' more f ws s) (λ (r : ℕ × ProgramState). run more calls' b (with_target target r.0 r.1)))
     (values_follow may more wider s.globals s.locals arguments)
-    (λ ws. follows_then (calls may f ws s) (calls' more f ws s) (λ (r : ℕ × State). run may calls a (with_target target r.0 r.1)) (λ (r : ℕ × State). run more calls' b (with_target target r.0 r.1)) (grow.grows may more wider f ws s)
+    (λ ws. follows_then (calls may f ws s) (calls' more f ws s) (λ (r : ℕ × ProgramState). run may calls a (with_target target r.0 r.1)) (λ (r : ℕ × ProgramState). run more calls' b (with_target target r.0 r.1)) (grow.grows may more wider f ws s)
     (λ r. run_grows may more wider calls calls' grow rest (with_target target r.0 r.1)))
 
 -- ---- functions
@@ -170,26 +170,26 @@ declare_follows may more wider [] s = same_follows (Ok s)
 declare_follows may more wider (e ∷ es) s =
     follows_then (value may s e) (value more s e) (λ w. declare may es (with_new_local w s)) (λ w. declare more es (with_new_local w s)) (eval_follows may more wider s.globals s.locals e) (λ w. declare_follows may more wider es (with_new_local w s))
 
-result_follows : (may more : Access) → Wider may more → (e : Option Term) (s : State) → Follows (result_of may e s) (result_of more e s)
+result_follows : (may more : Access) → Wider may more → (e : Option Term) (s : ProgramState) → Follows (result_of may e s) (result_of more e s)
 result_follows may more wider None s = same_follows (Ok 0)
 result_follows may more wider (Some e) s = eval_follows may more wider s.globals s.locals e
 
-left_by : ℕ → State → State → FunctionText → State
+left_by : ℕ → ProgramState → ProgramState → FunctionText → ProgramState
 left_by n s u text = record u { locals = s.locals; marks = with_mark (is_some text.mark) (record { function = n; before = s.globals; after = u.globals }) u.marks }
 
-pub leave_same : (f g : Routine) → f.text ≡ g.text → (n : ℕ) (s u : State) → leave f n s u ≡ leave g n s u
+pub leave_same : (f g : Routine) → f.text ≡ g.text → (n : ℕ) (s u : ProgramState) → leave f n s u ≡ leave g n s u
 unfolding left_by
 leave_same f g same n s u = ap (left_by n s u) same
 
-enter_grows : (may more : Access) → Wider may more → (calls calls' : Calls) → CallsGrow calls calls' → (f g : Routine) → AlikeRoutine (λ n m. n ≤ m) f g → (n : ℕ) (ws : List ℕ) (s : State) → Follows (enter calls may f n ws s) (enter calls' more g n ws s)
+enter_grows : (may more : Access) → Wider may more → (calls calls' : Calls) → CallsGrow calls calls' → (f g : Routine) → AlikeRoutine (λ n m. n ≤ m) f g → (n : ℕ) (ws : List ℕ) (s : ProgramState) → Follows (enter calls may f n ws s) (enter calls' more g n ws s)
 enter_grows may more wider calls calls' grow f g same n ws s =
-    let fresh : State = record s { locals = ws } in
-    let back = λ (u : State). and_then (result_of may f.result u) (λ w. Ok (w, leave f n s u)) in
-    let back' = λ (u : State). and_then (result_of more g.result u) (λ w. Ok (w, leave g n s u)) in
+    let fresh : ProgramState = record s { locals = ws } in
+    let back = λ (u : ProgramState). and_then (result_of may f.result u) (λ w. Ok (w, leave f n s u)) in
+    let back' = λ (u : ProgramState). and_then (result_of more g.result u) (λ w. Ok (w, leave g n s u)) in
     let start_same : Follows (declare may f.locals fresh) (declare more g.locals fresh) = rw (← same.locals) (declare_follows may more wider f.locals fresh) in
-    let ends : (u : State) → Follows (back u) (back' u) =
+    let ends : (u : ProgramState) → Follows (back u) (back' u) =
     λ u. follows_then (result_of may f.result u) (result_of more g.result u) (λ w. Ok (w, leave f n s u)) (λ w. Ok (w, leave g n s u)) (rw (← same.result) (result_follows may more wider f.result u))
-    (λ w x e. ap (λ (t : State). Ok (w, t)) (sym (leave_same f g same.text n s u)) ∙ e) in
+    (λ w x e. ap (λ (t : ProgramState). Ok (w, t)) (sym (leave_same f g same.text n s u)) ∙ e) in
     follows_then (declare may f.locals fresh) (declare more g.locals fresh) (λ t. and_then (run may calls f.body t) back) (λ t. and_then (run more calls' g.body t) back') start_same
     (λ t. follows_then (run may calls f.body t) (run more calls' g.body t) back back' (run_grows may more wider calls calls' grow same.body t) ends)
 
@@ -214,7 +214,7 @@ there_grows limits wide wider calls calls' grow (next_routine {f = x} {g = y} th
 }
 there_grows limits wide wider calls calls' grow (next_routine this rest) (suc k) n = there_grows limits wide wider calls calls' grow rest k n
 
-this_grows : (b : Bool) (this this' others others' : Calls) → CallsGrow this this' → CallsGrow others others' → (may wide : Access) → Wider may wide → (f : ℕ) (ws : List ℕ) (s : State) → Follows (this_or b this others may f ws s) (this_or b this' others' wide f ws s)
+this_grows : (b : Bool) (this this' others others' : Calls) → CallsGrow this this' → CallsGrow others others' → (may wide : Access) → Wider may wide → (f : ℕ) (ws : List ℕ) (s : ProgramState) → Follows (this_or b this others may f ws s) (this_or b this' others' wide f ws s)
 this_grows true this this' others others' h k may wide w f ws s = h.grows may wide w f ws s
 this_grows false this this' others others' h k may wide w f ws s = k.grows may wide w f ws s
 
@@ -232,13 +232,13 @@ pub routines_count : {turn : ℕ → ℕ → Type 0} {fs gs : List Routine} → 
 routines_count no_routines = refl
 routines_count (next_routine this rest) = ap suc (routines_count rest)
 
-pub jobs_grow : (limits wide : Limits) → WiderLimits limits wide → (p q : Resolved) → AlikePrograms (λ n m. n ≤ m) p q → (jobs : ℕ) (s : State) → Follows (do_jobs limits p jobs s) (do_jobs wide q jobs s)
+pub jobs_grow : (limits wide : Limits) → WiderLimits limits wide → (p q : Resolved) → AlikePrograms (λ n m. n ≤ m) p q → (jobs : ℕ) (s : ProgramState) → Follows (do_jobs limits p jobs s) (do_jobs wide q jobs s)
 jobs_grow limits wide wider p q same zero s = same_follows (Ok s)
 jobs_grow limits wide wider p q same (suc jobs) s =
     let all : Follows (calls_below limits p.routines (length p.routines) everywhere p.job [] s) (calls_below wide q.routines (length q.routines) everywhere q.job [] s) =
     λ r e. (rw (← routines_count same.routines, ← same.job) ((calls_grow limits wide wider same.routines (length p.routines)).grows everywhere everywhere (λ g j h. h) p.job [] s r e)) in
     follows_then (calls_below limits p.routines (length p.routines) everywhere p.job [] s) (calls_below wide q.routines (length q.routines) everywhere q.job [] s)
-    (λ (r : ℕ × State). do_jobs limits p jobs r.1) (λ (r : ℕ × State). do_jobs wide q jobs r.1) all (λ r. jobs_grow limits wide wider p q same jobs r.1)
+    (λ (r : ℕ × ProgramState). do_jobs limits p jobs r.1) (λ (r : ℕ × ProgramState). do_jobs wide q jobs r.1) all (λ r. jobs_grow limits wide wider p q same jobs r.1)
 
 -- a run within limits is the run within wider ones
 pub limits_grow : (p : ProgramText) (limits wide : Limits) → WiderLimits limits wide → (inputs : List ℕ) (jobs : ℕ) → Follows (source_within limits p inputs jobs) (source_within wide p inputs jobs)

@@ -6,7 +6,7 @@ use Rattle.prem_word.specs.declared.kind.Kind.TheVariants.{Int}
 use Rattle.prem_word.specs.declared.kind.BinOp.TheVariants.{Add}
 use Rattle.prem_meaning.specs.Resolved.{Term, Constant, Local, Binary}
 use Rattle.prem_meaning.specs.Expressions.{Outcome, and_then, eval}
-use Rattle.prem_meaning.specs.Statements.{State, Calls, counting, bounded}
+use Rattle.prem_meaning.specs.Statements.{ProgramState, Calls, counting, bounded}
 use Rattle.prem_meaning.specs.Source.{unlimited, everywhere, source_within, source}
 use Rattle.prem_meaning.specs.GroupTwo.{IsWellFormed, group_two}
 use Rattle.prem_meaning.proofs.Samples.{at}
@@ -49,7 +49,7 @@ inside_turns : turn_bounds index_inside_text ≡ 64 ∷ []
 unfolding index_inside_text turn_bounds
 inside_turns = refl
 
-abbrev outputs_in : Outcome State → Outcome (List ℕ)
+abbrev outputs_in : Outcome ProgramState → Outcome (List ℕ)
 outputs_in r = and_then r (λ s. Ok s.outputs)
 
 inside_outputs : outputs_in (source_within (limits_of index_inside_text) index_inside_text [] 1) ≡ Ok (replicate 63 0)
@@ -61,7 +61,7 @@ unfolding index_inside_text turn_bounds
 inside_most = refl
 
 -- so it never goes wrong, whatever the number of jobs
-inside_runs : (jobs : ℕ) → (s : State) × (source_within (limits_of index_inside_text) index_inside_text [] jobs ≡ Ok s) × (source index_inside_text [] jobs ≡ Ok s)
+inside_runs : (jobs : ℕ) → (s : ProgramState) × (source_within (limits_of index_inside_text) index_inside_text [] jobs ≡ Ok s) × (source index_inside_text [] jobs ≡ Ok s)
 inside_runs jobs = analysis_sound index_inside_text inside_formed inside_words inside_stays [] tt jobs
 
 -- nor is it in want of turns or of a function
@@ -77,7 +77,7 @@ inside_wider = record { turns = few; inside = λ f g j h. refl }
     few zero = omega arith
     few (suc n) = omega arith
 
-inside_grows : (jobs : ℕ) (s : State) → source_within (limits_of index_inside_text) index_inside_text [] jobs ≡ Ok s → source index_inside_text [] jobs ≡ Ok s
+inside_grows : (jobs : ℕ) (s : ProgramState) → source_within (limits_of index_inside_text) index_inside_text [] jobs ≡ Ok s → source index_inside_text [] jobs ≡ Ok s
 inside_grows jobs s e = limits_grow index_inside_text (limits_of index_inside_text) unlimited inside_wider [] jobs s e
 
 -- ---- the program whose index doesn't
@@ -119,7 +119,7 @@ set_most : (most_outputs (limits_of (set_with 9)) (set_with 9) ∷ most_marks (l
 unfolding set_with turn_bounds
 set_most = refl
 
-set_counted : (jobs : ℕ) (s : State) → source (set_with 9) [] jobs ≡ Ok s → KeepsCounts (set_with 9) jobs s
+set_counted : (jobs : ℕ) (s : ProgramState) → source (set_with 9) [] jobs ≡ Ok s → KeepsCounts (set_with 9) jobs s
 set_counted jobs s e = runs_counted (set_with 9) set_formed set_words set_stays [] tt jobs s e
 
 -- ---- an expression: x + 1 with x from 1 to 5

@@ -12,7 +12,7 @@ use Rattle.prem_meaning.specs.Resolved.{Term, Steps, Done, SetLocal, SetScalar, 
 use Rattle.prem_meaning.specs.Resolve.{kind_of, promoted}
 use Rattle.prem_meaning.specs.Reach.{callees_in, IsAmong}
 use Rattle.prem_meaning.specs.Expressions.{Outcome, and_then, Access, eval_all}
-use Rattle.prem_meaning.specs.Statements.{State, Calls, choose, value, values, with_local, store, with_output, take_input, holds, loop_test, loop_step, counting, bounded, with_target, run}
+use Rattle.prem_meaning.specs.Statements.{ProgramState, Calls, choose, value, values, with_local, store, with_output, take_input, holds, loop_test, loop_step, counting, bounded, with_target, run}
 use Rattle.prem_word.specs.Ranges.{Span, LiesIn, exactly, converted, from_to}
 use Rattle.prem_unary.specs.TableLaws.{TableLaws}
 use Rattle.prem_ranges.specs.Environment.{any_again, with_range, assigned, Environment, at_local, joined}
@@ -120,7 +120,7 @@ argument_known at kind r None w small lies unbroken = any_value kind w small
 argument_known at kind r (Some stated) w small lies unbroken =
     record { small = small; lies = widened (from_to stated.0 stated.1) r (value_in kind w) (unbroken_not _ _ _ unbroken) lies }
 
-arguments_known : TableLaws → (at : Place) (site : Site) (may : Access) (env : Environment) (s : State) → Allows may site.watches → Good site.globals env s → (es : List Term) (ps : List Parameter) → AllTyped site.globals (kinds_of env) es → length es ≡ length ps →
+arguments_known : TableLaws → (at : Place) (site : Site) (may : Access) (env : Environment) (s : ProgramState) → Allows may site.watches → Good site.globals env s → (es : List Term) (ps : List Parameter) → AllTyped site.globals (kinds_of env) es → length es ≡ length ps →
     in_arguments at site env es ps ≡ [] → Always (Holds (map known_parameter ps)) (eval_all may s.globals s.locals es)
 arguments_known laws at site may env s allows good [] [] typed count unbroken = always_here [] no_locals
 arguments_known laws at site may env s allows good [] (p ∷ ps) typed count unbroken = absurd (omega arith)
@@ -138,18 +138,18 @@ arguments_known laws at site may env s allows good (e ∷ es) (p ∷ ps) typed c
 
 -- ---- conditions
 
-record Told (env : Environment) (s : State) (condition : Term) (go : Bool) : Type 0 where
+record Told (env : Environment) (s : ProgramState) (condition : Term) (go : Bool) : Type 0 where
   pub if_true : go ≡ true → Holds (refined true env condition) s.locals
   pub if_false : go ≡ false → Holds (refined false env condition) s.locals
 
-told : (env : Environment) (s : State) (condition : Term) (c : ℕ) → IsValue env s.locals condition c → Told env s condition (not (eqb c 0))
+told : (env : Environment) (s : ProgramState) (condition : Term) (c : ℕ) → IsValue env s.locals condition c → Told env s condition (not (eqb c 0))
 told env s condition c v = by (eqb c 0) refl
   where
     by : (b : Bool) → eqb c 0 ≡ b → Told env s condition (not b)
     by true e = record { if_true = λ t. cc; if_false = λ t. v.if_false (let z : c ≡ 0 = grind (arith, nat_tests) in z) }
     by false e = record { if_true = λ t. v.if_true (λ z. grind (arith, nat_tests)); if_false = λ t. cc }
 
-condition_told : TableLaws → (site : Site) (may : Access) (env : Environment) (s : State) (condition : Term) → Allows may site.watches → Good site.globals env s → Typed site.globals (kinds_of env) condition → in_term site env condition ≡ [] →
+condition_told : TableLaws → (site : Site) (may : Access) (env : Environment) (s : ProgramState) (condition : Term) → Allows may site.watches → Good site.globals env s → Typed site.globals (kinds_of env) condition → in_term site env condition ≡ [] →
     Always (Told env s condition) (holds may condition s)
 condition_told laws site may env s condition allows good typed unbroken =
     always_then (value may s condition) (λ c. Ok (not (eqb c 0))) (expression laws site may s.globals good.globals allows condition env s.locals typed good.locals unbroken)
@@ -157,20 +157,20 @@ condition_told laws site may env s condition allows good typed unbroken =
 
 -- ---- steps in sequence
 
-goes_on : (gs : List GlobalVariable) (env env' : Environment) (steps rest : Steps) (s s' : State) (o : Outcome State) → after env steps ≡ after env' rest →
+goes_on : (gs : List GlobalVariable) (env env' : Environment) (steps rest : Steps) (s s' : ProgramState) (o : Outcome ProgramState) → after env steps ≡ after env' rest →
     ((k : ℕ) → assigns k steps ≡ false → (assigns k rest ≡ false) × (slice_index s'.locals k ≡ slice_index s.locals k)) → Always (Ran gs env' rest s') o → Always (Ran gs env steps s) o
 goes_on gs env env' steps rest s s' o same keeps h =
     always_mapped o h (λ t ran. record { good = rw same ran.good; kept = λ k e. let parts = keeps k e in ran.kept k parts.0 ∙ parts.1 })
 
-good_at : (gs : List GlobalVariable) (env env' : Environment) (s : State) → Good gs env s → Holds env' s.locals → Good gs env' s
+good_at : (gs : List GlobalVariable) (env env' : Environment) (s : ProgramState) → Good gs env s → Holds env' s.locals → Good gs env' s
 good_at gs env env' s good h = record { locals = h; globals = good.globals; inputs = good.inputs }
 
 -- behind a body of a `while`
-record KeptIn (gs : List GlobalVariable) (env : Environment) (body : Steps) (s t : State) : Type 0 where
+record KeptIn (gs : List GlobalVariable) (env : Environment) (body : Steps) (s t : ProgramState) : Type 0 where
   pub good : Good gs (in_while body env) t
   pub kept : (k : ℕ) → assigns k body ≡ false → slice_index t.locals k ≡ slice_index s.locals k
 
-kept_while : (gs : List GlobalVariable) (env env' : Environment) (body : Steps) (s t u : State) → Good gs env s → kinds_of env' ≡ kinds_of env → KeptIn gs env body s t → Ran gs env' body t u → KeptIn gs env body s u
+kept_while : (gs : List GlobalVariable) (env env' : Environment) (body : Steps) (s t u : ProgramState) → Good gs env s → kinds_of env' ≡ kinds_of env → KeptIn gs env body s t → Ran gs env' body t u → KeptIn gs env body s u
 kept_while gs env env' body s t u good kinds keeps ran =
     let kept : (k : ℕ) → assigns k body ≡ false → slice_index u.locals k ≡ slice_index s.locals k = λ k e. ran.kept k e ∙ keeps.kept k e in
     let count : length u.locals ≡ length s.locals = holds_length ran.good.locals ∙ known_length _ _ (kinds-after env' body ∙ kinds) ∙ sym (holds_length good.locals) in
@@ -179,26 +179,26 @@ kept_while gs env env' body s t u good kinds keeps ran =
       kept = kept;
     }
 
-begins_while : (gs : List GlobalVariable) (env : Environment) (body : Steps) (s : State) → Good gs env s → KeptIn gs env body s s
+begins_while : (gs : List GlobalVariable) (env : Environment) (body : Steps) (s : ProgramState) → Good gs env s → KeptIn gs env body s s
 begins_while gs env body s good = record {
   good = record { locals = holds_loosened good.locals (λ j. assigns j body) s.locals (holds_small good.locals) refl (λ k e. refl); globals = good.globals; inputs = good.inputs };
   kept = λ k e. refl;
 }
 
-kept_target : (target : Option ℕ) (w : ℕ) (s : State) (k : ℕ) → is_target k target ≡ false → slice_index (with_target target w s).locals k ≡ slice_index s.locals k
+kept_target : (target : Option ℕ) (w : ℕ) (s : ProgramState) (k : ℕ) → is_target k target ≡ false → slice_index (with_target target w s).locals k ≡ slice_index s.locals k
 kept_target None w s k e = refl
 kept_target (Some j) w s k e = index-set_other s.locals j k w (not_same j k e)
 
-good_target : (gs : List GlobalVariable) (target : Option ℕ) (w : ℕ) (env : Environment) (s : State) → Good gs env s → w < 2 ^ 32 → Good gs (behind_call target env) (with_target target w s)
+good_target : (gs : List GlobalVariable) (target : Option ℕ) (w : ℕ) (env : Environment) (s : ProgramState) → Good gs env s → w < 2 ^ 32 → Good gs (behind_call target env) (with_target target w s)
 good_target gs None w env s good small = good
 good_target gs (Some k) w env s good small = good_any gs env s k w good small
 
 -- behind one of two arms
-record InArms (gs : List GlobalVariable) (env : Environment) (taken other : Steps) (s t : State) : Type 0 where
+record InArms (gs : List GlobalVariable) (env : Environment) (taken other : Steps) (s t : ProgramState) : Type 0 where
   pub good : Good gs env t
   pub kept : (k : ℕ) → (assigns k taken || assigns k other) ≡ false → slice_index t.locals k ≡ slice_index s.locals k
 
-either_arm : (gs : List GlobalVariable) (yes_env no_env : Environment) (taken other : Steps) (s : State) (f g : State → Outcome State) (go : Bool) → kinds_of (after yes_env taken) ≡ kinds_of (after no_env other) →
+either_arm : (gs : List GlobalVariable) (yes_env no_env : Environment) (taken other : Steps) (s : ProgramState) (f g : ProgramState → Outcome ProgramState) (go : Bool) → kinds_of (after yes_env taken) ≡ kinds_of (after no_env other) →
     (go ≡ true → Always (Ran gs yes_env taken s) (f s)) → (go ≡ false → Always (Ran gs no_env other s) (g s)) → Always (InArms gs (joined (after yes_env taken) (after no_env other)) taken other s) (choose go f g s)
 either_arm gs yes_env no_env taken other s f g true kinds one two =
     always_mapped (f s) (one refl)
@@ -215,7 +215,7 @@ either_arm gs yes_env no_env taken other s f g false kinds one two =
 
 -- ---- all steps
 
-pub steps_run : TableLaws → (p : Resolved) (n : ℕ) (may : Access) (calls : Calls) → Allows may (watches_of p n) → CallsReturn p n calls → (steps : Steps) (around : ℕ) (env : Environment) (s : State) → TypedSteps p n (kinds_of env) steps →
+pub steps_run : TableLaws → (p : Resolved) (n : ℕ) (may : Access) (calls : Calls) → Allows may (watches_of p n) → CallsReturn p n calls → (steps : Steps) (around : ℕ) (env : Environment) (s : ProgramState) → TypedSteps p n (kinds_of env) steps →
     ((f : ℕ) → IsAmong f (callees_in steps) → Allows may (watches_of p f)) → in_steps (site_of p n) around env steps ≡ [] → turns_in steps ≡ bounds env steps → Good p.globals env s → Always (Ran p.globals env steps s) (run may calls steps s)
 steps_run laws p n may calls allows returns Done around env s typed callees unbroken turned good = always_here s (record { good = good; kept = λ k e. refl })
 steps_run laws p n may calls allows returns (SetLocal at k e rest) around env s typed callees unbroken turned good =
@@ -331,7 +331,7 @@ steps_run laws p n may calls allows returns (For at k low closed high step turns
     let first : turns ≡ bound = cc in
     let others : turns_in body ++ turns_in rest ≡ bounds body_env body ++ bounds env' rest = cc in
     let split = split_same (turns_in body) (bounds body_env body) (turns_in rest) (bounds env' rest) (turns_count body_env body) others in
-    let turn = λ (t : State). and_then (run may calls body t) (loop_step at.line k step) in
+    let turn = λ (t : ProgramState). and_then (run may calls body t) (loop_step at.line k step) in
     always_then (value may s low) (λ w. and_then (counting at.line turns (loop_test may k closed high) turn (with_local k w s)) (run may calls rest))
     (expression laws site may s.globals good.globals allows low env s.locals typed.1 good.locals (none_right loop_breaches low_breaches two))
     (λ w v.
@@ -378,7 +378,7 @@ steps_run laws p n may calls allows returns (Call at target f arguments rest) ar
     always_then (values may s arguments) (λ ws. and_then (calls may f ws s) (λ r. run may calls rest (with_target target r.0 r.1)))
     (arguments_known laws at site may env s allows good arguments called.routine.text.params typed.1 called.count arguments_unbroken)
     (λ ws known.
-    always_then (calls may f ws s) (λ (r : ℕ × State). run may calls rest (with_target target r.0 r.1))
+    always_then (calls may f ws s) (λ (r : ℕ × ProgramState). run may calls rest (with_target target r.0 r.1))
     (returns.returns may f called.routine ws s called.before called.there (callees f (inl refl)) known good.globals good.inputs)
     (λ r back.
     let good_r : Good p.globals env r.1 = record { locals = rw back.locals good.locals; globals = back.globals; inputs = back.inputs } in

@@ -13,7 +13,7 @@ use Rattle.prem_syntax.specs.Syntax.{LocalVariable, GlobalVariable, FunctionText
 use Rattle.prem_meaning.specs.Resolved.{Term, Steps, Done, SetLocal, SetScalar, SetElement, Output, Input, If, For, While, Call, Routine, Resolved}
 use Rattle.prem_meaning.specs.Resolve.{resolve, promoted}
 use Rattle.prem_meaning.specs.Expressions.{Outcome, and_then, Access, cell, or_wrong, eval, eval_all}
-use Rattle.prem_meaning.specs.Statements.{State, Calls, choose, value, values, with_local, stored, with_cell, store, with_output, take_input, holds, int_local, loop_test, loop_step, counting, bounded, with_target, run, with_new_local, declare, result_of, leave, enter}
+use Rattle.prem_meaning.specs.Statements.{ProgramState, Calls, choose, value, values, with_local, stored, with_cell, store, with_output, take_input, holds, int_local, loop_test, loop_step, counting, bounded, with_target, run, with_new_local, declare, result_of, leave, enter}
 use Rattle.prem_meaning.specs.Source.{Limits, access_of, enter_if_there, this_or, calls_below, start, everywhere, do_jobs, source_within, source, unlimited}
 use Rattle.prem_meaning.specs.GroupTwo.{IsWellFormed}
 use Rattle.prem_ranges.specs.Environment.{Known, Environment}
@@ -54,7 +54,7 @@ both_any o = record { same = refl; fact = λ x e. record {} }
 -- ---- steps
 
 -- behind steps that began in a state: as many locals, and what they don't assign is as it was
-record Behind (steps : Steps) (s t : State) : Type 0 where
+record Behind (steps : Steps) (s t : ProgramState) : Type 0 where
   pub long : length t.locals ≡ length s.locals
   pub kept : (k : ℕ) → assigns k steps ≡ false → slice_index t.locals k ≡ slice_index s.locals k
 
@@ -65,8 +65,8 @@ record Enough (n m : ℕ) : Type 0 where
 
 -- calls of the functions below a number do the same, and leave the caller's locals
 record CallsAgree (p : Resolved) (n : ℕ) (calls calls' : Calls) : Type 0 where
-  pub agree : (may : Access) (f : ℕ) (routine : Routine) (ws : List ℕ) (s : State) → f < n → slice_get p.routines f ≡ Some routine → length ws ≡ length routine.text.params →
-      Both (λ (r : ℕ × State). r.1.locals ≡ s.locals) (calls may f ws s) (calls' may f ws s)
+  pub agree : (may : Access) (f : ℕ) (routine : Routine) (ws : List ℕ) (s : ProgramState) → f < n → slice_get p.routines f ≡ Some routine → length ws ≡ length routine.text.params →
+      Both (λ (r : ℕ × ProgramState). r.1.locals ≡ s.locals) (calls may f ws s) (calls' may f ws s)
 
 -- ---- counting loops
 
@@ -74,21 +74,21 @@ at_least : (w : ℕ) → negsuc 2147483647 ≤ℤ value_in Int w
 at_least w = omega (arith, ints)
 
 -- in a loop: as many locals as before it, and the rest as it was
-record InLoop (k : ℕ) (body : Steps) (s t : State) : Type 0 where
+record InLoop (k : ℕ) (body : Steps) (s t : ProgramState) : Type 0 where
   pub long : length t.locals ≡ length s.locals
   pub kept : (j : ℕ) → (eqb k j || assigns j body) ≡ false → slice_index t.locals j ≡ slice_index s.locals j
 
 -- behind a turn the variable is greater by the step, and no more than the greatest int
-record Turned (k : ℕ) (body : Steps) (step : ℕ) (s t u : State) : Type 0 where
+record Turned (k : ℕ) (body : Steps) (step : ℕ) (s t u : ProgramState) : Type 0 where
   pub now : InLoop k body s u
   pub further : int_local k u ≡ (int_local k t +ℤ pos step)
   pub most : int_local k u ≤ℤ pos 2147483647
 
-stepped : (line k step : ℕ) (body : Steps) (s t u : State) → k < length s.locals → assigns k body ≡ false → InLoop k body s t → Behind body t u →
+stepped : (line k step : ℕ) (body : Steps) (s t u : ProgramState) → k < length s.locals → assigns k body ≡ false → InLoop k body s t → Behind body t u →
     Both (Turned k body step s t) (loop_step line k step u) (loop_step line k step u)
 stepped line k step body s t u inside alone now behind = record { same = refl; fact = λ v e. by (int_lt (pos 2147483647) (int_local k u +ℤ pos step)) refl v e }
   where
-    by : (b : Bool) → int_lt (pos 2147483647) (int_local k u +ℤ pos step) ≡ b → (v : State) → cond b (Err line) (Ok (with_local k (word_of (int_local k u +ℤ pos step)) u)) ≡ Ok v → Turned k body step s t v
+    by : (b : Bool) → int_lt (pos 2147483647) (int_local k u +ℤ pos step) ≡ b → (v : ProgramState) → cond b (Err line) (Ok (with_local k (word_of (int_local k u +ℤ pos step)) u)) ≡ Ok v → Turned k body step s t v
     by true is v e = cc
     by false is v e =
         let z = int_local k u +ℤ pos step in
@@ -111,7 +111,7 @@ stepped line k step body s t u inside alone now behind = record { same = refl; f
         subst (Turned k body step s t) same turned
 
 -- turns of two loops with turns left
-turn_agrees : (line n m : ℕ) (test : State → Outcome Bool) (turn turn' : State → Outcome State) (P Q : State → Type 0) (t : State) → Q t → Both P (turn t) (turn' t) → ((u : State) → P u → Both Q (counting line n test turn u) (counting line m test turn' u)) →
+turn_agrees : (line n m : ℕ) (test : ProgramState → Outcome Bool) (turn turn' : ProgramState → Outcome ProgramState) (P Q : ProgramState → Type 0) (t : ProgramState) → Q t → Both P (turn t) (turn' t) → ((u : ProgramState) → P u → Both Q (counting line n test turn u) (counting line m test turn' u)) →
     Both Q (counting line (suc n) test turn t) (counting line (suc m) test turn' t)
 unfolding counting
 turn_agrees line n m test turn turn' P Q t here one go =
@@ -131,8 +131,8 @@ first_fewer : (i j : ℤ) (r step : ℕ) → 0 < step → j ≡ (i +ℤ pos step
 first_fewer i j r step some is low enough = omega (arith, ints)
 
 -- from a state on in which so many turns lead past the greatest int
-rest_agrees : (line k step : ℕ) (body : Steps) (s : State) (test : State → Outcome Bool) (turn turn' : State → Outcome State) → 0 < step → ((t : State) → InLoop k body s t → Both (Turned k body step s t) (turn t) (turn' t)) →
-    (n m : ℕ) (t : State) → InLoop k body s t → int_local k t ≤ℤ pos 2147483647 → pos 2147483648 ≤ℤ (int_local k t +ℤ pos n) → pos 2147483648 ≤ℤ (int_local k t +ℤ pos m) →
+rest_agrees : (line k step : ℕ) (body : Steps) (s : ProgramState) (test : ProgramState → Outcome Bool) (turn turn' : ProgramState → Outcome ProgramState) → 0 < step → ((t : ProgramState) → InLoop k body s t → Both (Turned k body step s t) (turn t) (turn' t)) →
+    (n m : ℕ) (t : ProgramState) → InLoop k body s t → int_local k t ≤ℤ pos 2147483647 → pos 2147483648 ≤ℤ (int_local k t +ℤ pos n) → pos 2147483648 ≤ℤ (int_local k t +ℤ pos m) →
     Both (InLoop k body s) (counting line n test turn t) (counting line m test turn' t)
 rest_agrees line k step body s test turn turn' some one zero m t now most enough enough' = absurd (left_over (int_local k t) enough most)
 rest_agrees line k step body s test turn turn' some one (suc n) zero t now most enough enough' = absurd (left_over (int_local k t) enough' most)
@@ -140,8 +140,8 @@ rest_agrees line k step body s test turn turn' some one (suc n) (suc m) t now mo
     turn_agrees line n m test turn turn' (Turned k body step s t) (InLoop k body s) t now (one t now)
     (λ u turned. rest_agrees line k step body s test turn turn' some one n m u turned.now turned.most (fewer (int_local k t) (int_local k u) n step some turned.further enough) (fewer (int_local k t) (int_local k u) m step some turned.further enough'))
 
-loop_agrees : (line k step : ℕ) (body : Steps) (s : State) (test : State → Outcome Bool) (turn turn' : State → Outcome State) → 0 < step → ((t : State) → InLoop k body s t → Both (Turned k body step s t) (turn t) (turn' t)) →
-    (n m : ℕ) → Enough n m → (t : State) → InLoop k body s t → Both (InLoop k body s) (counting line n test turn t) (counting line m test turn' t)
+loop_agrees : (line k step : ℕ) (body : Steps) (s : ProgramState) (test : ProgramState → Outcome Bool) (turn turn' : ProgramState → Outcome ProgramState) → 0 < step → ((t : ProgramState) → InLoop k body s t → Both (Turned k body step s t) (turn t) (turn' t)) →
+    (n m : ℕ) → Enough n m → (t : ProgramState) → InLoop k body s t → Both (InLoop k body s) (counting line n test turn t) (counting line m test turn' t)
 loop_agrees line k step body s test turn turn' some one zero m enough t now = let h = enough.first in absurd (omega arith)
 loop_agrees line k step body s test turn turn' some one (suc n) zero enough t now = let h = enough.second in absurd (omega arith)
 loop_agrees line k step body s test turn turn' some one (suc n) (suc m) enough t now =
@@ -151,38 +151,38 @@ loop_agrees line k step body s test turn turn' some one (suc n) (suc m) enough t
 
 -- ---- bounded loops
 
-bounded_agrees : (n : ℕ) (test : State → Outcome Bool) (turn turn' : State → Outcome State) (P : State → Type 0) → ((t : State) → P t → Both P (turn t) (turn' t)) → (t : State) → P t → Both P (bounded n test turn t) (bounded n test turn' t)
+bounded_agrees : (n : ℕ) (test : ProgramState → Outcome Bool) (turn turn' : ProgramState → Outcome ProgramState) (P : ProgramState → Type 0) → ((t : ProgramState) → P t → Both P (turn t) (turn' t)) → (t : ProgramState) → P t → Both P (bounded n test turn t) (bounded n test turn' t)
 unfolding bounded
 bounded_agrees zero test turn turn' P one t now = both_here P t now
 bounded_agrees (suc n) test turn turn' P one t now =
     both_then (test t) (test t) (λ b. choose b (λ u. and_then (turn u) (bounded n test turn)) Ok t) (λ b. choose b (λ u. and_then (turn' u) (bounded n test turn')) Ok t) (both_any (test t)) (λ b any. by b (λ u p. bounded_agrees n test turn turn' P one u p))
   where
-    by : (b : Bool) → ((u : State) → P u → Both P (bounded n test turn u) (bounded n test turn' u)) → Both P (choose b (λ u. and_then (turn u) (bounded n test turn)) Ok t) (choose b (λ u. and_then (turn' u) (bounded n test turn')) Ok t)
+    by : (b : Bool) → ((u : ProgramState) → P u → Both P (bounded n test turn u) (bounded n test turn' u)) → Both P (choose b (λ u. and_then (turn u) (bounded n test turn)) Ok t) (choose b (λ u. and_then (turn' u) (bounded n test turn')) Ok t)
     by true go = both_then (turn t) (turn' t) (bounded n test turn) (bounded n test turn') (one t now) go
     by false go = both_here P t now
 
 -- ---- states
 
-store_keeps : (may : Access) (line g : ℕ) (ty : Ty) (j w : ℕ) (s : State) → Both (λ t. t.locals ≡ s.locals) (store may line ty g j w s) (store may line ty g j w s)
+store_keeps : (may : Access) (line g : ℕ) (ty : Ty) (j w : ℕ) (s : ProgramState) → Both (λ t. t.locals ≡ s.locals) (store may line ty g j w s) (store may line ty g j w s)
 store_keeps may line g ty j w s = by (or_wrong line (cell may s.globals g j))
   where
     by : (o : Outcome ℕ) → Both (λ t. t.locals ≡ s.locals) (and_then o (λ old. Ok (with_cell g j (stored ty w) s))) (and_then o (λ old. Ok (with_cell g j (stored ty w) s)))
     by (Ok old) = both_here (λ t. t.locals ≡ s.locals) (with_cell g j (stored ty w) s) refl
     by (Err line) = record { same = refl; fact = λ t e. cc }
 
-input_long : (k : ℕ) (inputs : List ℕ) (s : State) → length (take_input k inputs s).locals ≡ length s.locals
+input_long : (k : ℕ) (inputs : List ℕ) (s : ProgramState) → length (take_input k inputs s).locals ≡ length s.locals
 input_long k [] s = length-set s.locals k 0
 input_long k (w ∷ ws) s = length-set s.locals k w
 
-input_keeps : (k j : ℕ) (inputs : List ℕ) (s : State) → eqb k j ≡ false → slice_index (take_input k inputs s).locals j ≡ slice_index s.locals j
+input_keeps : (k j : ℕ) (inputs : List ℕ) (s : ProgramState) → eqb k j ≡ false → slice_index (take_input k inputs s).locals j ≡ slice_index s.locals j
 input_keeps k j [] s e = index-set_other s.locals k j 0 (not_same k j e)
 input_keeps k j (w ∷ ws) s e = index-set_other s.locals k j w (not_same k j e)
 
-target_long : (target : Option ℕ) (w : ℕ) (s : State) → length (with_target target w s).locals ≡ length s.locals
+target_long : (target : Option ℕ) (w : ℕ) (s : ProgramState) → length (with_target target w s).locals ≡ length s.locals
 target_long None w s = refl
 target_long (Some k) w s = length-set s.locals k w
 
-target_keeps : (target : Option ℕ) (w j : ℕ) (s : State) → is_target j target ≡ false → slice_index (with_target target w s).locals j ≡ slice_index s.locals j
+target_keeps : (target : Option ℕ) (w j : ℕ) (s : ProgramState) → is_target j target ≡ false → slice_index (with_target target w s).locals j ≡ slice_index s.locals j
 target_keeps None w j s e = refl
 target_keeps (Some k) w j s e = index-set_other s.locals k j w (not_same k j e)
 
@@ -196,21 +196,21 @@ count_all may globals locals (x ∷ xs) ws e = by (eval may globals locals x) (e
     by (Ok v) (Ok vs) rest h = let same : v ∷ vs ≡ ws = cc in ap length (sym same) ∙ ap suc (rest vs refl)
 
 -- what comes behind one statement
-on : (steps rest : Steps) (s s' : State) {o o' : Outcome State} → length s'.locals ≡ length s.locals → ((k : ℕ) → assigns k steps ≡ false → (assigns k rest ≡ false) × (slice_index s'.locals k ≡ slice_index s.locals k)) → Both (Behind rest s') o o' → Both (Behind steps s) o o'
+on : (steps rest : Steps) (s s' : ProgramState) {o o' : Outcome ProgramState} → length s'.locals ≡ length s.locals → ((k : ℕ) → assigns k steps ≡ false → (assigns k rest ≡ false) × (slice_index s'.locals k ≡ slice_index s.locals k)) → Both (Behind rest s') o o' → Both (Behind steps s) o o'
 on steps rest s s' long kept h = both_mapped (λ t b. record { long = b.long ∙ long; kept = λ k e. let parts = kept k e in b.kept k parts.0 ∙ parts.1 }) h
 
 -- behind one of two arms
-record InArms (taken other : Steps) (s t : State) : Type 0 where
+record InArms (taken other : Steps) (s t : ProgramState) : Type 0 where
   pub long : length t.locals ≡ length s.locals
   pub kept : (k : ℕ) → (assigns k taken || assigns k other) ≡ false → slice_index t.locals k ≡ slice_index s.locals k
 
-either_arm : {taken other : Steps} (go : Bool) (s : State) (f f' g g' : State → Outcome State) → Both (Behind taken s) (f s) (f' s) → Both (Behind other s) (g s) (g' s) → Both (InArms taken other s) (choose go f g s) (choose go f' g' s)
+either_arm : {taken other : Steps} (go : Bool) (s : ProgramState) (f f' g g' : ProgramState → Outcome ProgramState) → Both (Behind taken s) (f s) (f' s) → Both (Behind other s) (g s) (g' s) → Both (InArms taken other s) (choose go f g s) (choose go f' g' s)
 either_arm {taken = x} {other = y} true s f f' g g' one two = both_mapped (λ t b. record { long = b.long; kept = λ k none. b.kept k (not_both (assigns k x) (assigns k y) none).0 }) one
 either_arm {taken = x} {other = y} false s f f' g g' one two = both_mapped (λ t b. record { long = b.long; kept = λ k none. b.kept k (not_both (assigns k x) (assigns k y) none).1 }) two
 
 -- ---- all steps
 
-steps_agree : (p : Resolved) (n : ℕ) (ks : List Kind) (may : Access) (calls calls' : Calls) → CallsAgree p n calls calls' → {a b : Steps} → Alike Enough a b → TypedSteps p n ks a → (s : State) → length s.locals ≡ length ks → Both (Behind a s) (run may calls a s) (run may calls' b s)
+steps_agree : (p : Resolved) (n : ℕ) (ks : List Kind) (may : Access) (calls calls' : Calls) → CallsAgree p n calls calls' → {a b : Steps} → Alike Enough a b → TypedSteps p n ks a → (s : ProgramState) → length s.locals ≡ length ks → Both (Behind a s) (run may calls a s) (run may calls' b s)
 steps_agree p n ks may calls calls' agree alike_done typed s long = both_here (Behind Done s) s (record { long = refl; kept = λ k e. refl })
 steps_agree p n ks may calls calls' agree (alike_local at k e {a = a} {b = b} rest) typed s long =
     both_then (value may s e) (value may s e) (λ w. run may calls a (with_local k w s)) (λ w. run may calls' b (with_local k w s)) (both_any (value may s e))
@@ -237,8 +237,8 @@ steps_agree p n ks may calls calls' agree (alike_if at c {c = x} {d = x'} {e = y
     (either_arm go s (run may calls x) (run may calls' x') (run may calls y) (run may calls' y') (steps_agree p n ks may calls calls' agree taken typed.1 s long) (steps_agree p n ks may calls calls' agree other typed.2 s long))
     (λ t behind. on (If at c x y a) a s t behind.long (λ j none. let parts = not_both (assigns j x || assigns j y) (assigns j a) none in (parts.1, behind.kept j parts.0)) (steps_agree p n ks may calls calls' agree rest typed.3 t (behind.long ∙ long))))
 steps_agree p n ks may calls calls' agree (alike_for at k low closed high step {n = r} {m = r'} {c = x} {d = x'} {a = a} {b = b} enough body rest) typed s long =
-    let turn = λ (t : State). and_then (run may calls x t) (loop_step at.line k step) in
-    let turn' = λ (t : State). and_then (run may calls' x' t) (loop_step at.line k step) in
+    let turn = λ (t : ProgramState). and_then (run may calls x t) (loop_step at.line k step) in
+    let turn' = λ (t : ProgramState). and_then (run may calls' x' t) (loop_step at.line k step) in
     let test = loop_test may k closed high in
     let inside : k < length s.locals = (let there = slice_get_within ks k Int typed.0.is_int in omega arith) in
     both_then (value may s low) (value may s low) (λ w. and_then (counting at.line r test turn (with_local k w s)) (run may calls a)) (λ w. and_then (counting at.line r' test turn' (with_local k w s)) (run may calls' b)) (both_any (value may s low))
@@ -256,9 +256,9 @@ steps_agree p n ks may calls calls' agree (alike_while at turns c {c = x} {d = x
 steps_agree p n ks may calls calls' agree (alike_call at target f arguments {a = a} {b = b} rest) typed s long =
     let called = typed.0 in
     let counted : Both (λ ws. length ws ≡ length arguments) (values may s arguments) (values may s arguments) = record { same = refl; fact = λ ws e. count_all may s.globals s.locals arguments ws e } in
-    both_then (values may s arguments) (values may s arguments) (λ ws. and_then (calls may f ws s) (λ (r : ℕ × State). run may calls a (with_target target r.0 r.1))) (λ ws. and_then (calls' may f ws s) (λ (r : ℕ × State). run may calls' b (with_target target r.0 r.1))) counted
+    both_then (values may s arguments) (values may s arguments) (λ ws. and_then (calls may f ws s) (λ (r : ℕ × ProgramState). run may calls a (with_target target r.0 r.1))) (λ ws. and_then (calls' may f ws s) (λ (r : ℕ × ProgramState). run may calls' b (with_target target r.0 r.1))) counted
     (λ ws count.
-    both_then (calls may f ws s) (calls' may f ws s) (λ (r : ℕ × State). run may calls a (with_target target r.0 r.1)) (λ (r : ℕ × State). run may calls' b (with_target target r.0 r.1)) (agree.agree may f called.routine ws s called.before called.there (count ∙ called.count))
+    both_then (calls may f ws s) (calls' may f ws s) (λ (r : ℕ × ProgramState). run may calls a (with_target target r.0 r.1)) (λ (r : ℕ × ProgramState). run may calls' b (with_target target r.0 r.1)) (agree.agree may f called.routine ws s called.before called.there (count ∙ called.count))
     (λ r same.
     let wide : length (with_target target r.0 r.1).locals ≡ length s.locals = target_long target r.0 r.1 ∙ ap length same in
     on (Call at target f arguments a) a s (with_target target r.0 r.1) wide (λ j none. let parts = not_both (is_target j target) (assigns j a) none in (parts.1, target_keeps target r.0 j r.1 parts.0 ∙ ap (λ ls. slice_index ls j) same))
@@ -266,7 +266,7 @@ steps_agree p n ks may calls calls' agree (alike_call at target f arguments {a =
 
 -- ---- functions
 
-declare_long : (may : Access) (es : List Term) (s : State) → Both (λ t. length t.locals ≡ length s.locals + length es) (declare may es s) (declare may es s)
+declare_long : (may : Access) (es : List Term) (s : ProgramState) → Both (λ t. length t.locals ≡ length s.locals + length es) (declare may es s) (declare may es s)
 declare_long may [] s = both_here (λ t. length t.locals ≡ length s.locals + 0) s (omega arith)
 declare_long may (e ∷ es) s =
     both_then (value may s e) (value may s e) (λ w. declare may es (with_new_local w s)) (λ w. declare may es (with_new_local w s)) (both_any (value may s e))
@@ -281,13 +281,13 @@ declared_long gs ks env (l ∷ ls) (e ∷ es) typed =
     let one = length-append env (known_local env l e ∷ []) in
     omega arith
 
-enter_agrees : (p : Resolved) (n : ℕ) (may : Access) (calls calls' : Calls) → CallsAgree p n calls calls' → TypedProgram p → (f g : Routine) → AlikeRoutine Enough f g → slice_get p.routines n ≡ Some f → (ws : List ℕ) (s : State) → length ws ≡ length f.text.params →
-    Both (λ (r : ℕ × State). r.1.locals ≡ s.locals) (enter calls may f n ws s) (enter calls' may g n ws s)
+enter_agrees : (p : Resolved) (n : ℕ) (may : Access) (calls calls' : Calls) → CallsAgree p n calls calls' → TypedProgram p → (f g : Routine) → AlikeRoutine Enough f g → slice_get p.routines n ≡ Some f → (ws : List ℕ) (s : ProgramState) → length ws ≡ length f.text.params →
+    Both (λ (r : ℕ × ProgramState). r.1.locals ≡ s.locals) (enter calls may f n ws s) (enter calls' may g n ws s)
 enter_agrees p n may calls calls' agree program f g same there ws s count =
     let typed = program.each n f there in
-    let fresh : State = record s { locals = ws } in
-    let back : State → Outcome (ℕ × State) = λ u. and_then (result_of may f.result u) (λ w. Ok (w, leave f n s u)) in
-    let back' : State → Outcome (ℕ × State) = λ u. and_then (result_of may g.result u) (λ w. Ok (w, leave g n s u)) in
+    let fresh : ProgramState = record s { locals = ws } in
+    let back : ProgramState → Outcome (ℕ × ProgramState) = λ u. and_then (result_of may f.result u) (λ w. Ok (w, leave f n s u)) in
+    let back' : ProgramState → Outcome (ℕ × ProgramState) = λ u. and_then (result_of may g.result u) (λ w. Ok (w, leave g n s u)) in
     let starts : Both (λ t. length t.locals ≡ length ws + length f.locals) (declare may f.locals fresh) (declare may g.locals fresh) = rw (← same.locals) (declare_long may f.locals fresh) in
     let kinds : length ws + length f.locals ≡ length (kinds_of (at_body f)) =
     (let a = length-map (at_body f) (λ (l : Known). l.kind) in
@@ -299,9 +299,9 @@ enter_agrees p n may calls calls' agree program f g same there ws s count =
     both_then (run may calls f.body t) (run may calls' g.body t) back back' (steps_agree p n (kinds_of (at_body f)) may calls calls' agree same.body typed.body t (long ∙ kinds))
     (λ u behind. ends u))
   where
-    ends : (u : State) → Both (λ (r : ℕ × State). r.1.locals ≡ s.locals) (and_then (result_of may f.result u) (λ w. Ok (w, leave f n s u))) (and_then (result_of may g.result u) (λ w. Ok (w, leave g n s u)))
+    ends : (u : ProgramState) → Both (λ (r : ℕ × ProgramState). r.1.locals ≡ s.locals) (and_then (result_of may f.result u) (λ w. Ok (w, leave f n s u))) (and_then (result_of may g.result u) (λ w. Ok (w, leave g n s u)))
     ends u = both_then {P = Any} (result_of may f.result u) (result_of may g.result u) (λ w. Ok (w, leave f n s u)) (λ w. Ok (w, leave g n s u)) (rw (← same.result) (both_any (result_of may f.result u)))
-        (λ w any. rw (← leave_same f g same.text n s u) (both_here (λ (r : ℕ × State). r.1.locals ≡ s.locals) (w, leave f n s u) refl))
+        (λ w any. rw (← leave_same f g same.text n s u) (both_here (λ (r : ℕ × ProgramState). r.1.locals ≡ s.locals) (w, leave f n s u) refl))
 
 -- ---- calls
 
@@ -319,9 +319,9 @@ calls_agree missing limits limits' inside p q same typed (suc n) =
     let before = calls_agree missing limits limits' inside p q same typed n in
     record { agree = λ may f routine ws s below there count. by before may f routine ws s below there count (eqb f n) refl }
   where
-    by : CallsAgree p n (calls_or missing limits p.routines n) (calls_below limits' q.routines n) → (may : Access) (f : ℕ) (routine : Routine) (ws : List ℕ) (s : State) → f < suc n → slice_get p.routines f ≡ Some routine → length ws ≡ length routine.text.params →
+    by : CallsAgree p n (calls_or missing limits p.routines n) (calls_below limits' q.routines n) → (may : Access) (f : ℕ) (routine : Routine) (ws : List ℕ) (s : ProgramState) → f < suc n → slice_get p.routines f ≡ Some routine → length ws ≡ length routine.text.params →
         (b : Bool) → eqb f n ≡ b →
-        Both (λ (r : ℕ × State). r.1.locals ≡ s.locals) (this_or b (enter_or missing limits (calls_or missing limits p.routines n) (slice_get p.routines n) n) (calls_or missing limits p.routines n) may f ws s)
+        Both (λ (r : ℕ × ProgramState). r.1.locals ≡ s.locals) (this_or b (enter_or missing limits (calls_or missing limits p.routines n) (slice_get p.routines n) n) (calls_or missing limits p.routines n) may f ws s)
         (this_or b (enter_if_there limits' (calls_below limits' q.routines n) (slice_get q.routines n) n) (calls_below limits' q.routines n) may f ws s)
     by before may f routine ws s below there count false is = before.agree may f routine ws s (let other : f ≡ n → ⊥ = (λ e. grind (arith, nat_tests)) in omega arith) there count
     by before may f routine ws s below there count true is =
@@ -333,13 +333,13 @@ calls_agree missing limits limits' inside p q same typed (suc n) =
 
 -- ---- jobs
 
-jobs_agree : (missing : Calls) (limits limits' : Limits) → limits.inside ≡ limits'.inside → (p q : Resolved) → AlikePrograms Enough p q → TypedProgram p → (jobs : ℕ) (s : State) → Both Any (jobs_or missing limits p jobs s) (do_jobs limits' q jobs s)
+jobs_agree : (missing : Calls) (limits limits' : Limits) → limits.inside ≡ limits'.inside → (p q : Resolved) → AlikePrograms Enough p q → TypedProgram p → (jobs : ℕ) (s : ProgramState) → Both Any (jobs_or missing limits p jobs s) (do_jobs limits' q jobs s)
 jobs_agree missing limits limits' inside p q same typed zero s = both_any (Ok s)
 jobs_agree missing limits limits' inside p q same typed (suc jobs) s =
     let below = slice_get_within p.routines p.job typed.job typed.job_there in
     let all = (calls_agree missing limits limits' inside p q same.routines typed (length p.routines)).agree everywhere p.job typed.job [] s below typed.job_there (ap length (sym typed.job_alone)) in
-    let one : Both (λ (r : ℕ × State). r.1.locals ≡ s.locals) (calls_or missing limits p.routines (length p.routines) everywhere p.job [] s) (calls_below limits' q.routines (length q.routines) everywhere q.job [] s) = rw (← routines_count same.routines, ← same.job) all in
-    both_then (calls_or missing limits p.routines (length p.routines) everywhere p.job [] s) (calls_below limits' q.routines (length q.routines) everywhere q.job [] s) (λ (r : ℕ × State). jobs_or missing limits p jobs r.1) (λ (r : ℕ × State). do_jobs limits' q jobs r.1) one
+    let one : Both (λ (r : ℕ × ProgramState). r.1.locals ≡ s.locals) (calls_or missing limits p.routines (length p.routines) everywhere p.job [] s) (calls_below limits' q.routines (length q.routines) everywhere q.job [] s) = rw (← routines_count same.routines, ← same.job) all in
+    both_then (calls_or missing limits p.routines (length p.routines) everywhere p.job [] s) (calls_below limits' q.routines (length q.routines) everywhere q.job [] s) (λ (r : ℕ × ProgramState). jobs_or missing limits p jobs r.1) (λ (r : ℕ × ProgramState). do_jobs limits' q jobs r.1) one
     (λ r is. jobs_agree missing limits limits' inside p q same typed jobs r.1)
 
 pub nothing_wanted : (p : ProgramText) → IsWellFormed p → ProgramHasWords p → (missing : Calls) (turns : ℕ → ℕ) → ((n : ℕ) → 2 ^ 32 ≤ turns n) → (inputs : List ℕ) (jobs : ℕ) →
@@ -360,11 +360,11 @@ calls_are limits fs (suc n) =
     entered None = refl
     entered (Some f) = refl
 
-jobs_are : (limits : Limits) (p : Resolved) (jobs : ℕ) (s : State) → jobs_or wrong_call limits p jobs s ≡ do_jobs limits p jobs s
+jobs_are : (limits : Limits) (p : Resolved) (jobs : ℕ) (s : ProgramState) → jobs_or wrong_call limits p jobs s ≡ do_jobs limits p jobs s
 jobs_are limits p zero s = refl
 jobs_are limits p (suc jobs) s =
     ap (λ (c : Calls). and_then (c everywhere p.job [] s) (λ r. jobs_or wrong_call limits p jobs r.1)) (calls_are limits p.routines (length p.routines))
-    ∙ ap (λ (go : ℕ × State → Outcome State). and_then (calls_below limits p.routines (length p.routines) everywhere p.job [] s) go) (λ i r. jobs_are limits p jobs r.1 i)
+    ∙ ap (λ (go : ℕ × ProgramState → Outcome ProgramState). and_then (calls_below limits p.routines (length p.routines) everywhere p.job [] s) go) (λ i r. jobs_are limits p jobs r.1 i)
 
 pub missing_is_wrong : (limits : Limits) (p : ProgramText) (inputs : List ℕ) (jobs : ℕ) → source_or wrong_call limits p inputs jobs ≡ source_within limits p inputs jobs
 missing_is_wrong limits p inputs jobs = jobs_are limits (resolve limits.turns p) jobs (start (resolve limits.turns p) inputs)

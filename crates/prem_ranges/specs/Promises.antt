@@ -3,7 +3,7 @@ use Rattle.std.specs.Prelude.{◌≡◌, ℕ, ◌*◌, ◌^◌, ◌<◌, ◌≤�
 use Rattle.prem_syntax.specs.Syntax.{ProgramText}
 use Rattle.prem_meaning.specs.Resolved.{Term}
 use Rattle.prem_meaning.specs.Expressions.{Access, eval}
-use Rattle.prem_meaning.specs.Statements.{State}
+use Rattle.prem_meaning.specs.Statements.{ProgramState}
 use Rattle.prem_meaning.specs.Source.{Limits, source_within, source}
 use Rattle.prem_meaning.specs.GroupTwo.{IsWellFormed}
 use Rattle.prem_ranges.specs.Environment.{Environment}
@@ -17,7 +17,7 @@ use Rattle.prem_ranges.specs.Sound.{Always, AreWords, Holds, kinds_of, Shaped, A
 abbrev pub AnalysisIsSound : Type 0
 AnalysisIsSound =
     (p : ProgramText) → IsWellFormed p → ProgramHasWords p → StaysInRange p → (inputs : List ℕ) → AreWords inputs → (jobs : ℕ) →
-    (s : State) × (source_within (limits_of p) p inputs jobs ≡ Ok s) × (source p inputs jobs ≡ Ok s)
+    (s : ProgramState) × (source_within (limits_of p) p inputs jobs ≡ Ok s) × (source p inputs jobs ≡ Ok s)
 
 -- its turn bounds are words
 abbrev pub TurnsAreWords : Type 0
@@ -31,7 +31,7 @@ pub record WiderLimits (limits wide : Limits) : Type 0 where
 -- a run within limits is the run within wider ones, of any program
 abbrev pub LimitsGrow : Type 0
 LimitsGrow =
-    (p : ProgramText) (limits wide : Limits) → WiderLimits limits wide → (inputs : List ℕ) (jobs : ℕ) (s : State) → source_within limits p inputs jobs ≡ Ok s → source_within wide p inputs jobs ≡ Ok s
+    (p : ProgramText) (limits wide : Limits) → WiderLimits limits wide → (inputs : List ℕ) (jobs : ℕ) (s : ProgramState) → source_within limits p inputs jobs ≡ Ok s → source_within wide p inputs jobs ≡ Ok s
 
 -- an expression that breaks no rule has a value, it lies in its range, and what it tells of locals is true
 abbrev pub ExpressionsLieInRanges : Type 0
@@ -41,16 +41,16 @@ ExpressionsLieInRanges =
 
 -- jobs that keep to limits have no more outputs and marked calls than the turns of their loops allow
 abbrev pub OutputsAreCounted : Type 0
-OutputsAreCounted = (p : ProgramText) (limits : Limits) (inputs : List ℕ) (jobs : ℕ) (s : State) → source_within limits p inputs jobs ≡ Ok s → length s.outputs ≤ jobs * most_outputs limits p
+OutputsAreCounted = (p : ProgramText) (limits : Limits) (inputs : List ℕ) (jobs : ℕ) (s : ProgramState) → source_within limits p inputs jobs ≡ Ok s → length s.outputs ≤ jobs * most_outputs limits p
 
 abbrev pub MarksAreCounted : Type 0
-MarksAreCounted = (p : ProgramText) (limits : Limits) (inputs : List ℕ) (jobs : ℕ) (s : State) → source_within limits p inputs jobs ≡ Ok s → length s.marks ≤ jobs * most_marks limits p
+MarksAreCounted = (p : ProgramText) (limits : Limits) (inputs : List ℕ) (jobs : ℕ) (s : ProgramState) → source_within limits p inputs jobs ≡ Ok s → length s.marks ≤ jobs * most_marks limits p
 
 -- a run of a well-formed program that breaks no rule on ranges has no more than its turn bounds allow
-pub record KeepsCounts (p : ProgramText) (jobs : ℕ) (s : State) : Type 0 where
+pub record KeepsCounts (p : ProgramText) (jobs : ℕ) (s : ProgramState) : Type 0 where
   pub outputs : length s.outputs ≤ jobs * most_outputs (limits_of p) p
   pub marks : length s.marks ≤ jobs * most_marks (limits_of p) p
 
 abbrev pub RunsAreCounted : Type 0
 RunsAreCounted =
-    (p : ProgramText) → IsWellFormed p → ProgramHasWords p → StaysInRange p → (inputs : List ℕ) → AreWords inputs → (jobs : ℕ) (s : State) → source p inputs jobs ≡ Ok s → KeepsCounts p jobs s
+    (p : ProgramText) → IsWellFormed p → ProgramHasWords p → StaysInRange p → (inputs : List ℕ) → AreWords inputs → (jobs : ℕ) (s : ProgramState) → source p inputs jobs ≡ Ok s → KeepsCounts p jobs s

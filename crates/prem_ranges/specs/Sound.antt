@@ -11,7 +11,7 @@ use Rattle.prem_syntax.specs.Syntax.{LocalVariable, GlobalVariable}
 use Rattle.prem_meaning.specs.Resolved.{Term, Constant, Local, Scalar, Element, Unary, Binary, AndAlso, OrElse, Steps, Done, SetLocal, SetScalar, SetElement, Output, Input, If, For, While, Call, Routine, Resolved}
 use Rattle.prem_meaning.specs.Resolve.{kind_of, promoted, operand_kind}
 use Rattle.prem_meaning.specs.Expressions.{Outcome, Access}
-use Rattle.prem_meaning.specs.Statements.{State, Calls}
+use Rattle.prem_meaning.specs.Statements.{ProgramState, Calls}
 use Rattle.prem_word.specs.Ranges.{Span, LiesIn, IsRange}
 use Rattle.prem_ranges.specs.Environment.{Known, Environment}
 use Rattle.prem_ranges.specs.RangeOf.{type_range, range_of, refined}
@@ -150,18 +150,18 @@ turns_in (While at turns condition body rest) = turns_in body ++ turns_in rest
 turns_in (Call at target f arguments rest) = turns_in rest
 
 -- a state whose values are as they are known
-pub record Good (gs : List GlobalVariable) (env : Environment) (s : State) : Type 0 where
+pub record Good (gs : List GlobalVariable) (env : Environment) (s : ProgramState) : Type 0 where
   pub locals : Holds env s.locals
   pub globals : Shaped gs s.globals
   pub inputs : AreWords s.inputs
 
 -- behind steps that began in a state: what they don't assign is as it was
-pub record Ran (gs : List GlobalVariable) (env : Environment) (steps : Steps) (s t : State) : Type 0 where
+pub record Ran (gs : List GlobalVariable) (env : Environment) (steps : Steps) (s t : ProgramState) : Type 0 where
   pub good : Good gs (after env steps) t
   pub kept : (k : ℕ) → assigns k steps ≡ false → slice_index t.locals k ≡ slice_index s.locals k
 
 -- back from a call
-pub record IsBack (gs : List GlobalVariable) (s : State) (r : ℕ × State) : Type 0 where
+pub record IsBack (gs : List GlobalVariable) (s : ProgramState) (r : ℕ × ProgramState) : Type 0 where
   pub small : r.0 < 2 ^ 32
   pub locals : r.1.locals ≡ s.locals
   pub globals : Shaped gs r.1.globals
@@ -169,7 +169,7 @@ pub record IsBack (gs : List GlobalVariable) (s : State) (r : ℕ × State) : Ty
 
 -- calls of the functions below n come back, with any arguments that their parameters may have
 pub record CallsReturn (p : Resolved) (n : ℕ) (calls : Calls) : Type 0 where
-  pub returns : (may : Access) (f : ℕ) (routine : Routine) (ws : List ℕ) (s : State) → f < n → slice_get p.routines f ≡ Some routine → Allows may (watches_of p f) → Holds (map known_parameter routine.text.params) ws → Shaped p.globals s.globals →
+  pub returns : (may : Access) (f : ℕ) (routine : Routine) (ws : List ℕ) (s : ProgramState) → f < n → slice_get p.routines f ≡ Some routine → Allows may (watches_of p f) → Holds (map known_parameter routine.text.params) ws → Shaped p.globals s.globals →
       AreWords s.inputs → Always (IsBack p.globals s) (calls may f ws s)
 
 -- ---- functions and programs

@@ -4,7 +4,7 @@ use Rattle.prem_syntax.specs.Syntax.{ProgramText}
 use Rattle.prem_meaning.specs.Resolved.{Routine, Resolved}
 use Rattle.prem_meaning.specs.Resolve.{resolve}
 use Rattle.prem_meaning.specs.Expressions.{Outcome, and_then}
-use Rattle.prem_meaning.specs.Statements.{State, Calls, enter}
+use Rattle.prem_meaning.specs.Statements.{ProgramState, Calls, enter}
 use Rattle.prem_meaning.specs.Source.{Limits, access_of, this_or, start, everywhere, source_within, source}
 use Rattle.prem_meaning.specs.GroupTwo.{IsWellFormed}
 use Rattle.prem_syntax.specs.Literals.{ProgramHasWords}
@@ -18,12 +18,12 @@ calls_or missing limits routines zero may f ws s = missing may f ws s
 calls_or missing limits routines (suc n) may f ws s =
     this_or (f == n) (enter_or missing limits (calls_or missing limits routines n) (slice_get routines n) n) (calls_or missing limits routines n) may f ws s
 
-abbrev pub jobs_or : Calls → Limits → Resolved → ℕ → State → Outcome State
+abbrev pub jobs_or : Calls → Limits → Resolved → ℕ → ProgramState → Outcome ProgramState
 jobs_or missing limits p zero s = Ok s
 jobs_or missing limits p (suc n) s =
     and_then (calls_or missing limits p.routines (length p.routines) everywhere p.job [] s) (λ r. jobs_or missing limits p n r.1)
 
-abbrev pub source_or : Calls → Limits → ProgramText → List ℕ → ℕ → Outcome State
+abbrev pub source_or : Calls → Limits → ProgramText → List ℕ → ℕ → Outcome ProgramState
 source_or missing limits p inputs jobs = jobs_or missing limits (resolve limits.turns p) jobs (start (resolve limits.turns p) inputs)
 
 abbrev pub wrong_call : Calls

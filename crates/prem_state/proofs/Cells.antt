@@ -2,7 +2,7 @@
 use Rattle.std.proofs.Common.{◌≡◌, ℕ, zero, suc, ◌<◌, ◌≤◌, List, [], ◌∷◌, length, get_or, map, refl, ap, sym, arith, None, Some, Ok}
 use Rattle.std.specs.Prelude.{slice_get, slice_set}
 use Rattle.prem_syntax.specs.declared.tree.Ty.{Ty}
-use Rattle.prem_meaning.specs.Statements.{State, store, stored}
+use Rattle.prem_meaning.specs.Statements.{ProgramState, store, stored}
 use Rattle.prem_meaning.specs.Source.{everywhere}
 
 -- an element that is there
@@ -22,6 +22,6 @@ slice_get_past (y ∷ ys) zero past = absurd (omega arith)
 slice_get_past (y ∷ ys) (suc i) past = slice_get_past ys i (omega arith)
 
 -- a store to an element that is there
-pub store_at : (line g j w old : ℕ) (ty : Ty) (s : State) (words : List ℕ) (globals : List (List ℕ)) → slice_get s.globals g ≡ Some words → slice_get words j ≡ Some old →
+pub store_at : (line g j w old : ℕ) (ty : Ty) (s : ProgramState) (words : List ℕ) (globals : List (List ℕ)) → slice_get s.globals g ≡ Some words → slice_get words j ≡ Some old →
     globals ≡ slice_set s.globals g (slice_set words j (stored ty w)) → store everywhere line ty g j w s ≡ Ok (record s { globals = globals })
 store_at line g j w old ty s words globals here there is = rw (here, there, is)

@@ -3,8 +3,8 @@
 
 mod eval;
 mod fail;
-mod machine;
+mod interpreter;
 
 pub use fail::SourceFail;
-pub use machine::{Counter, Machine, set_local, stored};
+pub use interpreter::{Counter, Interpreter, set_local, stored};
 pub use prem_word::FnId;

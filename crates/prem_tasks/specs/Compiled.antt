@@ -5,7 +5,7 @@ use Rattle.prem_plant.specs.declared.plant.Device.{Device}
 use Rattle.prem_plant.specs.declared.layout.PartKind.{PartKind}
 use Rattle.prem_plant.specs.declared.layout.PartKind.TheVariants.{Start, Code, Stub, Global, Stack, Area}
 use Rattle.prem_plant.specs.declared.layout.PartSize.{PartSize}
-use Rattle.prem_plant.specs.Places.{Place, default_places}
+use Rattle.prem_plant.specs.Places.{Extent, default_places}
 use Rattle.prem_syntax.specs.Syntax.{Text}
 use Rattle.prem_meaning.specs.Resolved.{Resolved}
 use Rattle.prem_layout.specs.Bounds.{JobBound, limit_of}
@@ -23,7 +23,7 @@ coded_in set = coded_of set.tasks (programs_of set.tasks)
 abbrev pub parts_in : TaskSet → List PartSize
 parts_in set = parts_of set.plant set.devices (coded_in set)
 
-abbrev pub places_in : TaskSet → List Place
+abbrev pub places_in : TaskSet → List Extent
 places_in set = default_places (parts_in set)
 
 abbrev pub placed_in : TaskSet → List Placed
@@ -71,7 +71,7 @@ job_bounds p placed = map (job_fact p) placed
 
 pub record CompiledText : Type 0 where
   pub image : ImageText
-  pub layout : List Place
+  pub layout : List Extent
   pub parts : List PartSize
   pub names : List Text
   pub intervals : List TaskFact

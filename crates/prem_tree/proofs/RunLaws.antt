@@ -4,7 +4,7 @@ use Rattle.std.proofs.lemmas.Bool.Decides.{nat_tests}
 use Rattle.prem_list.specs.Sequence.{items_of}
 use Rattle.prem_syntax.specs.declared.rules.Count.TheVariants.{Functions}
 use Rattle.prem_resolve.specs.declared.resolved.Resolved.{Resolved as ResolvedTree}
-use Rattle.prem_state.specs.declared.machine.Machine.{Machine}
+use Rattle.prem_state.specs.declared.interpreter.Interpreter.{Interpreter}
 use Rattle.prem_tree.specs.declared.source.SourceRun.{SourceRun}
 use Rattle.prem_syntax.specs.Syntax.{GlobalVariable, FunctionText, global_item, function_item, ProgramText}
 use Rattle.prem_syntax.specs.SyntaxOf.{global_of}
@@ -15,9 +15,9 @@ use Rattle.prem_meaning.specs.GroupTwo.{group_two, IsWellFormed}
 use Rattle.prem_meaning.specs.Resolved.{Resolved}
 use Rattle.prem_resolve.specs.ResolvedOf.{resolved_of, IsResolved}
 use Rattle.prem_meaning.specs.Expressions.{Outcome}
-use Rattle.prem_meaning.specs.Statements.{State, MarkedCall}
+use Rattle.prem_meaning.specs.Statements.{ProgramState, MarkedCall}
 use Rattle.prem_meaning.specs.Source.{unlimited, initial_words, start, do_jobs, source}
-use Rattle.prem_state.specs.Machine.{noted, state_of}
+use Rattle.prem_state.specs.Interpreter.{noted, state_of}
 use Rattle.prem_tree.specs.StepMeaning.{noted_jobs}
 use Rattle.prem_tree.specs.SourceRun.{EndsIn, IsRun, resolved_outcome}
 use Rattle.prem_tree.proofs.NotedLaws.{outline, mapped, length-routines_of, jobs_agree}
@@ -61,12 +61,12 @@ few_routines r p h well =
 
 -- ---- the run
 
--- a machine at the start
-pub starts : (m : Machine) (r : ResolvedTree) (inputs : List ℕ) → map (λ words. words.items) m.globals.items ≡ map initial_words (map (λ g. global_of g.now) r.globals.items) →
+-- an interpreter at the start
+pub starts : (m : Interpreter) (r : ResolvedTree) (inputs : List ℕ) → map (λ words. words.items) m.globals.items ≡ map initial_words (map (λ g. global_of g.now) r.globals.items) →
     m.inputs.now ≡ inputs → m.used ≡ 0 → items_of m.outputs ≡ [] → items_of m.marks ≡ [] → state_of m [] ≡ start (resolved_of unlimited.turns r) inputs
 starts m r inputs globals ins used outs marks = rw (globals, ins, used, outs, marks)
 
-pub run_agrees : (m : Machine) (r : ResolvedTree) (inputs : List ℕ) (jobs : ℕ) → state_of m [] ≡ start (resolved_of unlimited.turns r) inputs →
+pub run_agrees : (m : Interpreter) (r : ResolvedTree) (inputs : List ℕ) (jobs : ℕ) → state_of m [] ≡ start (resolved_of unlimited.turns r) inputs →
     mapped outline (resolved_outcome r inputs jobs) ≡ noted_jobs (items_of r.routines) r.job jobs (state_of m [])
 run_agrees m r inputs jobs begun = jobs_agree r jobs (start (resolved_of unlimited.turns r) inputs) ∙ ap (noted_jobs (items_of r.routines) r.job jobs) (sym begun)
 
@@ -82,20 +82,20 @@ functions_outlined : (ms : List MarkedCall) → map (λ (m : MarkedCall). m.func
 functions_outlined [] = refl
 functions_outlined (m ∷ ms) = ap (λ ns. m.function ∷ ns) (functions_outlined ms)
 
-ends : (m : Machine) (run : SourceRun) (s : State) → outline s ≡ state_of m [] → items_of run.outputs ≡ items_of m.outputs → items_of run.marks ≡ items_of m.marks →
+ends : (m : Interpreter) (run : SourceRun) (s : ProgramState) → outline s ≡ state_of m [] → items_of run.outputs ≡ items_of m.outputs → items_of run.marks ≡ items_of m.marks →
     map items_of (items_of run.globals) ≡ map (λ words. words.items) m.globals.items → run.used ≡ m.used → EndsIn run s
 ends m run s is outs marks globals used = record {
-  outputs_are = outs ∙ sym (ap (λ (t : State). t.outputs) is);
-  marks_are = marks ∙ sym (functions_noted (items_of m.marks)) ∙ sym (ap (λ (t : State). map (λ (c : MarkedCall). c.function) t.marks) is) ∙ functions_outlined s.marks;
-  globals_are = globals ∙ sym (ap (λ (t : State). t.globals) is);
-  used_is = used ∙ sym (ap (λ (t : State). t.used) is);
+  outputs_are = outs ∙ sym (ap (λ (t : ProgramState). t.outputs) is);
+  marks_are = marks ∙ sym (functions_noted (items_of m.marks)) ∙ sym (ap (λ (t : ProgramState). map (λ (c : MarkedCall). c.function) t.marks) is) ∙ functions_outlined s.marks;
+  globals_are = globals ∙ sym (ap (λ (t : ProgramState). t.globals) is);
+  used_is = used ∙ sym (ap (λ (t : ProgramState). t.used) is);
 }
 
-pub run_ends : (m : Machine) (run : SourceRun) (o : Outcome State) → mapped outline o ≡ Ok (state_of m []) → items_of run.outputs ≡ items_of m.outputs → items_of run.marks ≡ items_of m.marks →
+pub run_ends : (m : Interpreter) (run : SourceRun) (o : Outcome ProgramState) → mapped outline o ≡ Ok (state_of m []) → items_of run.outputs ≡ items_of m.outputs → items_of run.marks ≡ items_of m.marks →
     map items_of (items_of run.globals) ≡ map (λ words. words.items) m.globals.items → run.used ≡ m.used → IsRun run o
 run_ends m run (Ok s) is outs marks globals used = ends m run s (let same : outline s ≡ state_of m [] = cc in same) outs marks globals used
 run_ends m run (Err line) is outs marks globals used = absurd (cc)
 
-pub run_goes_wrong : (o : Outcome State) (line : ℕ) → mapped outline o ≡ Err line → o ≡ Err line
+pub run_goes_wrong : (o : Outcome ProgramState) (line : ℕ) → mapped outline o ≡ Err line → o ≡ Err line
 run_goes_wrong (Ok s) line is = absurd (cc)
 run_goes_wrong (Err at) line is = ap Err (let same : at ≡ line = cc in same)

@@ -3,22 +3,22 @@ use Rattle.std.specs.Prelude.{◌≡◌, ℕ, List, map, IsOkAnd}
 use Rattle.prem_list.specs.Sequence.{items_of}
 use Rattle.prem_tree.specs.declared.source.SourceRun.{SourceRun}
 use Rattle.prem_meaning.specs.Expressions.{Outcome}
-use Rattle.prem_meaning.specs.Statements.{MarkedCall, State}
+use Rattle.prem_meaning.specs.Statements.{MarkedCall, ProgramState}
 use Rattle.prem_resolve.specs.declared.resolved.Resolved.{Resolved}
 use Rattle.prem_resolve.specs.ResolvedOf.{resolved_of}
 use Rattle.prem_meaning.specs.Source.{unlimited, start, do_jobs}
 
 -- the run ends in a state, of whose marked calls it names the functions
-pub record EndsIn (run : SourceRun) (s : State) : Type 0 where
+pub record EndsIn (run : SourceRun) (s : ProgramState) : Type 0 where
   pub outputs_are : items_of run.outputs ≡ s.outputs
   pub marks_are : items_of run.marks ≡ map (λ (m : MarkedCall). m.function) s.marks
   pub globals_are : map items_of (items_of run.globals) ≡ s.globals
   pub used_is : run.used ≡ s.used
 
 -- the outcome is right, and the run ends in its state
-abbrev pub IsRun : SourceRun → Outcome State → Type 0
+abbrev pub IsRun : SourceRun → Outcome ProgramState → Type 0
 IsRun run outcome = IsOkAnd outcome (EndsIn run)
 
 -- what a resolved program in memory does in so many jobs
-abbrev pub resolved_outcome : Resolved → List ℕ → ℕ → Outcome State
+abbrev pub resolved_outcome : Resolved → List ℕ → ℕ → Outcome ProgramState
 resolved_outcome r inputs jobs = do_jobs unlimited (resolved_of unlimited.turns r) jobs (start (resolved_of unlimited.turns r) inputs)

@@ -3,11 +3,11 @@ ghost use Rattle.std.specs.Prelude.{◌≡◌, ℕ, ◌≤◌, List, [], map, le
 ghost use Rattle.prem_resolve.specs.ResolvedOf.{term_of};
 ghost use Rattle.prem_meaning.specs.Statements.{bounded, holds};
 ghost use Rattle.prem_meaning.specs.Source.{everywhere};
-ghost use Rattle.prem_state.specs.Machine.{state_of, Gives};
+ghost use Rattle.prem_state.specs.Interpreter.{state_of, Gives};
 ghost use Rattle.prem_tree.specs.StepMeaning.{do_step, do_list, do_counting, do_call, noted_calls, noted_jobs};
 
 use prem_resolve::{Routine, Step, Term};
-use prem_state::{Counter, FnId, Machine, SourceFail, set_local};
+use prem_state::{Counter, FnId, Interpreter, SourceFail, set_local};
 use std::alloc::Global;
 
 /// The turns that a counting loop may take: an int has no more values.
@@ -27,32 +27,32 @@ impl Callees<'_> {
     #[cycle(run)]
     fn run_step(
         &self,
-        machine: &mut Machine,
+        interpreter: &mut Interpreter,
         locals: &mut Vec<u32>,
         step: &Step,
     ) -> Result<(), SourceFail>
         requires { length self.now.routines.now ≤ 256 }
-        ensures { Gives result (do_step (noted_calls self.now.routines.now self.now.below) step.now (state_of machine.old locals.old.items)) (λ _. state_of machine.new locals.new.items) }
+        ensures { Gives result (do_step (noted_calls self.now.routines.now self.now.below) step.now (state_of interpreter.old locals.old.items)) (λ _. state_of interpreter.new locals.new.items) }
     {
         match step {
-            Step::Block { body } => self.run_steps(machine, locals, body.items()),
-            Step::SetLocal { number, value, .. } => machine.set_local(locals, *number, value),
+            Step::Block { body } => self.run_steps(interpreter, locals, body.items()),
+            Step::SetLocal { number, value, .. } => interpreter.set_local(locals, *number, value),
             Step::SetScalar {
                 at,
                 global,
                 ty,
                 value,
-            } => machine.set_scalar(locals, at.line, *global, *ty, value),
+            } => interpreter.set_scalar(locals, at.line, *global, *ty, value),
             Step::SetElement {
                 at,
                 global,
                 ty,
                 index,
                 value,
-            } => machine.set_element(locals, at.line, *global, *ty, index, value),
-            Step::Output { value, .. } => machine.output(locals, value),
+            } => interpreter.set_element(locals, at.line, *global, *ty, index, value),
+            Step::Output { value, .. } => interpreter.output(locals, value),
             Step::Input { number, .. } => {
-                machine.take_input(locals, *number);
+                interpreter.take_input(locals, *number);
                 Ok(())
             }
             Step::If {
@@ -61,10 +61,10 @@ impl Callees<'_> {
                 other,
                 ..
             } => {
-                if machine.holds(locals, condition)? {
-                    self.run_step(machine, locals, taken)
+                if interpreter.holds(locals, condition)? {
+                    self.run_step(interpreter, locals, taken)
                 } else {
-                    self.run_step(machine, locals, other)
+                    self.run_step(interpreter, locals, other)
                 }
             }
             Step::For {
@@ -76,7 +76,7 @@ impl Callees<'_> {
                 step,
                 body,
             } => {
-                machine.set_local(locals, *number, low)?;
+                interpreter.set_local(locals, *number, low)?;
                 let counter = Counter {
                     line: at.line,
                     number: *number,
@@ -84,20 +84,20 @@ impl Callees<'_> {
                     high,
                     step: *step,
                 };
-                self.run_counting(machine, locals, MOST_TURNS, &counter, body)
+                self.run_counting(interpreter, locals, MOST_TURNS, &counter, body)
             }
             Step::While {
                 turns,
                 condition,
                 body,
                 ..
-            } => self.run_bounded(machine, locals, *turns, condition, body),
+            } => self.run_bounded(interpreter, locals, *turns, condition, body),
             Step::Call {
                 target,
                 callee,
                 arguments,
                 ..
-            } => self.call(machine, locals, *target, *callee, arguments.items()),
+            } => self.call(interpreter, locals, *target, *callee, arguments.items()),
         }
     }
 
@@ -105,15 +105,15 @@ impl Callees<'_> {
     #[cycle(run)]
     fn run_steps(
         &self,
-        machine: &mut Machine,
+        interpreter: &mut Interpreter,
         locals: &mut Vec<u32>,
         steps: &[Step],
     ) -> Result<(), SourceFail>
         requires { length self.now.routines.now ≤ 256 }
-        ensures { Gives result (do_list (noted_calls self.now.routines.now self.now.below) steps.now (state_of machine.old locals.old.items)) (λ _. state_of machine.new locals.new.items) }
+        ensures { Gives result (do_list (noted_calls self.now.routines.now self.now.below) steps.now (state_of interpreter.old locals.old.items)) (λ _. state_of interpreter.new locals.new.items) }
     {
         for step in steps {
-            self.run_step(machine, locals, step)?;
+            self.run_step(interpreter, locals, step)?;
         }
         Ok(())
     }
@@ -122,23 +122,23 @@ impl Callees<'_> {
     #[cycle(run)]
     fn run_counting(
         &self,
-        machine: &mut Machine,
+        interpreter: &mut Interpreter,
         locals: &mut Vec<u32>,
         turns: u64,
         counter: &Counter,
         body: &Step,
     ) -> Result<(), SourceFail>
         requires { length self.now.routines.now ≤ 256 }
-        ensures { Gives result (do_counting turns counter.now.line counter.now.number counter.now.closed (term_of counter.now.high.now) counter.now.step (do_step (noted_calls self.now.routines.now self.now.below) body.now) (state_of machine.old locals.old.items)) (λ _. state_of machine.new locals.new.items) }
+        ensures { Gives result (do_counting turns counter.now.line counter.now.number counter.now.closed (term_of counter.now.high.now) counter.now.step (do_step (noted_calls self.now.routines.now self.now.below) body.now) (state_of interpreter.old locals.old.items)) (λ _. state_of interpreter.new locals.new.items) }
     {
         let mut left = turns;
-        'turns: while counter.holds(machine, locals)? {
+        'turns: while counter.holds(interpreter, locals)? {
             if left == 0 {
                 return Err(SourceFail::Wrong { line: counter.line });
             }
             left -= 1;
-            self.run_step(machine, locals, body)?;
-            counter.advance(machine, locals)?;
+            self.run_step(interpreter, locals, body)?;
+            counter.advance(interpreter, locals)?;
         }
         Ok(())
     }
@@ -147,22 +147,22 @@ impl Callees<'_> {
     #[cycle(run)]
     fn run_bounded(
         &self,
-        machine: &mut Machine,
+        interpreter: &mut Interpreter,
         locals: &mut Vec<u32>,
         turns: u32,
         condition: &Term,
         body: &Step,
     ) -> Result<(), SourceFail>
         requires { length self.now.routines.now ≤ 256 }
-        ensures { Gives result (bounded turns (holds everywhere (term_of condition.now)) (do_step (noted_calls self.now.routines.now self.now.below) body.now) (state_of machine.old locals.old.items)) (λ _. state_of machine.new locals.new.items) }
+        ensures { Gives result (bounded turns (holds everywhere (term_of condition.now)) (do_step (noted_calls self.now.routines.now self.now.below) body.now) (state_of interpreter.old locals.old.items)) (λ _. state_of interpreter.new locals.new.items) }
     {
         let mut left = turns;
         'turns: while left > 0 {
-            if !machine.holds(locals, condition)? {
+            if !interpreter.holds(locals, condition)? {
                 return Ok(());
             }
             left -= 1;
-            self.run_step(machine, locals, body)?;
+            self.run_step(interpreter, locals, body)?;
         }
         Ok(())
     }
@@ -171,17 +171,17 @@ impl Callees<'_> {
     #[cycle(run)]
     fn call(
         &self,
-        machine: &mut Machine,
+        interpreter: &mut Interpreter,
         locals: &mut Vec<u32>,
         target: Option<usize>,
         callee: usize,
         arguments: &[Term],
     ) -> Result<(), SourceFail>
         requires { length self.now.routines.now ≤ 256 }
-        ensures { Gives result (do_call (noted_calls self.now.routines.now self.now.below) target callee (map term_of arguments.now) (state_of machine.old locals.old.items)) (λ _. state_of machine.new locals.new.items) }
+        ensures { Gives result (do_call (noted_calls self.now.routines.now self.now.below) target callee (map term_of arguments.now) (state_of interpreter.old locals.old.items)) (λ _. state_of interpreter.new locals.new.items) }
     {
-        let words = machine.values(self.alloc, locals, arguments)?;
-        let w = self.run_call(machine, callee, words)?;
+        let words = interpreter.values(self.alloc, locals, arguments)?;
+        let w = self.run_call(interpreter, callee, words)?;
         if let Some(number) = target {
             set_local(locals, number, w);
         }
@@ -192,12 +192,12 @@ impl Callees<'_> {
     #[cycle(run)]
     pub fn run_call(
         &self,
-        machine: &mut Machine,
+        interpreter: &mut Interpreter,
         callee: usize,
         arguments: Vec<u32>,
     ) -> Result<u32, SourceFail>
         requires { length self.now.routines.now ≤ 256 }
-        ensures { (ls : List ℕ) → Gives result (noted_calls self.now.routines.now self.now.below callee arguments.items (state_of machine.old ls)) (λ w. (w, state_of machine.new ls)) }
+        ensures { (ls : List ℕ) → Gives result (noted_calls self.now.routines.now self.now.below callee arguments.items (state_of interpreter.old ls)) (λ w. (w, state_of interpreter.new ls)) }
     {
         let mut locals = arguments;
         if callee >= self.below {
@@ -211,23 +211,28 @@ impl Callees<'_> {
             routines: self.routines,
             below: callee,
         };
-        machine.declare(&mut locals, routine.locals.items())?;
-        callees.run_step(machine, &mut locals, &routine.body)?;
-        let w = machine.result_of(&locals, &routine.result)?;
-        machine.note(routine.text, callee as FnId)?;
+        interpreter.declare(&mut locals, routine.locals.items())?;
+        callees.run_step(interpreter, &mut locals, &routine.body)?;
+        let w = interpreter.result_of(&locals, &routine.result)?;
+        interpreter.note(routine.text, callee as FnId)?;
         Ok(w)
     }
 
     /// Jobs, one after another: each is a call of the function `job` without arguments.
-    pub fn run_jobs(&self, machine: &mut Machine, job: usize, jobs: u32) -> Result<(), SourceFail>
+    pub fn run_jobs(
+        &self,
+        interpreter: &mut Interpreter,
+        job: usize,
+        jobs: u32,
+    ) -> Result<(), SourceFail>
         requires few { length self.now.routines.now ≤ 256 }
         requires all { self.now.below ≡ length self.now.routines.now }
-        ensures { Gives result (noted_jobs self.now.routines.now job jobs (state_of machine.old [])) (λ _. state_of machine.new []) }
+        ensures { Gives result (noted_jobs self.now.routines.now job jobs (state_of interpreter.old [])) (λ _. state_of interpreter.new []) }
     {
         let mut left = jobs;
         'jobs: while left > 0 {
             left -= 1;
-            self.run_call(machine, job, Vec::new(self.alloc))?;
+            self.run_call(interpreter, job, Vec::new(self.alloc))?;
         }
         Ok(())
     }

@@ -11,7 +11,7 @@ use crate::checked::Checked;
 use crate::run::Callees;
 use prem_list::Sequence;
 use prem_resolve::{Resolved, resolve};
-use prem_state::{FnId, Machine, SourceFail, stored};
+use prem_state::{FnId, Interpreter, SourceFail, stored};
 use prem_syntax::{Global, Initial, Ty};
 use std::alloc::{AllocError, Global as Allocator};
 
@@ -109,7 +109,7 @@ fn run_resolved(
     ensures wrong { (line : ℕ) → IsErrOf result (SourceFail.Wrong line) → IsErrOf (resolved_outcome resolved.now inputs.now jobs) line }
 {
     let routines = resolved.routines.items();
-    let mut machine = Machine {
+    let mut interpreter = Interpreter {
         globals: initial_globals(alloc, &resolved.globals)?,
         inputs,
         used: 0,
@@ -121,13 +121,13 @@ fn run_resolved(
         routines,
         below: routines.len(),
     };
-    callees.run_jobs(&mut machine, resolved.job, jobs)?;
-    let globals = globals_listed(alloc, &machine.globals)?;
+    callees.run_jobs(&mut interpreter, resolved.job, jobs)?;
+    let globals = globals_listed(alloc, &interpreter.globals)?;
     Ok(SourceRun {
-        outputs: machine.outputs,
-        marks: machine.marks,
+        outputs: interpreter.outputs,
+        marks: interpreter.marks,
         globals,
-        used: machine.used,
+        used: interpreter.used,
     })
 }
 

@@ -5,7 +5,7 @@ ghost use Rattle.prem_meaning.specs.Resolved.{Term};
 ghost use Rattle.prem_resolve.specs.ResolvedOf.{term_of};
 ghost use Rattle.prem_meaning.specs.Statements.{stored, with_local, store, take_input, value, values, holds, int_local, loop_test, loop_step, declare, result_of};
 ghost use Rattle.prem_meaning.specs.Source.{everywhere};
-ghost use Rattle.prem_state.specs.Machine.{state_of, Gives, Yields};
+ghost use Rattle.prem_state.specs.Interpreter.{state_of, Gives, Yields};
 ghost use Rattle.prem_state.specs.Single.{do_set_local, do_set_scalar, do_set_element, do_output, noted_in};
 
 use crate::eval::{Line, eval};
@@ -18,7 +18,7 @@ use std::alloc::{AllocError, Global};
 
 /// What a run works on, but for the locals of the function at work.
 #[derive(Drop)]
-pub struct Machine<'a> {
+pub struct Interpreter<'a> {
     /// The words of each global, in the order of the text.
     pub globals: Vec<Vec<u32>>,
     pub inputs: &'a [u32],
@@ -51,7 +51,7 @@ pub fn set_local(locals: &mut Vec<u32>, number: usize, w: u32)
     }
 }
 
-impl Machine<'_> {
+impl Interpreter<'_> {
     /// The word of a term.
     pub fn value(&self, locals: &[u32], term: &Term) -> Result<u32, Line>
         ensures { result ≡ value everywhere (state_of self.now locals.now) (term_of term.now) }
@@ -219,18 +219,18 @@ pub struct Counter<'a> {
 }
 
 impl Counter<'_> {
-    fn count(&self, machine: &Machine, locals: &[u32]) -> i32
-        ensures { result ≡ int_local self.now.number (state_of machine.now locals.now) }
+    fn count(&self, interpreter: &Interpreter, locals: &[u32]) -> i32
+        ensures { result ≡ int_local self.now.number (state_of interpreter.now locals.now) }
     {
         signed(locals.get(self.number).copied().unwrap_or(0))
     }
 
     /// Whether the local is below the bound, or at it where the loop is closed.
-    pub fn holds(&self, machine: &Machine, locals: &[u32]) -> Result<bool, Line>
-        ensures { result ≡ loop_test everywhere self.now.number self.now.closed (term_of self.now.high.now) (state_of machine.now locals.now) }
+    pub fn holds(&self, interpreter: &Interpreter, locals: &[u32]) -> Result<bool, Line>
+        ensures { result ≡ loop_test everywhere self.now.number self.now.closed (term_of self.now.high.now) (state_of interpreter.now locals.now) }
     {
-        let high = signed(machine.value(locals, self.high)?);
-        let count = self.count(machine, locals);
+        let high = signed(interpreter.value(locals, self.high)?);
+        let count = self.count(interpreter, locals);
         if self.closed {
             Ok(count <= high)
         } else {
@@ -239,10 +239,10 @@ impl Counter<'_> {
     }
 
     /// Adds the step to the local; past 2147483647 the loop is wrong.
-    pub fn advance(&self, machine: &Machine, locals: &mut Vec<u32>) -> Result<(), Line>
-        ensures { Yields result (loop_step self.now.line self.now.number self.now.step (state_of machine.now locals.old.items)) (λ _. state_of machine.now locals.new.items) }
+    pub fn advance(&self, interpreter: &Interpreter, locals: &mut Vec<u32>) -> Result<(), Line>
+        ensures { Yields result (loop_step self.now.line self.now.number self.now.step (state_of interpreter.now locals.old.items)) (λ _. state_of interpreter.now locals.new.items) }
     {
-        let next = i64::from(self.count(machine, locals)) + i64::from(self.step);
+        let next = i64::from(self.count(interpreter, locals)) + i64::from(self.step);
         if next > 2147483647 {
             return Err(self.line);
         }

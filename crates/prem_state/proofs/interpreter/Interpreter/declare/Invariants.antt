@@ -2,8 +2,8 @@ use Rattle.std.proofs.Common.{◌≡◌, map, drop}
 use Rattle.prem_resolve.specs.ResolvedOf.{term_of}
 use Rattle.prem_meaning.specs.Statements.{declare}
 use Rattle.prem_meaning.specs.Source.{everywhere}
-use Rattle.prem_state.specs.Machine.{state_of}
-use Rattle.prem_state.proofs.machine.Machine.declare.Given as goal
+use Rattle.prem_state.specs.Interpreter.{state_of}
+use Rattle.prem_state.proofs.interpreter.Interpreter.declare.Given as goal
 
 abbrev pub invariant-loop-term : goal.invariant-loop-term
 invariant-loop-term l =

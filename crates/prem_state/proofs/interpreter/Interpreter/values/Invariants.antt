@@ -3,8 +3,8 @@ use Rattle.prem_resolve.specs.ResolvedOf.{term_of}
 use Rattle.prem_meaning.specs.Expressions.{and_then}
 use Rattle.prem_meaning.specs.Statements.{values}
 use Rattle.prem_meaning.specs.Source.{everywhere}
-use Rattle.prem_state.specs.Machine.{state_of}
-use Rattle.prem_state.proofs.machine.Machine.values.Given as goal
+use Rattle.prem_state.specs.Interpreter.{state_of}
+use Rattle.prem_state.proofs.interpreter.Interpreter.values.Given as goal
 
 abbrev pub invariant-loop-term : goal.invariant-loop-term
 invariant-loop-term l =

@@ -1,18 +1,18 @@
 -- What a run in the code holds, as a state of the meaning, and what its results say of an outcome.
 use Rattle.std.specs.Prelude.{◌≡◌, ℕ, List, [], map, drop, Ok, Err, Result, MatchResult}
 use Rattle.prem_list.specs.Sequence.{items_of}
-use Rattle.prem_state.specs.declared.machine.Machine.{Machine}
+use Rattle.prem_state.specs.declared.interpreter.Interpreter.{Interpreter}
 use Rattle.prem_state.specs.declared.fail.SourceFail.{SourceFail}
 use Rattle.prem_state.specs.declared.fail.SourceFail.TheVariants.{Wrong}
 use Rattle.prem_meaning.specs.Expressions.{Outcome}
-use Rattle.prem_meaning.specs.Statements.{MarkedCall, State}
+use Rattle.prem_meaning.specs.Statements.{MarkedCall, ProgramState}
 
 -- a marked call of which only the function is known
 abbrev pub noted : ℕ → MarkedCall
 noted n = record { function = n; before = []; after = [] }
 
 -- a run, with the locals of the function at work
-abbrev pub state_of : Machine → List ℕ → State
+abbrev pub state_of : Interpreter → List ℕ → ProgramState
 state_of m locals = record {
   globals = map (λ words. words.items) m.globals.items;
   locals = locals;

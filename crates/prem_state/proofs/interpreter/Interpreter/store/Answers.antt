@@ -2,9 +2,9 @@ use Rattle.std.proofs.Common.{◌<◌, length, map, ap, ◌∙◌, arith}
 use Rattle.std.specs.Prelude.{slice_set}
 use Rattle.std.proofs.lemmas.List.{map-set}
 use Rattle.std.specs.Vec.{with_item}
-use Rattle.prem_state.specs.Machine.{state_of}
+use Rattle.prem_state.specs.Interpreter.{state_of}
 use Rattle.prem_state.proofs.Cells.{slice_get-map, slice_get-at, store_at}
-use Rattle.prem_state.proofs.machine.Machine.store.Goals as goal
+use Rattle.prem_state.proofs.interpreter.Interpreter.store.Goals as goal
 
 pub returns : goal.returns
 returns c = λ ls.
