@@ -1,11 +1,11 @@
 -- A well-formed program has few functions and globals, so the numbers that its first breach names are small.
-use Rattle.std.proofs.Common.{◌≡◌, ℕ, zero, suc, ◌+◌, ◌<◌, ◌≤◌, Bool, true, false, List, [], ◌∷◌, ◌++◌, length, refl, ap, sym, ◌∙◌, arith, Option, None, Some, subst}
+use Rattle.std.proofs.Common.{◌≡◌, ℕ, suc, ◌+◌, ◌≤◌, Bool, true, false, List, [], ◌∷◌, ◌++◌, length, refl, ap, sym, ◌∙◌, arith, Option, None, Some, subst}
 use Rattle.std.specs.Prelude.{nat_lt, not, is_none, IsTrue}
 use Rattle.std.specs.List.{list_any}
 use Rattle.std.proofs.lemmas.Bool.Decides.{nat_tests}
 use Rattle.prem_syntax.specs.declared.rules.Count.TheVariants.{Functions, Globals, Parameters, Regions, Length, Stated}
 use Rattle.prem_syntax.specs.Syntax.{GlobalVariable, FunctionText, global_item, function_item, ProgramText}
-use Rattle.prem_meaning.specs.Resolve.{loops_within, functions_of, globals_of, resolve_items, resolve}
+use Rattle.prem_meaning.specs.Resolve.{loops_within, functions_of, globals_of, resolve_items}
 use Rattle.prem_meaning.specs.Source.{unlimited}
 use Rattle.prem_meaning.specs.Rules.{Rule, Limit, NoJob}
 use Rattle.prem_meaning.specs.Breaches.{if_broken, is_job_name, regions_of, is_stated, is_length, item_names, reached, in_items, in_limits, breaches}

@@ -1,5 +1,5 @@
 -- Readings of files, one after another.
-use Rattle.std.proofs.Common.{◌≡◌, ◌≤◌, ◌<◌, ℕ, zero, suc, List, [], ◌∷◌, length, true, false, Bool, IsTrue, Option, None, Some, IfSome, IsSomeAnd, Result, Ok, Err, refl, ap, ◌∙◌, sym, arith, nat_le, subst}
+use Rattle.std.proofs.Common.{◌≡◌, ◌≤◌, ◌<◌, ℕ, zero, suc, List, length, true, false, Bool, IsTrue, Option, None, Some, IfSome, IsSomeAnd, Result, Ok, Err, refl, ap, ◌∙◌, sym, arith, nat_le}
 use Rattle.std.specs.Prelude.{if◌then◌else◌, replicate, codes}
 use Rattle.std.proofs.lemmas.Bool.{le-leb}
 use Rattle.std.proofs.lemmas.Bool.Decides.{nat_tests}

@@ -1,5 +1,5 @@
 -- The answers to `check SET`, `build SET` and `list SET`: what is told of a compiled set.
-use Rattle.std.specs.Prelude.{◌≡◌, List, ℕ, Option, None, Some, Result, Ok, Err}
+use Rattle.std.specs.Prelude.{List, ℕ, Option, None, Some, Ok}
 use Rattle.prem_layout.specs.Image.{ImageText}
 use Rattle.prem_layout.specs.Rules.{Refusal}
 use Rattle.prem_tasks.specs.Told.{Told}

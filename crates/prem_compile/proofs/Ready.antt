@@ -1,5 +1,5 @@
 -- What an image asks of placed tasks holds of the tasks of a set.
-use Rattle.std.proofs.Common.{◌≡◌, ℕ, zero, suc, ◌+◌, ◌≤◌, List, [], ◌∷◌, length, map, refl, ap, sym, ◌∙◌, subst, arith, Vec, Global}
+use Rattle.std.proofs.Common.{◌≡◌, ℕ, List, [], ◌∷◌, length, map, refl, ap, sym, ◌∙◌, subst, arith, Vec, Global}
 use Rattle.std.specs.Prelude.{All}
 use Rattle.std.specs.List.{AllByRecursion}
 use Rattle.std.proofs.lemmas.List.Elements.{recursion_from_All}
@@ -10,7 +10,7 @@ use Rattle.prem_plant.specs.declared.layout.PartSize.{PartSize}
 use Rattle.prem_plant.specs.Label.{IsName, AreDistinct}
 use Rattle.prem_plant.specs.Places.{Extent, ArePlaces}
 use Rattle.prem_plant.specs.Ranges.{Between, IsPlant}
-use Rattle.prem_syntax.specs.Syntax.{Text, ProgramText}
+use Rattle.prem_syntax.specs.Syntax.{ProgramText}
 use Rattle.prem_syntax.specs.Name.{name_bytes}
 use Rattle.prem_list.specs.Sequence.{items_of}
 use Rattle.prem_content.specs.Blocks.{Words, block_of}

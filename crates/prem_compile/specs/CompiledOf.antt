@@ -1,5 +1,5 @@
 -- A compiled set in memory as plain data.
-use Rattle.std.specs.Prelude.{◌≡◌, ℕ, List, map, None, Some, Result, MatchResult}
+use Rattle.std.specs.Prelude.{◌≡◌, map, None, Some, Result, MatchResult}
 use Rattle.prem_list.specs.Sequence.{items_of}
 use Rattle.prem_syntax.specs.Name.{name_bytes}
 use Rattle.prem_build_image.specs.Built.{image_text}

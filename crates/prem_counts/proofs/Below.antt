@@ -1,5 +1,5 @@
 -- The table of counts tells those of the definition.
-use Rattle.std.proofs.Common.{◌≡◌, ℕ, zero, suc, ◌+◌, ◌*◌, ◌^◌, ◌≤◌, ◌<◌, max, min, cond, List, [], ◌∷◌, ◌++◌, Option, None, Some, refl, ap, sym, ◌∙◌, ⊎_elim, arith, length, map, drop, slice_index, slice_get, length-append}
+use Rattle.std.proofs.Common.{◌≡◌, ℕ, zero, suc, ◌+◌, ◌*◌, ◌^◌, ◌≤◌, ◌<◌, max, min, cond, List, [], ◌∷◌, ◌++◌, Option, None, Some, refl, ap, sym, ◌∙◌, ⊎_elim, arith, length, drop, slice_index, slice_get, length-append}
 use Rattle.std.proofs.lemmas.Bool.{cases_eq, cases_lt, eq-eqb, ne_eqb}
 use Rattle.std.proofs.lemmas.Nat.{mul-le}
 use Rattle.std.proofs.lemmas.List.{drop-drop}
@@ -9,13 +9,13 @@ use Rattle.std.specs.Option.{option_map}
 use Rattle.prem_word.specs.Words.{truth}
 use Rattle.prem_syntax.specs.SyntaxOf.{mark_of as mark_text}
 use Rattle.prem_syntax.specs.declared.tree.Mark.{Mark}
-use Rattle.prem_meaning.specs.Resolved.{Steps, Done, SetLocal, SetScalar, SetElement, Output, Input, If, For, While, Call, Routine, Resolved}
+use Rattle.prem_meaning.specs.Resolved.{Steps, Done, SetLocal, SetScalar, SetElement, Output, Input, If, For, While, Call, Routine}
 use Rattle.prem_resolve.specs.declared.resolved.Routine.{Routine as RoutineTree}
 use Rattle.prem_resolve.specs.declared.resolved.Resolved.{Resolved as ResolvedTree}
-use Rattle.prem_resolve.specs.ResolvedOf.{loops_of, step_before, routine_of, routines_of, resolved_of}
+use Rattle.prem_resolve.specs.ResolvedOf.{loops_of, routine_of, routines_of, resolved_of}
 use Rattle.prem_ranges.specs.Counts.{Tally, outputs_tally, marks_tally, most_in, most_of, most_below, most_in_job}
 use Rattle.prem_layout.specs.Counts.{outputs_of, marked_calls_of}
-use Rattle.prem_counts.specs.Count.{clipped, mark_of, mark_if, most_of_step, count_of_routine, counts_behind}
+use Rattle.prem_counts.specs.Count.{clipped, mark_of, mark_if, count_of_routine, counts_behind}
 use Rattle.prem_counts.proofs.StepCounts.{step_most}
 
 -- ---- what is told alike

@@ -1,5 +1,5 @@
 -- Counts of steps in memory, and of the steps that they stand for.
-use Rattle.std.proofs.Common.{◌≡◌, ℕ, zero, suc, ◌+◌, ◌*◌, max, List, [], ◌∷◌, refl, ap, sym, ◌∙◌, arith, drop, get_or, slice_index}
+use Rattle.std.proofs.Common.{◌≡◌, ℕ, ◌+◌, ◌*◌, List, refl, ap, sym, ◌∙◌, arith, drop, slice_index}
 use Rattle.std.proofs.lemmas.List.{get_or-drop, drop-drop}
 use Rattle.prem_list.specs.declared.Sequence.{Sequence}
 use Rattle.prem_list.specs.Sequence.{items_of}

@@ -1,6 +1,5 @@
 -- Counts of steps in memory, told up to a limit, where the turns of counting loops are a list.
 use Rattle.std.specs.Prelude.{ℕ, ◌+◌, ◌*◌, ◌^◌, min, max, List, [], ◌∷◌, ◌++◌, drop, slice_index, Option, None, Some}
-use Rattle.prem_list.specs.Sequence.{items_of}
 use Rattle.prem_syntax.specs.declared.tree.Mark.{Mark}
 use Rattle.prem_resolve.specs.declared.resolved.Step.{Step, Row_of-Step, end_of-Step, more_of-Step}
 use Rattle.prem_resolve.specs.declared.resolved.Step.TheVariants.{Block', SetLocal, SetScalar, SetElement, Output, Input, If', For', While', Call}

@@ -32,16 +32,20 @@ no_device = record { device = record { name = []; queue = 0; cost = 0; lines = 0
 pub record IsRequest (devices : List DeviceRecord) (r : Request) : Type 0 where
   pub device : r.device < length devices
   pub line : r.line < (slice_index_or devices r.device no_device).device.lines
-  pub cycle : r.cycle ≤ 2 ^ 50
 
 -- requests in order of cycle
 pub record IsTrace (devices : List DeviceRecord) (requests : List Request) : Type 0 where
-  pub count : length requests ≤ 100000
   pub each : All (IsRequest devices) requests
   pub ordered : IsNonDecreasingBy (λ r. r.cycle) requests
 
--- one list of input words for each task, and requests of the devices
+-- a trace of no more requests, and of none later, than the machine takes
+pub record IsShortTrace (devices : List DeviceRecord) (requests : List Request) : Type 0 where
+  pub trace : IsTrace devices requests
+  pub count : length requests ≤ 100000
+  pub early : All (λ r. r.cycle ≤ 2 ^ 50) requests
+
+-- one list of input words for each task, and a trace, each of a length that the machine takes
 pub record FitsRun (p : Setup) (inputs : List (List ℕ)) (requests : List Request) : Type 0 where
   pub tasks : length inputs ≡ length p.tasks
   pub each : All (λ words. length words ≤ inputs_size) inputs
-  pub trace : IsTrace p.devices requests
+  pub short : IsShortTrace p.devices requests

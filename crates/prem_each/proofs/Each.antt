@@ -1,24 +1,23 @@
 -- Each placed task that keeps the rules joins.
-use Rattle.std.proofs.Common.{◌≡◌, ℕ, zero, suc, ◌+◌, ◌*◌, ◌%◌, ◌^◌, ◌<◌, ◌≤◌, refl, ap, ◌∙◌, sym, subst, arith, cond, true, false, Bool, List, [], ◌∷◌, length, map, Option, None, Some, slice_get}
-use Rattle.std.specs.Prelude.{All, slice_index, slice_index_or, option_map, unwrap_or}
+use Rattle.std.proofs.Common.{◌≡◌, ℕ, zero, suc, ◌+◌, ◌%◌, ◌^◌, ◌<◌, ◌≤◌, refl, ap, ◌∙◌, sym, subst, arith, true, List, [], ◌∷◌, length, map, Some, slice_get}
+use Rattle.std.specs.Prelude.{All, slice_index, slice_index_or}
 use Rattle.prem_plant.specs.declared.plant.Plant.{Plant}
 use Rattle.prem_plant.specs.declared.plant.Device.{Device}
 use Rattle.prem_plant.specs.Places.{Extent}
-use Rattle.prem_isa.specs.declared.effect.Phase.TheVariants.{Compatible}
 use Rattle.prem_isa.specs.Plain.{TaskRun}
 use Rattle.prem_syntax.specs.Syntax.{ProgramText}
 use Rattle.prem_meaning.specs.Resolved.{Routine}
 use Rattle.prem_meaning.specs.Source.{initial_words}
 use Rattle.prem_meaning.specs.Statements.{is_marked}
 use Rattle.prem_ranges.specs.GroupThree.{limits_of}
-use Rattle.prem_asm.specs.Pieces.{call_to, no_pieces, size_of}
+use Rattle.prem_asm.specs.Pieces.{call_to, no_pieces}
 use Rattle.prem_asm.specs.Runs.{Setting}
 use Rattle.prem_template.specs.Frames.{depth_of, deepest}
 use Rattle.prem_template.specs.Parts.{parts_of, is_marked_at, marked_before}
 use Rattle.prem_template.specs.Steps.{function_code}
-use Rattle.prem_layout.specs.Plans.{Plan, plans_of}
+use Rattle.prem_layout.specs.Plans.{Plan}
 use Rattle.prem_layout.specs.Bounds.{start_code, job_bound_of}
-use Rattle.prem_layout.specs.Footprint.{place_at, global_range, stack_place}
+use Rattle.prem_layout.specs.Footprint.{place_at, global_range}
 use Rattle.prem_layout.specs.Placed.{Coded, Placed}
 use Rattle.prem_expr_laws.specs.Relation.{GlobalsStand}
 use Rattle.prem_gen_laws.specs.Table.{IsStub}
@@ -30,19 +29,19 @@ use Rattle.prem_own.specs.Owned.{own_of, setup_of}
 use Rattle.prem_own_steps.specs.OwnSteps.{AreOwnAt}
 use Rattle.prem_own_steps.proofs.Takes.{functions_take}
 use Rattle.prem_initial.specs.Initial.{content_of}
-use Rattle.prem_initial.specs.Standing.{setting_of, globals_in, code_in}
+use Rattle.prem_initial.specs.Standing.{setting_of, globals_in}
 use Rattle.prem_initial.proofs.Values.{globals_stand_first}
 use Rattle.prem_initial.proofs.Whole.{content_fits}
 use Rattle.prem_stub_fits.specs.Within.{codes_in}
 use Rattle.prem_job_weave.specs.Calm.{CalmStands}
 use Rattle.prem_job_weave.specs.Confined.{Confinement, ConfinedStands}
 use Rattle.prem_job_weave.proofs.Calm.{functions_are_calm}
-use Rattle.prem_dues.specs.Dues.{PlanStands as PlanDue, PlacedStands, weight_in}
+use Rattle.prem_dues.specs.Dues.{PlacedStands, weight_in}
 use Rattle.prem_dues.proofs.Table.{placed_jobs_are_bounded}
 use Rattle.prem_task_frame.specs.Kept.{KeepsTaskRules}
 use Rattle.prem_task_frame.specs.Limits.{task_limits}
-use Rattle.prem_task_frame.specs.Frames.{task_guard, job_frame}
-use Rattle.prem_task_frame.specs.Callees.{callees_in, job_callable, plain_callable}
+use Rattle.prem_task_frame.specs.Frames.{task_guard}
+use Rattle.prem_task_frame.specs.Callees.{plain_callable}
 use Rattle.prem_task_ground.proofs.Stands.{jobs_stand}
 use Rattle.prem_task_ground.proofs.Elements.{globals_are_placed, globals_are_own, places_are_own}
 use Rattle.prem_program_fits.proofs.Functions.{plain_tasks_fit}
@@ -53,7 +52,7 @@ use Rattle.prem_task_bytes.proofs.Parts.{parts_of_task, at_parts, laid, plans_ar
 use Rattle.prem_task_bytes.proofs.Guards.{task_guard_is_own, task_code_is_own}
 use Rattle.prem_task_bytes.proofs.Start.{run_starts}
 use Rattle.prem_join.specs.Joined.{TaskJoins}
-use Rattle.prem_each.specs.Called.{confinement_of, plan_at, confinement_in, stub_at, job_calls}
+use Rattle.prem_each.specs.Called.{confinement_of, plan_at, confinement_in}
 use Rattle.prem_each.specs.Joins.{promise_for, TasksJoin}
 use Rattle.prem_each.proofs.Means.{StubMeans, JobStands}
 use Rattle.prem_each.proofs.Lands.{CallsStand}

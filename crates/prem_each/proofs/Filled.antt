@@ -1,33 +1,26 @@
 -- What stands of a placed task that keeps the rules: its code, its stubs, and what these call.
-use Rattle.std.proofs.Common.{◌≡◌, ◌⊎◌, inl, inr, ℕ, zero, suc, ◌+◌, ◌%◌, ◌^◌, ◌<◌, ◌≤◌, refl, ap, ◌∙◌, sym, subst, arith, eqb, ltb, cond, true, false, Bool, List, [], ◌∷◌, ◌++◌, length, map, Option, None, Some, slice_get}
-use Rattle.std.specs.Prelude.{All, option_map, unwrap_or, is_some, slice_index, slice_index_or}
-use Rattle.std.proofs.lemmas.List.{length-map}
-use Rattle.std.proofs.lemmas.Option.{slice_get-map, slice_get_within}
+use Rattle.std.proofs.Common.{◌≡◌, ℕ, zero, suc, ◌+◌, ◌^◌, ◌<◌, ◌≤◌, refl, ap, ◌∙◌, sym, subst, arith, cond, true, false, Bool, List, [], ◌∷◌, ◌++◌, length, Option, None, Some, slice_get}
+use Rattle.std.specs.Prelude.{option_map, is_some}
+use Rattle.std.proofs.lemmas.Option.{slice_get-map}
 use Rattle.prem_plant.specs.declared.plant.Plant.{Plant}
 use Rattle.prem_plant.specs.declared.plant.Device.{Device}
 use Rattle.prem_plant.specs.Places.{Extent}
 use Rattle.prem_syntax.specs.Syntax.{ProgramText, MarkText}
 use Rattle.prem_meaning.specs.Resolved.{Routine, Resolved}
-use Rattle.prem_meaning.specs.Resolve.{resolve}
 use Rattle.prem_meaning.specs.Statements.{is_marked}
 use Rattle.prem_ranges.specs.GroupThree.{limits_of}
-use Rattle.prem_lru.specs.Order.{is_in}
-use Rattle.prem_asm.specs.Pieces.{Pieces, no_pieces, size_of}
-use Rattle.prem_asm.specs.Quiet.{IsQuiet, EachPiece}
+use Rattle.prem_asm.specs.Pieces.{Pieces, size_of}
 use Rattle.prem_template.specs.Limits.{Excess, frame, depth, excess}
-use Rattle.prem_template.specs.Parts.{parts_of, codes_of, marked_before, is_marked_at}
+use Rattle.prem_template.specs.Parts.{parts_of, codes_of, marked_before}
 use Rattle.prem_template.specs.Steps.{Parts, function_code}
 use Rattle.prem_layout.specs.Plans.{Plan, plan_of, plan_before, plans_from, plans_of}
 use Rattle.prem_layout.specs.Parts.{passes_of}
-use Rattle.prem_layout.specs.Footprint.{place_at, no_place}
+use Rattle.prem_layout.specs.Footprint.{place_at}
 use Rattle.prem_layout.specs.Stubs.{stub_of}
 use Rattle.prem_layout.specs.Placed.{Coded, Placed}
 use Rattle.prem_layout.specs.Rules.{group_four, of_excess}
-use Rattle.prem_gen_laws.specs.Quiet.{AreQuiet}
-use Rattle.prem_gen_laws.proofs.Quiet.{quiet_function}
 use Rattle.prem_initial.specs.Standing.{setting_of, code_in}
-use Rattle.prem_stub_fits.specs.Within.{pieces_or, codes_in, reached_in}
-use Rattle.prem_own.specs.Owned.{own_of, setup_of}
+use Rattle.prem_stub_fits.specs.Within.{pieces_or, codes_in}
 use Rattle.prem_task_frame.specs.Kept.{KeepsTaskRules}
 use Rattle.prem_task_frame.specs.Frames.{task_guard}
 use Rattle.prem_task_frame.specs.Callees.{HasCodes}
@@ -36,7 +29,6 @@ use Rattle.prem_program_fits.specs.Fits.{KeepsProgramRules}
 use Rattle.prem_legal_plans.proofs.Legal.{plans_are_legal}
 use Rattle.prem_task_bytes.specs.Parts.{IsPlacedTask, HasParts}
 use Rattle.prem_task_bytes.proofs.Parts.{parts_of_task, at_parts, plans_are, table_code_is, stubs_are}
-use Rattle.prem_each.specs.Called.{plan_at}
 
 -- ---- lists
 

@@ -1,15 +1,15 @@
 -- The run of a task that stands in memory goes along a weave, and gives what its source means.
-use Rattle.std.proofs.Common.{◌≡◌, ℕ, zero, suc, ◌+◌, ◌*◌, ◌%◌, ◌^◌, ◌<◌, ◌≤◌, refl, ap, ◌∙◌, sym, subst, arith, eqb, cond, true, false, Bool, List, [], ◌∷◌, ◌++◌, length, map, Option, None, Some, Ok, slice_get}
+use Rattle.std.proofs.Common.{◌≡◌, ℕ, zero, suc, ◌+◌, ◌*◌, ◌%◌, ◌^◌, ◌<◌, ◌≤◌, refl, ap, ◌∙◌, sym, subst, arith, true, Bool, List, [], ◌∷◌, length, map, Ok}
 use Rattle.std.specs.Prelude.{All, unwrap_or, option_map}
 use Rattle.std.proofs.lemmas.List.{length-map}
 use Rattle.prem_plant.specs.declared.plant.Plant.{Plant}
 use Rattle.prem_isa.specs.declared.effect.Phase.TheVariants.{Compatible}
 use Rattle.prem_isa.specs.Act.{first_registers}
 use Rattle.prem_isa.specs.Plain.{TaskRun, TaskState, PlainState, TaskFits as StateTaskFits, Did, plain_start}
-use Rattle.prem_syntax.specs.Syntax.{ProgramText, GlobalVariable, MarkText, FunctionText}
+use Rattle.prem_syntax.specs.Syntax.{ProgramText, MarkText, FunctionText}
 use Rattle.prem_meaning.specs.Resolved.{Routine, Resolved}
 use Rattle.prem_meaning.specs.Resolve.{resolve}
-use Rattle.prem_meaning.specs.Source.{Limits, unlimited, initial_words, start, do_jobs, source}
+use Rattle.prem_meaning.specs.Source.{unlimited, initial_words, start, do_jobs, source}
 use Rattle.prem_meaning.specs.Statements.{ProgramState, MarkedCall}
 use Rattle.prem_ranges.specs.GroupThree.{limits_of}
 use Rattle.prem_ranges.specs.Sound.{AreWords as AllWords, AlikeRoutines, next_routine, no_routines}
@@ -19,12 +19,11 @@ use Rattle.prem_ranges.proofs.Alike.{resolve-alike}
 use Rattle.prem_asm.specs.Pieces.{call_to, no_pieces}
 use Rattle.prem_asm.specs.Runs.{Setting}
 use Rattle.prem_asm.specs.Steps.{AllSteps}
-use Rattle.prem_asm.specs.OwnRun.{Agrees, in_job}
+use Rattle.prem_asm.specs.OwnRun.{in_job}
 use Rattle.prem_template.specs.Parts.{parts_of}
-use Rattle.prem_layout.specs.Bounds.{job_bound_of}
 use Rattle.prem_layout.specs.Counts.{outputs_of, marked_calls_of}
 use Rattle.prem_layout.specs.Placed.{Placed}
-use Rattle.prem_expr_laws.specs.Relation.{Globals, GlobalsStand}
+use Rattle.prem_expr_laws.specs.Relation.{GlobalsStand}
 use Rattle.prem_expr_laws.specs.Registers.{AreWords}
 use Rattle.prem_expr_laws.proofs.Puts.{reg_words}
 use Rattle.prem_gen_laws.specs.Jobs.{Between}
@@ -35,14 +34,14 @@ use Rattle.prem_gen_laws.proofs.Whole.{jobs_run}
 use Rattle.prem_cycle.specs.State.{Setup}
 use Rattle.prem_position.specs.Own.{AllOwn}
 use Rattle.prem_script.specs.Conforms.{IsOwnDid}
-use Rattle.prem_script.specs.Scripts.{Reading, Promise, Mark}
-use Rattle.prem_weave.specs.Weave.{Weave, dids_of, calls_of, marks_of}
+use Rattle.prem_script.specs.Scripts.{Reading, Mark}
+use Rattle.prem_weave.specs.Weave.{dids_of, calls_of, marks_of}
 use Rattle.prem_weave.proofs.Woven.{marks_counted}
 use Rattle.prem_weave.proofs.Charges.{weaves_are_charged}
-use Rattle.prem_promise.specs.Promised.{read_globals, stated_of, stated_at, mark_of, promise_of, promise_in, TheseStand, TheseAreOwn}
+use Rattle.prem_promise.specs.Promised.{read_globals, stated_at, mark_of, promise_of, promise_in, TheseStand, TheseAreOwn}
 use Rattle.prem_promise.proofs.Reading.{globals_are_read, readings_are_own, meanings_promise}
 use Rattle.prem_told.specs.Shape.{HasShape}
-use Rattle.prem_told.specs.Told.{HaveLength, AreRead}
+use Rattle.prem_told.specs.Told.{HaveLength}
 use Rattle.prem_told.proofs.Shape.{jobs_keep_shape}
 use Rattle.prem_told.proofs.Told.{marks_are_told, marks_are_read}
 use Rattle.prem_join.specs.Joined.{JobLimits, TaskJoins}

@@ -8,7 +8,7 @@ use Rattle.prem_asm.specs.OwnRun.{Agrees, Follows, Lands}
 use Rattle.prem_plant.specs.declared.plant.Plant.{Plant}
 use Rattle.prem_layout.specs.Placed.{Placed}
 use Rattle.prem_gen_laws.specs.Table.{Codes, one_of, code_calls, IsStub}
-use Rattle.prem_gen_laws.specs.Land.{IsRunning, PartStands, AllLand}
+use Rattle.prem_gen_laws.specs.Land.{IsRunning, AllLand}
 use Rattle.prem_gen_laws.specs.Whole.{no_calls}
 use Rattle.prem_gen_laws.proofs.Land.{part_lands, code_lands}
 use Rattle.prem_prefetch_laws.specs.Premises.{stub_code}

@@ -1,5 +1,5 @@
 -- All code of a placed task that keeps the rules has words, which stand at their places.
-use Rattle.std.proofs.Common.{◌≡◌, ℕ, zero, suc, ◌+◌, ◌*◌, ◌%◌, ◌^◌, ◌<◌, ◌≤◌, refl, ap, ◌∙◌, sym, subst, arith, List, [], ◌∷◌, ◌++◌, length, map, min, Some, slice_get, ⊎_elim}
+use Rattle.std.proofs.Common.{◌≡◌, ℕ, zero, suc, ◌+◌, ◌*◌, ◌%◌, ◌^◌, ◌<◌, ◌≤◌, refl, ap, ◌∙◌, sym, subst, arith, List, [], ◌∷◌, length, map, Some, slice_get, ⊎_elim}
 use Rattle.std.specs.Prelude.{All, slice_index, slice_index_or, take, option_map}
 use Rattle.std.proofs.lemmas.List.{length-map, length-take, get_or_past}
 use Rattle.std.proofs.lemmas.Bool.{cases_lt}
@@ -11,8 +11,8 @@ use Rattle.prem_syntax.specs.Syntax.{ProgramText}
 use Rattle.prem_meaning.specs.Resolved.{Routine, Resolved}
 use Rattle.prem_ranges.specs.GroupThree.{limits_of}
 use Rattle.prem_asm.specs.Fit.{PiecesFit}
-use Rattle.prem_asm.specs.Pieces.{Pieces, size_of}
-use Rattle.prem_template.specs.Frames.{frame_of, deepest, depth_of, slots_of}
+use Rattle.prem_asm.specs.Pieces.{Pieces}
+use Rattle.prem_template.specs.Frames.{frame_of, slots_of}
 use Rattle.prem_template.specs.Parts.{parts_of, codes_of}
 use Rattle.prem_template.specs.Steps.{function_code}
 use Rattle.prem_layout.specs.Plans.{Plan, plans_of}
@@ -29,8 +29,7 @@ use Rattle.prem_gen_laws.proofs.Functions.{rounded}
 use Rattle.prem_cycle.specs.Alone.{run_in}
 use Rattle.prem_own.specs.Owned.{setup_of}
 use Rattle.prem_initial.specs.Initial.{content_of}
-use Rattle.prem_initial.specs.Standing.{setting_of, code_in}
-use Rattle.prem_initial.proofs.Tasks.{TaskAt}
+use Rattle.prem_initial.specs.Standing.{setting_of}
 use Rattle.prem_task_frame.specs.Kept.{KeepsTaskRules}
 use Rattle.prem_task_frame.specs.Frames.{task_guard}
 use Rattle.prem_task_ground.proofs.Depths.{stack_holds_job}

@@ -1,7 +1,6 @@
 -- The answer to `exec IMAGE RUN`: what the run of an image file tells.
-use Rattle.std.specs.Prelude.{ℕ, ◌^◌, min, Bool, List, Option, Some, None, Result, Ok, Err, unwrap_or}
+use Rattle.std.specs.Prelude.{ℕ, ◌^◌, min, Bool, List, Option, Result, Ok, unwrap_or}
 use Rattle.prem_list.specs.Sequence.{items_of}
-use Rattle.prem_image.specs.declared.image.Image.{Image}
 use Rattle.prem_lru.specs.Entries.{to_front}
 use Rattle.prem_gate.specs.declared.request.RunInput.{RunInput}
 use Rattle.prem_cycle.specs.declared.state.Stop.{Stop}

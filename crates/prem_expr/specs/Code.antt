@@ -1,6 +1,5 @@
 -- The code of an expression of a function, and what keeps it from having any.
-use Rattle.std.specs.Prelude.{◌≡◌, ℕ, ◌+◌, Option, map}
-use Rattle.prem_list.specs.Sequence.{items_of}
+use Rattle.std.specs.Prelude.{ℕ, ◌+◌, Option}
 use Rattle.prem_syntax.specs.Syntax.{Expression, ProgramText}
 use Rattle.prem_meaning.specs.Resolve.{functions_of}
 use Rattle.prem_asm.specs.Pieces.{Pieces}

@@ -1,11 +1,10 @@
 -- One more marked function whose lines fit.
-use Rattle.std.proofs.Common.{◌≡◌, ℕ, ◌+◌, ◌<◌, List, [], ◌∷◌, Option, None, Some, ap, sym, ◌∙◌, length, map, drop, get_or}
+use Rattle.std.proofs.Common.{◌≡◌, ℕ, ◌+◌, ◌<◌, List, ◌∷◌, Option, None, ap, sym, ◌∙◌, length, map, drop, get_or}
 use Rattle.std.proofs.lemmas.List.{at_drop_more}
 use Rattle.prem_plant.specs.declared.plant.Plant.{Plant}
 use Rattle.prem_split.specs.declared.plan.IntervalPlan.{IntervalPlan}
 use Rattle.prem_split.specs.PlanOf.{plan_of}
-use Rattle.prem_layout.specs.Footprint.{Conflict, conflict_of}
-use Rattle.prem_layout.specs.Plans.{Plan}
+use Rattle.prem_layout.specs.Footprint.{conflict_of}
 use Rattle.prem_layout.specs.Rules.{or_else}
 use Rattle.prem_facts.specs.Clashes.{Clash, clash_in, first_clash}
 

@@ -1,6 +1,5 @@
 -- The first marked function whose lines don't fit the cache.
-use Rattle.std.specs.Prelude.{◌≡◌, ℕ, List, [], ◌∷◌, map, Option, None, Some}
-use Rattle.std.specs.Option.{option_map}
+use Rattle.std.specs.Prelude.{ℕ, List, [], ◌∷◌, Option, None, Some}
 use Rattle.prem_plant.specs.declared.plant.Plant.{Plant}
 use Rattle.prem_layout.specs.Plans.{Plan}
 use Rattle.prem_layout.specs.Footprint.{Conflict, conflict_of}

@@ -6,7 +6,7 @@ use Rattle.prem_plant.specs.declared.plant.Device.{Device}
 use Rattle.prem_plant.specs.Label.{AreDistinct}
 use Rattle.prem_image.specs.declared.image.DeviceRecord.{DeviceRecord}
 use Rattle.prem_image.specs.declared.image.Image.{Image}
-use Rattle.prem_image.specs.Records.{task_names, device_names}
+use Rattle.prem_image.specs.Records.{device_names}
 use Rattle.prem_gate.specs.declared.request.Request.{Request}
 use Rattle.prem_gate.specs.declared.request.RunInput.{RunInput}
 use Rattle.prem_cycle.specs.State.{Setup}
@@ -39,17 +39,20 @@ request_fits p r known =
     let lines : (get_or {A = List ℕ × ℕ} (names_for p.tasks p.devices).devices r.device ([], 0)).1 ≡ (get_or p.devices r.device no_device).device.lines =
     ap (λ (ds : List (List ℕ × ℕ)). (get_or {A = List ℕ × ℕ} ds r.device ([], 0)).1) (named_devices p)
     ∙ ap (λ (x : List ℕ × ℕ). x.1) (get_or-map named p.devices r.device no_device ([], 0) there) in
-    record { device = there; line = subst (λ n. r.line < n) lines known.line; cycle = known.cycle }
+    record { device = there; line = subst (λ n. r.line < n) lines known.line }
 
 pub lawful_fits : RunFilesFit
 lawful_fits p words requests lawful =
     record {
       tasks = lawful.tasks ∙ length-map p.tasks _;
       each = lawful.each;
-      trace = record {
+      short = record {
+        trace = record {
+          each = λ k d within. request_fits p (get_or requests k d) (lawful.known k d within);
+          ordered = lawful.ordered;
+        };
         count = lawful.count;
-        each = λ k d within. request_fits p (get_or requests k d) (lawful.known k d within);
-        ordered = lawful.ordered;
+        early = λ k d within. (lawful.known k d within).cycle;
       };
     }
 

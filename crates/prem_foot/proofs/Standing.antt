@@ -1,11 +1,11 @@
 -- Plans of a well-formed program may be looked at with the places of its parts.
-use Rattle.std.proofs.Common.{◌≡◌, ℕ, zero, suc, ◌+◌, ◌-◌, ◌*◌, ◌<◌, ◌≤◌, ◌^◌, max, cond, Bool, true, false, List, [], ◌∷◌, ◌++◌, Option, None, Some, refl, ap, sym, ◌∙◌, subst, arith, length, map, take, append_assoc, length-append}
+use Rattle.std.proofs.Common.{◌≡◌, ℕ, zero, suc, ◌+◌, ◌*◌, ◌<◌, ◌≤◌, ◌^◌, max, cond, Bool, true, false, List, [], ◌∷◌, ◌++◌, Option, None, Some, refl, ap, sym, ◌∙◌, subst, arith, length, map, take, append_assoc}
 use Rattle.std.specs.Prelude.{nat_lt, nat_le, not, is_some, is_none, IsTrue, ◌||◌, slice_get, slice_index_or, unwrap_or}
 use Rattle.std.specs.Int.{next_multiple_of}
-use Rattle.std.specs.List.{AllByRecursion, flat_map, list_any}
+use Rattle.std.specs.List.{AllByRecursion, list_any}
 use Rattle.std.specs.Str.{bytes_eq}
 use Rattle.std.proofs.lemmas.Nat.{mul-le}
-use Rattle.std.proofs.lemmas.List.{length-map, append-nil}
+use Rattle.std.proofs.lemmas.List.{length-map}
 use Rattle.std.proofs.lemmas.Bool.Decides.{nat_tests}
 use Rattle.prem_plant.specs.Places.{Extent}
 use Rattle.prem_plant.specs.declared.layout.PartKind.TheVariants.{Global, Stack}
@@ -16,17 +16,16 @@ use Rattle.prem_syntax.specs.declared.tree.Ty.TheVariants.{Void, Int, Unsigned, 
 use Rattle.prem_syntax.specs.Syntax.{Text, RegionText, MarkText, GlobalVariable, FunctionText, global_item, function_item, ProgramText}
 use Rattle.prem_meaning.specs.Resolved.{Routine, Resolved}
 use Rattle.prem_meaning.specs.Resolve.{Scope, find_named, find_global, scope_at, scope_in, loops_within, resolve_items, globals_of, functions_of, resolve}
-use Rattle.prem_meaning.specs.Statements.{is_marked}
 use Rattle.prem_meaning.specs.Rules.{NoJob, OfTypes}
-use Rattle.prem_meaning.specs.Breaches.{if_at, in_region, in_regions, regions_of, in_heading, in_parameters, in_locals, in_statements, in_option, around, parameter_texts, in_function, in_global, in_items, item_names, in_limits, breaches, reached, is_job_name, if_broken}
+use Rattle.prem_meaning.specs.Breaches.{in_region, in_regions, regions_of, in_heading, in_parameters, in_locals, in_statements, in_option, around, parameter_texts, in_function, in_global, in_items, item_names, in_limits, breaches, reached, is_job_name, if_broken}
 use Rattle.prem_meaning.specs.Reach.{is_in_set}
 use Rattle.prem_meaning.specs.GroupTwo.{group_two, IsWellFormed}
 use Rattle.prem_ranges.proofs.Basics.{none_left, none_right}
 use Rattle.prem_ranges.proofs.Named.{kept_rule, none_broken, found_at}
-use Rattle.prem_template.specs.Frames.{frame_at, depth_of, deepest_marked, deepest_called, stack_size}
-use Rattle.prem_layout.specs.Plans.{Plan, Region, number_or, global_number, region_of, plan_of, plan_before, plans_from, plans_of}
+use Rattle.prem_template.specs.Frames.{frame_at, depth_of, deepest_marked, stack_size}
+use Rattle.prem_layout.specs.Plans.{Plan, Region, number_or, global_number, region_of, plan_before, plans_from, plans_of}
 use Rattle.prem_layout.specs.Parts.{Passes, element_size, global_size, code_parts, stub_parts, global_parts, part, task_parts, part_count}
-use Rattle.prem_layout.specs.Footprint.{TaskPlaces, no_place, place_at, global_range, stack_place, region_range}
+use Rattle.prem_layout.specs.Footprint.{no_place, place_at, global_range, stack_place}
 use Rattle.prem_layout.specs.Placed.{task_places}
 use Rattle.prem_foot.specs.PlacesOf.{IsRegionAt, IsPlanAt}
 use Rattle.prem_foot.specs.Standing.{StandsAt, ArePartsAt, PlansStand}

@@ -16,7 +16,7 @@ use Rattle.prem_template.specs.Terms.{only, term_code}
 use Rattle.prem_template.specs.Frames.{locals_of, slots_of, frame_of}
 use Rattle.prem_template.specs.Steps.{Parts, opening, closing, declare_code, result_code, steps_code, function_code}
 use Rattle.prem_expr_laws.specs.Registers.{AreWords}
-use Rattle.prem_expr_laws.specs.Relation.{Globals, Stack, Ground, GlobalsStand, LocalsStand, IsElement}
+use Rattle.prem_expr_laws.specs.Relation.{Globals, Stack, Ground}
 use Rattle.prem_expr_laws.proofs.Runs.{run_followed}
 use Rattle.prem_expr_laws.proofs.Loads.{Readable}
 use Rattle.prem_expr_laws.proofs.Cells.{all_between}

@@ -14,14 +14,14 @@ use Rattle.prem_isa.specs.Act.{with_register}
 use Rattle.prem_isa.specs.Plain.{TaskState, Did}
 use Rattle.prem_meaning.specs.Resolved.{Term}
 use Rattle.prem_meaning.specs.Expressions.{Outcome, Access}
-use Rattle.prem_meaning.specs.Statements.{ProgramState, MarkedCall, value, with_local, with_cell, stored, store}
+use Rattle.prem_meaning.specs.Statements.{ProgramState, MarkedCall, value, with_local, store}
 use Rattle.prem_asm.specs.Pieces.{Pieces, no_pieces, straight, either, size_of, followed, skip_words, skip_at, other_at, either_end}
 use Rattle.prem_asm.specs.Runs.{Calls, Setting, Ending, Falls, run_one, run, control, taken_steps, other_steps, skip_steps}
 use Rattle.prem_template.specs.Terms.{slot, nonzero, term_code}
 use Rattle.prem_template.specs.Steps.{load_slot, store_slot}
 use Rattle.prem_expr_laws.specs.Registers.{alus, AreWords}
 use Rattle.prem_expr_laws.specs.Relation.{Globals, Stack, Ground}
-use Rattle.prem_expr_laws.specs.Gives.{IsKept as KeptRegister, Gives}
+use Rattle.prem_expr_laws.specs.Gives.{Gives}
 use Rattle.prem_asm.specs.Steps.{AllSteps}
 use Rattle.prem_expr_laws.proofs.Runs.{goes_then, alu_falls, before, after, either_on, either_off, on_steps, off_steps}
 use Rattle.prem_expr_laws.proofs.Puts.{reg_same, reg_other, reg_words, put_one}

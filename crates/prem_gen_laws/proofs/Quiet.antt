@@ -17,7 +17,7 @@ use Rattle.prem_asm.specs.Runs.{Setting, Calls, Ending, Falls, Returns, Stuck, r
 use Rattle.prem_asm.specs.Steps.{Holds, AllSteps}
 use Rattle.prem_asm.specs.Quiet.{IsQuiet, StaysAs, InPhase, EachInstr, GoodJumps, EachPiece}
 use Rattle.prem_asm.proofs.Quiet.{quiet_runs}
-use Rattle.prem_template.specs.Terms.{only, is_short, constant, scale, shift_of, unary_code, less, shift_right, binary_code, term_code, truth_code}
+use Rattle.prem_template.specs.Terms.{is_short, constant, scale, shift_of, unary_code, less, shift_right, binary_code, term_code}
 use Rattle.prem_template.specs.Frames.{counters_in, locals_of}
 use Rattle.prem_template.specs.Steps.{Parts, declare_code, argument_code, target_code, result_code, steps_code, function_code}
 use Rattle.prem_gen_laws.specs.Table.{one_of, code_calls}

@@ -1,10 +1,9 @@
 -- Programs are read as the grammar says, up to the first token past a limit.
-use Rattle.std.proofs.Common.{◌≡◌, ◌<◌, ℕ, List, [], ◌∷◌, ◌++◌, Option, None, Some, Result, Ok, Err, Bool, true, false, refl, ap, sym, subst, ◌∙◌, append_assoc, arith}
+use Rattle.std.proofs.Common.{◌≡◌, List, [], ◌∷◌, ◌++◌, Option, None, Some, Result, Ok, Bool, true, false, refl, ap, sym, subst, ◌∙◌, append_assoc}
 use Rattle.std.proofs.lemmas.List.{append-nil}
 use Rattle.prem_syntax.specs.declared.tree.Place.{Place}
 use Rattle.prem_syntax.specs.Syntax.{ItemText, ProgramText}
 use Rattle.prem_token.specs.declared.fail.FrontFail.{FrontFail}
-use Rattle.prem_token.specs.declared.fail.FrontFail.TheVariants.{Syntax}
 use Rattle.prem_token.specs.Lexeme.{Seen}
 use Rattle.prem_token.specs.Reading.{no_program, too_deep}
 use Rattle.prem_grammar.specs.Slots.{the_end, fits}
@@ -12,7 +11,7 @@ use Rattle.prem_grammar.specs.Item.{Stage, outside, finished, ItemStep, ahead, m
 use Rattle.prem_grammar.specs.Reader.{unless_deep, at_end, read_on, read}
 use Rattle.prem_grammar.specs.Phrases.{IsRow, quiet}
 use Rattle.prem_grammar.specs.ProgramPhrases.{ItemPhrase, of_global, of_function, IsItem, item_tokens, item_tree, item_past, AreItems, items_tokens, items_tree, items_past, ProgramPhrase, IsProgram, program_tokens, program_tree, program_past}
-use Rattle.prem_grammar.specs.Law.{stages, depths, are_within, Begins, IsUnexpected}
+use Rattle.prem_grammar.specs.Law.{stages, depths, are_within}
 use Rattle.prem_grammar.proofs.ItemTaken.{Runs, rest, forth}
 use Rattle.prem_grammar.proofs.ItemWhole.{ItemRead, global_read}
 use Rattle.prem_grammar.proofs.FunctionWhole.{function_read}

@@ -1,21 +1,18 @@
 -- What the reader has taken begins a program, also where it refuses the next token.
-use Rattle.std.proofs.Common.{◌≡◌, ◌⊎◌, inl, inr, ℕ, List, [], ◌∷◌, ◌++◌, None, Some, Err, Bool, true, false, refl, ap, sym, subst, ◌∙◌, append_assoc}
+use Rattle.std.proofs.Common.{◌≡◌, ◌⊎◌, inl, inr, List, [], ◌∷◌, ◌++◌, None, Some, refl, ap, sym, subst, ◌∙◌, append_assoc}
 use Rattle.std.proofs.lemmas.List.{append-nil}
 use Rattle.prem_syntax.specs.Syntax.{ItemText}
-use Rattle.prem_token.specs.declared.fail.FrontFail.TheVariants.{TooDeep}
 use Rattle.prem_token.specs.Lexeme.{Seen}
-use Rattle.prem_token.specs.Reading.{no_program}
 use Rattle.prem_grammar.specs.Slots.{the_end}
-use Rattle.prem_grammar.specs.Item.{Stage, outside, finished, ItemStep, ahead, made, refused, step, is_too_deep}
-use Rattle.prem_grammar.specs.Reader.{at_end, read_on, read}
-use Rattle.prem_grammar.specs.Phrases.{IsRow, quiet}
-use Rattle.prem_grammar.specs.ProgramPhrases.{items_tokens, program_tokens}
-use Rattle.prem_grammar.specs.Law.{stages, depths, Begins, IsPast}
+use Rattle.prem_grammar.specs.Item.{Stage, outside, ItemStep, ahead, made, refused, step}
+use Rattle.prem_grammar.specs.Phrases.{IsRow}
+use Rattle.prem_grammar.specs.ProgramPhrases.{items_tokens}
+use Rattle.prem_grammar.specs.Law.{stages, Begins}
 use Rattle.prem_grammar.proofs.Fill.{samples}
 use Rattle.prem_grammar.proofs.ItemStand.{is_outside}
 use Rattle.prem_grammar.proofs.ItemFill.{ItemBegins, fill_stage}
 use Rattle.prem_grammar.proofs.ProgramSound.{SoFar, far_ahead, far_made, more_item_tokens, more_are_items}
-use Rattle.prem_grammar.proofs.Program.{Reached, reached, stages_step, depths_step, read_step, shallow, deep, stages_split, some_same, program_stages}
+use Rattle.prem_grammar.proofs.Program.{Reached, reached, stages_step, some_same}
 
 begins_far : (items : List ItemText) (s : Stage) (pre : List Seen) → SoFar items s pre → Begins pre
 begins_far items s pre far = by (fill_stage s far.mid far.stage)

@@ -4,7 +4,7 @@ use Rattle.prem_syntax.specs.Syntax.{ItemText}
 use Rattle.prem_token.specs.declared.fail.FrontFail.{FrontFail}
 use Rattle.prem_token.specs.declared.fail.FrontFail.TheVariants.{Syntax, TooDeep}
 use Rattle.prem_token.specs.Lexeme.{Seen}
-use Rattle.prem_token.specs.Reading.{no_program, too_deep}
+use Rattle.prem_token.specs.Reading.{too_deep}
 use Rattle.prem_grammar.specs.Item.{Stage, outside, finished, ItemStep, ahead, made, refused, step, is_too_deep}
 use Rattle.prem_grammar.specs.Reader.{unless_deep, at_end, read_on, read}
 use Rattle.prem_grammar.specs.Phrases.{quiet}

@@ -2,19 +2,18 @@
 use Rattle.std.proofs.Common.{◌≡◌, ℕ, zero, suc, ◌+◌, ◌<◌, ◌≤◌, Bool, true, false, cond, List, [], ◌∷◌, ◌++◌, length, map, drop, get_or, refl, ap, sym, ◌∙◌, arith, Option, Some, None, Result, Ok, Err, IfOk}
 use Rattle.std.specs.Borrow.{Bor}
 use Rattle.prem_syntax.specs.declared.tree.Global.{Global}
-use Rattle.std.specs.Prelude.{slice_get}
 use Rattle.std.specs.Option.{option_map}
-use Rattle.std.proofs.lemmas.List.{append_assoc, append-nil}
+use Rattle.std.proofs.lemmas.List.{append_assoc}
 use Rattle.prem_list.specs.Sequence.{items_of}
 use Rattle.prem_syntax.specs.Syntax.{MarkText, GlobalVariable}
-use Rattle.prem_syntax.specs.SyntaxOf.{global_of, function_of, mark_of}
+use Rattle.prem_syntax.specs.SyntaxOf.{global_of, mark_of}
 use Rattle.prem_resolve.specs.declared.resolved.Routine.{Routine as RoutineTree}
 use Rattle.prem_resolve.specs.declared.resolved.Resolved.{Resolved as ResolvedTree}
-use Rattle.prem_resolve.specs.ResolvedOf.{loops_of, routine_of, routines_of, resolved_of}
+use Rattle.prem_resolve.specs.ResolvedOf.{loops_of, routines_of, resolved_of}
 use Rattle.prem_meaning.specs.Source.{unlimited}
-use Rattle.prem_meaning.specs.Resolved.{Routine, Resolved}
+use Rattle.prem_meaning.specs.Resolved.{Routine}
 use Rattle.prem_meaning.specs.Reach.{is_in, reach_set, callee_table}
-use Rattle.prem_ranges.specs.Regions.{Watch, areas_of, watch_if, watches_from, watches_of}
+use Rattle.prem_ranges.specs.Regions.{Watch, watch_if, watches_from}
 use Rattle.prem_walk.specs.declared.site.Marked.{Marked}
 use Rattle.prem_walk.specs.SiteOf.{watch_of, watch_where, watches_at, AreWatched}
 use Rattle.prem_marks.specs.Called.{called}

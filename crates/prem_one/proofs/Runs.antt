@@ -16,7 +16,15 @@ no_words zero d below = lit≤ tt
 no_words (suc k) d below = absurd (omega arith)
 
 nothing_fits : (p : Setup) → length p.tasks ≡ 1 → FitsRun p ([] ∷ []) []
-nothing_fits p one = record { tasks = sym one; each = no_words; trace = record { count = lit≤ tt; each = λ k d below. absurd (omega arith); ordered = λ i j d le below. absurd (omega arith) } }
+nothing_fits p one = record {
+  tasks = sym one;
+  each = no_words;
+  short = record {
+    trace = record { each = λ k d below. absurd (omega arith); ordered = λ i j d le below. absurd (omega arith) };
+    count = lit≤ tt;
+    early = λ k d below. absurd (omega arith);
+  };
+}
 
 pub input_fits : (image : Image) (input : RunInput) → length (items_of image.tasks) ≡ 1 → words_of input ≡ [] ∷ [] → items_of input.requests ≡ [] →
     FitsRun (setup_of image) (words_of input) (items_of input.requests)

@@ -9,7 +9,7 @@ use Rattle.prem_isa.specs.Bounds.{OnDone}
 use Rattle.prem_isa.specs.Plain.{TaskState, Did}
 use Rattle.prem_meaning.specs.Resolved.{Routine}
 use Rattle.prem_meaning.specs.Expressions.{Access}
-use Rattle.prem_meaning.specs.Statements.{ProgramState, declare, result_of, leave, enter, run as run_source}
+use Rattle.prem_meaning.specs.Statements.{ProgramState, declare, result_of, run as run_source}
 use Rattle.prem_meaning.specs.Source.{Limits, calls_below}
 use Rattle.prem_asm.specs.Pieces.{code_of}
 use Rattle.prem_asm.specs.Runs.{Guard, Setting, Ending, stepped, outcome_at, run}

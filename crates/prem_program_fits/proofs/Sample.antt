@@ -1,25 +1,22 @@
 -- Programs that keep the rules: one whose `job` calls a marked function, and one where a function behind `job` calls it.
-use Rattle.std.proofs.Common.{◌≡◌, ◌<◌, ◌≤◌, ℕ, zero, suc, ◌+◌, ◌*◌, ◌^◌, Bool, true, [], ◌∷◌, Option, None, Some, map, refl, ap, arith}
+use Rattle.std.proofs.Common.{◌≡◌, ◌<◌, ◌≤◌, ℕ, zero, suc, ◌+◌, ◌*◌, ◌^◌, Bool, true, [], ◌∷◌, Option, None, Some, refl, ap, arith}
 use Rattle.std.specs.Prelude.{codes, slice_get}
 use Rattle.std.proofs.lemmas.Bool.{ltb-true}
 use Rattle.prem_isa.specs.declared.effect.Phase.TheVariants.{Compatible}
-use Rattle.prem_syntax.specs.declared.tree.Ty.TheVariants.{Void}
-use Rattle.prem_syntax.specs.Syntax.{call, FunctionText, ProgramText}
+use Rattle.prem_syntax.specs.Syntax.{call, ProgramText}
 use Rattle.prem_meaning.specs.GroupTwo.{group_two, IsWellFormed}
-use Rattle.prem_meaning.specs.Resolve.{functions_of, resolve_function, resolve}
+use Rattle.prem_meaning.specs.Resolve.{resolve}
 use Rattle.prem_meaning.specs.Resolved.{Routine}
-use Rattle.prem_meaning.proofs.Samples.{at, statements, plain, function}
+use Rattle.prem_meaning.proofs.Samples.{at, statements, plain}
 use Rattle.prem_asm.specs.Pieces.{Pieces, no_pieces, size_of}
 use Rattle.prem_asm.specs.Runs.{Setting}
 use Rattle.prem_template.specs.Limits.{excess}
 use Rattle.prem_template.specs.Parts.{is_marked_at, stub_part, parts_of}
 use Rattle.prem_template.specs.Steps.{function_code}
-use Rattle.prem_layout.specs.Plans.{Plan, plan_of, plans_of}
 use Rattle.prem_layout.proofs.Samples.{m_text}
 use Rattle.prem_gen_laws.specs.Table.{Codes, TaskFits}
 use Rattle.prem_initial.specs.Standing.{globals_in}
 use Rattle.prem_task_frame.specs.Callees.{callees_in, plain_callable, HasCodes}
-use Rattle.prem_task_frame.specs.Plans.{IsLegalPlan}
 use Rattle.prem_program_fits.specs.Fits.{KeepsProgramRules, JobFits}
 use Rattle.prem_program_fits.proofs.Functions.{jobs_fit, plain_tasks_fit}
 

@@ -22,7 +22,7 @@ run_files_suit p bytes g is =
     let has : HasWords g = run_has_words bytes (names_for p.tasks p.devices) g is in
     record {
       inputs_are = record { count = fits.tasks; words = has.words };
-      trace = fits.trace;
+      trace = fits.short.trace;
       puts = has.puts;
     }
 

@@ -3,8 +3,6 @@ use Rattle.std.proofs.Common.{◌≡◌, ◌≤◌, ◌^◌, Option, None, Some,
 use Rattle.prem_list.specs.Sequence.{items_of}
 use Rattle.prem_io.specs.Files.{Files}
 use Rattle.prem_gate.specs.declared.request.RunInput.{RunInput}
-use Rattle.prem_cycle.specs.declared.state.Stop.{Stop}
-use Rattle.prem_cycle.specs.declared.state.Stop.TheVariants.{Finished, Trap, LogFull, Limit}
 use Rattle.prem_cycle.specs.Inputs.{FitsRun, setup_of, words_of}
 use Rattle.prem_run.specs.Lawful.{IsLawfulRun}
 use Rattle.prem_layout.specs.Rules.{Refusal}
@@ -22,10 +20,9 @@ use Rattle.prem_command.specs.Words.{RunAsked}
 use Rattle.prem_answer.specs.Stages.{Reply, Reads, Stage, IsFine, IsGiven, IsReadAs, is_settled}
 use Rattle.prem_answer.proofs.Reading.{goes_on, ends_there, gives_at_once}
 use Rattle.prem_exec.specs.Forms.{RunText}
-use Rattle.prem_exec.specs.Exec.{state_at, stop_at, stop_status}
 use Rattle.prem_sources.specs.Sources.{Passes, names_of, reading_run, reading_set, run_limit as file_limit, run_of_bytes}
 use Rattle.prem_sources.proofs.Fine.{run_fine, set_fine}
-use Rattle.prem_running.specs.Running.{compiled_reply, judged_reply, run_limit, run_parts, run_stages, set_reply}
+use Rattle.prem_running.specs.Running.{compiled_reply, judged_reply, run_stages, set_reply}
 
 -- ---- the run of a compiled set
 

@@ -1,5 +1,5 @@
 -- The steps of a stub as a marked call.
-use Rattle.std.proofs.Common.{◌≡◌, ℕ, zero, suc, ◌+◌, ◌*◌, ◌/◌, ◌<◌, ◌≤◌, ◌⊎◌, refl, ap, ◌∙◌, sym, subst, arith, eqb, true, false, Bool, List, [], ◌∷◌, ◌++◌, append_assoc, length, Some, None, Option, IfSome, inl, inr, get_or}
+use Rattle.std.proofs.Common.{◌≡◌, ℕ, zero, suc, ◌+◌, ◌*◌, ◌/◌, ◌<◌, ◌≤◌, refl, ap, ◌∙◌, sym, subst, arith, eqb, true, false, Bool, List, [], ◌∷◌, ◌++◌, append_assoc, length, Some, None, Option, IfSome, inl, inr}
 use Rattle.std.specs.Prelude.{All, pos}
 use Rattle.std.specs.List.{concat}
 use Rattle.std.proofs.Math.Nat.{mul-div_cancel}

@@ -1,13 +1,11 @@
 -- Sets that break no rule are sound.
-use Rattle.std.proofs.Common.{◌≡◌, ℕ, zero, suc, ◌+◌, ◌^◌, ◌<◌, ◌≤◌, refl, ap, ◌∙◌, sym, subst, arith, List, [], ◌∷◌, length, map, Option, None, Some, Ok, drop, slice_get}
+use Rattle.std.proofs.Common.{◌≡◌, ℕ, zero, suc, ◌<◌, refl, ap, ◌∙◌, sym, subst, arith, List, [], ◌∷◌, length, map, Option, None, Some, drop, slice_get}
 use Rattle.std.specs.Prelude.{All, slice_index_or, option_map, is_none, IsTrue}
 use Rattle.std.proofs.lemmas.List.{length-map}
 use Rattle.std.proofs.lemmas.Option.{slice_get-map, slice_get_within, get_or_from_slice_get}
 use Rattle.prem_plant.specs.declared.plant.Plant.{Plant}
 use Rattle.prem_plant.specs.declared.plant.Device.{Device}
 use Rattle.prem_plant.specs.Places.{Extent}
-use Rattle.prem_syntax.specs.Syntax.{ProgramText}
-use Rattle.prem_text.specs.Texts.{reads}
 use Rattle.prem_meaning.specs.Resolved.{Resolved}
 use Rattle.prem_lru.specs.Entries.{to_front}
 use Rattle.prem_lru.specs.Order.{lru, one_pass}
@@ -25,21 +23,20 @@ use Rattle.prem_layout.specs.Image.{task_record}
 use Rattle.prem_own.specs.Owned.{own_of, setup_of}
 use Rattle.prem_initial.specs.Initial.{content_of}
 use Rattle.prem_sound.specs.Sound.{AreInputs}
-use Rattle.prem_tasks.specs.Broken.{TaskText, TaskSet, bounded, coded_one, broken}
+use Rattle.prem_tasks.specs.Broken.{TaskSet, bounded}
 use Rattle.prem_tasks.specs.Compiled.{coded_in, places_in, placed_in}
 use Rattle.prem_tasks.specs.SetOf.{set_of}
 use Rattle.prem_join.specs.Joined.{JobLimits, TaskJoins}
 use Rattle.prem_task_frame.specs.Kept.{KeepsTaskRules}
 use Rattle.prem_task_frame.specs.Limits.{task_limits}
 use Rattle.prem_task_bytes.specs.Parts.{IsPlacedTask}
-use Rattle.prem_each.specs.Joins.{promise_for}
 use Rattle.prem_each.proofs.Each.{tasks_join}
-use Rattle.prem_accepted.specs.Accepted.{HasValues, HasCodedValues, IsLaidOut, limits_at, no_limits, KeepsRules}
-use Rattle.prem_accepted.proofs.Records.{tasks_long, have_code}
+use Rattle.prem_accepted.specs.Accepted.{HasCodedValues, IsLaidOut, limits_at, no_limits, KeepsRules}
+use Rattle.prem_accepted.proofs.Records.{have_code}
 use Rattle.prem_accepted.proofs.Rules.{accepted_tasks_keep_rules}
 use Rattle.prem_accepted.proofs.Whole.{accepted_sets_are_laid_out, default_places_are_lawful, accepted_sets_are_sound, lawful_sets_have_values}
 use Rattle.prem_read_words.proofs.ProgramWords.{reads_have_words}
-use Rattle.prem_sets_sound.specs.Meant.{meant_by, meant_at, promises_in, IsMeant, AreMeant}
+use Rattle.prem_sets_sound.specs.Meant.{meant_by, meant_at, promises_in, AreMeant}
 use Rattle.prem_sets_sound.specs.Sound.{MeantTasksJoin, AcceptedTasksAreMeant, SetsAreSound, LawfulSetsAreSound}
 
 -- ---- lists of placed tasks

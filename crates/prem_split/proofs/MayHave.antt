@@ -1,17 +1,17 @@
 -- Well-formed programs whose frames may be compiled have plans.
-use Rattle.std.proofs.Common.{◌≡◌, ℕ, ◌+◌, ◌*◌, ◌<◌, ◌≤◌, ◌^◌, Bool, true, false, ltb, List, [], ◌∷◌, ◌++◌, length, map, refl, ap, sym, ◌∙◌, subst, arith, Option, None, Some, is_none, IsTrue}
+use Rattle.std.proofs.Common.{◌≡◌, ℕ, ◌+◌, ◌*◌, ◌<◌, ◌≤◌, ◌^◌, Bool, true, false, ltb, List, [], ◌∷◌, ◌++◌, length, refl, ap, sym, ◌∙◌, subst, arith, Option, None, Some, is_none, IsTrue}
 use Rattle.std.specs.Int.{next_multiple_of}
 use Rattle.std.specs.List.{AllByRecursion}
 use Rattle.std.proofs.lemmas.Bool.Decides.{nat_tests}
 use Rattle.std.proofs.lemmas.List.{length-map}
 use Rattle.prem_list.specs.Sequence.{items_of}
 use Rattle.prem_syntax.specs.declared.rules.Count.TheVariants.{Functions, Globals}
-use Rattle.prem_syntax.specs.Syntax.{GlobalVariable, ProgramText}
+use Rattle.prem_syntax.specs.Syntax.{ProgramText}
 use Rattle.prem_syntax.specs.SyntaxOf.{global_of, function_of}
 use Rattle.prem_meaning.specs.Rules.{Limit, Breach, first, first_of, comes_before}
 use Rattle.prem_meaning.specs.Breaches.{if_broken}
 use Rattle.prem_meaning.specs.GroupTwo.{group_two, IsWellFormed}
-use Rattle.prem_meaning.specs.Resolved.{Routine, Resolved}
+use Rattle.prem_meaning.specs.Resolved.{Resolved}
 use Rattle.prem_meaning.specs.Resolve.{globals_of, resolve}
 use Rattle.prem_meaning.specs.Source.{unlimited}
 use Rattle.prem_resolve.specs.declared.resolved.Routine.{Routine as RoutineTree}
@@ -19,7 +19,7 @@ use Rattle.prem_resolve.specs.declared.resolved.Resolved.{Resolved as ResolvedTr
 use Rattle.prem_resolve.specs.ResolvedOf.{loops_of, routines_of, resolved_of, IsResolved}
 use Rattle.prem_tree.proofs.RunLaws.{few_routines}
 use Rattle.prem_layout.specs.Plans as layout
-use Rattle.prem_split.specs.Walk.{IsShort, HasFrame, counters_of, frame_of as frame_of_tree}
+use Rattle.prem_split.specs.Walk.{HasFrame, counters_of, frame_of as frame_of_tree}
 use Rattle.prem_split.specs.PlansWith.{MayHavePlans, plans_in}
 use Rattle.prem_split.specs.Texts.{HasSmallFrame, HasFrames, plans_of}
 use Rattle.prem_split.proofs.PlansAre.{frame_same, plans_are}

@@ -1,6 +1,5 @@
 -- The tokens of a row, by their number.
-use Rattle.std.proofs.Common.{◌≡◌, ◌≤◌, ◌<◌, ◌-◌, ℕ, zero, suc, List, [], ◌∷◌, length, get_or, map, Option, None, refl, arith, false}
-use Rattle.prem_syntax.specs.declared.tree.Place.{Place}
+use Rattle.std.proofs.Common.{◌≡◌, ◌≤◌, ◌<◌, ℕ, zero, suc, List, [], ◌∷◌, length, get_or, map, None, refl, arith, false}
 use Rattle.prem_token.specs.declared.token.Spotted.{Spotted}
 use Rattle.prem_token.specs.Lexeme.{lexeme_of, seen_of}
 use Rattle.prem_grammar.specs.Slots.{Slot, fits, is_less_equal, text_of, value_of, text_at, value_at, place_at, slot_at}

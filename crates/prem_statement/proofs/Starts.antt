@@ -1,5 +1,5 @@
 -- Where the first argument of a call begins, and where another one does.
-use Rattle.std.proofs.Common.{◌≡◌, ◌≤◌, ◌<◌, ℕ, List, [], ◌∷◌, length, map, Option, refl, arith}
+use Rattle.std.proofs.Common.{◌≡◌, ◌<◌, List, [], ◌∷◌, length, map, Option, refl, arith}
 use Rattle.prem_syntax.specs.declared.tree.Place.{Place}
 use Rattle.prem_syntax.specs.declared.tree.Expr.{Expr}
 use Rattle.prem_syntax.specs.Syntax.{Text}

@@ -1,5 +1,5 @@
 -- What a placed task may load and store.
-use Rattle.std.proofs.Common.{◌≡◌, ℕ, zero, suc, ◌+◌, ◌/◌, ◌<◌, ◌≤◌, refl, ap, sym, ◌∙◌, subst, arith, leb, ltb, true, false, Bool, List, [], ◌∷◌, ◌++◌, length, map, Some, slice_get, ⊎_elim}
+use Rattle.std.proofs.Common.{◌≡◌, ℕ, zero, suc, ◌+◌, ◌/◌, ◌<◌, ◌≤◌, refl, ap, ◌∙◌, subst, arith, leb, ltb, true, false, Bool, List, length, map, ⊎_elim}
 use Rattle.std.specs.Prelude.{◌||◌}
 use Rattle.std.proofs.lemmas.Bool.{and_parts, or_cases, leb-true, ltb-true, cases_lt}
 use Rattle.std.proofs.lemmas.Option.{slice_get_within}
@@ -8,14 +8,13 @@ use Rattle.prem_plant.specs.declared.plant.Plant.{Plant}
 use Rattle.prem_plant.specs.declared.plant.Device.{Device}
 use Rattle.prem_plant.specs.Places.{Extent, Holds}
 use Rattle.prem_position.specs.Own.{IsFree}
-use Rattle.prem_asm.specs.Pieces.{Pieces, size_of}
 use Rattle.prem_layout.specs.Footprint.{TaskPlaces, place_at, global_range, stack_place, numbers_from}
 use Rattle.prem_layout.specs.Placed.{Coded, Placed}
 use Rattle.prem_own.specs.Owned.{is_held, own_of, setup_of}
 use Rattle.prem_own.proofs.Owned.{own_bytes_are_free}
 use Rattle.prem_initial.specs.Standing.{code_in}
 use Rattle.prem_stub_fits.specs.Within.{any_holds}
-use Rattle.prem_task_frame.specs.Frames.{data_ranges, task_guard}
+use Rattle.prem_task_frame.specs.Frames.{data_ranges}
 use Rattle.prem_task_bytes.specs.Parts.{IsPlacedTask, HasParts, TaskGuardIsOwn, KeepsItsCode, TaskCodeIsOwn}
 use Rattle.prem_task_bytes.proofs.Parts.{is_held_by, part_own, parts_of_task}
 

@@ -1,6 +1,6 @@
 -- The parts of a placed task: whose bytes these are, and how long they are.
-use Rattle.std.proofs.Common.{◌≡◌, ℕ, zero, suc, ◌+◌, ◌%◌, ◌<◌, ◌≤◌, refl, ap, sym, ◌∙◌, subst, arith, leb, ltb, true, List, [], ◌∷◌, ◌++◌, length, map, take, drop, length-append, Some, slice_get, ⊎_elim}
-use Rattle.std.specs.Prelude.{◌&&◌, ◌||◌, All, slice_index_or, option_map}
+use Rattle.std.proofs.Common.{◌≡◌, ℕ, zero, suc, ◌+◌, ◌<◌, ◌≤◌, refl, ap, sym, ◌∙◌, subst, arith, ltb, true, List, [], ◌∷◌, ◌++◌, length, map, take, drop, length-append, Some, slice_get, ⊎_elim}
+use Rattle.std.specs.Prelude.{◌&&◌, ◌||◌, slice_index_or, option_map}
 use Rattle.std.proofs.lemmas.Bool.{le-leb, lt-ltb, cases_lt}
 use Rattle.std.proofs.Math.Bool.{or-true}
 use Rattle.std.proofs.lemmas.List.{length-map}
@@ -16,7 +16,7 @@ use Rattle.prem_asm.specs.Pieces.{Pieces, size_of}
 use Rattle.prem_template.specs.Frames.{stack_size}
 use Rattle.prem_layout.specs.Plans.{Plan, plans_of}
 use Rattle.prem_layout.specs.Parts.{Passes, passes_of, part, part_count, element_size, global_size, stub_size, code_parts, stub_parts, global_parts, task_parts}
-use Rattle.prem_layout.specs.Footprint.{TaskPlaces, no_place, index_of, place_at, code_range, stub_range, global_range, stack_place}
+use Rattle.prem_layout.specs.Footprint.{TaskPlaces, no_place, index_of, place_at, stub_range, global_range, stack_place}
 use Rattle.prem_layout.specs.Stubs.{stub_of}
 use Rattle.prem_layout.specs.Bounds.{start_code}
 use Rattle.prem_layout.specs.Placed.{Coded, Placed, part_total, task_places, placed_at, placed_from}
@@ -25,11 +25,11 @@ use Rattle.prem_own.specs.Owned.{is_held, owns_first, own_of}
 use Rattle.prem_own.proofs.Owned.{get_behind, task_long}
 use Rattle.prem_initial.specs.Initial.{AreLaid}
 use Rattle.prem_initial.specs.Standing.{code_in}
-use Rattle.prem_initial.proofs.Places.{place_in, IsSized, Sized, sized_left, sized_right}
+use Rattle.prem_initial.proofs.Places.{IsSized, Sized, sized_left, sized_right}
 use Rattle.prem_initial.proofs.Whole.{there}
 use Rattle.prem_initial.proofs.Tasks.{TaskAt, task_at, parts_have_addresses}
 use Rattle.prem_stub_fits.proofs.Within.{stub_numbers_agree}
-use Rattle.prem_task_bytes.specs.Parts.{IsPlacedTask, PartCounts, PartSizes, HasParts, PartsOfTask}
+use Rattle.prem_task_bytes.specs.Parts.{IsPlacedTask, PartCounts, PartSizes, PartsOfTask}
 
 -- ---- own bytes
 

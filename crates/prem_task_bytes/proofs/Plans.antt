@@ -1,6 +1,6 @@
 -- What the marked functions of a placed task may touch.
 use Rattle.std.proofs.Common.{◌≡◌, ℕ, zero, suc, ◌+◌, ◌-◌, ◌*◌, ◌<◌, ◌≤◌, inl, inr, refl, ap, sym, ◌∙◌, subst, arith, true, false, Bool, List, [], ◌∷◌, ◌++◌, length, map, Option, None, Some, slice_get, ⊎_elim}
-use Rattle.std.specs.Prelude.{◌||◌, All, slice_index_or, unwrap_or, option_map}
+use Rattle.std.specs.Prelude.{slice_index_or, unwrap_or, option_map}
 use Rattle.std.specs.Int.{next_multiple_of}
 use Rattle.std.specs.List.{AllByRecursion}
 use Rattle.std.proofs.Math.Nat.{mul-le-mul_right, suc-mul, mul_comm}

@@ -1,5 +1,5 @@
 -- Reading a text gives what the text is, or why it is none.
-use Rattle.std.proofs.Common.{◌≡◌, ℕ, zero, suc, ◌+◌, Bool, true, false, List, [], ◌∷◌, ◌++◌, Some, Result, Ok, Err, refl, sym, ap, subst, ◌∙◌, arith, nat_lt, append_assoc, lt-ltb}
+use Rattle.std.proofs.Common.{◌≡◌, ℕ, zero, suc, ◌+◌, Bool, true, false, List, [], ◌∷◌, ◌++◌, Some, Result, Ok, Err, refl, sym, ap, ◌∙◌, arith, nat_lt, append_assoc, lt-ltb}
 use Rattle.std.proofs.lemmas.Bool.{and_parts, and_from}
 use Rattle.std.proofs.lemmas.Bool.Decides.{nat_tests}
 use Rattle.prem_syntax.specs.Syntax.{ItemText, ProgramText}
@@ -19,7 +19,7 @@ use Rattle.prem_grammar.proofs.ProgramSound.{programs_sound}
 use Rattle.prem_grammar.proofs.ProgramBegun.{begins_after}
 use Rattle.prem_grammar.proofs.ProgramRefused.{refused_for, unexpected_refused, past_refused}
 use Rattle.prem_spelling.specs.Spellings.{every}
-use Rattle.prem_spelling.specs.Division.{place_behind, Divides, up_to, gap, token, AreTokens, Refused}
+use Rattle.prem_spelling.specs.Division.{place_behind, Divides, up_to, gap, token, AreTokens}
 use Rattle.prem_spelling.proofs.Bytes.{every_append}
 use Rattle.prem_spelling.proofs.Exact.{sound, complete, refusals_sound, refusals_complete}
 use Rattle.prem_text.specs.Texts.{IsProgramText, IsNoProgram, not_divided, unexpected, past}

@@ -1,5 +1,5 @@
 -- The answers to commands keep what they promise.
-use Rattle.std.proofs.Common.{◌≡◌, ◌+◌, ℕ, true, List, length, Option, None, Some, Ok, Err, refl, ap, ◌∙◌, sym, subst}
+use Rattle.std.proofs.Common.{◌≡◌, ℕ, true, List, Option, None, Some, Ok, refl, ap, ◌∙◌, sym, subst}
 use Rattle.prem_layout.specs.Rules.{Refusal}
 use Rattle.prem_line.proofs.Chain.{same_Ok}
 use Rattle.prem_tasks.specs.Told.{Told}
@@ -12,7 +12,6 @@ use Rattle.prem_sets_sound.proofs.Sound.{sets_are_sound}
 use Rattle.prem_run_sound.specs.Runs.{SuitsRun}
 use Rattle.prem_run_sound.proofs.Reports.{sound_reports_end}
 use Rattle.prem_run_sound.proofs.SetRuns.{inputs_are_lawful}
-use Rattle.prem_command.specs.Words.{RunAsked}
 use Rattle.prem_answer.specs.declared.status.Status.{Status}
 use Rattle.prem_answer.specs.declared.status.Status.TheVariants.{Done, Refused}
 use Rattle.prem_answer.specs.Stages.{Reply, Reads, replied}
@@ -21,16 +20,16 @@ use Rattle.prem_refusal.specs.Texts.{refused_reply}
 use Rattle.prem_build.specs.declared.sheet.Sheet.{Sheet}
 use Rattle.prem_build.specs.declared.sheet.Sheet.TheVariants.{Bounds, Image, Listing}
 use Rattle.prem_build.specs.Build.{compiled_reply as sheet_reply, judged_reply as sheet_judged, sheet_stages, sheet_text}
-use Rattle.prem_source.specs.Source.{judged_reply as source_judged, source_reply, source_stages, tasks_text}
+use Rattle.prem_source.specs.Source.{judged_reply as source_judged, source_reply, tasks_text}
 use Rattle.prem_sources.specs.Sources.{reading_run, source_limit}
-use Rattle.prem_running.specs.Running.{compiled_reply, judged_reply as run_judged, run_limit, run_stages, set_reply}
+use Rattle.prem_running.specs.Running.{compiled_reply, judged_reply as run_judged, run_limit, set_reply}
 use Rattle.prem_one.specs.One.{judged_answer as one_judged, one_answer, one_set, one_stages, run_text, state_of}
 use Rattle.prem_sample.specs.Trace.{sample_set}
-use Rattle.prem_sample.specs.Sample.{compiled_reply as sample_compiled, judged_reply as sample_judged, sample_stages}
+use Rattle.prem_sample.specs.Sample.{compiled_reply as sample_compiled, judged_reply as sample_judged}
 use Rattle.prem_top.specs.Read.{IsRead, SetIsRead, RunIsRead}
-use Rattle.prem_top.specs.Promises.{IsAccepted, IsSoundTelling, IsSoundRun, IsSoundSource, IsSoundOne, Keeps, TellsFirstBroken, IsFirstBroken, IsFirstBrokenRun, IsFirstBrokenOne}
+use Rattle.prem_top.specs.Promises.{IsAccepted, IsSoundTelling, Keeps, TellsFirstBroken, IsFirstBroken}
 use Rattle.prem_top.specs.PromiseLaws.{BuildsKeep, ChecksKeep, ListsKeep, OnesKeep, RunsKeep, SamplesKeep, SourcesKeep}
-use Rattle.prem_top.proofs.Readings.{GoesOn, goes_on, RunGoes, run_goes, SetGoes, set_goes, is_judged}
+use Rattle.prem_top.proofs.Readings.{goes_on, run_goes, SetGoes, set_goes, is_judged}
 use Rattle.prem_top.proofs.Values.{sample_has_values, sets_read_have_values}
 use Rattle.prem_top.proofs.One.{gives, sound, text_told}
 

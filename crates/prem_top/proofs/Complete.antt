@@ -4,7 +4,6 @@ use Rattle.std.specs.Prelude.{if◌then◌else◌, codes}
 use Rattle.std.proofs.lemmas.Bool.{le-leb}
 use Rattle.prem_io.specs.Files.{Files}
 use Rattle.prem_set.specs.declared.task.TaskEntry.{TaskEntry}
-use Rattle.prem_set.specs.SetFile.{SetData}
 use Rattle.prem_tasks.specs.Broken.{TaskText, TaskSet, broken, programs_of}
 use Rattle.prem_command.specs.Words.{Asked, RunAsked, command_of}
 use Rattle.prem_answer.specs.declared.status.Status.{Status}
@@ -14,7 +13,7 @@ use Rattle.prem_imagefile.specs.Parts.{Parts}
 use Rattle.prem_tasks.specs.Compiled.{compiled}
 use Rattle.prem_exec.specs.Forms.{RunText, image_in, run_in}
 use Rattle.prem_exec.specs.Exec.{exec_limit, exec_stages, image_limit, image_of_bytes, run_reply, run_of_bytes as image_run_of_bytes}
-use Rattle.prem_sources.specs.Sources.{names_of, reading_run, reading_set, reading_tasks, run_limit, run_of_bytes, set_in, set_limit, set_of_bytes, set_with, source_limit, task_of_source, task_with}
+use Rattle.prem_sources.specs.Sources.{reading_run, reading_set, reading_tasks, run_limit, run_of_bytes, set_in, set_limit, set_of_bytes, set_with, source_limit, task_of_source}
 use Rattle.prem_build.specs.declared.sheet.Sheet.{Sheet}
 use Rattle.prem_build.specs.declared.sheet.Sheet.TheVariants.{Bounds, Image, Listing}
 use Rattle.prem_build.specs.Build.{compiled_reply, judged_reply as sheet_judged, sheet_stages, sheet_text}

@@ -1,21 +1,19 @@
 -- A program alone that breaks no rule: its run finishes with the outputs of the program's meaning.
-use Rattle.std.proofs.Common.{◌≡◌, ◌≤◌, ◌<◌, ◌^◌, ℕ, zero, suc, true, List, [], ◌∷◌, ◌++◌, length, map, Option, None, Some, Ok, refl, ap, ◌∙◌, sym, subst, arith, lit≤, slice_get}
-use Rattle.std.specs.Prelude.{All, IsTrue, is_none, codes}
+use Rattle.std.proofs.Common.{◌≡◌, ◌≤◌, ◌<◌, ◌^◌, ℕ, zero, suc, true, List, [], ◌∷◌, ◌++◌, length, map, Option, None, Some, Ok, refl, ap, ◌∙◌, sym, subst, arith, slice_get}
+use Rattle.std.specs.Prelude.{All, IsTrue, is_none}
 use Rattle.prem_plant.specs.Ranges.{default_plant}
 use Rattle.prem_plant.specs.Places.{default_places}
 use Rattle.prem_image.specs.declared.image.TaskRecord.{TaskRecord}
 use Rattle.prem_image.specs.declared.image.DeviceRecord.{DeviceRecord}
 use Rattle.prem_lru.specs.Entries.{to_front}
-use Rattle.prem_sched.specs.declared.sched.TaskJobs.{TaskJobs}
 use Rattle.prem_sched.specs.Schedule.{starts_of}
 use Rattle.prem_cycle.specs.Cycle.{is_finished}
-use Rattle.prem_cycle.specs.FactsOf.{TaskReport, report_of}
+use Rattle.prem_cycle.specs.FactsOf.{report_of}
 use Rattle.prem_cycle.specs.Inputs.{IsTrace}
 use Rattle.prem_cycle.specs.Run.{memory_of}
-use Rattle.prem_cycle.specs.State.{MachineState, first_tasks, start_of, task_in}
+use Rattle.prem_cycle.specs.State.{first_tasks, start_of, task_in}
 use Rattle.prem_serve.specs.Requests.{PutWords}
 use Rattle.prem_sound.specs.Sound.{AreInputs}
-use Rattle.prem_syntax.specs.Syntax.{ProgramText}
 use Rattle.prem_text.specs.Texts.{reads as program_of}
 use Rattle.prem_read_words.proofs.ProgramWords.{reads_have_words}
 use Rattle.prem_meaning.specs.Expressions.{Outcome}
@@ -47,7 +45,7 @@ no_words zero d below = λ k word low. absurd (omega (arith, low))
 no_words (suc k) d below = absurd (omega (arith, below))
 
 no_requests : (devices : List DeviceRecord) → IsTrace devices []
-no_requests devices = record { count = lit≤ tt; each = λ k d below. absurd (omega (arith, below)); ordered = λ i j d le below. absurd (omega (arith, below)) }
+no_requests devices = record { each = λ k d below. absurd (omega (arith, below)); ordered = λ i j d le below. absurd (omega (arith, below)) }
 
 no_puts : PutWords []
 no_puts k d below = absurd (omega (arith, below))

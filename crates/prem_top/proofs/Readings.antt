@@ -1,5 +1,5 @@
 -- Answers that are Done or Refused come from behind all readings, of which each gives a file that is in its form.
-use Rattle.std.proofs.Common.{◌≡◌, ◌≤◌, ◌+◌, ℕ, suc, Bool, true, false, List, [], ◌∷◌, length, nat_le, Option, None, Some, Result, Ok, Err, refl, ap, ap₂, ◌∙◌, sym, subst, arith}
+use Rattle.std.proofs.Common.{◌≡◌, ◌+◌, ℕ, suc, Bool, true, false, List, [], ◌∷◌, length, nat_le, Option, None, Some, Result, Ok, Err, refl, ap, ap₂, ◌∙◌, sym, subst, arith}
 use Rattle.std.specs.Prelude.{if◌then◌else◌, codes}
 use Rattle.std.proofs.lemmas.Bool.{leb-true}
 use Rattle.prem_line.proofs.Chain.{same_Ok}

@@ -6,7 +6,7 @@ use Rattle.prem_answer.specs.declared.status.Status.TheVariants.{ReadFault, OutO
 use Rattle.prem_answer.specs.declared.answer.Answer.{Answer}
 use Rattle.prem_answer.specs.declared.answer.Halt.{Halt}
 use Rattle.prem_answer.specs.declared.answer.Halt.TheVariants.{Answered, ReadFault as HaltReadFault, OutOfMemory as HaltOutOfMemory}
-use Rattle.prem_answer.specs.Stages.{Reply, reply_of, Comes, Reads, Stage, IsGiven, IsFine, is_settled, replied}
+use Rattle.prem_answer.specs.Stages.{Reply, reply_of, Comes, Reads, IsGiven, IsFine, is_settled, replied}
 use Rattle.prem_answer.proofs.Reading.{some_reads}
 use Rattle.prem_exec.proofs.Stages.{exec_is_fine}
 use Rattle.prem_one.proofs.Stages.{one_is_fine}

@@ -1,5 +1,5 @@
 -- Products that fit 64 bits.
-use Rattle.std.proofs.Common.{◌≡◌, ℕ, ◌-◌, ◌*◌, ◌<◌, ◌≤◌, ◌^◌, arith}
+use Rattle.std.proofs.Common.{ℕ, ◌-◌, ◌*◌, ◌<◌, ◌≤◌, ◌^◌, arith}
 use Rattle.std.proofs.lemmas.Nat.{mul-le}
 
 pub release_small : (jobs period : ℕ) → jobs ≤ 65535 → period < 2 ^ 32 → (jobs - 1) * period ≤ 2 ^ 48

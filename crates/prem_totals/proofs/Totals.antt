@@ -1,13 +1,11 @@
 -- Totals over tasks, which are told up to a limit.
-use Rattle.std.proofs.Common.{◌≡◌, ℕ, zero, suc, ◌+◌, ◌*◌, ◌<◌, ◌≤◌, ◌^◌, min, Bool, List, [], ◌∷◌, refl, ap, sym, ◌∙◌, ⊎_elim, arith, length, map, drop, get_or, slice_index}
+use Rattle.std.proofs.Common.{◌≡◌, ℕ, zero, suc, ◌+◌, ◌*◌, ◌<◌, ◌≤◌, ◌^◌, min, List, ap, sym, ◌∙◌, ⊎_elim, arith, length, map, drop, get_or}
 use Rattle.std.specs.Prelude.{nat_lt}
 use Rattle.std.proofs.lemmas.Bool.{cases_lt, lt-ltb, le-ltb}
 use Rattle.std.proofs.lemmas.Nat.{mul-le}
 use Rattle.std.proofs.lemmas.List.{at_drop_more, at_drop_all}
 use Rattle.prem_meaning.specs.Resolved.{Resolved}
-use Rattle.prem_resolve.specs.ResolvedOf.{resolved_of}
-use Rattle.prem_layout.specs.Counts.{outputs_of, marked_calls_of, intervals_of}
-use Rattle.prem_layout.specs.Placed.{Coded}
+use Rattle.prem_layout.specs.Counts.{marked_calls_of, intervals_of}
 use Rattle.prem_layout.specs.Rules.{total_of}
 use Rattle.prem_counts.specs.Count.{clipped}
 use Rattle.prem_placed.specs.PlacedOf.{coded_of}

@@ -13,7 +13,7 @@ use Rattle.prem_cycle.specs.Core.{is_paid, want_of}
 use Rattle.prem_cycle.specs.Cycle.{Arrivals, arrivals_at, bus_at, core_at, joined, ends_before, at_point, close_interval, settle, with_now, next_cycle, ticked, cycle_of, is_finished, is_full, is_over, step_of}
 use Rattle.prem_cycle.specs.Run.{memory_of, cycles_of, run_of}
 use Rattle.prem_window.specs.Windows.{HaveCosts}
-use Rattle.prem_transfer.specs.Lengths.{IsOnItsWay, EndsIn, EndsInTime, TransfersTakeTheirCycles, TransfersAreOnTheirWay}
+use Rattle.prem_transfer.specs.Lengths.{IsOnItsWay, EndsInTime, TransfersTakeTheirCycles, TransfersAreOnTheirWay}
 use Rattle.prem_transfer.proofs.Bus.{costs_of, costs_in, GatesKeep, TurnKeeps, arrivals_keep, turn_keeps}
 
 -- ---- states

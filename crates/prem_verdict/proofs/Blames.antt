@@ -1,5 +1,5 @@
 -- Tasks that are blamed.
-use Rattle.std.proofs.Common.{◌≡◌, ℕ, ◌<◌, List, Option, None, Some, refl, ap, sym, ◌∙◌, arith, length, map, drop, get_or}
+use Rattle.std.proofs.Common.{◌≡◌, ℕ, ◌<◌, List, Option, Some, ap, ◌∙◌, arith, length, map, drop, get_or}
 use Rattle.prem_syntax.specs.Syntax.{Text}
 use Rattle.prem_layout.specs.Placed.{Placed, name_at}
 use Rattle.prem_layout.specs.Rules.{LateRule, Refusal, first_among}

@@ -1,5 +1,5 @@
 -- One more marked function of a task.
-use Rattle.std.proofs.Common.{◌≡◌, ℕ, ◌+◌, ◌<◌, ◌≤◌, ◌^◌, Bool, true, false, cond, List, [], ◌∷◌, ◌++◌, refl, ap, sym, ◌∙◌, subst, length, map, drop, get_or, filter, append_assoc}
+use Rattle.std.proofs.Common.{◌≡◌, ℕ, ◌+◌, ◌<◌, ◌≤◌, ◌^◌, Bool, true, false, cond, List, [], ◌∷◌, ◌++◌, refl, ap, sym, ◌∙◌, length, map, drop, get_or, filter, append_assoc}
 use Rattle.std.specs.Prelude.{not, Option, None, Some, IfSome, IsNone, is_none, option_to_list}
 use Rattle.std.proofs.lemmas.List.{append-nil}
 use Rattle.prem_plant.specs.declared.plant.Plant.{Plant}
@@ -8,12 +8,12 @@ use Rattle.prem_split.specs.PlanOf.{plan_of}
 use Rattle.prem_list.specs.Sequence.{items_of}
 use Rattle.prem_layout.specs.Footprint.{footprint_of}
 use Rattle.prem_layout.specs.Bounds.{bound_of}
-use Rattle.prem_layout.specs.Facts.{IntervalFact, interval_fact, interval_facts_from, interval_facts}
+use Rattle.prem_layout.specs.Facts.{IntervalFact, interval_fact, interval_facts_from}
 use Rattle.prem_bounds.specs.TableOf.{table_of}
 use Rattle.prem_facts.specs.FactOf.{fact_of, fact_with}
 use Rattle.prem_facts.specs.Laws.{is_large}
 use Rattle.prem_facts.specs.declared.facts.IntervalFact.{IntervalFact as FactFound}
-use Rattle.prem_placed.specs.PlacedOf.{placed_of, lines_of, plans_of}
+use Rattle.prem_placed.specs.PlacedOf.{placed_of, lines_of}
 use Rattle.prem_verdict.specs.Told.{is_small, with_task, numbered}
 use Rattle.prem_placed.specs.declared.task.PlacedTask.{PlacedTask}
 use Rattle.prem_verdict.proofs.Stages.{item_of_map}

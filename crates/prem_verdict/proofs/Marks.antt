@@ -1,8 +1,7 @@
 -- Marked functions and their plans.
-use Rattle.std.proofs.Common.{◌≡◌, ℕ, zero, suc, ◌+◌, ◌<◌, ◌≤◌, Bool, true, false, cond, List, [], ◌∷◌, Option, None, Some, refl, ap, sym, ◌∙◌, subst, arith, length, map, option_map, slice_index}
+use Rattle.std.proofs.Common.{◌≡◌, ℕ, suc, ◌+◌, ◌<◌, Bool, cond, List, [], ◌∷◌, Option, None, Some, refl, ap, ◌∙◌, subst, arith, length, map, option_map}
 use Rattle.std.specs.Prelude.{is_some}
 use Rattle.std.specs.List.{AllByRecursion}
-use Rattle.prem_plant.specs.declared.plant.Plant.{Plant}
 use Rattle.prem_syntax.specs.SyntaxOf.{mark_of}
 use Rattle.prem_syntax.specs.declared.tree.Mark.{Mark}
 use Rattle.prem_syntax.specs.Syntax.{MarkText}
@@ -10,7 +9,7 @@ use Rattle.prem_meaning.specs.Resolved.{Routine, Resolved}
 use Rattle.prem_meaning.specs.Statements.{is_marked}
 use Rattle.prem_resolve.specs.declared.resolved.Routine.{Routine as RoutineTree}
 use Rattle.prem_resolve.specs.ResolvedOf.{loops_of, routines_of as plain_routines}
-use Rattle.prem_layout.specs.Plans.{Plan, plan_of, plan_before, plans_from}
+use Rattle.prem_layout.specs.Plans.{Plan, plan_before, plans_from}
 use Rattle.prem_facts.specs.Large.{is_marked_tree}
 
 abbrev pub mark_count : List Bool → ℕ

@@ -1,7 +1,6 @@
 -- Names of functions of programs in memory.
 use Rattle.std.proofs.Common.{◌≡◌, ℕ, zero, suc, ◌+◌, ◌<◌, List, [], ◌∷◌, refl, ap, sym, ◌∙◌, subst, arith, length, map, get_or, slice_index, Result, Ok, Err}
 use Rattle.std.specs.Prelude.{IfOk}
-use Rattle.prem_list.specs.Sequence.{items_of}
 use Rattle.prem_syntax.specs.Name.{name_bytes}
 use Rattle.prem_syntax.specs.declared.name.Name.{Name}
 use Rattle.prem_resolve.specs.declared.resolved.Routine.{Routine}

@@ -1,35 +1,24 @@
 -- The rules on marked functions at one task.
-use Rattle.std.proofs.Common.{◌≡◌, ℕ, zero, suc, ◌+◌, ◌<◌, ◌≤◌, ◌^◌, Bool, true, false, cond, List, [], ◌∷◌, ◌++◌, Option, None, Some, Result, Ok, Err, refl, ap, sym, ◌∙◌, subst, arith, length, map, drop, get_or, option_map, filter, slice_index}
-use Rattle.std.specs.Prelude.{nat_lt}
+use Rattle.std.proofs.Common.{◌≡◌, ℕ, ◌+◌, ◌<◌, ◌≤◌, ◌^◌, true, false, List, [], ◌∷◌, Option, None, Some, ap, sym, ◌∙◌, subst, arith, length, map, drop, get_or, option_map}
 use Rattle.std.specs.List.{AllByRecursion}
 use Rattle.std.proofs.lemmas.List.{at_drop_more}
 use Rattle.std.proofs.lemmas.Bool.{lt-ltb, le-ltb}
 use Rattle.prem_list.specs.Sequence.{items_of}
 use Rattle.prem_plant.specs.declared.plant.Plant.{Plant}
-use Rattle.prem_meaning.specs.Resolved.{Routine}
-use Rattle.prem_meaning.specs.Statements.{is_marked}
 use Rattle.prem_split.specs.declared.plan.IntervalPlan.{IntervalPlan}
 use Rattle.prem_split.specs.PlanOf.{plan_of}
 use Rattle.prem_layout.specs.Plans as layout
 use Rattle.prem_layout.specs.Footprint.{Conflict, conflict_of, footprint_of}
-use Rattle.prem_layout.specs.Bounds.{job_bound_of}
-use Rattle.prem_layout.specs.Facts.{IntervalFact, interval_fact, interval_facts_from, interval_facts}
+use Rattle.prem_layout.specs.Facts.{IntervalFact, interval_fact, interval_facts_from}
 use Rattle.prem_layout.specs.Placed.{Placed, name_at}
-use Rattle.prem_layout.specs.Rules.{LateRule, ConflictIn, BoundTooLarge, Length, or_else, greatest_bound, group_seven, group_eight, group_nine}
-use Rattle.prem_bounds.specs.TableOf.{listed, table_of}
+use Rattle.prem_layout.specs.Rules.{ConflictIn, or_else, group_seven}
 use Rattle.prem_facts.specs.Clashes.{Clash, clash_in, clash_of, first_clash}
-use Rattle.prem_facts.specs.FactOf.{fact_of, fact_with, first_short}
-use Rattle.prem_facts.specs.Large.{is_marked_tree, first_large}
 use Rattle.prem_facts.specs.Laws.{is_large}
 use Rattle.prem_facts.specs.declared.lines.Clash.{Clash as ClashFound}
-use Rattle.prem_facts.specs.declared.facts.IntervalFact.{IntervalFact as FactFound}
-use Rattle.prem_facts.proofs.FirstLaws.{clash_is_first, short_is_first}
-use Rattle.prem_facts.proofs.LargeLaw.{large_is_first}
+use Rattle.prem_facts.proofs.FirstLaws.{clash_is_first}
 use Rattle.prem_placed.specs.PlacedOf.{coded_of, plans_of, placed_of, routines_of, IsPlacedTask, lines_of}
-use Rattle.prem_verdict.specs.Told.{is_small, large_in, with_task, numbered, bounds_of, told_of, told_from}
 use Rattle.prem_placed.specs.declared.task.PlacedTask.{PlacedTask}
-use Rattle.prem_verdict.specs.declared.told.TaskBounds.{TaskBounds}
-use Rattle.prem_verdict.proofs.Marks.{mark_count, plans_counted, plans_below, marks_are}
+use Rattle.prem_verdict.proofs.Marks.{plans_below}
 use Rattle.prem_verdict.proofs.Names.{plain_long}
 use Rattle.prem_verdict.proofs.Stages.{mapped_long}
 

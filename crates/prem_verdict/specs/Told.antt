@@ -1,5 +1,5 @@
 -- What is told of placed tasks, and of the rules that they break.
-use Rattle.std.specs.Prelude.{◌≡◌, ℕ, zero, suc, ◌+◌, ◌<◌, nat_lt, not, Bool, ⊤, List, [], ◌∷◌, length, map, option_map, Option, None, Some, Result, MatchResult}
+use Rattle.std.specs.Prelude.{◌≡◌, ℕ, zero, suc, ◌+◌, ◌<◌, nat_lt, not, Bool, List, [], ◌∷◌, length, map, option_map, Option, None, Some, Result, MatchResult}
 use Rattle.prem_plant.specs.declared.plant.Plant.{Plant}
 use Rattle.prem_syntax.specs.Syntax.{Text}
 use Rattle.prem_meaning.specs.Resolved.{Routine}

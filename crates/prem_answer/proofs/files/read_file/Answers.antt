@@ -1,4 +1,4 @@
-use Rattle.std.proofs.Common.{◌≡◌, ◌≤◌, refl, length, subst}
+use Rattle.std.proofs.Common.{◌≤◌, refl, subst}
 use Rattle.prem_answer.proofs.Reading.{read_ok, read_long}
 use Rattle.prem_answer.proofs.files.read_file.Goals as goal
 

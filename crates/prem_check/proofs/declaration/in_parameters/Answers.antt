@@ -1,11 +1,10 @@
 use Rattle.std.proofs.Common.{◌≡◌, ◌+◌, ◌∷◌, [], ◌++◌, map, drop, ap, sym, ◌∙◌, not, arith, take}
-use Rattle.std.proofs.lemmas.Grind.{common_steps}
 use Rattle.std.proofs.lemmas.List.{drop_more}
 use Rattle.prem_syntax.specs.declared.rules.TypeRule.TheVariants.{Range}
 use Rattle.prem_syntax.specs.Name.{name_bytes}
 use Rattle.prem_syntax.specs.Syntax.{Parameter}
 use Rattle.prem_syntax.specs.SyntaxOf.{parameter_of}
-use Rattle.prem_meaning.specs.Resolve.{Scope, parameter_names}
+use Rattle.prem_meaning.specs.Resolve.{parameter_names}
 use Rattle.prem_names.specs.Scopes.{scope_of, with_locals}
 use Rattle.prem_meaning.specs.Rules.{OfTypes, first, first_of}
 use Rattle.prem_meaning.specs.Breaches.{if_at, is_range, in_declared, in_parameters}

@@ -1,6 +1,5 @@
 use Rattle.std.proofs.Common.{◌≡◌, [], ◌++◌, map, ap, ◌∙◌, append-nil}
 use Rattle.std.specs.Option.{option_map}
-use Rattle.prem_syntax.specs.Name.{name_bytes}
 use Rattle.prem_syntax.specs.SyntaxOf.{function_of, parameter_of, local_of, statements_of, expression_of}
 use Rattle.prem_names.specs.Scopes.{scope_of, with_locals}
 use Rattle.prem_meaning.specs.Resolve.{Scope, scope_at, scope_in, parameter_names, local_names}

@@ -1,4 +1,4 @@
-use Rattle.std.proofs.Common.{ap, ◌∙◌, length}
+use Rattle.std.proofs.Common.{◌∙◌, length}
 use Rattle.prem_content.proofs.Lengths.{block_within}
 use Rattle.prem_content.proofs.content.put_blocks.Goals as goal
 

@@ -1,5 +1,4 @@
-use Rattle.std.proofs.Common.{◌≡◌, ℕ, ap, sym, ◌∙◌, drop, slice_index}
-use Rattle.prem_resolve.specs.ResolvedOf.{loops_of, list_loops}
+use Rattle.std.proofs.Common.{ap, ◌∙◌, drop, slice_index}
 use Rattle.prem_counts.specs.Count.{clipped}
 use Rattle.prem_counts.proofs.StepCounts.{block_most, block_loops}
 use Rattle.prem_counts.proofs.count.+counting.Goals as goal

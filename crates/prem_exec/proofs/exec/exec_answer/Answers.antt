@@ -1,5 +1,5 @@
-use Rattle.std.specs.Prelude.{ℕ, List, Option, Ok, Err}
-use Rattle.std.proofs.Common.{◌≡◌, ap, ◌∙◌, sym, subst}
+use Rattle.std.specs.Prelude.{Option, Ok, Err}
+use Rattle.std.proofs.Common.{ap, ◌∙◌, subst}
 use Rattle.prem_io.specs.Files.{Files}
 use Rattle.prem_image.specs.declared.image.Image.{Image}
 use Rattle.prem_gate.specs.declared.request.RunInput.{RunInput}

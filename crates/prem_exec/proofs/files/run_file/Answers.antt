@@ -4,7 +4,7 @@ use Rattle.prem_io.specs.Files.{Files}
 use Rattle.prem_gate.specs.declared.request.RunInput.{RunInput}
 use Rattle.prem_answer.specs.Stages.{IsRead, IsReadAs}
 use Rattle.prem_exec.specs.Forms.{RunText}
-use Rattle.std.proofs.Common.{◌≡◌, ap, ◌∙◌, sym, subst}
+use Rattle.std.proofs.Common.{ap, ◌∙◌, sym, subst}
 use Rattle.prem_imagefile.specs.Parts.{parts_of}
 use Rattle.prem_run.specs.Run.{run_of}
 use Rattle.prem_run.specs.Views.{IsRun}

@@ -1,5 +1,4 @@
-use Rattle.std.proofs.Common.{◌≡◌, ap, ◌∙◌, sym}
-use Rattle.prem_list.specs.Sequence.{items_of}
+use Rattle.std.proofs.Common.{ap, ◌∙◌}
 use Rattle.prem_imagefile.specs.Parts.{parts_of}
 use Rattle.prem_cycle.specs.State.{MachineState}
 use Rattle.prem_cycle.specs.FactsOf.{report_of, report_in}

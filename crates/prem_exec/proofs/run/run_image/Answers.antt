@@ -4,7 +4,7 @@ use Rattle.prem_lru.specs.Entries.{to_front}
 use Rattle.prem_cycle.specs.State.{MachineState}
 use Rattle.prem_cycle.specs.Inputs.{setup_of, image_run}
 use Rattle.prem_cycle.specs.Run.{cycles_of}
-use Rattle.prem_machine.specs.States.{state_of, setup_in, requests_in}
+use Rattle.prem_machine.specs.States.{state_of, requests_in}
 use Rattle.prem_exec.specs.Exec.{stop_at}
 use Rattle.prem_exec.proofs.Stages.{starts_at, goes_from_start, stop_is}
 use Rattle.prem_exec.proofs.run.run_image.Goals as goal

@@ -1,4 +1,4 @@
-use Rattle.std.proofs.Common.{◌∙◌, arith, length, get_or}
+use Rattle.std.proofs.Common.{◌∙◌, arith}
 use Rattle.prem_facts.proofs.Clashes.{clash_step}
 use Rattle.prem_facts.proofs.lines.first_clash.Goals as goal
 

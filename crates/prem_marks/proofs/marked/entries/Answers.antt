@@ -1,9 +1,8 @@
-use Rattle.std.proofs.Common.{◌++◌, map, drop, ap, sym, ◌∙◌, arith, List}
+use Rattle.std.proofs.Common.{◌++◌, map, ap, sym, ◌∙◌, arith, List}
 use Rattle.std.proofs.lemmas.List.{append-nil}
 use Rattle.std.specs.Option.{option_map}
 use Rattle.prem_syntax.specs.SyntaxOf.{global_of, mark_of}
 use Rattle.prem_resolve.specs.declared.resolved.Routine.{Routine}
-use Rattle.prem_resolve.specs.ResolvedOf.{routines_of}
 use Rattle.prem_meaning.specs.Source.{unlimited}
 use Rattle.prem_marks.specs.Entries.{Entry, entry_of, entry_if}
 use Rattle.prem_marks.proofs.Watched.{one_more, none_left_over}

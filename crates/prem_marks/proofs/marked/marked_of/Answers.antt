@@ -1,4 +1,4 @@
-use Rattle.std.proofs.Common.{◌≡◌, map, ap, ◌∙◌, List, ℕ, Vec}
+use Rattle.std.proofs.Common.{◌≡◌, map, ap, ◌∙◌, List}
 use Rattle.prem_list.specs.Sequence.{items_of}
 use Rattle.prem_resolve.specs.declared.resolved.Routine.{Routine}
 use Rattle.prem_marks.specs.Called.{called}

@@ -1,6 +1,6 @@
 use Rattle.std.specs.Prelude.{ℕ, List, Option, Vec}
 use Rattle.std.specs.declared.alloc.Global.{Global}
-use Rattle.std.proofs.Common.{rules, ◌≡◌, ◌≢◌, ap, ◌∙◌, sym, subst, Ok}
+use Rattle.std.proofs.Common.{rules, ◌≡◌, ◌≢◌, subst, Ok}
 use Rattle.prem_io.specs.Files.{Files}
 use Rattle.prem_set.specs.SetFile.{SetData, set_of}
 use Rattle.prem_set.specs.Views.{set_view, SetFails}

@@ -1,5 +1,5 @@
-use Rattle.std.specs.Prelude.{List, Option, Result, Ok, Err}
-use Rattle.std.proofs.Common.{◌≡◌, [], ◌∷◌, map, refl, sym, subst}
+use Rattle.std.specs.Prelude.{List, Option, Ok, Err}
+use Rattle.std.proofs.Common.{map}
 use Rattle.prem_io.specs.Files.{Files}
 use Rattle.prem_list.specs.declared.Sequence.{Sequence}
 use Rattle.prem_list.specs.Sequence.{items_of}
@@ -10,7 +10,7 @@ use Rattle.prem_tasks.specs.declared.set.TaskText.{TaskText as TaskTree}
 use Rattle.prem_tasks.specs.declared.set.TaskSet.{TaskSet as SetTree}
 use Rattle.prem_tasks.specs.Broken.{TaskText, TaskSet}
 use Rattle.prem_tasks.specs.SetOf.{set_of, task_of}
-use Rattle.prem_answer.specs.Stages.{Comes, IsReadAs}
+use Rattle.prem_answer.specs.Stages.{IsReadAs}
 use Rattle.prem_answer.proofs.Reading.{halt_passes}
 use Rattle.prem_sources.specs.Sources.{Passes, reading_behind, reading_set, set_limit, set_of_bytes}
 use Rattle.prem_sources.proofs.Lawful.{heads_are, set_is_lawful}

@@ -1,13 +1,11 @@
-use Rattle.std.specs.Prelude.{List, Option, Result, Err}
-use Rattle.std.proofs.Common.{◌≡◌, ◌∷◌, map, sym, subst}
+use Rattle.std.specs.Prelude.{List, Option, Err}
+use Rattle.std.proofs.Common.{◌∷◌, map, sym, subst}
 use Rattle.prem_io.specs.Files.{Files}
 use Rattle.prem_list.specs.declared.Sequence.{Sequence}
 use Rattle.prem_list.specs.Sequence.{items_of}
-use Rattle.prem_set.specs.declared.task.TaskEntry.{TaskEntry}
 use Rattle.prem_tasks.specs.declared.set.TaskText.{TaskText as TaskTree}
 use Rattle.prem_tasks.specs.Broken.{TaskText}
 use Rattle.prem_tasks.specs.SetOf.{task_of}
-use Rattle.prem_answer.specs.declared.answer.Halt.{Halt}
 use Rattle.prem_answer.specs.Stages.{Comes, IsReadAs}
 use Rattle.prem_answer.proofs.Reading.{halt_passes}
 use Rattle.prem_sources.specs.Sources.{Passes, reading_behind, source_limit, task_of_source}

@@ -1,7 +1,6 @@
-use Rattle.std.proofs.Common.{List, sym, subst, ◌∙◌, ap}
+use Rattle.std.proofs.Common.{List, sym, subst}
 use Rattle.prem_syntax.specs.declared.tree.Stmt.{Stmt}
 use Rattle.prem_syntax.specs.SyntaxOf.{statement_of, statements_of}
-use Rattle.prem_syntax.specs.Syntax.{Statement, Statements}
 use Rattle.prem_syntax.proofs.Rows.{statement_of-Block}
 use Rattle.prem_syntax.specs.Literals.{StatementHasWords, StatementsHaveWords}
 use Rattle.prem_syntax.proofs.words.+stating.Goals as goal

@@ -1,5 +1,5 @@
-use Rattle.std.specs.Prelude.{Option, None}
-use Rattle.std.proofs.Common.{◌≡◌, sym, subst}
+use Rattle.std.specs.Prelude.{Option}
+use Rattle.std.proofs.Common.{sym, subst}
 use Rattle.prem_io.specs.Files.{Files}
 use Rattle.prem_command.specs.Words.{Asked}
 use Rattle.prem_answer.specs.Stages.{Comes, IsGiven, reply_of}

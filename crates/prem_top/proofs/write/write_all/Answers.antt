@@ -1,4 +1,4 @@
-use Rattle.std.proofs.Common.{◌≡◌, ◌≤◌, ◌+◌, length, length-drop, take, drop, sym, arith}
+use Rattle.std.proofs.Common.{◌≡◌, length-drop, take, drop, arith}
 use Rattle.std.specs.Io.KnownBytes.{append_known}
 use Rattle.std.proofs.lemmas.List.{take_rest}
 use Rattle.prem_top.proofs.Written.{written_on}

@@ -1,9 +1,9 @@
-use Rattle.std.proofs.Common.{◌≡◌, ap, sym, ◌∙◌, arith, map, Some}
+use Rattle.std.proofs.Common.{◌≡◌, sym, ◌∙◌, arith, map, Some}
 use Rattle.prem_layout.specs.Rules.{over_tasks, group_eight}
-use Rattle.prem_placed.specs.PlacedOf.{placed_of, lines_of, IsPlacedTask}
+use Rattle.prem_placed.specs.PlacedOf.{placed_of, lines_of}
 use Rattle.prem_verdict.specs.Told.{large_in, told_from}
 use Rattle.prem_verdict.specs.declared.verdict.Verdict.TheVariants.{BoundTooLarge}
-use Rattle.prem_verdict.proofs.Stages.{passes_at, all_at, longs_same, both_at}
+use Rattle.prem_verdict.proofs.Stages.{passes_at, longs_same, both_at}
 use Rattle.prem_verdict.proofs.Blames.{has_function, blame_is}
 use Rattle.prem_verdict.proofs.BoundTurns.{large_by, told_by, eight_breaks, eight_keeps, large_within, told_turn}
 use Rattle.prem_verdict.proofs.bounds.bounds_of_all.Goals as goal

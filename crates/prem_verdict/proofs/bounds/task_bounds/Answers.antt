@@ -1,11 +1,11 @@
-use Rattle.std.proofs.Common.{◌≡◌, ap, sym, ◌∙◌, map, None, false}
+use Rattle.std.proofs.Common.{◌≡◌, ap, sym, ◌∙◌, map, None}
 use Rattle.std.specs.Prelude.{nat_lt}
 use Rattle.prem_split.specs.PlanOf.{plan_of}
 use Rattle.prem_layout.specs.Bounds.{job_bound_of}
 use Rattle.prem_layout.specs.Rules.{greatest_bound}
 use Rattle.prem_bounds.specs.TableOf.{table_of}
 use Rattle.prem_facts.specs.Large.{is_marked_tree, first_large}
-use Rattle.prem_placed.specs.PlacedOf.{placed_of, plans_of}
+use Rattle.prem_placed.specs.PlacedOf.{placed_of}
 use Rattle.prem_verdict.specs.Told.{large_in}
 use Rattle.prem_verdict.proofs.BoundTurns.{large_found, err_is, never_err, ok_bound, job_is_small, bounds_are}
 use Rattle.prem_verdict.proofs.bounds.task_bounds.Goals as goal

@@ -1,4 +1,4 @@
-use Rattle.std.proofs.Common.{◌≡◌, ◌<◌, ap, sym, ◌∙◌, arith, length, map}
+use Rattle.std.proofs.Common.{◌≡◌, ap, sym, ◌∙◌, arith, length, map}
 use Rattle.prem_list.specs.Sequence.{items_of}
 use Rattle.prem_layout.specs.Rules.{over_tasks, group_seven}
 use Rattle.prem_facts.specs.Clashes.{clash_of}

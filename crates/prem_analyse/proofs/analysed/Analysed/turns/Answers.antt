@@ -1,4 +1,4 @@
-use Rattle.std.proofs.Common.{◌≡◌, ◌<◌, ◌^◌, List, ℕ, ap, sym, ◌∙◌, arith, subst, Some, None}
+use Rattle.std.proofs.Common.{◌≡◌, ◌<◌, ◌^◌, List, ℕ, ap, sym, ◌∙◌, arith, subst, Some}
 use Rattle.std.specs.Prelude.{slice_get}
 use Rattle.prem_ranges.specs.GroupThree.{turn_bounds}
 use Rattle.prem_ranges.proofs.AnalysisSound.{turns_are_words}
