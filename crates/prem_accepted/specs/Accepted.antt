@@ -9,6 +9,7 @@ use Rattle.prem_plant.specs.Places.{Extent, AreLawful}
 use Rattle.prem_lru.specs.Entries.{ReplacementRule}
 use Rattle.prem_lru.specs.Order.{OrderRule}
 use Rattle.prem_cycle.specs.Alone.{run_in}
+use Rattle.prem_cycle.specs.Inputs.{image_setup}
 use Rattle.prem_cycle.specs.State.{Setup}
 use Rattle.prem_script.specs.Scripts.{Promise}
 use Rattle.prem_resident.specs.Faultless.{IsPolicy}
@@ -103,7 +104,7 @@ DefaultPlacesAreLawful =
 
 -- what the machine runs of a set's compiled image
 abbrev pub setup_in : TaskSet → Setup
-setup_in set = record { plant = (compiled set).image.plant; tasks = (compiled set).image.tasks; devices = (compiled set).image.devices }
+setup_in set = image_setup (compiled set).image
 
 abbrev pub AcceptedSetsJoin : Type 0
 AcceptedSetsJoin =

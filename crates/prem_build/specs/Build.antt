@@ -1,11 +1,9 @@
 -- The answers to `check SET`, `build SET` and `list SET`: what is told of a compiled set.
 use Rattle.std.specs.Prelude.{List, ℕ, Option, None, Some, Ok}
-use Rattle.prem_layout.specs.Image.{ImageText}
 use Rattle.prem_layout.specs.Rules.{Refusal}
 use Rattle.prem_tasks.specs.Told.{Told}
 use Rattle.prem_tasks.specs.Broken.{TaskSet, broken}
 use Rattle.prem_tasks.specs.Compiled.{CompiledText, compiled}
-use Rattle.prem_imagefile.specs.Parts.{Parts}
 use Rattle.prem_imagefile.specs.Spelling.{image_bytes}
 use Rattle.prem_answer.specs.declared.status.Status.TheVariants.{Done}
 use Rattle.prem_answer.specs.Stages.{Reply, Stage}
@@ -16,13 +14,9 @@ use Rattle.prem_sheet.specs.Listing.{list_text}
 use Rattle.prem_build.specs.declared.sheet.Sheet.{Sheet}
 use Rattle.prem_build.specs.declared.sheet.Sheet.TheVariants.{Bounds, Image, Listing}
 
--- an image as it is written to a file
-abbrev pub file_parts : ImageText → Parts
-file_parts i = record { plant = i.plant; tasks = i.tasks; devices = i.devices; content = i.content }
-
 abbrev pub sheet_text : Sheet → CompiledText → List ℕ
 sheet_text Bounds c = check_text c
-sheet_text Image c = image_bytes (file_parts c.image)
+sheet_text Image c = image_bytes c.image
 sheet_text Listing c = list_text c
 
 -- to a set whose first broken rule is this, if it breaks one

@@ -17,7 +17,8 @@ use Rattle.prem_resolve.specs.declared.resolved.Routine.{Routine}
 use Rattle.prem_resolve.specs.ResolvedOf.{loops_of, routines_of as plain_routines}
 use Rattle.prem_layout.specs.Plans as plans
 use Rattle.prem_layout.specs.Parts.{passes_of, part_count, parts_from, area_parts}
-use Rattle.prem_layout.specs.Image.{ImageText, greatest_end, task_record, device_records, with_tasks, image_of}
+use Rattle.prem_image.specs.Text.{ImageText}
+use Rattle.prem_layout.specs.Image.{greatest_end, task_record, device_records, with_tasks, image_of}
 use Rattle.prem_layout.specs.Placed.{sized_of, Placed, Block, task_places, placed_at, placed_from, part_total, blocks_of}
 use Rattle.prem_content.specs.declared.content.Block.{Block as BlockFound}
 use Rattle.prem_content.specs.Blocks.{Words, block_of, EndsBy}

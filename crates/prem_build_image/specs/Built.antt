@@ -7,16 +7,11 @@ use Rattle.prem_plant.specs.declared.plant.Device.{Device}
 use Rattle.prem_plant.specs.Label.{IsName, AreDistinct}
 use Rattle.prem_plant.specs.Places.{Extent, ArePlaces}
 use Rattle.prem_plant.specs.Ranges.{Between, IsPlant, IsDevice}
-use Rattle.prem_image.specs.declared.image.Image.{Image}
-use Rattle.prem_layout.specs.Image.{ImageText}
 use Rattle.prem_layout.specs.Placed.{parts_of, placed_from}
 use Rattle.prem_content.specs.declared.content.Block.{Block}
 use Rattle.prem_placed.specs.PlacedOf.{coded_of, placed_of, routines_of}
 use Rattle.prem_placed.specs.declared.task.PlacedTask.{PlacedTask}
 use Rattle.prem_imaging.specs.Standing.{HasBlocks}
-
-abbrev pub image_text : Image → ImageText
-image_text i = record { plant = i.plant; tasks = items_of i.tasks; devices = items_of i.devices; content = items_of i.content }
 
 -- how many parts a task in memory has
 abbrev pub count_of : PlacedTask → ℕ

@@ -2,9 +2,11 @@
 ghost use Rattle.std.specs.Prelude.{◌≡◌, ◌+◌, ◌≤◌, length, map, take, drop, IfOk};
 ghost use Rattle.prem_list.specs.Sequence.{items_of};
 ghost use Rattle.prem_image.specs.Records.{IsImage};
-ghost use Rattle.prem_layout.specs.Image.{ImageText, greatest_end, task_record, device_records, image_of};
+ghost use Rattle.prem_image.specs.Text.{ImageText};
+ghost use Rattle.prem_layout.specs.Image.{greatest_end, task_record, device_records, image_of};
 ghost use Rattle.prem_placed.specs.PlacedOf.{coded_of, placed_of};
-ghost use Rattle.prem_build_image.specs.Built.{image_text, count_of, total_of, IsBuilt};
+ghost use Rattle.prem_image.specs.Text.{image_text};
+ghost use Rattle.prem_build_image.specs.Built.{count_of, total_of, IsBuilt};
 
 use prem_content::Block;
 use prem_image::{DeviceRecord, Image, TaskRecord};

@@ -23,7 +23,8 @@ use Rattle.prem_placed.specs.declared.task.PlacedTask.{PlacedTask}
 use Rattle.prem_placing.specs.Standing.{stands_in}
 use Rattle.prem_words.specs.Far.{words_in}
 use Rattle.prem_build_image.specs.Built as built
-use Rattle.prem_build_image.specs.Built.{image_text, HasRanges, HaveBlocks, IsBuilt}
+use Rattle.prem_image.specs.Text.{image_text}
+use Rattle.prem_build_image.specs.Built.{HasRanges, HaveBlocks, IsBuilt}
 use Rattle.prem_tasks.specs.Broken.{TaskText, TaskSet, bounded, coded_one, programs_of}
 use Rattle.prem_tasks.specs.Broken as tasks
 use Rattle.prem_tasks.specs.Lawful as lawful

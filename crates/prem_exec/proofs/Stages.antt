@@ -15,7 +15,7 @@ use Rattle.prem_imagefile.specs.declared.fail.ImageFail.TheVariants.{Magic, Vers
 use Rattle.prem_run.specs.declared.fail.Which.{Which}
 use Rattle.prem_run.specs.Views.{IsRun}
 use Rattle.prem_io.specs.Files.{Files}
-use Rattle.prem_imagefile.specs.Parts.{Parts, parts_of}
+use Rattle.prem_image.specs.Text.{ImageText, image_text}
 use Rattle.prem_command.specs.Words.{RunAsked}
 use Rattle.prem_answer.specs.Stages.{Reply, Reads, Stage, IsReadAs, IsGiven, IsFine, is_settled, form_reply, reading}
 use Rattle.prem_answer.proofs.Reading.{goes_on, ends_there, gives_at_once, reading_fine}
@@ -31,13 +31,13 @@ use Rattle.prem_exec.specs.Exec.{exec_stages, image_limit, run_limit, image_of_b
 abbrev reply : Status → List ℕ → Reply
 reply status text = (status, text)
 
-abbrev told_run : RunAsked → Parts → RunText → Stage Reply
+abbrev told_run : RunAsked → ImageText → RunText → Stage Reply
 told_run asked i input reads = Ok (run_reply i input asked.intervals (exec_limit asked.cycles))
 
-abbrev behind_image : RunAsked → Parts → Stage Reply
+abbrev behind_image : RunAsked → ImageText → Stage Reply
 behind_image asked i = reading run_limit asked.run (run_of_bytes i asked.run) (told_run asked i)
 
-pub run_told : (told : Option Files) (asked : RunAsked) (i : Parts) (input : RunText) (reply : Reply) →
+pub run_told : (told : Option Files) (asked : RunAsked) (i : ImageText) (input : RunText) (reply : Reply) →
     IsReadAs told image_limit asked.of (image_of_bytes asked.of) (Ok i) → IsReadAs told run_limit asked.run (run_of_bytes i asked.run) (Ok input) →
     reply ≡ run_reply i input asked.intervals (exec_limit asked.cycles) → IsGiven told (exec_stages asked) (Ok reply)
 run_told told asked i input reply image run is =
@@ -46,7 +46,7 @@ run_told told asked i input reply image run is =
     goes_on told image_limit asked.of (image_of_bytes asked.of) (behind_image asked) i (Ok reply) image
     (goes_on told run_limit asked.run (run_of_bytes i asked.run) (told_run asked i) input (Ok reply) run last)
 
-pub no_run : (told : Option Files) (asked : RunAsked) (i : Parts) (reply : Reply) →
+pub no_run : (told : Option Files) (asked : RunAsked) (i : ImageText) (reply : Reply) →
     IsReadAs told image_limit asked.of (image_of_bytes asked.of) (Ok i) → IsReadAs told run_limit asked.run (run_of_bytes i asked.run) (Err reply) →
     IsGiven told (exec_stages asked) (Err reply)
 no_run told asked i reply image run =
@@ -59,7 +59,7 @@ no_image told asked reply image = ends_there told image_limit asked.of (image_of
 
 -- ---- answers that may be given
 
-images_fine : (name : List ℕ) (read : Result Parts ImageFail) → IsFine (λ x. Unit {0}) (image_in name read)
+images_fine : (name : List ℕ) (read : Result ImageText ImageFail) → IsFine (λ x. Unit {0}) (image_in name read)
 images_fine name (Ok image) = tt
 images_fine name (Err fail) = refl
 
@@ -85,11 +85,11 @@ exec_is_fine asked reads =
 
 -- ---- forms
 
-pub image_read : (name : List ℕ) (read : Result Parts ImageFail) (i : Parts) → read ≡ Ok i → image_in name read ≡ Ok i
+pub image_read : (name : List ℕ) (read : Result ImageText ImageFail) (i : ImageText) → read ≡ Ok i → image_in name read ≡ Ok i
 image_read name read i is = ap (image_in name) is
 
 -- a refusal that isn't want of memory is the one that reading gives
-pub image_refused : (name : List ℕ) (read : Result Parts ImageFail) (fail : ImageFail) (reply : Reply) → fail ≢ NoMemory → Fails fail read →
+pub image_refused : (name : List ℕ) (read : Result ImageText ImageFail) (fail : ImageFail) (reply : Reply) → fail ≢ NoMemory → Fails fail read →
     reply ≡ form_reply name (image_why fail) → image_in name read ≡ Err reply
 image_refused name read Magic reply other is line = ap (image_in name) is ∙ ap Err (sym line)
 image_refused name read (Version found) reply other is line = ap (image_in name) is ∙ ap Err (sym line)
@@ -114,7 +114,7 @@ unfolding cycles_of
 starts_at image input = refl
 
 pub goes_from_start : (image : Image) (input : RunInput) (n : ℕ) →
-    cycles_of to_front (setup_of image) (items_of input.requests) n (image_run to_front image input 0) ≡ state_at (parts_of image) (input_of input) n
+    cycles_of to_front (setup_of image) (items_of input.requests) n (image_run to_front image input 0) ≡ state_at (image_text image) (input_of input) n
 unfolding cycles_of
 goes_from_start image input n = refl
 
@@ -122,7 +122,7 @@ pub stop_is : (stop : Stop) (limit : ℕ) (s : MachineState) → Some stop ≡ s
 stop_is stop limit s is = ap (λ o. unwrap_or o Limit) is
 
 -- what is told, from what the machine says of itself
-pub told_is : (i : Parts) (times : Bool) (limit : ℕ) (s : MachineState) (stop : Stop) (status : Status) (text : List ℕ) (now : ℕ) (r : Report) → stop ≡ stop_at limit s →
+pub told_is : (i : ImageText) (times : Bool) (limit : ℕ) (s : MachineState) (stop : Stop) (status : Status) (text : List ℕ) (now : ℕ) (r : Report) → stop ≡ stop_at limit s →
     status ≡ stop_status stop → now ≡ s.now → r ≡ report_of s → text ≡ report_text i.tasks i.devices times now r stop → reply status text ≡ told_reply i times limit s
 told_is i times limit s stop status text now r stops ends at told is =
     let texts : text ≡ report_text i.tasks i.devices times s.now (report_of s) (stop_at limit s) =

@@ -5,11 +5,11 @@ use Rattle.prem_lru.specs.Entries.{to_front}
 use Rattle.prem_gate.specs.declared.request.RunInput.{RunInput}
 use Rattle.prem_cycle.specs.declared.state.Stop.{Stop}
 use Rattle.prem_cycle.specs.declared.state.Stop.TheVariants.{Finished, Trap, LogFull, Limit}
-use Rattle.prem_cycle.specs.State.{Setup, MachineState}
+use Rattle.prem_cycle.specs.State.{MachineState}
 use Rattle.prem_cycle.specs.Run.{run_of}
 use Rattle.prem_cycle.specs.FactsOf.{report_of, stop_of}
-use Rattle.prem_cycle.specs.Inputs.{words_of}
-use Rattle.prem_imagefile.specs.Parts.{Parts}
+use Rattle.prem_cycle.specs.Inputs.{image_setup, words_of}
+use Rattle.prem_image.specs.Text.{ImageText}
 use Rattle.prem_imagefile.specs.Reading.{read_as}
 use Rattle.prem_run.specs.Run.{run_of as lines_of_run}
 use Rattle.prem_fitting.specs.Named.{names_for}
@@ -22,12 +22,9 @@ use Rattle.prem_exec.specs.Forms.{RunText, image_in, run_in}
 
 -- ---- the run
 
-abbrev pub setup_in : Parts → Setup
-setup_in i = record { plant = i.plant; tasks = i.tasks; devices = i.devices }
-
 -- the state after n cycles
-abbrev pub state_at : Parts → RunText → ℕ → MachineState
-state_at i input n = run_of to_front (setup_in i) i.content input.words input.requests n
+abbrev pub state_at : ImageText → RunText → ℕ → MachineState
+state_at i input n = run_of to_front (image_setup i) i.content input.words input.requests n
 
 -- why the run up to a cycle stops
 abbrev pub stop_at : ℕ → MachineState → Stop
@@ -40,12 +37,12 @@ stop_status (Trap task pc cause) = Trapped
 stop_status (LogFull length) = Done
 stop_status Limit = Done
 
-abbrev pub told_reply : Parts → (times : Bool) → (limit : ℕ) → MachineState → Reply
+abbrev pub told_reply : ImageText → (times : Bool) → (limit : ℕ) → MachineState → Reply
 told_reply i times limit s =
     (stop_status (stop_at limit s), report_text i.tasks i.devices times s.now (report_of s) (stop_at limit s))
 
 -- what is told of the run up to a cycle
-abbrev pub run_reply : Parts → RunText → (times : Bool) → (limit : ℕ) → Reply
+abbrev pub run_reply : ImageText → RunText → (times : Bool) → (limit : ℕ) → Reply
 run_reply i input times limit = told_reply i times limit (state_at i input limit)
 
 -- ---- the answer
@@ -62,11 +59,11 @@ abbrev pub exec_limit : Option ℕ → ℕ
 exec_limit cycles = min (unwrap_or cycles 10000000) (2 ^ 50)
 
 -- the image of a file's bytes
-abbrev pub image_of_bytes : List ℕ → List ℕ → Result Parts Reply
+abbrev pub image_of_bytes : List ℕ → List ℕ → Result ImageText Reply
 image_of_bytes name bytes = image_in name (read_as bytes)
 
 -- the run of a file's bytes, by the names of an image
-abbrev pub run_of_bytes : Parts → List ℕ → List ℕ → Result RunText Reply
+abbrev pub run_of_bytes : ImageText → List ℕ → List ℕ → Result RunText Reply
 run_of_bytes i name bytes = run_in name (lines_of_run bytes (names_for i.tasks i.devices))
 
 -- the image, then the run file, then the run

@@ -3,7 +3,7 @@ use Rattle.std.specs.Prelude.{ℕ, List, [], ◌++◌, Result, Ok, Err, codes, d
 use Rattle.prem_gate.specs.declared.request.Request.{Request}
 use Rattle.prem_imagefile.specs.declared.fail.ImageFail.{ImageFail}
 use Rattle.prem_imagefile.specs.declared.fail.ImageFail.TheVariants.{Magic, Version, Short, Long, Field, OutOfMemory}
-use Rattle.prem_imagefile.specs.Parts.{Parts}
+use Rattle.prem_image.specs.Text.{ImageText}
 use Rattle.prem_run.specs.declared.fail.Which.{Which}
 use Rattle.prem_run.specs.declared.fail.Which.TheVariants as which
 use Rattle.prem_run.specs.Run.{Gathered, LineRefusal}
@@ -33,7 +33,7 @@ abbrev pub line_why : LineRefusal → List ℕ
 line_why refusal = codes "line " ++ (decimal refusal.0 ++ (codes " " ++ which_word refusal.1))
 
 -- the image of a file
-abbrev pub image_in : List ℕ → Result Parts ImageFail → Result Parts Reply
+abbrev pub image_in : List ℕ → Result ImageText ImageFail → Result ImageText Reply
 image_in name (Ok image) = Ok image
 image_in name (Err fail) = Err (form_reply name (image_why fail))
 

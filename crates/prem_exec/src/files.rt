@@ -3,7 +3,7 @@ ghost use Rattle.std.specs.Prelude.{◌≡◌, ◌≢◌, ◌≤◌, IfOk, IsErr
 ghost use Rattle.prem_list.specs.Sequence.{items_of};
 ghost use Rattle.prem_io.specs.Counts.{Rose};
 ghost use Rattle.prem_cycle.specs.Inputs.{FitsRun, setup_of, words_of};
-ghost use Rattle.prem_imagefile.specs.Parts.{parts_of};
+ghost use Rattle.prem_image.specs.Text.{image_text};
 ghost use Rattle.prem_imagefile.specs.declared.fail.ImageFail.TheVariants.{OutOfMemory};
 ghost use Rattle.prem_answer.specs.Stages.{Comes, IsReadAs, form_reply, reply_of};
 ghost use Rattle.prem_exec.specs.Forms.{image_why, line_why, which_word};
@@ -50,7 +50,7 @@ fn image_form(alloc: Global, name: &str, fail: ImageFail) -> Result<Answer, Allo
 
 /// Reads an image file.
 pub(crate) fn image_file<S: Store>(alloc: Global, store: &mut S, name: &str) -> Result<Image, Halt>
-    ensures image { Comes parts_of (IsReadAs (S.files store.old) image_limit name.now (image_of_bytes name.now)) result }
+    ensures image { Comes image_text (IsReadAs (S.files store.old) image_limit name.now (image_of_bytes name.now)) result }
     ensures fault { IsErrOf result Halt.ReadFault → Rose (S.faults store.old) (S.faults store.new) }
     ensures later { S.faults store.old ≤ S.faults store.new }
     ensures same { S.files store.new ≡ S.files store.old }
@@ -98,7 +98,7 @@ pub(crate) fn run_file<S: Store>(
     name: &str,
     image: &Image,
 ) -> Result<RunInput, Halt>
-    ensures input { Comes input_of (IsReadAs (S.files store.old) run_limit name.now (run_of_bytes (parts_of image.now) name.now)) result }
+    ensures input { Comes input_of (IsReadAs (S.files store.old) run_limit name.now (run_of_bytes (image_text image.now) name.now)) result }
     ensures fits { IfOk result (λ input. FitsRun (setup_of image.now) (words_of input) (items_of input.requests)) }
     ensures fault { IsErrOf result Halt.ReadFault → Rose (S.faults store.old) (S.faults store.new) }
     ensures later { S.faults store.old ≤ S.faults store.new }

@@ -2,7 +2,7 @@
 ghost use Rattle.std.specs.Prelude.{◌≡◌, ◌≤◌, ◌^◌, IfOk};
 ghost use Rattle.prem_list.specs.Sequence.{items_of};
 ghost use Rattle.prem_cycle.specs.Inputs.{FitsRun, setup_of, words_of};
-ghost use Rattle.prem_imagefile.specs.Parts.{parts_of};
+ghost use Rattle.prem_image.specs.Text.{image_text};
 ghost use Rattle.prem_answer.specs.Stages.{reply_of};
 ghost use Rattle.prem_exec.specs.Exec.{input_of, run_reply, state_at, stop_at, stop_status};
 ghost use Rattle.prem_machine.specs.States.{state_of};
@@ -34,8 +34,8 @@ pub fn run_image(
 ) -> Result<(Machine, Stop), AllocError>
     requires fits { FitsRun (setup_of image.now) (words_of input.now) (items_of input.now.requests) }
     requires limit { limit ≤ 2 ^ 61 }
-    ensures state { IfOk result (λ r. state_of r.0 ≡ state_at (parts_of image.now) (input_of input.now) limit) }
-    ensures stop { IfOk result (λ r. r.1 ≡ stop_at limit (state_at (parts_of image.now) (input_of input.now) limit)) }
+    ensures state { IfOk result (λ r. state_of r.0 ≡ state_at (image_text image.now) (input_of input.now) limit) }
+    ensures stop { IfOk result (λ r. r.1 ≡ stop_at limit (state_at (image_text image.now) (input_of input.now) limit)) }
 {
     let mut machine = Machine::new(alloc, image, input)?;
     let stop = machine.run_to(limit);
@@ -52,7 +52,7 @@ pub fn run_answer(
 ) -> Result<Answer, AllocError>
     requires fits { FitsRun (setup_of image.now) (words_of input.now) (items_of input.now.requests) }
     requires limit { limit ≤ 2 ^ 61 }
-    ensures { IfOk result (λ a. reply_of a ≡ run_reply (parts_of image.now) (input_of input.now) times limit) }
+    ensures { IfOk result (λ a. reply_of a ≡ run_reply (image_text image.now) (input_of input.now) times limit) }
 {
     let (machine, stop) = run_image(alloc, image, input, limit)?;
     let text = report(

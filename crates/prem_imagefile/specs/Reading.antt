@@ -13,7 +13,7 @@ use Rattle.prem_image.specs.declared.image.DeviceRecord.{DeviceRecord}
 use Rattle.prem_image.specs.Records.{area_of}
 use Rattle.prem_imagefile.specs.declared.fail.ImageFail.{ImageFail}
 use Rattle.prem_imagefile.specs.declared.fail.ImageFail.TheVariants.{Magic, Version, Short, Long, Field, OutOfMemory}
-use Rattle.prem_imagefile.specs.Parts.{Parts}
+use Rattle.prem_image.specs.Text.{ImageText}
 use Rattle.prem_imagefile.specs.Spelling.{magic}
 
 -- ---- reading that may be refused
@@ -198,7 +198,7 @@ devices_at line memory n u = many_at (device_at line memory) n [] u
 abbrev pub ended : {A : Type 0} → Unread → A → Result A ImageFail
 ended u x = if length u.bytes == 0 then Ok x else Err (Long u.at)
 
-unfoldable pub image_at : Unread → Result Parts ImageFail
+unfoldable pub image_at : Unread → Result ImageText ImageFail
 image_at u = do
   head ← head_at u
   plant ← plant_at head.1
@@ -209,5 +209,5 @@ image_at u = do
   ended content.1 (record { plant = plant.0; tasks = tasks.0; devices = devices.0; content = content.0 })
 
 -- all of the bytes
-abbrev pub read_as : List ℕ → Result Parts ImageFail
+abbrev pub read_as : List ℕ → Result ImageText ImageFail
 read_as bytes = image_at (record { at = 0; bytes = bytes })

@@ -3,3 +3,4 @@ pub mod Numbers
 pub mod Cut
 pub mod Spelled
 pub mod Chain
+pub mod Hexadecimal

@@ -1,5 +1,5 @@
 -- The text that tells of a run.
-use Rattle.std.specs.Prelude.{ℕ, zero, suc, ◌+◌, ◌/◌, ◌%◌, ◌==◌, nat_lt, Bool, if◌then◌else◌, List, [], ◌∷◌, ◌++◌, length, Option, Some, None, codes, decimal, slice_get}
+use Rattle.std.specs.Prelude.{ℕ, zero, suc, ◌+◌, ◌==◌, Bool, if◌then◌else◌, List, [], ◌∷◌, ◌++◌, length, Option, Some, None, codes, decimal, slice_get}
 use Rattle.std.specs.List.{flat_map}
 use Rattle.std.specs.Option.{option_map_or}
 use Rattle.prem_gate.specs.declared.bus.Transfer.{Transfer}
@@ -14,6 +14,7 @@ use Rattle.prem_cycle.specs.declared.facts.DeviceFacts.{DeviceFacts}
 use Rattle.prem_cycle.specs.State.{Counts}
 use Rattle.prem_cycle.specs.FactsOf.{TaskReport, Report}
 use Rattle.prem_transfer.specs.Lengths.{device_cost}
+use Rattle.prem_line.specs.Hexadecimal.{hex_word}
 
 -- ---- parts of lines
 
@@ -27,15 +28,6 @@ task_name tasks k = option_map_or (λ t. t.name) (slice_get tasks k) []
 
 abbrev pub device_name : List DeviceRecord → ℕ → List ℕ
 device_name devices k = option_map_or (λ d. d.device.name) (slice_get devices k) []
-
-abbrev pub hex_digit : ℕ → ℕ
-hex_digit n = if nat_lt n 10 then 48 + n else 87 + n
-
--- eight hexadecimal digits
-unfoldable pub hex_word : ℕ → List ℕ
-hex_word n =
-    hex_digit (n / 268435456 % 16) ∷ hex_digit (n / 16777216 % 16) ∷ hex_digit (n / 1048576 % 16) ∷ hex_digit (n / 65536 % 16)
-    ∷ hex_digit (n / 4096 % 16) ∷ hex_digit (n / 256 % 16) ∷ hex_digit (n / 16 % 16) ∷ hex_digit (n % 16) ∷ []
 
 -- ---- tasks
 

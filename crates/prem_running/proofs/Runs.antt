@@ -3,7 +3,7 @@ use Rattle.std.proofs.Common.{◌≡◌, ◌≤◌, ◌^◌, Option, None, Some,
 use Rattle.prem_list.specs.Sequence.{items_of}
 use Rattle.prem_io.specs.Files.{Files}
 use Rattle.prem_gate.specs.declared.request.RunInput.{RunInput}
-use Rattle.prem_cycle.specs.Inputs.{FitsRun, setup_of, words_of}
+use Rattle.prem_cycle.specs.Inputs.{FitsRun, image_setup, setup_of, words_of}
 use Rattle.prem_run.specs.Lawful.{IsLawfulRun}
 use Rattle.prem_layout.specs.Rules.{Refusal}
 use Rattle.prem_tasks.specs.Told.{Told}
@@ -11,7 +11,6 @@ use Rattle.prem_tasks.specs.Broken.{TaskSet, broken}
 use Rattle.prem_tasks.specs.Compiled.{CompiledText, compiled}
 use Rattle.prem_tasks.specs.SetOf.{set_of}
 use Rattle.prem_tasks.specs.declared.set.TaskSet.{TaskSet as SetTree}
-use Rattle.prem_set_laws.specs.Laws.{setup_in}
 use Rattle.prem_set_laws.proofs.Names.{lawful_runs_fit}
 use Rattle.prem_set_laws.proofs.Limits.{limits_are_small}
 use Rattle.prem_compile.specs.declared.compiled.Compiled.{Compiled}
@@ -29,7 +28,7 @@ use Rattle.prem_running.specs.Running.{compiled_reply, judged_reply, run_stages,
 pub input_fits : (set : TaskSet) (c : Compiled) (input : RunInput) → IsCompiled set c → IsLawfulRun (names_of set) input →
     FitsRun (setup_of c.image) (words_of input) (items_of input.requests)
 input_fits set c input is lawful =
-    subst (λ (t : CompiledText). FitsRun (setup_in t.image) (words_of input) (items_of input.requests)) (sym is.compiled)
+    subst (λ (t : CompiledText). FitsRun (image_setup t.image) (words_of input) (items_of input.requests)) (sym is.compiled)
     (lawful_runs_fit set (words_of input) (items_of input.requests) is.lawful lawful)
 
 pub limit_within : (set : SetTree) (c : Compiled) → IsCompiled (set_of set) c → c.limit ≤ 2 ^ 61

@@ -1,11 +1,9 @@
 -- The answer to `run SET RUN`: what the run of a compiled set tells, or the first rule that the set breaks.
 use Rattle.std.specs.Prelude.{ℕ, ◌^◌, min, Option, None, Some, unwrap_or, Ok}
-use Rattle.prem_layout.specs.Image.{ImageText}
 use Rattle.prem_layout.specs.Rules.{Refusal}
 use Rattle.prem_tasks.specs.Told.{Told}
 use Rattle.prem_tasks.specs.Broken.{TaskSet, broken}
 use Rattle.prem_tasks.specs.Compiled.{CompiledText, compiled}
-use Rattle.prem_imagefile.specs.Parts.{Parts}
 use Rattle.prem_command.specs.Words.{RunAsked}
 use Rattle.prem_answer.specs.declared.status.Status.TheVariants.{Done}
 use Rattle.prem_answer.specs.Stages.{Reply, Stage}
@@ -14,17 +12,13 @@ use Rattle.prem_exec.specs.Exec.{run_reply}
 use Rattle.prem_refusal.specs.Texts.{refused_reply}
 use Rattle.prem_sources.specs.Sources.{reading_set, reading_run}
 
--- an image as it is run
-abbrev pub run_parts : ImageText → Parts
-run_parts i = record { plant = i.plant; tasks = i.tasks; devices = i.devices; content = i.content }
-
 -- the cycle up to which a run goes: that of the words, else the limit of the set; past cycle 2^61 no machine goes
 abbrev pub run_limit : Option ℕ → ℕ → ℕ
 run_limit cycles limit = min (unwrap_or cycles limit) (2 ^ 61)
 
 -- to a compiled set: that its run traps has no status of its own
 abbrev pub compiled_reply : RunAsked → RunText → CompiledText → Reply
-compiled_reply asked input c = (Done, (run_reply (run_parts c.image) input asked.intervals (run_limit asked.cycles c.limit)).1)
+compiled_reply asked input c = (Done, (run_reply c.image input asked.intervals (run_limit asked.cycles c.limit)).1)
 
 -- to a set whose first broken rule is this, if it breaks one
 abbrev pub judged_reply : RunAsked → TaskSet → RunText → Option (Refusal Told) → Reply

@@ -10,7 +10,7 @@ use Rattle.prem_compile.specs.declared.compiled.Compiled.{Compiled}
 use Rattle.prem_compile.specs.CompiledOf.{IsCompiled, compiled_of}
 use Rattle.prem_cycle.specs.State.{MachineState}
 use Rattle.prem_cycle.specs.FactsOf.{Report, report_of}
-use Rattle.prem_imagefile.specs.Parts.{Parts}
+use Rattle.prem_image.specs.Text.{ImageText}
 use Rattle.prem_answer.specs.declared.status.Status.{Status}
 use Rattle.prem_answer.specs.declared.status.Status.TheVariants.{Done}
 use Rattle.prem_answer.specs.declared.answer.Answer.{Answer}
@@ -21,13 +21,12 @@ use Rattle.prem_exec.specs.Forms.{RunText}
 use Rattle.prem_exec.specs.Exec.{state_at, stop_at}
 use Rattle.prem_answer.proofs.Reading.{gives_at_once}
 use Rattle.prem_refusal.specs.Texts.{refused_reply}
-use Rattle.prem_running.specs.Running.{run_parts}
 use Rattle.prem_sample.specs.Trace.{sample_run, sample_set}
 use Rattle.prem_sample.specs.Sample.{compiled_reply, judged_reply, sample_reply, sample_stages, sample_text, told_reply}
 
 -- what is told of the run of something compiled, by its inputs
 abbrev run_reply : ℕ → RunText → CompiledText → Reply
-run_reply seed input c = told_reply seed (run_parts c.image) c.limit (state_at (run_parts c.image) input c.limit)
+run_reply seed input c = told_reply seed c.image c.limit (state_at c.image input c.limit)
 
 -- a set that breaks no rule
 pub told_is : (seed : ℕ) (set : TaskSet) (input : RunText) (c : Compiled) (reply : Reply) → set ≡ sample_set seed → input ≡ sample_run seed → IsCompiled set c →
@@ -52,7 +51,7 @@ refused_is seed set refusal tasks reply is first same told =
 abbrev reply : Status → List ℕ → Reply
 reply status text = (status, text)
 
-pub run_is : (seed : ℕ) (i : Parts) (limit : ℕ) (s : MachineState) (stop : Stop) (text : List ℕ) (now : ℕ) (r : Report) → stop ≡ stop_at limit s →
+pub run_is : (seed : ℕ) (i : ImageText) (limit : ℕ) (s : MachineState) (stop : Stop) (text : List ℕ) (now : ℕ) (r : Report) → stop ≡ stop_at limit s →
     now ≡ s.now → r ≡ report_of s → text ≡ sample_text seed i.tasks i.devices now r stop → reply Done text ≡ told_reply seed i limit s
 run_is seed i limit s stop text now r stops at told is =
     let texts : text ≡ sample_text seed i.tasks i.devices s.now (report_of s) (stop_at limit s) =

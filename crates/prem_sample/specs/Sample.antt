@@ -6,7 +6,7 @@ use Rattle.prem_image.specs.declared.image.TaskRecord.{TaskRecord}
 use Rattle.prem_cycle.specs.declared.state.Stop.{Stop}
 use Rattle.prem_cycle.specs.State.{MachineState}
 use Rattle.prem_cycle.specs.FactsOf.{TaskReport, Report, report_of}
-use Rattle.prem_imagefile.specs.Parts.{Parts}
+use Rattle.prem_image.specs.Text.{ImageText}
 use Rattle.prem_layout.specs.Rules.{Refusal}
 use Rattle.prem_tasks.specs.Told.{Told}
 use Rattle.prem_tasks.specs.Broken.{broken}
@@ -16,7 +16,6 @@ use Rattle.prem_answer.specs.declared.status.Status.TheVariants.{Done}
 use Rattle.prem_answer.specs.Stages.{Reply, Stage}
 use Rattle.prem_exec.specs.Exec.{state_at, stop_at}
 use Rattle.prem_refusal.specs.Texts.{refused_reply}
-use Rattle.prem_running.specs.Running.{run_parts}
 use Rattle.prem_sample.specs.Trace.{sample_set, sample_run}
 
 -- ---- the text
@@ -43,13 +42,13 @@ sample_text seed tasks devices cycles r stop =
 -- ---- the answer
 
 -- what is told of a state of a run that was to go up to a cycle
-abbrev pub told_reply : ℕ → Parts → (limit : ℕ) → MachineState → Reply
+abbrev pub told_reply : ℕ → ImageText → (limit : ℕ) → MachineState → Reply
 told_reply seed i limit s =
     (Done, sample_text seed i.tasks i.devices s.now (report_of s) (stop_at limit s))
 
 -- the run of a compiled sample goes up to its limit
 abbrev pub compiled_reply : ℕ → CompiledText → Reply
-compiled_reply seed c = told_reply seed (run_parts c.image) c.limit (state_at (run_parts c.image) (sample_run seed) c.limit)
+compiled_reply seed c = told_reply seed c.image c.limit (state_at c.image (sample_run seed) c.limit)
 
 -- by the first rule that its set breaks, if it breaks one
 abbrev pub judged_reply : ℕ → Option (Refusal Told) → Reply

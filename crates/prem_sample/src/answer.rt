@@ -3,7 +3,7 @@ ghost use Rattle.std.specs.Prelude.{◌≡◌, ◌≤◌, ◌^◌, IfOk, IsErrOf
 ghost use Rattle.prem_list.specs.Sequence.{items_of};
 ghost use Rattle.prem_cycle.specs.Inputs.{FitsRun, setup_of, words_of};
 ghost use Rattle.prem_compile.specs.CompiledOf.{compiled_of};
-ghost use Rattle.prem_imagefile.specs.Parts.{parts_of};
+ghost use Rattle.prem_image.specs.Text.{image_text};
 ghost use Rattle.prem_answer.specs.Stages.{Comes, reply_of};
 ghost use Rattle.prem_exec.specs.Exec.{input_of, state_at};
 ghost use Rattle.prem_sample.specs.Sample.{compiled_reply, sample_reply, told_reply};
@@ -29,7 +29,7 @@ fn told(
 ) -> Result<Answer, AllocError>
     requires fits { FitsRun (setup_of image.now) (words_of input.now) (items_of input.now.requests) }
     requires limit { limit ≤ 2 ^ 61 }
-    ensures { IfOk result (λ a. reply_of a ≡ told_reply seed (parts_of image.now) limit (state_at (parts_of image.now) (input_of input.now) limit)) }
+    ensures { IfOk result (λ a. reply_of a ≡ told_reply seed (image_text image.now) limit (state_at (image_text image.now) (input_of input.now) limit)) }
 {
     let (machine, stop) = run_image(alloc, image, input, limit)?;
     let text = sample_text(

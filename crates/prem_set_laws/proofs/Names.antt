@@ -22,7 +22,7 @@ use Rattle.prem_run.specs.Names.{known_of}
 use Rattle.prem_run.specs.Lawful.{IsLawful}
 use Rattle.prem_fitting.specs.Named.{devices_in, names_for}
 use Rattle.prem_fitting.proofs.Fits.{lawful_fits}
-use Rattle.prem_cycle.specs.Inputs.{FitsRun}
+use Rattle.prem_cycle.specs.Inputs.{FitsRun, image_setup}
 use Rattle.prem_layout.specs.Plans.{plans_of}
 use Rattle.prem_layout.specs.Parts.{Passes, passes_of, part, code_parts, stub_parts, global_parts, task_parts, parts_from, area_parts, part_count}
 use Rattle.prem_layout.specs.Placed.{Coded, sized_of, parts_of, placed_from, part_total}
@@ -30,7 +30,7 @@ use Rattle.prem_layout.specs.Image.{task_record, device_records}
 use Rattle.prem_layout.specs.Rules.{or_else, refused_by, first_among, over_tasks}
 use Rattle.prem_tasks.specs.Broken.{TaskText, TaskSet, unread, group_one, program_before, programs_of, coded_of, broken_programs, broken}
 use Rattle.prem_tasks.specs.Compiled.{compiled, coded_in, places_in}
-use Rattle.prem_set_laws.specs.Laws.{set_names, setup_in}
+use Rattle.prem_set_laws.specs.Laws.{set_names}
 use Rattle.prem_set_laws.proofs.Nothing.{none_first}
 
 -- ---- each text has its program
@@ -146,6 +146,6 @@ names_are_kept set e =
     ap₂ known_of tasks devices
 
 pub lawful_runs_fit : (set : TaskSet) (words : List (List ℕ)) (requests : List Request) → broken set ≡ None → IsLawful (set_names set) words requests →
-    FitsRun (setup_in (compiled set).image) words requests
+    FitsRun (image_setup (compiled set).image) words requests
 lawful_runs_fit set words requests e lawful =
-    lawful_fits (setup_in (compiled set).image) words requests (subst (λ names. IsLawful names words requests) (sym (names_are_kept set e)) lawful)
+    lawful_fits (image_setup (compiled set).image) words requests (subst (λ names. IsLawful names words requests) (sym (names_are_kept set e)) lawful)

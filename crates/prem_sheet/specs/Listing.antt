@@ -6,7 +6,8 @@ use Rattle.prem_plant.specs.declared.layout.PartKind.TheVariants.{Start, Code, S
 use Rattle.prem_plant.specs.declared.layout.PartSize.{PartSize}
 use Rattle.prem_plant.specs.Places.{Extent}
 use Rattle.prem_syntax.specs.Syntax.{Text}
-use Rattle.prem_asm.specs.Listing.{hex_word, listing}
+use Rattle.prem_asm.specs.Listing.{listing}
+use Rattle.prem_line.specs.Hexadecimal.{hex_word}
 use Rattle.prem_tasks.specs.Compiled.{CompiledText}
 use Rattle.prem_sheet.specs.Names.{first_name, rest_names}
 

@@ -1,43 +1,15 @@
 // The words of a compiled set.
 ghost use Rattle.std.specs.Prelude.{◌≡◌, ◌≤◌, ◌<◌, ◌+◌, ◌-◌, ◌*◌, [], ◌∷◌, ◌++◌, IfOk, IfSome, IsNone, OnOk, length, slice_get};
-ghost use Rattle.prem_asm.specs.Listing.{hex_digit, hex_word};
+ghost use Rattle.prem_line.specs.Hexadecimal.{hex_word};
 ghost use Rattle.prem_compile.specs.CompiledOf.{compiled_of};
 ghost use Rattle.prem_sheet.specs.Listing.{bytes_at, code_text, list_text, part_line, part_text, parts_text, placed_text, task_line, words_of};
 
 use crate::names::{first_name, rest_names};
 use prem_asm::list;
 use prem_compile::Compiled;
+use prem_line::hex_word;
 use prem_plant::PartKind;
 use std::alloc::{AllocError, Global};
-
-/// A hexadecimal digit.
-fn hex_digit(n: u32) -> u8
-    requires { n < 16 }
-    ensures { result ≡ hex_digit n }
-{
-    if n < 10 {
-        b'0' + n as u8
-    } else {
-        b'W' + n as u8
-    }
-}
-
-/// A word as eight hexadecimal digits.
-#[tactic(auto, unfolding(prem_asm::specs::Listing::hex_word))]
-fn hex_word(n: u32) -> [u8; 8]
-    ensures { result ≡ hex_word n }
-{
-    [
-        hex_digit(n / 268_435_456 % 16),
-        hex_digit(n / 16_777_216 % 16),
-        hex_digit(n / 1_048_576 % 16),
-        hex_digit(n / 65_536 % 16),
-        hex_digit(n / 4096 % 16),
-        hex_digit(n / 256 % 16),
-        hex_digit(n / 16 % 16),
-        hex_digit(n % 16),
-    ]
-}
 
 /// The bytes of a place, as far as there are any.
 fn bytes_at(content: &[u8], start: u32, end: u32) -> &[u8]

@@ -11,7 +11,8 @@ use Rattle.prem_meaning.specs.Resolved.{Resolved}
 use Rattle.prem_layout.specs.Bounds.{JobBound, limit_of}
 use Rattle.prem_layout.specs.Placed.{Coded, Placed, parts_of, placed_from, name_at}
 use Rattle.prem_layout.specs.Facts.{IntervalFact, interval_facts, job_fact}
-use Rattle.prem_layout.specs.Image.{ImageText, image_of}
+use Rattle.prem_image.specs.Text.{ImageText}
+use Rattle.prem_layout.specs.Image.{image_of}
 use Rattle.prem_tasks.specs.Broken.{TaskSet, programs_of, coded_of, global_name}
 
 -- ---- the parts of a set

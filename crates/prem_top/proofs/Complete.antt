@@ -9,7 +9,7 @@ use Rattle.prem_command.specs.Words.{Asked, RunAsked, command_of}
 use Rattle.prem_answer.specs.declared.status.Status.{Status}
 use Rattle.prem_answer.specs.declared.status.Status.TheVariants.{Done, Refused, Usage, Form, ReadFault, WriteFault, OutOfMemory, Missing, Trap}
 use Rattle.prem_answer.specs.Stages.{Reply, Reads, Stage, AreReads, and_then, form_reply, is_settled, later_reads, reading, replied, within_limit}
-use Rattle.prem_imagefile.specs.Parts.{Parts}
+use Rattle.prem_image.specs.Text.{ImageText}
 use Rattle.prem_tasks.specs.Compiled.{compiled}
 use Rattle.prem_exec.specs.Forms.{RunText, image_in, run_in}
 use Rattle.prem_exec.specs.Exec.{exec_limit, exec_stages, image_limit, image_of_bytes, run_reply, run_of_bytes as image_run_of_bytes}
@@ -92,7 +92,7 @@ ran_told files asked set input reads are there input_there none =
     ∙ run_read files set asked.run input (λ input reads. Ok (set_reply asked set input)) first.reads first.are input_there
     ∙ ap (λ rule. Ok (run_judged asked set input rule)) none
 
-exec_told : (files : Files) (asked : RunAsked) (image : Parts) (input : RunText) (reads : Reads) → AreReads (Some files) reads → ImageIsThere files asked image input →
+exec_told : (files : Files) (asked : RunAsked) (image : ImageText) (input : RunText) (reads : Reads) → AreReads (Some files) reads → ImageIsThere files asked image input →
     exec_stages asked reads ≡ Ok (run_reply image input asked.intervals (exec_limit asked.cycles))
 exec_told files asked image input reads are there =
     file_read files image_limit asked.of there.bytes (image_of_bytes asked.of) image

@@ -5,7 +5,7 @@ use Rattle.prem_io.specs.Files.{Files, stored}
 use Rattle.prem_set.specs.declared.task.TaskEntry.{TaskEntry}
 use Rattle.prem_set.specs.SetFile.{SetData, set_of as set_of_text}
 use Rattle.prem_run.specs.Run.{Gathered, run_of as lines_of_run}
-use Rattle.prem_imagefile.specs.Parts.{Parts}
+use Rattle.prem_image.specs.Text.{ImageText}
 use Rattle.prem_imagefile.specs.Reading.{read_as}
 use Rattle.prem_imagefile.specs.Spelling.{image_bytes}
 use Rattle.prem_fitting.specs.Named.{names_for}
@@ -20,7 +20,6 @@ use Rattle.prem_exec.specs.Exec.{exec_limit, image_limit, run_reply}
 use Rattle.prem_sources.specs.Sources.{names_of, run_limit, set_limit, set_with, source_limit, task_with}
 use Rattle.prem_sheet.specs.Check.{check_text}
 use Rattle.prem_sheet.specs.Listing.{list_text}
-use Rattle.prem_build.specs.Build.{file_parts}
 use Rattle.prem_one.specs.One.{one_set, run_text, state_of}
 use Rattle.prem_source.specs.Source.{tasks_text}
 use Rattle.prem_running.specs.Running.{compiled_reply as run_reply_of}
@@ -62,7 +61,7 @@ pub record RunIsThere (files : Files) (set : TaskSet) (name : List ℕ) (input :
   pub input_is : input ≡ run_text_of lines
 
 -- an image file and its run file are there and in form
-pub record ImageIsThere (files : Files) (asked : RunAsked) (image : Parts) (input : RunText) : Type 0 where
+pub record ImageIsThere (files : Files) (asked : RunAsked) (image : ImageText) (input : RunText) : Type 0 where
   pub bytes : List ℕ
   pub file : IsThere files image_limit asked.of bytes
   pub formed : read_as bytes ≡ Ok image
@@ -80,13 +79,13 @@ pub data Succeeds (files : Files) : Asked → Reply → Type 0 where
       Succeeds files (one file) (Done, run_text (state_of (compiled (one_set bytes))))
   check_succeeds : {name : List ℕ} {set : TaskSet} → SetIsThere files name set → broken set ≡ None → Succeeds files (check name) (Done, check_text (compiled set))
   build_succeeds : {name : List ℕ} {set : TaskSet} → SetIsThere files name set → broken set ≡ None →
-      Succeeds files (build name) (Done, image_bytes (file_parts (compiled set).image))
+      Succeeds files (build name) (Done, image_bytes (compiled set).image)
   list_succeeds : {name : List ℕ} {set : TaskSet} → SetIsThere files name set → broken set ≡ None → Succeeds files (list name) (Done, list_text (compiled set))
   source_succeeds : {name run : List ℕ} {set : TaskSet} {input : RunText} → SetIsThere files name set → RunIsThere files set run input → broken set ≡ None →
       Succeeds files (source name run) (Done, tasks_text set.tasks (programs_of set.tasks) input.words)
   run_succeeds : {asked : RunAsked} {set : TaskSet} {input : RunText} → SetIsThere files asked.of set → RunIsThere files set asked.run input → broken set ≡ None →
       Succeeds files (run asked) (run_reply_of asked input (compiled set))
-  exec_succeeds : {asked : RunAsked} {image : Parts} {input : RunText} → ImageIsThere files asked image input →
+  exec_succeeds : {asked : RunAsked} {image : ImageText} {input : RunText} → ImageIsThere files asked image input →
       Succeeds files (exec asked) (run_reply image input asked.intervals (exec_limit asked.cycles))
   sample_succeeds : {seed : ℕ} → broken (sample_set seed) ≡ None → Succeeds files (sample seed) (sample_reply_of seed (compiled (sample_set seed)))
 

@@ -24,9 +24,8 @@ use Rattle.prem_refusal.specs.Texts.{refusal_line}
 use Rattle.prem_sources.specs.Sources.{source_limit}
 use Rattle.prem_sheet.specs.Check.{check_text}
 use Rattle.prem_sheet.specs.Listing.{list_text}
-use Rattle.prem_build.specs.Build.{file_parts}
 use Rattle.prem_source.specs.Source.{tasks_text}
-use Rattle.prem_running.specs.Running.{run_parts, run_limit, compiled_reply}
+use Rattle.prem_running.specs.Running.{run_limit, compiled_reply}
 use Rattle.prem_one.specs.One.{one_set, output_lines, run_lines, state_of}
 use Rattle.prem_sample.specs.Trace.{sample_set}
 use Rattle.prem_sample.specs.Sample.{compiled_reply as sample_reply}
@@ -53,7 +52,7 @@ IsSoundCheck = IsSoundTelling check_text
 
 -- the bytes of its image
 abbrev pub IsSoundBuild : Reads → List ℕ → List ℕ → Type 0
-IsSoundBuild = IsSoundTelling (λ c. image_bytes (file_parts c.image))
+IsSoundBuild = IsSoundTelling (λ c. image_bytes c.image)
 
 -- its listing
 abbrev pub IsSoundList : Reads → List ℕ → List ℕ → Type 0
@@ -67,7 +66,7 @@ pub record IsSoundRun (reads : Reads) (asked : RunAsked) (text : List ℕ) : Typ
   pub input : RunText
   pub run_read : RunIsRead reads set asked.run input
   pub suits : SuitsRun (setup_in set) input.words input.requests
-  pub ends : EndsWell (compiled set).limit (run_limit asked.cycles (compiled set).limit) (state_at (run_parts (compiled set).image) input (run_limit asked.cycles (compiled set).limit))
+  pub ends : EndsWell (compiled set).limit (run_limit asked.cycles (compiled set).limit) (state_at (compiled set).image input (run_limit asked.cycles (compiled set).limit))
   pub text_is : text ≡ (compiled_reply asked input (compiled set)).1
 
 -- a text tells what the sources of such a set put out, with the words of the run file

@@ -3,7 +3,7 @@ use Rattle.std.proofs.Common.{ap, ◌∙◌, subst}
 use Rattle.prem_io.specs.Files.{Files}
 use Rattle.prem_image.specs.declared.image.Image.{Image}
 use Rattle.prem_gate.specs.declared.request.RunInput.{RunInput}
-use Rattle.prem_imagefile.specs.Parts.{Parts, parts_of}
+use Rattle.prem_image.specs.Text.{ImageText, image_text}
 use Rattle.prem_command.specs.Words.{run_asked}
 use Rattle.prem_answer.specs.declared.answer.Answer.{Answer}
 use Rattle.prem_answer.specs.Stages.{Reply, reply_of, IsReadAs, IsGiven}
@@ -17,13 +17,13 @@ pub returns-in-Err-clause-answer : goal.returns-in-Err-clause-answer
 returns-in-Err-clause-answer g c =
     let asked = run_asked c.args.asked.now in
     let told : Option Files = g.S.Store.files c.args.store.now in
-    halt_passes {X = Image} {Y = Parts} {V = Answer} {W = Reply} parts_of reply_of (IsReadAs told image_limit asked.of (image_of_bytes asked.of)) (IsGiven told (exec_stages asked)) c.in-Err.halt
+    halt_passes {X = Image} {Y = ImageText} {V = Answer} {W = Reply} image_text reply_of (IsReadAs told image_limit asked.of (image_of_bytes asked.of)) (IsGiven told (exec_stages asked)) c.in-Err.halt
     (λ reply read. no_image told asked reply read) c.in-Err.ensures.image
 
 pub returns-in-Err-run_file-clause-answer : goal.returns-in-Err-run_file-clause-answer
 returns-in-Err-run_file-clause-answer g c =
     let asked = run_asked c.args.asked.now in
-    let i = parts_of c.in-Ok.image in
+    let i = image_text c.in-Ok.image in
     let told : Option Files = g.S.Store.files c.args.store.now in
     let later : Option Files = g.S.Store.files c.image_file.new.store in
     halt_passes {X = RunInput} {Y = RunText} {V = Answer} {W = Reply} input_of reply_of (IsReadAs later run_limit asked.run (run_of_bytes i asked.run)) (IsGiven told (exec_stages asked)) c.in-Err-run_file.halt
@@ -32,7 +32,7 @@ returns-in-Err-run_file-clause-answer g c =
 pub returns-clause-answer : goal.returns-clause-answer
 returns-clause-answer g c =
     let asked = run_asked c.args.asked.now in
-    let i = parts_of c.in-Ok.image in
+    let i = image_text c.in-Ok.image in
     let input = input_of c.in-Ok-run_file.input in
     let told : Option Files = g.S.Store.files c.args.store.now in
     let run : IsReadAs told run_limit asked.run (run_of_bytes i asked.run) (Ok input) =

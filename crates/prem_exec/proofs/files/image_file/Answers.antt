@@ -5,7 +5,7 @@ use Rattle.prem_image.specs.declared.image.Image.{Image}
 use Rattle.prem_answer.specs.Stages.{IsRead, IsReadAs}
 use Rattle.std.proofs.Common.{◌≡◌, ◌≢◌, ap, ◌∙◌, sym, subst, rules}
 use Rattle.prem_imagefile.specs.declared.fail.ImageFail.TheVariants.{OutOfMemory as NoMemory}
-use Rattle.prem_imagefile.specs.Parts.{Parts, parts_of}
+use Rattle.prem_image.specs.Text.{ImageText, image_text}
 use Rattle.prem_imagefile.specs.Reading.{read_as, Fails}
 use Rattle.prem_answer.proofs.Reading.{halt_passes, made_ok, not_made}
 use Rattle.prem_exec.specs.Exec.{image_limit, image_of_bytes}
@@ -16,7 +16,7 @@ pub returns-in-Err-clause-image : goal.returns-in-Err-clause-image
 returns-in-Err-clause-image g c =
     let name = c.args.name.now in
     let told : Option Files = g.S.Store.files c.args.store.now in
-    halt_passes {X = Vec ℕ Global} {Y = List ℕ} {V = Image} {W = Parts} (λ v. v.items) parts_of (IsRead told image_limit name) (IsReadAs told image_limit name (image_of_bytes name)) c.in-Err.halt
+    halt_passes {X = Vec ℕ Global} {Y = List ℕ} {V = Image} {W = ImageText} (λ v. v.items) image_text (IsRead told image_limit name) (IsReadAs told image_limit name (image_of_bytes name)) c.in-Err.halt
     (λ reply read. not_made told image_limit name (image_of_bytes name) reply read) c.in-Err.ensures.read
 
 pub returns-in-Ok-read_image-clause-image : goal.returns-in-Ok-read_image-clause-image
@@ -24,7 +24,7 @@ returns-in-Ok-read_image-clause-image g c =
     let name = c.args.name.now in
     let bytes = c.in-Ok.bytes.items in
     let read : read_as bytes ≡ _ = ap read_as (sym c.deref.ensures.value) ∙ c.in-Ok-read_image.ensures.exact in
-    made_ok _ image_limit name (image_of_bytes name) bytes _ c.in-Ok.ensures.read (image_read name (read_as bytes) (parts_of c.in-Ok-read_image.image) read)
+    made_ok _ image_limit name (image_of_bytes name) bytes _ c.in-Ok.ensures.read (image_read name (read_as bytes) (image_text c.in-Ok-read_image.image) read)
 
 pub returns : goal.returns
 returns g c =

@@ -1,5 +1,5 @@
 use Rattle.std.proofs.Common.{ap, ◌∙◌}
-use Rattle.prem_imagefile.specs.Parts.{parts_of}
+use Rattle.prem_image.specs.Text.{image_text}
 use Rattle.prem_answer.specs.Stages.{Reply}
 use Rattle.prem_answer.specs.declared.status.Status.TheVariants.{Done}
 use Rattle.prem_exec.specs.Exec.{run_reply}
@@ -12,4 +12,4 @@ done reply = (Done, reply.1)
 pub returns : goal.returns
 returns c =
     ap done c.in_ok-answer.ensures
-    ∙ ap (λ n. done (run_reply (parts_of c.args.compiled.now.image) (input_of c.args.input.now) c.args.asked.now.intervals n)) c.run_limit-limit.ensures.limit
+    ∙ ap (λ n. done (run_reply (image_text c.args.compiled.now.image) (input_of c.args.input.now) c.args.asked.now.intervals n)) c.run_limit-limit.ensures.limit

@@ -1,5 +1,5 @@
 use Rattle.std.proofs.Common.{ap, ◌∙◌}
-use Rattle.prem_imagefile.specs.Parts.{parts_of}
+use Rattle.prem_image.specs.Text.{image_text}
 use Rattle.prem_cycle.specs.State.{MachineState}
 use Rattle.prem_cycle.specs.FactsOf.{report_of, report_in}
 use Rattle.prem_exec.specs.Exec.{input_of, state_at}
@@ -9,7 +9,7 @@ use Rattle.prem_sample.proofs.answer.told.Goals as goal
 
 pub returns : goal.returns
 returns c =
-    let i = parts_of c.args.image.now in
+    let i = image_text c.args.image.now in
     let s = state_at i (input_of c.args.input.now) c.args.limit in
     let stop = c.in_ok-machine.stop in
     let state = c.in_ok-machine.ensures.state in
