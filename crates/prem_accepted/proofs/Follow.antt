@@ -99,7 +99,7 @@ follow_values (t ∷ ts) (c ∷ cs) h v = (values_of t c h.0 v.0, follow_values 
 
 -- ---- memory
 
-not_above : (a b : ℕ) → nat_lt a b ≡ false → b ≤ a
+pub not_above : (a b : ℕ) → nat_lt a b ≡ false → b ≤ a
 not_above a b h = grind (arith, nat_tests)
 
 fits_in : (have need : ℕ) → (if nat_lt have need then Some (MemoryFull need have) else None) ≡ None → need ≤ have

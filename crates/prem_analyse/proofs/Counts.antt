@@ -1,6 +1,6 @@
 -- A well-formed program has few functions and globals, so the numbers that its first breach names are small.
 use Rattle.std.proofs.Common.{◌≡◌, ℕ, suc, ◌+◌, ◌≤◌, Bool, true, false, List, [], ◌∷◌, ◌++◌, length, refl, ap, sym, ◌∙◌, arith, Option, None, Some, subst}
-use Rattle.std.specs.Prelude.{nat_lt, not, is_none, IsTrue}
+use Rattle.std.specs.Prelude.{nat_lt, not}
 use Rattle.std.specs.List.{list_any}
 use Rattle.std.proofs.lemmas.Bool.Decides.{nat_tests}
 use Rattle.prem_syntax.specs.declared.rules.Count.TheVariants.{Functions, Globals, Parameters, Regions, Length, Stated}
@@ -17,12 +17,9 @@ use Rattle.prem_syntax.specs.Literals.{ProgramHasWords}
 use Rattle.prem_ranges.proofs.Basics.{none_left, none_right}
 use Rattle.prem_ranges.proofs.Named.{none_broken}
 use Rattle.prem_ranges.proofs.WellFormed.{well_formed_is_typed}
+use Rattle.prem_ranges.proofs.AnalysisSound.{is_none_tells}
 use Rattle.prem_analyse.specs.Named.{Named}
 use Rattle.prem_analyse.proofs.Naming.{NamedIf, program_named}
-
-is_none_means : {A : Type 0} (o : Option A) → IsTrue (is_none o) → o ≡ None
-is_none_means None h = refl
-is_none_means (Some x) h = cc
 
 not_broken : (b : Bool) (at : _) (rule : Rule) → if_broken b at rule ≡ [] → b ≡ false
 not_broken true at rule e = cc
@@ -40,7 +37,7 @@ unfolding group_two
 few p formed =
     let gs = globals_of p in
     let fs = functions_of p in
-    let none : breaches p ≡ [] = none_broken (breaches p) (is_none_means (group_two p) formed) in
+    let none : breaches p ≡ [] = none_broken (breaches p) (is_none_tells (group_two p) formed) in
     let job = if_broken (not (list_any (λ (f : FunctionText). is_job_name f.name) fs)) None NoJob in
     let limits : in_limits gs fs ≡ [] = none_left (in_limits gs fs) job (none_left (in_limits gs fs ++ job) (in_items fs (item_names p) (reached fs) 0 [] [] p) none) in
     let one = if_broken (nat_lt 256 (length fs)) None (Limit Functions) in
@@ -55,7 +52,7 @@ few p formed =
       globals = at_most (length gs) (not_broken (nat_lt 256 (length gs)) None (Limit Globals) (none_right one two first_two));
     }
 
-as_many : (fs : List FunctionText) (t : ℕ → ℕ) (n : ℕ) (gs : List GlobalVariable) (items : ProgramText) → length (resolve_items fs t n gs items) ≡ length (functions_of items)
+pub as_many : (fs : List FunctionText) (t : ℕ → ℕ) (n : ℕ) (gs : List GlobalVariable) (items : ProgramText) → length (resolve_items fs t n gs items) ≡ length (functions_of items)
 as_many fs t n gs [] = refl
 as_many fs t n gs (global_item g ∷ items) = as_many fs t n (gs ++ g ∷ []) items
 as_many fs t n gs (function_item f ∷ items) = ap suc (as_many fs t (n + loops_within f.body) gs items)

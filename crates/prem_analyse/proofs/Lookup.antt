@@ -1,11 +1,6 @@
 -- What is found in a list by its number.
-use Rattle.std.proofs.Common.{◌≡◌, ℕ, zero, suc, ◌<◌, ◌≤◌, List, [], ◌∷◌, length, get_or, refl, ap, sym, arith, Some, None}
+use Rattle.std.proofs.Common.{◌≡◌, ℕ, zero, suc, ◌≤◌, List, [], ◌∷◌, length, refl, arith, Some, None}
 use Rattle.std.specs.Prelude.{slice_get, slice_index}
-
-pub got_some : {A : Type 0} (l : List A) (i : ℕ) (x : A) → i < length l → x ≡ get_or l i x → slice_get l i ≡ Some x
-got_some [] i x inside is = absurd (omega arith)
-got_some (y ∷ ys) zero x inside is = ap Some (sym is)
-got_some (y ∷ ys) (suc i) x inside is = got_some ys i x (omega arith) is
 
 pub got_none : {A : Type 0} (l : List A) (i : ℕ) → length l ≤ i → slice_get l i ≡ None
 got_none [] i past = refl

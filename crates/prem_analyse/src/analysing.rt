@@ -10,9 +10,10 @@ ghost use Rattle.prem_analyse.specs.Told.{IsAnswer};
 use crate::analysed::Analysed;
 use crate::fail::RangeFail;
 use crate::telling::told;
-use prem_analysis::{Seen, have_words, see_program};
+use prem_analysis::{Seen, see_program};
 use prem_marks::marked_of;
 use prem_resolve::resolve;
+use prem_syntax::have_words;
 use prem_tree::{Checked, Program};
 use std::alloc::{AllocError, Global};
 

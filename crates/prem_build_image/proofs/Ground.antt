@@ -1,26 +1,18 @@
 -- Parts at their places, by number.
-use Rattle.std.proofs.Common.{◌≡◌, ℕ, zero, suc, ◌+◌, ◌%◌, ◌<◌, ◌≤◌, refl, ap, sym, ◌∙◌, subst, arith, List, [], ◌∷◌, ◌++◌, length, take, Some, slice_get}
-use Rattle.std.specs.Prelude.{⊤, max, slice_index_or}
-use Rattle.std.specs.List.{AllZip}
+use Rattle.std.proofs.Common.{◌≡◌, ℕ, zero, suc, ◌+◌, ◌<◌, ◌≤◌, refl, ap, sym, ◌∙◌, subst, arith, List, [], ◌∷◌, ◌++◌, length, take, Some, slice_get}
+use Rattle.std.specs.Prelude.{⊤, max}
 use Rattle.std.proofs.lemmas.Option.{slice_get_within, slice_get-get_or}
 use Rattle.prem_plant.specs.declared.layout.PartSize.{PartSize}
 use Rattle.prem_plant.specs.Places.{Extent, ArePlaces}
 use Rattle.prem_layout.specs.Footprint.{no_place}
 use Rattle.prem_layout.specs.Image.{greatest_end}
-
--- a part has its size at a multiple of its alignment, and ends by an address
-pub record IsAt (end : ℕ) (x : PartSize) (q : Extent) : Type 0 where
-  pub ends : q.1 ≡ q.0 + x.size
-  pub aligned : q.0 % x.align ≡ 0
-  pub within : q.1 ≤ end
+use Rattle.prem_layout.proofs.TaskParts.{place_in}
+use Rattle.prem_layout.proofs.Areas.{IsAt}
 
 -- parts, from a number on
 abbrev pub Stand : ℕ → (ℕ → Extent) → ℕ → List PartSize → Type 0
 Stand end f n [] = ⊤
 Stand end f n (x ∷ xs) = IsAt end x (f n) × Stand end f (n + 1) xs
-
-abbrev pub place_in : List Extent → ℕ → Extent
-place_in places n = slice_index_or places n no_place
 
 stand_from : (end : ℕ) (f : ℕ → Extent) (n : ℕ) (xs : List PartSize) → ((i : ℕ) (x : PartSize) → slice_get xs i ≡ Some x → IsAt end x (f (n + i))) → Stand end f n xs
 stand_from end f n [] h = tt
@@ -70,24 +62,7 @@ stand_within end f n [] h i lt = absurd (omega arith)
 stand_within end f n (x ∷ xs) h zero lt = let z : n ≡ n + 0 = omega arith in subst (λ k. (f k).1 ≤ end) z h.0.within
 stand_within end f n (x ∷ xs) h (suc i) lt = let z : n + 1 + i ≡ n + suc i = omega arith in subst (λ k. (f k).1 ≤ end) z (stand_within end f (n + 1) xs h.1 i (omega arith))
 
--- parts and places, one by one
-pub zipped : (end : ℕ) (f : ℕ → Extent) (n : ℕ) (xs : List PartSize) (qs : List Extent) → length qs ≡ length xs → ((i : ℕ) → f (n + i) ≡ place_in qs i) → Stand end f n xs → AllZip (IsAt end) xs qs
-zipped end f n [] [] long same h = tt
-zipped end f n [] (q ∷ qs) long same h = absurd (omega (arith, long))
-zipped end f n (x ∷ xs) [] long same h = absurd (omega (arith, long))
-zipped end f n (x ∷ xs) (q ∷ qs) long same h =
-    let z : n ≡ n + 0 = omega arith in (
-      subst (λ k. IsAt end x k) (ap f z ∙ same 0) h.0,
-      zipped end f (n + 1) xs qs (omega (arith, long)) (λ i. let s : n + 1 + i ≡ n + suc i = omega arith in ap f s ∙ same (suc i)) h.1,
-    )
-
 -- ---- the greatest end
-
-pub below_greatest : (count i : ℕ) (places : List Extent) → i < count → (place_in places i).1 ≤ greatest_end (take count places)
-below_greatest zero i places lt = absurd (omega arith)
-below_greatest (suc count) i [] lt = omega arith
-below_greatest (suc count) zero (q ∷ qs) lt = omega arith
-below_greatest (suc count) (suc i) (q ∷ qs) lt = let r = below_greatest count i qs (omega arith) in omega (arith, r)
 
 pub greatest_within : (memory count : ℕ) (places : List Extent) → ((i : ℕ) → i < count → (place_in places i).1 ≤ memory) → greatest_end (take count places) ≤ memory
 greatest_within memory zero places h = omega arith

@@ -14,6 +14,7 @@ use Rattle.prem_meaning.specs.Statements.{is_marked}
 use Rattle.prem_template.specs.Frames.{slots_of, frame_of, frame_if_there, frame_at, deepest, depth_if_there, depth_below, depth_of, deepest_marked, deepest_called, stack_size}
 use Rattle.prem_layout.specs.Parts.{element_size, global_size}
 use Rattle.prem_layout.specs.Image.{global_bytes}
+use Rattle.prem_layout.proofs.TaskParts.{multiple_above}
 
 -- ---- code
 
@@ -74,9 +75,6 @@ chunks_short size (w ∷ ws) =
 
 taken_short : {A : Type 0} (n : ℕ) (xs : List A) → length (take n xs) ≤ n
 taken_short n xs = let l = length-take n xs in omega (arith, l)
-
-multiple_above : (n : ℕ) → n ≤ next_multiple_of n 4
-multiple_above n = omega arith
 
 pub global_long : (g : GlobalVariable) → length (global_bytes g) ≤ global_size g
 global_long g =

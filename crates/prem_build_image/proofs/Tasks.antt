@@ -1,6 +1,5 @@
 -- The parts of tasks at their places.
-use Rattle.std.proofs.Common.{◌≡◌, ℕ, suc, ◌+◌, ◌%◌, ◌<◌, ◌≤◌, refl, ap, sym, ◌∙◌, subst, arith, List, [], ◌∷◌, ◌++◌, length, map, drop, length-append}
-use Rattle.std.specs.Prelude.{⊤}
+use Rattle.std.proofs.Common.{◌≡◌, ℕ, ◌+◌, ◌%◌, ◌<◌, ◌≤◌, refl, ap, sym, ◌∙◌, subst, arith, List, [], ◌∷◌, ◌++◌, length, map, drop, length-append}
 use Rattle.std.specs.List.{AllByRecursion}
 use Rattle.std.proofs.lemmas.List.{length-map, drop-drop, get_or-drop}
 use Rattle.prem_plant.specs.declared.plant.Plant.{Plant}
@@ -8,7 +7,7 @@ use Rattle.prem_plant.specs.declared.layout.PartKind.TheVariants.{Start, Stack}
 use Rattle.prem_plant.specs.declared.layout.PartSize.{PartSize}
 use Rattle.prem_plant.specs.Places.{Extent}
 use Rattle.prem_syntax.specs.Syntax.{Text, GlobalVariable}
-use Rattle.prem_meaning.specs.Resolved.{Routine, Resolved}
+use Rattle.prem_meaning.specs.Resolved.{Routine}
 use Rattle.prem_template.specs.Frames.{stack_size}
 use Rattle.prem_asm.specs.Pieces.{Pieces, size_of}
 use Rattle.prem_layout.specs.Plans.{Plan, plans_of}
@@ -18,38 +17,18 @@ use Rattle.prem_layout.specs.Stubs.{stub_of}
 use Rattle.prem_layout.specs.Bounds.{start_code}
 use Rattle.prem_layout.specs.Placed.{Coded, sized_of, block, blocks_from, task_places, placed_at, placed_from, part_total, job_name, name_at}
 use Rattle.prem_layout.proofs.StubLaws.{stubs_have_their_size}
+use Rattle.prem_layout.proofs.TaskParts.{start_sized, code_counted, globals_counted, parts_counted, HasSizes, place_in}
+use Rattle.prem_layout.proofs.Areas.{IsAt}
 use Rattle.prem_content.specs.Blocks.{HasGlobals}
 use Rattle.prem_build_image.specs.Laid.{Ends, IsLaid}
 use Rattle.prem_build_image.proofs.Sizes.{code_long, global_long, stack_whole}
-use Rattle.prem_build_image.proofs.Ground.{IsAt, Stand, place_in, stand_left, stand_right, stand_as, taken_same}
+use Rattle.prem_build_image.proofs.Ground.{Stand, stand_left, stand_right, stand_as, taken_same}
 
 -- the code of each function
 abbrev pub HasCode : Coded → Type 0
 HasCode c = length c.code ≡ length c.program.routines
 
 -- ---- how many there are
-
-code_counted : (task n : ℕ) (sizes : List ℕ) → length (code_parts task n sizes) ≡ length sizes
-code_counted task n [] = refl
-code_counted task n (x ∷ xs) = ap suc (code_counted task (n + 1) xs)
-
-globals_counted : (task n : ℕ) (gs : List GlobalVariable) → length (global_parts task n gs) ≡ length gs
-globals_counted task n [] = refl
-globals_counted task n (g ∷ gs) = ap suc (globals_counted task (n + 1) gs)
-
-parts_counted : (passes : Passes) (task : ℕ) (sizes : List ℕ) (p : Resolved) → length sizes ≡ length p.routines → length (task_parts passes task sizes p) ≡ part_count p
-parts_counted passes task sizes p long =
-    let cs = code_parts task 0 sizes in
-    let ss = stub_parts passes task (plans_of p) in
-    let gs = global_parts task 0 p.globals in
-    let stack : List PartSize = part task Stack (stack_size p) 16 ∷ [] in
-    let a : length cs ≡ length sizes = code_counted task 0 sizes in
-    let b : length ss ≡ length (plans_of p) = length-map (plans_of p) _ in
-    let c : length gs ≡ length p.globals = globals_counted task 0 p.globals in
-    let d : length (gs ++ stack) ≡ length gs + 1 = length-append gs stack in
-    let e : length (ss ++ (gs ++ stack)) ≡ length ss + length (gs ++ stack) = length-append ss (gs ++ stack) in
-    let f : length (cs ++ (ss ++ (gs ++ stack))) ≡ length cs + length (ss ++ (gs ++ stack)) = length-append cs (ss ++ (gs ++ stack)) in
-    omega (arith, a, b, c, d, e, f, long)
 
 task_counted : (passes : Passes) (task : ℕ) (c : Coded) → HasCode c → length (task_parts passes task (map size_of c.code) c.program) ≡ part_count c.program
 task_counted passes task c h = parts_counted passes task (map size_of c.code) c.program (length-map c.code size_of ∙ h)
@@ -63,12 +42,6 @@ tasks_counted passes n (c ∷ cs) h =
     omega (arith, a, b, d)
 
 -- ---- code
-
--- code has the sizes of parts
-abbrev HasSizes : List Pieces → List PartSize → Type 0
-HasSizes [] xs = ⊤
-HasSizes (ps ∷ pss) [] = ⊥
-HasSizes (ps ∷ pss) (x ∷ xs) = (size_of ps ≡ x.size) × HasSizes pss xs
 
 code_sized : (task n : ℕ) (code : List Pieces) → HasSizes code (code_parts task n (map size_of code))
 code_sized task n [] = tt
@@ -107,9 +80,6 @@ globals_end end t task n (g ∷ gs) h =
     (omega (arith, e, w, long), globals_end end t task (n + 1) gs (subst (λ k. Stand end (place_at t) k (global_parts task (n + 1) gs)) z h.1))
 
 -- ---- one task
-
-start_sized : (job : ℕ) → size_of (start_code job) ≡ start_size
-start_sized job = refl
 
 sixteens : (a b c : ℕ) → a ≡ b + c → b % 16 ≡ 0 → c % 16 ≡ 0 → a % 16 ≡ 0
 sixteens a b c e x y = omega (arith, e, x, y)

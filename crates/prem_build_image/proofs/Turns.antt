@@ -9,10 +9,11 @@ use Rattle.prem_image.specs.declared.image.TaskRecord.{TaskRecord}
 use Rattle.prem_image.specs.declared.image.DeviceRecord.{DeviceRecord}
 use Rattle.prem_layout.specs.Footprint.{no_place}
 use Rattle.prem_layout.specs.Image.{greatest_end, task_record, device_records}
+use Rattle.prem_layout.proofs.TaskParts.{place_in}
 use Rattle.prem_placed.specs.PlacedOf.{placed_of}
 use Rattle.prem_placed.specs.declared.task.PlacedTask.{PlacedTask}
 use Rattle.prem_build_image.specs.Built.{count_of, total_of}
-use Rattle.prem_build_image.proofs.Ground.{place_in, greatest_more}
+use Rattle.prem_build_image.proofs.Ground.{greatest_more}
 
 pub greatest_turn : (n greatest new : ℕ) (places : List Extent) (found : Option Extent) (q : Extent) → greatest ≡ greatest_end (take n places) → found ≡ slice_get places n → q ≡ unwrap_or found (0, 0) → new ≡ max greatest q.1 →
     new ≡ greatest_end (take (n + 1) places)

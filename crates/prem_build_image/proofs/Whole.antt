@@ -20,6 +20,8 @@ use Rattle.prem_layout.specs.Parts.{passes_of, part_count, parts_from, area_part
 use Rattle.prem_image.specs.Text.{ImageText}
 use Rattle.prem_layout.specs.Image.{greatest_end, task_record, device_records, with_tasks, image_of}
 use Rattle.prem_layout.specs.Placed.{sized_of, Placed, Block, task_places, placed_at, placed_from, part_total, blocks_of}
+use Rattle.prem_layout.proofs.TaskParts.{place_in, below_greatest}
+use Rattle.prem_layout.proofs.Areas.{areas_stand, each_placed, areas_same, areas_named, records_long, rest_apart}
 use Rattle.prem_content.specs.declared.content.Block.{Block as BlockFound}
 use Rattle.prem_content.specs.Blocks.{Words, block_of, EndsBy}
 use Rattle.prem_placed.specs.PlacedOf.{coded_of, placed_of, routines_of}
@@ -27,9 +29,9 @@ use Rattle.prem_placed.specs.declared.task.PlacedTask.{PlacedTask}
 use Rattle.prem_imaging.specs.Standing.{words_of, AllFit}
 use Rattle.prem_build_image.specs.Laid.{Ends, IsLaid}
 use Rattle.prem_build_image.specs.Built.{count_of, total_of, HasRanges, HaveBlocks, IsBuilt, task_names}
-use Rattle.prem_build_image.proofs.Ground.{Stand, place_in, all_stand, stand_left, stand_within, below_greatest, greatest_within}
+use Rattle.prem_build_image.proofs.Ground.{Stand, all_stand, stand_left, stand_within, greatest_within}
 use Rattle.prem_build_image.proofs.Tasks.{HasCode, tasks_counted, all_laid}
-use Rattle.prem_build_image.proofs.Areas.{whole_long, areas_stand, each_placed, areas_same, areas_named, records_long, rest_apart}
+use Rattle.prem_build_image.proofs.Areas.{whole_long}
 
 -- ---- how many parts there are
 

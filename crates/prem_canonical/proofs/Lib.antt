@@ -10,6 +10,5 @@ pub mod ItemsSaid
 pub mod Aside
 pub mod Spelled
 pub mod Read
-pub mod Divided
 pub mod Fewest
 mod Instances

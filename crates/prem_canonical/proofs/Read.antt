@@ -9,6 +9,7 @@ use Rattle.prem_lexer.specs.Tokens.{tokens_of}
 use Rattle.prem_spelling.specs.Spelled.{AreSpellings, placed}
 use Rattle.prem_spelling.specs.Division.{Divides, AreTokens, too_long, too_many, place_behind}
 use Rattle.prem_spelling.proofs.Exact.{complete, refusals_complete}
+use Rattle.prem_spelling.proofs.Joined.{divided, placed_length}
 use Rattle.prem_grammar.specs.Item.{outside, finished}
 use Rattle.prem_grammar.specs.ProgramPhrases.{ProgramPhrase, IsProgram, program_tokens, program_tree}
 use Rattle.prem_grammar.specs.Law.{stages}
@@ -26,7 +27,8 @@ use Rattle.prem_canonical.proofs.Sayable.{AreSayable, AreSaid, front, tokens_sai
 use Rattle.prem_canonical.proofs.ItemsSaid.{items_said, items_shaped}
 use Rattle.prem_canonical.proofs.Aside.{program_aside}
 use Rattle.prem_canonical.proofs.Spelled.{are_spellings}
-use Rattle.prem_canonical.proofs.Divided.{divided, placed_length}
+
+-- ---- how many tokens there are
 
 -- ---- what a text tells of its tree
 

@@ -1,5 +1,5 @@
 -- Tokens of a text can be spelled, and so can the canonical ones of its tree.
-use Rattle.std.proofs.Common.{◌≡◌, ◌≤◌, ℕ, ℤ, pos, neg_ℤ, zero, suc, nat_lt, int_lt, unsigned_abs, Bool, true, false, if◌then◌else◌, List, [], ◌∷◌, ◌++◌, Option, None, Some, refl, sym, subst, arith}
+use Rattle.std.proofs.Common.{◌≡◌, ◌≤◌, ℕ, ℤ, pos, neg_ℤ, zero, suc, nat_lt, int_lt, unsigned_abs, Bool, true, false, if◌then◌else◌, List, [], ◌∷◌, ◌++◌, Some, refl, sym, subst, arith}
 use Rattle.std.proofs.lemmas.Bool.Decides.{nat_tests}
 use Rattle.prem_word.specs.declared.kind.Kind.TheVariants.{Int, Unsigned}
 use Rattle.prem_token.specs.Lexeme.{Lexeme, name, number, word, mark, end_of_text, Seen}
@@ -7,6 +7,7 @@ use Rattle.prem_spelling.specs.Spellings.{Spells, as_name, as_word, as_literal, 
 use Rattle.prem_spelling.specs.Division.{Divides, up_to, gap, token, AreTokens}
 use Rattle.prem_grammar.specs.Slots.{Slot, a_name, is_name, fits, text_of, value_of, value_at}
 use Rattle.prem_grammar.specs.Phrases.{IsRow, name_or_none, name_at}
+use Rattle.prem_grammar.proofs.Taken.{nth}
 use Rattle.prem_canonical.specs.Canonical.{number_lexeme, constant_lexemes}
 
 -- ---- lexemes
@@ -73,11 +74,6 @@ tokens_said text all is = subst AreSaid (sym is.is_all) (said_append is.tokens _
 
 -- ---- rows
 
-abbrev pub slot_in : ℕ → List Slot → Option Slot
-slot_in n [] = None
-slot_in zero (s ∷ slots) = Some s
-slot_in (suc n) (s ∷ slots) = slot_in n slots
-
 named : (t : Lexeme) → is_name t ≡ true → IsSayable t → IsSayable (name (name_or_none (text_of t)))
 named (name x) is p = p
 named (number value kind) is p = absurd cc
@@ -85,7 +81,7 @@ named (word k) is p = absurd cc
 named (mark k) is p = absurd cc
 named end_of_text is p = absurd cc
 
-pub name_said : (n : ℕ) (slots : List Slot) (ts : List Seen) → slot_in n slots ≡ Some a_name → IsRow slots ts → AreSaid ts → IsSayable (name (name_at n ts))
+pub name_said : (n : ℕ) (slots : List Slot) (ts : List Seen) → nth n slots ≡ Some a_name → IsRow slots ts → AreSaid ts → IsSayable (name (name_at n ts))
 name_said n [] ts is right p = absurd cc
 name_said n (s ∷ slots) [] is right p = absurd right
 name_said zero (s ∷ slots) (t ∷ ts) is right p =

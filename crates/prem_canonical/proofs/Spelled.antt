@@ -1,5 +1,5 @@
 -- Lexemes are spelled by their bytes.
-use Rattle.std.proofs.Common.{◌≡◌, ◌≤◌, ◌<◌, ℕ, zero, suc, ◌+◌, ◌*◌, ◌^◌, ◌==◌, true, false, List, [], ◌∷◌, length, get_or, refl, ap, sym, subst, ◌∙◌, arith, add-mul, mul_assoc, add_assoc, add-zero, mul-one, map}
+use Rattle.std.proofs.Common.{◌≡◌, ◌≤◌, ◌<◌, ℕ, zero, suc, ◌+◌, ◌*◌, ◌^◌, ◌==◌, true, false, List, [], ◌∷◌, length, get_or, refl, ap, sym, subst, ◌∙◌, arith, add-zero, mul-one, map}
 use Rattle.std.specs.Fmt.{decimal}
 use Rattle.std.specs.Char.{digit_value as digit_of}
 use Rattle.std.specs.Str.Parse.{AllDigits, digits_value, digits_value_after}
@@ -22,6 +22,7 @@ use Rattle.prem_lexer.specs.Literal.{digit_value}
 use Rattle.prem_lexer.specs.Tokens.{is_digit}
 use Rattle.prem_spelling.specs.Spellings.{StandsIn, at_front, further, every, value_in, Digits, just_zero, decimal as decimal_digits, as_int, as_suffixed, Reserved, used, without_use, Spells, as_word, as_literal, as_mark}
 use Rattle.prem_spelling.specs.Spelled.{AreSpellings}
+use Rattle.prem_spelling.proofs.Literals.{shifted}
 use Rattle.prem_canonical.specs.Printed.{word_bytes, mark_bytes, lexeme_bytes, spelling_of}
 use Rattle.prem_canonical.proofs.Sayable.{AreSayable, IsSayable}
 
@@ -39,9 +40,6 @@ same_digit c lt = let a = digit_value_digit c (digit_from_value c lt) in let b =
 every_digit : (ds : List ℕ) → AllDigits 10 ds → every is_digit ds ≡ true
 every_digit [] all = refl
 every_digit (d ∷ ds) all = and_from (is_digit d) (every is_digit ds) (in_digits d all.0) (every_digit ds all.1)
-
-shifted : (n b v p e : ℕ) → (n * b + v) * p + e ≡ n * (b * p) + (v * p + e)
-shifted n b v p e = ap (λ (x : ℕ). x + e) (add-mul (n * b) v p ∙ ap (λ (x : ℕ). x + v * p) (mul_assoc n b p)) ∙ add_assoc (n * (b * p)) (v * p) e
 
 value_after : (n : ℕ) (ds : List ℕ) → AllDigits 10 ds → digits_value_after 10 n ds ≡ n * 10 ^ length ds + value_in 10 ds
 value_after n [] all = sym (ap (λ (x : ℕ). n * x + 0) (pow-zero 10) ∙ add-zero (n * 1) ∙ mul-one n)

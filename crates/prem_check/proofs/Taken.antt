@@ -1,5 +1,5 @@
 -- Names that are taken, and one more.
-use Rattle.std.proofs.Common.{◌≡◌, ℕ, ◌+◌, ◌<◌, length, take, get_or, List, [], ◌∷◌, ◌++◌, Bool, true, false, ◌||◌, map, refl, ap, ◌∙◌, sym, append_assoc}
+use Rattle.std.proofs.Common.{◌≡◌, ℕ, ◌+◌, ◌<◌, length, take, get_or, List, [], ◌∷◌, ◌++◌, ◌||◌, map, refl, ap, ◌∙◌, sym, append_assoc}
 use Rattle.std.proofs.lemmas.List.{take_more}
 use Rattle.std.specs.Str.{bytes_eq}
 use Rattle.prem_syntax.specs.declared.tree.Ty.{Ty}
@@ -7,16 +7,13 @@ use Rattle.prem_syntax.specs.Syntax.{Text, Parameter}
 use Rattle.prem_meaning.specs.Resolve.{Scope, parameter_names}
 use Rattle.prem_names.specs.Scopes.{with_locals, local_texts}
 use Rattle.prem_meaning.specs.Breaches.{has_name, parameter_texts}
+use Rattle.prem_reach.proofs.Sets.{grouped}
 use Rattle.prem_check.specs.Taken.{taken_of}
-
-either : (a b c : Bool) → (a || (b || c)) ≡ ((a || b) || c)
-either true b c = refl
-either false b c = refl
 
 pub has_name_append : (xs ys : List Text) (name : Text) → has_name (xs ++ ys) name ≡ (has_name xs name || has_name ys name)
 has_name_append [] ys name = refl
 has_name_append (x ∷ xs) ys name =
-    ap (λ t. bytes_eq x name || t) (has_name_append xs ys name) ∙ either (bytes_eq x name) (has_name xs name) (has_name ys name)
+    ap (λ t. bytes_eq x name || t) (has_name_append xs ys name) ∙ grouped (bytes_eq x name) (has_name xs name) (has_name ys name)
 
 texts_append : (ls : List (Text × Ty)) (name : Text) (ty : Ty) → map (λ (l : Text × Ty). l.0) (ls ++ (name, ty) ∷ []) ≡ map (λ (l : Text × Ty). l.0) ls ++ name ∷ []
 texts_append [] name ty = refl

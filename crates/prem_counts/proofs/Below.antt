@@ -23,12 +23,12 @@ use Rattle.prem_counts.proofs.StepCounts.{step_most}
 abbrev Alike : ℕ → ℕ → Type 0
 Alike a b = clipped a ≡ clipped b
 
-large_product : (n a limit : ℕ) → limit ≤ a → min (suc n * limit) limit ≡ min (suc n * a) limit
+pub large_product : (n a limit : ℕ) → limit ≤ a → min (suc n * limit) limit ≡ min (suc n * a) limit
 large_product n a limit le =
     let m : n * limit ≤ n * a = mul-le n limit n a (omega arith) le in
     omega arith
 
-clipped_times : (n a limit : ℕ) → min (n * min a limit) limit ≡ min (n * a) limit
+pub clipped_times : (n a limit : ℕ) → min (n * min a limit) limit ≡ min (n * a) limit
 clipped_times zero a limit = omega arith
 clipped_times (suc n) a limit =
     ⊎_elim (λ (lt : a < limit). let e : min a limit ≡ a = omega arith in ap (λ k. min (suc n * k) limit) e)

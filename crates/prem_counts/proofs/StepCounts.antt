@@ -6,8 +6,9 @@ use Rattle.prem_list.specs.Sequence.{items_of}
 use Rattle.prem_resolve.specs.declared.resolved.Step.{Step, Block, Row_of-Step, end_of-Step, more_of-Step, items-the_row-Step, items_hidden-the_row-Step-0}
 use Rattle.prem_resolve.specs.declared.resolved.Step.TheBlock.{hidden-the_row-Step-0}
 use Rattle.prem_resolve.specs.declared.resolved.Step.TheVariants.{Block', SetLocal, SetScalar, SetElement, Output, Input, If', For', While', Call}
-use Rattle.prem_resolve.specs.ResolvedOf.{loops_of, row_loops, list_loops, step_before, row_before}
+use Rattle.prem_resolve.specs.ResolvedOf.{loops_of, list_loops, step_before, row_before}
 use Rattle.prem_meaning.specs.Resolved.{Steps, Done}
+use Rattle.prem_resolve.proofs.StepRows.{row_counted}
 use Rattle.prem_ranges.specs.Counts.{most_in}
 use Rattle.prem_counts.specs.Count.{first_turn, most_of_step, most_of_row, most_of_list}
 
@@ -17,10 +18,6 @@ row_most : {m : _} (output : ℕ) (calls : ℕ → ℕ) (turns : List ℕ) (row 
 row_most output calls turns end_of-Step = refl
 row_most output calls turns (more_of-Step first others) = ap (λ k. most_of_step output calls turns first + k) (row_most output calls (drop (loops_of first) turns) others)
 
-loops_row : {m : _} (row : Row_of-Step m) → row_loops row ≡ list_loops (items-the_row-Step m row)
-loops_row end_of-Step = refl
-loops_row (more_of-Step first others) = ap (λ k. loops_of first + k) (loops_row others)
-
 pub block_most : (output : ℕ) (calls : ℕ → ℕ) (turns : List ℕ) (s : Step) (body : Sequence Step) (items : List Step) → s ≡ Block body → items ≡ items_of body → most_of_list output calls turns items ≡ most_of_step output calls turns s
 block_most output calls turns s body items is e =
     ap (most_of_list output calls turns) e
@@ -28,7 +25,7 @@ block_most output calls turns s body items is e =
 
 pub block_loops : (s : Step) (body : Sequence Step) (items : List Step) → s ≡ Block body → items ≡ items_of body → list_loops items ≡ loops_of s
 block_loops s body items is e =
-    ap list_loops e ∙ sym (ap loops_of is ∙ loops_row (hidden-the_row-Step-0 body.all) ∙ ap list_loops (items_hidden-the_row-Step-0 body.all))
+    ap list_loops e ∙ sym (ap loops_of is ∙ row_counted (hidden-the_row-Step-0 body.all) ∙ ap list_loops (items_hidden-the_row-Step-0 body.all))
 
 -- ---- the steps that they stand for, where the turns are those of a list from number n on
 

@@ -20,10 +20,10 @@ use Rattle.prem_prefetch_laws.specs.Premises.{stub_code}
 use Rattle.prem_prefetch_laws.specs.Confined.{with_guard, return_step, StubSteps}
 use Rattle.prem_prefetch_laws.proofs.Returns.{stubs_return}
 use Rattle.prem_script.specs.Scripts.{Mark}
+use Rattle.prem_gen_laws.proofs.Quiet.{one_holds}
 use Rattle.prem_weave.specs.Weave.{Section, section_dids, ends, goes, calls, due_along, charge}
 use Rattle.prem_weave.proofs.Charges.{weaves_are_charged}
 use Rattle.prem_segment.specs.Sections.{section_of}
-use Rattle.prem_segment.proofs.Bodies.{one_holds}
 use Rattle.prem_segment.proofs.Sections.{stubs_are_sections}
 use Rattle.prem_stub_weave.specs.StubWeave.{StubAt, StubStands}
 use Rattle.prem_dues.specs.Charged.{IsReady, ReturnsCharged, call_weight, StubsAreCharged}

@@ -1,5 +1,5 @@
 -- How short pieces run.
-use Rattle.std.proofs.Common.{◌≡◌, ℕ, zero, suc, ◌+◌, ◌*◌, refl, ap, ◌∙◌, sym, arith, cond, eqb, true, false, Bool, ◌&&◌, List, [], ◌∷◌, ◌++◌, length, append_assoc, append-nil, eq-eqb}
+use Rattle.std.proofs.Common.{◌≡◌, ℕ, zero, suc, ◌+◌, ◌*◌, refl, ap, ◌∙◌, sym, arith, cond, eqb, true, false, List, [], ◌∷◌, ◌++◌, length, append_assoc, append-nil, eq-eqb}
 use Rattle.std.proofs.lemmas.Bool.{cond_both}
 use Rattle.prem_isa.specs.declared.instr.Instr.{Instr}
 use Rattle.prem_isa.specs.declared.instr.Instr.TheVariants.{Lui, OpImm, Op}
@@ -9,6 +9,7 @@ use Rattle.prem_isa.specs.Plain.{TaskState, Did}
 use Rattle.prem_asm.specs.declared.piece.Test.{Test}
 use Rattle.prem_asm.specs.Pieces.{Pieces, no_pieces, straight, address_of, either, repeat, call_to, words, size_of, followed, address_code, jump, jump_to, skip_words, skip_at, other_at, either_end, test_at, back_at, repeat_end}
 use Rattle.prem_asm.specs.Runs.{Ending, Falls, Returns, Stuck, with_trace, then_run, Calls, called, Setting, is_return, stepped, outcome_at, run_one, run_code, control, test_holds, choose, taken_steps, other_steps, skip_steps, linked, Loop, left_loop, run_turns, run}
+use Rattle.prem_asm.proofs.Keeps.{both_true}
 use Rattle.prem_expr_laws.specs.Registers.{is_alu, all_alu, alu, alus, alu_steps}
 
 -- ---- runs one after another
@@ -112,14 +113,10 @@ alu_falls s at (OpImm op rd rs1 z) m e = falls s at (OpImm op rd rs1 z) m rd _ r
 alu_falls s at (Op op rd rs1 rs2) m e = falls s at (Op op rd rs1 rs2) m rd _ refl refl
 alu_falls s at _ m e = cc
 
-first_two : (a b : Bool) → (a && b) ≡ true → (a ≡ true) × (b ≡ true)
-first_two true b e = (refl, e)
-first_two false b e = cc
-
 pub alu_goes : (s : Setting) (at : ℕ) (is : List Instr) (m : TaskState) → all_alu is ≡ true → run_code s at is m ≡ Falls (record m { registers = alus is m.registers }) (alu_steps at is m.phase)
 alu_goes s at [] m e = refl
 alu_goes s at (i ∷ is) m e =
-    let h = first_two (is_alu i) (all_alu is) e in
+    let h = both_true (is_alu i) (all_alu is) e in
     let m1 : TaskState = record m { registers = alu i m.registers } in
     ap (λ o. then_run o (run_code s (at + 4) is)) (alu_falls s at i m h.0)
     ∙ ap (with_trace (control at i m)) (alu_goes s (at + 4) is m1 h.1)

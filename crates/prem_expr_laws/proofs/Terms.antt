@@ -1,7 +1,7 @@
 -- The code of a term gives its value.
-use Rattle.std.proofs.Common.{◌≡◌, ◌≢◌, ℕ, ◌+◌, ◌<◌, ◌≤◌, refl, ap, ◌∙◌, sym, subst, arith, cond, eqb, ltb, not, Some, None, Option, true, false, Bool, List, [], ◌∷◌, ◌++◌, length, Ok, Err}
+use Rattle.std.proofs.Common.{◌≡◌, ◌≢◌, ℕ, ◌+◌, ◌<◌, ◌≤◌, refl, ap, ◌∙◌, sym, subst, arith, cond, eqb, ltb, not, None, true, false, Bool, List, [], ◌∷◌, ◌++◌, length, Ok, Err}
 use Rattle.std.specs.Prelude.{pos}
-use Rattle.std.proofs.lemmas.Bool.{eqb-true, eqb-false, ltb-true}
+use Rattle.std.proofs.lemmas.Bool.{eqb-true, eqb-false}
 use Rattle.prem_word.specs.declared.kind.Kind.{Kind}
 use Rattle.prem_word.specs.declared.kind.BinOp.{BinOp}
 use Rattle.prem_word.specs.declared.kind.BinOp.TheVariants.{Add as Plus, Sub as Minus, Mul, Div, Rem, Shl, Shr, Lt, Le, Gt, Ge, Eq, Ne, And as BitAnd, Xor as BitXor, Or as BitOr, AndAlso as AndAlsoOp, OrElse as OrElseOp}
@@ -12,13 +12,13 @@ use Rattle.prem_isa.specs.declared.instr.Instr.TheVariants.{Load, OpImm}
 use Rattle.prem_isa.specs.declared.instr.LoadOp.TheVariants.{Lw}
 use Rattle.prem_isa.specs.declared.instr.AluOp.TheVariants.{Add}
 use Rattle.prem_isa.specs.Plain.{TaskState}
-use Rattle.prem_syntax.specs.declared.tree.Place.{Place}
 use Rattle.prem_meaning.specs.Resolved.{Term, Constant, Local, Scalar, Element, Unary, Binary, AndAlso, OrElse}
 use Rattle.prem_meaning.specs.Expressions.{Outcome, and_then, Access, unary_word, divide, operate, truth_of, eval}
 use Rattle.prem_asm.specs.Pieces.{Pieces, no_pieces, either, size_of, followed, other_at}
 use Rattle.prem_asm.specs.Runs.{Calls, Setting}
 use Rattle.prem_template.specs.Terms.{only, constant, slot, nonzero, unary_code, binary_code, truth_code, scalar_code, element_code, term_code}
 use Rattle.prem_template.specs.Limits.{first_of, first_place, too_deep}
+use Rattle.prem_template.proofs.Depths.{first_none, unless_deep, depth_bound}
 use Rattle.prem_expr_laws.specs.Registers.{AreWords, Puts}
 use Rattle.prem_expr_laws.specs.Relation.{Globals, Stack, Ground, GlobalsStand, LocalsStand}
 use Rattle.prem_expr_laws.specs.Gives.{IsOperator, TermFits, IsKept, Gives, TermRuns}
@@ -44,24 +44,6 @@ pub same_ok : {A : Type 0} (a b : A) → ok_of a ≡ ok_of b → a ≡ b
 same_ok a b e = cc
 
 -- ---- depth
-
-pub first_none : (a b : Option Place) → first_of a b ≡ None → (a ≡ None) × (b ≡ None)
-first_none None b e = (refl, e)
-first_none (Some x) b e = cc
-
-pub unless_deep : (b : Bool) (o : Option Place) (at : Place) → cond b o (Some at) ≡ None → (b ≡ true) × (o ≡ None)
-unless_deep true o at e = (refl, e)
-unless_deep false o at e = cc
-
-pub depth_bound : (r : ℕ) (e : Term) → too_deep r e ≡ None → r < 22
-depth_bound r (Constant at word kind) h = ltb-true r 22 (unless_deep (ltb r 22) None at h).0
-depth_bound r (Local at number kind) h = ltb-true r 22 (unless_deep (ltb r 22) None at h).0
-depth_bound r (Scalar at global ty) h = ltb-true r 22 (unless_deep (ltb r 22) None at h).0
-depth_bound r (Element at global ty index) h = ltb-true r 22 (unless_deep (ltb r 22) (too_deep r index) at h).0
-depth_bound r (Unary at op operand) h = ltb-true r 22 (unless_deep (ltb r 22) (too_deep r operand) at h).0
-depth_bound r (Binary at op kind left right) h = ltb-true r 22 (unless_deep (ltb r 22) (first_of (too_deep r left) (too_deep (r + 1) right)) (first_place left) h).0
-depth_bound r (AndAlso at left right) h = ltb-true r 22 (unless_deep (ltb r 22) (first_of (too_deep r left) (too_deep r right)) (first_place left) h).0
-depth_bound r (OrElse at left right) h = ltb-true r 22 (unless_deep (ltb r 22) (first_of (too_deep r left) (too_deep r right)) (first_place left) h).0
 
 -- ---- operators
 

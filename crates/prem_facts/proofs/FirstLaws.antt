@@ -16,7 +16,7 @@ use Rattle.prem_facts.specs.Laws.{ClashIsFirst, ShortIsFirst}
 abbrev clash_told : Plant → Placed → Clash → LateRule
 clash_told p t c = ConflictIn (name_at t.task.program.routines c.function) c.conflict.set c.conflict.lines p.«ways»
 
-or_else_map : {A B : Type 0} (h : A → B) (a b : Option A) → option_map h (or_else a b) ≡ or_else (option_map h a) (option_map h b)
+pub or_else_map : {A B : Type 0} (h : A → B) (a b : Option A) → option_map h (or_else a b) ≡ or_else (option_map h a) (option_map h b)
 or_else_map h None b = refl
 or_else_map h (Some a) b = refl
 

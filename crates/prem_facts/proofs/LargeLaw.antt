@@ -9,10 +9,7 @@ use Rattle.prem_layout.specs.Placed.{name_at}
 use Rattle.prem_layout.specs.Rules.{LateRule, BoundTooLarge, or_else, greatest_bound, if_large, marked_bound, facts_behind, large_bound}
 use Rattle.prem_facts.specs.Large.{marked_large, rest_behind, first_large}
 use Rattle.prem_facts.specs.Laws.{is_large, LargeIsFirst}
-
-or_else_map : {A B : Type 0} (h : A → B) (a b : Option A) → option_map h (or_else a b) ≡ or_else (option_map h a) (option_map h b)
-or_else_map h None b = refl
-or_else_map h (Some a) b = refl
+use Rattle.prem_facts.proofs.FirstLaws.{or_else_map}
 
 first_name : (all : List Routine) (n : ℕ) (r : Routine) (rs : List Routine) → drop n all ≡ r ∷ rs → name_at all n ≡ r.text.name
 first_name [] zero r rs e = cc

@@ -1,6 +1,6 @@
 -- All code of a well-formed program has words.
 use Rattle.std.proofs.Common.{◌≡◌, ℕ, zero, suc, ◌+◌, ◌*◌, ◌/◌, ◌%◌, ◌^◌, ◌<◌, ◌≤◌, refl, ap, subst, arith, cond, ltb, true, false, Bool, List, [], ◌∷◌, ◌++◌, length, map, Some, None, Option, All}
-use Rattle.std.specs.Prelude.{slice_get, slice_index, is_some, unwrap_or, codes}
+use Rattle.std.specs.Prelude.{slice_get, slice_index, unwrap_or, codes}
 use Rattle.std.specs.Option.{option_map}
 use Rattle.std.proofs.lemmas.Bool.{ltb-false}
 use Rattle.std.proofs.lemmas.List.Elements.{All-nil, All-cons, All-head, All-tail}
@@ -24,18 +24,11 @@ use Rattle.prem_layout.specs.Bounds.{start_code}
 use Rattle.prem_fit_laws.specs.Whole.{HasAddresses, HasWords, ProgramsHaveWords}
 use Rattle.prem_fit_laws.proofs.Terms.{Below, found_below}
 use Rattle.prem_fit_laws.proofs.Steps.{programs_named}
-use Rattle.prem_fit_laws.proofs.Operators.{Fitting, fitting, joined, address_fits, each_behind, i0, r0, r5, r6}
+use Rattle.prem_template.proofs.Operators.{Fitting, fitting, joined, address_fits, each_behind, i0, r0, r5, r6}
+use Rattle.prem_layout.proofs.TaskParts.{plans_counted}
 use Rattle.prem_fit_laws.proofs.FunctionCode.{IsPlaced, IsCalled, function_fits}
 
 -- ---- marked functions
-
-plans_counted : (p : Resolved) (n : ℕ) (fs : List Routine) → length (plans_from p n fs) ≡ marked_count fs
-plans_counted p n [] = refl
-plans_counted p n (f ∷ fs) = by f.text.mark (plans_from p (n + 1) fs) (plans_counted p (n + 1) fs)
-  where
-    by : (mark : Option MarkText) (plans : List Plan) → length plans ≡ marked_count fs → length (plan_before p n mark plans) ≡ cond (is_some mark) 1 0 + marked_count fs
-    by None plans e = omega (arith, e)
-    by (Some mark) plans e = omega (arith, e)
 
 before_less : (fs : List Routine) (f : ℕ) → is_marked_at fs f ≡ true → marked_before f fs < marked_count fs
 before_less [] f e = cc
@@ -64,7 +57,7 @@ none_deep : (o : Option TextPlace) → deep_excess o ≡ None → o ≡ None
 none_deep None e = refl
 none_deep (Some at) e = cc
 
-none_either : (a b : Option Excess) → excess_or a b ≡ None → (a ≡ None) × (b ≡ None)
+pub none_either : (a b : Option Excess) → excess_or a b ≡ None → (a ≡ None) × (b ≡ None)
 none_either None b e = (refl, e)
 none_either (Some x) b e = cc
 

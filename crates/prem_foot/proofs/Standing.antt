@@ -17,16 +17,17 @@ use Rattle.prem_syntax.specs.Syntax.{Text, RegionText, MarkText, GlobalVariable,
 use Rattle.prem_meaning.specs.Resolved.{Routine, Resolved}
 use Rattle.prem_meaning.specs.Resolve.{Scope, find_named, find_global, scope_at, scope_in, loops_within, resolve_items, globals_of, functions_of, resolve}
 use Rattle.prem_meaning.specs.Rules.{NoJob, OfTypes}
-use Rattle.prem_meaning.specs.Breaches.{in_region, in_regions, regions_of, in_heading, in_parameters, in_locals, in_statements, in_option, around, parameter_texts, in_function, in_global, in_items, item_names, in_limits, breaches, reached, is_job_name, if_broken}
+use Rattle.prem_meaning.specs.Breaches.{in_region, in_regions, regions_of, in_heading, in_parameters, in_locals, in_statements, in_option, around, parameter_texts, in_function, in_global, in_items, item_names, in_limits, reached, is_job_name, if_broken}
 use Rattle.prem_meaning.specs.Reach.{is_in_set}
-use Rattle.prem_meaning.specs.GroupTwo.{group_two, IsWellFormed}
 use Rattle.prem_ranges.proofs.Basics.{none_left, none_right}
-use Rattle.prem_ranges.proofs.Named.{kept_rule, none_broken, found_at}
+use Rattle.prem_ranges.proofs.Named.{kept_rule, found_at}
+use Rattle.prem_ranges.proofs.WellFormed.{all_breaches}
 use Rattle.prem_template.specs.Frames.{frame_at, depth_of, deepest_marked, stack_size}
 use Rattle.prem_layout.specs.Plans.{Plan, Region, number_or, global_number, region_of, plan_before, plans_from, plans_of}
 use Rattle.prem_layout.specs.Parts.{Passes, element_size, global_size, code_parts, stub_parts, global_parts, part, task_parts, part_count}
 use Rattle.prem_layout.specs.Footprint.{no_place, place_at, global_range, stack_place}
 use Rattle.prem_layout.specs.Placed.{task_places}
+use Rattle.prem_layout.proofs.TaskParts.{globals_counted}
 use Rattle.prem_foot.specs.PlacesOf.{IsRegionAt, IsPlanAt}
 use Rattle.prem_foot.specs.Standing.{StandsAt, ArePartsAt, PlansStand}
 
@@ -118,10 +119,6 @@ codes_long : (task n : ℕ) (sizes : List ℕ) → length (code_parts task n siz
 codes_long task n [] = refl
 codes_long task n (s ∷ ss) = ap suc (codes_long task (n + 1) ss)
 
-globals_long : (task n : ℕ) (gs : List GlobalVariable) → length (global_parts task n gs) ≡ length gs
-globals_long task n [] = refl
-globals_long task n (g ∷ gs) = ap suc (globals_long task (n + 1) gs)
-
 global_there : (task n k : ℕ) (gs : List GlobalVariable) (g : GlobalVariable) (rest : List PartSize) → slice_get gs k ≡ Some g →
     slice_get (global_parts task n gs ++ rest) k ≡ Some (part task (Global (n + k)) (global_size g) 4)
 global_there task n k [] g rest e = absurd cc
@@ -142,7 +139,7 @@ behind_stubs passes task k sizes p =
 stack_there : (task : ℕ) (gs : List GlobalVariable) (size : ℕ) → slice_get (global_parts task 0 gs ++ part task Stack size 16 ∷ []) (length gs) ≡ Some (part task Stack size 16)
 stack_there task gs size =
     let globals = global_parts task 0 gs in
-    let z : length gs ≡ length globals + 0 = omega (arith, globals_long task 0 gs) in
+    let z : length gs ≡ length globals + 0 = omega (arith, globals_counted task 0 gs) in
     ap (slice_get (globals ++ part task Stack size 16 ∷ [])) z ∙ get_behind globals (part task Stack size 16 ∷ []) 0
 
 -- ---- places by number
@@ -263,10 +260,6 @@ each_stands p places sizes passes task memory most (plan ∷ plans) long small s
 is_none_means : {A : Type 0} (o : Option A) → IsTrue (is_none o) → o ≡ None
 is_none_means None h = refl
 is_none_means (Some a) h = absurd cc
-
-all_breaches : (p : ProgramText) → IsWellFormed p → breaches p ≡ []
-unfolding group_two
-all_breaches p formed = none_broken (breaches p) (is_none_means (group_two p) formed)
 
 pub plans_stand : PlansStand
 plans_stand passes memory task text turns sizes places formed small long stand =

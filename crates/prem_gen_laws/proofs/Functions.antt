@@ -27,11 +27,12 @@ use Rattle.prem_gen_laws.specs.Laws.{with_globals, CalleesRun}
 use Rattle.prem_gen_laws.specs.Functions.{ResultFits, FunctionFits, performed, FunctionRuns}
 use Rattle.prem_gen_laws.proofs.Memory.{byte_apart, number_apart, number_same, word_back, globals_stack}
 use Rattle.prem_asm.specs.Steps.{AllSteps}
+use Rattle.prem_asm.proofs.Rows.{words-followed}
 use Rattle.prem_gen_laws.specs.Marks.{Stays, Arrives, behind, Marked}
 use Rattle.prem_gen_laws.proofs.Marks.{unmarked, marked_nothing, marks_join}
 use Rattle.prem_gen_laws.proofs.Arrivals.{silent, code_arrives, runs_arrive, marked_gave}
 use Rattle.prem_gen_laws.proofs.Parts.{evaluated, still}
-use Rattle.prem_gen_laws.proofs.Steps.{words_followed, steps_end}
+use Rattle.prem_gen_laws.proofs.Steps.{steps_end}
 use Rattle.prem_gen_laws.proofs.Frames.{declared, Opened, opened, closed}
 
 -- ---- frames
@@ -206,9 +207,9 @@ module _ (s : Setting) (calls : Calls) (gs : Globals) (parts : Parts) (cs : Call
         let bp = steps_code (with_globals gs parts) total f.body in
         let rp = result_code gs.part f.result in
         let cp = only (closing frame) in
-        let s1 = words_followed dp (followed bp (followed rp cp)) in
-        let s2 = words_followed bp (followed rp cp) in
-        let s3 = words_followed rp cp in
+        let s1 = words-followed dp (followed bp (followed rp cp)) in
+        let s2 = words-followed bp (followed rp cp) in
+        let s3 = words-followed rp cp in
         let size : at + size_of (function_code (with_globals gs parts) f) < 2 ^ 32 = fit.ends in
         let at_al : at % 4 ≡ 0 = fit.placed in
         let t1 : TaskState = record t { registers = op.registers; view = put_number 4 (k.sp - frame) back t.view } in

@@ -11,6 +11,7 @@ use Rattle.prem_meaning.specs.Expressions.{Access}
 use Rattle.prem_meaning.specs.Statements.{ProgramState, Calls as SourceCalls, declare, result_of, run as run_source}
 use Rattle.prem_asm.specs.Pieces.{size_of, followed}
 use Rattle.prem_asm.specs.Runs.{Calls, Setting, run}
+use Rattle.prem_asm.proofs.Rows.{words-followed}
 use Rattle.prem_template.specs.Terms.{only}
 use Rattle.prem_template.specs.Frames.{locals_of, slots_of, frame_of}
 use Rattle.prem_template.specs.Steps.{Parts, opening, closing, declare_code, result_code, steps_code, function_code}
@@ -26,7 +27,7 @@ use Rattle.prem_gen_laws.specs.Marks.{Arrives}
 use Rattle.prem_gen_laws.proofs.Arrivals.{silent, code_arrives, runs_arrive}
 use Rattle.prem_gen_laws.specs.Jobs.{Between, FrameBack, FrameRuns, JobRuns}
 use Rattle.prem_gen_laws.proofs.Memory.{number_same, number_apart, word_back, globals_stack}
-use Rattle.prem_gen_laws.proofs.Steps.{words_followed, steps_end}
+use Rattle.prem_gen_laws.proofs.Steps.{steps_end}
 use Rattle.prem_gen_laws.proofs.Frames.{declared, Opened, opened, closed}
 use Rattle.prem_gen_laws.proofs.Functions.{rounded, four, five_marks, resulted}
 
@@ -59,9 +60,9 @@ module _ (s : Setting) (calls : Calls) (gs : Globals) (may : Access) (parts : Pa
       let bp = steps_code (with_globals gs parts) total f.body in
       let rp = result_code gs.part f.result in
       let cp = only (closing frame) in
-      let s1 = words_followed dp (followed bp (followed rp cp)) in
-      let s2 = words_followed bp (followed rp cp) in
-      let s3 = words_followed rp cp in
+      let s1 = words-followed dp (followed bp (followed rp cp)) in
+      let s2 = words-followed bp (followed rp cp) in
+      let s3 = words-followed rp cp in
       let size : at + size_of (function_code (with_globals gs parts) f) < 2 ^ 32 = fit.ends in
       let at_al : at % 4 ≡ 0 = fit.placed in
       let t1 : TaskState = record t { registers = op.registers; view = put_number 4 k.sp back t.view } in

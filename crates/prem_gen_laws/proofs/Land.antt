@@ -14,7 +14,7 @@ lands own ended g bytes (Falls u trace) at t to h = tt
 lands own ended g bytes (Returns back u trace) at t to h = h
 lands own ended g bytes Stuck at t to h = tt
 
-one_lands : (own : TaskRun) (ended : ℕ) (g : Guard) (bytes : ℕ → ℕ) (b : Bool) (x y : Ending) (at : ℕ) (t : TaskState) → (b ≡ true → Lands own ended g bytes x at t) → Lands own ended g bytes y at t → Lands own ended g bytes (one_of b x y) at t
+pub one_lands : (own : TaskRun) (ended : ℕ) (g : Guard) (bytes : ℕ → ℕ) (b : Bool) (x y : Ending) (at : ℕ) (t : TaskState) → (b ≡ true → Lands own ended g bytes x at t) → Lands own ended g bytes y at t → Lands own ended g bytes (one_of b x y) at t
 one_lands own ended g bytes true x y at t h k = h refl
 one_lands own ended g bytes false x y at t h k = k
 

@@ -74,7 +74,7 @@ size_same Ushort = refl
 size_same Schar = refl
 size_same Uchar = refl
 
-as_word : (P : ℤ → Type 0) (x half : ℕ) → (x < half → P (pos x)) → (half ≤ x → P (negsuc (2 * half - suc x))) → P (cond (ltb x half) (pos x) (negsuc (2 * half - suc x)))
+pub as_word : (P : ℤ → Type 0) (x half : ℕ) → (x < half → P (pos x)) → (half ≤ x → P (negsuc (2 * half - suc x))) → P (cond (ltb x half) (pos x) (negsuc (2 * half - suc x)))
 as_word P x half f g = cond_both (ltb x half) (pos x) (negsuc (2 * half - suc x)) P (λ e. f (ltb-true x half e)) (λ e. g (ltb-false x half e))
 
 -- an element is loaded as it was stored

@@ -267,7 +267,7 @@ quiet_function parts f q = (
 
 -- ---- calls by number
 
-one_holds : (P : Did → Type 0) (I : TaskState → Type 0) (b : Bool) (this other : Ending) → Holds P I this → Holds P I other → Holds P I (one_of b this other)
+pub one_holds : (P : Did → Type 0) (I : TaskState → Type 0) (b : Bool) (this other : Ending) → Holds P I this → Holds P I other → Holds P I (one_of b this other)
 one_holds P I true this other h k = h
 one_holds P I false this other h k = k
 

@@ -6,9 +6,10 @@ use Rattle.prem_isa.specs.Plain.{TaskState}
 use Rattle.prem_meaning.specs.Resolved.{Term, Steps, Done as NoSteps, SetLocal, SetScalar, SetElement, Output, Input, If, For, While, Call}
 use Rattle.prem_meaning.specs.Expressions.{and_then, Access}
 use Rattle.prem_meaning.specs.Statements.{ProgramState, MarkedCall, Calls as SourceCalls, value, values, with_local, with_output, take_input, store, choose, holds, loop_test, loop_step, counting, bounded, with_target, run as run_source}
-use Rattle.prem_asm.specs.Pieces.{Pieces, no_pieces, straight, address_of, either, repeat, call_to, words, size_of, followed, other_at, either_end, test_at, repeat_end}
+use Rattle.prem_asm.specs.Pieces.{Pieces, no_pieces, straight, either, repeat, call_to, words, size_of, followed, other_at, either_end, test_at, repeat_end}
 use Rattle.prem_asm.specs.declared.piece.Test.{Test}
 use Rattle.prem_asm.specs.Runs.{Calls, Setting, Ending, run, run_turns}
+use Rattle.prem_asm.proofs.Rows.{words-followed}
 use Rattle.prem_template.specs.Terms.{only, constant, nonzero, scale, shift_of, term_code}
 use Rattle.prem_template.specs.Frames.{counters_in}
 use Rattle.prem_template.specs.Steps.{Parts, load_slot, store_slot, scalar_store, element_store, bound_test, step_code, count_code, turn_code, argument_code, target_code, steps_code}
@@ -28,14 +29,6 @@ use Rattle.prem_gen_laws.proofs.Cells.{scalar_then, element_then, output_then, i
 use Rattle.prem_gen_laws.proofs.Counting.{looped}
 use Rattle.prem_gen_laws.proofs.Bounded.{counter_then, bound_looped}
 use Rattle.prem_gen_laws.proofs.CallCode.{call_then}
-
-pub words_followed : (p q : Pieces) → words (followed p q) ≡ words p + words q
-words_followed no_pieces q = omega arith
-words_followed (straight code rest) q = omega (arith, words_followed rest q)
-words_followed (address_of rd part more rest) q = omega (arith, words_followed rest q)
-words_followed (either test taken other rest) q = omega (arith, words_followed rest q)
-words_followed (repeat turns head test body rest) q = omega (arith, words_followed rest q)
-words_followed (call_to link part rest) q = omega (arith, words_followed rest q)
 
 words_target : (target : Option ℕ) (q : Pieces) → words (target_code target q) ≡ words (target_code target no_pieces) + words q
 words_target None q = omega arith
@@ -81,7 +74,7 @@ module _ (s : Setting) (calls : Calls) (gs : Globals) (may : Access) (k : Stack)
       let w = x.0 in
       let ps = term 10 e in
       let hi = n + counters_in rest in
-      let w1 = words_followed ps (straight (store_slot i ∷ []) (code n rest)) in
+      let w1 = words-followed ps (straight (store_slot i ∷ []) (code n rest)) in
       let g = evaluated s calls gs may k ground phase count e 10 at t st w (omega arith) m fit.1.0 x.1.0 in
       let t1 : TaskState = record t { registers = g.registers } in
       let m1 = still s calls gs may k ground phase count at ps t st 10 w (omega arith) m g in
@@ -96,7 +89,7 @@ module _ (s : Setting) (calls : Calls) (gs : Globals) (may : Access) (k : Stack)
       let y = then_ok (store may pl.line ty g 0 w st) (run_source may source rest) after x.1.1 in
       let ps = term 10 e in
       let hi = n + counters_in rest in
-      let w1 = words_followed ps (scalar_store (gs.part g) ty (code n rest)) in
+      let w1 = words-followed ps (scalar_store (gs.part g) ty (code n rest)) in
       let v = evaluated s calls gs may k ground phase count e 10 at t st w (omega arith) m fit.1.0 x.1.0 in
       let t1 : TaskState = record t { registers = v.registers } in
       let m1 = still s calls gs may k ground phase count at ps t st 10 w (omega arith) m v in
@@ -114,8 +107,8 @@ module _ (s : Setting) (calls : Calls) (gs : Globals) (may : Access) (k : Stack)
       let qs = term 11 index in
       let hi = n + counters_in rest in
       let store_it = element_store (gs.part g) ty (code n rest) in
-      let w1 = words_followed ps (followed qs store_it) in
-      let w2 = words_followed qs store_it in
+      let w1 = words-followed ps (followed qs store_it) in
+      let w2 = words-followed qs store_it in
       let v = evaluated s calls gs may k ground phase count e 10 at t st w (omega arith) m fit.1.1.0 x.1.0 in
       let t1 : TaskState = record t { registers = v.registers } in
       let m1 = still s calls gs may k ground phase count at ps t st 10 w (omega arith) m v in
@@ -135,7 +128,7 @@ module _ (s : Setting) (calls : Calls) (gs : Globals) (may : Access) (k : Stack)
       let w = x.0 in
       let ps = term 10 e in
       let hi = n + counters_in rest in
-      let w1 = words_followed ps (straight (Rattle.prem_isa.specs.declared.instr.Instr.TheVariants.PmOut 10 ∷ []) (code n rest)) in
+      let w1 = words-followed ps (straight (Rattle.prem_isa.specs.declared.instr.Instr.TheVariants.PmOut 10 ∷ []) (code n rest)) in
       let v = evaluated s calls gs may k ground phase count e 10 at t st w (omega arith) m fit.1.0 x.1.0 in
       let t1 : TaskState = record t { registers = v.registers } in
       let m1 = still s calls gs may k ground phase count at ps t st 10 w (omega arith) m v in
@@ -156,7 +149,7 @@ module _ (s : Setting) (calls : Calls) (gs : Globals) (may : Access) (k : Stack)
       let n2 = n1 + counters_in other in
       let hi = n + (counters_in taken + counters_in other + counters_in rest) in
       let branch = either (nonzero 10) (code n taken) (code n1 other) (code n2 rest) in
-      let w1 = words_followed ps branch in
+      let w1 = words-followed ps branch in
       let g = evaluated s calls gs may k ground phase count condition 10 at t st w (omega arith) m fit.0 c.1.0 in
       let t1 : TaskState = record t { registers = g.registers } in
       let m1 = still s calls gs may k ground phase count at ps t st 10 w (omega arith) m g in
@@ -181,8 +174,8 @@ module _ (s : Setting) (calls : Calls) (gs : Globals) (may : Access) (k : Stack)
       let head = straight (load_slot i ∷ []) (term 11 high) in
       let inner = followed (code n body) (only (step_code i step)) in
       let loop = repeat turns head (bound_test closed) inner (code n1 rest) in
-      let w1 = words_followed ps (straight (store_slot i ∷ []) loop) in
-      let w2 = words_followed (code n body) (only (step_code i step)) in
+      let w1 = words-followed ps (straight (store_slot i ∷ []) loop) in
+      let w2 = words-followed (code n body) (only (step_code i step)) in
       let g = evaluated s calls gs may k ground phase count low 10 at t st w (omega arith) m fit.1.0 x.1.0 in
       let t1 : TaskState = record t { registers = g.registers } in
       let m1 = still s calls gs may k ground phase count at ps t st 10 w (omega arith) m g in
@@ -227,7 +220,7 @@ module _ (s : Setting) (calls : Calls) (gs : Globals) (may : Access) (k : Stack)
       let hi = n + counters_in rest in
       let aps = argument_code gs.part (parts.frame f) 0 arguments in
       let behind = target_code target (code n rest) in
-      let w1 = words_followed aps (call_to (parts.link f) (parts.callee f) behind) in
+      let w1 = words-followed aps (call_to (parts.link f) (parts.callee f) behind) in
       let w2 = words_target target (code n rest) in
       call_then s calls gs may k ground phase count n hi (omega arith) (omega arith) (omega arith) parts cs source under space f (callees f fit.0.callable) target arguments at (code n rest) t st x.0 y.0.0 y.0.1 after
       al (omega arith) fit.0 m x.1.0 y.1.0

@@ -1,210 +1,26 @@
 -- The code of terms has words.
-use Rattle.std.proofs.Common.{◌≡◌, ℕ, ◌+◌, ◌-◌, ◌*◌, ◌%◌, ◌^◌, ◌<◌, ◌≤◌, arith, cond, ltb, true, false, Bool, List, [], ◌∷◌, length, Some, None, Option, All}
-use Rattle.std.specs.Prelude.{ℤ, pos, negsuc}
-use Rattle.std.proofs.lemmas.Bool.{cond_both, ltb-true, ltb-false}
-use Rattle.std.proofs.lemmas.List.Elements.{All-nil, All-cons}
-use Rattle.prem_word.specs.declared.kind.Kind.{Kind}
-use Rattle.prem_word.specs.declared.kind.Kind.TheVariants.{Int, Unsigned}
-use Rattle.prem_word.specs.declared.kind.BinOp.{BinOp}
-use Rattle.prem_word.specs.declared.kind.BinOp.TheVariants.{Add as Plus, Sub as Minus, Mul, Div, Rem, Shl, Shr, Lt, Le, Gt, Ge, Eq, Ne, And as BitAnd, Xor as BitXor, Or as BitOr, AndAlso as AndAlsoOp, OrElse as OrElseOp}
-use Rattle.prem_isa.specs.declared.instr.Instr.{Instr}
-use Rattle.prem_isa.specs.declared.instr.Instr.TheVariants.{OpImm, Op, PmOut}
+use Rattle.std.proofs.Common.{◌≡◌, ℕ, ◌+◌, ◌-◌, ◌*◌, ◌^◌, ◌<◌, ◌≤◌, arith, ltb, true, false, Bool, List, [], ◌∷◌, length, Some, None, Option}
+use Rattle.std.specs.Prelude.{pos}
+use Rattle.prem_isa.specs.declared.instr.Instr.TheVariants.{OpImm, PmOut}
 use Rattle.prem_isa.specs.declared.effect.Phase.{Phase}
-use Rattle.prem_isa.specs.declared.instr.AluOp.TheVariants.{Add, Sub, Xor}
-use Rattle.prem_isa.specs.Fields.{InBits}
+use Rattle.prem_isa.specs.declared.instr.AluOp.TheVariants.{Add}
 use Rattle.prem_isa.specs.Decode.{Fits as InstrFits}
-use Rattle.prem_syntax.specs.declared.tree.Ty.{Ty}
-use Rattle.prem_syntax.specs.declared.tree.Ty.TheVariants.{Void, Int as IntTy, Unsigned as UnsignedTy, Short, Ushort, Schar, Uchar}
-use Rattle.prem_syntax.specs.declared.tree.UnOp.{UnOp}
-use Rattle.prem_syntax.specs.declared.tree.UnOp.TheVariants.{Neg, Flip, Not}
-use Rattle.prem_asm.specs.Pieces.{Pieces, no_pieces, straight, address_of, either, repeat, call_to, followed, address_code, upper, lower}
-use Rattle.prem_asm.specs.Fit.{TestFits, PiecesFit}
-use Rattle.prem_asm.specs.Quiet.{EachInstr}
-use Rattle.prem_template.specs.Terms.{only, is_short, constant, slot, scale, shift_of, nonzero, unary_code, less, shift_right, multiply_code, divide_turn, divide_code, unsigned_operands, signed_operands, quotient_code, remainder_code, binary_code, truth_code, element_code, term_code}
+use Rattle.prem_asm.specs.Pieces.{Pieces, no_pieces, straight, either, repeat, call_to, followed}
+use Rattle.prem_asm.specs.Fit.{TestFits}
+use Rattle.prem_template.specs.Terms.{only, nonzero, unary_code, binary_code, truth_code, element_code, term_code}
 use Rattle.prem_template.specs.Limits.{too_deep, first_of, first_place}
 use Rattle.prem_meaning.specs.Resolved.{Term, Constant, Local, Scalar, Element, Unary, Binary, AndAlso, OrElse, Steps, Done as NoSteps, SetLocal, SetScalar, SetElement, Output, Input, If, For, While, Call}
 use Rattle.prem_template.specs.Frames.{counters_in, locals_of, slots_of, frame_of}
 use Rattle.prem_template.specs.Steps.{Parts, load_slot, store_slot, scalar_store, element_store, bound_test, step_code, argument_slot, store_argument, argument_code, target_code, steps_code, closing, declare_code, result_code, function_code}
+use Rattle.prem_template.proofs.Operators.{Fitting, fitting, constant_fits, slot_fits, scale_fits, unary_fits, Imm, i0, i1, less_one, Below, r0, r5, joined, binary_has}
+use Rattle.prem_template.proofs.Depths.{first_none, unless_deep, depth_bound}
 use Rattle.prem_expr_laws.specs.Relation.{Globals}
 use Rattle.prem_expr_laws.specs.Gives.{TermFits}
-use Rattle.prem_expr_laws.proofs.Terms.{depth_bound, unless_deep, first_none}
 use Rattle.prem_gen_laws.specs.Fits.{Fits, AllFit, TargetFits, Callees, StepsFit}
 use Rattle.prem_gen_laws.specs.Laws.{with_globals}
 use Rattle.prem_gen_laws.specs.Functions.{DeclaredFit, ResultFits}
 use Rattle.prem_gen_laws.specs.Words.{IsPlaced, TermPlaced, AllPlaced, StepsPlaced, ResultPlaced, TermHasWords, FunctionHasWords}
 use Rattle.prem_gen_laws.proofs.Functions.{rounded}
-
--- the same condition, with what holds of each instruction as a product
-abbrev Fitting : (parts : ℕ) (places : ℕ → ℕ) → Pieces → Type 0
-Fitting parts places no_pieces = Unit {0}
-Fitting parts places (straight code rest) = EachInstr InstrFits code × Fitting parts places rest
-Fitting parts places (address_of rd part more rest) = ((rd < 32) × (part < parts) × (places part + more < 2 ^ 32)) × Fitting parts places rest
-Fitting parts places (either test taken other rest) = (TestFits test × Fitting parts places taken × Fitting parts places other) × Fitting parts places rest
-Fitting parts places (repeat turns head test body rest) = (Fitting parts places head × TestFits test × Fitting parts places body) × Fitting parts places rest
-Fitting parts places (call_to link part rest) = ((link < 32) × (part < parts) × (places part % 4 ≡ 0)) × Fitting parts places rest
-
-all_fit : (code : List Instr) → EachInstr InstrFits code → All InstrFits code
-all_fit [] h = All-nil InstrFits
-all_fit (i ∷ is) h = All-cons InstrFits i is h.0 (all_fit is h.1)
-
-fitting : (parts : ℕ) (places : ℕ → ℕ) (ps : Pieces) → Fitting parts places ps → PiecesFit parts places ps
-fitting parts places no_pieces h = tt
-fitting parts places (straight code rest) h = (all_fit code h.0, fitting parts places rest h.1)
-fitting parts places (address_of rd part more rest) h = (h.0, fitting parts places rest h.1)
-fitting parts places (either test taken other rest) h = ((h.0.0, fitting parts places taken h.0.1, fitting parts places other h.0.2), fitting parts places rest h.1)
-fitting parts places (repeat turns head test body rest) h = ((fitting parts places head h.0.0, h.0.1, fitting parts places body h.0.2), fitting parts places rest h.1)
-fitting parts places (call_to link part rest) h = (h.0, fitting parts places rest h.1)
-
-module _ (parts : ℕ) (places : ℕ → ℕ) where
-  abbrev Good : Pieces → Type 0
-  Good ps = Fitting parts places ps
-
-  joined : (p q : Pieces) → Good p → Good q → Good (followed p q)
-  joined no_pieces q h k = k
-  joined (straight code rest) q h k = (h.0, joined rest q h.1 k)
-  joined (address_of rd part more rest) q h k = (h.0, joined rest q h.1 k)
-  joined (either test taken other rest) q h k = (h.0, joined rest q h.1 k)
-  joined (repeat turns head test body rest) q h k = (h.0, joined rest q h.1 k)
-  joined (call_to link part rest) q h k = (h.0, joined rest q h.1 k)
-
--- ---- instructions
-
-lower_fits : (a : ℕ) → InBits (2 ^ 11) (lower a)
-lower_fits a =
-    cond_both (ltb (a % 2 ^ 12) (2 ^ 11)) (pos (a % 2 ^ 12)) (negsuc (2 * 2 ^ 11 - 1 - a % 2 ^ 12)) (InBits (2 ^ 11))
-    (λ e. ltb-true (a % 2 ^ 12) (2 ^ 11) e) (λ e. let le : 2 ^ 11 ≤ a % 2 ^ 12 = ltb-false (a % 2 ^ 12) (2 ^ 11) e in omega arith)
-
-upper_fits : (a : ℕ) → upper a < 2 ^ 20
-upper_fits a = omega arith
-
-address_fits : (r a : ℕ) → r < 32 → EachInstr InstrFits (address_code r a)
-address_fits r a h = ((h, upper_fits a), ((h, h, lower_fits a), tt))
-
-constant_fits : (r c : ℕ) → r < 32 → EachInstr InstrFits (constant r c)
-constant_fits r c h = by (is_short c) where
-  by : (b : Bool) → EachInstr InstrFits (cond b (OpImm Add r 0 (lower c) ∷ []) (address_code r c))
-  by true = ((h, omega arith, lower_fits c), tt)
-  by false = address_fits r c h
-
-slot_fits : (k : ℕ) → k < 507 → InBits (2 ^ 11) (slot k)
-slot_fits k h = omega arith
-
-scale_fits : (r : ℕ) (ty : Ty) → r < 32 → EachInstr InstrFits (scale r (shift_of ty))
-scale_fits r Void h = ((h, h, omega arith), tt)
-scale_fits r IntTy h = ((h, h, omega arith), tt)
-scale_fits r UnsignedTy h = ((h, h, omega arith), tt)
-scale_fits r Short h = ((h, h, omega arith), tt)
-scale_fits r Ushort h = ((h, h, omega arith), tt)
-scale_fits r Schar h = tt
-scale_fits r Uchar h = tt
-
-unary_fits : (op : UnOp) (r : ℕ) → r < 32 → EachInstr InstrFits (unary_code op r)
-unary_fits Neg r h = ((h, omega arith, h), tt)
-unary_fits Flip r h = ((h, h, omega arith), tt)
-unary_fits Not r h = ((h, h, omega arith), tt)
-
-less_fits : (k : Kind) (r a b : ℕ) → r < 32 → a < 32 → b < 32 → InstrFits (less k r a b)
-less_fits Int r a b h i j = (h, i, j)
-less_fits Unsigned r a b h i j = (h, i, j)
-
-shift_fits : (k : Kind) (r s : ℕ) → r < 32 → s < 32 → InstrFits (shift_right k r s)
-shift_fits Int r s h i = (h, h, i)
-shift_fits Unsigned r s h i = (h, h, i)
-
-abbrev Imm : ℤ → Type 0
-Imm z = InBits (2 ^ 11) z
-
-i0 : Imm (pos 0)
-i0 = omega arith
-
-i1 : Imm (pos 1)
-i1 = omega arith
-
-less_one : Imm (negsuc 0)
-less_one = omega arith
-
-abbrev Below : ℕ → Type 0
-Below r = r < 32
-
-r0 : Below 0
-r0 = omega arith
-
-r5 : Below 5
-r5 = omega arith
-
-r6 : Below 6
-r6 = omega arith
-
-r7 : Below 7
-r7 = omega arith
-
-r28 : Below 28
-r28 = omega arith
-
-r29 : Below 29
-r29 = omega arith
-
-r30 : Below 30
-r30 = omega arith
-
-r31 : Below 31
-r31 = omega arith
-
-s1 : Below 1
-s1 = omega arith
-
--- ---- operators
-
-module _ (parts : ℕ) (places : ℕ → ℕ) (r s : ℕ) (h : r < 32) (k : s < 32) where
-  abbrev Has : Pieces → Type 0
-  Has ps = Fitting parts places ps
-
-  multiply_has : Has (multiply_code r s)
-  multiply_has =
-      (((r5, r0, i0), tt), ((tt, (k, r0), (((r6, k, i1), tt), (((r6, r0), (((r5, r5, h), tt), tt), tt), (((h, h, s1), ((k, k, s1), tt)), tt)))), (((h, r5, i0), tt), tt)))
-
-  turn_has : Has divide_turn
-  turn_has = (
-    ((r30, r7, r31), ((r7, r7, s1), ((r29, r5, r31), ((r7, r7, r29), ((r5, r5, s1), ((r28, r28, less_one), ((r29, r7, r6), ((r29, r29, i1), ((r29, r29, r30), tt))))))))),
-    (((r29, r0), (((r7, r7, r6), ((r5, r5, i1), tt)), tt), tt), tt),
-  )
-
-  divide_has : (final : List Instr) → EachInstr InstrFits final → Has (divide_code final)
-  divide_has final f = (((r7, r0, i0), ((r28, r0, (let i : Imm (pos 32) = omega arith in i)), tt)), ((tt, (r28, r0), turn_has), (f, tt)))
-
-  unsigned_has : EachInstr InstrFits (unsigned_operands r s)
-  unsigned_has = ((r5, h, i0), ((r6, k, i0), tt))
-
-  signed_has : EachInstr InstrFits (signed_operands r s)
-  signed_has = ((r29, h, r31), ((r5, h, r29), ((r5, r5, r29), ((r31, k, r31), ((r6, k, r31), ((r6, r6, r31), ((h, r29, i0), ((k, r29, r31), tt))))))))
-
-  quotient_has : (q : Kind) → Has (quotient_code q r s)
-  quotient_has Unsigned = (unsigned_has, divide_has (OpImm Add r 5 (pos 0) ∷ []) ((h, r5, i0), tt))
-  quotient_has Int = (signed_has, divide_has (Op Xor 5 5 s ∷ Op Sub r 5 s ∷ []) ((r5, r5, k), ((h, r5, k), tt)))
-
-  remainder_has : (q : Kind) → Has (remainder_code q r s)
-  remainder_has Unsigned = (unsigned_has, divide_has (OpImm Add r 7 (pos 0) ∷ []) ((h, r7, i0), tt))
-  remainder_has Int = (signed_has, divide_has (Op Xor 7 7 r ∷ Op Sub r 7 r ∷ []) ((r7, r7, h), ((h, r7, h), tt)))
-
-  binary_has : (op : BinOp) (q : Kind) → Has (binary_code op q r s)
-  binary_has Plus q = (((h, h, k), tt), tt)
-  binary_has Minus q = (((h, h, k), tt), tt)
-  binary_has Mul q = multiply_has
-  binary_has Div q = quotient_has q
-  binary_has Rem q = remainder_has q
-  binary_has Shl q = (((h, h, k), tt), tt)
-  binary_has Shr q = ((shift_fits q r s h k, tt), tt)
-  binary_has Lt q = ((less_fits q r r s h h k, tt), tt)
-  binary_has Le q = ((less_fits q r s r h k h, ((h, h, i1), tt)), tt)
-  binary_has Gt q = ((less_fits q r s r h k h, tt), tt)
-  binary_has Ge q = ((less_fits q r r s h h k, ((h, h, i1), tt)), tt)
-  binary_has Eq q = (((h, h, k), ((h, h, i1), tt)), tt)
-  binary_has Ne q = (((h, h, k), ((h, r0, h), tt)), tt)
-  binary_has BitAnd q = (((h, h, k), tt), tt)
-  binary_has BitXor q = (((h, h, k), tt), tt)
-  binary_has BitOr q = (((h, h, k), tt), tt)
-  binary_has AndAlsoOp q = tt
-  binary_has OrElseOp q = tt
 
 -- ---- terms
 

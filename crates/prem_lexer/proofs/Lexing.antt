@@ -17,7 +17,7 @@ with_front_twice xs ys (Ok zs) = ap (λ (ts : List Seen). Ok ts) (sym (append_as
 with_front_twice xs ys (Err f) = refl
 
 -- one byte
-lex_cons : (mode : Mode) (at : Cursor) (room b : ℕ) (rest : List ℕ) →
+pub lex_cons : (mode : Mode) (at : Cursor) (room b : ℕ) (rest : List ℕ) →
     lex mode at room (b ∷ rest) ≡ (step mode at (b ∷ rest) >>= λ s. put s.1 at room (λ left. lex s.0 (behind at b) left rest))
 unfolding lex
 lex_cons mode at room b rest = refl

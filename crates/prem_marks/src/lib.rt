@@ -1,4 +1,4 @@
-//! The marked functions of a program: the areas that they state, and what they reach by calls.
+//! The marked functions of a program: the areas that they state, and what functions reach by calls.
 #![tactic(auto)]
 
 mod areas;
@@ -6,4 +6,6 @@ mod calls;
 mod marked;
 mod reach;
 
+pub use calls::callee_table;
 pub use marked::marked_of;
+pub use reach::reach_set;

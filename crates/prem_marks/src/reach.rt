@@ -33,7 +33,8 @@ fn add_callees_below(set: &mut [bool], table: &[Vec<usize>], end: usize)
 /// For each function whether it is function f, or is reached by it.
 pub fn reach_set(alloc: Global, table: &[Vec<usize>], f: usize) -> Result<Vec<bool>, AllocError>
     requires { f < length table.now }
-    ensures { IfOk result (λ set. set.items ≡ reach_set (map (λ cs. cs.items) table.now) f) }
+    ensures set { IfOk result (λ set. set.items ≡ reach_set (map (λ cs. cs.items) table.now) f) }
+    ensures long { IfOk result (λ set. length set.items ≡ length table.now) }
 {
     let mut set = vec![in alloc; false; table.len()]?;
     set[f] = true;

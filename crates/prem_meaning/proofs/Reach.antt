@@ -14,7 +14,7 @@ set_keeps s m k e =
     ⊎_elim (λ (same : k ≡ m). ap (is_in (set s m true)) same ∙ get_or-set_same s m true false (subst (λ j. j < length s) same (member_inside s k e)))
     (λ (other : k ≡ m → ⊥). get_or-set_other s m k true false other ∙ e) (cases_eq k m)
 
-set_only : (s : List Bool) (m k : ℕ) → is_in (set s m true) k ≡ true → (is_in s k ≡ true) ⊎ (m ≡ k)
+pub set_only : (s : List Bool) (m k : ℕ) → is_in (set s m true) k ≡ true → (is_in s k ≡ true) ⊎ (m ≡ k)
 set_only s m k e =
     ⊎_elim (λ (same : k ≡ m). inr (sym same)) (λ (other : k ≡ m → ⊥). inl (sym (get_or-set_other s m k true false other) ∙ e)) (cases_eq k m)
 
@@ -24,7 +24,7 @@ all_keep : (ns : List ℕ) (s : List Bool) (k : ℕ) → is_in s k ≡ true → 
 all_keep [] s k e = e
 all_keep (n ∷ ns) s k e = all_keep ns (set s n true) k (set_keeps s n k e)
 
-all_long : (ns : List ℕ) (s : List Bool) → length (with_all ns s) ≡ length s
+pub all_long : (ns : List ℕ) (s : List Bool) → length (with_all ns s) ≡ length s
 all_long [] s = refl
 all_long (n ∷ ns) s = all_long ns (set s n true) ∙ length-set s n true
 
@@ -34,7 +34,7 @@ all_add (n ∷ ns) s c lt h =
     ⊎_elim (λ (same : n ≡ c). all_keep ns (set s n true) c (ap (is_in (set s n true)) (sym same) ∙ get_or-set_same s n true false (omega arith)))
     (λ (i : IsAmong c ns). all_add ns (set s n true) c (omega (arith, length-set s n true)) i) h
 
-all_only : (ns : List ℕ) (s : List Bool) (k : ℕ) → is_in (with_all ns s) k ≡ true → (is_in s k ≡ true) ⊎ IsAmong k ns
+pub all_only : (ns : List ℕ) (s : List Bool) (k : ℕ) → is_in (with_all ns s) k ≡ true → (is_in s k ≡ true) ⊎ IsAmong k ns
 all_only [] s k e = inl e
 all_only (n ∷ ns) s k e =
     ⊎_elim (λ (h : is_in (set s n true) k ≡ true). ⊎_elim (λ (a : is_in s k ≡ true). inl a) (λ (b : n ≡ k). inr (inl b)) (set_only s n k h)) (λ (i : IsAmong k ns). inr (inr i)) (all_only ns (set s n true) k e)
@@ -47,7 +47,7 @@ if_only : (b : Bool) (ns : List ℕ) (s : List Bool) (k : ℕ) → is_in (with_a
 if_only true ns s k e = all_only ns s k e
 if_only false ns s k e = inl e
 
-if_long : (b : Bool) (ns : List ℕ) (s : List Bool) → length (with_all_if b ns s) ≡ length s
+pub if_long : (b : Bool) (ns : List ℕ) (s : List Bool) → length (with_all_if b ns s) ≡ length s
 if_long true ns s = all_long ns s
 if_long false ns s = refl
 

@@ -10,7 +10,6 @@ use Rattle.prem_plant.specs.declared.layout.PartSize.{PartSize}
 use Rattle.prem_plant.specs.declared.layout.PartKind.TheVariants.{Area, Stack}
 use Rattle.prem_plant.specs.Places.{Extent, Holds, IsArea}
 use Rattle.prem_image.specs.declared.image.DeviceRecord.{DeviceRecord}
-use Rattle.prem_syntax.specs.Syntax.{GlobalVariable}
 use Rattle.prem_cycle.specs.Inputs.{no_device}
 use Rattle.prem_asm.specs.Pieces.{size_of}
 use Rattle.prem_template.specs.Frames.{stack_size}
@@ -18,30 +17,15 @@ use Rattle.prem_layout.specs.Plans.{plans_of}
 use Rattle.prem_layout.specs.Parts.{Passes, passes_of, part, part_count, code_parts, stub_parts, global_parts, task_parts, parts_from, area_parts}
 use Rattle.prem_layout.specs.Placed.{Coded, sized_of, parts_of, part_total}
 use Rattle.prem_layout.specs.Image.{device_records}
+use Rattle.prem_layout.proofs.TaskParts.{code_counted, globals_counted, get_drop, get_behind}
 use Rattle.prem_own.specs.Owned.{is_held, owns_first, own_of, HasCode, OwnBytesAreApart, OwnBytesAreFree, IsPartOf, PartsAreOwn}
-
--- ---- lists
-
-pub get_drop : {A : Type 0} → (n i : ℕ) (xs : List A) → slice_get (drop n xs) i ≡ slice_get xs (n + i)
-get_drop zero i xs = let e : 0 + i ≡ i = omega arith in ap (slice_get xs) (sym e)
-get_drop (suc n) i [] = nothing i (suc n + i) where
-  nothing : {B : Type 0} → (i j : ℕ) → slice_get {X = B} [] i ≡ slice_get {X = B} [] j
-  nothing zero zero = refl
-  nothing zero (suc j) = refl
-  nothing (suc i) zero = refl
-  nothing (suc i) (suc j) = refl
-get_drop (suc n) i (x ∷ xs) = let e : suc n + i ≡ suc (n + i) = omega arith in get_drop n i xs ∙ ap (slice_get (x ∷ xs)) (sym e)
-
-pub get_behind : {A : Type 0} → (xs ys : List A) (i : ℕ) → slice_get (xs ++ ys) (length xs + i) ≡ slice_get ys i
-get_behind [] ys i = let e : 0 + i ≡ i = omega arith in ap (slice_get ys) e
-get_behind (x ∷ xs) ys i = let e : suc (length xs) + i ≡ suc (length xs + i) = omega arith in ap (slice_get (x ∷ (xs ++ ys))) e ∙ get_behind xs ys i
 
 -- ---- where an own byte is
 
-held : (q : Extent) (a : ℕ) → is_held q a ≡ true → Holds q a
+pub held : (q : Extent) (a : ℕ) → is_held q a ≡ true → Holds q a
 held q a h = let x = and_parts (leb q.0 a) (ltb a q.1) h in (leb-true q.0 a x.0, ltb-true a q.1 x.1)
 
-holds : (q : Extent) (a : ℕ) → Holds q a → is_held q a ≡ true
+pub holds : (q : Extent) (a : ℕ) → Holds q a → is_held q a ≡ true
 holds q a h = ap (λ b. b && ltb a q.1) (le-leb q.0 a h.0) ∙ lt-ltb a q.1 h.1
 
 -- a place that holds it
@@ -90,22 +74,14 @@ own_bytes_are_apart p devices tasks places lawful j k a h g =
 
 -- ---- areas
 
-code_long : (task n : ℕ) (sizes : List ℕ) → length (code_parts task n sizes) ≡ length sizes
-code_long task n [] = refl
-code_long task n (size ∷ sizes) = ap suc (code_long task (n + 1) sizes)
-
-globals_long : (task n : ℕ) (gs : List GlobalVariable) → length (global_parts task n gs) ≡ length gs
-globals_long task n [] = refl
-globals_long task n (g ∷ gs) = ap suc (globals_long task (n + 1) gs)
-
 pub task_long : (passes : Passes) (n : ℕ) (c : Coded) → HasCode c → length (task_parts passes n (sized_of c).sizes c.program) ≡ part_count c.program
 task_long passes n c h =
     let a : List PartSize = code_parts n 0 (map size_of c.code) in
     let b : List PartSize = stub_parts passes n (plans_of c.program) in
     let g : List PartSize = global_parts n 0 c.program.globals in
-    let x : length a ≡ length c.program.routines = code_long n 0 (map size_of c.code) ∙ length-map c.code size_of ∙ h in
+    let x : length a ≡ length c.program.routines = code_counted n 0 (map size_of c.code) ∙ length-map c.code size_of ∙ h in
     let y : length b ≡ length (plans_of c.program) = length-map (plans_of c.program) _ in
-    let z : length g ≡ length c.program.globals = globals_long n 0 c.program.globals in
+    let z : length g ≡ length c.program.globals = globals_counted n 0 c.program.globals in
     let tail : List PartSize = part n Stack (stack_size c.program) 16 ∷ [] in
     omega (arith, length-append a (b ++ (g ++ tail)), length-append b (g ++ tail), length-append g tail, x, y, z)
 

@@ -21,15 +21,16 @@ use Rattle.prem_isa.specs.Act.{sets, jumps, accesses, loads, stores, changes, ta
 use Rattle.prem_isa.specs.Bounds.{OnDone}
 use Rattle.prem_isa.specs.Plain.{TaskState, Did, did_of, next_input}
 use Rattle.prem_asm.specs.Pieces.{Pieces, code_of}
-use Rattle.prem_asm.specs.Runs.{Guard, Setting, Ending, all_of, allowed, stepped, outcome_at, run}
+use Rattle.prem_asm.specs.Runs.{Guard, Setting, all_of, allowed, stepped, outcome_at, run}
 use Rattle.prem_asm.specs.Steps.{Holds, AllCode, Rules}
 use Rattle.prem_asm.proofs.Shape.{code-length, stepped_by}
 use Rattle.prem_asm.proofs.Quiet.{pieces_good}
 use Rattle.prem_asm.proofs.Every.{every}
-use Rattle.prem_gen_laws.specs.Table.{Codes, one_of, code_calls}
+use Rattle.prem_gen_laws.specs.Table.{Codes, code_calls}
 use Rattle.prem_cycle.specs.State.{Setup}
 use Rattle.prem_position.specs.Own.{IsFree, AllOwn}
 use Rattle.prem_script.specs.Conforms.{takes_nothing, IsOwnDid}
+use Rattle.prem_gen_laws.proofs.Quiet.{one_holds}
 use Rattle.prem_own_steps.specs.OwnSteps.{OwnBytes, Takes, AreOwnAt, CodeIsOwn, CallsAreOwn}
 
 abbrev pub Any : TaskState → Type 0
@@ -200,10 +201,6 @@ taking_code own (i ∷ is) at h k = ((h.0, k.0), taking_code own is (at + 4) h.1
 
 pub own_code : (own : ℕ → Bool) (places : ℕ → ℕ) (ps : Pieces) (at : ℕ) → AreOwnAt own at ps → AllCode (λ at i. AllOwn own at 4) at (code_of places at ps)
 own_code own places ps at h = fetched_code own (code_of places at ps) at (λ a ge lt. h a ge (omega (arith, lt, code-length places at ps)))
-
-one_holds : (P : Did → Type 0) (I : TaskState → Type 0) (b : Bool) (this other : Ending) → Holds P I this → Holds P I other → Holds P I (one_of b this other)
-one_holds P I true this other h k = h
-one_holds P I false this other h k = k
 
 pub calls_hold : (p : Setup) (own : ℕ → Bool) (s : Setting) (c : Codes) (total : ℕ) → OwnBytes p own s.guard → ((n : ℕ) → n < total → CodeIsOwn own s c n) → (n : ℕ) → n ≤ total →
     (part : ℕ) (t : TaskState) → Holds (IsOwnDid p own) Any (code_calls s c n part t)

@@ -22,7 +22,7 @@ use Rattle.prem_own_steps.proofs.Rules.{Any, TouchesOwn, FetchedOwn, touch_rules
 
 -- ---- lists of steps
 
-steps_join : (P : Did → Type 0) (xs ys : List Did) → AllSteps P xs → AllSteps P ys → AllSteps P (xs ++ ys)
+pub steps_join : (P : Did → Type 0) (xs ys : List Did) → AllSteps P xs → AllSteps P ys → AllSteps P (xs ++ ys)
 steps_join P [] ys h k = k
 steps_join P (x ∷ xs) ys h k = (h.0, steps_join P xs ys h.1 k)
 

@@ -20,6 +20,8 @@ use Rattle.prem_template.specs.Steps.{function_code}
 use Rattle.prem_ranges.specs.After.{known_parameter, at_body}
 use Rattle.prem_ranges.specs.Sound.{kinds_of}
 use Rattle.prem_ranges.specs.GroupThree.{limits_of}
+use Rattle.prem_ranges.proofs.WellFormed.{not_no}
+use Rattle.prem_template.proofs.Depths.{first_none}
 use Rattle.prem_layout.specs.Rules.{of_excess}
 use Rattle.prem_gen_laws.specs.Functions.{FunctionFits}
 use Rattle.prem_gen_laws.specs.Quiet.{AreQuiet}
@@ -29,9 +31,9 @@ use Rattle.prem_fit_laws.specs.Named.{StepsNamed, FunctionNamed}
 use Rattle.prem_fit_laws.proofs.Steps.{programs_named}
 use Rattle.prem_task_frame.specs.Callees.{params_if_there, returns_if_there, callees_in, job_callable, plain_callable, HasCodes}
 use Rattle.prem_program_fits.specs.Fits.{KeepsProgramRules, TasksKeepProgramRules, CallsAmong, FunctionsFit, JobsFit, PlainTasksFit}
-use Rattle.prem_program_fits.proofs.Rules.{StepsKept, RulesKept, rules_kept}
+use Rattle.prem_program_fits.proofs.Rules.{StepsKept, RulesKept, rules_kept, get_below}
 use Rattle.prem_program_fits.proofs.Depths.{all_flat, depth_is}
-use Rattle.prem_program_fits.proofs.Steps.{there_below, first_none, steps_fit, declared_fit, result_fits, parameter_count, local_count}
+use Rattle.prem_program_fits.proofs.Steps.{steps_fit, declared_fit, result_fits, parameter_count, local_count}
 
 -- ---- programs
 
@@ -77,7 +79,7 @@ function_fits p kept n f there callable among phase may at aligned ends =
     let dd = first_none (too_deep_in f.body) (too_deep_result f.result) d.1 in
     let first = kinds_of (map known_parameter f.text.params) in
     let count = local_count p first f typed.locals in
-    let deep = depth_is p.routines n (locals_of f) kept.globals f (there_below p.routines n f there) there named.body in
+    let deep = depth_is p.routines n (locals_of f) kept.globals f (get_below p.routines n f there) there named.body in
     record {
       placed = aligned;
       ends = ends;
@@ -156,7 +158,7 @@ jobs_fit x p keeps =
     record {
       routine = job;
       there = there;
-      below = there_below p.routines p.job job there;
+      below = get_below p.routines p.job job there;
       unmarked = kept.rules.unmarked job there;
       alone = kept.rules.typed.job_alone;
       fits = λ at aligned ends.
@@ -168,10 +170,6 @@ jobs_fit x p keeps =
 pub mark_at : (routines : List Routine) (n : ℕ) (f : Routine) → slice_get routines n ≡ Some f → is_marked_at routines n ≡ is_marked f
 mark_at routines n f there = ap (λ (o : Option Routine). unwrap_or (option_map is_marked o) false) there
 
-not_true : (b : Bool) → not b ≡ true → b ≡ false
-not_true true e = cc
-not_true false e = refl
-
 both_true : (a b : Bool) → a ≡ true → b ≡ false → (a && not b) ≡ true
 both_true true false e h = refl
 both_true true true e h = cc
@@ -181,7 +179,7 @@ both_true false b e h = cc
 pub code_placed : (s : Setting) (p : Resolved) (some : ℕ → Bool) (c : Codes) → HasCodes s p some c → (n : ℕ) (f : Routine) → some n ≡ true → slice_get p.routines n ≡ Some f →
     (s.places (c.code_part n) % 4 ≡ 0) × (s.places (c.code_part n) + size_of (function_code (parts_of p.routines) f) < 2 ^ 32)
 code_placed s p some c has n f is there =
-    let ends = has.ends n (there_below p.routines n f there) in (
+    let ends = has.ends n (get_below p.routines n f there) in (
       ap (λ k. s.places k % 4) (has.part_is n) ∙ has.aligned n,
       subst (λ k. s.places k + size_of (function_code (parts_of p.routines) f) < 2 ^ 32) (sym (has.part_is n)) (subst (λ ps. s.places (1 + n) + size_of ps < 2 ^ 32) (has.code_is n f is there) ends),
     )
@@ -223,7 +221,7 @@ plain_tasks_fit x p keeps total le s c has =
     before n may = ltb-true n p.job (and_parts (job_callable p n) (not (is_marked_at p.routines n)) may).0
 
     unmarked : (n : ℕ) → plain_callable p n ≡ true → is_marked_at p.routines n ≡ false
-    unmarked n may = not_true (is_marked_at p.routines n) (and_parts (job_callable p n) (not (is_marked_at p.routines n)) may).1
+    unmarked n may = not_no (is_marked_at p.routines n) (and_parts (job_callable p n) (not (is_marked_at p.routines n)) may).1
 
     calls : ProgramKept p → (n : ℕ) (f : Routine) → plain_callable p n ≡ true → slice_get p.routines n ≡ Some f → CallsAmong (plain_callable p) f.body
     calls kept n f may there k i =

@@ -1,13 +1,11 @@
 -- The steps of a function fit, where their terms are typed and its calls keep the rules.
-use Rattle.std.proofs.Common.{◌≡◌, ◌<◌, ◌≤◌, ℕ, zero, suc, ◌+◌, ◌*◌, ◌%◌, ◌⊎◌, inl, inr, ⊎_elim, Bool, true, false, cond, List, [], ◌∷◌, ◌++◌, length, map, Option, None, Some, refl, ap, sym, ◌∙◌, subst, arith, length-append}
-use Rattle.std.specs.Prelude.{slice_get}
+use Rattle.std.proofs.Common.{◌≡◌, ◌≤◌, ℕ, ◌+◌, ◌*◌, ◌%◌, ◌⊎◌, inl, inr, ⊎_elim, Bool, true, false, cond, List, [], ◌∷◌, ◌++◌, length, map, Option, None, Some, refl, ap, sym, ◌∙◌, subst, arith, length-append}
 use Rattle.std.proofs.lemmas.List.{length-map}
 use Rattle.prem_word.specs.declared.kind.Kind.{Kind}
 use Rattle.prem_word.specs.declared.kind.BinOp.{BinOp}
 use Rattle.prem_word.specs.declared.kind.BinOp.TheVariants.{AndAlso as AndAlsoOp, OrElse as OrElseOp}
 use Rattle.prem_isa.specs.declared.effect.Phase.{Phase}
 use Rattle.prem_isa.specs.declared.effect.Phase.TheVariants.{Compatible}
-use Rattle.prem_syntax.specs.declared.tree.Place.{Place}
 use Rattle.prem_syntax.specs.declared.tree.Ty.{Ty}
 use Rattle.prem_syntax.specs.Syntax.{LocalVariable}
 use Rattle.prem_meaning.specs.Resolved.{Term, Constant, Local, Scalar, Element, Unary, Binary, AndAlso, OrElse, Steps, Done, SetLocal, SetScalar, SetElement, Output, Input, If, For, While, Call, Routine, Resolved}
@@ -19,6 +17,7 @@ use Rattle.prem_ranges.specs.Sound.{HasGlobal, IsOperator as IsTypedOperator, Ty
 use Rattle.prem_template.specs.Frames.{locals_of, slots_of, frame_of, frame_if_there, frame_at, deepest, depth_of}
 use Rattle.prem_template.specs.Limits.{first_of, too_deep, too_deep_among, too_deep_in, too_deep_result}
 use Rattle.prem_template.specs.Parts.{is_marked_at, parts_of}
+use Rattle.prem_template.proofs.Depths.{first_none}
 use Rattle.prem_expr_laws.specs.Gives.{IsOperator, TermFits}
 use Rattle.prem_gen_laws.specs.Fits.{Fits, AllFit, TargetFits, CallFits, StepsFit}
 use Rattle.prem_gen_laws.specs.Functions.{DeclaredFit, ResultFits}
@@ -28,15 +27,10 @@ use Rattle.prem_initial.specs.Standing.{type_of, globals_in}
 use Rattle.prem_fit_laws.specs.Named.{TargetNamed, StepsNamed}
 use Rattle.prem_task_frame.specs.Callees.{params_if_there, callees_in}
 use Rattle.prem_program_fits.specs.Fits.{CallsAmong}
-use Rattle.prem_program_fits.proofs.Rules.{IsKept, StepsKept}
+use Rattle.prem_program_fits.proofs.Rules.{IsKept, StepsKept, get_below}
 use Rattle.prem_program_fits.proofs.Depths.{frame_within}
 
 -- ---- lists
-
-pub there_below : {A : Type 0} (xs : List A) (k : ℕ) (x : A) → slice_get xs k ≡ Some x → k < length xs
-there_below [] k x e = cc
-there_below (y ∷ ys) zero x e = omega arith
-there_below (y ∷ ys) (suc k) x e = let lt = there_below ys k x e in omega (arith, lt)
 
 pub among_left : (c : ℕ) (xs ys : List ℕ) → IsAmong c xs → IsAmong c (xs ++ ys)
 among_left c [] ys h = absurd h
@@ -45,10 +39,6 @@ among_left c (x ∷ xs) ys h = ⊎_elim (λ (e : x ≡ c). inl e) (λ (i : IsAmo
 pub among_right : (c : ℕ) (xs ys : List ℕ) → IsAmong c ys → IsAmong c (xs ++ ys)
 among_right c [] ys h = h
 among_right c (x ∷ xs) ys h = inr (among_right c xs ys h)
-
-pub first_none : (a b : Option Place) → first_of a b ≡ None → (a ≡ None) × (b ≡ None)
-first_none None b e = (refl, e)
-first_none (Some x) b e = cc
 
 -- ---- terms
 
@@ -62,7 +52,7 @@ type_fits p g ty h = ap type_of h.there ∙ h.typed
 
 term_fits : (p : Resolved) (ks : List Kind) (e : Term) → Typed p.globals ks e → TermFits (globals_in p) (length ks) e
 term_fits p ks (Constant at word kind) h = h
-term_fits p ks (Local at number kind) h = there_below ks number kind h
+term_fits p ks (Local at number kind) h = get_below ks number kind h
 term_fits p ks (Scalar at g ty) h = type_fits p g ty h.global
 term_fits p ks (Element at g ty index) h = (type_fits p g ty h.0, term_fits p ks index h.1)
 term_fits p ks (Unary at op operand) h = term_fits p ks operand h
@@ -113,7 +103,7 @@ module _ (p : Resolved) (n : ℕ) (is_job : Bool) (ks : List Kind) (count : ℕ)
       let holds = frame_holds is.routine in
       let number = is.count in
       let whole : frame_of is.routine % 4 ≡ 0 = (rounded (4 + 4 * slots_of is.routine)).0 in
-      let within = frame_within p.routines f is.routine (there_below p.routines f is.routine is.there) is.there in
+      let within = frame_within p.routines f is.routine (get_below p.routines f is.routine is.there) is.there in
       record {
         callable = may;
         arguments_fit = all_fit p ks count arguments same typed deep;

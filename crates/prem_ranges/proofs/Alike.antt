@@ -112,7 +112,7 @@ in_while-same {a = a} same env env' is = ap (in_while a) is ∙ in_while-alike s
 joined_same : (a a' b b' : Environment) → a ≡ a' → b ≡ b' → joined a b ≡ joined a' b'
 joined_same a a' b b' one two = ap (λ e. joined e b) one ∙ ap (joined a') two
 
-both_same : {A : Type 0} (xs xs' ys ys' : List A) → xs ≡ xs' → ys ≡ ys' → xs ++ ys ≡ xs' ++ ys'
+pub both_same : {A : Type 0} (xs xs' ys ys' : List A) → xs ≡ xs' → ys ≡ ys' → xs ++ ys ≡ xs' ++ ys'
 both_same xs xs' ys ys' one two = cc
 
 pub after-alike : {turn : ℕ → ℕ → Type 0} {a b : Steps} → Alike turn a b → (env env' : Environment) → env ≡ env' → after env a ≡ after env' b

@@ -19,7 +19,7 @@ use Rattle.prem_unary.proofs.Table.{table_laws}
 use Rattle.prem_ranges.proofs.Kept.{bounds_small}
 use Rattle.prem_ranges.proofs.WellFormed.{well_formed_is_typed}
 
-is_none_tells : {A : Type 0} (o : Option A) → IsTrue (is_none o) → o ≡ None
+pub is_none_tells : {A : Type 0} (o : Option A) → IsTrue (is_none o) → o ≡ None
 is_none_tells None h = refl
 is_none_tells (Some x) h = cc
 

@@ -28,11 +28,11 @@ either_list (x ∷ xs) ys f h = ⊎_elim (λ same. inl (inl same)) (λ later. �
 pub record Ordered (fs : List Routine) : Type 0 where
   pub before : (n : ℕ) (f : Routine) (called : ℕ) → slice_get fs n ≡ Some f → IsAmong called (callees_in f.body) → called < n
 
-abbrev callees_of : Option Routine → List ℕ
+abbrev pub callees_of : Option Routine → List ℕ
 callees_of None = []
 callees_of (Some f) = callees_in f.body
 
-row_is : (fs : List Routine) (n : ℕ) → slice_index_or (callee_table fs) n [] ≡ callees_of (slice_get fs n)
+pub row_is : (fs : List Routine) (n : ℕ) → slice_index_or (callee_table fs) n [] ≡ callees_of (slice_get fs n)
 row_is [] n = refl
 row_is (f ∷ fs) zero = refl
 row_is (f ∷ fs) (suc n) = row_is fs n

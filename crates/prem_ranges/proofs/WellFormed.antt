@@ -33,7 +33,7 @@ use Rattle.prem_ranges.proofs.WellTyped.{HasRoutines, statements_typed}
 
 -- ---- parameters
 
-not_no : (b : Bool) → not b ≡ true → b ≡ false
+pub not_no : (b : Bool) → not b ≡ true → b ≡ false
 not_no true e = cc
 not_no false e = refl
 
@@ -209,7 +209,7 @@ no_parameters f named e = by (is_void f.ty) (eqb (length f.params) 0) refl (rw n
     by true false is h = cc
     by false false is h = cc
 
-has_job : (fs : List FunctionText) (n : ℕ) → list_any (λ (f : FunctionText). is_job_name f.name) fs ≡ true → find_named (λ (f : FunctionText). f.name) (codes "job") n fs ≡ None → true ≡ false
+pub has_job : (fs : List FunctionText) (n : ℕ) → list_any (λ (f : FunctionText). is_job_name f.name) fs ≡ true → find_named (λ (f : FunctionText). f.name) (codes "job") n fs ≡ None → true ≡ false
 has_job [] n e none = sym e
 has_job (f ∷ fs) n e none = by (bytes_eq f.name (codes "job")) e none (λ h k. has_job fs (n + 1) h k)
   where
@@ -222,7 +222,7 @@ is_none_means : {A : Type 0} (o : Option A) → IsTrue (is_none o) → o ≡ Non
 is_none_means None h = refl
 is_none_means (Some x) h = cc
 
-not_if_broken : (b : Bool) (at : _) (rule : _) → if_broken (not b) at rule ≡ [] → b ≡ true
+pub not_if_broken : (b : Bool) (at : _) (rule : _) → if_broken (not b) at rule ≡ [] → b ≡ true
 not_if_broken true at rule e = refl
 not_if_broken false at rule e = cc
 
@@ -244,7 +244,7 @@ with_job p t words e any (Some r) is =
       job_alone = ap (λ (f : FunctionText). f.params) routine.of_text ∙ no_parameters r.1 named (job_heading fs (item_names p) (reached fs) 0 [] [] p e r.0 r.1 there);
     }
 
-all_breaches : (p : ProgramText) → IsWellFormed p → breaches p ≡ []
+pub all_breaches : (p : ProgramText) → IsWellFormed p → breaches p ≡ []
 unfolding group_two
 all_breaches p formed = none_broken (breaches p) (is_none_means (group_two p) formed)
 

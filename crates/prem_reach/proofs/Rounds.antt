@@ -44,7 +44,7 @@ by_none : (table : List (List ℕ)) (k n : ℕ) → called_by table [] k n ≡ f
 by_none [] k n = refl
 by_none (callees ∷ table) k n = by_none table (k + 1) n
 
-with_none : (b : Bool) → (b || false) ≡ b
+pub with_none : (b : Bool) → (b || false) ≡ b
 with_none true = refl
 with_none false = refl
 

@@ -4,16 +4,13 @@ use Rattle.std.proofs.lemmas.Bool.Decides.{nat_tests}
 use Rattle.std.proofs.lemmas.List.{drop_more}
 use Rattle.prem_meaning.specs.Reach.{has_number}
 use Rattle.prem_reach.specs.Reach.{is_new, with_numbers, followed, called_by_new, with_new}
+use Rattle.prem_reach.proofs.Rounds.{with_none}
 
 or_true : (b : Bool) → (b || true) ≡ true
 or_true true = refl
 or_true false = refl
 
-or_false : (b : Bool) → (b || false) ≡ b
-or_false true = refl
-or_false false = refl
-
-grouped : (a b c : Bool) → (a || (b || c)) ≡ ((a || b) || c)
+pub grouped : (a b c : Bool) → (a || (b || c)) ≡ ((a || b) || c)
 grouped true b c = refl
 grouped false b c = refl
 
@@ -62,13 +59,13 @@ put_next ks i k set next all inside is made same =
 
 pub put_all : (n : ℕ) (set : List Bool) → with_numbers [] n set ≡ set
 put_all n [] = refl
-put_all n (b ∷ bs) = let rest = put_all (n + 1) bs in let b' = or_false b in λ i. b' i ∷ rest i
+put_all n (b ∷ bs) = let rest = put_all (n + 1) bs in let b' = with_none b in λ i. b' i ∷ rest i
 
 -- ---- rows of a table
 
 pub no_rows : (before set : List Bool) (k n : ℕ) (xs : List Bool) → with_new [] before set k n xs ≡ xs
 no_rows before set k n [] = refl
-no_rows before set k n (b ∷ bs) = let rest = no_rows before set k (n + 1) bs in let b' = or_false b in λ i. b' i ∷ rest i
+no_rows before set k n (b ∷ bs) = let rest = no_rows before set k (n + 1) bs in let b' = with_none b in λ i. b' i ∷ rest i
 
 row_new : (callees : List ℕ) (table : List (List ℕ)) (before set : List Bool) (k n : ℕ) (xs : List Bool) → is_new before set k ≡ true →
     with_new table before set (k + 1) n (with_numbers callees n xs) ≡ with_new (callees ∷ table) before set k n xs

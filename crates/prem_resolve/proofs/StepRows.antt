@@ -11,7 +11,7 @@ row_listed : {m : _} (turns : ℕ → ℕ) (n : ℕ) (row : Row_of-Step m) (rest
 row_listed turns n end_of-Step rest = refl
 row_listed turns n (more_of-Step first others) rest = ap (step_before turns n first) (row_listed turns (n + loops_of first) others rest)
 
-row_counted : {m : _} (row : Row_of-Step m) → row_loops row ≡ list_loops (items-the_row-Step m row)
+pub row_counted : {m : _} (row : Row_of-Step m) → row_loops row ≡ list_loops (items-the_row-Step m row)
 row_counted end_of-Step = refl
 row_counted (more_of-Step first others) = ap (λ k. loops_of first + k) (row_counted others)
 

@@ -1,9 +1,8 @@
 -- A set of one task and a device, and a run file, computed: the laws speak of them.
-use Rattle.std.proofs.Common.{◌≡◌, ℕ, zero, suc, ◌≤◌, List, [], ◌∷◌, refl, None, Some, Ok, arith}
+use Rattle.std.proofs.Common.{◌≡◌, ℕ, ◌≤◌, List, [], ◌∷◌, refl, None, Some, Ok, arith}
 use Rattle.std.specs.Prelude.{codes}
 use Rattle.std.proofs.lemmas.List.Elements.{All-from_recursion}
-use Rattle.prem_plant.specs.declared.plant.Device.{Device}
-use Rattle.prem_plant.specs.Label.{IsName, AreDistinct}
+use Rattle.prem_plant.specs.Label.{IsName}
 use Rattle.prem_plant.specs.Ranges.{IsDevice, default_plant}
 use Rattle.prem_plant.proofs.Powers.{default_is_plant}
 use Rattle.prem_lru.specs.Entries.{to_front}
@@ -21,6 +20,7 @@ use Rattle.prem_run.specs.Run.{Gathered, inputs_of, request_words, request_of, i
 use Rattle.prem_exec.specs.Exec.{stop_at}
 use Rattle.prem_sources.specs.Sources.{names_of}
 use Rattle.prem_accepted.specs.Accepted.{HasTextValues, HasValues, setup_in}
+use Rattle.prem_accepted.proofs.Sample.{one_name, net_is, net}
 use Rattle.prem_sets_sound.specs.Meant.{promises_in}
 use Rattle.prem_run_sound.specs.Runs.{SuitsRun}
 use Rattle.prem_run_sound.proofs.SetRuns.{inputs_are_lawful, set_runs_are_good, set_reports_end}
@@ -29,9 +29,6 @@ use Rattle.prem_run_sound.proofs.SetRuns.{inputs_are_lawful, set_runs_are_good, 
 
 abbrev echo : TaskText
 echo = record { name = codes "echo"; text = codes "void job(void){ int x = 0; x = in(); out(x); }"; period = 20000; jobs = 2 }
-
-abbrev net : Device
-net = record { name = codes "net"; queue = 8; cost = 60; lines = 4 }
 
 abbrev echoing : TaskSet
 echoing = record { plant = default_plant; devices = net ∷ []; tasks = echo ∷ [] }
@@ -42,17 +39,6 @@ echoing_breaks_nothing = refl
 
 echo_name : IsName (codes "echo")
 echo_name = record { some = omega arith; short = omega arith; each = refl }
-
-net_name : IsName (codes "net")
-net_name = record { some = omega arith; short = omega arith; each = refl }
-
-net_is : IsDevice net
-net_is = record { name = net_name; queue = (omega arith, omega arith); cost = (omega arith, omega arith); lines = (omega arith, omega arith) }
-
-one_name : (x : List ℕ) → AreDistinct (x ∷ [])
-one_name x zero zero li lj e = refl
-one_name x zero (suc j) li lj e = absurd (omega (arith, lj))
-one_name x (suc i) j li lj e = absurd (omega (arith, li))
 
 echoing_values : HasValues echoing
 echoing_values = record {

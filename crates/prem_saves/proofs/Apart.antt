@@ -66,7 +66,7 @@ length-refined b env e = same_length (refined b env e) env (kinds-refined b env 
 length-after : (env : Environment) (steps : Steps) → length (after env steps) ≡ length env
 length-after env steps = same_length (after env steps) env (kinds-after env steps)
 
-abbrev together : Known → Known → Known
+abbrev pub together : Known → Known → Known
 together l m = with_range (join l.range m.range) l
 
 -- both arms of an `if` leave a local as the condition left it, and that is, whichever way, as it was

@@ -2,7 +2,6 @@
 use Rattle.std.proofs.Common.{◌≡◌, ℕ, ◌<◌, Bool, true, false, cond, nat_lt, eqb, List, length, refl, ap, sym, ◌∙◌, arith}
 use Rattle.std.specs.List.{range_with_len}
 use Rattle.std.proofs.lemmas.Bool.{both_ways}
-use Rattle.prem_word.specs.Ranges.{join}
 use Rattle.prem_meaning.specs.Resolved.{Term, Steps}
 use Rattle.prem_ranges.specs.Environment.{Known, with_range, Environment, at_local, joined}
 use Rattle.prem_ranges.specs.RangeOf.{refined}
@@ -13,7 +12,7 @@ use Rattle.prem_ranges.proofs.Statements.{kinds-after}
 use Rattle.prem_saves.specs.Saves.{named, few_or_all, known_at, saved, saved_few, restored, merged}
 use Rattle.prem_saves.proofs.Locals.{among, among-range, same_each, same_length, length-changed, length-joined, known-elsewhere, known-joined, known-unsaved, known-saved}
 use Rattle.prem_saves.proofs.Ways.{join_same, join_again}
-use Rattle.prem_saves.proofs.Apart.{refined_apart, after_apart}
+use Rattle.prem_saves.proofs.Apart.{refined_apart, after_apart, together}
 
 -- an environment that differs from another one at some locals alone
 pub record Differs (ks : List ℕ) (env from : Environment) : Type 0 where
@@ -28,9 +27,6 @@ restored_is ks env from d =
     each : (j : ℕ) → j < length env → (b : Bool) → among j ks ≡ b → known_at (restored (saved from ks) env) j ≡ known_at from j
     each j within true there = known-saved (λ s l. s.known) from ks env j (known_at from j) within refl refl there
     each j within false out = known-unsaved (λ s l. s.known) from ks env j out ∙ d.elsewhere j (let n = d.count in omega arith) out
-
-abbrev together : Known → Known → Known
-together l m = with_range (join l.range m.range) l
 
 pub merged_is : (ks : List ℕ) (one two : Environment) → Differs ks one two → merged (saved one ks) two ≡ joined one two
 merged_is ks one two d =

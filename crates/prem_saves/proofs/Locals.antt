@@ -61,7 +61,7 @@ length-joined (x ∷ xs) (y ∷ ys) n = ap suc (length-joined xs ys (omega arith
 
 -- ---- one local
 
-suc_suc : (k j : ℕ) → eqb (suc k) (suc j) ≡ eqb k j
+pub suc_suc : (k j : ℕ) → eqb (suc k) (suc j) ≡ eqb k j
 suc_suc k j = grind (arith, nat_tests)
 
 pub known-there : (env : Environment) (k : ℕ) (change : Known → Known) → k < length env → known_at (at_local k change env) k ≡ change (known_at env k)

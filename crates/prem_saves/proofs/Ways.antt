@@ -90,7 +90,7 @@ refined_within false env (Element at g ty index) = all_same env
 
 -- ---- both ways together
 
-ends : (lo lo' hi hi' : ℤ) → lo ≡ lo' → hi ≡ hi' → from_to lo hi ≡ from_to lo' hi'
+pub ends : (lo lo' hi hi' : ℤ) → lo ≡ lo' → hi ≡ hi' → from_to lo hi ≡ from_to lo' hi'
 ends lo lo' hi hi' a b = ap (λ z. from_to z hi) a ∙ ap (λ z. from_to lo' z) b
 
 knowns : (l m : Known) → l.kind ≡ m.kind → l.range ≡ m.range → l ≡ m

@@ -31,15 +31,12 @@ use Rattle.prem_asm.proofs.Quiet.{pieces_good}
 use Rattle.prem_asm.proofs.Every.{every}
 use Rattle.prem_asm.proofs.Cost.{trace_within_cost}
 use Rattle.prem_gen_laws.specs.Table.{Codes, one_of, code_calls}
+use Rattle.prem_gen_laws.proofs.Quiet.{one_holds}
 use Rattle.prem_segment.specs.Bodies.{TakesSome, CodeIsWithin, IsBody, BodiesAreWithin, code_costs, BodiesCost}
 
 both : (a b : Bool) → (a && b) ≡ true → a ≡ true
 both true b e = refl
 both false b e = cc
-
-pub one_holds : (P : Did → Type 0) (I : TaskState → Type 0) (b : Bool) (this other : Ending) → Holds P I this → Holds P I other → Holds P I (one_of b this other)
-one_holds P I true this other h k = h
-one_holds P I false this other h k = k
 
 -- ---- one instruction
 

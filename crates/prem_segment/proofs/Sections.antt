@@ -9,8 +9,7 @@ use Rattle.prem_isa.specs.declared.instr.Instr.{Instr}
 use Rattle.prem_isa.specs.declared.instr.Instr.TheVariants.{Jalr, PmMem}
 use Rattle.prem_isa.specs.declared.effect.Access.{Access}
 use Rattle.prem_isa.specs.declared.effect.AccessKind.TheVariants.{Loads}
-use Rattle.prem_isa.specs.declared.effect.Phase.TheVariants.{Memory as MemoryPhase, Execution}
-use Rattle.prem_isa.specs.declared.effect.Change.TheVariants.{Stay}
+use Rattle.prem_isa.specs.declared.effect.Phase.TheVariants.{Memory as MemoryPhase}
 use Rattle.prem_isa.specs.declared.effect.Outcome.{Outcome}
 use Rattle.prem_isa.specs.declared.effect.Outcome.TheVariants.{Trap, Done}
 use Rattle.prem_isa.specs.Decode.{cost_of}
@@ -29,10 +28,12 @@ use Rattle.prem_prefetch_laws.specs.Touches.{Touches, CoversAll, Passes, LoadsLi
 use Rattle.prem_prefetch_laws.specs.Stubs.{memory_step}
 use Rattle.prem_prefetch_laws.specs.Confined.{exec_step, end_step, return_step}
 use Rattle.prem_script.specs.Script.{access_lines, lines_of_did, lines_of_dids, cost_of_dids, IsCovered}
-use Rattle.prem_script.proofs.Residency.{lines_of_dids-append}
+use Rattle.prem_script.proofs.Residency.{lines_of_dids-append, all_in-append}
+use Rattle.prem_gen_laws.proofs.Quiet.{one_holds}
+use Rattle.prem_weave.proofs.Charges.{Fetching, Running}
 use Rattle.prem_segment.specs.Bodies.{CodeIsWithin, IsBody, code_costs}
 use Rattle.prem_segment.specs.Sections.{StubsAreSections}
-use Rattle.prem_segment.proofs.Bodies.{bodies_are_within, charge, weighs, calls_cost, one_holds}
+use Rattle.prem_segment.proofs.Bodies.{bodies_are_within, charge, weighs, calls_cost}
 
 -- ---- lists of steps
 
@@ -48,14 +49,10 @@ steps_map : (P Q : Did → Type 0) → ((d : Did) → P d → Q d) → (xs : Lis
 steps_map P Q f [] h = tt
 steps_map P Q f (x ∷ xs) h = (f x h.0, steps_map P Q f xs h.1)
 
-all_of : (P : Did → Type 0) (xs : List Did) → AllSteps P xs → All P xs
+pub all_of : (P : Did → Type 0) (xs : List Did) → AllSteps P xs → All P xs
 all_of P [] h k d lt = absurd (omega arith)
 all_of P (x ∷ xs) h zero d lt = h.0
 all_of P (x ∷ xs) h (suc k) d lt = all_of P xs h.1 k d (omega (arith, lt))
-
-in_join : (c xs ys : List ℕ) → AllIn c xs → AllIn c ys → AllIn c (xs ++ ys)
-in_join c [] ys h k = k
-in_join c (x ∷ xs) ys h k = (h.0, in_join c xs ys h.1 k)
 
 in_right : (x : ℕ) (p r : List ℕ) → is_in x r ≡ true → is_in x (p ++ r) ≡ true
 in_right x [] r h = h
@@ -106,7 +103,7 @@ module _ (line : ℕ) (members : List ℕ) where
 
   lines_in : (ds : List Did) → AllSteps PcIn ds → AllSteps AccessIn ds → AllIn members (lines_of_dids line ds)
   lines_in [] h k = tt
-  lines_in (d ∷ ds) h k = (h.0, in_join members (access_lines line d.access) (lines_of_dids line ds) k.0 (lines_in ds h.1 k.1))
+  lines_in (d ∷ ds) h k = (h.0, all_in-append members (access_lines line d.access) (lines_of_dids line ds) k.0 (lines_in ds h.1 k.1))
 
 -- ---- accesses
 
@@ -173,12 +170,6 @@ cost_total (d ∷ ds) = sum_by-cons (λ (x : Did). cost_of x.instr) d ds ∙ ap 
 kind_loads : (line : ℕ) (Q : ℕ → Type 0) (o : Option Access) → LoadsLine line Q o → IfSome o (λ a. a.kind ≡ Loads)
 kind_loads line Q None h = tt
 kind_loads line Q (Some a) h = h.0
-
-abbrev Fetching : Did → Type 0
-Fetching d = (d.phase ≡ MemoryPhase) × (d.change ≡ Stay) × IfSome d.access (λ a. a.kind ≡ Loads)
-
-abbrev Running : Did → Type 0
-Running d = (d.phase ≡ Execution) × (d.change ≡ Stay)
 
 pub stubs_are_sections : StubsAreSections
 stubs_are_sections plant passes s c ranges members n part at kind stated mark t u back trace some w goes room x marked cost =

@@ -10,7 +10,7 @@ use Rattle.prem_plant.specs.declared.layout.PartSize.{PartSize}
 use Rattle.prem_plant.specs.Places.{Extent, places_from, default_places}
 use Rattle.prem_image.specs.Records.{task_names}
 use Rattle.prem_gate.specs.declared.request.Request.{Request}
-use Rattle.prem_syntax.specs.Syntax.{Text, GlobalVariable, ProgramText}
+use Rattle.prem_syntax.specs.Syntax.{Text, ProgramText}
 use Rattle.prem_token.specs.declared.fail.FrontFail.{FrontFail}
 use Rattle.prem_text.specs.Texts.{reads}
 use Rattle.prem_meaning.specs.Resolved.{Routine, Resolved}
@@ -28,6 +28,7 @@ use Rattle.prem_layout.specs.Parts.{Passes, passes_of, part, code_parts, stub_pa
 use Rattle.prem_layout.specs.Placed.{Coded, sized_of, parts_of, placed_from, part_total}
 use Rattle.prem_layout.specs.Image.{task_record, device_records}
 use Rattle.prem_layout.specs.Rules.{or_else, refused_by, first_among, over_tasks}
+use Rattle.prem_layout.proofs.TaskParts.{code_counted, globals_counted, areas_counted}
 use Rattle.prem_tasks.specs.Broken.{TaskText, TaskSet, unread, group_one, program_before, programs_of, coded_of, broken_programs, broken}
 use Rattle.prem_tasks.specs.Compiled.{compiled, coded_in, places_in}
 use Rattle.prem_set_laws.specs.Laws.{set_names}
@@ -65,18 +66,6 @@ names_are_placed p places [] = refl
 names_are_placed p places (c ∷ cs) = ap (λ (xs : List Text). c.name ∷ xs) (names_are_placed p (drop (part_count c.program) places) cs)
 
 -- ---- how many parts there are
-
-code_counted : (task n : ℕ) (sizes : List ℕ) → length (code_parts task n sizes) ≡ length sizes
-code_counted task n [] = refl
-code_counted task n (x ∷ xs) = ap suc (code_counted task (n + 1) xs)
-
-globals_counted : (task n : ℕ) (gs : List GlobalVariable) → length (global_parts task n gs) ≡ length gs
-globals_counted task n [] = refl
-globals_counted task n (g ∷ gs) = ap suc (globals_counted task (n + 1) gs)
-
-areas_counted : (line n : ℕ) (ds : List Device) → length (area_parts line n ds) ≡ length ds
-areas_counted line n [] = refl
-areas_counted line n (d ∷ ds) = ap suc (areas_counted line (n + 1) ds)
 
 places_counted : (at : ℕ) (parts : List PartSize) → length (places_from at parts) ≡ length parts
 places_counted at [] = refl

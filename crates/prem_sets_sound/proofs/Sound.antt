@@ -1,8 +1,8 @@
 -- Sets that break no rule are sound.
 use Rattle.std.proofs.Common.{◌≡◌, ℕ, zero, suc, ◌<◌, refl, ap, ◌∙◌, sym, subst, arith, List, [], ◌∷◌, length, map, Option, None, Some, drop, slice_get}
-use Rattle.std.specs.Prelude.{All, slice_index_or, option_map, is_none, IsTrue}
+use Rattle.std.specs.Prelude.{slice_index_or, option_map, is_none, IsTrue}
 use Rattle.std.proofs.lemmas.List.{length-map}
-use Rattle.std.proofs.lemmas.Option.{slice_get-map, slice_get_within, get_or_from_slice_get}
+use Rattle.std.proofs.lemmas.Option.{slice_get-map, get_or_from_slice_get}
 use Rattle.prem_plant.specs.declared.plant.Plant.{Plant}
 use Rattle.prem_plant.specs.declared.plant.Device.{Device}
 use Rattle.prem_plant.specs.Places.{Extent}
@@ -36,6 +36,7 @@ use Rattle.prem_accepted.proofs.Records.{have_code}
 use Rattle.prem_accepted.proofs.Rules.{accepted_tasks_keep_rules}
 use Rattle.prem_accepted.proofs.Whole.{accepted_sets_are_laid_out, default_places_are_lawful, accepted_sets_are_sound, lawful_sets_have_values}
 use Rattle.prem_read_words.proofs.ProgramWords.{reads_have_words}
+use Rattle.prem_each.proofs.Words.{all_there}
 use Rattle.prem_sets_sound.specs.Meant.{meant_by, meant_at, promises_in, AreMeant}
 use Rattle.prem_sets_sound.specs.Sound.{MeantTasksJoin, AcceptedTasksAreMeant, SetsAreSound, LawfulSetsAreSound}
 
@@ -46,9 +47,6 @@ task_there : (p : Plant) (places : List Extent) (cs : List Coded) (k : ℕ) (t :
 task_there p places [] k t e = cc
 task_there p places (c ∷ cs) zero t e = let same : placed_at p c (task_places c.program places) ≡ t = cc in ap (λ (u : Placed). Some u.task) same
 task_there p places (c ∷ cs) (suc k) t e = task_there p (drop (part_count c.program) places) cs k t e
-
-all_at : {A : Type 0} (P : A → Type 0) (xs : List A) (i : ℕ) (x : A) → All P xs → slice_get xs i ≡ Some x → P x
-all_at P xs i x h e = subst P (get_or_from_slice_get xs i x x e) (h i x (slice_get_within xs i x e))
 
 there : {A : Type 0} (xs : List A) (i : ℕ) → i < length xs → (x : A) × (slice_get xs i ≡ Some x)
 there [] i lt = absurd (omega (arith, lt))
@@ -63,7 +61,7 @@ module _ (passes : ℕ → ℕ) (p : Plant) (devices : List Device) (tasks : Lis
       TaskJoins (setup_of p devices places tasks) passes (own_of tasks places k) (run_in (setup_of p devices places tasks) (content_of p places tasks) inputs k) (limits_at p (placed_from p places tasks) k) (promises inputs k)
   one_joins k t e lt =
       let m = meant k t e in
-      let values = all_at HasCodedValues tasks k t.task laid.each (task_there p places tasks k t e) in
+      let values = all_there HasCodedValues tasks k t.task laid.each (task_there p places tasks k t e) in
       let placed : IsPlacedTask p devices tasks places k t = record { plant_is = laid.plant_is; coded = have_code tasks laid.each; lawful = laid.lawful; there = e } in
       let joins = tasks_join passes p devices tasks places k t placed once m.text m.keeps values.jobs.0 inputs (are.words k [] lt) in
       let listed : slice_get (map (task_limits p) (placed_from p places tasks)) k ≡ Some (task_limits p t) = slice_get-map (task_limits p) (placed_from p places tasks) k ∙ ap (option_map (task_limits p)) e in
@@ -86,7 +84,7 @@ meant_tasks_join passes p devices tasks places promises laid once meant inputs a
 
 -- ---- accepted sets
 
-is_true : {A : Type 0} (o : Option A) → o ≡ None → IsTrue (is_none o)
+pub is_true : {A : Type 0} (o : Option A) → o ≡ None → IsTrue (is_none o)
 is_true {A} o e = subst (λ (q : Option A). IsTrue (is_none q)) (sym e) refl
 
 task_keeps : (set : TaskSet) (k : ℕ) (t : Placed) (r : KeepsRules set k t) → KeepsTaskRules set.plant r.program t

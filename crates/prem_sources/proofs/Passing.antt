@@ -3,7 +3,6 @@ use Rattle.std.proofs.Common.{◌≡◌, ◌≢◌, ℕ, List, [], ◌∷◌, �
 use Rattle.std.proofs.lemmas.List.{append_assoc, append-nil}
 use Rattle.prem_io.specs.Files.{Files}
 use Rattle.prem_gate.specs.declared.request.RunInput.{RunInput}
-use Rattle.prem_run.specs.declared.fail.Which.{Which}
 use Rattle.prem_run.specs.Run.{Gathered, LineRefusal}
 use Rattle.prem_run.specs.Views.{IsRun}
 use Rattle.prem_set.specs.declared.fault.SetFail.{SetFail}
@@ -18,7 +17,7 @@ use Rattle.prem_answer.specs.declared.answer.Halt.{Halt}
 use Rattle.prem_answer.specs.declared.answer.Halt.TheVariants.{Answered, ReadFault, OutOfMemory}
 use Rattle.prem_answer.specs.Stages.{Reply, Stage, Comes, IsReadAs, IsGiven, form_reply, reading, reply_of}
 use Rattle.prem_answer.proofs.Reading.{goes_on, ends_there}
-use Rattle.prem_exec.specs.Forms.{line_why, run_in}
+use Rattle.prem_exec.specs.Forms.{run_in}
 use Rattle.prem_sources.specs.Sources.{Leads, Passes, input_of, reading_behind, reading_set, reading_tasks, set_in, set_limit, set_of_bytes, set_why, set_with, source_limit, task_of_source}
 
 -- ---- what a call gives
@@ -105,10 +104,6 @@ pub run_formed : (name : List ℕ) (read : Result Gathered LineRefusal) (input :
 run_formed name (Ok g) input (words, requests) =
     ap Ok (ap (λ ws. record { words = ws; requests = g.requests }) (sym words) ∙ ap (λ rs. record (input_of input) { requests = rs }) (sym requests))
 run_formed name (Err refusal) input is = absurd is
-
-pub run_refused : (name : List ℕ) (read : Result Gathered LineRefusal) (n : ℕ) (which : Which) (reply : Reply) → read ≡ Err (n, which) →
-    reply ≡ form_reply name (line_why (n, which)) → run_in name read ≡ Err reply
-run_refused name read n which reply is line = ap (run_in name) is ∙ ap Err (sym line)
 
 -- ---- what the code holds
 

@@ -98,7 +98,7 @@ alone bytes rest t s apart = record {
   no_comment = opens_none bytes rest (shape bytes t s) apart;
 }
 
-divided : (before : List ℕ) (xs : List Spelling) → AreSpellings xs → Divides before (joined xs) (placed before xs) []
+pub divided : (before : List ℕ) (xs : List Spelling) → AreSpellings xs → Divides before (joined xs) (placed before xs) []
 divided before [] all = up_to before []
 divided before (x ∷ []) all =
     subst (λ (text : List ℕ). Divides before text ((x.1, place_behind before) ∷ []) []) (append-nil x.0)
@@ -108,7 +108,7 @@ divided before (x ∷ y ∷ ys) all =
     token before x.0 (32 ∷ joined (y ∷ ys)) x.1 (placed (before ++ x.0 ++ 32 ∷ []) (y ∷ ys)) [] (alone x.0 (32 ∷ joined (y ∷ ys)) x.1 all.0 (a_space (joined (y ∷ ys))))
     (gap (before ++ x.0) (32 ∷ []) (joined (y ∷ ys)) (placed (before ++ x.0 ++ 32 ∷ []) (y ∷ ys)) [] (a_blank 32 (joined (y ∷ ys)) refl) rest)
 
-placed_length : (before : List ℕ) (xs : List Spelling) → length (placed before xs) ≡ length xs
+pub placed_length : (before : List ℕ) (xs : List Spelling) → length (placed before xs) ≡ length xs
 placed_length before [] = refl
 placed_length before (x ∷ xs) = ap suc (placed_length (before ++ x.0 ++ 32 ∷ []) xs)
 

@@ -19,7 +19,7 @@ after base n (d ∷ ds) = after base (n * base + digit_value d) ds
 abbrev fits : ℕ → ℕ → Bool
 fits base d = nat_lt (digit_value d) base
 
-shifted : (n b v p e : ℕ) → (n * b + v) * p + e ≡ n * (b * p) + (v * p + e)
+pub shifted : (n b v p e : ℕ) → (n * b + v) * p + e ≡ n * (b * p) + (v * p + e)
 shifted n b v p e = ap (λ (x : ℕ). x + e) (add-mul (n * b) v p ∙ ap (λ (x : ℕ). x + v * p) (mul_assoc n b p)) ∙ add_assoc (n * (b * p)) (v * p) e
 
 after_is : (base n : ℕ) (ds : List ℕ) → after base n ds ≡ n * base ^ length ds + value_in base ds

@@ -6,12 +6,13 @@ use Rattle.std.proofs.lemmas.List.Sums.{take_while-cons, sum_by-append, sum_by-c
 use Rattle.prem_syntax.specs.declared.tree.Place.{Place}
 use Rattle.prem_token.specs.declared.fail.FrontFail.{FrontFail}
 use Rattle.prem_token.specs.declared.fail.FrontFail.TheVariants.{NotText}
-use Rattle.prem_token.specs.Reading.{◌>>=◌, no_token}
+use Rattle.prem_token.specs.Reading.{no_token}
 use Rattle.prem_token.specs.Lexeme.{Lexeme, Seen}
 use Rattle.prem_lexer.specs.declared.lexer.Mode.{Mode}
 use Rattle.prem_lexer.specs.declared.lexer.Mode.TheVariants.{Skip, Line, Block}
 use Rattle.prem_lexer.specs.declared.lexer.Cursor.{Cursor}
 use Rattle.prem_lexer.specs.Tokens.{is_blank, is_printable, first_token, place, behind, begins_with, start, step, put, lex, with_front}
+use Rattle.prem_lexer.proofs.Lexing.{lex_cons}
 use Rattle.prem_spelling.specs.Spellings.{every}
 use Rattle.prem_spelling.specs.Division.{is_feed, has_close, ends_line, Gap, a_blank, a_block, a_line, opens_comment, IsToken, place_behind}
 use Rattle.prem_spelling.proofs.Front.{token_ready}
@@ -53,11 +54,6 @@ behind_is before b =
     λ i. record { offset = offsets i; line = lines i; col = cols i }
 
 -- ---- one byte
-
-lex_cons : (mode : Mode) (at : Cursor) (room b : ℕ) (rest : List ℕ) →
-    lex mode at room (b ∷ rest) ≡ (step mode at (b ∷ rest) >>= λ s. put s.1 at room (λ left. lex s.0 (behind at b) left rest))
-unfolding lex
-lex_cons mode at room b rest = refl
 
 lex_on : (mode next : Mode) (before : List ℕ) (room b : ℕ) (rest : List ℕ) → step mode (cursor_behind before) (b ∷ rest) ≡ Ok (next, None) →
     lex mode (cursor_behind before) room (b ∷ rest) ≡ lex next (cursor_behind (before ++ b ∷ [])) room rest

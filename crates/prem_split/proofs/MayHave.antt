@@ -1,5 +1,5 @@
 -- Well-formed programs whose frames may be compiled have plans.
-use Rattle.std.proofs.Common.{◌≡◌, ℕ, ◌+◌, ◌*◌, ◌<◌, ◌≤◌, ◌^◌, Bool, true, false, ltb, List, [], ◌∷◌, ◌++◌, length, refl, ap, sym, ◌∙◌, subst, arith, Option, None, Some, is_none, IsTrue}
+use Rattle.std.proofs.Common.{◌≡◌, ℕ, ◌+◌, ◌*◌, ◌<◌, ◌≤◌, ◌^◌, Bool, true, false, ltb, List, [], ◌∷◌, ◌++◌, length, refl, ap, sym, ◌∙◌, subst, arith, None, is_none, IsTrue}
 use Rattle.std.specs.Int.{next_multiple_of}
 use Rattle.std.specs.List.{AllByRecursion}
 use Rattle.std.proofs.lemmas.Bool.Decides.{nat_tests}
@@ -8,7 +8,7 @@ use Rattle.prem_list.specs.Sequence.{items_of}
 use Rattle.prem_syntax.specs.declared.rules.Count.TheVariants.{Functions, Globals}
 use Rattle.prem_syntax.specs.Syntax.{ProgramText}
 use Rattle.prem_syntax.specs.SyntaxOf.{global_of, function_of}
-use Rattle.prem_meaning.specs.Rules.{Limit, Breach, first, first_of, comes_before}
+use Rattle.prem_meaning.specs.Rules.{Limit, Breach, first_of}
 use Rattle.prem_meaning.specs.Breaches.{if_broken}
 use Rattle.prem_meaning.specs.GroupTwo.{group_two, IsWellFormed}
 use Rattle.prem_meaning.specs.Resolved.{Resolved}
@@ -17,20 +17,12 @@ use Rattle.prem_meaning.specs.Source.{unlimited}
 use Rattle.prem_resolve.specs.declared.resolved.Routine.{Routine as RoutineTree}
 use Rattle.prem_resolve.specs.declared.resolved.Resolved.{Resolved as ResolvedTree}
 use Rattle.prem_resolve.specs.ResolvedOf.{loops_of, routines_of, resolved_of, IsResolved}
-use Rattle.prem_tree.proofs.RunLaws.{few_routines}
+use Rattle.prem_tree.proofs.RunLaws.{few_routines, some_first}
 use Rattle.prem_layout.specs.Plans as layout
 use Rattle.prem_split.specs.Walk.{HasFrame, counters_of, frame_of as frame_of_tree}
 use Rattle.prem_split.specs.PlansWith.{MayHavePlans, plans_in}
 use Rattle.prem_split.specs.Texts.{HasSmallFrame, HasFrames, plans_of}
 use Rattle.prem_split.proofs.PlansAre.{frame_same, plans_are}
-
-some_first : (b : Breach) (o : Option Breach) → is_none (first (Some b) o) ≡ false
-some_first b None = refl
-some_first b (Some other) = by (comes_before other b) refl
-  where
-    by : (test : Bool) → comes_before other b ≡ test → is_none (first (Some b) (Some other)) ≡ false
-    by true is = rw is
-    by false is = rw is
 
 -- the rule on the number of globals is the second of eight lists of breaches
 second_unbroken : (test other : Bool) (b c d e f g : List Breach) →
@@ -52,10 +44,10 @@ few_globals p well =
     grind (arith, nat_tests)
 
 -- a frame that may be compiled has few slots
-short_frame : (params locals counters : ℕ) → next_multiple_of (4 + 4 * (params + locals + counters)) 16 ≤ 2032 → (params < 2 ^ 32) × (locals < 2 ^ 32) × (counters < 2 ^ 32)
+pub short_frame : (params locals counters : ℕ) → next_multiple_of (4 + 4 * (params + locals + counters)) 16 ≤ 2032 → (params < 2 ^ 32) × (locals < 2 ^ 32) × (counters < 2 ^ 32)
 short_frame params locals counters h = (omega arith, omega arith, omega arith)
 
-has_frame : (r : RoutineTree) → frame_of_tree r ≤ 2032 → HasFrame r
+pub has_frame : (r : RoutineTree) → frame_of_tree r ≤ 2032 → HasFrame r
 has_frame r h =
     let s = short_frame (length (function_of r.text.now).params) (length (items_of r.locals)) (counters_of r.body) h in
     record { short = record { params = s.0; locals = s.1; counters = s.2 }; frame = h }

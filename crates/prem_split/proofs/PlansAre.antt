@@ -1,5 +1,5 @@
 -- The plans of a program in memory are those of the program that it stands for.
-use Rattle.std.proofs.Common.{◌≡◌, ℕ, zero, suc, ◌+◌, ◌*◌, List, [], ◌∷◌, Option, None, Some, refl, ap, sym, ◌∙◌, arith, map, length, slice_index, append-nil}
+use Rattle.std.proofs.Common.{◌≡◌, ℕ, zero, suc, ◌+◌, ◌*◌, List, [], ◌∷◌, Option, None, Some, refl, ap, ◌∙◌, arith, map, length, slice_index}
 use Rattle.std.specs.Int.{next_multiple_of}
 use Rattle.std.proofs.lemmas.List.{length-map}
 use Rattle.prem_list.specs.Sequence.{items_of}
@@ -10,18 +10,13 @@ use Rattle.prem_resolve.specs.declared.resolved.Routine.{Routine as RoutineTree}
 use Rattle.prem_resolve.specs.declared.resolved.Resolved.{Resolved as ResolvedTree}
 use Rattle.prem_resolve.specs.ResolvedOf.{term_of, loops_of, routine_of, routines_of, resolved_of}
 use Rattle.prem_template.specs.Frames.{frame_of, frame_at, depth_of}
-use Rattle.prem_layout.specs.Plans.{plan_before, callee_table, callees_in, reach_of, region_of, plan_of, plans_from, plans_of}
-use Rattle.prem_split.specs.Walk.{callees_of, frame_of as frame_of_tree}
+use Rattle.prem_layout.specs.Plans.{plan_before, callee_table, reach_of, region_of, plan_of, plans_from, plans_of}
+use Rattle.prem_marks.proofs.CalledTrees.{tables_same}
+use Rattle.prem_split.specs.Walk.{frame_of as frame_of_tree}
 use Rattle.prem_split.specs.Tables.{depths_of}
 use Rattle.prem_split.specs.PlansWith.{Known, plan_with, plan_if, plans_with, marks_of, calls_of, known_of, plans_in}
-use Rattle.prem_split.proofs.Plain.{step_calls, step_counts}
+use Rattle.prem_split.proofs.Plain.{step_counts}
 use Rattle.prem_split.proofs.DepthsAre.{depths_are}
-
-calls_same : (turns : ℕ → ℕ) (n : ℕ) (fs : List RoutineTree) → calls_of fs ≡ callee_table (routines_of turns n fs)
-calls_same turns n [] = refl
-calls_same turns n (f ∷ fs) =
-    ap (λ cs. cs ∷ calls_of fs) (sym (step_calls turns n f.body Done ∙ append-nil (callees_of f.body)))
-    ∙ ap (λ css. callees_in (routine_of turns n f).body ∷ css) (calls_same turns (n + loops_of f.body) fs)
 
 pub frame_same : (turns : ℕ → ℕ) (n : ℕ) (f : RoutineTree) → frame_of_tree f ≡ frame_of (routine_of turns n f)
 frame_same turns n f =
@@ -29,12 +24,12 @@ frame_same turns n f =
     let counters = step_counts turns n f.body Done in
     ap (λ k. next_multiple_of (4 + 4 * k) 16) (omega (arith, locals, counters))
 
-frames_same : (turns : ℕ → ℕ) (n : ℕ) (fs : List RoutineTree) → map frame_of_tree fs ≡ map frame_of (routines_of turns n fs)
+pub frames_same : (turns : ℕ → ℕ) (n : ℕ) (fs : List RoutineTree) → map frame_of_tree fs ≡ map frame_of (routines_of turns n fs)
 frames_same turns n [] = refl
 frames_same turns n (f ∷ fs) =
     ap (λ k. k ∷ map frame_of_tree fs) (frame_same turns n f) ∙ ap (λ ks. frame_of (routine_of turns n f) ∷ ks) (frames_same turns (n + loops_of f.body) fs)
 
-frame_there : (routines : List Routine) (n : ℕ) → slice_index (map frame_of routines) n ≡ frame_at routines n
+pub frame_there : (routines : List Routine) (n : ℕ) → slice_index (map frame_of routines) n ≡ frame_at routines n
 frame_there [] n = refl
 frame_there (r ∷ rs) zero = refl
 frame_there (r ∷ rs) (suc n) = frame_there rs n
@@ -54,7 +49,7 @@ pub plans_are : (turns : ℕ → ℕ) (r : ResolvedTree) → plans_in r ≡ plan
 plans_are turns r =
     let fs : List RoutineTree = items_of r.routines in
     let p : Resolved = resolved_of turns r in
-    let calls : calls_of fs ≡ callee_table p.routines = calls_same turns 0 fs in
+    let calls : calls_of fs ≡ callee_table p.routines = tables_same turns 0 fs in
     let frames : map frame_of_tree fs ≡ map frame_of p.routines = frames_same turns 0 fs in
     let depth : (f : ℕ) → slice_index (known_of r).depths f ≡ depth_of p.routines f =
     λ f. ap (λ ks. slice_index (depths_of ks (calls_of fs)) f) frames ∙ ap (λ css. slice_index (depths_of (map frame_of p.routines) css) f) calls ∙ depths_are p.routines f in

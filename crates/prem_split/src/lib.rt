@@ -15,4 +15,4 @@ pub use plans::intervals_of;
 pub use prem_list::Sequence;
 pub use prem_plant::FnId;
 pub use tables::{depths, greatest, value_at};
-pub use walk::{callee_table, frame, frames};
+pub use walk::{frame, frames};

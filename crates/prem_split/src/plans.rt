@@ -8,9 +8,10 @@ ghost use Rattle.prem_split.specs.PlanOf.{plan_of};
 ghost use Rattle.prem_split.specs.PlansWith.{MayHavePlans, plan_with, plan_if, plans_in};
 
 use crate::plan::IntervalPlan;
-use crate::tables::{depths, members, reach_set, value_at};
-use crate::walk::{callee_table, frames};
+use crate::tables::{depths, members, value_at};
+use crate::walk::frames;
 use prem_list::Sequence;
+use prem_marks::{callee_table, reach_set};
 use prem_plant::FnId;
 use prem_resolve::Resolved;
 use prem_syntax::{Global as GlobalTree, Mark, Name, Region};

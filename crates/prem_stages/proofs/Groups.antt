@@ -36,7 +36,7 @@ read_count n (t ∷ ts) e = by (reads t.text) e (read_count (n + 1) ts)
 pub as_many_programs : (ts : List TaskText) → over_tasks group_one ts ≡ None → length (programs_of ts) ≡ length ts
 as_many_programs ts e = read_count 0 ts e
 
-map_count : {A B : Type 0} (f : A → B) (xs : List A) → length (map f xs) ≡ length xs
+pub map_count : {A B : Type 0} (f : A → B) (xs : List A) → length (map f xs) ≡ length xs
 map_count f [] = refl
 map_count f (x ∷ xs) = ap suc (map_count f xs)
 
@@ -57,7 +57,7 @@ pub late_by : (task : Option ℕ) (rule : Option LateRule) → late_refusal (ref
 late_by task None = refl
 late_by task (Some rule) = refl
 
-abbrev late_four : CodedText → Option LateRule
+abbrev pub late_four : CodedText → Option LateRule
 late_four c = group_four c.program
 
 late_among : (n : ℕ) (ts : List TaskText) (ps : List ProgramText) → length ps ≡ length ts → late_refusal (first_among late_four n (coded_of ts ps)) ≡ first_among uncoded n ps

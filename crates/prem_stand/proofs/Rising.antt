@@ -1,6 +1,6 @@
 -- Parts at places that rise.
-use Rattle.std.proofs.Common.{◌≡◌, ℕ, zero, suc, ◌+◌, ◌-◌, ◌*◌, ◌/◌, ◌%◌, ◌^◌, ◌<◌, ◌≤◌, ◌⊎◌, inl, inr, refl, ap, sym, ◌∙◌, subst, arith, List, [], ◌∷◌, ◌++◌, length, map, take, drop}
-use Rattle.std.specs.Prelude.{⊤, slice_index, slice_index_or}
+use Rattle.std.proofs.Common.{◌≡◌, ℕ, zero, suc, ◌+◌, ◌-◌, ◌*◌, ◌/◌, ◌%◌, ◌^◌, ◌<◌, ◌≤◌, refl, ap, ◌∙◌, subst, arith, List, [], ◌∷◌, ◌++◌, length, map, take, drop}
+use Rattle.std.specs.Prelude.{slice_index, slice_index_or}
 use Rattle.std.specs.Int.{next_multiple_of}
 use Rattle.std.specs.List.{AllByRecursion}
 use Rattle.std.proofs.lemmas.List.Elements.{recursion_from_All}
@@ -11,6 +11,7 @@ use Rattle.prem_plant.specs.Places.{Extent, places_from, end_behind}
 use Rattle.prem_plant.proofs.Placing.{end_from}
 use Rattle.prem_asm.specs.Pieces.{Pieces, size_of}
 use Rattle.prem_layout.specs.Footprint.{no_place}
+use Rattle.prem_layout.proofs.TaskParts.{IsFour, four, HasSizes}
 use Rattle.prem_foot.specs.Standing.{StandsAt, ArePartsAt}
 use Rattle.prem_flat.specs.Flat.{EndWithin}
 use Rattle.prem_flat.specs.Blocks.{RisesFrom}
@@ -70,13 +71,6 @@ are_parts memory least (x ∷ xs) (q ∷ qs) h (suc k) part e =
 
 -- ---- addresses
 
-abbrev pub IsFour : PartSize → Type 0
-IsFour part = (part.align ≡ 4) ⊎ (part.align ≡ 16)
-
-four : (n align : ℕ) → n % align ≡ 0 → (align ≡ 4) ⊎ (align ≡ 16) → n % 4 ≡ 0
-four n align e (inl is) = let f : n % 4 ≡ 0 = ap (λ k. n % k) (sym is) ∙ e in f
-four n align e (inr is) = let f : n % 16 ≡ 0 = ap (λ k. n % k) (sym is) ∙ e in omega (arith, f)
-
 abbrev pub first_byte : Extent → ℕ
 first_byte place = place.0
 
@@ -104,12 +98,6 @@ taken_same (suc count) zero (q ∷ qs) lt = refl
 taken_same (suc count) (suc n) (q ∷ qs) lt = taken_same count n qs (omega arith)
 
 -- ---- code
-
--- code has the sizes of the first parts
-abbrev pub HasSizes : List Pieces → List PartSize → Type 0
-HasSizes [] xs = ⊤
-HasSizes (ps ∷ pss) [] = ⊥
-HasSizes (ps ∷ pss) (x ∷ xs) = (size_of ps ≡ x.size) × HasSizes pss xs
 
 abbrev pub Agrees : (ℕ → ℕ) → ℕ → ℕ → List Extent → Type 0
 Agrees f part count places = (i : ℕ) → i < count → f (part + i) ≡ (slice_index_or places i no_place).0

@@ -1,7 +1,7 @@
 -- Stubs lie in their footprints.
-use Rattle.std.proofs.Common.{◌≡◌, ℕ, zero, suc, ◌+◌, ◌/◌, ◌<◌, ◌≤◌, inl, inr, refl, ap, ◌∙◌, sym, subst, arith, cond, eqb, leb, ltb, true, false, Bool, List, [], ◌∷◌, ◌++◌, length, map, None, Some, Option, slice_get, ⊎_elim, eq-eqb}
+use Rattle.std.proofs.Common.{◌≡◌, ℕ, zero, suc, ◌+◌, ◌/◌, ◌<◌, ◌≤◌, inl, inr, refl, ap, ◌∙◌, sym, subst, arith, cond, eqb, true, false, Bool, List, [], ◌∷◌, ◌++◌, length, map, None, Some, Option, slice_get, ⊎_elim, eq-eqb}
 use Rattle.std.specs.Prelude.{is_some}
-use Rattle.std.proofs.lemmas.Bool.{and_parts, or_cases, leb-true, ltb-true, cond_both, eqb-true}
+use Rattle.std.proofs.lemmas.Bool.{or_cases, cond_both, eqb-true}
 use Rattle.std.proofs.lemmas.List.{length-map}
 use Rattle.prem_isa.specs.declared.instr.Instr.{Instr}
 use Rattle.prem_isa.specs.declared.instr.Instr.TheVariants.{Lui, Auipc, Jal, Jalr, Branch, Load, Store, OpImm, Op, Fence, Ecall, Ebreak, PmMem, PmExec, PmEnd, PmDone, PmIn, PmOut}
@@ -24,9 +24,10 @@ use Rattle.prem_layout.proofs.StubLaws.{stubs_have_their_size}
 use Rattle.prem_coverage.specs.Fetched.{SomeHolds}
 use Rattle.prem_coverage.proofs.Fetched.{footprints_are_fetched, ranges_lie_in_footprints}
 use Rattle.prem_lru.specs.Order.{is_in}
+use Rattle.prem_layout.proofs.TaskParts.{code_counted, get_behind}
 use Rattle.prem_segment.specs.Bodies.{TakesSome}
 use Rattle.prem_own.specs.Owned.{is_held}
-use Rattle.prem_own.proofs.Owned.{get_behind}
+use Rattle.prem_own.proofs.Owned.{held}
 use Rattle.prem_initial.proofs.Places.{IsSized, Sized}
 use Rattle.prem_initial.proofs.Tasks.{TaskAt, task_at}
 use Rattle.prem_stub_fits.specs.Within.{pieces_or, codes_in, reached_in, any_holds, StubNumbersAgree, StubsAreWithin}
@@ -108,14 +109,10 @@ sized_at f n (y ∷ ys) zero x s e =
     subst (λ k. IsSized x (f k)) z (subst (λ (w : PartSize). IsSized w (f n)) same s.0)
 sized_at f n (y ∷ ys) (suc i) x s e = let z : n + 1 + i ≡ n + suc i = omega arith in subst (λ k. IsSized x (f k)) z (sized_at f (n + 1) ys i x s.1 e)
 
-get_left : {A : Type 0} (xs ys : List A) (i : ℕ) (x : A) → slice_get xs i ≡ Some x → slice_get (xs ++ ys) i ≡ Some x
+pub get_left : {A : Type 0} (xs ys : List A) (i : ℕ) (x : A) → slice_get xs i ≡ Some x → slice_get (xs ++ ys) i ≡ Some x
 get_left [] ys i x e = cc
 get_left (y ∷ xs) ys zero x e = e
 get_left (y ∷ xs) ys (suc i) x e = get_left xs ys i x e
-
-code_counted : (task n : ℕ) (sizes : List ℕ) → length (code_parts task n sizes) ≡ length sizes
-code_counted task n [] = refl
-code_counted task n (size ∷ sizes) = ap suc (code_counted task (n + 1) sizes)
 
 code_at : (task n : ℕ) (code : List Pieces) (i : ℕ) (ps : Pieces) → slice_get code i ≡ Some ps → slice_get (code_parts task n (map size_of code)) i ≡ Some (part task (Code (n + i)) (size_of ps) 4)
 code_at task n [] i ps e = cc
@@ -188,9 +185,6 @@ holds_left (x ∷ xs) ys a (inr h) = inr (holds_left xs ys a h)
 holds_right : (xs ys : List Extent) (a : ℕ) → SomeHolds ys a → SomeHolds (xs ++ ys) a
 holds_right [] ys a h = h
 holds_right (x ∷ xs) ys a h = inr (holds_right xs ys a h)
-
-held : (q : Extent) (a : ℕ) → is_held q a ≡ true → Holds q a
-held q a h = let x = and_parts (leb q.0 a) (ltb a q.1) h in (leb-true q.0 a x.0, ltb-true a q.1 x.1)
 
 any_held : (qs : List Extent) (a : ℕ) → any_holds qs a ≡ true → SomeHolds qs a
 any_held [] a h = cc

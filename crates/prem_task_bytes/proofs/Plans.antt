@@ -23,9 +23,11 @@ use Rattle.prem_layout.specs.Plans.{Region, Plan}
 use Rattle.prem_layout.specs.Parts.{Passes, element_size, global_size, stub_size, passes_of}
 use Rattle.prem_layout.specs.Footprint.{place_at, code_range, stub_range, global_range, stack_place, stack_range, region_range, ranges_of}
 use Rattle.prem_layout.specs.Placed.{Coded, Placed, part_total}
+use Rattle.prem_layout.proofs.TaskParts.{multiple_above}
 use Rattle.prem_prefetch_laws.specs.Premises.{AllInMemory}
 use Rattle.prem_coverage.specs.Fetched.{HaveBytes, SomeHolds}
 use Rattle.prem_own.specs.Owned.{is_held, own_of}
+use Rattle.prem_own.proofs.Owned.{held}
 use Rattle.prem_initial.specs.Standing.{count_of}
 use Rattle.prem_stub_fits.specs.Within.{any_holds}
 use Rattle.prem_task_frame.specs.Frames.{data_ranges, job_frame}
@@ -33,7 +35,7 @@ use Rattle.prem_task_frame.specs.Plans.{IsRegion, IsLegalPlan}
 use Rattle.prem_task_bytes.specs.Parts.{IsPlacedTask, HasParts}
 use Rattle.prem_task_bytes.specs.Plans.{PlanGuards, PlanRanges}
 use Rattle.prem_task_bytes.proofs.Parts.{parts_of_task, at_parts, elements_are, table_code_is}
-use Rattle.prem_task_bytes.proofs.Guards.{held, stack_allowed, global_allowed, own_is_free, task_guard_is_own}
+use Rattle.prem_task_bytes.proofs.Guards.{stack_allowed, global_allowed, own_is_free, task_guard_is_own}
 
 -- ---- a range within another one
 
@@ -72,9 +74,6 @@ element_some Ushort = omega arith
 element_some Schar = omega arith
 element_some Uchar = omega arith
 element_some _ = omega arith
-
-multiple_above : (n : ℕ) → n ≤ next_multiple_of n 4
-multiple_above n = omega arith
 
 -- elements of a global lie in it
 elements_within : (from to low high size count whole : ℕ) → to ≡ from + whole → count * size ≤ whole → 1 ≤ size → low ≤ high → high < count → IsWithin (from + low * size, from + (high + 1) * size) (from, to)

@@ -23,16 +23,17 @@ use Rattle.prem_layout.specs.Parts.{element_size as stored_size, global_size, pa
 use Rattle.prem_layout.specs.Footprint.{no_place, place_at, global_range, stack_place}
 use Rattle.prem_layout.specs.Placed.{Coded, Placed, part_total, task_places, placed_at}
 use Rattle.prem_expr_laws.specs.Relation.{element_size, AreApart}
+use Rattle.prem_layout.proofs.TaskParts.{place_in, code_counted, globals_counted}
 use Rattle.prem_promise.specs.Promised.{bytes_of, element_count, TheseStand, TheseAreOwn}
 use Rattle.prem_own.specs.Owned.{is_held, owns_first}
+use Rattle.prem_own.proofs.Owned.{holds}
 use Rattle.prem_initial.specs.Initial.{AreLaid}
 use Rattle.prem_initial.specs.Standing.{setting_of, type_of, count_of, globals_in}
-use Rattle.prem_initial.proofs.Places.{place_in, Sized, sized_left, sized_right}
+use Rattle.prem_initial.proofs.Places.{Sized, sized_left, sized_right}
 use Rattle.prem_initial.proofs.Tasks.{TaskAt, task_at}
 use Rattle.prem_initial.proofs.Values.{part_same}
 use Rattle.prem_initial.proofs.Whole.{there}
 use Rattle.prem_task_ground.specs.Stands.{SizesAgree, GlobalsArePlaced, GlobalsAreOwn, PlacesAreOwn}
-use Rattle.prem_task_ground.proofs.Guards.{holds}
 
 -- ---- sizes of elements
 
@@ -93,14 +94,6 @@ apart a m b n some other none = by (less_or_more a b) (less_or_more b (a + m)) (
     by (inr x) (inl y) (inl z) = absurd (none a (omega arith) (omega (arith, some)) x z)
 
 -- ---- the places of globals
-
-globals_counted : (task n : ℕ) (gs : List GlobalVariable) → length (global_parts task n gs) ≡ length gs
-globals_counted task n [] = refl
-globals_counted task n (g ∷ gs) = ap suc (globals_counted task (n + 1) gs)
-
-code_counted : (task n : ℕ) (sizes : List ℕ) → length (code_parts task n sizes) ≡ length sizes
-code_counted task n [] = refl
-code_counted task n (size ∷ sizes) = ap suc (code_counted task (n + 1) sizes)
 
 -- a place of whole words, as many bytes long as a global's elements take
 pub record HoldsGlobal (v : GlobalVariable) (q : Extent) : Type 0 where

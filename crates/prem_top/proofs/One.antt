@@ -1,6 +1,6 @@
 -- A program alone that breaks no rule: its run finishes with the outputs of the program's meaning.
-use Rattle.std.proofs.Common.{◌≡◌, ◌≤◌, ◌<◌, ◌^◌, ℕ, zero, suc, true, List, [], ◌∷◌, ◌++◌, length, map, Option, None, Some, Ok, refl, ap, ◌∙◌, sym, subst, arith, slice_get}
-use Rattle.std.specs.Prelude.{All, IsTrue, is_none}
+use Rattle.std.proofs.Common.{◌≡◌, ◌≤◌, ◌<◌, ◌^◌, ℕ, zero, suc, true, List, [], ◌∷◌, ◌++◌, length, map, Option, None, Some, Ok, refl, ap, ◌∙◌, sym, arith, slice_get}
+use Rattle.std.specs.Prelude.{All}
 use Rattle.prem_plant.specs.Ranges.{default_plant}
 use Rattle.prem_plant.specs.Places.{default_places}
 use Rattle.prem_image.specs.declared.image.TaskRecord.{TaskRecord}
@@ -30,15 +30,12 @@ use Rattle.prem_accepted.specs.Accepted.{KeepsRules, setup_in}
 use Rattle.prem_accepted.proofs.Rules.{accepted_tasks_keep_rules}
 use Rattle.prem_sets_sound.specs.Meant.{meant_at, meant_by, promises_in}
 use Rattle.prem_sets_sound.specs.Sound.{IsSoundSet}
-use Rattle.prem_sets_sound.proofs.Sound.{sets_are_sound}
+use Rattle.prem_sets_sound.proofs.Sound.{sets_are_sound, is_true}
 use Rattle.prem_one.specs.One.{first_outputs, one_set, one_task, output_lines, run_lines, run_text, state_of}
 use Rattle.prem_one.proofs.Kept.{kept, one_alone, placed_alone}
 use Rattle.prem_top.specs.Promises.{GivesSource}
 use Rattle.prem_top.proofs.OneTask.{OneTask, cycles_one, one_report}
 use Rattle.prem_top.proofs.Values.{one_has_values}
-
-is_true : {A : Type 0} (o : Option A) → o ≡ None → IsTrue (is_none o)
-is_true {A} o e = subst (λ (q : Option A). IsTrue (is_none q)) (sym e) refl
 
 no_words : All (λ (words : List ℕ). All (λ word. word < 2 ^ 32) words) ([] ∷ [])
 no_words zero d below = λ k word low. absurd (omega (arith, low))

@@ -18,6 +18,7 @@ use Rattle.prem_answer.specs.Stages.{Reads}
 use Rattle.prem_accepted.specs.Accepted.{HasTextValues, HasValues}
 use Rattle.prem_sources.specs.Sources.{set_with, task_with}
 use Rattle.prem_one.specs.One.{one_set, one_task}
+use Rattle.prem_one.proofs.Sets.{one_name}
 use Rattle.prem_sample.specs.Draws.{numbers}
 use Rattle.prem_sample.specs.Trace.{behind_task, device_named, program_text, sample_devices, sample_set, task_names as sample_names, tasks_from}
 use Rattle.prem_top.specs.Read.{SourcesAreRead}
@@ -67,9 +68,6 @@ sets_read_have_values reads name set read =
     (values_with read.stated set.tasks (set_is_lawful read.bytes read.stated read.formed) (have_of read.stated.tasks set.tasks reads 1 read.sources))
 
 -- ---- the set of one program
-
-one_name : IsName (codes "one")
-one_name = record { some = lit≤ tt; short = lit≤ tt; each = refl }
 
 one_each : (bytes : List ℕ) → All HasTextValues (one_task bytes ∷ [])
 one_each bytes zero d below = record { name = one_name; period = (lit≤ tt, lit≤ tt); jobs = (lit≤ tt, lit≤ tt) }

@@ -1,30 +1,15 @@
 -- Totals over tasks, which are told up to a limit.
-use Rattle.std.proofs.Common.{◌≡◌, ℕ, zero, suc, ◌+◌, ◌*◌, ◌<◌, ◌≤◌, ◌^◌, min, List, ap, sym, ◌∙◌, ⊎_elim, arith, length, map, drop, get_or}
+use Rattle.std.proofs.Common.{◌≡◌, ℕ, ◌+◌, ◌*◌, ◌<◌, ◌≤◌, ◌^◌, List, ap, sym, ◌∙◌, ⊎_elim, arith, length, map, drop, get_or}
 use Rattle.std.specs.Prelude.{nat_lt}
 use Rattle.std.proofs.lemmas.Bool.{cases_lt, lt-ltb, le-ltb}
-use Rattle.std.proofs.lemmas.Nat.{mul-le}
 use Rattle.std.proofs.lemmas.List.{at_drop_more, at_drop_all}
 use Rattle.prem_meaning.specs.Resolved.{Resolved}
 use Rattle.prem_layout.specs.Counts.{marked_calls_of, intervals_of}
 use Rattle.prem_layout.specs.Rules.{total_of}
 use Rattle.prem_counts.specs.Count.{clipped}
+use Rattle.prem_counts.proofs.Below.{clipped_product}
 use Rattle.prem_placed.specs.PlacedOf.{coded_of}
 use Rattle.prem_placed.specs.declared.task.PlacedTask.{PlacedTask}
-
-large_product : (n a limit : ℕ) → limit ≤ a → min (suc n * limit) limit ≡ min (suc n * a) limit
-large_product n a limit le =
-    let m : n * limit ≤ n * a = mul-le n limit n a (omega arith) le in
-    omega arith
-
-clipped_times : (n a limit : ℕ) → min (n * min a limit) limit ≡ min (n * a) limit
-clipped_times zero a limit = omega arith
-clipped_times (suc n) a limit =
-    ⊎_elim (λ (lt : a < limit). let e : min a limit ≡ a = omega arith in ap (λ k. min (suc n * k) limit) e)
-    (λ (le : limit ≤ a). let e : min a limit ≡ limit = omega arith in ap (λ k. min (suc n * k) limit) e ∙ large_product n a limit le)
-    (cases_lt a limit)
-
-clipped_product : (n a b : ℕ) → a ≡ clipped b → clipped (n * a) ≡ clipped (n * b)
-clipped_product n a b e = ap (λ k. clipped (n * k)) e ∙ clipped_times n b (2 ^ 32)
 
 sum_of : (sum one whole rest left : ℕ) → sum ≡ clipped (whole + one) → one ≡ clipped rest → clipped (sum + left) ≡ clipped (whole + (rest + left))
 sum_of sum one whole rest left e f = omega (arith, e, f)

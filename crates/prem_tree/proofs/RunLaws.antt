@@ -24,7 +24,7 @@ use Rattle.prem_tree.proofs.NotedLaws.{outline, mapped, length-routines_of, jobs
 
 -- ---- the number of functions
 
-some_first : (b : Breach) (o : Option Breach) → is_none (first (Some b) o) ≡ false
+pub some_first : (b : Breach) (o : Option Breach) → is_none (first (Some b) o) ≡ false
 some_first b None = refl
 some_first b (Some other) = by (comes_before other b) refl
   where

@@ -2,7 +2,6 @@
 ghost use Rattle.std.specs.Prelude.{◌≡◌, IfOk, OnOk};
 ghost use Rattle.prem_resolve.specs.ResolvedOf.{term_of};
 ghost use Rattle.prem_word.specs.Words.{value_in};
-ghost use Rattle.prem_meaning.specs.Resolve.{kind_of};
 ghost use Rattle.prem_word.specs.Ranges.{exactly, truths, converted, range_of_op};
 ghost use Rattle.prem_ranges.specs.RangeOf.{range_of};
 ghost use Rattle.prem_ranges.specs.RangeRules.{first, first_of};
@@ -18,24 +17,10 @@ use crate::range::Range;
 use crate::saves::{refine_saved, restore};
 use crate::site::Site;
 use crate::table::{convert, operator, range_of_type, unary};
-use prem_resolve::{Term, binary_kind, promoted};
+use prem_resolve::{Term, kind_of};
 use prem_syntax::{Place, UnOp};
 use prem_word::{BinOp, Kind};
 use std::alloc::{AllocError, Global};
-
-/// The kind of an expression.
-#[tactic(auto, using(prem_meaning::proofs::KindLaws::kind_of_operator))]
-pub fn kind_of(term: &Term) -> Kind
-    ensures { result ≡ kind_of (term_of term.now) }
-{
-    match term {
-        Term::Constant { kind, .. } | Term::Local { kind, .. } => *kind,
-        Term::Scalar { ty, .. } | Term::Element { ty, .. } => promoted(*ty),
-        Term::Unary { op: UnOp::Not, .. } => Kind::Int,
-        Term::Unary { operand, .. } => kind_of(operand),
-        Term::Binary { op, kind, .. } => binary_kind(*op, *kind),
-    }
-}
 
 fn value_in(k: Kind, w: u32) -> i64
     ensures { result ≡ value_in k w }

@@ -15,10 +15,10 @@ use Rattle.prem_script.specs.Script.{did_due, change_due}
 use Rattle.prem_script.specs.Conforms.{GoesOrDone, IsStretch}
 use Rattle.prem_weave.specs.Weave.{Section, segment_of, IsSection, ends, goes, calls, dids_of, due_along, stated_by, charge, WeavesAreCharged}
 
-abbrev Fetching : Did → Type 0
+abbrev pub Fetching : Did → Type 0
 Fetching d = (d.phase ≡ MemoryPhase) × (d.change ≡ Stay) × IfSome d.access (λ a. a.kind ≡ Loads)
 
-abbrev Running : Did → Type 0
+abbrev pub Running : Did → Type 0
 Running d = (d.phase ≡ Execution) × (d.change ≡ Stay)
 
 module _ (plant : Plant) where

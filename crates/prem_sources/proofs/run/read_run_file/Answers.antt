@@ -10,8 +10,9 @@ use Rattle.prem_tasks.specs.SetOf.{set_of}
 use Rattle.prem_answer.specs.Stages.{IsRead, IsReadAs}
 use Rattle.prem_answer.proofs.Reading.{halt_passes, made_ok, not_made}
 use Rattle.prem_exec.specs.Forms.{RunText}
+use Rattle.prem_exec.proofs.Stages.{run_refused}
 use Rattle.prem_sources.specs.Sources.{input_of, names_of, run_limit, run_of_bytes}
-use Rattle.prem_sources.proofs.Passing.{run_formed, run_refused}
+use Rattle.prem_sources.proofs.Passing.{run_formed}
 use Rattle.prem_sources.proofs.run.read_run_file.Goals as goal
 
 pub returns-in-Err-clause-input : goal.returns-in-Err-clause-input

@@ -2,8 +2,9 @@ use Rattle.std.proofs.Common.{◌≡◌, ◌<◌, ◌^◌, List, ℕ, ap, sym, �
 use Rattle.std.specs.Prelude.{slice_get}
 use Rattle.prem_ranges.specs.GroupThree.{turn_bounds}
 use Rattle.prem_ranges.proofs.AnalysisSound.{turns_are_words}
+use Rattle.prem_analysis.proofs.Arguments.{got_some}
 use Rattle.prem_analyse.specs.Analysed.{analysed_text}
-use Rattle.prem_analyse.proofs.Lookup.{got_some, got_none, number_got}
+use Rattle.prem_analyse.proofs.Lookup.{got_none, number_got}
 use Rattle.prem_analyse.proofs.analysed.Analysed.turns.Goals as goal
 
 pub overflow_cast-result : goal.overflow_cast-result

@@ -1,0 +1,88 @@
+#!/usr/bin/env python3
+"""Looks over all crates.
+
+    crates.py cited [--fix]   for each crate, the crates that its line of crates.txt names and its files cite nowhere, and those that its
+                              files cite and the line lacks; with --fix the lines are mended
+    crates.py twice [LEAST]   definitions and lemmas that stand twice, alike but for their names, of LEAST characters (120) and more: the
+                              lower crate first, and whether the other one can cite it
+"""
+import collections
+import os
+import re
+import sys
+
+TOP = os.path.dirname(os.path.dirname(os.path.abspath(__file__)))
+KIT = {"byteorder", "clap", "indexmap", "thiserror", "toml"}
+HEAD = r"(?:abbrev |unfoldable )?(?:pub )?([^\s:]+) :"
+
+
+def lines_of_crates():
+    with open(f"{TOP}/crates.txt", encoding="utf-8") as it:
+        lines = it.read().split("\n")
+    return lines, {it.split(":")[0]: it.split(":")[1].split() for it in lines if re.match(r"\w+:", it)}
+
+
+def texts(crate, endings):
+    for folder, _, names in os.walk(f"{TOP}/crates/{crate}"):
+        if "/out" not in folder:
+            for name in sorted(names):
+                if name.endswith(endings):
+                    with open(f"{folder}/{name}", encoding="utf-8") as it:
+                        yield f"{folder}/{name}", it.read()
+
+
+def cited(is_fixed):
+    lines, named = lines_of_crates()
+    order = {it: at for at, it in enumerate(named)}
+    for at, line in enumerate(lines):
+        crate = line.split(":")[0]
+        if crate not in named:
+            continue
+        found = set()
+        for _, text in texts(crate, (".antt", ".rt")):
+            found |= {*re.findall(r"Rattle\.(\w+)\.", text), *re.findall(r"\b(\w+)::", text)}
+        found = {it for it in found if it != crate and (it in named or it in KIT)}
+        extra = [it for it in named[crate] if it not in found]
+        lacking = sorted((it for it in found if it not in named[crate]), key=lambda it: order.get(it, len(order)))
+        if extra or lacking:
+            print(f"{crate}: cites nothing of {extra}, lacks {lacking}")
+            kept = [it for it in named[crate] if it not in extra]
+            for it in lacking:
+                behind = [n for n, other in enumerate(kept) if order.get(other, len(order)) > order.get(it, len(order))]
+                kept.insert(behind[0] if behind else len(kept), it)
+            lines[at] = " ".join([f"{crate}:", *kept])
+    if is_fixed:
+        with open(f"{TOP}/crates.txt", "w", encoding="utf-8") as it:
+            it.write("\n".join(lines))
+
+
+def twice(least):
+    _, named = lines_of_crates()
+    order = {it: at for at, it in enumerate(named)}
+    found = collections.defaultdict(list)
+    for crate in named:
+        for path, text in texts(crate, ".antt"):
+            if path.endswith(("/Answers.antt", "/Invariants.antt")):
+                continue
+            for part in re.split(r"\n\s*\n", text):
+                part = "\n".join(it for it in part.split("\n") if not it.startswith(("--", "use ", "pub use")))
+                head = re.match(HEAD, part)
+                if head and len(part) >= least:
+                    name = head.group(1)
+                    alike = re.sub(rf"(?<![\w.'-]){re.escape(name)}(?![\w'-])", "_", re.sub(r"\bpub |abbrev |unfoldable ", "", part))
+                    found[re.sub(r"\s+", " ", alike)].append((order[crate], crate, os.path.relpath(path, f"{TOP}/crates"), name))
+    for text, places in sorted(found.items(), key=lambda it: -len(it[0])):
+        first, *others = sorted(places)
+        for other in others:
+            how = "cites it" if first[1] in [other[1], *named[other[1]]] else "doesn't cite that crate"
+            print(f"{len(text)} {first[2]}: {first[3]}, also {other[2]}: {other[3]} ({how})")
+
+
+if __name__ == "__main__":
+    words = sys.argv[1:]
+    if words[:1] == ["cited"]:
+        cited("--fix" in words)
+    elif words[:1] == ["twice"]:
+        twice(int(words[1]) if len(words) > 1 else 120)
+    else:
+        sys.exit(__doc__)
