@@ -4,16 +4,16 @@ ghost use Rattle.prem_syntax.specs.SyntaxOf.{program_of};
 ghost use Rattle.prem_meaning.specs.GroupTwo.{IsWellFormed};
 ghost use Rattle.prem_ranges.specs.GroupThree.{group_three, turn_bounds};
 ghost use Rattle.prem_syntax.specs.Literals.{ProgramHasWords};
-ghost use Rattle.prem_walk.specs.View.{found_of};
+ghost use Rattle.prem_analysis.specs.Ranging.View.{found_of};
 ghost use Rattle.prem_analyse.specs.Told.{IsAnswer};
 
 use crate::analysed::Analysed;
 use crate::fail::RangeFail;
 use crate::telling::told;
+use prem_analysis::marks::marked_of;
 use prem_analysis::{Seen, see_program};
-use prem_marks::marked_of;
-use prem_resolve::resolve;
 use prem_syntax::have_words;
+use prem_tree::resolve::resolve;
 use prem_tree::{Checked, Program};
 use std::alloc::{AllocError, Global};
 

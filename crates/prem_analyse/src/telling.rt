@@ -1,12 +1,12 @@
 // What is told of a broken rule.
 ghost use Rattle.std.specs.Prelude.{◌≡◌, ◌≤ℤ◌, Some};
 ghost use Rattle.prem_word.specs.Ranges.{from_to, span_of};
-ghost use Rattle.prem_walk.specs.View.{rule_of, breach_of};
+ghost use Rattle.prem_analysis.specs.Ranging.View.{rule_of, breach_of};
 ghost use Rattle.prem_analyse.specs.Named.{Named};
 ghost use Rattle.prem_analyse.specs.Told.{told_of, said};
 
 use crate::fail::RangeFail;
-use prem_walk::{Broken, Rule, table_range};
+use prem_analysis::ranging::{Broken, Rule, table_range};
 use prem_word::Range;
 
 fn stated_range(stated: (i64, i64)) -> Range

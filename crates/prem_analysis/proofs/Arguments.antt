@@ -6,13 +6,13 @@ use Rattle.std.proofs.lemmas.List.{drop_more}
 use Rattle.prem_syntax.specs.declared.tree.Place.{Place}
 use Rattle.prem_syntax.specs.declared.tree.Param.{Param}
 use Rattle.prem_syntax.specs.SyntaxOf.{parameter_of}
-use Rattle.prem_resolve.specs.declared.resolved.Term.{Term as TermTree}
-use Rattle.prem_resolve.specs.ResolvedOf.{term_of}
+use Rattle.prem_tree.specs.declared.resolve.resolved.Term.{Term as TermTree}
+use Rattle.prem_tree.specs.Resolve.ResolvedOf.{term_of}
 use Rattle.prem_meaning.specs.Resolved.{Term}
 use Rattle.std.specs.Prelude.{Some, None}
 use Rattle.prem_list.specs.Sequence.{items_of}
-use Rattle.prem_resolve.specs.declared.resolved.Routine.{Routine as RoutineTree}
-use Rattle.prem_resolve.specs.ResolvedOf.{loops_of, routines_of}
+use Rattle.prem_tree.specs.declared.resolve.resolved.Routine.{Routine as RoutineTree}
+use Rattle.prem_tree.specs.Resolve.ResolvedOf.{loops_of, routines_of}
 use Rattle.prem_ranges.specs.Environment.{Environment}
 use Rattle.prem_ranges.specs.RangeRules.{RangeBreach, first, first_of}
 use Rattle.prem_ranges.specs.RangeBreaches.{Site, in_term, in_arguments, parameters_of}

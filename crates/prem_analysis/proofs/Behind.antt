@@ -7,14 +7,14 @@ use Rattle.prem_word.specs.Ranges.{IsRange}
 use Rattle.prem_syntax.specs.declared.tree.Param.{Param}
 use Rattle.prem_syntax.specs.declared.tree.Local.{Local}
 use Rattle.prem_syntax.specs.Syntax.{LocalVariable}
-use Rattle.prem_resolve.specs.declared.resolved.Term.{Term as TermTree}
-use Rattle.prem_resolve.specs.ResolvedOf.{term_of}
+use Rattle.prem_tree.specs.declared.resolve.resolved.Term.{Term as TermTree}
+use Rattle.prem_tree.specs.Resolve.ResolvedOf.{term_of}
 use Rattle.prem_syntax.specs.SyntaxOf.{parameter_of, local_of}
 use Rattle.prem_meaning.specs.Resolve.{promoted}
 use Rattle.prem_ranges.specs.Sound.{Ranged, next_ranged}
 use Rattle.prem_analysis.specs.Functions.{behind_routine}
 use Rattle.prem_syntax.specs.declared.tree.Place.{Place}
-use Rattle.prem_resolve.specs.declared.resolved.Step.{Step}
+use Rattle.prem_tree.specs.declared.resolve.resolved.Step.{Step}
 use Rattle.prem_meaning.specs.Resolved.{Term, Routine, Steps, Done, If, For, While}
 use Rattle.prem_ranges.specs.Environment.{Environment}
 use Rattle.prem_ranges.specs.RangeOf.{refined}
@@ -23,8 +23,8 @@ use Rattle.prem_ranges.specs.RangeRules.{RangeBreach, first, first_of}
 use Rattle.prem_ranges.specs.RangeBreaches.{Site, in_term, in_range_of_int, in_turns, in_counting_loop, in_steps, in_locals, in_result}
 use Rattle.prem_ranges.proofs.FirstBreach.{first_none, first_assoc, first_of_append}
 use Rattle.prem_ranges.proofs.Capped.{capped as capped_same, in_steps-sized}
-use Rattle.prem_walk.specs.Plain.{plain_before, plain, plain_list}
-use Rattle.prem_walk.proofs.Sequences.{after-step, bounds-step, first-step}
+use Rattle.prem_analysis.specs.Ranging.Plain.{plain_before, plain, plain_list}
+use Rattle.prem_analysis.proofs.RangingLemmas.Sequences.{after-step, bounds-step, first-step}
 use Rattle.prem_analysis.specs.Seen.{Seen, noted, behind, looked}
 use Rattle.prem_analysis.specs.Arms.{capped, at_term, at_counting, at_while, bound_of}
 

@@ -9,7 +9,7 @@ use Rattle.prem_ranges.specs.RangeOf.{range_of}
 use Rattle.prem_ranges.specs.After.{end_of, turn_bound, loop_end, in_counting, body_range, range_behind, in_body, behind_loop}
 use Rattle.prem_ranges.specs.RangeRules.{RangeBreach, first_of}
 use Rattle.prem_ranges.specs.RangeBreaches.{Site, in_term, in_counting_loop}
-use Rattle.prem_saves.specs.Saves.{Saved, saved_few}
+use Rattle.prem_ranges.specs.Saves.Saves.{Saved, saved_few}
 use Rattle.prem_analysis.specs.Seen.{Seen, noted, counted}
 use Rattle.prem_analysis.specs.Arms.{capped, at_term, at_counting, bound_of}
 

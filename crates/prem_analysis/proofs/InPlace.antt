@@ -3,19 +3,19 @@ use Rattle.std.proofs.Common.{◌≡◌, ℕ, Bool, true, false, eqb, List, [], 
 use Rattle.std.proofs.lemmas.Bool.{or_parts}
 use Rattle.prem_word.specs.Ranges.{Span}
 use Rattle.prem_syntax.specs.declared.tree.Place.{Place}
-use Rattle.prem_resolve.specs.declared.resolved.Step.{Step}
+use Rattle.prem_tree.specs.declared.resolve.resolved.Step.{Step}
 use Rattle.prem_meaning.specs.Resolved.{Term, Done, If, For, While}
 use Rattle.prem_ranges.specs.Environment.{with_range, Environment, at_local}
 use Rattle.prem_ranges.specs.RangeOf.{range_of, refined}
 use Rattle.prem_ranges.specs.After.{in_counting, in_while, loop_end, body_range, range_behind, in_body, behind_loop, after}
-use Rattle.prem_saves.specs.Saves.{named, few_or_all, Saved, saved, saved_few, restored, merged}
-use Rattle.prem_saves.proofs.Locals.{among, among-append}
-use Rattle.prem_saves.proofs.Back.{HasNamed, HasAssigned, restored_few, differs_at, differs_where, differs_after, back_from_taken, merged_arms}
-use Rattle.prem_walk.specs.declared.found.Known.{Known as KnownTree}
-use Rattle.prem_walk.specs.View.{env_of}
-use Rattle.prem_walk.specs.Plain.{plain}
-use Rattle.prem_walk.specs.Targets.{targets}
-use Rattle.prem_walk.proofs.Targeted.{has_targets}
+use Rattle.prem_ranges.specs.Saves.Saves.{named, few_or_all, Saved, saved, saved_few, restored, merged}
+use Rattle.prem_ranges.proofs.SavesLemmas.Locals.{among, among-append}
+use Rattle.prem_ranges.proofs.SavesLemmas.Back.{HasNamed, HasAssigned, restored_few, differs_at, differs_where, differs_after, back_from_taken, merged_arms}
+use Rattle.prem_analysis.specs.declared.ranging.found.Known.{Known as KnownTree}
+use Rattle.prem_analysis.specs.Ranging.View.{env_of}
+use Rattle.prem_analysis.specs.Ranging.Plain.{plain}
+use Rattle.prem_analysis.specs.Ranging.Targets.{targets}
+use Rattle.prem_analysis.proofs.RangingLemmas.Targeted.{has_targets}
 
 -- ---- locals that differ
 

@@ -2,13 +2,13 @@
 use Rattle.std.proofs.Common.{◌≡◌, ℕ, zero, suc, ◌+◌, ◌<◌, List, [], ◌∷◌, ◌++◌, map, length, refl, ap, sym, ◌∙◌, arith, None, Some}
 use Rattle.std.specs.List.{flat_map}
 use Rattle.std.proofs.lemmas.List.{append-nil, append_assoc}
-use Rattle.prem_resolve.specs.declared.resolved.Routine.{Routine as RoutineTree}
-use Rattle.prem_resolve.specs.ResolvedOf.{loops_of, routine_of, routines_of}
+use Rattle.prem_tree.specs.declared.resolve.resolved.Routine.{Routine as RoutineTree}
+use Rattle.prem_tree.specs.Resolve.ResolvedOf.{loops_of, routine_of, routines_of}
 use Rattle.std.proofs.Common.{subst}
 use Rattle.std.specs.Prelude.{slice_get}
 use Rattle.prem_syntax.specs.Syntax.{FunctionText, ProgramText}
 use Rattle.prem_syntax.specs.SyntaxOf.{function_of}
-use Rattle.prem_resolve.specs.ResolvedOf.{IsResolved}
+use Rattle.prem_tree.specs.Resolve.ResolvedOf.{IsResolved}
 use Rattle.prem_meaning.specs.GroupTwo.{IsWellFormed}
 use Rattle.prem_syntax.specs.Literals.{ProgramHasWords}
 use Rattle.prem_ranges.specs.After.{known_parameter}
@@ -17,14 +17,14 @@ use Rattle.prem_ranges.specs.GroupThree.{group_three, turn_bounds}
 use Rattle.prem_ranges.proofs.WellFormed.{well_formed_is_typed}
 use Rattle.prem_analysis.specs.Functions.{AllRanged}
 use Rattle.prem_list.specs.Sequence.{items_of}
-use Rattle.prem_resolve.specs.declared.resolved.Resolved.{Resolved as ResolvedTree}
-use Rattle.prem_resolve.specs.ResolvedOf.{resolved_of}
+use Rattle.prem_tree.specs.declared.resolve.resolved.Resolved.{Resolved as ResolvedTree}
+use Rattle.prem_tree.specs.Resolve.ResolvedOf.{resolved_of}
 use Rattle.prem_meaning.specs.Source.{unlimited}
 use Rattle.prem_ranges.specs.Regions.{Watch}
 use Rattle.prem_ranges.specs.RangeBreaches.{range_breaches}
-use Rattle.prem_walk.specs.declared.site.Marked.{Marked}
+use Rattle.prem_analysis.specs.declared.ranging.site.Marked.{Marked}
 use Rattle.prem_analysis.specs.Functions.{site_at}
-use Rattle.prem_walk.specs.SiteOf.{AreWatched}
+use Rattle.prem_analysis.specs.Ranging.SiteOf.{AreWatched}
 use Rattle.prem_meaning.specs.Resolved.{Routine, Resolved}
 use Rattle.prem_ranges.specs.After.{bounds_in}
 use Rattle.prem_ranges.specs.RangeRules.{first, first_of}
@@ -32,7 +32,7 @@ use Rattle.prem_ranges.specs.RangeBreaches.{Site, site_of, in_routine, in_routin
 use Rattle.prem_ranges.specs.Sound.{AlikeRoutine, alike_done}
 use Rattle.prem_ranges.proofs.Alike.{SameSite, in_routine-alike, bounds_in-alike}
 use Rattle.prem_ranges.proofs.FirstBreach.{first_none, first_assoc, first_of_append}
-use Rattle.prem_walk.proofs.PlainSteps.{plain-alike}
+use Rattle.prem_analysis.proofs.RangingLemmas.PlainSteps.{plain-alike}
 use Rattle.prem_analysis.specs.Seen.{Seen}
 use Rattle.prem_analysis.specs.Functions.{plain_routine, behind_routine, behind_routines}
 use Rattle.prem_analysis.proofs.Behind.{seen, same_seen}

@@ -4,17 +4,19 @@ ghost use Rattle.std.specs.Option.{option_map};
 ghost use Rattle.prem_list.specs.Sequence.{items_of};
 ghost use Rattle.prem_word.specs.Ranges.{from_to, encloses};
 ghost use Rattle.prem_syntax.specs.SyntaxOf.{parameter_of};
-ghost use Rattle.prem_resolve.specs.ResolvedOf.{term_of, routines_of};
+ghost use Rattle.prem_tree.specs.Resolve.ResolvedOf.{term_of, routines_of};
 ghost use Rattle.prem_meaning.specs.Source.{unlimited};
 ghost use Rattle.prem_ranges.specs.RangeRules.{first_of};
 ghost use Rattle.prem_ranges.specs.RangeBreaches.{in_stated, in_argument, in_arguments, parameters_of};
-ghost use Rattle.prem_walk.specs.View.{span_of, env_of, found_of};
-ghost use Rattle.prem_walk.specs.SiteOf.{site_of};
+ghost use Rattle.prem_analysis.specs.Ranging.View.{span_of, env_of, found_of};
+ghost use Rattle.prem_analysis.specs.Ranging.SiteOf.{site_of};
 ghost use Rattle.prem_analysis.specs.Arms.{in_given};
 
-use prem_resolve::{Routine, Term, promoted};
+use crate::ranging::{
+    Broken, Known, Range, Rule, Site, convert, earlier, if_at, in_term, range_of,
+};
 use prem_syntax::{Param, Place};
-use prem_walk::{Broken, Known, Range, Rule, Site, convert, earlier, if_at, in_term, range_of};
+use prem_tree::resolve::{Routine, Term, promoted};
 use std::alloc::{AllocError, Global};
 
 fn is_inside(r: Range, stated: (i64, i64)) -> bool

@@ -1,17 +1,17 @@
 // What is known of locals, in a vector: each of these changes it as its namesake does a slice.
 ghost use Rattle.std.specs.Prelude.{◌≡◌};
-ghost use Rattle.prem_resolve.specs.ResolvedOf.{term_of};
+ghost use Rattle.prem_tree.specs.Resolve.ResolvedOf.{term_of};
 ghost use Rattle.prem_ranges.specs.Environment.{at_local, with_range, assigned, any_again};
 ghost use Rattle.prem_ranges.specs.RangeOf.{refined};
 ghost use Rattle.prem_ranges.specs.After.{in_counting, in_while, behind_call};
-ghost use Rattle.prem_saves.specs.Saves.{restored, merged};
-ghost use Rattle.prem_walk.specs.View.{span_of, env_of, saves_of};
-ghost use Rattle.prem_walk.specs.Plain.{plain};
+ghost use Rattle.prem_ranges.specs.Saves.Saves.{restored, merged};
+ghost use Rattle.prem_analysis.specs.Ranging.View.{span_of, env_of, saves_of};
+ghost use Rattle.prem_analysis.specs.Ranging.Plain.{plain};
 
-use prem_resolve::{Step, Term};
-use prem_walk::{
+use crate::ranging::{
     Known, Range, Saved, assign, loosen, loosen_assigned, merge, refine, restore, set_range,
 };
+use prem_tree::resolve::{Step, Term};
 
 fn loosen_loop(env: &mut [Known], k: usize, body: &Step)
     ensures { env_of env.new ≡ in_counting k (plain body.now) (env_of env.old) }

@@ -1,12 +1,12 @@
 // The locals that differ in a part of a function, by number; or all of them, where that is fewer.
 ghost use Rattle.std.specs.Prelude.{◌≡◌, ◌++◌, ◌∷◌, length, IfOk};
-ghost use Rattle.prem_resolve.specs.ResolvedOf.{term_of};
-ghost use Rattle.prem_saves.specs.Saves.{named, few_or_all};
-ghost use Rattle.prem_walk.specs.View.{env_of};
-ghost use Rattle.prem_walk.specs.Targets.{targets};
+ghost use Rattle.prem_tree.specs.Resolve.ResolvedOf.{term_of};
+ghost use Rattle.prem_ranges.specs.Saves.Saves.{named, few_or_all};
+ghost use Rattle.prem_analysis.specs.Ranging.View.{env_of};
+ghost use Rattle.prem_analysis.specs.Ranging.Targets.{targets};
 
-use prem_resolve::{Step, Term};
-use prem_walk::{Known, add_assigned, add_named, few_or_all};
+use crate::ranging::{Known, add_assigned, add_named, few_or_all};
+use prem_tree::resolve::{Step, Term};
 use std::alloc::{AllocError, Global};
 
 #[tactic(auto, using(crate::proofs::InPlace::env_length))]

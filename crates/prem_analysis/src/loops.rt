@@ -1,28 +1,28 @@
 // Loops are entered.
 ghost use Rattle.std.specs.Prelude.{◌≡◌, ◌++◌, ◌∷◌, ◌≤ℤ◌, pos, negsuc, true, false, length, IfOk, OnOk};
-ghost use Rattle.prem_resolve.specs.ResolvedOf.{term_of};
+ghost use Rattle.prem_tree.specs.Resolve.ResolvedOf.{term_of};
 ghost use Rattle.prem_ranges.specs.Environment.{at_local, with_range};
 ghost use Rattle.prem_ranges.specs.RangeOf.{refined};
 ghost use Rattle.prem_ranges.specs.RangeRules.{first_of};
 ghost use Rattle.prem_ranges.specs.RangeBreaches.{in_term};
 ghost use Rattle.prem_ranges.specs.After.{loop_end, body_range, range_behind, in_body, behind_loop, in_while};
-ghost use Rattle.prem_saves.specs.Saves.{named, few_or_all, saved, saved_few, restored};
-ghost use Rattle.prem_walk.specs.View.{span_of, env_of, found_of, saves_of};
-ghost use Rattle.prem_walk.specs.SiteOf.{site_of};
-ghost use Rattle.prem_walk.specs.Plain.{plain};
-ghost use Rattle.prem_walk.specs.Targets.{targets};
+ghost use Rattle.prem_ranges.specs.Saves.Saves.{named, few_or_all, saved, saved_few, restored};
+ghost use Rattle.prem_analysis.specs.Ranging.View.{span_of, env_of, found_of, saves_of};
+ghost use Rattle.prem_analysis.specs.Ranging.SiteOf.{site_of};
+ghost use Rattle.prem_analysis.specs.Ranging.Plain.{plain};
+ghost use Rattle.prem_analysis.specs.Ranging.Targets.{targets};
 ghost use Rattle.prem_analysis.specs.Seen.{seen_of, noted, counted};
 ghost use Rattle.prem_analysis.specs.Arms.{capped, at_term, at_counting, at_while, bound_of};
 
 use crate::known::{at_condition, at_counting, at_range, at_while, put_back};
 use crate::locals::{locals_of_counting, locals_of_if, locals_of_while};
-use crate::seen::Seen;
-use prem_resolve::{Step, Term};
-use prem_syntax::Place;
-use prem_walk::{
+use crate::ranging::{
     Broken, Known, Range, Saved, Site, body_range, end_of, in_counting_loop, in_term, in_turns,
     range_behind, range_of, save, times, turn_bound,
 };
+use crate::seen::Seen;
+use prem_syntax::Place;
+use prem_tree::resolve::{Step, Term};
 use std::alloc::{AllocError, Global};
 
 /// A loop that is entered: the product of the turn bounds of the loops around its body, and what is known behind it of

@@ -3,22 +3,22 @@ ghost use Rattle.std.specs.Prelude.{◌≡◌, ℕ, ◌<◌, None, [], map, leng
 ghost use Rattle.prem_list.specs.Sequence.{items_of};
 ghost use Rattle.prem_syntax.specs.SyntaxOf.{function_of};
 ghost use Rattle.std.specs.List.{flat_map};
-ghost use Rattle.prem_resolve.specs.ResolvedOf.{resolved_of};
+ghost use Rattle.prem_tree.specs.Resolve.ResolvedOf.{resolved_of};
 ghost use Rattle.prem_meaning.specs.Source.{unlimited};
 ghost use Rattle.prem_ranges.specs.After.{known_parameter, bounds_in};
 ghost use Rattle.prem_ranges.specs.RangeRules.{first_of};
 ghost use Rattle.prem_ranges.specs.RangeBreaches.{range_breaches};
-ghost use Rattle.prem_walk.specs.View.{found_of};
-ghost use Rattle.prem_walk.specs.SiteOf.{AreWatched};
+ghost use Rattle.prem_analysis.specs.Ranging.View.{found_of};
+ghost use Rattle.prem_analysis.specs.Ranging.SiteOf.{AreWatched};
 ghost use Rattle.prem_ranges.specs.Sound.{Ranged};
 ghost use Rattle.prem_analysis.specs.Seen.{seen_of};
 ghost use Rattle.prem_analysis.specs.Functions.{site_at, behind_routines, AllRanged};
 
+use crate::ranging::{Marked, Site};
 use crate::routine::walk_routine;
 use crate::seen::Seen;
-use prem_resolve::{Resolved, Routine};
 use prem_syntax::Global;
-use prem_walk::{Marked, Site};
+use prem_tree::resolve::{Resolved, Routine};
 use std::alloc::{AllocError, Global as Allocator};
 
 /// Walks over all functions, in the order of the text.

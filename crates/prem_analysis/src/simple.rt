@@ -1,22 +1,22 @@
 // Steps without steps in them.
 ghost use Rattle.std.specs.Prelude.{◌≡◌, ◌++◌, map, slice_get, OnOk};
 ghost use Rattle.prem_list.specs.Sequence.{items_of};
-ghost use Rattle.prem_resolve.specs.ResolvedOf.{term_of};
+ghost use Rattle.prem_tree.specs.Resolve.ResolvedOf.{term_of};
 ghost use Rattle.prem_ranges.specs.Environment.{at_local, assigned};
 ghost use Rattle.prem_ranges.specs.RangeOf.{range_of};
 ghost use Rattle.prem_ranges.specs.After.{behind_call};
 ghost use Rattle.prem_ranges.specs.RangeBreaches.{in_term, in_scalar, in_element, in_arguments, parameters_of};
-ghost use Rattle.prem_walk.specs.View.{env_of};
-ghost use Rattle.prem_walk.specs.SiteOf.{site_of};
+ghost use Rattle.prem_analysis.specs.Ranging.View.{env_of};
+ghost use Rattle.prem_analysis.specs.Ranging.SiteOf.{site_of};
 ghost use Rattle.prem_analysis.specs.Seen.{seen_of, looked};
 
 use crate::call::{in_arguments, parameters_of};
 use crate::known::{at_return, at_value};
 use crate::loops::look;
+use crate::ranging::{Known, Site, in_element, in_scalar, range_of};
 use crate::seen::Seen;
-use prem_resolve::Term;
 use prem_syntax::Place;
-use prem_walk::{Known, Site, in_element, in_scalar, range_of};
+use prem_tree::resolve::Term;
 use std::alloc::{AllocError, Global};
 
 #[tactic(auto, using(crate::proofs::Behind::looked_one))]

@@ -1,17 +1,17 @@
 // The walk over steps.
 ghost use Rattle.std.specs.Prelude.{◌≡◌, OnOk};
 ghost use Rattle.prem_ranges.specs.After.{after};
-ghost use Rattle.prem_walk.specs.View.{env_of};
-ghost use Rattle.prem_walk.specs.SiteOf.{site_of};
-ghost use Rattle.prem_walk.specs.Plain.{plain, plain_list};
+ghost use Rattle.prem_analysis.specs.Ranging.View.{env_of};
+ghost use Rattle.prem_analysis.specs.Ranging.SiteOf.{site_of};
+ghost use Rattle.prem_analysis.specs.Ranging.Plain.{plain, plain_list};
 ghost use Rattle.prem_analysis.specs.Seen.{seen_of, behind};
 
 use crate::known::{at_either, at_input, put_back};
 use crate::loops::{Counting, enter_counting, enter_if, enter_other, enter_while};
+use crate::ranging::{Known, Site};
 use crate::seen::Seen;
 use crate::simple::{call, output, set_element, set_local, set_scalar};
-use prem_resolve::Step;
-use prem_walk::{Known, Site};
+use prem_tree::resolve::Step;
 use std::alloc::{AllocError, Global};
 
 /// Walks over a step: what is known becomes what is known behind it, and what is seen of it is put behind what was seen.

@@ -3,6 +3,7 @@
 
 mod answer;
 mod files;
+pub mod refusal;
 mod status;
 
 pub use answer::{Answer, Halt, form, missing};

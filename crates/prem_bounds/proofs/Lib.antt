@@ -3,3 +3,5 @@ pub mod Calls
 pub mod Steps
 pub mod Told
 pub mod StubNumbers
+pub mod CountsLemmas
+pub mod FactsLemmas

@@ -2,3 +2,5 @@ pub mod Scale
 pub mod TableOf
 pub mod Told
 pub mod Laws
+pub mod Counts
+pub mod Facts

@@ -2,6 +2,8 @@
 #![tactic(auto)]
 
 mod bounds;
+pub mod counts;
+pub mod facts;
 mod laws;
 mod scale;
 mod table;

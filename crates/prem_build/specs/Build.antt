@@ -7,10 +7,10 @@ use Rattle.prem_tasks.specs.Compiled.{CompiledText, compiled}
 use Rattle.prem_imagefile.specs.Spelling.{image_bytes}
 use Rattle.prem_answer.specs.declared.status.Status.TheVariants.{Done}
 use Rattle.prem_answer.specs.Stages.{Reply, Stage}
-use Rattle.prem_refusal.specs.Texts.{refused_reply}
-use Rattle.prem_sources.specs.Sources.{reading_set}
-use Rattle.prem_sheet.specs.Check.{check_text}
-use Rattle.prem_sheet.specs.Listing.{list_text}
+use Rattle.prem_answer.specs.Refusal.Texts.{refused_reply}
+use Rattle.prem_exec.specs.Sources.Sources.{reading_set}
+use Rattle.prem_build.specs.Tables.Check.{check_text}
+use Rattle.prem_build.specs.Tables.Listing.{list_text}
 use Rattle.prem_build.specs.declared.sheet.Sheet.{Sheet}
 use Rattle.prem_build.specs.declared.sheet.Sheet.TheVariants.{Bounds, Image, Listing}
 

@@ -8,13 +8,13 @@ ghost use Rattle.prem_answer.specs.Stages.{Comes, IsGiven, reply_of};
 ghost use Rattle.prem_build.specs.Build.{compiled_reply, sheet_stages, sheet_text};
 
 use crate::sheet::Sheet;
+use crate::tables::{check_text, list_text};
+use prem_answer::refusal::refused;
 use prem_answer::{Answer, Halt, Status};
 use prem_compile::{CompileFail, Compiled, TaskSet, compile};
+use prem_exec::sources::read_task_set;
 use prem_imagefile::write_image;
 use prem_io::Store;
-use prem_refusal::refused;
-use prem_sheet::{check_text, list_text};
-use prem_sources::read_task_set;
 use std::alloc::{AllocError, Global};
 
 fn sheet_text(alloc: Global, sheet: Sheet, compiled: &Compiled) -> Result<Vec<u8>, AllocError>

@@ -3,6 +3,7 @@
 
 mod answer;
 mod sheet;
+pub mod tables;
 
 pub use answer::sheet_answer;
 pub use sheet::Sheet;

@@ -7,7 +7,7 @@ use Rattle.prem_syntax.specs.Syntax.{Text, Parameter}
 use Rattle.prem_meaning.specs.Resolve.{Scope, parameter_names}
 use Rattle.prem_names.specs.Scopes.{with_locals, local_texts}
 use Rattle.prem_meaning.specs.Breaches.{has_name, parameter_texts}
-use Rattle.prem_reach.proofs.Sets.{grouped}
+use Rattle.prem_names.proofs.ReachLemmas.Sets.{grouped}
 use Rattle.prem_check.specs.Taken.{taken_of}
 
 pub has_name_append : (xs ys : List Text) (name : Text) → has_name (xs ++ ys) name ≡ (has_name xs name || has_name ys name)

@@ -12,8 +12,8 @@ ghost use Rattle.prem_check.specs.AroundOf.{around_of};
 
 use crate::expression::{in_expressions, unknown};
 use crate::found::{Broken, Rule, broken_at, earlier, if_at, if_type_at};
-use prem_resolve::{Meaning, Names};
 use prem_syntax::{Expr, Function, Name, Place, Ty, TypeRule};
+use prem_tree::resolve::{Meaning, Names};
 
 /// Where a statement stands.
 #[derive(Clone, Copy)]

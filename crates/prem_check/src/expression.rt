@@ -9,8 +9,8 @@ ghost use Rattle.prem_meaning.specs.Breaches.{unknown, used_plain, used_indexed,
 ghost use Rattle.prem_check.specs.FoundOf.{found_of};
 
 use crate::found::{Broken, Rule, broken_at, earlier, if_type_at};
-use prem_resolve::{Meaning, Names};
 use prem_syntax::{Expr, Name, Place, TypeRule};
+use prem_tree::resolve::{Meaning, Names};
 
 /// A name that stands for nothing.
 pub fn unknown<'a>(at: Place, name: &'a Name, meaning: Meaning) -> Option<Broken<'a>>

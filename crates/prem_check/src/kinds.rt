@@ -5,8 +5,8 @@ ghost use Rattle.prem_names.specs.Scopes.{scope_of};
 ghost use Rattle.prem_meaning.specs.Resolved.{Term};
 ghost use Rattle.prem_meaning.specs.Resolve.{kind_of, variable_term, element_term, resolve_term};
 
-use prem_resolve::{Meaning, Names, binary_kind, operand_kind, promoted};
 use prem_syntax::{Expr, Kind, Place, UnOp};
+use prem_tree::resolve::{Meaning, Names, binary_kind, operand_kind, promoted};
 
 fn variable_kind(meaning: Meaning) -> Kind
     ensures { (at : Place) → result ≡ kind_of (variable_term at meaning) }

@@ -7,8 +7,8 @@ ghost use Rattle.prem_names.specs.Scopes.{scope_of};
 ghost use Rattle.prem_meaning.specs.Breaches.{is_int_local, same_name, is_name, assigns, assigns_within, is_int, is_between, is_loop};
 
 use crate::kinds::kind_of;
-use prem_resolve::{Meaning, Names};
 use prem_syntax::{Expr, ForNames, Kind, Name, Stmt, Ty};
+use prem_tree::resolve::{Meaning, Names};
 
 fn is_int_local(meaning: Meaning) -> bool
     ensures { result ≡ is_int_local meaning }

@@ -16,10 +16,10 @@ use crate::found::{Broken, earlier};
 use crate::function::in_function;
 use crate::global::in_global;
 use crate::limits::{in_limits, no_job};
+use prem_names::reach::{is_in_set, reached};
 use prem_names::{Index, Names};
-use prem_reach::{is_in_set, reached};
-use prem_resolve::functions_of;
 use prem_syntax::{Function, Global, Item, Name, Program};
+use prem_tree::resolve::functions_of;
 use std::alloc::{AllocError, Global as Allocator};
 
 /// The items that are passed.

@@ -14,8 +14,8 @@ use crate::call::{Around, in_call, in_target};
 use crate::expression::{in_expression, in_option, unknown, used_indexed, used_plain};
 use crate::found::{Broken, Rule, earlier, if_at};
 use crate::loops::{is_between, is_loop};
-use prem_resolve::Names;
 use prem_syntax::{Expr, ForNames, Name, Place, Stmt};
+use prem_tree::resolve::Names;
 
 /// A name that is assigned, with or without an index.
 #[tactic(auto, using(crate::proofs::First::first_of_append))]

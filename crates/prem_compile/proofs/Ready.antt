@@ -13,18 +13,18 @@ use Rattle.prem_plant.specs.Ranges.{Between, IsPlant}
 use Rattle.prem_syntax.specs.Syntax.{ProgramText}
 use Rattle.prem_syntax.specs.Name.{name_bytes}
 use Rattle.prem_list.specs.Sequence.{items_of}
-use Rattle.prem_content.specs.Blocks.{Words, block_of}
-use Rattle.prem_content.specs.declared.content.Block.{Block}
+use Rattle.prem_place.specs.Content.Blocks.{Words, block_of}
+use Rattle.prem_place.specs.declared.content.content.Block.{Block}
 use Rattle.prem_layout.specs.Bounds.{JobBound, limit_of}
 use Rattle.prem_layout.specs.Image.{image_of}
 use Rattle.prem_layout.specs.Placed.{Coded, Placed, parts_of, placed_from}
-use Rattle.prem_placed.specs.PlacedOf.{coded_of, placed_of}
-use Rattle.prem_placed.specs.declared.task.PlacedTask.{PlacedTask}
-use Rattle.prem_placing.specs.Standing.{stands_in}
-use Rattle.prem_words.specs.Far.{words_in}
-use Rattle.prem_build_image.specs.Built as built
+use Rattle.prem_place.specs.Placed.PlacedOf.{coded_of, placed_of}
+use Rattle.prem_place.specs.declared.placed.task.PlacedTask.{PlacedTask}
+use Rattle.prem_place.specs.Placing.Standing.{stands_in}
+use Rattle.prem_place.specs.Words.Far.{words_in}
+use Rattle.prem_place.specs.BuildImage.Built as built
 use Rattle.prem_image.specs.Text.{image_text}
-use Rattle.prem_build_image.specs.Built.{HasRanges, HaveBlocks, IsBuilt}
+use Rattle.prem_place.specs.BuildImage.Built.{HasRanges, HaveBlocks, IsBuilt}
 use Rattle.prem_tasks.specs.Broken.{TaskText, TaskSet, bounded, coded_one, programs_of}
 use Rattle.prem_tasks.specs.Broken as tasks
 use Rattle.prem_tasks.specs.Lawful as lawful
@@ -32,11 +32,11 @@ use Rattle.prem_tasks.specs.Lawful.{IsTaskText, AreDevices, AreTasks}
 use Rattle.prem_tasks.specs.SetOf.{task_of}
 use Rattle.prem_tasks.specs.declared.set.TaskText.{TaskText as TaskTree}
 use Rattle.prem_tasks.specs.Compiled.{coded_in, parts_in, places_in, placed_in, part_name, facts_from, job_bounds, compiled}
-use Rattle.prem_totals.specs.Limits.{HasJobs}
-use Rattle.prem_telling.specs.There.{IsThere, HasName, HasCode}
-use Rattle.prem_telling.proofs.PartsThere.{parts_there}
+use Rattle.prem_place.specs.Totals.Limits.{HasJobs}
+use Rattle.prem_compile.specs.Telling.There.{IsThere, HasName, HasCode}
+use Rattle.prem_compile.proofs.TellingLemmas.PartsThere.{parts_there}
 use Rattle.prem_compile.specs.CompiledOf.{compiled_of}
-use Rattle.prem_verdict.specs.Told.{numbered}
+use Rattle.prem_place.specs.Verdict.Told.{numbered}
 use Rattle.prem_compile.specs.declared.compiled.Compiled.{Compiled}
 use Rattle.prem_compile.specs.Joined.{HasPlaces}
 

@@ -12,8 +12,8 @@ use Rattle.prem_cycle.specs.Run.{cycles_of}
 use Rattle.prem_cycle.specs.Inputs.{image_run, setup_of, words_of}
 use Rattle.prem_cycle.specs.FactsOf.{Report, report_of, stop_of}
 use Rattle.prem_imagefile.specs.declared.fail.ImageFail.TheVariants.{Magic, Version, Short, Long, Field, OutOfMemory as NoMemory}
-use Rattle.prem_run.specs.declared.fail.Which.{Which}
-use Rattle.prem_run.specs.Views.{IsRun}
+use Rattle.prem_set.specs.declared.run.fail.Which.{Which}
+use Rattle.prem_set.specs.Run.Views.{IsRun}
 use Rattle.prem_io.specs.Files.{Files}
 use Rattle.prem_image.specs.Text.{ImageText, image_text}
 use Rattle.prem_command.specs.Words.{RunAsked}
@@ -23,8 +23,8 @@ use Rattle.prem_cycle.specs.declared.state.Stop.{Stop}
 use Rattle.prem_cycle.specs.declared.state.Stop.TheVariants.{Finished, Trap, LogFull, Limit}
 use Rattle.prem_imagefile.specs.declared.fail.ImageFail.{ImageFail}
 use Rattle.prem_imagefile.specs.Reading.{read_as, Fails}
-use Rattle.prem_run.specs.Run.{Gathered, LineRefusal, run_of}
-use Rattle.prem_fitting.specs.Named.{names_for}
+use Rattle.prem_set.specs.Run.Run.{Gathered, LineRefusal, run_of}
+use Rattle.prem_report.specs.Fitting.Named.{names_for}
 use Rattle.prem_exec.specs.Forms.{RunText, image_in, image_why, line_why, run_in}
 use Rattle.prem_exec.specs.Exec.{exec_stages, image_limit, run_limit, image_of_bytes, run_of_bytes, run_reply, exec_limit, stop_status, stop_at, state_at, told_reply, input_of}
 

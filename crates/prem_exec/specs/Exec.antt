@@ -11,8 +11,8 @@ use Rattle.prem_cycle.specs.FactsOf.{report_of, stop_of}
 use Rattle.prem_cycle.specs.Inputs.{image_setup, words_of}
 use Rattle.prem_image.specs.Text.{ImageText}
 use Rattle.prem_imagefile.specs.Reading.{read_as}
-use Rattle.prem_run.specs.Run.{run_of as lines_of_run}
-use Rattle.prem_fitting.specs.Named.{names_for}
+use Rattle.prem_set.specs.Run.Run.{run_of as lines_of_run}
+use Rattle.prem_report.specs.Fitting.Named.{names_for}
 use Rattle.prem_command.specs.Words.{RunAsked}
 use Rattle.prem_report.specs.Report.{report_text}
 use Rattle.prem_answer.specs.declared.status.Status.{Status}

@@ -4,9 +4,9 @@ use Rattle.prem_gate.specs.declared.request.Request.{Request}
 use Rattle.prem_imagefile.specs.declared.fail.ImageFail.{ImageFail}
 use Rattle.prem_imagefile.specs.declared.fail.ImageFail.TheVariants.{Magic, Version, Short, Long, Field, OutOfMemory}
 use Rattle.prem_image.specs.Text.{ImageText}
-use Rattle.prem_run.specs.declared.fail.Which.{Which}
-use Rattle.prem_run.specs.declared.fail.Which.TheVariants as which
-use Rattle.prem_run.specs.Run.{Gathered, LineRefusal}
+use Rattle.prem_set.specs.declared.run.fail.Which.{Which}
+use Rattle.prem_set.specs.declared.run.fail.Which.TheVariants as which
+use Rattle.prem_set.specs.Run.Run.{Gathered, LineRefusal}
 use Rattle.prem_answer.specs.Stages.{Reply, form_reply}
 
 -- why bytes are no image; want of memory is no reason

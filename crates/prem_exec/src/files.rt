@@ -10,12 +10,12 @@ ghost use Rattle.prem_exec.specs.Forms.{image_why, line_why, which_word};
 ghost use Rattle.prem_exec.specs.Exec.{image_limit, image_of_bytes, input_of, run_limit, run_of_bytes};
 
 use prem_answer::{Answer, Halt, form, read_file};
-use prem_fitting::read_run_of;
 use prem_gate::RunInput;
 use prem_image::Image;
 use prem_imagefile::{ImageFail, read_image};
 use prem_io::Store;
-use prem_run::{RunFail, Which};
+use prem_report::fitting::read_run_of;
+use prem_set::run::{RunFail, Which};
 use std::alloc::{AllocError, Global};
 
 /// The bytes that an image file has at most.

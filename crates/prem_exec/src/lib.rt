@@ -4,6 +4,7 @@
 mod exec;
 mod files;
 mod run;
+pub mod sources;
 
 pub use exec::exec_answer;
 pub use files::line_form;

@@ -6,9 +6,9 @@ ghost use Rattle.prem_meaning.specs.GroupTwo.{IsWellFormed};
 ghost use Rattle.prem_meaning.specs.Resolve.{functions_of};
 ghost use Rattle.prem_analyse.specs.Analysed.{analysed_text};
 ghost use Rattle.prem_asm.specs.PiecesOf.{pieces_of};
-ghost use Rattle.prem_resolve.specs.ResolvedOf.{term_of};
-ghost use Rattle.prem_term.specs.Excess.{Refuses};
-ghost use Rattle.prem_term.specs.Numbers.{HasSmall};
+ghost use Rattle.prem_tree.specs.Resolve.ResolvedOf.{term_of};
+ghost use Rattle.prem_gen.specs.Term.Excess.{Refuses};
+ghost use Rattle.prem_gen.specs.Term.Numbers.{HasSmall};
 ghost use Rattle.prem_expr.specs.Scope.{frame_in, term_in};
 ghost use Rattle.prem_expr.specs.Code.{expression_code, expression_excess};
 
@@ -17,9 +17,9 @@ use crate::marks::first_global;
 use crate::names::names_in;
 use prem_analyse::Analysed;
 use prem_asm::{Piece, Sequence};
-use prem_resolve::{Term, resolve_term};
+use prem_gen::term::{GenFail, gen_fail, term_alone};
 use prem_syntax::{Expr, Program};
-use prem_term::{GenFail, gen_fail, term_alone};
+use prem_tree::resolve::{Term, resolve_term};
 use prem_word::FnId;
 use std::alloc::{AllocError, Global};
 

@@ -6,8 +6,8 @@ use Rattle.prem_syntax.specs.Syntax.{ProgramText}
 use Rattle.prem_meaning.specs.GroupTwo.{IsWellFormed}
 use Rattle.prem_meaning.specs.Resolved.{Resolved}
 use Rattle.prem_meaning.specs.Source.{unlimited}
-use Rattle.prem_resolve.specs.declared.resolved.Resolved.{Resolved as ResolvedTree}
-use Rattle.prem_resolve.specs.ResolvedOf.{IsResolved}
+use Rattle.prem_tree.specs.declared.resolve.resolved.Resolved.{Resolved as ResolvedTree}
+use Rattle.prem_tree.specs.Resolve.ResolvedOf.{IsResolved}
 use Rattle.prem_split.proofs.MayHave.{few_functions_there, few_globals_there}
 use Rattle.prem_layout.specs.Placed.{task_places}
 use Rattle.prem_foot.specs.PlacesFrom.{places_in}

@@ -8,8 +8,8 @@ ghost use Rattle.prem_layout.specs.Footprint.{index_of};
 
 use prem_analyse::Analysed;
 use prem_plant::{FnId, Layout};
-use prem_resolve::{Resolved, Routine, resolve};
 use prem_syntax::{Global as GlobalTree, Mark, Ty};
+use prem_tree::resolve::{Resolved, Routine, resolve};
 use std::alloc::{AllocError, Global};
 use std::marker::Model;
 

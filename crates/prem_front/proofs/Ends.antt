@@ -1,9 +1,9 @@
 -- What is read of a text at the end of its tokens.
 use Rattle.std.proofs.Common.{◌≡◌, List, Ok, true, false, refl}
 use Rattle.prem_syntax.specs.Syntax.{ItemText}
-use Rattle.prem_token.specs.Reading.{no_program}
-use Rattle.prem_grammar.specs.Item.{Stage, finished}
-use Rattle.prem_grammar.specs.Reader.{nowhere, at_end}
+use Rattle.prem_lexer.specs.Token.Reading.{no_program}
+use Rattle.prem_text.specs.Grammar.Item.{Stage, finished}
+use Rattle.prem_text.specs.Grammar.Reader.{nowhere, at_end}
 use Rattle.prem_front.specs.Ends.{is_finished}
 
 pub finished_at_end : (items : List ItemText) (s : Stage) → is_finished s ≡ true → at_end items s ≡ Ok items

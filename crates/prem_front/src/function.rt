@@ -2,24 +2,24 @@
 ghost use Rattle.std.specs.Prelude.{◌≡◌, IfOk, map};
 ghost use Rattle.prem_list.specs.Sequence.{items_of};
 ghost use Rattle.prem_syntax.specs.SyntaxOf.{expression_of, statement_of, parameter_of, local_of, function_of};
-ghost use Rattle.prem_token.specs.Lexeme.{seen_of};
-ghost use Rattle.prem_expression.specs.StateOf.{state_of};
-ghost use Rattle.prem_statement.specs.PointOf.{turn_of};
-ghost use Rattle.prem_grammar.specs.Statement.{listed};
-ghost use Rattle.prem_grammar.specs.Item.{parameter_begins, parameter_ends, parameter_goes_on, with_local, with_body, with_result, value_begins, body_ends, statement_step, local_begins, value_ends, value_goes_on};
+ghost use Rattle.prem_lexer.specs.Token.Lexeme.{seen_of};
+ghost use Rattle.prem_reader.specs.Expression.StateOf.{state_of};
+ghost use Rattle.prem_reader.specs.Statement.PointOf.{turn_of};
+ghost use Rattle.prem_text.specs.Grammar.Statement.{listed};
+ghost use Rattle.prem_text.specs.Grammar.Item.{parameter_begins, parameter_ends, parameter_goes_on, with_local, with_body, with_result, value_begins, body_ends, statement_step, local_begins, value_ends, value_goes_on};
 ghost use Rattle.prem_front.specs.StageOf.{value_of, stage_of, step_of};
 
 use crate::global::{begin_row, with_parameter};
 use crate::stage::{Declared, ItemRow, ItemStep, Stage, Typing, Value};
 use crate::typing::{NOTHING, begins_type, type_begins};
-use prem_expression::{Move, Open, State, advance};
+use prem_lexer::token::{Spotted, Token, Word};
 use prem_list::Sequence;
-use prem_statement::{
+use prem_reader::expression::{Move, Open, State, advance};
+use prem_reader::statement::{
     Around, Point, Slot, Turn, boxed, is_comma, is_right_brace, is_right_parenthesis, is_semicolon,
     turn,
 };
 use prem_syntax::{Expr, Function, Item, Local, Param, Stmt};
-use prem_token::{Spotted, Token, Word};
 use std::alloc::{AllocError, Global};
 
 /// The greatest number of tokens of an expression, and one more: past it nothing is left of the room.
@@ -96,7 +96,7 @@ fn with_local(mut function: Function, local: Local) -> Result<Function, AllocErr
     Ok(function)
 }
 
-#[tactic(auto, using(prem_statement::proofs::Blocks::statements_listed))]
+#[tactic(auto, using(prem_reader::proofs::StatementLemmas::Blocks::statements_listed))]
 fn with_body(mut function: Function, body: Sequence<Stmt>) -> Function
     ensures { function_of result ≡ with_body (function_of function) (listed (map statement_of (items_of body))) }
 {

@@ -7,14 +7,14 @@ ghost use Rattle.prem_analyse.specs.Analysed.{analysed_text};
 ghost use Rattle.prem_asm.specs.PiecesOf.{pieces_of};
 ghost use Rattle.prem_template.specs.Limits.{excess};
 ghost use Rattle.prem_template.specs.Parts.{parts_of, codes_of};
-ghost use Rattle.prem_term.specs.Excess.{Refuses};
-ghost use Rattle.prem_codes.specs.Codes.{code_at, excess_at, CalleesFit};
+ghost use Rattle.prem_gen.specs.Term.Excess.{Refuses};
+ghost use Rattle.prem_gen.specs.Codes.Codes.{code_at, excess_at, CalleesFit};
 ghost use Rattle.prem_gen.specs.Compiled.{compiled};
 
+use crate::codes::{FnId, GenFail, codes, function_code};
 use prem_analyse::Analysed;
 use prem_asm::{Piece, Sequence};
-use prem_codes::{FnId, GenFail, codes, function_code};
-use prem_resolve::resolve;
+use prem_tree::resolve::resolve;
 use std::alloc::{AllocError, Global};
 
 /// Words that are kept as longer numbers.

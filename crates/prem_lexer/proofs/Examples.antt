@@ -1,11 +1,11 @@
 -- Texts and their tokens by hand.
 use Rattle.std.specs.Prelude.{◌≡◌, ℕ, List, [], ◌∷◌, ◌++◌, map, Result, Ok, Err, codes, replicate, refl}
 use Rattle.prem_word.specs.declared.kind.Kind.TheVariants.{Int, Unsigned}
-use Rattle.prem_token.specs.declared.fail.FrontFail.{FrontFail}
-use Rattle.prem_token.specs.declared.fail.FrontFail.TheVariants.{NotText, Token}
-use Rattle.prem_token.specs.declared.token.Mark.TheVariants as m
-use Rattle.prem_token.specs.declared.token.Word.TheVariants as w
-use Rattle.prem_token.specs.Lexeme.{Lexeme, name, number, word, mark, end_of_text, Seen}
+use Rattle.prem_lexer.specs.declared.token.fail.FrontFail.{FrontFail}
+use Rattle.prem_lexer.specs.declared.token.fail.FrontFail.TheVariants.{NotText, Token}
+use Rattle.prem_lexer.specs.declared.token.token.Mark.TheVariants as m
+use Rattle.prem_lexer.specs.declared.token.token.Word.TheVariants as w
+use Rattle.prem_lexer.specs.Token.Lexeme.{Lexeme, name, number, word, mark, end_of_text, Seen}
 use Rattle.prem_lexer.specs.Spelling.{used_word, is_unused, reserved_word, longest_mark}
 use Rattle.prem_lexer.specs.Literal.{literal_word}
 use Rattle.prem_lexer.specs.Tokens.{first_token, start, step, lex, tokens_of}

@@ -3,10 +3,10 @@ use Rattle.std.proofs.Common.{◌≡◌, ◌≤◌, ◌<◌, ℕ, suc, ◌+◌, 
 use Rattle.std.proofs.lemmas.Bool.Decides.{nat_tests}
 use Rattle.std.proofs.lemmas.List.{drop_all}
 use Rattle.prem_syntax.specs.declared.tree.Place.{Place}
-use Rattle.prem_token.specs.declared.fail.FrontFail.{FrontFail}
-use Rattle.prem_token.specs.declared.fail.FrontFail.TheVariants.{NotText, Token, Syntax, TooLong, TooDeep, OutOfMemory}
-use Rattle.prem_token.specs.Reading.{◌>>=◌, Fails}
-use Rattle.prem_token.specs.Lexeme.{Lexeme, Seen, end_of_text}
+use Rattle.prem_lexer.specs.declared.token.fail.FrontFail.{FrontFail}
+use Rattle.prem_lexer.specs.declared.token.fail.FrontFail.TheVariants.{NotText, Token, Syntax, TooLong, TooDeep, OutOfMemory}
+use Rattle.prem_lexer.specs.Token.Reading.{◌>>=◌, Fails}
+use Rattle.prem_lexer.specs.Token.Lexeme.{Lexeme, Seen, end_of_text}
 use Rattle.prem_lexer.specs.declared.lexer.Mode.{Mode}
 use Rattle.prem_lexer.specs.declared.lexer.Mode.TheVariants.{Skip, Line, Block}
 use Rattle.prem_lexer.specs.declared.lexer.Cursor.{Cursor}

@@ -1,10 +1,10 @@
 -- The spelling of the reserved words and the marks.
 use Rattle.std.specs.Prelude.{ℕ, Bool, false, ◌==◌, ◌&&◌, ◌||◌, if◌then◌else◌, List, [], ◌∷◌, length, Option, None, Some, codes}
 use Rattle.std.specs.Str.{bytes_eq}
-use Rattle.prem_token.specs.declared.token.Word.{Word}
-use Rattle.prem_token.specs.declared.token.Word.TheVariants as w
-use Rattle.prem_token.specs.declared.token.Mark.{Mark}
-use Rattle.prem_token.specs.declared.token.Mark.TheVariants as m
+use Rattle.prem_lexer.specs.declared.token.token.Word.{Word}
+use Rattle.prem_lexer.specs.declared.token.token.Word.TheVariants as w
+use Rattle.prem_lexer.specs.declared.token.token.Mark.{Mark}
+use Rattle.prem_lexer.specs.declared.token.token.Mark.TheVariants as m
 
 abbrev pub words : List (List ℕ × Word)
 words =

@@ -2,13 +2,13 @@
 use Rattle.std.specs.Prelude.{ℕ, zero, suc, ◌+◌, ◌-◌, ◌==◌, Bool, ◌||◌, ◌&&◌, not, if◌then◌else◌, nat_lt, nat_le, List, [], ◌∷◌, length, ◌++◌, Option, None, Some, Result, Ok, Err, take_while, slice_index}
 use Rattle.std.specs.Option.{option_map}
 use Rattle.prem_syntax.specs.declared.tree.Place.{Place}
-use Rattle.prem_token.specs.declared.fail.FrontFail.{FrontFail}
-use Rattle.prem_token.specs.declared.fail.FrontFail.TheVariants.{NotText, TooLong}
+use Rattle.prem_lexer.specs.declared.token.fail.FrontFail.{FrontFail}
+use Rattle.prem_lexer.specs.declared.token.fail.FrontFail.TheVariants.{NotText, TooLong}
 use Rattle.prem_lexer.specs.declared.lexer.Mode.{Mode}
 use Rattle.prem_lexer.specs.declared.lexer.Mode.TheVariants.{Skip, Line, Block}
 use Rattle.prem_lexer.specs.declared.lexer.Cursor.{Cursor}
-use Rattle.prem_token.specs.Reading.{◌>>=◌, no_token}
-use Rattle.prem_token.specs.Lexeme.{Lexeme, name, number, word, mark, end_of_text, Seen}
+use Rattle.prem_lexer.specs.Token.Reading.{◌>>=◌, no_token}
+use Rattle.prem_lexer.specs.Token.Lexeme.{Lexeme, name, number, word, mark, end_of_text, Seen}
 use Rattle.prem_lexer.specs.Spelling.{reserved_word, longest_mark}
 use Rattle.prem_lexer.specs.Literal.{literal_word}
 

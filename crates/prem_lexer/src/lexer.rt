@@ -1,14 +1,14 @@
 // The tokens of a text.
 ghost use Rattle.std.specs.Prelude.{◌≡◌, ◌≤◌, ◌<◌, Some, Ok, length, map, take_while};
 ghost use Rattle.std.specs.Option.{option_map};
-ghost use Rattle.prem_token.specs.Reading.{Gives};
-ghost use Rattle.prem_token.specs.Lexeme.{lexeme_of, seen_of};
+ghost use Rattle.prem_lexer.specs.Token.Reading.{Gives};
+ghost use Rattle.prem_lexer.specs.Token.Lexeme.{lexeme_of, seen_of};
 ghost use Rattle.prem_lexer.specs.Tokens.{is_name_byte, is_blank, is_printable, word_token, first_token, place, behind, begins_with, start, step, tokens_of};
 
 use crate::literal::literal_of;
 use crate::spelling::{longest_mark, reserved_word};
+use crate::token::{FrontFail, Spotted, Token};
 use prem_syntax::{Name, Place};
-use prem_token::{FrontFail, Spotted, Token};
 use std::alloc::Global;
 
 /// The greatest number of bytes of a text.

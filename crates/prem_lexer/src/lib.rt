@@ -4,5 +4,6 @@
 mod lexer;
 mod literal;
 mod spelling;
+pub mod token;
 
 pub use lexer::tokens;

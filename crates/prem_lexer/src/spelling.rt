@@ -2,7 +2,7 @@
 ghost use Rattle.std.specs.Prelude.{◌≡◌};
 ghost use Rattle.prem_lexer.specs.Spelling.{used_word, is_unused, reserved_word, longest_mark};
 
-use prem_token::{Mark, Word};
+use crate::token::{Mark, Word};
 
 /// The word of the grammar that these bytes spell.
 #[tactic(auto, unfolding(crate::specs::Spelling::used_word))]

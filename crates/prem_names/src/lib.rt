@@ -3,6 +3,7 @@
 
 mod index;
 mod names;
+pub mod reach;
 
 pub use index::Index;
 pub use names::Names;

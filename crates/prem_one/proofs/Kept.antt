@@ -3,7 +3,7 @@ use Rattle.std.proofs.Common.{◌≡◌, ℕ, List, [], ◌∷◌, length, None,
 use Rattle.prem_plant.specs.Ranges.{default_plant}
 use Rattle.prem_plant.specs.Places.{Extent, default_places}
 use Rattle.prem_syntax.specs.Syntax.{ProgramText}
-use Rattle.prem_token.specs.declared.fail.FrontFail.{FrontFail}
+use Rattle.prem_lexer.specs.declared.token.fail.FrontFail.{FrontFail}
 use Rattle.prem_text.specs.Texts.{reads}
 use Rattle.prem_layout.specs.Placed.{Coded, Placed, parts_of, placed_at, task_places}
 use Rattle.prem_layout.specs.Rules.{or_else, Refusal, refused_by}

@@ -1,7 +1,7 @@
 -- A text with tokens put behind it.
 use Rattle.std.specs.Prelude.{ℕ, List, [], ◌∷◌, ◌++◌}
-use Rattle.prem_token.specs.Lexeme.{Lexeme}
-use Rattle.prem_canonical.specs.Printed.{lexeme_bytes}
+use Rattle.prem_lexer.specs.Token.Lexeme.{Lexeme}
+use Rattle.prem_text.specs.Canonical.Printed.{lexeme_bytes}
 
 -- a token and a blank
 unfoldable pub piece : Lexeme → List ℕ

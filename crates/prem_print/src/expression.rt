@@ -3,13 +3,13 @@
 
 ghost use Rattle.std.specs.Prelude.{◌≡◌, OnOk};
 ghost use Rattle.prem_syntax.specs.SyntaxOf.{expression_of};
-ghost use Rattle.prem_grammar.specs.Expression.{level_of};
-ghost use Rattle.prem_canonical.specs.Canonical.{constant_lexemes, expression_lexemes, infix_sign, prefix_sign};
+ghost use Rattle.prem_text.specs.Grammar.Expression.{level_of};
+ghost use Rattle.prem_text.specs.Canonical.Canonical.{constant_lexemes, expression_lexemes, infix_sign, prefix_sign};
 ghost use Rattle.prem_print.specs.Written.{written};
 
 use crate::token::{push_literal, push_mark, push_name, push_number};
+use prem_lexer::token::Mark;
 use prem_syntax::{BinOp, Expr, UnOp};
-use prem_token::Mark;
 use std::alloc::AllocError;
 
 /// A constant.

@@ -2,8 +2,8 @@
 ghost use Rattle.std.specs.Prelude.{◌≡◌, IfOk};
 ghost use Rattle.prem_syntax.specs.SyntaxOf.{program_of};
 ghost use Rattle.prem_text.specs.Texts.{reads};
-ghost use Rattle.prem_canonical.specs.Printed.{printed};
-ghost use Rattle.prem_canonical.specs.Law.{IsOfText, IsTextOf, ReadBack};
+ghost use Rattle.prem_text.specs.Canonical.Printed.{printed};
+ghost use Rattle.prem_text.specs.Canonical.Law.{IsOfText, IsTextOf, ReadBack};
 
 use crate::item::push_items;
 use prem_syntax::Program;

@@ -15,7 +15,7 @@ use Rattle.prem_ranges.proofs.Alike.{resolve-alike, range_breaches-alike, inside
 use Rattle.prem_ranges.proofs.Numbering.{bounds_stand}
 use Rattle.prem_ranges.proofs.Functions.{HasRegions, programs_run}
 use Rattle.prem_ranges.proofs.Grow.{limits_grow}
-use Rattle.prem_unary.proofs.Table.{table_laws}
+use Rattle.prem_ranges.proofs.UnaryLemmas.Table.{table_laws}
 use Rattle.prem_ranges.proofs.Kept.{bounds_small}
 use Rattle.prem_ranges.proofs.WellFormed.{well_formed_is_typed}
 

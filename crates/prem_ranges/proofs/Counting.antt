@@ -15,7 +15,7 @@ use Rattle.prem_meaning.specs.Expressions.{and_then, Access}
 use Rattle.prem_meaning.specs.Statements.{ProgramState, Calls, value, with_local, int_local, in_bound, loop_test, loop_step, counting, run}
 use Rattle.prem_word.specs.Ranges.{Span, LiesIn, from_to, whole, within, encloses}
 use Rattle.prem_word.proofs.Corners.{word_in_whole}
-use Rattle.prem_unary.specs.TableLaws.{TableLaws}
+use Rattle.prem_ranges.specs.Unary.TableLaws.{TableLaws}
 use Rattle.prem_ranges.specs.Environment.{Known, with_range, Environment, at_local}
 use Rattle.prem_ranges.specs.RangeOf.{range_of}
 use Rattle.prem_ranges.specs.After.{assigns, in_counting, end_of, loop_end, turn_bound, body_range, range_behind, in_body, behind_loop, after}

@@ -17,7 +17,7 @@ use Rattle.prem_meaning.specs.Resolved.{Term, Constant, Local, Scalar, Element, 
 use Rattle.prem_meaning.specs.Resolve.{kind_of, operand_kind}
 use Rattle.prem_meaning.specs.Expressions.{Outcome, and_then, Access, words_of, cell, or_wrong, unary_word, divide, operate, truth_of, eval}
 use Rattle.prem_word.specs.Ranges.{Span, LiesIn, holds, encloses, exactly, from_to, converted, truths}
-use Rattle.prem_unary.specs.TableLaws.{TableLaws}
+use Rattle.prem_ranges.specs.Unary.TableLaws.{TableLaws}
 use Rattle.prem_ranges.specs.Environment.{Environment, at_local}
 use Rattle.prem_ranges.specs.RangeOf.{range_of, cut, cut_if_some, opposite, is_same_kind, cut_by, refined}
 use Rattle.prem_ranges.specs.RangeBreaches.{Site, length_of, in_watches, in_index, in_element, in_divisor, in_term}

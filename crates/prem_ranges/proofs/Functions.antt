@@ -14,7 +14,7 @@ use Rattle.prem_meaning.specs.Reach.{callees_in, IsAmong}
 use Rattle.prem_meaning.specs.Expressions.{and_then, Access}
 use Rattle.prem_meaning.specs.Statements.{ProgramState, Calls, stored, value, run, with_new_local, declare, result_of, leave, enter}
 use Rattle.prem_meaning.specs.Source.{Limits, access_of, enter_if_there, this_or, calls_below, constants_of, initial_words, start, everywhere, do_jobs}
-use Rattle.prem_unary.specs.TableLaws.{TableLaws}
+use Rattle.prem_ranges.specs.Unary.TableLaws.{TableLaws}
 use Rattle.prem_ranges.specs.Environment.{Known, Environment}
 use Rattle.prem_ranges.specs.RangeOf.{range_of}
 use Rattle.prem_ranges.specs.After.{after, known_parameter, known_local, declared, at_body, bounds_in}

@@ -10,7 +10,7 @@ use Rattle.prem_meaning.specs.Statements.{ProgramState, Calls, counting, bounded
 use Rattle.prem_meaning.specs.Source.{unlimited, everywhere, source_within, source}
 use Rattle.prem_meaning.specs.GroupTwo.{IsWellFormed, group_two}
 use Rattle.prem_meaning.proofs.Samples.{at}
-use Rattle.prem_unary.proofs.Table.{table_laws}
+use Rattle.prem_ranges.proofs.UnaryLemmas.Table.{table_laws}
 use Rattle.prem_word.specs.Ranges.{from_to}
 use Rattle.prem_ranges.specs.Environment.{Environment}
 use Rattle.prem_ranges.specs.GroupThree.{resolved, StaysInRange, group_three, turn_bounds, limits_of}

@@ -14,7 +14,7 @@ use Rattle.prem_meaning.specs.Reach.{callees_in, IsAmong}
 use Rattle.prem_meaning.specs.Expressions.{Outcome, and_then, Access, eval_all}
 use Rattle.prem_meaning.specs.Statements.{ProgramState, Calls, choose, value, values, with_local, store, with_output, take_input, holds, loop_test, loop_step, counting, bounded, with_target, run}
 use Rattle.prem_word.specs.Ranges.{Span, LiesIn, exactly, converted, from_to}
-use Rattle.prem_unary.specs.TableLaws.{TableLaws}
+use Rattle.prem_ranges.specs.Unary.TableLaws.{TableLaws}
 use Rattle.prem_ranges.specs.Environment.{any_again, with_range, assigned, Environment, at_local, joined}
 use Rattle.prem_ranges.specs.RangeOf.{range_of, refined}
 use Rattle.prem_ranges.specs.After.{is_target, assigns, in_counting, loop_end, turn_bound, range_behind, body_range, in_body, behind_loop, in_while, behind_call, after, bounds, stated_or_whole, known_parameter}

@@ -12,7 +12,7 @@ use Rattle.prem_syntax.specs.declared.tree.UnOp.TheVariants.{Not}
 use Rattle.prem_meaning.specs.Resolved.{Term, Constant, Local, Scalar, Element, Unary, Binary, AndAlso, OrElse}
 use Rattle.prem_meaning.specs.Resolve.{kind_of}
 use Rattle.prem_word.specs.Ranges.{Span, from_to, exactly, whole, converted, unless_empty, truths, range_of_op}
-pub use Rattle.prem_unary.specs.TableLaws.{unary_range}
+pub use Rattle.prem_ranges.specs.Unary.TableLaws.{unary_range}
 use Rattle.prem_ranges.specs.Environment.{Known, with_range, Environment, range_at, at_local}
 
 -- the numbers of a type

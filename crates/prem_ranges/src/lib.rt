@@ -2,6 +2,8 @@
 #![tactic(auto)]
 
 mod laws;
+pub mod saves;
+pub mod unary;
 
 pub use laws::{
     analysis_is_sound, expressions_lie_in_ranges, limits_grow, nothing_is_wanted, runs_are_counted,

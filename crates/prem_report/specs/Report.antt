@@ -13,7 +13,7 @@ use Rattle.prem_cycle.specs.declared.facts.EndedInterval.{EndedInterval}
 use Rattle.prem_cycle.specs.declared.facts.DeviceFacts.{DeviceFacts}
 use Rattle.prem_cycle.specs.State.{Counts}
 use Rattle.prem_cycle.specs.FactsOf.{TaskReport, Report}
-use Rattle.prem_transfer.specs.Lengths.{device_cost}
+use Rattle.prem_runs.specs.Transfer.Lengths.{device_cost}
 use Rattle.prem_line.specs.Hexadecimal.{hex_word}
 
 -- ---- parts of lines

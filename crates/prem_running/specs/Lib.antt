@@ -1,1 +1,4 @@
 pub mod Running
+pub mod SetLaws
+pub mod RunSound
+pub mod Sample

@@ -9,8 +9,8 @@ use Rattle.prem_answer.specs.declared.status.Status.TheVariants.{Done}
 use Rattle.prem_answer.specs.Stages.{Reply, Stage}
 use Rattle.prem_exec.specs.Forms.{RunText}
 use Rattle.prem_exec.specs.Exec.{run_reply}
-use Rattle.prem_refusal.specs.Texts.{refused_reply}
-use Rattle.prem_sources.specs.Sources.{reading_set, reading_run}
+use Rattle.prem_answer.specs.Refusal.Texts.{refused_reply}
+use Rattle.prem_exec.specs.Sources.Sources.{reading_set, reading_run}
 
 -- the cycle up to which a run goes: that of the words, else the limit of the set; past cycle 2^61 no machine goes
 abbrev pub run_limit : Option ℕ → ℕ → ℕ

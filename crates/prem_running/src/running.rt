@@ -3,21 +3,21 @@ ghost use Rattle.std.specs.Prelude.{◌≡◌, ◌≤◌, ◌^◌, IfOk, IsErrOf
 ghost use Rattle.prem_list.specs.Sequence.{items_of};
 ghost use Rattle.prem_io.specs.Counts.{Rose};
 ghost use Rattle.prem_cycle.specs.Inputs.{FitsRun, setup_of, words_of};
-ghost use Rattle.prem_run.specs.Lawful.{IsLawfulRun};
+ghost use Rattle.prem_set.specs.Run.Lawful.{IsLawfulRun};
 ghost use Rattle.prem_command.specs.Words.{run_asked};
 ghost use Rattle.prem_tasks.specs.SetOf.{set_of};
 ghost use Rattle.prem_compile.specs.CompiledOf.{compiled_of};
 ghost use Rattle.prem_answer.specs.Stages.{Comes, IsGiven, reply_of};
-ghost use Rattle.prem_sources.specs.Sources.{input_of, names_of};
+ghost use Rattle.prem_exec.specs.Sources.Sources.{input_of, names_of};
 ghost use Rattle.prem_running.specs.Running.{compiled_reply, run_limit, run_stages, set_reply};
 
+use prem_answer::refusal::refused;
 use prem_answer::{Answer, Halt, Status};
 use prem_command::RunWords;
 use prem_compile::{CompileFail, Compiled, TaskSet, compile};
+use prem_exec::sources::{read_run_file, read_task_set};
 use prem_gate::RunInput;
 use prem_io::Store;
-use prem_refusal::refused;
-use prem_sources::{read_run_file, read_task_set};
 use std::alloc::{AllocError, Global};
 
 /// The last cycle of any machine.

@@ -6,7 +6,7 @@ use Rattle.toml.specs.Parse.{parse_document}
 use Rattle.prem_plant.specs.Ranges.{default_plant}
 use Rattle.prem_plant.specs.declared.plant.Plant.{Plant}
 use Rattle.prem_plant.specs.declared.plant.Device.{Device}
-use Rattle.prem_run.specs.Names.{KnownNames, known_of}
+use Rattle.prem_set.specs.Run.Names.{KnownNames, known_of}
 use Rattle.prem_set.specs.declared.fault.Fault.TheVariants as fault
 use Rattle.prem_set.specs.declared.fault.Refusal.{Refusal}
 use Rattle.prem_set.specs.declared.fault.SetFail.{SetFail}

@@ -13,30 +13,30 @@ use Rattle.prem_lru.proofs.Touches.{to_front_rule}
 use Rattle.prem_lru.proofs.Shapes.{to_front_moves}
 use Rattle.prem_lru.proofs.Residency.{lru_misses_once, lru_full}
 use Rattle.prem_lru.proofs.Lift.{once_lifts, full_lifts}
-use Rattle.prem_script.specs.Scripts.{Promise}
-use Rattle.prem_resident.specs.Faultless.{IsPolicy}
+use Rattle.prem_sound.specs.Script.Scripts.{Promise}
+use Rattle.prem_sound.specs.Resident.Faultless.{IsPolicy}
 use Rattle.prem_cycle.specs.Alone.{run_in}
 use Rattle.prem_template.specs.Parts.{parts_of, codes_of}
 use Rattle.prem_layout.specs.Parts.{part_count}
 use Rattle.prem_layout.specs.Placed.{Coded, Placed, placed_at, placed_from, task_places}
 use Rattle.prem_layout.specs.Image.{task_record}
-use Rattle.prem_own.specs.Owned.{own_of, setup_of}
-use Rattle.prem_initial.specs.Initial.{content_of}
+use Rattle.prem_stub_laws.specs.Own.Owned.{own_of, setup_of}
+use Rattle.prem_stub_laws.specs.Initial.Initial.{content_of}
 use Rattle.prem_sound.specs.Sound.{AreInputs}
 use Rattle.prem_tasks.specs.Broken.{TaskSet, bounded}
 use Rattle.prem_tasks.specs.Compiled.{coded_in, places_in, placed_in}
 use Rattle.prem_tasks.specs.SetOf.{set_of}
-use Rattle.prem_join.specs.Joined.{JobLimits, TaskJoins}
-use Rattle.prem_task_frame.specs.Kept.{KeepsTaskRules}
-use Rattle.prem_task_frame.specs.Limits.{task_limits}
-use Rattle.prem_task_bytes.specs.Parts.{IsPlacedTask}
-use Rattle.prem_each.proofs.Each.{tasks_join}
-use Rattle.prem_accepted.specs.Accepted.{HasCodedValues, IsLaidOut, limits_at, no_limits, KeepsRules}
-use Rattle.prem_accepted.proofs.Records.{have_code}
-use Rattle.prem_accepted.proofs.Rules.{accepted_tasks_keep_rules}
-use Rattle.prem_accepted.proofs.Whole.{accepted_sets_are_laid_out, default_places_are_lawful, accepted_sets_are_sound, lawful_sets_have_values}
-use Rattle.prem_read_words.proofs.ProgramWords.{reads_have_words}
-use Rattle.prem_each.proofs.Words.{all_there}
+use Rattle.prem_stub_laws.specs.Join.Joined.{JobLimits, TaskJoins}
+use Rattle.prem_task_laws.specs.TaskFrame.Kept.{KeepsTaskRules}
+use Rattle.prem_task_laws.specs.TaskFrame.Limits.{task_limits}
+use Rattle.prem_task_laws.specs.TaskBytes.Parts.{IsPlacedTask}
+use Rattle.prem_sets_sound.proofs.EachLemmas.Each.{tasks_join}
+use Rattle.prem_sets_sound.specs.Accepted.Accepted.{HasCodedValues, IsLaidOut, limits_at, no_limits, KeepsRules}
+use Rattle.prem_sets_sound.proofs.AcceptedLemmas.Records.{have_code}
+use Rattle.prem_sets_sound.proofs.AcceptedLemmas.Rules.{accepted_tasks_keep_rules}
+use Rattle.prem_sets_sound.proofs.AcceptedLemmas.Whole.{accepted_sets_are_laid_out, default_places_are_lawful, accepted_sets_are_sound, lawful_sets_have_values}
+use Rattle.prem_text.proofs.ReadWordsLemmas.ProgramWords.{reads_have_words}
+use Rattle.prem_sets_sound.proofs.EachLemmas.Words.{all_there}
 use Rattle.prem_sets_sound.specs.Meant.{meant_by, meant_at, promises_in, AreMeant}
 use Rattle.prem_sets_sound.specs.Sound.{MeantTasksJoin, AcceptedTasksAreMeant, SetsAreSound, LawfulSetsAreSound}
 

@@ -14,9 +14,9 @@ use Rattle.prem_meaning.specs.GroupTwo.{group_two, IsWellFormed}
 use Rattle.prem_meaning.specs.Resolved.{Resolved}
 use Rattle.prem_meaning.specs.Resolve.{globals_of, resolve}
 use Rattle.prem_meaning.specs.Source.{unlimited}
-use Rattle.prem_resolve.specs.declared.resolved.Routine.{Routine as RoutineTree}
-use Rattle.prem_resolve.specs.declared.resolved.Resolved.{Resolved as ResolvedTree}
-use Rattle.prem_resolve.specs.ResolvedOf.{loops_of, routines_of, resolved_of, IsResolved}
+use Rattle.prem_tree.specs.declared.resolve.resolved.Routine.{Routine as RoutineTree}
+use Rattle.prem_tree.specs.declared.resolve.resolved.Resolved.{Resolved as ResolvedTree}
+use Rattle.prem_tree.specs.Resolve.ResolvedOf.{loops_of, routines_of, resolved_of, IsResolved}
 use Rattle.prem_tree.proofs.RunLaws.{few_routines, some_first}
 use Rattle.prem_layout.specs.Plans as layout
 use Rattle.prem_split.specs.Walk.{HasFrame, counters_of, frame_of as frame_of_tree}

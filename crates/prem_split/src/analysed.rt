@@ -9,7 +9,7 @@ use crate::plan::IntervalPlan;
 use crate::plans::intervals_of;
 use prem_analyse::Analysed;
 use prem_list::Sequence;
-use prem_resolve::resolve;
+use prem_tree::resolve::resolve;
 use std::alloc::{AllocError, Global};
 
 /// The plans of the marked functions of an analysed program, in the order of the text.

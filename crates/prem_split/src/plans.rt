@@ -10,11 +10,11 @@ ghost use Rattle.prem_split.specs.PlansWith.{MayHavePlans, plan_with, plan_if, p
 use crate::plan::IntervalPlan;
 use crate::tables::{depths, members, value_at};
 use crate::walk::frames;
+use prem_analysis::marks::{callee_table, reach_set};
 use prem_list::Sequence;
-use prem_marks::{callee_table, reach_set};
 use prem_plant::FnId;
-use prem_resolve::Resolved;
 use prem_syntax::{Global as GlobalTree, Mark, Name, Region};
+use prem_tree::resolve::Resolved;
 use std::alloc::{AllocError, Global};
 
 /// The number of the first global with a name, or 0 where there is none.

@@ -2,7 +2,7 @@
 use Rattle.std.proofs.Common.{◌≡◌, ℕ, suc, ◌+◌, ◌≤◌, List, [], ◌∷◌, Option, None, Some, Result, Ok, Err, length, map, refl, ap, sym, ◌∙◌, subst, arith}
 use Rattle.std.specs.Option.{option_map}
 use Rattle.prem_syntax.specs.Syntax.{ProgramText}
-use Rattle.prem_token.specs.declared.fail.FrontFail.{FrontFail}
+use Rattle.prem_lexer.specs.declared.token.fail.FrontFail.{FrontFail}
 use Rattle.prem_text.specs.Texts.{reads}
 use Rattle.prem_asm.specs.Pieces.{Pieces}
 use Rattle.prem_analyse.specs.Analysed.{analysed_text}

@@ -4,7 +4,7 @@ use Rattle.std.specs.Option.{option_map}
 use Rattle.prem_plant.specs.declared.plant.Plant.{Plant}
 use Rattle.prem_plant.specs.declared.plant.Device.{Device}
 use Rattle.prem_syntax.specs.Syntax.{Text, GlobalVariable, ProgramText}
-use Rattle.prem_token.specs.declared.fail.FrontFail.{FrontFail}
+use Rattle.prem_lexer.specs.declared.token.fail.FrontFail.{FrontFail}
 use Rattle.prem_text.specs.Texts.{reads}
 use Rattle.prem_meaning.specs.GroupTwo as meaning
 use Rattle.prem_meaning.specs.Resolved.{Resolved}

@@ -2,7 +2,7 @@
 use Rattle.std.proofs.Common.{[], ◌∷◌, ◌++◌, None, codes, refl, replicate}
 use Rattle.prem_syntax.specs.declared.tree.Ty.TheVariants as ty
 use Rattle.prem_syntax.specs.Syntax.{ProgramText, absent, global_item, function_item, no_statements}
-use Rattle.prem_token.specs.declared.fail.FrontFail.TheVariants.{Token, Syntax, TooDeep}
+use Rattle.prem_lexer.specs.declared.token.fail.FrontFail.TheVariants.{Token, Syntax, TooDeep}
 use Rattle.prem_lexer.specs.Spelling.{used_word, is_unused, reserved_word, longest_mark}
 use Rattle.prem_lexer.specs.Literal.{literal_word}
 use Rattle.prem_lexer.specs.Tokens.{first_token, start, step, lex, tokens_of}

@@ -1,3 +1,7 @@
 pub mod Inner
 pub mod Whole
 pub mod Examples
+pub mod SpellingLemmas
+pub mod GrammarLemmas
+pub mod CanonicalLemmas
+pub mod ReadWordsLemmas

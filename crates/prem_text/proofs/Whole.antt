@@ -3,25 +3,25 @@ use Rattle.std.proofs.Common.{◌≡◌, ℕ, zero, suc, ◌+◌, Bool, true, fa
 use Rattle.std.proofs.lemmas.Bool.{and_parts, and_from}
 use Rattle.std.proofs.lemmas.Bool.Decides.{nat_tests}
 use Rattle.prem_syntax.specs.Syntax.{ItemText, ProgramText}
-use Rattle.prem_token.specs.declared.fail.FrontFail.{FrontFail}
-use Rattle.prem_token.specs.declared.fail.FrontFail.TheVariants.{NotText, Token, Syntax, TooLong, TooDeep, OutOfMemory}
-use Rattle.prem_token.specs.Reading.{◌>>=◌, too_deep}
-use Rattle.prem_token.specs.Lexeme.{end_of_text, Seen}
+use Rattle.prem_lexer.specs.declared.token.fail.FrontFail.{FrontFail}
+use Rattle.prem_lexer.specs.declared.token.fail.FrontFail.TheVariants.{NotText, Token, Syntax, TooLong, TooDeep, OutOfMemory}
+use Rattle.prem_lexer.specs.Token.Reading.{◌>>=◌, too_deep}
+use Rattle.prem_lexer.specs.Token.Lexeme.{end_of_text, Seen}
 use Rattle.prem_lexer.specs.Tokens.{tokens_of}
-use Rattle.prem_grammar.specs.Slots.{the_end}
-use Rattle.prem_grammar.specs.Item.{Stage, outside, finished, ItemStep, ahead, made, refused, step, is_too_deep}
-use Rattle.prem_grammar.specs.Reader.{unless_deep, at_end, read_on, read}
-use Rattle.prem_grammar.specs.Phrases.{IsRow}
-use Rattle.prem_grammar.specs.ProgramPhrases.{items_tokens, program_tokens, program_tree}
-use Rattle.prem_grammar.specs.Law.{stages, Begins}
-use Rattle.prem_grammar.proofs.Program.{Reached, reached, read_by, stages_step, read_step, shallow, deep, program_stages, programs_read}
-use Rattle.prem_grammar.proofs.ProgramSound.{programs_sound}
-use Rattle.prem_grammar.proofs.ProgramBegun.{begins_after}
-use Rattle.prem_grammar.proofs.ProgramRefused.{refused_for, unexpected_refused, past_refused}
-use Rattle.prem_spelling.specs.Spellings.{every}
-use Rattle.prem_spelling.specs.Division.{place_behind, Divides, up_to, gap, token, AreTokens}
-use Rattle.prem_spelling.proofs.Bytes.{every_append}
-use Rattle.prem_spelling.proofs.Exact.{sound, complete, refusals_sound, refusals_complete}
+use Rattle.prem_text.specs.Grammar.Slots.{the_end}
+use Rattle.prem_text.specs.Grammar.Item.{Stage, outside, finished, ItemStep, ahead, made, refused, step, is_too_deep}
+use Rattle.prem_text.specs.Grammar.Reader.{unless_deep, at_end, read_on, read}
+use Rattle.prem_text.specs.Grammar.Phrases.{IsRow}
+use Rattle.prem_text.specs.Grammar.ProgramPhrases.{items_tokens, program_tokens, program_tree}
+use Rattle.prem_text.specs.Grammar.Law.{stages, Begins}
+use Rattle.prem_text.proofs.GrammarLemmas.Program.{Reached, reached, read_by, stages_step, read_step, shallow, deep, program_stages, programs_read}
+use Rattle.prem_text.proofs.GrammarLemmas.ProgramSound.{programs_sound}
+use Rattle.prem_text.proofs.GrammarLemmas.ProgramBegun.{begins_after}
+use Rattle.prem_text.proofs.GrammarLemmas.ProgramRefused.{refused_for, unexpected_refused, past_refused}
+use Rattle.prem_text.specs.Spelling.Spellings.{every}
+use Rattle.prem_text.specs.Spelling.Division.{place_behind, Divides, up_to, gap, token, AreTokens}
+use Rattle.prem_text.proofs.SpellingLemmas.Bytes.{every_append}
+use Rattle.prem_text.proofs.SpellingLemmas.Exact.{sound, complete, refusals_sound, refusals_complete}
 use Rattle.prem_text.specs.Texts.{IsProgramText, IsNoProgram, not_divided, unexpected, past}
 use Rattle.prem_text.proofs.Inner.{is_inner, items}
 

@@ -1,1 +1,5 @@
 pub mod Texts
+pub mod Spelling
+pub mod Grammar
+pub mod Canonical
+pub mod ReadWords

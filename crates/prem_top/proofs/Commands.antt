@@ -6,26 +6,26 @@ use Rattle.prem_tasks.specs.Told.{Told}
 use Rattle.prem_tasks.specs.Broken.{TaskSet, broken, programs_of}
 use Rattle.prem_tasks.specs.Compiled.{compiled}
 use Rattle.prem_lru.specs.Entries.{to_front}
-use Rattle.prem_accepted.specs.Accepted.{setup_in}
+use Rattle.prem_sets_sound.specs.Accepted.Accepted.{setup_in}
 use Rattle.prem_sets_sound.specs.Meant.{promises_in}
 use Rattle.prem_sets_sound.proofs.Sound.{sets_are_sound}
-use Rattle.prem_run_sound.specs.Runs.{SuitsRun}
-use Rattle.prem_run_sound.proofs.Reports.{sound_reports_end}
-use Rattle.prem_run_sound.proofs.SetRuns.{inputs_are_lawful}
+use Rattle.prem_running.specs.RunSound.Runs.{SuitsRun}
+use Rattle.prem_running.proofs.RunSoundLemmas.Reports.{sound_reports_end}
+use Rattle.prem_running.proofs.RunSoundLemmas.SetRuns.{inputs_are_lawful}
 use Rattle.prem_answer.specs.declared.status.Status.{Status}
 use Rattle.prem_answer.specs.declared.status.Status.TheVariants.{Done, Refused}
 use Rattle.prem_answer.specs.Stages.{Reply, Reads, replied}
 use Rattle.prem_exec.specs.Forms.{RunText}
-use Rattle.prem_refusal.specs.Texts.{refused_reply}
+use Rattle.prem_answer.specs.Refusal.Texts.{refused_reply}
 use Rattle.prem_build.specs.declared.sheet.Sheet.{Sheet}
 use Rattle.prem_build.specs.declared.sheet.Sheet.TheVariants.{Bounds, Image, Listing}
 use Rattle.prem_build.specs.Build.{compiled_reply as sheet_reply, judged_reply as sheet_judged, sheet_stages, sheet_text}
 use Rattle.prem_source.specs.Source.{judged_reply as source_judged, source_reply, tasks_text}
-use Rattle.prem_sources.specs.Sources.{reading_run, source_limit}
+use Rattle.prem_exec.specs.Sources.Sources.{reading_run, source_limit}
 use Rattle.prem_running.specs.Running.{compiled_reply, judged_reply as run_judged, run_limit, set_reply}
 use Rattle.prem_one.specs.One.{judged_answer as one_judged, one_answer, one_set, one_stages, run_text, state_of}
-use Rattle.prem_sample.specs.Trace.{sample_set}
-use Rattle.prem_sample.specs.Sample.{compiled_reply as sample_compiled, judged_reply as sample_judged}
+use Rattle.prem_running.specs.Sample.Trace.{sample_set}
+use Rattle.prem_running.specs.Sample.Sample.{compiled_reply as sample_compiled, judged_reply as sample_judged}
 use Rattle.prem_top.specs.Read.{IsRead, SetIsRead, RunIsRead}
 use Rattle.prem_top.specs.Promises.{IsAccepted, IsSoundTelling, Keeps, TellsFirstBroken, IsFirstBroken}
 use Rattle.prem_top.specs.PromiseLaws.{BuildsKeep, ChecksKeep, ListsKeep, OnesKeep, RunsKeep, SamplesKeep, SourcesKeep}

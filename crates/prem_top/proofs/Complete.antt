@@ -13,15 +13,15 @@ use Rattle.prem_image.specs.Text.{ImageText}
 use Rattle.prem_tasks.specs.Compiled.{compiled}
 use Rattle.prem_exec.specs.Forms.{RunText, image_in, run_in}
 use Rattle.prem_exec.specs.Exec.{exec_limit, exec_stages, image_limit, image_of_bytes, run_reply, run_of_bytes as image_run_of_bytes}
-use Rattle.prem_sources.specs.Sources.{reading_run, reading_set, reading_tasks, run_limit, run_of_bytes, set_in, set_limit, set_of_bytes, set_with, source_limit, task_of_source}
+use Rattle.prem_exec.specs.Sources.Sources.{reading_run, reading_set, reading_tasks, run_limit, run_of_bytes, set_in, set_limit, set_of_bytes, set_with, source_limit, task_of_source}
 use Rattle.prem_build.specs.declared.sheet.Sheet.{Sheet}
 use Rattle.prem_build.specs.declared.sheet.Sheet.TheVariants.{Bounds, Image, Listing}
 use Rattle.prem_build.specs.Build.{compiled_reply, judged_reply as sheet_judged, sheet_stages, sheet_text}
 use Rattle.prem_one.specs.One.{judged_answer as one_judged, one_answer, one_set, one_stages, run_text, state_of}
 use Rattle.prem_source.specs.Source.{judged_reply as source_judged, source_reply, source_stages, tasks_text}
 use Rattle.prem_running.specs.Running.{compiled_reply as run_reply_of, judged_reply as run_judged, run_stages, set_reply}
-use Rattle.prem_sample.specs.Trace.{sample_set}
-use Rattle.prem_sample.specs.Sample.{compiled_reply as sample_reply_of, judged_reply as sample_judged, sample_stages}
+use Rattle.prem_running.specs.Sample.Trace.{sample_set}
+use Rattle.prem_running.specs.Sample.Sample.{compiled_reply as sample_reply_of, judged_reply as sample_judged, sample_stages}
 use Rattle.prem_top.specs.Answer.{IsAnswer, asked_answer, command_answer, Answered, Ends}
 use Rattle.prem_top.specs.Complete.{IsThere, SourcesAreThere, SetIsThere, RunIsThere, ImageIsThere, Completes, IsComplete, Succeeds, one_succeeds, check_succeeds, build_succeeds, list_succeeds, source_succeeds, run_succeeds, exec_succeeds, sample_succeeds}
 

@@ -12,10 +12,10 @@ use Rattle.prem_cycle.specs.FactsOf.{report_of}
 use Rattle.prem_cycle.specs.Inputs.{IsTrace}
 use Rattle.prem_cycle.specs.Run.{memory_of}
 use Rattle.prem_cycle.specs.State.{first_tasks, start_of, task_in}
-use Rattle.prem_serve.specs.Requests.{PutWords}
+use Rattle.prem_sound.specs.Serve.Requests.{PutWords}
 use Rattle.prem_sound.specs.Sound.{AreInputs}
 use Rattle.prem_text.specs.Texts.{reads as program_of}
-use Rattle.prem_read_words.proofs.ProgramWords.{reads_have_words}
+use Rattle.prem_text.proofs.ReadWordsLemmas.ProgramWords.{reads_have_words}
 use Rattle.prem_meaning.specs.Expressions.{Outcome}
 use Rattle.prem_meaning.specs.Resolve.{resolve}
 use Rattle.prem_meaning.specs.Source.{source, unlimited}
@@ -23,11 +23,11 @@ use Rattle.prem_meaning.specs.Statements.{ProgramState}
 use Rattle.prem_ranges.proofs.AnalysisSound.{analysis_sound}
 use Rattle.prem_layout.specs.Footprint.{global_range}
 use Rattle.prem_layout.specs.Placed.{Coded, Placed, parts_of, placed_from}
-use Rattle.prem_promise.specs.Promised.{promise_in, promised, read_globals}
+use Rattle.prem_weave.specs.Promise.Promised.{promise_in, promised, read_globals}
 use Rattle.prem_tasks.specs.Broken.{TaskText, broken}
 use Rattle.prem_tasks.specs.Compiled.{compiled, placed_in}
-use Rattle.prem_accepted.specs.Accepted.{KeepsRules, setup_in}
-use Rattle.prem_accepted.proofs.Rules.{accepted_tasks_keep_rules}
+use Rattle.prem_sets_sound.specs.Accepted.Accepted.{KeepsRules, setup_in}
+use Rattle.prem_sets_sound.proofs.AcceptedLemmas.Rules.{accepted_tasks_keep_rules}
 use Rattle.prem_sets_sound.specs.Meant.{meant_at, meant_by, promises_in}
 use Rattle.prem_sets_sound.specs.Sound.{IsSoundSet}
 use Rattle.prem_sets_sound.proofs.Sound.{sets_are_sound, is_true}

@@ -3,7 +3,7 @@ use Rattle.std.proofs.Common.{◌≡◌, ◌+◌, ℕ, suc, Bool, true, false, L
 use Rattle.std.specs.Prelude.{if◌then◌else◌, codes}
 use Rattle.std.proofs.lemmas.Bool.{leb-true}
 use Rattle.prem_line.proofs.Chain.{same_Ok}
-use Rattle.prem_run.specs.Run.{Gathered, LineRefusal, run_of as lines_of_run}
+use Rattle.prem_set.specs.Run.Run.{Gathered, LineRefusal, run_of as lines_of_run}
 use Rattle.prem_set.specs.declared.fault.SetFail.{SetFail}
 use Rattle.prem_set.specs.declared.task.TaskEntry.{TaskEntry}
 use Rattle.prem_set.specs.SetFile.{SetData, set_of as set_of_text}
@@ -12,7 +12,7 @@ use Rattle.prem_answer.specs.declared.status.Status.{Status}
 use Rattle.prem_answer.specs.declared.status.Status.TheVariants.{Done, Refused}
 use Rattle.prem_answer.specs.Stages.{Reply, Reads, Stage, and_then, form_reply, later_reads, missing_reply, reading, replied, within_limit}
 use Rattle.prem_exec.specs.Forms.{RunText, line_why, run_in}
-use Rattle.prem_sources.specs.Sources.{names_of, reading_run, reading_set, reading_tasks, run_limit, run_of_bytes, set_in, set_limit, set_of_bytes, set_why, set_with, source_limit, task_of_source, task_with}
+use Rattle.prem_exec.specs.Sources.Sources.{names_of, reading_run, reading_set, reading_tasks, run_limit, run_of_bytes, set_in, set_limit, set_of_bytes, set_why, set_with, source_limit, task_of_source, task_with}
 use Rattle.prem_top.specs.Read.{IsRead, SourcesAreRead, SetIsRead, RunIsRead}
 
 -- ---- one reading

@@ -9,7 +9,7 @@ use Rattle.prem_command.specs.Words.{one, command_of, name_of, read_by}
 use Rattle.prem_answer.specs.declared.status.Status.{Status}
 use Rattle.prem_answer.specs.declared.status.Status.TheVariants.{Done, ReadFault, WriteFault}
 use Rattle.prem_answer.specs.Stages.{Reply}
-use Rattle.prem_sources.specs.Sources.{source_limit}
+use Rattle.prem_exec.specs.Sources.Sources.{source_limit}
 use Rattle.prem_one.specs.One.{output_lines, run_lines}
 use Rattle.prem_top.proofs.Samples.{five_text, five_state, five_is_unbroken, five_is_told}
 use Rattle.prem_top.specs.Answer.{Answered}

@@ -14,7 +14,7 @@ use Rattle.prem_build.specs.declared.sheet.Sheet.TheVariants.{Bounds, Image, Lis
 use Rattle.prem_build.proofs.Build.{sheet_is_fine}
 use Rattle.prem_source.proofs.Source.{source_is_fine}
 use Rattle.prem_running.proofs.Runs.{run_is_fine}
-use Rattle.prem_sample.proofs.Told.{sample_is_fine}
+use Rattle.prem_running.proofs.SampleLemmas.Told.{sample_is_fine}
 use Rattle.prem_top.specs.Answer.{asked_answer, command_answer, answer, IsAnswer, Answered as IsAnswered}
 use Rattle.prem_top.proofs.Headline.{headline_is}
 

@@ -15,12 +15,12 @@ use Rattle.prem_tasks.specs.Broken.{TaskText}
 use Rattle.prem_tasks.specs.Lawful.{are_new, device_names}
 use Rattle.prem_tasks.proofs.Distinct.{devices_are}
 use Rattle.prem_answer.specs.Stages.{Reads}
-use Rattle.prem_accepted.specs.Accepted.{HasTextValues, HasValues}
-use Rattle.prem_sources.specs.Sources.{set_with, task_with}
+use Rattle.prem_sets_sound.specs.Accepted.Accepted.{HasTextValues, HasValues}
+use Rattle.prem_exec.specs.Sources.Sources.{set_with, task_with}
 use Rattle.prem_one.specs.One.{one_set, one_task}
 use Rattle.prem_one.proofs.Sets.{one_name}
-use Rattle.prem_sample.specs.Draws.{numbers}
-use Rattle.prem_sample.specs.Trace.{behind_task, device_named, program_text, sample_devices, sample_set, task_names as sample_names, tasks_from}
+use Rattle.prem_running.specs.Sample.Draws.{numbers}
+use Rattle.prem_running.specs.Sample.Trace.{behind_task, device_named, program_text, sample_devices, sample_set, task_names as sample_names, tasks_from}
 use Rattle.prem_top.specs.Read.{SourcesAreRead}
 use Rattle.prem_top.specs.PromiseLaws.{SetsReadHaveValues}
 

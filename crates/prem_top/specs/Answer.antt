@@ -12,7 +12,7 @@ use Rattle.prem_build.specs.declared.sheet.Sheet.TheVariants.{Bounds, Image, Lis
 use Rattle.prem_build.specs.Build.{sheet_stages}
 use Rattle.prem_source.specs.Source.{source_stages}
 use Rattle.prem_running.specs.Running.{run_stages}
-use Rattle.prem_sample.specs.Sample.{sample_stages}
+use Rattle.prem_running.specs.Sample.Sample.{sample_stages}
 use Rattle.prem_top.specs.Headline.{CommandKeeps}
 
 -- ---- the commands

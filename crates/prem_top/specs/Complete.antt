@@ -4,11 +4,11 @@ use Rattle.std.specs.Io.KnownBytes.{append_known}
 use Rattle.prem_io.specs.Files.{Files, stored}
 use Rattle.prem_set.specs.declared.task.TaskEntry.{TaskEntry}
 use Rattle.prem_set.specs.SetFile.{SetData, set_of as set_of_text}
-use Rattle.prem_run.specs.Run.{Gathered, run_of as lines_of_run}
+use Rattle.prem_set.specs.Run.Run.{Gathered, run_of as lines_of_run}
 use Rattle.prem_image.specs.Text.{ImageText}
 use Rattle.prem_imagefile.specs.Reading.{read_as}
 use Rattle.prem_imagefile.specs.Spelling.{image_bytes}
-use Rattle.prem_fitting.specs.Named.{names_for}
+use Rattle.prem_report.specs.Fitting.Named.{names_for}
 use Rattle.prem_tasks.specs.Broken.{TaskText, TaskSet, broken, programs_of}
 use Rattle.prem_tasks.specs.Compiled.{compiled}
 use Rattle.prem_command.specs.Words.{Asked, one, check, build, list, source, run, exec, sample, RunAsked, command_of}
@@ -17,14 +17,14 @@ use Rattle.prem_answer.specs.declared.status.Status.TheVariants.{Done, OutOfMemo
 use Rattle.prem_answer.specs.Stages.{Reply}
 use Rattle.prem_exec.specs.Forms.{RunText}
 use Rattle.prem_exec.specs.Exec.{exec_limit, image_limit, run_reply}
-use Rattle.prem_sources.specs.Sources.{names_of, run_limit, set_limit, set_with, source_limit, task_with}
-use Rattle.prem_sheet.specs.Check.{check_text}
-use Rattle.prem_sheet.specs.Listing.{list_text}
+use Rattle.prem_exec.specs.Sources.Sources.{names_of, run_limit, set_limit, set_with, source_limit, task_with}
+use Rattle.prem_build.specs.Tables.Check.{check_text}
+use Rattle.prem_build.specs.Tables.Listing.{list_text}
 use Rattle.prem_one.specs.One.{one_set, run_text, state_of}
 use Rattle.prem_source.specs.Source.{tasks_text}
 use Rattle.prem_running.specs.Running.{compiled_reply as run_reply_of}
-use Rattle.prem_sample.specs.Trace.{sample_set}
-use Rattle.prem_sample.specs.Sample.{compiled_reply as sample_reply_of}
+use Rattle.prem_running.specs.Sample.Trace.{sample_set}
+use Rattle.prem_running.specs.Sample.Sample.{compiled_reply as sample_reply_of}
 
 -- ---- files
 

@@ -4,7 +4,7 @@
 use Rattle.std.specs.Prelude.{⊤, Option, None, Some}
 use Rattle.prem_command.specs.Words.{Asked, one, check, build, list, source, run, exec, sample}
 use Rattle.prem_answer.specs.Stages.{Reply, Reads}
-use Rattle.prem_sample.specs.Trace.{sample_set}
+use Rattle.prem_running.specs.Sample.Trace.{sample_set}
 use Rattle.prem_top.specs.Promises.{Keeps, IsSoundCheck, IsSoundBuild, IsSoundList, IsSoundRun, IsSoundSource, IsSoundOne, IsSoundSample, TellsFirstBroken, IsFirstBroken, IsFirstBrokenRun, IsFirstBrokenOne}
 
 -- what the answer to what is asked for promises, over what is read; `exec` runs any image

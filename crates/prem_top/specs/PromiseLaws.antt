@@ -1,6 +1,6 @@
 -- The laws on the answers to commands.
 use Rattle.std.specs.Prelude.{◌≡◌, ℕ, List}
-use Rattle.prem_accepted.specs.Accepted.{HasValues}
+use Rattle.prem_sets_sound.specs.Accepted.Accepted.{HasValues}
 use Rattle.prem_tasks.specs.Broken.{TaskSet}
 use Rattle.prem_command.specs.Words.{RunAsked}
 use Rattle.prem_answer.specs.Stages.{Reply, Reads, replied}
@@ -9,8 +9,8 @@ use Rattle.prem_build.specs.Build.{sheet_stages}
 use Rattle.prem_source.specs.Source.{source_stages}
 use Rattle.prem_running.specs.Running.{run_stages}
 use Rattle.prem_one.specs.One.{one_stages}
-use Rattle.prem_sample.specs.Trace.{sample_set}
-use Rattle.prem_sample.specs.Sample.{sample_stages}
+use Rattle.prem_running.specs.Sample.Trace.{sample_set}
+use Rattle.prem_running.specs.Sample.Sample.{sample_stages}
 use Rattle.prem_top.specs.Read.{SetIsRead}
 use Rattle.prem_top.specs.Promises.{Keeps, IsSoundCheck, IsSoundBuild, IsSoundList, IsSoundRun, IsSoundSource, IsSoundOne, IsSoundSample, TellsFirstBroken, IsFirstBroken, IsFirstBrokenRun, IsFirstBrokenOne}
 

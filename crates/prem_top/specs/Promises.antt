@@ -11,7 +11,7 @@ use Rattle.prem_layout.specs.Rules.{Refusal}
 use Rattle.prem_tasks.specs.Told.{Told}
 use Rattle.prem_tasks.specs.Broken.{TaskSet, broken, programs_of}
 use Rattle.prem_tasks.specs.Compiled.{CompiledText, compiled}
-use Rattle.prem_accepted.specs.Accepted.{HasValues, setup_in}
+use Rattle.prem_sets_sound.specs.Accepted.Accepted.{HasValues, setup_in}
 use Rattle.prem_sets_sound.specs.Sound.{IsSoundSet}
 use Rattle.prem_imagefile.specs.Spelling.{image_bytes}
 use Rattle.prem_command.specs.Words.{RunAsked}
@@ -19,16 +19,16 @@ use Rattle.prem_answer.specs.declared.status.Status.TheVariants.{Done, Refused}
 use Rattle.prem_answer.specs.Stages.{Reply, Reads}
 use Rattle.prem_exec.specs.Forms.{RunText}
 use Rattle.prem_exec.specs.Exec.{state_at}
-use Rattle.prem_run_sound.specs.Runs.{SuitsRun, EndsWell}
-use Rattle.prem_refusal.specs.Texts.{refusal_line}
-use Rattle.prem_sources.specs.Sources.{source_limit}
-use Rattle.prem_sheet.specs.Check.{check_text}
-use Rattle.prem_sheet.specs.Listing.{list_text}
+use Rattle.prem_running.specs.RunSound.Runs.{SuitsRun, EndsWell}
+use Rattle.prem_answer.specs.Refusal.Texts.{refusal_line}
+use Rattle.prem_exec.specs.Sources.Sources.{source_limit}
+use Rattle.prem_build.specs.Tables.Check.{check_text}
+use Rattle.prem_build.specs.Tables.Listing.{list_text}
 use Rattle.prem_source.specs.Source.{tasks_text}
 use Rattle.prem_running.specs.Running.{run_limit, compiled_reply}
 use Rattle.prem_one.specs.One.{one_set, output_lines, run_lines, state_of}
-use Rattle.prem_sample.specs.Trace.{sample_set}
-use Rattle.prem_sample.specs.Sample.{compiled_reply as sample_reply}
+use Rattle.prem_running.specs.Sample.Trace.{sample_set}
+use Rattle.prem_running.specs.Sample.Sample.{compiled_reply as sample_reply}
 use Rattle.prem_top.specs.Read.{IsRead, SetIsRead, RunIsRead}
 
 -- ---- accepted

@@ -2,11 +2,11 @@
 use Rattle.std.specs.Prelude.{◌≡◌, ◌≤◌, ◌+◌, ⊤, ℕ, List, [], ◌∷◌, length, Some, Ok}
 use Rattle.prem_set.specs.declared.task.TaskEntry.{TaskEntry}
 use Rattle.prem_set.specs.SetFile.{SetData, set_of as set_of_text}
-use Rattle.prem_run.specs.Run.{Gathered, run_of as lines_of_run}
+use Rattle.prem_set.specs.Run.Run.{Gathered, run_of as lines_of_run}
 use Rattle.prem_tasks.specs.Broken.{TaskText, TaskSet}
 use Rattle.prem_answer.specs.Stages.{Reads}
 use Rattle.prem_exec.specs.Forms.{RunText}
-use Rattle.prem_sources.specs.Sources.{names_of, run_limit, set_limit, set_with, source_limit, task_with}
+use Rattle.prem_exec.specs.Sources.Sources.{names_of, run_limit, set_limit, set_with, source_limit, task_with}
 
 -- reading number n is that of this file: it gives these bytes, which are at most so many
 pub record IsRead (reads : Reads) (n limit : ℕ) (name bytes : List ℕ) : Type 0 where

@@ -14,7 +14,7 @@ use prem_exec::exec_answer;
 use prem_io::{Sink, Store};
 use prem_one::one_answer;
 use prem_running::run_answer;
-use prem_sample::sample_answer;
+use prem_running::sample::sample_answer;
 use prem_source::source_answer;
 use std::alloc::Global;
 

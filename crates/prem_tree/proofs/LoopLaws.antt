@@ -1,16 +1,16 @@
 -- Loops turn by turn, and calls by number.
 use Rattle.std.proofs.Common.{◌≡◌, ℕ, zero, suc, ◌-◌, ◌<◌, ◌≤◌, Bool, true, false, eqb, List, refl, ap, sym, ◌∙◌, arith, get_or, length, drop, ◌+◌, [], Ok, Err}
 use Rattle.std.specs.Prelude.{slice_get}
-use Rattle.prem_state.specs.declared.fail.SourceFail.TheVariants.{Wrong}
+use Rattle.prem_tree.specs.declared.state.fail.SourceFail.TheVariants.{Wrong}
 use Rattle.std.proofs.lemmas.List.{at_drop_more}
 use Rattle.prem_list.specs.declared.Sequence.{Sequence}
 use Rattle.prem_list.specs.Sequence.{items_of}
-use Rattle.prem_resolve.specs.declared.resolved.Step.{Step, Block, Row_of-Step, end_of-Step, more_of-Step, items-the_row-Step, items_hidden-the_row-Step-0}
-use Rattle.prem_resolve.specs.declared.resolved.Step.TheBlock.{hidden-the_row-Step-0}
-use Rattle.prem_resolve.specs.declared.resolved.Routine.{Routine}
+use Rattle.prem_tree.specs.declared.resolve.resolved.Step.{Step, Block, Row_of-Step, end_of-Step, more_of-Step, items-the_row-Step, items_hidden-the_row-Step-0}
+use Rattle.prem_tree.specs.declared.resolve.resolved.Step.TheBlock.{hidden-the_row-Step-0}
+use Rattle.prem_tree.specs.declared.resolve.resolved.Routine.{Routine}
 use Rattle.prem_meaning.specs.Expressions.{Outcome, and_then}
 use Rattle.prem_meaning.specs.Statements.{ProgramState, choose, counting, bounded}
-use Rattle.prem_state.specs.Interpreter.{GoesWrong}
+use Rattle.prem_tree.specs.State.Interpreter.{GoesWrong}
 use Rattle.prem_tree.specs.StepMeaning.{NotedCalls, do_step, do_row, do_list, do_if_there, noted_calls, noted_jobs}
 
 -- functions that agree, behind an outcome

@@ -4,8 +4,8 @@ use Rattle.prem_list.specs.Sequence.{items_of}
 use Rattle.prem_tree.specs.declared.source.SourceRun.{SourceRun}
 use Rattle.prem_meaning.specs.Expressions.{Outcome}
 use Rattle.prem_meaning.specs.Statements.{MarkedCall, ProgramState}
-use Rattle.prem_resolve.specs.declared.resolved.Resolved.{Resolved}
-use Rattle.prem_resolve.specs.ResolvedOf.{resolved_of}
+use Rattle.prem_tree.specs.declared.resolve.resolved.Resolved.{Resolved}
+use Rattle.prem_tree.specs.Resolve.ResolvedOf.{resolved_of}
 use Rattle.prem_meaning.specs.Source.{unlimited, start, do_jobs}
 
 -- the run ends in a state, of whose marked calls it names the functions

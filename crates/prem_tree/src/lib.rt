@@ -2,11 +2,13 @@
 #![tactic(auto)]
 
 mod checked;
+pub mod resolve;
 mod run;
 mod source;
+pub mod state;
 
+pub use crate::state::{FnId, SourceFail};
 pub use checked::Checked;
-pub use prem_state::{FnId, SourceFail};
 pub use prem_syntax::{
     BinOp, Count, Expr, ForNames, Function, Global, Initial, Item, Kind, Local, Mark, Name, Param,
     Place, Program, Region, Sequence, Stmt, Ty, TypeRule, UnOp,

@@ -1,13 +1,13 @@
 // Runs statements and calls.
 ghost use Rattle.std.specs.Prelude.{◌≡◌, ℕ, ◌≤◌, List, [], map, length};
-ghost use Rattle.prem_resolve.specs.ResolvedOf.{term_of};
+ghost use Rattle.prem_tree.specs.Resolve.ResolvedOf.{term_of};
 ghost use Rattle.prem_meaning.specs.Statements.{bounded, holds};
 ghost use Rattle.prem_meaning.specs.Source.{everywhere};
-ghost use Rattle.prem_state.specs.Interpreter.{state_of, Gives};
+ghost use Rattle.prem_tree.specs.State.Interpreter.{state_of, Gives};
 ghost use Rattle.prem_tree.specs.StepMeaning.{do_step, do_list, do_counting, do_call, noted_calls, noted_jobs};
 
-use prem_resolve::{Routine, Step, Term};
-use prem_state::{Counter, FnId, Interpreter, SourceFail, set_local};
+use crate::resolve::{Routine, Step, Term};
+use crate::state::{Counter, FnId, Interpreter, SourceFail, set_local};
 use std::alloc::Global;
 
 /// The turns that a counting loop may take: an int has no more values.

@@ -8,10 +8,10 @@ ghost use Rattle.prem_meaning.specs.Source.{constants_of, initial_words, source}
 ghost use Rattle.prem_tree.specs.SourceRun.{IsRun, resolved_outcome};
 
 use crate::checked::Checked;
+use crate::resolve::{Resolved, resolve};
 use crate::run::Callees;
+use crate::state::{FnId, Interpreter, SourceFail, stored};
 use prem_list::Sequence;
-use prem_resolve::{Resolved, resolve};
-use prem_state::{FnId, Interpreter, SourceFail, stored};
 use prem_syntax::{Global, Initial, Ty};
 use std::alloc::{AllocError, Global as Allocator};
 

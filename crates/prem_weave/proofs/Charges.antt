@@ -10,9 +10,9 @@ use Rattle.prem_isa.specs.declared.effect.AccessKind.TheVariants.{Loads}
 use Rattle.prem_isa.specs.Plain.{Did}
 use Rattle.prem_asm.specs.Steps.{total}
 use Rattle.prem_asm.proofs.Cost.{total-append}
-use Rattle.prem_position.specs.Finish.{due_of}
-use Rattle.prem_script.specs.Script.{did_due, change_due}
-use Rattle.prem_script.specs.Conforms.{GoesOrDone, IsStretch}
+use Rattle.prem_runs.specs.Position.Finish.{due_of}
+use Rattle.prem_sound.specs.Script.Script.{did_due, change_due}
+use Rattle.prem_sound.specs.Script.Conforms.{GoesOrDone, IsStretch}
 use Rattle.prem_weave.specs.Weave.{Section, segment_of, IsSection, ends, goes, calls, dids_of, due_along, stated_by, charge, WeavesAreCharged}
 
 abbrev pub Fetching : Did → Type 0

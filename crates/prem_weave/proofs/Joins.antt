@@ -2,8 +2,8 @@
 use Rattle.std.proofs.Common.{◌≡◌, ℕ, ◌+◌, ◌*◌, refl, ap, ◌∙◌, sym, subst, arith, ◌∷◌, ◌++◌, append_assoc, length}
 use Rattle.prem_plant.specs.declared.plant.Plant.{Plant}
 use Rattle.prem_isa.specs.Plain.{plain_step, plain_steps}
-use Rattle.prem_position.specs.Finish.{due_of}
-use Rattle.prem_script.specs.Script.{change_due}
+use Rattle.prem_runs.specs.Position.Finish.{due_of}
+use Rattle.prem_sound.specs.Script.Script.{change_due}
 use Rattle.prem_weave.specs.Weave.{section_dids, Weave, ends, goes, calls, joined, dids_of, calls_of, marks_of, IsWeave, Goes, WeavesJoin, RunsJoin, DuesJoin}
 
 dids_joined : (w v : Weave) → dids_of (joined w v) ≡ dids_of w ++ dids_of v

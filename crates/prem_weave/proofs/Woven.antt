@@ -10,11 +10,11 @@ use Rattle.prem_isa.specs.Plain.{TaskRun, PlainState, Did, plain_did, plain_star
 use Rattle.prem_isa.proofs.PlainLaws.{plain_steps-next, plain_run-add, plain_steps-first, plain_steps-add, plain_trace-add}
 use Rattle.prem_lru.specs.Order.{HaveRoom}
 use Rattle.prem_cycle.specs.Core.{is_predictable}
-use Rattle.prem_position.specs.Finish.{due_of}
-use Rattle.prem_script.specs.Script.{Begun, none_begun, begun_after, Call, no_call, call_at, Script, did_due, change_due}
-use Rattle.prem_script.specs.Scripts.{Reading, Mark, no_mark, mark_at}
-use Rattle.prem_script.specs.Conforms.{begun_behind, KeepsCalls, due_behind, GoesOrDone, GoesOrEnds, IsStretch, IsCall, AtMark, KeepsMarks, NoMark}
-use Rattle.prem_script.proofs.Pieces.{pieces_join, begun_behind-append, stretches_keep, memory_begins, calls_keep, marks_join, marks_rest, dues_join, calls_are_due_before}
+use Rattle.prem_runs.specs.Position.Finish.{due_of}
+use Rattle.prem_sound.specs.Script.Script.{Begun, none_begun, begun_after, Call, no_call, call_at, Script, did_due, change_due}
+use Rattle.prem_sound.specs.Script.Scripts.{Reading, Mark, no_mark, mark_at}
+use Rattle.prem_sound.specs.Script.Conforms.{begun_behind, KeepsCalls, due_behind, GoesOrDone, GoesOrEnds, IsStretch, IsCall, AtMark, KeepsMarks, NoMark}
+use Rattle.prem_sound.proofs.ScriptLemmas.Pieces.{pieces_join, begun_behind-append, stretches_keep, memory_begins, calls_keep, marks_join, marks_rest, dues_join, calls_are_due_before}
 use Rattle.prem_weave.specs.Weave.{Section, segment_of, section_dids, IsSection, Weave, ends, goes, calls, dids_of, calls_of, marks_of, IsWeave, due_along, SectionGoes, Goes, WovenRunsConform, WovenRunsGivePromises}
 
 -- ---- one call

@@ -8,11 +8,11 @@ use Rattle.prem_isa.specs.declared.effect.AccessKind.TheVariants.{Loads}
 use Rattle.prem_isa.specs.Plain.{TaskRun, PlainState, Did, plain_did, plain_start, plain_step, plain_steps, plain_trace}
 use Rattle.prem_lru.specs.Order.{AllIn, HaveRoom}
 use Rattle.prem_cycle.specs.State.{Setup}
-use Rattle.prem_position.specs.Finish.{due_of}
+use Rattle.prem_runs.specs.Position.Finish.{due_of}
 use Rattle.prem_asm.specs.Steps.{total}
-use Rattle.prem_script.specs.Script.{lines_of_dids, cost_of_dids, Call, IsCovered, did_due, change_due}
-use Rattle.prem_script.specs.Scripts.{Reading, Mark, Promise, ReadsOwn}
-use Rattle.prem_script.specs.Conforms.{IsOwnDid, IsStretch, Conforms, GivesPromise}
+use Rattle.prem_sound.specs.Script.Script.{lines_of_dids, cost_of_dids, Call, IsCovered, did_due, change_due}
+use Rattle.prem_sound.specs.Script.Scripts.{Reading, Mark, Promise, ReadsOwn}
+use Rattle.prem_sound.specs.Script.Conforms.{IsOwnDid, IsStretch, Conforms, GivesPromise}
 
 -- ---- one marked call
 

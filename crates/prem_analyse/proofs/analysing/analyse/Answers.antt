@@ -1,7 +1,7 @@
 use Rattle.std.proofs.Common.{Option, ap}
 use Rattle.prem_syntax.specs.SyntaxOf.{program_of}
-use Rattle.prem_walk.specs.declared.found.Broken.{Broken}
-use Rattle.prem_walk.specs.View.{breach_of, found_of}
+use Rattle.prem_analysis.specs.declared.ranging.found.Broken.{Broken}
+use Rattle.prem_analysis.specs.Ranging.View.{breach_of, found_of}
 use Rattle.prem_analyse.proofs.Counts.{told_named}
 use Rattle.prem_analyse.proofs.analysing.analyse.Goals as goal
 

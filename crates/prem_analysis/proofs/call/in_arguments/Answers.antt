@@ -2,11 +2,11 @@ use Rattle.std.proofs.Common.{ap, ◌∙◌, map, drop, Option, arith, ◌+◌}
 use Rattle.std.specs.Prelude.{slice_get}
 use Rattle.std.specs.Option.{option_map}
 use Rattle.prem_syntax.specs.SyntaxOf.{parameter_of}
-use Rattle.prem_resolve.specs.ResolvedOf.{term_of}
+use Rattle.prem_tree.specs.Resolve.ResolvedOf.{term_of}
 use Rattle.prem_ranges.specs.RangeRules.{RangeBreach, first, first_of}
 use Rattle.prem_ranges.specs.RangeBreaches.{in_arguments, in_term}
-use Rattle.prem_walk.specs.View.{env_of, found_of}
-use Rattle.prem_walk.specs.SiteOf.{site_of}
+use Rattle.prem_analysis.specs.Ranging.View.{env_of, found_of}
+use Rattle.prem_analysis.specs.Ranging.SiteOf.{site_of}
 use Rattle.prem_analysis.specs.Arms.{in_given}
 use Rattle.prem_analysis.proofs.Arguments.{next_argument}
 use Rattle.prem_analysis.proofs.call.in_arguments.Goals as goal

@@ -4,7 +4,7 @@ use Rattle.std.proofs.lemmas.Int.{ints}
 use Rattle.prem_word.specs.Ranges.{Span}
 use Rattle.prem_ranges.specs.Environment.{at_local, with_range}
 use Rattle.prem_ranges.specs.After.{body_range}
-use Rattle.prem_walk.specs.View.{span_of, env_of}
+use Rattle.prem_analysis.specs.Ranging.View.{span_of, env_of}
 use Rattle.prem_analysis.proofs.InPlace.{set_again}
 use Rattle.prem_analysis.proofs.loops.enter_body.Goals as goal
 

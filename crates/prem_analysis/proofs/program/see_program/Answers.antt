@@ -1,7 +1,7 @@
 use Rattle.std.proofs.Common.{List, ap, ◌∙◌, [], None, ℕ}
 use Rattle.std.specs.Borrow.{Bor}
 use Rattle.prem_syntax.specs.declared.tree.Global.{Global}
-use Rattle.prem_resolve.specs.declared.resolved.Routine.{Routine}
+use Rattle.prem_tree.specs.declared.resolve.resolved.Routine.{Routine}
 use Rattle.prem_analysis.specs.Seen.{Seen}
 use Rattle.prem_analysis.specs.Functions.{site_at, behind_routines}
 use Rattle.prem_analysis.proofs.Behind.{seen}

@@ -1,10 +1,10 @@
 use Rattle.std.proofs.Common.{List, map, drop, ap, arith}
 use Rattle.std.proofs.lemmas.List.{drop_all}
 use Rattle.prem_syntax.specs.SyntaxOf.{local_of}
-use Rattle.prem_resolve.specs.declared.resolved.Term.{Term}
-use Rattle.prem_resolve.specs.ResolvedOf.{term_of}
-use Rattle.prem_walk.specs.View.{env_of}
-use Rattle.prem_walk.specs.SiteOf.{site_of}
+use Rattle.prem_tree.specs.declared.resolve.resolved.Term.{Term}
+use Rattle.prem_tree.specs.Resolve.ResolvedOf.{term_of}
+use Rattle.prem_analysis.specs.Ranging.View.{env_of}
+use Rattle.prem_analysis.specs.Ranging.SiteOf.{site_of}
 use Rattle.prem_analysis.specs.Seen.{seen_of}
 use Rattle.prem_analysis.proofs.Behind.{declared_next, no_terms}
 use Rattle.prem_analysis.proofs.routine.declare_all.Goals as goal

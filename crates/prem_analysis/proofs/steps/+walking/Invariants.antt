@@ -1,6 +1,6 @@
 use Rattle.std.proofs.Common.{drop}
-use Rattle.prem_walk.specs.View.{env_of}
-use Rattle.prem_walk.specs.SiteOf.{site_of}
+use Rattle.prem_analysis.specs.Ranging.View.{env_of}
+use Rattle.prem_analysis.specs.Ranging.SiteOf.{site_of}
 use Rattle.prem_analysis.specs.Seen.{seen_of}
 use Rattle.prem_analysis.proofs.Behind.{Walking}
 use Rattle.prem_analysis.proofs.steps.+walking.Given as goal

@@ -7,8 +7,8 @@ use Rattle.prem_tasks.specs.SetOf.{set_of}
 use Rattle.prem_answer.specs.declared.answer.Answer.{Answer}
 use Rattle.prem_answer.specs.Stages.{Reply, reply_of, IsGiven}
 use Rattle.prem_answer.proofs.Reading.{halt_passes}
-use Rattle.prem_sources.specs.Sources.{Passes, reading_set}
-use Rattle.prem_sources.proofs.Passing.{comes_as}
+use Rattle.prem_exec.specs.Sources.Sources.{Passes, reading_set}
+use Rattle.prem_exec.proofs.SourcesLemmas.Passing.{comes_as}
 use Rattle.prem_build.specs.Build.{compiled_reply, sheet_stages}
 use Rattle.prem_build.proofs.Build.{no_set, set_told}
 use Rattle.prem_build.proofs.answer.sheet_answer.Goals as goal

@@ -1,9 +1,9 @@
 use Rattle.std.proofs.Common.{◌≡◌, ◌<◌, ◌-◌, ◌++◌, ◌∷◌, [], suc, Ok, Err, Some, None, length, drop, refl, sym, ap, ◌∙◌, arith, rules, vec_len, map}
 use Rattle.std.proofs.lemmas.Result.{err_from_is_err_and}
 use Rattle.std.proofs.lemmas.List.{map_push, take_rest}
-use Rattle.prem_token.specs.declared.fail.FrontFail.TheVariants.{Token}
-use Rattle.prem_token.specs.Reading.{Fails}
-use Rattle.prem_token.specs.Lexeme.{seen_of, lexeme_of}
+use Rattle.prem_lexer.specs.declared.token.fail.FrontFail.TheVariants.{Token}
+use Rattle.prem_lexer.specs.Token.Reading.{Fails}
+use Rattle.prem_lexer.specs.Token.Lexeme.{seen_of, lexeme_of}
 use Rattle.prem_lexer.specs.Tokens.{step, place, at_end}
 use Rattle.prem_lexer.proofs.Lexing.{passed, taken, full, wrong, whole, at_last, none_is, may_end}
 use Rattle.prem_lexer.proofs.lexer.tokens.Goals as goal

@@ -1,6 +1,6 @@
 use Rattle.std.proofs.Common.{◌≡◌, ◌≤◌, ◌-◌, ◌+◌, drop, map, vec_len}
 use Rattle.prem_lexer.specs.declared.lexer.Mode.TheVariants.{Skip}
-use Rattle.prem_token.specs.Lexeme.{seen_of}
+use Rattle.prem_lexer.specs.Token.Lexeme.{seen_of}
 use Rattle.prem_lexer.specs.Tokens.{with_front, lex, beginning}
 use Rattle.prem_lexer.proofs.lexer.tokens.Given as goal
 

@@ -1,6 +1,6 @@
 use Rattle.std.proofs.Common.{◌≡◌, drop, map}
 use Rattle.prem_syntax.specs.SyntaxOf.{item_of}
-use Rattle.prem_canonical.specs.Canonical.{program_lexemes}
+use Rattle.prem_text.specs.Canonical.Canonical.{program_lexemes}
 use Rattle.prem_print.specs.Written.{written}
 use Rattle.prem_print.proofs.item.push_items.Given as goal
 

@@ -2,7 +2,7 @@ use Rattle.std.proofs.Common.{◌≡◌, ◌+◌, List, ◌∷◌, map, drop, ap
 use Rattle.std.proofs.lemmas.List.{drop_more}
 use Rattle.prem_syntax.specs.declared.tree.Local.{Local}
 use Rattle.prem_syntax.specs.SyntaxOf.{local_of}
-use Rattle.prem_canonical.specs.Canonical.{local_lexemes, locals_lexemes}
+use Rattle.prem_text.specs.Canonical.Canonical.{local_lexemes, locals_lexemes}
 use Rattle.prem_print.proofs.Writing.{behind_part}
 use Rattle.prem_print.proofs.item.push_locals.Goals as goal
 

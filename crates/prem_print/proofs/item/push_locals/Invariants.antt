@@ -1,6 +1,6 @@
 use Rattle.std.proofs.Common.{◌≡◌, drop, map}
 use Rattle.prem_syntax.specs.SyntaxOf.{local_of}
-use Rattle.prem_canonical.specs.Canonical.{locals_lexemes}
+use Rattle.prem_text.specs.Canonical.Canonical.{locals_lexemes}
 use Rattle.prem_print.specs.Written.{written}
 use Rattle.prem_print.proofs.item.push_locals.Given as goal
 

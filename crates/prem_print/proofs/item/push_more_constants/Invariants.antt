@@ -1,5 +1,5 @@
 use Rattle.std.proofs.Common.{◌≡◌, drop}
-use Rattle.prem_canonical.specs.Canonical.{more_constants}
+use Rattle.prem_text.specs.Canonical.Canonical.{more_constants}
 use Rattle.prem_print.specs.Written.{written}
 use Rattle.prem_print.proofs.item.push_more_constants.Given as goal
 

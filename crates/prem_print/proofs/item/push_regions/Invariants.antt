@@ -1,6 +1,6 @@
 use Rattle.std.proofs.Common.{◌≡◌, drop, map}
 use Rattle.prem_syntax.specs.SyntaxOf.{region_of}
-use Rattle.prem_canonical.specs.Canonical.{regions_lexemes}
+use Rattle.prem_text.specs.Canonical.Canonical.{regions_lexemes}
 use Rattle.prem_print.specs.Written.{written}
 use Rattle.prem_print.proofs.item.push_regions.Given as goal
 

@@ -1,10 +1,10 @@
 use Rattle.std.proofs.Common.{◌≡◌, ℕ, ◌-◌, List, [], length, take, ap, sym, subst, ◌∙◌, map, vec_len}
 use Rattle.prem_syntax.specs.SyntaxOf.{item_of, program_of}
 use Rattle.prem_text.specs.Texts.{reads}
-use Rattle.prem_canonical.specs.Canonical.{program_lexemes}
-use Rattle.prem_canonical.specs.Printed.{printed}
-use Rattle.prem_canonical.specs.Law.{IsTextOf, ReadBack}
-use Rattle.prem_canonical.proofs.Read.{canonical_divided, canonical_read}
+use Rattle.prem_text.specs.Canonical.Canonical.{program_lexemes}
+use Rattle.prem_text.specs.Canonical.Printed.{printed}
+use Rattle.prem_text.specs.Canonical.Law.{IsTextOf, ReadBack}
+use Rattle.prem_text.proofs.CanonicalLemmas.Read.{canonical_divided, canonical_read}
 use Rattle.prem_print.specs.Written.{written}
 use Rattle.prem_print.proofs.Writing.{last_taken}
 use Rattle.prem_print.proofs.printer.print.Goals as goal

@@ -3,7 +3,7 @@ use Rattle.std.proofs.lemmas.List.{drop_more}
 use Rattle.prem_syntax.specs.declared.tree.Stmt.{Stmt}
 use Rattle.prem_syntax.specs.Syntax.{Statement}
 use Rattle.prem_syntax.specs.SyntaxOf.{statement_of, statements_of}
-use Rattle.prem_canonical.specs.Canonical.{statement_lexemes, statements_lexemes}
+use Rattle.prem_text.specs.Canonical.Canonical.{statement_lexemes, statements_lexemes}
 use Rattle.prem_print.specs.Written.{written}
 use Rattle.prem_print.proofs.Blocks.{block_is}
 use Rattle.prem_print.proofs.Writing.{behind_part}

@@ -1,6 +1,6 @@
 use Rattle.std.proofs.Common.{◌≡◌, drop}
 use Rattle.prem_syntax.specs.SyntaxOf.{statements_of}
-use Rattle.prem_canonical.specs.Canonical.{statements_lexemes}
+use Rattle.prem_text.specs.Canonical.Canonical.{statements_lexemes}
 use Rattle.prem_print.specs.Written.{written}
 use Rattle.prem_print.proofs.statement.+statements.Given as goal
 

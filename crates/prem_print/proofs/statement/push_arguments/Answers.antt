@@ -2,7 +2,7 @@ use Rattle.std.proofs.Common.{◌≡◌, ◌-◌, ℕ, List, ◌∷◌, OnOk, le
 use Rattle.std.proofs.lemmas.List.{drop_more, take_rest}
 use Rattle.prem_syntax.specs.declared.tree.Expr.{Expr}
 use Rattle.prem_syntax.specs.SyntaxOf.{expression_of}
-use Rattle.prem_canonical.specs.Canonical.{expression_lexemes, argument_lexemes}
+use Rattle.prem_text.specs.Canonical.Canonical.{expression_lexemes, argument_lexemes}
 use Rattle.prem_print.proofs.Writing.{behind_part}
 use Rattle.prem_print.proofs.statement.push_arguments.Goals as goal
 

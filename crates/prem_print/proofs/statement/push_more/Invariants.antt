@@ -1,6 +1,6 @@
 use Rattle.std.proofs.Common.{◌≡◌, drop, map}
 use Rattle.prem_syntax.specs.SyntaxOf.{expression_of}
-use Rattle.prem_canonical.specs.Canonical.{more_arguments}
+use Rattle.prem_text.specs.Canonical.Canonical.{more_arguments}
 use Rattle.prem_print.specs.Written.{written}
 use Rattle.prem_print.proofs.statement.push_more.Given as goal
 

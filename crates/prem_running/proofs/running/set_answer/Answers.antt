@@ -3,7 +3,7 @@ use Rattle.std.proofs.Common.{ap}
 use Rattle.prem_tasks.specs.SetOf.{set_of}
 use Rattle.prem_command.specs.Words.{run_asked}
 use Rattle.prem_answer.specs.Stages.{reply_of}
-use Rattle.prem_sources.specs.Sources.{input_of}
+use Rattle.prem_exec.specs.Sources.Sources.{input_of}
 use Rattle.prem_running.proofs.Runs.{input_fits, limit_within, told_is}
 use Rattle.prem_running.proofs.running.set_answer.Goals as goal
 

@@ -3,7 +3,7 @@ use Rattle.prem_image.specs.Text.{image_text}
 use Rattle.prem_answer.specs.Stages.{Reply}
 use Rattle.prem_answer.specs.declared.status.Status.TheVariants.{Done}
 use Rattle.prem_exec.specs.Exec.{run_reply}
-use Rattle.prem_sources.specs.Sources.{input_of}
+use Rattle.prem_exec.specs.Sources.Sources.{input_of}
 use Rattle.prem_running.proofs.running.told.Goals as goal
 
 abbrev done : Reply → Reply

@@ -9,8 +9,8 @@ use Rattle.prem_answer.specs.declared.answer.Answer.{Answer}
 use Rattle.prem_answer.specs.Stages.{Reply, reply_of, IsGiven, IsReadAs}
 use Rattle.prem_answer.proofs.Reading.{halt_passes}
 use Rattle.prem_exec.specs.Forms.{RunText}
-use Rattle.prem_sources.specs.Sources.{Passes, input_of, reading_set, run_limit, run_of_bytes}
-use Rattle.prem_sources.proofs.Passing.{comes_as}
+use Rattle.prem_exec.specs.Sources.Sources.{Passes, input_of, reading_set, run_limit, run_of_bytes}
+use Rattle.prem_exec.proofs.SourcesLemmas.Passing.{comes_as}
 use Rattle.prem_source.specs.Source.{source_reply, source_stages}
 use Rattle.prem_source.proofs.Source.{no_run, no_set, run_told}
 use Rattle.prem_source.proofs.answer.source_answer.Goals as goal

@@ -1,7 +1,7 @@
 use Rattle.std.proofs.Common.{ℕ, ◌≡◌, ◌≤◌, ◌∙◌, ◌++◌, [], ap, sym, subst, arith, List, map, length, get_or, slice_index, Vec, Global}
 use Rattle.std.specs.List.{AllByRecursion}
 use Rattle.prem_list.specs.Sequence.{items_of}
-use Rattle.prem_resolve.specs.declared.resolved.Routine.{Routine}
+use Rattle.prem_tree.specs.declared.resolve.resolved.Routine.{Routine}
 use Rattle.prem_split.specs.Walk.{HasFrame, frame_of}
 use Rattle.prem_split.specs.Tables.{depths_of}
 use Rattle.std.specs.Borrow.{Bor}

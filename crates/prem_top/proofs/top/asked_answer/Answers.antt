@@ -4,7 +4,7 @@ use Rattle.prem_io.specs.Files.{Files}
 use Rattle.prem_command.specs.Words.{asked_in}
 use Rattle.prem_answer.specs.Stages.{Comes, IsGiven, reply_of}
 use Rattle.prem_top.specs.Answer.{asked_answer}
-use Rattle.prem_sample.specs.Sample.{sample_reply}
+use Rattle.prem_running.specs.Sample.Sample.{sample_reply}
 use Rattle.prem_top.proofs.Told.{given_at_once}
 use Rattle.prem_top.proofs.top.asked_answer.Goals as goal
 

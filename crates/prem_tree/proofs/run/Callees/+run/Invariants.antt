@@ -1,8 +1,8 @@
 use Rattle.std.proofs.Common.{◌≡◌, ◌+◌, ◌*◌, drop}
-use Rattle.prem_resolve.specs.ResolvedOf.{term_of}
+use Rattle.prem_tree.specs.Resolve.ResolvedOf.{term_of}
 use Rattle.prem_meaning.specs.Statements.{bounded, holds}
 use Rattle.prem_meaning.specs.Source.{everywhere}
-use Rattle.prem_state.specs.Interpreter.{state_of}
+use Rattle.prem_tree.specs.State.Interpreter.{state_of}
 use Rattle.prem_tree.specs.StepMeaning.{do_step, do_list, do_counting, noted_calls}
 use Rattle.prem_tree.proofs.Weights.{weight, list_weight, left_of}
 use Rattle.prem_tree.proofs.run.Callees.+run.Given as goal

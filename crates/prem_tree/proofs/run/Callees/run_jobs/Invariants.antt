@@ -1,5 +1,5 @@
 use Rattle.std.proofs.Common.{◌≡◌, []}
-use Rattle.prem_state.specs.Interpreter.{state_of}
+use Rattle.prem_tree.specs.State.Interpreter.{state_of}
 use Rattle.prem_tree.specs.StepMeaning.{noted_jobs}
 use Rattle.prem_tree.proofs.run.Callees.run_jobs.Given as goal
 

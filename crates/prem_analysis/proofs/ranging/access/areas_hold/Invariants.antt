@@ -1,0 +1,8 @@
+use Rattle.std.proofs.Common.{◌≡◌, map, drop}
+use Rattle.prem_ranges.specs.Regions.{areas_hold}
+use Rattle.prem_analysis.specs.Ranging.View.{span_of}
+use Rattle.prem_analysis.specs.Ranging.SiteOf.{area_of}
+use Rattle.prem_analysis.proofs.ranging.access.areas_hold.Given as goal
+
+abbrev pub invariant-loop-a : goal.invariant-loop-a
+invariant-loop-a l = areas_hold l.g (span_of l.r) (map area_of l.areas) ≡ areas_hold l.g (span_of l.r) (map area_of (drop l.a-index l.areas))

@@ -1,0 +1,7 @@
+use Rattle.std.proofs.Common.{◌≡◌, ◌++◌, drop}
+use Rattle.prem_ranges.specs.Saves.Saves.{saved}
+use Rattle.prem_analysis.specs.Ranging.View.{env_of, saves_of}
+use Rattle.prem_analysis.proofs.ranging.saves.save.Given as goal
+
+abbrev pub invariant-loop-k : goal.invariant-loop-k
+invariant-loop-k l = saves_of l.saves.items ++ saved (env_of l.env) (drop l.k-index l.locals) ≡ saved (env_of l.env) l.locals

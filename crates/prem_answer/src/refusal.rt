@@ -1,0 +1,7 @@
+//! The text of each rule that a task set may break, and the answer to a set that breaks one.
+mod reply;
+mod rule;
+mod text;
+
+pub use reply::refused;
+pub use rule::rule_text;

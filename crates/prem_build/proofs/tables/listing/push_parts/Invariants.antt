@@ -1,0 +1,15 @@
+use Rattle.std.proofs.Common.{◌≡◌, ◌++◌, map, drop}
+use Rattle.prem_list.specs.Sequence.{items_of}
+use Rattle.prem_syntax.specs.Name.{name_bytes}
+use Rattle.prem_compile.specs.CompiledOf.{compiled_of}
+use Rattle.prem_build.specs.Tables.Listing.{parts_text, list_text}
+use Rattle.prem_build.proofs.tables.listing.push_parts.Given as goal
+
+abbrev pub invariant-loop-part : goal.invariant-loop-part
+invariant-loop-part l =
+    let c = compiled_of l.compiled in
+    record {
+      at : l.n ≡ l.part-index;
+      text : l.text.items ++ parts_text c.image.content c.layout l.n (drop l.part-index (items_of l.compiled.parts)) (map name_bytes l.names)
+          ≡ l.initial.text.items ++ list_text c;
+    }

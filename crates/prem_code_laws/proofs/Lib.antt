@@ -1,0 +1,3 @@
+pub mod ExprLawsLemmas
+pub mod GenLawsLemmas
+pub mod PrefetchLawsLemmas

@@ -1,0 +1,3 @@
+pub mod ExprLaws
+pub mod GenLaws
+pub mod PrefetchLaws

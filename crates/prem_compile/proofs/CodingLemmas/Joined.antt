@@ -1,0 +1,102 @@
+-- What a coded set gives to the stages behind it.
+use Rattle.std.proofs.Common.{◌≡◌, ℕ, ◌+◌, List, [], ◌∷◌, Option, None, Some, Result, Ok, Err, map, refl, ap, sym, ◌∙◌, subst, Vec, Global, is_none, IsTrue}
+use Rattle.std.specs.Prelude.{slice_index}
+use Rattle.std.specs.Option.{option_map}
+use Rattle.prem_syntax.specs.Syntax.{ProgramText}
+use Rattle.prem_lexer.specs.declared.token.fail.FrontFail.{FrontFail}
+use Rattle.prem_text.specs.Texts.{reads}
+use Rattle.prem_meaning.specs.Rules.{Breach}
+use Rattle.prem_meaning.specs.GroupTwo as meaning
+use Rattle.prem_meaning.specs.Resolved.{Resolved}
+use Rattle.prem_tree.specs.declared.resolve.resolved.Resolved.{Resolved as ResolvedTree}
+use Rattle.prem_check.specs.Told.{told_of as told_of_breach}
+use Rattle.prem_ranges.specs.GroupThree.{turn_bounds}
+use Rattle.prem_analyse.specs.declared.analysed.Analysed.{Analysed}
+use Rattle.prem_analyse.specs.Analysed.{analysed_text}
+use Rattle.prem_template.specs.Limits.{Excess, frame, depth, excess}
+use Rattle.prem_template.specs.Parts.{parts_of as task_parts}
+use Rattle.prem_fit_laws.proofs.MeasureLemmas.ProgramNodes.{codes_are_small}
+use Rattle.prem_layout.specs.Rules.{or_else, refused_by, first_among, of_excess, group_four}
+use Rattle.prem_tasks.specs.Told.{of_program}
+use Rattle.prem_tasks.specs.Broken.{TaskText, TaskSet, unread, group_one, program_before, programs_of, group_two, bounded, coded_of}
+use Rattle.prem_tasks.specs.Compiled.{coded_in}
+use Rattle.prem_stages.specs.declared.front.Coded.{Coded}
+use Rattle.prem_stages.specs.Coded.{IsCoded}
+use Rattle.prem_prefetch.specs.Sizes.Sizes.{AreCodesOf}
+use Rattle.prem_stages.proofs.Groups.{late_four}
+use Rattle.prem_compile.specs.Coding.Programs.{meant_by, text_by}
+use Rattle.prem_compile.specs.Coding.Tasks.{Codes, AreForSet}
+
+-- ---- no rule is broken
+
+neither : {A : Type 0} (a b : Option A) → or_else a b ≡ None → (a ≡ None) × (b ≡ None)
+neither None b e = (refl, e)
+neither (Some x) b e = absurd cc
+
+not_refused : {R : Type 0} (task : Option ℕ) (rule : Option R) → refused_by task rule ≡ None → rule ≡ None
+not_refused task None e = refl
+not_refused task (Some r) e = absurd cc
+
+is_formed : (p : ProgramText) → group_two p ≡ None → meaning.IsWellFormed p
+is_formed p e = by (meaning.group_two p) e
+  where
+    by : (found : Option Breach) → option_map (λ b. of_program (told_of_breach b)) found ≡ None → IsTrue (is_none found)
+    by None e = refl
+    by (Some b) e = absurd cc
+
+not_exceeding : (q : Resolved) → group_four q ≡ None → excess q ≡ None
+not_exceeding q e = by (excess q) e
+  where
+    by : (found : Option Excess) → of_excess q.routines found ≡ None → found ≡ None
+    by None e = refl
+    by (Some (frame f)) e = absurd cc
+    by (Some (depth line)) e = absurd cc
+
+-- ---- the code of a set's programs
+
+abbrev AreCoded : List TaskText → List ProgramText → Type 0
+AreCoded ts ps = AreCodesOf ps (coded_of ts ps)
+
+codes_from : (n : ℕ) (ts : List TaskText) → first_among group_one n ts ≡ None → first_among group_two n (programs_of ts) ≡ None → first_among late_four n (coded_of ts (programs_of ts)) ≡ None → AreCoded ts (programs_of ts)
+codes_from n [] one two four = tt
+codes_from n (t ∷ ts) one two four = by (reads t.text) refl one two four (codes_from (n + 1) ts)
+  where
+    by : (read : Result ProgramText FrontFail) → reads t.text ≡ read → or_else (refused_by (Some n) (unread read)) (first_among group_one (n + 1) ts) ≡ None → first_among group_two n (program_before read (programs_of ts)) ≡ None →
+        first_among late_four n (coded_of (t ∷ ts) (program_before read (programs_of ts))) ≡ None →
+        (first_among group_one (n + 1) ts ≡ None → first_among group_two (n + 1) (programs_of ts) ≡ None → first_among late_four (n + 1) (coded_of ts (programs_of ts)) ≡ None → AreCoded ts (programs_of ts)) →
+        AreCoded (t ∷ ts) (program_before read (programs_of ts))
+    by (Err fail) is one two four more = absurd cc
+    by (Ok p) is one two four more =
+        let of_two = neither (refused_by (Some n) (group_two p)) (first_among group_two (n + 1) (programs_of ts)) two in
+        let of_four = neither (refused_by (Some n) (group_four (bounded p))) (first_among late_four (n + 1) (coded_of ts (programs_of ts))) four in (
+          record {
+            turns = slice_index (turn_bounds p);
+            formed = is_formed p (not_refused (Some n) (group_two p) of_two.0);
+            program = refl;
+            kept = not_exceeding (bounded p) (not_refused (Some n) (group_four (bounded p)) of_four.0);
+            code = refl;
+            small = codes_are_small t.text p (slice_index (turn_bounds p)) (task_parts (bounded p).routines) is;
+          },
+          more one of_two.1 of_four.1,
+        )
+
+pub codes_of_set : (set : TaskSet) (c : Coded) → IsCoded set c → AreCodesOf (programs_of set.tasks) (coded_in set)
+codes_of_set set c is = codes_from 0 set.tasks is.texts_are_read is.programs_are_formed is.code_is_there
+
+-- ---- all that is known of a set's tasks
+
+-- the programs as they are lent to the readers of turns and of names
+pub are_for_set : (set : TaskSet) (c : Coded) (read named : List Analysed) (programs : List ResolvedTree) (turns : List (Vec ℕ Global)) → IsCoded set c → read ≡ c.programs.items → named ≡ c.programs.items →
+    map (λ (t : Vec ℕ Global). t.items) turns ≡ map turn_bounds (map analysed_text read) → map meant_by programs ≡ map text_by (map analysed_text named) → AreForSet set programs turns c.codes.items
+are_for_set set c read named programs turns is er en bounds resolved = record {
+  programs_are = resolved ∙ ap (λ (all : List Analysed). map text_by (map analysed_text all)) en ∙ ap (map text_by) is.programs_are;
+  turns_are = bounds ∙ ap (λ (all : List Analysed). map turn_bounds (map analysed_text all)) er ∙ ap (map turn_bounds) is.programs_are;
+  codes_are = is.codes_are;
+  count = is.count;
+  coded = codes_of_set set c is;
+}
+
+-- lists that are lent are the same
+pub lent_for_set : (set : TaskSet) (programs lent : List ResolvedTree) (turns words : List (Vec ℕ Global)) (codes : List Codes) → lent ≡ programs → words ≡ turns → AreForSet set programs turns codes → AreForSet set lent words codes
+lent_for_set set programs lent turns words codes ep et h =
+    subst (λ (us : List (Vec ℕ Global)). AreForSet set lent us codes) (sym et) (subst (λ (rs : List ResolvedTree). AreForSet set rs turns codes) (sym ep) h)

@@ -1,8 +1,0 @@
-use Rattle.std.proofs.Common.{◌≡◌, ◌++◌, drop, take}
-use Rattle.std.specs.Int.{w32, to_le_bytes}
-use Rattle.std.specs.List.{flat_map}
-use Rattle.prem_content.proofs.bytes.low_bytes_of.Given as goal
-
-abbrev pub invariant-loop-word : goal.invariant-loop-word
-invariant-loop-word l =
-    l.bytes.items ++ flat_map (λ w. take l.size (to_le_bytes w32 w)) (drop l.word-index l.words) ≡ flat_map (λ w. take l.size (to_le_bytes w32 w)) l.words

@@ -1,9 +1,0 @@
-//! What memory holds at the start of a run: code and globals at their places.
-#![tactic(auto)]
-
-mod bytes;
-mod content;
-mod patch;
-
-pub use bytes::global_bytes;
-pub use content::{Block, put_blocks, put_globals, zeros};

@@ -1,6 +1,0 @@
-use Rattle.std.proofs.Common.{◌≡◌, drop, []}
-use Rattle.prem_counts.specs.Count.{counts_behind}
-use Rattle.prem_counts.proofs.table.counts.Given as goal
-
-abbrev pub invariant-loop-f : goal.invariant-loop-f
-invariant-loop-f l = counts_behind l.output l.mark l.known.items l.rest (drop l.f-index l.fs) ≡ counts_behind l.output l.mark [] l.turns l.fs

@@ -1,8 +1,0 @@
-//! The reader of expressions: one token after the other, without recursion.
-#![tactic(auto)]
-
-mod copy;
-mod expression;
-
-pub use copy::copy_expression;
-pub use expression::{Move, Open, State, advance};

@@ -1,0 +1,17 @@
+use Rattle.std.proofs.Common.{ap, sym, ◌∙◌, map}
+use Rattle.prem_list.specs.Sequence.{items_of}
+use Rattle.prem_tree.specs.Resolve.ResolvedOf.{term_of}
+use Rattle.prem_asm.specs.Pieces.{followed}
+use Rattle.prem_asm.specs.PiecesOf.{pieces_of}
+use Rattle.prem_asm.proofs.Rows.{followed_none}
+use Rattle.prem_template.specs.Steps.{declare_code}
+use Rattle.prem_gen.specs.Term.Numbers.{from_part}
+use Rattle.prem_gen.proofs.RoutineLemmas.Lists.{drop_end}
+use Rattle.prem_gen.proofs.routine.routine.put_locals.Goals as goal
+
+pub returns-clause-pieces : goal.returns-clause-pieces
+returns-clause-pieces c =
+    sym (followed_none (pieces_of (items_of c.loop-value.pieces)))
+    ∙ ap (λ xs. followed (pieces_of (items_of c.loop-value.pieces)) (declare_code (from_part c.args.task.now.first) c.loop-value.slot (map term_of xs)))
+    (sym (drop_end c.args.locals.now c.loop-value.value-index c.loop-value-test.false))
+    ∙ c.loop-value.invariant.pieces

@@ -1,6 +1,0 @@
-//! What memory holds at the start of a run of placed tasks.
-#![tactic(auto)]
-
-mod content;
-
-pub use content::{put_tasks, task_bytes};

@@ -1,0 +1,153 @@
+// What one task has computed, but for memory and its outputs.
+ghost use Rattle.std.specs.Prelude.{◌≡◌, ◌+◌, ◌%◌, ◌<◌, ◌≤◌, true, false, nat_le, nat_lt, length, IfOk, OnSome};
+ghost use Rattle.prem_list.specs.Sequence.{items_of, room_of};
+ghost use Rattle.prem_isa.specs.Plain.{next_input};
+ghost use Rattle.prem_cycle.specs.State.{first_task};
+ghost use Rattle.prem_cycle.specs.Issue.{job_begun, task_after};
+ghost use Rattle.prem_cycle.specs.FactsOf.{inputs_size, with_word};
+ghost use Rattle.prem_machine.specs.Issue.Tasks.{moved_but_output, with_outputs};
+
+use prem_image::TaskRecord;
+use prem_isa::{Change, Effect, Phase, first_registers, set_register};
+use prem_list::Sequence;
+use std::alloc::{AllocError, Global};
+use std::marker::Model;
+
+/// As many input words as a task may have.
+pub const INPUTS: usize = 100_000;
+
+/// One task on the core: its registers, its program counter, its phase, and its input words. Contracts see it as
+/// the task that has put out nothing; the words that it puts out are kept by the caller.
+///
+/// The program counter is a multiple of 4.
+#[derive(Drop)]
+pub struct Core {
+    pub(crate) registers: [u32; 32],
+    pub(crate) pc: u32,
+    pub(crate) phase: Phase,
+    /// All words, with room for the greatest number of them.
+    inputs: Vec<u32>,
+    /// The words that were taken.
+    taken: usize,
+}
+
+impl Model for Core {
+    ghost use Rattle.prem_cycle.specs.State.{Task};
+
+    ghost Value = { Task };
+
+    ghost use Rattle.prem_machine.specs.Issue.Fields.{IsCore, core_task};
+
+    ghost view = { core_task };
+
+    ghost invariant = { IsCore };
+}
+
+impl Core {
+    /// The task before its first job. It fails only for want of memory, of which it takes all here.
+    pub fn new(alloc: Global, task: &TaskRecord, words: &[u32]) -> Result<Core, AllocError>
+        requires entry { task.now.entry % 4 ≡ 0 }
+        requires words { length words.now ≤ inputs_size }
+        ensures { IfOk result (λ core. core ≡ first_task task.now words.now) }
+    {
+        let mut inputs = Vec::with_capacity(alloc, INPUTS)?;
+        inputs.extend_from_slice(words)?;
+        Ok(Core {
+            registers: first_registers(task.stack),
+            pc: task.entry,
+            phase: Phase::Compatible,
+            inputs,
+            taken: 0,
+        })
+    }
+
+    /// Puts an input word behind the others. It answers false where the task has as many as it may have, and then
+    /// nothing changes.
+    pub fn append_input(&mut self, word: u32) -> bool
+        ensures room { result ≡ nat_lt (self.old.used + length self.old.left) inputs_size }
+        ensures appended { result ≡ true → self.new ≡ with_word word self.old }
+        ensures kept { result ≡ false → self.new ≡ self.old }
+    {
+        if self.inputs.len() >= INPUTS {
+            return false;
+        }
+        self.inputs.push_reserved(word);
+        true
+    }
+
+    /// The address of its next instruction.
+    pub fn pc(&self) -> u32
+        ensures same { result ≡ self.now.pc }
+        ensures aligned { result % 4 ≡ 0 }
+    {
+        self.pc
+    }
+
+    /// The part of its interval in which its next instruction stands.
+    pub fn phase(&self) -> Phase
+        ensures { result ≡ self.now.phase }
+    {
+        self.phase
+    }
+
+    /// Whether all its input words are taken.
+    pub fn is_used_up(&self) -> bool
+        ensures { result ≡ nat_le (length self.now.left) 0 }
+    {
+        self.taken == self.inputs.len()
+    }
+
+    /// The input word that it takes next; 0 where all are taken.
+    pub(crate) fn next_input(&self) -> u32
+        ensures { result ≡ next_input self.now.left }
+    {
+        match self.inputs.get(self.taken) {
+            Some(word) => *word,
+            None => 0,
+        }
+    }
+
+    /// Goes on by an executed instruction. Behind `pm.done` the task's next job begins. A word that is put out is
+    /// put behind the outputs, which have room for it.
+    pub fn advance(&mut self, task: &TaskRecord, effect: Effect, outputs: &mut Sequence<u32>)
+        requires register { effect.rd < 32 }
+        requires pc { effect.pc % 4 ≡ 0 }
+        requires entry { task.now.entry % 4 ≡ 0 }
+        requires room { OnSome effect.output (length (items_of outputs.old) < room_of outputs.old) }
+        ensures task { with_outputs (items_of outputs.new) self.new
+            ≡ task_after task.now effect (with_outputs (items_of outputs.old) self.old) }
+        ensures room { room_of outputs.new ≡ room_of outputs.old }
+    {
+        if let Some(word) = effect.output {
+            outputs.put(word);
+        }
+        self.move_on(effect);
+        match effect.change {
+            Change::Job => self.begin_job(task),
+            Change::Stay | Change::Memory | Change::Execute { .. } | Change::End => {}
+        }
+    }
+
+    /// The task behind an instruction, but for its output.
+    fn move_on(&mut self, effect: Effect)
+        requires register { effect.rd < 32 }
+        requires pc { effect.pc % 4 ≡ 0 }
+        ensures { self.new ≡ moved_but_output effect self.old }
+    {
+        set_register(&mut self.registers, effect.rd, effect.value);
+        self.pc = effect.pc;
+        self.phase = effect.change.phase_after(self.phase);
+        if effect.input && self.taken < self.inputs.len() {
+            self.taken += 1;
+        }
+    }
+
+    /// The task's next job begins.
+    fn begin_job(&mut self, task: &TaskRecord)
+        requires { task.now.entry % 4 ≡ 0 }
+        ensures { self.new ≡ job_begun task.now self.old }
+    {
+        self.registers = first_registers(task.stack);
+        self.pc = task.entry;
+    }
+}

@@ -1,0 +1,114 @@
+// The lines that an instruction touches, and what that does to cache and memory.
+ghost use Rattle.std.specs.Prelude.{◌≡◌, ◌/◌, ◌<◌, true, List, length};
+ghost use Rattle.prem_isa.specs.Decode.{Fits};
+ghost use Rattle.prem_lru.specs.Entries.{to_front};
+ghost use Rattle.prem_lru.specs.CacheState.{IsCache, is_resident, touch_of};
+ghost use Rattle.prem_cycle.specs.State.{Task};
+ghost use Rattle.prem_cycle.specs.Issue.{effect_in, issued_with, line_touch, view_touched};
+ghost use Rattle.prem_machine.specs.Issue.Attempts.{CanIssue};
+ghost use Rattle.prem_machine.specs.Issue.Touches.{line_touch_as};
+
+use crate::issue::task::Core;
+use prem_isa::{Effect, Instr};
+use prem_lru::{Cache, Memory};
+use std::marker::Model;
+
+/// A touch of a line: its number, whether it was resident, and whether another line was written back for it.
+#[derive(Clone, Copy, PartialEq, Eq, Debug)]
+pub struct LineTouch {
+    pub line: u32,
+    pub hit: bool,
+    pub back: bool,
+}
+
+/// The touches of an instruction: that of its fetch, and then that of a load or store. Contracts see them as a list.
+#[derive(Drop)]
+pub struct Touches {
+    pub(crate) fetch: LineTouch,
+    pub(crate) access: Option<LineTouch>,
+}
+
+impl Model for Touches {
+    ghost use Rattle.std.specs.Prelude.{List};
+    ghost use Rattle.prem_cycle.specs.Issue.{LineTouch};
+
+    ghost Value = { List LineTouch };
+
+    ghost use Rattle.prem_machine.specs.Issue.TouchFields.{touches_of};
+
+    ghost view = { touches_of };
+}
+
+impl Touches {
+    ghost use Rattle.std.specs.Prelude.{◌≡◌, ◌∷◌};
+    ghost use Rattle.prem_machine.specs.Issue.Touches.{line_touch_as};
+    ghost use Rattle.prem_machine.specs.Issue.TouchFields.{access_touches};
+
+    /// That of the fetch, and that of a load or store, if there is one.
+    pub fn both(&self) -> (LineTouch, Option<LineTouch>)
+        ensures { self.now ≡ line_touch_as result.0 ∷ access_touches result.1 }
+    {
+        (self.fetch, self.access)
+    }
+}
+
+/// The next instruction of a task issues: the line of its fetch is touched, then that of its data, and then what it
+/// loads is read, and what it stores comes into the resident line. Gives its effect as it is behind the touches.
+pub fn touch_lines(
+    cache: &mut Cache,
+    mem: &mut Memory,
+    core: &Core,
+    instr: Instr,
+    effect: Effect,
+) -> (Touches, Effect)
+    requires memory { length mem.old ≡ cache.old.plant.memory }
+    requires fits { Fits instr }
+    requires ready { CanIssue cache.old.plant.memory core.now.pc effect }
+    ensures issued { (tasks : List Task)
+        → issued_with to_front cache.old.plant.line tasks effect.stored (core.now.pc / cache.old.plant.line)
+        (touch_of to_front cache.old (core.now.pc / cache.old.plant.line) mem.old) effect.access
+        ≡ record {
+          work = record { tasks = tasks; cache = cache.new; memory = mem.new };
+          touches = result.0;
+        } }
+    ensures effect { result.1
+        ≡ effect_in cache.old.plant.memory
+        (view_touched to_front cache.old.plant.line cache.old mem.old core.now.pc effect.access) core.now instr effect }
+    ensures plant { cache.new.plant ≡ cache.old.plant }
+    ensures len { length mem.new ≡ length mem.old }
+    ensures kept { IsCache cache.new }
+{
+    let pc = core.pc();
+    let line = cache.line_of(pc);
+    let fetch = touch_line(cache, mem, line);
+    let access = match effect.access {
+        None => None,
+        Some(access) => {
+            let line = cache.line_of(access.address);
+            Some(touch_line(cache, mem, line))
+        }
+    };
+    let effect = core.effect_now(cache, mem, instr, effect);
+    if let Some(stored) = effect.stored {
+        cache.store(stored.address, stored.size as u8, stored.value);
+    }
+    (Touches { fetch, access }, effect)
+}
+
+fn touch_line(cache: &mut Cache, mem: &mut Memory, line: u32) -> LineTouch
+    requires memory { length mem.old ≡ cache.old.plant.memory }
+    requires line { line < cache.old.plant.memory / cache.old.plant.line }
+    ensures cache { cache.new ≡ (touch_of to_front cache.old line mem.old).cache }
+    ensures memory { mem.new ≡ (touch_of to_front cache.old line mem.old).memory }
+    ensures touch { line_touch_as result ≡ line_touch line (touch_of to_front cache.old line mem.old) }
+    ensures resident { is_resident cache.new line ≡ true }
+    ensures len { length mem.new ≡ length mem.old }
+    ensures kept { IsCache cache.new }
+{
+    let touch = cache.touch(mem, line);
+    LineTouch {
+        line,
+        hit: touch.hit,
+        back: touch.back,
+    }
+}

@@ -1,9 +1,0 @@
-use Rattle.std.proofs.Common.{◌≡◌, ◌++◌, map, drop, flat_map}
-use Rattle.prem_list.specs.Sequence.{items_of}
-use Rattle.prem_syntax.specs.SyntaxOf.{region_of}
-use Rattle.prem_walk.specs.SiteOf.{area_of}
-use Rattle.prem_marks.proofs.Stated.{stated}
-use Rattle.prem_marks.proofs.areas.areas_of.Given as goal
-
-abbrev pub invariant-loop-region : goal.invariant-loop-region
-invariant-loop-region l = map area_of (items_of l.areas) ++ flat_map (stated l.globals) (map region_of (drop l.region-index l.regions)) ≡ flat_map (stated l.globals) (map region_of l.regions)

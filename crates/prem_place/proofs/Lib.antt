@@ -1,0 +1,9 @@
+pub mod ContentLemmas
+pub mod FlatLemmas
+pub mod StandLemmas
+pub mod PlacingLemmas
+pub mod VerdictLemmas
+pub mod WordsLemmas
+pub mod TotalsLemmas
+pub mod ImagingLemmas
+pub mod BuildImageLemmas

@@ -1,0 +1,185 @@
+-- A task whose parts rise stands at its places.
+use Rattle.std.proofs.Common.{◌≡◌, ℕ, zero, suc, ◌+◌, ◌%◌, ◌^◌, ◌<◌, ◌≤◌, List, [], ◌∷◌, ◌++◌, Option, None, Some, refl, ap, sym, ◌∙◌, subst, arith, length, map, drop, append_assoc}
+use Rattle.std.specs.Prelude.{All, slice_index}
+use Rattle.std.specs.List.{AllByRecursion}
+use Rattle.std.proofs.lemmas.List.{length-map}
+use Rattle.std.proofs.lemmas.List.Elements.{All-nil, All-cons, recursion_from_All}
+use Rattle.prem_plant.specs.declared.plant.Plant.{Plant}
+use Rattle.prem_plant.specs.declared.layout.PartSize.{PartSize}
+use Rattle.prem_plant.specs.Ranges.{IsPlant}
+use Rattle.prem_plant.specs.Places.{Extent, default_places, last_end}
+use Rattle.prem_syntax.specs.Syntax.{Text, MarkText, ProgramText}
+use Rattle.prem_meaning.specs.GroupTwo.{IsWellFormed}
+use Rattle.prem_meaning.specs.Resolve.{functions_of, resolve}
+use Rattle.prem_meaning.specs.Resolved.{Routine, Resolved}
+use Rattle.prem_asm.specs.Pieces.{Pieces, size_of}
+use Rattle.prem_template.specs.Limits.{excess}
+use Rattle.prem_template.specs.Steps.{Parts}
+use Rattle.prem_template.specs.Parts.{parts_of, codes_of}
+use Rattle.prem_layout.specs.Plans.{Plan, plan_before, plans_from, plans_of}
+use Rattle.prem_layout.specs.Parts.{once, passes_of, part_count, task_parts, parts_from, area_parts}
+use Rattle.prem_layout.specs.Footprint.{TaskPlaces}
+use Rattle.prem_layout.specs.Stubs.{stub_of}
+use Rattle.prem_layout.specs.Bounds.{start_code}
+use Rattle.prem_layout.specs.Placed as layout
+use Rattle.prem_layout.specs.Placed.{Coded, sized_of, placed_at, task_places}
+use Rattle.prem_layout.proofs.Lawful.{parts_may_be_placed}
+use Rattle.prem_foot.specs.PlacesOf.{IsPlanAt}
+use Rattle.prem_foot.proofs.Standing.{plans_stand}
+use Rattle.prem_fit_laws.specs.Whole.{HasWords, ProgramHasWords}
+use Rattle.prem_fit_laws.proofs.Whole.{programs_have_words}
+use Rattle.prem_place.specs.Flat.Flat.{EndWithin}
+use Rattle.prem_place.specs.Stand.Rising.{Rise, starts_of, Stands, RestRises}
+use Rattle.prem_place.proofs.StandLemmas.Rising.{defaults_rise}
+use Rattle.prem_place.proofs.StandLemmas.TaskParts.{first_stands, others_rise}
+use Rattle.prem_place.specs.Placing.CodedOf.{AreDefault}
+use Rattle.prem_place.specs.Placing.Standing.{TaskRises, TasksRise, IsStanding}
+use Rattle.prem_place.proofs.PlacingLemmas.Formed.{are_few, has_its_job, functions_counted}
+
+-- ---- counts
+
+pub codes_counted : (parts : Parts) (fs : List Routine) → length (codes_of parts fs) ≡ length fs
+codes_counted parts [] = refl
+codes_counted parts (f ∷ fs) = ap suc (codes_counted parts fs)
+
+plans_few : (p : Resolved) (n : ℕ) (fs : List Routine) → length (plans_from p n fs) ≤ length fs
+plans_few p n [] = omega arith
+plans_few p n (f ∷ fs) = by f.text.mark (plans_from p (n + 1) fs) (plans_few p (n + 1) fs)
+  where
+    by : (mark : Option MarkText) (plans : List Plan) → length plans ≤ length fs → length (plan_before p n mark plans) ≤ suc (length fs)
+    by None plans le = omega (arith, le)
+    by (Some mark) plans le = omega (arith, le)
+
+pub record AreCounted (p : Resolved) : Type 0 where
+  pub functions : length p.routines ≤ 256
+  pub plans : length (plans_of p) ≤ 256
+  pub globals : length p.globals ≤ 256
+
+pub are_counted : (text : ProgramText) (bounds : ℕ → ℕ) → IsWellFormed text → AreCounted (resolve bounds text)
+are_counted text bounds formed =
+    let few = are_few text formed in
+    let long : length (resolve bounds text).routines ≡ length (functions_of text) = functions_counted (functions_of text) bounds 0 [] text in
+    let plans = plans_few (resolve bounds text) 0 (resolve bounds text).routines in
+    let fs = few.functions in
+    record { functions = omega (arith, fs, long); plans = omega (arith, fs, long, plans); globals = few.globals }
+
+-- ---- addresses
+
+aligned_all : (xs : List ℕ) → ((n : ℕ) → slice_index xs n % 4 ≡ 0) → All (λ start. start % 4 ≡ 0) xs
+aligned_all [] h = All-nil (λ start. start % 4 ≡ 0)
+aligned_all (x ∷ xs) h = All-cons (λ start. start % 4 ≡ 0) x xs (h 0) (aligned_all xs (λ n. h (suc n)))
+
+within_left : (f : ℕ → ℕ) (part : ℕ) (xs ys : List Pieces) → EndWithin f part (xs ++ ys) → EndWithin f part xs
+within_left f part [] ys h = tt
+within_left f part (x ∷ xs) ys h = (h.0, within_left f (part + 1) xs ys h.1)
+
+within_right : (f : ℕ → ℕ) (part : ℕ) (xs ys : List Pieces) → EndWithin f part (xs ++ ys) → EndWithin f (part + length xs) ys
+within_right f part [] ys h = let z : part ≡ part + 0 = omega arith in subst (λ n. EndWithin f n ys) z h
+within_right f part (x ∷ xs) ys h =
+    let z : part + 1 + length xs ≡ part + suc (length xs) = omega arith in
+    subst (λ n. EndWithin f n ys) z (within_right f (part + 1) xs ys h.1)
+
+-- ---- a task
+
+pub record Stood (p : Plant) (c : Coded) (places : List Extent) : Type 0 where
+  pub plans : AllByRecursion (IsPlanAt (task_places c.program places)) (plans_of c.program)
+  pub standing : IsStanding (placed_at p c (task_places c.program places))
+
+abbrev made : Text → ℕ → ℕ → Resolved → List Pieces → Coded
+made name period jobs program code = record { name = name; period = period; jobs = jobs; program = program; code = code }
+
+made_stands : (p : Plant) (name : Text) (period jobs : ℕ) (text : ProgramText) (bounds : ℕ → ℕ) (places : List Extent) → IsPlant p → IsWellFormed text → excess (resolve bounds text) ≡ None →
+    TaskRises p (made name period jobs (resolve bounds text) (codes_of (parts_of (resolve bounds text).routines) (resolve bounds text).routines)) places →
+    Stood p (made name period jobs (resolve bounds text) (codes_of (parts_of (resolve bounds text).routines) (resolve bounds text).routines)) places
+made_stands p name period jobs text bounds places plant formed none rises =
+    let q : Resolved = resolve bounds text in
+    let code : List Pieces = codes_of (parts_of q.routines) q.routines in
+    let at : TaskPlaces = task_places q places in
+    let stubs : List Pieces = map (stub_of once p.line at) (plans_of q) in
+    let starts : List ℕ = starts_of at in
+    let line = plant.line in
+    let memory = plant.memory in
+    let counted = are_counted text bounds formed in
+    let functions = counted.functions in
+    let plans = counted.plans in
+    let globals = counted.globals in
+    let job = has_its_job text bounds formed in
+    let long : length code ≡ length q.routines = codes_counted (parts_of q.routines) q.routines in
+    let small : p.memory ≤ 2 ^ 24 = omega (arith, memory.1) in
+    let short : p.line < 2 ^ 11 = omega (arith, line.1) in
+    let st : Stands once p.line p.memory rises.number q code places = first_stands once p.line p.memory rises.least rises.number q code rises.others places long small rises.rise in
+    let sized : length (map size_of code) ≡ length q.routines = length-map code size_of ∙ long in
+    let words : ProgramHasWords q p.line at starts = programs_have_words text bounds p.line at starts formed none short st.addresses in
+    let one : List Pieces = start_code q.job ∷ [] in
+    let within : EndWithin (slice_index starts) 0 (one ++ (code ++ stubs)) = subst (λ (f : ℕ → ℕ). EndWithin f 0 (one ++ (code ++ stubs))) (sym st.same) st.within in
+    record {
+      plans = plans_stand once p.memory rises.number text bounds (map size_of code) places formed small sized st.parts;
+      standing = record {
+        fit = record {
+          first_fit = (words.start, tt);
+          code_fit = recursion_from_All (HasWords starts) code words.code;
+          stubs_fit = recursion_from_All (HasWords starts) stubs words.stubs;
+          first_within = within_left (slice_index starts) 0 one (code ++ stubs) within;
+          code_within = within_left (slice_index starts) 1 code stubs within.1;
+          stubs_within = within_right (slice_index starts) 1 code stubs within.1;
+        };
+        count = sym (length-map at.places (λ (place : Extent). place.0)) ∙ st.addresses.count;
+        few = omega (arith, functions, plans, globals);
+        plans = refl;
+        aligned = aligned_all starts st.addresses.aligned;
+        same = st.same;
+        parts = record { code = long; functions = refl; stubs = length-map (plans_of q) (stub_of once p.line at) };
+        rises = st.rises;
+        job = job.there;
+        named = job.named;
+      };
+    }
+
+pub stood : (p : Plant) (c : Coded) (text : ProgramText) (bounds : ℕ → ℕ) (places : List Extent) → IsPlant p → c.program ≡ resolve bounds text → IsWellFormed text → excess c.program ≡ None →
+    c.code ≡ codes_of (parts_of c.program.routines) c.program.routines → TaskRises p c places → Stood p c places
+stood p c text bounds places plant same formed none code rises =
+    let q : Resolved = resolve bounds text in
+    let code' : c.code ≡ codes_of (parts_of q.routines) q.routines = code ∙ ap (λ (r : Resolved). codes_of (parts_of r.routines) r.routines) same in
+    let is : c ≡ made c.name c.period c.jobs q (codes_of (parts_of q.routines) q.routines) = ap (λ (r : Resolved). made c.name c.period c.jobs r c.code) same ∙ ap (made c.name c.period c.jobs q) code' in
+    let none' : excess q ≡ None = ap excess (sym same) ∙ none in
+    subst (λ (d : Coded). Stood p d places) (sym is)
+    (made_stands p c.name c.period c.jobs text bounds places plant formed none' (subst (λ (d : Coded). TaskRises p d places) is rises))
+
+-- ---- all tasks
+
+pub all_rise : (p : Plant) (cs : List Coded) (places : List Extent) → IsPlant p → AreDefault p cs places → TasksRise p cs places
+all_rise p cs places plant h =
+    let parts : List PartSize = layout.parts_of p h.devices cs in
+    let line = plant.line in
+    let one : 1 ≤ p.line = omega (arith, line.0) in
+    let may = parts_may_be_placed (passes_of p) p.line (map sized_of cs) h.devices one in
+    let rise : Rise p.memory 0 parts (default_places parts) = defaults_rise p.memory parts may.0 (subst (λ (ps : List Extent). last_end ps ≤ p.memory) h.same h.within) in
+    record { least = 0; number = 0; others = area_parts p.line 0 h.devices; rise = subst (Rise p.memory 0 parts) (sym h.same) rise }
+
+pub first_rises : (p : Plant) (c : Coded) (cs : List Coded) (places : List Extent) → TasksRise p (c ∷ cs) places → TaskRises p c places
+first_rises p c cs places h =
+    let mine : List PartSize = task_parts (passes_of p) h.number (map size_of c.code) c.program in
+    let more : List PartSize = parts_from (passes_of p) (h.number + 1) (map sized_of cs) in
+    record {
+      least = h.least;
+      number = h.number;
+      others = more ++ h.others;
+      rise = subst (λ (xs : List PartSize). Rise p.memory h.least xs places) (append_assoc mine more h.others) h.rise;
+    }
+
+pub rest_rises : (p : Plant) (c : Coded) (cs : List Coded) (places : List Extent) → length c.code ≡ length c.program.routines → TasksRise p (c ∷ cs) places → TasksRise p cs (drop (part_count c.program) places)
+unfolding first_rises
+rest_rises p c cs places long h =
+    let t = first_rises p c cs places h in
+    let rest : RestRises p.memory t.others (drop (part_count c.program) places) =
+    others_rise (passes_of p) p.memory t.least t.number c.program (map size_of c.code) t.others places (length-map c.code size_of ∙ long) t.rise in
+    record { least = rest.least; number = h.number + 1; others = h.others; rise = rest.rises }
+
+drop_nil : {A : Type 0} (n : ℕ) → drop {A = A} n [] ≡ []
+drop_nil zero = refl
+drop_nil (suc n) = refl
+
+pub drop_more : {A : Type 0} (n m : ℕ) (xs : List A) → drop (n + m) xs ≡ drop m (drop n xs)
+drop_more zero m xs = let z : zero + m ≡ m = omega arith in ap (λ k. drop k xs) z
+drop_more (suc n) m [] = drop_nil (suc n + m) ∙ sym (drop_nil m)
+drop_more (suc n) m (x ∷ xs) = let z : suc n + m ≡ suc (n + m) = omega arith in ap (λ k. drop k (x ∷ xs)) z ∙ drop_more n m xs

@@ -1,0 +1,10 @@
+pub mod Content
+pub mod Flat
+pub mod Stand
+pub mod Placed
+pub mod Placing
+pub mod Verdict
+pub mod Words
+pub mod Totals
+pub mod Imaging
+pub mod BuildImage

@@ -1,0 +1,45 @@
+-- Tasks whose parts stand at their places.
+use Rattle.std.specs.Prelude.{◌≡◌, ◌≤◌, ◌<◌, ◌%◌, ℕ, All, List, [], ◌∷◌, ◌++◌, length, map, slice_index}
+use Rattle.prem_plant.specs.declared.plant.Plant.{Plant}
+use Rattle.prem_plant.specs.declared.layout.PartSize.{PartSize}
+use Rattle.prem_plant.specs.Places.{Extent}
+use Rattle.prem_asm.specs.Pieces.{size_of}
+use Rattle.prem_layout.specs.Plans.{plans_of}
+use Rattle.prem_layout.specs.Parts.{passes_of, task_parts, parts_from, part_count}
+use Rattle.prem_layout.specs.Bounds.{start_code}
+use Rattle.prem_layout.specs.Placed.{Coded, Placed, sized_of, job_name, name_at}
+use Rattle.prem_place.specs.Flat.Flat.{AreFit}
+use Rattle.prem_place.specs.Flat.Blocks.{start_at, parts_in, RisesFrom, HasParts}
+use Rattle.prem_place.specs.Stand.Rising.{Rise, starts_of}
+use Rattle.prem_place.specs.Placed.PlacedOf.{placed_of}
+use Rattle.prem_place.specs.declared.placed.task.PlacedTask.{PlacedTask}
+
+-- the parts of a task rise, and others behind them
+pub record TaskRises (p : Plant) (c : Coded) (places : List Extent) : Type 0 where
+  pub least : ℕ
+  pub number : ℕ
+  pub others : List PartSize
+  pub rise : Rise p.memory least (task_parts (passes_of p) number (map size_of c.code) c.program ++ others) places
+
+-- the parts of tasks rise, and others behind them
+pub record TasksRise (p : Plant) (cs : List Coded) (places : List Extent) : Type 0 where
+  pub least : ℕ
+  pub number : ℕ
+  pub others : List PartSize
+  pub rise : Rise p.memory least (parts_from (passes_of p) number (map sized_of cs) ++ others) places
+
+-- a placed task whose code has words at the starts of its parts, but for jumps out of reach, and whose `job` is named so
+pub record IsStanding (t : Placed) : Type 0 where
+  pub fit : AreFit (starts_of t.at) (start_code t.table.job ∷ []) t.table.code t.table.stubs
+  pub count : length t.at.places ≡ part_count t.task.program
+  pub few : part_count t.task.program ≤ 1024
+  pub plans : t.plans ≡ plans_of t.task.program
+  pub aligned : All (λ start. start % 4 ≡ 0) (starts_of t.at)
+  pub same : slice_index (starts_of t.at) ≡ start_at t.at
+  pub parts : HasParts t
+  pub rises : RisesFrom (start_at t.at) 0 0 (parts_in t)
+  pub job : t.table.job < length t.task.program.routines
+  pub named : name_at t.task.program.routines t.table.job ≡ job_name
+
+abbrev pub stands_in : PlacedTask → Type 0
+stands_in t = IsStanding (placed_of t)

@@ -1,0 +1,45 @@
+-- The words of placed tasks, and what is told of the first jump out of reach.
+use Rattle.std.specs.Prelude.{◌≡◌, ◌<◌, ℕ, ⊤, List, [], map, length, slice_index_or, None, Some, Result, MatchResult}
+use Rattle.prem_place.specs.Content.Blocks.{Words}
+use Rattle.prem_layout.specs.Placed.{Placed, blocks_of}
+use Rattle.prem_layout.specs.Rules.{LateRule, Reach, Refusal, over_tasks, group_six}
+use Rattle.prem_place.specs.Flat.Blocks.{names_in, words_of}
+use Rattle.prem_place.specs.declared.flat.flat.FlatFail.{FlatFail}
+use Rattle.prem_place.specs.declared.flat.flat.FlatFail.TheVariants as flat
+use Rattle.prem_place.specs.Placed.PlacedOf.{placed_of}
+use Rattle.prem_place.specs.declared.placed.task.PlacedTask.{PlacedTask}
+use Rattle.prem_place.specs.Verdict.Told.{name_in, HasFunction}
+use Rattle.prem_place.specs.declared.words.words.FarJump.{FarJump}
+use Rattle.prem_place.specs.declared.words.words.WordsFail.{WordsFail}
+use Rattle.prem_place.specs.declared.words.words.WordsFail.TheVariants.{Far, OutOfMemory}
+
+-- the first part of a task that has a jump out of reach
+pub record FarPart (t : Placed) (part : ℕ) : Type 0 where
+  pub first : group_six t ≡ Some (Reach (slice_index_or (names_in t) part []))
+  pub there : part < length (names_in t)
+
+abbrev pub IsFarIn : Placed → FlatFail → Type 0
+IsFarIn t (flat.Far part) = FarPart t part
+IsFarIn t flat.OutOfMemory = ⊤
+
+-- the rule on jumps is broken there, with the function's name
+abbrev pub refusal_of : List Placed → FarJump → Refusal LateRule
+refusal_of ts j = record { task = Some j.task; rule = Reach (name_in ts j.task j.function) }
+
+-- the first jump out of reach, whose task and function are there
+pub record IsFirstFar (ts : List Placed) (j : FarJump) : Type 0 where
+  pub first : over_tasks group_six ts ≡ Some (refusal_of ts j)
+  pub there : HasFunction ts j.task j.function
+
+-- want of memory tells nothing
+abbrev pub IsFar : List Placed → WordsFail → Type 0
+IsFar ts (Far j) = IsFirstFar ts j
+IsFar ts OutOfMemory = ⊤
+
+-- no jump is out of reach exactly where it ends well, but for want of memory
+abbrev pub EndsFar : {A : Type 0} → List Placed → Result A WordsFail → Type 0
+EndsFar ts result = MatchResult result (λ _. over_tasks group_six ts ≡ None) (IsFar ts)
+
+-- the words of a task's parts at their places
+abbrev pub words_in : PlacedTask → List Words
+words_in t = map words_of (blocks_of (placed_of t))

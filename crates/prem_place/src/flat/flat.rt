@@ -1,0 +1,152 @@
+// The words of parts with code.
+ghost use Rattle.std.specs.Prelude.{◌≡◌, ◌+◌, ◌++◌, ◌∷◌, [], ◌≤◌, ◌%◌, ◌^◌, ◌<◌, None, All, OnOk, IfOk, MatchResult, length, map, slice_index};
+ghost use Rattle.std.specs.List.{AllByRecursion};
+ghost use Rattle.prem_list.specs.Sequence.{items_of};
+ghost use Rattle.prem_asm.specs.Fit.{PiecesFit};
+ghost use Rattle.prem_asm.specs.Pieces.{size_of};
+ghost use Rattle.prem_asm.specs.PiecesOf.{pieces_of};
+ghost use Rattle.prem_layout.specs.Bounds.{start_code};
+ghost use Rattle.prem_place.specs.Flat.Blocks.{code_parts};
+ghost use Rattle.prem_place.specs.Content.Blocks.{block_of};
+ghost use Rattle.prem_place.specs.Flat.Flat.{listed, far_in, part_if, words_at, far_part, words_from, EndWithin, AreFit, Blames};
+
+use crate::content::Block;
+use prem_asm::{AsmFail, Instr, Piece, flatten, put_call, put_code};
+use prem_list::Sequence;
+use prem_plant::FnId;
+use std::alloc::{AllocError, AllocFailed, Global};
+
+/// Why parts have no words.
+#[derive(Debug, PartialEq, Eq, Drop)]
+pub enum FlatFail {
+    /// The code of the part with this number, among those of its task, has a jump out of reach.
+    Far(usize),
+    OutOfMemory,
+}
+
+impl From<AllocError> for FlatFail {
+    ghost use Rattle.std.specs.Prelude.{◌≡◌};
+    ghost use Rattle.prem_place.specs.declared.flat.flat.FlatFail.TheVariants.{OutOfMemory};
+
+    ghost from_gives = { λ _ e. e ≡ OutOfMemory };
+
+    fn from(_error: AllocError) -> FlatFail {
+        FlatFail::OutOfMemory
+    }
+}
+
+impl<T: Drop> From<AllocFailed<T>> for FlatFail {
+    ghost use Rattle.std.specs.Prelude.{◌≡◌};
+    ghost use Rattle.prem_place.specs.declared.flat.flat.FlatFail.TheVariants.{OutOfMemory};
+
+    ghost from_gives = { λ _ e. e ≡ OutOfMemory };
+
+    fn from(_error: AllocFailed<T>) -> FlatFail {
+        FlatFail::OutOfMemory
+    }
+}
+
+/// The words of one part at its place.
+fn block(alloc: Global, pieces: &[Piece], part: usize, starts: &[u32]) -> Result<Block, FlatFail>
+    requires fit { PiecesFit (length starts.now) (slice_index starts.now) (pieces_of pieces.now) }
+    requires there { part < length starts.now }
+    requires aligned { All (λ start. start % 4 ≡ 0) starts.now }
+    requires within { slice_index starts.now part + size_of (pieces_of pieces.now) ≤ 2 ^ 32 }
+    ensures words { IfOk result (λ b. block_of b ≡ words_at (slice_index starts.now) part (pieces_of pieces.now)) }
+    ensures far { MatchResult result (λ _. far_in (slice_index starts.now) part (pieces_of pieces.now) ≡ None) (Blames (part_if part (far_in (slice_index starts.now) part (pieces_of pieces.now)) None)) }
+{
+    let at = starts[part];
+    match flatten(alloc, pieces, at, starts) {
+        Ok(words) => Ok(Block { at, words }),
+        Err(AsmFail::Reach) => Err(FlatFail::Far(part)),
+        Err(AsmFail::OutOfMemory) => Err(FlatFail::OutOfMemory),
+    }
+}
+
+/// Puts the words of parts, from number `first` on, behind other blocks.
+pub fn put_parts(
+    alloc: Global,
+    blocks: &mut Vec<Block>,
+    all: &[Sequence<Piece>],
+    first: usize,
+    starts: &[u32],
+) -> Result<(), FlatFail>
+    requires fit { AllByRecursion (PiecesFit (length starts.now) (slice_index starts.now)) (listed all.now) }
+    requires there { first + length all.now ≤ length starts.now }
+    requires aligned { All (λ start. start % 4 ≡ 0) starts.now }
+    requires within { EndWithin (slice_index starts.now) first (listed all.now) }
+    ensures words { OnOk result (map block_of blocks.new.items ≡ map block_of blocks.old.items ++ words_from (slice_index starts.now) first (listed all.now)) }
+    ensures far { MatchResult result (λ _. far_part (slice_index starts.now) first (listed all.now) ≡ None) (Blames (far_part (slice_index starts.now) first (listed all.now))) }
+{
+    let mut part = first;
+    for pieces in all {
+        blocks.push(block(alloc, pieces.items(), part, starts)?)?;
+        part += 1;
+    }
+    Ok(())
+}
+
+/// The start of a task: a call of `job`, and the job's end.
+fn start(alloc: Global, job: FnId) -> Result<Sequence<Sequence<Piece>>, AllocError>
+    ensures { IfOk result (λ parts. listed (items_of parts) ≡ start_code job ∷ []) }
+{
+    let mut pieces = Sequence::new(alloc);
+    put_call(&mut pieces, 1, 1 + u32::from(job))?;
+    put_code(alloc, &mut pieces, &[Instr::PmDone])?;
+    let mut parts = Sequence::new(alloc);
+    parts.push(pieces)?;
+    Ok(parts)
+}
+
+/// The words of a task's start, functions and stubs, which are its first parts; part n starts at the n-th of the addresses.
+#[tactic(auto, using(crate::proofs::FlatLemmas::Flats::first_blamed, crate::proofs::FlatLemmas::Flats::second_blamed, crate::proofs::FlatLemmas::Flats::third_blamed, crate::proofs::FlatLemmas::Flats::none_far, crate::proofs::FlatLemmas::Flats::words_join, crate::proofs::FlatLemmas::Flats::listed_long))]
+fn put_all(
+    alloc: Global,
+    first: &[Sequence<Piece>],
+    code: &[Sequence<Piece>],
+    stubs: &[Sequence<Piece>],
+    starts: &[u32],
+) -> Result<Vec<Block>, FlatFail>
+    requires fit { AreFit starts.now (listed first.now) (listed code.now) (listed stubs.now) }
+    requires one { length first.now ≡ 1 }
+    requires there { 1 + length code.now + length stubs.now ≤ length starts.now }
+    requires small { length starts.now < 2 ^ 32 }
+    requires aligned { All (λ start. start % 4 ≡ 0) starts.now }
+    ensures words { IfOk result (λ blocks. map block_of blocks.items ≡ words_from (slice_index starts.now) 0 (listed first.now ++ (listed code.now ++ listed stubs.now))) }
+    ensures far { MatchResult result (λ _. far_part (slice_index starts.now) 0 (listed first.now ++ (listed code.now ++ listed stubs.now)) ≡ None) (Blames (far_part (slice_index starts.now) 0 (listed first.now ++ (listed code.now ++ listed stubs.now)))) }
+{
+    let mut blocks = Vec::new(alloc);
+    match put_parts(alloc, &mut blocks, first, 0, starts) {
+        Ok(()) => (),
+        Err(e) => return Err(e),
+    }
+    match put_parts(alloc, &mut blocks, code, 1, starts) {
+        Ok(()) => (),
+        Err(e) => return Err(e),
+    }
+    match put_parts(alloc, &mut blocks, stubs, 1 + code.len(), starts) {
+        Ok(()) => Ok(blocks),
+        Err(e) => Err(e),
+    }
+}
+
+/// The words of a task's start, functions and stubs, which are its first parts; part n starts at the n-th of the addresses.
+///
+/// `Far` comes exactly where a jump is out of reach, with the first such part.
+pub fn flatten_parts(
+    alloc: Global,
+    job: FnId,
+    code: &[Sequence<Piece>],
+    stubs: &[Sequence<Piece>],
+    starts: &[u32],
+) -> Result<Vec<Block>, FlatFail>
+    requires fit { AreFit starts.now (start_code job ∷ []) (listed code.now) (listed stubs.now) }
+    requires there { 1 + length code.now + length stubs.now ≤ length starts.now }
+    requires small { length starts.now < 2 ^ 32 }
+    requires aligned { All (λ start. start % 4 ≡ 0) starts.now }
+    ensures words { IfOk result (λ blocks. map block_of blocks.items ≡ words_from (slice_index starts.now) 0 (code_parts job (listed code.now) (listed stubs.now))) }
+    ensures far { MatchResult result (λ _. far_part (slice_index starts.now) 0 (code_parts job (listed code.now) (listed stubs.now)) ≡ None) (Blames (far_part (slice_index starts.now) 0 (code_parts job (listed code.now) (listed stubs.now)))) }
+{
+    let first = start(alloc, job)?;
+    put_all(alloc, first.items(), code, stubs, starts)
+}

@@ -1,6 +1,0 @@
-//! Tasks at their places: programs with the places of their parts, their plans and all their code.
-#![tactic(auto)]
-
-mod task;
-
-pub use task::PlacedTask;

@@ -1,0 +1,119 @@
+-- The parts of tasks in memory are those of the tasks for which they stand, and they may be placed.
+use Rattle.std.proofs.Common.{◌≡◌, ℕ, suc, ◌+◌, ◌*◌, ◌≤◌, List, [], ◌∷◌, ◌++◌, All, length, map, length-append, refl, ap, ◌∙◌, arith}
+use Rattle.std.specs.List.{AllByRecursion}
+use Rattle.std.proofs.lemmas.List.{length-map}
+use Rattle.std.proofs.lemmas.List.Elements.{All-from_recursion, recursion_from_All}
+use Rattle.prem_list.specs.declared.Sequence.{Sequence}
+use Rattle.prem_list.specs.Sequence.{items_of}
+use Rattle.prem_plant.specs.declared.plant.Device.{Device}
+use Rattle.prem_plant.specs.declared.layout.PartKind.TheVariants.{Stack}
+use Rattle.prem_plant.specs.declared.layout.PartSize.{PartSize}
+use Rattle.prem_plant.specs.Ranges.{IsDevice}
+use Rattle.prem_syntax.specs.Syntax.{GlobalVariable}
+use Rattle.prem_syntax.specs.SyntaxOf.{global_of}
+use Rattle.prem_meaning.specs.Resolved.{Resolved}
+use Rattle.prem_asm.specs.declared.piece.Piece.{Piece}
+use Rattle.prem_asm.specs.Pieces.{Pieces, size_of}
+use Rattle.prem_asm.specs.PiecesOf.{pieces_of}
+use Rattle.prem_template.specs.Frames.{stack_size}
+use Rattle.prem_layout.specs.Plans.{Plan}
+use Rattle.prem_layout.specs.Parts.{once, part, code_parts, stub_parts, global_parts, task_parts, parts_from, area_parts}
+use Rattle.prem_layout.specs.Placed.{Coded, sized_of}
+use Rattle.prem_layout.proofs.Lawful.{whole_areas, areas_may, code_may, globals_may, all_aligned, may_append, AllMay}
+use Rattle.prem_layout.proofs.TaskParts.{code_counted, globals_counted, areas_counted}
+use Rattle.prem_split.specs.PlanOf.{plan_of}
+use Rattle.prem_prefetch.specs.Parts.Parts.{sizes_of, stack_in, parts_with}
+use Rattle.prem_prefetch.proofs.PartsLemmas.Stacks.{stacks_are_exact}
+use Rattle.prem_prefetch.specs.declared.sizes.sizes.SizedTask.{SizedTask}
+use Rattle.prem_prefetch.specs.Sizes.Sizes.{globals_in, codes_in, IsSized, AreSized, sized_parts, sized_from, parts_in, MayHavePlaces, MayHaveParts}
+use Rattle.prem_prefetch.specs.Sizes.Laws.{PartsAreExact}
+
+-- ---- the same parts
+
+sizes_are : (code : List (Sequence Piece)) → sizes_of code ≡ map size_of (codes_in code)
+sizes_are [] = refl
+sizes_are (s ∷ ss) = ap (λ ns. size_of (pieces_of (items_of s)) ∷ ns) (sizes_are ss)
+
+task_same : (n : ℕ) (t : SizedTask) (c : Coded) → IsSized t c → sized_parts n t ≡ task_parts once n (map size_of c.code) c.program
+task_same n t c is =
+    let sizes : sizes_of t.code.now ≡ map size_of c.code = sizes_are t.code.now ∙ ap (λ (pss : List Pieces). map size_of pss) is.code in
+    let globals : globals_in t.program.now ≡ c.program.globals = ap (λ (q : Resolved). q.globals) is.program in
+    let stack : stack_in t.program.now ≡ stack_size c.program = stacks_are_exact is.turns t.program.now ∙ ap stack_size is.program in
+    λ i. parts_with once n (sizes i) (is.plans i) (globals i) (stack i)
+
+tasks_same : (n : ℕ) (ts : List SizedTask) (cs : List Coded) → AreSized ts cs → sized_from n ts ≡ parts_from once n (map sized_of cs)
+tasks_same n [] [] h = refl
+tasks_same n [] (c ∷ cs) h = absurd h
+tasks_same n (t ∷ ts) [] h = absurd h
+tasks_same n (t ∷ ts) (c ∷ cs) h =
+    ap (λ (ps : List PartSize). ps ++ sized_from (n + 1) ts) (task_same n t c h.0)
+    ∙ ap (λ (ps : List PartSize). task_parts once n (map size_of c.code) c.program ++ ps) (tasks_same (n + 1) ts cs h.1)
+
+pub parts_are_exact : PartsAreExact
+parts_are_exact p devices tasks coded h = ap (λ (ps : List PartSize). ps ++ area_parts p.line 0 devices) (tasks_same 0 tasks coded h)
+
+-- ---- few parts
+
+many_stubs : (task : ℕ) (plans : List Plan) → length (stub_parts once task plans) ≡ length plans
+many_stubs task [] = refl
+many_stubs task (plan ∷ plans) = ap suc (many_stubs task plans)
+
+many_with : (n : ℕ) (sizes : List ℕ) (plans : List Plan) (globals : List GlobalVariable) (stack : ℕ) → length (parts_with once n sizes plans globals stack) ≡ 2 + length sizes + length plans + length globals
+many_with n sizes plans globals stack =
+    let codes : List PartSize = code_parts n 0 sizes in
+    let stubs : List PartSize = stub_parts once n plans in
+    let gs : List PartSize = global_parts n 0 globals in
+    let last : List PartSize = part n Stack stack 16 ∷ [] in
+    omega (arith, length-append codes (stubs ++ (gs ++ last)), length-append stubs (gs ++ last), length-append gs last, code_counted n 0 sizes, many_stubs n plans, globals_counted n 0 globals)
+
+few_of : (n : ℕ) (t : SizedTask) → MayHaveParts t → length (sized_parts n t) ≤ 1026
+few_of n t may =
+    let all = many_with n (sizes_of t.code.now) (map plan_of t.plans.now) (globals_in t.program.now) (stack_in t.program.now) in
+    let codes : length (sizes_of t.code.now) ≡ length t.code.now = length-map t.code.now _ in
+    let plans : length (map plan_of t.plans.now) ≡ length t.plans.now = length-map t.plans.now plan_of in
+    let globals : length (globals_in t.program.now) ≡ length t.program.now.globals.items = length-map t.program.now.globals.items (λ g. global_of g.now) in
+    let a = may.codes in
+    let b = may.marked in
+    let c = may.program.globals in
+    omega (arith, all, codes, plans, globals, a, b, c)
+
+few_from : (n : ℕ) (ts : List SizedTask) → AllByRecursion MayHaveParts ts → length (sized_from n ts) ≤ 1026 * length ts
+few_from n [] h = omega arith
+few_from n (t ∷ ts) h = omega (arith, length-append (sized_parts n t) (sized_from (n + 1) ts), few_of n t h.0, few_from (n + 1) ts h.1)
+
+-- ---- they may be placed
+
+stubs_may : (line task : ℕ) (plans : List Plan) → AllMay line (stub_parts once task plans)
+stubs_may line task [] = tt
+stubs_may line task (plan ∷ plans) = (record { aligned = omega arith; whole = λ area. absurd area }, stubs_may line task plans)
+
+task_may : (line n : ℕ) (sizes : List ℕ) (plans : List Plan) (globals : List GlobalVariable) (stack : ℕ) → AllMay line (parts_with once n sizes plans globals stack)
+task_may line n sizes plans globals stack = (
+  record { aligned = omega arith; whole = λ area. absurd area },
+  may_append line (code_parts n 0 sizes) _ (code_may line n 0 sizes)
+      (may_append line (stub_parts once n plans) _ (stubs_may line n plans)
+      (may_append line (global_parts n 0 globals) _ (globals_may line n 0 globals) (record { aligned = omega arith; whole = λ area. absurd area }, tt))),
+)
+
+tasks_may : (line n : ℕ) (ts : List SizedTask) → AllMay line (sized_from n ts)
+tasks_may line n [] = tt
+tasks_may line n (t ∷ ts) =
+    may_append line (sized_parts n t) _ (task_may line n (sizes_of t.code.now) (map plan_of t.plans.now) (globals_in t.program.now) (stack_in t.program.now)) (tasks_may line (n + 1) ts)
+
+pub parts_may_have_places : (line : ℕ) (devices : List Device) (tasks : List SizedTask) → 1 ≤ line → AllByRecursion MayHaveParts tasks → length tasks ≤ 16 → length devices ≤ 8 →
+    MayHavePlaces line (parts_in line devices tasks)
+parts_may_have_places line devices tasks pos may few_tasks few_devices =
+    let all = may_append line (sized_from 0 tasks) (area_parts line 0 devices) (tasks_may line 0 tasks) (areas_may line 0 devices pos) in
+    let long = length-append (sized_from 0 tasks) (area_parts line 0 devices) in
+    record {
+      aligned = All-from_recursion _ _ (all_aligned line (parts_in line devices tasks) all);
+      whole = whole_areas line (parts_in line devices tasks) all;
+      few = omega (arith, long, few_from 0 tasks may, areas_counted line 0 devices);
+    }
+
+pub few_lines : (devices : List Device) → All IsDevice devices → AllByRecursion (λ d. d.lines ≤ 1024) devices
+few_lines devices all = by devices (recursion_from_All IsDevice devices all)
+  where
+    by : (ds : List Device) → AllByRecursion IsDevice ds → AllByRecursion (λ d. d.lines ≤ 1024) ds
+    by [] h = tt
+    by (d ∷ ds) h = (h.0.lines.1, by ds h.1)

@@ -1,0 +1,13 @@
+use Rattle.std.proofs.Common.{◌≡◌, ◌++◌, drop}
+use Rattle.std.specs.List.{AllByRecursion}
+use Rattle.prem_prefetch.specs.Sizes.Sizes.{sized_from, MayHaveParts}
+use Rattle.prem_prefetch.proofs.sizes.sizes.parts_of_tasks.Given as goal
+
+-- the parts so far and those of the tasks that are left are all of them
+abbrev pub invariant-loop-task : goal.invariant-loop-task
+invariant-loop-task l =
+    record {
+      at : l.n ≡ l.task-index;
+      rest : l.parts.items ++ sized_from l.n (drop l.task-index l.tasks) ≡ sized_from 0 l.tasks;
+      may : AllByRecursion MayHaveParts (drop l.task-index l.tasks);
+    }

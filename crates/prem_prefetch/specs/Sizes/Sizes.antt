@@ -1,0 +1,94 @@
+-- Tasks from what the compiler knows of them before their parts have places, and the parts of a set.
+use Rattle.std.specs.Prelude.{◌≡◌, ◌<◌, ◌≤◌, ⊤, ℕ, ◌+◌, ◌^◌, All, List, [], ◌∷◌, ◌++◌, length, map, None}
+use Rattle.std.specs.List.{AllByRecursion}
+use Rattle.prem_list.specs.declared.Sequence.{Sequence}
+use Rattle.prem_list.specs.Sequence.{items_of}
+use Rattle.prem_plant.specs.declared.plant.Device.{Device}
+use Rattle.prem_plant.specs.declared.layout.PartSize.{PartSize}
+use Rattle.prem_plant.specs.Places.{HasWholeAreas}
+use Rattle.prem_syntax.specs.Syntax.{GlobalVariable, ProgramText}
+use Rattle.prem_syntax.specs.SyntaxOf.{global_of}
+use Rattle.prem_meaning.specs.GroupTwo.{IsWellFormed}
+use Rattle.prem_meaning.specs.Resolve.{resolve}
+use Rattle.prem_tree.specs.declared.resolve.resolved.Resolved.{Resolved as ResolvedTree}
+use Rattle.prem_tree.specs.Resolve.ResolvedOf.{resolved_of}
+use Rattle.prem_asm.specs.declared.piece.Piece.{Piece}
+use Rattle.prem_asm.specs.Pieces.{Pieces, size_of}
+use Rattle.prem_asm.specs.PiecesOf.{pieces_of}
+use Rattle.prem_template.specs.Limits.{excess}
+use Rattle.prem_template.specs.Parts.{codes_of, parts_of as code_parts_of}
+use Rattle.prem_layout.specs.Plans.{plans_of}
+use Rattle.prem_layout.specs.Parts.{once, area_parts}
+use Rattle.prem_layout.specs.Placed.{Coded}
+use Rattle.prem_split.specs.PlanOf.{plan_of}
+use Rattle.prem_split.specs.PlansWith.{MayHavePlans}
+use Rattle.prem_prefetch.specs.Parts.Parts.{sizes_of, stack_in, parts_with, IsShortPlan, IsShortGlobal, IsWordSize}
+use Rattle.prem_prefetch.specs.declared.sizes.sizes.SizedTask.{SizedTask}
+
+-- ---- a task in memory
+
+abbrev pub globals_in : ResolvedTree → List GlobalVariable
+globals_in r = map (λ g. global_of g.now) r.globals.items
+
+abbrev pub codes_in : List (Sequence Piece) → List Pieces
+codes_in code = map (λ s. pieces_of (items_of s)) code
+
+-- it stands for a task with its code, whose loops have some turns
+pub record IsSized (t : SizedTask) (c : Coded) : Type 0 where
+  pub turns : ℕ → ℕ
+  pub program : resolved_of turns t.program.now ≡ c.program
+  pub plans : map plan_of t.plans.now ≡ plans_of c.program
+  pub code : codes_in t.code.now ≡ c.code
+
+abbrev pub AreSized : List SizedTask → List Coded → Type 0
+AreSized [] [] = ⊤
+AreSized [] (c ∷ cs) = ⊥
+AreSized (t ∷ ts) [] = ⊥
+AreSized (t ∷ ts) (c ∷ cs) = IsSized t c × AreSized ts cs
+
+-- ---- parts
+
+-- those of task n
+abbrev pub sized_parts : ℕ → SizedTask → List PartSize
+sized_parts n t = parts_with once n (sizes_of t.code.now) (map plan_of t.plans.now) (globals_in t.program.now) (stack_in t.program.now)
+
+-- of the tasks from number n on
+abbrev pub sized_from : ℕ → List SizedTask → List PartSize
+sized_from n [] = []
+sized_from n (t ∷ ts) = sized_parts n t ++ sized_from (n + 1) ts
+
+-- of tasks and devices
+abbrev pub parts_in : ℕ → List Device → List SizedTask → List PartSize
+parts_in line devices tasks = sized_from 0 tasks ++ area_parts line 0 devices
+
+-- parts that may be placed
+pub record MayHavePlaces (line : ℕ) (parts : List PartSize) : Type 0 where
+  pub aligned : All (λ part. 1 ≤ part.align) parts
+  pub whole : HasWholeAreas line parts
+  pub few : length parts ≤ 100000
+
+-- ---- what is asked of a task
+
+-- its parts are counted and have sizes in 32 bits
+pub record MayHaveParts (t : SizedTask) : Type 0 where
+  pub program : MayHavePlans t.program.now
+  pub codes : length t.code.now ≤ 256
+  pub small : AllByRecursion IsWordSize (sizes_of t.code.now)
+  pub marked : length t.plans.now ≤ 256
+  pub plans : AllByRecursion IsShortPlan (map plan_of t.plans.now)
+  pub globals : AllByRecursion IsShortGlobal (globals_in t.program.now)
+
+-- the code of a well-formed program, which keeps to the rules on frames and registers
+pub record IsCodeOf (p : ProgramText) (c : Coded) : Type 0 where
+  pub turns : ℕ → ℕ
+  pub formed : IsWellFormed p
+  pub program : c.program ≡ resolve turns p
+  pub kept : excess c.program ≡ None
+  pub code : c.code ≡ codes_of (code_parts_of c.program.routines) c.program.routines
+  pub small : All (λ ps. size_of ps < 2 ^ 32) c.code
+
+abbrev pub AreCodesOf : List ProgramText → List Coded → Type 0
+AreCodesOf [] [] = ⊤
+AreCodesOf [] (c ∷ cs) = ⊥
+AreCodesOf (p ∷ ps) [] = ⊥
+AreCodesOf (p ∷ ps) (c ∷ cs) = IsCodeOf p c × AreCodesOf ps cs

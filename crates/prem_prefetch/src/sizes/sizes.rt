@@ -1,0 +1,80 @@
+// The parts of a set, with their sizes.
+ghost use Rattle.std.specs.Prelude.{◌≡◌, ◌≤◌, ◌++◌, All, length, IfOk, OnOk};
+ghost use Rattle.std.specs.List.{AllByRecursion};
+ghost use Rattle.prem_plant.specs.Ranges.{IsPlant, IsDevice};
+ghost use Rattle.prem_prefetch.specs.Sizes.Sizes.{sized_parts, sized_from, parts_in, MayHavePlaces, MayHaveParts};
+
+use crate::parts::{push_areas, push_task, stack_size};
+use prem_asm::{Piece, Sequence};
+use prem_plant::{Device, PartSize, Plant, TaskId};
+use prem_split::IntervalPlan;
+use prem_tree::resolve::Resolved;
+use std::alloc::{AllocError, Global};
+
+/// What is known of a task before its parts have places.
+#[derive(Clone, Copy)]
+pub struct SizedTask<'a, 'p> {
+    /// Its program with names resolved.
+    pub program: &'a Resolved<'p>,
+    /// The plans of its marked functions, in the order of the text.
+    pub plans: &'a [IntervalPlan],
+    /// The code of its functions, in the order of the text.
+    pub code: &'a [Sequence<Piece>],
+}
+
+/// Puts the parts of a task behind other parts.
+fn push_sized(
+    alloc: Global,
+    parts: &mut Vec<PartSize>,
+    n: TaskId,
+    task: &SizedTask,
+) -> Result<(), AllocError>
+    requires { MayHaveParts task.now }
+    ensures { OnOk result (parts.new.items ≡ parts.old.items ++ sized_parts n task.now) }
+{
+    let stack = stack_size(alloc, task.program)?;
+    push_task(
+        parts,
+        n,
+        task.code,
+        task.plans,
+        &task.program.globals,
+        stack as u32,
+    )
+}
+
+/// The parts of tasks, one task behind another.
+fn parts_of_tasks(alloc: Global, tasks: &[SizedTask]) -> Result<Vec<PartSize>, AllocError>
+    requires tasks { AllByRecursion MayHaveParts tasks.now }
+    requires count { length tasks.now ≤ 16 }
+    ensures { IfOk result (λ parts. parts.items ≡ sized_from 0 tasks.now) }
+{
+    let mut parts = Vec::new(alloc);
+    let mut n = 0u16;
+    for task in tasks {
+        push_sized(alloc, &mut parts, n, task)?;
+        n += 1;
+    }
+    Ok(parts)
+}
+
+/// The parts of tasks and devices, in their order: those of each task, then the areas of devices. It fails only for want of
+/// memory.
+pub fn set_parts(
+    alloc: Global,
+    plant: &Plant,
+    devices: &[Device],
+    tasks: &[SizedTask],
+) -> Result<Vec<PartSize>, AllocError>
+    requires tasks { AllByRecursion MayHaveParts tasks.now }
+    requires count { length tasks.now ≤ 16 }
+    requires devices { length devices.now ≤ 8 }
+    requires plant { IsPlant plant.now }
+    requires each { All IsDevice devices.now }
+    ensures parts { IfOk result (λ parts. parts.items ≡ parts_in plant.now.line devices.now tasks.now) }
+    ensures may { IfOk result (λ parts. MayHavePlaces plant.now.line parts.items) }
+{
+    let mut parts = parts_of_tasks(alloc, tasks)?;
+    push_areas(&mut parts, plant.line, devices)?;
+    Ok(parts)
+}

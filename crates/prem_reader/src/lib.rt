@@ -1,0 +1,5 @@
+//! prem_reader.
+#![tactic(auto)]
+
+pub mod expression;
+pub mod statement;

@@ -1,0 +1,789 @@
+// Reading the statements of a body, one token after the other.
+ghost use Rattle.std.specs.Prelude.{◌≡◌, IfOk, map, if◌then◌else◌, None, Some, []};
+ghost use Rattle.std.specs.Option.{option_map};
+ghost use Rattle.prem_list.specs.Sequence.{items_of};
+ghost use Rattle.prem_syntax.specs.Name.{name_bytes};
+ghost use Rattle.prem_syntax.specs.SyntaxOf.{expression_of, statement_of};
+ghost use Rattle.prem_lexer.specs.Token.Lexeme.{lexeme_of, seen_of};
+ghost use Rattle.prem_text.specs.Grammar.Slots.{is_left_parenthesis};
+ghost use Rattle.prem_text.specs.Grammar.Statement.{between, in_block, for_row, bound_row, sign_row, step_row, filling, for_output, for_index, for_if, for_while, for_low, for_high, for_value, for_argument, on, ended as grammar_ended, least_of, begins_statement, statement, without, next, else_or, filled, filled_or, behind_name, used, is_start, at_start, lone_name, called, within, turn};
+ghost use Rattle.prem_reader.specs.Expression.StateOf.{state_of};
+ghost use Rattle.prem_reader.specs.Statement.SlotOf.{slot_of};
+ghost use Rattle.prem_reader.specs.Statement.PointOf.{around_of, header_of, use_of, row_of, point_of, turn_of};
+
+use crate::expression::{Move, Open, State, advance};
+use crate::statement::change::{begin, change, changed, expression, finish};
+use crate::statement::nesting::{block, ended, no_else};
+use crate::statement::point::{Around, Header, Point, Purpose, Row, Turn, boxed};
+use crate::statement::row::{
+    BOUND_ROW, FOR_ROW, INPUT_ROW, NOTHING, SIGN_ROW, WHILE_ROW, copy_spotted, fourth_in,
+    is_at_most, name_at, place_at, rest_of_step, step_in, value_at,
+};
+use crate::statement::slot::{
+    Slot, fits, is_comma, is_else, is_in, is_left_bracket, is_left_parenthesis, is_right_brace,
+    is_right_bracket, is_right_parenthesis, is_semicolon,
+};
+use prem_lexer::token::{Mark, Spotted, Token, Word};
+use prem_list::Sequence;
+use prem_syntax::{Expr, ForNames, Name, Place, Stmt, copy_name};
+use std::alloc::{AllocError, Global};
+
+/// The level of the operators of a `for`'s bound, `<<` and `>>`: looser ones don't belong to it.
+const SHIFT_LEVEL: u32 = 8;
+
+fn least_of(purpose: &Purpose) -> u32
+    ensures { result ≡ least_of (use_of purpose.now) }
+{
+    match purpose {
+        Purpose::High { .. } => SHIFT_LEVEL,
+        _ => 1,
+    }
+}
+
+/// A block begins.
+fn block_begins(alloc: Global, at: Place, around: Box<Around>) -> Result<Turn, AllocError>
+    ensures { IfOk result (λ t. turn_of t ≡ on (between (in_block at [] (around_of around.value)))) }
+{
+    let before = Sequence::new(alloc);
+    let around = boxed(alloc, Around::Block { at, before, around })?;
+    Ok(Turn::On {
+        point: Point::Between { around },
+    })
+}
+
+/// The first token of a statement.
+fn statement(alloc: Global, around: Box<Around>, spotted: &Spotted) -> Result<Turn, AllocError>
+    ensures { IfOk result (λ t. turn_of t ≡ statement (around_of around.value) (seen_of spotted.now) (lexeme_of spotted.now.token)) }
+{
+    let at = spotted.at;
+    let left = Slot::LeftParenthesis;
+    match &spotted.token {
+        Token::Mark(Mark::OpenBrace) => block_begins(alloc, at, around),
+        Token::Name(name) => {
+            let name = copy_name(alloc, name)?;
+            Ok(Turn::On {
+                point: Point::OnName { at, name, around },
+            })
+        }
+        Token::Word(Word::If) => begin(alloc, Row::If, spotted, left, &NOTHING, around),
+        Token::Word(Word::Out) => begin(alloc, Row::Out, spotted, left, &NOTHING, around),
+        Token::Word(Word::Bounded) => {
+            begin(alloc, Row::While, spotted, left, &WHILE_ROW, around)
+        }
+        Token::Word(Word::For) => begin(alloc, Row::For, spotted, left, &FOR_ROW, around),
+        _ => Ok(Turn::Wrong),
+    }
+}
+
+fn begins_statement(token: &Token) -> bool
+    ensures { result ≡ begins_statement (lexeme_of token.now) }
+{
+    matches!(
+        token,
+        Token::Mark(Mark::OpenBrace)
+            | Token::Word(Word::If | Word::Out | Word::Bounded | Word::For)
+            | Token::Name(_)
+    )
+}
+
+/// A block ends.
+fn block_ends(
+    alloc: Global,
+    at: Place,
+    before: Sequence<Stmt>,
+    around: Box<Around>,
+    spotted: &Spotted,
+) -> Result<Turn, AllocError>
+    ensures { IfOk result (λ t. turn_of t ≡ without (in_block at (map statement_of (items_of before)) (around_of around.value)) (seen_of spotted.now)) }
+{
+    if !is_right_brace(&spotted.token) {
+        return Ok(Turn::Wrong);
+    }
+    statement_ends(alloc, around, block(at, before))
+}
+
+/// A token that begins no statement is behind the body, or it closes a block.
+fn without(alloc: Global, around: Box<Around>, spotted: &Spotted) -> Result<Turn, AllocError>
+    ensures { IfOk result (λ t. turn_of t ≡ without (around_of around.value) (seen_of spotted.now)) }
+{
+    match Box::into_inner(around) {
+        Around::Body { before } => Ok(Turn::Leaves { statements: before }),
+        Around::Block { at, before, around } => block_ends(alloc, at, before, around, spotted),
+        _around => Ok(Turn::Wrong),
+    }
+}
+
+fn next(alloc: Global, around: Box<Around>, spotted: &Spotted) -> Result<Turn, AllocError>
+    ensures { IfOk result (λ t. turn_of t ≡ next (around_of around.value) (seen_of spotted.now)) }
+{
+    if begins_statement(&spotted.token) {
+        return statement(alloc, around, spotted);
+    }
+    without(alloc, around, spotted)
+}
+
+/// An `else` belongs to the nearest `if`.
+fn else_or(
+    alloc: Global,
+    at: Place,
+    condition: Expr,
+    taken: Box<Stmt>,
+    around: Box<Around>,
+    spotted: &Spotted,
+) -> Result<Turn, AllocError>
+    ensures { IfOk result (λ t. turn_of t ≡ else_or at (expression_of condition) (statement_of taken.value) (around_of around.value) (seen_of spotted.now)) }
+{
+    if is_else(&spotted.token) {
+        let around = Around::Other {
+            at,
+            condition,
+            taken,
+            around,
+        };
+        let around = boxed(alloc, around)?;
+        return Ok(Turn::On {
+            point: Point::Between { around },
+        });
+    }
+    let around = no_else(alloc, at, condition, taken, around)?;
+    next(alloc, around, spotted)
+}
+
+/// The step of a `for` has all its tokens.
+fn step_filled(
+    alloc: Global,
+    header: Header,
+    got: &[Spotted],
+    around: Box<Around>,
+) -> Result<Turn, AllocError>
+    ensures { IfOk result (λ t. turn_of t ≡ filled (step_row (header_of header)) (map seen_of got.now) (around_of around.value)) }
+{
+    let Some(third) = name_at(alloc, got, 1)? else {
+        return Ok(Turn::Wrong);
+    };
+    let Some(fourth) = fourth_in(alloc, got)? else {
+        return Ok(Turn::Wrong);
+    };
+    let names = ForNames {
+        first: header.first,
+        second: header.second,
+        third,
+        fourth,
+    };
+    let around = Around::For {
+        at: header.at,
+        names,
+        low: header.low,
+        closed: header.closed,
+        high: header.high,
+        step: step_in(got),
+        around,
+    };
+    let around = boxed(alloc, around)?;
+    Ok(Turn::On {
+        point: Point::Between { around },
+    })
+}
+
+/// The first row of a `for` has all its tokens.
+fn for_filled(alloc: Global, got: &[Spotted], around: Box<Around>) -> Result<Turn, AllocError>
+    ensures { IfOk result (λ t. turn_of t ≡ filled for_row (map seen_of got.now) (around_of around.value)) }
+{
+    let at = place_at(got, 0);
+    match name_at(alloc, got, 2)? {
+        Some(first) => expression(alloc, Purpose::Low { at, first }, around),
+        None => Ok(Turn::Wrong),
+    }
+}
+
+/// The row before the bound of a `for` has all its tokens.
+fn bound_filled(
+    alloc: Global,
+    at: Place,
+    first: Name,
+    low: Expr,
+    got: &[Spotted],
+    around: Box<Around>,
+) -> Result<Turn, AllocError>
+    ensures { IfOk result (λ t. turn_of t ≡ filled (bound_row at (name_bytes first) (expression_of low)) (map seen_of got.now) (around_of around.value)) }
+{
+    let closed = is_at_most(got);
+    match name_at(alloc, got, 1)? {
+        Some(second) => {
+            let purpose = Purpose::High {
+                at,
+                first,
+                low,
+                second,
+                closed,
+            };
+            expression(alloc, purpose, around)
+        }
+        None => Ok(Turn::Wrong),
+    }
+}
+
+/// The row up to the sign of a step has all its tokens.
+fn sign_filled(
+    alloc: Global,
+    header: Header,
+    got: Sequence<Spotted>,
+    around: Box<Around>,
+) -> Result<Turn, AllocError>
+    ensures { IfOk result (λ t. turn_of t ≡ filled (sign_row (header_of header)) (map seen_of (items_of got)) (around_of around.value)) }
+{
+    let (wanted, later) = rest_of_step(got.items());
+    let row = boxed(alloc, Row::Step { header })?;
+    Ok(Turn::On {
+        point: Point::Filling {
+            row,
+            got,
+            wanted,
+            later,
+            around,
+        },
+    })
+}
+
+/// A row has all its tokens.
+fn filled(
+    alloc: Global,
+    row: Row,
+    got: Sequence<Spotted>,
+    around: Box<Around>,
+) -> Result<Turn, AllocError>
+    ensures { IfOk result (λ t. turn_of t ≡ filled (row_of row) (map seen_of (items_of got)) (around_of around.value)) }
+{
+    let at = place_at(got.items(), 0);
+    match row {
+        Row::If => expression(alloc, Purpose::If { at }, around),
+        Row::Out => expression(alloc, Purpose::Output { at }, around),
+        Row::While => {
+            let turns = value_at(got.items(), 2);
+            expression(alloc, Purpose::While { at, turns }, around)
+        }
+        Row::For => for_filled(alloc, got.items(), around),
+        Row::Bound { at, first, low } => {
+            bound_filled(alloc, at, first, low, got.items(), around)
+        }
+        Row::Sign { header } => sign_filled(alloc, header, got, around),
+        Row::Step { header } => step_filled(alloc, header, got.items(), around),
+        Row::Last { statement } => statement_ends(alloc, around, Box::into_inner(statement)),
+    }
+}
+
+fn filled_or(
+    alloc: Global,
+    row: Box<Row>,
+    got: Sequence<Spotted>,
+    later: &'static [Slot],
+    around: Box<Around>,
+) -> Result<Turn, AllocError>
+    ensures { IfOk result (λ t. turn_of t ≡ filled_or (row_of row.value) (map seen_of (items_of got)) (map slot_of later.now) (around_of around.value)) }
+{
+    match later {
+        [] => filled(alloc, Box::into_inner(row), got, around),
+        [wanted, rest @ ..] => Ok(Turn::On {
+            point: Point::Filling {
+                row,
+                got,
+                wanted: *wanted,
+                later: rest,
+                around,
+            },
+        }),
+    }
+}
+
+/// A token in a row.
+fn filling(
+    alloc: Global,
+    row: Box<Row>,
+    mut got: Sequence<Spotted>,
+    wanted: Slot,
+    later: &'static [Slot],
+    around: Box<Around>,
+    spotted: &Spotted,
+) -> Result<Turn, AllocError>
+    ensures { IfOk result (λ t. turn_of t ≡ turn (filling (row_of row.value) (map seen_of (items_of got)) (slot_of wanted) (map slot_of later.now) (around_of around.value)) (seen_of spotted.now)) }
+{
+    if !fits(wanted, &spotted.token) {
+        return Ok(Turn::Wrong);
+    }
+    got.push(copy_spotted(alloc, spotted)?)?;
+    filled_or(alloc, row, got, later, around)
+}
+
+/// A token behind the name that begins a statement.
+fn behind_name(
+    alloc: Global,
+    at: Place,
+    name: Name,
+    around: Box<Around>,
+    spotted: &Spotted,
+) -> Result<Turn, AllocError>
+    ensures { IfOk result (λ t. turn_of t ≡ behind_name at (name_bytes name) (around_of around.value) (seen_of spotted.now)) }
+{
+    if is_left_parenthesis(&spotted.token) {
+        let purpose = Purpose::Argument {
+            at,
+            target: None,
+            callee: name,
+            before: Sequence::new(alloc),
+        };
+        return expression(alloc, purpose, around);
+    }
+    if is_left_bracket(&spotted.token) {
+        return expression(alloc, Purpose::Index { at, name }, around);
+    }
+    change(alloc, at, name, None, around, spotted)
+}
+
+/// A token behind an argument of a call.
+fn argument_ends(
+    alloc: Global,
+    at: Place,
+    target: Option<Name>,
+    callee: Name,
+    mut before: Sequence<Expr>,
+    value: Expr,
+    around: Box<Around>,
+    spotted: &Spotted,
+) -> Result<Turn, AllocError>
+    ensures { IfOk result (λ t. turn_of t ≡ used (for_argument at (option_map name_bytes target) (name_bytes callee) (map expression_of (items_of before))) (expression_of value) (around_of around.value) (seen_of spotted.now)) }
+{
+    before.push(value)?;
+    if is_comma(&spotted.token) {
+        let purpose = Purpose::Argument {
+            at,
+            target,
+            callee,
+            before,
+        };
+        return expression(alloc, purpose, around);
+    }
+    if !is_right_parenthesis(&spotted.token) {
+        return Ok(Turn::Wrong);
+    }
+    let whole = Stmt::Call {
+        at,
+        target,
+        callee,
+        args: before,
+    };
+    finish(alloc, whole, spotted, around)
+}
+
+/// A token behind the condition of an `if`, or of a `while` where it has a number of turns.
+fn condition_ends(
+    alloc: Global,
+    at: Place,
+    turns: Option<u32>,
+    condition: Expr,
+    around: Box<Around>,
+    spotted: &Spotted,
+) -> Result<Turn, AllocError>
+    ensures { IfOk result (λ t. turn_of t ≡ used (elim turns [ None ↦ for_if at | Some n ↦ for_while at n ]) (expression_of condition) (around_of around.value) (seen_of spotted.now)) }
+{
+    if !is_right_parenthesis(&spotted.token) {
+        return Ok(Turn::Wrong);
+    }
+    let around = match turns {
+        None => Around::Taken {
+            at,
+            condition,
+            around,
+        },
+        Some(turns) => Around::While {
+            at,
+            turns,
+            condition,
+            around,
+        },
+    };
+    let around = boxed(alloc, around)?;
+    Ok(Turn::On {
+        point: Point::Between { around },
+    })
+}
+
+/// A token behind the first value of a `for`.
+fn low_ends(
+    alloc: Global,
+    at: Place,
+    first: Name,
+    low: Expr,
+    around: Box<Around>,
+    spotted: &Spotted,
+) -> Result<Turn, AllocError>
+    ensures { IfOk result (λ t. turn_of t ≡ used (for_low at (name_bytes first)) (expression_of low) (around_of around.value) (seen_of spotted.now)) }
+{
+    if !is_semicolon(&spotted.token) {
+        return Ok(Turn::Wrong);
+    }
+    let row = Row::Bound { at, first, low };
+    begin(alloc, row, spotted, Slot::AName, &BOUND_ROW, around)
+}
+
+/// A token behind the bound of a `for`.
+fn high_ends(
+    alloc: Global,
+    header: Header,
+    around: Box<Around>,
+    spotted: &Spotted,
+) -> Result<Turn, AllocError>
+    ensures { IfOk result (λ t. turn_of t ≡ used (for_high header.at (name_bytes header.first) (expression_of header.low) (name_bytes header.second) header.closed) (expression_of header.high) (around_of around.value) (seen_of spotted.now)) }
+{
+    if !is_semicolon(&spotted.token) {
+        return Ok(Turn::Wrong);
+    }
+    let row = Row::Sign { header };
+    begin(alloc, row, spotted, Slot::AName, &SIGN_ROW, around)
+}
+
+/// A statement has ended.
+fn statement_ends(alloc: Global, around: Box<Around>, statement: Stmt) -> Result<Turn, AllocError>
+    ensures { IfOk result (λ t. turn_of t ≡ on (grammar_ended (statement_of statement) (around_of around.value))) }
+{
+    let point = ended(alloc, around, statement)?;
+    Ok(Turn::On { point })
+}
+
+/// A token behind the value of an output.
+fn output_ends(
+    alloc: Global,
+    at: Place,
+    value: Expr,
+    around: Box<Around>,
+    spotted: &Spotted,
+) -> Result<Turn, AllocError>
+    ensures { IfOk result (λ t. turn_of t ≡ used (for_output at) (expression_of value) (around_of around.value) (seen_of spotted.now)) }
+{
+    if !is_right_parenthesis(&spotted.token) {
+        return Ok(Turn::Wrong);
+    }
+    finish(alloc, Stmt::Output { at, value }, spotted, around)
+}
+
+/// A token behind the index at the left of an assignment.
+fn index_ends(at: Place, name: Name, index: Expr, around: Box<Around>, spotted: &Spotted) -> Turn
+    ensures { turn_of result ≡ used (for_index at (name_bytes name)) (expression_of index) (around_of around.value) (seen_of spotted.now) }
+{
+    if !is_right_bracket(&spotted.token) {
+        return Turn::Wrong;
+    }
+    Turn::On {
+        point: Point::OnElement {
+            at,
+            name,
+            index,
+            around,
+        },
+    }
+}
+
+/// A token behind the right side of `=`.
+fn value_ends(
+    alloc: Global,
+    at: Place,
+    name: Name,
+    index: Option<Expr>,
+    value: Expr,
+    around: Box<Around>,
+    spotted: &Spotted,
+) -> Result<Turn, AllocError>
+    ensures { IfOk result (λ t. turn_of t ≡ used (for_value at (name_bytes name) (option_map expression_of index)) (expression_of value) (around_of around.value) (seen_of spotted.now)) }
+{
+    if !is_semicolon(&spotted.token) {
+        return Ok(Turn::Wrong);
+    }
+    let whole = Stmt::Set {
+        at,
+        name,
+        index,
+        value,
+    };
+    statement_ends(alloc, around, whole)
+}
+
+/// The token behind an expression.
+fn used(
+    alloc: Global,
+    purpose: Purpose,
+    value: Expr,
+    around: Box<Around>,
+    spotted: &Spotted,
+) -> Result<Turn, AllocError>
+    ensures { IfOk result (λ t. turn_of t ≡ used (use_of purpose) (expression_of value) (around_of around.value) (seen_of spotted.now)) }
+{
+    match purpose {
+        Purpose::Output { at } => output_ends(alloc, at, value, around, spotted),
+        Purpose::If { at } => condition_ends(alloc, at, None, value, around, spotted),
+        Purpose::While { at, turns } => {
+            condition_ends(alloc, at, Some(turns), value, around, spotted)
+        }
+        Purpose::Low { at, first } => low_ends(alloc, at, first, value, around, spotted),
+        Purpose::High {
+            at,
+            first,
+            low,
+            second,
+            closed,
+        } => {
+            let high = value;
+            let header = Header {
+                at,
+                first,
+                low,
+                second,
+                closed,
+                high,
+            };
+            high_ends(alloc, header, around, spotted)
+        }
+        Purpose::Index { at, name } => Ok(index_ends(at, name, value, around, spotted)),
+        Purpose::Value { at, name, index } => {
+            value_ends(alloc, at, name, index, value, around, spotted)
+        }
+        Purpose::Change {
+            at,
+            name,
+            index,
+            op,
+            sign,
+        } => {
+            if !is_semicolon(&spotted.token) {
+                return Ok(Turn::Wrong);
+            }
+            let whole = changed(alloc, at, name, index, op, sign, value)?;
+            statement_ends(alloc, around, whole)
+        }
+        Purpose::Argument {
+            at,
+            target,
+            callee,
+            before,
+        } => { argument_ends(alloc, at, target, callee, before, value, around, spotted) }
+    }
+}
+
+fn is_start(state: &State) -> bool
+    ensures { result ≡ is_start (state_of state.now) }
+{
+    matches!(
+        state,
+        State::Wants {
+            around: Open::Bottom
+        }
+    )
+}
+
+/// `in` where the value of `name =` begins.
+fn input_begins(
+    alloc: Global,
+    at: Place,
+    name: Name,
+    around: Box<Around>,
+    spotted: &Spotted,
+) -> Result<Turn, AllocError>
+    ensures { IfOk result (λ t. turn_of t ≡ at_start (for_value at (name_bytes name) None) (around_of around.value) (seen_of spotted.now)) }
+{
+    if !is_in(&spotted.token) {
+        return Ok(Turn::Wrong);
+    }
+    let statement = boxed(alloc, Stmt::Input { at, name })?;
+    let row = Row::Last { statement };
+    begin(
+        alloc,
+        row,
+        spotted,
+        Slot::LeftParenthesis,
+        &INPUT_ROW,
+        around,
+    )
+}
+
+/// `)` where the first argument of a call begins.
+fn no_arguments(
+    alloc: Global,
+    at: Place,
+    target: Option<Name>,
+    callee: Name,
+    around: Box<Around>,
+    spotted: &Spotted,
+) -> Result<Turn, AllocError>
+    ensures { IfOk result (λ t. turn_of t ≡ at_start (for_argument at (option_map name_bytes target) (name_bytes callee) []) (around_of around.value) (seen_of spotted.now)) }
+{
+    if !is_right_parenthesis(&spotted.token) {
+        return Ok(Turn::Wrong);
+    }
+    let whole = Stmt::Call {
+        at,
+        target,
+        callee,
+        args: Sequence::new(alloc),
+    };
+    finish(alloc, whole, spotted, around)
+}
+
+/// Where no expression has a token at its beginning: `in` behind `name =`, and `)` where a call has no
+/// arguments.
+#[tactic(auto, using(crate::proofs::StatementLemmas::Starts::no_argument, crate::proofs::StatementLemmas::Starts::another_argument))]
+fn at_start(
+    alloc: Global,
+    purpose: Purpose,
+    around: Box<Around>,
+    spotted: &Spotted,
+) -> Result<Turn, AllocError>
+    ensures { IfOk result (λ t. turn_of t ≡ at_start (use_of purpose) (around_of around.value) (seen_of spotted.now)) }
+{
+    match purpose {
+        Purpose::Value { at, name, index } => match index {
+            None => input_begins(alloc, at, name, around, spotted),
+            Some(_index) => Ok(Turn::Wrong),
+        },
+        Purpose::Argument {
+            at,
+            target,
+            callee,
+            before,
+        } => match before.items() {
+            [] => no_arguments(alloc, at, target, callee, around, spotted),
+            [_, ..] => Ok(Turn::Wrong),
+        },
+        Purpose::Output { .. }
+        | Purpose::If { .. }
+        | Purpose::While { .. }
+        | Purpose::Low { .. }
+        | Purpose::High { .. }
+        | Purpose::Index { .. }
+        | Purpose::Change { .. } => Ok(Turn::Wrong),
+    }
+}
+
+/// The name that is all of an expression, where the token behind it is `(`.
+fn callee_at(alloc: Global, state: &State, token: &Token) -> Result<Option<Name>, AllocError>
+    ensures { IfOk result (λ name. option_map name_bytes name ≡ (if is_left_parenthesis (lexeme_of token.now) then lone_name (state_of state.now) else None)) }
+{
+    if !is_left_parenthesis(token) {
+        return Ok(None);
+    }
+    match state {
+        State::Named {
+            name,
+            around: Open::Bottom,
+            ..
+        } => Ok(Some(copy_name(alloc, name)?)),
+        _ => Ok(None),
+    }
+}
+
+/// `(` behind `name = name` begins the arguments of a call.
+fn called(
+    alloc: Global,
+    purpose: Purpose,
+    callee: Name,
+    around: Box<Around>,
+) -> Result<Turn, AllocError>
+    ensures { IfOk result (λ t. turn_of t ≡ called (use_of purpose) (name_bytes callee) (around_of around.value)) }
+{
+    match purpose {
+        Purpose::Value { at, name, index } => match index {
+            None => {
+                let purpose = Purpose::Argument {
+                    at,
+                    target: Some(name),
+                    callee,
+                    before: Sequence::new(alloc),
+                };
+                expression(alloc, purpose, around)
+            }
+            Some(_index) => Ok(Turn::Wrong),
+        },
+        Purpose::Output { .. }
+        | Purpose::If { .. }
+        | Purpose::While { .. }
+        | Purpose::Low { .. }
+        | Purpose::High { .. }
+        | Purpose::Index { .. }
+        | Purpose::Change { .. }
+        | Purpose::Argument { .. } => Ok(Turn::Wrong),
+    }
+}
+
+/// A token of an expression, or the first one behind it.
+fn within(
+    alloc: Global,
+    purpose: Box<Purpose>,
+    state: State,
+    room: u32,
+    around: Box<Around>,
+    spotted: &Spotted,
+) -> Result<Turn, AllocError>
+    ensures { IfOk result (λ t. turn_of t ≡ within (use_of purpose.value) (state_of state) room (around_of around.value) (seen_of spotted.now)) }
+{
+    let starts = is_start(&state);
+    let callee = callee_at(alloc, &state, &spotted.token)?;
+    let least = least_of(&purpose);
+    match advance(alloc, least, state, spotted)? {
+        Move::Goes { state } => Ok(Turn::On {
+            point: Point::Inside {
+                purpose,
+                state,
+                room: room.saturating_sub(1),
+                around,
+            },
+        }),
+        Move::Ends { value } => {
+            if !is_left_parenthesis(&spotted.token) {
+                return used(alloc, Box::into_inner(purpose), value, around, spotted);
+            }
+            match callee {
+                Some(callee) => called(alloc, Box::into_inner(purpose), callee, around),
+                None => Ok(Turn::Wrong),
+            }
+        }
+        Move::Stops => {
+            if starts {
+                return at_start(alloc, Box::into_inner(purpose), around, spotted);
+            }
+            Ok(Turn::Wrong)
+        }
+    }
+}
+
+/// What a token is to the statements of a body of which the tokens up to `point` have been read. It fails
+/// only for want of memory.
+pub fn turn(alloc: Global, point: Point, spotted: &Spotted) -> Result<Turn, AllocError>
+    ensures { IfOk result (λ t. turn_of t ≡ turn (point_of point) (seen_of spotted.now)) }
+{
+    match point {
+        Point::Between { around } => next(alloc, around, spotted),
+        Point::MayElse {
+            at,
+            condition,
+            taken,
+            around,
+        } => { else_or(alloc, at, condition, taken, around, spotted) }
+        Point::Filling {
+            row,
+            got,
+            wanted,
+            later,
+            around,
+        } => { filling(alloc, row, got, wanted, later, around, spotted) }
+        Point::Inside {
+            purpose,
+            state,
+            room,
+            around,
+        } => { within(alloc, purpose, state, room, around, spotted) }
+        Point::OnName { at, name, around } => behind_name(alloc, at, name, around, spotted),
+        Point::OnElement {
+            at,
+            name,
+            index,
+            around,
+        } => { change(alloc, at, name, Some(index), around, spotted) }
+    }
+}

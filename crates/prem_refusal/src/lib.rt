@@ -1,9 +1,0 @@
-//! The text of each rule that a task set may break, and the answer to a set that breaks one.
-#![tactic(auto)]
-
-mod reply;
-mod rule;
-mod text;
-
-pub use reply::refused;
-pub use rule::rule_text;

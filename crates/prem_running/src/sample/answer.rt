@@ -1,0 +1,62 @@
+// A sample is drawn, compiled, run and told.
+ghost use Rattle.std.specs.Prelude.{◌≡◌, ◌≤◌, ◌^◌, IfOk, IsErrOf, Ok};
+ghost use Rattle.prem_list.specs.Sequence.{items_of};
+ghost use Rattle.prem_cycle.specs.Inputs.{FitsRun, setup_of, words_of};
+ghost use Rattle.prem_compile.specs.CompiledOf.{compiled_of};
+ghost use Rattle.prem_image.specs.Text.{image_text};
+ghost use Rattle.prem_answer.specs.Stages.{Comes, reply_of};
+ghost use Rattle.prem_exec.specs.Exec.{input_of, state_at};
+ghost use Rattle.prem_running.specs.Sample.Sample.{compiled_reply, sample_reply, told_reply};
+ghost use Rattle.prem_running.specs.Sample.Trace.{sample_run};
+
+use crate::sample::text::sample_text;
+use crate::sample::trace::draw_sample;
+use prem_answer::refusal::refused;
+use prem_answer::{Answer, Halt, Status};
+use prem_compile::{CompileFail, compile};
+use prem_exec::run_image;
+use prem_gate::RunInput;
+use prem_image::Image;
+use std::alloc::{AllocError, Global};
+
+/// The answer to a sample with this image: it is run up to its limit.
+fn told(
+    alloc: Global,
+    seed: u64,
+    image: &Image,
+    input: &RunInput,
+    limit: u64,
+) -> Result<Answer, AllocError>
+    requires fits { FitsRun (setup_of image.now) (words_of input.now) (items_of input.now.requests) }
+    requires limit { limit ≤ 2 ^ 61 }
+    ensures { IfOk result (λ a. reply_of a ≡ told_reply seed (image_text image.now) limit (state_at (image_text image.now) (input_of input.now) limit)) }
+{
+    let (machine, stop) = run_image(alloc, image, input, limit)?;
+    let text = sample_text(
+        alloc,
+        seed,
+        image.tasks.items(),
+        image.devices.items(),
+        machine.now(),
+        machine.facts(),
+        stop,
+    )?;
+    Ok(Answer {
+        status: Status::Done,
+        text,
+    })
+}
+
+/// The answer to `sample N`: the set and what comes to its run are drawn by the seed, the set is compiled, and its run is told; or the
+/// first rule that it breaks is.
+pub fn sample_answer(alloc: Global, seed: u64) -> Result<Answer, Halt>
+    ensures answer { Comes reply_of (λ given. given ≡ Ok (sample_reply seed)) result }
+    ensures unread { IsErrOf result Halt.ReadFault → ⊥ }
+{
+    let sample = draw_sample(alloc, seed)?;
+    match compile(alloc, &sample.set) {
+        Ok(compiled) => Ok(told(alloc, seed, &compiled.image, &sample.input, compiled.limit)?),
+        Err(CompileFail::Refused(refusal)) => { Ok(refused(alloc, sample.set.tasks(), &refusal)?) }
+        Err(CompileFail::OutOfMemory) => Err(Halt::OutOfMemory),
+    }
+}

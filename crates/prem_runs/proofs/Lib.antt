@@ -1,0 +1,4 @@
+pub mod PositionLemmas
+pub mod InputsLemmas
+pub mod WindowLemmas
+pub mod TransferLemmas

@@ -1,0 +1,4 @@
+pub mod Position
+pub mod Inputs
+pub mod Window
+pub mod Transfer

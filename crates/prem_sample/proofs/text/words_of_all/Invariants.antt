@@ -1,7 +1,0 @@
-use Rattle.std.proofs.Common.{◌≡◌, ◌++◌, map, drop}
-use Rattle.prem_cycle.specs.FactsOf.{task_report}
-use Rattle.prem_sample.specs.Sample.{words_of_all}
-use Rattle.prem_sample.proofs.text.words_of_all.Given as goal
-
-abbrev pub invariant-tasks : goal.invariant-tasks
-invariant-tasks l = l.words.items ++ words_of_all (map task_report (drop l.task-index l.tasks)) ≡ words_of_all (map task_report l.tasks)

@@ -1,0 +1,124 @@
+-- The rules that each placed task of a set keeps that breaks none.
+use Rattle.std.proofs.Common.{◌≡◌, ℕ, zero, suc, ◌+◌, refl, ap, sym, subst, List, [], ◌∷◌, drop, Option, None, Some, Ok, slice_get}
+use Rattle.std.specs.List.{AllByRecursion}
+use Rattle.std.specs.Option.{option_map}
+use Rattle.prem_plant.specs.declared.plant.Plant.{Plant}
+use Rattle.prem_plant.specs.Places.{Extent}
+use Rattle.prem_syntax.specs.Syntax.{ProgramText}
+use Rattle.prem_text.specs.Texts.{reads}
+use Rattle.prem_layout.specs.Parts.{part_count}
+use Rattle.prem_layout.specs.Placed.{Coded, Placed, task_places, placed_at, placed_from}
+use Rattle.prem_layout.specs.Rules.{or_else, refused_by, first_among, over_tasks, group_four, group_five, group_six, group_seven, group_eight, group_nine, group_ten}
+use Rattle.prem_layout.specs.Broken.{broken_when_placed, broken_at_places, broken_late}
+use Rattle.prem_meaning.specs.GroupTwo as meaning
+use Rattle.prem_ranges.specs.GroupThree as ranges
+use Rattle.prem_tasks.specs.Broken.{TaskText, group_one, program_before, programs_of, group_two, group_three, bounded, coded_one, coded_of, late_refusal, broken_programs}
+use Rattle.prem_tasks.specs.Compiled.{coded_in, places_in, placed_in}
+use Rattle.prem_sets_sound.specs.Accepted.Accepted.{AcceptedTasksKeepRules}
+use Rattle.prem_sets_sound.proofs.AcceptedLemmas.Follow.{both_none, not_refused, not_late, read_there}
+
+-- ---- rules over all tasks
+
+none_among : {A R : Type 0} (check : A → Option R) (n : ℕ) (xs : List A) → first_among check n xs ≡ None → AllByRecursion (λ x. check x ≡ None) xs
+none_among check n [] h = tt
+none_among check n (x ∷ xs) h =
+    let s = both_none (refused_by (Some n) (check x)) (first_among check (n + 1) xs) h in
+    (not_refused (Some n) (check x) s.first, none_among check (n + 1) xs s.second)
+
+at_place : {A : Type 0} (P : A → Type 0) (xs : List A) → AllByRecursion P xs → (k : ℕ) (x : A) → slice_get xs k ≡ Some x → P x
+at_place P [] h k x e = absurd cc
+at_place P (y ∷ xs) h zero x e = let same : y ≡ x = cc in subst P same h.0
+at_place P (y ∷ xs) h (suc k) x e = at_place P xs h.1 k x e
+
+not_mapped : {A B : Type 0} (f : A → B) (o : Option A) → option_map f o ≡ None → o ≡ None
+not_mapped f None h = refl
+not_mapped f (Some a) h = absurd cc
+
+-- ---- programs
+
+-- each text has its program
+abbrev Read : List TaskText → List ProgramText → Type 0
+Read [] [] = Unit {0}
+Read [] (q ∷ qs) = ⊥
+Read (t ∷ ts) [] = ⊥
+Read (t ∷ ts) (q ∷ qs) = (reads t.text ≡ Ok q) × Read ts qs
+
+read_all : (n : ℕ) (ts : List TaskText) → first_among group_one n ts ≡ None → Read ts (programs_of ts)
+read_all n [] h = tt
+read_all n (t ∷ ts) h =
+    let s = both_none (refused_by (Some n) (group_one t)) (first_among group_one (n + 1) ts) h in
+    let r = read_there n t s.first in
+    let e : programs_of (t ∷ ts) ≡ r.0 ∷ programs_of ts = ap (λ o. program_before o (programs_of ts)) r.1 in
+    subst (Read (t ∷ ts)) (sym e) (r.1, read_all (n + 1) ts s.second)
+
+-- the text and the program of a placed task
+record HasProgram (ts : List TaskText) (k : ℕ) (t : Placed) : Type 0 where
+  text : TaskText
+  program : ProgramText
+  there : slice_get ts k ≡ Some text
+  read : reads text.text ≡ Ok program
+  two : group_two program ≡ None
+  three : group_three program ≡ None
+  is_coded : t.task ≡ coded_one text (bounded program)
+  four : group_four t.task.program ≡ None
+
+find_program : (p : Plant) (places : List Extent) (ts : List TaskText) (qs : List ProgramText) → Read ts qs →
+    AllByRecursion (λ q. group_two q ≡ None) qs → AllByRecursion (λ q. group_three q ≡ None) qs → AllByRecursion (λ (c : Coded). group_four c.program ≡ None) (coded_of ts qs) →
+    (k : ℕ) (t : Placed) → slice_get (placed_from p places (coded_of ts qs)) k ≡ Some t → HasProgram ts k t
+find_program p places [] [] r two three four k t e = absurd cc
+find_program p places [] (q ∷ qs) r two three four k t e = absurd r
+find_program p places (x ∷ ts) [] r two three four k t e = absurd r
+find_program p places (x ∷ ts) (q ∷ qs) r two three four zero t e =
+    let c = coded_one x (bounded q) in
+    let same : placed_at p c (task_places c.program places) ≡ t = cc in
+    let is : t.task ≡ c = ap (λ (u : Placed). u.task) (sym same) in
+    record { text = x; program = q; there = refl; read = r.0; two = two.0; three = three.0; is_coded = is; four = subst (λ (d : Coded). group_four d.program ≡ None) (sym is) four.0 }
+find_program p places (x ∷ ts) (q ∷ qs) r two three four (suc k) t e =
+    let c = coded_one x (bounded q) in
+    let f = find_program p (drop (part_count c.program) places) ts qs r.1 two.1 three.1 four.1 k t e in
+    record { text = f.text; program = f.program; there = f.there; read = f.read; two = f.two; three = f.three; is_coded = f.is_coded; four = f.four }
+
+-- ---- placed tasks
+
+record KeepPlaced (p : Plant) (placed : List Placed) : Type 0 where
+  six : AllByRecursion (λ t. group_six t ≡ None) placed
+  seven : AllByRecursion (λ t. group_seven p t ≡ None) placed
+  eight : AllByRecursion (λ t. group_eight p t ≡ None) placed
+  nine : AllByRecursion (λ t. group_nine p t ≡ None) placed
+
+placed_keep : (p : Plant) (tasks : List Coded) (placed : List Placed) → broken_when_placed p tasks placed ≡ None → KeepPlaced p placed
+placed_keep p tasks placed h =
+    let ten = refused_by None (group_ten tasks) in
+    let six = both_none (over_tasks group_six placed) (or_else (over_tasks (group_seven p) placed) (or_else (over_tasks (group_eight p) placed) (or_else (over_tasks (group_nine p) placed) ten))) h in
+    let seven = both_none (over_tasks (group_seven p) placed) (or_else (over_tasks (group_eight p) placed) (or_else (over_tasks (group_nine p) placed) ten)) six.second in
+    let eight = both_none (over_tasks (group_eight p) placed) (or_else (over_tasks (group_nine p) placed) ten) seven.second in
+    let nine = both_none (over_tasks (group_nine p) placed) ten eight.second in
+    record { six = none_among group_six 0 placed six.first; seven = none_among (group_seven p) 0 placed seven.first; eight = none_among (group_eight p) 0 placed eight.first; nine = none_among (group_nine p) 0 placed nine.first }
+
+pub accepted_tasks_keep_rules : AcceptedTasksKeepRules
+accepted_tasks_keep_rules set h k t e =
+    let ps = programs_of set.tasks in
+    let cs = coded_in set in
+    let late = broken_late set.plant set.devices cs in
+    let one = both_none (over_tasks group_one set.tasks) (broken_programs set ps) h in
+    let two = both_none (over_tasks group_two ps) (or_else (over_tasks group_three ps) (late_refusal late)) one.second in
+    let three = both_none (over_tasks group_three ps) (late_refusal late) two.second in
+    let four = both_none (over_tasks (λ (c : Coded). group_four c.program) cs) (broken_at_places set.plant (places_in set) cs) (not_late late three.second) in
+    let five = both_none (refused_by None (group_five set.plant (places_in set))) (broken_when_placed set.plant cs (placed_in set)) four.second in
+    let keep = placed_keep set.plant cs (placed_in set) five.second in
+    let f = find_program set.plant (places_in set) set.tasks ps (read_all 0 set.tasks one.first) (none_among group_two 0 ps two.first) (none_among group_three 0 ps three.first)
+    (none_among (λ (c : Coded). group_four c.program) 0 cs four.first) k t e in
+    record {
+      text = f.text;
+      program = f.program;
+      there = f.there;
+      read = f.read;
+      two = not_mapped _ (meaning.group_two f.program) f.two;
+      three = not_mapped _ (ranges.group_three f.program) f.three;
+      is_coded = f.is_coded;
+      four = f.four;
+      six = at_place (λ t. group_six t ≡ None) (placed_in set) keep.six k t e;
+      seven = at_place (λ t. group_seven set.plant t ≡ None) (placed_in set) keep.seven k t e;
+      eight = at_place (λ t. group_eight set.plant t ≡ None) (placed_in set) keep.eight k t e;
+      nine = at_place (λ t. group_nine set.plant t ≡ None) (placed_in set) keep.nine k t e;
+    }

@@ -1,0 +1,252 @@
+-- Each placed task that keeps the rules joins.
+use Rattle.std.proofs.Common.{◌≡◌, ℕ, zero, suc, ◌+◌, ◌%◌, ◌^◌, ◌<◌, ◌≤◌, refl, ap, ◌∙◌, sym, subst, arith, true, List, [], ◌∷◌, length, map, Some, slice_get}
+use Rattle.std.specs.Prelude.{All, slice_index, slice_index_or}
+use Rattle.prem_plant.specs.declared.plant.Plant.{Plant}
+use Rattle.prem_plant.specs.declared.plant.Device.{Device}
+use Rattle.prem_plant.specs.Places.{Extent}
+use Rattle.prem_isa.specs.Plain.{TaskRun}
+use Rattle.prem_syntax.specs.Syntax.{ProgramText}
+use Rattle.prem_meaning.specs.Resolved.{Routine}
+use Rattle.prem_meaning.specs.Source.{initial_words}
+use Rattle.prem_meaning.specs.Statements.{is_marked}
+use Rattle.prem_ranges.specs.GroupThree.{limits_of}
+use Rattle.prem_asm.specs.Pieces.{call_to, no_pieces}
+use Rattle.prem_asm.specs.Runs.{Setting}
+use Rattle.prem_template.specs.Frames.{depth_of, deepest}
+use Rattle.prem_template.specs.Parts.{parts_of, is_marked_at, marked_before}
+use Rattle.prem_template.specs.Steps.{function_code}
+use Rattle.prem_layout.specs.Plans.{Plan}
+use Rattle.prem_layout.specs.Bounds.{start_code, job_bound_of}
+use Rattle.prem_layout.specs.Footprint.{place_at, global_range}
+use Rattle.prem_layout.specs.Placed.{Coded, Placed}
+use Rattle.prem_code_laws.specs.ExprLaws.Relation.{GlobalsStand}
+use Rattle.prem_code_laws.specs.GenLaws.Table.{IsStub}
+use Rattle.prem_code_laws.specs.GenLaws.Whole.{StartStands}
+use Rattle.prem_cycle.specs.Alone.{run_in}
+use Rattle.prem_sound.specs.Script.Scripts.{Reading}
+use Rattle.prem_weave.specs.Promise.Promised.{read_globals}
+use Rattle.prem_stub_laws.specs.Own.Owned.{own_of, setup_of}
+use Rattle.prem_stub_laws.specs.OwnSteps.OwnSteps.{AreOwnAt}
+use Rattle.prem_stub_laws.proofs.OwnStepsLemmas.Takes.{functions_take}
+use Rattle.prem_stub_laws.specs.Initial.Initial.{content_of}
+use Rattle.prem_stub_laws.specs.Initial.Standing.{setting_of, globals_in}
+use Rattle.prem_stub_laws.proofs.InitialLemmas.Values.{globals_stand_first}
+use Rattle.prem_stub_laws.proofs.InitialLemmas.Whole.{content_fits}
+use Rattle.prem_stub_laws.specs.StubFits.Within.{codes_in}
+use Rattle.prem_stub_laws.specs.JobWeave.Calm.{CalmStands}
+use Rattle.prem_stub_laws.specs.JobWeave.Confined.{Confinement, ConfinedStands}
+use Rattle.prem_stub_laws.proofs.JobWeaveLemmas.Calm.{functions_are_calm}
+use Rattle.prem_stub_laws.specs.Dues.Dues.{PlacedStands, weight_in}
+use Rattle.prem_stub_laws.proofs.DuesLemmas.Table.{placed_jobs_are_bounded}
+use Rattle.prem_task_laws.specs.TaskFrame.Kept.{KeepsTaskRules}
+use Rattle.prem_task_laws.specs.TaskFrame.Limits.{task_limits}
+use Rattle.prem_task_laws.specs.TaskFrame.Frames.{task_guard}
+use Rattle.prem_task_laws.specs.TaskFrame.Callees.{plain_callable}
+use Rattle.prem_task_laws.proofs.TaskGroundLemmas.Stands.{jobs_stand}
+use Rattle.prem_task_laws.proofs.TaskGroundLemmas.Elements.{globals_are_placed, globals_are_own, places_are_own}
+use Rattle.prem_task_laws.proofs.ProgramFitsLemmas.Functions.{plain_tasks_fit}
+use Rattle.prem_task_laws.proofs.ProgramFitsLemmas.Stubs.{job_stubs_fit}
+use Rattle.prem_task_laws.specs.TaskBytes.Parts.{IsPlacedTask, HasParts}
+use Rattle.prem_task_laws.specs.TaskBytes.Start.{RunStands}
+use Rattle.prem_task_laws.proofs.TaskBytesLemmas.Parts.{parts_of_task, at_parts, laid, plans_are}
+use Rattle.prem_task_laws.proofs.TaskBytesLemmas.Guards.{task_guard_is_own, task_code_is_own}
+use Rattle.prem_task_laws.proofs.TaskBytesLemmas.Start.{run_starts}
+use Rattle.prem_stub_laws.specs.Join.Joined.{TaskJoins}
+use Rattle.prem_sets_sound.specs.Each.Called.{confinement_of, plan_at, confinement_in}
+use Rattle.prem_sets_sound.specs.Each.Joins.{promise_for, TasksJoin}
+use Rattle.prem_sets_sound.proofs.EachLemmas.Means.{StubMeans, JobStands}
+use Rattle.prem_sets_sound.proofs.EachLemmas.Lands.{CallsStand}
+use Rattle.prem_sets_sound.proofs.EachLemmas.Joins.{TaskStands, joins, promise_is}
+use Rattle.prem_sets_sound.proofs.EachLemmas.Filled.{plan_there, routine_at, program_keeps, code_is, table_code, code_within, small_memory, codes_stand, part_listed}
+use Rattle.prem_sets_sound.proofs.EachLemmas.Words.{job_fits, code_stands, job_is, start_stands}
+use Rattle.prem_sets_sound.proofs.EachLemmas.Stubs.{planned_at, stub_means, confined_stands, stated_so}
+
+one_there : (xs : List ℕ) (a : ℕ) → All (λ byte. byte < 256) xs → slice_index xs a < 256
+one_there [] a h = omega arith
+one_there (x ∷ xs) zero h = h 0 0 (omega arith)
+one_there (x ∷ xs) (suc a) h = one_there xs a (λ k d lt. h (suc k) d (omega (arith, lt)))
+
+-- a marked function is there, with its mark
+marked_there : (fs : List Routine) (n : ℕ) → is_marked_at fs n ≡ true → (f : Routine) × ((slice_get fs n ≡ Some f) × (is_marked f ≡ true))
+marked_there [] n e = cc
+marked_there (x ∷ fs) zero e = (x, (refl, e))
+marked_there (x ∷ fs) (suc n) e = marked_there fs n e
+
+module _ (passes : ℕ → ℕ) (p : Plant) (devices : List Device) (tasks : List Coded) (places : List Extent) (k : ℕ) (t : Placed) (placed : IsPlacedTask p devices tasks places k t) (once : passes p.ways ≡ 1) (x : ProgramText) (keeps : KeepsTaskRules p x t)
+    (some : 1 ≤ t.task.jobs) (inputs : List (List ℕ)) (words : All (λ word. word < 2 ^ 32) (slice_index_or inputs k [])) where
+  abbrev s : Setting
+  s = setting_of p (task_guard t) t
+
+  abbrev own : TaskRun
+  own = run_in (setup_of p devices places tasks) (content_of p places tasks) inputs k
+
+  abbrev reads : Reading
+  reads = read_globals (λ g. (global_range t.at g).0) t.task.program.globals
+
+  abbrev first_bytes : ℕ → ℕ
+  first_bytes = slice_index (content_of p places tasks)
+
+  abbrev counted : ℕ
+  counted = length (map (λ (q : Extent). q.0) t.at.places)
+
+  parts : HasParts p tasks places k t
+  parts = parts_of_task p devices tasks places k t placed
+
+  run : RunStands p tasks places inputs k t own
+  run = run_starts p devices tasks places k t placed inputs
+
+  -- the plan of a marked function before `job`
+  record Planned (n : ℕ) : Type 0 where
+    plan : Plan
+    planned : slice_get t.plans (marked_before n t.task.program.routines) ≡ Some plan
+    function_is : plan.function ≡ n
+
+  planned : (n : ℕ) → (codes_in t).marked n ≡ true → Planned n
+  planned n marked =
+      let f = marked_there t.task.program.routines n marked in
+      let r = plan_there t.task.program 0 t.task.program.routines n f.0 f.1.0 f.1.1 in
+      let z : 0 + n ≡ n = omega arith in
+      record {
+        plan = r.0;
+        planned = ap (λ (ps : List Plan). slice_get ps (marked_before n t.task.program.routines)) (plans_are p places _ t (at_parts p devices tasks places k t placed)) ∙ r.1.0;
+        function_is = r.1.1 ∙ z;
+      }
+
+  stub_meant : (n : ℕ) → (codes_in t).marked n ≡ true → n < t.task.program.job → StubMeans p s t (limits_of x) n
+  stub_meant n marked lt =
+      let r = planned n marked in
+      let first : r.plan.function < t.task.program.job = subst (λ m. m < t.task.program.job) (sym r.function_is) lt in
+      subst (StubMeans p s t (limits_of x)) r.function_is (stub_means passes p devices tasks places k t placed x keeps once (marked_before n t.task.program.routines) r.plan r.planned first)
+
+  functions : (n : ℕ) → n < length t.task.program.routines → CalmStands (own_of tasks places k) s first_bytes counted ((codes_in t).code_part n) ((codes_in t).code n)
+  functions n lt =
+      let f = routine_at t.task.program.routines n lt in
+      let ps = function_code (parts_of t.task.program.routines) f.0 in
+      subst (CalmStands (own_of tasks places k) s first_bytes counted (1 + n)) (sym (code_is p devices tasks places k t placed x keeps n f.0 f.1))
+      (record {
+        stands = code_stands p devices tasks places k t placed x keeps n f.0 f.1;
+        calm = functions_are_calm (parts_of t.task.program.routines) f.0;
+        takes = functions_take (parts_of t.task.program.routines) f.0;
+        own_bytes = task_code_is_own p devices tasks places k t placed (1 + n) ps (part_listed p devices tasks places k t placed x keeps n ps (table_code p devices tasks places k t placed x keeps n f.0 f.1));
+      })
+
+  -- a stub in memory, in a job, under a confinement
+  record StubHere (y : Confinement) (ended n : ℕ) : Type 0 where
+    plan : Plan
+    there : plan_at t n ≡ Some plan
+    here : ConfinedStands (setup_of p devices places tasks) (own_of tasks places k) passes s (codes_in t) y own ended first_bytes counted t.task.program.job n
+    stated : here.at.stated ≡ plan.stated
+
+  stub_here : (ended : ℕ) → ended < own.jobs → (n : ℕ) → IsStub (codes_in t) t.task.program.job n → StubHere (confinement_in t n) ended n
+  stub_here ended less n is =
+      let r = planned n is.marked in
+      let lt = is.below in
+      let first : r.plan.function < t.task.program.job = subst (λ m. m < t.task.program.job) (sym r.function_is) lt in
+      let at = planned_at passes p devices tasks places k t placed x keeps once (marked_before n t.task.program.routines) r.plan r.planned first in
+      subst (λ m. StubHere (confinement_in t m) ended m) r.function_is
+      (subst (λ y. StubHere y ended r.plan.function) (sym (ap (confinement_of t) at)) (record {
+        plan = r.plan;
+        there = at;
+        here = confined_stands passes p devices tasks places k t placed x keeps once (marked_before n t.task.program.routines) r.plan r.planned first own ended (run.running (task_guard t) ended less) run.stack_small;
+        stated = stated_so passes p devices tasks places k t placed x keeps once (marked_before n t.task.program.routines) r.plan r.planned first own ended (run.running (task_guard t) ended less) run.stack_small;
+      }))
+
+  below : t.task.program.job < length t.task.program.routines
+  below = (job_fits p devices tasks places k t placed x keeps).below
+
+  calls_here : (ended : ℕ) → ended < own.jobs → CallsStand (setup_of p devices places tasks) (own_of tasks places k) passes reads s own ended first_bytes t counted
+  calls_here ended less = record {
+    running = run.running (task_guard t) ended less;
+    mine = task_guard_is_own p devices tasks places k t placed;
+    functions = functions;
+    stubs = λ n is. (stub_here ended less n is).here;
+    job = below;
+  }
+
+  none : 0 < own.jobs
+  none = let e = run.jobs in omega (arith, e, some)
+
+  due_stands : PlacedStands (setup_of p devices places tasks) (own_of tasks places k) passes s t (confinement_in t) own 0 first_bytes counted
+  due_stands = record {
+    count = parts.counts.code;
+    job_is = job_is p devices tasks places k t placed x keeps;
+    below = below;
+    running = run.running (task_guard t) 0 none;
+    code = functions;
+    stubs = λ n is. let h = stub_here 0 none n is in record { stands = h.here; plan = h.plan; there = h.there; stated_is = h.stated };
+  }
+
+  job_stands : JobStands p s t own.stack
+  job_stands =
+      let f = job_fits p devices tasks places k t placed x keeps in
+      let g = jobs_stand p placed.plant_is devices tasks places (laid p devices tasks places k t placed) k t placed.there f.routine f.there in
+      let e = table_code p devices tasks places k t placed x keeps t.task.program.job f.routine f.there in
+      let le = code_within p devices tasks places k t placed x keeps t.task.program.job (function_code (parts_of t.task.program.routines) f.routine) e in
+      let small = small_memory p devices tasks places k t placed x keeps in
+      record {
+        routine = f.routine;
+        there = f.there;
+        plain = f.unmarked;
+        alone = f.alone;
+        below = f.below;
+        depth = depth_of t.task.program.routines t.task.program.job;
+        under = deepest (depth_of t.task.program.routines) f.routine.body;
+        fits = f.fits (place_at t.at (1 + t.task.program.job)).0 (parts.aligned (1 + t.task.program.job)) (omega (arith, le, small));
+        code_is = code_is p devices tasks places k t placed x keeps t.task.program.job f.routine f.there;
+        ground = g.ground;
+        slots = g.slots;
+        space = g.space;
+        top_is = g.frame_is ∙ sym run.stack;
+        small = run.stack_small;
+      }
+
+  start_own : AreOwnAt (own_of tasks places k) (place_at t.at 0).0 (call_to 1 ((codes_in t).code_part t.task.program.job) no_pieces)
+  start_own a ge lt = task_code_is_own p devices tasks places k t placed 0 (start_code t.table.job) refl a ge (omega (arith, lt))
+
+  task_stands : TaskStands (setup_of p devices places tasks) (own_of tasks places k) passes p x t s own (λ g. (global_range t.at g).0)
+  task_stands =
+      let all = laid p devices tasks places k t placed in
+      let due = placed_jobs_are_bounded (setup_of p devices places tasks) (own_of tasks places k) passes s t (confinement_in t) own 0 first_bytes counted due_stands in
+      let rules = program_keeps p devices tasks places k t placed x keeps in
+      record {
+        keeps = keeps;
+        parts = counted;
+        calls = λ ended less. subst (λ b. CallsStand (setup_of p devices places tasks) (own_of tasks places k) passes reads s own ended b t counted) (sym run.bytes) (calls_here ended less);
+        mine = task_guard_is_own p devices tasks places k t placed;
+        plain = plain_tasks_fit x t.task.program rules t.task.program.job (omega arith) s (codes_in t) (codes_stand p devices tasks places k t placed x keeps (plain_callable t.task.program));
+        stubs_fit = job_stubs_fit t.task.program t.task.program.job (omega arith) (let lt = below in omega (arith, lt)) s (plain_callable t.task.program) (codes_in t) (codes_stand p devices tasks places k t placed x keeps (plain_callable t.task.program));
+        stubs = stub_meant;
+        job = job_stands;
+        starts = subst (λ b. StartStands s own b counted 0 ((codes_in t).code_part t.task.program.job)) (sym run.bytes)
+            (subst (λ j. StartStands s own first_bytes counted 0 (1 + j)) (job_is p devices tasks places k t placed x keeps) (start_stands p devices tasks places k t placed x keeps inputs));
+        own_start = start_own;
+        own_done = run.done_own;
+        aligned = four_more own.entry (subst (λ e. e % 4 ≡ 0) (sym run.entry) (parts.aligned 0));
+        small = run.entry_small;
+        bytes = λ a. subst (λ (b : ℕ → ℕ). b a < 256) (sym run.bytes) (one_there (content_of p places tasks) a (content_fits p devices tasks places all).1);
+        inputs = words;
+        first = subst (λ b. GlobalsStand s (globals_in t.task.program) (map initial_words t.task.program.globals) b) (sym run.bytes) (globals_stand_first p devices tasks places all k t placed.there (task_guard t));
+        globals = globals_are_placed p devices tasks places all k t placed.there (task_guard t);
+        own_globals = globals_are_own p devices tasks places all k t placed.there (own_of tasks places k) (λ g a lt h. places_are_own p tasks places k t placed.there _ a h);
+        cost = weight_in p t.plans t.table ((codes_in t).code_part t.task.program.job);
+        most = job_bound_of p t.plans t.table;
+        charged = due.0;
+        dear = due.1;
+      }
+    where
+      four_more : (n : ℕ) → n % 4 ≡ 0 → (n + 4) % 4 ≡ 0
+      four_more n e = omega (arith, e)
+
+  most_is : task_stands.most ≡ job_bound_of p t.plans t.table
+  unfolding task_stands
+  most_is = refl
+
+  task_joins : TaskJoins (setup_of p devices places tasks) passes (own_of tasks places k) own (task_limits p t) (promise_for x t (slice_index_or inputs k []))
+  task_joins =
+      subst (TaskJoins (setup_of p devices places tasks) passes (own_of tasks places k) own (task_limits p t))
+      (sym (ap (λ n. Rattle.prem_weave.specs.Promise.Promised.promise_in (λ g. (global_range t.at g).0) x (slice_index_or inputs k []) n) (sym run.jobs)
+      ∙ promise_is (setup_of p devices places tasks) (own_of tasks places k) passes p x t s own (λ g. (global_range t.at g).0) task_stands))
+      (joins (setup_of p devices places tasks) (own_of tasks places k) passes p x t s own (λ g. (global_range t.at g).0) task_stands (task_limits p t) most_is refl refl)
+
+pub tasks_join : TasksJoin
+tasks_join passes p devices tasks places k t placed once x keeps some inputs words = task_joins passes p devices tasks places k t placed once x keeps some inputs words

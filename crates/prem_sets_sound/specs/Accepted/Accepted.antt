@@ -1,0 +1,141 @@
+-- Sets that break no rule, as what the machine's side of soundness asks of an image.
+use Rattle.std.specs.Prelude.{◌≡◌, ℕ, ◌<◌, All, List, length, map, slice_get, slice_index_or, None, Some, Ok}
+use Rattle.prem_list.specs.Sequence.{items_of}
+use Rattle.prem_plant.specs.declared.plant.Plant.{Plant}
+use Rattle.prem_plant.specs.declared.plant.Device.{Device}
+use Rattle.prem_plant.specs.Label.{IsName, AreDistinct}
+use Rattle.prem_plant.specs.Ranges.{Between, IsPlant}
+use Rattle.prem_plant.specs.Places.{Extent, AreLawful}
+use Rattle.prem_lru.specs.Entries.{ReplacementRule}
+use Rattle.prem_lru.specs.Order.{OrderRule}
+use Rattle.prem_cycle.specs.Alone.{run_in}
+use Rattle.prem_cycle.specs.Inputs.{image_setup}
+use Rattle.prem_cycle.specs.State.{Setup}
+use Rattle.prem_sound.specs.Script.Scripts.{Promise}
+use Rattle.prem_sound.specs.Resident.Faultless.{IsPolicy}
+use Rattle.prem_sound.specs.Sound.{AreInputs, Sound}
+use Rattle.prem_syntax.specs.Syntax.{ProgramText}
+use Rattle.prem_text.specs.Texts.{reads}
+use Rattle.prem_meaning.specs.GroupTwo as meaning
+use Rattle.prem_ranges.specs.GroupThree as ranges
+use Rattle.prem_layout.specs.Bounds.{limit_of}
+use Rattle.prem_layout.specs.Placed.{Coded, Placed, parts_of, placed_from}
+use Rattle.prem_layout.specs.Rules.{group_four, group_six, group_seven, group_eight, group_nine, group_ten}
+use Rattle.prem_tasks.specs.Broken.{TaskText, TaskSet, bounded, coded_one, broken}
+use Rattle.prem_tasks.specs.Compiled.{coded_in, parts_in, places_in, placed_in, job_bounds, compiled}
+use Rattle.prem_tasks.specs.Lawful.{AreDevices, IsSet}
+use Rattle.prem_tasks.specs.SetOf.{set_of}
+use Rattle.prem_tasks.specs.declared.set.TaskSet.{TaskSet as SetTree}
+use Rattle.prem_stub_laws.specs.Own.Owned.{HasCode, own_of, setup_of}
+use Rattle.prem_stub_laws.specs.Initial.Initial.{content_of}
+use Rattle.prem_stub_laws.specs.Join.Joined.{JobLimits, TaskJoins, IsJoined}
+use Rattle.prem_task_laws.specs.TaskFrame.Limits.{task_limits}
+
+-- ---- values in their ranges
+
+pub record HasTextValues (t : TaskText) : Type 0 where
+  pub name : IsName t.name
+  pub period : Between 1 4294967295 t.period
+  pub jobs : Between 1 65535 t.jobs
+
+-- each value of a set is in its range, and no two tasks and no two devices have one name
+pub record HasValues (set : TaskSet) : Type 0 where
+  pub plant_is : IsPlant set.plant
+  pub devices_are : AreDevices set.devices
+  pub count : Between 1 16 (length set.tasks)
+  pub each : All HasTextValues set.tasks
+  pub names : AreDistinct (map (λ (t : TaskText). t.name) set.tasks)
+
+-- so it is in memory
+abbrev pub LawfulSetsHaveValues : Type 0
+LawfulSetsHaveValues = (s : SetTree) → IsSet s.plant (items_of s.devices) (items_of s.tasks) → HasValues (set_of s)
+
+-- ---- tasks with their code, at any lawful places
+
+pub record HasCodedValues (c : Coded) : Type 0 where
+  pub name : IsName c.name
+  pub period : Between 1 4294967295 c.period
+  pub jobs : Between 1 65535 c.jobs
+  pub coded : HasCode c
+
+-- a plant, devices and tasks with values in their ranges, at lawful places, whose jobs leave room in both logs
+pub record IsLaidOut (p : Plant) (devices : List Device) (tasks : List Coded) (places : List Extent) : Type 0 where
+  pub plant_is : IsPlant p
+  pub devices_are : AreDevices devices
+  pub count : Between 1 16 (length tasks)
+  pub each : All HasCodedValues tasks
+  pub names : AreDistinct (map (λ (c : Coded). c.name) tasks)
+  pub lawful : AreLawful p.line p.memory (parts_of p devices tasks) places
+  pub logs : group_ten tasks ≡ None
+
+-- ---- what their jobs take
+
+abbrev pub no_limits : JobLimits
+no_limits = record { cycles = 0; outputs = 0; calls = 0 }
+
+abbrev pub limits_at : Plant → List Placed → ℕ → JobLimits
+limits_at p placed k = slice_index_or (map (task_limits p) placed) k no_limits
+
+-- ---- the laws
+
+-- for all input words the run of each task goes along a weave, gives what is promised, and stays within its limits
+abbrev pub EachJoins : (passes : ℕ → ℕ) → Plant → List Device → List Coded → List Extent → (promises : List (List ℕ) → ℕ → Promise) → Type 0
+EachJoins passes p devices tasks places promises =
+    (inputs : List (List ℕ)) → AreInputs (setup_of p devices places tasks) inputs → (k : ℕ) → k < length (setup_of p devices places tasks).tasks →
+    TaskJoins (setup_of p devices places tasks) passes (own_of tasks places k) (run_in (setup_of p devices places tasks) (content_of p places tasks) inputs k) (limits_at p (placed_from p places tasks) k) (promises inputs k)
+
+-- all else that makes an image sound holds at any lawful places
+abbrev pub LaidOutImagesJoin : Type 0
+LaidOutImagesJoin =
+    (passes : ℕ → ℕ) (p : Plant) (devices : List Device) (tasks : List Coded) (places : List Extent) (promises : List (List ℕ) → ℕ → Promise) →
+    IsLaidOut p devices tasks places → EachJoins passes p devices tasks places promises →
+    IsJoined passes (setup_of p devices places tasks) (content_of p places tasks) (own_of tasks places) (limits_at p (placed_from p places tasks)) promises (limit_of (job_bounds p (placed_from p places tasks)))
+
+-- a set that breaks no rule is laid out by any lawful places of its parts
+abbrev pub AcceptedSetsAreLaidOut : Type 0
+AcceptedSetsAreLaidOut =
+    (set : TaskSet) (places : List Extent) → HasValues set → broken set ≡ None → AreLawful set.plant.line set.plant.memory (parts_in set) places →
+    IsLaidOut set.plant set.devices (coded_in set) places
+
+-- and its default places are lawful
+abbrev pub DefaultPlacesAreLawful : Type 0
+DefaultPlacesAreLawful =
+    (set : TaskSet) → HasValues set → broken set ≡ None → AreLawful set.plant.line set.plant.memory (parts_in set) (places_in set)
+
+-- what the machine runs of a set's compiled image
+abbrev pub setup_in : TaskSet → Setup
+setup_in set = image_setup (compiled set).image
+
+abbrev pub AcceptedSetsJoin : Type 0
+AcceptedSetsJoin =
+    (passes : ℕ → ℕ) (set : TaskSet) (promises : List (List ℕ) → ℕ → Promise) → HasValues set → broken set ≡ None →
+    EachJoins passes set.plant set.devices (coded_in set) (places_in set) promises →
+    IsJoined passes (setup_in set) (compiled set).image.content (own_of (coded_in set) (places_in set)) (limits_at set.plant (placed_in set)) promises (compiled set).limit
+
+-- so such an image is sound, within the limit that is told
+abbrev pub AcceptedSetsAreSound : Type 0
+AcceptedSetsAreSound =
+    (rule : ReplacementRule) (order : OrderRule) (passes : ℕ → ℕ) (set : TaskSet) (promises : List (List ℕ) → ℕ → Promise) → IsPolicy rule order passes → HasValues set → broken set ≡ None →
+    EachJoins passes set.plant set.devices (coded_in set) (places_in set) promises →
+    Sound rule (setup_in set) (compiled set).image.content promises (compiled set).limit
+
+-- ---- for the runs of tasks
+
+-- what the placed task number k of a set that breaks no rule stands on: its text, the program that the text has, and the rules that it keeps
+pub record KeepsRules (set : TaskSet) (k : ℕ) (t : Placed) : Type 0 where
+  pub text : TaskText
+  pub program : ProgramText
+  pub there : slice_get set.tasks k ≡ Some text
+  pub read : reads text.text ≡ Ok program
+  pub two : meaning.group_two program ≡ None
+  pub three : ranges.group_three program ≡ None
+  pub is_coded : t.task ≡ coded_one text (bounded program)
+  pub four : group_four t.task.program ≡ None
+  pub six : group_six t ≡ None
+  pub seven : group_seven set.plant t ≡ None
+  pub eight : group_eight set.plant t ≡ None
+  pub nine : group_nine set.plant t ≡ None
+
+abbrev pub AcceptedTasksKeepRules : Type 0
+AcceptedTasksKeepRules =
+    (set : TaskSet) → broken set ≡ None → (k : ℕ) (t : Placed) → slice_get (placed_in set) k ≡ Some t → KeepsRules set k t

@@ -1,0 +1,10 @@
+pub mod OwnLemmas
+pub mod CoverageLemmas
+pub mod JoinLemmas
+pub mod InitialLemmas
+pub mod StubWeaveLemmas
+pub mod StubFitsLemmas
+pub mod OwnStepsLemmas
+pub mod JobWeaveLemmas
+pub mod ConfinedLemmas
+pub mod DuesLemmas

@@ -1,0 +1,10 @@
+pub mod Own
+pub mod Coverage
+pub mod Join
+pub mod Initial
+pub mod StubWeave
+pub mod StubFits
+pub mod OwnSteps
+pub mod JobWeave
+pub mod Confined
+pub mod Dues

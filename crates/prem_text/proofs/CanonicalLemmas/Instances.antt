@@ -1,0 +1,68 @@
+-- Where the laws' premises hold.
+use Rattle.std.proofs.Common.{◌≤◌, ℕ, [], ◌∷◌, None, codes, refl, arith}
+use Rattle.prem_word.specs.declared.kind.Kind.TheVariants.{Int}
+use Rattle.prem_word.specs.declared.kind.BinOp.TheVariants.{Add, Sub}
+use Rattle.prem_syntax.specs.declared.tree.Place.{Place}
+use Rattle.prem_syntax.specs.declared.tree.Ty.TheVariants as ty
+use Rattle.prem_syntax.specs.Syntax.{literal, binary, output, no_statements, next_statement, function_item, ProgramText}
+use Rattle.prem_lexer.specs.declared.token.token.Mark.TheVariants as m
+use Rattle.prem_lexer.specs.Spelling.{used_word, is_unused, reserved_word, longest_mark}
+use Rattle.prem_lexer.specs.Literal.{literal_word}
+use Rattle.prem_lexer.specs.Tokens.{first_token, start, step, lex, tokens_of}
+use Rattle.prem_text.specs.Grammar.Phrases.{Phrase, of_literal, of_bracket, of_infix}
+use Rattle.prem_text.specs.Grammar.Reader.{nowhere}
+use Rattle.prem_text.specs.Texts.{reads}
+use Rattle.prem_text.proofs.Whole.{text_sound}
+use Rattle.prem_text.specs.Canonical.Printed.{printed}
+use Rattle.prem_text.specs.Canonical.Law.{IsOfText, IsTextOf, ReadBack}
+use Rattle.prem_text.proofs.CanonicalLemmas.Examples.{lit, outs}
+use Rattle.prem_text.proofs.CanonicalLemmas.Read.{canonical_divided, canonical_read}
+use Rattle.prem_text.proofs.CanonicalLemmas.Fewest.{fewest_parentheses}
+
+-- ---- a program
+
+abbrev at : ℕ → Place
+at col = record { line = 1; col = col }
+
+abbrev sum_program : ProgramText
+sum_program = outs (binary nowhere Add (lit 2) (lit 3))
+
+-- the tree of `void job(void){out(2+3);}`
+abbrev sum_of_text : ProgramText
+sum_of_text = function_item record {
+  at = at 6;
+  mark = None;
+  ty = ty.Void;
+  name = codes "job";
+  params = [];
+  locals = [];
+  body = next_statement (output (at 16) (binary (at 21) Add (literal (at 20) 2 Int) (literal (at 22) 3 Int))) no_statements;
+  result = None;
+} ∷ []
+
+sum_is_of_text : IsOfText sum_program
+unfolding tokens_of lex step start first_token reserved_word used_word is_unused longest_mark literal_word
+sum_is_of_text = record { text = codes "void job(void){out(2+3);}"; items = sum_of_text; is_text = text_sound _ _ refl; same = refl }
+
+sum_is_divided : IsTextOf sum_program (printed sum_program)
+sum_is_divided = canonical_divided sum_program sum_is_of_text
+
+sum_is_read : ReadBack sum_program (reads (printed sum_program))
+sum_is_read = canonical_read sum_program sum_is_of_text
+
+-- ---- parentheses: `9 - ( 4 - 3 )` has fewer than `( 9 - ( ( 4 - 3 ) ) )`
+
+abbrev number_phrase : ℕ → Phrase
+number_phrase n = of_literal nowhere n Int
+
+abbrev difference : Phrase → Phrase → Phrase
+difference left right = of_infix left nowhere m.Minus Sub right
+
+abbrev in_brackets : Phrase → Phrase
+in_brackets p = of_bracket nowhere p nowhere
+
+one_at_most : 1 ≤ 3
+one_at_most =
+    let law = fewest_parentheses 1 (binary nowhere Sub (lit 9) (binary nowhere Sub (lit 4) (lit 3))) (omega arith) in
+    law.fewest (in_brackets (difference (number_phrase 9) (in_brackets (in_brackets (difference (number_phrase 4) (number_phrase 3))))))
+    (omega arith, (refl, omega arith, omega arith, tt, (refl, omega arith, omega arith, tt, tt))) refl

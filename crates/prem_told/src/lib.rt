@@ -1,6 +1,0 @@
-//! The marks of a woven run are the marked calls that the program means.
-#![tactic(auto)]
-
-mod laws;
-
-pub use laws::marks_are_told;

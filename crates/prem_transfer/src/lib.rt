@@ -1,6 +1,0 @@
-//! Each transfer of a run takes the cycles of its device, from its first cycle on.
-#![tactic(auto)]
-
-mod laws;
-
-pub use laws::transfers_take_their_cycles;

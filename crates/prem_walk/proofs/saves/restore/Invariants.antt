@@ -1,7 +1,0 @@
-use Rattle.std.proofs.Common.{◌≡◌, drop}
-use Rattle.prem_saves.specs.Saves.{restored}
-use Rattle.prem_walk.specs.View.{env_of, saves_of}
-use Rattle.prem_walk.proofs.saves.restore.Given as goal
-
-abbrev pub invariant-loop-s : goal.invariant-loop-s
-invariant-loop-s l = restored (saves_of (drop l.s-index l.saves)) (env_of l.env) ≡ restored (saves_of l.saves) (env_of l.fn.env)

@@ -1,0 +1,11 @@
+// The marks of a run.
+ghost use Rattle.prem_weave.specs.Told.Shape.{JobsKeepShape};
+ghost use Rattle.prem_weave.specs.Told.Told.{MarksAreRead, MarksAreTold, WeavesTell};
+
+/// A woven run tells its marks, and where it notes the marked calls of a program they are the same.
+pub fn marks_are_told()
+    ensures tells { WeavesTell }
+    ensures marks { MarksAreTold }
+    ensures reads { MarksAreRead }
+    ensures shape { JobsKeepShape }
+{}
