@@ -4,6 +4,8 @@ use Rattle.prem_io.specs.Files.{Files, stored}
 use Rattle.prem_answer.specs.declared.status.Status.{Status}
 use Rattle.prem_answer.specs.declared.status.Status.TheVariants.{Done, Refused, Usage, Form, ReadFault, WriteFault, OutOfMemory, Missing, Trap}
 use Rattle.prem_answer.specs.declared.answer.Answer.{Answer}
+use Rattle.prem_answer.specs.declared.answer.Telling.{Telling}
+use Rattle.prem_answer.specs.declared.answer.Telling.TheVariants.{Whole, Brief}
 use Rattle.prem_answer.specs.declared.answer.Halt.{Halt}
 use Rattle.prem_answer.specs.declared.answer.Halt.TheVariants as halt
 
@@ -50,10 +52,18 @@ missing_reply name = (Missing, codes "missing " ++ (name ++ codes "\n"))
 abbrev pub form_reply : List ℕ → List ℕ → Reply
 form_reply name why = (Form, codes "form " ++ (name ++ (codes " " ++ (why ++ codes "\n"))))
 
+-- the same, with the reason or without it
+abbrev pub form_by : Telling → List ℕ → List ℕ → Reply
+form_by Whole name why = form_reply name why
+form_by Brief name why = (Form, codes "form " ++ (name ++ codes "\n"))
+
 -- the bytes of a file that is there and has at most so many
+abbrev pub within_by : Telling → ℕ → List ℕ → Option (List ℕ) → Result (List ℕ) Reply
+within_by how limit name None = Err (missing_reply name)
+within_by how limit name (Some bytes) = if nat_le (length bytes) limit then Ok bytes else Err (form_by how name (codes "too-long"))
+
 abbrev pub within_limit : ℕ → List ℕ → Option (List ℕ) → Result (List ℕ) Reply
-within_limit limit name None = Err (missing_reply name)
-within_limit limit name (Some bytes) = if nat_le (length bytes) limit then Ok bytes else Err (form_reply name (codes "too-long"))
+within_limit limit name content = within_by Whole limit name content
 
 -- ---- stages
 
@@ -66,8 +76,11 @@ and_then (Ok x) next = next x
 and_then (Err reply) next = Err reply
 
 -- a file of at most so many bytes is read and made into something, which goes on
+abbrev pub reading_by : {A B : Type 0} → Telling → ℕ → List ℕ → (List ℕ → Result A Reply) → (A → Stage B) → Stage B
+reading_by how limit name make next reads = and_then (and_then (within_by how limit name (reads 0 name)) make) (λ x. next x (later_reads reads))
+
 abbrev pub reading : {A B : Type 0} → ℕ → List ℕ → (List ℕ → Result A Reply) → (A → Stage B) → Stage B
-reading limit name make next reads = and_then (and_then (within_limit limit name (reads 0 name)) make) (λ x. next x (later_reads reads))
+reading limit name make next reads = reading_by Whole limit name make next reads
 
 -- the answer in which the stages end
 abbrev pub replied : Result Reply Reply → Reply
@@ -89,13 +102,19 @@ Comes view holds (Err halt.ReadFault) = Unit {0}
 Comes view holds (Err halt.OutOfMemory) = Unit {0}
 
 -- one reading of the files that a store tells, or of something where it tells none
+abbrev pub IsReadBy : Telling → Option Files → ℕ → List ℕ → Result (List ℕ) Reply → Type 0
+IsReadBy how told limit name given =
+    (content : Option (List ℕ)) × (IfSome told (λ files. stored files name ≡ content) × (given ≡ within_by how limit name content))
+
 abbrev pub IsRead : Option Files → ℕ → List ℕ → Result (List ℕ) Reply → Type 0
-IsRead told limit name given =
-    (content : Option (List ℕ)) × (IfSome told (λ files. stored files name ≡ content) × (given ≡ within_limit limit name content))
+IsRead told limit name given = IsReadBy Whole told limit name given
 
 -- the same, made into something
+abbrev pub IsReadAsBy : {A : Type 0} → Telling → Option Files → ℕ → List ℕ → (List ℕ → Result A Reply) → Result A Reply → Type 0
+IsReadAsBy how told limit name make given = (read : Result (List ℕ) Reply) × (IsReadBy how told limit name read × (given ≡ and_then read make))
+
 abbrev pub IsReadAs : {A : Type 0} → Option Files → ℕ → List ℕ → (List ℕ → Result A Reply) → Result A Reply → Type 0
-IsReadAs told limit name make given = (read : Result (List ℕ) Reply) × (IsRead told limit name read × (given ≡ and_then read make))
+IsReadAs told limit name make given = IsReadAsBy Whole told limit name make given
 
 -- readings of the files that a store tells, or of something where it tells none
 abbrev pub AreReads : Option Files → Reads → Type 0

@@ -1,6 +1,6 @@
 // A status with its text, and why a stage of the work gives nothing to the next one.
 ghost use Rattle.std.specs.Prelude.{◌≡◌, IfOk};
-ghost use Rattle.prem_answer.specs.Stages.{form_reply, missing_reply, reply_of};
+ghost use Rattle.prem_answer.specs.Stages.{form_by, form_reply, missing_reply, reply_of};
 ghost use Rattle.prem_answer.specs.declared.answer.Halt.TheVariants.{OutOfMemory};
 
 use crate::status::Status;
@@ -11,6 +11,15 @@ use std::alloc::{AllocError, Global};
 pub struct Answer {
     pub status: Status,
     pub text: Vec<u8>,
+}
+
+/// What an answer tells of a file that isn't in its form.
+#[derive(Clone, Copy, Debug, PartialEq, Eq)]
+pub enum Telling {
+    /// Its name, and why.
+    Whole,
+    /// Its name alone.
+    Brief,
 }
 
 /// Why a stage of the work gives nothing to the next one.
@@ -50,4 +59,17 @@ pub fn form(alloc: Global, name: &str, why: &str) -> Result<Answer, AllocError>
         status: Status::Form,
         text: format!(in alloc; "form {name} {why}\n")?.into_bytes(),
     })
+}
+
+/// `form FILE WHY`, or `form FILE`.
+pub fn form_by(alloc: Global, telling: Telling, name: &str, why: &str) -> Result<Answer, AllocError>
+    ensures { IfOk result (λ a. reply_of a ≡ form_by telling name.now why.now) }
+{
+    match telling {
+        Telling::Whole => form(alloc, name, why),
+        Telling::Brief => Ok(Answer {
+            status: Status::Form,
+            text: format!(in alloc; "form {name}\n")?.into_bytes(),
+        }),
+    }
 }

@@ -1,4 +1,7 @@
 //! Bounds on the cycles of marked functions and of jobs.
+//!
+//! - `counts`: how many outputs and marked calls a job has at most, by the turns of its loops.
+//! - `facts`: what is told of the predictable intervals of a placed task, and the rules that they break.
 #![tactic(auto)]
 
 mod bounds;

@@ -5,6 +5,7 @@ use Rattle.std.specs.List.{AllByRecursion}
 use Rattle.std.proofs.lemmas.List.Elements.{recursion_from_All}
 use Rattle.std.proofs.lemmas.List.{length-map}
 use Rattle.prem_plant.specs.declared.plant.Plant.{Plant}
+use Rattle.prem_plant.specs.declared.plant.Target.{Target}
 use Rattle.prem_plant.specs.declared.plant.Device.{Device}
 use Rattle.prem_plant.specs.declared.layout.PartSize.{PartSize}
 use Rattle.prem_plant.specs.Label.{IsName, AreDistinct}
@@ -19,7 +20,7 @@ use Rattle.prem_layout.specs.Bounds.{JobBound, limit_of}
 use Rattle.prem_layout.specs.Image.{image_of}
 use Rattle.prem_layout.specs.Placed.{Coded, Placed, parts_of, placed_from}
 use Rattle.prem_place.specs.Placed.PlacedOf.{coded_of, placed_of}
-use Rattle.prem_place.specs.declared.placed.task.PlacedTask.{PlacedTask}
+use Rattle.prem_place.specs.declared.placed.PlacedTask.{PlacedTask}
 use Rattle.prem_place.specs.Placing.Standing.{stands_in}
 use Rattle.prem_place.specs.Words.Far.{words_in}
 use Rattle.prem_place.specs.BuildImage.Built as built
@@ -48,29 +49,29 @@ rest_is x y xs ys e = cc
 
 -- ---- tasks in memory stand for stated tasks in their order
 
-abbrev head_of : TaskTree → ProgramText → Coded
-head_of t p = coded_one (task_of t) (bounded p)
+abbrev head_of : Target → TaskTree → ProgramText → Coded
+head_of target t p = coded_one target (task_of t) (bounded p)
 
-abbrev coded_all : List TaskTree → List ProgramText → List Coded
-coded_all ts ps = tasks.coded_of (map task_of ts) ps
+abbrev coded_all : Target → List TaskTree → List ProgramText → List Coded
+coded_all target ts ps = tasks.coded_of target (map task_of ts) ps
 
-names_same : (xs : List PlacedTask) (ts : List TaskTree) (ps : List ProgramText) → map coded_of xs ≡ coded_all ts ps → length ps ≡ length ts → built.task_names xs ≡ lawful.task_names ts
-names_same [] [] ps e l = refl
-names_same [] (t ∷ ts) [] e l = absurd (omega (arith, l))
-names_same [] (t ∷ ts) (p ∷ ps) e l = absurd cc
-names_same (x ∷ xs) [] ps e l = absurd cc
-names_same (x ∷ xs) (t ∷ ts) [] e l = absurd (omega (arith, l))
-names_same (x ∷ xs) (t ∷ ts) (p ∷ ps) e l =
-    let here : coded_of x ≡ head_of t p = first_is (coded_of x) (head_of t p) (map coded_of xs) (coded_all ts ps) e in
-    let more : built.task_names xs ≡ lawful.task_names ts = names_same xs ts ps (rest_is (coded_of x) (head_of t p) (map coded_of xs) (coded_all ts ps) e) (omega (arith, l)) in
+names_same : (target : Target) (xs : List PlacedTask) (ts : List TaskTree) (ps : List ProgramText) → map coded_of xs ≡ coded_all target ts ps → length ps ≡ length ts → built.task_names xs ≡ lawful.task_names ts
+names_same target [] [] ps e l = refl
+names_same target [] (t ∷ ts) [] e l = absurd (omega (arith, l))
+names_same target [] (t ∷ ts) (p ∷ ps) e l = absurd cc
+names_same target (x ∷ xs) [] ps e l = absurd cc
+names_same target (x ∷ xs) (t ∷ ts) [] e l = absurd (omega (arith, l))
+names_same target (x ∷ xs) (t ∷ ts) (p ∷ ps) e l =
+    let here : coded_of x ≡ head_of target t p = first_is (coded_of x) (head_of target t p) (map coded_of xs) (coded_all target ts ps) e in
+    let more : built.task_names xs ≡ lawful.task_names ts = names_same target xs ts ps (rest_is (coded_of x) (head_of target t p) (map coded_of xs) (coded_all target ts ps) e) (omega (arith, l)) in
     ap (λ (n : List ℕ). n ∷ built.task_names xs) (ap (λ (c : Coded). c.name) here) ∙ ap (λ (ns : List (List ℕ)). t.name ∷ ns) more
 
-as_many : (xs : List PlacedTask) (ts : List TaskTree) (ps : List ProgramText) → map coded_of xs ≡ coded_all ts ps → length ps ≡ length ts → length xs ≡ length ts
-as_many xs ts ps e l =
-    sym (length-map xs (λ (x : PlacedTask). x.name.now)) ∙ ap (λ (ns : List (List ℕ)). length ns) (names_same xs ts ps e l) ∙ length-map ts (λ (t : TaskTree). t.name)
+as_many : (target : Target) (xs : List PlacedTask) (ts : List TaskTree) (ps : List ProgramText) → map coded_of xs ≡ coded_all target ts ps → length ps ≡ length ts → length xs ≡ length ts
+as_many target xs ts ps e l =
+    sym (length-map xs (λ (x : PlacedTask). x.name.now)) ∙ ap (λ (ns : List (List ℕ)). length ns) (names_same target xs ts ps e l) ∙ length-map ts (λ (t : TaskTree). t.name)
 
-ranges_of : (x : PlacedTask) (t : TaskTree) (p : ProgramText) → coded_of x ≡ head_of t p → stands_in x → IsTaskText t → HasRanges x
-ranges_of x t p here s is =
+ranges_of : (target : Target) (x : PlacedTask) (t : TaskTree) (p : ProgramText) → coded_of x ≡ head_of target t p → stands_in x → IsTaskText t → HasRanges x
+ranges_of target x t p here s is =
     let name : x.name.now ≡ t.name = ap (λ (c : Coded). c.name) here in
     let period : x.period ≡ t.period = ap (λ (c : Coded). c.period) here in
     let jobs : x.jobs ≡ t.jobs = ap (λ (c : Coded). c.jobs) here in
@@ -84,14 +85,14 @@ ranges_of x t p here s is =
       code = s.parts.code;
     }
 
-each_in_range : (xs : List PlacedTask) (ts : List TaskTree) (ps : List ProgramText) → map coded_of xs ≡ coded_all ts ps → length ps ≡ length ts → AllByRecursion stands_in xs → AllByRecursion IsTaskText ts →
+each_in_range : (target : Target) (xs : List PlacedTask) (ts : List TaskTree) (ps : List ProgramText) → map coded_of xs ≡ coded_all target ts ps → length ps ≡ length ts → AllByRecursion stands_in xs → AllByRecursion IsTaskText ts →
     AllByRecursion HasRanges xs
-each_in_range [] ts ps e l s is = tt
-each_in_range (x ∷ xs) [] ps e l s is = absurd cc
-each_in_range (x ∷ xs) (t ∷ ts) [] e l s is = absurd (omega (arith, l))
-each_in_range (x ∷ xs) (t ∷ ts) (p ∷ ps) e l s is = (
-  ranges_of x t p (first_is (coded_of x) (head_of t p) (map coded_of xs) (coded_all ts ps) e) s.0 is.0,
-  each_in_range xs ts ps (rest_is (coded_of x) (head_of t p) (map coded_of xs) (coded_all ts ps) e) (omega (arith, l)) s.1 is.1,
+each_in_range target [] ts ps e l s is = tt
+each_in_range target (x ∷ xs) [] ps e l s is = absurd cc
+each_in_range target (x ∷ xs) (t ∷ ts) [] e l s is = absurd (omega (arith, l))
+each_in_range target (x ∷ xs) (t ∷ ts) (p ∷ ps) e l s is = (
+  ranges_of target x t p (first_is (coded_of x) (head_of target t p) (map coded_of xs) (coded_all target ts ps) e) s.0 is.0,
+  each_in_range target xs ts ps (rest_is (coded_of x) (head_of target t p) (map coded_of xs) (coded_all target ts ps) e) (omega (arith, l)) s.1 is.1,
 )
 
 -- ---- blocks
@@ -114,14 +115,14 @@ blocks_are (x ∷ xs) (bs ∷ bss) e =
 pub set_is_built : (set : TaskSet) (ts : List TaskTree) (parts : List PartSize) (layout : List Extent) (xs : List PlacedTask) (bss : List (List Block)) →
     IsPlant set.plant → AreDevices set.devices → AreTasks ts → map task_of ts ≡ set.tasks → HasPlaces set parts layout xs → views_of bss ≡ map words_in xs → IsBuilt set.plant xs bss set.devices layout
 set_is_built set ts parts layout xs bss plant devices stated same h blocks =
-    let coded : map coded_of xs ≡ coded_all ts (programs_of set.tasks) = h.coded ∙ ap (λ (texts : List TaskText). tasks.coded_of texts (programs_of set.tasks)) (sym same) in
+    let coded : map coded_of xs ≡ coded_all set.plant.target ts (programs_of set.tasks) = h.coded ∙ ap (λ (texts : List TaskText). tasks.coded_of set.plant.target texts (programs_of set.tasks)) (sym same) in
     let long : length (programs_of set.tasks) ≡ length ts = h.as_many ∙ ap (λ (texts : List TaskText). length texts) (sym same) ∙ length-map ts task_of in
-    let count : length xs ≡ length ts = as_many xs ts (programs_of set.tasks) coded long in
+    let count : length xs ≡ length ts = as_many set.plant.target xs ts (programs_of set.tasks) coded long in
     record {
       plant = plant;
       task_count = subst (λ n. Between 1 16 n) (sym count) stated.count;
-      each_task = each_in_range xs ts (programs_of set.tasks) coded long h.standing (recursion_from_All IsTaskText ts stated.each);
-      named = subst (λ (ns : List (List ℕ)). AreDistinct ns) (sym (names_same xs ts (programs_of set.tasks) coded long)) stated.names;
+      each_task = each_in_range set.plant.target xs ts (programs_of set.tasks) coded long h.standing (recursion_from_All IsTaskText ts stated.each);
+      named = subst (λ (ns : List (List ℕ)). AreDistinct ns) (sym (names_same set.plant.target xs ts (programs_of set.tasks) coded long)) stated.names;
       device_count = devices.count;
       each_device = devices.each;
       devices_named = devices.names;
@@ -165,9 +166,9 @@ pub record AreReady (set : TaskSet) (parts : List PartSize) (xs : List PlacedTas
 pub tasks_are_ready : (set : TaskSet) (ts : List TaskTree) (parts : List PartSize) (layout : List Extent) (xs : List PlacedTask) →
     AreTasks ts → map task_of ts ≡ set.tasks → HasPlaces set parts layout xs → AreReady set parts xs
 tasks_are_ready set ts parts layout xs stated same h =
-    let coded : map coded_of xs ≡ coded_all ts (programs_of set.tasks) = h.coded ∙ ap (λ (texts : List TaskText). tasks.coded_of texts (programs_of set.tasks)) (sym same) in
+    let coded : map coded_of xs ≡ coded_all set.plant.target ts (programs_of set.tasks) = h.coded ∙ ap (λ (texts : List TaskText). tasks.coded_of set.plant.target texts (programs_of set.tasks)) (sym same) in
     let long : length (programs_of set.tasks) ≡ length ts = h.as_many ∙ ap (λ (texts : List TaskText). length texts) (sym same) ∙ length-map ts task_of in
-    let ranges : AllByRecursion HasRanges xs = each_in_range xs ts (programs_of set.tasks) coded long h.standing (recursion_from_All IsTaskText ts stated.each) in
+    let ranges : AllByRecursion HasRanges xs = each_in_range set.plant.target xs ts (programs_of set.tasks) coded long h.standing (recursion_from_All IsTaskText ts stated.each) in
     let all : parts_of set.plant set.devices (map coded_of xs) ≡ parts = ap (λ (cs : List Coded). parts_of set.plant set.devices cs) h.coded ∙ sym h.parts_are in
     record {
       names = has_names xs ranges;

@@ -1,13 +1,16 @@
 -- The images of the worked runs: contents as words, and what stands beside them.
 use Rattle.std.proofs.Common.{ℕ, ◌/◌, List, [], ◌∷◌, ◌++◌}
 use Rattle.std.specs.Prelude.{Some, None, codes, replicate, slice_set}
+use Rattle.prem_plant.specs.declared.plant.Replacement.TheVariants.{Lru}
+use Rattle.prem_plant.specs.declared.plant.Target.TheVariants.{Rv32i}
 use Rattle.prem_plant.specs.declared.plant.Plant.{Plant}
+use Rattle.prem_plant.specs.declared.plant.Replacement.TheVariants.{Lru}
+use Rattle.prem_plant.specs.declared.plant.Target.TheVariants.{Rv32i}
 use Rattle.prem_image.specs.declared.image.TaskRecord.{TaskRecord}
 use Rattle.prem_image.specs.declared.image.DeviceRecord.{DeviceRecord}
 use Rattle.prem_gate.specs.declared.request.Request.{Request}
 use Rattle.prem_lru.specs.Splice.{bytes_of}
-use Rattle.prem_lru.specs.Entries.{to_front}
-use Rattle.prem_cycle.specs.State.{Setup, MachineState}
+use Rattle.prem_cycle.specs.State.{Setup, MachineState, rule_in}
 use Rattle.prem_cycle.specs.Run.{run_of}
 
 -- ---- contents
@@ -25,6 +28,12 @@ abbrev pub out_five : List ℕ
 out_five =
     0x008000ef ∷ 0x0000300b ∷ 0xff010113 ∷ 0x00112023 ∷ 0x00200513 ∷ 0x00300593
     ∷ 0x00b50533 ∷ 0x0005500b ∷ 0x00012083 ∷ 0x01010113 ∷ 0x00008067 ∷ []
+
+-- `void job(void){ out(6*7); }` for RV32IM, at the same places
+abbrev pub out_product : List ℕ
+out_product =
+    0x008000ef ∷ 0x0000300b ∷ 0xff010113 ∷ 0x00112023 ∷ 0x00600513 ∷ 0x00700593
+    ∷ 0x02b50533 ∷ 0x0005500b ∷ 0x00012083 ∷ 0x01010113 ∷ 0x00008067 ∷ []
 
 -- `void job(void){}`: the stack from 32 to 48
 abbrev pub nothing : List ℕ
@@ -68,9 +77,9 @@ states_hundred = patched 0xf4 0x06428293 marked
 
 -- ---- what stands beside them
 
--- the numbers of a plant where nothing else is stated, with a memory of so many bytes
+-- a plant where nothing else is stated, with a memory of so many bytes
 abbrev pub plant : ℕ → Plant
-plant memory = record { line = 16; sets = 64; ways = 4; fill = 10; back = 10; switch = 20; memory = memory }
+plant memory = record { line = 16; sets = 64; ways = 4; fill = 10; back = 10; switch = 20; memory = memory; policy = Lru; target = Rv32i }
 
 abbrev pub task : (period jobs entry stack : ℕ) → TaskRecord
 task period jobs entry stack = record { name = codes "m"; period = period; jobs = jobs; entry = entry; stack = stack }
@@ -89,4 +98,4 @@ get cycle device line = record { cycle = cycle; device = device; line = line; pu
 
 -- n cycles of a run on these words, without input words
 abbrev pub run : Setup → List ℕ → List Request → ℕ → MachineState
-run p words requests n = run_of to_front p (bytes_in words) [] requests n
+run p words requests n = run_of (rule_in p) p (bytes_in words) [] requests n

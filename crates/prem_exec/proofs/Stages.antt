@@ -5,7 +5,7 @@ use Rattle.prem_answer.specs.declared.status.Status.{Status}
 use Rattle.prem_report.specs.Report.{report_text}
 use Rattle.prem_list.specs.Sequence.{items_of}
 use Rattle.prem_image.specs.declared.image.Image.{Image}
-use Rattle.prem_lru.specs.Entries.{to_front}
+use Rattle.prem_lru.specs.Rules.{rule_of}
 use Rattle.prem_gate.specs.declared.request.RunInput.{RunInput}
 use Rattle.prem_cycle.specs.State.{MachineState}
 use Rattle.prem_cycle.specs.Run.{cycles_of}
@@ -17,7 +17,8 @@ use Rattle.prem_set.specs.Run.Views.{IsRun}
 use Rattle.prem_io.specs.Files.{Files}
 use Rattle.prem_image.specs.Text.{ImageText, image_text}
 use Rattle.prem_command.specs.Words.{RunAsked}
-use Rattle.prem_answer.specs.Stages.{Reply, Reads, Stage, IsReadAs, IsGiven, IsFine, is_settled, form_reply, reading}
+use Rattle.prem_answer.specs.declared.answer.Telling.{Telling}
+use Rattle.prem_answer.specs.Stages.{Reply, Reads, Stage, IsReadAs, IsGiven, IsFine, is_settled, form_by, form_reply, reading}
 use Rattle.prem_answer.proofs.Reading.{goes_on, ends_there, gives_at_once, reading_fine}
 use Rattle.prem_cycle.specs.declared.state.Stop.{Stop}
 use Rattle.prem_cycle.specs.declared.state.Stop.TheVariants.{Finished, Trap, LogFull, Limit}
@@ -25,7 +26,7 @@ use Rattle.prem_imagefile.specs.declared.fail.ImageFail.{ImageFail}
 use Rattle.prem_imagefile.specs.Reading.{read_as, Fails}
 use Rattle.prem_set.specs.Run.Run.{Gathered, LineRefusal, run_of}
 use Rattle.prem_report.specs.Fitting.Named.{names_for}
-use Rattle.prem_exec.specs.Forms.{RunText, image_in, image_why, line_why, run_in}
+use Rattle.prem_exec.specs.Forms.{RunText, image_in, image_why, line_why, run_in, run_in_by}
 use Rattle.prem_exec.specs.Exec.{exec_stages, image_limit, run_limit, image_of_bytes, run_of_bytes, run_reply, exec_limit, stop_status, stop_at, state_at, told_reply, input_of}
 
 abbrev reply : Status → List ℕ → Reply
@@ -102,19 +103,19 @@ pub run_read : (name : List ℕ) (read : Result Gathered LineRefusal) (input : R
 run_read name (Ok g) input (words, requests) = ap Ok (ap (λ ws. record { words = ws; requests = g.requests }) (sym words) ∙ ap (λ rs. record { words = words_of input; requests = rs }) (sym requests))
 run_read name (Err refusal) input is = absurd is
 
-pub run_refused : (name : List ℕ) (read : Result Gathered LineRefusal) (n : ℕ) (which : Which) (reply : Reply) → read ≡ Err (n, which) →
-    reply ≡ form_reply name (line_why (n, which)) → run_in name read ≡ Err reply
-run_refused name read n which reply is line = ap (run_in name) is ∙ ap Err (sym line)
+pub run_refused : (how : Telling) (name : List ℕ) (read : Result Gathered LineRefusal) (n : ℕ) (which : Which) (reply : Reply) → read ≡ Err (n, which) →
+    reply ≡ form_by how name (line_why (n, which)) → run_in_by how name read ≡ Err reply
+run_refused how name read n which reply is line = ap (run_in_by how name) is ∙ ap Err (sym line)
 
 -- ---- the run
 
 -- a run starts at cycle 0, and goes on from there
-pub starts_at : (image : Image) (input : RunInput) → (image_run to_front image input 0).now ≡ 0
+pub starts_at : (image : Image) (input : RunInput) → (image_run (rule_of image.plant.policy) image input 0).now ≡ 0
 unfolding cycles_of
 starts_at image input = refl
 
 pub goes_from_start : (image : Image) (input : RunInput) (n : ℕ) →
-    cycles_of to_front (setup_of image) (items_of input.requests) n (image_run to_front image input 0) ≡ state_at (image_text image) (input_of input) n
+    cycles_of (rule_of image.plant.policy) (setup_of image) (items_of input.requests) n (image_run (rule_of image.plant.policy) image input 0) ≡ state_at (image_text image) (input_of input) n
 unfolding cycles_of
 goes_from_start image input n = refl
 

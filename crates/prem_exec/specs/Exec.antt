@@ -1,7 +1,7 @@
 -- The answer to `exec IMAGE RUN`: what the run of an image file tells.
 use Rattle.std.specs.Prelude.{ℕ, ◌^◌, min, Bool, List, Option, Result, Ok, unwrap_or}
 use Rattle.prem_list.specs.Sequence.{items_of}
-use Rattle.prem_lru.specs.Entries.{to_front}
+use Rattle.prem_lru.specs.Rules.{rule_of}
 use Rattle.prem_gate.specs.declared.request.RunInput.{RunInput}
 use Rattle.prem_cycle.specs.declared.state.Stop.{Stop}
 use Rattle.prem_cycle.specs.declared.state.Stop.TheVariants.{Finished, Trap, LogFull, Limit}
@@ -22,9 +22,9 @@ use Rattle.prem_exec.specs.Forms.{RunText, image_in, run_in}
 
 -- ---- the run
 
--- the state after n cycles
+-- the state after n cycles, by the rule of replacement of the image's plant
 abbrev pub state_at : ImageText → RunText → ℕ → MachineState
-state_at i input n = run_of to_front (image_setup i) i.content input.words input.requests n
+state_at i input n = run_of (rule_of i.plant.policy) (image_setup i) i.content input.words input.requests n
 
 -- why the run up to a cycle stops
 abbrev pub stop_at : ℕ → MachineState → Stop

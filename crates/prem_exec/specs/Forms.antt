@@ -7,7 +7,9 @@ use Rattle.prem_image.specs.Text.{ImageText}
 use Rattle.prem_set.specs.declared.run.fail.Which.{Which}
 use Rattle.prem_set.specs.declared.run.fail.Which.TheVariants as which
 use Rattle.prem_set.specs.Run.Run.{Gathered, LineRefusal}
-use Rattle.prem_answer.specs.Stages.{Reply, form_reply}
+use Rattle.prem_answer.specs.declared.answer.Telling.{Telling}
+use Rattle.prem_answer.specs.declared.answer.Telling.TheVariants.{Whole}
+use Rattle.prem_answer.specs.Stages.{Reply, form_by, form_reply}
 
 -- why bytes are no image; want of memory is no reason
 abbrev pub image_why : ImageFail → List ℕ
@@ -43,6 +45,9 @@ pub record RunText : Type 0 where
   pub requests : List Request
 
 -- those of a run file
+abbrev pub run_in_by : Telling → List ℕ → Result Gathered LineRefusal → Result RunText Reply
+run_in_by how name (Ok g) = Ok (record { words = g.words; requests = g.requests })
+run_in_by how name (Err refusal) = Err (form_by how name (line_why refusal))
+
 abbrev pub run_in : List ℕ → Result Gathered LineRefusal → Result RunText Reply
-run_in name (Ok g) = Ok (record { words = g.words; requests = g.requests })
-run_in name (Err refusal) = Err (form_reply name (line_why refusal))
+run_in name read = run_in_by Whole name read

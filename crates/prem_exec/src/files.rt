@@ -5,11 +5,11 @@ ghost use Rattle.prem_io.specs.Counts.{Rose};
 ghost use Rattle.prem_cycle.specs.Inputs.{FitsRun, setup_of, words_of};
 ghost use Rattle.prem_image.specs.Text.{image_text};
 ghost use Rattle.prem_imagefile.specs.declared.fail.ImageFail.TheVariants.{OutOfMemory};
-ghost use Rattle.prem_answer.specs.Stages.{Comes, IsReadAs, form_reply, reply_of};
+ghost use Rattle.prem_answer.specs.Stages.{Comes, IsReadAs, form_by, form_reply, reply_of};
 ghost use Rattle.prem_exec.specs.Forms.{image_why, line_why, which_word};
 ghost use Rattle.prem_exec.specs.Exec.{image_limit, image_of_bytes, input_of, run_limit, run_of_bytes};
 
-use prem_answer::{Answer, Halt, form, read_file};
+use prem_answer::{Answer, Halt, Telling, form, form_by, read_file};
 use prem_gate::RunInput;
 use prem_image::Image;
 use prem_imagefile::{ImageFail, read_image};
@@ -83,12 +83,18 @@ fn which_word(which: Which) -> &'static str
 }
 
 /// The answer to a run file whose line n is refused.
-pub fn line_form(alloc: Global, name: &str, n: u32, which: Which) -> Result<Answer, AllocError>
-    ensures { IfOk result (λ a. reply_of a ≡ form_reply name.now (line_why (n, which))) }
+pub fn line_form(
+    alloc: Global,
+    telling: Telling,
+    name: &str,
+    n: u32,
+    which: Which,
+) -> Result<Answer, AllocError>
+    ensures { IfOk result (λ a. reply_of a ≡ form_by telling name.now (line_why (n, which))) }
 {
     let word = which_word(which);
     let why = format!(in alloc; "line {n} {word}")?;
-    form(alloc, name, &why)
+    form_by(alloc, telling, name, &why)
 }
 
 /// Reads a run file of an image.
@@ -110,7 +116,13 @@ pub(crate) fn run_file<S: Store>(
     };
     match read_run_of(alloc, &bytes, image) {
         Ok(input) => Ok(input),
-        Err(RunFail::Line { n, which }) => Err(Halt::Answered(line_form(alloc, name, n, which)?)),
+        Err(RunFail::Line { n, which }) => Err(Halt::Answered(line_form(
+            alloc,
+            Telling::Whole,
+            name,
+            n,
+            which,
+        )?)),
         Err(RunFail::OutOfMemory) => Err(Halt::OutOfMemory),
     }
 }

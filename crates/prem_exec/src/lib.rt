@@ -1,4 +1,6 @@
 //! Runs of image files.
+//!
+//! - `sources`: what commands read of a task set: its file, its sources, and a run file by its names.
 #![tactic(auto)]
 
 mod exec;

@@ -11,7 +11,9 @@ use prem_answer::{Answer, Status};
 use prem_cycle::Stop;
 use prem_gate::RunInput;
 use prem_image::Image;
+use prem_lru::{Fifo, Lru, Policy};
 use prem_machine::Machine;
+use prem_plant::Replacement;
 use prem_report::report;
 use std::alloc::{AllocError, Global};
 
@@ -26,35 +28,37 @@ pub fn stop_status(stop: Stop) -> Status
 }
 
 /// The machine behind the run of an image up to a cycle, and why it stopped.
-pub fn run_image(
+pub fn run_image<P: Policy>(
     alloc: Global,
     image: &Image,
     input: &RunInput,
     limit: u64,
-) -> Result<(Machine, Stop), AllocError>
+) -> Result<(Machine<P>, Stop), AllocError>
+    requires policy { image.now.plant.policy ≡ P.kind_of }
     requires fits { FitsRun (setup_of image.now) (words_of input.now) (items_of input.now.requests) }
     requires limit { limit ≤ 2 ^ 61 }
     ensures state { IfOk result (λ r. state_of r.0 ≡ state_at (image_text image.now) (input_of input.now) limit) }
     ensures stop { IfOk result (λ r. r.1 ≡ stop_at limit (state_at (image_text image.now) (input_of input.now) limit)) }
 {
-    let mut machine = Machine::new(alloc, image, input)?;
+    let mut machine = Machine::<P>::new(alloc, image, input)?;
     let stop = machine.run_to(limit);
     Ok((machine, stop))
 }
 
-/// What is told of the run of an image up to a cycle, with its intervals and transfers where `times` says so.
-pub fn run_answer(
+/// What is told of the run of an image of this policy up to a cycle.
+fn answer_under<P: Policy>(
     alloc: Global,
     image: &Image,
     input: &RunInput,
     times: bool,
     limit: u64,
 ) -> Result<Answer, AllocError>
+    requires policy { image.now.plant.policy ≡ P.kind_of }
     requires fits { FitsRun (setup_of image.now) (words_of input.now) (items_of input.now.requests) }
     requires limit { limit ≤ 2 ^ 61 }
     ensures { IfOk result (λ a. reply_of a ≡ run_reply (image_text image.now) (input_of input.now) times limit) }
 {
-    let (machine, stop) = run_image(alloc, image, input, limit)?;
+    let (machine, stop) = run_image::<P>(alloc, image, input, limit)?;
     let text = report(
         alloc,
         image.tasks.items(),
@@ -68,4 +72,23 @@ pub fn run_answer(
         status: stop_status(stop),
         text,
     })
+}
+
+/// What is told of the run of an image up to a cycle, with its intervals and transfers where `times` says so. The
+/// machine is that of the image's policy.
+pub fn run_answer(
+    alloc: Global,
+    image: &Image,
+    input: &RunInput,
+    times: bool,
+    limit: u64,
+) -> Result<Answer, AllocError>
+    requires fits { FitsRun (setup_of image.now) (words_of input.now) (items_of input.now.requests) }
+    requires limit { limit ≤ 2 ^ 61 }
+    ensures { IfOk result (λ a. reply_of a ≡ run_reply (image_text image.now) (input_of input.now) times limit) }
+{
+    match image.plant.policy {
+        Replacement::Lru => answer_under::<Lru>(alloc, image, input, times, limit),
+        Replacement::Fifo => answer_under::<Fifo>(alloc, image, input, times, limit),
+    }
 }

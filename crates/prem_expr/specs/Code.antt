@@ -1,5 +1,6 @@
 -- The code of an expression of a function, and what keeps it from having any.
 use Rattle.std.specs.Prelude.{ℕ, ◌+◌, Option}
+use Rattle.prem_plant.specs.declared.plant.Target.{Target}
 use Rattle.prem_syntax.specs.Syntax.{Expression, ProgramText}
 use Rattle.prem_meaning.specs.Resolve.{functions_of}
 use Rattle.prem_asm.specs.Pieces.{Pieces}
@@ -14,8 +15,8 @@ use Rattle.prem_expr.specs.Marks.{first_global}
 abbrev pub value_register : ℕ → ℕ
 value_register k = 10 + k
 
-abbrev pub expression_code : ProgramText → ℕ → Expression → ℕ → Pieces
-expression_code p n e k = term_code (from_part (first_global (functions_of p))) (value_register k) (term_in p n e)
+abbrev pub expression_code : Target → ProgramText → ℕ → Expression → ℕ → Pieces
+expression_code target p n e k = term_code target (from_part (first_global (functions_of p))) (value_register k) (term_in p n e)
 
 abbrev pub expression_excess : ProgramText → ℕ → Expression → ℕ → Option Excess
 expression_excess p n e k = term_excess n (frame_in p n) (value_register k) (term_in p n e)

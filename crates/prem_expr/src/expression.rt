@@ -18,6 +18,7 @@ use crate::names::names_in;
 use prem_analyse::Analysed;
 use prem_asm::{Piece, Sequence};
 use prem_gen::term::{GenFail, gen_fail, term_alone};
+use prem_plant::Target;
 use prem_syntax::{Expr, Program};
 use prem_tree::resolve::{Term, resolve_term};
 use prem_word::FnId;
@@ -41,7 +42,7 @@ fn term_in(alloc: Global, p: &Program, f: FnId, e: &Expr) -> Result<Term, AllocE
     resolve_term(alloc, &names, e)
 }
 
-/// The code of an expression that stands in function f: its word comes into the k-th register of values, which is x10 for 0.
+/// The code of an expression that stands in function f, for a target: its word comes into the k-th register of values, which is x10 for 0.
 ///
 /// `Frame` comes exactly where the function's frame passes 2032 bytes, and `Depth` exactly where it doesn't and a register
 /// past the twelfth is needed, with the line of the first place that needs it.
@@ -51,10 +52,11 @@ pub fn eval(
     f: FnId,
     e: &Expr,
     k: u8,
+    target: Target,
 ) -> Result<Sequence<Piece>, GenFail>
     requires there { f < length (functions_of (analysed_text a.now)) }
     requires register { k ≤ 12 }
-    ensures code { IfOk result (λ pieces. pieces_of (items_of pieces) ≡ expression_code (analysed_text a.now) f (expression_of e.now) k) }
+    ensures code { IfOk result (λ pieces. pieces_of (items_of pieces) ≡ expression_code target (analysed_text a.now) f (expression_of e.now) k) }
     ensures excess { Refuses result (expression_excess (analysed_text a.now) f (expression_of e.now) k) }
 {
     if frame(a, f) > GREATEST_FRAME {
@@ -63,7 +65,7 @@ pub fn eval(
     let program = a.checked().program();
     let term = term_in(alloc, program, f, e)?;
     let first = first_global(program);
-    match term_alone(&term, alloc, first, FIRST_VALUE + k) {
+    match term_alone(&term, alloc, target, first, FIRST_VALUE + k) {
         Ok(pieces) => Ok(pieces),
         Err(fail) => Err(gen_fail(fail)),
     }

@@ -1,10 +1,12 @@
 -- All code of a well-formed program has words.
 use Rattle.std.proofs.Common.{◌≡◌, ℕ, zero, suc, ◌+◌, ◌*◌, ◌/◌, ◌%◌, ◌^◌, ◌<◌, ◌≤◌, refl, ap, subst, arith, cond, ltb, true, false, Bool, List, [], ◌∷◌, ◌++◌, length, map, Some, None, Option, All}
-use Rattle.std.specs.Prelude.{slice_get, slice_index, unwrap_or, codes}
+use Rattle.std.specs.Prelude.{negsuc, slice_get, slice_index, unwrap_or, codes}
 use Rattle.std.specs.Option.{option_map}
 use Rattle.std.proofs.lemmas.Bool.{ltb-false}
 use Rattle.std.proofs.lemmas.List.Elements.{All-nil, All-cons, All-head, All-tail}
-use Rattle.prem_isa.specs.declared.instr.Instr.TheVariants.{PmExec, PmEnd}
+use Rattle.prem_plant.specs.declared.plant.Target.{Target}
+use Rattle.prem_isa.specs.declared.instr.Instr.TheVariants.{OpImm, PmExec, PmEnd}
+use Rattle.prem_isa.specs.declared.instr.AluOp.TheVariants.{Add}
 use Rattle.prem_syntax.specs.declared.tree.Place.{Place as TextPlace}
 use Rattle.prem_syntax.specs.Syntax.{MarkText, GlobalVariable, FunctionText, ProgramText, global_item, function_item}
 use Rattle.prem_plant.specs.Places.{Extent}
@@ -17,14 +19,14 @@ use Rattle.prem_template.specs.Limits.{Excess, frame, greatest_frame, deep_exces
 use Rattle.prem_template.specs.Parts.{marked_count, marked_before, is_marked_at, code_part, stub_part, global_part, parts_of, codes_of}
 use Rattle.prem_template.specs.Steps.{Parts, function_code}
 use Rattle.prem_layout.specs.Plans.{Plan, plan_of, plan_before, plans_from, plans_of}
-use Rattle.prem_layout.specs.Parts.{once}
+use Rattle.prem_layout.specs.Parts.{Passes, once, times, pass_count}
 use Rattle.prem_layout.specs.Footprint.{TaskPlaces, ranges_of}
-use Rattle.prem_layout.specs.Stubs.{range_code, ranges_code, predictable_code, return_code, stub_of}
+use Rattle.prem_layout.specs.Stubs.{range_code, ranges_code, passes_code, predictable_code, return_code, stub_of}
 use Rattle.prem_layout.specs.Bounds.{start_code}
 use Rattle.prem_fit_laws.specs.Whole.{HasAddresses, HasWords, ProgramsHaveWords}
 use Rattle.prem_fit_laws.proofs.Terms.{Below, found_below}
 use Rattle.prem_fit_laws.proofs.Steps.{programs_named}
-use Rattle.prem_template.proofs.Operators.{Fitting, fitting, joined, address_fits, each_behind, i0, r0, r5, r6}
+use Rattle.prem_template.proofs.Operators.{Fitting, fitting, joined, address_fits, each_behind, i0, less_one, r0, r5, r6}
 use Rattle.prem_layout.proofs.TaskParts.{plans_counted}
 use Rattle.prem_fit_laws.proofs.FunctionCode.{IsPlaced, IsCalled, function_fits}
 
@@ -94,9 +96,9 @@ module _ (p : Resolved) (places : List ℕ) (has : HasAddresses p places) where
     word = has.small (global_part p.routines g);
   }
 
-  called : ((k : ℕ) → frame_at p.routines k ≤ 2032) → (f : ℕ) → f < length p.routines →
-      IsCalled (length places) (slice_index places) ((parts_of p.routines).link f) ((parts_of p.routines).callee f) ((parts_of p.routines).frame f)
-  called frames f lt = by (is_marked_at p.routines f) refl
+  called : (target : Target) → ((k : ℕ) → frame_at p.routines k ≤ 2032) → (f : ℕ) → f < length p.routines →
+      IsCalled (length places) (slice_index places) ((parts_of target p.routines).link f) ((parts_of target p.routines).callee f) ((parts_of target p.routines).frame f)
+  called target frames f lt = by (is_marked_at p.routines f) refl
     where
       by : (b : Bool) → is_marked_at p.routines f ≡ b → IsCalled (length places) (slice_index places) (cond b 4 1) (cond b (stub_part p.routines f) (code_part f)) (frame_at p.routines f)
       by true is =
@@ -161,36 +163,43 @@ module _ (places : List ℕ) (line : ℕ) (short : line < 2 ^ 11) where
   ranges_fit [] rest h = h
   ranges_fit (range ∷ ranges) rest h = range_fits range (ranges_code line ranges rest) (ranges_fit ranges rest h)
 
-  stub_fits : (t : TaskPlaces) (plan : Plan) → 1 + plan.function < length places → slice_index places (1 + plan.function) % 4 ≡ 0 → HasWords places (stub_of once line t plan)
-  stub_fits t plan there aligned =
-      let rest = straight (address_code 5 plan.stated ++ PmExec 5 ∷ []) (call_to 1 (1 + plan.function) (straight (PmEnd ∷ []) no_pieces)) in
-      let inner = predictable_code once line (ranges_of t plan) plan.stated (1 + plan.function) in
-      let final : Fine rest = (each_behind (address_code 5 plan.stated) (PmExec 5 ∷ []) (address_fits 5 plan.stated r5) (r5, tt), ((omega arith, there, aligned), ((tt, tt), tt))) in
-      fitting (length places) (slice_index places) (stub_of once line t plan)
-      ((tt, tt), joined (length places) (slice_index places) inner (straight return_code no_pieces) (ranges_fit (ranges_of t plan) rest final) (((r0, (let four : 4 < 32 = omega arith in four), i0), tt), tt))
+  passes_fit : (passes : Passes) → pass_count passes < 2 ^ 11 → (ranges : List Extent) (rest : Pieces) → Fine rest → Fine (passes_code passes line ranges rest)
+  passes_fit once few ranges rest h = ranges_fit ranges rest h
+  passes_fit (times n) few ranges rest h =
+      let r7 : 7 < 32 = omega arith in
+      let down : Fine (straight (OpImm Add 7 7 (negsuc 0) ∷ []) no_pieces) = (((r7, r7, less_one), tt), tt) in
+      (((r7, r0, few), tt), ((tt, (r7, r0), ranges_fit ranges (straight (OpImm Add 7 7 (negsuc 0) ∷ []) no_pieces) down), h))
 
-  stubs_fit : (t : TaskPlaces) (limit : ℕ) (plans : List Plan) → limit < length places → ((n : ℕ) → slice_index places n % 4 ≡ 0) → All (λ (plan : Plan). plan.function < limit) plans →
-      All (HasWords places) (map (stub_of once line t) plans)
-  stubs_fit t limit [] le aligned h = All-nil (HasWords places)
-  stubs_fit t limit (plan ∷ plans) le aligned h =
+  stub_fits : (passes : Passes) → pass_count passes < 2 ^ 11 → (t : TaskPlaces) (plan : Plan) → 1 + plan.function < length places → slice_index places (1 + plan.function) % 4 ≡ 0 → HasWords places (stub_of passes line t plan)
+  stub_fits passes few t plan there aligned =
+      let rest = straight (address_code 5 plan.stated ++ PmExec 5 ∷ []) (call_to 1 (1 + plan.function) (straight (PmEnd ∷ []) no_pieces)) in
+      let inner = predictable_code passes line (ranges_of t plan) plan.stated (1 + plan.function) in
+      let final : Fine rest = (each_behind (address_code 5 plan.stated) (PmExec 5 ∷ []) (address_fits 5 plan.stated r5) (r5, tt), ((omega arith, there, aligned), ((tt, tt), tt))) in
+      fitting (length places) (slice_index places) (stub_of passes line t plan)
+      ((tt, tt), joined (length places) (slice_index places) inner (straight return_code no_pieces) (passes_fit passes few (ranges_of t plan) rest final) (((r0, (let four : 4 < 32 = omega arith in four), i0), tt), tt))
+
+  stubs_fit : (passes : Passes) → pass_count passes < 2 ^ 11 → (t : TaskPlaces) (limit : ℕ) (plans : List Plan) → limit < length places → ((n : ℕ) → slice_index places n % 4 ≡ 0) → All (λ (plan : Plan). plan.function < limit) plans →
+      All (HasWords places) (map (stub_of passes line t) plans)
+  stubs_fit passes few t limit [] le aligned h = All-nil (HasWords places)
+  stubs_fit passes few t limit (plan ∷ plans) le aligned h =
       let below : plan.function < limit = All-head (λ (q : Plan). q.function < limit) plan plans h in
-      All-cons (HasWords places) (stub_of once line t plan) (map (stub_of once line t) plans) (stub_fits t plan (omega (arith, below, le)) (aligned (1 + plan.function)))
-      (stubs_fit t limit plans le aligned (All-tail (λ (q : Plan). q.function < limit) plan plans h))
+      All-cons (HasWords places) (stub_of passes line t plan) (map (stub_of passes line t) plans) (stub_fits passes few t plan (omega (arith, below, le)) (aligned (1 + plan.function)))
+      (stubs_fit passes few t limit plans le aligned (All-tail (λ (q : Plan). q.function < limit) plan plans h))
 
 -- ---- all
 
 pub programs_have_words : ProgramsHaveWords
-programs_have_words p turns line t places formed none short has =
+programs_have_words target p turns passes line t places formed none few short has =
     let q = resolve turns p in
     let within = all_within 0 q.routines none in
     let frames = frames_within q.routines within in
     let count = has.count in
     record {
       start = start_fits p turns places has;
-      code = codes_fit places (parts_of q.routines) q.routines (λ k f there.
+      code = codes_fit places (parts_of target q.routines) q.routines (λ k f there.
           let w = within k f there in
           let lt = get_below q.routines k f there in
-          function_fits (length places) (slice_index places) (parts_of q.routines) k (length q.globals) f (global_placed q places has)
-          (λ g less. called q places has frames g (omega (arith, less, lt))) w.small w.flat (programs_named p formed turns k f there));
-      stubs = stubs_fit places line short t (length q.routines) (plans_of q) (omega (arith, count)) has.aligned (plans_below q (length q.routines) 0 q.routines (omega arith));
+          function_fits (length places) (slice_index places) (parts_of target q.routines) k (length q.globals) f (global_placed q places has)
+          (λ g less. called q places has target frames g (omega (arith, less, lt))) w.small w.flat (programs_named p formed turns k f there));
+      stubs = stubs_fit places line short passes few t (length q.routines) (plans_of q) (omega (arith, count)) has.aligned (plans_below q (length q.routines) 0 q.routines (omega arith));
     }

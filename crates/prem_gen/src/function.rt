@@ -14,6 +14,7 @@ ghost use Rattle.prem_gen.specs.Compiled.{compiled};
 use crate::codes::{FnId, GenFail, codes, function_code};
 use prem_analyse::Analysed;
 use prem_asm::{Piece, Sequence};
+use prem_plant::Target;
 use prem_tree::resolve::resolve;
 use std::alloc::{AllocError, Global};
 
@@ -36,31 +37,40 @@ pub fn turns_of(alloc: Global, a: &Analysed) -> Result<Vec<u32>, AllocError>
     words_of(alloc, a.bounds())
 }
 
-/// The code of function f of an analysed program, as pieces.
+/// The code of function f of an analysed program for a target, as pieces.
 ///
 /// `Frame` comes exactly where the function's frame passes 2032 bytes, and `Depth` exactly where it doesn't and an
 /// expression needs a register past the twelfth, with the line of the first such expression.
-pub fn gen_function(alloc: Global, a: &Analysed, f: FnId) -> Result<Sequence<Piece>, GenFail>
+pub fn gen_function(
+    alloc: Global,
+    a: &Analysed,
+    f: FnId,
+    target: Target,
+) -> Result<Sequence<Piece>, GenFail>
     requires there { f < length (functions_of (analysed_text a.now)) }
     requires callees { CalleesFit (compiled a.now) f }
-    ensures code { IfOk result (λ pieces. pieces_of (items_of pieces) ≡ code_at (compiled a.now) f) }
+    ensures code { IfOk result (λ pieces. pieces_of (items_of pieces) ≡ code_at target (compiled a.now) f) }
     ensures excess { Refuses result (excess_at (compiled a.now) f) }
 {
     let turns = turns_of(alloc, a)?;
     let checked = a.checked();
-    function_code(alloc, checked.program(), turns.as_slice(), f)
+    function_code(alloc, checked.program(), turns.as_slice(), f, target)
 }
 
-/// The code of all functions of an analysed program in their order.
+/// The code of all functions of an analysed program for a target, in their order.
 ///
 /// `Frame` and `Depth` come exactly where a frame passes 2032 bytes or an expression needs a register past the twelfth; it
 /// is the first such function, and of it the frame before its expressions.
-pub fn gen_all(alloc: Global, a: &Analysed) -> Result<Sequence<Sequence<Piece>>, GenFail>
-    ensures codes { IfOk result (λ codes. map (λ code. pieces_of (items_of code)) (items_of codes) ≡ codes_of (parts_of (compiled a.now).routines) (compiled a.now).routines) }
+pub fn gen_all(
+    alloc: Global,
+    a: &Analysed,
+    target: Target,
+) -> Result<Sequence<Sequence<Piece>>, GenFail>
+    ensures codes { IfOk result (λ codes. map (λ code. pieces_of (items_of code)) (items_of codes) ≡ codes_of (parts_of target (compiled a.now).routines) (compiled a.now).routines) }
     ensures excess { Refuses result (excess (compiled a.now)) }
 {
     let turns = turns_of(alloc, a)?;
     let checked = a.checked();
     let resolved = resolve(alloc, checked.program())?;
-    codes(alloc, &resolved, turns.as_slice())
+    codes(alloc, &resolved, turns.as_slice(), target)
 }

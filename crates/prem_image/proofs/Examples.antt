@@ -2,14 +2,18 @@
 use Rattle.std.proofs.Common.{◌≡◌, ℕ, zero, suc, ◌<◌, ◌≤◌, List, [], ◌∷◌, Some, None, map, refl, arith, subst}
 use Rattle.std.specs.Prelude.{codes, slice_get, All}
 use Rattle.std.specs.Int.Count.{ones}
+use Rattle.prem_plant.specs.declared.plant.Replacement.TheVariants.{Lru}
+use Rattle.prem_plant.specs.declared.plant.Target.TheVariants.{Rv32i}
 use Rattle.prem_plant.specs.declared.plant.Plant.{Plant}
+use Rattle.prem_plant.specs.declared.plant.Replacement.TheVariants.{Lru}
+use Rattle.prem_plant.specs.declared.plant.Target.TheVariants.{Rv32i}
 use Rattle.prem_plant.specs.Places.{Extent, AreApart, AreDisjoint}
 use Rattle.prem_image.specs.declared.image.TaskRecord.{TaskRecord}
 use Rattle.prem_image.specs.declared.image.DeviceRecord.{DeviceRecord}
 use Rattle.prem_image.specs.Records.{IsTask, IsPlaced, AreDistinct, IsImage, area_of, task_names}
 
 abbrev plant : Plant
-plant = record { line = 16; sets = 64; ways = 4; fill = 10; back = 10; switch = 20; memory = 4096 }
+plant = record { line = 16; sets = 64; ways = 4; fill = 10; back = 10; switch = 20; memory = 4096; policy = Lru; target = Rv32i }
 
 abbrev task : List ℕ → ℕ → ℕ → TaskRecord
 task name entry stack = record { name = name; period = 1000; jobs = 1; entry = entry; stack = stack }

@@ -4,17 +4,19 @@ ghost use Rattle.std.specs.Prelude.{◌≡◌, ℕ, ◌≤◌, ◌<◌, ◌+◌,
 ghost use Rattle.prem_word.specs.Bytes.{number_at};
 ghost use Rattle.prem_isa.specs.Decode.{Fits};
 ghost use Rattle.prem_isa.specs.Alu.{load_size, store_size};
-ghost use Rattle.prem_isa.specs.Act.{sets, jumps, trap_or, accesses, loads, stores, changes, takes, puts, in_phase, act, outcome_in};
+ghost use Rattle.prem_isa.specs.Act.{sets, jumps, trap_or, accesses, loads, stores, changes, takes, puts, in_phase, on_rv32im, act, outcome_in};
 ghost use Rattle.prem_isa.specs.Bounds.{IsSize, IsPlaced, DecisionFits};
 ghost use Rattle.prem_isa.specs.declared.effect.Outcome.{Outcome};
 
 use crate::alu::offset_by;
 use crate::effect::{Access, AccessKind, Cause, Change, DataLoad, Decision, Effect, Phase, Stored};
 use crate::instr::{Instr, LoadOp, StoreOp};
+use prem_plant::Target;
 
-/// What an instruction does in a memory of `size` bytes, from the registers, its place, the phase and
+/// What an instruction does on a target in a memory of `size` bytes, from the registers, its place, the phase and
 /// the word that a `pm.in` takes. Conditions: it fits, and its own four bytes lie in memory.
 pub fn execute(
+    target: Target,
     size: u32,
     registers: &[u32; 32],
     pc: u32,
@@ -24,7 +26,7 @@ pub fn execute(
 ) -> Decision
     requires fits { Fits i }
     requires place { pc + 4 ≤ size }
-    ensures outcome { (view : ℕ → ℕ) → outcome_in view result ≡ act size view (slice_index registers.now) pc phase input i }
+    ensures outcome { (view : ℕ → ℕ) → outcome_in view result ≡ act target size view (slice_index registers.now) pc phase input i }
     ensures fit { DecisionFits size result }
 {
     let next = pc + 4;
@@ -84,6 +86,10 @@ pub fn execute(
                 op.apply(registers[rs1 as usize], registers[rs2 as usize]),
             )
         }
+        Instr::MulDiv { op, rd, rs1, rs2 } => {
+            let value = op.apply(registers[rs1 as usize], registers[rs2 as usize]);
+            extended(target, next, rd, value)
+        }
         Instr::Fence { .. } => set(next, 0, 0),
         Instr::Ecall => Decision::Trap(Cause::Ecall),
         Instr::Ebreak => Decision::Trap(Cause::Ebreak),
@@ -109,6 +115,18 @@ fn set(next: u32, rd: u8, value: u32) -> Decision
         value,
         ..Effect::going(next)
     })
+}
+
+/// An instruction of the extension M.
+fn extended(target: Target, next: u32, rd: u8, value: u32) -> Decision
+    requires { rd < 32 }
+    ensures outcome { (view : ℕ → ℕ) → outcome_in view result ≡ on_rv32im target (sets next rd value) }
+    ensures fit { (size : ℕ) → DecisionFits size result }
+{
+    match target {
+        Target::Rv32i => Decision::Trap(Cause::Decode),
+        Target::Rv32im => set(next, rd, value),
+    }
 }
 
 fn jump(target: u32, rd: u8, value: u32) -> Decision
@@ -165,7 +183,7 @@ fn store(size: u32, next: u32, op: StoreOp, address: u32, value: u32) -> Decisio
 }
 
 /// Why an access can't be made, where it can't: alignment comes before the place.
-fn misplaced(size: u32, address: u32, bytes: u32) -> Option<Cause>
+pub(crate) fn misplaced(size: u32, address: u32, bytes: u32) -> Option<Cause>
     requires { IsSize bytes }
     ensures outcome { (done : Outcome) → accesses size address bytes done ≡ trap_or result done }
     ensures placed { IfNone result (IsPlaced size address bytes) }

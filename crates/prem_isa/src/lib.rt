@@ -1,4 +1,4 @@
-//! The instructions of the machine: RV32I and the six `pm` instructions, their words, costs and meaning.
+//! The instructions of the machine: RV32I, five of its extension M, and the six `pm` instructions, their words, costs and meaning.
 #![tactic(auto)]
 
 mod alu;
@@ -11,6 +11,7 @@ mod fields;
 mod instr;
 mod laws;
 mod registers;
+mod step;
 
 pub use decoding::decode;
 pub use effect::{
@@ -18,6 +19,7 @@ pub use effect::{
 };
 pub use encoding::{cost, encode, fits};
 pub use execution::execute;
-pub use instr::{AluOp, BranchOp, Instr, LoadOp, StoreOp};
+pub use instr::{AluOp, BranchOp, Instr, LoadOp, MulDivOp, StoreOp};
 pub use laws::{instructions_keep_bounds, instructions_read_their_bytes, runs_compose_and_fit};
 pub use registers::{first_registers, set_register};
+pub use step::{Upshot, step_word, upshot_of};

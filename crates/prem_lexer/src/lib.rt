@@ -1,4 +1,6 @@
 //! From the bytes of a text to its tokens.
+//!
+//! - `token`: the tokens of the source language, and why a text has no tree.
 #![tactic(auto)]
 
 mod lexer;

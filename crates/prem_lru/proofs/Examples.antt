@@ -1,14 +1,19 @@
 -- The definitions at small values, computed: two sets of two lines of four bytes, over 40 bytes of memory.
 use Rattle.std.proofs.Common.{◌≡◌, ℕ, List, [], ◌∷◌, true, false, Some, refl, take, drop}
 use Rattle.std.specs.List.{range_with_len}
+use Rattle.prem_plant.specs.declared.plant.Replacement.TheVariants.{Lru}
+use Rattle.prem_plant.specs.declared.plant.Target.TheVariants.{Rv32i}
 use Rattle.prem_plant.specs.declared.plant.Plant.{Plant}
+use Rattle.prem_plant.specs.declared.plant.Replacement.TheVariants.{Lru, Fifo}
+use Rattle.prem_plant.specs.declared.plant.Target.TheVariants.{Rv32i}
 use Rattle.prem_word.specs.Bytes.{number_at}
 use Rattle.prem_lru.specs.Entries.{to_front}
 use Rattle.prem_lru.specs.CacheState.{Touched, empty_cache, entry_of, view_of, touch_of, store_of}
-use Rattle.prem_lru.specs.Order.{lines_in, lru, misses_of, orders_after, cache_misses, of_set}
+use Rattle.prem_lru.specs.Rules.{rule_of}
+use Rattle.prem_lru.specs.Order.{lines_in}
 
 abbrev plant : Plant
-plant = record { line = 4; sets = 2; ways = 2; fill = 10; back = 10; switch = 20; memory = 40 }
+plant = record { line = 4; sets = 2; ways = 2; fill = 10; back = 10; switch = 20; memory = 40; policy = Lru; target = Rv32i }
 
 -- the bytes 100, 101, ..
 abbrev memory : List ℕ
@@ -68,15 +73,18 @@ row_back = refl
 row_written : take 6 (drop 7 (touched (4 ∷ []) stored).memory) ≡ 107 ∷ 108 ∷ 109 ∷ 0x45 ∷ 0x23 ∷ 112 ∷ []
 row_written = refl
 
--- under LRU a fourth line of a set of three takes the place of the one that was used first
-row_misses : misses_of lru 3 [] (5 ∷ 6 ∷ 7 ∷ 5 ∷ 8 ∷ 6 ∷ 5 ∷ []) ≡ 5 ∷ 6 ∷ 7 ∷ 8 ∷ 6 ∷ []
-row_misses = refl
+-- ---- first in, first out
 
-row_orders : orders_after lru 3 [] (5 ∷ 6 ∷ 7 ∷ 5 ∷ 8 ∷ 6 ∷ 5 ∷ []) ≡ 5 ∷ 6 ∷ 8 ∷ []
-row_orders = refl
+abbrev placed : List ℕ → Touched → Touched
+placed [] t = t
+placed (x ∷ xs) t = placed xs (touch_of (rule_of Fifo) t.cache x t.memory)
 
-row_cache_misses : cache_misses lru 2 ([] ∷ [] ∷ []) (0 ∷ 1 ∷ 2 ∷ 0 ∷ 4 ∷ 1 ∷ 2 ∷ []) ≡ 0 ∷ 1 ∷ 2 ∷ 4 ∷ 2 ∷ []
-row_cache_misses = refl
+-- a hit leaves its line where it stands, so that it goes
+row_stays : lines_in (placed (0 ∷ 2 ∷ 0 ∷ []) start).cache ≡ (2 ∷ 0 ∷ []) ∷ [] ∷ []
+row_stays = refl
 
-row_of_set : of_set 4 3 (3 ∷ 4 ∷ 7 ∷ 11 ∷ 12 ∷ []) ≡ 3 ∷ 7 ∷ 11 ∷ []
-row_of_set = refl
+row_first_goes : lines_in (placed (0 ∷ 2 ∷ 0 ∷ 4 ∷ []) start).cache ≡ (4 ∷ 2 ∷ []) ∷ [] ∷ []
+row_first_goes = refl
+
+row_stays_hit : (placed (0 ∷ 2 ∷ 0 ∷ []) start).hit ≡ true
+row_stays_hit = refl

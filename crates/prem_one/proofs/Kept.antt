@@ -1,5 +1,6 @@
 -- What a program alone that breaks no rule is compiled to: one task.
 use Rattle.std.proofs.Common.{◌≡◌, ℕ, List, [], ◌∷◌, length, None, Some, Option, Result, Ok, Err, refl, ap}
+use Rattle.prem_plant.specs.declared.plant.Target.TheVariants.{Rv32i}
 use Rattle.prem_plant.specs.Ranges.{default_plant}
 use Rattle.prem_plant.specs.Places.{Extent, default_places}
 use Rattle.prem_syntax.specs.Syntax.{ProgramText}
@@ -30,7 +31,7 @@ abbrev pub judged : List ℕ → Result ProgramText FrontFail → Option (Refusa
 judged bytes r = or_else (or_else (refused_by (Some 0) (unread r)) None) (broken_programs (one_set bytes) (program_before r []))
 
 abbrev pub coded_with : List ℕ → Result ProgramText FrontFail → List Coded
-coded_with bytes r = coded_of (one_task bytes ∷ []) (program_before r [])
+coded_with bytes r = coded_of Rv32i (one_task bytes ∷ []) (program_before r [])
 
 -- a text that breaks no rule is that of one program
 pub record IsKept (cs : List Coded) : Type 0 where
@@ -39,7 +40,7 @@ pub record IsKept (cs : List Coded) : Type 0 where
 
 kept_with : (bytes : List ℕ) (r : Result ProgramText FrontFail) → judged bytes r ≡ None → IsKept (coded_with bytes r)
 kept_with bytes (Err fail) h = cc
-kept_with bytes (Ok p) h = record { task = coded_one (one_task bytes) (bounded p); is = refl }
+kept_with bytes (Ok p) h = record { task = coded_one Rv32i (one_task bytes) (bounded p); is = refl }
 
 pub kept : (bytes : List ℕ) → broken (one_set bytes) ≡ None → IsKept (coded_with bytes (reads bytes))
 kept bytes h = kept_with bytes (reads bytes) h

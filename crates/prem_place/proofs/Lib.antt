@@ -7,3 +7,4 @@ pub mod WordsLemmas
 pub mod TotalsLemmas
 pub mod ImagingLemmas
 pub mod BuildImageLemmas
+pub mod LowestLemmas

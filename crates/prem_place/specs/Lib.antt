@@ -8,3 +8,4 @@ pub mod Words
 pub mod Totals
 pub mod Imaging
 pub mod BuildImage
+pub mod Lowest

@@ -1,4 +1,7 @@
-//! prem_reader.
+//! The readers of expressions and statements, which the reader of programs is made of.
+//!
+//! - `expression`: the reader of expressions: one token after the other, without recursion.
+//! - `statement`: the reader of statements: one token after the other, without recursion over the text.
 #![tactic(auto)]
 
 pub mod expression;

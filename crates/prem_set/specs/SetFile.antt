@@ -1,10 +1,14 @@
 -- What a set file says, or its first refusal.
 use Rattle.std.specs.Prelude.{ℕ, ◌+◌, if◌then◌else◌, List, [], ◌∷◌, ◌++◌, map, Option, None, Some, Result, Ok, Err, codes, decimal}
-use Rattle.std.specs.Str.{is_utf8}
+use Rattle.std.specs.Str.{bytes_eq, is_utf8}
 use Rattle.toml.specs.Data.{Data, Items, no_items, item, Members, get_member}
 use Rattle.toml.specs.Parse.{parse_document}
 use Rattle.prem_plant.specs.Ranges.{default_plant}
 use Rattle.prem_plant.specs.declared.plant.Plant.{Plant}
+use Rattle.prem_plant.specs.declared.plant.Replacement.{Replacement}
+use Rattle.prem_plant.specs.declared.plant.Replacement.TheVariants.{Lru, Fifo}
+use Rattle.prem_plant.specs.declared.plant.Target.{Target}
+use Rattle.prem_plant.specs.declared.plant.Target.TheVariants.{Rv32i, Rv32im}
 use Rattle.prem_plant.specs.declared.plant.Device.{Device}
 use Rattle.prem_set.specs.Run.Names.{KnownNames, known_of}
 use Rattle.prem_set.specs.declared.fault.Fault.TheVariants as fault
@@ -15,7 +19,7 @@ use Rattle.prem_set.specs.declared.number.Range.{Range}
 use Rattle.prem_set.specs.declared.number.Form.TheVariants.{Any, Power, Pages}
 use Rattle.prem_set.specs.declared.task.TaskEntry.{TaskEntry}
 use Rattle.prem_line.specs.Chain.{◌>>=◌, wanted}
-use Rattle.prem_set.specs.Values.{at, number_at, number_or, name_at, source_at, has_known_keys, table_in, items_in}
+use Rattle.prem_set.specs.Values.{at, number_at, number_or, name_at, source_at, choice_or, has_known_keys, table_in, items_in}
 
 abbrev pub any : ℕ → ℕ → Range
 any low high = record { low = low; high = high; form = Any }
@@ -29,11 +33,22 @@ pages low high = record { low = low; high = high; form = Pages }
 -- ---- the plant
 
 abbrev pub plant_keys : List (List ℕ)
-plant_keys = codes "line" ∷ codes "sets" ∷ codes "ways" ∷ codes "fill" ∷ codes "back" ∷ codes "switch" ∷ codes "memory" ∷ []
+plant_keys = codes "line" ∷ codes "sets" ∷ codes "ways" ∷ codes "fill" ∷ codes "back" ∷ codes "switch" ∷ codes "memory" ∷ codes "policy" ∷ codes "target" ∷ []
 
 -- a number of the plant
 abbrev pub plant_number : Members → List ℕ → ℕ → Range → Result ℕ Refusal
 plant_number table key default range = at (codes "plant." ++ key) (number_or default range key table)
+
+-- the words for how lines are replaced, and for the instructions that the core has
+abbrev pub policy_of : List ℕ → Option Replacement
+policy_of text = if bytes_eq text (codes "lru") then Some Lru else if bytes_eq text (codes "fifo") then Some Fifo else None
+
+abbrev pub target_of : List ℕ → Option Target
+target_of text = if bytes_eq text (codes "rv32i") then Some Rv32i else if bytes_eq text (codes "rv32im") then Some Rv32im else None
+
+-- one of them
+abbrev pub plant_choice : {A : Type 0} → Members → List ℕ → A → (List ℕ → Option A) → Result A Refusal
+plant_choice table key default choice = at (codes "plant." ++ key) (choice_or default choice key table)
 
 unfoldable pub plant_in : Members → Result Plant Refusal
 plant_in table =
@@ -45,9 +60,11 @@ plant_in table =
     plant_number table (codes "back") 10 (any 1 1000) >>= λ back.
     plant_number table (codes "switch") 20 (any 0 10000) >>= λ switch.
     plant_number table (codes "memory") 1048576 (pages 4096 16777216) >>= λ memory.
-    Ok (record { line = line; sets = sets; ways = «ways»; fill = fill; back = back; switch = switch; memory = memory })
+    plant_choice table (codes "policy") Lru policy_of >>= λ policy.
+    plant_choice table (codes "target") Rv32i target_of >>= λ target.
+    Ok (record { line = line; sets = sets; ways = «ways»; fill = fill; back = back; switch = switch; memory = memory; policy = policy; target = target })
 
--- without the table each number is its default
+-- without the table each is its default
 abbrev pub plant_of : Option Data → Result Plant Refusal
 plant_of None = Ok default_plant
 plant_of (Some d) = at (codes "plant") (table_in d) >>= plant_in

@@ -1,6 +1,7 @@
 -- The groups of rules up to code, one after another.
 use Rattle.std.proofs.Common.{◌≡◌, ℕ, suc, ◌+◌, ◌≤◌, List, [], ◌∷◌, Option, None, Some, Result, Ok, Err, length, map, refl, ap, sym, ◌∙◌, subst, arith}
 use Rattle.std.specs.Option.{option_map}
+use Rattle.prem_plant.specs.declared.plant.Target.{Target}
 use Rattle.prem_syntax.specs.Syntax.{ProgramText}
 use Rattle.prem_lexer.specs.declared.token.fail.FrontFail.{FrontFail}
 use Rattle.prem_text.specs.Texts.{reads}
@@ -60,24 +61,24 @@ late_by task (Some rule) = refl
 abbrev pub late_four : CodedText → Option LateRule
 late_four c = group_four c.program
 
-late_among : (n : ℕ) (ts : List TaskText) (ps : List ProgramText) → length ps ≡ length ts → late_refusal (first_among late_four n (coded_of ts ps)) ≡ first_among uncoded n ps
-late_among n [] [] count = refl
-late_among n [] (p ∷ ps) count = absurd (omega (arith, count))
-late_among n (t ∷ ts) [] count = refl
-late_among n (t ∷ ts) (p ∷ ps) count =
-    late_or (refused_by (Some n) (group_four (bounded p))) (first_among late_four (n + 1) (coded_of ts ps))
-    ∙ ap (λ (x : Option (Refusal Told)). or_else x (late_refusal (first_among late_four (n + 1) (coded_of ts ps)))) (late_by (Some n) (group_four (bounded p)))
-    ∙ ap (λ (x : Option (Refusal Told)). or_else (refused_by (Some n) (uncoded p)) x) (late_among (n + 1) ts ps (omega (arith, count)))
+late_among : (target : Target) (n : ℕ) (ts : List TaskText) (ps : List ProgramText) → length ps ≡ length ts → late_refusal (first_among late_four n (coded_of target ts ps)) ≡ first_among uncoded n ps
+late_among target n [] [] count = refl
+late_among target n [] (p ∷ ps) count = absurd (omega (arith, count))
+late_among target n (t ∷ ts) [] count = refl
+late_among target n (t ∷ ts) (p ∷ ps) count =
+    late_or (refused_by (Some n) (group_four (bounded p))) (first_among late_four (n + 1) (coded_of target ts ps))
+    ∙ ap (λ (x : Option (Refusal Told)). or_else x (late_refusal (first_among late_four (n + 1) (coded_of target ts ps)))) (late_by (Some n) (group_four (bounded p)))
+    ∙ ap (λ (x : Option (Refusal Told)). or_else (refused_by (Some n) (uncoded p)) x) (late_among target (n + 1) ts ps (omega (arith, count)))
 
 pub late_none : (found : Option (Refusal LateRule)) → late_refusal found ≡ None → found ≡ None
 late_none None e = refl
 late_none (Some r) e = absurd cc
 
-codes_listed : (ts : List TaskText) (ps : List ProgramText) → length ps ≡ length ts → map program_code ps ≡ map (λ (c : CodedText). c.code) (coded_of ts ps)
-codes_listed [] [] count = refl
-codes_listed [] (p ∷ ps) count = absurd (omega (arith, count))
-codes_listed (t ∷ ts) [] count = refl
-codes_listed (t ∷ ts) (p ∷ ps) count = ap (λ (codes : List (List Pieces)). program_code p ∷ codes) (codes_listed ts ps (omega (arith, count)))
+codes_listed : (target : Target) (ts : List TaskText) (ps : List ProgramText) → length ps ≡ length ts → map (program_code target) ps ≡ map (λ (c : CodedText). c.code) (coded_of target ts ps)
+codes_listed target [] [] count = refl
+codes_listed target [] (p ∷ ps) count = absurd (omega (arith, count))
+codes_listed target (t ∷ ts) [] count = refl
+codes_listed target (t ∷ ts) (p ∷ ps) count = ap (λ (codes : List (List Pieces)). program_code target p ∷ codes) (codes_listed target ts ps (omega (arith, count)))
 
 -- ---- where a set is refused
 
@@ -140,7 +141,7 @@ abbrev placed_in_set : TaskSet → Option (Refusal LateRule)
 placed_in_set set = broken_at_places set.plant (places_in set) (coded_in set)
 
 four_is : (set : TaskSet) → over_tasks group_one set.tasks ≡ None → late_refusal (over_tasks late_four (coded_in set)) ≡ over_tasks uncoded (programs_of set.tasks)
-four_is set one = late_among 0 set.tasks (programs_of set.tasks) (as_many_programs set.tasks one)
+four_is set one = late_among set.plant.target 0 set.tasks (programs_of set.tasks) (as_many_programs set.tasks one)
 
 late_parts : (set : TaskSet) → late_in set ≡ or_else (late_refusal (over_tasks late_four (coded_in set))) (late_refusal (placed_in_set set))
 late_parts set = late_or (over_tasks late_four (coded_in set)) (placed_in_set set)
@@ -154,7 +155,7 @@ at_code set stop ps are well s =
 -- ---- where it isn't
 
 pub set_is_coded : (set : TaskSet) (c : Coded) (ps : List ProgramText) → KeptWell set → map analysed_text c.programs.items ≡ ps → ps ≡ programs_of set.tasks → over_tasks uncoded ps ≡ None →
-    map code_in c.codes.items ≡ map program_code ps → IsCoded set c
+    map code_in c.codes.items ≡ map (program_code set.plant.target) ps → IsCoded set c
 set_is_coded set c ps well programs are coded codes =
     let count = as_many_programs set.tasks well.texts in
     let none : late_refusal (over_tasks late_four (coded_in set)) ≡ None = four_is set well.texts ∙ ap (λ (qs : List ProgramText). over_tasks uncoded qs) (sym are) ∙ coded in
@@ -166,5 +167,5 @@ set_is_coded set c ps well programs are coded codes =
       broken_is = behind_ranges set well ∙ late_parts set ∙ none_passes (late_refusal (over_tasks late_four (coded_in set))) (late_refusal (placed_in_set set)) none;
       count = count;
       programs_are = programs ∙ are;
-      codes_are = codes ∙ ap (λ (qs : List ProgramText). map program_code qs) are ∙ codes_listed set.tasks (programs_of set.tasks) count;
+      codes_are = codes ∙ ap (λ (qs : List ProgramText). map (program_code set.plant.target) qs) are ∙ codes_listed set.plant.target set.tasks (programs_of set.tasks) count;
     }

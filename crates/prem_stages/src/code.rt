@@ -13,6 +13,7 @@ ghost use Rattle.prem_stages.specs.Code.{code_in, program_code};
 use crate::names::{item_names, name_at};
 use prem_analyse::Analysed;
 use prem_gen::{GenFail, Piece, Sequence, gen_all};
+use prem_plant::Target;
 use prem_tasks::{Rule, Stop, refused};
 use std::alloc::{AllocError, Global};
 
@@ -36,28 +37,28 @@ fn code_rule(alloc: Global, program: &Analysed, fail: GenFail) -> Result<Rule, A
     }
 }
 
-/// The code of a task's program, or why it has none.
-fn code_one(alloc: Global, task: usize, program: &Analysed) -> Result<Codes, Stop>
+/// The code of a task's program for a target, or why it has none.
+fn code_one(alloc: Global, task: usize, program: &Analysed, target: Target) -> Result<Codes, Stop>
     requires { task < 16 }
     ensures ends { Ends result (refused_by (Some task) (uncoded (analysed_text program.now))) }
-    ensures code { IfOk result (λ codes. code_in codes ≡ program_code (analysed_text program.now)) }
+    ensures code { IfOk result (λ codes. code_in codes ≡ program_code target (analysed_text program.now)) }
 {
-    match gen_all(alloc, program) {
+    match gen_all(alloc, program, target) {
         Ok(codes) => Ok(codes),
         Err(fail) => Err(refused(alloc, task, code_rule(alloc, program, fail)?)),
     }
 }
 
-/// The code of all programs, or the first that has none: a frame passes 2032 bytes, or an expression needs a register past
+/// The code of all programs for a target, or the first that has none: a frame passes 2032 bytes, or an expression needs a register past
 /// the twelfth.
-pub fn code_all(alloc: Global, programs: &[Analysed]) -> Result<Vec<Codes>, Stop>
+pub fn code_all(alloc: Global, programs: &[Analysed], target: Target) -> Result<Vec<Codes>, Stop>
     requires { length programs.now ≤ 16 }
     ensures ends { Ends result (over_tasks uncoded (map analysed_text programs.now)) }
-    ensures codes { IfOk result (λ all. map code_in all.items ≡ map program_code (map analysed_text programs.now)) }
+    ensures codes { IfOk result (λ all. map code_in all.items ≡ map (program_code target) (map analysed_text programs.now)) }
 {
     let mut all = Vec::new(alloc);
     for n in 0..programs.len() {
-        let codes = code_one(alloc, n, &programs[n])?;
+        let codes = code_one(alloc, n, &programs[n], target)?;
         all.push(codes)?;
     }
     Ok(all)

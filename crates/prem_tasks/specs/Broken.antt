@@ -1,6 +1,7 @@
 -- The first rule that a task set breaks: the groups of rules one after another, each over all tasks before the next.
 use Rattle.std.specs.Prelude.{ℕ, List, [], ◌∷◌, Option, None, Some, Result, Ok, Err, map, slice_index, slice_index_or}
 use Rattle.std.specs.Option.{option_map}
+use Rattle.prem_plant.specs.declared.plant.Target.{Target}
 use Rattle.prem_plant.specs.declared.plant.Plant.{Plant}
 use Rattle.prem_plant.specs.declared.plant.Device.{Device}
 use Rattle.prem_syntax.specs.Syntax.{Text, GlobalVariable, ProgramText}
@@ -78,13 +79,13 @@ group_three p = option_map (λ (b : RangeBreach). of_ranges (range_told (ranges.
 abbrev pub bounded : ProgramText → Resolved
 bounded p = resolve (slice_index (ranges.turn_bounds p)) p
 
-abbrev pub coded_one : TaskText → Resolved → Coded
-coded_one t p = record { name = t.name; period = t.period; jobs = t.jobs; program = p; code = codes_of (task_parts p.routines) p.routines }
+abbrev pub coded_one : Target → TaskText → Resolved → Coded
+coded_one target t p = record { name = t.name; period = t.period; jobs = t.jobs; program = p; code = codes_of (task_parts target p.routines) p.routines }
 
-abbrev pub coded_of : List TaskText → List ProgramText → List Coded
-coded_of [] ps = []
-coded_of (t ∷ ts) [] = []
-coded_of (t ∷ ts) (p ∷ ps) = coded_one t (bounded p) ∷ coded_of ts ps
+abbrev pub coded_of : Target → List TaskText → List ProgramText → List Coded
+coded_of target [] ps = []
+coded_of target (t ∷ ts) [] = []
+coded_of target (t ∷ ts) (p ∷ ps) = coded_one target t (bounded p) ∷ coded_of target ts ps
 
 abbrev pub late_refusal : Option (Refusal LateRule) → Option (Refusal Told)
 late_refusal None = None
@@ -96,7 +97,7 @@ late_refusal (Some r) = Some (record { task = r.task; rule = of_code r.rule })
 abbrev pub broken_programs : TaskSet → List ProgramText → Option (Refusal Told)
 broken_programs set ps =
     or_else (over_tasks group_two ps)
-    (or_else (over_tasks group_three ps) (late_refusal (broken_late set.plant set.devices (coded_of set.tasks ps))))
+    (or_else (over_tasks group_three ps) (late_refusal (broken_late set.plant set.devices (coded_of set.plant.target set.tasks ps))))
 
 abbrev pub broken : TaskSet → Option (Refusal Told)
 broken set = or_else (over_tasks group_one set.tasks) (broken_programs set (programs_of set.tasks))

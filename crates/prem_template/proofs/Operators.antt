@@ -3,6 +3,8 @@ use Rattle.std.proofs.Common.{◌≡◌, ℕ, ◌+◌, ◌-◌, ◌*◌, ◌%◌
 use Rattle.std.specs.Prelude.{ℤ, pos, negsuc}
 use Rattle.std.proofs.lemmas.Bool.{cond_both, ltb-true, ltb-false}
 use Rattle.std.proofs.lemmas.List.Elements.{All-nil, All-cons}
+use Rattle.prem_plant.specs.declared.plant.Target.{Target}
+use Rattle.prem_plant.specs.declared.plant.Target.TheVariants.{Rv32i, Rv32im}
 use Rattle.prem_word.specs.declared.kind.Kind.{Kind}
 use Rattle.prem_word.specs.declared.kind.Kind.TheVariants.{Int, Unsigned}
 use Rattle.prem_word.specs.declared.kind.BinOp.{BinOp}
@@ -19,7 +21,7 @@ use Rattle.prem_syntax.specs.declared.tree.UnOp.TheVariants.{Neg, Flip, Not}
 use Rattle.prem_asm.specs.Pieces.{Pieces, no_pieces, straight, address_of, either, repeat, call_to, followed, address_code, upper, lower}
 use Rattle.prem_asm.specs.Fit.{TestFits, PiecesFit}
 use Rattle.prem_asm.specs.Quiet.{EachInstr}
-use Rattle.prem_template.specs.Terms.{is_short, constant, slot, scale, shift_of, unary_code, less, shift_right, multiply_code, divide_turn, divide_code, unsigned_operands, signed_operands, quotient_code, remainder_code, binary_code}
+use Rattle.prem_template.specs.Terms.{is_short, constant, slot, scale, shift_of, unary_code, less, shift_right, multiply_code, divide_turn, divide_code, unsigned_operands, signed_operands, quotient_code, remainder_code, by_target, binary_code}
 
 -- the same condition, with what holds of each instruction as a product
 abbrev pub Fitting : (parts : ℕ) (places : ℕ → ℕ) → Pieces → Type 0
@@ -173,25 +175,29 @@ module _ (parts : ℕ) (places : ℕ → ℕ) (r s : ℕ) (h : r < 32) (k : s < 
   remainder_has Unsigned = (unsigned_has, divide_has (OpImm Add r 7 (pos 0) ∷ []) ((h, r7, i0), tt))
   remainder_has Int = (signed_has, divide_has (Op Xor 7 7 r ∷ Op Sub r 7 r ∷ []) ((r7, r7, h), ((h, r7, h), tt)))
 
-  pub binary_has : (op : BinOp) (q : Kind) → Has (binary_code op q r s)
-  binary_has Plus q = (((h, h, k), tt), tt)
-  binary_has Minus q = (((h, h, k), tt), tt)
-  binary_has Mul q = multiply_has
-  binary_has Div q = quotient_has q
-  binary_has Rem q = remainder_has q
-  binary_has Shl q = (((h, h, k), tt), tt)
-  binary_has Shr q = ((shift_fits q r s h k, tt), tt)
-  binary_has Lt q = ((less_fits q r r s h h k, tt), tt)
-  binary_has Le q = ((less_fits q r s r h k h, ((h, h, i1), tt)), tt)
-  binary_has Gt q = ((less_fits q r s r h k h, tt), tt)
-  binary_has Ge q = ((less_fits q r r s h h k, ((h, h, i1), tt)), tt)
-  binary_has Eq q = (((h, h, k), ((h, h, i1), tt)), tt)
-  binary_has Ne q = (((h, h, k), ((h, r0, h), tt)), tt)
-  binary_has BitAnd q = (((h, h, k), tt), tt)
-  binary_has BitXor q = (((h, h, k), tt), tt)
-  binary_has BitOr q = (((h, h, k), tt), tt)
-  binary_has AndAlsoOp q = tt
-  binary_has OrElseOp q = tt
+  target_has : (target : Target) (code : Pieces) (one : Instr) → Has code → InstrFits one → Has (by_target target code one)
+  target_has Rv32i code one c f = c
+  target_has Rv32im code one c f = ((f, tt), tt)
+
+  pub binary_has : (target : Target) (op : BinOp) (q : Kind) → Has (binary_code target op q r s)
+  binary_has target Plus q = (((h, h, k), tt), tt)
+  binary_has target Minus q = (((h, h, k), tt), tt)
+  binary_has target Mul q = target_has target _ _ multiply_has (h, h, k)
+  binary_has target Div q = target_has target _ _ (quotient_has q) (h, h, k)
+  binary_has target Rem q = target_has target _ _ (remainder_has q) (h, h, k)
+  binary_has target Shl q = (((h, h, k), tt), tt)
+  binary_has target Shr q = ((shift_fits q r s h k, tt), tt)
+  binary_has target Lt q = ((less_fits q r r s h h k, tt), tt)
+  binary_has target Le q = ((less_fits q r s r h k h, ((h, h, i1), tt)), tt)
+  binary_has target Gt q = ((less_fits q r s r h k h, tt), tt)
+  binary_has target Ge q = ((less_fits q r r s h h k, ((h, h, i1), tt)), tt)
+  binary_has target Eq q = (((h, h, k), ((h, h, i1), tt)), tt)
+  binary_has target Ne q = (((h, h, k), ((h, r0, h), tt)), tt)
+  binary_has target BitAnd q = (((h, h, k), tt), tt)
+  binary_has target BitXor q = (((h, h, k), tt), tt)
+  binary_has target BitOr q = (((h, h, k), tt), tt)
+  binary_has target AndAlsoOp q = tt
+  binary_has target OrElseOp q = tt
 
 -- instructions behind others
 pub each_behind : (xs ys : List Instr) → EachInstr InstrFits xs → EachInstr InstrFits ys → EachInstr InstrFits (xs ++ ys)

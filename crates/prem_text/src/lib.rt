@@ -1,4 +1,10 @@
 //! Which texts are programs, by the division into tokens and the grammar alone, and the law that holds reading to it.
+//!
+//! - `canonical`: the canonical spelling of a program's tree: its tokens, with the fewest parentheses, and its text;
+//!   and the laws that say that it is read back.
+//! - `grammar`: the grammar of the source language, and the laws that hold the reader of its tokens to it.
+//! - `read_words`: each literal of a program that is read from a text is a word.
+//! - `spelling`: what a text's division into tokens is, and the laws that hold the lexer to it.
 #![tactic(auto)]
 
 pub mod canonical;

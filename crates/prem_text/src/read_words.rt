@@ -1,4 +1,7 @@
 //! Each literal of a program that is read from a text is a word.
-mod laws;
+ghost use Rattle.prem_text.specs.ReadWords.Law.{ReadsHaveWords};
 
-pub use laws::reads_have_words;
+/// Each literal of a program that is read from a text is below 2^32.
+pub fn reads_have_words()
+    ensures { ReadsHaveWords }
+{}

@@ -5,7 +5,7 @@ use Rattle.prem_line.proofs.Chain.{same_Ok}
 use Rattle.prem_tasks.specs.Told.{Told}
 use Rattle.prem_tasks.specs.Broken.{TaskSet, broken, programs_of}
 use Rattle.prem_tasks.specs.Compiled.{compiled}
-use Rattle.prem_lru.specs.Entries.{to_front}
+use Rattle.prem_lru.specs.Rules.{rule_of}
 use Rattle.prem_sets_sound.specs.Accepted.Accepted.{setup_in}
 use Rattle.prem_sets_sound.specs.Meant.{promises_in}
 use Rattle.prem_sets_sound.proofs.Sound.{sets_are_sound}
@@ -123,7 +123,7 @@ runs_keep reads asked given is = record {
         input = g.input;
         run_read = r;
         suits = suits;
-        ends = sound_reports_end to_front (setup_in g.set) (compiled g.set).image.content (promises_in g.set) (compiled g.set).limit g.input.words g.input.requests (run_limit asked.cycles (compiled g.set).limit) accepted_is.sound suits;
+        ends = sound_reports_end (rule_of g.set.plant.policy) (setup_in g.set) (compiled g.set).image.content (promises_in g.set) (compiled g.set).limit g.input.words g.input.requests (run_limit asked.cycles (compiled g.set).limit) accepted_is.sound suits;
         text_is = told.1;
       };
   on_refused = λ refused.

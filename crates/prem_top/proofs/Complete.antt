@@ -23,7 +23,8 @@ use Rattle.prem_running.specs.Running.{compiled_reply as run_reply_of, judged_re
 use Rattle.prem_running.specs.Sample.Trace.{sample_set}
 use Rattle.prem_running.specs.Sample.Sample.{compiled_reply as sample_reply_of, judged_reply as sample_judged, sample_stages}
 use Rattle.prem_top.specs.Answer.{IsAnswer, asked_answer, command_answer, Answered, Ends}
-use Rattle.prem_top.specs.Complete.{IsThere, SourcesAreThere, SetIsThere, RunIsThere, ImageIsThere, Completes, IsComplete, Succeeds, one_succeeds, check_succeeds, build_succeeds, list_succeeds, source_succeeds, run_succeeds, exec_succeeds, sample_succeeds}
+use Rattle.prem_exec.specs.Sources.There.{IsThere, SourcesAreThere, SetIsThere, RunIsThere}
+use Rattle.prem_top.specs.Complete.{ImageIsThere, Completes, IsComplete, Succeeds, one_succeeds, check_succeeds, build_succeeds, list_succeeds, source_succeeds, run_succeeds, exec_succeeds, sample_succeeds}
 
 -- ---- files
 

@@ -5,7 +5,7 @@ use Rattle.prem_plant.specs.Ranges.{default_plant}
 use Rattle.prem_plant.specs.Places.{default_places}
 use Rattle.prem_image.specs.declared.image.TaskRecord.{TaskRecord}
 use Rattle.prem_image.specs.declared.image.DeviceRecord.{DeviceRecord}
-use Rattle.prem_lru.specs.Entries.{to_front}
+use Rattle.prem_lru.specs.Rules.{rule_of}
 use Rattle.prem_sched.specs.Schedule.{starts_of}
 use Rattle.prem_cycle.specs.Cycle.{is_finished}
 use Rattle.prem_cycle.specs.FactsOf.{report_of}
@@ -138,7 +138,7 @@ module _ (bytes : List ℕ) (none : broken (one_set bytes) ≡ None) where
       let c = compiled (one_set bytes) in
       let start = start_of (setup_in (one_set bytes)) ([] ∷ []) (memory_of (setup_in (one_set bytes)) c.image.content) in
       let first : OneTask start = record { tasks = one_starts c.image.tasks alone; sched = one_scheduled c.image.tasks alone } in
-      let one = cycles_one to_front (setup_in (one_set bytes)) [] c.limit start first in
+      let one = cycles_one (rule_of default_plant.policy) (setup_in (one_set bytes)) [] c.limit start first in
       ap first_outputs (one_report (state_of c).work.tasks (state_of c).sched one.tasks one.sched)
 
   pub text_told : run_text (state_of (compiled (one_set bytes))) ≡ output_lines gives.after.outputs ++ run_lines (state_of (compiled (one_set bytes))).now (report_of (state_of (compiled (one_set bytes)))).counts

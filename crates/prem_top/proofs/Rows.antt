@@ -13,7 +13,8 @@ use Rattle.prem_exec.specs.Sources.Sources.{source_limit}
 use Rattle.prem_one.specs.One.{output_lines, run_lines}
 use Rattle.prem_top.proofs.Samples.{five_text, five_state, five_is_unbroken, five_is_told}
 use Rattle.prem_top.specs.Answer.{Answered}
-use Rattle.prem_top.specs.Complete.{IsThere, Succeeds, one_succeeds, Completes}
+use Rattle.prem_exec.specs.Sources.There.{IsThere}
+use Rattle.prem_top.specs.Complete.{Succeeds, one_succeeds, Completes}
 use Rattle.prem_top.proofs.Complete.{complete_is}
 
 abbrev five_words : List (List ℕ)

@@ -3,7 +3,6 @@
 
 mod laws;
 mod top;
-mod write;
 
 pub use laws::{commands_keep_the_headline, sets_read_have_values};
 pub use prem_answer::Status;

@@ -6,8 +6,7 @@ ghost use Rattle.prem_answer.specs.Stages.{Comes, IsGiven, is_settled, reply_of}
 ghost use Rattle.prem_top.specs.Answer.{Answered, Ends, asked_answer, command_answer, usage_reply};
 ghost use Rattle.prem_top.specs.Complete.{IsComplete};
 
-use crate::write::write_all;
-use prem_answer::{Answer, Halt, Status};
+use prem_answer::{Answer, Halt, Status, write_all};
 use prem_build::{Sheet, sheet_answer};
 use prem_command::{Said, WordsFail, command};
 use prem_exec::exec_answer;

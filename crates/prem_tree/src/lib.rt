@@ -1,4 +1,7 @@
 //! Programs that break no rule, and their runs as the language defines them.
+//!
+//! - `resolve`: trees whose names are resolved.
+//! - `state`: the state of a run, and what single statements do to it.
 #![tactic(auto)]
 
 mod checked;

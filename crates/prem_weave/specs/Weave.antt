@@ -6,7 +6,7 @@ use Rattle.prem_isa.specs.declared.effect.Change.{Change}
 use Rattle.prem_isa.specs.declared.effect.Change.TheVariants.{Stay, Memory, Execute, End, Job}
 use Rattle.prem_isa.specs.declared.effect.AccessKind.TheVariants.{Loads}
 use Rattle.prem_isa.specs.Plain.{TaskRun, PlainState, Did, plain_did, plain_start, plain_step, plain_steps, plain_trace}
-use Rattle.prem_lru.specs.Order.{AllIn, HaveRoom}
+use Rattle.prem_order.specs.Order.{AllIn, HaveRoom}
 use Rattle.prem_cycle.specs.State.{Setup}
 use Rattle.prem_runs.specs.Position.Finish.{due_of}
 use Rattle.prem_asm.specs.Steps.{total}

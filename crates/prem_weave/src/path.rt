@@ -1,4 +1,8 @@
 //! The run of pieces that change no phase is woven of its steps and of the marked calls that it makes.
-mod laws;
+ghost use Rattle.prem_weave.specs.Path.Woven.{CalmRunsAreWoven};
 
-pub use laws::calm_runs_are_woven;
+/// Where the words of calm pieces stand in memory, and calls of parts are woven, the run of a task on its own is woven of its steps
+/// and of the marked calls of these parts.
+pub fn calm_runs_are_woven()
+    ensures { CalmRunsAreWoven }
+{}

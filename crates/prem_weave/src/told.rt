@@ -1,4 +1,11 @@
 //! The marks of a woven run are the marked calls that the program means.
-mod laws;
+ghost use Rattle.prem_weave.specs.Told.Shape.{JobsKeepShape};
+ghost use Rattle.prem_weave.specs.Told.Told.{MarksAreRead, MarksAreTold, WeavesTell};
 
-pub use laws::marks_are_told;
+/// A woven run tells its marks, and where it notes the marked calls of a program they are the same.
+pub fn marks_are_told()
+    ensures tells { WeavesTell }
+    ensures marks { MarksAreTold }
+    ensures reads { MarksAreRead }
+    ensures shape { JobsKeepShape }
+{}

@@ -12,7 +12,7 @@ use prem_tasks::{Refusal, TaskText};
 use std::alloc::{AllocError, Global};
 
 /// The name of the task that breaks a rule, and a star where the set as a whole does.
-fn breaker(tasks: &[TaskText], task: Option<TaskId>) -> &str
+pub fn breaker(tasks: &[TaskText], task: Option<TaskId>) -> &str
     ensures { result.now ≡ breaker (map task_of tasks.now) task }
 {
     match task {

@@ -79,7 +79,7 @@ load_falls s at op (suc rd) rs1 z t a w some e h =
     let x = did_of at t.phase i (record (goes (at + 4)) { rd = suc rd; value = w; access = Some (record { kind = Loads; address = a; size = n }) }) ∷ [] in
     let t' : TaskState = record t { registers = with_register (suc rd) w t.registers } in
     let go = λ (b u : ℕ). Done (record (goes (at + 4)) { rd = suc rd; value = u; access = Some (record { kind = Loads; address = b; size = n }) }) in
-    let is : outcome_at s.size at i t ≡ go a w =
+    let is : outcome_at s.target s.size at i t ≡ go a w =
     ap (λ b. accesses s.size b n (go b (loaded op (number_at t.view b n)))) e
     ∙ ap (λ u. accesses s.size a n (go a u)) h.gives
     ∙ ap (λ b. cond b (cond (leb (a + n) s.size) (go a w) (Trap Outside)) (Trap Align)) (eq-eqb (a % n) 0 h.aligned)

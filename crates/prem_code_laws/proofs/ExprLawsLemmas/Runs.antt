@@ -98,8 +98,8 @@ module _ (s : Setting) (calls : Calls) where
 -- ---- one instruction
 
 -- an instruction that is no return, goes to the next place and accesses nothing
-falls : (s : Setting) (at : ℕ) (i : Instr) (m : TaskState) (rd value : ℕ) → is_return i ≡ false →
-    outcome_at s.size at i m ≡ Done (record (goes (at + 4)) { rd = rd; value = value }) →
+pub falls : (s : Setting) (at : ℕ) (i : Instr) (m : TaskState) (rd value : ℕ) → is_return i ≡ false →
+    outcome_at s.target s.size at i m ≡ Done (record (goes (at + 4)) { rd = rd; value = value }) →
     run_one s at i m ≡ Falls (record m { registers = with_register rd value m.registers }) (control at i m)
 falls s at i m rd value stays e =
     let m' : TaskState = record m { registers = with_register rd value m.registers } in

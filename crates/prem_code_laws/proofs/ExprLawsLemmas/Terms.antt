@@ -2,6 +2,7 @@
 use Rattle.std.proofs.Common.{◌≡◌, ◌≢◌, ℕ, ◌+◌, ◌<◌, ◌≤◌, refl, ap, ◌∙◌, sym, subst, arith, cond, eqb, ltb, not, None, true, false, Bool, List, [], ◌∷◌, ◌++◌, length, Ok, Err}
 use Rattle.std.specs.Prelude.{pos}
 use Rattle.std.proofs.lemmas.Bool.{eqb-true, eqb-false}
+use Rattle.prem_plant.specs.declared.plant.Target.{Target}
 use Rattle.prem_word.specs.declared.kind.Kind.{Kind}
 use Rattle.prem_word.specs.declared.kind.BinOp.{BinOp}
 use Rattle.prem_word.specs.declared.kind.BinOp.TheVariants.{Add as Plus, Sub as Minus, Mul, Div, Rem, Shl, Shr, Lt, Le, Gt, Ge, Eq, Ne, And as BitAnd, Xor as BitXor, Or as BitOr, AndAlso as AndAlsoOp, OrElse as OrElseOp}
@@ -9,6 +10,7 @@ use Rattle.prem_word.specs.Words.{truth, apply_op}
 use Rattle.prem_word.proofs.Reduced.{word_of-product}
 use Rattle.prem_isa.specs.declared.instr.Instr.{Instr}
 use Rattle.prem_isa.specs.declared.instr.Instr.TheVariants.{Load, OpImm}
+use Rattle.prem_isa.specs.declared.instr.MulDivOp.TheVariants.{Mul as MulWord}
 use Rattle.prem_isa.specs.declared.instr.LoadOp.TheVariants.{Lw}
 use Rattle.prem_isa.specs.declared.instr.AluOp.TheVariants.{Add}
 use Rattle.prem_isa.specs.Plain.{TaskState}
@@ -16,7 +18,7 @@ use Rattle.prem_meaning.specs.Resolved.{Term, Constant, Local, Scalar, Element, 
 use Rattle.prem_meaning.specs.Expressions.{Outcome, and_then, Access, unary_word, divide, operate, truth_of, eval}
 use Rattle.prem_asm.specs.Pieces.{Pieces, no_pieces, either, size_of, followed, other_at}
 use Rattle.prem_asm.specs.Runs.{Calls, Setting}
-use Rattle.prem_template.specs.Terms.{only, constant, slot, nonzero, unary_code, binary_code, truth_code, scalar_code, element_code, term_code}
+use Rattle.prem_template.specs.Terms.{only, constant, slot, nonzero, unary_code, multiply_code, quotient_code, remainder_code, quotient_op, remainder_op, binary_code, truth_code, scalar_code, element_code, term_code}
 use Rattle.prem_template.specs.Limits.{first_of, first_place, too_deep}
 use Rattle.prem_template.proofs.Depths.{first_none, unless_deep, depth_bound}
 use Rattle.prem_code_laws.specs.ExprLaws.Registers.{AreWords, Puts}
@@ -29,6 +31,7 @@ use Rattle.prem_code_laws.proofs.ExprLawsLemmas.Loads.{extend, chain, puts_give}
 use Rattle.prem_code_laws.proofs.ExprLawsLemmas.Cells.{cell_found, local_gives, scalar_gives, element_gives}
 use Rattle.prem_code_laws.proofs.ExprLawsLemmas.Reach.{tested}
 use Rattle.prem_code_laws.proofs.ExprLawsLemmas.Multiply.{multiply_gives}
+use Rattle.prem_code_laws.proofs.ExprLawsLemmas.Products.{quotient_is, remainder_is, target_gives}
 use Rattle.prem_code_laws.proofs.ExprLawsLemmas.Quotients.{quotient_gives, remainder_gives}
 
 -- ---- outcomes
@@ -53,25 +56,30 @@ divided line op k a b w e = by (eqb b 0) refl e where
   by true z e = cc
   by false z e = let n : b ≢ 0 = eqb-false b 0 z in (omega arith, same_ok _ _ e)
 
-module _ (s : Setting) (calls : Calls) (at r : ℕ) (t : TaskState) (ten : 10 ≤ r) (bound : r ≤ 20) (ws : AreWords t.registers) where
+module _ (target : Target) (s : Setting) (on : s.target ≡ target) (calls : Calls) (at r : ℕ) (t : TaskState) (ten : 10 ≤ r) (bound : r ≤ 20) (ws : AreWords t.registers) where
   some : 0 < r
   some = omega arith
 
   by_puts : (code : List Instr) (x w : ℕ) → Puts code t.registers r x → ok_of x ≡ ok_of w → Gives s calls at (only code) t r w
   by_puts code x w p e = puts_give s calls at code t r w (subst (Puts code t.registers r) (same_ok x w e) p)
 
-  pub binary_gives : (line : ℕ) (op : BinOp) (k : Kind) (w : ℕ) → IsOperator op → operate line op k (t.registers r) (t.registers (r + 1)) ≡ Ok w → Gives s calls at (binary_code op k r (r + 1)) t r w
+  pub binary_gives : (line : ℕ) (op : BinOp) (k : Kind) (w : ℕ) → IsOperator op → operate line op k (t.registers r) (t.registers (r + 1)) ≡ Ok w → Gives s calls at (binary_code target op k r (r + 1)) t r w
   binary_gives line Plus k w is e = by_puts _ _ w (add_puts t.registers r (r + 1) some ws k) e
   binary_gives line Minus k w is e = by_puts _ _ w (sub_puts t.registers r (r + 1) some ws k) e
   binary_gives line Mul k w is e =
-      subst (Gives s calls at (binary_code Mul k r (r + 1)) t r) (sym (word_of-product k (t.registers r) (t.registers (r + 1)) (ws.word r) (ws.word (r + 1))) ∙ same_ok _ w e)
-      (multiply_gives s calls at r (r + 1) t (t.registers r) (t.registers (r + 1)) ten refl ws refl refl)
+      let same = sym (word_of-product k (t.registers r) (t.registers (r + 1)) (ws.word r) (ws.word (r + 1))) ∙ same_ok _ w e in
+      target_gives s calls at r (r + 1) t some ws target on (multiply_code r (r + 1)) MulWord w
+      (subst (Gives s calls at (multiply_code r (r + 1)) t r) same (multiply_gives s calls at r (r + 1) t (t.registers r) (t.registers (r + 1)) ten refl ws refl refl)) same
   binary_gives line Div k w is e =
       let d = divided line Div k (t.registers r) (t.registers (r + 1)) w e in
-      subst (Gives s calls at (binary_code Div k r (r + 1)) t r) d.1 (quotient_gives s calls at r (r + 1) t ten bound refl ws d.0 k)
+      target_gives s calls at r (r + 1) t some ws target on (quotient_code k r (r + 1)) (quotient_op k) w
+      (subst (Gives s calls at (quotient_code k r (r + 1)) t r) d.1 (quotient_gives s calls at r (r + 1) t ten bound refl ws d.0 k))
+      (quotient_is k (t.registers r) (t.registers (r + 1)) (ws.word r) d.0 ∙ d.1)
   binary_gives line Rem k w is e =
       let d = divided line Rem k (t.registers r) (t.registers (r + 1)) w e in
-      subst (Gives s calls at (binary_code Rem k r (r + 1)) t r) d.1 (remainder_gives s calls at r (r + 1) t ten bound refl ws d.0 k)
+      target_gives s calls at r (r + 1) t some ws target on (remainder_code k r (r + 1)) (remainder_op k) w
+      (subst (Gives s calls at (remainder_code k r (r + 1)) t r) d.1 (remainder_gives s calls at r (r + 1) t ten bound refl ws d.0 k))
+      (remainder_is k (t.registers r) (t.registers (r + 1)) (ws.word (r + 1)) d.0 ∙ d.1)
   binary_gives line Shl k w is e = by_puts _ _ w (shl_puts t.registers r (r + 1) some ws k) e
   binary_gives line Shr k w is e = by_puts _ _ w (shr_puts t.registers r (r + 1) some ws k) e
   binary_gives line Lt k w is e = by_puts _ _ w (lt_puts t.registers r (r + 1) some ws k) e
@@ -137,7 +145,7 @@ module _ (s : Setting) (calls : Calls) (gs : Globals) (may : Access) (k : Stack)
 
   pub runs : (e : Term) (r at : ℕ) (t : TaskState) (w : ℕ) → 10 ≤ r → too_deep r e ≡ None → TermFits gs (length locals) e →
       GlobalsStand s gs globals t.view → LocalsStand locals k t.view → AreWords t.registers → t.registers 2 ≡ k.sp →
-      eval may globals locals e ≡ Ok w → Gives s calls at (term_code gs.part r e) t r w
+      eval may globals locals e ≡ Ok w → Gives s calls at (term_code gs.target gs.part r e) t r w
   runs (Constant p word kind) r at t w ten deep fit st ls ws two e =
       puts_give s calls at (constant r word) t r w (subst (Puts (constant r word) t.registers r) (same_ok word w e) (constant_puts t.registers r word (omega arith) fit ws))
   runs (Local p i kind) r at t w ten deep fit st ls ws two e =
@@ -148,14 +156,14 @@ module _ (s : Setting) (calls : Calls) (gs : Globals) (may : Access) (k : Stack)
       let d = unless_deep (ltb r 22) (too_deep r index) p deep in
       let x = then_ok (eval may globals locals index) _ w e in
       let h = runs index r at t x.0 ten d.1 fit.1 st ls ws two x.1.0 in
-      chain s calls at (term_code gs.part r index) (element_code (gs.part g) ty r) t r r x.0 w (omega arith) h
-      (subst (λ ty. Gives s calls (at + size_of (term_code gs.part r index)) (element_code (gs.part g) ty r) (record t { registers = h.registers }) r w) fit.0
-      (element_gives s gs may k ground calls (at + size_of (term_code gs.part r index)) g r (record t { registers = h.registers }) globals x.0 w ten st h.words h.value (cell_found p.line may globals g x.0 w x.1.1)))
+      chain s calls at (term_code gs.target gs.part r index) (element_code (gs.part g) ty r) t r r x.0 w (omega arith) h
+      (subst (λ ty. Gives s calls (at + size_of (term_code gs.target gs.part r index)) (element_code (gs.part g) ty r) (record t { registers = h.registers }) r w) fit.0
+      (element_gives s gs may k ground calls (at + size_of (term_code gs.target gs.part r index)) g r (record t { registers = h.registers }) globals x.0 w ten st h.words h.value (cell_found p.line may globals g x.0 w x.1.1)))
   runs (Unary p op operand) r at t w ten deep fit st ls ws two e =
       let d = unless_deep (ltb r 22) (too_deep r operand) p deep in
       let x = then_ok (eval may globals locals operand) _ w e in
       let h = runs operand r at t x.0 ten d.1 fit st ls ws two x.1.0 in
-      extend s calls at (term_code gs.part r operand) t r x.0 (unary_code op r) r w (omega arith) h
+      extend s calls at (term_code gs.target gs.part r operand) t r x.0 (unary_code op r) r w (omega arith) h
       (subst (Puts (unary_code op r) h.registers r) (ap (unary_word op) h.value ∙ same_ok _ _ x.1.1) (unary_puts op h.registers r (omega arith) h.words))
   runs (Binary p op kind left right) r at t w ten deep fit st ls ws two e =
       let d = unless_deep (ltb r 22) (first_of (too_deep r left) (too_deep (r + 1) right)) (first_place left) deep in
@@ -166,15 +174,15 @@ module _ (s : Setting) (calls : Calls) (gs : Globals) (may : Access) (k : Stack)
       let g = runs left r at t x.0 ten dd.0 fit.1.0 st ls ws two x.1.0 in
       let t1 : TaskState = record t { registers = g.registers } in
       let two1 : g.registers 2 ≡ k.sp = g.kept 2 (kept_two r ten) ∙ two in
-      let at1 = at + size_of (term_code gs.part r left) in
+      let at1 = at + size_of (term_code gs.target gs.part r left) in
       let h = runs right (r + 1) at1 t1 y.0 (omega arith) dd.1 fit.1.1 st ls g.words two1 y.1.0 in
       let t2 : TaskState = record t { registers = h.registers } in
-      let at2 = at1 + size_of (term_code gs.part (r + 1) right) in
+      let at2 = at1 + size_of (term_code gs.target gs.part (r + 1) right) in
       let left_kept : h.registers r ≡ x.0 = h.kept r (record { below = omega arith; not_five = omega arith; not_six = omega arith; not_seven = omega arith }) ∙ g.value in
       let val : operate p.line op kind (h.registers r) (h.registers (r + 1)) ≡ Ok w = ap (λ a. operate p.line op kind a (h.registers (r + 1))) left_kept ∙ ap (operate p.line op kind x.0) h.value ∙ y.1.1 in
-      chain s calls at (term_code gs.part r left) (followed (term_code gs.part (r + 1) right) (binary_code op kind r (r + 1))) t r r x.0 w (omega arith) g
-      (chain s calls at1 (term_code gs.part (r + 1) right) (binary_code op kind r (r + 1)) t1 (r + 1) r y.0 w (omega arith) h
-      (binary_gives s calls at2 r t2 ten (omega arith) h.words p.line op kind w fit.0 val))
+      chain s calls at (term_code gs.target gs.part r left) (followed (term_code gs.target gs.part (r + 1) right) (binary_code gs.target op kind r (r + 1))) t r r x.0 w (omega arith) g
+      (chain s calls at1 (term_code gs.target gs.part (r + 1) right) (binary_code gs.target op kind r (r + 1)) t1 (r + 1) r y.0 w (omega arith) h
+      (binary_gives gs.target s ground.target calls at2 r t2 ten (omega arith) h.words p.line op kind w fit.0 val))
   runs (AndAlso p left right) r at t w ten deep fit st ls ws two e =
       let d = unless_deep (ltb r 22) (first_of (too_deep r left) (too_deep r right)) (first_place left) deep in
       let dd = first_none (too_deep r left) (too_deep r right) d.1 in
@@ -182,8 +190,8 @@ module _ (s : Setting) (calls : Calls) (gs : Globals) (may : Access) (k : Stack)
       let g = runs left r at t x.0 ten dd.0 fit.0 st ls ws two x.1.0 in
       let t1 : TaskState = record t { registers = g.registers } in
       let two1 : g.registers 2 ≡ k.sp = g.kept 2 (kept_two r ten) ∙ two in
-      chain s calls at (term_code gs.part r left) (either (nonzero r) (followed (term_code gs.part r right) (only (truth_code r))) no_pieces no_pieces) t r r x.0 w (omega arith) g
-      (and_gives s calls (at + size_of (term_code gs.part r left)) r (term_code gs.part r right) t1 (eval may globals locals right) x.0 w ten g.words g.value (eqb x.0 0) refl x.1.1
+      chain s calls at (term_code gs.target gs.part r left) (either (nonzero r) (followed (term_code gs.target gs.part r right) (only (truth_code r))) no_pieces no_pieces) t r r x.0 w (omega arith) g
+      (and_gives s calls (at + size_of (term_code gs.target gs.part r left)) r (term_code gs.target gs.part r right) t1 (eval may globals locals right) x.0 w ten g.words g.value (eqb x.0 0) refl x.1.1
       (λ at b is. runs right r at t1 b ten dd.1 fit.1 st ls g.words two1 is))
   runs (OrElse p left right) r at t w ten deep fit st ls ws two e =
       let d = unless_deep (ltb r 22) (first_of (too_deep r left) (too_deep r right)) (first_place left) deep in
@@ -192,8 +200,8 @@ module _ (s : Setting) (calls : Calls) (gs : Globals) (may : Access) (k : Stack)
       let g = runs left r at t x.0 ten dd.0 fit.0 st ls ws two x.1.0 in
       let t1 : TaskState = record t { registers = g.registers } in
       let two1 : g.registers 2 ≡ k.sp = g.kept 2 (kept_two r ten) ∙ two in
-      chain s calls at (term_code gs.part r left) (either (nonzero r) (only (OpImm Add r 0 (pos 1) ∷ [])) (followed (term_code gs.part r right) (only (truth_code r))) no_pieces) t r r x.0 w (omega arith) g
-      (or_gives s calls (at + size_of (term_code gs.part r left)) r (term_code gs.part r right) t1 (eval may globals locals right) x.0 w ten g.words g.value (eqb x.0 0) refl x.1.1
+      chain s calls at (term_code gs.target gs.part r left) (either (nonzero r) (only (OpImm Add r 0 (pos 1) ∷ [])) (followed (term_code gs.target gs.part r right) (only (truth_code r))) no_pieces) t r r x.0 w (omega arith) g
+      (or_gives s calls (at + size_of (term_code gs.target gs.part r left)) r (term_code gs.target gs.part r right) t1 (eval may globals locals right) x.0 w ten g.words g.value (eqb x.0 0) refl x.1.1
       (λ at b is. runs right r at t1 b ten dd.1 fit.1 st ls g.words two1 is))
 
 pub term_runs : TermRuns

@@ -132,7 +132,7 @@ module _ (s : Setting) (calls : Calls) (gs : Globals) (may : Access) (k : Stack)
   record Headed (at : ℕ) (e : Term) (t : TaskState) (p : ProgramState) (w : ℕ) : Type 0 where
     registers : ℕ → ℕ
     trace : List Did
-    goes : run s calls at (turn_code gs.part c e) t ≡ Falls (record t { registers = registers }) trace
+    goes : run s calls at (turn_code gs.target gs.part c e) t ≡ Falls (record t { registers = registers }) trace
     ten : registers 10 ≡ w
     matches : Matches s gs k phase count p (record t { registers = registers })
     marks : Marked s gs t trace (record t { registers = registers }) p.marks p.marks
@@ -142,10 +142,10 @@ module _ (s : Setting) (calls : Calls) (gs : Globals) (may : Access) (k : Stack)
       let f = load_falls s at Lw 10 2 (slot c) t (slot_at k c) r (omega arith) (slot_place s gs may k ground t.registers c inside m.stack) (slot_readable s gs may k ground t.view c r inside is small) in
       let t1 : TaskState = record t { registers = with_register 10 r t.registers } in
       let m1 = changed s calls gs may k ground phase count t p (with_register 10 r t.registers) m (reg_words 10 r t.registers small m.words) (reg_other 10 r t.registers 2 (omega arith) ∙ m.stack) in
-      let ps = either (nonzero 10) (followed (term_code gs.part 10 e) (only (truth_code 10))) no_pieces no_pieces in
-      let quiet : EachPiece IsQuiet ps = ((tt, jumps, joined (term_code gs.part 10 e) (only (truth_code 10)) (quiet_term gs.part 10 e (omega arith)) ((omega arith, tt), tt), tt), tt) in
+      let ps = either (nonzero 10) (followed (term_code gs.target gs.part 10 e) (only (truth_code 10))) no_pieces no_pieces in
+      let quiet : EachPiece IsQuiet ps = ((tt, jumps, joined (term_code gs.target gs.part 10 e) (only (truth_code 10)) (quiet_term gs.target gs.part 10 e (omega arith)) ((omega arith, tt), tt), tt), tt) in
       let g = gave s calls 10 (at + 4) ps t1 w quiet
-      (and_gives s silent (at + 4) 10 (term_code gs.part 10 e) t1 (value may p e) r w (omega arith) m1.words (reg_same 10 r t.registers (omega arith)) (eqb r 0) refl pw
+      (and_gives s silent (at + 4) 10 (term_code gs.target gs.part 10 e) t1 (value may p e) r w (omega arith) m1.words (reg_same 10 r t.registers (omega arith)) (eqb r 0) refl pw
       (λ at b h. valued s calls gs may k ground phase count e 10 at t1 p b (omega arith) m1 fit h)) in
       let t2 : TaskState = record t { registers = g.registers } in
       record {
@@ -159,21 +159,21 @@ module _ (s : Setting) (calls : Calls) (gs : Globals) (may : Access) (k : Stack)
       }
 
   module _ (e : Term) (fit : Fits gs count 10 e) (sem : ProgramState → Outcome ProgramState) (ps : Pieces) (at : ℕ)
-      (body_runs : (t : TaskState) (p p1 : ProgramState) → Matches s gs k phase count p t → sem p ≡ Ok p1 → Ends s gs k phase count (suc c) hi (run s calls (test_at at (turn_code gs.part c e) + 8 + 12) ps t) t p.marks p1) where
+      (body_runs : (t : TaskState) (p p1 : ProgramState) → Matches s gs k phase count p t → sem p ≡ Ok p1 → Ends s gs k phase count (suc c) hi (run s calls (test_at at (turn_code gs.target gs.part c e) + 8 + 12) ps t) t p.marks p1) where
     abbrev looping : ℕ → TaskState → Ending
-    looping n t = run_turns n (loop_of s calls at (turn_code gs.part c e) (nonzero 10) (straight (count_code c) ps)) t
+    looping n t = run_turns n (loop_of s calls at (turn_code gs.target gs.part c e) (nonzero 10) (straight (count_code c) ps)) t
 
     -- the head says no
     stopped : (n : ℕ) (t : TaskState) (p p' : ProgramState) → Headed at e t p 0 → p ≡ p' → Ends s gs k phase count lo hi (looping n t) t p.marks p'
     stopped n t p p' h same =
         let t1 : TaskState = record t { registers = h.registers } in
-        let l = loop_of s calls at (turn_code gs.part c e) (nonzero 10) (straight (count_code c) ps) in
+        let l = loop_of s calls at (turn_code gs.target gs.part c e) (nonzero 10) (straight (count_code c) ps) in
         record {
           to = t1;
           trace = h.trace ++ l.leaves t1;
           marks = subst (λ (q : ProgramState). Marked s gs t (h.trace ++ l.leaves t1) t1 p.marks q.marks) same
               (marks_join s gs t h.trace t1 (l.leaves t1) t1 p.marks p.marks p.marks h.marks
-              (marked_other s gs (test_at at (turn_code gs.part c e)) (nonzero 10) (repeat_end at (turn_code gs.part c e) (straight (count_code c) ps)) t1 p.marks));
+              (marked_other s gs (test_at at (turn_code gs.target gs.part c e)) (nonzero 10) (repeat_end at (turn_code gs.target gs.part c e) (straight (count_code c) ps)) t1 p.marks));
           goes = turn_off l n t t1 h.trace h.goes (tested 10 t1 0 h.matches.words h.ten);
           matches = subst (λ q. Matches s gs k phase count q t1) same h.matches;
           kept = λ a b. refl;
@@ -189,8 +189,8 @@ module _ (s : Setting) (calls : Calls) (gs : Globals) (may : Access) (k : Stack)
         ((t2 : TaskState) → Matches s gs k phase count p1 t2 → Counts t2.view n → Ends s gs k phase count lo hi (looping n t2) t2 p1.marks p') → Ends s gs k phase count lo hi (looping (suc n) t) t p.marks p'
     went n t p p1 p' h is small e1 again =
         let t1 : TaskState = record t { registers = h.registers } in
-        let l = loop_of s calls at (turn_code gs.part c e) (nonzero 10) (straight (count_code c) ps) in
-        let inner = test_at at (turn_code gs.part c e) + 8 in
+        let l = loop_of s calls at (turn_code gs.target gs.part c e) (nonzero 10) (straight (count_code c) ps) in
+        let inner = test_at at (turn_code gs.target gs.part c e) + 8 in
         let d = lowered inner t1 p n h.matches is small in
         let b = body_runs d.to p p1 d.matches e1 in
         let z = again b.to b.matches (counter_kept d.to.view b.to.view n b.kept d.counts) in
@@ -198,9 +198,9 @@ module _ (s : Setting) (calls : Calls) (gs : Globals) (may : Access) (k : Stack)
           to = z.to;
           trace = h.trace ++ (l.enters t1 ++ ((d.trace ++ b.trace) ++ (l.back b.to ++ z.trace)));
           marks = marks_join s gs t h.trace t1 (l.enters t1 ++ ((d.trace ++ b.trace) ++ (l.back b.to ++ z.trace))) z.to p.marks p.marks p'.marks h.marks
-              (marks_join s gs t1 (l.enters t1) t1 ((d.trace ++ b.trace) ++ (l.back b.to ++ z.trace)) z.to p.marks p.marks p'.marks (marked_branch s gs (test_at at (turn_code gs.part c e)) (nonzero 10) t1 p.marks)
+              (marks_join s gs t1 (l.enters t1) t1 ((d.trace ++ b.trace) ++ (l.back b.to ++ z.trace)) z.to p.marks p.marks p'.marks (marked_branch s gs (test_at at (turn_code gs.target gs.part c e)) (nonzero 10) t1 p.marks)
               (marks_join s gs t1 (d.trace ++ b.trace) b.to (l.back b.to ++ z.trace) z.to p.marks p1.marks p'.marks (marks_join s gs t1 d.trace d.to b.trace b.to p.marks p.marks p1.marks d.marks b.marks)
-              (marks_join s gs b.to (l.back b.to) b.to z.trace z.to p1.marks p1.marks p'.marks (marked_jump s gs (back_at at (turn_code gs.part c e) (straight (count_code c) ps)) at b.to p1.marks) z.marks)));
+              (marks_join s gs b.to (l.back b.to) b.to z.trace z.to p1.marks p1.marks p'.marks (marked_jump s gs (back_at at (turn_code gs.target gs.part c e) (straight (count_code c) ps)) at b.to p1.marks) z.marks)));
           goes = turn_on l n t t1 b.to z.to h.trace (d.trace ++ b.trace) z.trace h.goes (tested 10 t1 1 h.matches.words h.ten)
               (goes_then s calls (only (count_code c)) ps inner t1 d.to b.to d.trace b.trace d.goes b.goes) z.goes;
           matches = z.matches;

@@ -43,7 +43,7 @@ module _ (s : Setting) (calls : Calls) (gs : Globals) (may : Access) (k : Stack)
   below_slots a i h = grind arith
 
   pub passed : (frame : ℕ) (es : List Term) (j at : ℕ) (t : TaskState) (p : ProgramState) (ws : List ℕ) → Matches s gs k phase count p t → AllFit gs count es → values may p es ≡ Ok ws →
-      4 + 4 * (j + length es) ≤ frame → frame % 4 ≡ 0 → k.low + frame ≤ k.sp → Passed (run s calls at (argument_code gs.part frame j es) t) t p frame j ws
+      4 + 4 * (j + length es) ≤ frame → frame % 4 ≡ 0 → k.low + frame ≤ k.sp → Passed (run s calls at (argument_code gs.target gs.part frame j es) t) t p frame j ws
   passed frame [] j at t p ws m fit is room al deep =
       let e : [] ≡ ws = same_ok [] ws is in
       subst (Passed (run s calls at no_pieces t) t p frame j) e (record {
@@ -61,7 +61,7 @@ module _ (s : Setting) (calls : Calls) (gs : Globals) (may : Access) (k : Stack)
       let x = then_ok (value may p e) _ ws is in
       let y = then_ok (values may p es) _ ws x.1.1 in
       let w = x.0 in
-      let ps = term_code gs.part 10 e in
+      let ps = term_code gs.target gs.part 10 e in
       let g = evaluated s calls gs may k ground phase count e 10 at t p w (omega arith) m fit.0 x.1.0 in
       let t1 : TaskState = record t { registers = g.registers } in
       let m1 = still s calls gs may k ground phase count at ps t p 10 w (omega arith) m g in
@@ -91,8 +91,8 @@ module _ (s : Setting) (calls : Calls) (gs : Globals) (may : Access) (k : Stack)
       } in
       let z = passed frame es (j + 1) (at1 + 4) t2 p y.0 m2 fit.1 y.1.0 (omega arith) al deep in
       let e1 : w ∷ y.0 ≡ ws = same_ok (w ∷ y.0) ws y.1.1 in
-      let rest = argument_code gs.part frame (j + 1) es in
-      subst (Passed (run s calls at (argument_code gs.part frame j (e ∷ es)) t) t p frame j) e1 (record {
+      let rest = argument_code gs.target gs.part frame (j + 1) es in
+      subst (Passed (run s calls at (argument_code gs.target gs.part frame j (e ∷ es)) t) t p frame j) e1 (record {
         to = z.to;
         trace = g.trace ++ (st.0 ++ z.trace);
         marks = marks_join s gs t g.trace t1 (st.0 ++ z.trace) z.to p.marks p.marks p.marks (marked_gave s gs calls at ps t 10 w p.marks g)
@@ -142,10 +142,10 @@ module _ (s : Setting) (calls : Calls) (gs : Globals) (may : Access) (k : Stack)
     pub call_then : (parts : Parts) (cs : Callees) (source : SourceCalls) (under : ℕ) → k.low + under ≤ k.sp →
         (f : ℕ) → CallRunsAt s gs may k phase (calls (parts.callee f)) (parts.link f) (parts.frame f) (cs.depth f) (cs.params f) (cs.returns f) (λ words p. source may f words p) →
         (target : Option ℕ) (es : List Term) (at : ℕ) (rest : Pieces) (t : TaskState) (p : ProgramState) (ws : List ℕ) (w : ℕ) (p1 after : ProgramState) →
-        at % 4 ≡ 0 → at + size_of (argument_code gs.part (parts.frame f) 0 es) + 4 < 2 ^ 32 → CallFits gs parts cs count under target f es → Matches s gs k phase count p t →
+        at % 4 ≡ 0 → at + size_of (argument_code gs.target gs.part (parts.frame f) 0 es) + 4 < 2 ^ 32 → CallFits gs parts cs count under target f es → Matches s gs k phase count p t →
         values may p es ≡ Ok ws → source may f ws p ≡ Ok (w, p1) →
-        ((t1 : TaskState) → Matches s gs k phase count (with_target target w p1) t1 → Ends s gs k phase count lo hi (run s calls (at + size_of (argument_code gs.part (parts.frame f) 0 es) + 4 + size_of (target_code target no_pieces)) rest t1) t1 (with_target target w p1).marks after) →
-        Ends s gs k phase count lo hi (run s calls at (followed (argument_code gs.part (parts.frame f) 0 es) (call_to (parts.link f) (parts.callee f) (target_code target rest))) t) t p.marks after
+        ((t1 : TaskState) → Matches s gs k phase count (with_target target w p1) t1 → Ends s gs k phase count lo hi (run s calls (at + size_of (argument_code gs.target gs.part (parts.frame f) 0 es) + 4 + size_of (target_code target no_pieces)) rest t1) t1 (with_target target w p1).marks after) →
+        Ends s gs k phase count lo hi (run s calls at (followed (argument_code gs.target gs.part (parts.frame f) 0 es) (call_to (parts.link f) (parts.callee f) (target_code target rest))) t) t p.marks after
     call_then parts cs source under space f callee target es at rest t p ws w p1 after al size fit m is means next =
         let frame = parts.frame f in
         let link = parts.link f in
@@ -155,7 +155,7 @@ module _ (s : Setting) (calls : Calls) (gs : Globals) (may : Access) (k : Stack)
         let lim : cs.depth f ≤ under = fit.deep in
         let one : 1 ≤ link = fit.link.0 in
         let q = passed frame es 0 at t p ws m fit.arguments_fit is (omega arith) fit.aligned (omega arith) in
-        let aps = argument_code gs.part frame 0 es in
+        let aps = argument_code gs.target gs.part frame 0 es in
         let at1 = at + size_of aps in
         let ra = at1 + 4 in
         let t1 : TaskState = q.to in

@@ -45,7 +45,7 @@ module _ (s : Setting) (calls : Calls) (gs : Globals) (may : Access) (k : Stack)
   record Headed (at : ℕ) (high : Term) (t : TaskState) (p : ProgramState) (h : ℕ) : Type 0 where
     registers : ℕ → ℕ
     trace : List Did
-    goes : run s calls at (straight (load_slot i ∷ []) (term_code gs.part 11 high)) t ≡ Falls (record t { registers = registers }) trace
+    goes : run s calls at (straight (load_slot i ∷ []) (term_code gs.target gs.part 11 high)) t ≡ Falls (record t { registers = registers }) trace
     ten : registers 10 ≡ slice_index p.locals i
     eleven : registers 11 ≡ h
     matches : Matches s gs k phase count p (record t { registers = registers })
@@ -66,11 +66,11 @@ module _ (s : Setting) (calls : Calls) (gs : Globals) (may : Access) (k : Stack)
         registers = g.registers;
         trace = f.0 ++ g.trace;
         marks = marks_join s gs t f.0 t1 g.trace t2 p.marks p.marks p.marks (marked_quiet s gs at (load_slot i) t t1 f.0 p.marks (omega arith, omega arith) f.1)
-            (marked_gave s gs calls (at + 4) (term_code gs.part 11 high) t1 11 h p.marks g);
-        goes = before s calls at (load_slot i) [] (term_code gs.part 11 high) t t1 t2 f.0 g.trace f.1 (after s calls (at + 4) (term_code gs.part 11 high) t1 t2 g.trace g.goes);
+            (marked_gave s gs calls (at + 4) (term_code gs.target gs.part 11 high) t1 11 h p.marks g);
+        goes = before s calls at (load_slot i) [] (term_code gs.target gs.part 11 high) t t1 t2 f.0 g.trace f.1 (after s calls (at + 4) (term_code gs.target gs.part 11 high) t1 t2 g.trace g.goes);
         ten = g.kept 10 (record { below = omega arith; not_five = omega arith; not_six = omega arith; not_seven = omega arith }) ∙ reg_same 10 w t.registers (omega arith);
         eleven = g.value;
-        matches = still s calls gs may k ground phase count (at + 4) (term_code gs.part 11 high) t1 p 11 h (omega arith) m1 g;
+        matches = still s calls gs may k ground phase count (at + 4) (term_code gs.target gs.part 11 high) t1 p 11 h (omega arith) m1 g;
       }
 
   tested : (closed : Bool) (t : TaskState) (a b : ℕ) → t.registers 10 ≡ a → t.registers 11 ≡ b → test_holds (bound_test closed) t ≡ in_bound closed (value_in Int a) (value_in Int b)
@@ -102,7 +102,7 @@ module _ (s : Setting) (calls : Calls) (gs : Globals) (may : Access) (k : Stack)
     whole = followed body (only (step_code i step))
 
     abbrev head : Pieces
-    head = straight (load_slot i ∷ []) (term_code gs.part 11 high)
+    head = straight (load_slot i ∷ []) (term_code gs.target gs.part 11 high)
 
     abbrev turn : ProgramState → Outcome ProgramState
     turn p = and_then (sem p) (loop_step line i step)

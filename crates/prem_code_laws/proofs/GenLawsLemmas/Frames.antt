@@ -37,14 +37,14 @@ use Rattle.prem_code_laws.proofs.GenLawsLemmas.Parts.{beside_slot, evaluated, st
 
 module _ (s : Setting) (calls : Calls) (gs : Globals) (may : Access) (k : Stack) (ground : Ground s gs may k) (phase : Phase) (total lo hi : ℕ) (bound : total ≤ k.slots) (above : total ≤ hi) where
   pub declared : (es : List Term) (n at : ℕ) (t : TaskState) (p p' : ProgramState) → Matches s gs k phase n p t → DeclaredFit gs n es → n + length es ≡ total → declare may es p ≡ Ok p' →
-      Ends s gs k phase total lo hi (run s calls at (declare_code gs.part n es) t) t p.marks p'
+      Ends s gs k phase total lo hi (run s calls at (declare_code gs.target gs.part n es) t) t p.marks p'
   declared [] n at t p p' m fit sum e =
       let same : n ≡ total = omega arith in
       record { to = t; trace = []; goes = refl; kept = λ a h. refl; marks = subst (λ (q : ProgramState). Marked s gs t [] t p.marks q.marks) (same_ok p p' e) (marked_nothing s gs t p.marks); matches = subst (λ c. Matches s gs k phase c p' t) same (subst (λ q. Matches s gs k phase n q t) (same_ok p p' e) m) }
   declared (e ∷ es) n at t p p' m fit sum is =
       let x = then_ok (value may p e) _ p' is in
       let w = x.0 in
-      let ps = term_code gs.part 10 e in
+      let ps = term_code gs.target gs.part 10 e in
       let len : n + suc (length es) ≡ total = sum in
       let g = evaluated s calls gs may k ground phase n e 10 at t p w (omega arith) m fit.0 x.1.0 in
       let t1 : TaskState = record t { registers = g.registers } in
@@ -68,7 +68,7 @@ module _ (s : Setting) (calls : Calls) (gs : Globals) (may : Access) (k : Stack)
         inputs = m1.inputs;
       } in
       let z = declared es (n + 1) (at1 + 4) t2 (with_new_local w p) p' m2 fit.1 (omega arith) x.1.1 in
-      let rest = declare_code gs.part (n + 1) es in
+      let rest = declare_code gs.target gs.part (n + 1) es in
       record {
         to = z.to;
         trace = g.trace ++ (f.0 ++ z.trace);

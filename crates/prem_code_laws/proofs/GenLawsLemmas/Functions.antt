@@ -49,6 +49,7 @@ ground_inner s gs may k frame slots al space holds ground =
     let sal : k.sp % 4 ≡ 0 = ground.aligned in
     let room : k.sp + 4 + 4 * k.slots ≤ k.top = ground.room in
     record {
+      target = ground.target;
       small = ground.small;
       ends = ground.ends;
       aligned = omega arith;
@@ -94,7 +95,7 @@ four s calls is p q r z at t t1 t2 t3 t4 t5 ra x0 x1 x2 x3 x4 e0 e1 e2 e3 e4 =
 
 -- their marks, where the first and the last mark nothing
 pub five_marks : (s : Setting) (gs : Globals) (t t1 t2 t3 t4 t5 : TaskState) (x0 x1 x2 x3 x4 : List Did) (ms ns ks : List MarkedCall) →
-    behind s.size x0 t ≡ t1 → AllSteps Stays x0 → Marked s gs t1 x1 t2 ms ns → Marked s gs t2 x2 t3 ns ks → Marked s gs t3 x3 t4 ks ks → behind s.size x4 t4 ≡ t5 → AllSteps Stays x4 →
+    behind s.target s.size x0 t ≡ t1 → AllSteps Stays x0 → Marked s gs t1 x1 t2 ms ns → Marked s gs t2 x2 t3 ns ks → Marked s gs t3 x3 t4 ks ks → behind s.target s.size x4 t4 ≡ t5 → AllSteps Stays x4 →
     Marked s gs t (x0 ++ (x1 ++ (x2 ++ (x3 ++ x4)))) t5 ms ks
 five_marks s gs t t1 t2 t3 t4 t5 x0 x1 x2 x3 x4 ms ns ks a0 s0 m1 m2 m3 a4 s4 =
     marks_join s gs t x0 t1 (x1 ++ (x2 ++ (x3 ++ x4))) t5 ms ms ks (unmarked s gs t x0 t1 ms a0 s0)
@@ -107,7 +108,7 @@ five_marks s gs t t1 t2 t3 t4 t5 x0 x1 x2 x3 x4 ms ns ks a0 s0 m1 m2 m3 a4 s4 =
 pub record Resulted (s : Setting) (calls : Calls) (gs : Globals) (k : Stack) (phase : Phase) (count at : ℕ) (o : Option Term) (t : TaskState) (p : ProgramState) (w : ℕ) : Type 0 where
   pub to : TaskState
   pub trace : List Did
-  pub goes : run s calls at (result_code gs.part o) t ≡ Falls to trace
+  pub goes : run s calls at (result_code gs.target gs.part o) t ≡ Falls to trace
   pub marks : Marked s gs t trace to p.marks p.marks
   pub matches : Matches s gs k phase count p to
   pub result : is_some o ≡ true → to.registers 10 ≡ w
@@ -122,8 +123,8 @@ resulted s calls gs may k ground phase count at (Some x) t p w m fit e =
       to = record t { registers = g.registers };
       trace = g.trace;
       goes = g.goes;
-      marks = marked_gave s gs calls at (term_code gs.part 10 x) t 10 w p.marks g;
-      matches = still s calls gs may k ground phase count at (term_code gs.part 10 x) t p 10 w (omega arith) m g;
+      marks = marked_gave s gs calls at (term_code gs.target gs.part 10 x) t 10 w p.marks g;
+      matches = still s calls gs may k ground phase count at (term_code gs.target gs.part 10 x) t p 10 w (omega arith) m g;
       result = λ h. g.value;
       view = refl;
     }
@@ -203,9 +204,9 @@ module _ (s : Setting) (calls : Calls) (gs : Globals) (parts : Parts) (cs : Call
         let small : s.size < 2 ^ 32 = ground.small in
         let sal : k.sp % 4 ≡ 0 = ground.aligned in
         let g' = ground_inner s gs may k frame slots al (omega arith) holds ground in
-        let dp = declare_code gs.part (length f.text.params) f.locals in
+        let dp = declare_code gs.target gs.part (length f.text.params) f.locals in
         let bp = steps_code (with_globals gs parts) total f.body in
-        let rp = result_code gs.part f.result in
+        let rp = result_code gs.target gs.part f.result in
         let cp = only (closing frame) in
         let s1 = words-followed dp (followed bp (followed rp cp)) in
         let s2 = words-followed bp (followed rp cp) in
@@ -237,8 +238,8 @@ module _ (s : Setting) (calls : Calls) (gs : Globals) (parts : Parts) (cs : Call
           to = record d3.to { registers = d4.registers };
           trace = op.trace ++ (d1.trace ++ (d2.trace ++ (d3.trace ++ d4.trace)));
           marks = five_marks s gs t t1 d1.to d2.to d3.to (record d3.to { registers = d4.registers }) op.trace d1.trace d2.trace d3.trace d4.trace p0.marks p1.marks p2.marks
-              (subst (Arrives s.size t) op.goes (code_arrives s silent (opening frame) at t)) op.stays d1.marks d2.marks d3.marks
-              (subst (Arrives s.size d3.to) d4.goes (runs_arrive s calls cp at4 tt d3.to)) d4.stays;
+              (subst (Arrives s.target s.size t) op.goes (code_arrives s silent (opening frame) at t)) op.stays d1.marks d2.marks d3.marks
+              (subst (Arrives s.target s.size d3.to) d4.goes (runs_arrive s calls cp at4 tt d3.to)) d4.stays;
           goes = four s calls (opening frame) dp bp rp cp at t t1 d1.to d2.to d3.to (record d3.to { registers = d4.registers }) back op.trace d1.trace d2.trace d3.trace d4.trace op.goes d1.goes d2.goes d3.goes d4.goes;
           matches = left_behind k count p p2 t d3.to d4.registers m d3.matches upper room d4.stack d4.words;
           result = λ h. d4.result ∙ d3.result h;

@@ -56,9 +56,9 @@ module _ (s : Setting) (calls : Calls) (gs : Globals) (may : Access) (parts : Pa
       let small : s.size < 2 ^ 32 = ground.small in
       let sal : k.sp % 4 ≡ 0 = ground.aligned in
       let floor : k.low ≤ k.sp = ground.floor in
-      let dp = declare_code gs.part (length f.text.params) f.locals in
+      let dp = declare_code gs.target gs.part (length f.text.params) f.locals in
       let bp = steps_code (with_globals gs parts) total f.body in
-      let rp = result_code gs.part f.result in
+      let rp = result_code gs.target gs.part f.result in
       let cp = only (closing frame) in
       let s1 = words-followed dp (followed bp (followed rp cp)) in
       let s2 = words-followed bp (followed rp cp) in
@@ -89,8 +89,8 @@ module _ (s : Setting) (calls : Calls) (gs : Globals) (may : Access) (parts : Pa
           to = record d3.to { registers = d4.registers };
           trace = op.trace ++ (d1.trace ++ (d2.trace ++ (d3.trace ++ d4.trace)));
           marks = five_marks s gs t t1 d1.to d2.to d3.to (record d3.to { registers = d4.registers }) op.trace d1.trace d2.trace d3.trace d4.trace p0.marks p1.marks p2.marks
-              (subst (Arrives s.size t) op.goes (code_arrives s silent (opening frame) at t)) op.stays d1.marks d2.marks d3.marks
-              (subst (Arrives s.size d3.to) d4.goes (runs_arrive s calls cp at4 tt d3.to)) d4.stays;
+              (subst (Arrives s.target s.size t) op.goes (code_arrives s silent (opening frame) at t)) op.stays d1.marks d2.marks d3.marks
+              (subst (Arrives s.target s.size d3.to) d4.goes (runs_arrive s calls cp at4 tt d3.to)) d4.stays;
           goes = four s calls (opening frame) dp bp rp cp at t t1 d1.to d2.to d3.to (record d3.to { registers = d4.registers }) back op.trace d1.trace d2.trace d3.trace d4.trace op.goes d1.goes d2.goes d3.goes d4.goes;
           between = record {
             globals = d3.matches.globals;

@@ -25,7 +25,7 @@ module _ (s : Setting) (own : TaskRun) (ended : ℕ) (bytes : ℕ → ℕ) (part
       one_lands own ended s.guard bytes (eqb called part) (run s inner (s.places part) pieces t) (others called t) (s.places called) t
       (λ e. subst (λ p. Lands own ended s.guard bytes (run s inner (s.places part) pieces t) (s.places p) t) (sym (eqb-true called part e))
       (lands own ended s.guard bytes (run s inner (s.places part) pieces t) (s.places part) t (s.places part + size_of pieces)
-      (words_run s inner own ended bytes (record { size = running.size; small = running.small; running = running.running; aligned = running.aligned; below = running.below; lands = h })
+      (words_run s inner own ended bytes (record { target = running.target; size = running.size; small = running.small; running = running.running; aligned = running.aligned; below = running.below; lands = h })
       parts pieces (s.places part) stands.words stands.fit stands.flat_is (running.aligned part) stands.within stands.stand t agrees)))
       (k called t agrees)
 

@@ -52,7 +52,7 @@ store_falls s at op rs1 rs2 z t a w e f al fits guard =
     let t' : TaskState = record t { view = put_number n a w t.view } in
     let go = λ (b u : ℕ). stores (at + 4) op b u in
     let x = did_of at t.phase i (record (goes (at + 4)) { access = Some (record { kind = Stores; address = a; size = n }); stored = Some (record { address = a; size = n; value = w }) }) ∷ [] in
-    let is : outcome_at s.size at i t ≡ go a w =
+    let is : outcome_at s.target s.size at i t ≡ go a w =
     ap (λ b. accesses s.size b n (go b (t.registers rs2))) e
     ∙ ap (λ u. accesses s.size a n (go a u)) f
     ∙ ap (λ b. cond b (cond (leb (a + n) s.size) (go a w) (Trap Outside)) (Trap Align)) (eq-eqb (a % n) 0 al)

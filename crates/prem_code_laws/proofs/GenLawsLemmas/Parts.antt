@@ -56,12 +56,12 @@ module _ (s : Setting) (calls : Calls) (gs : Globals) (may : Access) (k : Stack)
   -- ---- values
 
   -- where nothing is called
-  pub valued : (e : Term) (r at : ℕ) (t : TaskState) (p : ProgramState) (w : ℕ) → 10 ≤ r → Matches s gs k phase count p t → Fits gs count r e → value may p e ≡ Ok w → Gives s silent at (term_code gs.part r e) t r w
+  pub valued : (e : Term) (r at : ℕ) (t : TaskState) (p : ProgramState) (w : ℕ) → 10 ≤ r → Matches s gs k phase count p t → Fits gs count r e → value may p e ≡ Ok w → Gives s silent at (term_code gs.target gs.part r e) t r w
   valued e r at t p w ten m fit is =
       term_runs s silent gs may k ground p.globals p.locals e r at t w ten fit.deep (subst (λ n. Rattle.prem_code_laws.specs.ExprLaws.Gives.TermFits gs n e) (sym m.count_is) fit.term) m.globals m.locals m.words m.stack is
 
-  pub evaluated : (e : Term) (r at : ℕ) (t : TaskState) (p : ProgramState) (w : ℕ) → 10 ≤ r → Matches s gs k phase count p t → Fits gs count r e → value may p e ≡ Ok w → Gave s calls at (term_code gs.part r e) t r w
-  evaluated e r at t p w ten m fit is = gave s calls r at (term_code gs.part r e) t w (quiet_term gs.part r e ten) (valued e r at t p w ten m fit is)
+  pub evaluated : (e : Term) (r at : ℕ) (t : TaskState) (p : ProgramState) (w : ℕ) → 10 ≤ r → Matches s gs k phase count p t → Fits gs count r e → value may p e ≡ Ok w → Gave s calls at (term_code gs.target gs.part r e) t r w
+  evaluated e r at t p w ten m fit is = gave s calls r at (term_code gs.target gs.part r e) t w (quiet_term gs.target gs.part r e ten) (valued e r at t p w ten m fit is)
 
   -- registers change, and the state still stands
   pub changed : (t : TaskState) (p : ProgramState) (f : ℕ → ℕ) → Matches s gs k phase count p t → AreWords f → f 2 ≡ k.sp → Matches s gs k phase count p (record t { registers = f })

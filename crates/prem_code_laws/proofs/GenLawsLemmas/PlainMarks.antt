@@ -46,7 +46,7 @@ IsJob _ = ⊥
 record GoesOn (own : TaskRun) (x : PlainState) : Type 0 where
   more : x.ended ≤ (plain_step own x).ended
   job : (d : Did) → plain_did own x ≡ Some d → IsJob d.change → x.ended < (plain_step own x).ended
-  task : (d : Did) → plain_did own x ≡ Some d → (IsJob d.change → ⊥) → (plain_step own x).task ≡ behind_step own.size d x.task
+  task : (d : Did) → plain_did own x ≡ Some d → (IsJob d.change → ⊥) → (plain_step own x).task ≡ behind_step own.target own.size d x.task
 
 change_more : (own : TaskRun) (c : Change) (y : PlainState) → y.ended ≤ (after_change own c y).ended
 change_more own Stay y = omega arith
@@ -91,7 +91,7 @@ goes_on own x = by_running (is_running own x) refl where
         more = subst (λ (z : PlainState). x.ended ≤ z.ended) (sym at) (change_more own e.change (moved_by e x));
         job = λ d f h. subst (λ (z : PlainState). x.ended < z.ended) (sym at) (change_job own e.change (moved_by e x) (subst (λ (d : Did). IsJob d.change) (sym (same d (sym did ∙ f))) h));
         task = λ d f h. ap (λ (z : PlainState). z.task) at ∙ change_task own e.change (moved_by e x) (λ j. h (subst (λ (d : Did). IsJob d.change) (same d (sym did ∙ f)) j))
-            ∙ sym (moved_is own.size x.pc i x.task e is) ∙ ap (λ (d : Did). behind_step own.size d x.task) (same d (sym did ∙ f));
+            ∙ sym (moved_is own.target own.size x.pc i x.task e is) ∙ ap (λ (d : Did). behind_step own.target own.size d x.task) (same d (sym did ∙ f));
       } where
         same : (d : Did) → did_with x.pc x.task.phase i (Done e) ≡ Some d → did_of x.pc x.task.phase i e ≡ d
         same d f = cc
@@ -144,7 +144,7 @@ unfolding plain_steps
 once own x = refl
 
 pub job_events : (own : TaskRun) (trace : List Did) (x : PlainState) → plain_trace own (length trace) x ≡ trace → (plain_steps own (length trace) x).ended ≤ x.ended →
-    plain_events own (length trace) x ≡ events own.size trace x.task
+    plain_events own (length trace) x ≡ events own.target own.size trace x.task
 unfolding plain_events
 job_events own [] x e le = refl
 job_events own (d ∷ ds) x e le = by (plain_did own x) refl (λ f h. job_events own ds (plain_step own x) f h) where
@@ -159,8 +159,8 @@ job_events own (d ∷ ds) x e le = by (plain_did own x) refl (λ f h. job_events
       ∙ ap (λ z. events_with (plain_did own x) (plain_step own x).task.view ++ plain_events own (length ds) z) (once own x)
 
   by : (o : Option Did) → plain_did own x ≡ o →
-      (plain_trace own (length ds) (plain_step own x) ≡ ds → (plain_steps own (length ds) (plain_step own x)).ended ≤ (plain_step own x).ended → plain_events own (length ds) (plain_step own x) ≡ events own.size ds (plain_step own x).task) →
-      plain_events own (suc (length ds)) x ≡ events own.size (d ∷ ds) x.task
+      (plain_trace own (length ds) (plain_step own x) ≡ ds → (plain_steps own (length ds) (plain_step own x)).ended ≤ (plain_step own x).ended → plain_events own (length ds) (plain_step own x) ≡ events own.target own.size ds (plain_step own x).task) →
+      plain_events own (suc (length ds)) x ≡ events own.target own.size (d ∷ ds) x.task
   by None is go =
       let f : plain_trace own (length ds) (plain_step own x) ≡ d ∷ ds = sym (next ∙ ap (λ o. with_last o [] ++ plain_trace own (length ds) (plain_step own x)) is) ∙ e in
       absurd (too_long (ap length f)) where
@@ -176,13 +176,13 @@ job_events own (d ∷ ds) x e le = by (plain_did own x) refl (λ f h. job_events
       let up : x.ended ≤ (plain_step own x).ended = g.more in
       let on : (plain_step own x).ended ≤ (plain_steps own (length ds) (plain_step own x)).ended = more_ended own (length ds) (plain_step own x) in
       let no_job : IsJob c.change → ⊥ = λ j. below x.ended (plain_step own x).ended (plain_steps own (length ds) (plain_step own x)).ended (g.job c is j) on end in
-      let to : (plain_step own x).task ≡ behind_step own.size c x.task = g.task c is no_job in
+      let to : (plain_step own x).task ≡ behind_step own.target own.size c x.task = g.task c is no_job in
       let again = go rest (omega (arith, end, up)) in
       split
       ∙ ap (λ o. events_with o (plain_step own x).task.view ++ plain_events own (length ds) (plain_step own x)) is
       ∙ ap (λ es. event_of c.change (plain_step own x).task.view ++ es) again
-      ∙ ap (λ (t : TaskState). event_of c.change t.view ++ events own.size ds t) to
-      ∙ ap (λ (q : Did). event_of q.change (behind_step own.size q x.task).view ++ events own.size ds (behind_step own.size q x.task)) same where
+      ∙ ap (λ (t : TaskState). event_of c.change t.view ++ events own.target own.size ds t) to
+      ∙ ap (λ (q : Did). event_of q.change (behind_step own.target own.size q x.task).view ++ events own.target own.size ds (behind_step own.target own.size q x.task)) same where
         head : c ∷ plain_trace own (length ds) (plain_step own x) ≡ d ∷ ds → c ≡ d
         head f = cc
 
@@ -194,14 +194,14 @@ job_events own (d ∷ ds) x e le = by (plain_did own x) refl (λ f h. job_events
 
 -- ---- marks
 
-module _ (s : Setting) (gs : Globals) (own : TaskRun) (same : own.size ≡ s.size) where
+module _ (s : Setting) (gs : Globals) (own : TaskRun) (on : own.target ≡ s.target) (same : own.size ≡ s.size) where
   -- what steps within a job mark, the run notes
   pub noted_by : (ended : ℕ) (trace : List Did) (at : ℕ) (t : TaskState) (to : ℕ) (u : TaskState) (ms ns : List MarkedCall) → Leads own ended trace at t to u → Marked s gs t trace u ms ns →
       Noted s gs own (length trace) (in_job ended at t) ms ns
   noted_by ended trace at t to u ms ns l m =
       let le : (plain_steps own (length trace) (in_job ended at t)).ended ≤ ended = subst (λ (z : PlainState). z.ended ≤ ended) (sym l.state) (omega arith) in
       let e = job_events own trace (in_job ended at t) l.steps le in
-      record { new = m.new; adds = m.adds; seen = subst (λ es. Seen s gs es m.new) (sym (e ∙ ap (λ n. events n trace t) same)) m.seen }
+      record { new = m.new; adds = m.adds; seen = subst (λ es. Seen s gs es m.new) (sym (e ∙ ap (λ m. events m own.size trace t) on ∙ ap (λ n. events s.target n trace t) same)) m.seen }
 
   pub notes_join : (m n : ℕ) (x y : PlainState) (ms ns ks : List MarkedCall) → plain_steps own m x ≡ y → Noted s gs own m x ms ns → Noted s gs own n y ns ks → Noted s gs own (m + n) x ms ks
   notes_join m n x y ms ns ks e a b = record {

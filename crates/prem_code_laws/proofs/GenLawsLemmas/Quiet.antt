@@ -1,12 +1,15 @@
 -- The code of quiet functions is quiet: it stays in its phase, takes and puts no words, and keeps x4.
 use Rattle.std.proofs.Common.{◌≡◌, ◌≢◌, ℕ, zero, suc, ◌+◌, ◌≤◌, refl, ◌∙◌, arith, cond, eqb, true, false, Bool, List, [], ◌∷◌, length, Some, None, Option}
 use Rattle.std.specs.Prelude.{ℤ, pos}
+use Rattle.prem_plant.specs.declared.plant.Target.{Target}
+use Rattle.prem_plant.specs.declared.plant.Target.TheVariants.{Rv32i, Rv32im}
 use Rattle.prem_word.specs.declared.kind.Kind.{Kind}
 use Rattle.prem_word.specs.declared.kind.Kind.TheVariants.{Int, Unsigned}
 use Rattle.prem_word.specs.declared.kind.BinOp.{BinOp}
 use Rattle.prem_word.specs.declared.kind.BinOp.TheVariants.{Add as Plus, Sub as Minus, Mul, Div, Rem, Shl, Shr, Lt, Le, Gt, Ge, Eq, Ne, And as BitAnd, Xor as BitXor, Or as BitOr, AndAlso as AndAlsoOp, OrElse as OrElseOp}
 use Rattle.prem_isa.specs.declared.instr.Instr.{Instr}
-use Rattle.prem_isa.specs.declared.instr.Instr.TheVariants.{OpImm, Op}
+use Rattle.prem_isa.specs.declared.instr.Instr.TheVariants.{OpImm, Op, MulDiv}
+use Rattle.prem_isa.specs.declared.instr.MulDivOp.{MulDivOp}
 use Rattle.prem_isa.specs.declared.instr.AluOp.TheVariants.{Add, Sub, Xor}
 use Rattle.prem_isa.specs.Plain.{TaskState, Did}
 use Rattle.prem_syntax.specs.declared.tree.UnOp.{UnOp}
@@ -17,7 +20,7 @@ use Rattle.prem_asm.specs.Runs.{Setting, Calls, Ending, Falls, Returns, Stuck, r
 use Rattle.prem_asm.specs.Steps.{Holds, AllSteps}
 use Rattle.prem_asm.specs.Quiet.{IsQuiet, StaysAs, InPhase, EachInstr, GoodJumps, EachPiece}
 use Rattle.prem_asm.proofs.Quiet.{quiet_runs}
-use Rattle.prem_template.specs.Terms.{is_short, constant, scale, shift_of, unary_code, less, shift_right, binary_code, term_code}
+use Rattle.prem_template.specs.Terms.{is_short, constant, scale, shift_of, unary_code, less, shift_right, by_target, binary_code, term_code}
 use Rattle.prem_template.specs.Frames.{counters_in, locals_of}
 use Rattle.prem_template.specs.Steps.{Parts, declare_code, argument_code, target_code, result_code, steps_code, function_code}
 use Rattle.prem_code_laws.specs.GenLaws.Table.{one_of, code_calls}
@@ -128,47 +131,51 @@ module _ (r s : ℕ) (ten : 10 ≤ r) (next : s ≡ r + 1) where
   quiet_remainder Unsigned = (quiet_unsigned, quiet_divide (OpImm Add r 7 (pos 0) ∷ []) (r4, tt))
   quiet_remainder Int = (quiet_signed, quiet_divide (Op Xor 7 7 r ∷ Op Sub r 7 r ∷ []) (seven, (r4, tt)))
 
-  quiet_binary : (op : BinOp) (k : Kind) → Quiet (binary_code op k r s)
-  quiet_binary Plus k = ((r4, tt), tt)
-  quiet_binary Minus k = ((r4, tt), tt)
-  quiet_binary Mul k = quiet_multiply
-  quiet_binary Div k = quiet_quotient k
-  quiet_binary Rem k = quiet_remainder k
-  quiet_binary Shl k = ((r4, tt), tt)
-  quiet_binary Shr k = ((quiet_shift r ten k s, tt), tt)
-  quiet_binary Lt k = ((quiet_less r ten k r s, tt), tt)
-  quiet_binary Le k = ((quiet_less r ten k s r, (r4, tt)), tt)
-  quiet_binary Gt k = ((quiet_less r ten k s r, tt), tt)
-  quiet_binary Ge k = ((quiet_less r ten k r s, (r4, tt)), tt)
-  quiet_binary Eq k = ((r4, (r4, tt)), tt)
-  quiet_binary Ne k = ((r4, (r4, tt)), tt)
-  quiet_binary BitAnd k = ((r4, tt), tt)
-  quiet_binary BitXor k = ((r4, tt), tt)
-  quiet_binary BitOr k = ((r4, tt), tt)
-  quiet_binary AndAlsoOp k = tt
-  quiet_binary OrElseOp k = tt
+  quiet_by_target : (target : Target) (code : Pieces) (op : MulDivOp) → Quiet code → Quiet (by_target target code (MulDiv op r r s))
+  quiet_by_target Rv32i code op q = q
+  quiet_by_target Rv32im code op q = ((r4, tt), tt)
+
+  quiet_binary : (target : Target) (op : BinOp) (k : Kind) → Quiet (binary_code target op k r s)
+  quiet_binary target Plus k = ((r4, tt), tt)
+  quiet_binary target Minus k = ((r4, tt), tt)
+  quiet_binary target Mul k = quiet_by_target target _ _ quiet_multiply
+  quiet_binary target Div k = quiet_by_target target _ _ (quiet_quotient k)
+  quiet_binary target Rem k = quiet_by_target target _ _ (quiet_remainder k)
+  quiet_binary target Shl k = ((r4, tt), tt)
+  quiet_binary target Shr k = ((quiet_shift r ten k s, tt), tt)
+  quiet_binary target Lt k = ((quiet_less r ten k r s, tt), tt)
+  quiet_binary target Le k = ((quiet_less r ten k s r, (r4, tt)), tt)
+  quiet_binary target Gt k = ((quiet_less r ten k s r, tt), tt)
+  quiet_binary target Ge k = ((quiet_less r ten k r s, (r4, tt)), tt)
+  quiet_binary target Eq k = ((r4, (r4, tt)), tt)
+  quiet_binary target Ne k = ((r4, (r4, tt)), tt)
+  quiet_binary target BitAnd k = ((r4, tt), tt)
+  quiet_binary target BitXor k = ((r4, tt), tt)
+  quiet_binary target BitOr k = ((r4, tt), tt)
+  quiet_binary target AndAlsoOp k = tt
+  quiet_binary target OrElseOp k = tt
 
 -- ---- terms and statements
 
 pub address_five : ((n : ℕ) → NotFour 5) × ((z : ℤ) → NotFour 5)
 address_five = ((λ n. five), (λ z. five))
 
-pub quiet_term : (parts : ℕ → ℕ) (r : ℕ) (e : Term) → 10 ≤ r → Quiet (term_code parts r e)
-quiet_term parts r (Constant at word kind) ten = (quiet_constant r ten word, tt)
-quiet_term parts r (Local at number kind) ten = ((load_r r ten, tt), tt)
-quiet_term parts r (Scalar at global ty) ten = (address_five, ((load_r r ten, tt), tt))
-quiet_term parts r (Element at global ty index) ten =
-    joined (term_code parts r index) _ (quiet_term parts r index ten) (quiet_scale r ten (shift_of ty), (address_five, ((at_r r ten, (load_r r ten, tt)), tt)))
-quiet_term parts r (Unary at op operand) ten = joined (term_code parts r operand) _ (quiet_term parts r operand ten) (quiet_unary r ten op, tt)
-quiet_term parts r (Binary at op kind left right) ten =
-    joined (term_code parts r left) _ (quiet_term parts r left ten)
-    (joined (term_code parts (r + 1) right) _ (quiet_term parts (r + 1) right (omega arith)) (quiet_binary r (r + 1) ten refl op kind))
-quiet_term parts r (AndAlso at left right) ten =
-    joined (term_code parts r left) _ (quiet_term parts r left ten)
-    ((tt, jumps, joined (term_code parts r right) _ (quiet_term parts r right ten) ((at_r r ten, tt), tt), tt), tt)
-quiet_term parts r (OrElse at left right) ten =
-    joined (term_code parts r left) _ (quiet_term parts r left ten)
-    ((tt, jumps, ((at_r r ten, tt), tt), joined (term_code parts r right) _ (quiet_term parts r right ten) ((at_r r ten, tt), tt)), tt)
+pub quiet_term : (target : Target) (parts : ℕ → ℕ) (r : ℕ) (e : Term) → 10 ≤ r → Quiet (term_code target parts r e)
+quiet_term target parts r (Constant at word kind) ten = (quiet_constant r ten word, tt)
+quiet_term target parts r (Local at number kind) ten = ((load_r r ten, tt), tt)
+quiet_term target parts r (Scalar at global ty) ten = (address_five, ((load_r r ten, tt), tt))
+quiet_term target parts r (Element at global ty index) ten =
+    joined (term_code target parts r index) _ (quiet_term target parts r index ten) (quiet_scale r ten (shift_of ty), (address_five, ((at_r r ten, (load_r r ten, tt)), tt)))
+quiet_term target parts r (Unary at op operand) ten = joined (term_code target parts r operand) _ (quiet_term target parts r operand ten) (quiet_unary r ten op, tt)
+quiet_term target parts r (Binary at op kind left right) ten =
+    joined (term_code target parts r left) _ (quiet_term target parts r left ten)
+    (joined (term_code target parts (r + 1) right) _ (quiet_term target parts (r + 1) right (omega arith)) (quiet_binary r (r + 1) ten refl target op kind))
+quiet_term target parts r (AndAlso at left right) ten =
+    joined (term_code target parts r left) _ (quiet_term target parts r left ten)
+    ((tt, jumps, joined (term_code target parts r right) _ (quiet_term target parts r right ten) ((at_r r ten, tt), tt), tt), tt)
+quiet_term target parts r (OrElse at left right) ten =
+    joined (term_code target parts r left) _ (quiet_term target parts r left ten)
+    ((tt, jumps, ((at_r r ten, tt), tt), joined (term_code target parts r right) _ (quiet_term target parts r right ten) ((at_r r ten, tt), tt)), tt)
 
 ten4 : NotFour 10
 ten4 = omega arith
@@ -186,9 +193,9 @@ quiet_test : (closed : Bool) → IsQuiet (Rattle.prem_asm.specs.Pieces.branch_of
 quiet_test true = tt
 quiet_test false = tt
 
-quiet_arguments : (parts : ℕ → ℕ) (frame j : ℕ) (es : List Term) → Quiet (argument_code parts frame j es)
-quiet_arguments parts frame j [] = tt
-quiet_arguments parts frame j (e ∷ es) = joined (term_code parts 10 e) _ (quiet_term parts 10 e (omega arith)) ((tt, tt), quiet_arguments parts frame (j + 1) es)
+quiet_arguments : (target : Target) (parts : ℕ → ℕ) (frame j : ℕ) (es : List Term) → Quiet (argument_code target parts frame j es)
+quiet_arguments target parts frame j [] = tt
+quiet_arguments target parts frame j (e ∷ es) = joined (term_code target parts 10 e) _ (quiet_term target parts 10 e (omega arith)) ((tt, tt), quiet_arguments target parts frame (j + 1) es)
 
 quiet_target : (target : Option ℕ) (rest : Pieces) → Quiet rest → Quiet (target_code target rest)
 quiet_target None rest h = h
@@ -196,26 +203,26 @@ quiet_target (Some k) rest h = ((tt, tt), h)
 
 quiet_steps : (parts : Parts) (n : ℕ) (p : Steps) → AreQuiet parts p → Quiet (steps_code parts n p)
 quiet_steps parts n NoSteps q = tt
-quiet_steps parts n (SetLocal at k value rest) q = joined (term_code parts.global 10 value) _ (quiet_term parts.global 10 value (omega arith)) ((tt, tt), quiet_steps parts n rest q)
+quiet_steps parts n (SetLocal at k value rest) q = joined (term_code parts.target parts.global 10 value) _ (quiet_term parts.target parts.global 10 value (omega arith)) ((tt, tt), quiet_steps parts n rest q)
 quiet_steps parts n (SetScalar at g ty value rest) q =
-    joined (term_code parts.global 10 value) _ (quiet_term parts.global 10 value (omega arith)) (address_five, ((tt, tt), quiet_steps parts n rest q))
+    joined (term_code parts.target parts.global 10 value) _ (quiet_term parts.target parts.global 10 value (omega arith)) (address_five, ((tt, tt), quiet_steps parts n rest q))
 quiet_steps parts n (SetElement at g ty index value rest) q =
-    joined (term_code parts.global 10 value) _ (quiet_term parts.global 10 value (omega arith))
-    (joined (term_code parts.global 11 index) _ (quiet_term parts.global 11 index (omega arith))
+    joined (term_code parts.target parts.global 10 value) _ (quiet_term parts.target parts.global 10 value (omega arith))
+    (joined (term_code parts.target parts.global 11 index) _ (quiet_term parts.target parts.global 11 index (omega arith))
     (quiet_scale 11 (omega arith) (shift_of ty), (address_five, ((eleven4, (tt, tt)), quiet_steps parts n rest q))))
 quiet_steps parts n (Output at value rest) q = absurd q
 quiet_steps parts n (Input at k rest) q = absurd q
 quiet_steps parts n (If at condition taken other rest) q =
-    joined (term_code parts.global 10 condition) _ (quiet_term parts.global 10 condition (omega arith))
+    joined (term_code parts.target parts.global 10 condition) _ (quiet_term parts.target parts.global 10 condition (omega arith))
     ((tt, jumps, quiet_steps parts n taken q.0, quiet_steps parts (n + counters_in taken) other q.1.0), quiet_steps parts (n + counters_in taken + counters_in other) rest q.1.1)
 quiet_steps parts n (For at k low closed high step turns body rest) q =
-    joined (term_code parts.global 10 low) _ (quiet_term parts.global 10 low (omega arith)) (
+    joined (term_code parts.target parts.global 10 low) _ (quiet_term parts.target parts.global 10 low (omega arith)) (
       (tt, tt),
       (
         (
           quiet_test closed,
           jumps,
-          ((ten_load, tt), quiet_term parts.global 11 high (omega arith)),
+          ((ten_load, tt), quiet_term parts.target parts.global 11 high (omega arith)),
           joined (steps_code parts n body) _ (quiet_steps parts n body q.0) ((ten_load, (ten4, (tt, tt))), tt),
         ),
         quiet_steps parts (n + counters_in body) rest q.1,
@@ -229,7 +236,7 @@ quiet_steps parts n (While at turns condition body rest) q = (
       (
         tt,
         jumps,
-        ((ten_load, tt), ((tt, jumps, joined (term_code parts.global 10 condition) _ (quiet_term parts.global 10 condition (omega arith)) ((ten4, tt), tt), tt), tt)),
+        ((ten_load, tt), ((tt, jumps, joined (term_code parts.target parts.global 10 condition) _ (quiet_term parts.target parts.global 10 condition (omega arith)) ((ten4, tt), tt), tt), tt)),
         ((ten_load, (ten4, (tt, tt))), quiet_steps parts (n + 1) body q.0),
       ),
       quiet_steps parts (n + 1 + counters_in body) rest q.1,
@@ -237,16 +244,16 @@ quiet_steps parts n (While at turns condition body rest) q = (
   ),
 )
 quiet_steps parts n (Call at target f arguments rest) q =
-    joined (argument_code parts.global (parts.frame f) 0 arguments) _ (quiet_arguments parts.global (parts.frame f) 0 arguments)
+    joined (argument_code parts.target parts.global (parts.frame f) 0 arguments) _ (quiet_arguments parts.target parts.global (parts.frame f) 0 arguments)
     ((λ z. q.0), quiet_target target (steps_code parts n rest) (quiet_steps parts n rest q.1))
 
-quiet_declared : (parts : ℕ → ℕ) (k : ℕ) (es : List Term) → Quiet (declare_code parts k es)
-quiet_declared parts k [] = tt
-quiet_declared parts k (e ∷ es) = joined (term_code parts 10 e) _ (quiet_term parts 10 e (omega arith)) ((tt, tt), quiet_declared parts (k + 1) es)
+quiet_declared : (target : Target) (parts : ℕ → ℕ) (k : ℕ) (es : List Term) → Quiet (declare_code target parts k es)
+quiet_declared target parts k [] = tt
+quiet_declared target parts k (e ∷ es) = joined (term_code target parts 10 e) _ (quiet_term target parts 10 e (omega arith)) ((tt, tt), quiet_declared target parts (k + 1) es)
 
-quiet_result : (parts : ℕ → ℕ) (o : Option Term) → Quiet (result_code parts o)
-quiet_result parts None = tt
-quiet_result parts (Some e) = quiet_term parts 10 e (omega arith)
+quiet_result : (target : Target) (parts : ℕ → ℕ) (o : Option Term) → Quiet (result_code target parts o)
+quiet_result target parts None = tt
+quiet_result target parts (Some e) = quiet_term target parts 10 e (omega arith)
 
 two4 : NotFour 2
 two4 = omega arith
@@ -260,9 +267,9 @@ zero4 = omega arith
 pub quiet_function : (parts : Parts) (f : Routine) → AreQuiet parts f.body → Quiet (function_code parts f)
 quiet_function parts f q = (
   (two4, (tt, tt)),
-  joined (declare_code parts.global (length f.text.params) f.locals) _ (quiet_declared parts.global (length f.text.params) f.locals)
+  joined (declare_code parts.target parts.global (length f.text.params) f.locals) _ (quiet_declared parts.target parts.global (length f.text.params) f.locals)
       (joined (steps_code parts (locals_of f) f.body) _ (quiet_steps parts (locals_of f) f.body q)
-      (joined (result_code parts.global f.result) _ (quiet_result parts.global f.result) ((one_load, (two4, (zero4, tt))), tt))),
+      (joined (result_code parts.target parts.global f.result) _ (quiet_result parts.target parts.global f.result) ((one_load, (two4, (zero4, tt))), tt))),
 )
 
 -- ---- calls by number

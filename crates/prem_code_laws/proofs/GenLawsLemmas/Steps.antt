@@ -40,7 +40,7 @@ module _ (s : Setting) (calls : Calls) (gs : Globals) (may : Access) (k : Stack)
   code n p = steps_code (with_globals gs parts) n p
 
   abbrev term : ℕ → Term → Pieces
-  term r e = term_code gs.part r e
+  term r e = term_code gs.target gs.part r e
 
   abbrev Done : (lo hi : ℕ) → Ending → TaskState → List MarkedCall → ProgramState → Type 0
   Done lo hi o t ms p = Ends s gs k phase count lo hi o t ms p
@@ -196,7 +196,7 @@ module _ (s : Setting) (calls : Calls) (gs : Globals) (may : Access) (k : Stack)
       let n2 = n + 1 + counters_in body in
       let hi = n + (1 + counters_in body + counters_in rest) in
       let ps = only (constant 10 turns) in
-      let head = turn_code gs.part n condition in
+      let head = turn_code gs.target gs.part n condition in
       let inner = straight (count_code n) (code n1 body) in
       let loop = repeat turns head (nonzero 10) inner (code n2 rest) in
       let g = gave s calls 10 at ps t turns (quiet_constant 10 (omega arith) turns, tt) (puts_give s silent at (constant 10 turns) t 10 turns (constant_puts t.registers 10 turns (omega arith) fit.0 m.words)) in
@@ -218,7 +218,7 @@ module _ (s : Setting) (calls : Calls) (gs : Globals) (may : Access) (k : Stack)
       let x = then_ok (values may st arguments) _ after is in
       let y = then_ok (source may f x.0 st) (λ r. run_source may source rest (with_target target r.0 r.1)) after x.1.1 in
       let hi = n + counters_in rest in
-      let aps = argument_code gs.part (parts.frame f) 0 arguments in
+      let aps = argument_code gs.target gs.part (parts.frame f) 0 arguments in
       let behind = target_code target (code n rest) in
       let w1 = words-followed aps (call_to (parts.link f) (parts.callee f) behind) in
       let w2 = words_target target (code n rest) in

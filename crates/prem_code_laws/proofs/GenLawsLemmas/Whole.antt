@@ -75,7 +75,7 @@ module _ (s : Setting) (gs : Globals) (limits : Limits) (program : Resolved) (ow
       let goes : run s calls at (call_to 1 job no_pieces) t ≡ Falls m.to (jal ++ (m.trace ++ [])) =
       ap (λ o. with_trace jal (called (at + 4) o (run s calls (at + 4) no_pieces))) m.goes
       ∙ ap (λ b. with_trace jal (cond b (with_trace m.trace (Falls m.to [])) Stuck)) (eq-eqb (own.entry + 4) (at + 4) same) in
-      let w = words_run s calls own ended bytes (record { size = r.size; small = r.small; running = r.running; aligned = r.aligned; below = r.below; lands = l })
+      let w = words_run s calls own ended bytes (record { target = r.target; size = r.size; small = r.small; running = r.running; aligned = r.aligned; below = r.below; lands = l })
       parts (call_to 1 job no_pieces) at c.words c.fit c.flat_is (r.aligned start) c.within c.stand t agrees in
       let f = subst (λ o. Follows own ended s.guard bytes o at t (at + 4)) goes w in
       record {
@@ -104,8 +104,8 @@ module _ (s : Setting) (gs : Globals) (limits : Limits) (program : Resolved) (ow
             ∙ ap (λ xs. xs ++ plain_trace own 1 (in_job ended back x.to)) x.leads.steps
             ∙ ap (λ ys. x.trace ++ ys) (first_of own (in_job ended back x.to) ∙ ap (λ o. with_last o []) e.did);
         marks = subst (λ n. Noted s gs own n (in_job ended own.entry t) p.marks after.marks) (sym long)
-            (notes_join s gs own r.size (length x.trace) 1 (in_job ended own.entry t) (in_job ended back x.to) p.marks after.marks after.marks x.leads.state
-            (noted_by s gs own r.size ended x.trace own.entry t back x.to p.marks after.marks x.leads x.marks)
+            (notes_join s gs own r.target r.size (length x.trace) 1 (in_job ended own.entry t) (in_job ended back x.to) p.marks after.marks after.marks x.leads.state
+            (noted_by s gs own r.target r.size ended x.trace own.entry t back x.to p.marks after.marks x.leads x.marks)
             (record { new = []; adds = sym (append-nil after.marks); seen = subst (λ es. Seen s gs es []) (sym (one_event own (in_job ended back x.to) ∙ ap (λ o. events_with o (plain_step own (in_job ended back x.to)).task.view) e.did)) seen_none }));
         between = record {
           globals = x.between.globals;
@@ -152,7 +152,7 @@ module _ (s : Setting) (gs : Globals) (limits : Limits) (program : Resolved) (ow
             ∙ ap (λ y. plain_trace own (length one.trace) (in_job ended own.entry t) ++ plain_trace own (length more.trace) y) one.state
             ∙ ap (λ xs. xs ++ plain_trace own (length more.trace) (in_job (ended + 1) own.entry one.then_state)) one.steps ∙ ap (λ ys. one.trace ++ ys) more.steps;
         marks = subst (λ n. Noted s gs own n (in_job ended own.entry t) p.marks after.marks) (sym long)
-            (notes_join s gs own r.size (length one.trace) (length more.trace) (in_job ended own.entry t) (in_job (ended + 1) own.entry one.then_state) p.marks x.0.1.marks after.marks one.state one.marks more.marks);
+            (notes_join s gs own r.target r.size (length one.trace) (length more.trace) (in_job ended own.entry t) (in_job (ended + 1) own.entry one.then_state) p.marks x.0.1.marks after.marks one.state one.marks more.marks);
         between = more.between;
         registers = more.registers;
         agrees = more.agrees;

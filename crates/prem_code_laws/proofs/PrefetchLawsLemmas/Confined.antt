@@ -9,7 +9,7 @@ use Rattle.prem_meaning.specs.Expressions.{Outcome, Access}
 use Rattle.prem_meaning.specs.Statements.{ProgramState}
 use Rattle.prem_asm.specs.Pieces.{call_to, size_of, jump_to}
 use Rattle.prem_asm.specs.Runs.{Guard, Calls, Setting, Returns, Stuck, with_trace, then_run, called, run, run_code, control, linked}
-use Rattle.prem_layout.specs.Parts.{Passes as PassCount}
+use Rattle.prem_layout.specs.Parts.{Passes as PassCount, pass_count}
 use Rattle.prem_layout.specs.Stubs.{passes_code}
 use Rattle.prem_code_laws.specs.ExprLaws.Relation.{Globals, Stack, Ground}
 use Rattle.prem_code_laws.proofs.ExprLawsLemmas.Puts.{reg_same, reg_other, reg_words}
@@ -18,7 +18,7 @@ use Rattle.prem_code_laws.specs.GenLaws.Jobs.{Between}
 use Rattle.prem_code_laws.proofs.GenLawsLemmas.Memory.{number_same}
 use Rattle.prem_code_laws.specs.PrefetchLaws.Touches.{Passes, IsLineOf}
 use Rattle.prem_code_laws.proofs.PrefetchLawsLemmas.Ranges.{all_fetch}
-use Rattle.prem_code_laws.specs.PrefetchLaws.Premises.{Lines, AllInMemory, passes_of, stub_code}
+use Rattle.prem_code_laws.specs.PrefetchLaws.Premises.{Lines, AllInMemory, stub_code}
 use Rattle.prem_code_laws.specs.PrefetchLaws.Stubs.{memory_step}
 use Rattle.prem_code_laws.specs.PrefetchLaws.Confined.{with_guard, Confines, exec_step, end_step, return_step, ConfinedBack, ConfinedStubRuns}
 use Rattle.prem_code_laws.proofs.PrefetchLawsLemmas.Passes.{passes_words, prefetch_run}
@@ -33,13 +33,13 @@ passes_before (suc n) line ranges x y h =
     (h.0, (h.1.0 ++ y, (ap (λ z. z ++ y) h.1.1.0 ∙ append_assoc h.0 h.1.0 y, (h.1.1.1.0, passes_before n line ranges h.1.0 y h.1.1.1.1))))
 
 confined_back : (s : Setting) (h : Guard) (calls : Calls) (gs : Globals) (may : Access) (k inner : Stack) (line : ℕ) → Lines (with_guard h s) line → (ranges : List Extent) → AllInMemory (with_guard h s) ranges →
-    (passes : PassCount) → passes_of passes < 2 ^ 32 → (n stated part frame params : ℕ) (returns : Bool) (call : List ℕ → ProgramState → Outcome (ℕ × ProgramState)) → stated < 2 ^ 32 → gs.stated n ≡ stated →
+    (passes : PassCount) → pass_count passes < 2 ^ 32 → (n stated part frame params : ℕ) (returns : Bool) (call : List ℕ → ProgramState → Outcome (ℕ × ProgramState)) → stated < 2 ^ 32 → gs.stated n ≡ stated →
     Confines s h gs k inner (calls part) frame params returns call →
     (at : ℕ) → at % 4 ≡ 0 → at + size_of (whole_code passes line ranges stated part) < 2 ^ 32 →
     (count : ℕ) (p : ProgramState) (words : List ℕ) (t : TaskState) (back word : ℕ) (after : ProgramState) →
     Ground s gs may k → Matches s gs k Compatible count p t → t.registers 4 ≡ back → back % 4 ≡ 0 → back < 2 ^ 32 →
     length words ≡ params → ArgumentsStand t.view (k.sp - frame) words → call words p ≡ Ok (word, after) →
-    ConfinedBack (calls part) s gs k count at line ranges (passes_of passes) stated (run (with_guard h s) calls at (whole_code passes line ranges stated part) t) t back returns word p.marks (with_own_mark n p.globals after)
+    ConfinedBack (calls part) s gs k count at line ranges (pass_count passes) stated (run (with_guard h s) calls at (whole_code passes line ranges stated part) t) t back returns word p.marks (with_own_mark n p.globals after)
 confined_back s h calls gs may k inner line fit ranges inside passes count_small number stated part frame params returns call stated_small length_is c at at_al size count p ws t back word after ground m four al small len args is =
     let sF : Setting = with_guard h s in
     let rest = execute_code stated part in
@@ -92,9 +92,9 @@ confined_back s h calls gs may k inner line fit ranges inside passes count_small
     let fits : length p.locals ≤ k.slots = m.locals.fits in
     let q = b.back_to.between in
     let still = c.interval t4 u ra bt b.back_to.goes in
-    let led = section_leads s.size stated t t1 t2 t3 t4 u v (memory_step at) z.trace xt jal bt dt (memory_leads sF at t m.phase_is)
-    (prefetched_leads sF calls line at1 ranges (passes_of passes) passes n t1 z) (executed_leads line (IsLineOf line ranges) sF at2 stated t2 x)
-    (leads_still s.size t3 jal t4 refl (refl, tt)) (leads_still s.size t4 bt u b.back_to.marks.arrives still) (ended_leads sF calls ra u back b.back_to.between.phase_is u_four al small) in
+    let led = section_leads s.target s.size stated t t1 t2 t3 t4 u v (memory_step at) z.trace xt jal bt dt (memory_leads sF at t m.phase_is)
+    (prefetched_leads sF calls line at1 ranges (pass_count passes) passes n t1 z) (executed_leads line (IsLineOf line ranges) sF at2 stated t2 x)
+    (leads_still s.target s.size t3 jal t4 refl (refl, tt)) (leads_still s.target s.size t4 bt u b.back_to.marks.arrives still) (ended_leads sF calls ra u back b.back_to.between.phase_is u_four al small) in
     record {
       backs = record {
         to = v;
@@ -129,7 +129,7 @@ confined_back s h calls gs may k inner line fit ranges inside passes count_small
         body = jal ++ bt;
         ended_at = ra;
         trace_is = ap (λ ds. memory_step at ∷ ds) (arranged z.trace x.length_steps (exec_step (at2 + 8) stated) jal bt (end_step ra) (return_step (ra + 4)));
-        passes_are = passes_before (passes_of passes) line ranges z.trace x.length_steps z.passes;
+        passes_are = passes_before (pass_count passes) line ranges z.trace x.length_steps z.passes;
         fetches = all_fetch line (IsLineOf line ranges) MemoryPhase z.trace x.length_steps z.fetches x.fetches;
         jump = record { pc = at3; instr = jump_to 1 at3 (s.places part); phase = Execution; access = None; change = Stay };
         jump_is = (refl, (refl, refl));
@@ -151,7 +151,7 @@ pub confined_stub_runs : ConfinedStubRuns
 confined_stub_runs s h calls gs may k inner line fit ranges inside passes count_small n stated part frame params returns call stated_small length_is c at at_al size count p ws t back word after ground m four al small len args is =
     let x = then_ok (call ws p) _ (word, after) is in
     let same = stub_is passes line ranges stated part in
-    subst (λ (q : ℕ × ProgramState). ConfinedBack (calls part) s gs k count at line ranges (passes_of passes) stated (run (with_guard h s) calls at (stub_code passes line ranges stated part) t) t back returns q.0 p.marks q.1)
+    subst (λ (q : ℕ × ProgramState). ConfinedBack (calls part) s gs k count at line ranges (pass_count passes) stated (run (with_guard h s) calls at (stub_code passes line ranges stated part) t) t back returns q.0 p.marks q.1)
     (same_ok (x.0.0, with_own_mark n p.globals x.0.1) (word, after) x.1.1)
-    (subst (λ ps. ConfinedBack (calls part) s gs k count at line ranges (passes_of passes) stated (run (with_guard h s) calls at ps t) t back returns x.0.0 p.marks (with_own_mark n p.globals x.0.1)) (sym same)
+    (subst (λ ps. ConfinedBack (calls part) s gs k count at line ranges (pass_count passes) stated (run (with_guard h s) calls at ps t) t back returns x.0.0 p.marks (with_own_mark n p.globals x.0.1)) (sym same)
     (confined_back s h calls gs may k inner line fit ranges inside passes count_small n stated part frame params returns call stated_small length_is c at at_al (subst (λ ps. at + size_of ps < 2 ^ 32) same size) count p ws t back x.0.0 x.0.1 ground m four al small len args x.1.0))

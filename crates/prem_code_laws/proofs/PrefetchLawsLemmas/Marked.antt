@@ -1,6 +1,7 @@
 -- Marked functions under a guard of their own.
 use Rattle.std.proofs.Common.{◌≡◌, ℕ, zero, suc, ◌+◌, ◌^◌, ◌<◌, ◌≤◌, refl, ap, ◌∙◌, sym, subst, arith, eqb, List, [], ◌∷◌, length, Ok}
 use Rattle.std.specs.Prelude.{is_some}
+use Rattle.prem_plant.specs.declared.plant.Target.{Target}
 use Rattle.prem_isa.specs.declared.instr.Instr.{Instr}
 use Rattle.prem_isa.specs.declared.effect.Phase.TheVariants.{Execution}
 use Rattle.prem_isa.specs.declared.effect.Outcome.{Outcome}
@@ -51,9 +52,9 @@ one_fixed : (g : Guard) (bytes : ℕ → ℕ) (at : ℕ) (i : Instr) (t : TaskSt
 one_fixed g bytes at i t (Trap cause) k = tt
 one_fixed g bytes at i t (Done e) k = stepped_by g at i t e (Holds Step (Fixed g bytes)) tt (λ a b. ((tt, tt), k a)) (λ a b to. ((tt, tt), k a))
 
-fixed_rules : (size : ℕ) (g : Guard) (bytes : ℕ → ℕ) → Rules size g Any Step (Fixed g bytes)
-fixed_rules size g bytes = record {
-  one = λ at i t good h. one_fixed g bytes at i t (outcome_at size at i t) (act_keeps g bytes size at i t h);
+fixed_rules : (target : Target) (size : ℕ) (g : Guard) (bytes : ℕ → ℕ) → Rules target size g Any Step (Fixed g bytes)
+fixed_rules target size g bytes = record {
+  one = λ at i t good h. one_fixed g bytes at i t (outcome_at target size at i t) (act_keeps g bytes target size at i t h);
   branch = λ at test t good h. (tt, tt);
   jump = λ at link offset t good h. ((tt, tt), h);
 }
@@ -63,7 +64,7 @@ unfolding code_calls
 calls_fixed s c bytes zero part t h = tt
 calls_fixed s c bytes (suc n) part t h =
     one_holds Step (Fixed s.guard bytes) (eqb part (c.code_part n)) (run s (code_calls s c n) (s.places (c.code_part n)) (c.code n) t) (code_calls s c n part t)
-    (every Any Step (Fixed s.guard bytes) s (code_calls s c n) (fixed_rules s.size s.guard bytes) (λ part t h. calls_fixed s c bytes n part t h) (c.code n) (s.places (c.code_part n))
+    (every Any Step (Fixed s.guard bytes) s (code_calls s c n) (fixed_rules s.target s.size s.guard bytes) (λ part t h. calls_fixed s c bytes n part t h) (c.code n) (s.places (c.code_part n))
     (any_code (code_of s.places (s.places (c.code_part n)) (c.code n)) (s.places (c.code_part n))) t h)
     (calls_fixed s c bytes n part t h)
 

@@ -10,7 +10,7 @@ use Rattle.prem_plant.specs.Places.{Extent}
 use Rattle.prem_asm.specs.Pieces.{Pieces, no_pieces, repeat, test_at, repeat_end, words}
 use Rattle.prem_asm.specs.Runs.{Calls, Setting, Falls, with_trace, then_run, run, run_turns, Loop}
 use Rattle.prem_template.specs.Terms.{only, nonzero}
-use Rattle.prem_layout.specs.Parts.{Passes as PassCount, once, times}
+use Rattle.prem_layout.specs.Parts.{Passes as PassCount, once, times, pass_count}
 use Rattle.prem_layout.specs.Stubs.{ranges_code, passes_code}
 use Rattle.prem_code_laws.specs.ExprLaws.Registers.{alus, alu_steps, AreWords}
 use Rattle.prem_code_laws.proofs.ExprLawsLemmas.Runs.{loop_of, with_with, alu_goes, code_goes, turn_on, turn_off}
@@ -19,7 +19,7 @@ use Rattle.prem_code_laws.proofs.ExprLawsLemmas.Reach.{tested}
 use Rattle.prem_asm.specs.Steps.{AllSteps}
 use Rattle.prem_code_laws.specs.PrefetchLaws.Touches.{Passes, IsFetch, IsLineOf}
 use Rattle.prem_code_laws.proofs.PrefetchLawsLemmas.Ranges.{ranges_run, all_later, all_fetch}
-use Rattle.prem_code_laws.specs.PrefetchLaws.Premises.{Lines, AllInMemory, passes_of}
+use Rattle.prem_code_laws.specs.PrefetchLaws.Premises.{Lines, AllInMemory}
 
 -- the words that count passes
 abbrev pub passes_words : PassCount → ℕ
@@ -98,8 +98,8 @@ module _ (s : Setting) (calls : Calls) (line : ℕ) (fit : Lines s line) (ranges
       }
 
   -- the code brings all lines in, so often
-  pub prefetch_run : (passes : PassCount) (at : ℕ) (t : TaskState) → passes_of passes < 2 ^ 32 → AreWords t.registers →
-      Prefetched s calls line at ranges (passes_of passes) (passes_code passes line ranges) (4 * (passes_words passes + 9 * length ranges)) t
+  pub prefetch_run : (passes : PassCount) (at : ℕ) (t : TaskState) → pass_count passes < 2 ^ 32 → AreWords t.registers →
+      Prefetched s calls line at ranges (pass_count passes) (passes_code passes line ranges) (4 * (passes_words passes + 9 * length ranges)) t
   prefetch_run once at t small ws =
       let x = ranges_run s calls line fit at ranges t ws inside in
       let e : at + 36 * length ranges ≡ at + 4 * (0 + 9 * length ranges) = omega arith in

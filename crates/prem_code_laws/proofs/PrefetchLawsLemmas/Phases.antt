@@ -1,6 +1,7 @@
 -- The phases of a stub: `pm.mem`, the stated length and `pm.exec`, `pm.end` and the return, and what their steps mark.
 use Rattle.std.proofs.Common.{◌≡◌, ◌≢◌, ℕ, ◌+◌, ◌*◌, ◌/◌, ◌%◌, ◌^◌, ◌<◌, refl, ap, ◌∙◌, sym, subst, arith, cond, List, [], ◌∷◌, ◌++◌, length, append-nil, eq-eqb}
 use Rattle.std.specs.Prelude.{pos, negsuc}
+use Rattle.prem_plant.specs.declared.plant.Target.{Target}
 use Rattle.prem_isa.specs.declared.instr.Instr.TheVariants.{Lui, OpImm, Jalr, PmMem, PmExec, PmEnd}
 use Rattle.prem_isa.specs.declared.instr.AluOp.TheVariants.{Add}
 use Rattle.prem_isa.specs.declared.effect.Phase.{Phase}
@@ -136,9 +137,9 @@ words_prefetch (times n) line ranges rest = omega (arith, words_ranges line rang
 
 -- ---- what their steps mark
 
-pub memory_leads : (s : Setting) (at : ℕ) (t : TaskState) → t.phase ≡ Compatible → Leads s.size t (memory_step at ∷ []) (record t { phase = MemoryPhase }) (call_begins t.view ∷ [])
+pub memory_leads : (s : Setting) (at : ℕ) (t : TaskState) → t.phase ≡ Compatible → Leads s.target s.size t (memory_step at ∷ []) (record t { phase = MemoryPhase }) (call_begins t.view ∷ [])
 memory_leads s at t e =
-    let a : behind s.size (memory_step at ∷ []) t ≡ record t { phase = MemoryPhase } = subst (Arrives s.size t) (memory_falls s at t e) (one_arrives s at PmMem t) in
+    let a : behind s.target s.size (memory_step at ∷ []) t ≡ record t { phase = MemoryPhase } = subst (Arrives s.target s.size t) (memory_falls s at t e) (one_arrives s at PmMem t) in
     record { arrives = a; shows = ap (λ (u : TaskState). call_begins u.view ∷ []) a }
 
 pub fetches_stay : (line : ℕ) (Q : ℕ → Type 0) (phase : Phase) (ds : List Did) → AllSteps (IsFetch line Q phase) ds → AllSteps Stays ds
@@ -146,19 +147,19 @@ fetches_stay line Q phase [] h = tt
 fetches_stay line Q phase (d ∷ ds) h = (h.0.1.0, fetches_stay line Q phase ds h.1)
 
 pub executed_leads : (line : ℕ) (Q : ℕ → Type 0) (s : Setting) (at stated : ℕ) (t : TaskState) (x : Executed line Q s at stated t) →
-    Leads s.size t (x.length_steps ++ exec_step (at + 8) stated ∷ []) (record t { registers = x.registers; phase = Execution }) (call_opens stated ∷ [])
+    Leads s.target s.size t (x.length_steps ++ exec_step (at + 8) stated ∷ []) (record t { registers = x.registers; phase = Execution }) (call_opens stated ∷ [])
 executed_leads line Q s at stated t x = record {
-  arrives = subst (Arrives s.size t) x.goes (code_arrives s silent (address_code 5 stated ++ PmExec 5 ∷ []) at t);
-  shows = events_append s.size x.length_steps (exec_step (at + 8) stated ∷ []) t
-      ∙ ap (λ es. es ++ call_opens stated ∷ []) (no_events s.size x.length_steps t (fetches_stay line Q t.phase x.length_steps x.fetches));
+  arrives = subst (Arrives s.target s.size t) x.goes (code_arrives s silent (address_code 5 stated ++ PmExec 5 ∷ []) at t);
+  shows = events_append s.target s.size x.length_steps (exec_step (at + 8) stated ∷ []) t
+      ∙ ap (λ es. es ++ call_opens stated ∷ []) (no_events s.target s.size x.length_steps t (fetches_stay line Q t.phase x.length_steps x.fetches));
 }
 
 pub ended_leads : (s : Setting) (calls : Calls) (at : ℕ) (t : TaskState) (back : ℕ) → t.phase ≡ Execution → t.registers 4 ≡ back → back % 4 ≡ 0 → back < 2 ^ 32 →
-    Leads s.size t (end_step at ∷ return_step (at + 4) ∷ []) (record t { phase = Compatible }) (call_ends t.view ∷ [])
+    Leads s.target s.size t (end_step at ∷ return_step (at + 4) ∷ []) (record t { phase = Compatible }) (call_ends t.view ∷ [])
 ended_leads s calls at t back ph four al small =
-    let one : behind_step s.size (end_step at) t ≡ record t { phase = Compatible } = subst (Arrives s.size t) (end_falls s at t ph) (one_arrives s at PmEnd t) in
+    let one : behind_step s.target s.size (end_step at) t ≡ record t { phase = Compatible } = subst (Arrives s.target s.size t) (end_falls s at t ph) (one_arrives s at PmEnd t) in
     record {
-      arrives = subst (Arrives s.size t) (ended s calls at t back ph four al small) (runs_arrive s calls ending_code at tt t);
+      arrives = subst (Arrives s.target s.size t) (ended s calls at t back ph four al small) (runs_arrive s calls ending_code at tt t);
       shows = ap (λ (u : TaskState). call_ends u.view ∷ []) one;
     }
 
@@ -171,26 +172,26 @@ prefetch_calls P once line ranges rest h = ranges_call P line ranges rest h
 prefetch_calls P (times n) line ranges rest h = (tt, (ranges_call P line ranges (only (OpImm Add 7 7 (negsuc 0) ∷ [])) tt, h))
 
 pub prefetched_leads : (s : Setting) (calls : Calls) (line at : ℕ) (ranges : List Extent) (n : ℕ) (passes : PassCount) (size : ℕ) (t : TaskState) (z : Prefetched s calls line at ranges n (passes_code passes line ranges) size t) →
-    Leads s.size t z.trace (record t { registers = z.registers }) []
+    Leads s.target s.size t z.trace (record t { registers = z.registers }) []
 prefetched_leads s calls line at ranges n passes size t z =
     let goes : run s calls at (passes_code passes line ranges no_pieces) t ≡ Falls (record t { registers = z.registers }) z.trace =
     z.goes no_pieces ∙ ap (Falls (record t { registers = z.registers })) (append-nil z.trace) in
-    leads_still s.size t z.trace (record t { registers = z.registers })
-    (subst (Arrives s.size t) goes (runs_arrive s calls (passes_code passes line ranges no_pieces) at (prefetch_calls (PartArrives s calls) passes line ranges no_pieces tt) t))
+    leads_still s.target s.size t z.trace (record t { registers = z.registers })
+    (subst (Arrives s.target s.size t) goes (runs_arrive s calls (passes_code passes line ranges no_pieces) at (prefetch_calls (PartArrives s calls) passes line ranges no_pieces tt) t))
     (fetches_stay line (IsLineOf line ranges) t.phase z.trace z.fetches)
 
 -- a whole call
-pub section_leads : (size stated : ℕ) (t t1 t2 t3 t4 u v : TaskState) (m : Did) (zt xt jal bt dt : List Did) → Leads size t (m ∷ []) t1 (call_begins t.view ∷ []) → Leads size t1 zt t2 [] → Leads size t2 xt t3 (call_opens stated ∷ []) →
-    Leads size t3 jal t4 [] → Leads size t4 bt u [] → Leads size u dt v (call_ends u.view ∷ []) →
-    Leads size t (m ∷ (zt ++ (xt ++ (jal ++ (bt ++ dt))))) v (call_begins t.view ∷ call_opens stated ∷ call_ends u.view ∷ [])
-section_leads size stated t t1 t2 t3 t4 u v m zt xt jal bt dt a b c d e f =
-    leads_join size t (m ∷ []) t1 (zt ++ (xt ++ (jal ++ (bt ++ dt)))) v (call_begins t.view ∷ []) (call_opens stated ∷ call_ends u.view ∷ []) a
-    (leads_join size t1 zt t2 (xt ++ (jal ++ (bt ++ dt))) v [] (call_opens stated ∷ call_ends u.view ∷ []) b
-    (leads_join size t2 xt t3 (jal ++ (bt ++ dt)) v (call_opens stated ∷ []) (call_ends u.view ∷ []) c
-    (leads_join size t3 jal t4 (bt ++ dt) v [] (call_ends u.view ∷ []) d
-    (leads_join size t4 bt u dt v [] (call_ends u.view ∷ []) e f))))
+pub section_leads : (target : Target) (size stated : ℕ) (t t1 t2 t3 t4 u v : TaskState) (m : Did) (zt xt jal bt dt : List Did) → Leads target size t (m ∷ []) t1 (call_begins t.view ∷ []) → Leads target size t1 zt t2 [] → Leads target size t2 xt t3 (call_opens stated ∷ []) →
+    Leads target size t3 jal t4 [] → Leads target size t4 bt u [] → Leads target size u dt v (call_ends u.view ∷ []) →
+    Leads target size t (m ∷ (zt ++ (xt ++ (jal ++ (bt ++ dt))))) v (call_begins t.view ∷ call_opens stated ∷ call_ends u.view ∷ [])
+section_leads target size stated t t1 t2 t3 t4 u v m zt xt jal bt dt a b c d e f =
+    leads_join target size t (m ∷ []) t1 (zt ++ (xt ++ (jal ++ (bt ++ dt)))) v (call_begins t.view ∷ []) (call_opens stated ∷ call_ends u.view ∷ []) a
+    (leads_join target size t1 zt t2 (xt ++ (jal ++ (bt ++ dt))) v [] (call_opens stated ∷ call_ends u.view ∷ []) b
+    (leads_join target size t2 xt t3 (jal ++ (bt ++ dt)) v (call_opens stated ∷ []) (call_ends u.view ∷ []) c
+    (leads_join target size t3 jal t4 (bt ++ dt) v [] (call_ends u.view ∷ []) d
+    (leads_join target size t4 bt u dt v [] (call_ends u.view ∷ []) e f))))
 
-pub section_marked : (s : Setting) (gs : Globals) (n stated : ℕ) (t u v : TaskState) (trace : List Did) (p mid : ProgramState) → Leads s.size t trace v (call_begins t.view ∷ call_opens stated ∷ call_ends u.view ∷ []) → gs.stated n ≡ stated →
+pub section_marked : (s : Setting) (gs : Globals) (n stated : ℕ) (t u v : TaskState) (trace : List Did) (p mid : ProgramState) → Leads s.target s.size t trace v (call_begins t.view ∷ call_opens stated ∷ call_ends u.view ∷ []) → gs.stated n ≡ stated →
     GlobalsStand s gs p.globals t.view → GlobalsStand s gs mid.globals u.view → mid.marks ≡ p.marks → Marked s gs t trace v p.marks (with_own_mark n p.globals mid).marks
 section_marked s gs n stated t u v trace p mid led length_is first last same =
     let m : MarkedCall = record { function = n; before = p.globals; after = mid.globals } in

@@ -96,7 +96,7 @@ module _ (s : Setting) (calls : Calls) (line : ℕ) (fit : Lines s line) where
       let d = did_of at t.phase i (record (goes (at + 4)) { access = Some (record { kind = Loads; address = v; size = 4 }) }) in
       let go = λ (b : ℕ). Done (record (goes (at + 4)) { access = Some (record { kind = Loads; address = b; size = 4 }) }) in
       let to : (t.registers 5 + 0) % 2 ^ 32 ≡ v = (let p : 0 < line = fit.positive in omega arith) in
-      let is : outcome_at s.size at i t ≡ go v =
+      let is : outcome_at s.target s.size at i t ≡ go v =
       ap (λ b. accesses s.size b 4 (go b)) to
       ∙ ap (λ b. cond b (cond (leb (v + 4) s.size) (go v) (Trap Outside)) (Trap Align)) (eq-eqb (v % 4) 0 al)
       ∙ ap (λ b. cond b (go v) (Trap Outside)) (le-leb (v + 4) s.size within) in

@@ -15,8 +15,8 @@ use Rattle.prem_asm.specs.Pieces.{call_to, jump_to}
 use Rattle.prem_asm.specs.Runs.{Calls, Setting, Ending, Falls, Returns, Stuck, with_trace, then_run, called, run, run_code, stepped, control, linked}
 use Rattle.prem_template.specs.Terms.{only}
 use Rattle.prem_layout.specs.Stubs.{passes_code, return_code}
+use Rattle.prem_layout.specs.Parts.{pass_count}
 use Rattle.prem_code_laws.specs.PrefetchLaws.Touches.{IsLineOf}
-use Rattle.prem_code_laws.specs.PrefetchLaws.Premises.{passes_of}
 use Rattle.prem_code_laws.specs.PrefetchLaws.Stubs.{memory_step}
 use Rattle.prem_code_laws.specs.PrefetchLaws.Confined.{exec_step, end_step, return_step}
 use Rattle.prem_code_laws.specs.PrefetchLaws.Returns.{StubsReturn}
@@ -144,7 +144,7 @@ stubs_return s calls line fit ranges inside passes count_small stated part at st
         ended_at = ra;
         trace_is = a.trace_is ∙ ap (λ ds. memory_step at ∷ ds) (b.trace_is ∙ ap (λ ds. z.trace ++ ds) (c.trace_is ∙ ap (λ ds. xt ++ ds) (d.trace_is ∙ ap (λ ds. jal ++ ds) (f.trace_is ∙ ap (λ ds. f.steps ++ ds) g.trace_is)))
             ∙ arranged z.trace x.length_steps (exec_step (at2 + 8) stated) jal f.steps (end_step ra) (return_step (ra + 4)));
-        passes_are = passes_before (passes_of passes) line ranges z.trace x.length_steps z.passes;
+        passes_are = passes_before (pass_count passes) line ranges z.trace x.length_steps z.passes;
         fetches = all_fetch line (IsLineOf line ranges) MemoryPhase z.trace x.length_steps z.fetches x.fetches;
         jump = record { pc = at3; instr = jump_to 1 at3 (s.places part); phase = Execution; access = None; change = Stay };
         jump_is = (refl, (refl, refl));

@@ -8,7 +8,7 @@ use Rattle.prem_meaning.specs.Expressions.{Outcome, Access}
 use Rattle.prem_meaning.specs.Statements.{ProgramState}
 use Rattle.prem_asm.specs.Pieces.{call_to, size_of, jump_to}
 use Rattle.prem_asm.specs.Runs.{Calls, Setting, Returns, Stuck, with_trace, then_run, called, run, run_code, control, linked}
-use Rattle.prem_layout.specs.Parts.{Passes as PassCount}
+use Rattle.prem_layout.specs.Parts.{Passes as PassCount, pass_count}
 use Rattle.prem_layout.specs.Stubs.{passes_code}
 use Rattle.prem_code_laws.specs.ExprLaws.Relation.{Globals, Stack, Ground}
 use Rattle.prem_code_laws.proofs.ExprLawsLemmas.Puts.{reg_same, reg_other, reg_words}
@@ -16,7 +16,7 @@ use Rattle.prem_code_laws.proofs.ExprLawsLemmas.Terms.{then_ok, same_ok}
 use Rattle.prem_code_laws.specs.GenLaws.Functions.{with_own_mark}
 use Rattle.prem_code_laws.specs.GenLaws.Matches.{Matches, ArgumentsStand, CallRuns}
 use Rattle.prem_code_laws.proofs.GenLawsLemmas.Marks.{marks_left, leads_still}
-use Rattle.prem_code_laws.specs.PrefetchLaws.Premises.{Lines, AllInMemory, passes_of, stub_code}
+use Rattle.prem_code_laws.specs.PrefetchLaws.Premises.{Lines, AllInMemory, stub_code}
 use Rattle.prem_code_laws.specs.PrefetchLaws.Touches.{IsLineOf}
 use Rattle.prem_code_laws.specs.PrefetchLaws.Stubs.{KeepsFour, KeepsInterval, memory_step, StubBack, StubRuns}
 use Rattle.prem_code_laws.specs.PrefetchLaws.Confined.{exec_step, end_step, return_step}
@@ -26,6 +26,7 @@ use Rattle.prem_code_laws.proofs.PrefetchLawsLemmas.Phases.{ending_code, execute
 -- a smaller access
 narrowed : (s : Setting) (gs : Globals) (may inner : Access) (k : Stack) → ((g j : ℕ) → inner g j ≡ true → may g j ≡ true) → Ground s gs may k → Ground s gs inner k
 narrowed s gs may inner k le g = record {
+  target = g.target;
   small = g.small;
   ends = g.ends;
   aligned = g.aligned;
@@ -39,14 +40,14 @@ narrowed s gs may inner k le g = record {
 }
 
 module _ (s : Setting) (calls : Calls) (gs : Globals) (may inner : Access) (narrow : (g j : ℕ) → inner g j ≡ true → may g j ≡ true)
-    (line : ℕ) (fit : Lines s line) (ranges : List Extent) (inside : AllInMemory s ranges) (passes : PassCount) (count_small : passes_of passes < 2 ^ 32)
+    (line : ℕ) (fit : Lines s line) (ranges : List Extent) (inside : AllInMemory s ranges) (passes : PassCount) (count_small : pass_count passes < 2 ^ 32)
     (n stated part frame depth params : ℕ) (returns : Bool) (call : List ℕ → ProgramState → Outcome (ℕ × ProgramState)) (stated_small : stated < 2 ^ 32) (length_is : gs.stated n ≡ stated)
     (callee : CallRuns s gs inner Execution (calls part) 1 frame depth params returns call) (keeps : KeepsFour (calls part)) (interval : KeepsInterval (calls part))
     (at : ℕ) (at_al : at % 4 ≡ 0) (ends : at + size_of (whole_code passes line ranges stated part) < 2 ^ 32) where
   stub_back : (k : Stack) (count : ℕ) (p : ProgramState) (ws : List ℕ) (t : TaskState) (back word : ℕ) (after : ProgramState) →
       Ground s gs may k → Matches s gs k Compatible count p t → t.registers 4 ≡ back → back % 4 ≡ 0 → back < 2 ^ 32 →
       k.low + depth ≤ k.sp → length ws ≡ params → ArgumentsStand t.view (k.sp - frame) ws → call ws p ≡ Ok (word, after) →
-      StubBack s gs k count at line ranges (passes_of passes) (run s calls at (whole_code passes line ranges stated part) t) t back returns word p.marks (with_own_mark n p.globals after)
+      StubBack s gs k count at line ranges (pass_count passes) (run s calls at (whole_code passes line ranges stated part) t) t back returns word p.marks (with_own_mark n p.globals after)
   stub_back k count p ws t back word after ground m four al small space len args is =
       let size = words_prefetch passes line ranges (execute_code stated part) in
       let rest = execute_code stated part in
@@ -93,9 +94,9 @@ module _ (s : Setting) (calls : Calls) (gs : Globals) (may inner : Access) (narr
       ∙ ap (λ c. with_trace xt (with_trace jal (cond c (with_trace b.trace (run s calls ra last u)) Stuck))) (eq-eqb ra ra refl)
       ∙ ap (λ o. with_trace xt (with_trace jal (with_trace b.trace o))) d in
       let still = interval t4 u ra b.trace b.goes in
-      let led = section_leads s.size stated t t1 t2 t3 t4 u v (memory_step at) z.trace xt jal b.trace dt (memory_leads s at t m.phase_is)
-      (prefetched_leads s calls line at1 ranges (passes_of passes) passes long t1 z) (executed_leads line (IsLineOf line ranges) s at2 stated t2 x)
-      (leads_still s.size t3 jal t4 refl (refl, tt)) (leads_still s.size t4 b.trace u b.marks.arrives still) (ended_leads s calls ra u back b.matches.phase_is u_four al small) in
+      let led = section_leads s.target s.size stated t t1 t2 t3 t4 u v (memory_step at) z.trace xt jal b.trace dt (memory_leads s at t m.phase_is)
+      (prefetched_leads s calls line at1 ranges (pass_count passes) passes long t1 z) (executed_leads line (IsLineOf line ranges) s at2 stated t2 x)
+      (leads_still s.target s.size t3 jal t4 refl (refl, tt)) (leads_still s.target s.size t4 b.trace u b.marks.arrives still) (ended_leads s calls ra u back b.matches.phase_is u_four al small) in
       record {
         backs = record {
           to = v;
@@ -129,8 +130,8 @@ pub stub_runs : StubRuns
 stub_runs s calls gs may inner narrow line fit ranges inside passes count_small n stated part frame depth params returns call stated_small length_is callee keeps interval at at_al ends k count p ws t back word after ground m four al small space len args is =
     let x = then_ok (call ws p) _ (word, after) is in
     let same = stub_is passes line ranges stated part in
-    subst (λ (q : ℕ × ProgramState). StubBack s gs k count at line ranges (passes_of passes) (run s calls at (stub_code passes line ranges stated part) t) t back returns q.0 p.marks q.1)
+    subst (λ (q : ℕ × ProgramState). StubBack s gs k count at line ranges (pass_count passes) (run s calls at (stub_code passes line ranges stated part) t) t back returns q.0 p.marks q.1)
     (same_ok (x.0.0, with_own_mark n p.globals x.0.1) (word, after) x.1.1)
-    (subst (λ ps. StubBack s gs k count at line ranges (passes_of passes) (run s calls at ps t) t back returns x.0.0 p.marks (with_own_mark n p.globals x.0.1)) (sym same)
+    (subst (λ ps. StubBack s gs k count at line ranges (pass_count passes) (run s calls at ps t) t back returns x.0.0 p.marks (with_own_mark n p.globals x.0.1)) (sym same)
     (stub_back s calls gs may inner narrow line fit ranges inside passes count_small n stated part frame depth params returns call stated_small length_is callee keeps interval at at_al (subst (λ ps. at + size_of ps < 2 ^ 32) same ends)
     k count p ws t back x.0.0 x.0.1 ground m four al small space len args x.1.0))

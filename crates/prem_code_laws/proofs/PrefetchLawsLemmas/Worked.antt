@@ -6,6 +6,7 @@ use Rattle.std.proofs.Common.{◌≡◌, ◌≢◌, ℕ, ◌+◌, ◌<◌, refl,
 use Rattle.std.specs.Prelude.{codes, slice_index}
 use Rattle.std.proofs.Math.Logic.{inl, inr}
 use Rattle.std.proofs.lemmas.Bool.{eqb-true, le-leb}
+use Rattle.prem_plant.specs.declared.plant.Target.TheVariants.{Rv32i}
 use Rattle.prem_word.specs.declared.kind.Kind.TheVariants.{Int}
 use Rattle.prem_isa.specs.declared.effect.Phase.TheVariants.{Compatible, Execution}
 use Rattle.prem_isa.specs.Plain.{TaskState}
@@ -20,7 +21,7 @@ use Rattle.prem_meaning.specs.Source.{Limits, calls_below, everywhere}
 use Rattle.prem_asm.specs.Pieces.{no_pieces}
 use Rattle.prem_asm.specs.Runs.{Setting, Calls, run}
 use Rattle.prem_asm.specs.Quiet.{IsQuiet, EachPiece}
-use Rattle.prem_layout.specs.Parts.{once}
+use Rattle.prem_layout.specs.Parts.{once, times}
 use Rattle.prem_template.specs.Steps.{Parts, function_code}
 use Rattle.prem_template.specs.Parts.{parts_of}
 use Rattle.prem_code_laws.specs.ExprLaws.Relation.{Globals, Stack, Ground}
@@ -61,13 +62,13 @@ abbrev routines : List Routine
 routines = set ∷ job ∷ []
 
 abbrev s : Setting
-s = record { size = 304; guard = record { load = λ a. true; store = λ a. leb 264 a }; places = slice_index (0 ∷ 8 ∷ 44 ∷ 92 ∷ 264 ∷ 272 ∷ []) }
+s = record { target = Rv32i; size = 304; guard = record { load = λ a. true; store = λ a. leb 264 a }; places = slice_index (0 ∷ 8 ∷ 44 ∷ 92 ∷ 264 ∷ 272 ∷ []) }
 
 abbrev gs : Globals
-gs = record { part = λ g. 4 + g; type = λ g. IntTy; count = λ g. cond (eqb g 0) 1 0; stated = λ f. 491 }
+gs = record { target = Rv32i; part = λ g. 4 + g; type = λ g. IntTy; count = λ g. cond (eqb g 0) 1 0; stated = λ f. 491 }
 
 abbrev parts : Parts
-parts = parts_of routines
+parts = parts_of Rv32i routines
 
 abbrev limits : Limits
 limits = record { turns = λ n. 0; inside = λ f g j. eqb g 0 }
@@ -96,6 +97,7 @@ frame_of_job = record { low = 272; top = 304; sp = 288; slots = 0 }
 
 ground : (may : Access) → Ground s gs may frame_of_job
 ground may = record {
+  target = refl;
   small = omega arith;
   ends = omega arith;
   aligned = refl;
@@ -167,6 +169,12 @@ in_memory = (
 stub_is_called : CallRuns s gs everywhere Compatible (run s inner 92 (stub_code once 16 ranges 491 1)) 4 16 16 1 false (noted 0 (λ ws p. performed (calls_below limits routines 0) (limits.inside 0) set ws p))
 stub_is_called =
     stubs_are_called s inner gs everywhere (limits.inside 0) (λ g j e. refl) 16 lines ranges in_memory once (omega arith) 0 491 1 16 16 1 false (λ ws p. performed (calls_below limits routines 0) (limits.inside 0) set ws p)
+    (omega arith) refl set_runs (quiet_keeps_four s c quiet 1 1) (quiet_keeps_interval s c quiet 1 1) 92 refl (omega arith)
+
+-- so is a stub in four passes
+counted_stub_is_called : CallRuns s gs everywhere Compatible (run s inner 92 (stub_code (times 4) 16 ranges 491 1)) 4 16 16 1 false (noted 0 (λ ws p. performed (calls_below limits routines 0) (limits.inside 0) set ws p))
+counted_stub_is_called =
+    stubs_are_called s inner gs everywhere (limits.inside 0) (λ g j e. refl) 16 lines ranges in_memory (times 4) (omega arith) 0 491 1 16 16 1 false (λ ws p. performed (calls_below limits routines 0) (limits.inside 0) set ws p)
     (omega arith) refl set_runs (quiet_keeps_four s c quiet 1 1) (quiet_keeps_interval s c quiet 1 1) 92 refl (omega arith)
 
 -- as the program means it

@@ -56,4 +56,4 @@ TermRuns =
     (globals : List (List ℕ)) (locals : List ℕ) (e : Term) (r at : ℕ) (t : TaskState) (w : ℕ) →
     10 ≤ r → too_deep r e ≡ None → TermFits gs (length locals) e →
     GlobalsStand s gs globals t.view → LocalsStand locals k t.view → AreWords t.registers → t.registers 2 ≡ k.sp →
-    eval may globals locals e ≡ Ok w → Gives s calls at (term_code gs.part r e) t r w
+    eval may globals locals e ≡ Ok w → Gives s calls at (term_code gs.target gs.part r e) t r w

@@ -15,7 +15,7 @@ use Rattle.prem_code_laws.specs.GenLaws.Matches.{Matches, Ends, CallRuns, CallRu
 
 -- parts where the globals are those that memory has
 abbrev pub with_globals : Globals → Parts → Parts
-with_globals gs parts = record { global = gs.part; frame = parts.frame; link = parts.link; callee = parts.callee }
+with_globals gs parts = record { target = gs.target; global = gs.part; frame = parts.frame; link = parts.link; callee = parts.callee }
 
 -- what each function does that may be called
 abbrev pub CalleesRun : Setting → Globals → Access → CodeCalls → Parts → Callees → Phase → Calls → Type 0

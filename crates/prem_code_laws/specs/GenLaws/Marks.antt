@@ -1,5 +1,6 @@
 -- The marked calls that the steps of a run make: what memory holds where each begins and ends, and its stated length.
 use Rattle.std.specs.Prelude.{◌≡◌, ⊤, ℕ, zero, suc, ◌+◌, List, [], ◌∷◌, ◌++◌, Option, None, Some}
+use Rattle.prem_plant.specs.declared.plant.Target.{Target}
 use Rattle.prem_isa.specs.declared.instr.Instr.{Instr}
 use Rattle.prem_isa.specs.declared.instr.Instr.TheVariants.{Jal}
 use Rattle.prem_isa.specs.declared.effect.Change.{Change}
@@ -22,24 +23,24 @@ abbrev pub moved : Outcome → TaskState → TaskState
 moved (Trap cause) t = t
 moved (Done e) t = after_effect e t
 
-abbrev pub moved_by : Option ℕ → (size at : ℕ) → Instr → TaskState → TaskState
-moved_by None size at i t = moved (outcome_at size at i t) t
-moved_by (Some rd) size at i t = linked rd (at + 4) t
+abbrev pub moved_by : Option ℕ → (target : Target) (size at : ℕ) → Instr → TaskState → TaskState
+moved_by None target size at i t = moved (outcome_at target size at i t) t
+moved_by (Some rd) target size at i t = linked rd (at + 4) t
 
--- a task's state behind a step within a job, in memory of this size
-abbrev pub behind_step : ℕ → Did → TaskState → TaskState
-behind_step size d t = moved_by (link_of d.instr) size d.pc d.instr t
+-- a task's state behind a step within a job, on this target in memory of this size
+abbrev pub behind_step : Target → ℕ → Did → TaskState → TaskState
+behind_step target size d t = moved_by (link_of d.instr) target size d.pc d.instr t
 
 -- behind steps
-abbrev pub behind : ℕ → List Did → TaskState → TaskState
-behind size [] t = t
-behind size (d ∷ ds) t = behind size ds (behind_step size d t)
+abbrev pub behind : Target → ℕ → List Did → TaskState → TaskState
+behind target size [] t = t
+behind target size (d ∷ ds) t = behind target size ds (behind_step target size d t)
 
 -- a run's steps lead where it ends
-abbrev pub Arrives : ℕ → TaskState → Ending → Type 0
-Arrives size t (Falls u trace) = behind size trace t ≡ u
-Arrives size t (Returns to u trace) = behind size trace t ≡ u
-Arrives size t Stuck = ⊤
+abbrev pub Arrives : Target → ℕ → TaskState → Ending → Type 0
+Arrives target size t (Falls u trace) = behind target size trace t ≡ u
+Arrives target size t (Returns to u trace) = behind target size trace t ≡ u
+Arrives target size t Stuck = ⊤
 
 -- ---- what they mark
 
@@ -61,9 +62,9 @@ event_of End view = call_ends view ∷ []
 event_of Job view = []
 
 -- the events of steps within a job
-abbrev pub events : ℕ → List Did → TaskState → List Event
-events size [] t = []
-events size (d ∷ ds) t = event_of d.change (behind_step size d t).view ++ events size ds (behind_step size d t)
+abbrev pub events : Target → ℕ → List Did → TaskState → List Event
+events target size [] t = []
+events target size (d ∷ ds) t = event_of d.change (behind_step target size d t).view ++ events target size ds (behind_step target size d t)
 
 -- the events of a task's own run, over the ends of jobs
 abbrev pub events_with : Option Did → (ℕ → ℕ) → List Event
@@ -82,10 +83,10 @@ pub data Seen (s : Setting) (gs : Globals) : List Event → List MarkedCall → 
 
 -- steps lead from one state to another, and the marked calls of a program are those before and those that the steps make
 pub record Marked (s : Setting) (gs : Globals) (t : TaskState) (trace : List Did) (u : TaskState) (before after : List MarkedCall) : Type 0 where
-  pub arrives : behind s.size trace t ≡ u
+  pub arrives : behind s.target s.size trace t ≡ u
   pub new : List MarkedCall
   pub adds : after ≡ before ++ new
-  pub seen : Seen s gs (events s.size trace t) new
+  pub seen : Seen s gs (events s.target s.size trace t) new
 
 -- the same of so many instructions of a task's own run
 pub record Noted (s : Setting) (gs : Globals) (own : TaskRun) (count : ℕ) (x : PlainState) (before after : List MarkedCall) : Type 0 where

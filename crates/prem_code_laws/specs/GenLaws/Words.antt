@@ -33,7 +33,7 @@ TermPlaced parts places part (OrElse at left right) = TermPlaced parts places pa
 abbrev pub TermHasWords : Type 0
 TermHasWords =
     (parts : ℕ) (places : ℕ → ℕ) (gs : Globals) (count r : ℕ) (e : Term) → count ≤ 507 → 10 ≤ r → too_deep r e ≡ None →
-    TermFits gs count e → TermPlaced parts places gs.part e → PiecesFit parts places (term_code gs.part r e)
+    TermFits gs count e → TermPlaced parts places gs.part e → PiecesFit parts places (term_code gs.target gs.part r e)
 
 -- the globals of steps are placed, and the parts to which they call
 abbrev pub AllPlaced : (parts : ℕ) (places : ℕ → ℕ) → (ℕ → ℕ) → List Term → Type 0

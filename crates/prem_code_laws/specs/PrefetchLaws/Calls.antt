@@ -7,12 +7,12 @@ use Rattle.prem_meaning.specs.Statements.{ProgramState}
 use Rattle.prem_asm.specs.Pieces.{size_of}
 use Rattle.prem_asm.specs.Quiet.{IsQuiet, EachPiece}
 use Rattle.prem_asm.specs.Runs.{Setting, Calls, run}
-use Rattle.prem_layout.specs.Parts.{Passes as PassCount}
+use Rattle.prem_layout.specs.Parts.{Passes as PassCount, pass_count}
 use Rattle.prem_code_laws.specs.ExprLaws.Relation.{Globals}
 use Rattle.prem_code_laws.specs.GenLaws.Functions.{noted}
 use Rattle.prem_code_laws.specs.GenLaws.Matches.{CallRuns}
 use Rattle.prem_code_laws.specs.GenLaws.Table.{Codes, code_calls}
-use Rattle.prem_code_laws.specs.PrefetchLaws.Premises.{Lines, AllInMemory, passes_of, stub_code}
+use Rattle.prem_code_laws.specs.PrefetchLaws.Premises.{Lines, AllInMemory, stub_code}
 use Rattle.prem_code_laws.specs.PrefetchLaws.Stubs.{KeepsFour, KeepsInterval}
 
 -- calls of quiet code keep x4
@@ -29,7 +29,7 @@ QuietKeepsInterval =
 abbrev pub StubsAreCalled : Type 0
 StubsAreCalled =
     (s : Setting) (calls : Calls) (gs : Globals) (may inner : Access) → ((g j : ℕ) → inner g j ≡ true → may g j ≡ true) →
-    (line : ℕ) → Lines s line → (ranges : List Extent) → AllInMemory s ranges → (passes : PassCount) → passes_of passes < 2 ^ 32 →
+    (line : ℕ) → Lines s line → (ranges : List Extent) → AllInMemory s ranges → (passes : PassCount) → pass_count passes < 2 ^ 32 →
     (n stated part frame depth params : ℕ) (returns : Bool) (call : List ℕ → ProgramState → Outcome (ℕ × ProgramState)) → stated < 2 ^ 32 → gs.stated n ≡ stated →
     CallRuns s gs inner Execution (calls part) 1 frame depth params returns call → KeepsFour (calls part) → KeepsInterval (calls part) →
     (at : ℕ) → at % 4 ≡ 0 → at + size_of (stub_code passes line ranges stated part) < 2 ^ 32 →

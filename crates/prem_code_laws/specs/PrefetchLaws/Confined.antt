@@ -17,14 +17,14 @@ use Rattle.prem_code_laws.specs.GenLaws.Fits.{Callees}
 use Rattle.prem_code_laws.specs.GenLaws.Table.{Codes, code_calls, TaskFits, MarkedFits}
 use Rattle.prem_asm.specs.Pieces.{size_of}
 use Rattle.prem_asm.specs.Runs.{Guard, Setting, Calls, Ending, Returns, run}
-use Rattle.prem_layout.specs.Parts.{Passes as PassCount}
+use Rattle.prem_layout.specs.Parts.{Passes as PassCount, pass_count}
 use Rattle.prem_code_laws.specs.ExprLaws.Relation.{Globals, Stack, Ground}
 use Rattle.prem_code_laws.specs.GenLaws.Functions.{performed, noted}
 use Rattle.prem_code_laws.specs.GenLaws.Matches.{Matches, ArgumentsStand, Back}
 use Rattle.prem_code_laws.specs.GenLaws.Jobs.{Between, FrameBack}
 use Rattle.prem_asm.specs.Steps.{AllSteps}
 use Rattle.prem_code_laws.specs.PrefetchLaws.Touches.{Passes, IsFetch, IsLineOf}
-use Rattle.prem_code_laws.specs.PrefetchLaws.Premises.{Lines, AllInMemory, passes_of, stub_code}
+use Rattle.prem_code_laws.specs.PrefetchLaws.Premises.{Lines, AllInMemory, stub_code}
 use Rattle.prem_code_laws.specs.PrefetchLaws.Stubs.{KeepsFour, KeepsInterval, memory_step}
 
 -- a call of a function from its own frame k on, as it does what it means
@@ -83,13 +83,13 @@ pub record ConfinedBack (calling : TaskState → Ending) (s : Setting) (gs : Glo
 abbrev pub ConfinedStubRuns : Type 0
 ConfinedStubRuns =
     (s : Setting) (h : Guard) (calls : Calls) (gs : Globals) (may : Access) (k inner : Stack) (line : ℕ) → Lines (with_guard h s) line → (ranges : List Extent) → AllInMemory (with_guard h s) ranges →
-    (passes : PassCount) → passes_of passes < 2 ^ 32 → (n stated part frame params : ℕ) (returns : Bool) (call : List ℕ → ProgramState → Outcome (ℕ × ProgramState)) → stated < 2 ^ 32 → gs.stated n ≡ stated →
+    (passes : PassCount) → pass_count passes < 2 ^ 32 → (n stated part frame params : ℕ) (returns : Bool) (call : List ℕ → ProgramState → Outcome (ℕ × ProgramState)) → stated < 2 ^ 32 → gs.stated n ≡ stated →
     Confines s h gs k inner (calls part) frame params returns call →
     (at : ℕ) → at % 4 ≡ 0 → at + size_of (stub_code passes line ranges stated part) < 2 ^ 32 →
     (count : ℕ) (p : ProgramState) (words : List ℕ) (t : TaskState) (back word : ℕ) (after : ProgramState) →
     Ground s gs may k → Matches s gs k Compatible count p t → t.registers 4 ≡ back → back % 4 ≡ 0 → back < 2 ^ 32 →
     length words ≡ params → ArgumentsStand t.view (k.sp - frame) words → noted n call words p ≡ Ok (word, after) →
-    ConfinedBack (calls part) s gs k count at line ranges (passes_of passes) stated (run (with_guard h s) calls at (stub_code passes line ranges stated part) t) t back returns word p.marks after
+    ConfinedBack (calls part) s gs k count at line ranges (pass_count passes) stated (run (with_guard h s) calls at (stub_code passes line ranges stated part) t) t back returns word p.marks after
 
 -- what is known of a marked function whose code and callees run under a guard, from its own frame on
 pub record MarkedStands (s : Setting) (h : Guard) (gs : Globals) (parts : Parts) (cs : Callees) (c : Codes) (limits : Limits) (routines : List Routine) (total n : ℕ) (f : Routine) (k inner : Stack) : Type 0 where

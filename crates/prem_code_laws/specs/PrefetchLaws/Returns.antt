@@ -4,9 +4,9 @@ use Rattle.prem_isa.specs.declared.effect.Phase.TheVariants.{Compatible}
 use Rattle.prem_isa.specs.Plain.{TaskState, Did}
 use Rattle.prem_plant.specs.Places.{Extent}
 use Rattle.prem_asm.specs.Runs.{Setting, Calls, Ending, Returns, run}
-use Rattle.prem_layout.specs.Parts.{Passes as PassCount}
+use Rattle.prem_layout.specs.Parts.{Passes as PassCount, pass_count}
 use Rattle.prem_code_laws.specs.ExprLaws.Registers.{AreWords}
-use Rattle.prem_code_laws.specs.PrefetchLaws.Premises.{Lines, AllInMemory, passes_of, stub_code}
+use Rattle.prem_code_laws.specs.PrefetchLaws.Premises.{Lines, AllInMemory, stub_code}
 use Rattle.prem_code_laws.specs.PrefetchLaws.Confined.{StubSteps}
 
 -- its steps are those of a call; memory is at the function's beginning as before the stub, and behind it as at the function's end
@@ -17,6 +17,6 @@ pub record StubReturns (calling : TaskState → Ending) (at line : ℕ) (ranges 
 
 abbrev pub StubsReturn : Type 0
 StubsReturn =
-    (s : Setting) (calls : Calls) (line : ℕ) → Lines s line → (ranges : List Extent) → AllInMemory s ranges → (passes : PassCount) → passes_of passes < 2 ^ 32 →
+    (s : Setting) (calls : Calls) (line : ℕ) → Lines s line → (ranges : List Extent) → AllInMemory s ranges → (passes : PassCount) → pass_count passes < 2 ^ 32 →
     (stated part at : ℕ) → stated < 2 ^ 32 → (t u : TaskState) (back : ℕ) (trace : List Did) → t.phase ≡ Compatible → AreWords t.registers →
-    run s calls at (stub_code passes line ranges stated part) t ≡ Returns back u trace → StubReturns (calls part) at line ranges (passes_of passes) stated t u trace
+    run s calls at (stub_code passes line ranges stated part) t ≡ Returns back u trace → StubReturns (calls part) at line ranges (pass_count passes) stated t u trace

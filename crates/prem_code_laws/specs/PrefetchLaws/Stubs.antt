@@ -9,14 +9,14 @@ use Rattle.prem_meaning.specs.Expressions.{Outcome, Access}
 use Rattle.prem_meaning.specs.Statements.{ProgramState, MarkedCall}
 use Rattle.prem_asm.specs.Pieces.{size_of}
 use Rattle.prem_asm.specs.Runs.{Setting, Calls, Ending, Returns, run}
-use Rattle.prem_layout.specs.Parts.{Passes as PassCount}
+use Rattle.prem_layout.specs.Parts.{Passes as PassCount, pass_count}
 use Rattle.prem_code_laws.specs.ExprLaws.Relation.{Globals, Stack, Ground}
 use Rattle.prem_asm.specs.Steps.{AllSteps}
 use Rattle.prem_code_laws.specs.GenLaws.Marks.{Stays}
 use Rattle.prem_code_laws.specs.GenLaws.Functions.{noted}
 use Rattle.prem_code_laws.specs.GenLaws.Matches.{Matches, ArgumentsStand, Back, CallRuns}
 use Rattle.prem_code_laws.specs.PrefetchLaws.Touches.{Passes}
-use Rattle.prem_code_laws.specs.PrefetchLaws.Premises.{Lines, AllInMemory, passes_of, stub_code}
+use Rattle.prem_code_laws.specs.PrefetchLaws.Premises.{Lines, AllInMemory, stub_code}
 
 -- a call leaves x4 as it was
 abbrev pub KeepsFour : (TaskState → Ending) → Type 0
@@ -42,11 +42,11 @@ pub record StubBack (s : Setting) (gs : Globals) (k : Stack) (count at line : �
 abbrev pub StubRuns : Type 0
 StubRuns =
     (s : Setting) (calls : Calls) (gs : Globals) (may inner : Access) → ((g j : ℕ) → inner g j ≡ true → may g j ≡ true) →
-    (line : ℕ) → Lines s line → (ranges : List Extent) → AllInMemory s ranges → (passes : PassCount) → passes_of passes < 2 ^ 32 →
+    (line : ℕ) → Lines s line → (ranges : List Extent) → AllInMemory s ranges → (passes : PassCount) → pass_count passes < 2 ^ 32 →
     (n stated part frame depth params : ℕ) (returns : Bool) (call : List ℕ → ProgramState → Outcome (ℕ × ProgramState)) → stated < 2 ^ 32 → gs.stated n ≡ stated →
     CallRuns s gs inner Execution (calls part) 1 frame depth params returns call → KeepsFour (calls part) → KeepsInterval (calls part) →
     (at : ℕ) → at % 4 ≡ 0 → at + size_of (stub_code passes line ranges stated part) < 2 ^ 32 →
     (k : Stack) (count : ℕ) (p : ProgramState) (words : List ℕ) (t : TaskState) (back word : ℕ) (after : ProgramState) →
     Ground s gs may k → Matches s gs k Compatible count p t → t.registers 4 ≡ back → back % 4 ≡ 0 → back < 2 ^ 32 →
     k.low + depth ≤ k.sp → length words ≡ params → ArgumentsStand t.view (k.sp - frame) words → noted n call words p ≡ Ok (word, after) →
-    StubBack s gs k count at line ranges (passes_of passes) (run s calls at (stub_code passes line ranges stated part) t) t back returns word p.marks after
+    StubBack s gs k count at line ranges (pass_count passes) (run s calls at (stub_code passes line ranges stated part) t) t back returns word p.marks after

@@ -3,6 +3,7 @@ use Rattle.std.proofs.Common.{◌≡◌, ℕ, ◌≤◌, List, [], ◌∷◌, Re
 use Rattle.std.specs.Prelude.{slice_index, slice_index_or}
 use Rattle.std.specs.List.{AllByRecursion}
 use Rattle.std.proofs.lemmas.List.{length-map}
+use Rattle.prem_plant.specs.declared.plant.Target.{Target}
 use Rattle.prem_list.specs.Sequence.{items_of}
 use Rattle.prem_syntax.specs.Syntax.{ProgramText}
 use Rattle.prem_meaning.specs.Resolved.{Resolved}
@@ -41,19 +42,20 @@ pub is_coded_task : (t : CodedTask) → IsCodable t.program.now t.turns.now t.co
 is_coded_task t is plans =
     let same = program_is t.program.now t.turns.now t.code is in
     record {
+      target = is.target;
       text = is.text;
       bounds = slice_index (turn_bounds is.text);
       same = same;
       formed = is.formed;
       fits = ap excess same ∙ is.kept;
       plans = plans ∙ plans_are (slice_index t.turns.now) t.program.now;
-      code = is.code_is ∙ ap (λ (q : Resolved). codes_of (task_parts q.routines) q.routines) (sym same);
+      code = is.code_is ∙ ap (λ (q : Resolved). codes_of (task_parts is.target q.routines) q.routines) (sym same);
     }
 
 -- ---- a set's tasks
 
-coded_is : (t : TaskText) (r : ResolvedTree) (turns : List ℕ) (code : Codes) (p : ProgramText) → resolved_of (slice_index turns) r ≡ bounded p → code_in code ≡ program_code p → coded_with t r turns code ≡ coded_one t (bounded p)
-coded_is t r turns code p program is = λ i. record { name = t.name; period = t.period; jobs = t.jobs; program = program i; code = is i }
+coded_is : (target : Target) (t : TaskText) (r : ResolvedTree) (turns : List ℕ) (code : Codes) (p : ProgramText) → resolved_of (slice_index turns) r ≡ bounded p → code_in code ≡ program_code target p → coded_with t r turns code ≡ coded_one target t (bounded p)
+coded_is target t r turns code p program is = λ i. record { name = t.name; period = t.period; jobs = t.jobs; program = program i; code = is i }
 
 -- tasks that may be coded, and what they are with their code
 pub record Ready (tasks : List TaskText) (coded : List Coded) (programs : List ResolvedTree) (turns : List (Vec ℕ Global)) (codes : List Codes) : Type 0 where
@@ -63,36 +65,37 @@ pub record Ready (tasks : List TaskText) (coded : List Coded) (programs : List R
   pub programs_count : length programs ≡ length codes
   pub turns_count : length turns ≡ length codes
 
-both_ready : (t : TaskText) (ts : List TaskText) (p : ProgramText) (ps : List ProgramText) (r : ResolvedTree) (rs : List ResolvedTree) (u : Vec ℕ Global) (us : List (Vec ℕ Global)) (c : Codes) (cs : List Codes) →
-    IsCodable r u.items c → resolved_of (slice_index u.items) r ≡ bounded p → code_in c ≡ program_code p → Ready ts (coded_of ts ps) rs us cs → Ready (t ∷ ts) (coded_of (t ∷ ts) (p ∷ ps)) (r ∷ rs) (u ∷ us) (c ∷ cs)
-both_ready t ts p ps r rs u us c cs is program code rest =
+both_ready : (target : Target) (t : TaskText) (ts : List TaskText) (p : ProgramText) (ps : List ProgramText) (r : ResolvedTree) (rs : List ResolvedTree) (u : Vec ℕ Global) (us : List (Vec ℕ Global)) (c : Codes) (cs : List Codes) →
+    IsCodable r u.items c → resolved_of (slice_index u.items) r ≡ bounded p → code_in c ≡ program_code target p → Ready ts (coded_of target ts ps) rs us cs → Ready (t ∷ ts) (coded_of target (t ∷ ts) (p ∷ ps)) (r ∷ rs) (u ∷ us) (c ∷ cs)
+both_ready target t ts p ps r rs u us c cs is program code rest =
     let a = rest.tasks_count in
     let b = rest.programs_count in
     let d = rest.turns_count in
     record {
       each = (is, rest.each);
-      same = ap (λ (x : Coded). x ∷ all_coded ts rs us cs) (coded_is t r u.items c p program code) ∙ ap (λ (xs : List Coded). coded_one t (bounded p) ∷ xs) rest.same;
+      same = ap (λ (x : Coded). x ∷ all_coded ts rs us cs) (coded_is target t r u.items c p program code) ∙ ap (λ (xs : List Coded). coded_one target t (bounded p) ∷ xs) rest.same;
       tasks_count = omega (arith, a);
       programs_count = omega (arith, b);
       turns_count = omega (arith, d);
     }
 
-all_ready : (ts : List TaskText) (ps : List ProgramText) (rs : List ResolvedTree) (us : List (Vec ℕ Global)) (cs : List Codes) → length ps ≡ length ts → AreCodesOf ps (coded_of ts ps) → map meant_by rs ≡ map text_by ps →
-    map (λ (t : Vec ℕ Global). t.items) us ≡ map turn_bounds ps → map code_in cs ≡ map (λ (c : Coded). c.code) (coded_of ts ps) → Ready ts (coded_of ts ps) rs us cs
-all_ready [] [] [] [] [] count codes er eu ec = record { each = tt; same = refl; tasks_count = refl; programs_count = refl; turns_count = refl }
-all_ready [] [] (r ∷ rs) us cs count codes er eu ec = absurd cc
-all_ready [] [] [] (u ∷ us) cs count codes er eu ec = absurd cc
-all_ready [] [] [] [] (c ∷ cs) count codes er eu ec = absurd cc
-all_ready [] (p ∷ ps) rs us cs count codes er eu ec = absurd (omega (arith, count))
-all_ready (t ∷ ts) [] rs us cs count codes er eu ec = absurd (omega (arith, count))
-all_ready (t ∷ ts) (p ∷ ps) [] us cs count codes er eu ec = absurd cc
-all_ready (t ∷ ts) (p ∷ ps) (r ∷ rs) [] cs count codes er eu ec = absurd cc
-all_ready (t ∷ ts) (p ∷ ps) (r ∷ rs) (u ∷ us) [] count codes er eu ec = absurd cc
-all_ready (t ∷ ts) (p ∷ ps) (r ∷ rs) (u ∷ us) (c ∷ cs) count codes er eu ec =
+all_ready : (target : Target) (ts : List TaskText) (ps : List ProgramText) (rs : List ResolvedTree) (us : List (Vec ℕ Global)) (cs : List Codes) → length ps ≡ length ts → AreCodesOf ps (coded_of target ts ps) → map meant_by rs ≡ map text_by ps →
+    map (λ (t : Vec ℕ Global). t.items) us ≡ map turn_bounds ps → map code_in cs ≡ map (λ (c : Coded). c.code) (coded_of target ts ps) → Ready ts (coded_of target ts ps) rs us cs
+all_ready target [] [] [] [] [] count codes er eu ec = record { each = tt; same = refl; tasks_count = refl; programs_count = refl; turns_count = refl }
+all_ready target [] [] (r ∷ rs) us cs count codes er eu ec = absurd cc
+all_ready target [] [] [] (u ∷ us) cs count codes er eu ec = absurd cc
+all_ready target [] [] [] [] (c ∷ cs) count codes er eu ec = absurd cc
+all_ready target [] (p ∷ ps) rs us cs count codes er eu ec = absurd (omega (arith, count))
+all_ready target (t ∷ ts) [] rs us cs count codes er eu ec = absurd (omega (arith, count))
+all_ready target (t ∷ ts) (p ∷ ps) [] us cs count codes er eu ec = absurd cc
+all_ready target (t ∷ ts) (p ∷ ps) (r ∷ rs) [] cs count codes er eu ec = absurd cc
+all_ready target (t ∷ ts) (p ∷ ps) (r ∷ rs) (u ∷ us) [] count codes er eu ec = absurd cc
+all_ready target (t ∷ ts) (p ∷ ps) (r ∷ rs) (u ∷ us) (c ∷ cs) count codes er eu ec =
     let meant : meant_by r ≡ text_by p = ap (λ (fs : List ((ℕ → ℕ) → Resolved)). slice_index_or fs 0 (text_by p)) er in
     let turns : u.items ≡ turn_bounds p = ap (λ (xs : List (List ℕ)). slice_index_or xs 0 []) eu in
-    let code : code_in c ≡ program_code p = ap (λ (xs : List (List Pieces)). slice_index_or xs 0 []) ec in
+    let code : code_in c ≡ program_code target p = ap (λ (xs : List (List Pieces)). slice_index_or xs 0 []) ec in
     let is : IsCodable r u.items c = record {
+      target = target;
       text = p;
       formed = codes.0.formed;
       program = record { same = λ k. ap (λ (f : (ℕ → ℕ) → Resolved). f k) meant };
@@ -100,18 +103,18 @@ all_ready (t ∷ ts) (p ∷ ps) (r ∷ rs) (u ∷ us) (c ∷ cs) count codes er 
       kept = codes.0.kept;
       code_is = code;
     } in
-    both_ready t ts p ps r rs u us c cs is (ap (λ (xs : List ℕ). resolved_of (slice_index xs) r) turns ∙ ap (λ (f : (ℕ → ℕ) → Resolved). f (slice_index (turn_bounds p))) meant) code
-    (all_ready ts ps rs us cs (omega (arith, count)) codes.1 (ap (drop 1) er) (ap (drop 1) eu) (ap (drop 1) ec))
+    both_ready target t ts p ps r rs u us c cs is (ap (λ (xs : List ℕ). resolved_of (slice_index xs) r) turns ∙ ap (λ (f : (ℕ → ℕ) → Resolved). f (slice_index (turn_bounds p))) meant) code
+    (all_ready target ts ps rs us cs (omega (arith, count)) codes.1 (ap (drop 1) er) (ap (drop 1) eu) (ap (drop 1) ec))
 
 pub ready : (set : TaskSet) (programs : List ResolvedTree) (turns : List (Vec ℕ Global)) (codes : List Codes) → AreForSet set programs turns codes → Ready set.tasks (coded_in set) programs turns codes
-ready set programs turns codes h = all_ready set.tasks (programs_of set.tasks) programs turns codes h.count h.coded h.programs_are h.turns_are h.codes_are
+ready set programs turns codes h = all_ready set.plant.target set.tasks (programs_of set.tasks) programs turns codes h.count h.coded h.programs_are h.turns_are h.codes_are
 
 -- ---- all of them
 
-as_many_coded : (ts : List TaskText) (ps : List ProgramText) → length (coded_of ts ps) ≤ length ts
-as_many_coded [] ps = omega arith
-as_many_coded (t ∷ ts) [] = omega arith
-as_many_coded (t ∷ ts) (p ∷ ps) = let rest = as_many_coded ts ps in omega (arith, rest)
+as_many_coded : (target : Target) (ts : List TaskText) (ps : List ProgramText) → length (coded_of target ts ps) ≤ length ts
+as_many_coded target [] ps = omega arith
+as_many_coded target (t ∷ ts) [] = omega arith
+as_many_coded target (t ∷ ts) (p ∷ ps) = let rest = as_many_coded target ts ps in omega (arith, rest)
 
 pub tasks_are : {E : Type 0} (set : TaskSet) (tasks : List TaskTree) (programs : List ResolvedTree) (turns : List (Vec ℕ Global)) (codes : List Codes) (result : Result (Vec CodedTask Global) E) → AreForSet set programs turns codes →
     map task_of tasks ≡ set.tasks → length tasks ≤ 16 → IfOk result (λ all. map coded_task all.items ≡ all_coded (map task_of tasks) programs turns codes) → IfOk result (λ all. AllByRecursion IsCodedTask all.items) →
@@ -121,5 +124,5 @@ tasks_are set tasks programs turns codes (Ok all) h et few is each =
     let same : map coded_task all.items ≡ coded_in set = is ∙ ap (λ (ts : List TaskText). all_coded ts programs turns codes) et ∙ (ready set programs turns codes h).same in
     let long : length all.items ≡ length (coded_in set) = sym (length-map all.items coded_task) ∙ ap length same in
     let tasks_long : length tasks ≡ length set.tasks = sym (length-map tasks task_of) ∙ ap length et in
-    let most = as_many_coded set.tasks (programs_of set.tasks) in
+    let most = as_many_coded set.plant.target set.tasks (programs_of set.tasks) in
     record { same = same; each = each; count = omega (arith, long, tasks_long, most, few) }

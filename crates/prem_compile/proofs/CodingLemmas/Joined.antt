@@ -2,6 +2,7 @@
 use Rattle.std.proofs.Common.{◌≡◌, ℕ, ◌+◌, List, [], ◌∷◌, Option, None, Some, Result, Ok, Err, map, refl, ap, sym, ◌∙◌, subst, Vec, Global, is_none, IsTrue}
 use Rattle.std.specs.Prelude.{slice_index}
 use Rattle.std.specs.Option.{option_map}
+use Rattle.prem_plant.specs.declared.plant.Target.{Target}
 use Rattle.prem_syntax.specs.Syntax.{ProgramText}
 use Rattle.prem_lexer.specs.declared.token.fail.FrontFail.{FrontFail}
 use Rattle.prem_text.specs.Texts.{reads}
@@ -54,34 +55,35 @@ not_exceeding q e = by (excess q) e
 
 -- ---- the code of a set's programs
 
-abbrev AreCoded : List TaskText → List ProgramText → Type 0
-AreCoded ts ps = AreCodesOf ps (coded_of ts ps)
+abbrev AreCoded : Target → List TaskText → List ProgramText → Type 0
+AreCoded target ts ps = AreCodesOf ps (coded_of target ts ps)
 
-codes_from : (n : ℕ) (ts : List TaskText) → first_among group_one n ts ≡ None → first_among group_two n (programs_of ts) ≡ None → first_among late_four n (coded_of ts (programs_of ts)) ≡ None → AreCoded ts (programs_of ts)
-codes_from n [] one two four = tt
-codes_from n (t ∷ ts) one two four = by (reads t.text) refl one two four (codes_from (n + 1) ts)
+codes_from : (target : Target) (n : ℕ) (ts : List TaskText) → first_among group_one n ts ≡ None → first_among group_two n (programs_of ts) ≡ None → first_among late_four n (coded_of target ts (programs_of ts)) ≡ None → AreCoded target ts (programs_of ts)
+codes_from target n [] one two four = tt
+codes_from target n (t ∷ ts) one two four = by (reads t.text) refl one two four (codes_from target (n + 1) ts)
   where
     by : (read : Result ProgramText FrontFail) → reads t.text ≡ read → or_else (refused_by (Some n) (unread read)) (first_among group_one (n + 1) ts) ≡ None → first_among group_two n (program_before read (programs_of ts)) ≡ None →
-        first_among late_four n (coded_of (t ∷ ts) (program_before read (programs_of ts))) ≡ None →
-        (first_among group_one (n + 1) ts ≡ None → first_among group_two (n + 1) (programs_of ts) ≡ None → first_among late_four (n + 1) (coded_of ts (programs_of ts)) ≡ None → AreCoded ts (programs_of ts)) →
-        AreCoded (t ∷ ts) (program_before read (programs_of ts))
+        first_among late_four n (coded_of target (t ∷ ts) (program_before read (programs_of ts))) ≡ None →
+        (first_among group_one (n + 1) ts ≡ None → first_among group_two (n + 1) (programs_of ts) ≡ None → first_among late_four (n + 1) (coded_of target ts (programs_of ts)) ≡ None → AreCoded target ts (programs_of ts)) →
+        AreCoded target (t ∷ ts) (program_before read (programs_of ts))
     by (Err fail) is one two four more = absurd cc
     by (Ok p) is one two four more =
         let of_two = neither (refused_by (Some n) (group_two p)) (first_among group_two (n + 1) (programs_of ts)) two in
-        let of_four = neither (refused_by (Some n) (group_four (bounded p))) (first_among late_four (n + 1) (coded_of ts (programs_of ts))) four in (
+        let of_four = neither (refused_by (Some n) (group_four (bounded p))) (first_among late_four (n + 1) (coded_of target ts (programs_of ts))) four in (
           record {
+            target = target;
             turns = slice_index (turn_bounds p);
             formed = is_formed p (not_refused (Some n) (group_two p) of_two.0);
             program = refl;
             kept = not_exceeding (bounded p) (not_refused (Some n) (group_four (bounded p)) of_four.0);
             code = refl;
-            small = codes_are_small t.text p (slice_index (turn_bounds p)) (task_parts (bounded p).routines) is;
+            small = codes_are_small t.text p (slice_index (turn_bounds p)) (task_parts target (bounded p).routines) is;
           },
           more one of_two.1 of_four.1,
         )
 
 pub codes_of_set : (set : TaskSet) (c : Coded) → IsCoded set c → AreCodesOf (programs_of set.tasks) (coded_in set)
-codes_of_set set c is = codes_from 0 set.tasks is.texts_are_read is.programs_are_formed is.code_is_there
+codes_of_set set c is = codes_from set.plant.target 0 set.tasks is.texts_are_read is.programs_are_formed is.code_is_there
 
 -- ---- all that is known of a set's tasks
 

@@ -49,11 +49,11 @@ module _ (set : TaskSet) (all : List SizedTask) (tasks : List CodedTask) (h : Ar
       let few = h.count in
       omega (arith, long, few)
 
-  pub parts_are : parts_in set.plant.line set.devices all ≡ parts_of_set set
+  pub parts_are : parts_in set.plant set.devices all ≡ parts_of_set set
   parts_are = parts_are_exact set.plant set.devices all (coded_in set) all_sized
 
   pub parts_told : {E : Type 0} (plant : Plant) (devices : List Device) (lent : List SizedTask) (result : Result (Vec PartSize Global) E) → plant ≡ set.plant → devices ≡ set.devices → lent ≡ all →
-      IfOk result (λ parts. parts.items ≡ parts_in plant.line devices lent) → IfOk result (λ parts. parts.items ≡ parts_of_set set)
+      IfOk result (λ parts. parts.items ≡ parts_in plant devices lent) → IfOk result (λ parts. parts.items ≡ parts_of_set set)
   parts_told plant devices lent (Err e) ep ed el told = tt
   parts_told plant devices lent (Ok parts) ep ed el told =
-      told ∙ ap (λ (p : Plant). parts_in p.line devices lent) ep ∙ ap (λ (ds : List Device). parts_in set.plant.line ds lent) ed ∙ ap (λ (ts : List SizedTask). parts_in set.plant.line set.devices ts) el ∙ parts_are
+      told ∙ ap (λ (p : Plant). parts_in p devices lent) ep ∙ ap (λ (ds : List Device). parts_in set.plant ds lent) ed ∙ ap (λ (ts : List SizedTask). parts_in set.plant set.devices ts) el ∙ parts_are

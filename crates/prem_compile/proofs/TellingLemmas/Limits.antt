@@ -4,7 +4,7 @@ use Rattle.prem_plant.specs.declared.plant.Plant.{Plant}
 use Rattle.prem_layout.specs.Bounds.{JobBound, limit_of}
 use Rattle.prem_layout.specs.Facts.{job_fact}
 use Rattle.prem_place.specs.Placed.PlacedOf.{placed_of}
-use Rattle.prem_place.specs.declared.placed.task.PlacedTask.{PlacedTask}
+use Rattle.prem_place.specs.declared.placed.PlacedTask.{PlacedTask}
 use Rattle.prem_tasks.specs.Compiled.{job_bounds}
 use Rattle.prem_place.specs.Totals.Limits.{jobs_with}
 use Rattle.prem_place.proofs.TotalsLemmas.JobTurns as turns

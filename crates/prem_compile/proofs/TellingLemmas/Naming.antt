@@ -10,7 +10,7 @@ use Rattle.prem_syntax.specs.Name.{name_bytes}
 use Rattle.prem_syntax.specs.SyntaxOf.{global_of}
 use Rattle.prem_layout.specs.Placed.{Coded}
 use Rattle.prem_place.specs.Placed.PlacedOf.{coded_of, placed_of}
-use Rattle.prem_place.specs.declared.placed.task.PlacedTask.{PlacedTask}
+use Rattle.prem_place.specs.declared.placed.PlacedTask.{PlacedTask}
 use Rattle.prem_tasks.specs.Broken.{global_name}
 use Rattle.prem_tasks.specs.Compiled.{named_in, names_in, kind_name, part_name}
 use Rattle.prem_place.specs.Verdict.Told.{name_in, HasFunction}

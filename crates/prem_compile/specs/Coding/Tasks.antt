@@ -2,6 +2,7 @@
 use Rattle.std.specs.Prelude.{◌≡◌, ℕ, ◌≤◌, ⊤, Vec, None, List, [], ◌∷◌, length, map, slice_index}
 use Rattle.std.specs.Global.{Global}
 use Rattle.std.specs.List.{AllByRecursion}
+use Rattle.prem_plant.specs.declared.plant.Target.{Target}
 use Rattle.prem_list.specs.declared.Sequence.{Sequence}
 use Rattle.prem_syntax.specs.Syntax.{ProgramText}
 use Rattle.prem_meaning.specs.GroupTwo.{IsWellFormed}
@@ -41,14 +42,15 @@ pub record AreTasksOf (set : TaskSet) (tasks : List CodedTask) : Type 0 where
 
 -- ---- one task
 
--- a well-formed program in memory that exceeds neither registers nor frames, with its turns and its code
+-- a well-formed program in memory that exceeds neither registers nor frames, with its turns and its code for some target
 pub record IsCodable (r : ResolvedTree) (turns : List ℕ) (code : Codes) : Type 0 where
+  pub target : Target
   pub text : ProgramText
   pub formed : IsWellFormed text
   pub program : IsResolved r text
   pub turns_are : turns ≡ turn_bounds text
   pub kept : excess (bounded text) ≡ None
-  pub code_is : code_in code ≡ program_code text
+  pub code_is : code_in code ≡ program_code target text
 
 abbrev pub AreCodable : List ResolvedTree → List (Vec ℕ Global) → List Codes → Type 0
 AreCodable (r ∷ rs) (turns ∷ us) (code ∷ codes) = IsCodable r turns.items code × AreCodable rs us codes

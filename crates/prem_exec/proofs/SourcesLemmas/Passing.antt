@@ -13,12 +13,13 @@ use Rattle.prem_set.specs.Views.{SetFails}
 use Rattle.prem_tasks.specs.declared.set.TaskText.{TaskText as TaskTree}
 use Rattle.prem_tasks.specs.Broken.{TaskText, TaskSet}
 use Rattle.prem_tasks.specs.SetOf.{task_of}
+use Rattle.prem_answer.specs.declared.answer.Telling.{Telling}
 use Rattle.prem_answer.specs.declared.answer.Halt.{Halt}
 use Rattle.prem_answer.specs.declared.answer.Halt.TheVariants.{Answered, ReadFault, OutOfMemory}
-use Rattle.prem_answer.specs.Stages.{Reply, Stage, Comes, IsReadAs, IsGiven, form_reply, reading, reply_of}
-use Rattle.prem_answer.proofs.Reading.{goes_on, ends_there}
-use Rattle.prem_exec.specs.Forms.{run_in}
-use Rattle.prem_exec.specs.Sources.Sources.{Leads, Passes, input_of, reading_behind, reading_set, reading_tasks, set_in, set_limit, set_of_bytes, set_why, set_with, source_limit, task_of_source}
+use Rattle.prem_answer.specs.Stages.{Reply, Stage, Comes, IsReadAsBy, IsGiven, form_by, reply_of}
+use Rattle.prem_answer.proofs.Reading.{goes_on_by, ends_there_by}
+use Rattle.prem_exec.specs.Forms.{run_in_by}
+use Rattle.prem_exec.specs.Sources.Sources.{Leads, Passes, input_of, reading_behind, reading_set_by, reading_sources, reading_tasks_by, set_in_by, set_limit, set_of_bytes_by, set_why, set_with, source_limit, task_of_source}
 
 -- ---- what a call gives
 
@@ -34,76 +35,67 @@ comes_as view holds also (Err OutOfMemory) pass h = tt
 stops : (told : Option Files) (stage : Stage Reply) (reply : Reply) (answer : Result Reply Reply) → IsGiven told stage (Err reply) → answer ≡ Err reply → IsGiven told stage answer
 stops told stage reply answer given is = subst (λ a. IsGiven told stage a) (sym is) given
 
-pub file_passes : {A : Type 0} → (told : Option Files) (limit : ℕ) (name : List ℕ) (make : List ℕ → Result A Reply) (given : Result A Reply) →
-    IsReadAs told limit name make given → Passes told (reading limit name make) given
-file_passes told limit name make (Ok x) read next answer leads = goes_on told limit name make next x answer read leads
-file_passes told limit name make (Err reply) read next answer leads = stops told (reading limit name make next) reply answer (ends_there told limit name make next reply read) leads
-
 -- ---- the sources of tasks
 
-pub none_behind : (told : Option Files) (front : List TaskText) → Passes told (reading_behind front []) (Ok front)
-none_behind told front next answer leads = subst (λ ts. IsGiven told (next ts) answer) (sym (append-nil front)) leads
+pub none_behind : (how : Telling) (told : Option Files) (front : List TaskText) → Passes told (reading_behind how front []) (Ok front)
+none_behind how told front next answer leads = subst (λ ts. IsGiven told (next ts) answer) (sym (append-nil front)) leads
 
-pub task_behind : (told : Option Files) (front : List TaskText) (e : TaskEntry) (es : List TaskEntry) (task : TaskText) (given : Result (List TaskText) Reply) →
-    IsReadAs told source_limit e.source (task_of_source e) (Ok task) → Passes told (reading_behind (front ++ task ∷ []) es) given →
-    Passes told (reading_behind front (e ∷ es)) given
-task_behind told front e es task given read passes next answer leads =
+pub task_behind : (how : Telling) (told : Option Files) (front : List TaskText) (e : TaskEntry) (es : List TaskEntry) (task : TaskText) (given : Result (List TaskText) Reply) →
+    IsReadAsBy how told source_limit e.source (task_of_source e) (Ok task) → Passes told (reading_behind how (front ++ task ∷ []) es) given →
+    Passes told (reading_behind how front (e ∷ es)) given
+task_behind how told front e es task given read passes next answer leads =
     let agree : (ts : List TaskText) → next ((front ++ task ∷ []) ++ ts) ≡ next (front ++ task ∷ ts) = λ ts. ap next (append_assoc front (task ∷ []) ts) in
-    goes_on told source_limit e.source (task_of_source e) (λ t. reading_tasks es (λ ts. next (front ++ t ∷ ts))) task answer read
-    (subst (λ f. IsGiven told (reading_tasks es f) answer) (λ k ts. agree ts k) (passes next answer leads))
+    goes_on_by how told source_limit e.source (task_of_source e) (λ t. reading_tasks_by how es (λ ts. next (front ++ t ∷ ts))) task answer read
+    (subst (λ f. IsGiven told (reading_tasks_by how es f) answer) (λ k ts. agree ts k) (passes next answer leads))
 
-pub no_task_behind : (told : Option Files) (front : List TaskText) (e : TaskEntry) (es : List TaskEntry) (reply : Reply) →
-    IsReadAs told source_limit e.source (task_of_source e) (Err reply) → Passes told (reading_behind front (e ∷ es)) (Err reply)
-no_task_behind told front e es reply read next answer leads =
-    stops told (reading_behind front (e ∷ es) next) reply answer
-    (ends_there told source_limit e.source (task_of_source e) (λ t. reading_tasks es (λ ts. next (front ++ t ∷ ts))) reply read) leads
+pub no_task_behind : (how : Telling) (told : Option Files) (front : List TaskText) (e : TaskEntry) (es : List TaskEntry) (reply : Reply) →
+    IsReadAsBy how told source_limit e.source (task_of_source e) (Err reply) → Passes told (reading_behind how front (e ∷ es)) (Err reply)
+no_task_behind how told front e es reply read next answer leads =
+    stops told (reading_behind how front (e ∷ es) next) reply answer
+    (ends_there_by how told source_limit e.source (task_of_source e) (λ t. reading_tasks_by how es (λ ts. next (front ++ t ∷ ts))) reply read) leads
+
+-- those of a set's file
+pub sources_read : (how : Telling) (told : Option Files) (s : SetData) (tasks : List TaskText) (all : TaskSet) → all ≡ set_with s tasks →
+    Passes told (reading_behind how [] s.tasks) (Ok tasks) → Passes told (reading_sources how s) (Ok all)
+sources_read how told s tasks all is passes next answer leads =
+    passes (λ ts. next (set_with s ts)) answer (subst (λ set. IsGiven told (next set) answer) is leads)
+
+pub sources_unread : (how : Telling) (told : Option Files) (s : SetData) (reply : Reply) → Passes told (reading_behind how [] s.tasks) (Err reply) →
+    Passes told (reading_sources how s) (Err reply)
+sources_unread how told s reply passes next answer leads = passes (λ ts. next (set_with s ts)) answer leads
 
 -- ---- the whole set
 
-pub set_passes : (told : Option Files) (name : List ℕ) (s : SetData) (given : Result (List TaskText) Reply) (all : Result TaskSet Reply) →
-    IsReadAs told set_limit name (set_of_bytes name) (Ok s) → Passes told (reading_behind [] s.tasks) given →
-    ((next : TaskSet → Stage Reply) (answer : Result Reply Reply) → Leads told next all answer → Leads told (λ ts. next (set_with s ts)) given answer) →
-    Passes told (reading_set name) all
-set_passes told name s given all read passes leads_on next answer leads =
-    goes_on told set_limit name (set_of_bytes name) (λ s. reading_tasks s.tasks (λ ts. next (set_with s ts))) s answer read
-    (passes (λ ts. next (set_with s ts)) answer (leads_on next answer leads))
+pub set_passes : (how : Telling) (told : Option Files) (name : List ℕ) (s : SetData) (given : Result TaskSet Reply) →
+    IsReadAsBy how told set_limit name (set_of_bytes_by how name) (Ok s) → Passes told (reading_sources how s) given → Passes told (reading_set_by how name) given
+set_passes how told name s given read passes next answer leads =
+    goes_on_by how told set_limit name (set_of_bytes_by how name) (λ s. reading_sources how s next) s answer read (passes next answer leads)
 
-pub set_read : (told : Option Files) (name : List ℕ) (s : SetData) (tasks : List TaskText) (all : TaskSet) → all ≡ set_with s tasks →
-    IsReadAs told set_limit name (set_of_bytes name) (Ok s) → Passes told (reading_behind [] s.tasks) (Ok tasks) →
-    Passes told (reading_set name) (Ok all)
-set_read told name s tasks all is read passes =
-    set_passes told name s (Ok tasks) (Ok all) read passes (λ next answer leads. subst (λ set. IsGiven told (next set) answer) is leads)
-
-pub sources_unread : (told : Option Files) (name : List ℕ) (s : SetData) (reply : Reply) →
-    IsReadAs told set_limit name (set_of_bytes name) (Ok s) → Passes told (reading_behind [] s.tasks) (Err reply) →
-    Passes told (reading_set name) (Err reply)
-sources_unread told name s reply read passes = set_passes told name s (Err reply) (Err reply) read passes (λ next answer leads. leads)
-
-pub set_unread : (told : Option Files) (name : List ℕ) (reply : Reply) → IsReadAs told set_limit name (set_of_bytes name) (Err reply) →
-    Passes told (reading_set name) (Err reply)
-set_unread told name reply read next answer leads =
-    stops told (reading_set name next) reply answer
-    (ends_there told set_limit name (set_of_bytes name) (λ s. reading_tasks s.tasks (λ ts. next (set_with s ts))) reply read) leads
+pub set_unread : (how : Telling) (told : Option Files) (name : List ℕ) (reply : Reply) → IsReadAsBy how told set_limit name (set_of_bytes_by how name) (Err reply) →
+    Passes told (reading_set_by how name) (Err reply)
+set_unread how told name reply read next answer leads =
+    stops told (reading_set_by how name next) reply answer
+    (ends_there_by how told set_limit name (set_of_bytes_by how name) (λ s. reading_sources how s next) reply read) leads
 
 -- ---- forms
 
-pub set_formed : (name : List ℕ) (read : Result SetData SetFail) (set : SetData) → read ≡ Ok set → set_in name read ≡ Ok set
-set_formed name read set is = ap (set_in name) is
+pub set_formed : (how : Telling) (name : List ℕ) (read : Result SetData SetFail) (set : SetData) → read ≡ Ok set → set_in_by how name read ≡ Ok set
+set_formed how name read set is = ap (set_in_by how name) is
 
 -- a refusal that isn't want of memory is the one that reading gives
-pub set_refused : (name : List ℕ) (read : Result SetData SetFail) (fail : SetFail) (reply : Reply) → fail ≢ NoMemory → SetFails fail read →
-    reply ≡ form_reply name (set_why fail) → set_in name read ≡ Err reply
-set_refused name read NotToml reply other is line = ap (set_in name) is ∙ ap Err (sym line)
-set_refused name read (Key path) reply other is line = ap (set_in name) is ∙ ap Err (sym line)
-set_refused name read (Kind path) reply other is line = ap (set_in name) is ∙ ap Err (sym line)
-set_refused name read (Value path) reply other is line = ap (set_in name) is ∙ ap Err (sym line)
-set_refused name read (Limit path) reply other is line = ap (set_in name) is ∙ ap Err (sym line)
-set_refused name read NoMemory reply other is line = absurd (other refl)
+pub set_refused : (how : Telling) (name : List ℕ) (read : Result SetData SetFail) (fail : SetFail) (reply : Reply) → fail ≢ NoMemory → SetFails fail read →
+    reply ≡ form_by how name (set_why fail) → set_in_by how name read ≡ Err reply
+set_refused how name read NotToml reply other is line = ap (set_in_by how name) is ∙ ap Err (sym line)
+set_refused how name read (Key path) reply other is line = ap (set_in_by how name) is ∙ ap Err (sym line)
+set_refused how name read (Kind path) reply other is line = ap (set_in_by how name) is ∙ ap Err (sym line)
+set_refused how name read (Value path) reply other is line = ap (set_in_by how name) is ∙ ap Err (sym line)
+set_refused how name read (Limit path) reply other is line = ap (set_in_by how name) is ∙ ap Err (sym line)
+set_refused how name read NoMemory reply other is line = absurd (other refl)
 
-pub run_formed : (name : List ℕ) (read : Result Gathered LineRefusal) (input : RunInput) → IsRun input read → run_in name read ≡ Ok (input_of input)
-run_formed name (Ok g) input (words, requests) =
+pub run_formed : (how : Telling) (name : List ℕ) (read : Result Gathered LineRefusal) (input : RunInput) → IsRun input read → run_in_by how name read ≡ Ok (input_of input)
+run_formed how name (Ok g) input (words, requests) =
     ap Ok (ap (λ ws. record { words = ws; requests = g.requests }) (sym words) ∙ ap (λ rs. record (input_of input) { requests = rs }) (sym requests))
-run_formed name (Err refusal) input is = absurd is
+run_formed how name (Err refusal) input is = absurd is
 
 -- ---- what the code holds
 
@@ -111,20 +103,19 @@ mapped : (front : List TaskTree) (task : TaskTree) → map task_of (front ++ tas
 mapped [] task = refl
 mapped (t ∷ ts) task = ap (λ xs. task_of t ∷ xs) (mapped ts task)
 
-pub next_passes : {X : Type 0} → (view : X → List TaskText) (told later : Option Files) (front all : List TaskTree) (e : TaskEntry) (es entries : List TaskEntry) (task : TaskTree)
-    (r : Result X Halt) → later ≡ told → entries ≡ e ∷ es → all ≡ front ++ task ∷ [] → IsReadAs told source_limit e.source (task_of_source e) (Ok (task_of task)) →
-    Comes view (Passes later (reading_behind (map task_of all) es)) r → Comes view (Passes told (reading_behind (map task_of front) entries)) r
-next_passes view told later front all e es entries task r same are is read h =
-    comes_as view (Passes later (reading_behind (map task_of all) es)) (Passes told (reading_behind (map task_of front) entries)) r
+pub next_passes : {X : Type 0} → (view : X → List TaskText) (how : Telling) (told later : Option Files) (front all : List TaskTree) (e : TaskEntry) (es entries : List TaskEntry) (task : TaskTree)
+    (r : Result X Halt) → later ≡ told → entries ≡ e ∷ es → all ≡ front ++ task ∷ [] → IsReadAsBy how told source_limit e.source (task_of_source e) (Ok (task_of task)) →
+    Comes view (Passes later (reading_behind how (map task_of all) es)) r → Comes view (Passes told (reading_behind how (map task_of front) entries)) r
+next_passes view how told later front all e es entries task r same are is read h =
+    comes_as view (Passes later (reading_behind how (map task_of all) es)) (Passes told (reading_behind how (map task_of front) entries)) r
     (λ given passes.
-    let there = subst (λ files. Passes files (reading_behind (map task_of all) es) given) same passes in
+    let there = subst (λ files. Passes files (reading_behind how (map task_of all) es) given) same passes in
     let lists : map task_of all ≡ map task_of front ++ task_of task ∷ [] = ap (map task_of) is ∙ mapped front task in
-    let behind = subst (λ f. Passes told (reading_behind f es) given) lists there in
-    subst (λ xs. Passes told (reading_behind (map task_of front) xs) given) (sym are) (task_behind told (map task_of front) e es (task_of task) given read behind)) h
+    let behind = subst (λ f. Passes told (reading_behind how f es) given) lists there in
+    subst (λ xs. Passes told (reading_behind how (map task_of front) xs) given) (sym are) (task_behind how told (map task_of front) e es (task_of task) given read behind)) h
 
-pub all_pass : (told later : Option Files) (name : List ℕ) (s : SetData) (front : List TaskTree) (entries : List TaskEntry) (given : Result (List TaskText) Reply) →
-    later ≡ told → front ≡ [] → entries ≡ s.tasks → Passes later (reading_behind (map task_of front) entries) given → Passes told (reading_behind [] s.tasks) given
-all_pass told later name s front entries given same none are passes =
-    let there = subst (λ files. Passes files (reading_behind (map task_of front) entries) given) same passes in
-    let first = subst (λ f. Passes told (reading_behind (map task_of f) entries) given) none there in
-    subst (λ es. Passes told (reading_behind [] es) given) are first
+pub all_pass : (how : Telling) (told : Option Files) (s : SetData) (front : List TaskTree) (entries : List TaskEntry) (given : Result (List TaskText) Reply) →
+    front ≡ [] → entries ≡ s.tasks → Passes told (reading_behind how (map task_of front) entries) given → Passes told (reading_behind how [] s.tasks) given
+all_pass how told s front entries given none are passes =
+    let first = subst (λ f. Passes told (reading_behind how (map task_of f) entries) given) none passes in
+    subst (λ es. Passes told (reading_behind how [] es) given) are first

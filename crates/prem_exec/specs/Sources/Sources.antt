@@ -12,8 +12,10 @@ use Rattle.prem_set.specs.declared.fault.SetFail.TheVariants.{NotToml, Key, Kind
 use Rattle.prem_set.specs.declared.task.TaskEntry.{TaskEntry}
 use Rattle.prem_set.specs.SetFile.{SetData, set_of as set_of_text}
 use Rattle.prem_tasks.specs.Broken.{TaskText, TaskSet}
-use Rattle.prem_answer.specs.Stages.{Reply, Stage, IsGiven, form_reply, reading}
-use Rattle.prem_exec.specs.Forms.{RunText, run_in}
+use Rattle.prem_answer.specs.declared.answer.Telling.{Telling}
+use Rattle.prem_answer.specs.declared.answer.Telling.TheVariants.{Whole}
+use Rattle.prem_answer.specs.Stages.{Reply, Stage, IsGiven, form_by, reading_by}
+use Rattle.prem_exec.specs.Forms.{RunText, run_in_by}
 
 -- ---- the set's file
 
@@ -40,12 +42,18 @@ set_why (Value path) = at_path (codes "value") path
 set_why (Limit path) = at_path (codes "limit") path
 set_why OutOfMemory = []
 
+abbrev pub set_in_by : Telling → List ℕ → Result SetData SetFail → Result SetData Reply
+set_in_by how name (Ok set) = Ok set
+set_in_by how name (Err fail) = Err (form_by how name (set_why fail))
+
 abbrev pub set_in : List ℕ → Result SetData SetFail → Result SetData Reply
-set_in name (Ok set) = Ok set
-set_in name (Err fail) = Err (form_reply name (set_why fail))
+set_in name read = set_in_by Whole name read
+
+abbrev pub set_of_bytes_by : Telling → List ℕ → List ℕ → Result SetData Reply
+set_of_bytes_by how name bytes = set_in_by how name (set_of_text bytes)
 
 abbrev pub set_of_bytes : List ℕ → List ℕ → Result SetData Reply
-set_of_bytes name bytes = set_in name (set_of_text bytes)
+set_of_bytes name bytes = set_of_bytes_by Whole name bytes
 
 -- ---- its sources
 
@@ -57,16 +65,26 @@ abbrev pub task_of_source : TaskEntry → List ℕ → Result TaskText Reply
 task_of_source t text = Ok (task_with t text)
 
 -- the sources of tasks, one after another
+abbrev pub reading_tasks_by : Telling → List TaskEntry → (List TaskText → Stage Reply) → Stage Reply
+reading_tasks_by how [] next = next []
+reading_tasks_by how (t ∷ ts) next = reading_by how source_limit t.source (task_of_source t) (λ task. reading_tasks_by how ts (λ tasks. next (task ∷ tasks)))
+
 abbrev pub reading_tasks : List TaskEntry → (List TaskText → Stage Reply) → Stage Reply
-reading_tasks [] next = next []
-reading_tasks (t ∷ ts) next = reading source_limit t.source (task_of_source t) (λ task. reading_tasks ts (λ tasks. next (task ∷ tasks)))
+reading_tasks ts next = reading_tasks_by Whole ts next
 
 abbrev pub set_with : SetData → List TaskText → TaskSet
 set_with s tasks = record { plant = s.plant; devices = s.devices; tasks = tasks }
 
+-- the sources of a set's file
+abbrev pub reading_sources : Telling → SetData → (TaskSet → Stage Reply) → Stage Reply
+reading_sources how s next = reading_tasks_by how s.tasks (λ tasks. next (set_with s tasks))
+
 -- a set's file and its sources
+abbrev pub reading_set_by : Telling → List ℕ → (TaskSet → Stage Reply) → Stage Reply
+reading_set_by how name next = reading_by how set_limit name (set_of_bytes_by how name) (λ s. reading_sources how s next)
+
 abbrev pub reading_set : List ℕ → (TaskSet → Stage Reply) → Stage Reply
-reading_set name next = reading set_limit name (set_of_bytes name) (λ s. reading_tasks s.tasks (λ tasks. next (set_with s tasks)))
+reading_set name next = reading_set_by Whole name next
 
 -- ---- a run file
 
@@ -74,11 +92,17 @@ reading_set name next = reading set_limit name (set_of_bytes name) (λ s. readin
 abbrev pub names_of : TaskSet → KnownNames
 names_of set = known_of (map (λ (t : TaskText). t.name) set.tasks) set.devices
 
+abbrev pub run_of_bytes_by : Telling → TaskSet → List ℕ → List ℕ → Result RunText Reply
+run_of_bytes_by how set name bytes = run_in_by how name (lines_of_run bytes (names_of set))
+
 abbrev pub run_of_bytes : TaskSet → List ℕ → List ℕ → Result RunText Reply
-run_of_bytes set name bytes = run_in name (lines_of_run bytes (names_of set))
+run_of_bytes set name bytes = run_of_bytes_by Whole set name bytes
+
+abbrev pub reading_run_by : Telling → TaskSet → List ℕ → (RunText → Stage Reply) → Stage Reply
+reading_run_by how set name next = reading_by how run_limit name (run_of_bytes_by how set name) next
 
 abbrev pub reading_run : TaskSet → List ℕ → (RunText → Stage Reply) → Stage Reply
-reading_run set name next = reading run_limit name (run_of_bytes set name) next
+reading_run set name next = reading_run_by Whole set name next
 
 -- ---- what the code gives
 
@@ -95,8 +119,8 @@ abbrev pub Passes : {A : Type 0} → Option Files → ((A → Stage Reply) → S
 Passes told readings given = (next : _ → Stage Reply) (answer : Result Reply Reply) → Leads told next given answer → IsGiven told (readings next) answer
 
 -- the sources of tasks that stand behind others
-abbrev pub reading_behind : List TaskText → List TaskEntry → (List TaskText → Stage Reply) → Stage Reply
-reading_behind front ts next = reading_tasks ts (λ tasks. next (front ++ tasks))
+abbrev pub reading_behind : Telling → List TaskText → List TaskEntry → (List TaskText → Stage Reply) → Stage Reply
+reading_behind how front ts next = reading_tasks_by how ts (λ tasks. next (front ++ tasks))
 
 -- what a task says beside its text
 abbrev pub Head : Type 0

@@ -4,11 +4,11 @@ ghost use Rattle.prem_io.specs.Counts.{Rose};
 ghost use Rattle.prem_set.specs.Run.Lawful.{IsLawfulRun};
 ghost use Rattle.prem_tasks.specs.Broken.{TaskText as Stated};
 ghost use Rattle.prem_tasks.specs.SetOf.{set_of, task_of};
-ghost use Rattle.prem_answer.specs.Stages.{Comes, IsReadAs};
-ghost use Rattle.prem_exec.specs.Sources.Sources.{input_of, names_of, run_limit, run_of_bytes};
+ghost use Rattle.prem_answer.specs.Stages.{Comes, IsReadAs, IsReadAsBy};
+ghost use Rattle.prem_exec.specs.Sources.Sources.{input_of, names_of, run_limit, run_of_bytes, run_of_bytes_by};
 
 use crate::line_form;
-use prem_answer::{Halt, read_file};
+use prem_answer::{Halt, Telling, read_file_by};
 use prem_gate::RunInput;
 use prem_io::Store;
 use prem_plant::Label;
@@ -51,14 +51,33 @@ pub fn read_run_file<S: Store>(
     ensures later { S.faults store.old ≤ S.faults store.new }
     ensures same { S.files store.new ≡ S.files store.old }
 {
-    let bytes = match read_file(alloc, store, name, RUN_LIMIT) {
+    read_run_file_by(alloc, Telling::Whole, store, name, set)
+}
+
+/// The same, where an answer tells so much of a file that isn't in its form.
+pub fn read_run_file_by<S: Store>(
+    alloc: Global,
+    telling: Telling,
+    store: &mut S,
+    name: &str,
+    set: &TaskSet,
+) -> Result<RunInput, Halt>
+    ensures input { Comes input_of (IsReadAsBy telling (S.files store.old) run_limit name.now (run_of_bytes_by telling (set_of set.now) name.now)) result }
+    ensures lawful { IfOk result (IsLawfulRun (names_of (set_of set.now))) }
+    ensures fault { IsErrOf result Halt.ReadFault → Rose (S.faults store.old) (S.faults store.new) }
+    ensures later { S.faults store.old ≤ S.faults store.new }
+    ensures same { S.files store.new ≡ S.files store.old }
+{
+    let bytes = match read_file_by(alloc, telling, store, name, RUN_LIMIT) {
         Ok(bytes) => bytes,
         Err(halt) => return Err(halt),
     };
     let names = names_of(alloc, set)?;
     match read_run(alloc, &bytes, &names) {
         Ok(input) => Ok(input),
-        Err(RunFail::Line { n, which }) => Err(Halt::Answered(line_form(alloc, name, n, which)?)),
+        Err(RunFail::Line { n, which }) => {
+            Err(Halt::Answered(line_form(alloc, telling, name, n, which)?))
+        }
         Err(RunFail::OutOfMemory) => Err(Halt::OutOfMemory),
     }
 }

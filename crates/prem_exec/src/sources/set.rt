@@ -7,11 +7,11 @@ ghost use Rattle.prem_set.specs.Views.{set_view};
 ghost use Rattle.prem_set.specs.declared.fault.SetFail.TheVariants.{OutOfMemory};
 ghost use Rattle.prem_tasks.specs.Lawful.{IsSet as IsTaskSet};
 ghost use Rattle.prem_tasks.specs.SetOf.{set_of, task_of};
-ghost use Rattle.prem_answer.specs.Stages.{Comes, IsReadAs, form_reply, reply_of};
-ghost use Rattle.prem_exec.specs.Sources.Sources.{Passes, at_path, reading_set, set_limit, set_of_bytes, set_why, set_with};
+ghost use Rattle.prem_answer.specs.Stages.{Comes, IsReadAsBy, form_by, reply_of};
+ghost use Rattle.prem_exec.specs.Sources.Sources.{Passes, at_path, reading_set, reading_set_by, reading_sources, set_limit, set_of_bytes_by, set_why, set_with};
 
 use crate::sources::tasks::read_behind;
-use prem_answer::{Answer, Halt, form, read_file};
+use prem_answer::{Answer, Halt, Telling, form_by, read_file_by};
 use prem_io::Store;
 use prem_list::Sequence;
 use prem_plant::Label;
@@ -46,30 +46,40 @@ fn set_why(alloc: Global, fail: &SetFail) -> Result<String, AllocError>
 }
 
 /// The answer to a set file that isn't one.
-fn set_form(alloc: Global, name: &str, fail: SetFail) -> Result<Answer, AllocError>
+fn set_form(
+    alloc: Global,
+    telling: Telling,
+    name: &str,
+    fail: SetFail,
+) -> Result<Answer, AllocError>
     requires { fail ≢ OutOfMemory }
-    ensures { IfOk result (λ a. reply_of a ≡ form_reply name.now (set_why fail)) }
+    ensures { IfOk result (λ a. reply_of a ≡ form_by telling name.now (set_why fail)) }
 {
     let why = set_why(alloc, &fail)?;
-    form(alloc, name, &why)
+    form_by(alloc, telling, name, &why)
 }
 
-/// Reads a set file.
-fn read_set_file<S: Store>(alloc: Global, store: &mut S, name: &str) -> Result<SetFile, Halt>
-    ensures set { Comes set_view (IsReadAs (S.files store.old) set_limit name.now (set_of_bytes name.now)) result }
+/// Reads a set file. An answer tells so much of one that isn't in its form.
+pub fn read_set_file<S: Store>(
+    alloc: Global,
+    telling: Telling,
+    store: &mut S,
+    name: &str,
+) -> Result<SetFile, Halt>
+    ensures set { Comes set_view (IsReadAsBy telling (S.files store.old) set_limit name.now (set_of_bytes_by telling name.now)) result }
     ensures lawful { IfOk result (λ set. IsSet (set_view set)) }
     ensures fault { IsErrOf result Halt.ReadFault → Rose (S.faults store.old) (S.faults store.new) }
     ensures later { S.faults store.old ≤ S.faults store.new }
     ensures same { S.files store.new ≡ S.files store.old }
 {
-    let bytes = match read_file(alloc, store, name, SET_LIMIT) {
+    let bytes = match read_file_by(alloc, telling, store, name, SET_LIMIT) {
         Ok(bytes) => bytes,
         Err(halt) => return Err(halt),
     };
     match read_set(alloc, &bytes) {
         Ok(set) => Ok(set),
         Err(SetFail::OutOfMemory) => Err(Halt::OutOfMemory),
-        Err(fail) => Err(Halt::Answered(set_form(alloc, name, fail)?)),
+        Err(fail) => Err(Halt::Answered(set_form(alloc, telling, name, fail)?)),
     }
 }
 
@@ -84,6 +94,33 @@ fn set_with(file: SetFile, tasks: Sequence<TaskText>) -> TaskSet
     }
 }
 
+/// Reads the sources of a set file.
+pub fn read_sources<S: Store>(
+    alloc: Global,
+    telling: Telling,
+    store: &mut S,
+    file: SetFile,
+) -> Result<TaskSet, Halt>
+    requires { IsSet (set_view file) }
+    ensures set { Comes set_of (Passes (S.files store.old) (reading_sources telling (set_view file))) result }
+    ensures devices { IfOk result (λ set. (set_of set).devices ≡ (set_view file).devices) }
+    ensures fault { IsErrOf result Halt.ReadFault → Rose (S.faults store.old) (S.faults store.new) }
+    ensures later { S.faults store.old ≤ S.faults store.new }
+    ensures same { S.files store.new ≡ S.files store.old }
+{
+    let tasks = match read_behind(
+        alloc,
+        telling,
+        store,
+        Sequence::new(alloc),
+        file.tasks.items(),
+    ) {
+        Ok(tasks) => tasks,
+        Err(halt) => return Err(halt),
+    };
+    Ok(set_with(file, tasks))
+}
+
 /// Reads the file of a task set, and its sources.
 pub fn read_task_set<S: Store>(alloc: Global, store: &mut S, name: &str) -> Result<TaskSet, Halt>
     ensures set { Comes set_of (Passes (S.files store.old) (reading_set name.now)) result }
@@ -91,13 +128,24 @@ pub fn read_task_set<S: Store>(alloc: Global, store: &mut S, name: &str) -> Resu
     ensures later { S.faults store.old ≤ S.faults store.new }
     ensures same { S.files store.new ≡ S.files store.old }
 {
-    let file = match read_set_file(alloc, store, name) {
+    read_task_set_by(alloc, Telling::Whole, store, name)
+}
+
+/// The same, where an answer tells so much of a file that isn't in its form.
+pub fn read_task_set_by<S: Store>(
+    alloc: Global,
+    telling: Telling,
+    store: &mut S,
+    name: &str,
+) -> Result<TaskSet, Halt>
+    ensures set { Comes set_of (Passes (S.files store.old) (reading_set_by telling name.now)) result }
+    ensures fault { IsErrOf result Halt.ReadFault → Rose (S.faults store.old) (S.faults store.new) }
+    ensures later { S.faults store.old ≤ S.faults store.new }
+    ensures same { S.files store.new ≡ S.files store.old }
+{
+    let file = match read_set_file(alloc, telling, store, name) {
         Ok(file) => file,
         Err(halt) => return Err(halt),
     };
-    let tasks = match read_behind(alloc, store, Sequence::new(alloc), file.tasks.items()) {
-        Ok(tasks) => tasks,
-        Err(halt) => return Err(halt),
-    };
-    Ok(set_with(file, tasks))
+    read_sources(alloc, telling, store, file)
 }

@@ -3,10 +3,10 @@ ghost use Rattle.std.specs.Prelude.{◌≡◌, ◌≤◌, ◌<◌, [], ◌∷◌
 ghost use Rattle.prem_list.specs.Sequence.{items_of};
 ghost use Rattle.prem_io.specs.Counts.{Rose};
 ghost use Rattle.prem_tasks.specs.SetOf.{task_of};
-ghost use Rattle.prem_answer.specs.Stages.{Comes, IsReadAs};
+ghost use Rattle.prem_answer.specs.Stages.{Comes, IsReadAsBy};
 ghost use Rattle.prem_exec.specs.Sources.Sources.{Passes, entry_head, head_of, reading_behind, source_limit, task_of_source, task_with};
 
-use prem_answer::{Halt, read_file};
+use prem_answer::{Halt, Telling, read_file_by};
 use prem_io::Store;
 use prem_list::Sequence;
 use prem_plant::Label;
@@ -41,14 +41,19 @@ fn task_with(alloc: Global, entry: &TaskEntry, text: &[u8]) -> Result<TaskText, 
 }
 
 /// Reads the source of a task.
-fn read_task<S: Store>(alloc: Global, store: &mut S, entry: &TaskEntry) -> Result<TaskText, Halt>
-    ensures task { Comes task_of (IsReadAs (S.files store.old) source_limit entry.now.source (task_of_source entry.now)) result }
+fn read_task<S: Store>(
+    alloc: Global,
+    telling: Telling,
+    store: &mut S,
+    entry: &TaskEntry,
+) -> Result<TaskText, Halt>
+    ensures task { Comes task_of (IsReadAsBy telling (S.files store.old) source_limit entry.now.source (task_of_source entry.now)) result }
     ensures head { IfOk result (λ t. head_of (task_of t) ≡ entry_head entry.now) }
     ensures fault { IsErrOf result Halt.ReadFault → Rose (S.faults store.old) (S.faults store.new) }
     ensures later { S.faults store.old ≤ S.faults store.new }
     ensures same { S.files store.new ≡ S.files store.old }
 {
-    let text = match read_file(alloc, store, entry.source.text(), SOURCE_LIMIT) {
+    let text = match read_file_by(alloc, telling, store, entry.source.text(), SOURCE_LIMIT) {
         Ok(text) => text,
         Err(halt) => return Err(halt),
     };
@@ -70,11 +75,12 @@ fn first_entry(entries: &[TaskEntry]) -> Option<(&TaskEntry, &[TaskEntry])>
 /// Reads the sources of tasks that stand behind others.
 pub fn read_behind<S: Store>(
     alloc: Global,
+    telling: Telling,
     store: &mut S,
     front: Sequence<TaskText>,
     entries: &[TaskEntry],
 ) -> Result<Sequence<TaskText>, Halt>
-    ensures tasks { Comes (λ ts. map task_of (items_of ts)) (Passes (S.files store.old) (reading_behind (map task_of (items_of front)) entries.now)) result }
+    ensures tasks { Comes (λ ts. map task_of (items_of ts)) (Passes (S.files store.old) (reading_behind telling (map task_of (items_of front)) entries.now)) result }
     ensures heads { IfOk result (λ ts. map (λ t. head_of (task_of t)) (items_of ts) ≡ map (λ t. head_of (task_of t)) (items_of front) ++ map entry_head entries.now) }
     ensures fault { IsErrOf result Halt.ReadFault → Rose (S.faults store.old) (S.faults store.new) }
     ensures later { S.faults store.old ≤ S.faults store.new }
@@ -84,12 +90,12 @@ pub fn read_behind<S: Store>(
     match first_entry(entries) {
         None => Ok(tasks),
         Some((entry, rest)) => {
-            let task = match read_task(alloc, store, entry) {
+            let task = match read_task(alloc, telling, store, entry) {
                 Ok(task) => task,
                 Err(halt) => return Err(halt),
             };
             tasks.push(task)?;
-            read_behind(alloc, store, tasks, rest)
+            read_behind(alloc, telling, store, tasks, rest)
         }
     }
 }

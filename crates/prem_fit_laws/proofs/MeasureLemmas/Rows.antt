@@ -1,5 +1,6 @@
 -- A text whose program has small code, and how much that is.
 use Rattle.std.proofs.Common.{◌≡◌, ◌<◌, ℕ, ◌^◌, All, List, [], ◌∷◌, ◌++◌, None, Some, Ok, codes, refl, map}
+use Rattle.prem_plant.specs.declared.plant.Target.TheVariants.{Rv32i}
 use Rattle.prem_word.specs.declared.kind.Kind.TheVariants.{Int}
 use Rattle.prem_word.specs.declared.kind.BinOp.TheVariants.{Add}
 use Rattle.prem_syntax.specs.declared.tree.Ty.TheVariants as ty
@@ -42,11 +43,11 @@ routines = (resolve (λ n. 0) program).routines
 nodes : map routine_nodes routines ≡ 7 ∷ []
 nodes = refl
 
-few_words : map words (codes_of (parts_of routines) routines) ≡ 19 ∷ []
+few_words : map words (codes_of (parts_of Rv32i routines) routines) ≡ 19 ∷ []
 few_words = refl
 
 small_routines : (parts : Parts) → All (λ f. size_of (function_code parts f) < 2 ^ 32) routines
 small_routines parts = routines_are_small text program (λ n. 0) parts is_read
 
-small_codes : All (λ ps. size_of ps < 2 ^ 32) (codes_of (parts_of routines) routines)
-small_codes = codes_are_small text program (λ n. 0) (parts_of routines) is_read
+small_codes : All (λ ps. size_of ps < 2 ^ 32) (codes_of (parts_of Rv32i routines) routines)
+small_codes = codes_are_small text program (λ n. 0) (parts_of Rv32i routines) is_read

@@ -3,6 +3,7 @@ use Rattle.std.proofs.Common.{◌≡◌, ◌<◌, ◌≤◌, ℕ, zero, suc, ◌
 use Rattle.std.specs.Prelude.{slice_get, nat_lt}
 use Rattle.std.proofs.lemmas.Bool.{ltb-true, ltb-false}
 use Rattle.std.proofs.lemmas.List.{append_assoc, map-append}
+use Rattle.prem_plant.specs.declared.plant.Target.{Target}
 use Rattle.prem_list.specs.declared.Sequence.{Sequence}
 use Rattle.prem_list.specs.Sequence.{items_of}
 use Rattle.prem_meaning.specs.Resolved.{Steps, Done, SetLocal, SetScalar, SetElement, Output, Input, If, For, While, Call, Routine, Resolved}
@@ -61,9 +62,9 @@ fits_next p n f there none fits c below = by (nat_lt c n) refl where
 abbrev pub view : Sequence Piece → Pieces
 view code = pieces_of (items_of code)
 
-pub codes_next : (p : Resolved) (parts : Parts) (n : ℕ) (f : Routine) (old new : List (Sequence Piece)) (code : Sequence Piece) (all : List Pieces) → slice_get p.routines n ≡ Some f → parts ≡ parts_of p.routines →
-    view code ≡ code_at p n → new ≡ old ++ code ∷ [] → map view old ++ codes_of parts (drop n p.routines) ≡ all → map view new ++ codes_of parts (drop (n + 1) p.routines) ≡ all
-codes_next p parts n f old new code all there same is more before =
+pub codes_next : (target : Target) (p : Resolved) (parts : Parts) (n : ℕ) (f : Routine) (old new : List (Sequence Piece)) (code : Sequence Piece) (all : List Pieces) → slice_get p.routines n ≡ Some f → parts ≡ parts_of target p.routines →
+    view code ≡ code_at target p n → new ≡ old ++ code ∷ [] → map view old ++ codes_of parts (drop n p.routines) ≡ all → map view new ++ codes_of parts (drop (n + 1) p.routines) ≡ all
+codes_next target p parts n f old new code all there same is more before =
     let rest = codes_of parts (drop (n + 1) p.routines) in
     let one : view code ≡ code_if_there parts (Some f) = is ∙ ap (λ q. code_if_there q (slice_get p.routines n)) (sym same) ∙ ap (code_if_there parts) there in
     ap (λ cs. map view cs ++ rest) more

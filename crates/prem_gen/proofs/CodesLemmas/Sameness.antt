@@ -2,6 +2,8 @@
 use Rattle.std.proofs.Common.{◌≡◌, ◌≤◌, ℕ, ◌+◌, Bool, true, false, List, length, Option, None, Some, refl, ap, ◌∙◌, sym, arith}
 use Rattle.std.specs.Prelude.{slice_get, nat_lt, if◌then◌else◌}
 use Rattle.std.proofs.lemmas.Bool.{ltb-false}
+use Rattle.prem_plant.specs.declared.plant.Target.{Target}
+use Rattle.prem_plant.specs.declared.plant.Target.TheVariants.{Rv32i}
 use Rattle.prem_meaning.specs.Resolved.{Steps, Done, SetLocal, SetScalar, SetElement, Output, Input, If, For, While, Call, Routine, Resolved}
 use Rattle.prem_tree.specs.declared.resolve.resolved.Routine.{Routine as RoutineTree}
 use Rattle.prem_tree.specs.Resolve.ResolvedOf.{routine_of, routines_of}
@@ -65,8 +67,9 @@ calls_same p q (Call at target f arguments rest) h = (h.0, calls_same p q rest h
 -- ---- the code of a function
 
 -- what the generator knows, with this part for the first global and this table
-abbrev pub parts_by : ℕ → List Callee → Parts
-parts_by first table = record {
+abbrev pub parts_by : Target → ℕ → List Callee → Parts
+parts_by target first table = record {
+  target = target;
   global = from_part first;
   frame = λ f. (callee_at table f).frame;
   link = λ f. (callee_at table f).link;
@@ -76,24 +79,24 @@ parts_by first table = record {
 abbrev table_of : List RoutineTree → List Callee
 table_of rs = callees_from (1 + length rs) 0 rs
 
-function_same : (g : ℕ → ℕ) (p q : Parts) (f : Routine) → CallsSame (with_globals g p) (with_globals g q) f.body → function_code (with_globals g p) f ≡ function_code (with_globals g q) f
-function_same g p q f h =
-    ap (λ body. straight (opening (frame_of f)) (followed (declare_code g (length f.text.params) f.locals) (followed body (followed (result_code g f.result) (only (closing (frame_of f)))))))
-    (code_is_by_calls g p q (locals_of f) f.body h)
+function_same : (t : Target) (g : ℕ → ℕ) (p q : Parts) (f : Routine) → CallsSame (with_globals t g p) (with_globals t g q) f.body → function_code (with_globals t g p) f ≡ function_code (with_globals t g q) f
+function_same t g p q f h =
+    ap (λ body. straight (opening (frame_of f)) (followed (declare_code t g (length f.text.params) f.locals) (followed body (followed (result_code t g f.result) (only (closing (frame_of f)))))))
+    (code_is_by_calls t g p q (locals_of f) f.body h)
 
-pub code_same : (turns : ℕ → ℕ) (rs : List RoutineTree) (f : Routine) → EachCallee (λ c. frame_at (routines_of turns 0 rs) c ≤ greatest_frame) f.body →
-    function_code (parts_by (1 + length rs + all_marks rs) (table_of rs)) f ≡ function_code (parts_of (routines_of turns 0 rs)) f
-code_same turns rs f h =
+pub code_same : (target : Target) (turns : ℕ → ℕ) (rs : List RoutineTree) (f : Routine) → EachCallee (λ c. frame_at (routines_of turns 0 rs) c ≤ greatest_frame) f.body →
+    function_code (parts_by target (1 + length rs + all_marks rs) (table_of rs)) f ≡ function_code (parts_of target (routines_of turns 0 rs)) f
+code_same target turns rs f h =
     let routines = routines_of turns 0 rs in
     let first = 1 + length rs + all_marks rs in
     let zeroth : first ≡ global_part routines 0 = stubs_are_counted turns 0 rs in
-    let p = parts_by first (table_of rs) in
-    let q = parts_of routines in
+    let p = parts_by target first (table_of rs) in
+    let q = parts_of target routines in
     let globals : from_part first ≡ global_part routines = λ k g. (let e : first + g ≡ global_part routines g = omega (arith, zeroth) in e) k in
-    let told : (c : ℕ) → frame_at routines c ≤ greatest_frame → SameCall (with_globals (from_part first) p) (with_globals (from_part first) q) c =
-    λ c fits. let t = table_tells turns 0 rs c in record { frame_is = t.frame_is fits; link_is = t.link_is; callee_is = t.part_is } in
-    function_same (from_part first) p q f (calls_same (with_globals (from_part first) p) (with_globals (from_part first) q) f.body (each_more _ _ told f.body h))
-    ∙ ap (λ g. function_code (with_globals g q) f) globals
+    let told : (c : ℕ) → frame_at routines c ≤ greatest_frame → SameCall (with_globals target (from_part first) p) (with_globals target (from_part first) q) c =
+    λ c fits. let t = table_tells target turns 0 rs c in record { frame_is = t.frame_is fits; link_is = t.link_is; callee_is = t.part_is } in
+    function_same target (from_part first) p q f (calls_same (with_globals target (from_part first) p) (with_globals target (from_part first) q) f.body (each_more _ _ told f.body h))
+    ∙ ap (λ g. function_code (with_globals target g q) f) globals
 
 -- ---- what exceeds nothing
 
@@ -109,7 +112,7 @@ pub routine_small : (turns : ℕ → ℕ) (rs : List RoutineTree) (m n : ℕ) (r
     EachCallee (λ c. frame_at (routines_of turns 0 rs) c ≤ greatest_frame) (routine_of turns m r).body → RoutineSmall (table_of rs) r
 routine_small turns rs m n r small h =
     trees_are_small (table_of rs) turns m n r small
-    (each_more _ _ (λ c fits. let t = (table_tells turns 0 rs c).frame_is fits in let f : frame_at (routines_of turns 0 rs) c ≤ greatest_frame = fits in omega (arith, t, f)) (routine_of turns m r).body h)
+    (each_more _ _ (λ c fits. let t = (table_tells Rv32i turns 0 rs c).frame_is fits in let f : frame_at (routines_of turns 0 rs) c ≤ greatest_frame = fits in omega (arith, t, f)) (routine_of turns m r).body h)
 
 pub well_formed_are_small : WellFormedAreSmall
 well_formed_are_small r p is formed turns n f there fits =

@@ -1,6 +1,7 @@
 -- What the generator gives for a function by its number.
 use Rattle.std.proofs.Common.{◌≡◌, ◌<◌, ◌≤◌, ℕ, ◌+◌, List, length, take, get_or, Some, ap, ◌∙◌, sym, subst, arith, Ok, Err}
 use Rattle.std.specs.Prelude.{slice_get, Result, IfOk}
+use Rattle.prem_plant.specs.declared.plant.Target.{Target}
 use Rattle.prem_list.specs.declared.Sequence.{Sequence}
 use Rattle.prem_list.specs.Sequence.{items_of}
 use Rattle.prem_meaning.specs.Resolved.{Routine}
@@ -43,15 +44,15 @@ module _ (turns : ℕ → ℕ) (p : ResolvedTree) (n m : ℕ) (r : RoutineTree) 
   pub excess_told : {A : Type 0} (result : Result A GenFail) → Refuses result (excess_of n Plain) → Refuses result (excess_at (resolved_of turns p) n)
   excess_told {A} result h = subst (λ o. Refuses {A = A} result (excess_if_there n o)) (sym there) h
 
-  pub code_told : (first : ℕ) (table : List Callee) (result : Result (Sequence Piece) GenFail) → first ≡ 1 + length xs + all_marks xs → table ≡ callees_from (1 + length All) 0 All → CalleesFit (resolved_of turns p) n →
-      IfOk result (λ pieces. pieces_of (items_of pieces) ≡ function_code (parts_by first table) Plain) → Refuses result (excess_of n Plain) →
-      IfOk result (λ pieces. pieces_of (items_of pieces) ≡ code_at (resolved_of turns p) n)
-  code_told first table (Err e) counted made fits code none = tt
-  code_told first table (Ok pieces) counted made fits code none =
+  pub code_told : (target : Target) (first : ℕ) (table : List Callee) (result : Result (Sequence Piece) GenFail) → first ≡ 1 + length xs + all_marks xs → table ≡ callees_from (1 + length All) 0 All → CalleesFit (resolved_of turns p) n →
+      IfOk result (λ pieces. pieces_of (items_of pieces) ≡ function_code (parts_by target first table) Plain) → Refuses result (excess_of n Plain) →
+      IfOk result (λ pieces. pieces_of (items_of pieces) ≡ code_at target (resolved_of turns p) n)
+  code_told target first table (Err e) counted made fits code none = tt
+  code_told target first table (Ok pieces) counted made fits code none =
       let own : frame_of Plain ≤ greatest_frame = fits_where_none n Plain none in
       let number : first ≡ 1 + length All + all_marks All = counted ∙ ap (λ ys. 1 + length ys + all_marks ys) listed in
       code
-      ∙ ap (λ k. function_code (parts_by k table) Plain) number
-      ∙ ap (λ t. function_code (parts_by (1 + length All + all_marks All) t) Plain) made
-      ∙ code_same turns All Plain (fits Plain there own)
-      ∙ ap (code_if_there (parts_of (routines_of turns 0 All))) (sym there)
+      ∙ ap (λ k. function_code (parts_by target k table) Plain) number
+      ∙ ap (λ t. function_code (parts_by target (1 + length All + all_marks All) t) Plain) made
+      ∙ code_same target turns All Plain (fits Plain there own)
+      ∙ ap (code_if_there (parts_of target (routines_of turns 0 All))) (sym there)

@@ -38,14 +38,14 @@ whole_code parts turns m r =
     let slots : length (map parameter_of (items_of r.text.now.params)) + length (map term_of (items_of r.locals)) ≡ locals_in r = omega (arith, params, locals) in
     let f = frame_of (routine_of turns m r) in
     sym
-    (ap (λ k. straight (opening f) (followed (declare_code parts.global k (map term_of (items_of r.locals)))
+    (ap (λ k. straight (opening f) (followed (declare_code parts.target parts.global k (map term_of (items_of r.locals)))
     (followed (steps_code parts (length (map parameter_of (items_of r.text.now.params)) + length (map term_of (items_of r.locals))) (step_before turns m r.body Done))
-    (followed (result_code parts.global (option_map term_of r.result)) (only (closing f)))))) params
-    ∙ ap (λ k. straight (opening f) (followed (declare_code parts.global (params_in r) (map term_of (items_of r.locals)))
+    (followed (result_code parts.target parts.global (option_map term_of r.result)) (only (closing f)))))) params
+    ∙ ap (λ k. straight (opening f) (followed (declare_code parts.target parts.global (params_in r) (map term_of (items_of r.locals)))
     (followed (steps_code parts k (step_before turns m r.body Done))
-    (followed (result_code parts.global (option_map term_of r.result)) (only (closing f)))))) slots
-    ∙ ap (λ p. straight (opening f) (followed (declare_code parts.global (params_in r) (map term_of (items_of r.locals)))
-    (followed p (followed (result_code parts.global (option_map term_of r.result)) (only (closing f)))))) (code_alone parts turns (locals_in r) m r.body)
+    (followed (result_code parts.target parts.global (option_map term_of r.result)) (only (closing f)))))) slots
+    ∙ ap (λ p. straight (opening f) (followed (declare_code parts.target parts.global (params_in r) (map term_of (items_of r.locals)))
+    (followed p (followed (result_code parts.target parts.global (option_map term_of r.result)) (only (closing f)))))) (code_alone parts turns (locals_in r) m r.body)
     ∙ ap (λ k. routine_code parts turns m k r) (frame_is turns m r))
 
 pub whole_deep : (turns : ℕ → ℕ) (m : ℕ) (r : Routine) → routine_deep r ≡ too_deep_function (routine_of turns m r)

@@ -112,7 +112,7 @@ entry_frame f stub n (Some r) h = frame_by r.text.now.mark (frame_bytes (min (sl
 -- ---- all
 
 pub table_tells : TableTells
-table_tells turns m rs f =
+table_tells target turns m rs f =
     let at : callee_at (callees_from (1 + length rs) 0 rs) f ≡ entry (absent f) (1 + length rs + marks_before f rs) f (slice_get rs f) =
     found (absent f) (1 + length rs) 0 rs f ∙ entry_same (absent f) (1 + length rs + marks_before f rs) (1 + length rs + marks_before f rs) (0 + f) f (slice_get rs f) refl (omega arith) in
     let stub : stub_part (routines_of turns m rs) f ≡ 1 + length rs + marks_before f rs = omega (arith, length_same turns m rs, before_same turns m rs f) in

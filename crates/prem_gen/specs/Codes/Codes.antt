@@ -1,5 +1,6 @@
 -- The code of each function of a program, what keeps it from having any, and what the generator asks of the program.
 use Rattle.std.specs.Prelude.{◌≡◌, ◌≤◌, ℕ, Option, None, Some, slice_get}
+use Rattle.prem_plant.specs.declared.plant.Target.{Target}
 use Rattle.prem_syntax.specs.Syntax.{ProgramText}
 use Rattle.prem_meaning.specs.GroupTwo.{IsWellFormed}
 use Rattle.prem_meaning.specs.Resolved.{Routine, Resolved}
@@ -18,8 +19,8 @@ abbrev pub code_if_there : Parts → Option Routine → Pieces
 code_if_there parts None = no_pieces
 code_if_there parts (Some f) = function_code parts f
 
-abbrev pub code_at : Resolved → ℕ → Pieces
-code_at p n = code_if_there (parts_of p.routines) (slice_get p.routines n)
+abbrev pub code_at : Target → Resolved → ℕ → Pieces
+code_at target p n = code_if_there (parts_of target p.routines) (slice_get p.routines n)
 
 abbrev pub excess_if_there : ℕ → Option Routine → Option Excess
 excess_if_there n None = None

@@ -14,6 +14,7 @@ callee_at callees f = slice_index_or callees f (absent f)
 
 abbrev pub parts_in : Task → Parts
 parts_in t = record {
+  target = t.target;
   global = from_part t.first;
   frame = λ f. (callee_at t.callees.now f).frame;
   link = λ f. (callee_at t.callees.now f).link;

@@ -26,9 +26,9 @@ locals_in r = params_in r + length (items_of r.locals)
 abbrev pub routine_code : Parts → (ℕ → ℕ) → ℕ → ℕ → Routine → Pieces
 routine_code parts turns m frame r =
     straight (opening frame)
-    (followed (declare_code parts.global (params_in r) (map term_of (items_of r.locals)))
+    (followed (declare_code parts.target parts.global (params_in r) (map term_of (items_of r.locals)))
     (followed (code_at parts turns (locals_in r) m r.body)
-    (followed (result_code parts.global (option_map term_of r.result)) (only (closing frame)))))
+    (followed (result_code parts.target parts.global (option_map term_of r.result)) (only (closing frame)))))
 
 abbrev pub routine_deep : Routine → Option Place
 routine_deep r =

@@ -38,39 +38,39 @@ list_whiles (first ∷ rest) = whiles_of first + list_whiles rest
 -- ---- single steps
 
 abbrev pub set_local_code : Parts → ℕ → Term → Pieces
-set_local_code parts k value = followed (term_code parts.global 10 value) (only (store_slot k ∷ []))
+set_local_code parts k value = followed (term_code parts.target parts.global 10 value) (only (store_slot k ∷ []))
 
 abbrev pub set_scalar_code : Parts → ℕ → Ty → Term → Pieces
-set_scalar_code parts g ty value = followed (term_code parts.global 10 value) (scalar_store (parts.global g) ty no_pieces)
+set_scalar_code parts g ty value = followed (term_code parts.target parts.global 10 value) (scalar_store (parts.global g) ty no_pieces)
 
 abbrev pub set_element_code : Parts → ℕ → Ty → Term → Term → Pieces
 set_element_code parts g ty index value =
-    followed (term_code parts.global 10 value) (followed (term_code parts.global 11 index) (element_store (parts.global g) ty no_pieces))
+    followed (term_code parts.target parts.global 10 value) (followed (term_code parts.target parts.global 11 index) (element_store (parts.global g) ty no_pieces))
 
 abbrev pub output_code : Parts → Term → Pieces
-output_code parts value = followed (term_code parts.global 10 value) (only (PmOut 10 ∷ []))
+output_code parts value = followed (term_code parts.target parts.global 10 value) (only (PmOut 10 ∷ []))
 
 abbrev pub input_code : ℕ → Pieces
 input_code k = only (PmIn 10 ∷ store_slot k ∷ [])
 
 abbrev pub call_code : Parts → Option ℕ → ℕ → List Term → Pieces
 call_code parts target f arguments =
-    followed (argument_code parts.global (parts.frame f) 0 arguments)
+    followed (argument_code parts.target parts.global (parts.frame f) 0 arguments)
     (call_to (parts.link f) (parts.callee f) (target_code target no_pieces))
 
 abbrev pub if_code : Parts → Term → Pieces → Pieces → Pieces
-if_code parts condition taken other = followed (term_code parts.global 10 condition) (either (nonzero 10) taken other no_pieces)
+if_code parts condition taken other = followed (term_code parts.target parts.global 10 condition) (either (nonzero 10) taken other no_pieces)
 
 abbrev pub for_code : Parts → ℕ → Term → Bool → Term → ℕ → ℕ → Pieces → Pieces
 for_code parts k low closed high step turns body =
-    followed (term_code parts.global 10 low) (straight (store_slot k ∷ [])
-    (repeat turns (straight (load_slot k ∷ []) (term_code parts.global 11 high)) (bound_test closed)
+    followed (term_code parts.target parts.global 10 low) (straight (store_slot k ∷ [])
+    (repeat turns (straight (load_slot k ∷ []) (term_code parts.target parts.global 11 high)) (bound_test closed)
     (followed body (only (advance_code k step))) no_pieces))
 
 abbrev pub while_code : Parts → ℕ → ℕ → Term → Pieces → Pieces
 while_code parts n turns condition body =
     straight (constant 10 turns) (straight (store_slot n ∷ [])
-    (repeat turns (turn_code parts.global n condition) (nonzero 10) (straight (count_code n) body) no_pieces))
+    (repeat turns (turn_code parts.target parts.global n condition) (nonzero 10) (straight (count_code n) body) no_pieces))
 
 -- ---- all steps
 

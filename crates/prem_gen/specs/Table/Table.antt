@@ -1,5 +1,6 @@
 -- What calls of the functions of a task need, by their numbers.
 use Rattle.std.specs.Prelude.{◌≡◌, ◌≤◌, ℕ, ◌+◌, min, List, [], ◌∷◌, length, Option, None, Some}
+use Rattle.prem_plant.specs.declared.plant.Target.{Target}
 use Rattle.prem_syntax.specs.declared.tree.Mark.{Mark}
 use Rattle.prem_tree.specs.declared.resolve.resolved.Routine.{Routine}
 use Rattle.prem_tree.specs.Resolve.ResolvedOf.{routines_of}
@@ -38,15 +39,15 @@ callees_from stub n [] = []
 callees_from stub n (r ∷ rs) = callee_of stub n r ∷ callees_from (stub + marks r) (n + 1) rs
 
 -- what calls need is what is told of the functions for which they stand; a frame that may be has its very bytes
-pub record Told (routines : List PlainRoutine) (f : ℕ) (c : Callee) : Type 0 where
+pub record Told (target : Target) (routines : List PlainRoutine) (f : ℕ) (c : Callee) : Type 0 where
   pub frame_is : frame_at routines f ≤ greatest_frame → c.frame ≡ frame_at routines f
-  pub link_is : c.link ≡ (parts_of routines).link f
-  pub part_is : c.part ≡ (parts_of routines).callee f
+  pub link_is : c.link ≡ (parts_of target routines).link f
+  pub part_is : c.part ≡ (parts_of target routines).callee f
 
 abbrev pub TableTells : Type 0
 TableTells =
-    (turns : ℕ → ℕ) (m : ℕ) (rs : List Routine) (f : ℕ) →
-    Told (routines_of turns m rs) f (callee_at (callees_from (1 + length rs) 0 rs) f)
+    (target : Target) (turns : ℕ → ℕ) (m : ℕ) (rs : List Routine) (f : ℕ) →
+    Told target (routines_of turns m rs) f (callee_at (callees_from (1 + length rs) 0 rs) f)
 
 -- the globals stand behind the stubs
 abbrev pub StubsAreCounted : Type 0

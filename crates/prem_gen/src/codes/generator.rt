@@ -17,6 +17,7 @@ use crate::routine::{Callee, Task, code_of};
 use crate::table::{callees, first_global};
 use crate::term::{FnId, GenFail};
 use prem_asm::{Piece, Sequence};
+use prem_plant::Target;
 use prem_syntax::Program;
 use prem_tree::resolve::{Resolved, resolve};
 use std::alloc::Global;
@@ -33,6 +34,7 @@ pub fn code_at(
     table: &[Callee],
     f: FnId,
     turn: usize,
+    target: Target,
 ) -> Result<Sequence<Piece>, GenFail>
     requires table { table.now ≡ callees_from (1 + length (items_of r.now.routines)) 0 (items_of r.now.routines) }
     requires small { FunctionsSmall (resolved_of (slice_index turns.now) r.now) }
@@ -41,12 +43,13 @@ pub fn code_at(
     requires turn { turn ≡ all_loops (take f (items_of r.now.routines)) }
     requires loops { all_loops (items_of r.now.routines) < 2 ^ 64 }
     requires callees { CalleesFit (resolved_of (slice_index turns.now) r.now) f }
-    ensures code { IfOk result (λ pieces. pieces_of (items_of pieces) ≡ code_at (resolved_of (slice_index turns.now) r.now) f) }
+    ensures code { IfOk result (λ pieces. pieces_of (items_of pieces) ≡ code_at target (resolved_of (slice_index turns.now) r.now) f) }
     ensures excess { Refuses result (excess_at (resolved_of (slice_index turns.now) r.now) f) }
 {
     let routines = r.routines.items();
     let task = Task {
         alloc,
+        target,
         first: first_global(routines),
         turns,
         callees: table,
@@ -62,11 +65,12 @@ pub fn codes(
     alloc: Global,
     r: &Resolved<'_>,
     turns: &[u32],
+    target: Target,
 ) -> Result<Sequence<Sequence<Piece>>, GenFail>
     requires small { FunctionsSmall (resolved_of (slice_index turns.now) r.now) }
     requires few { length (items_of r.now.routines) ≤ 256 }
     requires loops { all_loops (items_of r.now.routines) < 2 ^ 64 }
-    ensures codes { IfOk result (λ codes. map (λ code. pieces_of (items_of code)) (items_of codes) ≡ codes_of (parts_of (resolved_of (slice_index turns.now) r.now).routines) (resolved_of (slice_index turns.now) r.now).routines) }
+    ensures codes { IfOk result (λ codes. map (λ code. pieces_of (items_of code)) (items_of codes) ≡ codes_of (parts_of target (resolved_of (slice_index turns.now) r.now).routines) (resolved_of (slice_index turns.now) r.now).routines) }
     ensures excess { Refuses result (excess (resolved_of (slice_index turns.now) r.now)) }
 {
     let routines = r.routines.items();
@@ -75,7 +79,7 @@ pub fn codes(
     let mut turn = 0;
     let mut f = 0;
     for routine in routines {
-        match code_at(alloc, r, turns, table.as_slice(), f, turn) {
+        match code_at(alloc, r, turns, table.as_slice(), f, turn, target) {
             Ok(code) => codes.push(code)?,
             Err(e) => return Err(e),
         }
@@ -91,17 +95,18 @@ pub fn function_code(
     p: &Program,
     turns: &[u32],
     f: FnId,
+    target: Target,
 ) -> Result<Sequence<Piece>, GenFail>
     requires formed { IsWellFormed (program_of p.now) }
     requires there { f < length (functions_of (program_of p.now)) }
     requires loops { item_loops (program_of p.now) < 2 ^ 64 }
     requires callees { CalleesFit (resolve (slice_index turns.now) (program_of p.now)) f }
-    ensures code { IfOk result (λ pieces. pieces_of (items_of pieces) ≡ code_at (resolve (slice_index turns.now) (program_of p.now)) f) }
+    ensures code { IfOk result (λ pieces. pieces_of (items_of pieces) ≡ code_at target (resolve (slice_index turns.now) (program_of p.now)) f) }
     ensures excess { Refuses result (excess_at (resolve (slice_index turns.now) (program_of p.now)) f) }
 {
     let resolved = resolve(alloc, p)?;
     let routines = resolved.routines.items();
     let table = callees(alloc, routines)?;
     let turn = loops_of_all(&routines[..f as usize]);
-    code_at(alloc, &resolved, turns, table.as_slice(), f, turn)
+    code_at(alloc, &resolved, turns, table.as_slice(), f, turn, target)
 }

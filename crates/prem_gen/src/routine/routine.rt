@@ -93,12 +93,12 @@ fn put_locals(
     requires first { task.now.first < 2 ^ 31 }
     requires slots { k + length locals.now < 2 ^ 16 }
     requires locals { All HasSmall locals.now }
-    ensures pieces { OnOk result (pieces_of (items_of pieces.new) ≡ followed (pieces_of (items_of pieces.old)) (declare_code (from_part task.now.first) k (map term_of locals.now))) }
+    ensures pieces { OnOk result (pieces_of (items_of pieces.new) ≡ followed (pieces_of (items_of pieces.old)) (declare_code task.now.target (from_part task.now.first) k (map term_of locals.now))) }
     ensures deep { Finds result (too_deep_among (map term_of locals.now)) }
 {
     let mut slot = k;
     for value in locals {
-        put_term(value, task.alloc, task.first, pieces, 10)?;
+        put_term(value, task.alloc, task.target, task.first, pieces, 10)?;
         put_store_slot(task.alloc, pieces, slot)?;
         slot += 1;
     }
@@ -114,11 +114,11 @@ fn put_result(
 ) -> Result<(), TermFail>
     requires first { task.now.first < 2 ^ 31 }
     requires small { ResultSmall value.now }
-    ensures pieces { OnOk result (pieces_of (items_of pieces.new) ≡ followed (pieces_of (items_of pieces.old)) (result_code (from_part task.now.first) (option_map term_of value.now))) }
+    ensures pieces { OnOk result (pieces_of (items_of pieces.new) ≡ followed (pieces_of (items_of pieces.old)) (result_code task.now.target (from_part task.now.first) (option_map term_of value.now))) }
     ensures deep { Finds result (too_deep_result (option_map term_of value.now)) }
 {
     match value {
-        Some(value) => put_term(value, task.alloc, task.first, pieces, 10),
+        Some(value) => put_term(value, task.alloc, task.target, task.first, pieces, 10),
         None => Ok(()),
     }
 }

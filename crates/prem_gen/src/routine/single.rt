@@ -125,7 +125,7 @@ pub fn put_set_local(
     ensures pieces { OnOk result (pieces_of (items_of pieces.new) ≡ followed (pieces_of (items_of pieces.old)) (set_local_code (parts_in task.now) number (term_of value.now))) }
     ensures deep { Finds result (too_deep 10 (term_of value.now)) }
 {
-    put_term(value, task.alloc, task.first, pieces, 10)?;
+    put_term(value, task.alloc, task.target, task.first, pieces, 10)?;
     put_store_slot(task.alloc, pieces, number as u32)?;
     Ok(())
 }
@@ -145,7 +145,7 @@ pub fn put_set_scalar(
     ensures pieces { OnOk result (pieces_of (items_of pieces.new) ≡ followed (pieces_of (items_of pieces.old)) (set_scalar_code (parts_in task.now) global ty (term_of value.now))) }
     ensures deep { Finds result (too_deep 10 (term_of value.now)) }
 {
-    put_term(value, task.alloc, task.first, pieces, 10)?;
+    put_term(value, task.alloc, task.target, task.first, pieces, 10)?;
     put_scalar_store(task.alloc, pieces, task.first + global as u32, ty)?;
     Ok(())
 }
@@ -170,8 +170,8 @@ pub fn put_set_element(
     if let Some(at) = too_deep(index, 11) {
         return Err(TermFail::Deep { at });
     }
-    put_term(value, task.alloc, task.first, pieces, 10)?;
-    put_term(index, task.alloc, task.first, pieces, 11)?;
+    put_term(value, task.alloc, task.target, task.first, pieces, 10)?;
+    put_term(index, task.alloc, task.target, task.first, pieces, 11)?;
     put_element_store(task.alloc, pieces, task.first + global as u32, ty)?;
     Ok(())
 }
@@ -188,7 +188,7 @@ pub fn put_output(
     ensures pieces { OnOk result (pieces_of (items_of pieces.new) ≡ followed (pieces_of (items_of pieces.old)) (output_code (parts_in task.now) (term_of value.now))) }
     ensures deep { Finds result (too_deep 10 (term_of value.now)) }
 {
-    put_term(value, task.alloc, task.first, pieces, 10)?;
+    put_term(value, task.alloc, task.target, task.first, pieces, 10)?;
     put_code(task.alloc, pieces, &[Instr::PmOut { rs1: 10 }])?;
     Ok(())
 }
@@ -234,12 +234,12 @@ pub fn bound_head(task: &Task<'_>, number: usize, high: &Term) -> Result<Sequenc
     requires first { task.now.first < 2 ^ 31 }
     requires number { IsSmall number }
     requires high { HasSmall high.now }
-    ensures pieces { IfOk result (λ pieces. pieces_of (items_of pieces) ≡ straight (load_slot number ∷ []) (term_code (from_part task.now.first) 11 (term_of high.now))) }
+    ensures pieces { IfOk result (λ pieces. pieces_of (items_of pieces) ≡ straight (load_slot number ∷ []) (term_code task.now.target (from_part task.now.first) 11 (term_of high.now))) }
     ensures deep { Finds result (too_deep 11 (term_of high.now)) }
 {
     let mut pieces = Sequence::new(task.alloc);
     put_local(task.alloc, &mut pieces, 10, number as u32)?;
-    put_term(high, task.alloc, task.first, &mut pieces, 11)?;
+    put_term(high, task.alloc, task.target, task.first, &mut pieces, 11)?;
     Ok(pieces)
 }
 
@@ -304,12 +304,12 @@ pub fn turn_head(task: &Task<'_>, n: u32, condition: &Term) -> Result<Sequence<P
     requires first { task.now.first < 2 ^ 31 }
     requires counter { IsSmall n }
     requires condition { HasSmall condition.now }
-    ensures pieces { IfOk result (λ pieces. pieces_of (items_of pieces) ≡ turn_code (from_part task.now.first) n (term_of condition.now)) }
+    ensures pieces { IfOk result (λ pieces. pieces_of (items_of pieces) ≡ turn_code task.now.target (from_part task.now.first) n (term_of condition.now)) }
     ensures deep { Finds result (too_deep 10 (term_of condition.now)) }
 {
     let mut pieces = Sequence::new(task.alloc);
     put_local(task.alloc, &mut pieces, 10, n)?;
-    let taken = truth_of(condition, task.alloc, task.first, 10)?;
+    let taken = truth_of(condition, task.alloc, task.target, task.first, 10)?;
     put_choice(&mut pieces, nonzero(10), taken, Sequence::new(task.alloc))?;
     Ok(pieces)
 }
@@ -346,12 +346,12 @@ fn put_arguments(
     requires first { task.now.first < 2 ^ 31 }
     requires frame { frame < 2 ^ 16 }
     requires arguments { All HasSmall arguments.now }
-    ensures pieces { OnOk result (pieces_of (items_of pieces.new) ≡ followed (pieces_of (items_of pieces.old)) (argument_code (from_part task.now.first) frame 0 (map term_of arguments.now))) }
+    ensures pieces { OnOk result (pieces_of (items_of pieces.new) ≡ followed (pieces_of (items_of pieces.old)) (argument_code task.now.target (from_part task.now.first) frame 0 (map term_of arguments.now))) }
     ensures deep { Finds result (too_deep_among (map term_of arguments.now)) }
 {
     let mut below = frame.saturating_sub(5);
     for argument in arguments {
-        put_term(argument, task.alloc, task.first, pieces, 10)?;
+        put_term(argument, task.alloc, task.target, task.first, pieces, 10)?;
         put_store_argument(task.alloc, pieces, below)?;
         below = below.saturating_sub(4);
     }

@@ -136,7 +136,7 @@ pub fn put_step(
             other,
             ..
         } => {
-            put_term(condition, task.alloc, task.first, pieces, 10)?;
+            put_term(condition, task.alloc, task.target, task.first, pieces, 10)?;
             let taken = step_alone(taken, task, numbers)?;
             let other = step_alone(other, task, numbers)?;
             put_choice(pieces, nonzero(10), taken, other)?;

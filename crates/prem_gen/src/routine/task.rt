@@ -1,6 +1,7 @@
 // What the generator knows of a task.
 ghost use Rattle.std.specs.Prelude.{◌≡◌};
 
+use prem_plant::Target;
 use std::alloc::Global;
 
 /// What a call of a function needs.
@@ -14,10 +15,11 @@ pub struct Callee {
     pub part: u32,
 }
 
-/// The parts of a task, and the turn bounds of its counting loops.
+/// The target, the parts of a task, and the turn bounds of its counting loops.
 #[derive(Clone, Copy)]
 pub struct Task<'a> {
     pub alloc: Global,
+    pub target: Target,
     /// The part of the first global.
     pub first: u32,
     pub turns: &'a [u32],

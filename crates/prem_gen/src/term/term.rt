@@ -16,6 +16,7 @@ use crate::term::operator::{
 };
 use prem_asm::{Piece, Sequence, put_choice};
 use prem_isa::AluOp;
+use prem_plant::Target;
 use prem_syntax::Place;
 use prem_tree::resolve::Term;
 use prem_word::BinOp;
@@ -66,13 +67,19 @@ pub fn too_deep(term: &Term, r: u8) -> Option<Place>
 
 /// The code of a term, and whether its word isn't 0.
 #[cycle(term)]
-pub fn truth_of(term: &Term, alloc: Global, first: u32, r: u8) -> Result<Sequence<Piece>, TermFail>
+pub fn truth_of(
+    term: &Term,
+    alloc: Global,
+    target: Target,
+    first: u32,
+    r: u8,
+) -> Result<Sequence<Piece>, TermFail>
     requires small { HasSmall term.now }
     requires first { first < 2 ^ 31 }
-    ensures pieces { IfOk result (λ pieces. pieces_of (items_of pieces) ≡ followed (term_code (from_part first) r (term_of term.now)) (only (truth_code r))) }
+    ensures pieces { IfOk result (λ pieces. pieces_of (items_of pieces) ≡ followed (term_code target (from_part first) r (term_of term.now)) (only (truth_code r))) }
     ensures deep { Finds result (too_deep r (term_of term.now)) }
 {
-    let mut pieces = term_alone(term, alloc, first, r)?;
+    let mut pieces = term_alone(term, alloc, target, first, r)?;
     put_truth(alloc, &mut pieces, r)?;
     Ok(pieces)
 }
@@ -82,16 +89,17 @@ pub fn truth_of(term: &Term, alloc: Global, first: u32, r: u8) -> Result<Sequenc
 pub fn term_alone(
     term: &Term,
     alloc: Global,
+    target: Target,
     first: u32,
     r: u8,
 ) -> Result<Sequence<Piece>, TermFail>
     requires small { HasSmall term.now }
     requires first { first < 2 ^ 31 }
-    ensures pieces { IfOk result (λ pieces. pieces_of (items_of pieces) ≡ term_code (from_part first) r (term_of term.now)) }
+    ensures pieces { IfOk result (λ pieces. pieces_of (items_of pieces) ≡ term_code target (from_part first) r (term_of term.now)) }
     ensures deep { Finds result (too_deep r (term_of term.now)) }
 {
     let mut pieces = Sequence::new(alloc);
-    put_term(term, alloc, first, &mut pieces, r)?;
+    put_term(term, alloc, target, first, &mut pieces, r)?;
     Ok(pieces)
 }
 
@@ -101,13 +109,14 @@ pub fn term_alone(
 pub fn put_term(
     term: &Term,
     alloc: Global,
+    target: Target,
     first: u32,
     pieces: &mut Sequence<Piece>,
     r: u8,
 ) -> Result<(), TermFail>
     requires small { HasSmall term.now }
     requires first { first < 2 ^ 31 }
-    ensures pieces { OnOk result (pieces_of (items_of pieces.new) ≡ followed (pieces_of (items_of pieces.old)) (term_code (from_part first) r (term_of term.now))) }
+    ensures pieces { OnOk result (pieces_of (items_of pieces.new) ≡ followed (pieces_of (items_of pieces.old)) (term_code target (from_part first) r (term_of term.now))) }
     ensures deep { Finds result (too_deep r (term_of term.now)) }
 {
     if r >= 22 {
@@ -127,11 +136,11 @@ pub fn put_term(
             index,
             ..
         } => {
-            put_term(index, alloc, first, pieces, r)?;
+            put_term(index, alloc, target, first, pieces, r)?;
             put_element(alloc, pieces, first + *global as u32, *ty, r)?
         }
         Term::Unary { op, operand, .. } => {
-            put_term(operand, alloc, first, pieces, r)?;
+            put_term(operand, alloc, target, first, pieces, r)?;
             put_unary(alloc, pieces, r, *op)?
         }
         Term::Binary {
@@ -140,8 +149,8 @@ pub fn put_term(
             right,
             ..
         } => {
-            put_term(left, alloc, first, pieces, r)?;
-            let taken = truth_of(right, alloc, first, r)?;
+            put_term(left, alloc, target, first, pieces, r)?;
+            let taken = truth_of(right, alloc, target, first, r)?;
             put_choice(pieces, nonzero(r), taken, Sequence::new(alloc))?
         }
         Term::Binary {
@@ -150,8 +159,8 @@ pub fn put_term(
             right,
             ..
         } => {
-            put_term(left, alloc, first, pieces, r)?;
-            let other = truth_of(right, alloc, first, r)?;
+            put_term(left, alloc, target, first, pieces, r)?;
+            let other = truth_of(right, alloc, target, first, r)?;
             let taken = code_alone(alloc, &[op_imm(AluOp::Add, r, 0, 1)])?;
             put_choice(pieces, nonzero(r), taken, other)?
         }
@@ -162,9 +171,9 @@ pub fn put_term(
             right,
             ..
         } => {
-            put_term(left, alloc, first, pieces, r)?;
-            put_term(right, alloc, first, pieces, r + 1)?;
-            put_binary(alloc, pieces, *op, *kind, r, r + 1)?
+            put_term(left, alloc, target, first, pieces, r)?;
+            put_term(right, alloc, target, first, pieces, r + 1)?;
+            put_binary(alloc, pieces, target, *op, *kind, r, r + 1)?
         }
     }
     Ok(())

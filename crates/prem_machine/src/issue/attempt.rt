@@ -6,11 +6,11 @@ ghost use Rattle.prem_isa.specs.Plain.{next_input};
 ghost use Rattle.prem_isa.specs.Bounds.{OnDone};
 ghost use Rattle.prem_lru.specs.CacheState.{view_of};
 ghost use Rattle.prem_cycle.specs.Issue.{attempt_in, effect_in};
-ghost use Rattle.prem_machine.specs.Issue.Attempts.{CanIssue, IsReady, attempt_as};
+ghost use Rattle.prem_machine.specs.Issue.Attempts.{CanIssue, HasActed, IsReady, attempt_as, is_load};
 
 use crate::issue::task::Core;
 use prem_isa::{Cause, Decision, Effect, Instr, Outcome, decode, execute};
-use prem_lru::{Cache, Memory};
+use prem_lru::{Cache, Memory, Policy};
 
 /// What the next instruction comes to.
 #[derive(Clone, Copy, PartialEq, Eq, Debug)]
@@ -21,13 +21,20 @@ pub enum Attempt {
     Executes { instr: Instr, effect: Effect },
 }
 
+/// Whether an instruction takes a number from memory.
+fn is_load(instr: Instr) -> bool
+    ensures { result ≡ is_load instr }
+{
+    matches!(instr, Instr::Load { .. })
+}
+
 impl Core {
     /// What the task's next instruction comes to, on the bytes that the core sees. It touches nothing. The number that a
     /// load takes is read again behind its touches.
-    pub fn attempt(&self, cache: &Cache, mem: &Memory) -> Attempt
+    pub fn attempt<P: Policy>(&self, cache: &Cache<P>, mem: &Memory) -> Attempt
         requires { length mem.now ≡ cache.now.plant.memory }
         ensures outcome { attempt_as result
-            ≡ attempt_in cache.now.plant.memory (view_of cache.now mem.now) self.now }
+            ≡ attempt_in cache.now.plant.target cache.now.plant.memory (view_of cache.now mem.now) self.now }
         ensures ready { IsReady cache.now.plant.memory self.now.pc result }
     {
         let instr = match self.fetch(cache, mem) {
@@ -40,11 +47,34 @@ impl Core {
         }
     }
 
+    /// The effect of an instruction that stands at the program counter and had this effect before, with its register's
+    /// word as the core sees it now. Only that of a load may differ.
+    #[tactic(auto, using(crate::proofs::IssueLemmas::Acted::kept))]
+    pub(crate) fn effect_behind<P: Policy>(
+        &self,
+        cache: &Cache<P>,
+        mem: &Memory,
+        instr: Instr,
+        effect: Effect,
+    ) -> Effect
+        requires memory { length mem.now ≡ cache.now.plant.memory }
+        requires fits { Fits instr }
+        requires place { self.now.pc + 4 ≤ cache.now.plant.memory }
+        requires acted { HasActed cache.now.plant.target self.now instr effect }
+        ensures { result
+            ≡ effect_in cache.now.plant.target cache.now.plant.memory (view_of cache.now mem.now) self.now instr effect }
+    {
+        if is_load(instr) {
+            return self.effect_now(cache, mem, instr, effect);
+        }
+        effect
+    }
+
     /// The effect of an instruction that stands at the program counter, with its register's word as the core sees it
     /// now.
-    pub(crate) fn effect_now(
+    fn effect_now<P: Policy>(
         &self,
-        cache: &Cache,
+        cache: &Cache<P>,
         mem: &Memory,
         instr: Instr,
         effect: Effect,
@@ -53,7 +83,7 @@ impl Core {
         requires fits { Fits instr }
         requires place { self.now.pc + 4 ≤ cache.now.plant.memory }
         ensures { result
-            ≡ effect_in cache.now.plant.memory (view_of cache.now mem.now) self.now instr effect }
+            ≡ effect_in cache.now.plant.target cache.now.plant.memory (view_of cache.now mem.now) self.now instr effect }
     {
         let value = match self.outcome(cache, mem, instr) {
             Outcome::Trap(_) => effect.value,
@@ -63,7 +93,7 @@ impl Core {
     }
 
     /// The instruction whose word stands at the program counter, or why there is none.
-    fn fetch(&self, cache: &Cache, mem: &Memory) -> Result<Instr, Cause>
+    fn fetch<P: Policy>(&self, cache: &Cache<P>, mem: &Memory) -> Result<Instr, Cause>
         requires { length mem.now ≡ cache.now.plant.memory }
         ensures fetched { result ≡ fetch cache.now.plant.memory (view_of cache.now mem.now) self.now.pc }
         ensures found { IfOk result (λ i. Fits i × (self.now.pc + 4 ≤ cache.now.plant.memory)) }
@@ -80,18 +110,27 @@ impl Core {
     }
 
     /// What comes of an instruction that stands at the program counter.
-    fn outcome(&self, cache: &Cache, mem: &Memory, instr: Instr) -> Outcome
+    fn outcome<P: Policy>(&self, cache: &Cache<P>, mem: &Memory, instr: Instr) -> Outcome
         requires memory { length mem.now ≡ cache.now.plant.memory }
         requires fits { Fits instr }
         requires place { self.now.pc + 4 ≤ cache.now.plant.memory }
         ensures done { result
-            ≡ act cache.now.plant.memory (view_of cache.now mem.now) (slice_index self.now.registers)
+            ≡ act cache.now.plant.target cache.now.plant.memory (view_of cache.now mem.now) (slice_index self.now.registers)
             self.now.pc self.now.phase (next_input self.now.left) instr }
         ensures ready { OnDone (CanIssue cache.now.plant.memory self.now.pc) result }
     {
         let size = cache.plant().memory;
+        let target = cache.plant().target;
         let input = self.next_input();
-        match execute(size, &self.registers, self.pc, self.phase, input, instr) {
+        match execute(
+            target,
+            size,
+            &self.registers,
+            self.pc,
+            self.phase,
+            input,
+            instr,
+        ) {
             Decision::Trap(cause) => Outcome::Trap(cause),
             Decision::Known(effect) => Outcome::Done(effect),
             Decision::Pending(load) => {

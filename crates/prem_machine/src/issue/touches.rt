@@ -1,16 +1,16 @@
 // The lines that an instruction touches, and what that does to cache and memory.
 ghost use Rattle.std.specs.Prelude.{◌≡◌, ◌/◌, ◌<◌, true, List, length};
 ghost use Rattle.prem_isa.specs.Decode.{Fits};
-ghost use Rattle.prem_lru.specs.Entries.{to_front};
+ghost use Rattle.prem_lru.specs.Rules.{rule_of};
 ghost use Rattle.prem_lru.specs.CacheState.{IsCache, is_resident, touch_of};
 ghost use Rattle.prem_cycle.specs.State.{Task};
 ghost use Rattle.prem_cycle.specs.Issue.{effect_in, issued_with, line_touch, view_touched};
-ghost use Rattle.prem_machine.specs.Issue.Attempts.{CanIssue};
+ghost use Rattle.prem_machine.specs.Issue.Attempts.{CanIssue, HasActed};
 ghost use Rattle.prem_machine.specs.Issue.Touches.{line_touch_as};
 
 use crate::issue::task::Core;
 use prem_isa::{Effect, Instr};
-use prem_lru::{Cache, Memory};
+use prem_lru::{Cache, Memory, Policy};
 use std::marker::Model;
 
 /// A touch of a line: its number, whether it was resident, and whether another line was written back for it.
@@ -54,8 +54,8 @@ impl Touches {
 
 /// The next instruction of a task issues: the line of its fetch is touched, then that of its data, and then what it
 /// loads is read, and what it stores comes into the resident line. Gives its effect as it is behind the touches.
-pub fn touch_lines(
-    cache: &mut Cache,
+pub fn touch_lines<P: Policy>(
+    cache: &mut Cache<P>,
     mem: &mut Memory,
     core: &Core,
     instr: Instr,
@@ -64,16 +64,17 @@ pub fn touch_lines(
     requires memory { length mem.old ≡ cache.old.plant.memory }
     requires fits { Fits instr }
     requires ready { CanIssue cache.old.plant.memory core.now.pc effect }
+    requires acted { HasActed cache.old.plant.target core.now instr effect }
     ensures issued { (tasks : List Task)
-        → issued_with to_front cache.old.plant.line tasks effect.stored (core.now.pc / cache.old.plant.line)
-        (touch_of to_front cache.old (core.now.pc / cache.old.plant.line) mem.old) effect.access
+        → issued_with (rule_of cache.old.plant.policy) cache.old.plant.line tasks effect.stored (core.now.pc / cache.old.plant.line)
+        (touch_of (rule_of cache.old.plant.policy) cache.old (core.now.pc / cache.old.plant.line) mem.old) effect.access
         ≡ record {
           work = record { tasks = tasks; cache = cache.new; memory = mem.new };
           touches = result.0;
         } }
     ensures effect { result.1
-        ≡ effect_in cache.old.plant.memory
-        (view_touched to_front cache.old.plant.line cache.old mem.old core.now.pc effect.access) core.now instr effect }
+        ≡ effect_in cache.old.plant.target cache.old.plant.memory
+        (view_touched (rule_of cache.old.plant.policy) cache.old.plant.line cache.old mem.old core.now.pc effect.access) core.now instr effect }
     ensures plant { cache.new.plant ≡ cache.old.plant }
     ensures len { length mem.new ≡ length mem.old }
     ensures kept { IsCache cache.new }
@@ -88,19 +89,19 @@ pub fn touch_lines(
             Some(touch_line(cache, mem, line))
         }
     };
-    let effect = core.effect_now(cache, mem, instr, effect);
+    let effect = core.effect_behind(cache, mem, instr, effect);
     if let Some(stored) = effect.stored {
         cache.store(stored.address, stored.size as u8, stored.value);
     }
     (Touches { fetch, access }, effect)
 }
 
-fn touch_line(cache: &mut Cache, mem: &mut Memory, line: u32) -> LineTouch
+fn touch_line<P: Policy>(cache: &mut Cache<P>, mem: &mut Memory, line: u32) -> LineTouch
     requires memory { length mem.old ≡ cache.old.plant.memory }
     requires line { line < cache.old.plant.memory / cache.old.plant.line }
-    ensures cache { cache.new ≡ (touch_of to_front cache.old line mem.old).cache }
-    ensures memory { mem.new ≡ (touch_of to_front cache.old line mem.old).memory }
-    ensures touch { line_touch_as result ≡ line_touch line (touch_of to_front cache.old line mem.old) }
+    ensures cache { cache.new ≡ (touch_of (rule_of cache.old.plant.policy) cache.old line mem.old).cache }
+    ensures memory { mem.new ≡ (touch_of (rule_of cache.old.plant.policy) cache.old line mem.old).memory }
+    ensures touch { line_touch_as result ≡ line_touch line (touch_of (rule_of cache.old.plant.policy) cache.old line mem.old) }
     ensures resident { is_resident cache.new line ≡ true }
     ensures len { length mem.new ≡ length mem.old }
     ensures kept { IsCache cache.new }

@@ -11,7 +11,7 @@ use Rattle.prem_layout.specs.Footprint.{no_place}
 use Rattle.prem_layout.specs.Image.{greatest_end, task_record, device_records}
 use Rattle.prem_layout.proofs.TaskParts.{place_in}
 use Rattle.prem_place.specs.Placed.PlacedOf.{placed_of}
-use Rattle.prem_place.specs.declared.placed.task.PlacedTask.{PlacedTask}
+use Rattle.prem_place.specs.declared.placed.PlacedTask.{PlacedTask}
 use Rattle.prem_place.specs.BuildImage.Built.{count_of, total_of}
 use Rattle.prem_place.proofs.BuildImageLemmas.Ground.{greatest_more}
 

@@ -25,7 +25,7 @@ use Rattle.prem_layout.proofs.Areas.{areas_stand, each_placed, areas_same, areas
 use Rattle.prem_place.specs.declared.content.content.Block.{Block as BlockFound}
 use Rattle.prem_place.specs.Content.Blocks.{Words, block_of, EndsBy}
 use Rattle.prem_place.specs.Placed.PlacedOf.{coded_of, placed_of, routines_of}
-use Rattle.prem_place.specs.declared.placed.task.PlacedTask.{PlacedTask}
+use Rattle.prem_place.specs.declared.placed.PlacedTask.{PlacedTask}
 use Rattle.prem_place.specs.Imaging.Standing.{words_of, AllFit}
 use Rattle.prem_place.specs.BuildImage.Laid.{Ends, IsLaid}
 use Rattle.prem_place.specs.BuildImage.Built.{count_of, total_of, HasRanges, HaveBlocks, IsBuilt, task_names}

@@ -5,7 +5,7 @@ use Rattle.prem_layout.specs.Placed.{blocks_of}
 use Rattle.prem_layout.specs.Image.{with_blocks, with_globals, with_tasks}
 use Rattle.prem_place.specs.declared.content.content.Block.{Block}
 use Rattle.prem_place.specs.Placed.PlacedOf.{placed_of}
-use Rattle.prem_place.specs.declared.placed.task.PlacedTask.{PlacedTask}
+use Rattle.prem_place.specs.declared.placed.PlacedTask.{PlacedTask}
 use Rattle.prem_place.specs.Imaging.Standing.{Fits, AllFit}
 
 none_left : (end : ℕ) (tasks : List PlacedTask) (n : ℕ) → n < length tasks → AllFit end (drop n tasks) [] → ⊥

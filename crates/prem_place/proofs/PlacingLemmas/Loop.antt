@@ -7,7 +7,7 @@ use Rattle.prem_plant.specs.Places.{Extent}
 use Rattle.prem_layout.specs.Parts.{part_count}
 use Rattle.prem_layout.specs.Placed.{Coded, Placed, placed_at, placed_from, task_places}
 use Rattle.prem_place.specs.Placed.PlacedOf.{placed_of, IsPlacedTask}
-use Rattle.prem_place.specs.declared.placed.task.PlacedTask.{PlacedTask}
+use Rattle.prem_place.specs.declared.placed.PlacedTask.{PlacedTask}
 use Rattle.prem_place.specs.declared.placing.coded.CodedTask.{CodedTask}
 use Rattle.prem_place.specs.Placing.CodedOf.{coded_in, IsCodedTask, AreDefault}
 use Rattle.prem_place.specs.Placing.Standing.{TaskRises, TasksRise, stands_in}

@@ -30,7 +30,7 @@ use Rattle.prem_foot.specs.PlacesFrom.{places_in}
 use Rattle.prem_foot.proofs.PlacesAre.{places_are}
 use Rattle.prem_bounds.specs.TableOf.{listed}
 use Rattle.prem_place.specs.Placed.PlacedOf.{placed_of, routines_of, IsPlacedTask}
-use Rattle.prem_place.specs.declared.placed.task.PlacedTask.{PlacedTask}
+use Rattle.prem_place.specs.declared.placed.PlacedTask.{PlacedTask}
 use Rattle.prem_place.specs.declared.placing.coded.CodedTask.{CodedTask}
 use Rattle.prem_place.specs.Placing.CodedOf.{coded_in, IsCodedTask}
 use Rattle.prem_place.specs.Placing.Standing.{TaskRises, stands_in, IsStanding}
@@ -62,7 +62,7 @@ tree_few task h =
     }
 
 pub code_long : (task : CodedTask) → IsCodedTask task → length (coded_in task).code ≡ length (coded_in task).program.routines
-code_long task h = ap length h.code ∙ codes_counted (parts_of (coded_in task).program.routines) (coded_in task).program.routines
+code_long task h = ap length h.code ∙ codes_counted (parts_of h.target (coded_in task).program.routines) (coded_in task).program.routines
 
 module _ (p : Plant) (task : CodedTask) (places : List Extent) (plant : IsPlant p) (h : IsCodedTask task) (rises : TaskRises p (coded_in task) places) where
   abbrev c : Coded
@@ -72,7 +72,7 @@ module _ (p : Plant) (task : CodedTask) (places : List Extent) (plant : IsPlant 
   at = task_places c.program places
 
   standing : Stood p c places
-  standing = stood p c h.text h.bounds places plant h.same h.formed h.fits h.code rises
+  standing = stood h.target p c h.text h.bounds places plant h.same h.formed h.fits h.code rises
 
   at_is : (t : TaskPlaces) → t ≡ places_in task.program.now places → t ≡ at
   at_is t e = e ∙ places_are (slice_index task.turns.now) task.program.now places

@@ -4,6 +4,7 @@ use Rattle.std.specs.Prelude.{All, slice_index}
 use Rattle.std.specs.List.{AllByRecursion}
 use Rattle.std.proofs.lemmas.List.{length-map}
 use Rattle.std.proofs.lemmas.List.Elements.{All-nil, All-cons, recursion_from_All}
+use Rattle.prem_plant.specs.declared.plant.Target.{Target}
 use Rattle.prem_plant.specs.declared.plant.Plant.{Plant}
 use Rattle.prem_plant.specs.declared.layout.PartSize.{PartSize}
 use Rattle.prem_plant.specs.Ranges.{IsPlant}
@@ -17,13 +18,14 @@ use Rattle.prem_template.specs.Limits.{excess}
 use Rattle.prem_template.specs.Steps.{Parts}
 use Rattle.prem_template.specs.Parts.{parts_of, codes_of}
 use Rattle.prem_layout.specs.Plans.{Plan, plan_before, plans_from, plans_of}
-use Rattle.prem_layout.specs.Parts.{once, passes_of, part_count, task_parts, parts_from, area_parts}
+use Rattle.prem_layout.specs.Parts.{pass_count, passes_of, part_count, task_parts, parts_from, area_parts}
 use Rattle.prem_layout.specs.Footprint.{TaskPlaces}
 use Rattle.prem_layout.specs.Stubs.{stub_of}
 use Rattle.prem_layout.specs.Bounds.{start_code}
 use Rattle.prem_layout.specs.Placed as layout
 use Rattle.prem_layout.specs.Placed.{Coded, sized_of, placed_at, task_places}
 use Rattle.prem_layout.proofs.Lawful.{parts_may_be_placed}
+use Rattle.prem_layout.proofs.StubLaws.{passes_are_few}
 use Rattle.prem_foot.specs.PlacesOf.{IsPlanAt}
 use Rattle.prem_foot.proofs.Standing.{plans_stand}
 use Rattle.prem_fit_laws.specs.Whole.{HasWords, ProgramHasWords}
@@ -88,14 +90,14 @@ pub record Stood (p : Plant) (c : Coded) (places : List Extent) : Type 0 where
 abbrev made : Text → ℕ → ℕ → Resolved → List Pieces → Coded
 made name period jobs program code = record { name = name; period = period; jobs = jobs; program = program; code = code }
 
-made_stands : (p : Plant) (name : Text) (period jobs : ℕ) (text : ProgramText) (bounds : ℕ → ℕ) (places : List Extent) → IsPlant p → IsWellFormed text → excess (resolve bounds text) ≡ None →
-    TaskRises p (made name period jobs (resolve bounds text) (codes_of (parts_of (resolve bounds text).routines) (resolve bounds text).routines)) places →
-    Stood p (made name period jobs (resolve bounds text) (codes_of (parts_of (resolve bounds text).routines) (resolve bounds text).routines)) places
-made_stands p name period jobs text bounds places plant formed none rises =
+made_stands : (target : Target) (p : Plant) (name : Text) (period jobs : ℕ) (text : ProgramText) (bounds : ℕ → ℕ) (places : List Extent) → IsPlant p → IsWellFormed text → excess (resolve bounds text) ≡ None →
+    TaskRises p (made name period jobs (resolve bounds text) (codes_of (parts_of target (resolve bounds text).routines) (resolve bounds text).routines)) places →
+    Stood p (made name period jobs (resolve bounds text) (codes_of (parts_of target (resolve bounds text).routines) (resolve bounds text).routines)) places
+made_stands target p name period jobs text bounds places plant formed none rises =
     let q : Resolved = resolve bounds text in
-    let code : List Pieces = codes_of (parts_of q.routines) q.routines in
+    let code : List Pieces = codes_of (parts_of target q.routines) q.routines in
     let at : TaskPlaces = task_places q places in
-    let stubs : List Pieces = map (stub_of once p.line at) (plans_of q) in
+    let stubs : List Pieces = map (stub_of (passes_of p) p.line at) (plans_of q) in
     let starts : List ℕ = starts_of at in
     let line = plant.line in
     let memory = plant.memory in
@@ -104,16 +106,18 @@ made_stands p name period jobs text bounds places plant formed none rises =
     let plans = counted.plans in
     let globals = counted.globals in
     let job = has_its_job text bounds formed in
-    let long : length code ≡ length q.routines = codes_counted (parts_of q.routines) q.routines in
+    let long : length code ≡ length q.routines = codes_counted (parts_of target q.routines) q.routines in
     let small : p.memory ≤ 2 ^ 24 = omega (arith, memory.1) in
     let short : p.line < 2 ^ 11 = omega (arith, line.1) in
-    let st : Stands once p.line p.memory rises.number q code places = first_stands once p.line p.memory rises.least rises.number q code rises.others places long small rises.rise in
+    let least = passes_are_few p plant in
+    let few : pass_count (passes_of p) < 2 ^ 11 = omega (arith, least.1) in
+    let st : Stands (passes_of p) p.line p.memory rises.number q code places = first_stands (passes_of p) p.line p.memory rises.least rises.number q code rises.others places long small rises.rise in
     let sized : length (map size_of code) ≡ length q.routines = length-map code size_of ∙ long in
-    let words : ProgramHasWords q p.line at starts = programs_have_words text bounds p.line at starts formed none short st.addresses in
+    let words : ProgramHasWords target q (passes_of p) p.line at starts = programs_have_words target text bounds (passes_of p) p.line at starts formed none few short st.addresses in
     let one : List Pieces = start_code q.job ∷ [] in
     let within : EndWithin (slice_index starts) 0 (one ++ (code ++ stubs)) = subst (λ (f : ℕ → ℕ). EndWithin f 0 (one ++ (code ++ stubs))) (sym st.same) st.within in
     record {
-      plans = plans_stand once p.memory rises.number text bounds (map size_of code) places formed small sized st.parts;
+      plans = plans_stand (passes_of p) p.memory rises.number text bounds (map size_of code) places formed small sized st.parts;
       standing = record {
         fit = record {
           first_fit = (words.start, tt);
@@ -128,22 +132,22 @@ made_stands p name period jobs text bounds places plant formed none rises =
         plans = refl;
         aligned = aligned_all starts st.addresses.aligned;
         same = st.same;
-        parts = record { code = long; functions = refl; stubs = length-map (plans_of q) (stub_of once p.line at) };
+        parts = record { code = long; functions = refl; stubs = length-map (plans_of q) (stub_of (passes_of p) p.line at) };
         rises = st.rises;
         job = job.there;
         named = job.named;
       };
     }
 
-pub stood : (p : Plant) (c : Coded) (text : ProgramText) (bounds : ℕ → ℕ) (places : List Extent) → IsPlant p → c.program ≡ resolve bounds text → IsWellFormed text → excess c.program ≡ None →
-    c.code ≡ codes_of (parts_of c.program.routines) c.program.routines → TaskRises p c places → Stood p c places
-stood p c text bounds places plant same formed none code rises =
+pub stood : (target : Target) (p : Plant) (c : Coded) (text : ProgramText) (bounds : ℕ → ℕ) (places : List Extent) → IsPlant p → c.program ≡ resolve bounds text → IsWellFormed text → excess c.program ≡ None →
+    c.code ≡ codes_of (parts_of target c.program.routines) c.program.routines → TaskRises p c places → Stood p c places
+stood target p c text bounds places plant same formed none code rises =
     let q : Resolved = resolve bounds text in
-    let code' : c.code ≡ codes_of (parts_of q.routines) q.routines = code ∙ ap (λ (r : Resolved). codes_of (parts_of r.routines) r.routines) same in
-    let is : c ≡ made c.name c.period c.jobs q (codes_of (parts_of q.routines) q.routines) = ap (λ (r : Resolved). made c.name c.period c.jobs r c.code) same ∙ ap (made c.name c.period c.jobs q) code' in
+    let code' : c.code ≡ codes_of (parts_of target q.routines) q.routines = code ∙ ap (λ (r : Resolved). codes_of (parts_of target r.routines) r.routines) same in
+    let is : c ≡ made c.name c.period c.jobs q (codes_of (parts_of target q.routines) q.routines) = ap (λ (r : Resolved). made c.name c.period c.jobs r c.code) same ∙ ap (made c.name c.period c.jobs q) code' in
     let none' : excess q ≡ None = ap excess (sym same) ∙ none in
     subst (λ (d : Coded). Stood p d places) (sym is)
-    (made_stands p c.name c.period c.jobs text bounds places plant formed none' (subst (λ (d : Coded). TaskRises p d places) is rises))
+    (made_stands target p c.name c.period c.jobs text bounds places plant formed none' (subst (λ (d : Coded). TaskRises p d places) is rises))
 
 -- ---- all tasks
 

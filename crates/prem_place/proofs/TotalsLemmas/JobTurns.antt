@@ -7,7 +7,7 @@ use Rattle.prem_layout.specs.Bounds.{JobBound, last_release, work_of, limit_of}
 use Rattle.prem_layout.specs.Facts.{job_fact}
 use Rattle.prem_place.specs.Totals.Limits.{HasJobs, IsBound, jobs_with}
 use Rattle.prem_place.specs.Placed.PlacedOf.{placed_of}
-use Rattle.prem_place.specs.declared.placed.task.PlacedTask.{PlacedTask}
+use Rattle.prem_place.specs.declared.placed.PlacedTask.{PlacedTask}
 
 pub jobs_at : (tasks : List PlacedTask) (n : ℕ) (t : PlacedTask) → AllByRecursion HasJobs tasks → n < length tasks → t ≡ get_or tasks n t → t.jobs ≤ 65535
 jobs_at [] n t h lt is = absurd (omega arith)

@@ -9,7 +9,7 @@ use Rattle.prem_layout.specs.Rules.{total_of}
 use Rattle.prem_bounds.specs.Counts.Count.{clipped}
 use Rattle.prem_bounds.proofs.CountsLemmas.Below.{clipped_product}
 use Rattle.prem_place.specs.Placed.PlacedOf.{coded_of}
-use Rattle.prem_place.specs.declared.placed.task.PlacedTask.{PlacedTask}
+use Rattle.prem_place.specs.declared.placed.PlacedTask.{PlacedTask}
 
 sum_of : (sum one whole rest left : ℕ) → sum ≡ clipped (whole + one) → one ≡ clipped rest → clipped (sum + left) ≡ clipped (whole + (rest + left))
 sum_of sum one whole rest left e f = omega (arith, e, f)

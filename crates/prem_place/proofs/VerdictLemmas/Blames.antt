@@ -5,7 +5,7 @@ use Rattle.prem_layout.specs.Placed.{Placed, name_at}
 use Rattle.prem_layout.specs.Rules.{LateRule, Refusal, first_among}
 use Rattle.prem_place.specs.Placed.PlacedOf.{coded_of, placed_of, routines_of}
 use Rattle.prem_place.specs.Verdict.Told.{HasFunction, function_in, rule_of, refusal_of}
-use Rattle.prem_place.specs.declared.placed.task.PlacedTask.{PlacedTask}
+use Rattle.prem_place.specs.declared.placed.PlacedTask.{PlacedTask}
 use Rattle.prem_place.specs.declared.verdict.verdict.Verdict.{Verdict}
 use Rattle.prem_place.proofs.VerdictLemmas.Names.{tasks_long, routines_at, plain_long}
 use Rattle.prem_place.proofs.VerdictLemmas.Stages.{stops_at}

@@ -22,7 +22,7 @@ use Rattle.prem_bounds.proofs.FactsLemmas.LargeLaw.{large_is_first}
 use Rattle.prem_place.specs.Placed.PlacedOf.{coded_of, plans_of, placed_of, routines_of, IsPlacedTask}
 use Rattle.prem_place.specs.Verdict.Told.{is_small, large_in, with_task, numbered, bounds_of, told_of, told_from, BoundsTold, refusal_of, HasFunction}
 use Rattle.prem_place.specs.declared.verdict.verdict.Verdict.TheVariants.{Length as LengthOf}
-use Rattle.prem_place.specs.declared.placed.task.PlacedTask.{PlacedTask}
+use Rattle.prem_place.specs.declared.placed.PlacedTask.{PlacedTask}
 use Rattle.prem_place.specs.declared.verdict.told.TaskBounds.{TaskBounds}
 use Rattle.prem_place.proofs.VerdictLemmas.Marks.{mark_count, plans_counted, marks_are}
 use Rattle.prem_place.proofs.VerdictLemmas.Large.{none_large, job_small, all_small}

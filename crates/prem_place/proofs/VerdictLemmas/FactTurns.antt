@@ -15,7 +15,7 @@ use Rattle.prem_bounds.specs.Facts.Laws.{is_large}
 use Rattle.prem_bounds.specs.declared.facts.facts.IntervalFact.{IntervalFact as FactFound}
 use Rattle.prem_place.specs.Placed.PlacedOf.{placed_of, lines_of}
 use Rattle.prem_place.specs.Verdict.Told.{is_small, with_task, numbered}
-use Rattle.prem_place.specs.declared.placed.task.PlacedTask.{PlacedTask}
+use Rattle.prem_place.specs.declared.placed.PlacedTask.{PlacedTask}
 use Rattle.prem_place.proofs.VerdictLemmas.Stages.{item_of_map}
 use Rattle.prem_place.proofs.VerdictLemmas.Turns.{facts_more, small_is, large_is}
 

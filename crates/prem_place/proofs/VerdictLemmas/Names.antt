@@ -8,7 +8,7 @@ use Rattle.prem_tree.specs.Resolve.ResolvedOf.{loops_of, routines_of as plain_ro
 use Rattle.prem_layout.specs.Placed.{name_at}
 use Rattle.prem_place.specs.Placed.PlacedOf.{placed_of, routines_of}
 use Rattle.prem_place.specs.Verdict.Told.{routines_in, name_in, HasFunction}
-use Rattle.prem_place.specs.declared.placed.task.PlacedTask.{PlacedTask}
+use Rattle.prem_place.specs.declared.placed.PlacedTask.{PlacedTask}
 
 pub tasks_long : (tasks : List PlacedTask) → length (map placed_of tasks) ≡ length tasks
 tasks_long [] = refl

@@ -5,7 +5,7 @@ use Rattle.std.proofs.lemmas.List.{at_drop_more}
 use Rattle.prem_layout.specs.Placed.{Placed}
 use Rattle.prem_layout.specs.Rules.{LateRule, Refusal, or_else, refused_by, first_among}
 use Rattle.prem_place.specs.Placed.PlacedOf.{placed_of}
-use Rattle.prem_place.specs.declared.placed.task.PlacedTask.{PlacedTask}
+use Rattle.prem_place.specs.declared.placed.PlacedTask.{PlacedTask}
 
 step_is : (check : Placed → Option LateRule) (tasks : List PlacedTask) (n : ℕ) (t : PlacedTask) → n < length tasks → t ≡ get_or tasks n t →
     first_among check n (map placed_of (drop n tasks)) ≡ or_else (refused_by (Some n) (check (placed_of t))) (first_among check (n + 1) (map placed_of (drop (n + 1) tasks)))

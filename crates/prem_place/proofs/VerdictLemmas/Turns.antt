@@ -17,7 +17,7 @@ use Rattle.prem_bounds.specs.Facts.Laws.{is_large}
 use Rattle.prem_bounds.specs.declared.facts.lines.Clash.{Clash as ClashFound}
 use Rattle.prem_bounds.proofs.FactsLemmas.FirstLaws.{clash_is_first}
 use Rattle.prem_place.specs.Placed.PlacedOf.{coded_of, plans_of, placed_of, routines_of, IsPlacedTask, lines_of}
-use Rattle.prem_place.specs.declared.placed.task.PlacedTask.{PlacedTask}
+use Rattle.prem_place.specs.declared.placed.PlacedTask.{PlacedTask}
 use Rattle.prem_place.proofs.VerdictLemmas.Marks.{plans_below}
 use Rattle.prem_place.proofs.VerdictLemmas.Names.{plain_long}
 use Rattle.prem_place.proofs.VerdictLemmas.Stages.{mapped_long}

@@ -7,7 +7,7 @@ use Rattle.prem_list.specs.Sequence.{items_of}
 use Rattle.prem_split.specs.declared.plan.IntervalPlan.{IntervalPlan}
 use Rattle.prem_split.specs.PlanOf.{plan_of as plan_in}
 use Rattle.prem_place.specs.Placed.PlacedOf.{placed_of, routines_of}
-use Rattle.prem_place.specs.declared.placed.task.PlacedTask.{PlacedTask}
+use Rattle.prem_place.specs.declared.placed.PlacedTask.{PlacedTask}
 use Rattle.prem_place.proofs.VerdictLemmas.Names.{plain_long}
 use Rattle.prem_syntax.specs.Syntax.{Text, MarkText}
 use Rattle.prem_meaning.specs.Resolved.{Routine, Resolved}

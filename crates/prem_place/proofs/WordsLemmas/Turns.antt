@@ -6,7 +6,7 @@ use Rattle.prem_place.specs.Content.Blocks.{Words}
 use Rattle.prem_layout.specs.Placed.{name_at}
 use Rattle.prem_layout.specs.Rules.{Reach, first_among, group_six, over_tasks}
 use Rattle.prem_place.specs.Placed.PlacedOf.{placed_of}
-use Rattle.prem_place.specs.declared.placed.task.PlacedTask.{PlacedTask}
+use Rattle.prem_place.specs.declared.placed.PlacedTask.{PlacedTask}
 use Rattle.prem_place.specs.Verdict.Told.{routines_in, name_in}
 use Rattle.prem_place.proofs.VerdictLemmas.Names.{tasks_long, routines_at}
 use Rattle.prem_place.proofs.VerdictLemmas.Stages.{stops_at}

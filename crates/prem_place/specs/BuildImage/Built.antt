@@ -10,7 +10,7 @@ use Rattle.prem_plant.specs.Ranges.{Between, IsPlant, IsDevice}
 use Rattle.prem_layout.specs.Placed.{parts_of, placed_from}
 use Rattle.prem_place.specs.declared.content.content.Block.{Block}
 use Rattle.prem_place.specs.Placed.PlacedOf.{coded_of, placed_of, routines_of}
-use Rattle.prem_place.specs.declared.placed.task.PlacedTask.{PlacedTask}
+use Rattle.prem_place.specs.declared.placed.PlacedTask.{PlacedTask}
 use Rattle.prem_place.specs.Imaging.Standing.{HasBlocks}
 
 -- how many parts a task in memory has

@@ -6,7 +6,7 @@ use Rattle.prem_layout.specs.Placed.{Block, blocks_of}
 use Rattle.prem_place.specs.Content.Blocks.{Words, block_of, EndsBy, HasGlobals}
 use Rattle.prem_place.specs.declared.content.content.Block.{Block as BlockFound}
 use Rattle.prem_place.specs.Placed.PlacedOf.{placed_of}
-use Rattle.prem_place.specs.declared.placed.task.PlacedTask.{PlacedTask}
+use Rattle.prem_place.specs.declared.placed.PlacedTask.{PlacedTask}
 
 -- the words of code at its place
 abbrev pub words_of : Block → Words

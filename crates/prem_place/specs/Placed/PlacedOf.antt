@@ -11,7 +11,7 @@ use Rattle.prem_layout.specs.Placed.{Coded, Placed, placed_at}
 use Rattle.prem_split.specs.PlanOf.{plan_of}
 use Rattle.prem_foot.specs.PlacesOf.{IsPlanAt}
 use Rattle.prem_bounds.specs.TableOf.{IsTable, listed, table_of}
-use Rattle.prem_place.specs.declared.placed.task.PlacedTask.{PlacedTask}
+use Rattle.prem_place.specs.declared.placed.PlacedTask.{PlacedTask}
 
 abbrev pub coded_of : PlacedTask → Coded
 coded_of t = record {

@@ -1,5 +1,6 @@
 -- What tasks with code in memory stand for, and what has to hold of them.
 use Rattle.std.specs.Prelude.{◌≡◌, ◌≤◌, ℕ, None, List, map, slice_index}
+use Rattle.prem_plant.specs.declared.plant.Target.{Target}
 use Rattle.prem_list.specs.Sequence.{items_of}
 use Rattle.prem_plant.specs.declared.plant.Plant.{Plant}
 use Rattle.prem_plant.specs.declared.plant.Device.{Device}
@@ -25,15 +26,16 @@ coded_in t = record {
   code = listed (items_of t.code);
 }
 
--- its program is well-formed, exceeds neither registers nor frames, and has these plans and this code
+-- its program is well-formed, exceeds neither registers nor frames, and has these plans and this code for some target
 pub record IsCodedTask (t : CodedTask) : Type 0 where
+  pub target : Target
   pub text : ProgramText
   pub bounds : ℕ → ℕ
   pub same : (coded_in t).program ≡ resolve bounds text
   pub formed : IsWellFormed text
   pub fits : excess (coded_in t).program ≡ None
   pub plans : map plan_of (items_of t.plans) ≡ plans_of (coded_in t).program
-  pub code : (coded_in t).code ≡ template.codes_of (template.parts_of (coded_in t).program.routines) (coded_in t).program.routines
+  pub code : (coded_in t).code ≡ template.codes_of (template.parts_of target (coded_in t).program.routines) (coded_in t).program.routines
 
 -- places are the default ones of all parts, within memory
 pub record AreDefault (p : Plant) (tasks : List Coded) (places : List Extent) : Type 0 where

@@ -12,7 +12,7 @@ use Rattle.prem_place.specs.Flat.Flat.{AreFit}
 use Rattle.prem_place.specs.Flat.Blocks.{start_at, parts_in, RisesFrom, HasParts}
 use Rattle.prem_place.specs.Stand.Rising.{Rise, starts_of}
 use Rattle.prem_place.specs.Placed.PlacedOf.{placed_of}
-use Rattle.prem_place.specs.declared.placed.task.PlacedTask.{PlacedTask}
+use Rattle.prem_place.specs.declared.placed.PlacedTask.{PlacedTask}
 
 -- the parts of a task rise, and others behind them
 pub record TaskRises (p : Plant) (c : Coded) (places : List Extent) : Type 0 where

@@ -1,7 +1,7 @@
 -- The bounds of the jobs of tasks in memory.
 use Rattle.std.specs.Prelude.{ℕ, ◌≤◌, ◌^◌, List, [], ◌∷◌}
 use Rattle.prem_layout.specs.Bounds.{JobBound}
-use Rattle.prem_place.specs.declared.placed.task.PlacedTask.{PlacedTask}
+use Rattle.prem_place.specs.declared.placed.PlacedTask.{PlacedTask}
 
 -- as many jobs as a set may state
 abbrev pub HasJobs : PlacedTask → Type 0

@@ -7,11 +7,11 @@ use Rattle.prem_place.specs.Flat.Blocks.{names_in, words_of}
 use Rattle.prem_place.specs.declared.flat.flat.FlatFail.{FlatFail}
 use Rattle.prem_place.specs.declared.flat.flat.FlatFail.TheVariants as flat
 use Rattle.prem_place.specs.Placed.PlacedOf.{placed_of}
-use Rattle.prem_place.specs.declared.placed.task.PlacedTask.{PlacedTask}
+use Rattle.prem_place.specs.declared.placed.PlacedTask.{PlacedTask}
 use Rattle.prem_place.specs.Verdict.Told.{name_in, HasFunction}
-use Rattle.prem_place.specs.declared.words.words.FarJump.{FarJump}
-use Rattle.prem_place.specs.declared.words.words.WordsFail.{WordsFail}
-use Rattle.prem_place.specs.declared.words.words.WordsFail.TheVariants.{Far, OutOfMemory}
+use Rattle.prem_place.specs.declared.words.FarJump.{FarJump}
+use Rattle.prem_place.specs.declared.words.WordsFail.{WordsFail}
+use Rattle.prem_place.specs.declared.words.WordsFail.TheVariants.{Far, OutOfMemory}
 
 -- the first part of a task that has a jump out of reach
 pub record FarPart (t : Placed) (part : ℕ) : Type 0 where

@@ -5,6 +5,7 @@ use Rattle.std.proofs.lemmas.List.{length-map}
 use Rattle.std.proofs.lemmas.List.Elements.{All-from_recursion, recursion_from_All}
 use Rattle.prem_list.specs.declared.Sequence.{Sequence}
 use Rattle.prem_list.specs.Sequence.{items_of}
+use Rattle.prem_plant.specs.declared.plant.Plant.{Plant}
 use Rattle.prem_plant.specs.declared.plant.Device.{Device}
 use Rattle.prem_plant.specs.declared.layout.PartKind.TheVariants.{Stack}
 use Rattle.prem_plant.specs.declared.layout.PartSize.{PartSize}
@@ -17,7 +18,7 @@ use Rattle.prem_asm.specs.Pieces.{Pieces, size_of}
 use Rattle.prem_asm.specs.PiecesOf.{pieces_of}
 use Rattle.prem_template.specs.Frames.{stack_size}
 use Rattle.prem_layout.specs.Plans.{Plan}
-use Rattle.prem_layout.specs.Parts.{once, part, code_parts, stub_parts, global_parts, task_parts, parts_from, area_parts}
+use Rattle.prem_layout.specs.Parts.{Passes, passes_of, part, code_parts, stub_parts, global_parts, task_parts, parts_from, area_parts}
 use Rattle.prem_layout.specs.Placed.{Coded, sized_of}
 use Rattle.prem_layout.proofs.Lawful.{whole_areas, areas_may, code_may, globals_may, all_aligned, may_append, AllMay}
 use Rattle.prem_layout.proofs.TaskParts.{code_counted, globals_counted, areas_counted}
@@ -34,41 +35,41 @@ sizes_are : (code : List (Sequence Piece)) → sizes_of code ≡ map size_of (co
 sizes_are [] = refl
 sizes_are (s ∷ ss) = ap (λ ns. size_of (pieces_of (items_of s)) ∷ ns) (sizes_are ss)
 
-task_same : (n : ℕ) (t : SizedTask) (c : Coded) → IsSized t c → sized_parts n t ≡ task_parts once n (map size_of c.code) c.program
-task_same n t c is =
+task_same : (passes : Passes) (n : ℕ) (t : SizedTask) (c : Coded) → IsSized t c → sized_parts passes n t ≡ task_parts passes n (map size_of c.code) c.program
+task_same passes n t c is =
     let sizes : sizes_of t.code.now ≡ map size_of c.code = sizes_are t.code.now ∙ ap (λ (pss : List Pieces). map size_of pss) is.code in
     let globals : globals_in t.program.now ≡ c.program.globals = ap (λ (q : Resolved). q.globals) is.program in
     let stack : stack_in t.program.now ≡ stack_size c.program = stacks_are_exact is.turns t.program.now ∙ ap stack_size is.program in
-    λ i. parts_with once n (sizes i) (is.plans i) (globals i) (stack i)
+    λ i. parts_with passes n (sizes i) (is.plans i) (globals i) (stack i)
 
-tasks_same : (n : ℕ) (ts : List SizedTask) (cs : List Coded) → AreSized ts cs → sized_from n ts ≡ parts_from once n (map sized_of cs)
-tasks_same n [] [] h = refl
-tasks_same n [] (c ∷ cs) h = absurd h
-tasks_same n (t ∷ ts) [] h = absurd h
-tasks_same n (t ∷ ts) (c ∷ cs) h =
-    ap (λ (ps : List PartSize). ps ++ sized_from (n + 1) ts) (task_same n t c h.0)
-    ∙ ap (λ (ps : List PartSize). task_parts once n (map size_of c.code) c.program ++ ps) (tasks_same (n + 1) ts cs h.1)
+tasks_same : (passes : Passes) (n : ℕ) (ts : List SizedTask) (cs : List Coded) → AreSized ts cs → sized_from passes n ts ≡ parts_from passes n (map sized_of cs)
+tasks_same passes n [] [] h = refl
+tasks_same passes n [] (c ∷ cs) h = absurd h
+tasks_same passes n (t ∷ ts) [] h = absurd h
+tasks_same passes n (t ∷ ts) (c ∷ cs) h =
+    ap (λ (ps : List PartSize). ps ++ sized_from passes (n + 1) ts) (task_same passes n t c h.0)
+    ∙ ap (λ (ps : List PartSize). task_parts passes n (map size_of c.code) c.program ++ ps) (tasks_same passes (n + 1) ts cs h.1)
 
 pub parts_are_exact : PartsAreExact
-parts_are_exact p devices tasks coded h = ap (λ (ps : List PartSize). ps ++ area_parts p.line 0 devices) (tasks_same 0 tasks coded h)
+parts_are_exact p devices tasks coded h = ap (λ (ps : List PartSize). ps ++ area_parts p.line 0 devices) (tasks_same (passes_of p) 0 tasks coded h)
 
 -- ---- few parts
 
-many_stubs : (task : ℕ) (plans : List Plan) → length (stub_parts once task plans) ≡ length plans
-many_stubs task [] = refl
-many_stubs task (plan ∷ plans) = ap suc (many_stubs task plans)
+many_stubs : (passes : Passes) (task : ℕ) (plans : List Plan) → length (stub_parts passes task plans) ≡ length plans
+many_stubs passes task [] = refl
+many_stubs passes task (plan ∷ plans) = ap suc (many_stubs passes task plans)
 
-many_with : (n : ℕ) (sizes : List ℕ) (plans : List Plan) (globals : List GlobalVariable) (stack : ℕ) → length (parts_with once n sizes plans globals stack) ≡ 2 + length sizes + length plans + length globals
-many_with n sizes plans globals stack =
+many_with : (passes : Passes) (n : ℕ) (sizes : List ℕ) (plans : List Plan) (globals : List GlobalVariable) (stack : ℕ) → length (parts_with passes n sizes plans globals stack) ≡ 2 + length sizes + length plans + length globals
+many_with passes n sizes plans globals stack =
     let codes : List PartSize = code_parts n 0 sizes in
-    let stubs : List PartSize = stub_parts once n plans in
+    let stubs : List PartSize = stub_parts passes n plans in
     let gs : List PartSize = global_parts n 0 globals in
     let last : List PartSize = part n Stack stack 16 ∷ [] in
-    omega (arith, length-append codes (stubs ++ (gs ++ last)), length-append stubs (gs ++ last), length-append gs last, code_counted n 0 sizes, many_stubs n plans, globals_counted n 0 globals)
+    omega (arith, length-append codes (stubs ++ (gs ++ last)), length-append stubs (gs ++ last), length-append gs last, code_counted n 0 sizes, many_stubs passes n plans, globals_counted n 0 globals)
 
-few_of : (n : ℕ) (t : SizedTask) → MayHaveParts t → length (sized_parts n t) ≤ 1026
-few_of n t may =
-    let all = many_with n (sizes_of t.code.now) (map plan_of t.plans.now) (globals_in t.program.now) (stack_in t.program.now) in
+few_of : (passes : Passes) (n : ℕ) (t : SizedTask) → MayHaveParts t → length (sized_parts passes n t) ≤ 1026
+few_of passes n t may =
+    let all = many_with passes n (sizes_of t.code.now) (map plan_of t.plans.now) (globals_in t.program.now) (stack_in t.program.now) in
     let codes : length (sizes_of t.code.now) ≡ length t.code.now = length-map t.code.now _ in
     let plans : length (map plan_of t.plans.now) ≡ length t.plans.now = length-map t.plans.now plan_of in
     let globals : length (globals_in t.program.now) ≡ length t.program.now.globals.items = length-map t.program.now.globals.items (λ g. global_of g.now) in
@@ -77,38 +78,40 @@ few_of n t may =
     let c = may.program.globals in
     omega (arith, all, codes, plans, globals, a, b, c)
 
-few_from : (n : ℕ) (ts : List SizedTask) → AllByRecursion MayHaveParts ts → length (sized_from n ts) ≤ 1026 * length ts
-few_from n [] h = omega arith
-few_from n (t ∷ ts) h = omega (arith, length-append (sized_parts n t) (sized_from (n + 1) ts), few_of n t h.0, few_from (n + 1) ts h.1)
+few_from : (passes : Passes) (n : ℕ) (ts : List SizedTask) → AllByRecursion MayHaveParts ts → length (sized_from passes n ts) ≤ 1026 * length ts
+few_from passes n [] h = omega arith
+few_from passes n (t ∷ ts) h =
+    omega (arith, length-append (sized_parts passes n t) (sized_from passes (n + 1) ts), few_of passes n t h.0, few_from passes (n + 1) ts h.1)
 
 -- ---- they may be placed
 
-stubs_may : (line task : ℕ) (plans : List Plan) → AllMay line (stub_parts once task plans)
-stubs_may line task [] = tt
-stubs_may line task (plan ∷ plans) = (record { aligned = omega arith; whole = λ area. absurd area }, stubs_may line task plans)
+stubs_may : (passes : Passes) (line task : ℕ) (plans : List Plan) → AllMay line (stub_parts passes task plans)
+stubs_may passes line task [] = tt
+stubs_may passes line task (plan ∷ plans) = (record { aligned = omega arith; whole = λ area. absurd area }, stubs_may passes line task plans)
 
-task_may : (line n : ℕ) (sizes : List ℕ) (plans : List Plan) (globals : List GlobalVariable) (stack : ℕ) → AllMay line (parts_with once n sizes plans globals stack)
-task_may line n sizes plans globals stack = (
+task_may : (passes : Passes) (line n : ℕ) (sizes : List ℕ) (plans : List Plan) (globals : List GlobalVariable) (stack : ℕ) → AllMay line (parts_with passes n sizes plans globals stack)
+task_may passes line n sizes plans globals stack = (
   record { aligned = omega arith; whole = λ area. absurd area },
   may_append line (code_parts n 0 sizes) _ (code_may line n 0 sizes)
-      (may_append line (stub_parts once n plans) _ (stubs_may line n plans)
+      (may_append line (stub_parts passes n plans) _ (stubs_may passes line n plans)
       (may_append line (global_parts n 0 globals) _ (globals_may line n 0 globals) (record { aligned = omega arith; whole = λ area. absurd area }, tt))),
 )
 
-tasks_may : (line n : ℕ) (ts : List SizedTask) → AllMay line (sized_from n ts)
-tasks_may line n [] = tt
-tasks_may line n (t ∷ ts) =
-    may_append line (sized_parts n t) _ (task_may line n (sizes_of t.code.now) (map plan_of t.plans.now) (globals_in t.program.now) (stack_in t.program.now)) (tasks_may line (n + 1) ts)
+tasks_may : (passes : Passes) (line n : ℕ) (ts : List SizedTask) → AllMay line (sized_from passes n ts)
+tasks_may passes line n [] = tt
+tasks_may passes line n (t ∷ ts) =
+    may_append line (sized_parts passes n t) _ (task_may passes line n (sizes_of t.code.now) (map plan_of t.plans.now) (globals_in t.program.now) (stack_in t.program.now)) (tasks_may passes line (n + 1) ts)
 
-pub parts_may_have_places : (line : ℕ) (devices : List Device) (tasks : List SizedTask) → 1 ≤ line → AllByRecursion MayHaveParts tasks → length tasks ≤ 16 → length devices ≤ 8 →
-    MayHavePlaces line (parts_in line devices tasks)
-parts_may_have_places line devices tasks pos may few_tasks few_devices =
-    let all = may_append line (sized_from 0 tasks) (area_parts line 0 devices) (tasks_may line 0 tasks) (areas_may line 0 devices pos) in
-    let long = length-append (sized_from 0 tasks) (area_parts line 0 devices) in
+pub parts_may_have_places : (p : Plant) (devices : List Device) (tasks : List SizedTask) → 1 ≤ p.line → AllByRecursion MayHaveParts tasks → length tasks ≤ 16 → length devices ≤ 8 →
+    MayHavePlaces p.line (parts_in p devices tasks)
+parts_may_have_places p devices tasks pos may few_tasks few_devices =
+    let passes = passes_of p in
+    let all = may_append p.line (sized_from passes 0 tasks) (area_parts p.line 0 devices) (tasks_may passes p.line 0 tasks) (areas_may p.line 0 devices pos) in
+    let long = length-append (sized_from passes 0 tasks) (area_parts p.line 0 devices) in
     record {
-      aligned = All-from_recursion _ _ (all_aligned line (parts_in line devices tasks) all);
-      whole = whole_areas line (parts_in line devices tasks) all;
-      few = omega (arith, long, few_from 0 tasks may, areas_counted line 0 devices);
+      aligned = All-from_recursion _ _ (all_aligned p.line (parts_in p devices tasks) all);
+      whole = whole_areas p.line (parts_in p devices tasks) all;
+      few = omega (arith, long, few_from passes 0 tasks may, areas_counted p.line 0 devices);
     }
 
 pub few_lines : (devices : List Device) → All IsDevice devices → AllByRecursion (λ d. d.lines ≤ 1024) devices

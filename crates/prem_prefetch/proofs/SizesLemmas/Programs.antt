@@ -153,7 +153,7 @@ tasks_may_have_parts t c p is code =
     let few = limits.functions in
     let few_there : length c.program.routines ≤ 256 = omega (arith, functions, few) in
     let codes : length t.code.now ≡ length c.program.routines =
-    sym (length-map t.code.now (λ s. pieces_of (items_of s))) ∙ ap length (is.code ∙ code.code) ∙ as_many_codes (code_parts_of c.program.routines) c.program.routines in
+    sym (length-map t.code.now (λ s. pieces_of (items_of s))) ∙ ap length (is.code ∙ code.code) ∙ as_many_codes (code_parts_of code.target c.program.routines) c.program.routines in
     let plans : length t.plans.now ≡ length (plans_of c.program) = sym (length-map t.plans.now plan_of) ∙ ap length is.plans in
     let marked : AllByRecursion HasFewMarked c.program.routines =
     subst (λ (q : Resolved). AllByRecursion HasFewMarked q.routines) (sym code.program) (few_marked (functions_of p) code.turns 0 [] p limits.regions) in

@@ -2,6 +2,7 @@
 use Rattle.std.proofs.Common.{◌<◌, ◌^◌, refl, arith}
 use Rattle.std.specs.Prelude.{codes, slice_index}
 use Rattle.std.proofs.lemmas.List.Elements.{All-from_recursion}
+use Rattle.prem_plant.specs.declared.plant.Target.TheVariants.{Rv32i}
 use Rattle.prem_meaning.specs.GroupTwo.{group_two, IsWellFormed}
 use Rattle.prem_asm.specs.Pieces.{size_of}
 use Rattle.prem_layout.specs.Placed.{Coded}
@@ -20,6 +21,7 @@ m_formed = refl
 m_is_code : IsCodeOf m_text task_m
 m_is_code =
     record {
+      target = Rv32i;
       turns = slice_index m_turns;
       formed = m_formed;
       program = refl;

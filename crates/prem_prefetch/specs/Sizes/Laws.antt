@@ -31,4 +31,4 @@ SetsMayHaveParts =
 
 -- the parts of tasks in memory are those of the tasks for which they stand
 abbrev pub PartsAreExact : Type 0
-PartsAreExact = (p : Plant) (devices : List Device) (tasks : List SizedTask) (coded : List Coded) → AreSized tasks coded → parts_in p.line devices tasks ≡ parts_of p devices coded
+PartsAreExact = (p : Plant) (devices : List Device) (tasks : List SizedTask) (coded : List Coded) → AreSized tasks coded → parts_in p devices tasks ≡ parts_of p devices coded

@@ -1,8 +1,10 @@
 -- Tasks from what the compiler knows of them before their parts have places, and the parts of a set.
 use Rattle.std.specs.Prelude.{◌≡◌, ◌<◌, ◌≤◌, ⊤, ℕ, ◌+◌, ◌^◌, All, List, [], ◌∷◌, ◌++◌, length, map, None}
 use Rattle.std.specs.List.{AllByRecursion}
+use Rattle.prem_plant.specs.declared.plant.Target.{Target}
 use Rattle.prem_list.specs.declared.Sequence.{Sequence}
 use Rattle.prem_list.specs.Sequence.{items_of}
+use Rattle.prem_plant.specs.declared.plant.Plant.{Plant}
 use Rattle.prem_plant.specs.declared.plant.Device.{Device}
 use Rattle.prem_plant.specs.declared.layout.PartSize.{PartSize}
 use Rattle.prem_plant.specs.Places.{HasWholeAreas}
@@ -18,7 +20,7 @@ use Rattle.prem_asm.specs.PiecesOf.{pieces_of}
 use Rattle.prem_template.specs.Limits.{excess}
 use Rattle.prem_template.specs.Parts.{codes_of, parts_of as code_parts_of}
 use Rattle.prem_layout.specs.Plans.{plans_of}
-use Rattle.prem_layout.specs.Parts.{once, area_parts}
+use Rattle.prem_layout.specs.Parts.{Passes, passes_of, area_parts}
 use Rattle.prem_layout.specs.Placed.{Coded}
 use Rattle.prem_split.specs.PlanOf.{plan_of}
 use Rattle.prem_split.specs.PlansWith.{MayHavePlans}
@@ -49,17 +51,17 @@ AreSized (t ∷ ts) (c ∷ cs) = IsSized t c × AreSized ts cs
 -- ---- parts
 
 -- those of task n
-abbrev pub sized_parts : ℕ → SizedTask → List PartSize
-sized_parts n t = parts_with once n (sizes_of t.code.now) (map plan_of t.plans.now) (globals_in t.program.now) (stack_in t.program.now)
+abbrev pub sized_parts : Passes → ℕ → SizedTask → List PartSize
+sized_parts passes n t = parts_with passes n (sizes_of t.code.now) (map plan_of t.plans.now) (globals_in t.program.now) (stack_in t.program.now)
 
 -- of the tasks from number n on
-abbrev pub sized_from : ℕ → List SizedTask → List PartSize
-sized_from n [] = []
-sized_from n (t ∷ ts) = sized_parts n t ++ sized_from (n + 1) ts
+abbrev pub sized_from : Passes → ℕ → List SizedTask → List PartSize
+sized_from passes n [] = []
+sized_from passes n (t ∷ ts) = sized_parts passes n t ++ sized_from passes (n + 1) ts
 
 -- of tasks and devices
-abbrev pub parts_in : ℕ → List Device → List SizedTask → List PartSize
-parts_in line devices tasks = sized_from 0 tasks ++ area_parts line 0 devices
+abbrev pub parts_in : Plant → List Device → List SizedTask → List PartSize
+parts_in p devices tasks = sized_from (passes_of p) 0 tasks ++ area_parts p.line 0 devices
 
 -- parts that may be placed
 pub record MayHavePlaces (line : ℕ) (parts : List PartSize) : Type 0 where
@@ -78,13 +80,14 @@ pub record MayHaveParts (t : SizedTask) : Type 0 where
   pub plans : AllByRecursion IsShortPlan (map plan_of t.plans.now)
   pub globals : AllByRecursion IsShortGlobal (globals_in t.program.now)
 
--- the code of a well-formed program, which keeps to the rules on frames and registers
+-- the code of a well-formed program for some target, which keeps to the rules on frames and registers
 pub record IsCodeOf (p : ProgramText) (c : Coded) : Type 0 where
+  pub target : Target
   pub turns : ℕ → ℕ
   pub formed : IsWellFormed p
   pub program : c.program ≡ resolve turns p
   pub kept : excess c.program ≡ None
-  pub code : c.code ≡ codes_of (code_parts_of c.program.routines) c.program.routines
+  pub code : c.code ≡ codes_of (code_parts_of target c.program.routines) c.program.routines
   pub small : All (λ ps. size_of ps < 2 ^ 32) c.code
 
 abbrev pub AreCodesOf : List ProgramText → List Coded → Type 0

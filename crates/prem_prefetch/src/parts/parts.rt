@@ -3,12 +3,12 @@ ghost use Rattle.std.specs.Prelude.{◌≡◌, ◌<◌, ◌≤◌, ◌*◌, ◌^
 ghost use Rattle.std.specs.List.{AllByRecursion};
 ghost use Rattle.prem_syntax.specs.SyntaxOf.{global_of};
 ghost use Rattle.prem_split.specs.PlanOf.{plan_of};
-ghost use Rattle.prem_layout.specs.Parts.{once, part, element_size, global_size, code_parts, stub_parts, global_parts, area_parts};
+ghost use Rattle.prem_layout.specs.Parts.{passes_of, part, element_size, global_size, code_parts, stub_parts, global_parts, area_parts};
 ghost use Rattle.prem_prefetch.specs.Parts.Parts.{sizes_of, parts_with, IsShortPlan, IsShortGlobal, IsWordSize};
 
 use crate::stub_size;
 use prem_asm::{Piece, Sequence, size};
-use prem_plant::{Device, PartKind, PartSize, TaskId};
+use prem_plant::{Device, PartKind, PartSize, Plant, TaskId};
 use prem_split::IntervalPlan;
 use prem_syntax::{Global, Ty};
 use std::alloc::AllocError;
@@ -41,15 +41,16 @@ fn push_stubs(
     parts: &mut Vec<PartSize>,
     task: TaskId,
     plans: &[IntervalPlan],
+    p: &Plant,
 ) -> Result<(), AllocError>
     requires short { AllByRecursion IsShortPlan (map plan_of plans.now) }
-    ensures { OnOk result (parts.new.items ≡ parts.old.items ++ stub_parts once task (map plan_of plans.now)) }
+    ensures { OnOk result (parts.new.items ≡ parts.old.items ++ stub_parts (passes_of p.now) task (map plan_of plans.now)) }
 {
     for plan in plans {
         parts.push(PartSize {
             task,
             kind: PartKind::Stub(plan.function),
-            size: stub_size(plan),
+            size: stub_size(plan, p),
             align: 4,
         })?;
     }
@@ -111,13 +112,14 @@ pub fn push_task(
     plans: &[IntervalPlan],
     globals: &[&Global],
     stack: u32,
+    p: &Plant,
 ) -> Result<(), AllocError>
     requires functions { length code.now ≤ 256 }
     requires small { AllByRecursion IsWordSize (sizes_of code.now) }
     requires plans { AllByRecursion IsShortPlan (map plan_of plans.now) }
     requires few { length globals.now ≤ 256 }
     requires short { AllByRecursion IsShortGlobal (map (λ g. global_of g.now) globals.now) }
-    ensures { OnOk result (parts.new.items ≡ parts.old.items ++ parts_with once task (sizes_of code.now) (map plan_of plans.now) (map (λ g. global_of g.now) globals.now) stack) }
+    ensures { OnOk result (parts.new.items ≡ parts.old.items ++ parts_with (passes_of p.now) task (sizes_of code.now) (map plan_of plans.now) (map (λ g. global_of g.now) globals.now) stack) }
 {
     parts.push(PartSize {
         task,
@@ -126,7 +128,7 @@ pub fn push_task(
         align: 4,
     })?;
     push_code(parts, task, code)?;
-    push_stubs(parts, task, plans)?;
+    push_stubs(parts, task, plans, p)?;
     push_globals(parts, task, globals)?;
     parts.push(PartSize {
         task,

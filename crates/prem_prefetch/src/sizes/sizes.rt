@@ -2,6 +2,7 @@
 ghost use Rattle.std.specs.Prelude.{◌≡◌, ◌≤◌, ◌++◌, All, length, IfOk, OnOk};
 ghost use Rattle.std.specs.List.{AllByRecursion};
 ghost use Rattle.prem_plant.specs.Ranges.{IsPlant, IsDevice};
+ghost use Rattle.prem_layout.specs.Parts.{passes_of};
 ghost use Rattle.prem_prefetch.specs.Sizes.Sizes.{sized_parts, sized_from, parts_in, MayHavePlaces, MayHaveParts};
 
 use crate::parts::{push_areas, push_task, stack_size};
@@ -28,9 +29,10 @@ fn push_sized(
     parts: &mut Vec<PartSize>,
     n: TaskId,
     task: &SizedTask,
+    plant: &Plant,
 ) -> Result<(), AllocError>
     requires { MayHaveParts task.now }
-    ensures { OnOk result (parts.new.items ≡ parts.old.items ++ sized_parts n task.now) }
+    ensures { OnOk result (parts.new.items ≡ parts.old.items ++ sized_parts (passes_of plant.now) n task.now) }
 {
     let stack = stack_size(alloc, task.program)?;
     push_task(
@@ -40,19 +42,24 @@ fn push_sized(
         task.plans,
         &task.program.globals,
         stack as u32,
+        plant,
     )
 }
 
 /// The parts of tasks, one task behind another.
-fn parts_of_tasks(alloc: Global, tasks: &[SizedTask]) -> Result<Vec<PartSize>, AllocError>
+fn parts_of_tasks(
+    alloc: Global,
+    plant: &Plant,
+    tasks: &[SizedTask],
+) -> Result<Vec<PartSize>, AllocError>
     requires tasks { AllByRecursion MayHaveParts tasks.now }
     requires count { length tasks.now ≤ 16 }
-    ensures { IfOk result (λ parts. parts.items ≡ sized_from 0 tasks.now) }
+    ensures { IfOk result (λ parts. parts.items ≡ sized_from (passes_of plant.now) 0 tasks.now) }
 {
     let mut parts = Vec::new(alloc);
     let mut n = 0u16;
     for task in tasks {
-        push_sized(alloc, &mut parts, n, task)?;
+        push_sized(alloc, &mut parts, n, task, plant)?;
         n += 1;
     }
     Ok(parts)
@@ -71,10 +78,10 @@ pub fn set_parts(
     requires devices { length devices.now ≤ 8 }
     requires plant { IsPlant plant.now }
     requires each { All IsDevice devices.now }
-    ensures parts { IfOk result (λ parts. parts.items ≡ parts_in plant.now.line devices.now tasks.now) }
+    ensures parts { IfOk result (λ parts. parts.items ≡ parts_in plant.now devices.now tasks.now) }
     ensures may { IfOk result (λ parts. MayHavePlaces plant.now.line parts.items) }
 {
-    let mut parts = parts_of_tasks(alloc, tasks)?;
+    let mut parts = parts_of_tasks(alloc, plant, tasks)?;
     push_areas(&mut parts, plant.line, devices)?;
     Ok(parts)
 }

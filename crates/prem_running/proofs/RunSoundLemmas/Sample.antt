@@ -5,7 +5,7 @@ use Rattle.std.proofs.lemmas.List.Elements.{All-from_recursion}
 use Rattle.prem_plant.specs.Label.{IsName}
 use Rattle.prem_plant.specs.Ranges.{IsDevice, default_plant}
 use Rattle.prem_plant.proofs.Powers.{default_is_plant}
-use Rattle.prem_lru.specs.Entries.{to_front}
+use Rattle.prem_lru.specs.Rules.{rule_of}
 use Rattle.prem_cycle.specs.declared.state.Stop.TheVariants.{Finished}
 use Rattle.prem_cycle.specs.Run.{run_of}
 use Rattle.prem_sound.specs.Good.{Good}
@@ -70,8 +70,8 @@ run_is_read = refl
 read_suits : SuitsRun (setup_in echoing) read.words read.requests
 read_suits = inputs_are_lawful echoing run_text read echoing_breaks_nothing run_is_read
 
-echoing_is_good : (n : ℕ) → Good to_front (setup_in echoing) (compiled echoing).image.content read.words read.requests (promises_in echoing read.words) n
+echoing_is_good : (n : ℕ) → Good (rule_of echoing.plant.policy) (setup_in echoing) (compiled echoing).image.content read.words read.requests (promises_in echoing read.words) n
 echoing_is_good n = set_runs_are_good echoing run_text read n echoing_values echoing_breaks_nothing run_is_read
 
-echoing_finishes : (n : ℕ) → (compiled echoing).limit ≤ n → stop_at n (run_of to_front (setup_in echoing) (compiled echoing).image.content read.words read.requests n) ≡ Finished
+echoing_finishes : (n : ℕ) → (compiled echoing).limit ≤ n → stop_at n (run_of (rule_of echoing.plant.policy) (setup_in echoing) (compiled echoing).image.content read.words read.requests n) ≡ Finished
 echoing_finishes n le = (set_reports_end echoing run_text read n echoing_values echoing_breaks_nothing run_is_read).finishes le

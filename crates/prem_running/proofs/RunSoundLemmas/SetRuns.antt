@@ -1,6 +1,6 @@
 -- Runs of sets that break no rule, by a run file in form.
 use Rattle.std.proofs.Common.{ap, ◌∙◌}
-use Rattle.prem_lru.specs.Entries.{to_front}
+use Rattle.prem_lru.specs.Rules.{rule_of}
 use Rattle.prem_cycle.specs.Inputs.{FitsRun}
 use Rattle.prem_tasks.specs.Compiled.{compiled}
 use Rattle.prem_set.specs.Run.Run.{run_of as lines_of_run}
@@ -37,4 +37,4 @@ set_runs_are_good set bytes g n values none is =
 
 pub set_reports_end : SetReportsEnd
 set_reports_end set bytes g n values none is =
-    sound_reports_end to_front (setup_in set) (compiled set).image.content (promises_in set) (compiled set).limit g.words g.requests n (sets_are_sound set values none) (inputs_are_lawful set bytes g none is)
+    sound_reports_end (rule_of set.plant.policy) (setup_in set) (compiled set).image.content (promises_in set) (compiled set).limit g.words g.requests n (sets_are_sound set values none) (inputs_are_lawful set bytes g none is)

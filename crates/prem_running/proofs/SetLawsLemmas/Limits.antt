@@ -59,28 +59,28 @@ abbrev IsSmall : JobBound → Type 0
 IsSmall j = ((j.period ≤ 4294967295) × (j.jobs ≤ 65535)) × (j.bound ≤ 1099511627776)
 
 bounds_are_small : (p : Plant) (m n : ℕ) (places : List Extent) (ts : List TaskText) (qs : List ProgramText) → AllByRecursion InRange ts →
-    first_among group_two m qs ≡ None → first_among (group_eight p) n (placed_from p places (coded_of ts qs)) ≡ None →
-    AllByRecursion IsSmall (job_bounds p (placed_from p places (coded_of ts qs)))
+    first_among group_two m qs ≡ None → first_among (group_eight p) n (placed_from p places (coded_of p.target ts qs)) ≡ None →
+    AllByRecursion IsSmall (job_bounds p (placed_from p places (coded_of p.target ts qs)))
 bounds_are_small p m n places [] qs ranges two eight = tt
 bounds_are_small p m n places (t ∷ ts) [] ranges two eight = tt
 bounds_are_small p m n places (t ∷ ts) (q ∷ qs) ranges two eight =
-    let c = coded_one t (bounded q) in
+    let c = coded_one p.target t (bounded q) in
     let rest = drop (part_count c.program) places in
     let placed : Placed = placed_at p c (task_places c.program places) in
     let formed : meaning.group_two q ≡ None =
     unmapped _ (meaning.group_two q) (unrefused (Some m) (group_two q) (none_first (refused_by (Some m) (group_two q)) (first_among group_two (m + 1) qs) two)) in
     let others : first_among group_two (m + 1) qs ≡ None = none_second (refused_by (Some m) (group_two q)) (first_among group_two (m + 1) qs) two in
-    let behind = first_among (group_eight p) (n + 1) (placed_from p rest (coded_of ts qs)) in
+    let behind = first_among (group_eight p) (n + 1) (placed_from p rest (coded_of p.target ts qs)) in
     let kept : group_eight p placed ≡ None = unrefused (Some n) (group_eight p placed) (none_first (refused_by (Some n) (group_eight p placed)) behind eight) in
     let small = not_large c.program.job (job_bound_of p placed.plans placed.table) 0 (interval_facts p placed) c.program.routines kept (omega arith)
     (omega (arith, job_below (slice_index (turn_bounds q)) q formed)) in
     ((ranges.0, small), bounds_are_small p (m + 1) (n + 1) rest ts qs ranges.1 others (none_second (refused_by (Some n) (group_eight p placed)) behind eight))
 
-few_bounds : (p : Plant) (places : List Extent) (ts : List TaskText) (qs : List ProgramText) → length (job_bounds p (placed_from p places (coded_of ts qs))) ≤ length ts
+few_bounds : (p : Plant) (places : List Extent) (ts : List TaskText) (qs : List ProgramText) → length (job_bounds p (placed_from p places (coded_of p.target ts qs))) ≤ length ts
 few_bounds p places [] qs = omega arith
 few_bounds p places (t ∷ ts) [] = omega arith
 few_bounds p places (t ∷ ts) (q ∷ qs) =
-    let e : length (job_bounds p (placed_from p (drop (part_count (bounded q)) places) (coded_of ts qs))) ≤ length ts =
+    let e : length (job_bounds p (placed_from p (drop (part_count (bounded q)) places) (coded_of p.target ts qs))) ≤ length ts =
     few_bounds p (drop (part_count (bounded q)) places) ts qs in
     omega (arith, e)
 

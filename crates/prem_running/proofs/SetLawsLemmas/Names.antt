@@ -3,6 +3,7 @@ use Rattle.std.proofs.Common.{◌≡◌, ℕ, suc, ◌+◌, ◌-◌, List, [], �
 use Rattle.std.specs.Int.{next_multiple_of}
 use Rattle.std.specs.List.{AllByRecursion}
 use Rattle.std.proofs.lemmas.List.{length-map}
+use Rattle.prem_plant.specs.declared.plant.Target.{Target}
 use Rattle.prem_plant.specs.declared.plant.Plant.{Plant}
 use Rattle.prem_plant.specs.declared.plant.Device.{Device}
 use Rattle.prem_plant.specs.declared.layout.PartKind.TheVariants.{Stack}
@@ -56,10 +57,10 @@ coded_names cs = map (λ (c : Coded). c.name) cs
 abbrev stated_names : List TaskText → List Text
 stated_names ts = map (λ (t : TaskText). t.name) ts
 
-names_are_stated : (ts : List TaskText) (ps : List ProgramText) → length ps ≡ length ts → coded_names (coded_of ts ps) ≡ stated_names ts
-names_are_stated [] ps count = refl
-names_are_stated (t ∷ ts) [] count = absurd (omega (arith, count))
-names_are_stated (t ∷ ts) (p ∷ ps) count = ap (λ (xs : List Text). t.name ∷ xs) (names_are_stated ts ps (omega (arith, count)))
+names_are_stated : (target : Target) (ts : List TaskText) (ps : List ProgramText) → length ps ≡ length ts → coded_names (coded_of target ts ps) ≡ stated_names ts
+names_are_stated target [] ps count = refl
+names_are_stated target (t ∷ ts) [] count = absurd (omega (arith, count))
+names_are_stated target (t ∷ ts) (p ∷ ps) count = ap (λ (xs : List Text). t.name ∷ xs) (names_are_stated target ts ps (omega (arith, count)))
 
 names_are_placed : (p : Plant) (places : List Extent) (cs : List Coded) → task_names (map task_record (placed_from p places cs)) ≡ coded_names cs
 names_are_placed p places [] = refl
@@ -79,10 +80,10 @@ codes_counted parts (f ∷ fs) = ap suc (codes_counted parts fs)
 abbrev HasCode : Coded → Type 0
 HasCode c = length c.code ≡ length c.program.routines
 
-coded_have_code : (ts : List TaskText) (ps : List ProgramText) → AllByRecursion HasCode (coded_of ts ps)
-coded_have_code [] ps = tt
-coded_have_code (t ∷ ts) [] = tt
-coded_have_code (t ∷ ts) (p ∷ ps) = (codes_counted _ _, coded_have_code ts ps)
+coded_have_code : (target : Target) (ts : List TaskText) (ps : List ProgramText) → AllByRecursion HasCode (coded_of target ts ps)
+coded_have_code target [] ps = tt
+coded_have_code target (t ∷ ts) [] = tt
+coded_have_code target (t ∷ ts) (p ∷ ps) = (codes_counted _ _, coded_have_code target ts ps)
 
 task_counted : (passes : Passes) (task : ℕ) (sizes : List ℕ) (p : Resolved) → length sizes ≡ length p.routines → length (task_parts passes task sizes p) ≡ part_count p
 task_counted passes task sizes p long =
@@ -129,9 +130,9 @@ pub names_are_kept : (set : TaskSet) → broken set ≡ None → names_for (comp
 names_are_kept set e =
     let cs = coded_in set in
     let tasks : task_names (compiled set).image.tasks ≡ stated_names set.tasks =
-    names_are_placed set.plant (places_in set) cs ∙ names_are_stated set.tasks (programs_of set.tasks) (as_many_programs set e) in
+    names_are_placed set.plant (places_in set) cs ∙ names_are_stated set.plant.target set.tasks (programs_of set.tasks) (as_many_programs set e) in
     let devices : devices_in (compiled set).image.devices ≡ set.devices =
-    devices_are_recorded set.devices (drop (part_total cs) (places_in set)) (areas_left set.plant set.devices cs (coded_have_code set.tasks (programs_of set.tasks))) in
+    devices_are_recorded set.devices (drop (part_total cs) (places_in set)) (areas_left set.plant set.devices cs (coded_have_code set.plant.target set.tasks (programs_of set.tasks))) in
     ap₂ known_of tasks devices
 
 pub lawful_runs_fit : (set : TaskSet) (words : List (List ℕ)) (requests : List Request) → broken set ≡ None → IsLawful (set_names set) words requests →

@@ -1,6 +1,7 @@
 -- Runs of sound images, and of task sets that break no rule, by what a run file gives.
 use Rattle.std.specs.Prelude.{◌≡◌, ℕ, ◌≤◌, ◌⊎◌, false, List, None, Ok}
-use Rattle.prem_lru.specs.Entries.{ReplacementRule, to_front}
+use Rattle.prem_lru.specs.Entries.{ReplacementRule}
+use Rattle.prem_lru.specs.Rules.{rule_of}
 use Rattle.prem_gate.specs.declared.request.Request.{Request}
 use Rattle.prem_cycle.specs.declared.state.Stop.TheVariants.{Finished, Limit}
 use Rattle.prem_cycle.specs.State.{Setup, MachineState}
@@ -69,10 +70,10 @@ SoundReportsEnd =
 abbrev pub SetRunsAreGood : Type 0
 SetRunsAreGood =
     (set : TaskSet) (bytes : List ℕ) (g : Gathered) (n : ℕ) → HasValues set → broken set ≡ None → lines_of_run bytes (names_of set) ≡ Ok g →
-    Good to_front (setup_in set) (compiled set).image.content g.words g.requests (promises_in set g.words) n
+    Good (rule_of set.plant.policy) (setup_in set) (compiled set).image.content g.words g.requests (promises_in set g.words) n
 
 -- and its reports end well, by the limit that is told of the set
 abbrev pub SetReportsEnd : Type 0
 SetReportsEnd =
     (set : TaskSet) (bytes : List ℕ) (g : Gathered) (n : ℕ) → HasValues set → broken set ≡ None → lines_of_run bytes (names_of set) ≡ Ok g →
-    EndsWell (compiled set).limit n (run_of to_front (setup_in set) (compiled set).image.content g.words g.requests n)
+    EndsWell (compiled set).limit n (run_of (rule_of set.plant.policy) (setup_in set) (compiled set).image.content g.words g.requests n)

@@ -17,21 +17,24 @@ use prem_compile::{CompileFail, compile};
 use prem_exec::run_image;
 use prem_gate::RunInput;
 use prem_image::Image;
+use prem_lru::{Fifo, Lru, Policy};
+use prem_plant::Replacement;
 use std::alloc::{AllocError, Global};
 
-/// The answer to a sample with this image: it is run up to its limit.
-fn told(
+/// The answer to a sample with this image of this policy: it is run up to its limit.
+fn told_under<P: Policy>(
     alloc: Global,
     seed: u64,
     image: &Image,
     input: &RunInput,
     limit: u64,
 ) -> Result<Answer, AllocError>
+    requires policy { image.now.plant.policy ≡ P.kind_of }
     requires fits { FitsRun (setup_of image.now) (words_of input.now) (items_of input.now.requests) }
     requires limit { limit ≤ 2 ^ 61 }
     ensures { IfOk result (λ a. reply_of a ≡ told_reply seed (image_text image.now) limit (state_at (image_text image.now) (input_of input.now) limit)) }
 {
-    let (machine, stop) = run_image(alloc, image, input, limit)?;
+    let (machine, stop) = run_image::<P>(alloc, image, input, limit)?;
     let text = sample_text(
         alloc,
         seed,
@@ -45,6 +48,24 @@ fn told(
         status: Status::Done,
         text,
     })
+}
+
+/// The answer to a sample with this image: it is run up to its limit, on the machine of its policy.
+fn told(
+    alloc: Global,
+    seed: u64,
+    image: &Image,
+    input: &RunInput,
+    limit: u64,
+) -> Result<Answer, AllocError>
+    requires fits { FitsRun (setup_of image.now) (words_of input.now) (items_of input.now.requests) }
+    requires limit { limit ≤ 2 ^ 61 }
+    ensures { IfOk result (λ a. reply_of a ≡ told_reply seed (image_text image.now) limit (state_at (image_text image.now) (input_of input.now) limit)) }
+{
+    match image.plant.policy {
+        Replacement::Lru => told_under::<Lru>(alloc, seed, image, input, limit),
+        Replacement::Fifo => told_under::<Fifo>(alloc, seed, image, input, limit),
+    }
 }
 
 /// The answer to `sample N`: the set and what comes to its run are drawn by the seed, the set is compiled, and its run is told; or the

@@ -1,6 +1,7 @@
 -- The core's part of a cycle, with one more input word of a task.
 use Rattle.std.proofs.Common.{◌≡◌, ℕ, zero, suc, ◌/◌, refl, ap, ap₂, ◌∙◌, sym, cond, Bool, true, false, List, [], ◌∷◌, ◌++◌, Option, Some, None, eq-eqb}
 use Rattle.std.specs.Prelude.{◌==◌, ◌&&◌, slice_set}
+use Rattle.prem_plant.specs.declared.plant.Target.{Target}
 use Rattle.prem_isa.specs.declared.instr.Instr.{Instr}
 use Rattle.prem_isa.specs.declared.effect.Phase.{Phase}
 use Rattle.prem_isa.specs.declared.effect.Cause.{Cause}
@@ -84,19 +85,19 @@ past_before rule p k w left (Traps cause) = refl
 past_before rule p k w left (Executes i e) = refl
 
 -- where memory reads as before the touches and behind them
-attempts_seen : (size : ℕ) (view : ℕ → ℕ) (seen : ℕ → Option Access → ℕ → ℕ) (w : Work) (k word j : ℕ) → (j ≡ k → takes_past (task_in w j).left (attempt_in size view (task_in w j)) ≡ false) →
-    attempt_seen size (seen (task_in (work_with k word w) j).pc) (task_in (work_with k word w) j) (attempt_in size view (task_in (work_with k word w) j))
-    ≡ attempt_seen size (seen (task_in w j).pc) (task_in w j) (attempt_in size view (task_in w j))
-attempts_seen size view seen w k word j h =
+attempts_seen : (target : Target) (size : ℕ) (view : ℕ → ℕ) (seen : ℕ → Option Access → ℕ → ℕ) (w : Work) (k word j : ℕ) → (j ≡ k → takes_past (task_in w j).left (attempt_in target size view (task_in w j)) ≡ false) →
+    attempt_seen target size (seen (task_in (work_with k word w) j).pc) (task_in (work_with k word w) j) (attempt_in target size view (task_in (work_with k word w) j))
+    ≡ attempt_seen target size (seen (task_in w j).pc) (task_in w j) (attempt_in target size view (task_in w j))
+attempts_seen target size view seen w k word j h =
     let t : Task = task_in w j in
-    task_with (λ u. attempt_seen size (seen u.pc) u (attempt_in size view u) ≡ attempt_seen size (seen t.pc) t (attempt_in size view t)) w.tasks k j word refl
+    task_with (λ u. attempt_seen target size (seen u.pc) u (attempt_in target size view u) ≡ attempt_seen target size (seen t.pc) t (attempt_in target size view t)) w.tasks k j word refl
     (λ e.
-    ap (attempt_seen size (seen t.pc) (with_word word t)) (attempt_with size view t word (h e))
-    ∙ seen_with size view (seen t.pc) t word (h e))
+    ap (attempt_seen target size (seen t.pc) (with_word word t)) (attempt_with target size view t word (h e))
+    ∙ seen_with target size view (seen t.pc) t word (h e))
 
 attempts_with : (rule : ReplacementRule) (p : Setup) (k word now j : ℕ) (i : Interval) (w : Work) → past_of k (step_by rule p now j i w (attempt_behind rule p j w)) ≡ false → attempt_behind rule p j (work_with k word w) ≡ attempt_behind rule p j w
 attempts_with rule p k word now j i w h =
-    attempts_seen p.plant.memory (view_of w.cache w.memory) (view_touched rule p.plant.line w.cache w.memory) w k word j
+    attempts_seen p.plant.target p.plant.memory (view_of w.cache w.memory) (view_touched rule p.plant.line w.cache w.memory) w k word j
     (λ e. sym (past_before rule p j w (task_in w j).left (attempt_of p j w)) ∙ finds rule p k now j i w (attempt_behind rule p j w) h e)
 
 -- ---- it is issued

@@ -1,5 +1,5 @@
 -- What is due for the instructions of a run on its own, and what grows along it.
-use Rattle.std.proofs.Common.{◌≡◌, ℕ, zero, suc, ◌+◌, ◌-◌, ◌*◌, ◌≤◌, ap, ◌∙◌, sym, subst, arith, Some, None, Option, List, [], ◌∷◌, length}
+use Rattle.std.proofs.Common.{◌≡◌, ℕ, zero, suc, ◌+◌, ◌-◌, ◌*◌, ◌≤◌, ap, ◌∙◌, refl, sym, subst, arith, Some, None, Option, List, [], ◌∷◌, length}
 use Rattle.std.specs.Prelude.{sum_by}
 use Rattle.std.proofs.lemmas.Bool.{cond_both}
 use Rattle.std.proofs.lemmas.List.{length-append}
@@ -13,8 +13,8 @@ use Rattle.prem_isa.specs.declared.effect.Outcome.{Outcome}
 use Rattle.prem_isa.specs.declared.effect.Outcome.TheVariants.{Trap, Done}
 use Rattle.prem_isa.specs.Act.{fetch}
 use Rattle.prem_isa.specs.Plain.{TaskRun, PlainState, with_last, after_change, after_outcome, moved_by, is_running, outcome_of, plain_start, plain_step, plain_steps, plain_run, Did, plain_did, plain_trace}
-use Rattle.prem_isa.proofs.ActLaws.{cost_bounds}
-use Rattle.prem_isa.proofs.PlainLaws.{plain_steps-next, plain_trace-add}
+use Rattle.prem_isa.specs.Decode.{cost_of, greatest_cost}
+use Rattle.prem_isa.proofs.PlainLaws.{did_cost, plain_steps-next, plain_trace-add}
 use Rattle.prem_runs.specs.Position.Finish.{data_accesses, due_of}
 
 -- ---- what is due
@@ -39,30 +39,31 @@ dues_grow plant run m n le =
     ∙ sum_by-append (due_of plant) (plain_trace run m (plain_start run)) (plain_trace run (n - m) (plain_steps run m (plain_start run))) in
     omega arith
 
--- each instruction takes at most two cycles and two accesses
+-- each instruction takes at most the greatest cost of the target and two accesses
 one_access : (o : Option Access) → data_accesses o ≤ 1
 one_access None = omega arith
 one_access (Some a) = omega arith
 
-due_at_most : (plant : Plant) (d : Did) → due_of plant d ≤ 2 + 2 * (plant.fill + plant.back)
-due_at_most plant d =
+due_at_most : (plant : Plant) (most : ℕ) (d : Did) → cost_of d.instr ≤ most → due_of plant d ≤ most + 2 * (plant.fill + plant.back)
+due_at_most plant most d h =
     let m : (1 + data_accesses d.access) * (plant.fill + plant.back) ≤ 2 * (plant.fill + plant.back) =
     mul-le (1 + data_accesses d.access) (plant.fill + plant.back) 2 (plant.fill + plant.back) (omega (arith, one_access d.access)) (omega arith) in
-    omega (arith, (cost_bounds d.instr).1)
+    omega arith
 
-due_more : (plant : Plant) (o : Option Did) (xs : List Did) → sum_by (due_of plant) (with_last o xs) ≤ sum_by (due_of plant) xs + (2 + 2 * (plant.fill + plant.back))
-due_more plant None xs = omega arith
-due_more plant (Some d) xs = omega (arith, sum_by-append (due_of plant) xs (d ∷ []), due_at_most plant d)
+due_more : (plant : Plant) (most : ℕ) (o : Option Did) (xs : List Did) → ((d : Did) → o ≡ Some d → cost_of d.instr ≤ most) →
+    sum_by (due_of plant) (with_last o xs) ≤ sum_by (due_of plant) xs + (most + 2 * (plant.fill + plant.back))
+due_more plant most None xs h = omega arith
+due_more plant most (Some d) xs h = omega (arith, sum_by-append (due_of plant) xs (d ∷ []), due_at_most plant most d (h d refl))
 
-pub dues_at_most : (plant : Plant) (run : TaskRun) (n : ℕ) → dues_of plant run n ≤ n * (2 + 2 * (plant.fill + plant.back))
+next_most : (n x d m : ℕ) → d ≤ n * x → m ≤ d + x → m ≤ suc n * x
+next_most n x d m h k = let e : suc n * x ≡ n * x + x = omega arith in omega arith
+
+pub dues_at_most : (plant : Plant) (run : TaskRun) (n : ℕ) → dues_of plant run n ≤ n * (greatest_cost run.target + 2 * (plant.fill + plant.back))
 unfolding plain_trace
 dues_at_most plant run zero = omega arith
 dues_at_most plant run (suc n) =
-    let h : dues_of plant run n ≤ n * (2 + 2 * (plant.fill + plant.back)) = dues_at_most plant run n in
-    let m : sum_by (due_of plant) (with_last (plain_did run (plain_run run n)) (plain_trace run n (plain_start run))) ≤ dues_of plant run n + (2 + 2 * (plant.fill + plant.back)) =
-    due_more plant (plain_did run (plain_run run n)) (plain_trace run n (plain_start run)) in
-    let e : suc n * (2 + 2 * (plant.fill + plant.back)) ≡ n * (2 + 2 * (plant.fill + plant.back)) + (2 + 2 * (plant.fill + plant.back)) = omega arith in
-    omega arith
+    next_most n (greatest_cost run.target + 2 * (plant.fill + plant.back)) (dues_of plant run n) _ (dues_at_most plant run n)
+    (due_more plant (greatest_cost run.target) (plain_did run (plain_run run n)) (plain_trace run n (plain_start run)) (did_cost run (plain_run run n)))
 
 -- ---- what grows
 

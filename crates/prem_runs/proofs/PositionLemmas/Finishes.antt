@@ -5,6 +5,7 @@ use Rattle.std.proofs.lemmas.Bool.{cases_Bool, lt-leb}
 use Rattle.std.proofs.lemmas.Nat.{mul-le}
 use Rattle.prem_plant.specs.declared.plant.Plant.{Plant}
 use Rattle.prem_image.specs.declared.image.TaskRecord.{TaskRecord}
+use Rattle.prem_isa.specs.Decode.{greatest_cost}
 use Rattle.prem_isa.specs.declared.effect.Change.{Change}
 use Rattle.prem_isa.specs.declared.effect.Change.TheVariants.{Stay, Memory, Execute, End, Job}
 use Rattle.prem_isa.specs.Plain.{TaskRun, PlainState, is_running, plain_start, plain_run, plain_trace}
@@ -184,11 +185,11 @@ finishes_in_time rule plant task content words n cycles r h ends le = finishes r
 
 pub finishes_one_job : FinishesOneJob
 finishes_one_job rule plant task content words n cycles r h one ends le =
-    let d : dues_of plant (run_alone plant task content words) n ≤ n * (2 + 2 * (plant.fill + plant.back)) = dues_at_most plant (run_alone plant task content words) n in
+    let d : dues_of plant (run_alone plant task content words) n ≤ n * (greatest_cost plant.target + 2 * (plant.fill + plant.back)) = dues_at_most plant (run_alone plant task content words) n in
     let z : (task.jobs - 1) * task.period ≡ 0 = ap (λ j. (j - 1) * task.period) one ∙ zero-times task.period in
     let s : task.jobs * plant.switch ≡ plant.switch = ap (λ j. j * plant.switch) one ∙ omega arith in
     finishes rule plant task content words n r h ends cycles
-    (one_by ((task.jobs - 1) * task.period) (task.jobs * plant.switch) (dues_of plant (run_alone plant task content words) n) plant.switch (n * (2 + 2 * (plant.fill + plant.back))) cycles z s d le) where
+    (one_by ((task.jobs - 1) * task.period) (task.jobs * plant.switch) (dues_of plant (run_alone plant task content words) n) plant.switch (n * (greatest_cost plant.target + 2 * (plant.fill + plant.back))) cycles z s d le) where
       zero-times : (x : ℕ) → 0 * x ≡ 0
       zero-times x = omega arith
 

@@ -34,12 +34,12 @@ did_by : (pc : ℕ) (phase : Phase) (i j : Instr) (e : Effect) (o : Outcome) →
 did_by pc phase i j e (Trap cause) h = absurd (let x : Traps cause ≡ Executes i e = h in cc)
 did_by pc phase i j e (Done f) h = let x : Executes j f ≡ Executes i e = h in cc
 
-did_at : (run : TaskRun) (t : Task) (view : ℕ → ℕ) (ended : ℕ) (i : Instr) (e : Effect) (f : Result Instr Cause) → attempt_fetched run.size view t f ≡ Executes i e → did_fetched run (plain_of t view ended) f ≡ Some (did_of t.pc t.phase i e)
+did_at : (run : TaskRun) (t : Task) (view : ℕ → ℕ) (ended : ℕ) (i : Instr) (e : Effect) (f : Result Instr Cause) → attempt_fetched run.target run.size view t f ≡ Executes i e → did_fetched run (plain_of t view ended) f ≡ Some (did_of t.pc t.phase i e)
 did_at run t view ended i e (Err cause) h = absurd (let x : Traps cause ≡ Executes i e = h in cc)
 did_at run t view ended i e (Ok j) h =
-    did_by t.pc t.phase i j e (act run.size view (slice_index t.registers) t.pc t.phase (next_input t.left) j) h
+    did_by t.pc t.phase i j e (act run.target run.size view (slice_index t.registers) t.pc t.phase (next_input t.left) j) h
 
-pub did_alone : (run : TaskRun) (t : Task) (view : ℕ → ℕ) (ended : ℕ) (i : Instr) (e : Effect) → is_running run (plain_of t view ended) ≡ true → attempt_in run.size view t ≡ Executes i e → plain_did run (plain_of t view ended) ≡ Some (did_of t.pc t.phase i e)
+pub did_alone : (run : TaskRun) (t : Task) (view : ℕ → ℕ) (ended : ℕ) (i : Instr) (e : Effect) → is_running run (plain_of t view ended) ≡ true → attempt_in run.target run.size view t ≡ Executes i e → plain_did run (plain_of t view ended) ≡ Some (did_of t.pc t.phase i e)
 did_alone run t view ended i e goes h =
     let none : Option Did = None in
     ap (λ b. cond b (did_fetched run (plain_of t view ended) (fetch run.size view t.pc)) none) goes ∙ did_at run t view ended i e (fetch run.size view t.pc) h

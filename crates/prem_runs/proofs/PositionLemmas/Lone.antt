@@ -122,6 +122,7 @@ alone_fits plant task content words h =
 
 lone_is : (plant : Plant) (task : TaskRecord) (content words : List ℕ) (k : ℕ) → IsLone plant task content words → k < 1 → IsRunOf (lone plant task) (memory_of (lone plant task) content) (words ∷ []) whole k (run_alone plant task content words)
 lone_is plant task content words zero h lt = record {
+  target = refl;
   size = refl;
   entry = refl;
   stack = refl;

@@ -45,6 +45,11 @@ count_move rule p now w (Passes c) xs j h = refl
 count_move rule p now w (Issues k i) xs j h =
     sym (ap (λ a. count_of j (with_last (step_by rule p now k i w (behind_touches rule p k w a)) xs)) h.issue.does ∙ count_more j _ xs)
 
+-- the move of a core issues such an instruction, or none
+pub issued_move : (p : Setup) (own : ℕ → ℕ → Bool) (runs : ℕ → TaskRun) (at : ℕ → ℕ) (sched : List TaskJobs) (w : Work) (m : CoreMove) → Runs p own runs → Stands p own runs at w → Moves p runs at sched m → IsIssued p w m
+issued_move p own runs at sched w (Passes c) rs s m = tt
+issued_move p own runs at sched w (Issues k i) rs s m = record { own = own k; run = runs k; n = at k; issue = issuing p own runs at w k rs s m.unfinished }
+
 -- ---- a cycle
 
 pub record AllAt (p : Setup) (own : ℕ → ℕ → Bool) (runs : ℕ → TaskRun) (at : ℕ → ℕ) (s : MachineState) : Type 0 where
@@ -54,7 +59,7 @@ pub record AllAt (p : Setup) (own : ℕ → ℕ → Bool) (runs : ℕ → TaskRu
 module _ (rule : ReplacementRule) (p : Setup) (content : List ℕ) (inputs : List (List ℕ)) (requests : List Request) (own : ℕ → ℕ → Bool) (runs : ℕ → TaskRun) (r : IsRule rule) (q : IsRunnable p content requests) (o : AreOwn p content inputs own runs) where
   pub runs_of : Runs p own runs
   runs_of = record {
-    is = λ k lt. let x : IsRunOf p (memory_of p content) inputs (own k) k (runs k) = o.runs_are k lt in record { size = x.size; entry = x.entry; stack = x.stack; fits = x.fits };
+    is = λ k lt. let x : IsRunOf p (memory_of p content) inputs (own k) k (runs k) = o.runs_are k lt in record { target = x.target; size = x.size; entry = x.entry; stack = x.stack; fits = x.fits };
     stay = o.stay;
     apart = o.apart;
   }
@@ -67,8 +72,7 @@ module _ (rule : ReplacementRule) (p : Setup) (content : List ℕ) (inputs : Lis
       written_keeps p own s.work (bus_at a.gates s).memory q.devices o.free h.position.stands.kept t.memory_is
 
   pub is_issued : (at : ℕ → ℕ) (sched : List TaskJobs) (w : Work) (m : CoreMove) → Stands p own runs at w → Moves p runs at sched m → IsIssued p w m
-  is_issued at sched w (Passes c) s m = tt
-  is_issued at sched w (Issues k i) s m = record { own = own k; run = runs k; n = at k; issue = issuing p own runs at w k runs_of s m.unfinished }
+  is_issued at sched w m s j = issued_move p own runs at sched w m runs_of s j
 
   cycle_all : (s : MachineState) (xs : List CycleStep) → AllAt p own runs (λ k. count_of k xs) s → AllAt p own runs (λ k. count_of k (with_last (step_with rule p (bus_at (arrivals_at requests s).gates s) s) xs)) (cycle_of rule p requests s)
   cycle_all s xs h =

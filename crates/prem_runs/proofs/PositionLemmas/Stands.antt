@@ -88,13 +88,14 @@ pub record Issuing (p : Setup) (own : ℕ → Bool) (run : TaskRun) (n : ℕ) (k
   pub effect : Effect
   pub does : attempt_of p k w ≡ Executes instr effect
   pub behind : (rule : ReplacementRule) → IsRule rule → attempt_behind rule p k w ≡ Executes instr effect
-  pub alone : attempt_in run.size (plain_run run n).task.view (task_in w k) ≡ Executes instr effect
+  pub alone : attempt_in run.target run.size (plain_run run n).task.view (task_in w k) ≡ Executes instr effect
   pub next : plain_run run (n + 1) ≡ plain_of (task_after (record_of p k) effect (task_in w k)) (with_stored effect.stored (plain_run run n).task.view) (ended_after effect.change (plain_run run n).ended)
   pub lawful : EffectLawful (task_in w k).phase effect
   pub stays : IsOwn p own (task_in w k).pc effect
   pub work : (rule : ReplacementRule) → IsRule rule → Issue p (slice_set w.tasks k (task_after (record_of p k) effect (task_in w k))) effect.stored (view_of w.cache w.memory) (issued_by rule p k effect w).work
 
 pub record IsRun (p : Setup) (k : ℕ) (run : TaskRun) : Type 0 where
+  pub target : run.target ≡ p.plant.target
   pub size : run.size ≡ p.plant.memory
   pub entry : run.entry ≡ (record_of p k).entry
   pub stack : run.stack ≡ (record_of p k).stack
@@ -106,13 +107,14 @@ issue_matches p own run n k w is stays goes here agree kept =
     let t : Task = task_in w k in
     let s : PlainState = plain_run run n in
     let f : StateFits s = plain_fits run is.fits n in
-    let x : Next p own run.size s.task.view t =
+    let x : Next p own run.target run.size s.task.view t =
     next_of p own run s.task.view t s.ended f.task.bytes
     (subst (λ (q : PlainState). IsOwnOutcome p own q.pc (next_outcome run q)) (sym here.same) stays) in
-    let alone : attempt_in run.size s.task.view t ≡ Executes x.instr x.effect = x.does s.task.view (λ a o. refl) in
+    let alone : attempt_in run.target run.size s.task.view t ≡ Executes x.instr x.effect = x.does s.task.view (λ a o. refl) in
     let rd : x.effect.rd < 32 = x.fits.register in
     let does : attempt_of p k w ≡ Executes x.instr x.effect =
-    ap (λ m. attempt_in m (view_of w.cache w.memory) t) (sym is.size) ∙ x.does (view_of w.cache w.memory) agree in
+    ap (λ g. attempt_in g p.plant.memory (view_of w.cache w.memory) t) (sym is.target)
+    ∙ ap (λ m. attempt_in run.target m (view_of w.cache w.memory) t) (sym is.size) ∙ x.does (view_of w.cache w.memory) agree in
     let fits : EffectFits p.plant.memory x.effect = subst (λ m. EffectFits m x.effect) is.size x.fits in
     let within : t.pc + 4 ≤ p.plant.memory = omega (arith, x.fetch_within, is.size) in
     record {
@@ -122,8 +124,9 @@ issue_matches p own run n k w is stays goes here agree kept =
       behind = λ rule r.
           let seen : ℕ → ℕ = view_behind rule p k w x.effect.access in
           ap (behind_touches rule p k w) does
-          ∙ ap (Executes x.instr) (seen_same p.plant.memory seen t x.instr x.effect
-          (ap (λ m. attempt_in m seen t) (sym is.size)
+          ∙ ap (Executes x.instr) (seen_same p.plant.target p.plant.memory seen t x.instr x.effect
+          (ap (λ g. attempt_in g p.plant.memory seen t) (sym is.target)
+          ∙ ap (λ m. attempt_in run.target m seen t) (sym is.size)
           ∙ x.does seen (λ a o. agree a o ∙ sym (behind_view rule p k x.effect.access w r kept fits.access within x.stays.fetch_line x.stays.data_line a))));
       alone = alone;
       next =

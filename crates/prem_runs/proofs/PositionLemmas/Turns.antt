@@ -22,6 +22,7 @@ use Rattle.prem_cycle.specs.Core.{is_paid, CoreMove, Passes, Issues, CoreTurn, c
 use Rattle.prem_cycle.specs.Cycle.{Arrivals, with_memory, with_clash, move_at, core_at, joined, ends_before, at_point, close_interval, settle, with_now, next_cycle, ticked, cycle_with}
 use Rattle.prem_cycle.proofs.CoreCases.{move_cases}
 use Rattle.prem_runs.specs.Position.Own.{StaysOwn}
+use Rattle.prem_runs.proofs.PositionLemmas.MayMoves.{turn_with}
 use Rattle.prem_runs.proofs.PositionLemmas.Works.{IsKept, Issue, stored_same}
 use Rattle.prem_runs.proofs.PositionLemmas.Stands.{stored_out, after_registers, bump, bump_same, bump_other, IsAt, Stands, Issuing, IsRun, issue_matches}
 use Rattle.prem_runs.proofs.PositionLemmas.Schedules.{ends_job, ended_more, uncounted, uncounted_same, uncounted_other, Unfinished, GoesOn, Schedules, Ready, Moves, moves, closes, idle_ends}
@@ -164,7 +165,8 @@ settle_position p own runs at (Idle until) s e h =
       untrapped = h.untrapped;
     })
 
-ticked_position : (p : Setup) (own : ℕ → ℕ → Bool) (runs : ℕ → TaskRun) (at : ℕ → ℕ) (s : MachineState) → Position p own runs at s → Position p own runs at (ticked s)
+-- what is over with a cycle ends
+pub ticked_position : (p : Setup) (own : ℕ → ℕ → Bool) (runs : ℕ → TaskRun) (at : ℕ → ℕ) (s : MachineState) → Position p own runs at s → Position p own runs at (ticked s)
 ticked_position p own runs at s h =
     subst (λ o. Position p own runs at (cond (is_some o) s (next_cycle s))) (sym h.untrapped)
     (settle_position p own runs at s.core.mode (with_now s (s.now + 1)) refl
@@ -184,12 +186,17 @@ bus_stands p own runs at w memory b s =
       kept = b.kept;
     }
 
+-- behind the core's part of a cycle, whatever it does, and whatever the bus does that leaves own bytes
+pub moved_position : (rule : ReplacementRule) (p : Setup) (own : ℕ → ℕ → Bool) (runs : ℕ → TaskRun) (at : ℕ → ℕ) (a : Arrivals) (b : Turned) (m : CoreMove) (s : MachineState) → IsRule rule → Runs p own runs → BusKeeps p own s.work b.memory → Moves p runs at s.sched m → Position p own runs at s → Position p own runs (bump_move m at) (joined a b (turn_with rule p b m s) s)
+moved_position rule p own runs at a b m s r rs k j h =
+    let w : Work = with_memory b.memory s.work in
+    let t : TurnStands p own runs (bump_move m at) s.sched (turn_with rule p b m s) =
+    turn_stands rule p own runs at s.now s.sched m w s.core (with_clash b.turn.clash s.log.counts) r rs
+    (bus_stands p own runs at s.work b.memory k h.stands) j in
+    record { stands = t.stands; schedules = t.schedules; untrapped = t.untrapped }
+
 pub cycle_position : (rule : ReplacementRule) (p : Setup) (own : ℕ → ℕ → Bool) (runs : ℕ → TaskRun) (at : ℕ → ℕ) (a : Arrivals) (b : Turned) (s : MachineState) → IsRule rule → Runs p own runs → BusKeeps p own s.work b.memory → Position p own runs at s → Position p own runs (bump_move (move_at p b s) at) (cycle_with rule p a b s)
 cycle_position rule p own runs at a b s r rs k h =
-    let w : Work = with_memory b.memory s.work in
-    let t : TurnStands p own runs (bump_move (move_at p b s) at) s.sched (core_at rule p b s) =
-    turn_stands rule p own runs at s.now s.sched (move_at p b s) w s.core (with_clash b.turn.clash s.log.counts) r rs
-    (bus_stands p own runs at s.work b.memory k h.stands)
-    (moves p runs at s.sched s.now b.turn.core w s.core (move_at p b s) (move_cases p s.now b.turn.core s.sched w s.core) h.schedules) in
     ticked_position p own runs (bump_move (move_at p b s) at) (joined a b (core_at rule p b s) s)
-    (record { stands = t.stands; schedules = t.schedules; untrapped = t.untrapped })
+    (moved_position rule p own runs at a b (move_at p b s) s r rs k
+    (moves p runs at s.sched s.now b.turn.core (with_memory b.memory s.work) s.core (move_at p b s) (move_cases p s.now b.turn.core s.sched (with_memory b.memory s.work) s.core) h.schedules) h)

@@ -93,25 +93,41 @@ closes_idle now until phases i mark w le h =
     let none : (j : ℕ) → phases j ≡ Execution → ⊥ = λ j x. let y : Idle until ≡ Running j = h.runs j x in cc in
     record { by_then = omega arith; runs = λ j x. absurd (none j x); goes_on = λ j x. absurd (none j x) }
 
-settle_holds : (m : Mode) (s : MachineState) → s.core.mode ≡ m → WindowsHold s → WindowsHold (settle m s)
-settle_holds Point s e h = h
-settle_holds (Switching k left) s e h = h
-settle_holds (Running k) s e h =
-    cond_both (is_paid s.core.debt && ends_before s.now s.core.interval s.core.mark) (close_interval k s) s WindowsHold
-    (λ over. record {
-      core = closes_ended s.now k (phase_in s.work) s.core.interval s.core.mark s.core.window
-          (and_parts (is_paid s.core.debt) (ends_before s.now s.core.interval s.core.mark) over).1
-          (subst (λ m. WindowCloses s.now (phase_in s.work) s.core.interval s.core.mark m s.core.window) e h.core);
-      gates = h.gates;
-    })
+-- the window of the core's interval closes
+abbrev pub CoreCloses : MachineState → Type 0
+CoreCloses s = WindowCloses s.now (phase_in s.work) s.core.interval s.core.mark s.core.mode s.core.window
+
+settle_closes : (m : Mode) (s : MachineState) → s.core.mode ≡ m → CoreCloses s → CoreCloses (settle m s)
+settle_closes Point s e h = h
+settle_closes (Switching k left) s e h = h
+settle_closes (Running k) s e h =
+    cond_both (is_paid s.core.debt && ends_before s.now s.core.interval s.core.mark) (close_interval k s) s CoreCloses
+    (λ over. closes_ended s.now k (phase_in s.work) s.core.interval s.core.mark s.core.window
+    (and_parts (is_paid s.core.debt) (ends_before s.now s.core.interval s.core.mark) over).1
+    (subst (λ m. WindowCloses s.now (phase_in s.work) s.core.interval s.core.mark m s.core.window) e h))
     (λ _. h)
-settle_holds (Idle until) s e h =
-    cond_both (ltb s.now until) s (record s { core = at_point s.core }) WindowsHold (λ _. h)
-    (λ over. record {
-      core = closes_idle s.now until (phase_in s.work) s.core.interval s.core.mark s.core.window (ltb-false s.now until over)
-          (subst (λ m. WindowCloses s.now (phase_in s.work) s.core.interval s.core.mark m s.core.window) e h.core);
-      gates = h.gates;
-    })
+settle_closes (Idle until) s e h =
+    cond_both (ltb s.now until) s (record s { core = at_point s.core }) CoreCloses (λ _. h)
+    (λ over. closes_idle s.now until (phase_in s.work) s.core.interval s.core.mark s.core.window (ltb-false s.now until over)
+    (subst (λ m. WindowCloses s.now (phase_in s.work) s.core.interval s.core.mark m s.core.window) e h))
+
+-- the transfer lies inside it
+abbrev GatesInside : MachineState → Type 0
+GatesInside s = CarriesInside s.now s.core.window s.gates
+
+settle_inside : (m : Mode) (s : MachineState) → GatesInside s → GatesInside (settle m s)
+settle_inside Point s h = h
+settle_inside (Switching k left) s h = h
+settle_inside (Running k) s h =
+    cond_both (is_paid s.core.debt && ends_before s.now s.core.interval s.core.mark) (close_interval k s) s GatesInside (λ _. h) (λ _. h)
+settle_inside (Idle until) s h = cond_both (ltb s.now until) s (record s { core = at_point s.core }) GatesInside (λ _. h) (λ _. h)
+
+-- the end of a cycle keeps that the core's window closes
+pub ticked_closes : (s : MachineState) → CoreCloses s → CoreCloses (ticked s)
+ticked_closes s h =
+    cond_both (is_some s.trapped) s (next_cycle s) CoreCloses (λ _. h)
+    (λ _. settle_closes s.core.mode (with_now s (s.now + 1)) refl
+    (closes_later s.now (phase_in s.work) s.core.interval s.core.mark s.core.mode s.core.window h))
 
 -- ---- a cycle
 
@@ -121,11 +137,12 @@ record Ticking (s : MachineState) : Type 0 where
   gates : CarriesInside (s.now + 1) s.core.window s.gates
 
 ticked_holds : (s : MachineState) → Ticking s → WindowsHold (ticked s)
-ticked_holds s h =
-    cond_both (is_some s.trapped) s (next_cycle s) WindowsHold
-    (λ _. record { core = h.core; gates = sooner s.now s.core.window s.gates h.gates })
-    (λ _. settle_holds s.core.mode (with_now s (s.now + 1)) refl
-    (record { core = closes_later s.now (phase_in s.work) s.core.interval s.core.mark s.core.mode s.core.window h.core; gates = h.gates }))
+ticked_holds s h = record {
+  core = ticked_closes s h.core;
+  gates =
+      cond_both (is_some s.trapped) s (next_cycle s) GatesInside (λ _. sooner s.now s.core.window s.gates h.gates)
+      (λ _. settle_inside s.core.mode (with_now s (s.now + 1)) h.gates);
+}
 
 -- another window opens only where nothing is carried
 gates_stay : (now : ℕ) (w w' : Window) (s : GatesState) (memory : List ℕ) (b : Turned) → (w.close ≤ now → IsQuiet s memory b) → CarriesInside (now + 1) w b.gates → (w' ≡ w) ⊎ (w.close ≤ now) → CarriesInside (now + 1) w' b.gates
@@ -219,17 +236,20 @@ start_phases (r ∷ rs) (words ∷ inputs) zero = refl
 start_phases (r ∷ rs) [] (suc k) = start_phases rs [] k
 start_phases (r ∷ rs) (words ∷ inputs) (suc k) = start_phases rs inputs k
 
-pub start_holds : (p : Setup) (inputs : List (List ℕ)) (memory : List ℕ) → HaveCosts p.devices → WindowsHold (start_of p inputs memory)
-start_holds p inputs memory costs =
+pub start_closes : (p : Setup) (inputs : List (List ℕ)) (memory : List ℕ) → CoreCloses (start_of p inputs memory)
+start_closes p inputs memory =
     let none : (k : ℕ) → phase_in (start_of p inputs memory).work k ≡ Execution → ⊥ =
     λ k e. let x : Compatible ≡ Execution = sym (start_phases p.tasks inputs k) ∙ e in cc in
-    record {
-      core = record { by_then = omega arith; runs = λ k e. absurd (none k e); goes_on = λ k e. absurd (none k e) };
-      gates = record {
-        carried = tt;
-        costs = start_costs (map (λ (d : DeviceRecord). d.device) p.devices) (map (λ (d : DeviceRecord). d.area) p.devices) (device_costs p.devices costs);
-      };
-    }
+    record { by_then = omega arith; runs = λ k e. absurd (none k e); goes_on = λ k e. absurd (none k e) }
+
+pub start_holds : (p : Setup) (inputs : List (List ℕ)) (memory : List ℕ) → HaveCosts p.devices → WindowsHold (start_of p inputs memory)
+start_holds p inputs memory costs = record {
+  core = start_closes p inputs memory;
+  gates = record {
+    carried = tt;
+    costs = start_costs (map (λ (d : DeviceRecord). d.device) p.devices) (map (λ (d : DeviceRecord). d.area) p.devices) (device_costs p.devices costs);
+  };
+}
 
 step_holds : (rule : ReplacementRule) (p : Setup) (requests : List Request) (s : MachineState) → WindowsHold s → WindowsHold (step_of rule p requests s)
 step_holds rule p requests s h =

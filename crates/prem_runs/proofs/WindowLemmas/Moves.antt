@@ -3,6 +3,7 @@ use Rattle.std.proofs.Common.{◌≡◌, ℕ, zero, suc, ◌+◌, ◌/◌, ◌<�
 use Rattle.std.specs.Prelude.{slice_set, slice_index, Result, Ok, Err}
 use Rattle.std.proofs.lemmas.Bool.{cases_lt, cases_eq}
 use Rattle.std.proofs.lemmas.List.{get_or-set_same, get_or-set_other, get_or_past, set_past}
+use Rattle.prem_plant.specs.declared.plant.Target.{Target}
 use Rattle.prem_isa.specs.declared.instr.Instr.{Instr}
 use Rattle.prem_isa.specs.declared.effect.Phase.{Phase}
 use Rattle.prem_isa.specs.declared.effect.Phase.TheVariants.{Compatible, Memory as MemoryPhase, Execution}
@@ -41,16 +42,16 @@ done_lawful phase i instr (Done d) e h is =
     let same : d ≡ e = cc in
     subst (EffectLawful phase) same h
 
-fetched_lawful : (size : ℕ) (view : ℕ → ℕ) (t : Task) (f : Result Instr Cause) (instr : Instr) (e : Effect) → attempt_fetched size view t f ≡ Executes instr e → EffectLawful t.phase e
-fetched_lawful size view t (Err cause) instr e is = absurd (let x : Traps cause ≡ Executes instr e = is in cc)
-fetched_lawful size view t (Ok i) instr e is =
-    done_lawful t.phase i instr (act size view (slice_index t.registers) t.pc t.phase (next_input t.left) i) e
-    (act_lawful size view (slice_index t.registers) t.pc t.phase (next_input t.left) i) is
+fetched_lawful : (target : Target) (size : ℕ) (view : ℕ → ℕ) (t : Task) (f : Result Instr Cause) (instr : Instr) (e : Effect) → attempt_fetched target size view t f ≡ Executes instr e → EffectLawful t.phase e
+fetched_lawful target size view t (Err cause) instr e is = absurd (let x : Traps cause ≡ Executes instr e = is in cc)
+fetched_lawful target size view t (Ok i) instr e is =
+    done_lawful t.phase i instr (act target size view (slice_index t.registers) t.pc t.phase (next_input t.left) i) e
+    (act_lawful target size view (slice_index t.registers) t.pc t.phase (next_input t.left) i) is
 
 -- what it executes is lawful in the phase of its task
 pub attempt_lawful : (p : Setup) (k : ℕ) (w : Work) (instr : Instr) (e : Effect) → attempt_of p k w ≡ Executes instr e → EffectLawful (phase_in w k) e
 attempt_lawful p k w instr e is =
-    fetched_lawful p.plant.memory (view_of w.cache w.memory) (task_in w k) (fetch p.plant.memory (view_of w.cache w.memory) (task_in w k).pc) instr e is
+    fetched_lawful p.plant.target p.plant.memory (view_of w.cache w.memory) (task_in w k) (fetch p.plant.memory (view_of w.cache w.memory) (task_in w k).pc) instr e is
 
 -- ---- the phases behind it
 
@@ -228,7 +229,7 @@ issue_closes : (rule : ReplacementRule) (p : Setup) (now k : ℕ) (i : Interval)
     TurnCloses now c.window (core_issue rule p now k i (behind_touches rule p k w a) w c n)
 issue_closes rule p now k i (Traps cause) w c n is s h = record { closes = s; stays = inl refl }
 issue_closes rule p now k i (Executes instr f) w c n is s h =
-    let e : Effect = effect_in p.plant.memory (view_behind rule p k w f.access) (task_in w k) instr f in
+    let e : Effect = effect_in p.plant.target p.plant.memory (view_behind rule p k w f.access) (task_in w k) instr f in
     let l : IsLawful (phase_in w k) e.change = (attempt_lawful p k w instr f is).change in
     let next : Follows e.change (phase_in w k) (phase_in (issued_by rule p k e w).work k) = issue_follows rule p k e w in
     let only : (j : ℕ) → phase_in (issued_by rule p k e w).work j ≡ Execution → j ≡ k =

@@ -5,7 +5,7 @@ use Rattle.prem_plant.specs.Ranges.{IsPlant}
 use Rattle.prem_image.specs.declared.image.TaskRecord.{TaskRecord}
 use Rattle.prem_isa.specs.declared.effect.Phase.TheVariants.{Compatible}
 use Rattle.prem_isa.specs.declared.effect.Access.{Access}
-use Rattle.prem_isa.specs.Decode.{cost_of}
+use Rattle.prem_isa.specs.Decode.{cost_of, greatest_cost}
 use Rattle.prem_isa.specs.Plain.{TaskRun, plain_start, plain_run, Did, plain_did, plain_trace}
 use Rattle.prem_sched.specs.Schedule.{task_at}
 use Rattle.prem_lru.specs.Entries.{ReplacementRule}
@@ -120,10 +120,10 @@ FinishesInTime =
     finish_of plant task (plain_trace (run_alone plant task content words) n (plain_start (run_alone plant task content words))) ≤ cycles →
     FinishedAs (run_alone plant task content words) n (lone_run rule plant task content words cycles)
 
--- one job of n instructions: each takes at most two cycles and two accesses
+-- one job of n instructions: each takes at most the greatest cost of the target and two accesses
 abbrev pub FinishesOneJob : Type 0
 FinishesOneJob =
     (rule : ReplacementRule) (plant : Plant) (task : TaskRecord) (content words : List ℕ) (n cycles : ℕ) →
     IsRule rule → IsLone plant task content words → task.jobs ≡ 1 → EndsIn (run_alone plant task content words) n →
-    plant.switch + n * (2 + 2 * (plant.fill + plant.back)) ≤ cycles →
+    plant.switch + n * (greatest_cost plant.target + 2 * (plant.fill + plant.back)) ≤ cycles →
     FinishedAs (run_alone plant task content words) n (lone_run rule plant task content words cycles)

@@ -4,6 +4,7 @@ use Rattle.prem_list.specs.Sequence.{items_of}
 use Rattle.prem_image.specs.declared.image.Image.{Image}
 use Rattle.prem_image.specs.declared.image.TaskRecord.{TaskRecord}
 use Rattle.prem_image.specs.Records.{IsImage}
+use Rattle.prem_isa.specs.Decode.{greatest_cost}
 use Rattle.prem_isa.specs.Plain.{TaskRun, plain_start, plain_trace}
 use Rattle.prem_lru.specs.Entries.{ReplacementRule}
 use Rattle.prem_lru.specs.Rules.{IsRule}
@@ -38,5 +39,5 @@ abbrev pub ImageFinishesOneJob : Type 0
 ImageFinishesOneJob =
     (rule : ReplacementRule) (image : Image) (input : RunInput) (task : TaskRecord) (words : List ℕ) (n cycles : ℕ) →
     IsRule rule → IsLoneImage image input task words → task.jobs ≡ 1 → EndsIn (image_alone image task words) n →
-    image.plant.switch + n * (2 + 2 * (image.plant.fill + image.plant.back)) ≤ cycles →
+    image.plant.switch + n * (greatest_cost image.plant.target + 2 * (image.plant.fill + image.plant.back)) ≤ cycles →
     FinishedAs (image_alone image task words) n (image_run rule image input cycles)

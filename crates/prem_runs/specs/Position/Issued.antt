@@ -23,6 +23,7 @@ issued_of rule p requests n s k = count_of k (steps_of rule p requests n s)
 
 -- a run on its own of the task number k: the same records and inputs, and the same bytes where they are its own
 pub record IsRunOf (p : Setup) (memory : List ℕ) (inputs : List (List ℕ)) (own : ℕ → Bool) (k : ℕ) (run : TaskRun) : Type 0 where
+  pub target : run.target ≡ p.plant.target
   pub size : run.size ≡ p.plant.memory
   pub entry : run.entry ≡ (record_of p k).entry
   pub stack : run.stack ≡ (record_of p k).stack

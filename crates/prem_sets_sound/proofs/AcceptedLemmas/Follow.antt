@@ -3,6 +3,7 @@ use Rattle.std.proofs.Common.{◌≡◌, ℕ, suc, ◌+◌, ◌≤◌, nat_lt, B
 use Rattle.std.specs.Prelude.{if◌then◌else◌}
 use Rattle.std.specs.List.{AllByRecursion}
 use Rattle.std.proofs.lemmas.Bool.Decides.{nat_tests}
+use Rattle.prem_plant.specs.declared.plant.Target.{Target}
 use Rattle.prem_plant.specs.declared.plant.Plant.{Plant}
 use Rattle.prem_plant.specs.Places.{Extent, last_end}
 use Rattle.prem_syntax.specs.Syntax.{ProgramText}
@@ -62,13 +63,13 @@ Follow [] (c ∷ cs) = ⊥
 Follow (t ∷ ts) [] = ⊥
 Follow (t ∷ ts) (c ∷ cs) = IsOf t c × Follow ts cs
 
-follow : (n : ℕ) (ts : List TaskText) → first_among group_one n ts ≡ None → Follow ts (coded_of ts (programs_of ts))
-follow n [] h = tt
-follow n (t ∷ ts) h =
+pub follow : (target : Target) (n : ℕ) (ts : List TaskText) → first_among group_one n ts ≡ None → Follow ts (coded_of target ts (programs_of ts))
+follow target n [] h = tt
+follow target n (t ∷ ts) h =
     let s = both_none (refused_by (Some n) (group_one t)) (first_among group_one (n + 1) ts) h in
     let r = read_there n t s.first in
-    let e : coded_of (t ∷ ts) (programs_of (t ∷ ts)) ≡ coded_one t (bounded r.0) ∷ coded_of ts (programs_of ts) = ap (λ o. coded_of (t ∷ ts) (program_before o (programs_of ts))) r.1 in
-    subst (Follow (t ∷ ts)) (sym e) (record { name = refl; period = refl; jobs = refl; coded = codes_long _ _ }, follow (n + 1) ts s.second)
+    let e : coded_of target (t ∷ ts) (programs_of (t ∷ ts)) ≡ coded_one target t (bounded r.0) ∷ coded_of target ts (programs_of ts) = ap (λ o. coded_of target (t ∷ ts) (program_before o (programs_of ts))) r.1 in
+    subst (Follow (t ∷ ts)) (sym e) (record { name = refl; period = refl; jobs = refl; coded = codes_long _ _ }, follow target (n + 1) ts s.second)
 
 pub follow_long : (ts : List TaskText) (cs : List Coded) → Follow ts cs → length cs ≡ length ts
 follow_long [] [] h = refl
@@ -135,4 +136,4 @@ keeps set h =
     let three = both_none (over_tasks group_three ps) (late_refusal late) two.second in
     let four = both_none (over_tasks (λ (c : Coded). group_four c.program) cs) (broken_at_places set.plant (places_in set) cs) (not_late late three.second) in
     let rest = late_keeps set.plant (places_in set) cs four.second in
-    record { follow = follow 0 set.tasks one.first; fits = rest.0; logs = rest.1 }
+    record { follow = follow set.plant.target 0 set.tasks one.first; fits = rest.0; logs = rest.1 }

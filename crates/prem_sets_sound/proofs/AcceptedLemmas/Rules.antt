@@ -2,6 +2,7 @@
 use Rattle.std.proofs.Common.{◌≡◌, ℕ, zero, suc, ◌+◌, refl, ap, sym, subst, List, [], ◌∷◌, drop, Option, None, Some, Ok, slice_get}
 use Rattle.std.specs.List.{AllByRecursion}
 use Rattle.std.specs.Option.{option_map}
+use Rattle.prem_plant.specs.declared.plant.Target.{Target}
 use Rattle.prem_plant.specs.declared.plant.Plant.{Plant}
 use Rattle.prem_plant.specs.Places.{Extent}
 use Rattle.prem_syntax.specs.Syntax.{ProgramText}
@@ -19,31 +20,31 @@ use Rattle.prem_sets_sound.proofs.AcceptedLemmas.Follow.{both_none, not_refused,
 
 -- ---- rules over all tasks
 
-none_among : {A R : Type 0} (check : A → Option R) (n : ℕ) (xs : List A) → first_among check n xs ≡ None → AllByRecursion (λ x. check x ≡ None) xs
+pub none_among : {A R : Type 0} (check : A → Option R) (n : ℕ) (xs : List A) → first_among check n xs ≡ None → AllByRecursion (λ x. check x ≡ None) xs
 none_among check n [] h = tt
 none_among check n (x ∷ xs) h =
     let s = both_none (refused_by (Some n) (check x)) (first_among check (n + 1) xs) h in
     (not_refused (Some n) (check x) s.first, none_among check (n + 1) xs s.second)
 
-at_place : {A : Type 0} (P : A → Type 0) (xs : List A) → AllByRecursion P xs → (k : ℕ) (x : A) → slice_get xs k ≡ Some x → P x
+pub at_place : {A : Type 0} (P : A → Type 0) (xs : List A) → AllByRecursion P xs → (k : ℕ) (x : A) → slice_get xs k ≡ Some x → P x
 at_place P [] h k x e = absurd cc
 at_place P (y ∷ xs) h zero x e = let same : y ≡ x = cc in subst P same h.0
 at_place P (y ∷ xs) h (suc k) x e = at_place P xs h.1 k x e
 
-not_mapped : {A B : Type 0} (f : A → B) (o : Option A) → option_map f o ≡ None → o ≡ None
+pub not_mapped : {A B : Type 0} (f : A → B) (o : Option A) → option_map f o ≡ None → o ≡ None
 not_mapped f None h = refl
 not_mapped f (Some a) h = absurd cc
 
 -- ---- programs
 
 -- each text has its program
-abbrev Read : List TaskText → List ProgramText → Type 0
+abbrev pub Read : List TaskText → List ProgramText → Type 0
 Read [] [] = Unit {0}
 Read [] (q ∷ qs) = ⊥
 Read (t ∷ ts) [] = ⊥
 Read (t ∷ ts) (q ∷ qs) = (reads t.text ≡ Ok q) × Read ts qs
 
-read_all : (n : ℕ) (ts : List TaskText) → first_among group_one n ts ≡ None → Read ts (programs_of ts)
+pub read_all : (n : ℕ) (ts : List TaskText) → first_among group_one n ts ≡ None → Read ts (programs_of ts)
 read_all n [] h = tt
 read_all n (t ∷ ts) h =
     let s = both_none (refused_by (Some n) (group_one t)) (first_among group_one (n + 1) ts) h in
@@ -52,48 +53,55 @@ read_all n (t ∷ ts) h =
     subst (Read (t ∷ ts)) (sym e) (r.1, read_all (n + 1) ts s.second)
 
 -- the text and the program of a placed task
-record HasProgram (ts : List TaskText) (k : ℕ) (t : Placed) : Type 0 where
-  text : TaskText
-  program : ProgramText
-  there : slice_get ts k ≡ Some text
-  read : reads text.text ≡ Ok program
-  two : group_two program ≡ None
-  three : group_three program ≡ None
-  is_coded : t.task ≡ coded_one text (bounded program)
-  four : group_four t.task.program ≡ None
+pub record HasProgram (target : Target) (ts : List TaskText) (k : ℕ) (t : Placed) : Type 0 where
+  pub text : TaskText
+  pub program : ProgramText
+  pub there : slice_get ts k ≡ Some text
+  pub read : reads text.text ≡ Ok program
+  pub two : group_two program ≡ None
+  pub three : group_three program ≡ None
+  pub is_coded : t.task ≡ coded_one target text (bounded program)
+  pub four : group_four t.task.program ≡ None
 
-find_program : (p : Plant) (places : List Extent) (ts : List TaskText) (qs : List ProgramText) → Read ts qs →
-    AllByRecursion (λ q. group_two q ≡ None) qs → AllByRecursion (λ q. group_three q ≡ None) qs → AllByRecursion (λ (c : Coded). group_four c.program ≡ None) (coded_of ts qs) →
-    (k : ℕ) (t : Placed) → slice_get (placed_from p places (coded_of ts qs)) k ≡ Some t → HasProgram ts k t
+pub find_program : (p : Plant) (places : List Extent) (ts : List TaskText) (qs : List ProgramText) → Read ts qs →
+    AllByRecursion (λ q. group_two q ≡ None) qs → AllByRecursion (λ q. group_three q ≡ None) qs → AllByRecursion (λ (c : Coded). group_four c.program ≡ None) (coded_of p.target ts qs) →
+    (k : ℕ) (t : Placed) → slice_get (placed_from p places (coded_of p.target ts qs)) k ≡ Some t → HasProgram p.target ts k t
 find_program p places [] [] r two three four k t e = absurd cc
 find_program p places [] (q ∷ qs) r two three four k t e = absurd r
 find_program p places (x ∷ ts) [] r two three four k t e = absurd r
 find_program p places (x ∷ ts) (q ∷ qs) r two three four zero t e =
-    let c = coded_one x (bounded q) in
+    let c = coded_one p.target x (bounded q) in
     let same : placed_at p c (task_places c.program places) ≡ t = cc in
     let is : t.task ≡ c = ap (λ (u : Placed). u.task) (sym same) in
     record { text = x; program = q; there = refl; read = r.0; two = two.0; three = three.0; is_coded = is; four = subst (λ (d : Coded). group_four d.program ≡ None) (sym is) four.0 }
 find_program p places (x ∷ ts) (q ∷ qs) r two three four (suc k) t e =
-    let c = coded_one x (bounded q) in
+    let c = coded_one p.target x (bounded q) in
     let f = find_program p (drop (part_count c.program) places) ts qs r.1 two.1 three.1 four.1 k t e in
     record { text = f.text; program = f.program; there = f.there; read = f.read; two = f.two; three = f.three; is_coded = f.is_coded; four = f.four }
 
 -- ---- placed tasks
 
-record KeepPlaced (p : Plant) (placed : List Placed) : Type 0 where
-  six : AllByRecursion (λ t. group_six t ≡ None) placed
-  seven : AllByRecursion (λ t. group_seven p t ≡ None) placed
-  eight : AllByRecursion (λ t. group_eight p t ≡ None) placed
-  nine : AllByRecursion (λ t. group_nine p t ≡ None) placed
+pub record KeepPlaced (p : Plant) (tasks : List Coded) (placed : List Placed) : Type 0 where
+  pub six : AllByRecursion (λ t. group_six t ≡ None) placed
+  pub seven : AllByRecursion (λ t. group_seven p t ≡ None) placed
+  pub eight : AllByRecursion (λ t. group_eight p t ≡ None) placed
+  pub nine : AllByRecursion (λ t. group_nine p t ≡ None) placed
+  pub ten : group_ten tasks ≡ None
 
-placed_keep : (p : Plant) (tasks : List Coded) (placed : List Placed) → broken_when_placed p tasks placed ≡ None → KeepPlaced p placed
+pub placed_keep : (p : Plant) (tasks : List Coded) (placed : List Placed) → broken_when_placed p tasks placed ≡ None → KeepPlaced p tasks placed
 placed_keep p tasks placed h =
     let ten = refused_by None (group_ten tasks) in
     let six = both_none (over_tasks group_six placed) (or_else (over_tasks (group_seven p) placed) (or_else (over_tasks (group_eight p) placed) (or_else (over_tasks (group_nine p) placed) ten))) h in
     let seven = both_none (over_tasks (group_seven p) placed) (or_else (over_tasks (group_eight p) placed) (or_else (over_tasks (group_nine p) placed) ten)) six.second in
     let eight = both_none (over_tasks (group_eight p) placed) (or_else (over_tasks (group_nine p) placed) ten) seven.second in
     let nine = both_none (over_tasks (group_nine p) placed) ten eight.second in
-    record { six = none_among group_six 0 placed six.first; seven = none_among (group_seven p) 0 placed seven.first; eight = none_among (group_eight p) 0 placed eight.first; nine = none_among (group_nine p) 0 placed nine.first }
+    record {
+      six = none_among group_six 0 placed six.first;
+      seven = none_among (group_seven p) 0 placed seven.first;
+      eight = none_among (group_eight p) 0 placed eight.first;
+      nine = none_among (group_nine p) 0 placed nine.first;
+      ten = not_refused None (group_ten tasks) nine.second;
+    }
 
 pub accepted_tasks_keep_rules : AcceptedTasksKeepRules
 accepted_tasks_keep_rules set h k t e =

@@ -1,12 +1,12 @@
 -- Each placed task that keeps the rules joins.
-use Rattle.std.proofs.Common.{◌≡◌, ℕ, zero, suc, ◌+◌, ◌%◌, ◌^◌, ◌<◌, ◌≤◌, refl, ap, ◌∙◌, sym, subst, arith, true, List, [], ◌∷◌, length, map, Some, slice_get}
-use Rattle.std.specs.Prelude.{All, slice_index, slice_index_or}
+use Rattle.std.proofs.Common.{◌≡◌, ℕ, zero, suc, ◌+◌, ◌%◌, ◌^◌, ◌<◌, ◌≤◌, refl, ap, ◌∙◌, sym, subst, arith, true, List, [], ◌∷◌, length, map, None, Some, Option, slice_get, max}
+use Rattle.std.specs.Prelude.{All, slice_index, slice_index_or, unwrap_or, option_map}
 use Rattle.prem_plant.specs.declared.plant.Plant.{Plant}
 use Rattle.prem_plant.specs.declared.plant.Device.{Device}
 use Rattle.prem_plant.specs.Places.{Extent}
 use Rattle.prem_isa.specs.Plain.{TaskRun}
-use Rattle.prem_syntax.specs.Syntax.{ProgramText}
-use Rattle.prem_meaning.specs.Resolved.{Routine}
+use Rattle.prem_syntax.specs.Syntax.{ProgramText, MarkText}
+use Rattle.prem_meaning.specs.Resolved.{Routine, Resolved}
 use Rattle.prem_meaning.specs.Source.{initial_words}
 use Rattle.prem_meaning.specs.Statements.{is_marked}
 use Rattle.prem_ranges.specs.GroupThree.{limits_of}
@@ -15,7 +15,8 @@ use Rattle.prem_asm.specs.Runs.{Setting}
 use Rattle.prem_template.specs.Frames.{depth_of, deepest}
 use Rattle.prem_template.specs.Parts.{parts_of, is_marked_at, marked_before}
 use Rattle.prem_template.specs.Steps.{function_code}
-use Rattle.prem_layout.specs.Plans.{Plan}
+use Rattle.prem_layout.specs.Parts.{pass_count, passes_of}
+use Rattle.prem_layout.specs.Plans.{Plan, plan_before, plans_from}
 use Rattle.prem_layout.specs.Bounds.{start_code, job_bound_of}
 use Rattle.prem_layout.specs.Footprint.{place_at, global_range}
 use Rattle.prem_layout.specs.Placed.{Coded, Placed}
@@ -24,7 +25,7 @@ use Rattle.prem_code_laws.specs.GenLaws.Table.{IsStub}
 use Rattle.prem_code_laws.specs.GenLaws.Whole.{StartStands}
 use Rattle.prem_cycle.specs.Alone.{run_in}
 use Rattle.prem_sound.specs.Script.Scripts.{Reading}
-use Rattle.prem_weave.specs.Promise.Promised.{read_globals}
+use Rattle.prem_weave.specs.Promise.Promised.{read_globals, stated_at}
 use Rattle.prem_stub_laws.specs.Own.Owned.{own_of, setup_of}
 use Rattle.prem_stub_laws.specs.OwnSteps.OwnSteps.{AreOwnAt}
 use Rattle.prem_stub_laws.proofs.OwnStepsLemmas.Takes.{functions_take}
@@ -38,6 +39,10 @@ use Rattle.prem_stub_laws.specs.JobWeave.Confined.{Confinement, ConfinedStands}
 use Rattle.prem_stub_laws.proofs.JobWeaveLemmas.Calm.{functions_are_calm}
 use Rattle.prem_stub_laws.specs.Dues.Dues.{PlacedStands, weight_in}
 use Rattle.prem_stub_laws.proofs.DuesLemmas.Table.{placed_jobs_are_bounded}
+use Rattle.prem_layout.specs.Stretch.Paths.{stretch_of, greatest_stated}
+use Rattle.prem_stub_laws.specs.Strides.Strided.{ReturnsLast, sums_in}
+use Rattle.prem_stub_laws.proofs.StridesLemmas.Last.{functions_return_last}
+use Rattle.prem_stub_laws.proofs.StridesLemmas.Table.{placed_jobs_are_strided}
 use Rattle.prem_task_laws.specs.TaskFrame.Kept.{KeepsTaskRules}
 use Rattle.prem_task_laws.specs.TaskFrame.Limits.{task_limits}
 use Rattle.prem_task_laws.specs.TaskFrame.Frames.{task_guard}
@@ -53,10 +58,10 @@ use Rattle.prem_task_laws.proofs.TaskBytesLemmas.Guards.{task_guard_is_own, task
 use Rattle.prem_task_laws.proofs.TaskBytesLemmas.Start.{run_starts}
 use Rattle.prem_stub_laws.specs.Join.Joined.{TaskJoins}
 use Rattle.prem_sets_sound.specs.Each.Called.{confinement_of, plan_at, confinement_in}
-use Rattle.prem_sets_sound.specs.Each.Joins.{promise_for, TasksJoin}
+use Rattle.prem_sets_sound.specs.Each.Joins.{promise_for, TasksJoin, TaskPaces, task_longest, TasksPace}
 use Rattle.prem_sets_sound.proofs.EachLemmas.Means.{StubMeans, JobStands}
 use Rattle.prem_sets_sound.proofs.EachLemmas.Lands.{CallsStand}
-use Rattle.prem_sets_sound.proofs.EachLemmas.Joins.{TaskStands, joins, promise_is}
+use Rattle.prem_sets_sound.proofs.EachLemmas.Joins.{TaskStands, joins, promise_is, paces}
 use Rattle.prem_sets_sound.proofs.EachLemmas.Filled.{plan_there, routine_at, program_keeps, code_is, table_code, code_within, small_memory, codes_stand, part_listed}
 use Rattle.prem_sets_sound.proofs.EachLemmas.Words.{job_fits, code_stands, job_is, start_stands}
 use Rattle.prem_sets_sound.proofs.EachLemmas.Stubs.{planned_at, stub_means, confined_stands, stated_so}
@@ -72,7 +77,17 @@ marked_there [] n e = cc
 marked_there (x ∷ fs) zero e = (x, (refl, e))
 marked_there (x ∷ fs) (suc n) e = marked_there fs n e
 
-module _ (passes : ℕ → ℕ) (p : Plant) (devices : List Device) (tasks : List Coded) (places : List Extent) (k : ℕ) (t : Placed) (placed : IsPlacedTask p devices tasks places k t) (once : passes p.ways ≡ 1) (x : ProgramText) (keeps : KeepsTaskRules p x t)
+-- a plan tells the length that its function states
+stated_in : (q : Resolved) (n : ℕ) (fs : List Routine) (f : ℕ) → stated_at fs f ≤ greatest_stated (plans_from q n fs)
+stated_in q n [] f = omega arith
+stated_in q n (x ∷ fs) f = by x.text.mark refl f (λ k. stated_in q (n + 1) fs k) where
+  by : (o : Option MarkText) → x.text.mark ≡ o → (f : ℕ) → ((k : ℕ) → stated_at fs k ≤ greatest_stated (plans_from q (n + 1) fs)) → stated_at (x ∷ fs) f ≤ greatest_stated (plan_before q n o (plans_from q (n + 1) fs))
+  by None e zero behind = let z : stated_at (x ∷ fs) 0 ≡ 0 = ap (λ (o : Option MarkText). unwrap_or (option_map (λ (m : MarkText). m.stated) o) 0) e in omega (arith, z)
+  by None e (suc f) behind = behind f
+  by (Some m) e zero behind = let z : stated_at (x ∷ fs) 0 ≡ m.stated = ap (λ (o : Option MarkText). unwrap_or (option_map (λ (m : MarkText). m.stated) o) 0) e in omega (arith, z)
+  by (Some m) e (suc f) behind = omega (arith, behind f)
+
+module _ (passes : ℕ → ℕ) (p : Plant) (devices : List Device) (tasks : List Coded) (places : List Extent) (k : ℕ) (t : Placed) (placed : IsPlacedTask p devices tasks places k t) (same : passes p.ways ≡ pass_count (passes_of p)) (x : ProgramText) (keeps : KeepsTaskRules p x t)
     (some : 1 ≤ t.task.jobs) (inputs : List (List ℕ)) (words : All (λ word. word < 2 ^ 32) (slice_index_or inputs k [])) where
   abbrev s : Setting
   s = setting_of p (task_guard t) t
@@ -116,17 +131,17 @@ module _ (passes : ℕ → ℕ) (p : Plant) (devices : List Device) (tasks : Lis
   stub_meant n marked lt =
       let r = planned n marked in
       let first : r.plan.function < t.task.program.job = subst (λ m. m < t.task.program.job) (sym r.function_is) lt in
-      subst (StubMeans p s t (limits_of x)) r.function_is (stub_means passes p devices tasks places k t placed x keeps once (marked_before n t.task.program.routines) r.plan r.planned first)
+      subst (StubMeans p s t (limits_of x)) r.function_is (stub_means passes p devices tasks places k t placed x keeps same (marked_before n t.task.program.routines) r.plan r.planned first)
 
   functions : (n : ℕ) → n < length t.task.program.routines → CalmStands (own_of tasks places k) s first_bytes counted ((codes_in t).code_part n) ((codes_in t).code n)
   functions n lt =
       let f = routine_at t.task.program.routines n lt in
-      let ps = function_code (parts_of t.task.program.routines) f.0 in
+      let ps = function_code (parts_of p.target t.task.program.routines) f.0 in
       subst (CalmStands (own_of tasks places k) s first_bytes counted (1 + n)) (sym (code_is p devices tasks places k t placed x keeps n f.0 f.1))
       (record {
         stands = code_stands p devices tasks places k t placed x keeps n f.0 f.1;
-        calm = functions_are_calm (parts_of t.task.program.routines) f.0;
-        takes = functions_take (parts_of t.task.program.routines) f.0;
+        calm = functions_are_calm (parts_of p.target t.task.program.routines) f.0;
+        takes = functions_take (parts_of p.target t.task.program.routines) f.0;
         own_bytes = task_code_is_own p devices tasks places k t placed (1 + n) ps (part_listed p devices tasks places k t placed x keeps n ps (table_code p devices tasks places k t placed x keeps n f.0 f.1));
       })
 
@@ -142,13 +157,13 @@ module _ (passes : ℕ → ℕ) (p : Plant) (devices : List Device) (tasks : Lis
       let r = planned n is.marked in
       let lt = is.below in
       let first : r.plan.function < t.task.program.job = subst (λ m. m < t.task.program.job) (sym r.function_is) lt in
-      let at = planned_at passes p devices tasks places k t placed x keeps once (marked_before n t.task.program.routines) r.plan r.planned first in
+      let at = planned_at passes p devices tasks places k t placed x keeps same (marked_before n t.task.program.routines) r.plan r.planned first in
       subst (λ m. StubHere (confinement_in t m) ended m) r.function_is
       (subst (λ y. StubHere y ended r.plan.function) (sym (ap (confinement_of t) at)) (record {
         plan = r.plan;
         there = at;
-        here = confined_stands passes p devices tasks places k t placed x keeps once (marked_before n t.task.program.routines) r.plan r.planned first own ended (run.running (task_guard t) ended less) run.stack_small;
-        stated = stated_so passes p devices tasks places k t placed x keeps once (marked_before n t.task.program.routines) r.plan r.planned first own ended (run.running (task_guard t) ended less) run.stack_small;
+        here = confined_stands passes p devices tasks places k t placed x keeps same (marked_before n t.task.program.routines) r.plan r.planned first own ended (run.running (task_guard t) ended less) run.stack_small;
+        stated = stated_so passes p devices tasks places k t placed x keeps same (marked_before n t.task.program.routines) r.plan r.planned first own ended (run.running (task_guard t) ended less) run.stack_small;
       }))
 
   below : t.task.program.job < length t.task.program.routines
@@ -176,12 +191,17 @@ module _ (passes : ℕ → ℕ) (p : Plant) (devices : List Device) (tasks : Lis
     stubs = λ n is. let h = stub_here 0 none n is in record { stands = h.here; plan = h.plan; there = h.there; stated_is = h.stated };
   }
 
+  returns_last : (n : ℕ) → n < length t.task.program.routines → ReturnsLast ((codes_in t).code n)
+  returns_last n lt =
+      let f = routine_at t.task.program.routines n lt in
+      subst ReturnsLast (sym (code_is p devices tasks places k t placed x keeps n f.0 f.1)) (functions_return_last (parts_of p.target t.task.program.routines) f.0)
+
   job_stands : JobStands p s t own.stack
   job_stands =
       let f = job_fits p devices tasks places k t placed x keeps in
       let g = jobs_stand p placed.plant_is devices tasks places (laid p devices tasks places k t placed) k t placed.there f.routine f.there in
       let e = table_code p devices tasks places k t placed x keeps t.task.program.job f.routine f.there in
-      let le = code_within p devices tasks places k t placed x keeps t.task.program.job (function_code (parts_of t.task.program.routines) f.routine) e in
+      let le = code_within p devices tasks places k t placed x keeps t.task.program.job (function_code (parts_of p.target t.task.program.routines) f.routine) e in
       let small = small_memory p devices tasks places k t placed x keeps in
       record {
         routine = f.routine;
@@ -208,6 +228,7 @@ module _ (passes : ℕ → ℕ) (p : Plant) (devices : List Device) (tasks : Lis
       let all = laid p devices tasks places k t placed in
       let due = placed_jobs_are_bounded (setup_of p devices places tasks) (own_of tasks places k) passes s t (confinement_in t) own 0 first_bytes counted due_stands in
       let rules = program_keeps p devices tasks places k t placed x keeps in
+      let strides = placed_jobs_are_strided (setup_of p devices places tasks) (own_of tasks places k) passes s t (confinement_in t) own 0 first_bytes counted due_stands returns_last in
       record {
         keeps = keeps;
         parts = counted;
@@ -225,17 +246,30 @@ module _ (passes : ℕ → ℕ) (p : Plant) (devices : List Device) (tasks : Lis
         small = run.entry_small;
         bytes = λ a. subst (λ (b : ℕ → ℕ). b a < 256) (sym run.bytes) (one_there (content_of p places tasks) a (content_fits p devices tasks places all).1);
         inputs = words;
-        first = subst (λ b. GlobalsStand s (globals_in t.task.program) (map initial_words t.task.program.globals) b) (sym run.bytes) (globals_stand_first p devices tasks places all k t placed.there (task_guard t));
+        first = subst (λ b. GlobalsStand s (globals_in p.target t.task.program) (map initial_words t.task.program.globals) b) (sym run.bytes) (globals_stand_first p devices tasks places all k t placed.there (task_guard t));
         globals = globals_are_placed p devices tasks places all k t placed.there (task_guard t);
         own_globals = globals_are_own p devices tasks places all k t placed.there (own_of tasks places k) (λ g a lt h. places_are_own p tasks places k t placed.there _ a h);
         cost = weight_in p t.plans t.table ((codes_in t).code_part t.task.program.job);
         most = job_bound_of p t.plans t.table;
         charged = due.0;
         dear = due.1;
+        sums = sums_in p t.plans t.table ((codes_in t).code_part t.task.program.job);
+        longest = task_longest p t;
+        strided = strides.0;
+        long = left_most (stretch_of p t.plans t.table) (greatest_stated t.plans) _ strides.1;
+        stated = λ f.
+            right_most (stretch_of p t.plans t.table) (greatest_stated t.plans) _
+            (subst (λ (ps : List Plan). stated_at t.task.program.routines f ≤ greatest_stated ps) (sym (plans_are p places _ t (at_parts p devices tasks places k t placed))) (stated_in t.task.program 0 t.task.program.routines f));
       }
     where
       four_more : (n : ℕ) → n % 4 ≡ 0 → (n + 4) % 4 ≡ 0
       four_more n e = omega (arith, e)
+
+      left_most : (a b g : ℕ) → a ≡ g → g ≤ max a b
+      left_most a b g e = omega (arith, e)
+
+      right_most : (a b n : ℕ) → n ≤ b → n ≤ max a b
+      right_most a b n le = omega (arith, le)
 
   most_is : task_stands.most ≡ job_bound_of p t.plans t.table
   unfolding task_stands
@@ -248,5 +282,22 @@ module _ (passes : ℕ → ℕ) (p : Plant) (devices : List Device) (tasks : Lis
       ∙ promise_is (setup_of p devices places tasks) (own_of tasks places k) passes p x t s own (λ g. (global_range t.at g).0) task_stands))
       (joins (setup_of p devices places tasks) (own_of tasks places k) passes p x t s own (λ g. (global_range t.at g).0) task_stands (task_limits p t) most_is refl refl)
 
+  longest_is : task_stands.longest ≡ task_longest p t
+  unfolding task_stands
+  longest_is = refl
+
+  task_paces : TaskPaces (setup_of p devices places tasks) passes (own_of tasks places k) own (task_limits p t) (task_longest p t) (promise_for x t (slice_index_or inputs k []))
+  task_paces =
+      subst (λ n. TaskPaces (setup_of p devices places tasks) passes (own_of tasks places k) own (task_limits p t) n (promise_for x t (slice_index_or inputs k []))) longest_is
+      (subst (TaskPaces (setup_of p devices places tasks) passes (own_of tasks places k) own (task_limits p t) task_stands.longest)
+      (sym (ap (λ n. Rattle.prem_weave.specs.Promise.Promised.promise_in (λ g. (global_range t.at g).0) x (slice_index_or inputs k []) n) (sym run.jobs)
+      ∙ promise_is (setup_of p devices places tasks) (own_of tasks places k) passes p x t s own (λ g. (global_range t.at g).0) task_stands))
+      (paces (setup_of p devices places tasks) (own_of tasks places k) passes p x t s own (λ g. (global_range t.at g).0) task_stands (task_limits p t) most_is refl refl))
+
 pub tasks_join : TasksJoin
-tasks_join passes p devices tasks places k t placed once x keeps some inputs words = task_joins passes p devices tasks places k t placed once x keeps some inputs words
+tasks_join passes p devices tasks places k t placed same x keeps some inputs words = task_joins passes p devices tasks places k t placed same x keeps some inputs words
+
+-- ---- the pace
+
+pub tasks_pace : TasksPace
+tasks_pace passes p devices tasks places k t placed same x keeps some inputs words = task_paces passes p devices tasks places k t placed same x keeps some inputs words

@@ -102,13 +102,13 @@ module _ (p : Plant) (devices : List Device) (tasks : List Coded) (places : List
   pub program_keeps : KeepsProgramRules x t.task.program
   program_keeps = record { well_formed = keeps.well_formed; words = keeps.words; turns = (limits_of x).turns; program = keeps.program; small = not_exceeding t.task.program keeps.four }
 
-  pub code_are : t.table.code ≡ codes_of (parts_of t.task.program.routines) t.task.program.routines
+  pub code_are : t.table.code ≡ codes_of (parts_of p.target t.task.program.routines) t.task.program.routines
   code_are = table_code_is p places _ t (at_parts p devices tasks places k t placed) ∙ keeps.code
 
-  pub table_code : (n : ℕ) (f : Routine) → slice_get t.task.program.routines n ≡ Some f → slice_get t.table.code n ≡ Some (function_code (parts_of t.task.program.routines) f)
-  table_code n f there = ap (λ pss. slice_get pss n) code_are ∙ code_there (parts_of t.task.program.routines) t.task.program.routines n f there
+  pub table_code : (n : ℕ) (f : Routine) → slice_get t.task.program.routines n ≡ Some f → slice_get t.table.code n ≡ Some (function_code (parts_of p.target t.task.program.routines) f)
+  table_code n f there = ap (λ pss. slice_get pss n) code_are ∙ code_there (parts_of p.target t.task.program.routines) t.task.program.routines n f there
 
-  pub code_is : (n : ℕ) (f : Routine) → slice_get t.task.program.routines n ≡ Some f → (codes_in t).code n ≡ function_code (parts_of t.task.program.routines) f
+  pub code_is : (n : ℕ) (f : Routine) → slice_get t.task.program.routines n ≡ Some f → (codes_in t).code n ≡ function_code (parts_of p.target t.task.program.routines) f
   code_is n f there = ap pieces_or (table_code n f there)
 
   pub stub_there : (j : ℕ) (plan : Plan) → slice_get t.plans j ≡ Some plan → slice_get t.table.stubs j ≡ Some (stub_of (passes_of p) p.line t.at plan)
@@ -144,13 +144,13 @@ module _ (p : Plant) (devices : List Device) (tasks : List Coded) (places : List
       ends n lt =
           let f = routine_at t.task.program.routines n lt in
           let e = table_code n f.0 f.1 in
-          let le = code_within n (function_code (parts_of t.task.program.routines) f.0) e in
-          let same : size_of ((codes_in t).code n) ≡ size_of (function_code (parts_of t.task.program.routines) f.0) = ap size_of (code_is n f.0 f.1) in
+          let le = code_within n (function_code (parts_of p.target t.task.program.routines) f.0) e in
+          let same : size_of ((codes_in t).code n) ≡ size_of (function_code (parts_of p.target t.task.program.routines) f.0) = ap size_of (code_is n f.0 f.1) in
           omega (arith, le, same, small_memory)
 
   -- no function, no code
   pub code_listed : (n : ℕ) → slice_get t.task.program.routines n ≡ None → slice_get t.table.code n ≡ None
-  code_listed n none = ap (λ pss. slice_get pss n) code_are ∙ nothing_there (parts_of t.task.program.routines) t.task.program.routines n none
+  code_listed n none = ap (λ pss. slice_get pss n) code_are ∙ nothing_there (parts_of p.target t.task.program.routines) t.task.program.routines n none
 
   pub part_listed : (n : ℕ) (ps : Pieces) → slice_get t.table.code n ≡ Some ps → slice_get (code_in t) (1 + n) ≡ Some ps
   part_listed n ps e = let z : 1 + n ≡ suc n = omega arith in ap (slice_get (code_in t)) z ∙ get_left t.table.code t.table.stubs n ps e

@@ -1,5 +1,5 @@
 -- The run of a task that stands in memory goes along a weave, and gives what its source means.
-use Rattle.std.proofs.Common.{◌≡◌, ℕ, zero, suc, ◌+◌, ◌*◌, ◌%◌, ◌^◌, ◌<◌, ◌≤◌, refl, ap, ◌∙◌, sym, subst, arith, true, Bool, List, [], ◌∷◌, length, map, Ok}
+use Rattle.std.proofs.Common.{◌≡◌, ℕ, zero, suc, ◌+◌, ◌*◌, ◌%◌, ◌^◌, ◌<◌, ◌≤◌, refl, ap, ◌∙◌, sym, subst, arith, true, Bool, List, [], ◌∷◌, length, map, Ok, get_or}
 use Rattle.std.specs.Prelude.{All, unwrap_or, option_map}
 use Rattle.std.proofs.lemmas.List.{length-map}
 use Rattle.prem_plant.specs.declared.plant.Plant.{Plant}
@@ -34,7 +34,9 @@ use Rattle.prem_cycle.specs.State.{Setup}
 use Rattle.prem_runs.specs.Position.Own.{AllOwn}
 use Rattle.prem_sound.specs.Script.Conforms.{IsOwnDid}
 use Rattle.prem_sound.specs.Script.Scripts.{Reading, Mark}
-use Rattle.prem_weave.specs.Weave.{dids_of, calls_of, marks_of}
+use Rattle.prem_weave.specs.Weave.{Weave, ends, goes, calls, joined, dids_of, calls_of, marks_of, IsWeave}
+use Rattle.prem_layout.specs.Stretch.Sums.{Sums, greatest}
+use Rattle.prem_weave.specs.Pace.Pace.{PacedFrom, AreStated}
 use Rattle.prem_weave.proofs.Woven.{marks_counted}
 use Rattle.prem_weave.proofs.Charges.{weaves_are_charged}
 use Rattle.prem_weave.specs.Promise.Promised.{read_globals, stated_at, mark_of, promise_of, promise_in, TheseStand, TheseAreOwn}
@@ -48,13 +50,14 @@ use Rattle.prem_stub_laws.specs.Join.Joined.{JobLimits, TaskJoins}
 use Rattle.prem_stub_laws.specs.OwnSteps.OwnSteps.{OwnBytes, AreOwnAt}
 use Rattle.prem_stub_laws.specs.Initial.Standing.{globals_in}
 use Rattle.prem_stub_laws.specs.StubFits.Within.{codes_in}
-use Rattle.prem_stub_laws.specs.JobWeave.Charged.{CallIsCharged, job_charge}
+use Rattle.prem_stub_laws.specs.JobWeave.Charged.{CallIsCharged, job_charge, CallIsStrided, start_sums}
 use Rattle.prem_stub_laws.specs.JobWeave.Jobs.{WovenJobs}
 use Rattle.prem_stub_laws.proofs.JobWeaveLemmas.Jobs.{jobs_are_woven}
 use Rattle.prem_stub_laws.proofs.JobWeaveLemmas.Agree.{jobs_agree}
 use Rattle.prem_task_laws.specs.TaskFrame.Kept.{KeepsTaskRules}
 use Rattle.prem_task_laws.specs.TaskFrame.Callees.{callees_in, job_callable, plain_callable}
 use Rattle.prem_sets_sound.specs.Each.Called.{job_calls}
+use Rattle.prem_sets_sound.specs.Each.Joins.{TaskPaces}
 use Rattle.prem_sets_sound.proofs.EachLemmas.Means.{StubMeans, JobStands, job_means}
 use Rattle.prem_sets_sound.proofs.EachLemmas.Lands.{CallsStand, calls_land, calls_land_woven}
 
@@ -91,8 +94,8 @@ pub record TaskStands (setup : Setup) (owned : ℕ → Bool) (passes : ℕ → �
   pub parts : ℕ
   pub calls : (ended : ℕ) → ended < own.jobs → CallsStand setup owned passes (read_globals places t.task.program.globals) s own ended own.bytes t parts
   pub mine : OwnBytes setup owned s.guard
-  pub plain : TaskFits s (globals_in t.task.program) (parts_of t.task.program.routines) (callees_in t.task.program (plain_callable t.task.program)) Compatible (codes_in t) t.task.program.routines t.task.program.job
-  pub stubs_fit : StubsFit (parts_of t.task.program.routines) (callees_in t.task.program (plain_callable t.task.program)) (callees_in t.task.program (job_callable t.task.program)) (codes_in t) t.task.program.job
+  pub plain : TaskFits s (globals_in p.target t.task.program) (parts_of p.target t.task.program.routines) (callees_in t.task.program (plain_callable t.task.program)) Compatible (codes_in t) t.task.program.routines t.task.program.job
+  pub stubs_fit : StubsFit (parts_of p.target t.task.program.routines) (callees_in t.task.program (plain_callable t.task.program)) (callees_in t.task.program (job_callable t.task.program)) (codes_in t) t.task.program.job
   pub stubs : (n : ℕ) → (codes_in t).marked n ≡ true → n < t.task.program.job → StubMeans p s t (limits_of x) n
   pub job : JobStands p s t own.stack
   pub starts : StartStands s own own.bytes parts 0 ((codes_in t).code_part t.task.program.job)
@@ -102,13 +105,18 @@ pub record TaskStands (setup : Setup) (owned : ℕ → Bool) (passes : ℕ → �
   pub small : own.entry + 4 < 2 ^ 32
   pub bytes : (a : ℕ) → own.bytes a < 256
   pub inputs : All (λ w. w < 2 ^ 32) own.inputs
-  pub first : GlobalsStand s (globals_in t.task.program) (map initial_words t.task.program.globals) own.bytes
-  pub globals : TheseStand s (globals_in t.task.program) places 0 t.task.program.globals
+  pub first : GlobalsStand s (globals_in p.target t.task.program) (map initial_words t.task.program.globals) own.bytes
+  pub globals : TheseStand s (globals_in p.target t.task.program) places 0 t.task.program.globals
   pub own_globals : TheseAreOwn owned places 0 t.task.program.globals
   pub cost : ℕ
   pub most : ℕ
   pub charged : CallIsCharged setup.plant (job_calls s t) ((codes_in t).code_part t.task.program.job) cost
   pub dear : job_charge setup.plant ((codes_in t).code_part t.task.program.job) cost ≤ most
+  pub sums : Sums
+  pub longest : ℕ
+  pub strided : CallIsStrided setup.plant (job_calls s t) ((codes_in t).code_part t.task.program.job) sums
+  pub long : greatest (start_sums setup.plant sums) ≤ longest
+  pub stated : (f : ℕ) → stated_at t.task.program.routines f ≤ longest
 
 module _ (setup : Setup) (owned : ℕ → Bool) (passes : ℕ → ℕ) (p : Plant) (x : ProgramText) (t : Placed) (s : Setting) (own : TaskRun) (places : ℕ → ℕ) (h : TaskStands setup owned passes p x t s own places) where
   abbrev reads : Reading
@@ -135,7 +143,7 @@ module _ (setup : Setup) (owned : ℕ → Bool) (passes : ℕ → ℕ) (p : Plan
   first_words : AreWords (first_registers own.stack)
   first_words = reg_words 2 own.stack (λ q. 0) h.job.small (record { zero = refl; word = λ q. omega arith })
 
-  first_between : Between s (globals_in t.task.program) Compatible (start t.task.program own.inputs) t0
+  first_between : Between s (globals_in p.target t.task.program) Compatible (start t.task.program own.inputs) t0
   first_between = record {
     globals = h.first;
     words = first_words;
@@ -149,45 +157,45 @@ module _ (setup : Setup) (owned : ℕ → Bool) (passes : ℕ → ℕ) (p : Plan
   start_fits : StateTaskFits t0
   start_fits = record { zero = refl; registers = first_words.word; bytes = h.bytes; left = h.inputs; outputs = no_words }
 
-  called : JobMeans s (globals_in t.task.program) (limits_of x) t.task.program (job_calls s t) ((codes_in t).code_part t.task.program.job) own.stack (own.entry + 4)
+  called : JobMeans s (globals_in p.target t.task.program) (limits_of x) t.task.program (job_calls s t) ((codes_in t).code_part t.task.program.job) own.stack (own.entry + 4)
   called = job_means p s t (limits_of x) own.stack (own.entry + 4) h.job h.aligned h.small h.plain h.stubs_fit h.stubs
 
   none_more : 0 + own.jobs ≡ own.jobs
   none_more = omega arith
 
   -- all jobs, along a weave
-  woven : WovenJobs setup owned passes reads s (globals_in t.task.program) own own.bytes h.most 0 own.jobs t0 means.after
+  woven : WovenJobs setup owned passes reads s (globals_in p.target t.task.program) own own.bytes h.most h.longest 0 own.jobs t0 means.after
   woven =
-      subst (λ n. WovenJobs setup owned passes reads s (globals_in t.task.program) own own.bytes h.most 0 n t0 means.after) none_more
-      (jobs_are_woven setup owned passes reads s (globals_in t.task.program) (limits_of x) t.task.program own own.bytes (job_calls s t) h.parts 0 ((codes_in t).code_part t.task.program.job) h.cost h.most
+      subst (λ n. WovenJobs setup owned passes reads s (globals_in p.target t.task.program) own own.bytes h.most h.longest 0 n t0 means.after) none_more
+      (jobs_are_woven setup owned passes reads s (globals_in p.target t.task.program) (limits_of x) t.task.program own own.bytes (job_calls s t) h.parts 0 ((codes_in t).code_part t.task.program.job) h.cost h.most h.longest h.sums
       h.mine h.own_start h.own_done (λ ended lt. (h.calls ended lt).running) (λ ended lt. calls_land_woven setup owned passes reads s own ended own.bytes t h.parts (h.calls ended lt))
-      h.starts h.small h.job.small called h.charged h.dear own.jobs 0 (omega arith) (start t.task.program own.inputs) t0 means.after first_between refl (λ a e. refl) start_fits means.within)
+      h.starts h.small h.job.small called h.charged h.dear h.strided h.long own.jobs 0 (omega arith) (start t.task.program own.inputs) t0 means.after first_between refl (λ a e. refl) start_fits means.within)
 
-  done : JobsDone s (globals_in t.task.program) own own.bytes 0 own.jobs t0 [] means.after
+  done : JobsDone s (globals_in p.target t.task.program) own own.bytes 0 own.jobs t0 [] means.after
   done =
-      subst (λ n. JobsDone s (globals_in t.task.program) own own.bytes 0 n t0 [] means.after) none_more
-      (jobs_run s (globals_in t.task.program) (limits_of x) t.task.program own own.bytes (job_calls s t) h.parts 0 ((codes_in t).code_part t.task.program.job)
+      subst (λ n. JobsDone s (globals_in p.target t.task.program) own own.bytes 0 n t0 [] means.after) none_more
+      (jobs_run s (globals_in p.target t.task.program) (limits_of x) t.task.program own own.bytes (job_calls s t) h.parts 0 ((codes_in t).code_part t.task.program.job)
       (λ ended lt. (h.calls ended lt).running) (λ ended lt. calls_land setup owned passes reads s own ended own.bytes t h.parts (h.calls ended lt))
       h.starts h.small h.job.small called own.jobs 0 (omega arith) (start t.task.program own.inputs) t0 means.after first_between refl (λ a e. refl) means.within)
 
   shape : HasShape (length t.task.program.globals) means.after
   shape = jobs_keep_shape (limits_of x) t.task.program own.inputs own.jobs means.after means.within
 
-  noted : Noted s (globals_in t.task.program) own (length (dids_of woven.weave)) (in_job 0 own.entry t0) [] means.after.marks
+  noted : Noted s (globals_in p.target t.task.program) own (length (dids_of woven.weave)) (in_job 0 own.entry t0) [] means.after.marks
   noted =
-      let same = jobs_agree setup owned passes reads s (globals_in t.task.program) own own.bytes h.most t0 [] means.after means.after woven done in
-      subst (λ n. Noted s (globals_in t.task.program) own n (in_job 0 own.entry t0) [] means.after.marks) (sym (ap (λ (ds : List Did). length ds) same.0)) done.marks
+      let same = jobs_agree setup owned passes reads s (globals_in p.target t.task.program) own own.bytes h.most h.longest t0 [] means.after means.after woven done in
+      subst (λ n. Noted s (globals_in p.target t.task.program) own n (in_job 0 own.entry t0) [] means.after.marks) (sym (ap (λ (ds : List Did). length ds) same.0)) done.marks
 
   told : marks_of woven.weave ≡ map (mark_of t.task.program.routines) means.after.marks
   told =
       let new_is : means.after.marks ≡ noted.new = noted.adds in
       let long : HaveLength (length t.task.program.globals) noted.new = subst (HaveLength (length t.task.program.globals)) new_is shape.marks in
-      let m = marks_are_told setup.plant passes reads s (globals_in t.task.program) t.task.program.routines own (in_job 0 own.entry t0) (in_job own.jobs own.entry woven.then_state) woven.weave [] means.after.marks
-      woven.is_weave woven.goes_along (λ f. refl) noted (marks_are_read s (globals_in t.task.program) places t.task.program.globals h.globals noted.new long) in
+      let m = marks_are_told setup.plant passes reads s (globals_in p.target t.task.program) t.task.program.routines own (in_job 0 own.entry t0) (in_job own.jobs own.entry woven.then_state) woven.weave [] means.after.marks
+      woven.is_weave woven.goes_along (λ f. refl) noted (marks_are_read s (globals_in p.target t.task.program) places t.task.program.globals h.globals noted.new long) in
       m.1 ∙ ap (map (mark_of t.task.program.routines)) (sym new_is)
 
   finals : reads woven.then_state.view ≡ means.after.globals
-  finals = globals_are_read s (globals_in t.task.program) places t.task.program.globals means.after.globals woven.then_state.view h.globals shape.globals woven.between.globals
+  finals = globals_are_read s (globals_in p.target t.task.program) places t.task.program.globals means.after.globals woven.then_state.view h.globals shape.globals woven.between.globals
 
   -- what is promised, in the words of the program with its turns
   pub promise_is : promise_in places x own.inputs own.jobs ≡ promise_of reads t.task.program.routines means.after
@@ -205,7 +213,7 @@ module _ (setup : Setup) (owned : ℕ → Bool) (passes : ℕ → ℕ) (p : Plan
 
   pub joins : (most : JobLimits) → h.most ≡ most.cycles → most.outputs ≡ outputs_of t.task.program → most.calls ≡ marked_calls_of t.task.program →
       TaskJoins setup passes owned own most (promise_of reads t.task.program.routines means.after)
-  joins most cycles outputs calls =
+  joins most cycles outputs call_count =
       let counts = runs_counted x h.keeps.well_formed h.keeps.words h.keeps.in_range own.inputs (words_listed own.inputs h.inputs) own.jobs means.after means.meaning in
       let count_outputs : length means.after.outputs ≤ own.jobs * outputs_of t.task.program = subst (λ q. length means.after.outputs ≤ own.jobs * outputs_of q) (sym h.keeps.program) counts.outputs in
       let count_marks : length means.after.marks ≤ own.jobs * marked_calls_of t.task.program = subst (λ q. length means.after.marks ≤ own.jobs * marked_calls_of q) (sym h.keeps.program) counts.marks in
@@ -228,8 +236,38 @@ module _ (setup : Setup) (owned : ℕ → Bool) (passes : ℕ → ℕ) (p : Plan
           marks = sym told;
         };
         outputs = subst (λ n. length means.after.outputs ≤ own.jobs * n) (sym outputs) count_outputs;
-        calls = subst (λ n. length (calls_of woven.weave) ≤ own.jobs * n) (sym calls) (subst (λ n. n ≤ own.jobs * marked_calls_of t.task.program) (sym calls_are) count_marks);
+        calls = subst (λ n. length (calls_of woven.weave) ≤ own.jobs * n) (sym call_count) (subst (λ n. n ≤ own.jobs * marked_calls_of t.task.program) (sym calls_are) count_marks);
       }
     where
       due : {d c jobs j : ℕ} (none : ℕ) → none + c ≤ jobs → d ≡ c → jobs ≡ j → d ≤ j
       due {d} {c} {jobs} {j} none le e same = omega (arith, le, e, same)
+
+  -- ---- the pace
+
+  stated_along : (w : Weave) → IsWeave setup.plant passes w → ((k : ℕ) (m : Mark) → k < length (marks_of w) → (get_or (marks_of w) k m).stated ≤ h.longest) → AreStated h.longest w
+  stated_along ends is all = tt
+  stated_along (goes d rest) is all = stated_along rest is.1 all
+  stated_along (calls m rest) is all =
+      let here : m.mark.stated ≤ h.longest = all 0 m.mark (omega arith) in
+      let same : m.mark.stated ≡ m.call.stated = is.0.stated in
+      (omega (arith, here, same), stated_along rest is.1 (λ k z lt. all (suc k) z (omega (arith, lt))))
+
+  marks_stated : (ms : List MarkedCall) (k : ℕ) (z : Mark) → k < length (map (mark_of t.task.program.routines) ms) → (get_or (map (mark_of t.task.program.routines) ms) k z).stated ≤ h.longest
+  marks_stated [] k z lt = absurd (omega (arith, lt))
+  marks_stated (m ∷ ms) zero z lt = h.stated m.function
+  marks_stated (m ∷ ms) (suc k) z lt = marks_stated ms k z (omega (arith, lt))
+
+  joined_ends : (w : Weave) → joined w ends ≡ w
+  joined_ends ends = refl
+  joined_ends (goes d rest) = ap (goes d) (joined_ends rest)
+  joined_ends (calls m rest) = ap (calls m) (joined_ends rest)
+
+  pub paces : (most : JobLimits) → h.most ≡ most.cycles → most.outputs ≡ outputs_of t.task.program → most.calls ≡ marked_calls_of t.task.program →
+      TaskPaces setup passes owned own most h.longest (promise_of reads t.task.program.routines means.after)
+  unfolding joins
+  paces most cycles outputs call_count = record {
+    joins = joins most cycles outputs call_count;
+    paced = subst (λ n. PacedFrom setup.plant n h.longest 0 0 woven.weave) cycles (subst (PacedFrom setup.plant h.most h.longest 0 0) (joined_ends woven.weave) (woven.paced ends tt));
+    stated = stated_along woven.weave woven.is_weave (λ k z lt.
+        subst (λ ms. k < length ms → (get_or ms k z).stated ≤ h.longest) (sym told) (marks_stated means.after.marks k z) lt);
+  }

@@ -12,11 +12,11 @@ use Rattle.prem_meaning.specs.Statements.{ProgramState, is_marked}
 use Rattle.prem_meaning.specs.Source.{Limits, calls_below, enter_if_there, this_or, everywhere}
 use Rattle.prem_asm.specs.Pieces.{size_of}
 use Rattle.prem_asm.specs.Runs.{Setting, Ending}
-use Rattle.prem_template.specs.Parts.{parts_of, is_marked_at, stub_part}
+use Rattle.prem_template.specs.Parts.{parts_of, is_marked_at}
 use Rattle.prem_template.specs.Frames.{frame_of, frame_if_there, slots_of}
 use Rattle.prem_template.specs.Steps.{function_code}
 use Rattle.prem_layout.specs.Plans.{Plan}
-use Rattle.prem_layout.specs.Parts.{passes_of}
+use Rattle.prem_layout.specs.Parts.{passes_of, pass_count}
 use Rattle.prem_layout.specs.Footprint.{ranges_of}
 use Rattle.prem_layout.specs.Placed.{Placed}
 use Rattle.prem_code_laws.specs.ExprLaws.Relation.{Globals, Stack, Ground}
@@ -74,13 +74,14 @@ pub record StubMeans (p : Plant) (s : Setting) (t : Placed) (limits : Limits) (n
   pub there : slice_get t.task.program.routines n ≡ Some routine
   pub marked : is_marked routine ≡ true
   pub stub_is : (codes_in t).stub n ≡ stub_code (passes_of p) p.line (ranges_of t.at plan) plan.stated (1 + n)
+  pub few : pass_count (passes_of p) < 2 ^ 32
   pub small : plan.stated < 2 ^ 32
-  pub stated_is : (globals_in t.task.program).stated n ≡ plan.stated
+  pub stated_is : (globals_in p.target t.task.program).stated n ≡ plan.stated
   pub line_fits : Lines s p.line
   pub in_memory : AllInMemory s (ranges_of t.at plan)
   pub aligned : s.places ((codes_in t).stub_part n) % 4 ≡ 0
   pub ends : s.places ((codes_in t).stub_part n) + size_of ((codes_in t).stub n) < 2 ^ 32
-  pub stands : MarkedStands s (guard_of t.at plan) (globals_in t.task.program) (parts_of t.task.program.routines) (callees_in t.task.program (reach_callable plan)) (reached_in t plan) limits
+  pub stands : MarkedStands s (guard_of t.at plan) (globals_in p.target t.task.program) (parts_of p.target t.task.program.routines) (callees_in t.task.program (reach_callable plan)) (reached_in t plan) limits
       t.task.program.routines t.task.program.job n routine (job_frame t) (plan_frame t plan)
 
 other_lines : (s : Setting) (line : ℕ) (h : _) → Lines s line → Lines (with_guard h s) line
@@ -98,23 +99,23 @@ module _ (p : Plant) (s : Setting) (t : Placed) (limits : Limits) where
   P = t.task.program
 
   abbrev gs : Globals
-  gs = globals_in t.task.program
+  gs = globals_in p.target t.task.program
 
   stub_means : (n : ℕ) → StubMeans p s t limits n →
-      CallRunsAt s (globals_in t.task.program) everywhere (job_frame t) Compatible (stub_run s (codes_in t) (confinement_in t n) t.task.program.job n) ((parts_of t.task.program.routines).link n) ((parts_of t.task.program.routines).frame n)
+      CallRunsAt s (globals_in p.target t.task.program) everywhere (job_frame t) Compatible (stub_run s (codes_in t) (confinement_in t n) t.task.program.job n) ((parts_of p.target t.task.program.routines).link n) ((parts_of p.target t.task.program.routines).frame n)
       ((callees_in t.task.program (plain_callable t.task.program)).depth n) ((callees_in t.task.program (plain_callable t.task.program)).params n) ((callees_in t.task.program (plain_callable t.task.program)).returns n)
       (λ words q. calls_below limits t.task.program.routines t.task.program.job everywhere n words q)
   stub_means n x =
       let h = guard_of t.at x.plan in
       let inner = code_calls (with_guard (guard_of t.at x.plan) s) (reached_in t x.plan) t.task.program.job in
-      let confines = marked_confines s (guard_of t.at x.plan) (globals_in t.task.program) (parts_of t.task.program.routines) (callees_in t.task.program (reach_callable x.plan)) (reached_in t x.plan) limits
+      let confines = marked_confines s (guard_of t.at x.plan) (globals_in p.target t.task.program) (parts_of p.target t.task.program.routines) (callees_in t.task.program (reach_callable x.plan)) (reached_in t x.plan) limits
       t.task.program.routines t.task.program.job n x.routine (job_frame t) (plan_frame t x.plan) x.stands in
-      let called = confined_stubs_are_called s (guard_of t.at x.plan) (code_calls (with_guard (guard_of t.at x.plan) s) (reached_in t x.plan) t.task.program.job) (globals_in t.task.program) everywhere (job_frame t) (plan_frame t x.plan) p.line
-      (other_lines s p.line (guard_of t.at x.plan) x.line_fits) (ranges_of t.at x.plan) (other_ranges s (guard_of t.at x.plan) (ranges_of t.at x.plan) x.in_memory) (passes_of p) (omega arith) n x.plan.stated (1 + n) (frame_of x.routine)
+      let called = confined_stubs_are_called s (guard_of t.at x.plan) (code_calls (with_guard (guard_of t.at x.plan) s) (reached_in t x.plan) t.task.program.job) (globals_in p.target t.task.program) everywhere (job_frame t) (plan_frame t x.plan) p.line
+      (other_lines s p.line (guard_of t.at x.plan) x.line_fits) (ranges_of t.at x.plan) (other_ranges s (guard_of t.at x.plan) (ranges_of t.at x.plan) x.in_memory) (passes_of p) x.few n x.plan.stated (1 + n) (frame_of x.routine)
       ((callees_in t.task.program (plain_callable t.task.program)).depth n) (length x.routine.text.params) (is_some x.routine.result)
       (λ words q. performed (calls_below limits t.task.program.routines n) (limits.inside n) x.routine words q) x.small x.stated_is confines (s.places ((codes_in t).stub_part n)) x.aligned
       (subst (λ ps. s.places ((codes_in t).stub_part n) + size_of ps < 2 ^ 32) x.stub_is x.ends) in
-      same_runs s (globals_in t.task.program) everywhere (job_frame t) Compatible _ (stub_run s (codes_in t) (confinement_in t n) t.task.program.job n) 4 ((parts_of t.task.program.routines).link n) (frame_of x.routine) ((parts_of t.task.program.routines).frame n)
+      same_runs s (globals_in p.target t.task.program) everywhere (job_frame t) Compatible _ (stub_run s (codes_in t) (confinement_in t n) t.task.program.job n) 4 ((parts_of p.target t.task.program.routines).link n) (frame_of x.routine) ((parts_of p.target t.task.program.routines).frame n)
       ((callees_in t.task.program (plain_callable t.task.program)).depth n) (length x.routine.text.params) ((callees_in t.task.program (plain_callable t.task.program)).params n) (is_some x.routine.result) ((callees_in t.task.program (plain_callable t.task.program)).returns n)
       _ (λ words q. calls_below limits t.task.program.routines t.task.program.job everywhere n words q)
       (λ u. run_is u) (ap (λ b. cond b 4 1) (marked_then t.task.program.routines n x.routine x.there x.marked)) (ap frame_if_there x.there) (ap params_if_there x.there) (ap returns_if_there x.there)
@@ -128,20 +129,20 @@ module _ (p : Plant) (s : Setting) (t : Placed) (limits : Limits) where
           ∙ ap (λ ps. Rattle.prem_asm.specs.Runs.run (with_guard (guard_of t.at x.plan) s) (code_calls (with_guard (guard_of t.at x.plan) s) (reached_in t x.plan) t.task.program.job) (s.places ((codes_in t).stub_part n)) ps u) x.stub_is
 
   -- all that `job` calls
-  callees_mean : TaskFits s (globals_in t.task.program) (parts_of t.task.program.routines) (callees_in t.task.program (plain_callable t.task.program)) Compatible (codes_in t) t.task.program.routines t.task.program.job →
-      StubsFit (parts_of t.task.program.routines) (callees_in t.task.program (plain_callable t.task.program)) (callees_in t.task.program (job_callable t.task.program)) (codes_in t) t.task.program.job →
+  callees_mean : TaskFits s (globals_in p.target t.task.program) (parts_of p.target t.task.program.routines) (callees_in t.task.program (plain_callable t.task.program)) Compatible (codes_in t) t.task.program.routines t.task.program.job →
+      StubsFit (parts_of p.target t.task.program.routines) (callees_in t.task.program (plain_callable t.task.program)) (callees_in t.task.program (job_callable t.task.program)) (codes_in t) t.task.program.job →
       ((n : ℕ) → (codes_in t).marked n ≡ true → n < t.task.program.job → StubMeans p s t limits n) →
-      CalleesAt s (globals_in t.task.program) everywhere (job_frame t) (task_calls s t) (parts_of t.task.program.routines) (callees_in t.task.program (job_callable t.task.program)) Compatible (calls_below limits t.task.program.routines t.task.program.job)
+      CalleesAt s (globals_in p.target t.task.program) everywhere (job_frame t) (task_calls s t) (parts_of p.target t.task.program.routines) (callees_in t.task.program (job_callable t.task.program)) Compatible (calls_below limits t.task.program.routines t.task.program.job)
   callees_mean plain stubs_fit stubs =
-      confined_calls_mean s (globals_in t.task.program) everywhere (job_frame t) (parts_of t.task.program.routines) (callees_in t.task.program (plain_callable t.task.program)) (callees_in t.task.program (job_callable t.task.program)) Compatible (codes_in t) (confinement_in t)
+      confined_calls_mean s (globals_in p.target t.task.program) everywhere (job_frame t) (parts_of p.target t.task.program.routines) (callees_in t.task.program (plain_callable t.task.program)) (callees_in t.task.program (job_callable t.task.program)) Compatible (codes_in t) (confinement_in t)
       t.task.program.job (code_calls s (codes_in t) t.task.program.job) (calls_below limits t.task.program.routines t.task.program.job) stubs_fit
       (λ f callable. plain_means f callable) (λ n marked below. stub_means n (stubs n marked below))
     where
       plain_means : (f : ℕ) → (callees_in t.task.program (plain_callable t.task.program)).callable f ≡ true →
-          CallRunsAt s (globals_in t.task.program) everywhere (job_frame t) Compatible (code_calls s (codes_in t) t.task.program.job ((parts_of t.task.program.routines).callee f)) ((parts_of t.task.program.routines).link f) ((parts_of t.task.program.routines).frame f)
+          CallRunsAt s (globals_in p.target t.task.program) everywhere (job_frame t) Compatible (code_calls s (codes_in t) t.task.program.job ((parts_of p.target t.task.program.routines).callee f)) ((parts_of p.target t.task.program.routines).link f) ((parts_of p.target t.task.program.routines).frame f)
           ((callees_in t.task.program (plain_callable t.task.program)).depth f) ((callees_in t.task.program (plain_callable t.task.program)).params f) ((callees_in t.task.program (plain_callable t.task.program)).returns f) (λ words q. calls_below limits t.task.program.routines t.task.program.job everywhere f words q)
       plain_means f callable =
-          let all = functions_run s (globals_in t.task.program) (parts_of t.task.program.routines) (callees_in t.task.program (plain_callable t.task.program)) Compatible (codes_in t) limits t.task.program.routines t.task.program.job everywhere plain t.task.program.job (omega arith) f callable in
+          let all = functions_run s (globals_in p.target t.task.program) (parts_of p.target t.task.program.routines) (callees_in t.task.program (plain_callable t.task.program)) Compatible (codes_in t) limits t.task.program.routines t.task.program.job everywhere plain t.task.program.job (omega arith) f callable in
           record {
             runs = λ count q words u back word after ground matches linked back_al back_small floor long arguments is.
                 all.runs (job_frame t) count q words u back word after ground matches linked back_al back_small floor long arguments
@@ -159,21 +160,21 @@ pub record JobStands (p : Plant) (s : Setting) (t : Placed) (top : ℕ) : Type 0
   pub below : t.task.program.job < length t.task.program.routines
   pub depth : ℕ
   pub under : ℕ
-  pub fits : FunctionFits (globals_in t.task.program) (parts_of t.task.program.routines) (callees_in t.task.program (job_callable t.task.program)) Compatible (s.places ((codes_in t).code_part t.task.program.job)) depth under routine
-  pub code_is : (codes_in t).code t.task.program.job ≡ function_code (parts_of t.task.program.routines) routine
-  pub ground : Ground s (globals_in t.task.program) everywhere (job_frame t)
+  pub fits : FunctionFits (globals_in p.target t.task.program) (parts_of p.target t.task.program.routines) (callees_in t.task.program (job_callable t.task.program)) Compatible (s.places ((codes_in t).code_part t.task.program.job)) depth under routine
+  pub code_is : (codes_in t).code t.task.program.job ≡ function_code (parts_of p.target t.task.program.routines) routine
+  pub ground : Ground s (globals_in p.target t.task.program) everywhere (job_frame t)
   pub slots : (job_frame t).slots ≡ slots_of routine
   pub space : (job_frame t).low + under ≤ (job_frame t).sp
   pub top_is : (job_frame t).sp + frame_of routine ≡ top
   pub small : top < 2 ^ 32
 
 pub job_means : (p : Plant) (s : Setting) (t : Placed) (limits : Limits) (top back : ℕ) → JobStands p s t top → back % 4 ≡ 0 → back < 2 ^ 32 →
-    TaskFits s (globals_in t.task.program) (parts_of t.task.program.routines) (callees_in t.task.program (plain_callable t.task.program)) Compatible (codes_in t) t.task.program.routines t.task.program.job →
-    StubsFit (parts_of t.task.program.routines) (callees_in t.task.program (plain_callable t.task.program)) (callees_in t.task.program (job_callable t.task.program)) (codes_in t) t.task.program.job →
+    TaskFits s (globals_in p.target t.task.program) (parts_of p.target t.task.program.routines) (callees_in t.task.program (plain_callable t.task.program)) Compatible (codes_in t) t.task.program.routines t.task.program.job →
+    StubsFit (parts_of p.target t.task.program.routines) (callees_in t.task.program (plain_callable t.task.program)) (callees_in t.task.program (job_callable t.task.program)) (codes_in t) t.task.program.job →
     ((n : ℕ) → (codes_in t).marked n ≡ true → n < t.task.program.job → StubMeans p s t limits n) →
-    JobMeans s (globals_in t.task.program) limits t.task.program (job_calls s t) ((codes_in t).code_part t.task.program.job) top back
+    JobMeans s (globals_in p.target t.task.program) limits t.task.program (job_calls s t) ((codes_in t).code_part t.task.program.job) top back
 job_means p s t limits top back x al small plain stubs_fit stubs =
-    subst (λ ps. JobMeans s (globals_in t.task.program) limits t.task.program (with_part s ((codes_in t).code_part t.task.program.job) ps (task_calls s t) no_calls) ((codes_in t).code_part t.task.program.job) top back) (sym x.code_is)
-    (subst (λ n. JobMeans s (globals_in t.task.program) limits t.task.program (with_part s ((codes_in t).code_part t.task.program.job) (function_code (parts_of t.task.program.routines) x.routine) (task_calls s t) no_calls) ((codes_in t).code_part t.task.program.job) n back) x.top_is
-    (job_is_called s (globals_in t.task.program) limits t.task.program (codes_in t) (parts_of t.task.program.routines) (callees_in t.task.program (job_callable t.task.program)) (task_calls s t) x.routine x.depth x.under (job_frame t) back x.there x.plain x.below
+    subst (λ ps. JobMeans s (globals_in p.target t.task.program) limits t.task.program (with_part s ((codes_in t).code_part t.task.program.job) ps (task_calls s t) no_calls) ((codes_in t).code_part t.task.program.job) top back) (sym x.code_is)
+    (subst (λ n. JobMeans s (globals_in p.target t.task.program) limits t.task.program (with_part s ((codes_in t).code_part t.task.program.job) (function_code (parts_of p.target t.task.program.routines) x.routine) (task_calls s t) no_calls) ((codes_in t).code_part t.task.program.job) n back) x.top_is
+    (job_is_called s (globals_in p.target t.task.program) limits t.task.program (codes_in t) (parts_of p.target t.task.program.routines) (callees_in t.task.program (job_callable t.task.program)) (task_calls s t) x.routine x.depth x.under (job_frame t) back x.there x.plain x.below
     (callees_mean p s t limits plain stubs_fit stubs) x.fits x.ground x.slots x.space x.alone (subst (λ n. n < 2 ^ 32) (sym x.top_is) x.small) al small))

@@ -8,14 +8,15 @@ use Rattle.prem_syntax.specs.Syntax.{ProgramText}
 use Rattle.prem_isa.specs.Plain.{TaskRun}
 use Rattle.prem_meaning.specs.Resolved.{Routine}
 use Rattle.prem_ranges.specs.GroupThree.{limits_of}
-use Rattle.prem_lru.specs.Order.{is_in, HaveRoom}
+use Rattle.prem_order.specs.Order.{is_in, HaveRoom}
 use Rattle.prem_asm.specs.Pieces.{Pieces, no_pieces, size_of}
 use Rattle.prem_asm.specs.Quiet.{IsQuiet, EachPiece}
 use Rattle.prem_asm.specs.Runs.{Guard, Setting}
 use Rattle.prem_template.specs.Parts.{parts_of, marked_before, stub_part}
 use Rattle.prem_template.specs.Steps.{function_code}
 use Rattle.prem_layout.specs.Plans.{Plan, plans_of}
-use Rattle.prem_layout.specs.Parts.{passes_of}
+use Rattle.prem_layout.specs.Parts.{pass_count, passes_of}
+use Rattle.prem_layout.proofs.StubLaws.{passes_are_few}
 use Rattle.prem_layout.specs.Footprint.{place_at, ranges_of, footprint_of, conflict_of}
 use Rattle.prem_layout.specs.Stubs.{stub_of}
 use Rattle.prem_layout.specs.Placed.{Coded, Placed, name_at}
@@ -77,9 +78,12 @@ room_of p t (x ∷ xs) none (suc j) plan e = room_of p t xs (none_first (conflic
 -- ---- one plan
 
 module _ (passes : ℕ → ℕ) (p : Plant) (devices : List Device) (tasks : List Coded) (places : List Extent) (k : ℕ) (t : Placed) (placed : IsPlacedTask p devices tasks places k t) (x : ProgramText) (keeps : KeepsTaskRules p x t)
-    (once : passes p.ways ≡ 1) (j : ℕ) (plan : Plan) (planned : slice_get t.plans j ≡ Some plan) (first : plan.function < t.task.program.job) where
+    (same : passes p.ways ≡ pass_count (passes_of p)) (j : ℕ) (plan : Plan) (planned : slice_get t.plans j ≡ Some plan) (first : plan.function < t.task.program.job) where
   abbrev s : Setting
   s = setting_of p (task_guard t) t
+
+  few_passes : pass_count (passes_of p) < 2 ^ 32
+  few_passes = let le = (passes_are_few p placed.plant_is).1 in omega (arith, le)
 
   parts : HasParts p tasks places k t
   parts = parts_of_task p devices tasks places k t placed
@@ -109,11 +113,11 @@ module _ (passes : ℕ → ℕ) (p : Plant) (devices : List Device) (tasks : Lis
   ranges = plan_ranges p devices tasks places k t placed keeps.code x j plan planned plan_is
 
   -- what the function reaches has its code
-  reached_code : (n : ℕ) (f : Routine) → is_in n plan.reach ≡ true → slice_get t.task.program.routines n ≡ Some f → (reached_in t plan).code n ≡ function_code (parts_of t.task.program.routines) f
+  reached_code : (n : ℕ) (f : Routine) → is_in n plan.reach ≡ true → slice_get t.task.program.routines n ≡ Some f → (reached_in t plan).code n ≡ function_code (parts_of p.target t.task.program.routines) f
   reached_code n f member there = ap (λ b. cond b ((codes_in t).code n) no_pieces) member ∙ code_is p devices tasks places k t placed x keeps n f there
 
   -- a function's code, or nothing
-  each_code : (n : ℕ) (P : Pieces → Type 0) → P no_pieces → ((f : Routine) → is_in n plan.reach ≡ true → slice_get t.task.program.routines n ≡ Some f → P (function_code (parts_of t.task.program.routines) f)) → P ((reached_in t plan).code n)
+  each_code : (n : ℕ) (P : Pieces → Type 0) → P no_pieces → ((f : Routine) → is_in n plan.reach ≡ true → slice_get t.task.program.routines n ≡ Some f → P (function_code (parts_of p.target t.task.program.routines) f)) → P ((reached_in t plan).code n)
   each_code n P none some = by (is_in n plan.reach) refl (slice_get t.task.program.routines n) refl where
     by : (b : Bool) → is_in n plan.reach ≡ b → (o : Option Routine) → slice_get t.task.program.routines n ≡ o → P ((reached_in t plan).code n)
     by false out o there = subst P (sym (ap (λ b. cond b ((codes_in t).code n) no_pieces) out)) none
@@ -123,12 +127,12 @@ module _ (passes : ℕ → ℕ) (p : Plant) (devices : List Device) (tasks : Lis
         subst P (sym (ap (λ b. cond b ((codes_in t).code n) no_pieces) member ∙ ap pieces_or nothing)) none
 
   quiet : (n : ℕ) → EachPiece IsQuiet ((reached_in t plan).code n)
-  quiet n = each_code n (EachPiece IsQuiet) tt (λ f member there. quiet_function (parts_of t.task.program.routines) f (plan_is.quiet first n f member there))
+  quiet n = each_code n (EachPiece IsQuiet) tt (λ f member there. quiet_function (parts_of p.target t.task.program.routines) f (plan_is.quiet p.target first n f member there))
 
   size_small : (n : ℕ) → (place_at t.at (1 + n)).0 + size_of ((reached_in t plan).code n) ≤ p.memory
   size_small n =
       each_code n (λ ps. (place_at t.at (1 + n)).0 + size_of ps ≤ p.memory) (let a = parts.forward (1 + n) in let b = parts.within (1 + n) in omega (arith, a, b))
-      (λ f member there. code_within p devices tasks places k t placed x keeps n (function_code (parts_of t.task.program.routines) f) (table_code p devices tasks places k t placed x keeps n f there))
+      (λ f member there. code_within p devices tasks places k t placed x keeps n (function_code (parts_of p.target t.task.program.routines) f) (table_code p devices tasks places k t placed x keeps n f there))
 
   has_codes : (h : Guard) → HasCodes (with_guard h s) t.task.program (λ n. is_in n plan.reach) (reached_in t plan)
   has_codes h = record {
@@ -148,7 +152,7 @@ module _ (passes : ℕ → ℕ) (p : Plant) (devices : List Device) (tasks : Lis
   ground : PlanStands p x t plan plan_is.routine
   ground = plans_stand p placed.plant_is devices tasks places (laid p devices tasks places k t placed) k t placed.there (callees_are_before p x t keeps) x plan plan_is plan_is.routine plan_is.there
 
-  marked_stands : MarkedStands s (guard_of t.at plan) (globals_in t.task.program) (parts_of t.task.program.routines) (callees_in t.task.program (reach_callable plan)) (reached_in t plan) (limits_of x)
+  marked_stands : MarkedStands s (guard_of t.at plan) (globals_in p.target t.task.program) (parts_of p.target t.task.program.routines) (callees_in t.task.program (reach_callable plan)) (reached_in t plan) (limits_of x)
       t.task.program.routines t.task.program.job plan.function plan_is.routine (job_frame t) (plan_frame t plan)
   marked_stands = record {
     task = fits.task;
@@ -174,6 +178,7 @@ module _ (passes : ℕ → ℕ) (p : Plant) (devices : List Device) (tasks : Lis
 
   pub stub_means : StubMeans p s t (limits_of x) plan.function
   stub_means = record {
+    few = few_passes;
     plan = plan;
     routine = plan_is.routine;
     planned = planned_at;
@@ -241,9 +246,9 @@ module _ (passes : ℕ → ℕ) (p : Plant) (devices : List Device) (tasks : Lis
   own_code : (m : ℕ) → CodeIsOwn (own_of tasks places k) (with_guard (guard_of t.at plan) s) (reached_in t plan) m
   own_code m = record {
     bytes = each_code m (λ ps. AreOwnAt (own_of tasks places k) (place_at t.at (1 + m)).0 ps) (λ a ge lt. absurd (omega (arith, ge, lt)))
-        (λ f member there. task_code_is_own p devices tasks places k t placed (1 + m) (function_code (parts_of t.task.program.routines) f)
-        (part_listed p devices tasks places k t placed x keeps m (function_code (parts_of t.task.program.routines) f) (table_code p devices tasks places k t placed x keeps m f there)));
-    takes = each_code m (EachPiece Takes) tt (λ f member there. functions_take (parts_of t.task.program.routines) f);
+        (λ f member there. task_code_is_own p devices tasks places k t placed (1 + m) (function_code (parts_of p.target t.task.program.routines) f)
+        (part_listed p devices tasks places k t placed x keeps m (function_code (parts_of p.target t.task.program.routines) f) (table_code p devices tasks places k t placed x keeps m f there)));
+    takes = each_code m (EachPiece Takes) tt (λ f member there. functions_take (parts_of p.target t.task.program.routines) f);
   }
 
   module _ (own : TaskRun) (ended : ℕ) (running : IsRunning s own ended) (stack : own.stack < 2 ^ 32) where
@@ -254,8 +259,8 @@ module _ (passes : ℕ → ℕ) (p : Plant) (devices : List Device) (tasks : Lis
       grows = guard.grows;
       line_fits = (let l = lines_fit p placed.plant_is (guard_of t.at plan) t in record { positive = l.positive; whole = l.whole; memory = l.memory; small = l.small });
       in_memory = ranges.within (with_guard (guard_of t.at plan) s) refl;
-      count_is = sym once;
-      few = omega arith;
+      count_is = sym same;
+      few = few_passes;
       small = plan_is.stated;
       code = λ m lt. code_words m;
       stub_words = stub_words;

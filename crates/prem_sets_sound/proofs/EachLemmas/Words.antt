@@ -16,12 +16,13 @@ use Rattle.prem_template.specs.Frames.{frame_of, slots_of}
 use Rattle.prem_template.specs.Parts.{parts_of, codes_of}
 use Rattle.prem_template.specs.Steps.{function_code}
 use Rattle.prem_layout.specs.Plans.{Plan, plans_of}
-use Rattle.prem_layout.specs.Parts.{passes_of, part_count, code_part}
+use Rattle.prem_layout.specs.Parts.{passes_of, part_count, code_part, pass_count}
 use Rattle.prem_layout.specs.Footprint.{place_at, no_place, stack_place}
 use Rattle.prem_layout.specs.Stubs.{stub_of}
 use Rattle.prem_layout.specs.Bounds.{start_code}
 use Rattle.prem_layout.specs.Placed.{Coded, Placed}
 use Rattle.prem_fit_laws.specs.Whole.{HasAddresses, ProgramHasWords}
+use Rattle.prem_layout.proofs.StubLaws.{passes_are_few}
 use Rattle.prem_fit_laws.proofs.Whole.{programs_have_words}
 use Rattle.prem_code_laws.specs.GenLaws.Land.{PartStands}
 use Rattle.prem_code_laws.specs.GenLaws.Whole.{StartStands}
@@ -55,8 +56,8 @@ module _ (p : Plant) (devices : List Device) (tasks : List Coded) (places : List
   parts : HasParts p tasks places k t
   parts = parts_of_task p devices tasks places k t placed
 
-  pub job_fits : JobFits t.task.program
-  job_fits = jobs_fit x t.task.program (program_keeps p devices tasks places k t placed x keeps)
+  pub job_fits : JobFits p.target t.task.program
+  job_fits = jobs_fit p.target x t.task.program (program_keeps p devices tasks places k t placed x keeps)
 
   pub counted : 1 + t.at.functions + length t.at.marked + length t.at.elements + 1 ≡ part_count t.task.program
   counted =
@@ -104,12 +105,13 @@ module _ (p : Plant) (devices : List Device) (tasks : List Coded) (places : List
         omega (arith, e, a, b, c);
   }
 
-  words : ProgramHasWords t.task.program p.line t.at (map (λ (q : Extent). q.0) t.at.places)
+  words : ProgramHasWords p.target t.task.program (passes_of p) p.line t.at (map (λ (q : Extent). q.0) t.at.places)
   words =
       let small : p.line < 2 ^ 11 = let le = placed.plant_is.line.1 in omega (arith, le) in
+      let few_passes : pass_count (passes_of p) < 2 ^ 11 = let le = (passes_are_few p placed.plant_is).1 in omega (arith, le) in
       let rules = program_keeps p devices tasks places k t placed x keeps in
-      subst (λ (q : Resolved). ProgramHasWords q p.line t.at (map (λ (r : Extent). r.0) t.at.places)) (sym keeps.program)
-      (programs_have_words x (limits_of x).turns p.line t.at (map (λ (q : Extent). q.0) t.at.places) keeps.well_formed (subst (λ (q : Resolved). Rattle.prem_template.specs.Limits.excess q ≡ Rattle.std.specs.Prelude.None) keeps.program rules.small) small
+      subst (λ (q : Resolved). ProgramHasWords p.target q (passes_of p) p.line t.at (map (λ (r : Extent). r.0) t.at.places)) (sym keeps.program)
+      (programs_have_words p.target x (limits_of x).turns (passes_of p) p.line t.at (map (λ (q : Extent). q.0) t.at.places) keeps.well_formed (subst (λ (q : Resolved). Rattle.prem_template.specs.Limits.excess q ≡ Rattle.std.specs.Prelude.None) keeps.program rules.small) few_passes small
       (subst (λ (q : Resolved). HasAddresses q (map (λ (r : Extent). r.0) t.at.places)) keeps.program addresses))
 
   -- in the words of placed parts
@@ -120,15 +122,15 @@ module _ (p : Plant) (devices : List Device) (tasks : List Coded) (places : List
       subst (λ (g : ℕ → ℕ). PiecesFit (length (map (λ (q : Extent). q.0) t.at.places)) g ps) same h
 
   pub code_stands : (n : ℕ) (f : Routine) → slice_get t.task.program.routines n ≡ Some f →
-      PartStands (setting_of p (task_guard t) t) (slice_index (content_of p places tasks)) (length (map (λ (q : Extent). q.0) t.at.places)) (1 + n) (function_code (parts_of t.task.program.routines) f)
+      PartStands (setting_of p (task_guard t) t) (slice_index (content_of p places tasks)) (length (map (λ (q : Extent). q.0) t.at.places)) (1 + n) (function_code (parts_of p.target t.task.program.routines) f)
   code_stands n f there =
-      let ps = function_code (parts_of t.task.program.routines) f in
+      let ps = function_code (parts_of p.target t.task.program.routines) f in
       let e = table_code p devices tasks places k t placed x keeps n f there in
-      let listed = part_listed p devices tasks places k t placed x keeps n (function_code (parts_of t.task.program.routines) f) e in
-      let coded : slice_get (codes_of (parts_of t.task.program.routines) t.task.program.routines) n ≡ Some (function_code (parts_of t.task.program.routines) f) =
+      let listed = part_listed p devices tasks places k t placed x keeps n (function_code (parts_of p.target t.task.program.routines) f) e in
+      let coded : slice_get (codes_of (parts_of p.target t.task.program.routines) t.task.program.routines) n ≡ Some (function_code (parts_of p.target t.task.program.routines) f) =
       ap (λ (pss : List Pieces). slice_get pss n) (sym (code_are p devices tasks places k t placed x keeps)) ∙ e in
       parts_stand_all p devices tasks places k t placed keeps.six (1 + n) ps listed (length (map (λ (q : Extent). q.0) t.at.places))
-      (fits ps (all_there (PiecesFit (length (map (λ (q : Extent). q.0) t.at.places)) (slice_index (map (λ (q : Extent). q.0) t.at.places))) (codes_of (parts_of t.task.program.routines) t.task.program.routines) n ps words.code coded))
+      (fits ps (all_there (PiecesFit (length (map (λ (q : Extent). q.0) t.at.places)) (slice_index (map (λ (q : Extent). q.0) t.at.places))) (codes_of (parts_of p.target t.task.program.routines) t.task.program.routines) n ps words.code coded))
 
   pub stub_stands : (j : ℕ) (plan : Plan) → slice_get t.plans j ≡ Some plan →
       PartStands (setting_of p (task_guard t) t) (slice_index (content_of p places tasks)) (length (map (λ (q : Extent). q.0) t.at.places)) (1 + length t.task.program.routines + j) (stub_of (passes_of p) p.line t.at plan)

@@ -7,7 +7,7 @@ use Rattle.prem_plant.specs.Label.{IsName, AreDistinct}
 use Rattle.prem_plant.specs.Ranges.{Between, IsPlant}
 use Rattle.prem_plant.specs.Places.{Extent, AreLawful}
 use Rattle.prem_lru.specs.Entries.{ReplacementRule}
-use Rattle.prem_lru.specs.Order.{OrderRule}
+use Rattle.prem_order.specs.Order.{OrderRule}
 use Rattle.prem_cycle.specs.Alone.{run_in}
 use Rattle.prem_cycle.specs.Inputs.{image_setup}
 use Rattle.prem_cycle.specs.State.{Setup}
@@ -129,7 +129,7 @@ pub record KeepsRules (set : TaskSet) (k : ℕ) (t : Placed) : Type 0 where
   pub read : reads text.text ≡ Ok program
   pub two : meaning.group_two program ≡ None
   pub three : ranges.group_three program ≡ None
-  pub is_coded : t.task ≡ coded_one text (bounded program)
+  pub is_coded : t.task ≡ coded_one set.plant.target text (bounded program)
   pub four : group_four t.task.program ≡ None
   pub six : group_six t ≡ None
   pub seven : group_seven set.plant t ≡ None

@@ -1,6 +1,7 @@
 -- What an instruction adds to the counts, and what it makes the core owe.
 use Rattle.std.proofs.Common.{◌≡◌, ℕ, ◌+◌, ◌<◌, ◌≤◌, refl, ap, ◌∙◌, sym, subst, arith, cond, Some, None, Option, true, false, Bool, List, [], ◌∷◌, ◌++◌}
 use Rattle.std.specs.Prelude.{not, ◌&&◌, Result, Ok, Err, slice_index}
+use Rattle.prem_plant.specs.declared.plant.Target.{Target}
 use Rattle.prem_plant.specs.declared.plant.Plant.{Plant}
 use Rattle.prem_isa.specs.declared.instr.Instr.{Instr}
 use Rattle.prem_isa.specs.declared.effect.Phase.{Phase}
@@ -96,15 +97,15 @@ fits_done size i instr (Done f) e h is =
     let same : f ≡ e = cc in
     subst (EffectFits size) same h
 
-fits_fetched : (size : ℕ) (view : ℕ → ℕ) (t : Task) (f : Result Instr Cause) (instr : Instr) (e : Effect) → ((a : ℕ) → view a < 256) → fetch size view t.pc ≡ f → attempt_fetched size view t f ≡ Executes instr e → AttemptFits size t e
-fits_fetched size view t (Err cause) instr e bytes at is = absurd (let x : Traps cause ≡ Executes instr e = is in cc)
-fits_fetched size view t (Ok i) instr e bytes at is =
+fits_fetched : (target : Target) (size : ℕ) (view : ℕ → ℕ) (t : Task) (f : Result Instr Cause) (instr : Instr) (e : Effect) → ((a : ℕ) → view a < 256) → fetch size view t.pc ≡ f → attempt_fetched target size view t f ≡ Executes instr e → AttemptFits size t e
+fits_fetched target size view t (Err cause) instr e bytes at is = absurd (let x : Traps cause ≡ Executes instr e = is in cc)
+fits_fetched target size view t (Ok i) instr e bytes at is =
     let f : Fits i × (t.pc + 4 ≤ size) = fetch_fits size view t.pc bytes i at in
     record {
       within = f.1;
-      effect = fits_done size i instr (act size view (slice_index t.registers) t.pc t.phase (next_input t.left) i) e
-          (act_fits size view (slice_index t.registers) t.pc t.phase (next_input t.left) i f.0) is;
+      effect = fits_done size i instr (act target size view (slice_index t.registers) t.pc t.phase (next_input t.left) i) e
+          (act_fits target size view (slice_index t.registers) t.pc t.phase (next_input t.left) i f.0) is;
     }
 
-pub attempt_fits : (size : ℕ) (view : ℕ → ℕ) (t : Task) (instr : Instr) (e : Effect) → ((a : ℕ) → view a < 256) → attempt_in size view t ≡ Executes instr e → AttemptFits size t e
-attempt_fits size view t instr e bytes is = fits_fetched size view t (fetch size view t.pc) instr e bytes refl is
+pub attempt_fits : (target : Target) (size : ℕ) (view : ℕ → ℕ) (t : Task) (instr : Instr) (e : Effect) → ((a : ℕ) → view a < 256) → attempt_in target size view t ≡ Executes instr e → AttemptFits size t e
+attempt_fits target size view t instr e bytes is = fits_fetched target size view t (fetch size view t.pc) instr e bytes refl is

@@ -16,7 +16,8 @@ use Rattle.prem_isa.specs.Plain.{TaskRun, PlainState, Did, did_of, plain_did, pl
 use Rattle.prem_isa.proofs.PlainLaws.{plain_fits}
 use Rattle.prem_lru.specs.Entries.{ReplacementRule}
 use Rattle.prem_lru.specs.CacheState.{CacheState}
-use Rattle.prem_lru.specs.Order.{OrderRule, lines_in, lines_of}
+use Rattle.prem_order.specs.Order.{OrderRule}
+use Rattle.prem_lru.specs.Order.{lines_in, lines_of}
 use Rattle.prem_gate.specs.declared.bus.Window.{Window}
 use Rattle.prem_gate.specs.Gates.{wants}
 use Rattle.prem_sched.specs.declared.sched.TaskJobs.{TaskJobs}
@@ -76,7 +77,8 @@ stores_in Compatible access h = tt
 stores_in MemoryPhase access h = h refl
 stores_in Execution access h = tt
 
-owes_none : (ts : List ℕ) (cost : ℕ) → ts ≡ [] → wants (want_of (record { transactions = ts; begun = false; cost = cost })) ≡ true → ⊥
+-- touches that all hit leave no transaction
+pub owes_none : (ts : List ℕ) (cost : ℕ) → ts ≡ [] → wants (want_of (record { transactions = ts; begun = false; cost = cost })) ≡ true → ⊥
 owes_none [] cost e h = let x : false ≡ true = h in cc
 owes_none (t ∷ ts) cost e h = let x : t ∷ ts ≡ [] = e in cc
 
@@ -101,6 +103,22 @@ module _ (rule : ReplacementRule) (order : OrderRule) (passes : ℕ → ℕ) (p 
   pub sets_are : (w : Work) → IsKept p w.cache w.memory → length (lines_in w.cache) ≡ p.plant.sets
   sets_are w h = length-map w.cache.sets lines_of ∙ h.cache.count ∙ ap (λ (q : Plant). q.sets) h.plant
 
+  -- the lines of an instruction of a task
+  issue_lines : (at : ℕ → ℕ) (k : ℕ) (w : Work) → Stands p own runs at w → Runs p own runs → k < length p.tasks → (x : Issuing p (own k) (runs k) (at k) k w) → TouchesLines order p.plant.ways w.cache (lines_of_did p.plant.line (did_of (task_in w k).pc (task_in w k).phase x.instr x.effect)) (issued_by rule p k x.effect w)
+  issue_lines at k w s rs lt x =
+      let t : Task = task_in w k in
+      let fits : AttemptFits (runs k).size t x.effect = attempt_fits (runs k).target (runs k).size (plain_run (runs k) (at k)).task.view t x.instr x.effect (plain_fits (runs k) (rs.is k lt).fits (at k)).task.bytes x.alone in
+      issue_touches rule order policy.moves p k x.effect w policy.keeps s.kept (subst (λ m. t.pc + 4 ≤ m) (rs.is k lt).size fits.within)
+
+  -- in an execution phase, and where one begins, none of them misses
+  pub issue_hits : (at : ℕ → ℕ) (k : ℕ) (i : Interval) (w : Work) → Stands p own runs at w → Runs p own runs → k < length p.tasks → (x : Issuing p (own k) (runs k) (at k) k w) → plain_did (runs k) (plain_run (runs k) (at k)) ≡ Some (did_of (task_in w k).pc (task_in w k).phase x.instr x.effect) → MayIssue order p.plant (length p.tasks) runs scripts at (lines_in w.cache) k i → MustHit (phase_in w k) x.effect.change → missed_lines (issued_by rule p k x.effect w).touches ≡ []
+  issue_hits at k i w s rs lt x did may must =
+      let d : Did = did_of (task_in w k).pc (task_in w k).phase x.instr x.effect in
+      let plant : IsPlant p.plant = kept_plant p w.cache w.memory s.kept in
+      (issue_lines at k w s rs lt x).misses_are
+      ∙ hits order p.plant (length p.tasks) runs scripts at (lines_in w.cache) passes k i d policy.full (keep k lt) did (let y : 1 ≤ p.plant.sets = plant.sets.0 in omega arith) (sets_are w s.kept) may
+      (subst (λ ph. MustHit ph x.effect.change) (same_phase at w k (s.each k lt)) must)
+
   -- an instruction of a task
   issue_keeps : (at : ℕ → ℕ) (now k : ℕ) (i : Interval) (w : Work) (c : CoreState) (n : Counts) → Stands p own runs at w → Runs p own runs → k < length p.tasks → (x : Issuing p (own k) (runs k) (at k) k w) → plain_did (runs k) (plain_run (runs k) (at k)) ≡ Some (did_of (task_in w k).pc (task_in w k).phase x.instr x.effect) → MayIssue order p.plant (length p.tasks) runs scripts at (lines_in w.cache) k i → WindowIssue now (phase_in w) c.window k i → NoFaults n → TurnKeeps now (bump k at) (core_issue rule p now k i (Executes x.instr x.effect) w c n)
   issue_keeps at now k i w c n s rs lt x did may window f =
@@ -108,15 +126,9 @@ module _ (rule : ReplacementRule) (order : OrderRule) (passes : ℕ → ℕ) (p 
       let e : Effect = x.effect in
       let d : Did = did_of t.pc t.phase x.instr e in
       let sc : IsScript p.plant passes (runs k) (scripts k) = keep k lt in
-      let same : phase_in w k ≡ phase_at runs at k = same_phase at w k (s.each k lt) in
-      let fits : AttemptFits (runs k).size t e = attempt_fits (runs k).size (plain_run (runs k) (at k)).task.view t x.instr e (plain_fits (runs k) (rs.is k lt).fits (at k)).task.bytes x.alone in
-      let within : t.pc + 4 ≤ p.plant.memory = subst (λ m. t.pc + 4 ≤ m) (rs.is k lt).size fits.within in
-      let touches : TouchesLines order p.plant.ways w.cache (lines_of_did p.plant.line d) (issued_by rule p k e w) = issue_touches rule order policy.moves p k e w policy.keeps s.kept within in
-      let plant : IsPlant p.plant = kept_plant p w.cache w.memory s.kept in
-      let hit : MustHit t.phase e.change → missed_lines (issued_by rule p k e w).touches ≡ [] =
-      (λ m. touches.misses_are
-      ∙ hits order p.plant (length p.tasks) runs scripts at (lines_in w.cache) passes k i d policy.full sc did (let y : 1 ≤ p.plant.sets = plant.sets.0 in omega arith) (sets_are w s.kept) may
-      (subst (λ ph. MustHit ph e.change) same m)) in
+      let fits : AttemptFits (runs k).size t e = attempt_fits (runs k).target (runs k).size (plain_run (runs k) (at k)).task.view t x.instr e (plain_fits (runs k) (rs.is k lt).fits (at k)).task.bytes x.alone in
+      let touches : TouchesLines order p.plant.ways w.cache (lines_of_did p.plant.line d) (issued_by rule p k e w) = issue_lines at k w s rs lt x in
+      let hit : MustHit t.phase e.change → missed_lines (issued_by rule p k e w).touches ≡ [] = (λ m. issue_hits at k i w s rs lt x did may m) in
       record {
         resides = subst (λ o. Resides order p.plant (length p.tasks) runs scripts (bump k at) o (Running k) (with_stated e.change i) e.change) (sym touches.lines_are)
             (issues order p.plant (length p.tasks) runs scripts at (lines_in w.cache) passes k i d sc did may);

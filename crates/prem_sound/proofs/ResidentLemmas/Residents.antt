@@ -10,7 +10,7 @@ use Rattle.prem_isa.specs.Act.{phase_after}
 use Rattle.prem_isa.specs.Bounds.{IsLawful}
 use Rattle.prem_isa.specs.Plain.{TaskRun, Did, plain_did, plain_step, plain_run}
 use Rattle.prem_isa.proofs.PlainLaws.{plain_steps-next}
-use Rattle.prem_lru.specs.Order.{OrderRule, HaveRoom, IsCacheFullAfter, caches_after, cache_misses}
+use Rattle.prem_order.specs.Order.{OrderRule, HaveRoom, IsCacheFullAfter, caches_after, cache_misses}
 use Rattle.prem_sched.specs.declared.sched.TaskJobs.{TaskJobs}
 use Rattle.prem_cycle.specs.declared.state.Mode.{Mode}
 use Rattle.prem_cycle.specs.declared.state.Mode.TheVariants.{Point, Switching, Running, Idle}

@@ -9,7 +9,8 @@ use Rattle.prem_isa.specs.declared.effect.Effect.{Effect}
 use Rattle.prem_lru.specs.Entries.{ReplacementRule, write_line}
 use Rattle.prem_lru.specs.CacheState.{CacheState, Touched, set_of, touch_of, IsCache}
 use Rattle.prem_lru.specs.Rules.{IsRule, MovesBy}
-use Rattle.prem_lru.specs.Order.{is_in, OrderRule, lines_in, order_of, cache_after, caches_after, cache_misses}
+use Rattle.prem_order.specs.Order.{is_in, OrderRule, order_of, cache_after, caches_after, cache_misses}
+use Rattle.prem_lru.specs.Order.{lines_in}
 use Rattle.prem_lru.specs.Splice.{bytes_of}
 use Rattle.prem_lru.proofs.Touches.{some_sets}
 use Rattle.prem_lru.proofs.Shapes.{touch_kept, touch_hit, is_in-order, lines_in-touch, lines_in-same}

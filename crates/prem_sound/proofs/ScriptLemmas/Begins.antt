@@ -15,7 +15,7 @@ use Rattle.prem_isa.specs.Act.{fetch, phase_after}
 use Rattle.prem_isa.specs.Bounds.{OnDone, EffectLawful, IsLawful}
 use Rattle.prem_isa.specs.Plain.{TaskRun, PlainState, Did, did_of, did_with, did_fetched, next_input, trap_at, moved_by, after_change, after_outcome, outcome_of, is_running, plain_did, plain_step, plain_steps, plain_run}
 use Rattle.prem_isa.proofs.ActLaws.{act_lawful}
-use Rattle.prem_lru.specs.Order.{AllIn}
+use Rattle.prem_order.specs.Order.{AllIn}
 use Rattle.prem_cycle.specs.Core.{is_predictable}
 use Rattle.prem_sound.specs.Script.Script.{lines_of_did, lines_of_dids, Begun, steps_after, begun_after, begun_with, begun_by, Call, IsCovered, Opens, IsStep, Script, call_of, IsScript}
 use Rattle.prem_sound.proofs.ScriptLemmas.Residency.{lines_of_dids-last, covered_more}
@@ -39,7 +39,7 @@ executed_done run s i (Done f) d next l e =
 executed_fetched : (run : TaskRun) (s : PlainState) (f : Result Instr Cause) (d : Did) → plain_step run s ≡ after_outcome run (outcome_of run s f) s → did_fetched run s f ≡ Some d → Executed run s d
 executed_fetched run s (Err cause) d next e = absurd (let x : None ≡ Some d = e in cc)
 executed_fetched run s (Ok i) d next e =
-    executed_done run s i (outcome_of run s (Ok i)) d next (act_lawful run.size s.task.view s.task.registers s.pc s.task.phase (next_input s.task.left) i) e
+    executed_done run s i (outcome_of run s (Ok i)) d next (act_lawful run.target run.size s.task.view s.task.registers s.pc s.task.phase (next_input s.task.left) i) e
 
 pub executed : (run : TaskRun) (s : PlainState) (d : Did) → plain_did run s ≡ Some d → Executed run s d
 executed run s d h = by (is_running run s) refl where

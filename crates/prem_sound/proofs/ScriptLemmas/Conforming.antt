@@ -3,10 +3,11 @@ use Rattle.std.proofs.Common.{◌≡◌, ℕ, zero, suc, ◌+◌, ◌-◌, ◌%�
 use Rattle.std.specs.Prelude.{All, Result, Ok, Err, is_none, ◌&&◌}
 use Rattle.std.proofs.lemmas.Bool.{cases_lt, cond_both, le-ltb}
 use Rattle.std.proofs.lemmas.List.{length-append}
+use Rattle.prem_plant.specs.declared.plant.Target.{Target}
 use Rattle.prem_word.specs.Bytes.{number_at}
 use Rattle.prem_plant.specs.declared.plant.Plant.{Plant}
 use Rattle.prem_isa.specs.declared.instr.Instr.{Instr}
-use Rattle.prem_isa.specs.declared.instr.Instr.TheVariants.{Lui, Auipc, Jal, Jalr, Branch, Load, Store, OpImm, Op, Fence, Ecall, Ebreak, PmMem, PmExec, PmEnd, PmDone, PmIn, PmOut}
+use Rattle.prem_isa.specs.declared.instr.Instr.TheVariants.{Lui, Auipc, Jal, Jalr, Branch, Load, Store, OpImm, Op, MulDiv, Fence, Ecall, Ebreak, PmMem, PmExec, PmEnd, PmDone, PmIn, PmOut}
 use Rattle.prem_isa.specs.declared.effect.Phase.{Phase}
 use Rattle.prem_isa.specs.declared.effect.Cause.{Cause}
 use Rattle.prem_isa.specs.declared.effect.Cause.TheVariants.{Align, Outside}
@@ -23,7 +24,7 @@ use Rattle.prem_isa.specs.Bounds.{OnDone, EffectFits, AccessMatches}
 use Rattle.prem_isa.specs.Plain.{TaskRun, PlainState, Did, did_of, did_with, did_fetched, next_input, with_last, outcome_of, is_running, plain_did, plain_start, plain_steps, plain_run, plain_trace}
 use Rattle.prem_isa.proofs.ActLaws.{act_fits}
 use Rattle.prem_isa.proofs.PlainLaws.{plain_fits, fetch_fits, plain_run-add, plain_trace-add, plain_stays}
-use Rattle.prem_lru.specs.Order.{HaveRoom}
+use Rattle.prem_order.specs.Order.{HaveRoom}
 use Rattle.prem_cycle.specs.State.{Setup}
 use Rattle.prem_cycle.specs.Core.{is_predictable}
 use Rattle.prem_runs.specs.Position.Own.{AllOwn, LoadsOwn, IsOwn, IsOwnOutcome}
@@ -192,30 +193,31 @@ accesses_done size address bytes f e h0 =
     (λ _ h. absurd (let x : Trap Align ≡ Done e = h in cc)) h0
 
 -- a load that takes nothing
-takes : (size : ℕ) (view registers : ℕ → ℕ) (pc : ℕ) (phase : Phase) (input : ℕ) (i : Instr) (e : Effect) → takes_nothing i ≡ true → act size view registers pc phase input i ≡ Done e → (e.rd ≡ 0) × (e.stored ≡ None)
-takes size view registers pc phase input (Load op zero rs1 offset) e t h =
+takes : (target : Target) (size : ℕ) (view registers : ℕ → ℕ) (pc : ℕ) (phase : Phase) (input : ℕ) (i : Instr) (e : Effect) → takes_nothing i ≡ true → act target size view registers pc phase input i ≡ Done e → (e.rd ≡ 0) × (e.stored ≡ None)
+takes target size view registers pc phase input (Load op zero rs1 offset) e t h =
     let address : ℕ = plus (registers rs1) offset in
     let f : Effect = record (goes (pc + 4)) { value = word_into zero (loaded op (number_at view address (load_size op))); access = Some (record { kind = Loads; address = address; size = load_size op }) } in
     let same : f ≡ e = accesses_done size address (load_size op) f e h in
     (ap (λ (g : Effect). g.rd) (sym same), ap (λ (g : Effect). g.stored) (sym same))
-takes size view registers pc phase input (Load op (suc rd) rs1 offset) e t h = absurd (let x : false ≡ true = t in cc)
-takes size view registers pc phase input (Lui rd imm) e t h = absurd (let x : false ≡ true = t in cc)
-takes size view registers pc phase input (Auipc rd imm) e t h = absurd (let x : false ≡ true = t in cc)
-takes size view registers pc phase input (Jal rd offset) e t h = absurd (let x : false ≡ true = t in cc)
-takes size view registers pc phase input (Jalr rd rs1 offset) e t h = absurd (let x : false ≡ true = t in cc)
-takes size view registers pc phase input (Branch op rs1 rs2 offset) e t h = absurd (let x : false ≡ true = t in cc)
-takes size view registers pc phase input (Store op rs1 rs2 offset) e t h = absurd (let x : false ≡ true = t in cc)
-takes size view registers pc phase input (OpImm op rd rs1 imm) e t h = absurd (let x : false ≡ true = t in cc)
-takes size view registers pc phase input (Op op rd rs1 rs2) e t h = absurd (let x : false ≡ true = t in cc)
-takes size view registers pc phase input (Fence high rd) e t h = absurd (let x : false ≡ true = t in cc)
-takes size view registers pc phase input Ecall e t h = absurd (let x : false ≡ true = t in cc)
-takes size view registers pc phase input Ebreak e t h = absurd (let x : false ≡ true = t in cc)
-takes size view registers pc phase input PmMem e t h = absurd (let x : false ≡ true = t in cc)
-takes size view registers pc phase input (PmExec rs1) e t h = absurd (let x : false ≡ true = t in cc)
-takes size view registers pc phase input PmEnd e t h = absurd (let x : false ≡ true = t in cc)
-takes size view registers pc phase input PmDone e t h = absurd (let x : false ≡ true = t in cc)
-takes size view registers pc phase input (PmIn rd) e t h = absurd (let x : false ≡ true = t in cc)
-takes size view registers pc phase input (PmOut rs1) e t h = absurd (let x : false ≡ true = t in cc)
+takes target size view registers pc phase input (Load op (suc rd) rs1 offset) e t h = absurd (let x : false ≡ true = t in cc)
+takes target size view registers pc phase input (Lui rd imm) e t h = absurd (let x : false ≡ true = t in cc)
+takes target size view registers pc phase input (Auipc rd imm) e t h = absurd (let x : false ≡ true = t in cc)
+takes target size view registers pc phase input (Jal rd offset) e t h = absurd (let x : false ≡ true = t in cc)
+takes target size view registers pc phase input (Jalr rd rs1 offset) e t h = absurd (let x : false ≡ true = t in cc)
+takes target size view registers pc phase input (Branch op rs1 rs2 offset) e t h = absurd (let x : false ≡ true = t in cc)
+takes target size view registers pc phase input (Store op rs1 rs2 offset) e t h = absurd (let x : false ≡ true = t in cc)
+takes target size view registers pc phase input (OpImm op rd rs1 imm) e t h = absurd (let x : false ≡ true = t in cc)
+takes target size view registers pc phase input (Op op rd rs1 rs2) e t h = absurd (let x : false ≡ true = t in cc)
+takes target size view registers pc phase input (MulDiv op rd rs1 rs2) e t h = absurd (let x : false ≡ true = t in cc)
+takes target size view registers pc phase input (Fence high rd) e t h = absurd (let x : false ≡ true = t in cc)
+takes target size view registers pc phase input Ecall e t h = absurd (let x : false ≡ true = t in cc)
+takes target size view registers pc phase input Ebreak e t h = absurd (let x : false ≡ true = t in cc)
+takes target size view registers pc phase input PmMem e t h = absurd (let x : false ≡ true = t in cc)
+takes target size view registers pc phase input (PmExec rs1) e t h = absurd (let x : false ≡ true = t in cc)
+takes target size view registers pc phase input PmEnd e t h = absurd (let x : false ≡ true = t in cc)
+takes target size view registers pc phase input PmDone e t h = absurd (let x : false ≡ true = t in cc)
+takes target size view registers pc phase input (PmIn rd) e t h = absurd (let x : false ≡ true = t in cc)
+takes target size view registers pc phase input (PmOut rs1) e t h = absurd (let x : false ≡ true = t in cc)
 
 loads_by : (own : ℕ → Bool) (rd : ℕ) (access : Option Access) → IfSome access (λ a. AllOwn own a.address a.size) → LoadsOwn own rd access
 loads_by own zero access h = tt
@@ -244,18 +246,18 @@ own_effect p own pc phase i e false t none m h = record {
   data_line = h.data_line;
 }
 
-own_done : (p : Setup) (own : ℕ → Bool) (size : ℕ) (view registers : ℕ → ℕ) (pc : ℕ) (phase : Phase) (input : ℕ) (i : Instr) (o : Outcome) (d : Did) → Fits i → act size view registers pc phase input i ≡ o → did_with pc phase i o ≡ Some d → IsOwnDid p own d → IsOwnOutcome p own pc o
-own_done p own size view registers pc phase input i (Trap cause) d fits is e h = absurd (let x : None ≡ Some d = e in cc)
-own_done p own size view registers pc phase input i (Done f) d fits is e h =
+own_done : (p : Setup) (own : ℕ → Bool) (target : Target) (size : ℕ) (view registers : ℕ → ℕ) (pc : ℕ) (phase : Phase) (input : ℕ) (i : Instr) (o : Outcome) (d : Did) → Fits i → act target size view registers pc phase input i ≡ o → did_with pc phase i o ≡ Some d → IsOwnDid p own d → IsOwnOutcome p own pc o
+own_done p own target size view registers pc phase input i (Trap cause) d fits is e h = absurd (let x : None ≡ Some d = e in cc)
+own_done p own target size view registers pc phase input i (Done f) d fits is e h =
     let x : Some (did_of pc phase i f) ≡ Some d = e in
     let same : did_of pc phase i f ≡ d = cc in
-    let k : EffectFits size f = subst (OnDone (EffectFits size)) is (act_fits size view registers pc phase input i fits) in
-    own_effect p own pc phase i f (takes_nothing i) refl (λ t. takes size view registers pc phase input i f t is) k.matches (subst (IsOwnDid p own) (sym same) h)
+    let k : EffectFits size f = subst (OnDone (EffectFits size)) is (act_fits target size view registers pc phase input i fits) in
+    own_effect p own pc phase i f (takes_nothing i) refl (λ t. takes target size view registers pc phase input i f t is) k.matches (subst (IsOwnDid p own) (sym same) h)
 
 own_fetched : (p : Setup) (own : ℕ → Bool) (run : TaskRun) (s : PlainState) (f : Result Instr Cause) (d : Did) → ((a : ℕ) → s.task.view a < 256) → fetch run.size s.task.view s.pc ≡ f → did_fetched run s f ≡ Some d → IsOwnDid p own d → IsOwnOutcome p own s.pc (outcome_of run s f)
 own_fetched p own run s (Err cause) d bytes at e h = absurd (let x : None ≡ Some d = e in cc)
 own_fetched p own run s (Ok i) d bytes at e h =
-    own_done p own run.size s.task.view s.task.registers s.pc s.task.phase (next_input s.task.left) i (outcome_of run s (Ok i)) d (fetch_fits run.size s.task.view s.pc bytes i at).0 refl e h
+    own_done p own run.target run.size s.task.view s.task.registers s.pc s.task.phase (next_input s.task.left) i (outcome_of run s (Ok i)) d (fetch_fits run.size s.task.view s.pc bytes i at).0 refl e h
 
 -- ---- the law
 

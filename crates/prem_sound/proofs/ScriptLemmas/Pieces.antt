@@ -11,7 +11,7 @@ use Rattle.prem_isa.specs.declared.effect.Change.TheVariants.{Stay, Memory, Exec
 use Rattle.prem_isa.specs.declared.effect.AccessKind.TheVariants.{Loads}
 use Rattle.prem_isa.specs.Decode.{cost_of}
 use Rattle.prem_isa.specs.Plain.{TaskRun, Did, plain_run}
-use Rattle.prem_lru.specs.Order.{AllIn}
+use Rattle.prem_order.specs.Order.{AllIn}
 use Rattle.prem_cycle.specs.Core.{is_predictable}
 use Rattle.prem_sound.specs.Script.Script.{lines_of_did, lines_of_dids, cost_of_dids, Begun, steps_after, begun_after, Call, call_at, call_of, Opens, StoresNothing, IsStep, Script, did_due}
 use Rattle.prem_sound.specs.Script.Scripts.{Reading, Mark}

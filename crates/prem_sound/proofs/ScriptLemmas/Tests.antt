@@ -14,8 +14,8 @@ use Rattle.prem_isa.specs.declared.effect.AccessKind.TheVariants.{Loads, Stores}
 use Rattle.prem_isa.specs.declared.effect.Access.{Access}
 use Rattle.prem_isa.specs.Decode.{cost_of}
 use Rattle.prem_isa.specs.Plain.{Did}
-use Rattle.prem_lru.specs.Order.{is_in, AllIn, AreOnce, of_set, one_pass, HaveRoom}
-use Rattle.prem_lru.proofs.Members.{in_head, in_other}
+use Rattle.prem_order.specs.Order.{is_in, AllIn, AreOnce, of_set, one_pass, HaveRoom}
+use Rattle.prem_order.proofs.Members.{in_head, in_other}
 use Rattle.prem_cycle.specs.State.{Setup}
 use Rattle.prem_cycle.specs.Core.{is_predictable}
 use Rattle.prem_runs.specs.Position.Own.{AllOwn, IsFree}

@@ -72,11 +72,11 @@ module _ (rule : ReplacementRule) (p : Setup) (content : List ℕ) (inputs : Lis
   zero_word : (at : ℕ) → ((i : ℕ) → i < 4 → slice_index (memory_of p content) (at + i) ≡ 0) → number_at (view_of (empty_cache p.plant) (memory_of p content)) at 4 ≡ 0
   zero_word at h = number_at-agrees (view_of (empty_cache p.plant) (memory_of p content)) (λ n. 0) at 4 (λ i lt. empty_view p.plant (memory_of p content) (at + i) ∙ h i lt)
 
-  no_gets : GetsLastPuts []
+  pub no_gets : GetsLastPuts []
   no_gets [] after t e none = let x : [] ≡ t ∷ after = e in absurd cc
   no_gets (b ∷ before) after t e none = let x : [] ≡ b ∷ (before ++ t ∷ after) = e in absurd cc
 
-  start_words : AreasAreZero p (memory_of p content) → WordsIn start
+  pub start_words : AreasAreZero p (memory_of p content) → WordsIn start
   start_words z = record {
     words = λ d j l. zero_word (slot p d j) (λ i lt. z d j i l.there l.within lt);
     gets = no_gets;

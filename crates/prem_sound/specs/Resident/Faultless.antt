@@ -2,10 +2,11 @@
 use Rattle.std.specs.Prelude.{◌≡◌, ℕ, ◌<◌, Bool, List, length}
 use Rattle.prem_isa.specs.Plain.{TaskRun}
 use Rattle.prem_lru.specs.Entries.{ReplacementRule}
-use Rattle.prem_lru.specs.Order.{OrderRule, CacheMissesOnce, IsCacheFullAfter}
+use Rattle.prem_order.specs.Order.{OrderRule, CacheMissesOnce, IsCacheFullAfter}
+use Rattle.prem_order.specs.Rules.{passes_of}
 use Rattle.prem_lru.specs.Rules.{IsRule, MovesBy}
 use Rattle.prem_gate.specs.declared.request.Request.{Request}
-use Rattle.prem_cycle.specs.State.{Setup, MachineState}
+use Rattle.prem_cycle.specs.State.{Setup, MachineState, rule_in}
 use Rattle.prem_cycle.specs.Run.{run_of}
 use Rattle.prem_runs.specs.Position.Issued.{AreOwn, IsRunnable}
 use Rattle.prem_sound.specs.Script.Script.{Script, IsScript}
@@ -30,3 +31,10 @@ ScriptsMakeNoFault =
     (rule : ReplacementRule) (order : OrderRule) (passes : ℕ → ℕ) (p : Setup) (content : List ℕ) (inputs : List (List ℕ)) (requests : List Request) (own : ℕ → ℕ → Bool) (runs : ℕ → TaskRun) (scripts : ℕ → Script) (n : ℕ) →
     IsPolicy rule order passes → IsRunnable p content requests → AreOwn p content inputs own runs → ((k : ℕ) → k < length p.tasks → IsScript p.plant passes (runs k) (scripts k)) →
     IsFaultless (run_of rule p content inputs requests n)
+
+-- the same on a machine whose plant names the policy, where the scripts have the passes of its kind
+abbrev pub PlantsMakeNoFault : Type 0
+PlantsMakeNoFault =
+    (p : Setup) (content : List ℕ) (inputs : List (List ℕ)) (requests : List Request) (own : ℕ → ℕ → Bool) (runs : ℕ → TaskRun) (scripts : ℕ → Script) (n : ℕ) →
+    IsRunnable p content requests → AreOwn p content inputs own runs → ((k : ℕ) → k < length p.tasks → IsScript p.plant (passes_of p.plant.policy) (runs k) (scripts k)) →
+    IsFaultless (run_of (rule_in p) p content inputs requests n)

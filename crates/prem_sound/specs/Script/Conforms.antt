@@ -8,7 +8,7 @@ use Rattle.prem_isa.specs.declared.effect.Change.{Change}
 use Rattle.prem_isa.specs.declared.effect.Change.TheVariants.{Stay, Memory, Execute, End, Job}
 use Rattle.prem_isa.specs.declared.effect.AccessKind.TheVariants.{Loads}
 use Rattle.prem_isa.specs.Plain.{TaskRun, Did, plain_start, plain_run, plain_trace, RunFits}
-use Rattle.prem_lru.specs.Order.{AllIn, HaveRoom}
+use Rattle.prem_order.specs.Order.{AllIn, HaveRoom}
 use Rattle.prem_cycle.specs.State.{Setup}
 use Rattle.prem_cycle.specs.Core.{is_predictable}
 use Rattle.prem_runs.specs.Position.Own.{IsFree, AllOwn, StaysOwn}

@@ -10,7 +10,7 @@ use Rattle.prem_isa.specs.declared.effect.AccessKind.TheVariants.{Loads}
 use Rattle.prem_isa.specs.declared.effect.Access.{Access}
 use Rattle.prem_isa.specs.Decode.{cost_of}
 use Rattle.prem_isa.specs.Plain.{TaskRun, Did, plain_did, plain_run}
-use Rattle.prem_lru.specs.Order.{AllIn, ArePasses, HaveRoom}
+use Rattle.prem_order.specs.Order.{AllIn, ArePasses, HaveRoom}
 use Rattle.prem_cycle.specs.Core.{is_predictable}
 use Rattle.prem_runs.specs.Position.Finish.{due_of}
 

@@ -52,13 +52,13 @@ module _ (plant : Plant) (passes : ℕ → ℕ) (s : Setting) (h : Guard) (c : C
   calls_fit zero le part t fits = tt
   calls_fit (suc m) le part t fits =
       one_holds Any TaskFits (eqb part (c.code_part m)) (run (with_guard h s) (code_calls (with_guard h s) c m) (s.places (c.code_part m)) (c.code m) t) (code_calls (with_guard h s) c m part t)
-      (every WellAt Any TaskFits (with_guard h s) (code_calls (with_guard h s) c m) (fits_rules s.size h) (λ part t fits. calls_fit m (omega arith) part t fits) (c.code m) (s.places (c.code_part m))
+      (every WellAt Any TaskFits (with_guard h s) (code_calls (with_guard h s) c m) (fits_rules s.target s.size h) (λ part t fits. calls_fit m (omega arith) part t fits) (c.code m) (s.places (c.code_part m))
       (well_part s bytes parts (c.code_part m) (c.code m) stands.running.small (stands.running.aligned (c.code_part m)) (stands.code m le)) t fits)
       (calls_fit m (omega arith) part t fits)
 
-  stub_fits : (t : TaskState) → TaskFits t → Holds Any TaskFits (run (with_guard h s) (code_calls (with_guard h s) c n) (s.places x.stub) (stub_code x.kind plant.line x.ranges x.stated x.part) t)
+  pub stub_fits : (t : TaskState) → TaskFits t → Holds Any TaskFits (run (with_guard h s) (code_calls (with_guard h s) c n) (s.places x.stub) (stub_code x.kind plant.line x.ranges x.stated x.part) t)
   stub_fits t fits =
-      every WellAt Any TaskFits (with_guard h s) (code_calls (with_guard h s) c n) (fits_rules s.size h) (λ part t fits. calls_fit n (omega arith) part t fits) (stub_code x.kind plant.line x.ranges x.stated x.part) (s.places x.stub)
+      every WellAt Any TaskFits (with_guard h s) (code_calls (with_guard h s) c n) (fits_rules s.target s.size h) (λ part t fits. calls_fit n (omega arith) part t fits) (stub_code x.kind plant.line x.ranges x.stated x.part) (s.places x.stub)
       (well_part s bytes parts x.stub (stub_code x.kind plant.line x.ranges x.stated x.part) stands.running.small (stands.running.aligned x.stub) stands.stub_words) t fits
 
   returned : (t u : TaskState) (back : ℕ) (trace : List Did) → IsReady t → run (with_guard h s) (code_calls (with_guard h s) c n) (s.places x.stub) (stub_code x.kind plant.line x.ranges x.stated x.part) t ≡ Returns back u trace →

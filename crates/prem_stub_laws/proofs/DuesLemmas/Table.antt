@@ -38,7 +38,7 @@ both_at : (code : List Instr) (at : ℕ) → AllCode (λ at i. IsCalm i) at code
 both_at [] at h k = tt
 both_at (i ∷ is) at h k = ((h.0, k.0), both_at is (at + 4) h.1 k.1)
 
-calm_part : (owned : ℕ → Bool) (s : Setting) (bytes : ℕ → ℕ) (parts part : ℕ) (ps : Pieces) → s.size < 2 ^ 32 → s.places part % 4 ≡ 0 → CalmStands owned s bytes parts part ps → AllCode CalmAt (s.places part) (code_of s.places (s.places part) ps)
+pub calm_part : (owned : ℕ → Bool) (s : Setting) (bytes : ℕ → ℕ) (parts part : ℕ) (ps : Pieces) → s.size < 2 ^ 32 → s.places part % 4 ≡ 0 → CalmStands owned s bytes parts part ps → AllCode CalmAt (s.places part) (code_of s.places (s.places part) ps)
 calm_part owned s bytes parts part ps small al h =
     both_at (code_of s.places (s.places part) ps) (s.places part) (pieces_good IsCalm s.places ps (s.places part) h.calm) (well_part s bytes parts part ps small al h.stands)
 
@@ -233,7 +233,7 @@ jobs_are_bounded plant plans table part e =
 
 -- ---- a placed task
 
-codes_are_of : (t : Placed) → IsOf t.table (codes_in t)
+pub codes_are_of : (t : Placed) → IsOf t.table (codes_in t)
 codes_are_of t = record { part_is = λ n. refl; code_is = λ n. by (slice_get t.table.code n) } where
   by : (o : Option Pieces) → (pieces_or o ≡ no_pieces) ⊎ (o ≡ Some (pieces_or o))
   by None = inl refl

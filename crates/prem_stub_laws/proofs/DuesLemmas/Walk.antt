@@ -97,7 +97,7 @@ module _ (plant : Plant) where
     code_charged : (code : List Instr) (at : ℕ) (t : TaskState) → AllCode CalmAt at code → IsReady t → IsCharged plant (weight (job_weight plant) code) (run_code s at code t)
     code_charged [] at t c ready = (omega arith, ready)
     code_charged (i ∷ is) at t c ready =
-        then_steps (run_one s at i t) (run_code s (at + 4) is) (job_weight plant i) (weight (job_weight plant) is) (one_charged plant s.size s.guard at i t c.0 ready) (λ u j. code_charged is (at + 4) u c.1 j)
+        then_steps (run_one s at i t) (run_code s (at + 4) is) (job_weight plant i) (weight (job_weight plant) is) (one_charged plant s.target s.size s.guard at i t c.0 ready) (λ u j. code_charged is (at + 4) u c.1 j)
 
     abbrev Called : Pieces → Type 0
     Called ps = EachCall (λ part. PartCharged plant calls (weights part) part) ps

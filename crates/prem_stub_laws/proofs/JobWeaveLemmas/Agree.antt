@@ -37,7 +37,7 @@ module _ (own : TaskRun) (x : PlainState) where
         (sym e ∙ sym (ap (λ k. plain_steps own k x) n) ∙ l.0, sym (ap (λ k. plain_trace own k x) n) ∙ l.1)
 
 pub jobs_agree : JobsAgree
-jobs_agree setup owned passes reads s gs own bytes most t before after other w d =
+jobs_agree setup owned passes reads s gs own bytes most longest t before after other w d =
     let x : PlainState = in_job 0 own.entry t in
     let r = weave_runs reads own (in_job 0 own.entry t) w.weave (in_job own.jobs own.entry w.then_state) w.goes_along in
     let z = same_end own (in_job 0 own.entry t) (length (dids_of w.weave)) (length d.trace) (in_job own.jobs own.entry w.then_state) (in_job own.jobs own.entry d.then_state) r.state d.state (not_below own.jobs) (not_below own.jobs) in

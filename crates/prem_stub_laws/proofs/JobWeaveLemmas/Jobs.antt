@@ -4,16 +4,16 @@ use Rattle.std.specs.Prelude.{pos}
 use Rattle.std.proofs.Math.Nat.{suc-mul}
 use Rattle.prem_plant.specs.declared.plant.Plant.{Plant}
 use Rattle.prem_isa.specs.declared.instr.Instr.{Instr}
-use Rattle.prem_isa.specs.declared.instr.Instr.TheVariants.{Jal}
+use Rattle.prem_isa.specs.declared.instr.Instr.TheVariants.{Jal, PmDone}
 use Rattle.prem_isa.specs.declared.effect.Change.TheVariants.{Stay}
 use Rattle.prem_isa.specs.Decode.{cost_of}
 use Rattle.prem_isa.specs.declared.effect.Phase.TheVariants.{Compatible}
 use Rattle.prem_isa.specs.Act.{first_registers}
-use Rattle.prem_isa.specs.Plain.{TaskRun, TaskState, TaskFits}
+use Rattle.prem_isa.specs.Plain.{TaskRun, TaskState, TaskFits, Did}
 use Rattle.prem_meaning.specs.Resolved.{Resolved}
 use Rattle.prem_meaning.specs.Statements.{ProgramState}
 use Rattle.prem_meaning.specs.Source.{Limits, calls_below, do_jobs, everywhere}
-use Rattle.prem_asm.specs.Pieces.{call_to, no_pieces, jump_to}
+use Rattle.prem_asm.specs.Pieces.{call_to, no_pieces, jump_to, weight, jump_weight}
 use Rattle.prem_asm.specs.Runs.{Setting, Calls, Falls, Stuck, with_trace, called, run, control, linked}
 use Rattle.prem_asm.specs.OwnRun.{Agrees, in_job, next_start, done_step}
 use Rattle.prem_asm.specs.Ways.{GoesWay}
@@ -27,7 +27,16 @@ use Rattle.prem_code_laws.specs.GenLaws.Whole.{StartStands, JobMeans}
 use Rattle.prem_sound.specs.Script.Scripts.{Reading}
 use Rattle.prem_sound.specs.Script.Script.{did_due}
 use Rattle.prem_layout.specs.Bounds.{job_weight, line_cost}
-use Rattle.prem_weave.specs.Weave.{Weave, ends, goes, joined, dids_of, Goes, charge}
+use Rattle.prem_layout.specs.Stretch.Paths.{Takes, Path, longest_from}
+use Rattle.prem_layout.specs.Stretch.Sums.{Sums, taking, chained, greatest, sums_of_path, IsWithin}
+use Rattle.prem_layout.proofs.StretchLemmas.Algebra.{chained_assoc}
+use Rattle.prem_layout.proofs.StretchLemmas.Exact.{path_joined}
+use Rattle.prem_layout.proofs.StretchLemmas.Order.{within_same, chained_within, taking_within, longest_within}
+use Rattle.prem_weave.specs.Pace.Pace.{did_events, events_of, PacedFrom, strides}
+use Rattle.prem_weave.proofs.PaceLemmas.Jobs.{jobs_are_paced}
+use Rattle.prem_weave.specs.Weave.{Weave, ends, goes, calls as section, joined, dids_of, Goes, due_along, charge}
+use Rattle.prem_weave.proofs.Charges.{weaves_are_charged}
+use Rattle.prem_runs.specs.Position.Finish.{due_of}
 use Rattle.prem_weave.proofs.Joins.{weaves_join, runs_join}
 use Rattle.prem_stub_laws.specs.JobWeave.Owned.{OwnWovenTo, own_way}
 use Rattle.prem_cycle.specs.State.{Setup}
@@ -40,7 +49,7 @@ use Rattle.prem_stub_laws.specs.OwnSteps.OwnSteps.{OwnBytes, AreOwnAt}
 use Rattle.prem_stub_laws.proofs.OwnStepsLemmas.Rules.{free_fetch}
 use Rattle.prem_stub_laws.proofs.OwnStepsLemmas.Stubs.{steps_join}
 use Rattle.prem_stub_laws.specs.JobWeave.Calm.{AllLandWoven}
-use Rattle.prem_stub_laws.specs.JobWeave.Charged.{CallIsCharged, job_charge}
+use Rattle.prem_stub_laws.specs.JobWeave.Charged.{CallIsCharged, job_charge, CallIsStrided, start_sums}
 use Rattle.prem_stub_laws.specs.JobWeave.Jobs.{WovenJobs, JobsAreWoven}
 use Rattle.prem_stub_laws.proofs.JobWeaveLemmas.Landing.{calm_goes}
 
@@ -56,11 +65,22 @@ linked_fits link back t small fits =
     let words = reg_words link back t.registers small (record { zero = fits.zero; word = fits.registers }) in
     record { zero = words.zero; registers = words.word; bytes = fits.bytes; left = fits.left; outputs = fits.outputs }
 
-module _ (setup : Setup) (owned : ℕ → Bool) (passes : ℕ → ℕ) (reads : Reading) (s : Setting) (gs : Globals) (limits : Limits) (program : Resolved) (own : TaskRun) (bytes : ℕ → ℕ) (calls : Calls) (parts start job cost most : ℕ)
+-- its events
+control_events : (plant : Plant) (at : ℕ) (i : Instr) (t : TaskState) (rest : List Did) → t.phase ≡ Compatible → events_of plant (control at i t ++ rest) ≡ Takes (cost_of i + line_cost plant) ∷ events_of plant rest
+control_events plant at i t rest e =
+    let due : cost_of i + (1 + 0) * (plant.fill + plant.back) ≡ cost_of i + line_cost plant = omega arith in
+    ap (λ p. did_events plant p (record { pc = at; instr = i; phase = t.phase; access = None; change = Stay }) ++ events_of plant rest) e ∙ ap (λ n. Takes n ∷ events_of plant rest) due
+
+joined_assoc : (w v u : Weave) → joined (joined w v) u ≡ joined w (joined v u)
+joined_assoc ends v u = refl
+joined_assoc (goes d rest) v u = ap (goes d) (joined_assoc rest v u)
+joined_assoc (section m rest) v u = ap (section m) (joined_assoc rest v u)
+
+module _ (setup : Setup) (owned : ℕ → Bool) (passes : ℕ → ℕ) (reads : Reading) (s : Setting) (gs : Globals) (limits : Limits) (program : Resolved) (own : TaskRun) (bytes : ℕ → ℕ) (calls : Calls) (parts start job cost most longest : ℕ) (sums : Sums)
     (mine : OwnBytes setup owned s.guard) (own_start : AreOwnAt owned (s.places start) (call_to 1 job no_pieces)) (own_done : AllOwn owned (own.entry + 4) 4)
     (running : (ended : ℕ) → ended < own.jobs → IsRunning s own ended) (land : (ended : ℕ) → ended < own.jobs → AllLandWoven setup owned passes reads s own ended bytes calls)
     (stands : StartStands s own bytes parts start job) (entry_small : own.entry + 4 < 2 ^ 32) (stack_small : own.stack < 2 ^ 32) (means : JobMeans s gs limits program calls job own.stack (own.entry + 4))
-    (charged : CallIsCharged setup.plant calls job cost) (enough : job_charge setup.plant job cost ≤ most) where
+    (charged : CallIsCharged setup.plant calls job cost) (enough : job_charge setup.plant job cost ≤ most) (strided : CallIsStrided setup.plant calls job sums) (strides_fit : greatest (start_sums setup.plant sums) ≤ longest) where
   -- the call of `job`
   record Called (ended : ℕ) (t : TaskState) (after : ProgramState) : Type 0 where
     to : TaskState
@@ -69,6 +89,7 @@ module _ (setup : Setup) (owned : ℕ → Bool) (passes : ℕ → ℕ) (reads : 
     between : Between s gs Compatible after to
     agrees : Agrees s.guard bytes to.view
     due : total (charge setup.plant) trace ≤ job_weight setup.plant (Jal 0 (pos 0)) + cost
+    long : IsWithin (strides setup.plant trace) (chained (taking (jump_weight (job_weight setup.plant))) sums)
 
   job_called : (ended : ℕ) → ended < own.jobs → (p : ProgramState) (t : TaskState) (word : ℕ) (after : ProgramState) → Between s gs Compatible p t → t.registers ≡ first_registers own.stack → Agrees s.guard bytes t.view → TaskFits t →
       calls_below limits program.routines (length program.routines) everywhere program.job [] p ≡ Ok (word, after) → Called ended t after
@@ -103,12 +124,16 @@ module _ (setup : Setup) (owned : ℕ → Bool) (passes : ℕ → ℕ) (reads : 
         agrees = f.1;
         due = sum (total (charge setup.plant) (jal ++ (m.trace ++ []))) (total (charge setup.plant) jal) (total (charge setup.plant) (m.trace ++ [])) (total (charge setup.plant) m.trace) (total-append (charge setup.plant) jal (m.trace ++ []))
             (control_charged setup.plant at (jump_to 1 at (s.places job)) t b.phase_is) (ap (total (charge setup.plant)) (append-nil m.trace)) (charged t1 m.to (own.entry + 4) m.trace b.phase_is (linked_fits 1 (at + 4) t small fits) m.goes);
+        long = subst (λ es. IsWithin (sums_of_path es) (chained (taking (jump_weight (job_weight setup.plant))) sums))
+            (sym (control_events setup.plant at (jump_to 1 at (s.places job)) t (m.trace ++ []) b.phase_is ∙ ap (λ ds. Takes (jump_weight (job_weight setup.plant)) ∷ events_of setup.plant ds) (append-nil m.trace)))
+            (chained_within (taking (jump_weight (job_weight setup.plant))) (strides setup.plant m.trace) (taking (jump_weight (job_weight setup.plant))) sums (within_same (taking (jump_weight (job_weight setup.plant))))
+            (strided t1 m.to (own.entry + 4) m.trace b.phase_is (linked_fits 1 (at + 4) t small fits) m.goes));
       } where
         sum : (all j m m' : ℕ) → all ≡ j + m → j ≡ job_weight setup.plant (Jal 0 (pos 0)) → m ≡ m' → m' ≤ cost → all ≤ job_weight setup.plant (Jal 0 (pos 0)) + cost
         sum all j m m' e f g le = omega (arith, e, f, g, le)
 
   one_job : (ended : ℕ) → ended < own.jobs → (p : ProgramState) (t : TaskState) (word : ℕ) (after : ProgramState) → Between s gs Compatible p t → t.registers ≡ first_registers own.stack → Agrees s.guard bytes t.view → TaskFits t →
-      calls_below limits program.routines (length program.routines) everywhere program.job [] p ≡ Ok (word, after) → WovenJobs setup owned passes reads s gs own bytes most ended (ended + 1) t after
+      calls_below limits program.routines (length program.routines) everywhere program.job [] p ≡ Ok (word, after) → WovenJobs setup owned passes reads s gs own bytes most longest ended (ended + 1) t after
   one_job ended lt p t word after b first agrees fits is =
       let x = job_called ended lt p t word after b first agrees fits is in
       let r = running ended lt in
@@ -145,7 +170,30 @@ module _ (setup : Setup) (owned : ℕ → Bool) (passes : ℕ → ℕ) (reads : 
         registers = refl;
         agrees = x.agrees;
         fits = record { zero = refl; registers = first_fits own.stack stack_small; bytes = x.woven.woven.fits.bytes; left = x.woven.woven.fits.left; outputs = x.woven.woven.fits.outputs };
+        paced = λ others h.
+            subst (PacedFrom setup.plant most longest 0 0) (sym (joined_assoc x.woven.woven.weave (goes (done_step (own.entry + 4)) ends) others))
+            (jobs_are_paced setup.plant passes most longest x.woven.woven.weave others (done_step (own.entry + 4)) x.woven.woven.is_weave refl
+            (paid (due_along setup.plant x.woven.woven.weave) (total (charge setup.plant) x.trace) cost (weaves_are_charged setup.plant passes x.woven.woven.weave x.woven.woven.is_weave ∙ ap (total (charge setup.plant)) x.woven.woven.dids) x.due enough)
+            (job_longest (events_of setup.plant (dids_of x.woven.woven.weave)) (subst (λ ds. IsWithin (strides setup.plant ds) (chained (taking (jump_weight (job_weight setup.plant))) sums)) (sym x.woven.woven.dids) x.long))
+            h);
       } where
+        paid : (along called cost : ℕ) → along ≡ called → called ≤ job_weight setup.plant (Jal 0 (pos 0)) + cost → job_charge setup.plant job cost ≤ most → along + (due_of setup.plant (done_step (own.entry + 4)) + setup.plant.switch) ≤ most
+        paid along called cost e le enough = omega (arith, e, le, enough)
+
+        job_longest : (es : Path) → IsWithin (sums_of_path es) (chained (taking (jump_weight (job_weight setup.plant))) sums) → longest_from 0 (es ++ Takes (due_of setup.plant (done_step (own.entry + 4))) ∷ []) ≤ longest
+        job_longest es h =
+            let j : Sums = taking (jump_weight (job_weight setup.plant)) in
+            let d : ℕ = due_of setup.plant (done_step (own.entry + 4)) in
+            let n : ℕ = weight (job_weight setup.plant) (PmDone ∷ []) in
+            let le : d ≤ n = omega arith in
+            let last : IsWithin (chained (taking d) (taking 0)) (chained (taking n) (taking 0)) = chained_within (taking d) (taking 0) (taking n) (taking 0) (taking_within d n le) (within_same (taking 0)) in
+            let both : IsWithin (chained (sums_of_path es) (chained (taking d) (taking 0))) (chained (chained j sums) (chained (taking n) (taking 0))) =
+            chained_within (sums_of_path es) (chained (taking d) (taking 0)) (chained j sums) (chained (taking n) (taking 0)) h last in
+            let whole : IsWithin (sums_of_path (es ++ Takes d ∷ [])) (start_sums setup.plant sums) =
+            subst (λ a. IsWithin a (start_sums setup.plant sums)) (sym (path_joined es (Takes d ∷ [])))
+            (subst (IsWithin (chained (sums_of_path es) (chained (taking d) (taking 0)))) (chained_assoc j sums (chained (taking n) (taking 0))) both) in
+            omega (arith, longest_within (es ++ Takes d ∷ []) (start_sums setup.plant sums) whole, strides_fit)
+
         once : (k m all called cost : ℕ) → all ≡ called + total (charge setup.plant) (done_step (own.entry + 4) ∷ []) → called ≤ job_weight setup.plant (Jal 0 (pos 0)) + cost → job_charge setup.plant job cost ≤ m → k * m + all ≤ (k + 1) * m
         once k m all called cost e le enough =
             let one : k + 1 ≡ suc k = omega arith in
@@ -153,7 +201,7 @@ module _ (setup : Setup) (owned : ℕ → Bool) (passes : ℕ → ℕ) (reads : 
             omega (arith, e, le, enough, spread)
 
   many_jobs : (n ended : ℕ) → ended + n ≤ own.jobs → (p : ProgramState) (t : TaskState) (after : ProgramState) →
-      Between s gs Compatible p t → t.registers ≡ first_registers own.stack → Agrees s.guard bytes t.view → TaskFits t → do_jobs limits program n p ≡ Ok after → WovenJobs setup owned passes reads s gs own bytes most ended (ended + n) t after
+      Between s gs Compatible p t → t.registers ≡ first_registers own.stack → Agrees s.guard bytes t.view → TaskFits t → do_jobs limits program n p ≡ Ok after → WovenJobs setup owned passes reads s gs own bytes most longest ended (ended + n) t after
   many_jobs zero ended le p t after b first agrees fits is =
       let same : ended ≡ ended + 0 = omega arith in
       record {
@@ -167,6 +215,7 @@ module _ (setup : Setup) (owned : ℕ → Bool) (passes : ℕ → ℕ) (reads : 
         registers = first;
         agrees = agrees;
         fits = fits;
+        paced = λ others h. h;
       }
   many_jobs (suc n) ended le p t after b first agrees fits is =
       let x = then_ok (calls_below limits program.routines (length program.routines) everywhere program.job [] p) (λ (r : ℕ × ProgramState). do_jobs limits program n r.1) after is in
@@ -190,10 +239,11 @@ module _ (setup : Setup) (owned : ℕ → Bool) (passes : ℕ → ℕ) (reads : 
         registers = more.registers;
         agrees = more.agrees;
         fits = more.fits;
+        paced = λ others h. subst (PacedFrom setup.plant most longest 0 0) (sym (joined_assoc one.weave more.weave others)) (one.paced (joined more.weave others) (more.paced others h));
       } where
         sum : (a b c d x y z : ℕ) → a + x ≤ b → b + y ≤ c → z ≡ x + y → c ≡ d → a + z ≤ d
         sum a b c d x y z le more e f = omega (arith, le, more, e, f)
 
 pub jobs_are_woven : JobsAreWoven
-jobs_are_woven setup owned passes reads s gs limits program own bytes calls parts start job cost most mine own_start own_done running land stands entry_small stack_small means charged enough n ended le p t after b first agrees fits is =
-    many_jobs setup owned passes reads s gs limits program own bytes calls parts start job cost most mine own_start own_done running land stands entry_small stack_small means charged enough n ended le p t after b first agrees fits is
+jobs_are_woven setup owned passes reads s gs limits program own bytes calls parts start job cost most longest sums mine own_start own_done running land stands entry_small stack_small means charged enough strided strides_fit n ended le p t after b first agrees fits is =
+    many_jobs setup owned passes reads s gs limits program own bytes calls parts start job cost most longest sums mine own_start own_done running land stands entry_small stack_small means charged enough strided strides_fit n ended le p t after b first agrees fits is

@@ -12,6 +12,7 @@ use Rattle.prem_asm.proofs.Flat.{flat_ok, all_fit, code_near, code_stands}
 use Rattle.prem_asm.proofs.Quiet.{pieces_good}
 use Rattle.prem_code_laws.specs.GenLaws.Table.{Codes, one_of, with_part, code_calls, IsStub}
 use Rattle.prem_code_laws.specs.GenLaws.Land.{IsRunning}
+use Rattle.prem_layout.specs.Parts.{pass_count}
 use Rattle.prem_code_laws.specs.PrefetchLaws.Confined.{with_guard}
 use Rattle.prem_sound.specs.Script.Scripts.{Reading}
 use Rattle.prem_weave.specs.Path.Woven.{IsCalm, CalmAt, woven_way}
@@ -20,7 +21,7 @@ use Rattle.prem_asm.proofs.Ways.{runs_go_ways}
 use Rattle.prem_cycle.specs.State.{Setup}
 use Rattle.prem_runs.specs.Position.Own.{AllOwn}
 use Rattle.prem_sound.specs.Script.Conforms.{IsOwnDid}
-use Rattle.prem_code_laws.specs.PrefetchLaws.Premises.{passes_of, stub_code}
+use Rattle.prem_code_laws.specs.PrefetchLaws.Premises.{stub_code}
 use Rattle.prem_code_laws.proofs.PrefetchLawsLemmas.Returns.{stubs_return}
 use Rattle.prem_stub_laws.specs.OwnSteps.OwnSteps.{OwnBytes, Takes}
 use Rattle.prem_stub_laws.proofs.OwnStepsLemmas.Rules.{own_step, own_code, taking_code}
@@ -49,7 +50,7 @@ own_is_way setup owned passes reads s own ended o =
           };
       step = λ at i t e good does may goes_on l phase fits. record {
         woven = w.step at i t e good.0 does may goes_on l phase fits;
-        own_dids = (own_step setup owned s.guard o s.size at i t e good.1 does may, tt);
+        own_dids = (own_step setup owned s.guard o s.target s.size at i t e good.1 does may, tt);
       };
     }
 
@@ -93,7 +94,7 @@ module _ (setup : Setup) (owned : ℕ → Bool) (passes : ℕ → ℕ) (reads : 
       (t : TaskState) → Agrees s.guard bytes t.view → GoesWay s bytes (own_way setup owned passes reads own ended) (run s calls (s.places part) ps t) (s.places part) t (s.places part + size_of ps)
   calm_goes parts part ps calls running mine stands lands t agrees =
       runs_go_ways s calls own ended bytes (GoodAt owned) (own_way setup owned passes reads own ended) (own_is_way setup owned passes reads s own ended mine)
-      (record { size = running.size; small = running.small; running = running.running; aligned = running.aligned; below = running.below; lands = lands })
+      (record { target = running.target; size = running.size; small = running.small; running = running.running; aligned = running.aligned; below = running.below; lands = lands })
       ps (s.places part) t (running.aligned part) stands.stands.within (good_words owned s bytes parts part ps running.small (running.aligned part) stands) agrees
 
   part_lands : (parts part : ℕ) (ps : Pieces) (inner others : Calls) → IsRunning s own ended → OwnBytes setup owned s.guard → CalmStands owned s bytes parts part ps → AllLandWoven setup owned passes reads s own ended bytes inner → AllLandWoven setup owned passes reads s own ended bytes others →
@@ -128,7 +129,7 @@ module _ (setup : Setup) (owned : ℕ → Bool) (passes : ℕ → ℕ) (reads : 
               let z = x.stands in
               let r = stubs_return (with_guard y.guard s) (code_calls (with_guard y.guard s) y.codes total) setup.plant.line z.line_fits x.at.ranges z.in_memory x.at.kind z.few x.at.stated x.at.part (s.places x.at.stub) z.small t u back trace phase
               (record { zero = fits.zero; word = fits.registers }) is in
-              stubs_are_own setup owned (with_guard y.guard s) y.codes total x.own_guard x.own_code z.line_fits.positive x.at.kind x.at.ranges (passes_of x.at.kind) x.at.part x.at.stated (s.places x.at.stub) x.have_bytes x.own_ranges x.own_stub t u back trace is r.steps;
+              stubs_are_own setup owned (with_guard y.guard s) y.codes total x.own_guard x.own_code z.line_fits.positive x.at.kind x.at.ranges (pass_count x.at.kind) x.at.part x.at.stated (s.places x.at.stub) x.have_bytes x.own_ranges x.own_stub t u back trace is r.steps;
         },
         h.1,
       )

@@ -24,7 +24,7 @@ use Rattle.prem_stub_laws.specs.Join.Joined.{run_in, JobLimits, TaskJoins, IsJoi
 
 -- ---- a choice for each number below a limit
 
-chosen : {A : Type 0} → (n : ℕ) (P : ℕ → A → Type 0) (other : A) → ((k : ℕ) → k < n → (a : A) × P k a) → (g : ℕ → A) × ((k : ℕ) → k < n → P k (g k))
+pub chosen : {A : Type 0} → (n : ℕ) (P : ℕ → A → Type 0) (other : A) → ((k : ℕ) → k < n → (a : A) × P k a) → (g : ℕ → A) × ((k : ℕ) → k < n → P k (g k))
 chosen zero P other f = (λ k. other, λ k lt. absurd (omega (arith, lt)))
 chosen {A} (suc n) P other f =
     let r = chosen n P other (λ k lt. f k (omega (arith, lt))) in
@@ -40,15 +40,15 @@ chosen {A} (suc n) P other f =
 
 -- ---- one task
 
-record Scripted (p : Setup) (passes : ℕ → ℕ) (own : ℕ → Bool) (run : TaskRun) (most : JobLimits) (q : Promise) (s : Script) : Type 0 where
-  script : IsScript p.plant passes run s
-  stays : StaysOwn p own run
-  kept : IsKept own run s q
-  outputs : length (plain_run run s.count).task.outputs ≤ run.jobs * most.outputs
-  intervals : interval_count run s ≤ run.jobs * (1 + 2 * most.calls)
-  due : s.due ≤ run.jobs * most.cycles
+pub record Scripted (p : Setup) (passes : ℕ → ℕ) (own : ℕ → Bool) (run : TaskRun) (most : JobLimits) (q : Promise) (s : Script) : Type 0 where
+  pub script : IsScript p.plant passes run s
+  pub stays : StaysOwn p own run
+  pub kept : IsKept own run s q
+  pub outputs : length (plain_run run s.count).task.outputs ≤ run.jobs * most.outputs
+  pub intervals : interval_count run s ≤ run.jobs * (1 + 2 * most.calls)
+  pub due : s.due ≤ run.jobs * most.cycles
 
-joined_script : (p : Setup) (passes : ℕ → ℕ) (own : ℕ → Bool) (run : TaskRun) (most : JobLimits) (q : Promise) → RunFits run → TaskJoins p passes own run most q → (s : Script) × Scripted p passes own run most q s
+pub joined_script : (p : Setup) (passes : ℕ → ℕ) (own : ℕ → Bool) (run : TaskRun) (most : JobLimits) (q : Promise) → RunFits run → TaskJoins p passes own run most q → (s : Script) × Scripted p passes own run most q s
 joined_script p passes own run most q fits h =
     let c = woven_runs_conform p passes own q.reads run (run.jobs * most.cycles) h.weave h.ending h.woven in
     let g = woven_runs_give_promises p passes own run (run.jobs * most.cycles) h.weave h.ending q h.woven h.promised in
@@ -73,6 +73,11 @@ joined_script p passes own run most q fits h =
             let b : suc j * m ≡ j * m + m = suc-mul j m in
             omega (arith, r, a, b)
 
+-- its calls are those of the weave
+pub joined_calls : (p : Setup) (passes : ℕ → ℕ) (own : ℕ → Bool) (run : TaskRun) (most : JobLimits) (q : Promise) (fits : RunFits run) (h : TaskJoins p passes own run most q) → (joined_script p passes own run most q fits h).0.calls ≡ calls_of h.weave
+unfolding joined_script
+joined_calls p passes own run most q fits h = refl
+
 -- ---- all of them
 
 module _ (passes : ℕ → ℕ) (p : Setup) (content : List ℕ) (own : ℕ → ℕ → Bool) (most : ℕ → JobLimits) (promises : List (List ℕ) → ℕ → Promise) (limit : ℕ) (h : IsJoined passes p content own most promises limit) where
@@ -86,7 +91,7 @@ module _ (passes : ℕ → ℕ) (p : Setup) (content : List ℕ) (own : ℕ → 
   bytes_below (b ∷ bs) n all zero = all 0 b (omega arith)
   bytes_below (b ∷ bs) n all (suc a) = bytes_below bs n (λ k d lt. all (suc k) d (omega (arith, lt))) a
 
-  run_fits : (inputs : List (List ℕ)) → AreInputs p inputs → (k : ℕ) → k < length p.tasks → RunFits (run_in p content inputs k)
+  pub run_fits : (inputs : List (List ℕ)) → AreInputs p inputs → (k : ℕ) → k < length p.tasks → RunFits (run_in p content inputs k)
   run_fits inputs i k lt =
       let t = record_in k lt in
       let m : p.plant.memory ≤ 16777216 = h.image.plant.memory.1 in
@@ -98,12 +103,12 @@ module _ (passes : ℕ → ℕ) (p : Setup) (content : List ℕ) (own : ℕ → 
         inputs = i.words k [] (omega (arith, lt, i.count));
       }
 
-  scripted : (inputs : List (List ℕ)) → AreInputs p inputs → (scripts : ℕ → Script) × ((k : ℕ) → k < length p.tasks → Scripted p passes (own k) (run_in p content inputs k) (most k) (promises inputs k) (scripts k))
+  pub scripted : (inputs : List (List ℕ)) → AreInputs p inputs → (scripts : ℕ → Script) × ((k : ℕ) → k < length p.tasks → Scripted p passes (own k) (run_in p content inputs k) (most k) (promises inputs k) (scripts k))
   scripted inputs i =
       chosen (length p.tasks) (λ k s. Scripted p passes (own k) (run_in p content inputs k) (most k) (promises inputs k) s) (record { count = 0; calls = []; due = 0 })
       (λ k lt. joined_script p passes (own k) (run_in p content inputs k) (most k) (promises inputs k) (run_fits inputs i k lt) (h.each inputs i k lt))
 
-  are_scripts : (inputs : List (List ℕ)) (i : AreInputs p inputs) → AreScripts p passes content inputs own (run_in p content inputs) (scripted inputs i).0
+  pub are_scripts : (inputs : List (List ℕ)) (i : AreInputs p inputs) → AreScripts p passes content inputs own (run_in p content inputs) (scripted inputs i).0
   are_scripts inputs i =
       let n : ℕ = length p.tasks in
       let s = scripted inputs i in
@@ -111,7 +116,7 @@ module _ (passes : ℕ → ℕ) (p : Setup) (content : List ℕ) (own : ℕ → 
       let intervals : sum_below n (λ k. interval_count (run_in p content inputs k) (s.0 k)) ≤ sum_below n (λ k. (record_of p k).jobs * (1 + 2 * (most k).calls)) = sum_le n _ _ (λ k lt. (s.1 k lt).intervals) in
       record {
         own_runs = record {
-          runs_are = λ k lt. record { size = refl; entry = refl; stack = refl; jobs = refl; words = refl; bytes = λ a e. refl; fits = run_fits inputs i k lt };
+          runs_are = λ k lt. record { target = refl; size = refl; entry = refl; stack = refl; jobs = refl; words = refl; bytes = λ a e. refl; fits = run_fits inputs i k lt };
           stay = λ k lt. (s.1 k lt).stays;
           apart = h.apart;
           free = h.free;
@@ -123,7 +128,7 @@ module _ (passes : ℕ → ℕ) (p : Setup) (content : List ℕ) (own : ℕ → 
         less : (x y z : ℕ) → x ≤ y → y < z → x < z
         less x y z a b = omega (arith, a, b)
 
-  limits : (inputs : List (List ℕ)) (i : AreInputs p inputs) → limit_of p (scripted inputs i).0 ≤ limit
+  pub limits : (inputs : List (List ℕ)) (i : AreInputs p inputs) → limit_of p (scripted inputs i).0 ≤ limit
   limits inputs i =
       let n : ℕ = length p.tasks in
       let s = scripted inputs i in
@@ -132,7 +137,7 @@ module _ (passes : ℕ → ℕ) (p : Setup) (content : List ℕ) (own : ℕ → 
         added : (r x y z : ℕ) → x ≤ y → r + y ≤ z → r + x ≤ z
         added r x y z a b = omega (arith, a, b)
 
-  runs : (requests : List Request) → IsTrace p.devices requests → PutWords requests → IsRun p content requests
+  pub runs : (requests : List Request) → IsTrace p.devices requests → PutWords requests → IsRun p content requests
   runs requests t w = record {
     runnable = record { plant = h.image.plant; room = h.image.within; devices = h.image.each_device; asked = t.each };
     periods = λ k d lt. (h.image.each_task k d lt).period.0;

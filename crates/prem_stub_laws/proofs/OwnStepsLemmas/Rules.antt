@@ -1,9 +1,11 @@
 -- Steps under a guard that allows own bytes alone.
 use Rattle.std.proofs.Common.{◌≡◌, ℕ, zero, suc, ◌+◌, ◌*◌, ◌/◌, ◌%◌, ◌<◌, ◌≤◌, ap, ◌∙◌, sym, subst, arith, cond, eqb, leb, true, false, Bool, List, [], ◌∷◌, length, Some, None, Option, IfSome}
 use Rattle.std.proofs.lemmas.Bool.{cond_both, and_parts}
+use Rattle.prem_isa.proofs.Forms.{extended_done}
+use Rattle.prem_plant.specs.declared.plant.Target.{Target}
 use Rattle.prem_word.specs.Bytes.{number_at}
 use Rattle.prem_isa.specs.declared.instr.Instr.{Instr}
-use Rattle.prem_isa.specs.declared.instr.Instr.TheVariants.{Lui, Auipc, Jal, Jalr, Branch, Load, Store, OpImm, Op, Fence, Ecall, Ebreak, PmMem, PmExec, PmEnd, PmDone, PmIn, PmOut}
+use Rattle.prem_isa.specs.declared.instr.Instr.TheVariants.{Lui, Auipc, Jal, Jalr, Branch, Load, Store, OpImm, Op, MulDiv, Fence, Ecall, Ebreak, PmMem, PmExec, PmEnd, PmDone, PmIn, PmOut}
 use Rattle.prem_isa.specs.declared.instr.LoadOp.{LoadOp}
 use Rattle.prem_isa.specs.declared.instr.LoadOp.TheVariants.{Lb, Lh, Lw, Lbu, Lhu}
 use Rattle.prem_isa.specs.declared.instr.StoreOp.{StoreOp}
@@ -96,31 +98,32 @@ module _ (p : Setup) (own : ℕ → Bool) (g : Guard) (o : OwnBytes p own g) whe
   store_fine : (op : StoreOp) (rs1 rs2 : ℕ) (offset : _) (next a w : ℕ) → OnDone (Fine (Store op rs1 rs2 offset)) (stores next op a w)
   store_fine op rs1 rs2 offset next a w = record { own_access = λ h t. record { bytes = λ k lt. o.stores (a + k) (all_true g.store a (store_size op) k h lt); some = store_some op } }
 
-  act_fine : (size at : ℕ) (i : Instr) (t : TaskState) → OnDone (Fine i) (outcome_at size at i t)
-  act_fine size at (Lui rd imm) t = sets_fine (Lui rd imm) (at + 4) rd _
-  act_fine size at (Auipc rd imm) t = sets_fine (Auipc rd imm) (at + 4) rd _
-  act_fine size at (Jal rd offset) t = jumps_fine (Jal rd offset) (plus at offset) rd (at + 4)
-  act_fine size at (Jalr rd rs1 offset) t = jumps_fine (Jalr rd rs1 offset) (plus (t.registers rs1) offset / 2 * 2) rd (at + 4)
-  act_fine size at (Branch op rs1 rs2 offset) t =
+  act_fine : (target : Target) (size at : ℕ) (i : Instr) (t : TaskState) → OnDone (Fine i) (outcome_at target size at i t)
+  act_fine target size at (Lui rd imm) t = sets_fine (Lui rd imm) (at + 4) rd _
+  act_fine target size at (Auipc rd imm) t = sets_fine (Auipc rd imm) (at + 4) rd _
+  act_fine target size at (Jal rd offset) t = jumps_fine (Jal rd offset) (plus at offset) rd (at + 4)
+  act_fine target size at (Jalr rd rs1 offset) t = jumps_fine (Jalr rd rs1 offset) (plus (t.registers rs1) offset / 2 * 2) rd (at + 4)
+  act_fine target size at (Branch op rs1 rs2 offset) t =
       cond_both (holds op (t.registers rs1) (t.registers rs2)) (jumps (plus at offset) 0 0) (sets (at + 4) 0 0) (OnDone (Fine (Branch op rs1 rs2 offset)))
       (λ e. jumps_fine (Branch op rs1 rs2 offset) (plus at offset) 0 0) (λ e. sets_fine (Branch op rs1 rs2 offset) (at + 4) 0 0)
-  act_fine size at (Load op rd rs1 offset) t =
+  act_fine target size at (Load op rd rs1 offset) t =
       let a = plus (t.registers rs1) offset in
       accesses_fine (Load op rd rs1 offset) size a (load_size op) (loads (at + 4) op rd a (number_at t.view a (load_size op))) (load_fine op rd rs1 offset (at + 4) a (number_at t.view a (load_size op)))
-  act_fine size at (Store op rs1 rs2 offset) t =
+  act_fine target size at (Store op rs1 rs2 offset) t =
       let a = plus (t.registers rs1) offset in
       accesses_fine (Store op rs1 rs2 offset) size a (store_size op) (stores (at + 4) op a (t.registers rs2)) (store_fine op rs1 rs2 offset (at + 4) a (t.registers rs2))
-  act_fine size at (OpImm op rd rs1 imm) t = sets_fine (OpImm op rd rs1 imm) (at + 4) rd _
-  act_fine size at (Op op rd rs1 rs2) t = sets_fine (Op op rd rs1 rs2) (at + 4) rd _
-  act_fine size at (Fence high rd) t = sets_fine (Fence high rd) (at + 4) 0 0
-  act_fine size at Ecall t = tt
-  act_fine size at Ebreak t = tt
-  act_fine size at PmMem t = phase_fine PmMem Compatible t.phase (changes (at + 4) Memory) (record { own_access = λ h s. tt })
-  act_fine size at (PmExec rs1) t = phase_fine (PmExec rs1) MemoryPhase t.phase (changes (at + 4) (Execute (t.registers rs1))) (record { own_access = λ h s. tt })
-  act_fine size at PmEnd t = phase_fine PmEnd Execution t.phase (changes (at + 4) End) (record { own_access = λ h s. tt })
-  act_fine size at PmDone t = phase_fine PmDone Compatible t.phase (changes (at + 4) Job) (record { own_access = λ h s. tt })
-  act_fine size at (PmIn rd) t = phase_fine (PmIn rd) Compatible t.phase (takes (at + 4) rd (next_input t.left)) (record { own_access = λ h s. tt })
-  act_fine size at (PmOut rs1) t = phase_fine (PmOut rs1) Compatible t.phase (puts (at + 4) (t.registers rs1)) (record { own_access = λ h s. tt })
+  act_fine target size at (OpImm op rd rs1 imm) t = sets_fine (OpImm op rd rs1 imm) (at + 4) rd _
+  act_fine target size at (Op op rd rs1 rs2) t = sets_fine (Op op rd rs1 rs2) (at + 4) rd _
+  act_fine target size at (MulDiv op rd rs1 rs2) t = extended_done target _ (Fine (MulDiv op rd rs1 rs2)) (sets_fine (MulDiv op rd rs1 rs2) (at + 4) rd _)
+  act_fine target size at (Fence high rd) t = sets_fine (Fence high rd) (at + 4) 0 0
+  act_fine target size at Ecall t = tt
+  act_fine target size at Ebreak t = tt
+  act_fine target size at PmMem t = phase_fine PmMem Compatible t.phase (changes (at + 4) Memory) (record { own_access = λ h s. tt })
+  act_fine target size at (PmExec rs1) t = phase_fine (PmExec rs1) MemoryPhase t.phase (changes (at + 4) (Execute (t.registers rs1))) (record { own_access = λ h s. tt })
+  act_fine target size at PmEnd t = phase_fine PmEnd Execution t.phase (changes (at + 4) End) (record { own_access = λ h s. tt })
+  act_fine target size at PmDone t = phase_fine PmDone Compatible t.phase (changes (at + 4) Job) (record { own_access = λ h s. tt })
+  act_fine target size at (PmIn rd) t = phase_fine (PmIn rd) Compatible t.phase (takes (at + 4) rd (next_input t.left)) (record { own_access = λ h s. tt })
+  act_fine target size at (PmOut rs1) t = phase_fine (PmOut rs1) Compatible t.phase (puts (at + 4) (t.registers rs1)) (record { own_access = λ h s. tt })
 
   -- ---- steps
 
@@ -142,9 +145,9 @@ module _ (p : Setup) (own : ℕ → Bool) (g : Guard) (o : OwnBytes p own g) whe
       stepped_by g at i t e (Holds TouchesOwn Any) tt
       (λ a b. ((record { fetched = h; accessed = λ s. own_access e.access (k.own_access a s) }, tt), tt)) (λ a b to. ((record { fetched = h; accessed = λ s. own_access e.access (k.own_access a s) }, tt), tt))
 
-  pub touch_rules : (size : ℕ) → Rules size g FetchedOwn TouchesOwn Any
-  touch_rules size = record {
-    one = λ at i t h j. touch_one at i t (outcome_at size at i t) h (act_fine size at i t);
+  pub touch_rules : (target : Target) (size : ℕ) → Rules target size g FetchedOwn TouchesOwn Any
+  touch_rules target size = record {
+    one = λ at i t h j. touch_one at i t (outcome_at target size at i t) h (act_fine target size at i t);
     branch = λ at test t h j. (record { fetched = h; accessed = λ s. tt }, tt);
     jump = λ at link z t h j. ((record { fetched = h; accessed = λ s. tt }, tt), tt);
   }
@@ -172,8 +175,8 @@ module _ (p : Setup) (own : ℕ → Bool) (g : Guard) (o : OwnBytes p own g) whe
   done i x e is h = subst (OnDone (Fine i)) is h
 
   -- the step of an instruction that takes something, as the guard allows it
-  pub own_step : (size at : ℕ) (i : Instr) (t : TaskState) (e : Effect) → AllOwn own at 4 × Takes i → outcome_at size at i t ≡ Done e → allowed g e ≡ true → IsOwnDid p own (did_of at t.phase i e)
-  own_step size at i t e h does may = own_taking at i t e h.0 ((done i (outcome_at size at i t) e does (act_fine size at i t)).own_access may h.1)
+  pub own_step : (target : Target) (size at : ℕ) (i : Instr) (t : TaskState) (e : Effect) → AllOwn own at 4 × Takes i → outcome_at target size at i t ≡ Done e → allowed g e ≡ true → IsOwnDid p own (did_of at t.phase i e)
+  own_step target size at i t e h does may = own_taking at i t e h.0 ((done i (outcome_at target size at i t) e does (act_fine target size at i t)).own_access may h.1)
 
   own_one : (at : ℕ) (i : Instr) (t : TaskState) (x : Outcome) → TakingOwn at i → OnDone (Fine i) x → Holds (IsOwnDid p own) Any (stepped g at i t x)
   own_one at i t (Trap cause) h k = tt
@@ -182,9 +185,9 @@ module _ (p : Setup) (own : ℕ → Bool) (g : Guard) (o : OwnBytes p own g) whe
       (λ a b. ((own_taking at i t e h.0 (k.own_access a h.1), tt), tt))
       (λ a b to. ((own_taking at i t e h.0 (k.own_access a h.1), tt), tt))
 
-  pub own_rules : (size : ℕ) → Rules size g TakingOwn (IsOwnDid p own) Any
-  own_rules size = record {
-    one = λ at i t h j. own_one at i t (outcome_at size at i t) h (act_fine size at i t);
+  pub own_rules : (target : Target) (size : ℕ) → Rules target size g TakingOwn (IsOwnDid p own) Any
+  own_rules target size = record {
+    one = λ at i t h j. own_one at i t (outcome_at target size at i t) h (act_fine target size at i t);
     branch = λ at test t h j. (own_did _ (record { fetched = h.0; accessed = λ s. tt }) tt, tt);
     jump = λ at link z t h j. ((own_did _ (record { fetched = h.0; accessed = λ s. tt }) tt, tt), tt);
   }
@@ -210,7 +213,7 @@ calls_hold p own s c total o code (suc n) le part t =
     let at = s.places (c.code_part n) in
     let x = code n le in
     one_holds (IsOwnDid p own) Any (eqb part (c.code_part n)) (run s (code_calls s c n) at (c.code n) t) (code_calls s c n part t)
-    (every (TakingOwn p own s.guard o) (IsOwnDid p own) Any s (code_calls s c n) (own_rules p own s.guard o s.size) (λ part t j. calls_hold p own s c total o code n (omega arith) part t) (c.code n) at
+    (every (TakingOwn p own s.guard o) (IsOwnDid p own) Any s (code_calls s c n) (own_rules p own s.guard o s.target s.size) (λ part t j. calls_hold p own s c total o code n (omega arith) part t) (c.code n) at
     (taking_code own (code_of s.places at (c.code n)) at (own_code own s.places (c.code n) at x.bytes) (pieces_good Takes s.places (c.code n) at x.takes)) t tt)
     (calls_hold p own s c total o code n (omega arith) part t)
 

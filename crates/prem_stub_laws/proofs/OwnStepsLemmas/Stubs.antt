@@ -68,7 +68,7 @@ stubs_are_own p own s c total o code some kind ranges passes part stated at byte
     let called = calls_hold p own s c total o code total (omega arith) in
     let touched : AllSteps (TouchesOwn p own s.guard o) trace =
     (subst (Holds (TouchesOwn p own s.guard o) Any) goes
-    (every (FetchedOwn p own s.guard o) (TouchesOwn p own s.guard o) Any s (code_calls s c total) (touch_rules p own s.guard o s.size)
+    (every (FetchedOwn p own s.guard o) (TouchesOwn p own s.guard o) Any s (code_calls s c total) (touch_rules p own s.guard o s.target s.size)
     (λ q v j. holds_map (IsOwnDid p own) (TouchesOwn p own s.guard o) (λ d h. from_own d h) (code_calls s c total q v) (called q v)) stub at (own_code own s.places stub at stub_own) t tt)).0 in
     let callee : AllSteps (IsOwnDid p own) x.callee = (subst (Holds (IsOwnDid p own) Any) x.runs (called part x.from)).0 in
     let body : AllSteps (λ d. IfSome d.access (λ a. IsFree p (a.address / p.plant.line))) x.body =

@@ -1,7 +1,8 @@
 -- Each load of the code of functions takes something.
 use Rattle.std.proofs.Common.{ℕ, zero, suc, ◌+◌, ◌≤◌, refl, arith, List, [], ◌∷◌, length, Some, None, Option}
+use Rattle.prem_plant.specs.declared.plant.Target.{Target}
 use Rattle.prem_isa.specs.declared.instr.Instr.{Instr}
-use Rattle.prem_isa.specs.declared.instr.Instr.TheVariants.{Lui, Auipc, Jal, Jalr, Branch, Load, Store, OpImm, Op, Fence, Ecall, Ebreak, PmMem, PmExec, PmEnd, PmDone, PmIn, PmOut}
+use Rattle.prem_isa.specs.declared.instr.Instr.TheVariants.{Lui, Auipc, Jal, Jalr, Branch, Load, Store, OpImm, Op, MulDiv, Fence, Ecall, Ebreak, PmMem, PmExec, PmEnd, PmDone, PmIn, PmOut}
 use Rattle.prem_meaning.specs.Resolved.{Term, Steps, Done as NoSteps, SetLocal, SetScalar, SetElement, Output, Input, If, For, While, Call}
 use Rattle.prem_asm.specs.Pieces.{Pieces, no_pieces, straight, address_of, either, repeat, call_to, followed}
 use Rattle.prem_asm.specs.Quiet.{IsQuiet, EachInstr, GoodJumps, EachPiece}
@@ -27,6 +28,7 @@ quiet_takes (Load op (suc rd) rs1 offset) q = refl
 quiet_takes (Store op rs1 rs2 offset) q = refl
 quiet_takes (OpImm op rd rs1 imm) q = refl
 quiet_takes (Op op rd rs1 rs2) q = refl
+quiet_takes (MulDiv op rd rs1 rs2) q = refl
 quiet_takes (Fence high rd) q = refl
 quiet_takes Ecall q = absurd q
 quiet_takes Ebreak q = absurd q
@@ -62,15 +64,15 @@ joined (call_to link part rest) q h k = (h.0, joined rest q h.1 k)
 
 -- ---- terms and statements
 
-takes_term : (parts : ℕ → ℕ) (r : ℕ) (e : Term) → 10 ≤ r → Taking (term_code parts r e)
-takes_term parts r e ten = pieces_take (term_code parts r e) (quiet_term parts r e ten)
+takes_term : (target : Target) (parts : ℕ → ℕ) (r : ℕ) (e : Term) → 10 ≤ r → Taking (term_code target parts r e)
+takes_term target parts r e ten = pieces_take (term_code target parts r e) (quiet_term target parts r e ten)
 
-takes_ten : (parts : ℕ → ℕ) (e : Term) → Taking (term_code parts 10 e)
-takes_ten parts e = takes_term parts 10 e (omega arith)
+takes_ten : (target : Target) (parts : ℕ → ℕ) (e : Term) → Taking (term_code target parts 10 e)
+takes_ten target parts e = takes_term target parts 10 e (omega arith)
 
-takes_arguments : (parts : ℕ → ℕ) (frame j : ℕ) (es : List Term) → Taking (argument_code parts frame j es)
-takes_arguments parts frame j [] = tt
-takes_arguments parts frame j (e ∷ es) = joined (term_code parts 10 e) _ (takes_ten parts e) ((refl, tt), takes_arguments parts frame (j + 1) es)
+takes_arguments : (target : Target) (parts : ℕ → ℕ) (frame j : ℕ) (es : List Term) → Taking (argument_code target parts frame j es)
+takes_arguments target parts frame j [] = tt
+takes_arguments target parts frame j (e ∷ es) = joined (term_code target parts 10 e) _ (takes_ten target parts e) ((refl, tt), takes_arguments target parts frame (j + 1) es)
 
 takes_target : (target : Option ℕ) (rest : Pieces) → Taking rest → Taking (target_code target rest)
 takes_target None rest h = h
@@ -78,26 +80,26 @@ takes_target (Some k) rest h = ((refl, tt), h)
 
 takes_steps : (parts : Parts) (n : ℕ) (p : Steps) → Taking (steps_code parts n p)
 takes_steps parts n NoSteps = tt
-takes_steps parts n (SetLocal at k value rest) = joined (term_code parts.global 10 value) _ (takes_ten parts.global value) ((refl, tt), takes_steps parts n rest)
+takes_steps parts n (SetLocal at k value rest) = joined (term_code parts.target parts.global 10 value) _ (takes_ten parts.target parts.global value) ((refl, tt), takes_steps parts n rest)
 takes_steps parts n (SetScalar at g ty value rest) =
-    joined (term_code parts.global 10 value) _ (takes_ten parts.global value) (((λ n. refl), (λ z. refl)), ((refl, tt), takes_steps parts n rest))
+    joined (term_code parts.target parts.global 10 value) _ (takes_ten parts.target parts.global value) (((λ n. refl), (λ z. refl)), ((refl, tt), takes_steps parts n rest))
 takes_steps parts n (SetElement at g ty index value rest) =
-    joined (term_code parts.global 10 value) _ (takes_ten parts.global value)
-    (joined (term_code parts.global 11 index) _ (takes_term parts.global 11 index (omega arith))
+    joined (term_code parts.target parts.global 10 value) _ (takes_ten parts.target parts.global value)
+    (joined (term_code parts.target parts.global 11 index) _ (takes_term parts.target parts.global 11 index (omega arith))
     (code_takes (scale 11 (shift_of ty)) (quiet_scale 11 (omega arith) (shift_of ty)), (((λ n. refl), (λ z. refl)), ((refl, (refl, tt)), takes_steps parts n rest))))
-takes_steps parts n (Output at value rest) = joined (term_code parts.global 10 value) _ (takes_ten parts.global value) ((refl, tt), takes_steps parts n rest)
+takes_steps parts n (Output at value rest) = joined (term_code parts.target parts.global 10 value) _ (takes_ten parts.target parts.global value) ((refl, tt), takes_steps parts n rest)
 takes_steps parts n (Input at k rest) = ((refl, (refl, tt)), takes_steps parts n rest)
 takes_steps parts n (If at condition taken other rest) =
-    joined (term_code parts.global 10 condition) _ (takes_ten parts.global condition)
+    joined (term_code parts.target parts.global 10 condition) _ (takes_ten parts.target parts.global condition)
     ((refl, jumps 0, takes_steps parts n taken, takes_steps parts (n + counters_in taken) other), takes_steps parts (n + counters_in taken + counters_in other) rest)
 takes_steps parts n (For at k low closed high step turns body rest) =
-    joined (term_code parts.global 10 low) _ (takes_ten parts.global low) (
+    joined (term_code parts.target parts.global 10 low) _ (takes_ten parts.target parts.global low) (
       (refl, tt),
       (
         (
           refl,
           jumps 0,
-          ((refl, tt), takes_term parts.global 11 high (omega arith)),
+          ((refl, tt), takes_term parts.target parts.global 11 high (omega arith)),
           joined (steps_code parts n body) _ (takes_steps parts n body) ((refl, (refl, (refl, tt))), tt),
         ),
         takes_steps parts (n + counters_in body) rest,
@@ -111,7 +113,7 @@ takes_steps parts n (While at turns condition body rest) = (
       (
         refl,
         jumps 0,
-        ((refl, tt), ((refl, jumps 0, joined (term_code parts.global 10 condition) _ (takes_ten parts.global condition) ((refl, tt), tt), tt), tt)),
+        ((refl, tt), ((refl, jumps 0, joined (term_code parts.target parts.global 10 condition) _ (takes_ten parts.target parts.global condition) ((refl, tt), tt), tt), tt)),
         ((refl, (refl, (refl, tt))), takes_steps parts (n + 1) body),
       ),
       takes_steps parts (n + 1 + counters_in body) rest,
@@ -119,21 +121,21 @@ takes_steps parts n (While at turns condition body rest) = (
   ),
 )
 takes_steps parts n (Call at target f arguments rest) =
-    joined (argument_code parts.global (parts.frame f) 0 arguments) _ (takes_arguments parts.global (parts.frame f) 0 arguments)
+    joined (argument_code parts.target parts.global (parts.frame f) 0 arguments) _ (takes_arguments parts.target parts.global (parts.frame f) 0 arguments)
     (jumps (parts.link f), takes_target target (steps_code parts n rest) (takes_steps parts n rest))
 
-takes_declared : (parts : ℕ → ℕ) (k : ℕ) (es : List Term) → Taking (declare_code parts k es)
-takes_declared parts k [] = tt
-takes_declared parts k (e ∷ es) = joined (term_code parts 10 e) _ (takes_ten parts e) ((refl, tt), takes_declared parts (k + 1) es)
+takes_declared : (target : Target) (parts : ℕ → ℕ) (k : ℕ) (es : List Term) → Taking (declare_code target parts k es)
+takes_declared target parts k [] = tt
+takes_declared target parts k (e ∷ es) = joined (term_code target parts 10 e) _ (takes_ten target parts e) ((refl, tt), takes_declared target parts (k + 1) es)
 
-takes_result : (parts : ℕ → ℕ) (o : Option Term) → Taking (result_code parts o)
-takes_result parts None = tt
-takes_result parts (Some e) = takes_ten parts e
+takes_result : (target : Target) (parts : ℕ → ℕ) (o : Option Term) → Taking (result_code target parts o)
+takes_result target parts None = tt
+takes_result target parts (Some e) = takes_ten target parts e
 
 pub functions_take : FunctionsTake
 functions_take parts f = (
   (refl, (refl, tt)),
-  joined (declare_code parts.global (length f.text.params) f.locals) _ (takes_declared parts.global (length f.text.params) f.locals)
+  joined (declare_code parts.target parts.global (length f.text.params) f.locals) _ (takes_declared parts.target parts.global (length f.text.params) f.locals)
       (joined (steps_code parts (locals_of f) f.body) _ (takes_steps parts (locals_of f) f.body)
-      (joined (result_code parts.global f.result) _ (takes_result parts.global f.result) ((refl, (refl, (refl, tt))), tt))),
+      (joined (result_code parts.target parts.global f.result) _ (takes_result parts.target parts.global f.result) ((refl, (refl, (refl, tt))), tt))),
 )

@@ -4,7 +4,7 @@ use Rattle.std.specs.Prelude.{is_some}
 use Rattle.std.proofs.lemmas.Bool.{or_cases, cond_both, eqb-true}
 use Rattle.std.proofs.lemmas.List.{length-map}
 use Rattle.prem_isa.specs.declared.instr.Instr.{Instr}
-use Rattle.prem_isa.specs.declared.instr.Instr.TheVariants.{Lui, Auipc, Jal, Jalr, Branch, Load, Store, OpImm, Op, Fence, Ecall, Ebreak, PmMem, PmExec, PmEnd, PmDone, PmIn, PmOut}
+use Rattle.prem_isa.specs.declared.instr.Instr.TheVariants.{Lui, Auipc, Jal, Jalr, Branch, Load, Store, OpImm, Op, MulDiv, Fence, Ecall, Ebreak, PmMem, PmExec, PmEnd, PmDone, PmIn, PmOut}
 use Rattle.prem_plant.specs.declared.plant.Plant.{Plant}
 use Rattle.prem_plant.specs.declared.layout.PartKind.TheVariants.{Stub, Code, Stack}
 use Rattle.prem_plant.specs.declared.layout.PartSize.{PartSize}
@@ -23,7 +23,7 @@ use Rattle.prem_layout.specs.Placed.{Placed, part_total}
 use Rattle.prem_layout.proofs.StubLaws.{stubs_have_their_size}
 use Rattle.prem_stub_laws.specs.Coverage.Fetched.{SomeHolds}
 use Rattle.prem_stub_laws.proofs.CoverageLemmas.Fetched.{footprints_are_fetched, ranges_lie_in_footprints}
-use Rattle.prem_lru.specs.Order.{is_in}
+use Rattle.prem_order.specs.Order.{is_in}
 use Rattle.prem_layout.proofs.TaskParts.{code_counted, get_behind}
 use Rattle.prem_weave.specs.Segment.Bodies.{TakesSome}
 use Rattle.prem_stub_laws.specs.Own.Owned.{is_held}
@@ -211,6 +211,7 @@ takes_one (Load op rd rs1 offset) q = q.1
 takes_one (Store op rs1 rs2 offset) q = tt
 takes_one (OpImm op rd rs1 imm) q = tt
 takes_one (Op op rd rs1 rs2) q = tt
+takes_one (MulDiv op rd rs1 rs2) q = tt
 takes_one (Fence high rd) q = tt
 takes_one Ecall q = absurd q
 takes_one Ebreak q = absurd q

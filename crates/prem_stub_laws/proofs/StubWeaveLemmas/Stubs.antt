@@ -67,9 +67,10 @@ module _ (plant : Plant) (passes : ℕ → ℕ) (reads : Reading) (s : Setting) 
       let r = stands.running in
       let w = stands.stub_words in
       let now = part_now s h stands.grows bytes t.view agrees in
-      let running : IsRunning (with_guard h s) own ended = record { size = r.size; small = r.small; running = r.running; aligned = r.aligned; below = r.below } in
+      let running : IsRunning (with_guard h s) own ended = record { target = r.target; size = r.size; small = r.small; running = r.running; aligned = r.aligned; below = r.below } in
       words_run (with_guard h s) (code_calls (with_guard h s) c n) own ended t.view
       (record {
+        target = r.target;
         size = r.size;
         small = r.small;
         running = r.running;

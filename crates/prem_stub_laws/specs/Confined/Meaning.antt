@@ -9,14 +9,14 @@ use Rattle.prem_meaning.specs.Statements.{ProgramState, Calls as SourceCalls}
 use Rattle.prem_asm.specs.Pieces.{size_of}
 use Rattle.prem_asm.specs.Runs.{Guard, Setting, Calls, Ending, run}
 use Rattle.prem_template.specs.Steps.{Parts}
-use Rattle.prem_layout.specs.Parts.{Passes as PassCount}
+use Rattle.prem_layout.specs.Parts.{Passes as PassCount, pass_count}
 use Rattle.prem_code_laws.specs.ExprLaws.Relation.{Globals, Stack}
 use Rattle.prem_code_laws.specs.GenLaws.Fits.{Callees}
 use Rattle.prem_code_laws.specs.GenLaws.Functions.{noted}
 use Rattle.prem_code_laws.specs.GenLaws.Laws.{CalleesAt}
 use Rattle.prem_code_laws.specs.GenLaws.Matches.{CallRunsAt}
 use Rattle.prem_code_laws.specs.GenLaws.Table.{Codes, code_calls, StubsFit}
-use Rattle.prem_code_laws.specs.PrefetchLaws.Premises.{Lines, AllInMemory, passes_of, stub_code}
+use Rattle.prem_code_laws.specs.PrefetchLaws.Premises.{Lines, AllInMemory, stub_code}
 use Rattle.prem_code_laws.specs.PrefetchLaws.Confined.{with_guard, Confines}
 use Rattle.prem_stub_laws.specs.JobWeave.Confined.{Confinement, confined_calls}
 
@@ -28,7 +28,7 @@ stub_run s c x total n t = run (with_guard x.guard s) (code_calls (with_guard x.
 abbrev pub ConfinedStubsAreCalled : Type 0
 ConfinedStubsAreCalled =
     (s : Setting) (h : Guard) (calls : Calls) (gs : Globals) (may : Access) (k inner : Stack) (line : ℕ) → Lines (with_guard h s) line → (ranges : List Extent) → AllInMemory (with_guard h s) ranges →
-    (passes : PassCount) → passes_of passes < 2 ^ 32 → (n stated part frame depth params : ℕ) (returns : Bool) (call : List ℕ → ProgramState → Outcome (ℕ × ProgramState)) → stated < 2 ^ 32 → gs.stated n ≡ stated →
+    (passes : PassCount) → pass_count passes < 2 ^ 32 → (n stated part frame depth params : ℕ) (returns : Bool) (call : List ℕ → ProgramState → Outcome (ℕ × ProgramState)) → stated < 2 ^ 32 → gs.stated n ≡ stated →
     Confines s h gs k inner (calls part) frame params returns call → (at : ℕ) → at % 4 ≡ 0 → at + size_of (stub_code passes line ranges stated part) < 2 ^ 32 →
     CallRunsAt s gs may k Compatible (run (with_guard h s) calls at (stub_code passes line ranges stated part)) 4 frame depth params returns (noted n call)
 

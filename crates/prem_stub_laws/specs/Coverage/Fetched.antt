@@ -3,7 +3,7 @@ use Rattle.std.specs.Prelude.{◌≡◌, ℕ, ◌/◌, ◌<◌, ◌⊎◌, ◌�
 use Rattle.prem_plant.specs.Places.{Extent, Holds}
 use Rattle.prem_layout.specs.Footprint.{lines_of}
 use Rattle.prem_code_laws.specs.PrefetchLaws.Touches.{IsLineOf}
-use Rattle.prem_lru.specs.Order.{is_in}
+use Rattle.prem_order.specs.Order.{is_in}
 
 -- each range has a byte; a stub's loop touches a line for an empty range that ends inside it, too
 abbrev pub HaveBytes : List Extent → Type 0

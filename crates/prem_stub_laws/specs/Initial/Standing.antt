@@ -1,5 +1,6 @@
 -- What the run of a placed task stands on: the words of its parts, its globals with their first words, and areas of devices that are 0.
 use Rattle.std.specs.Prelude.{◌≡◌, ◌<◌, ◌≤◌, ℕ, ◌+◌, ◌%◌, false, List, ◌∷◌, ◌++◌, map, Option, None, Some, slice_get, slice_index, unwrap_or}
+use Rattle.prem_plant.specs.declared.plant.Target.{Target}
 use Rattle.prem_plant.specs.declared.plant.Plant.{Plant}
 use Rattle.prem_plant.specs.declared.plant.Device.{Device}
 use Rattle.prem_plant.specs.Places.{Extent}
@@ -26,7 +27,7 @@ use Rattle.prem_stub_laws.specs.Initial.Initial.{content_of, AreLaid}
 
 -- a placed task's memory, under a guard
 abbrev pub setting_of : Plant → Guard → Placed → Setting
-setting_of p guard t = record { size = p.memory; guard = guard; places = λ n. (place_at t.at n).0 }
+setting_of p guard t = record { target = p.target; size = p.memory; guard = guard; places = λ n. (place_at t.at n).0 }
 
 -- its parts that have code: its start, its functions, its stubs
 abbrev pub code_in : Placed → List Pieces
@@ -45,9 +46,10 @@ abbrev pub count_of : Option GlobalVariable → ℕ
 count_of None = 0
 count_of (Some g) = unwrap_or g.len 1
 
--- the globals of a program, and the stated lengths of its functions
-abbrev pub globals_in : Resolved → Globals
-globals_in p = record {
+-- the globals of a program whose code is for a target, and the stated lengths of its functions
+abbrev pub globals_in : Target → Resolved → Globals
+globals_in target p = record {
+  target = target;
   part = global_part p.routines;
   type = λ g. type_of (slice_get p.globals g);
   count = λ g. count_of (slice_get p.globals g);
@@ -73,7 +75,7 @@ abbrev pub GlobalsStandFirst : Type 0
 GlobalsStandFirst =
     (p : Plant) (devices : List Device) (tasks : List Coded) (places : List Extent) → AreLaid p devices tasks places →
     (k : ℕ) (t : Placed) → slice_get (placed_from p places tasks) k ≡ Some t → (guard : Guard) →
-    GlobalsStand (setting_of p guard t) (globals_in t.task.program) (map initial_words t.task.program.globals) (slice_index (content_of p places tasks))
+    GlobalsStand (setting_of p guard t) (globals_in p.target t.task.program) (map initial_words t.task.program.globals) (slice_index (content_of p places tasks))
 
 -- the words of devices are 0, where a line has a word
 abbrev pub DevicesHoldZero : Type 0

@@ -3,7 +3,7 @@ use Rattle.std.specs.Prelude.{◌≡◌, ℕ, ◌+◌, ◌*◌, ◌/◌, ◌<◌
 use Rattle.prem_image.specs.Records.{IsImage}
 use Rattle.prem_isa.specs.Plain.{TaskRun, PlainState, plain_run}
 use Rattle.prem_lru.specs.Entries.{ReplacementRule}
-use Rattle.prem_lru.specs.Order.{OrderRule}
+use Rattle.prem_order.specs.Order.{OrderRule}
 use Rattle.prem_cycle.specs.State.{Setup, record_of}
 pub use Rattle.prem_cycle.specs.Alone.{run_in}
 use Rattle.prem_cycle.specs.Cycle.{log_size}

@@ -17,7 +17,7 @@ use Rattle.prem_layout.specs.Placed.{Coded, Placed, placed_from}
 use Rattle.prem_code_laws.specs.GenLaws.Table.{Codes}
 use Rattle.prem_code_laws.specs.PrefetchLaws.Confined.{with_guard}
 use Rattle.prem_stub_laws.specs.Coverage.Fetched.{HaveBytes}
-use Rattle.prem_lru.specs.Order.{is_in}
+use Rattle.prem_order.specs.Order.{is_in}
 use Rattle.prem_weave.specs.Segment.Sections.{StubIsWithin}
 use Rattle.prem_stub_laws.specs.Own.Owned.{is_held}
 use Rattle.prem_stub_laws.specs.Initial.Initial.{AreLaid}

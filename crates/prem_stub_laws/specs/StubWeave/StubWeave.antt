@@ -10,12 +10,12 @@ use Rattle.prem_asm.specs.Runs.{Guard, Setting, run}
 use Rattle.prem_asm.specs.Steps.{Grows}
 use Rattle.prem_asm.specs.OwnRun.{Agrees}
 use Rattle.prem_asm.specs.Ways.{LandsWay}
-use Rattle.prem_layout.specs.Parts.{Passes as PassCount}
+use Rattle.prem_layout.specs.Parts.{Passes as PassCount, pass_count}
 use Rattle.prem_code_laws.specs.GenLaws.Table.{Codes, code_calls}
 use Rattle.prem_code_laws.specs.GenLaws.Land.{IsRunning, PartStands}
-use Rattle.prem_code_laws.specs.PrefetchLaws.Premises.{Lines, AllInMemory, passes_of, stub_code}
+use Rattle.prem_code_laws.specs.PrefetchLaws.Premises.{Lines, AllInMemory, stub_code}
 use Rattle.prem_code_laws.specs.PrefetchLaws.Confined.{with_guard}
-use Rattle.prem_lru.specs.Order.{HaveRoom}
+use Rattle.prem_order.specs.Order.{HaveRoom}
 use Rattle.prem_sound.specs.Script.Scripts.{Reading}
 use Rattle.prem_weave.specs.Segment.Bodies.{code_costs}
 use Rattle.prem_weave.specs.Segment.Sections.{StubIsWithin}
@@ -38,8 +38,8 @@ pub record StubStands (plant : Plant) (passes : ℕ → ℕ) (s : Setting) (h : 
   pub grows : Grows h s.guard
   pub line_fits : Lines (with_guard h s) plant.line
   pub in_memory : AllInMemory (with_guard h s) x.ranges
-  pub count_is : passes_of x.kind ≡ passes plant.ways
-  pub few : passes_of x.kind < 2 ^ 32
+  pub count_is : pass_count x.kind ≡ passes plant.ways
+  pub few : pass_count x.kind < 2 ^ 32
   pub small : x.stated < 2 ^ 32
   pub code : (m : ℕ) → m < n → PartStands s bytes parts (c.code_part m) (c.code m)
   pub stub_words : PartStands s bytes parts x.stub (stub_code x.kind plant.line x.ranges x.stated x.part)

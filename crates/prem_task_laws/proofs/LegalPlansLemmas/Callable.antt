@@ -3,7 +3,7 @@ use Rattle.std.proofs.Common.{◌≡◌, ◌≤◌, ℕ, zero, suc, ◌+◌, tru
 use Rattle.std.specs.Prelude.{slice_get, is_some}
 use Rattle.std.proofs.lemmas.Bool.{and_from, ne_eqb, lt-ltb}
 use Rattle.std.proofs.lemmas.Option.{slice_get_within}
-use Rattle.prem_lru.specs.Order.{is_in as is_listed}
+use Rattle.prem_order.specs.Order.{is_in as is_listed}
 use Rattle.prem_syntax.specs.Syntax.{MarkText}
 use Rattle.prem_meaning.specs.Reach.{callee_table, is_in, reach_set}
 use Rattle.prem_meaning.specs.Resolve.{resolve}

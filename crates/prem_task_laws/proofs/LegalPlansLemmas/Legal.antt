@@ -6,7 +6,8 @@ use Rattle.std.specs.Option.{option_map}
 use Rattle.std.proofs.lemmas.Bool.{and_parts, leb-true}
 use Rattle.std.proofs.lemmas.List.{length-map}
 use Rattle.std.proofs.lemmas.Option.{slice_get_within, slice_get-map}
-use Rattle.prem_lru.specs.Order.{is_in as is_listed}
+use Rattle.prem_plant.specs.declared.plant.Target.{Target}
+use Rattle.prem_order.specs.Order.{is_in as is_listed}
 use Rattle.prem_syntax.specs.declared.rules.Count.TheVariants.{Functions, Globals, Parameters, Regions, Length, Stated}
 use Rattle.prem_syntax.specs.Syntax.{MarkText, GlobalVariable, FunctionText, ProgramText}
 use Rattle.prem_meaning.specs.Rules.{Limit}
@@ -189,23 +190,23 @@ module _ (x : ProgramText) (formed : IsWellFormed x) (turns : ℕ → ℕ) (n : 
       let some = reach_reached Table (map is_marked_text (functions_of x)) inside_table n (length (functions_of x)) (slice_get_within (functions_of x) n kept.text kept.there) first_marked k e in
       subst (λ (table : List (List ℕ)). is_in_set (reached_by table (map is_marked_text (functions_of x)) (length (functions_of x))) k ≡ true) (tables_same (functions_of x) turns 0 [] x) some
 
-  links : LinksAre (parts_of (resolve turns x).routines) (functions_of x)
-  links c text at unmarked = by (is_marked_at (resolve turns x).routines c) (marked_text x turns c text at ∙ unmarked)
+  links : (target : Target) → LinksAre (parts_of target (resolve turns x).routines) (functions_of x)
+  links target c text at unmarked = by (is_marked_at (resolve turns x).routines c) (marked_text x turns c text at ∙ unmarked)
     where
       by : (b : Bool) → b ≡ false → ◌≢◌ {A = ℕ} (cond b 4 1) 4
       by true h = cc
       by false h = λ same. absurd (omega (arith, same))
 
-  quiet : n < (resolve turns x).job → (m : ℕ) (g : Routine) → is_listed m (plan_of Program n mark).reach ≡ true → slice_get (resolve turns x).routines m ≡ Some g → AreQuiet (parts_of (resolve turns x).routines) g.body
-  quiet low m g member at =
+  quiet : (target : Target) → n < (resolve turns x).job → (m : ℕ) (g : Routine) → is_listed m (plan_of Program n mark).reach ≡ true → slice_get (resolve turns x).routines m ≡ Some g → AreQuiet (parts_of target (resolve turns x).routines) g.body
+  quiet target low m g member at =
       let k = function_kept x formed turns m g at in
       let le = is_member (λ i. i ≤ n) 0 (reach_set Table n) (λ i e. let none : i ≡ 0 + i = omega arith in subst (λ q. q ≤ n) none (reach_low i e)) m member in
       let within =
       is_member (λ i. is_in_set (reached (functions_of x)) i ≡ true) 0 (reach_set Table n) (λ i e. let none : i ≡ 0 + i = omega arith in subst (λ q. is_in_set (reached (functions_of x)) q ≡ true) none (reach_within i e)) m member in
       let a = around (scope_in (functions_of x) k.globals k.text) m (is_in_set (reached (functions_of x)) m) k.text in
       let other = other_name x formed turns m g k (λ same. absurd (omega (arith, le, low, same))) in
-      subst (λ (r : Routine). AreQuiet (parts_of (resolve turns x).routines) r.body) k.resolved
-      (statements_quiet (parts_of (resolve turns x).routines) a links within other turns k.loops k.text.body Done (rules_of x turns m g k).body tt)
+      subst (λ (r : Routine). AreQuiet (parts_of target (resolve turns x).routines) r.body) k.resolved
+      (statements_quiet (parts_of target (resolve turns x).routines) a (links target) within other turns k.loops k.text.body Done (rules_of x turns m g k).body tt)
 
   legal : IsLegalPlan x (resolve turns x) (plan_of (resolve turns x) n mark)
   legal = record {

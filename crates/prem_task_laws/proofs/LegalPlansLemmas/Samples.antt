@@ -1,7 +1,8 @@
 -- Plans of programs that are well-formed, computed; and one whose function stands behind `job`, so that it isn't quiet.
 use Rattle.std.proofs.Common.{◌≡◌, ℕ, true, [], ◌∷◌, None, Some, refl}
 use Rattle.std.specs.Prelude.{slice_get, codes}
-use Rattle.prem_lru.specs.Order.{is_in}
+use Rattle.prem_plant.specs.declared.plant.Target.{Target}
+use Rattle.prem_order.specs.Order.{is_in}
 use Rattle.prem_syntax.specs.declared.tree.Ty.TheVariants.{Void}
 use Rattle.prem_syntax.specs.Syntax.{call, FunctionText, ProgramText}
 use Rattle.prem_meaning.specs.GroupTwo.{group_two, IsWellFormed}
@@ -82,5 +83,5 @@ abbrev late_job : FunctionText
 late_job = record { at = at 2 6; mark = None; ty = Void; name = codes "job"; params = []; locals = []; body = statements (call (at 2 18) None (codes "m") [] ∷ []); result = None }
 
 -- it reaches `job`, which calls a marked function
-late_is_not_quiet : ((m : ℕ) (f : Routine) → is_in m late_plan.reach ≡ true → slice_get (resolve none late_text).routines m ≡ Some f → AreQuiet (parts_of (resolve none late_text).routines) f.body) → ⊥
-late_is_not_quiet h = (h 1 (resolve_function (functions_of late_text) none 0 [] late_job) refl refl).0 refl
+late_is_not_quiet : (target : Target) → ((m : ℕ) (f : Routine) → is_in m late_plan.reach ≡ true → slice_get (resolve none late_text).routines m ≡ Some f → AreQuiet (parts_of target (resolve none late_text).routines) f.body) → ⊥
+late_is_not_quiet target h = (h 1 (resolve_function (functions_of late_text) none 0 [] late_job) refl refl).0 refl

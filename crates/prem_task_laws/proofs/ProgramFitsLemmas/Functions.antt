@@ -3,6 +3,7 @@ use Rattle.std.proofs.Common.{◌≡◌, ◌<◌, ℕ, ◌+◌, ◌%◌, ◌^◌
 use Rattle.std.specs.Prelude.{slice_get, ◌&&◌, not, unwrap_or}
 use Rattle.std.specs.Option.{option_map}
 use Rattle.std.proofs.lemmas.Bool.{and_parts, lt-ltb, ltb-true}
+use Rattle.prem_plant.specs.declared.plant.Target.{Target}
 use Rattle.prem_isa.specs.declared.effect.Phase.{Phase}
 use Rattle.prem_isa.specs.declared.effect.Phase.TheVariants.{Compatible}
 use Rattle.prem_syntax.specs.Syntax.{ProgramText}
@@ -68,11 +69,11 @@ program_kept x p keeps = subst ProgramKept (sym keeps.program) (record {
 
 -- ---- functions
 
-pub function_fits : (p : Resolved) → ProgramKept p → (n : ℕ) (f : Routine) → slice_get p.routines n ≡ Some f →
-    (callable : ℕ → Bool) → CallsAmong callable f.body → (phase : Phase) → (phase ≡ Compatible) ⊎ AreQuiet (parts_of p.routines) f.body →
-    (at : ℕ) → at % 4 ≡ 0 → at + size_of (function_code (parts_of p.routines) f) < 2 ^ 32 →
-    FunctionFits (globals_in p) (parts_of p.routines) (callees_in p callable) phase at (depth_of p.routines n) (deepest (depth_of p.routines) f.body) f
-function_fits p kept n f there callable among phase may at aligned ends =
+pub function_fits : (goal : Target) (p : Resolved) → ProgramKept p → (n : ℕ) (f : Routine) → slice_get p.routines n ≡ Some f →
+    (callable : ℕ → Bool) → CallsAmong callable f.body → (phase : Phase) → (phase ≡ Compatible) ⊎ AreQuiet (parts_of goal p.routines) f.body →
+    (at : ℕ) → at % 4 ≡ 0 → at + size_of (function_code (parts_of goal p.routines) f) < 2 ^ 32 →
+    FunctionFits (globals_in goal p) (parts_of goal p.routines) (callees_in p callable) phase at (depth_of p.routines n) (deepest (depth_of p.routines) f.body) f
+function_fits goal p kept n f there callable among phase may at aligned ends =
     let typed = kept.rules.typed.each n f there in
     let named = kept.named n f there in
     let d = first_none (too_deep_among f.locals) (first_of (too_deep_in f.body) (too_deep_result f.result)) (kept.flat n f there) in
@@ -84,13 +85,13 @@ function_fits p kept n f there callable among phase may at aligned ends =
       placed = aligned;
       ends = ends;
       deep = omega (arith, deep);
-      locals = declared_fit p first (length f.text.params) f.text.locals f.locals (parameter_count f) typed.locals d.0;
-      body = steps_fit p n (is_job_name f.text.name) (kinds_of (at_body f)) (locals_of f) count callable phase (deepest (depth_of p.routines) f.body) kept.globals f.body typed.body named.body (kept.rules.each n f there) dd.0 among (omega arith) may;
-      result = result_fits p (kinds_of (at_body f)) (locals_of f) f.result count typed.result dd.1;
+      locals = declared_fit goal p first (length f.text.params) f.text.locals f.locals (parameter_count f) typed.locals d.0;
+      body = steps_fit goal p n (is_job_name f.text.name) (kinds_of (at_body f)) (locals_of f) count callable phase (deepest (depth_of p.routines) f.body) kept.globals f.body typed.body named.body (kept.rules.each n f there) dd.0 among (omega arith) may;
+      result = result_fits goal p (kinds_of (at_body f)) (locals_of f) f.result count typed.result dd.1;
     }
 
 pub functions_fit : FunctionsFit
-functions_fit x p keeps n f there callable among phase may at aligned ends = function_fits p (program_kept x p keeps) n f there callable among phase may at aligned ends
+functions_fit goal x p keeps n f there callable among phase may at aligned ends = function_fits goal p (program_kept x p keeps) n f there callable among phase may at aligned ends
 
 -- ---- who is called
 
@@ -151,7 +152,7 @@ called_unmarked p (Call at target f arguments rest) kept c i =
 -- ---- `job`
 
 pub jobs_fit : JobsFit
-jobs_fit x p keeps =
+jobs_fit goal x p keeps =
     let kept = program_kept x p keeps in
     let job = kept.rules.typed.job in
     let there = kept.rules.typed.job_there in
@@ -162,7 +163,7 @@ jobs_fit x p keeps =
       unmarked = kept.rules.unmarked job there;
       alone = kept.rules.typed.job_alone;
       fits = λ at aligned ends.
-          function_fits p kept p.job job there (job_callable p) (λ c i. lt-ltb c p.job (called_before p.job (locals_of job) kept.globals job.body (kept.named p.job job there).body c i)) Compatible (inl refl) at aligned ends;
+          function_fits goal p kept p.job job there (job_callable p) (λ c i. lt-ltb c p.job (called_before p.job (locals_of job) kept.globals job.body (kept.named p.job job there).body c i)) Compatible (inl refl) at aligned ends;
     }
 
 -- ---- functions without a mark
@@ -177,23 +178,23 @@ both_true false b e h = cc
 
 -- where the code of a function stands
 pub code_placed : (s : Setting) (p : Resolved) (some : ℕ → Bool) (c : Codes) → HasCodes s p some c → (n : ℕ) (f : Routine) → some n ≡ true → slice_get p.routines n ≡ Some f →
-    (s.places (c.code_part n) % 4 ≡ 0) × (s.places (c.code_part n) + size_of (function_code (parts_of p.routines) f) < 2 ^ 32)
+    (s.places (c.code_part n) % 4 ≡ 0) × (s.places (c.code_part n) + size_of (function_code (parts_of s.target p.routines) f) < 2 ^ 32)
 code_placed s p some c has n f is there =
     let ends = has.ends n (get_below p.routines n f there) in (
       ap (λ k. s.places k % 4) (has.part_is n) ∙ has.aligned n,
-      subst (λ k. s.places k + size_of (function_code (parts_of p.routines) f) < 2 ^ 32) (sym (has.part_is n)) (subst (λ ps. s.places (1 + n) + size_of ps < 2 ^ 32) (has.code_is n f is there) ends),
+      subst (λ k. s.places k + size_of (function_code (parts_of s.target p.routines) f) < 2 ^ 32) (sym (has.part_is n)) (subst (λ ps. s.places (1 + n) + size_of ps < 2 ^ 32) (has.code_is n f is there) ends),
     )
 
 -- a function of some that call one another alone fits, where it has its code
 pub plain_fits : (p : Resolved) → ProgramKept p → (s : Setting) (some callable : ℕ → Bool) (c : Codes) → HasCodes s p some c → (phase : Phase) (n : ℕ) (f : Routine) → some n ≡ true → slice_get p.routines n ≡ Some f → is_marked f ≡ false →
-    CallsAmong callable f.body → (phase ≡ Compatible) ⊎ AreQuiet (parts_of p.routines) f.body → PlainFits s (globals_in p) (parts_of p.routines) (callees_in p callable) phase c n f
+    CallsAmong callable f.body → (phase ≡ Compatible) ⊎ AreQuiet (parts_of s.target p.routines) f.body → PlainFits s (globals_in s.target p) (parts_of s.target p.routines) (callees_in p callable) phase c n f
 plain_fits p kept s some callable c has phase n f is there plain among may =
     let code = has.code_is n f is there in
     let mark = mark_at p.routines n f there ∙ plain in
     let placed = code_placed s p some c has n f is there in
     record {
       under = deepest (depth_of p.routines) f.body;
-      fits = function_fits p kept n f there callable among phase may (s.places (c.code_part n)) placed.0 placed.1;
+      fits = function_fits s.target p kept n f there callable among phase may (s.places (c.code_part n)) placed.0 placed.1;
       code = code;
       callee = ap (λ b. cond b (stub_part p.routines n) (code_part n)) mark ∙ sym (has.part_is n);
       link = ap (λ b. cond b 4 1) mark;

@@ -3,12 +3,13 @@ use Rattle.std.proofs.Common.{◌≡◌, ◌<◌, ◌≤◌, ℕ, zero, suc, ◌
 use Rattle.std.specs.Prelude.{◌≢◌, slice_get, ◌&&◌, ◌==◌, not}
 use Rattle.std.proofs.lemmas.Bool.{cases_lt, cases_eq, true≢false, eq-eqb, ne_eqb, eqb-true, and_parts}
 use Rattle.std.proofs.lemmas.List.{get_or-set_same, get_or-set_other, get_or-replicate, length-replicate, length-map, get_or_past}
+use Rattle.prem_plant.specs.declared.plant.Target.TheVariants.{Rv32i}
 use Rattle.prem_isa.specs.declared.effect.Phase.TheVariants.{Execution}
 use Rattle.prem_syntax.specs.Syntax.{MarkText, ProgramText}
 use Rattle.prem_meaning.specs.Resolved.{Steps, Done, SetLocal, SetScalar, SetElement, Output, Input, If, For, While, Call, Routine, Resolved}
 use Rattle.prem_meaning.specs.Reach.{callees_in as called_in, callee_table, is_in as is_member, with_all, with_all_if, with_callees_below, members_from, reach_set, reach_of, IsAmong, CallsBefore}
 use Rattle.prem_meaning.proofs.Reach.{reach_is_closed}
-use Rattle.prem_lru.specs.Order.{is_in}
+use Rattle.prem_order.specs.Order.{is_in}
 use Rattle.prem_asm.specs.Runs.{Setting}
 use Rattle.prem_template.specs.Frames.{locals_of, frame_if_there, deepest, depth_of}
 use Rattle.prem_template.specs.Parts.{is_marked_at, stub_part, code_part, parts_of}
@@ -234,7 +235,7 @@ module _ (x : ProgramText) (p : Resolved) (kept : ProgramKept p) (j : ℕ) (plan
       let long : length (callee_table p.routines) ≡ length p.routines = length-map p.routines (λ (r : Routine). called_in r.body) in
       let closed = reach_is_closed (callee_table p.routines) plan.function (omega (arith, below, long)) (calls_before p kept) in (
         of_member c (closed.callees n c (to_member n member) (subst (IsAmong c) (sym (callees_at p.routines n f there)) i)),
-        unmarked_link (is_marked_at p.routines c) (quiet_calls (parts_of p.routines) f.body (legal.quiet first n f member there) c i),
+        unmarked_link (is_marked_at p.routines c) (quiet_calls (parts_of Rv32i p.routines) f.body (legal.quiet Rv32i first n f member there) c i),
       )
 
   -- all but the function itself are called by one of them
@@ -273,14 +274,14 @@ module _ (x : ProgramText) (p : Resolved) (kept : ProgramKept p) (j : ℕ) (plan
   reached : (n : ℕ) → reach_callable plan n ≡ true → (n < plan.function) × (is_marked_at p.routines n ≡ false)
   reached n may = reached_below n (in_reach n may) (not_same n plan.function (and_parts (is_in n plan.reach) (not (n == plan.function)) may).1)
 
-  reach_task_fits : (total : ℕ) → plan.function < total → (s : Setting) (c : Codes) → HasCodes s p (λ n. is_in n plan.reach) c → TaskFits s (globals_in p) (parts_of p.routines) (callees_in p (reach_callable plan)) Execution c p.routines total
+  reach_task_fits : (total : ℕ) → plan.function < total → (s : Setting) (c : Codes) → HasCodes s p (λ n. is_in n plan.reach) c → TaskFits s (globals_in s.target p) (parts_of s.target p.routines) (callees_in p (reach_callable plan)) Execution c p.routines total
   reach_task_fits total lt s c has = record {
     apart = λ f g lf lg e. parts_apart s p (λ n. is_in n plan.reach) c has f g e;
     below = λ f may. let less = (reached f may).0 in omega (arith, less, lt);
     plain = λ n f may there. sym (mark_at p.routines n f there) ∙ (reached n may).1;
     functions = λ n f may there.
         plain_fits p kept s (λ m. is_in m plan.reach) (reach_callable plan) c has Execution n f (in_reach n may) there (sym (mark_at p.routines n f there) ∙ (reached n may).1)
-        (calls_in_reach n f (in_reach n may) there) (inr (legal.quiet first n f (in_reach n may) there));
+        (calls_in_reach n f (in_reach n may) there) (inr (legal.quiet s.target first n f (in_reach n may) there));
     callees = λ n may. ap (λ b. cond b (stub_part p.routines n) (code_part n)) (reached n may).1 ∙ sym (has.part_is n);
   }
 
@@ -293,7 +294,7 @@ module _ (x : ProgramText) (p : Resolved) (kept : ProgramKept p) (j : ℕ) (plan
           under = deepest (depth_of p.routines) routine.body;
           there = there;
           marked = sym (mark_at p.routines plan.function routine there) ∙ own_mark;
-          fits = function_fits p kept plan.function routine there (reach_callable plan) (calls_in_reach plan.function routine legal.itself there) Execution (inr (legal.quiet first plan.function routine legal.itself there))
+          fits = function_fits s.target p kept plan.function routine there (reach_callable plan) (calls_in_reach plan.function routine legal.itself there) Execution (inr (legal.quiet s.target first plan.function routine legal.itself there))
               (s.places (c.code_part plan.function)) placed.0 placed.1;
           code = has.code_is plan.function routine legal.itself there;
           frame = ap frame_if_there there;

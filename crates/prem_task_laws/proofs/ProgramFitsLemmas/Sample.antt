@@ -2,6 +2,7 @@
 use Rattle.std.proofs.Common.{◌≡◌, ◌<◌, ◌≤◌, ℕ, zero, suc, ◌+◌, ◌*◌, ◌^◌, Bool, true, [], ◌∷◌, Option, None, Some, refl, ap, arith}
 use Rattle.std.specs.Prelude.{codes, slice_get}
 use Rattle.std.proofs.lemmas.Bool.{ltb-true}
+use Rattle.prem_plant.specs.declared.plant.Target.TheVariants.{Rv32i}
 use Rattle.prem_isa.specs.declared.effect.Phase.TheVariants.{Compatible}
 use Rattle.prem_syntax.specs.Syntax.{call, ProgramText}
 use Rattle.prem_meaning.specs.GroupTwo.{group_two, IsWellFormed}
@@ -41,11 +42,11 @@ late_formed = refl
 
 -- the parts of the first program have their code, where each stands 4096 bytes behind the one before
 abbrev m_setting : Setting
-m_setting = record { size = 65536; guard = record { load = λ a. true; store = λ a. true }; places = λ n. 4096 * n }
+m_setting = record { target = Rv32i; size = 65536; guard = record { load = λ a. true; store = λ a. true }; places = λ n. 4096 * n }
 
 code_or : Option Routine → Pieces
 code_or None = no_pieces
-code_or (Some f) = function_code (parts_of (resolve (λ n. n) m_text).routines) f
+code_or (Some f) = function_code (parts_of Rv32i (resolve (λ n. n) m_text).routines) f
 
 abbrev m_codes : Codes
 m_codes = record {
@@ -74,8 +75,8 @@ m_has some = record {
 }
 
 -- so its functions without a mark, `job`, and the stubs that it calls are as asked
-m_plain : TaskFits m_setting (globals_in (resolve (λ n. n) m_text)) (parts_of (resolve (λ n. n) m_text).routines) (callees_in (resolve (λ n. n) m_text) (plain_callable (resolve (λ n. n) m_text))) Compatible m_codes (resolve (λ n. n) m_text).routines 2
+m_plain : TaskFits m_setting (globals_in Rv32i (resolve (λ n. n) m_text)) (parts_of Rv32i (resolve (λ n. n) m_text).routines) (callees_in (resolve (λ n. n) m_text) (plain_callable (resolve (λ n. n) m_text))) Compatible m_codes (resolve (λ n. n) m_text).routines 2
 m_plain = plain_tasks_fit m_text (resolve (λ n. n) m_text) m_keeps 2 (let le : 1 ≤ 2 = omega arith in le) m_setting m_codes (m_has (plain_callable (resolve (λ n. n) m_text)))
 
-m_job : JobFits (resolve (λ n. n) m_text)
-m_job = jobs_fit m_text (resolve (λ n. n) m_text) m_keeps
+m_job : JobFits Rv32i (resolve (λ n. n) m_text)
+m_job = jobs_fit Rv32i m_text (resolve (λ n. n) m_text) m_keeps

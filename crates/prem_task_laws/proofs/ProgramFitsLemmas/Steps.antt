@@ -1,6 +1,7 @@
 -- The steps of a function fit, where their terms are typed and its calls keep the rules.
 use Rattle.std.proofs.Common.{◌≡◌, ◌≤◌, ℕ, ◌+◌, ◌*◌, ◌%◌, ◌⊎◌, inl, inr, ⊎_elim, Bool, true, false, cond, List, [], ◌∷◌, ◌++◌, length, map, Option, None, Some, refl, ap, sym, ◌∙◌, subst, arith, length-append}
 use Rattle.std.proofs.lemmas.List.{length-map}
+use Rattle.prem_plant.specs.declared.plant.Target.{Target}
 use Rattle.prem_word.specs.declared.kind.Kind.{Kind}
 use Rattle.prem_word.specs.declared.kind.BinOp.{BinOp}
 use Rattle.prem_word.specs.declared.kind.BinOp.TheVariants.{AndAlso as AndAlsoOp, OrElse as OrElseOp}
@@ -47,27 +48,27 @@ operator_fits AndAlsoOp h = h
 operator_fits OrElseOp h = h
 operator_fits op h = tt
 
-type_fits : (p : Resolved) (g : ℕ) (ty : Ty) → HasGlobal p.globals g ty → (globals_in p).type g ≡ ty
-type_fits p g ty h = ap type_of h.there ∙ h.typed
+type_fits : (goal : Target) (p : Resolved) (g : ℕ) (ty : Ty) → HasGlobal p.globals g ty → (globals_in goal p).type g ≡ ty
+type_fits goal p g ty h = ap type_of h.there ∙ h.typed
 
-term_fits : (p : Resolved) (ks : List Kind) (e : Term) → Typed p.globals ks e → TermFits (globals_in p) (length ks) e
-term_fits p ks (Constant at word kind) h = h
-term_fits p ks (Local at number kind) h = get_below ks number kind h
-term_fits p ks (Scalar at g ty) h = type_fits p g ty h.global
-term_fits p ks (Element at g ty index) h = (type_fits p g ty h.0, term_fits p ks index h.1)
-term_fits p ks (Unary at op operand) h = term_fits p ks operand h
-term_fits p ks (Binary at op kind left right) h = (operator_fits op h.1, (term_fits p ks left h.2, term_fits p ks right h.3))
-term_fits p ks (AndAlso at left right) h = (term_fits p ks left h.0, term_fits p ks right h.1)
-term_fits p ks (OrElse at left right) h = (term_fits p ks left h.0, term_fits p ks right h.1)
+term_fits : (goal : Target) (p : Resolved) (ks : List Kind) (e : Term) → Typed p.globals ks e → TermFits (globals_in goal p) (length ks) e
+term_fits goal p ks (Constant at word kind) h = h
+term_fits goal p ks (Local at number kind) h = get_below ks number kind h
+term_fits goal p ks (Scalar at g ty) h = type_fits goal p g ty h.global
+term_fits goal p ks (Element at g ty index) h = (type_fits goal p g ty h.0, term_fits goal p ks index h.1)
+term_fits goal p ks (Unary at op operand) h = term_fits goal p ks operand h
+term_fits goal p ks (Binary at op kind left right) h = (operator_fits op h.1, (term_fits goal p ks left h.2, term_fits goal p ks right h.3))
+term_fits goal p ks (AndAlso at left right) h = (term_fits goal p ks left h.0, term_fits goal p ks right h.1)
+term_fits goal p ks (OrElse at left right) h = (term_fits goal p ks left h.0, term_fits goal p ks right h.1)
 
-fits : (p : Resolved) (ks : List Kind) (count r : ℕ) (e : Term) → length ks ≡ count → Typed p.globals ks e → too_deep r e ≡ None → Fits (globals_in p) count r e
-fits p ks count r e same typed deep = record { term = subst (λ n. TermFits (globals_in p) n e) same (term_fits p ks e typed); deep = deep }
+fits : (goal : Target) (p : Resolved) (ks : List Kind) (count r : ℕ) (e : Term) → length ks ≡ count → Typed p.globals ks e → too_deep r e ≡ None → Fits (globals_in goal p) count r e
+fits goal p ks count r e same typed deep = record { term = subst (λ n. TermFits (globals_in goal p) n e) same (term_fits goal p ks e typed); deep = deep }
 
-all_fit : (p : Resolved) (ks : List Kind) (count : ℕ) (es : List Term) → length ks ≡ count → AllTyped p.globals ks es → too_deep_among es ≡ None → AllFit (globals_in p) count es
-all_fit p ks count [] same typed deep = tt
-all_fit p ks count (e ∷ es) same typed deep =
+all_fit : (goal : Target) (p : Resolved) (ks : List Kind) (count : ℕ) (es : List Term) → length ks ≡ count → AllTyped p.globals ks es → too_deep_among es ≡ None → AllFit (globals_in goal p) count es
+all_fit goal p ks count [] same typed deep = tt
+all_fit goal p ks count (e ∷ es) same typed deep =
     let d = first_none (too_deep 10 e) (too_deep_among es) deep in
-    (fits p ks count 10 e same typed.0 d.0, all_fit p ks count es same typed.1 d.1)
+    (fits goal p ks count 10 e same typed.0 d.0, all_fit goal p ks count es same typed.1 d.1)
 
 -- ---- calls
 
@@ -95,9 +96,9 @@ target_fits : (p : Resolved) (is_job : Bool) (count : ℕ) (target : Option ℕ)
 target_fits p is_job count None callable f named kept = tt
 target_fits p is_job count (Some k) callable f named kept = (named, kept.returns k refl)
 
-module _ (p : Resolved) (n : ℕ) (is_job : Bool) (ks : List Kind) (count : ℕ) (same : length ks ≡ count) (callable : ℕ → Bool) (phase : Phase) (under : ℕ) where
+module _ (goal : Target) (p : Resolved) (n : ℕ) (is_job : Bool) (ks : List Kind) (count : ℕ) (same : length ks ≡ count) (callable : ℕ → Bool) (phase : Phase) (under : ℕ) where
   call_fits : (target : Option ℕ) (f : ℕ) (arguments : List Term) → IsCall p n f arguments → AllTyped p.globals ks arguments → too_deep_among arguments ≡ None → TargetNamed count target → IsKept p is_job target f → callable f ≡ true →
-      depth_of p.routines f ≤ under → CallFits (globals_in p) (parts_of p.routines) (callees_in p callable) count under target f arguments
+      depth_of p.routines f ≤ under → CallFits (globals_in goal p) (parts_of goal p.routines) (callees_in p callable) count under target f arguments
   call_fits target f arguments is typed deep named kept may le =
       let frame : frame_at p.routines f ≡ frame_of is.routine = ap frame_if_there is.there in
       let holds = frame_holds is.routine in
@@ -106,7 +107,7 @@ module _ (p : Resolved) (n : ℕ) (is_job : Bool) (ks : List Kind) (count : ℕ)
       let within = frame_within p.routines f is.routine (get_below p.routines f is.routine is.there) is.there in
       record {
         callable = may;
-        arguments_fit = all_fit p ks count arguments same typed deep;
+        arguments_fit = all_fit goal p ks count arguments same typed deep;
         number = number ∙ sym (ap params_if_there is.there);
         room = omega (arith, frame, holds, number);
         aligned = ap (λ k. k % 4) frame ∙ whole;
@@ -119,31 +120,31 @@ module _ (p : Resolved) (n : ℕ) (is_job : Bool) (ks : List Kind) (count : ℕ)
 
   -- in a compatible phase, or without inputs and outputs
   abbrev Allows : Steps → Type 0
-  Allows steps = (phase ≡ Compatible) ⊎ AreQuiet (parts_of p.routines) steps
+  Allows steps = (phase ≡ Compatible) ⊎ AreQuiet (parts_of goal p.routines) steps
 
-  allows : (steps part : Steps) → (AreQuiet (parts_of p.routines) steps → AreQuiet (parts_of p.routines) part) → Allows steps → Allows part
-  allows steps part go h = ⊎_elim (λ (e : phase ≡ Compatible). inl e) (λ (q : AreQuiet (parts_of p.routines) steps). inr (go q)) h
+  allows : (steps part : Steps) → (AreQuiet (parts_of goal p.routines) steps → AreQuiet (parts_of goal p.routines) part) → Allows steps → Allows part
+  allows steps part go h = ⊎_elim (λ (e : phase ≡ Compatible). inl e) (λ (q : AreQuiet (parts_of goal p.routines) steps). inr (go q)) h
 
-  compatible : (steps : Steps) → (AreQuiet (parts_of p.routines) steps → ⊥) → Allows steps → phase ≡ Compatible
-  compatible steps never h = ⊎_elim (λ (e : phase ≡ Compatible). e) (λ (q : AreQuiet (parts_of p.routines) steps). absurd (never q)) h
+  compatible : (steps : Steps) → (AreQuiet (parts_of goal p.routines) steps → ⊥) → Allows steps → phase ≡ Compatible
+  compatible steps never h = ⊎_elim (λ (e : phase ≡ Compatible). e) (λ (q : AreQuiet (parts_of goal p.routines) steps). absurd (never q)) h
 
   pub steps_fit : (globals : ℕ) (steps : Steps) → TypedSteps p n ks steps → StepsNamed n count globals steps → StepsKept p is_job steps → too_deep_in steps ≡ None → CallsAmong callable steps → deepest (depth_of p.routines) steps ≤ under → Allows steps →
-      StepsFit (globals_in p) (parts_of p.routines) (callees_in p callable) phase count under steps
+      StepsFit (globals_in goal p) (parts_of goal p.routines) (callees_in p callable) phase count under steps
   steps_fit globals Done typed named kept deep among le may = tt
   steps_fit globals (SetLocal at k value rest) typed named kept deep among le may =
       let d = first_none (too_deep 10 value) (too_deep_in rest) deep in
-      (named.0.0, (fits p ks count 10 value same typed.0 d.0, steps_fit globals rest typed.1 named.1 kept d.1 among le (allows (SetLocal at k value rest) rest (λ q. q) may)))
+      (named.0.0, (fits goal p ks count 10 value same typed.0 d.0, steps_fit globals rest typed.1 named.1 kept d.1 among le (allows (SetLocal at k value rest) rest (λ q. q) may)))
   steps_fit globals (SetScalar at g ty value rest) typed named kept deep among le may =
       let d = first_none (too_deep 10 value) (too_deep_in rest) deep in
-      (type_fits p g ty typed.0.global, (fits p ks count 10 value same typed.1 d.0, steps_fit globals rest typed.2 named.1 kept d.1 among le (allows (SetScalar at g ty value rest) rest (λ q. q) may)))
+      (type_fits goal p g ty typed.0.global, (fits goal p ks count 10 value same typed.1 d.0, steps_fit globals rest typed.2 named.1 kept d.1 among le (allows (SetScalar at g ty value rest) rest (λ q. q) may)))
   steps_fit globals (SetElement at g ty index value rest) typed named kept deep among le may =
       let d = first_none (too_deep 11 index) (first_of (too_deep 10 value) (too_deep_in rest)) deep in
       let dd = first_none (too_deep 10 value) (too_deep_in rest) d.1 in
-      (type_fits p g ty typed.0, (fits p ks count 11 index same typed.1 d.0, (fits p ks count 10 value same typed.2 dd.0, steps_fit globals rest typed.3 named.1 kept dd.1 among le (allows (SetElement at g ty index value rest) rest (λ q. q) may))))
+      (type_fits goal p g ty typed.0, (fits goal p ks count 11 index same typed.1 d.0, (fits goal p ks count 10 value same typed.2 dd.0, steps_fit globals rest typed.3 named.1 kept dd.1 among le (allows (SetElement at g ty index value rest) rest (λ q. q) may))))
   steps_fit globals (Output at value rest) typed named kept deep among le may =
       let d = first_none (too_deep 10 value) (too_deep_in rest) deep in
       let e = compatible (Output at value rest) (λ q. q) may in
-      (e, (fits p ks count 10 value same typed.0 d.0, steps_fit globals rest typed.1 named.1 kept d.1 among le (inl e)))
+      (e, (fits goal p ks count 10 value same typed.0 d.0, steps_fit globals rest typed.1 named.1 kept d.1 among le (inl e)))
   steps_fit globals (Input at k rest) typed named kept deep among le may =
       let e = compatible (Input at k rest) (λ q. q) may in
       (e, (named.0, steps_fit globals rest typed named.1 kept deep among le (inl e)))
@@ -152,7 +153,7 @@ module _ (p : Resolved) (n : ℕ) (is_job : Bool) (ks : List Kind) (count : ℕ)
       let d = first_none (too_deep 10 condition) (first_of (too_deep_in taken) (first_of (too_deep_in other) (too_deep_in rest))) deep in
       let dd = first_none (too_deep_in taken) (first_of (too_deep_in other) (too_deep_in rest)) d.1 in
       let ddd = first_none (too_deep_in other) (too_deep_in rest) dd.1 in (
-        fits p ks count 10 condition same typed.0 d.0,
+        fits goal p ks count 10 condition same typed.0 d.0,
         (
           steps_fit globals taken typed.1 named.0.1.0 kept.0 dd.0 (λ f i. among f (among_left f (called_in taken) (called_in other ++ called_in rest) i)) (omega (arith, le)) (allows whole taken (λ q. q.0) may),
           (
@@ -168,9 +169,9 @@ module _ (p : Resolved) (n : ℕ) (is_job : Bool) (ks : List Kind) (count : ℕ)
       let ddd = first_none (too_deep_in body) (too_deep_in rest) dd.1 in (
         named.0.0,
         (
-          fits p ks count 10 low same typed.1 d.0,
+          fits goal p ks count 10 low same typed.1 d.0,
           (
-            fits p ks count 11 high same typed.2 dd.0,
+            fits goal p ks count 11 high same typed.2 dd.0,
             (
               named.0.1.1.1.0,
               (
@@ -187,7 +188,7 @@ module _ (p : Resolved) (n : ℕ) (is_job : Bool) (ks : List Kind) (count : ℕ)
       let dd = first_none (too_deep_in body) (too_deep_in rest) d.1 in (
         kept.0,
         (
-          fits p ks count 10 condition same typed.0 d.0,
+          fits goal p ks count 10 condition same typed.0 d.0,
           (
             steps_fit globals body typed.1 named.0.1 kept.1.0 dd.0 (λ f i. among f (among_left f (called_in body) (called_in rest) i)) (omega (arith, le)) (allows whole body (λ q. q.0) may),
             steps_fit globals rest typed.2 named.1 kept.1.1 dd.1 (λ f i. among f (among_right f (called_in body) (called_in rest) i)) (omega (arith, le)) (allows whole rest (λ q. q.1) may),
@@ -202,18 +203,18 @@ module _ (p : Resolved) (n : ℕ) (is_job : Bool) (ks : List Kind) (count : ℕ)
 
 -- ---- initialisers and results
 
-pub declared_fit : (p : Resolved) (ks : List Kind) (count : ℕ) (ls : List LocalVariable) (es : List Term) → length ks ≡ count → TypedLocals p.globals ks ls es → too_deep_among es ≡ None → DeclaredFit (globals_in p) count es
-declared_fit p ks count [] [] same typed deep = tt
-declared_fit p ks count [] (e ∷ es) same typed deep = absurd typed
-declared_fit p ks count (l ∷ ls) [] same typed deep = tt
-declared_fit p ks count (l ∷ ls) (e ∷ es) same typed deep =
+pub declared_fit : (goal : Target) (p : Resolved) (ks : List Kind) (count : ℕ) (ls : List LocalVariable) (es : List Term) → length ks ≡ count → TypedLocals p.globals ks ls es → too_deep_among es ≡ None → DeclaredFit (globals_in goal p) count es
+declared_fit goal p ks count [] [] same typed deep = tt
+declared_fit goal p ks count [] (e ∷ es) same typed deep = absurd typed
+declared_fit goal p ks count (l ∷ ls) [] same typed deep = tt
+declared_fit goal p ks count (l ∷ ls) (e ∷ es) same typed deep =
     let d = first_none (too_deep 10 e) (too_deep_among es) deep in
     let more : length (ks ++ promoted l.ty ∷ []) ≡ length ks + 1 = length-append ks (promoted l.ty ∷ []) in
-    (fits p ks count 10 e same typed.0 d.0, declared_fit p (ks ++ promoted l.ty ∷ []) (count + 1) ls es (omega (arith, more, same)) typed.1 d.1)
+    (fits goal p ks count 10 e same typed.0 d.0, declared_fit goal p (ks ++ promoted l.ty ∷ []) (count + 1) ls es (omega (arith, more, same)) typed.1 d.1)
 
-pub result_fits : (p : Resolved) (ks : List Kind) (count : ℕ) (o : Option Term) → length ks ≡ count → TypedResult p.globals ks o → too_deep_result o ≡ None → ResultFits (globals_in p) count o
-result_fits p ks count None same typed deep = tt
-result_fits p ks count (Some e) same typed deep = fits p ks count 10 e same typed deep
+pub result_fits : (goal : Target) (p : Resolved) (ks : List Kind) (count : ℕ) (o : Option Term) → length ks ≡ count → TypedResult p.globals ks o → too_deep_result o ≡ None → ResultFits (globals_in goal p) count o
+result_fits goal p ks count None same typed deep = tt
+result_fits goal p ks count (Some e) same typed deep = fits goal p ks count 10 e same typed deep
 
 declared_count : (p : Resolved) (ks : List Kind) (env : Environment) (ls : List LocalVariable) (es : List Term) → TypedLocals p.globals ks ls es → length (declared env ls es) ≡ length env + length es
 declared_count p ks env [] [] typed = omega arith

@@ -40,7 +40,7 @@ job_stubs_fit p total first last s some c has = record {
     marked f is = sym (has.marked_is f) ∙ is.marked
 
     kind : (f : ℕ) → job_callable p f ≡ true → f < total → (b : Bool) → is_marked_at p.routines f ≡ b →
-        ((plain_callable p f ≡ true) × ((f < total) × ((parts_of p.routines).callee f ≡ c.code_part f))) ⊎ ((c.marked f ≡ true) × ((f < total) × ((parts_of p.routines).callee f ≡ c.stub_part f)))
+        ((plain_callable p f ≡ true) × ((f < total) × ((parts_of s.target p.routines).callee f ≡ c.code_part f))) ⊎ ((c.marked f ≡ true) × ((f < total) × ((parts_of s.target p.routines).callee f ≡ c.stub_part f)))
     kind f may lt true is = inr (has.marked_is f ∙ is, (lt, ap (λ b. cond b (stub_part p.routines f) (code_part f)) is ∙ sym (has.stub_part_is f)))
     kind f may lt false is =
         inl (ap (λ b. b && not (is_marked_at p.routines f)) may ∙ ap (λ b. true && not b) is, (lt, ap (λ b. cond b (stub_part p.routines f) (code_part f)) is ∙ sym (has.part_is f)))

@@ -219,16 +219,16 @@ module _ (p : Plant) (devices : List Device) (tasks : List Coded) (places : List
   regions_in (r ∷ rs) each =
       (record { number = 1 + t.at.functions + length t.at.marked + r.0; within = region_within p devices tasks places k t h r each.0 }, regions_in rs each.1)
 
-  codes_in : t.task.code ≡ codes_of (parts_of t.task.program.routines) t.task.program.routines → (fs : List ℕ) → AllByRecursion (λ f. f < length t.task.program.routines) fs → AllByRecursion (InPart t) (map (code_range t.at) fs)
+  codes_in : t.task.code ≡ codes_of (parts_of p.target t.task.program.routines) t.task.program.routines → (fs : List ℕ) → AllByRecursion (λ f. f < length t.task.program.routines) fs → AllByRecursion (InPart t) (map (code_range t.at) fs)
   codes_in code [] each = tt
   codes_in code (f ∷ fs) each =
-      let found = code_found (parts_of t.task.program.routines) t.task.program.routines f each.0 in
-      let same : t.table.code ≡ codes_of (parts_of t.task.program.routines) t.task.program.routines = table_code_is p places (0 + part_total tasks) t (at_parts p devices tasks places k t h) ∙ code in
+      let found = code_found (parts_of p.target t.task.program.routines) t.task.program.routines f each.0 in
+      let same : t.table.code ≡ codes_of (parts_of p.target t.task.program.routines) t.task.program.routines = table_code_is p places (0 + part_total tasks) t (at_parts p devices tasks places k t h) ∙ code in
       let ends = has.sizes.functions f found.0 (ap (λ (xs : List Pieces). slice_get xs f) same ∙ found.1.0) in
       let some = found.1.1 in
       (record { number = 1 + f; within = itself (code_range t.at f) (omega (arith, ends, some)) }, codes_in code fs each.1)
 
-  all_in : t.task.code ≡ codes_of (parts_of t.task.program.routines) t.task.program.routines → (x : ProgramText) (j : ℕ) (plan : Plan) → slice_get t.plans j ≡ Some plan → IsLegalPlan x t.task.program plan →
+  all_in : t.task.code ≡ codes_of (parts_of p.target t.task.program.routines) t.task.program.routines → (x : ProgramText) (j : ℕ) (plan : Plan) → slice_get t.plans j ≡ Some plan → IsLegalPlan x t.task.program plan →
       AllByRecursion (InPart t) (ranges_of t.at plan)
   all_in code x j plan e legal =
       let regions = regions_in plan.regions (recursion_from_All (IsRegion t.task.program.globals) plan.regions legal.regions) in

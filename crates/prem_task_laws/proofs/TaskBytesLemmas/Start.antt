@@ -84,6 +84,7 @@ run_starts p devices tasks places k t h inputs =
       inputs_are = refl;
       jobs = ap (λ (r : TaskRecord). r.jobs) (record_is p devices tasks places k t h);
       running = λ guard ended lt. record {
+        target = refl;
         size = refl;
         small = omega (arith, most);
         running = lt;

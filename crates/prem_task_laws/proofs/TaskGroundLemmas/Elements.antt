@@ -209,7 +209,7 @@ module _ (p : Plant) (devices : List Device) (tasks : List Coded) (places : List
   -- ---- all globals
 
   these_stand : (guard : Guard) (n : ℕ) (rest : List GlobalVariable) → ((i : ℕ) → slice_get t.task.program.globals (n + i) ≡ slice_get rest i) →
-      TheseStand (setting_of p guard t) (globals_in t.task.program) (λ g. (global_range t.at g).0) n rest
+      TheseStand (setting_of p guard t) (globals_in p.target t.task.program) (λ g. (global_range t.at g).0) n rest
   these_stand guard n [] same = tt
   these_stand guard n (v ∷ rest) same =
       let z : n ≡ n + 0 = omega arith in

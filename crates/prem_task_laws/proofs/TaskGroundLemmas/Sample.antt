@@ -3,6 +3,7 @@ use Rattle.std.proofs.Common.{◌≡◌, ℕ, zero, suc, ◌<◌, refl, subst, a
 use Rattle.std.specs.Prelude.{codes}
 use Rattle.std.proofs.lemmas.Bool.{eqb-true}
 use Rattle.std.proofs.lemmas.List.Elements.{All-nil, All-cons}
+use Rattle.prem_plant.specs.declared.plant.Target.{Target}
 use Rattle.prem_plant.specs.Ranges.{default_plant}
 use Rattle.prem_plant.specs.Places.{Extent, default_places}
 use Rattle.prem_plant.proofs.Powers.{default_is_plant}
@@ -16,7 +17,7 @@ use Rattle.prem_layout.specs.Placed.{Coded, Placed, parts_of, placed_at, task_pl
 use Rattle.prem_layout.proofs.Samples.{m_text, m_turns}
 use Rattle.prem_layout.proofs.Tasks.{coded}
 use Rattle.prem_code_laws.specs.GenLaws.Quiet.{AreQuiet}
-use Rattle.prem_lru.specs.Order.{is_in}
+use Rattle.prem_order.specs.Order.{is_in}
 use Rattle.prem_stub_laws.specs.Own.Owned.{HasCode}
 use Rattle.prem_stub_laws.specs.Initial.Initial.{AreLaid}
 use Rattle.prem_stub_laws.proofs.InitialLemmas.Defaults.{defaults_are_laid}
@@ -80,9 +81,9 @@ only_itself m i = by (eqb 0 (suc m)) refl i where
   by true e i = let same = eqb-true 0 (suc m) e in omega (arith, same)
   by false e i = cc
 
-m_quiet : (m : ℕ) (f : Routine) → is_in m (0 ∷ []) ≡ true → slice_get m_placed.task.program.routines m ≡ Some f → AreQuiet (code_parts_of m_placed.task.program.routines) f.body
-m_quiet zero f i e = let same : m_set.0 ≡ f = cc in subst (λ (g : Routine). AreQuiet (code_parts_of m_placed.task.program.routines) g.body) same tt
-m_quiet (suc m) f i e = absurd (only_itself m i)
+m_quiet : (target : Target) (m : ℕ) (f : Routine) → is_in m (0 ∷ []) ≡ true → slice_get m_placed.task.program.routines m ≡ Some f → AreQuiet (code_parts_of target m_placed.task.program.routines) f.body
+m_quiet target zero f i e = let same : m_set.0 ≡ f = cc in subst (λ (g : Routine). AreQuiet (code_parts_of target m_placed.task.program.routines) g.body) same tt
+m_quiet target (suc m) f i e = absurd (only_itself m i)
 
 pub m_is_legal : IsLegalPlan m_text m_placed.task.program m_plan
 m_is_legal = record {
@@ -99,7 +100,7 @@ m_is_legal = record {
   stated_is = refl;
   itself = refl;
   reached = All-cons (λ (f : ℕ). f < length m_placed.task.program.routines) 0 [] (lit< tt) (All-nil (λ (f : ℕ). f < length m_placed.task.program.routines));
-  quiet = λ first. m_quiet;
+  quiet = λ target first. m_quiet target;
   regions = All-cons (IsRegion m_placed.task.program.globals) (0, 0, 0) [] (record { there = lit< tt; ordered = lit≤ tt; last = lit< tt }) (All-nil (IsRegion m_placed.task.program.globals));
   inside = λ g j h. h;
 }

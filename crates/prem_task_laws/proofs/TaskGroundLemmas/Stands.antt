@@ -47,8 +47,8 @@ module _ (p : Plant) (devices : List Device) (tasks : List Coded) (places : List
   task = task_at p devices tasks places laid k t there
 
   -- a byte of an element is in its global's place
-  element_byte : (guard : Guard) (g j a : ℕ) → j < count_of (slice_get t.task.program.globals g) → element_at (setting_of p guard t) (globals_in t.task.program) g j ≤ a →
-      a < element_at (setting_of p guard t) (globals_in t.task.program) g j + element_size ((globals_in t.task.program).type g) → Holds (global_range t.at g) a
+  element_byte : (guard : Guard) (g j a : ℕ) → j < count_of (slice_get t.task.program.globals g) → element_at (setting_of p guard t) (globals_in p.target t.task.program) g j ≤ a →
+      a < element_at (setting_of p guard t) (globals_in p.target t.task.program) g j + element_size ((globals_in p.target t.task.program).type g) → Holds (global_range t.at g) a
   element_byte guard g j a lt from to =
       let lies = element_lies p devices tasks places laid t task g j lt in
       let base = base_is p devices tasks places laid t task g in
@@ -58,12 +58,13 @@ module _ (p : Plant) (devices : List Device) (tasks : List Coded) (places : List
   -- ground for any frame on the stack, and any guard that allows its bytes and those of the elements that may be accessed
   grounded : (guard : Guard) (may : Access) (s : Stack) → p.memory < 2 ^ 32 → (stack_place t.at).0 ≤ s.low → s.top ≤ (stack_place t.at).1 → s.sp % 4 ≡ 0 → s.low ≤ s.sp → s.sp + 4 + 4 * s.slots ≤ s.top →
       ((a : ℕ) → s.low ≤ a → a < s.top → guard.load a ≡ true) → ((a : ℕ) → s.low ≤ a → a < s.top → guard.store a ≡ true) →
-      ((g j a : ℕ) → j < count_of (slice_get t.task.program.globals g) → may g j ≡ true → element_at (setting_of p guard t) (globals_in t.task.program) g j ≤ a →
-      a < element_at (setting_of p guard t) (globals_in t.task.program) g j + element_size ((globals_in t.task.program).type g) → (guard.load a ≡ true) × (guard.store a ≡ true)) →
-      Ground (setting_of p guard t) (globals_in t.task.program) may s
+      ((g j a : ℕ) → j < count_of (slice_get t.task.program.globals g) → may g j ≡ true → element_at (setting_of p guard t) (globals_in p.target t.task.program) g j ≤ a →
+      a < element_at (setting_of p guard t) (globals_in p.target t.task.program) g j + element_size ((globals_in p.target t.task.program).type g) → (guard.load a ≡ true) × (guard.store a ≡ true)) →
+      Ground (setting_of p guard t) (globals_in p.target t.task.program) may s
   grounded guard may s small from to aligned floor room loads stores allows =
       let ends = (parts_have_addresses p devices tasks places laid k t there (1 + t.at.functions + length t.at.marked + length t.at.elements)).1 in
       record {
+        target = refl;
         small = small;
         ends = omega (arith, to, ends);
         aligned = aligned;
@@ -79,19 +80,19 @@ module _ (p : Plant) (devices : List Device) (tasks : List Coded) (places : List
             record {
               aligned = subst (λ b. (b + j * 2 ^ shift_of (type_of (slice_get t.task.program.globals g))) % element_size (type_of (slice_get t.task.program.globals g)) ≡ 0) (sym base) lies.aligned;
               within = omega (arith, base, low, high);
-              outside = outside (element_at (setting_of p guard t) (globals_in t.task.program) g j) (element_size (type_of (slice_get t.task.program.globals g))) lies.some
+              outside = outside (element_at (setting_of p guard t) (globals_in p.target t.task.program) g j) (element_size (type_of (slice_get t.task.program.globals g))) lies.some
                   (λ a x y. no_stack p devices tasks places laid t task g a (element_below p devices tasks places laid t task g j lt) (element_byte guard g j a lt x y));
             });
         allowed = λ g j lt is. (
-            let at : ℕ = element_at (setting_of p guard t) (globals_in t.task.program) g j in
+            let at : ℕ = element_at (setting_of p guard t) (globals_in p.target t.task.program) g j in
             let size : ℕ = element_size (type_of (slice_get t.task.program.globals g)) in
             record {
               loads = all_between guard.load at (at + size) (λ a x y. (allows g j a lt is x y).0) size at (omega arith) (omega arith);
               stores = all_between guard.store at (at + size) (λ a x y. (allows g j a lt is x y).1) size at (omega arith) (omega arith);
             });
         apart = λ g h i j differ li lj.
-            apart (element_at (setting_of p guard t) (globals_in t.task.program) g i) (element_size (type_of (slice_get t.task.program.globals g)))
-            (element_at (setting_of p guard t) (globals_in t.task.program) h j) (element_size (type_of (slice_get t.task.program.globals h)))
+            apart (element_at (setting_of p guard t) (globals_in p.target t.task.program) g i) (element_size (type_of (slice_get t.task.program.globals g)))
+            (element_at (setting_of p guard t) (globals_in p.target t.task.program) h j) (element_size (type_of (slice_get t.task.program.globals h)))
             (element_lies p devices tasks places laid t task g i li).some (element_lies p devices tasks places laid t task h j lj).some
             (λ a x y z w. differ (one_global p devices tasks places laid t task g h a (element_below p devices tasks places laid t task g i li) (element_below p devices tasks places laid t task h j lj) (element_byte guard g i a li x y) (element_byte guard h j a lj z w)));
       }
@@ -160,8 +161,8 @@ module _ (p : Plant) (devices : List Device) (tasks : List Coded) (places : List
   region_bytes r v is = ap (λ (xs : List ℕ). slice_index_or xs r.0 0) (elements_are p devices tasks places laid t task) ∙ element_bytes t.task.program.globals r.0 v is
 
   -- an element of a region has its bytes there
-  element_in_region : (guard : Guard) (g j a : ℕ) → j < count_of (slice_get t.task.program.globals g) → element_at (setting_of p guard t) (globals_in t.task.program) g j ≤ a →
-      a < element_at (setting_of p guard t) (globals_in t.task.program) g j + element_size ((globals_in t.task.program).type g) → (r : Region) → IsOf g j r → Holds (region_range t.at r) a
+  element_in_region : (guard : Guard) (g j a : ℕ) → j < count_of (slice_get t.task.program.globals g) → element_at (setting_of p guard t) (globals_in p.target t.task.program) g j ≤ a →
+      a < element_at (setting_of p guard t) (globals_in p.target t.task.program) g j + element_size ((globals_in p.target t.task.program).type g) → (r : Region) → IsOf g j r → Holds (region_range t.at r) a
   element_in_region guard g j a lt from to r of =
       let e = element_there p devices tasks places laid t task g j lt in
       let v : GlobalVariable = e.0 in

@@ -1,6 +1,6 @@
 -- Laws on well-formed programs: on their calls, on `job`, and on the plans of their marked functions.
 use Rattle.std.specs.Prelude.{◌≡◌, ◌≢◌, ◌<◌, ◌≤◌, ℕ, true, false, [], Some, slice_get}
-use Rattle.prem_lru.specs.Order.{is_in}
+use Rattle.prem_order.specs.Order.{is_in}
 use Rattle.prem_syntax.specs.Syntax.{ProgramText}
 use Rattle.prem_meaning.specs.GroupTwo.{IsWellFormed}
 use Rattle.prem_meaning.specs.Reach.{callees_in, IsAmong}

@@ -43,5 +43,5 @@ PlanGuards =
 abbrev pub PlanRanges : Type 0
 PlanRanges =
     (p : Plant) (devices : List Device) (tasks : List Coded) (places : List Extent) (k : ℕ) (t : Placed) → IsPlacedTask p devices tasks places k t →
-    t.task.code ≡ codes_of (parts_of t.task.program.routines) t.task.program.routines →
+    t.task.code ≡ codes_of (parts_of p.target t.task.program.routines) t.task.program.routines →
     (x : ProgramText) (j : ℕ) (plan : Plan) → slice_get t.plans j ≡ Some plan → IsLegalPlan x t.task.program plan → HasRanges p.memory (own_of tasks places k) t plan

@@ -7,7 +7,7 @@ use Rattle.prem_template.specs.Frames.{depth_of}
 use Rattle.prem_template.specs.Parts.{is_marked_at, stub_part, parts_of}
 use Rattle.prem_template.specs.Steps.{function_code}
 use Rattle.prem_layout.specs.Plans.{Plan}
-use Rattle.prem_lru.specs.Order.{is_in}
+use Rattle.prem_order.specs.Order.{is_in}
 use Rattle.prem_code_laws.specs.GenLaws.Fits.{Callees}
 use Rattle.prem_code_laws.specs.GenLaws.Table.{Codes}
 
@@ -43,7 +43,7 @@ reach_callable plan f = is_in f plan.reach && not (f == plan.function)
 -- the parts of a task that are called: those of some functions have their code
 pub record HasCodes (s : Setting) (p : Resolved) (some : ℕ → Bool) (c : Codes) : Type 0 where
   pub part_is : (n : ℕ) → c.code_part n ≡ 1 + n
-  pub code_is : (n : ℕ) (f : Routine) → some n ≡ true → slice_get p.routines n ≡ Some f → c.code n ≡ function_code (parts_of p.routines) f
+  pub code_is : (n : ℕ) (f : Routine) → some n ≡ true → slice_get p.routines n ≡ Some f → c.code n ≡ function_code (parts_of s.target p.routines) f
   pub stub_part_is : (n : ℕ) → c.stub_part n ≡ stub_part p.routines n
   pub marked_is : (n : ℕ) → c.marked n ≡ is_marked_at p.routines n
   pub aligned : (n : ℕ) → s.places (1 + n) % 4 ≡ 0

@@ -1,6 +1,7 @@
 -- What the plans of a program's marked functions have.
 use Rattle.std.specs.Prelude.{◌≡◌, ◌≢◌, ◌<◌, ◌≤◌, ℕ, ◌+◌, ◌^◌, ◌==◌, nat_le, Bool, true, ◌&&◌, All, List, length, Some, slice_get}
 use Rattle.std.specs.List.{list_any}
+use Rattle.prem_plant.specs.declared.plant.Target.{Target}
 use Rattle.prem_syntax.specs.Syntax.{ProgramText, GlobalVariable}
 use Rattle.prem_meaning.specs.Resolved.{Routine, Resolved}
 use Rattle.prem_meaning.specs.Statements.{is_marked}
@@ -8,9 +9,10 @@ use Rattle.prem_ranges.specs.GroupThree.{limits_of}
 use Rattle.prem_template.specs.Frames.{frame_of, frame_at, depth_of, stack_size}
 use Rattle.prem_template.specs.Parts.{parts_of}
 use Rattle.prem_layout.specs.Plans.{Region, Plan}
-use Rattle.prem_lru.specs.Order.{is_in}
+use Rattle.prem_order.specs.Order.{is_in}
 use Rattle.prem_code_laws.specs.GenLaws.Quiet.{AreQuiet}
-use Rattle.prem_stub_laws.specs.Initial.Standing.{count_of, globals_in}
+use Rattle.prem_weave.specs.Promise.Promised.{stated_at}
+use Rattle.prem_stub_laws.specs.Initial.Standing.{count_of}
 
 -- some elements of a global, which are there
 pub record IsRegion (globals : List GlobalVariable) (r : Region) : Type 0 where
@@ -34,10 +36,10 @@ pub record IsLegalPlan (x : ProgramText) (p : Resolved) (plan : Plan) : Type 0 w
   pub frame_first : frame_of routine ≤ plan.depth
   pub on_stack : plan.base + plan.depth ≤ stack_size p
   pub stated : plan.stated < 2 ^ 32
-  pub stated_is : (globals_in p).stated plan.function ≡ plan.stated
+  pub stated_is : stated_at p.routines plan.function ≡ plan.stated
   pub itself : is_in plan.function plan.reach ≡ true
   pub reached : All (λ (f : ℕ). f < length p.routines) plan.reach
   -- where it stands before `job`, as each function does that a job calls: behind it a function may call `job`, and so reach marked ones
-  pub quiet : plan.function < p.job → (m : ℕ) (f : Routine) → is_in m plan.reach ≡ true → slice_get p.routines m ≡ Some f → AreQuiet (parts_of p.routines) f.body
+  pub quiet : (target : Target) → plan.function < p.job → (m : ℕ) (f : Routine) → is_in m plan.reach ≡ true → slice_get p.routines m ≡ Some f → AreQuiet (parts_of target p.routines) f.body
   pub regions : All (IsRegion p.globals) plan.regions
   pub inside : (g j : ℕ) → (limits_of x).inside plan.function g j ≡ true → list_any (region_holds g j) plan.regions ≡ true

@@ -31,7 +31,7 @@ use Rattle.prem_task_laws.specs.TaskFrame.Plans.{IsLegalPlan}
 
 -- the frame of `job` ends the stack, and below it there is room for all that `job` calls
 pub record JobStands (p : Plant) (t : Placed) (f : Routine) : Type 0 where
-  pub ground : Ground (setting_of p (task_guard t) t) (globals_in t.task.program) everywhere (job_frame t)
+  pub ground : Ground (setting_of p (task_guard t) t) (globals_in p.target t.task.program) everywhere (job_frame t)
   pub frame_is : (job_frame t).sp + frame_of f ≡ (job_frame t).top
   pub slots : (job_frame t).slots ≡ slots_of f
   pub space : (job_frame t).low + deepest (depth_of t.task.program.routines) f.body ≤ (job_frame t).sp
@@ -46,7 +46,7 @@ JobsStand =
 -- the frame of a marked function ends below that of `job`, with room below it for all that the function calls; the function's guard
 -- allows its stack and its regions, and nothing from the frame of `job` up
 pub record PlanStands (p : Plant) (x : ProgramText) (t : Placed) (plan : Plan) (f : Routine) : Type 0 where
-  pub ground : Ground (with_guard (guard_of t.at plan) (setting_of p (task_guard t) t)) (globals_in t.task.program) ((limits_of x).inside plan.function) (plan_frame t plan)
+  pub ground : Ground (with_guard (guard_of t.at plan) (setting_of p (task_guard t) t)) (globals_in p.target t.task.program) ((limits_of x).inside plan.function) (plan_frame t plan)
   pub frame_is : (plan_frame t plan).sp + frame_of f ≡ (job_frame t).sp
   pub slots : (plan_frame t plan).slots ≡ slots_of f
   pub space : (plan_frame t plan).low + deepest (depth_of t.task.program.routines) f.body ≤ (plan_frame t plan).sp
@@ -80,7 +80,7 @@ abbrev pub GlobalsArePlaced : Type 0
 GlobalsArePlaced =
     (p : Plant) (devices : List Device) (tasks : List Coded) (places : List Extent) → AreLaid p devices tasks places →
     (k : ℕ) (t : Placed) → slice_get (placed_from p places tasks) k ≡ Some t → (guard : Guard) →
-    TheseStand (setting_of p guard t) (globals_in t.task.program) (λ g. (global_range t.at g).0) 0 t.task.program.globals
+    TheseStand (setting_of p guard t) (globals_in p.target t.task.program) (λ g. (global_range t.at g).0) 0 t.task.program.globals
 
 -- the bytes of each part of a placed task are its own
 abbrev pub PlacesAreOwn : Type 0

@@ -3,10 +3,12 @@ use Rattle.std.proofs.Common.{◌≡◌, ℕ, ◌+◌, ◌*◌, ◌/◌, ◌%◌
 use Rattle.std.specs.Prelude.{All}
 use Rattle.std.proofs.lemmas.Bool.{cond_both}
 use Rattle.std.proofs.lemmas.List.Elements.{All-head}
+use Rattle.prem_isa.proofs.Forms.{extended_done}
+use Rattle.prem_plant.specs.declared.plant.Target.{Target}
 use Rattle.prem_word.specs.Bytes.{number_at}
 use Rattle.prem_plant.specs.declared.plant.Plant.{Plant}
 use Rattle.prem_isa.specs.declared.instr.Instr.{Instr}
-use Rattle.prem_isa.specs.declared.instr.Instr.TheVariants.{Lui, Auipc, Jal, Jalr, Branch, Load, Store, OpImm, Op, Fence, Ecall, Ebreak, PmMem, PmExec, PmEnd, PmDone, PmIn, PmOut}
+use Rattle.prem_isa.specs.declared.instr.Instr.TheVariants.{Lui, Auipc, Jal, Jalr, Branch, Load, Store, OpImm, Op, MulDiv, Fence, Ecall, Ebreak, PmMem, PmExec, PmEnd, PmDone, PmIn, PmOut}
 use Rattle.prem_isa.specs.declared.effect.Cause.TheVariants.{Align, Outside}
 use Rattle.prem_isa.specs.declared.effect.Phase.TheVariants.{Compatible}
 use Rattle.prem_isa.specs.declared.effect.Change.TheVariants.{Stay}
@@ -41,28 +43,29 @@ accesses_stay size address bytes o k =
     cond_both (eqb (address % bytes) 0) (cond (leb (address + bytes) size) o (Trap Outside)) (Trap Align) (OnDone Stays)
     (λ e. cond_both (leb (address + bytes) size) o (Trap Outside) (OnDone Stays) (λ f. k) (λ f. tt)) (λ e. tt)
 
-calm_stays : (size at : ℕ) (i : Instr) (t : TaskState) → t.phase ≡ Compatible → IsCalm i → OnDone Stays (outcome_at size at i t)
-calm_stays size at (Lui rd imm) t p q = refl
-calm_stays size at (Auipc rd imm) t p q = refl
-calm_stays size at (Jal rd offset) t p q = jumps_stay (plus at offset) rd (at + 4)
-calm_stays size at (Jalr rd rs1 offset) t p q = jumps_stay (plus (t.registers rs1) offset / 2 * 2) rd (at + 4)
-calm_stays size at (Branch op rs1 rs2 offset) t p q =
+calm_stays : (target : Target) (size at : ℕ) (i : Instr) (t : TaskState) → t.phase ≡ Compatible → IsCalm i → OnDone Stays (outcome_at target size at i t)
+calm_stays target size at (Lui rd imm) t p q = refl
+calm_stays target size at (Auipc rd imm) t p q = refl
+calm_stays target size at (Jal rd offset) t p q = jumps_stay (plus at offset) rd (at + 4)
+calm_stays target size at (Jalr rd rs1 offset) t p q = jumps_stay (plus (t.registers rs1) offset / 2 * 2) rd (at + 4)
+calm_stays target size at (Branch op rs1 rs2 offset) t p q =
     cond_both (holds op (t.registers rs1) (t.registers rs2)) (jumps (plus at offset) 0 0) (sets (at + 4) 0 0) (OnDone Stays) (λ e. jumps_stay (plus at offset) 0 0) (λ e. refl)
-calm_stays size at (Load op rd rs1 offset) t p q =
+calm_stays target size at (Load op rd rs1 offset) t p q =
     let a = plus (t.registers rs1) offset in accesses_stay size a (load_size op) (loads (at + 4) op rd a (number_at t.view a (load_size op))) refl
-calm_stays size at (Store op rs1 rs2 offset) t p q =
+calm_stays target size at (Store op rs1 rs2 offset) t p q =
     let a = plus (t.registers rs1) offset in accesses_stay size a (store_size op) (stores (at + 4) op a (t.registers rs2)) refl
-calm_stays size at (OpImm op rd rs1 imm) t p q = refl
-calm_stays size at (Op op rd rs1 rs2) t p q = refl
-calm_stays size at (Fence high rd) t p q = refl
-calm_stays size at Ecall t p q = absurd q
-calm_stays size at Ebreak t p q = absurd q
-calm_stays size at PmMem t p q = absurd q
-calm_stays size at (PmExec rs1) t p q = absurd q
-calm_stays size at PmEnd t p q = absurd q
-calm_stays size at PmDone t p q = absurd q
-calm_stays size at (PmIn rd) t p q = subst (λ ph. OnDone Stays (Rattle.prem_isa.specs.Act.act size t.view t.registers at ph (next_input t.left) (PmIn rd))) (sym p) refl
-calm_stays size at (PmOut rs1) t p q = subst (λ ph. OnDone Stays (Rattle.prem_isa.specs.Act.act size t.view t.registers at ph (next_input t.left) (PmOut rs1))) (sym p) refl
+calm_stays target size at (OpImm op rd rs1 imm) t p q = refl
+calm_stays target size at (Op op rd rs1 rs2) t p q = refl
+calm_stays target size at (MulDiv op rd rs1 rs2) t p q = extended_done target _ Stays refl
+calm_stays target size at (Fence high rd) t p q = refl
+calm_stays target size at Ecall t p q = absurd q
+calm_stays target size at Ebreak t p q = absurd q
+calm_stays target size at PmMem t p q = absurd q
+calm_stays target size at (PmExec rs1) t p q = absurd q
+calm_stays target size at PmEnd t p q = absurd q
+calm_stays target size at PmDone t p q = absurd q
+calm_stays target size at (PmIn rd) t p q = subst (λ ph. OnDone Stays (Rattle.prem_isa.specs.Act.act target size t.view t.registers at ph (next_input t.left) (PmIn rd))) (sym p) refl
+calm_stays target size at (PmOut rs1) t p q = subst (λ ph. OnDone Stays (Rattle.prem_isa.specs.Act.act target size t.view t.registers at ph (next_input t.left) (PmOut rs1))) (sym p) refl
 
 done : (P : Effect → Type 0) (o : Outcome) (e : Effect) → o ≡ Done e → OnDone P o → P e
 done P o e is h = subst (OnDone P) is h
@@ -86,12 +89,12 @@ module _ (plant : Plant) (passes : ℕ → ℕ) (reads : Reading) (s : Setting) 
   abbrev R : Way
   R = woven_way plant passes reads own ended
 
-  woven_step : (at : ℕ) (i : Instr) (t : TaskState) (e : Effect) → CalmAt at i → outcome_at s.size at i t ≡ Done e → allowed s.guard e ≡ true → ends_job e.change ≡ false →
+  woven_step : (at : ℕ) (i : Instr) (t : TaskState) (e : Effect) → CalmAt at i → outcome_at s.target s.size at i t ≡ Done e → allowed s.guard e ≡ true → ends_job e.change ≡ false →
       Leads own ended (did_of at t.phase i e ∷ []) at t e.pc (after_effect e t) → R (did_of at t.phase i e ∷ []) at t e.pc (after_effect e t)
   woven_step at i t e good does may goes_on l phase fits =
-      let stay : e.change ≡ Stay = done Stays (outcome_at s.size at i t) e does (calm_stays s.size at i t phase good.0) in
-      let written : EffectWords e = done EffectWords (outcome_at s.size at i t) e does
-      (act_words s.size t.view t.registers at t.phase (next_input t.left) i fits.bytes fits.registers good.1.1 (input_word t.left fits.left) good.1.0) in
+      let stay : e.change ≡ Stay = done Stays (outcome_at s.target s.size at i t) e does (calm_stays s.target s.size at i t phase good.0) in
+      let written : EffectWords e = done EffectWords (outcome_at s.target s.size at i t) e does
+      (act_words s.target s.size t.view t.registers at t.phase (next_input t.left) i fits.bytes fits.registers good.1.1 (input_word t.left fits.left) good.1.0) in
       record {
         weave = goes (did_of at t.phase i e) ends;
         dids = refl;

@@ -2,9 +2,11 @@
 use Rattle.std.proofs.Common.{◌≡◌, ◌≢◌, ℕ, zero, suc, ◌+◌, ◌*◌, ◌/◌, ◌%◌, ◌<◌, ◌≤◌, refl, ap, ◌∙◌, subst, arith, cond, eqb, leb, true, false, Bool, List, [], ◌∷◌, length}
 use Rattle.std.specs.Prelude.{◌&&◌}
 use Rattle.std.proofs.lemmas.Bool.{cond_both}
+use Rattle.prem_isa.proofs.Forms.{extended_done}
+use Rattle.prem_plant.specs.declared.plant.Target.{Target}
 use Rattle.prem_word.specs.Bytes.{number_at}
 use Rattle.prem_isa.specs.declared.instr.Instr.{Instr}
-use Rattle.prem_isa.specs.declared.instr.Instr.TheVariants.{Lui, Auipc, Jal, Jalr, Branch, Load, Store, OpImm, Op, Fence, Ecall, Ebreak, PmMem, PmExec, PmEnd, PmDone, PmIn, PmOut}
+use Rattle.prem_isa.specs.declared.instr.Instr.TheVariants.{Lui, Auipc, Jal, Jalr, Branch, Load, Store, OpImm, Op, MulDiv, Fence, Ecall, Ebreak, PmMem, PmExec, PmEnd, PmDone, PmIn, PmOut}
 use Rattle.prem_isa.specs.declared.instr.LoadOp.{LoadOp}
 use Rattle.prem_isa.specs.declared.instr.LoadOp.TheVariants.{Lb, Lh, Lw, Lbu, Lhu}
 use Rattle.prem_isa.specs.declared.instr.StoreOp.{StoreOp}
@@ -20,7 +22,7 @@ use Rattle.prem_isa.specs.Act.{sets, jumps, accesses, loads, stores, phase_after
 use Rattle.prem_isa.specs.Bounds.{OnDone}
 use Rattle.prem_isa.specs.Decode.{cost_of}
 use Rattle.prem_isa.specs.Plain.{TaskState, Did}
-use Rattle.prem_lru.specs.Order.{is_in, AllIn}
+use Rattle.prem_order.specs.Order.{is_in, AllIn}
 use Rattle.prem_sound.specs.Script.Script.{access_lines}
 use Rattle.prem_asm.specs.Pieces.{code_of, weighted}
 use Rattle.prem_asm.specs.Runs.{Guard, Setting, Ending, allowed, stepped, outcome_at, run}
@@ -70,30 +72,31 @@ module _ (line : ℕ) (members : List ℕ) (g : Guard) (may_load : (a : ℕ) →
   store_fine Sh next a w = record { goes_on = refl; touches = λ h. (may_store a (both (g.store a) _ h), tt) }
   store_fine Sw next a w = record { goes_on = refl; touches = λ h. (may_store a (both (g.store a) _ h), tt) }
 
-  act_fine : (size at : ℕ) (i : Instr) (t : TaskState) → IsQuiet i → TakesSome i → OnDone Fine (outcome_at size at i t)
-  act_fine size at (Lui rd imm) t q s = sets_fine (at + 4) rd _
-  act_fine size at (Auipc rd imm) t q s = sets_fine (at + 4) rd _
-  act_fine size at (Jal rd offset) t q s = jumps_fine (plus at offset) rd (at + 4)
-  act_fine size at (Jalr rd rs1 offset) t q s = jumps_fine (plus (t.registers rs1) offset / 2 * 2) rd (at + 4)
-  act_fine size at (Branch op rs1 rs2 offset) t q s =
+  act_fine : (target : Target) (size at : ℕ) (i : Instr) (t : TaskState) → IsQuiet i → TakesSome i → OnDone Fine (outcome_at target size at i t)
+  act_fine target size at (Lui rd imm) t q s = sets_fine (at + 4) rd _
+  act_fine target size at (Auipc rd imm) t q s = sets_fine (at + 4) rd _
+  act_fine target size at (Jal rd offset) t q s = jumps_fine (plus at offset) rd (at + 4)
+  act_fine target size at (Jalr rd rs1 offset) t q s = jumps_fine (plus (t.registers rs1) offset / 2 * 2) rd (at + 4)
+  act_fine target size at (Branch op rs1 rs2 offset) t q s =
       cond_both (holds op (t.registers rs1) (t.registers rs2)) (jumps (plus at offset) 0 0) (sets (at + 4) 0 0) (OnDone Fine) (λ e. jumps_fine (plus at offset) 0 0) (λ e. sets_fine (at + 4) 0 0)
-  act_fine size at (Load op rd rs1 offset) t q s =
+  act_fine target size at (Load op rd rs1 offset) t q s =
       let a = plus (t.registers rs1) offset in
       accesses_fine size a (load_size op) (loads (at + 4) op rd a (number_at t.view a (load_size op))) (load_fine op rd (at + 4) a (number_at t.view a (load_size op)) s)
-  act_fine size at (Store op rs1 rs2 offset) t q s =
+  act_fine target size at (Store op rs1 rs2 offset) t q s =
       let a = plus (t.registers rs1) offset in
       accesses_fine size a (store_size op) (stores (at + 4) op a (t.registers rs2)) (store_fine op (at + 4) a (t.registers rs2))
-  act_fine size at (OpImm op rd rs1 imm) t q s = sets_fine (at + 4) rd _
-  act_fine size at (Op op rd rs1 rs2) t q s = sets_fine (at + 4) rd _
-  act_fine size at (Fence high rd) t q s = sets_fine (at + 4) 0 0
-  act_fine size at Ecall t q s = absurd q
-  act_fine size at Ebreak t q s = absurd q
-  act_fine size at PmMem t q s = absurd q
-  act_fine size at (PmExec rs1) t q s = absurd q
-  act_fine size at PmEnd t q s = absurd q
-  act_fine size at PmDone t q s = absurd q
-  act_fine size at (PmIn rd) t q s = absurd q
-  act_fine size at (PmOut rs1) t q s = absurd q
+  act_fine target size at (OpImm op rd rs1 imm) t q s = sets_fine (at + 4) rd _
+  act_fine target size at (Op op rd rs1 rs2) t q s = sets_fine (at + 4) rd _
+  act_fine target size at (MulDiv op rd rs1 rs2) t q s = extended_done target _ Fine (sets_fine (at + 4) rd _)
+  act_fine target size at (Fence high rd) t q s = sets_fine (at + 4) 0 0
+  act_fine target size at Ecall t q s = absurd q
+  act_fine target size at Ebreak t q s = absurd q
+  act_fine target size at PmMem t q s = absurd q
+  act_fine target size at (PmExec rs1) t q s = absurd q
+  act_fine target size at PmEnd t q s = absurd q
+  act_fine target size at PmDone t q s = absurd q
+  act_fine target size at (PmIn rd) t q s = absurd q
+  act_fine target size at (PmOut rs1) t q s = absurd q
 
   abbrev Good : ℕ → Instr → Type 0
   Good at i = IsQuiet i × (TakesSome i × (is_in (at / line) members ≡ true))
@@ -108,9 +111,9 @@ module _ (line : ℕ) (members : List ℕ) (g : Guard) (may_load : (a : ℕ) →
       stepped_by g at i t e (Holds (IsBody line members) Running) tt
       (λ a b. (((r, (k.goes_on, (h, k.touches a))), tt), phase)) (λ a b to. (((r, (k.goes_on, (h, k.touches a))), tt), phase))
 
-  body_rules : (size : ℕ) → Rules size g Good (IsBody line members) Running
-  body_rules size = record {
-    one = λ at i t q r. one_body at i t (outcome_at size at i t) q.1.1 r (act_fine size at i t q.0 q.1.0);
+  body_rules : (target : Target) (size : ℕ) → Rules target size g Good (IsBody line members) Running
+  body_rules target size = record {
+    one = λ at i t q r. one_body at i t (outcome_at target size at i t) q.1.1 r (act_fine target size at i t q.0 q.1.0);
     branch = λ at test t q r. ((r, (refl, (q.1.1, tt))), tt);
     jump = λ at link z t q r. (((r, (refl, (q.1.1, tt))), tt), r);
   }
@@ -132,7 +135,7 @@ module _ (s : Setting) (c : Codes) (line : ℕ) (members : List ℕ) (total : �
       let good = good_code line members s.guard w.loads w.stores (code_of s.places at ps) at (pieces_good IsQuiet s.places ps at (w.quiet n)) (pieces_good TakesSome s.places ps at (w.takes n))
       (λ a ge lt. w.code n a le ge (omega (arith, lt, code-length s.places at ps))) in
       one_holds (IsBody line members) (λ (u : TaskState). u.phase ≡ Execution) (eqb part (c.code_part n)) (run s (code_calls s c n) at ps t) (code_calls s c n part t)
-      (every (Good line members s.guard w.loads w.stores) (IsBody line members) (λ (u : TaskState). u.phase ≡ Execution) s (code_calls s c n) (body_rules line members s.guard w.loads w.stores s.size)
+      (every (Good line members s.guard w.loads w.stores) (IsBody line members) (λ (u : TaskState). u.phase ≡ Execution) s (code_calls s c n) (body_rules line members s.guard w.loads w.stores s.target s.size)
       (λ part t r. calls_within n (omega arith) part t r) ps at good t r)
       (calls_within n (omega arith) part t r)
 

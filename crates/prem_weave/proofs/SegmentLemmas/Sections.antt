@@ -4,6 +4,7 @@ use Rattle.std.specs.Prelude.{All, pos}
 use Rattle.std.specs.List.{concat}
 use Rattle.std.proofs.Math.Nat.{mul-div_cancel}
 use Rattle.std.proofs.lemmas.List.Sums.{sum_by-cons}
+use Rattle.prem_plant.specs.declared.plant.Target.{Target}
 use Rattle.prem_plant.specs.Places.{Extent}
 use Rattle.prem_isa.specs.declared.instr.Instr.{Instr}
 use Rattle.prem_isa.specs.declared.instr.Instr.TheVariants.{Jalr, PmMem}
@@ -14,8 +15,8 @@ use Rattle.prem_isa.specs.declared.effect.Outcome.{Outcome}
 use Rattle.prem_isa.specs.declared.effect.Outcome.TheVariants.{Trap, Done}
 use Rattle.prem_isa.specs.Decode.{cost_of}
 use Rattle.prem_isa.specs.Plain.{TaskState, Did}
-use Rattle.prem_lru.specs.Order.{is_in, AllIn}
-use Rattle.prem_lru.proofs.Members.{in_head, all_by, in_append_left}
+use Rattle.prem_order.specs.Order.{is_in, AllIn}
+use Rattle.prem_order.proofs.Members.{in_head, all_by, in_append_left}
 use Rattle.prem_asm.specs.Pieces.{Pieces, code_of, weighted}
 use Rattle.prem_asm.specs.Runs.{Guard, Setting, Returns, stepped, outcome_at, run}
 use Rattle.prem_asm.specs.Steps.{AllSteps, Holds, AllCode, Rules, Within, total}
@@ -80,9 +81,9 @@ module _ (line : ℕ) (members : List ℕ) where
   one_pc g at i t (Trap cause) h = tt
   one_pc g at i t (Done e) h = stepped_by g at i t e (Holds PcIn Any) tt (λ a b. ((h, tt), tt)) (λ a b to. ((h, tt), tt))
 
-  pc_rules : (size : ℕ) (g : Guard) → Rules size g At PcIn Any
-  pc_rules size g = record {
-    one = λ at i t h j. one_pc g at i t (outcome_at size at i t) h;
+  pc_rules : (target : Target) (size : ℕ) (g : Guard) → Rules target size g At PcIn Any
+  pc_rules target size g = record {
+    one = λ at i t h j. one_pc g at i t (outcome_at target size at i t) h;
     branch = λ at test t h j. (h, tt);
     jump = λ at link z t h j. ((h, tt), tt);
   }
@@ -97,7 +98,7 @@ module _ (line : ℕ) (members : List ℕ) where
   calls_pcs s c total w (suc n) le part t =
       let at = s.places (c.code_part n) in
       one_holds PcIn Any (eqb part (c.code_part n)) (run s (code_calls s c n) at (c.code n) t) (code_calls s c n part t)
-      (every At PcIn Any s (code_calls s c n) (pc_rules s.size s.guard) (λ part t j. calls_pcs s c total w n (omega arith) part t) (c.code n) at
+      (every At PcIn Any s (code_calls s c n) (pc_rules s.target s.size s.guard) (λ part t j. calls_pcs s c total w n (omega arith) part t) (c.code n) at
       (in_code (code_of s.places at (c.code n)) at (λ a ge lt. w.code n a le ge (omega (arith, lt, code-length s.places at (c.code n))))) t tt)
       (calls_pcs s c total w n (omega arith) part t)
 
@@ -181,7 +182,7 @@ stubs_are_sections plant passes s c ranges members n part at kind stated mark t 
     let ret : Did = return_step (x.ended_at + 4) in
     let pcs : AllSteps (PcIn line members) trace =
     (subst (Holds (PcIn line members) (Any line members)) goes
-    (every (At line members) (PcIn line members) (Any line members) s (code_calls s c n) (pc_rules line members s.size s.guard) (λ part t j. calls_pcs line members s c n w.code n (omega arith) part t) stub at
+    (every (At line members) (PcIn line members) (Any line members) s (code_calls s c n) (pc_rules line members s.target s.size s.guard) (λ part t j. calls_pcs line members s c n w.code n (omega arith) part t) stub at
     (in_code line members (code_of s.places at stub) at (λ a ge lt. w.own a ge (omega (arith, lt, code-length s.places at stub)))) t tt)).0 in
     let all_pcs : AllSteps (PcIn line members) (memory_step at ∷ (seg ++ ret ∷ [])) = subst (AllSteps (PcIn line members)) x.trace_is pcs in
     let seg_pcs : AllSteps (PcIn line members) seg = steps_left (PcIn line members) seg (ret ∷ []) all_pcs.1 in

@@ -11,7 +11,7 @@ use Rattle.prem_asm.specs.Runs.{Setting, Returns}
 use Rattle.prem_asm.specs.Steps.{AllSteps, total}
 use Rattle.prem_asm.specs.Quiet.{IsQuiet, EachPiece}
 use Rattle.prem_code_laws.specs.GenLaws.Table.{Codes, code_calls}
-use Rattle.prem_lru.specs.Order.{is_in, AllIn}
+use Rattle.prem_order.specs.Order.{is_in, AllIn}
 use Rattle.prem_sound.specs.Script.Script.{lines_of_did}
 
 -- a load takes something, as all do but those of a prefetch

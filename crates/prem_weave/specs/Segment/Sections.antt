@@ -13,7 +13,7 @@ use Rattle.prem_code_laws.specs.GenLaws.Table.{Codes, code_calls}
 use Rattle.prem_code_laws.specs.PrefetchLaws.Touches.{IsLineOf}
 use Rattle.prem_code_laws.specs.PrefetchLaws.Stubs.{memory_step}
 use Rattle.prem_code_laws.specs.PrefetchLaws.Confined.{exec_step, end_step, StubSteps}
-use Rattle.prem_lru.specs.Order.{is_in, HaveRoom}
+use Rattle.prem_order.specs.Order.{is_in, HaveRoom}
 use Rattle.prem_sound.specs.Script.Scripts.{Mark}
 use Rattle.prem_weave.specs.Weave.{Section, IsSection}
 use Rattle.prem_weave.specs.Segment.Bodies.{CodeIsWithin, code_costs}

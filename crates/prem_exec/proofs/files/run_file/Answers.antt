@@ -2,6 +2,7 @@ use Rattle.std.specs.Prelude.{ℕ, List, Option, Vec}
 use Rattle.std.specs.declared.alloc.Global.{Global}
 use Rattle.prem_io.specs.Files.{Files}
 use Rattle.prem_gate.specs.declared.request.RunInput.{RunInput}
+use Rattle.prem_answer.specs.declared.answer.Telling.TheVariants.{Whole}
 use Rattle.prem_answer.specs.Stages.{IsRead, IsReadAs}
 use Rattle.prem_exec.specs.Forms.{RunText}
 use Rattle.std.proofs.Common.{ap, ◌∙◌, sym, subst}
@@ -38,4 +39,4 @@ returns-in-Err-Line-clause-input g c =
     let bytes = c.in-Ok.bytes.items in
     let read = ap (λ bs. run_of bs (names_in image)) (sym c.deref.ensures.value) ∙ (rw c.in-Err-Line.field-0-is at c.in-Err-Line.ensures.exact) in
     made_ok _ run_limit name (run_of_bytes (image_text image) name) bytes _ c.in-Ok.ensures.read
-    (run_refused name (run_of bytes (names_in image)) c.in-Err-Line.n c.in-Err-Line.which _ read c.in_ok-line_form-in-Err-Line.ensures)
+    (run_refused Whole name (run_of bytes (names_in image)) c.in-Err-Line.n c.in-Err-Line.which _ read c.in_ok-line_form-in-Err-Line.ensures)

@@ -52,12 +52,12 @@ loop-routine-preserved c =
     let f = routine_of turns c.loop-routine.turn r in
     let at = there turns c.args.r.now i c.loop-routine.turn r c.items-routines.result.now c.items-routines.ensures inside c.routine-item.is c.loop-routine.invariant.turn in
     let none : excess_at p i ≡ None = ap (excess_at p) (sym number) ∙ c.in-Ok.ensures.excess in
-    let code : view c.in-Ok.code ≡ code_at p i = c.in-Ok.ensures.code ∙ ap (code_at p) number in
+    let code : view c.in-Ok.code ≡ code_at c.args.target p i = c.in-Ok.ensures.code ∙ ap (code_at c.args.target p) number in
     record {
       number = omega (arith, number);
       turn = omega (arith, take_next rs i r inside is, among, c.requires.loops, c.loop-routine.invariant.turn, c.loops-turn.ensures);
       codes =
-          codes_next p (parts_of p.routines) i f (items_of c.loop-routine.codes) (items_of c.push.new.self) c.in-Ok.code _ at refl code
+          codes_next c.args.target p (parts_of c.args.target p.routines) i f (items_of c.loop-routine.codes) (items_of c.push.new.self) c.in-Ok.code _ at refl code
           c.in_ok-push-in-Ok.ensures.ok c.loop-routine.invariant.codes;
       fits = fits_next p i f at none c.loop-routine.invariant.fits;
       excess = sym (excess_next p i f at none) ∙ c.loop-routine.invariant.excess;
@@ -71,7 +71,7 @@ returns-clause-codes c =
     let outside = subst (λ ys. length ys ≤ i) c.items-routines.ensures c.loop-routine-test.false in
     let dropped = drop_end p.routines i (omega (arith, outside, length_same turns 0 (items_of c.args.r.now.routines))) in
     sym (append-nil (map view (items_of c.loop-routine.codes)))
-    ∙ ap (λ fs. map view (items_of c.loop-routine.codes) ++ codes_of (parts_of p.routines) fs) (sym dropped)
+    ∙ ap (λ fs. map view (items_of c.loop-routine.codes) ++ codes_of (parts_of c.args.target p.routines) fs) (sym dropped)
     ∙ c.loop-routine.invariant.codes
 
 pub returns-clause-excess : goal.returns-clause-excess

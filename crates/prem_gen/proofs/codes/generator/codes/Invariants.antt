@@ -13,8 +13,8 @@ invariant-loop-routine l = record {
   number : l.f ≡ l.routine-index;
   turn : l.turn ≡ all_loops (take l.routine-index (items_of l.r.routines));
   codes :
-      map view (items_of l.codes) ++ codes_of (parts_of (resolved_of (slice_index l.turns) l.r).routines) (drop l.routine-index (resolved_of (slice_index l.turns) l.r).routines)
-      ≡ codes_of (parts_of (resolved_of (slice_index l.turns) l.r).routines) (resolved_of (slice_index l.turns) l.r).routines;
+      map view (items_of l.codes) ++ codes_of (parts_of l.target (resolved_of (slice_index l.turns) l.r).routines) (drop l.routine-index (resolved_of (slice_index l.turns) l.r).routines)
+      ≡ codes_of (parts_of l.target (resolved_of (slice_index l.turns) l.r).routines) (resolved_of (slice_index l.turns) l.r).routines;
   fits : FitBelow (resolved_of (slice_index l.turns) l.r) l.routine-index;
   excess : excess_among l.routine-index (drop l.routine-index (resolved_of (slice_index l.turns) l.r).routines) ≡ excess (resolved_of (slice_index l.turns) l.r);
 }

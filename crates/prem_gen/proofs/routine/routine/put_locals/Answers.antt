@@ -12,6 +12,6 @@ use Rattle.prem_gen.proofs.routine.routine.put_locals.Goals as goal
 pub returns-clause-pieces : goal.returns-clause-pieces
 returns-clause-pieces c =
     sym (followed_none (pieces_of (items_of c.loop-value.pieces)))
-    ∙ ap (λ xs. followed (pieces_of (items_of c.loop-value.pieces)) (declare_code (from_part c.args.task.now.first) c.loop-value.slot (map term_of xs)))
+    ∙ ap (λ xs. followed (pieces_of (items_of c.loop-value.pieces)) (declare_code c.args.task.now.target (from_part c.args.task.now.first) c.loop-value.slot (map term_of xs)))
     (sym (drop_end c.args.locals.now c.loop-value.value-index c.loop-value-test.false))
     ∙ c.loop-value.invariant.pieces

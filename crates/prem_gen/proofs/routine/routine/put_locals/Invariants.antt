@@ -12,8 +12,8 @@ use Rattle.prem_gen.proofs.routine.routine.put_locals.Given as goal
 abbrev pub invariant-loop-value : goal.invariant-loop-value
 invariant-loop-value l = record {
   pieces :
-      followed (pieces_of (items_of l.pieces)) (declare_code (from_part l.task.first) l.slot (map term_of (drop l.value-index l.locals)))
-      ≡ followed (pieces_of (items_of l.fn.pieces)) (declare_code (from_part l.task.first) l.k (map term_of l.locals));
+      followed (pieces_of (items_of l.pieces)) (declare_code l.task.target (from_part l.task.first) l.slot (map term_of (drop l.value-index l.locals)))
+      ≡ followed (pieces_of (items_of l.fn.pieces)) (declare_code l.task.target (from_part l.task.first) l.k (map term_of l.locals));
   deep : too_deep_among (map term_of (drop l.value-index l.locals)) ≡ too_deep_among (map term_of l.locals);
   slot : l.slot ≡ l.k + l.value-index;
 }

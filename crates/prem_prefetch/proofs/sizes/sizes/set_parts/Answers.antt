@@ -13,6 +13,6 @@ returns-clause-may c =
     let line = c.args.plant.now.line in
     let low = c.requires.plant.line.0 in
     let pos : 1 ≤ line = omega (arith, low) in
-    let same : c.push_areas.new.parts.items ≡ parts_in line c.args.devices.now c.args.tasks.now =
+    let same : c.push_areas.new.parts.items ≡ parts_in c.args.plant.now c.args.devices.now c.args.tasks.now =
     c.in_ok-push_areas.ensures ∙ ap (λ (ps : List PartSize). ps ++ area_parts line 0 c.args.devices.now) c.in_ok-parts.ensures in
-    subst (MayHavePlaces line) (sym same) (parts_may_have_places line c.args.devices.now c.args.tasks.now pos c.requires.tasks c.requires.count c.requires.devices)
+    subst (MayHavePlaces line) (sym same) (parts_may_have_places c.args.plant.now c.args.devices.now c.args.tasks.now pos c.requires.tasks c.requires.count c.requires.devices)

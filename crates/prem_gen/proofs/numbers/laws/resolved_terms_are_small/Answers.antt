@@ -1,5 +1,0 @@
-use Rattle.prem_gen.proofs.NumbersLemmas.Numbers.{resolved_are_small}
-use Rattle.prem_gen.proofs.numbers.laws.resolved_terms_are_small.Goals as goal
-
-pub returns : goal.returns
-returns c = resolved_are_small

@@ -1,0 +1,360 @@
+// What a word does: decoded and executed at once.
+
+ghost use Rattle.std.specs.Prelude.{◌≡◌, ℕ, ◌≤◌, ◌<◌, ◌+◌, ◌*◌, ◌^◌, slice_index, option_map};
+ghost use Rattle.prem_plant.specs.declared.plant.Target.{Target};
+ghost use Rattle.prem_isa.specs.declared.instr.Instr.TheVariants.{Branch, Load, Store, MulDiv};
+ghost use Rattle.prem_isa.specs.declared.effect.Phase.{Phase};
+ghost use Rattle.prem_isa.specs.Fields.{FieldsFit, fields_of, signed, imm_b, imm_i, imm_s, imm_u};
+ghost use Rattle.prem_isa.specs.Codes.{branch_op, load_op, store_op, low_op, muldiv_op};
+ghost use Rattle.prem_isa.specs.Decode.{op_imm, operation, system, custom, instr_of, decode_of};
+ghost use Rattle.prem_isa.specs.Alu.{word_of_int, load_size, store_size};
+ghost use Rattle.prem_isa.specs.Act.{sets, jumps, in_phase};
+ghost use Rattle.prem_isa.specs.Bounds.{IsPlaced};
+ghost use Rattle.prem_isa.specs.Step.{act_of, told_by, UpshotFits, registers_moved, pc_moved};
+
+use crate::alu::offset_by;
+use crate::effect::{Cause, Phase};
+use crate::execution::misplaced;
+use crate::fields::Fields;
+use crate::instr::{AluOp, BranchOp, LoadOp, MulDivOp, StoreOp};
+use crate::registers::set_register;
+use prem_plant::Target;
+
+/// What comes of a word at a place. An instruction that isn't a jump, a branch or a load goes on behind itself.
+#[derive(Clone, Copy, PartialEq, Eq, Debug)]
+pub enum Upshot {
+    /// It traps, and changes nothing.
+    Traps(Cause),
+    /// It writes a register, of which 0 writes nothing, and goes on; that is all.
+    Moves {
+        rd: u8,
+        value: u32,
+        next: u32,
+    },
+    /// It loads.
+    Loads {
+        op: LoadOp,
+        rd: u8,
+        address: u32,
+        next: u32,
+    },
+    /// It stores.
+    Stores {
+        address: u32,
+        size: u32,
+        value: u32,
+    },
+    /// `pm.mem`: the interval ends, and the next one begins in its memory phase.
+    Begins,
+    /// `pm.exec`: the execution phase begins; `stated` is the interval's length in cycles.
+    Executes {
+        stated: u32,
+    },
+    /// `pm.end`: the predictable interval ends.
+    Ends,
+    /// `pm.done`: the interval and the job end.
+    Finishes,
+    /// It takes an input word.
+    Takes {
+        rd: u8,
+    },
+    /// It puts a word out.
+    Puts {
+        word: u32,
+    },
+}
+
+/// A word's instruction is done in place where it only writes a register and goes on. Of any other word the answer tells
+/// what it comes to, and nothing changes.
+///
+/// Condition: the word's four bytes lie in a memory of `size` bytes.
+pub fn step_word(
+    target: Target,
+    size: u32,
+    registers: &mut [u32; 32],
+    pc: &mut u32,
+    phase: Phase,
+    word: u32,
+) -> Upshot
+    requires place { pc.old + 4 ≤ size }
+    ensures outcome { (view : ℕ → ℕ) (input : ℕ) → told_by view pc.old input result
+        ≡ act_of target size view (slice_index registers.old) pc.old phase input (decode_of word) }
+    ensures fit { UpshotFits size result }
+    ensures registers { registers.new ≡ registers_moved result registers.old }
+    ensures pc { pc.new ≡ pc_moved result pc.old }
+{
+    let upshot = upshot_of(target, size, registers, *pc, phase, word);
+    if let Upshot::Moves { rd, value, next } = upshot {
+        set_register(registers, rd, value);
+        *pc = next;
+    }
+    upshot
+}
+
+/// What a word comes to.
+pub fn upshot_of(
+    target: Target,
+    size: u32,
+    registers: &[u32; 32],
+    pc: u32,
+    phase: Phase,
+    word: u32,
+) -> Upshot
+    requires place { pc + 4 ≤ size }
+    ensures outcome { (view : ℕ → ℕ) (input : ℕ) → told_by view pc input result
+        ≡ act_of target size view (slice_index registers.now) pc phase input (decode_of word) }
+    ensures fit { UpshotFits size result }
+{
+    by_opcode(target, size, registers, pc, phase, word, Fields::of(word))
+}
+
+fn by_opcode(
+    target: Target,
+    size: u32,
+    registers: &[u32; 32],
+    pc: u32,
+    phase: Phase,
+    word: u32,
+    f: Fields,
+) -> Upshot
+    requires fields { FieldsFit f }
+    requires same { f ≡ fields_of word }
+    requires place { pc + 4 ≤ size }
+    ensures outcome { (view : ℕ → ℕ) (input : ℕ) → told_by view pc input result
+        ≡ act_of target size view (slice_index registers.now) pc phase input (instr_of f) }
+    ensures fit { UpshotFits size result }
+{
+    let next = pc + 4;
+    let rd = f.rd as u8;
+    match f.opcode {
+        0b0110111 => moved(next, rd, upper(word, f)),
+        0b0010111 => moved(next, rd, pc.wrapping_add(upper(word, f))),
+        0b1101111 => jumped(offset_by(pc, f.j_immediate()), rd, next),
+        0b1100111 if f.funct3 == 0 => {
+            let place = registers[f.rs1 as usize].wrapping_add(constant(word, f));
+            jumped(place / 2 * 2, rd, next)
+        }
+        0b1100011 => branched(registers, pc, f),
+        0b0000011 => loading(size, registers, pc, f, constant(word, f)),
+        0b0100011 => storing(size, registers, pc, f),
+        0b0010011 => with_constant(registers, next, f, constant(word, f)),
+        0b0110011 => with_registers(target, registers, next, f),
+        0b0001111 if f.funct3 == 0 => moved(next, 0, 0),
+        0b1110011 => called(f),
+        0b0001011 => marked(registers, phase, f),
+        _ => Upshot::Traps(Cause::Decode),
+    }
+}
+
+/// The constant of the format I as a word, at once from the word of these fields.
+fn constant(word: u32, f: Fields) -> u32
+    requires { f ≡ fields_of word }
+    ensures { result ≡ word_of_int (signed (2 ^ 11) (imm_i f)) }
+{
+    (word.cast_signed() >> 20).cast_unsigned()
+}
+
+/// The number of the upper bits of the format U in their place.
+fn upper(word: u32, f: Fields) -> u32
+    requires { f ≡ fields_of word }
+    ensures { result ≡ imm_u f * 2 ^ 12 }
+{
+    word >> 12 << 12
+}
+
+fn moved(next: u32, rd: u8, value: u32) -> Upshot
+    requires { rd < 32 }
+    ensures outcome { (view : ℕ → ℕ) (pc input : ℕ) → told_by view pc input result ≡ sets next rd value }
+    ensures fit { (size : ℕ) → UpshotFits size result }
+{
+    Upshot::Moves { rd, value, next }
+}
+
+fn jumped(target: u32, rd: u8, value: u32) -> Upshot
+    requires { rd < 32 }
+    ensures outcome { (view : ℕ → ℕ) (pc input : ℕ) → told_by view pc input result ≡ jumps target rd value }
+    ensures fit { (size : ℕ) → UpshotFits size result }
+{
+    if target % 4 == 0 {
+        moved(target, rd, value)
+    } else {
+        Upshot::Traps(Cause::Align)
+    }
+}
+
+fn branched(registers: &[u32; 32], pc: u32, f: Fields) -> Upshot
+    requires fields { FieldsFit f }
+    requires place { pc + 4 < 2 ^ 32 }
+    ensures outcome { (target : Target) (size : ℕ) (view : ℕ → ℕ) (phase : Phase) (input : ℕ) → told_by view pc input result
+        ≡ act_of target size view (slice_index registers.now) pc phase input
+        (option_map (λ op. Branch op f.rs1 f.rs2 (signed (2 ^ 12) (imm_b f))) (branch_op f.funct3)) }
+    ensures fit { (size : ℕ) → UpshotFits size result }
+{
+    let Some(op) = BranchOp::from_funct3(f.funct3) else {
+        return Upshot::Traps(Cause::Decode);
+    };
+    if op.holds(registers[f.rs1 as usize], registers[f.rs2 as usize]) {
+        jumped(offset_by(pc, f.b_immediate()), 0, 0)
+    } else {
+        moved(pc + 4, 0, 0)
+    }
+}
+
+fn loading(size: u32, registers: &[u32; 32], pc: u32, f: Fields, imm: u32) -> Upshot
+    requires fields { FieldsFit f }
+    requires imm { imm ≡ word_of_int (signed (2 ^ 11) (imm_i f)) }
+    requires place { pc + 4 < 2 ^ 32 }
+    ensures outcome { (target : Target) (view : ℕ → ℕ) (phase : Phase) (input : ℕ) → told_by view pc input result
+        ≡ act_of target size view (slice_index registers.now) pc phase input
+        (option_map (λ op. Load op f.rd f.rs1 (signed (2 ^ 11) (imm_i f))) (load_op f.funct3)) }
+    ensures fit { UpshotFits size result }
+{
+    let Some(op) = LoadOp::from_funct3(f.funct3) else {
+        return Upshot::Traps(Cause::Decode);
+    };
+    let address = registers[f.rs1 as usize].wrapping_add(imm);
+    match misplaced(size, address, op.size()) {
+        Some(cause) => Upshot::Traps(cause),
+        None => Upshot::Loads {
+            op,
+            rd: f.rd as u8,
+            address,
+            next: pc + 4,
+        },
+    }
+}
+
+fn storing(size: u32, registers: &[u32; 32], pc: u32, f: Fields) -> Upshot
+    requires fields { FieldsFit f }
+    requires place { pc + 4 < 2 ^ 32 }
+    ensures outcome { (target : Target) (view : ℕ → ℕ) (phase : Phase) (input : ℕ) → told_by view pc input result
+        ≡ act_of target size view (slice_index registers.now) pc phase input
+        (option_map (λ op. Store op f.rs1 f.rs2 (signed (2 ^ 11) (imm_s f))) (store_op f.funct3)) }
+    ensures fit { UpshotFits size result }
+{
+    let Some(op) = StoreOp::from_funct3(f.funct3) else {
+        return Upshot::Traps(Cause::Decode);
+    };
+    let address = offset_by(registers[f.rs1 as usize], f.s_immediate());
+    let bytes = op.size();
+    match misplaced(size, address, bytes) {
+        Some(cause) => Upshot::Traps(cause),
+        None => Upshot::Stores {
+            address,
+            size: bytes,
+            value: registers[f.rs2 as usize],
+        },
+    }
+}
+
+fn with_constant(registers: &[u32; 32], next: u32, f: Fields, imm: u32) -> Upshot
+    requires fields { FieldsFit f }
+    requires imm { imm ≡ word_of_int (signed (2 ^ 11) (imm_i f)) }
+    requires place { 4 ≤ next }
+    ensures outcome { (target : Target) (size : ℕ) (view : ℕ → ℕ) (pc : ℕ) (phase : Phase) (input : ℕ) → pc + 4 ≡ next → told_by view pc input result
+        ≡ act_of target size view (slice_index registers.now) pc phase input (op_imm f (low_op f.funct3)) }
+    ensures fit { (size : ℕ) → UpshotFits size result }
+{
+    let rd = f.rd as u8;
+    let a = registers[f.rs1 as usize];
+    match f.funct3 {
+        0 => moved(next, rd, AluOp::Add.apply(a, imm)),
+        1 if f.funct7 == 0 => moved(next, rd, AluOp::Sll.apply(a, f.rs2)),
+        2 => moved(next, rd, AluOp::Slt.apply(a, imm)),
+        3 => moved(next, rd, AluOp::Sltu.apply(a, imm)),
+        4 => moved(next, rd, AluOp::Xor.apply(a, imm)),
+        5 if f.funct7 == 0 => moved(next, rd, AluOp::Srl.apply(a, f.rs2)),
+        5 if f.funct7 == 32 => moved(next, rd, AluOp::Sra.apply(a, f.rs2)),
+        6 => moved(next, rd, AluOp::Or.apply(a, imm)),
+        7 => moved(next, rd, AluOp::And.apply(a, imm)),
+        _ => Upshot::Traps(Cause::Decode),
+    }
+}
+
+fn with_registers(target: Target, registers: &[u32; 32], next: u32, f: Fields) -> Upshot
+    requires fields { FieldsFit f }
+    ensures outcome { (size : ℕ) (view : ℕ → ℕ) (pc : ℕ) (phase : Phase) (input : ℕ) → pc + 4 ≡ next → told_by view pc input result
+        ≡ act_of target size view (slice_index registers.now) pc phase input (operation f) }
+    ensures fit { (size : ℕ) → UpshotFits size result }
+{
+    if f.funct7 == 1 {
+        return extended(target, registers, next, f);
+    }
+    let Some(op) = AluOp::from_codes(f.funct3, f.funct7) else {
+        return Upshot::Traps(Cause::Decode);
+    };
+    let value = op.apply(registers[f.rs1 as usize], registers[f.rs2 as usize]);
+    moved(next, f.rd as u8, value)
+}
+
+/// An operation of the extension M.
+fn extended(target: Target, registers: &[u32; 32], next: u32, f: Fields) -> Upshot
+    requires fields { FieldsFit f }
+    ensures outcome { (size : ℕ) (view : ℕ → ℕ) (pc : ℕ) (phase : Phase) (input : ℕ) → pc + 4 ≡ next → told_by view pc input result
+        ≡ act_of target size view (slice_index registers.now) pc phase input
+        (option_map (λ op. MulDiv op f.rd f.rs1 f.rs2) (muldiv_op f.funct3)) }
+    ensures fit { (size : ℕ) → UpshotFits size result }
+{
+    let Some(op) = MulDivOp::from_funct3(f.funct3) else {
+        return Upshot::Traps(Cause::Decode);
+    };
+    let value = op.apply(registers[f.rs1 as usize], registers[f.rs2 as usize]);
+    match target {
+        Target::Rv32i => Upshot::Traps(Cause::Decode),
+        Target::Rv32im => moved(next, f.rd as u8, value),
+    }
+}
+
+fn called(f: Fields) -> Upshot
+    ensures outcome { (target : Target) (size : ℕ) (view registers : ℕ → ℕ) (pc : ℕ) (phase : Phase) (input : ℕ) → told_by view pc input result
+        ≡ act_of target size view registers pc phase input (system f) }
+    ensures fit { (size : ℕ) → UpshotFits size result }
+{
+    if f.rd != 0 || f.funct3 != 0 || f.rs1 != 0 || f.funct7 != 0 {
+        return Upshot::Traps(Cause::Decode);
+    }
+    match f.rs2 {
+        0 => Upshot::Traps(Cause::Ecall),
+        1 => Upshot::Traps(Cause::Ebreak),
+        _ => Upshot::Traps(Cause::Decode),
+    }
+}
+
+fn marked(registers: &[u32; 32], phase: Phase, f: Fields) -> Upshot
+    requires { FieldsFit f }
+    ensures outcome { (target : Target) (size : ℕ) (view : ℕ → ℕ) (pc : ℕ) (input : ℕ) → told_by view pc input result
+        ≡ act_of target size view (slice_index registers.now) pc phase input (custom f) }
+    ensures fit { (size : ℕ) → UpshotFits size result }
+{
+    if f.rs2 != 0 || f.funct7 != 0 {
+        return Upshot::Traps(Cause::Decode);
+    }
+    match f.funct3 {
+        0 if f.rd == 0 && f.rs1 == 0 => in_phase(Phase::Compatible, phase, Upshot::Begins),
+        1 if f.rd == 0 => {
+            let stated = registers[f.rs1 as usize];
+            in_phase(Phase::Memory, phase, Upshot::Executes { stated })
+        }
+        2 if f.rd == 0 && f.rs1 == 0 => in_phase(Phase::Execution, phase, Upshot::Ends),
+        3 if f.rd == 0 && f.rs1 == 0 => in_phase(Phase::Compatible, phase, Upshot::Finishes),
+        4 if f.rs1 == 0 => in_phase(Phase::Compatible, phase, Upshot::Takes { rd: f.rd as u8 }),
+        5 if f.rd == 0 => {
+            let word = registers[f.rs1 as usize];
+            in_phase(Phase::Compatible, phase, Upshot::Puts { word })
+        }
+        _ => Upshot::Traps(Cause::Decode),
+    }
+}
+
+/// An upshot of one phase, in another.
+fn in_phase(lawful: Phase, phase: Phase, upshot: Upshot) -> Upshot
+    ensures outcome { (view : ℕ → ℕ) (pc input : ℕ) → told_by view pc input result
+        ≡ in_phase lawful phase (told_by view pc input upshot) }
+    ensures fit { (size : ℕ) → UpshotFits size upshot → UpshotFits size result }
+{
+    if lawful == phase {
+        upshot
+    } else {
+        Upshot::Traps(Cause::Phase)
+    }
+}

@@ -1,0 +1,41 @@
+-- Worked sets: the greatest stretches of their tasks, path by path, and their longest intervals, computed.
+use Rattle.std.proofs.Common.{◌≡◌, refl, ℕ, List, [], ◌∷◌, map, length}
+use Rattle.std.specs.Prelude.{codes}
+use Rattle.prem_plant.specs.declared.plant.Plant.{Plant}
+use Rattle.prem_plant.specs.Ranges.{default_plant as plant}
+use Rattle.prem_layout.specs.Placed.{Coded, Placed}
+use Rattle.prem_layout.proofs.Samples.{m_text, m_turns, b_text, b_turns}
+use Rattle.prem_layout.proofs.Tasks.{coded, placed}
+use Rattle.prem_layout.specs.Stretch.Paths.{turning, task_paths, stretch_of, longest_of}
+
+abbrev stretches : Plant → List Coded → List ℕ
+stretches p tasks = map (λ (t : Placed). stretch_of p t.plans t.table) (placed p tasks)
+
+abbrev longests : Plant → List Coded → List ℕ
+longests p tasks = map (λ (t : Placed). longest_of p t.plans t.table) (placed p tasks)
+
+abbrev paths : Plant → List Coded → List ℕ
+paths p tasks = map (λ (t : Placed). length (task_paths p t.plans t.table)) (placed p tasks)
+
+-- one task with a marked function of one store
+abbrev task_m : List Coded
+task_m = coded (codes "m") 1000 1 m_text m_turns ∷ []
+
+m_stretch : stretches plant task_m ≡ 233 ∷ []
+unfolding turning
+m_stretch = refl
+
+m_longest : longests plant task_m ≡ 511 ∷ []
+unfolding turning
+m_longest = refl
+
+-- two tasks with a marked function each, on a small cache
+abbrev two_tasks : List Coded
+two_tasks = coded (codes "a") 10000 3 m_text m_turns ∷ coded (codes "b") 10000 3 b_text b_turns ∷ []
+
+abbrev small_cache : Plant
+small_cache = record plant { sets = 16; «ways» = 2 }
+
+two_longest : longests small_cache two_tasks ≡ 511 ∷ 511 ∷ []
+unfolding turning
+two_longest = refl

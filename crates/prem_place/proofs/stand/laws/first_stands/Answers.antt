@@ -1,5 +1,0 @@
-use Rattle.prem_place.proofs.StandLemmas.TaskParts.{first_stands}
-use Rattle.prem_place.proofs.stand.laws.first_stands.Goals as goal
-
-pub returns : goal.returns
-returns c = first_stands

@@ -1,5 +1,0 @@
-use Rattle.prem_sets_sound.proofs.AcceptedLemmas.Whole.{lawful_sets_have_values}
-use Rattle.prem_sets_sound.proofs.accepted.laws.lawful_sets_have_values.Goals as goal
-
-pub returns : goal.returns
-returns c = lawful_sets_have_values

@@ -1,5 +1,0 @@
-use Rattle.prem_text.proofs.CanonicalLemmas.Read.{canonical_read}
-use Rattle.prem_text.proofs.canonical.laws.canonical_texts_are_read.Goals as goal
-
-pub returns : goal.returns
-returns c = canonical_read

@@ -1,5 +1,0 @@
-use Rattle.prem_text.proofs.CanonicalLemmas.Fewest.{fewest_parentheses}
-use Rattle.prem_text.proofs.canonical.laws.parentheses_are_fewest.Goals as goal
-
-pub returns : goal.returns
-returns c = fewest_parentheses
