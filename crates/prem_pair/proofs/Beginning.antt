@@ -1,0 +1,41 @@
+-- Two cores before their first cycle.
+use Rattle.std.proofs.Common.{◌≡◌, ◌*◌, List, ap, sym, ◌∙◌, subst}
+use Rattle.prem_list.specs.Sequence.{items_of}
+use Rattle.prem_image.specs.declared.image.Image.{Image}
+use Rattle.prem_gate.specs.declared.request.Request.{Request}
+use Rattle.prem_gate.specs.declared.request.RunInput.{RunInput}
+use Rattle.prem_gate.specs.Gates.{GatesState}
+use Rattle.prem_cycle.specs.State.{rule_in, MachineState}
+use Rattle.prem_cycle.specs.Inputs.{image_run, setup_of, words_of}
+use Rattle.prem_cycle.specs.Run.{cycles_of}
+use Rattle.prem_machine.specs.declared.parts.Parts.{Parts}
+use Rattle.prem_machine.specs.Parts.{Runs, state_of}
+use Rattle.prem_machine.specs.Start.{StartsAs}
+use Rattle.prem_machine.proofs.Starting.{runs_first, state_first}
+use Rattle.prem_pair.specs.declared.cycles.state.Holder.TheVariants.{Nobody}
+use Rattle.prem_pair.specs.Cycles.Pair.{PairState, pair_cycles, pair_run}
+use Rattle.prem_pair.specs.Sides.{Arrives}
+use Rattle.prem_pair.specs.BothOf.{GoOn, pair_of}
+
+pub goes_first : {P Q : Type 0} (image behind : Image) (run other : RunInput) (requests : List Request) (x : Parts P) (y : Parts Q) → requests ≡ items_of run.requests → StartsAs image run x → StartsAs behind other y →
+    GoOn requests (record { first = x; second = y; holder = Nobody })
+goes_first image behind run other requests x y e s t =
+    let r : Runs x.now (4 * x.now) (items_of run.requests) x = runs_first image run x s in
+    let u : Runs y.now (4 * y.now) (items_of other.requests) y = runs_first behind other y t in
+    let A : List Request → Type 0 = λ rs. Arrives x.now rs x in
+    record {
+      first = record { ready = r.ready; first = r.first; counts = r.counts };
+      second = record { ready = u.ready; first = u.first; counts = u.counts };
+      arrives = subst A (sym e) (record { arrived = r.arrived; few = r.few; pending = r.pending });
+      free = λ ne. ap (λ (g : GatesState). g.carried) s.gates;
+    }
+
+pub pair_first : {P Q : Type 0} (image behind : Image) (run other : RunInput) (x : Parts P) (y : Parts Q) → StartsAs image run x → StartsAs behind other y →
+    pair_of (record { first = x; second = y; holder = Nobody })
+    ≡ pair_run (rule_in (setup_of image)) (rule_in (setup_of behind)) (setup_of image) (setup_of behind) (items_of image.content) (items_of behind.content) (words_of run) (words_of other) (items_of run.requests) 0
+unfolding pair_cycles cycles_of
+pair_first image behind run other x y s t =
+    let a : state_of x ≡ image_run (rule_in (setup_of image)) image run 0 = state_first image run x s in
+    let b : state_of y ≡ image_run (rule_in (setup_of behind)) behind other 0 = state_first behind other y t in
+    let all : MachineState → MachineState → PairState = λ v w. record { first = v; second = w; holder = Nobody } in
+    ap (λ v. all v (state_of y)) a ∙ ap (λ w. all (image_run (rule_in (setup_of image)) image run 0) w) b

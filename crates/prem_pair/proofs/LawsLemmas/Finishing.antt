@@ -1,0 +1,233 @@
+-- Two cores whose tasks keep to their scripts have finished by their limit.
+use Rattle.std.proofs.Common.{◌≡◌, ℕ, zero, suc, ◌+◌, ◌<◌, ◌≤◌, refl, ap, ◌∙◌, sym, arith, true, false, Bool, List, [], ◌∷◌, length, map, get_or, ⊎_elim}
+use Rattle.std.specs.Prelude.{is_some, ◌&&◌, ◌||◌, max, sum_by}
+use Rattle.std.proofs.lemmas.Bool.{cases_Bool, cond_both}
+use Rattle.std.proofs.lemmas.List.Sums.{sum_by-cons}
+use Rattle.prem_image.specs.declared.image.DeviceRecord.{DeviceRecord}
+use Rattle.prem_isa.specs.Plain.{TaskRun}
+use Rattle.prem_lru.specs.Entries.{ReplacementRule}
+use Rattle.prem_order.specs.Order.{OrderRule}
+use Rattle.prem_gate.specs.declared.request.Request.{Request}
+use Rattle.prem_gate.specs.Gates.{GateState, gate_at, gate_of, gates_of}
+use Rattle.prem_cycle.specs.State.{Setup, start_of}
+use Rattle.prem_cycle.specs.Inputs.{no_device}
+use Rattle.prem_cycle.specs.Run.{memory_of}
+use Rattle.prem_cycle.specs.Cycle.{is_finished, is_full}
+use Rattle.prem_runs.proofs.PositionLemmas.Gated.{AreGates}
+use Rattle.prem_runs.proofs.PositionLemmas.Runs.{runs_of}
+use Rattle.prem_runs.proofs.PositionLemmas.Starts.{start_all}
+use Rattle.prem_runs.proofs.WindowLemmas.Cycles.{start_closes}
+use Rattle.prem_sound.specs.Script.Script.{Script}
+use Rattle.prem_sound.specs.Script.Scripts.{last_release, AreScripts}
+use Rattle.prem_sound.specs.Resident.Faultless.{IsPolicy}
+use Rattle.prem_sound.proofs.ResidentLemmas.Facing.{start_faultless}
+use Rattle.prem_sound.proofs.ResidentLemmas.Needs.{start_needs}
+use Rattle.prem_sound.specs.Sound.{IsRun}
+use Rattle.prem_sound.proofs.Lasting.{start_lasts}
+use Rattle.prem_sound.proofs.Timing.{start_timed, core_most, core_before, core_room}
+use Rattle.prem_pair.specs.Cycles.Pair.{PairState, pair_cycle, both_finished, one_trapped, one_full, is_pair_over, pair_step, pair_cycles, pair_start, pair_run}
+use Rattle.prem_pair.proofs.CyclesLemmas.PairRuns.{pair_step-goes, pair_step-stays}
+use Rattle.prem_pair.specs.Laws.PairSound.{pair_limit, due_of, PairsFinish}
+use Rattle.prem_pair.proofs.LawsLemmas.Hosted.{Hosted, CoreHolds}
+use Rattle.prem_pair.proofs.LawsLemmas.Gating.{Gated, load, asked_most}
+use Rattle.prem_pair.proofs.LawsLemmas.Facts.{HostsDevices}
+use Rattle.prem_pair.proofs.LawsLemmas.Holds.{PairHolds, cycle_holds, next_is, next_now0}
+
+-- ---- a core with its scripts
+
+abbrev pub host_of : (rule : ReplacementRule) (order : OrderRule) (passes : ℕ → ℕ) (p : Setup) (content : List ℕ) (inputs : List (List ℕ)) (requests : List Request) (own : ℕ → ℕ → Bool) (runs : ℕ → TaskRun) (scripts : ℕ → Script) → IsPolicy rule order passes → IsRun p content requests → AreScripts p passes content inputs own runs scripts → Hosted
+host_of rule order passes p content inputs requests own runs scripts policy run are = record {
+  rule = rule;
+  order = order;
+  passes = passes;
+  setup = p;
+  own = own;
+  runs = runs;
+  scripts = scripts;
+  policy = policy;
+  keep = are.each;
+  are_runs = runs_of rule p content inputs requests own runs policy.keeps run.runnable are.own_runs;
+  jobs_are = λ k lt. (are.own_runs.runs_are k lt).jobs;
+  periods = run.periods;
+}
+
+pub host_starts : (rule : ReplacementRule) (order : OrderRule) (passes : ℕ → ℕ) (p : Setup) (content : List ℕ) (inputs : List (List ℕ)) (requests : List Request) (own : ℕ → ℕ → Bool) (runs : ℕ → TaskRun) (scripts : ℕ → Script) (policy : IsPolicy rule order passes) (run : IsRun p content requests) (are : AreScripts p passes content inputs own runs scripts) → CoreHolds (host_of rule order passes p content inputs requests own runs scripts policy run are) 0 (λ k. 0) (start_of p inputs (memory_of p content))
+host_starts rule order passes p content inputs requests own runs scripts policy run are = record {
+  known = record {
+    position = (start_all p content inputs requests own runs run.runnable are.own_runs).position;
+    closes = start_closes p inputs (memory_of p content);
+  };
+  keeps = start_faultless rule order passes p own runs scripts policy are.each inputs (memory_of p content);
+  lasts = start_lasts rule order passes p own runs scripts policy are.each inputs (memory_of p content);
+  timed = start_timed rule order passes p own runs scripts policy are.each (λ k lt. (are.own_runs.runs_are k lt).jobs) run.periods inputs (memory_of p content);
+  needs = start_needs p inputs (memory_of p content);
+}
+
+-- ---- the gates at the start
+
+start_cost : (ds : List DeviceRecord) (d : ℕ) → d < length ds → (gate_at (gates_of (map (λ (x : DeviceRecord). x.device) ds) (map (λ (x : DeviceRecord). x.area) ds)) d).cost ≡ (get_or ds d no_device).device.cost
+start_cost [] d lt = absurd (omega (arith, lt))
+start_cost (x ∷ ds) zero lt = refl
+start_cost (x ∷ ds) (suc d) lt = start_cost ds d (omega (arith, lt))
+
+none_waits : (ds : List DeviceRecord) → sum_by (λ (g : GateState). sum_by (λ (r : Request). g.cost) g.queue) (gates_of (map (λ (x : DeviceRecord). x.device) ds) (map (λ (x : DeviceRecord). x.area) ds)) ≡ 0
+none_waits [] = refl
+none_waits (x ∷ ds) =
+    sum_by-cons (λ (g : GateState). sum_by (λ (r : Request). g.cost) g.queue) (gate_of x.device x.area) (gates_of (map (λ (x : DeviceRecord). x.device) ds) (map (λ (x : DeviceRecord). x.area) ds))
+    ∙ (let e : sum_by (λ (g : GateState). sum_by (λ (r : Request). g.cost) g.queue) (gates_of (map (λ (x : DeviceRecord). x.device) ds) (map (λ (x : DeviceRecord). x.area) ds)) ≡ 0 = none_waits ds in omega (arith, e))
+
+start_gated : (p : Setup) (inputs : List (List ℕ)) (memory : List ℕ) → AreGates p (start_of p inputs memory).gates → Gated p (start_of p inputs memory).gates
+start_gated p inputs memory g = record { count = g.count; costs = λ d lt. start_cost p.devices d lt; some = tt }
+
+start_load : (p : Setup) (inputs : List (List ℕ)) (memory : List ℕ) → load (start_of p inputs memory).gates ≡ 0
+start_load p inputs memory = let e = none_waits p.devices in omega (arith, e)
+
+-- ---- small facts
+
+pub first_no : (a b c : Bool) → (a || b || c) ≡ false → a ≡ false
+first_no true b c h = absurd (let x : true ≡ false = h in cc)
+first_no false b c h = refl
+
+over_not : (a b c : Bool) → (a || b || c) ≡ true → a ≡ false → b ≡ false → c ≡ false → ⊥
+over_not true b c h x y z = let v : true ≡ false = x in cc
+over_not false true c h x y z = let v : true ≡ false = y in cc
+over_not false false true h x y z = let v : true ≡ false = z in cc
+over_not false false false h x y z = let v : false ≡ true = h in cc
+
+neither : (a b : Bool) → a ≡ false → b ≡ false → (a || b) ≡ false
+neither true b e f = e
+neither false b e f = f
+
+one_not : (a b : Bool) → (a && b) ≡ false → a ≡ true → b ≡ false
+one_not true b h e = h
+one_not false b h e = absurd (let x : false ≡ true = e in cc)
+
+-- ---- runs
+
+module _ (rule other : ReplacementRule) (order order' : OrderRule) (passes passes' : ℕ → ℕ) (p q : Setup) (content behind : List ℕ) (inputs others : List (List ℕ)) (requests : List Request) (own own' : ℕ → ℕ → Bool) (runs runs' : ℕ → TaskRun) (scripts scripts' : ℕ → Script)
+    (policy : IsPolicy rule order passes) (policy' : IsPolicy other order' passes') (run : IsRun p content requests) (run' : IsRun q behind []) (are : AreScripts p passes content inputs own runs scripts) (are' : AreScripts q passes' behind others own' runs' scripts') where
+  abbrev pub host : Hosted
+  host = host_of rule order passes p content inputs requests own runs scripts policy run are
+
+  abbrev pub guest : Hosted
+  guest = host_of other order' passes' q behind others [] own' runs' scripts' policy' run' are'
+
+  abbrev pub after : ℕ → PairState
+  after n = pair_run rule other p q content behind inputs others requests n
+
+  pub devices : HostsDevices host requests
+  devices = record {
+    placed = run.runnable.devices;
+    asked = run.runnable.asked;
+    free = are.own_runs.free;
+    costs = record {
+      least = λ d lt. (run.runnable.devices d no_device lt).device.cost.0;
+      most = λ d lt. (run.runnable.devices d no_device lt).device.cost.1;
+    };
+  }
+
+  pub start_holds : (More : (ℕ → ℕ) → (ℕ → ℕ) → PairState → Type 0) → More (λ k. 0) (λ k. 0) (pair_start p q inputs others (memory_of p content) (memory_of q behind)) → PairHolds host guest requests More (pair_start p q inputs others (memory_of p content) (memory_of q behind))
+  start_holds More more =
+      let gates : AreGates p (start_of p inputs (memory_of p content)).gates = (start_all p content inputs requests own runs run.runnable are.own_runs).gates in
+      record {
+        off = 0;
+        off' = 0;
+        at = λ k. 0;
+        at' = λ k. 0;
+        first = host_starts rule order passes p content inputs requests own runs scripts policy run are;
+        second = host_starts other order' passes' q behind others [] own' runs' scripts' policy' run' are';
+        same_now = refl;
+        gates = gates;
+        gated = start_gated p inputs (memory_of p content) gates;
+        tokened = record { first = refl; second = refl; gates = refl };
+        gone = 0;
+        served = omega (arith, start_load p inputs (memory_of p content));
+        spans = record { idle = 0; low = omega arith; high = omega arith; time = omega arith };
+        more = more;
+      }
+
+  abbrev Nothing : (ℕ → ℕ) → (ℕ → ℕ) → PairState → Type 0
+  Nothing at at' s = Unit {0}
+
+  step_holds : (s : PairState) → PairHolds host guest requests Nothing s → PairHolds host guest requests Nothing (pair_step rule other p q requests s)
+  step_holds s x =
+      cond_both (is_pair_over s) s (pair_cycle rule other p q requests s) (PairHolds host guest requests Nothing) (λ _. x)
+      (λ on. cycle_holds host guest requests devices Nothing s x Nothing (first_no (both_finished s) (one_trapped s) (one_full s) on) tt)
+
+  -- all that is known holds after n cycles
+  pub run_holds : (n : ℕ) → PairHolds host guest requests Nothing (after n)
+  unfolding pair_cycles
+  run_holds zero = start_holds Nothing tt
+  run_holds (suc n) = step_holds (after n) (run_holds n)
+
+  -- until it stops, as many cycles have passed
+  step_now : (s : PairState) → PairHolds host guest requests Nothing s → is_pair_over s ≡ false → (pair_step rule other p q requests s).first.now ≡ s.first.now + 1
+  step_now s x on =
+      ap (λ (z : PairState). z.first.now) (pair_step-goes rule other p q requests s on ∙ next_is host guest requests devices Nothing s x) ∙ next_now0 host guest requests devices Nothing s x
+
+  went_before : (s : PairState) → is_pair_over (pair_step rule other p q requests s) ≡ false → is_pair_over s ≡ false
+  went_before s h =
+      ⊎_elim (λ (e : is_pair_over s ≡ true). let x : true ≡ false = sym e ∙ ap is_pair_over (sym (pair_step-stays rule other p q requests s e)) ∙ h in absurd cc)
+      (λ (e : is_pair_over s ≡ false). e) (cases_Bool (is_pair_over s))
+
+  pub run_now : (n : ℕ) → is_pair_over (after n) ≡ false → (after n).first.now ≡ n
+  unfolding pair_cycles
+  run_now zero h = refl
+  run_now (suc n) h =
+      let on : is_pair_over (after n) ≡ false = went_before (after n) h in
+      let e : (after n).first.now ≡ n = run_now n on in
+      let t : (pair_step rule other p q requests (after n)).first.now ≡ (after n).first.now + 1 = step_now (after n) (run_holds n) on in
+      omega (arith, e, t)
+
+  -- ---- before the limit
+
+  abbrev last : ℕ
+  last = max (last_release p.tasks) (last_release q.tasks)
+
+  abbrev limit : ℕ
+  limit = pair_limit p q (due_of p scripts) (due_of q scripts') requests
+
+  before_by : (n : ℕ) → both_finished (after n) ≡ false → (after n).first.now + 1 ≤ limit
+  before_by n go =
+      let x : PairHolds host guest requests Nothing (after n) = run_holds n in
+      let most : (after n).first.now ≤ x.off + due_of p scripts =
+      core_most rule order passes p own runs scripts policy are.each (λ k lt. (are.own_runs.runs_are k lt).jobs) run.periods x.off x.at (after n).first x.first.known x.first.keeps x.first.lasts x.first.timed in
+      let most' : (after n).second.now ≤ x.off' + due_of q scripts' =
+      core_most other order' passes' q own' runs' scripts' policy' are'.each (λ k lt. (are'.own_runs.runs_are k lt).jobs) run'.periods x.off' x.at' (after n).second x.second.known x.second.keeps x.second.lasts x.second.timed in
+      ⊎_elim (λ (f : is_finished (after n).first ≡ true).
+      ⊎_elim (λ (y : (after n).second.now + 1 ≤ x.off' + due_of q scripts').
+      omega (arith, most, y, x.same_now, x.spans.time, x.spans.high, x.served, asked_most (after n).first.now p requests))
+      (λ (y : (after n).second.now < last_release q.tasks). omega (arith, y, x.same_now))
+      (core_before other order' passes' q own' runs' scripts' policy' are'.each (λ k lt. (are'.own_runs.runs_are k lt).jobs) run'.periods x.off' x.at' (after n).second x.second.known x.second.keeps x.second.lasts x.second.timed
+      (one_not (is_finished (after n).first) (is_finished (after n).second) go f)))
+      (λ (f : is_finished (after n).first ≡ false).
+      ⊎_elim (λ (y : (after n).first.now + 1 ≤ x.off + due_of p scripts).
+      omega (arith, most', y, x.same_now, x.spans.time, x.spans.high, x.served, asked_most (after n).first.now p requests))
+      (λ (y : (after n).first.now < last_release p.tasks). omega (arith, y))
+      (core_before rule order passes p own runs scripts policy are.each (λ k lt. (are.own_runs.runs_are k lt).jobs) run.periods x.off x.at (after n).first x.first.known x.first.keeps x.first.lasts x.first.timed f))
+      (cases_Bool (is_finished (after n).first))
+
+  none_trapped : (n : ℕ) → one_trapped (after n) ≡ false
+  none_trapped n =
+      let x : PairHolds host guest requests Nothing (after n) = run_holds n in
+      neither (is_some (after n).first.trapped) (is_some (after n).second.trapped) (ap (λ o. is_some o) x.first.known.position.untrapped) (ap (λ o. is_some o) x.second.known.position.untrapped)
+
+  none_full : (n : ℕ) → one_full (after n) ≡ false
+  none_full n =
+      let x : PairHolds host guest requests Nothing (after n) = run_holds n in
+      neither (is_full (after n).first) (is_full (after n).second)
+      (core_room rule order passes p own runs scripts policy are.each (λ k lt. (are.own_runs.runs_are k lt).jobs) run.periods x.off x.at (after n).first x.first.known x.first.keeps x.first.lasts x.first.timed are.outputs are.intervals)
+      (core_room other order' passes' q own' runs' scripts' policy' are'.each (λ k lt. (are'.own_runs.runs_are k lt).jobs) run'.periods x.off' x.at' (after n).second x.second.known x.second.keeps x.second.lasts x.second.timed are'.outputs are'.intervals)
+
+  pub finishes : (n : ℕ) → limit ≤ n → both_finished (after n) ≡ true
+  finishes n le =
+      ⊎_elim (λ (yes : both_finished (after n) ≡ true). yes)
+      (λ (go : both_finished (after n) ≡ false).
+      ⊎_elim (λ (over : is_pair_over (after n) ≡ true). absurd (over_not (both_finished (after n)) (one_trapped (after n)) (one_full (after n)) over go (none_trapped n) (none_full n)))
+      (λ (on : is_pair_over (after n) ≡ false). absurd (omega (arith, run_now n on, before_by n go, le)))
+      (cases_Bool (is_pair_over (after n))))
+      (cases_Bool (both_finished (after n)))
+
+pub pairs_finish : PairsFinish
+pairs_finish rule other order order' passes passes' p q content behind inputs others requests own own' runs runs' scripts scripts' n policy policy' run run' none are are' le =
+    finishes rule other order order' passes passes' p q content behind inputs others requests own own' runs runs' scripts scripts' policy policy' run run' are are' n le

@@ -1,0 +1,60 @@
+-- Two images whose tasks have scripts for all input words are sound together.
+use Rattle.std.proofs.Common.{ℕ, ◌+◌, ◌-◌, ◌≤◌, arith, List, []}
+use Rattle.std.specs.Prelude.{max}
+use Rattle.std.proofs.lemmas.List.Elements.{All-nil}
+use Rattle.prem_gate.specs.declared.request.Request.{Request}
+use Rattle.prem_cycle.specs.State.{Setup}
+use Rattle.prem_cycle.specs.Inputs.{IsTrace, IsRequest}
+use Rattle.prem_sound.specs.Script.Scripts.{Promise, last_release}
+use Rattle.prem_sound.specs.Serve.Requests.{PutWords}
+use Rattle.prem_sound.specs.Sound.{IsRun, HasScripts}
+use Rattle.prem_pair.specs.Laws.PairSound.{last_request, all_costs, due_of, ScriptsFor, GivesScripts, PairsOfImagesAreSound}
+use Rattle.prem_pair.proofs.LawsLemmas.Finishing.{pairs_finish}
+use Rattle.prem_pair.proofs.LawsLemmas.Goodness.{pairs_are_good}
+
+no_trace : (q : Setup) → IsTrace q.devices []
+no_trace q = record { each = All-nil (IsRequest q.devices); ordered = λ i j d le lt. absurd (omega (arith, lt)) }
+
+no_puts : PutWords []
+no_puts i d lt = absurd (omega (arith, lt))
+
+-- what is due within a limit
+due_within : (limit last due : ℕ) → last + due ≤ limit → due ≤ limit - last
+due_within limit last due h = omega (arith, h)
+
+within : (last due due' more more' rest n : ℕ) → due ≤ more → due' ≤ more' → last + (more + more') + rest ≤ n → last + (due + due') + rest ≤ n
+within last due due' more more' rest n a b h = omega (arith, a, b, h)
+
+pub image_run : (passes : ℕ → ℕ) (p : Setup) (content : List ℕ) (promises : List (List ℕ) → ℕ → Promise) (limit : ℕ) (requests : List Request) → GivesScripts passes p content promises limit → IsTrace p.devices requests → PutWords requests → IsRun p content requests
+image_run passes p content promises limit requests h t w = record {
+  runnable = record { plant = h.image.plant; room = h.image.within; devices = h.image.each_device; asked = t.each };
+  periods = λ k d lt. (h.image.each_task k d lt).period.0;
+  apart = h.image.apart;
+  zero = h.zero;
+  words = w;
+}
+
+-- an image with scripts for all lists of words gives them
+pub scripts_given : (passes : ℕ → ℕ) (p : Setup) (content : List ℕ) (promises : List (List ℕ) → ℕ → Promise) (limit : ℕ) → HasScripts passes p content promises limit → GivesScripts passes p content promises limit
+scripts_given passes p content promises limit h = record {
+  image = h.image;
+  zero = h.zero;
+  own = h.own;
+  for_inputs = λ inputs i. record { runs = h.runs inputs; scripts = h.scripts inputs; are_scripts = h.are_scripts inputs i; keep = h.keep inputs i; limits = h.limits inputs i };
+}
+
+pub pairs_of_images : PairsOfImagesAreSound
+pairs_of_images rule other order order' passes passes' p q content behind promises promises' limit limit' policy policy' none h k = record {
+  good = λ inputs others requests n i j t w.
+      let x : ScriptsFor passes p content inputs h.own (promises inputs) limit = h.for_inputs inputs i in
+      let y : ScriptsFor passes' q behind others k.own (promises' others) limit' = k.for_inputs others j in
+      pairs_are_good rule other order order' passes passes' p q content behind inputs others requests h.own k.own x.runs y.runs x.scripts y.scripts (promises inputs) (promises' others) n policy policy'
+      (image_run passes p content promises limit requests h t w) (image_run passes' q behind promises' limit' [] k (no_trace q) no_puts) none x.are_scripts y.are_scripts x.keep y.keep;
+  finished = λ inputs others requests n i j t w le.
+      let x : ScriptsFor passes p content inputs h.own (promises inputs) limit = h.for_inputs inputs i in
+      let y : ScriptsFor passes' q behind others k.own (promises' others) limit' = k.for_inputs others j in
+      pairs_finish rule other order order' passes passes' p q content behind inputs others requests h.own k.own x.runs y.runs x.scripts y.scripts n policy policy'
+      (image_run passes p content promises limit requests h t w) (image_run passes' q behind promises' limit' [] k (no_trace q) no_puts) none x.are_scripts y.are_scripts
+      (within (max (last_release p.tasks) (last_release q.tasks)) (due_of p x.scripts) (due_of q y.scripts) (limit - last_release p.tasks) (limit' - last_release q.tasks) (last_request requests + all_costs p.devices requests) n
+      (due_within limit (last_release p.tasks) (due_of p x.scripts) x.limits) (due_within limit' (last_release q.tasks) (due_of q y.scripts) y.limits) le);
+}

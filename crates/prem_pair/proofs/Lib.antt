@@ -1,0 +1,6 @@
+pub mod Meeting
+pub mod Cycling
+pub mod Going
+pub mod Beginning
+pub mod CyclesLemmas
+pub mod LawsLemmas

@@ -1,0 +1,20 @@
+use Rattle.std.proofs.Common.{◌+◌, ap, sym, ◌∙◌, refl, List}
+use Rattle.prem_list.specs.Sequence.{items_of}
+use Rattle.prem_cycle.specs.State.{MachineState, Task, Work}
+use Rattle.prem_cycle.specs.Cycle.{with_now}
+use Rattle.prem_machine.specs.Parts.{state_of}
+use Rattle.prem_machine.proofs.Settling.{settle_parts}
+use Rattle.prem_machine.proofs.Advancing.{mode_later, same_state, same_tasks}
+use Rattle.prem_pair.proofs.both.end_in_place.Goals as goal
+
+pub settle-requires-clause-ready : goal.settle-requires-clause-ready
+settle-requires-clause-ready g c = mode_later c.args.parts.now.now c.args.parts.now.sched c.args.parts.now.moment.mode c.requires.stands.periods c.requires.goes.ready
+
+pub returns-clause-state : goal.returns-clause-state
+returns-clause-state g c =
+    let old = c.args.parts.now in
+    same_state _ _ refl
+    (let f : List Task → Work = λ tasks. record { tasks = tasks; cache = old.work.cache; memory = old.work.memory } in
+    ap f (same_tasks old.work.cores.items (items_of old.facts.tasks) (items_of c.settle.new.facts.tasks) c.settle.ensures.outputs))
+    c.settle.ensures.sched c.settle.ensures.core refl c.settle.ensures.log refl
+    ∙ sym (ap (λ (s : MachineState). with_now s old.now) (settle_parts (with_now (state_of old) (old.now + 1))))

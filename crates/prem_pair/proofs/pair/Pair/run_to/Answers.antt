@@ -1,0 +1,21 @@
+use Rattle.std.proofs.Common.{◌≡◌, ap, sym, ◌∙◌, subst}
+use Rattle.prem_pair.specs.States.{PairRunning, with_state}
+use Rattle.prem_pair.proofs.Going.{GoesTo, goes_to, ends_at, smaller}
+use Rattle.prem_pair.proofs.pair.Pair.run_to.Goals as goal
+
+pub cycles-preserved : goal.cycles-preserved
+cycles-preserved g c =
+    let new = c.cycle.new.self in
+    let is = ap (λ (m : PairRunning). m.state) c.cycle.ensures.new in
+    let same : with_state c.cycles.self new.state ≡ new = ap (with_state c.cycles.self) is ∙ sym c.cycle.ensures.new in
+    let P : PairRunning → Type 0 = λ m. GoesTo c.args.limit c.args.self.now m in
+    subst P same (goes_to c.args.limit c.args.self.now c.cycles.self new.state c.cycles.invariant (sym c.stop.ensures ∙ c.in_default.is) is
+    c.cycle.ensures.goes_on c.cycle.ensures.stops)
+
+pub returns-in-Some-clause-state : goal.returns-in-Some-clause-state
+returns-in-Some-clause-state g c =
+    ends_at c.args.limit c.args.self.now c.cycles.self c.in-Some.stop c.cycles.invariant (sym c.stop.ensures ∙ c.in-Some.is)
+
+pub cycles-smaller : goal.cycles-smaller
+cycles-smaller g c =
+    smaller c.args.limit c.cycles.self.state c.cycle.new.self.state c.cycles.invariant.within (sym c.stop.ensures ∙ c.in_default.is) c.cycle.ensures.goes_on c.cycle.ensures.stops

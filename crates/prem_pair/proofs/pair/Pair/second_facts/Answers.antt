@@ -1,0 +1,5 @@
+use Rattle.prem_machine.proofs.Telling.{report_told}
+use Rattle.prem_pair.proofs.pair.Pair.second_facts.Goals as goal
+
+pub returns : goal.returns
+returns g c = rw (← c.self.view_is) (report_told _ _ c.self.inside.both.second c.self.invariant.stands.second)

@@ -1,0 +1,7 @@
+pub mod Sides
+pub mod States
+pub mod PairFields
+pub mod Nobody
+pub mod BothOf
+pub mod Cycles
+pub mod Laws

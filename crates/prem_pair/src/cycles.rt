@@ -1,0 +1,7 @@
+//! Two cores with a cache and a memory each, the devices of the first, and the one bus that goes by a token.
+mod laws;
+mod state;
+
+pub use laws::pair_runs_compose;
+pub use prem_cycle::{Cause, Facts};
+pub use state::{Holder, PairStop};

@@ -1,0 +1,14 @@
+// What every run of two cores keeps.
+ghost use Rattle.std.specs.Prelude.{◌≡◌, ◌+◌, ℕ, List, true};
+ghost use Rattle.prem_lru.specs.Entries.{ReplacementRule};
+ghost use Rattle.prem_gate.specs.declared.request.Request.{Request};
+ghost use Rattle.prem_cycle.specs.State.{Setup};
+ghost use Rattle.prem_pair.specs.Cycles.Pair.{PairState, is_pair_over, pair_cycles};
+
+/// Runs compose. A state in which both cores have ended all jobs, one has trapped or one has a full log stays as it is.
+pub fn pair_runs_compose()
+    ensures state { (rule other : ReplacementRule) (p q : Setup) (requests : List Request) (m n : ℕ) (s : PairState)
+        → pair_cycles rule other p q requests (m + n) s ≡ pair_cycles rule other p q requests n (pair_cycles rule other p q requests m s) }
+    ensures stays { (rule other : ReplacementRule) (p q : Setup) (requests : List Request) (n : ℕ) (s : PairState)
+        → is_pair_over s ≡ true → pair_cycles rule other p q requests n s ≡ s }
+{}

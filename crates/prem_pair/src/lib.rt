@@ -1,0 +1,18 @@
+//! Two cores on one bus: a run of two images that goes cycle by cycle, each the cycle that the definitions give.
+//!
+//! - `cycles`: two cores with a cache and a memory each, the devices of the first, and the one bus that goes by a
+//!   token.
+//! - `laws`: every state of a run of two cores whose tasks keep to their scripts is good, and it finishes by its
+//!   limit.
+#![tactic(auto)]
+
+mod both;
+pub mod cycles;
+pub mod laws;
+mod pair;
+mod side;
+mod token;
+
+pub use crate::cycles::{Holder, PairStop};
+pub use pair::Pair;
+pub use prem_machine::{Cause, Facts};
