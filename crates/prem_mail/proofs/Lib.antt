@@ -1,0 +1,12 @@
+pub mod FromInputs
+pub mod Bringing
+pub mod Stepping
+pub mod Finds
+pub mod Steps
+pub mod Runs
+pub mod Kept
+pub mod Left
+pub mod Beginning
+pub mod Going
+pub mod Lawful
+mod Rows
