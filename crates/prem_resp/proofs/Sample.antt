@@ -1,0 +1,40 @@
+-- The set of two tasks, computed: it fits, and so its jobs end in time.
+use Rattle.std.proofs.Common.{◌≡◌, refl, ap, ◌∙◌, ℕ, zero, suc, ◌<◌, arith, List, [], ◌∷◌, length}
+use Rattle.std.specs.Prelude.{All}
+use Rattle.prem_busy.specs.declared.load.Load.{Load}
+use Rattle.prem_busy.specs.declared.length.Busy.{Busy}
+use Rattle.prem_busy.specs.declared.length.Busy.TheVariants.{Within}
+use Rattle.prem_busy.specs.Busy.{IsLoad}
+use Rattle.prem_busy.specs.Found.{busy_of}
+use Rattle.prem_busy.proofs.First.{busy_found, found_once}
+use Rattle.prem_busy.proofs.Steps.{found}
+use Rattle.prem_sets_sound.specs.Accepted.Accepted.{setup_in}
+use Rattle.prem_sets_sound.proofs.AcceptedLemmas.Sample.{sample, sample_values, sample_breaks_nothing}
+use Rattle.prem_resp.proofs.TimelyLemmas.Sample.{sample_loads}
+use Rattle.prem_resp.specs.Lines.{all_within}
+use Rattle.prem_resp.specs.Fits.{loads_in, found_in, EndsInTime}
+use Rattle.prem_resp.proofs.Fits.{fitting_sets_end_in_time}
+
+abbrev loads : List Load
+loads = record { period = 20000; cost = 2610; longest = 2020 } ∷ record { period = 50000; cost = 295; longest = 295 } ∷ []
+
+are_loads : All IsLoad loads
+are_loads zero d lt = record { period = omega arith; cost = omega arith; small = omega arith; longest = omega arith }
+are_loads (suc zero) d lt = record { period = omega arith; cost = omega arith; small = omega arith; longest = omega arith }
+are_loads (suc (suc k)) d lt = absurd (omega (arith, lt))
+
+abbrev lengths : List Busy
+lengths = Within 2905 ∷ Within 2905 ∷ []
+
+first_found : busy_of loads 0 ≡ Within 2905
+first_found = found_once loads 0 (busy_of loads 0) (Within 2905) (busy_found loads 0) (found loads 0 1 2905 are_loads refl refl (omega arith) (omega arith))
+
+second_found : busy_of loads 1 ≡ Within 2905
+second_found = found_once loads 1 (busy_of loads 1) (Within 2905) (busy_found loads 1) (found loads 1 2 2905 are_loads refl refl (omega arith) (omega arith))
+
+sample_found : found_in (loads_in sample) ≡ lengths
+sample_found = ap found_in sample_loads ∙ ap (λ b. b ∷ busy_of loads 1 ∷ []) first_found ∙ ap (λ b. Within 2905 ∷ b ∷ []) second_found
+
+-- three jobs, 20000 cycles apart, and one job behind them
+sample_ends : (i : ℕ) → i < length (setup_in sample).tasks → EndsInTime sample i
+sample_ends = fitting_sets_end_in_time sample sample_values sample_breaks_nothing (ap all_within sample_found)

@@ -1,0 +1,4 @@
+pub mod Lines
+pub mod Fits
+pub mod Timed
+pub mod Timely

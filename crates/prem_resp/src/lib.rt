@@ -1,0 +1,11 @@
+//! The response test of a compiled set: where it says yes, all jobs end within their periods.
+//!
+//! - `timed`: the jobs of an image whose tasks join at their pace end in time.
+//! - `timely`: the jobs of a compiled set end in time where the busy periods of its loads are within the periods.
+#![tactic(auto)]
+
+mod laws;
+pub mod timed;
+pub mod timely;
+
+pub use laws::fitting_sets_end_in_time;
