@@ -1,0 +1,16 @@
+# Completions of prem for fish: put this file into ~/.config/fish/completions.
+complete -c prem -f
+complete -c prem -n __fish_use_subcommand -a one -d 'run one program'
+complete -c prem -n __fish_use_subcommand -a check -d 'bounds of a set, or the rule that it breaks'
+complete -c prem -n __fish_use_subcommand -a build -d 'write the image of a set'
+complete -c prem -n __fish_use_subcommand -a list -d 'list the code of a set'
+complete -c prem -n __fish_use_subcommand -a source -d 'outputs that the sources mean'
+complete -c prem -n __fish_use_subcommand -a run -d 'run a set on the cycle machine'
+complete -c prem -n __fish_use_subcommand -a exec -d 'run an image on the cycle machine'
+complete -c prem -n __fish_use_subcommand -a sample -d 'run a set that is drawn from a number'
+complete -c prem -n '__fish_seen_subcommand_from one' -a '(__fish_complete_suffix .c)'
+complete -c prem -n '__fish_seen_subcommand_from check build list' -a '(__fish_complete_suffix .toml)'
+complete -c prem -n '__fish_seen_subcommand_from source run' -a '(__fish_complete_suffix .toml; __fish_complete_suffix .run)'
+complete -c prem -n '__fish_seen_subcommand_from exec' -a '(__fish_complete_suffix .img; __fish_complete_suffix .run)'
+complete -c prem -n '__fish_seen_subcommand_from run exec' -l cycles -x -d 'stop after N cycles'
+complete -c prem -n '__fish_seen_subcommand_from run exec' -l intervals -d 'tell intervals and transfers'
