@@ -7,7 +7,7 @@ use Rattle.prem_plant.specs.Places.{Extent}
 use Rattle.prem_syntax.specs.Syntax.{MarkText}
 use Rattle.prem_meaning.specs.Resolved.{Routine, Resolved}
 use Rattle.prem_layout.specs.Plans.{Plan, plan_of, plan_before, plans_from}
-use Rattle.prem_layout.specs.Parts.{Passes, once, times, passes_of, code_part}
+use Rattle.prem_layout.specs.Parts.{Passes, once, times, stub_passes, code_part}
 use Rattle.prem_layout.specs.Footprint.{TaskPlaces, ranges_of}
 use Rattle.prem_layout.specs.Stubs.{ranges_code, passes_code, predictable_code, return_code, stub_of}
 use Rattle.prem_layout.specs.Bounds.{first_call, is_part, stub_calling}
@@ -81,4 +81,4 @@ in_order p n (f ∷ fs) k plan e = by f.text.mark k e (λ j h. in_order p (n + 1
 
 pub stubs_are_in_order : StubsAreInOrder
 stubs_are_in_order p c at k plan e =
-    number_is (passes_of p) p.line at plan.function (plans_from c.program 0 c.program.routines) ∙ in_order c.program 0 c.program.routines k plan e
+    number_is (stub_passes p) p.line at plan.function (plans_from c.program 0 c.program.routines) ∙ in_order c.program 0 c.program.routines k plan e

@@ -15,7 +15,7 @@ use Rattle.prem_sound.specs.Script.Scripts.{Promise}
 use Rattle.prem_sound.proofs.ResidentLemmas.Policies.{kind_policy}
 use Rattle.prem_cycle.specs.Alone.{run_in}
 use Rattle.prem_template.specs.Parts.{parts_of, codes_of}
-use Rattle.prem_layout.specs.Parts.{pass_count, passes_under, passes_of as stub_passes, part_count}
+use Rattle.prem_layout.specs.Parts.{pass_count, passes_under, stub_passes, part_count}
 use Rattle.prem_layout.specs.Placed.{Coded, Placed, placed_at, placed_from, task_places}
 use Rattle.prem_layout.specs.Image.{task_record}
 use Rattle.prem_stub_laws.specs.Own.Owned.{own_of, setup_of}

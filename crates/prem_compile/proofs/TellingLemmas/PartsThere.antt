@@ -11,7 +11,7 @@ use Rattle.prem_meaning.specs.Resolved.{Routine, Resolved}
 use Rattle.prem_asm.specs.Pieces.{size_of}
 use Rattle.prem_layout.specs.Plans.{Plan, plan_before, plans_from, plans_of}
 use Rattle.prem_template.specs.Frames.{stack_size}
-use Rattle.prem_layout.specs.Parts.{Passes, passes_of, part, code_parts, stub_parts, global_parts, task_parts, parts_from, area_parts}
+use Rattle.prem_layout.specs.Parts.{Passes, stub_passes, part, code_parts, stub_parts, global_parts, task_parts, parts_from, area_parts}
 use Rattle.prem_layout.specs.Placed.{Coded, sized_of, parts_of}
 use Rattle.prem_compile.specs.Telling.There.{HasCode, IsIn, IsAmong, IsThere}
 use Rattle.prem_compile.specs.Telling.Laws.{PartsAreThere}
@@ -89,4 +89,4 @@ pub parts_there : PartsAreThere
 parts_there p devices tasks codes =
     let among : (k : ℕ) (kind : PartKind) → IsAmong tasks k kind → IsAmong tasks (0 + k) kind = λ k kind h. subst (λ m. IsAmong tasks m kind) (omega arith) h in
     all_from (IsThere devices tasks) (parts_of p devices tasks)
-    (joined (IsThere devices tasks) (parts_from (passes_of p) 0 (map sized_of tasks)) (area_parts p.line 0 devices) (tasks_there devices tasks (passes_of p) 0 tasks among codes) (areas_there devices tasks p.line 0 devices (omega arith)))
+    (joined (IsThere devices tasks) (parts_from (stub_passes p) 0 (map sized_of tasks)) (area_parts p.line 0 devices) (tasks_there devices tasks (stub_passes p) 0 tasks among codes) (areas_there devices tasks p.line 0 devices (omega arith)))

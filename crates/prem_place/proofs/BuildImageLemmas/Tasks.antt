@@ -11,7 +11,7 @@ use Rattle.prem_meaning.specs.Resolved.{Routine}
 use Rattle.prem_template.specs.Frames.{stack_size}
 use Rattle.prem_asm.specs.Pieces.{Pieces, size_of}
 use Rattle.prem_layout.specs.Plans.{Plan, plans_of}
-use Rattle.prem_layout.specs.Parts.{Passes, passes_of, part, start_size, code_parts, stub_parts, global_parts, task_parts, parts_from, part_count}
+use Rattle.prem_layout.specs.Parts.{Passes, stub_passes, part, start_size, code_parts, stub_parts, global_parts, task_parts, parts_from, part_count}
 use Rattle.prem_layout.specs.Footprint.{TaskPlaces, place_at, no_place}
 use Rattle.prem_layout.specs.Stubs.{stub_of}
 use Rattle.prem_layout.specs.Bounds.{start_code}
@@ -84,13 +84,13 @@ globals_end end t task n (g ∷ gs) h =
 sixteens : (a b c : ℕ) → a ≡ b + c → b % 16 ≡ 0 → c % 16 ≡ 0 → a % 16 ≡ 0
 sixteens a b c e x y = omega (arith, e, x, y)
 
-task_laid : (p : Plant) (task end : ℕ) (c : Coded) (places : List Extent) → HasCode c → Stand end (place_at (task_places c.program places)) 0 (task_parts (passes_of p) task (map size_of c.code) c.program) →
+task_laid : (p : Plant) (task end : ℕ) (c : Coded) (places : List Extent) → HasCode c → Stand end (place_at (task_places c.program places)) 0 (task_parts (stub_passes p) task (map size_of c.code) c.program) →
     IsLaid end (placed_at p c (task_places c.program places))
 task_laid p task end c places long h =
     let at = task_places c.program places in
     let f = place_at at in
     let cs = code_parts task 0 (map size_of c.code) in
-    let ss = stub_parts (passes_of p) task (plans_of c.program) in
+    let ss = stub_parts (stub_passes p) task (plans_of c.program) in
     let gs = global_parts task 0 c.program.globals in
     let stack : List PartSize = part task Stack (stack_size c.program) 16 ∷ [] in
     let first : IsAt end (part task Start start_size 4) (f 0) = h.0 in
@@ -120,25 +120,25 @@ task_laid p task end c places long h =
         one_ends end at job_name 0 (start_code c.program.job) (part task Start start_size 4) (start_sized c.program.job) first,
         all_append (Ends end)
             (blocks_from at 1 (map (λ (r : Routine). r.text.name) c.program.routines) c.code)
-            (blocks_from at (1 + at.functions) (map (λ (plan : Plan). name_at c.program.routines plan.function) (plans_of c.program)) (map (stub_of (passes_of p) p.line at) (plans_of c.program)))
+            (blocks_from at (1 + at.functions) (map (λ (plan : Plan). name_at c.program.routines plan.function) (plans_of c.program)) (map (stub_of (stub_passes p) p.line at) (plans_of c.program)))
             (blocks_end end at 1 (map (λ (r : Routine). r.text.name) c.program.routines) c.code cs (code_sized task 0 c.code) hc)
-            (blocks_end end at (1 + at.functions) (map (λ (plan : Plan). name_at c.program.routines plan.function) (plans_of c.program)) (map (stub_of (passes_of p) p.line at) (plans_of c.program)) ss
-            (stubs_sized (passes_of p) p.line task at (plans_of c.program)) (subst (λ k. Stand end f k ss) zs hs)),
+            (blocks_end end at (1 + at.functions) (map (λ (plan : Plan). name_at c.program.routines plan.function) (plans_of c.program)) (map (stub_of (stub_passes p) p.line at) (plans_of c.program)) ss
+            (stubs_sized (stub_passes p) p.line task at (plans_of c.program)) (subst (λ k. Stand end f k ss) zs hs)),
       );
       globals = globals_end end at task 0 c.program.globals (subst (λ k. Stand end f k gs) zg hg);
     }
 
 -- ---- all tasks
 
-pub all_laid : (p : Plant) (memory end n first : ℕ) (whole : List Extent) (cs : List Coded) → AllByRecursion HasCode cs → Stand memory (place_in whole) first (parts_from (passes_of p) n (map sized_of cs)) →
+pub all_laid : (p : Plant) (memory end n first : ℕ) (whole : List Extent) (cs : List Coded) → AllByRecursion HasCode cs → Stand memory (place_in whole) first (parts_from (stub_passes p) n (map sized_of cs)) →
     ((i : ℕ) → i < first + part_total cs → (place_in whole i).1 ≤ end) → AllByRecursion (IsLaid end) (placed_from p (drop first whole) cs)
 all_laid p memory end n first whole [] code h within = tt
 all_laid p memory end n first whole (c ∷ cs) code h within =
     let count = part_count c.program in
-    let parts = task_parts (passes_of p) n (map size_of c.code) c.program in
-    let others = parts_from (passes_of p) (n + 1) (map sized_of cs) in
+    let parts = task_parts (stub_passes p) n (map size_of c.code) c.program in
+    let others = parts_from (stub_passes p) (n + 1) (map sized_of cs) in
     let places = drop first whole in
-    let long : length parts ≡ count = task_counted (passes_of p) n c code.0 in
+    let long : length parts ≡ count = task_counted (stub_passes p) n c code.0 in
     let here : Stand memory (place_in whole) first parts = stand_left memory (place_in whole) first parts others h in
     let there : Stand memory (place_in whole) (first + length parts) others = stand_right memory (place_in whole) first parts others h in
     let next : Stand memory (place_in whole) (first + count) others = subst (λ k. Stand memory (place_in whole) (first + k) others) long there in

@@ -16,7 +16,7 @@ use Rattle.prem_image.specs.Records.{IsTask, IsImage, IsPlaced, task_names as re
 use Rattle.prem_tree.specs.declared.resolve.resolved.Routine.{Routine}
 use Rattle.prem_tree.specs.Resolve.ResolvedOf.{loops_of, routines_of as plain_routines}
 use Rattle.prem_layout.specs.Plans as plans
-use Rattle.prem_layout.specs.Parts.{passes_of, part_count, parts_from, area_parts}
+use Rattle.prem_layout.specs.Parts.{stub_passes, part_count, parts_from, area_parts}
 use Rattle.prem_image.specs.Text.{ImageText}
 use Rattle.prem_layout.specs.Image.{greatest_end, task_record, device_records, with_tasks, image_of}
 use Rattle.prem_layout.specs.Placed.{sized_of, Placed, Block, task_places, placed_at, placed_from, part_total, blocks_of}
@@ -115,15 +115,15 @@ pub record EndsAt (p : Plant) (tasks : List PlacedTask) (end : ℕ) : Type 0 whe
   pub within : end ≤ p.memory
 
 counted : (p : Plant) (tasks : List PlacedTask) (bss : List (List BlockFound)) (devices : List Device) (whole : List Extent) → IsBuilt p tasks bss devices whole →
-    length (parts_from (passes_of p) 0 (map sized_of (map coded_of tasks))) ≡ part_total (map coded_of tasks)
-counted p tasks bss devices whole b = tasks_counted (passes_of p) 0 (map coded_of tasks) (coded_all tasks b.each_task)
+    length (parts_from (stub_passes p) 0 (map sized_of (map coded_of tasks))) ≡ part_total (map coded_of tasks)
+counted p tasks bss devices whole b = tasks_counted (stub_passes p) 0 (map coded_of tasks) (coded_all tasks b.each_task)
 
 pub ends_at : (p : Plant) (tasks : List PlacedTask) (bss : List (List BlockFound)) (devices : List Device) (whole : List Extent) → IsBuilt p tasks bss devices whole → EndsAt p tasks (greatest_end (take (part_total (map coded_of tasks)) whole))
 ends_at p tasks bss devices whole b =
     let cs = map coded_of tasks in
     let total = part_total cs in
     let end = greatest_end (take total whole) in
-    let parts = parts_from (passes_of p) 0 (map sized_of cs) in
+    let parts = parts_from (stub_passes p) 0 (map sized_of cs) in
     let long : length parts ≡ total = counted p tasks bss devices whole b in
     let here : Stand p.memory (place_in whole) 0 parts = stand_left p.memory (place_in whole) 0 parts (area_parts p.line 0 devices) (all_stand p.memory (parts ++ area_parts p.line 0 devices) whole b.placed) in
     record {
@@ -136,7 +136,7 @@ first_is p tasks bss devices whole b = total_is p whole tasks b.same
 
 pub places_long : (p : Plant) (tasks : List PlacedTask) (bss : List (List BlockFound)) (devices : List Device) (whole : List Extent) → IsBuilt p tasks bss devices whole → length whole ≡ total_of tasks + length devices
 places_long p tasks bss devices whole b =
-    let parts = parts_from (passes_of p) 0 (map sized_of (map coded_of tasks)) in
+    let parts = parts_from (stub_passes p) 0 (map sized_of (map coded_of tasks)) in
     let a = first_is p tasks bss devices whole b in
     let long = counted p tasks bss devices whole b in
     whole_long p.memory p.line (total_of tasks) parts devices whole (long ∙ sym a) b.placed
@@ -159,7 +159,7 @@ records_lawful : (p : Plant) (tasks : List PlacedTask) (bss : List (List BlockFo
     length content ≡ greatest_end (take (part_total (map coded_of tasks)) whole) → IsImage p (map task_record (map placed_of tasks)) (device_records devices (drop (part_total (map coded_of tasks)) whole)) content
 records_lawful p tasks bss devices whole content b long =
     let total = part_total (map coded_of tasks) in
-    let parts = parts_from (passes_of p) 0 (map sized_of (map coded_of tasks)) in
+    let parts = parts_from (stub_passes p) 0 (map sized_of (map coded_of tasks)) in
     let e = ends_at p tasks bss devices whole b in
     let within = e.within in
     let stand = areas_stand p.memory p.line total parts devices whole (counted p tasks bss devices whole b) b.placed in

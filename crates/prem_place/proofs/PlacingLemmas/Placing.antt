@@ -19,7 +19,7 @@ use Rattle.prem_asm.specs.declared.piece.Piece.{Piece}
 use Rattle.prem_asm.specs.PiecesOf.{pieces_of}
 use Rattle.prem_template.specs.Parts.{parts_of}
 use Rattle.prem_layout.specs.Plans as layout
-use Rattle.prem_layout.specs.Parts.{passes_of, part_count}
+use Rattle.prem_layout.specs.Parts.{stub_passes, part_count}
 use Rattle.prem_layout.specs.Footprint.{TaskPlaces}
 use Rattle.prem_layout.specs.Stubs.{stub_of}
 use Rattle.prem_layout.specs.Placed.{Coded, placed_at, task_places}
@@ -85,7 +85,7 @@ module _ (p : Plant) (task : CodedTask) (places : List Extent) (plant : IsPlant 
 
   -- the task at these places, with these stubs
   module _ (t : TaskPlaces) (plans : List IntervalPlan) (stubs : Sequence (Sequence Piece)) (et : t ≡ places_in task.program.now places) (ep : plans ≡ items_of task.plans)
-      (es : listed (items_of stubs) ≡ map (stub_of (passes_of p) p.line t) (map plan_of plans)) where
+      (es : listed (items_of stubs) ≡ map (stub_of (stub_passes p) p.line t) (map plan_of plans)) where
     abbrev placed : PlacedTask
     placed = record {
       name = task.name;
@@ -98,10 +98,10 @@ module _ (p : Plant) (task : CodedTask) (places : List Extent) (plant : IsPlant 
       table = record { code = task.code; stubs = stubs; job = task.program.now.job };
     }
 
-    stubs_are : listed (items_of stubs) ≡ map (stub_of (passes_of p) p.line at) (layout.plans_of c.program)
+    stubs_are : listed (items_of stubs) ≡ map (stub_of (stub_passes p) p.line at) (layout.plans_of c.program)
     stubs_are =
-        es ∙ ap (λ (q : TaskPlaces). map (stub_of (passes_of p) p.line q) (map plan_of plans)) (at_is t et)
-        ∙ ap (λ (is : List IntervalPlan). map (stub_of (passes_of p) p.line at) (map plan_of is)) ep ∙ ap (map (stub_of (passes_of p) p.line at)) h.plans
+        es ∙ ap (λ (q : TaskPlaces). map (stub_of (stub_passes p) p.line q) (map plan_of plans)) (at_is t et)
+        ∙ ap (λ (is : List IntervalPlan). map (stub_of (stub_passes p) p.line at) (map plan_of is)) ep ∙ ap (map (stub_of (stub_passes p) p.line at)) h.plans
 
     pub placed_is : placed_of placed ≡ placed_at p c at
     placed_is = λ i. record { task = c; at = at_is t et i; plans = h.plans i; table = record { code = c.code; stubs = stubs_are i; job = c.program.job } }
@@ -117,7 +117,7 @@ module _ (p : Plant) (task : CodedTask) (places : List Extent) (plant : IsPlant 
         let code : length (items_of task.code) ≡ length (items_of task.program.now.routines) =
         sym (length-map (items_of task.code) (λ (s : Sequence Piece). pieces_of (items_of s))) ∙ code_long task h ∙ routines_long (slice_index task.turns.now) 0 (items_of task.program.now.routines) in
         let stubs_long : length (items_of stubs) ≡ length (layout.plans_of c.program) =
-        sym (length-map (items_of stubs) (λ (s : Sequence Piece). pieces_of (items_of s))) ∙ ap length stubs_are ∙ length-map (layout.plans_of c.program) (stub_of (passes_of p) p.line at) in
+        sym (length-map (items_of stubs) (λ (s : Sequence Piece). pieces_of (items_of s))) ∙ ap length stubs_are ∙ length-map (layout.plans_of c.program) (stub_of (stub_passes p) p.line at) in
         let count = ap (λ (q : Resolved). length (layout.plans_of q)) h.same in
         record {
           same = placed_is ∙ ap (placed_at p c) (sym e);

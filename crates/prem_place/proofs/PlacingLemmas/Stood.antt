@@ -18,7 +18,7 @@ use Rattle.prem_template.specs.Limits.{excess}
 use Rattle.prem_template.specs.Steps.{Parts}
 use Rattle.prem_template.specs.Parts.{parts_of, codes_of}
 use Rattle.prem_layout.specs.Plans.{Plan, plan_before, plans_from, plans_of}
-use Rattle.prem_layout.specs.Parts.{pass_count, passes_of, part_count, task_parts, parts_from, area_parts}
+use Rattle.prem_layout.specs.Parts.{pass_count, stub_passes, part_count, task_parts, parts_from, area_parts}
 use Rattle.prem_layout.specs.Footprint.{TaskPlaces}
 use Rattle.prem_layout.specs.Stubs.{stub_of}
 use Rattle.prem_layout.specs.Bounds.{start_code}
@@ -97,7 +97,7 @@ made_stands target p name period jobs text bounds places plant formed none rises
     let q : Resolved = resolve bounds text in
     let code : List Pieces = codes_of (parts_of target q.routines) q.routines in
     let at : TaskPlaces = task_places q places in
-    let stubs : List Pieces = map (stub_of (passes_of p) p.line at) (plans_of q) in
+    let stubs : List Pieces = map (stub_of (stub_passes p) p.line at) (plans_of q) in
     let starts : List ℕ = starts_of at in
     let line = plant.line in
     let memory = plant.memory in
@@ -110,14 +110,14 @@ made_stands target p name period jobs text bounds places plant formed none rises
     let small : p.memory ≤ 2 ^ 24 = omega (arith, memory.1) in
     let short : p.line < 2 ^ 11 = omega (arith, line.1) in
     let least = passes_are_few p plant in
-    let few : pass_count (passes_of p) < 2 ^ 11 = omega (arith, least.1) in
-    let st : Stands (passes_of p) p.line p.memory rises.number q code places = first_stands (passes_of p) p.line p.memory rises.least rises.number q code rises.others places long small rises.rise in
+    let few : pass_count (stub_passes p) < 2 ^ 11 = omega (arith, least.1) in
+    let st : Stands (stub_passes p) p.line p.memory rises.number q code places = first_stands (stub_passes p) p.line p.memory rises.least rises.number q code rises.others places long small rises.rise in
     let sized : length (map size_of code) ≡ length q.routines = length-map code size_of ∙ long in
-    let words : ProgramHasWords target q (passes_of p) p.line at starts = programs_have_words target text bounds (passes_of p) p.line at starts formed none few short st.addresses in
+    let words : ProgramHasWords target q (stub_passes p) p.line at starts = programs_have_words target text bounds (stub_passes p) p.line at starts formed none few short st.addresses in
     let one : List Pieces = start_code q.job ∷ [] in
     let within : EndWithin (slice_index starts) 0 (one ++ (code ++ stubs)) = subst (λ (f : ℕ → ℕ). EndWithin f 0 (one ++ (code ++ stubs))) (sym st.same) st.within in
     record {
-      plans = plans_stand (passes_of p) p.memory rises.number text bounds (map size_of code) places formed small sized st.parts;
+      plans = plans_stand (stub_passes p) p.memory rises.number text bounds (map size_of code) places formed small sized st.parts;
       standing = record {
         fit = record {
           first_fit = (words.start, tt);
@@ -132,7 +132,7 @@ made_stands target p name period jobs text bounds places plant formed none rises
         plans = refl;
         aligned = aligned_all starts st.addresses.aligned;
         same = st.same;
-        parts = record { code = long; functions = refl; stubs = length-map (plans_of q) (stub_of (passes_of p) p.line at) };
+        parts = record { code = long; functions = refl; stubs = length-map (plans_of q) (stub_of (stub_passes p) p.line at) };
         rises = st.rises;
         job = job.there;
         named = job.named;
@@ -156,14 +156,14 @@ all_rise p cs places plant h =
     let parts : List PartSize = layout.parts_of p h.devices cs in
     let line = plant.line in
     let one : 1 ≤ p.line = omega (arith, line.0) in
-    let may = parts_may_be_placed (passes_of p) p.line (map sized_of cs) h.devices one in
+    let may = parts_may_be_placed (stub_passes p) p.line (map sized_of cs) h.devices one in
     let rise : Rise p.memory 0 parts (default_places parts) = defaults_rise p.memory parts may.0 (subst (λ (ps : List Extent). last_end ps ≤ p.memory) h.same h.within) in
     record { least = 0; number = 0; others = area_parts p.line 0 h.devices; rise = subst (Rise p.memory 0 parts) (sym h.same) rise }
 
 pub first_rises : (p : Plant) (c : Coded) (cs : List Coded) (places : List Extent) → TasksRise p (c ∷ cs) places → TaskRises p c places
 first_rises p c cs places h =
-    let mine : List PartSize = task_parts (passes_of p) h.number (map size_of c.code) c.program in
-    let more : List PartSize = parts_from (passes_of p) (h.number + 1) (map sized_of cs) in
+    let mine : List PartSize = task_parts (stub_passes p) h.number (map size_of c.code) c.program in
+    let more : List PartSize = parts_from (stub_passes p) (h.number + 1) (map sized_of cs) in
     record {
       least = h.least;
       number = h.number;
@@ -176,7 +176,7 @@ unfolding first_rises
 rest_rises p c cs places long h =
     let t = first_rises p c cs places h in
     let rest : RestRises p.memory t.others (drop (part_count c.program) places) =
-    others_rise (passes_of p) p.memory t.least t.number c.program (map size_of c.code) t.others places (length-map c.code size_of ∙ long) t.rise in
+    others_rise (stub_passes p) p.memory t.least t.number c.program (map size_of c.code) t.others places (length-map c.code size_of ∙ long) t.rise in
     record { least = rest.least; number = h.number + 1; others = h.others; rise = rest.rises }
 
 drop_nil : {A : Type 0} (n : ℕ) → drop {A = A} n [] ≡ []

@@ -5,7 +5,7 @@ use Rattle.prem_plant.specs.declared.layout.PartSize.{PartSize}
 use Rattle.prem_plant.specs.Places.{Extent}
 use Rattle.prem_asm.specs.Pieces.{size_of}
 use Rattle.prem_layout.specs.Plans.{plans_of}
-use Rattle.prem_layout.specs.Parts.{passes_of, task_parts, parts_from, part_count}
+use Rattle.prem_layout.specs.Parts.{stub_passes, task_parts, parts_from, part_count}
 use Rattle.prem_layout.specs.Bounds.{start_code}
 use Rattle.prem_layout.specs.Placed.{Coded, Placed, sized_of, job_name, name_at}
 use Rattle.prem_place.specs.Flat.Flat.{AreFit}
@@ -19,14 +19,14 @@ pub record TaskRises (p : Plant) (c : Coded) (places : List Extent) : Type 0 whe
   pub least : ℕ
   pub number : ℕ
   pub others : List PartSize
-  pub rise : Rise p.memory least (task_parts (passes_of p) number (map size_of c.code) c.program ++ others) places
+  pub rise : Rise p.memory least (task_parts (stub_passes p) number (map size_of c.code) c.program ++ others) places
 
 -- the parts of tasks rise, and others behind them
 pub record TasksRise (p : Plant) (cs : List Coded) (places : List Extent) : Type 0 where
   pub least : ℕ
   pub number : ℕ
   pub others : List PartSize
-  pub rise : Rise p.memory least (parts_from (passes_of p) number (map sized_of cs) ++ others) places
+  pub rise : Rise p.memory least (parts_from (stub_passes p) number (map sized_of cs) ++ others) places
 
 -- a placed task whose code has words at the starts of its parts, but for jumps out of reach, and whose `job` is named so
 pub record IsStanding (t : Placed) : Type 0 where

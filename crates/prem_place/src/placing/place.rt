@@ -6,7 +6,7 @@ ghost use Rattle.prem_plant.specs.Ranges.{IsPlant};
 ghost use Rattle.prem_split.specs.PlanOf.{plan_of};
 ghost use Rattle.prem_foot.specs.PlacesOf.{IsPlanAt};
 ghost use Rattle.prem_bounds.specs.TableOf.{listed};
-ghost use Rattle.prem_layout.specs.Parts.{passes_of, part_count};
+ghost use Rattle.prem_layout.specs.Parts.{stub_passes, part_count};
 ghost use Rattle.prem_layout.specs.Stubs.{stub_of};
 ghost use Rattle.prem_layout.specs.Placed.{placed_at, placed_from, task_places};
 ghost use Rattle.prem_place.specs.Placed.PlacedOf.{IsPlacedTask, placed_of};
@@ -33,7 +33,7 @@ fn stubs_of(
 ) -> Result<Sequence<Sequence<Piece>>, AllocError>
     requires plans { AllByRecursion (IsPlanAt places.now) (map plan_of plans.now) }
     requires plant { IsPlant p.now }
-    ensures { IfOk result (λ stubs. listed (items_of stubs) ≡ map (stub_of (passes_of p.now) p.now.line places.now) (map plan_of plans.now)) }
+    ensures { IfOk result (λ stubs. listed (items_of stubs) ≡ map (stub_of (stub_passes p.now) p.now.line places.now) (map plan_of plans.now)) }
 {
     let mut stubs = Sequence::new(alloc);
     for plan in plans {

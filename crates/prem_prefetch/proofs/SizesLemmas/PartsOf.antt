@@ -18,7 +18,7 @@ use Rattle.prem_asm.specs.Pieces.{Pieces, size_of}
 use Rattle.prem_asm.specs.PiecesOf.{pieces_of}
 use Rattle.prem_template.specs.Frames.{stack_size}
 use Rattle.prem_layout.specs.Plans.{Plan}
-use Rattle.prem_layout.specs.Parts.{Passes, passes_of, part, code_parts, stub_parts, global_parts, task_parts, parts_from, area_parts}
+use Rattle.prem_layout.specs.Parts.{Passes, stub_passes, part, code_parts, stub_parts, global_parts, task_parts, parts_from, area_parts}
 use Rattle.prem_layout.specs.Placed.{Coded, sized_of}
 use Rattle.prem_layout.proofs.Lawful.{whole_areas, areas_may, code_may, globals_may, all_aligned, may_append, AllMay}
 use Rattle.prem_layout.proofs.TaskParts.{code_counted, globals_counted, areas_counted}
@@ -51,7 +51,7 @@ tasks_same passes n (t ∷ ts) (c ∷ cs) h =
     ∙ ap (λ (ps : List PartSize). task_parts passes n (map size_of c.code) c.program ++ ps) (tasks_same passes (n + 1) ts cs h.1)
 
 pub parts_are_exact : PartsAreExact
-parts_are_exact p devices tasks coded h = ap (λ (ps : List PartSize). ps ++ area_parts p.line 0 devices) (tasks_same (passes_of p) 0 tasks coded h)
+parts_are_exact p devices tasks coded h = ap (λ (ps : List PartSize). ps ++ area_parts p.line 0 devices) (tasks_same (stub_passes p) 0 tasks coded h)
 
 -- ---- few parts
 
@@ -105,7 +105,7 @@ tasks_may passes line n (t ∷ ts) =
 pub parts_may_have_places : (p : Plant) (devices : List Device) (tasks : List SizedTask) → 1 ≤ p.line → AllByRecursion MayHaveParts tasks → length tasks ≤ 16 → length devices ≤ 8 →
     MayHavePlaces p.line (parts_in p devices tasks)
 parts_may_have_places p devices tasks pos may few_tasks few_devices =
-    let passes = passes_of p in
+    let passes = stub_passes p in
     let all = may_append p.line (sized_from passes 0 tasks) (area_parts p.line 0 devices) (tasks_may passes p.line 0 tasks) (areas_may p.line 0 devices pos) in
     let long = length-append (sized_from passes 0 tasks) (area_parts p.line 0 devices) in
     record {

@@ -20,7 +20,7 @@ use Rattle.prem_asm.specs.PiecesOf.{pieces_of}
 use Rattle.prem_template.specs.Limits.{excess}
 use Rattle.prem_template.specs.Parts.{codes_of, parts_of as code_parts_of}
 use Rattle.prem_layout.specs.Plans.{plans_of}
-use Rattle.prem_layout.specs.Parts.{Passes, passes_of, area_parts}
+use Rattle.prem_layout.specs.Parts.{Passes, stub_passes, area_parts}
 use Rattle.prem_layout.specs.Placed.{Coded}
 use Rattle.prem_split.specs.PlanOf.{plan_of}
 use Rattle.prem_split.specs.PlansWith.{MayHavePlans}
@@ -61,7 +61,7 @@ sized_from passes n (t ∷ ts) = sized_parts passes n t ++ sized_from passes (n 
 
 -- of tasks and devices
 abbrev pub parts_in : Plant → List Device → List SizedTask → List PartSize
-parts_in p devices tasks = sized_from (passes_of p) 0 tasks ++ area_parts p.line 0 devices
+parts_in p devices tasks = sized_from (stub_passes p) 0 tasks ++ area_parts p.line 0 devices
 
 -- parts that may be placed
 pub record MayHavePlaces (line : ℕ) (parts : List PartSize) : Type 0 where

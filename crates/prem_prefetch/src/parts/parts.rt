@@ -3,7 +3,7 @@ ghost use Rattle.std.specs.Prelude.{◌≡◌, ◌<◌, ◌≤◌, ◌*◌, ◌^
 ghost use Rattle.std.specs.List.{AllByRecursion};
 ghost use Rattle.prem_syntax.specs.SyntaxOf.{global_of};
 ghost use Rattle.prem_split.specs.PlanOf.{plan_of};
-ghost use Rattle.prem_layout.specs.Parts.{passes_of, part, element_size, global_size, code_parts, stub_parts, global_parts, area_parts};
+ghost use Rattle.prem_layout.specs.Parts.{stub_passes, part, element_size, global_size, code_parts, stub_parts, global_parts, area_parts};
 ghost use Rattle.prem_prefetch.specs.Parts.Parts.{sizes_of, parts_with, IsShortPlan, IsShortGlobal, IsWordSize};
 
 use crate::stub_size;
@@ -44,7 +44,7 @@ fn push_stubs(
     p: &Plant,
 ) -> Result<(), AllocError>
     requires short { AllByRecursion IsShortPlan (map plan_of plans.now) }
-    ensures { OnOk result (parts.new.items ≡ parts.old.items ++ stub_parts (passes_of p.now) task (map plan_of plans.now)) }
+    ensures { OnOk result (parts.new.items ≡ parts.old.items ++ stub_parts (stub_passes p.now) task (map plan_of plans.now)) }
 {
     for plan in plans {
         parts.push(PartSize {
@@ -119,7 +119,7 @@ pub fn push_task(
     requires plans { AllByRecursion IsShortPlan (map plan_of plans.now) }
     requires few { length globals.now ≤ 256 }
     requires short { AllByRecursion IsShortGlobal (map (λ g. global_of g.now) globals.now) }
-    ensures { OnOk result (parts.new.items ≡ parts.old.items ++ parts_with (passes_of p.now) task (sizes_of code.now) (map plan_of plans.now) (map (λ g. global_of g.now) globals.now) stack) }
+    ensures { OnOk result (parts.new.items ≡ parts.old.items ++ parts_with (stub_passes p.now) task (sizes_of code.now) (map plan_of plans.now) (map (λ g. global_of g.now) globals.now) stack) }
 {
     parts.push(PartSize {
         task,

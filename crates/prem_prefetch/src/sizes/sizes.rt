@@ -2,7 +2,7 @@
 ghost use Rattle.std.specs.Prelude.{◌≡◌, ◌≤◌, ◌++◌, All, length, IfOk, OnOk};
 ghost use Rattle.std.specs.List.{AllByRecursion};
 ghost use Rattle.prem_plant.specs.Ranges.{IsPlant, IsDevice};
-ghost use Rattle.prem_layout.specs.Parts.{passes_of};
+ghost use Rattle.prem_layout.specs.Parts.{stub_passes};
 ghost use Rattle.prem_prefetch.specs.Sizes.Sizes.{sized_parts, sized_from, parts_in, MayHavePlaces, MayHaveParts};
 
 use crate::parts::{push_areas, push_task, stack_size};
@@ -32,7 +32,7 @@ fn push_sized(
     plant: &Plant,
 ) -> Result<(), AllocError>
     requires { MayHaveParts task.now }
-    ensures { OnOk result (parts.new.items ≡ parts.old.items ++ sized_parts (passes_of plant.now) n task.now) }
+    ensures { OnOk result (parts.new.items ≡ parts.old.items ++ sized_parts (stub_passes plant.now) n task.now) }
 {
     let stack = stack_size(alloc, task.program)?;
     push_task(
@@ -54,7 +54,7 @@ fn parts_of_tasks(
 ) -> Result<Vec<PartSize>, AllocError>
     requires tasks { AllByRecursion MayHaveParts tasks.now }
     requires count { length tasks.now ≤ 16 }
-    ensures { IfOk result (λ parts. parts.items ≡ sized_from (passes_of plant.now) 0 tasks.now) }
+    ensures { IfOk result (λ parts. parts.items ≡ sized_from (stub_passes plant.now) 0 tasks.now) }
 {
     let mut parts = Vec::new(alloc);
     let mut n = 0u16;

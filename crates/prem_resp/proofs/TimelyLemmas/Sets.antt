@@ -11,7 +11,7 @@ use Rattle.prem_lru.specs.Rules.{rule_of}
 use Rattle.prem_sound.proofs.ResidentLemmas.Policies.{kind_policy}
 use Rattle.prem_sound.specs.Script.Scripts.{Promise}
 use Rattle.prem_cycle.specs.Alone.{run_in}
-use Rattle.prem_layout.specs.Parts.{pass_count, passes_of as stub_passes}
+use Rattle.prem_layout.specs.Parts.{pass_count, stub_passes}
 use Rattle.prem_layout.specs.Placed.{Coded, Placed, placed_from}
 use Rattle.prem_layout.specs.Image.{task_record}
 use Rattle.prem_stub_laws.specs.Own.Owned.{own_of, setup_of}

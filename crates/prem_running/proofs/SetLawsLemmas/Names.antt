@@ -25,7 +25,7 @@ use Rattle.prem_report.specs.Fitting.Named.{devices_in, names_for}
 use Rattle.prem_report.proofs.FittingLemmas.Fits.{lawful_fits}
 use Rattle.prem_cycle.specs.Inputs.{FitsRun, image_setup}
 use Rattle.prem_layout.specs.Plans.{plans_of}
-use Rattle.prem_layout.specs.Parts.{Passes, passes_of, part, code_parts, stub_parts, global_parts, task_parts, parts_from, area_parts, part_count}
+use Rattle.prem_layout.specs.Parts.{Passes, stub_passes, part, code_parts, stub_parts, global_parts, task_parts, parts_from, area_parts, part_count}
 use Rattle.prem_layout.specs.Placed.{Coded, sized_of, parts_of, placed_from, part_total}
 use Rattle.prem_layout.specs.Image.{task_record, device_records}
 use Rattle.prem_layout.specs.Rules.{or_else, refused_by, first_among, over_tasks}
@@ -108,12 +108,12 @@ tasks_counted passes n (c ∷ cs) h =
 areas_left : (p : Plant) (ds : List Device) (cs : List Coded) → AllByRecursion HasCode cs → length (drop (part_total cs) (default_places (parts_of p ds cs))) ≡ length ds
 areas_left p ds cs h =
     let whole = parts_of p ds cs in
-    let tasks = parts_from (passes_of p) 0 (map sized_of cs) in
+    let tasks = parts_from (stub_passes p) 0 (map sized_of cs) in
     let areas = area_parts p.line 0 ds in
     let a : length (drop (part_total cs) (default_places whole)) ≡ length (default_places whole) - part_total cs = length-drop (part_total cs) (default_places whole) in
     let b : length (default_places whole) ≡ length whole = places_counted 0 whole in
     let c : length whole ≡ length tasks + length areas = length-append tasks areas in
-    let d : length tasks ≡ part_total cs = tasks_counted (passes_of p) 0 cs h in
+    let d : length tasks ≡ part_total cs = tasks_counted (stub_passes p) 0 cs h in
     let e : length areas ≡ length ds = areas_counted p.line 0 ds in
     omega (arith, a, b, c, d, e)
 

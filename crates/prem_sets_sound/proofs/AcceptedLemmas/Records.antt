@@ -15,7 +15,7 @@ use Rattle.prem_plant.specs.Ranges.{Between, IsDevice}
 use Rattle.prem_image.specs.Records.{IsTask, IsPlaced, IsImage, task_names}
 use Rattle.prem_template.specs.Frames.{stack_size}
 use Rattle.prem_layout.specs.Plans.{plans_of}
-use Rattle.prem_layout.specs.Parts.{passes_of, part, start_size, code_parts, stub_parts, global_parts, parts_from, area_parts, part_count}
+use Rattle.prem_layout.specs.Parts.{stub_passes, part, start_size, code_parts, stub_parts, global_parts, parts_from, area_parts, part_count}
 use Rattle.prem_layout.specs.Footprint.{place_at, stack_place}
 use Rattle.prem_layout.specs.Placed.{Coded, Placed, sized_of, part_total, task_places, placed_at, placed_from}
 use Rattle.prem_layout.specs.Image.{task_record, device_records}
@@ -48,7 +48,7 @@ stack_sized p all high t f =
     let task = f.number in
     let g = place_at t.at in
     let cs : List PartSize = code_parts task 0 (map size_of t.task.code) in
-    let ss : List PartSize = stub_parts (passes_of p) task (plans_of q) in
+    let ss : List PartSize = stub_parts (stub_passes p) task (plans_of q) in
     let gs : List PartSize = global_parts task 0 q.globals in
     let stack : List PartSize = part task Stack (stack_size q) 16 ∷ [] in
     let lc : length cs ≡ length q.routines = code_counted task 0 (map size_of t.task.code) ∙ length-map t.task.code size_of ∙ f.coded in
@@ -125,8 +125,8 @@ records_lawful p devices tasks places h =
     let laid = are_laid p devices tasks places h in
     let total = part_total tasks in
     let rest : List Extent = drop total places in
-    let parts : List PartSize = parts_from (passes_of p) 0 (map sized_of tasks) in
-    let long : length parts ≡ total = parts_long (passes_of p) 0 tasks laid.coded in
+    let parts : List PartSize = parts_from (stub_passes p) 0 (map sized_of tasks) in
+    let long : length parts ≡ total = parts_long (stub_passes p) 0 tasks laid.coded in
     let stand = areas_stand p.memory p.line total parts devices places long laid.placed in
     record {
       plant = h.plant_is;

@@ -7,7 +7,7 @@ use Rattle.prem_list.specs.Sequence.{items_of}
 use Rattle.prem_plant.specs.Label.{AreDistinct}
 use Rattle.prem_plant.specs.Ranges.{Between}
 use Rattle.prem_plant.proofs.Placing.{areas_apart}
-use Rattle.prem_layout.specs.Parts.{passes_of}
+use Rattle.prem_layout.specs.Parts.{stub_passes}
 use Rattle.prem_layout.specs.Placed.{sized_of, placed_from}
 use Rattle.prem_tasks.specs.Broken.{TaskText}
 use Rattle.prem_tasks.specs.Compiled.{coded_in, parts_in, places_in}
@@ -62,7 +62,7 @@ pub default_places_are_lawful : DefaultPlacesAreLawful
 default_places_are_lawful set values kept =
     let k = keeps set kept in
     let low = values.plant_is.line.0 in
-    let may = parts_may_be_placed (passes_of set.plant) set.plant.line (map sized_of (coded_in set)) set.devices (omega (arith, low)) in
+    let may = parts_may_be_placed (stub_passes set.plant) set.plant.line (map sized_of (coded_in set)) set.devices (omega (arith, low)) in
     areas_apart set.plant.line set.plant.memory (parts_in set) (omega (arith, low)) may.0 k.fits may.1
 
 pub accepted_sets_join : AcceptedSetsJoin

@@ -15,7 +15,7 @@ use Rattle.prem_asm.specs.Runs.{Setting}
 use Rattle.prem_template.specs.Frames.{depth_of, deepest}
 use Rattle.prem_template.specs.Parts.{parts_of, is_marked_at, marked_before}
 use Rattle.prem_template.specs.Steps.{function_code}
-use Rattle.prem_layout.specs.Parts.{pass_count, passes_of}
+use Rattle.prem_layout.specs.Parts.{pass_count, stub_passes}
 use Rattle.prem_layout.specs.Plans.{Plan, plan_before, plans_from}
 use Rattle.prem_layout.specs.Bounds.{start_code, job_bound_of}
 use Rattle.prem_layout.specs.Footprint.{place_at, global_range}
@@ -87,7 +87,7 @@ stated_in q n (x ∷ fs) f = by x.text.mark refl f (λ k. stated_in q (n + 1) fs
   by (Some m) e zero behind = let z : stated_at (x ∷ fs) 0 ≡ m.stated = ap (λ (o : Option MarkText). unwrap_or (option_map (λ (m : MarkText). m.stated) o) 0) e in omega (arith, z)
   by (Some m) e (suc f) behind = omega (arith, behind f)
 
-module _ (passes : ℕ → ℕ) (p : Plant) (devices : List Device) (tasks : List Coded) (places : List Extent) (k : ℕ) (t : Placed) (placed : IsPlacedTask p devices tasks places k t) (same : passes p.ways ≡ pass_count (passes_of p)) (x : ProgramText) (keeps : KeepsTaskRules p x t)
+module _ (passes : ℕ → ℕ) (p : Plant) (devices : List Device) (tasks : List Coded) (places : List Extent) (k : ℕ) (t : Placed) (placed : IsPlacedTask p devices tasks places k t) (same : passes p.ways ≡ pass_count (stub_passes p)) (x : ProgramText) (keeps : KeepsTaskRules p x t)
     (some : 1 ≤ t.task.jobs) (inputs : List (List ℕ)) (words : All (λ word. word < 2 ^ 32) (slice_index_or inputs k [])) where
   abbrev s : Setting
   s = setting_of p (task_guard t) t

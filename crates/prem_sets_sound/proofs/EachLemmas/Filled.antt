@@ -14,7 +14,7 @@ use Rattle.prem_template.specs.Limits.{Excess, frame, depth, excess}
 use Rattle.prem_template.specs.Parts.{parts_of, codes_of, marked_before}
 use Rattle.prem_template.specs.Steps.{Parts, function_code}
 use Rattle.prem_layout.specs.Plans.{Plan, plan_of, plan_before, plans_from, plans_of}
-use Rattle.prem_layout.specs.Parts.{passes_of}
+use Rattle.prem_layout.specs.Parts.{stub_passes}
 use Rattle.prem_layout.specs.Footprint.{place_at}
 use Rattle.prem_layout.specs.Stubs.{stub_of}
 use Rattle.prem_layout.specs.Placed.{Coded, Placed}
@@ -111,9 +111,9 @@ module _ (p : Plant) (devices : List Device) (tasks : List Coded) (places : List
   pub code_is : (n : ℕ) (f : Routine) → slice_get t.task.program.routines n ≡ Some f → (codes_in t).code n ≡ function_code (parts_of p.target t.task.program.routines) f
   code_is n f there = ap pieces_or (table_code n f there)
 
-  pub stub_there : (j : ℕ) (plan : Plan) → slice_get t.plans j ≡ Some plan → slice_get t.table.stubs j ≡ Some (stub_of (passes_of p) p.line t.at plan)
+  pub stub_there : (j : ℕ) (plan : Plan) → slice_get t.plans j ≡ Some plan → slice_get t.table.stubs j ≡ Some (stub_of (stub_passes p) p.line t.at plan)
   stub_there j plan e =
-      ap (λ pss. slice_get pss j) (stubs_are p places _ t (at_parts p devices tasks places k t placed)) ∙ slice_get-map (stub_of (passes_of p) p.line t.at) t.plans j ∙ ap (option_map (stub_of (passes_of p) p.line t.at)) e
+      ap (λ pss. slice_get pss j) (stubs_are p places _ t (at_parts p devices tasks places k t placed)) ∙ slice_get-map (stub_of (stub_passes p) p.line t.at) t.plans j ∙ ap (option_map (stub_of (stub_passes p) p.line t.at)) e
 
   pub legal : (j : ℕ) (plan : Plan) → slice_get t.plans j ≡ Some plan → IsLegalPlan x t.task.program plan
   legal j plan e =

@@ -16,7 +16,7 @@ use Rattle.prem_template.specs.Parts.{parts_of, is_marked_at}
 use Rattle.prem_template.specs.Frames.{frame_of, frame_if_there, slots_of}
 use Rattle.prem_template.specs.Steps.{function_code}
 use Rattle.prem_layout.specs.Plans.{Plan}
-use Rattle.prem_layout.specs.Parts.{passes_of, pass_count}
+use Rattle.prem_layout.specs.Parts.{stub_passes, pass_count}
 use Rattle.prem_layout.specs.Footprint.{ranges_of}
 use Rattle.prem_layout.specs.Placed.{Placed}
 use Rattle.prem_code_laws.specs.ExprLaws.Relation.{Globals, Stack, Ground}
@@ -73,8 +73,8 @@ pub record StubMeans (p : Plant) (s : Setting) (t : Placed) (limits : Limits) (n
   pub planned : plan_at t n ≡ Some plan
   pub there : slice_get t.task.program.routines n ≡ Some routine
   pub marked : is_marked routine ≡ true
-  pub stub_is : (codes_in t).stub n ≡ stub_code (passes_of p) p.line (ranges_of t.at plan) plan.stated (1 + n)
-  pub few : pass_count (passes_of p) < 2 ^ 32
+  pub stub_is : (codes_in t).stub n ≡ stub_code (stub_passes p) p.line (ranges_of t.at plan) plan.stated (1 + n)
+  pub few : pass_count (stub_passes p) < 2 ^ 32
   pub small : plan.stated < 2 ^ 32
   pub stated_is : (globals_in p.target t.task.program).stated n ≡ plan.stated
   pub line_fits : Lines s p.line
@@ -111,7 +111,7 @@ module _ (p : Plant) (s : Setting) (t : Placed) (limits : Limits) where
       let confines = marked_confines s (guard_of t.at x.plan) (globals_in p.target t.task.program) (parts_of p.target t.task.program.routines) (callees_in t.task.program (reach_callable x.plan)) (reached_in t x.plan) limits
       t.task.program.routines t.task.program.job n x.routine (job_frame t) (plan_frame t x.plan) x.stands in
       let called = confined_stubs_are_called s (guard_of t.at x.plan) (code_calls (with_guard (guard_of t.at x.plan) s) (reached_in t x.plan) t.task.program.job) (globals_in p.target t.task.program) everywhere (job_frame t) (plan_frame t x.plan) p.line
-      (other_lines s p.line (guard_of t.at x.plan) x.line_fits) (ranges_of t.at x.plan) (other_ranges s (guard_of t.at x.plan) (ranges_of t.at x.plan) x.in_memory) (passes_of p) x.few n x.plan.stated (1 + n) (frame_of x.routine)
+      (other_lines s p.line (guard_of t.at x.plan) x.line_fits) (ranges_of t.at x.plan) (other_ranges s (guard_of t.at x.plan) (ranges_of t.at x.plan) x.in_memory) (stub_passes p) x.few n x.plan.stated (1 + n) (frame_of x.routine)
       ((callees_in t.task.program (plain_callable t.task.program)).depth n) (length x.routine.text.params) (is_some x.routine.result)
       (λ words q. performed (calls_below limits t.task.program.routines n) (limits.inside n) x.routine words q) x.small x.stated_is confines (s.places ((codes_in t).stub_part n)) x.aligned
       (subst (λ ps. s.places ((codes_in t).stub_part n) + size_of ps < 2 ^ 32) x.stub_is x.ends) in
@@ -123,7 +123,7 @@ module _ (p : Plant) (s : Setting) (t : Placed) (limits : Limits) where
       called
     where
       run_is : (u : TaskState) → stub_run s (codes_in t) (confinement_in t n) t.task.program.job n u
-          ≡ Rattle.prem_asm.specs.Runs.run (with_guard (guard_of t.at x.plan) s) (code_calls (with_guard (guard_of t.at x.plan) s) (reached_in t x.plan) t.task.program.job) (s.places ((codes_in t).stub_part n)) (stub_code (passes_of p) p.line (ranges_of t.at x.plan) x.plan.stated (1 + n)) u
+          ≡ Rattle.prem_asm.specs.Runs.run (with_guard (guard_of t.at x.plan) s) (code_calls (with_guard (guard_of t.at x.plan) s) (reached_in t x.plan) t.task.program.job) (s.places ((codes_in t).stub_part n)) (stub_code (stub_passes p) p.line (ranges_of t.at x.plan) x.plan.stated (1 + n)) u
       run_is u =
           ap (λ o. stub_run s (codes_in t) (confinement_of t o) t.task.program.job n u) x.planned
           ∙ ap (λ ps. Rattle.prem_asm.specs.Runs.run (with_guard (guard_of t.at x.plan) s) (code_calls (with_guard (guard_of t.at x.plan) s) (reached_in t x.plan) t.task.program.job) (s.places ((codes_in t).stub_part n)) ps u) x.stub_is

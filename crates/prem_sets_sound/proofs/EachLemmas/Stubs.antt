@@ -15,7 +15,7 @@ use Rattle.prem_asm.specs.Runs.{Guard, Setting}
 use Rattle.prem_template.specs.Parts.{parts_of, marked_before, stub_part}
 use Rattle.prem_template.specs.Steps.{function_code}
 use Rattle.prem_layout.specs.Plans.{Plan, plans_of}
-use Rattle.prem_layout.specs.Parts.{pass_count, passes_of}
+use Rattle.prem_layout.specs.Parts.{pass_count, stub_passes}
 use Rattle.prem_layout.proofs.StubLaws.{passes_are_few}
 use Rattle.prem_layout.specs.Footprint.{place_at, ranges_of, footprint_of, conflict_of}
 use Rattle.prem_layout.specs.Stubs.{stub_of}
@@ -78,11 +78,11 @@ room_of p t (x ∷ xs) none (suc j) plan e = room_of p t xs (none_first (conflic
 -- ---- one plan
 
 module _ (passes : ℕ → ℕ) (p : Plant) (devices : List Device) (tasks : List Coded) (places : List Extent) (k : ℕ) (t : Placed) (placed : IsPlacedTask p devices tasks places k t) (x : ProgramText) (keeps : KeepsTaskRules p x t)
-    (same : passes p.ways ≡ pass_count (passes_of p)) (j : ℕ) (plan : Plan) (planned : slice_get t.plans j ≡ Some plan) (first : plan.function < t.task.program.job) where
+    (same : passes p.ways ≡ pass_count (stub_passes p)) (j : ℕ) (plan : Plan) (planned : slice_get t.plans j ≡ Some plan) (first : plan.function < t.task.program.job) where
   abbrev s : Setting
   s = setting_of p (task_guard t) t
 
-  few_passes : pass_count (passes_of p) < 2 ^ 32
+  few_passes : pass_count (stub_passes p) < 2 ^ 32
   few_passes = let le = (passes_are_few p placed.plant_is).1 in omega (arith, le)
 
   parts : HasParts p tasks places k t
@@ -103,7 +103,7 @@ module _ (passes : ℕ → ℕ) (p : Plant) (devices : List Device) (tasks : Lis
   pub planned_at : plan_at t plan.function ≡ Some plan
   planned_at = ap (slice_get t.plans) number_is ∙ planned
 
-  stub_is : (codes_in t).stub plan.function ≡ stub_of (passes_of p) p.line t.at plan
+  stub_is : (codes_in t).stub plan.function ≡ stub_of (stub_passes p) p.line t.at plan
   stub_is = ap (λ n. pieces_or (slice_get t.table.stubs n)) number_is ∙ ap pieces_or (stub_there p devices tasks places k t placed x keeps j plan planned)
 
   guard : HasGuard (setup_of p devices places tasks) (own_of tasks places k) t plan
@@ -172,7 +172,7 @@ module _ (passes : ℕ → ℕ) (p : Plant) (devices : List Device) (tasks : Lis
       let stands = stub_stands p devices tasks places k t placed x keeps j plan planned in
       let le = stands.within in
       let small = small_memory p devices tasks places k t placed x keeps in
-      let size : size_of ((codes_in t).stub plan.function) ≡ size_of (stub_of (passes_of p) p.line t.at plan) = ap size_of stub_is in
+      let size : size_of ((codes_in t).stub plan.function) ≡ size_of (stub_of (stub_passes p) p.line t.at plan) = ap size_of stub_is in
       let place : (place_at t.at (stub_part t.task.program.routines plan.function)).0 ≡ (place_at t.at (1 + length t.task.program.routines + j)).0 = ap (λ n. (place_at t.at n).0) part_is in
       omega (arith, le, small, size, place)
 
@@ -211,10 +211,10 @@ module _ (passes : ℕ → ℕ) (p : Plant) (devices : List Device) (tasks : Lis
   line_some : 0 < p.line
   line_some = let le = placed.plant_is.line.0 in omega (arith, le)
 
-  within : StubIsWithin (with_guard (guard_of t.at plan) s) (reached_in t plan) p.line (ranges_of t.at plan) (footprint_of p.line t.at plan) t.task.program.job (place_at t.at (stub_part t.task.program.routines plan.function)).0 (stub_of (passes_of p) p.line t.at plan)
+  within : StubIsWithin (with_guard (guard_of t.at plan) s) (reached_in t plan) p.line (ranges_of t.at plan) (footprint_of p.line t.at plan) t.task.program.job (place_at t.at (stub_part t.task.program.routines plan.function)).0 (stub_of (stub_passes p) p.line t.at plan)
   within =
       let all = stubs_are_within p devices tasks places (laid p devices tasks places k t placed) line_some k t placed.there j plan planned ranges.bytes (λ m member. quiet_all m member) (task_guard t) in
-      let here = subst (λ n. StubIsWithin (with_guard (guard_of t.at plan) s) (reached_in t plan) p.line (ranges_of t.at plan) (footprint_of p.line t.at plan) (length t.task.program.routines) (place_at t.at n).0 (stub_of (passes_of p) p.line t.at plan)) (sym part_is) all in
+      let here = subst (λ n. StubIsWithin (with_guard (guard_of t.at plan) s) (reached_in t plan) p.line (ranges_of t.at plan) (footprint_of p.line t.at plan) (length t.task.program.routines) (place_at t.at n).0 (stub_of (stub_passes p) p.line t.at plan)) (sym part_is) all in
       let lt = (job_fits p devices tasks places k t placed x keeps).below in
       record {
         code = record { quiet = here.code.quiet; takes = here.code.takes; code = λ m a less ge high. here.code.code m a (omega (arith, less, lt)) ge high; loads = here.code.loads; stores = here.code.stores };
@@ -232,9 +232,9 @@ module _ (passes : ℕ → ℕ) (p : Plant) (devices : List Device) (tasks : Lis
       no_conflict_is_room p.sets p.ways (footprint_of p.line t.at plan) some (room_of p t t.plans keeps.seven j plan planned)
 
   -- its place, by the number of the plan
-  stub_words : PartStands s (slice_index (content_of p places tasks)) (length (map (λ (q : Extent). q.0) t.at.places)) (stub_part t.task.program.routines plan.function) (stub_of (passes_of p) p.line t.at plan)
+  stub_words : PartStands s (slice_index (content_of p places tasks)) (length (map (λ (q : Extent). q.0) t.at.places)) (stub_part t.task.program.routines plan.function) (stub_of (stub_passes p) p.line t.at plan)
   stub_words =
-      subst (λ n. PartStands s (slice_index (content_of p places tasks)) (length (map (λ (q : Extent). q.0) t.at.places)) n (stub_of (passes_of p) p.line t.at plan)) (sym part_is)
+      subst (λ n. PartStands s (slice_index (content_of p places tasks)) (length (map (λ (q : Extent). q.0) t.at.places)) n (stub_of (stub_passes p) p.line t.at plan)) (sym part_is)
       (stub_stands p devices tasks places k t placed x keeps j plan planned)
 
   code_words : (m : ℕ) → PartStands s (slice_index (content_of p places tasks)) (length (map (λ (q : Extent). q.0) t.at.places)) (1 + m) ((reached_in t plan).code m)
@@ -266,7 +266,7 @@ module _ (passes : ℕ → ℕ) (p : Plant) (devices : List Device) (tasks : Lis
       stub_words = stub_words;
       within = within;
       room = room;
-      cost = stubs_fit_their_length p t (reached_in t plan) code_is_of keeps.nine t.task.program.job few j plan (stub_of (passes_of p) p.line t.at plan) planned (stub_there p devices tasks places k t placed x keeps j plan planned);
+      cost = stubs_fit_their_length p t (reached_in t plan) code_is_of keeps.nine t.task.program.job few j plan (stub_of (stub_passes p) p.line t.at plan) planned (stub_there p devices tasks places k t placed x keeps j plan planned);
     }
 
     pub confined_stands : ConfinedStands (setup_of p devices places tasks) (own_of tasks places k) passes s (codes_in t) (confined_by t plan) own ended (slice_index (content_of p places tasks)) (length (map (λ (q : Extent). q.0) t.at.places)) t.task.program.job plan.function
@@ -282,11 +282,11 @@ module _ (passes : ℕ → ℕ) (p : Plant) (devices : List Device) (tasks : Lis
       own_stub = own_stub;
     }
       where
-        own_stub : AreOwnAt (own_of tasks places k) (place_at t.at (stub_part t.task.program.routines plan.function)).0 (stub_of (passes_of p) p.line t.at plan)
+        own_stub : AreOwnAt (own_of tasks places k) (place_at t.at (stub_part t.task.program.routines plan.function)).0 (stub_of (stub_passes p) p.line t.at plan)
         own_stub =
-            subst (λ n. AreOwnAt (own_of tasks places k) (place_at t.at n).0 (stub_of (passes_of p) p.line t.at plan)) (sym part_is)
-            (task_code_is_own p devices tasks places k t placed (1 + length t.task.program.routines + j) (stub_of (passes_of p) p.line t.at plan)
-            (stub_listed p devices tasks places k t placed x keeps j (stub_of (passes_of p) p.line t.at plan) (stub_there p devices tasks places k t placed x keeps j plan planned)))
+            subst (λ n. AreOwnAt (own_of tasks places k) (place_at t.at n).0 (stub_of (stub_passes p) p.line t.at plan)) (sym part_is)
+            (task_code_is_own p devices tasks places k t placed (1 + length t.task.program.routines + j) (stub_of (stub_passes p) p.line t.at plan)
+            (stub_listed p devices tasks places k t placed x keeps j (stub_of (stub_passes p) p.line t.at plan) (stub_there p devices tasks places k t placed x keeps j plan planned)))
 
     pub stated_so : confined_stands.at.stated ≡ plan.stated
     unfolding confined_stands

@@ -16,7 +16,7 @@ use Rattle.prem_template.specs.Frames.{frame_of, slots_of}
 use Rattle.prem_template.specs.Parts.{parts_of, codes_of}
 use Rattle.prem_template.specs.Steps.{function_code}
 use Rattle.prem_layout.specs.Plans.{Plan, plans_of}
-use Rattle.prem_layout.specs.Parts.{passes_of, part_count, code_part, pass_count}
+use Rattle.prem_layout.specs.Parts.{stub_passes, part_count, code_part, pass_count}
 use Rattle.prem_layout.specs.Footprint.{place_at, no_place, stack_place}
 use Rattle.prem_layout.specs.Stubs.{stub_of}
 use Rattle.prem_layout.specs.Bounds.{start_code}
@@ -105,13 +105,13 @@ module _ (p : Plant) (devices : List Device) (tasks : List Coded) (places : List
         omega (arith, e, a, b, c);
   }
 
-  words : ProgramHasWords p.target t.task.program (passes_of p) p.line t.at (map (λ (q : Extent). q.0) t.at.places)
+  words : ProgramHasWords p.target t.task.program (stub_passes p) p.line t.at (map (λ (q : Extent). q.0) t.at.places)
   words =
       let small : p.line < 2 ^ 11 = let le = placed.plant_is.line.1 in omega (arith, le) in
-      let few_passes : pass_count (passes_of p) < 2 ^ 11 = let le = (passes_are_few p placed.plant_is).1 in omega (arith, le) in
+      let few_passes : pass_count (stub_passes p) < 2 ^ 11 = let le = (passes_are_few p placed.plant_is).1 in omega (arith, le) in
       let rules = program_keeps p devices tasks places k t placed x keeps in
-      subst (λ (q : Resolved). ProgramHasWords p.target q (passes_of p) p.line t.at (map (λ (r : Extent). r.0) t.at.places)) (sym keeps.program)
-      (programs_have_words p.target x (limits_of x).turns (passes_of p) p.line t.at (map (λ (q : Extent). q.0) t.at.places) keeps.well_formed (subst (λ (q : Resolved). Rattle.prem_template.specs.Limits.excess q ≡ Rattle.std.specs.Prelude.None) keeps.program rules.small) few_passes small
+      subst (λ (q : Resolved). ProgramHasWords p.target q (stub_passes p) p.line t.at (map (λ (r : Extent). r.0) t.at.places)) (sym keeps.program)
+      (programs_have_words p.target x (limits_of x).turns (stub_passes p) p.line t.at (map (λ (q : Extent). q.0) t.at.places) keeps.well_formed (subst (λ (q : Resolved). Rattle.prem_template.specs.Limits.excess q ≡ Rattle.std.specs.Prelude.None) keeps.program rules.small) few_passes small
       (subst (λ (q : Resolved). HasAddresses q (map (λ (r : Extent). r.0) t.at.places)) keeps.program addresses))
 
   -- in the words of placed parts
@@ -133,16 +133,16 @@ module _ (p : Plant) (devices : List Device) (tasks : List Coded) (places : List
       (fits ps (all_there (PiecesFit (length (map (λ (q : Extent). q.0) t.at.places)) (slice_index (map (λ (q : Extent). q.0) t.at.places))) (codes_of (parts_of p.target t.task.program.routines) t.task.program.routines) n ps words.code coded))
 
   pub stub_stands : (j : ℕ) (plan : Plan) → slice_get t.plans j ≡ Some plan →
-      PartStands (setting_of p (task_guard t) t) (slice_index (content_of p places tasks)) (length (map (λ (q : Extent). q.0) t.at.places)) (1 + length t.task.program.routines + j) (stub_of (passes_of p) p.line t.at plan)
+      PartStands (setting_of p (task_guard t) t) (slice_index (content_of p places tasks)) (length (map (λ (q : Extent). q.0) t.at.places)) (1 + length t.task.program.routines + j) (stub_of (stub_passes p) p.line t.at plan)
   stub_stands j plan planned =
-      let ps = stub_of (passes_of p) p.line t.at plan in
+      let ps = stub_of (stub_passes p) p.line t.at plan in
       let e = stub_there p devices tasks places k t placed x keeps j plan planned in
-      let listed = stub_listed p devices tasks places k t placed x keeps j (stub_of (passes_of p) p.line t.at plan) e in
+      let listed = stub_listed p devices tasks places k t placed x keeps j (stub_of (stub_passes p) p.line t.at plan) e in
       let planned' : slice_get (plans_of t.task.program) j ≡ Some plan = ap (λ (ps : List Plan). slice_get ps j) (sym (plans_are p places _ t (at_parts p devices tasks places k t placed))) ∙ planned in
-      let coded : slice_get (map (stub_of (passes_of p) p.line t.at) (plans_of t.task.program)) j ≡ Some (stub_of (passes_of p) p.line t.at plan) =
-      slice_get-map (stub_of (passes_of p) p.line t.at) (plans_of t.task.program) j ∙ ap (option_map (stub_of (passes_of p) p.line t.at)) planned' in
+      let coded : slice_get (map (stub_of (stub_passes p) p.line t.at) (plans_of t.task.program)) j ≡ Some (stub_of (stub_passes p) p.line t.at plan) =
+      slice_get-map (stub_of (stub_passes p) p.line t.at) (plans_of t.task.program) j ∙ ap (option_map (stub_of (stub_passes p) p.line t.at)) planned' in
       parts_stand_all p devices tasks places k t placed keeps.six (1 + length t.task.program.routines + j) ps listed (length (map (λ (q : Extent). q.0) t.at.places))
-      (fits ps (all_there (PiecesFit (length (map (λ (q : Extent). q.0) t.at.places)) (slice_index (map (λ (q : Extent). q.0) t.at.places))) (map (stub_of (passes_of p) p.line t.at) (plans_of t.task.program)) j ps words.stubs coded))
+      (fits ps (all_there (PiecesFit (length (map (λ (q : Extent). q.0) t.at.places)) (slice_index (map (λ (q : Extent). q.0) t.at.places))) (map (stub_of (stub_passes p) p.line t.at) (plans_of t.task.program)) j ps words.stubs coded))
 
   pub job_is : t.table.job ≡ t.task.program.job
   job_is = ap (λ (u : Placed). u.table.job) (at_parts p devices tasks places k t placed).is

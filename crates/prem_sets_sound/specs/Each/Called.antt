@@ -4,7 +4,7 @@ use Rattle.prem_asm.specs.Runs.{Setting, Calls}
 use Rattle.prem_template.specs.Parts.{marked_before, stub_part}
 use Rattle.prem_plant.specs.declared.plant.Plant.{Plant}
 use Rattle.prem_layout.specs.Plans.{Plan}
-use Rattle.prem_layout.specs.Parts.{passes_of}
+use Rattle.prem_layout.specs.Parts.{stub_passes}
 use Rattle.prem_layout.specs.Footprint.{ranges_of, footprint_of}
 use Rattle.prem_layout.specs.Placed.{Placed}
 use Rattle.prem_code_laws.specs.GenLaws.Table.{code_calls, with_part}
@@ -31,7 +31,7 @@ confinement_in t n = confinement_of t (plan_at t n)
 -- the stub of a plan: its ranges with their lines, the part that it calls, and its stated length
 abbrev pub stub_at : Plant → Placed → Plan → StubAt
 stub_at p t plan = record {
-  kind = passes_of p;
+  kind = stub_passes p;
   ranges = ranges_of t.at plan;
   members = footprint_of p.line t.at plan;
   part = 1 + plan.function;

@@ -8,7 +8,7 @@ use Rattle.prem_cycle.specs.State.{Setup}
 use Rattle.prem_cycle.specs.Alone.{run_in}
 use Rattle.prem_sound.specs.Script.Scripts.{Promise}
 use Rattle.prem_syntax.specs.Syntax.{ProgramText}
-use Rattle.prem_layout.specs.Parts.{pass_count, passes_of}
+use Rattle.prem_layout.specs.Parts.{pass_count, stub_passes}
 use Rattle.prem_layout.specs.Footprint.{global_range}
 use Rattle.prem_layout.specs.Placed.{Coded, Placed}
 use Rattle.prem_weave.specs.Promise.Promised.{promise_in}
@@ -27,7 +27,7 @@ promise_for x t words = promise_in (λ g. (global_range t.at g).0) x words t.tas
 
 abbrev pub TasksJoin : Type 0
 TasksJoin =
-    (passes : ℕ → ℕ) (p : Plant) (devices : List Device) (tasks : List Coded) (places : List Extent) (k : ℕ) (t : Placed) → IsPlacedTask p devices tasks places k t → passes p.«ways» ≡ pass_count (passes_of p) →
+    (passes : ℕ → ℕ) (p : Plant) (devices : List Device) (tasks : List Coded) (places : List Extent) (k : ℕ) (t : Placed) → IsPlacedTask p devices tasks places k t → passes p.«ways» ≡ pass_count (stub_passes p) →
     (x : ProgramText) → KeepsTaskRules p x t → 1 ≤ t.task.jobs → (inputs : List (List ℕ)) → All (λ word. word < 2 ^ 32) (slice_index_or inputs k []) →
     TaskJoins (setup_of p devices places tasks) passes (own_of tasks places k) (run_in (setup_of p devices places tasks) (content_of p places tasks) inputs k) (task_limits p t) (promise_for x t (slice_index_or inputs k []))
 
@@ -43,6 +43,6 @@ task_longest p t = max (stretch_of p t.plans t.table) (greatest_stated t.plans)
 
 abbrev pub TasksPace : Type 0
 TasksPace =
-    (passes : ℕ → ℕ) (p : Plant) (devices : List Device) (tasks : List Coded) (places : List Extent) (k : ℕ) (t : Placed) → IsPlacedTask p devices tasks places k t → passes p.«ways» ≡ pass_count (passes_of p) →
+    (passes : ℕ → ℕ) (p : Plant) (devices : List Device) (tasks : List Coded) (places : List Extent) (k : ℕ) (t : Placed) → IsPlacedTask p devices tasks places k t → passes p.«ways» ≡ pass_count (stub_passes p) →
     (x : ProgramText) → KeepsTaskRules p x t → 1 ≤ t.task.jobs → (inputs : List (List ℕ)) → All (λ word. word < 2 ^ 32) (slice_index_or inputs k []) →
     TaskPaces (setup_of p devices places tasks) passes (own_of tasks places k) (run_in (setup_of p devices places tasks) (content_of p places tasks) inputs k) (task_limits p t) (task_longest p t) (promise_for x t (slice_index_or inputs k []))

@@ -12,7 +12,7 @@ use Rattle.prem_syntax.specs.declared.tree.Ty.TheVariants.{Void}
 use Rattle.prem_syntax.specs.Syntax.{ProgramText, output}
 use Rattle.prem_meaning.proofs.Samples.{at, int, statements, function}
 use Rattle.prem_layout.specs.Bounds.{start_code}
-use Rattle.prem_layout.specs.Parts.{passes_of}
+use Rattle.prem_layout.specs.Parts.{stub_passes}
 use Rattle.prem_layout.specs.Placed.{Coded, Placed, sized_of, parts_of, placed_at, task_places}
 use Rattle.prem_layout.proofs.Lawful.{parts_may_be_placed}
 use Rattle.prem_layout.proofs.Tasks.{coded}
@@ -25,7 +25,7 @@ use Rattle.prem_stub_laws.proofs.InitialLemmas.Standing.{code_stands_first}
 pub defaults_are_laid : DefaultsAreLaid
 defaults_are_laid p devices tasks coded one within = record {
   coded = coded;
-  placed = places_are p.memory (parts_of p devices tasks) (parts_may_be_placed (passes_of p) p.line (map sized_of tasks) devices one).0 within;
+  placed = places_are p.memory (parts_of p devices tasks) (parts_may_be_placed (stub_passes p) p.line (map sized_of tasks) devices one).0 within;
 }
 
 -- ---- void job(void) { out(5); }

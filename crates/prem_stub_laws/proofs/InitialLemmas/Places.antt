@@ -21,7 +21,7 @@ use Rattle.prem_meaning.specs.Source.{initial_words}
 use Rattle.prem_meaning.specs.Resolved.{Routine}
 use Rattle.prem_template.specs.Frames.{stack_size}
 use Rattle.prem_layout.specs.Plans.{Plan, plans_of}
-use Rattle.prem_layout.specs.Parts.{Passes, element_size, global_size, passes_of, part, code_parts, stub_parts, global_parts, task_parts, part_count}
+use Rattle.prem_layout.specs.Parts.{Passes, element_size, global_size, stub_passes, part, code_parts, stub_parts, global_parts, task_parts, part_count}
 use Rattle.prem_layout.specs.Footprint.{TaskPlaces, no_place, place_at}
 use Rattle.prem_layout.specs.Stubs.{stub_of}
 use Rattle.prem_layout.specs.Bounds.{start_code}
@@ -166,12 +166,12 @@ globals_lie t task from n (g ∷ gs) h =
 
 -- ---- one task
 
-pub task_lies : (p : Plant) (task : ℕ) (c : Coded) (places : List Extent) → HasCode c → Sized (place_at (task_places c.program places)) 0 (task_parts (passes_of p) task (map size_of c.code) c.program) →
+pub task_lies : (p : Plant) (task : ℕ) (c : Coded) (places : List Extent) → HasCode c → Sized (place_at (task_places c.program places)) 0 (task_parts (stub_passes p) task (map size_of c.code) c.program) →
     Lie (place_at (task_places c.program places)) 0 (part_count c.program) (task_patches (placed_at p c (task_places c.program places)))
 task_lies p task c places coded h =
     let t = task_places c.program places in
     let plans = plans_of c.program in
-    let passes = passes_of p in
+    let passes = stub_passes p in
     let code : List PartSize = code_parts task 0 (map size_of c.code) in
     let stubs : List PartSize = stub_parts passes task plans in
     let gs : List PartSize = global_parts task 0 c.program.globals in

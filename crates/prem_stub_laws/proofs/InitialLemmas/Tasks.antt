@@ -8,7 +8,7 @@ use Rattle.prem_plant.specs.declared.plant.Plant.{Plant}
 use Rattle.prem_plant.specs.declared.plant.Device.{Device}
 use Rattle.prem_plant.specs.declared.layout.PartSize.{PartSize}
 use Rattle.prem_plant.specs.Places.{Extent}
-use Rattle.prem_layout.specs.Parts.{passes_of, part_count, task_parts, parts_from, area_parts}
+use Rattle.prem_layout.specs.Parts.{stub_passes, part_count, task_parts, parts_from, area_parts}
 use Rattle.prem_layout.specs.Footprint.{no_place, place_at}
 use Rattle.prem_layout.specs.Placed.{Coded, Placed, sized_of, parts_of, part_total, task_places, placed_at, placed_from}
 use Rattle.prem_layout.proofs.TaskParts.{IsFour, four, parts_fours, place_in}
@@ -29,14 +29,14 @@ pub record TaskAt (p : Plant) (all : List Extent) (high : ℕ) (t : Placed) : Ty
   pub same : (i : ℕ) → i < part_count t.task.program → place_at t.at i ≡ place_in all (behind + i)
   pub nothing : (i : ℕ) → part_count t.task.program ≤ i → place_at t.at i ≡ no_place
   pub below : behind + part_count t.task.program ≤ high
-  pub sized : Sized (place_at t.at) 0 (task_parts (passes_of p) number (map size_of t.task.code) t.task.program)
+  pub sized : Sized (place_at t.at) 0 (task_parts (stub_passes p) number (map size_of t.task.code) t.task.program)
 
 none_behind : (qs : List Extent) (i : ℕ) → length qs ≤ i → slice_index_or qs i no_place ≡ no_place
 none_behind [] i le = refl
 none_behind (q ∷ qs) zero le = absurd (omega arith)
 none_behind (q ∷ qs) (suc i) le = none_behind qs i (omega arith)
 
-find_task : (p : Plant) (n m : ℕ) (all : List Extent) (cs : List Coded) (more : List PartSize) → All HasCode cs → Sized (place_in all) m (parts_from (passes_of p) n (map sized_of cs) ++ more) →
+find_task : (p : Plant) (n m : ℕ) (all : List Extent) (cs : List Coded) (more : List PartSize) → All HasCode cs → Sized (place_in all) m (parts_from (stub_passes p) n (map sized_of cs) ++ more) →
     (k : ℕ) (t : Placed) → slice_get (placed_from p (drop m all) cs) k ≡ Some t → TaskAt p all (m + part_total cs) t
 find_task p n m all [] more coded h k t e = cc
 find_task p n m all (c ∷ cs) more coded h k t e =
@@ -46,16 +46,16 @@ find_task p n m all (c ∷ cs) more coded h k t e =
     count = part_count c.program
 
     task : List PartSize
-    task = task_parts (passes_of p) n (map size_of c.code) c.program
+    task = task_parts (stub_passes p) n (map size_of c.code) c.program
 
     rest : List PartSize
-    rest = parts_from (passes_of p) (n + 1) (map sized_of cs)
+    rest = parts_from (stub_passes p) (n + 1) (map sized_of cs)
 
     here : HasCode c
     here = coded 0 c (omega arith)
 
     long : length task ≡ count
-    long = task_long (passes_of p) n c here
+    long = task_long (stub_passes p) n c here
 
     split : Sized (place_in all) m (task ++ (rest ++ more))
     split = subst (λ (xs : List PartSize). Sized (place_in all) m xs) (append_assoc task rest more) h
@@ -106,10 +106,10 @@ pub parts_have_addresses : PartsHaveAddresses
 parts_have_addresses p devices tasks places laid k t e n =
     let f = task_at p devices tasks places laid k t e in
     let count : ℕ = part_count t.task.program in
-    let xs : List PartSize = task_parts (passes_of p) f.number (map size_of t.task.code) t.task.program in
-    let long : length xs ≡ count = task_long (passes_of p) f.number t.task f.coded in
+    let xs : List PartSize = task_parts (stub_passes p) f.number (map size_of t.task.code) t.task.program in
+    let long : length xs ≡ count = task_long (stub_passes p) f.number t.task f.coded in
     by n f count (dichotomy n count) (λ lt. let z : 0 + n ≡ n = omega arith in
-    subst (λ m. (place_at t.at m).0 % 4 ≡ 0) z (fours_at (place_at t.at) 0 xs (parts_fours (passes_of p) f.number (map size_of t.task.code) t.task.program) f.sized n (omega (arith, lt, long)))) refl
+    subst (λ m. (place_at t.at m).0 % 4 ≡ 0) z (fours_at (place_at t.at) 0 xs (parts_fours (stub_passes p) f.number (map size_of t.task.code) t.task.program) f.sized n (omega (arith, lt, long)))) refl
   where
     dichotomy : (n m : ℕ) → (n < m) ⊎ (m ≤ n)
     dichotomy n m = grind arith

@@ -23,7 +23,7 @@ use Rattle.prem_cycle.specs.Inputs.{no_device}
 use Rattle.prem_template.specs.Terms.{load_of, shift_of}
 use Rattle.prem_template.specs.Parts.{global_part}
 use Rattle.prem_layout.specs.Plans.{plans_of}
-use Rattle.prem_layout.specs.Parts.{element_size, passes_of, parts_from, area_parts}
+use Rattle.prem_layout.specs.Parts.{element_size, stub_passes, parts_from, area_parts}
 use Rattle.prem_layout.specs.Footprint.{place_at, global_range}
 use Rattle.prem_layout.specs.Placed.{Placed, sized_of, parts_of, part_total}
 use Rattle.prem_layout.specs.Image.{global_bytes, device_records}
@@ -235,8 +235,8 @@ memory_is_content p devices tasks places a = behind_zero (content_of p places ta
 pub devices_hold_zero : DevicesHoldZero
 devices_hold_zero p devices tasks places laid four d j i ld lj li =
     let total : ℕ = part_total tasks in
-    let parts : List PartSize = parts_from (passes_of p) 0 (map sized_of tasks) in
-    let long : length parts ≡ part_total tasks = parts_long (passes_of p) 0 tasks laid.coded in
+    let parts : List PartSize = parts_from (stub_passes p) 0 (map sized_of tasks) in
+    let long : length parts ≡ part_total tasks = parts_long (stub_passes p) 0 tasks laid.coded in
     let r = area_at p.line 0 devices (drop (part_total tasks) places) d ld in
     let rec : DeviceRecord = slice_index_or (device_records devices (drop (part_total tasks) places)) d no_device in
     let there : slice_get (parts_of p devices tasks) (part_total tasks + d) ≡ Some r.this = ap (λ m. slice_get (parts_of p devices tasks) (m + d)) (sym long) ∙ get_behind parts (area_parts p.line 0 devices) d ∙ r.there in

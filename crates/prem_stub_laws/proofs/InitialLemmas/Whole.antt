@@ -16,7 +16,7 @@ use Rattle.prem_plant.specs.declared.layout.PartSize.{PartSize}
 use Rattle.prem_plant.specs.Places.{Extent, Holds}
 use Rattle.prem_syntax.specs.Syntax.{GlobalVariable}
 use Rattle.prem_meaning.specs.Source.{initial_words}
-use Rattle.prem_layout.specs.Parts.{element_size, passes_of, part_count, task_parts, parts_from, area_parts}
+use Rattle.prem_layout.specs.Parts.{element_size, stub_passes, part_count, task_parts, parts_from, area_parts}
 use Rattle.prem_layout.specs.Footprint.{TaskPlaces, no_place, place_at, global_range}
 use Rattle.prem_layout.specs.Placed.{Coded, Placed, Block, sized_of, parts_of, part_total, task_places, placed_at, placed_from, blocks_of}
 use Rattle.prem_layout.specs.Image.{global_bytes, patched, with_blocks, with_globals, with_tasks, greatest_end}
@@ -31,16 +31,16 @@ use Rattle.prem_stub_laws.proofs.InitialLemmas.Places.{Sized, all_sized, sized_l
 
 -- ---- the patches of all tasks lie in the places of their parts
 
-set_lies : (p : Plant) (n m : ℕ) (all : List Extent) (cs : List Coded) (more : List PartSize) → All HasCode cs → Sized (place_in all) m (parts_from (passes_of p) n (map sized_of cs) ++ more) →
+set_lies : (p : Plant) (n m : ℕ) (all : List Extent) (cs : List Coded) (more : List PartSize) → All HasCode cs → Sized (place_in all) m (parts_from (stub_passes p) n (map sized_of cs) ++ more) →
     Lie (place_in all) m (m + part_total cs) (all_patches (placed_from p (drop m all) cs))
 set_lies p n m all [] more coded h = omega arith
 set_lies p n m all (c ∷ cs) more coded h =
     let count : ℕ = part_count c.program in
     let t = task_places c.program (drop m all) in
-    let task : List PartSize = task_parts (passes_of p) n (map size_of c.code) c.program in
-    let rest : List PartSize = parts_from (passes_of p) (n + 1) (map sized_of cs) in
+    let task : List PartSize = task_parts (stub_passes p) n (map size_of c.code) c.program in
+    let rest : List PartSize = parts_from (stub_passes p) (n + 1) (map sized_of cs) in
     let here : HasCode c = coded 0 c (omega arith) in
-    let long : length task ≡ count = task_long (passes_of p) n c here in
+    let long : length task ≡ count = task_long (stub_passes p) n c here in
     let split : Sized (place_in all) m (task ++ (rest ++ more)) = subst (λ (xs : List PartSize). Sized (place_in all) m xs) (append_assoc task rest more) h in
     let own : Sized (place_at t) 0 task = sized_as (place_in all) (place_at t) m 0 task (λ i lt. same count m i (omega (arith, lt, long))) (sized_left (place_in all) m task (rest ++ more) split) in
     let one : Lie (place_at t) 0 count (task_patches (placed_at p c t)) = task_lies p n c (drop m all) here own in
@@ -84,8 +84,8 @@ module _ (p : Plant) (devices : List Device) (tasks : List Coded) (places : List
 
   enough : part_total tasks ≤ length places
   enough =
-      let a = parts_long (passes_of p) 0 tasks laid.coded in
-      let b = length-append (parts_from (passes_of p) 0 (map sized_of tasks)) (area_parts p.line 0 devices) in
+      let a = parts_long (stub_passes p) 0 tasks laid.coded in
+      let b = length-append (parts_from (stub_passes p) 0 (map sized_of tasks)) (area_parts p.line 0 devices) in
       let c = laid.placed.count in
       omega (arith, a, b, c)
 

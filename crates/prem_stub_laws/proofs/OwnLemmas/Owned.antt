@@ -14,7 +14,7 @@ use Rattle.prem_cycle.specs.Inputs.{no_device}
 use Rattle.prem_asm.specs.Pieces.{size_of}
 use Rattle.prem_template.specs.Frames.{stack_size}
 use Rattle.prem_layout.specs.Plans.{plans_of}
-use Rattle.prem_layout.specs.Parts.{Passes, passes_of, part, part_count, code_parts, stub_parts, global_parts, task_parts, parts_from, area_parts}
+use Rattle.prem_layout.specs.Parts.{Passes, stub_passes, part, part_count, code_parts, stub_parts, global_parts, task_parts, parts_from, area_parts}
 use Rattle.prem_layout.specs.Placed.{Coded, sized_of, parts_of, part_total}
 use Rattle.prem_layout.specs.Image.{device_records}
 use Rattle.prem_layout.proofs.TaskParts.{code_counted, globals_counted, get_drop, get_behind}
@@ -113,8 +113,8 @@ area_at line n (x ∷ xs) (q ∷ places) (suc d) lt =
 pub own_bytes_are_free : OwnBytesAreFree
 own_bytes_are_free p devices tasks places pos coded lawful k a h d j ld lj e =
     let total : ℕ = part_total tasks in
-    let parts : List PartSize = parts_from (passes_of p) 0 (map sized_of tasks) in
-    let long : length parts ≡ total = parts_long (passes_of p) 0 tasks coded in
+    let parts : List PartSize = parts_from (stub_passes p) 0 (map sized_of tasks) in
+    let long : length parts ≡ total = parts_long (stub_passes p) 0 tasks coded in
     let x = own_held tasks places k a h in
     let r = area_at p.line 0 devices (drop total places) d ld in
     let rec : DeviceRecord = slice_index_or (device_records devices (drop total places)) d no_device in

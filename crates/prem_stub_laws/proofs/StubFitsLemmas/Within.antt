@@ -16,7 +16,7 @@ use Rattle.prem_asm.specs.Quiet.{IsQuiet, EachInstr, EachPiece}
 use Rattle.prem_template.specs.Frames.{stack_size}
 use Rattle.prem_template.specs.Parts.{marked_before}
 use Rattle.prem_layout.specs.Plans.{Plan, plan_of, plan_before, plans_from, plans_of}
-use Rattle.prem_layout.specs.Parts.{Passes, passes_of, part, stub_size, code_parts, stub_parts, global_parts, task_parts}
+use Rattle.prem_layout.specs.Parts.{Passes, stub_passes, part, stub_size, code_parts, stub_parts, global_parts, task_parts}
 use Rattle.prem_layout.specs.Footprint.{TaskPlaces, index_of, place_at, code_range, stub_range, stack_range, region_range, ranges_of, footprint_of}
 use Rattle.prem_layout.specs.Stubs.{stub_of}
 use Rattle.prem_layout.specs.Placed.{Placed, part_total}
@@ -146,27 +146,27 @@ module _ (p : Plant) (all : List Extent) (high : ℕ) (t : Placed) (f : TaskAt p
   code_size m ps e =
       let e' : slice_get t.task.code m ≡ Some ps = sym (ap (λ (xs : List Pieces). slice_get xs m) code_are) ∙ e in
       let sizes = map size_of t.task.code in
-      let rest : List PartSize = stub_parts (passes_of p) f.number (plans_of t.task.program) ++ (global_parts f.number 0 t.task.program.globals ++ (part f.number Stack (stack_size t.task.program) 16 ∷ [])) in
-      let there : slice_get (task_parts (passes_of p) f.number (map size_of t.task.code) t.task.program) (suc m) ≡ Some (part f.number (Code (0 + m)) (size_of ps) 4) =
+      let rest : List PartSize = stub_parts (stub_passes p) f.number (plans_of t.task.program) ++ (global_parts f.number 0 t.task.program.globals ++ (part f.number Stack (stack_size t.task.program) 16 ∷ [])) in
+      let there : slice_get (task_parts (stub_passes p) f.number (map size_of t.task.code) t.task.program) (suc m) ≡ Some (part f.number (Code (0 + m)) (size_of ps) 4) =
       get_left (code_parts f.number 0 (map size_of t.task.code)) rest m (part f.number (Code (0 + m)) (size_of ps) 4) (code_at f.number 0 t.task.code m ps e') in
       let z : 0 + suc m ≡ 1 + m = omega arith in
-      subst (λ n. (place_at t.at n).1 ≡ (place_at t.at n).0 + size_of ps) z (sized_at (place_at t.at) 0 (task_parts (passes_of p) f.number (map size_of t.task.code) t.task.program) (suc m) _ f.sized there).ends
+      subst (λ n. (place_at t.at n).1 ≡ (place_at t.at n).0 + size_of ps) z (sized_at (place_at t.at) 0 (task_parts (stub_passes p) f.number (map size_of t.task.code) t.task.program) (suc m) _ f.sized there).ends
 
   stub_sized : (j : ℕ) (plan : Plan) → slice_get t.plans j ≡ Some plan →
-      (place_at t.at (1 + length t.task.program.routines + j)).1 ≡ (place_at t.at (1 + length t.task.program.routines + j)).0 + size_of (stub_of (passes_of p) p.line t.at plan)
+      (place_at t.at (1 + length t.task.program.routines + j)).1 ≡ (place_at t.at (1 + length t.task.program.routines + j)).0 + size_of (stub_of (stub_passes p) p.line t.at plan)
   stub_sized j plan e =
       let e' : slice_get (plans_of t.task.program) j ≡ Some plan = sym (ap (λ (xs : List Plan). slice_get xs j) plans_are) ∙ e in
       let code : List PartSize = code_parts f.number 0 (map size_of t.task.code) in
-      let stubs : List PartSize = stub_parts (passes_of p) f.number (plans_of t.task.program) in
+      let stubs : List PartSize = stub_parts (stub_passes p) f.number (plans_of t.task.program) in
       let rest : List PartSize = global_parts f.number 0 t.task.program.globals ++ (part f.number Stack (stack_size t.task.program) 16 ∷ []) in
       let long : length code ≡ length t.task.program.routines = code_counted f.number 0 (map size_of t.task.code) ∙ length-map t.task.code size_of ∙ f.coded in
       let y : length t.task.program.routines + j ≡ length code + j = omega (arith, long) in
-      let there : slice_get (code ++ (stubs ++ rest)) (length t.task.program.routines + j) ≡ Some (part f.number (Stub plan.function) (stub_size (passes_of p) plan) 4) =
-      ap (slice_get (code ++ (stubs ++ rest))) y ∙ get_behind code (stubs ++ rest) j ∙ get_left stubs rest j _ (stub_at (passes_of p) f.number (plans_of t.task.program) j plan e') in
+      let there : slice_get (code ++ (stubs ++ rest)) (length t.task.program.routines + j) ≡ Some (part f.number (Stub plan.function) (stub_size (stub_passes p) plan) 4) =
+      ap (slice_get (code ++ (stubs ++ rest))) y ∙ get_behind code (stubs ++ rest) j ∙ get_left stubs rest j _ (stub_at (stub_passes p) f.number (plans_of t.task.program) j plan e') in
       let z : 0 + suc (length t.task.program.routines + j) ≡ 1 + length t.task.program.routines + j = omega arith in
-      let s = (sized_at (place_at t.at) 0 (task_parts (passes_of p) f.number (map size_of t.task.code) t.task.program) (suc (length t.task.program.routines + j)) _ f.sized there).ends in
-      subst (λ n. (place_at t.at n).1 ≡ (place_at t.at n).0 + size_of (stub_of (passes_of p) p.line t.at plan)) z
-      (s ∙ ap (λ n. (place_at t.at (0 + suc (length t.task.program.routines + j))).0 + n) (sym (stubs_have_their_size (passes_of p) p.line t.at plan)))
+      let s = (sized_at (place_at t.at) 0 (task_parts (stub_passes p) f.number (map size_of t.task.code) t.task.program) (suc (length t.task.program.routines + j)) _ f.sized there).ends in
+      subst (λ n. (place_at t.at n).1 ≡ (place_at t.at n).0 + size_of (stub_of (stub_passes p) p.line t.at plan)) z
+      (s ∙ ap (λ n. (place_at t.at (0 + suc (length t.task.program.routines + j))).0 + n) (sym (stubs_have_their_size (stub_passes p) p.line t.at plan)))
 
   stub_range_is : (j : ℕ) (plan : Plan) → slice_get t.plans j ≡ Some plan → stub_range t.at plan.function ≡ place_at t.at (1 + length t.task.program.routines + j)
   stub_range_is j plan e =

@@ -10,7 +10,7 @@ use Rattle.prem_asm.specs.Runs.{Guard}
 use Rattle.prem_template.specs.Parts.{is_marked_at, marked_before, stub_part}
 use Rattle.prem_layout.specs.Plans.{Plan, plans_of}
 use Rattle.prem_meaning.specs.Resolved.{Resolved}
-use Rattle.prem_layout.specs.Parts.{passes_of}
+use Rattle.prem_layout.specs.Parts.{stub_passes}
 use Rattle.prem_layout.specs.Footprint.{TaskPlaces, index_of, place_at, stack_range, region_range, ranges_of, footprint_of}
 use Rattle.prem_layout.specs.Stubs.{stub_of}
 use Rattle.prem_layout.specs.Placed.{Coded, Placed, placed_from}
@@ -67,4 +67,4 @@ StubsAreWithin =
     (k : ℕ) (t : Placed) → slice_get (placed_from p places tasks) k ≡ Some t → (j : ℕ) (plan : Plan) → slice_get t.plans j ≡ Some plan → HaveBytes (ranges_of t.at plan) →
     ((m : ℕ) → is_in m plan.reach ≡ true → EachPiece IsQuiet ((codes_in t).code m)) → (guard : Guard) →
     StubIsWithin (with_guard (guard_of t.at plan) (setting_of p guard t)) (reached_in t plan) p.line (ranges_of t.at plan) (footprint_of p.line t.at plan) (length t.task.program.routines)
-    (place_at t.at (1 + length t.task.program.routines + j)).0 (stub_of (passes_of p) p.line t.at plan)
+    (place_at t.at (1 + length t.task.program.routines + j)).0 (stub_of (stub_passes p) p.line t.at plan)

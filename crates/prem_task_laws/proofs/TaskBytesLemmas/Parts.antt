@@ -14,7 +14,7 @@ use Rattle.prem_syntax.specs.Syntax.{GlobalVariable}
 use Rattle.prem_asm.specs.Pieces.{Pieces, size_of}
 use Rattle.prem_template.specs.Frames.{stack_size}
 use Rattle.prem_layout.specs.Plans.{Plan, plans_of}
-use Rattle.prem_layout.specs.Parts.{passes_of, part, part_count, element_size, global_size, stub_size, code_parts, stub_parts, global_parts, task_parts}
+use Rattle.prem_layout.specs.Parts.{stub_passes, part, part_count, element_size, global_size, stub_size, code_parts, stub_parts, global_parts, task_parts}
 use Rattle.prem_layout.specs.Footprint.{no_place, index_of, place_at, stub_range, global_range, stack_place}
 use Rattle.prem_layout.specs.Stubs.{stub_of}
 use Rattle.prem_layout.specs.Placed.{Coded, Placed, part_total, task_places, placed_at, placed_from}
@@ -98,8 +98,8 @@ module _ (p : Plant) (all : List Extent) (high : ℕ) (t : Placed) (f : TaskAt p
   pub table_code_is : t.table.code ≡ t.task.code
   table_code_is = ap (λ (u : Placed). u.table.code) f.is
 
-  pub stubs_are : t.table.stubs ≡ map (stub_of (passes_of p) p.line t.at) t.plans
-  stubs_are = subst (λ (u : Placed). u.table.stubs ≡ map (stub_of (passes_of p) p.line u.at) u.plans) (sym f.is) refl
+  pub stubs_are : t.table.stubs ≡ map (stub_of (stub_passes p) p.line t.at) t.plans
+  stubs_are = subst (λ (u : Placed). u.table.stubs ≡ map (stub_of (stub_passes p) p.line u.at) u.plans) (sym f.is) refl
 
   code_count : length t.table.code ≡ length t.task.program.routines
   code_count = ap (λ (xs : List Pieces). length xs) table_code_is ∙ f.coded
@@ -118,28 +118,28 @@ module _ (p : Plant) (all : List Extent) (high : ℕ) (t : Placed) (f : TaskAt p
         with_code = omega (arith, joined, code_count, stubs_long, functions_are, marked_long);
       }
 
-  all_sized : HasSizes (code_in t) (task_parts (passes_of p) f.number (map size_of t.task.code) t.task.program)
+  all_sized : HasSizes (code_in t) (task_parts (stub_passes p) f.number (map size_of t.task.code) t.task.program)
   all_sized =
-      subst (λ (u : Placed). HasSizes (code_in u) (task_parts (passes_of p) f.number (map size_of u.task.code) u.task.program)) (sym f.is)
-      (parts_sized (passes_of p) p.line f.number (task_places t.task.program f.own) t.task.program t.task.code)
+      subst (λ (u : Placed). HasSizes (code_in u) (task_parts (stub_passes p) f.number (map size_of u.task.code) u.task.program)) (sym f.is)
+      (parts_sized (stub_passes p) p.line f.number (task_places t.task.program f.own) t.task.program t.task.code)
 
   code_ends : (n : ℕ) (ps : Pieces) → slice_get (code_in t) n ≡ Some ps → (place_at t.at n).1 ≡ (place_at t.at n).0 + size_of ps
   code_ends n ps e =
       let z : 0 + n ≡ n = omega arith in
       subst (λ k. (place_at t.at k).1 ≡ (place_at t.at k).0 + size_of ps) z
-      (piece_ends (place_at t.at) 0 (code_in t) (task_parts (passes_of p) f.number (map size_of t.task.code) t.task.program) all_sized f.sized n ps e)
+      (piece_ends (place_at t.at) 0 (code_in t) (task_parts (stub_passes p) f.number (map size_of t.task.code) t.task.program) all_sized f.sized n ps e)
 
   function_there : (n : ℕ) (ps : Pieces) → slice_get t.table.code n ≡ Some ps → slice_get (code_in t) (1 + n) ≡ Some ps
   function_there n ps e =
       let z : suc n ≡ 1 + n = omega arith in
       subst (λ k. slice_get (code_in t) k ≡ Some ps) z (get_left t.table.code t.table.stubs n ps e)
 
-  stub_there : (j : ℕ) (plan : Plan) → slice_get t.plans j ≡ Some plan → slice_get (code_in t) (1 + length t.task.program.routines + j) ≡ Some (stub_of (passes_of p) p.line t.at plan)
+  stub_there : (j : ℕ) (plan : Plan) → slice_get t.plans j ≡ Some plan → slice_get (code_in t) (1 + length t.task.program.routines + j) ≡ Some (stub_of (stub_passes p) p.line t.at plan)
   stub_there j plan e =
       let z : suc (length t.table.code + j) ≡ 1 + length t.task.program.routines + j = omega (arith, code_count) in
-      let one : slice_get (t.table.code ++ t.table.stubs) (length t.table.code + j) ≡ Some (stub_of (passes_of p) p.line t.at plan) =
-      get_behind t.table.code t.table.stubs j ∙ ap (λ (xs : List Pieces). slice_get xs j) stubs_are ∙ slice_get-map (stub_of (passes_of p) p.line t.at) t.plans j ∙ ap (option_map (stub_of (passes_of p) p.line t.at)) e in
-      subst (λ k. slice_get (code_in t) k ≡ Some (stub_of (passes_of p) p.line t.at plan)) z one
+      let one : slice_get (t.table.code ++ t.table.stubs) (length t.table.code + j) ≡ Some (stub_of (stub_passes p) p.line t.at plan) =
+      get_behind t.table.code t.table.stubs j ∙ ap (λ (xs : List Pieces). slice_get xs j) stubs_are ∙ slice_get-map (stub_of (stub_passes p) p.line t.at) t.plans j ∙ ap (option_map (stub_of (stub_passes p) p.line t.at)) e in
+      subst (λ k. slice_get (code_in t) k ≡ Some (stub_of (stub_passes p) p.line t.at plan)) z one
 
   stub_range_is : (j : ℕ) (plan : Plan) → slice_get t.plans j ≡ Some plan → stub_range t.at plan.function ≡ place_at t.at (1 + length t.task.program.routines + j)
   stub_range_is j plan e =
@@ -148,18 +148,18 @@ module _ (p : Plant) (all : List Extent) (high : ℕ) (t : Placed) (f : TaskAt p
       let z : 1 + t.at.functions + index_of plan.function t.at.marked ≡ 1 + length t.task.program.routines + j = omega (arith, i, functions_are) in
       ap (place_at t.at) z
 
-  stub_ends : (j : ℕ) (plan : Plan) → slice_get t.plans j ≡ Some plan → (stub_range t.at plan.function).1 ≡ (stub_range t.at plan.function).0 + stub_size (passes_of p) plan
+  stub_ends : (j : ℕ) (plan : Plan) → slice_get t.plans j ≡ Some plan → (stub_range t.at plan.function).1 ≡ (stub_range t.at plan.function).0 + stub_size (stub_passes p) plan
   stub_ends j plan e =
       let n : ℕ = 1 + length t.task.program.routines + j in
-      let s = code_ends (1 + length t.task.program.routines + j) (stub_of (passes_of p) p.line t.at plan) (stub_there j plan e) in
-      subst (λ (q : Extent). q.1 ≡ q.0 + stub_size (passes_of p) plan) (sym (stub_range_is j plan e))
-      (s ∙ ap (λ k. (place_at t.at (1 + length t.task.program.routines + j)).0 + k) (stubs_have_their_size (passes_of p) p.line t.at plan))
+      let s = code_ends (1 + length t.task.program.routines + j) (stub_of (stub_passes p) p.line t.at plan) (stub_there j plan e) in
+      subst (λ (q : Extent). q.1 ≡ q.0 + stub_size (stub_passes p) plan) (sym (stub_range_is j plan e))
+      (s ∙ ap (λ k. (place_at t.at (1 + length t.task.program.routines + j)).0 + k) (stubs_have_their_size (stub_passes p) p.line t.at plan))
 
   abbrev cs : List PartSize
   cs = code_parts f.number 0 (map size_of t.task.code)
 
   abbrev ss : List PartSize
-  ss = stub_parts (passes_of p) f.number (plans_of t.task.program)
+  ss = stub_parts (stub_passes p) f.number (plans_of t.task.program)
 
   abbrev gs : List PartSize
   gs = global_parts f.number 0 t.task.program.globals
@@ -242,10 +242,10 @@ module _ (p : Plant) (devices : List Device) (tasks : List Coded) (places : List
   forward i =
       ⊎_elim
       (λ (lt : i < part_count t.task.program).
-      let long = task_long (passes_of p) at_parts.number t.task at_parts.coded in
+      let long = task_long (stub_passes p) at_parts.number t.task at_parts.coded in
       let z : 0 + i ≡ i = omega arith in
       subst (λ n. (place_at t.at n).0 ≤ (place_at t.at n).1) z
-      (goes_forward p places (0 + part_total tasks) t at_parts (task_parts (passes_of p) at_parts.number (map size_of t.task.code) t.task.program) 0 i at_parts.sized (omega (arith, lt, long))))
+      (goes_forward p places (0 + part_total tasks) t at_parts (task_parts (stub_passes p) at_parts.number (map size_of t.task.code) t.task.program) 0 i at_parts.sized (omega (arith, lt, long))))
       (λ (le : part_count t.task.program ≤ i). subst (λ (q : Extent). q.0 ≤ q.1) (sym (at_parts.nothing i le)) (omega arith))
       (cases_lt i (part_count t.task.program))
 

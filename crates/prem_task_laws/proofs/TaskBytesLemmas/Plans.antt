@@ -20,7 +20,7 @@ use Rattle.prem_template.specs.Frames.{slots_of, frame_of, stack_size}
 use Rattle.prem_template.specs.Parts.{codes_of, parts_of}
 use Rattle.prem_template.specs.Steps.{Parts, function_code}
 use Rattle.prem_layout.specs.Plans.{Region, Plan}
-use Rattle.prem_layout.specs.Parts.{Passes, element_size, global_size, stub_size, passes_of}
+use Rattle.prem_layout.specs.Parts.{Passes, element_size, global_size, stub_size, stub_passes}
 use Rattle.prem_layout.specs.Footprint.{place_at, code_range, stub_range, global_range, stack_place, stack_range, region_range, ranges_of}
 use Rattle.prem_layout.specs.Placed.{Coded, Placed, part_total}
 use Rattle.prem_layout.proofs.TaskParts.{multiple_above}
@@ -233,7 +233,7 @@ module _ (p : Plant) (devices : List Device) (tasks : List Coded) (places : List
   all_in code x j plan e legal =
       let regions = regions_in plan.regions (recursion_from_All (IsRegion t.task.program.globals) plan.regions legal.regions) in
       let reach = codes_in code plan.reach (recursion_from_All (λ f. f < length t.task.program.routines) plan.reach legal.reached) in
-      let some = stub_some (passes_of p) plan in
+      let some = stub_some (stub_passes p) plan in
       let ends = has.sizes.stubs j plan e in
       let stub : IsWithin (stub_range t.at plan.function) (place_at t.at (1 + length t.task.program.routines + j)) =
       subst (λ (q : Extent). IsWithin (stub_range t.at plan.function) q) (has.sizes.stub_at j plan e) (itself (stub_range t.at plan.function) (omega (arith, ends, some))) in

@@ -6,7 +6,7 @@ use Rattle.prem_plant.specs.Places.{Extent, AreLawful, default_places}
 use Rattle.prem_plant.specs.Ranges.{default_plant}
 use Rattle.prem_plant.proofs.Placing.{areas_apart}
 use Rattle.prem_plant.proofs.Powers.{default_is_plant}
-use Rattle.prem_layout.specs.Parts.{passes_of}
+use Rattle.prem_layout.specs.Parts.{stub_passes}
 use Rattle.prem_layout.specs.Placed.{Coded, Placed, sized_of, parts_of, placed_at, task_places}
 use Rattle.prem_layout.proofs.Lawful.{parts_may_be_placed}
 use Rattle.prem_layout.proofs.Samples.{m_text, m_turns}
@@ -25,7 +25,7 @@ marked_placed = placed_at default_plant marked (task_places marked.program marke
 
 marked_is_lawful : AreLawful default_plant.line default_plant.memory (parts_of default_plant [] (marked ∷ [])) marked_places
 marked_is_lawful =
-    let may = parts_may_be_placed (passes_of default_plant) default_plant.line (map sized_of (marked ∷ [])) [] (lit≤ tt) in
+    let may = parts_may_be_placed (stub_passes default_plant) default_plant.line (map sized_of (marked ∷ [])) [] (lit≤ tt) in
     areas_apart default_plant.line default_plant.memory (parts_of default_plant [] (marked ∷ [])) (lit≤ tt) may.0 (lit≤ tt) may.1
 
 pub marked_is_placed : IsPlacedTask default_plant [] (marked ∷ []) marked_places 0 marked_placed

@@ -19,7 +19,7 @@ use Rattle.prem_template.specs.Terms.{shift_of}
 use Rattle.prem_template.specs.Frames.{stack_size}
 use Rattle.prem_template.specs.Parts.{global_part}
 use Rattle.prem_layout.specs.Plans.{plans_of}
-use Rattle.prem_layout.specs.Parts.{element_size as stored_size, global_size, passes_of, part, part_count, code_parts, stub_parts, global_parts}
+use Rattle.prem_layout.specs.Parts.{element_size as stored_size, global_size, stub_passes, part, part_count, code_parts, stub_parts, global_parts}
 use Rattle.prem_layout.specs.Footprint.{no_place, place_at, global_range, stack_place}
 use Rattle.prem_layout.specs.Placed.{Coded, Placed, part_total, task_places, placed_at}
 use Rattle.prem_code_laws.specs.ExprLaws.Relation.{element_size, AreApart}
@@ -136,7 +136,7 @@ module _ (p : Plant) (devices : List Device) (tasks : List Coded) (places : List
   behind_stubs : Sized (place_at t.at) first (global_parts f.number 0 t.task.program.globals ++ (part f.number Stack (stack_size t.task.program) 16 ∷ []))
   behind_stubs =
       let code : List PartSize = code_parts f.number 0 (map size_of t.task.code) in
-      let stubs : List PartSize = stub_parts (passes_of p) f.number (plans_of t.task.program) in
+      let stubs : List PartSize = stub_parts (stub_passes p) f.number (plans_of t.task.program) in
       let gs : List PartSize = global_parts f.number 0 t.task.program.globals in
       let stack : List PartSize = part f.number Stack (stack_size t.task.program) 16 ∷ [] in
       let lc : length code ≡ length t.task.program.routines = code_counted f.number 0 (map size_of t.task.code) ∙ length-map t.task.code size_of ∙ f.coded in

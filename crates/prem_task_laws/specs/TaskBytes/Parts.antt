@@ -8,7 +8,7 @@ use Rattle.prem_syntax.specs.Syntax.{GlobalVariable}
 use Rattle.prem_asm.specs.Pieces.{Pieces, size_of}
 use Rattle.prem_template.specs.Frames.{stack_size}
 use Rattle.prem_layout.specs.Plans.{Plan}
-use Rattle.prem_layout.specs.Parts.{global_size, stub_size, passes_of}
+use Rattle.prem_layout.specs.Parts.{global_size, stub_size, stub_passes}
 use Rattle.prem_layout.specs.Footprint.{place_at, code_range, stub_range, global_range, stack_place}
 use Rattle.prem_layout.specs.Placed.{Coded, Placed, parts_of, placed_from}
 use Rattle.prem_stub_laws.specs.Own.Owned.{HasCode, own_of, setup_of}
@@ -36,7 +36,7 @@ pub record PartSizes (p : Plant) (t : Placed) : Type 0 where
   pub code : (part : ℕ) (ps : Pieces) → slice_get (code_in t) part ≡ Some ps → (place_at t.at part).1 ≡ (place_at t.at part).0 + size_of ps
   pub functions : (f : ℕ) (ps : Pieces) → slice_get t.table.code f ≡ Some ps → (code_range t.at f).1 ≡ (code_range t.at f).0 + size_of ps
   pub stub_at : (j : ℕ) (plan : Plan) → slice_get t.plans j ≡ Some plan → stub_range t.at plan.function ≡ place_at t.at (1 + length t.task.program.routines + j)
-  pub stubs : (j : ℕ) (plan : Plan) → slice_get t.plans j ≡ Some plan → (stub_range t.at plan.function).1 ≡ (stub_range t.at plan.function).0 + stub_size (passes_of p) plan
+  pub stubs : (j : ℕ) (plan : Plan) → slice_get t.plans j ≡ Some plan → (stub_range t.at plan.function).1 ≡ (stub_range t.at plan.function).0 + stub_size (stub_passes p) plan
   pub globals : (g : ℕ) (v : GlobalVariable) → slice_get t.task.program.globals g ≡ Some v → (global_range t.at g).1 ≡ (global_range t.at g).0 + global_size v
   pub stack : (stack_place t.at).1 ≡ (stack_place t.at).0 + stack_size t.task.program
   pub stack_aligned : (stack_place t.at).0 % 16 ≡ 0
