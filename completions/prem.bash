@@ -4,12 +4,13 @@ _prem() {
   local options="" pattern="" place=0 at
   COMPREPLY=()
   if [ "$COMP_CWORD" -eq 1 ]; then
-    COMPREPLY=($(compgen -W "one check build list source run exec sample" -- "$word"))
+    COMPREPLY=($(compgen -W "one check build list source run exec sample tile mail" -- "$word"))
     return
   fi
   [ "$before" = --cycles ] && return
   case $command in
     run | exec) options="--cycles --intervals" ;;
+    mail) options="--cycles" ;;
   esac
   if [[ $word == -* ]]; then
     COMPREPLY=($(compgen -W "$options" -- "$word"))
@@ -20,9 +21,10 @@ _prem() {
     [[ ${COMP_WORDS[at]} == --* || ${COMP_WORDS[at - 1]} == --cycles ]] || place=$((place + 1))
   done
   case $command$place in
-    one0) pattern='*.c' ;;
-    check0 | build0 | list0 | source0 | run0) pattern='*.toml' ;;
-    source1 | run1 | exec1) pattern='*.run' ;;
+    one0 | tile0) pattern='*.c' ;;
+    check0 | build0 | list0 | source0 | run0 | mail0) pattern='*.toml' ;;
+    source1 | run1 | exec1 | mail1) pattern='*.run' ;;
+    mail2) pattern='*.mail' ;;
     exec0) pattern='*.img' ;;
     *) return ;;
   esac

@@ -1,11 +1,12 @@
 #!/usr/bin/env python3
-"""Lets each call for memory of the built program fail once, one call a run.
+"""Lets each call for memory of the built programs fail once, one call a run.
 
     want_of_memory.py [PROGRAM] [--most N]
 
-Without PROGRAM it is built with `rt run` in crates/prem_cli, as ../prem does. For each command below the program runs with its n-th call
-for memory failing, for n = 1, 2, .. until no call fails. Each such run has to end with status 6, with nothing on standard output and no
-signal. The table that is printed is that of docs/HOSTILE.md. With --most N only N of the calls are tried, spread over all.
+For each command below its program runs with its n-th call for memory failing, for n = 1, 2, .. until no call fails. Each such run has to
+end with status 6, with nothing on standard output and no signal. The table that is printed is that of docs/HOSTILE.md. With PROGRAM,
+which is another build of prem, only the commands of prem are tried; without it each program is proved and built first, if need be
+(build.py). With --most N only N of the calls are tried, spread over all.
 """
 import os
 import subprocess
@@ -18,6 +19,10 @@ MARKED = """int g;
 PREDICTABLE(491) REGION(g, 0, 0) void set(int x RANGE(0, 9)) { g = x; }
 void job(void) { set(7); out(g); }
 """
+TILED = """int a[8];
+PREDICTABLE(900) REGION(a, 0, 7) void f(void) { int i = 0; for (i = 0; i < 8; i++) { a[i] = i; } }
+void job(void) { f(); out(a[7]); }
+"""
 SET = '[[task]]\nname = "m"\nsource = "m.c"\nperiod = 1000\njobs = 1\n'
 DEVICE = '[[device]]\nname = "dma"\nqueue = 2\ncost = 40\nlines = 4\n'
 FILES = {
@@ -28,12 +33,19 @@ FILES = {
     "s.toml": SET,
     "sd.toml": SET + DEVICE,
     "conflict.toml": "[plant]\nsets = 1\nways = 1\n" + SET,
+    "narrow.toml": "[plant]\nsets = 16\nways = 1\n" + SET,
     "colour.toml": "plant = {colour = 1}\n" + SET,
+    "short.toml": SET.replace("m.c", "short.c"),
+    "late.toml": SET.replace("m.c", "late.c"),
+    "short.c": MARKED.replace("491", "490"),
     "d.run": "# words and requests\nin m 1 2 3\nreq 30 dma put 0 1\nreq 30 dma get 0\n",
     "lan.run": "req 30 lan get 0\n",
+    "d.mail": "feed dma 0 m\n",
+    "tiled.c": TILED,
     "e.run": "",
 }
-COMMANDS = """one five.c
+COMMANDS = {
+    "prem_cli": """one five.c
 one broken.c
 one late.c
 one no.c
@@ -52,15 +64,88 @@ check fir.toml
 list fir.toml
 run fir.toml fir.run
 sample 7
+tile tiled.c f 2 700
+tile tiled.c f 9 700
+color narrow.toml
+color conflict.toml
+mail sd.toml d.run d.mail
+mail sd.toml d.run e.run
+mail sd.toml d.run lan.run
 exec
-""".split("\n")[:-1]
+""",
+    "prem_lint_cli": """s.toml
+conflict.toml
+colour.toml
+short.toml
+late.toml
+no.toml
+""",
+    "prem_chart_cli": """sd.toml d.run
+sd.toml d.run --from 100 --to 600
+conflict.toml d.run
+sd.toml lan.run
+""",
+    "prem_resp_cli": """s.toml
+conflict.toml
+colour.toml
+""",
+    "prem_pair_cli": """s.toml s.toml e.run e.run --intervals
+sd.toml s.toml d.run e.run
+s.toml sd.toml e.run e.run
+s.toml conflict.toml e.run e.run
+""",
+}
+CALLED = {it: it.removesuffix("_cli") for it in COMMANDS}
 
 
-def build():
+def build(crate):
     """The path of the built program."""
-    crate = f"{TOP}/crates/prem_cli"
-    subprocess.run(["rt", "run"], cwd=crate, stdout=subprocess.DEVNULL, stderr=subprocess.DEVNULL, check=False)
-    return f"{crate}/out/prem_cli"
+    subprocess.run([sys.executable, f"{TOOLS}/build.py", crate], check=True)
+    return f"{TOP}/crates/{crate}/out/{crate}"
+
+
+def made(folder, program):
+    """Writes the files of the commands into the folder."""
+    for name in ("fir.c", "fir.toml", "fir.run"):
+        with open(f"{TOP}/examples/fir/{name}", "rb") as it, open(f"{folder}/{name}", "wb") as to:
+            to.write(it.read())
+    for name, text in FILES.items():
+        with open(f"{folder}/{name}", "w", encoding="ascii") as it:
+            it.write(text)
+    image = subprocess.run([program, "build", "s.toml"], cwd=folder, capture_output=True, check=True).stdout
+    for name, data in (("s.img", image), ("trap.img", image[:62] + bytes(4) + image[66:]), ("cut.img", image[:11])):
+        with open(f"{folder}/{name}", "wb") as it:
+            it.write(data)
+
+
+class Trial:
+    """A program, in the folder where its files and the library that makes calls fail lie."""
+
+    def __init__(self, program, folder):
+        self.program, self.folder = program, folder
+
+    def run(self, words, failing):
+        """The status, the output, and what the library told: of n calls that none failed, or that one did."""
+        told, tell = os.pipe()
+        env = {"LD_PRELOAD": f"{self.folder}/fail_alloc.so", "FAIL_ALLOC": str(failing), "FAIL_ALLOC_TOLD": str(tell)}
+        ran = subprocess.run([self.program, *words], cwd=self.folder, env=env, pass_fds=(tell,), capture_output=True, timeout=300)
+        os.close(tell)
+        with os.fdopen(told, "rb") as it:
+            return ran.returncode, ran.stdout, it.read()
+
+    def of_command(self, words, most):
+        """The status and the calls where none fails, how many were tried, and those runs that ended otherwise than with status 6 and nothing written."""
+        status, _, told = self.run(words, 0)
+        count, other, tried, n = int(told), [], 0, 1
+        step = max(1, -(-count // most)) if most else 1
+        while True:
+            ended, text, told = self.run(words, n)
+            if told != b"!":
+                return status, count, tried, other
+            tried += 1
+            if (ended, text) != (6, b""):
+                other.append((n, ended, text[:40]))
+            n += step
 
 
 def main():
@@ -70,55 +155,20 @@ def main():
         at = words.index("--most")
         most = int(words[at + 1])
         del words[at : at + 2]
-    program = os.path.abspath(words[0] if words else build())
-    bad = 0
+    programs = {"prem_cli": os.path.abspath(words[0])} if words else {it: build(it) for it in COMMANDS if os.path.isdir(f"{TOP}/crates/{it}")}
+    runs = bad = 0
     with tempfile.TemporaryDirectory() as folder:
-        library = f"{folder}/fail_alloc.so"
-        subprocess.run(["cc", "-shared", "-fPIC", "-O2", "-o", library, f"{TOOLS}/fail_alloc.c"], check=True)
-        for name in ("fir.c", "fir.toml", "fir.run"):
-            with open(f"{TOP}/examples/fir/{name}", "rb") as it, open(f"{folder}/{name}", "wb") as to:
-                to.write(it.read())
-        for name, text in FILES.items():
-            with open(f"{folder}/{name}", "w", encoding="ascii") as it:
-                it.write(text)
-
-        def run(command, failing):
-            """The status, the output, and what the library told: of n calls that none failed, or that one did."""
-            told, tell = os.pipe()
-            env = {"LD_PRELOAD": library, "FAIL_ALLOC": str(failing), "FAIL_ALLOC_TOLD": str(tell)}
-            ran = subprocess.run(
-                [program, *command.split()], cwd=folder, env=env, pass_fds=(tell,), capture_output=True, timeout=300
-            )
-            os.close(tell)
-            with os.fdopen(told, "rb") as it:
-                return ran.returncode, ran.stdout, it.read()
-
-        image = run("build s.toml", 0)[1]
-        for name, data in (("s.img", image), ("trap.img", image[:62] + bytes(4) + image[66:]), ("cut.img", image[:11])):
-            with open(f"{folder}/{name}", "wb") as it:
-                it.write(data)
-        print("| command | status | calls for memory | tried | status 6, nothing written | other |")
-        print("|---|---|---|---|---|---|")
-        for command in COMMANDS:
-            status, _, told = run(command, 0)
-            count = int(told)
-            step = max(1, -(-count // most)) if most else 1
-            good, other, tried, n = 0, [], 0, 1
-            while True:
-                ended, text, told = run(command, n)
-                if told != b"!":
-                    break
-                tried += 1
-                if (ended, text) == (6, b""):
-                    good += 1
-                else:
-                    other.append((n, ended, text[:40]))
-                n += step
-            bad += len(other)
-            print(f"| `{command}` | {status} | {count} | {tried} | {good} | {len(other)} |", flush=True)
-            for it in other[:5]:
-                print(f"call {it[0]}: status {it[1]}, {it[2]!r}", file=sys.stderr)
-    print(f"{bad} runs ended otherwise")
+        subprocess.run(["cc", "-shared", "-fPIC", "-O2", "-o", f"{folder}/fail_alloc.so", f"{TOOLS}/fail_alloc.c"], check=True)
+        made(folder, programs["prem_cli"])
+        print("| command | status | calls for memory | tried | status 6, nothing written | other |\n|---|---|---|---|---|---|")
+        for crate, program in programs.items():
+            for command in COMMANDS[crate].split("\n")[:-1]:
+                status, count, tried, other = Trial(program, folder).of_command(command.split(), most)
+                runs, bad = runs + tried, bad + len(other)
+                print(f"| `{CALLED[crate]} {command}` | {status} | {count} | {tried} | {tried - len(other)} | {len(other)} |", flush=True)
+                for n, ended, text in other[:5]:
+                    print(f"call {n}: status {ended}, {text!r}", file=sys.stderr)
+    print(f"{runs} runs, of which {bad} ended otherwise")
     sys.exit(bad > 0)
 
 

@@ -7,12 +7,17 @@ for the words of custom-0 among its code, and behind it stands what does their w
     with the task's number, and begins the next job with cleared registers and the stack's top in `x2`, or the next task's first one.
 So the tasks run one behind the other, which their outputs don't show, since no task reads what another one writes.
 """
+import itertools
+import os
 import re
+import struct
 import subprocess
 
 ARCH = ["-march=rv32im", "-mabi=ilp32"]
 CUSTOM = {"pm.mem": 0, "pm.exec": 1, "pm.end": 2, "pm.done": 3, "pm.in": 4, "pm.out": 5}
 BRANCHES = ("beq", "bne", "blt", "bge", "bltu", "bgeu")
+# x8 and x9, x22 and x23 are those of the code that stands for custom words.
+REGISTERS = [f"x{it}" for it in range(32) if it not in (8, 9, 22, 23)]
 
 
 class Line:
@@ -45,17 +50,34 @@ def listed(text):
 
 
 def call(*words):
-    return subprocess.run(words, check=True, capture_output=True).stdout
+    # (code that is wrong may not end)
+    return subprocess.run(words, check=True, capture_output=True, timeout=600).stdout
 
 
-def words_by_gas(lines, folder, name):
-    with open(f"{folder}/{name}.s", "w", encoding="utf-8") as it:
-        it.write(".option norelax\n.option norvc\n" + "".join(f"{line.for_gas()}\n" for line in lines))
-    call("riscv64-unknown-elf-as", *ARCH, "-o", f"{folder}/{name}.gas.o", f"{folder}/{name}.s")
-    call("riscv64-unknown-elf-objcopy", "-O", "binary", "-j", ".text", f"{folder}/{name}.gas.o", f"{folder}/{name}.gas")
-    with open(f"{folder}/{name}.gas", "rb") as it:
-        data = it.read()
-    return [int.from_bytes(data[at : at + 4], "little") for at in range(0, len(data), 4)]
+def parted(found, listings):
+    """What was found for the words of all listings, by listing."""
+    if len(found) != sum(map(len, listings)):
+        raise ValueError(f"{len(found)} answers to {sum(map(len, listings))} words")
+    rest = iter(found)
+    return [list(itertools.islice(rest, len(it))) for it in listings]
+
+
+def assembled(text, folder):
+    """The bytes that gas makes of a text, and the places of its labels."""
+    with open(f"{folder}/gas.s", "w", encoding="utf-8") as it:
+        it.write(f".option norelax\n.option norvc\n{text}")
+    call("riscv64-unknown-elf-as", *ARCH, "-o", f"{folder}/gas.o", f"{folder}/gas.s")
+    call("riscv64-unknown-elf-ld", "-m", "elf32lriscv", "-e", "0", "-Ttext", "0", "-o", f"{folder}/gas.elf", f"{folder}/gas.o")
+    call("riscv64-unknown-elf-objcopy", "-O", "binary", "-j", ".text", f"{folder}/gas.elf", f"{folder}/gas.bytes")
+    names = call("riscv64-unknown-elf-nm", f"{folder}/gas.elf").decode().splitlines()
+    with open(f"{folder}/gas.bytes", "rb") as it:
+        return it.read(), {it[2]: int(it[0], 16) for it in map(str.split, names)}
+
+
+def words_by_gas(listings, folder):
+    """The words that gas makes of the texts of each listing."""
+    data, _ = assembled("".join(f"{line.for_gas()}\n" for lines in listings for line in lines), folder)
+    return parted([int.from_bytes(data[at : at + 4], "little") for at in range(0, len(data), 4)], listings)
 
 
 def told_by_objdump(address, name, operands):
@@ -64,16 +86,18 @@ def told_by_objdump(address, name, operands):
         return hex(int(operands.split(",")[-1].strip(), 16))
     words = [str(int(it, 16)) if it.startswith("0x") else it for it in operands.split(",")] if operands else []
     if name == "jal" or name in BRANCHES:
-        words[-1] = str(int(words[-1]) - address)
+        # (the words of all listings stand behind one another, so that only the distance is the listing's)
+        words[-1] = str((int(words[-1]) - address + 2**31) % 2**32 - 2**31)
     return f"{name} {','.join(words)}" if words else name
 
 
-def texts_by_objdump(lines, folder, name):
-    with open(f"{folder}/{name}.words", "wb") as it:
-        it.write(b"".join(line.word.to_bytes(4, "little") for line in lines))
-    said = call("riscv64-unknown-elf-objdump", "-D", "-b", "binary", "-m", "riscv:rv32", "-M", "no-aliases,numeric", f"{folder}/{name}.words")
+def texts_by_objdump(listings, folder):
+    """The texts that objdump reads from the words of each listing."""
+    with open(f"{folder}/objdump.words", "wb") as it:
+        it.write(b"".join(line.word.to_bytes(4, "little") for lines in listings for line in lines))
+    said = call("riscv64-unknown-elf-objdump", "-D", "-z", "-b", "binary", "-m", "riscv:rv32", "-M", "no-aliases,numeric", f"{folder}/objdump.words")
     found = re.findall(r"^ *([0-9a-f]+):\t[0-9a-f]{8} +\t(\S+)(?:\t([^ \n]*))?", said.decode(), re.M)
-    return [told_by_objdump(int(address, 16), what, operands) for address, what, operands in found]
+    return parted([told_by_objdump(int(address, 16), what, operands) for address, what, operands in found], listings)
 
 
 def tasks_in(image):
@@ -88,63 +112,69 @@ def tasks_in(image):
     return tasks, image[at : at + number(40)]
 
 
-def harness(registers, tasks, words):
-    """The code that does the work of custom words; `x8` holds the running task's record."""
-    text = [".globl _start", "_start: la x8, tasks", "j begin"]
-    for it in registers:
+def harness():
+    """The text of the code that does the work of custom words; `x8` holds the running task's record, and behind the last one stands one without jobs."""
+    text = ["_start: la x8, tasks", "j begin"]
+    for it in REGISTERS:
         save = " ; ".join(f"sw x{r}, {20 + 4 * n}(x8)" for n, r in enumerate((10, 11, 12, 17)))
         load = save.replace("sw ", "lw ")
         text.append(f"out_{it}: sw {it}, 44(x8) ; {save} ; li x10, 1 ; addi x11, x8, 40 ; li x12, 8 ; li x17, 64 ; ecall ; {load} ; jr x9")
         text.append(f"in_{it}: lw x22, 12(x8) ; lw x23, 16(x8) ; li {it}, 0 ; bgeu x22, x23, 1f ; lw {it}, 0(x22) ; addi x22, x22, 4")
         text.append("sw x22, 12(x8) ; 1: jr x9")
-    text.append("done: lw x22, 8(x8) ; addi x22, x22, -1 ; sw x22, 8(x8) ; bnez x22, begin ; addi x8, x8, 48 ; la x22, behind")
-    text.append("bltu x8, x22, begin ; li x10, 0 ; li x17, 93 ; ecall")
+    text.append("done: lw x22, 8(x8) ; addi x22, x22, -1 ; sw x22, 8(x8) ; bnez x22, begin ; addi x8, x8, 48 ; lw x22, 8(x8)")
+    text.append("bnez x22, begin ; li x10, 0 ; li x17, 93 ; ecall")
     cleared = " ; ".join(f"li x{it}, 0" for it in (1, 3, 4, 5, 6, 7, *range(10, 22), *range(24, 32)))
-    text.append(f"begin: lw x2, 4(x8) ; {cleared} ; lw x22, 0(x8) ; jr x22")
-    text += [".balign 4", "tasks:"]
+    return "\n".join([*text, f"begin: lw x2, 4(x8) ; {cleared} ; lw x22, 0(x8) ; jr x22", ".balign 16", "tasks:", ""])
+
+
+def records(tasks, words, at):
+    """The records of the tasks, which stand at this address, and their words: entry, stack top, jobs, where the words begin and end, and room."""
+    place, rows, all_words = at + 48 * (len(tasks) + 1), [], []
     for number, (name, jobs, entry, stack) in enumerate(tasks):
-        text.append(f".word {entry}, {stack}, {jobs}, words_{number}, words_{number + 1}, 0, 0, 0, 0, 0, {number}, 0")
-    text.append("behind:")
-    for number, (name, *_) in enumerate(tasks):
-        text.append(f"words_{number}: " + " ; ".join(f".word {it % 2**32}" for it in words[name]))
-    return "\n".join([*text, f"words_{len(tasks)}:", ""])
+        end = place + 4 * len(words[name])
+        rows += [entry, stack, jobs, place, end, 0, 0, 0, 0, 0, number, 0]
+        place, all_words = end, all_words + words[name]
+    return b"".join(struct.pack("<I", it % 2**32) for it in [*rows, *[0] * 12, *all_words])
 
 
-def jump_and_link(at, target):
-    """The word of `jal x9` to the target."""
-    by = target - at
-    assert -(2**20) <= by < 2**20
-    return (by >> 20 & 1) << 31 | (by >> 1 & 0x3FF) << 21 | (by >> 11 & 1) << 20 | (by >> 12 & 0xFF) << 12 | 9 << 7 | 0x6F
+def process(content, entry):
+    """The file of a process whose memory from address 0 on is the content."""
+    head = struct.pack("<16s2H5I6H", b"\x7fELF\x01\x01\x01", 2, 243, 1, entry, 52, 0, 0, 52, 32, 1, 40, 0, 0)
+    return (head + struct.pack("<8I", 1, 4096, 0, 0, len(content), len(content), 7, 4096)).ljust(4096, b"\0") + content
 
 
-def by_qemu(image, lines, words, folder, name):
-    """What the tasks of the image put out under qemu, as `source` tells it."""
-    tasks, content = tasks_in(image)
-    base = -(-len(content) // 4096) * 4096 + 4096
-    path = f"{folder}/{name}"
-    custom = [it for it in lines if it.name in CUSTOM]
-    registers = sorted({it.operands[0] for it in custom if it.name in ("pm.in", "pm.out")})
-    with open(f"{path}.h.s", "w", encoding="utf-8") as it:
-        it.write(f'.option norelax\n.section .image,"awx",@progbits\n.incbin "{path}.content"\n.section .harness,"awx",@progbits\n')
-        it.write(harness(registers, tasks, words))
-    with open(f"{path}.ld", "w", encoding="utf-8") as it:
-        it.write(f"ENTRY(_start)\nSECTIONS {{ .image 0 : {{ *(.image) }} .harness {base} : {{ *(.harness) }} }}\n")
-    with open(f"{path}.content", "wb") as it:
-        it.write(content)
-    # twice: the first time tells where the work of the custom words stands
-    for is_placed in (False, True):
-        call("riscv64-unknown-elf-as", *ARCH, "-o", f"{path}.h.o", f"{path}.h.s")
-        call("riscv64-unknown-elf-ld", "-m", "elf32lriscv", "--no-warn-rwx-segments", "-T", f"{path}.ld", "-o", f"{path}.elf", f"{path}.h.o")
-        if not is_placed:
-            places = {it[2]: int(it[0], 16) for it in map(str.split, call("riscv64-unknown-elf-nm", f"{path}.elf").decode().splitlines())}
-            with open(f"{path}.content", "wb") as it:
-                it.write(patched(content, custom, places))
-    said = call("qemu-riscv32", f"{path}.elf")
-    found = [(int.from_bytes(said[at : at + 4], "little"), int.from_bytes(said[at + 4 : at + 8], "little")) for at in range(0, len(said), 8)]
-    text = ""
-    for number, (task, jobs, *_) in enumerate(tasks):
-        text += f"task {task} jobs {jobs}\n" + "".join(f"out {word}\n" for at, word in found if at == number)
-    return text
+class Qemu:
+    """Runs images under qemu; the code for custom words is assembled once."""
+
+    def __init__(self, folder):
+        self.code, self.labels = assembled(harness(), folder)
+
+    def outputs(self, image, lines, words, path):
+        """What the tasks of the image put out, as `source` tells it; the process is written to the path."""
+        tasks, content = tasks_in(image)
+        base = -(-max(len(content), *(it[3] for it in tasks)) // 4096) * 4096 + 4096
+        custom = [it for it in lines if it.name in CUSTOM]
+        content = self.patched(content, custom, base).ljust(base, b"\0") + self.code
+        with open(path, "wb") as it:
+            it.write(process(content + records(tasks, words, len(content)), base + self.labels["_start"]))
+        os.chmod(path, 0o755)
+        said = call("qemu-riscv32", path)
+        found = [(int.from_bytes(said[at : at + 4], "little"), int.from_bytes(said[at + 4 : at + 8], "little")) for at in range(0, len(said), 8)]
+        text = ""
+        for number, (task, jobs, *_) in enumerate(tasks):
+            text += f"task {task} jobs {jobs}\n" + "".join(f"out {word}\n" for at, word in found if at == number)
+        return text
+
+    def patched(self, content, custom, base):
+        """The content with its custom words replaced, where the code for them stands at the base."""
+        data = bytearray(content)
+        for it in custom:
+            if data[it.address : it.address + 4] != it.word.to_bytes(4, "little"):
+                raise ValueError(f"the image and its listing differ at {it.address}")
+            work = work_of(it)
+            word = jump_and_link(it.address, base + self.labels[work]) if work else 0x00000013
+            data[it.address : it.address + 4] = word.to_bytes(4, "little")
+        return bytes(data)
 
 
 def work_of(line):
@@ -154,13 +184,8 @@ def work_of(line):
     return f"{line.name[3:]}_{line.operands[0]}" if line.name in ("pm.in", "pm.out") else None
 
 
-def patched(content, custom, places):
-    """The content with its custom words replaced."""
-    data = bytearray(content)
-    for it in custom:
-        if data[it.address : it.address + 4] != it.word.to_bytes(4, "little"):
-            raise ValueError(f"the image and its listing differ at {it.address}")
-        work = work_of(it)
-        word = jump_and_link(it.address, places[work]) if work else 0x00000013
-        data[it.address : it.address + 4] = word.to_bytes(4, "little")
-    return bytes(data)
+def jump_and_link(at, target):
+    """The word of `jal x9` to the target."""
+    by = target - at
+    assert -(2**20) <= by < 2**20
+    return (by >> 20 & 1) << 31 | (by >> 1 & 0x3FF) << 21 | (by >> 11 & 1) << 20 | (by >> 12 & 0xFF) << 12 | 9 << 7 | 0x6F

@@ -40,7 +40,7 @@ fn add_listed(alloc: Global, files: &mut FileMap, list: &str) -> Result<(), Allo
 }
 
 /// The files of the store: those of the folder, those of a list, a source that is a byte too long, and images.
-fn files(rt: &(impl Files + AllocGlobal)) -> io::Result<FileMap> {
+pub fn files(rt: &(impl Files + AllocGlobal)) -> io::Result<FileMap> {
     let alloc = rt.alloc();
     let mut files = FileMap::new(alloc);
     for name in ["five.c", "marked.run", "marked.img"] {
@@ -59,6 +59,31 @@ fn number(word: Option<&str>) -> u64 {
         Some(text) => text.parse::<u64>().unwrap_or(0),
         None => 0,
     }
+}
+
+/// What a line asks for.
+#[derive(Drop)]
+pub struct AskedLine {
+    /// The call at which the store fails, and that at which the sink does. The calls count from 1.
+    pub read_fault: u64,
+    pub write_fault: u64,
+    pub words: Vec<String>,
+}
+
+/// Takes a line apart.
+pub fn asked_in(alloc: Global, line: &str) -> Result<AskedLine, AllocError> {
+    let mut parts = line.split_whitespace();
+    let read_fault = number(parts.next());
+    let write_fault = number(parts.next());
+    let mut words = Vec::new(alloc);
+    for word in parts {
+        words.push(String::from_str(alloc, word)?)?;
+    }
+    Ok(AskedLine {
+        read_fault,
+        write_fault,
+        words,
+    })
 }
 
 /// A byte as two hexadecimal digits.
@@ -85,19 +110,13 @@ fn shown(alloc: Global, bytes: &[u8]) -> Result<String, AllocError> {
     Ok(text)
 }
 
-/// Tells the answer to a line. The sink takes four bytes in a call. The calls count from 1.
+/// Tells the answer to a line. The sink takes four bytes in a call.
 fn tell_line(rt: &(impl Print + Files + AllocGlobal), line: &str) -> io::Result<()> {
     let alloc = rt.alloc();
-    let mut parts = line.split_whitespace();
-    let read_fault = number(parts.next());
-    let write_fault = number(parts.next());
-    let mut words = Vec::new(alloc);
-    for word in parts {
-        words.push(String::from_str(alloc, word)?)?;
-    }
-    let mut store = MemoryStore::new(files(rt)?, vec![in alloc; read_fault]?);
-    let mut sink = MemorySink::new(alloc, 100_000, 4, vec![in alloc; write_fault]?)?;
-    let status = prem(alloc, &words, &mut store, &mut sink);
+    let asked = asked_in(alloc, line)?;
+    let mut store = MemoryStore::new(files(rt)?, vec![in alloc; asked.read_fault]?);
+    let mut sink = MemorySink::new(alloc, 100_000, 4, vec![in alloc; asked.write_fault]?)?;
+    let status = prem(alloc, &asked.words, &mut store, &mut sink);
     let written = shown(alloc, sink.bytes())?;
     println!(rt; "{line} => {status:?} {written}")
 }

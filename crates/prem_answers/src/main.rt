@@ -1,4 +1,4 @@
-//! Answers of the program over stores and sinks in memory: to sources, at limits, and to commands whose outside may fail.
+//! Answers of the programs over stores and sinks in memory: to sources, at limits, to commands whose outside may fail, and of two cores.
 //!
 //! Each answer is a line, with a `$` for each end of a line of what is written. `stdout` has the lines as they were
 //! worked out by hand.
@@ -6,6 +6,7 @@
 
 mod commands;
 mod limits;
+mod pairs;
 mod sources;
 
 use std::io;
@@ -16,5 +17,6 @@ fn main(rt: HostRuntime) -> io::Result<()> {
     commands::tell(&rt, "commands.txt")?;
     commands::tell(&rt, "sets.txt")?;
     commands::tell(&rt, "runs.txt")?;
+    pairs::tell(&rt, "pairs.txt")?;
     commands::tell_steady(&rt)
 }

@@ -5,3 +5,7 @@ pub mod Told
 pub mod StubNumbers
 pub mod CountsLemmas
 pub mod FactsLemmas
+pub mod Turns
+pub mod AlikeSums
+pub mod Reaches
+pub mod Under

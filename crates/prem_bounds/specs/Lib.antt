@@ -4,3 +4,5 @@ pub mod Told
 pub mod Laws
 pub mod Counts
 pub mod Facts
+pub mod Turns
+pub mod ToldSums

@@ -7,11 +7,15 @@
 mod bounds;
 pub mod counts;
 pub mod facts;
+mod intervals;
 mod laws;
+mod reach;
 mod scale;
+mod stretches;
 mod table;
 mod weights;
 
 pub use bounds::{BoundTooLarge, bound, bound_at, job_bound};
+pub use intervals::longest;
 pub use laws::stubs_are_in_order;
 pub use table::CodeTable;

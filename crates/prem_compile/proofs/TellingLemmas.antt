@@ -1,4 +1,5 @@
 pub mod PartsThere
 pub mod Naming
 pub mod Flattened
+pub mod Bounded
 pub mod Limits

@@ -3,5 +3,5 @@ mod run;
 mod set;
 mod tasks;
 
-pub use run::{read_run_file, read_run_file_by};
+pub use run::{names_of, read_run_file, read_run_file_by};
 pub use set::{read_set_file, read_sources, read_task_set, read_task_set_by};

@@ -9,4 +9,5 @@ pub mod Left
 pub mod Beginning
 pub mod Going
 pub mod Lawful
+pub mod Words
 mod Rows

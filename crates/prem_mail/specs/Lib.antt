@@ -6,3 +6,4 @@ pub mod Mailing
 pub mod MailFields
 pub mod Stopping
 pub mod Laws
+pub mod Good

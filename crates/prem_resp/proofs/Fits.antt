@@ -54,7 +54,7 @@ record AreFound (loads : List Load) (found : List Busy) : Type 0 where
   count : length found ≡ length loads
   each : (i : ℕ) (busy : Busy) → slice_get found i ≡ Some busy → IsFound loads i busy
 
-found_long : (loads : List Load) (i count : ℕ) → length (found_from loads i count) ≡ count
+pub found_long : (loads : List Load) (i count : ℕ) → length (found_from loads i count) ≡ count
 found_long loads i zero = refl
 found_long loads i (suc count) = ap suc (found_long loads (i + 1) count)
 

@@ -1,4 +1,11 @@
 pub mod Fits
+pub mod LoadsAre
+pub mod Found
+pub mod Endings
+pub mod Reading
+pub mod Headline
+pub mod Stages
+pub mod Complete
 mod Sample
 mod Rows
 pub mod TimedLemmas

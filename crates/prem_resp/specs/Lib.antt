@@ -1,4 +1,10 @@
 pub mod Lines
 pub mod Fits
+pub mod Told
+pub mod Statuses
+pub mod Stages
+pub mod Headline
+pub mod Answer
+pub mod Complete
 pub mod Timed
 pub mod Timely

@@ -4,8 +4,16 @@
 //! - `timely`: the jobs of a compiled set end in time where the busy periods of its loads are within the periods.
 #![tactic(auto)]
 
+mod answer;
 mod laws;
+mod lines;
+mod loads;
+mod status;
 pub mod timed;
 pub mod timely;
+mod top;
+mod words;
 
 pub use laws::fitting_sets_end_in_time;
+pub use status::FitStatus;
+pub use top::fit;

@@ -2,3 +2,4 @@ pub mod Running
 pub mod SetLaws
 pub mod RunSound
 pub mod Sample
+pub mod Mail

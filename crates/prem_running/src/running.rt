@@ -24,7 +24,7 @@ use std::alloc::{AllocError, Global};
 const LAST_CYCLE: u64 = 1 << 61;
 
 /// The cycle up to which a run goes: the one that the words tell, else the limit of the set.
-fn run_limit(cycles: Option<u64>, limit: u64) -> u64
+pub fn run_limit(cycles: Option<u64>, limit: u64) -> u64
     ensures limit { result ≡ run_limit cycles limit }
     ensures within { result ≤ 2 ^ 61 }
 {

@@ -1,5 +1,7 @@
 -- The answers to commands keep what they promise.
 use Rattle.std.proofs.Common.{◌≡◌, ℕ, true, List, Option, None, Some, Ok, refl, ap, ◌∙◌, sym, subst}
+use Rattle.prem_cycle.specs.Inputs.{FitsRun}
+use Rattle.prem_set.proofs.RunLemmas.Lawful.{run_is_lawful}
 use Rattle.prem_layout.specs.Rules.{Refusal}
 use Rattle.prem_line.proofs.Chain.{same_Ok}
 use Rattle.prem_tasks.specs.Told.{Told}
@@ -9,9 +11,14 @@ use Rattle.prem_lru.specs.Rules.{rule_of}
 use Rattle.prem_sets_sound.specs.Accepted.Accepted.{setup_in}
 use Rattle.prem_sets_sound.specs.Meant.{promises_in}
 use Rattle.prem_sets_sound.proofs.Sound.{sets_are_sound}
+use Rattle.prem_mail.specs.declared.feed.Feed.{Feed}
+use Rattle.prem_mail.specs.Good.{IsGoodRun}
+use Rattle.prem_mail.proofs.Words.{mailed_runs_are_good}
+use Rattle.prem_command.specs.Words.{MailAsked}
 use Rattle.prem_running.specs.RunSound.Runs.{SuitsRun}
 use Rattle.prem_running.proofs.RunSoundLemmas.Reports.{sound_reports_end}
 use Rattle.prem_running.proofs.RunSoundLemmas.SetRuns.{inputs_are_lawful}
+use Rattle.prem_running.proofs.SetLawsLemmas.Names.{lawful_runs_fit}
 use Rattle.prem_answer.specs.declared.status.Status.{Status}
 use Rattle.prem_answer.specs.declared.status.Status.TheVariants.{Done, Refused}
 use Rattle.prem_answer.specs.Stages.{Reply, Reads, replied}
@@ -23,13 +30,19 @@ use Rattle.prem_build.specs.Build.{compiled_reply as sheet_reply, judged_reply a
 use Rattle.prem_source.specs.Source.{judged_reply as source_judged, source_reply, tasks_text}
 use Rattle.prem_exec.specs.Sources.Sources.{reading_run, source_limit}
 use Rattle.prem_running.specs.Running.{compiled_reply, judged_reply as run_judged, run_limit, set_reply}
+use Rattle.prem_running.specs.Mail.Files.{reading_mail}
+use Rattle.prem_running.specs.Mail.Mail.{compiled_reply as mail_compiled, judged_reply as mail_judged, set_reply as mail_reply, mail_stages}
 use Rattle.prem_one.specs.One.{judged_answer as one_judged, one_answer, one_set, one_stages, run_text, state_of}
+use Rattle.prem_command.specs.Words.{TileAsked}
+use Rattle.prem_tile_answer.specs.Reply.{tile_reply, tile_stages}
+use Rattle.prem_tile_answer.specs.Promise.{KeepsTiles}
+use Rattle.prem_tile_answer.proofs.Keeping.{replies_keep}
 use Rattle.prem_running.specs.Sample.Trace.{sample_set}
 use Rattle.prem_running.specs.Sample.Sample.{compiled_reply as sample_compiled, judged_reply as sample_judged}
-use Rattle.prem_top.specs.Read.{IsRead, SetIsRead, RunIsRead}
-use Rattle.prem_top.specs.Promises.{IsAccepted, IsSoundTelling, Keeps, TellsFirstBroken, IsFirstBroken}
-use Rattle.prem_top.specs.PromiseLaws.{BuildsKeep, ChecksKeep, ListsKeep, OnesKeep, RunsKeep, SamplesKeep, SourcesKeep}
-use Rattle.prem_top.proofs.Readings.{goes_on, run_goes, SetGoes, set_goes, is_judged}
+use Rattle.prem_top.specs.Read.{IsRead, SetIsRead, RunIsRead, MailIsRead}
+use Rattle.prem_top.specs.Promises.{IsAccepted, IsSoundTelling, Keeps, TellsFirstBroken, IsFirstBroken, delivered_to}
+use Rattle.prem_top.specs.PromiseLaws.{BuildsKeep, ChecksKeep, ListsKeep, OnesKeep, RunsKeep, SamplesKeep, SourcesKeep, TilesKeep, MailKeeps}
+use Rattle.prem_top.proofs.Readings.{goes_on, run_goes, SetGoes, set_goes, is_judged, run_goes_on, mail_goes}
 use Rattle.prem_top.proofs.Values.{sample_has_values, sets_read_have_values}
 use Rattle.prem_top.proofs.One.{gives, sound, text_told}
 
@@ -195,3 +208,79 @@ samples_keep reads seed given is =
           record { unbroken = told.0; sound = sets_are_sound (sample_set seed) (sample_has_values seed) told.0; text_is = told.1 };
       on_refused = judged.on_refused;
     }
+
+-- ---- `tile`
+
+-- a source is read and answered
+record Tiled (reads : Reads) (asked : TileAsked) (given : Reply) : Type 0 where
+  bytes : List ℕ
+  read : IsRead reads 0 source_limit asked.file bytes
+  answer_is : tile_reply asked bytes ≡ given
+
+tile_goes : (reads : Reads) (asked : TileAsked) (given : Reply) → is_judged given.0 ≡ true → replied (tile_stages asked reads) ≡ given → Tiled reads asked given
+tile_goes reads asked given answered is =
+    let g = goes_on reads source_limit asked.file Ok (λ bytes reads. Ok (tile_reply asked bytes)) given (λ bytes reply is. cc) answered is in
+    record { bytes = g.bytes; read = g.read; answer_is = subst (λ bytes. tile_reply asked bytes ≡ given) (sym (same_Ok g.bytes g.made g.made_is)) g.goes }
+
+pub tiles_keep : TilesKeep
+tiles_keep reads asked given range is = record {
+  on_done = λ done.
+      let g = tile_goes reads asked given (done_is_judged given.0 done) is in
+      record { bytes = g.bytes; read = g.read; tells = (subst (λ (r : Reply). KeepsTiles asked g.bytes r) g.answer_is (replies_keep asked g.bytes range)).on_done done };
+  on_refused = λ refused.
+      let g = tile_goes reads asked given (refused_is_judged given.0 refused) is in
+      record { bytes = g.bytes; read = g.read; tells = (subst (λ (r : Reply). KeepsTiles asked g.bytes r) g.answer_is (replies_keep asked g.bytes range)).on_refused refused };
+}
+
+-- ---- `mail`
+
+-- a set, its run file and its mail file are read, and the set is judged
+record Mailed (reads : Reads) (asked : MailAsked) (given : Reply) : Type 0 where
+  set : TaskSet
+  read : SetIsRead reads asked.of set
+  input : RunText
+  run_read : RunIsRead reads set asked.run input
+  feeds : List Feed
+  mail_read : MailIsRead reads set asked.mail feeds
+  goes : mail_judged asked.cycles set input feeds (broken set) ≡ given
+
+mailed : (reads : Reads) (asked : MailAsked) (given : Reply) → is_judged given.0 ≡ true → replied (mail_stages asked reads) ≡ given → Mailed reads asked given
+mailed reads asked given judged is =
+    let s = set_goes reads asked.of (λ set. reading_run set asked.run (λ input. reading_mail set asked.mail (λ feeds reads. Ok (mail_reply asked.cycles set input feeds)))) given judged is in
+    let r = run_goes_on reads s.set asked.run (λ input. reading_mail s.set asked.mail (λ feeds reads. Ok (mail_reply asked.cycles s.set input feeds))) given judged s.goes in
+    let m = mail_goes reads s.set asked.mail (λ feeds. mail_judged asked.cycles s.set r.input feeds (broken s.set)) given judged r.goes in
+    record { set = s.set; read = s.read; input = r.input; run_read = r.read; feeds = m.feeds; mail_read = m.read; goes = m.goes }
+
+pub mail_keeps : MailKeeps
+mail_keeps reads asked given is = record {
+  on_done = λ done.
+      let g = mailed reads asked given (done_is_judged given.0 done) is in
+      let set = g.set in
+      let c = compiled set in
+      let n = run_limit asked.cycles c.limit in
+      let judged = judged_by set (mail_judged asked.cycles set g.input g.feeds) (mail_compiled asked.cycles g.input g.feeds c).1 given refl (λ r. refl) (broken set) refl g.goes in
+      let told = judged.on_done done in
+      let accepted_is = accepted reads asked.of set g.read told.0 in
+      let r = g.run_read in
+      let suits = subst (λ (i : RunText). SuitsRun (setup_in set) i.words i.requests) (sym r.input_is) (inputs_are_lawful set r.bytes r.lines told.0 r.formed) in
+      let fits : FitsRun (setup_in set) g.input.words g.input.requests =
+      subst (λ (i : RunText). FitsRun (setup_in set) i.words i.requests) (sym r.input_is) (lawful_runs_fit set r.lines.words r.lines.requests told.0 (run_is_lawful r.bytes _ r.lines r.formed)) in
+      let good : IsGoodRun (rule_of set.plant.policy) (setup_in set) c.image.content (promises_in set) c.limit (delivered_to asked c g.input g.feeds).lists g.input.requests n =
+      mailed_runs_are_good (rule_of set.plant.policy) (setup_in set) c.image.content (promises_in set) c.limit g.input.words g.input.requests g.feeds n accepted_is.sound suits.inputs_are fits suits.puts in
+      record {
+        set = set;
+        accepted = accepted_is;
+        input = g.input;
+        run_read = r;
+        feeds = g.feeds;
+        mail_read = g.mail_read;
+        good = good;
+        ends = sound_reports_end (rule_of set.plant.policy) (setup_in set) c.image.content (promises_in set) c.limit (delivered_to asked c g.input g.feeds).lists g.input.requests n accepted_is.sound
+            (record { inputs_are = good.inputs; trace = suits.trace; puts = suits.puts });
+        text_is = told.1;
+      };
+  on_refused = λ refused.
+      let g = mailed reads asked given (refused_is_judged given.0 refused) is in
+      let judged = judged_by g.set (mail_judged asked.cycles g.set g.input g.feeds) (mail_compiled asked.cycles g.input g.feeds (compiled g.set)).1 given refl (λ r. refl) (broken g.set) refl g.goes in
+      record { set = g.set; read = g.read; input = g.input; run_read = g.run_read; feeds = g.feeds; mail_read = g.mail_read; first = judged.on_refused refused };
+}

@@ -8,3 +8,4 @@ pub mod Headline
 pub mod Told
 pub mod Complete
 pub mod Rows
+pub mod Ranges

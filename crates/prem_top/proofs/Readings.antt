@@ -13,7 +13,10 @@ use Rattle.prem_answer.specs.declared.status.Status.TheVariants.{Done, Refused}
 use Rattle.prem_answer.specs.Stages.{Reply, Reads, Stage, and_then, form_reply, later_reads, missing_reply, reading, replied, within_limit}
 use Rattle.prem_exec.specs.Forms.{RunText, line_why, run_in}
 use Rattle.prem_exec.specs.Sources.Sources.{names_of, reading_run, reading_set, reading_tasks, run_limit, run_of_bytes, set_in, set_limit, set_of_bytes, set_why, set_with, source_limit, task_of_source, task_with}
-use Rattle.prem_top.specs.Read.{IsRead, SourcesAreRead, SetIsRead, RunIsRead}
+use Rattle.prem_mail.specs.declared.feed.Feed.{Feed}
+use Rattle.prem_mail.specs.MailFile.{MailRefusal, feeds_of}
+use Rattle.prem_running.specs.Mail.Files.{mail_limit, line_why as mail_why, feeds_in, feeds_of_bytes, reading_mail}
+use Rattle.prem_top.specs.Read.{IsRead, SourcesAreRead, SetIsRead, RunIsRead, MailIsRead}
 
 -- ---- one reading
 
@@ -182,5 +185,55 @@ run_goes reads set name next given judged goes =
     record {
       input = first.made;
       read = record { bytes = first.bytes; file = read_at k run_limit reads name first.bytes first.read; lines = lines.0; formed = lines.1.0; input_is = lines.1.1 };
+      goes = first.goes;
+    }
+
+-- ---- a run file and a mail file
+
+pub record RunGoesOn (reads : Reads) (set : TaskSet) (name : List ℕ) (next : RunText → Stage Reply) (given : Reply) : Type 0 where
+  pub input : RunText
+  pub read : RunIsRead reads set name input
+  pub goes : replied (next input (reads_from (2 + length set.tasks) reads)) ≡ given
+
+-- others are read behind the run file
+pub run_goes_on : (reads : Reads) (set : TaskSet) (name : List ℕ) (next : RunText → Stage Reply) (given : Reply) → is_judged given.0 ≡ true →
+    replied (reading_run set name next (reads_from (1 + length set.tasks) reads)) ≡ given → RunGoesOn reads set name next given
+run_goes_on reads set name next given judged goes =
+    let k = 1 + length set.tasks in
+    let count : k + 1 ≡ 2 + length set.tasks = omega arith in
+    let first = goes_on (reads_from k reads) run_limit name (run_of_bytes set name) next given
+    (λ bytes reply is. run_formed name (lines_of_run bytes (names_of set)) reply is) judged goes in
+    let lines = run_in_is name (lines_of_run first.bytes (names_of set)) first.made first.made_is in
+    record {
+      input = first.made;
+      read = record { bytes = first.bytes; file = read_at k run_limit reads name first.bytes first.read; lines = lines.0; formed = lines.1.0; input_is = lines.1.1 };
+      goes = goes_alike next first.made first.made (later_reads (reads_from k reads)) (reads_from (2 + length set.tasks) reads) given refl (later_from k reads ∙ ap (λ n. reads_from n reads) count) first.goes;
+    }
+
+mail_formed : (name : List ℕ) (r : Result (List Feed) MailRefusal) (reply : Reply) → feeds_in name r ≡ Err reply → is_judged reply.0 ≡ false
+mail_formed name (Ok feeds) reply is = cc
+mail_formed name (Err refusal) reply is =
+    let same : form_reply name (mail_why refusal) ≡ reply = cc in
+    ap (λ (r : Reply). is_judged r.0) (sym same)
+
+feeds_in_is : (name : List ℕ) (r : Result (List Feed) MailRefusal) (feeds : List Feed) → feeds_in name r ≡ Ok feeds → r ≡ Ok feeds
+feeds_in_is name (Ok fs) feeds is = ap Ok (same_Ok fs feeds is)
+feeds_in_is name (Err refusal) feeds is = cc
+
+pub record MailGoes (reads : Reads) (set : TaskSet) (name : List ℕ) (next : List Feed → Reply) (given : Reply) : Type 0 where
+  pub feeds : List Feed
+  pub read : MailIsRead reads set name feeds
+  pub goes : next feeds ≡ given
+
+-- the mail file is the last one
+pub mail_goes : (reads : Reads) (set : TaskSet) (name : List ℕ) (next : List Feed → Reply) (given : Reply) → is_judged given.0 ≡ true →
+    replied (reading_mail set name (λ feeds reads. Ok (next feeds)) (reads_from (2 + length set.tasks) reads)) ≡ given → MailGoes reads set name next given
+mail_goes reads set name next given judged goes =
+    let k = 2 + length set.tasks in
+    let first = goes_on (reads_from k reads) mail_limit name (feeds_of_bytes set name) (λ feeds reads. Ok (next feeds)) given
+    (λ bytes reply is. mail_formed name (feeds_of bytes (names_of set)) reply is) judged goes in
+    record {
+      feeds = first.made;
+      read = record { bytes = first.bytes; file = read_at k mail_limit reads name first.bytes first.read; formed = feeds_in_is name (feeds_of first.bytes (names_of set)) first.made first.made_is };
       goes = first.goes;
     }

@@ -2,7 +2,7 @@
 use Rattle.std.specs.Prelude.{◌≡◌, ℕ, List, take, Option, None, Some, Ok, codes}
 use Rattle.std.specs.Io.KnownBytes.{append_known}
 use Rattle.prem_io.specs.Files.{Files}
-use Rattle.prem_command.specs.Words.{Asked, one, check, build, list, source, run, exec, sample, command_of}
+use Rattle.prem_command.specs.Words.{Asked, one, check, build, list, source, run, exec, sample, tile, mail, command_of}
 use Rattle.prem_answer.specs.declared.status.Status.{Status}
 use Rattle.prem_answer.specs.declared.status.Status.TheVariants.{Usage, ReadFault, WriteFault, OutOfMemory}
 use Rattle.prem_answer.specs.Stages.{Reply, Reads, Stage, AreReads, replied}
@@ -10,16 +10,18 @@ use Rattle.prem_exec.specs.Exec.{exec_stages}
 use Rattle.prem_one.specs.One.{one_stages}
 use Rattle.prem_build.specs.declared.sheet.Sheet.TheVariants.{Bounds, Image, Listing}
 use Rattle.prem_build.specs.Build.{sheet_stages}
+use Rattle.prem_tile_answer.specs.Reply.{tile_stages}
 use Rattle.prem_source.specs.Source.{source_stages}
 use Rattle.prem_running.specs.Running.{run_stages}
 use Rattle.prem_running.specs.Sample.Sample.{sample_stages}
+use Rattle.prem_running.specs.Mail.Mail.{mail_stages}
 use Rattle.prem_top.specs.Headline.{CommandKeeps}
 
 -- ---- the commands
 
 abbrev pub usage_reply : Reply
 usage_reply =
-    (Usage, codes "usage: prem one FILE | check SET | build SET | list SET | source SET RUN | run SET RUN [--cycles N] [--intervals] | exec IMAGE RUN [--cycles N] [--intervals] | sample N\n")
+    (Usage, codes "usage: prem one FILE | check SET | build SET | list SET | source SET RUN | run SET RUN [--cycles N] [--intervals] | exec IMAGE RUN [--cycles N] [--intervals] | sample N | tile FILE FUNCTION K L | mail SET RUN MAIL [--cycles N]\n")
 
 -- where there is no such command
 abbrev pub no_command : Stage Reply
@@ -35,6 +37,8 @@ asked_answer (list set) = sheet_stages Listing set
 asked_answer (source set file) = source_stages set file
 asked_answer (run asked) = run_stages asked
 asked_answer (sample seed) = sample_stages seed
+asked_answer (tile asked) = tile_stages asked
+asked_answer (mail asked) = mail_stages asked
 
 abbrev pub command_answer : Option Asked → Stage Reply
 command_answer None = no_command

@@ -2,7 +2,7 @@
 use Rattle.std.specs.Prelude.{◌≡◌, ℕ, List}
 use Rattle.prem_sets_sound.specs.Accepted.Accepted.{HasValues}
 use Rattle.prem_tasks.specs.Broken.{TaskSet}
-use Rattle.prem_command.specs.Words.{RunAsked}
+use Rattle.prem_command.specs.Words.{RunAsked, TileAsked, MailAsked}
 use Rattle.prem_answer.specs.Stages.{Reply, Reads, replied}
 use Rattle.prem_build.specs.declared.sheet.Sheet.TheVariants.{Bounds, Image, Listing}
 use Rattle.prem_build.specs.Build.{sheet_stages}
@@ -11,8 +11,11 @@ use Rattle.prem_running.specs.Running.{run_stages}
 use Rattle.prem_one.specs.One.{one_stages}
 use Rattle.prem_running.specs.Sample.Trace.{sample_set}
 use Rattle.prem_running.specs.Sample.Sample.{sample_stages}
+use Rattle.prem_tile_answer.specs.Asked.{IsInRange}
+use Rattle.prem_tile_answer.specs.Reply.{tile_stages}
 use Rattle.prem_top.specs.Read.{SetIsRead}
-use Rattle.prem_top.specs.Promises.{Keeps, IsSoundCheck, IsSoundBuild, IsSoundList, IsSoundRun, IsSoundSource, IsSoundOne, IsSoundSample, TellsFirstBroken, IsFirstBroken, IsFirstBrokenRun, IsFirstBrokenOne}
+use Rattle.prem_top.specs.Promises.{Keeps, IsSoundCheck, IsSoundBuild, IsSoundList, IsSoundRun, IsSoundSource, IsSoundOne, IsSoundSample, IsSoundTile, TellsFirstBroken, IsFirstBroken, IsFirstBrokenRun, IsFirstBrokenOne, IsWhyNotTile, IsSoundMail, IsFirstBrokenMail}
+use Rattle.prem_running.specs.Mail.Mail.{mail_stages}
 
 -- the values of a set that is read are in their ranges
 abbrev pub SetsReadHaveValues : Type 0
@@ -43,3 +46,13 @@ OnesKeep = (reads : Reads) (file : List ℕ) (given : Reply) → replied (one_st
 abbrev pub SamplesKeep : Type 0
 SamplesKeep =
     (reads : Reads) (seed : ℕ) (given : Reply) → replied (sample_stages seed reads) ≡ given → Keeps (IsSoundSample seed) (TellsFirstBroken (sample_set seed)) given
+
+abbrev pub TilesKeep : Type 0
+TilesKeep =
+    (reads : Reads) (asked : TileAsked) (given : Reply) → IsInRange asked → replied (tile_stages asked reads) ≡ given →
+    Keeps (IsSoundTile reads asked) (IsWhyNotTile reads asked) given
+
+abbrev pub MailKeeps : Type 0
+MailKeeps =
+    (reads : Reads) (asked : MailAsked) (given : Reply) → replied (mail_stages asked reads) ≡ given →
+    Keeps (IsSoundMail reads asked) (IsFirstBrokenMail reads asked) given

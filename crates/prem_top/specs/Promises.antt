@@ -1,5 +1,6 @@
 -- What the answers to commands promise: where a set is accepted, its image is sound; where it is refused, the rule told is the first one broken.
 use Rattle.std.specs.Prelude.{◌≡◌, ℕ, true, List, [], ◌++◌, None, Some, Ok}
+use Rattle.prem_lru.specs.Rules.{rule_of}
 use Rattle.prem_cycle.specs.State.{MachineState, task_in}
 use Rattle.prem_cycle.specs.Cycle.{is_finished}
 use Rattle.prem_cycle.specs.FactsOf.{report_of}
@@ -7,14 +8,18 @@ use Rattle.prem_syntax.specs.Syntax.{ProgramText}
 use Rattle.prem_text.specs.Texts.{reads as program_of}
 use Rattle.prem_meaning.specs.Statements.{ProgramState}
 use Rattle.prem_meaning.specs.Source.{source}
+use Rattle.prem_mail.specs.declared.feed.Feed.{Feed}
+use Rattle.prem_mail.specs.Delivery.{Delivery}
+use Rattle.prem_mail.specs.Good.{IsGoodRun}
 use Rattle.prem_layout.specs.Rules.{Refusal}
 use Rattle.prem_tasks.specs.Told.{Told}
 use Rattle.prem_tasks.specs.Broken.{TaskSet, broken, programs_of}
 use Rattle.prem_tasks.specs.Compiled.{CompiledText, compiled}
 use Rattle.prem_sets_sound.specs.Accepted.Accepted.{HasValues, setup_in}
+use Rattle.prem_sets_sound.specs.Meant.{promises_in}
 use Rattle.prem_sets_sound.specs.Sound.{IsSoundSet}
 use Rattle.prem_imagefile.specs.Spelling.{image_bytes}
-use Rattle.prem_command.specs.Words.{RunAsked}
+use Rattle.prem_command.specs.Words.{RunAsked, TileAsked, MailAsked}
 use Rattle.prem_answer.specs.declared.status.Status.TheVariants.{Done, Refused}
 use Rattle.prem_answer.specs.Stages.{Reply, Reads}
 use Rattle.prem_exec.specs.Forms.{RunText}
@@ -27,9 +32,11 @@ use Rattle.prem_build.specs.Tables.Listing.{list_text}
 use Rattle.prem_source.specs.Source.{tasks_text}
 use Rattle.prem_running.specs.Running.{run_limit, compiled_reply}
 use Rattle.prem_one.specs.One.{one_set, output_lines, run_lines, state_of}
+use Rattle.prem_tile_answer.specs.Promise.{TellsTiled, TellsWhyNot}
 use Rattle.prem_running.specs.Sample.Trace.{sample_set}
 use Rattle.prem_running.specs.Sample.Sample.{compiled_reply as sample_reply}
-use Rattle.prem_top.specs.Read.{IsRead, SetIsRead, RunIsRead}
+use Rattle.prem_running.specs.Mail.Mail.{compiled_reply as mailed_reply, delivered_at, mailed_input}
+use Rattle.prem_top.specs.Read.{IsRead, SetIsRead, RunIsRead, MailIsRead}
 
 -- ---- accepted
 
@@ -101,6 +108,29 @@ pub record IsSoundSample (seed : ℕ) (text : List ℕ) : Type 0 where
   pub sound : IsSoundSet (sample_set seed)
   pub text_is : text ≡ (sample_reply seed (compiled (sample_set seed))).1
 
+-- a text is that of the program of a file with tiles, which breaks no rule, does the same, and is read back from it
+pub record IsSoundTile (reads : Reads) (asked : TileAsked) (text : List ℕ) : Type 0 where
+  pub bytes : List ℕ
+  pub read : IsRead reads 0 source_limit asked.file bytes
+  pub tells : TellsTiled asked bytes text
+
+-- the lists that are delivered to the tasks of a compiled set, up to the cycle to which its run goes
+abbrev pub delivered_to : MailAsked → CompiledText → RunText → List Feed → Delivery
+delivered_to asked c input feeds = delivered_at c.image input feeds (run_limit asked.cycles c.limit)
+
+-- a text tells the lists of input words that the run files and the devices of such a set gave, and the report of its run, which is that of the run on these
+-- lists: for them its state is good, from the set's limit on it has finished, and the report ends as finished or stopped
+pub record IsSoundMail (reads : Reads) (asked : MailAsked) (text : List ℕ) : Type 0 where
+  pub set : TaskSet
+  pub accepted : IsAccepted reads asked.of set
+  pub input : RunText
+  pub run_read : RunIsRead reads set asked.run input
+  pub feeds : List Feed
+  pub mail_read : MailIsRead reads set asked.mail feeds
+  pub good : IsGoodRun (rule_of set.plant.policy) (setup_in set) (compiled set).image.content (promises_in set) (compiled set).limit (delivered_to asked (compiled set) input feeds).lists input.requests (run_limit asked.cycles (compiled set).limit)
+  pub ends : EndsWell (compiled set).limit (run_limit asked.cycles (compiled set).limit) (state_at (compiled set).image (mailed_input input (delivered_to asked (compiled set) input feeds)) (run_limit asked.cycles (compiled set).limit))
+  pub text_is : text ≡ (mailed_reply asked.cycles input feeds (compiled set)).1
+
 -- ---- refused
 
 -- a text tells the first rule that a set breaks
@@ -123,11 +153,27 @@ pub record IsFirstBrokenRun (reads : Reads) (name run text : List ℕ) : Type 0 
   pub run_read : RunIsRead reads set run input
   pub first : TellsFirstBroken set text
 
+-- that of the set of the files read, of which one is a run file and one a mail file
+pub record IsFirstBrokenMail (reads : Reads) (asked : MailAsked) (text : List ℕ) : Type 0 where
+  pub set : TaskSet
+  pub read : SetIsRead reads asked.of set
+  pub input : RunText
+  pub run_read : RunIsRead reads set asked.run input
+  pub feeds : List Feed
+  pub mail_read : MailIsRead reads set asked.mail feeds
+  pub first : TellsFirstBroken set text
+
 -- that of the program of a file
 pub record IsFirstBrokenOne (reads : Reads) (file text : List ℕ) : Type 0 where
   pub bytes : List ℕ
   pub read : IsRead reads 0 source_limit file bytes
   pub first : TellsFirstBroken (one_set bytes) text
+
+-- why the function of the program of a file can't be cut
+pub record IsWhyNotTile (reads : Reads) (asked : TileAsked) (text : List ℕ) : Type 0 where
+  pub bytes : List ℕ
+  pub read : IsRead reads 0 source_limit asked.file bytes
+  pub tells : TellsWhyNot asked bytes text
 
 -- ---- both
 

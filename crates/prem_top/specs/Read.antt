@@ -7,6 +7,9 @@ use Rattle.prem_tasks.specs.Broken.{TaskText, TaskSet}
 use Rattle.prem_answer.specs.Stages.{Reads}
 use Rattle.prem_exec.specs.Forms.{RunText}
 use Rattle.prem_exec.specs.Sources.Sources.{names_of, run_limit, set_limit, set_with, source_limit, task_with}
+use Rattle.prem_mail.specs.declared.feed.Feed.{Feed}
+use Rattle.prem_mail.specs.MailFile.{feeds_of}
+use Rattle.prem_running.specs.Mail.Files.{mail_limit}
 
 -- reading number n is that of this file: it gives these bytes, which are at most so many
 pub record IsRead (reads : Reads) (n limit : ℕ) (name bytes : List ℕ) : Type 0 where
@@ -36,3 +39,9 @@ pub record RunIsRead (reads : Reads) (set : TaskSet) (name : List ℕ) (input : 
   pub lines : Gathered
   pub formed : lines_of_run bytes (names_of set) ≡ Ok lines
   pub input_is : input ≡ record { words = lines.words; requests = lines.requests }
+
+-- behind a run file a mail file is read, and in form by the set's names
+pub record MailIsRead (reads : Reads) (set : TaskSet) (name : List ℕ) (feeds : List Feed) : Type 0 where
+  pub bytes : List ℕ
+  pub file : IsRead reads (2 + length set.tasks) mail_limit name bytes
+  pub formed : feeds_of bytes (names_of set) ≡ Ok feeds

@@ -1,5 +1,5 @@
 // Laws over the definitions; each is the contract of a function that does nothing.
-ghost use Rattle.prem_top.specs.PromiseLaws.{BuildsKeep, ChecksKeep, ListsKeep, OnesKeep, RunsKeep, SamplesKeep, SetsReadHaveValues, SourcesKeep};
+ghost use Rattle.prem_top.specs.PromiseLaws.{BuildsKeep, ChecksKeep, ListsKeep, OnesKeep, RunsKeep, SamplesKeep, SetsReadHaveValues, SourcesKeep, TilesKeep, MailKeeps};
 
 /// A set whose file and sources are read has its values in their ranges.
 pub fn sets_read_have_values()
@@ -17,4 +17,6 @@ pub fn commands_keep_the_headline()
     ensures sources { SourcesKeep }
     ensures ones { OnesKeep }
     ensures samples { SamplesKeep }
+    ensures tiles { TilesKeep }
+    ensures mail { MailKeeps }
 {}

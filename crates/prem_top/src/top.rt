@@ -5,6 +5,7 @@ ghost use Rattle.prem_command.specs.Words.{asked_in, command_of};
 ghost use Rattle.prem_answer.specs.Stages.{Comes, IsGiven, is_settled, reply_of};
 ghost use Rattle.prem_top.specs.Answer.{Answered, Ends, asked_answer, command_answer, usage_reply};
 ghost use Rattle.prem_top.specs.Complete.{IsComplete};
+ghost use Rattle.prem_top.specs.InRange.{AreInRange};
 
 use prem_answer::{Answer, Halt, Status, write_all};
 use prem_build::{Sheet, sheet_answer};
@@ -12,14 +13,16 @@ use prem_command::{Said, WordsFail, command};
 use prem_exec::exec_answer;
 use prem_io::{Sink, Store};
 use prem_one::one_answer;
+use prem_running::mail::mail_answer;
 use prem_running::run_answer;
 use prem_running::sample::sample_answer;
 use prem_source::source_answer;
+use prem_tile_answer::tile_answer;
 use std::alloc::Global;
 
 /// The usage line.
 const USAGE: &str =
-    "usage: prem one FILE | check SET | build SET | list SET | source SET RUN | run SET RUN [--cycles N] [--intervals] | exec IMAGE RUN [--cycles N] [--intervals] | sample N\n";
+    "usage: prem one FILE | check SET | build SET | list SET | source SET RUN | run SET RUN [--cycles N] [--intervals] | exec IMAGE RUN [--cycles N] [--intervals] | sample N | tile FILE FUNCTION K L | mail SET RUN MAIL [--cycles N]\n";
 
 /// The usage line, where there is no such command.
 fn no_command(alloc: Global) -> Result<Answer, Halt>
@@ -34,6 +37,7 @@ fn no_command(alloc: Global) -> Result<Answer, Halt>
 
 /// The answer to what the words ask for.
 fn asked_answer<S: Store>(alloc: Global, said: &Said, store: &mut S) -> Result<Answer, Halt>
+    requires { AreInRange (asked_in said.now) }
     ensures answer { Comes reply_of (IsGiven (S.files store.old) (asked_answer (asked_in said.now))) result }
     ensures fault { IsErrOf result Halt.ReadFault → Rose (S.faults store.old) (S.faults store.new) }
     ensures later { S.faults store.old ≤ S.faults store.new }
@@ -48,6 +52,8 @@ fn asked_answer<S: Store>(alloc: Global, said: &Said, store: &mut S) -> Result<A
         Said::Source { set, run } => source_answer(alloc, set, run, store),
         Said::Run(asked) => run_answer(alloc, asked, store),
         Said::Sample { seed } => sample_answer(alloc, *seed),
+        Said::Tile(asked) => tile_answer(alloc, asked, store),
+        Said::Mail(asked) => mail_answer(alloc, asked, store),
     }
 }
 

@@ -30,8 +30,8 @@ fn labels_of(alloc: Global, tasks: &[TaskText]) -> Result<Vec<Label>, AllocError
     Ok(labels)
 }
 
-/// The names by which run files speak of a set.
-fn names_of(alloc: Global, set: &TaskSet) -> Result<Names, AllocError>
+/// The names by which run files and mail files speak of a set.
+pub fn names_of(alloc: Global, set: &TaskSet) -> Result<Names, AllocError>
     ensures { IfOk result (λ names. names ≡ names_of (set_of set.now)) }
 {
     let labels = labels_of(alloc, set.tasks())?;

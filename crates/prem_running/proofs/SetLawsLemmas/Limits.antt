@@ -52,13 +52,13 @@ not_large job bound n facts (f ∷ fs) h low high =
 
 -- ---- those of all jobs
 
-abbrev InRange : TaskText → Type 0
+abbrev pub InRange : TaskText → Type 0
 InRange t = (t.period ≤ 4294967295) × (t.jobs ≤ 65535)
 
-abbrev IsSmall : JobBound → Type 0
+abbrev pub IsSmall : JobBound → Type 0
 IsSmall j = ((j.period ≤ 4294967295) × (j.jobs ≤ 65535)) × (j.bound ≤ 1099511627776)
 
-bounds_are_small : (p : Plant) (m n : ℕ) (places : List Extent) (ts : List TaskText) (qs : List ProgramText) → AllByRecursion InRange ts →
+pub bounds_are_small : (p : Plant) (m n : ℕ) (places : List Extent) (ts : List TaskText) (qs : List ProgramText) → AllByRecursion InRange ts →
     first_among group_two m qs ≡ None → first_among (group_eight p) n (placed_from p places (coded_of p.target ts qs)) ≡ None →
     AllByRecursion IsSmall (job_bounds p (placed_from p places (coded_of p.target ts qs)))
 bounds_are_small p m n places [] qs ranges two eight = tt
@@ -89,7 +89,7 @@ few_bounds p places (t ∷ ts) (q ∷ qs) =
 release_small : (jobs period : ℕ) → jobs ≤ 65535 → period ≤ 4294967295 → (jobs - 1) * period ≤ 281466386710530
 release_small jobs period few short = mul-le (jobs - 1) period 65534 4294967295 (omega (arith, few)) short
 
-last_small : (js : List JobBound) → AllByRecursion IsSmall js → last_release js ≤ 281466386710530
+pub last_small : (js : List JobBound) → AllByRecursion IsSmall js → last_release js ≤ 281466386710530
 last_small [] h = omega arith
 last_small (j ∷ js) h = greater ((j.jobs - 1) * j.period) (last_release js) (release_small j.jobs j.period h.0.0.1 h.0.0.0) (last_small js h.1)
   where
@@ -117,7 +117,7 @@ ranges_of (t ∷ ts) h =
     let one : IsTaskText t = All-head IsTaskText t ts h in
     ((one.period.1, one.jobs.1), ranges_of ts (All-tail IsTaskText t ts h))
 
-two_kept : (set : TaskSet) → broken set ≡ None → over_tasks group_two (programs_of set.tasks) ≡ None
+pub two_kept : (set : TaskSet) → broken set ≡ None → over_tasks group_two (programs_of set.tasks) ≡ None
 two_kept set e = none_first _ _ (none_second (over_tasks group_one set.tasks) (broken_programs set (programs_of set.tasks)) e)
 
 late_kept : (set : TaskSet) → broken set ≡ None → broken_late set.plant set.devices (coded_in set) ≡ None
@@ -137,7 +137,7 @@ eighth four five six seven eight rest h =
     (none_second five (or_else six (or_else seven (or_else eight rest)))
     (none_second four (or_else five (or_else six (or_else seven (or_else eight rest)))) h))))
 
-eight_kept : (set : TaskSet) → broken set ≡ None → over_tasks (group_eight set.plant) (placed_in set) ≡ None
+pub eight_kept : (set : TaskSet) → broken set ≡ None → over_tasks (group_eight set.plant) (placed_in set) ≡ None
 eight_kept set e =
     let p = set.plant in
     let cs = coded_in set in

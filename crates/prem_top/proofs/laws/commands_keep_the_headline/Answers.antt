@@ -1,4 +1,4 @@
-use Rattle.prem_top.proofs.Commands.{builds_keep, checks_keep, lists_keep, ones_keep, runs_keep, samples_keep, sources_keep}
+use Rattle.prem_top.proofs.Commands.{builds_keep, checks_keep, lists_keep, ones_keep, runs_keep, samples_keep, sources_keep, tiles_keep, mail_keeps}
 use Rattle.prem_top.proofs.laws.commands_keep_the_headline.Goals as goal
 
 pub returns-clause-checks : goal.returns-clause-checks
@@ -21,3 +21,9 @@ returns-clause-ones c = ones_keep
 
 pub returns-clause-samples : goal.returns-clause-samples
 returns-clause-samples c = samples_keep
+
+pub returns-clause-tiles : goal.returns-clause-tiles
+returns-clause-tiles c = tiles_keep
+
+pub returns-clause-mail : goal.returns-clause-mail
+returns-clause-mail c = mail_keeps

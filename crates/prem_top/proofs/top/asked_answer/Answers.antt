@@ -5,6 +5,7 @@ use Rattle.prem_command.specs.Words.{asked_in}
 use Rattle.prem_answer.specs.Stages.{Comes, IsGiven, reply_of}
 use Rattle.prem_top.specs.Answer.{asked_answer}
 use Rattle.prem_running.specs.Sample.Sample.{sample_reply}
+use Rattle.prem_top.specs.InRange.{AreInRange}
 use Rattle.prem_top.proofs.Told.{given_at_once}
 use Rattle.prem_top.proofs.top.asked_answer.Goals as goal
 
@@ -51,3 +52,16 @@ returns-in-Sample-clause-answer g c =
 
 pub returns-in-Sample-clause-fault : goal.returns-in-Sample-clause-fault
 returns-in-Sample-clause-fault g c h = absurd (c.sample_answer.ensures.unread h)
+
+pub tile_answer-requires : goal.tile_answer-requires
+tile_answer-requires g c = subst (λ s. AreInRange (asked_in s)) c.in-Tile.is c.requires
+
+pub returns-in-Tile-clause-answer : goal.returns-in-Tile-clause-answer
+returns-in-Tile-clause-answer g c =
+    let told : Option Files = g.S.Store.files c.args.store.now in
+    subst (λ s. Comes reply_of (IsGiven told (asked_answer (asked_in s))) c.tile_answer.result) (sym c.in-Tile.is) c.tile_answer.ensures.answer
+
+pub returns-in-Mail-clause-answer : goal.returns-in-Mail-clause-answer
+returns-in-Mail-clause-answer g c =
+    let told : Option Files = g.S.Store.files c.args.store.now in
+    subst (λ s. Comes reply_of (IsGiven told (asked_answer (asked_in s))) c.mail_answer.result) (sym c.in-Mail.is) c.mail_answer.ensures.answer

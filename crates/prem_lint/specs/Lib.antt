@@ -1,0 +1,9 @@
+pub mod Spots
+pub mod Elements
+pub mod Messages
+pub mod Diagnostics
+pub mod Places
+pub mod Keys
+pub mod Forms
+pub mod Needs
+pub mod Answers

@@ -1,0 +1,191 @@
+// Where in a text a rule is broken.
+ghost use Rattle.std.specs.Prelude.{◌≡◌, IfOk, map};
+ghost use Rattle.std.specs.Option.{option_map};
+ghost use Rattle.prem_syntax.specs.Name.{name_bytes};
+ghost use Rattle.prem_syntax.specs.SyntaxOf.{item_of, program_of};
+ghost use Rattle.prem_syntax.specs.Literals.{ProgramHasWords};
+ghost use Rattle.prem_meaning.specs.GroupTwo.{IsWellFormed};
+ghost use Rattle.prem_tree.specs.Checked.{checked_program};
+ghost use Rattle.prem_ranges.specs.GroupThree.{group_three};
+ghost use Rattle.prem_tasks.specs.Told.{told_of};
+ghost use Rattle.prem_lint.specs.Places.{function_spot, item_place, named_place, program_place, range_place, range_spot, spot_at, spot_of};
+
+use crate::excerpt::place_of;
+use crate::spot::Spot;
+use prem_analysis::marks::marked_of;
+use prem_analysis::see_program;
+use prem_check::{CheckFail, check};
+use prem_front::{FrontFail, parse};
+use prem_syntax::{Item, Place, Program, have_words};
+use prem_tasks::Rule;
+use prem_tree::Checked;
+use prem_tree::resolve::resolve;
+use std::alloc::{AllocError, Global};
+
+/// The place of an item, where it is the function with this name.
+fn item_place(name: &[u8], item: &Item) -> Option<Place>
+    ensures { result ≡ item_place name.now (item_of item.now) }
+{
+    match item {
+        Item::Global(_) => None,
+        Item::Function(f) => {
+            if f.name.bytes() == name {
+                Some(f.at)
+            } else {
+                None
+            }
+        }
+    }
+}
+
+/// The place of the function with this name.
+fn named_place(name: &[u8], p: &Program) -> Option<Place>
+    ensures { result ≡ named_place name.now (program_of p.now) }
+{
+    for item in p.items.items() {
+        if let Some(at) = item_place(name, item) {
+            return Some(at);
+        }
+    }
+    None
+}
+
+fn spot_at(place: Option<Place>) -> Spot
+    ensures { result ≡ spot_at place }
+{
+    match place {
+        None => Spot::Whole,
+        Some(at) => Spot::At {
+            line: at.line as usize,
+            col: at.col as usize,
+        },
+    }
+}
+
+/// Where a text has the function with this name.
+#[tactic(auto, unfolding(crate::specs::Places::function_spot))]
+fn function_spot(alloc: Global, name: &[u8], text: &[u8]) -> Result<Spot, AllocError>
+    ensures { IfOk result (λ spot. spot ≡ function_spot name.now text.now) }
+{
+    match parse(alloc, text) {
+        Ok(p) => Ok(spot_at(named_place(name, &p))),
+        Err(FrontFail::OutOfMemory) => Err(AllocError),
+        Err(FrontFail::TooLong) => Ok(Spot::Whole),
+        Err(FrontFail::NotText { .. }) => Ok(Spot::Whole),
+        Err(FrontFail::Token { .. }) => Ok(Spot::Whole),
+        Err(FrontFail::Syntax { .. }) => Ok(Spot::Whole),
+        Err(FrontFail::TooDeep { .. }) => Ok(Spot::Whole),
+    }
+}
+
+/// The place of the first broken rule on ranges of a well-formed program.
+#[tactic(auto, using(prem_analysis::proofs::Programs::all_ranged, prem_analysis::proofs::Programs::is_group_three))]
+fn breach_place(alloc: Global, p: &Program) -> Result<Option<Place>, AllocError>
+    requires formed { IsWellFormed (program_of p.now) }
+    requires words { ProgramHasWords (program_of p.now) }
+    ensures { IfOk result (λ at. at ≡ option_map (λ b. b.at) (group_three (program_of p.now))) }
+{
+    let r = resolve(alloc, p)?;
+    let marked = marked_of(alloc, &r)?;
+    let seen = see_program(alloc, &r, &marked)?;
+    match seen.found {
+        Some(broken) => Ok(Some(broken.at)),
+        None => Ok(None),
+    }
+}
+
+/// The same of a checked program.
+#[tactic(auto, unfolding(crate::specs::Places::program_place))]
+fn checked_place(alloc: Global, c: &Checked) -> Result<Option<Place>, AllocError>
+    ensures { IfOk result (λ at. at ≡ program_place (program_of (checked_program c.now))) }
+{
+    let program = c.program();
+    have_words(program);
+    breach_place(alloc, program)
+}
+
+/// The same of a program, and none where it isn't well-formed.
+#[tactic(auto, using(crate::proofs::Unformed::no_place))]
+fn program_place(alloc: Global, p: Program) -> Result<Option<Place>, AllocError>
+    ensures { IfOk result (λ at. at ≡ program_place (program_of p)) }
+{
+    match check(alloc, p) {
+        Ok(checked) => checked_place(alloc, &checked),
+        Err(CheckFail::OutOfMemory) => Err(AllocError),
+        Err(_) => Ok(None),
+    }
+}
+
+/// The place of the first broken rule on ranges of a text.
+#[tactic(auto, unfolding(crate::specs::Places::range_place))]
+fn range_place(alloc: Global, text: &[u8]) -> Result<Option<Place>, AllocError>
+    ensures { IfOk result (λ at. at ≡ range_place text.now) }
+{
+    match parse(alloc, text) {
+        Ok(p) => program_place(alloc, p),
+        Err(FrontFail::OutOfMemory) => Err(AllocError),
+        Err(FrontFail::TooLong) => Ok(None),
+        Err(FrontFail::NotText { .. }) => Ok(None),
+        Err(FrontFail::Token { .. }) => Ok(None),
+        Err(FrontFail::Syntax { .. }) => Ok(None),
+        Err(FrontFail::TooDeep { .. }) => Ok(None),
+    }
+}
+
+/// A line, with the column of the first broken rule on ranges.
+#[tactic(auto, unfolding(crate::specs::Places::range_spot))]
+fn range_spot(alloc: Global, line: u32, text: &[u8]) -> Result<Spot, AllocError>
+    ensures { IfOk result (λ spot. spot ≡ range_spot line text.now) }
+{
+    match range_place(alloc, text)? {
+        None => Ok(Spot::Line(line as usize)),
+        Some(at) => Ok(Spot::At {
+            line: line as usize,
+            col: at.col as usize,
+        }),
+    }
+}
+
+/// Where in a text a rule is broken.
+#[tactic(auto, unfolding(crate::specs::Places::spot_of))]
+pub(crate) fn spot_of(alloc: Global, rule: &Rule, text: &[u8]) -> Result<Spot, AllocError>
+    ensures { IfOk result (λ spot. spot ≡ spot_of (told_of rule.now) text.now) }
+{
+    match rule {
+        Rule::TooLong => Ok(Spot::Whole),
+        Rule::NotText { at } => Ok(place_of(text, *at)),
+        Rule::Token { line, col } => Ok(Spot::At {
+            line: *line as usize,
+            col: *col as usize,
+        }),
+        Rule::Syntax { line, col } => Ok(Spot::At {
+            line: *line as usize,
+            col: *col as usize,
+        }),
+        Rule::TooDeep { line } => Ok(Spot::Line(*line as usize)),
+        Rule::Limit { .. } => Ok(Spot::Whole),
+        Rule::NoJob => Ok(Spot::Whole),
+        Rule::Unknown { line, .. } => Ok(Spot::Line(*line as usize)),
+        Rule::Twice { line, .. } => Ok(Spot::Line(*line as usize)),
+        Rule::TypeRule { line, .. } => Ok(Spot::Line(*line as usize)),
+        Rule::CallOrder { line } => Ok(Spot::Line(*line as usize)),
+        Rule::MarkedCall { line } => Ok(Spot::Line(*line as usize)),
+        Rule::SystemCall { line } => Ok(Spot::Line(*line as usize)),
+        Rule::LoopForm { line } => Ok(Spot::Line(*line as usize)),
+        Rule::LoopBound { line } => range_spot(alloc, *line, text),
+        Rule::TooLarge { line } => range_spot(alloc, *line, text),
+        Rule::ZeroDivisor { line, .. } => range_spot(alloc, *line, text),
+        Rule::IndexOutside { line, .. } => range_spot(alloc, *line, text),
+        Rule::RegionOutside { line, .. } => range_spot(alloc, *line, text),
+        Rule::ArgRange { line, .. } => range_spot(alloc, *line, text),
+        Rule::Depth { line } => Ok(Spot::Line(*line as usize)),
+        Rule::Frame { function } => function_spot(alloc, function.bytes(), text),
+        Rule::MemoryFull { .. } => Ok(Spot::Whole),
+        Rule::Reach { function } => function_spot(alloc, function.bytes(), text),
+        Rule::Conflict { function, .. } => function_spot(alloc, function.bytes(), text),
+        Rule::BoundTooLarge { function } => function_spot(alloc, function.bytes(), text),
+        Rule::Length { function, .. } => function_spot(alloc, function.bytes(), text),
+        Rule::Outputs => Ok(Spot::Whole),
+        Rule::Intervals => Ok(Spot::Whole),
+    }
+}

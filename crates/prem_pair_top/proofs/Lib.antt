@@ -1,0 +1,10 @@
+pub mod FewWords
+pub mod Sets
+pub mod Limits
+pub mod Runs
+pub mod OtherSet
+pub mod CompiledSets
+pub mod Reading
+pub mod Headline
+pub mod Stages
+pub mod Complete

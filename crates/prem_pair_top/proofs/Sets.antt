@@ -1,0 +1,158 @@
+-- Two sets that break no rule are sound together.
+use Rattle.std.proofs.Common.{◌≡◌, ◌+◌, ◌≤◌, ◌⊎◌, ◌==◌, ◌||◌, ℕ, Bool, true, false, cond, List, [], None, Some, Option, unwrap_or, refl, ap, ◌∙◌, sym, arith, inl, inr, ⊎_elim, true≢false}
+use Rattle.std.specs.Prelude.{drop}
+use Rattle.std.proofs.lemmas.Bool.{cases_Bool, false_from_ne_true}
+use Rattle.prem_plant.specs.declared.plant.Device.{Device}
+use Rattle.prem_order.specs.Rules.{order_rule_of, passes_of}
+use Rattle.prem_lru.specs.Rules.{rule_of}
+use Rattle.prem_cycle.specs.declared.state.Trap.{Trap}
+use Rattle.prem_cycle.specs.Alone.{run_in}
+use Rattle.prem_cycle.specs.Cycle.{is_full}
+use Rattle.prem_cycle.specs.Run.{memory_of}
+use Rattle.prem_sound.proofs.ResidentLemmas.Policies.{kind_policy}
+use Rattle.prem_layout.specs.Image.{device_records}
+use Rattle.prem_layout.specs.Placed.{part_total}
+use Rattle.prem_stub_laws.specs.Own.Owned.{own_of}
+use Rattle.prem_stub_laws.specs.Join.Joined.{IsJoined}
+use Rattle.prem_stub_laws.proofs.JoinLemmas.Joined.{scripted, are_scripts, limits}
+use Rattle.prem_tasks.specs.Broken.{TaskSet, broken}
+use Rattle.prem_tasks.specs.Compiled.{coded_in, places_in, placed_in, compiled}
+use Rattle.prem_sets_sound.specs.Accepted.Accepted.{HasValues, limits_at, setup_in}
+use Rattle.prem_sets_sound.specs.Meant.{promises_in}
+use Rattle.prem_sets_sound.proofs.AcceptedLemmas.Whole.{accepted_sets_are_laid_out, accepted_sets_join, default_places_are_lawful}
+use Rattle.prem_sets_sound.proofs.Sound.{accepted_tasks_are_meant, as_stubs_make, meant_tasks_join}
+use Rattle.prem_exec.specs.Forms.{RunText}
+use Rattle.prem_running.specs.RunSound.Runs.{SuitsRun}
+use Rattle.prem_pair.specs.declared.cycles.state.PairStop.{PairStop}
+use Rattle.prem_pair.specs.declared.cycles.state.PairStop.TheVariants.{Finished, Limit}
+use Rattle.prem_pair.specs.Cycles.Pair.{PairState, both_finished, full_stop, is_pair_over, one_full, one_trapped, pair_start, trap_stop}
+use Rattle.prem_pair.specs.Laws.PairSound.{GivesScripts}
+use Rattle.prem_pair.proofs.CyclesLemmas.PairRuns.{pair_cycles-add, pair_cycles-over}
+use Rattle.prem_pair.proofs.LawsLemmas.Images.{pairs_of_images}
+use Rattle.prem_pair_top.specs.Running.{limit_in, pair_at, pair_stop_at}
+use Rattle.prem_pair_top.specs.Sound.{AreSound, PairsOfSetsAreSound, EndsWell, PairReportsEnd}
+
+-- ---- scripts
+
+pub joined : (set : TaskSet) → HasValues set → broken set ≡ None →
+    IsJoined (passes_of set.plant.policy) (setup_in set) (compiled set).image.content (own_of (coded_in set) (places_in set)) (limits_at set.plant (placed_in set)) (promises_in set) (compiled set).limit
+joined set values none =
+    let kind = set.plant.policy in
+    accepted_sets_join (passes_of kind) set (promises_in set) values none
+    (meant_tasks_join (passes_of kind) set.plant set.devices (coded_in set) (places_in set) (promises_in set)
+    (accepted_sets_are_laid_out set (places_in set) values none (default_places_are_lawful set values none)) (as_stubs_make kind set.plant.ways) (accepted_tasks_are_meant set none))
+
+-- its tasks have scripts for all input words
+gives_scripts : (set : TaskSet) → HasValues set → broken set ≡ None → GivesScripts (passes_of set.plant.policy) (setup_in set) (compiled set).image.content (promises_in set) (compiled set).limit
+gives_scripts set values none =
+    let passes = passes_of set.plant.policy in
+    let p = setup_in set in
+    let content = (compiled set).image.content in
+    let own = own_of (coded_in set) (places_in set) in
+    let most = limits_at set.plant (placed_in set) in
+    let h = joined set values none in
+    record {
+      image = h.image;
+      zero = h.zero;
+      own = own;
+      for_inputs = λ inputs i. record {
+        runs = run_in p content inputs;
+        scripts = (scripted passes p content own most (promises_in set) (compiled set).limit h inputs i).0;
+        are_scripts = are_scripts passes p content own most (promises_in set) (compiled set).limit h inputs i;
+        keep = λ k lt. ((scripted passes p content own most (promises_in set) (compiled set).limit h inputs i).1 k lt).kept;
+        limits = limits passes p content own most (promises_in set) (compiled set).limit h inputs i;
+      };
+    }
+
+pub no_devices : (set : TaskSet) → set.devices ≡ [] → (setup_in set).devices ≡ []
+no_devices set none = ap (λ (ds : List Device). device_records ds (drop (part_total (coded_in set)) (places_in set))) none
+
+pub pairs_of_sets_are_sound : PairsOfSetsAreSound
+pairs_of_sets_are_sound one two values other_values none other_none free =
+    let kind = one.plant.policy in
+    let other = two.plant.policy in
+    pairs_of_images (rule_of kind) (rule_of other) (order_rule_of kind) (order_rule_of other) (passes_of kind) (passes_of other) (setup_in one) (setup_in two)
+    (compiled one).image.content (compiled two).image.content (promises_in one) (promises_in two) (compiled one).limit (compiled two).limit (kind_policy kind) (kind_policy other)
+    (no_devices two free) (gives_scripts one values none) (gives_scripts two other_values other_none)
+
+-- ---- how their reports end
+
+-- nothing has trapped, and they have finished or their logs have room
+record HasRoom (s : PairState) : Type 0 where
+  untrapped : s.first.trapped ≡ None
+  other_untrapped : s.second.trapped ≡ None
+  room : both_finished s ≡ false → one_full s ≡ false
+
+parts_false : (a b : Bool) → (a || b) ≡ false → (a ≡ false) × (b ≡ false)
+parts_false true b e = absurd cc
+parts_false false true e = absurd cc
+parts_false false false e = (refl, refl)
+
+abbrev stop_at_cycle : ℕ → PairState → Option PairStop
+stop_at_cycle n s = cond (s.first.now == n) (Some Limit) None
+
+abbrev stop_by : ℕ → PairState → Bool → Option Trap → Option Trap → Bool → Bool → PairStop
+stop_by n s finished t u f g = unwrap_or (cond finished (Some Finished) (trap_stop 0 t (trap_stop 1 u (full_stop 0 f (full_stop 1 g (stop_at_cycle n s)))))) Limit
+
+at_cycle : (b : Bool) → unwrap_or (cond b (Some Limit) None) Limit ≡ Limit
+at_cycle true = refl
+at_cycle false = refl
+
+tells_finished : (n : ℕ) (s : PairState) → both_finished s ≡ true → pair_stop_at n s ≡ Finished
+tells_finished n s f = ap (λ b. stop_by n s b s.first.trapped s.second.trapped (is_full s.first) (is_full s.second)) f
+
+tells_limit : (n : ℕ) (s : PairState) → HasRoom s → both_finished s ≡ false → pair_stop_at n s ≡ Limit
+tells_limit n s h f =
+    let room = parts_false (is_full s.first) (is_full s.second) (h.room f) in
+    ap (λ b. stop_by n s b s.first.trapped s.second.trapped (is_full s.first) (is_full s.second)) f
+    ∙ ap (λ t. stop_by n s false t s.second.trapped (is_full s.first) (is_full s.second)) h.untrapped
+    ∙ ap (λ t. stop_by n s false None t (is_full s.first) (is_full s.second)) h.other_untrapped
+    ∙ ap (λ b. stop_by n s false None None b (is_full s.second)) room.0
+    ∙ ap (λ b. stop_by n s false None None false b) room.1
+    ∙ at_cycle (s.first.now == n)
+
+tells_one : (n : ℕ) (s : PairState) → HasRoom s → (pair_stop_at n s ≡ Finished) ⊎ (pair_stop_at n s ≡ Limit)
+tells_one n s h =
+    ⊎_elim (λ (f : both_finished s ≡ true). inl (tells_finished n s f)) (λ (f : both_finished s ≡ false). inr (tells_limit n s h f)) (cases_Bool (both_finished s))
+
+third_true : (a b c : Bool) → c ≡ true → (a || b || c) ≡ true
+third_true true b c h = refl
+third_true false true c h = refl
+third_true false false c h = h
+
+module _ (one two : TaskSet) (input other : RunText) (sound : AreSound one two) (suits : SuitsRun (setup_in one) input.words input.requests) (other_suits : SuitsRun (setup_in two) other.words other.requests) where
+  abbrev limit : ℕ
+  limit = limit_in (compiled one) (compiled two) input.requests
+
+  abbrev state : ℕ → PairState
+  state n = pair_at (compiled one).image (compiled two).image input other n
+
+  from_limit : (n : ℕ) → limit ≤ n → both_finished (state n) ≡ true
+  from_limit n le = sound.finished input.words other.words input.requests n suits.inputs_are other_suits.inputs_are suits.trace suits.puts le
+
+  -- a state with a full log stays, and comes to the limit so
+  full_finished : (n : ℕ) → one_full (state n) ≡ true → both_finished (state n) ≡ true
+  full_finished n full =
+      let p = setup_in one in
+      let q = setup_in two in
+      let start = pair_start p q input.words other.words (memory_of p (compiled one).image.content) (memory_of q (compiled two).image.content) in
+      let over : is_pair_over (state n) ≡ true = third_true (both_finished (state n)) (one_trapped (state n)) (one_full (state n)) full in
+      let same : state (n + limit) ≡ state n =
+      pair_cycles-add (rule_of one.plant.policy) (rule_of two.plant.policy) p q input.requests n limit start
+      ∙ pair_cycles-over (rule_of one.plant.policy) (rule_of two.plant.policy) p q input.requests limit (state n) over in
+      ap both_finished (sym same) ∙ from_limit (n + limit) (omega arith)
+
+  has_room : (n : ℕ) → HasRoom (state n)
+  has_room n =
+      let good = sound.good input.words other.words input.requests n suits.inputs_are other_suits.inputs_are suits.trace suits.puts in
+      record {
+        untrapped = good.first.untrapped;
+        other_untrapped = good.second.untrapped;
+        room = λ going. false_from_ne_true (one_full (state n)) (λ full. true≢false (sym (full_finished n full) ∙ going));
+      }
+
+  ends_well : (n : ℕ) → EndsWell limit n (state n)
+  ends_well n = record { ends = tells_one n (state n) (has_room n); finishes = λ le. tells_finished n (state n) (from_limit n le) }
+
+pub pair_reports_end : PairReportsEnd
+pair_reports_end one two input other n sound suits other_suits = ends_well one two input other sound suits other_suits n

@@ -1,0 +1,27 @@
+use Rattle.std.specs.Prelude.{Ok}
+use Rattle.std.proofs.Common.{ap}
+use Rattle.prem_tasks.specs.SetOf.{set_of}
+use Rattle.prem_answer.specs.Stages.{reply_of}
+use Rattle.prem_exec.specs.Sources.Sources.{input_of}
+use Rattle.prem_running.proofs.Runs.{input_fits}
+use Rattle.prem_pair_top.specs.Words.{pair_asked}
+use Rattle.prem_pair_top.proofs.CompiledSets.{asks_nothing, both_told}
+use Rattle.prem_pair_top.proofs.answer.sets_answer.Goals as goal
+
+pub told-requires-clause-one : goal.told-requires-clause-one
+told-requires-clause-one c = let x = c.args.sets.now in input_fits (set_of x.one.now) c.in-Ok.one x.input.now c.in-Ok.ensures c.requires.one
+
+pub told-requires-clause-two : goal.told-requires-clause-two
+told-requires-clause-two c = let x = c.args.sets.now in input_fits (set_of x.two.now) c.in-Ok-compile.two x.other.now c.in-Ok-compile.ensures c.requires.two
+
+pub told-requires-clause-none : goal.told-requires-clause-none
+told-requires-clause-none c =
+    let x = c.args.sets.now in
+    asks_nothing (set_of x.two.now) c.in-Ok-compile.two x.other.now c.in-Ok-compile.ensures c.requires.two c.requires.none
+
+pub returns-in-Ok-compile-clause-answer : goal.returns-in-Ok-compile-clause-answer
+returns-in-Ok-compile-clause-answer c =
+    let x = c.args.sets.now in
+    ap Ok
+    (both_told (pair_asked c.args.asked.now) (set_of x.one.now) (set_of x.two.now) (input_of x.input.now) (input_of x.other.now) c.in-Ok.one c.in-Ok-compile.two (reply_of c.in_ok-told-in-Ok-compile.field-0)
+    c.in-Ok.ensures c.in-Ok-compile.ensures c.in_ok-told-in-Ok-compile.ensures)

@@ -1,0 +1,7 @@
+use Rattle.std.proofs.Common.{◌≡◌, max, drop}
+use Rattle.prem_sound.specs.Script.Scripts.{last_release}
+use Rattle.prem_pair_top.proofs.limit.last_release.Given as goal
+
+-- the greatest so far, with that of the rest
+abbrev pub invariant-tasks : goal.invariant-tasks
+invariant-tasks l = max l.last (last_release (drop l.task-index l.tasks)) ≡ last_release l.tasks

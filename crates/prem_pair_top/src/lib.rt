@@ -1,0 +1,17 @@
+//! The answer of the program `prem_pair` to its words: two compiled sets are run on two cores with one bus.
+#![tactic(auto)]
+
+mod answer;
+mod laws;
+mod limit;
+mod read;
+mod report;
+mod run;
+mod status;
+mod top;
+mod words;
+
+pub use laws::pairs_of_sets_are_sound;
+pub use status::PairStatus;
+pub use top::run_pair;
+pub use words::{Options, PairWords};

@@ -1,0 +1,4 @@
+pub mod Files
+pub mod Stages
+pub mod Told
+pub mod Again

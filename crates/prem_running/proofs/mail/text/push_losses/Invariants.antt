@@ -1,0 +1,10 @@
+use Rattle.std.proofs.Common.{◌≡◌, ◌++◌, []}
+use Rattle.std.specs.Prelude.{slice_get}
+use Rattle.std.specs.Option.{option_map_or}
+use Rattle.prem_report.specs.Report.{in_turn, task_name}
+use Rattle.prem_running.specs.Mail.Text.{loss_text}
+use Rattle.prem_running.proofs.mail.text.push_losses.Given as goal
+
+abbrev pub invariant-tasks : goal.invariant-tasks
+invariant-tasks g l =
+    l.text.items ≡ l.initial.text.items ++ in_turn (λ k. option_map_or (loss_text (task_name l.tasks k)) (slice_get l.mail.mailed.mail.lost k) []) l.k

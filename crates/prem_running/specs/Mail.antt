@@ -1,0 +1,4 @@
+pub mod Files
+pub mod Text
+pub mod Mail
+pub mod Again

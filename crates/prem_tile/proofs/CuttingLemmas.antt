@@ -1,0 +1,4 @@
+pub mod Printable
+pub mod Readable
+pub mod Whole
+pub mod Stages

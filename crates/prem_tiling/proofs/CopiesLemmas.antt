@@ -1,0 +1,9 @@
+pub mod Blocks
+pub mod FlagLaws
+pub mod WalkLaws
+pub mod Trail
+pub mod Bridge
+pub mod Joined
+pub mod Looking
+pub mod Sizes
+pub mod TileNames

@@ -1,0 +1,14 @@
+-- A program whose function can be cut.
+use Rattle.std.proofs.Common.{refl, arith}
+use Rattle.std.specs.Fmt.{digits}
+use Rattle.prem_meaning.specs.GroupTwo.{IsWellFormed, group_two}
+use Rattle.prem_tiling.proofs.ShapesLemmas.Rows.{eight, eight_cut}
+use Rattle.prem_tiling.specs.Laws.CanCut.{CanCut}
+
+eight_is_well_formed : IsWellFormed eight
+unfolding eight group_two
+eight_is_well_formed = refl
+
+eight_can_be_cut : CanCut eight eight_cut
+unfolding eight digits
+eight_can_be_cut = record { named = refl; shape = refl; uncarried = refl; several = omega arith; few = omega arith; enough = omega arith; untaken = refl }

@@ -1,0 +1,9 @@
+use Rattle.std.proofs.Common.{◌≡◌, take, map}
+use Rattle.prem_list.specs.Sequence.{items_of}
+use Rattle.prem_syntax.specs.SyntaxOf.{region_of}
+use Rattle.prem_tiling.specs.Copies.ShapeOf.{loop_in}
+use Rattle.prem_tiling.specs.Copies.CutOf.{narrowed_region}
+use Rattle.prem_tiling.proofs.copies.cut.narrowed_regions.Given as goal
+
+abbrev pub invariant-loop-region : goal.invariant-loop-region
+invariant-loop-region s = map region_of (items_of s.copies) ≡ map (narrowed_region (loop_in s.l) s.first s.last) (map region_of (take s.region-index s.regions))

@@ -1,0 +1,17 @@
+use Rattle.std.proofs.Common.{[], ap, ◌∙◌}
+use Rattle.prem_syntax.specs.Name.{name_bytes}
+use Rattle.prem_syntax.specs.Syntax.{counting_for}
+use Rattle.prem_syntax.specs.SyntaxOf.{statement_of}
+use Rattle.prem_tiling.specs.Shapes.Tiled.{with_value}
+use Rattle.prem_tiling.specs.Copies.ShapeOf.{number_in}
+use Rattle.prem_tiling.specs.Copies.CutOf.{cut_in}
+use Rattle.prem_tiling.proofs.CopiesLemmas.Sizes.{ready_uncalled, uncalled_same}
+use Rattle.prem_tiling.proofs.copies.cut.tile_loop.Goals as goal
+
+pub returns : goal.returns
+returns c =
+    let cut = c.args.c.now in
+    let low = c.with_value.ensures ∙ ap (with_value (number_in cut.form.low)) c.low_of.ensures in
+    let high = c.with_value-2.ensures ∙ ap (with_value (number_in cut.form.high)) c.high_of.ensures in
+    let body = c.in_ok-body.ensures ∙ uncalled_same (name_bytes cut.function.now.name) [] (statement_of cut.form.body.now) (ready_uncalled (cut_in cut) c.requires.ready) in
+    λ i. counting_for cut.form.at (c.in_ok-names.ensures i) (low i) (c.closed_of.ensures i) (high i) cut.form.step (body i)

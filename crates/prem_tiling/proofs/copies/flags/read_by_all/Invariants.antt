@@ -1,0 +1,7 @@
+use Rattle.std.proofs.Common.{◌≡◌, drop, map}
+use Rattle.prem_syntax.specs.SyntaxOf.{expression_of}
+use Rattle.prem_tiling.specs.Copies.Flags.{read_by_all}
+use Rattle.prem_tiling.proofs.copies.flags.read_by_all.Given as goal
+
+abbrev pub invariant-terms : goal.invariant-terms
+invariant-terms l = read_by_all l.names l.flags (map expression_of l.es) ≡ read_by_all l.names l.flags (map expression_of (drop l.e-index l.es))

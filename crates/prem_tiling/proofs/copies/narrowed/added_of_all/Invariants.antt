@@ -1,0 +1,10 @@
+use Rattle.std.proofs.Common.{◌≡◌, drop, map}
+use Rattle.prem_syntax.specs.Name.{name_bytes}
+use Rattle.prem_syntax.specs.SyntaxOf.{expression_of}
+use Rattle.prem_tiling.specs.Shapes.Narrowed.{joined, added_of_all}
+use Rattle.prem_tiling.specs.Copies.AddedOf.{added_view}
+use Rattle.prem_tiling.proofs.copies.narrowed.added_of_all.Given as goal
+
+abbrev pub invariant-terms : goal.invariant-terms
+invariant-terms l =
+    joined (added_view l.all) (added_of_all (name_bytes l.i) (name_bytes l.g) (map expression_of (drop l.e-index l.es))) ≡ added_of_all (name_bytes l.i) (name_bytes l.g) (map expression_of l.es)

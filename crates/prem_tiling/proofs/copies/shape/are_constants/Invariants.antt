@@ -1,0 +1,7 @@
+use Rattle.std.proofs.Common.{◌≡◌, drop, map}
+use Rattle.prem_syntax.specs.SyntaxOf.{local_of}
+use Rattle.prem_tiling.specs.Shapes.Shape.{are_constants}
+use Rattle.prem_tiling.proofs.copies.shape.are_constants.Given as goal
+
+abbrev pub invariant-locals : goal.invariant-locals
+invariant-locals l = are_constants (map local_of l.locals) ≡ are_constants (map local_of (drop l.local-index l.locals))

@@ -1,0 +1,10 @@
+use Rattle.std.proofs.Common.{◌≡◌}
+use Rattle.prem_tiling.specs.Copies.StaleOf.{walk_of}
+use Rattle.prem_tiling.specs.Copies.Walk.{undone}
+use Rattle.prem_tiling.proofs.copies.stale.Stale.undo.Given as goal
+
+abbrev pub invariant-trail : goal.invariant-trail
+invariant-trail l = undone l.mark (walk_of l.self) ≡ undone l.mark (walk_of l.initial.self)
+
+abbrev pub decreases-trail : goal.decreases-trail
+decreases-trail l = goal.left-trail l

@@ -1,0 +1,8 @@
+use Rattle.std.proofs.Common.{◌≡◌, drop, map}
+use Rattle.prem_syntax.specs.SyntaxOf.{local_of}
+use Rattle.prem_meaning.specs.Breaches.{has_name}
+use Rattle.prem_tiling.specs.Shapes.Carried.{names_of}
+use Rattle.prem_tiling.proofs.copies.used.local_named.Given as goal
+
+abbrev pub invariant-locals : goal.invariant-locals
+invariant-locals s = has_name (names_of (map local_of s.locals)) s.text ≡ has_name (names_of (map local_of (drop s.l-index s.locals))) s.text
