@@ -33,7 +33,6 @@ FILES = {
     "s.toml": SET,
     "sd.toml": SET + DEVICE,
     "conflict.toml": "[plant]\nsets = 1\nways = 1\n" + SET,
-    "narrow.toml": "[plant]\nsets = 16\nways = 1\n" + SET,
     "colour.toml": "plant = {colour = 1}\n" + SET,
     "short.toml": SET.replace("m.c", "short.c"),
     "late.toml": SET.replace("m.c", "late.c"),
@@ -66,8 +65,6 @@ run fir.toml fir.run
 sample 7
 tile tiled.c f 2 700
 tile tiled.c f 9 700
-color narrow.toml
-color conflict.toml
 mail sd.toml d.run d.mail
 mail sd.toml d.run e.run
 mail sd.toml d.run lan.run
@@ -79,11 +76,6 @@ colour.toml
 short.toml
 late.toml
 no.toml
-""",
-    "prem_chart_cli": """sd.toml d.run
-sd.toml d.run --from 100 --to 600
-conflict.toml d.run
-sd.toml lan.run
 """,
     "prem_resp_cli": """s.toml
 conflict.toml
