@@ -1,11 +1,16 @@
 -- How far the machine's parts rest, and what they keep where cycles are passed over.
-use Rattle.std.proofs.Common.{◌≡◌, ◌≢◌, ℕ, zero, suc, ◌+◌, ◌-◌, ◌*◌, ◌/◌, ◌%◌, ◌<◌, ◌≤◌, Bool, true, false, List, [], ◌∷◌, Option, Some, None, length, take, drop, get_or, refl, ap, sym, ◌∙◌, subst, arith, All, ⊎_elim}
 use Rattle.std.specs.Prelude.{min, nat_lt, sum_by, ◌==◌, if◌then◌else◌}
 use Rattle.std.specs.List.Sorted.{IsNonDecreasingBy}
+use Rattle.std.specs.Prelude.{unwrap_or}
+use Rattle.std.proofs.Common.{◌≡◌, ◌≢◌, ℕ, zero, suc, ◌+◌, ◌-◌, ◌*◌, ◌/◌, ◌%◌, ◌<◌, ◌≤◌, Bool, true, false, List, [], ◌∷◌, Option, Some, None, length, take, drop, get_or, refl, ap, sym, ◌∙◌, subst, arith, All, ⊎_elim}
 use Rattle.std.proofs.lemmas.Bool.Decides.{nat_tests}
 use Rattle.std.proofs.lemmas.Bool.{cases_lt}
 use Rattle.std.proofs.lemmas.List.{length-take-le, length-drop, get_or-take, get_or-drop, get_or_default}
 use Rattle.std.proofs.lemmas.Nat.{le-div, div-add-mod'}
+use Rattle.std.proofs.lemmas.List.{length-map}
+use Rattle.prem_list.specs.Sequence.{items_of}
+use Rattle.prem_sched.specs.declared.sched.TaskJobs.{TaskJobs}
+use Rattle.prem_sched.specs.Schedule.{is_ready, no_task}
 use Rattle.prem_lru.specs.Entries.{ReplacementRule}
 use Rattle.prem_gate.specs.declared.request.Request.{Request}
 use Rattle.prem_gate.specs.declared.bus.Window.{Window}
@@ -13,9 +18,8 @@ use Rattle.prem_gate.specs.declared.bus.Carried.{Carried}
 use Rattle.prem_gate.specs.declared.bus.CoreWant.{CoreWant}
 use Rattle.prem_gate.specs.Gates.{GateState, GatesState, wants, is_held, with_carried, carries_for, waiting_of}
 use Rattle.prem_gate.specs.Stretch.{AreQuiet, BusRun, IsNextChange, bus_run, lesser}
+use Rattle.prem_gate.specs.Gates.{gate_at}
 use Rattle.prem_gate.proofs.Quiet.{carried_run, quiet_carried, held_passed, free_passed}
-use Rattle.prem_sched.specs.declared.sched.TaskJobs.{TaskJobs}
-use Rattle.prem_sched.specs.Schedule.{is_ready, no_task}
 use Rattle.prem_cycle.specs.declared.state.Mode.{Mode}
 use Rattle.prem_cycle.specs.declared.state.Mode.TheVariants.{Point, Switching, Running, Idle}
 use Rattle.prem_cycle.specs.State.{Setup, rule_in, CoreState, Counts, MachineState}
@@ -23,21 +27,17 @@ use Rattle.prem_cycle.specs.Core.{want_of}
 use Rattle.prem_cycle.specs.Cycle.{is_over, step_of, with_clash}
 use Rattle.prem_cycle.specs.FactsOf.{devices_reported}
 use Rattle.prem_cycle.specs.Run.{cycles_of}
+use Rattle.prem_cycle.specs.declared.facts.DeviceFacts.{DeviceFacts}
+use Rattle.prem_cycle.specs.Core.{phase_in}
 use Rattle.prem_cycle.proofs.RunLaws.{step_of-goes, step_of-stays, cycles_of-add}
 use Rattle.prem_runs.specs.Window.Windows.{WindowsHold}
-use Rattle.prem_runs.proofs.WindowLemmas.Cycles.{cycle_holds}
 use Rattle.prem_runs.specs.Dull.Dull.{AreDull, IsDull, IsNextEvent}
 use Rattle.prem_runs.specs.Dull.Rest.{Within, NoneArrive, Rests, IsSteady, bus_rest, idle_rest, core_rest}
+use Rattle.prem_runs.specs.Window.Windows.{closing_at}
+use Rattle.prem_runs.proofs.WindowLemmas.Cycles.{cycle_holds}
 use Rattle.prem_runs.proofs.DullLemmas.Steps.{within_both, want_by}
 use Rattle.prem_runs.proofs.DullLemmas.Stretch.{rests_dull}
 use Rattle.prem_runs.proofs.DullLemmas.Dull.{dull_rest}
-use Rattle.prem_gate.specs.Gates.{gate_at}
-use Rattle.prem_list.specs.Sequence.{items_of}
-use Rattle.std.specs.Prelude.{unwrap_or}
-use Rattle.std.proofs.lemmas.List.{length-map}
-use Rattle.prem_cycle.specs.declared.facts.DeviceFacts.{DeviceFacts}
-use Rattle.prem_cycle.specs.Core.{phase_in}
-use Rattle.prem_runs.specs.Window.Windows.{closing_at}
 use Rattle.prem_machine.specs.declared.work.Setting.{Setting}
 use Rattle.prem_machine.specs.declared.parts.Parts.{Parts}
 use Rattle.prem_machine.specs.Parts.{Runs, Stands, state_of}
@@ -163,7 +163,7 @@ bus_within_by n now c true is h =
     (within_both n (bus_rest c.debt.begun c.debt.transactions) (idle_rest now c.mode) both).0
 bus_within_by n now c false is h = owes_some c.debt.begun c.debt.transactions n is
 
-pub bus_within : (n now : ℕ) (c : CoreState) → Within n (core_rest now c) → Within n (bus_rest c.debt.begun c.debt.transactions)
+bus_within : (n now : ℕ) (c : CoreState) → Within n (core_rest now c) → Within n (bus_rest c.debt.begun c.debt.transactions)
 bus_within n now c h = bus_within_by n now c (wants (want_of c.debt)) refl h
 
 -- gates that differ in what is left of their transfer
@@ -320,7 +320,7 @@ passes_to limit at from m s g le most is now =
           ∙ sym (cycles_of-add (rule_in p) p r (at - m.state.now) (limit - at) m.state) ∙ ap (λ k. cycles_of (rule_in p) p r k m.state) e ∙ g.left;
     }
 
-pub passes_less : (limit at : ℕ) (s t : MachineState) → s.now < at → at ≤ limit → t.now ≡ at → is_over s ≡ false → cycles_left limit t < cycles_left limit s
+passes_less : (limit at : ℕ) (s t : MachineState) → s.now < at → at ≤ limit → t.now ≡ at → is_over s ≡ false → cycles_left limit t < cycles_left limit s
 passes_less limit at s t lt most now going =
     let a = going_most (is_over t) in
     let b = going_one (is_over s) going in

@@ -12,6 +12,7 @@ use prem_isa::{Effect, Phase};
 /// Counts an instruction that has issued in a phase: its touches, and a store in a memory phase.
 ///
 /// Of what a run tells, nothing else changes. No count grows by more than 2.
+#[inline(always)]
 pub fn count(facts: &mut Facts, phase: Phase, effect: Effect, touches: &Touches)
     requires { AreAtMost (2 ^ 63) (counts_in facts.old) }
     ensures counts { counts_in facts.new
@@ -29,6 +30,7 @@ pub fn count(facts: &mut Facts, phase: Phase, effect: Effect, touches: &Touches)
     }
 }
 
+#[inline(always)]
 fn count_touch(facts: &mut Facts, phase: Phase, touch: LineTouch)
     requires { AreAtMost (2 ^ 63 + 1) (counts_in facts.old) }
     ensures counts { counts_in facts.new ≡ with_touch phase (line_touch_as touch) (counts_in facts.old) }
@@ -42,6 +44,7 @@ fn count_touch(facts: &mut Facts, phase: Phase, touch: LineTouch)
     facts.exec_misses += one_if(!touch.hit && phase == Phase::Execution);
 }
 
+#[inline(always)]
 fn one_if(b: bool) -> u64
     ensures counts { result ≡ one_if b }
     ensures most { result ≤ 1 }

@@ -76,6 +76,7 @@ impl Core {
     }
 
     /// The address of its next instruction.
+    #[inline(always)]
     pub fn pc(&self) -> u32
         ensures same { result ≡ self.now.pc }
         ensures aligned { result % 4 ≡ 0 }
@@ -84,6 +85,7 @@ impl Core {
     }
 
     /// The part of its interval in which its next instruction stands.
+    #[inline(always)]
     pub fn phase(&self) -> Phase
         ensures { result ≡ self.now.phase }
     {
@@ -109,6 +111,7 @@ impl Core {
 
     /// Goes on by an executed instruction. Behind `pm.done` the task's next job begins. A word that is put out is
     /// put behind the outputs, which have room for it.
+    #[inline(always)]
     pub fn advance(&mut self, task: &TaskRecord, effect: Effect, outputs: &mut Sequence<u32>)
         requires register { effect.rd < 32 }
         requires pc { effect.pc % 4 ≡ 0 }
@@ -129,6 +132,7 @@ impl Core {
     }
 
     /// The task behind an instruction, but for its output.
+    #[inline(always)]
     fn move_on(&mut self, effect: Effect)
         requires register { effect.rd < 32 }
         requires pc { effect.pc % 4 ≡ 0 }

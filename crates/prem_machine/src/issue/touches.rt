@@ -1,15 +1,18 @@
 // The lines that an instruction touches, and what that does to cache and memory.
-ghost use Rattle.std.specs.Prelude.{◌≡◌, ◌/◌, ◌<◌, true, List, length};
+ghost use Rattle.std.specs.Prelude.{◌≡◌, ◌+◌, ◌/◌, ◌<◌, ◌≤◌, true, Some, None, List, length};
+ghost use Rattle.prem_isa.specs.Alu.{load_size};
+ghost use Rattle.prem_isa.specs.Bounds.{IsPlaced};
 ghost use Rattle.prem_isa.specs.Decode.{Fits};
 ghost use Rattle.prem_lru.specs.Rules.{rule_of};
 ghost use Rattle.prem_lru.specs.CacheState.{IsCache, is_resident, touch_of};
 ghost use Rattle.prem_cycle.specs.State.{Task};
 ghost use Rattle.prem_cycle.specs.Issue.{effect_in, issued_with, line_touch, view_touched};
 ghost use Rattle.prem_machine.specs.Issue.Attempts.{CanIssue, HasActed};
+ghost use Rattle.prem_machine.specs.Issue.Coming.{load_access, load_effect};
 ghost use Rattle.prem_machine.specs.Issue.Touches.{line_touch_as};
 
 use crate::issue::task::Core;
-use prem_isa::{Effect, Instr};
+use prem_isa::{DataLoad, Effect, Instr};
 use prem_lru::{Cache, Memory, Policy};
 use std::marker::Model;
 
@@ -40,9 +43,22 @@ impl Model for Touches {
 }
 
 impl Touches {
-    ghost use Rattle.std.specs.Prelude.{◌≡◌, ◌∷◌};
+    ghost use Rattle.std.specs.Prelude.{◌≡◌, ◌∷◌, [], true};
+    ghost use Rattle.prem_plant.specs.declared.plant.Plant.{Plant};
+    ghost use Rattle.prem_cycle.specs.Issue.{owed_by};
     ghost use Rattle.prem_machine.specs.Issue.Touches.{line_touch_as};
     ghost use Rattle.prem_machine.specs.Issue.TouchFields.{access_touches};
+
+    /// Whether all of them hit.
+    #[inline(always)]
+    pub(crate) fn hit(&self) -> bool
+        ensures { result ≡ true → (plant : Plant) → owed_by plant self.now ≡ [] }
+    {
+        match self.access {
+            Some(access) => self.fetch.hit && access.hit,
+            None => self.fetch.hit,
+        }
+    }
 
     /// That of the fetch, and that of a load or store, if there is one.
     pub fn both(&self) -> (LineTouch, Option<LineTouch>)
@@ -96,6 +112,77 @@ pub fn touch_lines<P: Policy>(
     (Touches { fetch, access }, effect)
 }
 
+/// As `touch_lines`, for an instruction at a place with this effect, which loads nothing.
+#[inline(always)]
+pub(crate) fn touch_known<P: Policy>(
+    cache: &mut Cache<P>,
+    mem: &mut Memory,
+    pc: u32,
+    effect: Effect,
+) -> Touches
+    requires memory { length mem.old ≡ cache.old.plant.memory }
+    requires ready { CanIssue cache.old.plant.memory pc effect }
+    ensures issued { (tasks : List Task)
+        → issued_with (rule_of cache.old.plant.policy) cache.old.plant.line tasks effect.stored (pc / cache.old.plant.line)
+        (touch_of (rule_of cache.old.plant.policy) cache.old (pc / cache.old.plant.line) mem.old) effect.access
+        ≡ record {
+          work = record { tasks = tasks; cache = cache.new; memory = mem.new };
+          touches = result;
+        } }
+    ensures plant { cache.new.plant ≡ cache.old.plant }
+    ensures len { length mem.new ≡ length mem.old }
+{
+    let line = cache.line_of(pc);
+    let fetch = touch_line(cache, mem, line);
+    let access = match effect.access {
+        None => None,
+        Some(access) => {
+            let line = cache.line_of(access.address);
+            Some(touch_line(cache, mem, line))
+        }
+    };
+    if let Some(stored) = effect.stored {
+        cache.store(stored.address, stored.size as u8, stored.value);
+    }
+    Touches { fetch, access }
+}
+
+/// The same of a load, with its effect as it is behind the touches.
+#[inline(always)]
+pub(crate) fn touch_load<P: Policy>(
+    cache: &mut Cache<P>,
+    mem: &mut Memory,
+    pc: u32,
+    load: DataLoad,
+) -> (Touches, Effect)
+    requires memory { length mem.old ≡ cache.old.plant.memory }
+    requires place { pc + 4 ≤ cache.old.plant.memory }
+    requires data { IsPlaced cache.old.plant.memory load.address (load_size load.op) }
+    ensures issued { (tasks : List Task)
+        → issued_with (rule_of cache.old.plant.policy) cache.old.plant.line tasks None (pc / cache.old.plant.line)
+        (touch_of (rule_of cache.old.plant.policy) cache.old (pc / cache.old.plant.line) mem.old) (Some (load_access load))
+        ≡ record {
+          work = record { tasks = tasks; cache = cache.new; memory = mem.new };
+          touches = result.0;
+        } }
+    ensures effect { result.1 ≡ load_effect load
+        (view_touched (rule_of cache.old.plant.policy) cache.old.plant.line cache.old mem.old pc (Some (load_access load))) }
+    ensures plant { cache.new.plant ≡ cache.old.plant }
+    ensures len { length mem.new ≡ length mem.old }
+{
+    let line = cache.line_of(pc);
+    let fetch = touch_line(cache, mem, line);
+    let data = cache.line_of(load.address);
+    let access = touch_line(cache, mem, data);
+    let number = cache.load(load.address, load.size() as u8);
+    let touches = Touches {
+        fetch,
+        access: Some(access),
+    };
+    (touches, load.effect(number))
+}
+
+#[inline(always)]
 fn touch_line<P: Policy>(cache: &mut Cache<P>, mem: &mut Memory, line: u32) -> LineTouch
     requires memory { length mem.old ≡ cache.old.plant.memory }
     requires line { line < cache.old.plant.memory / cache.old.plant.line }

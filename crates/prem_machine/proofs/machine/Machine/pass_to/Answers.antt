@@ -1,11 +1,11 @@
 use Rattle.std.proofs.Common.{◌≡◌, ◌-◌, ◌*◌, ◌∙◌, sym, ap, subst, false, List, arith}
 use Rattle.prem_gate.specs.declared.request.Request.{Request}
 use Rattle.prem_cycle.specs.State.{rule_in}
-use Rattle.prem_runs.specs.Window.Windows.{WindowsHold}
 use Rattle.prem_cycle.specs.Cycle.{is_over}
 use Rattle.prem_cycle.specs.State.{MachineState}
 use Rattle.prem_cycle.specs.Run.{cycles_of}
 use Rattle.prem_cycle.proofs.Time.{goes_untrapped}
+use Rattle.prem_runs.specs.Window.Windows.{WindowsHold}
 use Rattle.prem_runs.specs.Dull.Dull.{AreDull}
 use Rattle.prem_runs.specs.Dull.Rest.{Rests, IsSteady}
 use Rattle.prem_runs.proofs.DullLemmas.Dull.{dull_rest}

@@ -1,7 +1,7 @@
 use Rattle.std.proofs.Common.{◌≡◌, ℕ, ◌+◌, ◌*◌, false, List, length, refl, ap, sym, ◌∙◌, subst, arith, All}
 use Rattle.prem_list.specs.Sequence.{items_of}
-use Rattle.prem_gate.specs.Ranges.{LiesIn}
 use Rattle.prem_sched.specs.Schedule.{IsReady}
+use Rattle.prem_gate.specs.Ranges.{LiesIn}
 use Rattle.prem_cycle.specs.State.{rule_in}
 use Rattle.prem_cycle.specs.declared.state.Mode.{Mode}
 use Rattle.prem_cycle.specs.declared.facts.DeviceFacts.{DeviceFacts}

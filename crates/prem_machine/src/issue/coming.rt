@@ -1,0 +1,66 @@
+// What a word comes to that stands at a task's place, decoded and executed at once.
+ghost use Rattle.std.specs.Prelude.{◌≡◌, ◌==◌, ◌+◌, ◌≤◌, ℕ, slice_index, if◌then◌else◌};
+ghost use Rattle.prem_isa.specs.Decode.{decode_of};
+ghost use Rattle.prem_isa.specs.Fields.{fields_of};
+ghost use Rattle.prem_isa.specs.Step.{UpshotFits, act_of, told_by};
+ghost use Rattle.prem_machine.specs.Issue.Coming.{cost_at};
+
+use crate::issue::task::Core;
+use prem_isa::{Upshot, upshot_of};
+use prem_plant::Target;
+
+/// The cost of the instruction of a word, if it is one.
+#[inline(always)]
+pub(crate) fn cost_at(word: u32) -> u32
+    ensures cost { result ≡ cost_at (fields_of word) }
+    ensures some { 1 ≤ result }
+{
+    let opcode = word & 0x7f;
+    if opcode == 0b0110111 {
+        1
+    } else if opcode == 0b0010111 {
+        1
+    } else if opcode == 0b1101111 {
+        2
+    } else if opcode == 0b1100111 {
+        2
+    } else if opcode == 0b1100011 {
+        2
+    } else if opcode == 0b0000011 {
+        2
+    } else if opcode == 0b0100011 {
+        2
+    } else if opcode == 0b0010011 {
+        1
+    } else if opcode == 0b0110011 {
+        operation_cost((word >> 12) & 7, word >> 25)
+    } else {
+        1
+    }
+}
+
+/// That of an operation on two registers.
+#[inline(always)]
+fn operation_cost(funct3: u32, funct7: u32) -> u32
+    ensures cost { result ≡ (if funct7 == 1 then (if funct3 == 0 then 4 else 20) else 1) }
+    ensures some { 1 ≤ result }
+{
+    if funct7 == 1 {
+        if funct3 == 0 { 4 } else { 20 }
+    } else {
+        1
+    }
+}
+
+impl Core {
+    /// What a word comes to that stands at the program counter.
+    #[inline(always)]
+    pub(crate) fn coming(&self, target: Target, size: u32, word: u32) -> Upshot
+        requires { self.now.pc + 4 ≤ size }
+        ensures outcome { (view : ℕ → ℕ) (input : ℕ) → told_by view self.now.pc input result
+            ≡ act_of target size view (slice_index self.now.registers) self.now.pc self.now.phase input (decode_of word) }
+        ensures fit { UpshotFits size result }
+    {
+        upshot_of(target, size, &self.registers, self.pc, self.phase, word)
+    }
+}

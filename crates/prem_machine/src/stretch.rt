@@ -1,0 +1,129 @@
+// Instructions that follow each other while the bus has nothing to do.
+use crate::log::room_left;
+use crate::parts::Parts;
+use crate::passing::next_arrival;
+use crate::plain::issue_plain;
+use crate::work::{Setting, owed_for};
+use prem_cycle::Mode;
+use prem_gate::{CoreWant, Request};
+use prem_isa::Change;
+use prem_lru::Policy;
+use prem_plant::TaskId;
+
+/// A task whose instructions issue alone, and the cycle up to which the bus has nothing to do while it wants nothing.
+#[derive(Clone, Copy)]
+pub(crate) struct Lone {
+    pub task: TaskId,
+    pub until: u64,
+}
+
+impl<P: Policy> Parts<P> {
+    ghost use Rattle.std.specs.Prelude.{◌≡◌, ◌+◌, ◌-◌, ◌*◌, ◌<◌, ◌≤◌, ◌^◌, IfSome, None, false, true, length};
+    ghost use Rattle.std.specs.List.Sorted.{IsNonDecreasingBy};
+    ghost use Rattle.prem_list.specs.Sequence.{items_of};
+    ghost use Rattle.prem_cycle.specs.State.{rule_in};
+    ghost use Rattle.prem_cycle.specs.Cycle.{is_over, log_size};
+    ghost use Rattle.prem_cycle.specs.Run.{cycles_of};
+    ghost use Rattle.prem_machine.specs.Log.{put_out};
+    ghost use Rattle.prem_machine.specs.Work.{setup_in};
+    ghost use Rattle.prem_machine.specs.Parts.{IsSetting, Runs, Stands, state_of};
+    ghost use Rattle.prem_machine.specs.Stretch.{IsLone};
+
+    /// The task whose instructions issue alone, and up to when, at most up to the limit.
+    fn lone(&self, requests: &[Request], limit: u64) -> Option<Lone>
+        requires order { IsNonDecreasingBy (λ r. r.cycle) requests.now }
+        requires runs { Runs self.now.now (4 * self.now.now) requests.now self.now }
+        requires limit { self.now.now ≤ limit }
+        ensures lone { IfSome result (λ l. IsLone l.task l.until requests.now (state_of self.entry.now)) }
+        ensures until { IfSome result (λ l. (self.entry.now.now ≤ l.until) × (l.until ≤ limit)) }
+    {
+        let Mode::Running { task } = self.moment.mode else {
+            return None;
+        };
+        if !self.moment.stays() {
+            return None;
+        }
+        if !self.moment.owed.is_nothing() {
+            return None;
+        }
+        let (now, window) = (self.now, self.moment.window);
+        if !self.gates.is_idle(now, window) {
+            return None;
+        }
+        let arrival = next_arrival(requests, self.arrived, limit);
+        let until = self.gates.next_change(now, window, CoreWant::No, arrival);
+        Some(Lone { task, until })
+    }
+
+    /// One instruction that goes on in its interval and ends before the bus has something to do, with all its cycles.
+    /// It answers whether another one may follow at once.
+    #[inline(always)]
+    fn step(&mut self, setting: &Setting, requests: &[Request], lone: Lone) -> bool
+        requires setting { IsSetting setting.now requests.now }
+        requires stands { Stands setting.now requests.now self.old }
+        requires runs { Runs self.old.now (4 * self.old.now) requests.now self.old }
+        requires now { self.old.now ≤ lone.until }
+        requires limit { lone.until ≤ 2 ^ 61 }
+        requires lone { IsLone lone.task lone.until requests.now (state_of self.old) }
+        requires trapped { self.old.trapped ≡ None }
+        requires room { put_out (items_of self.old.facts.tasks) + 2 ≤ log_size }
+        requires intervals { length (items_of self.old.facts.intervals) < log_size }
+        ensures state { state_of self.new ≡ cycles_of (rule_in (setup_in setting.now)) (setup_in setting.now) requests.now
+            (self.new.now - self.old.now) (state_of self.old) }
+        ensures stands { Stands setting.now requests.now self.new }
+        ensures runs { Runs self.new.now (4 * self.new.now) requests.now self.new }
+        ensures from { self.old.now ≤ self.new.now }
+        ensures within { self.new.now ≤ lone.until }
+        ensures trapped { self.new.trapped ≡ None }
+        ensures lone { result ≡ true → IsLone lone.task lone.until requests.now (state_of self.new) }
+        ensures put { result ≡ true → put_out (items_of self.new.facts.tasks) ≤ put_out (items_of self.old.facts.tasks) + 1 }
+        ensures intervals { result ≡ true → items_of self.new.facts.intervals ≡ items_of self.old.facts.intervals }
+    {
+        let k = usize::from(lone.task);
+        let most = lone.until - self.now;
+        let Some(plain) = issue_plain(k, most, setting, &mut self.work, &mut self.facts) else {
+            return false;
+        };
+        if plain.touches.hit() {
+            self.now += u64::from(plain.cost);
+            return true;
+        }
+        let owed = owed_for(&setting.plant, &plain.touches, plain.cost);
+        let interval = self.moment.interval;
+        self.moment = self
+            .moment
+            .issued(self.now, lone.task, interval, Change::Stay, owed);
+        self.tick(setting, requests);
+        false
+    }
+
+    /// Instructions that follow each other while the bus has nothing to do, up to the limit; none where something else
+    /// comes first.
+    #[inline(never)]
+    pub fn stretch(&mut self, setting: &Setting, requests: &[Request], limit: u64)
+        requires setting { IsSetting setting.now requests.now }
+        requires stands { Stands setting.now requests.now self.old }
+        requires runs { Runs self.old.now (4 * self.old.now) requests.now self.old }
+        requires going { is_over (state_of self.old) ≡ false }
+        requires now { self.old.now ≤ limit }
+        requires limit { limit ≤ 2 ^ 61 }
+        ensures state { state_of self.new ≡ cycles_of (rule_in (setup_in setting.now)) (setup_in setting.now) requests.now
+            (self.new.now - self.old.now) (state_of self.old) }
+        ensures stands { Stands setting.now requests.now self.new }
+        ensures runs { Runs self.new.now (4 * self.new.now) requests.now self.new }
+        ensures from { self.old.now ≤ self.new.now }
+        ensures within { self.new.now ≤ limit }
+        ensures trapped { self.new.trapped ≡ None }
+    {
+        let Some(lone) = self.lone(requests, limit) else {
+            return;
+        };
+        let mut left = room_left(self.facts.tasks.items());
+        'instructions: while left > 1 {
+            if !self.step(setting, requests, lone) {
+                return;
+            }
+            left -= 1;
+        }
+    }
+}
