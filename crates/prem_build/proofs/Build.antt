@@ -9,8 +9,8 @@ use Rattle.prem_compile.specs.declared.compiled.Compiled.{Compiled}
 use Rattle.prem_compile.specs.CompiledOf.{IsCompiled, compiled_of}
 use Rattle.prem_answer.specs.declared.status.Status.TheVariants.{Done}
 use Rattle.prem_answer.specs.Stages.{Reply, Reads, Stage, IsFine, IsGiven, is_settled}
-use Rattle.prem_answer.proofs.Reading.{gives_at_once}
 use Rattle.prem_answer.specs.Refusal.Texts.{refused_reply}
+use Rattle.prem_answer.proofs.Reading.{gives_at_once}
 use Rattle.prem_exec.specs.Sources.Sources.{Passes, reading_set}
 use Rattle.prem_exec.proofs.SourcesLemmas.Fine.{set_fine}
 use Rattle.prem_build.specs.declared.sheet.Sheet.{Sheet}

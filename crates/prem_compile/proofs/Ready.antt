@@ -1,9 +1,10 @@
 -- What an image asks of placed tasks holds of the tasks of a set.
-use Rattle.std.proofs.Common.{◌≡◌, ℕ, List, [], ◌∷◌, length, map, refl, ap, sym, ◌∙◌, subst, arith, Vec, Global}
 use Rattle.std.specs.Prelude.{All}
 use Rattle.std.specs.List.{AllByRecursion}
+use Rattle.std.proofs.Common.{◌≡◌, ℕ, List, [], ◌∷◌, length, map, refl, ap, sym, ◌∙◌, subst, arith, Vec, Global}
 use Rattle.std.proofs.lemmas.List.Elements.{recursion_from_All}
 use Rattle.std.proofs.lemmas.List.{length-map}
+use Rattle.prem_list.specs.Sequence.{items_of}
 use Rattle.prem_plant.specs.declared.plant.Plant.{Plant}
 use Rattle.prem_plant.specs.declared.plant.Target.{Target}
 use Rattle.prem_plant.specs.declared.plant.Device.{Device}
@@ -11,35 +12,35 @@ use Rattle.prem_plant.specs.declared.layout.PartSize.{PartSize}
 use Rattle.prem_plant.specs.Label.{IsName, AreDistinct}
 use Rattle.prem_plant.specs.Places.{Extent, ArePlaces}
 use Rattle.prem_plant.specs.Ranges.{Between, IsPlant}
+use Rattle.prem_image.specs.Text.{image_text}
 use Rattle.prem_syntax.specs.Syntax.{ProgramText}
 use Rattle.prem_syntax.specs.Name.{name_bytes}
-use Rattle.prem_list.specs.Sequence.{items_of}
-use Rattle.prem_place.specs.Content.Blocks.{Words, block_of}
-use Rattle.prem_place.specs.declared.content.content.Block.{Block}
 use Rattle.prem_layout.specs.Bounds.{JobBound, limit_of}
 use Rattle.prem_layout.specs.Image.{image_of}
 use Rattle.prem_layout.specs.Placed.{Coded, Placed, parts_of, placed_from}
+use Rattle.prem_place.specs.Content.Blocks.{Words, block_of}
+use Rattle.prem_place.specs.declared.content.content.Block.{Block}
 use Rattle.prem_place.specs.Placed.PlacedOf.{coded_of, placed_of}
 use Rattle.prem_place.specs.declared.placed.PlacedTask.{PlacedTask}
 use Rattle.prem_place.specs.Placing.Standing.{stands_in}
 use Rattle.prem_place.specs.Words.Far.{words_in}
 use Rattle.prem_place.specs.BuildImage.Built as built
-use Rattle.prem_image.specs.Text.{image_text}
 use Rattle.prem_place.specs.BuildImage.Built.{HasRanges, HaveBlocks, IsBuilt}
+use Rattle.prem_place.specs.Totals.Limits.{HasJobs}
+use Rattle.prem_place.specs.Verdict.Told.{numbered}
 use Rattle.prem_tasks.specs.Broken.{TaskText, TaskSet, bounded, coded_one, programs_of}
 use Rattle.prem_tasks.specs.Broken as tasks
 use Rattle.prem_tasks.specs.Lawful as lawful
 use Rattle.prem_tasks.specs.Lawful.{IsTaskText, AreDevices, AreTasks}
 use Rattle.prem_tasks.specs.SetOf.{task_of}
 use Rattle.prem_tasks.specs.declared.set.TaskText.{TaskText as TaskTree}
-use Rattle.prem_tasks.specs.Compiled.{coded_in, parts_in, places_in, placed_in, part_name, facts_from, job_bounds, compiled}
-use Rattle.prem_place.specs.Totals.Limits.{HasJobs}
+use Rattle.prem_tasks.specs.Compiled.{coded_in, parts_in, part_name, facts_from, job_bounds}
+use Rattle.prem_tasks.specs.At.{placed_by, compiled_at}
 use Rattle.prem_compile.specs.Telling.There.{IsThere, HasName, HasCode}
-use Rattle.prem_compile.proofs.TellingLemmas.PartsThere.{parts_there}
 use Rattle.prem_compile.specs.CompiledOf.{compiled_of}
-use Rattle.prem_place.specs.Verdict.Told.{numbered}
 use Rattle.prem_compile.specs.declared.compiled.Compiled.{Compiled}
 use Rattle.prem_compile.specs.Joined.{HasPlaces}
+use Rattle.prem_compile.proofs.TellingLemmas.PartsThere.{parts_there}
 
 first_is : {A : Type 0} (x y : A) (xs ys : List A) → x ∷ xs ≡ y ∷ ys → x ≡ y
 first_is x y xs ys e = cc
@@ -100,7 +101,7 @@ each_in_range target (x ∷ xs) (t ∷ ts) (p ∷ ps) e l s is = (
 abbrev views_of : List (List Block) → List (List Words)
 views_of bss = map (λ (bs : List Block). map block_of bs) bss
 
-pub views_lent : (all : List (Vec Block Global)) → views_of (map (λ (bs : Vec Block Global). bs.items) all) ≡ map (λ (bs : Vec Block Global). map block_of bs.items) all
+views_lent : (all : List (Vec Block Global)) → views_of (map (λ (bs : Vec Block Global). bs.items) all) ≡ map (λ (bs : Vec Block Global). map block_of bs.items) all
 views_lent [] = refl
 views_lent (bs ∷ all) = ap (λ (views : List (List Words)). map block_of bs.items ∷ views) (views_lent all)
 
@@ -112,7 +113,7 @@ blocks_are (x ∷ xs) (bs ∷ bss) e =
 
 -- ---- the whole
 
-pub set_is_built : (set : TaskSet) (ts : List TaskTree) (parts : List PartSize) (layout : List Extent) (xs : List PlacedTask) (bss : List (List Block)) →
+set_is_built : (set : TaskSet) (ts : List TaskTree) (parts : List PartSize) (layout : List Extent) (xs : List PlacedTask) (bss : List (List Block)) →
     IsPlant set.plant → AreDevices set.devices → AreTasks ts → map task_of ts ≡ set.tasks → HasPlaces set parts layout xs → views_of bss ≡ map words_in xs → IsBuilt set.plant xs bss set.devices layout
 set_is_built set ts parts layout xs bss plant devices stated same h blocks =
     let coded : map coded_of xs ≡ coded_all set.plant.target ts (programs_of set.tasks) = h.coded ∙ ap (λ (texts : List TaskText). tasks.coded_of set.plant.target texts (programs_of set.tasks)) (sym same) in
@@ -126,7 +127,7 @@ set_is_built set ts parts layout xs bss plant devices stated same h blocks =
       device_count = devices.count;
       each_device = devices.each;
       devices_named = devices.names;
-      same = h.placed ∙ ap (λ (ps : List Extent). placed_from set.plant ps (coded_in set)) (sym h.layout_is) ∙ ap (λ (cs : List Coded). placed_from set.plant layout cs) (sym h.coded);
+      same = h.placed ∙ ap (λ (cs : List Coded). placed_from set.plant layout cs) (sym h.coded);
       coded = blocks_are xs bss blocks;
       few = h.few;
       placed = subst (λ (ps : List PartSize). ArePlaces set.plant.memory ps layout) (h.parts_are ∙ ap (λ (cs : List Coded). parts_of set.plant set.devices cs) (sym h.coded)) h.apart;
@@ -145,7 +146,7 @@ lent_is_built set p ds ts parts layout xs all ep ed plant devices stated same h 
 
 -- ---- what names and the limit ask for
 
-has_names : (xs : List PlacedTask) → AllByRecursion HasRanges xs → AllByRecursion HasName xs
+has_names : (xs : List PlacedTask) → AllByRecursion HasRanges xs → AllByRecursion HasName (map coded_of xs)
 has_names [] h = tt
 has_names (x ∷ xs) h = (h.0.name, has_names xs h.1)
 
@@ -159,7 +160,7 @@ has_code (x ∷ xs) h = let same = h.0.code in (omega (arith, same), has_code xs
 
 -- what a set's placed tasks are
 pub record AreReady (set : TaskSet) (parts : List PartSize) (xs : List PlacedTask) : Type 0 where
-  pub names : AllByRecursion HasName xs
+  pub names : AllByRecursion HasName (map coded_of xs)
   pub jobs : AllByRecursion HasJobs xs
   pub there : All (IsThere set.devices (map coded_of xs)) parts
 
@@ -184,21 +185,19 @@ lent_there set ds parts xs ed ready = subst (λ (es : List Device). All (IsThere
 pub compiled_is : (set : TaskSet) (parts : List PartSize) (layout : List Extent) (xs : List PlacedTask) (c : Compiled) → HasPlaces set parts layout xs →
     image_text c.image ≡ image_of set.plant set.devices layout (map coded_of xs) → c.layout ≡ layout → items_of c.parts ≡ parts →
     map name_bytes (items_of c.names) ≡ map (part_name set.devices (map coded_of xs)) parts → map numbered (items_of c.intervals) ≡ facts_from set.plant 0 (map placed_of xs) →
-    items_of c.jobs ≡ map (λ (j : JobBound). j.bound) (job_bounds set.plant (map placed_of xs)) → c.limit ≡ limit_of (job_bounds set.plant (map placed_of xs)) → compiled_of c ≡ compiled set
+    items_of c.jobs ≡ map (λ (j : JobBound). j.bound) (job_bounds set.plant (map placed_of xs)) → c.limit ≡ limit_of (job_bounds set.plant (map placed_of xs)) → compiled_of c ≡ compiled_at set layout
 compiled_is set parts layout xs c h image at all names intervals jobs limit =
-    let image_is : image_text c.image ≡ image_of set.plant set.devices (places_in set) (coded_in set) =
-    image ∙ ap (λ (ps : List Extent). image_of set.plant set.devices ps (map coded_of xs)) h.layout_is ∙ ap (λ (cs : List Coded). image_of set.plant set.devices (places_in set) cs) h.coded in
-    let layout_is : c.layout ≡ places_in set = at ∙ h.layout_is in
+    let image_is : image_text c.image ≡ image_of set.plant set.devices layout (coded_in set) = image ∙ ap (λ (cs : List Coded). image_of set.plant set.devices layout cs) h.coded in
     let parts_are : items_of c.parts ≡ parts_in set = all ∙ h.parts_are in
     let names_are : map name_bytes (items_of c.names) ≡ map (part_name set.devices (coded_in set)) (parts_in set) =
     names ∙ ap (λ (cs : List Coded). map (part_name set.devices cs) parts) h.coded ∙ ap (λ (ps : List PartSize). map (part_name set.devices (coded_in set)) ps) h.parts_are in
-    let intervals_are : map numbered (items_of c.intervals) ≡ facts_from set.plant 0 (placed_in set) = intervals ∙ ap (λ (ps : List Placed). facts_from set.plant 0 ps) h.placed in
-    let jobs_are : items_of c.jobs ≡ map (λ (j : JobBound). j.bound) (job_bounds set.plant (placed_in set)) =
+    let intervals_are : map numbered (items_of c.intervals) ≡ facts_from set.plant 0 (placed_by set layout) = intervals ∙ ap (λ (ps : List Placed). facts_from set.plant 0 ps) h.placed in
+    let jobs_are : items_of c.jobs ≡ map (λ (j : JobBound). j.bound) (job_bounds set.plant (placed_by set layout)) =
     jobs ∙ ap (λ (ps : List Placed). map (λ (j : JobBound). j.bound) (job_bounds set.plant ps)) h.placed in
-    let limit_is : c.limit ≡ limit_of (job_bounds set.plant (placed_in set)) = limit ∙ ap (λ (ps : List Placed). limit_of (job_bounds set.plant ps)) h.placed in
+    let limit_is : c.limit ≡ limit_of (job_bounds set.plant (placed_by set layout)) = limit ∙ ap (λ (ps : List Placed). limit_of (job_bounds set.plant ps)) h.placed in
     λ i. record {
       image = image_is i;
-      layout = layout_is i;
+      layout = at i;
       parts = parts_are i;
       names = names_are i;
       intervals = intervals_are i;

@@ -1,9 +1,9 @@
 -- What a compiled set tells of the cycles of its tasks, beside the bounds of their jobs.
 use Rattle.std.specs.Prelude.{◌≡◌, List}
 use Rattle.std.specs.List.{AllByRecursion}
+use Rattle.prem_list.specs.Sequence.{items_of}
 use Rattle.prem_plant.specs.declared.plant.Plant.{Plant}
 use Rattle.prem_layout.specs.Placed.{Placed}
-use Rattle.prem_list.specs.Sequence.{items_of}
 use Rattle.prem_place.specs.Totals.Limits.{IsBound}
 use Rattle.prem_compile.specs.Telling.Longest.{longest_in}
 use Rattle.prem_compile.specs.declared.compiled.Compiled.{Compiled}

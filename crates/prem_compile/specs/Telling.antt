@@ -1,3 +1,4 @@
+pub mod Named
 pub mod There
 pub mod Longest
 pub mod Laws

@@ -8,8 +8,8 @@ use Rattle.prem_meaning.specs.Resolved.{Resolved}
 use Rattle.prem_meaning.specs.Source.{unlimited}
 use Rattle.prem_tree.specs.declared.resolve.resolved.Resolved.{Resolved as ResolvedTree}
 use Rattle.prem_tree.specs.Resolve.ResolvedOf.{IsResolved}
-use Rattle.prem_split.proofs.MayHave.{few_functions_there, few_globals_there}
 use Rattle.prem_layout.specs.Placed.{task_places}
+use Rattle.prem_split.proofs.MayHave.{few_functions_there, few_globals_there}
 use Rattle.prem_foot.specs.PlacesFrom.{places_in}
 use Rattle.prem_foot.specs.Texts.{places_of}
 use Rattle.prem_foot.proofs.PlacesAre.{places_are}

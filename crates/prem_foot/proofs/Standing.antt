@@ -1,9 +1,9 @@
 -- Plans of a well-formed program may be looked at with the places of its parts.
-use Rattle.std.proofs.Common.{◌≡◌, ℕ, zero, suc, ◌+◌, ◌*◌, ◌<◌, ◌≤◌, ◌^◌, max, cond, Bool, true, false, List, [], ◌∷◌, ◌++◌, Option, None, Some, refl, ap, sym, ◌∙◌, subst, arith, length, map, take, append_assoc}
 use Rattle.std.specs.Prelude.{nat_lt, nat_le, not, is_some, is_none, IsTrue, ◌||◌, slice_get, slice_index_or, unwrap_or}
 use Rattle.std.specs.Int.{next_multiple_of}
 use Rattle.std.specs.List.{AllByRecursion, list_any}
 use Rattle.std.specs.Str.{bytes_eq}
+use Rattle.std.proofs.Common.{◌≡◌, ℕ, zero, suc, ◌+◌, ◌*◌, ◌<◌, ◌≤◌, ◌^◌, max, cond, Bool, true, false, List, [], ◌∷◌, ◌++◌, Option, None, Some, refl, ap, sym, ◌∙◌, subst, arith, length, map, take, append_assoc}
 use Rattle.std.proofs.lemmas.Nat.{mul-le}
 use Rattle.std.proofs.lemmas.List.{length-map}
 use Rattle.std.proofs.lemmas.Bool.Decides.{nat_tests}
@@ -119,14 +119,14 @@ codes_long : (task n : ℕ) (sizes : List ℕ) → length (code_parts task n siz
 codes_long task n [] = refl
 codes_long task n (s ∷ ss) = ap suc (codes_long task (n + 1) ss)
 
-global_there : (task n k : ℕ) (gs : List GlobalVariable) (g : GlobalVariable) (rest : List PartSize) → slice_get gs k ≡ Some g →
+pub global_there : (task n k : ℕ) (gs : List GlobalVariable) (g : GlobalVariable) (rest : List PartSize) → slice_get gs k ≡ Some g →
     slice_get (global_parts task n gs ++ rest) k ≡ Some (part task (Global (n + k)) (global_size g) 4)
 global_there task n k [] g rest e = absurd cc
 global_there task n zero (x ∷ xs) g rest e = let same : x ≡ g = cc in let z : n ≡ n + 0 = omega arith in ap (λ (y : GlobalVariable). Some (part task (Global n) (global_size y) 4)) same ∙ ap (λ j. Some (part task (Global j) (global_size g) 4)) z
 global_there task n (suc k) (x ∷ xs) g rest e = let z : (n + 1) + k ≡ n + suc k = omega arith in global_there task (n + 1) k xs g rest e ∙ ap (λ j. Some (part task (Global j) (global_size g) 4)) z
 
 -- the number of a part behind the start, the code and the stubs
-behind_stubs : (passes : Passes) (task k : ℕ) (sizes : List ℕ) (p : Resolved) →
+pub behind_stubs : (passes : Passes) (task k : ℕ) (sizes : List ℕ) (p : Resolved) →
     slice_get (task_parts passes task sizes p) (1 + length sizes + length (plans_of p) + k) ≡ slice_get (global_parts task 0 p.globals ++ part task Stack (stack_size p) 16 ∷ []) k
 behind_stubs passes task k sizes p =
     let codes = code_parts task 0 sizes in
@@ -136,7 +136,7 @@ behind_stubs passes task k sizes p =
     let z : 1 + length sizes + length (plans_of p) + k ≡ suc (length codes + (length stubs + k)) = omega (arith, codes_long task 0 sizes, long) in
     ap (slice_get (task_parts passes task sizes p)) z ∙ get_behind codes (stubs ++ rest) (length stubs + k) ∙ get_behind stubs rest k
 
-stack_there : (task : ℕ) (gs : List GlobalVariable) (size : ℕ) → slice_get (global_parts task 0 gs ++ part task Stack size 16 ∷ []) (length gs) ≡ Some (part task Stack size 16)
+pub stack_there : (task : ℕ) (gs : List GlobalVariable) (size : ℕ) → slice_get (global_parts task 0 gs ++ part task Stack size 16 ∷ []) (length gs) ≡ Some (part task Stack size 16)
 stack_there task gs size =
     let globals = global_parts task 0 gs in
     let z : length gs ≡ length globals + 0 = omega (arith, globals_counted task 0 gs) in
@@ -181,12 +181,12 @@ element_some Ushort = omega arith
 element_some Schar = omega arith
 element_some Uchar = omega arith
 
-element_at : (gs : List GlobalVariable) (k : ℕ) (g : GlobalVariable) → slice_get gs k ≡ Some g → slice_index_or (map (λ (g : GlobalVariable). element_size g.ty) gs) k 0 ≡ element_size g.ty
+pub element_at : (gs : List GlobalVariable) (k : ℕ) (g : GlobalVariable) → slice_get gs k ≡ Some g → slice_index_or (map (λ (g : GlobalVariable). element_size g.ty) gs) k 0 ≡ element_size g.ty
 element_at [] k g e = absurd cc
 element_at (x ∷ xs) zero g e = let same : x ≡ g = cc in ap (λ (y : GlobalVariable). element_size y.ty) same
 element_at (x ∷ xs) (suc k) g e = element_at xs k g e
 
-inside_global : (element high len : ℕ) → high < len → (high + 1) * element ≤ next_multiple_of (element * len) 4
+pub inside_global : (element high len : ℕ) → high < len → (high + 1) * element ≤ next_multiple_of (element * len) 4
 inside_global element high len lt =
     let m : (high + 1) * element ≤ len * element = mul-le (high + 1) element len element (omega arith) (omega arith) in
     omega (arith, m)

@@ -2,8 +2,8 @@
 ghost use Rattle.std.specs.Prelude.{◌≡◌, ◌++◌, ◌<◌, ◌≤◌, ◌^◌, map, length, IfOk, IfErr, OnOk};
 ghost use Rattle.std.specs.List.{AllByRecursion};
 ghost use Rattle.prem_plant.specs.Ranges.{IsPlant};
-ghost use Rattle.prem_split.specs.PlanOf.{plan_of};
 ghost use Rattle.prem_layout.specs.Footprint.{code_range, region_range, ranges_of, footprint_of, conflict_of, most_of};
+ghost use Rattle.prem_split.specs.PlanOf.{plan_of};
 ghost use Rattle.prem_foot.specs.PlacesOf.{IsRegionAt, IsPlanAt};
 ghost use Rattle.prem_foot.specs.Told.{conflict_in};
 

@@ -2,9 +2,9 @@
 ghost use Rattle.std.specs.Prelude.{◌≡◌, ◌+◌, ◌++◌, ◌<◌, ◌≤◌, ◌^◌, [], length, map, take, drop, option_map, option_to_list, IfOk, OnOk};
 ghost use Rattle.prem_syntax.specs.SyntaxOf.{mark_of};
 ghost use Rattle.prem_layout.specs.Parts.{element_size};
+ghost use Rattle.prem_layout.specs.Footprint.{index_of};
 ghost use Rattle.prem_split.specs.PlansWith.{marks_of};
 ghost use Rattle.prem_foot.specs.PlacesFrom.{marked_if, marked_from};
-ghost use Rattle.prem_layout.specs.Footprint.{index_of};
 
 use prem_analyse::Analysed;
 use prem_plant::{FnId, Layout};
@@ -39,10 +39,10 @@ impl TaskPlaces {
     ghost use Rattle.std.specs.Prelude.{◌≡◌, ◌+◌, ◌≤◌, length, drop, slice_index, IfOk};
     ghost use Rattle.prem_list.specs.Sequence.{items_of};
     ghost use Rattle.prem_analyse.specs.Analysed.{analysed_text};
+    ghost use Rattle.prem_layout.specs.Footprint.{place_at, code_range, stub_range, global_range, stack_place, stack_range_of, region_range};
     ghost use Rattle.prem_foot.specs.PlacesFrom.{places_in};
     ghost use Rattle.prem_foot.specs.Texts.{places_of};
     ghost use Rattle.prem_foot.specs.PlacesOf.{IsRegionAt};
-    ghost use Rattle.prem_layout.specs.Footprint.{place_at, code_range, stub_range, global_range, stack_place, stack_range_of, region_range};
 
     /// The places of a task, whose start is the part number `first` of the layout.
     #[tactic(auto, using(crate::proofs::ByText::few, crate::proofs::ByText::places_are_by_text))]
@@ -72,8 +72,8 @@ impl TaskPlaces {
         ensures { IfOk result (λ t. t ≡ places_in r.now (drop first l.now)) }
     {
         let fs = r.routines.items();
-        let stubs = marked(alloc, fs)?;
-        let sizes = elements(alloc, &r.globals)?;
+        let stubs = marked_functions(alloc, fs)?;
+        let sizes = element_sizes(alloc, &r.globals)?;
         let count = 2 + fs.len() + stubs.len() + sizes.len();
         let all = places(alloc, l, first, count)?;
         Ok(TaskPlaces {
@@ -144,7 +144,7 @@ impl TaskPlaces {
 }
 
 /// Where a number stands in a list, or the list's length.
-fn index_of(n: FnId, all: &[FnId]) -> usize
+pub fn index_of(n: FnId, all: &[FnId]) -> usize
     ensures place { result ≡ index_of n all.now }
     ensures within { result ≤ length all.now }
 {
@@ -169,8 +169,8 @@ fn element_size(ty: Ty) -> u32
     }
 }
 
-/// The sizes of the elements of globals.
-fn elements(alloc: Global, globals: &[&GlobalTree]) -> Result<Vec<u32>, AllocError>
+/// The bytes of an element of each global. It fails only for want of memory.
+pub fn element_sizes(alloc: Global, globals: &[&GlobalTree]) -> Result<Vec<u32>, AllocError>
     ensures sizes { IfOk result (λ sizes. sizes.items ≡ map (λ g. element_size g.now.ty) globals.now) }
     ensures long { IfOk result (λ sizes. length sizes.items ≡ length globals.now) }
 {
@@ -195,8 +195,8 @@ fn push_marked(marked: &mut Vec<FnId>, n: FnId, mark: &Option<Mark>) -> Result<(
     }
 }
 
-/// The marked functions.
-fn marked(alloc: Global, fs: &[Routine]) -> Result<Vec<FnId>, AllocError>
+/// The marked functions, in the order of the text. It fails only for want of memory.
+pub fn marked_functions(alloc: Global, fs: &[Routine]) -> Result<Vec<FnId>, AllocError>
     requires { length fs.now ≤ 256 }
     ensures marked { IfOk result (λ ns. ns.items ≡ marked_from 0 (marks_of fs.now)) }
     ensures few { IfOk result (λ ns. length ns.items ≤ length fs.now) }

@@ -7,4 +7,3 @@ pub mod WordsLemmas
 pub mod TotalsLemmas
 pub mod ImagingLemmas
 pub mod BuildImageLemmas
-pub mod LowestLemmas

@@ -8,4 +8,3 @@ pub mod Words
 pub mod Totals
 pub mod Imaging
 pub mod BuildImage
-pub mod Lowest

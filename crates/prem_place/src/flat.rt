@@ -3,4 +3,4 @@ mod flat;
 mod laws;
 
 pub use flat::{FlatFail, flatten_parts, put_parts};
-pub use laws::{blocks_have_words, reach_is_first};
+pub use laws::{blocks_have_words, reach_is_lowest};

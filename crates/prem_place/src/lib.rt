@@ -2,9 +2,8 @@
 //!
 //! - `build_image`: the image of a set of placed tasks.
 //! - `content`: what memory holds at the start of a run: code and globals at their places.
-//! - `flat`: the words of a task's code at its places, or the first part that has a jump out of reach.
+//! - `flat`: the words of a task's code at its places, or the lowest part that has a jump out of reach.
 //! - `imaging`: what memory holds at the start of a run of placed tasks.
-//! - `lowest`: at any places the lowest part with a jump out of reach breaks the rule on jumps.
 //! - `placed`: tasks at their places: programs with the places of their parts, their plans and all their code.
 //! - `placing`: tasks take the places of their parts, and their code has its words there, or a jump out of reach.
 //! - `stand`: the parts of each task of a set have places at which their code may stand.
@@ -17,7 +16,6 @@ pub mod build_image;
 pub mod content;
 pub mod flat;
 pub mod imaging;
-pub mod lowest;
 pub mod placed;
 pub mod placing;
 pub mod stand;

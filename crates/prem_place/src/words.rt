@@ -1,13 +1,13 @@
 //! The words of placed tasks, or the first task that has a jump out of reach.
 ghost use Rattle.std.specs.Prelude.{◌≡◌, ◌<◌, ◌≤◌, [], IfOk, MatchResult, None, map, length, slice_index_or};
 ghost use Rattle.std.specs.List.{AllByRecursion};
-ghost use Rattle.prem_place.specs.Content.Blocks.{block_of};
-ghost use Rattle.prem_place.specs.Flat.Blocks.{names_in, words_of};
 ghost use Rattle.prem_layout.specs.Placed.{blocks_of, name_at};
 ghost use Rattle.prem_layout.specs.Rules.{group_six};
+ghost use Rattle.prem_place.specs.Content.Blocks.{block_of};
+ghost use Rattle.prem_place.specs.Flat.Blocks.{names_in, words_of};
 ghost use Rattle.prem_place.specs.Placed.PlacedOf.{placed_of};
 ghost use Rattle.prem_place.specs.Placing.Standing.{stands_in};
-ghost use Rattle.prem_place.specs.Stand.Rising.{starts_of};
+ghost use Rattle.prem_place.specs.Stand.Lying.{starts_of};
 ghost use Rattle.prem_place.specs.Words.Far.{IsFarIn, EndsFar, words_in};
 
 pub use crate::content::Block;
@@ -67,7 +67,7 @@ fn starts(alloc: Global, t: &PlacedTask) -> Result<Vec<u32>, AllocError>
     Ok(starts)
 }
 
-/// The words of a task, or the number of its first part that has a jump out of reach.
+/// The words of a task, or the number of the part that starts lowest, of those that have a jump out of reach.
 fn task_words(alloc: Global, t: &PlacedTask) -> Result<Vec<Block>, FlatFail>
     requires { stands_in t.now }
     ensures words { IfOk result (λ blocks. map block_of blocks.items ≡ map words_of (blocks_of (placed_of t.now))) }

@@ -1,6 +1,6 @@
 -- Sets that break no rule are sound.
-use Rattle.std.proofs.Common.{◌≡◌, ℕ, zero, suc, ◌<◌, refl, ap, ◌∙◌, sym, subst, arith, List, [], ◌∷◌, length, map, Option, None, Some, drop, slice_get}
 use Rattle.std.specs.Prelude.{slice_index_or, option_map, is_none, IsTrue}
+use Rattle.std.proofs.Common.{◌≡◌, ℕ, zero, suc, ◌<◌, refl, ap, ◌∙◌, sym, subst, arith, List, [], ◌∷◌, length, map, Option, None, Some, drop, slice_get}
 use Rattle.std.proofs.lemmas.List.{length-map}
 use Rattle.std.proofs.lemmas.Option.{slice_get-map, get_or_from_slice_get}
 use Rattle.prem_plant.specs.declared.plant.Replacement.{Replacement}
@@ -8,35 +8,35 @@ use Rattle.prem_plant.specs.declared.plant.Replacement.TheVariants.{Lru, Fifo}
 use Rattle.prem_plant.specs.declared.plant.Plant.{Plant}
 use Rattle.prem_plant.specs.declared.plant.Device.{Device}
 use Rattle.prem_plant.specs.Places.{Extent}
-use Rattle.prem_meaning.specs.Resolved.{Resolved}
 use Rattle.prem_order.specs.Rules.{order_rule_of, passes_of}
 use Rattle.prem_lru.specs.Rules.{rule_of}
-use Rattle.prem_sound.specs.Script.Scripts.{Promise}
-use Rattle.prem_sound.proofs.ResidentLemmas.Policies.{kind_policy}
 use Rattle.prem_cycle.specs.Alone.{run_in}
+use Rattle.prem_sound.specs.Script.Scripts.{Promise}
+use Rattle.prem_sound.specs.Sound.{AreInputs}
+use Rattle.prem_sound.proofs.ResidentLemmas.Policies.{kind_policy}
+use Rattle.prem_meaning.specs.Resolved.{Resolved}
+use Rattle.prem_text.proofs.ReadWordsLemmas.ProgramWords.{reads_have_words}
 use Rattle.prem_template.specs.Parts.{parts_of, codes_of}
 use Rattle.prem_layout.specs.Parts.{pass_count, passes_under, stub_passes, part_count}
 use Rattle.prem_layout.specs.Placed.{Coded, Placed, placed_at, placed_from, task_places}
 use Rattle.prem_layout.specs.Image.{task_record}
-use Rattle.prem_stub_laws.specs.Own.Owned.{own_of, setup_of}
-use Rattle.prem_stub_laws.specs.Initial.Initial.{content_of}
-use Rattle.prem_sound.specs.Sound.{AreInputs}
 use Rattle.prem_tasks.specs.Broken.{TaskSet, bounded}
 use Rattle.prem_tasks.specs.Compiled.{coded_in, places_in, placed_in}
 use Rattle.prem_tasks.specs.SetOf.{set_of}
+use Rattle.prem_stub_laws.specs.Own.Owned.{own_of, setup_of}
+use Rattle.prem_stub_laws.specs.Initial.Initial.{content_of}
 use Rattle.prem_stub_laws.specs.Join.Joined.{JobLimits, TaskJoins}
 use Rattle.prem_task_laws.specs.TaskFrame.Kept.{KeepsTaskRules}
 use Rattle.prem_task_laws.specs.TaskFrame.Limits.{task_limits}
 use Rattle.prem_task_laws.specs.TaskBytes.Parts.{IsPlacedTask}
-use Rattle.prem_sets_sound.proofs.EachLemmas.Each.{tasks_join}
 use Rattle.prem_sets_sound.specs.Accepted.Accepted.{HasCodedValues, IsLaidOut, limits_at, no_limits, KeepsRules}
+use Rattle.prem_sets_sound.specs.Meant.{meant_by, meant_at, promises_in, AreMeant}
+use Rattle.prem_sets_sound.specs.Sound.{MeantTasksJoin, AcceptedTasksAreMeant, SetsAreSoundUnder, SetsAreSound, LawfulSetsAreSound}
+use Rattle.prem_sets_sound.proofs.EachLemmas.Each.{tasks_join}
 use Rattle.prem_sets_sound.proofs.AcceptedLemmas.Records.{have_code}
 use Rattle.prem_sets_sound.proofs.AcceptedLemmas.Rules.{accepted_tasks_keep_rules}
 use Rattle.prem_sets_sound.proofs.AcceptedLemmas.Whole.{accepted_sets_are_laid_out, default_places_are_lawful, accepted_sets_are_sound, lawful_sets_have_values}
-use Rattle.prem_text.proofs.ReadWordsLemmas.ProgramWords.{reads_have_words}
 use Rattle.prem_sets_sound.proofs.EachLemmas.Words.{all_there}
-use Rattle.prem_sets_sound.specs.Meant.{meant_by, meant_at, promises_in, AreMeant}
-use Rattle.prem_sets_sound.specs.Sound.{MeantTasksJoin, AcceptedTasksAreMeant, SetsAreSoundUnder, SetsAreSound, LawfulSetsAreSound}
 
 -- ---- lists of placed tasks
 

@@ -1,20 +1,21 @@
 -- The groups of rules up to code, one after another.
-use Rattle.std.proofs.Common.{◌≡◌, ℕ, suc, ◌+◌, ◌≤◌, List, [], ◌∷◌, Option, None, Some, Result, Ok, Err, length, map, refl, ap, sym, ◌∙◌, subst, arith}
 use Rattle.std.specs.Option.{option_map}
+use Rattle.std.proofs.Common.{◌≡◌, ℕ, suc, ◌+◌, ◌≤◌, List, [], ◌∷◌, Option, None, Some, Result, Ok, Err, length, map, refl, ap, sym, ◌∙◌, subst, arith}
 use Rattle.prem_plant.specs.declared.plant.Target.{Target}
 use Rattle.prem_syntax.specs.Syntax.{ProgramText}
 use Rattle.prem_lexer.specs.declared.token.fail.FrontFail.{FrontFail}
 use Rattle.prem_text.specs.Texts.{reads}
-use Rattle.prem_asm.specs.Pieces.{Pieces}
 use Rattle.prem_analyse.specs.Analysed.{analysed_text}
+use Rattle.prem_asm.specs.Pieces.{Pieces}
 use Rattle.prem_layout.specs.Placed.{Coded as CodedText}
 use Rattle.prem_layout.specs.Rules.{LateRule, Refusal, or_else, refused_by, first_among, over_tasks, group_four}
-use Rattle.prem_layout.specs.Broken.{broken_at_places, broken_late}
+use Rattle.prem_layout.specs.Broken.{broken_at_places}
 use Rattle.prem_tasks.specs.Told.{Told, of_code}
-use Rattle.prem_tasks.specs.Broken.{TaskText, TaskSet, unread, group_one, program_before, programs_of, group_two, group_three, bounded, coded_of, late_refusal, broken_programs, broken}
+use Rattle.prem_tasks.specs.Broken.{TaskText, TaskSet, unread, group_one, program_before, programs_of, group_two, group_three, bounded, coded_of, late_refusal, broken}
 use Rattle.prem_tasks.specs.SetOf.{task_of}
 use Rattle.prem_tasks.specs.declared.set.TaskText.{TaskText as TaskTree}
 use Rattle.prem_tasks.specs.Compiled.{coded_in, places_in}
+use Rattle.prem_tasks.specs.At.{code_broken, broken_early}
 use Rattle.prem_tasks.specs.Stops.{Stops}
 use Rattle.prem_tasks.specs.declared.stop.Stop.{Stop}
 use Rattle.prem_stages.specs.Stages.{uncoded}
@@ -54,7 +55,7 @@ pub late_or : (a b : Option (Refusal LateRule)) → late_refusal (or_else a b) �
 late_or None b = refl
 late_or (Some r) b = refl
 
-pub late_by : (task : Option ℕ) (rule : Option LateRule) → late_refusal (refused_by task rule) ≡ refused_by task (option_map of_code rule)
+late_by : (task : Option ℕ) (rule : Option LateRule) → late_refusal (refused_by task rule) ≡ refused_by task (option_map of_code rule)
 late_by task None = refl
 late_by task (Some rule) = refl
 
@@ -70,7 +71,7 @@ late_among target n (t ∷ ts) (p ∷ ps) count =
     ∙ ap (λ (x : Option (Refusal Told)). or_else x (late_refusal (first_among late_four (n + 1) (coded_of target ts ps)))) (late_by (Some n) (group_four (bounded p)))
     ∙ ap (λ (x : Option (Refusal Told)). or_else (refused_by (Some n) (uncoded p)) x) (late_among target (n + 1) ts ps (omega (arith, count)))
 
-pub late_none : (found : Option (Refusal LateRule)) → late_refusal found ≡ None → found ≡ None
+late_none : (found : Option (Refusal LateRule)) → late_refusal found ≡ None → found ≡ None
 late_none None e = refl
 late_none (Some r) e = absurd cc
 
@@ -106,51 +107,71 @@ kept_well set ts ps qs tasks one are two same three =
       ranges = ap (λ (xs : List ProgramText). over_tasks group_three xs) (sym (same ∙ listed)) ∙ three;
     }
 
-abbrev late_in : TaskSet → Option (Refusal Told)
-late_in set = late_refusal (broken_late set.plant set.devices (coded_in set))
+-- ---- the rules up to code generation
+
+abbrev four_in : TaskSet → Option (Refusal Told)
+four_in set = late_refusal (code_broken set)
 
 abbrev from_ranges : TaskSet → Option (Refusal Told)
-from_ranges set = or_else (over_tasks group_three (programs_of set.tasks)) (late_in set)
+from_ranges set = or_else (over_tasks group_three (programs_of set.tasks)) (four_in set)
 
-behind_texts : (set : TaskSet) → over_tasks group_one set.tasks ≡ None → broken set ≡ broken_programs set (programs_of set.tasks)
-behind_texts set one = none_passes (over_tasks group_one set.tasks) (broken_programs set (programs_of set.tasks)) one
+abbrev from_programs : TaskSet → Option (Refusal Told)
+from_programs set = or_else (over_tasks group_two (programs_of set.tasks)) (from_ranges set)
 
-behind_programs : (set : TaskSet) → FormedWell set → broken set ≡ from_ranges set
+behind_texts : (set : TaskSet) → over_tasks group_one set.tasks ≡ None → broken_early set ≡ from_programs set
+behind_texts set one = none_passes (over_tasks group_one set.tasks) (from_programs set) one
+
+behind_programs : (set : TaskSet) → FormedWell set → broken_early set ≡ from_ranges set
 behind_programs set well = behind_texts set well.texts ∙ none_passes (over_tasks group_two (programs_of set.tasks)) (from_ranges set) well.programs
 
-behind_ranges : (set : TaskSet) → KeptWell set → broken set ≡ late_in set
+behind_ranges : (set : TaskSet) → KeptWell set → broken_early set ≡ four_in set
 behind_ranges set well =
     behind_programs set (record { texts = well.texts; programs = well.programs })
-    ∙ none_passes (over_tasks group_three (programs_of set.tasks)) (late_in set) well.ranges
+    ∙ none_passes (over_tasks group_three (programs_of set.tasks)) (four_in set) well.ranges
 
-pub at_texts : (set : TaskSet) (stop : Stop) → Stops stop (over_tasks group_one set.tasks) → Stops stop (broken set)
-at_texts set stop s = first_stops stop (over_tasks group_one set.tasks) (broken_programs set (programs_of set.tasks)) (broken set) s refl
+at_texts : (set : TaskSet) (stop : Stop) → Stops stop (over_tasks group_one set.tasks) → Stops stop (broken_early set)
+at_texts set stop s = first_stops stop (over_tasks group_one set.tasks) (from_programs set) (broken_early set) s refl
 
-pub at_programs : (set : TaskSet) (stop : Stop) (ps : List ProgramText) → ps ≡ programs_of set.tasks → ReadWell set → Stops stop (over_tasks group_two ps) → Stops stop (broken set)
+at_programs : (set : TaskSet) (stop : Stop) (ps : List ProgramText) → ps ≡ programs_of set.tasks → ReadWell set → Stops stop (over_tasks group_two ps) → Stops stop (broken_early set)
 at_programs set stop ps are well s =
     let here : Stops stop (over_tasks group_two (programs_of set.tasks)) = subst (λ (qs : List ProgramText). Stops stop (over_tasks group_two qs)) are s in
-    first_stops stop (over_tasks group_two (programs_of set.tasks)) (from_ranges set) (broken set) here (sym (behind_texts set well.texts))
+    first_stops stop (over_tasks group_two (programs_of set.tasks)) (from_ranges set) (broken_early set) here (sym (behind_texts set well.texts))
 
-pub at_ranges : (set : TaskSet) (stop : Stop) (ps : List ProgramText) → ps ≡ programs_of set.tasks → FormedWell set → Stops stop (over_tasks group_three ps) → Stops stop (broken set)
+at_ranges : (set : TaskSet) (stop : Stop) (ps : List ProgramText) → ps ≡ programs_of set.tasks → FormedWell set → Stops stop (over_tasks group_three ps) → Stops stop (broken_early set)
 at_ranges set stop ps are well s =
     let here : Stops stop (over_tasks group_three (programs_of set.tasks)) = subst (λ (qs : List ProgramText). Stops stop (over_tasks group_three qs)) are s in
-    first_stops stop (over_tasks group_three (programs_of set.tasks)) (late_in set) (broken set) here (sym (behind_programs set well))
+    first_stops stop (over_tasks group_three (programs_of set.tasks)) (four_in set) (broken_early set) here (sym (behind_programs set well))
+
+four_is : (set : TaskSet) → over_tasks group_one set.tasks ≡ None → four_in set ≡ over_tasks uncoded (programs_of set.tasks)
+four_is set one = late_among set.plant.target 0 set.tasks (programs_of set.tasks) (as_many_programs set.tasks one)
+
+pub at_code : (set : TaskSet) (stop : Stop) (ps : List ProgramText) → ps ≡ programs_of set.tasks → KeptWell set → Stops stop (over_tasks uncoded ps) → Stops stop (broken_early set)
+at_code set stop ps are well s =
+    let here : Stops stop (over_tasks uncoded (programs_of set.tasks)) = subst (λ (qs : List ProgramText). Stops stop (over_tasks uncoded qs)) are s in
+    let four : Stops stop (four_in set) = same_stop stop _ _ (four_is set well.texts) here in
+    same_stop stop _ _ (behind_ranges set well) four
+
+-- ---- all rules
 
 -- the rules behind code generation
 abbrev placed_in_set : TaskSet → Option (Refusal LateRule)
 placed_in_set set = broken_at_places set.plant (places_in set) (coded_in set)
 
-four_is : (set : TaskSet) → over_tasks group_one set.tasks ≡ None → late_refusal (over_tasks late_four (coded_in set)) ≡ over_tasks uncoded (programs_of set.tasks)
-four_is set one = late_among set.plant.target 0 set.tasks (programs_of set.tasks) (as_many_programs set.tasks one)
+or_joins : {R : Type 0} (a b c : Option (Refusal R)) → or_else (or_else a b) c ≡ or_else a (or_else b c)
+or_joins None b c = refl
+or_joins (Some r) b c = refl
 
-late_parts : (set : TaskSet) → late_in set ≡ or_else (late_refusal (over_tasks late_four (coded_in set))) (late_refusal (placed_in_set set))
-late_parts set = late_or (over_tasks late_four (coded_in set)) (placed_in_set set)
-
-pub at_code : (set : TaskSet) (stop : Stop) (ps : List ProgramText) → ps ≡ programs_of set.tasks → KeptWell set → Stops stop (over_tasks uncoded ps) → Stops stop (broken set)
-at_code set stop ps are well s =
-    let here : Stops stop (over_tasks uncoded (programs_of set.tasks)) = subst (λ (qs : List ProgramText). Stops stop (over_tasks uncoded qs)) are s in
-    let four : Stops stop (late_refusal (over_tasks late_four (coded_in set))) = same_stop stop _ _ (four_is set well.texts) here in
-    first_stops stop (late_refusal (over_tasks late_four (coded_in set))) (late_refusal (placed_in_set set)) (broken set) four (sym (behind_ranges set well ∙ late_parts set))
+-- those up to code generation, then those behind it
+broken_parts : (set : TaskSet) → broken set ≡ or_else (broken_early set) (late_refusal (placed_in_set set))
+broken_parts set =
+    let one = over_tasks group_one set.tasks in
+    let two = over_tasks group_two (programs_of set.tasks) in
+    let three = over_tasks group_three (programs_of set.tasks) in
+    let late = late_refusal (placed_in_set set) in
+    ap (λ (x : Option (Refusal Told)). or_else one (or_else two (or_else three x))) (late_or (code_broken set) (placed_in_set set))
+    ∙ ap (λ (x : Option (Refusal Told)). or_else one (or_else two x)) (sym (or_joins three (four_in set) late))
+    ∙ ap (λ (x : Option (Refusal Told)). or_else one x) (sym (or_joins two (from_ranges set) late))
+    ∙ sym (or_joins one (from_programs set) late)
 
 -- ---- where it isn't
 
@@ -158,13 +179,15 @@ pub set_is_coded : (set : TaskSet) (c : Coded) (ps : List ProgramText) → KeptW
     map code_in c.codes.items ≡ map (program_code set.plant.target) ps → IsCoded set c
 set_is_coded set c ps well programs are coded codes =
     let count = as_many_programs set.tasks well.texts in
-    let none : late_refusal (over_tasks late_four (coded_in set)) ≡ None = four_is set well.texts ∙ ap (λ (qs : List ProgramText). over_tasks uncoded qs) (sym are) ∙ coded in
+    let none : four_in set ≡ None = four_is set well.texts ∙ ap (λ (qs : List ProgramText). over_tasks uncoded qs) (sym are) ∙ coded in
+    let early : broken_early set ≡ None = behind_ranges set well ∙ none in
     record {
       texts_are_read = well.texts;
       programs_are_formed = well.programs;
       ranges_are_kept = well.ranges;
-      code_is_there = late_none (over_tasks late_four (coded_in set)) none;
-      broken_is = behind_ranges set well ∙ late_parts set ∙ none_passes (late_refusal (over_tasks late_four (coded_in set))) (late_refusal (placed_in_set set)) none;
+      code_is_there = late_none (code_broken set) none;
+      early = early;
+      broken_is = broken_parts set ∙ none_passes (broken_early set) (late_refusal (placed_in_set set)) early;
       count = count;
       programs_are = programs ∙ are;
       codes_are = codes ∙ ap (λ (qs : List ProgramText). map (program_code set.plant.target) qs) are ∙ codes_listed set.plant.target set.tasks (programs_of set.tasks) count;

@@ -1,8 +1,8 @@
 // The fourth group of rules: the programs of all tasks get their code.
 ghost use Rattle.std.specs.Prelude.{◌≡◌, ◌≤◌, ◌<◌, Some, IfOk, length, map};
+ghost use Rattle.prem_analyse.specs.Analysed.{analysed_text};
 ghost use Rattle.prem_template.specs.Limits.{excess};
 ghost use Rattle.prem_gen.specs.Term.Excess.{Exceeds};
-ghost use Rattle.prem_analyse.specs.Analysed.{analysed_text};
 ghost use Rattle.prem_gen.specs.Compiled.{compiled};
 ghost use Rattle.prem_layout.specs.Rules.{refused_by, over_tasks};
 ghost use Rattle.prem_tasks.specs.Told.{told_of};

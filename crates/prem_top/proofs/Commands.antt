@@ -1,47 +1,55 @@
 -- The answers to commands keep what they promise.
-use Rattle.std.proofs.Common.{◌≡◌, ℕ, true, List, Option, None, Some, Ok, refl, ap, ◌∙◌, sym, subst}
-use Rattle.prem_cycle.specs.Inputs.{FitsRun}
-use Rattle.prem_set.proofs.RunLemmas.Lawful.{run_is_lawful}
-use Rattle.prem_layout.specs.Rules.{Refusal}
+use Rattle.std.specs.Prelude.{nat_lt}
+use Rattle.std.proofs.Common.{◌≡◌, ℕ, Bool, true, false, cond, List, Option, None, Some, Result, Ok, Err, refl, ap, ◌∙◌, sym, subst, arith}
+use Rattle.std.proofs.lemmas.Bool.{ltb-true, ltb-false}
 use Rattle.prem_line.proofs.Chain.{same_Ok}
+use Rattle.prem_plant.specs.Places.{Extent, last_end}
+use Rattle.prem_lru.specs.Rules.{rule_of}
+use Rattle.prem_cycle.specs.Inputs.{FitsRun}
+use Rattle.prem_layout.specs.Rules.{Refusal}
 use Rattle.prem_tasks.specs.Told.{Told}
 use Rattle.prem_tasks.specs.Broken.{TaskSet, broken, programs_of}
 use Rattle.prem_tasks.specs.Compiled.{compiled}
-use Rattle.prem_lru.specs.Rules.{rule_of}
+use Rattle.prem_tasks.specs.At.{broken_early, broken_at, compiled_at}
 use Rattle.prem_sets_sound.specs.Accepted.Accepted.{setup_in}
 use Rattle.prem_sets_sound.specs.Meant.{promises_in}
 use Rattle.prem_sets_sound.proofs.Sound.{sets_are_sound}
+use Rattle.prem_sets_sound.proofs.PlacesSoundLemmas.At.{sets_are_sound_at}
+use Rattle.prem_compile.specs.Colors.{AreColored}
+use Rattle.prem_compile.proofs.Colored.{colors_are_lawful, colors_leave_no_conflict}
+use Rattle.prem_set.proofs.RunLemmas.Lawful.{run_is_lawful}
+use Rattle.prem_imagefile.specs.Spelling.{image_bytes}
+use Rattle.prem_command.specs.Words.{TileAsked, MailAsked}
 use Rattle.prem_mail.specs.declared.feed.Feed.{Feed}
 use Rattle.prem_mail.specs.Good.{IsGoodRun}
 use Rattle.prem_mail.proofs.Words.{mailed_runs_are_good}
-use Rattle.prem_command.specs.Words.{MailAsked}
-use Rattle.prem_running.specs.RunSound.Runs.{SuitsRun}
-use Rattle.prem_running.proofs.RunSoundLemmas.Reports.{sound_reports_end}
-use Rattle.prem_running.proofs.RunSoundLemmas.SetRuns.{inputs_are_lawful}
-use Rattle.prem_running.proofs.SetLawsLemmas.Names.{lawful_runs_fit}
 use Rattle.prem_answer.specs.declared.status.Status.{Status}
 use Rattle.prem_answer.specs.declared.status.Status.TheVariants.{Done, Refused}
 use Rattle.prem_answer.specs.Stages.{Reply, Reads, replied}
-use Rattle.prem_exec.specs.Forms.{RunText}
 use Rattle.prem_answer.specs.Refusal.Texts.{refused_reply}
+use Rattle.prem_exec.specs.Forms.{RunText}
+use Rattle.prem_exec.specs.Sources.Sources.{reading_run, source_limit}
 use Rattle.prem_build.specs.declared.sheet.Sheet.{Sheet}
 use Rattle.prem_build.specs.declared.sheet.Sheet.TheVariants.{Bounds, Image, Listing}
 use Rattle.prem_build.specs.Build.{compiled_reply as sheet_reply, judged_reply as sheet_judged, sheet_stages, sheet_text}
-use Rattle.prem_source.specs.Source.{judged_reply as source_judged, source_reply, tasks_text}
-use Rattle.prem_exec.specs.Sources.Sources.{reading_run, source_limit}
-use Rattle.prem_running.specs.Running.{compiled_reply, judged_reply as run_judged, run_limit, set_reply}
-use Rattle.prem_running.specs.Mail.Files.{reading_mail}
-use Rattle.prem_running.specs.Mail.Mail.{compiled_reply as mail_compiled, judged_reply as mail_judged, set_reply as mail_reply, mail_stages}
+use Rattle.prem_build.specs.Colors.{stuck_reply, memory_refusal, judged_reply as color_judged, placed_reply, moved_reply, found_places, early_reply, color_reply, color_stages}
 use Rattle.prem_one.specs.One.{judged_answer as one_judged, one_answer, one_set, one_stages, run_text, state_of}
-use Rattle.prem_command.specs.Words.{TileAsked}
 use Rattle.prem_tile_answer.specs.Reply.{tile_reply, tile_stages}
 use Rattle.prem_tile_answer.specs.Promise.{KeepsTiles}
 use Rattle.prem_tile_answer.proofs.Keeping.{replies_keep}
+use Rattle.prem_source.specs.Source.{judged_reply as source_judged, source_reply, tasks_text}
+use Rattle.prem_running.specs.RunSound.Runs.{SuitsRun}
+use Rattle.prem_running.specs.Running.{compiled_reply, judged_reply as run_judged, run_limit, set_reply}
+use Rattle.prem_running.specs.Mail.Files.{reading_mail}
+use Rattle.prem_running.specs.Mail.Mail.{compiled_reply as mail_compiled, judged_reply as mail_judged, set_reply as mail_reply, mail_stages}
 use Rattle.prem_running.specs.Sample.Trace.{sample_set}
 use Rattle.prem_running.specs.Sample.Sample.{compiled_reply as sample_compiled, judged_reply as sample_judged}
+use Rattle.prem_running.proofs.RunSoundLemmas.Reports.{sound_reports_end}
+use Rattle.prem_running.proofs.RunSoundLemmas.SetRuns.{inputs_are_lawful}
+use Rattle.prem_running.proofs.SetLawsLemmas.Names.{lawful_runs_fit}
 use Rattle.prem_top.specs.Read.{IsRead, SetIsRead, RunIsRead, MailIsRead}
-use Rattle.prem_top.specs.Promises.{IsAccepted, IsSoundTelling, Keeps, TellsFirstBroken, IsFirstBroken, delivered_to}
-use Rattle.prem_top.specs.PromiseLaws.{BuildsKeep, ChecksKeep, ListsKeep, OnesKeep, RunsKeep, SamplesKeep, SourcesKeep, TilesKeep, MailKeeps}
+use Rattle.prem_top.specs.Promises.{IsAccepted, IsSoundTelling, IsSoundColor, Keeps, TellsFirstBroken, IsFirstBroken, TellsWhyUncolored, early, stuck, full, at_places, IsWhyUncolored, delivered_to}
+use Rattle.prem_top.specs.PromiseLaws.{BuildsKeep, ChecksKeep, ListsKeep, OnesKeep, RunsKeep, SamplesKeep, SourcesKeep, TilesKeep, ColorsKeep, MailKeeps}
 use Rattle.prem_top.proofs.Readings.{goes_on, run_goes, SetGoes, set_goes, is_judged, run_goes_on, mail_goes}
 use Rattle.prem_top.proofs.Values.{sample_has_values, sets_read_have_values}
 use Rattle.prem_top.proofs.One.{gives, sound, text_told}
@@ -283,4 +291,66 @@ mail_keeps reads asked given is = record {
       let g = mailed reads asked given (refused_is_judged given.0 refused) is in
       let judged = judged_by g.set (mail_judged asked.cycles g.set g.input g.feeds) (mail_compiled asked.cycles g.input g.feeds (compiled g.set)).1 given refl (λ r. refl) (broken g.set) refl g.goes in
       record { set = g.set; read = g.read; input = g.input; run_read = g.run_read; feeds = g.feeds; mail_read = g.mail_read; first = judged.on_refused refused };
+}
+
+-- ---- `color`
+
+module _ (reads : Reads) (name : List ℕ) (set : TaskSet) (read : SetIsRead reads name set) (given : Reply) where
+  abbrev Kept : Type 0
+  Kept = Keeps (IsSoundColor reads name) (IsWhyUncolored reads name) given
+
+  not_colored : (text : List ℕ) → given ≡ (Refused, text) → TellsWhyUncolored set text → Kept
+  not_colored text same tells = record {
+    on_done = λ other. let other_is : Refused ≡ Done = sym (ap (λ (r : Reply). r.0) same) ∙ other in absurd cc;
+    on_refused = λ it. record { set = set; read = read; tells = subst (TellsWhyUncolored set) (sym (ap (λ (r : Reply). r.1) same)) tells };
+  }
+
+  is_colored : (places : List Extent) → broken_early set ≡ None → AreColored set places → broken_at set places ≡ None → given ≡ (Done, image_bytes (compiled_at set places).image) → Kept
+  is_colored places none are unbroken same =
+      let values = sets_read_have_values reads name set read in
+      let lawful = colors_are_lawful set places are in
+      record {
+        on_done = λ it. record {
+          set = set;
+          read = read;
+          values = values;
+          places = places;
+          colored = are;
+          lawful = lawful;
+          no_conflict = colors_leave_no_conflict set places none are;
+          unbroken = unbroken;
+          sound = sets_are_sound_at set places values lawful unbroken;
+          text_is = ap (λ (r : Reply). r.1) same;
+        };
+        on_refused = λ other. let other_is : Done ≡ Refused = sym (ap (λ (r : Reply). r.0) same) ∙ other in absurd cc;
+      }
+
+  by_places : (places : List Extent) → broken_early set ≡ None → AreColored set places → (first : Option (Refusal Told)) → broken_at set places ≡ first → color_judged set places first ≡ given → Kept
+  by_places places none are None is goes = is_colored places none are is (sym goes)
+  by_places places none are (Some r) is goes = not_colored (refused_reply set.tasks r).1 (sym goes) (at_places places r are.moved are.within is refl)
+
+  by_size : (places : List Extent) → broken_early set ≡ None → found_places set ≡ Ok places → (b : Bool) → nat_lt set.plant.memory (last_end places) ≡ b →
+      cond b (refused_reply set.tasks (memory_refusal (last_end places) set.plant.memory)) (placed_reply set places) ≡ given → Kept
+  by_size places none found true is goes =
+      not_colored (refused_reply set.tasks (memory_refusal (last_end places) set.plant.memory)).1 (sym goes) (full places none found (ltb-true set.plant.memory (last_end places) is) refl)
+  by_size places none found false is goes =
+      by_places places none (record { plant = (sets_read_have_values reads name set read).plant_is; moved = found; within = ltb-false set.plant.memory (last_end places) is }) (broken_at set places) refl goes
+
+  by_found : broken_early set ≡ None → (found : Result (List Extent) ℕ) → found_places set ≡ found → moved_reply set found ≡ given → Kept
+  by_found none (Err n) is goes = not_colored (stuck_reply set n).1 (sym goes) (stuck n none is refl)
+  by_found none (Ok places) is goes = by_size places none is (nat_lt set.plant.memory (last_end places)) refl goes
+
+  by_early : (first : Option (Refusal Told)) → broken_early set ≡ first → early_reply set first ≡ given → Kept
+  by_early (Some r) is goes = not_colored (refused_reply set.tasks r).1 (sym goes) (early r is refl)
+  by_early None is goes = by_found is (found_places set) refl goes
+
+color_keeps : (reads : Reads) (name : List ℕ) (given : Reply) → is_judged given.0 ≡ true → replied (color_stages name reads) ≡ given → Keeps (IsSoundColor reads name) (IsWhyUncolored reads name) given
+color_keeps reads name given judged is =
+    let g = set_goes reads name (λ set reads. Ok (color_reply set)) given judged is in
+    by_early reads name g.set g.read given (broken_early g.set) refl g.goes
+
+pub colors_keep : ColorsKeep
+colors_keep reads name given is = record {
+  on_done = λ done. (color_keeps reads name given (done_is_judged given.0 done) is).on_done done;
+  on_refused = λ refused. (color_keeps reads name given (refused_is_judged given.0 refused) is).on_refused refused;
 }

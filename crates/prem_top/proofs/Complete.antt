@@ -1,40 +1,45 @@
 -- A command succeeds where its files are there and in form, and no rule is broken.
-use Rattle.std.proofs.Common.{◌≡◌, ◌≢◌, ◌≤◌, ℕ, suc, List, [], ◌∷◌, ◌++◌, length, Option, None, Some, Result, Ok, Err, IsTrue, ◌⊎◌, inl, inr, refl, ap, ◌∙◌, sym, subst}
 use Rattle.std.specs.Prelude.{if◌then◌else◌, codes}
-use Rattle.std.proofs.lemmas.Bool.{le-leb}
+use Rattle.std.proofs.Common.{◌≡◌, ◌≢◌, ◌≤◌, ℕ, suc, List, [], ◌∷◌, ◌++◌, length, Option, None, Some, Result, Ok, Err, IsTrue, cond, ◌⊎◌, inl, inr, refl, ap, ◌∙◌, sym, subst}
+use Rattle.std.proofs.lemmas.Bool.{le-leb, le-ltb}
 use Rattle.prem_io.specs.Files.{Files}
-use Rattle.prem_set.specs.declared.task.TaskEntry.{TaskEntry}
+use Rattle.prem_plant.specs.Places.{Extent, last_end}
+use Rattle.prem_image.specs.Text.{ImageText}
+use Rattle.prem_syntax.specs.Syntax.{ProgramText}
+use Rattle.prem_meaning.specs.GroupTwo.{group_two}
+use Rattle.prem_text.specs.Texts.{reads as program_of}
+use Rattle.prem_text.specs.Canonical.Printed.{printed}
+use Rattle.prem_tiling.specs.Shapes.Tile.{tile as tile_program}
+use Rattle.prem_tile.specs.Cutting.Answer.{is_text_past}
 use Rattle.prem_tasks.specs.Broken.{TaskText, TaskSet, broken, programs_of}
+use Rattle.prem_tasks.specs.Compiled.{compiled}
+use Rattle.prem_tasks.specs.At.{broken_early, broken_at, compiled_at}
+use Rattle.prem_set.specs.declared.task.TaskEntry.{TaskEntry}
+use Rattle.prem_imagefile.specs.Spelling.{image_bytes}
 use Rattle.prem_command.specs.Words.{Asked, RunAsked, TileAsked, command_of, MailAsked}
+use Rattle.prem_mail.specs.declared.feed.Feed.{Feed}
 use Rattle.prem_answer.specs.declared.status.Status.{Status}
 use Rattle.prem_answer.specs.declared.status.Status.TheVariants.{Done, Refused, Usage, Form, ReadFault, WriteFault, OutOfMemory, Missing, Trap}
 use Rattle.prem_answer.specs.Stages.{Reply, Reads, Stage, AreReads, and_then, form_reply, is_settled, later_reads, reading, replied, within_limit}
-use Rattle.prem_image.specs.Text.{ImageText}
-use Rattle.prem_tasks.specs.Compiled.{compiled}
+use Rattle.prem_answer.specs.Refusal.Texts.{refused_reply}
 use Rattle.prem_exec.specs.Forms.{RunText, image_in, run_in}
 use Rattle.prem_exec.specs.Exec.{exec_limit, exec_stages, image_limit, image_of_bytes, run_reply, run_of_bytes as image_run_of_bytes}
 use Rattle.prem_exec.specs.Sources.Sources.{reading_run, reading_set, reading_tasks, run_limit, run_of_bytes, set_in, set_limit, set_of_bytes, set_with, source_limit, task_of_source}
+use Rattle.prem_exec.specs.Sources.There.{IsThere, SourcesAreThere, SetIsThere, RunIsThere}
 use Rattle.prem_build.specs.declared.sheet.Sheet.{Sheet}
 use Rattle.prem_build.specs.declared.sheet.Sheet.TheVariants.{Bounds, Image, Listing}
 use Rattle.prem_build.specs.Build.{compiled_reply, judged_reply as sheet_judged, sheet_stages, sheet_text}
+use Rattle.prem_build.specs.Colors.{memory_refusal, judged_reply as color_judged, placed_reply, moved_reply, found_places, early_reply, color_reply, color_stages}
 use Rattle.prem_one.specs.One.{judged_answer as one_judged, one_answer, one_set, one_stages, run_text, state_of}
-use Rattle.prem_syntax.specs.Syntax.{ProgramText}
-use Rattle.prem_text.specs.Texts.{reads as program_of}
-use Rattle.prem_text.specs.Canonical.Printed.{printed}
-use Rattle.prem_meaning.specs.GroupTwo.{group_two}
-use Rattle.prem_tiling.specs.Shapes.Tile.{tile as tile_program}
-use Rattle.prem_tile.specs.Cutting.Answer.{is_text_past}
 use Rattle.prem_tile_answer.specs.Reply.{tiled_reply, formed_reply, read_reply, tile_reply, tile_stages}
 use Rattle.prem_source.specs.Source.{judged_reply as source_judged, source_reply, source_stages, tasks_text}
 use Rattle.prem_running.specs.Running.{compiled_reply as run_reply_of, judged_reply as run_judged, run_stages, set_reply}
 use Rattle.prem_running.specs.Sample.Trace.{sample_set}
 use Rattle.prem_running.specs.Sample.Sample.{compiled_reply as sample_reply_of, judged_reply as sample_judged, sample_stages}
-use Rattle.prem_mail.specs.declared.feed.Feed.{Feed}
 use Rattle.prem_running.specs.Mail.Files.{mail_limit, feeds_in, feeds_of_bytes, reading_mail}
 use Rattle.prem_running.specs.Mail.Mail.{compiled_reply as mail_reply_of, judged_reply as mail_judged, set_reply as mail_reply, mail_stages}
 use Rattle.prem_top.specs.Answer.{IsAnswer, asked_answer, command_answer, Answered, Ends}
-use Rattle.prem_exec.specs.Sources.There.{IsThere, SourcesAreThere, SetIsThere, RunIsThere}
-use Rattle.prem_top.specs.Complete.{ImageIsThere, Completes, IsComplete, Succeeds, one_succeeds, check_succeeds, build_succeeds, list_succeeds, source_succeeds, run_succeeds, exec_succeeds, sample_succeeds, tile_succeeds, MailIsThere, mail_succeeds}
+use Rattle.prem_top.specs.Complete.{ImageIsThere, Completes, IsComplete, Succeeds, one_succeeds, check_succeeds, build_succeeds, list_succeeds, source_succeeds, run_succeeds, exec_succeeds, sample_succeeds, tile_succeeds, color_succeeds, MailIsThere, mail_succeeds}
 
 -- ---- files
 
@@ -128,6 +133,15 @@ tile_told files asked bytes p q reads are there read none cut =
     file_read files source_limit asked.file bytes Ok bytes (λ bytes reads. Ok (tile_reply asked bytes)) reads are there refl
     ∙ ap (λ r. Ok (read_reply asked r)) read ∙ ap (λ first. Ok (formed_reply asked p first)) none ∙ ap (λ r. Ok (tiled_reply r)) cut
 
+color_told : (files : Files) (name : List ℕ) (set : TaskSet) (places : List Extent) (reads : Reads) → AreReads (Some files) reads → SetIsThere files name set → broken_early set ≡ None → found_places set ≡ Ok places →
+    last_end places ≤ set.plant.memory → broken_at set places ≡ None → color_stages name reads ≡ Ok (Done, image_bytes (compiled_at set places).image)
+color_told files name set places reads are there early found within none =
+    (set_read files name set (λ set reads. Ok (color_reply set)) reads are there).is
+    ∙ ap (λ first. Ok (early_reply set first)) early
+    ∙ ap (λ r. Ok (moved_reply set r)) found
+    ∙ ap (λ b. Ok (cond b (refused_reply set.tasks (memory_refusal (last_end places) set.plant.memory)) (placed_reply set places))) (le-ltb _ _ within)
+    ∙ ap (λ first. Ok (color_judged set places first)) none
+
 mail_told : (files : Files) (asked : MailAsked) (set : TaskSet) (input : RunText) (feeds : List Feed) (reads : Reads) → AreReads (Some files) reads → SetIsThere files asked.of set →
     RunIsThere files set asked.run input → MailIsThere files set asked.mail feeds → broken set ≡ None → mail_stages asked reads ≡ Ok (mail_reply_of asked.cycles input feeds (compiled set))
 mail_told files asked set input feeds reads are there input_there mail_there none =
@@ -145,6 +159,7 @@ succeeds files _ _ reads are (build_succeeds {name} {set} there none) = set_told
 succeeds files _ _ reads are (list_succeeds {name} {set} there none) = set_told files Listing name set reads are there none
 succeeds files _ _ reads are (source_succeeds {name} {run} {set} {input} there input_there none) = source_told files name run set input reads are there input_there none
 succeeds files _ _ reads are (run_succeeds {asked} {set} {input} there input_there none) = ran_told files asked set input reads are there input_there none
+succeeds files _ _ reads are (color_succeeds {name} {set} {places} there early found within none) = color_told files name set places reads are there early found within none
 succeeds files _ _ reads are (mail_succeeds {asked} {set} {input} {feeds} there input_there mail_there none) = mail_told files asked set input feeds reads are there input_there mail_there none
 succeeds files _ _ reads are (sample_succeeds {seed} none) = sample_told seed reads none
 succeeds files _ _ reads are (tile_succeeds {asked} {bytes} {p} {q} there read none cut) = tile_told files asked bytes p q reads are there read none cut

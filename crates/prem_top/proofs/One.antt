@@ -1,12 +1,12 @@
 -- A program alone that breaks no rule: its run finishes with the outputs of the program's meaning.
-use Rattle.std.proofs.Common.{◌≡◌, ◌≤◌, ◌<◌, ◌^◌, ℕ, zero, suc, true, List, [], ◌∷◌, ◌++◌, length, map, Option, None, Some, Ok, refl, ap, ◌∙◌, sym, arith, slice_get}
 use Rattle.std.specs.Prelude.{All}
+use Rattle.std.proofs.Common.{◌≡◌, ◌≤◌, ◌<◌, ◌^◌, ℕ, zero, suc, true, List, [], ◌∷◌, ◌++◌, length, map, Option, None, Some, Ok, refl, ap, ◌∙◌, sym, arith, slice_get}
 use Rattle.prem_plant.specs.Ranges.{default_plant}
 use Rattle.prem_plant.specs.Places.{default_places}
+use Rattle.prem_sched.specs.Schedule.{starts_of}
+use Rattle.prem_lru.specs.Rules.{rule_of}
 use Rattle.prem_image.specs.declared.image.TaskRecord.{TaskRecord}
 use Rattle.prem_image.specs.declared.image.DeviceRecord.{DeviceRecord}
-use Rattle.prem_lru.specs.Rules.{rule_of}
-use Rattle.prem_sched.specs.Schedule.{starts_of}
 use Rattle.prem_cycle.specs.Cycle.{is_finished}
 use Rattle.prem_cycle.specs.FactsOf.{report_of}
 use Rattle.prem_cycle.specs.Inputs.{IsTrace}
@@ -14,22 +14,22 @@ use Rattle.prem_cycle.specs.Run.{memory_of}
 use Rattle.prem_cycle.specs.State.{first_tasks, start_of, task_in}
 use Rattle.prem_sound.specs.Serve.Requests.{PutWords}
 use Rattle.prem_sound.specs.Sound.{AreInputs}
-use Rattle.prem_text.specs.Texts.{reads as program_of}
-use Rattle.prem_text.proofs.ReadWordsLemmas.ProgramWords.{reads_have_words}
 use Rattle.prem_meaning.specs.Expressions.{Outcome}
 use Rattle.prem_meaning.specs.Resolve.{resolve}
 use Rattle.prem_meaning.specs.Source.{source, unlimited}
 use Rattle.prem_meaning.specs.Statements.{ProgramState}
+use Rattle.prem_text.specs.Texts.{reads as program_of}
+use Rattle.prem_text.proofs.ReadWordsLemmas.ProgramWords.{reads_have_words}
 use Rattle.prem_ranges.proofs.AnalysisSound.{analysis_sound}
 use Rattle.prem_layout.specs.Footprint.{global_range}
 use Rattle.prem_layout.specs.Placed.{Coded, Placed, parts_of, placed_from}
-use Rattle.prem_weave.specs.Promise.Promised.{promise_in, promised, read_globals}
 use Rattle.prem_tasks.specs.Broken.{TaskText, broken}
 use Rattle.prem_tasks.specs.Compiled.{compiled, placed_in}
+use Rattle.prem_weave.specs.Promise.Promised.{promise_in, promised, read_globals}
 use Rattle.prem_sets_sound.specs.Accepted.Accepted.{KeepsRules, setup_in}
-use Rattle.prem_sets_sound.proofs.AcceptedLemmas.Rules.{accepted_tasks_keep_rules}
 use Rattle.prem_sets_sound.specs.Meant.{meant_at, meant_by, promises_in}
 use Rattle.prem_sets_sound.specs.Sound.{IsSoundSet}
+use Rattle.prem_sets_sound.proofs.AcceptedLemmas.Rules.{accepted_tasks_keep_rules}
 use Rattle.prem_sets_sound.proofs.Sound.{sets_are_sound, is_true}
 use Rattle.prem_one.specs.One.{first_outputs, one_set, one_task, output_lines, run_lines, run_text, state_of}
 use Rattle.prem_one.proofs.Kept.{kept, one_alone, placed_alone}

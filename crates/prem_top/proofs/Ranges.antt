@@ -1,10 +1,10 @@
 -- The numbers that words ask for are in their ranges.
-use Rattle.std.proofs.Common.{◌≡◌, ℕ, Bool, true, false, cond, ◌&&◌, List, [], ◌∷◌, Option, None, Some, option_map, refl, ap, sym, subst}
 use Rattle.std.specs.Prelude.{nat_le, codes, option_and_then}
 use Rattle.std.specs.Str.{bytes_eq}
+use Rattle.std.proofs.Common.{◌≡◌, ℕ, Bool, true, false, cond, ◌&&◌, List, [], ◌∷◌, Option, None, Some, option_map, refl, ap, sym, subst}
 use Rattle.std.proofs.lemmas.Bool.{and_parts, leb-true}
 use Rattle.clap.specs.Words.{Row, Text}
-use Rattle.prem_command.specs.Words.{Asked, one, check, build, list, source, run, exec, sample, tile, mail, TileAsked, is_from_to, with_numbers, tile_in, text_in, number_in, read_by, tile_words, name_of, names_of, run_of, seed_of, tile_of, mail_of, asked_further, asked_by, command_of}
+use Rattle.prem_command.specs.Words.{Asked, one, check, build, list, source, run, exec, sample, tile, color, mail, TileAsked, is_from_to, with_numbers, tile_in, text_in, number_in, read_by, tile_words, name_of, names_of, run_of, seed_of, tile_of, mail_of, asked_further, asked_by, command_of}
 use Rattle.prem_tile_answer.specs.Asked.{IsInRange}
 use Rattle.prem_top.specs.InRange.{AreInRange}
 
@@ -43,7 +43,8 @@ tile_in_range words t is = rows_in_range (read_by tile_words words) t is
 by_further : (word : Text) (words : List Text) (asked : Asked) → asked_further word words ≡ Some asked → AreInRange asked
 by_further word words asked is =
     either (bytes_eq word (codes "tile")) _ _ asked (mapped tile (tile_of words) (tile_in_range words) asked)
-    (either (bytes_eq word (codes "mail")) _ _ asked (mapped mail (mail_of words) (λ x e. tt) asked) (λ none. cc)) is
+    (either (bytes_eq word (codes "color")) _ _ asked (mapped color (name_of words) (λ x e. tt) asked)
+    (either (bytes_eq word (codes "mail")) _ _ asked (mapped mail (mail_of words) (λ x e. tt) asked) (λ none. cc))) is
 
 by_word : (word : Text) (words : List Text) (asked : Asked) → asked_by word words ≡ Some asked → AreInRange asked
 by_word word words asked is =

@@ -1,7 +1,7 @@
 -- `one five.c`, where the file's program puts out 2+3: its text begins with `out 5`.
-use Rattle.std.proofs.Common.{◌≡◌, ◌≢◌, ℕ, List, [], ◌∷◌, ◌++◌, Option, Some, refl, ap, ◌∙◌, subst, lit≤}
 use Rattle.std.specs.Prelude.{codes}
 use Rattle.std.specs.Fmt.{digits}
+use Rattle.std.proofs.Common.{◌≡◌, ◌≢◌, ℕ, List, [], ◌∷◌, ◌++◌, Option, Some, refl, ap, ◌∙◌, subst, lit≤}
 use Rattle.clap.proofs.OnLiterals.{clap_on_literals}
 use Rattle.prem_io.specs.Files.{Files}
 use Rattle.prem_cycle.specs.FactsOf.{report_of}
@@ -10,11 +10,11 @@ use Rattle.prem_answer.specs.declared.status.Status.{Status}
 use Rattle.prem_answer.specs.declared.status.Status.TheVariants.{Done, ReadFault, WriteFault}
 use Rattle.prem_answer.specs.Stages.{Reply}
 use Rattle.prem_exec.specs.Sources.Sources.{source_limit}
-use Rattle.prem_one.specs.One.{output_lines, run_lines}
-use Rattle.prem_top.proofs.Samples.{five_text, five_state, five_is_unbroken, five_is_told}
-use Rattle.prem_top.specs.Answer.{Answered}
 use Rattle.prem_exec.specs.Sources.There.{IsThere}
+use Rattle.prem_one.specs.One.{output_lines, run_lines}
+use Rattle.prem_top.specs.Answer.{Answered}
 use Rattle.prem_top.specs.Complete.{Succeeds, one_succeeds, Completes}
+use Rattle.prem_top.proofs.Samples.{five_text, five_state, five_is_unbroken, five_is_told}
 use Rattle.prem_top.proofs.Complete.{complete_is}
 
 abbrev five_words : List (List ℕ)

@@ -1,9 +1,9 @@
 -- `out(2+3);` as a text, computed: it breaks no rule, so the laws speak of it, and it is answered by 5.
-use Rattle.std.proofs.Common.{◌≡◌, ℕ, List, [], ◌∷◌, ◌++◌, None, Ok, Err, refl, ap, ◌∙◌, sym}
 use Rattle.std.specs.Prelude.{codes}
-use Rattle.prem_line.proofs.Chain.{same_Ok}
+use Rattle.std.proofs.Common.{◌≡◌, ℕ, List, [], ◌∷◌, ◌++◌, None, Ok, Err, refl, ap, ◌∙◌, sym}
 use Rattle.prem_word.specs.declared.kind.Kind.TheVariants.{Int}
 use Rattle.prem_word.specs.declared.kind.BinOp.TheVariants.{Add}
+use Rattle.prem_line.proofs.Chain.{same_Ok}
 use Rattle.prem_cycle.specs.State.{MachineState}
 use Rattle.prem_cycle.specs.FactsOf.{report_of}
 use Rattle.prem_syntax.specs.declared.tree.Place.{Place}
@@ -13,11 +13,11 @@ use Rattle.prem_meaning.specs.Expressions.{Outcome}
 use Rattle.prem_meaning.specs.Source.{source}
 use Rattle.prem_meaning.specs.Statements.{ProgramState}
 use Rattle.prem_meaning.specs.Sums.{outputs, job_program}
-use Rattle.prem_ranges.specs.GroupThree as ranges
 use Rattle.prem_lexer.specs.Spelling.{used_word, is_unused, reserved_word, longest_mark}
 use Rattle.prem_lexer.specs.Literal.{literal_word}
 use Rattle.prem_lexer.specs.Tokens.{first_token, start, step, lex, tokens_of}
 use Rattle.prem_text.specs.Texts.{reads as program_of}
+use Rattle.prem_ranges.specs.GroupThree as ranges
 use Rattle.prem_tasks.specs.Broken.{broken}
 use Rattle.prem_tasks.specs.Compiled.{compiled}
 use Rattle.prem_one.specs.One.{one_set, output_lines, run_lines, run_text, state_of}

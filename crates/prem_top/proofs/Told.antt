@@ -1,7 +1,7 @@
 -- Answers over the files that a store tells, or over some readings where it tells none.
 use Rattle.std.proofs.Common.{◌≡◌, ℕ, List, Option, None, Some, Result, Ok, Err, IsTrue, refl, ap, sym, subst}
 use Rattle.prem_io.specs.Files.{Files}
-use Rattle.prem_command.specs.Words.{Asked, one, check, build, list, source, run, exec, sample, tile, mail, command_of}
+use Rattle.prem_command.specs.Words.{Asked, one, check, build, list, source, run, exec, sample, tile, color, mail, command_of}
 use Rattle.prem_answer.specs.declared.status.Status.TheVariants.{ReadFault, OutOfMemory}
 use Rattle.prem_answer.specs.declared.answer.Answer.{Answer}
 use Rattle.prem_answer.specs.declared.answer.Halt.{Halt}
@@ -9,9 +9,10 @@ use Rattle.prem_answer.specs.declared.answer.Halt.TheVariants.{Answered, ReadFau
 use Rattle.prem_answer.specs.Stages.{Reply, reply_of, Comes, Reads, IsGiven, IsFine, is_settled, replied}
 use Rattle.prem_answer.proofs.Reading.{some_reads}
 use Rattle.prem_exec.proofs.Stages.{exec_is_fine}
-use Rattle.prem_one.proofs.Stages.{one_is_fine}
 use Rattle.prem_build.specs.declared.sheet.Sheet.TheVariants.{Bounds, Image, Listing}
 use Rattle.prem_build.proofs.Build.{sheet_is_fine}
+use Rattle.prem_build.proofs.Moving.{color_is_fine}
+use Rattle.prem_one.proofs.Stages.{one_is_fine}
 use Rattle.prem_tile_answer.proofs.Stages.{tile_is_fine}
 use Rattle.prem_source.proofs.Source.{source_is_fine}
 use Rattle.prem_running.proofs.Runs.{run_is_fine}
@@ -35,6 +36,7 @@ asked_fine (source set file) reads = source_is_fine set file reads
 asked_fine (run asked) reads = run_is_fine asked reads
 asked_fine (sample seed) reads = sample_is_fine seed reads
 asked_fine (tile asked) reads = tile_is_fine asked reads
+asked_fine (color set) reads = color_is_fine set reads
 asked_fine (mail asked) reads = mail_is_fine asked reads
 
 command_fine : (asked : Option Asked) (reads : Reads) → IsFine Settled (command_answer asked reads)

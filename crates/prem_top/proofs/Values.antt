@@ -1,21 +1,21 @@
 -- The values of a set that is read are in their ranges.
-use Rattle.std.proofs.Common.{◌≡◌, ◌+◌, ◌<◌, ◌≤◌, ℕ, zero, suc, List, [], ◌∷◌, length, map, refl, ap, ◌∙◌, sym, subst, arith, lit≤}
 use Rattle.std.specs.Prelude.{All, codes, slice_index_or}
 use Rattle.std.specs.List.{AllByRecursion}
+use Rattle.std.proofs.Common.{◌≡◌, ◌+◌, ◌<◌, ◌≤◌, ℕ, zero, suc, List, [], ◌∷◌, length, map, refl, ap, ◌∙◌, sym, subst, arith, lit≤}
 use Rattle.std.proofs.lemmas.List.Elements.{All-nil, All-cons, All-head, All-tail, All-from_recursion}
 use Rattle.prem_plant.specs.Label.{IsName, AreDistinct}
 use Rattle.prem_plant.specs.Ranges.{Between, IsDevice}
 use Rattle.prem_plant.proofs.Powers.{default_is_plant}
-use Rattle.prem_set.specs.declared.task.TaskEntry.{TaskEntry}
-use Rattle.prem_set.specs.SetFile.{SetData, task_names as entry_names}
-use Rattle.prem_set.specs.Lawful.{IsEntry, IsSet}
-use Rattle.prem_set.proofs.Lawful.{set_is_lawful}
 use Rattle.prem_syntax.specs.Syntax.{Text}
 use Rattle.prem_tasks.specs.Broken.{TaskText}
 use Rattle.prem_tasks.specs.Lawful.{are_new, device_names}
 use Rattle.prem_tasks.proofs.Distinct.{devices_are}
-use Rattle.prem_answer.specs.Stages.{Reads}
 use Rattle.prem_sets_sound.specs.Accepted.Accepted.{HasTextValues, HasValues}
+use Rattle.prem_set.specs.declared.task.TaskEntry.{TaskEntry}
+use Rattle.prem_set.specs.SetFile.{SetData, task_names as entry_names}
+use Rattle.prem_set.specs.Lawful.{IsEntry, IsSet}
+use Rattle.prem_set.proofs.Lawful.{set_is_lawful}
+use Rattle.prem_answer.specs.Stages.{Reads}
 use Rattle.prem_exec.specs.Sources.Sources.{set_with, task_with}
 use Rattle.prem_one.specs.One.{one_set, one_task}
 use Rattle.prem_one.proofs.Sets.{one_name}

@@ -2,14 +2,15 @@
 use Rattle.std.specs.Prelude.{◌≡◌, ℕ, List, take, Option, None, Some, Ok, codes}
 use Rattle.std.specs.Io.KnownBytes.{append_known}
 use Rattle.prem_io.specs.Files.{Files}
-use Rattle.prem_command.specs.Words.{Asked, one, check, build, list, source, run, exec, sample, tile, mail, command_of}
+use Rattle.prem_command.specs.Words.{Asked, one, check, build, list, source, run, exec, sample, tile, color, mail, command_of}
 use Rattle.prem_answer.specs.declared.status.Status.{Status}
 use Rattle.prem_answer.specs.declared.status.Status.TheVariants.{Usage, ReadFault, WriteFault, OutOfMemory}
 use Rattle.prem_answer.specs.Stages.{Reply, Reads, Stage, AreReads, replied}
 use Rattle.prem_exec.specs.Exec.{exec_stages}
-use Rattle.prem_one.specs.One.{one_stages}
 use Rattle.prem_build.specs.declared.sheet.Sheet.TheVariants.{Bounds, Image, Listing}
 use Rattle.prem_build.specs.Build.{sheet_stages}
+use Rattle.prem_build.specs.Colors.{color_stages}
+use Rattle.prem_one.specs.One.{one_stages}
 use Rattle.prem_tile_answer.specs.Reply.{tile_stages}
 use Rattle.prem_source.specs.Source.{source_stages}
 use Rattle.prem_running.specs.Running.{run_stages}
@@ -21,7 +22,7 @@ use Rattle.prem_top.specs.Headline.{CommandKeeps}
 
 abbrev pub usage_reply : Reply
 usage_reply =
-    (Usage, codes "usage: prem one FILE | check SET | build SET | list SET | source SET RUN | run SET RUN [--cycles N] [--intervals] | exec IMAGE RUN [--cycles N] [--intervals] | sample N | tile FILE FUNCTION K L | mail SET RUN MAIL [--cycles N]\n")
+    (Usage, codes "usage: prem one FILE | check SET | build SET | list SET | source SET RUN | run SET RUN [--cycles N] [--intervals] | exec IMAGE RUN [--cycles N] [--intervals] | sample N | tile FILE FUNCTION K L | color SET | mail SET RUN MAIL [--cycles N]\n")
 
 -- where there is no such command
 abbrev pub no_command : Stage Reply
@@ -38,6 +39,7 @@ asked_answer (source set file) = source_stages set file
 asked_answer (run asked) = run_stages asked
 asked_answer (sample seed) = sample_stages seed
 asked_answer (tile asked) = tile_stages asked
+asked_answer (color set) = color_stages set
 asked_answer (mail asked) = mail_stages asked
 
 abbrev pub command_answer : Option Asked → Stage Reply

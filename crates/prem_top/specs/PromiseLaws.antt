@@ -1,21 +1,22 @@
 -- The laws on the answers to commands.
 use Rattle.std.specs.Prelude.{◌≡◌, ℕ, List}
-use Rattle.prem_sets_sound.specs.Accepted.Accepted.{HasValues}
 use Rattle.prem_tasks.specs.Broken.{TaskSet}
+use Rattle.prem_sets_sound.specs.Accepted.Accepted.{HasValues}
 use Rattle.prem_command.specs.Words.{RunAsked, TileAsked, MailAsked}
 use Rattle.prem_answer.specs.Stages.{Reply, Reads, replied}
 use Rattle.prem_build.specs.declared.sheet.Sheet.TheVariants.{Bounds, Image, Listing}
 use Rattle.prem_build.specs.Build.{sheet_stages}
-use Rattle.prem_source.specs.Source.{source_stages}
-use Rattle.prem_running.specs.Running.{run_stages}
+use Rattle.prem_build.specs.Colors.{color_stages}
 use Rattle.prem_one.specs.One.{one_stages}
-use Rattle.prem_running.specs.Sample.Trace.{sample_set}
-use Rattle.prem_running.specs.Sample.Sample.{sample_stages}
 use Rattle.prem_tile_answer.specs.Asked.{IsInRange}
 use Rattle.prem_tile_answer.specs.Reply.{tile_stages}
-use Rattle.prem_top.specs.Read.{SetIsRead}
-use Rattle.prem_top.specs.Promises.{Keeps, IsSoundCheck, IsSoundBuild, IsSoundList, IsSoundRun, IsSoundSource, IsSoundOne, IsSoundSample, IsSoundTile, TellsFirstBroken, IsFirstBroken, IsFirstBrokenRun, IsFirstBrokenOne, IsWhyNotTile, IsSoundMail, IsFirstBrokenMail}
+use Rattle.prem_source.specs.Source.{source_stages}
+use Rattle.prem_running.specs.Running.{run_stages}
+use Rattle.prem_running.specs.Sample.Trace.{sample_set}
+use Rattle.prem_running.specs.Sample.Sample.{sample_stages}
 use Rattle.prem_running.specs.Mail.Mail.{mail_stages}
+use Rattle.prem_top.specs.Read.{SetIsRead}
+use Rattle.prem_top.specs.Promises.{Keeps, IsSoundCheck, IsSoundBuild, IsSoundList, IsSoundRun, IsSoundSource, IsSoundOne, IsSoundSample, IsSoundTile, IsSoundColor, TellsFirstBroken, IsFirstBroken, IsFirstBrokenRun, IsFirstBrokenOne, IsWhyNotTile, IsWhyUncolored, IsSoundMail, IsFirstBrokenMail}
 
 -- the values of a set that is read are in their ranges
 abbrev pub SetsReadHaveValues : Type 0
@@ -51,6 +52,9 @@ abbrev pub TilesKeep : Type 0
 TilesKeep =
     (reads : Reads) (asked : TileAsked) (given : Reply) → IsInRange asked → replied (tile_stages asked reads) ≡ given →
     Keeps (IsSoundTile reads asked) (IsWhyNotTile reads asked) given
+
+abbrev pub ColorsKeep : Type 0
+ColorsKeep = (reads : Reads) (name : List ℕ) (given : Reply) → replied (color_stages name reads) ≡ given → Keeps (IsSoundColor reads name) (IsWhyUncolored reads name) given
 
 abbrev pub MailKeeps : Type 0
 MailKeeps =

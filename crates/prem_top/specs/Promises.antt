@@ -1,38 +1,44 @@
 -- What the answers to commands promise: where a set is accepted, its image is sound; where it is refused, the rule told is the first one broken.
-use Rattle.std.specs.Prelude.{◌≡◌, ℕ, true, List, [], ◌++◌, None, Some, Ok}
+use Rattle.std.specs.Prelude.{◌≡◌, ℕ, ◌<◌, ◌≤◌, true, List, [], ◌++◌, None, Some, Ok, Err, slice_index_or}
+use Rattle.prem_plant.specs.Places.{Extent, last_end}
 use Rattle.prem_lru.specs.Rules.{rule_of}
 use Rattle.prem_cycle.specs.State.{MachineState, task_in}
 use Rattle.prem_cycle.specs.Cycle.{is_finished}
 use Rattle.prem_cycle.specs.FactsOf.{report_of}
 use Rattle.prem_syntax.specs.Syntax.{ProgramText}
-use Rattle.prem_text.specs.Texts.{reads as program_of}
 use Rattle.prem_meaning.specs.Statements.{ProgramState}
 use Rattle.prem_meaning.specs.Source.{source}
+use Rattle.prem_text.specs.Texts.{reads as program_of}
+use Rattle.prem_layout.specs.Rules.{Refusal, over_tasks, group_seven}
+use Rattle.prem_color.specs.Rooms.{no_part}
+use Rattle.prem_tasks.specs.Told.{Told}
+use Rattle.prem_tasks.specs.Broken.{TaskSet, broken, programs_of}
+use Rattle.prem_tasks.specs.Compiled.{CompiledText, compiled, parts_in}
+use Rattle.prem_tasks.specs.At.{AreLawfulFor, broken_early, broken_at, compiled_at, placed_by}
+use Rattle.prem_sets_sound.specs.Accepted.Accepted.{HasValues, setup_in}
+use Rattle.prem_sets_sound.specs.Meant.{promises_in}
+use Rattle.prem_sets_sound.specs.PlacesSound.Sound.{IsSoundAt}
+use Rattle.prem_sets_sound.specs.Sound.{IsSoundSet}
+use Rattle.prem_compile.specs.Colors.{AreColored}
+use Rattle.prem_imagefile.specs.Spelling.{image_bytes}
+use Rattle.prem_command.specs.Words.{RunAsked, TileAsked, MailAsked}
 use Rattle.prem_mail.specs.declared.feed.Feed.{Feed}
 use Rattle.prem_mail.specs.Delivery.{Delivery}
 use Rattle.prem_mail.specs.Good.{IsGoodRun}
-use Rattle.prem_layout.specs.Rules.{Refusal}
-use Rattle.prem_tasks.specs.Told.{Told}
-use Rattle.prem_tasks.specs.Broken.{TaskSet, broken, programs_of}
-use Rattle.prem_tasks.specs.Compiled.{CompiledText, compiled}
-use Rattle.prem_sets_sound.specs.Accepted.Accepted.{HasValues, setup_in}
-use Rattle.prem_sets_sound.specs.Meant.{promises_in}
-use Rattle.prem_sets_sound.specs.Sound.{IsSoundSet}
-use Rattle.prem_imagefile.specs.Spelling.{image_bytes}
-use Rattle.prem_command.specs.Words.{RunAsked, TileAsked, MailAsked}
 use Rattle.prem_answer.specs.declared.status.Status.TheVariants.{Done, Refused}
 use Rattle.prem_answer.specs.Stages.{Reply, Reads}
+use Rattle.prem_answer.specs.Refusal.Texts.{refusal_line}
 use Rattle.prem_exec.specs.Forms.{RunText}
 use Rattle.prem_exec.specs.Exec.{state_at}
-use Rattle.prem_running.specs.RunSound.Runs.{SuitsRun, EndsWell}
-use Rattle.prem_answer.specs.Refusal.Texts.{refusal_line}
 use Rattle.prem_exec.specs.Sources.Sources.{source_limit}
+use Rattle.prem_build.specs.Colors.{found_places, memory_refusal, name_in, stuck_line}
 use Rattle.prem_build.specs.Tables.Check.{check_text}
 use Rattle.prem_build.specs.Tables.Listing.{list_text}
-use Rattle.prem_source.specs.Source.{tasks_text}
-use Rattle.prem_running.specs.Running.{run_limit, compiled_reply}
 use Rattle.prem_one.specs.One.{one_set, output_lines, run_lines, state_of}
 use Rattle.prem_tile_answer.specs.Promise.{TellsTiled, TellsWhyNot}
+use Rattle.prem_source.specs.Source.{tasks_text}
+use Rattle.prem_running.specs.RunSound.Runs.{SuitsRun, EndsWell}
+use Rattle.prem_running.specs.Running.{run_limit, compiled_reply}
 use Rattle.prem_running.specs.Sample.Trace.{sample_set}
 use Rattle.prem_running.specs.Sample.Sample.{compiled_reply as sample_reply}
 use Rattle.prem_running.specs.Mail.Mail.{compiled_reply as mailed_reply, delivered_at, mailed_input}
@@ -131,6 +137,20 @@ pub record IsSoundMail (reads : Reads) (asked : MailAsked) (text : List ℕ) : T
   pub ends : EndsWell (compiled set).limit (run_limit asked.cycles (compiled set).limit) (state_at (compiled set).image (mailed_input input (delivered_to asked (compiled set) input feeds)) (run_limit asked.cycles (compiled set).limit))
   pub text_is : text ≡ (mailed_reply asked.cycles input feeds (compiled set)).1
 
+-- a text is the bytes of the image of a set whose parts have places with offsets: there no set of the cache is asked for too many lines, no rule is broken, and
+-- the image is sound
+pub record IsSoundColor (reads : Reads) (name text : List ℕ) : Type 0 where
+  pub set : TaskSet
+  pub read : SetIsRead reads name set
+  pub values : HasValues set
+  pub places : List Extent
+  pub colored : AreColored set places
+  pub lawful : AreLawfulFor set places
+  pub no_conflict : over_tasks (group_seven set.plant) (placed_by set places) ≡ None
+  pub unbroken : broken_at set places ≡ None
+  pub sound : IsSoundAt set places
+  pub text_is : text ≡ image_bytes (compiled_at set places).image
+
 -- ---- refused
 
 -- a text tells the first rule that a set breaks
@@ -162,6 +182,22 @@ pub record IsFirstBrokenMail (reads : Reads) (asked : MailAsked) (text : List �
   pub feeds : List Feed
   pub mail_read : MailIsRead reads set asked.mail feeds
   pub first : TellsFirstBroken set text
+
+-- why a set has no image with moved parts: the first rule up to code generation that it breaks, else the first part that no offset helps, else that the parts
+-- end past memory, else the first rule that it breaks at their places
+pub data TellsWhyUncolored (set : TaskSet) (text : List ℕ) : Type 0 where
+  early : (refusal : Refusal Told) → broken_early set ≡ Some refusal → text ≡ refusal_line set.tasks refusal → TellsWhyUncolored set text
+  stuck : (n : ℕ) → broken_early set ≡ None → found_places set ≡ Err n → text ≡ stuck_line set.tasks (slice_index_or (parts_in set) n no_part) (name_in set n) → TellsWhyUncolored set text
+  full : (places : List Extent) → broken_early set ≡ None → found_places set ≡ Ok places → set.plant.memory < last_end places →
+      text ≡ refusal_line set.tasks (memory_refusal (last_end places) set.plant.memory) → TellsWhyUncolored set text
+  at_places : (places : List Extent) (refusal : Refusal Told) → found_places set ≡ Ok places → last_end places ≤ set.plant.memory → broken_at set places ≡ Some refusal →
+      text ≡ refusal_line set.tasks refusal → TellsWhyUncolored set text
+
+-- that of the set of the files read
+pub record IsWhyUncolored (reads : Reads) (name text : List ℕ) : Type 0 where
+  pub set : TaskSet
+  pub read : SetIsRead reads name set
+  pub tells : TellsWhyUncolored set text
 
 -- that of the program of a file
 pub record IsFirstBrokenOne (reads : Reads) (file text : List ℕ) : Type 0 where

@@ -8,6 +8,7 @@ ghost use Rattle.prem_top.specs.Complete.{IsComplete};
 ghost use Rattle.prem_top.specs.InRange.{AreInRange};
 
 use prem_answer::{Answer, Halt, Status, write_all};
+use prem_build::colors::color_answer;
 use prem_build::{Sheet, sheet_answer};
 use prem_command::{Said, WordsFail, command};
 use prem_exec::exec_answer;
@@ -22,7 +23,7 @@ use std::alloc::Global;
 
 /// The usage line.
 const USAGE: &str =
-    "usage: prem one FILE | check SET | build SET | list SET | source SET RUN | run SET RUN [--cycles N] [--intervals] | exec IMAGE RUN [--cycles N] [--intervals] | sample N | tile FILE FUNCTION K L | mail SET RUN MAIL [--cycles N]\n";
+    "usage: prem one FILE | check SET | build SET | list SET | source SET RUN | run SET RUN [--cycles N] [--intervals] | exec IMAGE RUN [--cycles N] [--intervals] | sample N | tile FILE FUNCTION K L | color SET | mail SET RUN MAIL [--cycles N]\n";
 
 /// The usage line, where there is no such command.
 fn no_command(alloc: Global) -> Result<Answer, Halt>
@@ -53,6 +54,7 @@ fn asked_answer<S: Store>(alloc: Global, said: &Said, store: &mut S) -> Result<A
         Said::Run(asked) => run_answer(alloc, asked, store),
         Said::Sample { seed } => sample_answer(alloc, *seed),
         Said::Tile(asked) => tile_answer(alloc, asked, store),
+        Said::Color { set } => color_answer(alloc, set, store),
         Said::Mail(asked) => mail_answer(alloc, asked, store),
     }
 }

@@ -1,13 +1,13 @@
 -- What is written of the words of a compiled set.
 use Rattle.std.specs.Prelude.{ℕ, ◌+◌, ◌-◌, List, [], ◌∷◌, ◌++◌, take, drop, slice_get, Option, None, Some, codes}
 use Rattle.std.specs.Int.{w32, from_le_bytes}
+use Rattle.prem_line.specs.Hexadecimal.{hex_word}
 use Rattle.prem_plant.specs.declared.layout.PartKind.{PartKind}
 use Rattle.prem_plant.specs.declared.layout.PartKind.TheVariants.{Start, Code, Stub, Global, Stack, Area}
 use Rattle.prem_plant.specs.declared.layout.PartSize.{PartSize}
 use Rattle.prem_plant.specs.Places.{Extent}
 use Rattle.prem_syntax.specs.Syntax.{Text}
 use Rattle.prem_asm.specs.Listing.{listing}
-use Rattle.prem_line.specs.Hexadecimal.{hex_word}
 use Rattle.prem_tasks.specs.Compiled.{CompiledText}
 use Rattle.prem_build.specs.Tables.Names.{first_name, rest_names}
 

@@ -4,8 +4,8 @@ ghost use Rattle.std.specs.List.{flat_map};
 ghost use Rattle.prem_list.specs.Sequence.{items_of};
 ghost use Rattle.prem_syntax.specs.Name.{name_bytes};
 ghost use Rattle.prem_bounds.specs.Facts.FactOf.{fact_of};
-ghost use Rattle.prem_compile.specs.CompiledOf.{compiled_of};
 ghost use Rattle.prem_place.specs.Verdict.Told.{numbered};
+ghost use Rattle.prem_compile.specs.CompiledOf.{compiled_of};
 ghost use Rattle.prem_build.specs.Tables.Names.{first_name, rest_names};
 ghost use Rattle.prem_build.specs.Tables.Check.{bound_line, check_text, fact_text, interval_text, part_text, parts_text};
 

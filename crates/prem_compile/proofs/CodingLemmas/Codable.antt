@@ -1,10 +1,10 @@
 -- Tasks that may get their plans and their code, one by one.
-use Rattle.std.proofs.Common.{◌≡◌, ℕ, ◌≤◌, List, [], ◌∷◌, Result, Ok, Err, IfOk, length, map, drop, refl, ap, sym, ◌∙◌, arith, Vec, Global}
 use Rattle.std.specs.Prelude.{slice_index, slice_index_or}
 use Rattle.std.specs.List.{AllByRecursion}
+use Rattle.std.proofs.Common.{◌≡◌, ℕ, ◌≤◌, List, [], ◌∷◌, Result, Ok, Err, IfOk, length, map, drop, refl, ap, sym, ◌∙◌, arith, Vec, Global}
 use Rattle.std.proofs.lemmas.List.{length-map}
-use Rattle.prem_plant.specs.declared.plant.Target.{Target}
 use Rattle.prem_list.specs.Sequence.{items_of}
+use Rattle.prem_plant.specs.declared.plant.Target.{Target}
 use Rattle.prem_syntax.specs.Syntax.{ProgramText}
 use Rattle.prem_meaning.specs.Resolved.{Resolved}
 use Rattle.prem_tree.specs.declared.resolve.resolved.Resolved.{Resolved as ResolvedTree}
@@ -19,13 +19,13 @@ use Rattle.prem_split.specs.PlansWith.{MayHavePlans, plans_in}
 use Rattle.prem_split.proofs.PlansAre.{plans_are}
 use Rattle.prem_prefetch.specs.Sizes.Sizes.{AreCodesOf}
 use Rattle.prem_prefetch.proofs.SizesLemmas.Programs.{programs_may_have_plans}
+use Rattle.prem_place.specs.declared.placing.coded.CodedTask.{CodedTask}
+use Rattle.prem_place.specs.Placing.CodedOf.{IsCodedTask, coded_in as coded_task}
 use Rattle.prem_tasks.specs.Broken.{TaskText, TaskSet, bounded, coded_one, coded_of, programs_of}
 use Rattle.prem_tasks.specs.Compiled.{coded_in}
 use Rattle.prem_tasks.specs.SetOf.{task_of}
 use Rattle.prem_tasks.specs.declared.set.TaskText.{TaskText as TaskTree}
 use Rattle.prem_stages.specs.Code.{code_in, program_code}
-use Rattle.prem_place.specs.declared.placing.coded.CodedTask.{CodedTask}
-use Rattle.prem_place.specs.Placing.CodedOf.{IsCodedTask, coded_in as coded_task}
 use Rattle.prem_compile.specs.Coding.Programs.{meant_by, text_by}
 use Rattle.prem_compile.specs.Coding.Tasks.{Codes, AreForSet, AreTasksOf, IsCodable, AreCodable, coded_with, all_coded}
 

@@ -1,30 +1,32 @@
 -- What a coded set gives to the stages behind it.
-use Rattle.std.proofs.Common.{◌≡◌, ℕ, ◌+◌, List, [], ◌∷◌, Option, None, Some, Result, Ok, Err, map, refl, ap, sym, ◌∙◌, subst, Vec, Global, is_none, IsTrue}
 use Rattle.std.specs.Prelude.{slice_index}
 use Rattle.std.specs.Option.{option_map}
+use Rattle.std.proofs.Common.{◌≡◌, ℕ, ◌+◌, List, [], ◌∷◌, Option, None, Some, Result, Ok, Err, map, refl, ap, sym, ◌∙◌, subst, Vec, Global, is_none, IsTrue}
 use Rattle.prem_plant.specs.declared.plant.Target.{Target}
 use Rattle.prem_syntax.specs.Syntax.{ProgramText}
-use Rattle.prem_lexer.specs.declared.token.fail.FrontFail.{FrontFail}
-use Rattle.prem_text.specs.Texts.{reads}
 use Rattle.prem_meaning.specs.Rules.{Breach}
 use Rattle.prem_meaning.specs.GroupTwo as meaning
 use Rattle.prem_meaning.specs.Resolved.{Resolved}
 use Rattle.prem_tree.specs.declared.resolve.resolved.Resolved.{Resolved as ResolvedTree}
 use Rattle.prem_check.specs.Told.{told_of as told_of_breach}
+use Rattle.prem_lexer.specs.declared.token.fail.FrontFail.{FrontFail}
+use Rattle.prem_text.specs.Texts.{reads}
 use Rattle.prem_ranges.specs.GroupThree.{turn_bounds}
 use Rattle.prem_analyse.specs.declared.analysed.Analysed.{Analysed}
 use Rattle.prem_analyse.specs.Analysed.{analysed_text}
 use Rattle.prem_template.specs.Limits.{Excess, frame, depth, excess}
 use Rattle.prem_template.specs.Parts.{parts_of as task_parts}
+use Rattle.prem_layout.specs.Rules.{or_else, refused_by, first_among, over_tasks, of_excess, group_four}
 use Rattle.prem_fit_laws.proofs.MeasureLemmas.ProgramNodes.{codes_are_small}
-use Rattle.prem_layout.specs.Rules.{or_else, refused_by, first_among, of_excess, group_four}
+use Rattle.prem_prefetch.specs.Sizes.Sizes.{AreCodesOf}
 use Rattle.prem_tasks.specs.Told.{of_program}
-use Rattle.prem_tasks.specs.Broken.{TaskText, TaskSet, unread, group_one, program_before, programs_of, group_two, bounded, coded_of}
+use Rattle.prem_tasks.specs.Broken.{TaskText, TaskSet, unread, group_one, program_before, programs_of, group_two, group_three, bounded, coded_of, late_refusal}
+use Rattle.prem_tasks.specs.At.{code_broken, broken_early}
 use Rattle.prem_tasks.specs.Compiled.{coded_in}
 use Rattle.prem_stages.specs.declared.front.Coded.{Coded}
 use Rattle.prem_stages.specs.Coded.{IsCoded}
-use Rattle.prem_prefetch.specs.Sizes.Sizes.{AreCodesOf}
 use Rattle.prem_stages.proofs.Groups.{late_four}
+use Rattle.prem_sets_sound.proofs.AcceptedLemmas.Follow.{not_late}
 use Rattle.prem_compile.specs.Coding.Programs.{meant_by, text_by}
 use Rattle.prem_compile.specs.Coding.Tasks.{Codes, AreForSet}
 
@@ -81,6 +83,14 @@ codes_from target n (t ∷ ts) one two four = by (reads t.text) refl one two fou
           },
           more one of_two.1 of_four.1,
         )
+
+-- no rule on code generation or before it is broken
+pub codes_when_early : (set : TaskSet) → broken_early set ≡ None → AreCodesOf (programs_of set.tasks) (coded_in set)
+codes_when_early set e =
+    let one = neither (over_tasks group_one set.tasks) (or_else (over_tasks group_two (programs_of set.tasks)) (or_else (over_tasks group_three (programs_of set.tasks)) (late_refusal (code_broken set)))) e in
+    let two = neither (over_tasks group_two (programs_of set.tasks)) (or_else (over_tasks group_three (programs_of set.tasks)) (late_refusal (code_broken set))) one.1 in
+    let three = neither (over_tasks group_three (programs_of set.tasks)) (late_refusal (code_broken set)) two.1 in
+    codes_from set.plant.target 0 set.tasks one.0 two.0 (not_late (code_broken set) three.1)
 
 pub codes_of_set : (set : TaskSet) (c : Coded) → IsCoded set c → AreCodesOf (programs_of set.tasks) (coded_in set)
 codes_of_set set c is = codes_from set.plant.target 0 set.tasks is.texts_are_read is.programs_are_formed is.code_is_there

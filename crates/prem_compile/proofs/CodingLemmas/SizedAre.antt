@@ -1,7 +1,7 @@
 -- What the parts of a set's tasks are by.
-use Rattle.std.proofs.Common.{◌≡◌, ◌≤◌, List, [], ◌∷◌, Result, Ok, Err, IfOk, Vec, Global, length, map, drop, ap, sym, ◌∙◌, subst, arith}
 use Rattle.std.specs.Prelude.{slice_index, slice_index_or}
 use Rattle.std.specs.List.{AllByRecursion}
+use Rattle.std.proofs.Common.{◌≡◌, ◌≤◌, List, [], ◌∷◌, Result, Ok, Err, IfOk, Vec, Global, length, map, drop, ap, sym, ◌∙◌, subst, arith}
 use Rattle.std.proofs.lemmas.List.{length-map}
 use Rattle.prem_plant.specs.declared.plant.Plant.{Plant}
 use Rattle.prem_plant.specs.declared.plant.Device.{Device}
@@ -12,10 +12,10 @@ use Rattle.prem_prefetch.specs.declared.sizes.sizes.SizedTask.{SizedTask}
 use Rattle.prem_prefetch.specs.Sizes.Sizes.{codes_in, IsSized, AreSized, AreCodesOf, MayHaveParts, parts_in}
 use Rattle.prem_prefetch.proofs.SizesLemmas.Programs.{sets_may_have_parts}
 use Rattle.prem_prefetch.proofs.SizesLemmas.PartsOf.{parts_are_exact}
-use Rattle.prem_tasks.specs.Broken.{TaskSet, programs_of}
-use Rattle.prem_tasks.specs.Compiled.{coded_in, parts_in as parts_of_set}
 use Rattle.prem_place.specs.declared.placing.coded.CodedTask.{CodedTask}
 use Rattle.prem_place.specs.Placing.CodedOf.{IsCodedTask, coded_in as coded_task}
+use Rattle.prem_tasks.specs.Broken.{TaskSet, programs_of}
+use Rattle.prem_tasks.specs.Compiled.{coded_in, parts_in as parts_of_set}
 use Rattle.prem_compile.specs.Coding.Sized.{Sized, sized_of, size_of_task}
 use Rattle.prem_compile.specs.Coding.Tasks.{AreTasksOf}
 
@@ -43,7 +43,7 @@ module _ (set : TaskSet) (all : List SizedTask) (tasks : List CodedTask) (h : Ar
   pub may_have_parts : AreCodesOf (programs_of set.tasks) (coded_in set) → AllByRecursion MayHaveParts all
   may_have_parts codes = sets_may_have_parts all (coded_in set) (programs_of set.tasks) all_sized codes
 
-  pub few_sized : length all ≤ 16
+  few_sized : length all ≤ 16
   few_sized =
       let long : length all ≡ length tasks = sym (length-map all sized_of) ∙ ap length same ∙ length-map tasks size_of_task in
       let few = h.count in

@@ -1,15 +1,15 @@
 -- Where the bounds that are told aren't too large, those of all tasks aren't; and the longest interval of one more task.
-use Rattle.std.proofs.Common.{◌≡◌, ℕ, ◌+◌, ◌<◌, refl, ap, ◌∙◌, sym, subst, List, [], ◌∷◌, ◌++◌, length, map, take, get_or}
 use Rattle.std.specs.List.{AllByRecursion}
+use Rattle.std.proofs.Common.{◌≡◌, ℕ, ◌+◌, ◌<◌, refl, ap, ◌∙◌, sym, subst, List, [], ◌∷◌, ◌++◌, length, map, take, get_or}
 use Rattle.std.proofs.lemmas.List.{take_more}
 use Rattle.std.proofs.lemmas.List.Elements.{All-from_recursion}
 use Rattle.prem_plant.specs.declared.plant.Plant.{Plant}
 use Rattle.prem_layout.specs.Bounds.{JobBound}
 use Rattle.prem_layout.specs.Stretch.Paths.{longest_of}
-use Rattle.prem_tasks.specs.Compiled.{job_bounds}
 use Rattle.prem_place.specs.Placed.PlacedOf.{placed_of}
 use Rattle.prem_place.specs.Totals.Limits.{IsBound}
 use Rattle.prem_place.specs.declared.placed.PlacedTask.{PlacedTask}
+use Rattle.prem_tasks.specs.Compiled.{job_bounds}
 use Rattle.prem_compile.specs.Telling.Longest.{HasBound, longest_in}
 
 pub have_bounds : (p : Plant) (tasks : List PlacedTask) (jobs : List ℕ) → jobs ≡ map (λ (j : JobBound). j.bound) (job_bounds p (map placed_of tasks)) → AllByRecursion IsBound jobs → AllByRecursion (HasBound p) tasks

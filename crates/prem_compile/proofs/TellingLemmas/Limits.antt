@@ -5,9 +5,9 @@ use Rattle.prem_layout.specs.Bounds.{JobBound, limit_of}
 use Rattle.prem_layout.specs.Facts.{job_fact}
 use Rattle.prem_place.specs.Placed.PlacedOf.{placed_of}
 use Rattle.prem_place.specs.declared.placed.PlacedTask.{PlacedTask}
-use Rattle.prem_tasks.specs.Compiled.{job_bounds}
 use Rattle.prem_place.specs.Totals.Limits.{jobs_with}
 use Rattle.prem_place.proofs.TotalsLemmas.JobTurns as turns
+use Rattle.prem_tasks.specs.Compiled.{job_bounds}
 
 abbrev bounds_in : Plant → List PlacedTask → List ℕ
 bounds_in p tasks = map (λ (j : JobBound). j.bound) (job_bounds p (map placed_of tasks))
@@ -24,5 +24,5 @@ counted p [] = refl
 counted p (t ∷ ts) = ap suc (counted p ts)
 
 -- each task has one
-pub bounds_long : (p : Plant) (tasks : List PlacedTask) (jobs : List ℕ) → jobs ≡ map (λ (j : JobBound). j.bound) (job_bounds p (map placed_of tasks)) → length jobs ≡ length tasks
+bounds_long : (p : Plant) (tasks : List PlacedTask) (jobs : List ℕ) → jobs ≡ map (λ (j : JobBound). j.bound) (job_bounds p (map placed_of tasks)) → length jobs ≡ length tasks
 bounds_long p tasks jobs e = ap length e ∙ counted p tasks

@@ -1,6 +1,6 @@
 -- What the parts of a set are named by is there.
-use Rattle.std.proofs.Common.{ℕ, zero, suc, ◌+◌, ◌<◌, ◌≤◌, All, List, [], ◌∷◌, ◌++◌, Option, None, Some, subst, arith, length, map}
 use Rattle.std.specs.List.{AllByRecursion}
+use Rattle.std.proofs.Common.{ℕ, zero, suc, ◌+◌, ◌<◌, ◌≤◌, All, List, [], ◌∷◌, ◌++◌, Option, None, Some, subst, arith, length, map}
 use Rattle.std.proofs.lemmas.List.{length-map}
 use Rattle.prem_plant.specs.declared.plant.Device.{Device}
 use Rattle.prem_plant.specs.declared.layout.PartKind.{PartKind}
@@ -9,8 +9,8 @@ use Rattle.prem_plant.specs.declared.layout.PartSize.{PartSize}
 use Rattle.prem_syntax.specs.Syntax.{MarkText, GlobalVariable}
 use Rattle.prem_meaning.specs.Resolved.{Routine, Resolved}
 use Rattle.prem_asm.specs.Pieces.{size_of}
-use Rattle.prem_layout.specs.Plans.{Plan, plan_before, plans_from, plans_of}
 use Rattle.prem_template.specs.Frames.{stack_size}
+use Rattle.prem_layout.specs.Plans.{Plan, plan_before, plans_from, plans_of}
 use Rattle.prem_layout.specs.Parts.{Passes, stub_passes, part, code_parts, stub_parts, global_parts, task_parts, parts_from, area_parts}
 use Rattle.prem_layout.specs.Placed.{Coded, sized_of, parts_of}
 use Rattle.prem_compile.specs.Telling.There.{HasCode, IsIn, IsAmong, IsThere}

@@ -2,8 +2,8 @@
 use Rattle.std.specs.Prelude.{List}
 use Rattle.prem_list.specs.Sequence.{items_of}
 use Rattle.prem_list.specs.declared.Sequence.{Sequence}
-use Rattle.prem_asm.specs.declared.piece.Piece.{Piece}
 use Rattle.prem_tree.specs.declared.resolve.resolved.Resolved.{Resolved as ResolvedTree}
+use Rattle.prem_asm.specs.declared.piece.Piece.{Piece}
 use Rattle.prem_split.specs.declared.plan.IntervalPlan.{IntervalPlan}
 use Rattle.prem_prefetch.specs.declared.sizes.sizes.SizedTask.{SizedTask}
 use Rattle.prem_place.specs.declared.placing.coded.CodedTask.{CodedTask}

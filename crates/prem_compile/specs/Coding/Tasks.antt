@@ -2,8 +2,8 @@
 use Rattle.std.specs.Prelude.{◌≡◌, ℕ, ◌≤◌, ⊤, Vec, None, List, [], ◌∷◌, length, map, slice_index}
 use Rattle.std.specs.Global.{Global}
 use Rattle.std.specs.List.{AllByRecursion}
-use Rattle.prem_plant.specs.declared.plant.Target.{Target}
 use Rattle.prem_list.specs.declared.Sequence.{Sequence}
+use Rattle.prem_plant.specs.declared.plant.Target.{Target}
 use Rattle.prem_syntax.specs.Syntax.{ProgramText}
 use Rattle.prem_meaning.specs.GroupTwo.{IsWellFormed}
 use Rattle.prem_tree.specs.declared.resolve.resolved.Resolved.{Resolved as ResolvedTree}
@@ -12,12 +12,12 @@ use Rattle.prem_ranges.specs.GroupThree.{turn_bounds}
 use Rattle.prem_asm.specs.declared.piece.Piece.{Piece}
 use Rattle.prem_template.specs.Limits.{excess}
 use Rattle.prem_layout.specs.Placed.{Coded}
-use Rattle.prem_tasks.specs.Broken.{TaskText, TaskSet, programs_of, bounded}
-use Rattle.prem_tasks.specs.Compiled.{coded_in}
-use Rattle.prem_stages.specs.Code.{code_in, program_code}
 use Rattle.prem_prefetch.specs.Sizes.Sizes.{AreCodesOf}
 use Rattle.prem_place.specs.declared.placing.coded.CodedTask.{CodedTask}
 use Rattle.prem_place.specs.Placing.CodedOf.{IsCodedTask, coded_in as coded_task}
+use Rattle.prem_tasks.specs.Broken.{TaskText, TaskSet, programs_of, bounded}
+use Rattle.prem_tasks.specs.Compiled.{coded_in}
+use Rattle.prem_stages.specs.Code.{code_in, program_code}
 use Rattle.prem_compile.specs.Coding.Programs.{meant_by, text_by}
 
 -- the code of the functions of a program in memory

@@ -6,10 +6,9 @@ use Rattle.prem_plant.specs.declared.layout.PartKind.TheVariants.{Start, Code, S
 use Rattle.prem_plant.specs.declared.layout.PartSize.{PartSize}
 use Rattle.prem_plant.specs.Label.{IsName}
 use Rattle.prem_layout.specs.Placed.{Coded}
-use Rattle.prem_place.specs.declared.placed.PlacedTask.{PlacedTask}
 
-abbrev pub HasName : PlacedTask → Type 0
-HasName t = IsName t.name.now
+abbrev pub HasName : Coded → Type 0
+HasName c = IsName c.name
 
 -- its code is that of its functions
 abbrev pub HasCode : Coded → Type 0

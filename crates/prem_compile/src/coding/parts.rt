@@ -1,9 +1,9 @@
 // The parts of a set's tasks.
 ghost use Rattle.std.specs.Prelude.{◌≡◌, IfOk, map};
+ghost use Rattle.prem_prefetch.specs.Sizes.Sizes.{AreCodesOf, MayHavePlaces};
 ghost use Rattle.prem_tasks.specs.SetOf.{set_of};
 ghost use Rattle.prem_tasks.specs.Broken.{programs_of};
 ghost use Rattle.prem_tasks.specs.Compiled.{coded_in, parts_in};
-ghost use Rattle.prem_prefetch.specs.Sizes.Sizes.{AreCodesOf, MayHavePlaces};
 ghost use Rattle.prem_compile.specs.Coding.Sized.{sized_of, size_of_task};
 ghost use Rattle.prem_compile.specs.Coding.Tasks.{AreTasksOf};
 

@@ -1,8 +1,8 @@
 // The tasks of a set with the plans and the code of their programs.
 ghost use Rattle.std.specs.Prelude.{◌≡◌, ◌≤◌, IfOk, length, map};
 ghost use Rattle.std.specs.List.{AllByRecursion};
-ghost use Rattle.prem_tasks.specs.SetOf.{task_of, set_of};
 ghost use Rattle.prem_place.specs.Placing.CodedOf.{coded_in, IsCodedTask};
+ghost use Rattle.prem_tasks.specs.SetOf.{task_of, set_of};
 ghost use Rattle.prem_compile.specs.Coding.Tasks.{AreForSet, AreTasksOf, IsCodable, AreCodable, coded_with, all_coded};
 
 use prem_place::placing::CodedTask;

@@ -1,8 +1,8 @@
 // The rule on jumps: the code of placed tasks has words.
 ghost use Rattle.std.specs.Prelude.{◌≡◌, ◌≤◌, IfOk, length, map};
 ghost use Rattle.std.specs.List.{AllByRecursion};
-ghost use Rattle.prem_place.specs.Content.Blocks.{block_of};
 ghost use Rattle.prem_layout.specs.Rules.{over_tasks, group_six};
+ghost use Rattle.prem_place.specs.Content.Blocks.{block_of};
 ghost use Rattle.prem_place.specs.Placed.PlacedOf.{placed_of};
 ghost use Rattle.prem_place.specs.Placing.Standing.{stands_in};
 ghost use Rattle.prem_place.specs.Words.Far.{words_in};

@@ -2,11 +2,11 @@
 ghost use Rattle.std.specs.Prelude.{◌≡◌, ◌≤◌, None, Some, length, map};
 ghost use Rattle.prem_syntax.specs.Name.{name_bytes};
 ghost use Rattle.prem_place.specs.Placed.PlacedOf.{placed_of};
+ghost use Rattle.prem_place.specs.Verdict.Told.{HasFunction, function_in, refusal_of, rule_of};
+ghost use Rattle.prem_place.specs.Words.Far.{refusal_of as far_refusal};
 ghost use Rattle.prem_tasks.specs.Broken.{late_refusal};
 ghost use Rattle.prem_tasks.specs.Stops.{Stops};
 ghost use Rattle.prem_tasks.specs.Told.{told_of, of_code};
-ghost use Rattle.prem_place.specs.Verdict.Told.{HasFunction, function_in, refusal_of, rule_of};
-ghost use Rattle.prem_place.specs.Words.Far.{refusal_of as far_refusal};
 
 use prem_place::placed::PlacedTask;
 use prem_place::verdict::{Blame, Verdict, function_name};

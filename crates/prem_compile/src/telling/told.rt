@@ -6,9 +6,9 @@ ghost use Rattle.prem_plant.specs.declared.plant.Plant.{Plant};
 ghost use Rattle.prem_layout.specs.Bounds.{JobBound, limit_of};
 ghost use Rattle.prem_layout.specs.Placed.{Placed};
 ghost use Rattle.prem_place.specs.Placed.PlacedOf.{placed_of};
-ghost use Rattle.prem_tasks.specs.Compiled.{facts_from, job_bounds};
 ghost use Rattle.prem_place.specs.Totals.Limits.{HasJobs, IsBound};
 ghost use Rattle.prem_place.specs.Verdict.Told.{bounds_of, numbered, told_from};
+ghost use Rattle.prem_tasks.specs.Compiled.{facts_from, job_bounds};
 
 use prem_bounds::facts::IntervalFact;
 use prem_list::Sequence;

@@ -1,6 +1,6 @@
 -- One more task, device or part.
-use Rattle.std.proofs.Common.{◌≡◌, ℕ, ◌+◌, ◌<◌, ◌≤◌, refl, ap, sym, ◌∙◌, arith, List, [], ◌∷◌, ◌++◌, length, map, take, drop, get_or, Option, slice_get}
 use Rattle.std.specs.Prelude.{max, unwrap_or}
+use Rattle.std.proofs.Common.{◌≡◌, ℕ, ◌+◌, ◌<◌, ◌≤◌, refl, ap, sym, ◌∙◌, arith, List, [], ◌∷◌, ◌++◌, length, map, take, drop, get_or, Option, slice_get}
 use Rattle.std.proofs.lemmas.List.{at_drop_more, drop_more}
 use Rattle.std.proofs.lemmas.Option.{unwrap_or-slice_get}
 use Rattle.prem_plant.specs.declared.plant.Device.{Device}
@@ -26,17 +26,17 @@ greatest_turn n greatest new places found q e f here en =
 rest_is : (tasks : List PlacedTask) (n : ℕ) (t : PlacedTask) → n < length tasks → t ≡ get_or tasks n t → total_of (drop n tasks) ≡ count_of t + total_of (drop (n + 1) tasks)
 rest_is tasks n t lt is = at_drop_more total_of tasks n t lt ∙ ap (λ (q : PlacedTask). count_of q + total_of (drop (n + 1) tasks)) (sym is)
 
-pub count_within : (tasks : List PlacedTask) (n total most : ℕ) (t : PlacedTask) → n < length tasks → t ≡ get_or tasks n t → total + total_of (drop n tasks) ≡ total_of tasks → total_of tasks ≤ most → total + count_of t ≤ most
+count_within : (tasks : List PlacedTask) (n total most : ℕ) (t : PlacedTask) → n < length tasks → t ≡ get_or tasks n t → total + total_of (drop n tasks) ≡ total_of tasks → total_of tasks ≤ most → total + count_of t ≤ most
 count_within tasks n total most t lt is e le = let r = rest_is tasks n t lt is in omega (arith, r, e, le)
 
-pub count_turn : (tasks : List PlacedTask) (n total : ℕ) (t : PlacedTask) → n < length tasks → t ≡ get_or tasks n t → total + total_of (drop n tasks) ≡ total_of tasks → total + count_of t + total_of (drop (n + 1) tasks) ≡ total_of tasks
+count_turn : (tasks : List PlacedTask) (n total : ℕ) (t : PlacedTask) → n < length tasks → t ≡ get_or tasks n t → total + total_of (drop n tasks) ≡ total_of tasks → total + count_of t + total_of (drop (n + 1) tasks) ≡ total_of tasks
 count_turn tasks n total t lt is e = let r = rest_is tasks n t lt is in omega (arith, r, e)
 
 push_rest : {A : Type 0} (xs : List A) (r : A) (rest : List A) → (xs ++ r ∷ []) ++ rest ≡ xs ++ (r ∷ rest)
 push_rest [] r rest = refl
 push_rest (x ∷ xs) r rest = ap (λ l. x ∷ l) (push_rest xs r rest)
 
-pub record_turn : (tasks : List PlacedTask) (n : ℕ) (t : PlacedTask) (old new whole : List TaskRecord) (r : TaskRecord) → n < length tasks → t ≡ get_or tasks n t → r ≡ task_record (placed_of t) → new ≡ old ++ r ∷ [] →
+record_turn : (tasks : List PlacedTask) (n : ℕ) (t : PlacedTask) (old new whole : List TaskRecord) (r : TaskRecord) → n < length tasks → t ≡ get_or tasks n t → r ≡ task_record (placed_of t) → new ≡ old ++ r ∷ [] →
     old ++ map task_record (map placed_of (drop n tasks)) ≡ whole → new ++ map task_record (map placed_of (drop (n + 1) tasks)) ≡ whole
 record_turn tasks n t old new whole r lt is er en e =
     let rest = map task_record (map placed_of (drop (n + 1) tasks)) in

@@ -1,23 +1,23 @@
 -- The image of a set.
-use Rattle.std.proofs.Common.{◌≡◌, ℕ, suc, ◌+◌, ◌≤◌, refl, ap, sym, ◌∙◌, subst, arith, List, [], ◌∷◌, ◌++◌, length, map, take, drop, replicate, slice_index}
 use Rattle.std.specs.List.{AllByRecursion}
+use Rattle.std.proofs.Common.{◌≡◌, ℕ, suc, ◌+◌, ◌≤◌, refl, ap, sym, ◌∙◌, subst, arith, List, [], ◌∷◌, ◌++◌, length, map, take, drop, replicate, slice_index}
 use Rattle.std.proofs.lemmas.List.{length-map}
 use Rattle.std.proofs.lemmas.List.Elements.{All-from_recursion, recursion_from_All}
 use Rattle.prem_list.specs.Sequence.{items_of}
-use Rattle.prem_isa.specs.Decode.{word_of}
 use Rattle.prem_plant.specs.declared.plant.Plant.{Plant}
 use Rattle.prem_plant.specs.declared.plant.Device.{Device}
 use Rattle.prem_plant.specs.Label.{AreDistinct}
 use Rattle.prem_plant.specs.Places.{Extent, AreApart}
 use Rattle.prem_plant.specs.Ranges.{Between, IsDevice}
+use Rattle.prem_isa.specs.Decode.{word_of}
 use Rattle.prem_image.specs.declared.image.TaskRecord.{TaskRecord}
 use Rattle.prem_image.specs.declared.image.DeviceRecord.{DeviceRecord}
 use Rattle.prem_image.specs.Records.{IsTask, IsImage, IsPlaced, task_names as record_names}
+use Rattle.prem_image.specs.Text.{ImageText}
 use Rattle.prem_tree.specs.declared.resolve.resolved.Routine.{Routine}
 use Rattle.prem_tree.specs.Resolve.ResolvedOf.{loops_of, routines_of as plain_routines}
 use Rattle.prem_layout.specs.Plans as plans
 use Rattle.prem_layout.specs.Parts.{stub_passes, part_count, parts_from, area_parts}
-use Rattle.prem_image.specs.Text.{ImageText}
 use Rattle.prem_layout.specs.Image.{greatest_end, task_record, device_records, with_tasks, image_of}
 use Rattle.prem_layout.specs.Placed.{sized_of, Placed, Block, task_places, placed_at, placed_from, part_total, blocks_of}
 use Rattle.prem_layout.proofs.TaskParts.{place_in, below_greatest}
@@ -47,7 +47,7 @@ count_is p whole t e =
     let d : length (coded_of t).program.globals ≡ length t.program.now.globals.items = length-map t.program.now.globals.items _ in
     omega (arith, a, b, c, d)
 
-pub total_is : (p : Plant) (whole : List Extent) (tasks : List PlacedTask) → map placed_of tasks ≡ placed_from p whole (map coded_of tasks) → total_of tasks ≡ part_total (map coded_of tasks)
+total_is : (p : Plant) (whole : List Extent) (tasks : List PlacedTask) → map placed_of tasks ≡ placed_from p whole (map coded_of tasks) → total_of tasks ≡ part_total (map coded_of tasks)
 total_is p whole [] e = refl
 total_is p whole (t ∷ ts) e =
     let head : placed_of t ≡ placed_at p (coded_of t) (task_places (coded_of t).program whole) = cc in

@@ -1,11 +1,11 @@
 -- How many bytes words have, and where blocks end.
-use Rattle.std.proofs.Common.{◌≡◌, ℕ, zero, suc, ◌+◌, ◌*◌, ◌<◌, ◌≤◌, List, [], ◌∷◌, refl, ap, sym, subst, arith, length, drop, get_or, length-append}
 use Rattle.std.specs.Int.{w32, to_le_bytes}
 use Rattle.std.specs.List.{AllByRecursion, flat_map}
+use Rattle.std.proofs.Common.{◌≡◌, ℕ, zero, suc, ◌+◌, ◌*◌, ◌<◌, ◌≤◌, List, [], ◌∷◌, refl, ap, sym, subst, arith, length, drop, get_or, length-append}
 use Rattle.prem_place.specs.Content.Blocks.{EndsBy}
 use Rattle.prem_place.specs.declared.content.content.Block.{Block}
 
-pub words_long : (words : List ℕ) → length (flat_map (to_le_bytes w32) words) ≡ 4 * length words
+words_long : (words : List ℕ) → length (flat_map (to_le_bytes w32) words) ≡ 4 * length words
 words_long [] = refl
 words_long (w ∷ ws) = omega (arith, length-append (to_le_bytes w32 w) (flat_map (to_le_bytes w32) ws), words_long ws)
 

@@ -1,8 +1,8 @@
--- The blocks of a task as its parts in their order.
-use Rattle.std.proofs.Common.{◌≡◌, ℕ, suc, ◌+◌, ◌*◌, ◌<◌, ◌≤◌, refl, ap, sym, ◌∙◌, subst, arith, cond, ltb, true, false, Bool, List, [], ◌∷◌, ◌++◌, length, map, Option, None, Some}
+-- The blocks of a task as its parts in their order, and the lowest jump out of reach by parts.
 use Rattle.std.specs.Prelude.{⊤, slice_index_or}
 use Rattle.std.specs.Option.{option_map}
-use Rattle.std.proofs.lemmas.Bool.{ltb-true}
+use Rattle.std.proofs.Common.{◌≡◌, ℕ, suc, ◌+◌, ◌*◌, ◌<◌, ◌≤◌, refl, ap, sym, ◌∙◌, subst, arith, cond, ltb, true, false, Bool, List, [], ◌∷◌, ◌++◌, length, map, Option, None, Some, ◌⊎◌, inl, inr, ⊎_elim}
+use Rattle.std.proofs.lemmas.Bool.{lt-ltb, le-ltb}
 use Rattle.std.proofs.lemmas.List.{length-map, length-append, append_assoc}
 use Rattle.prem_isa.specs.declared.instr.Instr.{Instr}
 use Rattle.prem_syntax.specs.Syntax.{Text}
@@ -13,10 +13,10 @@ use Rattle.prem_layout.specs.Plans.{Plan}
 use Rattle.prem_layout.specs.Footprint.{TaskPlaces}
 use Rattle.prem_layout.specs.Bounds.{start_code}
 use Rattle.prem_layout.specs.Placed.{Placed, Block, block, blocks_from, job_name, name_at, blocks_of}
-use Rattle.prem_layout.specs.Rules.{Reach, Jump, jump_in, lower_jump, far_jump, of_jump}
+use Rattle.prem_layout.specs.Rules.{LateRule, Reach, Jump, jump_in, lower_jump, far_jump, of_jump}
 use Rattle.prem_place.specs.Content.Blocks.{Words}
-use Rattle.prem_place.specs.Flat.Flat.{far_in, part_if, far_part, words_at, words_from}
-use Rattle.prem_place.specs.Flat.Blocks.{start_at, parts_in, names_in, words_of, RisesFrom, HasParts, ReachIsFirst, BlocksHaveWords}
+use Rattle.prem_place.specs.Flat.Flat.{far_in, part_if, lower_part, lowest_far, words_at, words_from}
+use Rattle.prem_place.specs.Flat.Blocks.{start_at, parts_in, names_in, words_of, LieApart, AllApart, HasParts, ReachIsLowest, BlocksHaveWords}
 
 -- ---- all blocks in one list
 
@@ -61,9 +61,8 @@ as_many t h =
 pub blocks_have_words : BlocksHaveWords
 blocks_have_words t h = ap (map words_of) (as_one t h) ∙ words_same t.at 0 (names_in t) (parts_in t) (as_many t h)
 
--- ---- the first jump out of reach
+-- ---- where a jump stands
 
--- a jump out of reach stands in its code
 far_within : (at : ℕ) (code : List Instr) (a : ℕ) → first_far at code ≡ Some a → a < at + 4 * length code
 far_within at [] a e = cc
 far_within at (i ∷ is) a e = by (reaches i) e (λ h. far_within (at + 4) is a h)
@@ -71,50 +70,6 @@ far_within at (i ∷ is) a e = by (reaches i) e (λ h. far_within (at + 4) is a 
     by : (b : Bool) → cond b (first_far (at + 4) is) (Some at) ≡ Some a → (first_far (at + 4) is ≡ Some a → a < at + 4 + 4 * length is) → a < at + 4 * length (i ∷ is)
     by true h more = let lt = more h in omega (arith, lt)
     by false h more = let same : at ≡ a = cc in omega (arith, same)
-
--- by the names of parts
-abbrev name_if : Text → Option ℕ → Option Text → Option Text
-name_if n None other = other
-name_if n (Some a) other = Some n
-
-abbrev far_name : (places : ℕ → ℕ) → ℕ → List Text → List Pieces → Option Text
-far_name places part [] pss = None
-far_name places part (n ∷ ns) [] = None
-far_name places part (n ∷ ns) (ps ∷ pss) = name_if n (far_in places part ps) (far_name places (part + 1) ns pss)
-
--- the jump that is found has this name, and stands at or behind an address
-record Found (least : ℕ) (jump : Option Jump) (name : Option Text) : Type 0 where
-  pub named : option_map (λ (j : Jump). j.1) jump ≡ name
-  pub above : (j : Jump) → jump ≡ Some j → least ≤ j.0
-
-lower_first : (n : Text) (least at end : ℕ) (o : Option ℕ) (jump : Option Jump) (name : Option Text) → least ≤ at → at ≤ end →
-    ((a : ℕ) → o ≡ Some a → (at ≤ a) × (a < end)) → Found end jump name → Found least (lower_jump (jump_in n o) jump) (name_if n o name)
-lower_first n least at end None jump name le le2 here f = record {
-  named = f.named;
-  above = λ j e. let h = f.above j e in omega (arith, h, le, le2);
-}
-lower_first n least at end (Some a) None name le le2 here f =
-    let b = here a refl in
-    record {
-      named = refl;
-      above = λ j e. let same : a ≡ j.0 = cc in omega (arith, same, le, b.0);
-    }
-lower_first n least at end (Some a) (Some c) name le le2 here f =
-    let b = here a refl in
-    let over = f.above c refl in
-    let not_less : ltb c.0 a ≡ false = not_below c.0 a (omega (arith, b.1, over)) in
-    let Q : Bool → Type 0 = λ t. Found least (cond t (Some c) (Some (a, n))) (Some n) in
-    subst Q (sym not_less) (record {
-      named = refl;
-      above = λ j e. let same : a ≡ j.0 = cc in omega (arith, same, le, b.0);
-    })
-  where
-    not_below : (x y : ℕ) → y ≤ x → ltb x y ≡ false
-    not_below x y h = by (ltb x y) refl
-      where
-        by : (t : Bool) → ltb x y ≡ t → ltb x y ≡ false
-        by true is = let lt = ltb-true x y is in absurd (omega (arith, lt, h))
-        by false is = is
 
 far_from : (at : ℕ) (code : List Instr) (a : ℕ) → first_far at code ≡ Some a → at ≤ a
 far_from at [] a e = cc
@@ -124,32 +79,72 @@ far_from at (i ∷ is) a e = by (reaches i) e (λ h. far_from (at + 4) is a h)
     by true h more = let le = more h in omega (arith, le)
     by false h more = let same : at ≡ a = cc in omega (arith, same)
 
-found : (t : TaskPlaces) (least part : ℕ) (names : List Text) (pss : List Pieces) → RisesFrom (start_at t) least part pss →
-    Found least (far_jump (blocks_from t part names pss)) (far_name (start_at t) part names pss)
-found t least part [] pss h = record { named = refl; above = λ j e. cc }
-found t least part (n ∷ ns) [] h = record { named = refl; above = λ j e. cc }
-found t least part (n ∷ ns) (ps ∷ pss) h =
-    let at = start_at t part in
-    let code = code_of (start_at t) at ps in
-    let long = code-length (start_at t) at ps in
-    lower_first n least at (at + size_of ps) (far_in (start_at t) part ps) (far_jump (blocks_from t (part + 1) ns pss)) (far_name (start_at t) (part + 1) ns pss) h.0 (omega arith)
-    (λ a e. (far_from at code a e, (let lt = far_within at code a e in omega (arith, lt, long)))) (found t (at + size_of ps) (part + 1) ns pss h.1)
+-- ---- a jump and the part that has it
 
 -- names by the number of their part
 abbrev Agree : (ℕ → Text) → ℕ → List Text → Type 0
 Agree name part [] = ⊤
 Agree name part (n ∷ ns) = (name part ≡ n) × Agree name (part + 1) ns
 
-by_part : (places : ℕ → ℕ) (name : ℕ → Text) (part : ℕ) (names : List Text) (pss : List Pieces) → length names ≡ length pss → Agree name part names →
-    far_name places part names pss ≡ option_map name (far_part places part pss)
-by_part places name part [] [] e h = refl
-by_part places name part [] (ps ∷ pss) e h = absurd (omega (arith, e))
-by_part places name part (n ∷ ns) [] e h = absurd (omega (arith, e))
-by_part places name part (n ∷ ns) (ps ∷ pss) e h = by (far_in places part ps) (far_part places (part + 1) pss) (by_part places name (part + 1) ns pss (omega (arith, e)) h.1)
-  where
-    by : (o rest : Option ℕ) → far_name places (part + 1) ns pss ≡ option_map name rest → name_if n o (far_name places (part + 1) ns pss) ≡ option_map name (part_if part o rest)
-    by None rest same = same
-    by (Some a) rest same = ap (λ (x : Text). Some x) (sym h.0)
+module _ (places : ℕ → ℕ) (name : ℕ → Text) where
+  -- the jump is the part's, and lies on the part's side of all bytes that are apart from the parts
+  abbrev IsSame : (part : ℕ) → List Pieces → Option Jump → Option ℕ → Type 0
+  IsSame part pss None None = ⊤
+  IsSame part pss None (Some n) = ⊥
+  IsSame part pss (Some j) None = ⊥
+  IsSame part pss (Some j) (Some n) = (j.1 ≡ name n) × ((places n ≤ j.0) × ((at end : ℕ) → at < end → LieApart places at end part pss → (end ≤ places n) ⊎ (j.0 < at)))
+
+  rest_same : (part : ℕ) (ps : Pieces) (pss : List Pieces) (jump : Option Jump) (far : Option ℕ) → IsSame (part + 1) pss jump far → IsSame part (ps ∷ pss) jump far
+  rest_same part ps pss None None h = tt
+  rest_same part ps pss None (Some n) h = absurd h
+  rest_same part ps pss (Some j) None h = absurd h
+  rest_same part ps pss (Some j) (Some n) h = (h.0, (h.1.0, λ at end some apart. h.1.1 at end some apart.1))
+
+  mine : (part : ℕ) (ps : Pieces) (pss : List Pieces) (a : ℕ) (n : Text) → name part ≡ n → places part ≤ a → a < places part + size_of ps → IsSame part (ps ∷ pss) (Some (a, n)) (Some part)
+  mine part ps pss a n named low high =
+      (sym named, (low, λ at end some apart. ⊎_elim (λ (behind : end ≤ places part). inl behind) (λ (before : places part + size_of ps ≤ at). inr (omega (arith, high, before))) (apart.0 some (omega (arith, low, high)))))
+
+  joined : (part : ℕ) (ps : Pieces) (pss : List Pieces) (o : Option ℕ) (n : Text) (jump : Option Jump) (far : Option ℕ) → name part ≡ n → ((a : ℕ) → o ≡ Some a → (places part ≤ a) × (a < places part + size_of ps)) →
+      LieApart places (places part) (places part + size_of ps) (part + 1) pss → IsSame (part + 1) pss jump far → IsSame part (ps ∷ pss) (lower_jump (jump_in n o) jump) (lower_part places (part_if part o None) far)
+  joined part ps pss None n jump far named within apart rest = rest_same part ps pss jump far rest
+  joined part ps pss (Some a) n None None named within apart rest = let w = within a refl in mine part ps pss a n named w.0 w.1
+  joined part ps pss (Some a) n None (Some m) named within apart rest = absurd rest
+  joined part ps pss (Some a) n (Some j) None named within apart rest = absurd rest
+  joined part ps pss (Some a) n (Some j) (Some m) named within apart rest =
+      let w = within a refl in
+      let low : places part ≤ a = w.0 in
+      let high : a < places part + size_of ps = w.1 in
+      let inside : places m ≤ j.0 = rest.1.0 in
+      ⊎_elim
+      (λ (behind : places part + size_of ps ≤ places m).
+      let one : ltb j.0 a ≡ false = le-ltb _ _ (omega (arith, high, inside, behind)) in
+      let two : ltb (places m) (places part) ≡ false = le-ltb _ _ (omega (arith, behind)) in
+      subst (λ b. IsSame part (ps ∷ pss) (cond b (Some j) (Some (a, n))) (cond (ltb (places m) (places part)) (Some m) (Some part))) (sym one)
+      (subst (λ b. IsSame part (ps ∷ pss) (Some (a, n)) (cond b (Some m) (Some part))) (sym two) (mine part ps pss a n named low high)))
+      (λ (before : j.0 < places part).
+      let one : ltb j.0 a ≡ true = lt-ltb _ _ (omega (arith, before, low)) in
+      let two : ltb (places m) (places part) ≡ true = lt-ltb _ _ (omega (arith, inside, before)) in
+      subst (λ b. IsSame part (ps ∷ pss) (cond b (Some j) (Some (a, n))) (cond (ltb (places m) (places part)) (Some m) (Some part))) (sym one)
+      (subst (λ b. IsSame part (ps ∷ pss) (Some j) (cond b (Some m) (Some part))) (sym two) (rest_same part ps pss (Some j) (Some m) rest)))
+      (rest.1.1 (places part) (places part + size_of ps) (omega (arith, low, high)) apart)
+
+  told_of : (part : ℕ) (pss : List Pieces) (jump : Option Jump) (far : Option ℕ) → IsSame part pss jump far → of_jump jump ≡ option_map (λ n. Reach (name n)) far
+  told_of part pss None None h = refl
+  told_of part pss None (Some n) h = absurd h
+  told_of part pss (Some j) None h = absurd h
+  told_of part pss (Some j) (Some n) h = ap (λ (x : Text). Some (Reach x)) h.0
+
+found : (t : TaskPlaces) (name : ℕ → Text) (part : ℕ) (names : List Text) (pss : List Pieces) → length names ≡ length pss → Agree name part names → AllApart (start_at t) part pss →
+    IsSame (start_at t) name part pss (far_jump (blocks_from t part names pss)) (lowest_far (start_at t) part pss)
+found t name part [] [] e named apart = tt
+found t name part [] (ps ∷ pss) e named apart = absurd (omega (arith, e))
+found t name part (n ∷ ns) [] e named apart = absurd (omega (arith, e))
+found t name part (n ∷ ns) (ps ∷ pss) e named apart =
+    let at = start_at t part in
+    let code = code_of (start_at t) at ps in
+    let long = code-length (start_at t) at ps in
+    joined (start_at t) name part ps pss (far_in (start_at t) part ps) n (far_jump (blocks_from t (part + 1) ns pss)) (lowest_far (start_at t) (part + 1) pss) named.0
+    (λ a is. (far_from at code a is, (let lt = far_within at code a is in omega (arith, lt, long)))) apart.0 (found t name (part + 1) ns pss (omega (arith, e)) named.1 apart.1)
 
 agree : (before names : List Text) → Agree (λ part. slice_index_or (before ++ names) part []) (length before) names
 agree before [] = tt
@@ -165,19 +160,10 @@ agree before (n ∷ ns) =
     here [] = refl
     here (x ∷ xs) = here xs
 
-of_named : (jump : Option Jump) → of_jump jump ≡ option_map (λ name. Reach name) (option_map (λ (j : Jump). j.1) jump)
-of_named None = refl
-of_named (Some j) = refl
-
-twice : (name : ℕ → Text) (o : Option ℕ) → option_map (λ n. Reach n) (option_map name o) ≡ option_map (λ part. Reach (name part)) o
-twice name None = refl
-twice name (Some part) = refl
-
-pub reach_is_first : ReachIsFirst
-reach_is_first t h rises =
+pub reach_is_lowest : ReachIsLowest
+reach_is_lowest t h apart =
     let names = names_in t in
     let name : ℕ → Text = λ part. slice_index_or names part [] in
-    let f = found t.at 0 0 names (parts_in t) rises in
+    let same = found t.at name 0 names (parts_in t) (as_many t h) (agree [] names) apart in
     ap (λ bs. of_jump (far_jump bs)) (as_one t h)
-    ∙ (of_named (far_jump (blocks_from t.at 0 names (parts_in t)))
-    ∙ (ap (option_map (λ n. Reach n)) (f.named ∙ by_part (start_at t.at) name 0 names (parts_in t) (as_many t h) (agree [] names)) ∙ twice name (far_part (start_at t.at) 0 (parts_in t))))
+    ∙ told_of (start_at t.at) name 0 (parts_in t) (far_jump (blocks_from t.at 0 names (parts_in t))) (lowest_far (start_at t.at) 0 (parts_in t)) same

@@ -1,11 +1,11 @@
 -- Code as words.
-use Rattle.std.proofs.Common.{◌≡◌, ℕ, List, [], ◌∷◌, ◌++◌, refl, ap, ◌∙◌, map}
 use Rattle.std.specs.Int.{w32, to_le_bytes}
 use Rattle.std.specs.List.{flat_map}
+use Rattle.std.proofs.Common.{◌≡◌, ℕ, List, [], ◌∷◌, ◌++◌, refl, ap, ◌∙◌, map}
 use Rattle.prem_isa.specs.declared.instr.Instr.{Instr}
 use Rattle.prem_isa.specs.Decode.{word_of}
-use Rattle.prem_layout.specs.Placed.{Block}
 use Rattle.prem_asm.specs.Bytes.{code_bytes}
+use Rattle.prem_layout.specs.Placed.{Block}
 use Rattle.prem_layout.specs.Image.{patched, with_blocks}
 use Rattle.prem_place.specs.Content.Blocks.{Words, with_words}
 use Rattle.prem_place.specs.Imaging.Standing.{words_of}

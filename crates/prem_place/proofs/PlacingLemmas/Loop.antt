@@ -1,6 +1,6 @@
 -- Tasks that are placed one by one.
-use Rattle.std.proofs.Common.{◌≡◌, ℕ, ◌+◌, ◌*◌, ◌≤◌, List, [], ◌∷◌, ◌++◌, refl, ap, sym, ◌∙◌, subst, arith, length, map, drop, append_assoc}
 use Rattle.std.specs.List.{AllByRecursion}
+use Rattle.std.proofs.Common.{◌≡◌, ℕ, ◌+◌, ◌*◌, ◌≤◌, List, [], ◌∷◌, ◌++◌, refl, ap, sym, ◌∙◌, subst, arith, length, map, drop, append_assoc}
 use Rattle.prem_plant.specs.declared.plant.Plant.{Plant}
 use Rattle.prem_plant.specs.Ranges.{IsPlant}
 use Rattle.prem_plant.specs.Places.{Extent}
@@ -9,9 +9,9 @@ use Rattle.prem_layout.specs.Placed.{Coded, Placed, placed_at, placed_from, task
 use Rattle.prem_place.specs.Placed.PlacedOf.{placed_of, IsPlacedTask}
 use Rattle.prem_place.specs.declared.placed.PlacedTask.{PlacedTask}
 use Rattle.prem_place.specs.declared.placing.coded.CodedTask.{CodedTask}
-use Rattle.prem_place.specs.Placing.CodedOf.{coded_in, IsCodedTask, AreDefault}
-use Rattle.prem_place.specs.Placing.Standing.{TaskRises, TasksRise, stands_in}
-use Rattle.prem_place.proofs.PlacingLemmas.Stood.{all_rise, first_rises, rest_rises, drop_more}
+use Rattle.prem_place.specs.Placing.CodedOf.{coded_in, IsCodedTask, AreAtPlaces}
+use Rattle.prem_place.specs.Placing.Standing.{TaskLies, TasksLie, stands_in}
+use Rattle.prem_place.proofs.PlacingLemmas.Stood.{all_lie, first_lies, rest_lie, drop_more}
 use Rattle.prem_place.proofs.PlacingLemmas.Placing.{code_long}
 
 pub record Begins (p : Plant) (l : List Extent) (tasks xs : List CodedTask) (all : List PlacedTask) : Type 0 where
@@ -19,10 +19,10 @@ pub record Begins (p : Plant) (l : List Extent) (tasks xs : List CodedTask) (all
   pub placed : AllByRecursion (IsPlacedTask p) all
   pub stands : AllByRecursion stands_in all
   pub coded : AllByRecursion IsCodedTask xs
-  pub rises : TasksRise p (map coded_in xs) l
+  pub lies : TasksLie p (map coded_in xs) l
   pub count : 0 + 1024 * length xs ≤ 16384
 
-pub begins : (p : Plant) (l : List Extent) (tasks xs : List CodedTask) (all : List PlacedTask) → IsPlant p → AllByRecursion IsCodedTask tasks → length tasks ≤ 16 → AreDefault p (map coded_in tasks) l → xs ≡ tasks → all ≡ [] → Begins p l tasks xs all
+pub begins : (p : Plant) (l : List Extent) (tasks xs : List CodedTask) (all : List PlacedTask) → IsPlant p → AllByRecursion IsCodedTask tasks → length tasks ≤ 16 → AreAtPlaces p (map coded_in tasks) l → xs ≡ tasks → all ≡ [] → Begins p l tasks xs all
 begins p l tasks xs all plant coded few default e none =
     let long = ap length e in
     record {
@@ -30,12 +30,12 @@ begins p l tasks xs all plant coded few default e none =
       placed = subst (AllByRecursion (IsPlacedTask p)) (sym none) tt;
       stands = subst (AllByRecursion stands_in) (sym none) tt;
       coded = subst (AllByRecursion IsCodedTask) (sym e) coded;
-      rises = subst (λ (ts : List CodedTask). TasksRise p (map coded_in ts) l) (sym e) (all_rise p (map coded_in tasks) l plant default);
+      lies = subst (λ (ts : List CodedTask). TasksLie p (map coded_in ts) l) (sym e) (all_lie p (map coded_in tasks) l default);
       count = omega (arith, long, few);
     }
 
-pub next_rises : (p : Plant) (places : List Extent) (xs rest : List CodedTask) (task : CodedTask) → xs ≡ task ∷ rest → TasksRise p (map coded_in xs) places → TaskRises p (coded_in task) places
-next_rises p places xs rest task e rises = first_rises p (coded_in task) (map coded_in rest) places (subst (λ (ts : List CodedTask). TasksRise p (map coded_in ts) places) e rises)
+pub next_lies : (p : Plant) (places : List Extent) (xs rest : List CodedTask) (task : CodedTask) → xs ≡ task ∷ rest → TasksLie p (map coded_in xs) places → TaskLies p (coded_in task) places
+next_lies p places xs rest task e lies = first_lies p (coded_in task) (map coded_in rest) places (subst (λ (ts : List CodedTask). TasksLie p (map coded_in ts) places) e lies)
 
 all_more : {A : Type 0} (P : A → Type 0) (xs : List A) (x : A) → AllByRecursion P xs → P x → AllByRecursion P (xs ++ x ∷ [])
 all_more P [] x h hx = (hx, tt)
@@ -78,10 +78,10 @@ module _ (p : Plant) (l : List Extent) (first k : ℕ) (tasks xs rest : List Cod
   pub next_coded : AllByRecursion IsCodedTask xs → AllByRecursion IsCodedTask rest
   next_coded h = (both_coded h).1
 
-  pub others_next : AllByRecursion IsCodedTask xs → TasksRise p (map coded_in xs) (drop first l) → TasksRise p (map coded_in rest) (drop (first + k) l)
-  others_next h rises =
-      subst (TasksRise p (map coded_in rest)) places_are
-      (rest_rises p c (map coded_in rest) (drop first l) (code_long task (both_coded h).0) (subst (λ (ts : List CodedTask). TasksRise p (map coded_in ts) (drop first l)) e rises))
+  pub others_next : AllByRecursion IsCodedTask xs → TasksLie p (map coded_in xs) (drop first l) → TasksLie p (map coded_in rest) (drop (first + k) l)
+  others_next h lies =
+      subst (TasksLie p (map coded_in rest)) places_are
+      (rest_lie p c (map coded_in rest) (drop first l) (code_long task (both_coded h).0) (subst (λ (ts : List CodedTask). TasksLie p (map coded_in ts) (drop first l)) e lies))
 
   pub next_count : k ≤ 1024 → first + 1024 * length xs ≤ 16384 → first + k + 1024 * length rest ≤ 16384
   next_count le before = let long = ap length e in omega (arith, le, before, long)

@@ -1,7 +1,7 @@
 -- What a task with code becomes at its places.
-use Rattle.std.proofs.Common.{◌≡◌, ℕ, suc, ◌+◌, ◌<◌, ◌≤◌, List, [], ◌∷◌, refl, ap, sym, ◌∙◌, subst, arith, length, map, slice_index}
 use Rattle.std.specs.Borrow.{Bor}
 use Rattle.std.specs.List.{AllByRecursion}
+use Rattle.std.proofs.Common.{◌≡◌, ℕ, suc, ◌+◌, ◌<◌, ◌≤◌, List, [], ◌∷◌, refl, ap, sym, ◌∙◌, subst, arith, length, map, slice_index}
 use Rattle.std.proofs.lemmas.List.{length-map}
 use Rattle.prem_list.specs.declared.Sequence.{Sequence}
 use Rattle.prem_list.specs.Sequence.{items_of}
@@ -33,7 +33,7 @@ use Rattle.prem_place.specs.Placed.PlacedOf.{placed_of, routines_of, IsPlacedTas
 use Rattle.prem_place.specs.declared.placed.PlacedTask.{PlacedTask}
 use Rattle.prem_place.specs.declared.placing.coded.CodedTask.{CodedTask}
 use Rattle.prem_place.specs.Placing.CodedOf.{coded_in, IsCodedTask}
-use Rattle.prem_place.specs.Placing.Standing.{TaskRises, stands_in, IsStanding}
+use Rattle.prem_place.specs.Placing.Standing.{TaskLies, stands_in, IsStanding}
 use Rattle.prem_place.proofs.PlacingLemmas.Formed.{has_its_job}
 use Rattle.prem_place.proofs.PlacingLemmas.Stood.{are_counted, Stood, stood, codes_counted}
 
@@ -64,7 +64,7 @@ tree_few task h =
 pub code_long : (task : CodedTask) → IsCodedTask task → length (coded_in task).code ≡ length (coded_in task).program.routines
 code_long task h = ap length h.code ∙ codes_counted (parts_of h.target (coded_in task).program.routines) (coded_in task).program.routines
 
-module _ (p : Plant) (task : CodedTask) (places : List Extent) (plant : IsPlant p) (h : IsCodedTask task) (rises : TaskRises p (coded_in task) places) where
+module _ (p : Plant) (task : CodedTask) (places : List Extent) (plant : IsPlant p) (h : IsCodedTask task) (lies : TaskLies p (coded_in task) places) where
   abbrev c : Coded
   c = coded_in task
 
@@ -72,7 +72,7 @@ module _ (p : Plant) (task : CodedTask) (places : List Extent) (plant : IsPlant 
   at = task_places c.program places
 
   standing : Stood p c places
-  standing = stood h.target p c h.text h.bounds places plant h.same h.formed h.fits h.code rises
+  standing = stood h.target p c h.text h.bounds places plant h.same h.formed h.fits h.code lies
 
   at_is : (t : TaskPlaces) → t ≡ places_in task.program.now places → t ≡ at
   at_is t e = e ∙ places_are (slice_index task.turns.now) task.program.now places

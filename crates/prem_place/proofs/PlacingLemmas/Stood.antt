@@ -1,7 +1,7 @@
--- A task whose parts rise stands at its places.
-use Rattle.std.proofs.Common.{◌≡◌, ℕ, zero, suc, ◌+◌, ◌%◌, ◌^◌, ◌<◌, ◌≤◌, List, [], ◌∷◌, ◌++◌, Option, None, Some, refl, ap, sym, ◌∙◌, subst, arith, length, map, drop, append_assoc}
+-- A task whose parts lie apart stands at its places.
 use Rattle.std.specs.Prelude.{All, slice_index}
 use Rattle.std.specs.List.{AllByRecursion}
+use Rattle.std.proofs.Common.{◌≡◌, ℕ, zero, suc, ◌+◌, ◌%◌, ◌^◌, ◌<◌, ◌≤◌, List, [], ◌∷◌, ◌++◌, Option, None, Some, refl, ap, sym, ◌∙◌, subst, arith, length, map, drop, append_assoc}
 use Rattle.std.proofs.lemmas.List.{length-map}
 use Rattle.std.proofs.lemmas.List.Elements.{All-nil, All-cons, recursion_from_All}
 use Rattle.prem_plant.specs.declared.plant.Target.{Target}
@@ -26,16 +26,16 @@ use Rattle.prem_layout.specs.Placed as layout
 use Rattle.prem_layout.specs.Placed.{Coded, sized_of, placed_at, task_places}
 use Rattle.prem_layout.proofs.Lawful.{parts_may_be_placed}
 use Rattle.prem_layout.proofs.StubLaws.{passes_are_few}
-use Rattle.prem_foot.specs.PlacesOf.{IsPlanAt}
-use Rattle.prem_foot.proofs.Standing.{plans_stand}
 use Rattle.prem_fit_laws.specs.Whole.{HasWords, ProgramHasWords}
 use Rattle.prem_fit_laws.proofs.Whole.{programs_have_words}
+use Rattle.prem_foot.specs.PlacesOf.{IsPlanAt}
+use Rattle.prem_foot.proofs.Standing.{plans_stand}
 use Rattle.prem_place.specs.Flat.Flat.{EndWithin}
-use Rattle.prem_place.specs.Stand.Rising.{Rise, starts_of, Stands, RestRises}
-use Rattle.prem_place.proofs.StandLemmas.Rising.{defaults_rise}
-use Rattle.prem_place.proofs.StandLemmas.TaskParts.{first_stands, others_rise}
-use Rattle.prem_place.specs.Placing.CodedOf.{AreDefault}
-use Rattle.prem_place.specs.Placing.Standing.{TaskRises, TasksRise, IsStanding}
+use Rattle.prem_place.specs.Stand.Lying.{Lie, starts_of, Stands}
+use Rattle.prem_place.specs.Placing.CodedOf.{AreAtPlaces}
+use Rattle.prem_place.specs.Placing.Standing.{TaskLies, TasksLie, IsStanding}
+use Rattle.prem_place.proofs.StandLemmas.Lying.{places_lie}
+use Rattle.prem_place.proofs.StandLemmas.TaskParts.{first_stands, others_lie}
 use Rattle.prem_place.proofs.PlacingLemmas.Formed.{are_few, has_its_job, functions_counted}
 
 -- ---- counts
@@ -91,9 +91,9 @@ abbrev made : Text → ℕ → ℕ → Resolved → List Pieces → Coded
 made name period jobs program code = record { name = name; period = period; jobs = jobs; program = program; code = code }
 
 made_stands : (target : Target) (p : Plant) (name : Text) (period jobs : ℕ) (text : ProgramText) (bounds : ℕ → ℕ) (places : List Extent) → IsPlant p → IsWellFormed text → excess (resolve bounds text) ≡ None →
-    TaskRises p (made name period jobs (resolve bounds text) (codes_of (parts_of target (resolve bounds text).routines) (resolve bounds text).routines)) places →
+    TaskLies p (made name period jobs (resolve bounds text) (codes_of (parts_of target (resolve bounds text).routines) (resolve bounds text).routines)) places →
     Stood p (made name period jobs (resolve bounds text) (codes_of (parts_of target (resolve bounds text).routines) (resolve bounds text).routines)) places
-made_stands target p name period jobs text bounds places plant formed none rises =
+made_stands target p name period jobs text bounds places plant formed none lies =
     let q : Resolved = resolve bounds text in
     let code : List Pieces = codes_of (parts_of target q.routines) q.routines in
     let at : TaskPlaces = task_places q places in
@@ -111,13 +111,13 @@ made_stands target p name period jobs text bounds places plant formed none rises
     let short : p.line < 2 ^ 11 = omega (arith, line.1) in
     let least = passes_are_few p plant in
     let few : pass_count (stub_passes p) < 2 ^ 11 = omega (arith, least.1) in
-    let st : Stands (stub_passes p) p.line p.memory rises.number q code places = first_stands (stub_passes p) p.line p.memory rises.least rises.number q code rises.others places long small rises.rise in
+    let st : Stands (stub_passes p) p.line p.memory lies.number q code places = first_stands (stub_passes p) p.line p.memory lies.number q code lies.others places long small lies.lie in
     let sized : length (map size_of code) ≡ length q.routines = length-map code size_of ∙ long in
     let words : ProgramHasWords target q (stub_passes p) p.line at starts = programs_have_words target text bounds (stub_passes p) p.line at starts formed none few short st.addresses in
     let one : List Pieces = start_code q.job ∷ [] in
     let within : EndWithin (slice_index starts) 0 (one ++ (code ++ stubs)) = subst (λ (f : ℕ → ℕ). EndWithin f 0 (one ++ (code ++ stubs))) (sym st.same) st.within in
     record {
-      plans = plans_stand (stub_passes p) p.memory rises.number text bounds (map size_of code) places formed small sized st.parts;
+      plans = plans_stand (stub_passes p) p.memory lies.number text bounds (map size_of code) places formed small sized st.parts;
       standing = record {
         fit = record {
           first_fit = (words.start, tt);
@@ -133,51 +133,46 @@ made_stands target p name period jobs text bounds places plant formed none rises
         aligned = aligned_all starts st.addresses.aligned;
         same = st.same;
         parts = record { code = long; functions = refl; stubs = length-map (plans_of q) (stub_of (stub_passes p) p.line at) };
-        rises = st.rises;
+        apart = st.apart;
         job = job.there;
         named = job.named;
       };
     }
 
 pub stood : (target : Target) (p : Plant) (c : Coded) (text : ProgramText) (bounds : ℕ → ℕ) (places : List Extent) → IsPlant p → c.program ≡ resolve bounds text → IsWellFormed text → excess c.program ≡ None →
-    c.code ≡ codes_of (parts_of target c.program.routines) c.program.routines → TaskRises p c places → Stood p c places
-stood target p c text bounds places plant same formed none code rises =
+    c.code ≡ codes_of (parts_of target c.program.routines) c.program.routines → TaskLies p c places → Stood p c places
+stood target p c text bounds places plant same formed none code lies =
     let q : Resolved = resolve bounds text in
     let code' : c.code ≡ codes_of (parts_of target q.routines) q.routines = code ∙ ap (λ (r : Resolved). codes_of (parts_of target r.routines) r.routines) same in
     let is : c ≡ made c.name c.period c.jobs q (codes_of (parts_of target q.routines) q.routines) = ap (λ (r : Resolved). made c.name c.period c.jobs r c.code) same ∙ ap (made c.name c.period c.jobs q) code' in
     let none' : excess q ≡ None = ap excess (sym same) ∙ none in
     subst (λ (d : Coded). Stood p d places) (sym is)
-    (made_stands target p c.name c.period c.jobs text bounds places plant formed none' (subst (λ (d : Coded). TaskRises p d places) is rises))
+    (made_stands target p c.name c.period c.jobs text bounds places plant formed none' (subst (λ (d : Coded). TaskLies p d places) is lies))
 
 -- ---- all tasks
 
-pub all_rise : (p : Plant) (cs : List Coded) (places : List Extent) → IsPlant p → AreDefault p cs places → TasksRise p cs places
-all_rise p cs places plant h =
-    let parts : List PartSize = layout.parts_of p h.devices cs in
-    let line = plant.line in
-    let one : 1 ≤ p.line = omega (arith, line.0) in
-    let may = parts_may_be_placed (stub_passes p) p.line (map sized_of cs) h.devices one in
-    let rise : Rise p.memory 0 parts (default_places parts) = defaults_rise p.memory parts may.0 (subst (λ (ps : List Extent). last_end ps ≤ p.memory) h.same h.within) in
-    record { least = 0; number = 0; others = area_parts p.line 0 h.devices; rise = subst (Rise p.memory 0 parts) (sym h.same) rise }
+pub all_lie : (p : Plant) (cs : List Coded) (places : List Extent) → AreAtPlaces p cs places → TasksLie p cs places
+all_lie p cs places h = record { number = 0; others = area_parts p.line 0 h.devices; lie = places_lie p.memory (layout.parts_of p h.devices cs) places h.placed }
 
-pub first_rises : (p : Plant) (c : Coded) (cs : List Coded) (places : List Extent) → TasksRise p (c ∷ cs) places → TaskRises p c places
-first_rises p c cs places h =
+pub first_lies : (p : Plant) (c : Coded) (cs : List Coded) (places : List Extent) → TasksLie p (c ∷ cs) places → TaskLies p c places
+first_lies p c cs places h =
     let mine : List PartSize = task_parts (stub_passes p) h.number (map size_of c.code) c.program in
     let more : List PartSize = parts_from (stub_passes p) (h.number + 1) (map sized_of cs) in
     record {
-      least = h.least;
       number = h.number;
       others = more ++ h.others;
-      rise = subst (λ (xs : List PartSize). Rise p.memory h.least xs places) (append_assoc mine more h.others) h.rise;
+      lie = subst (λ (xs : List PartSize). Lie p.memory xs places) (append_assoc mine more h.others) h.lie;
     }
 
-pub rest_rises : (p : Plant) (c : Coded) (cs : List Coded) (places : List Extent) → length c.code ≡ length c.program.routines → TasksRise p (c ∷ cs) places → TasksRise p cs (drop (part_count c.program) places)
-unfolding first_rises
-rest_rises p c cs places long h =
-    let t = first_rises p c cs places h in
-    let rest : RestRises p.memory t.others (drop (part_count c.program) places) =
-    others_rise (stub_passes p) p.memory t.least t.number c.program (map size_of c.code) t.others places (length-map c.code size_of ∙ long) t.rise in
-    record { least = rest.least; number = h.number + 1; others = h.others; rise = rest.rises }
+pub rest_lie : (p : Plant) (c : Coded) (cs : List Coded) (places : List Extent) → length c.code ≡ length c.program.routines → TasksLie p (c ∷ cs) places → TasksLie p cs (drop (part_count c.program) places)
+unfolding first_lies
+rest_lie p c cs places long h =
+    let t = first_lies p c cs places h in
+    record {
+      number = h.number + 1;
+      others = h.others;
+      lie = others_lie (stub_passes p) p.memory t.number c.program (map size_of c.code) t.others places (length-map c.code size_of ∙ long) t.lie;
+    }
 
 drop_nil : {A : Type 0} (n : ℕ) → drop {A = A} n [] ≡ []
 drop_nil zero = refl

@@ -1,9 +1,9 @@
 -- The rules on bounds and lengths at one task.
-use Rattle.std.proofs.Common.{◌≡◌, ℕ, zero, suc, ◌+◌, ◌<◌, ◌≤◌, ◌^◌, Bool, true, false, cond, List, [], ◌∷◌, ◌++◌, Option, None, Some, Result, Ok, Err, refl, ap, sym, ◌∙◌, subst, arith, length, map, drop, get_or, option_map, filter, slice_index}
 use Rattle.std.specs.Prelude.{◌==◌, ◌&&◌, nat_lt, is_err, OnOk, OnErr, IfOk, MatchResult}
+use Rattle.std.specs.List.{AllByRecursion}
+use Rattle.std.proofs.Common.{◌≡◌, ℕ, zero, suc, ◌+◌, ◌<◌, ◌≤◌, ◌^◌, Bool, true, false, cond, List, [], ◌∷◌, ◌++◌, Option, None, Some, Result, Ok, Err, refl, ap, sym, ◌∙◌, subst, arith, length, map, drop, get_or, option_map, filter, slice_index}
 use Rattle.std.proofs.lemmas.Bool.{lt-ltb, le-ltb}
 use Rattle.std.proofs.lemmas.List.{at_drop_more}
-use Rattle.std.specs.List.{AllByRecursion}
 use Rattle.prem_plant.specs.declared.plant.Plant.{Plant}
 use Rattle.prem_meaning.specs.Statements.{is_marked}
 use Rattle.prem_layout.specs.Plans as layout
@@ -36,7 +36,7 @@ Below n plan = plan.function < n
 
 -- ---- bounds
 
-pub eight_is : (p : Plant) (t : PlacedTask) → group_eight p (placed_of t) ≡ option_map (λ m. BoundTooLarge (name_at (coded_of t).program.routines m)) (large_in p (placed_of t))
+eight_is : (p : Plant) (t : PlacedTask) → group_eight p (placed_of t) ≡ option_map (λ m. BoundTooLarge (name_at (coded_of t).program.routines m)) (large_in p (placed_of t))
 eight_is p t = large_is_first (coded_of t).program.routines t.table.job (job_bound_of p (plans_of t) (table_of t.table)) (interval_facts p (placed_of t))
 
 pub eight_breaks : (p : Plant) (t : PlacedTask) (f : ℕ) → large_in p (placed_of t) ≡ Some f → group_eight p (placed_of t) ≡ Some (BoundTooLarge (name_at (coded_of t).program.routines f))
@@ -136,11 +136,11 @@ nine_is : (p : Plant) (t : PlacedTask) (n : ℕ) (b : TaskBounds) (found : Optio
 nine_is p t n b found e is =
     short_is_first p (placed_of t) ∙ ap (λ o. option_map (λ (f : IntervalFact). Length (name_at (coded_of t).program.routines f.function) f.bound f.stated) o) (sym (is ∙ ap first_short (facts_at p t n b e)))
 
-pub nine_breaks : (p : Plant) (t : PlacedTask) (n : ℕ) (b : TaskBounds) (f : FactFound) → bounds_of b ≡ told_of p n (placed_of t) → Some (fact_of f) ≡ first_short (map fact_of b.facts.items) →
+nine_breaks : (p : Plant) (t : PlacedTask) (n : ℕ) (b : TaskBounds) (f : FactFound) → bounds_of b ≡ told_of p n (placed_of t) → Some (fact_of f) ≡ first_short (map fact_of b.facts.items) →
     group_nine p (placed_of t) ≡ Some (Length (name_at (coded_of t).program.routines f.function) f.bound f.stated)
 nine_breaks p t n b f e is = nine_is p t n b (Some (fact_of f)) e is
 
-pub nine_keeps : (p : Plant) (t : PlacedTask) (n : ℕ) (b : TaskBounds) → bounds_of b ≡ told_of p n (placed_of t) → None ≡ first_short (map fact_of b.facts.items) → group_nine p (placed_of t) ≡ None
+nine_keeps : (p : Plant) (t : PlacedTask) (n : ℕ) (b : TaskBounds) → bounds_of b ≡ told_of p n (placed_of t) → None ≡ first_short (map fact_of b.facts.items) → group_nine p (placed_of t) ≡ None
 nine_keeps p t n b e is = nine_is p t n b None e is
 
 short_case : (b : Bool) (g f : IntervalFact) (rest : Option IntervalFact) (n : ℕ) → g.function < n → (rest ≡ Some f → f.function < n) → cond b (Some g) rest ≡ Some f → f.function < n
@@ -153,7 +153,7 @@ short_below p t n k (plan ∷ plans) f h e =
     let g : IntervalFact = interval_fact p t k plan (footprint_of p.line t.at plan) in
     short_case (nat_lt g.stated g.bound) g f (first_short (interval_facts_from p t (k + 1) plans)) n h.0 (λ more. short_below p t n (k + 1) plans f h.1 more) e
 
-pub short_within : (p : Plant) (t : PlacedTask) (n : ℕ) (b : TaskBounds) (f : FactFound) → IsPlacedTask p t → bounds_of b ≡ told_of p n (placed_of t) → Some (fact_of f) ≡ first_short (map fact_of b.facts.items) → f.function < length (routines_of t)
+short_within : (p : Plant) (t : PlacedTask) (n : ℕ) (b : TaskBounds) (f : FactFound) → IsPlacedTask p t → bounds_of b ≡ told_of p n (placed_of t) → Some (fact_of f) ≡ first_short (map fact_of b.facts.items) → f.function < length (routines_of t)
 short_within p t n b f h e is =
     short_below p (placed_of t) (length (routines_of t)) 0 (plans_of t) (fact_of f) (plans_within p t h) (sym (is ∙ ap first_short (facts_at p t n b e)))
 
@@ -202,7 +202,7 @@ told_turn p tasks n t all new b whole lt is eb en e =
     ∙ ap (λ x. map bounds_of all ++ x ∷ more) (eb ∙ ap (λ (q : PlacedTask). told_of p n (placed_of q)) is)
     ∙ sym (at_drop_more (λ (ts : List PlacedTask). map bounds_of all ++ told_from p n (map placed_of ts)) tasks n t lt) ∙ e
 
-pub item_there : (tasks : List PlacedTask) (n : ℕ) → n < length tasks → (t : PlacedTask) × (t ≡ get_or tasks n t)
+item_there : (tasks : List PlacedTask) (n : ℕ) → n < length tasks → (t : PlacedTask) × (t ≡ get_or tasks n t)
 item_there [] n lt = absurd (omega arith)
 item_there (x ∷ xs) zero lt = (x, refl)
 item_there (x ∷ xs) (suc n) lt = item_there xs n (omega arith)

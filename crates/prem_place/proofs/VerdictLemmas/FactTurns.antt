@@ -1,14 +1,14 @@
 -- One more marked function of a task.
-use Rattle.std.proofs.Common.{◌≡◌, ℕ, ◌+◌, ◌<◌, ◌≤◌, ◌^◌, Bool, true, false, cond, List, [], ◌∷◌, ◌++◌, refl, ap, sym, ◌∙◌, length, map, drop, get_or, filter, append_assoc}
 use Rattle.std.specs.Prelude.{not, Option, None, Some, IfSome, IsNone, is_none, option_to_list}
+use Rattle.std.proofs.Common.{◌≡◌, ℕ, ◌+◌, ◌<◌, ◌≤◌, ◌^◌, Bool, true, false, cond, List, [], ◌∷◌, ◌++◌, refl, ap, sym, ◌∙◌, length, map, drop, get_or, filter, append_assoc}
 use Rattle.std.proofs.lemmas.List.{append-nil}
-use Rattle.prem_plant.specs.declared.plant.Plant.{Plant}
-use Rattle.prem_split.specs.declared.plan.IntervalPlan.{IntervalPlan}
-use Rattle.prem_split.specs.PlanOf.{plan_of}
 use Rattle.prem_list.specs.Sequence.{items_of}
+use Rattle.prem_plant.specs.declared.plant.Plant.{Plant}
 use Rattle.prem_layout.specs.Footprint.{footprint_of}
 use Rattle.prem_layout.specs.Bounds.{bound_of}
 use Rattle.prem_layout.specs.Facts.{IntervalFact, interval_fact, interval_facts_from}
+use Rattle.prem_split.specs.declared.plan.IntervalPlan.{IntervalPlan}
+use Rattle.prem_split.specs.PlanOf.{plan_of}
 use Rattle.prem_bounds.specs.TableOf.{table_of}
 use Rattle.prem_bounds.specs.Facts.FactOf.{fact_of, fact_with}
 use Rattle.prem_bounds.specs.Facts.Laws.{is_large}
@@ -65,7 +65,7 @@ same_fact p t k plan line e = ap (λ l. fact_with p (table_of t.table) k (plan_o
 same_told : (n : ℕ) (f : FactFound) (x : IntervalFact) → f.task ≡ n → fact_of f ≡ x → numbered f ≡ with_task n x
 same_told n f x et ef = ap (λ m. with_task m (fact_of f)) et ∙ ap (with_task n) ef
 
-pub small_fact : (p : Plant) (t : PlacedTask) (plans : List IntervalPlan) (k : ℕ) (plan : IntervalPlan) (line : List ℕ) (n : ℕ) (facts : List FactFound) (f : FactFound) (whole : List Told) → At p t plans k plan line → f.task ≡ n →
+small_fact : (p : Plant) (t : PlacedTask) (plans : List IntervalPlan) (k : ℕ) (plan : IntervalPlan) (line : List ℕ) (n : ℕ) (facts : List FactFound) (f : FactFound) (whole : List Told) → At p t plans k plan line → f.task ≡ n →
     fact_of f ≡ fact_with p (table_of t.table) k (plan_of plan) line → f.bound ≤ 2 ^ 40 → map numbered facts ++ map (with_task n) (filter is_small (rest_at p t plans k)) ≡ whole →
     map numbered (facts ++ f ∷ []) ++ map (with_task n) (filter is_small (rest_at p t plans (k + 1))) ≡ whole
 small_fact p t plans k plan line n facts f whole h et ef le e =
@@ -73,7 +73,7 @@ small_fact p t plans k plan line n facts f whole h et ef le e =
     let small : is_large (fact_at p t k plan) ≡ false = sym (ap is_large same) ∙ small_is (fact_of f) le in
     small_turn n facts f (fact_at p t k plan) (rest_at p t plans k) (rest_at p t plans (k + 1)) whole (facts_more p (placed_of t) plans k plan h.inside h.is) (same_told n f (fact_at p t k plan) et same) small e
 
-pub small_flag : (p : Plant) (t : PlacedTask) (plans : List IntervalPlan) (k : ℕ) (plan : IntervalPlan) (line : List ℕ) (f : FactFound) (flags whole : List Bool) → At p t plans k plan line →
+small_flag : (p : Plant) (t : PlacedTask) (plans : List IntervalPlan) (k : ℕ) (plan : IntervalPlan) (line : List ℕ) (f : FactFound) (flags whole : List Bool) → At p t plans k plan line →
     fact_of f ≡ fact_with p (table_of t.table) k (plan_of plan) line → f.bound ≤ 2 ^ 40 → flags ++ map is_large (rest_at p t plans k) ≡ whole → (flags ++ false ∷ []) ++ map is_large (rest_at p t plans (k + 1)) ≡ whole
 small_flag p t plans k plan line f flags whole h ef le e =
     let same : fact_of f ≡ fact_at p t k plan = ef ∙ same_fact p t k plan line h.lines in
@@ -83,13 +83,13 @@ small_flag p t plans k plan line f flags whole h ef le e =
 large_at : (p : Plant) (t : PlacedTask) (plans : List IntervalPlan) (k : ℕ) (plan : IntervalPlan) (line : List ℕ) → At p t plans k plan line → 2 ^ 40 < bound_of p (table_of t.table) k (length line) → is_large (fact_at p t k plan) ≡ true
 large_at p t plans k plan line h lt = sym (ap is_large (same_fact p t k plan line h.lines)) ∙ large_is (fact_with p (table_of t.table) k (plan_of plan) line) lt
 
-pub large_fact : (p : Plant) (t : PlacedTask) (plans : List IntervalPlan) (k : ℕ) (plan : IntervalPlan) (line : List ℕ) (n : ℕ) (facts : List FactFound) (whole : List Told) → At p t plans k plan line →
+large_fact : (p : Plant) (t : PlacedTask) (plans : List IntervalPlan) (k : ℕ) (plan : IntervalPlan) (line : List ℕ) (n : ℕ) (facts : List FactFound) (whole : List Told) → At p t plans k plan line →
     2 ^ 40 < bound_of p (table_of t.table) k (length line) → map numbered facts ++ map (with_task n) (filter is_small (rest_at p t plans k)) ≡ whole →
     map numbered facts ++ map (with_task n) (filter is_small (rest_at p t plans (k + 1))) ≡ whole
 large_fact p t plans k plan line n facts whole h lt e =
     large_turn n facts (fact_at p t k plan) (rest_at p t plans k) (rest_at p t plans (k + 1)) whole (facts_more p (placed_of t) plans k plan h.inside h.is) (large_at p t plans k plan line h lt) e
 
-pub large_flag : (p : Plant) (t : PlacedTask) (plans : List IntervalPlan) (k : ℕ) (plan : IntervalPlan) (line : List ℕ) (flags whole : List Bool) → At p t plans k plan line →
+large_flag : (p : Plant) (t : PlacedTask) (plans : List IntervalPlan) (k : ℕ) (plan : IntervalPlan) (line : List ℕ) (flags whole : List Bool) → At p t plans k plan line →
     2 ^ 40 < bound_of p (table_of t.table) k (length line) → flags ++ map is_large (rest_at p t plans k) ≡ whole → (flags ++ true ∷ []) ++ map is_large (rest_at p t plans (k + 1)) ≡ whole
 large_flag p t plans k plan line flags whole h lt e =
     flag_turn flags true (fact_at p t k plan) (rest_at p t plans k) (rest_at p t plans (k + 1)) whole (facts_more p (placed_of t) plans k plan h.inside h.is) (large_at p t plans k plan line h lt) e

@@ -1,7 +1,7 @@
 -- Marked functions and their plans.
-use Rattle.std.proofs.Common.{◌≡◌, ℕ, suc, ◌+◌, ◌<◌, Bool, cond, List, [], ◌∷◌, Option, None, Some, refl, ap, ◌∙◌, subst, arith, length, map, option_map}
 use Rattle.std.specs.Prelude.{is_some}
 use Rattle.std.specs.List.{AllByRecursion}
+use Rattle.std.proofs.Common.{◌≡◌, ℕ, suc, ◌+◌, ◌<◌, Bool, cond, List, [], ◌∷◌, Option, None, Some, refl, ap, ◌∙◌, subst, arith, length, map, option_map}
 use Rattle.prem_syntax.specs.SyntaxOf.{mark_of}
 use Rattle.prem_syntax.specs.declared.tree.Mark.{Mark}
 use Rattle.prem_syntax.specs.Syntax.{MarkText}

@@ -1,6 +1,6 @@
 -- Names of functions of programs in memory.
-use Rattle.std.proofs.Common.{◌≡◌, ℕ, zero, suc, ◌+◌, ◌<◌, List, [], ◌∷◌, refl, ap, sym, ◌∙◌, subst, arith, length, map, get_or, slice_index, Result, Ok, Err}
 use Rattle.std.specs.Prelude.{IfOk}
+use Rattle.std.proofs.Common.{◌≡◌, ℕ, zero, suc, ◌+◌, ◌<◌, List, [], ◌∷◌, refl, ap, sym, ◌∙◌, subst, arith, length, map, get_or, slice_index, Result, Ok, Err}
 use Rattle.prem_syntax.specs.Name.{name_bytes}
 use Rattle.prem_syntax.specs.declared.name.Name.{Name}
 use Rattle.prem_tree.specs.declared.resolve.resolved.Routine.{Routine}
@@ -14,10 +14,10 @@ pub tasks_long : (tasks : List PlacedTask) → length (map placed_of tasks) ≡ 
 tasks_long [] = refl
 tasks_long (t ∷ ts) = ap suc (tasks_long ts)
 
-pub task_within : (tasks : List PlacedTask) (n f : ℕ) → HasFunction (map placed_of tasks) n f → n < length tasks
+task_within : (tasks : List PlacedTask) (n f : ℕ) → HasFunction (map placed_of tasks) n f → n < length tasks
 task_within tasks n f h = omega (arith, h.task, tasks_long tasks)
 
-routines_long : (turns : ℕ → ℕ) (m : ℕ) (rs : List Routine) → length (plain_routines turns m rs) ≡ length rs
+pub routines_long : (turns : ℕ → ℕ) (m : ℕ) (rs : List Routine) → length (plain_routines turns m rs) ≡ length rs
 routines_long turns m [] = refl
 routines_long turns m (r ∷ rs) = ap suc (routines_long turns (m + loops_of r.body) rs)
 
@@ -30,10 +30,10 @@ routines_at (x ∷ xs) (suc n) t lt is = routines_at xs n t (omega arith) is
 pub plain_long : (t : PlacedTask) → length (placed_of t).task.program.routines ≡ length (routines_of t)
 plain_long t = routines_long (slice_index t.turns.now) 0 (routines_of t)
 
-pub function_within : (tasks : List PlacedTask) (n f : ℕ) (t : PlacedTask) → HasFunction (map placed_of tasks) n f → n < length tasks → t ≡ get_or tasks n t → f < length (routines_of t)
+function_within : (tasks : List PlacedTask) (n f : ℕ) (t : PlacedTask) → HasFunction (map placed_of tasks) n f → n < length tasks → t ≡ get_or tasks n t → f < length (routines_of t)
 function_within tasks n f t h lt is = omega (arith, h.function, ap length (routines_at tasks n t lt is), plain_long t)
 
-name_from : (turns : ℕ → ℕ) (m : ℕ) (rs : List Routine) (f : ℕ) (r : Routine) → f < length rs → r ≡ get_or rs f r → name_bytes r.text.now.name ≡ name_at (plain_routines turns m rs) f
+pub name_from : (turns : ℕ → ℕ) (m : ℕ) (rs : List Routine) (f : ℕ) (r : Routine) → f < length rs → r ≡ get_or rs f r → name_bytes r.text.now.name ≡ name_at (plain_routines turns m rs) f
 name_from turns m [] f r lt is = absurd (omega arith)
 name_from turns m (x ∷ xs) zero r lt is = ap (λ (q : Routine). name_bytes q.text.now.name) is
 name_from turns m (x ∷ xs) (suc f) r lt is = name_from turns (m + loops_of x.body) xs f r (omega arith) is

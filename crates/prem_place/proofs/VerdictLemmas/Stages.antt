@@ -1,6 +1,6 @@
 -- Rules over tasks, task by task.
-use Rattle.std.proofs.Common.{◌≡◌, ℕ, zero, suc, ◌+◌, ◌<◌, List, [], ◌∷◌, Option, None, Some, refl, ap, sym, ◌∙◌, subst, arith, length, map, drop, get_or}
 use Rattle.std.specs.List.{AllByRecursion}
+use Rattle.std.proofs.Common.{◌≡◌, ℕ, zero, suc, ◌+◌, ◌<◌, List, [], ◌∷◌, Option, None, Some, refl, ap, sym, ◌∙◌, subst, arith, length, map, drop, get_or}
 use Rattle.std.proofs.lemmas.List.{at_drop_more}
 use Rattle.prem_layout.specs.Placed.{Placed}
 use Rattle.prem_layout.specs.Rules.{LateRule, Refusal, or_else, refused_by, first_among}

@@ -1,17 +1,17 @@
 -- The rules on marked functions at one task.
-use Rattle.std.proofs.Common.{◌≡◌, ℕ, ◌+◌, ◌<◌, ◌≤◌, ◌^◌, true, false, List, [], ◌∷◌, Option, None, Some, ap, sym, ◌∙◌, subst, arith, length, map, drop, get_or, option_map}
 use Rattle.std.specs.List.{AllByRecursion}
+use Rattle.std.proofs.Common.{◌≡◌, ℕ, ◌+◌, ◌<◌, ◌≤◌, ◌^◌, true, false, List, [], ◌∷◌, Option, None, Some, ap, sym, ◌∙◌, subst, arith, length, map, drop, get_or, option_map}
 use Rattle.std.proofs.lemmas.List.{at_drop_more}
 use Rattle.std.proofs.lemmas.Bool.{lt-ltb, le-ltb}
 use Rattle.prem_list.specs.Sequence.{items_of}
 use Rattle.prem_plant.specs.declared.plant.Plant.{Plant}
-use Rattle.prem_split.specs.declared.plan.IntervalPlan.{IntervalPlan}
-use Rattle.prem_split.specs.PlanOf.{plan_of}
 use Rattle.prem_layout.specs.Plans as layout
 use Rattle.prem_layout.specs.Footprint.{Conflict, conflict_of, footprint_of}
 use Rattle.prem_layout.specs.Facts.{IntervalFact, interval_fact, interval_facts_from}
 use Rattle.prem_layout.specs.Placed.{Placed, name_at}
 use Rattle.prem_layout.specs.Rules.{ConflictIn, or_else, group_seven}
+use Rattle.prem_split.specs.declared.plan.IntervalPlan.{IntervalPlan}
+use Rattle.prem_split.specs.PlanOf.{plan_of}
 use Rattle.prem_bounds.specs.Facts.Clashes.{Clash, clash_in, clash_of, first_clash}
 use Rattle.prem_bounds.specs.Facts.Laws.{is_large}
 use Rattle.prem_bounds.specs.declared.facts.lines.Clash.{Clash as ClashFound}

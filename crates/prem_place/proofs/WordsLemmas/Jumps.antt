@@ -1,49 +1,68 @@
--- The first jump out of reach of a standing task.
-use Rattle.std.proofs.Common.{◌≡◌, ℕ, zero, suc, ◌+◌, ◌-◌, ◌<◌, ◌≤◌, List, [], ◌∷◌, ◌++◌, Option, None, Some, Result, Ok, Err, refl, ap, sym, ◌∙◌, subst, arith, length, map, get_or, option_map, length-append}
-use Rattle.std.specs.Prelude.{IfOk, MatchResult, slice_index, slice_index_or}
+-- The lowest jump out of reach of a standing task.
+use Rattle.std.specs.Prelude.{IfOk, MatchResult, nat_lt, slice_index, slice_index_or}
 use Rattle.std.specs.List.{AllByRecursion}
+use Rattle.std.proofs.Common.{◌≡◌, ℕ, Bool, true, false, cond, zero, suc, ◌+◌, ◌-◌, ◌<◌, ◌≤◌, List, [], ◌∷◌, ◌++◌, Option, None, Some, Result, Ok, Err, refl, ap, sym, ◌∙◌, subst, arith, length, map, get_or, option_map, length-append}
 use Rattle.std.proofs.lemmas.List.{length-map}
 use Rattle.prem_list.specs.Sequence.{items_of}
+use Rattle.prem_syntax.specs.Syntax.{Text, MarkText}
+use Rattle.prem_meaning.specs.Resolved.{Routine, Resolved}
+use Rattle.prem_asm.specs.Pieces.{Pieces}
+use Rattle.prem_layout.specs.Plans.{Plan, plan_before, plans_from}
+use Rattle.prem_layout.specs.Placed.{Placed, name_at, blocks_of}
+use Rattle.prem_layout.specs.Rules.{LateRule, Reach, group_six}
 use Rattle.prem_split.specs.declared.plan.IntervalPlan.{IntervalPlan}
 use Rattle.prem_split.specs.PlanOf.{plan_of as plan_in}
 use Rattle.prem_place.specs.Placed.PlacedOf.{placed_of, routines_of}
 use Rattle.prem_place.specs.declared.placed.PlacedTask.{PlacedTask}
-use Rattle.prem_place.proofs.VerdictLemmas.Names.{plain_long}
-use Rattle.prem_syntax.specs.Syntax.{Text, MarkText}
-use Rattle.prem_meaning.specs.Resolved.{Routine, Resolved}
-use Rattle.prem_asm.specs.Pieces.{Pieces}
 use Rattle.prem_place.specs.Content.Blocks.{Words}
-use Rattle.prem_layout.specs.Plans.{Plan, plan_before, plans_from}
-use Rattle.prem_layout.specs.Placed.{Placed, name_at, blocks_of}
-use Rattle.prem_layout.specs.Rules.{LateRule, Reach, group_six}
-use Rattle.prem_place.specs.Flat.Flat.{far_in, part_if, far_part, words_from, Blames}
+use Rattle.prem_place.specs.Flat.Flat.{far_in, part_if, lower_part, lowest_far, words_from, Blames}
 use Rattle.prem_place.specs.Flat.Blocks.{start_at, code_parts, parts_in, names_in, words_of}
 use Rattle.prem_place.specs.declared.flat.flat.FlatFail.{FlatFail}
 use Rattle.prem_place.specs.declared.flat.flat.FlatFail.TheVariants.{Far, OutOfMemory}
-use Rattle.prem_place.proofs.FlatLemmas.BlockLaws.{reach_is_first, blocks_have_words}
-use Rattle.prem_place.specs.Stand.Rising.{starts_of}
+use Rattle.prem_place.specs.Stand.Lying.{starts_of}
 use Rattle.prem_place.specs.Placing.Standing.{IsStanding}
 use Rattle.prem_place.specs.Words.Far.{IsFarIn}
+use Rattle.prem_place.proofs.VerdictLemmas.Names.{plain_long}
+use Rattle.prem_place.proofs.FlatLemmas.BlockLaws.{reach_is_lowest, blocks_have_words}
 
--- ---- the first far part
+-- ---- the lowest far part
 
-far_below : (places : ℕ → ℕ) (part : ℕ) (pss : List Pieces) (n : ℕ) → far_part places part pss ≡ Some n → n < part + length pss
-far_below places part [] n e = cc
-far_below places part (ps ∷ rest) n e = by (far_in places part ps) e (λ h. far_below places (part + 1) rest n h)
+-- it is one of the parts
+abbrev IsBelow : ℕ → Option ℕ → Type 0
+IsBelow end o = (n : ℕ) → o ≡ Some n → n < end
+
+lower_below : (places : ℕ → ℕ) (end : ℕ) (a b : Option ℕ) → IsBelow end a → IsBelow end b → IsBelow end (lower_part places a b)
+lower_below places end None b h k = k
+lower_below places end (Some x) None h k = h
+lower_below places end (Some x) (Some y) h k = by (nat_lt (places y) (places x))
   where
-    by : (o : Option ℕ) → part_if part o (far_part places (part + 1) rest) ≡ Some n → (far_part places (part + 1) rest ≡ Some n → n < part + 1 + length rest) → n < part + suc (length rest)
-    by None h more = let lt = more h in omega (arith, lt)
-    by (Some at) h more = let same : part ≡ n = cc in omega (arith, same)
+    by : (t : Bool) → IsBelow end (cond t (Some y) (Some x))
+    by true = k
+    by false = h
+
+nothing_below : (end : ℕ) → IsBelow end None
+nothing_below end n e = cc
+
+lowest_below : (places : ℕ → ℕ) (part : ℕ) (pss : List Pieces) → IsBelow (part + length pss) (lowest_far places part pss)
+lowest_below places part [] = nothing_below (part + zero)
+lowest_below places part (ps ∷ rest) =
+    let z : part + 1 + length rest ≡ part + suc (length rest) = omega arith in
+    lower_below places (part + suc (length rest)) (part_if part (far_in places part ps) None) (lowest_far places (part + 1) rest) (mine (far_in places part ps))
+    (subst (λ end. IsBelow end (lowest_far places (part + 1) rest)) z (lowest_below places (part + 1) rest))
+  where
+    mine : (o : Option ℕ) → IsBelow (part + suc (length rest)) (part_if part o None)
+    mine None n e = cc
+    mine (Some at) n e = let same : part ≡ n = cc in omega (arith, same)
 
 module _ (t : Placed) (s : IsStanding t) where
   abbrev far : Option ℕ
-  far = far_part (start_at t.at) 0 (parts_in t)
+  far = lowest_far (start_at t.at) 0 (parts_in t)
 
   abbrev told : Option ℕ → Option LateRule
   told = option_map (λ part. Reach (slice_index_or (names_in t) part []))
 
   six_is : group_six t ≡ told far
-  six_is = reach_is_first t s.parts s.rises
+  six_is = reach_is_lowest t s.parts s.apart
 
   names_long : length (names_in t) ≡ length (parts_in t)
   names_long =
@@ -60,7 +79,7 @@ module _ (t : Placed) (s : IsStanding t) where
   blamed_is : (e : FlatFail) → Blames far e → IsFarIn t e
   blamed_is OutOfMemory h = tt
   blamed_is (Far part) h =
-      let lt = far_below (start_at t.at) 0 (parts_in t) part h in
+      let lt = lowest_below (start_at t.at) 0 (parts_in t) part h in
       record { first = six_is ∙ ap told h; there = omega (arith, lt, names_long) }
 
   pub six_ends : {A : Type 0} (found : Option ℕ) (r : Result A FlatFail) → found ≡ far → MatchResult r (λ _. found ≡ None) (Blames found) → MatchResult r (λ _. group_six t ≡ None) (IsFarIn t)
@@ -69,13 +88,13 @@ module _ (t : Placed) (s : IsStanding t) where
 
   -- the same parts at the same starts
   pub far_same : (starts : List ℕ) (job : ℕ) (code stubs : List Pieces) → starts ≡ starts_of t.at → job ≡ t.table.job → code ≡ t.table.code → stubs ≡ t.table.stubs →
-      far_part (slice_index starts) 0 (code_parts job code stubs) ≡ far
+      lowest_far (slice_index starts) 0 (code_parts job code stubs) ≡ far
   far_same starts job code stubs es ej ec et =
-      ap (λ (ns : List ℕ). far_part (slice_index ns) 0 (code_parts job code stubs)) es
-      ∙ ap (λ (f : ℕ → ℕ). far_part f 0 (code_parts job code stubs)) s.same
-      ∙ ap (λ j. far_part (start_at t.at) 0 (code_parts j code stubs)) ej
-      ∙ ap (λ (c : List Pieces). far_part (start_at t.at) 0 (code_parts t.table.job c stubs)) ec
-      ∙ ap (λ (c : List Pieces). far_part (start_at t.at) 0 (code_parts t.table.job t.table.code c)) et
+      ap (λ (ns : List ℕ). lowest_far (slice_index ns) 0 (code_parts job code stubs)) es
+      ∙ ap (λ (f : ℕ → ℕ). lowest_far f 0 (code_parts job code stubs)) s.same
+      ∙ ap (λ j. lowest_far (start_at t.at) 0 (code_parts j code stubs)) ej
+      ∙ ap (λ (c : List Pieces). lowest_far (start_at t.at) 0 (code_parts t.table.job c stubs)) ec
+      ∙ ap (λ (c : List Pieces). lowest_far (start_at t.at) 0 (code_parts t.table.job t.table.code c)) et
 
   pub words_same : (starts : List ℕ) (job : ℕ) (code stubs : List Pieces) → starts ≡ starts_of t.at → job ≡ t.table.job → code ≡ t.table.code → stubs ≡ t.table.stubs →
       words_from (slice_index starts) 0 (code_parts job code stubs) ≡ map words_of (blocks_of t)
@@ -98,7 +117,7 @@ in_right : (xs ys : List Text) (k : ℕ) → slice_index_or (xs ++ ys) (length x
 in_right [] ys k = let z : zero + k ≡ k = omega arith in ap (λ n. slice_index_or ys n []) z
 in_right (x ∷ xs) ys k = let z : suc (length xs) + k ≡ suc (length xs + k) = omega arith in ap (λ n. slice_index_or (x ∷ (xs ++ ys)) n []) z ∙ in_right xs ys k
 
-pub code_name : (t : Placed) (k : ℕ) → k < length t.task.program.routines → slice_index_or (names_in t) (suc k) [] ≡ name_at t.task.program.routines k
+code_name : (t : Placed) (k : ℕ) → k < length t.task.program.routines → slice_index_or (names_in t) (suc k) [] ≡ name_at t.task.program.routines k
 code_name t k lt =
     let long = length-map t.task.program.routines (λ (r : Routine). r.text.name) in
     in_left (map (λ (r : Routine). r.text.name) t.task.program.routines) _ k (omega (arith, lt, long))
@@ -108,7 +127,7 @@ mapped_at f [] k plan lt is = absurd (omega arith)
 mapped_at f (x ∷ xs) zero plan lt is = ap f (sym is)
 mapped_at f (x ∷ xs) (suc k) plan lt is = mapped_at f xs k plan (omega arith) is
 
-pub stub_name : (t : Placed) (k : ℕ) (plan : Plan) → k < length t.plans → plan ≡ get_or t.plans k plan → slice_index_or (names_in t) (suc (length t.task.program.routines + k)) [] ≡ name_at t.task.program.routines plan.function
+stub_name : (t : Placed) (k : ℕ) (plan : Plan) → k < length t.plans → plan ≡ get_or t.plans k plan → slice_index_or (names_in t) (suc (length t.task.program.routines + k)) [] ≡ name_at t.task.program.routines plan.function
 stub_name t k plan lt is =
     let names : List Text = map (λ (r : Routine). r.text.name) t.task.program.routines in
     let stubs : List Text = map (λ (q : Plan). name_at t.task.program.routines q.function) t.plans in
@@ -131,7 +150,7 @@ all_at limit [] k plan h lt is = absurd (omega arith)
 all_at limit (x ∷ xs) zero plan h lt is = subst (Below limit) (sym is) h.0
 all_at limit (x ∷ xs) (suc k) plan h lt is = all_at limit xs k plan h.1 (omega arith) is
 
-pub stub_function : (t : Placed) (s : IsStanding t) (k : ℕ) (plan : Plan) → k < length t.plans → plan ≡ get_or t.plans k plan → plan.function < length t.task.program.routines
+stub_function : (t : Placed) (s : IsStanding t) (k : ℕ) (plan : Plan) → k < length t.plans → plan ≡ get_or t.plans k plan → plan.function < length t.task.program.routines
 stub_function t s k plan lt is =
     let q : Resolved = t.task.program in
     all_at (length q.routines) t.plans k plan (subst (λ (ps : List Plan). AllByRecursion (Below (length q.routines)) ps) (sym s.plans) (plans_below q 0 q.routines (length q.routines) (omega arith))) lt is

@@ -1,19 +1,19 @@
 -- Tasks whose words are told one by one.
-use Rattle.std.proofs.Common.{◌≡◌, ℕ, zero, suc, ◌+◌, ◌<◌, List, [], ◌∷◌, ◌++◌, Some, refl, ap, sym, ◌∙◌, subst, arith, length, map, drop, get_or, append_assoc}
 use Rattle.std.specs.Prelude.{slice_index_or}
+use Rattle.std.proofs.Common.{◌≡◌, ℕ, zero, suc, ◌+◌, ◌<◌, List, [], ◌∷◌, ◌++◌, Some, refl, ap, sym, ◌∙◌, subst, arith, length, map, drop, get_or, append_assoc}
 use Rattle.std.proofs.lemmas.List.{at_drop_more}
-use Rattle.prem_place.specs.Content.Blocks.{Words}
 use Rattle.prem_layout.specs.Placed.{name_at}
 use Rattle.prem_layout.specs.Rules.{Reach, first_among, group_six, over_tasks}
+use Rattle.prem_place.specs.Content.Blocks.{Words}
 use Rattle.prem_place.specs.Placed.PlacedOf.{placed_of}
 use Rattle.prem_place.specs.declared.placed.PlacedTask.{PlacedTask}
 use Rattle.prem_place.specs.Verdict.Told.{routines_in, name_in}
-use Rattle.prem_place.proofs.VerdictLemmas.Names.{tasks_long, routines_at}
-use Rattle.prem_place.proofs.VerdictLemmas.Stages.{stops_at}
 use Rattle.prem_place.specs.Flat.Blocks.{names_in}
 use Rattle.prem_place.specs.declared.flat.flat.FlatFail.{FlatFail}
 use Rattle.prem_place.specs.declared.flat.flat.FlatFail.TheVariants.{Far}
 use Rattle.prem_place.specs.Words.Far.{FarPart, IsFarIn, IsFirstFar, words_in}
+use Rattle.prem_place.proofs.VerdictLemmas.Names.{tasks_long, routines_at}
+use Rattle.prem_place.proofs.VerdictLemmas.Stages.{stops_at}
 
 -- a task with a jump out of reach is the first
 pub first_far : (tasks : List PlacedTask) (n f : ℕ) (t : PlacedTask) → n < length tasks → t ≡ get_or tasks n t → group_six (placed_of t) ≡ Some (Reach (name_at (placed_of t).task.program.routines f)) →

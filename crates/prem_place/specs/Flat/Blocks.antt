@@ -1,5 +1,5 @@
 -- The parts of a placed task that have code, and the rule on jumps by their numbers.
-use Rattle.std.specs.Prelude.{◌≡◌, ◌≤◌, ℕ, ◌+◌, ⊤, List, [], ◌∷◌, ◌++◌, length, map, slice_index_or}
+use Rattle.std.specs.Prelude.{◌≡◌, ◌≤◌, ◌<◌, ◌⊎◌, ℕ, ◌+◌, ⊤, List, [], ◌∷◌, ◌++◌, length, map, slice_index_or}
 use Rattle.std.specs.Option.{option_map}
 use Rattle.prem_isa.specs.Decode.{word_of}
 use Rattle.prem_syntax.specs.Syntax.{Text}
@@ -11,7 +11,7 @@ use Rattle.prem_layout.specs.Bounds.{start_code}
 use Rattle.prem_layout.specs.Placed.{Placed, Block, job_name, name_at, blocks_of}
 use Rattle.prem_layout.specs.Rules.{Reach, group_six}
 use Rattle.prem_place.specs.Content.Blocks.{Words}
-use Rattle.prem_place.specs.Flat.Flat.{far_part, words_from}
+use Rattle.prem_place.specs.Flat.Flat.{lowest_far, words_from}
 
 -- where a task's part starts
 abbrev pub start_at : TaskPlaces → ℕ → ℕ
@@ -34,10 +34,19 @@ names_in t =
 abbrev pub words_of : Block → Words
 words_of b = record { at = b.at; words = map word_of b.code }
 
--- each part starts where the one before it has ended, or behind that
-abbrev pub RisesFrom : (places : ℕ → ℕ) (least part : ℕ) → List Pieces → Type 0
-RisesFrom places least part [] = ⊤
-RisesFrom places least part (ps ∷ rest) = (least ≤ places part) × RisesFrom places (places part + size_of ps) (part + 1) rest
+-- of two rows of bytes one lies behind the other, where neither is empty
+abbrev pub LieBeside : (at end low high : ℕ) → Type 0
+LieBeside at end low high = at < end → low < high → (end ≤ low) ⊎ (high ≤ at)
+
+-- each of the parts from a number on lies beside these bytes
+abbrev pub LieApart : (places : ℕ → ℕ) (at end part : ℕ) → List Pieces → Type 0
+LieApart places at end part [] = ⊤
+LieApart places at end part (ps ∷ rest) = LieBeside at end (places part) (places part + size_of ps) × LieApart places at end (part + 1) rest
+
+-- the parts from a number on lie beside each other
+abbrev pub AllApart : (places : ℕ → ℕ) → ℕ → List Pieces → Type 0
+AllApart places part [] = ⊤
+AllApart places part (ps ∷ rest) = LieApart places (places part) (places part + size_of ps) (part + 1) rest × AllApart places (part + 1) rest
 
 -- the code of each function, and the stub of each plan
 pub record HasParts (t : Placed) : Type 0 where
@@ -45,11 +54,11 @@ pub record HasParts (t : Placed) : Type 0 where
   pub functions : t.at.functions ≡ length t.task.program.routines
   pub stubs : length t.table.stubs ≡ length t.plans
 
--- where parts rise, the rule on jumps is broken by the first part that has a jump out of reach
-abbrev pub ReachIsFirst : Type 0
-ReachIsFirst =
-    (t : Placed) → HasParts t → RisesFrom (start_at t.at) 0 0 (parts_in t) →
-    group_six t ≡ option_map (λ part. Reach (slice_index_or (names_in t) part [])) (far_part (start_at t.at) 0 (parts_in t))
+-- where parts lie beside each other, the rule on jumps is broken by the lowest part that has a jump out of reach
+abbrev pub ReachIsLowest : Type 0
+ReachIsLowest =
+    (t : Placed) → HasParts t → AllApart (start_at t.at) 0 (parts_in t) →
+    group_six t ≡ option_map (λ part. Reach (slice_index_or (names_in t) part [])) (lowest_far (start_at t.at) 0 (parts_in t))
 
 -- the blocks of a task have the words of its parts
 abbrev pub BlocksHaveWords : Type 0

@@ -1,10 +1,10 @@
 -- The words of the parts of a task that have code, one behind another.
-use Rattle.std.specs.Prelude.{◌≡◌, ℕ, ◌+◌, ◌^◌, ◌≤◌, ⊤, List, [], ◌∷◌, map, length, Option, None, Some, slice_index}
+use Rattle.std.specs.Prelude.{◌≡◌, ℕ, ◌+◌, ◌^◌, ◌≤◌, ⊤, nat_lt, if◌then◌else◌, List, [], ◌∷◌, map, length, Option, None, Some, slice_index}
 use Rattle.std.specs.List.{AllByRecursion}
-use Rattle.prem_asm.specs.Fit.{PiecesFit}
-use Rattle.prem_isa.specs.Decode.{word_of}
 use Rattle.prem_list.specs.declared.Sequence.{Sequence}
 use Rattle.prem_list.specs.Sequence.{items_of}
+use Rattle.prem_isa.specs.Decode.{word_of}
+use Rattle.prem_asm.specs.Fit.{PiecesFit}
 use Rattle.prem_asm.specs.declared.piece.Piece.{Piece}
 use Rattle.prem_asm.specs.Pieces.{Pieces, size_of, code_of, first_far}
 use Rattle.prem_asm.specs.PiecesOf.{pieces_of}
@@ -27,6 +27,17 @@ part_if part (Some at) other = Some part
 abbrev pub far_part : (places : ℕ → ℕ) → ℕ → List Pieces → Option ℕ
 far_part places part [] = None
 far_part places part (ps ∷ rest) = part_if part (far_in places part ps) (far_part places (part + 1) rest)
+
+-- of two parts the one that starts lower
+abbrev pub lower_part : (places : ℕ → ℕ) → Option ℕ → Option ℕ → Option ℕ
+lower_part places None other = other
+lower_part places (Some a) None = Some a
+lower_part places (Some a) (Some b) = if nat_lt (places b) (places a) then Some b else Some a
+
+-- of the parts from a number on that have a jump out of reach, the one that starts lowest
+abbrev pub lowest_far : (places : ℕ → ℕ) → ℕ → List Pieces → Option ℕ
+lowest_far places part [] = None
+lowest_far places part (ps ∷ rest) = lower_part places (part_if part (far_in places part ps) None) (lowest_far places (part + 1) rest)
 
 abbrev pub words_at : (places : ℕ → ℕ) → ℕ → Pieces → Words
 words_at places part ps = record { at = places part; words = map word_of (code_of places (places part) ps) }

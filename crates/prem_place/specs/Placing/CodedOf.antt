@@ -1,10 +1,10 @@
 -- What tasks with code in memory stand for, and what has to hold of them.
-use Rattle.std.specs.Prelude.{◌≡◌, ◌≤◌, ℕ, None, List, map, slice_index}
-use Rattle.prem_plant.specs.declared.plant.Target.{Target}
+use Rattle.std.specs.Prelude.{◌≡◌, ℕ, None, List, map, slice_index}
 use Rattle.prem_list.specs.Sequence.{items_of}
+use Rattle.prem_plant.specs.declared.plant.Target.{Target}
 use Rattle.prem_plant.specs.declared.plant.Plant.{Plant}
 use Rattle.prem_plant.specs.declared.plant.Device.{Device}
-use Rattle.prem_plant.specs.Places.{Extent, default_places, last_end}
+use Rattle.prem_plant.specs.Places.{Extent, ArePlaces}
 use Rattle.prem_syntax.specs.Syntax.{ProgramText}
 use Rattle.prem_meaning.specs.GroupTwo.{IsWellFormed}
 use Rattle.prem_meaning.specs.Resolve.{resolve}
@@ -37,8 +37,7 @@ pub record IsCodedTask (t : CodedTask) : Type 0 where
   pub plans : map plan_of (items_of t.plans) ≡ plans_of (coded_in t).program
   pub code : (coded_in t).code ≡ template.codes_of (template.parts_of target (coded_in t).program.routines) (coded_in t).program.routines
 
--- places are the default ones of all parts, within memory
-pub record AreDefault (p : Plant) (tasks : List Coded) (places : List Extent) : Type 0 where
+-- places are those of all parts, within memory
+pub record AreAtPlaces (p : Plant) (tasks : List Coded) (places : List Extent) : Type 0 where
   pub devices : List Device
-  pub same : places ≡ default_places (parts_of p devices tasks)
-  pub within : last_end places ≤ p.memory
+  pub placed : ArePlaces p.memory (parts_of p devices tasks) places

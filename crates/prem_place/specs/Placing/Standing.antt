@@ -9,24 +9,22 @@ use Rattle.prem_layout.specs.Parts.{stub_passes, task_parts, parts_from, part_co
 use Rattle.prem_layout.specs.Bounds.{start_code}
 use Rattle.prem_layout.specs.Placed.{Coded, Placed, sized_of, job_name, name_at}
 use Rattle.prem_place.specs.Flat.Flat.{AreFit}
-use Rattle.prem_place.specs.Flat.Blocks.{start_at, parts_in, RisesFrom, HasParts}
-use Rattle.prem_place.specs.Stand.Rising.{Rise, starts_of}
+use Rattle.prem_place.specs.Flat.Blocks.{start_at, parts_in, AllApart, HasParts}
+use Rattle.prem_place.specs.Stand.Lying.{Lie, starts_of}
 use Rattle.prem_place.specs.Placed.PlacedOf.{placed_of}
 use Rattle.prem_place.specs.declared.placed.PlacedTask.{PlacedTask}
 
--- the parts of a task rise, and others behind them
-pub record TaskRises (p : Plant) (c : Coded) (places : List Extent) : Type 0 where
-  pub least : ℕ
+-- the parts of a task lie at the places, and others behind them in the list
+pub record TaskLies (p : Plant) (c : Coded) (places : List Extent) : Type 0 where
   pub number : ℕ
   pub others : List PartSize
-  pub rise : Rise p.memory least (task_parts (stub_passes p) number (map size_of c.code) c.program ++ others) places
+  pub lie : Lie p.memory (task_parts (stub_passes p) number (map size_of c.code) c.program ++ others) places
 
--- the parts of tasks rise, and others behind them
-pub record TasksRise (p : Plant) (cs : List Coded) (places : List Extent) : Type 0 where
-  pub least : ℕ
+-- the parts of tasks do, and others behind them
+pub record TasksLie (p : Plant) (cs : List Coded) (places : List Extent) : Type 0 where
   pub number : ℕ
   pub others : List PartSize
-  pub rise : Rise p.memory least (parts_from (stub_passes p) number (map sized_of cs) ++ others) places
+  pub lie : Lie p.memory (parts_from (stub_passes p) number (map sized_of cs) ++ others) places
 
 -- a placed task whose code has words at the starts of its parts, but for jumps out of reach, and whose `job` is named so
 pub record IsStanding (t : Placed) : Type 0 where
@@ -37,7 +35,7 @@ pub record IsStanding (t : Placed) : Type 0 where
   pub aligned : All (λ start. start % 4 ≡ 0) (starts_of t.at)
   pub same : slice_index (starts_of t.at) ≡ start_at t.at
   pub parts : HasParts t
-  pub rises : RisesFrom (start_at t.at) 0 0 (parts_in t)
+  pub apart : AllApart (start_at t.at) 0 (parts_in t)
   pub job : t.table.job < length t.task.program.routines
   pub named : name_at t.task.program.routines t.table.job ≡ job_name
 

@@ -1,8 +1,8 @@
 -- The words of placed tasks, and what is told of the first jump out of reach.
 use Rattle.std.specs.Prelude.{◌≡◌, ◌<◌, ℕ, ⊤, List, [], map, length, slice_index_or, None, Some, Result, MatchResult}
-use Rattle.prem_place.specs.Content.Blocks.{Words}
 use Rattle.prem_layout.specs.Placed.{Placed, blocks_of}
 use Rattle.prem_layout.specs.Rules.{LateRule, Reach, Refusal, over_tasks, group_six}
+use Rattle.prem_place.specs.Content.Blocks.{Words}
 use Rattle.prem_place.specs.Flat.Blocks.{names_in, words_of}
 use Rattle.prem_place.specs.declared.flat.flat.FlatFail.{FlatFail}
 use Rattle.prem_place.specs.declared.flat.flat.FlatFail.TheVariants as flat
@@ -13,7 +13,7 @@ use Rattle.prem_place.specs.declared.words.FarJump.{FarJump}
 use Rattle.prem_place.specs.declared.words.WordsFail.{WordsFail}
 use Rattle.prem_place.specs.declared.words.WordsFail.TheVariants.{Far, OutOfMemory}
 
--- the first part of a task that has a jump out of reach
+-- of the parts of a task that have a jump out of reach the one that starts lowest
 pub record FarPart (t : Placed) (part : ℕ) : Type 0 where
   pub first : group_six t ≡ Some (Reach (slice_index_or (names_in t) part []))
   pub there : part < length (names_in t)

@@ -1,5 +1,5 @@
 // The words of parts with code.
-ghost use Rattle.std.specs.Prelude.{◌≡◌, ◌+◌, ◌++◌, ◌∷◌, [], ◌≤◌, ◌%◌, ◌^◌, ◌<◌, None, All, OnOk, IfOk, MatchResult, length, map, slice_index};
+ghost use Rattle.std.specs.Prelude.{◌≡◌, ◌+◌, ◌++◌, ◌∷◌, [], ◌≤◌, ◌%◌, ◌^◌, ◌<◌, None, All, IsSome, OnOk, IfOk, MatchResult, length, map, slice_index};
 ghost use Rattle.std.specs.List.{AllByRecursion};
 ghost use Rattle.prem_list.specs.Sequence.{items_of};
 ghost use Rattle.prem_asm.specs.Fit.{PiecesFit};
@@ -8,7 +8,7 @@ ghost use Rattle.prem_asm.specs.PiecesOf.{pieces_of};
 ghost use Rattle.prem_layout.specs.Bounds.{start_code};
 ghost use Rattle.prem_place.specs.Flat.Blocks.{code_parts};
 ghost use Rattle.prem_place.specs.Content.Blocks.{block_of};
-ghost use Rattle.prem_place.specs.Flat.Flat.{listed, far_in, part_if, words_at, far_part, words_from, EndWithin, AreFit, Blames};
+ghost use Rattle.prem_place.specs.Flat.Flat.{listed, far_in, part_if, lower_part, lowest_far, words_at, far_part, words_from, EndWithin, AreFit, Blames};
 
 use crate::content::Block;
 use prem_asm::{AsmFail, Instr, Piece, flatten, put_call, put_code};
@@ -130,9 +130,123 @@ fn put_all(
     }
 }
 
+/// Where a part starts.
+fn start_of(starts: &[u32], part: usize) -> u32
+    ensures { result ≡ slice_index starts.now part }
+{
+    starts.get(part).copied().unwrap_or(0)
+}
+
+/// Of two parts the one that starts lower: of two that start together, the first one.
+fn lower(a: Option<usize>, b: Option<usize>, starts: &[u32]) -> Option<usize>
+    ensures { result ≡ lower_part (slice_index starts.now) a b }
+{
+    match (a, b) {
+        (None, other) => other,
+        (Some(part), None) => Some(part),
+        (Some(part), Some(other)) => {
+            if start_of(starts, other) < start_of(starts, part) {
+                Some(other)
+            } else {
+                Some(part)
+            }
+        }
+    }
+}
+
+/// The part, if it has a jump out of reach.
+fn far(
+    alloc: Global,
+    pieces: &[Piece],
+    part: usize,
+    starts: &[u32],
+) -> Result<Option<usize>, AllocError>
+    requires fit { PiecesFit (length starts.now) (slice_index starts.now) (pieces_of pieces.now) }
+    requires there { part < length starts.now }
+    requires aligned { All (λ start. start % 4 ≡ 0) starts.now }
+    requires within { slice_index starts.now part + size_of (pieces_of pieces.now) ≤ 2 ^ 32 }
+    ensures { IfOk result (λ o. o ≡ part_if part (far_in (slice_index starts.now) part (pieces_of pieces.now)) None) }
+{
+    match block(alloc, pieces, part, starts) {
+        Ok(_) => Ok(None),
+        Err(FlatFail::Far(part)) => Ok(Some(part)),
+        Err(FlatFail::OutOfMemory) => Err(AllocError),
+    }
+}
+
+/// Of a part that is found, and of those parts from number `first` on that have a jump out of reach, the one that starts lowest.
+#[tactic(auto, using(crate::proofs::FlatLemmas::Flats::lower_joins, crate::proofs::FlatLemmas::Flats::lower_none))]
+fn lowest_of(
+    alloc: Global,
+    found: Option<usize>,
+    all: &[Sequence<Piece>],
+    first: usize,
+    starts: &[u32],
+) -> Result<Option<usize>, AllocError>
+    requires fit { AllByRecursion (PiecesFit (length starts.now) (slice_index starts.now)) (listed all.now) }
+    requires there { first + length all.now ≤ length starts.now }
+    requires aligned { All (λ start. start % 4 ≡ 0) starts.now }
+    requires within { EndWithin (slice_index starts.now) first (listed all.now) }
+    ensures { IfOk result (λ o. o ≡ lower_part (slice_index starts.now) found (lowest_far (slice_index starts.now) first (listed all.now))) }
+{
+    let mut lowest = found;
+    let mut part = first;
+    for pieces in all {
+        lowest = lower(lowest, far(alloc, pieces.items(), part, starts)?, starts);
+        part += 1;
+    }
+    Ok(lowest)
+}
+
+/// Of all parts that have a jump out of reach the one that starts lowest.
+#[tactic(auto, using(crate::proofs::FlatLemmas::Flats::lowest_join, crate::proofs::FlatLemmas::Flats::listed_long))]
+fn lowest_of_all(
+    alloc: Global,
+    first: &[Sequence<Piece>],
+    code: &[Sequence<Piece>],
+    stubs: &[Sequence<Piece>],
+    starts: &[u32],
+) -> Result<Option<usize>, AllocError>
+    requires fit { AreFit starts.now (listed first.now) (listed code.now) (listed stubs.now) }
+    requires one { length first.now ≡ 1 }
+    requires there { 1 + length code.now + length stubs.now ≤ length starts.now }
+    requires small { length starts.now < 2 ^ 32 }
+    requires aligned { All (λ start. start % 4 ≡ 0) starts.now }
+    ensures { IfOk result (λ o. o ≡ lowest_far (slice_index starts.now) 0 (listed first.now ++ (listed code.now ++ listed stubs.now))) }
+{
+    let found = lowest_of(alloc, None, first, 0, starts)?;
+    let found = lowest_of(alloc, found, code, 1, starts)?;
+    lowest_of(alloc, found, stubs, 1 + code.len(), starts)
+}
+
+/// Which part is blamed, where one has a jump out of reach.
+#[tactic(auto, using(crate::proofs::FlatLemmas::Flats::none_lowest))]
+fn blamed(
+    alloc: Global,
+    first: &[Sequence<Piece>],
+    code: &[Sequence<Piece>],
+    stubs: &[Sequence<Piece>],
+    starts: &[u32],
+) -> FlatFail
+    requires fit { AreFit starts.now (listed first.now) (listed code.now) (listed stubs.now) }
+    requires one { length first.now ≡ 1 }
+    requires there { 1 + length code.now + length stubs.now ≤ length starts.now }
+    requires small { length starts.now < 2 ^ 32 }
+    requires aligned { All (λ start. start % 4 ≡ 0) starts.now }
+    requires some { IsSome (far_part (slice_index starts.now) 0 (listed first.now ++ (listed code.now ++ listed stubs.now))) }
+    ensures { Blames (lowest_far (slice_index starts.now) 0 (listed first.now ++ (listed code.now ++ listed stubs.now))) result }
+{
+    match lowest_of_all(alloc, first, code, stubs, starts) {
+        Ok(Some(part)) => FlatFail::Far(part),
+        Ok(None) => unreachable!(),
+        Err(_) => FlatFail::OutOfMemory,
+    }
+}
+
 /// The words of a task's start, functions and stubs, which are its first parts; part n starts at the n-th of the addresses.
 ///
-/// `Far` comes exactly where a jump is out of reach, with the first such part.
+/// `Far` comes exactly where a jump is out of reach, with the part that starts lowest, of those that have one.
+#[tactic(auto, using(crate::proofs::FlatLemmas::Flats::lowest_none))]
 pub fn flatten_parts(
     alloc: Global,
     job: FnId,
@@ -145,8 +259,12 @@ pub fn flatten_parts(
     requires small { length starts.now < 2 ^ 32 }
     requires aligned { All (λ start. start % 4 ≡ 0) starts.now }
     ensures words { IfOk result (λ blocks. map block_of blocks.items ≡ words_from (slice_index starts.now) 0 (code_parts job (listed code.now) (listed stubs.now))) }
-    ensures far { MatchResult result (λ _. far_part (slice_index starts.now) 0 (code_parts job (listed code.now) (listed stubs.now)) ≡ None) (Blames (far_part (slice_index starts.now) 0 (code_parts job (listed code.now) (listed stubs.now)))) }
+    ensures far { MatchResult result (λ _. lowest_far (slice_index starts.now) 0 (code_parts job (listed code.now) (listed stubs.now)) ≡ None) (Blames (lowest_far (slice_index starts.now) 0 (code_parts job (listed code.now) (listed stubs.now)))) }
 {
     let first = start(alloc, job)?;
-    put_all(alloc, first.items(), code, stubs, starts)
+    match put_all(alloc, first.items(), code, stubs, starts) {
+        Ok(blocks) => Ok(blocks),
+        Err(FlatFail::Far(_)) => Err(blamed(alloc, first.items(), code, stubs, starts)),
+        Err(FlatFail::OutOfMemory) => Err(FlatFail::OutOfMemory),
+    }
 }

@@ -1,9 +1,9 @@
 // Laws over the definitions; each is the contract of a function that does nothing.
-ghost use Rattle.prem_place.specs.Flat.Blocks.{ReachIsFirst, BlocksHaveWords};
+ghost use Rattle.prem_place.specs.Flat.Blocks.{ReachIsLowest, BlocksHaveWords};
 
-/// Where parts rise, the rule on jumps is broken by the first part, by its number, that has a jump out of reach.
-pub fn reach_is_first()
-    ensures { ReachIsFirst }
+/// Where a task's parts lie beside each other, the rule on jumps is broken by the one that starts lowest, of those that have a jump out of reach.
+pub fn reach_is_lowest()
+    ensures { ReachIsLowest }
 {}
 
 /// The blocks of a placed task have the words of its parts.

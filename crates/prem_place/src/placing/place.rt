@@ -3,15 +3,15 @@ ghost use Rattle.std.specs.Prelude.{◌≡◌, ◌≤◌, ◌<◌, IfOk, map, dr
 ghost use Rattle.std.specs.List.{AllByRecursion};
 ghost use Rattle.prem_list.specs.Sequence.{items_of};
 ghost use Rattle.prem_plant.specs.Ranges.{IsPlant};
-ghost use Rattle.prem_split.specs.PlanOf.{plan_of};
-ghost use Rattle.prem_foot.specs.PlacesOf.{IsPlanAt};
-ghost use Rattle.prem_bounds.specs.TableOf.{listed};
 ghost use Rattle.prem_layout.specs.Parts.{stub_passes, part_count};
 ghost use Rattle.prem_layout.specs.Stubs.{stub_of};
 ghost use Rattle.prem_layout.specs.Placed.{placed_at, placed_from, task_places};
+ghost use Rattle.prem_split.specs.PlanOf.{plan_of};
+ghost use Rattle.prem_foot.specs.PlacesOf.{IsPlanAt};
+ghost use Rattle.prem_bounds.specs.TableOf.{listed};
 ghost use Rattle.prem_place.specs.Placed.PlacedOf.{IsPlacedTask, placed_of};
-ghost use Rattle.prem_place.specs.Placing.CodedOf.{coded_in, IsCodedTask, AreDefault};
-ghost use Rattle.prem_place.specs.Placing.Standing.{TaskRises, stands_in};
+ghost use Rattle.prem_place.specs.Placing.CodedOf.{coded_in, IsCodedTask, AreAtPlaces};
+ghost use Rattle.prem_place.specs.Placing.Standing.{TaskLies, stands_in};
 
 use crate::placed::PlacedTask;
 use crate::placing::coded::CodedTask;
@@ -52,7 +52,7 @@ pub fn place_task<'a, 'p>(
     p: &Plant,
 ) -> Result<PlacedTask<'a, 'p>, AllocError>
     requires task { IsCodedTask task }
-    requires rises { TaskRises p.now (coded_in task) (drop first l.now) }
+    requires lies { TaskLies p.now (coded_in task) (drop first l.now) }
     requires first { first ≤ 100000 }
     requires plant { IsPlant p.now }
     ensures same { IfOk result (λ t. placed_of t ≡ placed_at p.now (coded_in task.entry) (task_places (coded_in task.entry).program (drop first l.now))) }
@@ -88,8 +88,8 @@ pub fn part_count(t: &PlacedTask) -> usize
     2 + program.routines.items().len() + t.plans.items().len() + program.globals.len()
 }
 
-/// All tasks with their parts at their places, which are the default places of the parts of tasks and devices. It fails only
-/// for want of memory.
+/// All tasks with their parts at their places, which are places of the parts of tasks and devices. It fails only for want of
+/// memory.
 pub fn place_all<'a, 'p>(
     alloc: Global,
     tasks: Vec<CodedTask<'a, 'p>>,
@@ -98,7 +98,7 @@ pub fn place_all<'a, 'p>(
 ) -> Result<Vec<PlacedTask<'a, 'p>>, AllocError>
     requires tasks { AllByRecursion IsCodedTask tasks.items }
     requires count { length tasks.items ≤ 16 }
-    requires places { AreDefault p.now (map coded_in tasks.items) l.now }
+    requires places { AreAtPlaces p.now (map coded_in tasks.items) l.now }
     requires plant { IsPlant p.now }
     ensures same { IfOk result (λ all. map placed_of all.items ≡ placed_from p.now l.now (map coded_in tasks.entry.items)) }
     ensures placed { IfOk result (λ all. AllByRecursion (IsPlacedTask p.now) all.items) }

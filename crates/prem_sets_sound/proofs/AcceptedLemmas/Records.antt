@@ -1,10 +1,9 @@
 -- The records of an image at lawful places keep the rules of images.
-use Rattle.std.proofs.Common.{◌≡◌, ℕ, suc, ◌+◌, ◌%◌, ◌<◌, ◌≤◌, refl, ap, sym, ◌∙◌, subst, arith, List, [], ◌∷◌, ◌++◌, length, map, drop, Some, slice_get}
 use Rattle.std.specs.Prelude.{All}
 use Rattle.std.specs.List.{AllByRecursion}
+use Rattle.std.proofs.Common.{◌≡◌, ℕ, suc, ◌+◌, ◌%◌, ◌<◌, ◌≤◌, refl, ap, sym, ◌∙◌, subst, arith, List, [], ◌∷◌, ◌++◌, length, map, drop, Some, slice_get}
 use Rattle.std.proofs.lemmas.List.{length-map}
 use Rattle.std.proofs.lemmas.List.Elements.{All-from_recursion, recursion_from_All}
-use Rattle.prem_asm.specs.Pieces.{size_of}
 use Rattle.prem_plant.specs.declared.plant.Plant.{Plant}
 use Rattle.prem_plant.specs.declared.plant.Device.{Device}
 use Rattle.prem_plant.specs.declared.layout.PartKind.TheVariants.{Start, Stack}
@@ -13,6 +12,7 @@ use Rattle.prem_plant.specs.Label.{AreDistinct}
 use Rattle.prem_plant.specs.Places.{Extent, AreApart}
 use Rattle.prem_plant.specs.Ranges.{Between, IsDevice}
 use Rattle.prem_image.specs.Records.{IsTask, IsPlaced, IsImage, task_names}
+use Rattle.prem_asm.specs.Pieces.{size_of}
 use Rattle.prem_template.specs.Frames.{stack_size}
 use Rattle.prem_layout.specs.Plans.{plans_of}
 use Rattle.prem_layout.specs.Parts.{stub_passes, part, start_size, code_parts, stub_parts, global_parts, parts_from, area_parts, part_count}
@@ -20,15 +20,15 @@ use Rattle.prem_layout.specs.Footprint.{place_at, stack_place}
 use Rattle.prem_layout.specs.Placed.{Coded, Placed, sized_of, part_total, task_places, placed_at, placed_from}
 use Rattle.prem_layout.specs.Image.{task_record, device_records}
 use Rattle.prem_layout.proofs.TaskParts.{code_counted, globals_counted}
+use Rattle.prem_layout.proofs.Areas.{areas_stand, each_placed, areas_same, areas_named, records_long, rest_apart}
 use Rattle.prem_stub_laws.specs.Own.Owned.{HasCode}
-use Rattle.prem_stub_laws.proofs.OwnLemmas.Owned.{parts_long}
 use Rattle.prem_stub_laws.specs.Initial.Initial.{content_of, AreLaid}
+use Rattle.prem_stub_laws.proofs.OwnLemmas.Owned.{parts_long}
 use Rattle.prem_stub_laws.proofs.InitialLemmas.Places.{IsSized, Sized, sized_right}
 use Rattle.prem_stub_laws.proofs.InitialLemmas.Tasks.{TaskAt, task_at, parts_have_addresses}
 use Rattle.prem_stub_laws.proofs.InitialLemmas.Whole.{content_fits}
-use Rattle.prem_sets_sound.specs.Accepted.Accepted.{HasCodedValues, IsLaidOut}
 use Rattle.prem_task_laws.proofs.TaskGroundLemmas.Depths.{stack_size_whole}
-use Rattle.prem_layout.proofs.Areas.{areas_stand, each_placed, areas_same, areas_named, records_long, rest_apart}
+use Rattle.prem_sets_sound.specs.Accepted.Accepted.{HasCodedValues, IsLaidOut}
 
 -- ---- where a task starts, and its stack
 

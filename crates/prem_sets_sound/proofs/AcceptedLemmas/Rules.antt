@@ -1,18 +1,18 @@
 -- The rules that each placed task of a set keeps that breaks none.
-use Rattle.std.proofs.Common.{◌≡◌, ℕ, zero, suc, ◌+◌, refl, ap, sym, subst, List, [], ◌∷◌, drop, Option, None, Some, Ok, slice_get}
 use Rattle.std.specs.List.{AllByRecursion}
 use Rattle.std.specs.Option.{option_map}
+use Rattle.std.proofs.Common.{◌≡◌, ℕ, zero, suc, ◌+◌, refl, ap, sym, subst, List, [], ◌∷◌, drop, Option, None, Some, Ok, slice_get}
 use Rattle.prem_plant.specs.declared.plant.Target.{Target}
 use Rattle.prem_plant.specs.declared.plant.Plant.{Plant}
 use Rattle.prem_plant.specs.Places.{Extent}
 use Rattle.prem_syntax.specs.Syntax.{ProgramText}
+use Rattle.prem_meaning.specs.GroupTwo as meaning
 use Rattle.prem_text.specs.Texts.{reads}
+use Rattle.prem_ranges.specs.GroupThree as ranges
 use Rattle.prem_layout.specs.Parts.{part_count}
 use Rattle.prem_layout.specs.Placed.{Coded, Placed, task_places, placed_at, placed_from}
 use Rattle.prem_layout.specs.Rules.{or_else, refused_by, first_among, over_tasks, group_four, group_five, group_six, group_seven, group_eight, group_nine, group_ten}
 use Rattle.prem_layout.specs.Broken.{broken_when_placed, broken_at_places, broken_late}
-use Rattle.prem_meaning.specs.GroupTwo as meaning
-use Rattle.prem_ranges.specs.GroupThree as ranges
 use Rattle.prem_tasks.specs.Broken.{TaskText, group_one, program_before, programs_of, group_two, group_three, bounded, coded_one, coded_of, late_refusal, broken_programs}
 use Rattle.prem_tasks.specs.Compiled.{coded_in, places_in, placed_in}
 use Rattle.prem_sets_sound.specs.Accepted.Accepted.{AcceptedTasksKeepRules}

@@ -1,16 +1,16 @@
 -- A set of two tasks and a device, computed: it breaks no rule, so all but the runs of its tasks is there. The first task has a marked function, and takes an input in each of its jobs.
-use Rattle.std.proofs.Common.{◌≡◌, ℕ, zero, suc, ap, List, [], ◌∷◌, refl, None, arith, length}
 use Rattle.std.specs.Prelude.{codes}
 use Rattle.std.specs.List.{AllByRecursion}
+use Rattle.std.proofs.Common.{◌≡◌, ℕ, zero, suc, ap, List, [], ◌∷◌, refl, None, arith, length}
 use Rattle.std.proofs.lemmas.List.Elements.{All-from_recursion}
 use Rattle.prem_plant.specs.declared.plant.Device.{Device}
 use Rattle.prem_plant.specs.Label.{IsName, AreDistinct}
 use Rattle.prem_plant.specs.Ranges.{IsDevice, default_plant}
 use Rattle.prem_plant.proofs.Powers.{default_is_plant}
+use Rattle.prem_meaning.specs.GroupTwo.{group_two}
 use Rattle.prem_lexer.specs.Tokens.{tokens_of, lex, step, start, first_token}
 use Rattle.prem_lexer.specs.Spelling.{reserved_word, used_word, is_unused, longest_mark}
 use Rattle.prem_lexer.specs.Literal.{literal_word}
-use Rattle.prem_meaning.specs.GroupTwo.{group_two}
 use Rattle.prem_ranges.specs.GroupThree.{group_three, turn_bounds}
 use Rattle.prem_tasks.specs.Broken.{TaskText, TaskSet, broken}
 use Rattle.prem_tasks.specs.Compiled.{coded_in, places_in, placed_in}
@@ -41,7 +41,7 @@ first_name = record { some = omega arith; short = omega arith; each = refl }
 second_name : IsName (codes "second")
 second_name = record { some = omega arith; short = omega arith; each = refl }
 
-pub net_name : IsName (codes "net")
+net_name : IsName (codes "net")
 net_name = record { some = omega arith; short = omega arith; each = refl }
 
 pub net_is : IsDevice net
@@ -75,7 +75,7 @@ sample_values = record {
   names = two_names;
 }
 
-pub sample_is_laid_out : IsLaidOut default_plant (net ∷ []) (coded_in sample) (places_in sample)
+sample_is_laid_out : IsLaidOut default_plant (net ∷ []) (coded_in sample) (places_in sample)
 sample_is_laid_out = accepted_sets_are_laid_out sample (places_in sample) sample_values sample_breaks_nothing (default_places_are_lawful sample sample_values sample_breaks_nothing)
 
 -- ---- what its jobs take

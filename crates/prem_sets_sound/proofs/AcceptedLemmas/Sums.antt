@@ -1,6 +1,6 @@
 -- Sums over the tasks of an image, by their numbers and by their list.
-use Rattle.std.proofs.Common.{◌≡◌, ℕ, zero, suc, ◌+◌, ◌-◌, ◌*◌, ◌<◌, ◌≤◌, nat_lt, Bool, true, false, refl, ap, ◌∙◌, arith, List, [], ◌∷◌, length, map, drop, None, Some}
 use Rattle.std.specs.Prelude.{max, slice_index_or, if◌then◌else◌}
+use Rattle.std.proofs.Common.{◌≡◌, ℕ, zero, suc, ◌+◌, ◌-◌, ◌*◌, ◌<◌, ◌≤◌, nat_lt, Bool, true, false, refl, ap, ◌∙◌, arith, List, [], ◌∷◌, length, map, drop, None, Some}
 use Rattle.prem_plant.specs.declared.plant.Plant.{Plant}
 use Rattle.prem_plant.specs.Places.{Extent}
 use Rattle.prem_cycle.specs.State.{no_record}
@@ -14,8 +14,8 @@ use Rattle.prem_layout.specs.Parts.{part_count}
 use Rattle.prem_layout.specs.Placed.{Coded, Placed, task_places, placed_at, placed_from}
 use Rattle.prem_layout.specs.Rules.{Outputs, Intervals, total_of, group_ten, log_room}
 use Rattle.prem_stub_laws.specs.Join.Joined.{JobLimits}
-use Rattle.prem_sets_sound.specs.Accepted.Accepted.{limits_at}
 use Rattle.prem_task_laws.specs.TaskFrame.Limits.{task_limits}
+use Rattle.prem_sets_sound.specs.Accepted.Accepted.{limits_at}
 use Rattle.prem_sets_sound.proofs.AcceptedLemmas.Follow.{not_above}
 
 -- the first summand in front
@@ -50,8 +50,8 @@ released p (t ∷ ts) = ap (λ n. max ((t.task.jobs - 1) * t.task.period) n) (re
 -- ---- the three sums
 
 record Within (outputs intervals : ℕ) : Type 0 where
-  outputs_fit : outputs ≤ log_room
-  intervals_fit : intervals ≤ log_room
+  pub outputs_fit : outputs ≤ log_room
+  pub intervals_fit : intervals ≤ log_room
 
 within : (outputs intervals : ℕ) → (if nat_lt log_room outputs then Some Outputs else if nat_lt log_room intervals then Some Intervals else None) ≡ None → Within outputs intervals
 within outputs intervals h = by (nat_lt log_room outputs) (nat_lt log_room intervals) refl refl h where

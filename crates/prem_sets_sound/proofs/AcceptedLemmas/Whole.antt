@@ -1,6 +1,6 @@
 -- The laws.
-use Rattle.std.proofs.Common.{◌≡◌, refl, ap, sym, subst, arith, List, [], ◌∷◌, map}
 use Rattle.std.specs.List.{AllByRecursion}
+use Rattle.std.proofs.Common.{◌≡◌, refl, ap, sym, subst, arith, List, [], ◌∷◌, map}
 use Rattle.std.proofs.lemmas.List.{length-map}
 use Rattle.std.proofs.lemmas.List.Elements.{All-from_recursion, recursion_from_All}
 use Rattle.prem_list.specs.Sequence.{items_of}
@@ -9,6 +9,7 @@ use Rattle.prem_plant.specs.Ranges.{Between}
 use Rattle.prem_plant.proofs.Placing.{areas_apart}
 use Rattle.prem_layout.specs.Parts.{stub_passes}
 use Rattle.prem_layout.specs.Placed.{sized_of, placed_from}
+use Rattle.prem_layout.proofs.Lawful.{parts_may_be_placed}
 use Rattle.prem_tasks.specs.Broken.{TaskText}
 use Rattle.prem_tasks.specs.Compiled.{coded_in, parts_in, places_in}
 use Rattle.prem_tasks.specs.Lawful.{IsTaskText, task_names}
@@ -21,7 +22,6 @@ use Rattle.prem_stub_laws.proofs.JoinLemmas.Joined.{joined_images_are_sound}
 use Rattle.prem_sets_sound.specs.Accepted.Accepted.{HasTextValues, HasCodedValues, LawfulSetsHaveValues, LaidOutImagesJoin, AcceptedSetsAreLaidOut, DefaultPlacesAreLawful, AcceptedSetsJoin, AcceptedSetsAreSound}
 use Rattle.prem_sets_sound.proofs.AcceptedLemmas.Records.{are_laid, records_lawful}
 use Rattle.prem_sets_sound.proofs.AcceptedLemmas.Sums.{outputs_fit, intervals_fit, ends_by}
-use Rattle.prem_layout.proofs.Lawful.{parts_may_be_placed}
 use Rattle.prem_sets_sound.proofs.AcceptedLemmas.Follow.{follow_long, follow_named, follow_values, keeps}
 
 -- ---- at any lawful places

@@ -1,10 +1,12 @@
 -- Each placed task that keeps the rules joins.
-use Rattle.std.proofs.Common.{◌≡◌, ℕ, zero, suc, ◌+◌, ◌%◌, ◌^◌, ◌<◌, ◌≤◌, refl, ap, ◌∙◌, sym, subst, arith, true, List, [], ◌∷◌, length, map, None, Some, Option, slice_get, max}
 use Rattle.std.specs.Prelude.{All, slice_index, slice_index_or, unwrap_or, option_map}
+use Rattle.std.proofs.Common.{◌≡◌, ℕ, zero, suc, ◌+◌, ◌%◌, ◌^◌, ◌<◌, ◌≤◌, refl, ap, ◌∙◌, sym, subst, arith, true, List, [], ◌∷◌, length, map, None, Some, Option, slice_get, max}
 use Rattle.prem_plant.specs.declared.plant.Plant.{Plant}
 use Rattle.prem_plant.specs.declared.plant.Device.{Device}
 use Rattle.prem_plant.specs.Places.{Extent}
 use Rattle.prem_isa.specs.Plain.{TaskRun}
+use Rattle.prem_cycle.specs.Alone.{run_in}
+use Rattle.prem_sound.specs.Script.Scripts.{Reading}
 use Rattle.prem_syntax.specs.Syntax.{ProgramText, MarkText}
 use Rattle.prem_meaning.specs.Resolved.{Routine, Resolved}
 use Rattle.prem_meaning.specs.Source.{initial_words}
@@ -20,43 +22,41 @@ use Rattle.prem_layout.specs.Plans.{Plan, plan_before, plans_from}
 use Rattle.prem_layout.specs.Bounds.{start_code, job_bound_of}
 use Rattle.prem_layout.specs.Footprint.{place_at, global_range}
 use Rattle.prem_layout.specs.Placed.{Coded, Placed}
+use Rattle.prem_layout.specs.Stretch.Paths.{stretch_of, greatest_stated}
 use Rattle.prem_code_laws.specs.ExprLaws.Relation.{GlobalsStand}
 use Rattle.prem_code_laws.specs.GenLaws.Table.{IsStub}
 use Rattle.prem_code_laws.specs.GenLaws.Whole.{StartStands}
-use Rattle.prem_cycle.specs.Alone.{run_in}
-use Rattle.prem_sound.specs.Script.Scripts.{Reading}
 use Rattle.prem_weave.specs.Promise.Promised.{read_globals, stated_at}
 use Rattle.prem_stub_laws.specs.Own.Owned.{own_of, setup_of}
 use Rattle.prem_stub_laws.specs.OwnSteps.OwnSteps.{AreOwnAt}
-use Rattle.prem_stub_laws.proofs.OwnStepsLemmas.Takes.{functions_take}
 use Rattle.prem_stub_laws.specs.Initial.Initial.{content_of}
 use Rattle.prem_stub_laws.specs.Initial.Standing.{setting_of, globals_in}
-use Rattle.prem_stub_laws.proofs.InitialLemmas.Values.{globals_stand_first}
-use Rattle.prem_stub_laws.proofs.InitialLemmas.Whole.{content_fits}
 use Rattle.prem_stub_laws.specs.StubFits.Within.{codes_in}
 use Rattle.prem_stub_laws.specs.JobWeave.Calm.{CalmStands}
 use Rattle.prem_stub_laws.specs.JobWeave.Confined.{Confinement, ConfinedStands}
-use Rattle.prem_stub_laws.proofs.JobWeaveLemmas.Calm.{functions_are_calm}
 use Rattle.prem_stub_laws.specs.Dues.Dues.{PlacedStands, weight_in}
-use Rattle.prem_stub_laws.proofs.DuesLemmas.Table.{placed_jobs_are_bounded}
-use Rattle.prem_layout.specs.Stretch.Paths.{stretch_of, greatest_stated}
 use Rattle.prem_stub_laws.specs.Strides.Strided.{ReturnsLast, sums_in}
+use Rattle.prem_stub_laws.specs.Join.Joined.{TaskJoins}
+use Rattle.prem_stub_laws.proofs.OwnStepsLemmas.Takes.{functions_take}
+use Rattle.prem_stub_laws.proofs.InitialLemmas.Values.{globals_stand_first}
+use Rattle.prem_stub_laws.proofs.InitialLemmas.Whole.{content_fits}
+use Rattle.prem_stub_laws.proofs.JobWeaveLemmas.Calm.{functions_are_calm}
+use Rattle.prem_stub_laws.proofs.DuesLemmas.Table.{placed_jobs_are_bounded}
 use Rattle.prem_stub_laws.proofs.StridesLemmas.Last.{functions_return_last}
 use Rattle.prem_stub_laws.proofs.StridesLemmas.Table.{placed_jobs_are_strided}
 use Rattle.prem_task_laws.specs.TaskFrame.Kept.{KeepsTaskRules}
 use Rattle.prem_task_laws.specs.TaskFrame.Limits.{task_limits}
 use Rattle.prem_task_laws.specs.TaskFrame.Frames.{task_guard}
 use Rattle.prem_task_laws.specs.TaskFrame.Callees.{plain_callable}
+use Rattle.prem_task_laws.specs.TaskBytes.Parts.{IsPlacedTask, HasParts}
+use Rattle.prem_task_laws.specs.TaskBytes.Start.{RunStands}
 use Rattle.prem_task_laws.proofs.TaskGroundLemmas.Stands.{jobs_stand}
 use Rattle.prem_task_laws.proofs.TaskGroundLemmas.Elements.{globals_are_placed, globals_are_own, places_are_own}
 use Rattle.prem_task_laws.proofs.ProgramFitsLemmas.Functions.{plain_tasks_fit}
 use Rattle.prem_task_laws.proofs.ProgramFitsLemmas.Stubs.{job_stubs_fit}
-use Rattle.prem_task_laws.specs.TaskBytes.Parts.{IsPlacedTask, HasParts}
-use Rattle.prem_task_laws.specs.TaskBytes.Start.{RunStands}
 use Rattle.prem_task_laws.proofs.TaskBytesLemmas.Parts.{parts_of_task, at_parts, laid, plans_are}
 use Rattle.prem_task_laws.proofs.TaskBytesLemmas.Guards.{task_guard_is_own, task_code_is_own}
 use Rattle.prem_task_laws.proofs.TaskBytesLemmas.Start.{run_starts}
-use Rattle.prem_stub_laws.specs.Join.Joined.{TaskJoins}
 use Rattle.prem_sets_sound.specs.Each.Called.{confinement_of, plan_at, confinement_in}
 use Rattle.prem_sets_sound.specs.Each.Joins.{promise_for, TasksJoin, TaskPaces, task_longest, TasksPace}
 use Rattle.prem_sets_sound.proofs.EachLemmas.Means.{StubMeans, JobStands}

@@ -1,6 +1,6 @@
 -- What stands of a placed task that keeps the rules: its code, its stubs, and what these call.
-use Rattle.std.proofs.Common.{◌≡◌, ℕ, zero, suc, ◌+◌, ◌^◌, ◌<◌, ◌≤◌, refl, ap, ◌∙◌, sym, subst, arith, cond, true, false, Bool, List, [], ◌∷◌, ◌++◌, length, Option, None, Some, slice_get}
 use Rattle.std.specs.Prelude.{option_map, is_some}
+use Rattle.std.proofs.Common.{◌≡◌, ℕ, zero, suc, ◌+◌, ◌^◌, ◌<◌, ◌≤◌, refl, ap, ◌∙◌, sym, subst, arith, cond, true, false, Bool, List, [], ◌∷◌, ◌++◌, length, Option, None, Some, slice_get}
 use Rattle.std.proofs.lemmas.Option.{slice_get-map}
 use Rattle.prem_plant.specs.declared.plant.Plant.{Plant}
 use Rattle.prem_plant.specs.declared.plant.Device.{Device}
@@ -27,8 +27,8 @@ use Rattle.prem_task_laws.specs.TaskFrame.Frames.{task_guard}
 use Rattle.prem_task_laws.specs.TaskFrame.Callees.{HasCodes}
 use Rattle.prem_task_laws.specs.TaskFrame.Plans.{IsLegalPlan}
 use Rattle.prem_task_laws.specs.ProgramFits.Fits.{KeepsProgramRules}
-use Rattle.prem_task_laws.proofs.LegalPlansLemmas.Legal.{plans_are_legal}
 use Rattle.prem_task_laws.specs.TaskBytes.Parts.{IsPlacedTask, HasParts}
+use Rattle.prem_task_laws.proofs.LegalPlansLemmas.Legal.{plans_are_legal}
 use Rattle.prem_task_laws.proofs.TaskBytesLemmas.Parts.{parts_of_task, at_parts, plans_are, table_code_is, stubs_are}
 
 -- ---- lists

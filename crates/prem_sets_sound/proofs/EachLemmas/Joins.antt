@@ -1,11 +1,15 @@
 -- The run of a task that stands in memory goes along a weave, and gives what its source means.
-use Rattle.std.proofs.Common.{◌≡◌, ℕ, zero, suc, ◌+◌, ◌*◌, ◌%◌, ◌^◌, ◌<◌, ◌≤◌, refl, ap, ◌∙◌, sym, subst, arith, true, Bool, List, [], ◌∷◌, length, map, Ok, get_or}
 use Rattle.std.specs.Prelude.{All, unwrap_or, option_map}
+use Rattle.std.proofs.Common.{◌≡◌, ℕ, zero, suc, ◌+◌, ◌*◌, ◌%◌, ◌^◌, ◌<◌, ◌≤◌, refl, ap, ◌∙◌, sym, subst, arith, true, Bool, List, [], ◌∷◌, length, map, Ok, get_or}
 use Rattle.std.proofs.lemmas.List.{length-map}
 use Rattle.prem_plant.specs.declared.plant.Plant.{Plant}
 use Rattle.prem_isa.specs.declared.effect.Phase.TheVariants.{Compatible}
 use Rattle.prem_isa.specs.Act.{first_registers}
 use Rattle.prem_isa.specs.Plain.{TaskRun, TaskState, PlainState, TaskFits as StateTaskFits, Did, plain_start}
+use Rattle.prem_cycle.specs.State.{Setup}
+use Rattle.prem_runs.specs.Position.Own.{AllOwn}
+use Rattle.prem_sound.specs.Script.Conforms.{IsOwnDid}
+use Rattle.prem_sound.specs.Script.Scripts.{Reading, Mark}
 use Rattle.prem_syntax.specs.Syntax.{ProgramText, MarkText, FunctionText}
 use Rattle.prem_meaning.specs.Resolved.{Routine, Resolved}
 use Rattle.prem_meaning.specs.Resolve.{resolve}
@@ -22,28 +26,24 @@ use Rattle.prem_asm.specs.OwnRun.{in_job}
 use Rattle.prem_template.specs.Parts.{parts_of}
 use Rattle.prem_layout.specs.Counts.{outputs_of, marked_calls_of}
 use Rattle.prem_layout.specs.Placed.{Placed}
+use Rattle.prem_layout.specs.Stretch.Sums.{Sums, greatest}
 use Rattle.prem_code_laws.specs.ExprLaws.Relation.{GlobalsStand}
 use Rattle.prem_code_laws.specs.ExprLaws.Registers.{AreWords}
-use Rattle.prem_code_laws.proofs.ExprLawsLemmas.Puts.{reg_words}
 use Rattle.prem_code_laws.specs.GenLaws.Jobs.{Between}
 use Rattle.prem_code_laws.specs.GenLaws.Table.{TaskFits, StubsFit}
 use Rattle.prem_code_laws.specs.GenLaws.Whole.{StartStands, JobMeans, JobsDone}
 use Rattle.prem_code_laws.specs.GenLaws.Marks.{Noted}
+use Rattle.prem_code_laws.proofs.ExprLawsLemmas.Puts.{reg_words}
 use Rattle.prem_code_laws.proofs.GenLawsLemmas.Whole.{jobs_run}
-use Rattle.prem_cycle.specs.State.{Setup}
-use Rattle.prem_runs.specs.Position.Own.{AllOwn}
-use Rattle.prem_sound.specs.Script.Conforms.{IsOwnDid}
-use Rattle.prem_sound.specs.Script.Scripts.{Reading, Mark}
 use Rattle.prem_weave.specs.Weave.{Weave, ends, goes, calls, joined, dids_of, calls_of, marks_of, IsWeave}
-use Rattle.prem_layout.specs.Stretch.Sums.{Sums, greatest}
 use Rattle.prem_weave.specs.Pace.Pace.{PacedFrom, AreStated}
-use Rattle.prem_weave.proofs.Woven.{marks_counted}
-use Rattle.prem_weave.proofs.Charges.{weaves_are_charged}
 use Rattle.prem_weave.specs.Promise.Promised.{read_globals, stated_at, mark_of, promise_of, promise_in, TheseStand, TheseAreOwn}
-use Rattle.prem_weave.proofs.PromiseLemmas.Reading.{globals_are_read, readings_are_own, meanings_promise}
-use Rattle.prem_weave.proofs.SegmentLemmas.Sections.{all_of}
 use Rattle.prem_weave.specs.Told.Shape.{HasShape}
 use Rattle.prem_weave.specs.Told.Told.{HaveLength}
+use Rattle.prem_weave.proofs.Woven.{marks_counted}
+use Rattle.prem_weave.proofs.Charges.{weaves_are_charged}
+use Rattle.prem_weave.proofs.PromiseLemmas.Reading.{globals_are_read, readings_are_own, meanings_promise}
+use Rattle.prem_weave.proofs.SegmentLemmas.Sections.{all_of}
 use Rattle.prem_weave.proofs.ToldLemmas.Shape.{jobs_keep_shape}
 use Rattle.prem_weave.proofs.ToldLemmas.Told.{marks_are_told, marks_are_read}
 use Rattle.prem_stub_laws.specs.Join.Joined.{JobLimits, TaskJoins}

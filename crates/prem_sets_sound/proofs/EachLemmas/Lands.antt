@@ -1,26 +1,26 @@
 -- The calls of a task go where the run of the task goes, and along a weave.
 use Rattle.std.proofs.Common.{◌≡◌, ℕ, zero, suc, ◌+◌, ◌<◌, ◌≤◌, refl, sym, subst, arith, eqb, true, false, Bool, length}
 use Rattle.std.proofs.lemmas.Bool.{eqb-true}
+use Rattle.prem_plant.specs.declared.plant.Plant.{Plant}
 use Rattle.prem_isa.specs.Plain.{TaskRun, TaskState}
+use Rattle.prem_cycle.specs.State.{Setup}
+use Rattle.prem_sound.specs.Script.Scripts.{Reading}
 use Rattle.prem_asm.specs.Pieces.{size_of}
 use Rattle.prem_asm.specs.Runs.{Guard, Setting, Calls, Ending, Falls, Returns, Stuck, run}
 use Rattle.prem_asm.specs.OwnRun.{Agrees, Follows, Lands}
-use Rattle.prem_plant.specs.declared.plant.Plant.{Plant}
 use Rattle.prem_layout.specs.Placed.{Placed}
 use Rattle.prem_code_laws.specs.GenLaws.Table.{Codes, code_calls, IsStub}
 use Rattle.prem_code_laws.specs.GenLaws.Land.{IsRunning, AllLand}
 use Rattle.prem_code_laws.specs.GenLaws.Whole.{no_calls}
-use Rattle.prem_code_laws.proofs.GenLawsLemmas.Land.{part_lands, code_lands, one_lands}
 use Rattle.prem_code_laws.specs.PrefetchLaws.Premises.{stub_code}
 use Rattle.prem_code_laws.specs.PrefetchLaws.Confined.{with_guard}
-use Rattle.prem_cycle.specs.State.{Setup}
-use Rattle.prem_sound.specs.Script.Scripts.{Reading}
+use Rattle.prem_code_laws.proofs.GenLawsLemmas.Land.{part_lands, code_lands, one_lands}
 use Rattle.prem_stub_laws.specs.OwnSteps.OwnSteps.{OwnBytes}
 use Rattle.prem_stub_laws.specs.StubWeave.StubWeave.{StubAt, StubStands}
-use Rattle.prem_stub_laws.proofs.StubWeaveLemmas.Stubs.{follows, agrees_then}
 use Rattle.prem_stub_laws.specs.StubFits.Within.{codes_in}
 use Rattle.prem_stub_laws.specs.JobWeave.Calm.{AllLandWoven, CalmStands}
 use Rattle.prem_stub_laws.specs.JobWeave.Confined.{Confinement, with_confined, confined_calls, ConfinedStands}
+use Rattle.prem_stub_laws.proofs.StubWeaveLemmas.Stubs.{follows, agrees_then}
 use Rattle.prem_stub_laws.proofs.JobWeaveLemmas.Landing.{parts_land_woven, codes_land_woven, confined_land_woven}
 use Rattle.prem_sets_sound.specs.Each.Called.{confinement_in, task_calls, job_calls}
 

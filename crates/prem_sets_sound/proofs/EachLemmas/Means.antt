@@ -1,8 +1,9 @@
 -- A call of `job` does what the program means.
-use Rattle.std.proofs.Common.{◌≡◌, ℕ, zero, suc, ◌+◌, ◌<◌, ◌≤◌, ◌%◌, ◌^◌, refl, ap, ◌∙◌, sym, subst, arith, eqb, true, false, Bool, cond, List, [], ◌∷◌, length, Some, Ok, slice_get}
 use Rattle.std.specs.Prelude.{unwrap_or, option_map, is_some}
+use Rattle.std.proofs.Common.{◌≡◌, ℕ, zero, suc, ◌+◌, ◌<◌, ◌≤◌, ◌%◌, ◌^◌, refl, ap, ◌∙◌, sym, subst, arith, eqb, true, false, Bool, cond, List, [], ◌∷◌, length, Some, Ok, slice_get}
 use Rattle.std.proofs.lemmas.Bool.{eqb-true}
 use Rattle.prem_plant.specs.declared.plant.Plant.{Plant}
+use Rattle.prem_plant.specs.Places.{Extent}
 use Rattle.prem_isa.specs.declared.effect.Phase.{Phase}
 use Rattle.prem_isa.specs.declared.effect.Phase.TheVariants.{Compatible}
 use Rattle.prem_isa.specs.Plain.{TaskState}
@@ -25,12 +26,11 @@ use Rattle.prem_code_laws.specs.GenLaws.Laws.{CalleesAt}
 use Rattle.prem_code_laws.specs.GenLaws.Matches.{CallRunsAt, Back}
 use Rattle.prem_code_laws.specs.GenLaws.Table.{code_calls, TaskFits, StubsFit, with_part}
 use Rattle.prem_code_laws.specs.GenLaws.Whole.{JobMeans, no_calls}
-use Rattle.prem_code_laws.proofs.GenLawsLemmas.Table.{functions_run, marked_is_noted}
-use Rattle.prem_code_laws.proofs.GenLawsLemmas.JobCall.{job_is_called}
 use Rattle.prem_code_laws.specs.PrefetchLaws.Premises.{Lines, AllInMemory, stub_code}
 use Rattle.prem_code_laws.specs.PrefetchLaws.Confined.{with_guard, MarkedStands}
+use Rattle.prem_code_laws.proofs.GenLawsLemmas.Table.{functions_run, marked_is_noted}
+use Rattle.prem_code_laws.proofs.GenLawsLemmas.JobCall.{job_is_called}
 use Rattle.prem_code_laws.proofs.PrefetchLawsLemmas.Marked.{marked_confines}
-use Rattle.prem_plant.specs.Places.{Extent}
 use Rattle.prem_stub_laws.specs.Initial.Standing.{globals_in}
 use Rattle.prem_stub_laws.specs.StubFits.Within.{codes_in, reached_in, guard_of}
 use Rattle.prem_stub_laws.specs.Confined.Meaning.{stub_run}

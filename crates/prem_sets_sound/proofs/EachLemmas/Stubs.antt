@@ -1,14 +1,14 @@
 -- The stub of a marked function stands under its guard, and does what its function means.
-use Rattle.std.proofs.Common.{◌≡◌, ◌⊎◌, inl, inr, ℕ, zero, suc, ◌+◌, ◌^◌, ◌<◌, ◌≤◌, refl, ap, ◌∙◌, sym, subst, arith, cond, true, false, Bool, List, [], ◌∷◌, length, map, Option, None, Some, slice_get}
 use Rattle.std.specs.Prelude.{slice_index}
+use Rattle.std.proofs.Common.{◌≡◌, ◌⊎◌, inl, inr, ℕ, zero, suc, ◌+◌, ◌^◌, ◌<◌, ◌≤◌, refl, ap, ◌∙◌, sym, subst, arith, cond, true, false, Bool, List, [], ◌∷◌, length, map, Option, None, Some, slice_get}
 use Rattle.prem_plant.specs.declared.plant.Plant.{Plant}
 use Rattle.prem_plant.specs.declared.plant.Device.{Device}
 use Rattle.prem_plant.specs.Places.{Extent}
-use Rattle.prem_syntax.specs.Syntax.{ProgramText}
+use Rattle.prem_order.specs.Order.{is_in, HaveRoom}
 use Rattle.prem_isa.specs.Plain.{TaskRun}
+use Rattle.prem_syntax.specs.Syntax.{ProgramText}
 use Rattle.prem_meaning.specs.Resolved.{Routine}
 use Rattle.prem_ranges.specs.GroupThree.{limits_of}
-use Rattle.prem_order.specs.Order.{is_in, HaveRoom}
 use Rattle.prem_asm.specs.Pieces.{Pieces, no_pieces, size_of}
 use Rattle.prem_asm.specs.Quiet.{IsQuiet, EachPiece}
 use Rattle.prem_asm.specs.Runs.{Guard, Setting}
@@ -16,38 +16,38 @@ use Rattle.prem_template.specs.Parts.{parts_of, marked_before, stub_part}
 use Rattle.prem_template.specs.Steps.{function_code}
 use Rattle.prem_layout.specs.Plans.{Plan, plans_of}
 use Rattle.prem_layout.specs.Parts.{pass_count, stub_passes}
-use Rattle.prem_layout.proofs.StubLaws.{passes_are_few}
 use Rattle.prem_layout.specs.Footprint.{place_at, ranges_of, footprint_of, conflict_of}
 use Rattle.prem_layout.specs.Stubs.{stub_of}
 use Rattle.prem_layout.specs.Placed.{Coded, Placed, name_at}
 use Rattle.prem_layout.specs.Rules.{LateRule, or_else, of_conflict, conflict_in, first_conflict}
+use Rattle.prem_layout.proofs.StubLaws.{passes_are_few}
 use Rattle.prem_code_laws.specs.GenLaws.Land.{IsRunning, PartStands}
-use Rattle.prem_code_laws.proofs.GenLawsLemmas.Quiet.{quiet_function}
 use Rattle.prem_code_laws.specs.PrefetchLaws.Confined.{with_guard, MarkedStands}
+use Rattle.prem_code_laws.proofs.GenLawsLemmas.Quiet.{quiet_function}
 use Rattle.prem_weave.specs.Segment.Sections.{StubIsWithin}
-use Rattle.prem_stub_laws.proofs.CoverageLemmas.Room.{no_conflict_is_room}
 use Rattle.prem_stub_laws.specs.Own.Owned.{own_of, setup_of}
 use Rattle.prem_stub_laws.specs.OwnSteps.OwnSteps.{AreOwnAt, Takes, CodeIsOwn}
-use Rattle.prem_stub_laws.proofs.OwnStepsLemmas.Takes.{functions_take}
 use Rattle.prem_stub_laws.specs.Initial.Initial.{content_of}
 use Rattle.prem_stub_laws.specs.Initial.Standing.{setting_of, globals_in}
 use Rattle.prem_stub_laws.specs.StubWeave.StubWeave.{StubStands}
 use Rattle.prem_stub_laws.specs.StubFits.Costs.{IsOf}
 use Rattle.prem_stub_laws.specs.StubFits.Within.{pieces_or, codes_in, reached_in, guard_of}
+use Rattle.prem_stub_laws.specs.JobWeave.Confined.{ConfinedStands}
+use Rattle.prem_stub_laws.proofs.CoverageLemmas.Room.{no_conflict_is_room}
+use Rattle.prem_stub_laws.proofs.OwnStepsLemmas.Takes.{functions_take}
 use Rattle.prem_stub_laws.proofs.StubFitsLemmas.Costs.{stubs_fit_their_length}
 use Rattle.prem_stub_laws.proofs.StubFitsLemmas.Within.{stub_numbers_agree, stubs_are_within}
-use Rattle.prem_stub_laws.specs.JobWeave.Confined.{ConfinedStands}
 use Rattle.prem_task_laws.specs.TaskFrame.Kept.{KeepsTaskRules}
 use Rattle.prem_task_laws.specs.TaskFrame.Frames.{task_guard, job_frame, plan_frame}
 use Rattle.prem_task_laws.specs.TaskFrame.Callees.{callees_in, reach_callable, HasCodes}
 use Rattle.prem_task_laws.specs.TaskFrame.Plans.{IsLegalPlan}
 use Rattle.prem_task_laws.specs.TaskGround.Stands.{PlanStands}
-use Rattle.prem_task_laws.proofs.TaskGroundLemmas.Stands.{plans_stand}
-use Rattle.prem_task_laws.proofs.TaskGroundLemmas.Depths.{callees_are_before}
 use Rattle.prem_task_laws.specs.ProgramFits.Fits.{ReachFits}
-use Rattle.prem_task_laws.proofs.ProgramFitsLemmas.Reach.{reach_tasks_fit}
 use Rattle.prem_task_laws.specs.TaskBytes.Parts.{IsPlacedTask, HasParts}
 use Rattle.prem_task_laws.specs.TaskBytes.Plans.{HasGuard, HasRanges}
+use Rattle.prem_task_laws.proofs.TaskGroundLemmas.Stands.{plans_stand}
+use Rattle.prem_task_laws.proofs.TaskGroundLemmas.Depths.{callees_are_before}
+use Rattle.prem_task_laws.proofs.ProgramFitsLemmas.Reach.{reach_tasks_fit}
 use Rattle.prem_task_laws.proofs.TaskBytesLemmas.Parts.{parts_of_task, at_parts, laid, plans_are}
 use Rattle.prem_task_laws.proofs.TaskBytesLemmas.Guards.{task_code_is_own}
 use Rattle.prem_task_laws.proofs.TaskBytesLemmas.Plans.{plan_guards, plan_ranges}

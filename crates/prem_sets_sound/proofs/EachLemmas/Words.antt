@@ -1,12 +1,13 @@
 -- All code of a placed task that keeps the rules has words, which stand at their places.
-use Rattle.std.proofs.Common.{◌≡◌, ℕ, zero, suc, ◌+◌, ◌*◌, ◌%◌, ◌^◌, ◌<◌, ◌≤◌, refl, ap, ◌∙◌, sym, subst, arith, List, [], ◌∷◌, length, map, Some, slice_get, ⊎_elim}
 use Rattle.std.specs.Prelude.{All, slice_index, slice_index_or, take, option_map}
+use Rattle.std.proofs.Common.{◌≡◌, ℕ, zero, suc, ◌+◌, ◌*◌, ◌%◌, ◌^◌, ◌<◌, ◌≤◌, refl, ap, ◌∙◌, sym, subst, arith, List, [], ◌∷◌, length, map, Some, slice_get, ⊎_elim}
 use Rattle.std.proofs.lemmas.List.{length-map, length-take, get_or_past}
 use Rattle.std.proofs.lemmas.Bool.{cases_lt}
 use Rattle.std.proofs.lemmas.Option.{slice_get_within, slice_get-map, get_or_from_slice_get}
 use Rattle.prem_plant.specs.declared.plant.Plant.{Plant}
 use Rattle.prem_plant.specs.declared.plant.Device.{Device}
 use Rattle.prem_plant.specs.Places.{Extent}
+use Rattle.prem_cycle.specs.Alone.{run_in}
 use Rattle.prem_syntax.specs.Syntax.{ProgramText}
 use Rattle.prem_meaning.specs.Resolved.{Routine, Resolved}
 use Rattle.prem_ranges.specs.GroupThree.{limits_of}
@@ -21,22 +22,21 @@ use Rattle.prem_layout.specs.Footprint.{place_at, no_place, stack_place}
 use Rattle.prem_layout.specs.Stubs.{stub_of}
 use Rattle.prem_layout.specs.Bounds.{start_code}
 use Rattle.prem_layout.specs.Placed.{Coded, Placed}
-use Rattle.prem_fit_laws.specs.Whole.{HasAddresses, ProgramHasWords}
 use Rattle.prem_layout.proofs.StubLaws.{passes_are_few}
+use Rattle.prem_fit_laws.specs.Whole.{HasAddresses, ProgramHasWords}
 use Rattle.prem_fit_laws.proofs.Whole.{programs_have_words}
 use Rattle.prem_code_laws.specs.GenLaws.Land.{PartStands}
 use Rattle.prem_code_laws.specs.GenLaws.Whole.{StartStands}
 use Rattle.prem_code_laws.proofs.GenLawsLemmas.Functions.{rounded}
-use Rattle.prem_cycle.specs.Alone.{run_in}
 use Rattle.prem_stub_laws.specs.Own.Owned.{setup_of}
 use Rattle.prem_stub_laws.specs.Initial.Initial.{content_of}
 use Rattle.prem_stub_laws.specs.Initial.Standing.{setting_of}
 use Rattle.prem_task_laws.specs.TaskFrame.Kept.{KeepsTaskRules}
 use Rattle.prem_task_laws.specs.TaskFrame.Frames.{task_guard}
-use Rattle.prem_task_laws.proofs.TaskGroundLemmas.Depths.{stack_holds_job}
 use Rattle.prem_task_laws.specs.ProgramFits.Fits.{JobFits}
-use Rattle.prem_task_laws.proofs.ProgramFitsLemmas.Functions.{jobs_fit}
 use Rattle.prem_task_laws.specs.TaskBytes.Parts.{IsPlacedTask, HasParts}
+use Rattle.prem_task_laws.proofs.TaskGroundLemmas.Depths.{stack_holds_job}
+use Rattle.prem_task_laws.proofs.ProgramFitsLemmas.Functions.{jobs_fit}
 use Rattle.prem_task_laws.proofs.TaskBytesLemmas.Parts.{parts_of_task, at_parts, plans_are}
 use Rattle.prem_task_laws.proofs.TaskBytesLemmas.Start.{parts_stand_all, start_stands_first}
 use Rattle.prem_sets_sound.proofs.EachLemmas.Filled.{program_keeps, code_are, table_code, stub_there, part_listed, stub_listed}

@@ -1,6 +1,6 @@
 -- Sets at lawful places: their tasks keep the rules, and their images are sound.
-use Rattle.std.proofs.Common.{◌≡◌, ℕ, ap, sym, ◌∙◌, subst, List, [], Option, None, Some, slice_get}
 use Rattle.std.specs.Prelude.{slice_index_or}
+use Rattle.std.proofs.Common.{◌≡◌, ℕ, ap, sym, ◌∙◌, subst, List, [], Option, None, Some, slice_get}
 use Rattle.std.proofs.lemmas.List.Elements.{All-from_recursion, recursion_from_All}
 use Rattle.prem_plant.specs.Label.{AreDistinct}
 use Rattle.prem_plant.specs.Ranges.{Between}
@@ -8,23 +8,24 @@ use Rattle.prem_plant.specs.Places.{Extent}
 use Rattle.prem_order.specs.Rules.{order_rule_of, passes_of}
 use Rattle.prem_lru.specs.Rules.{rule_of}
 use Rattle.prem_sound.proofs.ResidentLemmas.Policies.{kind_policy}
+use Rattle.prem_meaning.specs.GroupTwo as meaning
+use Rattle.prem_ranges.specs.GroupThree as ranges
 use Rattle.prem_layout.specs.Placed.{Coded, Placed}
 use Rattle.prem_layout.specs.Rules.{Refusal, or_else, refused_by, over_tasks, group_four, group_five, group_six, group_seven, group_eight, group_nine}
 use Rattle.prem_layout.specs.Broken.{broken_when_placed, broken_at_places, broken_late}
-use Rattle.prem_meaning.specs.GroupTwo as meaning
-use Rattle.prem_ranges.specs.GroupThree as ranges
 use Rattle.prem_tasks.specs.Told.{Told}
 use Rattle.prem_tasks.specs.Broken.{TaskSet, group_one, programs_of, group_two, group_three, late_refusal, broken_programs}
 use Rattle.prem_tasks.specs.Compiled.{coded_in, places_in, placed_in}
+use Rattle.prem_tasks.specs.At.{code_broken, broken_early, placed_by, placed_broken, broken_at, AreLawfulFor}
 use Rattle.prem_stub_laws.proofs.JoinLemmas.Joined.{joined_images_are_sound}
 use Rattle.prem_sets_sound.specs.Accepted.Accepted.{HasTextValues, HasCodedValues, HasValues, IsLaidOut, KeepsRules}
+use Rattle.prem_sets_sound.specs.Meant.{meant_by, meant_at, AreMeant}
+use Rattle.prem_sets_sound.specs.PlacesSound.At.{promises_at}
+use Rattle.prem_sets_sound.specs.PlacesSound.Sound.{SetsAreSoundAt, DefaultIsAt, SoundAtDefault}
 use Rattle.prem_sets_sound.proofs.AcceptedLemmas.Follow.{both_none, not_late, Follow, follow, follow_long, follow_named, follow_values}
 use Rattle.prem_sets_sound.proofs.AcceptedLemmas.Rules.{none_among, at_place, not_mapped, read_all, find_program, placed_keep}
 use Rattle.prem_sets_sound.proofs.AcceptedLemmas.Whole.{laid_out_images_join}
-use Rattle.prem_sets_sound.specs.Meant.{meant_by, meant_at, AreMeant}
 use Rattle.prem_sets_sound.proofs.Sound.{task_keeps, meant_tasks_join, as_stubs_make}
-use Rattle.prem_sets_sound.specs.PlacesSound.At.{code_broken, broken_early, placed_by, placed_broken, broken_at, AreLawfulFor, promises_at}
-use Rattle.prem_sets_sound.specs.PlacesSound.Sound.{SetsAreSoundAt, DefaultIsAt, SoundAtDefault}
 
 -- ---- a set at places
 

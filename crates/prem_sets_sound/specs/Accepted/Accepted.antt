@@ -6,8 +6,8 @@ use Rattle.prem_plant.specs.declared.plant.Device.{Device}
 use Rattle.prem_plant.specs.Label.{IsName, AreDistinct}
 use Rattle.prem_plant.specs.Ranges.{Between, IsPlant}
 use Rattle.prem_plant.specs.Places.{Extent, AreLawful}
-use Rattle.prem_lru.specs.Entries.{ReplacementRule}
 use Rattle.prem_order.specs.Order.{OrderRule}
+use Rattle.prem_lru.specs.Entries.{ReplacementRule}
 use Rattle.prem_cycle.specs.Alone.{run_in}
 use Rattle.prem_cycle.specs.Inputs.{image_setup}
 use Rattle.prem_cycle.specs.State.{Setup}
@@ -15,8 +15,8 @@ use Rattle.prem_sound.specs.Script.Scripts.{Promise}
 use Rattle.prem_sound.specs.Resident.Faultless.{IsPolicy}
 use Rattle.prem_sound.specs.Sound.{AreInputs, Sound}
 use Rattle.prem_syntax.specs.Syntax.{ProgramText}
-use Rattle.prem_text.specs.Texts.{reads}
 use Rattle.prem_meaning.specs.GroupTwo as meaning
+use Rattle.prem_text.specs.Texts.{reads}
 use Rattle.prem_ranges.specs.GroupThree as ranges
 use Rattle.prem_layout.specs.Bounds.{limit_of}
 use Rattle.prem_layout.specs.Placed.{Coded, Placed, parts_of, placed_from}

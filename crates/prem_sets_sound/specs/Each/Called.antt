@@ -1,8 +1,8 @@
 -- What `job` calls: functions, and marked functions by their stubs, each under the guard of its plan.
 use Rattle.std.specs.Prelude.{ℕ, ◌+◌, false, Option, None, Some, slice_get}
+use Rattle.prem_plant.specs.declared.plant.Plant.{Plant}
 use Rattle.prem_asm.specs.Runs.{Setting, Calls}
 use Rattle.prem_template.specs.Parts.{marked_before, stub_part}
-use Rattle.prem_plant.specs.declared.plant.Plant.{Plant}
 use Rattle.prem_layout.specs.Plans.{Plan}
 use Rattle.prem_layout.specs.Parts.{stub_passes}
 use Rattle.prem_layout.specs.Footprint.{ranges_of, footprint_of}

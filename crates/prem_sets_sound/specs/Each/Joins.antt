@@ -11,11 +11,11 @@ use Rattle.prem_syntax.specs.Syntax.{ProgramText}
 use Rattle.prem_layout.specs.Parts.{pass_count, stub_passes}
 use Rattle.prem_layout.specs.Footprint.{global_range}
 use Rattle.prem_layout.specs.Placed.{Coded, Placed}
+use Rattle.prem_layout.specs.Stretch.Paths.{stretch_of, greatest_stated}
 use Rattle.prem_weave.specs.Promise.Promised.{promise_in}
+use Rattle.prem_weave.specs.Pace.Pace.{PacedFrom, AreStated}
 use Rattle.prem_stub_laws.specs.Own.Owned.{own_of, setup_of}
 use Rattle.prem_stub_laws.specs.Initial.Initial.{content_of}
-use Rattle.prem_layout.specs.Stretch.Paths.{stretch_of, greatest_stated}
-use Rattle.prem_weave.specs.Pace.Pace.{PacedFrom, AreStated}
 use Rattle.prem_stub_laws.specs.Join.Joined.{JobLimits, TaskJoins}
 use Rattle.prem_task_laws.specs.TaskFrame.Kept.{KeepsTaskRules}
 use Rattle.prem_task_laws.specs.TaskFrame.Limits.{task_limits}

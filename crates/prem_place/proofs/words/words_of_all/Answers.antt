@@ -1,9 +1,9 @@
 use Rattle.std.proofs.Common.{map}
-use Rattle.prem_place.specs.Content.Blocks.{block_of}
 use Rattle.prem_layout.specs.Rules.{over_tasks, group_six}
+use Rattle.prem_place.specs.Content.Blocks.{block_of}
 use Rattle.prem_place.specs.Placed.PlacedOf.{placed_of}
-use Rattle.prem_place.proofs.VerdictLemmas.Stages.{passes_at}
 use Rattle.prem_place.specs.Words.Far.{words_in}
+use Rattle.prem_place.proofs.VerdictLemmas.Stages.{passes_at}
 use Rattle.prem_place.proofs.WordsLemmas.Turns.{first_part, more_words}
 use Rattle.prem_place.proofs.words.words_of_all.Goals as goal
 

@@ -1,6 +1,6 @@
 use Rattle.std.proofs.Common.{◌≡◌, ◌++◌, map, drop}
-use Rattle.prem_place.specs.Content.Blocks.{block_of}
 use Rattle.prem_layout.specs.Rules.{first_among, over_tasks, group_six}
+use Rattle.prem_place.specs.Content.Blocks.{block_of}
 use Rattle.prem_place.specs.Placed.PlacedOf.{placed_of}
 use Rattle.prem_place.specs.Words.Far.{words_in}
 use Rattle.prem_place.proofs.words.words_of_all.Given as goal

@@ -3,8 +3,8 @@ use Rattle.std.proofs.Common.{sym, subst}
 use Rattle.prem_io.specs.Files.{Files}
 use Rattle.prem_command.specs.Words.{asked_in}
 use Rattle.prem_answer.specs.Stages.{Comes, IsGiven, reply_of}
-use Rattle.prem_top.specs.Answer.{asked_answer}
 use Rattle.prem_running.specs.Sample.Sample.{sample_reply}
+use Rattle.prem_top.specs.Answer.{asked_answer, usage_reply}
 use Rattle.prem_top.specs.InRange.{AreInRange}
 use Rattle.prem_top.proofs.Told.{given_at_once}
 use Rattle.prem_top.proofs.top.asked_answer.Goals as goal
@@ -60,6 +60,11 @@ pub returns-in-Tile-clause-answer : goal.returns-in-Tile-clause-answer
 returns-in-Tile-clause-answer g c =
     let told : Option Files = g.S.Store.files c.args.store.now in
     subst (λ s. Comes reply_of (IsGiven told (asked_answer (asked_in s))) c.tile_answer.result) (sym c.in-Tile.is) c.tile_answer.ensures.answer
+
+pub returns-in-Color-clause-answer : goal.returns-in-Color-clause-answer
+returns-in-Color-clause-answer g c =
+    let told : Option Files = g.S.Store.files c.args.store.now in
+    subst (λ s. Comes reply_of (IsGiven told (asked_answer (asked_in s))) c.color_answer.result) (sym c.in-Color.is) c.color_answer.ensures.answer
 
 pub returns-in-Mail-clause-answer : goal.returns-in-Mail-clause-answer
 returns-in-Mail-clause-answer g c =

@@ -1,5 +1,5 @@
-use Rattle.std.proofs.Common.{◌≡◌, ◌++◌, map, take}
 use Rattle.std.specs.List.{flat_map}
+use Rattle.std.proofs.Common.{◌≡◌, ◌++◌, map, take}
 use Rattle.prem_syntax.specs.Name.{name_bytes}
 use Rattle.prem_place.specs.Verdict.Told.{numbered}
 use Rattle.prem_build.specs.Tables.Check.{interval_text}

@@ -1,5 +1,5 @@
-use Rattle.std.proofs.Common.{sym, subst}
 use Rattle.std.specs.List.{AllByRecursion}
+use Rattle.std.proofs.Common.{sym, subst}
 use Rattle.prem_prefetch.specs.Sizes.Sizes.{MayHaveParts}
 use Rattle.prem_tasks.specs.SetOf.{set_of}
 use Rattle.prem_compile.proofs.CodingLemmas.SizedAre.{may_have_parts, parts_told}

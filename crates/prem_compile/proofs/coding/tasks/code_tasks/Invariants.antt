@@ -1,8 +1,8 @@
-use Rattle.std.proofs.Common.{◌≡◌, ◌+◌, ◌++◌, length, map, drop}
 use Rattle.std.specs.List.{AllByRecursion}
 use Rattle.std.specs.Vec.Iter.{into_iter_items}
-use Rattle.prem_tasks.specs.SetOf.{task_of}
+use Rattle.std.proofs.Common.{◌≡◌, ◌+◌, ◌++◌, length, map, drop}
 use Rattle.prem_place.specs.Placing.CodedOf.{coded_in, IsCodedTask}
+use Rattle.prem_tasks.specs.SetOf.{task_of}
 use Rattle.prem_compile.specs.Coding.Tasks.{AreCodable, all_coded}
 use Rattle.prem_compile.proofs.coding.tasks.code_tasks.Given as goal
 

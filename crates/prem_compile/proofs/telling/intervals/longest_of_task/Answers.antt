@@ -1,6 +1,6 @@
 use Rattle.std.proofs.Common.{ap, ◌∙◌, map}
-use Rattle.prem_split.specs.PlanOf.{plan_of}
 use Rattle.prem_layout.specs.Stretch.Paths.{longest_of}
+use Rattle.prem_split.specs.PlanOf.{plan_of}
 use Rattle.prem_bounds.specs.TableOf.{table_of}
 use Rattle.prem_compile.proofs.telling.intervals.longest_of_task.Goals as goal
 

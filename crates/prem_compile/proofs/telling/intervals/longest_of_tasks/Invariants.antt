@@ -1,5 +1,5 @@
-use Rattle.std.proofs.Common.{◌≡◌, map, take}
 use Rattle.std.specs.List.{AllByRecursion}
+use Rattle.std.proofs.Common.{◌≡◌, map, take}
 use Rattle.prem_list.specs.Sequence.{items_of}
 use Rattle.prem_place.specs.Placed.PlacedOf.{placed_of}
 use Rattle.prem_place.specs.Totals.Limits.{IsBound}

@@ -1,5 +1,5 @@
-use Rattle.std.proofs.Common.{◌≡◌, sym, ◌∙◌, length, map}
 use Rattle.std.specs.Vec.Iter.{into_iter_items}
+use Rattle.std.proofs.Common.{◌≡◌, sym, ◌∙◌, length, map}
 use Rattle.prem_list.specs.Sequence.{items_of}
 use Rattle.prem_place.specs.Verdict.Told.{bounds_of, numbered}
 use Rattle.prem_compile.proofs.TellingLemmas.Flattened.{facts_are, facts_end, jobs_are, jobs_end}

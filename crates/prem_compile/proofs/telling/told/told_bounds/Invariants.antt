@@ -1,6 +1,6 @@
-use Rattle.std.proofs.Common.{◌≡◌, ◌++◌, map}
 use Rattle.std.specs.List.{AllByRecursion}
 use Rattle.std.specs.Vec.Iter.{into_iter_items}
+use Rattle.std.proofs.Common.{◌≡◌, ◌++◌, map}
 use Rattle.prem_list.specs.Sequence.{items_of}
 use Rattle.prem_place.specs.Totals.Limits.{IsBound}
 use Rattle.prem_place.specs.Verdict.Told.{bounds_of, numbered}

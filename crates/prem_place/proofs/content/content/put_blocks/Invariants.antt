@@ -1,5 +1,5 @@
-use Rattle.std.proofs.Common.{◌≡◌, drop, map, length}
 use Rattle.std.specs.List.{AllByRecursion}
+use Rattle.std.proofs.Common.{◌≡◌, drop, map, length}
 use Rattle.prem_place.specs.Content.Blocks.{block_of, EndsBy, with_words}
 use Rattle.prem_place.proofs.content.content.put_blocks.Given as goal
 

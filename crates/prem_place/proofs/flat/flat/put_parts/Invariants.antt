@@ -1,5 +1,5 @@
-use Rattle.std.proofs.Common.{◌≡◌, ◌+◌, ◌++◌, map, length, drop, slice_index}
 use Rattle.std.specs.List.{AllByRecursion}
+use Rattle.std.proofs.Common.{◌≡◌, ◌+◌, ◌++◌, map, length, drop, slice_index}
 use Rattle.prem_asm.specs.Fit.{PiecesFit}
 use Rattle.prem_place.specs.Content.Blocks.{block_of}
 use Rattle.prem_place.specs.Flat.Flat.{listed, far_part, words_from, EndWithin}

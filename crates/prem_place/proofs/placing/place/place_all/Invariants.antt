@@ -1,10 +1,10 @@
-use Rattle.std.proofs.Common.{◌≡◌, ◌++◌, ◌+◌, ◌*◌, ◌≤◌, map, drop, length}
 use Rattle.std.specs.List.{AllByRecursion}
 use Rattle.std.specs.Vec.Iter.{into_iter_items}
+use Rattle.std.proofs.Common.{◌≡◌, ◌++◌, ◌+◌, ◌*◌, ◌≤◌, map, drop, length}
 use Rattle.prem_layout.specs.Placed.{placed_from}
 use Rattle.prem_place.specs.Placed.PlacedOf.{placed_of, IsPlacedTask}
 use Rattle.prem_place.specs.Placing.CodedOf.{coded_in, IsCodedTask}
-use Rattle.prem_place.specs.Placing.Standing.{TasksRise, stands_in}
+use Rattle.prem_place.specs.Placing.Standing.{TasksLie, stands_in}
 use Rattle.prem_place.proofs.placing.place.place_all.Given as goal
 
 abbrev pub invariant-loop-task : goal.invariant-loop-task
@@ -14,6 +14,6 @@ invariant-loop-task l =
       placed : AllByRecursion (IsPlacedTask l.p) l.all.items;
       stands : AllByRecursion stands_in l.all.items;
       coded : AllByRecursion IsCodedTask (into_iter_items l.task-iterator);
-      rises : TasksRise l.p (map coded_in (into_iter_items l.task-iterator)) (drop l.first l.l);
+      lies : TasksLie l.p (map coded_in (into_iter_items l.task-iterator)) (drop l.first l.l);
       count : l.first + 1024 * length (into_iter_items l.task-iterator) ≤ 16384;
     }

@@ -10,7 +10,7 @@ of_resolved-requires-clause-globals c = (tree_few c.args.task c.requires.task).g
 
 pub stubs_of-requires-clause-plans : goal.stubs_of-requires-clause-plans
 stubs_of-requires-clause-plans c =
-    plans_may c.args.p.now c.args.task (drop c.args.first c.args.l.now) c.requires.plant c.requires.task c.requires.rises c.in_ok-places.places c.items.result.now c.in_ok-places.ensures c.items.ensures
+    plans_may c.args.p.now c.args.task (drop c.args.first c.args.l.now) c.requires.plant c.requires.task c.requires.lies c.in_ok-places.places c.items.result.now c.in_ok-places.ensures c.items.ensures
 
 pub overflow_cast-job : goal.overflow_cast-job
 overflow_cast-job c =
@@ -21,12 +21,12 @@ overflow_cast-job c =
 
 pub returns-clause-same : goal.returns-clause-same
 returns-clause-same c =
-    placed_is c.args.p.now c.args.task (drop c.args.first c.args.l.now) c.requires.plant c.requires.task c.requires.rises c.in_ok-places.places c.items.result.now c.in_ok-stubs.stubs c.in_ok-places.ensures c.items.ensures c.in_ok-stubs.ensures
+    placed_is c.args.p.now c.args.task (drop c.args.first c.args.l.now) c.requires.plant c.requires.task c.requires.lies c.in_ok-places.places c.items.result.now c.in_ok-stubs.stubs c.in_ok-places.ensures c.items.ensures c.in_ok-stubs.ensures
 
 pub returns-clause-placed : goal.returns-clause-placed
 returns-clause-placed c =
-    placed_task c.args.p.now c.args.task (drop c.args.first c.args.l.now) c.requires.plant c.requires.task c.requires.rises c.in_ok-places.places c.items.result.now c.in_ok-stubs.stubs c.in_ok-places.ensures c.items.ensures c.in_ok-stubs.ensures
+    placed_task c.args.p.now c.args.task (drop c.args.first c.args.l.now) c.requires.plant c.requires.task c.requires.lies c.in_ok-places.places c.items.result.now c.in_ok-stubs.stubs c.in_ok-places.ensures c.items.ensures c.in_ok-stubs.ensures
 
 pub returns-clause-stands : goal.returns-clause-stands
 returns-clause-stands c =
-    stands_is c.args.p.now c.args.task (drop c.args.first c.args.l.now) c.requires.plant c.requires.task c.requires.rises c.in_ok-places.places c.items.result.now c.in_ok-stubs.stubs c.in_ok-places.ensures c.items.ensures c.in_ok-stubs.ensures
+    stands_is c.args.p.now c.args.task (drop c.args.first c.args.l.now) c.requires.plant c.requires.task c.requires.lies c.in_ok-places.places c.items.result.now c.in_ok-stubs.stubs c.in_ok-places.ensures c.items.ensures c.in_ok-stubs.ensures

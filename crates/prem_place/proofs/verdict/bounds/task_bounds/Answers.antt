@@ -1,8 +1,8 @@
-use Rattle.std.proofs.Common.{◌≡◌, ap, sym, ◌∙◌, map, None}
 use Rattle.std.specs.Prelude.{nat_lt}
-use Rattle.prem_split.specs.PlanOf.{plan_of}
+use Rattle.std.proofs.Common.{◌≡◌, ap, sym, ◌∙◌, map, None}
 use Rattle.prem_layout.specs.Bounds.{job_bound_of}
 use Rattle.prem_layout.specs.Rules.{greatest_bound}
+use Rattle.prem_split.specs.PlanOf.{plan_of}
 use Rattle.prem_bounds.specs.TableOf.{table_of}
 use Rattle.prem_bounds.specs.Facts.Large.{is_marked_tree, first_large}
 use Rattle.prem_place.specs.Placed.PlacedOf.{placed_of}

@@ -1,8 +1,8 @@
 use Rattle.std.proofs.Common.{◌≡◌, ap, sym, ◌∙◌, arith, length, map}
+use Rattle.std.proofs.Common.{Some, None}
 use Rattle.prem_list.specs.Sequence.{items_of}
 use Rattle.prem_layout.specs.Rules.{over_tasks, group_seven}
 use Rattle.prem_bounds.specs.Facts.Clashes.{clash_of}
-use Rattle.std.proofs.Common.{Some, None}
 use Rattle.prem_place.specs.Placed.PlacedOf.{placed_of, lines_of, IsPlacedTask}
 use Rattle.prem_place.specs.declared.verdict.verdict.Verdict.TheVariants.{Conflict}
 use Rattle.prem_place.proofs.VerdictLemmas.Stages.{passes_at, all_at, longs_same, both_at}

@@ -1,0 +1,9 @@
+pub mod Offsets
+pub mod Wants
+pub mod Standing
+pub mod WantOf
+pub mod Rooms
+pub mod RoomOf
+pub mod Placing
+pub mod Told
+pub mod Laws

@@ -1,5 +1,0 @@
-use Rattle.prem_place.proofs.FlatLemmas.BlockLaws.{reach_is_first}
-use Rattle.prem_place.proofs.flat.laws.reach_is_first.Goals as goal
-
-pub returns : goal.returns
-returns c = reach_is_first
