@@ -1,0 +1,4 @@
+pub mod Within
+pub mod Steps
+pub mod Taken
+pub mod Pictures

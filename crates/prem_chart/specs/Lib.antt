@@ -1,0 +1,10 @@
+pub mod Pieces
+pub mod Xml
+pub mod Places
+pub mod Axis
+pub mod Head
+pub mod Bars
+pub mod Shapes
+pub mod Phases
+pub mod Rows
+pub mod Picture

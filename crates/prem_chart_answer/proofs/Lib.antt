@@ -1,0 +1,4 @@
+pub mod Noted
+pub mod Traces
+pub mod Charted
+pub mod Told
