@@ -4,7 +4,7 @@ _prem() {
   local options="" pattern="" place=0 at
   COMPREPLY=()
   if [ "$COMP_CWORD" -eq 1 ]; then
-    COMPREPLY=($(compgen -W "one check build list source run exec sample tile mail" -- "$word"))
+    COMPREPLY=($(compgen -W "one check build list source run exec sample tile color mail" -- "$word"))
     return
   fi
   [ "$before" = --cycles ] && return
@@ -22,7 +22,7 @@ _prem() {
   done
   case $command$place in
     one0 | tile0) pattern='*.c' ;;
-    check0 | build0 | list0 | source0 | run0 | mail0) pattern='*.toml' ;;
+    check0 | build0 | list0 | source0 | run0 | color0 | mail0) pattern='*.toml' ;;
     source1 | run1 | exec1 | mail1) pattern='*.run' ;;
     mail2) pattern='*.mail' ;;
     exec0) pattern='*.img' ;;

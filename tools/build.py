@@ -20,7 +20,13 @@ import time
 
 TOP = os.path.dirname(os.path.dirname(os.path.abspath(__file__)))
 # The word by which people call a program, where it isn't its crate's name.
-CALLED = {"prem_cli": "prem", "prem_resp_cli": "prem_resp", "prem_lint_cli": "prem_lint", "prem_pair_cli": "prem_pair"}
+CALLED = {
+    "prem_cli": "prem",
+    "prem_resp_cli": "prem_resp",
+    "prem_lint_cli": "prem_lint",
+    "prem_pair_cli": "prem_pair",
+    "prem_chart_cli": "prem_chart",
+}
 
 
 def fail(why):

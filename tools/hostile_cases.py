@@ -102,7 +102,7 @@ BY_HAND = {
 
 USAGE = (
     "usage: prem one FILE | check SET | build SET | list SET | source SET RUN | run SET RUN [--cycles N] [--intervals]"
-    " | exec IMAGE RUN [--cycles N] [--intervals] | sample N | tile FILE FUNCTION K L"
+    " | exec IMAGE RUN [--cycles N] [--intervals] | sample N | tile FILE FUNCTION K L | color SET"
     " | mail SET RUN MAIL [--cycles N]\n"
 )
 

@@ -34,6 +34,8 @@ FILES = {
     "sd.toml": SET + DEVICE,
     "conflict.toml": "[plant]\nsets = 1\nways = 1\n" + SET,
     "colour.toml": "plant = {colour = 1}\n" + SET,
+    "moved.toml": "[plant]\nsets = 16\nways = 1\n" + SET,
+    "stuck.toml": "[plant]\nsets = 8\nways = 1\n" + SET,
     "short.toml": SET.replace("m.c", "short.c"),
     "late.toml": SET.replace("m.c", "late.c"),
     "short.c": MARKED.replace("491", "490"),
@@ -65,6 +67,9 @@ run fir.toml fir.run
 sample 7
 tile tiled.c f 2 700
 tile tiled.c f 9 700
+color moved.toml
+color stuck.toml
+color conflict.toml
 mail sd.toml d.run d.mail
 mail sd.toml d.run e.run
 mail sd.toml d.run lan.run
@@ -85,6 +90,11 @@ colour.toml
 sd.toml s.toml d.run e.run
 s.toml sd.toml e.run e.run
 s.toml conflict.toml e.run e.run
+""",
+    "prem_chart_cli": """sd.toml d.run
+sd.toml d.run --from 100 --to 500
+sd.toml lan.run
+conflict.toml e.run
 """,
 }
 CALLED = {it: it.removesuffix("_cli") for it in COMMANDS}

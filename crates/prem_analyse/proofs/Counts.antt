@@ -1,10 +1,11 @@
 -- A well-formed program has few functions and globals, so the numbers that its first breach names are small.
-use Rattle.std.proofs.Common.{◌≡◌, ℕ, suc, ◌+◌, ◌≤◌, Bool, true, false, List, [], ◌∷◌, ◌++◌, length, refl, ap, sym, ◌∙◌, arith, Option, None, Some, subst}
 use Rattle.std.specs.Prelude.{nat_lt, not}
 use Rattle.std.specs.List.{list_any}
+use Rattle.std.proofs.Common.{◌≡◌, ℕ, suc, ◌+◌, ◌≤◌, Bool, true, false, List, [], ◌∷◌, ◌++◌, length, refl, ap, sym, ◌∙◌, arith, Option, None, Some, subst}
 use Rattle.std.proofs.lemmas.Bool.Decides.{nat_tests}
 use Rattle.prem_syntax.specs.declared.rules.Count.TheVariants.{Functions, Globals, Parameters, Regions, Length, Stated}
 use Rattle.prem_syntax.specs.Syntax.{GlobalVariable, FunctionText, global_item, function_item, ProgramText}
+use Rattle.prem_syntax.specs.Literals.{ProgramHasWords}
 use Rattle.prem_meaning.specs.Resolve.{loops_within, functions_of, globals_of, resolve_items}
 use Rattle.prem_meaning.specs.Source.{unlimited}
 use Rattle.prem_meaning.specs.Rules.{Rule, Limit, NoJob}
@@ -13,7 +14,6 @@ use Rattle.prem_meaning.specs.GroupTwo.{group_two, IsWellFormed}
 use Rattle.prem_ranges.specs.RangeRules.{RangeRule, LoopBound, TooLarge, ZeroDivisor, IndexOutside, RegionOutside, ArgRange, RangeBreach, first_of}
 use Rattle.prem_ranges.specs.RangeBreaches.{range_breaches}
 use Rattle.prem_ranges.specs.GroupThree.{resolved, group_three}
-use Rattle.prem_syntax.specs.Literals.{ProgramHasWords}
 use Rattle.prem_ranges.proofs.Basics.{none_left, none_right}
 use Rattle.prem_ranges.proofs.Named.{none_broken}
 use Rattle.prem_ranges.proofs.WellFormed.{well_formed_is_typed}
@@ -69,7 +69,7 @@ widened : (m n : ℕ) (o : Option RangeBreach) → m ≤ 65536 → n ≤ 65536 �
 widened m n None a b h = tt
 widened m n (Some x) a b h = more_named m n x.rule a b h
 
-pub small_named : (p : ProgramText) → IsWellFormed p → ProgramHasWords p → NamedIf 65536 65536 (group_three p)
+small_named : (p : ProgramText) → IsWellFormed p → ProgramHasWords p → NamedIf 65536 65536 (group_three p)
 unfolding group_three
 small_named p formed words =
     let counts = few p formed in

@@ -2,10 +2,10 @@
 use Rattle.std.specs.Prelude.{◌≡◌, ℕ, List, Ok}
 use Rattle.prem_syntax.specs.Syntax.{ProgramText}
 use Rattle.prem_syntax.specs.SyntaxOf.{program_of}
-use Rattle.prem_tree.specs.declared.checked.Checked.{Checked}
-use Rattle.prem_tree.specs.Checked.{checked_program}
 use Rattle.prem_meaning.specs.Statements.{ProgramState}
 use Rattle.prem_meaning.specs.Source.{source_within, source}
+use Rattle.prem_tree.specs.declared.checked.Checked.{Checked}
+use Rattle.prem_tree.specs.Checked.{checked_program}
 use Rattle.prem_ranges.specs.GroupThree.{limits_of}
 use Rattle.prem_ranges.specs.Sound.{AreWords}
 use Rattle.prem_analyse.specs.declared.analysed.Analysed.{Analysed}

@@ -1,9 +1,9 @@
 // The analysis of a program.
 ghost use Rattle.std.specs.Prelude.{◌≡◌, IfOk};
 ghost use Rattle.prem_syntax.specs.SyntaxOf.{program_of};
+ghost use Rattle.prem_syntax.specs.Literals.{ProgramHasWords};
 ghost use Rattle.prem_meaning.specs.GroupTwo.{IsWellFormed};
 ghost use Rattle.prem_ranges.specs.GroupThree.{group_three, turn_bounds};
-ghost use Rattle.prem_syntax.specs.Literals.{ProgramHasWords};
 ghost use Rattle.prem_analysis.specs.Ranging.View.{found_of};
 ghost use Rattle.prem_analyse.specs.Told.{IsAnswer};
 

@@ -1,16 +1,16 @@
 -- Arguments, one after the other.
-use Rattle.std.proofs.Common.{◌≡◌, ℕ, zero, suc, ◌+◌, ◌<◌, ◌≤◌, List, [], ◌∷◌, ◌++◌, map, drop, length, get_or, Option, refl, ap, sym, ◌∙◌, arith}
 use Rattle.std.specs.Prelude.{slice_get}
 use Rattle.std.specs.Option.{option_map}
+use Rattle.std.specs.Prelude.{Some, None}
+use Rattle.std.proofs.Common.{◌≡◌, ℕ, zero, suc, ◌+◌, ◌<◌, ◌≤◌, List, [], ◌∷◌, ◌++◌, map, drop, length, get_or, Option, refl, ap, sym, ◌∙◌, arith}
 use Rattle.std.proofs.lemmas.List.{drop_more}
+use Rattle.prem_list.specs.Sequence.{items_of}
 use Rattle.prem_syntax.specs.declared.tree.Place.{Place}
 use Rattle.prem_syntax.specs.declared.tree.Param.{Param}
 use Rattle.prem_syntax.specs.SyntaxOf.{parameter_of}
+use Rattle.prem_meaning.specs.Resolved.{Term}
 use Rattle.prem_tree.specs.declared.resolve.resolved.Term.{Term as TermTree}
 use Rattle.prem_tree.specs.Resolve.ResolvedOf.{term_of}
-use Rattle.prem_meaning.specs.Resolved.{Term}
-use Rattle.std.specs.Prelude.{Some, None}
-use Rattle.prem_list.specs.Sequence.{items_of}
 use Rattle.prem_tree.specs.declared.resolve.resolved.Routine.{Routine as RoutineTree}
 use Rattle.prem_tree.specs.Resolve.ResolvedOf.{loops_of, routines_of}
 use Rattle.prem_ranges.specs.Environment.{Environment}

@@ -1,21 +1,20 @@
 -- What is seen behind steps, from what is seen behind their parts.
-use Rattle.std.proofs.Common.{◌≡◌, ℕ, ◌+◌, ◌*◌, ◌^◌, List, [], ◌∷◌, ◌++◌, Option, None, refl, ap, sym, ◌∙◌, drop, length, get_or, ◌<◌, ◌≤◌, arith, Bool, true, false, nat_lt}
 use Rattle.std.specs.Prelude.{ℤ}
+use Rattle.std.proofs.Common.{◌≡◌, ℕ, ◌+◌, ◌*◌, ◌^◌, List, [], ◌∷◌, ◌++◌, Option, None, refl, ap, sym, ◌∙◌, drop, length, get_or, ◌<◌, ◌≤◌, arith, Bool, true, false, nat_lt}
 use Rattle.std.proofs.lemmas.List.{append-nil, append_assoc, drop_more, drop_all}
 use Rattle.std.proofs.Common.{zero, suc, map, subst}
 use Rattle.prem_word.specs.Ranges.{IsRange}
 use Rattle.prem_syntax.specs.declared.tree.Param.{Param}
 use Rattle.prem_syntax.specs.declared.tree.Local.{Local}
 use Rattle.prem_syntax.specs.Syntax.{LocalVariable}
+use Rattle.prem_syntax.specs.SyntaxOf.{parameter_of, local_of}
+use Rattle.prem_syntax.specs.declared.tree.Place.{Place}
+use Rattle.prem_meaning.specs.Resolve.{promoted}
+use Rattle.prem_meaning.specs.Resolved.{Term, Routine, Steps, Done, If, For, While}
 use Rattle.prem_tree.specs.declared.resolve.resolved.Term.{Term as TermTree}
 use Rattle.prem_tree.specs.Resolve.ResolvedOf.{term_of}
-use Rattle.prem_syntax.specs.SyntaxOf.{parameter_of, local_of}
-use Rattle.prem_meaning.specs.Resolve.{promoted}
-use Rattle.prem_ranges.specs.Sound.{Ranged, next_ranged}
-use Rattle.prem_analysis.specs.Functions.{behind_routine}
-use Rattle.prem_syntax.specs.declared.tree.Place.{Place}
 use Rattle.prem_tree.specs.declared.resolve.resolved.Step.{Step}
-use Rattle.prem_meaning.specs.Resolved.{Term, Routine, Steps, Done, If, For, While}
+use Rattle.prem_ranges.specs.Sound.{Ranged, next_ranged}
 use Rattle.prem_ranges.specs.Environment.{Environment}
 use Rattle.prem_ranges.specs.RangeOf.{refined}
 use Rattle.prem_ranges.specs.After.{loop_end, in_counting, in_body, in_while, after, bounds, stated_or_whole, known_parameter, known_local, declared, at_body}
@@ -23,10 +22,11 @@ use Rattle.prem_ranges.specs.RangeRules.{RangeBreach, first, first_of}
 use Rattle.prem_ranges.specs.RangeBreaches.{Site, in_term, in_range_of_int, in_turns, in_counting_loop, in_steps, in_locals, in_result}
 use Rattle.prem_ranges.proofs.FirstBreach.{first_none, first_assoc, first_of_append}
 use Rattle.prem_ranges.proofs.Capped.{capped as capped_same, in_steps-sized}
+use Rattle.prem_analysis.specs.Functions.{behind_routine}
 use Rattle.prem_analysis.specs.Ranging.Plain.{plain_before, plain, plain_list}
-use Rattle.prem_analysis.proofs.RangingLemmas.Sequences.{after-step, bounds-step, first-step}
 use Rattle.prem_analysis.specs.Seen.{Seen, noted, behind, looked}
 use Rattle.prem_analysis.specs.Arms.{capped, at_term, at_counting, at_while, bound_of}
+use Rattle.prem_analysis.proofs.RangingLemmas.Sequences.{after-step, bounds-step, first-step}
 
 abbrev pub seen : List ℕ → Option RangeBreach → Seen
 seen bs o = record { bounds = bs; found = o }
@@ -62,7 +62,7 @@ behind_step site around env step rest s =
 
 -- ---- the arms of `if`
 
-pub behind_if : (site : Site) (around : ℕ) (env : Environment) (at : Place) (c : Term) (taken other : Steps) (s : Seen) →
+behind_if : (site : Site) (around : ℕ) (env : Environment) (at : Place) (c : Term) (taken other : Steps) (s : Seen) →
     behind site around (refined false env c) other (behind site around (refined true env c) taken (at_term site env c s)) ≡ behind site around env (If at c taken other Done) s
 behind_if site around env at c taken other s =
     let t = in_steps site around (refined true env c) taken in let o = in_steps site around (refined false env c) other in let i = in_term site env c in
@@ -80,7 +80,7 @@ turns_capped at around turns = by (capped around turns * 1) (around * turns * 1)
 body_capped : (site : Site) (around turns : ℕ) (env : Environment) (steps : Steps) → in_steps site (capped around turns) env steps ≡ in_steps site (around * turns) env steps
 body_capped site around turns env steps = in_steps-sized site (capped around turns) (around * turns) (capped_same (around * turns)) env steps
 
-pub behind_while : (site : Site) (around : ℕ) (env : Environment) (at : Place) (most : ℕ) (c : Term) (body : Steps) (s : Seen) →
+behind_while : (site : Site) (around : ℕ) (env : Environment) (at : Place) (most : ℕ) (c : Term) (body : Steps) (s : Seen) →
     behind site (capped around most) (refined true (in_while body env) c) body (at_while site around env at most c body s) ≡ behind site around env (While at most c body Done) s
 behind_while site around env at most c body s =
     let e = in_while body env in let t = in_turns at (around * most) in let i = in_term site e c in let b = in_steps site (around * most) (refined true e c) body in
@@ -92,7 +92,7 @@ behind_while site around env at most c body s =
 counting_capped : (at : Place) (end : ℤ) (step around turns : ℕ) → in_counting_loop at end step (capped around turns) ≡ in_counting_loop at end step (around * turns)
 counting_capped at end step around turns = ap (λ l. in_range_of_int at end step ++ l) (turns_capped at around turns)
 
-pub behind_for : (site : Site) (around : ℕ) (env : Environment) (at : Place) (k : ℕ) (low : Term) (closed : Bool) (high : Term) (step turns : ℕ) (body : Steps) (s : Seen) →
+behind_for : (site : Site) (around : ℕ) (env : Environment) (at : Place) (k : ℕ) (low : Term) (closed : Bool) (high : Term) (step turns : ℕ) (body : Steps) (s : Seen) →
     behind site (capped around (bound_of env k low closed high step body)) (in_body env k low (loop_end env k closed high body) body) body
     (at_counting site around env at k low high (loop_end env k closed high body) step (bound_of env k low closed high step body) body s)
     ≡ behind site around env (For at k low closed high step turns body Done) s
@@ -121,10 +121,10 @@ walked_on site around steps i step env env' env0 s s' s0 inside is w new_env new
           ∙ ap (λ (l : List Step). behind site around env (plain_list l) s) (sym all) ∙ w.seen_is;
     }
 
-pub walked_env : (site : Site) (around : ℕ) (steps : List Step) (i : ℕ) (env env0 : Environment) (s s0 : Seen) → length steps ≤ i → Walking site around steps (drop i steps) env env0 s s0 → env ≡ after env0 (plain_list steps)
+walked_env : (site : Site) (around : ℕ) (steps : List Step) (i : ℕ) (env env0 : Environment) (s s0 : Seen) → length steps ≤ i → Walking site around steps (drop i steps) env env0 s s0 → env ≡ after env0 (plain_list steps)
 walked_env site around steps i env env0 s s0 past w = ap (λ (l : List Step). after env (plain_list l)) (sym (drop_all i steps past)) ∙ w.known
 
-pub walked_seen : (site : Site) (around : ℕ) (steps : List Step) (i : ℕ) (env env0 : Environment) (s s0 : Seen) → length steps ≤ i → Walking site around steps (drop i steps) env env0 s s0 → s ≡ behind site around env0 (plain_list steps) s0
+walked_seen : (site : Site) (around : ℕ) (steps : List Step) (i : ℕ) (env env0 : Environment) (s s0 : Seen) → length steps ≤ i → Walking site around steps (drop i steps) env env0 s s0 → s ≡ behind site around env0 (plain_list steps) s0
 walked_seen site around steps i env env0 s s0 past w = behind_none site around env s ∙ ap (λ (l : List Step). behind site around env (plain_list l) s) (sym (drop_all i steps past)) ∙ w.seen_is
 
 -- ---- an arm of the walk, from what its calls give

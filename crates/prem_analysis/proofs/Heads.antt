@@ -1,6 +1,6 @@
 -- The head of a counting loop, from what its calls give.
-use Rattle.std.proofs.Common.{◌≡◌, ℕ, Bool, List, Option, ap, sym, ◌∙◌}
 use Rattle.std.specs.Prelude.{ℤ}
+use Rattle.std.proofs.Common.{◌≡◌, ℕ, Bool, List, Option, ap, sym, ◌∙◌}
 use Rattle.prem_word.specs.Ranges.{Span}
 use Rattle.prem_syntax.specs.declared.tree.Place.{Place}
 use Rattle.prem_meaning.specs.Resolved.{Term, Steps}

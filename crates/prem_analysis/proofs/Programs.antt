@@ -1,40 +1,40 @@
 -- What is seen of all functions is what the rules on ranges say of the program.
-use Rattle.std.proofs.Common.{◌≡◌, ℕ, zero, suc, ◌+◌, ◌<◌, List, [], ◌∷◌, ◌++◌, map, length, refl, ap, sym, ◌∙◌, arith, None, Some}
 use Rattle.std.specs.List.{flat_map}
-use Rattle.std.proofs.lemmas.List.{append-nil, append_assoc}
-use Rattle.prem_tree.specs.declared.resolve.resolved.Routine.{Routine as RoutineTree}
-use Rattle.prem_tree.specs.Resolve.ResolvedOf.{loops_of, routine_of, routines_of}
-use Rattle.std.proofs.Common.{subst}
 use Rattle.std.specs.Prelude.{slice_get}
+use Rattle.std.proofs.Common.{◌≡◌, ℕ, zero, suc, ◌+◌, ◌<◌, List, [], ◌∷◌, ◌++◌, map, length, refl, ap, sym, ◌∙◌, arith, None, Some}
+use Rattle.std.proofs.lemmas.List.{append-nil, append_assoc}
+use Rattle.std.proofs.Common.{subst}
+use Rattle.prem_list.specs.Sequence.{items_of}
 use Rattle.prem_syntax.specs.Syntax.{FunctionText, ProgramText}
 use Rattle.prem_syntax.specs.SyntaxOf.{function_of}
-use Rattle.prem_tree.specs.Resolve.ResolvedOf.{IsResolved}
-use Rattle.prem_meaning.specs.GroupTwo.{IsWellFormed}
 use Rattle.prem_syntax.specs.Literals.{ProgramHasWords}
+use Rattle.prem_meaning.specs.GroupTwo.{IsWellFormed}
+use Rattle.prem_meaning.specs.Source.{unlimited}
+use Rattle.prem_meaning.specs.Resolved.{Routine, Resolved}
+use Rattle.prem_tree.specs.declared.resolve.resolved.Routine.{Routine as RoutineTree}
+use Rattle.prem_tree.specs.Resolve.ResolvedOf.{loops_of, routine_of, routines_of}
+use Rattle.prem_tree.specs.Resolve.ResolvedOf.{IsResolved}
+use Rattle.prem_tree.specs.declared.resolve.resolved.Resolved.{Resolved as ResolvedTree}
+use Rattle.prem_tree.specs.Resolve.ResolvedOf.{resolved_of}
 use Rattle.prem_ranges.specs.After.{known_parameter}
 use Rattle.prem_ranges.specs.Sound.{Ranged}
 use Rattle.prem_ranges.specs.GroupThree.{group_three, turn_bounds}
-use Rattle.prem_ranges.proofs.WellFormed.{well_formed_is_typed}
-use Rattle.prem_analysis.specs.Functions.{AllRanged}
-use Rattle.prem_list.specs.Sequence.{items_of}
-use Rattle.prem_tree.specs.declared.resolve.resolved.Resolved.{Resolved as ResolvedTree}
-use Rattle.prem_tree.specs.Resolve.ResolvedOf.{resolved_of}
-use Rattle.prem_meaning.specs.Source.{unlimited}
 use Rattle.prem_ranges.specs.Regions.{Watch}
 use Rattle.prem_ranges.specs.RangeBreaches.{range_breaches}
-use Rattle.prem_analysis.specs.declared.ranging.site.Marked.{Marked}
-use Rattle.prem_analysis.specs.Functions.{site_at}
-use Rattle.prem_analysis.specs.Ranging.SiteOf.{AreWatched}
-use Rattle.prem_meaning.specs.Resolved.{Routine, Resolved}
 use Rattle.prem_ranges.specs.After.{bounds_in}
 use Rattle.prem_ranges.specs.RangeRules.{first, first_of}
 use Rattle.prem_ranges.specs.RangeBreaches.{Site, site_of, in_routine, in_routines}
 use Rattle.prem_ranges.specs.Sound.{AlikeRoutine, alike_done}
+use Rattle.prem_ranges.proofs.WellFormed.{well_formed_is_typed}
 use Rattle.prem_ranges.proofs.Alike.{SameSite, in_routine-alike, bounds_in-alike}
 use Rattle.prem_ranges.proofs.FirstBreach.{first_none, first_assoc, first_of_append}
-use Rattle.prem_analysis.proofs.RangingLemmas.PlainSteps.{plain-alike}
+use Rattle.prem_analysis.specs.Functions.{AllRanged}
+use Rattle.prem_analysis.specs.declared.ranging.site.Marked.{Marked}
+use Rattle.prem_analysis.specs.Functions.{site_at}
+use Rattle.prem_analysis.specs.Ranging.SiteOf.{AreWatched}
 use Rattle.prem_analysis.specs.Seen.{Seen}
 use Rattle.prem_analysis.specs.Functions.{plain_routine, behind_routine, behind_routines}
+use Rattle.prem_analysis.proofs.RangingLemmas.PlainSteps.{plain-alike}
 use Rattle.prem_analysis.proofs.Behind.{seen, same_seen}
 
 -- a function with no turns is the function with any turns, but for these
@@ -47,7 +47,7 @@ with_watches p w = record { globals = p.globals; routines = p.routines; watches 
 same_site : (site : Site) → SameSite site site
 same_site site = record { globals = refl; watches = refl; parameters = λ f. refl }
 
-pub turns_aside : (site : Site) (t : ℕ → ℕ) (n : ℕ) (r : RoutineTree) (s : Seen) → behind_routine site (plain_routine r) s ≡ behind_routine site (routine_of t n r) s
+turns_aside : (site : Site) (t : ℕ → ℕ) (n : ℕ) (r : RoutineTree) (s : Seen) → behind_routine site (plain_routine r) s ≡ behind_routine site (routine_of t n r) s
 turns_aside site t n r s =
     same_seen _ _ _ _ (ap (λ l. s.bounds ++ l) (bounds_in-alike (routine-alike t n r))) (ap (λ l. first s.found (first_of l)) (in_routine-alike (routine-alike t n r) site site (same_site site)))
 

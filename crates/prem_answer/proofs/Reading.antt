@@ -1,6 +1,6 @@
 -- Readings of files, one after another.
-use Rattle.std.proofs.Common.{◌≡◌, ◌≤◌, ◌<◌, ℕ, zero, suc, List, length, true, false, Bool, IsTrue, Option, None, Some, IfSome, IsSomeAnd, Result, Ok, Err, refl, ap, ◌∙◌, sym, arith, nat_le}
 use Rattle.std.specs.Prelude.{if◌then◌else◌, replicate, codes}
+use Rattle.std.proofs.Common.{◌≡◌, ◌≤◌, ◌<◌, ℕ, zero, suc, List, length, true, false, Bool, IsTrue, Option, None, Some, IfSome, IsSomeAnd, Result, Ok, Err, refl, ap, ◌∙◌, sym, arith, nat_le}
 use Rattle.std.proofs.lemmas.Bool.{le-leb}
 use Rattle.std.proofs.lemmas.Bool.Decides.{nat_tests}
 use Rattle.std.proofs.lemmas.List.{length-replicate}
@@ -23,7 +23,7 @@ pub read_ok : (how : Telling) (told : Option Files) (limit : ℕ) (name bytes : 
     length bytes ≤ limit → IsReadBy how told limit name (Ok bytes)
 read_ok how told limit name bytes there short = (Some bytes, (there, sym (short_file how limit name bytes short)))
 
-pub read_missing : (how : Telling) (told : Option Files) (limit : ℕ) (name : List ℕ) (reply : Reply) → IfSome told (λ files. stored files name ≡ None) →
+read_missing : (how : Telling) (told : Option Files) (limit : ℕ) (name : List ℕ) (reply : Reply) → IfSome told (λ files. stored files name ≡ None) →
     reply ≡ missing_reply name → IsReadBy how told limit name (Err reply)
 read_missing how told limit name reply gone is = (None, (gone, ap Err is))
 

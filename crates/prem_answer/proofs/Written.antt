@@ -1,9 +1,9 @@
 -- Bytes that a sink tells, written piece by piece.
-use Rattle.std.proofs.Common.{◌≡◌, ℕ, List, [], ◌++◌, Option, None, Some, take, drop, ◌+◌, refl, ap, ◌∙◌, sym, append_assoc, append-nil}
 use Rattle.std.specs.Io.KnownBytes.{append_known}
+use Rattle.std.proofs.Common.{◌≡◌, ℕ, List, [], ◌++◌, Option, None, Some, take, drop, ◌+◌, refl, ap, ◌∙◌, sym, append_assoc, append-nil}
 use Rattle.std.proofs.Math.Seq.{take-add}
 
-pub append_known-nil : (known : Option (List ℕ)) → known ≡ append_known known []
+append_known-nil : (known : Option (List ℕ)) → known ≡ append_known known []
 append_known-nil None = refl
 append_known-nil (Some xs) = ap Some (sym (append-nil xs))
 

@@ -43,7 +43,7 @@ fn add_listed(alloc: Global, files: &mut FileMap, list: &str) -> Result<(), Allo
 pub fn files(rt: &(impl Files + AllocGlobal)) -> io::Result<FileMap> {
     let alloc = rt.alloc();
     let mut files = FileMap::new(alloc);
-    for name in ["five.c", "marked.run", "marked.img"] {
+    for name in ["five.c", "marked.run", "marked.img", "moved.img"] {
         let bytes = fs::read(rt, name)?;
         let _added = files.add(alloc, name, &bytes)?;
     }

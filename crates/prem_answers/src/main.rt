@@ -1,4 +1,5 @@
-//! Answers of the programs over stores and sinks in memory: to sources, at limits, to commands whose outside may fail, and of two cores.
+//! Answers of the programs over stores and sinks in memory: to sources, at limits, to commands whose outside may fail, of
+//! two cores, and in plain words.
 //!
 //! Each answer is a line, with a `$` for each end of a line of what is written. `stdout` has the lines as they were
 //! worked out by hand.
@@ -6,6 +7,7 @@
 
 mod commands;
 mod limits;
+mod lints;
 mod pairs;
 mod sources;
 
@@ -18,5 +20,6 @@ fn main(rt: HostRuntime) -> io::Result<()> {
     commands::tell(&rt, "sets.txt")?;
     commands::tell(&rt, "runs.txt")?;
     pairs::tell(&rt, "pairs.txt")?;
-    commands::tell_steady(&rt)
+    commands::tell_steady(&rt)?;
+    lints::tell(&rt)
 }

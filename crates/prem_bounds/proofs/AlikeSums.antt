@@ -1,13 +1,13 @@
 -- Sums that are told up to 2 ^ 41 give sums that are told so.
-use Rattle.std.proofs.Common.{◌≡◌, ℕ, zero, suc, ◌+◌, ◌-◌, ◌*◌, ◌<◌, max, refl, ap, ◌∙◌, sym, arith, cond, Bool, true, false, Option, Some, None, List, [], ◌∷◌, length, drop, get_or}
 use Rattle.std.specs.Prelude.{nat_lt}
+use Rattle.std.proofs.Common.{◌≡◌, ℕ, zero, suc, ◌+◌, ◌-◌, ◌*◌, ◌<◌, max, refl, ap, ◌∙◌, sym, arith, cond, Bool, true, false, Option, Some, None, List, [], ◌∷◌, length, drop, get_or}
+use Rattle.prem_list.specs.Sequence.{items_of}
 use Rattle.prem_isa.specs.declared.instr.Instr.{Instr}
 use Rattle.prem_isa.specs.declared.instr.Instr.TheVariants.{PmDone}
 use Rattle.prem_asm.specs.declared.piece.Test.{Test}
 use Rattle.prem_asm.specs.declared.piece.Piece.{Piece}
 use Rattle.prem_asm.specs.declared.piece.Piece.TheVariants.{Straight, Address, Either', Repeat', CallTo}
 use Rattle.prem_asm.specs.Pieces.{Pieces, no_pieces, straight, address_of, either, repeat, call_to, weight, jump_weight, address_weight, skip_words, branch_of}
-use Rattle.prem_list.specs.Sequence.{items_of}
 use Rattle.prem_asm.specs.PiecesOf.{piece_before, row_before, pieces_of, piece_of}
 use Rattle.prem_asm.proofs.PieceWords.{drop_piece}
 use Rattle.prem_layout.specs.Parts.{code_part}
@@ -19,7 +19,7 @@ use Rattle.prem_bounds.specs.ToldSums.{clip, clipped_sums}
 
 -- ---- sums that may not be there
 
-pub clip_twice : (a : Option ℕ) → clip (clip a) ≡ clip a
+clip_twice : (a : Option ℕ) → clip (clip a) ≡ clip a
 clip_twice None = refl
 clip_twice (Some a) = let e : clipped (clipped a) ≡ clipped a = omega arith in ap (λ n. Some n) e
 
@@ -36,7 +36,7 @@ clip_both (Some a) (Some b) = let e : clipped (a + b) ≡ clipped (clipped a + c
 pub most_alike : (a b c d : Option ℕ) → clip a ≡ clip c → clip b ≡ clip d → clip (most a b) ≡ clip (most c d)
 most_alike a b c d e f = clip_most a b ∙ ap (λ x. most x (clip b)) e ∙ ap (most (clip c)) f ∙ sym (clip_most c d)
 
-pub both_alike : (a b c d : Option ℕ) → clip a ≡ clip c → clip b ≡ clip d → clip (both a b) ≡ clip (both c d)
+both_alike : (a b c d : Option ℕ) → clip a ≡ clip c → clip b ≡ clip d → clip (both a b) ≡ clip (both c d)
 both_alike a b c d e f = clip_both a b ∙ ap (λ x. clip (both x (clip b))) e ∙ ap (λ x. clip (both (clip c) x)) f ∙ sym (clip_both c d)
 
 -- what is told of both
@@ -45,7 +45,7 @@ told_both r a b e = ap clip e ∙ clip_twice (both a b)
 
 -- ---- four sums
 
-pub chained_alike : (a b c d : Sums) → clipped_sums a ≡ clipped_sums c → clipped_sums b ≡ clipped_sums d → clipped_sums (chained a b) ≡ clipped_sums (chained c d)
+chained_alike : (a b c d : Sums) → clipped_sums a ≡ clipped_sums c → clipped_sums b ≡ clipped_sums d → clipped_sums (chained a b) ≡ clipped_sums (chained c d)
 chained_alike a b c d e f =
     let aw : clip a.whole ≡ clip c.whole = ap (λ (s : Sums). s.whole) e in
     let ab : clip a.before ≡ clip c.before = ap (λ (s : Sums). s.before) e in
@@ -61,20 +61,20 @@ chained_alike a b c d e f =
     (most_alike a.between b.between c.between d.between at bt) (both_alike a.behind b.before c.behind d.before ah bb))
     (most_alike b.behind (both a.behind b.whole) d.behind (both c.behind d.whole) bh (both_alike a.behind b.whole c.behind d.whole ah bw))
 
-pub among_alike : (a b c d : Sums) → clipped_sums a ≡ clipped_sums c → clipped_sums b ≡ clipped_sums d → clipped_sums (among a b) ≡ clipped_sums (among c d)
+among_alike : (a b c d : Sums) → clipped_sums a ≡ clipped_sums c → clipped_sums b ≡ clipped_sums d → clipped_sums (among a b) ≡ clipped_sums (among c d)
 among_alike a b c d e f =
     same_sums _ _ (most_alike a.whole b.whole c.whole d.whole (ap (λ (s : Sums). s.whole) e) (ap (λ (s : Sums). s.whole) f))
     (most_alike a.before b.before c.before d.before (ap (λ (s : Sums). s.before) e) (ap (λ (s : Sums). s.before) f))
     (most_alike a.between b.between c.between d.between (ap (λ (s : Sums). s.between) e) (ap (λ (s : Sums). s.between) f))
     (most_alike a.behind b.behind c.behind d.behind (ap (λ (s : Sums). s.behind) e) (ap (λ (s : Sums). s.behind) f))
 
-pub turned_alike : (turns : ℕ) (a b c d : Sums) → clipped_sums a ≡ clipped_sums c → clipped_sums b ≡ clipped_sums d → clipped_sums (turned turns a b) ≡ clipped_sums (turned turns c d)
+turned_alike : (turns : ℕ) (a b c d : Sums) → clipped_sums a ≡ clipped_sums c → clipped_sums b ≡ clipped_sums d → clipped_sums (turned turns a b) ≡ clipped_sums (turned turns c d)
 unfolding turned
 turned_alike zero a b c d e f = f
 turned_alike (suc turns) a b c d e f =
     among_alike (chained a (turned turns a b)) b (chained c (turned turns c d)) d (chained_alike a (turned turns a b) c (turned turns c d) e (turned_alike turns a b c d e f)) f
 
-pub taking_alike : (a b : ℕ) → clipped a ≡ clipped b → clipped_sums (taking a) ≡ clipped_sums (taking b)
+taking_alike : (a b : ℕ) → clipped a ≡ clipped b → clipped_sums (taking a) ≡ clipped_sums (taking b)
 taking_alike a b e = ap taking e
 
 pub greatest_alike : (a b : Sums) → clipped_sums a ≡ clipped_sums b → clipped (greatest a) ≡ clipped (greatest b)
@@ -165,7 +165,7 @@ summed_before w calls (Repeat' turns p head test q body) rest =
     (summed w calls rest)
 summed_before w calls (CallTo link part) rest = two_before (taking (jump_weight w)) (calls part) (summed w calls rest)
 
-pub summed_drop : (w : Instr → ℕ) (calls : ℕ → Sums) (ps : List Piece) (i : ℕ) (p : Piece) → i < length ps → p ≡ get_or ps i p →
+summed_drop : (w : Instr → ℕ) (calls : ℕ → Sums) (ps : List Piece) (i : ℕ) (p : Piece) → i < length ps → p ≡ get_or ps i p →
     summed w calls (pieces_of (drop i ps)) ≡ chained (summed w calls (piece_of p)) (summed w calls (pieces_of (drop (i + 1) ps)))
 summed_drop w calls ps i p h is = ap (summed w calls) (drop_piece ps i p h is) ∙ summed_before w calls p (pieces_of (drop (i + 1) ps))
 
@@ -215,20 +215,20 @@ module _ (w : Instr → ℕ) (calls : ℕ → Sums) where
       (eo ∙ chained_alike start last h (taking (w (branch_of test) + jump_weight w)) es (ap clipped_sums el ∙ taking_alike way (w (branch_of test) + jump_weight w) way_is))
       ∙ ap clipped_sums (sym (chained_none (turned turns x y)))
 
-  pub straight_told : (code : List Instr) (n : ℕ) (r : Sums) → r ≡ taking n → n ≡ clipped (weight w code) → Same r (summed w calls (straight code no_pieces))
+  straight_told : (code : List Instr) (n : ℕ) (r : Sums) → r ≡ taking n → n ≡ clipped (weight w code) → Same r (summed w calls (straight code no_pieces))
   straight_told code n r er e =
       let way : clipped n ≡ clipped (weight w code) = omega (arith, e) in
       ap clipped_sums er ∙ taking_alike n (weight w code) way ∙ ap clipped_sums (sym (chained_none (taking (weight w code))))
 
-  pub address_told : (rd part more n : ℕ) (r : Sums) → r ≡ taking n → n ≡ address_weight w → Same r (summed w calls (address_of rd part more no_pieces))
+  address_told : (rd part more n : ℕ) (r : Sums) → r ≡ taking n → n ≡ address_weight w → Same r (summed w calls (address_of rd part more no_pieces))
   address_told rd part more n r er e = ap clipped_sums (er ∙ ap taking e) ∙ ap clipped_sums (sym (chained_none (taking (address_weight w))))
 
-  pub call_told : (link part : ℕ) (r jump called : Sums) → Same r (chained jump called) → jump ≡ taking (jump_weight w) → called ≡ calls part → Same r (summed w calls (call_to link part no_pieces))
+  call_told : (link part : ℕ) (r jump called : Sums) → Same r (chained jump called) → jump ≡ taking (jump_weight w) → called ≡ calls part → Same r (summed w calls (call_to link part no_pieces))
   call_told link part r jump called er ej ec =
       er ∙ ap (λ s. clipped_sums (chained s called)) ej ∙ ap (λ s. clipped_sums (chained (taking (jump_weight w)) s)) (ec ∙ sym (chained_none (calls part)))
 
   -- the start of a task
-  pub start_told : (job : ℕ) (r call last : Sums) (way : ℕ) → Same r (chained call last) → Same call (summed w calls (call_to 0 (code_part job) no_pieces)) → last ≡ taking way → way ≡ w PmDone → Same r (summed w calls (start_code job))
+  start_told : (job : ℕ) (r call last : Sums) (way : ℕ) → Same r (chained call last) → Same call (summed w calls (call_to 0 (code_part job) no_pieces)) → last ≡ taking way → way ≡ w PmDone → Same r (summed w calls (start_code job))
   start_told job r call last way er ec el ew =
       let j : Sums = taking (jump_weight w) in
       let c : Sums = calls (code_part job) in

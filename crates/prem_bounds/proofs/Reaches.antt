@@ -1,14 +1,14 @@
 -- From arrays of sums to those of a task.
-use Rattle.std.proofs.Common.{◌≡◌, ℕ, zero, suc, ◌+◌, ◌*◌, ◌<◌, ◌≤◌, List, [], ◌∷◌, ◌++◌, refl, ap, ◌∙◌, sym, subst, arith, cond, Bool, true, false, ⊎_elim, length, length-append, take, get_or, set, replicate, slice_set, max}
 use Rattle.std.specs.Prelude.{nat_lt}
+use Rattle.std.proofs.Common.{◌≡◌, ℕ, zero, suc, ◌+◌, ◌*◌, ◌<◌, ◌≤◌, List, [], ◌∷◌, ◌++◌, refl, ap, ◌∙◌, sym, subst, arith, cond, Bool, true, false, ⊎_elim, length, length-append, take, get_or, set, replicate, slice_set, max}
 use Rattle.std.proofs.lemmas.Bool.{cases_eq, ltb-true, ltb-false}
 use Rattle.std.proofs.lemmas.List.{length-set, length-replicate, length-take, take_more, take_all}
-use Rattle.prem_isa.specs.declared.instr.Instr.{Instr}
 use Rattle.prem_list.specs.declared.Sequence.{Sequence}
 use Rattle.prem_list.specs.Sequence.{items_of}
+use Rattle.prem_plant.specs.declared.plant.Plant.{Plant}
+use Rattle.prem_isa.specs.declared.instr.Instr.{Instr}
 use Rattle.prem_asm.specs.declared.piece.Piece.{Piece}
 use Rattle.prem_asm.specs.Pieces.{Pieces, no_pieces}
-use Rattle.prem_plant.specs.declared.plant.Plant.{Plant}
 use Rattle.prem_layout.specs.Plans.{Plan}
 use Rattle.prem_layout.specs.Bounds.{CodeTable, job_weight, line_cost, start_code}
 use Rattle.prem_layout.specs.Stretch.Paths.{greatest_stated, longest_of, stretch_of}
@@ -135,7 +135,7 @@ abbrev pub job_known : Plant → List Plan → List Pieces → ℕ → ℕ → L
 job_known p plans code functions n = known_sums (job_weight p) functions (marked_sums p plans) code n
 
 -- instructions weigh what they weigh in jobs, and so do parts
-pub known_alike : (p : Plant) (plans : List Plan) (access other count stubs : ℕ) (functions : List SumsInMemory) (marked : SumsInMemory) (known : ℕ → Sums) (ps : Pieces) → access ≡ 2 * line_cost p → other ≡ line_cost p → stubs ≡ length plans → sums_of marked ≡ marked_sums_of p →
+known_alike : (p : Plant) (plans : List Plan) (access other count stubs : ℕ) (functions : List SumsInMemory) (marked : SumsInMemory) (known : ℕ → Sums) (ps : Pieces) → access ≡ 2 * line_cost p → other ≡ line_cost p → stubs ≡ length plans → sums_of marked ≡ marked_sums_of p →
     TellsSums 256 functions known →
     clipped_sums (summed (with_misses access other) (part_sums count (sums_in functions) (stub_sums stubs marked)) ps) ≡ clipped_sums (summed (job_weight p) (part_sums count known (marked_sums p plans)) ps)
 known_alike p plans access other count stubs functions marked known ps ea eo es em t =

@@ -2,9 +2,9 @@
 ghost use Rattle.std.specs.Prelude.{◌≡◌, ◌<◌, ◌≤◌, ◌^◌, length, map, IfOk, OnOk, OnErr};
 ghost use Rattle.prem_list.specs.Sequence.{items_of};
 ghost use Rattle.prem_plant.specs.Ranges.{IsPlant};
-ghost use Rattle.prem_split.specs.PlanOf.{plan_of};
-ghost use Rattle.prem_layout.specs.Bounds.{bound_of, first_call, job_bound_of, marked_weight, marked_weights, job_weights, stub_calling, stub_number, weight_at};
 ghost use Rattle.prem_asm.specs.PiecesOf.{pieces_of};
+ghost use Rattle.prem_layout.specs.Bounds.{bound_of, first_call, job_bound_of, marked_weight, marked_weights, job_weights, stub_calling, stub_number, weight_at};
+ghost use Rattle.prem_split.specs.PlanOf.{plan_of};
 ghost use Rattle.prem_bounds.specs.TableOf.{IsTable, listed, table_of};
 ghost use Rattle.prem_bounds.specs.Told.{Tells};
 

@@ -2,10 +2,10 @@
 ghost use Rattle.std.specs.Prelude.{◌≡◌, ◌<◌, ◌≤◌, ◌*◌, ◌^◌, length, map, IfOk, OnOk, OnErr};
 ghost use Rattle.prem_list.specs.Sequence.{items_of};
 ghost use Rattle.prem_plant.specs.Ranges.{IsPlant};
-ghost use Rattle.prem_split.specs.PlanOf.{plan_of};
 ghost use Rattle.prem_layout.specs.Bounds.{job_bound_of, line_cost};
 ghost use Rattle.prem_layout.specs.Stretch.Paths.{greatest_stated, longest_of};
 ghost use Rattle.prem_layout.specs.Stretch.Sums.{job_sums, marked_sums_of, sums_at};
+ghost use Rattle.prem_split.specs.PlanOf.{plan_of};
 ghost use Rattle.prem_bounds.specs.Scale.{IsScale};
 ghost use Rattle.prem_bounds.specs.TableOf.{IsTable, table_of};
 ghost use Rattle.prem_bounds.specs.ToldSums.{TellsSums, sums_of};

@@ -1,6 +1,6 @@
 -- No busy period is shorter than what the tasks before leave time for.
-use Rattle.std.proofs.Common.{◌≡◌, ℕ, suc, ◌+◌, ◌-◌, ◌*◌, ◌/◌, ◌^◌, ◌≤◌, ◌<◌, nat_lt, Bool, true, false, Option, Some, None, refl, ap, ◌∙◌, sym, subst, arith, List, [], ◌∷◌, take, length, if◌then◌else◌}
 use Rattle.std.specs.Prelude.{All}
+use Rattle.std.proofs.Common.{◌≡◌, ℕ, suc, ◌+◌, ◌-◌, ◌*◌, ◌/◌, ◌^◌, ◌≤◌, ◌<◌, nat_lt, Bool, true, false, Option, Some, None, refl, ap, ◌∙◌, sym, subst, arith, List, [], ◌∷◌, take, length, if◌then◌else◌}
 use Rattle.std.proofs.Math.Nat.{mul-add, mul_comm, div-mul-le_self, div-le_of_le-mul}
 use Rattle.std.proofs.lemmas.Nat.{mul-le}
 use Rattle.std.proofs.lemmas.Bool.{ltb-true, ltb-false}

@@ -1,19 +1,19 @@
 -- More cycles have more to do.
-use Rattle.std.proofs.Common.{ℕ, suc, ◌+◌, ◌-◌, ◌*◌, ◌/◌, ◌≤◌, ◌<◌, arith, List, [], ◌∷◌, take}
 use Rattle.std.specs.Prelude.{All}
+use Rattle.std.proofs.Common.{ℕ, suc, ◌+◌, ◌-◌, ◌*◌, ◌/◌, ◌≤◌, ◌<◌, arith, List, [], ◌∷◌, take}
 use Rattle.std.proofs.lemmas.Nat.{mul-le, le-div}
 use Rattle.std.proofs.Math.Nat.{div-mul-le_self}
 use Rattle.std.proofs.lemmas.List.Elements.{All-take}
 use Rattle.prem_busy.specs.declared.load.Load.{Load}
 use Rattle.prem_busy.specs.Busy.{IsLoad, releases_in, interference, demand, no_load, IsBalanced}
 
-pub div_grows : (a b k : ℕ) → 0 < k → a ≤ b → a / k ≤ b / k
+div_grows : (a b k : ℕ) → 0 < k → a ≤ b → a / k ≤ b / k
 div_grows a b k pos le = le-div (a / k) b k pos (let x : a / k * k ≤ a = div-mul-le_self a k in omega (arith, x, le))
 
 pub releases_grow : (period a b : ℕ) → 1 ≤ period → a ≤ b → releases_in period a ≤ releases_in period b
 releases_grow period a b some le = div_grows (a + period - 1) (b + period - 1) period (omega (arith, some)) (omega (arith, le))
 
-pub interference_grows : (xs : List Load) (a b : ℕ) → All IsLoad xs → a ≤ b → interference a xs ≤ interference b xs
+interference_grows : (xs : List Load) (a b : ℕ) → All IsLoad xs → a ≤ b → interference a xs ≤ interference b xs
 interference_grows [] a b all le = omega arith
 interference_grows (x ∷ xs) a b all le =
     let some : 1 ≤ x.period = (all 0 no_load (omega arith)).period in

@@ -7,7 +7,7 @@ use Rattle.prem_busy.specs.Schedule.{Tasks, released, released_before}
 use Rattle.prem_busy.proofs.Grows.{releases_grow}
 
 -- those of this cycle are counted in the next one
-pub releases_next : (period t : ℕ) → 1 ≤ period → releases_in period (suc t) ≡ t / period + 1
+releases_next : (period t : ℕ) → 1 ≤ period → releases_in period (suc t) ≡ t / period + 1
 releases_next period t some =
     let e : suc t + period - 1 ≡ t + period = omega (arith, some) in
     ap (λ n. n / period) e ∙ add-div_right t some
@@ -32,7 +32,7 @@ in_periods period a some =
       sum a p n some lt = omega (arith, some, lt)
 
 -- in cycles one after another no more than in each part
-pub releases_add : (period a b : ℕ) → 1 ≤ period → releases_in period (a + b) ≤ releases_in period a + releases_in period b
+releases_add : (period a b : ℕ) → 1 ≤ period → releases_in period (a + b) ≤ releases_in period a + releases_in period b
 releases_add period a b some =
     let m : ℕ = releases_in period a in
     let n : ℕ = releases_in period b in

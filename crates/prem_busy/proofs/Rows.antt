@@ -1,6 +1,6 @@
 -- Worked loads, and the lengths of their busy periods, computed.
-use Rattle.std.proofs.Common.{◌≡◌, refl, ℕ, zero, suc, ◌≤◌, arith, List, [], ◌∷◌, Some, None}
 use Rattle.std.specs.Prelude.{All}
+use Rattle.std.proofs.Common.{◌≡◌, refl, ℕ, zero, suc, ◌≤◌, arith, List, [], ◌∷◌, Some, None}
 use Rattle.prem_busy.specs.declared.load.Load.{Load}
 use Rattle.prem_busy.specs.declared.length.Busy.TheVariants.{Within, Past}
 use Rattle.prem_busy.specs.Busy.{IsLoad, blocking, earliest}

@@ -1,6 +1,6 @@
 -- The length of a busy period by its steps, each of which goes on with what there is to do.
-use Rattle.std.proofs.Common.{◌≡◌, ℕ, zero, suc, ◌<◌, ◌≤◌, arith, List}
 use Rattle.std.specs.Prelude.{All}
+use Rattle.std.proofs.Common.{◌≡◌, ℕ, zero, suc, ◌<◌, ◌≤◌, arith, List}
 use Rattle.prem_busy.specs.declared.load.Load.{Load}
 use Rattle.prem_busy.specs.declared.length.Busy.TheVariants.{Within, Past}
 use Rattle.prem_busy.specs.Busy.{IsLoad, load_at, demand, IsBalanced}

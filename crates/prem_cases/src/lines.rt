@@ -17,7 +17,7 @@ pub fn tell_grammar(rt: &(impl Print + Files + AllocGlobal)) -> io::Result<()> {
 }
 
 /// A text with the end of a line for each `$`.
-fn with_lines(alloc: Global, text: &[u8]) -> Result<Vec<u8>, AllocError> {
+pub fn with_lines(alloc: Global, text: &[u8]) -> Result<Vec<u8>, AllocError> {
     let mut bytes = Vec::new(alloc);
     for byte in text {
         bytes.push(if *byte == b'$' { b'\n' } else { *byte })?;

@@ -1,7 +1,7 @@
 -- A limit comes before everything else.
+use Rattle.std.specs.List.{list_any}
 use Rattle.std.proofs.Common.{◌≡◌, ℕ, nat_lt, ◌==◌, Bool, true, false, ◌&&◌, ◌||◌, if◌then◌else◌, List, [], ◌∷◌, ◌++◌, length, not, Option, None, Some, is_some, refl, ap, sym, ◌∙◌, arith}
 use Rattle.std.proofs.lemmas.Bool.Decides.{nat_tests}
-use Rattle.std.specs.List.{list_any}
 use Rattle.prem_syntax.specs.declared.tree.Place.{Place}
 use Rattle.prem_syntax.specs.declared.rules.Count.{Count}
 use Rattle.prem_syntax.specs.declared.rules.Count.TheVariants.{Functions, Globals, Parameters, Regions, Length, Stated}
@@ -43,7 +43,7 @@ both_stay xs ys hx hy later t =
     let is = first_of_append xs ys in
     ap (λ o. first o later) is ∙ two_stay (first_of xs) (first_of ys) hx hy later (ap is_some (sym is) ∙ t) ∙ sym is
 
-pub limits_stay : (gs : List GlobalVariable) (fs : List FunctionText) (later : Option Breach) → is_some (first_of (in_limits gs fs)) ≡ true →
+limits_stay : (gs : List GlobalVariable) (fs : List FunctionText) (later : Option Breach) → is_some (first_of (in_limits gs fs)) ≡ true →
     first (first_of (in_limits gs fs)) later ≡ first_of (in_limits gs fs)
 limits_stay gs fs =
     let a = if_broken (nat_lt 256 (length fs)) None (Limit Functions) in

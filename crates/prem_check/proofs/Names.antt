@@ -1,6 +1,6 @@
 -- Views of parts that stay.
-use Rattle.std.proofs.Common.{◌≡◌, List, length, map, Option, None, Some, is_some, refl}
 use Rattle.std.specs.Option.{option_map}
+use Rattle.std.proofs.Common.{◌≡◌, List, length, map, Option, None, Some, is_some, refl}
 use Rattle.std.proofs.lemmas.List.{length-map}
 use Rattle.prem_syntax.specs.declared.name.Name.{Name}
 use Rattle.prem_syntax.specs.declared.tree.Expr.{Expr}

@@ -1,12 +1,12 @@
 -- Names that are taken, and one more.
+use Rattle.std.specs.Str.{bytes_eq}
 use Rattle.std.proofs.Common.{◌≡◌, ℕ, ◌+◌, ◌<◌, length, take, get_or, List, [], ◌∷◌, ◌++◌, ◌||◌, map, refl, ap, ◌∙◌, sym, append_assoc}
 use Rattle.std.proofs.lemmas.List.{take_more}
-use Rattle.std.specs.Str.{bytes_eq}
 use Rattle.prem_syntax.specs.declared.tree.Ty.{Ty}
 use Rattle.prem_syntax.specs.Syntax.{Text, Parameter}
 use Rattle.prem_meaning.specs.Resolve.{Scope, parameter_names}
-use Rattle.prem_names.specs.Scopes.{with_locals, local_texts}
 use Rattle.prem_meaning.specs.Breaches.{has_name, parameter_texts}
+use Rattle.prem_names.specs.Scopes.{with_locals, local_texts}
 use Rattle.prem_names.proofs.ReachLemmas.Sets.{grouped}
 use Rattle.prem_check.specs.Taken.{taken_of}
 

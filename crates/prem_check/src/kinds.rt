@@ -1,9 +1,9 @@
 // The kinds of expressions, as far as their names are known.
 ghost use Rattle.std.specs.Prelude.{◌≡◌};
 ghost use Rattle.prem_syntax.specs.SyntaxOf.{expression_of};
-ghost use Rattle.prem_names.specs.Scopes.{scope_of};
 ghost use Rattle.prem_meaning.specs.Resolved.{Term};
 ghost use Rattle.prem_meaning.specs.Resolve.{kind_of, variable_term, element_term, resolve_term};
+ghost use Rattle.prem_names.specs.Scopes.{scope_of};
 
 use prem_syntax::{Expr, Kind, Place, UnOp};
 use prem_tree::resolve::{Meaning, Names, binary_kind, operand_kind, promoted};

@@ -3,10 +3,10 @@ ghost use Rattle.std.specs.Prelude.{◌≡◌, not, ◌++◌};
 ghost use Rattle.std.specs.Option.{option_map};
 ghost use Rattle.prem_syntax.specs.Name.{name_bytes};
 ghost use Rattle.prem_syntax.specs.SyntaxOf.{expression_of, loop_names_of, statement_of, statements_of};
-ghost use Rattle.prem_names.specs.Scopes.{scope_of};
 ghost use Rattle.prem_meaning.specs.Resolve.{meaning_of};
 ghost use Rattle.prem_meaning.specs.Rules.{LoopForm, first_of};
 ghost use Rattle.prem_meaning.specs.Breaches.{unknown, if_at, is_loop, in_assigned, in_option, in_expression, in_names, in_statement, in_statements};
+ghost use Rattle.prem_names.specs.Scopes.{scope_of};
 ghost use Rattle.prem_check.specs.FoundOf.{found_of};
 ghost use Rattle.prem_check.specs.AroundOf.{around_of};
 

@@ -1,8 +1,13 @@
 -- What the tasks of a run have been served: no more than is due for their jobs.
-use Rattle.std.proofs.Common.{◌≡◌, ℕ, zero, suc, ◌+◌, ◌-◌, ◌<◌, ◌≤◌, refl, ap, ◌∙◌, sym, subst, arith, cond, eqb, true, false, Bool, Some, None, Option, List, [], ⊎_elim, ◌*◌}
 use Rattle.std.specs.Prelude.{◌&&◌}
+use Rattle.std.proofs.Common.{◌≡◌, ℕ, zero, suc, ◌+◌, ◌-◌, ◌<◌, ◌≤◌, refl, ap, ◌∙◌, sym, subst, arith, cond, eqb, true, false, Bool, Some, None, Option, List, [], ⊎_elim, ◌*◌}
 use Rattle.std.proofs.lemmas.Bool.{cases_eq, eq-eqb, ne_eqb}
 use Rattle.prem_plant.specs.declared.plant.Plant.{Plant}
+use Rattle.prem_sched.specs.declared.sched.TaskJobs.{TaskJobs}
+use Rattle.prem_sched.specs.declared.sched.Choice.{Choice}
+use Rattle.prem_sched.specs.declared.sched.Choice.TheVariants.{Run, Idle as Rest, Finished}
+use Rattle.prem_sched.specs.Schedule.{choice, NoneReady}
+use Rattle.prem_order.specs.Order.{OrderRule}
 use Rattle.prem_isa.specs.declared.effect.Phase.{Phase}
 use Rattle.prem_isa.specs.declared.effect.Phase.TheVariants.{Compatible, Memory as MemoryPhase, Execution}
 use Rattle.prem_isa.specs.declared.effect.Change.{Change}
@@ -10,12 +15,7 @@ use Rattle.prem_isa.specs.declared.effect.Change.TheVariants.{Stay, Memory, Exec
 use Rattle.prem_isa.specs.Act.{phase_after}
 use Rattle.prem_isa.specs.Bounds.{IsLawful}
 use Rattle.prem_isa.specs.Plain.{TaskRun, Did, plain_did, plain_run}
-use Rattle.prem_order.specs.Order.{OrderRule}
 use Rattle.prem_gate.specs.Gates.{wants}
-use Rattle.prem_sched.specs.declared.sched.TaskJobs.{TaskJobs}
-use Rattle.prem_sched.specs.declared.sched.Choice.{Choice}
-use Rattle.prem_sched.specs.declared.sched.Choice.TheVariants.{Run, Idle as Rest, Finished}
-use Rattle.prem_sched.specs.Schedule.{choice, NoneReady}
 use Rattle.prem_cycle.specs.declared.state.Mode.{Mode}
 use Rattle.prem_cycle.specs.declared.state.Mode.TheVariants.{Point, Switching, Running, Idle}
 use Rattle.prem_cycle.specs.declared.state.Interval.{Interval}
@@ -27,14 +27,14 @@ use Rattle.prem_runs.specs.Position.Finish.{due_of}
 use Rattle.prem_runs.proofs.PositionLemmas.Stands.{bump, bump_same, bump_other}
 use Rattle.prem_runs.proofs.PositionLemmas.Debts.{ArePositive, wants_none, none_wanted, PaysOne, pays_one, paid_none, paid_is}
 use Rattle.prem_sound.specs.Script.Script.{Begun, begun_after, begun_by, change_due, did_due, Script, call_at, call_of}
+use Rattle.prem_sound.specs.Paced.Paced.{within_job, job_with, job_by, within_stretch, own_due, stretch_with, stretch_by, IsPaced}
 use Rattle.prem_sound.proofs.ScriptLemmas.Begins.{Executed, executed, next_phase, did_lawful}
 use Rattle.prem_sound.proofs.ResidentLemmas.Residents.{Issued, with_stated, phase_at, begun_at, MayIssue, bump_run, bump_begun}
 use Rattle.prem_sound.proofs.CallRuns.{begins_call, calls_after}
 use Rattle.prem_sound.proofs.Lasts.{owed_of}
 use Rattle.prem_sound.proofs.Spends.{kept_by}
-use Rattle.prem_busy.specs.Schedule.{Tasks, Schedule, is_task, one_if}
-use Rattle.prem_sound.specs.Paced.Paced.{within_job, job_with, job_by, within_stretch, own_due, stretch_with, stretch_by, IsPaced}
 use Rattle.prem_sound.proofs.PacedLemmas.PaceRuns.{job_by-next, stretch_by-next}
+use Rattle.prem_busy.specs.Schedule.{Tasks, Schedule, is_task, one_if}
 use Rattle.prem_deadline.proofs.Choosing.{Reads, Since, later, chooses_since, idle_none}
 
 -- ---- who is served

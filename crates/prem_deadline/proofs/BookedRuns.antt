@@ -1,9 +1,11 @@
 -- The accounts of every state of a run.
-use Rattle.std.proofs.Common.{◌≡◌, ℕ, suc, ◌+◌, ◌-◌, ◌*◌, ◌/◌, ◌<◌, ◌≤◌, refl, ap, ◌∙◌, sym, subst, arith, cond, ltb, true, false, Bool, Some, None, Option, List, length, ◌⊎◌, inl, inr, ⊎_elim}
 use Rattle.std.specs.Prelude.{All, is_some, ◌&&◌, slice_set}
+use Rattle.std.proofs.Common.{◌≡◌, ℕ, suc, ◌+◌, ◌-◌, ◌*◌, ◌/◌, ◌<◌, ◌≤◌, refl, ap, ◌∙◌, sym, subst, arith, cond, ltb, true, false, Bool, Some, None, Option, List, length, ◌⊎◌, inl, inr, ⊎_elim}
 use Rattle.std.proofs.lemmas.Bool.{and_parts, cases_eq, cond_both}
 use Rattle.std.proofs.lemmas.List.{get_or-set_same, get_or-set_other}
-use Rattle.prem_image.specs.declared.image.TaskRecord.{TaskRecord}
+use Rattle.prem_sched.specs.declared.sched.TaskJobs.{TaskJobs}
+use Rattle.prem_sched.specs.Schedule.{no_task, task_at, with_job, job_ended}
+use Rattle.prem_order.specs.Order.{OrderRule}
 use Rattle.prem_isa.specs.declared.effect.Change.{Change}
 use Rattle.prem_isa.specs.declared.effect.Change.TheVariants.{Stay, Memory, Execute, End, Job}
 use Rattle.prem_isa.specs.Decode.{cost_of}
@@ -11,12 +13,10 @@ use Rattle.prem_isa.specs.Plain.{TaskRun, Did, did_of, plain_did, plain_run, wit
 use Rattle.prem_isa.proofs.ActLaws.{cost_bounds}
 use Rattle.prem_lru.specs.Entries.{ReplacementRule}
 use Rattle.prem_lru.specs.CacheState.{touch_of}
-use Rattle.prem_order.specs.Order.{OrderRule}
 use Rattle.prem_lru.specs.Order.{lines_in}
 use Rattle.prem_gate.specs.declared.request.Request.{Request}
 use Rattle.prem_gate.specs.Gates.{Turned}
-use Rattle.prem_sched.specs.declared.sched.TaskJobs.{TaskJobs}
-use Rattle.prem_sched.specs.Schedule.{no_task, task_at, with_job, job_ended}
+use Rattle.prem_image.specs.declared.image.TaskRecord.{TaskRecord}
 use Rattle.prem_cycle.specs.declared.state.Mode.{Mode}
 use Rattle.prem_cycle.specs.declared.state.Mode.TheVariants.{Point, Switching, Running, Idle}
 use Rattle.prem_cycle.specs.State.{Setup, no_record, record_of, Task, Work, Debt, CoreState, Counts, MachineState, start_of, task_in}

@@ -1,23 +1,23 @@
 -- A run of tasks that keep to their scripts is a schedule that serves no task more than is due.
-use Rattle.std.proofs.Common.{◌≡◌, ℕ, zero, suc, ◌+◌, ◌-◌, ◌*◌, ◌/◌, ◌<◌, ◌≤◌, min, refl, ap, ◌∙◌, sym, subst, arith, cond, eqb, true, false, Bool, Some, None, Option, List, length, ◌⊎◌, inl, inr, ⊎_elim}
 use Rattle.std.specs.Prelude.{All, is_some, ◌&&◌}
+use Rattle.std.proofs.Common.{◌≡◌, ℕ, zero, suc, ◌+◌, ◌-◌, ◌*◌, ◌/◌, ◌<◌, ◌≤◌, min, refl, ap, ◌∙◌, sym, subst, arith, cond, eqb, true, false, Bool, Some, None, Option, List, length, ◌⊎◌, inl, inr, ⊎_elim}
 use Rattle.std.proofs.lemmas.Bool.{and_parts, cases_Bool, cases_eq, eq-eqb, eqb-true, ne_eqb}
 use Rattle.std.proofs.lemmas.List.{get_or_default}
 use Rattle.prem_plant.specs.Ranges.{IsPlant}
-use Rattle.prem_image.specs.declared.image.TaskRecord.{TaskRecord}
+use Rattle.prem_sched.specs.declared.sched.TaskJobs.{TaskJobs}
+use Rattle.prem_sched.specs.declared.sched.Choice.{Choice}
+use Rattle.prem_sched.specs.declared.sched.Choice.TheVariants.{Run, Idle as Rest, Finished}
+use Rattle.prem_sched.specs.Schedule.{choice, no_task, task_at, NoneReady}
+use Rattle.prem_order.specs.Order.{OrderRule, HaveRoom}
 use Rattle.prem_isa.specs.declared.effect.Phase.{Phase}
 use Rattle.prem_isa.specs.declared.effect.Phase.TheVariants.{Compatible, Memory as MemoryPhase, Execution}
 use Rattle.prem_isa.specs.declared.effect.Change.{Change}
 use Rattle.prem_isa.specs.declared.effect.Change.TheVariants.{Stay, Memory, Execute, End, Job}
 use Rattle.prem_isa.specs.Plain.{TaskRun, PlainState, plain_steps, plain_run, with_last}
 use Rattle.prem_lru.specs.Entries.{ReplacementRule}
-use Rattle.prem_order.specs.Order.{OrderRule, HaveRoom}
 use Rattle.prem_lru.specs.Order.{lines_in}
 use Rattle.prem_gate.specs.declared.request.Request.{Request}
-use Rattle.prem_sched.specs.declared.sched.TaskJobs.{TaskJobs}
-use Rattle.prem_sched.specs.declared.sched.Choice.{Choice}
-use Rattle.prem_sched.specs.declared.sched.Choice.TheVariants.{Run, Idle as Rest, Finished}
-use Rattle.prem_sched.specs.Schedule.{choice, no_task, task_at, NoneReady}
+use Rattle.prem_image.specs.declared.image.TaskRecord.{TaskRecord}
 use Rattle.prem_cycle.specs.declared.state.Mode.{Mode}
 use Rattle.prem_cycle.specs.declared.state.Mode.TheVariants.{Point, Switching, Running, Idle}
 use Rattle.prem_cycle.specs.State.{Setup, no_record, record_of, MachineState}
@@ -31,6 +31,7 @@ use Rattle.prem_runs.proofs.PositionLemmas.Schedules.{Schedules, uncounted, unco
 use Rattle.prem_sound.specs.Script.Script.{begun_by, Call, call_of, Script}
 use Rattle.prem_sound.specs.Script.Scripts.{sum_below, last_release, interval_count}
 use Rattle.prem_sound.specs.Resident.Faultless.{IsPolicy}
+use Rattle.prem_sound.specs.Paced.Paced.{job_by, stretch_by, IsPaced}
 use Rattle.prem_sound.proofs.ResidentLemmas.Residents.{Goes, Issued, phase_at, begun_at}
 use Rattle.prem_sound.proofs.ResidentLemmas.Keeps.{sets_are, KeepScripts}
 use Rattle.prem_sound.proofs.ResidentLemmas.Facing.{KnownCore}
@@ -43,15 +44,14 @@ use Rattle.prem_sound.proofs.Ends.{behind_end, finished_point}
 use Rattle.prem_sound.proofs.Rests.{rest_until}
 use Rattle.prem_sound.proofs.Timing.{first_no, not_finished, unpaid_owes, not_both}
 use Rattle.prem_sound.proofs.Finishing.{over_finished, run_timed}
+use Rattle.prem_sound.proofs.PacedLemmas.PaceRuns.{job_left, stretch_most}
 use Rattle.prem_busy.specs.declared.load.Load.{Load}
 use Rattle.prem_busy.specs.Busy.{load_at}
 use Rattle.prem_busy.specs.Schedule.{Tasks, released, released_before, Schedule, IsReady, is_task, one_if, served, IsServed, IsSchedule}
 use Rattle.prem_busy.proofs.Releases.{released_next, released_grows}
 use Rattle.prem_busy.proofs.Periods.{jobs_end_in_time}
 use Rattle.prem_busy.proofs.Enough.{lengths_are_enough}
-use Rattle.prem_sound.specs.Paced.Paced.{job_by, stretch_by, IsPaced}
 use Rattle.prem_deadline.specs.Deadlines.{AreLoads, ScriptsMeetDeadlines}
-use Rattle.prem_sound.proofs.PacedLemmas.PaceRuns.{job_left, stretch_most}
 use Rattle.prem_deadline.proofs.Choosing.{Reads, Since, chooses_since, finished_done, idle_none, ready_then}
 use Rattle.prem_deadline.proofs.Accounts.{chosen_task, serves_in, more, kept_at, job_at, stretch_at, InStretch, HasHad, InRun, InSwitch, Booked}
 use Rattle.prem_deadline.proofs.BookedRuns.{tasks, timeline, at, had, start, some_period, CountsJob, Settled, cycle_booked}
@@ -487,7 +487,7 @@ module _ (rule : ReplacementRule) (order : OrderRule) (passes : ℕ → ℕ) (p 
   there : (k : ℕ) → k < length loads → k < length p.tasks
   there k lt = omega (arith, lt, are.count)
 
-  pub is_schedule : IsSchedule all_tasks line
+  is_schedule : IsSchedule all_tasks line
   is_schedule = record {
     periods = λ k lt. some k (there k lt);
     serves = serves_means;

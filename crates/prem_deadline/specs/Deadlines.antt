@@ -1,19 +1,19 @@
 -- When the jobs of a run have ended.
 use Rattle.std.specs.Prelude.{◌≡◌, ℕ, ◌+◌, ◌*◌, ◌<◌, ◌≤◌, Bool, List, length}
+use Rattle.prem_sched.specs.Schedule.{task_at}
+use Rattle.prem_order.specs.Order.{OrderRule}
 use Rattle.prem_isa.specs.Plain.{TaskRun}
 use Rattle.prem_lru.specs.Entries.{ReplacementRule}
-use Rattle.prem_order.specs.Order.{OrderRule}
 use Rattle.prem_gate.specs.declared.request.Request.{Request}
-use Rattle.prem_sched.specs.Schedule.{task_at}
 use Rattle.prem_cycle.specs.State.{Setup, record_of}
 use Rattle.prem_cycle.specs.Run.{run_of}
 use Rattle.prem_sound.specs.Script.Script.{Script}
 use Rattle.prem_sound.specs.Script.Scripts.{AreScripts}
 use Rattle.prem_sound.specs.Resident.Faultless.{IsPolicy}
 use Rattle.prem_sound.specs.Sound.{IsRun}
+use Rattle.prem_sound.specs.Paced.Paced.{IsPaced}
 use Rattle.prem_busy.specs.declared.load.Load.{Load}
 use Rattle.prem_busy.specs.Busy.{load_at, IsBalanced}
-use Rattle.prem_sound.specs.Paced.Paced.{IsPaced}
 
 -- a load tells the period of a task, and bounds of its jobs and intervals
 pub record IsLoadOf (p : Setup) (runs : ℕ → TaskRun) (scripts : ℕ → Script) (k : ℕ) (x : Load) : Type 0 where

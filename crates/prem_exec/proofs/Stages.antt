@@ -1,31 +1,31 @@
 -- The stages of a run of an image file, joined.
-use Rattle.std.proofs.Common.{◌≡◌, ◌≢◌, ℕ, List, Option, Some, Result, Ok, Err, IsTrue, refl, ap, ◌∙◌, sym}
 use Rattle.std.specs.Prelude.{Bool, unwrap_or}
-use Rattle.prem_answer.specs.declared.status.Status.{Status}
-use Rattle.prem_report.specs.Report.{report_text}
+use Rattle.std.proofs.Common.{◌≡◌, ◌≢◌, ℕ, List, Option, Some, Result, Ok, Err, IsTrue, refl, ap, ◌∙◌, sym}
 use Rattle.prem_list.specs.Sequence.{items_of}
-use Rattle.prem_image.specs.declared.image.Image.{Image}
+use Rattle.prem_io.specs.Files.{Files}
 use Rattle.prem_lru.specs.Rules.{rule_of}
 use Rattle.prem_gate.specs.declared.request.RunInput.{RunInput}
+use Rattle.prem_image.specs.declared.image.Image.{Image}
+use Rattle.prem_image.specs.Text.{ImageText, image_text}
 use Rattle.prem_cycle.specs.State.{MachineState}
 use Rattle.prem_cycle.specs.Run.{cycles_of}
 use Rattle.prem_cycle.specs.Inputs.{image_run, setup_of, words_of}
 use Rattle.prem_cycle.specs.FactsOf.{Report, report_of, stop_of}
-use Rattle.prem_imagefile.specs.declared.fail.ImageFail.TheVariants.{Magic, Version, Short, Long, Field, OutOfMemory as NoMemory}
+use Rattle.prem_cycle.specs.declared.state.Stop.{Stop}
+use Rattle.prem_cycle.specs.declared.state.Stop.TheVariants.{Finished, Trap, LogFull, Limit}
 use Rattle.prem_set.specs.declared.run.fail.Which.{Which}
 use Rattle.prem_set.specs.Run.Views.{IsRun}
-use Rattle.prem_io.specs.Files.{Files}
-use Rattle.prem_image.specs.Text.{ImageText, image_text}
+use Rattle.prem_set.specs.Run.Run.{Gathered, LineRefusal, run_of}
+use Rattle.prem_imagefile.specs.declared.fail.ImageFail.TheVariants.{Magic, Version, Short, Long, Field, OutOfMemory as NoMemory}
+use Rattle.prem_imagefile.specs.declared.fail.ImageFail.{ImageFail}
+use Rattle.prem_imagefile.specs.Reading.{read_as, Fails}
 use Rattle.prem_command.specs.Words.{RunAsked}
+use Rattle.prem_report.specs.Report.{report_text}
+use Rattle.prem_report.specs.Fitting.Named.{names_for}
+use Rattle.prem_answer.specs.declared.status.Status.{Status}
 use Rattle.prem_answer.specs.declared.answer.Telling.{Telling}
 use Rattle.prem_answer.specs.Stages.{Reply, Reads, Stage, IsReadAs, IsGiven, IsFine, is_settled, form_by, form_reply, reading}
 use Rattle.prem_answer.proofs.Reading.{goes_on, ends_there, gives_at_once, reading_fine}
-use Rattle.prem_cycle.specs.declared.state.Stop.{Stop}
-use Rattle.prem_cycle.specs.declared.state.Stop.TheVariants.{Finished, Trap, LogFull, Limit}
-use Rattle.prem_imagefile.specs.declared.fail.ImageFail.{ImageFail}
-use Rattle.prem_imagefile.specs.Reading.{read_as, Fails}
-use Rattle.prem_set.specs.Run.Run.{Gathered, LineRefusal, run_of}
-use Rattle.prem_report.specs.Fitting.Named.{names_for}
 use Rattle.prem_exec.specs.Forms.{RunText, image_in, image_why, line_why, run_in, run_in_by}
 use Rattle.prem_exec.specs.Exec.{exec_stages, image_limit, run_limit, image_of_bytes, run_of_bytes, run_reply, exec_limit, stop_status, stop_at, state_at, told_reply, input_of}
 

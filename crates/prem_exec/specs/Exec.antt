@@ -3,17 +3,17 @@ use Rattle.std.specs.Prelude.{ℕ, ◌^◌, min, Bool, List, Option, Result, Ok,
 use Rattle.prem_list.specs.Sequence.{items_of}
 use Rattle.prem_lru.specs.Rules.{rule_of}
 use Rattle.prem_gate.specs.declared.request.RunInput.{RunInput}
+use Rattle.prem_image.specs.Text.{ImageText}
 use Rattle.prem_cycle.specs.declared.state.Stop.{Stop}
 use Rattle.prem_cycle.specs.declared.state.Stop.TheVariants.{Finished, Trap, LogFull, Limit}
 use Rattle.prem_cycle.specs.State.{MachineState}
 use Rattle.prem_cycle.specs.Run.{run_of}
 use Rattle.prem_cycle.specs.FactsOf.{report_of, stop_of}
 use Rattle.prem_cycle.specs.Inputs.{image_setup, words_of}
-use Rattle.prem_image.specs.Text.{ImageText}
-use Rattle.prem_imagefile.specs.Reading.{read_as}
 use Rattle.prem_set.specs.Run.Run.{run_of as lines_of_run}
-use Rattle.prem_report.specs.Fitting.Named.{names_for}
+use Rattle.prem_imagefile.specs.Reading.{read_as}
 use Rattle.prem_command.specs.Words.{RunAsked}
+use Rattle.prem_report.specs.Fitting.Named.{names_for}
 use Rattle.prem_report.specs.Report.{report_text}
 use Rattle.prem_answer.specs.declared.status.Status.{Status}
 use Rattle.prem_answer.specs.declared.status.Status.TheVariants.{Done, Trap as Trapped}

@@ -1,12 +1,12 @@
 -- What is written of image files and run files that aren't in their form.
 use Rattle.std.specs.Prelude.{ℕ, List, [], ◌++◌, Result, Ok, Err, codes, decimal}
 use Rattle.prem_gate.specs.declared.request.Request.{Request}
-use Rattle.prem_imagefile.specs.declared.fail.ImageFail.{ImageFail}
-use Rattle.prem_imagefile.specs.declared.fail.ImageFail.TheVariants.{Magic, Version, Short, Long, Field, OutOfMemory}
 use Rattle.prem_image.specs.Text.{ImageText}
 use Rattle.prem_set.specs.declared.run.fail.Which.{Which}
 use Rattle.prem_set.specs.declared.run.fail.Which.TheVariants as which
 use Rattle.prem_set.specs.Run.Run.{Gathered, LineRefusal}
+use Rattle.prem_imagefile.specs.declared.fail.ImageFail.{ImageFail}
+use Rattle.prem_imagefile.specs.declared.fail.ImageFail.TheVariants.{Magic, Version, Short, Long, Field, OutOfMemory}
 use Rattle.prem_answer.specs.declared.answer.Telling.{Telling}
 use Rattle.prem_answer.specs.declared.answer.Telling.TheVariants.{Whole}
 use Rattle.prem_answer.specs.Stages.{Reply, form_by, form_reply}

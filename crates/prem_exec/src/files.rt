@@ -2,8 +2,8 @@
 ghost use Rattle.std.specs.Prelude.{◌≡◌, ◌≢◌, ◌≤◌, IfOk, IsErrOf, string_bytes};
 ghost use Rattle.prem_list.specs.Sequence.{items_of};
 ghost use Rattle.prem_io.specs.Counts.{Rose};
-ghost use Rattle.prem_cycle.specs.Inputs.{FitsRun, setup_of, words_of};
 ghost use Rattle.prem_image.specs.Text.{image_text};
+ghost use Rattle.prem_cycle.specs.Inputs.{FitsRun, setup_of, words_of};
 ghost use Rattle.prem_imagefile.specs.declared.fail.ImageFail.TheVariants.{OutOfMemory};
 ghost use Rattle.prem_answer.specs.Stages.{Comes, IsReadAs, form_by, form_reply, reply_of};
 ghost use Rattle.prem_exec.specs.Forms.{image_why, line_why, which_word};

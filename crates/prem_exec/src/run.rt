@@ -1,11 +1,11 @@
 // The run of an image, and what is told of it.
 ghost use Rattle.std.specs.Prelude.{◌≡◌, ◌≤◌, ◌^◌, IfOk};
 ghost use Rattle.prem_list.specs.Sequence.{items_of};
-ghost use Rattle.prem_cycle.specs.Inputs.{FitsRun, setup_of, words_of};
 ghost use Rattle.prem_image.specs.Text.{image_text};
+ghost use Rattle.prem_cycle.specs.Inputs.{FitsRun, setup_of, words_of};
+ghost use Rattle.prem_machine.specs.States.{state_of};
 ghost use Rattle.prem_answer.specs.Stages.{reply_of};
 ghost use Rattle.prem_exec.specs.Exec.{input_of, run_reply, state_at, stop_at, stop_status};
-ghost use Rattle.prem_machine.specs.States.{state_of};
 
 use prem_answer::{Answer, Status};
 use prem_cycle::Stop;

@@ -4,13 +4,13 @@ ghost use Rattle.prem_list.specs.Sequence.{items_of};
 ghost use Rattle.prem_syntax.specs.SyntaxOf.{expression_of, program_of};
 ghost use Rattle.prem_meaning.specs.GroupTwo.{IsWellFormed};
 ghost use Rattle.prem_meaning.specs.Resolve.{functions_of};
+ghost use Rattle.prem_tree.specs.Resolve.ResolvedOf.{term_of};
 ghost use Rattle.prem_analyse.specs.Analysed.{analysed_text};
 ghost use Rattle.prem_asm.specs.PiecesOf.{pieces_of};
-ghost use Rattle.prem_tree.specs.Resolve.ResolvedOf.{term_of};
-ghost use Rattle.prem_gen.specs.Term.Excess.{Refuses};
-ghost use Rattle.prem_gen.specs.Term.Numbers.{HasSmall};
 ghost use Rattle.prem_expr.specs.Scope.{frame_in, term_in};
 ghost use Rattle.prem_expr.specs.Code.{expression_code, expression_excess};
+ghost use Rattle.prem_gen.specs.Term.Excess.{Refuses};
+ghost use Rattle.prem_gen.specs.Term.Numbers.{HasSmall};
 
 use crate::face::frame;
 use crate::marks::first_global;

@@ -1,15 +1,15 @@
 -- All code of a well-formed program has words.
-use Rattle.std.proofs.Common.{◌≡◌, ℕ, zero, suc, ◌+◌, ◌*◌, ◌/◌, ◌%◌, ◌^◌, ◌<◌, ◌≤◌, refl, ap, subst, arith, cond, ltb, true, false, Bool, List, [], ◌∷◌, ◌++◌, length, map, Some, None, Option, All}
 use Rattle.std.specs.Prelude.{negsuc, slice_get, slice_index, unwrap_or, codes}
 use Rattle.std.specs.Option.{option_map}
+use Rattle.std.proofs.Common.{◌≡◌, ℕ, zero, suc, ◌+◌, ◌*◌, ◌/◌, ◌%◌, ◌^◌, ◌<◌, ◌≤◌, refl, ap, subst, arith, cond, ltb, true, false, Bool, List, [], ◌∷◌, ◌++◌, length, map, Some, None, Option, All}
 use Rattle.std.proofs.lemmas.Bool.{ltb-false}
 use Rattle.std.proofs.lemmas.List.Elements.{All-nil, All-cons, All-head, All-tail}
 use Rattle.prem_plant.specs.declared.plant.Target.{Target}
+use Rattle.prem_plant.specs.Places.{Extent}
 use Rattle.prem_isa.specs.declared.instr.Instr.TheVariants.{OpImm, PmExec, PmEnd}
 use Rattle.prem_isa.specs.declared.instr.AluOp.TheVariants.{Add}
 use Rattle.prem_syntax.specs.declared.tree.Place.{Place as TextPlace}
 use Rattle.prem_syntax.specs.Syntax.{MarkText, GlobalVariable, FunctionText, ProgramText, global_item, function_item}
-use Rattle.prem_plant.specs.Places.{Extent}
 use Rattle.prem_meaning.specs.Resolve.{find_function, functions_of, loops_within, resolve_items, resolve}
 use Rattle.prem_meaning.specs.Resolved.{Routine, Resolved}
 use Rattle.prem_meaning.specs.Statements.{is_marked}
@@ -18,16 +18,16 @@ use Rattle.prem_template.specs.Frames.{frame_of, frame_at}
 use Rattle.prem_template.specs.Limits.{Excess, frame, greatest_frame, deep_excess, excess_of, excess_or, excess_among, too_deep_function}
 use Rattle.prem_template.specs.Parts.{marked_count, marked_before, is_marked_at, code_part, stub_part, global_part, parts_of, codes_of}
 use Rattle.prem_template.specs.Steps.{Parts, function_code}
+use Rattle.prem_template.proofs.Operators.{Fitting, fitting, joined, address_fits, each_behind, i0, less_one, r0, r5, r6}
 use Rattle.prem_layout.specs.Plans.{Plan, plan_of, plan_before, plans_from, plans_of}
 use Rattle.prem_layout.specs.Parts.{Passes, once, times, pass_count}
 use Rattle.prem_layout.specs.Footprint.{TaskPlaces, ranges_of}
 use Rattle.prem_layout.specs.Stubs.{range_code, ranges_code, passes_code, predictable_code, return_code, stub_of}
 use Rattle.prem_layout.specs.Bounds.{start_code}
+use Rattle.prem_layout.proofs.TaskParts.{plans_counted}
 use Rattle.prem_fit_laws.specs.Whole.{HasAddresses, HasWords, ProgramsHaveWords}
 use Rattle.prem_fit_laws.proofs.Terms.{Below, found_below}
 use Rattle.prem_fit_laws.proofs.Steps.{programs_named}
-use Rattle.prem_template.proofs.Operators.{Fitting, fitting, joined, address_fits, each_behind, i0, less_one, r0, r5, r6}
-use Rattle.prem_layout.proofs.TaskParts.{plans_counted}
 use Rattle.prem_fit_laws.proofs.FunctionCode.{IsPlaced, IsCalled, function_fits}
 
 -- ---- marked functions

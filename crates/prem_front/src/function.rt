@@ -3,10 +3,10 @@ ghost use Rattle.std.specs.Prelude.{◌≡◌, IfOk, map};
 ghost use Rattle.prem_list.specs.Sequence.{items_of};
 ghost use Rattle.prem_syntax.specs.SyntaxOf.{expression_of, statement_of, parameter_of, local_of, function_of};
 ghost use Rattle.prem_lexer.specs.Token.Lexeme.{seen_of};
-ghost use Rattle.prem_reader.specs.Expression.StateOf.{state_of};
-ghost use Rattle.prem_reader.specs.Statement.PointOf.{turn_of};
 ghost use Rattle.prem_text.specs.Grammar.Statement.{listed};
 ghost use Rattle.prem_text.specs.Grammar.Item.{parameter_begins, parameter_ends, parameter_goes_on, with_local, with_body, with_result, value_begins, body_ends, statement_step, local_begins, value_ends, value_goes_on};
+ghost use Rattle.prem_reader.specs.Expression.StateOf.{state_of};
+ghost use Rattle.prem_reader.specs.Statement.PointOf.{turn_of};
 ghost use Rattle.prem_front.specs.StageOf.{value_of, stage_of, step_of};
 
 use crate::global::{begin_row, with_parameter};

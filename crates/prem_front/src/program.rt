@@ -5,9 +5,9 @@ ghost use Rattle.prem_syntax.specs.SyntaxOf.{item_of, program_of};
 ghost use Rattle.prem_lexer.specs.Token.Reading.{Gives};
 ghost use Rattle.prem_lexer.specs.Token.Lexeme.{seen_of};
 ghost use Rattle.prem_text.specs.Grammar.Reader.{at_end, read};
+ghost use Rattle.prem_text.specs.Texts.{reads};
 ghost use Rattle.prem_front.specs.Ends.{is_finished};
 ghost use Rattle.prem_front.specs.StageOf.{stage_of};
-ghost use Rattle.prem_text.specs.Texts.{reads};
 
 use crate::item::{is_too_deep, step};
 use crate::stage::{ItemStep, Stage};

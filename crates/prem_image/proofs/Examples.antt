@@ -1,7 +1,7 @@
 -- An image that keeps the rules, and some that do not.
-use Rattle.std.proofs.Common.{◌≡◌, ℕ, zero, suc, ◌<◌, ◌≤◌, List, [], ◌∷◌, Some, None, map, refl, arith, subst}
 use Rattle.std.specs.Prelude.{codes, slice_get, All}
 use Rattle.std.specs.Int.Count.{ones}
+use Rattle.std.proofs.Common.{◌≡◌, ℕ, zero, suc, ◌<◌, ◌≤◌, List, [], ◌∷◌, Some, None, map, refl, arith, subst}
 use Rattle.prem_plant.specs.declared.plant.Replacement.TheVariants.{Lru}
 use Rattle.prem_plant.specs.declared.plant.Target.TheVariants.{Rv32i}
 use Rattle.prem_plant.specs.declared.plant.Plant.{Plant}

@@ -1,6 +1,6 @@
 // What one instruction does, but for the bytes of memory.
 
-ghost use Rattle.std.specs.Prelude.{◌≡◌, ℕ, ◌≤◌, ◌<◌, ◌+◌, ◌*◌, ◌^◌, slice_index, IfNone};
+ghost use Rattle.std.specs.Prelude.{◌≡◌, ℕ, ◌≤◌, ◌<◌, ◌+◌, ◌*◌, ◌^◌, slice_index, IfNone, if◌then◌else◌};
 ghost use Rattle.prem_word.specs.Bytes.{number_at};
 ghost use Rattle.prem_isa.specs.Decode.{Fits};
 ghost use Rattle.prem_isa.specs.Alu.{load_size, store_size};
@@ -43,11 +43,8 @@ pub fn execute(
             rs2,
             offset,
         } => {
-            if op.holds(registers[rs1 as usize], registers[rs2 as usize]) {
-                jump(offset_by(pc, offset), 0, 0)
-            } else {
-                set(next, 0, 0)
-            }
+            let is_taken = op.holds(registers[rs1 as usize], registers[rs2 as usize]);
+            branch(next, offset_by(pc, offset), is_taken)
         }
         Instr::Load {
             op,
@@ -55,13 +52,8 @@ pub fn execute(
             rs1,
             offset,
         } => {
-            load(
-                size,
-                next,
-                op,
-                rd,
-                offset_by(registers[rs1 as usize], offset),
-            )
+            let address = offset_by(registers[rs1 as usize], offset);
+            load(size, next, op, rd, address)
         }
         Instr::Store {
             op,
@@ -73,18 +65,12 @@ pub fn execute(
             store(size, next, op, address, registers[rs2 as usize])
         }
         Instr::OpImm { op, rd, rs1, imm } => {
-            set(
-                next,
-                rd,
-                op.apply(registers[rs1 as usize], imm.cast_unsigned()),
-            )
+            let value = op.apply(registers[rs1 as usize], imm.cast_unsigned());
+            set(next, rd, value)
         }
         Instr::Op { op, rd, rs1, rs2 } => {
-            set(
-                next,
-                rd,
-                op.apply(registers[rs1 as usize], registers[rs2 as usize]),
-            )
+            let value = op.apply(registers[rs1 as usize], registers[rs2 as usize]);
+            set(next, rd, value)
         }
         Instr::MulDiv { op, rd, rs1, rs2 } => {
             let value = op.apply(registers[rs1 as usize], registers[rs2 as usize]);
@@ -138,6 +124,17 @@ fn jump(target: u32, rd: u8, value: u32) -> Decision
         set(target, rd, value)
     } else {
         Decision::Trap(Cause::Align)
+    }
+}
+
+fn branch(next: u32, target: u32, is_taken: bool) -> Decision
+    ensures outcome { (view : ℕ → ℕ) → outcome_in view result ≡ (if is_taken then jumps target 0 0 else sets next 0 0) }
+    ensures fit { (size : ℕ) → DecisionFits size result }
+{
+    if is_taken {
+        jump(target, 0, 0)
+    } else {
+        set(next, 0, 0)
     }
 }
 

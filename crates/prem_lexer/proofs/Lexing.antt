@@ -12,7 +12,7 @@ use Rattle.prem_lexer.specs.declared.lexer.Mode.TheVariants.{Skip, Line, Block}
 use Rattle.prem_lexer.specs.declared.lexer.Cursor.{Cursor}
 use Rattle.prem_lexer.specs.Tokens.{place, behind, step, put, with_front, lex, at_end, beginning, tokens_of}
 
-pub with_front_twice : (xs ys : List Seen) (r : Result (List Seen) FrontFail) → with_front xs (with_front ys r) ≡ with_front (xs ++ ys) r
+with_front_twice : (xs ys : List Seen) (r : Result (List Seen) FrontFail) → with_front xs (with_front ys r) ≡ with_front (xs ++ ys) r
 with_front_twice xs ys (Ok zs) = ap (λ (ts : List Seen). Ok ts) (sym (append_assoc xs ys zs))
 with_front_twice xs ys (Err f) = refl
 
@@ -22,7 +22,7 @@ pub lex_cons : (mode : Mode) (at : Cursor) (room b : ℕ) (rest : List ℕ) →
 unfolding lex
 lex_cons mode at room b rest = refl
 
-pub lex_at : (mode : Mode) (at : Cursor) (room i : ℕ) (text : List ℕ) → i < length text →
+lex_at : (mode : Mode) (at : Cursor) (room i : ℕ) (text : List ℕ) → i < length text →
     lex mode at room (drop i text) ≡ (step mode at (drop i text) >>= λ s. put s.1 at room (λ left. lex s.0 (behind at (get_or text i 0)) left (drop (i + 1) text)))
 lex_at mode at room i text inside =
     let split : drop i text ≡ get_or text i 0 ∷ drop (i + 1) text = rw add-one (drop-cons text i 0 inside) in

@@ -1,6 +1,6 @@
 -- Answers over the files that a store tells, or over some readings where it tells none.
-use Rattle.std.proofs.Common.{◌≡◌, ℕ, List, [], ◌∷◌, Option, None, Some, Result, Ok, Err, IsTrue, refl, ap, ◌∙◌, sym, subst}
 use Rattle.std.specs.Prelude.{codes}
+use Rattle.std.proofs.Common.{◌≡◌, ℕ, List, [], ◌∷◌, Option, None, Some, Result, Ok, Err, IsTrue, refl, ap, ◌∙◌, sym, subst}
 use Rattle.prem_io.specs.Files.{Files}
 use Rattle.prem_syntax.specs.Syntax.{Text}
 use Rattle.prem_command.specs.Words.{Asked, command_of}

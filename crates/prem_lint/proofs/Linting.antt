@@ -15,8 +15,8 @@ use Rattle.prem_exec.specs.Sources.Sources.{Passes, reading_sources}
 use Rattle.prem_exec.proofs.SourcesLemmas.Fine.{sources_fine}
 use Rattle.prem_exec.proofs.SourcesLemmas.Passing.{comes_as}
 use Rattle.prem_lint.specs.Forms.{set_limit, stated_in}
-use Rattle.prem_lint.proofs.Stated.{formed_fine}
 use Rattle.prem_lint.specs.Answers.{behind_file, behind_set, judged_reply, lint_reply, lint_stages, source_names}
+use Rattle.prem_lint.proofs.Stated.{formed_fine}
 
 -- ---- the whole
 

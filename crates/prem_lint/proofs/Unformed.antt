@@ -1,6 +1,6 @@
 -- A program that breaks a rule of well-formed programs has no place of a rule on ranges.
-use Rattle.std.proofs.Common.{◌≡◌, ◌≢◌, Option, None, Some, refl, sym}
 use Rattle.std.specs.Option.{option_map}
+use Rattle.std.proofs.Common.{◌≡◌, ◌≢◌, Option, None, Some, refl, sym}
 use Rattle.prem_syntax.specs.Syntax.{ProgramText}
 use Rattle.prem_meaning.specs.Rules.{Breach}
 use Rattle.prem_meaning.specs.GroupTwo.{group_two}

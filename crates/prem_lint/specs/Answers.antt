@@ -9,7 +9,7 @@ use Rattle.prem_tasks.specs.Told.{Told}
 use Rattle.prem_tasks.specs.Broken.{TaskText, TaskSet, broken}
 use Rattle.prem_set.specs.SetFile.{SetData}
 use Rattle.prem_set.specs.declared.task.TaskEntry.{TaskEntry}
-use Rattle.prem_command.specs.Words.{Asked, one, check, build, list, source, run, exec, sample, tile, mail, command_of}
+use Rattle.prem_command.specs.Words.{Asked, one, check, build, list, source, run, exec, sample, tile, color, mail, command_of}
 use Rattle.prem_answer.specs.declared.answer.Telling.TheVariants.{Whole}
 use Rattle.prem_answer.specs.declared.status.Status.{Status}
 use Rattle.prem_answer.specs.declared.status.Status.TheVariants.{Done, Refused, Usage, ReadFault, WriteFault, OutOfMemory}
@@ -81,6 +81,7 @@ asked_set (run asked) = None
 asked_set (exec asked) = None
 asked_set (sample seed) = None
 asked_set (tile asked) = None
+asked_set (color set) = None
 asked_set (mail asked) = None
 
 abbrev pub lint_of : Option Text → Stage Reply

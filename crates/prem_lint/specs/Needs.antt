@@ -2,15 +2,15 @@
 use Rattle.std.specs.Prelude.{◌≡◌, ◌≤◌, ℕ, ◌+◌, ◌==◌, Bool, true, false, if◌then◌else◌, List, [], ◌∷◌, ◌++◌, length, map, slice_get, slice_index_or, Option, None, Some, Result, Ok, Err, codes, decimal}
 use Rattle.std.specs.List.{flat_map, AllByRecursion}
 use Rattle.prem_syntax.specs.Syntax.{Text, FunctionText, ProgramText}
+use Rattle.prem_meaning.specs.Resolve.{functions_of}
 use Rattle.prem_lexer.specs.declared.token.fail.FrontFail.{FrontFail}
 use Rattle.prem_text.specs.Texts.{reads}
-use Rattle.prem_meaning.specs.Resolve.{functions_of}
 use Rattle.prem_layout.specs.Rules.{LateRule, Depth, Frame, MemoryFull, Reach, ConflictIn, BoundTooLarge, Length, Outputs, Intervals}
+use Rattle.prem_place.specs.Placed.PlacedOf.{IsPlacedTask, placed_of}
+use Rattle.prem_place.specs.declared.placed.PlacedTask.{PlacedTask}
 use Rattle.prem_tasks.specs.Told.{Told, of_text, of_program, of_ranges, of_code}
 use Rattle.prem_tasks.specs.Broken.{TaskText, TaskSet}
 use Rattle.prem_tasks.specs.Compiled.{TaskFact, compiled, placed_in}
-use Rattle.prem_place.specs.Placed.PlacedOf.{IsPlacedTask, placed_of}
-use Rattle.prem_place.specs.declared.placed.PlacedTask.{PlacedTask}
 use Rattle.prem_lint.specs.declared.spot.Spot.TheVariants.{Line}
 use Rattle.prem_lint.specs.Spots.{head}
 

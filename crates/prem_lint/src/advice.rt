@@ -1,7 +1,7 @@
 // What to do where a rule is broken.
 ghost use Rattle.std.specs.Prelude.{◌≡◌, ◌++◌, OnOk};
-ghost use Rattle.prem_syntax.specs.Name.{name_bytes};
 ghost use Rattle.prem_word.specs.Ranges.{span_of};
+ghost use Rattle.prem_syntax.specs.Name.{name_bytes};
 ghost use Rattle.prem_layout.specs.Rules.{Length};
 ghost use Rattle.prem_tasks.specs.Told.{told_of};
 ghost use Rattle.prem_lint.specs.Messages.{advice, argument_advice, count_advice, index_advice, late_advice, region_advice, type_advice};

@@ -1,9 +1,9 @@
 // The bounds of all marked functions of a set.
 ghost use Rattle.std.specs.Prelude.{◌≡◌, IfOk, map};
 ghost use Rattle.prem_list.specs.Sequence.{items_of};
+ghost use Rattle.prem_place.specs.Verdict.Told.{numbered};
 ghost use Rattle.prem_tasks.specs.Compiled.{compiled};
 ghost use Rattle.prem_tasks.specs.SetOf.{set_of};
-ghost use Rattle.prem_place.specs.Verdict.Told.{numbered};
 ghost use Rattle.prem_compile.specs.Joined.{HasCode};
 ghost use Rattle.prem_lint.specs.Needs.{AreStanding};
 

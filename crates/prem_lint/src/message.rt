@@ -1,10 +1,10 @@
 // What is wrong where a rule is broken.
 ghost use Rattle.std.specs.Prelude.{◌≡◌, ◌-◌, ◌++◌, OnOk, decimal, pos};
 ghost use Rattle.std.specs.Fmt.{signed_decimal};
-ghost use Rattle.prem_syntax.specs.Name.{name_bytes};
 ghost use Rattle.prem_word.specs.Ranges.{span_of};
-ghost use Rattle.prem_layout.specs.Rules.{ConflictIn, Length, MemoryFull};
+ghost use Rattle.prem_syntax.specs.Name.{name_bytes};
 ghost use Rattle.prem_lexer.specs.declared.token.fail.FrontFail.TheVariants.{NotText};
+ghost use Rattle.prem_layout.specs.Rules.{ConflictIn, Length, MemoryFull};
 ghost use Rattle.prem_tasks.specs.Told.{told_of};
 ghost use Rattle.prem_lint.specs.Messages.{argument_message, count_message, divisor_message, front_message, index_message, late_message, message, region_message, type_message};
 ghost use Rattle.prem_lint.specs.Elements.{array, element, past};

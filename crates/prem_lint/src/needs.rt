@@ -2,9 +2,9 @@
 ghost use Rattle.std.specs.Prelude.{◌≡◌, ◌++◌, OnOk, map};
 ghost use Rattle.std.specs.List.{flat_map};
 ghost use Rattle.prem_syntax.specs.SyntaxOf.{function_of};
+ghost use Rattle.prem_place.specs.Verdict.Told.{numbered};
 ghost use Rattle.prem_tasks.specs.SetOf.{set_of, task_of};
 ghost use Rattle.prem_tasks.specs.Told.{told_of};
-ghost use Rattle.prem_place.specs.Verdict.Told.{numbered};
 ghost use Rattle.prem_lint.specs.Needs.{is_length, need_line, need_text, needs_from, needs_text, source_name, task_needs};
 
 use crate::bounds::least_lengths;

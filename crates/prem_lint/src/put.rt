@@ -1,8 +1,8 @@
 // Numbers in a text, and what stands before a diagnostic.
 ghost use Rattle.std.specs.Prelude.{◌≡◌, ◌++◌, OnOk, decimal};
 ghost use Rattle.std.specs.Fmt.{signed_decimal};
-ghost use Rattle.prem_syntax.specs.Name.{name_bytes};
 ghost use Rattle.prem_word.specs.Ranges.{span_of};
+ghost use Rattle.prem_syntax.specs.Name.{name_bytes};
 ghost use Rattle.prem_lint.specs.Spots.{head, spot_text};
 ghost use Rattle.prem_lint.specs.Elements.{values};
 

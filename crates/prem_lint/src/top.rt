@@ -1,8 +1,8 @@
 // The program's call.
 ghost use Rattle.std.specs.Prelude.{◌≡◌, ◌≤◌, ◌⊎◌, ◌∷◌, IfOk, IsErrOf, IsTrue, Ok, codes, map, option_map, string_bytes};
 ghost use Rattle.prem_io.specs.Counts.{Rose};
-ghost use Rattle.prem_answer.specs.Stages.{Comes, IsGiven, is_settled, reply_of};
 ghost use Rattle.prem_command.specs.Words.{asked_in};
+ghost use Rattle.prem_answer.specs.Stages.{Comes, IsGiven, is_settled, reply_of};
 ghost use Rattle.prem_lint.specs.Answers.{Answered, Ends, lint_command, lint_of, usage_reply, asked_set};
 
 use crate::answer::lint_answer;
@@ -48,6 +48,7 @@ fn asked_set<'a>(said: Said<'a>) -> Option<&'a str>
         Said::Exec(_) => None,
         Said::Sample { .. } => None,
         Said::Tile(_) => None,
+        Said::Color { .. } => None,
         Said::Mail(_) => None,
     }
 }

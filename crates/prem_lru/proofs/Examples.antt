@@ -1,12 +1,12 @@
 -- The definitions at small values, computed: two sets of two lines of four bytes, over 40 bytes of memory.
-use Rattle.std.proofs.Common.{◌≡◌, ℕ, List, [], ◌∷◌, true, false, Some, refl, take, drop}
 use Rattle.std.specs.List.{range_with_len}
+use Rattle.std.proofs.Common.{◌≡◌, ℕ, List, [], ◌∷◌, true, false, Some, refl, take, drop}
+use Rattle.prem_word.specs.Bytes.{number_at}
 use Rattle.prem_plant.specs.declared.plant.Replacement.TheVariants.{Lru}
 use Rattle.prem_plant.specs.declared.plant.Target.TheVariants.{Rv32i}
 use Rattle.prem_plant.specs.declared.plant.Plant.{Plant}
 use Rattle.prem_plant.specs.declared.plant.Replacement.TheVariants.{Lru, Fifo}
 use Rattle.prem_plant.specs.declared.plant.Target.TheVariants.{Rv32i}
-use Rattle.prem_word.specs.Bytes.{number_at}
 use Rattle.prem_lru.specs.Entries.{to_front}
 use Rattle.prem_lru.specs.CacheState.{Touched, empty_cache, entry_of, view_of, touch_of, store_of}
 use Rattle.prem_lru.specs.Rules.{rule_of}

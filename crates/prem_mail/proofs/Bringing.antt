@@ -1,6 +1,6 @@
 -- A word is brought, and nothing else happens.
-use Rattle.std.proofs.Common.{◌≡◌, ℕ, ◌+◌, ◌-◌, ◌<◌, ◌≤◌, true, nat_lt, List, [], length, ap, ◌∙◌, arith}
 use Rattle.std.specs.Prelude.{slice_index_or}
+use Rattle.std.proofs.Common.{◌≡◌, ℕ, ◌+◌, ◌-◌, ◌<◌, ◌≤◌, true, nat_lt, List, [], length, ap, ◌∙◌, arith}
 use Rattle.std.proofs.lemmas.List.{length-map, length-drop}
 use Rattle.prem_list.specs.declared.Sequence.{Sequence}
 use Rattle.prem_list.specs.Sequence.{items_of}

@@ -1,6 +1,6 @@
 -- A word that comes before a read that would have passed the end of the list.
-use Rattle.std.proofs.Common.{◌≡◌, ℕ, zero, suc, ◌<◌, refl, ap, ◌∙◌, sym, arith, cond, ⊎_elim, Bool, true, false, List, [], ◌∷◌, ◌++◌, Some, None, length}
 use Rattle.std.specs.Prelude.{◌==◌, ◌&&◌, nat_le, slice_index_or}
+use Rattle.std.proofs.Common.{◌≡◌, ℕ, zero, suc, ◌<◌, refl, ap, ◌∙◌, sym, arith, cond, ⊎_elim, Bool, true, false, List, [], ◌∷◌, ◌++◌, Some, None, length}
 use Rattle.std.proofs.lemmas.Bool.{cases_Bool}
 use Rattle.prem_lru.specs.Entries.{ReplacementRule}
 use Rattle.prem_gate.specs.declared.request.Request.{Request}

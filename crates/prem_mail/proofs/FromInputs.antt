@@ -1,8 +1,7 @@
 -- Lemmas of prem_inputs that it doesn't export: how a cycle takes input words, and steps that aren't past the end.
-use Rattle.std.proofs.Common.{◌≡◌, ◌≢◌, ℕ, zero, suc, ◌-◌, ◌/◌, ◌≤◌, refl, ap, ◌∙◌, sym, subst, arith, cond, ⊎_elim, eqb-true, Bool, true, false, Option, Some, None, List, [], ◌∷◌, drop, length, length-drop, drop-drop}
 use Rattle.std.specs.Prelude.{◌==◌, ◌&&◌, nat_le, slice_index_or, slice_set}
+use Rattle.std.proofs.Common.{◌≡◌, ◌≢◌, ℕ, zero, suc, ◌-◌, ◌/◌, ◌≤◌, refl, ap, ◌∙◌, sym, subst, arith, cond, ⊎_elim, eqb-true, Bool, true, false, Option, Some, None, List, [], ◌∷◌, drop, length, length-drop, drop-drop}
 use Rattle.std.proofs.lemmas.Bool.{cases_Bool, lt-leb}
-use Rattle.prem_image.specs.declared.image.TaskRecord.{TaskRecord}
 use Rattle.prem_isa.specs.declared.effect.Access.{Access}
 use Rattle.prem_isa.specs.declared.effect.Change.{Change}
 use Rattle.prem_isa.specs.declared.effect.Change.TheVariants.{Stay, Memory, Execute, End, Job}
@@ -13,6 +12,7 @@ use Rattle.prem_lru.specs.Entries.{ReplacementRule}
 use Rattle.prem_lru.specs.CacheState.{Touched, touch_of}
 use Rattle.prem_gate.specs.declared.request.Request.{Request}
 use Rattle.prem_gate.specs.Gates.{Turned}
+use Rattle.prem_image.specs.declared.image.TaskRecord.{TaskRecord}
 use Rattle.prem_cycle.specs.State.{Setup, MachineState, record_of, Task, Work, task_in}
 use Rattle.prem_cycle.specs.Issue.{Attempt, Traps, Executes, attempt_behind, task_moved, task_changed, task_after, issued_with}
 use Rattle.prem_cycle.specs.Core.{is_empty, CoreMove, Passes, Issues, attempted, moved}

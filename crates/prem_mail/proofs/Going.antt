@@ -1,6 +1,6 @@
 -- A run that goes on until it stops.
-use Rattle.std.proofs.Common.{◌≡◌, ℕ, zero, suc, ◌+◌, ◌*◌, ◌-◌, ◌<◌, ◌≤◌, Bool, true, false, cond, List, Option, Some, None, length, refl, ap, sym, ◌∙◌, arith, ◌⊎◌, inl, inr}
 use Rattle.std.specs.Prelude.{◌==◌, ◌||◌, is_some}
+use Rattle.std.proofs.Common.{◌≡◌, ℕ, zero, suc, ◌+◌, ◌*◌, ◌-◌, ◌<◌, ◌≤◌, Bool, true, false, cond, List, Option, Some, None, length, refl, ap, sym, ◌∙◌, arith, ◌⊎◌, inl, inr}
 use Rattle.std.proofs.lemmas.Bool.{eq-eqb}
 use Rattle.std.proofs.lemmas.Bool.Decides.{nat_tests}
 use Rattle.std.proofs.lemmas.Option.{slice_get_past}
@@ -53,7 +53,7 @@ module _ (rule : ReplacementRule) (p : Setup) (requests : List Request) (feeds :
 
   -- ---- any number of cycles
 
-  pub mailed_by-add : (n k : ℕ) (m : Mailed) → mailed_by rule p requests feeds (n + k) m ≡ mailed_by rule p requests feeds k (mailed_by rule p requests feeds n m)
+  mailed_by-add : (n k : ℕ) (m : Mailed) → mailed_by rule p requests feeds (n + k) m ≡ mailed_by rule p requests feeds k (mailed_by rule p requests feeds n m)
   unfolding mailed_by
   mailed_by-add n zero m = let e : n + 0 ≡ n = omega arith in ap (λ i. mailed_by rule p requests feeds i m) e
   mailed_by-add n (suc k) m =
@@ -77,7 +77,7 @@ module _ (rule : ReplacementRule) (p : Setup) (requests : List Request) (feeds :
       ap (λ o. cycled rule p requests (supplied_to o m)) (nothing_wanted m.state over) ∙ ap (with_stopped m) (step_of-stays rule p requests m.state over) in
       ap (λ (x : Mailed). received_by feeds (ended_between m.state x.state) x) next ∙ ap (λ o. received_by feeds o m) (nothing_ended m.state)
 
-  pub mailed_by-over : (n : ℕ) (m : Mailed) → is_over m.state ≡ true → mailed_by rule p requests feeds n m ≡ m
+  mailed_by-over : (n : ℕ) (m : Mailed) → is_over m.state ≡ true → mailed_by rule p requests feeds n m ≡ m
   unfolding mailed_by
   mailed_by-over zero m over = refl
   mailed_by-over (suc n) m over = ap step (mailed_by-over n m over) ∙ step_over m over

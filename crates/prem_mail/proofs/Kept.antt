@@ -1,6 +1,6 @@
 -- What a run in memory keeps.
-use Rattle.std.proofs.Common.{◌≡◌, ℕ, zero, suc, ◌+◌, ◌<◌, ◌≤◌, Bool, true, false, cond, List, [], ◌∷◌, ◌++◌, Option, None, Some, refl, ap, sym, ◌∙◌, subst, arith, ⊎_elim, length, drop, slice_set, length-append, length-set, All}
 use Rattle.std.specs.Prelude.{is_some, slice_index, slice_index_or}
+use Rattle.std.proofs.Common.{◌≡◌, ℕ, zero, suc, ◌+◌, ◌<◌, ◌≤◌, Bool, true, false, cond, List, [], ◌∷◌, ◌++◌, Option, None, Some, refl, ap, sym, ◌∙◌, subst, arith, ⊎_elim, length, drop, slice_set, length-append, length-set, All}
 use Rattle.std.proofs.lemmas.Bool.{cases_Bool, cases_eq}
 use Rattle.std.proofs.lemmas.List.{get_or-set_same, get_or-set_other, map-set, length-map}
 use Rattle.std.proofs.lemmas.List.Elements.{All-set}
@@ -92,7 +92,7 @@ last_longer : {A : Type 0} (o : Option A) (xs : List A) → length xs ≤ length
 last_longer None xs = omega arith
 last_longer (Some x) xs = let e = length-append xs (x ∷ []) in omega (arith, e)
 
-pub more_transfers : (rule : ReplacementRule) (p : Setup) (requests : List Request) (s : MachineState) → length s.log.transfers ≤ length (step_of rule p requests s).log.transfers
+more_transfers : (rule : ReplacementRule) (p : Setup) (requests : List Request) (s : MachineState) → length s.log.transfers ≤ length (step_of rule p requests s).log.transfers
 more_transfers rule p requests s =
     let b : Turned = bus_at (arrivals_at requests s).gates s in
     ⊎_elim (λ (e : is_over s ≡ true). (let x : length (step_of rule p requests s).log.transfers ≡ length s.log.transfers = ap (λ (u : MachineState). length u.log.transfers) (step_of-stays rule p requests s e) in omega (arith, x)))
@@ -122,7 +122,7 @@ cycled_keeps r feeds words lost s is h =
 
 -- ---- a value is lost
 
-pub lost_keeps : (r : Running) (feeds : List Feed) (words : Sequence (Sequence ℕ)) (lost : List ℕ) (k : ℕ) → HoldsMail r feeds words lost → k < length lost → All (λ n. n < length r.state.log.transfers) lost →
+lost_keeps : (r : Running) (feeds : List Feed) (words : Sequence (Sequence ℕ)) (lost : List ℕ) (k : ℕ) → HoldsMail r feeds words lost → k < length lost → All (λ n. n < length r.state.log.transfers) lost →
     HoldsMail r feeds words (slice_set lost k (slice_index lost k + 1))
 lost_keeps r feeds words lost k h lt room =
     record {

@@ -1,6 +1,6 @@
 -- A run to which words come as it goes is the run that has had them from the start.
-use Rattle.std.proofs.Common.{◌≡◌, ℕ, zero, suc, ◌<◌, refl, ap, ap₂, ◌∙◌, sym, subst, arith, cond, ⊎_elim, Bool, true, false, List, [], ◌∷◌, ◌++◌, Option, Some, None, length, length-set, length-append}
 use Rattle.std.specs.Prelude.{◌&&◌, ◌||◌, nat_lt, slice_get, slice_index_or}
+use Rattle.std.proofs.Common.{◌≡◌, ℕ, zero, suc, ◌<◌, refl, ap, ap₂, ◌∙◌, sym, subst, arith, cond, ⊎_elim, Bool, true, false, List, [], ◌∷◌, ◌++◌, Option, Some, None, length, length-set, length-append}
 use Rattle.std.proofs.lemmas.Bool.{cases_Bool, ltb-true}
 use Rattle.std.proofs.lemmas.Bool.Decides.{nat_tests}
 use Rattle.prem_lru.specs.Entries.{ReplacementRule}
@@ -67,7 +67,7 @@ mail_if : (b : Bool) (x y : Mailed) (u v : Delivery) → x.mail ≡ u → y.mail
 mail_if true x y u v a b = a
 mail_if false x y u v a b = b
 
-pub supplied_mail : (o : Option ℕ) (m : Mailed) → (supplied_to o m).mail ≡ supplied o m.mail
+supplied_mail : (o : Option ℕ) (m : Mailed) → (supplied_to o m).mail ≡ supplied o m.mail
 supplied_mail None m = refl
 supplied_mail (Some k) m = mail_if (has_room k m.mail.lists) (with_mail k 0 m) m (with_lists m.mail (with_word_for k 0 m.mail.lists)) m.mail refl refl
 
@@ -86,7 +86,7 @@ log_if : (b : Bool) (x y : Mailed) (ts : List Transfer) → transfers_of x ≡ t
 log_if true x y ts a b = a
 log_if false x y ts a b = b
 
-pub supplied_log : (o : Option ℕ) (m : Mailed) → transfers_of (supplied_to o m) ≡ transfers_of m
+supplied_log : (o : Option ℕ) (m : Mailed) → transfers_of (supplied_to o m) ≡ transfers_of m
 supplied_log None m = refl
 supplied_log (Some k) m = log_if (has_room k m.mail.lists) (with_mail k 0 m) m (transfers_of m) refl refl
 

@@ -1,6 +1,6 @@
 -- What a word that comes leaves as it is, and to which task a transfer goes.
-use Rattle.std.proofs.Common.{◌≡◌, ℕ, suc, ◌<◌, Bool, true, false, cond, List, [], ◌∷◌, Option, None, Some, All, refl, arith}
 use Rattle.std.specs.Prelude.{is_some, IfSome}
+use Rattle.std.proofs.Common.{◌≡◌, ℕ, suc, ◌<◌, Bool, true, false, cond, List, [], ◌∷◌, Option, None, Some, All, refl, arith}
 use Rattle.prem_gate.specs.declared.bus.Transfer.{Transfer}
 use Rattle.prem_cycle.specs.Cycle.{is_over}
 use Rattle.prem_runs.proofs.InputsLemmas.Cycles.{over_with}

@@ -1,14 +1,14 @@
 -- How many tasks a state has.
-use Rattle.std.proofs.Common.{◌≡◌, ℕ, zero, suc, ◌/◌, refl, ap, ◌∙◌, ⊎_elim, true, false, List, [], ◌∷◌, Option, Some, None, length, length-set}
 use Rattle.std.specs.Prelude.{slice_set}
+use Rattle.std.proofs.Common.{◌≡◌, ℕ, zero, suc, ◌/◌, refl, ap, ◌∙◌, ⊎_elim, true, false, List, [], ◌∷◌, Option, Some, None, length, length-set}
 use Rattle.std.proofs.lemmas.Bool.{cases_Bool}
-use Rattle.prem_image.specs.declared.image.TaskRecord.{TaskRecord}
 use Rattle.prem_isa.specs.declared.effect.Access.{Access}
 use Rattle.prem_isa.specs.declared.effect.Stored.{Stored}
 use Rattle.prem_lru.specs.Entries.{ReplacementRule}
 use Rattle.prem_lru.specs.CacheState.{Touched, touch_of}
 use Rattle.prem_gate.specs.declared.request.Request.{Request}
 use Rattle.prem_gate.specs.Gates.{Turned}
+use Rattle.prem_image.specs.declared.image.TaskRecord.{TaskRecord}
 use Rattle.prem_cycle.specs.State.{Setup, MachineState, Task, Work, first_tasks, record_of, start_of, task_in}
 use Rattle.prem_cycle.specs.Issue.{Attempt, Traps, Executes, attempt_behind, task_after, issued_with}
 use Rattle.prem_cycle.specs.Core.{CoreMove, Passes, Issues, attempted, moved}

@@ -1,11 +1,11 @@
 -- Runs in which devices feed tasks: the input words that are delivered within some cycles.
 use Rattle.std.specs.Prelude.{ℕ, zero, suc, ◌+◌, ◌&&◌, nat_lt, Bool, if◌then◌else◌, List, [], ◌∷◌, length, map, Option, None, Some, is_some, slice_get, slice_index, slice_index_or, slice_set}
-use Rattle.prem_image.specs.declared.image.Image.{Image}
+use Rattle.prem_list.specs.Sequence.{items_of}
 use Rattle.prem_lru.specs.Entries.{ReplacementRule}
 use Rattle.prem_gate.specs.declared.request.Request.{Request}
 use Rattle.prem_gate.specs.declared.bus.Transfer.{Transfer}
 use Rattle.prem_gate.specs.declared.request.RunInput.{RunInput}
-use Rattle.prem_list.specs.Sequence.{items_of}
+use Rattle.prem_image.specs.declared.image.Image.{Image}
 use Rattle.prem_cycle.specs.State.{Setup, MachineState}
 use Rattle.prem_cycle.specs.FactsOf.{inputs_size}
 use Rattle.prem_cycle.specs.Inputs.{setup_of, words_of}

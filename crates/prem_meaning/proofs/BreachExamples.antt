@@ -1,6 +1,6 @@
 -- Programs that break a rule, and the first breach, computed by the checker; each stands above its tree in the language's own text.
-use Rattle.std.proofs.Common.{◌≡◌, refl, ℕ, [], ◌∷◌, Option, None, Some, false}
 use Rattle.std.specs.Prelude.{codes, pos, negsuc, replicate}
+use Rattle.std.proofs.Common.{◌≡◌, refl, ℕ, [], ◌∷◌, Option, None, Some, false}
 use Rattle.prem_word.specs.declared.kind.BinOp.TheVariants.{Add}
 use Rattle.prem_syntax.specs.declared.tree.Ty.TheVariants.{Void as VoidTy, Int as IntTy, Unsigned as UnsignedTy, Short, Uchar}
 use Rattle.prem_syntax.specs.declared.rules.Count.TheVariants.{Functions, Globals, Parameters, Regions, Length, Stated}

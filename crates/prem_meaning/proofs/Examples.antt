@@ -1,6 +1,6 @@
 -- Programs whose meaning the checker computes; each stands above its tree in the language's own text.
-use Rattle.std.proofs.Common.{◌≡◌, refl, ℕ, List, [], ◌∷◌, None, Some, Ok, Err, true, false}
 use Rattle.std.specs.Prelude.{codes, pos, negsuc, replicate}
+use Rattle.std.proofs.Common.{◌≡◌, refl, ℕ, List, [], ◌∷◌, None, Some, Ok, Err, true, false}
 use Rattle.prem_word.specs.declared.kind.BinOp.TheVariants.{Add, Sub, Mul, Div, Rem, Shl, Shr, Lt, Gt, Eq, AndAlso, OrElse}
 use Rattle.prem_syntax.specs.declared.tree.Ty.TheVariants.{Void, Int as IntTy, Short, Ushort, Schar, Uchar}
 use Rattle.prem_syntax.specs.declared.tree.UnOp.TheVariants.{Not}

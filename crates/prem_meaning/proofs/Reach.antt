@@ -24,7 +24,7 @@ all_keep : (ns : List ℕ) (s : List Bool) (k : ℕ) → is_in s k ≡ true → 
 all_keep [] s k e = e
 all_keep (n ∷ ns) s k e = all_keep ns (set s n true) k (set_keeps s n k e)
 
-pub all_long : (ns : List ℕ) (s : List Bool) → length (with_all ns s) ≡ length s
+all_long : (ns : List ℕ) (s : List Bool) → length (with_all ns s) ≡ length s
 all_long [] s = refl
 all_long (n ∷ ns) s = all_long ns (set s n true) ∙ length-set s n true
 

@@ -20,7 +20,7 @@ sum_kind-is scope (element at name index) h = absurd h
 sum_kind-is scope (unary at op operand) h = absurd h
 
 -- a sum has its word whatever the names stand for
-pub eval-sum : (may : Access) (globals : List (List ℕ)) (locals : List ℕ) (scope : Scope) (e : Expression) → IsSum e →
+eval-sum : (may : Access) (globals : List (List ℕ)) (locals : List ℕ) (scope : Scope) (e : Expression) → IsSum e →
     eval may globals locals (resolve_term scope e) ≡ Ok (sum_word e)
 eval-sum may gs ls scope (literal at value kind) h = refl
 eval-sum may gs ls scope (binary at Add left right) h =
@@ -44,7 +44,7 @@ run-sums may calls scope turns n (o ∷ os) s h =
     ∙ ap (λ ws. Ok (with_outputs s ws)) (append_assoc s.outputs (sum_word o.1 ∷ []) (sum_words os)))
 
 -- one job puts out the words of the sums
-pub source-sums : (at : Place) (os : List (Place × Expression)) → AreSums os →
+source-sums : (at : Place) (os : List (Place × Expression)) → AreSums os →
     source (job_program at (outputs os)) [] 1 ≡ Ok (record { globals = []; locals = []; inputs = []; used = 0; outputs = sum_words os; marks = [] })
 source-sums at os h =
     let scope : Scope = record { locals = []; globals = []; functions = job_function at (outputs os) ∷ [] } in

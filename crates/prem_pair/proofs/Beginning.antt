@@ -1,10 +1,10 @@
 -- Two cores before their first cycle.
 use Rattle.std.proofs.Common.{◌≡◌, ◌*◌, List, ap, sym, ◌∙◌, subst}
 use Rattle.prem_list.specs.Sequence.{items_of}
-use Rattle.prem_image.specs.declared.image.Image.{Image}
 use Rattle.prem_gate.specs.declared.request.Request.{Request}
 use Rattle.prem_gate.specs.declared.request.RunInput.{RunInput}
 use Rattle.prem_gate.specs.Gates.{GatesState}
+use Rattle.prem_image.specs.declared.image.Image.{Image}
 use Rattle.prem_cycle.specs.State.{rule_in, MachineState}
 use Rattle.prem_cycle.specs.Inputs.{image_run, setup_of, words_of}
 use Rattle.prem_cycle.specs.Run.{cycles_of}

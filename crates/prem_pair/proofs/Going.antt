@@ -1,7 +1,7 @@
 -- A run of two cores that goes on until it stops.
-use Rattle.std.proofs.Common.{◌≡◌, ℕ, ◌+◌, ◌*◌, ◌-◌, ◌<◌, ◌≤◌, Bool, true, false, cond, Option, Some, None, refl, ap, sym, ◌∙◌, arith, ◌⊎◌, inl, inr}
 use Rattle.std.specs.Prelude.{◌==◌, ◌||◌, ◌&&◌, is_some}
 use Rattle.std.specs.Bool.{then_some}
+use Rattle.std.proofs.Common.{◌≡◌, ℕ, ◌+◌, ◌*◌, ◌-◌, ◌<◌, ◌≤◌, Bool, true, false, cond, Option, Some, None, refl, ap, sym, ◌∙◌, arith, ◌⊎◌, inl, inr}
 use Rattle.std.proofs.lemmas.Bool.Decides.{nat_tests}
 use Rattle.prem_cycle.specs.State.{rule_in}
 use Rattle.prem_cycle.specs.declared.state.Trap.{Trap}
@@ -9,8 +9,8 @@ use Rattle.prem_cycle.specs.Cycle.{is_full, log_size}
 use Rattle.prem_pair.specs.declared.cycles.state.PairStop.{PairStop}
 use Rattle.prem_pair.specs.declared.cycles.state.PairStop.TheVariants.{Finished, LogFull, Limit}
 use Rattle.prem_pair.specs.Cycles.Pair.{PairState, both_finished, full_stop, is_pair_over, one_trapped, pair_cycle, pair_cycles, pair_step, pair_stop_of, trap_stop}
-use Rattle.prem_pair.proofs.CyclesLemmas.PairRuns.{pair_cycles-add, pair_cycles-over}
 use Rattle.prem_pair.specs.States.{PairRunning, with_state}
+use Rattle.prem_pair.proofs.CyclesLemmas.PairRuns.{pair_cycles-add, pair_cycles-over}
 
 abbrev stop_by : Bool → (t u : Option Trap) → (f g last : Bool) → Option PairStop
 stop_by fin t u f g last = cond fin (Some Finished) (trap_stop 0 t (trap_stop 1 u (full_stop 0 f (full_stop 1 g (cond last (Some Limit) None)))))
@@ -74,7 +74,7 @@ over_trapped true t f e = refl
 over_trapped false true f e = refl
 over_trapped false false f e = absurd (cc)
 
-pub over_parts : (fin t u f g : Bool) → (fin || (t || u) || (f || g)) ≡ false → ((t || u) ≡ false) × ((f ≡ false) × (g ≡ false))
+over_parts : (fin t u f g : Bool) → (fin || (t || u) || (f || g)) ≡ false → ((t || u) ≡ false) × ((f ≡ false) × (g ≡ false))
 over_parts true t u f g e = absurd (cc)
 over_parts false true u f g e = absurd (cc)
 over_parts false false true f g e = absurd (cc)

@@ -1,6 +1,6 @@
 -- What arrivals, the token and the bus come to.
-use Rattle.std.proofs.Common.{◌≡◌, ◌≢◌, ℕ, zero, suc, ◌+◌, refl, ap, ◌∙◌, arith, cond, leb, Some, None, Option, true, false, Bool, List, [], ◌∷◌}
 use Rattle.std.specs.Prelude.{◌&&◌}
+use Rattle.std.proofs.Common.{◌≡◌, ◌≢◌, ℕ, zero, suc, ◌+◌, refl, ap, ◌∙◌, arith, cond, leb, Some, None, Option, true, false, Bool, List, [], ◌∷◌}
 use Rattle.std.proofs.lemmas.Bool.{lt-leb}
 use Rattle.prem_gate.specs.declared.request.Request.{Request}
 use Rattle.prem_gate.specs.declared.bus.Window.{Window}

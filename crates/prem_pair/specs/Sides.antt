@@ -1,10 +1,10 @@
 -- A core's parts in a cycle of two cores: what the bus leaves, and what the core does.
 use Rattle.std.specs.Prelude.{ℕ, ◌+◌, ◌≤◌, ◌&&◌, not, Bool, All, List, length, if◌then◌else◌}
 use Rattle.prem_list.specs.Sequence.{items_of}
+use Rattle.prem_sched.specs.declared.sched.TaskJobs.{TaskJobs}
 use Rattle.prem_isa.specs.Plain.{with_last}
 use Rattle.prem_gate.specs.declared.request.Request.{Request}
 use Rattle.prem_gate.specs.Gates.{Turned}
-use Rattle.prem_sched.specs.declared.sched.TaskJobs.{TaskJobs}
 use Rattle.prem_cycle.specs.State.{Setup, rule_in, Work, CoreState, MachineState}
 use Rattle.prem_cycle.specs.Core.{CoreMove, Passes, core_turn, move_of}
 use Rattle.prem_cycle.specs.Cycle.{Arrivals, with_memory, with_clash}

@@ -67,9 +67,9 @@ fn end_in_place<P: Policy>(setting: &Setting, requests: &[Request], parts: &mut 
 impl<P: Policy, Q: Policy> Both<P, Q> {
     ghost use Rattle.std.specs.Prelude.{◌≡◌, ◌+◌, ◌*◌, ◌<◌, ◌^◌, [], true, false};
     ghost use Rattle.prem_cycle.specs.Cycle.{arrivals_at};
-    ghost use Rattle.prem_machine.specs.Parts.{IsSetting, Stands, state_of};
     ghost use Rattle.prem_cycle.specs.State.{rule_in};
     ghost use Rattle.prem_cycle.specs.Cycle.{is_full};
+    ghost use Rattle.prem_machine.specs.Parts.{IsSetting, Stands, state_of};
     ghost use Rattle.prem_machine.specs.Work.{setup_in};
     ghost use Rattle.prem_pair.specs.Cycles.Pair.{bus_first, one_trapped, pair_cycle};
     ghost use Rattle.prem_pair.specs.Sides.{Arrives, Goes, bus_done};

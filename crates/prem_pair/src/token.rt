@@ -1,9 +1,9 @@
 // Who holds the memory token in a cycle, and what the gates may start.
 ghost use Rattle.std.specs.Prelude.{◌≡◌, ◌<◌, ◌≤◌, ◌^◌, None, length};
-ghost use Rattle.prem_pair.specs.Cycles.Token.{asks, frees, holder_after, holder_with, is_first, is_gates, is_second, some_wait, two_want, want_with, window_given};
 ghost use Rattle.prem_gate.specs.Gates.{wants};
 ghost use Rattle.prem_machine.specs.Moment.{core_of};
 ghost use Rattle.prem_machine.specs.Parts.{state_of};
+ghost use Rattle.prem_pair.specs.Cycles.Token.{asks, frees, holder_after, holder_with, is_first, is_gates, is_second, some_wait, two_want, want_with, window_given};
 ghost use Rattle.prem_pair.specs.Nobody.{is_nobody};
 
 use crate::cycles::Holder;

@@ -1,17 +1,18 @@
 -- By cycle 2 ^ 61 two sets that break no rule have finished together.
-use Rattle.std.proofs.Common.{◌≡◌, ◌+◌, ◌-◌, ◌*◌, ◌^◌, ◌≤◌, ℕ, suc, nat_lt, max, Bool, true, false, List, [], ◌∷◌, length, map, drop, None, Some, refl, arith, All}
 use Rattle.std.specs.Prelude.{if◌then◌else◌}
 use Rattle.std.specs.List.{AllByRecursion}
+use Rattle.std.proofs.Common.{◌≡◌, ◌+◌, ◌-◌, ◌*◌, ◌^◌, ◌≤◌, ℕ, suc, nat_lt, max, Bool, true, false, List, [], ◌∷◌, length, map, drop, None, Some, refl, arith, All}
 use Rattle.std.proofs.lemmas.Bool.Decides.{nat_tests}
 use Rattle.std.proofs.lemmas.List.Elements.{All-head, All-tail}
 use Rattle.std.proofs.lemmas.List.Sums.{sum_by-cons}
 use Rattle.std.proofs.lemmas.Nat.{mul-le}
 use Rattle.prem_plant.specs.declared.plant.Plant.{Plant}
 use Rattle.prem_plant.specs.Places.{Extent}
-use Rattle.prem_image.specs.declared.image.DeviceRecord.{DeviceRecord}
 use Rattle.prem_gate.specs.declared.request.Request.{Request}
+use Rattle.prem_image.specs.declared.image.DeviceRecord.{DeviceRecord}
 use Rattle.prem_cycle.specs.Inputs.{IsRequest, no_device}
 use Rattle.prem_sound.specs.Script.Scripts.{last_release}
+use Rattle.prem_pair.specs.Laws.PairSound.{all_costs, cost_of_request, last_request}
 use Rattle.prem_layout.specs.Bounds.{job_bound_of, work_of}
 use Rattle.prem_layout.specs.Counts.{intervals_of, outputs_of}
 use Rattle.prem_layout.specs.Facts.{job_fact}
@@ -24,7 +25,6 @@ use Rattle.prem_tasks.specs.Compiled.{coded_in, compiled, job_bounds, places_in,
 use Rattle.prem_sets_sound.specs.Accepted.Accepted.{HasTextValues, HasValues, setup_in}
 use Rattle.prem_sets_sound.proofs.AcceptedLemmas.Follow.{keeps}
 use Rattle.prem_running.proofs.SetLawsLemmas.Limits.{InRange, IsSmall, bounds_are_small, eight_kept, last_small, two_kept}
-use Rattle.prem_pair.specs.Laws.PairSound.{all_costs, cost_of_request, last_request}
 use Rattle.prem_pair_top.specs.Sound.{PairLimitsAreSmall}
 use Rattle.prem_pair_top.proofs.Sets.{joined}
 

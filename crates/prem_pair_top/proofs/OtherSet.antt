@@ -1,10 +1,10 @@
 -- The second set, which has no device.
-use Rattle.std.proofs.Common.{◌≡◌, ◌≤◌, ℕ, List, [], ◌∷◌, length, arith, Option, Result, Ok, Err, refl, ap, ◌∙◌, sym, subst}
 use Rattle.std.specs.Prelude.{codes}
+use Rattle.std.proofs.Common.{◌≡◌, ◌≤◌, ℕ, List, [], ◌∷◌, length, arith, Option, Result, Ok, Err, refl, ap, ◌∙◌, sym, subst}
 use Rattle.prem_io.specs.Files.{Files}
 use Rattle.prem_plant.specs.declared.plant.Device.{Device}
-use Rattle.prem_set.specs.SetFile.{SetData}
 use Rattle.prem_tasks.specs.Broken.{TaskSet}
+use Rattle.prem_set.specs.SetFile.{SetData}
 use Rattle.prem_answer.specs.declared.answer.Telling.TheVariants.{Brief}
 use Rattle.prem_answer.specs.Stages.{Reply, IsGiven, IsReadAsBy, and_then, form_reply}
 use Rattle.prem_answer.proofs.Reading.{ends_there_by, goes_on_by}
@@ -12,7 +12,7 @@ use Rattle.prem_exec.specs.Sources.Sources.{Passes, reading_sources, set_limit, 
 use Rattle.prem_pair_top.specs.Stages.{other_of_bytes, reading_other, without, without_devices}
 
 -- its file, as any set file is read, and then without devices
-pub read_without : (told : Option Files) (name : List ℕ) (given also : Result SetData Reply) → IsReadAsBy Brief told set_limit name (set_of_bytes_by Brief name) given →
+read_without : (told : Option Files) (name : List ℕ) (given also : Result SetData Reply) → IsReadAsBy Brief told set_limit name (set_of_bytes_by Brief name) given →
     and_then given (without_devices name) ≡ also → IsReadAsBy Brief told set_limit name (other_of_bytes name) also
 read_without told name given also (read, (is_read, is)) same =
     (read, (is_read, sym same ∙ ap (λ r. and_then r (without_devices name)) is ∙ joined read)) where

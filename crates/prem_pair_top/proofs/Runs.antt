@@ -1,21 +1,21 @@
 -- Runs of two images.
-use Rattle.std.proofs.Common.{◌≡◌, ◌-◌, ℕ, List, [], ◌∷◌, length, Some, refl, ap, ◌∙◌, arith}
 use Rattle.std.specs.Prelude.{Bool, unwrap_or}
+use Rattle.std.proofs.Common.{◌≡◌, ◌-◌, ℕ, List, [], ◌∷◌, length, Some, refl, ap, ◌∙◌, arith}
 use Rattle.prem_list.specs.Sequence.{items_of}
+use Rattle.prem_gate.specs.declared.request.Request.{Request}
+use Rattle.prem_gate.specs.declared.request.RunInput.{RunInput}
 use Rattle.prem_image.specs.declared.image.TaskRecord.{TaskRecord}
 use Rattle.prem_image.specs.declared.image.DeviceRecord.{DeviceRecord}
 use Rattle.prem_image.specs.declared.image.Image.{Image}
 use Rattle.prem_image.specs.Text.{ImageText, image_text}
-use Rattle.prem_gate.specs.declared.request.Request.{Request}
-use Rattle.prem_gate.specs.declared.request.RunInput.{RunInput}
 use Rattle.prem_cycle.specs.State.{Setup, rule_in}
 use Rattle.prem_cycle.specs.FactsOf.{Report, report_of}
 use Rattle.prem_cycle.specs.Inputs.{IsTrace, setup_of, words_of}
-use Rattle.prem_exec.specs.Sources.Sources.{input_of}
 use Rattle.prem_pair.specs.declared.cycles.state.PairStop.{PairStop}
 use Rattle.prem_pair.specs.declared.cycles.state.PairStop.TheVariants.{Limit}
 use Rattle.prem_pair.specs.Cycles.Pair.{PairState, pair_cycles, pair_run, pair_stop_of}
 use Rattle.prem_pair.specs.States.{PairRunning}
+use Rattle.prem_exec.specs.Sources.Sources.{input_of}
 use Rattle.prem_pair_top.specs.Report.{pair_text}
 use Rattle.prem_pair_top.specs.Running.{pair_at, pair_stop_at, told_text}
 

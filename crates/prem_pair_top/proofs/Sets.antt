@@ -1,6 +1,6 @@
 -- Two sets that break no rule are sound together.
-use Rattle.std.proofs.Common.{◌≡◌, ◌+◌, ◌≤◌, ◌⊎◌, ◌==◌, ◌||◌, ℕ, Bool, true, false, cond, List, [], None, Some, Option, unwrap_or, refl, ap, ◌∙◌, sym, arith, inl, inr, ⊎_elim, true≢false}
 use Rattle.std.specs.Prelude.{drop}
+use Rattle.std.proofs.Common.{◌≡◌, ◌+◌, ◌≤◌, ◌⊎◌, ◌==◌, ◌||◌, ℕ, Bool, true, false, cond, List, [], None, Some, Option, unwrap_or, refl, ap, ◌∙◌, sym, arith, inl, inr, ⊎_elim, true≢false}
 use Rattle.std.proofs.lemmas.Bool.{cases_Bool, false_from_ne_true}
 use Rattle.prem_plant.specs.declared.plant.Device.{Device}
 use Rattle.prem_order.specs.Rules.{order_rule_of, passes_of}
@@ -10,25 +10,25 @@ use Rattle.prem_cycle.specs.Alone.{run_in}
 use Rattle.prem_cycle.specs.Cycle.{is_full}
 use Rattle.prem_cycle.specs.Run.{memory_of}
 use Rattle.prem_sound.proofs.ResidentLemmas.Policies.{kind_policy}
-use Rattle.prem_layout.specs.Image.{device_records}
-use Rattle.prem_layout.specs.Placed.{part_total}
-use Rattle.prem_stub_laws.specs.Own.Owned.{own_of}
-use Rattle.prem_stub_laws.specs.Join.Joined.{IsJoined}
-use Rattle.prem_stub_laws.proofs.JoinLemmas.Joined.{scripted, are_scripts, limits}
-use Rattle.prem_tasks.specs.Broken.{TaskSet, broken}
-use Rattle.prem_tasks.specs.Compiled.{coded_in, places_in, placed_in, compiled}
-use Rattle.prem_sets_sound.specs.Accepted.Accepted.{HasValues, limits_at, setup_in}
-use Rattle.prem_sets_sound.specs.Meant.{promises_in}
-use Rattle.prem_sets_sound.proofs.AcceptedLemmas.Whole.{accepted_sets_are_laid_out, accepted_sets_join, default_places_are_lawful}
-use Rattle.prem_sets_sound.proofs.Sound.{accepted_tasks_are_meant, as_stubs_make, meant_tasks_join}
-use Rattle.prem_exec.specs.Forms.{RunText}
-use Rattle.prem_running.specs.RunSound.Runs.{SuitsRun}
 use Rattle.prem_pair.specs.declared.cycles.state.PairStop.{PairStop}
 use Rattle.prem_pair.specs.declared.cycles.state.PairStop.TheVariants.{Finished, Limit}
 use Rattle.prem_pair.specs.Cycles.Pair.{PairState, both_finished, full_stop, is_pair_over, one_full, one_trapped, pair_start, trap_stop}
 use Rattle.prem_pair.specs.Laws.PairSound.{GivesScripts}
 use Rattle.prem_pair.proofs.CyclesLemmas.PairRuns.{pair_cycles-add, pair_cycles-over}
 use Rattle.prem_pair.proofs.LawsLemmas.Images.{pairs_of_images}
+use Rattle.prem_layout.specs.Image.{device_records}
+use Rattle.prem_layout.specs.Placed.{part_total}
+use Rattle.prem_tasks.specs.Broken.{TaskSet, broken}
+use Rattle.prem_tasks.specs.Compiled.{coded_in, places_in, placed_in, compiled}
+use Rattle.prem_stub_laws.specs.Own.Owned.{own_of}
+use Rattle.prem_stub_laws.specs.Join.Joined.{IsJoined}
+use Rattle.prem_stub_laws.proofs.JoinLemmas.Joined.{scripted, are_scripts, limits}
+use Rattle.prem_sets_sound.specs.Accepted.Accepted.{HasValues, limits_at, setup_in}
+use Rattle.prem_sets_sound.specs.Meant.{promises_in}
+use Rattle.prem_sets_sound.proofs.AcceptedLemmas.Whole.{accepted_sets_are_laid_out, accepted_sets_join, default_places_are_lawful}
+use Rattle.prem_sets_sound.proofs.Sound.{accepted_tasks_are_meant, as_stubs_make, meant_tasks_join}
+use Rattle.prem_exec.specs.Forms.{RunText}
+use Rattle.prem_running.specs.RunSound.Runs.{SuitsRun}
 use Rattle.prem_pair_top.specs.Running.{limit_in, pair_at, pair_stop_at}
 use Rattle.prem_pair_top.specs.Sound.{AreSound, PairsOfSetsAreSound, EndsWell, PairReportsEnd}
 

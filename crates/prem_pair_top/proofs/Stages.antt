@@ -4,8 +4,8 @@ use Rattle.prem_io.specs.Files.{Files}
 use Rattle.prem_plant.specs.declared.plant.Device.{Device}
 use Rattle.prem_layout.specs.Rules.{Refusal}
 use Rattle.prem_tasks.specs.Told.{Told}
-use Rattle.prem_set.specs.SetFile.{SetData, set_of as set_of_text}
 use Rattle.prem_tasks.specs.Broken.{TaskSet, broken}
+use Rattle.prem_set.specs.SetFile.{SetData, set_of as set_of_text}
 use Rattle.prem_answer.specs.declared.answer.Answer.{Answer}
 use Rattle.prem_answer.specs.declared.answer.Halt.{Halt}
 use Rattle.prem_answer.specs.declared.answer.Halt.TheVariants.{Answered, ReadFault as HaltReadFault, OutOfMemory as HaltOutOfMemory}

@@ -7,9 +7,9 @@ use Rattle.prem_cycle.specs.declared.state.Stop.{Stop}
 use Rattle.prem_cycle.specs.declared.state.Stop.TheVariants.{Finished, Trap, LogFull, Limit}
 use Rattle.prem_cycle.specs.State.{Counts}
 use Rattle.prem_cycle.specs.FactsOf.{Report}
-use Rattle.prem_report.specs.Report.{tasks_text, interval_line, transfer_line, counts_text, devices_text, stop_line}
 use Rattle.prem_pair.specs.declared.cycles.state.PairStop.{PairStop}
 use Rattle.prem_pair.specs.declared.cycles.state.PairStop.TheVariants as pair
+use Rattle.prem_report.specs.Report.{tasks_text, interval_line, transfer_line, counts_text, devices_text, stop_line}
 
 -- ---- a core
 

@@ -1,17 +1,17 @@
 -- The run of two images, and the cycle up to which it goes.
 use Rattle.std.specs.Prelude.{ℕ, ◌-◌, ◌^◌, min, Bool, List, Option, unwrap_or}
 use Rattle.prem_lru.specs.Rules.{rule_of}
-use Rattle.prem_image.specs.Text.{ImageText}
 use Rattle.prem_gate.specs.declared.request.Request.{Request}
+use Rattle.prem_image.specs.Text.{ImageText}
 use Rattle.prem_cycle.specs.FactsOf.{report_of}
 use Rattle.prem_cycle.specs.Inputs.{image_setup}
 use Rattle.prem_sound.specs.Script.Scripts.{last_release}
-use Rattle.prem_tasks.specs.Compiled.{CompiledText}
-use Rattle.prem_exec.specs.Forms.{RunText}
 use Rattle.prem_pair.specs.declared.cycles.state.PairStop.{PairStop}
 use Rattle.prem_pair.specs.declared.cycles.state.PairStop.TheVariants.{Limit}
 use Rattle.prem_pair.specs.Cycles.Pair.{PairState, pair_run, pair_stop_of}
 use Rattle.prem_pair.specs.Laws.PairSound.{pair_limit}
+use Rattle.prem_tasks.specs.Compiled.{CompiledText}
+use Rattle.prem_exec.specs.Forms.{RunText}
 use Rattle.prem_pair_top.specs.Report.{pair_text}
 
 -- ---- the run

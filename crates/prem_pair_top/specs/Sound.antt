@@ -2,15 +2,15 @@
 use Rattle.std.specs.Prelude.{◌≡◌, ◌≤◌, ◌^◌, ◌⊎◌, ℕ, [], None}
 use Rattle.prem_lru.specs.Rules.{rule_of}
 use Rattle.prem_cycle.specs.Inputs.{FitsRun}
+use Rattle.prem_pair.specs.declared.cycles.state.PairStop.TheVariants.{Finished, Limit}
+use Rattle.prem_pair.specs.Cycles.Pair.{PairState}
+use Rattle.prem_pair.specs.Laws.PairSound.{PairIsSound}
 use Rattle.prem_tasks.specs.Broken.{TaskSet, broken}
 use Rattle.prem_tasks.specs.Compiled.{compiled}
 use Rattle.prem_sets_sound.specs.Accepted.Accepted.{HasValues, setup_in}
 use Rattle.prem_sets_sound.specs.Meant.{promises_in}
 use Rattle.prem_exec.specs.Forms.{RunText}
 use Rattle.prem_running.specs.RunSound.Runs.{SuitsRun}
-use Rattle.prem_pair.specs.declared.cycles.state.PairStop.TheVariants.{Finished, Limit}
-use Rattle.prem_pair.specs.Cycles.Pair.{PairState}
-use Rattle.prem_pair.specs.Laws.PairSound.{PairIsSound}
 use Rattle.prem_pair_top.specs.Running.{due_in, limit_in, pair_at, pair_stop_at}
 
 -- For all input words of both and all requests of the first set's devices each core is good in each state of each run of both compiled

@@ -2,9 +2,9 @@
 ghost use Rattle.std.specs.Prelude.{◌≡◌, ◌≤◌, ◌+◌, ◌-◌, ◌*◌, ◌^◌, length, max};
 ghost use Rattle.prem_list.specs.Sequence.{items_of};
 ghost use Rattle.prem_image.specs.Text.{image_text};
-ghost use Rattle.prem_compile.specs.CompiledOf.{compiled_of};
 ghost use Rattle.prem_sound.specs.Script.Scripts.{last_release};
 ghost use Rattle.prem_pair.specs.Laws.PairSound.{all_costs, cost_of_request, last_request};
+ghost use Rattle.prem_compile.specs.CompiledOf.{compiled_of};
 ghost use Rattle.prem_pair_top.specs.Running.{cycles_in, due_in, limit_in};
 
 use prem_compile::Compiled;

@@ -1,9 +1,9 @@
 // The second set, which has no device.
 ghost use Rattle.std.specs.Prelude.{◌≡◌, ◌≤◌, [], IfOk, IsErrOf};
 ghost use Rattle.prem_io.specs.Counts.{Rose};
+ghost use Rattle.prem_tasks.specs.SetOf.{set_of};
 ghost use Rattle.prem_set.specs.Lawful.{IsSet};
 ghost use Rattle.prem_set.specs.Views.{set_view};
-ghost use Rattle.prem_tasks.specs.SetOf.{set_of};
 ghost use Rattle.prem_answer.specs.Stages.{Comes, IsReadAsBy};
 ghost use Rattle.prem_exec.specs.Sources.Sources.{Passes, set_limit};
 ghost use Rattle.prem_pair_top.specs.Stages.{other_of_bytes, reading_other};

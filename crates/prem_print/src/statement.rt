@@ -7,7 +7,7 @@ ghost use Rattle.prem_syntax.specs.Name.{name_bytes};
 ghost use Rattle.prem_syntax.specs.SyntaxOf.{expression_of, statement_of, statements_of};
 ghost use Rattle.prem_lexer.specs.Token.Lexeme.{mark};
 ghost use Rattle.prem_lexer.specs.declared.token.token.Mark.TheVariants as m;
-ghost use Rattle.prem_text.specs.Canonical.Canonical.{argument_lexemes, bound_lexemes, call_lexemes, comparison_sign, for_lexemes, if_lexemes, input_lexemes, more_arguments, statement_lexemes, statements_lexemes, step_lexemes, tail_lexemes, target_lexemes, while_lexemes};
+ghost use Rattle.prem_text.specs.Canonical.Canonical.{argument_lexemes, bound_lexemes, call_lexemes, comparison_sign, expression_lexemes, for_lexemes, if_lexemes, input_lexemes, more_arguments, statement_lexemes, statements_lexemes, step_lexemes, tail_lexemes, target_lexemes, while_lexemes};
 ghost use Rattle.prem_print.specs.Written.{written};
 
 use crate::expression::push_expression;
@@ -75,16 +75,18 @@ fn push_callee(text: &mut Vec<u8>, target: &Option<Name>, callee: &Name) -> Resu
     push_mark(text, Mark::OpenParenthesis)
 }
 
-/// `BOUNDED ( turns ) while (`
-fn push_while(text: &mut Vec<u8>, turns: u32) -> Result<(), AllocError>
-    ensures { OnOk result (text.new.items ≡ written text.old.items (while_lexemes turns)) }
+/// `BOUNDED ( turns ) while ( condition )`
+fn push_while(text: &mut Vec<u8>, turns: u32, cond: &Expr) -> Result<(), AllocError>
+    ensures { OnOk result (text.new.items ≡ written text.old.items (while_lexemes turns ++ expression_lexemes 1 (expression_of cond.now) ++ mark m.CloseParenthesis ∷ [])) }
 {
     push_word(text, Word::Bounded)?;
     push_mark(text, Mark::OpenParenthesis)?;
     push_number(text, turns as u64)?;
     push_mark(text, Mark::CloseParenthesis)?;
     push_word(text, Word::While)?;
-    push_mark(text, Mark::OpenParenthesis)
+    push_mark(text, Mark::OpenParenthesis)?;
+    push_expression(text, 1, cond)?;
+    push_mark(text, Mark::CloseParenthesis)
 }
 
 /// `for ( name =`
@@ -147,6 +149,35 @@ fn push_if(text: &mut Vec<u8>, cond: &Expr) -> Result<(), AllocError>
     push_mark(text, Mark::CloseParenthesis)
 }
 
+/// `target = value ;`
+fn push_assignment(
+    text: &mut Vec<u8>,
+    name: &Name,
+    index: &Option<Expr>,
+    value: &Expr,
+) -> Result<(), AllocError>
+    ensures { OnOk result (text.new.items ≡ written text.old.items (target_lexemes (name_bytes name.now) (option_map expression_of index.now) ++ (mark m.Equal ∷ []) ++ expression_lexemes 1 (expression_of value.now) ++ mark m.Semicolon ∷ [])) }
+{
+    push_target(text, name, index)?;
+    push_mark(text, Mark::Equal)?;
+    push_expression(text, 1, value)?;
+    push_mark(text, Mark::Semicolon)
+}
+
+/// `target = callee ( arguments ) ;`
+fn push_call(
+    text: &mut Vec<u8>,
+    target: &Option<Name>,
+    callee: &Name,
+    args: &[Expr],
+) -> Result<(), AllocError>
+    ensures { OnOk result (text.new.items ≡ written text.old.items (call_lexemes (option_map name_bytes target.now) (name_bytes callee.now) ++ argument_lexemes (map expression_of args.now) ++ tail_lexemes)) }
+{
+    push_callee(text, target, callee)?;
+    push_arguments(text, args)?;
+    push_tail(text)
+}
+
 /// A statement.
 #[cycle(statements)]
 fn push_statement(text: &mut Vec<u8>, stmt: &Stmt) -> Result<(), AllocError>
@@ -176,9 +207,7 @@ fn push_statement(text: &mut Vec<u8>, stmt: &Stmt) -> Result<(), AllocError>
             body,
             ..
         } => {
-            push_while(text, *turns)?;
-            push_expression(text, 1, cond)?;
-            push_mark(text, Mark::CloseParenthesis)?;
+            push_while(text, *turns, cond)?;
             push_statement(text, body)
         }
         Stmt::For {
@@ -202,12 +231,7 @@ fn push_statement(text: &mut Vec<u8>, stmt: &Stmt) -> Result<(), AllocError>
             index,
             value,
             ..
-        } => {
-            push_target(text, name, index)?;
-            push_mark(text, Mark::Equal)?;
-            push_expression(text, 1, value)?;
-            push_mark(text, Mark::Semicolon)
-        }
+        } => push_assignment(text, name, index, value),
         Stmt::Output { value, .. } => {
             push_word(text, Word::Out)?;
             push_mark(text, Mark::OpenParenthesis)?;
@@ -220,11 +244,7 @@ fn push_statement(text: &mut Vec<u8>, stmt: &Stmt) -> Result<(), AllocError>
             callee,
             args,
             ..
-        } => {
-            push_callee(text, target, callee)?;
-            push_arguments(text, args.items())?;
-            push_tail(text)
-        }
+        } => push_call(text, target, callee, args.items()),
     }
 }
 

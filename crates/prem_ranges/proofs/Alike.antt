@@ -1,7 +1,8 @@
 -- A program resolved with other turns is the same but for these, and breaks the same rules on ranges.
-use Rattle.std.proofs.Common.{◌≡◌, ℕ, zero, suc, ◌+◌, ◌*◌, Bool, true, false, List, [], ◌∷◌, ◌++◌, map, refl, ap, ◌∙◌, Option, None, Some, eqb}
 use Rattle.std.specs.Prelude.{pos, ◌||◌, slice_get}
 use Rattle.std.specs.Option.{option_map}
+use Rattle.std.proofs.Common.{◌≡◌, ℕ, zero, suc, ◌+◌, ◌*◌, Bool, true, false, List, [], ◌∷◌, ◌++◌, map, refl, ap, ◌∙◌, Option, None, Some, eqb}
+use Rattle.prem_word.specs.Ranges.{Span, exactly}
 use Rattle.prem_syntax.specs.declared.tree.Place.{Place}
 use Rattle.prem_syntax.specs.declared.meaning.Meaning.{Meaning}
 use Rattle.prem_syntax.specs.declared.meaning.Meaning.TheVariants.{Nothing, Local as LocalName, Scalar as ScalarName, Array as ArrayName, Function as FunctionName}
@@ -9,7 +10,6 @@ use Rattle.prem_syntax.specs.Syntax.{Statement, block, if_then, if_else, bounded
 use Rattle.prem_meaning.specs.Resolved.{Term, Constant, Local, Scalar, Element, Unary, Binary, AndAlso, OrElse, Steps, Routine, Resolved}
 use Rattle.prem_meaning.specs.Resolve.{Scope, meaning_of, resolve_term, loops_in, loops_within, set_steps, input_steps, target_of, number_named, call_steps, resolve_statement, resolve_statements, resolve_function, resolve_items, resolve, functions_of, scope_in, loop_local}
 use Rattle.prem_meaning.specs.Reach.{callees_in, callee_table, is_in, reach_set}
-use Rattle.prem_word.specs.Ranges.{Span, exactly}
 use Rattle.prem_ranges.specs.Environment.{Environment, at_local, any_again, with_range, assigned, joined, loosened}
 use Rattle.prem_ranges.specs.RangeOf.{range_of, refined}
 use Rattle.prem_ranges.specs.After.{is_target, assigns, in_counting, end_of, loop_end, turn_bound, body_range, range_behind, in_body, behind_loop, in_while, behind_call, after, bounds, known_parameter, known_local, declared, at_body, bounds_in}
@@ -70,7 +70,7 @@ items_alike fs t u same n gs (function_item f ∷ items) =
 
 -- ---- the analysis doesn't look at turns
 
-pub assigns-alike : {turn : ℕ → ℕ → Type 0} {a b : Steps} → Alike turn a b → (k : ℕ) → assigns k a ≡ assigns k b
+assigns-alike : {turn : ℕ → ℕ → Type 0} {a b : Steps} → Alike turn a b → (k : ℕ) → assigns k a ≡ assigns k b
 assigns-alike alike_done k = refl
 assigns-alike (alike_local at j e rest) k = ap (λ x. eqb j k || x) (assigns-alike rest k)
 assigns-alike (alike_scalar at g ty e rest) k = assigns-alike rest k
@@ -115,7 +115,7 @@ joined_same a a' b b' one two = ap (λ e. joined e b) one ∙ ap (joined a') two
 pub both_same : {A : Type 0} (xs xs' ys ys' : List A) → xs ≡ xs' → ys ≡ ys' → xs ++ ys ≡ xs' ++ ys'
 both_same xs xs' ys ys' one two = cc
 
-pub after-alike : {turn : ℕ → ℕ → Type 0} {a b : Steps} → Alike turn a b → (env env' : Environment) → env ≡ env' → after env a ≡ after env' b
+after-alike : {turn : ℕ → ℕ → Type 0} {a b : Steps} → Alike turn a b → (env env' : Environment) → env ≡ env' → after env a ≡ after env' b
 after-alike alike_done env env' is = is
 after-alike (alike_local at k e rest) env env' is =
     after-alike rest (at_local k (assigned (range_of env e)) env) (at_local k (assigned (range_of env' e)) env') (ap (λ (v : Environment). at_local k (assigned (range_of v e)) v) is)
@@ -129,7 +129,7 @@ after-alike (alike_for at k low closed high step turns body rest) env env' is = 
 after-alike (alike_while at turns c body rest) env env' is = after-alike rest _ _ (in_while-same body env env' is)
 after-alike (alike_call at target f arguments rest) env env' is = after-alike rest (behind_call target env) (behind_call target env') (ap (behind_call target) is)
 
-pub bounds-alike : {turn : ℕ → ℕ → Type 0} {a b : Steps} → Alike turn a b → (env env' : Environment) → env ≡ env' → bounds env a ≡ bounds env' b
+bounds-alike : {turn : ℕ → ℕ → Type 0} {a b : Steps} → Alike turn a b → (env env' : Environment) → env ≡ env' → bounds env a ≡ bounds env' b
 bounds-alike alike_done env env' is = refl
 bounds-alike (alike_local at k e rest) env env' is =
     bounds-alike rest (at_local k (assigned (range_of env e)) env) (at_local k (assigned (range_of env' e)) env') (ap (λ (v : Environment). at_local k (assigned (range_of v e)) v) is)
@@ -152,7 +152,7 @@ bounds-alike (alike_while at turns c body rest) env env' is =
     both_same _ _ _ _ (bounds-alike body _ _ (ap (λ v. refined true v c) in_is)) (bounds-alike rest _ _ in_is)
 bounds-alike (alike_call at target f arguments rest) env env' is = bounds-alike rest (behind_call target env) (behind_call target env') (ap (behind_call target) is)
 
-pub callees-alike : {turn : ℕ → ℕ → Type 0} {a b : Steps} → Alike turn a b → callees_in a ≡ callees_in b
+callees-alike : {turn : ℕ → ℕ → Type 0} {a b : Steps} → Alike turn a b → callees_in a ≡ callees_in b
 callees-alike alike_done = refl
 callees-alike (alike_local at k e rest) = callees-alike rest
 callees-alike (alike_scalar at g ty e rest) = callees-alike rest
@@ -220,7 +220,7 @@ in_arguments-same at s t same env [] (p ∷ ps) = refl
 in_arguments-same at s t same env (e ∷ es) [] = both_same _ _ _ _ (in_term-same s t same env e) (in_arguments-same at s t same env es [])
 in_arguments-same at s t same env (e ∷ es) (p ∷ ps) = both_same _ _ _ _ (both_same _ _ _ _ refl (in_term-same s t same env e)) (in_arguments-same at s t same env es ps)
 
-pub in_steps-alike : {turn : ℕ → ℕ → Type 0} {a b : Steps} → Alike turn a b → (s t : Site) → SameSite s t → (n m : ℕ) → n ≡ m → (env env' : Environment) → env ≡ env' → in_steps s n env a ≡ in_steps t m env' b
+in_steps-alike : {turn : ℕ → ℕ → Type 0} {a b : Steps} → Alike turn a b → (s t : Site) → SameSite s t → (n m : ℕ) → n ≡ m → (env env' : Environment) → env ≡ env' → in_steps s n env a ≡ in_steps t m env' b
 in_steps-alike alike_done s t same n m eq env env' is = refl
 in_steps-alike (alike_local at k e rest) s t same n m eq env env' is =
     both_same _ _ _ _ (term_same s t same env env' is e)
@@ -292,14 +292,14 @@ pub record AlikePrograms (turn : ℕ → ℕ → Type 0) (p q : Resolved) : Type
   pub job : p.job ≡ q.job
   pub routines : AlikeRoutines turn p.routines q.routines
 
-pub site_same : {turn : ℕ → ℕ → Type 0} (p q : Resolved) → AlikePrograms turn p q → (n : ℕ) → SameSite (site_of p n) (site_of q n)
+site_same : {turn : ℕ → ℕ → Type 0} (p q : Resolved) → AlikePrograms turn p q → (n : ℕ) → SameSite (site_of p n) (site_of q n)
 site_same p q same n = record {
   globals = same.globals;
   watches = ap (λ gs. watches_from gs p.routines n 0 p.routines) same.globals ∙ watches_from-alike q.globals same.routines n 0 same.routines;
   parameters = parameters-alike same.routines;
 }
 
-pub in_routines-alike : {turn : ℕ → ℕ → Type 0} (p q : Resolved) → AlikePrograms turn p q → (n : ℕ) {fs gs : List Routine} → AlikeRoutines turn fs gs → in_routines p n fs ≡ in_routines q n gs
+in_routines-alike : {turn : ℕ → ℕ → Type 0} (p q : Resolved) → AlikePrograms turn p q → (n : ℕ) {fs gs : List Routine} → AlikeRoutines turn fs gs → in_routines p n fs ≡ in_routines q n gs
 in_routines-alike p q same n no_routines = refl
 in_routines-alike p q same n (next_routine this rest) = both_same _ _ _ _ (in_routine-alike this (site_of p n) (site_of q n) (site_same p q same n)) (in_routines-alike p q same (n + 1) rest)
 

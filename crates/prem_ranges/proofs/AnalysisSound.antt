@@ -1,14 +1,14 @@
 -- A program that breaks no rule on ranges never goes wrong, and keeps to its turn bounds and regions.
-use Rattle.std.proofs.Common.{◌≡◌, ℕ, ◌^◌, ◌<◌, ◌≤◌, List, [], refl, sym, ◌∙◌, arith, Option, None, Some, Ok}
 use Rattle.std.specs.Prelude.{slice_index, is_none, IsTrue}
+use Rattle.std.proofs.Common.{◌≡◌, ℕ, ◌^◌, ◌<◌, ◌≤◌, List, [], refl, sym, ◌∙◌, arith, Option, None, Some, Ok}
 use Rattle.prem_syntax.specs.Syntax.{ProgramText}
+use Rattle.prem_syntax.specs.Literals.{ProgramHasWords}
 use Rattle.prem_meaning.specs.Resolve.{resolve}
 use Rattle.prem_meaning.specs.Statements.{ProgramState}
 use Rattle.prem_meaning.specs.Source.{unlimited, source_within, source}
+use Rattle.prem_meaning.specs.GroupTwo.{IsWellFormed}
 use Rattle.prem_ranges.specs.RangeBreaches.{range_breaches}
 use Rattle.prem_ranges.specs.GroupThree.{resolved, group_three, StaysInRange, turn_bounds, limits_of}
-use Rattle.prem_meaning.specs.GroupTwo.{IsWellFormed}
-use Rattle.prem_syntax.specs.Literals.{ProgramHasWords}
 use Rattle.prem_ranges.specs.Sound.{AreWords, TypedProgram}
 use Rattle.prem_ranges.proofs.Basics.{none_first}
 use Rattle.prem_ranges.proofs.Alike.{resolve-alike, range_breaches-alike, inside-alike}
@@ -23,12 +23,12 @@ pub is_none_tells : {A : Type 0} (o : Option A) → IsTrue (is_none o) → o ≡
 is_none_tells None h = refl
 is_none_tells (Some x) h = cc
 
-pub unbroken_ranges : (p : ProgramText) → StaysInRange p → range_breaches (resolved p) ≡ []
+unbroken_ranges : (p : ProgramText) → StaysInRange p → range_breaches (resolved p) ≡ []
 unfolding group_three
 unbroken_ranges p stays = none_first (range_breaches (resolved p)) (is_none_tells (group_three p) stays)
 
 -- with names and kinds that are right, however many turns the loops are resolved with
-pub sound_when_typed : (p : ProgramText) → ((t : ℕ → ℕ) → TypedProgram (resolve t p)) → StaysInRange p → (inputs : List ℕ) → AreWords inputs → (jobs : ℕ) →
+sound_when_typed : (p : ProgramText) → ((t : ℕ → ℕ) → TypedProgram (resolve t p)) → StaysInRange p → (inputs : List ℕ) → AreWords inputs → (jobs : ℕ) →
     (s : ProgramState) × (source_within (limits_of p) p inputs jobs ≡ Ok s) × (source p inputs jobs ≡ Ok s)
 unfolding turn_bounds
 sound_when_typed p typed stays inputs words jobs =

@@ -1,6 +1,6 @@
 -- A run of a well-formed program goes wrong at an element, at a division or at a counting loop, and nowhere else.
-use Rattle.std.proofs.Common.{◌≡◌, ℕ, zero, suc, ◌<◌, Bool, true, false, cond, List, [], ◌∷◌, ◌++◌, length, map, refl, ap, sym, subst, ◌∙◌, arith, Option, None, Some, Ok, Err, eqb, is_some, inl, inr}
 use Rattle.std.specs.Prelude.{pos, ◌+ℤ◌, int_lt, slice_get, slice_set, unwrap_or}
+use Rattle.std.proofs.Common.{◌≡◌, ℕ, zero, suc, ◌<◌, Bool, true, false, cond, List, [], ◌∷◌, ◌++◌, length, map, refl, ap, sym, subst, ◌∙◌, arith, Option, None, Some, Ok, Err, eqb, is_some, inl, inr}
 use Rattle.std.proofs.lemmas.List.{length-set}
 use Rattle.std.proofs.lemmas.Option.{slice_get_within}
 use Rattle.std.proofs.lemmas.Bool.Decides.{nat_tests}
@@ -73,7 +73,7 @@ record Stands (p : Resolved) (s : ProgramState) : Type 0 where
 
 -- nothing is refused
 record Free (may : Access) : Type 0 where
-  pub may_all : (g j : ℕ) → may g j ≡ true
+  may_all : (g j : ℕ) → may g j ≡ true
 
 first_word : (ws : List ℕ) → 0 < length ws → (w : ℕ) × (slice_get ws 0 ≡ Some w)
 first_word [] some = absurd (omega arith)

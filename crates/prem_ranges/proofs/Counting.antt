@@ -1,20 +1,20 @@
 -- Counting loops keep to their turn bounds, and their variable to its ranges.
-use Rattle.std.proofs.Common.{◌≡◌, ℕ, zero, suc, ◌+◌, ◌-◌, ◌*◌, ◌/◌, ◌<◌, ◌≤◌, Bool, true, false, cond, List, [], length, refl, ap, sym, ◌∙◌, arith, Some, Ok, eqb}
 use Rattle.std.specs.Prelude.{ℤ, pos, negsuc, ◌+ℤ◌, ◌-ℤ◌, ◌≤ℤ◌, int_lt, int_le, unsigned_abs, ◌||◌, slice_get, slice_index}
 use Rattle.std.specs.Int.{int_max}
+use Rattle.std.proofs.Common.{◌≡◌, ℕ, zero, suc, ◌+◌, ◌-◌, ◌*◌, ◌/◌, ◌<◌, ◌≤◌, Bool, true, false, cond, List, [], length, refl, ap, sym, ◌∙◌, arith, Some, Ok, eqb}
 use Rattle.std.proofs.lemmas.Int.{ints, clamps}
 use Rattle.std.proofs.lemmas.List.{length-set, length-map, get_or-set_same}
 use Rattle.std.proofs.lemmas.Option.{slice_get_within}
 use Rattle.prem_word.specs.declared.kind.Kind.{Kind}
 use Rattle.prem_word.specs.declared.kind.Kind.TheVariants.{Int}
 use Rattle.prem_word.specs.Words.{value_in, word_of}
+use Rattle.prem_word.specs.Ranges.{Span, LiesIn, from_to, whole, within, encloses}
+use Rattle.prem_word.proofs.Corners.{word_in_whole}
 use Rattle.prem_syntax.specs.declared.tree.Place.{Place}
 use Rattle.prem_syntax.specs.Syntax.{GlobalVariable}
 use Rattle.prem_meaning.specs.Resolved.{Term, Steps}
 use Rattle.prem_meaning.specs.Expressions.{and_then, Access}
 use Rattle.prem_meaning.specs.Statements.{ProgramState, Calls, value, with_local, int_local, in_bound, loop_test, loop_step, counting, run}
-use Rattle.prem_word.specs.Ranges.{Span, LiesIn, from_to, whole, within, encloses}
-use Rattle.prem_word.proofs.Corners.{word_in_whole}
 use Rattle.prem_ranges.specs.Unary.TableLaws.{TableLaws}
 use Rattle.prem_ranges.specs.Environment.{Known, with_range, Environment, at_local}
 use Rattle.prem_ranges.specs.RangeOf.{range_of}

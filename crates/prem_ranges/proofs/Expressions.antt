@@ -1,6 +1,6 @@
 -- Expressions that break nil rule on ranges have a value, it lies in its range, and what it tells of locals is true.
-use Rattle.std.proofs.Common.{◌≡◌, ℕ, zero, suc, ◌^◌, ◌<◌, Bool, true, false, cond, List, [], ◌++◌, get_or, refl, ap, sym, ◌∙◌, arith, Some, Ok, eqb}
 use Rattle.std.specs.Prelude.{ℤ, pos, ◌-ℤ◌, ◌≤ℤ◌, not, slice_get, slice_index, unwrap_or}
+use Rattle.std.proofs.Common.{◌≡◌, ℕ, zero, suc, ◌^◌, ◌<◌, Bool, true, false, cond, List, [], ◌++◌, get_or, refl, ap, sym, ◌∙◌, arith, Some, Ok, eqb}
 use Rattle.std.proofs.lemmas.Int.{ints}
 use Rattle.std.proofs.lemmas.Option.{slice_get-get_or}
 use Rattle.std.proofs.lemmas.Bool.Decides.{nat_tests}
@@ -9,6 +9,7 @@ use Rattle.prem_word.specs.declared.kind.Kind.TheVariants.{Int, Unsigned}
 use Rattle.prem_word.specs.declared.kind.BinOp.{BinOp}
 use Rattle.prem_word.specs.declared.kind.BinOp.TheVariants.{Div, Rem, AndAlso as AndAlsoOp, OrElse as OrElseOp}
 use Rattle.prem_word.specs.Words.{value_in, truth, apply_op, CanApply}
+use Rattle.prem_word.specs.Ranges.{Span, LiesIn, holds, encloses, exactly, from_to, converted, truths}
 use Rattle.prem_syntax.specs.declared.tree.Place.{Place}
 use Rattle.prem_syntax.specs.declared.tree.Ty.{Ty}
 use Rattle.prem_syntax.specs.declared.tree.UnOp.TheVariants.{Neg, Flip, Not}
@@ -16,7 +17,6 @@ use Rattle.prem_syntax.specs.Syntax.{GlobalVariable}
 use Rattle.prem_meaning.specs.Resolved.{Term, Constant, Local, Scalar, Element, Unary, Binary, AndAlso, OrElse}
 use Rattle.prem_meaning.specs.Resolve.{kind_of, operand_kind}
 use Rattle.prem_meaning.specs.Expressions.{Outcome, and_then, Access, words_of, cell, or_wrong, unary_word, divide, operate, truth_of, eval}
-use Rattle.prem_word.specs.Ranges.{Span, LiesIn, holds, encloses, exactly, from_to, converted, truths}
 use Rattle.prem_ranges.specs.Unary.TableLaws.{TableLaws}
 use Rattle.prem_ranges.specs.Environment.{Environment, at_local}
 use Rattle.prem_ranges.specs.RangeOf.{range_of, cut, cut_if_some, opposite, is_same_kind, cut_by, refined}
@@ -173,7 +173,7 @@ kinds-refined false env (Element at g ty index) = refl
 
 -- ---- truths
 
-pub truth_value : (t : Bool) → (truth t < 2 ^ 32) × LiesIn truths (value_in Int (truth t))
+truth_value : (t : Bool) → (truth t < 2 ^ 32) × LiesIn truths (value_in Int (truth t))
 truth_value true = (omega arith, record { low = omega (arith, ints); high = omega (arith, ints) })
 truth_value false = (omega arith, record { low = omega (arith, ints); high = omega (arith, ints) })
 

@@ -1,6 +1,6 @@
 -- Functions, calls and jobs of programs that break no rule on ranges.
-use Rattle.std.proofs.Common.{◌≡◌, ℕ, zero, suc, ◌+◌, ◌^◌, ◌<◌, min, Bool, true, false, cond, List, [], ◌∷◌, ◌++◌, length, map, take, replicate, refl, ◌∙◌, arith, Option, None, Some, Ok, eqb, is_some, ⊎_elim}
 use Rattle.std.specs.Prelude.{ℤ, slice_get, unwrap_or}
+use Rattle.std.proofs.Common.{◌≡◌, ℕ, zero, suc, ◌+◌, ◌^◌, ◌<◌, min, Bool, true, false, cond, List, [], ◌∷◌, ◌++◌, length, map, take, replicate, refl, ◌∙◌, arith, Option, None, Some, Ok, eqb, is_some, ⊎_elim}
 use Rattle.std.proofs.lemmas.List.{map-append, length-append, length-take, length-replicate}
 use Rattle.std.proofs.lemmas.Option.{slice_get_within}
 use Rattle.std.proofs.lemmas.Bool.Decides.{nat_tests}
@@ -120,7 +120,7 @@ access_allows limits p order regions n f may there allows = by f.text.mark refl
     by None is = allows
     by (Some mark) is = allows_same p n (λ g j. inside_regions p n g j) (limits.inside n) (λ g j. regions.inside n g j) (own_regions_allow p order n f mark there is)
 
-pub calls_return : TableLaws → (limits : Limits) (p : Resolved) → HasRegions limits p → TypedProgram p → HasBounds p → range_breaches p ≡ [] → (n : ℕ) → CallsReturn p n (calls_below limits p.routines n)
+calls_return : TableLaws → (limits : Limits) (p : Resolved) → HasRegions limits p → TypedProgram p → HasBounds p → range_breaches p ≡ [] → (n : ℕ) → CallsReturn p n (calls_below limits p.routines n)
 calls_return laws limits p regions typed turned unbroken zero = record { returns = λ may f routine ws s below. absurd (omega arith) }
 calls_return laws limits p regions typed turned unbroken (suc n) =
     let before = calls_return laws limits p regions typed turned unbroken n in
@@ -142,14 +142,14 @@ calls_return laws limits p regions typed turned unbroken (suc n) =
 
 -- ---- jobs
 
-pub everywhere_allows : (p : Resolved) (n : ℕ) → Allows everywhere (watches_of p n)
+everywhere_allows : (p : Resolved) (n : ℕ) → Allows everywhere (watches_of p n)
 everywhere_allows p n = record { allowed = λ at g j r unbroken lies. refl }
 
 pub record Stands (p : Resolved) (s : ProgramState) : Type 0 where
   pub globals : Shaped p.globals s.globals
   pub inputs : AreWords s.inputs
 
-pub jobs_done : TableLaws → (limits : Limits) (p : Resolved) → HasRegions limits p → TypedProgram p → HasBounds p → range_breaches p ≡ [] → (jobs : ℕ) (s : ProgramState) → Stands p s → Always (Stands p) (do_jobs limits p jobs s)
+jobs_done : TableLaws → (limits : Limits) (p : Resolved) → HasRegions limits p → TypedProgram p → HasBounds p → range_breaches p ≡ [] → (jobs : ℕ) (s : ProgramState) → Stands p s → Always (Stands p) (do_jobs limits p jobs s)
 jobs_done laws limits p regions typed turned unbroken zero s stands = always_here s stands
 jobs_done laws limits p regions typed turned unbroken (suc jobs) s stands =
     let calls = calls_return laws limits p regions typed turned unbroken (length p.routines) in

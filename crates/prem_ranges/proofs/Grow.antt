@@ -1,6 +1,6 @@
 -- A run that keeps to its limits is a run under any wider limits, with the same state.
-use Rattle.std.proofs.Common.{◌≡◌, ℕ, zero, suc, ◌≤◌, Bool, true, false, cond, List, [], ◌∷◌, length, refl, ap, sym, ◌∙◌, arith, Option, None, Some, Ok, Err, eqb, is_some}
 use Rattle.std.specs.Prelude.{not, slice_get, slice_index}
+use Rattle.std.proofs.Common.{◌≡◌, ℕ, zero, suc, ◌≤◌, Bool, true, false, cond, List, [], ◌∷◌, length, refl, ap, sym, ◌∙◌, arith, Option, None, Some, Ok, Err, eqb, is_some}
 use Rattle.prem_syntax.specs.declared.tree.Ty.{Ty}
 use Rattle.prem_syntax.specs.Syntax.{FunctionText, ProgramText}
 use Rattle.prem_meaning.specs.Resolved.{Term, Constant, Local, Scalar, Element, Unary, Binary, AndAlso, OrElse, Steps, Routine, Resolved}
@@ -124,7 +124,7 @@ store_follows may more wider line g ty j w s =
     follows_then (or_wrong line (cell may s.globals g j)) (or_wrong line (cell more s.globals g j)) (λ old. Ok (with_cell g j (stored ty w) s)) (λ old. Ok (with_cell g j (stored ty w) s)) (cell_follows may more wider s.globals g j line)
     (λ old. same_follows (Ok (with_cell g j (stored ty w) s)))
 
-pub run_grows : (may more : Access) → Wider may more → (calls calls' : Calls) → CallsGrow calls calls' → {a b : Steps} → Alike (λ n m. n ≤ m) a b → Grows (run may calls a) (run more calls' b)
+run_grows : (may more : Access) → Wider may more → (calls calls' : Calls) → CallsGrow calls calls' → {a b : Steps} → Alike (λ n m. n ≤ m) a b → Grows (run may calls a) (run more calls' b)
 run_grows may more wider calls calls' grow alike_done s = same_follows (Ok s)
 run_grows may more wider calls calls' grow (alike_local at k e {a = a} {b = b} rest) s =
     follows_then (value may s e) (value more s e) (λ w. run may calls a (with_local k w s)) (λ w. run more calls' b (with_local k w s)) (eval_follows may more wider s.globals s.locals e) (λ w. run_grows may more wider calls calls' grow rest (with_local k w s))
@@ -218,7 +218,7 @@ this_grows : (b : Bool) (this this' others others' : Calls) → CallsGrow this t
 this_grows true this this' others others' h k may wide w f ws s = h.grows may wide w f ws s
 this_grows false this this' others others' h k may wide w f ws s = k.grows may wide w f ws s
 
-pub calls_grow : (limits wide : Limits) → WiderLimits limits wide → {fs gs : List Routine} → AlikeRoutines (λ n m. n ≤ m) fs gs → (n : ℕ) → CallsGrow (calls_below limits fs n) (calls_below wide gs n)
+calls_grow : (limits wide : Limits) → WiderLimits limits wide → {fs gs : List Routine} → AlikeRoutines (λ n m. n ≤ m) fs gs → (n : ℕ) → CallsGrow (calls_below limits fs n) (calls_below wide gs n)
 calls_grow limits wide wider same zero = record { grows = λ may more h f ws s. same_follows (Err 0) }
 calls_grow limits wide wider {fs = fs} {gs = gs} same (suc n) =
     let before = calls_grow limits wide wider same n in
@@ -232,7 +232,7 @@ pub routines_count : {turn : ℕ → ℕ → Type 0} {fs gs : List Routine} → 
 routines_count no_routines = refl
 routines_count (next_routine this rest) = ap suc (routines_count rest)
 
-pub jobs_grow : (limits wide : Limits) → WiderLimits limits wide → (p q : Resolved) → AlikePrograms (λ n m. n ≤ m) p q → (jobs : ℕ) (s : ProgramState) → Follows (do_jobs limits p jobs s) (do_jobs wide q jobs s)
+jobs_grow : (limits wide : Limits) → WiderLimits limits wide → (p q : Resolved) → AlikePrograms (λ n m. n ≤ m) p q → (jobs : ℕ) (s : ProgramState) → Follows (do_jobs limits p jobs s) (do_jobs wide q jobs s)
 jobs_grow limits wide wider p q same zero s = same_follows (Ok s)
 jobs_grow limits wide wider p q same (suc jobs) s =
     let all : Follows (calls_below limits p.routines (length p.routines) everywhere p.job [] s) (calls_below wide q.routines (length q.routines) everywhere q.job [] s) =

@@ -1,25 +1,27 @@
 -- Programs that meet all that the laws ask for, and what the laws say of them.
-use Rattle.std.proofs.Common.{◌≡◌, ℕ, zero, suc, ◌^◌, ◌≤◌, List, [], ◌∷◌, refl, arith, Ok, Err}
 use Rattle.std.specs.Prelude.{pos, replicate, slice_index}
+use Rattle.std.proofs.Common.{◌≡◌, ℕ, zero, suc, ◌^◌, ◌≤◌, List, [], ◌∷◌, refl, arith, Ok, Err}
 use Rattle.std.proofs.lemmas.Int.{ints}
 use Rattle.prem_word.specs.declared.kind.Kind.TheVariants.{Int}
 use Rattle.prem_word.specs.declared.kind.BinOp.TheVariants.{Add}
+use Rattle.prem_word.specs.Ranges.{from_to}
+use Rattle.prem_syntax.specs.Literals.{ProgramHasWords}
 use Rattle.prem_meaning.specs.Resolved.{Term, Constant, Local, Binary}
 use Rattle.prem_meaning.specs.Expressions.{Outcome, and_then, eval}
 use Rattle.prem_meaning.specs.Statements.{ProgramState, Calls, counting, bounded}
 use Rattle.prem_meaning.specs.Source.{unlimited, everywhere, source_within, source}
 use Rattle.prem_meaning.specs.GroupTwo.{IsWellFormed, group_two}
+use Rattle.prem_meaning.specs.Reach.{IsAmong}
 use Rattle.prem_meaning.proofs.Samples.{at}
-use Rattle.prem_ranges.proofs.UnaryLemmas.Table.{table_laws}
-use Rattle.prem_word.specs.Ranges.{from_to}
 use Rattle.prem_ranges.specs.Environment.{Environment}
 use Rattle.prem_ranges.specs.GroupThree.{resolved, StaysInRange, group_three, turn_bounds, limits_of}
 use Rattle.prem_ranges.specs.RangeBreaches.{Site}
 use Rattle.prem_ranges.specs.Counts.{most_outputs, most_marks}
-use Rattle.prem_syntax.specs.Literals.{ProgramHasWords}
 use Rattle.prem_ranges.specs.Promises.{KeepsCounts, WiderLimits}
 use Rattle.prem_ranges.specs.Sound.{Always, no_locals, next_local, no_globals, IsValue}
 use Rattle.prem_ranges.specs.Turns.{source_or, turns_of}
+use Rattle.prem_ranges.specs.Wrong.{program_lines}
+use Rattle.prem_ranges.proofs.UnaryLemmas.Table.{table_laws}
 use Rattle.prem_ranges.proofs.AnalysisSound.{analysis_sound}
 use Rattle.prem_ranges.proofs.Expressions.{expression}
 use Rattle.prem_ranges.proofs.Grow.{limits_grow}
@@ -27,8 +29,6 @@ use Rattle.prem_ranges.proofs.Rows.{index_past_text, index_inside_text, set_with
 use Rattle.prem_ranges.proofs.RunsCounted.{runs_counted}
 use Rattle.prem_ranges.proofs.Wanted.{nothing_wanted}
 use Rattle.prem_ranges.proofs.Blame.{wrong_has_its_line}
-use Rattle.prem_ranges.specs.Wrong.{program_lines}
-use Rattle.prem_meaning.specs.Reach.{IsAmong}
 
 -- ---- the program whose index stays inside its array
 

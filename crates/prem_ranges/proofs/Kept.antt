@@ -1,8 +1,8 @@
 -- All ranges lie in their kinds, and so no loop has more turns than there are ints.
-use Rattle.std.proofs.Common.{◌≡◌, ℕ, zero, suc, ◌+◌, ◌-◌, ◌*◌, ◌/◌, ◌^◌, ◌<◌, ◌≤◌, Bool, true, false, cond, List, [], ◌∷◌, ◌++◌, map, refl, sym, ◌∙◌, arith, Option, None, Some, eqb, ⊎_elim}
 use Rattle.std.specs.Prelude.{⊤, ℤ, pos, negsuc, ◌+ℤ◌, ◌-ℤ◌, ◌≤ℤ◌, int_le, unsigned_abs, ◌||◌, slice_get, slice_index, unwrap_or}
 use Rattle.std.specs.Int.{int_max}
 use Rattle.std.specs.List.{flat_map}
+use Rattle.std.proofs.Common.{◌≡◌, ℕ, zero, suc, ◌+◌, ◌-◌, ◌*◌, ◌/◌, ◌^◌, ◌<◌, ◌≤◌, Bool, true, false, cond, List, [], ◌∷◌, ◌++◌, map, refl, sym, ◌∙◌, arith, Option, None, Some, eqb, ⊎_elim}
 use Rattle.std.proofs.lemmas.Int.{ints, clamps}
 use Rattle.std.proofs.lemmas.List.{map-append}
 use Rattle.std.proofs.lemmas.Bool.{cases_lt}
@@ -12,15 +12,15 @@ use Rattle.prem_word.specs.declared.kind.Kind.TheVariants.{Int, Unsigned}
 use Rattle.prem_word.specs.declared.kind.BinOp.{BinOp}
 use Rattle.prem_word.specs.declared.kind.BinOp.TheVariants.{Lt, Le, Gt, Ge, Eq}
 use Rattle.prem_word.specs.Words.{value_in}
+use Rattle.prem_word.specs.Ranges.{Span, from_to, exactly, LiesIn, IsRange, whole, unless_empty, converted}
+use Rattle.prem_word.proofs.Corners.{word_in_whole}
+use Rattle.prem_word.proofs.Kept.{whole_kept, within_kept, truths_kept, range_kept, negate_kept, flip_kept, join_kept, converted_kept}
 use Rattle.prem_syntax.specs.declared.tree.Ty.{Ty}
 use Rattle.prem_syntax.specs.declared.tree.Ty.TheVariants.{Void, Int as IntTy, Unsigned as UnsignedTy, Short, Ushort, Schar, Uchar}
 use Rattle.prem_syntax.specs.declared.tree.UnOp.TheVariants.{Neg, Flip, Not}
 use Rattle.prem_syntax.specs.Syntax.{LocalVariable, GlobalVariable}
 use Rattle.prem_meaning.specs.Resolved.{Term, Constant, Local, Scalar, Element, Unary, Binary, AndAlso, OrElse, Steps, Done, SetLocal, SetScalar, SetElement, Output, Input, If, For, While, Call, Routine, Resolved}
 use Rattle.prem_meaning.specs.Resolve.{kind_of, promoted}
-use Rattle.prem_word.specs.Ranges.{Span, from_to, exactly, LiesIn, IsRange, whole, unless_empty, converted}
-use Rattle.prem_word.proofs.Corners.{word_in_whole}
-use Rattle.prem_word.proofs.Kept.{whole_kept, within_kept, truths_kept, range_kept, negate_kept, flip_kept, join_kept, converted_kept}
 use Rattle.prem_ranges.specs.Environment.{Known, any_again, with_range, assigned, Environment, range_at, at_local, loosened, joined}
 use Rattle.prem_ranges.specs.RangeOf.{type_range, range_of, cut, cut_if_some, opposite, is_same_kind, cut_by, refined}
 use Rattle.prem_ranges.specs.After.{assigns, in_counting, loop_end, turn_bound, body_range, range_behind, in_body, behind_loop, in_while, behind_call, after, bounds, known_parameter, known_local, declared, at_body, bounds_in}
@@ -79,7 +79,7 @@ type_kept Uchar = fits Int (pos 0) (pos 255) (omega (arith, ints)) (omega (arith
 exactly_kept : (k : Kind) (z : ℤ) → LiesIn (whole k) z → IsRange k (exactly z)
 exactly_kept k z h = record { ordered = omega (arith, ints); least = h.low; greatest = h.high }
 
-pub term_kept : (gs : List GlobalVariable) (env : Environment) → Ranged env → (e : Term) → Typed gs (kinds_of env) e → IsRange (kind_of e) (range_of env e)
+term_kept : (gs : List GlobalVariable) (env : Environment) → Ranged env → (e : Term) → Typed gs (kinds_of env) e → IsRange (kind_of e) (range_of env e)
 term_kept gs env ranged (Constant at word kind) typed = exactly_kept kind (value_in kind word) (word_in_whole kind word typed)
 term_kept gs env ranged (Local at k kind) typed = range_at_kept ranged k kind typed
 term_kept gs env ranged (Scalar at g ty) typed = type_kept ty
@@ -127,7 +127,7 @@ ranged_cut op (Binary at bop k e e') right r env ranged = ranged
 ranged_cut op (AndAlso at e e') right r env ranged = ranged
 ranged_cut op (OrElse at e e') right r env ranged = ranged
 
-pub ranged_refined : (b : Bool) (env : Environment) (e : Term) → Ranged env → Ranged (refined b env e)
+ranged_refined : (b : Bool) (env : Environment) (e : Term) → Ranged env → Ranged (refined b env e)
 ranged_refined true env (AndAlso at left right) ranged = ranged_refined true (refined true env left) right (ranged_refined true env left ranged)
 ranged_refined false env (AndAlso at left right) ranged = ranged
 ranged_refined true env (OrElse at left right) ranged = ranged
@@ -312,7 +312,7 @@ ranged_declared gs (l ∷ ls) (e ∷ es) env ranged typed =
     let kinds : kinds_of (env ++ l' ∷ []) ≡ kinds_of env ++ promoted l.ty ∷ [] = map-append (λ (x : Known). x.kind) env (l' ∷ []) in
     ranged_declared gs ls es (env ++ l' ∷ []) (ranged_more ranged l' (converted_kept (kind_of e) (promoted l.ty) (range_of env e) (term_kept gs env ranged e typed.0))) (rw kinds typed.1)
 
-pub routine_kept : (p : Resolved) (n : ℕ) (f : Routine) → TypedRoutine p n f → in_routine (site_of p n) f ≡ [] → AllSmall (bounds_in f)
+routine_kept : (p : Resolved) (n : ℕ) (f : Routine) → TypedRoutine p n f → in_routine (site_of p n) f ≡ [] → AllSmall (bounds_in f)
 routine_kept p n f typed unbroken =
     let site = site_of p n in
     let locals = in_locals site (map known_parameter f.text.params) f.text.locals f.locals in

@@ -1,8 +1,8 @@
 -- What names stand for in a well-formed program is there, with its type.
-use Rattle.std.proofs.Common.{◌≡◌, ℕ, zero, suc, ◌+◌, Bool, true, false, cond, List, [], ◌∷◌, ◌++◌, map, refl, ap, sym, ◌∙◌, arith, Option, None, Some}
 use Rattle.std.specs.Prelude.{⊤, not, slice_get, unwrap_or}
 use Rattle.std.specs.Str.{bytes_eq}
 use Rattle.std.specs.Option.{option_map}
+use Rattle.std.proofs.Common.{◌≡◌, ℕ, zero, suc, ◌+◌, Bool, true, false, cond, List, [], ◌∷◌, ◌++◌, map, refl, ap, sym, ◌∙◌, arith, Option, None, Some}
 use Rattle.std.proofs.lemmas.Option.{slice_get-map}
 use Rattle.prem_word.specs.declared.kind.Kind.{Kind}
 use Rattle.prem_word.specs.declared.kind.BinOp.{BinOp}
@@ -12,13 +12,13 @@ use Rattle.prem_syntax.specs.declared.tree.Ty.{Ty}
 use Rattle.prem_syntax.specs.declared.meaning.Meaning.{Meaning}
 use Rattle.prem_syntax.specs.declared.meaning.Meaning.TheVariants.{Nothing, Local as LocalName, Scalar as ScalarName, Array as ArrayName, Function as FunctionName}
 use Rattle.prem_syntax.specs.Syntax.{Text, Expression, literal, variable, element, unary, binary, GlobalVariable, FunctionText}
+use Rattle.prem_syntax.specs.Literals.{HasWords}
 use Rattle.prem_meaning.specs.Resolved.{Term, operator}
 use Rattle.prem_meaning.specs.Resolve.{Scope, find_named, find_local, find_global, find_function, global_meaning, first_meaning, meaning_of, promoted, operand_kind, kind_of, variable_term, element_term, resolve_term}
 use Rattle.prem_meaning.specs.Rules.{Rule, Breach, first, first_of}
 use Rattle.prem_meaning.specs.Breaches.{if_at, unknown, used_plain, used_indexed, in_expression}
 use Rattle.prem_ranges.specs.RangeBreaches.{length_of}
 use Rattle.prem_ranges.specs.Sound.{HasGlobal, IsScalar, Typed}
-use Rattle.prem_syntax.specs.Literals.{HasWords}
 use Rattle.prem_ranges.proofs.Basics.{none_left, none_right}
 
 -- ---- breaches

@@ -1,11 +1,11 @@
 -- Runs of well-formed programs have no more outputs and marked calls than the turns of their loops allow.
 use Rattle.std.proofs.Common.{◌≡◌, ℕ, List, ap, ◌∙◌, Ok}
 use Rattle.prem_syntax.specs.Syntax.{ProgramText}
+use Rattle.prem_syntax.specs.Literals.{ProgramHasWords}
 use Rattle.prem_meaning.specs.Statements.{ProgramState}
 use Rattle.prem_meaning.specs.Source.{source_within, source}
 use Rattle.prem_meaning.specs.GroupTwo.{IsWellFormed}
 use Rattle.prem_ranges.specs.GroupThree.{StaysInRange, limits_of}
-use Rattle.prem_syntax.specs.Literals.{ProgramHasWords}
 use Rattle.prem_ranges.specs.Promises.{KeepsCounts}
 use Rattle.prem_ranges.specs.Sound.{AreWords}
 use Rattle.prem_ranges.proofs.AnalysisSound.{analysis_sound}

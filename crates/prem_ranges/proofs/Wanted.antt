@@ -1,6 +1,6 @@
 -- A well-formed program is never in want of turns or of a function.
-use Rattle.std.proofs.Common.{◌≡◌, ℕ, zero, suc, ◌+◌, ◌^◌, ◌<◌, ◌≤◌, Bool, true, false, cond, List, [], ◌∷◌, ◌++◌, length, refl, ap, sym, subst, ◌∙◌, arith, map, Option, None, Some, Ok, Err, eqb, is_some}
 use Rattle.std.specs.Prelude.{ℤ, pos, negsuc, ◌+ℤ◌, ◌≤ℤ◌, int_lt, ◌||◌, slice_get, slice_index}
+use Rattle.std.proofs.Common.{◌≡◌, ℕ, zero, suc, ◌+◌, ◌^◌, ◌<◌, ◌≤◌, Bool, true, false, cond, List, [], ◌∷◌, ◌++◌, length, refl, ap, sym, subst, ◌∙◌, arith, map, Option, None, Some, Ok, Err, eqb, is_some}
 use Rattle.std.proofs.lemmas.Int.{ints}
 use Rattle.std.proofs.lemmas.List.{length-append, length-map, length-set, get_or-set_same}
 use Rattle.std.proofs.lemmas.Option.{slice_get_within}
@@ -10,6 +10,7 @@ use Rattle.prem_word.specs.declared.kind.Kind.TheVariants.{Int}
 use Rattle.prem_word.specs.Words.{value_in, word_of}
 use Rattle.prem_syntax.specs.declared.tree.Ty.{Ty}
 use Rattle.prem_syntax.specs.Syntax.{LocalVariable, GlobalVariable, FunctionText, ProgramText}
+use Rattle.prem_syntax.specs.Literals.{ProgramHasWords}
 use Rattle.prem_meaning.specs.Resolved.{Term, Steps, Done, SetLocal, SetScalar, SetElement, Output, Input, If, For, While, Call, Routine, Resolved}
 use Rattle.prem_meaning.specs.Resolve.{resolve, promoted}
 use Rattle.prem_meaning.specs.Expressions.{Outcome, and_then, Access, cell, or_wrong, eval, eval_all}
@@ -18,7 +19,6 @@ use Rattle.prem_meaning.specs.Source.{Limits, access_of, enter_if_there, this_or
 use Rattle.prem_meaning.specs.GroupTwo.{IsWellFormed}
 use Rattle.prem_ranges.specs.Environment.{Known, Environment}
 use Rattle.prem_ranges.specs.After.{is_target, assigns, known_parameter, known_local, declared, at_body}
-use Rattle.prem_syntax.specs.Literals.{ProgramHasWords}
 use Rattle.prem_ranges.specs.Sound.{kinds_of, TypedSteps, TypedLocals, TypedProgram, Alike, alike_done, alike_local, alike_scalar, alike_element, alike_output, alike_input, alike_if, alike_for, alike_while, alike_call, AlikeRoutine, AlikeRoutines, no_routines, next_routine}
 use Rattle.prem_ranges.specs.Turns.{enter_or, calls_or, jobs_or, source_or, wrong_call, turns_of}
 use Rattle.prem_ranges.proofs.Alike.{AlikePrograms, resolve-alike}

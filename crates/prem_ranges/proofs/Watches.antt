@@ -1,16 +1,16 @@
 -- What a marked function's regions allow is allowed in all functions that it reaches.
-use Rattle.std.proofs.Common.{◌≡◌, ℕ, zero, suc, ◌+◌, ◌<◌, Bool, true, false, List, [], ◌∷◌, ◌++◌, refl, ap, sym, subst, ◌∙◌, arith, Option, None, Some, eqb, inl, inr, ⊎_elim, ◌⊎◌}
 use Rattle.std.specs.Prelude.{pos, int_le, ◌||◌, slice_get, slice_index_or, length}
+use Rattle.std.proofs.Common.{◌≡◌, ℕ, zero, suc, ◌+◌, ◌<◌, Bool, true, false, List, [], ◌∷◌, ◌++◌, refl, ap, sym, subst, ◌∙◌, arith, Option, None, Some, eqb, inl, inr, ⊎_elim, ◌⊎◌}
 use Rattle.std.proofs.lemmas.Bool.{and_parts}
 use Rattle.std.proofs.lemmas.List.{length-map}
 use Rattle.std.proofs.lemmas.Option.{slice_get_within}
+use Rattle.prem_word.specs.Ranges.{Span, LiesIn, exactly, from_to, encloses}
 use Rattle.prem_syntax.specs.declared.tree.Place.{Place}
 use Rattle.prem_syntax.specs.Syntax.{MarkText, GlobalVariable}
 use Rattle.prem_meaning.specs.Resolved.{Routine, Resolved}
 use Rattle.prem_meaning.specs.Reach.{callees_in, callee_table, is_in, reach_set, IsAmong, CallsBefore}
-use Rattle.prem_meaning.proofs.Reach.{reach_is_closed}
 use Rattle.prem_meaning.specs.Expressions.{Access}
-use Rattle.prem_word.specs.Ranges.{Span, LiesIn, exactly, from_to, encloses}
+use Rattle.prem_meaning.proofs.Reach.{reach_is_closed}
 use Rattle.prem_ranges.specs.Regions.{Area, Watch, area_holds, areas_hold, areas_of, watch_if, watches_from, watches_of, inside_regions}
 use Rattle.prem_ranges.specs.RangeBreaches.{in_watches, in_watch}
 use Rattle.prem_ranges.specs.Sound.{Allows}

@@ -1,32 +1,32 @@
 -- A program that breaks no rule of well-formed programs is resolved with the right names and kinds, however its loops are numbered.
-use Rattle.std.proofs.Common.{◌≡◌, ℕ, zero, suc, ◌+◌, Bool, true, false, cond, List, [], ◌∷◌, ◌++◌, length, map, refl, ap, sym, ◌∙◌, arith, Option, None, Some, eqb, is_some, is_none}
 use Rattle.std.specs.Prelude.{ℤ, pos, neg_ℤ, ◌≤ℤ◌, int_lt, not, ◌||◌, ◌&&◌, slice_get, unwrap_or, codes, IsTrue}
 use Rattle.std.specs.List.{list_any}
 use Rattle.std.specs.Option.{option_map}
 use Rattle.std.specs.Str.{bytes_eq}
+use Rattle.std.proofs.Common.{◌≡◌, ℕ, zero, suc, ◌+◌, Bool, true, false, cond, List, [], ◌∷◌, ◌++◌, length, map, refl, ap, sym, ◌∙◌, arith, Option, None, Some, eqb, is_some, is_none}
 use Rattle.std.proofs.lemmas.Int.{ints}
 use Rattle.std.proofs.lemmas.List.{append-nil, append_assoc, map-append, nil_from_length}
 use Rattle.std.proofs.lemmas.Bool.{and_parts}
 use Rattle.std.proofs.lemmas.Bool.Decides.{nat_tests}
 use Rattle.prem_word.specs.declared.kind.Kind.{Kind}
 use Rattle.prem_word.specs.declared.kind.Kind.TheVariants.{Int, Unsigned}
+use Rattle.prem_word.specs.Ranges.{from_to, IsRange, whole}
+use Rattle.prem_word.proofs.Corners.{≤ℤ_trans}
+use Rattle.prem_word.proofs.Kept.{whole_kept}
 use Rattle.prem_syntax.specs.declared.tree.Ty.{Ty}
 use Rattle.prem_syntax.specs.declared.tree.Ty.TheVariants.{Void, Int as IntTy, Unsigned as UnsignedTy, Short, Ushort, Schar, Uchar}
 use Rattle.prem_syntax.specs.declared.rules.TypeRule.TheVariants.{Narrow, Return, Marked, Range, Job}
 use Rattle.prem_syntax.specs.Syntax.{Text, Expression, Parameter, LocalVariable, GlobalVariable, FunctionText, global_item, function_item, ProgramText}
+use Rattle.prem_syntax.specs.Literals.{HasWordsIf, StatementsHaveWords, LocalsHaveWords, ProgramHasWords}
 use Rattle.prem_meaning.specs.Resolved.{Done, Routine, Resolved}
 use Rattle.prem_meaning.specs.Resolve.{Scope, find_named, find_function, promoted, resolve_term, loops_within, declared as declared_scope, resolve_locals, parameter_names, local_names, scope_at, scope_in, resolve_function, resolve_items, globals_of, functions_of, resolve}
 use Rattle.prem_meaning.specs.Rules.{Breach, NoJob, Twice, OfTypes}
 use Rattle.prem_meaning.specs.Breaches.{if_broken, if_at, is_job_name, has_name, is_narrow, is_marked_text, in_expression, is_void, in_option, in_statements, is_from, fits_type, is_range, in_declared, in_parameters, in_locals, in_regions, regions_of, in_heading, around, parameter_texts, in_function, in_global, in_items, item_names, in_limits, breaches, reached}
 use Rattle.prem_meaning.specs.Reach.{is_in_set}
 use Rattle.prem_meaning.specs.GroupTwo.{group_two, IsWellFormed}
-use Rattle.prem_word.specs.Ranges.{from_to, IsRange, whole}
-use Rattle.prem_word.proofs.Corners.{≤ℤ_trans}
-use Rattle.prem_word.proofs.Kept.{whole_kept}
 use Rattle.prem_ranges.specs.Environment.{Known, Environment}
 use Rattle.prem_ranges.specs.After.{stated_or_whole, known_parameter, known_local, declared, at_body}
 use Rattle.prem_ranges.specs.Sound.{kinds_of, Ranged, none_ranged, next_ranged, TypedLocals, TypedResult, TypedRoutine, TypedProgram}
-use Rattle.prem_syntax.specs.Literals.{HasWordsIf, StatementsHaveWords, LocalsHaveWords, ProgramHasWords}
 use Rattle.prem_ranges.proofs.Basics.{none_left, none_right, is_not_below}
 use Rattle.prem_ranges.proofs.Named.{kept_rule, kept_rule_not, none_broken, found_at, found_named, kinds_in, typed_term}
 use Rattle.prem_ranges.proofs.WellTyped.{HasRoutines, statements_typed}

@@ -1,8 +1,8 @@
 -- Well-formed programs are resolved with the right names and kinds.
-use Rattle.std.proofs.Common.{◌≡◌, ℕ, ◌+◌, ◌<◌, Bool, true, false, List, [], ◌∷◌, ◌++◌, length, map, refl, ap, sym, ◌∙◌, arith, Option, None, Some, eqb, is_some, is_none}
 use Rattle.std.specs.Prelude.{not, ◌&&◌, nat_lt, nat_le, slice_get}
 use Rattle.std.specs.Option.{option_map}
 use Rattle.std.specs.Str.{bytes_eq}
+use Rattle.std.proofs.Common.{◌≡◌, ℕ, ◌+◌, ◌<◌, Bool, true, false, List, [], ◌∷◌, ◌++◌, length, map, refl, ap, sym, ◌∙◌, arith, Option, None, Some, eqb, is_some, is_none}
 use Rattle.std.proofs.lemmas.List.{length-map}
 use Rattle.std.proofs.lemmas.Bool.{and_parts}
 use Rattle.std.proofs.lemmas.Bool.Decides.{nat_tests}
@@ -16,13 +16,13 @@ use Rattle.prem_syntax.specs.declared.meaning.Meaning.{Meaning}
 use Rattle.prem_syntax.specs.declared.meaning.Meaning.TheVariants.{Nothing, Local as LocalName, Scalar as ScalarName, Array as ArrayName, Function as FunctionName}
 use Rattle.prem_syntax.specs.declared.rules.TypeRule.TheVariants.{Target, Count as CountRule}
 use Rattle.prem_syntax.specs.Syntax.{Text, Expression, LoopNames, Statement, block, if_then, if_else, bounded_while, counting_for, assign, output, input, call, Statements, no_statements, next_statement, GlobalVariable, FunctionText}
+use Rattle.prem_syntax.specs.Literals.{HasWords, HasWordsIf, HaveWords, StatementHasWords, StatementsHaveWords}
 use Rattle.prem_meaning.specs.Resolved.{Term, Steps, Done, Routine, Resolved}
 use Rattle.prem_meaning.specs.Resolve.{Scope, find_function, meaning_of, kind_of, resolve_term, loops_in, set_steps, input_steps, loop_local, local_number, target_of, number_named, call_steps, resolve_statement, resolve_statements}
 use Rattle.prem_meaning.specs.Rules.{CallOrder, MarkedCall, SystemCall, LoopForm, OfTypes}
 use Rattle.prem_meaning.specs.Breaches.{if_at, in_expression, in_expressions, is_int_local, same_name, is_name, assigns as text_assigns, assigns_within, is_int, is_between, is_loop, Around, is_void, is_marked_text, in_call_target, in_callee, in_assigned, in_option, in_names, in_statement, in_statements}
 use Rattle.prem_ranges.specs.After.{is_target, assigns}
 use Rattle.prem_ranges.specs.Sound.{Typed, AllTyped, TypedSteps}
-use Rattle.prem_syntax.specs.Literals.{HasWords, HasWordsIf, HaveWords, StatementHasWords, StatementsHaveWords}
 use Rattle.prem_ranges.proofs.Basics.{none_left, none_right}
 use Rattle.prem_ranges.proofs.Stores.{not_both}
 use Rattle.prem_ranges.proofs.Named.{kept_rule_not, found_at, IsLocal, Stands, stands, kinds_in, local_kind, global_of_all, scalar_of_all, typed_term}
@@ -131,7 +131,7 @@ form_of around at names low high step body e =
 
 -- a statement that doesn't assign a name leaves its local
 mutual
-  pub statement_leaves : (around : Around) (name : Text) (k : ℕ) (ty : Ty) → IsLocal around.scope name k ty → (t : ℕ → ℕ) (n : ℕ) (s : Statement) (rest : Steps) → in_statement around s ≡ [] → text_assigns name s ≡ false →
+  statement_leaves : (around : Around) (name : Text) (k : ℕ) (ty : Ty) → IsLocal around.scope name k ty → (t : ℕ → ℕ) (n : ℕ) (s : Statement) (rest : Steps) → in_statement around s ≡ [] → text_assigns name s ≡ false →
       assigns k (resolve_statement around.scope t n s rest) ≡ assigns k rest
   statement_leaves around name k ty is t n (block at body) rest unbroken e = statements_leave around name k ty is t n body rest unbroken e
   statement_leaves around name k ty is t n (if_then at condition taken) rest unbroken e =
@@ -163,7 +163,7 @@ mutual
   statement_leaves around name k ty is t n (call at target callee arguments) rest unbroken e =
       call_leaves around.scope name k ty is at target (number_named around.scope.functions callee) (map (resolve_term around.scope) arguments) rest e
 
-  pub statements_leave : (around : Around) (name : Text) (k : ℕ) (ty : Ty) → IsLocal around.scope name k ty → (t : ℕ → ℕ) (n : ℕ) (s : Statements) (rest : Steps) → in_statements around s ≡ [] → assigns_within name s ≡ false →
+  statements_leave : (around : Around) (name : Text) (k : ℕ) (ty : Ty) → IsLocal around.scope name k ty → (t : ℕ → ℕ) (n : ℕ) (s : Statements) (rest : Steps) → in_statements around s ≡ [] → assigns_within name s ≡ false →
       assigns k (resolve_statements around.scope t n s rest) ≡ assigns k rest
   statements_leave around name k ty is t n no_statements rest unbroken e = refl
   statements_leave around name k ty is t n (next_statement first others) rest unbroken e =
@@ -278,7 +278,7 @@ call_typed p around more inside at target callee arguments rest words callee_unb
         )
 
 mutual
-  pub statement_typed : (p : Resolved) (around : Around) (more : List GlobalVariable) → In p around more → (t : ℕ → ℕ) (n : ℕ) (s : Statement) (rest : Steps) → StatementHasWords s → in_statement around s ≡ [] → TypedSteps p around.number (kinds_in around.scope) rest →
+  statement_typed : (p : Resolved) (around : Around) (more : List GlobalVariable) → In p around more → (t : ℕ → ℕ) (n : ℕ) (s : Statement) (rest : Steps) → StatementHasWords s → in_statement around s ≡ [] → TypedSteps p around.number (kinds_in around.scope) rest →
       TypedSteps p around.number (kinds_in around.scope) (resolve_statement around.scope t n s rest)
   statement_typed p around more inside t n (block at body) rest words unbroken typed = statements_typed p around more inside t n body rest words unbroken typed
   statement_typed p around more inside t n (if_then at condition taken) rest words unbroken typed =

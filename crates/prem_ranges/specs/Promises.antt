@@ -1,6 +1,7 @@
 -- The laws on ranges.
 use Rattle.std.specs.Prelude.{◌≡◌, ℕ, ◌*◌, ◌^◌, ◌<◌, ◌≤◌, true, List, [], length, slice_index, Ok}
 use Rattle.prem_syntax.specs.Syntax.{ProgramText}
+use Rattle.prem_syntax.specs.Literals.{ProgramHasWords}
 use Rattle.prem_meaning.specs.Resolved.{Term}
 use Rattle.prem_meaning.specs.Expressions.{Access, eval}
 use Rattle.prem_meaning.specs.Statements.{ProgramState}
@@ -10,7 +11,6 @@ use Rattle.prem_ranges.specs.Environment.{Environment}
 use Rattle.prem_ranges.specs.RangeBreaches.{Site, in_term}
 use Rattle.prem_ranges.specs.GroupThree.{StaysInRange, turn_bounds, limits_of}
 use Rattle.prem_ranges.specs.Counts.{most_outputs, most_marks}
-use Rattle.prem_syntax.specs.Literals.{ProgramHasWords}
 use Rattle.prem_ranges.specs.Sound.{Always, AreWords, Holds, kinds_of, Shaped, Allows, Typed, IsValue}
 
 -- a well-formed program that breaks no rule on ranges does any number of jobs with any inputs, within its turn bounds and regions

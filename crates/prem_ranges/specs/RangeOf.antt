@@ -6,12 +6,12 @@ use Rattle.prem_word.specs.declared.kind.Kind.TheVariants.{Int, Unsigned}
 use Rattle.prem_word.specs.declared.kind.BinOp.{BinOp}
 use Rattle.prem_word.specs.declared.kind.BinOp.TheVariants.{Lt, Le, Gt, Ge, Eq, Ne}
 use Rattle.prem_word.specs.Words.{value_in}
+use Rattle.prem_word.specs.Ranges.{Span, from_to, exactly, whole, converted, unless_empty, truths, range_of_op}
 use Rattle.prem_syntax.specs.declared.tree.Ty.{Ty}
 use Rattle.prem_syntax.specs.declared.tree.Ty.TheVariants.{Unsigned as UnsignedTy, Short, Ushort, Schar, Uchar}
 use Rattle.prem_syntax.specs.declared.tree.UnOp.TheVariants.{Not}
 use Rattle.prem_meaning.specs.Resolved.{Term, Constant, Local, Scalar, Element, Unary, Binary, AndAlso, OrElse}
 use Rattle.prem_meaning.specs.Resolve.{kind_of}
-use Rattle.prem_word.specs.Ranges.{Span, from_to, exactly, whole, converted, unless_empty, truths, range_of_op}
 pub use Rattle.prem_ranges.specs.Unary.TableLaws.{unary_range}
 use Rattle.prem_ranges.specs.Environment.{Known, with_range, Environment, range_at, at_local}
 

@@ -1,8 +1,8 @@
 -- The rules on ranges, and where their breaches stand in the order of breaches.
 use Rattle.std.specs.Prelude.{ℕ, Bool, true, false, List, [], ◌∷◌, Option, Some}
+use Rattle.prem_word.specs.Ranges.{Span}
 use Rattle.prem_syntax.specs.declared.tree.Place.{Place}
 use Rattle.prem_meaning.specs.Order.{Standing, stands_before, first_by, first_of_by}
-use Rattle.prem_word.specs.Ranges.{Span}
 
 pub data RangeRule : Type 0 where
   LoopBound : RangeRule

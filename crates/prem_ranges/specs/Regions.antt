@@ -1,12 +1,12 @@
 -- The regions that marked functions state, and which functions these watch over.
 use Rattle.std.specs.Prelude.{ℕ, ◌+◌, ◌==◌, pos, Bool, ◌&&◌, if◌then◌else◌, List, [], ◌∷◌, ◌++◌, slice_get, Option, None, Some}
 use Rattle.std.specs.List.{list_any, flat_map}
+use Rattle.prem_word.specs.Ranges.{Span, from_to, exactly, encloses}
 use Rattle.prem_syntax.specs.Syntax.{RegionText, MarkText, GlobalVariable}
 use Rattle.prem_meaning.specs.Resolved.{Routine, Resolved}
 use Rattle.prem_meaning.specs.Resolve.{find_named}
 use Rattle.prem_meaning.specs.Breaches.{regions_of}
 use Rattle.prem_meaning.specs.Reach.{callee_table, is_in, reach_set}
-use Rattle.prem_word.specs.Ranges.{Span, from_to, exactly, encloses}
 
 -- elements of a global, by its number
 pub record Area : Type 0 where

@@ -5,6 +5,7 @@ use Rattle.prem_word.specs.declared.kind.Kind.TheVariants.{Int}
 use Rattle.prem_word.specs.declared.kind.BinOp.{BinOp}
 use Rattle.prem_word.specs.declared.kind.BinOp.TheVariants.{AndAlso as AndAlsoOp, OrElse as OrElseOp}
 use Rattle.prem_word.specs.Words.{value_in}
+use Rattle.prem_word.specs.Ranges.{Span, LiesIn, IsRange}
 use Rattle.prem_syntax.specs.declared.tree.Place.{Place}
 use Rattle.prem_syntax.specs.declared.tree.Ty.{Ty}
 use Rattle.prem_syntax.specs.Syntax.{LocalVariable, GlobalVariable}
@@ -12,7 +13,6 @@ use Rattle.prem_meaning.specs.Resolved.{Term, Constant, Local, Scalar, Element, 
 use Rattle.prem_meaning.specs.Resolve.{kind_of, promoted, operand_kind}
 use Rattle.prem_meaning.specs.Expressions.{Outcome, Access}
 use Rattle.prem_meaning.specs.Statements.{ProgramState, Calls}
-use Rattle.prem_word.specs.Ranges.{Span, LiesIn, IsRange}
 use Rattle.prem_ranges.specs.Environment.{Known, Environment}
 use Rattle.prem_ranges.specs.RangeOf.{type_range, range_of, refined}
 use Rattle.prem_ranges.specs.After.{assigns, known_parameter, after, at_body, bounds_in}

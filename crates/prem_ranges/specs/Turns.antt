@@ -1,13 +1,13 @@
 -- Runs that are told what a call does where no function stands, which the meaning of a program makes wrong.
 use Rattle.std.specs.Prelude.{◌≡◌, ℕ, zero, suc, ◌^◌, ◌≤◌, ◌==◌, true, List, [], length, slice_get, Option, None, Some, Ok, Err}
 use Rattle.prem_syntax.specs.Syntax.{ProgramText}
+use Rattle.prem_syntax.specs.Literals.{ProgramHasWords}
 use Rattle.prem_meaning.specs.Resolved.{Routine, Resolved}
 use Rattle.prem_meaning.specs.Resolve.{resolve}
 use Rattle.prem_meaning.specs.Expressions.{Outcome, and_then}
 use Rattle.prem_meaning.specs.Statements.{ProgramState, Calls, enter}
 use Rattle.prem_meaning.specs.Source.{Limits, access_of, this_or, start, everywhere, source_within, source}
 use Rattle.prem_meaning.specs.GroupTwo.{IsWellFormed}
-use Rattle.prem_syntax.specs.Literals.{ProgramHasWords}
 
 abbrev pub enter_or : Calls → Limits → Calls → Option Routine → ℕ → Calls
 enter_or missing limits calls None n may f ws s = missing may f ws s

@@ -2,11 +2,12 @@
 use Rattle.std.specs.Prelude.{ℕ, zero, suc, ◌+◌, ◌==◌, Bool, if◌then◌else◌, List, [], ◌∷◌, ◌++◌, length, Option, Some, None, codes, decimal, slice_get}
 use Rattle.std.specs.List.{flat_map}
 use Rattle.std.specs.Option.{option_map_or}
+use Rattle.prem_line.specs.Hexadecimal.{hex_word}
+use Rattle.prem_isa.specs.declared.effect.Cause.{Cause}
+use Rattle.prem_isa.specs.declared.effect.Cause.TheVariants.{Decode, Align, Outside, Ecall, Ebreak, Phase}
 use Rattle.prem_gate.specs.declared.bus.Transfer.{Transfer}
 use Rattle.prem_image.specs.declared.image.TaskRecord.{TaskRecord}
 use Rattle.prem_image.specs.declared.image.DeviceRecord.{DeviceRecord}
-use Rattle.prem_isa.specs.declared.effect.Cause.{Cause}
-use Rattle.prem_isa.specs.declared.effect.Cause.TheVariants.{Decode, Align, Outside, Ecall, Ebreak, Phase}
 use Rattle.prem_cycle.specs.declared.state.Stop.{Stop}
 use Rattle.prem_cycle.specs.declared.state.Stop.TheVariants.{Finished, Trap, LogFull, Limit}
 use Rattle.prem_cycle.specs.declared.facts.EndedInterval.{EndedInterval}
@@ -14,7 +15,6 @@ use Rattle.prem_cycle.specs.declared.facts.DeviceFacts.{DeviceFacts}
 use Rattle.prem_cycle.specs.State.{Counts}
 use Rattle.prem_cycle.specs.FactsOf.{TaskReport, Report}
 use Rattle.prem_runs.specs.Transfer.Lengths.{device_cost}
-use Rattle.prem_line.specs.Hexadecimal.{hex_word}
 
 -- ---- parts of lines
 

@@ -1,6 +1,6 @@
 -- A text that ends as late doesn't end as fitting.
-use Rattle.std.proofs.Common.{◌≡◌, ℕ, ◌+◌, List, [], ◌∷◌, ◌++◌, length, length-append, refl, ap, ◌∙◌, sym, arith, drop, get_or}
 use Rattle.std.specs.Prelude.{codes}
+use Rattle.std.proofs.Common.{◌≡◌, ℕ, ◌+◌, List, [], ◌∷◌, ◌++◌, length, length-append, refl, ap, ◌∙◌, sym, arith, drop, get_or}
 
 -- what stands behind
 behind : (front rest : List ℕ) → drop (length front) (front ++ rest) ≡ rest

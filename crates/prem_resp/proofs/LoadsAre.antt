@@ -1,13 +1,15 @@
 -- The loads that are told of a compiled set are those of its placed tasks, and a busy period can be found of each.
-use Rattle.std.proofs.Common.{◌≡◌, ℕ, suc, ◌≤◌, ◌^◌, refl, ap, ◌∙◌, sym, subst, arith, List, [], ◌∷◌, length, map}
 use Rattle.std.specs.Prelude.{All}
 use Rattle.std.specs.List.{AllByRecursion}
+use Rattle.std.proofs.Common.{◌≡◌, ℕ, suc, ◌≤◌, ◌^◌, refl, ap, ◌∙◌, sym, subst, arith, List, [], ◌∷◌, length, map}
 use Rattle.std.proofs.lemmas.List.{length-map}
 use Rattle.std.proofs.lemmas.List.Elements.{All-from_recursion, recursion_from_All}
 use Rattle.prem_list.specs.Sequence.{items_of}
 use Rattle.prem_plant.specs.declared.plant.Plant.{Plant}
 use Rattle.prem_image.specs.declared.image.TaskRecord.{TaskRecord}
 use Rattle.prem_image.specs.Records.{IsTask, IsImage}
+use Rattle.prem_busy.specs.declared.load.Load.{Load}
+use Rattle.prem_busy.specs.Busy.{IsLoad}
 use Rattle.prem_layout.specs.Bounds.{JobBound, job_bound_of}
 use Rattle.prem_layout.specs.Facts.{job_fact}
 use Rattle.prem_layout.specs.Image.{task_record}
@@ -19,8 +21,6 @@ use Rattle.prem_tasks.specs.Compiled.{CompiledText, placed_in}
 use Rattle.prem_compile.specs.declared.compiled.Compiled.{Compiled}
 use Rattle.prem_compile.specs.CompiledOf.{IsCompiled}
 use Rattle.prem_compile.specs.Telling.Longest.{longest_in}
-use Rattle.prem_busy.specs.declared.load.Load.{Load}
-use Rattle.prem_busy.specs.Busy.{IsLoad}
 use Rattle.prem_resp.specs.Timely.Timely.{load_of, loads_of}
 use Rattle.prem_resp.specs.Lines.{fit_text}
 use Rattle.prem_resp.specs.Fits.{loads_in, found_in}
@@ -72,7 +72,7 @@ module _ (set : TaskSet) (c : Compiled) (is : IsCompiled set c) where
   jobs_are : items_of c.jobs ≡ bounds set.plant placed
   jobs_are = ap (λ (x : CompiledText). x.jobs) is.compiled
 
-  pub loads_are : loads_by c ≡ loads_in set
+  loads_are : loads_by c ≡ loads_in set
   loads_are =
       ap (λ ts. loads_told ts (items_of c.jobs) (items_of c.longest)) image_is
       ∙ ap (λ js. loads_told (map task_record placed) js (items_of c.longest)) jobs_are

@@ -1,17 +1,17 @@
 -- Readings give something, whatever comes next, or stop with an answer that tells of a file.
-use Rattle.std.proofs.Common.{◌≡◌, ◌⊎◌, ℕ, suc, Bool, true, false, List, [], ◌∷◌, length, map, nat_le, Option, None, Some, Result, Ok, Err, inl, inr, refl, ap, ◌∙◌, sym, subst}
 use Rattle.std.specs.Prelude.{All, if◌then◌else◌, codes}
+use Rattle.std.proofs.Common.{◌≡◌, ◌⊎◌, ℕ, suc, Bool, true, false, List, [], ◌∷◌, length, map, nat_le, Option, None, Some, Result, Ok, Err, inl, inr, refl, ap, ◌∙◌, sym, subst}
 use Rattle.std.proofs.lemmas.List.Elements.{All-nil, All-cons, All-head, All-tail}
+use Rattle.prem_line.proofs.Chain.{same_Ok}
 use Rattle.prem_plant.specs.Label.{IsName, AreDistinct}
 use Rattle.prem_plant.specs.Ranges.{Between}
-use Rattle.prem_line.proofs.Chain.{same_Ok}
+use Rattle.prem_tasks.specs.Broken.{TaskText}
+use Rattle.prem_sets_sound.specs.Accepted.Accepted.{HasTextValues, HasValues}
 use Rattle.prem_set.specs.Lawful.{IsEntry, IsSet}
 use Rattle.prem_set.specs.declared.fault.SetFail.{SetFail}
 use Rattle.prem_set.specs.declared.task.TaskEntry.{TaskEntry}
 use Rattle.prem_set.specs.SetFile.{SetData, set_of as set_of_text, task_names as entry_names}
 use Rattle.prem_set.proofs.Lawful.{set_is_lawful}
-use Rattle.prem_tasks.specs.Broken.{TaskText}
-use Rattle.prem_sets_sound.specs.Accepted.Accepted.{HasTextValues, HasValues}
 use Rattle.prem_answer.specs.declared.answer.Telling.{Telling}
 use Rattle.prem_answer.specs.declared.answer.Telling.TheVariants.{Whole, Brief}
 use Rattle.prem_answer.specs.declared.status.Status.{Status}

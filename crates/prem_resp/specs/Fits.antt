@@ -1,8 +1,8 @@
 -- Sets that pass the response test.
 use Rattle.std.specs.Prelude.{◌≡◌, ℕ, zero, suc, ◌+◌, ◌*◌, ◌<◌, ◌≤◌, List, [], ◌∷◌, length, true, None}
+use Rattle.prem_sched.specs.Schedule.{task_at}
 use Rattle.prem_lru.specs.Rules.{rule_of}
 use Rattle.prem_gate.specs.declared.request.Request.{Request}
-use Rattle.prem_sched.specs.Schedule.{task_at}
 use Rattle.prem_cycle.specs.Inputs.{IsTrace}
 use Rattle.prem_cycle.specs.State.{record_of}
 use Rattle.prem_cycle.specs.Run.{run_of}

@@ -4,17 +4,15 @@ use Rattle.prem_list.specs.Sequence.{items_of}
 use Rattle.prem_io.specs.Files.{Files}
 use Rattle.prem_gate.specs.declared.request.RunInput.{RunInput}
 use Rattle.prem_cycle.specs.Inputs.{FitsRun, image_setup, setup_of, words_of}
-use Rattle.prem_set.specs.Run.Lawful.{IsLawfulRun}
 use Rattle.prem_layout.specs.Rules.{Refusal}
 use Rattle.prem_tasks.specs.Told.{Told}
 use Rattle.prem_tasks.specs.Broken.{TaskSet, broken}
 use Rattle.prem_tasks.specs.Compiled.{CompiledText, compiled}
 use Rattle.prem_tasks.specs.SetOf.{set_of}
 use Rattle.prem_tasks.specs.declared.set.TaskSet.{TaskSet as SetTree}
-use Rattle.prem_running.proofs.SetLawsLemmas.Names.{lawful_runs_fit}
-use Rattle.prem_running.proofs.SetLawsLemmas.Limits.{limits_are_small}
 use Rattle.prem_compile.specs.declared.compiled.Compiled.{Compiled}
 use Rattle.prem_compile.specs.CompiledOf.{IsCompiled, compiled_of}
+use Rattle.prem_set.specs.Run.Lawful.{IsLawfulRun}
 use Rattle.prem_command.specs.Words.{RunAsked}
 use Rattle.prem_answer.specs.Stages.{Reply, Reads, Stage, IsFine, IsGiven, IsReadAs, is_settled}
 use Rattle.prem_answer.proofs.Reading.{goes_on, ends_there, gives_at_once}
@@ -22,6 +20,8 @@ use Rattle.prem_exec.specs.Forms.{RunText}
 use Rattle.prem_exec.specs.Sources.Sources.{Passes, names_of, reading_run, reading_set, run_limit as file_limit, run_of_bytes}
 use Rattle.prem_exec.proofs.SourcesLemmas.Fine.{run_fine, set_fine}
 use Rattle.prem_running.specs.Running.{compiled_reply, judged_reply, run_stages, set_reply}
+use Rattle.prem_running.proofs.SetLawsLemmas.Names.{lawful_runs_fit}
+use Rattle.prem_running.proofs.SetLawsLemmas.Limits.{limits_are_small}
 
 -- ---- the run of a compiled set
 

@@ -7,9 +7,9 @@ use Rattle.prem_tasks.specs.Compiled.{CompiledText, compiled}
 use Rattle.prem_command.specs.Words.{RunAsked}
 use Rattle.prem_answer.specs.declared.status.Status.TheVariants.{Done}
 use Rattle.prem_answer.specs.Stages.{Reply, Stage}
+use Rattle.prem_answer.specs.Refusal.Texts.{refused_reply}
 use Rattle.prem_exec.specs.Forms.{RunText}
 use Rattle.prem_exec.specs.Exec.{run_reply}
-use Rattle.prem_answer.specs.Refusal.Texts.{refused_reply}
 use Rattle.prem_exec.specs.Sources.Sources.{reading_set, reading_run}
 
 -- the cycle up to which a run goes: that of the words, else the limit of the set; past cycle 2^61 no machine goes

@@ -3,10 +3,10 @@ ghost use Rattle.std.specs.Prelude.{◌≡◌, ◌≤◌, ◌^◌, IfOk, IsErrOf
 ghost use Rattle.prem_list.specs.Sequence.{items_of};
 ghost use Rattle.prem_io.specs.Counts.{Rose};
 ghost use Rattle.prem_cycle.specs.Inputs.{FitsRun, setup_of, words_of};
-ghost use Rattle.prem_set.specs.Run.Lawful.{IsLawfulRun};
-ghost use Rattle.prem_command.specs.Words.{run_asked};
 ghost use Rattle.prem_tasks.specs.SetOf.{set_of};
 ghost use Rattle.prem_compile.specs.CompiledOf.{compiled_of};
+ghost use Rattle.prem_set.specs.Run.Lawful.{IsLawfulRun};
+ghost use Rattle.prem_command.specs.Words.{run_asked};
 ghost use Rattle.prem_answer.specs.Stages.{Comes, IsGiven, reply_of};
 ghost use Rattle.prem_exec.specs.Sources.Sources.{input_of, names_of};
 ghost use Rattle.prem_running.specs.Running.{compiled_reply, run_limit, run_stages, set_reply};

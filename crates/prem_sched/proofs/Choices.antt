@@ -1,7 +1,7 @@
 -- What a choice means.
+use Rattle.std.specs.Prelude.{All}
 use Rattle.std.proofs.Common.{◌≡◌, ℕ, zero, suc, ◌+◌, ◌*◌, ◌/◌, ◌<◌, ◌≤◌, Bool, true, false, List, [], ◌∷◌, Option, Some, None, length, refl, ap, sym, ◌∙◌, arith, get_or, subst}
 use Rattle.std.proofs.lemmas.List.{get_or-map, length-map}
-use Rattle.std.specs.Prelude.{All}
 use Rattle.std.proofs.Math.Nat.{div-lt_iff_lt-mul, lt-div-mul-add}
 use Rattle.std.proofs.lemmas.Bool.{false_from_ne_true}
 use Rattle.std.proofs.lemmas.Bool.Decides.{nat_tests}
@@ -42,7 +42,7 @@ waits_at t v task true is some waits before =
     let q = in_period v t task.period some b in
     grind (arith, nat_tests)
 
-pub waits_before : (t v : ℕ) (task : TaskJobs) → 1 ≤ task.period → is_ready t task ≡ false → Before v (next_release t task) → is_ready v task ≡ false
+waits_before : (t v : ℕ) (task : TaskJobs) → 1 ≤ task.period → is_ready t task ≡ false → Before v (next_release t task) → is_ready v task ≡ false
 waits_before t v task some waits before = waits_at t v task (has_jobs_left task) refl some waits before
 
 -- the next release comes later
@@ -53,7 +53,7 @@ later_at t task true is some =
     let b : t < (t / task.period + 1) * task.period = omega arith in
     rw (left_is_release t task is) b
 
-pub next_later : (t : ℕ) (task : TaskJobs) → 1 ≤ task.period → Before t (next_release t task)
+next_later : (t : ℕ) (task : TaskJobs) → 1 ≤ task.period → Before t (next_release t task)
 next_later t task some = later_at t task (has_jobs_left task) refl some
 
 -- where no release is to come, all jobs have ended
@@ -63,7 +63,7 @@ done_at t task true is none = let e = sym (left_is_release t task is) ∙ none i
 
 -- ---- the earlier of two times
 
-pub earlier_assoc : (a b c : Option ℕ) → earlier (earlier a b) c ≡ earlier a (earlier b c)
+earlier_assoc : (a b c : Option ℕ) → earlier (earlier a b) c ≡ earlier a (earlier b c)
 earlier_assoc None b c = refl
 earlier_assoc (Some x) None c = refl
 earlier_assoc (Some x) (Some y) None = refl
@@ -102,7 +102,7 @@ all_front P x xs all = all 0 x (omega arith)
 pub all_behind : {X : Type 0} (P : X → Type 0) (x : X) (xs : List X) → All P (x ∷ xs) → All P xs
 all_behind P x xs all = λ k d lt. all (suc k) d (omega arith)
 
-pub all_cons : {X : Type 0} (P : X → Type 0) (x : X) (xs : List X) → P x → All P xs → All P (x ∷ xs)
+all_cons : {X : Type 0} (P : X → Type 0) (x : X) (xs : List X) → P x → All P xs → All P (x ∷ xs)
 all_cons P x xs p all zero d lt = p
 all_cons P x xs p all (suc k) d lt = all k d (omega arith)
 

@@ -1,19 +1,19 @@
 -- A cycle of a core whose tasks keep to their scripts: each predictable interval that has ended has lasted as long as it stated.
-use Rattle.std.proofs.Common.{◌≡◌, ℕ, ◌+◌, ◌-◌, ◌<◌, ◌≤◌, refl, ap, ◌∙◌, sym, subst, cond, ltb, true, false, Bool, Some, None, Option, List, length, ◌∷◌, arith, []}
 use Rattle.std.specs.Prelude.{All, is_some, ◌&&◌}
+use Rattle.std.proofs.Common.{◌≡◌, ℕ, ◌+◌, ◌-◌, ◌<◌, ◌≤◌, refl, ap, ◌∙◌, sym, subst, cond, ltb, true, false, Bool, Some, None, Option, List, length, ◌∷◌, arith, []}
 use Rattle.std.proofs.lemmas.Bool.{and_parts, cond_both}
 use Rattle.std.proofs.lemmas.List.Elements.{All-nil, All-push}
+use Rattle.prem_sched.specs.declared.sched.TaskJobs.{TaskJobs}
+use Rattle.prem_order.specs.Order.{OrderRule}
 use Rattle.prem_isa.specs.Decode.{cost_of}
 use Rattle.prem_isa.specs.Plain.{TaskRun, Did, did_of, plain_did, plain_run}
-use Rattle.prem_isa.proofs.PlainLaws.{plain_fits}
 use Rattle.prem_isa.specs.declared.effect.Phase.{Phase}
 use Rattle.prem_isa.specs.declared.effect.Stored.{Stored}
-use Rattle.prem_cycle.specs.declared.state.Interval.{Interval}
+use Rattle.prem_isa.proofs.PlainLaws.{plain_fits}
 use Rattle.prem_lru.specs.Entries.{ReplacementRule}
-use Rattle.prem_order.specs.Order.{OrderRule}
 use Rattle.prem_lru.specs.Order.{lines_in}
 use Rattle.prem_gate.specs.Gates.{Turned, wants}
-use Rattle.prem_sched.specs.declared.sched.TaskJobs.{TaskJobs}
+use Rattle.prem_cycle.specs.declared.state.Interval.{Interval}
 use Rattle.prem_cycle.specs.declared.state.Mode.{Mode}
 use Rattle.prem_cycle.specs.declared.state.Mode.TheVariants.{Point, Switching, Running, Idle}
 use Rattle.prem_cycle.specs.State.{Setup, Work, CoreState, Counts, MachineState, start_of, task_in}

@@ -1,12 +1,16 @@
 -- A cycle of a core whose tasks keep to their scripts: what has passed is at most the cycles in which it hasn't worked, and
 -- what is due for the instructions that have issued.
-use Rattle.std.proofs.Common.{◌≡◌, ℕ, zero, suc, ◌+◌, ◌-◌, ◌*◌, ◌/◌, ◌<◌, ◌≤◌, refl, ap, ◌∙◌, sym, subst, arith, cond, leb, ltb, true, false, Bool, Some, None, List, [], ◌∷◌, length, get_or, ◌⊎◌, inl, inr, ⊎_elim}
 use Rattle.std.specs.Prelude.{All, is_some, ◌&&◌, ◌||◌, slice_set}
+use Rattle.std.proofs.Common.{◌≡◌, ℕ, zero, suc, ◌+◌, ◌-◌, ◌*◌, ◌/◌, ◌<◌, ◌≤◌, refl, ap, ◌∙◌, sym, subst, arith, cond, leb, ltb, true, false, Bool, Some, None, List, [], ◌∷◌, length, get_or, ◌⊎◌, inl, inr, ⊎_elim}
 use Rattle.std.proofs.lemmas.Bool.{and_parts, cond_both, leb-false, lt-leb, ltb-true}
 use Rattle.std.proofs.lemmas.List.{length-append}
 use Rattle.prem_plant.specs.declared.plant.Plant.{Plant}
 use Rattle.prem_plant.specs.Ranges.{IsPlant}
-use Rattle.prem_image.specs.declared.image.TaskRecord.{TaskRecord}
+use Rattle.prem_sched.specs.declared.sched.TaskJobs.{TaskJobs}
+use Rattle.prem_sched.specs.declared.sched.Choice.TheVariants.{Idle as Rest, Finished}
+use Rattle.prem_sched.specs.Schedule.{choice, no_task, task_at, IsDone}
+use Rattle.prem_sched.proofs.Choices.{choice_done}
+use Rattle.prem_order.specs.Order.{OrderRule, HaveRoom}
 use Rattle.prem_isa.specs.declared.effect.Phase.{Phase}
 use Rattle.prem_isa.specs.declared.effect.Phase.TheVariants.{Compatible, Memory as MemoryPhase, Execution}
 use Rattle.prem_isa.specs.declared.effect.Change.{Change}
@@ -16,13 +20,9 @@ use Rattle.prem_isa.specs.Plain.{TaskRun, PlainState, Did, did_of, plain_did, pl
 use Rattle.prem_isa.proofs.ActLaws.{cost_bounds}
 use Rattle.prem_lru.specs.Entries.{ReplacementRule}
 use Rattle.prem_lru.specs.CacheState.{touch_of}
-use Rattle.prem_order.specs.Order.{OrderRule, HaveRoom}
 use Rattle.prem_lru.specs.Order.{lines_in}
 use Rattle.prem_gate.specs.Gates.{Turned, wants}
-use Rattle.prem_sched.specs.declared.sched.TaskJobs.{TaskJobs}
-use Rattle.prem_sched.specs.declared.sched.Choice.TheVariants.{Idle as Rest, Finished}
-use Rattle.prem_sched.specs.Schedule.{choice, no_task, task_at, IsDone}
-use Rattle.prem_sched.proofs.Choices.{choice_done}
+use Rattle.prem_image.specs.declared.image.TaskRecord.{TaskRecord}
 use Rattle.prem_cycle.specs.declared.state.Mode.{Mode}
 use Rattle.prem_cycle.specs.declared.state.Mode.TheVariants.{Point, Switching, Running, Idle}
 use Rattle.prem_cycle.specs.State.{Setup, no_record, record_of, first_task, Task, Work, Debt, CoreState, Counts, MachineState, start_of, task_in}
@@ -367,7 +367,7 @@ module _ (rule : ReplacementRule) (order : OrderRule) (passes : ℕ → ℕ) (p 
 
     -- ---- the logs
 
-    pub outputs_room : sum_below (length p.tasks) (λ k. length (plain_run (runs k) (scripts k).count).task.outputs) < log_size → output_count s.work.tasks < log_size
+    outputs_room : sum_below (length p.tasks) (λ k. length (plain_run (runs k) (scripts k).count).task.outputs) < log_size → output_count s.work.tasks < log_size
     outputs_room h =
         let st : Stands p own runs at s.work = kn.position.stands in
         let listed : output_count s.work.tasks ≡ sum_below (length s.work.tasks) (λ k. length (task_in s.work k).outputs) = sum_list (λ (x : Task). length x.outputs) s.work.tasks (first_task no_record []) in
@@ -380,7 +380,7 @@ module _ (rule : ReplacementRule) (order : OrderRule) (passes : ℕ → ℕ) (p 
           room : (a b c d l : ℕ) → a ≡ b → b ≡ c → c ≤ d → d < l → a < l
           room a b c d l x y z w = omega (arith, x, y, z, w)
 
-    pub intervals_room : sum_below (length p.tasks) (λ k. interval_count (runs k) (scripts k)) < log_size → length s.log.intervals < log_size
+    intervals_room : sum_below (length p.tasks) (λ k. interval_count (runs k) (scripts k)) < log_size → length s.log.intervals < log_size
     intervals_room h =
         let most : sum_below (length p.tasks) (ends_at (length p.tasks) runs at) ≤ sum_below (length p.tasks) (λ k. interval_count (runs k) (scripts k)) =
         sum_le (length p.tasks) (ends_at (length p.tasks) runs at) (λ k. interval_count (runs k) (scripts k))

@@ -6,9 +6,9 @@ use Rattle.prem_tasks.specs.Told.{Told}
 use Rattle.prem_tasks.specs.Broken.{TaskSet, broken, programs_of}
 use Rattle.prem_answer.specs.declared.status.Status.TheVariants.{Done}
 use Rattle.prem_answer.specs.Stages.{Reply, Reads, Stage, IsFine, IsGiven, IsReadAs, is_settled}
+use Rattle.prem_answer.specs.Refusal.Texts.{refused_reply}
 use Rattle.prem_answer.proofs.Reading.{ends_there, gives_at_once, goes_on}
 use Rattle.prem_exec.specs.Forms.{RunText}
-use Rattle.prem_answer.specs.Refusal.Texts.{refused_reply}
 use Rattle.prem_exec.specs.Sources.Sources.{Passes, reading_run, reading_set, run_limit, run_of_bytes}
 use Rattle.prem_exec.proofs.SourcesLemmas.Fine.{run_fine, set_fine}
 use Rattle.prem_source.specs.Source.{judged_reply, source_reply, source_stages, tasks_text}

@@ -11,8 +11,8 @@ use Rattle.prem_tasks.specs.Broken.{TaskText, TaskSet, broken, programs_of}
 use Rattle.prem_report.specs.Report.{output_line, task_line}
 use Rattle.prem_answer.specs.declared.status.Status.TheVariants.{Done}
 use Rattle.prem_answer.specs.Stages.{Reply, Stage}
-use Rattle.prem_exec.specs.Forms.{RunText}
 use Rattle.prem_answer.specs.Refusal.Texts.{refused_reply}
+use Rattle.prem_exec.specs.Forms.{RunText}
 use Rattle.prem_exec.specs.Sources.Sources.{reading_set, reading_run}
 
 -- the outputs of a run, and none where it goes wrong, as no run of a program does that breaks no rule

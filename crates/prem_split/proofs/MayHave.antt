@@ -1,7 +1,7 @@
 -- Well-formed programs whose frames may be compiled have plans.
-use Rattle.std.proofs.Common.{◌≡◌, ℕ, ◌+◌, ◌*◌, ◌<◌, ◌≤◌, ◌^◌, Bool, true, false, ltb, List, [], ◌∷◌, ◌++◌, length, refl, ap, sym, ◌∙◌, subst, arith, None, is_none, IsTrue}
 use Rattle.std.specs.Int.{next_multiple_of}
 use Rattle.std.specs.List.{AllByRecursion}
+use Rattle.std.proofs.Common.{◌≡◌, ℕ, ◌+◌, ◌*◌, ◌<◌, ◌≤◌, ◌^◌, Bool, true, false, ltb, List, [], ◌∷◌, ◌++◌, length, refl, ap, sym, ◌∙◌, subst, arith, None, is_none, IsTrue}
 use Rattle.std.proofs.lemmas.Bool.Decides.{nat_tests}
 use Rattle.std.proofs.lemmas.List.{length-map}
 use Rattle.prem_list.specs.Sequence.{items_of}
@@ -44,7 +44,7 @@ few_globals p well =
     grind (arith, nat_tests)
 
 -- a frame that may be compiled has few slots
-pub short_frame : (params locals counters : ℕ) → next_multiple_of (4 + 4 * (params + locals + counters)) 16 ≤ 2032 → (params < 2 ^ 32) × (locals < 2 ^ 32) × (counters < 2 ^ 32)
+short_frame : (params locals counters : ℕ) → next_multiple_of (4 + 4 * (params + locals + counters)) 16 ≤ 2032 → (params < 2 ^ 32) × (locals < 2 ^ 32) × (counters < 2 ^ 32)
 short_frame params locals counters h = (omega arith, omega arith, omega arith)
 
 pub has_frame : (r : RoutineTree) → frame_of_tree r ≤ 2032 → HasFrame r

@@ -18,7 +18,7 @@ statement_of-Block at body =
     ap (block at) (row_listed (hidden-the_row-Stmt-0 body.all) ∙ ap statements_of (items_hidden-the_row-Stmt-0 body.all))
 
 -- the statements of two lists, one behind the other
-pub statements_before-append : (xs ys : List Stmt) (more : Statements) →
+statements_before-append : (xs ys : List Stmt) (more : Statements) →
     statements_before (xs ++ ys) more ≡ statements_before xs (statements_before ys more)
 statements_before-append [] ys more = refl
 statements_before-append (x ∷ xs) ys more = ap (next_statement (statement_of x)) (statements_before-append xs ys more)

@@ -14,15 +14,15 @@ use Rattle.prem_text.specs.Grammar.Reader.{unless_deep, at_end, read_on, read}
 use Rattle.prem_text.specs.Grammar.Phrases.{IsRow}
 use Rattle.prem_text.specs.Grammar.ProgramPhrases.{items_tokens, program_tokens, program_tree}
 use Rattle.prem_text.specs.Grammar.Law.{stages, Begins}
+use Rattle.prem_text.specs.Spelling.Spellings.{every}
+use Rattle.prem_text.specs.Spelling.Division.{place_behind, Divides, up_to, gap, token, AreTokens}
+use Rattle.prem_text.specs.Texts.{IsProgramText, IsNoProgram, not_divided, unexpected, past}
 use Rattle.prem_text.proofs.GrammarLemmas.Program.{Reached, reached, read_by, stages_step, read_step, shallow, deep, program_stages, programs_read}
 use Rattle.prem_text.proofs.GrammarLemmas.ProgramSound.{programs_sound}
 use Rattle.prem_text.proofs.GrammarLemmas.ProgramBegun.{begins_after}
 use Rattle.prem_text.proofs.GrammarLemmas.ProgramRefused.{refused_for, unexpected_refused, past_refused}
-use Rattle.prem_text.specs.Spelling.Spellings.{every}
-use Rattle.prem_text.specs.Spelling.Division.{place_behind, Divides, up_to, gap, token, AreTokens}
 use Rattle.prem_text.proofs.SpellingLemmas.Bytes.{every_append}
 use Rattle.prem_text.proofs.SpellingLemmas.Exact.{sound, complete, refusals_sound, refusals_complete}
-use Rattle.prem_text.specs.Texts.{IsProgramText, IsNoProgram, not_divided, unexpected, past}
 use Rattle.prem_text.proofs.Inner.{is_inner, items}
 
 -- ---- lines count from 1

@@ -1,18 +1,18 @@
 -- The answer keeps what it promises.
-use Rattle.std.proofs.Common.{◌≡◌, ℕ, List, ◌++◌, Option, None, Some, Result, Ok, Err, is_none, IsTrue, refl, ap, sym}
 use Rattle.std.specs.Prelude.{codes}
+use Rattle.std.proofs.Common.{◌≡◌, ℕ, List, ◌++◌, Option, None, Some, Result, Ok, Err, is_none, IsTrue, refl, ap, sym}
 use Rattle.prem_syntax.specs.Syntax.{ProgramText}
-use Rattle.prem_lexer.specs.declared.token.fail.FrontFail.{FrontFail}
-use Rattle.prem_text.specs.Texts.{reads}
 use Rattle.prem_meaning.specs.Rules.{Breach}
 use Rattle.prem_meaning.specs.GroupTwo.{group_two, IsWellFormed}
+use Rattle.prem_lexer.specs.declared.token.fail.FrontFail.{FrontFail}
+use Rattle.prem_text.specs.Texts.{reads}
 use Rattle.prem_tiling.specs.Shapes.Tile.{TileRule, tile}
 use Rattle.prem_tile.specs.Cutting.Answer.{is_text_past}
 use Rattle.prem_tile.proofs.CuttingLemmas.Whole.{tile_kept, tile_read_back}
+use Rattle.prem_command.specs.Words.{TileAsked}
 use Rattle.prem_answer.specs.declared.status.Status.{Status}
 use Rattle.prem_answer.specs.declared.status.Status.TheVariants.{Done, Refused}
 use Rattle.prem_answer.specs.Stages.{Reply}
-use Rattle.prem_command.specs.Words.{TileAsked}
 use Rattle.prem_tile_answer.specs.Reply.{tiled_reply, formed_reply, read_reply, tile_reply}
 use Rattle.prem_tile_answer.specs.Asked.{IsInRange}
 use Rattle.prem_tile_answer.specs.Promise.{TellsTiled, TellsWhyNot, no_program, breaks_rule, not_cut, KeepsTiles, RepliesKeep}

@@ -2,15 +2,15 @@
 use Rattle.std.proofs.Common.{◌≡◌, ℕ, List, Option, Ok, Err, Result, IsTrue, refl, ap, ◌∙◌, None, Some}
 use Rattle.prem_io.specs.Files.{Files}
 use Rattle.prem_syntax.specs.Syntax.{ProgramText}
-use Rattle.prem_lexer.specs.declared.token.fail.FrontFail.{FrontFail}
-use Rattle.prem_text.specs.Texts.{reads as program_of}
 use Rattle.prem_meaning.specs.Rules.{Breach}
 use Rattle.prem_meaning.specs.GroupTwo.{group_two}
+use Rattle.prem_lexer.specs.declared.token.fail.FrontFail.{FrontFail}
+use Rattle.prem_text.specs.Texts.{reads as program_of}
 use Rattle.prem_tiling.specs.Shapes.Tile.{TileRule, tile}
 use Rattle.prem_tile.specs.Cutting.Answer.{is_text_past}
+use Rattle.prem_command.specs.Words.{TileAsked}
 use Rattle.prem_answer.specs.Stages.{Reply, Reads, Stage, IsRead, IsGiven, IsFine, is_settled}
 use Rattle.prem_answer.proofs.Reading.{goes_on, ends_there, gives_at_once, made_ok, not_made, reading_fine}
-use Rattle.prem_command.specs.Words.{TileAsked}
 use Rattle.prem_tile_answer.specs.Reply.{tiled_reply, formed_reply, read_reply, tile_reply, tile_stages, source_limit}
 
 abbrev behind_source : TileAsked → List ℕ → Stage Reply

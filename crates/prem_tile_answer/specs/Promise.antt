@@ -1,19 +1,19 @@
 -- What the answer to `tile` promises.
 use Rattle.std.specs.Prelude.{◌≡◌, ℕ, List, ◌++◌, None, Some, Ok, Err, codes}
 use Rattle.prem_syntax.specs.Syntax.{ProgramText}
-use Rattle.prem_lexer.specs.declared.token.fail.FrontFail.{FrontFail}
-use Rattle.prem_text.specs.Texts.{reads}
-use Rattle.prem_text.specs.Canonical.Printed.{printed}
 use Rattle.prem_meaning.specs.Rules.{Breach}
 use Rattle.prem_meaning.specs.GroupTwo.{group_two, IsWellFormed}
 use Rattle.prem_check.specs.Told.{told_of}
-use Rattle.prem_tasks.specs.Told.{of_text, of_program}
+use Rattle.prem_lexer.specs.declared.token.fail.FrontFail.{FrontFail}
+use Rattle.prem_text.specs.Texts.{reads}
+use Rattle.prem_text.specs.Canonical.Printed.{printed}
 use Rattle.prem_tiling.specs.Shapes.Tile.{TileRule, tile}
 use Rattle.prem_tile.specs.Cutting.Answer.{is_text_past, IsTiled, IsReadBack}
+use Rattle.prem_tasks.specs.Told.{of_text, of_program}
+use Rattle.prem_command.specs.Words.{TileAsked}
 use Rattle.prem_answer.specs.declared.status.Status.TheVariants.{Done, Refused}
 use Rattle.prem_answer.specs.Stages.{Reply}
 use Rattle.prem_answer.specs.Refusal.Texts.{rule_text}
-use Rattle.prem_command.specs.Words.{TileAsked}
 use Rattle.prem_tile_answer.specs.Reply.{refused_one, tile_text, tile_reply}
 use Rattle.prem_tile_answer.specs.Asked.{IsInRange}
 

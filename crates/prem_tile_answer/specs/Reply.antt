@@ -2,15 +2,15 @@
 -- reason why the function can't be cut.
 use Rattle.std.specs.Prelude.{ℕ, List, ◌++◌, Option, None, Some, Result, Ok, Err, codes}
 use Rattle.prem_syntax.specs.Syntax.{ProgramText}
-use Rattle.prem_lexer.specs.declared.token.fail.FrontFail.{FrontFail}
-use Rattle.prem_text.specs.Texts.{reads}
-use Rattle.prem_text.specs.Canonical.Printed.{printed}
 use Rattle.prem_meaning.specs.Rules.{Breach}
 use Rattle.prem_meaning.specs.GroupTwo.{group_two}
 use Rattle.prem_check.specs.Told.{told_of}
-use Rattle.prem_tasks.specs.Told.{Told, of_text, of_program}
+use Rattle.prem_lexer.specs.declared.token.fail.FrontFail.{FrontFail}
+use Rattle.prem_text.specs.Texts.{reads}
+use Rattle.prem_text.specs.Canonical.Printed.{printed}
 use Rattle.prem_tiling.specs.Shapes.Tile.{TileRule, no_function, shape, carry, turns, taken, limit, tile}
 use Rattle.prem_tile.specs.Cutting.Answer.{is_text_past}
+use Rattle.prem_tasks.specs.Told.{Told, of_text, of_program}
 use Rattle.prem_command.specs.Words.{TileAsked}
 use Rattle.prem_answer.specs.declared.status.Status.TheVariants.{Done, Refused}
 use Rattle.prem_answer.specs.Stages.{Reply, Stage, reading}

@@ -3,10 +3,10 @@ use Rattle.std.specs.Prelude.{ℕ, List, Option, None, Some, codes}
 use Rattle.prem_syntax.specs.Name.{name_bytes}
 use Rattle.prem_lexer.specs.declared.token.fail.FrontFail.{FrontFail}
 use Rattle.prem_lexer.specs.declared.token.fail.FrontFail.TheVariants.{NotText, Token, Syntax, TooLong, TooDeep, OutOfMemory}
-use Rattle.prem_tasks.specs.Told.{Told, of_text}
 use Rattle.prem_tiling.specs.Shapes.Tile.{no_function, shape, carry, turns, taken, limit}
 use Rattle.prem_tile.specs.declared.cutting.fail.TileFail.{TileFail}
 use Rattle.prem_tile.specs.declared.cutting.fail.TileFail.TheVariants as t
+use Rattle.prem_tasks.specs.Told.{Told, of_text}
 use Rattle.prem_tile_answer.specs.Reply.{tile_text}
 
 abbrev pub front_told : FrontFail → Option Told

@@ -2,12 +2,12 @@
 ghost use Rattle.std.specs.Prelude.{◌≡◌, ◌≤◌, IfOk, IsErrOf, Ok};
 ghost use Rattle.prem_io.specs.Counts.{Rose};
 ghost use Rattle.prem_syntax.specs.SyntaxOf.{program_of};
-ghost use Rattle.prem_tree.specs.Checked.{checked_program};
 ghost use Rattle.prem_meaning.specs.GroupTwo.{group_two};
+ghost use Rattle.prem_tree.specs.Checked.{checked_program};
 ghost use Rattle.prem_tiling.specs.Shapes.Tile.{tile};
 ghost use Rattle.prem_tile.specs.Cutting.Answer.{is_text_past};
-ghost use Rattle.prem_answer.specs.Stages.{Comes, IsGiven, reply_of};
 ghost use Rattle.prem_command.specs.Words.{tile_asked};
+ghost use Rattle.prem_answer.specs.Stages.{Comes, IsGiven, reply_of};
 ghost use Rattle.prem_tile_answer.specs.Asked.{IsInRange};
 ghost use Rattle.prem_tile_answer.specs.Reply.{tiled_reply, formed_reply, tile_reply, tile_stages};
 

@@ -1,20 +1,20 @@
 -- Loops turn by turn, and calls by number.
-use Rattle.std.proofs.Common.{◌≡◌, ℕ, zero, suc, ◌-◌, ◌<◌, ◌≤◌, Bool, true, false, eqb, List, refl, ap, sym, ◌∙◌, arith, get_or, length, drop, ◌+◌, [], Ok, Err}
 use Rattle.std.specs.Prelude.{slice_get}
-use Rattle.prem_tree.specs.declared.state.fail.SourceFail.TheVariants.{Wrong}
+use Rattle.std.proofs.Common.{◌≡◌, ℕ, zero, suc, ◌-◌, ◌<◌, ◌≤◌, Bool, true, false, eqb, List, refl, ap, sym, ◌∙◌, arith, get_or, length, drop, ◌+◌, [], Ok, Err}
 use Rattle.std.proofs.lemmas.List.{at_drop_more}
 use Rattle.prem_list.specs.declared.Sequence.{Sequence}
 use Rattle.prem_list.specs.Sequence.{items_of}
+use Rattle.prem_meaning.specs.Expressions.{Outcome, and_then}
+use Rattle.prem_meaning.specs.Statements.{ProgramState, choose, counting, bounded}
+use Rattle.prem_tree.specs.declared.state.fail.SourceFail.TheVariants.{Wrong}
 use Rattle.prem_tree.specs.declared.resolve.resolved.Step.{Step, Block, Row_of-Step, end_of-Step, more_of-Step, items-the_row-Step, items_hidden-the_row-Step-0}
 use Rattle.prem_tree.specs.declared.resolve.resolved.Step.TheBlock.{hidden-the_row-Step-0}
 use Rattle.prem_tree.specs.declared.resolve.resolved.Routine.{Routine}
-use Rattle.prem_meaning.specs.Expressions.{Outcome, and_then}
-use Rattle.prem_meaning.specs.Statements.{ProgramState, choose, counting, bounded}
 use Rattle.prem_tree.specs.State.Interpreter.{GoesWrong}
 use Rattle.prem_tree.specs.StepMeaning.{NotedCalls, do_step, do_row, do_list, do_if_there, noted_calls, noted_jobs}
 
 -- functions that agree, behind an outcome
-pub and_then-same : {A B : Type 0} (o : Outcome A) (f g : A → Outcome B) → ((x : A) → f x ≡ g x) → and_then o f ≡ and_then o g
+and_then-same : {A B : Type 0} (o : Outcome A) (f g : A → Outcome B) → ((x : A) → f x ≡ g x) → and_then o f ≡ and_then o g
 and_then-same (Ok x) f g same = same x
 and_then-same (Err line) f g same = refl
 
@@ -80,6 +80,6 @@ pub do_list_more : (calls : NotedCalls) (steps : List Step) (i : ℕ) (x : Step)
 do_list_more calls steps i x s inside is =
     at_drop_more (λ xs. do_list calls xs s) steps i x inside ∙ ap (λ y. and_then (do_step calls y s) (do_list calls (drop (i + 1) steps))) (sym is)
 
-pub noted_jobs-more : (rs : List Routine) (job n : ℕ) (s : ProgramState) → 0 < n → noted_jobs rs job n s ≡ and_then (noted_calls rs (length rs) job [] s) (λ r. noted_jobs rs job (n - 1) r.1)
+noted_jobs-more : (rs : List Routine) (job n : ℕ) (s : ProgramState) → 0 < n → noted_jobs rs job n s ≡ and_then (noted_calls rs (length rs) job [] s) (λ r. noted_jobs rs job (n - 1) r.1)
 noted_jobs-more rs job zero s some = absurd (omega arith)
 noted_jobs-more rs job (suc n) s some = let less : suc n - 1 ≡ n = omega arith in rw less

@@ -1,22 +1,22 @@
 -- A run that notes marked calls by their functions alone is the run of the meaning, seen in outline.
-use Rattle.std.proofs.Common.{◌≡◌, ℕ, zero, suc, ◌+◌, Bool, true, false, eqb, cond, List, [], ◌∷◌, length, map, refl, ap, sym, ◌∙◌, Option, None, Some, Ok, Err, is_some}
 use Rattle.std.specs.Prelude.{slice_get, pos, ◌+ℤ◌, int_lt}
 use Rattle.std.specs.Option.{option_map}
+use Rattle.std.proofs.Common.{◌≡◌, ℕ, zero, suc, ◌+◌, Bool, true, false, eqb, cond, List, [], ◌∷◌, length, map, refl, ap, sym, ◌∙◌, Option, None, Some, Ok, Err, is_some}
 use Rattle.std.proofs.lemmas.List.{map-append}
 use Rattle.prem_list.specs.Sequence.{items_of}
 use Rattle.prem_word.specs.Words.{word_of}
 use Rattle.prem_syntax.specs.declared.tree.Ty.{Ty}
 use Rattle.prem_syntax.specs.declared.tree.Mark.{Mark}
+use Rattle.prem_syntax.specs.SyntaxOf.{mark_of}
+use Rattle.prem_meaning.specs.Resolved.{Term, Steps, Done, Routine}
+use Rattle.prem_meaning.specs.Expressions.{Outcome, and_then, or_wrong, cell}
+use Rattle.prem_meaning.specs.Statements.{ProgramState, MarkedCall, Calls, choose, value, values, with_local, with_cell, store, stored, with_output, take_input, holds, loop_test, int_local, loop_step, counting, bounded, with_target, run, declare, result_of, with_mark, is_marked, leave, enter, with_new_local}
+use Rattle.prem_meaning.specs.Source.{Limits, unlimited, everywhere, enter_if_there, this_or, calls_below, do_jobs}
 use Rattle.prem_tree.specs.declared.resolve.resolved.Step.{Step, Row_of-Step, end_of-Step, more_of-Step}
 use Rattle.prem_tree.specs.declared.resolve.resolved.Step.TheVariants.{Block', SetLocal, SetScalar, SetElement, Output, Input, If', For', While', Call}
 use Rattle.prem_tree.specs.declared.resolve.resolved.Routine.{Routine as RoutineTree}
 use Rattle.prem_tree.specs.declared.resolve.resolved.Resolved.{Resolved as ResolvedTree}
-use Rattle.prem_syntax.specs.SyntaxOf.{mark_of}
-use Rattle.prem_meaning.specs.Resolved.{Term, Steps, Done, Routine}
 use Rattle.prem_tree.specs.Resolve.ResolvedOf.{term_of, loops_of, step_before, row_before, routine_of, routines_of, resolved_of}
-use Rattle.prem_meaning.specs.Expressions.{Outcome, and_then, or_wrong, cell}
-use Rattle.prem_meaning.specs.Statements.{ProgramState, MarkedCall, Calls, choose, value, values, with_local, with_cell, store, stored, with_output, take_input, holds, loop_test, int_local, loop_step, counting, bounded, with_target, run, declare, result_of, with_mark, is_marked, leave, enter, with_new_local}
-use Rattle.prem_meaning.specs.Source.{Limits, unlimited, everywhere, enter_if_there, this_or, calls_below, do_jobs}
 use Rattle.prem_tree.specs.State.Interpreter.{noted}
 use Rattle.prem_tree.specs.StepMeaning.{NotedCalls, do_step, do_row, do_routine, do_if_there, this_or_others, noted_calls, back_in, noted_jobs}
 

@@ -3,9 +3,6 @@ use Rattle.std.proofs.Common.{◌≡◌, ℕ, suc, ◌+◌, ◌≤◌, Bool, tru
 use Rattle.std.proofs.lemmas.Bool.Decides.{nat_tests}
 use Rattle.prem_list.specs.Sequence.{items_of}
 use Rattle.prem_syntax.specs.declared.rules.Count.TheVariants.{Functions}
-use Rattle.prem_tree.specs.declared.resolve.resolved.Resolved.{Resolved as ResolvedTree}
-use Rattle.prem_tree.specs.declared.state.interpreter.Interpreter.{Interpreter}
-use Rattle.prem_tree.specs.declared.source.SourceRun.{SourceRun}
 use Rattle.prem_syntax.specs.Syntax.{GlobalVariable, FunctionText, global_item, function_item, ProgramText}
 use Rattle.prem_syntax.specs.SyntaxOf.{global_of}
 use Rattle.prem_meaning.specs.Resolve.{functions_of, resolve_items, loops_within}
@@ -13,10 +10,13 @@ use Rattle.prem_meaning.specs.Rules.{Limit, Breach, first, first_of, comes_befor
 use Rattle.prem_meaning.specs.Breaches.{if_broken}
 use Rattle.prem_meaning.specs.GroupTwo.{group_two, IsWellFormed}
 use Rattle.prem_meaning.specs.Resolved.{Resolved}
-use Rattle.prem_tree.specs.Resolve.ResolvedOf.{resolved_of, IsResolved}
 use Rattle.prem_meaning.specs.Expressions.{Outcome}
 use Rattle.prem_meaning.specs.Statements.{ProgramState, MarkedCall}
 use Rattle.prem_meaning.specs.Source.{unlimited, initial_words, start, do_jobs, source}
+use Rattle.prem_tree.specs.declared.resolve.resolved.Resolved.{Resolved as ResolvedTree}
+use Rattle.prem_tree.specs.declared.state.interpreter.Interpreter.{Interpreter}
+use Rattle.prem_tree.specs.declared.source.SourceRun.{SourceRun}
+use Rattle.prem_tree.specs.Resolve.ResolvedOf.{resolved_of, IsResolved}
 use Rattle.prem_tree.specs.State.Interpreter.{noted, state_of}
 use Rattle.prem_tree.specs.StepMeaning.{noted_jobs}
 use Rattle.prem_tree.specs.SourceRun.{EndsIn, IsRun, resolved_outcome}

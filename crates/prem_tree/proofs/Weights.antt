@@ -21,7 +21,7 @@ abbrev mutual
   weight (While' at turns condition p body) = 1 + weight body
   weight (Call at target f arguments) = 1
 
-  pub row_weight : {m : _} → Row_of-Step m → ℕ
+  row_weight : {m : _} → Row_of-Step m → ℕ
   row_weight end_of-Step = 0
   row_weight (more_of-Step first rest) = weight first + row_weight rest
 

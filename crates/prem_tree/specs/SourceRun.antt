@@ -1,12 +1,12 @@
 -- What a run of a program gives, against the meaning.
 use Rattle.std.specs.Prelude.{◌≡◌, ℕ, List, map, IsOkAnd}
 use Rattle.prem_list.specs.Sequence.{items_of}
-use Rattle.prem_tree.specs.declared.source.SourceRun.{SourceRun}
 use Rattle.prem_meaning.specs.Expressions.{Outcome}
 use Rattle.prem_meaning.specs.Statements.{MarkedCall, ProgramState}
+use Rattle.prem_meaning.specs.Source.{unlimited, start, do_jobs}
+use Rattle.prem_tree.specs.declared.source.SourceRun.{SourceRun}
 use Rattle.prem_tree.specs.declared.resolve.resolved.Resolved.{Resolved}
 use Rattle.prem_tree.specs.Resolve.ResolvedOf.{resolved_of}
-use Rattle.prem_meaning.specs.Source.{unlimited, start, do_jobs}
 
 -- the run ends in a state, of whose marked calls it names the functions
 pub record EndsIn (run : SourceRun) (s : ProgramState) : Type 0 where

@@ -1,6 +1,6 @@
 -- What is due along a weave is what its steps are charged.
-use Rattle.std.proofs.Common.{◌≡◌, ℕ, suc, ◌+◌, ◌*◌, refl, ap, ◌∙◌, arith, List, [], ◌∷◌, ◌++◌}
 use Rattle.std.specs.Prelude.{All, IfSome}
+use Rattle.std.proofs.Common.{◌≡◌, ℕ, suc, ◌+◌, ◌*◌, refl, ap, ◌∙◌, arith, List, [], ◌∷◌, ◌++◌}
 use Rattle.prem_plant.specs.declared.plant.Plant.{Plant}
 use Rattle.prem_isa.specs.declared.effect.Phase.{Phase}
 use Rattle.prem_isa.specs.declared.effect.Phase.TheVariants.{Compatible, Memory as MemoryPhase, Execution}
@@ -8,11 +8,11 @@ use Rattle.prem_isa.specs.declared.effect.Change.{Change}
 use Rattle.prem_isa.specs.declared.effect.Change.TheVariants.{Stay, Memory, Execute, End, Job}
 use Rattle.prem_isa.specs.declared.effect.AccessKind.TheVariants.{Loads}
 use Rattle.prem_isa.specs.Plain.{Did}
-use Rattle.prem_asm.specs.Steps.{total}
-use Rattle.prem_asm.proofs.Cost.{total-append}
 use Rattle.prem_runs.specs.Position.Finish.{due_of}
 use Rattle.prem_sound.specs.Script.Script.{did_due, change_due}
 use Rattle.prem_sound.specs.Script.Conforms.{GoesOrDone, IsStretch}
+use Rattle.prem_asm.specs.Steps.{total}
+use Rattle.prem_asm.proofs.Cost.{total-append}
 use Rattle.prem_weave.specs.Weave.{Section, segment_of, IsSection, ends, goes, calls, dids_of, due_along, stated_by, charge, WeavesAreCharged}
 
 abbrev pub Fetching : Did → Type 0

@@ -1,14 +1,14 @@
 -- A woven run conforms, and gives what is promised.
-use Rattle.std.proofs.Common.{◌≡◌, ℕ, zero, suc, ◌+◌, ◌-◌, ◌*◌, ◌<◌, ◌≤◌, refl, ap, ◌∙◌, sym, subst, arith, true, Some, List, [], ◌∷◌, ◌++◌, append_assoc, length, length-append, get_or, slice_index_or}
 use Rattle.std.specs.Prelude.{All}
+use Rattle.std.proofs.Common.{◌≡◌, ℕ, zero, suc, ◌+◌, ◌-◌, ◌*◌, ◌<◌, ◌≤◌, refl, ap, ◌∙◌, sym, subst, arith, true, Some, List, [], ◌∷◌, ◌++◌, append_assoc, length, length-append, get_or, slice_index_or}
 use Rattle.std.proofs.lemmas.List.Elements.{All-nil, All-cons, All-append}
 use Rattle.prem_plant.specs.declared.plant.Plant.{Plant}
+use Rattle.prem_order.specs.Order.{HaveRoom}
 use Rattle.prem_isa.specs.declared.effect.Phase.TheVariants.{Compatible, Execution}
 use Rattle.prem_isa.specs.declared.effect.Change.{Change}
 use Rattle.prem_isa.specs.declared.effect.Change.TheVariants.{Stay, Memory, Execute, End, Job}
 use Rattle.prem_isa.specs.Plain.{TaskRun, PlainState, Did, plain_did, plain_start, plain_step, plain_steps, plain_run, plain_trace, with_last}
 use Rattle.prem_isa.proofs.PlainLaws.{plain_steps-next, plain_run-add, plain_steps-first, plain_steps-add, plain_trace-add}
-use Rattle.prem_order.specs.Order.{HaveRoom}
 use Rattle.prem_cycle.specs.Core.{is_predictable}
 use Rattle.prem_runs.specs.Position.Finish.{due_of}
 use Rattle.prem_sound.specs.Script.Script.{Begun, none_begun, begun_after, Call, no_call, call_at, Script, did_due, change_due}

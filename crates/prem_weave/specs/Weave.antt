@@ -1,18 +1,18 @@
 -- A task's run as it goes: instructions outside of calls, and marked calls one by one.
 use Rattle.std.specs.Prelude.{◌≡◌, ℕ, ◌+◌, ◌*◌, ◌≤◌, Bool, All, IfSome, None, Some, List, [], ◌∷◌, ◌++◌, length}
 use Rattle.prem_plant.specs.declared.plant.Plant.{Plant}
+use Rattle.prem_order.specs.Order.{AllIn, HaveRoom}
 use Rattle.prem_isa.specs.declared.effect.Phase.TheVariants.{Compatible, Memory as MemoryPhase, Execution}
 use Rattle.prem_isa.specs.declared.effect.Change.{Change}
 use Rattle.prem_isa.specs.declared.effect.Change.TheVariants.{Stay, Memory, Execute, End, Job}
 use Rattle.prem_isa.specs.declared.effect.AccessKind.TheVariants.{Loads}
 use Rattle.prem_isa.specs.Plain.{TaskRun, PlainState, Did, plain_did, plain_start, plain_step, plain_steps, plain_trace}
-use Rattle.prem_order.specs.Order.{AllIn, HaveRoom}
 use Rattle.prem_cycle.specs.State.{Setup}
 use Rattle.prem_runs.specs.Position.Finish.{due_of}
-use Rattle.prem_asm.specs.Steps.{total}
 use Rattle.prem_sound.specs.Script.Script.{lines_of_dids, cost_of_dids, Call, IsCovered, did_due, change_due}
 use Rattle.prem_sound.specs.Script.Scripts.{Reading, Mark, Promise, ReadsOwn}
 use Rattle.prem_sound.specs.Script.Conforms.{IsOwnDid, IsStretch, Conforms, GivesPromise}
+use Rattle.prem_asm.specs.Steps.{total}
 
 -- ---- one marked call
 

@@ -1,7 +1,7 @@
 -- Each row of the table gives a range of its kind.
-use Rattle.std.proofs.Common.{◌≡◌, ℕ, ◌-◌, ◌^◌, max, arith, refl, Bool, true, false, pow_mono}
 use Rattle.std.specs.Prelude.{ℤ, pos, negsuc, ◌+ℤ◌, ◌-ℤ◌, ◌*ℤ◌, neg_ℤ, ◌≤ℤ◌, ◌&&◌, int_le, int_lt, int_div, if◌then◌else◌, unsigned_abs, Option, Some, None}
 use Rattle.std.specs.Int.{int_min, int_max}
+use Rattle.std.proofs.Common.{◌≡◌, ℕ, ◌-◌, ◌^◌, max, arith, refl, Bool, true, false, pow_mono}
 use Rattle.std.proofs.lemmas.Int.{ints, clamps}
 use Rattle.std.proofs.lemmas.Bool.{and_parts}
 use Rattle.prem_word.specs.declared.kind.Kind.{Kind}
@@ -28,10 +28,10 @@ within_kept k r ordered = by (encloses (whole k) r) refl where
   by true e = let parts = and_parts (int_le (whole k).lo r.lo) (int_le r.hi (whole k).hi) e in record { ordered = ordered; least = omega (arith, ints, parts.0); greatest = omega (arith, ints, parts.1) }
   by false e = whole_kept k
 
-pub corners_kept : (k : Kind) (f : ℤ → ℤ → ℤ) (a b : Span) → IsRange k (within k (corners f a b))
+corners_kept : (k : Kind) (f : ℤ → ℤ → ℤ) (a b : Span) → IsRange k (within k (corners f a b))
 corners_kept k f a b = within_kept k (corners f a b) (around_ordered (f a.lo b.lo) (f a.lo b.hi) (f a.hi b.lo) (f a.hi b.hi))
 
-pub quotient_kept : (k : Kind) (a b : Span) → IsRange k (quotient_in k a b)
+quotient_kept : (k : Kind) (a b : Span) → IsRange k (quotient_in k a b)
 quotient_kept k a b = by (holds b (pos 0)) where
   by : (t : Bool) → IsRange k (if t then whole k else within k (corners int_div a b))
   by true = whole_kept k
@@ -62,7 +62,7 @@ zero_greatest : (k : Kind) (z : ℤ) → z ≤ℤ (whole k).hi → int_max z (po
 zero_greatest Int z h = omega (arith, ints, clamps)
 zero_greatest Unsigned z h = omega (arith, ints, clamps)
 
-pub remainder_kept : (k : Kind) (a b : Span) → IsRange k a → IsRange k (remainder_in k a b)
+remainder_kept : (k : Kind) (a b : Span) → IsRange k a → IsRange k (remainder_in k a b)
 remainder_kept k a b is = by (holds b (pos 0)) where
   by : (t : Bool) → IsRange k (if t then whole k else from_to (least_remainder a.lo (magnitude b - 1)) (greatest_remainder a.hi (magnitude b - 1)))
   by true = whole_kept k
@@ -83,7 +83,7 @@ naturals_kept Unsigned hi natural top = record { ordered = natural; least = omeg
 up_to_greatest : (k : Kind) (r : Span) → IsRange k r → is_natural r ≡ true → IsRange k (from_to (pos 0) r.hi)
 up_to_greatest k r is e = naturals_kept k r.hi (let o = is.ordered in omega (arith, ints, e)) is.greatest
 
-pub and_kept : (k : Kind) (a b : Span) → IsRange k a → IsRange k b → IsRange k (and_in k a b)
+and_kept : (k : Kind) (a b : Span) → IsRange k a → IsRange k b → IsRange k (and_in k a b)
 and_kept k a b is_a is_b = by (is_natural a) (is_natural b) refl refl where
   by : (s t : Bool) → is_natural a ≡ s → is_natural b ≡ t → IsRange k (if s && t then from_to (pos 0) (int_min a.hi b.hi) else if s then from_to (pos 0) a.hi else if t then from_to (pos 0) b.hi else whole k)
   by true true d e =
@@ -100,7 +100,7 @@ ones_fit : (k : Kind) (n : ℕ) → pos n ≤ℤ (whole k).hi → pos (2 ^ bit_l
 ones_fit Int n h = let short = bit_length_least n 31 (omega (arith, ints)) (omega (arith, ints)) in let less = pow_mono short in omega (arith, ints)
 ones_fit Unsigned n h = let short = bit_length_least n 32 (omega (arith, ints)) (omega (arith, ints)) in let less = pow_mono short in omega (arith, ints)
 
-pub or_kept : (k : Kind) (a b : Span) → IsRange k a → IsRange k b → IsRange k (or_in k a b)
+or_kept : (k : Kind) (a b : Span) → IsRange k a → IsRange k b → IsRange k (or_in k a b)
 or_kept k a b is_a is_b = by (is_natural a && is_natural b) refl where
   most : ℕ
   most = max (unsigned_abs a.hi) (unsigned_abs b.hi)
@@ -116,13 +116,13 @@ or_kept k a b is_a is_b = by (is_natural a && is_natural b) refl where
       (ones_fit k (max (unsigned_abs a.hi) (unsigned_abs b.hi)) (omega (arith, ints, parts.0, parts.1)))
   by false e = whole_kept k
 
-pub shifted_left_kept : (k : Kind) (a b : Span) → IsRange k a → IsRange k (shifted_left_in k a b)
+shifted_left_kept : (k : Kind) (a b : Span) → IsRange k a → IsRange k (shifted_left_in k a b)
 shifted_left_kept k a b is = by (count_of b) where
   by : (c : Option ℕ) → IsRange k (shifted_left_by k a c)
   by None = whole_kept k
   by (Some c) = within_kept k (from_to (a.lo *ℤ pos (2 ^ c)) (a.hi *ℤ pos (2 ^ c))) (times_up a.lo a.hi (2 ^ c) is.ordered)
 
-pub shifted_right_kept : (k : Kind) (a b : Span) → IsRange k a → IsRange k (shifted_right_in k a b)
+shifted_right_kept : (k : Kind) (a b : Span) → IsRange k a → IsRange k (shifted_right_in k a b)
 shifted_right_kept k a b is = by (count_of b) where
   none : (t : Bool) → is_natural a ≡ t → IsRange k (if t then from_to (pos 0) a.hi else whole k)
   none true e = up_to_greatest k a is e

@@ -1,7 +1,7 @@
 -- The law of the table: what an operator gives at values of two ranges lies in the operator's range.
-use Rattle.std.proofs.Common.{◌≡◌, ℕ, zero, suc, ◌-◌, ◌^◌, ◌<◌, ◌≤◌, arith, ap, sym, ◌∙◌, ⊎_elim, refl, subst, Bool, true, false}
 use Rattle.std.specs.Prelude.{ℤ, pos, negsuc, ◌+ℤ◌, ◌-ℤ◌, ◌≤ℤ◌, IsTrue, int_le, int_lt, if◌then◌else◌, Some, None}
 use Rattle.std.specs.Int.{w32, bit_not, int_min, int_max}
+use Rattle.std.proofs.Common.{◌≡◌, ℕ, zero, suc, ◌-◌, ◌^◌, ◌<◌, ◌≤◌, arith, ap, sym, ◌∙◌, ⊎_elim, refl, subst, Bool, true, false}
 use Rattle.std.proofs.lemmas.Int.{ints, clamps, to_z_pos, of_z-to_z}
 use Rattle.std.proofs.lemmas.Nat.{and_le_l, or_lt, xor_lt}
 use Rattle.std.proofs.lemmas.Bool.{cases_lt, and_parts, and_from}

@@ -3,13 +3,13 @@ use Rattle.std.proofs.Common.{◌≡◌, ℕ, ◌+◌, List, [], ◌∷◌, ◌+
 use Rattle.std.proofs.lemmas.List.{append-nil, append_assoc}
 use Rattle.prem_list.specs.declared.Sequence.{Sequence}
 use Rattle.prem_list.specs.Sequence.{items_of}
+use Rattle.prem_meaning.specs.Resolved.{Steps, Done}
+use Rattle.prem_meaning.specs.Reach.{callees_in, callee_table}
 use Rattle.prem_tree.specs.declared.resolve.resolved.Step.{Step, Block, Row_of-Step, end_of-Step, more_of-Step, items-the_row-Step, items_hidden-the_row-Step-0}
 use Rattle.prem_tree.specs.declared.resolve.resolved.Step.TheBlock.{hidden-the_row-Step-0}
 use Rattle.prem_tree.specs.declared.resolve.resolved.Step.TheVariants.{Block', SetLocal as SetLocalTree, SetScalar as SetScalarTree, SetElement as SetElementTree, Output as OutputTree, Input as InputTree, If', For', While', Call as CallTree}
 use Rattle.prem_tree.specs.declared.resolve.resolved.Routine.{Routine as RoutineTree}
 use Rattle.prem_tree.specs.Resolve.ResolvedOf.{loops_of, step_before, row_before, routines_of}
-use Rattle.prem_meaning.specs.Resolved.{Steps, Done}
-use Rattle.prem_meaning.specs.Reach.{callees_in, callee_table}
 use Rattle.prem_analysis.specs.Marks.Called.{called, row_called, list_called}
 
 three : (a b c : List ℕ) {d e : List ℕ} → d ≡ a → e ≡ b → d ++ (e ++ c) ≡ (a ++ b) ++ c
@@ -19,7 +19,7 @@ alone : (t : ℕ → ℕ) (n : ℕ) (s : Step) → callees_in (step_before t n s
 alone t n s h = h ∙ append-nil (called s)
 
 mutual
-  pub calls-before : (t : ℕ → ℕ) (n : ℕ) (s : Step) (rest : Steps) → callees_in (step_before t n s rest) ≡ called s ++ callees_in rest
+  calls-before : (t : ℕ → ℕ) (n : ℕ) (s : Step) (rest : Steps) → callees_in (step_before t n s rest) ≡ called s ++ callees_in rest
   calls-before t n (Block' shape body) rest = calls-row t n body rest
   calls-before t n (SetLocalTree at number value) rest = refl
   calls-before t n (SetScalarTree at g ty value) rest = refl

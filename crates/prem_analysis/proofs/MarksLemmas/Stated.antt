@@ -1,6 +1,6 @@
 -- The areas that regions state, one by one.
-use Rattle.std.proofs.Common.{◌≡◌, List, ◌∷◌, ◌++◌, map, ap, ◌∙◌, flat_map}
 use Rattle.std.specs.Borrow.{Bor}
+use Rattle.std.proofs.Common.{◌≡◌, List, ◌∷◌, ◌++◌, map, ap, ◌∙◌, flat_map}
 use Rattle.std.proofs.lemmas.List.{append_assoc}
 use Rattle.prem_syntax.specs.declared.tree.Global.{Global}
 use Rattle.prem_syntax.specs.declared.tree.Region.{Region}

@@ -1,18 +1,18 @@
 -- The marked functions in memory are those that watch over each function.
-use Rattle.std.proofs.Common.{◌≡◌, ℕ, zero, suc, ◌+◌, ◌<◌, ◌≤◌, Bool, true, false, cond, List, [], ◌∷◌, ◌++◌, length, map, drop, get_or, refl, ap, sym, ◌∙◌, arith, Option, Some, None, Result, Ok, Err, IfOk}
 use Rattle.std.specs.Borrow.{Bor}
-use Rattle.prem_syntax.specs.declared.tree.Global.{Global}
 use Rattle.std.specs.Option.{option_map}
+use Rattle.std.proofs.Common.{◌≡◌, ℕ, zero, suc, ◌+◌, ◌<◌, ◌≤◌, Bool, true, false, cond, List, [], ◌∷◌, ◌++◌, length, map, drop, get_or, refl, ap, sym, ◌∙◌, arith, Option, Some, None, Result, Ok, Err, IfOk}
 use Rattle.std.proofs.lemmas.List.{append_assoc}
 use Rattle.prem_list.specs.Sequence.{items_of}
+use Rattle.prem_syntax.specs.declared.tree.Global.{Global}
 use Rattle.prem_syntax.specs.Syntax.{MarkText, GlobalVariable}
 use Rattle.prem_syntax.specs.SyntaxOf.{global_of, mark_of}
-use Rattle.prem_tree.specs.declared.resolve.resolved.Routine.{Routine as RoutineTree}
-use Rattle.prem_tree.specs.declared.resolve.resolved.Resolved.{Resolved as ResolvedTree}
-use Rattle.prem_tree.specs.Resolve.ResolvedOf.{loops_of, routines_of, resolved_of}
 use Rattle.prem_meaning.specs.Source.{unlimited}
 use Rattle.prem_meaning.specs.Resolved.{Routine}
 use Rattle.prem_meaning.specs.Reach.{is_in, reach_set, callee_table}
+use Rattle.prem_tree.specs.declared.resolve.resolved.Routine.{Routine as RoutineTree}
+use Rattle.prem_tree.specs.declared.resolve.resolved.Resolved.{Resolved as ResolvedTree}
+use Rattle.prem_tree.specs.Resolve.ResolvedOf.{loops_of, routines_of, resolved_of}
 use Rattle.prem_ranges.specs.Regions.{Watch, watch_if, watches_from}
 use Rattle.prem_analysis.specs.declared.ranging.site.Marked.{Marked}
 use Rattle.prem_analysis.specs.Ranging.SiteOf.{watch_of, watch_where, watches_at, AreWatched}
@@ -47,7 +47,7 @@ watches_stand gs fs f n (m ∷ rest) = by m.text.mark (watches_stand gs fs f (n 
     by None more = more
     by (Some mark) more = here mark (is_in (reach_set (callee_table fs) n) f) more
 
-pub are_watched : (r : ResolvedTree) (ms : List Marked) (table : List (List ℕ)) → table ≡ map (λ (f : RoutineTree). called f.body) (items_of r.routines) →
+are_watched : (r : ResolvedTree) (ms : List Marked) (table : List (List ℕ)) → table ≡ map (λ (f : RoutineTree). called f.body) (items_of r.routines) →
     map entry_of ms ≡ entries_from (map (λ g. global_of g.now) r.globals.items) table 0 (routines_of unlimited.turns 0 (items_of r.routines)) → AreWatched r ms
 are_watched r ms table are is = record {
   each = λ f below.
@@ -56,7 +56,7 @@ are_watched r ms table are is = record {
 }
 
 -- the entries from a function on, and behind it
-pub entries_next : (gs : List GlobalVariable) (table : List (List ℕ)) (t : ℕ → ℕ) (n : ℕ) (rs : List RoutineTree) (i : ℕ) (r : RoutineTree) (k : ℕ) → i < length rs → r ≡ get_or rs i r →
+entries_next : (gs : List GlobalVariable) (table : List (List ℕ)) (t : ℕ → ℕ) (n : ℕ) (rs : List RoutineTree) (i : ℕ) (r : RoutineTree) (k : ℕ) → i < length rs → r ≡ get_or rs i r →
     entries_from gs table k (drop i (routines_of t n rs)) ≡ entry_if gs table k (option_map mark_of r.text.now.mark) ++ entries_from gs table (k + 1) (drop (suc i) (routines_of t n rs))
 entries_next gs table t n [] i r k below is = absurd (omega arith)
 entries_next gs table t n (q ∷ qs) zero r k below is =

@@ -1,6 +1,6 @@
 -- What the table of ranges gives lies in one of both kinds.
-use Rattle.std.proofs.Common.{◌≡◌, Bool, true, false, arith, refl, subst, sym}
 use Rattle.std.specs.Prelude.{pos, negsuc, ◌+ℤ◌, ◌-ℤ◌, ◌≤ℤ◌, int_le, int_lt, if◌then◌else◌}
+use Rattle.std.proofs.Common.{◌≡◌, Bool, true, false, arith, refl, subst, sym}
 use Rattle.std.proofs.lemmas.Int.{ints}
 use Rattle.prem_word.specs.declared.kind.Kind.{Kind}
 use Rattle.prem_word.specs.declared.kind.Kind.TheVariants.{Int, Unsigned}
@@ -8,16 +8,16 @@ use Rattle.prem_word.specs.Ranges.{Span, from_to, whole, IsRange, converted}
 use Rattle.prem_word.proofs.Kept.{whole_kept}
 
 -- the least and the greatest number of both kinds
-pub least_of_kind : (k : Kind) (r : Span) → IsRange k r → negsuc 2147483647 ≤ℤ r.lo
+least_of_kind : (k : Kind) (r : Span) → IsRange k r → negsuc 2147483647 ≤ℤ r.lo
 least_of_kind Int r is = is.least
 least_of_kind Unsigned r is = let l = is.least in omega (arith, ints)
 
-pub greatest_of_kind : (k : Kind) (r : Span) → IsRange k r → r.hi ≤ℤ pos 4294967295
+greatest_of_kind : (k : Kind) (r : Span) → IsRange k r → r.hi ≤ℤ pos 4294967295
 greatest_of_kind Int r is = let g = is.greatest in omega (arith, ints)
 greatest_of_kind Unsigned r is = is.greatest
 
 -- a range of both kinds together, converted to one
-pub converted_fits : (k : Kind) (r : Span) → r.lo ≤ℤ r.hi → negsuc 2147483647 ≤ℤ r.lo → r.hi ≤ℤ pos 4294967295 → IsRange k (converted k r)
+converted_fits : (k : Kind) (r : Span) → r.lo ≤ℤ r.hi → negsuc 2147483647 ≤ℤ r.lo → r.hi ≤ℤ pos 4294967295 → IsRange k (converted k r)
 converted_fits Int r o l g = by (int_lt r.hi (pos 2147483648)) (int_le (pos 2147483648) r.lo) refl refl where
   by : (s t : Bool) → int_lt r.hi (pos 2147483648) ≡ s → int_le (pos 2147483648) r.lo ≡ t → IsRange Int (if s then r else if t then from_to (r.lo -ℤ pos 4294967296) (r.hi -ℤ pos 4294967296) else whole Int)
   by true t d e = record { ordered = o; least = l; greatest = omega (arith, ints, d) }

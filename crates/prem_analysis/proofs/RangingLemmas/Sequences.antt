@@ -1,19 +1,19 @@
 -- Steps in memory, one behind the other.
 use Rattle.std.proofs.Common.{◌≡◌, ℕ, zero, suc, ◌+◌, ◌<◌, Bool, true, false, cond, eqb, ◌||◌, List, [], ◌∷◌, ◌++◌, length, get_or, drop, refl, ap, sym, ◌∙◌, arith}
 use Rattle.std.proofs.lemmas.List.{drop_more}
+use Rattle.std.proofs.lemmas.Bool.Decides.{nat_tests}
 use Rattle.prem_list.specs.declared.Sequence.{Sequence}
 use Rattle.prem_list.specs.Sequence.{items_of}
+use Rattle.prem_meaning.specs.Resolved.{Steps, Done}
 use Rattle.prem_tree.specs.declared.resolve.resolved.Step.{Step, Block, Row_of-Step, end_of-Step, more_of-Step, items-the_row-Step, items_hidden-the_row-Step-0}
 use Rattle.prem_tree.specs.declared.resolve.resolved.Step.TheBlock.{hidden-the_row-Step-0}
 use Rattle.prem_tree.specs.declared.resolve.resolved.Step.TheVariants.{Block', SetLocal as SetLocalTree, SetScalar as SetScalarTree, SetElement as SetElementTree, Output as OutputTree, Input as InputTree, If', For', While', Call as CallTree}
-use Rattle.prem_meaning.specs.Resolved.{Steps, Done}
 use Rattle.prem_ranges.specs.Environment.{Known, Environment, any_again, at_local, loosened}
 use Rattle.prem_ranges.specs.After.{assigns, after, bounds}
 use Rattle.prem_ranges.specs.RangeRules.{first, first_of}
 use Rattle.prem_ranges.specs.RangeBreaches.{Site, in_steps}
-use Rattle.prem_ranges.proofs.Followed.{after-followed, bounds-followed, in_steps-followed, assigns-followed}
 use Rattle.prem_ranges.specs.Sequence.{followed}
-use Rattle.std.proofs.lemmas.Bool.Decides.{nat_tests}
+use Rattle.prem_ranges.proofs.Followed.{after-followed, bounds-followed, in_steps-followed, assigns-followed}
 use Rattle.prem_ranges.proofs.FirstBreach.{first_of_append}
 use Rattle.prem_ranges.proofs.SavesLemmas.Locals.{suc_suc}
 use Rattle.prem_analysis.specs.Ranging.Plain.{plain_before, plain_row, plain, plain_list}
@@ -89,7 +89,7 @@ loosened-one zero (l ∷ ls) = ap (λ e. any_again l ∷ e) (ap (λ (p : ℕ →
 loosened-one (suc k) (l ∷ ls) = ap (λ e. cond (eqb (suc k) 0) (any_again l) l ∷ e) (ap (λ (p : ℕ → Bool). loosened p ls) (λ i j. suc_suc k j i) ∙ loosened-one k ls) ∙ (let no : eqb (suc k) 0 ≡ false = grind (arith, nat_tests) in rw no)
 
 -- the locals that a step, and the steps behind it, assign
-pub loosened-step : (s : Step) (rest : Steps) (env : Environment) → loosened (λ j. assigns j (plain_before s rest)) env ≡ loosened (λ j. assigns j rest) (loosened (λ j. assigns j (plain s)) env)
+loosened-step : (s : Step) (rest : Steps) (env : Environment) → loosened (λ j. assigns j (plain_before s rest)) env ≡ loosened (λ j. assigns j rest) (loosened (λ j. assigns j (plain s)) env)
 loosened-step s rest env =
     ap (λ (steps : Steps). loosened (λ j. assigns j steps) env) (one_by_one s rest) ∙ ap (λ (p : ℕ → Bool). loosened p env) (λ i j. assigns-followed j (plain s) rest i) ∙ loosened-both (λ j. assigns j (plain s)) (λ j. assigns j rest) env
 

@@ -1,8 +1,8 @@
 // The range of an expression, and the first rule that it breaks.
-ghost use Rattle.std.specs.Prelude.{◌≡◌, IfOk, OnOk};
-ghost use Rattle.prem_tree.specs.Resolve.ResolvedOf.{term_of};
+ghost use Rattle.std.specs.Prelude.{◌≡◌, None, IfOk, OnOk};
 ghost use Rattle.prem_word.specs.Words.{value_in};
 ghost use Rattle.prem_word.specs.Ranges.{exactly, truths, converted, range_of_op};
+ghost use Rattle.prem_tree.specs.Resolve.ResolvedOf.{term_of};
 ghost use Rattle.prem_ranges.specs.RangeOf.{range_of};
 ghost use Rattle.prem_ranges.specs.RangeRules.{first, first_of};
 ghost use Rattle.prem_ranges.specs.RangeBreaches.{in_divisor, in_term};
@@ -114,6 +114,14 @@ fn operator_range(op: BinOp, kind: Kind, left: Range, right: Range) -> Range
     operator(op, kind, convert(kind, left), convert(kind, right))
 }
 
+/// A range of what breaks no rule.
+fn unbroken(range: Range) -> Looked
+    ensures range { result.range ≡ range }
+    ensures found { result.found ≡ None }
+{
+    Looked { range, found: None }
+}
+
 /// Looks at an expression once: no operand's range is computed again at each level. The right side of `&&` and `||` is
 /// looked at in the same environment, in which the locals that the left side names are put back behind it.
 #[tactic(auto, using(prem_ranges::proofs::FirstBreach::first_of_append, prem_ranges::proofs::SavesLemmas::Back::back_from_refined, crate::proofs::RangingLemmas::Operators::first_of_some, crate::proofs::RangingLemmas::Operators::first_of_none, crate::proofs::RangingLemmas::Operators::range_of_some, crate::proofs::RangingLemmas::Operators::range_of_operator))]
@@ -128,14 +136,8 @@ pub fn look_at(
     ensures found { IfOk result (λ l. found_of l.found ≡ first_of (in_term (site_of site.now) (env_of env.old) (term_of term.now))) }
 {
     match term {
-        Term::Constant { word, kind, .. } => Ok(Looked {
-            range: constant(*kind, *word),
-            found: None,
-        }),
-        Term::Local { number, .. } => Ok(Looked {
-            range: range_at(env, *number),
-            found: None,
-        }),
+        Term::Constant { word, kind, .. } => Ok(unbroken(constant(*kind, *word))),
+        Term::Local { number, .. } => Ok(unbroken(range_at(env, *number))),
         Term::Scalar { at, global, ty } => Ok(Looked {
             range: range_of_type(*ty),
             found: in_scalar(site, *at, *global),

@@ -1,7 +1,7 @@
 // The text of each rule.
 ghost use Rattle.std.specs.Prelude.{◌≡◌, ◌++◌, IfOk, codes};
-ghost use Rattle.prem_syntax.specs.Name.{name_bytes};
 ghost use Rattle.prem_word.specs.Ranges.{span_of};
+ghost use Rattle.prem_syntax.specs.Name.{name_bytes};
 ghost use Rattle.prem_layout.specs.Rules.{ConflictIn, Length};
 ghost use Rattle.prem_tasks.specs.Told.{arg_range, index_outside, region_outside, told_of};
 ghost use Rattle.prem_answer.specs.Refusal.Texts.{count_word, late_text, named, range_text, rule_text, type_word};

@@ -1,11 +1,11 @@
 -- The table of counts tells those of the definition.
+use Rattle.std.specs.Prelude.{is_some}
+use Rattle.std.specs.Option.{option_map}
 use Rattle.std.proofs.Common.{◌≡◌, ℕ, zero, suc, ◌+◌, ◌*◌, ◌^◌, ◌≤◌, ◌<◌, max, min, cond, List, [], ◌∷◌, ◌++◌, Option, None, Some, refl, ap, sym, ◌∙◌, ⊎_elim, arith, length, drop, slice_index, slice_get, length-append}
 use Rattle.std.proofs.lemmas.Bool.{cases_eq, cases_lt, eq-eqb, ne_eqb}
 use Rattle.std.proofs.lemmas.Nat.{mul-le}
 use Rattle.std.proofs.lemmas.List.{drop-drop}
 use Rattle.prem_list.specs.Sequence.{items_of}
-use Rattle.std.specs.Prelude.{is_some}
-use Rattle.std.specs.Option.{option_map}
 use Rattle.prem_word.specs.Words.{truth}
 use Rattle.prem_syntax.specs.SyntaxOf.{mark_of as mark_text}
 use Rattle.prem_syntax.specs.declared.tree.Mark.{Mark}
@@ -23,7 +23,7 @@ use Rattle.prem_bounds.proofs.CountsLemmas.StepCounts.{step_most}
 abbrev Alike : ℕ → ℕ → Type 0
 Alike a b = clipped a ≡ clipped b
 
-pub large_product : (n a limit : ℕ) → limit ≤ a → min (suc n * limit) limit ≡ min (suc n * a) limit
+large_product : (n a limit : ℕ) → limit ≤ a → min (suc n * limit) limit ≡ min (suc n * a) limit
 large_product n a limit le =
     let m : n * limit ≤ n * a = mul-le n limit n a (omega arith) le in
     omega arith

@@ -3,11 +3,11 @@ use Rattle.std.proofs.Common.{◌≡◌, ℕ, ◌+◌, ◌*◌, List, refl, ap, 
 use Rattle.std.proofs.lemmas.List.{get_or-drop, drop-drop}
 use Rattle.prem_list.specs.declared.Sequence.{Sequence}
 use Rattle.prem_list.specs.Sequence.{items_of}
+use Rattle.prem_meaning.specs.Resolved.{Steps, Done}
 use Rattle.prem_tree.specs.declared.resolve.resolved.Step.{Step, Block, Row_of-Step, end_of-Step, more_of-Step, items-the_row-Step, items_hidden-the_row-Step-0}
 use Rattle.prem_tree.specs.declared.resolve.resolved.Step.TheBlock.{hidden-the_row-Step-0}
 use Rattle.prem_tree.specs.declared.resolve.resolved.Step.TheVariants.{Block', SetLocal, SetScalar, SetElement, Output, Input, If', For', While', Call}
 use Rattle.prem_tree.specs.Resolve.ResolvedOf.{loops_of, list_loops, step_before, row_before}
-use Rattle.prem_meaning.specs.Resolved.{Steps, Done}
 use Rattle.prem_tree.proofs.ResolveLemmas.StepRows.{row_counted}
 use Rattle.prem_ranges.specs.Counts.{most_in}
 use Rattle.prem_bounds.specs.Counts.Count.{first_turn, most_of_step, most_of_row, most_of_list}

@@ -2,10 +2,10 @@
 use Rattle.std.proofs.Common.{◌≡◌, ℕ, ◌+◌, ◌<◌, List, ◌∷◌, Option, None, ap, sym, ◌∙◌, length, map, drop, get_or}
 use Rattle.std.proofs.lemmas.List.{at_drop_more}
 use Rattle.prem_plant.specs.declared.plant.Plant.{Plant}
-use Rattle.prem_split.specs.declared.plan.IntervalPlan.{IntervalPlan}
-use Rattle.prem_split.specs.PlanOf.{plan_of}
 use Rattle.prem_layout.specs.Footprint.{conflict_of}
 use Rattle.prem_layout.specs.Rules.{or_else}
+use Rattle.prem_split.specs.declared.plan.IntervalPlan.{IntervalPlan}
+use Rattle.prem_split.specs.PlanOf.{plan_of}
 use Rattle.prem_bounds.specs.Facts.Clashes.{Clash, clash_in, first_clash}
 
 pub clash_step : (p : Plant) (plans : List IntervalPlan) (lines : List (List ℕ)) (k : ℕ) (plan : IntervalPlan) (line : List ℕ) → k < length plans → k < length lines → line ≡ get_or lines k line →

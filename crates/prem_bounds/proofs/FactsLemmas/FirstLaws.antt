@@ -1,7 +1,7 @@
 -- The rules on conflicts and lengths, by the first that breaks them.
-use Rattle.std.proofs.Common.{◌≡◌, ℕ, Bool, true, false, cond, List, [], ◌∷◌, Option, None, Some, refl, ap, sym, ◌∙◌, map}
 use Rattle.std.specs.Prelude.{nat_lt}
 use Rattle.std.specs.Option.{option_map}
+use Rattle.std.proofs.Common.{◌≡◌, ℕ, Bool, true, false, cond, List, [], ◌∷◌, Option, None, Some, refl, ap, sym, ◌∙◌, map}
 use Rattle.prem_plant.specs.declared.plant.Plant.{Plant}
 use Rattle.prem_meaning.specs.Resolved.{Routine}
 use Rattle.prem_layout.specs.Plans.{Plan}

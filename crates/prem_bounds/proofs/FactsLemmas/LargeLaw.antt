@@ -1,7 +1,7 @@
 -- The rule on bounds, by tests of them.
-use Rattle.std.proofs.Common.{◌≡◌, ℕ, zero, suc, ◌+◌, Bool, true, false, cond, List, [], ◌∷◌, Option, None, Some, refl, ap, sym, ◌∙◌, arith, map, drop}
 use Rattle.std.specs.Prelude.{◌==◌, ◌&&◌, nat_lt}
 use Rattle.std.specs.Option.{option_map}
+use Rattle.std.proofs.Common.{◌≡◌, ℕ, zero, suc, ◌+◌, Bool, true, false, cond, List, [], ◌∷◌, Option, None, Some, refl, ap, sym, ◌∙◌, arith, map, drop}
 use Rattle.prem_meaning.specs.Resolved.{Routine}
 use Rattle.prem_meaning.specs.Statements.{is_marked}
 use Rattle.prem_layout.specs.Facts.{IntervalFact}

@@ -2,9 +2,9 @@
 ghost use Rattle.std.specs.Prelude.{◌≡◌, ◌<◌, ◌≤◌, ◌^◌, IsNone, IfSome, length, map, option_map};
 ghost use Rattle.prem_list.specs.Sequence.{items_of};
 ghost use Rattle.prem_plant.specs.Ranges.{IsPlant};
+ghost use Rattle.prem_layout.specs.Bounds.{bound_of};
 ghost use Rattle.prem_split.specs.PlanOf.{plan_of};
 ghost use Rattle.prem_bounds.specs.TableOf.{IsTable, table_of};
-ghost use Rattle.prem_layout.specs.Bounds.{bound_of};
 ghost use Rattle.prem_bounds.specs.Facts.FactOf.{fact_of, fact_with, first_short};
 
 use crate::{CodeTable, bound_at};

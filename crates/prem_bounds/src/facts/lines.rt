@@ -2,9 +2,9 @@
 ghost use Rattle.std.specs.Prelude.{◌≡◌, IfOk, IfSome, map, length};
 ghost use Rattle.std.specs.List.{AllByRecursion};
 ghost use Rattle.prem_plant.specs.Ranges.{IsPlant};
+ghost use Rattle.prem_layout.specs.Footprint.{footprint_of};
 ghost use Rattle.prem_split.specs.PlanOf.{plan_of};
 ghost use Rattle.prem_foot.specs.PlacesOf.{IsPlanAt};
-ghost use Rattle.prem_layout.specs.Footprint.{footprint_of};
 ghost use Rattle.prem_bounds.specs.Facts.Clashes.{clash_of, first_clash};
 
 use prem_foot::{Conflict, Lines, TaskPlaces, fits, footprint};

@@ -1,6 +1,6 @@
 -- The code of locals, scalars and elements gives their words.
-use Rattle.std.proofs.Common.{◌≡◌, ◌≢◌, ℕ, zero, suc, ◌+◌, ◌*◌, ◌%◌, ◌^◌, ◌<◌, ◌≤◌, refl, ap, ◌∙◌, subst, arith, cond, Some, None, Option, true, false, Bool, ◌&&◌, List, [], ◌∷◌, ◌++◌, length, append_assoc}
 use Rattle.std.specs.Prelude.{pos, slice_get, slice_index, Ok}
+use Rattle.std.proofs.Common.{◌≡◌, ◌≢◌, ℕ, zero, suc, ◌+◌, ◌*◌, ◌%◌, ◌^◌, ◌<◌, ◌≤◌, refl, ap, ◌∙◌, subst, arith, cond, Some, None, Option, true, false, Bool, ◌&&◌, List, [], ◌∷◌, ◌++◌, length, append_assoc}
 use Rattle.std.proofs.lemmas.Option.{slice_get_within, get_or_from_slice_get}
 use Rattle.prem_word.specs.Bytes.{number_at}
 use Rattle.prem_isa.specs.declared.instr.Instr.TheVariants.{Load, Op}
@@ -47,7 +47,7 @@ pub all_between : (p : ℕ → Bool) (low top : ℕ) → ((a : ℕ) → low ≤ 
 all_between p low top h zero a le ge = refl
 all_between p low top h (suc n) a le ge = ap (λ b. b && all_of p (a + 1) n) (h a le (omega arith)) ∙ all_between p low top h n (a + 1) (omega arith) (omega arith)
 
-pub shift_small : (ty : Ty) → shift_of ty < 32
+shift_small : (ty : Ty) → shift_of ty < 32
 shift_small Short = omega arith
 shift_small Ushort = omega arith
 shift_small Schar = omega arith
@@ -86,7 +86,7 @@ module _ (s : Setting) (gs : Globals) (may : Access) (k : Stack) (ground : Groun
       (slot_readable t.view i (slice_index locals i) inside (ls.stands i lt) (ls.word i lt))
 
   -- an element that is found
-  pub element_readable : (view : ℕ → ℕ) (globals : List (List ℕ)) (g j w : ℕ) → GlobalsStand s gs globals view → Found may globals g j w →
+  element_readable : (view : ℕ → ℕ) (globals : List (List ℕ)) (g j w : ℕ) → GlobalsStand s gs globals view → Found may globals g j w →
       Readable s view (load_of (gs.type g)) (element_at s gs g j) w
   element_readable view globals g j w stand found =
       let inside : j < gs.count g = subst (λ n. j < n) (stand.shaped g) found.inside in

@@ -1,6 +1,6 @@
 -- Loads, and the code of locals, scalars and elements.
-use Rattle.std.proofs.Common.{◌≡◌, ◌≢◌, ℕ, zero, suc, ◌+◌, ◌%◌, ◌^◌, ◌<◌, ◌≤◌, refl, ap, ◌∙◌, arith, cond, eqb, leb, Some, true, List, [], ◌∷◌, ◌++◌, eq-eqb}
 use Rattle.std.specs.Prelude.{ℤ}
+use Rattle.std.proofs.Common.{◌≡◌, ◌≢◌, ℕ, zero, suc, ◌+◌, ◌%◌, ◌^◌, ◌<◌, ◌≤◌, refl, ap, ◌∙◌, arith, cond, eqb, leb, Some, true, List, [], ◌∷◌, ◌++◌, eq-eqb}
 use Rattle.std.proofs.lemmas.Bool.{le-leb}
 use Rattle.prem_word.specs.Bytes.{number_at}
 use Rattle.prem_isa.specs.declared.instr.Instr.{Instr}

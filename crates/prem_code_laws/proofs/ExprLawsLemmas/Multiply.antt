@@ -1,6 +1,6 @@
 -- The loop of `*` multiplies.
-use Rattle.std.proofs.Common.{◌≡◌, ◌≢◌, ℕ, suc, ◌+◌, ◌*◌, ◌/◌, ◌%◌, ◌^◌, ◌<◌, ◌≤◌, refl, ap, ◌∙◌, sym, subst, arith, cond, eqb, true, false, Bool, [], ◌∷◌, length}
 use Rattle.std.specs.Prelude.{pos}
+use Rattle.std.proofs.Common.{◌≡◌, ◌≢◌, ℕ, suc, ◌+◌, ◌*◌, ◌/◌, ◌%◌, ◌^◌, ◌<◌, ◌≤◌, refl, ap, ◌∙◌, sym, subst, arith, cond, eqb, true, false, Bool, [], ◌∷◌, length}
 use Rattle.std.proofs.lemmas.Bool.{eqb-true, eqb-false}
 use Rattle.std.proofs.lemmas.Nat.{and_mask}
 use Rattle.std.proofs.Math.Nat.{pow-succ'}
@@ -102,7 +102,7 @@ pub record Left (g : ℕ → ℕ) (r s w n : ℕ) (f : ℕ → ℕ) : Type 0 whe
   pub is : (acc + x * y) % 2 ^ 32 ≡ w
   pub below : y < 2 ^ n
 
-pub multiply_counts : (g : ℕ → ℕ) (r s w : ℕ) → 10 ≤ r → s ≡ r + 1 → (set : Setting) (calls : Calls) (at : ℕ) →
+multiply_counts : (g : ℕ → ℕ) (r s w : ℕ) → 10 ≤ r → s ≡ r + 1 → (set : Setting) (calls : Calls) (at : ℕ) →
     Counts set calls at s (multiply_turn r s) (Left g r s w) (λ f. (f 5 ≡ w) × Around g r s f)
 multiply_counts g r s w ten next set calls at = record {
   words = λ n f i. i.held.words;

@@ -1,11 +1,11 @@
 -- One instruction for a product, a quotient or a remainder, where the target has it.
 use Rattle.std.proofs.Common.{◌≡◌, ℕ, ◌+◌, ◌^◌, ◌<◌, refl, ap, subst, arith, [], ◌∷◌, ◌++◌}
-use Rattle.prem_plant.specs.declared.plant.Target.{Target}
-use Rattle.prem_plant.specs.declared.plant.Target.TheVariants.{Rv32i, Rv32im}
 use Rattle.prem_word.specs.declared.kind.Kind.{Kind}
 use Rattle.prem_word.specs.declared.kind.Kind.TheVariants.{Int, Unsigned}
 use Rattle.prem_word.specs.declared.kind.BinOp.TheVariants.{Div as Over, Rem as Rest}
 use Rattle.prem_word.specs.Words.{apply_op}
+use Rattle.prem_plant.specs.declared.plant.Target.{Target}
+use Rattle.prem_plant.specs.declared.plant.Target.TheVariants.{Rv32i, Rv32im}
 use Rattle.prem_isa.specs.declared.instr.Instr.TheVariants.{MulDiv}
 use Rattle.prem_isa.specs.declared.instr.MulDivOp.{MulDivOp}
 use Rattle.prem_isa.specs.Alu.{multiply_divide}
@@ -36,7 +36,7 @@ remainder_is Unsigned a b h p = remu_is a b h p
 -- ---- how they run
 
 module _ (s : Setting) (calls : Calls) (at r q : ℕ) (t : TaskState) (some : 0 < r) (ws : AreWords t.registers) where
-  pub one_gives : s.target ≡ Rv32im → (op : MulDivOp) → Gives s calls at (only (MulDiv op r r q ∷ [])) t r (multiply_divide op (t.registers r) (t.registers q))
+  one_gives : s.target ≡ Rv32im → (op : MulDivOp) → Gives s calls at (only (MulDiv op r r q ∷ [])) t r (multiply_divide op (t.registers r) (t.registers q))
   one_gives on op =
       let w = multiply_divide op (t.registers r) (t.registers q) in
       let i = MulDiv op r r q in

@@ -1,6 +1,6 @@
 -- What instructions on registers put into them.
-use Rattle.std.proofs.Common.{◌≡◌, ◌≢◌, ℕ, zero, suc, ◌+◌, ◌-◌, ◌*◌, ◌%◌, ◌^◌, ◌<◌, ◌≤◌, refl, ap, ◌∙◌, sym, subst, arith, cond, eqb, leb, ltb, ◌&&◌, ◌||◌, true, false, Bool, [], ◌∷◌, eq-eqb}
 use Rattle.std.specs.Prelude.{pos, negsuc}
+use Rattle.std.proofs.Common.{◌≡◌, ◌≢◌, ℕ, zero, suc, ◌+◌, ◌-◌, ◌*◌, ◌%◌, ◌^◌, ◌<◌, ◌≤◌, refl, ap, ◌∙◌, sym, subst, arith, cond, eqb, leb, ltb, ◌&&◌, ◌||◌, true, false, Bool, [], ◌∷◌, eq-eqb}
 use Rattle.std.proofs.lemmas.Bool.{cond_both, leb-true, eqb-true, ltb-true, ltb-false}
 use Rattle.prem_isa.specs.declared.instr.Instr.{Instr}
 use Rattle.prem_isa.specs.declared.instr.Instr.TheVariants.{Lui, OpImm}
@@ -54,13 +54,13 @@ put_two i j f r x y w is js e e2 yw some sx sw ws =
 
 -- ---- constants and addresses
 
-pub upper_lower : (a : ℕ) → a < 2 ^ 32 → (upper a * 2 ^ 12 + word_of_int (lower a)) % 2 ^ 32 ≡ a
+upper_lower : (a : ℕ) → a < 2 ^ 32 → (upper a * 2 ^ 12 + word_of_int (lower a)) % 2 ^ 32 ≡ a
 upper_lower a h =
     cond_both (ltb (a % 2 ^ 12) (2 ^ 11)) (pos (a % 2 ^ 12)) (negsuc (2 * 2 ^ 11 - 1 - a % 2 ^ 12)) (λ z. (upper a * 2 ^ 12 + word_of_int z) % 2 ^ 32 ≡ a)
     (λ e. let lt : a % 2 ^ 12 < 2 ^ 11 = ltb-true (a % 2 ^ 12) (2 ^ 11) e in omega arith)
     (λ e. let le : 2 ^ 11 ≤ a % 2 ^ 12 = ltb-false (a % 2 ^ 12) (2 ^ 11) e in omega arith)
 
-pub short_lower : (a : ℕ) → a < 2 ^ 32 → is_short a ≡ true → word_of_int (lower a) ≡ a
+short_lower : (a : ℕ) → a < 2 ^ 32 → is_short a ≡ true → word_of_int (lower a) ≡ a
 short_lower a h is =
     cond_both (ltb (a % 2 ^ 12) (2 ^ 11)) (pos (a % 2 ^ 12)) (negsuc (2 * 2 ^ 11 - 1 - a % 2 ^ 12)) (λ z. word_of_int z ≡ a)
     (λ e. let lt : a % 2 ^ 12 < 2 ^ 11 = ltb-true (a % 2 ^ 12) (2 ^ 11) e in near (ltb a (2 ^ 11)) refl is lt)

@@ -1,6 +1,6 @@
 -- The code of `/` and `%` gives the quotient and the remainder.
-use Rattle.std.proofs.Common.{◌≡◌, ◌≢◌, ℕ, ◌+◌, ◌-◌, ◌*◌, ◌/◌, ◌%◌, ◌^◌, ◌<◌, ◌≤◌, refl, ap, ◌∙◌, sym, subst, arith, true, false, Bool, List, [], ◌∷◌, length, bit_xor}
 use Rattle.std.specs.Prelude.{pos}
+use Rattle.std.proofs.Common.{◌≡◌, ◌≢◌, ℕ, ◌+◌, ◌-◌, ◌*◌, ◌/◌, ◌%◌, ◌^◌, ◌<◌, ◌≤◌, refl, ap, ◌∙◌, sym, subst, arith, true, false, Bool, List, [], ◌∷◌, length, bit_xor}
 use Rattle.std.proofs.lemmas.Bool.Decides.{nat_tests}
 use Rattle.std.proofs.Math.Nat.{div-le_self, mod-le}
 use Rattle.prem_word.specs.declared.kind.Kind.{Kind}
@@ -12,13 +12,13 @@ use Rattle.prem_isa.specs.declared.instr.Instr.TheVariants.{OpImm, Op}
 use Rattle.prem_isa.specs.declared.instr.AluOp.TheVariants.{Add, Sub, Sra, Xor}
 use Rattle.prem_isa.specs.Alu.{compute}
 use Rattle.prem_isa.specs.Plain.{TaskState}
+use Rattle.prem_isa.specs.Act.{with_register}
+use Rattle.prem_isa.proofs.AluLaws.{compute_word}
 use Rattle.prem_asm.specs.Pieces.{Pieces, no_pieces, straight}
 use Rattle.prem_asm.specs.Runs.{Calls, Setting}
 use Rattle.prem_template.specs.Terms.{unsigned_operands, signed_operands, divide_code, quotient_code, remainder_code}
 use Rattle.prem_code_laws.specs.ExprLaws.Registers.{all_alu, alus, AreWords}
 use Rattle.prem_code_laws.specs.ExprLaws.Gives.{IsKept, Gives}
-use Rattle.prem_isa.specs.Act.{with_register}
-use Rattle.prem_isa.proofs.AluLaws.{compute_word}
 use Rattle.prem_code_laws.proofs.ExprLawsLemmas.Puts.{reg_same, reg_other, put_one}
 use Rattle.prem_code_laws.proofs.ExprLawsLemmas.Signs.{is_negative, mask, with_sign, differ, sra_mask, masked, mask_xor, quotient_signed, remainder_signed}
 use Rattle.prem_code_laws.proofs.ExprLawsLemmas.Loads.{kept_below}

@@ -1,13 +1,13 @@
 -- The code of a term gives its value.
-use Rattle.std.proofs.Common.{◌≡◌, ◌≢◌, ℕ, ◌+◌, ◌<◌, ◌≤◌, refl, ap, ◌∙◌, sym, subst, arith, cond, eqb, ltb, not, None, true, false, Bool, List, [], ◌∷◌, ◌++◌, length, Ok, Err}
 use Rattle.std.specs.Prelude.{pos}
+use Rattle.std.proofs.Common.{◌≡◌, ◌≢◌, ℕ, ◌+◌, ◌<◌, ◌≤◌, refl, ap, ◌∙◌, sym, subst, arith, cond, eqb, ltb, not, None, true, false, Bool, List, [], ◌∷◌, ◌++◌, length, Ok, Err}
 use Rattle.std.proofs.lemmas.Bool.{eqb-true, eqb-false}
-use Rattle.prem_plant.specs.declared.plant.Target.{Target}
 use Rattle.prem_word.specs.declared.kind.Kind.{Kind}
 use Rattle.prem_word.specs.declared.kind.BinOp.{BinOp}
 use Rattle.prem_word.specs.declared.kind.BinOp.TheVariants.{Add as Plus, Sub as Minus, Mul, Div, Rem, Shl, Shr, Lt, Le, Gt, Ge, Eq, Ne, And as BitAnd, Xor as BitXor, Or as BitOr, AndAlso as AndAlsoOp, OrElse as OrElseOp}
 use Rattle.prem_word.specs.Words.{truth, apply_op}
 use Rattle.prem_word.proofs.Reduced.{word_of-product}
+use Rattle.prem_plant.specs.declared.plant.Target.{Target}
 use Rattle.prem_isa.specs.declared.instr.Instr.{Instr}
 use Rattle.prem_isa.specs.declared.instr.Instr.TheVariants.{Load, OpImm}
 use Rattle.prem_isa.specs.declared.instr.MulDivOp.TheVariants.{Mul as MulWord}
@@ -63,7 +63,7 @@ module _ (target : Target) (s : Setting) (on : s.target ≡ target) (calls : Cal
   by_puts : (code : List Instr) (x w : ℕ) → Puts code t.registers r x → ok_of x ≡ ok_of w → Gives s calls at (only code) t r w
   by_puts code x w p e = puts_give s calls at code t r w (subst (Puts code t.registers r) (same_ok x w e) p)
 
-  pub binary_gives : (line : ℕ) (op : BinOp) (k : Kind) (w : ℕ) → IsOperator op → operate line op k (t.registers r) (t.registers (r + 1)) ≡ Ok w → Gives s calls at (binary_code target op k r (r + 1)) t r w
+  binary_gives : (line : ℕ) (op : BinOp) (k : Kind) (w : ℕ) → IsOperator op → operate line op k (t.registers r) (t.registers (r + 1)) ≡ Ok w → Gives s calls at (binary_code target op k r (r + 1)) t r w
   binary_gives line Plus k w is e = by_puts _ _ w (add_puts t.registers r (r + 1) some ws k) e
   binary_gives line Minus k w is e = by_puts _ _ w (sub_puts t.registers r (r + 1) some ws k) e
   binary_gives line Mul k w is e =
@@ -98,13 +98,13 @@ module _ (target : Target) (s : Setting) (on : s.target ≡ target) (calls : Cal
 
 module _ (s : Setting) (calls : Calls) where
   -- a word in r on one side of a choice, with nothing behind it
-  pub taken_gives : (at r : ℕ) (taken other : Pieces) (t : TaskState) (a w : ℕ) → AreWords t.registers → t.registers r ≡ a → eqb a 0 ≡ false → Gives s calls (at + 8) taken t r w → Gives s calls at (either (nonzero r) taken other no_pieces) t r w
+  taken_gives : (at r : ℕ) (taken other : Pieces) (t : TaskState) (a w : ℕ) → AreWords t.registers → t.registers r ≡ a → eqb a 0 ≡ false → Gives s calls (at + 8) taken t r w → Gives s calls at (either (nonzero r) taken other no_pieces) t r w
   taken_gives at r taken other t a w ws e is g =
       let t1 : TaskState = record t { registers = g.registers } in
       let x = either_on s calls at (nonzero r) taken other no_pieces t t1 t1 g.trace [] (tested r t a ws e ∙ ap not is) g.goes refl in
       record { registers = g.registers; trace = on_steps at (nonzero r) taken other t t1 g.trace ++ []; goes = x; value = g.value; kept = g.kept; words = g.words }
 
-  pub other_gives : (at r : ℕ) (taken other : Pieces) (t : TaskState) (a w : ℕ) → AreWords t.registers → t.registers r ≡ a → eqb a 0 ≡ true → Gives s calls (other_at at taken other) other t r w → Gives s calls at (either (nonzero r) taken other no_pieces) t r w
+  other_gives : (at r : ℕ) (taken other : Pieces) (t : TaskState) (a w : ℕ) → AreWords t.registers → t.registers r ≡ a → eqb a 0 ≡ true → Gives s calls (other_at at taken other) other t r w → Gives s calls at (either (nonzero r) taken other no_pieces) t r w
   other_gives at r taken other t a w ws e is g =
       let t1 : TaskState = record t { registers = g.registers } in
       let x = either_off s calls at (nonzero r) taken other no_pieces t t1 t1 g.trace [] (tested r t a ws e ∙ ap not is) g.goes refl in

@@ -1,8 +1,8 @@
 -- The steps of pieces lead where their run ends, and those of quiet pieces change no interval.
 use Rattle.std.proofs.Common.{◌≡◌, ℕ, zero, suc, ◌+◌, ◌*◌, ◌%◌, refl, ap, ◌∙◌, subst, cond, eqb, leb, true, List, [], ◌∷◌, length}
 use Rattle.std.proofs.lemmas.Bool.{cond_both}
-use Rattle.prem_plant.specs.declared.plant.Target.{Target}
 use Rattle.prem_word.specs.Bytes.{number_at}
+use Rattle.prem_plant.specs.declared.plant.Target.{Target}
 use Rattle.prem_isa.specs.declared.instr.Instr.{Instr}
 use Rattle.prem_isa.specs.declared.instr.Instr.TheVariants.{Lui, Auipc, Jal, Jalr, Branch, Load, Store, OpImm, Op, MulDiv, Fence, Ecall, Ebreak, PmMem, PmExec, PmEnd, PmDone, PmIn, PmOut}
 use Rattle.prem_isa.specs.declared.effect.Cause.TheVariants.{Align, Outside}
@@ -14,10 +14,9 @@ use Rattle.prem_isa.specs.Alu.{plus, holds, load_size, store_size}
 use Rattle.prem_isa.specs.Act.{sets, jumps, accesses, loads, stores}
 use Rattle.prem_isa.specs.Bounds.{OnDone}
 use Rattle.prem_isa.specs.Plain.{TaskState, Did}
-use Rattle.prem_meaning.specs.Statements.{MarkedCall}
-use Rattle.prem_template.specs.Terms.{only}
-use Rattle.prem_asm.specs.declared.piece.Test.{Test}
 use Rattle.prem_isa.proofs.Forms.{extended_done}
+use Rattle.prem_meaning.specs.Statements.{MarkedCall}
+use Rattle.prem_asm.specs.declared.piece.Test.{Test}
 use Rattle.prem_asm.specs.Pieces.{Pieces, no_pieces, straight, address_of, either, repeat, call_to, skip_words, jump, jump_to, address_code, skip_at, other_at, either_end, test_at, back_at, repeat_end}
 use Rattle.prem_asm.specs.Runs.{Guard, Setting, Calls, Ending, Falls, Returns, Stuck, with_trace, then_run, called, stepped, outcome_at, run_one, run_code, control, test_holds, taken_steps, other_steps, skip_steps, linked, Loop, left_loop, run_turns, run}
 use Rattle.prem_asm.specs.Steps.{AllSteps, Holds, Rules, Same, Grows}
@@ -26,17 +25,18 @@ use Rattle.prem_asm.proofs.Words.{stepped_by, choose_both}
 use Rattle.prem_asm.proofs.Every.{every}
 use Rattle.prem_asm.proofs.Quiet.{pieces_good}
 use Rattle.prem_asm.proofs.Grow.{guard_grows}
+use Rattle.prem_template.specs.Terms.{only}
 use Rattle.prem_code_laws.specs.ExprLaws.Gives.{IsKept, Gives}
 use Rattle.prem_code_laws.specs.ExprLaws.Registers.{AreWords, all_alu, alus, alu_steps}
 use Rattle.prem_code_laws.specs.ExprLaws.Relation.{Globals}
-use Rattle.prem_code_laws.proofs.ExprLawsLemmas.Runs.{code_goes}
 use Rattle.prem_code_laws.specs.GenLaws.Marks.{Stays, behind, Arrives, Marked}
+use Rattle.prem_code_laws.proofs.ExprLawsLemmas.Runs.{code_goes}
 use Rattle.prem_code_laws.proofs.GenLawsLemmas.Marks.{one_arrives, branch_arrives, behind_append, unmarked, marked_one}
 
 -- ---- runs one behind another
 
 module _ (target : Target) (size : ℕ) where
-  pub arrives_with : (t : TaskState) (trace : List Did) (mid : TaskState) (o : Ending) → behind target size trace t ≡ mid → Arrives target size mid o → Arrives target size t (with_trace trace o)
+  arrives_with : (t : TaskState) (trace : List Did) (mid : TaskState) (o : Ending) → behind target size trace t ≡ mid → Arrives target size mid o → Arrives target size t (with_trace trace o)
   arrives_with t trace mid (Falls u more) e h = behind_append target size trace more t ∙ ap (behind target size more) e ∙ h
   arrives_with t trace mid (Returns to u more) e h = behind_append target size trace more t ∙ ap (behind target size more) e ∙ h
   arrives_with t trace mid Stuck e h = tt

@@ -1,6 +1,6 @@
 -- Bounded loops, whose turns a counter in the frame counts down.
-use Rattle.std.proofs.Common.{◌≡◌, ℕ, zero, suc, ◌+◌, ◌-◌, ◌*◌, ◌%◌, ◌^◌, ◌<◌, ◌≤◌, refl, ap, ◌∙◌, sym, subst, arith, cond, eqb, not, true, false, Bool, List, [], ◌∷◌, ◌++◌, length, Ok, ◌⊎◌}
 use Rattle.std.specs.Prelude.{negsuc}
+use Rattle.std.proofs.Common.{◌≡◌, ℕ, zero, suc, ◌+◌, ◌-◌, ◌*◌, ◌%◌, ◌^◌, ◌<◌, ◌≤◌, refl, ap, ◌∙◌, sym, subst, arith, cond, eqb, not, true, false, Bool, List, [], ◌∷◌, ◌++◌, length, Ok, ◌⊎◌}
 use Rattle.std.proofs.Math.Dec.{eqb-suc-zero}
 use Rattle.prem_word.specs.Bytes.{number_at, put_number}
 use Rattle.prem_word.specs.Words.{truth}
@@ -21,16 +21,16 @@ use Rattle.prem_template.specs.Terms.{only, slot, nonzero, truth_code, term_code
 use Rattle.prem_template.specs.Steps.{load_slot, store_slot, count_code, turn_code}
 use Rattle.prem_code_laws.specs.ExprLaws.Registers.{alus}
 use Rattle.prem_code_laws.specs.ExprLaws.Relation.{Globals, Stack, Ground}
+use Rattle.prem_code_laws.specs.GenLaws.Fits.{Fits}
+use Rattle.prem_code_laws.specs.GenLaws.Matches.{Matches, slot_at, IsKept, Ends}
+use Rattle.prem_code_laws.specs.GenLaws.Marks.{Marked}
 use Rattle.prem_code_laws.proofs.ExprLawsLemmas.Runs.{loop_of, goes_then, alu_falls, before, after, turn_on, turn_off}
 use Rattle.prem_code_laws.proofs.ExprLawsLemmas.Puts.{reg_same, reg_other, reg_words, put_one}
 use Rattle.prem_code_laws.proofs.ExprLawsLemmas.Loads.{load_falls}
 use Rattle.prem_code_laws.proofs.ExprLawsLemmas.Cells.{slot_place, slot_readable}
 use Rattle.prem_code_laws.proofs.ExprLawsLemmas.Reach.{tested}
 use Rattle.prem_code_laws.proofs.ExprLawsLemmas.Terms.{then_ok, ok_of, same_ok, and_gives}
-use Rattle.prem_code_laws.specs.GenLaws.Fits.{Fits}
-use Rattle.prem_code_laws.specs.GenLaws.Matches.{Matches, slot_at, IsKept, Ends}
 use Rattle.prem_code_laws.proofs.GenLawsLemmas.Memory.{byte_apart, number_same, word_back, globals_stack, locals_apart, slots_apart}
-use Rattle.prem_code_laws.specs.GenLaws.Marks.{Marked}
 use Rattle.prem_code_laws.proofs.GenLawsLemmas.Quiet.{jumps, joined, quiet_term}
 use Rattle.prem_code_laws.proofs.GenLawsLemmas.Marks.{marked_nothing, marks_join, marked_branch, marked_jump, marked_other}
 use Rattle.prem_code_laws.proofs.GenLawsLemmas.Arrivals.{silent, gave, marked_gave, marked_quiet, one_stays}

@@ -1,6 +1,6 @@
 -- Calls: the arguments below x2, the call, and its target.
-use Rattle.std.proofs.Common.{◌≡◌, ◌≢◌, ℕ, zero, suc, ◌+◌, ◌-◌, ◌*◌, ◌%◌, ◌^◌, ◌<◌, ◌≤◌, refl, ap, ◌∙◌, sym, subst, arith, cond, Some, None, Option, true, Bool, List, [], ◌∷◌, ◌++◌, length, eq-eqb, Ok, ◌⊎◌}
 use Rattle.std.specs.Prelude.{slice_index}
+use Rattle.std.proofs.Common.{◌≡◌, ◌≢◌, ℕ, zero, suc, ◌+◌, ◌-◌, ◌*◌, ◌%◌, ◌^◌, ◌<◌, ◌≤◌, refl, ap, ◌∙◌, sym, subst, arith, cond, Some, None, Option, true, Bool, List, [], ◌∷◌, ◌++◌, length, eq-eqb, Ok, ◌⊎◌}
 use Rattle.prem_word.specs.Bytes.{number_at, put_number}
 use Rattle.prem_isa.specs.declared.instr.StoreOp.TheVariants.{Sw}
 use Rattle.prem_isa.specs.declared.effect.Phase.{Phase}
@@ -14,14 +14,14 @@ use Rattle.prem_asm.specs.Runs.{Calls, Setting, Ending, Falls, Stuck, with_trace
 use Rattle.prem_template.specs.Terms.{term_code}
 use Rattle.prem_template.specs.Steps.{Parts, argument_slot, store_argument, argument_code, target_code}
 use Rattle.prem_code_laws.specs.ExprLaws.Relation.{Globals, Stack, Ground, AreApart}
+use Rattle.prem_code_laws.specs.GenLaws.Fits.{AllFit, TargetFits, Callees, CallFits}
+use Rattle.prem_code_laws.specs.GenLaws.Matches.{Matches, slot_at, Ends, ArgumentsStand, CallRunsAt}
+use Rattle.prem_code_laws.specs.GenLaws.Marks.{Marked}
 use Rattle.prem_code_laws.proofs.ExprLawsLemmas.Runs.{goes_then, before, after}
 use Rattle.prem_code_laws.proofs.ExprLawsLemmas.Puts.{reg_same, reg_other, reg_words}
 use Rattle.prem_code_laws.proofs.ExprLawsLemmas.Cells.{all_between}
 use Rattle.prem_code_laws.proofs.ExprLawsLemmas.Terms.{then_ok, same_ok}
-use Rattle.prem_code_laws.specs.GenLaws.Fits.{AllFit, TargetFits, Callees, CallFits}
-use Rattle.prem_code_laws.specs.GenLaws.Matches.{Matches, slot_at, Ends, ArgumentsStand, CallRunsAt}
 use Rattle.prem_code_laws.proofs.GenLawsLemmas.Memory.{byte_apart, number_same, word_back, store_falls, globals_stack, locals_apart}
-use Rattle.prem_code_laws.specs.GenLaws.Marks.{Marked}
 use Rattle.prem_code_laws.proofs.GenLawsLemmas.Marks.{marked_nothing, marks_join, marked_link}
 use Rattle.prem_code_laws.proofs.GenLawsLemmas.Arrivals.{marked_gave, marked_quiet}
 use Rattle.prem_code_laws.proofs.GenLawsLemmas.Parts.{kept_floor, kept_top, evaluated, changed, still, value_word, none_then, local_then}
@@ -35,7 +35,7 @@ module _ (s : Setting) (calls : Calls) (gs : Globals) (may : Access) (k : Stack)
     pub marks : Marked s gs t trace to p.marks p.marks
     pub matches : Matches s gs k phase count p to
     pub kept : (a : ℕ) → k.sp ≤ a → to.view a ≡ t.view a
-    pub before_kept : (a : ℕ) → a < k.sp - frame + 4 + 4 * j → to.view a ≡ t.view a
+    before_kept : (a : ℕ) → a < k.sp - frame + 4 + 4 * j → to.view a ≡ t.view a
     pub stands : (i : ℕ) → i < length ws → number_at to.view (k.sp - frame + 4 + 4 * (j + i)) 4 ≡ slice_index ws i
     pub word : (i : ℕ) → i < length ws → slice_index ws i < 2 ^ 32
 
@@ -121,7 +121,7 @@ module _ (s : Setting) (calls : Calls) (gs : Globals) (may : Access) (k : Stack)
         small_at zero w ws lt small h = small
         small_at (suc i) w ws lt small h = h i (omega arith)
 
-  pub values_length : (es : List Term) (p : ProgramState) (ws : List ℕ) → values may p es ≡ Ok ws → length ws ≡ length es
+  values_length : (es : List Term) (p : ProgramState) (ws : List ℕ) → values may p es ≡ Ok ws → length ws ≡ length es
   values_length [] p ws is = let e : [] ≡ ws = same_ok [] ws is in ap length (sym e)
   values_length (e ∷ es) p ws is =
       let x = then_ok (value may p e) _ ws is in

@@ -1,6 +1,6 @@
 -- Stores to globals, outputs and inputs, and what follows them.
-use Rattle.std.proofs.Common.{◌≡◌, ℕ, suc, ◌+◌, ◌*◌, ◌%◌, ◌^◌, ◌<◌, ◌≤◌, refl, ap, ◌∙◌, sym, subst, arith, cond, Some, true, List, [], ◌∷◌, ◌++◌, length, append-nil, eq-eqb, ◌⊎◌, All, Ok}
 use Rattle.std.specs.Prelude.{pos}
+use Rattle.std.proofs.Common.{◌≡◌, ℕ, suc, ◌+◌, ◌*◌, ◌%◌, ◌^◌, ◌<◌, ◌≤◌, refl, ap, ◌∙◌, sym, subst, arith, cond, Some, true, List, [], ◌∷◌, ◌++◌, length, append-nil, eq-eqb, ◌⊎◌, All, Ok}
 use Rattle.prem_word.specs.Bytes.{put_number}
 use Rattle.prem_isa.specs.declared.instr.Instr.TheVariants.{Store, Op, PmIn, PmOut}
 use Rattle.prem_isa.specs.declared.instr.AluOp.TheVariants.{Add}
@@ -18,11 +18,11 @@ use Rattle.prem_template.specs.Terms.{shift_of, scale}
 use Rattle.prem_template.specs.Steps.{store_slot, store_of, scalar_store, element_store}
 use Rattle.prem_code_laws.specs.ExprLaws.Registers.{alus, alu_steps, AreWords}
 use Rattle.prem_code_laws.specs.ExprLaws.Relation.{Globals, Stack, Ground, AreApart, IsOutside, element_at, element_size}
+use Rattle.prem_code_laws.specs.GenLaws.Matches.{Matches, slot_at, IsKept, Ends}
 use Rattle.prem_code_laws.proofs.ExprLawsLemmas.Runs.{alu_falls, addressed, before, after}
 use Rattle.prem_code_laws.proofs.ExprLawsLemmas.Puts.{reg_same, reg_other, reg_words, address_puts, put_one}
 use Rattle.prem_code_laws.proofs.ExprLawsLemmas.Cells.{cell_found, reached}
 use Rattle.prem_code_laws.proofs.ExprLawsLemmas.Terms.{then_ok, same_ok}
-use Rattle.prem_code_laws.specs.GenLaws.Matches.{Matches, slot_at, IsKept, Ends}
 use Rattle.prem_code_laws.proofs.GenLawsLemmas.Memory.{byte_apart, store_falls, size_same, globals_set, locals_apart}
 use Rattle.prem_code_laws.proofs.GenLawsLemmas.Quiet.{quiet_scale, address_five}
 use Rattle.prem_code_laws.proofs.GenLawsLemmas.Marks.{marks_join}

@@ -1,6 +1,6 @@
 -- Counting loops.
-use Rattle.std.proofs.Common.{◌≡◌, ℕ, zero, suc, ◌+◌, ◌-◌, ◌%◌, ◌^◌, ◌<◌, ◌≤◌, refl, ap, ◌∙◌, sym, subst, arith, cond, not, true, false, Bool, List, [], ◌∷◌, ◌++◌, length, Ok, Err}
 use Rattle.std.specs.Prelude.{pos, negsuc, ◌+ℤ◌, int_lt, slice_index}
+use Rattle.std.proofs.Common.{◌≡◌, ℕ, zero, suc, ◌+◌, ◌-◌, ◌%◌, ◌^◌, ◌<◌, ◌≤◌, refl, ap, ◌∙◌, sym, subst, arith, cond, not, true, false, Bool, List, [], ◌∷◌, ◌++◌, length, Ok, Err}
 use Rattle.std.proofs.lemmas.Bool.{cond_both, lt-ltb}
 use Rattle.prem_word.specs.declared.kind.Kind.TheVariants.{Int}
 use Rattle.prem_word.specs.Words.{value_in, word_of}
@@ -18,14 +18,14 @@ use Rattle.prem_asm.specs.Runs.{Calls, Setting, Ending, Falls, run, run_turns, t
 use Rattle.prem_template.specs.Terms.{only, term_code}
 use Rattle.prem_template.specs.Steps.{load_slot, store_slot, bound_test, step_code}
 use Rattle.prem_code_laws.specs.ExprLaws.Relation.{Globals, Stack, Ground}
+use Rattle.prem_code_laws.specs.GenLaws.Fits.{Fits}
+use Rattle.prem_code_laws.specs.GenLaws.Matches.{Matches, slot_at, Ends}
+use Rattle.prem_code_laws.specs.GenLaws.Marks.{Marked}
 use Rattle.prem_code_laws.proofs.ExprLawsLemmas.Runs.{loop_of, before, after, turn_on, turn_off}
 use Rattle.prem_code_laws.proofs.ExprLawsLemmas.Puts.{reg_same, reg_other, reg_words}
 use Rattle.prem_code_laws.proofs.ExprLawsLemmas.Loads.{load_falls}
 use Rattle.prem_code_laws.proofs.ExprLawsLemmas.Cells.{slot_place, slot_readable}
 use Rattle.prem_code_laws.proofs.ExprLawsLemmas.Terms.{then_ok, same_ok}
-use Rattle.prem_code_laws.specs.GenLaws.Fits.{Fits}
-use Rattle.prem_code_laws.specs.GenLaws.Matches.{Matches, slot_at, Ends}
-use Rattle.prem_code_laws.specs.GenLaws.Marks.{Marked}
 use Rattle.prem_code_laws.proofs.GenLawsLemmas.Marks.{marks_join, marked_branch, marked_jump, marked_other}
 use Rattle.prem_code_laws.proofs.GenLawsLemmas.Arrivals.{marked_gave, marked_quiet}
 use Rattle.prem_code_laws.proofs.GenLawsLemmas.Parts.{evaluated, changed, still, ends_then, none_then, local_then, load_then, add_then, ends_nothing}

@@ -1,6 +1,6 @@
 -- A function's frame: how it is opened and closed, and what stands in it.
-use Rattle.std.proofs.Common.{◌≡◌, ℕ, suc, ◌+◌, ◌-◌, ◌*◌, ◌/◌, ◌%◌, ◌^◌, ◌<◌, ◌≤◌, refl, ap, ◌∙◌, sym, subst, arith, cond, true, List, [], ◌∷◌, ◌++◌, length, length-append, eq-eqb, Ok, ◌⊎◌}
 use Rattle.std.specs.Prelude.{pos, negsuc}
+use Rattle.std.proofs.Common.{◌≡◌, ℕ, suc, ◌+◌, ◌-◌, ◌*◌, ◌/◌, ◌%◌, ◌^◌, ◌<◌, ◌≤◌, refl, ap, ◌∙◌, sym, subst, arith, cond, true, List, [], ◌∷◌, ◌++◌, length, length-append, eq-eqb, Ok, ◌⊎◌}
 use Rattle.prem_word.specs.Bytes.{put_number}
 use Rattle.prem_isa.specs.declared.instr.Instr.TheVariants.{Load, Store, OpImm, Jalr}
 use Rattle.prem_isa.specs.declared.instr.LoadOp.TheVariants.{Lw}
@@ -16,19 +16,19 @@ use Rattle.prem_meaning.specs.Expressions.{Access}
 use Rattle.prem_meaning.specs.Statements.{ProgramState, value, declare, with_new_local}
 use Rattle.prem_asm.specs.Pieces.{straight, size_of}
 use Rattle.prem_asm.specs.Runs.{Calls, Setting, Falls, Returns, with_trace, then_run, stepped, run_one, run_code, run, control, all_of}
+use Rattle.prem_asm.specs.Steps.{AllSteps}
 use Rattle.prem_template.specs.Terms.{only, term_code}
 use Rattle.prem_template.specs.Steps.{store_slot, opening, closing, declare_code}
 use Rattle.prem_code_laws.specs.ExprLaws.Registers.{alus, AreWords}
 use Rattle.prem_code_laws.specs.ExprLaws.Relation.{Globals, Stack, Ground}
+use Rattle.prem_code_laws.specs.GenLaws.Matches.{Matches, slot_at, Ends}
+use Rattle.prem_code_laws.specs.GenLaws.Functions.{DeclaredFit}
+use Rattle.prem_code_laws.specs.GenLaws.Marks.{Stays, Marked}
 use Rattle.prem_code_laws.proofs.ExprLawsLemmas.Runs.{goes_then, alu_falls, before, after}
 use Rattle.prem_code_laws.proofs.ExprLawsLemmas.Puts.{reg_same, reg_other, reg_words, put_one}
 use Rattle.prem_code_laws.proofs.ExprLawsLemmas.Loads.{Readable, load_falls}
 use Rattle.prem_code_laws.proofs.ExprLawsLemmas.Terms.{then_ok, same_ok}
-use Rattle.prem_code_laws.specs.GenLaws.Matches.{Matches, slot_at, Ends}
-use Rattle.prem_code_laws.specs.GenLaws.Functions.{DeclaredFit}
 use Rattle.prem_code_laws.proofs.GenLawsLemmas.Memory.{byte_apart, store_falls, globals_stack, locals_push}
-use Rattle.prem_asm.specs.Steps.{AllSteps}
-use Rattle.prem_code_laws.specs.GenLaws.Marks.{Stays, Marked}
 use Rattle.prem_code_laws.proofs.GenLawsLemmas.Marks.{stays_append, marked_nothing, marks_join}
 use Rattle.prem_code_laws.proofs.GenLawsLemmas.Arrivals.{one_stays, marked_gave, marked_quiet}
 use Rattle.prem_code_laws.proofs.GenLawsLemmas.Parts.{beside_slot, evaluated, still, value_word, slot_falls}

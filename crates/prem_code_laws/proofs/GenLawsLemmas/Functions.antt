@@ -1,7 +1,7 @@
 -- The code of a function does what a call of it means.
-use Rattle.std.proofs.Common.{◌≡◌, ℕ, ◌+◌, ◌-◌, ◌*◌, ◌%◌, ◌^◌, ◌<◌, ◌≤◌, refl, ap, ◌∙◌, subst, arith, Some, None, Option, true, List, [], ◌++◌, length, Ok, ◌⊎◌}
 use Rattle.std.specs.Prelude.{is_some}
 use Rattle.std.specs.Int.{next_multiple_of}
+use Rattle.std.proofs.Common.{◌≡◌, ℕ, ◌+◌, ◌-◌, ◌*◌, ◌%◌, ◌^◌, ◌<◌, ◌≤◌, refl, ap, ◌∙◌, subst, arith, Some, None, Option, true, List, [], ◌++◌, length, Ok, ◌⊎◌}
 use Rattle.prem_word.specs.Bytes.{number_at, put_number}
 use Rattle.prem_isa.specs.declared.instr.Instr.{Instr}
 use Rattle.prem_isa.specs.declared.instr.LoadOp.TheVariants.{Lw}
@@ -12,23 +12,23 @@ use Rattle.prem_meaning.specs.Expressions.{Access}
 use Rattle.prem_meaning.specs.Statements.{ProgramState, MarkedCall, Calls as SourceCalls, declare, result_of, run as run_source}
 use Rattle.prem_asm.specs.Pieces.{Pieces, straight, size_of, followed}
 use Rattle.prem_asm.specs.Runs.{Calls, Setting, Ending, Falls, Returns, with_trace, then_run, run_code, run}
+use Rattle.prem_asm.specs.Steps.{AllSteps}
+use Rattle.prem_asm.proofs.Rows.{words-followed}
 use Rattle.prem_template.specs.Terms.{only, term_code}
 use Rattle.prem_template.specs.Frames.{locals_of, slots_of, frame_of}
 use Rattle.prem_template.specs.Steps.{Parts, opening, closing, declare_code, result_code, steps_code, function_code}
 use Rattle.prem_code_laws.specs.ExprLaws.Registers.{AreWords}
 use Rattle.prem_code_laws.specs.ExprLaws.Relation.{Globals, Stack, Ground}
-use Rattle.prem_code_laws.proofs.ExprLawsLemmas.Runs.{run_followed}
-use Rattle.prem_code_laws.proofs.ExprLawsLemmas.Loads.{Readable}
-use Rattle.prem_code_laws.proofs.ExprLawsLemmas.Cells.{all_between}
-use Rattle.prem_code_laws.proofs.ExprLawsLemmas.Terms.{then_ok, same_ok}
 use Rattle.prem_code_laws.specs.GenLaws.Fits.{Callees}
 use Rattle.prem_code_laws.specs.GenLaws.Matches.{Matches, slot_at, IsKept, ArgumentsStand, Back, at_frame}
 use Rattle.prem_code_laws.specs.GenLaws.Laws.{with_globals, CalleesRun}
 use Rattle.prem_code_laws.specs.GenLaws.Functions.{ResultFits, FunctionFits, performed, FunctionRuns}
-use Rattle.prem_code_laws.proofs.GenLawsLemmas.Memory.{byte_apart, number_apart, number_same, word_back, globals_stack}
-use Rattle.prem_asm.specs.Steps.{AllSteps}
-use Rattle.prem_asm.proofs.Rows.{words-followed}
 use Rattle.prem_code_laws.specs.GenLaws.Marks.{Stays, Arrives, behind, Marked}
+use Rattle.prem_code_laws.proofs.ExprLawsLemmas.Runs.{run_followed}
+use Rattle.prem_code_laws.proofs.ExprLawsLemmas.Loads.{Readable}
+use Rattle.prem_code_laws.proofs.ExprLawsLemmas.Cells.{all_between}
+use Rattle.prem_code_laws.proofs.ExprLawsLemmas.Terms.{then_ok, same_ok}
+use Rattle.prem_code_laws.proofs.GenLawsLemmas.Memory.{byte_apart, number_apart, number_same, word_back, globals_stack}
 use Rattle.prem_code_laws.proofs.GenLawsLemmas.Marks.{unmarked, marked_nothing, marks_join}
 use Rattle.prem_code_laws.proofs.GenLawsLemmas.Arrivals.{silent, code_arrives, runs_arrive, marked_gave}
 use Rattle.prem_code_laws.proofs.GenLawsLemmas.Parts.{evaluated, still}
@@ -44,7 +44,7 @@ inner k frame slots = record { low = k.low; top = k.top; sp = k.sp - frame; slot
 pub rounded : (x : ℕ) → (next_multiple_of x 16 % 4 ≡ 0) × ((x ≤ next_multiple_of x 16) × (0 < x → 0 < next_multiple_of x 16))
 rounded x = (omega arith, (omega arith, λ h. omega arith))
 
-pub ground_inner : (s : Setting) (gs : Globals) (may : Access) (k : Stack) (frame slots : ℕ) → frame % 4 ≡ 0 → k.low + frame ≤ k.sp → 4 + 4 * slots ≤ frame → Ground s gs may k → Ground s gs may (inner k frame slots)
+ground_inner : (s : Setting) (gs : Globals) (may : Access) (k : Stack) (frame slots : ℕ) → frame % 4 ≡ 0 → k.low + frame ≤ k.sp → 4 + 4 * slots ≤ frame → Ground s gs may k → Ground s gs may (inner k frame slots)
 ground_inner s gs may k frame slots al space holds ground =
     let sal : k.sp % 4 ≡ 0 = ground.aligned in
     let room : k.sp + 4 + 4 * k.slots ≤ k.top = ground.room in

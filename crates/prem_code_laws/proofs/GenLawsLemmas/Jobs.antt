@@ -16,16 +16,16 @@ use Rattle.prem_template.specs.Terms.{only}
 use Rattle.prem_template.specs.Frames.{locals_of, slots_of, frame_of}
 use Rattle.prem_template.specs.Steps.{Parts, opening, closing, declare_code, result_code, steps_code, function_code}
 use Rattle.prem_code_laws.specs.ExprLaws.Relation.{Globals, Stack, Ground}
-use Rattle.prem_code_laws.proofs.ExprLawsLemmas.Loads.{Readable}
-use Rattle.prem_code_laws.proofs.ExprLawsLemmas.Cells.{all_between}
-use Rattle.prem_code_laws.proofs.ExprLawsLemmas.Terms.{then_ok, ok_of, same_ok}
 use Rattle.prem_code_laws.specs.GenLaws.Fits.{Callees}
 use Rattle.prem_code_laws.specs.GenLaws.Matches.{Matches, IsKept, ArgumentsStand}
 use Rattle.prem_code_laws.specs.GenLaws.Laws.{with_globals, CalleesAt}
 use Rattle.prem_code_laws.specs.GenLaws.Functions.{FunctionFits, performed}
 use Rattle.prem_code_laws.specs.GenLaws.Marks.{Arrives}
-use Rattle.prem_code_laws.proofs.GenLawsLemmas.Arrivals.{silent, code_arrives, runs_arrive}
 use Rattle.prem_code_laws.specs.GenLaws.Jobs.{Between, FrameBack, FrameRuns, JobRuns}
+use Rattle.prem_code_laws.proofs.ExprLawsLemmas.Loads.{Readable}
+use Rattle.prem_code_laws.proofs.ExprLawsLemmas.Cells.{all_between}
+use Rattle.prem_code_laws.proofs.ExprLawsLemmas.Terms.{then_ok, ok_of, same_ok}
+use Rattle.prem_code_laws.proofs.GenLawsLemmas.Arrivals.{silent, code_arrives, runs_arrive}
 use Rattle.prem_code_laws.proofs.GenLawsLemmas.Memory.{number_same, number_apart, word_back, globals_stack}
 use Rattle.prem_code_laws.proofs.GenLawsLemmas.Steps.{steps_end}
 use Rattle.prem_code_laws.proofs.GenLawsLemmas.Frames.{declared, Opened, opened, closed}

@@ -1,6 +1,6 @@
 -- Steps lead where runs end, and marks join.
-use Rattle.std.proofs.Common.{◌≡◌, ℕ, zero, suc, ◌+◌, ◌%◌, refl, ap, ◌∙◌, sym, subst, cond, eqb, true, false, Bool, List, [], ◌∷◌, ◌++◌, append_assoc, append-nil}
 use Rattle.std.specs.Prelude.{pos}
+use Rattle.std.proofs.Common.{◌≡◌, ℕ, zero, suc, ◌+◌, ◌%◌, refl, ap, ◌∙◌, sym, subst, cond, eqb, true, false, Bool, List, [], ◌∷◌, ◌++◌, append_assoc, append-nil}
 use Rattle.std.proofs.lemmas.Bool.{cond_both}
 use Rattle.prem_plant.specs.declared.plant.Target.{Target}
 use Rattle.prem_isa.specs.declared.instr.Instr.{Instr}

@@ -1,6 +1,6 @@
 -- Stores, and what they leave of globals and locals.
-use Rattle.std.proofs.Common.{◌≡◌, ◌≢◌, ℕ, suc, ◌+◌, ◌-◌, ◌*◌, ◌%◌, ◌^◌, ◌<◌, ◌≤◌, refl, ap, ◌∙◌, sym, subst, arith, cond, eqb, leb, ltb, Some, None, true, false, Bool, List, [], ◌∷◌, ◌++◌, length, length-append, eq-eqb, ◌⊎◌, ⊎_elim, get_or}
 use Rattle.std.specs.Prelude.{ℤ, pos, negsuc, slice_get, slice_index, slice_set, unwrap_or}
+use Rattle.std.proofs.Common.{◌≡◌, ◌≢◌, ℕ, suc, ◌+◌, ◌-◌, ◌*◌, ◌%◌, ◌^◌, ◌<◌, ◌≤◌, refl, ap, ◌∙◌, sym, subst, arith, cond, eqb, leb, ltb, Some, None, true, false, Bool, List, [], ◌∷◌, ◌++◌, length, length-append, eq-eqb, ◌⊎◌, ⊎_elim, get_or}
 use Rattle.std.proofs.lemmas.Bool.{cond_both, eqb-true, eqb-false, ltb-true, ltb-false, le-leb}
 use Rattle.std.proofs.lemmas.List.{get_or-set_same, get_or-set_other, length-set}
 use Rattle.std.proofs.lemmas.Option.{unwrap_or-slice_get, slice_get_past}
@@ -131,7 +131,7 @@ global_there globals g j lt = by (ltb g (length globals)) refl where
 
 module _ (s : Setting) (gs : Globals) (may : Access) (k : Stack) (ground : Ground s gs may k) where
   -- numbers outside the stack are the same
-  pub globals_outside : (globals : List (List ℕ)) (view view' : ℕ → ℕ) → GlobalsStand s gs globals view → ((b m : ℕ) → IsOutside k b m → number_at view' b m ≡ number_at view b m) → GlobalsStand s gs globals view'
+  globals_outside : (globals : List (List ℕ)) (view view' : ℕ → ℕ) → GlobalsStand s gs globals view → ((b m : ℕ) → IsOutside k b m → number_at view' b m ≡ number_at view b m) → GlobalsStand s gs globals view'
   globals_outside globals view view' h out = record {
     shaped = h.shaped;
     stands = λ g j lt. ap (loaded (load_of (gs.type g))) (out (element_at s gs g j) (element_size (gs.type g)) (ground.elements g j lt).outside) ∙ h.stands g j lt;
@@ -139,7 +139,7 @@ module _ (s : Setting) (gs : Globals) (may : Access) (k : Stack) (ground : Groun
   }
 
   -- a store in the stack
-  pub stack_apart : (n a w : ℕ) (view : ℕ → ℕ) → k.low ≤ a → a + n ≤ k.top → (b m : ℕ) → IsOutside k b m → number_at (put_number n a w view) b m ≡ number_at view b m
+  stack_apart : (n a w : ℕ) (view : ℕ → ℕ) → k.low ≤ a → a + n ≤ k.top → (b m : ℕ) → IsOutside k b m → number_at (put_number n a w view) b m ≡ number_at view b m
   stack_apart n a w view le ge b m out = number_apart n a w view b m (by out) where
     by : IsOutside k b m → AreApart b m a n
     by h = grind arith

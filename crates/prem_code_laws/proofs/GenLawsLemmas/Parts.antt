@@ -1,6 +1,6 @@
 -- Parts of the code of statements, and what follows them.
-use Rattle.std.proofs.Common.{◌≡◌, ℕ, ◌+◌, ◌*◌, ◌%◌, ◌^◌, ◌<◌, ◌≤◌, refl, ◌∙◌, sym, subst, arith, eqb, not, true, false, Bool, List, [], ◌∷◌, ◌++◌, length, ◌⊎◌, Ok}
 use Rattle.std.specs.Prelude.{ℤ}
+use Rattle.std.proofs.Common.{◌≡◌, ℕ, ◌+◌, ◌*◌, ◌%◌, ◌^◌, ◌<◌, ◌≤◌, refl, ◌∙◌, sym, subst, arith, eqb, not, true, false, Bool, List, [], ◌∷◌, ◌++◌, length, ◌⊎◌, Ok}
 use Rattle.std.proofs.lemmas.List.{length-set}
 use Rattle.prem_word.specs.Bytes.{number_at, put_number}
 use Rattle.prem_isa.specs.declared.instr.Instr.{Instr}
@@ -17,23 +17,23 @@ use Rattle.prem_meaning.specs.Expressions.{Outcome, Access}
 use Rattle.prem_meaning.specs.Statements.{ProgramState, MarkedCall, value, with_local, store}
 use Rattle.prem_asm.specs.Pieces.{Pieces, no_pieces, straight, either, size_of, followed, skip_words, skip_at, other_at, either_end}
 use Rattle.prem_asm.specs.Runs.{Calls, Setting, Ending, Falls, run_one, run, control, taken_steps, other_steps, skip_steps}
+use Rattle.prem_asm.specs.Steps.{AllSteps}
 use Rattle.prem_template.specs.Terms.{slot, nonzero, term_code}
 use Rattle.prem_template.specs.Steps.{load_slot, store_slot}
 use Rattle.prem_code_laws.specs.ExprLaws.Registers.{alus, AreWords}
 use Rattle.prem_code_laws.specs.ExprLaws.Relation.{Globals, Stack, Ground}
 use Rattle.prem_code_laws.specs.ExprLaws.Gives.{Gives}
-use Rattle.prem_asm.specs.Steps.{AllSteps}
+use Rattle.prem_code_laws.specs.GenLaws.Fits.{Fits}
+use Rattle.prem_code_laws.specs.GenLaws.Matches.{Matches, slot_at, IsKept, Ends}
+use Rattle.prem_code_laws.specs.GenLaws.Marks.{Stays}
 use Rattle.prem_code_laws.proofs.ExprLawsLemmas.Runs.{goes_then, alu_falls, before, after, either_on, either_off, on_steps, off_steps}
 use Rattle.prem_code_laws.proofs.ExprLawsLemmas.Puts.{reg_same, reg_other, reg_words, put_one}
 use Rattle.prem_code_laws.proofs.ExprLawsLemmas.Loads.{load_falls}
 use Rattle.prem_code_laws.proofs.ExprLawsLemmas.Cells.{all_between, slot_place, slot_readable}
 use Rattle.prem_code_laws.proofs.ExprLawsLemmas.Reach.{tested}
 use Rattle.prem_code_laws.proofs.ExprLawsLemmas.Terms.{term_runs}
-use Rattle.prem_code_laws.specs.GenLaws.Fits.{Fits}
-use Rattle.prem_code_laws.specs.GenLaws.Matches.{Matches, slot_at, IsKept, Ends}
 use Rattle.prem_code_laws.proofs.GenLawsLemmas.Memory.{byte_apart, store_falls, globals_stack, locals_set}
 use Rattle.prem_code_laws.proofs.GenLawsLemmas.Quiet.{quiet_term}
-use Rattle.prem_code_laws.specs.GenLaws.Marks.{Stays}
 use Rattle.prem_code_laws.proofs.GenLawsLemmas.Marks.{marked_nothing, marks_join, marked_one, marked_branch, marked_other, marked_skip}
 use Rattle.prem_code_laws.proofs.GenLawsLemmas.Arrivals.{Gave, silent, gave, marked_gave, one_stays}
 
@@ -146,7 +146,7 @@ module _ (s : Setting) (calls : Calls) (gs : Globals) (may : Access) (k : Stack)
         (all_between s.guard.store k.low k.top ground.stores 4 (slot_at k i) (omega arith) (omega arith))
 
     -- x10 into a local
-    pub stored_matches : (i : ℕ) (t : TaskState) (p : ProgramState) (w : ℕ) → count ≤ k.slots → Matches s gs k phase count p t → i < count → w < 2 ^ 32 → Matches s gs k phase count (with_local i w p) (record t { view = put_number 4 (slot_at k i) w t.view })
+    stored_matches : (i : ℕ) (t : TaskState) (p : ProgramState) (w : ℕ) → count ≤ k.slots → Matches s gs k phase count p t → i < count → w < 2 ^ 32 → Matches s gs k phase count (with_local i w p) (record t { view = put_number 4 (slot_at k i) w t.view })
     stored_matches i t p w fits m lt small =
         let room : k.sp + 4 + 4 * k.slots ≤ k.top = ground.room in
         let floor : k.low ≤ k.sp = ground.floor in

@@ -1,6 +1,6 @@
 -- The events of a task's own run are those of its steps.
-use Rattle.std.proofs.Common.{◌≡◌, ℕ, zero, suc, ◌+◌, ◌<◌, ◌≤◌, refl, ap, ◌∙◌, sym, subst, arith, cond, true, false, Bool, Some, None, Option, List, [], ◌∷◌, ◌++◌, length, length-append, append_assoc, append-nil}
 use Rattle.std.specs.Prelude.{Result, Ok, Err}
+use Rattle.std.proofs.Common.{◌≡◌, ℕ, zero, suc, ◌+◌, ◌<◌, ◌≤◌, refl, ap, ◌∙◌, sym, subst, arith, cond, true, false, Bool, Some, None, Option, List, [], ◌∷◌, ◌++◌, length, length-append, append_assoc, append-nil}
 use Rattle.prem_isa.specs.declared.instr.Instr.{Instr}
 use Rattle.prem_isa.specs.declared.effect.Cause.{Cause}
 use Rattle.prem_isa.specs.declared.effect.Change.{Change}
@@ -143,7 +143,7 @@ once : (own : TaskRun) (x : PlainState) → plain_steps own 1 x ≡ plain_step o
 unfolding plain_steps
 once own x = refl
 
-pub job_events : (own : TaskRun) (trace : List Did) (x : PlainState) → plain_trace own (length trace) x ≡ trace → (plain_steps own (length trace) x).ended ≤ x.ended →
+job_events : (own : TaskRun) (trace : List Did) (x : PlainState) → plain_trace own (length trace) x ≡ trace → (plain_steps own (length trace) x).ended ≤ x.ended →
     plain_events own (length trace) x ≡ events own.target own.size trace x.task
 unfolding plain_events
 job_events own [] x e le = refl

@@ -1,12 +1,12 @@
 -- The code of quiet functions is quiet: it stays in its phase, takes and puts no words, and keeps x4.
-use Rattle.std.proofs.Common.{◌≡◌, ◌≢◌, ℕ, zero, suc, ◌+◌, ◌≤◌, refl, ◌∙◌, arith, cond, eqb, true, false, Bool, List, [], ◌∷◌, length, Some, None, Option}
 use Rattle.std.specs.Prelude.{ℤ, pos}
-use Rattle.prem_plant.specs.declared.plant.Target.{Target}
-use Rattle.prem_plant.specs.declared.plant.Target.TheVariants.{Rv32i, Rv32im}
+use Rattle.std.proofs.Common.{◌≡◌, ◌≢◌, ℕ, zero, suc, ◌+◌, ◌≤◌, refl, ◌∙◌, arith, cond, eqb, true, false, Bool, List, [], ◌∷◌, length, Some, None, Option}
 use Rattle.prem_word.specs.declared.kind.Kind.{Kind}
 use Rattle.prem_word.specs.declared.kind.Kind.TheVariants.{Int, Unsigned}
 use Rattle.prem_word.specs.declared.kind.BinOp.{BinOp}
 use Rattle.prem_word.specs.declared.kind.BinOp.TheVariants.{Add as Plus, Sub as Minus, Mul, Div, Rem, Shl, Shr, Lt, Le, Gt, Ge, Eq, Ne, And as BitAnd, Xor as BitXor, Or as BitOr, AndAlso as AndAlsoOp, OrElse as OrElseOp}
+use Rattle.prem_plant.specs.declared.plant.Target.{Target}
+use Rattle.prem_plant.specs.declared.plant.Target.TheVariants.{Rv32i, Rv32im}
 use Rattle.prem_isa.specs.declared.instr.Instr.{Instr}
 use Rattle.prem_isa.specs.declared.instr.Instr.TheVariants.{OpImm, Op, MulDiv}
 use Rattle.prem_isa.specs.declared.instr.MulDivOp.{MulDivOp}

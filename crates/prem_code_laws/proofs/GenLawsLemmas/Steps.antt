@@ -14,13 +14,13 @@ use Rattle.prem_template.specs.Terms.{only, constant, nonzero, scale, shift_of, 
 use Rattle.prem_template.specs.Frames.{counters_in}
 use Rattle.prem_template.specs.Steps.{Parts, load_slot, store_slot, scalar_store, element_store, bound_test, step_code, count_code, turn_code, argument_code, target_code, steps_code}
 use Rattle.prem_code_laws.specs.ExprLaws.Relation.{Globals, Stack, Ground}
+use Rattle.prem_code_laws.specs.GenLaws.Fits.{Callees, StepsFit}
+use Rattle.prem_code_laws.specs.GenLaws.Matches.{Matches, Ends}
+use Rattle.prem_code_laws.specs.GenLaws.Laws.{with_globals, CalleesAt, StepsRun}
 use Rattle.prem_code_laws.proofs.ExprLawsLemmas.Puts.{constant_puts}
 use Rattle.prem_code_laws.proofs.ExprLawsLemmas.Loads.{puts_give}
 use Rattle.prem_code_laws.proofs.ExprLawsLemmas.Runs.{loop_of, repeated}
 use Rattle.prem_code_laws.proofs.ExprLawsLemmas.Terms.{then_ok, same_ok}
-use Rattle.prem_code_laws.specs.GenLaws.Fits.{Callees, StepsFit}
-use Rattle.prem_code_laws.specs.GenLaws.Matches.{Matches, Ends}
-use Rattle.prem_code_laws.specs.GenLaws.Laws.{with_globals, CalleesAt, StepsRun}
 use Rattle.prem_code_laws.proofs.GenLawsLemmas.Quiet.{quiet_constant}
 use Rattle.prem_code_laws.proofs.GenLawsLemmas.Marks.{marks_join}
 use Rattle.prem_code_laws.proofs.GenLawsLemmas.Arrivals.{silent, gave}

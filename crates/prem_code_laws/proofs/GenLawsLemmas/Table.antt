@@ -1,6 +1,6 @@
 -- Each function's code does what its calls mean, by induction on its number.
-use Rattle.std.proofs.Common.{◌≡◌, ◌≢◌, ℕ, zero, suc, ◌<◌, ◌≤◌, refl, ap, ◌∙◌, sym, subst, arith, cond, eqb, Some, None, Option, true, false, Bool, List, length, eq-eqb, Ok, Err}
 use Rattle.std.specs.Prelude.{slice_get, is_some}
+use Rattle.std.proofs.Common.{◌≡◌, ◌≢◌, ℕ, zero, suc, ◌<◌, ◌≤◌, refl, ap, ◌∙◌, sym, subst, arith, cond, eqb, Some, None, Option, true, false, Bool, List, length, eq-eqb, Ok, Err}
 use Rattle.std.proofs.lemmas.Bool.{eqb-true, eqb-false}
 use Rattle.prem_isa.specs.declared.effect.Phase.{Phase}
 use Rattle.prem_isa.specs.Plain.{TaskState}
@@ -148,7 +148,7 @@ meant_below limits routines may f (suc n) lt ws p = by (eqb f n) refl (λ less. 
   by true e again = let same : f ≡ n = eqb-true f n e in ap (λ g. enter_if_there limits (calls_below limits routines g) (slice_get routines g) g may f ws p) (sym same)
   by false e again = let n_is : f ≢ n = eqb-false f n e in again (omega arith)
 
-pub marked_access : (limits : Limits) (f : Routine) (n : ℕ) (may : Access) → is_marked f ≡ true → access_of limits f n may ≡ limits.inside n
+marked_access : (limits : Limits) (f : Routine) (n : ℕ) (may : Access) → is_marked f ≡ true → access_of limits f n may ≡ limits.inside n
 marked_access limits f n may e = ap (λ b. cond b (limits.inside n) may) e
 
 pub marked_run : MarkedRun
@@ -187,7 +187,7 @@ module _ (calls : SourceCalls) (may : Access) (f : Routine) (n : ℕ) (s : Progr
   with_locals (Ok t) = with_body (run_source may calls f.body t)
   with_locals (Err line) = refl
 
-pub noted_is : (calls : SourceCalls) (may : Access) (f : Routine) (n : ℕ) (ws : List ℕ) (s : ProgramState) → is_marked f ≡ true → enter calls may f n ws s ≡ noted n (λ ws q. performed calls may f ws q) ws s
+noted_is : (calls : SourceCalls) (may : Access) (f : Routine) (n : ℕ) (ws : List ℕ) (s : ProgramState) → is_marked f ≡ true → enter calls may f n ws s ≡ noted n (λ ws q. performed calls may f ws q) ws s
 noted_is calls may f n ws s marked = with_locals calls may f n s marked (declare may f.locals (record s { locals = ws }))
 
 pub marked_is_noted : MarkedIsNoted

@@ -14,14 +14,14 @@ use Rattle.prem_asm.proofs.Words.{words_run}
 use Rattle.prem_asm.proofs.Leads.{job_ends}
 use Rattle.prem_code_laws.specs.ExprLaws.Registers.{AreWords}
 use Rattle.prem_code_laws.specs.ExprLaws.Relation.{Globals}
-use Rattle.prem_code_laws.proofs.ExprLawsLemmas.Puts.{reg_words}
-use Rattle.prem_code_laws.proofs.ExprLawsLemmas.Terms.{then_ok, same_ok}
 use Rattle.prem_code_laws.specs.GenLaws.Jobs.{Between}
 use Rattle.prem_code_laws.specs.GenLaws.Marks.{Marked, Seen, seen_none, Noted, events_with, plain_events}
-use Rattle.prem_code_laws.proofs.GenLawsLemmas.Marks.{marked_nothing, marks_join, marked_link}
-use Rattle.prem_code_laws.proofs.GenLawsLemmas.PlainMarks.{first_of, one_event, noted_by, notes_join}
 use Rattle.prem_code_laws.specs.GenLaws.Land.{IsRunning, AllLand}
 use Rattle.prem_code_laws.specs.GenLaws.Whole.{StartStands, JobMeans, JobsDone, JobsRun}
+use Rattle.prem_code_laws.proofs.ExprLawsLemmas.Puts.{reg_words}
+use Rattle.prem_code_laws.proofs.ExprLawsLemmas.Terms.{then_ok, same_ok}
+use Rattle.prem_code_laws.proofs.GenLawsLemmas.Marks.{marked_nothing, marks_join, marked_link}
+use Rattle.prem_code_laws.proofs.GenLawsLemmas.PlainMarks.{first_of, one_event, noted_by, notes_join}
 
 no_trace : (own : TaskRun) (a : PlainState) → plain_trace own 0 a ≡ []
 unfolding plain_trace

@@ -1,15 +1,15 @@
 -- The code of terms has words.
-use Rattle.std.proofs.Common.{◌≡◌, ℕ, ◌+◌, ◌-◌, ◌*◌, ◌^◌, ◌<◌, ◌≤◌, arith, ltb, true, false, Bool, List, [], ◌∷◌, length, Some, None, Option}
 use Rattle.std.specs.Prelude.{pos}
+use Rattle.std.proofs.Common.{◌≡◌, ℕ, ◌+◌, ◌-◌, ◌*◌, ◌^◌, ◌<◌, ◌≤◌, arith, ltb, true, false, Bool, List, [], ◌∷◌, length, Some, None, Option}
 use Rattle.prem_isa.specs.declared.instr.Instr.TheVariants.{OpImm, PmOut}
 use Rattle.prem_isa.specs.declared.effect.Phase.{Phase}
 use Rattle.prem_isa.specs.declared.instr.AluOp.TheVariants.{Add}
 use Rattle.prem_isa.specs.Decode.{Fits as InstrFits}
+use Rattle.prem_meaning.specs.Resolved.{Term, Constant, Local, Scalar, Element, Unary, Binary, AndAlso, OrElse, Steps, Done as NoSteps, SetLocal, SetScalar, SetElement, Output, Input, If, For, While, Call}
 use Rattle.prem_asm.specs.Pieces.{Pieces, no_pieces, straight, either, repeat, call_to, followed}
 use Rattle.prem_asm.specs.Fit.{TestFits}
 use Rattle.prem_template.specs.Terms.{only, nonzero, unary_code, binary_code, truth_code, element_code, term_code}
 use Rattle.prem_template.specs.Limits.{too_deep, first_of, first_place}
-use Rattle.prem_meaning.specs.Resolved.{Term, Constant, Local, Scalar, Element, Unary, Binary, AndAlso, OrElse, Steps, Done as NoSteps, SetLocal, SetScalar, SetElement, Output, Input, If, For, While, Call}
 use Rattle.prem_template.specs.Frames.{counters_in, locals_of, slots_of, frame_of}
 use Rattle.prem_template.specs.Steps.{Parts, load_slot, store_slot, scalar_store, element_store, bound_test, step_code, argument_slot, store_argument, argument_code, target_code, steps_code, closing, declare_code, result_code, function_code}
 use Rattle.prem_template.proofs.Operators.{Fitting, fitting, constant_fits, slot_fits, scale_fits, unary_fits, Imm, i0, i1, less_one, Below, r0, r5, joined, binary_has}

@@ -1,10 +1,10 @@
 -- The run of a stub under a guard of its own.
-use Rattle.std.proofs.Common.{◌≡◌, ◌≢◌, ℕ, zero, suc, ◌+◌, ◌-◌, ◌*◌, ◌%◌, ◌^◌, ◌<◌, ◌≤◌, refl, ap, ◌∙◌, sym, subst, arith, cond, Bool, List, [], ◌∷◌, ◌++◌, append_assoc, length, eq-eqb, Ok}
 use Rattle.std.specs.Prelude.{None}
+use Rattle.std.proofs.Common.{◌≡◌, ◌≢◌, ℕ, zero, suc, ◌+◌, ◌-◌, ◌*◌, ◌%◌, ◌^◌, ◌<◌, ◌≤◌, refl, ap, ◌∙◌, sym, subst, arith, cond, Bool, List, [], ◌∷◌, ◌++◌, append_assoc, length, eq-eqb, Ok}
+use Rattle.prem_plant.specs.Places.{Extent}
 use Rattle.prem_isa.specs.declared.effect.Phase.TheVariants.{Compatible, Memory as MemoryPhase, Execution}
 use Rattle.prem_isa.specs.declared.effect.Change.TheVariants.{Stay}
 use Rattle.prem_isa.specs.Plain.{TaskState, Did}
-use Rattle.prem_plant.specs.Places.{Extent}
 use Rattle.prem_meaning.specs.Expressions.{Outcome, Access}
 use Rattle.prem_meaning.specs.Statements.{ProgramState}
 use Rattle.prem_asm.specs.Pieces.{call_to, size_of, jump_to}
@@ -12,18 +12,18 @@ use Rattle.prem_asm.specs.Runs.{Guard, Calls, Setting, Returns, Stuck, with_trac
 use Rattle.prem_layout.specs.Parts.{Passes as PassCount, pass_count}
 use Rattle.prem_layout.specs.Stubs.{passes_code}
 use Rattle.prem_code_laws.specs.ExprLaws.Relation.{Globals, Stack, Ground}
-use Rattle.prem_code_laws.proofs.ExprLawsLemmas.Puts.{reg_same, reg_other, reg_words}
 use Rattle.prem_code_laws.specs.GenLaws.Matches.{Matches, ArgumentsStand, slot_at}
 use Rattle.prem_code_laws.specs.GenLaws.Jobs.{Between}
-use Rattle.prem_code_laws.proofs.GenLawsLemmas.Memory.{number_same}
 use Rattle.prem_code_laws.specs.PrefetchLaws.Touches.{Passes, IsLineOf}
-use Rattle.prem_code_laws.proofs.PrefetchLawsLemmas.Ranges.{all_fetch}
 use Rattle.prem_code_laws.specs.PrefetchLaws.Premises.{Lines, AllInMemory, stub_code}
 use Rattle.prem_code_laws.specs.PrefetchLaws.Stubs.{memory_step}
 use Rattle.prem_code_laws.specs.PrefetchLaws.Confined.{with_guard, Confines, exec_step, end_step, return_step, ConfinedBack, ConfinedStubRuns}
+use Rattle.prem_code_laws.specs.GenLaws.Functions.{with_own_mark}
+use Rattle.prem_code_laws.proofs.ExprLawsLemmas.Puts.{reg_same, reg_other, reg_words}
+use Rattle.prem_code_laws.proofs.GenLawsLemmas.Memory.{number_same}
+use Rattle.prem_code_laws.proofs.PrefetchLawsLemmas.Ranges.{all_fetch}
 use Rattle.prem_code_laws.proofs.PrefetchLawsLemmas.Passes.{passes_words, prefetch_run}
 use Rattle.prem_code_laws.proofs.ExprLawsLemmas.Terms.{then_ok, same_ok}
-use Rattle.prem_code_laws.specs.GenLaws.Functions.{with_own_mark}
 use Rattle.prem_code_laws.proofs.GenLawsLemmas.Marks.{marks_left, leads_still}
 use Rattle.prem_code_laws.proofs.PrefetchLawsLemmas.Phases.{ending_code, execute_code, whole_code, stub_is, memory_falls, executed, ended, words_prefetch, memory_leads, prefetched_leads, executed_leads, ended_leads, section_leads, section_marked}
 

@@ -1,6 +1,6 @@
 -- Marked functions under a guard of their own.
-use Rattle.std.proofs.Common.{◌≡◌, ℕ, zero, suc, ◌+◌, ◌^◌, ◌<◌, ◌≤◌, refl, ap, ◌∙◌, sym, subst, arith, eqb, List, [], ◌∷◌, length, Ok}
 use Rattle.std.specs.Prelude.{is_some}
+use Rattle.std.proofs.Common.{◌≡◌, ℕ, zero, suc, ◌+◌, ◌^◌, ◌<◌, ◌≤◌, refl, ap, ◌∙◌, sym, subst, arith, eqb, List, [], ◌∷◌, length, Ok}
 use Rattle.prem_plant.specs.declared.plant.Target.{Target}
 use Rattle.prem_isa.specs.declared.instr.Instr.{Instr}
 use Rattle.prem_isa.specs.declared.effect.Phase.TheVariants.{Execution}
@@ -22,15 +22,15 @@ use Rattle.prem_asm.proofs.Every.{every}
 use Rattle.prem_template.specs.Frames.{frame_of}
 use Rattle.prem_template.specs.Steps.{Parts}
 use Rattle.prem_code_laws.specs.ExprLaws.Relation.{Globals, Stack}
-use Rattle.prem_code_laws.proofs.ExprLawsLemmas.Terms.{then_ok, ok_of, same_ok}
 use Rattle.prem_code_laws.specs.GenLaws.Fits.{Callees}
 use Rattle.prem_code_laws.specs.GenLaws.Matches.{at_frame}
 use Rattle.prem_code_laws.specs.GenLaws.Functions.{performed}
 use Rattle.prem_code_laws.specs.GenLaws.Table.{Codes, code_calls}
+use Rattle.prem_code_laws.specs.PrefetchLaws.Confined.{with_guard, Confines, MarkedStands, MarkedConfines, StoresStay}
+use Rattle.prem_code_laws.proofs.ExprLawsLemmas.Terms.{then_ok, ok_of, same_ok}
 use Rattle.prem_code_laws.proofs.GenLawsLemmas.Jobs.{frame_runs}
 use Rattle.prem_code_laws.proofs.GenLawsLemmas.Table.{by_number, code_called}
 use Rattle.prem_code_laws.proofs.GenLawsLemmas.Quiet.{one_holds}
-use Rattle.prem_code_laws.specs.PrefetchLaws.Confined.{with_guard, Confines, MarkedStands, MarkedConfines, StoresStay}
 use Rattle.prem_code_laws.proofs.PrefetchLawsLemmas.Calls.{quiet_keeps_four, quiet_keeps_interval}
 
 -- ---- stores

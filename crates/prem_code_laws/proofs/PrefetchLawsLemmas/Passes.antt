@@ -1,25 +1,25 @@
 -- The lines of all ranges come in, once or in a counted number of passes.
-use Rattle.std.proofs.Common.{◌≡◌, ◌≢◌, ℕ, zero, suc, ◌+◌, ◌-◌, ◌*◌, ◌%◌, ◌^◌, ◌<◌, refl, ap, ◌∙◌, sym, arith, not, List, [], ◌∷◌, ◌++◌, length, append_assoc, append-nil}
 use Rattle.std.specs.Prelude.{pos, negsuc}
+use Rattle.std.proofs.Common.{◌≡◌, ◌≢◌, ℕ, zero, suc, ◌+◌, ◌-◌, ◌*◌, ◌%◌, ◌^◌, ◌<◌, refl, ap, ◌∙◌, sym, arith, not, List, [], ◌∷◌, ◌++◌, length, append_assoc, append-nil}
 use Rattle.std.proofs.Math.Dec.{eqb-suc-zero}
+use Rattle.prem_plant.specs.Places.{Extent}
 use Rattle.prem_isa.specs.declared.instr.Instr.{Instr}
 use Rattle.prem_isa.specs.declared.instr.Instr.TheVariants.{OpImm}
 use Rattle.prem_isa.specs.declared.instr.AluOp.TheVariants.{Add}
 use Rattle.prem_isa.specs.Plain.{TaskState, Did}
-use Rattle.prem_plant.specs.Places.{Extent}
 use Rattle.prem_asm.specs.Pieces.{Pieces, no_pieces, repeat, test_at, repeat_end, words}
 use Rattle.prem_asm.specs.Runs.{Calls, Setting, Falls, with_trace, then_run, run, run_turns, Loop}
+use Rattle.prem_asm.specs.Steps.{AllSteps}
 use Rattle.prem_template.specs.Terms.{only, nonzero}
 use Rattle.prem_layout.specs.Parts.{Passes as PassCount, once, times, pass_count}
 use Rattle.prem_layout.specs.Stubs.{ranges_code, passes_code}
 use Rattle.prem_code_laws.specs.ExprLaws.Registers.{alus, alu_steps, AreWords}
+use Rattle.prem_code_laws.specs.PrefetchLaws.Touches.{Passes, IsFetch, IsLineOf}
+use Rattle.prem_code_laws.specs.PrefetchLaws.Premises.{Lines, AllInMemory}
 use Rattle.prem_code_laws.proofs.ExprLawsLemmas.Runs.{loop_of, with_with, alu_goes, code_goes, turn_on, turn_off}
 use Rattle.prem_code_laws.proofs.ExprLawsLemmas.Puts.{put_one}
 use Rattle.prem_code_laws.proofs.ExprLawsLemmas.Reach.{tested}
-use Rattle.prem_asm.specs.Steps.{AllSteps}
-use Rattle.prem_code_laws.specs.PrefetchLaws.Touches.{Passes, IsFetch, IsLineOf}
 use Rattle.prem_code_laws.proofs.PrefetchLawsLemmas.Ranges.{ranges_run, all_later, all_fetch}
-use Rattle.prem_code_laws.specs.PrefetchLaws.Premises.{Lines, AllInMemory}
 
 -- the words that count passes
 abbrev pub passes_words : PassCount → ℕ

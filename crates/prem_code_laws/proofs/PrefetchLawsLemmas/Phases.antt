@@ -1,7 +1,8 @@
 -- The phases of a stub: `pm.mem`, the stated length and `pm.exec`, `pm.end` and the return, and what their steps mark.
-use Rattle.std.proofs.Common.{◌≡◌, ◌≢◌, ℕ, ◌+◌, ◌*◌, ◌/◌, ◌%◌, ◌^◌, ◌<◌, refl, ap, ◌∙◌, sym, subst, arith, cond, List, [], ◌∷◌, ◌++◌, length, append-nil, eq-eqb}
 use Rattle.std.specs.Prelude.{pos, negsuc}
+use Rattle.std.proofs.Common.{◌≡◌, ◌≢◌, ℕ, ◌+◌, ◌*◌, ◌/◌, ◌%◌, ◌^◌, ◌<◌, refl, ap, ◌∙◌, sym, subst, arith, cond, List, [], ◌∷◌, ◌++◌, length, append-nil, eq-eqb}
 use Rattle.prem_plant.specs.declared.plant.Target.{Target}
+use Rattle.prem_plant.specs.Places.{Extent}
 use Rattle.prem_isa.specs.declared.instr.Instr.TheVariants.{Lui, OpImm, Jalr, PmMem, PmExec, PmEnd}
 use Rattle.prem_isa.specs.declared.instr.AluOp.TheVariants.{Add}
 use Rattle.prem_isa.specs.declared.effect.Phase.{Phase}
@@ -11,27 +12,26 @@ use Rattle.prem_isa.specs.declared.effect.Outcome.TheVariants.{Trap}
 use Rattle.prem_isa.specs.declared.effect.Cause.TheVariants.{Align}
 use Rattle.prem_isa.specs.Act.{goes, in_phase, changes, jumps, sets}
 use Rattle.prem_isa.specs.Plain.{TaskState, Did, did_of}
-use Rattle.prem_plant.specs.Places.{Extent}
 use Rattle.prem_meaning.specs.Statements.{ProgramState}
+use Rattle.prem_meaning.specs.Statements.{MarkedCall}
 use Rattle.prem_asm.specs.Pieces.{Pieces, no_pieces, straight, call_to, followed, words, address_code, upper, lower}
 use Rattle.prem_asm.specs.Runs.{Calls, Setting, Falls, Returns, Stuck, with_trace, then_run, run, run_one, run_code, stepped, control}
+use Rattle.prem_asm.specs.Steps.{AllSteps}
 use Rattle.prem_template.specs.Terms.{only}
 use Rattle.prem_layout.specs.Parts.{Passes as PassCount, once, times}
 use Rattle.prem_layout.specs.Stubs.{range_code, ranges_code, passes_code, return_code}
 use Rattle.prem_code_laws.specs.ExprLaws.Registers.{alu, alus, AreWords}
 use Rattle.prem_code_laws.specs.ExprLaws.Relation.{Globals}
-use Rattle.prem_code_laws.proofs.ExprLawsLemmas.Runs.{alu_falls}
-use Rattle.prem_code_laws.proofs.ExprLawsLemmas.Puts.{address_puts}
-use Rattle.prem_asm.specs.Steps.{AllSteps}
 use Rattle.prem_code_laws.specs.PrefetchLaws.Touches.{IsFetch, IsLineOf}
 use Rattle.prem_code_laws.specs.PrefetchLaws.Premises.{stub_code}
 use Rattle.prem_code_laws.specs.PrefetchLaws.Stubs.{memory_step}
 use Rattle.prem_code_laws.specs.PrefetchLaws.Confined.{exec_step, end_step, return_step}
-use Rattle.prem_code_laws.proofs.PrefetchLawsLemmas.Passes.{passes_words, words_ranges}
-use Rattle.prem_meaning.specs.Statements.{MarkedCall}
 use Rattle.prem_code_laws.specs.ExprLaws.Relation.{GlobalsStand}
 use Rattle.prem_code_laws.specs.GenLaws.Functions.{with_own_mark}
 use Rattle.prem_code_laws.specs.GenLaws.Marks.{Stays, behind, behind_step, Arrives, call_begins, call_opens, call_ends, Seen, seen_none, seen_call, Marked}
+use Rattle.prem_code_laws.proofs.ExprLawsLemmas.Runs.{alu_falls}
+use Rattle.prem_code_laws.proofs.ExprLawsLemmas.Puts.{address_puts}
+use Rattle.prem_code_laws.proofs.PrefetchLawsLemmas.Passes.{passes_words, words_ranges}
 use Rattle.prem_code_laws.proofs.GenLawsLemmas.Marks.{one_arrives, events_append, no_events, Leads, leads_join, leads_still}
 use Rattle.prem_code_laws.proofs.GenLawsLemmas.Arrivals.{silent, OfCalls, PartArrives, code_arrives, runs_arrive}
 use Rattle.prem_code_laws.proofs.PrefetchLawsLemmas.Passes.{Prefetched}
@@ -142,7 +142,7 @@ memory_leads s at t e =
     let a : behind s.target s.size (memory_step at ∷ []) t ≡ record t { phase = MemoryPhase } = subst (Arrives s.target s.size t) (memory_falls s at t e) (one_arrives s at PmMem t) in
     record { arrives = a; shows = ap (λ (u : TaskState). call_begins u.view ∷ []) a }
 
-pub fetches_stay : (line : ℕ) (Q : ℕ → Type 0) (phase : Phase) (ds : List Did) → AllSteps (IsFetch line Q phase) ds → AllSteps Stays ds
+fetches_stay : (line : ℕ) (Q : ℕ → Type 0) (phase : Phase) (ds : List Did) → AllSteps (IsFetch line Q phase) ds → AllSteps Stays ds
 fetches_stay line Q phase [] h = tt
 fetches_stay line Q phase (d ∷ ds) h = (h.0.1.0, fetches_stay line Q phase ds h.1)
 

@@ -1,10 +1,11 @@
 -- The loop over a range touches each of its lines.
-use Rattle.std.proofs.Common.{◌≡◌, ◌≢◌, ℕ, zero, suc, ◌+◌, ◌-◌, ◌*◌, ◌/◌, ◌%◌, ◌^◌, ◌<◌, ◌≤◌, refl, ap, ◌∙◌, sym, subst, arith, cond, eqb, leb, ltb, true, false, Bool, List, [], ◌∷◌, ◌++◌, length, eq-eqb, Some}
 use Rattle.std.specs.Prelude.{pos, Option, None}
-use Rattle.prem_isa.specs.declared.effect.Access.{Access}
+use Rattle.std.proofs.Common.{◌≡◌, ◌≢◌, ℕ, zero, suc, ◌+◌, ◌-◌, ◌*◌, ◌/◌, ◌%◌, ◌^◌, ◌<◌, ◌≤◌, refl, ap, ◌∙◌, sym, subst, arith, cond, eqb, leb, ltb, true, false, Bool, List, [], ◌∷◌, ◌++◌, length, eq-eqb, Some}
 use Rattle.std.proofs.Math.Nat.{mul-le-mul_left, div-mul-le_self, suc-mul, mul_comm, lt-div-mul-add}
 use Rattle.std.proofs.Math.Logic.{inl, inr}
 use Rattle.std.proofs.lemmas.Bool.{eqb-true, eqb-false, ltb-true, ltb-false, le-leb, lt-ltb}
+use Rattle.prem_plant.specs.Places.{Extent}
+use Rattle.prem_isa.specs.declared.effect.Access.{Access}
 use Rattle.prem_isa.specs.declared.instr.Instr.TheVariants.{Load, OpImm}
 use Rattle.prem_isa.specs.declared.instr.LoadOp.TheVariants.{Lw}
 use Rattle.prem_isa.specs.declared.instr.AluOp.TheVariants.{Add}
@@ -13,44 +14,43 @@ use Rattle.prem_isa.specs.declared.effect.Outcome.TheVariants.{Trap, Done}
 use Rattle.prem_isa.specs.declared.effect.Cause.TheVariants.{Align, Outside}
 use Rattle.prem_isa.specs.Act.{goes, accesses}
 use Rattle.prem_isa.specs.Plain.{TaskState, Did, did_of}
-use Rattle.prem_plant.specs.Places.{Extent}
+use Rattle.prem_isa.specs.declared.instr.Instr.{Instr}
+use Rattle.prem_isa.specs.declared.effect.Phase.{Phase}
+use Rattle.prem_isa.specs.declared.effect.Change.TheVariants.{Stay}
 use Rattle.prem_asm.specs.Pieces.{Pieces, no_pieces, repeat, address_code, test_at, repeat_end}
 use Rattle.prem_asm.specs.Runs.{Calls, Setting, Falls, Stuck, with_trace, then_run, run, run_one, run_turns, control, stepped, outcome_at, Loop}
+use Rattle.prem_asm.specs.Steps.{AllSteps}
 use Rattle.prem_template.specs.Terms.{only}
 use Rattle.prem_layout.specs.Footprint.{line_count}
 use Rattle.prem_layout.specs.Stubs.{is_below_end, range_code, ranges_code}
 use Rattle.prem_code_laws.specs.ExprLaws.Registers.{alus, alu_steps, AreWords}
-use Rattle.prem_code_laws.proofs.ExprLawsLemmas.Runs.{loop_of, with_with, nothing_before, alu_goes, alu_falls, before, after, turn_on, turn_off}
-use Rattle.prem_code_laws.proofs.ExprLawsLemmas.Puts.{put_one, address_puts}
-use Rattle.prem_isa.specs.declared.instr.Instr.{Instr}
-use Rattle.prem_isa.specs.declared.effect.Phase.{Phase}
-use Rattle.prem_isa.specs.declared.effect.Change.TheVariants.{Stay}
-use Rattle.prem_asm.specs.Steps.{AllSteps}
 use Rattle.prem_code_laws.specs.PrefetchLaws.Touches.{Touches, Covers, CoversAll, LoadsLine, IsFetch, IsLineOf}
 use Rattle.prem_code_laws.specs.PrefetchLaws.Premises.{Lines, InMemory, AllInMemory}
+use Rattle.prem_code_laws.proofs.ExprLawsLemmas.Runs.{loop_of, with_with, nothing_before, alu_goes, alu_falls, before, after, turn_on, turn_off}
+use Rattle.prem_code_laws.proofs.ExprLawsLemmas.Puts.{put_one, address_puts}
 
 -- ---- touches
 
-pub touched_later : (a : ℕ) (x y : List Did) → Touches a y → Touches a (x ++ y)
+touched_later : (a : ℕ) (x y : List Did) → Touches a y → Touches a (x ++ y)
 touched_later a [] y h = h
 touched_later a (d ∷ x) y h = inr (touched_later a x y h)
 
-pub touched_before : (a : ℕ) (x y : List Did) → Touches a x → Touches a (x ++ y)
+touched_before : (a : ℕ) (x y : List Did) → Touches a x → Touches a (x ++ y)
 touched_before a [] y h = absurd h
 touched_before a (d ∷ x) y (inl e) = inl e
 touched_before a (d ∷ x) y (inr r) = inr (touched_before a x y r)
 
-pub covered_later : (line : ℕ) (range : Extent) (x y : List Did) → Covers line range y → Covers line range (x ++ y)
+covered_later : (line : ℕ) (range : Extent) (x y : List Did) → Covers line range y → Covers line range (x ++ y)
 covered_later line range x y h = record { lines = λ l le lt. touched_later (l * line) x y (h.lines l le lt) }
 
-pub covered_before : (line : ℕ) (range : Extent) (x y : List Did) → Covers line range x → Covers line range (x ++ y)
+covered_before : (line : ℕ) (range : Extent) (x y : List Did) → Covers line range x → Covers line range (x ++ y)
 covered_before line range x y h = record { lines = λ l le lt. touched_before (l * line) x y (h.lines l le lt) }
 
 pub all_later : (line : ℕ) (ranges : List Extent) (x y : List Did) → CoversAll line ranges y → CoversAll line ranges (x ++ y)
 all_later line [] x y h = tt
 all_later line (range ∷ ranges) x y h = (covered_later line range x y h.0, all_later line ranges x y h.1)
 
-pub all_before : (line : ℕ) (ranges : List Extent) (x y : List Did) → CoversAll line ranges x → CoversAll line ranges (x ++ y)
+all_before : (line : ℕ) (ranges : List Extent) (x y : List Did) → CoversAll line ranges x → CoversAll line ranges (x ++ y)
 all_before line [] x y h = tt
 all_before line (range ∷ ranges) x y h = (covered_before line range x y h.0, all_before line ranges x y h.1)
 
@@ -60,7 +60,7 @@ pub all_fetch : (line : ℕ) (Q : ℕ → Type 0) (phase : Phase) (xs ys : List 
 all_fetch line Q phase [] ys h k = k
 all_fetch line Q phase (x ∷ xs) ys h k = (h.0, all_fetch line Q phase xs ys h.1 k)
 
-pub alu_fetch : (line : ℕ) (Q : ℕ → Type 0) (phase : Phase) (at : ℕ) (is : List Instr) → AllSteps (IsFetch line Q phase) (alu_steps at is phase)
+alu_fetch : (line : ℕ) (Q : ℕ → Type 0) (phase : Phase) (at : ℕ) (is : List Instr) → AllSteps (IsFetch line Q phase) (alu_steps at is phase)
 alu_fetch line Q phase at [] = tt
 alu_fetch line Q phase at (i ∷ is) = ((refl, (refl, tt)), alu_fetch line Q phase (at + 4) is)
 
@@ -68,7 +68,7 @@ loads_wider : (line : ℕ) (Q R : ℕ → Type 0) → ((l : ℕ) → Q l → R l
 loads_wider line Q R wide None h = tt
 loads_wider line Q R wide (Some a) h = (h.0, (h.1.0, (h.1.1.0, wide h.1.0 h.1.1.1)))
 
-pub fetch_wider : (line : ℕ) (Q R : ℕ → Type 0) (phase : Phase) → ((l : ℕ) → Q l → R l) → (xs : List Did) → AllSteps (IsFetch line Q phase) xs → AllSteps (IsFetch line R phase) xs
+fetch_wider : (line : ℕ) (Q R : ℕ → Type 0) (phase : Phase) → ((l : ℕ) → Q l → R l) → (xs : List Did) → AllSteps (IsFetch line Q phase) xs → AllSteps (IsFetch line R phase) xs
 fetch_wider line Q R phase wide [] h = tt
 fetch_wider line Q R phase wide (x ∷ xs) h = ((h.0.0, (h.0.1.0, loads_wider line Q R wide x.access h.0.1.1)), fetch_wider line Q R phase wide xs h.1)
 
@@ -227,7 +227,7 @@ pub record Fetched (s : Setting) (calls : Calls) (line at : ℕ) (ranges : List 
   pub fetches : AllSteps (IsFetch line (IsLineOf line ranges) t.phase) trace
 
 module _ (s : Setting) (calls : Calls) (line : ℕ) (fit : Lines s line) where
-  pub range_run : (at : ℕ) (range : Extent) (t : TaskState) → AreWords t.registers → InMemory s range → Fetched s calls line at (range ∷ []) (range_code line range) 36 t
+  range_run : (at : ℕ) (range : Extent) (t : TaskState) → AreWords t.registers → InMemory s range → Fetched s calls line at (range ∷ []) (range_code line range) 36 t
   range_run at range t ws m =
       let a = range.0 in
       let b = range.1 in

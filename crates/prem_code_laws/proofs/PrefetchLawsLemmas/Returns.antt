@@ -1,6 +1,6 @@
 -- The run of a stub that returns.
-use Rattle.std.proofs.Common.{◌≡◌, ℕ, ◌+◌, ◌*◌, ◌/◌, ◌%◌, refl, ap, ◌∙◌, sym, cond, eqb, true, false, Bool, List, [], ◌∷◌, ◌++◌, append_assoc, length}
 use Rattle.std.specs.Prelude.{pos, None}
+use Rattle.std.proofs.Common.{◌≡◌, ℕ, ◌+◌, ◌*◌, ◌/◌, ◌%◌, refl, ap, ◌∙◌, sym, cond, eqb, true, false, Bool, List, [], ◌∷◌, ◌++◌, append_assoc, length}
 use Rattle.std.proofs.lemmas.Bool.{eqb-true}
 use Rattle.prem_isa.specs.declared.instr.Instr.TheVariants.{Jalr, PmEnd}
 use Rattle.prem_isa.specs.declared.effect.Phase.{Phase}

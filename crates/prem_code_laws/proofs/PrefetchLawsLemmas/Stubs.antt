@@ -1,9 +1,9 @@
 -- The run of a stub.
 use Rattle.std.proofs.Common.{◌≡◌, ◌≢◌, ℕ, ◌+◌, ◌-◌, ◌*◌, ◌%◌, ◌^◌, ◌<◌, ◌≤◌, refl, ap, ◌∙◌, sym, subst, arith, cond, true, Bool, List, [], ◌∷◌, ◌++◌, length, eq-eqb, Ok}
+use Rattle.prem_plant.specs.Places.{Extent}
 use Rattle.prem_isa.specs.declared.effect.Phase.TheVariants.{Compatible, Memory as MemoryPhase, Execution}
 use Rattle.prem_isa.specs.Act.{with_register}
 use Rattle.prem_isa.specs.Plain.{TaskState}
-use Rattle.prem_plant.specs.Places.{Extent}
 use Rattle.prem_meaning.specs.Expressions.{Outcome, Access}
 use Rattle.prem_meaning.specs.Statements.{ProgramState}
 use Rattle.prem_asm.specs.Pieces.{call_to, size_of, jump_to}
@@ -11,15 +11,15 @@ use Rattle.prem_asm.specs.Runs.{Calls, Setting, Returns, Stuck, with_trace, then
 use Rattle.prem_layout.specs.Parts.{Passes as PassCount, pass_count}
 use Rattle.prem_layout.specs.Stubs.{passes_code}
 use Rattle.prem_code_laws.specs.ExprLaws.Relation.{Globals, Stack, Ground}
-use Rattle.prem_code_laws.proofs.ExprLawsLemmas.Puts.{reg_same, reg_other, reg_words}
-use Rattle.prem_code_laws.proofs.ExprLawsLemmas.Terms.{then_ok, same_ok}
 use Rattle.prem_code_laws.specs.GenLaws.Functions.{with_own_mark}
 use Rattle.prem_code_laws.specs.GenLaws.Matches.{Matches, ArgumentsStand, CallRuns}
-use Rattle.prem_code_laws.proofs.GenLawsLemmas.Marks.{marks_left, leads_still}
 use Rattle.prem_code_laws.specs.PrefetchLaws.Premises.{Lines, AllInMemory, stub_code}
 use Rattle.prem_code_laws.specs.PrefetchLaws.Touches.{IsLineOf}
 use Rattle.prem_code_laws.specs.PrefetchLaws.Stubs.{KeepsFour, KeepsInterval, memory_step, StubBack, StubRuns}
 use Rattle.prem_code_laws.specs.PrefetchLaws.Confined.{exec_step, end_step, return_step}
+use Rattle.prem_code_laws.proofs.ExprLawsLemmas.Puts.{reg_same, reg_other, reg_words}
+use Rattle.prem_code_laws.proofs.ExprLawsLemmas.Terms.{then_ok, same_ok}
+use Rattle.prem_code_laws.proofs.GenLawsLemmas.Marks.{marks_left, leads_still}
 use Rattle.prem_code_laws.proofs.PrefetchLawsLemmas.Passes.{passes_words, prefetch_run}
 use Rattle.prem_code_laws.proofs.PrefetchLawsLemmas.Phases.{ending_code, execute_code, whole_code, stub_is, memory_falls, executed, ended, words_prefetch, memory_leads, prefetched_leads, executed_leads, ended_leads, section_leads, section_marked}
 

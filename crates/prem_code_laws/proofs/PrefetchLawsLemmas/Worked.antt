@@ -2,15 +2,15 @@
 --   int g;
 --   PREDICTABLE(491) REGION(g, 0, 0) void set(int x RANGE(0, 9)) { g = x; }
 --   void job(void) { set(7); out(g); }
-use Rattle.std.proofs.Common.{◌≡◌, ◌≢◌, ℕ, ◌+◌, ◌<◌, refl, ◌∙◌, sym, subst, arith, cond, eqb, leb, true, false, Bool, List, [], ◌∷◌, Some, None}
 use Rattle.std.specs.Prelude.{codes, slice_index}
+use Rattle.std.proofs.Common.{◌≡◌, ◌≢◌, ℕ, ◌+◌, ◌<◌, refl, ◌∙◌, sym, subst, arith, cond, eqb, leb, true, false, Bool, List, [], ◌∷◌, Some, None}
 use Rattle.std.proofs.Math.Logic.{inl, inr}
 use Rattle.std.proofs.lemmas.Bool.{eqb-true, le-leb}
-use Rattle.prem_plant.specs.declared.plant.Target.TheVariants.{Rv32i}
 use Rattle.prem_word.specs.declared.kind.Kind.TheVariants.{Int}
+use Rattle.prem_plant.specs.declared.plant.Target.TheVariants.{Rv32i}
+use Rattle.prem_plant.specs.Places.{Extent}
 use Rattle.prem_isa.specs.declared.effect.Phase.TheVariants.{Compatible, Execution}
 use Rattle.prem_isa.specs.Plain.{TaskState}
-use Rattle.prem_plant.specs.Places.{Extent}
 use Rattle.prem_syntax.specs.declared.tree.Place.{Place as TextPlace}
 use Rattle.prem_syntax.specs.declared.tree.Ty.TheVariants.{Void, Int as IntTy}
 use Rattle.prem_syntax.specs.Syntax.{no_statements}
@@ -21,22 +21,22 @@ use Rattle.prem_meaning.specs.Source.{Limits, calls_below, everywhere}
 use Rattle.prem_asm.specs.Pieces.{no_pieces}
 use Rattle.prem_asm.specs.Runs.{Setting, Calls, run}
 use Rattle.prem_asm.specs.Quiet.{IsQuiet, EachPiece}
-use Rattle.prem_layout.specs.Parts.{once, times}
 use Rattle.prem_template.specs.Steps.{Parts, function_code}
 use Rattle.prem_template.specs.Parts.{parts_of}
+use Rattle.prem_layout.specs.Parts.{once, times}
 use Rattle.prem_code_laws.specs.ExprLaws.Relation.{Globals, Stack, Ground}
 use Rattle.prem_code_laws.specs.GenLaws.Fits.{Callees}
 use Rattle.prem_code_laws.specs.GenLaws.Matches.{CallRuns, at_frame}
 use Rattle.prem_code_laws.specs.GenLaws.Laws.{with_globals, CalleesRun}
 use Rattle.prem_code_laws.specs.GenLaws.Functions.{FunctionFits, performed, noted}
-use Rattle.prem_code_laws.proofs.GenLawsLemmas.Table.{same_call, marked_is_noted}
 use Rattle.prem_code_laws.specs.GenLaws.Jobs.{Between, JobBack}
 use Rattle.prem_code_laws.specs.GenLaws.Table.{Codes, code_calls, stub_calls, StubsFit}
+use Rattle.prem_code_laws.specs.PrefetchLaws.Premises.{Lines, AllInMemory, stub_code}
+use Rattle.prem_code_laws.proofs.GenLawsLemmas.Table.{same_call, marked_is_noted}
 use Rattle.prem_code_laws.proofs.GenLawsLemmas.Functions.{function_runs}
 use Rattle.prem_code_laws.proofs.GenLawsLemmas.Jobs.{job_runs}
 use Rattle.prem_code_laws.proofs.GenLawsLemmas.Quiet.{quiet_function}
 use Rattle.prem_code_laws.proofs.GenLawsLemmas.Stubs.{stubs_join}
-use Rattle.prem_code_laws.specs.PrefetchLaws.Premises.{Lines, AllInMemory, stub_code}
 use Rattle.prem_code_laws.proofs.PrefetchLawsLemmas.Calls.{quiet_keeps_four, quiet_keeps_interval, stubs_are_called}
 
 abbrev at : TextPlace

@@ -1,5 +1,4 @@
 -- What the code of `job` does where a job begins: no caller's frame is above its own.
-use Rattle.prem_code_laws.specs.GenLaws.Matches.{ArgumentsStand}
 use Rattle.std.specs.Prelude.{Bool, true, length, is_some, ◌≡◌, ◌<◌, ◌≤◌, ℕ, ◌+◌, ◌%◌, ◌^◌, List, [], All, Ok}
 use Rattle.prem_isa.specs.declared.effect.Phase.{Phase}
 use Rattle.prem_isa.specs.Plain.{TaskState, Did}
@@ -9,6 +8,7 @@ use Rattle.prem_meaning.specs.Statements.{ProgramState, MarkedCall, Calls as Sou
 use Rattle.prem_asm.specs.Runs.{Setting, Ending, Returns, run, Calls as CodeCalls}
 use Rattle.prem_template.specs.Frames.{slots_of, frame_of}
 use Rattle.prem_template.specs.Steps.{Parts, function_code}
+use Rattle.prem_code_laws.specs.GenLaws.Matches.{ArgumentsStand}
 use Rattle.prem_code_laws.specs.ExprLaws.Registers.{AreWords}
 use Rattle.prem_code_laws.specs.ExprLaws.Relation.{Globals, Stack, Ground, GlobalsStand}
 use Rattle.prem_code_laws.specs.GenLaws.Fits.{Callees}

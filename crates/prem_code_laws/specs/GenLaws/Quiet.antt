@@ -1,11 +1,11 @@
 -- Statements without inputs and outputs, whose calls leave the link register of stubs alone.
 use Rattle.std.specs.Prelude.{◌≢◌, ⊤, ℕ}
-use Rattle.prem_meaning.specs.Resolved.{Steps, Done as NoSteps, SetLocal, SetScalar, SetElement, Output, Input, If, For, While, Call}
 use Rattle.prem_isa.specs.Plain.{TaskState}
+use Rattle.prem_meaning.specs.Resolved.{Steps, Done as NoSteps, SetLocal, SetScalar, SetElement, Output, Input, If, For, While, Call}
+use Rattle.prem_meaning.specs.Resolved.{Routine}
 use Rattle.prem_asm.specs.Runs.{Setting}
 use Rattle.prem_asm.specs.Steps.{Holds}
 use Rattle.prem_asm.specs.Quiet.{IsQuiet, StaysAs, InPhase, EachPiece}
-use Rattle.prem_meaning.specs.Resolved.{Routine}
 use Rattle.prem_template.specs.Steps.{Parts, function_code}
 use Rattle.prem_code_laws.specs.GenLaws.Table.{Codes, code_calls}
 

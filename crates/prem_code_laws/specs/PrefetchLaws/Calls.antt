@@ -1,7 +1,7 @@
 -- Stubs as callees.
 use Rattle.std.specs.Prelude.{◌≡◌, ◌<◌, ℕ, ◌+◌, ◌%◌, ◌^◌, Bool, true, List}
-use Rattle.prem_isa.specs.declared.effect.Phase.TheVariants.{Compatible, Execution}
 use Rattle.prem_plant.specs.Places.{Extent}
+use Rattle.prem_isa.specs.declared.effect.Phase.TheVariants.{Compatible, Execution}
 use Rattle.prem_meaning.specs.Expressions.{Outcome, Access}
 use Rattle.prem_meaning.specs.Statements.{ProgramState}
 use Rattle.prem_asm.specs.Pieces.{size_of}

@@ -1,28 +1,28 @@
 -- A stub whose function runs under a guard of its own, which need not allow the caller's frame; and the steps of its call.
 use Rattle.std.specs.Prelude.{is_some, ◌≡◌, ◌<◌, ◌≤◌, ℕ, ◌+◌, ◌-◌, ◌%◌, ◌^◌, pos, Bool, false, List, [], ◌∷◌, ◌++◌, length, Ok, None}
+use Rattle.prem_plant.specs.Places.{Extent}
 use Rattle.prem_isa.specs.declared.instr.Instr.TheVariants.{Jalr, PmExec, PmEnd}
 use Rattle.prem_isa.specs.declared.effect.Phase.{Phase}
 use Rattle.prem_isa.specs.declared.effect.Phase.TheVariants.{Compatible, Memory as MemoryPhase, Execution}
 use Rattle.prem_isa.specs.declared.effect.Change.TheVariants.{Stay, Execute, End}
 use Rattle.prem_isa.specs.Plain.{TaskState, Did}
-use Rattle.prem_plant.specs.Places.{Extent}
 use Rattle.prem_meaning.specs.Expressions.{Outcome, Access}
 use Rattle.prem_meaning.specs.Statements.{ProgramState, MarkedCall}
 use Rattle.prem_meaning.specs.Resolved.{Routine}
 use Rattle.prem_meaning.specs.Source.{Limits, calls_below}
 use Rattle.prem_asm.specs.Quiet.{IsQuiet, EachPiece}
-use Rattle.prem_template.specs.Frames.{slots_of, frame_of}
-use Rattle.prem_template.specs.Steps.{Parts}
-use Rattle.prem_code_laws.specs.GenLaws.Fits.{Callees}
-use Rattle.prem_code_laws.specs.GenLaws.Table.{Codes, code_calls, TaskFits, MarkedFits}
 use Rattle.prem_asm.specs.Pieces.{size_of}
 use Rattle.prem_asm.specs.Runs.{Guard, Setting, Calls, Ending, Returns, run}
+use Rattle.prem_asm.specs.Steps.{AllSteps}
+use Rattle.prem_template.specs.Frames.{slots_of, frame_of}
+use Rattle.prem_template.specs.Steps.{Parts}
 use Rattle.prem_layout.specs.Parts.{Passes as PassCount, pass_count}
+use Rattle.prem_code_laws.specs.GenLaws.Fits.{Callees}
+use Rattle.prem_code_laws.specs.GenLaws.Table.{Codes, code_calls, TaskFits, MarkedFits}
 use Rattle.prem_code_laws.specs.ExprLaws.Relation.{Globals, Stack, Ground}
 use Rattle.prem_code_laws.specs.GenLaws.Functions.{performed, noted}
 use Rattle.prem_code_laws.specs.GenLaws.Matches.{Matches, ArgumentsStand, Back}
 use Rattle.prem_code_laws.specs.GenLaws.Jobs.{Between, FrameBack}
-use Rattle.prem_asm.specs.Steps.{AllSteps}
 use Rattle.prem_code_laws.specs.PrefetchLaws.Touches.{Passes, IsFetch, IsLineOf}
 use Rattle.prem_code_laws.specs.PrefetchLaws.Premises.{Lines, AllInMemory, stub_code}
 use Rattle.prem_code_laws.specs.PrefetchLaws.Stubs.{KeepsFour, KeepsInterval, memory_step}

@@ -1,17 +1,17 @@
 -- What the run of a stub does.
 use Rattle.std.specs.Prelude.{◌≡◌, ◌<◌, ◌≤◌, ℕ, ◌+◌, ◌-◌, ◌%◌, ◌^◌, Bool, true, List, ◌∷◌, ◌++◌, length, Ok, None}
+use Rattle.prem_plant.specs.Places.{Extent}
 use Rattle.prem_isa.specs.declared.instr.Instr.TheVariants.{PmMem}
 use Rattle.prem_isa.specs.declared.effect.Phase.TheVariants.{Compatible, Execution}
 use Rattle.prem_isa.specs.declared.effect.Change.TheVariants.{Memory}
 use Rattle.prem_isa.specs.Plain.{TaskState, Did}
-use Rattle.prem_plant.specs.Places.{Extent}
 use Rattle.prem_meaning.specs.Expressions.{Outcome, Access}
 use Rattle.prem_meaning.specs.Statements.{ProgramState, MarkedCall}
 use Rattle.prem_asm.specs.Pieces.{size_of}
 use Rattle.prem_asm.specs.Runs.{Setting, Calls, Ending, Returns, run}
+use Rattle.prem_asm.specs.Steps.{AllSteps}
 use Rattle.prem_layout.specs.Parts.{Passes as PassCount, pass_count}
 use Rattle.prem_code_laws.specs.ExprLaws.Relation.{Globals, Stack, Ground}
-use Rattle.prem_asm.specs.Steps.{AllSteps}
 use Rattle.prem_code_laws.specs.GenLaws.Marks.{Stays}
 use Rattle.prem_code_laws.specs.GenLaws.Functions.{noted}
 use Rattle.prem_code_laws.specs.GenLaws.Matches.{Matches, ArgumentsStand, Back, CallRuns}

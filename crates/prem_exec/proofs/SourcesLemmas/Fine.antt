@@ -1,10 +1,10 @@
 -- Readings of sets and run files end in answers that may be given.
 use Rattle.std.proofs.Common.{ℕ, List, [], ◌∷◌, Result, Ok, Err, refl}
+use Rattle.prem_tasks.specs.Broken.{TaskText, TaskSet}
 use Rattle.prem_set.specs.Run.Run.{Gathered, LineRefusal, run_of as lines_of_run}
 use Rattle.prem_set.specs.declared.fault.SetFail.{SetFail}
 use Rattle.prem_set.specs.declared.task.TaskEntry.{TaskEntry}
 use Rattle.prem_set.specs.SetFile.{SetData, set_of as set_of_text}
-use Rattle.prem_tasks.specs.Broken.{TaskText, TaskSet}
 use Rattle.prem_answer.specs.declared.answer.Telling.{Telling}
 use Rattle.prem_answer.specs.declared.answer.Telling.TheVariants.{Whole}
 use Rattle.prem_answer.specs.Stages.{Reply, Reads, Stage, IsFine}

@@ -1,19 +1,19 @@
 -- Tasks that say what the entries of a lawful set file say are lawful.
-use Rattle.std.proofs.Common.{◌≡◌, ℕ, List, [], ◌∷◌, ◌++◌, refl, ap, ◌∙◌, sym, subst, length, map}
 use Rattle.std.specs.Prelude.{All}
+use Rattle.std.proofs.Common.{◌≡◌, ℕ, List, [], ◌∷◌, ◌++◌, refl, ap, ◌∙◌, sym, subst, length, map}
 use Rattle.std.proofs.lemmas.List.{length-map}
 use Rattle.std.proofs.lemmas.List.Elements.{All-nil, All-cons, All-head, All-tail}
 use Rattle.prem_plant.specs.Label.{AreDistinct, IsName}
 use Rattle.prem_plant.specs.Ranges.{Between}
 use Rattle.prem_plant.specs.declared.plant.Device.{Device}
-use Rattle.prem_set.specs.Run.Names.{known_of}
-use Rattle.prem_set.specs.declared.task.TaskEntry.{TaskEntry}
-use Rattle.prem_set.specs.SetFile.{SetData, task_names as entry_names}
-use Rattle.prem_set.specs.Lawful.{IsEntry, IsSet as IsSetFile}
 use Rattle.prem_tasks.specs.declared.set.TaskText.{TaskText as TaskTree}
 use Rattle.prem_tasks.specs.Lawful.{IsTaskText, IsSet, task_names}
 use Rattle.prem_tasks.specs.Broken.{TaskText, TaskSet}
 use Rattle.prem_tasks.specs.SetOf.{task_of}
+use Rattle.prem_set.specs.Run.Names.{known_of}
+use Rattle.prem_set.specs.declared.task.TaskEntry.{TaskEntry}
+use Rattle.prem_set.specs.SetFile.{SetData, task_names as entry_names}
+use Rattle.prem_set.specs.Lawful.{IsEntry, IsSet as IsSetFile}
 use Rattle.prem_exec.specs.Sources.Sources.{Head, head_of, entry_head, names_of}
 
 abbrev heads : List TaskTree → List Head

@@ -3,6 +3,9 @@ use Rattle.std.proofs.Common.{◌≡◌, ◌≢◌, ℕ, List, [], ◌∷◌, �
 use Rattle.std.proofs.lemmas.List.{append_assoc, append-nil}
 use Rattle.prem_io.specs.Files.{Files}
 use Rattle.prem_gate.specs.declared.request.RunInput.{RunInput}
+use Rattle.prem_tasks.specs.declared.set.TaskText.{TaskText as TaskTree}
+use Rattle.prem_tasks.specs.Broken.{TaskText, TaskSet}
+use Rattle.prem_tasks.specs.SetOf.{task_of}
 use Rattle.prem_set.specs.Run.Run.{Gathered, LineRefusal}
 use Rattle.prem_set.specs.Run.Views.{IsRun}
 use Rattle.prem_set.specs.declared.fault.SetFail.{SetFail}
@@ -10,9 +13,6 @@ use Rattle.prem_set.specs.declared.fault.SetFail.TheVariants.{NotToml, Key, Kind
 use Rattle.prem_set.specs.declared.task.TaskEntry.{TaskEntry}
 use Rattle.prem_set.specs.SetFile.{SetData}
 use Rattle.prem_set.specs.Views.{SetFails}
-use Rattle.prem_tasks.specs.declared.set.TaskText.{TaskText as TaskTree}
-use Rattle.prem_tasks.specs.Broken.{TaskText, TaskSet}
-use Rattle.prem_tasks.specs.SetOf.{task_of}
 use Rattle.prem_answer.specs.declared.answer.Telling.{Telling}
 use Rattle.prem_answer.specs.declared.answer.Halt.{Halt}
 use Rattle.prem_answer.specs.declared.answer.Halt.TheVariants.{Answered, ReadFault, OutOfMemory}
@@ -40,7 +40,7 @@ stops told stage reply answer given is = subst (λ a. IsGiven told stage a) (sym
 pub none_behind : (how : Telling) (told : Option Files) (front : List TaskText) → Passes told (reading_behind how front []) (Ok front)
 none_behind how told front next answer leads = subst (λ ts. IsGiven told (next ts) answer) (sym (append-nil front)) leads
 
-pub task_behind : (how : Telling) (told : Option Files) (front : List TaskText) (e : TaskEntry) (es : List TaskEntry) (task : TaskText) (given : Result (List TaskText) Reply) →
+task_behind : (how : Telling) (told : Option Files) (front : List TaskText) (e : TaskEntry) (es : List TaskEntry) (task : TaskText) (given : Result (List TaskText) Reply) →
     IsReadAsBy how told source_limit e.source (task_of_source e) (Ok task) → Passes told (reading_behind how (front ++ task ∷ []) es) given →
     Passes told (reading_behind how front (e ∷ es)) given
 task_behind how told front e es task given read passes next answer leads =

@@ -1,9 +1,10 @@
 -- What commands read of a task set: its file, its sources in its order, and a run file by its names.
 use Rattle.std.specs.Prelude.{◌≡◌, ℕ, List, [], ◌∷◌, ◌++◌, map, Option, Result, Ok, Err, codes}
-use Rattle.prem_io.specs.Files.{Files}
 use Rattle.prem_list.specs.Sequence.{items_of}
-use Rattle.prem_syntax.specs.Syntax.{Text}
+use Rattle.prem_io.specs.Files.{Files}
 use Rattle.prem_gate.specs.declared.request.RunInput.{RunInput}
+use Rattle.prem_syntax.specs.Syntax.{Text}
+use Rattle.prem_tasks.specs.Broken.{TaskText, TaskSet}
 use Rattle.prem_set.specs.Run.Names.{KnownNames, known_of}
 use Rattle.prem_set.specs.Run.Run.{run_of as lines_of_run}
 use Rattle.prem_set.specs.Run.Views.{lists_of}
@@ -11,7 +12,6 @@ use Rattle.prem_set.specs.declared.fault.SetFail.{SetFail}
 use Rattle.prem_set.specs.declared.fault.SetFail.TheVariants.{NotToml, Key, Kind, Value, Limit, OutOfMemory}
 use Rattle.prem_set.specs.declared.task.TaskEntry.{TaskEntry}
 use Rattle.prem_set.specs.SetFile.{SetData, set_of as set_of_text}
-use Rattle.prem_tasks.specs.Broken.{TaskText, TaskSet}
 use Rattle.prem_answer.specs.declared.answer.Telling.{Telling}
 use Rattle.prem_answer.specs.declared.answer.Telling.TheVariants.{Whole}
 use Rattle.prem_answer.specs.Stages.{Reply, Stage, IsGiven, form_by, reading_by}

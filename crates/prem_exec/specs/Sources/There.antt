@@ -1,10 +1,10 @@
 -- When files that a store tells are there and in form.
 use Rattle.std.specs.Prelude.{◌≡◌, ◌≤◌, ⊤, ℕ, List, [], ◌∷◌, length, Some, Ok}
 use Rattle.prem_io.specs.Files.{Files, stored}
+use Rattle.prem_tasks.specs.Broken.{TaskText, TaskSet}
 use Rattle.prem_set.specs.declared.task.TaskEntry.{TaskEntry}
 use Rattle.prem_set.specs.SetFile.{SetData, set_of as set_of_text}
 use Rattle.prem_set.specs.Run.Run.{Gathered, run_of as lines_of_run}
-use Rattle.prem_tasks.specs.Broken.{TaskText, TaskSet}
 use Rattle.prem_exec.specs.Forms.{RunText}
 use Rattle.prem_exec.specs.Sources.Sources.{names_of, run_limit, set_limit, set_with, source_limit, task_with}
 

@@ -2,11 +2,11 @@
 ghost use Rattle.std.specs.Prelude.{◌≡◌, ◌≢◌, ◌≤◌, IfOk, IsErrOf, map, string_bytes};
 ghost use Rattle.prem_list.specs.Sequence.{items_of};
 ghost use Rattle.prem_io.specs.Counts.{Rose};
+ghost use Rattle.prem_tasks.specs.Lawful.{IsSet as IsTaskSet};
+ghost use Rattle.prem_tasks.specs.SetOf.{set_of, task_of};
 ghost use Rattle.prem_set.specs.Lawful.{IsSet};
 ghost use Rattle.prem_set.specs.Views.{set_view};
 ghost use Rattle.prem_set.specs.declared.fault.SetFail.TheVariants.{OutOfMemory};
-ghost use Rattle.prem_tasks.specs.Lawful.{IsSet as IsTaskSet};
-ghost use Rattle.prem_tasks.specs.SetOf.{set_of, task_of};
 ghost use Rattle.prem_answer.specs.Stages.{Comes, IsReadAsBy, form_by, reply_of};
 ghost use Rattle.prem_exec.specs.Sources.Sources.{Passes, at_path, reading_set, reading_set_by, reading_sources, set_limit, set_of_bytes_by, set_why, set_with};
 

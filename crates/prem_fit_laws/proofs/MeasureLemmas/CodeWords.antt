@@ -1,20 +1,20 @@
 -- The code of a function has few words for each of its nodes.
-use Rattle.std.proofs.Common.{◌≤◌, ℕ, zero, suc, ◌+◌, ◌*◌, Bool, true, false, List, [], ◌∷◌, length, Option, None, Some, arith}
 use Rattle.std.specs.Prelude.{pos, if◌then◌else◌}
-use Rattle.prem_plant.specs.declared.plant.Target.{Target}
-use Rattle.prem_plant.specs.declared.plant.Target.TheVariants.{Rv32i, Rv32im}
+use Rattle.std.proofs.Common.{◌≤◌, ℕ, zero, suc, ◌+◌, ◌*◌, Bool, true, false, List, [], ◌∷◌, length, Option, None, Some, arith}
 use Rattle.prem_word.specs.declared.kind.Kind.{Kind}
-use Rattle.prem_isa.specs.declared.instr.Instr.{Instr}
 use Rattle.prem_word.specs.declared.kind.Kind.TheVariants.{Int, Unsigned}
 use Rattle.prem_word.specs.declared.kind.BinOp.{BinOp}
 use Rattle.prem_word.specs.declared.kind.BinOp.TheVariants.{Add as Plus, Sub as Minus, Mul, Div, Rem, Shl, Shr, Lt, Le, Gt, Ge, Eq, Ne, And as BitAnd, Xor as BitXor, Or as BitOr, AndAlso as AndAlsoOp, OrElse as OrElseOp}
+use Rattle.prem_plant.specs.declared.plant.Target.{Target}
+use Rattle.prem_plant.specs.declared.plant.Target.TheVariants.{Rv32i, Rv32im}
+use Rattle.prem_isa.specs.declared.instr.Instr.{Instr}
 use Rattle.prem_isa.specs.declared.instr.Instr.TheVariants.{OpImm, PmOut}
 use Rattle.prem_isa.specs.declared.instr.AluOp.TheVariants.{Add}
 use Rattle.prem_syntax.specs.declared.tree.UnOp.{UnOp}
 use Rattle.prem_syntax.specs.declared.tree.UnOp.TheVariants.{Neg, Flip, Not}
+use Rattle.prem_meaning.specs.Resolved.{Term, Constant, Local, Scalar, Element, Unary, Binary, AndAlso, OrElse, Steps, Done as NoSteps, SetLocal, SetScalar, SetElement, Output, Input, If, For, While, Call}
 use Rattle.prem_asm.specs.Pieces.{Pieces, no_pieces, straight, address_of, either, repeat, call_to, followed, skip_words, words, address_code, lower}
 use Rattle.prem_asm.proofs.Rows.{words-followed}
-use Rattle.prem_meaning.specs.Resolved.{Term, Constant, Local, Scalar, Element, Unary, Binary, AndAlso, OrElse, Steps, Done as NoSteps, SetLocal, SetScalar, SetElement, Output, Input, If, For, While, Call}
 use Rattle.prem_template.specs.Terms.{only, is_short, constant, scale, shift_of, nonzero, unary_code, multiply_code, quotient_code, remainder_code, by_target, binary_code, truth_code, element_code, term_code}
 use Rattle.prem_template.specs.Frames.{counters_in, locals_of, frame_of}
 use Rattle.prem_template.specs.Steps.{Parts, load_slot, store_slot, scalar_store, element_store, bound_test, step_code, turn_code, store_argument, argument_code, target_code, steps_code, closing, declare_code, result_code}

@@ -6,12 +6,12 @@ use Rattle.prem_word.specs.declared.kind.BinOp.TheVariants.{AndAlso as AndAlsoOp
 use Rattle.prem_syntax.specs.declared.tree.Place.{Place}
 use Rattle.prem_syntax.specs.declared.meaning.Meaning.{Meaning}
 use Rattle.prem_syntax.specs.declared.meaning.Meaning.TheVariants.{Nothing, Local as LocalName, Scalar as ScalarName, Array as ArrayName, Function as FunctionName}
+use Rattle.prem_meaning.specs.Resolved.{Term, operator}
+use Rattle.prem_meaning.specs.Resolve.{Scope, meaning_of, variable_term, element_term, operand_kind, kind_of, resolve_term}
 use Rattle.prem_lexer.specs.declared.token.token.Mark.TheVariants as m
 use Rattle.prem_lexer.specs.Token.Lexeme.{mark, Seen}
 use Rattle.prem_text.specs.Grammar.Slots.{Slot}
 use Rattle.prem_text.specs.Grammar.Phrases.{Phrase, of_literal, of_name, of_element, of_bracket, of_prefix, of_infix, spelled, tree, IsRow}
-use Rattle.prem_meaning.specs.Resolved.{Term, operator}
-use Rattle.prem_meaning.specs.Resolve.{Scope, meaning_of, variable_term, element_term, operand_kind, kind_of, resolve_term}
 use Rattle.prem_fit_laws.specs.Measure.Nodes.{term_nodes}
 
 -- ---- lengths

@@ -1,9 +1,11 @@
 -- A function of a text's program has at most two nodes for each token of the text.
-use Rattle.std.proofs.Common.{◌≡◌, ◌≤◌, ◌<◌, ℕ, ◌+◌, ◌*◌, ◌^◌, List, [], ◌∷◌, ◌++◌, length, Option, None, Some, Ok, arith, subst, length-append, ap}
 use Rattle.std.specs.Option.{option_map}
 use Rattle.std.specs.List.{AllByRecursion}
+use Rattle.std.proofs.Common.{◌≡◌, ◌≤◌, ◌<◌, ℕ, ◌+◌, ◌*◌, ◌^◌, List, [], ◌∷◌, ◌++◌, length, Option, None, Some, Ok, arith, subst, length-append, ap}
 use Rattle.std.proofs.lemmas.List.Elements.{All-from_recursion}
 use Rattle.prem_syntax.specs.Syntax.{LocalVariable, GlobalVariable, FunctionText, ProgramText}
+use Rattle.prem_meaning.specs.Resolved.{Routine, Done}
+use Rattle.prem_meaning.specs.Resolve.{Scope, declared, resolve_term, resolve_locals, scope_at, scope_in, loops_within, resolve_function, functions_of, resolve_items, resolve}
 use Rattle.prem_lexer.specs.Token.Lexeme.{end_of_text, Seen}
 use Rattle.prem_text.specs.Grammar.Slots.{right_brace, place_at}
 use Rattle.prem_text.specs.Grammar.Statement.{listed}
@@ -11,8 +13,6 @@ use Rattle.prem_text.specs.Grammar.Phrases.{spelled, tree, name_at}
 use Rattle.prem_text.specs.Grammar.StatementPhrases.{all_written, all_meant}
 use Rattle.prem_text.specs.Grammar.ProgramPhrases.{type_of, declaration_tokens, mark_tokens, parameters_tokens, LocalPhrase, local_tokens, local_trees, ResultPhrase, result_tokens, result_tree, FunctionPhrase, IsFunction, function_tokens, function_tree, ItemPhrase, of_global, of_function, AreItems, items_tokens, items_tree, program_tree, global_tree, global_tokens}
 use Rattle.prem_text.specs.Spelling.Division.{place_behind}
-use Rattle.prem_meaning.specs.Resolved.{Routine, Done}
-use Rattle.prem_meaning.specs.Resolve.{Scope, declared, resolve_term, resolve_locals, scope_at, scope_in, loops_within, resolve_function, functions_of, resolve_items, resolve}
 use Rattle.prem_text.specs.Texts.{reads, IsProgramText}
 use Rattle.prem_text.proofs.Whole.{text_sound}
 use Rattle.prem_asm.specs.Pieces.{size_of}

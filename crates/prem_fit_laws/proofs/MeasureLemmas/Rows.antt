@@ -1,15 +1,15 @@
 -- A text whose program has small code, and how much that is.
 use Rattle.std.proofs.Common.{◌≡◌, ◌<◌, ℕ, ◌^◌, All, List, [], ◌∷◌, ◌++◌, None, Some, Ok, codes, refl, map}
-use Rattle.prem_plant.specs.declared.plant.Target.TheVariants.{Rv32i}
 use Rattle.prem_word.specs.declared.kind.Kind.TheVariants.{Int}
 use Rattle.prem_word.specs.declared.kind.BinOp.TheVariants.{Add}
+use Rattle.prem_plant.specs.declared.plant.Target.TheVariants.{Rv32i}
 use Rattle.prem_syntax.specs.declared.tree.Ty.TheVariants as ty
 use Rattle.prem_syntax.specs.Syntax.{Statement, ProgramText, literal, element, binary, assign, absent, global_item, function_item, next_statement, no_statements}
+use Rattle.prem_meaning.specs.Resolved.{Routine}
+use Rattle.prem_meaning.specs.Resolve.{resolve}
 use Rattle.prem_lexer.specs.Spelling.{used_word, is_unused, reserved_word, longest_mark}
 use Rattle.prem_lexer.specs.Literal.{literal_word}
 use Rattle.prem_lexer.specs.Tokens.{first_token, start, step, lex, tokens_of}
-use Rattle.prem_meaning.specs.Resolved.{Routine}
-use Rattle.prem_meaning.specs.Resolve.{resolve}
 use Rattle.prem_text.specs.Texts.{reads}
 use Rattle.prem_asm.specs.Pieces.{words, size_of}
 use Rattle.prem_template.specs.Steps.{Parts, function_code}

@@ -1,20 +1,20 @@
 -- What statements are resolved to has at most two nodes for each of their tokens.
-use Rattle.std.proofs.Common.{◌≤◌, ℕ, ◌+◌, ◌*◌, List, [], ◌∷◌, ◌++◌, length, map, Option, None, Some, arith, length-append}
 use Rattle.std.specs.Option.{option_map}
+use Rattle.std.proofs.Common.{◌≤◌, ℕ, ◌+◌, ◌*◌, List, [], ◌∷◌, ◌++◌, length, map, Option, None, Some, arith, length-append}
 use Rattle.prem_word.specs.declared.kind.Kind.TheVariants.{Int}
 use Rattle.prem_word.specs.declared.kind.BinOp.{BinOp}
 use Rattle.prem_syntax.specs.declared.tree.Place.{Place}
 use Rattle.prem_syntax.specs.declared.meaning.Meaning.{Meaning}
 use Rattle.prem_syntax.specs.declared.meaning.Meaning.TheVariants.{Nothing, Local as LocalName, Scalar as ScalarName, Array as ArrayName, Function as FunctionName}
 use Rattle.prem_syntax.specs.Syntax.{Text, Expression, literal, binary}
+use Rattle.prem_meaning.specs.Resolved.{Term, Steps, Done}
+use Rattle.prem_meaning.specs.Resolve.{Scope, meaning_of, operand_kind, kind_of, resolve_term, loops_in, set_steps, input_steps, call_steps, target_of, number_named, resolve_statement, resolve_statements}
 use Rattle.prem_lexer.specs.declared.token.token.Mark.TheVariants as m
 use Rattle.prem_lexer.specs.Token.Lexeme.{mark}
 use Rattle.prem_text.specs.Grammar.Slots.{a_name, the_if, left_parenthesis, the_for, equal_sign, the_bounded, a_literal, right_parenthesis, the_while, the_in, the_out, semicolon, place_at}
 use Rattle.prem_text.specs.Grammar.Statement.{listed, side}
 use Rattle.prem_text.specs.Grammar.Phrases.{spelled, tree, name_at}
 use Rattle.prem_text.specs.Grammar.StatementPhrases.{Target, to_name, to_element, Parted, Arguments, no_arguments, arguments, StatementPhrase, StatementPhrases, of_block, of_if, of_else, of_for, of_while, of_output, of_call, of_input, of_call_to, of_assign, of_change, of_count, no_phrases, next_phrase, IsStatement, AreStatements, change_sign, count_sign, change_op, parted_tokens, argument_tokens, target_tokens, written, all_written, parted_trees, argument_trees, target_at, target_text, target_index, meant, all_meant}
-use Rattle.prem_meaning.specs.Resolved.{Term, Steps, Done}
-use Rattle.prem_meaning.specs.Resolve.{Scope, meaning_of, operand_kind, kind_of, resolve_term, loops_in, set_steps, input_steps, call_steps, target_of, number_named, resolve_statement, resolve_statements}
 use Rattle.prem_fit_laws.specs.Measure.Nodes.{term_nodes, terms_nodes, option_nodes, steps_nodes}
 use Rattle.prem_fit_laws.proofs.MeasureLemmas.PhraseNodes.{long3, long4, long6, row_long, variable_nodes, element_nodes, operator_nodes, phrase_nodes}
 

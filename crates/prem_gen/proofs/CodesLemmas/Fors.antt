@@ -1,6 +1,6 @@
 -- A resolved program has the counting loops of its text.
-use Rattle.std.proofs.Common.{◌≡◌, ℕ, ◌+◌, List, [], ◌∷◌, ◌++◌, length, Option, None, Some, refl, ap, ◌∙◌, sym, arith, map}
 use Rattle.std.specs.Option.{option_map}
+use Rattle.std.proofs.Common.{◌≡◌, ℕ, ◌+◌, List, [], ◌∷◌, ◌++◌, length, Option, None, Some, refl, ap, ◌∙◌, sym, arith, map}
 use Rattle.prem_list.specs.Sequence.{items_of}
 use Rattle.prem_syntax.specs.declared.tree.Place.{Place}
 use Rattle.prem_syntax.specs.declared.meaning.Meaning.{Meaning}
@@ -12,8 +12,8 @@ use Rattle.prem_tree.specs.declared.resolve.resolved.Step.{Step, Row_of-Step, en
 use Rattle.prem_tree.specs.declared.resolve.resolved.Step.TheVariants.{Block', SetLocal as SetLocalTree, SetScalar as SetScalarTree, SetElement as SetElementTree, Output as OutputTree, Input as InputTree, If', For', While', Call as CallTree}
 use Rattle.prem_tree.specs.declared.resolve.resolved.Routine.{Routine as RoutineTree}
 use Rattle.prem_tree.specs.declared.resolve.resolved.Resolved.{Resolved as ResolvedTree}
-use Rattle.prem_gen.proofs.TableLemmas.Parts.{length_same}
 use Rattle.prem_tree.specs.Resolve.ResolvedOf.{loops_of, row_loops, step_before, row_before, routines_of, all_loops, item_loops, IsResolved}
+use Rattle.prem_gen.proofs.TableLemmas.Parts.{length_same}
 
 abbrev pub fors : Steps → ℕ
 fors Done = 0

@@ -1,6 +1,6 @@
 -- The code that the generator makes by its table is that by the numbers of the program's parts.
-use Rattle.std.proofs.Common.{◌≡◌, ◌≤◌, ℕ, ◌+◌, Bool, true, false, List, length, Option, None, Some, refl, ap, ◌∙◌, sym, arith}
 use Rattle.std.specs.Prelude.{slice_get, nat_lt, if◌then◌else◌}
+use Rattle.std.proofs.Common.{◌≡◌, ◌≤◌, ℕ, ◌+◌, Bool, true, false, List, length, Option, None, Some, refl, ap, ◌∙◌, sym, arith}
 use Rattle.std.proofs.lemmas.Bool.{ltb-false}
 use Rattle.prem_plant.specs.declared.plant.Target.{Target}
 use Rattle.prem_plant.specs.declared.plant.Target.TheVariants.{Rv32i}
@@ -19,16 +19,16 @@ use Rattle.prem_gen.specs.Routine.Parts.{callee_at}
 use Rattle.prem_gen.specs.Routine.RoutineCode.{RoutineSmall}
 use Rattle.prem_gen.specs.Table.Table.{all_marks, callees_from}
 use Rattle.prem_gen.specs.Table.Same.{SameCall, CallsSame, with_globals}
+use Rattle.prem_gen.specs.Numbers.Steps.{EachCallee, FunctionSmall}
+use Rattle.prem_gen.specs.Codes.Codes.{WellFormedAreSmall, FramesFit, CalleesAreAmongAll}
 use Rattle.prem_gen.proofs.TableLemmas.Parts.{table_tells, stubs_are_counted}
 use Rattle.prem_gen.proofs.TableLemmas.Calls.{code_is_by_calls}
-use Rattle.prem_gen.specs.Numbers.Steps.{EachCallee, FunctionSmall}
 use Rattle.prem_gen.proofs.NumbersLemmas.Resolving.{functions_are_small}
 use Rattle.prem_gen.proofs.NumbersLemmas.StepTrees.{trees_are_small}
-use Rattle.prem_gen.specs.Codes.Codes.{WellFormedAreSmall, FramesFit, CalleesAreAmongAll}
 
 -- ---- callees
 
-pub each_more : (P Q : ℕ → Type 0) → ((f : ℕ) → P f → Q f) → (s : Steps) → EachCallee P s → EachCallee Q s
+each_more : (P Q : ℕ → Type 0) → ((f : ℕ) → P f → Q f) → (s : Steps) → EachCallee P s → EachCallee Q s
 each_more P Q more Done h = tt
 each_more P Q more (SetLocal at k value rest) h = each_more P Q more rest h
 each_more P Q more (SetScalar at g ty value rest) h = each_more P Q more rest h
@@ -40,7 +40,7 @@ each_more P Q more (For at k low closed high step turns body rest) h = (each_mor
 each_more P Q more (While at turns condition body rest) h = (each_more P Q more body h.0, each_more P Q more rest h.1)
 each_more P Q more (Call at target f arguments rest) h = (more f h.0, each_more P Q more rest h.1)
 
-pub each_all : (P : ℕ → Type 0) → ((f : ℕ) → P f) → (s : Steps) → EachCallee P s
+each_all : (P : ℕ → Type 0) → ((f : ℕ) → P f) → (s : Steps) → EachCallee P s
 each_all P all Done = tt
 each_all P all (SetLocal at k value rest) = each_all P all rest
 each_all P all (SetScalar at g ty value rest) = each_all P all rest

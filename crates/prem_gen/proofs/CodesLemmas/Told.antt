@@ -1,9 +1,9 @@
 -- What the generator gives for a function by its number.
-use Rattle.std.proofs.Common.{◌≡◌, ◌<◌, ◌≤◌, ℕ, ◌+◌, List, length, take, get_or, Some, ap, ◌∙◌, sym, subst, arith, Ok, Err}
 use Rattle.std.specs.Prelude.{slice_get, Result, IfOk}
-use Rattle.prem_plant.specs.declared.plant.Target.{Target}
+use Rattle.std.proofs.Common.{◌≡◌, ◌<◌, ◌≤◌, ℕ, ◌+◌, List, length, take, get_or, Some, ap, ◌∙◌, sym, subst, arith, Ok, Err}
 use Rattle.prem_list.specs.declared.Sequence.{Sequence}
 use Rattle.prem_list.specs.Sequence.{items_of}
+use Rattle.prem_plant.specs.declared.plant.Target.{Target}
 use Rattle.prem_meaning.specs.Resolved.{Routine}
 use Rattle.prem_tree.specs.declared.resolve.resolved.Routine.{Routine as RoutineTree}
 use Rattle.prem_tree.specs.declared.resolve.resolved.Resolved.{Resolved as ResolvedTree}

@@ -1,6 +1,6 @@
 -- Sums of counts that end at a limit; frames of so many slots.
-use Rattle.std.proofs.Common.{◌≡◌, ℕ, ◌+◌, ◌≤◌, ◌<◌, ap, arith, min}
 use Rattle.std.specs.Prelude.{◌^◌}
+use Rattle.std.proofs.Common.{◌≡◌, ℕ, ◌+◌, ◌≤◌, ◌<◌, ap, arith, min}
 use Rattle.prem_gen.specs.Frame.FrameOf.{most, frame_bytes}
 
 pub capped_sum : (x y : ℕ) → min (min x most + min y most) most ≡ min (x + y) most

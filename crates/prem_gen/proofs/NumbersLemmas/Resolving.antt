@@ -1,8 +1,9 @@
 -- The steps that statements are resolved to, where these break no rule.
-use Rattle.std.proofs.Common.{◌≡◌, ◌<◌, ◌≤◌, ℕ, zero, suc, ◌+◌, ◌^◌, Bool, true, List, [], ◌∷◌, ◌++◌, length, map, Option, None, Some, sym, subst, arith, length-append}
 use Rattle.std.specs.Prelude.{nat_lt, nat_le, ◌&&◌, ◌==◌, ◌*◌, not, slice_get}
 use Rattle.std.specs.Int.{next_multiple_of}
 use Rattle.std.specs.Option.{option_map}
+use Rattle.std.specs.Prelude.{is_some}
+use Rattle.std.proofs.Common.{◌≡◌, ◌<◌, ◌≤◌, ℕ, zero, suc, ◌+◌, ◌^◌, Bool, true, List, [], ◌∷◌, ◌++◌, length, map, Option, None, Some, sym, subst, arith, length-append}
 use Rattle.std.proofs.lemmas.Bool.{and_parts, leb-true, ltb-true}
 use Rattle.std.proofs.lemmas.List.{length-map}
 use Rattle.prem_syntax.specs.declared.tree.Place.{Place}
@@ -16,13 +17,12 @@ use Rattle.prem_meaning.specs.Rules.{LoopForm, CallOrder, MarkedCall, OfTypes}
 use Rattle.prem_meaning.specs.Reach.{is_in_set}
 use Rattle.prem_meaning.specs.Breaches.{Around, around, if_at, is_between, is_int_local, same_name, assigns, is_int, is_loop, is_marked_text, is_void, in_expression, in_expressions, in_names, in_call_target, in_callee, in_option, in_statement, in_statements, in_regions, regions_of, in_heading, in_parameters, in_locals, parameter_texts, in_function, in_global, in_items, item_names, reached}
 use Rattle.prem_meaning.specs.Resolve.{kind_of}
-use Rattle.std.specs.Prelude.{is_some}
 use Rattle.prem_template.specs.Frames.{frame_of, counters_in}
 use Rattle.prem_gen.specs.Term.Numbers.{IsSmall}
-use Rattle.prem_gen.proofs.FrameLemmas.Texts.{locals_resolved}
 use Rattle.prem_gen.specs.Routine.Small.{TargetIsSmall}
 use Rattle.prem_gen.specs.Numbers.Small.{TermSmall, FewNames}
 use Rattle.prem_gen.specs.Numbers.Steps.{AllSmall, ResultSmall, StepsSmall, FunctionSmall, FunctionsAreSmall}
+use Rattle.prem_gen.proofs.FrameLemmas.Texts.{locals_resolved}
 use Rattle.prem_gen.proofs.NumbersLemmas.Breaches.{none_left, none_right, kept, all_kept}
 use Rattle.prem_gen.proofs.NumbersLemmas.Numbers.{MeaningSmall, meaning_small, resolved_small}
 

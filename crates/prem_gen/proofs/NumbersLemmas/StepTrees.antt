@@ -1,7 +1,7 @@
 -- Steps in memory have the numbers of the steps for which they stand.
-use Rattle.std.proofs.Common.{◌<◌, ℕ, ◌+◌, ◌^◌, List, [], ◌∷◌, map, Option, None, Some, arith}
 use Rattle.std.specs.Prelude.{All}
 use Rattle.std.specs.Option.{option_map}
+use Rattle.std.proofs.Common.{◌<◌, ℕ, ◌+◌, ◌^◌, List, [], ◌∷◌, map, Option, None, Some, arith}
 use Rattle.std.proofs.lemmas.List.Elements.{All-nil, All-cons}
 use Rattle.prem_list.specs.Sequence.{items_of}
 use Rattle.prem_meaning.specs.Resolved.{Steps, Done}

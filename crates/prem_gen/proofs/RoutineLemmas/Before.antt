@@ -1,8 +1,8 @@
 -- The code of steps in memory is that of the steps for which they stand.
 use Rattle.std.proofs.Common.{◌≡◌, ℕ, ◌+◌, [], ◌∷◌, refl, ap, ◌∙◌, sym, arith, Option, None, Some, map}
 use Rattle.prem_list.specs.Sequence.{items_of}
-use Rattle.prem_syntax.specs.declared.tree.Place.{Place}
 use Rattle.prem_isa.specs.declared.instr.Instr.TheVariants.{PmOut}
+use Rattle.prem_syntax.specs.declared.tree.Place.{Place}
 use Rattle.prem_meaning.specs.Resolved.{Steps, Done}
 use Rattle.prem_tree.specs.declared.resolve.resolved.Step.{Step, Row_of-Step, end_of-Step, more_of-Step}
 use Rattle.prem_tree.specs.declared.resolve.resolved.Step.TheVariants.{Block', SetLocal, SetScalar, SetElement, Output, Input, If', For', While', Call}
@@ -46,7 +46,7 @@ target_followed None rest = refl
 target_followed (Some k) rest = refl
 
 mutual
-  pub code_before : (parts : Parts) (turns : ℕ → ℕ) (n m : ℕ) (s : Step) (rest : Steps) →
+  code_before : (parts : Parts) (turns : ℕ → ℕ) (n m : ℕ) (s : Step) (rest : Steps) →
       steps_code parts n (step_before turns m s rest) ≡ followed (code_at parts turns n m s) (steps_code parts (n + whiles_of s) rest)
   code_before parts turns n m (Block' shape body) rest = row_code_before parts turns n m body rest
   code_before parts turns n m (SetLocal at k value) rest =
@@ -117,7 +117,7 @@ first_assoc None b c = refl
 first_assoc (Some at) b c = refl
 
 mutual
-  pub deep_before : (turns : ℕ → ℕ) (m : ℕ) (s : Step) (rest : Steps) → too_deep_in (step_before turns m s rest) ≡ first_of (deep_in s) (too_deep_in rest)
+  deep_before : (turns : ℕ → ℕ) (m : ℕ) (s : Step) (rest : Steps) → too_deep_in (step_before turns m s rest) ≡ first_of (deep_in s) (too_deep_in rest)
   deep_before turns m (Block' shape body) rest = row_deep_before turns m body rest
   deep_before turns m (SetLocal at k value) rest = refl
   deep_before turns m (SetScalar at g ty value) rest = refl

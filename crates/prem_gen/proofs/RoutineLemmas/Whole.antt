@@ -1,26 +1,26 @@
 -- The code of a function in memory is that of the function for which it stands.
-use Rattle.std.proofs.Common.{◌≡◌, ℕ, ◌+◌, ◌<◌, ◌≤◌, refl, ap, ◌∙◌, sym, arith, map, length, min, true, false, subst, Option, None, Some}
 use Rattle.std.specs.Prelude.{nat_lt, if◌then◌else◌}
+use Rattle.std.specs.Option.{option_map}
+use Rattle.std.proofs.Common.{◌≡◌, ℕ, ◌+◌, ◌<◌, ◌≤◌, refl, ap, ◌∙◌, sym, arith, map, length, min, true, false, subst, Option, None, Some}
 use Rattle.std.proofs.lemmas.List.{length-map}
 use Rattle.std.proofs.lemmas.Bool.{lt-ltb, le-ltb}
+use Rattle.prem_list.specs.Sequence.{items_of}
 use Rattle.prem_syntax.specs.declared.tree.Place.{Place}
+use Rattle.prem_syntax.specs.SyntaxOf.{parameter_of}
+use Rattle.prem_meaning.specs.Resolved.{Done}
+use Rattle.prem_tree.specs.declared.resolve.resolved.Routine.{Routine}
+use Rattle.prem_tree.specs.Resolve.ResolvedOf.{term_of, routine_of, step_before}
+use Rattle.prem_asm.specs.Pieces.{straight, followed}
+use Rattle.prem_template.specs.Terms.{only}
+use Rattle.prem_template.specs.Frames.{frame_of}
+use Rattle.prem_template.specs.Steps.{Parts, opening, closing, declare_code, steps_code, result_code, function_code}
+use Rattle.prem_template.specs.Limits.{first_of, too_deep_among, too_deep_result, too_deep_function, frame, depth, greatest_frame, deep_excess, excess_of}
 use Rattle.prem_gen.specs.declared.term.fail.TermFail.{TermFail}
 use Rattle.prem_gen.specs.declared.term.fail.TermFail.TheVariants.{Deep, OutOfMemory as NoMemory}
 use Rattle.prem_gen.specs.Term.Deep.{TooDeep}
 use Rattle.prem_gen.specs.declared.term.fail.GenFail.{GenFail}
 use Rattle.prem_gen.specs.declared.term.fail.GenFail.TheVariants.{Frame, Depth, OutOfMemory}
 use Rattle.prem_gen.specs.Term.Excess.{Exceeds, gen_fail}
-use Rattle.std.specs.Option.{option_map}
-use Rattle.prem_list.specs.Sequence.{items_of}
-use Rattle.prem_tree.specs.declared.resolve.resolved.Routine.{Routine}
-use Rattle.prem_tree.specs.Resolve.ResolvedOf.{term_of, routine_of, step_before}
-use Rattle.prem_syntax.specs.SyntaxOf.{parameter_of}
-use Rattle.prem_meaning.specs.Resolved.{Done}
-use Rattle.prem_asm.specs.Pieces.{straight, followed}
-use Rattle.prem_template.specs.Terms.{only}
-use Rattle.prem_template.specs.Frames.{frame_of}
-use Rattle.prem_template.specs.Steps.{Parts, opening, closing, declare_code, steps_code, result_code, function_code}
-use Rattle.prem_template.specs.Limits.{first_of, too_deep_among, too_deep_result, too_deep_function, frame, depth, greatest_frame, deep_excess, excess_of}
 use Rattle.prem_gen.specs.Routine.RoutineCode.{params_in, locals_in, routine_code, routine_deep}
 use Rattle.prem_gen.specs.Frame.FrameOf.{most, frame_bytes}
 use Rattle.prem_gen.specs.Routine.FrameOf.{slots_in}
@@ -48,7 +48,7 @@ whole_code parts turns m r =
     (followed p (followed (result_code parts.target parts.global (option_map term_of r.result)) (only (closing f)))))) (code_alone parts turns (locals_in r) m r.body)
     ∙ ap (λ k. routine_code parts turns m k r) (frame_is turns m r))
 
-pub whole_deep : (turns : ℕ → ℕ) (m : ℕ) (r : Routine) → routine_deep r ≡ too_deep_function (routine_of turns m r)
+whole_deep : (turns : ℕ → ℕ) (m : ℕ) (r : Routine) → routine_deep r ≡ too_deep_function (routine_of turns m r)
 whole_deep turns m r =
     ap (λ o. first_of (too_deep_among (map term_of (items_of r.locals))) (first_of o (too_deep_result (option_map term_of r.result)))) (sym (deep_alone turns m r.body))
 

@@ -1,6 +1,6 @@
 -- The table tells of each function what its part and register are.
-use Rattle.std.proofs.Common.{◌≡◌, ◌≤◌, ℕ, zero, suc, ◌+◌, Bool, false, List, [], ◌∷◌, length, Option, None, Some, refl, ap, ◌∙◌, sym, subst, arith, min}
 use Rattle.std.specs.Prelude.{slice_get, slice_index_or, option_map, is_some, if◌then◌else◌}
+use Rattle.std.proofs.Common.{◌≡◌, ◌≤◌, ℕ, zero, suc, ◌+◌, Bool, false, List, [], ◌∷◌, length, Option, None, Some, refl, ap, ◌∙◌, sym, subst, arith, min}
 use Rattle.prem_syntax.specs.declared.tree.Mark.{Mark}
 use Rattle.prem_syntax.specs.SyntaxOf.{mark_of}
 use Rattle.prem_tree.specs.declared.resolve.resolved.Routine.{Routine}
@@ -10,10 +10,10 @@ use Rattle.prem_template.specs.Limits.{greatest_frame}
 use Rattle.prem_template.specs.Parts.{is_marked_at, marked_before, marked_count, stub_part}
 use Rattle.prem_gen.specs.Frame.FrameOf.{most, frame_bytes}
 use Rattle.prem_gen.specs.Routine.FrameOf.{slots_in}
-use Rattle.prem_gen.proofs.RoutineLemmas.Whole.{frame_is}
 use Rattle.prem_gen.specs.declared.routine.task.Callee.{Callee}
 use Rattle.prem_gen.specs.Routine.Parts.{absent, callee_at}
 use Rattle.prem_gen.specs.Table.Table.{marks, marks_in, all_marks, callee_by, callee_of, callees_from, TableTells, StubsAreCounted}
+use Rattle.prem_gen.proofs.RoutineLemmas.Whole.{frame_is}
 
 abbrev marks_before : ℕ → List Routine → ℕ
 marks_before zero rs = 0

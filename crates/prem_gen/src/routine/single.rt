@@ -1,10 +1,10 @@
 // The code of single steps.
 ghost use Rattle.std.specs.Prelude.{◌≡◌, ◌<◌, ◌^◌, negsuc, All, map, OnOk, IfOk, [], ◌∷◌};
 ghost use Rattle.prem_list.specs.Sequence.{items_of};
-ghost use Rattle.prem_tree.specs.Resolve.ResolvedOf.{term_of};
 ghost use Rattle.prem_isa.specs.declared.instr.Instr.TheVariants.{OpImm, Store};
 ghost use Rattle.prem_isa.specs.declared.instr.AluOp.TheVariants.{Add};
 ghost use Rattle.prem_isa.specs.declared.instr.StoreOp.TheVariants.{Sw};
+ghost use Rattle.prem_tree.specs.Resolve.ResolvedOf.{term_of};
 ghost use Rattle.prem_asm.specs.Pieces.{followed, no_pieces, straight};
 ghost use Rattle.prem_asm.specs.PiecesOf.{pieces_of};
 ghost use Rattle.prem_template.specs.Terms.{only, term_code};

@@ -27,7 +27,7 @@ both_none : (a : Option ℕ) → both a None ≡ None
 both_none None = refl
 both_none (Some a) = refl
 
-pub both_assoc : (a b c : Option ℕ) → both (both a b) c ≡ both a (both b c)
+both_assoc : (a b c : Option ℕ) → both (both a b) c ≡ both a (both b c)
 both_assoc None b c = refl
 both_assoc (Some x) None c = refl
 both_assoc (Some x) (Some y) None = refl
@@ -39,14 +39,14 @@ both_most (Some x) None c = refl
 both_most (Some x) (Some y) None = refl
 both_most (Some x) (Some y) (Some z) = let e : x + max y z ≡ max (x + y) (x + z) = omega arith in ap (λ n. Some n) e
 
-pub most_both : (a b c : Option ℕ) → both (most a b) c ≡ most (both a c) (both b c)
+most_both : (a b c : Option ℕ) → both (most a b) c ≡ most (both a c) (both b c)
 most_both None b c = refl
 most_both (Some x) None None = refl
 most_both (Some x) None (Some z) = refl
 most_both (Some x) (Some y) None = refl
 most_both (Some x) (Some y) (Some z) = let e : max x y + z ≡ max (x + z) (y + z) = omega arith in ap (λ n. Some n) e
 
-pub or_none_most : (a b : Option ℕ) → or_none (most a b) ≡ max (or_none a) (or_none b)
+or_none_most : (a b : Option ℕ) → or_none (most a b) ≡ max (or_none a) (or_none b)
 or_none_most None b = omega arith
 or_none_most (Some a) None = omega arith
 or_none_most (Some a) (Some b) = refl

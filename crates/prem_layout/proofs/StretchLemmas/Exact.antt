@@ -1,8 +1,8 @@
 -- The four sums of pieces are those of their paths.
 use Rattle.std.proofs.Common.{◌≡◌, ℕ, zero, suc, ◌+◌, ◌-◌, ◌*◌, max, refl, ap, ◌∙◌, sym, arith, cond, ltb, Bool, true, false, List, [], ◌∷◌, ◌++◌, length}
+use Rattle.prem_plant.specs.declared.plant.Plant.{Plant}
 use Rattle.prem_isa.specs.declared.instr.Instr.{Instr}
 use Rattle.prem_asm.specs.Pieces.{Pieces, no_pieces, straight, address_of, either, repeat, call_to, weight, jump_weight, address_weight, skip_words, branch_of}
-use Rattle.prem_plant.specs.declared.plant.Plant.{Plant}
 use Rattle.prem_layout.specs.Plans.{Plan}
 use Rattle.prem_layout.specs.Bounds.{CodeTable, job_weight, start_code}
 use Rattle.prem_layout.specs.Stretch.Paths.{Takes, Cuts, Path, each_behind, crossed, only, turning, paths_of, part_paths, paths_at, paths_behind, marked_paths, task_paths, longest_from, longest_among}
@@ -145,7 +145,7 @@ behind_tell w functions stubs stubs' k (ps ∷ rest) xs ss h =
     behind_tell w functions stubs stubs' k rest _ _
     (last_tells xs ss _ _ h (pieces_tell w (part_paths functions (paths_at xs) stubs) (part_sums functions (sums_at ss) stubs') (part_tells functions (paths_at xs) stubs (sums_at ss) stubs' (one_tells xs ss h) k) ps))
 
-pub task_tells : (p : Plant) (plans : List Plan) (t : CodeTable) → sums_of_paths (task_paths p plans t) ≡ task_sums p plans t
+task_tells : (p : Plant) (plans : List Plan) (t : CodeTable) → sums_of_paths (task_paths p plans t) ≡ task_sums p plans t
 task_tells p plans t =
     let f : ℕ = length t.code in
     let xs : List (List Path) = paths_behind (job_weight p) f (marked_paths p plans) [] t.code in

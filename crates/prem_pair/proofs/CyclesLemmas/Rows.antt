@@ -2,13 +2,13 @@
 use Rattle.std.proofs.Common.{◌≡◌, ℕ, List, [], ◌∷◌, refl, Option, Some}
 use Rattle.prem_plant.specs.declared.plant.Replacement.{Replacement}
 use Rattle.prem_plant.specs.declared.plant.Replacement.TheVariants.{Lru, Fifo}
+use Rattle.prem_isa.specs.declared.effect.Cause.TheVariants.{Decode}
 use Rattle.prem_gate.specs.declared.request.Request.{Request}
 use Rattle.prem_gate.specs.declared.bus.Transfer.{Transfer}
 use Rattle.prem_cycle.specs.declared.facts.EndedInterval.{EndedInterval}
 use Rattle.prem_cycle.specs.declared.facts.DeviceFacts.{DeviceFacts}
 use Rattle.prem_cycle.specs.State.{Setup, Counts, rule_in}
 use Rattle.prem_cycle.specs.FactsOf.{Report, report_of}
-use Rattle.prem_isa.specs.declared.effect.Cause.TheVariants.{Decode}
 use Rattle.prem_cycle.proofs.Images.{bytes_in, marked, without_prefetch, plant, alone, device, put}
 use Rattle.prem_cycle.proofs.Told.{task_told, compatible, predictable, counted, carried, gate}
 use Rattle.prem_pair.specs.declared.cycles.state.Holder.{Holder}

@@ -1,17 +1,17 @@
 -- What a cycle of two cores has for each of them: who holds the token has the bus, and no two want it.
-use Rattle.std.proofs.Common.{◌≡◌, ℕ, zero, suc, ◌/◌, ◌<◌, ◌≤◌, refl, ap, ◌∙◌, sym, subst, arith, Some, None, Option, true, false, Bool, List, [], ◌∷◌, length, get_or, IfSome, ⊎_elim}
 use Rattle.std.specs.Prelude.{All, is_some, ◌&&◌, ◌||◌, not}
+use Rattle.std.proofs.Common.{◌≡◌, ℕ, zero, suc, ◌/◌, ◌<◌, ◌≤◌, refl, ap, ◌∙◌, sym, subst, arith, Some, None, Option, true, false, Bool, List, [], ◌∷◌, length, get_or, IfSome, ⊎_elim}
 use Rattle.std.proofs.lemmas.Bool.{cases_Bool, cond_both}
-use Rattle.prem_image.specs.Records.{IsPlaced}
+use Rattle.prem_sched.specs.declared.sched.TaskJobs.{TaskJobs}
+use Rattle.prem_sched.specs.declared.sched.Choice.{Choice}
+use Rattle.prem_sched.specs.declared.sched.Choice.TheVariants.{Run, Idle as Rest, Finished}
+use Rattle.prem_sched.specs.Schedule.{choice}
 use Rattle.prem_gate.specs.declared.request.Request.{Request}
 use Rattle.prem_gate.specs.declared.bus.Carried.{Carried}
 use Rattle.prem_gate.specs.declared.bus.CoreWant.{CoreWant}
 use Rattle.prem_gate.specs.declared.bus.CoreWant.TheVariants.{No}
 use Rattle.prem_gate.specs.Gates.{GateState, Turned, no_gate, wants, bus_turn}
-use Rattle.prem_sched.specs.declared.sched.TaskJobs.{TaskJobs}
-use Rattle.prem_sched.specs.declared.sched.Choice.{Choice}
-use Rattle.prem_sched.specs.declared.sched.Choice.TheVariants.{Run, Idle as Rest, Finished}
-use Rattle.prem_sched.specs.Schedule.{choice}
+use Rattle.prem_image.specs.Records.{IsPlaced}
 use Rattle.prem_cycle.specs.declared.state.Mode.{Mode}
 use Rattle.prem_cycle.specs.declared.state.Mode.TheVariants.{Point, Switching, Running, Idle}
 use Rattle.prem_cycle.specs.State.{Setup, MachineState}
@@ -20,9 +20,9 @@ use Rattle.prem_cycle.specs.Core.{want_of, CoreMove, Passes, phase_in}
 use Rattle.prem_cycle.specs.Cycle.{Arrivals, arrivals_at, with_memory, move_at, is_finish, is_finished_in, is_finished}
 use Rattle.prem_cycle.proofs.CoreCases.{move_cases}
 use Rattle.prem_runs.specs.Position.Own.{IsFree}
+use Rattle.prem_runs.specs.Window.Windows.{LiesInside, CarriesInside, IsQuiet}
 use Rattle.prem_runs.proofs.PositionLemmas.MayMoves.{does, stands_still, MayMoveIn}
 use Rattle.prem_runs.proofs.PositionLemmas.Gated.{AreGates, arrivals_gates, Turns, bus_turns, written_keeps}
-use Rattle.prem_runs.specs.Window.Windows.{LiesInside, CarriesInside, IsQuiet}
 use Rattle.prem_runs.proofs.WindowLemmas.Bus.{turn_quiet}
 use Rattle.prem_sound.proofs.ResidentLemmas.Clashes.{turn_serves}
 use Rattle.prem_sound.proofs.ResidentLemmas.Facing.{Meets}
@@ -54,7 +54,7 @@ second_of : (a b : Bool) → (a && b) ≡ true → b ≡ true
 second_of true b h = h
 second_of false b h = absurd (let x : false ≡ true = h in cc)
 
-pub asks_point : (now : ℕ) (sched : List TaskJobs) (mode : Mode) → asks_in now sched mode ≡ true → mode ≡ Point
+asks_point : (now : ℕ) (sched : List TaskJobs) (mode : Mode) → asks_in now sched mode ≡ true → mode ≡ Point
 asks_point now sched Point h = refl
 asks_point now sched (Switching k left) h = absurd (let x : false ≡ true = h in cc)
 asks_point now sched (Running k) h = absurd (let x : false ≡ true = h in cc)
@@ -81,7 +81,7 @@ finished_needs s e f = by s.core.mode refl e f where
   by (Idle until) x e f = let y : false ≡ true = e in cc
 
 -- a core may do what it does under a token
-pub may_under : (holds : Bool) (p : Setup) (b : Turned) (s : MachineState) → MayMoveIn p b s (move_under holds p b s)
+may_under : (holds : Bool) (p : Setup) (b : Turned) (s : MachineState) → MayMoveIn p b s (move_under holds p b s)
 may_under holds p b s =
     cond_both (not holds && asks s) (Passes s.core) (move_at p b s) (MayMoveIn p b s)
     (λ yes. stands_still (asks_point s.now s.sched s.core.mode (second_of (not holds) (asks s) yes)))

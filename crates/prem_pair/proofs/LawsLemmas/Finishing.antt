@@ -1,14 +1,14 @@
 -- Two cores whose tasks keep to their scripts have finished by their limit.
-use Rattle.std.proofs.Common.{◌≡◌, ℕ, zero, suc, ◌+◌, ◌<◌, ◌≤◌, refl, ap, ◌∙◌, sym, arith, true, false, Bool, List, [], ◌∷◌, length, map, get_or, ⊎_elim}
 use Rattle.std.specs.Prelude.{is_some, ◌&&◌, ◌||◌, max, sum_by}
+use Rattle.std.proofs.Common.{◌≡◌, ℕ, zero, suc, ◌+◌, ◌<◌, ◌≤◌, refl, ap, ◌∙◌, sym, arith, true, false, Bool, List, [], ◌∷◌, length, map, get_or, ⊎_elim}
 use Rattle.std.proofs.lemmas.Bool.{cases_Bool, cond_both}
 use Rattle.std.proofs.lemmas.List.Sums.{sum_by-cons}
-use Rattle.prem_image.specs.declared.image.DeviceRecord.{DeviceRecord}
+use Rattle.prem_order.specs.Order.{OrderRule}
 use Rattle.prem_isa.specs.Plain.{TaskRun}
 use Rattle.prem_lru.specs.Entries.{ReplacementRule}
-use Rattle.prem_order.specs.Order.{OrderRule}
 use Rattle.prem_gate.specs.declared.request.Request.{Request}
 use Rattle.prem_gate.specs.Gates.{GateState, gate_at, gate_of, gates_of}
+use Rattle.prem_image.specs.declared.image.DeviceRecord.{DeviceRecord}
 use Rattle.prem_cycle.specs.State.{Setup, start_of}
 use Rattle.prem_cycle.specs.Inputs.{no_device}
 use Rattle.prem_cycle.specs.Run.{memory_of}
@@ -20,14 +20,14 @@ use Rattle.prem_runs.proofs.WindowLemmas.Cycles.{start_closes}
 use Rattle.prem_sound.specs.Script.Script.{Script}
 use Rattle.prem_sound.specs.Script.Scripts.{last_release, AreScripts}
 use Rattle.prem_sound.specs.Resident.Faultless.{IsPolicy}
+use Rattle.prem_sound.specs.Sound.{IsRun}
 use Rattle.prem_sound.proofs.ResidentLemmas.Facing.{start_faultless}
 use Rattle.prem_sound.proofs.ResidentLemmas.Needs.{start_needs}
-use Rattle.prem_sound.specs.Sound.{IsRun}
 use Rattle.prem_sound.proofs.Lasting.{start_lasts}
 use Rattle.prem_sound.proofs.Timing.{start_timed, core_most, core_before, core_room}
 use Rattle.prem_pair.specs.Cycles.Pair.{PairState, pair_cycle, both_finished, one_trapped, one_full, is_pair_over, pair_step, pair_cycles, pair_start, pair_run}
-use Rattle.prem_pair.proofs.CyclesLemmas.PairRuns.{pair_step-goes, pair_step-stays}
 use Rattle.prem_pair.specs.Laws.PairSound.{pair_limit, due_of, PairsFinish}
+use Rattle.prem_pair.proofs.CyclesLemmas.PairRuns.{pair_step-goes, pair_step-stays}
 use Rattle.prem_pair.proofs.LawsLemmas.Hosted.{Hosted, CoreHolds}
 use Rattle.prem_pair.proofs.LawsLemmas.Gating.{Gated, load, asked_most}
 use Rattle.prem_pair.proofs.LawsLemmas.Facts.{HostsDevices}
@@ -51,7 +51,7 @@ host_of rule order passes p content inputs requests own runs scripts policy run 
   periods = run.periods;
 }
 
-pub host_starts : (rule : ReplacementRule) (order : OrderRule) (passes : ℕ → ℕ) (p : Setup) (content : List ℕ) (inputs : List (List ℕ)) (requests : List Request) (own : ℕ → ℕ → Bool) (runs : ℕ → TaskRun) (scripts : ℕ → Script) (policy : IsPolicy rule order passes) (run : IsRun p content requests) (are : AreScripts p passes content inputs own runs scripts) → CoreHolds (host_of rule order passes p content inputs requests own runs scripts policy run are) 0 (λ k. 0) (start_of p inputs (memory_of p content))
+host_starts : (rule : ReplacementRule) (order : OrderRule) (passes : ℕ → ℕ) (p : Setup) (content : List ℕ) (inputs : List (List ℕ)) (requests : List Request) (own : ℕ → ℕ → Bool) (runs : ℕ → TaskRun) (scripts : ℕ → Script) (policy : IsPolicy rule order passes) (run : IsRun p content requests) (are : AreScripts p passes content inputs own runs scripts) → CoreHolds (host_of rule order passes p content inputs requests own runs scripts policy run are) 0 (λ k. 0) (start_of p inputs (memory_of p content))
 host_starts rule order passes p content inputs requests own runs scripts policy run are = record {
   known = record {
     position = (start_all p content inputs requests own runs run.runnable are.own_runs).position;

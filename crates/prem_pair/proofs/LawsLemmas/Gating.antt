@@ -1,6 +1,6 @@
 -- The transfers of a run take no more cycles than the requests that have been asked.
-use Rattle.std.proofs.Common.{◌≡◌, ℕ, zero, suc, ◌+◌, ◌<◌, ◌≤◌, refl, ap, ◌∙◌, sym, subst, arith, cond, eqb, leb, ltb, Some, None, Option, true, false, Bool, List, [], ◌∷◌, ◌++◌, length, drop, IfSome, ◌⊎◌, inl, inr, get_or, ⊎_elim}
 use Rattle.std.specs.Prelude.{slice_set, slice_get, is_some, All, ◌||◌, ◌&&◌, not, sum_by}
+use Rattle.std.proofs.Common.{◌≡◌, ℕ, zero, suc, ◌+◌, ◌<◌, ◌≤◌, refl, ap, ◌∙◌, sym, subst, arith, cond, eqb, leb, ltb, Some, None, Option, true, false, Bool, List, [], ◌∷◌, ◌++◌, length, drop, IfSome, ◌⊎◌, inl, inr, get_or, ⊎_elim}
 use Rattle.std.proofs.lemmas.Bool.{cases_eq, cases_lt, cond_both, leb-false, le-leb, eq-eqb, ne_eqb, lt-ltb, le-ltb}
 use Rattle.std.proofs.lemmas.List.{get_or-set_same, get_or-set_other, length-set}
 use Rattle.std.proofs.lemmas.List.Elements.{All-head, All-tail}

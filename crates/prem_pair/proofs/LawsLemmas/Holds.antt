@@ -1,7 +1,7 @@
 -- Over a run of two cores all that is known of each core holds, and time is spent by a core that works, by a transfer, or before the
 -- last release.
-use Rattle.std.proofs.Common.{◌≡◌, ℕ, ◌+◌, ◌<◌, ◌≤◌, refl, ap, ◌∙◌, sym, subst, arith, cond, Option, true, false, Bool, List, ◌⊎◌, inl, inr, ⊎_elim}
 use Rattle.std.specs.Prelude.{is_some, ◌&&◌, not, max}
+use Rattle.std.proofs.Common.{◌≡◌, ℕ, ◌+◌, ◌<◌, ◌≤◌, refl, ap, ◌∙◌, sym, subst, arith, cond, Option, true, false, Bool, List, ◌⊎◌, inl, inr, ⊎_elim}
 use Rattle.std.proofs.lemmas.Bool.{cases_Bool, cond_both}
 use Rattle.prem_gate.specs.declared.request.Request.{Request}
 use Rattle.prem_gate.specs.declared.bus.Carried.{Carried}
@@ -47,7 +47,7 @@ module _ (g : Hosted) where
   abbrev pub RestsIn : Bool → ℕ → CoreMove → MachineState → Type 0
   RestsIn holds off m s = Rests (off_behind m off ≡ off) (s.now < last_release g.setup.tasks) holds s
 
-  pub core_rests : (holds : Bool) (off : ℕ) (at : ℕ → ℕ) (b : Turned) (s : MachineState) → CoreHolds g off at s → (wants (want_of s.core.debt) ≡ true → b.turn.core ≡ true) → RestsIn holds off (move_under holds g.setup b s) s
+  core_rests : (holds : Bool) (off : ℕ) (at : ℕ → ℕ) (b : Turned) (s : MachineState) → CoreHolds g off at s → (wants (want_of s.core.debt) ≡ true → b.turn.core ≡ true) → RestsIn holds off (move_under holds g.setup b s) s
   core_rests holds off at b s h serves =
       cond_both (not holds && asks s) (Passes s.core) (move_at g.setup b s) (λ m. RestsIn holds off m s)
       (λ yes. it_waits (and_parts_not holds (asks s) yes).0 (and_parts_not holds (asks s) yes).1)
@@ -60,7 +60,7 @@ module _ (g : Hosted) where
       (cases_Bool (is_finished s)))
 
   -- the token behind its part of a cycle
-  pub core_token : (holds : Bool) (off : ℕ) (at : ℕ → ℕ) (a : Arrivals) (b : Turned) (s : MachineState) → CoreHolds g off at s → CoreSteps g off at a b (move_under holds g.setup b s) s → (holds ≡ true → (core_needs s ≡ true) ⊎ (asks s ≡ true)) → (holds ≡ false → core_needs s ≡ false) → StillHolds holds (ticked (joined a b (turn_with g.rule g.setup b (move_under holds g.setup b s) s) s))
+  core_token : (holds : Bool) (off : ℕ) (at : ℕ → ℕ) (a : Arrivals) (b : Turned) (s : MachineState) → CoreHolds g off at s → CoreSteps g off at a b (move_under holds g.setup b s) s → (holds ≡ true → (core_needs s ≡ true) ⊎ (asks s ≡ true)) → (holds ≡ false → core_needs s ≡ false) → StillHolds holds (ticked (joined a b (turn_with g.rule g.setup b (move_under holds g.setup b s) s) s))
   core_token true off at a b s h st has none =
       held_still g a b (move_at g.setup b s) s st.turned (move_cases g.setup s.now b.turn.core s.sched (with_memory b.memory s.work) s.core) h.known.closes.runs (has refl)
   core_token false off at a b s h st has none =
@@ -70,7 +70,7 @@ module _ (g : Hosted) where
       (move_cases g.setup s.now b.turn.core s.sched (with_memory b.memory s.work) s.core) h.needs.executes (none refl) quiet))
 
   -- behind the end of the cycle
-  pub core_next : (off : ℕ) (at : ℕ → ℕ) (a : Arrivals) (b : Turned) (m : CoreMove) (s : MachineState) → CoreSteps g off at a b m s → ticked (joined a b (turn_with g.rule g.setup b m s) s) ≡ next_cycle (joined a b (turn_with g.rule g.setup b m s) s)
+  core_next : (off : ℕ) (at : ℕ → ℕ) (a : Arrivals) (b : Turned) (m : CoreMove) (s : MachineState) → CoreSteps g off at a b m s → ticked (joined a b (turn_with g.rule g.setup b m s) s) ≡ next_cycle (joined a b (turn_with g.rule g.setup b m s) s)
   core_next off at a b m s st =
       let j : MachineState = joined a b (turn_with g.rule g.setup b m s) s in
       ap (λ o. cond (is_some o) j (next_cycle j)) st.came.position.untrapped
@@ -286,7 +286,7 @@ module _ (g k : Hosted) (requests : List Request) (d : HostsDevices g requests) 
   pub next_now0 : (ticked acted0).now ≡ s.first.now + 1
   next_now0 = ap (λ (z : MachineState). z.now) (core_next g x.off x.at arriving bus0 move0 s.first steps0) ∙ (settle_keeps acted0.core.mode (with_now acted0 (acted0.now + 1))).now
 
-  pub next_now1 : (ticked acted1).now ≡ s.second.now + 1
+  next_now1 : (ticked acted1).now ≡ s.second.now + 1
   next_now1 = ap (λ (z : MachineState). z.now) (core_next k x.off' x.at' (no_arrivals s.second) bus1 move1 s.second steps1) ∙ (settle_keeps acted1.core.mode (with_now acted1 (acted1.now + 1))).now
 
   ends_or_goes : (y : Bool) → is_gates holder ≡ y → (y && not (is_some bus.turn.ended)) ≡ is_some bus.gates.carried

@@ -1,12 +1,12 @@
 -- A core with its tasks, their bytes and scripts: what is known of it in a state, and that a cycle keeps this, whatever the bus does
 -- that serves it, and however long it is kept waiting at scheduling points.
-use Rattle.std.proofs.Common.{◌≡◌, ℕ, ◌<◌, ◌≤◌, Bool, length}
 use Rattle.std.specs.Prelude.{All}
-use Rattle.prem_image.specs.declared.image.TaskRecord.{TaskRecord}
+use Rattle.std.proofs.Common.{◌≡◌, ℕ, ◌<◌, ◌≤◌, Bool, length}
+use Rattle.prem_order.specs.Order.{OrderRule}
 use Rattle.prem_isa.specs.Plain.{TaskRun}
 use Rattle.prem_lru.specs.Entries.{ReplacementRule}
-use Rattle.prem_order.specs.Order.{OrderRule}
 use Rattle.prem_gate.specs.Gates.{Turned}
+use Rattle.prem_image.specs.declared.image.TaskRecord.{TaskRecord}
 use Rattle.prem_cycle.specs.State.{Setup, record_of, MachineState}
 use Rattle.prem_cycle.specs.Core.{CoreMove, phase_in}
 use Rattle.prem_cycle.specs.Cycle.{Arrivals, joined, ticked}

@@ -1,6 +1,6 @@
 -- Two images whose tasks have scripts for all input words are sound together.
-use Rattle.std.proofs.Common.{ℕ, ◌+◌, ◌-◌, ◌≤◌, arith, List, []}
 use Rattle.std.specs.Prelude.{max}
+use Rattle.std.proofs.Common.{ℕ, ◌+◌, ◌-◌, ◌≤◌, arith, List, []}
 use Rattle.std.proofs.lemmas.List.Elements.{All-nil}
 use Rattle.prem_gate.specs.declared.request.Request.{Request}
 use Rattle.prem_cycle.specs.State.{Setup}
@@ -35,7 +35,7 @@ image_run passes p content promises limit requests h t w = record {
 }
 
 -- an image with scripts for all lists of words gives them
-pub scripts_given : (passes : ℕ → ℕ) (p : Setup) (content : List ℕ) (promises : List (List ℕ) → ℕ → Promise) (limit : ℕ) → HasScripts passes p content promises limit → GivesScripts passes p content promises limit
+scripts_given : (passes : ℕ → ℕ) (p : Setup) (content : List ℕ) (promises : List (List ℕ) → ℕ → Promise) (limit : ℕ) → HasScripts passes p content promises limit → GivesScripts passes p content promises limit
 scripts_given passes p content promises limit h = record {
   image = h.image;
   zero = h.zero;

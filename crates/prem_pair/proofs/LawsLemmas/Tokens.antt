@@ -1,13 +1,13 @@
 -- A core holds the token just where it needs the bus.
-use Rattle.std.proofs.Common.{◌≡◌, ℕ, zero, ◌+◌, ◌∙◌, refl, ap, sym, subst, ltb, true, false, Bool, List, ◌⊎◌, inl, inr}
 use Rattle.std.specs.Prelude.{◌&&◌, not, is_some}
+use Rattle.std.proofs.Common.{◌≡◌, ℕ, zero, ◌+◌, ◌∙◌, refl, ap, sym, subst, ltb, true, false, Bool, List, ◌⊎◌, inl, inr}
 use Rattle.std.proofs.lemmas.Bool.{cond_both}
+use Rattle.prem_sched.specs.declared.sched.TaskJobs.{TaskJobs}
 use Rattle.prem_isa.specs.declared.effect.Phase.{Phase}
 use Rattle.prem_isa.specs.declared.effect.Phase.TheVariants.{Compatible, Memory as MemoryPhase, Execution}
 use Rattle.prem_isa.specs.declared.effect.Change.{Change}
 use Rattle.prem_isa.specs.declared.effect.Change.TheVariants.{Stay, Memory, Execute, End, Job}
 use Rattle.prem_gate.specs.Gates.{Turned}
-use Rattle.prem_sched.specs.declared.sched.TaskJobs.{TaskJobs}
 use Rattle.prem_cycle.specs.declared.state.Mode.{Mode}
 use Rattle.prem_cycle.specs.declared.state.Mode.TheVariants.{Point, Switching, Running, Idle}
 use Rattle.prem_cycle.specs.State.{Setup, Work, CoreState, Counts, MachineState}

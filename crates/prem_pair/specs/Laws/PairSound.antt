@@ -1,11 +1,11 @@
 -- What is good of a run of two cores, and by when it has finished.
 use Rattle.std.specs.Prelude.{◌≡◌, ℕ, zero, suc, ◌+◌, ◌-◌, ◌≤◌, max, Bool, true, List, [], ◌∷◌, ◌++◌, if◌then◌else◌, slice_index_or, sum_by, length}
+use Rattle.prem_order.specs.Order.{OrderRule}
+use Rattle.prem_isa.specs.Plain.{TaskRun}
+use Rattle.prem_lru.specs.Entries.{ReplacementRule}
+use Rattle.prem_gate.specs.declared.request.Request.{Request}
 use Rattle.prem_image.specs.declared.image.DeviceRecord.{DeviceRecord}
 use Rattle.prem_image.specs.Records.{IsImage}
-use Rattle.prem_lru.specs.Entries.{ReplacementRule}
-use Rattle.prem_order.specs.Order.{OrderRule}
-use Rattle.prem_gate.specs.declared.request.Request.{Request}
-use Rattle.prem_isa.specs.Plain.{TaskRun}
 use Rattle.prem_cycle.specs.State.{Setup}
 use Rattle.prem_cycle.specs.Inputs.{no_device, IsTrace}
 use Rattle.prem_cycle.specs.Run.{memory_of}

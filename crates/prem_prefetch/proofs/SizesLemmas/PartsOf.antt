@@ -1,6 +1,6 @@
 -- The parts of tasks in memory are those of the tasks for which they stand, and they may be placed.
-use Rattle.std.proofs.Common.{◌≡◌, ℕ, suc, ◌+◌, ◌*◌, ◌≤◌, List, [], ◌∷◌, ◌++◌, All, length, map, length-append, refl, ap, ◌∙◌, arith}
 use Rattle.std.specs.List.{AllByRecursion}
+use Rattle.std.proofs.Common.{◌≡◌, ℕ, suc, ◌+◌, ◌*◌, ◌≤◌, List, [], ◌∷◌, ◌++◌, All, length, map, length-append, refl, ap, ◌∙◌, arith}
 use Rattle.std.proofs.lemmas.List.{length-map}
 use Rattle.std.proofs.lemmas.List.Elements.{All-from_recursion, recursion_from_All}
 use Rattle.prem_list.specs.declared.Sequence.{Sequence}
@@ -24,10 +24,10 @@ use Rattle.prem_layout.proofs.Lawful.{whole_areas, areas_may, code_may, globals_
 use Rattle.prem_layout.proofs.TaskParts.{code_counted, globals_counted, areas_counted}
 use Rattle.prem_split.specs.PlanOf.{plan_of}
 use Rattle.prem_prefetch.specs.Parts.Parts.{sizes_of, stack_in, parts_with}
-use Rattle.prem_prefetch.proofs.PartsLemmas.Stacks.{stacks_are_exact}
 use Rattle.prem_prefetch.specs.declared.sizes.sizes.SizedTask.{SizedTask}
 use Rattle.prem_prefetch.specs.Sizes.Sizes.{globals_in, codes_in, IsSized, AreSized, sized_parts, sized_from, parts_in, MayHavePlaces, MayHaveParts}
 use Rattle.prem_prefetch.specs.Sizes.Laws.{PartsAreExact}
+use Rattle.prem_prefetch.proofs.PartsLemmas.Stacks.{stacks_are_exact}
 
 -- ---- the same parts
 

@@ -1,7 +1,7 @@
 -- What a well-formed program that keeps to the rules on frames has: small frames, short plans, code of so many functions.
-use Rattle.std.proofs.Common.{◌≡◌, ℕ, zero, suc, ◌+◌, ◌<◌, ◌≤◌, ◌^◌, Bool, true, false, cond, ltb, ltb-false, List, [], ◌∷◌, ◌++◌, length, map, set, replicate, refl, ap, sym, ◌∙◌, subst, arith, Option, None, Some}
 use Rattle.std.specs.Prelude.{slice_index_or}
 use Rattle.std.specs.List.{AllByRecursion}
+use Rattle.std.proofs.Common.{◌≡◌, ℕ, zero, suc, ◌+◌, ◌<◌, ◌≤◌, ◌^◌, Bool, true, false, cond, ltb, ltb-false, List, [], ◌∷◌, ◌++◌, length, map, set, replicate, refl, ap, sym, ◌∙◌, subst, arith, Option, None, Some}
 use Rattle.std.proofs.lemmas.List.{length-map, length-set, length-replicate}
 use Rattle.std.proofs.lemmas.List.Elements.{recursion_from_All}
 use Rattle.prem_list.specs.declared.Sequence.{Sequence}
@@ -127,7 +127,7 @@ short_plans p n (f ∷ fs) few h = by f.text.mark h.0 (short_plans p (n + 1) fs 
     by None r rest = rest
     by (Some mark) r rest = (short_plan p n mark few r, rest)
 
-pub few_plans : (p : Resolved) (n : ℕ) (fs : List Routine) → length (plans_from p n fs) ≤ length fs
+few_plans : (p : Resolved) (n : ℕ) (fs : List Routine) → length (plans_from p n fs) ≤ length fs
 few_plans p n [] = omega arith
 few_plans p n (f ∷ fs) = by f.text.mark (few_plans p (n + 1) fs)
   where

@@ -1,6 +1,6 @@
 -- The stack of a program whose frames may be compiled is small.
-use Rattle.std.proofs.Common.{◌≡◌, ℕ, zero, suc, ◌+◌, ◌*◌, ◌≤◌, max, cond, Bool, true, false, List, [], ◌∷◌, ◌++◌, arith, length, map, slice_index, Option}
 use Rattle.std.specs.Prelude.{is_some, slice_index_or}
+use Rattle.std.proofs.Common.{◌≡◌, ℕ, zero, suc, ◌+◌, ◌*◌, ◌≤◌, max, cond, Bool, true, false, List, [], ◌∷◌, ◌++◌, arith, length, map, slice_index, Option}
 use Rattle.std.proofs.lemmas.List.{length-map}
 use Rattle.prem_list.specs.Sequence.{items_of}
 use Rattle.prem_syntax.specs.Syntax.{MarkText}

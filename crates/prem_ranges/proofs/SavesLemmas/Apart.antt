@@ -10,10 +10,10 @@ use Rattle.prem_meaning.specs.Resolve.{kind_of}
 use Rattle.prem_ranges.specs.Environment.{Known, any_again, with_range, assigned, Environment, at_local, joined}
 use Rattle.prem_ranges.specs.RangeOf.{range_of, cut_if_some, opposite, is_same_kind, cut_by, refined}
 use Rattle.prem_ranges.specs.After.{assigns, is_target, loop_end, in_counting, range_behind, behind_loop, in_while, behind_call, after}
+use Rattle.prem_ranges.specs.Saves.Saves.{named, known_at}
 use Rattle.prem_ranges.proofs.Environments.{kinds-loosened}
 use Rattle.prem_ranges.proofs.Expressions.{kinds-refined}
 use Rattle.prem_ranges.proofs.Statements.{kinds-after, kinds-in_body, kinds-behind_call}
-use Rattle.prem_ranges.specs.Saves.Saves.{named, known_at}
 use Rattle.prem_ranges.proofs.SavesLemmas.Locals.{among, among-append, same_length, length-at_local, length-joined, known-elsewhere, known-loosened, known-joined}
 use Rattle.prem_ranges.proofs.SavesLemmas.Ways.{either_way}
 

@@ -1,15 +1,15 @@
 -- What was known is known again behind a part, and what is known behind two parts is joined, where what these may change was saved.
-use Rattle.std.proofs.Common.{◌≡◌, ℕ, ◌<◌, Bool, true, false, cond, nat_lt, eqb, List, length, refl, ap, sym, ◌∙◌, arith}
 use Rattle.std.specs.List.{range_with_len}
+use Rattle.std.proofs.Common.{◌≡◌, ℕ, ◌<◌, Bool, true, false, cond, nat_lt, eqb, List, length, refl, ap, sym, ◌∙◌, arith}
 use Rattle.std.proofs.lemmas.Bool.{both_ways}
 use Rattle.prem_meaning.specs.Resolved.{Term, Steps}
 use Rattle.prem_ranges.specs.Environment.{Known, with_range, Environment, at_local, joined}
 use Rattle.prem_ranges.specs.RangeOf.{refined}
 use Rattle.prem_ranges.specs.After.{assigns, after}
+use Rattle.prem_ranges.specs.Saves.Saves.{named, few_or_all, known_at, saved, saved_few, restored, merged}
 use Rattle.prem_ranges.proofs.Environments.{kinds-at_local}
 use Rattle.prem_ranges.proofs.Expressions.{kinds-refined}
 use Rattle.prem_ranges.proofs.Statements.{kinds-after}
-use Rattle.prem_ranges.specs.Saves.Saves.{named, few_or_all, known_at, saved, saved_few, restored, merged}
 use Rattle.prem_ranges.proofs.SavesLemmas.Locals.{among, among-range, same_each, same_length, length-changed, length-joined, known-elsewhere, known-joined, known-unsaved, known-saved}
 use Rattle.prem_ranges.proofs.SavesLemmas.Ways.{join_same, join_again}
 use Rattle.prem_ranges.proofs.SavesLemmas.Apart.{refined_apart, after_apart, together}
@@ -19,7 +19,7 @@ pub record Differs (ks : List ℕ) (env from : Environment) : Type 0 where
   pub count : length env ≡ length from
   pub elsewhere : (j : ℕ) → j < length from → among j ks ≡ false → known_at env j ≡ known_at from j
 
-pub restored_is : (ks : List ℕ) (env from : Environment) → Differs ks env from → restored (saved from ks) env ≡ from
+restored_is : (ks : List ℕ) (env from : Environment) → Differs ks env from → restored (saved from ks) env ≡ from
 restored_is ks env from d =
     let n = length-changed (λ s l. s.known) (saved from ks) env in
     same_each (restored (saved from ks) env) from (n ∙ d.count) (λ j within. each j (omega (arith, d.count)) (among j ks) refl)
@@ -28,7 +28,7 @@ restored_is ks env from d =
     each j within true there = known-saved (λ s l. s.known) from ks env j (known_at from j) within refl refl there
     each j within false out = known-unsaved (λ s l. s.known) from ks env j out ∙ d.elsewhere j (let n = d.count in omega arith) out
 
-pub merged_is : (ks : List ℕ) (one two : Environment) → Differs ks one two → merged (saved one ks) two ≡ joined one two
+merged_is : (ks : List ℕ) (one two : Environment) → Differs ks one two → merged (saved one ks) two ≡ joined one two
 merged_is ks one two d =
     let n = length-changed (λ s l. together s.known l) (saved one ks) two in let m = length-joined one two d.count in let e = d.count in
     same_each (merged (saved one ks) two) (joined one two) (omega arith) (λ j within. each j (omega arith) (among j ks) refl)
@@ -45,7 +45,7 @@ merged_is ks one two d =
         known-unsaved (λ s x. together s.known x) one ks two j out ∙ sym same ∙ sym (ap (λ r. with_range r l) (join_same l.range)) ∙ ap (λ (x : Known). together l x) same ∙ sym (known-joined one two j e (omega arith))
 
 -- the same where all locals were saved, since they are fewer
-pub differs_few : (ks : List ℕ) (env from : Environment) → Differs ks env from → Differs (few_or_all (length from) ks) env from
+differs_few : (ks : List ℕ) (env from : Environment) → Differs ks env from → Differs (few_or_all (length from) ks) env from
 differs_few ks env from d = by (nat_lt (length from) (length ks))
   where
     by : (b : Bool) → Differs (cond b (range_with_len 0 (length from)) ks) env from
@@ -57,7 +57,7 @@ restored_few ks env from d = restored_is (few_or_all (length from) ks) env from 
 
 -- ---- parts
 
-pub differs_refined : (b : Bool) (env : Environment) (e : Term) → Differs (named e) (refined b env e) env
+differs_refined : (b : Bool) (env : Environment) (e : Term) → Differs (named e) (refined b env e) env
 differs_refined b env e = record { count = same_length (refined b env e) env (kinds-refined b env e); elsewhere = λ j within out. refined_apart b env e j out }
 
 -- a right side is looked at behind what its left side tells
@@ -87,10 +87,10 @@ differs_at ks k change env same has = record {
 }
 
 -- the other way round, and one behind the other
-pub differs_other : (ks : List ℕ) (a b : Environment) → Differs ks a b → Differs ks b a
+differs_other : (ks : List ℕ) (a b : Environment) → Differs ks a b → Differs ks b a
 differs_other ks a b d = record { count = sym d.count; elsewhere = λ j within out. sym (d.elsewhere j (let n = d.count in omega arith) out) }
 
-pub differs_then : (ks : List ℕ) (a b c : Environment) → Differs ks a b → Differs ks b c → Differs ks a c
+differs_then : (ks : List ℕ) (a b c : Environment) → Differs ks a b → Differs ks b c → Differs ks a c
 differs_then ks a b c d e = record { count = d.count ∙ e.count; elsewhere = λ j within out. d.elsewhere j (let n = e.count in omega arith) out ∙ e.elsewhere j within out }
 
 -- ---- an `if`: what was known before, behind the taken arm, and what is known behind both

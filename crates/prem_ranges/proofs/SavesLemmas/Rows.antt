@@ -1,6 +1,6 @@
 -- Locals that are saved, put back and joined, computed by the checker. x is from 0 to 10, y from 0 to 3: `if (x < 5) y = 7; else x = 2;`
-use Rattle.std.proofs.Common.{◌≡◌, refl, ℕ, List, [], ◌∷◌, ◌++◌, true, false}
 use Rattle.std.specs.Prelude.{ℤ, pos}
+use Rattle.std.proofs.Common.{◌≡◌, refl, ℕ, List, [], ◌∷◌, ◌++◌, true, false}
 use Rattle.prem_word.specs.declared.kind.Kind.TheVariants.{Int}
 use Rattle.prem_word.specs.declared.kind.BinOp.TheVariants.{Lt}
 use Rattle.prem_word.specs.Ranges.{from_to}

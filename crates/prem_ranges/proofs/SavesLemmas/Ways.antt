@@ -1,7 +1,7 @@
 -- A condition that is true, or false, leaves together what was known.
-use Rattle.std.proofs.Common.{◌≡◌, ℕ, zero, suc, Bool, true, false, cond, [], ◌∷◌, refl, ap, ◌∙◌, arith, Some, None}
 use Rattle.std.specs.Prelude.{ℤ, ◌≤ℤ◌, int_le, not, unwrap_or}
 use Rattle.std.specs.Int.{int_min, int_max}
+use Rattle.std.proofs.Common.{◌≡◌, ℕ, zero, suc, Bool, true, false, cond, [], ◌∷◌, refl, ap, ◌∙◌, arith, Some, None}
 use Rattle.std.proofs.lemmas.Int.{ints, clamps}
 use Rattle.prem_word.specs.declared.kind.Kind.{Kind}
 use Rattle.prem_word.specs.declared.kind.BinOp.{BinOp}
@@ -66,7 +66,7 @@ cut_by_within op (Binary at bop k f g) right e env = all_same env
 cut_by_within op (AndAlso at f g) right e env = all_same env
 cut_by_within op (OrElse at f g) right e env = all_same env
 
-pub refined_within : (b : Bool) (env : Environment) (e : Term) → AllWithin (refined b env e) env
+refined_within : (b : Bool) (env : Environment) (e : Term) → AllWithin (refined b env e) env
 refined_within true env (AndAlso at left right) = all_then (refined_within true (refined true env left) right) (refined_within true env left)
 refined_within false env (AndAlso at left right) = all_same env
 refined_within true env (OrElse at left right) = all_same env

@@ -1,17 +1,17 @@
 -- The operators that programs have, by the rows of the table.
-use Rattle.std.proofs.Common.{ℕ, ◌<◌, ◌^◌, ◌==◌, arith}
 use Rattle.std.specs.Prelude.{pos, ◌-ℤ◌}
+use Rattle.std.proofs.Common.{ℕ, ◌<◌, ◌^◌, ◌==◌, arith}
 use Rattle.prem_word.specs.declared.kind.Kind.{Kind}
 use Rattle.prem_word.specs.declared.kind.Kind.TheVariants.{Int}
 use Rattle.prem_word.specs.Words.{value_in}
-use Rattle.prem_syntax.specs.declared.tree.UnOp.{UnOp}
-use Rattle.prem_syntax.specs.declared.tree.UnOp.TheVariants.{Neg, Flip, Not}
-use Rattle.prem_meaning.specs.Resolve.{unary_kind}
-use Rattle.prem_meaning.specs.Expressions.{unary_word}
 use Rattle.prem_word.specs.Ranges.{Span, LiesIn, IsRange}
 use Rattle.prem_word.proofs.RangeLaw.{range_holds, converted_holds, negate_holds, flip_holds, truth_holds, op_word, truth_word}
 use Rattle.prem_word.proofs.Corners.{word_below}
 use Rattle.prem_word.proofs.Kept.{range_kept, negate_kept, flip_kept, truths_kept}
+use Rattle.prem_syntax.specs.declared.tree.UnOp.{UnOp}
+use Rattle.prem_syntax.specs.declared.tree.UnOp.TheVariants.{Neg, Flip, Not}
+use Rattle.prem_meaning.specs.Resolve.{unary_kind}
+use Rattle.prem_meaning.specs.Expressions.{unary_word}
 use Rattle.prem_ranges.specs.Unary.TableLaws.{TableLaws, unary_range}
 
 unary_holds : (op : UnOp) (k : Kind) (a : ℕ) (r : Span) → a < 2 ^ 32 → LiesIn r (value_in k a) → LiesIn (unary_range op k r) (value_in (unary_kind op k) (unary_word op a))

@@ -3,11 +3,11 @@ use Rattle.std.specs.Prelude.{ℕ, ◌<◌, ◌^◌}
 use Rattle.prem_word.specs.declared.kind.Kind.{Kind}
 use Rattle.prem_word.specs.declared.kind.BinOp.{BinOp}
 use Rattle.prem_word.specs.Words.{value_in, apply_op, CanApply, result_kind}
+use Rattle.prem_word.specs.Ranges.{Span, LiesIn, IsRange, converted, range_of_op, range_negate, range_flip, range_not}
 use Rattle.prem_syntax.specs.declared.tree.UnOp.{UnOp}
 use Rattle.prem_syntax.specs.declared.tree.UnOp.TheVariants.{Neg, Flip, Not}
 use Rattle.prem_meaning.specs.Resolve.{unary_kind}
 use Rattle.prem_meaning.specs.Expressions.{unary_word}
-use Rattle.prem_word.specs.Ranges.{Span, LiesIn, IsRange, converted, range_of_op, range_negate, range_flip, range_not}
 
 abbrev pub unary_range : UnOp → Kind → Span → Span
 unary_range Neg k r = range_negate k r

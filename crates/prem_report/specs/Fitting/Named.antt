@@ -2,11 +2,11 @@
 use Rattle.std.specs.Prelude.{ℕ, List, map}
 use Rattle.prem_list.specs.Sequence.{items_of}
 use Rattle.prem_plant.specs.declared.plant.Device.{Device}
+use Rattle.prem_gate.specs.declared.request.Request.{Request}
 use Rattle.prem_image.specs.declared.image.DeviceRecord.{DeviceRecord}
 use Rattle.prem_image.specs.declared.image.TaskRecord.{TaskRecord}
 use Rattle.prem_image.specs.declared.image.Image.{Image}
 use Rattle.prem_image.specs.Records.{task_names}
-use Rattle.prem_gate.specs.declared.request.Request.{Request}
 use Rattle.prem_cycle.specs.State.{Setup}
 use Rattle.prem_cycle.specs.Inputs.{FitsRun}
 use Rattle.prem_set.specs.Run.Names.{KnownNames, known_of}

@@ -1,8 +1,8 @@
 -- An image whose tasks join at their pace meets its deadlines.
 use Rattle.std.proofs.Common.{ℕ, ◌+◌, ◌*◌, ◌<◌, ◌≤◌, refl, sym, subst, arith, Bool, List, [], length}
+use Rattle.prem_order.specs.Order.{OrderRule}
 use Rattle.prem_isa.specs.Plain.{plain_run}
 use Rattle.prem_lru.specs.Entries.{ReplacementRule}
-use Rattle.prem_order.specs.Order.{OrderRule}
 use Rattle.prem_cycle.specs.Alone.{run_in}
 use Rattle.prem_cycle.specs.State.{Setup, record_of}
 use Rattle.prem_cycle.specs.Cycle.{log_size}
@@ -10,13 +10,13 @@ use Rattle.prem_sound.specs.Script.Script.{Script}
 use Rattle.prem_sound.specs.Script.Scripts.{Promise, sum_below, interval_count, AreScripts}
 use Rattle.prem_sound.specs.Resident.Faultless.{IsPolicy}
 use Rattle.prem_sound.specs.Sound.{AreInputs}
+use Rattle.prem_sound.specs.Paced.Paced.{IsPaced}
 use Rattle.prem_sound.proofs.Sums.{sum_le}
 use Rattle.prem_busy.specs.declared.load.Load.{Load}
 use Rattle.prem_busy.specs.Busy.{load_at}
-use Rattle.prem_sound.specs.Paced.Paced.{IsPaced}
-use Rattle.prem_weave.proofs.PaceLemmas.Runs.{paced_weaves_keep_bounds}
 use Rattle.prem_deadline.specs.Deadlines.{AreLoads}
 use Rattle.prem_deadline.proofs.Timelines.{scripts_meet_deadlines}
+use Rattle.prem_weave.proofs.PaceLemmas.Runs.{paced_weaves_keep_bounds}
 use Rattle.prem_stub_laws.specs.Join.Joined.{JobLimits, TaskJoins, IsJoined}
 use Rattle.prem_stub_laws.proofs.JoinLemmas.Joined.{chosen, Scripted, joined_script, joined_calls, run_fits, runs}
 use Rattle.prem_sets_sound.specs.Each.Joins.{TaskPaces}

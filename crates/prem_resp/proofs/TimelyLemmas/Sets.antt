@@ -1,6 +1,6 @@
 -- Sets that break no rule meet their deadlines.
-use Rattle.std.proofs.Common.{◌≡◌, ℕ, ◌<◌, ap, ◌∙◌, sym, subst, arith, List, [], length, map, Some, slice_get}
 use Rattle.std.specs.Prelude.{option_map}
+use Rattle.std.proofs.Common.{◌≡◌, ℕ, ◌<◌, ap, ◌∙◌, sym, subst, arith, List, [], length, map, Some, slice_get}
 use Rattle.std.proofs.lemmas.List.{length-map}
 use Rattle.std.proofs.lemmas.Option.{slice_get-map, get_or_from_slice_get}
 use Rattle.prem_plant.specs.declared.plant.Plant.{Plant}
@@ -8,26 +8,26 @@ use Rattle.prem_plant.specs.declared.plant.Device.{Device}
 use Rattle.prem_plant.specs.Places.{Extent}
 use Rattle.prem_order.specs.Rules.{order_rule_of, passes_of}
 use Rattle.prem_lru.specs.Rules.{rule_of}
-use Rattle.prem_sound.proofs.ResidentLemmas.Policies.{kind_policy}
-use Rattle.prem_sound.specs.Script.Scripts.{Promise}
 use Rattle.prem_cycle.specs.Alone.{run_in}
+use Rattle.prem_sound.specs.Script.Scripts.{Promise}
+use Rattle.prem_sound.specs.Sound.{AreInputs}
+use Rattle.prem_sound.proofs.ResidentLemmas.Policies.{kind_policy}
 use Rattle.prem_layout.specs.Parts.{pass_count, stub_passes}
 use Rattle.prem_layout.specs.Placed.{Coded, Placed, placed_from}
 use Rattle.prem_layout.specs.Image.{task_record}
+use Rattle.prem_tasks.specs.Compiled.{coded_in, places_in}
 use Rattle.prem_stub_laws.specs.Own.Owned.{own_of, setup_of}
 use Rattle.prem_stub_laws.specs.Initial.Initial.{content_of}
-use Rattle.prem_sound.specs.Sound.{AreInputs}
-use Rattle.prem_tasks.specs.Compiled.{coded_in, places_in}
 use Rattle.prem_stub_laws.specs.Join.Joined.{JobLimits}
 use Rattle.prem_task_laws.specs.TaskFrame.Limits.{task_limits}
 use Rattle.prem_task_laws.specs.TaskBytes.Parts.{IsPlacedTask}
 use Rattle.prem_sets_sound.specs.Each.Joins.{TaskPaces, task_longest}
+use Rattle.prem_sets_sound.specs.Accepted.Accepted.{HasCodedValues, IsLaidOut, limits_at, no_limits}
+use Rattle.prem_sets_sound.specs.Meant.{promises_in, AreMeant}
 use Rattle.prem_sets_sound.proofs.EachLemmas.Each.{tasks_pace}
 use Rattle.prem_sets_sound.proofs.EachLemmas.Words.{all_there}
-use Rattle.prem_sets_sound.specs.Accepted.Accepted.{HasCodedValues, IsLaidOut, limits_at, no_limits}
 use Rattle.prem_sets_sound.proofs.AcceptedLemmas.Records.{have_code}
 use Rattle.prem_sets_sound.proofs.AcceptedLemmas.Whole.{accepted_sets_are_laid_out, default_places_are_lawful}
-use Rattle.prem_sets_sound.specs.Meant.{promises_in, AreMeant}
 use Rattle.prem_sets_sound.proofs.Sound.{task_there, there, accepted_tasks_are_meant, as_stubs_make}
 use Rattle.prem_resp.specs.Timely.Timely.{EachPaces, longest_at, SetsMeetDeadlines}
 use Rattle.prem_resp.proofs.TimelyLemmas.Images.{laid_out_sets_meet_deadlines}
@@ -50,7 +50,7 @@ module _ (passes : ℕ → ℕ) (p : Plant) (devices : List Device) (tasks : Lis
       (subst (λ (q : Promise). TaskPaces (setup_of p devices places tasks) passes (own_of tasks places k) (run_in (setup_of p devices places tasks) (content_of p places tasks) inputs k) (task_limits p t) (task_longest p t) q) (sym (m.promise_is inputs)) paces))
 
 -- at any lawful places
-pub meant_tasks_pace : (passes : ℕ → ℕ) (p : Plant) (devices : List Device) (tasks : List Coded) (places : List Extent) (promises : List (List ℕ) → ℕ → Promise) → IsLaidOut p devices tasks places → passes p.ways ≡ pass_count (stub_passes p) →
+meant_tasks_pace : (passes : ℕ → ℕ) (p : Plant) (devices : List Device) (tasks : List Coded) (places : List Extent) (promises : List (List ℕ) → ℕ → Promise) → IsLaidOut p devices tasks places → passes p.ways ≡ pass_count (stub_passes p) →
     AreMeant p (placed_from p places tasks) promises → EachPaces passes p devices tasks places promises
 meant_tasks_pace passes p devices tasks places promises laid same meant inputs are k lt =
     let long : length (map task_record (placed_from p places tasks)) ≡ length (placed_from p places tasks) = length-map (placed_from p places tasks) task_record in

@@ -1,9 +1,9 @@
 -- Images whose jobs end in time.
 use Rattle.std.specs.Prelude.{◌≡◌, ℕ, ◌+◌, ◌*◌, ◌<◌, ◌≤◌, Bool, List, length}
-use Rattle.prem_lru.specs.Entries.{ReplacementRule}
-use Rattle.prem_order.specs.Order.{OrderRule}
-use Rattle.prem_gate.specs.declared.request.Request.{Request}
 use Rattle.prem_sched.specs.Schedule.{task_at}
+use Rattle.prem_order.specs.Order.{OrderRule}
+use Rattle.prem_lru.specs.Entries.{ReplacementRule}
+use Rattle.prem_gate.specs.declared.request.Request.{Request}
 use Rattle.prem_cycle.specs.Alone.{run_in}
 use Rattle.prem_cycle.specs.Inputs.{IsTrace}
 use Rattle.prem_cycle.specs.State.{Setup, record_of}

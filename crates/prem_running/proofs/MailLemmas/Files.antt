@@ -1,12 +1,12 @@
 -- A mail file that is read is the feeds that it says, or the answer to its first wrong line.
 use Rattle.std.proofs.Common.{◌≡◌, ℕ, List, Result, Ok, Err, ap, sym, ◌∙◌, refl}
 use Rattle.prem_tasks.specs.Broken.{TaskSet}
-use Rattle.prem_answer.specs.Stages.{Reply, Reads, Stage, IsFine, form_reply}
-use Rattle.prem_answer.proofs.Reading.{reading_fine}
-use Rattle.prem_exec.specs.Sources.Sources.{names_of}
 use Rattle.prem_mail.specs.declared.feed.Feed.{Feed}
 use Rattle.prem_mail.specs.declared.fail.MailWhich.{MailWhich}
 use Rattle.prem_mail.specs.MailFile.{MailRefusal, feeds_of}
+use Rattle.prem_answer.specs.Stages.{Reply, Reads, Stage, IsFine, form_reply}
+use Rattle.prem_answer.proofs.Reading.{reading_fine}
+use Rattle.prem_exec.specs.Sources.Sources.{names_of}
 use Rattle.prem_running.specs.Mail.Files.{mail_limit, line_why, feeds_in, feeds_of_bytes, reading_mail}
 
 pub mail_formed : (name : List ℕ) (read : Result (List Feed) MailRefusal) (feeds : List Feed) → read ≡ Ok feeds → feeds_in name read ≡ Ok feeds

@@ -5,25 +5,25 @@ use Rattle.prem_list.specs.Sequence.{items_of}
 use Rattle.prem_io.specs.Files.{Files}
 use Rattle.prem_image.specs.declared.image.TaskRecord.{TaskRecord}
 use Rattle.prem_image.specs.declared.image.DeviceRecord.{DeviceRecord}
-use Rattle.prem_set.specs.Run.Names.{KnownNames}
-use Rattle.prem_report.specs.Fitting.Named.{names_for}
 use Rattle.prem_layout.specs.Rules.{Refusal}
 use Rattle.prem_tasks.specs.Told.{Told}
 use Rattle.prem_tasks.specs.Broken.{TaskSet, broken}
 use Rattle.prem_tasks.specs.Compiled.{CompiledText, compiled}
 use Rattle.prem_compile.specs.declared.compiled.Compiled.{Compiled}
 use Rattle.prem_compile.specs.CompiledOf.{IsCompiled, compiled_of}
+use Rattle.prem_set.specs.Run.Names.{KnownNames}
 use Rattle.prem_command.specs.Words.{MailAsked}
+use Rattle.prem_report.specs.Fitting.Named.{names_for}
+use Rattle.prem_mail.specs.declared.feed.Feed.{Feed}
+use Rattle.prem_mail.specs.Feeds.{AreFeeds}
 use Rattle.prem_answer.specs.Stages.{Reply, Reads, Stage, IsFine, IsGiven, IsReadAs, is_settled}
 use Rattle.prem_answer.proofs.Reading.{goes_on, ends_there, gives_at_once}
 use Rattle.prem_exec.specs.Forms.{RunText}
 use Rattle.prem_exec.specs.Sources.Sources.{Passes, names_of, reading_run, reading_set, run_limit as file_limit, run_of_bytes}
 use Rattle.prem_exec.proofs.SourcesLemmas.Fine.{run_fine, set_fine}
-use Rattle.prem_running.proofs.SetLawsLemmas.Names.{names_are_kept}
-use Rattle.prem_mail.specs.declared.feed.Feed.{Feed}
-use Rattle.prem_mail.specs.Feeds.{AreFeeds}
 use Rattle.prem_running.specs.Mail.Files.{mail_limit, feeds_of_bytes, reading_mail}
 use Rattle.prem_running.specs.Mail.Mail.{compiled_reply, judged_reply, set_reply, mail_stages}
+use Rattle.prem_running.proofs.SetLawsLemmas.Names.{names_are_kept}
 use Rattle.prem_running.proofs.MailLemmas.Files.{mail_fine}
 
 -- ---- feeds

@@ -1,23 +1,23 @@
 -- What is told of a run with feeds is what is delivered, and the run on the delivered lists.
 use Rattle.std.proofs.Common.{◌≡◌, ℕ, ◌-◌, List, Some, ap, ◌∙◌, arith}
 use Rattle.prem_list.specs.Sequence.{items_of}
-use Rattle.prem_image.specs.declared.image.Image.{Image}
-use Rattle.prem_image.specs.Text.{image_text}
 use Rattle.prem_gate.specs.declared.request.Request.{Request}
 use Rattle.prem_gate.specs.declared.request.RunInput.{RunInput}
+use Rattle.prem_image.specs.declared.image.Image.{Image}
+use Rattle.prem_image.specs.Text.{image_text}
 use Rattle.prem_cycle.specs.declared.state.Stop.{Stop}
 use Rattle.prem_cycle.specs.State.{Setup, MachineState, rule_in}
 use Rattle.prem_cycle.specs.FactsOf.{stop_of}
 use Rattle.prem_cycle.specs.Inputs.{FitsRun, setup_of, words_of}
-use Rattle.prem_answer.specs.declared.status.Status.TheVariants.{Done}
-use Rattle.prem_answer.specs.Stages.{Reply}
-use Rattle.prem_exec.specs.Exec.{input_of, stop_at}
-use Rattle.prem_exec.proofs.Stages.{stop_is}
 use Rattle.prem_mail.specs.declared.feed.Feed.{Feed}
 use Rattle.prem_mail.specs.Delivery.{Delivery}
 use Rattle.prem_mail.specs.Mailing.{Mailed, Mailing, mailed_by}
 use Rattle.prem_mail.specs.Laws.{IsRun, mailed_first, mailed_run}
 use Rattle.prem_mail.proofs.Runs.{mailed_runs_are_runs}
+use Rattle.prem_answer.specs.declared.status.Status.TheVariants.{Done}
+use Rattle.prem_answer.specs.Stages.{Reply}
+use Rattle.prem_exec.specs.Exec.{input_of, stop_at}
+use Rattle.prem_exec.proofs.Stages.{stop_is}
 use Rattle.prem_running.specs.Mail.Text.{mailed_text}
 use Rattle.prem_running.specs.Mail.Mail.{delivered_at, mailed_state, mailed_reply}
 

@@ -1,6 +1,6 @@
 -- A set of one task and a device, and a run file, computed: the laws speak of them.
-use Rattle.std.proofs.Common.{◌≡◌, ℕ, ◌≤◌, List, [], ◌∷◌, refl, None, Some, Ok, arith}
 use Rattle.std.specs.Prelude.{codes}
+use Rattle.std.proofs.Common.{◌≡◌, ℕ, ◌≤◌, List, [], ◌∷◌, refl, None, Some, Ok, arith}
 use Rattle.std.proofs.lemmas.List.Elements.{All-from_recursion}
 use Rattle.prem_plant.specs.Label.{IsName}
 use Rattle.prem_plant.specs.Ranges.{IsDevice, default_plant}
@@ -9,19 +9,19 @@ use Rattle.prem_lru.specs.Rules.{rule_of}
 use Rattle.prem_cycle.specs.declared.state.Stop.TheVariants.{Finished}
 use Rattle.prem_cycle.specs.Run.{run_of}
 use Rattle.prem_sound.specs.Good.{Good}
+use Rattle.prem_meaning.specs.GroupTwo.{group_two}
 use Rattle.prem_lexer.specs.Tokens.{tokens_of, lex, step, start, first_token}
 use Rattle.prem_lexer.specs.Spelling.{reserved_word, used_word, is_unused, longest_mark}
 use Rattle.prem_lexer.specs.Literal.{literal_word}
-use Rattle.prem_meaning.specs.GroupTwo.{group_two}
 use Rattle.prem_ranges.specs.GroupThree.{group_three}
 use Rattle.prem_tasks.specs.Broken.{TaskText, TaskSet, broken}
 use Rattle.prem_tasks.specs.Compiled.{compiled}
+use Rattle.prem_sets_sound.specs.Accepted.Accepted.{HasTextValues, HasValues, setup_in}
+use Rattle.prem_sets_sound.specs.Meant.{promises_in}
+use Rattle.prem_sets_sound.proofs.AcceptedLemmas.Sample.{one_name, net_is, net}
 use Rattle.prem_set.specs.Run.Run.{Gathered, inputs_of, request_words, request_of, in_words, req_words, line_read, lines_read, run_of as lines_of_run}
 use Rattle.prem_exec.specs.Exec.{stop_at}
 use Rattle.prem_exec.specs.Sources.Sources.{names_of}
-use Rattle.prem_sets_sound.specs.Accepted.Accepted.{HasTextValues, HasValues, setup_in}
-use Rattle.prem_sets_sound.proofs.AcceptedLemmas.Sample.{one_name, net_is, net}
-use Rattle.prem_sets_sound.specs.Meant.{promises_in}
 use Rattle.prem_running.specs.RunSound.Runs.{SuitsRun}
 use Rattle.prem_running.proofs.RunSoundLemmas.SetRuns.{inputs_are_lawful, set_runs_are_good, set_reports_end}
 

@@ -1,15 +1,15 @@
 -- The values that run files give are words.
+use Rattle.std.specs.Str.{bytes_eq}
 use Rattle.std.proofs.Common.{◌≡◌, ◌<◌, ◌≤◌, ◌^◌, ◌-◌, ◌%◌, ◌+◌, ◌==◌, ℕ, nat_lt, nat_le, List, [], ◌∷◌, ◌++◌, length, All, get_or, set, Option, None, Some, IfSome, option_map, Result, Ok, Err, codes, refl, sym, subst, arith, inl, inr, ⊎_elim}
 use Rattle.std.proofs.lemmas.Bool.{cases_Bool, cases_lt, leb-true}
 use Rattle.std.proofs.lemmas.List.{get_or_past}
 use Rattle.std.proofs.lemmas.List.Elements.{All-nil, All-push, All-set, All-replicate}
 use Rattle.std.proofs.lemmas.Option.{none-some, same_Some}
-use Rattle.std.specs.Str.{bytes_eq}
-use Rattle.prem_gate.specs.declared.request.Request.{Request}
 use Rattle.prem_line.specs.Chain.{◌>>=◌, wanted, holds}
 use Rattle.prem_line.specs.Lines.{lines_of, words_of, is_skipped, is_text, first_of}
 use Rattle.prem_line.specs.Numbers.{value_of, number_of, up_to}
 use Rattle.prem_line.proofs.Chain.{same_Ok, no_value, bound, held, found}
+use Rattle.prem_gate.specs.declared.request.Request.{Request}
 use Rattle.prem_sound.specs.Serve.Requests.{PutWords}
 use Rattle.prem_set.specs.declared.run.fail.Which.{Which}
 use Rattle.prem_set.specs.declared.run.fail.Which.TheVariants as which

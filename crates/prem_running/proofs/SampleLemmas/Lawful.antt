@@ -1,8 +1,8 @@
 -- The set of a sample is lawful, and so is what comes to its run.
-use Rattle.std.proofs.Common.{◌≡◌, ℕ, zero, suc, ◌+◌, ◌*◌, ◌/◌, ◌<◌, ◌≤◌, List, [], ◌∷◌, length, map, get_or, refl, ap, sym, ◌∙◌, subst, arith, lit≤, All}
 use Rattle.std.specs.Prelude.{codes}
 use Rattle.std.specs.List.{AllByRecursion}
 use Rattle.std.specs.List.Sorted.{IsNonDecreasingBy}
+use Rattle.std.proofs.Common.{◌≡◌, ℕ, zero, suc, ◌+◌, ◌*◌, ◌/◌, ◌<◌, ◌≤◌, List, [], ◌∷◌, length, map, get_or, refl, ap, sym, ◌∙◌, subst, arith, lit≤, All}
 use Rattle.std.proofs.lemmas.Nat.{mod_below}
 use Rattle.std.proofs.lemmas.List.{length-map}
 use Rattle.std.proofs.lemmas.List.Elements.{All-nil, All-cons}
@@ -12,14 +12,14 @@ use Rattle.prem_plant.specs.Label.{IsName}
 use Rattle.prem_plant.specs.Ranges.{IsPlant, IsDevice}
 use Rattle.prem_gate.specs.declared.request.Request.{Request}
 use Rattle.prem_gate.specs.declared.request.RunInput.{RunInput}
-use Rattle.prem_set.specs.Run.Names.{KnownNames}
-use Rattle.prem_set.specs.Run.Lawful.{IsKnown, IsLawful, IsLawfulRun}
 use Rattle.prem_syntax.specs.Syntax.{Text}
 use Rattle.prem_tasks.specs.declared.set.TaskText.{TaskText as TaskTree}
 use Rattle.prem_tasks.specs.Lawful.{IsTaskText, AreDevices, AreTasks, IsSet, device_names, task_names as tree_names, are_new}
 use Rattle.prem_tasks.specs.Broken.{TaskText, TaskSet}
 use Rattle.prem_tasks.specs.SetOf.{task_of}
 use Rattle.prem_tasks.proofs.Distinct.{devices_are, tasks_are}
+use Rattle.prem_set.specs.Run.Names.{KnownNames}
+use Rattle.prem_set.specs.Run.Lawful.{IsKnown, IsLawful, IsLawfulRun}
 use Rattle.prem_exec.specs.Forms.{RunText}
 use Rattle.prem_exec.specs.Exec.{input_of}
 use Rattle.prem_running.specs.SetLaws.Laws.{set_names}

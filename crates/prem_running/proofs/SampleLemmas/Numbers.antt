@@ -18,22 +18,22 @@ next_is x =
 
 -- ---- lists of draws
 
-pub none_after : (x : ℕ) → after 0 x ≡ x
+none_after : (x : ℕ) → after 0 x ≡ x
 unfolding after
 none_after x = refl
 
-pub no_numbers : (m x : ℕ) → numbers m 0 x ≡ []
+no_numbers : (m x : ℕ) → numbers m 0 x ≡ []
 unfolding numbers
 no_numbers m x = refl
 
 -- of those that are left, the first one
-pub after_first : (count k x : ℕ) → k < count → after (count - k) x ≡ after (count - (k + 1)) (next x)
+after_first : (count k x : ℕ) → k < count → after (count - k) x ≡ after (count - (k + 1)) (next x)
 unfolding after
 after_first count k x below =
     let left : count - k ≡ suc (count - (k + 1)) = omega (arith, below) in
     ap (λ n. after n x) left
 
-pub numbers_first : (m count k x : ℕ) → k < count → numbers m (count - k) x ≡ drawn m (next x) ∷ numbers m (count - (k + 1)) (next x)
+numbers_first : (m count k x : ℕ) → k < count → numbers m (count - k) x ≡ drawn m (next x) ∷ numbers m (count - (k + 1)) (next x)
 unfolding numbers
 numbers_first m count k x below =
     let left : count - k ≡ suc (count - (k + 1)) = omega (arith, below) in
@@ -75,7 +75,7 @@ pub no_requests : (before x : ℕ) → requests_from 0 before x ≡ []
 unfolding requests_from
 no_requests before x = refl
 
-pub requests_first : (count k before x : ℕ) → k < count →
+requests_first : (count k before x : ℕ) → k < count →
     requests_from (count - k) before x ≡ request_at before x ∷ requests_from (count - (k + 1)) (request_at before x).cycle (next (next (next (next x))))
 unfolding requests_from
 requests_first count k before x below =

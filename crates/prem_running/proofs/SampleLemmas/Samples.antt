@@ -1,8 +1,8 @@
 -- Draws from the seed 7, and lines of the text, computed.
-use Rattle.std.proofs.Common.{◌≡◌, ℕ, [], ◌∷◌, Some, refl}
 use Rattle.std.specs.Prelude.{codes, decimal}
 use Rattle.std.specs.Fmt.{digits}
 use Rattle.std.specs.List.{join_by}
+use Rattle.std.proofs.Common.{◌≡◌, ℕ, [], ◌∷◌, Some, refl}
 use Rattle.prem_gate.specs.declared.request.Request.{Request}
 use Rattle.prem_running.specs.Sample.Draws.{next, after, numbers}
 use Rattle.prem_running.specs.Sample.Trace.{behind_tasks, requests_from, task_names}

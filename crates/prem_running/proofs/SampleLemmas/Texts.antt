@@ -1,7 +1,7 @@
 -- Texts and tasks, put together from their parts.
-use Rattle.std.proofs.Common.{◌≡◌, ℕ, List, [], ◌∷◌, ◌++◌, append_assoc, ap, ap₂, sym, ◌∙◌}
 use Rattle.std.specs.Prelude.{codes, decimal}
 use Rattle.std.specs.List.{join_by}
+use Rattle.std.proofs.Common.{◌≡◌, ℕ, List, [], ◌∷◌, ◌++◌, append_assoc, ap, ap₂, sym, ◌∙◌}
 use Rattle.prem_tasks.specs.Broken.{TaskText}
 use Rattle.prem_running.specs.Sample.Trace.{filter_lines, program_text, behind_task, task_at, task_names, tasks_from}
 

@@ -1,26 +1,26 @@
 -- What is told of the run of a compiled sample is the answer.
 use Rattle.std.proofs.Common.{◌≡◌, ℕ, List, Option, None, Some, IsTrue, refl, ap, ◌∙◌, sym, Result, Ok, Err}
-use Rattle.prem_cycle.specs.declared.state.Stop.{Stop}
 use Rattle.prem_io.specs.Files.{Files}
+use Rattle.prem_image.specs.Text.{ImageText}
+use Rattle.prem_cycle.specs.declared.state.Stop.{Stop}
+use Rattle.prem_cycle.specs.State.{MachineState}
+use Rattle.prem_cycle.specs.FactsOf.{Report, report_of}
 use Rattle.prem_layout.specs.Rules.{Refusal}
 use Rattle.prem_tasks.specs.Told.{Told}
 use Rattle.prem_tasks.specs.Broken.{TaskText, TaskSet, broken}
 use Rattle.prem_tasks.specs.Compiled.{CompiledText, compiled}
 use Rattle.prem_compile.specs.declared.compiled.Compiled.{Compiled}
 use Rattle.prem_compile.specs.CompiledOf.{IsCompiled, compiled_of}
-use Rattle.prem_cycle.specs.State.{MachineState}
-use Rattle.prem_cycle.specs.FactsOf.{Report, report_of}
-use Rattle.prem_image.specs.Text.{ImageText}
 use Rattle.prem_answer.specs.declared.status.Status.{Status}
 use Rattle.prem_answer.specs.declared.status.Status.TheVariants.{Done}
 use Rattle.prem_answer.specs.declared.answer.Answer.{Answer}
 use Rattle.prem_answer.specs.declared.answer.Halt.{Halt}
 use Rattle.prem_answer.specs.declared.answer.Halt.TheVariants.{Answered, ReadFault, OutOfMemory}
 use Rattle.prem_answer.specs.Stages.{Comes, IsGiven, reply_of, Reply, Reads, IsFine, is_settled}
+use Rattle.prem_answer.specs.Refusal.Texts.{refused_reply}
+use Rattle.prem_answer.proofs.Reading.{gives_at_once}
 use Rattle.prem_exec.specs.Forms.{RunText}
 use Rattle.prem_exec.specs.Exec.{state_at, stop_at}
-use Rattle.prem_answer.proofs.Reading.{gives_at_once}
-use Rattle.prem_answer.specs.Refusal.Texts.{refused_reply}
 use Rattle.prem_running.specs.Sample.Trace.{sample_run, sample_set}
 use Rattle.prem_running.specs.Sample.Sample.{compiled_reply, judged_reply, sample_reply, sample_stages, sample_text, told_reply}
 
@@ -75,7 +75,7 @@ sample_is_fine seed reads = judged_fine seed (broken (sample_set seed))
 at_once : (told : Option Files) (seed : ℕ) (given : Result Reply Reply) → given ≡ Ok (sample_reply seed) → IsGiven told (sample_stages seed) given
 at_once told seed given is = let (reads, (are, same)) = gives_at_once told given in (reads, (are, is))
 
-pub sample_given : (told : Option Files) (seed : ℕ) (r : Result Answer Halt) → Comes reply_of (λ given. given ≡ Ok (sample_reply seed)) r →
+sample_given : (told : Option Files) (seed : ℕ) (r : Result Answer Halt) → Comes reply_of (λ given. given ≡ Ok (sample_reply seed)) r →
     Comes reply_of (IsGiven told (sample_stages seed)) r
 sample_given told seed (Ok a) is = at_once told seed (Ok (reply_of a)) is
 sample_given told seed (Err (Answered a)) is = at_once told seed (Err (reply_of a)) is

@@ -1,7 +1,7 @@
 -- The names of a set are those of its image.
-use Rattle.std.proofs.Common.{◌≡◌, ℕ, suc, ◌+◌, ◌-◌, List, [], ◌∷◌, ◌++◌, None, Some, Result, Ok, Err, length, map, drop, length-append, length-drop, refl, ap, ap₂, sym, ◌∙◌, subst, arith}
 use Rattle.std.specs.Int.{next_multiple_of}
 use Rattle.std.specs.List.{AllByRecursion}
+use Rattle.std.proofs.Common.{◌≡◌, ℕ, suc, ◌+◌, ◌-◌, List, [], ◌∷◌, ◌++◌, None, Some, Result, Ok, Err, length, map, drop, length-append, length-drop, refl, ap, ap₂, sym, ◌∙◌, subst, arith}
 use Rattle.std.proofs.lemmas.List.{length-map}
 use Rattle.prem_plant.specs.declared.plant.Target.{Target}
 use Rattle.prem_plant.specs.declared.plant.Plant.{Plant}
@@ -9,21 +9,17 @@ use Rattle.prem_plant.specs.declared.plant.Device.{Device}
 use Rattle.prem_plant.specs.declared.layout.PartKind.TheVariants.{Stack}
 use Rattle.prem_plant.specs.declared.layout.PartSize.{PartSize}
 use Rattle.prem_plant.specs.Places.{Extent, places_from, default_places}
-use Rattle.prem_image.specs.Records.{task_names}
 use Rattle.prem_gate.specs.declared.request.Request.{Request}
+use Rattle.prem_image.specs.Records.{task_names}
+use Rattle.prem_cycle.specs.Inputs.{FitsRun, image_setup}
 use Rattle.prem_syntax.specs.Syntax.{Text, ProgramText}
+use Rattle.prem_meaning.specs.Resolved.{Routine, Resolved}
 use Rattle.prem_lexer.specs.declared.token.fail.FrontFail.{FrontFail}
 use Rattle.prem_text.specs.Texts.{reads}
-use Rattle.prem_meaning.specs.Resolved.{Routine, Resolved}
 use Rattle.prem_asm.specs.Pieces.{size_of}
 use Rattle.prem_template.specs.Frames.{stack_size}
 use Rattle.prem_template.specs.Parts.{codes_of}
 use Rattle.prem_template.specs.Steps.{Parts}
-use Rattle.prem_set.specs.Run.Names.{known_of}
-use Rattle.prem_set.specs.Run.Lawful.{IsLawful}
-use Rattle.prem_report.specs.Fitting.Named.{devices_in, names_for}
-use Rattle.prem_report.proofs.FittingLemmas.Fits.{lawful_fits}
-use Rattle.prem_cycle.specs.Inputs.{FitsRun, image_setup}
 use Rattle.prem_layout.specs.Plans.{plans_of}
 use Rattle.prem_layout.specs.Parts.{Passes, stub_passes, part, code_parts, stub_parts, global_parts, task_parts, parts_from, area_parts, part_count}
 use Rattle.prem_layout.specs.Placed.{Coded, sized_of, parts_of, placed_from, part_total}
@@ -32,6 +28,10 @@ use Rattle.prem_layout.specs.Rules.{or_else, refused_by, first_among, over_tasks
 use Rattle.prem_layout.proofs.TaskParts.{code_counted, globals_counted, areas_counted}
 use Rattle.prem_tasks.specs.Broken.{TaskText, TaskSet, unread, group_one, program_before, programs_of, coded_of, broken_programs, broken}
 use Rattle.prem_tasks.specs.Compiled.{compiled, coded_in, places_in}
+use Rattle.prem_set.specs.Run.Names.{known_of}
+use Rattle.prem_set.specs.Run.Lawful.{IsLawful}
+use Rattle.prem_report.specs.Fitting.Named.{devices_in, names_for}
+use Rattle.prem_report.proofs.FittingLemmas.Fits.{lawful_fits}
 use Rattle.prem_running.specs.SetLaws.Laws.{set_names}
 use Rattle.prem_running.proofs.SetLawsLemmas.Nothing.{none_first}
 

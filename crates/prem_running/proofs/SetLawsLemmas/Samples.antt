@@ -1,23 +1,23 @@
 -- A set of one task with a device, computed: it breaks no rule, so that the laws speak of it.
-use Rattle.std.proofs.Common.{◌≡◌, ℕ, List, [], ◌∷◌, Option, None, Some, Result, Ok, refl, ap, ◌∙◌}
 use Rattle.std.specs.Prelude.{codes}
+use Rattle.std.proofs.Common.{◌≡◌, ℕ, List, [], ◌∷◌, Option, None, Some, Result, Ok, refl, ap, ◌∙◌}
 use Rattle.prem_word.specs.declared.kind.Kind.TheVariants.{Int}
 use Rattle.prem_plant.specs.Ranges.{default_plant}
 use Rattle.prem_syntax.specs.declared.tree.Place.{Place}
 use Rattle.prem_syntax.specs.Syntax.{literal, ProgramText}
 use Rattle.prem_meaning.specs.GroupTwo as meaning
 use Rattle.prem_meaning.specs.Sums.{outputs, job_program}
-use Rattle.prem_ranges.specs.GroupThree as ranges
 use Rattle.prem_lexer.specs.declared.token.fail.FrontFail.{FrontFail}
 use Rattle.prem_lexer.specs.Spelling.{used_word, is_unused, reserved_word, longest_mark}
 use Rattle.prem_lexer.specs.Literal.{literal_word}
 use Rattle.prem_lexer.specs.Tokens.{first_token, start, step, lex, tokens_of}
 use Rattle.prem_text.specs.Texts.{reads}
-use Rattle.prem_report.specs.Fitting.Named.{names_for}
+use Rattle.prem_ranges.specs.GroupThree as ranges
 use Rattle.prem_layout.specs.Rules.{Refusal, or_else, refused_by}
 use Rattle.prem_tasks.specs.Told.{Told}
 use Rattle.prem_tasks.specs.Broken.{TaskSet, unread, program_before, broken_programs, broken}
 use Rattle.prem_tasks.specs.Compiled.{compiled}
+use Rattle.prem_report.specs.Fitting.Named.{names_for}
 use Rattle.prem_running.proofs.SetLawsLemmas.Names.{names_are_kept}
 
 abbrev five_text : List ℕ

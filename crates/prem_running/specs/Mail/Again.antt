@@ -3,8 +3,8 @@ use Rattle.std.specs.Prelude.{◌≡◌, ◌++◌, false, List}
 use Rattle.prem_tasks.specs.Broken.{TaskSet}
 use Rattle.prem_tasks.specs.Compiled.{compiled}
 use Rattle.prem_command.specs.Words.{RunAsked, MailAsked}
-use Rattle.prem_exec.specs.Forms.{RunText}
 use Rattle.prem_mail.specs.declared.feed.Feed.{Feed}
+use Rattle.prem_exec.specs.Forms.{RunText}
 use Rattle.prem_running.specs.Running.{run_limit, compiled_reply}
 use Rattle.prem_running.specs.Mail.Mail.{delivered_at, mailed_input, compiled_reply as mailed_reply}
 use Rattle.prem_running.specs.Mail.Text.{lists_text, losses_text}

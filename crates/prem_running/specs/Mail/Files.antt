@@ -1,12 +1,12 @@
 -- The mail file of a task set.
 use Rattle.std.specs.Prelude.{ℕ, List, ◌++◌, Result, Ok, Err, codes, decimal}
 use Rattle.prem_tasks.specs.Broken.{TaskSet}
-use Rattle.prem_answer.specs.Stages.{Reply, Stage, form_reply, reading}
-use Rattle.prem_exec.specs.Sources.Sources.{names_of}
 use Rattle.prem_mail.specs.declared.feed.Feed.{Feed}
 use Rattle.prem_mail.specs.declared.fail.MailWhich.{MailWhich}
 use Rattle.prem_mail.specs.declared.fail.MailWhich.TheVariants as which
 use Rattle.prem_mail.specs.MailFile.{MailRefusal, feeds_of}
+use Rattle.prem_answer.specs.Stages.{Reply, Stage, form_reply, reading}
+use Rattle.prem_exec.specs.Sources.Sources.{names_of}
 
 -- the bytes that a mail file has at most
 abbrev pub mail_limit : ℕ

@@ -1,14 +1,16 @@
 -- The answer to `mail SET RUN MAIL`: what the run of a compiled set tells in which devices feed its tasks, or the first rule that the set breaks.
 use Rattle.std.specs.Prelude.{ℕ, List, Option, None, Some, Ok}
 use Rattle.prem_lru.specs.Rules.{rule_of}
+use Rattle.prem_image.specs.Text.{ImageText}
 use Rattle.prem_cycle.specs.State.{MachineState}
 use Rattle.prem_cycle.specs.Inputs.{image_setup}
-use Rattle.prem_image.specs.Text.{ImageText}
 use Rattle.prem_layout.specs.Rules.{Refusal}
 use Rattle.prem_tasks.specs.Told.{Told}
 use Rattle.prem_tasks.specs.Broken.{TaskSet, broken}
 use Rattle.prem_tasks.specs.Compiled.{CompiledText, compiled}
 use Rattle.prem_command.specs.Words.{MailAsked}
+use Rattle.prem_mail.specs.declared.feed.Feed.{Feed}
+use Rattle.prem_mail.specs.Delivery.{Delivery, delivered_in}
 use Rattle.prem_answer.specs.declared.status.Status.TheVariants.{Done}
 use Rattle.prem_answer.specs.Stages.{Reply, Stage}
 use Rattle.prem_answer.specs.Refusal.Texts.{refused_reply}
@@ -16,8 +18,6 @@ use Rattle.prem_exec.specs.Forms.{RunText}
 use Rattle.prem_exec.specs.Exec.{state_at, stop_at}
 use Rattle.prem_exec.specs.Sources.Sources.{reading_set, reading_run}
 use Rattle.prem_running.specs.Running.{run_limit}
-use Rattle.prem_mail.specs.declared.feed.Feed.{Feed}
-use Rattle.prem_mail.specs.Delivery.{Delivery, delivered_in}
 use Rattle.prem_running.specs.Mail.Files.{reading_mail}
 use Rattle.prem_running.specs.Mail.Text.{mailed_text}
 

@@ -3,10 +3,10 @@ use Rattle.std.specs.Prelude.{ℕ, ◌%◌, ◌^◌, ◌++◌, List, length, Opt
 use Rattle.std.specs.List.{flat_map, sum}
 use Rattle.prem_image.specs.declared.image.DeviceRecord.{DeviceRecord}
 use Rattle.prem_image.specs.declared.image.TaskRecord.{TaskRecord}
+use Rattle.prem_image.specs.Text.{ImageText}
 use Rattle.prem_cycle.specs.declared.state.Stop.{Stop}
 use Rattle.prem_cycle.specs.State.{MachineState}
 use Rattle.prem_cycle.specs.FactsOf.{TaskReport, Report, report_of}
-use Rattle.prem_image.specs.Text.{ImageText}
 use Rattle.prem_layout.specs.Rules.{Refusal}
 use Rattle.prem_tasks.specs.Told.{Told}
 use Rattle.prem_tasks.specs.Broken.{broken}
@@ -14,8 +14,8 @@ use Rattle.prem_tasks.specs.Compiled.{CompiledText, compiled}
 use Rattle.prem_report.specs.Report.{counts_text, devices_text, stop_line}
 use Rattle.prem_answer.specs.declared.status.Status.TheVariants.{Done}
 use Rattle.prem_answer.specs.Stages.{Reply, Stage}
-use Rattle.prem_exec.specs.Exec.{state_at, stop_at}
 use Rattle.prem_answer.specs.Refusal.Texts.{refused_reply}
+use Rattle.prem_exec.specs.Exec.{state_at, stop_at}
 use Rattle.prem_running.specs.Sample.Trace.{sample_set, sample_run}
 
 -- ---- the text

@@ -3,8 +3,8 @@ use Rattle.std.specs.Prelude.{ℕ, zero, suc, ◌+◌, ◌++◌, List, [], ◌�
 use Rattle.std.specs.List.{flat_map, join_by}
 use Rattle.prem_plant.specs.declared.plant.Device.{Device}
 use Rattle.prem_plant.specs.Ranges.{default_plant}
-use Rattle.prem_syntax.specs.Syntax.{Text}
 use Rattle.prem_gate.specs.declared.request.Request.{Request}
+use Rattle.prem_syntax.specs.Syntax.{Text}
 use Rattle.prem_tasks.specs.Broken.{TaskText, TaskSet}
 use Rattle.prem_exec.specs.Forms.{RunText}
 use Rattle.prem_running.specs.Sample.Draws.{next, drawn, after, numbers}

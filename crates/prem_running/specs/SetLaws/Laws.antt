@@ -2,13 +2,13 @@
 use Rattle.std.specs.Prelude.{◌≡◌, ◌≤◌, ◌^◌, ℕ, List, None, map}
 use Rattle.prem_gate.specs.declared.request.Request.{Request}
 use Rattle.prem_cycle.specs.Inputs.{FitsRun, image_setup}
-use Rattle.prem_set.specs.Run.Names.{KnownNames, known_of}
-use Rattle.prem_set.specs.Run.Lawful.{IsLawful}
-use Rattle.prem_report.specs.Fitting.Named.{names_for}
 use Rattle.prem_tasks.specs.declared.set.TaskSet.{TaskSet as SetTree}
 use Rattle.prem_tasks.specs.Broken.{TaskText, TaskSet, broken}
 use Rattle.prem_tasks.specs.Compiled.{compiled}
 use Rattle.prem_tasks.specs.SetOf.{set_of}
+use Rattle.prem_set.specs.Run.Names.{KnownNames, known_of}
+use Rattle.prem_set.specs.Run.Lawful.{IsLawful}
+use Rattle.prem_report.specs.Fitting.Named.{names_for}
 
 -- the names by which run files speak of a set
 abbrev pub set_names : TaskSet → KnownNames

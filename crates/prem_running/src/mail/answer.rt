@@ -4,13 +4,13 @@ ghost use Rattle.prem_list.specs.Sequence.{items_of};
 ghost use Rattle.prem_io.specs.Counts.{Rose};
 ghost use Rattle.prem_image.specs.Text.{image_text};
 ghost use Rattle.prem_cycle.specs.Inputs.{FitsRun, setup_of, words_of};
-ghost use Rattle.prem_set.specs.Run.Lawful.{IsLawfulRun};
-ghost use Rattle.prem_command.specs.Words.{mail_asked};
 ghost use Rattle.prem_tasks.specs.SetOf.{set_of};
 ghost use Rattle.prem_compile.specs.CompiledOf.{compiled_of};
+ghost use Rattle.prem_set.specs.Run.Lawful.{IsLawfulRun};
+ghost use Rattle.prem_command.specs.Words.{mail_asked};
+ghost use Rattle.prem_mail.specs.Feeds.{AreFeeds};
 ghost use Rattle.prem_answer.specs.Stages.{Comes, IsGiven, reply_of};
 ghost use Rattle.prem_exec.specs.Sources.Sources.{input_of, names_of};
-ghost use Rattle.prem_mail.specs.Feeds.{AreFeeds};
 ghost use Rattle.prem_running.specs.Mail.Mail.{compiled_reply, mailed_reply, mail_stages, set_reply};
 
 use crate::mail::files::read_mail_file;

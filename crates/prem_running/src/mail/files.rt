@@ -2,9 +2,9 @@
 ghost use Rattle.std.specs.Prelude.{◌≡◌, ◌≤◌, IfOk, IsErrOf, length, map, string_bytes};
 ghost use Rattle.prem_io.specs.Counts.{Rose};
 ghost use Rattle.prem_tasks.specs.SetOf.{set_of};
+ghost use Rattle.prem_mail.specs.Feeds.{AreFeeds};
 ghost use Rattle.prem_answer.specs.Stages.{Comes, IsReadAs, form_reply, reply_of};
 ghost use Rattle.prem_exec.specs.Sources.Sources.{names_of};
-ghost use Rattle.prem_mail.specs.Feeds.{AreFeeds};
 ghost use Rattle.prem_running.specs.Mail.Files.{feeds_of_bytes, line_why, mail_limit, which_word};
 
 use prem_answer::{Answer, Halt, form, read_file};

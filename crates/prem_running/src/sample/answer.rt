@@ -1,9 +1,9 @@
 // A sample is drawn, compiled, run and told.
 ghost use Rattle.std.specs.Prelude.{◌≡◌, ◌≤◌, ◌^◌, IfOk, IsErrOf, Ok};
 ghost use Rattle.prem_list.specs.Sequence.{items_of};
+ghost use Rattle.prem_image.specs.Text.{image_text};
 ghost use Rattle.prem_cycle.specs.Inputs.{FitsRun, setup_of, words_of};
 ghost use Rattle.prem_compile.specs.CompiledOf.{compiled_of};
-ghost use Rattle.prem_image.specs.Text.{image_text};
 ghost use Rattle.prem_answer.specs.Stages.{Comes, reply_of};
 ghost use Rattle.prem_exec.specs.Exec.{input_of, state_at};
 ghost use Rattle.prem_running.specs.Sample.Sample.{compiled_reply, sample_reply, told_reply};

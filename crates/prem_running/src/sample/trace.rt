@@ -2,8 +2,8 @@
 ghost use Rattle.std.specs.Prelude.{◌≡◌, ◌≤◌, ◌++◌, [], ◌∷◌, ◌+◌, ◌*◌, IfOk, OnOk, map};
 ghost use Rattle.prem_list.specs.Sequence.{items_of};
 ghost use Rattle.prem_plant.specs.declared.plant.Device.{Device};
-ghost use Rattle.prem_set.specs.Run.Views.{lists_of};
 ghost use Rattle.prem_tasks.specs.SetOf.{set_of, task_of};
+ghost use Rattle.prem_set.specs.Run.Views.{lists_of};
 ghost use Rattle.prem_exec.specs.Exec.{input_of};
 ghost use Rattle.prem_running.specs.Sample.Draws.{after, next, numbers};
 ghost use Rattle.prem_running.specs.Sample.Trace.{behind_task, behind_tasks, device_named, request_at, requests_from, sample_devices, sample_run, sample_set, task_at, task_names, tasks_from, words_from};

@@ -1,9 +1,11 @@
 -- Dull cycles rest.
+use Rattle.std.specs.Prelude.{is_some, nat_lt, ◌||◌, ◌&&◌}
 use Rattle.std.proofs.Common.{◌≡◌, ℕ, zero, suc, ◌+◌, ◌-◌, ◌<◌, ◌≤◌, Bool, true, false, List, [], ◌∷◌, Option, Some, None, refl, ap, sym, ◌∙◌, subst, arith, length, ⊎_elim, ◌⊎◌, inl, inr}
 use Rattle.std.proofs.lemmas.Bool.Decides.{nat_tests}
-use Rattle.std.specs.Prelude.{is_some, nat_lt, ◌||◌, ◌&&◌}
 use Rattle.std.proofs.lemmas.List.{length_push}
 use Rattle.prem_isa.specs.Plain.{with_last}
+use Rattle.prem_isa.specs.declared.effect.Change.{Change}
+use Rattle.prem_isa.specs.declared.effect.Change.TheVariants.{Stay, Memory, Execute, End, Job}
 use Rattle.prem_lru.specs.Entries.{ReplacementRule}
 use Rattle.prem_gate.specs.declared.request.Request.{Request}
 use Rattle.prem_gate.specs.declared.bus.Transfer.{Transfer}
@@ -14,8 +16,6 @@ use Rattle.prem_gate.specs.declared.bus.CoreWant.TheVariants.{No, New, Held}
 use Rattle.prem_gate.specs.Gates.{GatesState, Turned, bus_turn, wants, is_held, with_carried}
 use Rattle.prem_gate.specs.Stretch.{AreQuiet, BusRun, lesser, takes_up, is_new, has_changed, transfer_left, with_transfer, bus_run, changes, changes_behind}
 use Rattle.prem_gate.proofs.Quiet.{carried_run, quiet_carried, held_passed, free_passed, changes_same, held_has}
-use Rattle.prem_isa.specs.declared.effect.Change.{Change}
-use Rattle.prem_isa.specs.declared.effect.Change.TheVariants.{Stay, Memory, Execute, End, Job}
 use Rattle.prem_cycle.specs.declared.state.Mode.{Mode}
 use Rattle.prem_cycle.specs.declared.state.Mode.TheVariants.{Point, Switching, Running, Idle}
 use Rattle.prem_cycle.specs.declared.state.Interval.{Interval}
@@ -83,7 +83,7 @@ bus_left rule p a b s none d =
     }
 
 -- one dull cycle rests
-pub dull_rests_one : (rule : ReplacementRule) (p : Setup) (requests : List Request) (s : MachineState) → IsSteady requests s → IsDull rule p requests s → Rests 1 requests s
+dull_rests_one : (rule : ReplacementRule) (p : Setup) (requests : List Request) (s : MachineState) → IsSteady requests s → IsDull rule p requests s → Rests 1 requests s
 unfolding bus_run
 dull_rests_one rule p requests s h d =
     let a : Arrivals = arrivals_at requests s in

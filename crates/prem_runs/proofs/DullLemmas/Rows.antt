@@ -1,9 +1,9 @@
 -- The next event in worked states, by the definition: a wrong number is refused.
-use Rattle.std.proofs.Common.{◌≡◌, ℕ, zero, suc, ◌<◌, ◌≤◌, [], refl, ap, arith}
 use Rattle.std.specs.Prelude.{slice_index_or}
+use Rattle.std.proofs.Common.{◌≡◌, ℕ, zero, suc, ◌<◌, ◌≤◌, [], refl, ap, arith}
+use Rattle.prem_sched.specs.declared.sched.TaskJobs.{TaskJobs}
 use Rattle.prem_lru.specs.Entries.{to_front}
 use Rattle.prem_gate.proofs.Quiet.{next_none}
-use Rattle.prem_sched.specs.declared.sched.TaskJobs.{TaskJobs}
 use Rattle.prem_cycle.specs.declared.state.Mode.TheVariants.{Point, Switching}
 use Rattle.prem_cycle.specs.State.{Setup, MachineState}
 use Rattle.prem_cycle.specs.Run.{cycles_of}

@@ -1,7 +1,10 @@
 -- A cycle behind so many cycles of rest, and what all of them come to.
-use Rattle.std.proofs.Common.{◌≡◌, ◌≢◌, ℕ, zero, suc, ◌+◌, ◌-◌, ◌≤◌, Bool, true, false, List, [], ◌∷◌, Option, Some, None, refl, ap, sym, ◌∙◌, subst, arith, All, length}
 use Rattle.std.specs.Prelude.{is_some, ◌||◌, ◌==◌, if◌then◌else◌}
+use Rattle.std.proofs.Common.{◌≡◌, ◌≢◌, ℕ, zero, suc, ◌+◌, ◌-◌, ◌≤◌, Bool, true, false, List, [], ◌∷◌, Option, Some, None, refl, ap, sym, ◌∙◌, subst, arith, All, length}
 use Rattle.std.proofs.lemmas.Bool.Decides.{nat_tests}
+use Rattle.prem_sched.specs.declared.sched.TaskJobs.{TaskJobs}
+use Rattle.prem_sched.specs.Schedule.{choice, first_ready, least_release, rest, run_or}
+use Rattle.prem_sched.proofs.Choices.{least_none, choice_done}
 use Rattle.prem_isa.specs.declared.effect.Change.{Change}
 use Rattle.prem_isa.specs.Plain.{with_last}
 use Rattle.prem_lru.specs.Entries.{ReplacementRule}
@@ -12,9 +15,6 @@ use Rattle.prem_gate.specs.declared.bus.CoreWant.{CoreWant}
 use Rattle.prem_gate.specs.Gates.{GatesState, Turned, bus_turn, wants}
 use Rattle.prem_gate.specs.Stretch.{AreQuiet, OnlyGoesOn, StaysAbove, lesser, bus_run, changes}
 use Rattle.prem_gate.proofs.Quiet.{quiet_turn, quiet_memory, quiet_gates, quiet_free}
-use Rattle.prem_sched.specs.declared.sched.TaskJobs.{TaskJobs}
-use Rattle.prem_sched.specs.Schedule.{choice, first_ready, least_release, rest, run_or}
-use Rattle.prem_sched.proofs.Choices.{least_none, choice_done}
 use Rattle.prem_cycle.specs.declared.state.Mode.{Mode}
 use Rattle.prem_cycle.specs.declared.state.Mode.TheVariants.{Point, Switching, Running, Idle}
 use Rattle.prem_cycle.specs.declared.state.Trap.{Trap}
@@ -69,7 +69,7 @@ clash_added false k m = omega arith
 
 -- ---- one more cycle
 
-pub quiet_behind : (n : ℕ) (requests : List Request) (s : MachineState) → Rests (suc n) requests s →
+quiet_behind : (n : ℕ) (requests : List Request) (s : MachineState) → Rests (suc n) requests s →
     changes (s.now + n) s.core.window (want_of s.core.debt) (bus_passed n s).gates (bus_passed n s).memory ≡ false
 quiet_behind n requests s rest = rest.gates n s.work.memory (omega arith)
 
@@ -84,7 +84,7 @@ fewer_rest m n requests s le h =
       core = within_less m n (core_rest s.now s.core) le h.core;
     }
 
-pub turn_behind : (n : ℕ) (requests : List Request) (s : MachineState) → IsSteady requests s → Rests (suc n) requests s →
+turn_behind : (n : ℕ) (requests : List Request) (s : MachineState) → IsSteady requests s → Rests (suc n) requests s →
     OnlyGoesOn (want_of s.core.debt) (bus_passed n s).gates (bus_passed n s).memory
     (bus_turn (s.now + n) s.core.window (want_of s.core.debt) (bus_passed n s).gates (bus_passed n s).memory)
 turn_behind n requests s steady rest =
@@ -93,7 +93,7 @@ turn_behind n requests s steady rest =
     (λ held. quiet_free n s.now s.core.window (want_of s.core.debt) s.gates s.work.memory before.gates (steady.free held))
     (quiet_behind n requests s rest)
 
-pub cycle_next : (rule : ReplacementRule) (p : Setup) (requests : List Request) (n : ℕ) (s : MachineState) → IsSteady requests s → Rests (suc n) requests s →
+cycle_next : (rule : ReplacementRule) (p : Setup) (requests : List Request) (n : ℕ) (s : MachineState) → IsSteady requests s → Rests (suc n) requests s →
     cycle_of rule p requests (passed n s) ≡ passed (suc n) s
 unfolding bus_run
 cycle_next rule p requests n s steady rest =
@@ -168,7 +168,7 @@ other_first true false b d e h = absurd (cc)
 other_first false false b d e h = h
 other_first a true b d e h = absurd (cc)
 
-pub going_later : (n : ℕ) (s : MachineState) → is_over s ≡ false → is_over (passed n s) ≡ false
+going_later : (n : ℕ) (s : MachineState) → is_over s ≡ false → is_over (passed n s) ≡ false
 going_later n s h =
     let b = wants (want_of s.core.debt) in
     let not : is_finished (passed n s) ≡ false =
@@ -324,7 +324,7 @@ above_by now n c false is h =
     let alone : Within (suc n) (mode_rest now c c.mode) = rw is at h in
     mode_above now n c c.mode refl alone
 
-pub dull_next : (requests : List Request) (n : ℕ) (s : MachineState) → IsSteady requests s → Rests (suc n) requests s → OnlyCounts (passed n s) (passed (suc n) s)
+dull_next : (requests : List Request) (n : ℕ) (s : MachineState) → IsSteady requests s → Rests (suc n) requests s → OnlyCounts (passed n s) (passed (suc n) s)
 unfolding bus_run
 dull_next requests n s h rest =
     let b = wants (want_of s.core.debt) in

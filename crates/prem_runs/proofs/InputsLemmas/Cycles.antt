@@ -1,7 +1,7 @@
 -- A cycle, and any number of them, with one more input word of a task.
-use Rattle.std.proofs.Common.{◌≡◌, ℕ, zero, suc, ◌+◌, refl, ap, ◌∙◌, sym, cond, ⊎_elim, Bool, true, false, List, [], ◌∷◌, Option, Some, None}
 use Rattle.std.specs.Prelude.{◌&&◌, ◌||◌, is_some, length, nat_lt, nat_le}
 use Rattle.std.specs.List.{list_any}
+use Rattle.std.proofs.Common.{◌≡◌, ℕ, zero, suc, ◌+◌, refl, ap, ◌∙◌, sym, cond, ⊎_elim, Bool, true, false, List, [], ◌∷◌, Option, Some, None}
 use Rattle.std.proofs.lemmas.Bool.{cases_Bool}
 use Rattle.std.proofs.lemmas.List.Folds.{list_any-append}
 use Rattle.prem_isa.specs.Plain.{with_last}
@@ -71,7 +71,7 @@ coming_stays rule p requests s h =
     ap (λ b. cond b None (step_with rule p (bus_at (arrivals_at requests s).gates s) s)) h
 
 -- unless its instruction reads past the end of the task's list, a cycle leaves the word where it is
-pub step_same : (rule : ReplacementRule) (p : Setup) (requests : List Request) (s : MachineState) (k word : ℕ) → past_of k (coming_step rule p requests s) ≡ false → step_of rule p requests (with_input k word s) ≡ with_input k word (step_of rule p requests s)
+step_same : (rule : ReplacementRule) (p : Setup) (requests : List Request) (s : MachineState) (k word : ℕ) → past_of k (coming_step rule p requests s) ≡ false → step_of rule p requests (with_input k word s) ≡ with_input k word (step_of rule p requests s)
 step_same rule p requests s k word h =
     ⊎_elim (λ (e : is_over s ≡ true).
     step_of-stays rule p requests (with_input k word s) (over_with k word s ∙ e)
@@ -83,7 +83,7 @@ step_same rule p requests s k word h =
     (cases_Bool (is_over s))
 
 -- and the same tasks read past the end in it
-pub coming_same : (rule : ReplacementRule) (p : Setup) (requests : List Request) (s : MachineState) (k word j : ℕ) → past_of k (coming_step rule p requests s) ≡ false → past_of j (coming_step rule p requests (with_input k word s)) ≡ past_of j (coming_step rule p requests s)
+coming_same : (rule : ReplacementRule) (p : Setup) (requests : List Request) (s : MachineState) (k word j : ℕ) → past_of k (coming_step rule p requests s) ≡ false → past_of j (coming_step rule p requests (with_input k word s)) ≡ past_of j (coming_step rule p requests s)
 coming_same rule p requests s k word j h =
     let b : Turned = bus_at (arrivals_at requests s).gates s in
     ⊎_elim (λ (e : is_over s ≡ true).

@@ -1,7 +1,7 @@
 -- Words that come in time and too late, counted by hand. A task takes a word and puts it out: after a switch of 20 cycles the
 -- `pm.in` issues in cycle 20; its line comes in 10 cycles, so the `pm.out` issues in cycle 31.
-use Rattle.std.proofs.Common.{◌≡◌, ◌≢◌, ℕ, List, [], ◌∷◌, ◌++◌, refl, ap, ◌∙◌, sym, arith, true, false}
 use Rattle.std.specs.Prelude.{slice_index}
+use Rattle.std.proofs.Common.{◌≡◌, ◌≢◌, ℕ, List, [], ◌∷◌, ◌++◌, refl, ap, ◌∙◌, sym, arith, true, false}
 use Rattle.prem_lru.specs.Entries.{to_front}
 use Rattle.prem_cycle.specs.State.{Setup, MachineState, start_of, task_in}
 use Rattle.prem_cycle.specs.FactsOf.{with_input}

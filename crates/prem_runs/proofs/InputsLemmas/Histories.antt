@@ -1,7 +1,7 @@
 -- A history leads to the run on the lists with all appended words.
-use Rattle.std.proofs.Common.{◌≡◌, ℕ, ◌+◌, ◌<◌, refl, ap, ◌∙◌, sym, subst, false, List, [], ◌∷◌, ◌++◌, length, length-set}
 use Rattle.std.specs.Prelude.{◌||◌, slice_index_or}
 use Rattle.std.specs.List.{list_any}
+use Rattle.std.proofs.Common.{◌≡◌, ℕ, ◌+◌, ◌<◌, refl, ap, ◌∙◌, sym, subst, false, List, [], ◌∷◌, ◌++◌, length, length-set}
 use Rattle.std.proofs.lemmas.List.Folds.{list_any-append}
 use Rattle.prem_lru.specs.Entries.{ReplacementRule}
 use Rattle.prem_gate.specs.declared.request.Request.{Request}
@@ -14,7 +14,7 @@ use Rattle.prem_runs.specs.Inputs.History.{History, Begins, Passes, Appends, cyc
 use Rattle.prem_runs.proofs.InputsLemmas.Runs.{inputs_extend, reads_stay}
 
 -- the reads past the end of m + n cycles
-pub has_read-add : (rule : ReplacementRule) (p : Setup) (requests : List Request) (m n : ℕ) (s : MachineState) (k : ℕ) → has_read_past_end rule p requests (m + n) s k ≡ (has_read_past_end rule p requests m s k || has_read_past_end rule p requests n (cycles_of rule p requests m s) k)
+has_read-add : (rule : ReplacementRule) (p : Setup) (requests : List Request) (m n : ℕ) (s : MachineState) (k : ℕ) → has_read_past_end rule p requests (m + n) s k ≡ (has_read_past_end rule p requests m s k || has_read_past_end rule p requests n (cycles_of rule p requests m s) k)
 has_read-add rule p requests m n s k =
     ap (list_any (is_past_end k)) (steps_of-add rule p requests m n s)
     ∙ list_any-append (is_past_end k) (steps_of rule p requests m s) (steps_of rule p requests n (cycles_of rule p requests m s))
@@ -25,7 +25,7 @@ pub record IsRun (rule : ReplacementRule) (p : Setup) (content : List ℕ) (inpu
   pub reads : (j : ℕ) → reads_past_end_in rule p requests h (start_of p inputs (memory_of p content)) j ≡ run_reads_past_end rule p content (inputs_in h inputs) requests (cycles_in h) j
   pub lists : length (inputs_in h inputs) ≡ length inputs
 
-pub history_is_run : (rule : ReplacementRule) (p : Setup) (content : List ℕ) (inputs : List (List ℕ)) (requests : List Request) (h : History) → IsTimely rule p requests (length inputs) h (start_of p inputs (memory_of p content)) → IsRun rule p content inputs requests h
+history_is_run : (rule : ReplacementRule) (p : Setup) (content : List ℕ) (inputs : List (List ℕ)) (requests : List Request) (h : History) → IsTimely rule p requests (length inputs) h (start_of p inputs (memory_of p content)) → IsRun rule p content inputs requests h
 unfolding cycles_of steps_of
 history_is_run rule p content inputs requests Begins timely = record { state = refl; reads = λ j. refl; lists = refl }
 history_is_run rule p content inputs requests (Passes before n) timely =

@@ -1,8 +1,8 @@
 -- A run on longer lists of input words.
 use Rattle.std.proofs.Common.{◌≡◌, ℕ, zero, suc, ◌+◌, ◌<◌, refl, ap, ◌∙◌, sym, arith, false, List, [], ◌∷◌, length}
-use Rattle.prem_image.specs.declared.image.TaskRecord.{TaskRecord}
 use Rattle.prem_lru.specs.Entries.{ReplacementRule}
 use Rattle.prem_gate.specs.declared.request.Request.{Request}
+use Rattle.prem_image.specs.declared.image.TaskRecord.{TaskRecord}
 use Rattle.prem_cycle.specs.State.{Setup, MachineState, Task, first_task, first_tasks, start_of}
 use Rattle.prem_cycle.specs.FactsOf.{with_input}
 use Rattle.prem_cycle.specs.Run.{cycles_of, memory_of, run_of}
@@ -24,7 +24,7 @@ first_with (r ∷ rs) (words ∷ inputs) (suc k) word lt =
 abbrev with_tasks : MachineState → List Task → MachineState
 with_tasks s tasks = record s { work = record s.work { tasks = tasks } }
 
-pub start_with : (p : Setup) (inputs : List (List ℕ)) (memory : List ℕ) (k word : ℕ) → k < length inputs → with_input k word (start_of p inputs memory) ≡ start_of p (with_word_for k word inputs) memory
+start_with : (p : Setup) (inputs : List (List ℕ)) (memory : List ℕ) (k word : ℕ) → k < length inputs → with_input k word (start_of p inputs memory) ≡ start_of p (with_word_for k word inputs) memory
 start_with p inputs memory k word lt =
     ap (with_tasks (start_of p inputs memory)) (first_with p.tasks inputs k word lt)
 

@@ -1,7 +1,11 @@
 -- The core's part of a cycle, with one more input word of a task.
-use Rattle.std.proofs.Common.{◌≡◌, ℕ, zero, suc, ◌/◌, refl, ap, ap₂, ◌∙◌, sym, cond, Bool, true, false, List, [], ◌∷◌, ◌++◌, Option, Some, None, eq-eqb}
 use Rattle.std.specs.Prelude.{◌==◌, ◌&&◌, slice_set}
+use Rattle.std.proofs.Common.{◌≡◌, ℕ, zero, suc, ◌/◌, refl, ap, ap₂, ◌∙◌, sym, cond, Bool, true, false, List, [], ◌∷◌, ◌++◌, Option, Some, None, eq-eqb}
 use Rattle.prem_plant.specs.declared.plant.Target.{Target}
+use Rattle.prem_sched.specs.declared.sched.TaskJobs.{TaskJobs}
+use Rattle.prem_sched.specs.declared.sched.Choice.{Choice}
+use Rattle.prem_sched.specs.declared.sched.Choice.TheVariants.{Run, Idle as Rest, Finished}
+use Rattle.prem_sched.specs.Schedule.{choice}
 use Rattle.prem_isa.specs.declared.instr.Instr.{Instr}
 use Rattle.prem_isa.specs.declared.effect.Phase.{Phase}
 use Rattle.prem_isa.specs.declared.effect.Cause.{Cause}
@@ -12,10 +16,6 @@ use Rattle.prem_isa.specs.Decode.{cost_of}
 use Rattle.prem_lru.specs.Entries.{ReplacementRule}
 use Rattle.prem_lru.specs.CacheState.{Touched, touch_of, view_of}
 use Rattle.prem_gate.specs.Gates.{wants}
-use Rattle.prem_sched.specs.declared.sched.TaskJobs.{TaskJobs}
-use Rattle.prem_sched.specs.declared.sched.Choice.{Choice}
-use Rattle.prem_sched.specs.declared.sched.Choice.TheVariants.{Run, Idle as Rest, Finished}
-use Rattle.prem_sched.specs.Schedule.{choice}
 use Rattle.prem_cycle.specs.declared.state.Mode.{Mode}
 use Rattle.prem_cycle.specs.declared.state.Mode.TheVariants.{Point, Switching, Running, Idle}
 use Rattle.prem_cycle.specs.declared.state.Interval.{Interval}

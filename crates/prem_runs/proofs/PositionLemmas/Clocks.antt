@@ -1,16 +1,16 @@
 -- The time of a run of one task without devices: what has passed and what is owed is at most what is due.
-use Rattle.std.proofs.Common.{◌≡◌, ℕ, zero, suc, ◌+◌, ◌-◌, ◌*◌, ◌/◌, ◌<◌, ◌≤◌, min, refl, ap, ◌∙◌, sym, subst, arith, cond, Some, None, Option, true, false, Bool, List, [], ◌∷◌, length}
 use Rattle.std.specs.Prelude.{All}
+use Rattle.std.proofs.Common.{◌≡◌, ℕ, zero, suc, ◌+◌, ◌-◌, ◌*◌, ◌/◌, ◌<◌, ◌≤◌, min, refl, ap, ◌∙◌, sym, subst, arith, cond, Some, None, Option, true, false, Bool, List, [], ◌∷◌, length}
 use Rattle.std.proofs.lemmas.Bool.{ltb-true, ltb-false}
 use Rattle.std.proofs.lemmas.Nat.{mul-le}
 use Rattle.std.proofs.Math.Nat.{lt-div-mul-add}
-use Rattle.prem_isa.specs.declared.effect.Change.{Change}
-use Rattle.prem_isa.specs.declared.effect.Change.TheVariants.{Stay, Memory, Execute, End, Job}
-use Rattle.prem_gate.specs.Gates.{wants}
 use Rattle.prem_sched.specs.declared.sched.TaskJobs.{TaskJobs}
 use Rattle.prem_sched.specs.declared.sched.Choice.TheVariants.{Run, Idle as Rest, Finished}
 use Rattle.prem_sched.specs.Schedule.{choice, run_or, rest, least_release, earlier, has_jobs_left, is_ready, released, first_ready, task_at, IsDone}
 use Rattle.prem_sched.proofs.Choices.{least_none}
+use Rattle.prem_isa.specs.declared.effect.Change.{Change}
+use Rattle.prem_isa.specs.declared.effect.Change.TheVariants.{Stay, Memory, Execute, End, Job}
+use Rattle.prem_gate.specs.Gates.{wants}
 use Rattle.prem_cycle.specs.declared.state.Mode.{Mode}
 use Rattle.prem_cycle.specs.declared.state.Mode.TheVariants.{Point, Switching, Running, Idle}
 use Rattle.prem_cycle.specs.State.{Setup, Work, Debt, CoreState}

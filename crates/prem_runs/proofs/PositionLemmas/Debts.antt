@@ -1,6 +1,6 @@
 -- What an instruction makes the core owe, and how it is paid.
-use Rattle.std.proofs.Common.{◌≡◌, ℕ, ◌+◌, ◌-◌, ◌*◌, ◌/◌, ◌<◌, ◌≤◌, refl, ap, ◌∙◌, sym, arith, cond, leb, Some, None, Option, true, false, Bool, List, [], ◌∷◌, ◌++◌}
 use Rattle.std.specs.Prelude.{◌&&◌, ◌==◌}
+use Rattle.std.proofs.Common.{◌≡◌, ℕ, ◌+◌, ◌-◌, ◌*◌, ◌/◌, ◌<◌, ◌≤◌, refl, ap, ◌∙◌, sym, arith, cond, leb, Some, None, Option, true, false, Bool, List, [], ◌∷◌, ◌++◌}
 use Rattle.std.proofs.lemmas.Bool.{cond_both, leb-true, leb-false, and_parts}
 use Rattle.prem_plant.specs.declared.plant.Plant.{Plant}
 use Rattle.prem_plant.specs.Ranges.{IsPlant}

@@ -1,20 +1,20 @@
 -- A run of one task without devices finishes in time.
-use Rattle.std.proofs.Common.{◌≡◌, ℕ, zero, suc, ◌+◌, ◌-◌, ◌*◌, ◌<◌, ◌≤◌, refl, ap, ◌∙◌, sym, subst, arith, leb, None, true, false, Bool, List, [], ◌∷◌, length, get_or, ⊎_elim}
 use Rattle.std.specs.Prelude.{◌||◌, is_some}
+use Rattle.std.proofs.Common.{◌≡◌, ℕ, zero, suc, ◌+◌, ◌-◌, ◌*◌, ◌<◌, ◌≤◌, refl, ap, ◌∙◌, sym, subst, arith, leb, None, true, false, Bool, List, [], ◌∷◌, length, get_or, ⊎_elim}
 use Rattle.std.proofs.lemmas.Bool.{cases_Bool, lt-leb}
 use Rattle.std.proofs.lemmas.Nat.{mul-le}
 use Rattle.prem_plant.specs.declared.plant.Plant.{Plant}
-use Rattle.prem_image.specs.declared.image.TaskRecord.{TaskRecord}
+use Rattle.prem_sched.specs.declared.sched.TaskJobs.{TaskJobs}
+use Rattle.prem_sched.specs.declared.sched.Choice.{Choice}
+use Rattle.prem_sched.specs.declared.sched.Choice.TheVariants.{Run, Idle as Rest, Finished}
+use Rattle.prem_sched.specs.Schedule.{choice, no_task, task_at, IsDone}
 use Rattle.prem_isa.specs.Decode.{greatest_cost}
 use Rattle.prem_isa.specs.declared.effect.Change.{Change}
 use Rattle.prem_isa.specs.declared.effect.Change.TheVariants.{Stay, Memory, Execute, End, Job}
 use Rattle.prem_isa.specs.Plain.{TaskRun, PlainState, is_running, plain_start, plain_run, plain_trace}
 use Rattle.prem_lru.specs.Entries.{ReplacementRule}
 use Rattle.prem_lru.specs.Rules.{IsRule}
-use Rattle.prem_sched.specs.declared.sched.TaskJobs.{TaskJobs}
-use Rattle.prem_sched.specs.declared.sched.Choice.{Choice}
-use Rattle.prem_sched.specs.declared.sched.Choice.TheVariants.{Run, Idle as Rest, Finished}
-use Rattle.prem_sched.specs.Schedule.{choice, no_task, task_at, IsDone}
+use Rattle.prem_image.specs.declared.image.TaskRecord.{TaskRecord}
 use Rattle.prem_cycle.specs.declared.state.Mode.{Mode}
 use Rattle.prem_cycle.specs.declared.state.Mode.TheVariants.{Point, Switching, Running, Idle}
 use Rattle.prem_cycle.specs.State.{Setup, no_record, first_task, Task, Debt, MachineState, start_of, task_in}

@@ -1,13 +1,11 @@
 -- The gates write to lines of their devices alone.
-use Rattle.std.proofs.Common.{◌≡◌, ℕ, suc, ◌+◌, ◌*◌, ◌/◌, ◌%◌, ◌<◌, ◌≤◌, refl, ap, ◌∙◌, sym, subst, arith, eqb, leb, Some, None, Option, true, false, Bool, List, [], ◌∷◌, ◌++◌, length, drop, IfSome, ⊎_elim}
 use Rattle.std.specs.Prelude.{slice_set, All}
+use Rattle.std.proofs.Common.{◌≡◌, ℕ, suc, ◌+◌, ◌*◌, ◌/◌, ◌%◌, ◌<◌, ◌≤◌, refl, ap, ◌∙◌, sym, subst, arith, eqb, leb, Some, None, Option, true, false, Bool, List, [], ◌∷◌, ◌++◌, length, drop, IfSome, ⊎_elim}
 use Rattle.std.proofs.lemmas.Bool.{cases_eq, cases_Bool, cond_both}
 use Rattle.std.proofs.lemmas.List.{get_or-set_same, get_or-set_other, length-set}
 use Rattle.std.proofs.lemmas.List.Elements.{All-push, All-head, All-tail}
 use Rattle.std.proofs.lemmas.Nat.{mod-mul-add, div-add-mod', mul-le}
 use Rattle.prem_plant.specs.declared.plant.Plant.{Plant}
-use Rattle.prem_image.specs.declared.image.DeviceRecord.{DeviceRecord}
-use Rattle.prem_image.specs.Records.{IsPlaced}
 use Rattle.prem_lru.specs.Splice.{bytes_of, spliced}
 use Rattle.prem_lru.specs.CacheState.{CacheState, is_resident, view_of}
 use Rattle.prem_lru.proofs.Splices.{length-spliced}
@@ -20,6 +18,8 @@ use Rattle.prem_gate.specs.declared.bus.Carried.{Carried}
 use Rattle.prem_gate.specs.declared.bus.CoreWant.{CoreWant}
 use Rattle.prem_gate.specs.declared.bus.CoreWant.TheVariants.{No, New, Held}
 use Rattle.prem_gate.specs.Gates.{GateState, GatesState, Turned, gate_at, no_gate, with_queue, with_gates, with_carried, is_full, queued, after_arrival, fits, start_of, first_of, startable_from, startable, taken, slot_of, memory_after, one_less, ends, goes_on, carries, wants, starts, bus_free, bus_with, bus_turn}
+use Rattle.prem_image.specs.declared.image.DeviceRecord.{DeviceRecord}
+use Rattle.prem_image.specs.Records.{IsPlaced}
 use Rattle.prem_cycle.specs.State.{Setup, Work}
 use Rattle.prem_cycle.specs.Inputs.{no_device, IsRequest}
 use Rattle.prem_cycle.specs.Cycle.{Arrivals, arrived, arrivals}

@@ -1,14 +1,14 @@
 -- The run of an image of one task without devices.
-use Rattle.std.proofs.Common.{◌≡◌, ℕ, ap, ◌∙◌, sym, subst, List, [], ◌∷◌}
 use Rattle.std.specs.Prelude.{All}
+use Rattle.std.proofs.Common.{◌≡◌, ℕ, ap, ◌∙◌, sym, subst, List, [], ◌∷◌}
 use Rattle.std.proofs.lemmas.List.Elements.{All-head}
 use Rattle.prem_list.specs.Sequence.{items_of}
+use Rattle.prem_lru.specs.Entries.{ReplacementRule}
+use Rattle.prem_gate.specs.declared.request.RunInput.{RunInput}
 use Rattle.prem_image.specs.declared.image.Image.{Image}
 use Rattle.prem_image.specs.declared.image.TaskRecord.{TaskRecord}
 use Rattle.prem_image.specs.declared.image.DeviceRecord.{DeviceRecord}
 use Rattle.prem_image.specs.Records.{IsTask}
-use Rattle.prem_lru.specs.Entries.{ReplacementRule}
-use Rattle.prem_gate.specs.declared.request.RunInput.{RunInput}
 use Rattle.prem_cycle.specs.State.{Setup}
 use Rattle.prem_cycle.specs.Inputs.{setup_of, words_of, image_run}
 use Rattle.prem_cycle.specs.Run.{run_of}
@@ -16,7 +16,7 @@ use Rattle.prem_runs.specs.Position.Finish.{lone_run, IsLone, FinishedAs}
 use Rattle.prem_runs.specs.Position.Images.{IsLoneImage, image_alone, ImageFinishesInTime, ImageFinishesOneJob}
 use Rattle.prem_runs.proofs.PositionLemmas.Finishes.{finishes_in_time, finishes_one_job}
 
-pub image_lone : (image : Image) (input : RunInput) (task : TaskRecord) (words : List ℕ) → IsLoneImage image input task words → IsLone image.plant task (items_of image.content) words
+image_lone : (image : Image) (input : RunInput) (task : TaskRecord) (words : List ℕ) → IsLoneImage image input task words → IsLone image.plant task (items_of image.content) words
 image_lone image input task words h =
     let one : IsTask image.plant.memory task = All-head (IsTask image.plant.memory) task [] (subst (All (IsTask image.plant.memory)) h.tasks h.lawful.each_task) in
     record {
@@ -31,7 +31,7 @@ image_lone image input task words h =
     }
 
 -- its run is that of the task
-pub image_run_is : (rule : ReplacementRule) (image : Image) (input : RunInput) (task : TaskRecord) (words : List ℕ) (cycles : ℕ) → IsLoneImage image input task words → lone_run rule image.plant task (items_of image.content) words cycles ≡ image_run rule image input cycles
+image_run_is : (rule : ReplacementRule) (image : Image) (input : RunInput) (task : TaskRecord) (words : List ℕ) (cycles : ℕ) → IsLoneImage image input task words → lone_run rule image.plant task (items_of image.content) words cycles ≡ image_run rule image input cycles
 image_run_is rule image input task words cycles h =
     let content : List ℕ = items_of image.content in
     let setup : List TaskRecord → List DeviceRecord → Setup = λ tasks devices. record { plant = image.plant; tasks = tasks; devices = devices } in

@@ -1,6 +1,7 @@
 -- Each instruction that issues is the next one of its task's run on its own.
-use Rattle.std.proofs.Common.{◌≡◌, ℕ, refl, ap, ◌∙◌, sym, subst, cond, Some, None, Option, true, false, Bool, List}
 use Rattle.std.specs.Prelude.{Result, Ok, Err, slice_index}
+use Rattle.std.proofs.Common.{◌≡◌, ℕ, refl, ap, ◌∙◌, sym, subst, cond, Some, None, Option, true, false, Bool, List}
+use Rattle.prem_sched.specs.declared.sched.TaskJobs.{TaskJobs}
 use Rattle.prem_isa.specs.declared.instr.Instr.{Instr}
 use Rattle.prem_isa.specs.declared.effect.Phase.{Phase}
 use Rattle.prem_isa.specs.declared.effect.Cause.{Cause}
@@ -13,7 +14,6 @@ use Rattle.prem_lru.specs.Entries.{ReplacementRule}
 use Rattle.prem_lru.specs.Rules.{IsRule}
 use Rattle.prem_gate.specs.declared.request.Request.{Request}
 use Rattle.prem_gate.specs.Gates.{Turned}
-use Rattle.prem_sched.specs.declared.sched.TaskJobs.{TaskJobs}
 use Rattle.prem_cycle.specs.State.{Setup, Task, Work, MachineState, start_of, task_in}
 use Rattle.prem_cycle.specs.Issue.{Traps, Executes, attempt_by, attempt_fetched, attempt_in, issued_by}
 use Rattle.prem_cycle.specs.Core.{CoreMove, Passes, Issues}
@@ -39,7 +39,7 @@ did_at run t view ended i e (Err cause) h = absurd (let x : Traps cause ≡ Exec
 did_at run t view ended i e (Ok j) h =
     did_by t.pc t.phase i j e (act run.target run.size view (slice_index t.registers) t.pc t.phase (next_input t.left) j) h
 
-pub did_alone : (run : TaskRun) (t : Task) (view : ℕ → ℕ) (ended : ℕ) (i : Instr) (e : Effect) → is_running run (plain_of t view ended) ≡ true → attempt_in run.target run.size view t ≡ Executes i e → plain_did run (plain_of t view ended) ≡ Some (did_of t.pc t.phase i e)
+did_alone : (run : TaskRun) (t : Task) (view : ℕ → ℕ) (ended : ℕ) (i : Instr) (e : Effect) → is_running run (plain_of t view ended) ≡ true → attempt_in run.target run.size view t ≡ Executes i e → plain_did run (plain_of t view ended) ≡ Some (did_of t.pc t.phase i e)
 did_alone run t view ended i e goes h =
     let none : Option Did = None in
     ap (λ b. cond b (did_fetched run (plain_of t view ended) (fetch run.size view t.pc)) none) goes ∙ did_at run t view ended i e (fetch run.size view t.pc) h

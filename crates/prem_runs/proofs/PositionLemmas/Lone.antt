@@ -1,11 +1,9 @@
 -- One task without devices: all of memory is its own.
-use Rattle.std.proofs.Common.{◌≡◌, ℕ, zero, suc, ◌+◌, ◌-◌, ◌/◌, ◌<◌, ◌≤◌, refl, ap, ◌∙◌, sym, arith, cond, ltb, Some, None, Option, true, false, Bool, List, [], ◌∷◌, ◌++◌, length, get_or, replicate, IfSome, ⊎_elim, ◌⊎◌, inl, inr, is_none}
 use Rattle.std.specs.Prelude.{All, ◌&&◌}
+use Rattle.std.proofs.Common.{◌≡◌, ℕ, zero, suc, ◌+◌, ◌-◌, ◌/◌, ◌<◌, ◌≤◌, refl, ap, ◌∙◌, sym, arith, cond, ltb, Some, None, Option, true, false, Bool, List, [], ◌∷◌, ◌++◌, length, get_or, replicate, IfSome, ⊎_elim, ◌⊎◌, inl, inr, is_none}
 use Rattle.std.proofs.lemmas.Bool.{cases_lt, le-ltb}
 use Rattle.std.proofs.lemmas.List.Elements.{All-nil}
 use Rattle.prem_plant.specs.declared.plant.Plant.{Plant}
-use Rattle.prem_image.specs.declared.image.TaskRecord.{TaskRecord}
-use Rattle.prem_image.specs.Records.{IsPlaced}
 use Rattle.prem_isa.specs.declared.effect.Cause.{Cause}
 use Rattle.prem_isa.specs.declared.effect.Access.{Access}
 use Rattle.prem_isa.specs.declared.effect.Stored.{Stored}
@@ -14,6 +12,8 @@ use Rattle.prem_isa.specs.declared.effect.Outcome.{Outcome}
 use Rattle.prem_isa.specs.declared.effect.Outcome.TheVariants.{Trap, Done}
 use Rattle.prem_isa.specs.Plain.{TaskRun, PlainState, RunFits, is_running, after_outcome, plain_start, plain_run}
 use Rattle.prem_isa.proofs.PlainLaws.{plain_steps-next, plain_stays, plain_run-add}
+use Rattle.prem_image.specs.declared.image.TaskRecord.{TaskRecord}
+use Rattle.prem_image.specs.Records.{IsPlaced}
 use Rattle.prem_cycle.specs.Inputs.{IsRequest}
 use Rattle.prem_cycle.specs.Run.{memory_of}
 use Rattle.prem_runs.specs.Position.Own.{AllOwn, LoadsOwn, IsFree, IsOwn, IsOwnOutcome, next_outcome, StaysOwn}
@@ -58,7 +58,7 @@ own_by : (plant : Plant) (task : TaskRecord) (run : TaskRun) (s : PlainState) (o
 own_by plant task run s (Trap cause) h = let x : Some cause ≡ None = h in cc
 own_by plant task run s (Done e) h = all_own plant task s.pc e
 
-pub never_own : (plant : Plant) (task : TaskRecord) (run : TaskRun) → NeverTraps run → StaysOwn (lone plant task) whole run
+never_own : (plant : Plant) (task : TaskRecord) (run : TaskRun) → NeverTraps run → StaysOwn (lone plant task) whole run
 never_own plant task run h n goes =
     let s : PlainState = plain_run run n in
     let o : Outcome = next_outcome run s in
@@ -109,7 +109,7 @@ memory_byte [] n a h = zero_byte n a
 memory_byte (byte ∷ content) n zero h = h 0 0 (omega arith)
 memory_byte (byte ∷ content) n (suc a) h = memory_byte content n a (λ k d lt. h (suc k) d (omega arith))
 
-pub alone_fits : (plant : Plant) (task : TaskRecord) (content words : List ℕ) → IsLone plant task content words → RunFits (run_alone plant task content words)
+alone_fits : (plant : Plant) (task : TaskRecord) (content words : List ℕ) → IsLone plant task content words → RunFits (run_alone plant task content words)
 alone_fits plant task content words h =
     let most : plant.memory ≤ 16777216 = h.in_range.memory.1 in
     record {

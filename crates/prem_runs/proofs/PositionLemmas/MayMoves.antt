@@ -1,9 +1,9 @@
 -- A core that may be kept waiting at a scheduling point: in a cycle it does what it does where it is the only one, or nothing.
 use Rattle.std.specs.Prelude.{◌≡◌, ℕ, Bool, List}
+use Rattle.prem_sched.specs.declared.sched.TaskJobs.{TaskJobs}
+use Rattle.prem_isa.specs.Plain.{TaskRun}
 use Rattle.prem_lru.specs.Entries.{ReplacementRule}
 use Rattle.prem_gate.specs.Gates.{Turned}
-use Rattle.prem_isa.specs.Plain.{TaskRun}
-use Rattle.prem_sched.specs.declared.sched.TaskJobs.{TaskJobs}
 use Rattle.prem_cycle.specs.declared.state.Mode.TheVariants.{Point}
 use Rattle.prem_cycle.specs.State.{Setup, Work, CoreState, MachineState}
 use Rattle.prem_cycle.specs.Core.{CoreMove, Passes, Issues, CoreTurn, core_turn}

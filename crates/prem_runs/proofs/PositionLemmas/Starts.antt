@@ -1,13 +1,13 @@
 -- At the start each task is where its run on its own starts.
-use Rattle.std.proofs.Common.{◌≡◌, ℕ, zero, suc, ◌+◌, ◌-◌, ◌/◌, ◌%◌, ◌<◌, ◌≤◌, refl, ap, ◌∙◌, sym, subst, arith, Some, None, true, false, Bool, List, [], ◌∷◌, ◌++◌, length, get_or, replicate}
 use Rattle.std.specs.Prelude.{slice_index, map, is_some}
+use Rattle.std.proofs.Common.{◌≡◌, ℕ, zero, suc, ◌+◌, ◌-◌, ◌/◌, ◌%◌, ◌<◌, ◌≤◌, refl, ap, ◌∙◌, sym, subst, arith, Some, None, true, false, Bool, List, [], ◌∷◌, ◌++◌, length, get_or, replicate}
 use Rattle.std.proofs.lemmas.List.{get_or-map, length-map, length-append, length-replicate}
 use Rattle.std.proofs.lemmas.List.Elements.{All-nil}
 use Rattle.prem_plant.specs.declared.plant.Plant.{Plant}
 use Rattle.prem_plant.specs.declared.plant.Device.{Device}
 use Rattle.prem_plant.specs.Ranges.{IsPlant}
-use Rattle.prem_image.specs.declared.image.TaskRecord.{TaskRecord}
-use Rattle.prem_image.specs.declared.image.DeviceRecord.{DeviceRecord}
+use Rattle.prem_sched.specs.declared.sched.TaskJobs.{TaskJobs}
+use Rattle.prem_sched.specs.Schedule.{start_of as jobs_of, starts_of, no_task, task_at}
 use Rattle.prem_isa.specs.declared.effect.Phase.TheVariants.{Compatible}
 use Rattle.prem_isa.specs.Act.{first_registers, with_register}
 use Rattle.prem_isa.specs.Plain.{TaskRun, PlainState, plain_start, plain_steps, plain_run}
@@ -16,8 +16,8 @@ use Rattle.prem_lru.specs.Entries.{Entry, find_line}
 use Rattle.prem_lru.specs.CacheState.{empty_cache, entry_of, view_of, byte_in, IsSet, IsCache}
 use Rattle.prem_gate.specs.declared.request.Request.{Request}
 use Rattle.prem_gate.specs.Gates.{gate_of, gates_of, gate_at}
-use Rattle.prem_sched.specs.declared.sched.TaskJobs.{TaskJobs}
-use Rattle.prem_sched.specs.Schedule.{start_of as jobs_of, starts_of, no_task, task_at}
+use Rattle.prem_image.specs.declared.image.TaskRecord.{TaskRecord}
+use Rattle.prem_image.specs.declared.image.DeviceRecord.{DeviceRecord}
 use Rattle.prem_cycle.specs.State.{Setup, no_record, record_of, first_list, first_task, first_tasks, Task, start_of}
 use Rattle.prem_cycle.specs.Run.{memory_of}
 use Rattle.prem_cycle.specs.Alone.{plain_of}
@@ -39,7 +39,7 @@ none_there zero i = refl
 none_there (suc n) zero = refl
 none_there (suc n) (suc i) = none_there n i
 
-pub no_entry_of : (p : Plant) (line : ℕ) → entry_of (empty_cache p) line ≡ None
+no_entry_of : (p : Plant) (line : ℕ) → entry_of (empty_cache p) line ≡ None
 no_entry_of p line = ap (find_line line) (none_there p.sets (line % length (replicate p.sets none)))
 
 empty_set : (p : Plant) (i : ℕ) → IsSet p i none
@@ -64,7 +64,7 @@ empty_kept p memory h len = record {
   free = λ line r. absurd (let x : false ≡ true = sym (ap is_some (no_entry_of p.plant line)) ∙ r in cc);
 }
 
-pub length-memory_of : (p : Setup) (content : List ℕ) → length content ≤ p.plant.memory → length (memory_of p content) ≡ p.plant.memory
+length-memory_of : (p : Setup) (content : List ℕ) → length content ≤ p.plant.memory → length (memory_of p content) ≡ p.plant.memory
 length-memory_of p content le =
     let zeros_behind : List ℕ = replicate (p.plant.memory - length content) 0 in
     let n : length zeros_behind ≡ p.plant.memory - length content = length-replicate (p.plant.memory - length content) 0 in
@@ -139,7 +139,7 @@ gates_at [] d lt = absurd (omega arith)
 gates_at (x ∷ ds) zero lt = refl
 gates_at (x ∷ ds) (suc d) lt = gates_at ds d (omega arith)
 
-pub start_gates : (p : Setup) (inputs : List (List ℕ)) (memory : List ℕ) → AreGates p (start_of p inputs memory).gates
+start_gates : (p : Setup) (inputs : List (List ℕ)) (memory : List ℕ) → AreGates p (start_of p inputs memory).gates
 start_gates p inputs memory = record {
   line = refl;
   count = length-gates p.devices;

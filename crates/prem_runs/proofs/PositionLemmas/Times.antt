@@ -1,10 +1,10 @@
 -- A run of one task without devices keeps to what is due.
-use Rattle.std.proofs.Common.{◌≡◌, ℕ, zero, suc, ◌+◌, ◌-◌, ◌*◌, ◌/◌, ◌<◌, ◌≤◌, refl, ap, ◌∙◌, sym, subst, arith, Some, None, true, false, List, [], ⊎_elim}
 use Rattle.std.specs.Prelude.{slice_set}
+use Rattle.std.proofs.Common.{◌≡◌, ℕ, zero, suc, ◌+◌, ◌-◌, ◌*◌, ◌/◌, ◌<◌, ◌≤◌, refl, ap, ◌∙◌, sym, subst, arith, Some, None, true, false, List, [], ⊎_elim}
 use Rattle.std.proofs.lemmas.Bool.{cases_lt}
 use Rattle.prem_plant.specs.declared.plant.Plant.{Plant}
 use Rattle.prem_plant.specs.Ranges.{IsPlant}
-use Rattle.prem_image.specs.declared.image.TaskRecord.{TaskRecord}
+use Rattle.prem_sched.specs.declared.sched.TaskJobs.{TaskJobs}
 use Rattle.prem_isa.specs.declared.effect.Phase.{Phase}
 use Rattle.prem_isa.specs.declared.effect.Phase.TheVariants.{Compatible, Memory as MemoryPhase, Execution}
 use Rattle.prem_isa.specs.declared.effect.Change.{Change}
@@ -21,7 +21,7 @@ use Rattle.prem_gate.specs.declared.bus.Window.{Window}
 use Rattle.prem_gate.specs.declared.bus.CoreWant.{CoreWant}
 use Rattle.prem_gate.specs.declared.bus.CoreWant.TheVariants.{No, New, Held}
 use Rattle.prem_gate.specs.Gates.{GatesState, Turned, startable_from, wants, bus_with, bus_turn}
-use Rattle.prem_sched.specs.declared.sched.TaskJobs.{TaskJobs}
+use Rattle.prem_image.specs.declared.image.TaskRecord.{TaskRecord}
 use Rattle.prem_cycle.specs.declared.state.Interval.{Interval}
 use Rattle.prem_cycle.specs.State.{Setup, record_of, Task, Work, CoreState, Counts, task_in}
 use Rattle.prem_cycle.specs.Issue.{task_moved, task_changed, task_after, LineTouch, owed_by, issued_by}

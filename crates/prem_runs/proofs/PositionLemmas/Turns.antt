@@ -1,8 +1,10 @@
 -- Where the tasks stand behind the core's part of a cycle, and behind the cycle.
-use Rattle.std.proofs.Common.{◌≡◌, ℕ, ◌+◌, ◌<◌, refl, ap, ◌∙◌, sym, subst, arith, cond, ltb, None, true, Bool, List, [], length, get_or, ⊎_elim}
 use Rattle.std.specs.Prelude.{slice_set, is_some, ◌&&◌}
+use Rattle.std.proofs.Common.{◌≡◌, ℕ, ◌+◌, ◌<◌, refl, ap, ◌∙◌, sym, subst, arith, cond, ltb, None, true, Bool, List, [], length, get_or, ⊎_elim}
 use Rattle.std.proofs.lemmas.Bool.{cases_eq, cond_both, lt-ltb}
 use Rattle.std.proofs.lemmas.List.{get_or-set_same, get_or-set_other, length-set}
+use Rattle.prem_sched.specs.declared.sched.TaskJobs.{TaskJobs}
+use Rattle.prem_sched.specs.Schedule.{task_at}
 use Rattle.prem_isa.specs.declared.effect.Change.{Change}
 use Rattle.prem_isa.specs.declared.effect.Change.TheVariants.{Stay, Memory, Execute, End, Job}
 use Rattle.prem_isa.specs.Act.{with_stored}
@@ -11,8 +13,6 @@ use Rattle.prem_lru.specs.Entries.{ReplacementRule}
 use Rattle.prem_lru.specs.CacheState.{view_of}
 use Rattle.prem_lru.specs.Rules.{IsRule}
 use Rattle.prem_gate.specs.Gates.{Turned}
-use Rattle.prem_sched.specs.declared.sched.TaskJobs.{TaskJobs}
-use Rattle.prem_sched.specs.Schedule.{task_at}
 use Rattle.prem_cycle.specs.declared.state.Mode.{Mode}
 use Rattle.prem_cycle.specs.declared.state.Mode.TheVariants.{Point, Switching, Running, Idle}
 use Rattle.prem_cycle.specs.State.{Setup, record_of, no_record, first_task, Task, Work, CoreState, Counts, MachineState, task_in}

@@ -1,6 +1,6 @@
 -- The cache and memory behind an instruction: what they keep, and what the core sees.
-use Rattle.std.proofs.Common.{◌≡◌, ℕ, zero, suc, ◌+◌, ◌*◌, ◌/◌, ◌%◌, ◌<◌, ◌≤◌, refl, ap, ◌∙◌, sym, subst, arith, cond, eqb, true, false, Some, None, Option, List, length, IfSome, ⊎_elim}
 use Rattle.std.specs.Prelude.{slice_set, is_some}
+use Rattle.std.proofs.Common.{◌≡◌, ℕ, zero, suc, ◌+◌, ◌*◌, ◌/◌, ◌%◌, ◌<◌, ◌≤◌, refl, ap, ◌∙◌, sym, subst, arith, cond, eqb, true, false, Some, None, Option, List, length, IfSome, ⊎_elim}
 use Rattle.std.proofs.lemmas.Bool.{cases_eq}
 use Rattle.std.proofs.Math.Nat.{div-lt_iff_lt-mul}
 use Rattle.std.proofs.lemmas.Nat.{div-add-mod'}
@@ -96,7 +96,7 @@ store_at p c memory s (Some e) h f is le =
       view = λ a. store_view c s.address s.size s.value memory e a h.cache f le;
     }
 
-pub stored_facts : (p : Setup) (c : CacheState) (memory : List ℕ) (stored : Option Stored) → IsKept p c memory → IfSome stored (LiesInLine p c) → Store p c memory stored
+stored_facts : (p : Setup) (c : CacheState) (memory : List ℕ) (stored : Option Stored) → IsKept p c memory → IfSome stored (LiesInLine p c) → Store p c memory stored
 stored_facts p c memory None h l = record { kept = h; view = λ a. refl }
 stored_facts p c memory (Some s) h l =
     store_at p c memory s (entry_of c (s.address / c.plant.line)) h refl

@@ -1,9 +1,9 @@
 -- A transfer of two cycles by hand.
 use Rattle.std.specs.Prelude.{◌≡◌, ℕ, [], ◌∷◌, None, Some, codes, refl}
-use Rattle.prem_image.specs.declared.image.DeviceRecord.{DeviceRecord}
 use Rattle.prem_gate.specs.declared.request.Request.{Request}
 use Rattle.prem_gate.specs.declared.bus.CoreWant.TheVariants.{No}
 use Rattle.prem_gate.specs.Gates.{GatesState, Turned, first_gates, after_arrival, bus_turn}
+use Rattle.prem_image.specs.declared.image.DeviceRecord.{DeviceRecord}
 use Rattle.prem_runs.specs.Transfer.Lengths.{device_cost}
 
 dma : DeviceRecord

@@ -1,7 +1,7 @@
 -- When the window closes in a worked run, whose marked interval begins in cycle 111 and ends with cycle 601, and whose
 -- transfer takes 40 cycles. A second job begins in cycle 1000.
-use Rattle.std.proofs.Common.{◌≡◌, ℕ, [], ◌∷◌, refl, Some}
 use Rattle.std.specs.Prelude.{option_map}
+use Rattle.std.proofs.Common.{◌≡◌, ℕ, [], ◌∷◌, refl, Some}
 use Rattle.prem_cycle.specs.State.{MachineState}
 use Rattle.prem_cycle.specs.Core.{phase_in}
 use Rattle.prem_cycle.specs.Run.{cycles_of}

@@ -1,15 +1,15 @@
 -- The bus changes nothing before a `pm.in` issues.
-use Rattle.std.proofs.Common.{◌≡◌, ℕ, zero, suc, refl, ap, ◌∙◌, sym, cond, Some, None, Option, true, false, Bool, List, length, ⊎_elim}
 use Rattle.std.specs.Prelude.{◌&&◌, nat_le}
+use Rattle.std.proofs.Common.{◌≡◌, ℕ, zero, suc, refl, ap, ◌∙◌, sym, cond, Some, None, Option, true, false, Bool, List, length, ⊎_elim}
 use Rattle.std.proofs.lemmas.Bool.{cases_Bool}
-use Rattle.prem_isa.specs.declared.effect.Phase.{Phase}
-use Rattle.prem_isa.specs.declared.effect.Phase.TheVariants.{Compatible}
-use Rattle.prem_lru.specs.Entries.{ReplacementRule}
-use Rattle.prem_gate.specs.Gates.{Turned, wants}
 use Rattle.prem_sched.specs.declared.sched.TaskJobs.{TaskJobs}
 use Rattle.prem_sched.specs.declared.sched.Choice.{Choice}
 use Rattle.prem_sched.specs.declared.sched.Choice.TheVariants.{Run, Idle as Rest, Finished}
 use Rattle.prem_sched.specs.Schedule.{choice}
+use Rattle.prem_isa.specs.declared.effect.Phase.{Phase}
+use Rattle.prem_isa.specs.declared.effect.Phase.TheVariants.{Compatible}
+use Rattle.prem_lru.specs.Entries.{ReplacementRule}
+use Rattle.prem_gate.specs.Gates.{Turned, wants}
 use Rattle.prem_cycle.specs.declared.state.Mode.{Mode}
 use Rattle.prem_cycle.specs.declared.state.Mode.TheVariants.{Point, Switching, Running, Idle}
 use Rattle.prem_cycle.specs.declared.state.Interval.{Interval}

@@ -1,7 +1,7 @@
 -- Run files by hand.
 use Rattle.std.specs.Prelude.{◌≡◌, ℕ, List, [], ◌∷◌, ◌++◌, length, map, nat_le, Option, None, Some, Result, Ok, Err, codes, refl}
-use Rattle.prem_gate.specs.declared.request.Request.{Request}
 use Rattle.prem_line.specs.Chain.{holds}
+use Rattle.prem_gate.specs.declared.request.Request.{Request}
 use Rattle.prem_set.specs.declared.run.fail.Which.TheVariants.{Text, Word, Task, Device, Number, Slot, Order, Limit}
 use Rattle.prem_set.specs.Run.Names.{KnownNames, task_of, device_of}
 use Rattle.prem_set.specs.Run.Run.{Gathered, LineRefusal, taken, inputs_of, request_words, request_of, in_words, req_words, line_read, lines_read, run_of}

@@ -1,4 +1,6 @@
 -- What run files give is lawful.
+use Rattle.std.specs.Option.{option_and_then}
+use Rattle.std.specs.Str.{bytes_eq}
 use Rattle.std.proofs.Common.{◌≡◌, ◌<◌, ◌≤◌, ◌^◌, ◌+◌, ◌-◌, ℕ, nat_lt, nat_le, List, [], ◌∷◌, ◌++◌, length, map, All, get_or, set, slice_get, Option, None, Some, option_map, Result, Ok, Err, codes, refl, sym, ap, subst, ◌∙◌, arith, inl, inr}
 use Rattle.std.proofs.lemmas.Bool.{cases_Bool, leb-true, ltb-true}
 use Rattle.std.proofs.lemmas.Bool.Decides.{nat_tests}
@@ -6,15 +8,13 @@ use Rattle.std.proofs.lemmas.List.{length-set, length-append, length-replicate}
 use Rattle.std.proofs.lemmas.List.Elements.{All-push, All-set, All-replicate}
 use Rattle.std.proofs.lemmas.List.Sorted.{IsNonDecreasingBy-push}
 use Rattle.std.proofs.lemmas.Option.{get_or_from_slice_get, slice_get_past, none-some, same_Some}
-use Rattle.std.specs.Option.{option_and_then}
-use Rattle.prem_gate.specs.declared.request.Request.{Request}
-use Rattle.prem_gate.specs.declared.request.RunInput.{RunInput}
-use Rattle.std.specs.Str.{bytes_eq}
 use Rattle.prem_list.specs.Sequence.{items_of}
 use Rattle.prem_line.specs.Chain.{◌>>=◌, wanted, holds}
-use Rattle.prem_line.proofs.Chain.{same_Ok, no_value, bound, held, found}
 use Rattle.prem_line.specs.Lines.{lines_of, words_of, is_skipped, is_text, first_of}
 use Rattle.prem_line.specs.Numbers.{value_of, number_of, up_to}
+use Rattle.prem_line.proofs.Chain.{same_Ok, no_value, bound, held, found}
+use Rattle.prem_gate.specs.declared.request.Request.{Request}
+use Rattle.prem_gate.specs.declared.request.RunInput.{RunInput}
 use Rattle.prem_set.specs.declared.run.fail.Which.{Which}
 use Rattle.prem_set.specs.declared.run.fail.Which.TheVariants as which
 use Rattle.prem_set.specs.Run.Lawful.{IsKnown, IsLawful, IsLawfulRun}

@@ -11,8 +11,8 @@ use Rattle.prem_isa.specs.Plain.{TaskRun, PlainState, Did, moved_by, after_chang
 use Rattle.prem_isa.proofs.ActLaws.{cost_bounds}
 use Rattle.prem_runs.specs.Position.Finish.{accesses_of, due_of}
 use Rattle.prem_sound.specs.Script.Script.{begun_by, change_due, did_due, Script, call_at}
-use Rattle.prem_sound.proofs.ScriptLemmas.Begins.{Executed, executed, did_lawful, still_by}
 use Rattle.prem_sound.specs.Paced.Paced.{within_job, job_with, job_by, within_stretch, own_due, stretch_with, stretch_by, IsPaced}
+use Rattle.prem_sound.proofs.ScriptLemmas.Begins.{Executed, executed, did_lawful, still_by}
 
 pub job_by-next : (plant : Plant) (s : Script) (run : TaskRun) (n : ℕ) → job_by plant s run (n + 1) ≡ job_with plant s (begun_by run n) (plain_did run (plain_run run n)) (job_by plant s run n)
 unfolding job_by

@@ -1,6 +1,6 @@
 -- Where the core wants the bus only while the window is closed, core and gate never want one cycle both.
-use Rattle.std.proofs.Common.{◌≡◌, ℕ, ◌+◌, ◌<◌, ◌≤◌, refl, ap, ◌∙◌, arith, leb, Some, None, Option, true, false, Bool, List, length, IfSome, ⊎_elim}
 use Rattle.std.specs.Prelude.{All}
+use Rattle.std.proofs.Common.{◌≡◌, ℕ, ◌+◌, ◌<◌, ◌≤◌, refl, ap, ◌∙◌, arith, leb, Some, None, Option, true, false, Bool, List, length, IfSome, ⊎_elim}
 use Rattle.std.proofs.lemmas.Bool.{cases_lt, cond_both}
 use Rattle.std.proofs.lemmas.List.{get_or_past}
 use Rattle.prem_gate.specs.declared.bus.Window.{Window}

@@ -1,10 +1,12 @@
 -- A cycle of a run whose tasks keep to their scripts: nothing misses in an execution phase, and nothing clashes.
-use Rattle.std.proofs.Common.{◌≡◌, ℕ, ◌+◌, ◌-◌, ◌<◌, ◌≤◌, refl, ap, ◌∙◌, sym, subst, arith, cond, ltb, Some, None, Option, true, false, Bool, List, [], ◌∷◌, length, inl, inr, ⊎_elim}
 use Rattle.std.specs.Prelude.{◌&&◌, is_some}
+use Rattle.std.proofs.Common.{◌≡◌, ℕ, ◌+◌, ◌-◌, ◌<◌, ◌≤◌, refl, ap, ◌∙◌, sym, subst, arith, cond, ltb, Some, None, Option, true, false, Bool, List, [], ◌∷◌, length, inl, inr, ⊎_elim}
 use Rattle.std.proofs.lemmas.Bool.{and_parts, cases_Bool, cond_both}
 use Rattle.std.proofs.lemmas.List.{length-map}
 use Rattle.prem_plant.specs.declared.plant.Plant.{Plant}
 use Rattle.prem_plant.specs.Ranges.{IsPlant}
+use Rattle.prem_sched.specs.declared.sched.TaskJobs.{TaskJobs}
+use Rattle.prem_order.specs.Order.{OrderRule}
 use Rattle.prem_isa.specs.declared.effect.Phase.{Phase}
 use Rattle.prem_isa.specs.declared.effect.Phase.TheVariants.{Compatible, Memory as MemoryPhase, Execution}
 use Rattle.prem_isa.specs.declared.effect.Change.{Change}
@@ -16,11 +18,9 @@ use Rattle.prem_isa.specs.Plain.{TaskRun, PlainState, Did, did_of, plain_did, pl
 use Rattle.prem_isa.proofs.PlainLaws.{plain_fits}
 use Rattle.prem_lru.specs.Entries.{ReplacementRule}
 use Rattle.prem_lru.specs.CacheState.{CacheState}
-use Rattle.prem_order.specs.Order.{OrderRule}
 use Rattle.prem_lru.specs.Order.{lines_in, lines_of}
 use Rattle.prem_gate.specs.declared.bus.Window.{Window}
 use Rattle.prem_gate.specs.Gates.{wants}
-use Rattle.prem_sched.specs.declared.sched.TaskJobs.{TaskJobs}
 use Rattle.prem_cycle.specs.declared.state.Mode.{Mode}
 use Rattle.prem_cycle.specs.declared.state.Mode.TheVariants.{Point, Switching, Running, Idle}
 use Rattle.prem_cycle.specs.declared.state.Interval.{Interval}

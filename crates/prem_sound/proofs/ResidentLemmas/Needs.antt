@@ -1,7 +1,9 @@
 -- When a core needs the bus: in a switch, and in an interval before its `pm.exec`. In each other part it owes no transaction.
-use Rattle.std.proofs.Common.{◌≡◌, ℕ, ◌+◌, ◌-◌, ◌<◌, refl, ap, ◌∙◌, sym, subst, ltb, Some, true, false, Bool, List, length, inl, inr}
 use Rattle.std.specs.Prelude.{◌&&◌, not, is_some}
+use Rattle.std.proofs.Common.{◌≡◌, ℕ, ◌+◌, ◌-◌, ◌<◌, refl, ap, ◌∙◌, sym, subst, ltb, Some, true, false, Bool, List, length, inl, inr}
 use Rattle.std.proofs.lemmas.Bool.{and_parts, cond_both}
+use Rattle.prem_sched.specs.declared.sched.TaskJobs.{TaskJobs}
+use Rattle.prem_order.specs.Order.{OrderRule}
 use Rattle.prem_isa.specs.declared.effect.Phase.{Phase}
 use Rattle.prem_isa.specs.declared.effect.Phase.TheVariants.{Compatible, Memory as MemoryPhase, Execution}
 use Rattle.prem_isa.specs.declared.effect.Change.{Change}
@@ -11,10 +13,8 @@ use Rattle.prem_isa.specs.Bounds.{IsLawful}
 use Rattle.prem_isa.specs.Decode.{cost_of}
 use Rattle.prem_isa.specs.Plain.{TaskRun, Did, did_of, plain_did, plain_run}
 use Rattle.prem_lru.specs.Entries.{ReplacementRule}
-use Rattle.prem_order.specs.Order.{OrderRule}
 use Rattle.prem_lru.specs.Order.{lines_in}
 use Rattle.prem_gate.specs.Gates.{Turned, wants}
-use Rattle.prem_sched.specs.declared.sched.TaskJobs.{TaskJobs}
 use Rattle.prem_cycle.specs.declared.state.Mode.{Mode}
 use Rattle.prem_cycle.specs.declared.state.Mode.TheVariants.{Point, Switching, Running, Idle}
 use Rattle.prem_cycle.specs.declared.state.Interval.{Interval}
@@ -30,8 +30,8 @@ use Rattle.prem_runs.proofs.PositionLemmas.MayMoves.{MayMove, does, stands_still
 use Rattle.prem_runs.proofs.PositionLemmas.Turns.{Runs, bump_move, issuing}
 use Rattle.prem_runs.proofs.PositionLemmas.Issues.{issuing_did}
 use Rattle.prem_sound.specs.Script.Script.{Script}
-use Rattle.prem_sound.proofs.ScriptLemmas.Begins.{Executed, executed, next_phase, did_lawful}
 use Rattle.prem_sound.specs.Resident.Faultless.{IsPolicy}
+use Rattle.prem_sound.proofs.ScriptLemmas.Begins.{Executed, executed, next_phase, did_lawful}
 use Rattle.prem_sound.proofs.ResidentLemmas.Residents.{opens, MustHit, phase_at, Moves, bump_run}
 use Rattle.prem_sound.proofs.ResidentLemmas.Counted.{owed_none}
 use Rattle.prem_sound.proofs.ResidentLemmas.Keeps.{owes_none, same_phase, KeepScripts, issue_hits}

@@ -2,6 +2,8 @@
 use Rattle.std.proofs.Common.{◌≡◌, ◌≢◌, ℕ, zero, suc, ◌<◌, refl, ap, ◌∙◌, sym, subst, true, false, Bool, Some, List, [], ◌∷◌, ◌++◌, length, ◌⊎◌, inl, inr, ⊎_elim}
 use Rattle.std.proofs.lemmas.Bool.{cases_eq}
 use Rattle.prem_plant.specs.declared.plant.Plant.{Plant}
+use Rattle.prem_sched.specs.declared.sched.TaskJobs.{TaskJobs}
+use Rattle.prem_order.specs.Order.{OrderRule, HaveRoom, IsCacheFullAfter, caches_after, cache_misses}
 use Rattle.prem_isa.specs.declared.effect.Phase.{Phase}
 use Rattle.prem_isa.specs.declared.effect.Phase.TheVariants.{Compatible, Memory as MemoryPhase, Execution}
 use Rattle.prem_isa.specs.declared.effect.Change.{Change}
@@ -10,8 +12,6 @@ use Rattle.prem_isa.specs.Act.{phase_after}
 use Rattle.prem_isa.specs.Bounds.{IsLawful}
 use Rattle.prem_isa.specs.Plain.{TaskRun, Did, plain_did, plain_step, plain_run}
 use Rattle.prem_isa.proofs.PlainLaws.{plain_steps-next}
-use Rattle.prem_order.specs.Order.{OrderRule, HaveRoom, IsCacheFullAfter, caches_after, cache_misses}
-use Rattle.prem_sched.specs.declared.sched.TaskJobs.{TaskJobs}
 use Rattle.prem_cycle.specs.declared.state.Mode.{Mode}
 use Rattle.prem_cycle.specs.declared.state.Mode.TheVariants.{Point, Switching, Running, Idle}
 use Rattle.prem_cycle.specs.declared.state.Interval.{Interval}

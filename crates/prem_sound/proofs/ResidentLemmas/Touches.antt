@@ -1,15 +1,15 @@
 -- The touches of an instruction: which of them miss, and how the lines stand behind them.
-use Rattle.std.proofs.Common.{◌≡◌, ℕ, ◌+◌, ◌/◌, ◌<◌, ◌≤◌, refl, ap, ◌∙◌, sym, subst, arith, cond, Some, None, Option, List, [], ◌∷◌, length}
 use Rattle.std.specs.Prelude.{slice_set}
+use Rattle.std.proofs.Common.{◌≡◌, ℕ, ◌+◌, ◌/◌, ◌<◌, ◌≤◌, refl, ap, ◌∙◌, sym, subst, arith, cond, Some, None, Option, List, [], ◌∷◌, length}
 use Rattle.std.proofs.lemmas.List.{length-set}
 use Rattle.prem_plant.specs.declared.plant.Plant.{Plant}
+use Rattle.prem_order.specs.Order.{is_in, OrderRule, order_of, cache_after, caches_after, cache_misses}
 use Rattle.prem_isa.specs.declared.effect.Access.{Access}
 use Rattle.prem_isa.specs.declared.effect.Stored.{Stored}
 use Rattle.prem_isa.specs.declared.effect.Effect.{Effect}
 use Rattle.prem_lru.specs.Entries.{ReplacementRule, write_line}
 use Rattle.prem_lru.specs.CacheState.{CacheState, Touched, set_of, touch_of, IsCache}
 use Rattle.prem_lru.specs.Rules.{IsRule, MovesBy}
-use Rattle.prem_order.specs.Order.{is_in, OrderRule, order_of, cache_after, caches_after, cache_misses}
 use Rattle.prem_lru.specs.Order.{lines_in}
 use Rattle.prem_lru.specs.Splice.{bytes_of}
 use Rattle.prem_lru.proofs.Touches.{some_sets}

@@ -1,11 +1,12 @@
 -- A run whose instructions conform has a script, and stays with its own bytes.
-use Rattle.std.proofs.Common.{◌≡◌, ℕ, zero, suc, ◌+◌, ◌-◌, ◌%◌, ◌<◌, ◌≤◌, refl, ap, ◌∙◌, sym, subst, arith, cond, eqb, leb, ltb, true, false, Bool, Some, None, Option, List, [], ◌∷◌, ◌++◌, append_assoc, length, get_or, IfSome, ⊎_elim}
 use Rattle.std.specs.Prelude.{All, Result, Ok, Err, is_none, ◌&&◌}
+use Rattle.std.proofs.Common.{◌≡◌, ℕ, zero, suc, ◌+◌, ◌-◌, ◌%◌, ◌<◌, ◌≤◌, refl, ap, ◌∙◌, sym, subst, arith, cond, eqb, leb, ltb, true, false, Bool, Some, None, Option, List, [], ◌∷◌, ◌++◌, append_assoc, length, get_or, IfSome, ⊎_elim}
 use Rattle.std.proofs.lemmas.Bool.{cases_lt, cond_both, le-ltb}
 use Rattle.std.proofs.lemmas.List.{length-append}
-use Rattle.prem_plant.specs.declared.plant.Target.{Target}
 use Rattle.prem_word.specs.Bytes.{number_at}
+use Rattle.prem_plant.specs.declared.plant.Target.{Target}
 use Rattle.prem_plant.specs.declared.plant.Plant.{Plant}
+use Rattle.prem_order.specs.Order.{HaveRoom}
 use Rattle.prem_isa.specs.declared.instr.Instr.{Instr}
 use Rattle.prem_isa.specs.declared.instr.Instr.TheVariants.{Lui, Auipc, Jal, Jalr, Branch, Load, Store, OpImm, Op, MulDiv, Fence, Ecall, Ebreak, PmMem, PmExec, PmEnd, PmDone, PmIn, PmOut}
 use Rattle.prem_isa.specs.declared.effect.Phase.{Phase}
@@ -24,7 +25,6 @@ use Rattle.prem_isa.specs.Bounds.{OnDone, EffectFits, AccessMatches}
 use Rattle.prem_isa.specs.Plain.{TaskRun, PlainState, Did, did_of, did_with, did_fetched, next_input, with_last, outcome_of, is_running, plain_did, plain_start, plain_steps, plain_run, plain_trace}
 use Rattle.prem_isa.proofs.ActLaws.{act_fits}
 use Rattle.prem_isa.proofs.PlainLaws.{plain_fits, fetch_fits, plain_run-add, plain_trace-add, plain_stays}
-use Rattle.prem_order.specs.Order.{HaveRoom}
 use Rattle.prem_cycle.specs.State.{Setup}
 use Rattle.prem_cycle.specs.Core.{is_predictable}
 use Rattle.prem_runs.specs.Position.Own.{AllOwn, LoadsOwn, IsOwn, IsOwnOutcome}
@@ -40,7 +40,7 @@ begun_behind-last None xs b = refl
 begun_behind-last (Some d) [] b = refl
 begun_behind-last (Some d) (x ∷ xs) b = begun_behind-last (Some d) xs (begun_after x.change x b)
 
-pub begun_is : (run : TaskRun) (n : ℕ) → begun_by run n ≡ begun_behind (plain_trace run n (plain_start run)) none_begun
+begun_is : (run : TaskRun) (n : ℕ) → begun_by run n ≡ begun_behind (plain_trace run n (plain_start run)) none_begun
 unfolding begun_by plain_trace
 begun_is run zero = refl
 begun_is run (suc n) =
@@ -157,19 +157,19 @@ module _ (run : TaskRun) (dids : List Did) (trace : plain_trace run (length dids
       (cases_lt n (length dids))
 
   -- what holds of all instructions
-  pub each_did : (P : Did → Type 0) → All P dids → (n : ℕ) (d : Did) → plain_did run (plain_run run n) ≡ Some d → P d
+  each_did : (P : Did → Type 0) → All P dids → (n : ℕ) (d : Did) → plain_did run (plain_run run n) ≡ Some d → P d
   each_did P all n d e =
       let x : Place n d = place_of n d (below_end n d e) e in
       all_at P (plain_trace run n (plain_start run)) d x.rest (subst (All P) x.whole all)
 
-  pub each_step : (plant : Plant) (passes : ℕ → ℕ) (s : Script) → KeepsCalls plant passes s none_begun dids → (n : ℕ) (d : Did) → plain_did run (plain_run run n) ≡ Some d → is_predictable d.phase ≡ true → IsStep plant passes (call_of s (begun_by run n)) (begun_by run n).steps d
+  each_step : (plant : Plant) (passes : ℕ → ℕ) (s : Script) → KeepsCalls plant passes s none_begun dids → (n : ℕ) (d : Did) → plain_did run (plain_run run n) ≡ Some d → is_predictable d.phase ≡ true → IsStep plant passes (call_of s (begun_by run n)) (begun_by run n).steps d
   each_step plant passes s keeps n d e p =
       let x : Place n d = place_of n d (below_end n d e) e in
       subst (λ b. IsStep plant passes (call_of s b) b.steps d) (sym (begun_is run n))
       (keeps_at plant passes s none_begun (plain_trace run n (plain_start run)) d x.rest (subst (KeepsCalls plant passes s none_begun) x.whole keeps) p)
 
   -- the marks of an instruction
-  pub each_mark : (reads : Reading) (marks : List Mark) → KeepsMarks reads marks run 0 none_begun dids → (n : ℕ) (d : Did) → plain_did run (plain_run run n) ≡ Some d → AtMark reads marks d.change (plain_run run (n + 1)).task.view (begun_by run n)
+  each_mark : (reads : Reading) (marks : List Mark) → KeepsMarks reads marks run 0 none_begun dids → (n : ℕ) (d : Did) → plain_did run (plain_run run n) ≡ Some d → AtMark reads marks d.change (plain_run run (n + 1)).task.view (begun_by run n)
   each_mark reads marks keeps n d e =
       let lt : n < length dids = below_end n d e in
       let x : Place n d = place_of n d lt e in

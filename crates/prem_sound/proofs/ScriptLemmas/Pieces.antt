@@ -1,9 +1,10 @@
 -- The pieces of a run keep its calls.
-use Rattle.std.proofs.Common.{◌≡◌, ℕ, ◌+◌, ◌-◌, ◌*◌, ◌≤◌, refl, ap, ◌∙◌, sym, subst, arith, true, false, None, List, [], ◌∷◌, ◌++◌, append_assoc, append-nil, length, get_or, IfSome, suc}
 use Rattle.std.specs.Prelude.{All}
+use Rattle.std.proofs.Common.{◌≡◌, ℕ, ◌+◌, ◌-◌, ◌*◌, ◌≤◌, refl, ap, ◌∙◌, sym, subst, arith, true, false, None, List, [], ◌∷◌, ◌++◌, append_assoc, append-nil, length, get_or, IfSome, suc}
 use Rattle.std.proofs.lemmas.List.Sums.{sum_by-append, sum_by-cons}
 use Rattle.std.proofs.lemmas.List.Elements.{All-head, All-tail}
 use Rattle.prem_plant.specs.declared.plant.Plant.{Plant}
+use Rattle.prem_order.specs.Order.{AllIn}
 use Rattle.prem_isa.specs.declared.effect.Phase.{Phase}
 use Rattle.prem_isa.specs.declared.effect.Phase.TheVariants.{Compatible, Memory as MemoryPhase, Execution}
 use Rattle.prem_isa.specs.declared.effect.Change.{Change}
@@ -11,7 +12,6 @@ use Rattle.prem_isa.specs.declared.effect.Change.TheVariants.{Stay, Memory, Exec
 use Rattle.prem_isa.specs.declared.effect.AccessKind.TheVariants.{Loads}
 use Rattle.prem_isa.specs.Decode.{cost_of}
 use Rattle.prem_isa.specs.Plain.{TaskRun, Did, plain_run}
-use Rattle.prem_order.specs.Order.{AllIn}
 use Rattle.prem_cycle.specs.Core.{is_predictable}
 use Rattle.prem_sound.specs.Script.Script.{lines_of_did, lines_of_dids, cost_of_dids, Begun, steps_after, begun_after, Call, call_at, call_of, Opens, StoresNothing, IsStep, Script, did_due}
 use Rattle.prem_sound.specs.Script.Scripts.{Reading, Mark}

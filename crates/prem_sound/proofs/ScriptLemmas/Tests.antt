@@ -1,10 +1,12 @@
 -- Whether instructions conform, as a test that is computed.
-use Rattle.std.proofs.Common.{◌≡◌, ℕ, ◌+◌, ◌*◌, ◌/◌, ◌%◌, ◌<◌, ◌≤◌, refl, ap, ◌∙◌, sym, subst, arith, cond, eqb, leb, true, false, Bool, Some, None, Option, List, [], ◌∷◌, ◌++◌, append-nil, length, IfSome, ⊎_elim}
 use Rattle.std.specs.Prelude.{All, ◌&&◌}
+use Rattle.std.proofs.Common.{◌≡◌, ℕ, ◌+◌, ◌*◌, ◌/◌, ◌%◌, ◌<◌, ◌≤◌, refl, ap, ◌∙◌, sym, subst, arith, cond, eqb, leb, true, false, Bool, Some, None, Option, List, [], ◌∷◌, ◌++◌, append-nil, length, IfSome, ⊎_elim}
 use Rattle.std.proofs.lemmas.Bool.{and_parts, cases_eq, eqb-true, eq-eqb, ne_eqb, le-leb, leb-true}
 use Rattle.std.proofs.lemmas.List.Elements.{All-nil, All-cons}
 use Rattle.std.proofs.Math.Nat.{mod-eq_of_lt}
 use Rattle.prem_plant.specs.declared.plant.Plant.{Plant}
+use Rattle.prem_order.specs.Order.{is_in, AllIn, AreOnce, of_set, one_pass, HaveRoom}
+use Rattle.prem_order.proofs.Members.{in_head, in_other}
 use Rattle.prem_isa.specs.declared.effect.Phase.{Phase}
 use Rattle.prem_isa.specs.declared.effect.Phase.TheVariants.{Compatible, Memory as MemoryPhase, Execution}
 use Rattle.prem_isa.specs.declared.effect.Change.{Change}
@@ -14,8 +16,6 @@ use Rattle.prem_isa.specs.declared.effect.AccessKind.TheVariants.{Loads, Stores}
 use Rattle.prem_isa.specs.declared.effect.Access.{Access}
 use Rattle.prem_isa.specs.Decode.{cost_of}
 use Rattle.prem_isa.specs.Plain.{Did}
-use Rattle.prem_order.specs.Order.{is_in, AllIn, AreOnce, of_set, one_pass, HaveRoom}
-use Rattle.prem_order.proofs.Members.{in_head, in_other}
 use Rattle.prem_cycle.specs.State.{Setup}
 use Rattle.prem_cycle.specs.Core.{is_predictable}
 use Rattle.prem_runs.specs.Position.Own.{AllOwn, IsFree}

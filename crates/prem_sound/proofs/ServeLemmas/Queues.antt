@@ -1,11 +1,10 @@
 -- A queued request is transferred in order, once, or still waits.
-use Rattle.std.proofs.Common.{◌≡◌, ◌≢◌, ℕ, zero, suc, ◌+◌, ◌<◌, ◌≤◌, refl, ap, ◌∙◌, sym, cond, eqb, leb, Some, None, Option, true, false, Bool, List, [], ◌∷◌, ◌++◌, append_assoc, append-nil, length, map, drop, ⊎_elim}
 use Rattle.std.specs.Prelude.{filter, slice_get, slice_set, is_some}
+use Rattle.std.proofs.Common.{◌≡◌, ◌≢◌, ℕ, zero, suc, ◌+◌, ◌<◌, ◌≤◌, refl, ap, ◌∙◌, sym, cond, eqb, leb, Some, None, Option, true, false, Bool, List, [], ◌∷◌, ◌++◌, append_assoc, append-nil, length, map, drop, ⊎_elim}
 use Rattle.std.proofs.lemmas.Bool.{cases_eq, cases_lt, cond_both, eq-eqb, ne_eqb}
 use Rattle.std.proofs.lemmas.List.{get_or-set_same, get_or-set_other, get_or_past, map-append}
 use Rattle.std.proofs.lemmas.List.Elements.{filter-append}
 use Rattle.prem_plant.specs.declared.plant.Device.{Device}
-use Rattle.prem_image.specs.declared.image.DeviceRecord.{DeviceRecord}
 use Rattle.prem_isa.specs.Plain.{with_last}
 use Rattle.prem_lru.specs.Entries.{ReplacementRule}
 use Rattle.prem_gate.specs.declared.request.Request.{Request}
@@ -17,6 +16,7 @@ use Rattle.prem_gate.specs.declared.bus.CoreWant.TheVariants.{No, New, Held}
 use Rattle.prem_gate.specs.Gates.{GateState, GatesState, Turned, gate_at, no_gate, with_gates, is_full, queued, after_arrival, startable, without_head, taken, transfer_of, ends, goes_on, carries, wants, starts, bus_free, bus_with, bus_turn, gates_of}
 use Rattle.prem_gate.specs.Ranges.{IsStart}
 use Rattle.prem_gate.proofs.Places.{startable_is}
+use Rattle.prem_image.specs.declared.image.DeviceRecord.{DeviceRecord}
 use Rattle.prem_cycle.specs.State.{Setup, MachineState, start_of}
 use Rattle.prem_cycle.specs.Core.{want_of}
 use Rattle.prem_cycle.specs.Cycle.{Arrivals, arrived, arrivals, arrivals_at, bus_at, core_at, joined, with_now, next_cycle, cycle_with, cycle_of, is_over, step_of}
@@ -182,7 +182,7 @@ step_held rule p requests d s = by (is_over s) where
 
 -- ---- a run
 
-pub cycles_held : (rule : ReplacementRule) (p : Setup) (requests : List Request) (d : ℕ) (n : ℕ) (s : MachineState) → held_of d s ≡ [] → held_of d (cycles_of rule p requests n s) ≡ asked_of d (queued_of rule p requests n s)
+cycles_held : (rule : ReplacementRule) (p : Setup) (requests : List Request) (d : ℕ) (n : ℕ) (s : MachineState) → held_of d s ≡ [] → held_of d (cycles_of rule p requests n s) ≡ asked_of d (queued_of rule p requests n s)
 unfolding cycles_of queued_of
 cycles_held rule p requests d zero s h = h
 cycles_held rule p requests d (suc n) s h =

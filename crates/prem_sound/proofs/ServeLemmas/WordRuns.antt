@@ -1,11 +1,11 @@
 -- Over a run each word that a get has is that of the last put before it.
-use Rattle.std.proofs.Common.{◌≡◌, ℕ, zero, suc, ◌+◌, ◌<◌, ◌∙◌, sym, subst, Bool, List, [], ◌∷◌, ◌++◌, length, map}
 use Rattle.std.specs.Prelude.{slice_index, slice_set}
+use Rattle.std.proofs.Common.{◌≡◌, ℕ, zero, suc, ◌+◌, ◌<◌, ◌∙◌, sym, subst, Bool, List, [], ◌∷◌, ◌++◌, length, map}
 use Rattle.std.proofs.lemmas.Bool.{cond_both}
 use Rattle.prem_word.specs.Bytes.{number_at}
 use Rattle.prem_word.proofs.Bytes.{number_at-agrees}
 use Rattle.prem_plant.specs.Places.{AreApart}
-use Rattle.prem_image.specs.Records.{area_of}
+use Rattle.prem_sched.specs.declared.sched.TaskJobs.{TaskJobs}
 use Rattle.prem_isa.specs.Plain.{TaskRun, with_last}
 use Rattle.prem_lru.specs.Entries.{ReplacementRule}
 use Rattle.prem_lru.specs.CacheState.{empty_cache, view_of}
@@ -13,7 +13,7 @@ use Rattle.prem_lru.specs.Rules.{IsRule}
 use Rattle.prem_gate.specs.declared.request.Request.{Request}
 use Rattle.prem_gate.specs.declared.bus.Transfer.{Transfer}
 use Rattle.prem_gate.specs.Gates.{Turned}
-use Rattle.prem_sched.specs.declared.sched.TaskJobs.{TaskJobs}
+use Rattle.prem_image.specs.Records.{area_of}
 use Rattle.prem_cycle.specs.State.{Setup, record_of, Work, MachineState, task_in, start_of}
 use Rattle.prem_cycle.specs.Issue.{task_after, issued_by}
 use Rattle.prem_cycle.specs.Core.{want_of, attempted, moved, CoreMove, Passes, Issues}

@@ -1,12 +1,11 @@
 -- The word at a line of a device is that of the last put there.
-use Rattle.std.proofs.Common.{◌≡◌, ℕ, ◌+◌, ◌*◌, ◌/◌, ◌^◌, ◌<◌, ◌≤◌, refl, ap, ◌∙◌, sym, subst, arith, eqb, leb, Some, None, Option, true, false, Bool, List, [], ◌∷◌, ◌++◌, length, map, IfSome, ◌⊎◌, inl, inr, ⊎_elim}
 use Rattle.std.specs.Prelude.{All, slice_index, ◌&&◌}
+use Rattle.std.proofs.Common.{◌≡◌, ℕ, ◌+◌, ◌*◌, ◌/◌, ◌^◌, ◌<◌, ◌≤◌, refl, ap, ◌∙◌, sym, subst, arith, eqb, leb, Some, None, Option, true, false, Bool, List, [], ◌∷◌, ◌++◌, length, map, IfSome, ◌⊎◌, inl, inr, ⊎_elim}
 use Rattle.std.proofs.lemmas.Bool.{cases_eq, cond_both, eq-eqb, ne_eqb}
 use Rattle.std.proofs.lemmas.List.{get_or-set_same}
 use Rattle.prem_word.specs.Bytes.{number_at, put_number}
 use Rattle.prem_word.proofs.Bytes.{number_at-agrees, number_at-put_number}
 use Rattle.prem_plant.specs.Places.{AreApart}
-use Rattle.prem_image.specs.Records.{area_of, IsPlaced}
 use Rattle.prem_isa.specs.declared.effect.Stored.{Stored}
 use Rattle.prem_isa.specs.Plain.{with_last}
 use Rattle.prem_lru.specs.Splice.{bytes_of, spliced}
@@ -22,6 +21,7 @@ use Rattle.prem_gate.specs.declared.bus.CoreWant.TheVariants.{No, New, Held}
 use Rattle.prem_gate.specs.Gates.{GateState, GatesState, Turned, gate_at, no_gate, startable, without_head, taken, slot_of, memory_after, value_of, transfer_of, ends, goes_on, carries, wants, starts, bus_free, bus_with, bus_turn}
 use Rattle.prem_gate.specs.Ranges.{IsStart}
 use Rattle.prem_gate.proofs.Places.{startable_is}
+use Rattle.prem_image.specs.Records.{area_of, IsPlaced}
 use Rattle.prem_cycle.specs.State.{Setup, Task, Work}
 use Rattle.prem_runs.specs.Position.Own.{AllOwn, device_of, IsFree}
 use Rattle.prem_runs.proofs.PositionLemmas.Works.{IsKept, kept_plant, Issue}
@@ -34,7 +34,7 @@ use Rattle.prem_sound.proofs.ServeLemmas.Slots.{slot, SlotFits, slot_fits, slot_
 
 -- ---- one more transfer
 
-pub word_after-last : (d j : ℕ) (xs : List Transfer) (t : Transfer) (word : ℕ) → word_after d j (xs ++ t ∷ []) word ≡ word_by (eqb t.device d && eqb t.request.line j) t.request.put (word_after d j xs word)
+word_after-last : (d j : ℕ) (xs : List Transfer) (t : Transfer) (word : ℕ) → word_after d j (xs ++ t ∷ []) word ≡ word_by (eqb t.device d && eqb t.request.line j) t.request.put (word_after d j xs word)
 word_after-last d j [] t word = refl
 word_after-last d j (x ∷ xs) t word = word_after-last d j xs t (word_by (eqb x.device d && eqb x.request.line j) x.request.put word)
 

@@ -1,9 +1,9 @@
 -- Where tasks do what their scripts say, nothing in a run is a fault.
 use Rattle.std.specs.Prelude.{◌≡◌, ℕ, ◌<◌, Bool, List, length}
-use Rattle.prem_isa.specs.Plain.{TaskRun}
-use Rattle.prem_lru.specs.Entries.{ReplacementRule}
 use Rattle.prem_order.specs.Order.{OrderRule, CacheMissesOnce, IsCacheFullAfter}
 use Rattle.prem_order.specs.Rules.{passes_of}
+use Rattle.prem_isa.specs.Plain.{TaskRun}
+use Rattle.prem_lru.specs.Entries.{ReplacementRule}
 use Rattle.prem_lru.specs.Rules.{IsRule, MovesBy}
 use Rattle.prem_gate.specs.declared.request.Request.{Request}
 use Rattle.prem_cycle.specs.State.{Setup, MachineState, rule_in}

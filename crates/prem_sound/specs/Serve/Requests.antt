@@ -2,7 +2,6 @@
 use Rattle.std.specs.Prelude.{◌≡◌, ℕ, zero, suc, ◌+◌, ◌*◌, ◌^◌, ◌<◌, ◌==◌, ◌&&◌, All, Bool, true, false, List, [], ◌∷◌, ◌++◌, Option, Some, None, IfSome, length, map, filter, if◌then◌else◌, slice_index, nat_lt}
 use Rattle.std.specs.List.Sorted.{IsNonDecreasingBy}
 use Rattle.prem_plant.specs.Places.{AreApart}
-use Rattle.prem_image.specs.Records.{area_of}
 use Rattle.prem_isa.specs.Plain.{TaskRun}
 use Rattle.prem_lru.specs.Entries.{ReplacementRule}
 use Rattle.prem_lru.specs.Rules.{IsRule}
@@ -10,6 +9,7 @@ use Rattle.prem_gate.specs.declared.request.Request.{Request}
 use Rattle.prem_gate.specs.declared.bus.Carried.{Carried}
 use Rattle.prem_gate.specs.declared.bus.Transfer.{Transfer}
 use Rattle.prem_gate.specs.Gates.{GatesState, gate_at, is_full, after_arrival}
+use Rattle.prem_image.specs.Records.{area_of}
 use Rattle.prem_cycle.specs.State.{Setup, MachineState, start_of}
 use Rattle.prem_cycle.specs.Cycle.{is_over}
 use Rattle.prem_cycle.specs.Run.{cycles_of, memory_of, run_of}

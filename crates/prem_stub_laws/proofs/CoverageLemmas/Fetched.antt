@@ -4,12 +4,12 @@ use Rattle.std.proofs.lemmas.Bool.{cases_lt, eqb-true}
 use Rattle.std.proofs.lemmas.Nat.{le-div}
 use Rattle.std.proofs.Math.Nat.{div-mul-le_self, mul-div_cancel}
 use Rattle.prem_plant.specs.Places.{Extent}
+use Rattle.prem_order.specs.Order.{is_in}
+use Rattle.prem_order.proofs.Members.{in_head, in_tail}
 use Rattle.prem_layout.specs.Footprint.{lines_of}
 use Rattle.prem_layout.specs.Laws.{IsAmong, HasByteIn, SomeHasByteIn}
 use Rattle.prem_layout.proofs.Lines.{div_rises, lines_are_exact}
 use Rattle.prem_code_laws.specs.PrefetchLaws.Touches.{IsLineOf}
-use Rattle.prem_order.specs.Order.{is_in}
-use Rattle.prem_order.proofs.Members.{in_head, in_tail}
 use Rattle.prem_stub_laws.specs.Coverage.Fetched.{HaveBytes, SomeHolds, FootprintsAreFetched, RangesLieInFootprints}
 
 among_in : (n : ℕ) (xs : List ℕ) → IsAmong n xs → is_in n xs ≡ true

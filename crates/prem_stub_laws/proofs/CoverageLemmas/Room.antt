@@ -1,6 +1,6 @@
 -- Lines without conflict have room.
-use Rattle.std.proofs.Common.{◌≡◌, ℕ, zero, suc, ◌+◌, ◌%◌, ◌<◌, ◌≤◌, refl, ap, sym, subst, arith, eqb, ltb, true, false, Bool, List, [], ◌∷◌, length, None, Option, ⊎_elim}
 use Rattle.std.specs.Prelude.{filter}
+use Rattle.std.proofs.Common.{◌≡◌, ℕ, zero, suc, ◌+◌, ◌%◌, ◌<◌, ◌≤◌, refl, ap, sym, subst, arith, eqb, ltb, true, false, Bool, List, [], ◌∷◌, length, None, Option, ⊎_elim}
 use Rattle.std.proofs.lemmas.Bool.{cases_lt, eqb-true, ltb-false}
 use Rattle.std.proofs.lemmas.List.Sums.{length-filter}
 use Rattle.std.proofs.Math.Nat.{mod-lt}

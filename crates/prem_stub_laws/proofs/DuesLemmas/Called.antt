@@ -1,15 +1,15 @@
 -- The parts that the code of a function calls.
 use Rattle.std.proofs.Common.{◌≡◌, ℕ, ◌+◌, true, Bool, List, [], ◌∷◌, length, Some, None, Option}
-use Rattle.prem_plant.specs.declared.plant.Target.TheVariants.{Rv32i, Rv32im}
-use Rattle.prem_plant.specs.declared.plant.Target.{Target}
 use Rattle.prem_word.specs.declared.kind.Kind.{Kind}
 use Rattle.prem_word.specs.declared.kind.Kind.TheVariants.{Int, Unsigned}
 use Rattle.prem_word.specs.declared.kind.BinOp.{BinOp}
 use Rattle.prem_word.specs.declared.kind.BinOp.TheVariants.{Add as Plus, Sub as Minus, Mul, Div, Rem, Shl, Shr, Lt, Le, Gt, Ge, Eq, Ne, And as BitAnd, Xor as BitXor, Or as BitOr, AndAlso as AndAlsoOp, OrElse as OrElseOp}
+use Rattle.prem_plant.specs.declared.plant.Target.TheVariants.{Rv32i, Rv32im}
+use Rattle.prem_plant.specs.declared.plant.Target.{Target}
 use Rattle.prem_isa.specs.declared.effect.Phase.{Phase}
+use Rattle.prem_isa.specs.declared.instr.Instr.{Instr}
 use Rattle.prem_meaning.specs.Resolved.{Term, Constant, Local, Scalar, Element, Unary, Binary, AndAlso, OrElse, Steps, Done as NoSteps, SetLocal, SetScalar, SetElement, Output, Input, If, For, While, Call}
 use Rattle.prem_asm.specs.Pieces.{Pieces, no_pieces, straight, address_of, either, repeat, call_to, followed}
-use Rattle.prem_isa.specs.declared.instr.Instr.{Instr}
 use Rattle.prem_template.specs.Terms.{quotient_code, remainder_code, by_target, binary_code, term_code}
 use Rattle.prem_template.specs.Frames.{counters_in, locals_of}
 use Rattle.prem_template.specs.Steps.{Parts, declare_code, argument_code, target_code, result_code, steps_code}

@@ -1,11 +1,10 @@
 -- What single steps keep, and what they are charged.
-use Rattle.std.proofs.Common.{◌≡◌, ℕ, ◌+◌, ◌*◌, ◌/◌, ◌%◌, ◌^◌, ◌<◌, ◌≤◌, refl, ap, ◌∙◌, sym, subst, arith, cond, eqb, leb, List, [], ◌∷◌}
 use Rattle.std.specs.Prelude.{All}
+use Rattle.std.proofs.Common.{◌≡◌, ℕ, ◌+◌, ◌*◌, ◌/◌, ◌%◌, ◌^◌, ◌<◌, ◌≤◌, refl, ap, ◌∙◌, sym, subst, arith, cond, eqb, leb, List, [], ◌∷◌}
 use Rattle.std.proofs.lemmas.Bool.{cond_both}
 use Rattle.std.proofs.lemmas.List.Elements.{All-head}
-use Rattle.prem_isa.proofs.Forms.{extended_done}
-use Rattle.prem_plant.specs.declared.plant.Target.{Target}
 use Rattle.prem_word.specs.Bytes.{number_at}
+use Rattle.prem_plant.specs.declared.plant.Target.{Target}
 use Rattle.prem_plant.specs.declared.plant.Plant.{Plant}
 use Rattle.prem_isa.specs.declared.instr.Instr.{Instr}
 use Rattle.prem_isa.specs.declared.instr.Instr.TheVariants.{Lui, Auipc, Jal, Jalr, Branch, Load, Store, OpImm, Op, MulDiv, Fence, Ecall, Ebreak, PmMem, PmExec, PmEnd, PmDone, PmIn, PmOut}
@@ -20,17 +19,18 @@ use Rattle.prem_isa.specs.Act.{act, sets, jumps, accesses, loads, stores, phase_
 use Rattle.prem_isa.specs.Bounds.{OnDone}
 use Rattle.prem_isa.specs.Decode.{Fits, cost_of}
 use Rattle.prem_isa.specs.Plain.{TaskState, TaskFits, Did, did_of, next_input, after_effect}
+use Rattle.prem_isa.proofs.Forms.{extended_done}
 use Rattle.prem_isa.proofs.PlainLaws.{EffectWords, act_words, effect_fits}
+use Rattle.prem_runs.specs.Position.Finish.{due_of, data_accesses}
+use Rattle.prem_sound.specs.Script.Script.{did_due, change_due}
 use Rattle.prem_asm.specs.Runs.{Guard, stepped, outcome_at}
 use Rattle.prem_asm.specs.Steps.{Holds, Rules, total}
 use Rattle.prem_asm.proofs.Shape.{stepped_by}
-use Rattle.prem_runs.specs.Position.Finish.{due_of, data_accesses}
-use Rattle.prem_sound.specs.Script.Script.{did_due, change_due}
 use Rattle.prem_layout.specs.Bounds.{line_cost, job_weight}
 use Rattle.prem_weave.specs.Weave.{stated_by, charge}
 use Rattle.prem_weave.specs.Path.Woven.{IsCalm, CalmAt}
-use Rattle.prem_stub_laws.proofs.JobWeaveLemmas.Jobs.{linked_fits}
 use Rattle.prem_stub_laws.specs.Dues.Charged.{IsReady, IsCharged}
+use Rattle.prem_stub_laws.proofs.JobWeaveLemmas.Jobs.{linked_fits}
 
 -- ---- words stay words
 

@@ -1,29 +1,29 @@
 -- A stub that stands is charged the weight of its stated length, and leaves words where words are.
-use Rattle.std.proofs.Common.{◌≡◌, ℕ, zero, suc, ◌+◌, ◌*◌, ◌%◌, ◌^◌, ◌<◌, ◌≤◌, refl, ap, subst, arith, eqb, List, [], ◌∷◌, ◌++◌}
 use Rattle.std.specs.Prelude.{pos}
+use Rattle.std.proofs.Common.{◌≡◌, ℕ, zero, suc, ◌+◌, ◌*◌, ◌%◌, ◌^◌, ◌<◌, ◌≤◌, refl, ap, subst, arith, eqb, List, [], ◌∷◌, ◌++◌}
 use Rattle.prem_plant.specs.declared.plant.Plant.{Plant}
 use Rattle.prem_isa.specs.declared.instr.Instr.{Instr}
 use Rattle.prem_isa.specs.declared.instr.Instr.TheVariants.{Jalr, PmMem}
 use Rattle.prem_isa.specs.Decode.{cost_of}
-use Rattle.prem_layout.specs.Bounds.{line_cost}
 use Rattle.prem_isa.specs.declared.effect.Phase.TheVariants.{Compatible}
 use Rattle.prem_isa.specs.Plain.{TaskRun, TaskState, TaskFits, Did}
+use Rattle.prem_sound.specs.Script.Scripts.{Mark}
 use Rattle.prem_asm.specs.Pieces.{Pieces, code_of}
 use Rattle.prem_asm.specs.Runs.{Guard, Setting, Ending, Falls, Returns, Stuck, run}
 use Rattle.prem_asm.specs.Steps.{Holds, AllCode, total}
 use Rattle.prem_asm.specs.OwnRun.{Stand, CodeStands}
 use Rattle.prem_asm.proofs.Every.{every}
 use Rattle.prem_asm.proofs.Flat.{flat_ok, all_fit, code_near, code_stands}
+use Rattle.prem_layout.specs.Bounds.{line_cost}
 use Rattle.prem_code_laws.specs.GenLaws.Table.{Codes, code_calls}
 use Rattle.prem_code_laws.specs.GenLaws.Land.{PartStands}
 use Rattle.prem_code_laws.specs.PrefetchLaws.Premises.{stub_code}
 use Rattle.prem_code_laws.specs.PrefetchLaws.Confined.{with_guard, return_step, StubSteps}
 use Rattle.prem_code_laws.proofs.PrefetchLawsLemmas.Returns.{stubs_return}
-use Rattle.prem_sound.specs.Script.Scripts.{Mark}
 use Rattle.prem_code_laws.proofs.GenLawsLemmas.Quiet.{one_holds}
 use Rattle.prem_weave.specs.Weave.{Section, section_dids, ends, goes, calls, due_along, charge}
-use Rattle.prem_weave.proofs.Charges.{weaves_are_charged}
 use Rattle.prem_weave.specs.Segment.Sections.{section_of}
+use Rattle.prem_weave.proofs.Charges.{weaves_are_charged}
 use Rattle.prem_weave.proofs.SegmentLemmas.Sections.{stubs_are_sections}
 use Rattle.prem_stub_laws.specs.StubWeave.StubWeave.{StubAt, StubStands}
 use Rattle.prem_stub_laws.specs.Dues.Charged.{IsReady, ReturnsCharged, call_weight, StubsAreCharged}

@@ -1,11 +1,11 @@
 -- Calls of the functions and stubs of a task are charged at most what the bounds count.
-use Rattle.std.proofs.Common.{◌≡◌, ℕ, zero, suc, ◌+◌, ◌%◌, ◌^◌, ◌<◌, ◌≤◌, ◌⊎◌, inl, inr, refl, ap, ◌∙◌, sym, subst, arith, cond, eqb, ltb, leb, true, false, Bool, List, [], ◌∷◌, length, None, Some, Option, slice_get}
 use Rattle.std.specs.Prelude.{◌-◌, ◌||◌}
+use Rattle.std.proofs.Common.{◌≡◌, ℕ, zero, suc, ◌+◌, ◌%◌, ◌^◌, ◌<◌, ◌≤◌, ◌⊎◌, inl, inr, refl, ap, ◌∙◌, sym, subst, arith, cond, eqb, ltb, leb, true, false, Bool, List, [], ◌∷◌, length, None, Some, Option, slice_get}
 use Rattle.std.proofs.lemmas.Bool.{eqb-true, ltb-true, leb-true}
 use Rattle.prem_plant.specs.declared.plant.Plant.{Plant}
-use Rattle.prem_cycle.specs.State.{Setup}
 use Rattle.prem_isa.specs.declared.instr.Instr.{Instr}
 use Rattle.prem_isa.specs.Plain.{TaskRun, TaskState, Did}
+use Rattle.prem_cycle.specs.State.{Setup}
 use Rattle.prem_asm.specs.Pieces.{Pieces, no_pieces, code_of, weighted}
 use Rattle.prem_asm.specs.Runs.{Setting, Calls, Ending, Falls, Returns, Stuck, run}
 use Rattle.prem_asm.specs.Steps.{AllCode, total as sum}
@@ -21,12 +21,12 @@ use Rattle.prem_weave.specs.Weave.{charge}
 use Rattle.prem_weave.specs.Path.Woven.{IsCalm, CalmAt}
 use Rattle.prem_stub_laws.specs.StubFits.Costs.{IsOf}
 use Rattle.prem_stub_laws.specs.StubFits.Within.{pieces_or, codes_in}
-use Rattle.prem_stub_laws.proofs.StubFitsLemmas.Costs.{at, weight_below}
 use Rattle.prem_stub_laws.specs.JobWeave.Calm.{CalmStands}
 use Rattle.prem_stub_laws.specs.JobWeave.Charged.{job_charge}
 use Rattle.prem_stub_laws.specs.JobWeave.Confined.{Confinement, with_confined, confined_calls}
 use Rattle.prem_stub_laws.specs.Dues.Charged.{IsReady, IsCharged, ReturnsCharged, PartCharged, EachCall, call_weight}
 use Rattle.prem_stub_laws.specs.Dues.Dues.{PlannedStands, stands_before, CallsBefore, TableStands, weight_in, PartsAreCharged, JobsAreBounded, PlacedJobsAreBounded}
+use Rattle.prem_stub_laws.proofs.StubFitsLemmas.Costs.{at, weight_below}
 use Rattle.prem_stub_laws.proofs.DuesLemmas.Steps.{WellAt}
 use Rattle.prem_stub_laws.proofs.DuesLemmas.Walk.{calm_runs_are_charged}
 use Rattle.prem_stub_laws.proofs.DuesLemmas.Stubs.{well_part, stubs_are_charged}

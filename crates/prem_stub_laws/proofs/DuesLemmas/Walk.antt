@@ -13,8 +13,8 @@ use Rattle.prem_asm.proofs.Cost.{total-append}
 use Rattle.prem_layout.specs.Bounds.{job_weight}
 use Rattle.prem_weave.specs.Weave.{charge}
 use Rattle.prem_weave.specs.Path.Woven.{CalmAt}
-use Rattle.prem_stub_laws.proofs.JobWeaveLemmas.Jobs.{control_charged, linked_fits}
 use Rattle.prem_stub_laws.specs.Dues.Charged.{IsReady, IsCharged, ReturnsCharged, PartCharged, EachCall, CalmRunsAreCharged}
+use Rattle.prem_stub_laws.proofs.JobWeaveLemmas.Jobs.{control_charged, linked_fits}
 use Rattle.prem_stub_laws.proofs.DuesLemmas.Steps.{one_charged}
 
 -- ---- code at places

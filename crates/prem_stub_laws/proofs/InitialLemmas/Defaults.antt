@@ -1,16 +1,16 @@
 -- The default places, and a small task at them.
-use Rattle.std.proofs.Common.{refl, arith, List, [], ◌∷◌, map, None, false, lit≤}
 use Rattle.std.specs.Prelude.{codes, slice_index}
+use Rattle.std.proofs.Common.{refl, arith, List, [], ◌∷◌, map, None, false, lit≤}
 use Rattle.std.proofs.lemmas.List.Elements.{All-nil, All-cons}
 use Rattle.prem_plant.specs.Ranges.{default_plant}
 use Rattle.prem_plant.specs.Places.{Extent, default_places}
 use Rattle.prem_plant.proofs.Placing.{places_are}
 use Rattle.prem_isa.specs.Decode.{Fits}
 use Rattle.prem_isa.specs.declared.instr.Instr.TheVariants.{PmDone}
-use Rattle.prem_asm.specs.Runs.{Guard}
 use Rattle.prem_syntax.specs.declared.tree.Ty.TheVariants.{Void}
 use Rattle.prem_syntax.specs.Syntax.{ProgramText, output}
 use Rattle.prem_meaning.proofs.Samples.{at, int, statements, function}
+use Rattle.prem_asm.specs.Runs.{Guard}
 use Rattle.prem_layout.specs.Bounds.{start_code}
 use Rattle.prem_layout.specs.Parts.{stub_passes}
 use Rattle.prem_layout.specs.Placed.{Coded, Placed, sized_of, parts_of, placed_at, task_places}

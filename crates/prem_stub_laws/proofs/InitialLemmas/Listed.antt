@@ -1,10 +1,10 @@
 -- The content of placed tasks as one list of patches.
 use Rattle.std.proofs.Common.{◌≡◌, ℕ, ◌+◌, refl, ap, sym, ◌∙◌, List, [], ◌∷◌, ◌++◌, map}
 use Rattle.prem_syntax.specs.Syntax.{GlobalVariable}
+use Rattle.prem_asm.specs.Bytes.{code_bytes}
 use Rattle.prem_layout.specs.Footprint.{TaskPlaces, global_range}
 use Rattle.prem_layout.specs.Placed.{Placed, Block, blocks_of}
 use Rattle.prem_layout.specs.Image.{global_bytes, patched, with_blocks, with_globals, with_tasks}
-use Rattle.prem_asm.specs.Bytes.{code_bytes}
 use Rattle.prem_stub_laws.specs.Initial.Patches.{Patch, with_patches, code_patch, global_patches, task_patches, all_patches, ContentIsPatched}
 
 patches_append : (xs ys : List Patch) (content : List ℕ) → with_patches (xs ++ ys) content ≡ with_patches ys (with_patches xs content)

@@ -1,6 +1,6 @@
 -- Bytes that are put over others: where they stand, and where nothing changes.
-use Rattle.std.proofs.Common.{◌≡◌, ℕ, ◌+◌, ◌-◌, ◌<◌, ◌≤◌, ◌⊎◌, inl, inr, refl, ap, sym, ◌∙◌, subst, arith, List, [], ◌∷◌, ◌++◌, length, take, drop, length-append}
 use Rattle.std.specs.Prelude.{slice_index}
+use Rattle.std.proofs.Common.{◌≡◌, ℕ, ◌+◌, ◌-◌, ◌<◌, ◌≤◌, ◌⊎◌, inl, inr, refl, ap, sym, ◌∙◌, subst, arith, List, [], ◌∷◌, ◌++◌, length, take, drop, length-append}
 use Rattle.std.proofs.lemmas.List.{length-take-le, length-drop, get_or_append_left, get_or-append-add, get_or-take, get_or-drop}
 use Rattle.prem_plant.specs.Places.{Extent, Holds}
 use Rattle.prem_layout.specs.Image.{patched}
@@ -8,7 +8,7 @@ use Rattle.prem_stub_laws.specs.Initial.Patches.{Patch, with_patches}
 
 -- ---- one patch
 
-pub patched_long : (at : ℕ) (bytes content : List ℕ) → at + length bytes ≤ length content → length (patched at bytes content) ≡ length content
+patched_long : (at : ℕ) (bytes content : List ℕ) → at + length bytes ≤ length content → length (patched at bytes content) ≡ length content
 patched_long at bytes content le =
     let a : length (take at content) ≡ at = length-take-le at content (omega arith) in
     let b = length-append (take at content) (bytes ++ drop (at + length bytes) content) in
@@ -21,7 +21,7 @@ behind_front at k rest content le =
     let a : length (take at content) + k ≡ at + k = ap (λ n. n + k) (length-take-le at content le) in
     ap (slice_index (take at content ++ rest)) (sym a) ∙ get_or-append-add (take at content) rest k 0
 
-pub patched_here : (at k : ℕ) (bytes content : List ℕ) → at + length bytes ≤ length content → k < length bytes → slice_index (patched at bytes content) (at + k) ≡ slice_index bytes k
+patched_here : (at k : ℕ) (bytes content : List ℕ) → at + length bytes ≤ length content → k < length bytes → slice_index (patched at bytes content) (at + k) ≡ slice_index bytes k
 patched_here at k bytes content le lt =
     behind_front at k (bytes ++ drop (at + length bytes) content) content (omega arith) ∙ get_or_append_left bytes (drop (at + length bytes) content) 0 k lt
 
@@ -41,7 +41,7 @@ patched_above at a bytes content le ge =
     ap (slice_index (patched at bytes content)) (sym x) ∙ behind_front at k (bytes ++ rest) content (omega arith) ∙ ap (slice_index (bytes ++ rest)) (sym y)
     ∙ get_or-append-add bytes rest j 0 ∙ get_or-drop (at + length bytes) content j 0 ∙ ap (slice_index content) z
 
-pub patched_beside : (at a : ℕ) (bytes content : List ℕ) → at + length bytes ≤ length content → (a < at) ⊎ (at + length bytes ≤ a) → slice_index (patched at bytes content) a ≡ slice_index content a
+patched_beside : (at a : ℕ) (bytes content : List ℕ) → at + length bytes ≤ length content → (a < at) ⊎ (at + length bytes ≤ a) → slice_index (patched at bytes content) a ≡ slice_index content a
 patched_beside at a bytes content le (inl lt) = patched_below at a bytes content le lt
 patched_beside at a bytes content le (inr ge) = patched_above at a bytes content le ge
 
@@ -63,7 +63,7 @@ abbrev pub Lie : (ℕ → Extent) → ℕ → ℕ → List Patch → Type 0
 Lie f low high [] = low ≤ high
 Lie f low high (b ∷ bs) = (next : IsNext f b low high) × Lie f (next.number + 1) high bs
 
-pub lie_rises : (f : ℕ → Extent) (low high : ℕ) (bs : List Patch) → Lie f low high bs → low ≤ high
+lie_rises : (f : ℕ → Extent) (low high : ℕ) (bs : List Patch) → Lie f low high bs → low ≤ high
 lie_rises f low high [] le = le
 lie_rises f low high (b ∷ bs) (next, rest) = let l = next.low_is in let h = next.high_is in omega (arith, l, h)
 

@@ -1,24 +1,24 @@
 -- The patches of placed tasks lie in the places of their parts.
-use Rattle.std.proofs.Common.{◌≡◌, ℕ, suc, ◌+◌, ◌*◌, ◌%◌, ◌<◌, ◌≤◌, refl, ap, sym, ◌∙◌, subst, arith, List, [], ◌∷◌, ◌++◌, length, map, take, length-append, Some, slice_get}
 use Rattle.std.specs.Prelude.{unwrap_or, replicate}
 use Rattle.std.specs.Int.{w32, to_le_bytes}
 use Rattle.std.specs.List.{flat_map}
+use Rattle.std.proofs.Common.{◌≡◌, ℕ, suc, ◌+◌, ◌*◌, ◌%◌, ◌<◌, ◌≤◌, refl, ap, sym, ◌∙◌, subst, arith, List, [], ◌∷◌, ◌++◌, length, map, take, length-append, Some, slice_get}
 use Rattle.std.proofs.lemmas.List.{length-take-le, length-map, length-replicate}
 use Rattle.std.proofs.lemmas.Option.{slice_get_within, slice_get-get_or}
-use Rattle.prem_isa.specs.declared.instr.Instr.{Instr}
-use Rattle.prem_isa.specs.Decode.{word_of}
-use Rattle.prem_asm.specs.Bytes.{code_bytes}
-use Rattle.prem_asm.specs.Pieces.{Pieces, size_of, code_of}
-use Rattle.prem_asm.proofs.Shape.{code-length}
 use Rattle.prem_plant.specs.declared.plant.Plant.{Plant}
 use Rattle.prem_plant.specs.declared.layout.PartKind.TheVariants.{Stack}
 use Rattle.prem_plant.specs.declared.layout.PartSize.{PartSize}
 use Rattle.prem_plant.specs.Places.{Extent, ArePlaces}
+use Rattle.prem_isa.specs.declared.instr.Instr.{Instr}
+use Rattle.prem_isa.specs.Decode.{word_of}
 use Rattle.prem_syntax.specs.declared.tree.Ty.{Ty}
 use Rattle.prem_syntax.specs.declared.tree.Ty.TheVariants.{Short, Ushort, Schar, Uchar}
 use Rattle.prem_syntax.specs.Syntax.{Text, GlobalVariable}
 use Rattle.prem_meaning.specs.Source.{initial_words}
 use Rattle.prem_meaning.specs.Resolved.{Routine}
+use Rattle.prem_asm.specs.Bytes.{code_bytes}
+use Rattle.prem_asm.specs.Pieces.{Pieces, size_of, code_of}
+use Rattle.prem_asm.proofs.Shape.{code-length}
 use Rattle.prem_template.specs.Frames.{stack_size}
 use Rattle.prem_layout.specs.Plans.{Plan, plans_of}
 use Rattle.prem_layout.specs.Parts.{Passes, element_size, global_size, stub_passes, part, code_parts, stub_parts, global_parts, task_parts, part_count}

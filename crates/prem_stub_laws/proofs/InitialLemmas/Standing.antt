@@ -1,23 +1,23 @@
 -- The words, the globals and the zeros that a run begins with.
-use Rattle.std.proofs.Common.{◌≡◌, ℕ, zero, suc, ◌+◌, ◌*◌, ◌/◌, ◌%◌, ◌^◌, ◌<◌, ◌≤◌, refl, ap, sym, ◌∙◌, subst, arith, List, [], ◌∷◌, ◌++◌, length, map, length-append, Some, None, Option, Bool, true, false, cond, slice_get}
 use Rattle.std.specs.Prelude.{All, slice_index}
+use Rattle.std.proofs.Common.{◌≡◌, ℕ, zero, suc, ◌+◌, ◌*◌, ◌/◌, ◌%◌, ◌^◌, ◌<◌, ◌≤◌, refl, ap, sym, ◌∙◌, subst, arith, List, [], ◌∷◌, ◌++◌, length, map, length-append, Some, None, Option, Bool, true, false, cond, slice_get}
 use Rattle.std.proofs.lemmas.List.{length-map}
 use Rattle.std.proofs.lemmas.List.Elements.{All-head, All-tail}
 use Rattle.prem_word.specs.Bytes.{number_at}
+use Rattle.prem_plant.specs.declared.plant.Plant.{Plant}
+use Rattle.prem_plant.specs.Places.{Extent}
 use Rattle.prem_isa.specs.Fields.{FieldsFit}
 use Rattle.prem_isa.specs.Decode.{Fits, word_of, fields_of_instr}
-use Rattle.prem_isa.proofs.Round.{fits_instr}
 use Rattle.prem_isa.specs.declared.instr.Instr.{Instr}
+use Rattle.prem_isa.proofs.Round.{fits_instr}
+use Rattle.prem_syntax.specs.Syntax.{Text}
+use Rattle.prem_meaning.specs.Resolved.{Routine}
 use Rattle.prem_asm.specs.Bytes.{code_bytes}
 use Rattle.prem_asm.specs.OwnRun.{Stand}
 use Rattle.prem_asm.specs.Pieces.{Pieces, size_of, code_of, first_far}
 use Rattle.prem_asm.specs.Runs.{Guard}
 use Rattle.prem_asm.proofs.Shape.{code-length}
 use Rattle.prem_asm.proofs.Flat.{none_far, flat_near, all_fit, code_near}
-use Rattle.prem_plant.specs.declared.plant.Plant.{Plant}
-use Rattle.prem_plant.specs.Places.{Extent}
-use Rattle.prem_syntax.specs.Syntax.{Text}
-use Rattle.prem_meaning.specs.Resolved.{Routine}
 use Rattle.prem_layout.specs.Plans.{Plan, plans_of}
 use Rattle.prem_layout.specs.Footprint.{TaskPlaces, place_at}
 use Rattle.prem_layout.specs.Bounds.{start_code}

@@ -1,21 +1,21 @@
 -- A placed task among others: its places are those of its parts.
-use Rattle.std.proofs.Common.{◌≡◌, ℕ, zero, suc, ◌+◌, ◌%◌, ◌<◌, ◌≤◌, ◌⊎◌, inl, inr, refl, ap, sym, ◌∙◌, subst, arith, List, [], ◌∷◌, ◌++◌, length, map, take, drop, append_assoc, Some, slice_get}
 use Rattle.std.specs.Prelude.{All, slice_index_or}
 use Rattle.std.specs.List.{AllByRecursion}
+use Rattle.std.proofs.Common.{◌≡◌, ℕ, zero, suc, ◌+◌, ◌%◌, ◌<◌, ◌≤◌, ◌⊎◌, inl, inr, refl, ap, sym, ◌∙◌, subst, arith, List, [], ◌∷◌, ◌++◌, length, map, take, drop, append_assoc, Some, slice_get}
 use Rattle.std.proofs.lemmas.List.{length-take, get_or-take, get_or-drop, drop-drop}
-use Rattle.prem_asm.specs.Pieces.{size_of}
 use Rattle.prem_plant.specs.declared.plant.Plant.{Plant}
 use Rattle.prem_plant.specs.declared.plant.Device.{Device}
 use Rattle.prem_plant.specs.declared.layout.PartSize.{PartSize}
 use Rattle.prem_plant.specs.Places.{Extent}
+use Rattle.prem_asm.specs.Pieces.{size_of}
 use Rattle.prem_layout.specs.Parts.{stub_passes, part_count, task_parts, parts_from, area_parts}
 use Rattle.prem_layout.specs.Footprint.{no_place, place_at}
 use Rattle.prem_layout.specs.Placed.{Coded, Placed, sized_of, parts_of, part_total, task_places, placed_at, placed_from}
 use Rattle.prem_layout.proofs.TaskParts.{IsFour, four, parts_fours, place_in}
 use Rattle.prem_stub_laws.specs.Own.Owned.{HasCode}
-use Rattle.prem_stub_laws.proofs.OwnLemmas.Owned.{task_long}
 use Rattle.prem_stub_laws.specs.Initial.Initial.{AreLaid}
 use Rattle.prem_stub_laws.specs.Initial.Standing.{PartsHaveAddresses}
+use Rattle.prem_stub_laws.proofs.OwnLemmas.Owned.{task_long}
 use Rattle.prem_stub_laws.proofs.InitialLemmas.Places.{Sized, all_sized, sized_left, sized_right, sized_as}
 use Rattle.prem_stub_laws.proofs.InitialLemmas.Whole.{there}
 

@@ -1,25 +1,25 @@
 -- The words of globals, and of devices.
-use Rattle.std.proofs.Common.{◌≡◌, ℕ, zero, suc, ◌+◌, ◌*◌, ◌/◌, ◌%◌, ◌^◌, ◌<◌, ◌≤◌, refl, ap, sym, ◌∙◌, subst, arith, List, [], ◌∷◌, ◌++◌, length, map, take, drop, Some, None, Option, slice_get}
 use Rattle.std.specs.Prelude.{slice_index, slice_index_or, replicate, unwrap_or, ℤ, ◌-◌}
 use Rattle.std.specs.Int.{w32, to_le_bytes}
 use Rattle.std.specs.List.{flat_map}
+use Rattle.std.proofs.Common.{◌≡◌, ℕ, zero, suc, ◌+◌, ◌*◌, ◌/◌, ◌%◌, ◌^◌, ◌<◌, ◌≤◌, refl, ap, sym, ◌∙◌, subst, arith, List, [], ◌∷◌, ◌++◌, length, map, take, drop, Some, None, Option, slice_get}
 use Rattle.std.proofs.lemmas.List.{length-map, get_or-take, get_or_append_left, get_or-append-add}
 use Rattle.std.proofs.Math.Nat.{mul-le-mul_right, suc-mul}
 use Rattle.prem_word.specs.Bytes.{number_at}
 use Rattle.prem_word.specs.Words.{word_of}
 use Rattle.prem_word.proofs.Corners.{word_below}
-use Rattle.prem_isa.specs.Alu.{loaded}
 use Rattle.prem_plant.specs.declared.plant.Plant.{Plant}
 use Rattle.prem_plant.specs.declared.layout.PartSize.{PartSize}
 use Rattle.prem_plant.specs.Places.{Extent, Holds}
+use Rattle.prem_isa.specs.Alu.{loaded}
 use Rattle.prem_image.specs.declared.image.DeviceRecord.{DeviceRecord}
+use Rattle.prem_cycle.specs.Inputs.{no_device}
 use Rattle.prem_syntax.specs.declared.tree.Ty.{Ty}
 use Rattle.prem_syntax.specs.declared.tree.Ty.TheVariants.{Void, Int, Unsigned, Short, Ushort, Schar, Uchar}
 use Rattle.prem_syntax.specs.Syntax.{GlobalVariable}
 use Rattle.prem_meaning.specs.Expressions.{words_of}
 use Rattle.prem_meaning.specs.Statements.{stored}
 use Rattle.prem_meaning.specs.Source.{constants_of, initial_words}
-use Rattle.prem_cycle.specs.Inputs.{no_device}
 use Rattle.prem_template.specs.Terms.{load_of, shift_of}
 use Rattle.prem_template.specs.Parts.{global_part}
 use Rattle.prem_layout.specs.Plans.{plans_of}
@@ -27,12 +27,12 @@ use Rattle.prem_layout.specs.Parts.{element_size, stub_passes, parts_from, area_
 use Rattle.prem_layout.specs.Footprint.{place_at, global_range}
 use Rattle.prem_layout.specs.Placed.{Placed, sized_of, parts_of, part_total}
 use Rattle.prem_layout.specs.Image.{global_bytes, device_records}
+use Rattle.prem_layout.proofs.TaskParts.{plans_counted, get_drop, get_behind}
 use Rattle.prem_code_laws.specs.ExprLaws.Relation.{element_size as loaded_size}
 use Rattle.prem_code_laws.proofs.GenLawsLemmas.Memory.{loaded_stored, stored_word, as_word}
-use Rattle.prem_layout.proofs.TaskParts.{plans_counted, get_drop, get_behind}
-use Rattle.prem_stub_laws.proofs.OwnLemmas.Owned.{parts_long, area_at}
 use Rattle.prem_stub_laws.specs.Initial.Initial.{content_of}
 use Rattle.prem_stub_laws.specs.Initial.Standing.{type_of, count_of, GlobalsStandFirst, DevicesHoldZero, MemoryIsContent}
+use Rattle.prem_stub_laws.proofs.OwnLemmas.Owned.{parts_long, area_at}
 use Rattle.prem_stub_laws.proofs.InitialLemmas.Places.{chunk_long, chunks_long, initial_long}
 use Rattle.prem_stub_laws.proofs.InitialLemmas.Whole.{tasks_stand, areas_hold_zero}
 use Rattle.prem_stub_laws.proofs.InitialLemmas.Tasks.{TaskAt, task_at}

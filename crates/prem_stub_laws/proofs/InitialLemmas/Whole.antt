@@ -1,30 +1,30 @@
 -- What the content of placed tasks holds.
-use Rattle.std.proofs.Common.{◌≡◌, ℕ, zero, suc, ◌+◌, ◌<◌, ◌≤◌, inl, inr, refl, ap, sym, ◌∙◌, subst, arith, List, [], ◌∷◌, ◌++◌, length, map, take, drop, length-append, append_assoc, Some, slice_get}
 use Rattle.std.specs.Prelude.{All, slice_index, slice_index_or, replicate}
 use Rattle.std.specs.Int.{w32, to_le_bytes}
 use Rattle.std.specs.List.{flat_map, AllByRecursion}
+use Rattle.std.proofs.Common.{◌≡◌, ℕ, zero, suc, ◌+◌, ◌<◌, ◌≤◌, inl, inr, refl, ap, sym, ◌∙◌, subst, arith, List, [], ◌∷◌, ◌++◌, length, map, take, drop, length-append, append_assoc, Some, slice_get}
 use Rattle.std.proofs.lemmas.List.{length-replicate, get_or-take, get_or-drop, drop-drop}
 use Rattle.std.proofs.lemmas.List.Elements.{All-from_recursion}
 use Rattle.std.proofs.lemmas.Option.{slice_get-get_or}
-use Rattle.prem_isa.specs.declared.instr.Instr.{Instr}
-use Rattle.prem_isa.specs.Decode.{word_of}
-use Rattle.prem_asm.specs.Bytes.{code_bytes}
-use Rattle.prem_asm.specs.Pieces.{size_of}
 use Rattle.prem_plant.specs.declared.plant.Plant.{Plant}
 use Rattle.prem_plant.specs.declared.plant.Device.{Device}
 use Rattle.prem_plant.specs.declared.layout.PartSize.{PartSize}
 use Rattle.prem_plant.specs.Places.{Extent, Holds}
+use Rattle.prem_isa.specs.declared.instr.Instr.{Instr}
+use Rattle.prem_isa.specs.Decode.{word_of}
 use Rattle.prem_syntax.specs.Syntax.{GlobalVariable}
 use Rattle.prem_meaning.specs.Source.{initial_words}
+use Rattle.prem_asm.specs.Bytes.{code_bytes}
+use Rattle.prem_asm.specs.Pieces.{size_of}
 use Rattle.prem_layout.specs.Parts.{element_size, stub_passes, part_count, task_parts, parts_from, area_parts}
 use Rattle.prem_layout.specs.Footprint.{TaskPlaces, no_place, place_at, global_range}
 use Rattle.prem_layout.specs.Placed.{Coded, Placed, Block, sized_of, parts_of, part_total, task_places, placed_at, placed_from, blocks_of}
 use Rattle.prem_layout.specs.Image.{global_bytes, patched, with_blocks, with_globals, with_tasks, greatest_end}
 use Rattle.prem_layout.proofs.TaskParts.{place_in, below_greatest}
 use Rattle.prem_stub_laws.specs.Own.Owned.{HasCode}
-use Rattle.prem_stub_laws.proofs.OwnLemmas.Owned.{task_long, parts_long}
 use Rattle.prem_stub_laws.specs.Initial.Patches.{Patch, with_patches, code_patch, global_patches, task_patches, all_patches}
 use Rattle.prem_stub_laws.specs.Initial.Initial.{content_of, AreLaid, TasksStand, AreasHoldZero, ContentFits}
+use Rattle.prem_stub_laws.proofs.OwnLemmas.Owned.{task_long, parts_long}
 use Rattle.prem_stub_laws.proofs.InitialLemmas.Patched.{Lie, lie_append, lie_as, Among, among_left, among_right, AreApart, EndBy, patch_ends, patches_long, patches_leave, patches_stand}
 use Rattle.prem_stub_laws.proofs.InitialLemmas.Listed.{content_is_patched}
 use Rattle.prem_stub_laws.proofs.InitialLemmas.Places.{Sized, all_sized, sized_left, sized_right, sized_as, task_lies}
@@ -110,12 +110,12 @@ module _ (p : Plant) (devices : List Device) (tasks : List Coded) (places : List
   listed : content_of p places tasks ≡ with_patches (all_patches (placed_from p places tasks)) (replicate (greatest_end (take (part_total tasks) places)) 0)
   listed = content_is_patched (placed_from p places tasks) (replicate (greatest_end (take (part_total tasks) places)) 0)
 
-  pub patch_stands : (b : Patch) → Among b (all_patches (placed_from p places tasks)) → (k : ℕ) → k < length b.bytes → slice_index (content_of p places tasks) (b.at + k) ≡ slice_index b.bytes k
+  patch_stands : (b : Patch) → Among b (all_patches (placed_from p places tasks)) → (k : ℕ) → k < length b.bytes → slice_index (content_of p places tasks) (b.at + k) ≡ slice_index b.bytes k
   patch_stands b among k lt =
       ap (λ (bytes : List ℕ). slice_index bytes (b.at + k)) listed
       ∙ patches_stand (place_in places) (part_total tasks) apart 0 (all_patches (placed_from p places tasks)) (replicate (greatest_end (take (part_total tasks) places)) 0) lie ends b among k lt
 
-  pub byte_left : (a : ℕ) → ((n : ℕ) → n < part_total tasks → Holds (place_in places n) a → ⊥) → slice_index (content_of p places tasks) a ≡ 0
+  byte_left : (a : ℕ) → ((n : ℕ) → n < part_total tasks → Holds (place_in places n) a → ⊥) → slice_index (content_of p places tasks) a ≡ 0
   byte_left a none =
       ap (λ (bytes : List ℕ). slice_index bytes a) listed
       ∙ patches_leave (place_in places) (part_total tasks) 0 (all_patches (placed_from p places tasks)) (replicate (greatest_end (take (part_total tasks) places)) 0) lie ends a (λ n le lt. none n lt)
@@ -126,13 +126,13 @@ module _ (p : Plant) (devices : List Device) (tasks : List Coded) (places : List
       zero_at (suc n) zero = refl
       zero_at (suc n) (suc a) = zero_at n a
 
-  pub content_long : length (content_of p places tasks) ≡ greatest_end (take (part_total tasks) places)
+  content_long : length (content_of p places tasks) ≡ greatest_end (take (part_total tasks) places)
   content_long =
       ap (λ (bytes : List ℕ). length bytes) listed
       ∙ patches_long (place_in places) (part_total tasks) 0 (all_patches (placed_from p places tasks)) (replicate (greatest_end (take (part_total tasks) places)) 0) lie ends
       ∙ zeros_long (greatest_end (take (part_total tasks) places))
 
-  pub content_within : length (content_of p places tasks) ≤ p.memory
+  content_within : length (content_of p places tasks) ≤ p.memory
   content_within =
       let a = content_long in
       let b = greatest_within p.memory (part_total tasks) places laid.placed.within in

@@ -1,6 +1,6 @@
 -- Jobs along a weave.
-use Rattle.std.proofs.Common.{Bool, ◌∷◌, ◌≡◌, ℕ, zero, suc, ◌+◌, ◌*◌, ◌^◌, ◌<◌, ◌≤◌, refl, ap, ◌∙◌, sym, subst, arith, cond, List, [], ◌++◌, append-nil, length, eq-eqb, Ok, None}
 use Rattle.std.specs.Prelude.{pos}
+use Rattle.std.proofs.Common.{Bool, ◌∷◌, ◌≡◌, ℕ, zero, suc, ◌+◌, ◌*◌, ◌^◌, ◌<◌, ◌≤◌, refl, ap, ◌∙◌, sym, subst, arith, cond, List, [], ◌++◌, append-nil, length, eq-eqb, Ok, None}
 use Rattle.std.proofs.Math.Nat.{suc-mul}
 use Rattle.prem_plant.specs.declared.plant.Plant.{Plant}
 use Rattle.prem_isa.specs.declared.instr.Instr.{Instr}
@@ -10,6 +10,12 @@ use Rattle.prem_isa.specs.Decode.{cost_of}
 use Rattle.prem_isa.specs.declared.effect.Phase.TheVariants.{Compatible}
 use Rattle.prem_isa.specs.Act.{first_registers}
 use Rattle.prem_isa.specs.Plain.{TaskRun, TaskState, TaskFits, Did}
+use Rattle.prem_cycle.specs.State.{Setup}
+use Rattle.prem_runs.specs.Position.Finish.{due_of}
+use Rattle.prem_runs.specs.Position.Own.{AllOwn}
+use Rattle.prem_sound.specs.Script.Scripts.{Reading}
+use Rattle.prem_sound.specs.Script.Script.{did_due}
+use Rattle.prem_sound.specs.Script.Conforms.{IsOwnDid}
 use Rattle.prem_meaning.specs.Resolved.{Resolved}
 use Rattle.prem_meaning.specs.Statements.{ProgramState}
 use Rattle.prem_meaning.specs.Source.{Limits, calls_below, do_jobs, everywhere}
@@ -17,40 +23,34 @@ use Rattle.prem_asm.specs.Pieces.{call_to, no_pieces, jump_to, weight, jump_weig
 use Rattle.prem_asm.specs.Runs.{Setting, Calls, Falls, Stuck, with_trace, called, run, control, linked}
 use Rattle.prem_asm.specs.OwnRun.{Agrees, in_job, next_start, done_step}
 use Rattle.prem_asm.specs.Ways.{GoesWay}
+use Rattle.prem_asm.specs.Steps.{AllSteps, total}
 use Rattle.prem_asm.proofs.Leads.{job_ends}
-use Rattle.prem_code_laws.specs.ExprLaws.Relation.{Globals}
-use Rattle.prem_code_laws.proofs.ExprLawsLemmas.Puts.{reg_words}
-use Rattle.prem_code_laws.proofs.ExprLawsLemmas.Terms.{then_ok, same_ok}
-use Rattle.prem_code_laws.specs.GenLaws.Jobs.{Between}
-use Rattle.prem_code_laws.specs.GenLaws.Land.{IsRunning}
-use Rattle.prem_code_laws.specs.GenLaws.Whole.{StartStands, JobMeans}
-use Rattle.prem_sound.specs.Script.Scripts.{Reading}
-use Rattle.prem_sound.specs.Script.Script.{did_due}
+use Rattle.prem_asm.proofs.Cost.{total-append}
 use Rattle.prem_layout.specs.Bounds.{job_weight, line_cost}
 use Rattle.prem_layout.specs.Stretch.Paths.{Takes, Path, longest_from}
 use Rattle.prem_layout.specs.Stretch.Sums.{Sums, taking, chained, greatest, sums_of_path, IsWithin}
 use Rattle.prem_layout.proofs.StretchLemmas.Algebra.{chained_assoc}
 use Rattle.prem_layout.proofs.StretchLemmas.Exact.{path_joined}
 use Rattle.prem_layout.proofs.StretchLemmas.Order.{within_same, chained_within, taking_within, longest_within}
+use Rattle.prem_code_laws.specs.ExprLaws.Relation.{Globals}
+use Rattle.prem_code_laws.specs.GenLaws.Jobs.{Between}
+use Rattle.prem_code_laws.specs.GenLaws.Land.{IsRunning}
+use Rattle.prem_code_laws.specs.GenLaws.Whole.{StartStands, JobMeans}
+use Rattle.prem_code_laws.proofs.ExprLawsLemmas.Puts.{reg_words}
+use Rattle.prem_code_laws.proofs.ExprLawsLemmas.Terms.{then_ok, same_ok}
 use Rattle.prem_weave.specs.Pace.Pace.{did_events, events_of, PacedFrom, strides}
-use Rattle.prem_weave.proofs.PaceLemmas.Jobs.{jobs_are_paced}
 use Rattle.prem_weave.specs.Weave.{Weave, ends, goes, calls as section, joined, dids_of, Goes, due_along, charge}
+use Rattle.prem_weave.proofs.PaceLemmas.Jobs.{jobs_are_paced}
 use Rattle.prem_weave.proofs.Charges.{weaves_are_charged}
-use Rattle.prem_runs.specs.Position.Finish.{due_of}
 use Rattle.prem_weave.proofs.Joins.{weaves_join, runs_join}
 use Rattle.prem_stub_laws.specs.JobWeave.Owned.{OwnWovenTo, own_way}
-use Rattle.prem_cycle.specs.State.{Setup}
-use Rattle.prem_runs.specs.Position.Own.{AllOwn}
-use Rattle.prem_sound.specs.Script.Conforms.{IsOwnDid}
-use Rattle.prem_asm.specs.Steps.{AllSteps, total}
-use Rattle.prem_asm.proofs.Cost.{total-append}
-use Rattle.prem_stub_laws.proofs.StubWeaveLemmas.Steps.{first_fits}
 use Rattle.prem_stub_laws.specs.OwnSteps.OwnSteps.{OwnBytes, AreOwnAt}
-use Rattle.prem_stub_laws.proofs.OwnStepsLemmas.Rules.{free_fetch}
-use Rattle.prem_stub_laws.proofs.OwnStepsLemmas.Stubs.{steps_join}
 use Rattle.prem_stub_laws.specs.JobWeave.Calm.{AllLandWoven}
 use Rattle.prem_stub_laws.specs.JobWeave.Charged.{CallIsCharged, job_charge, CallIsStrided, start_sums}
 use Rattle.prem_stub_laws.specs.JobWeave.Jobs.{WovenJobs, JobsAreWoven}
+use Rattle.prem_stub_laws.proofs.StubWeaveLemmas.Steps.{first_fits}
+use Rattle.prem_stub_laws.proofs.OwnStepsLemmas.Rules.{free_fetch}
+use Rattle.prem_stub_laws.proofs.OwnStepsLemmas.Stubs.{steps_join}
 use Rattle.prem_stub_laws.proofs.JobWeaveLemmas.Landing.{calm_goes}
 
 -- a jump or branch of a compatible phase

@@ -3,6 +3,10 @@ use Rattle.std.proofs.Common.{◌≡◌, ℕ, zero, suc, ◌+◌, ◌%◌, ◌^�
 use Rattle.std.proofs.lemmas.Bool.{eqb-true}
 use Rattle.prem_isa.specs.declared.instr.Instr.{Instr}
 use Rattle.prem_isa.specs.Plain.{TaskRun, TaskState}
+use Rattle.prem_cycle.specs.State.{Setup}
+use Rattle.prem_runs.specs.Position.Own.{AllOwn}
+use Rattle.prem_sound.specs.Script.Scripts.{Reading}
+use Rattle.prem_sound.specs.Script.Conforms.{IsOwnDid}
 use Rattle.prem_asm.specs.Pieces.{Pieces, size_of, code_of}
 use Rattle.prem_asm.specs.Runs.{Setting, Calls, Ending, Falls, Returns, Stuck, run}
 use Rattle.prem_asm.specs.Steps.{AllCode}
@@ -10,26 +14,22 @@ use Rattle.prem_asm.specs.OwnRun.{Agrees, Stand, CodeStands}
 use Rattle.prem_asm.specs.Ways.{Way, IsWay, GoesWay, LandsWay, StandsGood}
 use Rattle.prem_asm.proofs.Flat.{flat_ok, all_fit, code_near, code_stands}
 use Rattle.prem_asm.proofs.Quiet.{pieces_good}
+use Rattle.prem_asm.proofs.Ways.{runs_go_ways}
+use Rattle.prem_layout.specs.Parts.{pass_count}
 use Rattle.prem_code_laws.specs.GenLaws.Table.{Codes, one_of, with_part, code_calls, IsStub}
 use Rattle.prem_code_laws.specs.GenLaws.Land.{IsRunning}
-use Rattle.prem_layout.specs.Parts.{pass_count}
 use Rattle.prem_code_laws.specs.PrefetchLaws.Confined.{with_guard}
-use Rattle.prem_sound.specs.Script.Scripts.{Reading}
-use Rattle.prem_weave.specs.Path.Woven.{IsCalm, CalmAt, woven_way}
-use Rattle.prem_weave.proofs.PathLemmas.Woven.{woven_is_way}
-use Rattle.prem_asm.proofs.Ways.{runs_go_ways}
-use Rattle.prem_cycle.specs.State.{Setup}
-use Rattle.prem_runs.specs.Position.Own.{AllOwn}
-use Rattle.prem_sound.specs.Script.Conforms.{IsOwnDid}
 use Rattle.prem_code_laws.specs.PrefetchLaws.Premises.{stub_code}
 use Rattle.prem_code_laws.proofs.PrefetchLawsLemmas.Returns.{stubs_return}
+use Rattle.prem_weave.specs.Path.Woven.{IsCalm, CalmAt, woven_way}
+use Rattle.prem_weave.proofs.PathLemmas.Woven.{woven_is_way}
 use Rattle.prem_stub_laws.specs.OwnSteps.OwnSteps.{OwnBytes, Takes}
-use Rattle.prem_stub_laws.proofs.OwnStepsLemmas.Rules.{own_step, own_code, taking_code}
-use Rattle.prem_stub_laws.proofs.OwnStepsLemmas.Stubs.{stubs_are_own, steps_join}
 use Rattle.prem_stub_laws.specs.JobWeave.Owned.{own_way}
-use Rattle.prem_stub_laws.proofs.StubWeaveLemmas.Stubs.{stubs_land_woven}
 use Rattle.prem_stub_laws.specs.JobWeave.Calm.{AllLandWoven, CalmStands, PartsLandWoven, CodesLandWoven}
 use Rattle.prem_stub_laws.specs.JobWeave.Confined.{Confinement, with_confined, confined_calls, ConfinedStands, ConfinedLandWoven}
+use Rattle.prem_stub_laws.proofs.OwnStepsLemmas.Rules.{own_step, own_code, taking_code}
+use Rattle.prem_stub_laws.proofs.OwnStepsLemmas.Stubs.{stubs_are_own, steps_join}
+use Rattle.prem_stub_laws.proofs.StubWeaveLemmas.Stubs.{stubs_land_woven}
 
 -- ---- the way of own steps
 

@@ -1,6 +1,6 @@
 -- A task that joins ends by as many instructions as its jobs may take cycles.
-use Rattle.std.proofs.Common.{◌≡◌, ℕ, suc, ◌+◌, ◌-◌, ◌*◌, ◌≤◌, refl, ap, ◌∙◌, sym, arith, false, List, [], ◌∷◌, ◌++◌, length, length-append, ltb, ltb-true, true, Bool}
 use Rattle.std.specs.Prelude.{is_none, ◌&&◌}
+use Rattle.std.proofs.Common.{◌≡◌, ℕ, suc, ◌+◌, ◌-◌, ◌*◌, ◌≤◌, refl, ap, ◌∙◌, sym, arith, false, List, [], ◌∷◌, ◌++◌, length, length-append, ltb, ltb-true, true, Bool}
 use Rattle.std.proofs.lemmas.List.Sums.{sum_by-cons}
 use Rattle.prem_plant.specs.declared.plant.Plant.{Plant}
 use Rattle.prem_isa.specs.Decode.{cost_of}

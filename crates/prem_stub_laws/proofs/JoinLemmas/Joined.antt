@@ -1,11 +1,11 @@
 -- A joined image is sound.
-use Rattle.std.proofs.Common.{◌≡◌, ℕ, zero, suc, ◌+◌, ◌*◌, ◌<◌, ◌≤◌, ◌⊎◌, refl, sym, subst, arith, Bool, List, [], ◌∷◌, ◌++◌, length, inl, inr, ⊎_elim}
 use Rattle.std.specs.Prelude.{All, ◌-◌, replicate, slice_index}
+use Rattle.std.proofs.Common.{◌≡◌, ℕ, zero, suc, ◌+◌, ◌*◌, ◌<◌, ◌≤◌, ◌⊎◌, refl, sym, subst, arith, Bool, List, [], ◌∷◌, ◌++◌, length, inl, inr, ⊎_elim}
 use Rattle.std.proofs.Math.Nat.{suc-mul}
 use Rattle.std.proofs.lemmas.Bool.{cases_eq}
-use Rattle.prem_image.specs.Records.{IsTask}
 use Rattle.prem_isa.specs.Plain.{TaskRun, RunFits, plain_run}
 use Rattle.prem_gate.specs.declared.request.Request.{Request}
+use Rattle.prem_image.specs.Records.{IsTask}
 use Rattle.prem_cycle.specs.State.{Setup, record_of, no_record}
 use Rattle.prem_cycle.specs.Inputs.{IsTrace}
 use Rattle.prem_cycle.specs.Cycle.{log_size}

@@ -1,6 +1,6 @@
 -- Whose bytes are whose.
-use Rattle.std.proofs.Common.{◌≡◌, ℕ, zero, suc, ◌+◌, ◌*◌, ◌<◌, ◌≤◌, refl, ap, ◌∙◌, sym, subst, arith, leb, ltb, true, List, [], ◌∷◌, ◌++◌, Some, length, map, length-append, ⊎_elim}
 use Rattle.std.specs.Prelude.{◌&&◌, ◌||◌, All, drop, slice_get, slice_index_or}
+use Rattle.std.proofs.Common.{◌≡◌, ℕ, zero, suc, ◌+◌, ◌*◌, ◌<◌, ◌≤◌, refl, ap, ◌∙◌, sym, subst, arith, leb, ltb, true, List, [], ◌∷◌, ◌++◌, Some, length, map, length-append, ⊎_elim}
 use Rattle.std.proofs.lemmas.Bool.{and_parts, or_cases, leb-true, ltb-true, le-leb, lt-ltb}
 use Rattle.std.proofs.Math.Bool.{or-true}
 use Rattle.std.proofs.Math.Nat.{mul-le-mul_right, suc-mul}

@@ -1,9 +1,8 @@
 -- Steps under a guard that allows own bytes alone.
 use Rattle.std.proofs.Common.{◌≡◌, ℕ, zero, suc, ◌+◌, ◌*◌, ◌/◌, ◌%◌, ◌<◌, ◌≤◌, ap, ◌∙◌, sym, subst, arith, cond, eqb, leb, true, false, Bool, List, [], ◌∷◌, length, Some, None, Option, IfSome}
 use Rattle.std.proofs.lemmas.Bool.{cond_both, and_parts}
-use Rattle.prem_isa.proofs.Forms.{extended_done}
-use Rattle.prem_plant.specs.declared.plant.Target.{Target}
 use Rattle.prem_word.specs.Bytes.{number_at}
+use Rattle.prem_plant.specs.declared.plant.Target.{Target}
 use Rattle.prem_isa.specs.declared.instr.Instr.{Instr}
 use Rattle.prem_isa.specs.declared.instr.Instr.TheVariants.{Lui, Auipc, Jal, Jalr, Branch, Load, Store, OpImm, Op, MulDiv, Fence, Ecall, Ebreak, PmMem, PmExec, PmEnd, PmDone, PmIn, PmOut}
 use Rattle.prem_isa.specs.declared.instr.LoadOp.{LoadOp}
@@ -22,6 +21,10 @@ use Rattle.prem_isa.specs.Alu.{plus, holds, load_size, store_size}
 use Rattle.prem_isa.specs.Act.{sets, jumps, accesses, loads, stores, changes, takes, puts, in_phase}
 use Rattle.prem_isa.specs.Bounds.{OnDone}
 use Rattle.prem_isa.specs.Plain.{TaskState, Did, did_of, next_input}
+use Rattle.prem_isa.proofs.Forms.{extended_done}
+use Rattle.prem_cycle.specs.State.{Setup}
+use Rattle.prem_runs.specs.Position.Own.{IsFree, AllOwn}
+use Rattle.prem_sound.specs.Script.Conforms.{takes_nothing, IsOwnDid}
 use Rattle.prem_asm.specs.Pieces.{Pieces, code_of}
 use Rattle.prem_asm.specs.Runs.{Guard, Setting, all_of, allowed, stepped, outcome_at, run}
 use Rattle.prem_asm.specs.Steps.{Holds, AllCode, Rules}
@@ -29,9 +32,6 @@ use Rattle.prem_asm.proofs.Shape.{code-length, stepped_by}
 use Rattle.prem_asm.proofs.Quiet.{pieces_good}
 use Rattle.prem_asm.proofs.Every.{every}
 use Rattle.prem_code_laws.specs.GenLaws.Table.{Codes, code_calls}
-use Rattle.prem_cycle.specs.State.{Setup}
-use Rattle.prem_runs.specs.Position.Own.{IsFree, AllOwn}
-use Rattle.prem_sound.specs.Script.Conforms.{takes_nothing, IsOwnDid}
 use Rattle.prem_code_laws.proofs.GenLawsLemmas.Quiet.{one_holds}
 use Rattle.prem_stub_laws.specs.OwnSteps.OwnSteps.{OwnBytes, Takes, AreOwnAt, CodeIsOwn, CallsAreOwn}
 
@@ -185,7 +185,7 @@ module _ (p : Setup) (own : ℕ → Bool) (g : Guard) (o : OwnBytes p own g) whe
       (λ a b. ((own_taking at i t e h.0 (k.own_access a h.1), tt), tt))
       (λ a b to. ((own_taking at i t e h.0 (k.own_access a h.1), tt), tt))
 
-  pub own_rules : (target : Target) (size : ℕ) → Rules target size g TakingOwn (IsOwnDid p own) Any
+  own_rules : (target : Target) (size : ℕ) → Rules target size g TakingOwn (IsOwnDid p own) Any
   own_rules target size = record {
     one = λ at i t h j. own_one at i t (outcome_at target size at i t) h (act_fine target size at i t);
     branch = λ at test t h j. (own_did _ (record { fetched = h.0; accessed = λ s. tt }) tt, tt);
@@ -194,7 +194,7 @@ module _ (p : Setup) (own : ℕ → Bool) (g : Guard) (o : OwnBytes p own g) whe
 
 -- ---- code that stands in own bytes
 
-pub fetched_code : (own : ℕ → Bool) (code : List Instr) (at : ℕ) → ((a : ℕ) → at ≤ a → a < at + 4 * length code → own a ≡ true) → AllCode (λ at i. AllOwn own at 4) at code
+fetched_code : (own : ℕ → Bool) (code : List Instr) (at : ℕ) → ((a : ℕ) → at ≤ a → a < at + 4 * length code → own a ≡ true) → AllCode (λ at i. AllOwn own at 4) at code
 fetched_code own [] at h = tt
 fetched_code own (i ∷ is) at h = ((λ k lt. h (at + k) (omega arith) (omega (arith, lt))), fetched_code own is (at + 4) (λ a ge lt. h a (omega (arith, ge)) (omega (arith, lt))))
 

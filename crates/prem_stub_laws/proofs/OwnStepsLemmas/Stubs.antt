@@ -6,6 +6,8 @@ use Rattle.prem_plant.specs.Places.{Extent}
 use Rattle.prem_isa.specs.declared.effect.Access.{Access}
 use Rattle.prem_isa.specs.declared.effect.Phase.TheVariants.{Memory as MemoryPhase}
 use Rattle.prem_isa.specs.Plain.{Did}
+use Rattle.prem_runs.specs.Position.Own.{IsFree}
+use Rattle.prem_sound.specs.Script.Conforms.{IsOwnDid}
 use Rattle.prem_asm.specs.Runs.{Ending, Falls, Returns, Stuck}
 use Rattle.prem_asm.specs.Steps.{AllSteps, Holds}
 use Rattle.prem_asm.proofs.Every.{every}
@@ -14,8 +16,6 @@ use Rattle.prem_code_laws.specs.PrefetchLaws.Premises.{stub_code}
 use Rattle.prem_code_laws.specs.PrefetchLaws.Touches.{LoadsLine, IsFetch, IsLineOf}
 use Rattle.prem_code_laws.specs.PrefetchLaws.Stubs.{memory_step}
 use Rattle.prem_code_laws.specs.PrefetchLaws.Confined.{exec_step, end_step, return_step}
-use Rattle.prem_runs.specs.Position.Own.{IsFree}
-use Rattle.prem_sound.specs.Script.Conforms.{IsOwnDid}
 use Rattle.prem_stub_laws.specs.Coverage.Fetched.{HaveBytes, SomeHolds}
 use Rattle.prem_stub_laws.specs.OwnSteps.OwnSteps.{StubsAreOwn}
 use Rattle.prem_stub_laws.proofs.OwnStepsLemmas.Rules.{Any, TouchesOwn, FetchedOwn, touch_rules, own_did, own_code, calls_hold}

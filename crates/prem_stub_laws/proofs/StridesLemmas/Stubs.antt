@@ -1,31 +1,31 @@
 -- A stub that stands is cut between `pm.mem` and its return.
-use Rattle.std.proofs.Common.{◌≡◌, ℕ, ◌+◌, ◌≤◌, refl, ap, ◌∙◌, sym, subst, arith, List, [], ◌∷◌}
 use Rattle.std.specs.Prelude.{pos}
+use Rattle.std.proofs.Common.{◌≡◌, ℕ, ◌+◌, ◌≤◌, refl, ap, ◌∙◌, sym, subst, arith, List, [], ◌∷◌}
 use Rattle.prem_plant.specs.declared.plant.Plant.{Plant}
 use Rattle.prem_isa.specs.declared.instr.Instr.TheVariants.{Jalr, PmMem}
 use Rattle.prem_isa.specs.Plain.{TaskRun, TaskState, TaskFits, Did}
+use Rattle.prem_runs.specs.Position.Finish.{due_of}
+use Rattle.prem_sound.specs.Script.Scripts.{Mark}
 use Rattle.prem_asm.specs.Runs.{Guard, Setting, Ending, Falls, Returns, Stuck, run}
 use Rattle.prem_asm.specs.Steps.{Holds}
-use Rattle.prem_runs.specs.Position.Finish.{due_of}
 use Rattle.prem_layout.specs.Bounds.{job_weight}
+use Rattle.prem_layout.specs.Stretch.Paths.{Takes, Cuts}
+use Rattle.prem_layout.specs.Stretch.Sums.{taking, cut, chained, sums_of_path, marked_sums_of, IsWithin}
+use Rattle.prem_layout.proofs.StretchLemmas.Order.{within_same, chained_within, taking_within}
 use Rattle.prem_code_laws.specs.GenLaws.Table.{Codes, code_calls}
 use Rattle.prem_code_laws.specs.PrefetchLaws.Premises.{stub_code}
 use Rattle.prem_code_laws.specs.PrefetchLaws.Confined.{with_guard, return_step, StubSteps}
 use Rattle.prem_code_laws.proofs.PrefetchLawsLemmas.Returns.{stubs_return}
-use Rattle.prem_sound.specs.Script.Scripts.{Mark}
 use Rattle.prem_weave.specs.Weave.{Section, IsSection}
 use Rattle.prem_weave.specs.Segment.Sections.{section_of}
-use Rattle.prem_weave.proofs.SegmentLemmas.Sections.{stubs_are_sections}
-use Rattle.prem_stub_laws.specs.StubWeave.StubWeave.{StubAt, StubStands}
-use Rattle.prem_layout.specs.Stretch.Paths.{Takes, Cuts}
-use Rattle.prem_layout.specs.Stretch.Sums.{taking, cut, chained, sums_of_path, marked_sums_of, IsWithin}
-use Rattle.prem_layout.proofs.StretchLemmas.Order.{within_same, chained_within, taking_within}
 use Rattle.prem_weave.specs.Pace.Pace.{events_of, strides}
+use Rattle.prem_weave.proofs.SegmentLemmas.Sections.{stubs_are_sections}
 use Rattle.prem_weave.proofs.PaceLemmas.Jobs.{section_events, stretch_events}
+use Rattle.prem_stub_laws.specs.StubWeave.StubWeave.{StubAt, StubStands}
 use Rattle.prem_stub_laws.specs.Dues.Charged.{IsReady}
+use Rattle.prem_stub_laws.specs.Strides.Strided.{ReturnsStrided}
 use Rattle.prem_stub_laws.proofs.DuesLemmas.Steps.{Any}
 use Rattle.prem_stub_laws.proofs.DuesLemmas.Stubs.{stub_fits}
-use Rattle.prem_stub_laws.specs.Strides.Strided.{ReturnsStrided}
 
 module _ (plant : Plant) (passes : ℕ → ℕ) (s : Setting) (h : Guard) (c : Codes) (own : TaskRun) (ended : ℕ) (bytes : ℕ → ℕ) (parts n : ℕ) (x : StubAt) (stands : StubStands plant passes s h c own ended bytes parts n x) where
   returned : (t u : TaskState) (back : ℕ) (trace : List Did) → IsReady t → run (with_guard h s) (code_calls (with_guard h s) c n) (s.places x.stub) (stub_code x.kind plant.line x.ranges x.stated x.part) t ≡ Returns back u trace →

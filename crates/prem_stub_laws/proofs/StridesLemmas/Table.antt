@@ -1,35 +1,35 @@
 -- Calls of the functions and stubs of a task have no greater sums than their code.
-use Rattle.std.proofs.Common.{◌≡◌, ℕ, zero, suc, ◌+◌, ◌<◌, ◌≤◌, ◌⊎◌, inl, inr, refl, ap, ◌∙◌, sym, subst, arith, cond, eqb, ltb, leb, true, false, Bool, List, [], ◌∷◌, ◌++◌, length, length-append, Some, slice_get}
 use Rattle.std.specs.Prelude.{◌-◌, ◌||◌}
+use Rattle.std.proofs.Common.{◌≡◌, ℕ, zero, suc, ◌+◌, ◌<◌, ◌≤◌, ◌⊎◌, inl, inr, refl, ap, ◌∙◌, sym, subst, arith, cond, eqb, ltb, leb, true, false, Bool, List, [], ◌∷◌, ◌++◌, length, length-append, Some, slice_get}
 use Rattle.std.proofs.lemmas.Bool.{eqb-true, ltb-true, lt-ltb, leb-true}
 use Rattle.std.proofs.lemmas.List.{get_or_append_left, get_or-append-add}
 use Rattle.prem_plant.specs.declared.plant.Plant.{Plant}
-use Rattle.prem_cycle.specs.State.{Setup}
 use Rattle.prem_isa.specs.declared.instr.Instr.{Instr}
 use Rattle.prem_isa.specs.Plain.{TaskRun, TaskState, Did}
+use Rattle.prem_cycle.specs.State.{Setup}
 use Rattle.prem_asm.specs.Pieces.{Pieces, no_pieces, code_of}
 use Rattle.prem_asm.specs.Runs.{Setting, Calls, Ending, Falls, Returns, Stuck, run}
 use Rattle.prem_asm.specs.Steps.{AllCode}
 use Rattle.prem_template.specs.Parts.{marked_before}
 use Rattle.prem_layout.specs.Plans.{Plan}
 use Rattle.prem_layout.specs.Bounds.{CodeTable, job_weight}
+use Rattle.prem_layout.specs.Stretch.Sums.{Sums, taking, greatest, summed, part_sums, sums_at, sums_behind, job_sums, marked_sums, marked_sums_of, IsWithin}
+use Rattle.prem_layout.proofs.StretchLemmas.Exact.{sums_are_exact}
 use Rattle.prem_code_laws.specs.GenLaws.Table.{Codes, one_of, with_part, code_calls}
 use Rattle.prem_code_laws.specs.GenLaws.Whole.{no_calls}
 use Rattle.prem_code_laws.specs.PrefetchLaws.Confined.{with_guard}
 use Rattle.prem_weave.specs.Path.Woven.{CalmAt}
+use Rattle.prem_weave.specs.Pace.Pace.{strides}
 use Rattle.prem_stub_laws.specs.StubFits.Costs.{IsOf}
 use Rattle.prem_stub_laws.specs.StubFits.Within.{codes_in}
 use Rattle.prem_stub_laws.specs.JobWeave.Calm.{CalmStands}
 use Rattle.prem_stub_laws.specs.JobWeave.Charged.{start_sums}
 use Rattle.prem_stub_laws.specs.JobWeave.Confined.{Confinement, with_confined, confined_calls}
-use Rattle.prem_layout.specs.Stretch.Sums.{Sums, taking, greatest, summed, part_sums, sums_at, sums_behind, job_sums, marked_sums, marked_sums_of, IsWithin}
-use Rattle.prem_layout.proofs.StretchLemmas.Exact.{sums_are_exact}
-use Rattle.prem_weave.specs.Pace.Pace.{strides}
 use Rattle.prem_stub_laws.specs.Dues.Charged.{IsReady, EachCall}
 use Rattle.prem_stub_laws.specs.Dues.Dues.{PlannedStands, stands_before, CallsBefore, TableStands}
+use Rattle.prem_stub_laws.specs.Strides.Strided.{ReturnsLast, IsStrided, ReturnsStrided, PartStrided, sums_in, PartsAreStrided, PlacedJobsAreStrided}
 use Rattle.prem_stub_laws.proofs.DuesLemmas.Table.{calm_part, codes_are_of}
 use Rattle.prem_stub_laws.proofs.DuesLemmas.Called.{each_map, each_any}
-use Rattle.prem_stub_laws.specs.Strides.Strided.{ReturnsLast, IsStrided, ReturnsStrided, PartStrided, sums_in, PartsAreStrided, PlacedJobsAreStrided}
 use Rattle.prem_stub_laws.proofs.StridesLemmas.Walk.{calm_runs_are_strided}
 use Rattle.prem_stub_laws.proofs.StridesLemmas.Stubs.{stub_strided}
 
@@ -255,7 +255,7 @@ module _ (setup : Setup) (owned : ℕ → Bool) (passes : ℕ → ℕ) (s : Sett
         (known_strided setup.plant plans table (suc job) there (job_sums setup.plant plans table) (λ i lt. refl) part
         (with_part s (c.code_part job) (c.code job) (confined_calls s c inner total (code_calls s c total) total) no_calls part t) (job_known part t ready))).0
 
-pub parts_are_strided : PartsAreStrided
+parts_are_strided : PartsAreStrided
 parts_are_strided setup owned passes s c inner own ended bytes parts total job plans table h lasts there stands last calling part t u back trace phase fits goes =
     job_strided setup owned passes s c inner own ended bytes parts total plans table h lasts job there stands last calling part t u back trace (phase, fits) goes
 

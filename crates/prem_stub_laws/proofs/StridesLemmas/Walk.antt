@@ -13,13 +13,13 @@ use Rattle.prem_isa.specs.Act.{phase_after}
 use Rattle.prem_isa.specs.Bounds.{OnDone}
 use Rattle.prem_isa.specs.Decode.{cost_of}
 use Rattle.prem_isa.specs.Plain.{TaskState, Did, did_of, after_effect}
+use Rattle.prem_runs.specs.Position.Finish.{due_of, data_accesses}
 use Rattle.prem_asm.specs.declared.piece.Test.{Test}
 use Rattle.prem_asm.specs.Pieces.{Pieces, no_pieces, straight, address_of, either, repeat, call_to, skip_words, skip_code, jump, jump_to, branch_of, address_code, skip_at, other_at, either_end, test_at, back_at, repeat_end, code_of, weight, jump_weight, address_weight}
 use Rattle.prem_asm.specs.Quiet.{EachInstr, EachPiece}
 use Rattle.prem_asm.specs.Runs.{Guard, Setting, Calls, Ending, Falls, Returns, Stuck, allowed, ends_job, is_return, arrives, stepped, outcome_at, with_trace, then_run, called, run_one, run_code, control, test_holds, taken_steps, other_steps, skip_steps, linked, Loop, left_loop, run_turns, run}
 use Rattle.prem_asm.specs.Steps.{AllCode}
 use Rattle.prem_asm.proofs.Shape.{code-length, skip_code-length, skip_one, choose_both}
-use Rattle.prem_runs.specs.Position.Finish.{due_of, data_accesses}
 use Rattle.prem_layout.specs.Bounds.{line_cost, job_weight}
 use Rattle.prem_layout.specs.Stretch.Paths.{Takes}
 use Rattle.prem_layout.specs.Stretch.Sums.{Sums, taking, among, chained, sums_of_path, turned, summed, IsWithin}
@@ -29,10 +29,10 @@ use Rattle.prem_layout.proofs.StretchLemmas.Order.{within_same, within_then, cha
 use Rattle.prem_weave.specs.Path.Woven.{CalmAt}
 use Rattle.prem_weave.specs.Pace.Pace.{did_events, change_events, events_of, strides}
 use Rattle.prem_weave.proofs.PaceLemmas.Jobs.{events_joined}
-use Rattle.prem_stub_laws.proofs.JobWeaveLemmas.Jobs.{linked_fits}
 use Rattle.prem_stub_laws.specs.Dues.Charged.{IsReady, EachCall}
-use Rattle.prem_stub_laws.proofs.DuesLemmas.Steps.{Cheap, calm_cheap, effect_words}
 use Rattle.prem_stub_laws.specs.Strides.Strided.{GoesOn, ReturnsLast, FallsStrided, IsStrided, ReturnsStrided, PartStrided, CalmRunsAreStrided}
+use Rattle.prem_stub_laws.proofs.JobWeaveLemmas.Jobs.{linked_fits}
+use Rattle.prem_stub_laws.proofs.DuesLemmas.Steps.{Cheap, calm_cheap, effect_words}
 
 -- the events of a jump or branch of a compatible phase
 control_events : (plant : Plant) (at : ℕ) (i : Instr) (t : TaskState) → t.phase ≡ Compatible → events_of plant (control at i t) ≡ Takes (cost_of i + line_cost plant) ∷ []

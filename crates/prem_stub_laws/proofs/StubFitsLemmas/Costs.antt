@@ -1,6 +1,6 @@
 -- Calls cost at most what the bounds tell.
-use Rattle.std.proofs.Common.{◌≡◌, ℕ, zero, suc, ◌+◌, ◌*◌, ◌<◌, ◌≤◌, ◌⊎◌, inl, inr, refl, ap, ◌∙◌, sym, subst, arith, cond, eqb, ltb, true, false, Bool, List, [], ◌∷◌, ◌++◌, length, length-append, None, Some, slice_get}
 use Rattle.std.specs.Prelude.{◌-◌, max, pos}
+use Rattle.std.proofs.Common.{◌≡◌, ℕ, zero, suc, ◌+◌, ◌*◌, ◌<◌, ◌≤◌, ◌⊎◌, inl, inr, refl, ap, ◌∙◌, sym, subst, arith, cond, eqb, ltb, true, false, Bool, List, [], ◌∷◌, ◌++◌, length, length-append, None, Some, slice_get}
 use Rattle.std.proofs.lemmas.Bool.{cond_both, eqb-true, lt-ltb, ltb-false, cond-true}
 use Rattle.std.proofs.lemmas.List.{get_or_append_left, get_or-append-add}
 use Rattle.std.proofs.lemmas.Nat.{mul-le}
@@ -8,8 +8,8 @@ use Rattle.prem_plant.specs.declared.plant.Plant.{Plant}
 use Rattle.prem_isa.specs.declared.instr.Instr.{Instr}
 use Rattle.prem_isa.specs.declared.instr.Instr.TheVariants.{Jalr, PmMem}
 use Rattle.prem_isa.specs.Decode.{cost_of}
-use Rattle.prem_asm.specs.Pieces.{Pieces, no_pieces, straight, address_of, either, repeat, call_to, branch_of, weighted, jump_weight, skip_words}
 use Rattle.prem_meaning.specs.Resolved.{Routine}
+use Rattle.prem_asm.specs.Pieces.{Pieces, no_pieces, straight, address_of, either, repeat, call_to, branch_of, weighted, jump_weight, skip_words}
 use Rattle.prem_layout.specs.Plans.{Plan}
 use Rattle.prem_layout.specs.Footprint.{footprint_of}
 use Rattle.prem_layout.specs.Bounds.{CodeTable, part_weight, weight_at, weights_behind, weight_listed, stub_weight, costs_of, bound_of}

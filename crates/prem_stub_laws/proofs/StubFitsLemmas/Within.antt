@@ -1,14 +1,15 @@
 -- Stubs lie in their footprints.
-use Rattle.std.proofs.Common.{◌≡◌, ℕ, zero, suc, ◌+◌, ◌/◌, ◌<◌, ◌≤◌, inl, inr, refl, ap, ◌∙◌, sym, subst, arith, cond, eqb, true, false, Bool, List, [], ◌∷◌, ◌++◌, length, map, None, Some, Option, slice_get, ⊎_elim, eq-eqb}
 use Rattle.std.specs.Prelude.{is_some}
+use Rattle.std.proofs.Common.{◌≡◌, ℕ, zero, suc, ◌+◌, ◌/◌, ◌<◌, ◌≤◌, inl, inr, refl, ap, ◌∙◌, sym, subst, arith, cond, eqb, true, false, Bool, List, [], ◌∷◌, ◌++◌, length, map, None, Some, Option, slice_get, ⊎_elim, eq-eqb}
 use Rattle.std.proofs.lemmas.Bool.{or_cases, cond_both, eqb-true}
 use Rattle.std.proofs.lemmas.List.{length-map}
-use Rattle.prem_isa.specs.declared.instr.Instr.{Instr}
-use Rattle.prem_isa.specs.declared.instr.Instr.TheVariants.{Lui, Auipc, Jal, Jalr, Branch, Load, Store, OpImm, Op, MulDiv, Fence, Ecall, Ebreak, PmMem, PmExec, PmEnd, PmDone, PmIn, PmOut}
 use Rattle.prem_plant.specs.declared.plant.Plant.{Plant}
 use Rattle.prem_plant.specs.declared.layout.PartKind.TheVariants.{Stub, Code, Stack}
 use Rattle.prem_plant.specs.declared.layout.PartSize.{PartSize}
 use Rattle.prem_plant.specs.Places.{Extent, Holds}
+use Rattle.prem_order.specs.Order.{is_in}
+use Rattle.prem_isa.specs.declared.instr.Instr.{Instr}
+use Rattle.prem_isa.specs.declared.instr.Instr.TheVariants.{Lui, Auipc, Jal, Jalr, Branch, Load, Store, OpImm, Op, MulDiv, Fence, Ecall, Ebreak, PmMem, PmExec, PmEnd, PmDone, PmIn, PmOut}
 use Rattle.prem_syntax.specs.Syntax.{MarkText}
 use Rattle.prem_meaning.specs.Resolved.{Routine, Resolved}
 use Rattle.prem_asm.specs.Pieces.{Pieces, no_pieces, straight, address_of, either, repeat, call_to, size_of}
@@ -21,16 +22,15 @@ use Rattle.prem_layout.specs.Footprint.{TaskPlaces, index_of, place_at, code_ran
 use Rattle.prem_layout.specs.Stubs.{stub_of}
 use Rattle.prem_layout.specs.Placed.{Placed, part_total}
 use Rattle.prem_layout.proofs.StubLaws.{stubs_have_their_size}
-use Rattle.prem_stub_laws.specs.Coverage.Fetched.{SomeHolds}
-use Rattle.prem_stub_laws.proofs.CoverageLemmas.Fetched.{footprints_are_fetched, ranges_lie_in_footprints}
-use Rattle.prem_order.specs.Order.{is_in}
 use Rattle.prem_layout.proofs.TaskParts.{code_counted, get_behind}
 use Rattle.prem_weave.specs.Segment.Bodies.{TakesSome}
+use Rattle.prem_stub_laws.specs.Coverage.Fetched.{SomeHolds}
 use Rattle.prem_stub_laws.specs.Own.Owned.{is_held}
+use Rattle.prem_stub_laws.specs.StubFits.Within.{pieces_or, codes_in, reached_in, any_holds, StubNumbersAgree, StubsAreWithin}
+use Rattle.prem_stub_laws.proofs.CoverageLemmas.Fetched.{footprints_are_fetched, ranges_lie_in_footprints}
 use Rattle.prem_stub_laws.proofs.OwnLemmas.Owned.{held}
 use Rattle.prem_stub_laws.proofs.InitialLemmas.Places.{IsSized, Sized}
 use Rattle.prem_stub_laws.proofs.InitialLemmas.Tasks.{TaskAt, task_at}
-use Rattle.prem_stub_laws.specs.StubFits.Within.{pieces_or, codes_in, reached_in, any_holds, StubNumbersAgree, StubsAreWithin}
 
 -- ---- numbers of plans
 

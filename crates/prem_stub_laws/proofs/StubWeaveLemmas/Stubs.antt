@@ -1,10 +1,11 @@
 -- The run of a stub that returns is a marked call and the return.
-use Rattle.std.proofs.Common.{◌≡◌, ℕ, ◌+◌, ◌^◌, ◌<◌, refl, ap, ◌∙◌, sym, subst, arith, true, false, Bool, Some, List, [], ◌∷◌, ◌++◌, length}
 use Rattle.std.specs.Prelude.{pos}
+use Rattle.std.proofs.Common.{◌≡◌, ℕ, ◌+◌, ◌^◌, ◌<◌, refl, ap, ◌∙◌, sym, subst, arith, true, false, Bool, Some, List, [], ◌∷◌, ◌++◌, length}
 use Rattle.prem_word.proofs.Bytes.{number_at-agrees}
 use Rattle.prem_plant.specs.declared.plant.Plant.{Plant}
 use Rattle.prem_isa.specs.declared.effect.Phase.TheVariants.{Compatible}
 use Rattle.prem_isa.specs.Plain.{TaskRun, TaskState, PlainState, Did, plain_did, plain_step, plain_steps, plain_trace, TaskFits}
+use Rattle.prem_sound.specs.Script.Scripts.{Reading, Mark}
 use Rattle.prem_asm.specs.Pieces.{Pieces, size_of}
 use Rattle.prem_asm.specs.Runs.{Guard, Setting, Ending, Falls, Returns, Stuck, run}
 use Rattle.prem_asm.specs.Steps.{Grows}
@@ -13,16 +14,15 @@ use Rattle.prem_asm.specs.Ways.{LandsWay}
 use Rattle.prem_asm.proofs.Words.{words_run}
 use Rattle.prem_code_laws.specs.GenLaws.Table.{Codes, code_calls}
 use Rattle.prem_code_laws.specs.GenLaws.Land.{IsRunning, PartStands}
-use Rattle.prem_code_laws.proofs.GenLawsLemmas.Land.{code_lands}
 use Rattle.prem_code_laws.specs.PrefetchLaws.Premises.{stub_code}
 use Rattle.prem_code_laws.specs.PrefetchLaws.Stubs.{memory_step}
 use Rattle.prem_code_laws.specs.PrefetchLaws.Confined.{with_guard, return_step, StubSteps}
+use Rattle.prem_code_laws.proofs.GenLawsLemmas.Land.{code_lands}
 use Rattle.prem_code_laws.proofs.PrefetchLawsLemmas.Returns.{stubs_return}
-use Rattle.prem_sound.specs.Script.Scripts.{Reading, Mark}
 use Rattle.prem_weave.specs.Weave.{Section, section_dids, SectionGoes, ends, goes, calls}
 use Rattle.prem_weave.specs.Segment.Sections.{section_of}
-use Rattle.prem_weave.proofs.SegmentLemmas.Sections.{stubs_are_sections}
 use Rattle.prem_weave.specs.Path.Woven.{WovenTo, woven_way}
+use Rattle.prem_weave.proofs.SegmentLemmas.Sections.{stubs_are_sections}
 use Rattle.prem_stub_laws.specs.StubWeave.StubWeave.{StubAt, StubStands, StubsLandWoven}
 use Rattle.prem_stub_laws.proofs.StubWeaveLemmas.Steps.{last_step, first_did, keeps_view, memory_stores, return_stores, steps_fit}
 

@@ -1,9 +1,9 @@
 -- What calls do where each stub runs under a guard of its own.
 use Rattle.std.specs.Prelude.{◌≡◌, ◌<◌, ℕ, ◌+◌, ◌%◌, ◌^◌, Bool, true, List}
+use Rattle.prem_plant.specs.Places.{Extent}
 use Rattle.prem_isa.specs.declared.effect.Phase.{Phase}
 use Rattle.prem_isa.specs.declared.effect.Phase.TheVariants.{Compatible}
 use Rattle.prem_isa.specs.Plain.{TaskState}
-use Rattle.prem_plant.specs.Places.{Extent}
 use Rattle.prem_meaning.specs.Expressions.{Outcome, Access}
 use Rattle.prem_meaning.specs.Statements.{ProgramState, Calls as SourceCalls}
 use Rattle.prem_asm.specs.Pieces.{size_of}

@@ -1,9 +1,9 @@
 -- The lines of ranges, as the layout and the stubs have them.
 use Rattle.std.specs.Prelude.{◌≡◌, ℕ, ◌/◌, ◌<◌, ◌⊎◌, ◌↔◌, true, List, [], ◌∷◌}
 use Rattle.prem_plant.specs.Places.{Extent, Holds}
+use Rattle.prem_order.specs.Order.{is_in}
 use Rattle.prem_layout.specs.Footprint.{lines_of}
 use Rattle.prem_code_laws.specs.PrefetchLaws.Touches.{IsLineOf}
-use Rattle.prem_order.specs.Order.{is_in}
 
 -- each range has a byte; a stub's loop touches a line for an empty range that ends inside it, too
 abbrev pub HaveBytes : List Extent → Type 0

@@ -10,10 +10,10 @@ use Rattle.prem_asm.specs.Pieces.{Pieces, no_pieces, straight, address_of, eithe
 use Rattle.prem_asm.specs.Runs.{Guard, Setting, Calls, Ending, Falls, Returns, Stuck, run}
 use Rattle.prem_asm.specs.Steps.{AllCode, total}
 use Rattle.prem_template.specs.Steps.{Parts, function_code}
+use Rattle.prem_layout.specs.Bounds.{job_weight}
 use Rattle.prem_code_laws.specs.ExprLaws.Relation.{Globals}
 use Rattle.prem_code_laws.specs.GenLaws.Fits.{Callees, StepsFit}
 use Rattle.prem_code_laws.specs.GenLaws.Table.{Codes, code_calls}
-use Rattle.prem_layout.specs.Bounds.{job_weight}
 use Rattle.prem_code_laws.specs.PrefetchLaws.Premises.{stub_code}
 use Rattle.prem_code_laws.specs.PrefetchLaws.Confined.{with_guard}
 use Rattle.prem_weave.specs.Weave.{charge}

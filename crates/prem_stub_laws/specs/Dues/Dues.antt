@@ -1,8 +1,8 @@
 -- What a job is charged: no more than its bound.
 use Rattle.std.specs.Prelude.{◌≡◌, ◌<◌, ◌≤◌, ◌⊎◌, ℕ, nat_lt, nat_le, ◌||◌, Bool, true, List, length, Some, slice_get}
 use Rattle.prem_plant.specs.declared.plant.Plant.{Plant}
-use Rattle.prem_cycle.specs.State.{Setup}
 use Rattle.prem_isa.specs.Plain.{TaskRun}
+use Rattle.prem_cycle.specs.State.{Setup}
 use Rattle.prem_asm.specs.Pieces.{Pieces}
 use Rattle.prem_asm.specs.Runs.{Setting}
 use Rattle.prem_template.specs.Parts.{marked_before}

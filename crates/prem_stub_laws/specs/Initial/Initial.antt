@@ -1,10 +1,10 @@
 -- What memory holds where a run begins: the code and the globals of placed tasks, and else 0.
 use Rattle.std.specs.Prelude.{◌≡◌, ◌<◌, ◌≤◌, ℕ, ◌+◌, All, List, length, replicate, take, Some, slice_get, slice_index}
-use Rattle.prem_asm.specs.Bytes.{code_bytes}
 use Rattle.prem_plant.specs.declared.plant.Plant.{Plant}
 use Rattle.prem_plant.specs.declared.plant.Device.{Device}
 use Rattle.prem_plant.specs.Places.{Extent, Holds, ArePlaces, default_places, last_end}
 use Rattle.prem_syntax.specs.Syntax.{GlobalVariable}
+use Rattle.prem_asm.specs.Bytes.{code_bytes}
 use Rattle.prem_layout.specs.Footprint.{global_range}
 use Rattle.prem_layout.specs.Placed.{Coded, Placed, Block, parts_of, placed_from, part_total, blocks_of}
 use Rattle.prem_layout.specs.Image.{global_bytes, with_tasks, greatest_end}

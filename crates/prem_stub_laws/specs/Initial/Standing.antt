@@ -4,12 +4,13 @@ use Rattle.prem_plant.specs.declared.plant.Target.{Target}
 use Rattle.prem_plant.specs.declared.plant.Plant.{Plant}
 use Rattle.prem_plant.specs.declared.plant.Device.{Device}
 use Rattle.prem_plant.specs.Places.{Extent}
+use Rattle.prem_cycle.specs.Run.{memory_of}
+use Rattle.prem_sound.specs.Serve.Requests.{AreasAreZero}
 use Rattle.prem_syntax.specs.declared.tree.Ty.{Ty}
 use Rattle.prem_syntax.specs.declared.tree.Ty.TheVariants.{Int}
 use Rattle.prem_syntax.specs.Syntax.{GlobalVariable}
 use Rattle.prem_meaning.specs.Resolved.{Resolved}
 use Rattle.prem_meaning.specs.Source.{initial_words}
-use Rattle.prem_cycle.specs.Run.{memory_of}
 use Rattle.prem_asm.specs.Fit.{PiecesFit}
 use Rattle.prem_asm.specs.Pieces.{Pieces, size_of}
 use Rattle.prem_asm.specs.Runs.{Guard, Setting}
@@ -21,7 +22,6 @@ use Rattle.prem_layout.specs.Rules.{group_six}
 use Rattle.prem_code_laws.specs.ExprLaws.Relation.{Globals, GlobalsStand}
 use Rattle.prem_code_laws.specs.GenLaws.Land.{PartStands}
 use Rattle.prem_weave.specs.Promise.Promised.{stated_at}
-use Rattle.prem_sound.specs.Serve.Requests.{AreasAreZero}
 use Rattle.prem_stub_laws.specs.Own.Owned.{setup_of}
 use Rattle.prem_stub_laws.specs.Initial.Initial.{content_of, AreLaid}
 

@@ -1,8 +1,9 @@
 -- Calls of code that changes no phase are woven.
 use Rattle.std.specs.Prelude.{◌<◌, ◌≤◌, ℕ, Bool}
-use Rattle.prem_cycle.specs.State.{Setup}
-use Rattle.prem_meaning.specs.Resolved.{Routine}
 use Rattle.prem_isa.specs.Plain.{TaskRun, TaskState}
+use Rattle.prem_cycle.specs.State.{Setup}
+use Rattle.prem_sound.specs.Script.Scripts.{Reading}
+use Rattle.prem_meaning.specs.Resolved.{Routine}
 use Rattle.prem_asm.specs.Pieces.{Pieces}
 use Rattle.prem_asm.specs.Runs.{Setting, Calls}
 use Rattle.prem_asm.specs.OwnRun.{Agrees}
@@ -11,7 +12,6 @@ use Rattle.prem_asm.specs.Ways.{LandsWay}
 use Rattle.prem_template.specs.Steps.{Parts, function_code}
 use Rattle.prem_code_laws.specs.GenLaws.Table.{Codes, with_part, code_calls}
 use Rattle.prem_code_laws.specs.GenLaws.Land.{IsRunning, PartStands}
-use Rattle.prem_sound.specs.Script.Scripts.{Reading}
 use Rattle.prem_weave.specs.Path.Woven.{IsCalm}
 use Rattle.prem_stub_laws.specs.OwnSteps.OwnSteps.{OwnBytes, Takes, AreOwnAt}
 use Rattle.prem_stub_laws.specs.JobWeave.Owned.{own_way}

@@ -1,14 +1,14 @@
 -- Calls of stubs, each of which runs under a guard of its own.
 use Rattle.std.specs.Prelude.{◌≡◌, ◌<◌, ◌≤◌, ℕ, zero, suc, ◌==◌, Bool, true, false}
-use Rattle.prem_cycle.specs.State.{Setup}
-use Rattle.prem_stub_laws.specs.Coverage.Fetched.{HaveBytes, SomeHolds}
-use Rattle.prem_stub_laws.specs.OwnSteps.OwnSteps.{OwnBytes, AreOwnAt, CodeIsOwn}
 use Rattle.prem_isa.specs.Plain.{TaskRun}
+use Rattle.prem_cycle.specs.State.{Setup}
+use Rattle.prem_sound.specs.Script.Scripts.{Reading}
 use Rattle.prem_asm.specs.Runs.{Guard, Setting, Calls, run}
 use Rattle.prem_code_laws.specs.GenLaws.Table.{Codes, one_of, code_calls, IsStub}
 use Rattle.prem_code_laws.specs.PrefetchLaws.Premises.{stub_code}
 use Rattle.prem_code_laws.specs.PrefetchLaws.Confined.{with_guard}
-use Rattle.prem_sound.specs.Script.Scripts.{Reading}
+use Rattle.prem_stub_laws.specs.Coverage.Fetched.{HaveBytes, SomeHolds}
+use Rattle.prem_stub_laws.specs.OwnSteps.OwnSteps.{OwnBytes, AreOwnAt, CodeIsOwn}
 use Rattle.prem_stub_laws.specs.StubWeave.StubWeave.{StubAt, StubStands}
 use Rattle.prem_stub_laws.specs.JobWeave.Calm.{AllLandWoven}
 

@@ -1,27 +1,27 @@
 -- Jobs along a weave.
 use Rattle.std.specs.Prelude.{◌≡◌, ◌<◌, ◌≤◌, ℕ, ◌+◌, ◌*◌, ◌^◌, Bool, List, Ok}
-use Rattle.prem_cycle.specs.State.{Setup}
-use Rattle.prem_runs.specs.Position.Own.{AllOwn}
-use Rattle.prem_sound.specs.Script.Conforms.{IsOwnDid}
-use Rattle.prem_asm.specs.Pieces.{call_to, no_pieces}
-use Rattle.prem_asm.specs.Steps.{AllSteps, total}
-use Rattle.prem_stub_laws.specs.OwnSteps.OwnSteps.{OwnBytes, AreOwnAt}
 use Rattle.prem_isa.specs.declared.effect.Phase.TheVariants.{Compatible}
 use Rattle.prem_isa.specs.Act.{first_registers}
 use Rattle.prem_isa.specs.Plain.{TaskRun, TaskState, TaskFits}
+use Rattle.prem_cycle.specs.State.{Setup}
+use Rattle.prem_runs.specs.Position.Own.{AllOwn}
+use Rattle.prem_sound.specs.Script.Conforms.{IsOwnDid}
+use Rattle.prem_sound.specs.Script.Scripts.{Reading}
 use Rattle.prem_meaning.specs.Resolved.{Resolved}
 use Rattle.prem_meaning.specs.Statements.{ProgramState, MarkedCall}
 use Rattle.prem_meaning.specs.Source.{Limits, do_jobs}
+use Rattle.prem_asm.specs.Pieces.{call_to, no_pieces}
+use Rattle.prem_asm.specs.Steps.{AllSteps, total}
 use Rattle.prem_asm.specs.Runs.{Setting, Calls}
 use Rattle.prem_asm.specs.OwnRun.{Agrees, in_job}
+use Rattle.prem_layout.specs.Stretch.Sums.{Sums, greatest}
 use Rattle.prem_code_laws.specs.ExprLaws.Relation.{Globals}
 use Rattle.prem_code_laws.specs.GenLaws.Jobs.{Between}
 use Rattle.prem_code_laws.specs.GenLaws.Land.{IsRunning}
 use Rattle.prem_code_laws.specs.GenLaws.Whole.{StartStands, JobMeans, JobsDone}
-use Rattle.prem_sound.specs.Script.Scripts.{Reading}
-use Rattle.prem_layout.specs.Stretch.Sums.{Sums, greatest}
 use Rattle.prem_weave.specs.Pace.Pace.{PacedFrom}
 use Rattle.prem_weave.specs.Weave.{Weave, joined, dids_of, IsWeave, Goes, charge}
+use Rattle.prem_stub_laws.specs.OwnSteps.OwnSteps.{OwnBytes, AreOwnAt}
 use Rattle.prem_stub_laws.specs.JobWeave.Calm.{AllLandWoven}
 use Rattle.prem_stub_laws.specs.JobWeave.Charged.{CallIsCharged, job_charge, CallIsStrided, start_sums}
 

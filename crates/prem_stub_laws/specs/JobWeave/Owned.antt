@@ -2,11 +2,11 @@
 use Rattle.std.specs.Prelude.{◌≡◌, ℕ, Bool, List}
 use Rattle.prem_isa.specs.declared.effect.Phase.TheVariants.{Compatible}
 use Rattle.prem_isa.specs.Plain.{TaskRun, TaskState, TaskFits, Did}
-use Rattle.prem_asm.specs.Steps.{AllSteps}
-use Rattle.prem_asm.specs.Ways.{Way}
 use Rattle.prem_cycle.specs.State.{Setup}
 use Rattle.prem_sound.specs.Script.Scripts.{Reading}
 use Rattle.prem_sound.specs.Script.Conforms.{IsOwnDid}
+use Rattle.prem_asm.specs.Steps.{AllSteps}
+use Rattle.prem_asm.specs.Ways.{Way}
 use Rattle.prem_weave.specs.Path.Woven.{WovenTo}
 
 pub record OwnWovenTo (setup : Setup) (owned : ℕ → Bool) (passes : ℕ → ℕ) (reads : Reading) (own : TaskRun) (ended : ℕ) (trace : List Did) (at : ℕ) (t : TaskState) (to : ℕ) (u : TaskState) : Type 0 where

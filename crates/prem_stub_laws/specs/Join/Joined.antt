@@ -1,9 +1,9 @@
 -- What the compiler's side shows of an image, so that the machine's side makes it sound.
 use Rattle.std.specs.Prelude.{◌≡◌, ℕ, ◌+◌, ◌*◌, ◌/◌, ◌<◌, ◌≤◌, Bool, true, All, List, length, None}
-use Rattle.prem_image.specs.Records.{IsImage}
+use Rattle.prem_order.specs.Order.{OrderRule}
 use Rattle.prem_isa.specs.Plain.{TaskRun, PlainState, plain_run}
 use Rattle.prem_lru.specs.Entries.{ReplacementRule}
-use Rattle.prem_order.specs.Order.{OrderRule}
+use Rattle.prem_image.specs.Records.{IsImage}
 use Rattle.prem_cycle.specs.State.{Setup, record_of}
 pub use Rattle.prem_cycle.specs.Alone.{run_in}
 use Rattle.prem_cycle.specs.Cycle.{log_size}

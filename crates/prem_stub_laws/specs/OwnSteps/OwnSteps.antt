@@ -3,6 +3,9 @@ use Rattle.std.specs.Prelude.{◌≡◌, ◌<◌, ◌≤◌, ℕ, ◌+◌, ◌/�
 use Rattle.prem_plant.specs.Places.{Extent}
 use Rattle.prem_isa.specs.declared.instr.Instr.{Instr}
 use Rattle.prem_isa.specs.Plain.{TaskState, Did}
+use Rattle.prem_cycle.specs.State.{Setup}
+use Rattle.prem_runs.specs.Position.Own.{IsFree}
+use Rattle.prem_sound.specs.Script.Conforms.{takes_nothing, IsOwnDid}
 use Rattle.prem_meaning.specs.Resolved.{Routine}
 use Rattle.prem_asm.specs.Pieces.{Pieces, size_of}
 use Rattle.prem_asm.specs.Quiet.{EachPiece}
@@ -13,9 +16,6 @@ use Rattle.prem_layout.specs.Parts.{Passes as PassCount}
 use Rattle.prem_code_laws.specs.GenLaws.Table.{Codes, code_calls}
 use Rattle.prem_code_laws.specs.PrefetchLaws.Premises.{stub_code}
 use Rattle.prem_code_laws.specs.PrefetchLaws.Confined.{StubSteps}
-use Rattle.prem_cycle.specs.State.{Setup}
-use Rattle.prem_runs.specs.Position.Own.{IsFree}
-use Rattle.prem_sound.specs.Script.Conforms.{takes_nothing, IsOwnDid}
 use Rattle.prem_stub_laws.specs.Coverage.Fetched.{HaveBytes, SomeHolds}
 
 -- what a guard allows is own, and no own byte is in a device's line

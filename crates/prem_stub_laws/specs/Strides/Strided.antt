@@ -2,24 +2,24 @@
 use Rattle.std.specs.Prelude.{◌≡◌, ◌⊎◌, ◌<◌, ℕ, Bool, false, List, length}
 use Rattle.prem_plant.specs.declared.plant.Plant.{Plant}
 use Rattle.prem_isa.specs.declared.instr.Instr.{Instr}
-use Rattle.prem_cycle.specs.State.{Setup}
 use Rattle.prem_isa.specs.Plain.{TaskRun, TaskState}
+use Rattle.prem_cycle.specs.State.{Setup}
+use Rattle.prem_meaning.specs.Resolved.{Routine}
 use Rattle.prem_asm.specs.Pieces.{Pieces, no_pieces, straight, address_of, either, repeat, call_to, code_of}
 use Rattle.prem_asm.specs.Quiet.{EachInstr, EachPiece}
 use Rattle.prem_asm.specs.Runs.{Setting, Calls, Ending, Falls, Returns, Stuck, is_return, run}
 use Rattle.prem_asm.specs.Steps.{AllCode}
 use Rattle.prem_template.specs.Steps.{Parts, function_code}
-use Rattle.prem_meaning.specs.Resolved.{Routine}
 use Rattle.prem_layout.specs.Plans.{Plan}
 use Rattle.prem_layout.specs.Bounds.{CodeTable, job_weight}
 use Rattle.prem_layout.specs.Placed.{Placed}
-use Rattle.prem_code_laws.specs.GenLaws.Table.{Codes, with_part, code_calls}
-use Rattle.prem_code_laws.specs.GenLaws.Whole.{no_calls}
-use Rattle.prem_stub_laws.specs.StubFits.Within.{codes_in}
 use Rattle.prem_layout.specs.Stretch.Paths.{stretch_of}
 use Rattle.prem_layout.specs.Stretch.Sums.{Sums, summed, greatest, part_sums, sums_at, job_sums, marked_sums, IsWithin}
+use Rattle.prem_code_laws.specs.GenLaws.Table.{Codes, with_part, code_calls}
+use Rattle.prem_code_laws.specs.GenLaws.Whole.{no_calls}
 use Rattle.prem_weave.specs.Path.Woven.{CalmAt}
 use Rattle.prem_weave.specs.Pace.Pace.{strides}
+use Rattle.prem_stub_laws.specs.StubFits.Within.{codes_in}
 use Rattle.prem_stub_laws.specs.JobWeave.Calm.{CalmStands}
 use Rattle.prem_stub_laws.specs.JobWeave.Charged.{CallIsStrided, start_sums}
 use Rattle.prem_stub_laws.specs.JobWeave.Confined.{Confinement, confined_calls}

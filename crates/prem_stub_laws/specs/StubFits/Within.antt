@@ -4,21 +4,21 @@ use Rattle.std.specs.List.{list_any}
 use Rattle.prem_plant.specs.declared.plant.Plant.{Plant}
 use Rattle.prem_plant.specs.declared.plant.Device.{Device}
 use Rattle.prem_plant.specs.Places.{Extent}
+use Rattle.prem_order.specs.Order.{is_in}
+use Rattle.prem_meaning.specs.Resolved.{Resolved}
 use Rattle.prem_asm.specs.Pieces.{Pieces, no_pieces}
 use Rattle.prem_asm.specs.Quiet.{IsQuiet, EachPiece}
 use Rattle.prem_asm.specs.Runs.{Guard}
 use Rattle.prem_template.specs.Parts.{is_marked_at, marked_before, stub_part}
 use Rattle.prem_layout.specs.Plans.{Plan, plans_of}
-use Rattle.prem_meaning.specs.Resolved.{Resolved}
 use Rattle.prem_layout.specs.Parts.{stub_passes}
 use Rattle.prem_layout.specs.Footprint.{TaskPlaces, index_of, place_at, stack_range, region_range, ranges_of, footprint_of}
 use Rattle.prem_layout.specs.Stubs.{stub_of}
 use Rattle.prem_layout.specs.Placed.{Coded, Placed, placed_from}
 use Rattle.prem_code_laws.specs.GenLaws.Table.{Codes}
 use Rattle.prem_code_laws.specs.PrefetchLaws.Confined.{with_guard}
-use Rattle.prem_stub_laws.specs.Coverage.Fetched.{HaveBytes}
-use Rattle.prem_order.specs.Order.{is_in}
 use Rattle.prem_weave.specs.Segment.Sections.{StubIsWithin}
+use Rattle.prem_stub_laws.specs.Coverage.Fetched.{HaveBytes}
 use Rattle.prem_stub_laws.specs.Own.Owned.{is_held}
 use Rattle.prem_stub_laws.specs.Initial.Initial.{AreLaid}
 use Rattle.prem_stub_laws.specs.Initial.Standing.{setting_of}

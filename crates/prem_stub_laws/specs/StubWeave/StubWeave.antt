@@ -2,9 +2,11 @@
 use Rattle.std.specs.Prelude.{◌≡◌, ◌<◌, ◌≤◌, ℕ, ◌+◌, ◌*◌, ◌^◌, pos, List, length}
 use Rattle.prem_plant.specs.declared.plant.Plant.{Plant}
 use Rattle.prem_plant.specs.Places.{Extent}
+use Rattle.prem_order.specs.Order.{HaveRoom}
 use Rattle.prem_isa.specs.declared.instr.Instr.TheVariants.{Jalr, PmMem}
 use Rattle.prem_isa.specs.Decode.{cost_of}
 use Rattle.prem_isa.specs.Plain.{TaskRun, TaskState}
+use Rattle.prem_sound.specs.Script.Scripts.{Reading}
 use Rattle.prem_asm.specs.Pieces.{weighted}
 use Rattle.prem_asm.specs.Runs.{Guard, Setting, run}
 use Rattle.prem_asm.specs.Steps.{Grows}
@@ -15,8 +17,6 @@ use Rattle.prem_code_laws.specs.GenLaws.Table.{Codes, code_calls}
 use Rattle.prem_code_laws.specs.GenLaws.Land.{IsRunning, PartStands}
 use Rattle.prem_code_laws.specs.PrefetchLaws.Premises.{Lines, AllInMemory, stub_code}
 use Rattle.prem_code_laws.specs.PrefetchLaws.Confined.{with_guard}
-use Rattle.prem_order.specs.Order.{HaveRoom}
-use Rattle.prem_sound.specs.Script.Scripts.{Reading}
 use Rattle.prem_weave.specs.Segment.Bodies.{code_costs}
 use Rattle.prem_weave.specs.Segment.Sections.{StubIsWithin}
 use Rattle.prem_weave.specs.Path.Woven.{woven_way}

@@ -1,8 +1,8 @@
 -- The plans of a well-formed program are legal.
-use Rattle.std.proofs.Common.{◌≡◌, ◌≢◌, ◌<◌, ◌≤◌, ℕ, zero, suc, ◌+◌, ◌^◌, Bool, true, false, not, ◌||◌, cond, List, [], ◌∷◌, ◌++◌, length, map, Option, None, Some, refl, ap, sym, ◌∙◌, subst, arith, true≢false, All}
 use Rattle.std.specs.Prelude.{slice_get, slice_index_or, unwrap_or, is_some, nat_lt, nat_le}
 use Rattle.std.specs.List.{list_any}
 use Rattle.std.specs.Option.{option_map}
+use Rattle.std.proofs.Common.{◌≡◌, ◌≢◌, ◌<◌, ◌≤◌, ℕ, zero, suc, ◌+◌, ◌^◌, Bool, true, false, not, ◌||◌, cond, List, [], ◌∷◌, ◌++◌, length, map, Option, None, Some, refl, ap, sym, ◌∙◌, subst, arith, true≢false, All}
 use Rattle.std.proofs.lemmas.Bool.{and_parts, leb-true}
 use Rattle.std.proofs.lemmas.List.{length-map}
 use Rattle.std.proofs.lemmas.Option.{slice_get_within, slice_get-map}
@@ -23,8 +23,8 @@ use Rattle.prem_ranges.proofs.Basics.{none_right}
 use Rattle.prem_ranges.proofs.Watches.{reaches_itself}
 use Rattle.prem_template.specs.Parts.{is_marked_at, parts_of}
 use Rattle.prem_layout.specs.Plans.{Plan, region_of, plan_of, plan_before, plans_from}
-use Rattle.prem_weave.specs.Promise.Promised.{stated_of, stated_at}
 use Rattle.prem_code_laws.specs.GenLaws.Quiet.{AreQuiet}
+use Rattle.prem_weave.specs.Promise.Promised.{stated_of, stated_at}
 use Rattle.prem_task_laws.specs.TaskFrame.Plans.{IsRegion, region_holds, IsLegalPlan}
 use Rattle.prem_task_laws.specs.LegalPlans.Laws.{PlansAreLegal}
 use Rattle.prem_task_laws.proofs.LegalPlansLemmas.Kept.{Kept, program_kept, function_kept, is_false, other_name, texts_are}
@@ -67,8 +67,8 @@ plan_at p n (f ∷ fs) j plan e = by f.text.mark refl j e (λ i g. plan_at p (n 
 -- ---- rows of the table of callees
 
 record RowAt (fs : List Routine) (n c : ℕ) : Type 0 where
-  routine : Routine
-  there : slice_get fs n ≡ Some routine
+  pub routine : Routine
+  pub there : slice_get fs n ≡ Some routine
   among : IsAmong c (callees_in routine.body)
 
 row_at : (fs : List Routine) (n c : ℕ) → IsAmong c (slice_index_or (callee_table fs) n []) → RowAt fs n c
@@ -129,7 +129,7 @@ module _ (x : ProgramText) (formed : IsWellFormed x) (turns : ℕ → ℕ) (n : 
   mark_is : kept.text.mark ≡ Some mark
   mark_is = ap (λ (t : FunctionText). t.mark) text_is ∙ is
 
-  marked : is_marked f ≡ true
+  pub marked : is_marked f ≡ true
   marked = ap is_some is
 
   below : n < length (resolve turns x).routines

@@ -1,7 +1,7 @@
 -- What a marked function before `job` reaches takes and puts no words, and calls no marked function.
-use Rattle.std.proofs.Common.{◌≡◌, ◌≢◌, ℕ, ◌+◌, Bool, true, false, not, ◌&&◌, List, [], ◌++◌, length, map, Option, None, Some, refl, sym, ◌∙◌, true≢false}
 use Rattle.std.specs.Prelude.{slice_get, is_some}
 use Rattle.std.specs.Option.{option_map}
+use Rattle.std.proofs.Common.{◌≡◌, ◌≢◌, ℕ, ◌+◌, Bool, true, false, not, ◌&&◌, List, [], ◌++◌, length, map, Option, None, Some, refl, sym, ◌∙◌, true≢false}
 use Rattle.prem_syntax.specs.declared.tree.Place.{Place}
 use Rattle.prem_syntax.specs.declared.meaning.Meaning.{Meaning}
 use Rattle.prem_syntax.specs.declared.meaning.Meaning.TheVariants.{Nothing, Local as LocalName, Scalar as ScalarName, Array as ArrayName, Function as FunctionName}
@@ -53,7 +53,7 @@ module _ (parts : Parts) (a : Around) (links : LinksAre parts a.scope.functions)
       (links f.0 kept.text kept.there (unmarked (is_marked_text kept.text) kept.marked), q)
 
   mutual
-    pub statement_quiet : (turns : ℕ → ℕ) (n : ℕ) (s : Statement) (rest : Steps) → in_statement a s ≡ [] → AreQuiet parts rest → AreQuiet parts (resolve_statement a.scope turns n s rest)
+    statement_quiet : (turns : ℕ → ℕ) (n : ℕ) (s : Statement) (rest : Steps) → in_statement a s ≡ [] → AreQuiet parts rest → AreQuiet parts (resolve_statement a.scope turns n s rest)
     statement_quiet turns n (block at body) rest e q = statements_quiet turns n body rest e q
     statement_quiet turns n (if_then at condition taken) rest e q =
         (statement_quiet turns n taken Done (none_right (in_expression a.scope condition) (in_statement a taken) e) tt, (tt, q))

@@ -1,19 +1,19 @@
 -- The regions of a plan are there, and hold what the limits of its program allow.
-use Rattle.std.proofs.Common.{◌≡◌, ◌<◌, ℕ, ◌+◌, Bool, true, false, ◌&&◌, ◌||◌, cond, List, [], ◌∷◌, ◌++◌, map, Option, None, Some, refl, ap, sym, ◌∙◌, subst, eqb, ⊎_elim, All}
 use Rattle.std.specs.Prelude.{pos, int_le, slice_get, nat_lt, nat_le, unwrap_or}
 use Rattle.std.specs.List.{list_any, flat_map}
 use Rattle.std.specs.Option.{option_map}
 use Rattle.std.specs.Str.{bytes_eq}
+use Rattle.std.proofs.Common.{◌≡◌, ◌<◌, ℕ, ◌+◌, Bool, true, false, ◌&&◌, ◌||◌, cond, List, [], ◌∷◌, ◌++◌, map, Option, None, Some, refl, ap, sym, ◌∙◌, subst, eqb, ⊎_elim, All}
 use Rattle.std.proofs.lemmas.Bool.{and_parts, and_from, or_cases, ltb-false, leb-false}
 use Rattle.std.proofs.lemmas.List.Elements.{All-nil, All-cons}
 use Rattle.std.proofs.lemmas.Option.{slice_get_within}
+use Rattle.prem_word.specs.Ranges.{exactly, from_to, encloses}
 use Rattle.prem_syntax.specs.declared.rules.TypeRule.TheVariants.{Region as RegionRule}
 use Rattle.prem_syntax.specs.Syntax.{Text, RegionText, MarkText, GlobalVariable, FunctionText}
 use Rattle.prem_meaning.specs.Rules.{OfTypes}
 use Rattle.prem_meaning.specs.Breaches.{in_region, in_regions}
 use Rattle.prem_meaning.specs.Resolve.{Scope, find_named, find_global}
 use Rattle.prem_meaning.specs.Resolved.{Routine}
-use Rattle.prem_word.specs.Ranges.{exactly, from_to, encloses}
 use Rattle.prem_ranges.specs.Regions.{Area, area_of, areas_of, area_holds, areas_hold, areas_in}
 use Rattle.prem_ranges.proofs.Basics.{none_left, none_right}
 use Rattle.prem_ranges.proofs.Named.{kept_rule, found_at, slice_get-more}

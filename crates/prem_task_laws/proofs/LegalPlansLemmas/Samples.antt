@@ -1,6 +1,6 @@
 -- Plans of programs that are well-formed, computed; and one whose function stands behind `job`, so that it isn't quiet.
-use Rattle.std.proofs.Common.{◌≡◌, ℕ, true, [], ◌∷◌, None, Some, refl}
 use Rattle.std.specs.Prelude.{slice_get, codes}
+use Rattle.std.proofs.Common.{◌≡◌, ℕ, true, [], ◌∷◌, None, Some, refl}
 use Rattle.prem_plant.specs.declared.plant.Target.{Target}
 use Rattle.prem_order.specs.Order.{is_in}
 use Rattle.prem_syntax.specs.declared.tree.Ty.TheVariants.{Void}

@@ -1,7 +1,7 @@
 -- The functions of a program that keeps the rules fit, `job` among them, and those before it that have no mark.
-use Rattle.std.proofs.Common.{◌≡◌, ◌<◌, ℕ, ◌+◌, ◌%◌, ◌^◌, ◌⊎◌, inl, inr, ⊎_elim, Bool, true, false, cond, List, [], ◌∷◌, ◌++◌, length, map, Option, None, Some, refl, ap, sym, ◌∙◌, subst, arith}
 use Rattle.std.specs.Prelude.{slice_get, ◌&&◌, not, unwrap_or}
 use Rattle.std.specs.Option.{option_map}
+use Rattle.std.proofs.Common.{◌≡◌, ◌<◌, ℕ, ◌+◌, ◌%◌, ◌^◌, ◌⊎◌, inl, inr, ⊎_elim, Bool, true, false, cond, List, [], ◌∷◌, ◌++◌, length, map, Option, None, Some, refl, ap, sym, ◌∙◌, subst, arith}
 use Rattle.std.proofs.lemmas.Bool.{and_parts, lt-ltb, ltb-true}
 use Rattle.prem_plant.specs.declared.plant.Target.{Target}
 use Rattle.prem_isa.specs.declared.effect.Phase.{Phase}
@@ -12,24 +12,24 @@ use Rattle.prem_meaning.specs.Resolved.{Steps, Done, SetLocal, SetScalar, SetEle
 use Rattle.prem_meaning.specs.Reach.{IsAmong, callees_in as called_in}
 use Rattle.prem_meaning.specs.Statements.{is_marked}
 use Rattle.prem_meaning.specs.Breaches.{is_job_name}
+use Rattle.prem_ranges.specs.After.{known_parameter, at_body}
+use Rattle.prem_ranges.specs.Sound.{kinds_of}
+use Rattle.prem_ranges.specs.GroupThree.{limits_of}
+use Rattle.prem_ranges.proofs.WellFormed.{not_no}
 use Rattle.prem_asm.specs.Pieces.{size_of}
 use Rattle.prem_asm.specs.Runs.{Setting}
 use Rattle.prem_template.specs.Frames.{locals_of, frame_if_there, deepest, depth_of}
 use Rattle.prem_template.specs.Limits.{Excess, frame, depth, excess, first_of, too_deep_among, too_deep_in, too_deep_result, too_deep_function}
 use Rattle.prem_template.specs.Parts.{is_marked_at, stub_part, code_part, parts_of}
 use Rattle.prem_template.specs.Steps.{function_code}
-use Rattle.prem_ranges.specs.After.{known_parameter, at_body}
-use Rattle.prem_ranges.specs.Sound.{kinds_of}
-use Rattle.prem_ranges.specs.GroupThree.{limits_of}
-use Rattle.prem_ranges.proofs.WellFormed.{not_no}
 use Rattle.prem_template.proofs.Depths.{first_none}
 use Rattle.prem_layout.specs.Rules.{of_excess}
+use Rattle.prem_fit_laws.specs.Named.{StepsNamed, FunctionNamed}
+use Rattle.prem_fit_laws.proofs.Steps.{programs_named}
 use Rattle.prem_code_laws.specs.GenLaws.Functions.{FunctionFits}
 use Rattle.prem_code_laws.specs.GenLaws.Quiet.{AreQuiet}
 use Rattle.prem_code_laws.specs.GenLaws.Table.{Codes, PlainFits}
 use Rattle.prem_stub_laws.specs.Initial.Standing.{globals_in}
-use Rattle.prem_fit_laws.specs.Named.{StepsNamed, FunctionNamed}
-use Rattle.prem_fit_laws.proofs.Steps.{programs_named}
 use Rattle.prem_task_laws.specs.TaskFrame.Callees.{params_if_there, returns_if_there, callees_in, job_callable, plain_callable, HasCodes}
 use Rattle.prem_task_laws.specs.ProgramFits.Fits.{KeepsProgramRules, TasksKeepProgramRules, CallsAmong, FunctionsFit, JobsFit, PlainTasksFit}
 use Rattle.prem_task_laws.proofs.ProgramFitsLemmas.Rules.{StepsKept, RulesKept, rules_kept, get_below}

@@ -1,15 +1,15 @@
 -- What a marked function reaches, without it, calls one another alone, and has no marks.
-use Rattle.std.proofs.Common.{◌≡◌, ◌<◌, ◌≤◌, ℕ, zero, suc, ◌+◌, ◌⊎◌, inl, inr, ⊎_elim, Bool, true, false, cond, eqb, List, [], ◌∷◌, ◌++◌, length, set, replicate, slice_index_or, Option, None, Some, refl, ap, sym, ◌∙◌, subst, arith}
 use Rattle.std.specs.Prelude.{◌≢◌, slice_get, ◌&&◌, ◌==◌, not}
+use Rattle.std.proofs.Common.{◌≡◌, ◌<◌, ◌≤◌, ℕ, zero, suc, ◌+◌, ◌⊎◌, inl, inr, ⊎_elim, Bool, true, false, cond, eqb, List, [], ◌∷◌, ◌++◌, length, set, replicate, slice_index_or, Option, None, Some, refl, ap, sym, ◌∙◌, subst, arith}
 use Rattle.std.proofs.lemmas.Bool.{cases_lt, cases_eq, true≢false, eq-eqb, ne_eqb, eqb-true, and_parts}
 use Rattle.std.proofs.lemmas.List.{get_or-set_same, get_or-set_other, get_or-replicate, length-replicate, length-map, get_or_past}
 use Rattle.prem_plant.specs.declared.plant.Target.TheVariants.{Rv32i}
+use Rattle.prem_order.specs.Order.{is_in}
 use Rattle.prem_isa.specs.declared.effect.Phase.TheVariants.{Execution}
 use Rattle.prem_syntax.specs.Syntax.{MarkText, ProgramText}
 use Rattle.prem_meaning.specs.Resolved.{Steps, Done, SetLocal, SetScalar, SetElement, Output, Input, If, For, While, Call, Routine, Resolved}
 use Rattle.prem_meaning.specs.Reach.{callees_in as called_in, callee_table, is_in as is_member, with_all, with_all_if, with_callees_below, members_from, reach_set, reach_of, IsAmong, CallsBefore}
 use Rattle.prem_meaning.proofs.Reach.{reach_is_closed}
-use Rattle.prem_order.specs.Order.{is_in}
 use Rattle.prem_asm.specs.Runs.{Setting}
 use Rattle.prem_template.specs.Frames.{locals_of, frame_if_there, deepest, depth_of}
 use Rattle.prem_template.specs.Parts.{is_marked_at, stub_part, code_part, parts_of}

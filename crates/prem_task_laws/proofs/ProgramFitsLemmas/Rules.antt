@@ -1,9 +1,9 @@
 -- What the rules of programs say of the calls and loops in the steps of each function, and of `job`.
-use Rattle.std.proofs.Common.{◌≡◌, ◌<◌, ◌≤◌, ℕ, zero, suc, ◌+◌, ◌^◌, Bool, true, false, cond, List, [], ◌∷◌, ◌++◌, length, map, Option, None, Some, refl, ap, sym, ◌∙◌, subst, arith}
 use Rattle.std.specs.Prelude.{⊤, nat_lt, nat_le, ◌&&◌, ◌||◌, ◌==◌, not, slice_get, is_some, is_none, unwrap_or, codes}
 use Rattle.std.specs.List.{list_any}
 use Rattle.std.specs.Option.{option_map}
 use Rattle.std.specs.Str.{bytes_eq}
+use Rattle.std.proofs.Common.{◌≡◌, ◌<◌, ◌≤◌, ℕ, zero, suc, ◌+◌, ◌^◌, Bool, true, false, cond, List, [], ◌∷◌, ◌++◌, length, map, Option, None, Some, refl, ap, sym, ◌∙◌, subst, arith}
 use Rattle.std.proofs.lemmas.Bool.{and_parts, leb-true}
 use Rattle.prem_syntax.specs.declared.tree.Place.{Place}
 use Rattle.prem_syntax.specs.declared.meaning.Meaning.{Meaning}
@@ -18,12 +18,12 @@ use Rattle.prem_meaning.specs.Reach.{is_in_set}
 use Rattle.prem_meaning.specs.Statements.{is_marked}
 use Rattle.prem_meaning.specs.Breaches.{Around, around, if_at, if_broken, is_between, is_loop, is_marked_text, is_void, is_narrow, has_name, is_job_name, in_expression, in_expressions, in_names, in_call_target, in_callee, in_option, in_statement, in_statements, in_regions, regions_of, in_heading, in_parameters, in_locals, parameter_texts, in_function, in_global, in_items, item_names, reached, in_limits, breaches}
 use Rattle.prem_meaning.specs.GroupTwo.{group_two, IsWellFormed}
-use Rattle.prem_template.specs.Parts.{is_marked_at}
 use Rattle.prem_ranges.specs.Sound.{TypedProgram}
 use Rattle.prem_ranges.proofs.Basics.{none_left, none_right}
 use Rattle.prem_ranges.proofs.Named.{kept_rule, kept_rule_not, none_broken, found_at, found_named}
 use Rattle.prem_ranges.proofs.WellFormed.{well_formed_is_typed}
 use Rattle.prem_ranges.proofs.AnalysisSound.{is_none_tells}
+use Rattle.prem_template.specs.Parts.{is_marked_at}
 use Rattle.prem_task_laws.specs.TaskFrame.Callees.{returns_if_there}
 
 -- ---- steps
@@ -48,8 +48,8 @@ StepsKept p is_job (Call at target f arguments rest) = IsKept p is_job target f 
 
 -- the functions of a text have their marks and results in the program
 record HasFunctions (p : Resolved) (fs : List FunctionText) : Type 0 where
-  marks : (i : ℕ) (text : FunctionText) → slice_get fs i ≡ Some text → is_marked_at p.routines i ≡ is_marked_text text
-  returns : (i : ℕ) (text : FunctionText) → slice_get fs i ≡ Some text → is_void text.ty ≡ false → returns_if_there (slice_get p.routines i) ≡ true
+  pub marks : (i : ℕ) (text : FunctionText) → slice_get fs i ≡ Some text → is_marked_at p.routines i ≡ is_marked_text text
+  pub returns : (i : ℕ) (text : FunctionText) → slice_get fs i ≡ Some text → is_void text.ty ≡ false → returns_if_there (slice_get p.routines i) ≡ true
 
 only_job : (marked is_job : Bool) → (marked && not is_job) ≡ false → marked ≡ true → is_job ≡ true
 only_job true true e h = refl
@@ -144,8 +144,8 @@ module _ (p : Resolved) where
 
 -- what is said of a function at its name, and of its body
 record FunctionKept (p : Resolved) (fs : List FunctionText) (n : ℕ) (gs : List GlobalVariable) (within : Bool) (f : FunctionText) : Type 0 where
-  returns : is_void f.ty ≡ false → is_some f.result ≡ true
-  unmarked : is_job_name f.name ≡ true → is_marked_text f ≡ false
+  pub returns : is_void f.ty ≡ false → is_some f.result ≡ true
+  pub unmarked : is_job_name f.name ≡ true → is_marked_text f ≡ false
   body : in_statements (around (scope_in fs gs f) n within f) f.body ≡ []
 
 has_result : (void some : Bool) → ((void && some) || (not void && not some)) ≡ false → void ≡ false → some ≡ true
@@ -191,8 +191,8 @@ function_kept p fs taken n within gs earlier f e =
 
 -- the headings of all
 record Heading (f : FunctionText) : Type 0 where
-  returns : is_void f.ty ≡ false → is_some f.result ≡ true
-  unmarked : is_job_name f.name ≡ true → is_marked_text f ≡ false
+  pub returns : is_void f.ty ≡ false → is_some f.result ≡ true
+  pub unmarked : is_job_name f.name ≡ true → is_marked_text f ≡ false
 
 headings : (p : Resolved) (fs : List FunctionText) (taken : List Text) (within : List Bool) (n : ℕ) (gs : List GlobalVariable) (earlier : List Text) (items : ProgramText) → in_items fs taken within n gs earlier items ≡ [] →
     (i : ℕ) (f : FunctionText) → slice_get (functions_of items) i ≡ Some f → Heading f
@@ -226,7 +226,7 @@ record IsOfText (routines : List Routine) (i : ℕ) (text : FunctionText) : Type
   routine : Routine
   there : slice_get routines i ≡ Some routine
   of_text : routine.text ≡ text
-  returns : is_some routine.result ≡ is_some text.result
+  pub returns : is_some routine.result ≡ is_some text.result
 
 some_mapped : {A B : Type 0} (f : A → B) (o : Option A) → is_some (option_map f o) ≡ is_some o
 some_mapped f None = refl

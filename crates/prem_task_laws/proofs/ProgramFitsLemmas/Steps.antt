@@ -1,10 +1,10 @@
 -- The steps of a function fit, where their terms are typed and its calls keep the rules.
 use Rattle.std.proofs.Common.{◌≡◌, ◌≤◌, ℕ, ◌+◌, ◌*◌, ◌%◌, ◌⊎◌, inl, inr, ⊎_elim, Bool, true, false, cond, List, [], ◌∷◌, ◌++◌, length, map, Option, None, Some, refl, ap, sym, ◌∙◌, subst, arith, length-append}
 use Rattle.std.proofs.lemmas.List.{length-map}
-use Rattle.prem_plant.specs.declared.plant.Target.{Target}
 use Rattle.prem_word.specs.declared.kind.Kind.{Kind}
 use Rattle.prem_word.specs.declared.kind.BinOp.{BinOp}
 use Rattle.prem_word.specs.declared.kind.BinOp.TheVariants.{AndAlso as AndAlsoOp, OrElse as OrElseOp}
+use Rattle.prem_plant.specs.declared.plant.Target.{Target}
 use Rattle.prem_isa.specs.declared.effect.Phase.{Phase}
 use Rattle.prem_isa.specs.declared.effect.Phase.TheVariants.{Compatible}
 use Rattle.prem_syntax.specs.declared.tree.Ty.{Ty}
@@ -19,13 +19,13 @@ use Rattle.prem_template.specs.Frames.{locals_of, slots_of, frame_of, frame_if_t
 use Rattle.prem_template.specs.Limits.{first_of, too_deep, too_deep_among, too_deep_in, too_deep_result}
 use Rattle.prem_template.specs.Parts.{is_marked_at, parts_of}
 use Rattle.prem_template.proofs.Depths.{first_none}
+use Rattle.prem_fit_laws.specs.Named.{TargetNamed, StepsNamed}
 use Rattle.prem_code_laws.specs.ExprLaws.Gives.{IsOperator, TermFits}
 use Rattle.prem_code_laws.specs.GenLaws.Fits.{Fits, AllFit, TargetFits, CallFits, StepsFit}
 use Rattle.prem_code_laws.specs.GenLaws.Functions.{DeclaredFit, ResultFits}
 use Rattle.prem_code_laws.specs.GenLaws.Quiet.{AreQuiet}
 use Rattle.prem_code_laws.proofs.GenLawsLemmas.Functions.{rounded}
 use Rattle.prem_stub_laws.specs.Initial.Standing.{type_of, globals_in}
-use Rattle.prem_fit_laws.specs.Named.{TargetNamed, StepsNamed}
 use Rattle.prem_task_laws.specs.TaskFrame.Callees.{params_if_there, callees_in}
 use Rattle.prem_task_laws.specs.ProgramFits.Fits.{CallsAmong}
 use Rattle.prem_task_laws.proofs.ProgramFitsLemmas.Rules.{IsKept, StepsKept, get_below}

@@ -1,6 +1,6 @@
 -- What a placed task may load and store.
-use Rattle.std.proofs.Common.{◌≡◌, ℕ, zero, suc, ◌+◌, ◌/◌, ◌<◌, ◌≤◌, refl, ap, ◌∙◌, subst, arith, true, false, Bool, List, length, map, ⊎_elim}
 use Rattle.std.specs.Prelude.{◌||◌}
+use Rattle.std.proofs.Common.{◌≡◌, ℕ, zero, suc, ◌+◌, ◌/◌, ◌<◌, ◌≤◌, refl, ap, ◌∙◌, subst, arith, true, false, Bool, List, length, map, ⊎_elim}
 use Rattle.std.proofs.lemmas.Bool.{or_cases, cases_lt}
 use Rattle.std.proofs.lemmas.Option.{slice_get_within}
 use Rattle.std.proofs.Math.Bool.{or-true}
@@ -11,9 +11,9 @@ use Rattle.prem_runs.specs.Position.Own.{IsFree}
 use Rattle.prem_layout.specs.Footprint.{TaskPlaces, place_at, global_range, stack_place, numbers_from}
 use Rattle.prem_layout.specs.Placed.{Coded, Placed}
 use Rattle.prem_stub_laws.specs.Own.Owned.{is_held, own_of, setup_of}
-use Rattle.prem_stub_laws.proofs.OwnLemmas.Owned.{own_bytes_are_free, held, holds}
 use Rattle.prem_stub_laws.specs.Initial.Standing.{code_in}
 use Rattle.prem_stub_laws.specs.StubFits.Within.{any_holds}
+use Rattle.prem_stub_laws.proofs.OwnLemmas.Owned.{own_bytes_are_free, held, holds}
 use Rattle.prem_task_laws.specs.TaskFrame.Frames.{data_ranges}
 use Rattle.prem_task_laws.specs.TaskBytes.Parts.{IsPlacedTask, HasParts, TaskGuardIsOwn, KeepsItsCode, TaskCodeIsOwn}
 use Rattle.prem_task_laws.proofs.TaskBytesLemmas.Parts.{part_own, parts_of_task}
@@ -22,10 +22,10 @@ use Rattle.prem_task_laws.proofs.TaskBytesLemmas.Parts.{part_own, parts_of_task}
 
 -- a global, among those from a number on
 record GlobalHeld (t : TaskPlaces) (n count a : ℕ) : Type 0 where
-  number : ℕ
+  pub number : ℕ
   from : n ≤ number
   below : number < n + count
-  byte : Holds (global_range t number) a
+  pub byte : Holds (global_range t number) a
 
 global_held : (t : TaskPlaces) (n count a : ℕ) → any_holds (map (global_range t) (numbers_from n count)) a ≡ true → GlobalHeld t n count a
 global_held t n zero a h = cc
@@ -45,7 +45,7 @@ pub record DataHeld (t : Placed) (a : ℕ) : Type 0 where
   pub behind : 1 + t.at.functions + length t.at.marked ≤ number
   pub byte : Holds (place_at t.at number) a
 
-pub data_held : (t : Placed) (a : ℕ) → any_holds (data_ranges t) a ≡ true → DataHeld t a
+data_held : (t : Placed) (a : ℕ) → any_holds (data_ranges t) a ≡ true → DataHeld t a
 data_held t a h =
     ⊎_elim
     (λ (e : is_held (stack_place t.at) a ≡ true). record { number = 1 + t.at.functions + length t.at.marked + length t.at.elements; behind = omega arith; byte = held (stack_place t.at) a e })

@@ -1,6 +1,6 @@
 -- The parts of a placed task: whose bytes these are, and how long they are.
-use Rattle.std.proofs.Common.{◌≡◌, ℕ, zero, suc, ◌+◌, ◌<◌, ◌≤◌, refl, ap, sym, ◌∙◌, subst, arith, true, List, [], ◌∷◌, ◌++◌, length, map, take, drop, length-append, Some, slice_get, ⊎_elim}
 use Rattle.std.specs.Prelude.{◌||◌, slice_index_or, option_map}
+use Rattle.std.proofs.Common.{◌≡◌, ℕ, zero, suc, ◌+◌, ◌<◌, ◌≤◌, refl, ap, sym, ◌∙◌, subst, arith, true, List, [], ◌∷◌, ◌++◌, length, map, take, drop, length-append, Some, slice_get, ⊎_elim}
 use Rattle.std.proofs.lemmas.Bool.{cases_lt}
 use Rattle.std.proofs.Math.Bool.{or-true}
 use Rattle.std.proofs.lemmas.List.{length-map}
@@ -21,9 +21,9 @@ use Rattle.prem_layout.specs.Placed.{Coded, Placed, part_total, task_places, pla
 use Rattle.prem_layout.proofs.StubLaws.{stubs_have_their_size}
 use Rattle.prem_layout.proofs.TaskParts.{HasSizes, parts_sized, code_counted, globals_counted, get_behind}
 use Rattle.prem_stub_laws.specs.Own.Owned.{is_held, owns_first, own_of}
-use Rattle.prem_stub_laws.proofs.OwnLemmas.Owned.{task_long, holds}
 use Rattle.prem_stub_laws.specs.Initial.Initial.{AreLaid}
 use Rattle.prem_stub_laws.specs.Initial.Standing.{code_in}
+use Rattle.prem_stub_laws.proofs.OwnLemmas.Owned.{task_long, holds}
 use Rattle.prem_stub_laws.proofs.InitialLemmas.Places.{IsSized, Sized, sized_left, sized_right}
 use Rattle.prem_stub_laws.proofs.InitialLemmas.Whole.{there}
 use Rattle.prem_stub_laws.proofs.InitialLemmas.Tasks.{TaskAt, task_at, parts_have_addresses}
@@ -32,7 +32,7 @@ use Rattle.prem_task_laws.specs.TaskBytes.Parts.{IsPlacedTask, PartCounts, PartS
 
 -- ---- own bytes
 
-pub nothing_held : (a : ℕ) → Holds no_place a → ⊥
+nothing_held : (a : ℕ) → Holds no_place a → ⊥
 nothing_held a h = let x : a < 0 = h.1 in omega (arith, x)
 
 own_taken : (n i a : ℕ) (places : List Extent) → Holds (slice_index_or (take n places) i no_place) a → owns_first n places a ≡ true

@@ -1,8 +1,8 @@
 -- What the marked functions of a placed task may touch.
-use Rattle.std.proofs.Common.{◌≡◌, ℕ, zero, suc, ◌+◌, ◌-◌, ◌*◌, ◌<◌, ◌≤◌, inl, inr, refl, ap, sym, ◌∙◌, subst, arith, true, false, Bool, List, [], ◌∷◌, ◌++◌, length, map, Option, None, Some, slice_get, ⊎_elim}
 use Rattle.std.specs.Prelude.{slice_index_or, unwrap_or, option_map}
 use Rattle.std.specs.Int.{next_multiple_of}
 use Rattle.std.specs.List.{AllByRecursion}
+use Rattle.std.proofs.Common.{◌≡◌, ℕ, zero, suc, ◌+◌, ◌-◌, ◌*◌, ◌<◌, ◌≤◌, inl, inr, refl, ap, sym, ◌∙◌, subst, arith, true, false, Bool, List, [], ◌∷◌, ◌++◌, length, map, Option, None, Some, slice_get, ⊎_elim}
 use Rattle.std.proofs.Math.Nat.{mul-le-mul_right, suc-mul, mul_comm}
 use Rattle.std.proofs.lemmas.Bool.{or_cases}
 use Rattle.std.proofs.lemmas.List.Elements.{recursion_from_All}
@@ -27,9 +27,9 @@ use Rattle.prem_layout.proofs.TaskParts.{multiple_above}
 use Rattle.prem_code_laws.specs.PrefetchLaws.Premises.{AllInMemory}
 use Rattle.prem_stub_laws.specs.Coverage.Fetched.{HaveBytes, SomeHolds}
 use Rattle.prem_stub_laws.specs.Own.Owned.{is_held, own_of}
-use Rattle.prem_stub_laws.proofs.OwnLemmas.Owned.{held}
 use Rattle.prem_stub_laws.specs.Initial.Standing.{count_of}
 use Rattle.prem_stub_laws.specs.StubFits.Within.{any_holds}
+use Rattle.prem_stub_laws.proofs.OwnLemmas.Owned.{held}
 use Rattle.prem_task_laws.specs.TaskFrame.Frames.{data_ranges, job_frame}
 use Rattle.prem_task_laws.specs.TaskFrame.Plans.{IsRegion, IsLegalPlan}
 use Rattle.prem_task_laws.specs.TaskBytes.Parts.{IsPlacedTask, HasParts}

@@ -1,6 +1,6 @@
 -- A task with a marked function at the default places of the default plant, computed: it is a placed task.
-use Rattle.std.proofs.Common.{refl, List, [], ◌∷◌, map, lit≤}
 use Rattle.std.specs.Prelude.{codes}
+use Rattle.std.proofs.Common.{refl, List, [], ◌∷◌, map, lit≤}
 use Rattle.std.proofs.lemmas.List.Elements.{All-nil, All-cons}
 use Rattle.prem_plant.specs.Places.{Extent, AreLawful, default_places}
 use Rattle.prem_plant.specs.Ranges.{default_plant}
@@ -28,7 +28,7 @@ marked_is_lawful =
     let may = parts_may_be_placed (stub_passes default_plant) default_plant.line (map sized_of (marked ∷ [])) [] (lit≤ tt) in
     areas_apart default_plant.line default_plant.memory (parts_of default_plant [] (marked ∷ [])) (lit≤ tt) may.0 (lit≤ tt) may.1
 
-pub marked_is_placed : IsPlacedTask default_plant [] (marked ∷ []) marked_places 0 marked_placed
+marked_is_placed : IsPlacedTask default_plant [] (marked ∷ []) marked_places 0 marked_placed
 marked_is_placed = record {
   plant_is = default_is_plant;
   coded = All-cons HasCode marked [] refl (All-nil HasCode);

@@ -1,33 +1,33 @@
 -- A placed task's own run where it starts.
-use Rattle.std.proofs.Common.{◌≡◌, ℕ, ◌+◌, ◌%◌, ◌<◌, ◌≤◌, refl, ap, sym, ◌∙◌, subst, arith, true, List, length, map}
 use Rattle.std.specs.Prelude.{slice_index, option_map}
+use Rattle.std.proofs.Common.{◌≡◌, ℕ, ◌+◌, ◌%◌, ◌<◌, ◌≤◌, refl, ap, sym, ◌∙◌, subst, arith, true, List, length, map}
 use Rattle.std.proofs.lemmas.Option.{slice_get-map, get_or_from_slice_get}
 use Rattle.prem_plant.specs.declared.plant.Plant.{Plant}
 use Rattle.prem_plant.specs.declared.plant.Device.{Device}
 use Rattle.prem_plant.specs.Places.{Extent}
 use Rattle.prem_plant.proofs.Powers.{line_of_words}
-use Rattle.prem_image.specs.declared.image.TaskRecord.{TaskRecord}
 use Rattle.prem_isa.specs.declared.instr.Instr.TheVariants.{PmDone}
 use Rattle.prem_isa.specs.Decode.{word_of}
+use Rattle.prem_image.specs.declared.image.TaskRecord.{TaskRecord}
 use Rattle.prem_cycle.specs.State.{record_of, no_record}
 use Rattle.prem_runs.specs.Position.Own.{AllOwn}
 use Rattle.prem_asm.specs.OwnRun.{Here, Stand}
 use Rattle.prem_asm.specs.Pieces.{no_pieces, call_to, code_of}
 use Rattle.prem_asm.proofs.Flat.{flat_ok, flat_near}
+use Rattle.prem_template.specs.Frames.{stack_size}
 use Rattle.prem_layout.specs.Bounds.{start_code}
 use Rattle.prem_layout.specs.Footprint.{place_at, stack_place}
 use Rattle.prem_layout.specs.Image.{task_record}
 use Rattle.prem_layout.specs.Parts.{code_part}
 use Rattle.prem_layout.specs.Placed.{Coded, Placed, placed_from}
-use Rattle.prem_template.specs.Frames.{stack_size}
 use Rattle.prem_stub_laws.specs.Own.Owned.{own_of, setup_of}
 use Rattle.prem_stub_laws.specs.Initial.Initial.{content_of}
 use Rattle.prem_stub_laws.proofs.InitialLemmas.Standing.{code_stands_first}
 use Rattle.prem_stub_laws.proofs.InitialLemmas.Values.{memory_is_content}
-use Rattle.prem_task_laws.proofs.TaskGroundLemmas.Depths.{stack_size_whole}
 use Rattle.prem_task_laws.specs.TaskFrame.Frames.{task_guard}
 use Rattle.prem_task_laws.specs.TaskBytes.Parts.{IsPlacedTask, HasParts}
 use Rattle.prem_task_laws.specs.TaskBytes.Start.{LinesFit, RunStarts, PartsStandAll, StartStandsFirst}
+use Rattle.prem_task_laws.proofs.TaskGroundLemmas.Depths.{stack_size_whole}
 use Rattle.prem_task_laws.proofs.TaskBytesLemmas.Parts.{laid, parts_of_task}
 use Rattle.prem_task_laws.proofs.TaskBytesLemmas.Guards.{keeps_its_code}
 

@@ -1,7 +1,7 @@
 -- Depths of functions: of whole frames, and each the frame of the function with the greatest depth of its callees.
-use Rattle.std.proofs.Common.{◌≡◌, ℕ, zero, suc, ◌+◌, ◌*◌, ◌%◌, ◌<◌, ◌≤◌, ◌⊎◌, max, Bool, true, false, cond, eqb, refl, ap, sym, subst, ◌∙◌, arith, inl, inr, List, [], ◌∷◌, ◌++◌, length, Option, None, Some, slice_get}
 use Rattle.std.specs.Prelude.{slice_index_or}
 use Rattle.std.specs.Int.{next_multiple_of}
+use Rattle.std.proofs.Common.{◌≡◌, ℕ, zero, suc, ◌+◌, ◌*◌, ◌%◌, ◌<◌, ◌≤◌, ◌⊎◌, max, Bool, true, false, cond, eqb, refl, ap, sym, subst, ◌∙◌, arith, inl, inr, List, [], ◌∷◌, ◌++◌, length, Option, None, Some, slice_get}
 use Rattle.std.proofs.lemmas.Bool.{eq-eqb, ne_eqb}
 use Rattle.std.proofs.lemmas.Option.{slice_get_within}
 use Rattle.prem_meaning.specs.Reach.{callees_in, callee_table, IsAmong, CallsBefore}
@@ -94,7 +94,7 @@ below_whole fs zero f = refl
 below_whole fs (suc n) f =
     if_whole (eqb f n) (depth_if_there (depth_below fs n) (slice_get fs n)) (depth_below fs n f) (depth_whole (depth_below fs n) (below_whole fs n) (slice_get fs n)) (below_whole fs n f)
 
-pub depth_of_whole : (fs : List Routine) (n : ℕ) → depth_of fs n % 16 ≡ 0
+depth_of_whole : (fs : List Routine) (n : ℕ) → depth_of fs n % 16 ≡ 0
 depth_of_whole fs n = below_whole fs (length fs) n
 
 marked_whole : (d : ℕ → ℕ) → ((n : ℕ) → IsWhole (d n)) → (n : ℕ) (fs : List Routine) → IsWhole (deepest_marked d n fs)

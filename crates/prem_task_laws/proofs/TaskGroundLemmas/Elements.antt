@@ -1,7 +1,7 @@
 -- The bytes of the globals and of the stack of a placed task.
-use Rattle.std.proofs.Common.{◌≡◌, ℕ, zero, suc, ◌+◌, ◌*◌, ◌%◌, ◌^◌, ◌<◌, ◌≤◌, ◌⊎◌, Bool, true, refl, ap, sym, subst, ◌∙◌, arith, inl, inr, List, [], ◌∷◌, ◌++◌, length, map, Option, None, Some, slice_get}
 use Rattle.std.specs.Prelude.{◌||◌, take, drop, slice_index_or, unwrap_or}
 use Rattle.std.specs.Int.{next_multiple_of}
+use Rattle.std.proofs.Common.{◌≡◌, ℕ, zero, suc, ◌+◌, ◌*◌, ◌%◌, ◌^◌, ◌<◌, ◌≤◌, ◌⊎◌, Bool, true, refl, ap, sym, subst, ◌∙◌, arith, inl, inr, List, [], ◌∷◌, ◌++◌, length, map, Option, None, Some, slice_get}
 use Rattle.std.proofs.lemmas.List.{length-map}
 use Rattle.std.proofs.lemmas.Option.{slice_get_within}
 use Rattle.std.proofs.Math.Bool.{or-true}
@@ -22,13 +22,13 @@ use Rattle.prem_layout.specs.Plans.{plans_of}
 use Rattle.prem_layout.specs.Parts.{element_size as stored_size, global_size, stub_passes, part, part_count, code_parts, stub_parts, global_parts}
 use Rattle.prem_layout.specs.Footprint.{no_place, place_at, global_range, stack_place}
 use Rattle.prem_layout.specs.Placed.{Coded, Placed, part_total, task_places, placed_at}
-use Rattle.prem_code_laws.specs.ExprLaws.Relation.{element_size, AreApart}
 use Rattle.prem_layout.proofs.TaskParts.{place_in, code_counted, globals_counted}
+use Rattle.prem_code_laws.specs.ExprLaws.Relation.{element_size, AreApart}
 use Rattle.prem_weave.specs.Promise.Promised.{bytes_of, element_count, TheseStand, TheseAreOwn}
 use Rattle.prem_stub_laws.specs.Own.Owned.{is_held, owns_first}
-use Rattle.prem_stub_laws.proofs.OwnLemmas.Owned.{holds}
 use Rattle.prem_stub_laws.specs.Initial.Initial.{AreLaid}
 use Rattle.prem_stub_laws.specs.Initial.Standing.{setting_of, type_of, count_of, globals_in}
+use Rattle.prem_stub_laws.proofs.OwnLemmas.Owned.{holds}
 use Rattle.prem_stub_laws.proofs.InitialLemmas.Places.{Sized, sized_left, sized_right}
 use Rattle.prem_stub_laws.proofs.InitialLemmas.Tasks.{TaskAt, task_at}
 use Rattle.prem_stub_laws.proofs.InitialLemmas.Values.{part_same}

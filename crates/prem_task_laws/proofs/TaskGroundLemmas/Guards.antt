@@ -1,7 +1,7 @@
 -- What the guards of a placed task allow: its stack and its globals, or the stack range and the regions of a marked function.
-use Rattle.std.proofs.Common.{◌≡◌, ℕ, zero, suc, ◌+◌, ◌*◌, ◌<◌, ◌≤◌, Bool, true, false, eqb, leb, refl, ap, subst, ◌∙◌, arith, ⊎_elim, List, [], ◌∷◌, map, Some, slice_get}
 use Rattle.std.specs.Prelude.{◌&&◌, ◌||◌, slice_index_or}
 use Rattle.std.specs.List.{list_any}
+use Rattle.std.proofs.Common.{◌≡◌, ℕ, zero, suc, ◌+◌, ◌*◌, ◌<◌, ◌≤◌, Bool, true, false, eqb, leb, refl, ap, subst, ◌∙◌, arith, ⊎_elim, List, [], ◌∷◌, map, Some, slice_get}
 use Rattle.std.proofs.lemmas.Bool.{and_parts, or_cases, leb-true, eqb-true}
 use Rattle.std.proofs.Math.Bool.{or-true}
 use Rattle.std.proofs.Math.Nat.{mul-le-mul_right, suc-mul}
@@ -11,8 +11,8 @@ use Rattle.prem_layout.specs.Plans.{Region}
 use Rattle.prem_layout.specs.Parts.{element_size as stored_size}
 use Rattle.prem_layout.specs.Footprint.{TaskPlaces, region_range, numbers_from}
 use Rattle.prem_stub_laws.specs.Own.Owned.{is_held}
-use Rattle.prem_stub_laws.proofs.OwnLemmas.Owned.{held, holds}
 use Rattle.prem_stub_laws.specs.StubFits.Within.{any_holds}
+use Rattle.prem_stub_laws.proofs.OwnLemmas.Owned.{held, holds}
 use Rattle.prem_task_laws.specs.TaskFrame.Plans.{region_holds}
 
 -- ---- places that hold a byte

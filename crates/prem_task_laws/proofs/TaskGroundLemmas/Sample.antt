@@ -1,12 +1,13 @@
 -- A task with a marked function at its default places: it keeps the rules, its plan is lawful, and its frames stand.
-use Rattle.std.proofs.Common.{◌≡◌, ℕ, zero, suc, ◌<◌, refl, subst, arith, Bool, true, false, cond, eqb, List, [], ◌∷◌, Some, slice_get, length, lit≤, lit<}
 use Rattle.std.specs.Prelude.{codes}
+use Rattle.std.proofs.Common.{◌≡◌, ℕ, zero, suc, ◌<◌, refl, subst, arith, Bool, true, false, cond, eqb, List, [], ◌∷◌, Some, slice_get, length, lit≤, lit<}
 use Rattle.std.proofs.lemmas.Bool.{eqb-true}
 use Rattle.std.proofs.lemmas.List.Elements.{All-nil, All-cons}
 use Rattle.prem_plant.specs.declared.plant.Target.{Target}
 use Rattle.prem_plant.specs.Ranges.{default_plant}
 use Rattle.prem_plant.specs.Places.{Extent, default_places}
 use Rattle.prem_plant.proofs.Powers.{default_is_plant}
+use Rattle.prem_order.specs.Order.{is_in}
 use Rattle.prem_meaning.specs.GroupTwo.{group_two}
 use Rattle.prem_meaning.specs.Reach.{callee_table, CallsBefore}
 use Rattle.prem_meaning.specs.Resolved.{Routine}
@@ -17,7 +18,6 @@ use Rattle.prem_layout.specs.Placed.{Coded, Placed, parts_of, placed_at, task_pl
 use Rattle.prem_layout.proofs.Samples.{m_text, m_turns}
 use Rattle.prem_layout.proofs.Tasks.{coded}
 use Rattle.prem_code_laws.specs.GenLaws.Quiet.{AreQuiet}
-use Rattle.prem_order.specs.Order.{is_in}
 use Rattle.prem_stub_laws.specs.Own.Owned.{HasCode}
 use Rattle.prem_stub_laws.specs.Initial.Initial.{AreLaid}
 use Rattle.prem_stub_laws.proofs.InitialLemmas.Defaults.{defaults_are_laid}
@@ -34,7 +34,7 @@ task_m = coded (codes "m") 1000 1 m_text m_turns
 abbrev pub m_places : List Extent
 m_places = default_places (parts_of default_plant [] (task_m ∷ []))
 
-pub m_is_laid : AreLaid default_plant [] (task_m ∷ []) m_places
+m_is_laid : AreLaid default_plant [] (task_m ∷ []) m_places
 m_is_laid = defaults_are_laid default_plant [] (task_m ∷ []) (All-cons HasCode task_m [] refl (All-nil HasCode)) (lit≤ tt) (lit≤ tt)
 
 abbrev pub m_placed : Placed
@@ -55,7 +55,7 @@ m_keeps = record {
   nine = refl;
 }
 
-pub m_before : CallsBefore (callee_table m_placed.task.program.routines)
+m_before : CallsBefore (callee_table m_placed.task.program.routines)
 m_before = callees_are_before default_plant m_text m_placed m_keeps
 
 -- ---- its frames
@@ -63,7 +63,7 @@ m_before = callees_are_before default_plant m_text m_placed m_keeps
 abbrev pub m_job : (f : Routine) × (slice_get m_placed.task.program.routines m_placed.task.program.job ≡ Some f)
 m_job = (_, refl)
 
-pub m_job_stands : JobStands default_plant m_placed m_job.0
+m_job_stands : JobStands default_plant m_placed m_job.0
 m_job_stands = jobs_stand default_plant default_is_plant [] (task_m ∷ []) m_places m_is_laid 0 m_placed refl m_job.0 m_job.1
 
 abbrev pub m_plan : Plan
@@ -85,7 +85,7 @@ m_quiet : (target : Target) (m : ℕ) (f : Routine) → is_in m (0 ∷ []) ≡ t
 m_quiet target zero f i e = let same : m_set.0 ≡ f = cc in subst (λ (g : Routine). AreQuiet (code_parts_of target m_placed.task.program.routines) g.body) same tt
 m_quiet target (suc m) f i e = absurd (only_itself m i)
 
-pub m_is_legal : IsLegalPlan m_text m_placed.task.program m_plan
+m_is_legal : IsLegalPlan m_text m_placed.task.program m_plan
 m_is_legal = record {
   routine = m_set.0;
   there = m_set.1;
@@ -105,7 +105,7 @@ m_is_legal = record {
   inside = λ g j h. h;
 }
 
-pub m_plan_stands : PlanStands default_plant m_text m_placed m_plan m_set.0
+m_plan_stands : PlanStands default_plant m_text m_placed m_plan m_set.0
 m_plan_stands = plans_stand default_plant default_is_plant [] (task_m ∷ []) m_places m_is_laid 0 m_placed refl m_before m_text m_plan m_is_legal m_set.0 m_set.1
 
 -- the frame of `job` is the upper half of the stack, and that of its marked function the lower half

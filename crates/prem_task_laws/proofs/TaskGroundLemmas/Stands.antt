@@ -1,7 +1,7 @@
 -- The frames of a placed task stand on lawful ground.
-use Rattle.std.proofs.Common.{◌≡◌, ℕ, suc, ◌+◌, ◌-◌, ◌*◌, ◌%◌, ◌^◌, ◌<◌, ◌≤◌, ◌⊎◌, true, false, refl, ap, sym, subst, ◌∙◌, arith, inl, inr, List, [], ◌∷◌, length, map, Some, slice_get}
 use Rattle.std.specs.Prelude.{All, slice_index_or, unwrap_or}
 use Rattle.std.specs.Int.{next_multiple_of}
+use Rattle.std.proofs.Common.{◌≡◌, ℕ, suc, ◌+◌, ◌-◌, ◌*◌, ◌%◌, ◌^◌, ◌<◌, ◌≤◌, ◌⊎◌, true, false, refl, ap, sym, subst, ◌∙◌, arith, inl, inr, List, [], ◌∷◌, length, map, Some, slice_get}
 use Rattle.std.proofs.Math.Nat.{mul-le-mul_right}
 use Rattle.prem_plant.specs.declared.plant.Plant.{Plant}
 use Rattle.prem_plant.specs.declared.plant.Device.{Device}
@@ -24,8 +24,8 @@ use Rattle.prem_code_laws.specs.ExprLaws.Relation.{Stack, element_at, element_si
 use Rattle.prem_code_laws.proofs.ExprLawsLemmas.Cells.{all_between}
 use Rattle.prem_stub_laws.specs.Initial.Initial.{AreLaid}
 use Rattle.prem_stub_laws.specs.Initial.Standing.{setting_of, type_of, count_of, globals_in}
-use Rattle.prem_stub_laws.proofs.InitialLemmas.Tasks.{TaskAt, task_at, parts_have_addresses}
 use Rattle.prem_stub_laws.specs.StubFits.Within.{any_holds, guard_of}
+use Rattle.prem_stub_laws.proofs.InitialLemmas.Tasks.{TaskAt, task_at, parts_have_addresses}
 use Rattle.prem_task_laws.specs.TaskFrame.Frames.{data_ranges, task_guard, slots_if_there, slots_at, job_frame, plan_frame}
 use Rattle.prem_task_laws.specs.TaskFrame.Plans.{IsRegion, IsLegalPlan}
 use Rattle.prem_task_laws.specs.TaskGround.Stands.{JobStands, JobsStand, PlanStands, PlansStand}

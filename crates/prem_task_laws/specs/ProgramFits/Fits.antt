@@ -1,9 +1,10 @@
 -- What the rules of programs give that the laws on code ask of a program's functions.
 use Rattle.std.specs.Prelude.{◌≡◌, ◌<◌, ◌≤◌, ◌⊎◌, ℕ, ◌+◌, ◌%◌, ◌^◌, Bool, true, false, [], length, None, Some, slice_get}
 use Rattle.prem_plant.specs.declared.plant.Target.{Target}
+use Rattle.prem_plant.specs.declared.plant.Plant.{Plant}
+use Rattle.prem_order.specs.Order.{is_in}
 use Rattle.prem_isa.specs.declared.effect.Phase.{Phase}
 use Rattle.prem_isa.specs.declared.effect.Phase.TheVariants.{Compatible, Execution}
-use Rattle.prem_plant.specs.declared.plant.Plant.{Plant}
 use Rattle.prem_syntax.specs.Syntax.{ProgramText}
 use Rattle.prem_syntax.specs.Literals.{ProgramHasWords}
 use Rattle.prem_meaning.specs.GroupTwo.{IsWellFormed}
@@ -11,7 +12,6 @@ use Rattle.prem_meaning.specs.Resolve.{resolve}
 use Rattle.prem_meaning.specs.Resolved.{Steps, Routine, Resolved}
 use Rattle.prem_meaning.specs.Statements.{is_marked}
 use Rattle.prem_meaning.specs.Reach.{IsAmong, callees_in as called_in}
-use Rattle.prem_order.specs.Order.{is_in}
 use Rattle.prem_asm.specs.Pieces.{size_of}
 use Rattle.prem_asm.specs.Runs.{Setting}
 use Rattle.prem_template.specs.Frames.{depth_of, deepest}

@@ -3,8 +3,8 @@ use Rattle.std.specs.Prelude.{◌≡◌, ◌<◌, ◌≤◌, ℕ, true, false, B
 use Rattle.prem_plant.specs.declared.plant.Plant.{Plant}
 use Rattle.prem_plant.specs.declared.plant.Device.{Device}
 use Rattle.prem_plant.specs.Places.{Extent}
-use Rattle.prem_syntax.specs.Syntax.{ProgramText}
 use Rattle.prem_cycle.specs.State.{Setup}
+use Rattle.prem_syntax.specs.Syntax.{ProgramText}
 use Rattle.prem_asm.specs.Runs.{Setting}
 use Rattle.prem_asm.specs.Steps.{Grows}
 use Rattle.prem_template.specs.Parts.{codes_of, parts_of}

@@ -1,5 +1,6 @@
 -- What is known of the functions of a program that may be called, and the code that they have.
 use Rattle.std.specs.Prelude.{◌≡◌, ◌<◌, ℕ, ◌+◌, ◌%◌, ◌^◌, ◌==◌, nat_lt, Bool, true, false, not, ◌&&◌, length, Option, None, Some, slice_get, is_some}
+use Rattle.prem_order.specs.Order.{is_in}
 use Rattle.prem_meaning.specs.Resolved.{Routine, Resolved}
 use Rattle.prem_asm.specs.Pieces.{size_of}
 use Rattle.prem_asm.specs.Runs.{Setting}
@@ -7,7 +8,6 @@ use Rattle.prem_template.specs.Frames.{depth_of}
 use Rattle.prem_template.specs.Parts.{is_marked_at, stub_part, parts_of}
 use Rattle.prem_template.specs.Steps.{function_code}
 use Rattle.prem_layout.specs.Plans.{Plan}
-use Rattle.prem_order.specs.Order.{is_in}
 use Rattle.prem_code_laws.specs.GenLaws.Fits.{Callees}
 use Rattle.prem_code_laws.specs.GenLaws.Table.{Codes}
 

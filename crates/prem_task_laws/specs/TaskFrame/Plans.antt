@@ -2,6 +2,7 @@
 use Rattle.std.specs.Prelude.{◌≡◌, ◌≢◌, ◌<◌, ◌≤◌, ℕ, ◌+◌, ◌^◌, ◌==◌, nat_le, Bool, true, ◌&&◌, All, List, length, Some, slice_get}
 use Rattle.std.specs.List.{list_any}
 use Rattle.prem_plant.specs.declared.plant.Target.{Target}
+use Rattle.prem_order.specs.Order.{is_in}
 use Rattle.prem_syntax.specs.Syntax.{ProgramText, GlobalVariable}
 use Rattle.prem_meaning.specs.Resolved.{Routine, Resolved}
 use Rattle.prem_meaning.specs.Statements.{is_marked}
@@ -9,7 +10,6 @@ use Rattle.prem_ranges.specs.GroupThree.{limits_of}
 use Rattle.prem_template.specs.Frames.{frame_of, frame_at, depth_of, stack_size}
 use Rattle.prem_template.specs.Parts.{parts_of}
 use Rattle.prem_layout.specs.Plans.{Region, Plan}
-use Rattle.prem_order.specs.Order.{is_in}
 use Rattle.prem_code_laws.specs.GenLaws.Quiet.{AreQuiet}
 use Rattle.prem_weave.specs.Promise.Promised.{stated_at}
 use Rattle.prem_stub_laws.specs.Initial.Standing.{count_of}

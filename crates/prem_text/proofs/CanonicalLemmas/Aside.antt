@@ -1,6 +1,6 @@
 -- Trees that are the same, places aside, have the same canonical tokens.
-use Rattle.std.proofs.Common.{◌≡◌, ℕ, ◌+◌, nat_lt, List, [], ◌∷◌, ◌++◌, Option, None, Some, refl, map}
 use Rattle.std.specs.Option.{option_map}
+use Rattle.std.proofs.Common.{◌≡◌, ℕ, ◌+◌, nat_lt, List, [], ◌∷◌, ◌++◌, Option, None, Some, refl, map}
 use Rattle.prem_syntax.specs.Syntax.{Text, Expression, literal, variable, element, unary, binary, Statement, block, if_then, if_else, bounded_while, counting_for, assign, output, input, call, Statements, no_statements, next_statement, Parameter, LocalVariable, RegionText, MarkText, ItemText, global_item, function_item, ProgramText}
 use Rattle.prem_lexer.specs.declared.token.token.Mark.TheVariants as m
 use Rattle.prem_lexer.specs.declared.token.token.Word.TheVariants as w

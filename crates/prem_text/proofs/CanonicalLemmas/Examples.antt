@@ -1,6 +1,6 @@
 -- Trees with their canonical spellings.
-use Rattle.std.proofs.Common.{◌≡◌, ℕ, pos, negsuc, true, false, [], ◌∷◌, None, Some, codes, refl}
 use Rattle.std.specs.Fmt.{digits}
+use Rattle.std.proofs.Common.{◌≡◌, ℕ, pos, negsuc, true, false, [], ◌∷◌, None, Some, codes, refl}
 use Rattle.prem_word.specs.declared.kind.Kind.TheVariants.{Int, Unsigned}
 use Rattle.prem_word.specs.declared.kind.BinOp.TheVariants.{Add, Sub, Mul, Shl, Eq, And, OrElse, AndAlso, Lt}
 use Rattle.prem_syntax.specs.declared.tree.UnOp.TheVariants.{Neg, Not}

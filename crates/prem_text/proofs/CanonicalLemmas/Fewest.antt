@@ -12,10 +12,10 @@ use Rattle.prem_lexer.specs.Token.Lexeme.{Lexeme, name, mark, Seen}
 use Rattle.prem_text.specs.Grammar.Expression.{infix_of, prefix_of, level_of}
 use Rattle.prem_text.specs.Grammar.Phrases.{Phrase, of_literal, of_name, of_element, of_bracket, of_prefix, of_infix, spelled, tree, level, Binds, IsExpression}
 use Rattle.prem_text.specs.Grammar.Reader.{nowhere}
-use Rattle.prem_text.proofs.GrammarLemmas.Steps.{level_some}
 use Rattle.prem_text.specs.Canonical.Unplaced.{unplaced_expression}
 use Rattle.prem_text.specs.Canonical.Canonical.{infix_sign, prefix_sign, enclosed, expression_lexemes}
 use Rattle.prem_text.specs.Canonical.Law.{lexemes_of, parentheses, HasFewest}
+use Rattle.prem_text.proofs.GrammarLemmas.Steps.{level_some}
 use Rattle.prem_text.proofs.CanonicalLemmas.Parts.{Are, none, next}
 use Rattle.prem_text.proofs.CanonicalLemmas.Aside.{expression_aside}
 use Rattle.prem_text.proofs.CanonicalLemmas.Expressions.{expression_spelling}

@@ -12,9 +12,9 @@ use Rattle.prem_lexer.specs.Tokens.{first_token, start, step, lex, tokens_of}
 use Rattle.prem_text.specs.Grammar.Phrases.{Phrase, of_literal, of_bracket, of_infix}
 use Rattle.prem_text.specs.Grammar.Reader.{nowhere}
 use Rattle.prem_text.specs.Texts.{reads}
-use Rattle.prem_text.proofs.Whole.{text_sound}
 use Rattle.prem_text.specs.Canonical.Printed.{printed}
 use Rattle.prem_text.specs.Canonical.Law.{IsOfText, IsTextOf, ReadBack}
+use Rattle.prem_text.proofs.Whole.{text_sound}
 use Rattle.prem_text.proofs.CanonicalLemmas.Examples.{lit, outs}
 use Rattle.prem_text.proofs.CanonicalLemmas.Read.{canonical_divided, canonical_read}
 use Rattle.prem_text.proofs.CanonicalLemmas.Fewest.{fewest_parentheses}

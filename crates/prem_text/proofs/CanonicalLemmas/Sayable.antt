@@ -7,8 +7,8 @@ use Rattle.prem_text.specs.Spelling.Spellings.{Spells, as_name, as_word, as_lite
 use Rattle.prem_text.specs.Spelling.Division.{Divides, up_to, gap, token, AreTokens}
 use Rattle.prem_text.specs.Grammar.Slots.{Slot, a_name, is_name, fits, text_of, value_of, value_at}
 use Rattle.prem_text.specs.Grammar.Phrases.{IsRow, name_or_none, name_at}
-use Rattle.prem_text.proofs.GrammarLemmas.Taken.{nth}
 use Rattle.prem_text.specs.Canonical.Canonical.{number_lexeme, constant_lexemes}
+use Rattle.prem_text.proofs.GrammarLemmas.Taken.{nth}
 
 -- ---- lexemes
 

@@ -1,8 +1,8 @@
 -- Lexemes are spelled by their bytes.
-use Rattle.std.proofs.Common.{◌≡◌, ◌≤◌, ◌<◌, ℕ, zero, suc, ◌+◌, ◌*◌, ◌^◌, ◌==◌, true, false, List, [], ◌∷◌, length, get_or, refl, ap, sym, subst, ◌∙◌, arith, add-zero, mul-one, map}
 use Rattle.std.specs.Fmt.{decimal}
 use Rattle.std.specs.Char.{digit_value as digit_of}
 use Rattle.std.specs.Str.Parse.{AllDigits, digits_value, digits_value_after}
+use Rattle.std.proofs.Common.{◌≡◌, ◌≤◌, ◌<◌, ℕ, zero, suc, ◌+◌, ◌*◌, ◌^◌, ◌==◌, true, false, List, [], ◌∷◌, length, get_or, refl, ap, sym, subst, ◌∙◌, arith, add-zero, mul-one, map}
 use Rattle.std.proofs.lemmas.Bool.{and_from}
 use Rattle.std.proofs.lemmas.Bool.Decides.{nat_tests}
 use Rattle.std.proofs.lemmas.Fmt.{decimal_is_IsNumeral, decimal_digit, first_decimal}
@@ -22,8 +22,8 @@ use Rattle.prem_lexer.specs.Literal.{digit_value}
 use Rattle.prem_lexer.specs.Tokens.{is_digit}
 use Rattle.prem_text.specs.Spelling.Spellings.{StandsIn, at_front, further, every, value_in, Digits, just_zero, decimal as decimal_digits, as_int, as_suffixed, Reserved, used, without_use, Spells, as_word, as_literal, as_mark}
 use Rattle.prem_text.specs.Spelling.Spelled.{AreSpellings}
-use Rattle.prem_text.proofs.SpellingLemmas.Literals.{shifted}
 use Rattle.prem_text.specs.Canonical.Printed.{word_bytes, mark_bytes, lexeme_bytes, spelling_of}
+use Rattle.prem_text.proofs.SpellingLemmas.Literals.{shifted}
 use Rattle.prem_text.proofs.CanonicalLemmas.Sayable.{AreSayable, IsSayable}
 
 -- ---- digits

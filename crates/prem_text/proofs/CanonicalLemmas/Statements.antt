@@ -1,6 +1,6 @@
 -- A statement has a phrase whose tokens are its canonical ones.
-use Rattle.std.proofs.Common.{◌≡◌, Bool, true, false, List, [], ◌∷◌, ◌++◌, Option, None, Some, refl, ap, sym, ◌∙◌, arith, append-nil, map, ◌&&◌}
 use Rattle.std.specs.Option.{option_map}
+use Rattle.std.proofs.Common.{◌≡◌, Bool, true, false, List, [], ◌∷◌, ◌++◌, Option, None, Some, refl, ap, sym, ◌∙◌, arith, append-nil, map, ◌&&◌}
 use Rattle.prem_syntax.specs.Syntax.{Text, Expression, Statement, block, if_then, if_else, bounded_while, counting_for, assign, output, input, call, Statements, no_statements, next_statement}
 use Rattle.prem_lexer.specs.declared.token.token.Mark.TheVariants as m
 use Rattle.prem_lexer.specs.declared.token.token.Word.TheVariants as w

@@ -135,7 +135,7 @@ mutual
   all_shaped (next_phrase first rest) is = (shaped first is.0, all_shaped rest is.1)
 
 mutual
-  pub statement_said : (p : StatementPhrase) → IsStatement p → AreSaid (written p) → AreSayable (statement_lexemes (meant p))
+  statement_said : (p : StatementPhrase) → IsStatement p → AreSaid (written p) → AreSayable (statement_lexemes (meant p))
   statement_said (of_block head inner tail) is s =
       let body = back head (all_written inner) (front (head ++ all_written inner) tail s) in
       both (statements_lexemes (listed (all_meant inner))) (mark m.CloseBrace ∷ []) (all_statements_said inner is.1 body) tt

@@ -1,9 +1,9 @@
 -- What the grammar spells is read.
 use Rattle.std.proofs.Common.{◌≡◌, ◌≤◌, ℕ, List, Option, None, Some, true, false, refl, ap, ◌∙◌, arith, nat_le, nat_lt}
 use Rattle.std.proofs.lemmas.Bool.Decides.{nat_tests}
+use Rattle.prem_word.specs.declared.kind.BinOp.{BinOp}
 use Rattle.prem_syntax.specs.declared.tree.Place.{Place}
 use Rattle.prem_syntax.specs.declared.tree.UnOp.{UnOp}
-use Rattle.prem_word.specs.declared.kind.BinOp.{BinOp}
 use Rattle.prem_syntax.specs.Syntax.{Text, Expression, literal, variable, element, unary, binary}
 use Rattle.prem_lexer.specs.declared.token.token.Mark.{Mark}
 use Rattle.prem_lexer.specs.declared.token.token.Mark.TheVariants as m
@@ -12,7 +12,7 @@ use Rattle.prem_text.specs.Grammar.Expression.{infix_of, level_of, Open, bottom,
 use Rattle.prem_text.specs.Grammar.Phrases.{Phrase, of_literal, of_name, of_element, of_bracket, of_prefix, of_infix, spelled, tree, level, Binds}
 use Rattle.prem_text.proofs.GrammarLemmas.Steps.{Goes, done, more, goes_append, Loose, AtMost, Waits, Same, level_small, waits_more, waits_sign, prefix_moves, bind_stays}
 
-pub loose_more : (least k l : ℕ) (around : Open) → k ≤ l → Loose least k around → Loose least l around
+loose_more : (least k l : ℕ) (around : Open) → k ≤ l → Loose least k around → Loose least l around
 loose_more least k l bottom le loose = omega arith
 loose_more least k l (under at op around) le loose = omega arith
 loose_more least k l (right_of left at op around) le loose = omega arith

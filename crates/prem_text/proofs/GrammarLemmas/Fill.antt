@@ -23,7 +23,7 @@ pub record Begins (pre : List Seen) : Type 0 where
   pub spells : all_written phrases ≡ pre ++ more
 
 -- so do their first ones
-pub begins_less : (pre xs : List Seen) → Begins (pre ++ xs) → Begins pre
+begins_less : (pre xs : List Seen) → Begins (pre ++ xs) → Begins pre
 begins_less pre xs b = record { more = xs ++ b.more; phrases = b.phrases; right = b.right; spells = b.spells ∙ append_assoc pre xs b.more }
 
 pub begins_same : (xs ys : List Seen) → xs ≡ ys → Begins xs → Begins ys
@@ -73,7 +73,7 @@ sample minus_minus = mark m.MinusMinus
 sample minus_equal = mark m.MinusEqual
 sample the_end = end_of_text
 
-pub sample_fits : (s : Slot) → fits s (sample s) ≡ true
+sample_fits : (s : Slot) → fits s (sample s) ≡ true
 sample_fits left_parenthesis = refl
 sample_fits _ = refl
 
@@ -94,12 +94,12 @@ zero_short least le = (omega (arith, le), tt)
 abbrev pub empty_block : StatementPhrase
 empty_block = of_block (samples (left_brace ∷ [])) no_phrases (samples (right_brace ∷ []))
 
-pub empty_right : IsStatement empty_block
+empty_right : IsStatement empty_block
 empty_right = ((refl, tt), tt, (refl, tt))
 
 -- ---- what is open is closed
 
-pub fill_around : (around : Around) (pre : List Seen) (s : StatementPhrase) → Opened around pre → IsStatement s → Begins (pre ++ written s)
+fill_around : (around : Around) (pre : List Seen) (s : StatementPhrase) → Opened around pre → IsStatement s → Begins (pre ++ written s)
 fill_around _ _ s (body_opened ss all) right = record { more = []; phrases = with_phrase ss s; right = with_right ss s all right; spells = with_written ss s ∙ sym (append-nil (all_written ss ++ written s)) }
 fill_around _ _ s (block_opened head ss around pre row all opened) right =
     let close = samples (right_brace ∷ []) in
@@ -117,7 +117,7 @@ fill_around _ _ s (for_opened head p bound q form step around pre row low parts 
     begins_same (pre ++ written (of_for head p bound q form step s)) _ (simp append_assoc) (fill_around around pre (of_for head p bound q form step s) opened (row, low, parts, high, steps, right))
 
 -- a statement whose first tokens are those so far
-pub fill_with : (around : Around) (pre before rest : List Seen) (s : StatementPhrase) → Opened around pre → IsStatement s → written s ≡ before ++ rest → Begins (pre ++ before)
+fill_with : (around : Around) (pre before rest : List Seen) (s : StatementPhrase) → Opened around pre → IsStatement s → written s ≡ before ++ rest → Begins (pre ++ before)
 fill_with around pre before rest s opened right is =
     begins_less (pre ++ before) rest (begins_same (pre ++ written s) _ (ap (λ (l : List Seen). pre ++ l) is ∙ sym (append_assoc pre before rest)) (fill_around around pre s opened right))
 
@@ -126,7 +126,7 @@ fill_with around pre before rest s opened right is =
 abbrev pub one_step : List Seen
 one_step = samples (step_slots by_one_step)
 
-pub fill_sign : (head : List Seen) (p : Phrase) (bound : List Seen) (q : Phrase) (all : List Seen) (around : Around) (pre : List Seen) → IsRow for_head head → IsExpression 1 p → IsRow for_bound bound → IsExpression 8 q →
+fill_sign : (head : List Seen) (p : Phrase) (bound : List Seen) (q : Phrase) (all : List Seen) (around : Around) (pre : List Seen) → IsRow for_head head → IsExpression 1 p → IsRow for_bound bound → IsExpression 8 q →
     IsRow (semicolon ∷ a_name ∷ step_sign ∷ []) all → Opened around pre → Begins (pre ++ (head ++ spelled p ++ bound ++ spelled q ++ all))
 fill_sign head p bound q (t ∷ u ∷ v ∷ []) around pre row low parts high signs opened =
     let more = samples ((rest_of_step (t ∷ u ∷ v ∷ [])).0 ∷ (rest_of_step (t ∷ u ∷ v ∷ [])).1) in
@@ -137,7 +137,7 @@ fill_sign head p bound q (t ∷ u ∷ []) around pre row low parts high signs op
 fill_sign head p bound q (t ∷ []) around pre row low parts high signs opened = absurd signs.1
 fill_sign head p bound q [] around pre row low parts high signs opened = absurd signs
 
-pub fill_row : (row : Row) (before all : List Seen) (around : Around) (pre : List Seen) → RowIs row before all → Opened around pre → Begins (pre ++ (before ++ all))
+fill_row : (row : Row) (before all : List Seen) (around : Around) (pre : List Seen) → RowIs row before all → Opened around pre → Begins (pre ++ (before ++ all))
 fill_row _ _ _ around pre (if_is all row) opened =
     fill_with around pre _ (spelled zero_phrase ++ samples (right_parenthesis ∷ []) ++ written empty_block) (of_if all zero_phrase (samples (right_parenthesis ∷ [])) empty_block) opened (row, zero_short 1 (omega arith), (refl, tt), empty_right) (simp append_assoc)
 fill_row _ _ _ around pre (out_is all row) opened =
@@ -154,7 +154,7 @@ fill_row _ _ _ around pre (step_is head p bound q form all row low parts high st
     fill_with around pre _ (written empty_block) (of_for head p bound q form all empty_block) opened (row, low, parts, high, steps, empty_right) (simp append_assoc)
 fill_row _ _ _ around pre (last_is s before all right closed is) opened = fill_with around pre _ [] s opened right (is ∙ sym (append-nil (before ++ all)))
 
-pub fill_use : (u : Use) (before : List Seen) (p : Phrase) (around : Around) (pre : List Seen) → UseIs u before → IsExpression (least_of u) p → Opened around pre → Begins (pre ++ (before ++ spelled p))
+fill_use : (u : Use) (before : List Seen) (p : Phrase) (around : Around) (pre : List Seen) → UseIs u before → IsExpression (least_of u) p → Opened around pre → Begins (pre ++ (before ++ spelled p))
 fill_use _ _ p around pre (output_is head row) short opened = fill_with around pre _ (samples statement_tail) (of_output head p (samples statement_tail)) opened (row, short, samples_fit statement_tail) refl
 fill_use _ _ p around pre (condition_is head row) short opened =
     fill_with around pre _ (samples (right_parenthesis ∷ []) ++ written empty_block) (of_if head p (samples (right_parenthesis ∷ [])) empty_block) opened (row, short, (refl, tt), empty_right) (simp append_assoc)

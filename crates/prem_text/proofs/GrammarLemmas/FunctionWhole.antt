@@ -1,6 +1,6 @@
 -- Functions are read as the grammar says.
-use Rattle.std.proofs.Common.{◌≡◌, ◌+◌, ◌-◌, ℕ, ℤ, List, [], ◌∷◌, ◌++◌, Option, None, Some, Bool, true, false, refl, ap, sym, subst, ◌∙◌, append_assoc, arith}
 use Rattle.std.specs.Prelude.{if◌then◌else◌}
+use Rattle.std.proofs.Common.{◌≡◌, ◌+◌, ◌-◌, ℕ, ℤ, List, [], ◌∷◌, ◌++◌, Option, None, Some, Bool, true, false, refl, ap, sym, subst, ◌∙◌, append_assoc, arith}
 use Rattle.std.proofs.lemmas.List.{append-nil}
 use Rattle.prem_syntax.specs.declared.tree.Place.{Place}
 use Rattle.prem_syntax.specs.Syntax.{Expression, no_statements, Parameter, LocalVariable, FunctionText, function_item}
@@ -13,14 +13,14 @@ use Rattle.prem_text.specs.Grammar.Item.{no_type, an_item, a_parameter, a_local,
 use Rattle.prem_text.specs.Grammar.Phrases.{Phrase, spelled, tree, level, IsExpression, IsRow, name_at, quiet, counted}
 use Rattle.prem_text.specs.Grammar.StatementPhrases.{StatementPhrases, AreStatements, all_written, all_meant, all_past}
 use Rattle.prem_text.specs.Grammar.ProgramPhrases.{TypeForm, void_type, int_type, short_type, signed_char_type, unsigned_type, unsigned_int_type, unsigned_short_type, unsigned_char_type, type_of, Declaration, IsDeclaration, declaration_tokens, constant_tree, MarkPhrase, mark_tokens, mark_tree, RangePhrase, IsRange, range_tokens, range_tree, ParameterPhrase, IsParameter, parameter_tokens, parameter_tree, PartedParameter, ParametersPhrase, of_void, of_parameters, is_void_form, begins_void, ArePartedParameters, AreParameters, parted_parameter_tokens, parted_parameter_trees, parameters_tokens, parameters_tree, LocalPhrase, AreLocals, local_tokens, local_trees, local_past, ResultPhrase, IsResult, result_tokens, result_tree, result_past, FunctionPhrase, IsFunction, of_function, item_tokens, item_past}
-use Rattle.prem_text.proofs.GrammarLemmas.Steps.{Goes, done, more, Same}
-use Rattle.prem_text.proofs.GrammarLemmas.Complete.{reads_phrase}
 use Rattle.prem_text.specs.Grammar.Slots.{Slot, left_parenthesis, right_parenthesis, left_brace, right_brace, semicolon, comma, equal_sign, the_return, the_void, the_range, fits, place_at, is_right_brace, is_semicolon, is_void, is_range}
 use Rattle.prem_text.specs.Grammar.Law.{body_begins}
+use Rattle.prem_text.specs.Grammar.Law.{ends_body}
+use Rattle.prem_text.proofs.GrammarLemmas.Steps.{Goes, done, more, Same}
+use Rattle.prem_text.proofs.GrammarLemmas.Complete.{reads_phrase}
 use Rattle.prem_text.proofs.GrammarLemmas.Taken.{Turns, stay, go, room_flag}
 use Rattle.prem_text.proofs.GrammarLemmas.Nested.{reads_statements}
 use Rattle.prem_text.proofs.GrammarLemmas.ItemTaken.{Runs, rest, forth, runs_append, quietly, row_runs, row_from, one_runs, first_word, declaration_runs, constant_runs}
-use Rattle.prem_text.specs.Grammar.Law.{ends_body}
 use Rattle.prem_text.proofs.GrammarLemmas.Exact.{body_frame, body_left, no_else}
 use Rattle.prem_text.proofs.GrammarLemmas.ItemWhole.{before_item, mark_runs, item_type, type_at, no_comma_at, ItemRead}
 
@@ -37,19 +37,19 @@ pub record ParameterRead (f : FunctionText) (d : Declaration) (r : Option RangeP
   runs : Runs s (declaration_tokens d ++ range_tokens r) (quiet (declaration_tokens d ++ range_tokens r)) stage
   same : (t : Seen) → is_range t.0 ≡ false → step stage t ≡ parameter_ends (with_parameter f (parameter_of d r)) t
 
-pub range_begins : (f : FunctionText) (p : Parameter) (t : Seen) → fits the_range t.0 ≡ true → step (on_parameter f p) t ≡ ahead (in_row (range_row f p) (t ∷ []) left_parenthesis [])
+range_begins : (f : FunctionText) (p : Parameter) (t : Seen) → fits the_range t.0 ≡ true → step (on_parameter f p) t ≡ ahead (in_row (range_row f p) (t ∷ []) left_parenthesis [])
 range_begins f p t h = rw h refl
 
-pub bare_ends : (f : FunctionText) (p : Parameter) (t : Seen) → is_range t.0 ≡ false → step (on_parameter f p) t ≡ parameter_ends (with_parameter f p) t
+bare_ends : (f : FunctionText) (p : Parameter) (t : Seen) → is_range t.0 ≡ false → step (on_parameter f p) t ≡ parameter_ends (with_parameter f p) t
 bare_ends f p t h = rw h refl
 
-pub range_middle : (f : FunctionText) (p : Parameter) (value : ℤ) (t : Seen) → fits comma t.0 ≡ true → step (behind_constant (range_low f p) value) t ≡ ahead (before_constant (range_high f p value) false)
+range_middle : (f : FunctionText) (p : Parameter) (value : ℤ) (t : Seen) → fits comma t.0 ≡ true → step (behind_constant (range_low f p) value) t ≡ ahead (before_constant (range_high f p value) false)
 range_middle f p value t h = rw h refl
 
-pub range_closes : (f : FunctionText) (p : Parameter) (low value : ℤ) (t : Seen) → fits right_parenthesis t.0 ≡ true → step (behind_constant (range_high f p low) value) t ≡ ahead (behind_parameter (with_parameter f (with_range p low value)))
+range_closes : (f : FunctionText) (p : Parameter) (low value : ℤ) (t : Seen) → fits right_parenthesis t.0 ≡ true → step (behind_constant (range_high f p low) value) t ≡ ahead (behind_parameter (with_parameter f (with_range p low value)))
 range_closes f p low value t h = rw h refl
 
-pub parameter_read : (f : FunctionText) (d : Declaration) (r : Option RangePhrase) (s : Stage) → IsDeclaration d → IsRange r → ((t : Seen) → fits (first_word d.form) t.0 ≡ true → step s t ≡ type_begins (a_parameter f) t) → ParameterRead f d r s
+parameter_read : (f : FunctionText) (d : Declaration) (r : Option RangePhrase) (s : Stage) → IsDeclaration d → IsRange r → ((t : Seen) → fits (first_word d.form) t.0 ≡ true → step s t ≡ type_begins (a_parameter f) t) → ParameterRead f d r s
 parameter_read f d None s is ranged begins = record {
   stage = on_parameter f (parameter_of d None);
   runs = quietly _ _ (declaration_tokens d) [] (runs_append (declaration_runs d (a_parameter f) s is begins) (rest _));
@@ -82,15 +82,15 @@ pub record ParametersRead (p : Option MarkPhrase) (d : Declaration) (acc : List 
   runs : Runs s (parted_parameter_tokens before ++ parameter_tokens last) (quiet (parted_parameter_tokens before ++ parameter_tokens last)) stage
   same : (t : Seen) → is_range t.0 ≡ false → step stage t ≡ parameter_ends (opened_function p d (acc ++ (parted_parameter_trees before ++ parameter_tree last ∷ [])) []) t
 
-pub no_range : (slot : Slot) (x : Lexeme) → fits slot (word w.Range) ≡ false → fits slot x ≡ true → is_range x ≡ false
+no_range : (slot : Slot) (x : Lexeme) → fits slot (word w.Range) ≡ false → fits slot x ≡ true → is_range x ≡ false
 no_range slot (word w.Range) is h = let e : false ≡ true = sym is ∙ h in absurd cc
 no_range slot (word _) is h = refl
 no_range slot _ is h = refl
 
-pub comma_next : (f : FunctionText) (t : Seen) → fits comma t.0 ≡ true → parameter_ends f t ≡ ahead (in_type (a_parameter f) no_type)
+comma_next : (f : FunctionText) (t : Seen) → fits comma t.0 ≡ true → parameter_ends f t ≡ ahead (in_type (a_parameter f) no_type)
 comma_next f t h = rw h refl
 
-pub parameters_read : (p : Option MarkPhrase) (d : Declaration) (acc : List Parameter) (s : Stage) (allowed : TypeForm → Type 0) (before : List PartedParameter) (last : ParameterPhrase) → ArePartedParameters before → IsParameter last →
+parameters_read : (p : Option MarkPhrase) (d : Declaration) (acc : List Parameter) (s : Stage) (allowed : TypeForm → Type 0) (before : List PartedParameter) (last : ParameterPhrase) → ArePartedParameters before → IsParameter last →
     First allowed before last → ((form : TypeForm) (t : Seen) → allowed form → fits (first_word form) t.0 ≡ true → step s t ≡ type_begins (a_parameter (opened_function p d acc [])) t) → ParametersRead p d acc s before last
 parameters_read p d acc s allowed [] last all is ok begins =
     let r = parameter_read (opened_function p d acc []) last.declaration last.range s is.0 is.1 (λ t h. begins last.declaration.form t ok h) in
@@ -112,7 +112,7 @@ parameters_read p d acc s allowed (q ∷ before) last all is ok begins =
     anyway [] last = tt
     anyway (q ∷ before) last = tt
 
-pub void_at : (form : TypeForm) (x : Lexeme) → is_void_form form ≡ false → fits (first_word form) x ≡ true → is_void x ≡ false
+void_at : (form : TypeForm) (x : Lexeme) → is_void_form form ≡ false → fits (first_word form) x ≡ true → is_void x ≡ false
 void_at void_type x v h = absurd cc
 void_at int_type (word w.Int) v h = refl
 void_at short_type (word w.Short) v h = refl
@@ -124,21 +124,21 @@ void_at unsigned_char_type (word w.Unsigned) v h = refl
 void_at _ (word _) v h = absurd cc
 void_at _ _ v h = absurd cc
 
-pub first_free : (before : List PartedParameter) (last : ParameterPhrase) → begins_void before last ≡ false → First (λ form. is_void_form form ≡ false) before last
+first_free : (before : List PartedParameter) (last : ParameterPhrase) → begins_void before last ≡ false → First (λ form. is_void_form form ≡ false) before last
 first_free [] last is = is
 first_free (q ∷ before) last is = is
 
-pub parameter_type : (f : FunctionText) (form : TypeForm) (t : Seen) → is_void_form form ≡ false → fits (first_word form) t.0 ≡ true → step (before_parameter f) t ≡ type_begins (a_parameter f) t
+parameter_type : (f : FunctionText) (form : TypeForm) (t : Seen) → is_void_form form ≡ false → fits (first_word form) t.0 ≡ true → step (before_parameter f) t ≡ type_begins (a_parameter f) t
 parameter_type f form t v h = rw (void_at form t.0 v h) refl
 
-pub parameters_close : (f : FunctionText) (t : Seen) → fits right_parenthesis t.0 ≡ true → parameter_ends f t ≡ ahead (in_row (body_row f) (t ∷ []) left_brace [])
+parameters_close : (f : FunctionText) (t : Seen) → fits right_parenthesis t.0 ≡ true → parameter_ends f t ≡ ahead (in_row (body_row f) (t ∷ []) left_brace [])
 parameters_close f t h = rw (no_comma_at right_parenthesis t.0 refl h, h) refl
 
 pub void_begins : (f : FunctionText) (t : Seen) → fits the_void t.0 ≡ true → step (before_parameter f) t ≡ ahead (in_row (body_row f) (t ∷ []) right_parenthesis (left_brace ∷ []))
 void_begins f t h = rw h refl
 
 -- from the first parameter to the brace of the body
-pub head_closes : (p : Option MarkPhrase) (d : Declaration) (params : ParametersPhrase) (begins : List Seen) → AreParameters params → IsRow (right_parenthesis ∷ left_brace ∷ []) begins →
+head_closes : (p : Option MarkPhrase) (d : Declaration) (params : ParametersPhrase) (begins : List Seen) → AreParameters params → IsRow (right_parenthesis ∷ left_brace ∷ []) begins →
     Runs (before_parameter (opened_function p d [] [])) (parameters_tokens params ++ begins) (quiet (parameters_tokens params) ++ quiet begins) (before_local (opened_function p d (parameters_tree params) []))
 head_closes p d (of_void []) begins is row = absurd is
 head_closes p d (of_void (t ∷ u ∷ ts)) begins is row = absurd is.1
@@ -172,7 +172,7 @@ value_step v s room t x is = by (move 1 s t) ∙ ap (value_moves v room t) is
     by (ends e) = refl
     by stops = refl
 
-pub counted_value : (v : Value) (s end : State) (room n : ℕ) (ts : List Seen) → Goes 1 s ts end → room ≡ 258 - n → CountedValue v s end room n ts
+counted_value : (v : Value) (s end : State) (room n : ℕ) (ts : List Seen) → Goes 1 s ts end → room ≡ 258 - n → CountedValue v s end room n ts
 counted_value v s _ room n _ (done _) is = record { left = room; runs = rest _ }
 counted_value v s end room n _ (more _ mid _ t ts step' later) is =
     let next_room : room - 1 ≡ 258 - (n + 1) = omega (arith, is) in
@@ -184,12 +184,12 @@ pub record ValueRead (v : Value) (p : Phrase) : Type 0 where
   runs : Runs (in_value v (wants bottom) 257) (spelled p) (counted 1 (spelled p)) stage
   ends : (t : Seen) → fits semicolon t.0 ≡ true → step stage t ≡ value_ends v (tree p) t
 
-pub value_closes : (v : Value) (p : Phrase) (end : State) (room : ℕ) (x : Lexeme) (at : Place) → fits semicolon x ≡ true → Same 1 (level p) end (has (tree p) bottom) → step (in_value v end room) (x, at) ≡ value_ends v (tree p) (x, at)
+value_closes : (v : Value) (p : Phrase) (end : State) (room : ℕ) (x : Lexeme) (at : Place) → fits semicolon x ≡ true → Same 1 (level p) end (has (tree p) bottom) → step (in_value v end room) (x, at) ≡ value_ends v (tree p) (x, at)
 value_closes v p end room (mark m.Semicolon) at h same = value_step v end room (mark m.Semicolon, at) _ (same (mark m.Semicolon) at (refl, tt))
 value_closes v p end room (mark _) at h same = absurd cc
 value_closes v p end room _ at h same = absurd cc
 
-pub value_read : (v : Value) (p : Phrase) → IsExpression 1 p → ValueRead v p
+value_read : (v : Value) (p : Phrase) → IsExpression 1 p → ValueRead v p
 value_read v p short =
     let r = reads_phrase 1 p bottom short.1 short.0 in
     let c = counted_value v (wants bottom) r.end 257 1 (spelled p) r.goes refl in
@@ -197,10 +197,10 @@ value_read v p short =
 
 -- ---- locals
 
-pub local_type : (f : FunctionText) (form : TypeForm) (t : Seen) → fits (first_word form) t.0 ≡ true → step (before_local f) t ≡ type_begins (a_local f) t
+local_type : (f : FunctionText) (form : TypeForm) (t : Seen) → fits (first_word form) t.0 ≡ true → step (before_local f) t ≡ type_begins (a_local f) t
 local_type f form t h = rw (type_at form t.0 h).3 refl
 
-pub locals_read : (p : Option MarkPhrase) (d : Declaration) (params : List Parameter) (acc : List LocalVariable) (locals : List LocalPhrase) → AreLocals locals →
+locals_read : (p : Option MarkPhrase) (d : Declaration) (params : List Parameter) (acc : List LocalVariable) (locals : List LocalPhrase) → AreLocals locals →
     Runs (before_local (opened_function p d params acc)) (local_tokens locals) (local_past locals) (before_local (opened_function p d params (acc ++ local_trees locals)))
 locals_read p d params acc [] all = subst (λ (l : List LocalVariable). Runs (before_local (opened_function p d params acc)) [] [] (before_local (opened_function p d params l))) (sym (append-nil acc)) (rest _)
 locals_read p d params acc (l ∷ locals) all =
@@ -222,11 +222,11 @@ pub record BodyLifted (f : FunctionText) (end : Point) (ts : List Seen) (bs : Li
   runs : Runs (before_local f) ts bs stage
   same : (t : Seen) → begins_type t.0 ≡ false → step stage t ≡ statement_step f (turn end t) t
 
-pub lifted : (f : FunctionText) (p end : Point) (ts : List Seen) (bs : List Bool) → Turns p ts bs end → Runs (in_statements f p) ts bs (in_statements f end)
+lifted : (f : FunctionText) (p end : Point) (ts : List Seen) (bs : List Bool) → Turns p ts bs end → Runs (in_statements f p) ts bs (in_statements f end)
 lifted f p _ _ _ (stay _) = rest _
 lifted f p end _ _ (go _ mid _ t ts b bs is flag later) = forth _ (in_statements f mid) _ t ts b bs (ap (λ (x : Turn). statement_step f x t) is) flag (lifted f mid end ts bs later)
 
-pub no_type_taken : (x : Lexeme) (at : Place) (mid : Point) → turn body_begins (x, at) ≡ on mid → begins_type x ≡ false
+no_type_taken : (x : Lexeme) (at : Place) (mid : Point) → turn body_begins (x, at) ≡ on mid → begins_type x ≡ false
 no_type_taken (word w.Void) at mid is = absurd cc
 no_type_taken (word w.Int) at mid is = absurd cc
 no_type_taken (word w.Short) at mid is = absurd cc
@@ -238,10 +238,10 @@ no_type_taken (name x) at mid is = refl
 no_type_taken (number v k) at mid is = refl
 no_type_taken end_of_text at mid is = refl
 
-pub first_statement : (f : FunctionText) (t : Seen) → begins_type t.0 ≡ false → step (before_local f) t ≡ statement_step f (turn body_begins t) t
+first_statement : (f : FunctionText) (t : Seen) → begins_type t.0 ≡ false → step (before_local f) t ≡ statement_step f (turn body_begins t) t
 first_statement f t h = rw h refl
 
-pub lift_first : (f : FunctionText) (p end : Point) (ts : List Seen) (bs : List Bool) → p ≡ body_begins → Turns p ts bs end → BodyLifted f end ts bs
+lift_first : (f : FunctionText) (p end : Point) (ts : List Seen) (bs : List Bool) → p ≡ body_begins → Turns p ts bs end → BodyLifted f end ts bs
 lift_first f p _ _ _ same (stay _) = record { stage = before_local f; runs = rest _; same = λ t h. first_statement f t h ∙ ap (λ (x : Point). statement_step f (turn x t) t) (sym same) }
 lift_first f p end _ _ same (go _ mid _ t ts b bs is flag later) =
     let begun : turn body_begins t ≡ on mid = ap (λ (x : Point). turn x t) (sym same) ∙ is in
@@ -251,7 +251,7 @@ lift_first f p end _ _ same (go _ mid _ t ts b bs is flag later) =
       same = λ u h. refl;
     }
 
-pub no_type_ends : (x : Lexeme) → ends_body x ≡ true → begins_type x ≡ false
+no_type_ends : (x : Lexeme) → ends_body x ≡ true → begins_type x ≡ false
 no_type_ends (mark x) h = refl
 no_type_ends (word w.Return) h = refl
 no_type_ends (word _) h = absurd cc
@@ -262,7 +262,7 @@ pub record BodyRead (f : FunctionText) (ss : StatementPhrases) : Type 0 where
   runs : Runs (before_local f) (all_written ss) (all_past 1 ss) stage
   same : (t : Seen) → ends_body t.0 ≡ true → step stage t ≡ body_ends (with_body f (listed (all_meant ss))) t
 
-pub body_read : (f : FunctionText) (ss : StatementPhrases) → AreStatements ss → BodyRead f ss
+body_read : (f : FunctionText) (ss : StatementPhrases) → AreStatements ss → BodyRead f ss
 body_read f ss right =
     let r = reads_statements ss (λ before. in_body before) 0 [] body_frame right in
     let l = lift_first f body_begins r.end (all_written ss) (all_past 1 ss) refl r.turns in
@@ -279,23 +279,23 @@ pub record ResultRead (f : FunctionText) (ss : StatementPhrases) (r : Option Res
   runs : Runs (before_local f) (all_written ss ++ result_tokens r) (all_past 1 ss ++ result_past r) stage
   ends : (t : Seen) → fits right_brace t.0 ≡ true → step stage t ≡ made (function_item (record f { body = listed (all_meant ss); result = result_tree r }))
 
-pub brace_ends_body : (x : Lexeme) → fits right_brace x ≡ true → ends_body x ≡ true
+brace_ends_body : (x : Lexeme) → fits right_brace x ≡ true → ends_body x ≡ true
 brace_ends_body (mark m.CloseBrace) h = refl
 brace_ends_body (mark _) h = absurd cc
 brace_ends_body _ h = absurd cc
 
-pub return_ends_body : (x : Lexeme) → fits the_return x ≡ true → (ends_body x ≡ true) × (is_right_brace x ≡ false)
+return_ends_body : (x : Lexeme) → fits the_return x ≡ true → (ends_body x ≡ true) × (is_right_brace x ≡ false)
 return_ends_body (word w.Return) h = (refl, refl)
 return_ends_body (word _) h = absurd cc
 return_ends_body _ h = absurd cc
 
-pub body_closes : (f : FunctionText) (t : Seen) → fits right_brace t.0 ≡ true → body_ends f t ≡ made (function_item f)
+body_closes : (f : FunctionText) (t : Seen) → fits right_brace t.0 ≡ true → body_ends f t ≡ made (function_item f)
 body_closes f t h = rw h refl
 
-pub body_returns : (f : FunctionText) (t : Seen) → fits the_return t.0 ≡ true → is_right_brace t.0 ≡ false → body_ends f t ≡ ahead (in_value (result_value f) (wants bottom) 257)
+body_returns : (f : FunctionText) (t : Seen) → fits the_return t.0 ≡ true → is_right_brace t.0 ≡ false → body_ends f t ≡ ahead (in_value (result_value f) (wants bottom) 257)
 body_returns f t h other = rw (other, h) refl
 
-pub end_closes : (f : FunctionText) (got : List Seen) (t : Seen) → fits right_brace t.0 ≡ true → step (in_row (end_row f) got right_brace []) t ≡ made (function_item f)
+end_closes : (f : FunctionText) (got : List Seen) (t : Seen) → fits right_brace t.0 ≡ true → step (in_row (end_row f) got right_brace []) t ≡ made (function_item f)
 end_closes f got t h = rw h refl
 
 pub record Closed (f : FunctionText) (e : Expression) (s : Stage) (ts : List Seen) : Type 0 where
@@ -303,7 +303,7 @@ pub record Closed (f : FunctionText) (e : Expression) (s : Stage) (ts : List See
   runs : Runs s ts (quiet ts) stage
   ends : (t : Seen) → fits right_brace t.0 ≡ true → step stage t ≡ made (function_item (with_result f e))
 
-pub result_closes : (f : FunctionText) (e : Expression) (s : Stage) (ts : List Seen) → IsRow (semicolon ∷ []) ts → ((t : Seen) → fits semicolon t.0 ≡ true → step s t ≡ value_ends (result_value f) e t) → Closed f e s ts
+result_closes : (f : FunctionText) (e : Expression) (s : Stage) (ts : List Seen) → IsRow (semicolon ∷ []) ts → ((t : Seen) → fits semicolon t.0 ≡ true → step s t ≡ value_ends (result_value f) e t) → Closed f e s ts
 result_closes f e s [] fit last = absurd fit
 result_closes f e s (t ∷ u ∷ ts) fit last = absurd fit.1
 result_closes f e s (t ∷ []) fit last = record {
@@ -312,7 +312,7 @@ result_closes f e s (t ∷ []) fit last = record {
   ends = λ u h. end_closes (with_result f e) (t ∷ []) u h;
 }
 
-pub result_read : (p : Option MarkPhrase) (d : Declaration) (params : List Parameter) (locals : List LocalVariable) (ss : StatementPhrases) (r : Option ResultPhrase) → AreStatements ss → IsResult r → ResultRead (opened_function p d params locals) ss r
+result_read : (p : Option MarkPhrase) (d : Declaration) (params : List Parameter) (locals : List LocalVariable) (ss : StatementPhrases) (r : Option ResultPhrase) → AreStatements ss → IsResult r → ResultRead (opened_function p d params locals) ss r
 result_read p d params locals ss None right is =
     let b = body_read (opened_function p d params locals) ss right in
     record {
@@ -335,7 +335,7 @@ result_read p d params locals ss (Some r) right is =
 
 -- ---- whole functions
 
-pub parenthesis_begins : (p : Option MarkPhrase) (d : Declaration) (t : Seen) → fits left_parenthesis t.0 ≡ true →
+parenthesis_begins : (p : Option MarkPhrase) (d : Declaration) (t : Seen) → fits left_parenthesis t.0 ≡ true →
     step (behind_item (mark_tree p) (type_of d.form) (place_at 0 d.name_row) (name_at 0 d.name_row)) t ≡ ahead (before_parameter (opened_function p d [] []))
 parenthesis_begins p d t h = rw h refl
 

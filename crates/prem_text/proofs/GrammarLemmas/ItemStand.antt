@@ -1,6 +1,6 @@
 -- What the tokens of an item so far spell, wherever the reader of items stands.
-use Rattle.std.proofs.Common.{◌≡◌, ◌-◌, ℕ, ℤ, List, [], ◌∷◌, ◌++◌, Option, None, Some, Bool, true, false, refl, ap, sym, subst, ◌∙◌, append_assoc, arith}
 use Rattle.std.specs.Prelude.{if◌then◌else◌}
+use Rattle.std.proofs.Common.{◌≡◌, ◌-◌, ℕ, ℤ, List, [], ◌∷◌, ◌++◌, Option, None, Some, Bool, true, false, refl, ap, sym, subst, ◌∙◌, append_assoc, arith}
 use Rattle.std.proofs.lemmas.List.{append-nil}
 use Rattle.prem_syntax.specs.declared.tree.Place.{Place}
 use Rattle.prem_syntax.specs.Syntax.{Text, Expression, Statement, Parameter, LocalVariable, RegionText, absent, many, GlobalVariable, FunctionText, ItemText, global_item, function_item}
@@ -125,17 +125,17 @@ FineStep now (ahead stage) = StageIs stage now
 FineStep now (made item) = Whole item now
 FineStep now refused = Unit {0}
 
-pub if_step : (now : List Seen) (b : Bool) (x y : ItemStep) → (b ≡ true → FineStep now x) → (b ≡ false → FineStep now y) → FineStep now (if b then x else y)
+if_step : (now : List Seen) (b : Bool) (x y : ItemStep) → (b ≡ true → FineStep now x) → (b ≡ false → FineStep now y) → FineStep now (if b then x else y)
 if_step now true x y first second = first refl
 if_step now false x y first second = second refl
 
-pub stage_same : (s : Stage) (xs ys : List Seen) → xs ≡ ys → StageIs s xs → StageIs s ys
+stage_same : (s : Stage) (xs ys : List Seen) → xs ≡ ys → StageIs s xs → StageIs s ys
 stage_same s xs ys same is = subst (λ (l : List Seen). StageIs s l) same is
 
-pub whole_same : (item : ItemText) (xs ys : List Seen) → xs ≡ ys → Whole item xs → Whole item ys
+whole_same : (item : ItemText) (xs ys : List Seen) → xs ≡ ys → Whole item xs → Whole item ys
 whole_same item xs ys same is = subst (λ (l : List Seen). Whole item l) same is
 
-pub locals_same : (f : FunctionText) (xs ys : List Seen) → xs ≡ ys → Locals f xs → Locals f ys
+locals_same : (f : FunctionText) (xs ys : List Seen) → xs ≡ ys → Locals f xs → Locals f ys
 locals_same f xs ys same is = subst (λ (l : List Seen). Locals f l) same is
 
 -- ---- types and names
@@ -143,7 +143,7 @@ locals_same f xs ys same is = subst (λ (l : List Seen). Locals f l) same is
 abbrev pub declares : TypeForm → List Seen → Text → Place → Declaration
 declares form words x at = record { form = form; type_row = words; name_row = (name x, at) ∷ [] }
 
-pub declared_fine : (d : Declared) (before : List Seen) (may : Bool) (form : TypeForm) (words : List Seen) (x : Text) (at : Place) → DeclaredIs d before may → IsRow (type_slots form) words → Fitting may form →
+declared_fine : (d : Declared) (before : List Seen) (may : Bool) (form : TypeForm) (words : List Seen) (x : Text) (at : Place) → DeclaredIs d before may → IsRow (type_slots form) words → Fitting may form →
     StageIs (declared d (type_of form) at x) (before ++ words ++ (name x, at) ∷ [])
 declared_fine _ _ _ form words x at (item_is p is) row ok =
     stage_same _ (mark_tokens p ++ declaration_tokens (declares form words x at)) _ (simp append_assoc) (is_item p (declares form words x at) is (row, (refl, tt)))
@@ -153,7 +153,7 @@ declared_fine _ _ _ form words x at (local_is f ts is) row ok =
     stage_same _ (ts ++ declaration_tokens (declares form words x at) ++ []) _ (simp (append_assoc, append-nil))
     (is_row (local_row f (type_of form) at x) (ts ++ declaration_tokens (declares form words x at)) [] equal_sign [] (λ more fit. sign_is f ts (declares form words x at) more is (row, (refl, tt)) fit))
 
-pub begin_fine : (d : Declared) (before : List Seen) (may : Bool) (x : Lexeme) (at : Place) → DeclaredIs d before may → (is_void x ≡ true → Fitting may void_type) → ((form : TypeForm) → is_void_form form ≡ false → Fitting may form) →
+begin_fine : (d : Declared) (before : List Seen) (may : Bool) (x : Lexeme) (at : Place) → DeclaredIs d before may → (is_void x ≡ true → Fitting may void_type) → ((form : TypeForm) → is_void_form form ≡ false → Fitting may form) →
     FineStep (before ++ (x, at) ∷ []) (type_or_name d no_type at x)
 begin_fine d before may (word w.Void) at is first others = is_type d before may _ _ is (whole_typing void_type ((word w.Void, at) ∷ []) (refl, tt) (first refl))
 begin_fine d before may (word w.Int) at is first others = is_type d before may _ _ is (whole_typing int_type ((word w.Int, at) ∷ []) (refl, tt) (others int_type refl))
@@ -163,7 +163,7 @@ begin_fine d before may (word w.Unsigned) at is first others = is_type d before 
 begin_fine d before may (word _) at is first others = tt
 begin_fine d before may _ at is first others = tt
 
-pub type_fine : (d : Declared) (before : List Seen) (may : Bool) (typing : Typing) (words : List Seen) (x : Lexeme) (at : Place) → DeclaredIs d before may → TypingIs may typing words →
+type_fine : (d : Declared) (before : List Seen) (may : Bool) (typing : Typing) (words : List Seen) (x : Lexeme) (at : Place) → DeclaredIs d before may → TypingIs may typing words →
     FineStep (before ++ words ++ (x, at) ∷ []) (type_or_name d typing at x)
 type_fine d before may _ _ x at is (no_typing all) =
     let same : before ++ (x, at) ∷ [] ≡ before ++ [] ++ (x, at) ∷ [] = simp append-nil in
@@ -186,19 +186,19 @@ type_fine d before may _ _ _ at is (whole_typing form words row ok) = tt
 
 -- ---- items
 
-pub item_fine : (t : Seen) → FineStep (t ∷ []) (step outside t)
+item_fine : (t : Seen) → FineStep (t ∷ []) (step outside t)
 item_fine t =
     if_step _ (is_end t.0) _ _ (λ h. is_finished t h)
     (λ _. if_step _ (is_predictable t.0) _ _ (λ h. is_row mark_row [] (t ∷ []) left_parenthesis (a_literal ∷ right_parenthesis ∷ []) (λ more fit. mark_is (t ∷ more) (h, fit)))
     (λ _. begin_fine (an_item None) [] true t.0 t.1 (item_is None tt) (λ h. tt) (λ form h. tt)))
 
-pub marked_fine : (p : MarkPhrase) (t : Seen) → IsMark (Some p) → FineStep (mark_tokens (Some p) ++ t ∷ []) (step (marked (mark_text p.head (region_trees p.regions))) t)
+marked_fine : (p : MarkPhrase) (t : Seen) → IsMark (Some p) → FineStep (mark_tokens (Some p) ++ t ∷ []) (step (marked (mark_text p.head (region_trees p.regions))) t)
 marked_fine p t is =
     if_step _ (is_region t.0) _ _
     (λ h. is_row (region_row (mark_text p.head (region_trees p.regions))) (mark_tokens (Some p)) (t ∷ []) left_parenthesis (a_name ∷ comma ∷ a_literal ∷ comma ∷ a_literal ∷ right_parenthesis ∷ []) (λ more fit. region_is p (t ∷ more) is (h, fit)))
     (λ _. begin_fine (an_item (mark_tree (Some p))) (mark_tokens (Some p)) true t.0 t.1 (item_is (Some p) is) (λ h. tt) (λ form h. tt))
 
-pub global_ends_fine : (d : Declaration) (len : Option (List Seen)) (t : Seen) → IsDeclaration d → IsLength len → FineStep (declaration_tokens d ++ length_tokens len ++ t ∷ []) (global_ends (global_of d (length_tree len) absent) t)
+global_ends_fine : (d : Declaration) (len : Option (List Seen)) (t : Seen) → IsDeclaration d → IsLength len → FineStep (declaration_tokens d ++ length_tokens len ++ t ∷ []) (global_ends (global_of d (length_tree len) absent) t)
 global_ends_fine d len t is sized =
     if_step _ (is_equal t.0) _ _ (λ h. is_initial d len (t ∷ []) is sized (h, tt))
     (λ _. if_step _ (is_semicolon t.0) _ refused
@@ -213,7 +213,7 @@ named_fine None d t marked' is =
     (λ _. let same : declaration_tokens d ++ [] ++ t ∷ [] ≡ declaration_tokens d ++ t ∷ [] = simp append-nil in
     subst (λ (l : List Seen). FineStep l (global_ends (global_of d None absent) t)) same (global_ends_fine d None t is tt))
 
-pub behind_item_fine : (p : Option MarkPhrase) (d : Declaration) (t : Seen) → IsMark p → IsDeclaration d →
+behind_item_fine : (p : Option MarkPhrase) (d : Declaration) (t : Seen) → IsMark p → IsDeclaration d →
     FineStep (mark_tokens p ++ declaration_tokens d ++ t ∷ []) (step (behind_item (mark_tree p) (type_of d.form) (place_at 0 d.name_row) (name_at 0 d.name_row)) t)
 behind_item_fine p d t marked' is =
     if_step _ (is_left_parenthesis t.0) _ _
@@ -222,20 +222,20 @@ behind_item_fine p d t marked' is =
 
 -- ---- constants
 
-pub constant_fine : (c : Constant) (before : List Seen) (x : Lexeme) (at : Place) → ConstantIs c before → FineStep (before ++ (x, at) ∷ []) (constant c false x)
+constant_fine : (c : Constant) (before : List Seen) (x : Lexeme) (at : Place) → ConstantIs c before → FineStep (before ++ (x, at) ∷ []) (constant c false x)
 constant_fine c before (number v k) at is = is_behind c before record { negative = false; row = (number v k, at) ∷ [] } is (refl, tt)
 constant_fine c before (mark m.Minus) at is = is_negative c before (mark m.Minus, at) is refl
 constant_fine c before (mark _) at is = tt
 constant_fine c before _ at is = tt
 
-pub negative_fine : (c : Constant) (before : List Seen) (t : Seen) (x : Lexeme) (at : Place) → ConstantIs c before → fits minus_sign t.0 ≡ true → FineStep (before ++ t ∷ [] ++ (x, at) ∷ []) (constant c true x)
+negative_fine : (c : Constant) (before : List Seen) (t : Seen) (x : Lexeme) (at : Place) → ConstantIs c before → fits minus_sign t.0 ≡ true → FineStep (before ++ t ∷ [] ++ (x, at) ∷ []) (constant c true x)
 negative_fine c before t (number v k) at is h =
     stage_same _ (before ++ (t ∷ (number v k, at) ∷ [])) _ (simp append_assoc) (is_behind c before record { negative = true; row = t ∷ (number v k, at) ∷ [] } is (h, (refl, tt)))
 negative_fine c before t (mark m.Minus) at is h = tt
 negative_fine c before t (mark _) at is h = tt
 negative_fine c before t _ at is h = tt
 
-pub initial_fine : (d : Declaration) (len : Option (List Seen)) (sign : List Seen) (t : Seen) → IsDeclaration d → IsLength len → IsRow (equal_sign ∷ []) sign →
+initial_fine : (d : Declaration) (len : Option (List Seen)) (sign : List Seen) (t : Seen) → IsDeclaration d → IsLength len → IsRow (equal_sign ∷ []) sign →
     FineStep (declaration_tokens d ++ length_tokens len ++ sign ++ t ∷ []) (step (before_initial (global_of d (length_tree len) absent)) t)
 initial_fine d len [] t is sized row = absurd row
 initial_fine d len (s ∷ s' ∷ ts) t is sized row = absurd row.1
@@ -251,15 +251,15 @@ pub more_constants : (before : List PartedConstant) (k : ConstantPhrase) (t : Se
 more_constants [] k t = refl
 more_constants (c ∷ rest') k t = ap (λ (l : List ℤ). constant_tree c.0 ∷ l) (more_constants rest' k t)
 
-pub more_constant_tokens : (before : List PartedConstant) (k : ConstantPhrase) (t : Seen) → constants_tokens (before ++ parted_constant k t ∷ []) ≡ constants_tokens before ++ (k.row ++ t ∷ [])
+more_constant_tokens : (before : List PartedConstant) (k : ConstantPhrase) (t : Seen) → constants_tokens (before ++ parted_constant k t ∷ []) ≡ constants_tokens before ++ (k.row ++ t ∷ [])
 more_constant_tokens [] k t = append-nil (k.row ++ t ∷ [])
 more_constant_tokens (c ∷ rest') k t = ap (λ (l : List Seen). c.0.row ++ c.1 ++ l) (more_constant_tokens rest' k t) ∙ simp append_assoc
 
-pub more_are_constants : (before : List PartedConstant) (k : ConstantPhrase) (t : Seen) → ArePartedConstants before → IsConstant k → IsRow (comma ∷ []) (t ∷ []) → ArePartedConstants (before ++ parted_constant k t ∷ [])
+more_are_constants : (before : List PartedConstant) (k : ConstantPhrase) (t : Seen) → ArePartedConstants before → IsConstant k → IsRow (comma ∷ []) (t ∷ []) → ArePartedConstants (before ++ parted_constant k t ∷ [])
 more_are_constants [] k t all is row = (is, row, tt)
 more_are_constants (c ∷ rest') k t all is row = (all.0, all.1, more_are_constants rest' k t all.2 is row)
 
-pub constant_ends_fine : (c : Constant) (before : List Seen) (k : ConstantPhrase) (t : Seen) → ConstantIs c before → IsConstant k → FineStep (before ++ k.row ++ t ∷ []) (constant_ends c (constant_tree k) t)
+constant_ends_fine : (c : Constant) (before : List Seen) (k : ConstantPhrase) (t : Seen) → ConstantIs c before → IsConstant k → FineStep (before ++ k.row ++ t ∷ []) (constant_ends c (constant_tree k) t)
 constant_ends_fine _ _ k t (low_is f ts prior d head begun is ok row) constant_is =
     if_step _ (is_comma t.0) _ refused (λ h. is_constant _ _ (high_is f ts prior d head k (t ∷ []) begun is ok row constant_is (h, tt))) (λ _. tt)
 constant_ends_fine _ _ k t (high_is f ts prior d head low middle begun is ok row low_is' parts) constant_is =
@@ -288,19 +288,19 @@ pub more_parameters : (before : List PartedParameter) (q : ParameterPhrase) (t :
 more_parameters [] q t = refl
 more_parameters (c ∷ rest') q t = ap (λ (l : List Parameter). parameter_tree c.0 ∷ l) (more_parameters rest' q t)
 
-pub more_parameter_tokens : (before : List PartedParameter) (q : ParameterPhrase) (t : Seen) → parted_parameter_tokens (before ++ parted_parameter q t ∷ []) ≡ parted_parameter_tokens before ++ (parameter_tokens q ++ t ∷ [])
+more_parameter_tokens : (before : List PartedParameter) (q : ParameterPhrase) (t : Seen) → parted_parameter_tokens (before ++ parted_parameter q t ∷ []) ≡ parted_parameter_tokens before ++ (parameter_tokens q ++ t ∷ [])
 more_parameter_tokens [] q t = append-nil (parameter_tokens q ++ t ∷ [])
 more_parameter_tokens (c ∷ rest') q t = ap (λ (l : List Seen). parameter_tokens c.0 ++ c.1 ++ l) (more_parameter_tokens rest' q t) ∙ simp append_assoc
 
-pub more_are_parameters : (before : List PartedParameter) (q : ParameterPhrase) (t : Seen) → ArePartedParameters before → IsParameter q → IsRow (comma ∷ []) (t ∷ []) → ArePartedParameters (before ++ parted_parameter q t ∷ [])
+more_are_parameters : (before : List PartedParameter) (q : ParameterPhrase) (t : Seen) → ArePartedParameters before → IsParameter q → IsRow (comma ∷ []) (t ∷ []) → ArePartedParameters (before ++ parted_parameter q t ∷ [])
 more_are_parameters [] q t all is row = (is, row, tt)
 more_are_parameters (c ∷ rest') q t all is row = (all.0, all.1, more_are_parameters rest' q t all.2 is row)
 
-pub more_free : (before : List PartedParameter) (q : ParameterPhrase) (t : Seen) → FreeOf before → Allowed before q.declaration.form → FreeOf (before ++ parted_parameter q t ∷ [])
+more_free : (before : List PartedParameter) (q : ParameterPhrase) (t : Seen) → FreeOf before → Allowed before q.declaration.form → FreeOf (before ++ parted_parameter q t ∷ [])
 more_free [] q t free ok = ok
 more_free (c ∷ rest') q t free ok = free
 
-pub all_allowed : (before : List PartedParameter) (q : ParameterPhrase) (t : Seen) (form : TypeForm) → Allowed (before ++ parted_parameter q t ∷ []) form
+all_allowed : (before : List PartedParameter) (q : ParameterPhrase) (t : Seen) (form : TypeForm) → Allowed (before ++ parted_parameter q t ∷ []) form
 all_allowed [] q t form = tt
 all_allowed (c ∷ rest') q t form = tt
 
@@ -308,7 +308,7 @@ pub no_void : (before : List PartedParameter) (q : ParameterPhrase) → FreeOf b
 no_void [] q free ok = ok
 no_void (c ∷ rest') q free ok = free
 
-pub parameter_ends_fine : (f : FunctionText) (ts : List Seen) (before : List PartedParameter) (q : ParameterPhrase) (t : Seen) → Parameters f ts before → IsParameter q → Allowed before q.declaration.form →
+parameter_ends_fine : (f : FunctionText) (ts : List Seen) (before : List PartedParameter) (q : ParameterPhrase) (t : Seen) → Parameters f ts before → IsParameter q → Allowed before q.declaration.form →
     FineStep (ts ++ parameter_tokens q ++ t ∷ []) (parameter_ends (with_parameter f (parameter_tree q)) t)
 parameter_ends_fine _ _ _ q t (parameters_are p d opening before marked' named opens all free) is ok =
     if_step _ (is_comma t.0) _ _
@@ -322,7 +322,7 @@ parameter_ends_fine _ _ _ q t (parameters_are p d opening before marked' named o
     (λ h. is_row (body_row (with_parameter (opened_function p d (parted_parameter_trees before) []) (parameter_tree q))) ((mark_tokens p ++ declaration_tokens d ++ opening ++ parted_parameter_tokens before) ++ parameter_tokens q) (t ∷ []) left_brace []
     (λ more fit. body_is _ _ _ (locals_same _ _ _ (simp (append_assoc, append-nil)) (locals_are p d opening (of_parameters before q) (t ∷ more) [] marked' named opens (all, is, no_void before q free ok) (h, fit) tt)))) (λ _. tt))
 
-pub on_parameter_fine : (f : FunctionText) (ts : List Seen) (before : List PartedParameter) (d : Declaration) (t : Seen) → Parameters f ts before → IsDeclaration d → Allowed before d.form →
+on_parameter_fine : (f : FunctionText) (ts : List Seen) (before : List PartedParameter) (d : Declaration) (t : Seen) → Parameters f ts before → IsDeclaration d → Allowed before d.form →
     FineStep (ts ++ declaration_tokens d ++ t ∷ []) (step (on_parameter f (parameter_of d None)) t)
 on_parameter_fine f ts before d t begun is ok =
     if_step _ (is_range t.0) _ _
@@ -330,7 +330,7 @@ on_parameter_fine f ts before d t begun is ok =
     (λ _. let same : ts ++ (declaration_tokens d ++ []) ++ t ∷ [] ≡ ts ++ declaration_tokens d ++ t ∷ [] = simp append-nil in
     subst (λ (l : List Seen). FineStep l (parameter_ends (with_parameter f (parameter_of d None)) t)) same (parameter_ends_fine f ts before record { declaration = d; range = None } t begun (is, tt) ok))
 
-pub first_fine : (f : FunctionText) (ts : List Seen) (t : Seen) → Parameters f ts [] → FineStep (ts ++ t ∷ []) (step (before_parameter f) t)
+first_fine : (f : FunctionText) (ts : List Seen) (t : Seen) → Parameters f ts [] → FineStep (ts ++ t ∷ []) (step (before_parameter f) t)
 first_fine f ts t begun =
     if_step _ (is_void t.0) _ _ (λ h. void_row f ts t begun h)
     (λ h. begin_fine (a_parameter f) ts false t.0 t.1 (parameter_is f ts [] begun) (λ h'. let e : true ≡ false = sym h' ∙ h in absurd cc) (λ form v. v))
@@ -342,15 +342,15 @@ first_fine f ts t begun =
 
 -- ---- the body
 
-pub more_locals : (locals : List LocalPhrase) (l : LocalPhrase) → local_trees (locals ++ l ∷ []) ≡ local_trees locals ++ local_trees (l ∷ [])
+more_locals : (locals : List LocalPhrase) (l : LocalPhrase) → local_trees (locals ++ l ∷ []) ≡ local_trees locals ++ local_trees (l ∷ [])
 more_locals [] l = refl
 more_locals (x ∷ rest') l = ap (λ (k : List LocalVariable). local_trees (x ∷ []) ++ k) (more_locals rest' l)
 
-pub more_local_tokens : (locals : List LocalPhrase) (l : LocalPhrase) → local_tokens (locals ++ l ∷ []) ≡ local_tokens locals ++ local_tokens (l ∷ [])
+more_local_tokens : (locals : List LocalPhrase) (l : LocalPhrase) → local_tokens (locals ++ l ∷ []) ≡ local_tokens locals ++ local_tokens (l ∷ [])
 more_local_tokens [] l = refl
 more_local_tokens (x ∷ rest') l = ap (λ (k : List Seen). declaration_tokens x.declaration ++ x.sign ++ spelled x.value ++ x.tail ++ k) (more_local_tokens rest' l) ∙ simp append_assoc
 
-pub more_are_locals : (locals : List LocalPhrase) (l : LocalPhrase) → AreLocals locals → AreLocals (l ∷ []) → AreLocals (locals ++ l ∷ [])
+more_are_locals : (locals : List LocalPhrase) (l : LocalPhrase) → AreLocals locals → AreLocals (l ∷ []) → AreLocals (locals ++ l ∷ [])
 more_are_locals [] l all is = is
 more_are_locals (x ∷ rest') l all is = (all.0, all.1, all.2, all.3, more_are_locals rest' l all.4 is)
 
@@ -362,7 +362,7 @@ one_more_local _ _ l (locals_are p d opening params begins locals marked' named 
     subst (λ (k : List LocalVariable). Locals (opened_function p d (parameters_tree params) k) ((mark_tokens p ++ declaration_tokens d ++ opening ++ parameters_tokens params ++ begins ++ local_tokens locals) ++ local_tokens (l ∷ []))) (more_locals locals l)
     (locals_same _ _ _ tokens (locals_are p d opening params begins (locals ++ l ∷ []) marked' named opens given braces (more_are_locals locals l all is)))
 
-pub body_ends_fine : (f : FunctionText) (ts : List Seen) (t : Seen) → Bodies f ts → FineStep (ts ++ t ∷ []) (body_ends f t)
+body_ends_fine : (f : FunctionText) (ts : List Seen) (t : Seen) → Bodies f ts → FineStep (ts ++ t ∷ []) (body_ends f t)
 body_ends_fine _ _ t (bodies_are _ _ ss (locals_are p d opening params begins locals marked' named opens given braces all) right) =
     if_step _ (is_right_brace t.0) _ _
     (λ h. record {
@@ -381,13 +381,13 @@ statement_fine f ts mid t (leaves statements) begun fine =
     (subst (λ (l : List Statement). FineStep (ts ++ all_written fine.0 ++ t ∷ []) (statement_step f (leaves l) t)) fine.2 (body_ends_fine _ _ t (bodies_are f ts fine.0 begun fine.1)))
 statement_fine f ts mid t wrong begun fine = tt
 
-pub local_fine : (f : FunctionText) (ts : List Seen) (t : Seen) → Locals f ts → FineStep (ts ++ t ∷ []) (step (before_local f) t)
+local_fine : (f : FunctionText) (ts : List Seen) (t : Seen) → Locals f ts → FineStep (ts ++ t ∷ []) (step (before_local f) t)
 local_fine f ts t begun =
     if_step _ (begins_type t.0) _ _ (λ h. begin_fine (a_local f) ts true t.0 t.1 (local_is f ts begun) (λ h. tt) (λ form h. tt))
     (λ _. let same : ts ++ [] ++ t ∷ [] ≡ ts ++ t ∷ [] = simp append-nil in
     subst (λ (l : List Seen). FineStep l (statement_step f (turn body_begins t) t)) same (statement_fine f ts [] t (turn body_begins t) begun (turn_fine body_begins [] t (at_between (in_body []) [] (body_opened no_phrases tt)))))
 
-pub value_ends_fine : (v : Value) (before : List Seen) (q : Phrase) (t : Seen) → ValueIs v before → IsExpression 1 q → fits semicolon t.0 ≡ true → FineStep (before ++ spelled q ++ t ∷ []) (value_ends v (tree q) t)
+value_ends_fine : (v : Value) (before : List Seen) (q : Phrase) (t : Seen) → ValueIs v before → IsExpression 1 q → fits semicolon t.0 ≡ true → FineStep (before ++ spelled q ++ t ∷ []) (value_ends v (tree q) t)
 value_ends_fine _ _ q t (local_value_is f ts d sign begun is row) short h =
     stage_same _ (ts ++ local_tokens (record { declaration = d; sign = sign; value = q; tail = t ∷ [] } ∷ [])) _ (simp (append_assoc, append-nil))
     (is_local _ _ (one_more_local f ts record { declaration = d; sign = sign; value = q; tail = t ∷ [] } begun (is, row, short, (h, tt), tt)))
@@ -400,7 +400,7 @@ value_ends_fine _ _ q t (result_value_is _ _ head (bodies_are _ _ ss (locals_are
       tokens = simp append_assoc;
     })
 
-pub value_fine : (v : Value) (before mid : List Seen) (room : ℕ) (t : Seen) (x : Move) → ValueIs v before → Fine 1 mid t x → FineStep (before ++ mid ++ t ∷ []) (value_moves v room t x)
+value_fine : (v : Value) (before mid : List Seen) (room : ℕ) (t : Seen) (x : Move) → ValueIs v before → Fine 1 mid t x → FineStep (before ++ mid ++ t ∷ []) (value_moves v room t x)
 unfolding Fine
 value_fine v before mid room t (goes s) is fine = stage_same _ (before ++ (mid ++ t ∷ [])) _ (simp append_assoc) (is_value v before (mid ++ t ∷ []) s (room - 1) is fine)
 value_fine v before mid room t (ends e) is fine =
@@ -411,7 +411,7 @@ value_fine v before mid room t stops is fine = tt
 
 -- ---- rows
 
-pub more_regions : (rows : List (List Seen)) (row : List Seen) → region_trees (rows ++ row ∷ []) ≡ region_trees rows ++ region_in row ∷ []
+more_regions : (rows : List (List Seen)) (row : List Seen) → region_trees (rows ++ row ∷ []) ≡ region_trees rows ++ region_in row ∷ []
 more_regions [] row = refl
 more_regions (r ∷ rows) row = ap (λ (l : List RegionText). region_in r ∷ l) (more_regions rows row)
 
@@ -423,13 +423,13 @@ pub more_are_regions : (rows : List (List Seen)) (row : List Seen) → AreRegion
 more_are_regions [] row all fit = (fit, tt)
 more_are_regions (r ∷ rows) row all fit = (all.0, more_are_regions rows row all.1 fit)
 
-pub region_fine : (p : MarkPhrase) (all : List Seen) → IsMark (Some p) → IsRow region_slots all → StageIs (marked (with_region (mark_text p.head (region_trees p.regions)) (region_in all))) (mark_tokens (Some p) ++ all)
+region_fine : (p : MarkPhrase) (all : List Seen) → IsMark (Some p) → IsRow region_slots all → StageIs (marked (with_region (mark_text p.head (region_trees p.regions)) (region_in all))) (mark_tokens (Some p) ++ all)
 region_fine p all is fit =
     let tokens : p.head ++ region_tokens (p.regions ++ all ∷ []) ≡ (p.head ++ region_tokens p.regions) ++ all = ap (λ (l : List Seen). p.head ++ l) (more_region_tokens p.regions all) ∙ sym (append_assoc p.head (region_tokens p.regions) all) in
     subst (λ (l : List RegionText). StageIs (marked (mark_text p.head l)) ((p.head ++ region_tokens p.regions) ++ all)) (more_regions p.regions all)
     (stage_same _ _ _ tokens (is_marked record { head = p.head; regions = p.regions ++ all ∷ [] } (is.0, more_are_regions p.regions all is.1 fit)))
 
-pub row_ends_fine : (row : ItemRow) (before all : List Seen) → ItemRowIs row before all → FineStep (before ++ all) (row_ends row all)
+row_ends_fine : (row : ItemRow) (before all : List Seen) → ItemRowIs row before all → FineStep (before ++ all) (row_ends row all)
 row_ends_fine _ _ _ (mark_is all fit) = stage_same _ (all ++ []) _ (simp append-nil) (is_marked record { head = all; regions = [] } (fit, tt))
 row_ends_fine _ _ _ (region_is p all is fit) =
     subst (λ (x : ItemStep). FineStep (mark_tokens (Some p) ++ all) x) (sym (region_ends (mark_text p.head (region_trees p.regions)) all fit)) (region_fine p all is fit)

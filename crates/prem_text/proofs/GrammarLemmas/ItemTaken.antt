@@ -64,42 +64,42 @@ void_begins d (word w.Void) at h = refl
 void_begins d (word _) at h = absurd cc
 void_begins d _ at h = absurd cc
 
-pub int_begins : (d : Declared) (x : Lexeme) (at : Place) → fits the_int x ≡ true → type_or_name d no_type at x ≡ ahead (in_type d (a_type Int))
+int_begins : (d : Declared) (x : Lexeme) (at : Place) → fits the_int x ≡ true → type_or_name d no_type at x ≡ ahead (in_type d (a_type Int))
 int_begins d (word w.Int) at h = refl
 int_begins d (word _) at h = absurd cc
 int_begins d _ at h = absurd cc
 
-pub short_begins : (d : Declared) (x : Lexeme) (at : Place) → fits the_short x ≡ true → type_or_name d no_type at x ≡ ahead (in_type d (a_type Short))
+short_begins : (d : Declared) (x : Lexeme) (at : Place) → fits the_short x ≡ true → type_or_name d no_type at x ≡ ahead (in_type d (a_type Short))
 short_begins d (word w.Short) at h = refl
 short_begins d (word _) at h = absurd cc
 short_begins d _ at h = absurd cc
 
-pub signed_begins : (d : Declared) (x : Lexeme) (at : Place) → fits the_signed x ≡ true → type_or_name d no_type at x ≡ ahead (in_type d (after_signed))
+signed_begins : (d : Declared) (x : Lexeme) (at : Place) → fits the_signed x ≡ true → type_or_name d no_type at x ≡ ahead (in_type d (after_signed))
 signed_begins d (word w.Signed) at h = refl
 signed_begins d (word _) at h = absurd cc
 signed_begins d _ at h = absurd cc
 
-pub unsigned_begins : (d : Declared) (x : Lexeme) (at : Place) → fits the_unsigned x ≡ true → type_or_name d no_type at x ≡ ahead (in_type d (after_unsigned))
+unsigned_begins : (d : Declared) (x : Lexeme) (at : Place) → fits the_unsigned x ≡ true → type_or_name d no_type at x ≡ ahead (in_type d (after_unsigned))
 unsigned_begins d (word w.Unsigned) at h = refl
 unsigned_begins d (word _) at h = absurd cc
 unsigned_begins d _ at h = absurd cc
 
-pub after_signed_char : (d : Declared) (x : Lexeme) (at : Place) → fits the_char x ≡ true → type_or_name d after_signed at x ≡ ahead (in_type d (a_type Schar))
+after_signed_char : (d : Declared) (x : Lexeme) (at : Place) → fits the_char x ≡ true → type_or_name d after_signed at x ≡ ahead (in_type d (a_type Schar))
 after_signed_char d (word w.Char) at h = refl
 after_signed_char d (word _) at h = absurd cc
 after_signed_char d _ at h = absurd cc
 
-pub after_unsigned_int : (d : Declared) (x : Lexeme) (at : Place) → fits the_int x ≡ true → type_or_name d after_unsigned at x ≡ ahead (in_type d (a_type Unsigned))
+after_unsigned_int : (d : Declared) (x : Lexeme) (at : Place) → fits the_int x ≡ true → type_or_name d after_unsigned at x ≡ ahead (in_type d (a_type Unsigned))
 after_unsigned_int d (word w.Int) at h = refl
 after_unsigned_int d (word _) at h = absurd cc
 after_unsigned_int d _ at h = absurd cc
 
-pub after_unsigned_short : (d : Declared) (x : Lexeme) (at : Place) → fits the_short x ≡ true → type_or_name d after_unsigned at x ≡ ahead (in_type d (a_type Ushort))
+after_unsigned_short : (d : Declared) (x : Lexeme) (at : Place) → fits the_short x ≡ true → type_or_name d after_unsigned at x ≡ ahead (in_type d (a_type Ushort))
 after_unsigned_short d (word w.Short) at h = refl
 after_unsigned_short d (word _) at h = absurd cc
 after_unsigned_short d _ at h = absurd cc
 
-pub after_unsigned_char : (d : Declared) (x : Lexeme) (at : Place) → fits the_char x ≡ true → type_or_name d after_unsigned at x ≡ ahead (in_type d (a_type Uchar))
+after_unsigned_char : (d : Declared) (x : Lexeme) (at : Place) → fits the_char x ≡ true → type_or_name d after_unsigned at x ≡ ahead (in_type d (a_type Uchar))
 after_unsigned_char d (word w.Char) at h = refl
 after_unsigned_char d (word _) at h = absurd cc
 after_unsigned_char d _ at h = absurd cc
@@ -156,7 +156,7 @@ words_run unsigned_char_type d s (t ∷ []) row begins = absurd row.1
 words_run unsigned_char_type d s (t ∷ u ∷ []) row begins = forth _ (in_type d after_unsigned) _ t _ false _ (begins t row.0 ∙ unsigned_begins d t.0 t.1 row.0) refl (forth _ _ _ u [] false [] (after_unsigned_char d u.0 u.1 row.1.0) refl (rest _))
 words_run unsigned_char_type d s (t ∷ u ∷ v ∷ ts) row begins = absurd row.1.1
 
-pub type_known : (form : TypeForm) → type_in (typing_of form) ≡ Some (type_of form)
+type_known : (form : TypeForm) → type_in (typing_of form) ≡ Some (type_of form)
 type_known void_type = refl
 type_known int_type = refl
 type_known short_type = refl
@@ -166,12 +166,12 @@ type_known unsigned_int_type = refl
 type_known unsigned_short_type = refl
 type_known unsigned_char_type = refl
 
-pub declared_quiet : (d : Declared) (ty : Ty) (at : Place) (x : Text) → is_too_deep (declared d ty at x) ≡ false
+declared_quiet : (d : Declared) (ty : Ty) (at : Place) (x : Text) → is_too_deep (declared d ty at x) ≡ false
 declared_quiet (an_item annotation) ty at x = refl
 declared_quiet (a_parameter f) ty at x = refl
 declared_quiet (a_local f) ty at x = refl
 
-pub name_declares : (d : Declared) (typing : Typing) (ty : Ty) (x : Lexeme) (at : Place) → type_in typing ≡ Some ty → is_name x ≡ true → type_or_name d typing at x ≡ ahead (declared d ty at (name_or_none (text_of x)))
+name_declares : (d : Declared) (typing : Typing) (ty : Ty) (x : Lexeme) (at : Place) → type_in typing ≡ Some ty → is_name x ≡ true → type_or_name d typing at x ≡ ahead (declared d ty at (name_or_none (text_of x)))
 name_declares d typing ty (name x) at is h = ap (λ (o : Option Ty). elim o [ Some ty' ↦ ahead (declared d ty' at x) | None ↦ refused ]) is
 name_declares d typing ty (number v k) at is h = absurd cc
 name_declares d typing ty (word x) at is h = absurd cc
@@ -197,12 +197,12 @@ literal_read c negative (word x) h = absurd cc
 literal_read c negative (mark x) h = absurd cc
 literal_read c negative end_of_text h = absurd cc
 
-pub minus_read : (c : Constant) (x : Lexeme) → fits minus_sign x ≡ true → constant c false x ≡ ahead (before_constant c true)
+minus_read : (c : Constant) (x : Lexeme) → fits minus_sign x ≡ true → constant c false x ≡ ahead (before_constant c true)
 minus_read c (mark m.Minus) h = refl
 minus_read c (mark _) h = absurd cc
 minus_read c _ h = absurd cc
 
-pub no_brace : (slot : Slot) (x : Lexeme) → fits slot (mark m.OpenBrace) ≡ false → fits slot x ≡ true → is_left_brace x ≡ false
+no_brace : (slot : Slot) (x : Lexeme) → fits slot (mark m.OpenBrace) ≡ false → fits slot x ≡ true → is_left_brace x ≡ false
 no_brace slot (mark m.OpenBrace) is h = let e : false ≡ true = sym is ∙ h in absurd cc
 no_brace slot (mark _) is h = refl
 no_brace slot _ is h = refl

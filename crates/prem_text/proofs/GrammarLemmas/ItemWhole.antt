@@ -19,7 +19,7 @@ use Rattle.prem_text.proofs.GrammarLemmas.ItemTaken.{Runs, rest, forth, runs_app
 abbrev pub mark_text : List Seen → List RegionText → MarkText
 mark_text head regions = record { stated = value_at 2 head; regions = regions }
 
-pub region_begins : (annotation : MarkText) (t : Seen) → fits the_region t.0 ≡ true →
+region_begins : (annotation : MarkText) (t : Seen) → fits the_region t.0 ≡ true →
     step (marked annotation) t ≡ ahead (in_row (region_row annotation) (t ∷ []) left_parenthesis (a_name ∷ comma ∷ a_literal ∷ comma ∷ a_literal ∷ right_parenthesis ∷ []))
 region_begins annotation t h = rw h refl
 
@@ -33,7 +33,7 @@ pub region_ends : (annotation : MarkText) (row : List Seen) → IsRow region_slo
 region_ends annotation row fit =
     ap (λ (o : Option Text). elim o [ Some x ↦ ahead (marked (with_region annotation record { at = place_at 2 row; name = x; low = value_at 4 row; high = value_at 6 row })) | None ↦ refused ]) (name_in_row 2 region_slots row refl fit)
 
-pub regions_run : (head : List Seen) (acc : List RegionText) (rows : List (List Seen)) → AreRegions rows →
+regions_run : (head : List Seen) (acc : List RegionText) (rows : List (List Seen)) → AreRegions rows →
     Runs (marked (mark_text head acc)) (region_tokens rows) (quiet (region_tokens rows)) (marked (mark_text head (acc ++ region_trees rows)))
 regions_run head acc [] all = subst (λ (l : List RegionText). Runs (marked (mark_text head acc)) [] [] (marked (mark_text head l))) (sym (append-nil acc)) (rest _)
 regions_run head acc (row ∷ rows) all =
@@ -48,7 +48,7 @@ abbrev pub before_item : Option MarkPhrase → Stage
 before_item None = outside
 before_item (Some p) = marked (mark_text p.head (region_trees p.regions))
 
-pub predictable_begins : (x : Lexeme) (at : Place) → fits the_predictable x ≡ true → step outside (x, at) ≡ ahead (in_row mark_row ((x, at) ∷ []) left_parenthesis (a_literal ∷ right_parenthesis ∷ []))
+predictable_begins : (x : Lexeme) (at : Place) → fits the_predictable x ≡ true → step outside (x, at) ≡ ahead (in_row mark_row ((x, at) ∷ []) left_parenthesis (a_literal ∷ right_parenthesis ∷ []))
 predictable_begins (word w.Predictable) at h = refl
 predictable_begins (word _) at h = absurd cc
 predictable_begins _ at h = absurd cc
@@ -99,20 +99,20 @@ pub record ItemRead (i : ItemPhrase) : Type 0 where
   pub runs : Runs outside front flags stage
   pub ends : step stage last ≡ made (item_tree i)
 
-pub bracket_begins : (ty : Ty) (at : Place) (x : Text) (t : Seen) → fits left_bracket t.0 ≡ true → is_left_parenthesis t.0 ≡ false → step (behind_item None ty at x) t ≡ ahead (in_row (length_row (scalar ty at x)) (t ∷ []) a_literal (right_bracket ∷ []))
+bracket_begins : (ty : Ty) (at : Place) (x : Text) (t : Seen) → fits left_bracket t.0 ≡ true → is_left_parenthesis t.0 ≡ false → step (behind_item None ty at x) t ≡ ahead (in_row (length_row (scalar ty at x)) (t ∷ []) a_literal (right_bracket ∷ []))
 bracket_begins ty at x t h other = rw (other, h) refl
 
-pub no_parenthesis : (slot : Slot) (x : Lexeme) → fits slot (mark m.OpenParenthesis) ≡ false → fits slot x ≡ true → is_left_parenthesis x ≡ false
+no_parenthesis : (slot : Slot) (x : Lexeme) → fits slot (mark m.OpenParenthesis) ≡ false → fits slot x ≡ true → is_left_parenthesis x ≡ false
 no_parenthesis slot (mark m.OpenParenthesis) is h = let e : false ≡ true = sym is ∙ h in absurd cc
 no_parenthesis slot (mark _) is h = refl
 no_parenthesis slot _ is h = refl
 
-pub no_bracket : (slot : Slot) (x : Lexeme) → fits slot (mark m.OpenBracket) ≡ false → fits slot x ≡ true → is_left_bracket x ≡ false
+no_bracket : (slot : Slot) (x : Lexeme) → fits slot (mark m.OpenBracket) ≡ false → fits slot x ≡ true → is_left_bracket x ≡ false
 no_bracket slot (mark m.OpenBracket) is h = let e : false ≡ true = sym is ∙ h in absurd cc
 no_bracket slot (mark _) is h = refl
 no_bracket slot _ is h = refl
 
-pub no_equal : (slot : Slot) (x : Lexeme) → fits slot (mark m.Equal) ≡ false → fits slot x ≡ true → is_equal x ≡ false
+no_equal : (slot : Slot) (x : Lexeme) → fits slot (mark m.Equal) ≡ false → fits slot x ≡ true → is_equal x ≡ false
 no_equal slot (mark m.Equal) is h = let e : false ≡ true = sym is ∙ h in absurd cc
 no_equal slot (mark _) is h = refl
 no_equal slot _ is h = refl
@@ -129,7 +129,7 @@ pub record Sized (d : Declaration) (len : Option (List Seen)) : Type 0 where
   equal : (t : Seen) → fits equal_sign t.0 ≡ true → step stage t ≡ ahead (before_initial (global_of d (length_tree len) absent))
   closed : (t : Seen) → fits semicolon t.0 ≡ true → step stage t ≡ made (global_item (global_of d (length_tree len) absent))
 
-pub length_read : (d : Declaration) (len : Option (List Seen)) → IsLength len → Sized d len
+length_read : (d : Declaration) (len : Option (List Seen)) → IsLength len → Sized d len
 length_read d None is = record {
   stage = behind_item None (type_of d.form) (place_at 0 d.name_row) (name_at 0 d.name_row);
   runs = rest _;
@@ -145,7 +145,7 @@ length_read d (Some row) is = record {
 }
 
 -- constants that `,` parts
-pub constants_run : (g : GlobalVariable) (acc : List ℤ) (before : List PartedConstant) → ArePartedConstants before →
+constants_run : (g : GlobalVariable) (acc : List ℤ) (before : List PartedConstant) → ArePartedConstants before →
     Runs (before_constant (next_value g acc) false) (constants_tokens before) (quiet (constants_tokens before)) (before_constant (next_value g (acc ++ constants_tree before)) false)
 constants_run g acc [] all = subst (λ (l : List ℤ). Runs (before_constant (next_value g acc) false) [] [] (before_constant (next_value g l) false)) (sym (append-nil acc)) (rest _)
 constants_run g acc (c ∷ before) all =
@@ -160,23 +160,23 @@ pub record Valued (d : Declaration) (len : Option (List Seen)) (initial : Initia
   runs : Runs (behind_item None (type_of d.form) (place_at 0 d.name_row) (name_at 0 d.name_row)) (length_tokens len ++ initial_tokens initial) (quiet (length_tokens len ++ initial_tokens initial)) stage
   closed : (t : Seen) → fits semicolon t.0 ≡ true → step stage t ≡ made (global_item (global_of d (length_tree len) (initial_tree initial)))
 
-pub value_closed : (g : GlobalVariable) (value : ℤ) (t : Seen) → fits semicolon t.0 ≡ true → step (behind_constant (only_value g) value) t ≡ made (global_item (with_initial g (one value)))
+value_closed : (g : GlobalVariable) (value : ℤ) (t : Seen) → fits semicolon t.0 ≡ true → step (behind_constant (only_value g) value) t ≡ made (global_item (with_initial g (one value)))
 value_closed g value t h = rw h refl
 
-pub list_closed : (g : GlobalVariable) (got : List Seen) (t : Seen) → fits semicolon t.0 ≡ true → step (in_row (global_row g) got semicolon []) t ≡ made (global_item g)
+list_closed : (g : GlobalVariable) (got : List Seen) (t : Seen) → fits semicolon t.0 ≡ true → step (in_row (global_row g) got semicolon []) t ≡ made (global_item g)
 list_closed g got t h = rw h refl
 
-pub list_begins : (g : GlobalVariable) (t : Seen) → fits left_brace t.0 ≡ true → step (before_initial g) t ≡ ahead (before_constant (next_value g []) false)
+list_begins : (g : GlobalVariable) (t : Seen) → fits left_brace t.0 ≡ true → step (before_initial g) t ≡ ahead (before_constant (next_value g []) false)
 list_begins g t h = rw h refl
 
-pub single_begins : (g : GlobalVariable) (t : Seen) → is_left_brace t.0 ≡ false → step (before_initial g) t ≡ constant (only_value g) false t.0
+single_begins : (g : GlobalVariable) (t : Seen) → is_left_brace t.0 ≡ false → step (before_initial g) t ≡ constant (only_value g) false t.0
 single_begins g t h = rw h refl
 
-pub brace_closes : (g : GlobalVariable) (acc : List ℤ) (value : ℤ) (t : Seen) → fits right_brace t.0 ≡ true →
+brace_closes : (g : GlobalVariable) (acc : List ℤ) (value : ℤ) (t : Seen) → fits right_brace t.0 ≡ true →
     step (behind_constant (next_value g acc) value) t ≡ ahead (in_row (global_row (with_initial g (many (acc ++ value ∷ [])))) (t ∷ []) semicolon [])
 brace_closes g acc value t h = rw (no_comma_at right_brace t.0 refl h, h) refl
 
-pub initial_read : (d : Declaration) (len : Option (List Seen)) (initial : InitialPhrase) → IsLength len → IsInitial initial → Valued d len initial
+initial_read : (d : Declaration) (len : Option (List Seen)) (initial : InitialPhrase) → IsLength len → IsInitial initial → Valued d len initial
 initial_read d len no_initial sized is =
     let s = length_read d len sized in
     record { stage = s.stage; runs = quietly _ _ (length_tokens len) [] (runs_append s.runs (rest _)); closed = s.closed }

@@ -29,16 +29,16 @@ pub record ReadingAll (ss : StatementPhrases) (f : List Statement → Around) (k
   pub turns : Turns (between (f before)) (all_written ss) (all_past (suc k) ss) end
   pub same : (t : Seen) → is_else t.0 ≡ false → turn end t ≡ turn (between (f (before ++ all_meant ss))) t
 
-pub brace_ends : (from : Place) (before : List Statement) (around : Around) (x : Lexeme) (at : Place) → is_right_brace x ≡ true →
+brace_ends : (from : Place) (before : List Statement) (around : Around) (x : Lexeme) (at : Place) → is_right_brace x ≡ true →
     turn (between (in_block from before around)) (x, at) ≡ on (ended (block from (listed before)) around)
 brace_ends from before around (mark m.CloseBrace) at h = refl
 brace_ends from before around (mark _) at h = absurd cc
 brace_ends from before around _ at h = absurd cc
 
-pub plainly : (s : StatementPhrase) (around : Around) (end : Point) → Turns (between around) (written s) (past (suc (depth_of around)) s) end → end ≡ ended (meant s) around → Reading s around
+plainly : (s : StatementPhrase) (around : Around) (end : Point) → Turns (between around) (written s) (past (suc (depth_of around)) s) end → end ≡ ended (meant s) around → Reading s around
 plainly s around end turns is = record { end = end; turns = turns; same = λ t plain. ap (λ (p : Point). turn p t) is }
 
-pub else_taken : (first : Point) (at : Place) (condition : Expression) (taken : Statement) (around : Around) (t : Seen) → is_else t.0 ≡ true → turn first t ≡ turn (may_else at condition taken around) t →
+else_taken : (first : Point) (at : Place) (condition : Expression) (taken : Statement) (around : Around) (t : Seen) → is_else t.0 ≡ true → turn first t ≡ turn (may_else at condition taken around) t →
     turn first t ≡ on (between (in_other at condition taken around))
 else_taken first at condition taken around t h is = is ∙ rw h refl
 
@@ -49,7 +49,7 @@ pub pairs : (xs ys : List Seen) (cs bs : List Bool) → xs ≡ ys → cs ≡ bs 
 pairs xs ys cs bs same flags = ap (λ (l : List Seen). both_of l cs) same ∙ ap (λ (l : List Bool). both_of ys l) flags
 
 mutual
-  pub reads_statement : (s : StatementPhrase) (around : Around) → IsStatement s → Reading s around
+  reads_statement : (s : StatementPhrase) (around : Around) → IsStatement s → Reading s around
   reads_statement (of_block [] inner tail) around right = absurd right.0
   reads_statement (of_block (h ∷ h' ∷ hs) inner tail) around right = absurd right.0.1
   reads_statement (of_block (h ∷ []) inner []) around right = absurd right.2

@@ -60,7 +60,7 @@ read_step items s t ts x is = by (step s t) ∙ ap (read_by items t ts) is
 
 -- ---- programs of the grammar
 
-pub runs_stages : (items : List ItemText) (s end : Stage) (ts ys : List Seen) (bs : List Bool) → Runs s ts bs end → (stages items s (ts ++ ys) ≡ stages items end ys) × (depths s (ts ++ ys) ≡ bs ++ depths end ys)
+runs_stages : (items : List ItemText) (s end : Stage) (ts ys : List Seen) (bs : List Bool) → Runs s ts bs end → (stages items s (ts ++ ys) ≡ stages items end ys) × (depths s (ts ++ ys) ≡ bs ++ depths end ys)
 runs_stages items s _ _ ys _ (rest _) = (refl, refl)
 runs_stages items s end _ ys _ (forth _ mid _ t ts b bs is flag later) =
     let r = runs_stages items mid end ts ys bs later in (
@@ -68,11 +68,11 @@ runs_stages items s end _ ys _ (forth _ mid _ t ts b bs is flag later) =
       depths_step s t (ts ++ ys) (ahead mid) is ∙ ap (λ (x : Bool). x ∷ depths mid (ts ++ ys)) flag ∙ ap (λ (l : List Bool). b ∷ l) r.1,
     )
 
-pub item_read : (i : ItemPhrase) → IsItem i → ItemRead i
+item_read : (i : ItemPhrase) → IsItem i → ItemRead i
 item_read (of_global g) is = global_read g is
 item_read (of_function f) is = function_read f is
 
-pub item_stages : (items : List ItemText) (i : ItemPhrase) (ys : List Seen) → IsItem i →
+item_stages : (items : List ItemText) (i : ItemPhrase) (ys : List Seen) → IsItem i →
     (stages items outside (item_tokens i ++ ys) ≡ stages (items ++ item_tree i ∷ []) outside ys) × (depths outside (item_tokens i ++ ys) ≡ item_past i ++ depths outside ys)
 item_stages items i ys is =
     let r = item_read i is in
@@ -83,7 +83,7 @@ item_stages items i ys is =
           ∙ sym (append_assoc r.flags (false ∷ []) (depths outside ys)) ∙ ap (λ (l : List Bool). l ++ depths outside ys) (sym r.limits),
     )
 
-pub items_stages : (items : List ItemText) (all : List ItemPhrase) (ys : List Seen) → AreItems all →
+items_stages : (items : List ItemText) (all : List ItemPhrase) (ys : List Seen) → AreItems all →
     (stages items outside (items_tokens all ++ ys) ≡ stages (items ++ items_tree all) outside ys) × (depths outside (items_tokens all ++ ys) ≡ items_past all ++ depths outside ys)
 items_stages items [] ys are = (ap (λ (l : List ItemText). stages l outside ys) (sym (append-nil items)), refl)
 items_stages items (i ∷ all) ys are =
@@ -94,7 +94,7 @@ items_stages items (i ∷ all) ys are =
       ap (λ (l : List Seen). depths outside l) parts ∙ one.1 ∙ ap (λ (l : List Bool). item_past i ++ l) later.1 ∙ sym (append_assoc (item_past i) (items_past all) (depths outside ys)),
     )
 
-pub end_read : (t : Seen) → fits the_end t.0 ≡ true → step outside t ≡ ahead finished
+end_read : (t : Seen) → fits the_end t.0 ≡ true → step outside t ≡ ahead finished
 end_read t h = rw h refl
 
 abbrev pub reached : List ItemText → Stage → Reached
@@ -159,7 +159,7 @@ stages_split (t ∷ ts) ys items s q is = by (step s t) refl (λ items' next is'
 
 -- ---- the first token past a limit
 
-pub deep_at : (good : List Seen) (items : List ItemText) (s : Stage) (t : Seen) (more later : List Seen) (bs : List Bool) → depths s (good ++ t ∷ more) ≡ quiet good ++ true ∷ bs → read_on items s (good ++ t ∷ later) ≡ too_deep t.1
+deep_at : (good : List Seen) (items : List ItemText) (s : Stage) (t : Seen) (more later : List Seen) (bs : List Bool) → depths s (good ++ t ∷ more) ≡ quiet good ++ true ∷ bs → read_on items s (good ++ t ∷ later) ≡ too_deep t.1
 deep_at [] items s t more later bs is = by (step s t) refl
   where
     by : (x : ItemStep) → step s t ≡ x → read_on items s (t ∷ later) ≡ too_deep t.1

@@ -17,7 +17,7 @@ pub record IsSpelled (ts : List Seen) (items : ProgramText) : Type 0 where
   pub tokens : program_tokens phrase ≡ ts
   pub tree_is : program_tree phrase ≡ items
 
-pub more_items : (all : List ItemPhrase) (i : ItemPhrase) → items_tree (all ++ i ∷ []) ≡ items_tree all ++ item_tree i ∷ []
+more_items : (all : List ItemPhrase) (i : ItemPhrase) → items_tree (all ++ i ∷ []) ≡ items_tree all ++ item_tree i ∷ []
 more_items [] i = refl
 more_items (x ∷ rest) i = ap (λ (l : List ItemText). item_tree x ∷ l) (more_items rest i)
 
@@ -38,7 +38,7 @@ pub record SoFar (items : List ItemText) (s : Stage) (pre : List Seen) : Type 0 
   pub stage : StageIs s mid
   pub tokens : items_tokens phrases ++ mid ≡ pre
 
-pub ends_spelled : (items items' : List ItemText) (s : Stage) (ts : List Seen) → SoFar items s ts → at_end items s ≡ Ok items' → IsSpelled ts items'
+ends_spelled : (items items' : List ItemText) (s : Stage) (ts : List Seen) → SoFar items s ts → at_end items s ≡ Ok items' → IsSpelled ts items'
 ends_spelled items items' finished ts far is = by far.mid far.stage far.tokens
   where
     by : (mid : List Seen) → StageIs finished mid → items_tokens far.phrases ++ mid ≡ ts → IsSpelled ts items'
@@ -69,7 +69,7 @@ far_made items item s pre t far is = by (subst (λ (y : ItemStep). FineStep (far
           ∙ sym (append_assoc (items_tokens far.phrases) far.mid (t ∷ [])) ∙ ap (λ (l : List Seen). l ++ t ∷ []) far.tokens;
     }
 
-pub step_far : (items items' : List ItemText) (s : Stage) (pre : List Seen) (t : Seen) (ts : List Seen) (x : ItemStep) → step s t ≡ x → SoFar items s pre → read_on items s (t ∷ ts) ≡ Ok items' →
+step_far : (items items' : List ItemText) (s : Stage) (pre : List Seen) (t : Seen) (ts : List Seen) (x : ItemStep) → step s t ≡ x → SoFar items s pre → read_on items s (t ∷ ts) ≡ Ok items' →
     ((more : List ItemText) (next : Stage) → SoFar more next (pre ++ t ∷ []) → read_on more next ts ≡ Ok items' → IsSpelled ((pre ++ t ∷ []) ++ ts) items') → IsSpelled (pre ++ t ∷ ts) items'
 step_far items items' s pre t ts (ahead next) is far read' go_on = by (is_too_deep next) refl
   where
@@ -83,7 +83,7 @@ step_far items items' s pre t ts (made item) is far read' go_on =
     (go_on (items ++ item ∷ []) outside (far_made items item s pre t far is) (sym (read_step items s t ts (made item) is) ∙ read'))
 step_far items items' s pre t ts refused is far read' go_on = let same : no_program t.1 ≡ Ok items' = sym (read_step items s t ts refused is) ∙ read' in absurd cc
 
-pub spelled_on : (ts : List Seen) (items items' : List ItemText) (s : Stage) (pre : List Seen) → SoFar items s pre → read_on items s ts ≡ Ok items' → IsSpelled (pre ++ ts) items'
+spelled_on : (ts : List Seen) (items items' : List ItemText) (s : Stage) (pre : List Seen) → SoFar items s pre → read_on items s ts ≡ Ok items' → IsSpelled (pre ++ ts) items'
 spelled_on [] items items' s pre far read' = subst (λ (l : List Seen). IsSpelled l items') (sym (append-nil pre)) (ends_spelled items items' s pre far read')
 spelled_on (t ∷ ts) items items' s pre far read' =
     step_far items items' s pre t ts (step s t) refl far read' (λ more next far' read''. spelled_on ts more items' next (pre ++ t ∷ []) far' read'')

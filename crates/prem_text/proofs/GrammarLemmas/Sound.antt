@@ -3,10 +3,10 @@ use Rattle.std.proofs.Common.{◌≡◌, ◌≤◌, ◌<◌, ℕ, List, [], ◌�
 use Rattle.std.proofs.lemmas.Bool.Decides.{nat_tests}
 use Rattle.std.proofs.lemmas.List.{append-nil}
 use Rattle.prem_word.specs.declared.kind.Kind.TheVariants.{Int}
+use Rattle.prem_word.specs.declared.kind.BinOp.{BinOp}
 use Rattle.prem_syntax.specs.declared.tree.Place.{Place}
 use Rattle.prem_syntax.specs.declared.tree.UnOp.{UnOp}
 use Rattle.prem_syntax.specs.declared.tree.UnOp.TheVariants.{Neg, Flip, Not}
-use Rattle.prem_word.specs.declared.kind.BinOp.{BinOp}
 use Rattle.prem_syntax.specs.Syntax.{Text, Expression, element}
 use Rattle.prem_lexer.specs.declared.token.token.Mark.{Mark}
 use Rattle.prem_lexer.specs.declared.token.token.Mark.TheVariants as m

@@ -1,6 +1,6 @@
 -- What the tokens so far spell, wherever the reader of statements stands.
-use Rattle.std.proofs.Common.{◌≡◌, ℕ, List, [], ◌∷◌, ◌++◌, None, Some, Bool, true, false, refl, ap, sym, subst, ◌∙◌, append_assoc}
 use Rattle.std.specs.Prelude.{if◌then◌else◌}
+use Rattle.std.proofs.Common.{◌≡◌, ℕ, List, [], ◌∷◌, ◌++◌, None, Some, Bool, true, false, refl, ap, sym, subst, ◌∙◌, append_assoc}
 use Rattle.std.proofs.lemmas.List.{append-nil}
 use Rattle.prem_syntax.specs.declared.tree.Place.{Place}
 use Rattle.prem_syntax.specs.Syntax.{Text, Statement}
@@ -19,7 +19,7 @@ abbrev pub with_phrase : StatementPhrases → StatementPhrase → StatementPhras
 with_phrase no_phrases s = next_phrase s no_phrases
 with_phrase (next_phrase first rest) s = next_phrase first (with_phrase rest s)
 
-pub with_meant : (ss : StatementPhrases) (s : StatementPhrase) → all_meant (with_phrase ss s) ≡ all_meant ss ++ meant s ∷ []
+with_meant : (ss : StatementPhrases) (s : StatementPhrase) → all_meant (with_phrase ss s) ≡ all_meant ss ++ meant s ∷ []
 with_meant no_phrases s = refl
 with_meant (next_phrase first rest) s = ap (λ (l : List Statement). meant first ∷ l) (with_meant rest s)
 

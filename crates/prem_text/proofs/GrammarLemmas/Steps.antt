@@ -1,10 +1,10 @@
 -- How an expression's tokens are read, one after the other.
 use Rattle.std.proofs.Common.{◌≡◌, ◌≤◌, ◌<◌, ℕ, List, [], ◌∷◌, ◌++◌, Bool, Option, None, Some, true, false, refl, arith, nat_le}
 use Rattle.std.proofs.lemmas.Bool.Decides.{nat_tests}
-use Rattle.prem_syntax.specs.declared.tree.Place.{Place}
-use Rattle.prem_syntax.specs.declared.tree.UnOp.{UnOp}
 use Rattle.prem_word.specs.declared.kind.BinOp.{BinOp}
 use Rattle.prem_word.specs.declared.kind.BinOp.TheVariants.{Add}
+use Rattle.prem_syntax.specs.declared.tree.Place.{Place}
+use Rattle.prem_syntax.specs.declared.tree.UnOp.{UnOp}
 use Rattle.prem_syntax.specs.Syntax.{Expression}
 use Rattle.prem_lexer.specs.declared.token.token.Mark.{Mark}
 use Rattle.prem_lexer.specs.declared.token.token.Mark.TheVariants as m

@@ -1,6 +1,6 @@
 -- What the grammar of statements spells is read, and each token past a limit is seen to be.
-use Rattle.std.proofs.Common.{◌≡◌, ◌+◌, ◌-◌, ℕ, zero, suc, List, [], ◌∷◌, ◌++◌, Option, None, Some, Bool, true, false, ◌&&◌, not, refl, ap, subst, ◌∙◌, append_assoc, arith, nat_lt, nat_le}
 use Rattle.std.specs.Prelude.{if◌then◌else◌}
+use Rattle.std.proofs.Common.{◌≡◌, ◌+◌, ◌-◌, ℕ, zero, suc, List, [], ◌∷◌, ◌++◌, Option, None, Some, Bool, true, false, ◌&&◌, not, refl, ap, subst, ◌∙◌, append_assoc, arith, nat_lt, nat_le}
 use Rattle.std.proofs.lemmas.Bool.Decides.{nat_tests}
 use Rattle.prem_syntax.specs.declared.tree.Place.{Place}
 use Rattle.prem_syntax.specs.Syntax.{Text, Statement, if_else, bounded_while, counting_for}
@@ -36,11 +36,11 @@ depth_of (in_other at condition taken around) = suc (depth_of around)
 depth_of (in_while at turns condition around) = suc (depth_of around)
 depth_of (in_for at names low closed high step around) = suc (depth_of around)
 
-pub one_deeper : (n d : ℕ) (b : Bool) → b ≡ nat_le d (n - 1) → (nat_lt 0 n && b) ≡ nat_le (suc d) n
+one_deeper : (n d : ℕ) (b : Bool) → b ≡ nat_le d (n - 1) → (nat_lt 0 n && b) ≡ nat_le (suc d) n
 one_deeper zero d b is = grind (arith, nat_tests)
 one_deeper (suc n) d b is = let same : nat_lt 0 (suc n) ≡ true = grind (arith, nat_tests) in rw (same, is) (grind (arith, nat_tests))
 
-pub nests_depth : (n : ℕ) (around : Around) → nests n around ≡ nat_le (depth_of around) n
+nests_depth : (n : ℕ) (around : Around) → nests n around ≡ nat_le (depth_of around) n
 nests_depth n (in_body before) = grind (arith, nat_tests)
 nests_depth n (in_block at before around) = one_deeper n (depth_of around) _ (nests_depth (n - 1) around)
 nests_depth n (in_taken at condition around) = one_deeper n (depth_of around) _ (nests_depth (n - 1) around)
@@ -48,7 +48,7 @@ nests_depth n (in_other at condition taken around) = one_deeper n (depth_of arou
 nests_depth n (in_while at turns condition around) = one_deeper n (depth_of around) _ (nests_depth (n - 1) around)
 nests_depth n (in_for at names low closed high step around) = one_deeper n (depth_of around) _ (nests_depth (n - 1) around)
 
-pub deep_flag : (d : ℕ) → not (nat_le d 63) ≡ nat_lt 64 (suc d)
+deep_flag : (d : ℕ) → not (nat_le d 63) ≡ nat_lt 64 (suc d)
 deep_flag d = by (nat_le d 63) refl
   where
     by : (b : Bool) → nat_le d 63 ≡ b → not b ≡ nat_lt 64 (suc d)
@@ -83,7 +83,7 @@ after_move u s room around t (goes s') = on (inside u s' (room - 1) around)
 after_move u s room around t (ends e) = if is_left_parenthesis t.0 then elim (lone_name s) [ Some callee ↦ called u callee around | None ↦ wrong ] else used u e around t
 after_move u s room around t stops = if is_start s then at_start u around t else wrong
 
-pub by_moves : (u : Use) (s : State) (room : ℕ) (around : Around) (t : Seen) (y : Move) → (elim y [
+by_moves : (u : Use) (s : State) (room : ℕ) (around : Around) (t : Seen) (y : Move) → (elim y [
   | goes s' ↦ on (inside u s' (room - 1) around)
   | ends e ↦ if is_left_parenthesis t.0 then elim (lone_name s) [ Some callee ↦ called u callee around | None ↦ wrong ] else used u e around t
   | stops ↦ if is_start s then at_start u around t else wrong
@@ -92,7 +92,7 @@ by_moves u s room around t (goes s') = refl
 by_moves u s room around t (ends e) = refl
 by_moves u s room around t stops = refl
 
-pub by_move : (u : Use) (s : State) (room : ℕ) (around : Around) (t : Seen) (x : Move) → move (least_of u) s t ≡ x → turn (inside u s room around) t ≡ after_move u s room around t x
+by_move : (u : Use) (s : State) (room : ℕ) (around : Around) (t : Seen) (x : Move) → move (least_of u) s t ≡ x → turn (inside u s room around) t ≡ after_move u s room around t x
 by_move u s room around t x is = by_moves u s room around t (move (least_of u) s t) ∙ ap (after_move u s room around t) is
 
 -- an expression is read for a use
@@ -106,7 +106,7 @@ pub record Counted (u : Use) (s end : State) (room n : ℕ) (ts : List Seen) (ar
   left : ℕ
   turns : Turns (inside u s room around) ts (counted n ts) (inside u end left around)
 
-pub counted_goes : (u : Use) (s end : State) (room n : ℕ) (ts : List Seen) (around : Around) → Goes (least_of u) s ts end → room ≡ 258 - n → Counted u s end room n ts around
+counted_goes : (u : Use) (s end : State) (room n : ℕ) (ts : List Seen) (around : Around) → Goes (least_of u) s ts end → room ≡ 258 - n → Counted u s end room n ts around
 counted_goes u s _ room n _ around (done _) is = record { left = room; turns = stay _ }
 counted_goes u s end room n _ around (more _ mid _ t ts step later) is =
     let next_room : room - 1 ≡ 258 - (n + 1) = omega (arith, is) in
@@ -119,7 +119,7 @@ reads_inside u p around short =
     let c = counted_goes u (wants bottom) r.end 257 1 (spelled p) around r.goes refl in
     record { end = r.end; room = c.left; turns = c.turns; same = r.same }
 
-pub closer_turn : (u : Use) (p : Phrase) (around : Around) (x : Lexeme) (at : Place) (end : State) (room : ℕ) → is_closer x ≡ true → Same (least_of u) (level p) end (has (tree p) bottom) →
+closer_turn : (u : Use) (p : Phrase) (around : Around) (x : Lexeme) (at : Place) (end : State) (room : ℕ) → is_closer x ≡ true → Same (least_of u) (level p) end (has (tree p) bottom) →
     turn (inside u end room around) (x, at) ≡ used u (tree p) around (x, at)
 closer_turn u p around (mark m.CloseParenthesis) at end room is same = by_move u end room around (mark m.CloseParenthesis, at) _ (same (mark m.CloseParenthesis) at (refl, tt))
 closer_turn u p around (mark m.CloseBracket) at end room is same = by_move u end room around (mark m.CloseBracket, at) _ (same (mark m.CloseBracket) at (refl, tt))
@@ -153,7 +153,7 @@ when_fits slot t x h = rw h refl
 
 -- ---- rows
 
-pub begun_once : (row : Row) (g : Seen) (got : List Seen) (t : Seen) → begins_row row (g ∷ got ++ t ∷ []) ≡ false
+begun_once : (row : Row) (g : Seen) (got : List Seen) (t : Seen) → begins_row row (g ∷ got ++ t ∷ []) ≡ false
 begun_once if_row g [] t = refl
 begun_once if_row g (x ∷ got) t = refl
 begun_once out_row g [] t = refl
@@ -204,7 +204,7 @@ text_some (word x) h = absurd cc
 text_some (mark x) h = absurd cc
 text_some end_of_text h = absurd cc
 
-pub slot_same : (s : Slot) → Some s ≡ Some a_name → s ≡ a_name
+slot_same : (s : Slot) → Some s ≡ Some a_name → s ≡ a_name
 slot_same s is = cc
 
 pub name_in_row : (n : ℕ) (slots : List Slot) (all : List Seen) → nth n slots ≡ Some a_name → IsRow slots all → text_at n all ≡ Some (name_at n all)

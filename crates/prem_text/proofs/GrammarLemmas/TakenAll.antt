@@ -28,12 +28,12 @@ call_begins around (t ∷ v ∷ []) row =
     opens at x around t h = rw h refl
 
 -- `name =`
-pub equal_begins : (at : Place) (x : Text) (around : Around) (t : Lexeme) (from : Place) → is_equal t ≡ true → behind_name at x around (t, from) ≡ on (inside (for_value at x None) (wants bottom) 257 around)
+equal_begins : (at : Place) (x : Text) (around : Around) (t : Lexeme) (from : Place) → is_equal t ≡ true → behind_name at x around (t, from) ≡ on (inside (for_value at x None) (wants bottom) 257 around)
 equal_begins at x around (mark m.Equal) from h = refl
 equal_begins at x around (mark _) from h = absurd cc
 equal_begins at x around _ from h = absurd cc
 
-pub name_inside : (at : Place) (x : Text) (around : Around) (t : Lexeme) (from : Place) → is_name t ≡ true →
+name_inside : (at : Place) (x : Text) (around : Around) (t : Lexeme) (from : Place) → is_name t ≡ true →
     turn (inside (for_value at x None) (wants bottom) 257 around) (t, from) ≡ on (inside (for_value at x None) (named from (name_or_none (text_of t)) bottom) 256 around)
 name_inside at x around (name y) from h = refl
 name_inside at x around (number v k) from h = absurd cc
@@ -41,7 +41,7 @@ name_inside at x around (word y) from h = absurd cc
 name_inside at x around (mark y) from h = absurd cc
 name_inside at x around end_of_text from h = absurd cc
 
-pub call_inside : (at : Place) (x : Text) (from : Place) (y : Text) (around : Around) (t : Lexeme) (b : Place) → is_left_parenthesis t ≡ true →
+call_inside : (at : Place) (x : Text) (from : Place) (y : Text) (around : Around) (t : Lexeme) (b : Place) → is_left_parenthesis t ≡ true →
     turn (inside (for_value at x None) (named from y bottom) 256 around) (t, b) ≡ on (inside (for_argument at (Some x) y []) (wants bottom) 257 around)
 call_inside at x from y around (mark m.OpenParenthesis) b h = refl
 call_inside at x from y around (mark _) b h = absurd cc
@@ -59,7 +59,7 @@ call_to_begins around (a ∷ b ∷ c ∷ d ∷ []) row =
     (go _ _ _ b _ false _ (equal_begins a.1 _ around b.0 b.1 row.1.0) refl
     (go _ _ _ c _ false _ (name_inside a.1 _ around c.0 c.1 row.1.1.0) refl (go _ _ _ d [] false [] (call_inside a.1 _ c.1 _ around d.0 d.1 row.1.1.1.0) refl (stay _))))
 
-pub input_inside : (at : Place) (x : Text) (around : Around) (t : Lexeme) (b : Place) → is_in t ≡ true →
+input_inside : (at : Place) (x : Text) (around : Around) (t : Lexeme) (b : Place) → is_in t ≡ true →
     turn (inside (for_value at x None) (wants bottom) 257 around) (t, b) ≡ begin (last_row (input at x)) (t, b) left_parenthesis (right_parenthesis ∷ semicolon ∷ []) around
 input_inside at x around (word w.In) b h = refl
 input_inside at x around (word _) b h = absurd cc
@@ -81,7 +81,7 @@ abbrev pub target_point : Target → Around → Point
 target_point (to_name at text) around = on_name at text around
 target_point (to_element at text a index b) around = on_element at text (tree index) around
 
-pub target_reads : (g : Target) (around : Around) → IsTarget g → Turns (between around) (target_tokens g) (target_past (suc (depth_of around)) g) (target_point g around)
+target_reads : (g : Target) (around : Around) → IsTarget g → Turns (between around) (target_tokens g) (target_past (suc (depth_of around)) g) (target_point g around)
 target_reads (to_name at text) around is = go _ (on_name at text around) _ (name text, at) [] _ [] refl (nest_flag around) (stay _)
 target_reads (to_element at text a index b) around is =
     let e = reads_inside (for_index at text) index around is in
@@ -89,14 +89,14 @@ target_reads (to_element at text a index b) around is =
     (go _ (inside (for_index at text) (wants bottom) 257 around) _ (mark m.OpenBracket, a) _ false _ refl refl
     (turns_append e.turns (one_behind (for_index at text) index around e.end e.room (mark m.CloseBracket, b) (on_element at text (tree index) around) refl e.same refl refl)))
 
-pub set_begins : (g : Target) (around : Around) (t : Lexeme) (b : Place) → is_equal t ≡ true →
+set_begins : (g : Target) (around : Around) (t : Lexeme) (b : Place) → is_equal t ≡ true →
     turn (target_point g around) (t, b) ≡ on (inside (for_value (target_at g) (target_text g) (target_index g)) (wants bottom) 257 around)
 set_begins (to_name at text) around (mark m.Equal) b h = refl
 set_begins (to_element at text a index c) around (mark m.Equal) b h = refl
 set_begins g around (mark _) b h = absurd cc
 set_begins g around _ b h = absurd cc
 
-pub change_begins : (g : Target) (direction : Direction) (around : Around) (t : Lexeme) (b : Place) → fits (change_sign direction) t ≡ true →
+change_begins : (g : Target) (direction : Direction) (around : Around) (t : Lexeme) (b : Place) → fits (change_sign direction) t ≡ true →
     turn (target_point g around) (t, b) ≡ on (inside (for_change (target_at g) (target_text g) (target_index g) (change_op direction) b) (wants bottom) 257 around)
 change_begins (to_name at text) up around (mark m.PlusEqual) b h = refl
 change_begins (to_element at text a index c) up around (mark m.PlusEqual) b h = refl
@@ -107,7 +107,7 @@ change_begins g up around _ b h = absurd cc
 change_begins g down around (mark _) b h = absurd cc
 change_begins g down around _ b h = absurd cc
 
-pub count_begins : (g : Target) (direction : Direction) (around : Around) (t : Lexeme) (b : Place) → fits (count_sign direction) t ≡ true →
+count_begins : (g : Target) (direction : Direction) (around : Around) (t : Lexeme) (b : Place) → fits (count_sign direction) t ≡ true →
     turn (target_point g around) (t, b) ≡ begin (last_row (by_one (target_at g) (target_text g) (target_index g) (change_op direction) b)) (t, b) semicolon [] around
 count_begins (to_name at text) up around (mark m.PlusPlus) b h = refl
 count_begins (to_element at text a index c) up around (mark m.PlusPlus) b h = refl
@@ -173,7 +173,7 @@ pub plain_row : (s : Slot) (slots : List Slot) (row : List Seen) → fits s (wor
 plain_row s slots [] is row = absurd row
 plain_row s slots (t ∷ ts) is row = plain_slot s t.0 is row.0
 
-pub plain_target : (g : Target) → Plain (target_tokens g)
+plain_target : (g : Target) → Plain (target_tokens g)
 plain_target (to_name at text) = refl
 plain_target (to_element at text a index b) = refl
 

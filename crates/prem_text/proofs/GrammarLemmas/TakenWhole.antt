@@ -18,14 +18,14 @@ use Rattle.prem_text.proofs.GrammarLemmas.Taken.{Turns, stay, go, turns_append, 
 -- ---- tails and headers
 
 -- `) ;` behind the last expression of a statement
-pub tail_reads : (u : Use) (p : Phrase) (around : Around) (end : State) (room : ℕ) (tail : List Seen) (s : Statement) → Same (least_of u) (level p) end (has (tree p) bottom) →
+tail_reads : (u : Use) (p : Phrase) (around : Around) (end : State) (room : ℕ) (tail : List Seen) (s : Statement) → Same (least_of u) (level p) end (has (tree p) bottom) →
     ((t : Seen) → fits right_parenthesis t.0 ≡ true → used u (tree p) around t ≡ finish s t around) → IsRow statement_tail tail → Turns (inside u end room around) tail (quiet tail) (ended s around)
 tail_reads u p around end room [] s same is fit = absurd fit
 tail_reads u p around end room (t ∷ more') s same is fit =
     behind_expression u p around end room t more' (last_row s) semicolon [] (ended s around) (parenthesis_closes t.0 fit.0) same (is t fit.0) refl fit.1 refl (ended_quiet s around)
 
 -- `)` behind the expression of a header
-pub close_reads : (u : Use) (p : Phrase) (around : Around) (end : State) (room : ℕ) (close : List Seen) (next' : Point) → Same (least_of u) (level p) end (has (tree p) bottom) →
+close_reads : (u : Use) (p : Phrase) (around : Around) (end : State) (room : ℕ) (close : List Seen) (next' : Point) → Same (least_of u) (level p) end (has (tree p) bottom) →
     ((t : Seen) → fits right_parenthesis t.0 ≡ true → used u (tree p) around t ≡ on next') → is_past next' ≡ false → IsRow (right_parenthesis ∷ []) close → Turns (inside u end room around) close (quiet close) next'
 close_reads u p around end room [] next' same is flag fit = absurd fit
 close_reads u p around end room (t ∷ []) next' same is flag fit = one_behind u p around end room t next' (parenthesis_closes t.0 fit.0) same (is t fit.0) flag
@@ -73,7 +73,7 @@ pub record Split (all : List Seen) : Type 0 where
   third : fits step_sign v.0 ≡ true
   fit : IsRow ((rest_of_step (t ∷ u ∷ v ∷ [])).0 ∷ (rest_of_step (t ∷ u ∷ v ∷ [])).1) rest
 
-pub fourth_some : (form : StepForm) (all : List Seen) → IsRow (step_slots form) all → fourth_in all ≡ Some (fourth_name form all)
+fourth_some : (form : StepForm) (all : List Seen) → IsRow (step_slots form) all → fourth_in all ≡ Some (fourth_name form all)
 fourth_some by_one_step (t ∷ u ∷ (mark m.PlusPlus, at) ∷ rest) row = text_some u.0 row.1.0
 fourth_some by_one_step (t ∷ u ∷ (mark _, at) ∷ rest) row = absurd cc
 fourth_some by_one_step (t ∷ u ∷ (_, at) ∷ rest) row = absurd cc
@@ -93,7 +93,7 @@ fourth_some summed_step (t ∷ u ∷ []) row = absurd row.1.1
 fourth_some summed_step (t ∷ []) row = absurd row.1
 fourth_some summed_step [] row = absurd row
 
-pub split_step : (form : StepForm) (all : List Seen) → IsRow (step_slots form) all → Split all
+split_step : (form : StepForm) (all : List Seen) → IsRow (step_slots form) all → Split all
 split_step by_one_step (t ∷ u ∷ (mark m.PlusPlus, at) ∷ rest) row = record { t = t; u = u; v = (mark m.PlusPlus, at); rest = rest; is = refl; first = row.0; second = row.1.0; third = refl; fit = row.1.1.1 }
 split_step by_one_step (t ∷ u ∷ (mark _, at) ∷ rest) row = absurd cc
 split_step by_one_step (t ∷ u ∷ (_, at) ∷ rest) row = absurd cc
@@ -113,12 +113,12 @@ split_step summed_step (t ∷ u ∷ []) row = absurd row.1.1
 split_step summed_step (t ∷ []) row = absurd row.1
 split_step summed_step [] row = absurd row
 
-pub third_some : (form : StepForm) (all : List Seen) → IsRow (step_slots form) all → text_at 1 all ≡ Some (name_at 1 all)
+third_some : (form : StepForm) (all : List Seen) → IsRow (step_slots form) all → text_at 1 all ≡ Some (name_at 1 all)
 third_some by_one_step all row = name_in_row 1 (step_slots by_one_step) all refl row
 third_some added_step all row = name_in_row 1 (step_slots added_step) all refl row
 third_some summed_step all row = name_in_row 1 (step_slots summed_step) all refl row
 
-pub step_ends : (head : List Seen) (p : Phrase) (bound : List Seen) (q : Phrase) (form : StepForm) (all : List Seen) (around : Around) → IsRow (step_slots form) all →
+step_ends : (head : List Seen) (p : Phrase) (bound : List Seen) (q : Phrase) (form : StepForm) (all : List Seen) (around : Around) → IsRow (step_slots form) all →
     filled (step_row (header_of head p bound q)) all around
     ≡ on (between (in_for (place_at 0 head) (loop_names head bound form all) (tree p) (is_at_most bound) (tree q) (step_size form all) around))
 step_ends head p bound q form all around row =
@@ -130,7 +130,7 @@ step_ends head p bound q form all around row =
     ∙ ap (λ (o : Option Text). elim o [ Some fourth ↦ on (between (looped (header_of head p bound q) all (name_at 1 all) fourth around)) | None ↦ wrong ]) (fourth_some form all row) in
     named ∙ ap (λ (n : ℕ). on (between (in_for (place_at 0 head) (loop_names head bound form all) (tree p) (is_at_most bound) (tree q) n around))) (size_same form all row)
 
-pub step_reads : (head : List Seen) (p : Phrase) (bound : List Seen) (q : Phrase) (around : Around) (end : State) (room : ℕ) (all : List Seen) (next' : Point) →
+step_reads : (head : List Seen) (p : Phrase) (bound : List Seen) (q : Phrase) (around : Around) (end : State) (room : ℕ) (all : List Seen) (next' : Point) →
     Same 8 (level q) end (has (tree q) bottom) → Split all → filled (step_row (header_of head p bound q)) all around ≡ on next' → is_past next' ≡ false →
     Turns (inside (for_high (place_at 0 head) (name_at 2 head) (tree p) (name_at 1 bound) (is_at_most bound)) end room around) all (quiet all) next'
 step_reads head p bound q around end room all next' same s whole flag =
@@ -140,7 +140,7 @@ step_reads head p bound q around end room all next' same s whole flag =
     let ending = row_reads (step_row (header_of head p bound q)) s.t (s.u ∷ s.v ∷ []) _ _ around s.rest next' s.fit (ap (λ (l : List Seen). filled (step_row (header_of head p bound q)) l around) (sym s.is) ∙ whole) flag in
     subst (λ (l : List Seen). Turns (inside use_ end room around) l (quiet l) next') (sym s.is) (turns_append signed ending)
 
-pub bound_reads : (head : List Seen) (p : Phrase) (around : Around) (end : State) (room : ℕ) (bound : List Seen) → Same 1 (level p) end (has (tree p) bottom) → IsRow for_bound bound →
+bound_reads : (head : List Seen) (p : Phrase) (around : Around) (end : State) (room : ℕ) (bound : List Seen) → Same 1 (level p) end (has (tree p) bottom) → IsRow for_bound bound →
     Turns (inside (for_low (place_at 0 head) (name_at 2 head)) end room around) bound (quiet bound) (inside (for_high (place_at 0 head) (name_at 2 head) (tree p) (name_at 1 bound) (is_at_most bound)) (wants bottom) 257 around)
 bound_reads head p around end room [] same fit = absurd fit
 bound_reads head p around end room (t ∷ more') same fit =
@@ -160,7 +160,7 @@ for_reads head p bound q form step around row low parts high steps =
 -- ---- calls
 
 -- expressions that `,` parts
-pub parted_reads : (from : Place) (target : Option Text) (callee : Text) (acc : List Expression) (before : List Parted) (around : Around) → AreParted before →
+parted_reads : (from : Place) (target : Option Text) (callee : Text) (acc : List Expression) (before : List Parted) (around : Around) → AreParted before →
     Turns (inside (for_argument from target callee acc) (wants bottom) 257 around) (parted_tokens before) (parted_past before) (inside (for_argument from target callee (acc ++ parted_trees before)) (wants bottom) 257 around)
 parted_reads from target callee acc [] around all =
     subst (λ (l : List Expression). Turns (inside (for_argument from target callee acc) (wants bottom) 257 around) [] [] (inside (for_argument from target callee l) (wants bottom) 257 around)) (sym (append-nil acc)) (stay _)
@@ -182,13 +182,13 @@ parted_reads from target callee acc (a ∷ rest) around all =
         comma_used from target callee acc e around t h = rw h refl
     comma_reads from target callee acc p end room (t ∷ v ∷ ts) around same fit = absurd fit.1
 
-pub nothing_used : (from : Place) (target : Option Text) (callee : Text) (around : Around) (x : Lexeme) (at : Place) → fits right_parenthesis x ≡ true →
+nothing_used : (from : Place) (target : Option Text) (callee : Text) (around : Around) (x : Lexeme) (at : Place) → fits right_parenthesis x ≡ true →
     turn (inside (for_argument from target callee []) (wants bottom) 257 around) (x, at) ≡ finish (call from target callee []) (x, at) around
 nothing_used from target callee around (mark m.CloseParenthesis) at h = refl
 nothing_used from target callee around (mark _) at h = absurd cc
 nothing_used from target callee around _ at h = absurd cc
 
-pub last_used : (from : Place) (target : Option Text) (callee : Text) (acc : List Expression) (e : Expression) (around : Around) (t : Seen) → fits right_parenthesis t.0 ≡ true →
+last_used : (from : Place) (target : Option Text) (callee : Text) (acc : List Expression) (e : Expression) (around : Around) (t : Seen) → fits right_parenthesis t.0 ≡ true →
     used (for_argument from target callee acc) e around t ≡ finish (call from target callee (acc ++ e ∷ [])) t around
 last_used from target callee acc e around t h = rw (no_comma t.0 h) (when_fits right_parenthesis t _ h)
 

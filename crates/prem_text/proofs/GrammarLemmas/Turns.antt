@@ -1,6 +1,6 @@
 -- Each token that the reader of statements takes is spelled, and behind a body the body is.
-use Rattle.std.proofs.Common.{◌≡◌, ◌≤◌, ◌-◌, ℕ, List, [], ◌∷◌, ◌++◌, Option, None, Some, true, false, refl, ap, sym, subst, ◌∙◌, append_assoc, arith}
 use Rattle.std.specs.Prelude.{if◌then◌else◌}
+use Rattle.std.proofs.Common.{◌≡◌, ◌≤◌, ◌-◌, ℕ, List, [], ◌∷◌, ◌++◌, Option, None, Some, true, false, refl, ap, sym, subst, ◌∙◌, append_assoc, arith}
 use Rattle.std.proofs.lemmas.List.{append-nil}
 use Rattle.prem_syntax.specs.declared.tree.Place.{Place}
 use Rattle.prem_syntax.specs.Syntax.{Text, Expression, Statement, input}
@@ -81,7 +81,7 @@ step_filled head p bound q form all (Some third) (Some fourth) around pre now is
     stands_same _ (pre ++ head ++ spelled p ++ bound ++ spelled q ++ all) _ (simp append_assoc) (at_between _ _ sized)
 
 -- a step's row has the forms that its sign tells
-pub fourth_same : (form : StepForm) (all : List Seen) → IsRow (step_slots form) all → name_or_none (fourth_in all) ≡ fourth_name form all
+fourth_same : (form : StepForm) (all : List Seen) → IsRow (step_slots form) all → name_or_none (fourth_in all) ≡ fourth_name form all
 fourth_same by_one_step (t ∷ u ∷ (mark m.PlusPlus, at) ∷ rest) row = refl
 fourth_same by_one_step (t ∷ u ∷ (mark _, at) ∷ rest) row = absurd cc
 fourth_same by_one_step (t ∷ u ∷ (_, at) ∷ rest) row = absurd cc

@@ -6,9 +6,9 @@ use Rattle.prem_text.specs.Grammar.Phrases.{spelled}
 use Rattle.prem_text.specs.Grammar.StatementPhrases.{all_written}
 use Rattle.prem_text.specs.Grammar.ProgramPhrases.{declaration_tokens, mark_tokens, parameters_tokens, LocalPhrase, local_tokens, local_trees, ResultPhrase, result_tokens, result_tree, global_tokens, function_tokens, ItemPhrase, of_global, of_function, items_tokens, items_tree}
 use Rattle.prem_text.specs.Texts.{IsProgramText}
+use Rattle.prem_text.specs.ReadWords.Law.{ReadsHaveWords}
 use Rattle.prem_text.proofs.Whole.{text_sound}
 use Rattle.prem_text.proofs.CanonicalLemmas.Sayable.{AreSaid, front, back, tokens_said}
-use Rattle.prem_text.specs.ReadWords.Law.{ReadsHaveWords}
 use Rattle.prem_text.proofs.ReadWordsLemmas.PhraseWords.{phrase_words}
 use Rattle.prem_text.proofs.ReadWordsLemmas.StatementWords.{statements_words}
 

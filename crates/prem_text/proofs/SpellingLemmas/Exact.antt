@@ -1,7 +1,7 @@
 -- Every text is divided or refused, and the lexer does what its division says.
+use Rattle.std.specs.Prelude.{◌⊎◌}
 use Rattle.std.proofs.Common.{◌≡◌, ◌≤◌, ◌<◌, ℕ, zero, suc, ◌+◌, ◌-◌, Bool, true, false, List, [], ◌∷◌, ◌++◌, length, Option, None, Some, Result, Ok, Err, refl, sym, ap, subst, ◌∙◌, arith, ◌&&◌, ◌||◌, ◌==◌, not, nat_lt, append_assoc, append-nil, length-append, eqb-true, slice_index, inl, inr, lt-ltb, le-ltb, if◌then◌else◌}
 use Rattle.std.proofs.lemmas.Bool.{and_parts, and_from, or_right, or_from, cases_lt}
-use Rattle.std.specs.Prelude.{◌⊎◌}
 use Rattle.prem_lexer.specs.declared.token.fail.FrontFail.{FrontFail}
 use Rattle.prem_lexer.specs.declared.token.fail.FrontFail.TheVariants.{NotText, Token, TooLong}
 use Rattle.prem_lexer.specs.Token.Lexeme.{Lexeme, end_of_text, Seen}

@@ -44,7 +44,7 @@ after_more base n (d ∷ ds) pos =
 digits_step : (base n d : ℕ) (ds : List ℕ) → is_suffix d ≡ false → fits base d ≡ true → nat_lt (n * base + digit_value d) (2 ^ 32) ≡ true → digits base n (d ∷ ds) ≡ digits base (n * base + digit_value d) ds
 digits_step base n d ds off is lt = rw (off, is, lt) refl
 
-pub digits_through : (base n : ℕ) (ds tail : List ℕ) → base ≤ 16 → 0 < base → every (fits base) ds ≡ true → after base n ds < 2 ^ 32 → digits base n (ds ++ tail) ≡ digits base (after base n ds) tail
+digits_through : (base n : ℕ) (ds tail : List ℕ) → base ≤ 16 → 0 < base → every (fits base) ds ≡ true → after base n ds < 2 ^ 32 → digits base n (ds ++ tail) ≡ digits base (after base n ds) tail
 digits_through base n [] tail le pos all lt = refl
 digits_through base n (d ∷ ds) tail le pos all lt =
     let parts = and_parts (fits base d) (every (fits base) ds) all in

@@ -1,8 +1,8 @@
 -- Marks: the one that is read is the longest.
+use Rattle.std.specs.Prelude.{◌⊎◌}
 use Rattle.std.proofs.Common.{◌≡◌, ◌≤◌, ℕ, Bool, true, false, List, [], ◌∷◌, ◌++◌, length, Option, None, Some, refl, sym, ap, subst, ◌∙◌, arith, nat_le, ◌&&◌, ◌==◌, not, slice_index, eq-eqb, eqb-true, leb-true, inl, inr, if◌then◌else◌}
 use Rattle.std.proofs.lemmas.Bool.{and_parts, and_from}
 use Rattle.std.proofs.lemmas.Bool.Decides.{nat_tests}
-use Rattle.std.specs.Prelude.{◌⊎◌}
 use Rattle.prem_lexer.specs.declared.token.token.Mark.{Mark}
 use Rattle.prem_lexer.specs.Token.Lexeme.{Lexeme, mark}
 use Rattle.prem_lexer.specs.Spelling.{marks, begins, mark_in, longest_mark}
@@ -119,7 +119,7 @@ begins_front (a ∷ b ∷ []) (c ∷ d ∷ cs) is begun =
     record { rest = cs; parts = ap (λ (k : ℕ). k ∷ d ∷ cs) first ∙ ap (λ (k : ℕ). a ∷ k ∷ cs) second }
 begins_front (a ∷ b ∷ c ∷ more) text is begun = absurd cc
 
-pub front_begins : (bytes rest : List ℕ) → is_mark_text bytes ≡ true → begins bytes (slice_index (bytes ++ rest) 0) (slice_index (bytes ++ rest) 1) ≡ true
+front_begins : (bytes rest : List ℕ) → is_mark_text bytes ≡ true → begins bytes (slice_index (bytes ++ rest) 0) (slice_index (bytes ++ rest) 1) ≡ true
 front_begins [] rest is = absurd cc
 front_begins (a ∷ []) rest is = eq-eqb a a refl
 front_begins (a ∷ b ∷ []) rest is = and_from (a == a) (b == b) (eq-eqb a a refl) (eq-eqb b b refl)

@@ -168,7 +168,7 @@ unfolding step start
 opens_line at rest = refl
 
 -- behind the two bytes that open a comment
-pub into_block : (before rest : List ℕ) (room : ℕ) → lex (Skip 0) (cursor_behind before) room (47 ∷ 42 ∷ rest) ≡ lex (Block 0 (place_behind before)) (cursor_behind (before ++ 47 ∷ 42 ∷ [])) room rest
+into_block : (before rest : List ℕ) (room : ℕ) → lex (Skip 0) (cursor_behind before) room (47 ∷ 42 ∷ rest) ≡ lex (Block 0 (place_behind before)) (cursor_behind (before ++ 47 ∷ 42 ∷ [])) room rest
 into_block before rest room =
     lex_on (Skip 0) (Block 1 (place_behind before)) before room 47 (42 ∷ rest) (opens_block (cursor_behind before) rest)
     ∙ lex_on (Block 1 (place_behind before)) (Block 0 (place_behind before)) (before ++ 47 ∷ []) room 42 rest (block_first (place_behind before) (cursor_behind (before ++ 47 ∷ [])) (42 ∷ rest))

@@ -1,8 +1,8 @@
 -- Tables of spellings, and the reserved words.
+use Rattle.std.specs.Prelude.{◌⊎◌}
 use Rattle.std.proofs.Common.{◌≡◌, ℕ, Bool, true, false, List, [], ◌∷◌, Option, None, Some, refl, sym, ap, subst, ◌∙◌, not, ◌&&◌, ◌||◌, bytes_eq, is_none, inl, inr, if◌then◌else◌}
 use Rattle.std.proofs.lemmas.Bool.{and_parts, or_left, not-true}
 use Rattle.std.proofs.lemmas.Slice.Eq.{bytes_eq-Decides}
-use Rattle.std.specs.Prelude.{◌⊎◌}
 use Rattle.prem_lexer.specs.declared.token.token.Word.{Word}
 use Rattle.prem_lexer.specs.declared.token.token.Word.TheVariants as w
 use Rattle.prem_lexer.specs.Spelling.{words, unused, word_in, used_word, is_one_of, is_unused, reserved_word}
@@ -30,7 +30,7 @@ pair_is x a b p q = λ i. (p i, q i)
 pub same_bytes : (xs ys : List ℕ) → bytes_eq xs ys ≡ true → xs ≡ ys
 same_bytes xs ys is = (bytes_eq-Decides xs ys).0 is
 
-pub same_is : (xs ys : List ℕ) → xs ≡ ys → bytes_eq xs ys ≡ true
+same_is : (xs ys : List ℕ) → xs ≡ ys → bytes_eq xs ys ≡ true
 same_is xs ys e = (bytes_eq-Decides xs ys).1 e
 
 -- ---- keys

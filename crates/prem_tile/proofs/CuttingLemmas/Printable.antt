@@ -8,18 +8,18 @@ use Rattle.prem_lexer.specs.Token.Lexeme.{Lexeme, end_of_text, Seen}
 use Rattle.prem_lexer.specs.Tokens.{tokens_of}
 use Rattle.prem_text.specs.Spelling.Spelled.{placed}
 use Rattle.prem_text.specs.Spelling.Division.{Divides, AreTokens, too_long, too_many, place_behind}
-use Rattle.prem_text.proofs.SpellingLemmas.Exact.{complete, refusals_complete}
-use Rattle.prem_text.proofs.SpellingLemmas.Joined.{divided, placed_length}
 use Rattle.prem_text.specs.Grammar.Item.{outside, finished}
 use Rattle.prem_text.specs.Grammar.ProgramPhrases.{ProgramPhrase, IsProgram, program_tokens, program_tree}
 use Rattle.prem_text.specs.Grammar.Law.{stages}
-use Rattle.prem_text.proofs.GrammarLemmas.Program.{Reached, reached, some_same, program_stages}
 use Rattle.prem_text.specs.Texts.{reads, IsNoProgram, not_divided, unexpected, past}
-use Rattle.prem_text.proofs.Whole.{text_sound, text_refused, no_program_refused}
 use Rattle.prem_text.specs.Canonical.Unplaced.{unplaced}
 use Rattle.prem_text.specs.Canonical.Canonical.{program_lexemes}
 use Rattle.prem_text.specs.Canonical.Printed.{lexeme_bytes, spelling_of, printed}
 use Rattle.prem_text.specs.Canonical.Law.{lexemes_of, IsSpelled, Fits, IsTooLong, too_many_bytes, too_many_tokens, ReadBack, gives_back, is_too_long, is_too_deep}
+use Rattle.prem_text.proofs.SpellingLemmas.Exact.{complete, refusals_complete}
+use Rattle.prem_text.proofs.SpellingLemmas.Joined.{divided, placed_length}
+use Rattle.prem_text.proofs.GrammarLemmas.Program.{Reached, reached, some_same, program_stages}
+use Rattle.prem_text.proofs.Whole.{text_sound, text_refused, no_program_refused}
 use Rattle.prem_text.proofs.CanonicalLemmas.Parts.{Are, are_own}
 use Rattle.prem_text.proofs.CanonicalLemmas.Shaped.{AreShapedItems}
 use Rattle.prem_text.proofs.CanonicalLemmas.Items.{program_said}

@@ -1,18 +1,18 @@
 -- A program with tiles can be printed so that it is read again.
-use Rattle.std.proofs.Common.{◌≡◌, ℕ, zero, suc, ◌+◌, ◌^◌, ◌<◌, ◌≤◌, Bool, true, false, cond, not, ◌&&◌, ◌||◌, List, [], ◌∷◌, ◌++◌, length, map, refl, ap, sym, ◌∙◌, subst, arith, Option, None, Some, option_map, true≢false, ⊎_elim}
 use Rattle.std.specs.Prelude.{nat_lt, nat_le, ◌==◌, codes, decimal, pos}
 use Rattle.std.specs.Char.{digit_value as digit_of}
 use Rattle.std.specs.Str.{bytes_eq}
 use Rattle.std.specs.Str.Parse.{AllDigits}
 use Rattle.std.specs.List.{list_any}
+use Rattle.std.proofs.Common.{◌≡◌, ℕ, zero, suc, ◌+◌, ◌^◌, ◌<◌, ◌≤◌, Bool, true, false, cond, not, ◌&&◌, ◌||◌, List, [], ◌∷◌, ◌++◌, length, map, refl, ap, sym, ◌∙◌, subst, arith, Option, None, Some, option_map, true≢false, ⊎_elim}
 use Rattle.std.proofs.lemmas.Bool.{and_from, and_parts}
 use Rattle.std.proofs.lemmas.Bool.Decides.{nat_tests}
 use Rattle.std.proofs.lemmas.Fmt.{decimal_is_IsNumeral}
 use Rattle.std.proofs.lemmas.Str.Parse.{digit_from_value}
-use Rattle.prem_syntax.specs.declared.tree.Place.{Place}
-use Rattle.prem_syntax.specs.Syntax.{Text, Expression, literal, Statement, block, if_then, if_else, bounded_while, counting_for, assign, output, input, call, Statements, no_statements, next_statement, RegionText, MarkText, FunctionText, ItemText, global_item, function_item, ProgramText}
 use Rattle.prem_word.specs.declared.kind.Kind.{Kind}
 use Rattle.prem_word.specs.declared.kind.Kind.TheVariants.{Int, Unsigned}
+use Rattle.prem_syntax.specs.declared.tree.Place.{Place}
+use Rattle.prem_syntax.specs.Syntax.{Text, Expression, literal, Statement, block, if_then, if_else, bounded_while, counting_for, assign, output, input, call, Statements, no_statements, next_statement, RegionText, MarkText, FunctionText, ItemText, global_item, function_item, ProgramText}
 use Rattle.prem_lexer.specs.declared.token.token.Word.{Word}
 use Rattle.prem_lexer.specs.declared.token.token.Mark.TheVariants as m
 use Rattle.prem_lexer.specs.declared.token.token.Word.TheVariants as w

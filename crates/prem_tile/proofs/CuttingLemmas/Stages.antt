@@ -1,7 +1,7 @@
 -- The stages of a cut, as they end.
-use Rattle.std.proofs.Common.{◌≡◌, ℕ, ◌≤◌, Bool, cond, ◌||◌, List, length, ap, ◌∙◌, Some, Result, Ok, Err, IfOk}
 use Rattle.std.specs.Prelude.{nat_lt}
 use Rattle.std.specs.List.{list_any}
+use Rattle.std.proofs.Common.{◌≡◌, ℕ, ◌≤◌, Bool, cond, ◌||◌, List, length, ap, ◌∙◌, Some, Result, Ok, Err, IfOk}
 use Rattle.prem_syntax.specs.declared.tree.Program.{Program}
 use Rattle.prem_syntax.specs.Syntax.{Text, FunctionText, ProgramText}
 use Rattle.prem_syntax.specs.SyntaxOf.{program_of}
@@ -11,10 +11,10 @@ use Rattle.prem_tiling.specs.Shapes.Shape.{marked_named}
 use Rattle.prem_tiling.specs.Shapes.Tiled.{Cut, tile_names, tiled}
 use Rattle.prem_tiling.specs.Shapes.Tile.{limit, Past, is_past, unless_past, tile}
 use Rattle.prem_tiling.specs.Laws.CanCut.{CanCut}
-use Rattle.prem_tile.specs.Cutting.Answer.{IsAsked, IsTiled, Tells}
-use Rattle.prem_tile.specs.declared.cutting.fail.TileFail.{TileFail}
 use Rattle.prem_tiling.proofs.LawsLemmas.Limits.{only_functions}
 use Rattle.prem_tiling.proofs.LawsLemmas.Lists.{named_so}
+use Rattle.prem_tile.specs.Cutting.Answer.{IsAsked, IsTiled, Tells}
+use Rattle.prem_tile.specs.declared.cutting.fail.TileFail.{TileFail}
 use Rattle.prem_tile.proofs.CuttingLemmas.Whole.{tile_kept}
 
 abbrev long_names : Cut → Bool

@@ -1,14 +1,14 @@
 -- What is known of the program that `tile` gives.
-use Rattle.std.proofs.Common.{◌≡◌, ℕ, zero, suc, ◌+◌, ◌<◌, ◌≤◌, false, ◌||◌, List, [], length, refl, sym, subst, arith, Result, Ok, true≢false, ⊎_elim}
 use Rattle.std.specs.Prelude.{nat_lt}
 use Rattle.std.specs.List.{list_any}
+use Rattle.std.proofs.Common.{◌≡◌, ℕ, zero, suc, ◌+◌, ◌<◌, ◌≤◌, false, ◌||◌, List, [], length, refl, sym, subst, arith, Result, Ok, true≢false, ⊎_elim}
 use Rattle.std.proofs.lemmas.Bool.{ltb-false, cases_lt}
 use Rattle.prem_syntax.specs.Syntax.{Text, ProgramText, function_item}
-use Rattle.prem_lexer.specs.declared.token.fail.FrontFail.{FrontFail}
-use Rattle.prem_lexer.specs.Token.Lexeme.{name}
 use Rattle.prem_meaning.specs.Resolve.{functions_of, globals_of}
 use Rattle.prem_meaning.specs.Breaches.{in_limits}
 use Rattle.prem_meaning.specs.GroupTwo.{IsWellFormed}
+use Rattle.prem_lexer.specs.declared.token.fail.FrontFail.{FrontFail}
+use Rattle.prem_lexer.specs.Token.Lexeme.{name}
 use Rattle.prem_text.specs.Texts.{reads}
 use Rattle.prem_text.specs.Spelling.Spellings.{Spells}
 use Rattle.prem_text.specs.Canonical.Canonical.{function_lexemes}
@@ -21,7 +21,6 @@ use Rattle.prem_tiling.specs.Shapes.Shape.{turns_of}
 use Rattle.prem_tiling.specs.Shapes.Tiled.{Cut, tile_name, tile_names, first_turn, low_of, closed_of, high_of, tiled}
 use Rattle.prem_tiling.specs.Shapes.Tile.{Past, has_breach, is_past, cut_by, tile}
 use Rattle.prem_tiling.specs.Laws.CanCut.{CanCut}
-use Rattle.prem_tile.specs.Cutting.Answer.{ends_at_limit, is_text_past, IsTiled, IsReadBack}
 use Rattle.prem_tiling.proofs.LawsLemmas.Cutting.{IsCut}
 use Rattle.prem_tiling.proofs.LawsLemmas.Law.{is_cut}
 use Rattle.prem_tiling.proofs.LawsLemmas.Lists.{Split, split_at}
@@ -30,6 +29,7 @@ use Rattle.prem_tiling.proofs.LawsLemmas.Shapes.{IsShape, shape_parts}
 use Rattle.prem_tiling.proofs.LawsLemmas.Standing.{step_of}
 use Rattle.prem_tiling.proofs.LawsLemmas.Tied.{neither_left, neither_right}
 use Rattle.prem_tiling.proofs.LawsLemmas.Told.{Tiling, tiling, tile_same}
+use Rattle.prem_tile.specs.Cutting.Answer.{ends_at_limit, is_text_past, IsTiled, IsReadBack}
 use Rattle.prem_tile.proofs.CuttingLemmas.Printable.{IsPrintable, read_printable, printable_read}
 use Rattle.prem_tile.proofs.CuttingLemmas.Readable.{tile_said, items_said, items_shaped, function_inside, name_said}
 

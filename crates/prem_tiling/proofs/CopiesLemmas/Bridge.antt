@@ -1,6 +1,6 @@
 -- Statements with calls of named tiles are statements with tiles.
-use Rattle.std.proofs.Common.{◌≡◌, ℕ, zero, suc, ◌+◌, Bool, true, false, cond, [], refl, ap, None}
 use Rattle.std.specs.Str.{bytes_eq}
+use Rattle.std.proofs.Common.{◌≡◌, ℕ, zero, suc, ◌+◌, Bool, true, false, cond, [], refl, ap, None}
 use Rattle.prem_syntax.specs.declared.tree.Place.{Place}
 use Rattle.prem_syntax.specs.Syntax.{Text, Statement, block, if_then, if_else, bounded_while, counting_for, assign, output, input, call, Statements, no_statements, next_statement}
 use Rattle.prem_tiling.specs.Shapes.Tiled.{tile_name, tile_names, calls_from, with_tiles, all_with_tiles}

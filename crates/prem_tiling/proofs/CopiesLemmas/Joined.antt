@@ -1,6 +1,6 @@
 -- What accesses add, joined.
-use Rattle.std.proofs.Common.{◌≡◌, ℤ, refl, arith}
 use Rattle.std.specs.Int.{int_min, int_max}
+use Rattle.std.proofs.Common.{◌≡◌, ℤ, refl, arith}
 use Rattle.std.proofs.lemmas.Bool.Decides.{nat_tests}
 use Rattle.std.proofs.lemmas.Int.{ints}
 use Rattle.prem_tiling.specs.Shapes.Narrowed.{Added, nothing, within, elsewhere, joined}

@@ -1,7 +1,7 @@
 -- Callees stand before their callers; and those in a program with tiles are tiles, or were callees.
-use Rattle.std.proofs.Common.{◌≡◌, ℕ, zero, suc, ◌+◌, ◌<◌, ◌≤◌, Bool, true, false, cond, not, ◌&&◌, ◌||◌, List, [], ◌∷◌, ◌++◌, length, map, refl, ap, sym, ◌∙◌, subst, arith, Option, None, Some, eqb, ltb, is_some, ◌⊎◌, inl, inr, ⊎_elim, true≢false, slice_index_or}
 use Rattle.std.specs.Prelude.{slice_get}
 use Rattle.std.specs.Str.{bytes_eq}
+use Rattle.std.proofs.Common.{◌≡◌, ℕ, zero, suc, ◌+◌, ◌<◌, ◌≤◌, Bool, true, false, cond, not, ◌&&◌, ◌||◌, List, [], ◌∷◌, ◌++◌, length, map, refl, ap, sym, ◌∙◌, subst, arith, Option, None, Some, eqb, ltb, is_some, ◌⊎◌, inl, inr, ⊎_elim, true≢false, slice_index_or}
 use Rattle.std.proofs.lemmas.Bool.{or_cases, eqb-true, eq-eqb, ltb-true}
 use Rattle.prem_syntax.specs.declared.tree.Place.{Place}
 use Rattle.prem_syntax.specs.declared.rules.TypeRule.TheVariants as rule

@@ -1,6 +1,6 @@
 -- Calls by number: those of a program, and those of the one with tiles.
-use Rattle.std.proofs.Common.{◌≡◌, ℕ, zero, suc, ◌+◌, ◌-◌, ◌<◌, ◌≤◌, Bool, true, false, cond, List, [], ◌∷◌, length, refl, ap, sym, ◌∙◌, subst, arith, Option, None, Some, Err, ◌⊎◌, inl, inr, ⊎_elim}
 use Rattle.std.specs.Prelude.{slice_get}
+use Rattle.std.proofs.Common.{◌≡◌, ℕ, zero, suc, ◌+◌, ◌-◌, ◌<◌, ◌≤◌, Bool, true, false, cond, List, [], ◌∷◌, length, refl, ap, sym, ◌∙◌, subst, arith, Option, None, Some, Err, ◌⊎◌, inl, inr, ⊎_elim}
 use Rattle.std.proofs.lemmas.Bool.{cases_lt, cases_eq, eq-eqb, ne_eqb, lt-ltb, le-ltb}
 use Rattle.prem_meaning.specs.Resolved.{Routine}
 use Rattle.prem_meaning.specs.Expressions.{and_then}
@@ -36,7 +36,7 @@ pub call_before : (rs : List Routine) (n g : ℕ) → (g ≡ n → ⊥) → (ws 
 call_before rs n g other ws s = ap (λ b. this_or b (enter_if_there unlimited (calls_below unlimited rs n) (slice_get rs n) n) (calls_below unlimited rs n) everywhere g ws s) (ne_eqb g n other)
 
 -- a number that is none of the last ones
-pub call_skips : (rs : List Routine) (a r g : ℕ) → (g < a) ⊎ (a + r ≤ g) → (ws : List ℕ) (s : ProgramState) → calls_below unlimited rs (a + r) everywhere g ws s ≡ calls_below unlimited rs a everywhere g ws s
+call_skips : (rs : List Routine) (a r g : ℕ) → (g < a) ⊎ (a + r ≤ g) → (ws : List ℕ) (s : ProgramState) → calls_below unlimited rs (a + r) everywhere g ws s ≡ calls_below unlimited rs a everywhere g ws s
 call_skips rs a zero g h ws s = let e : a + 0 ≡ a = omega arith in ap (λ n. calls_below unlimited rs n everywhere g ws s) e
 call_skips rs a (suc r) g h ws s =
     let e : a + suc r ≡ suc (a + r) = omega arith in
@@ -44,7 +44,7 @@ call_skips rs a (suc r) g h ws s =
     ∙ call_skips rs a r g (⊎_elim (λ (lt : g < a). inl lt) (λ (le : a + suc r ≤ g). inr (omega arith)) h) ws s
 
 -- a number among the last ones
-pub call_among : (rs : List Routine) (a r t : ℕ) (q : Routine) → t < r → slice_get rs (a + t) ≡ Some q → (ws : List ℕ) (s : ProgramState) →
+call_among : (rs : List Routine) (a r t : ℕ) (q : Routine) → t < r → slice_get rs (a + t) ≡ Some q → (ws : List ℕ) (s : ProgramState) →
     calls_below unlimited rs (a + r) everywhere (a + t) ws s ≡ enter (calls_below unlimited rs (a + t)) everywhere q (a + t) ws s
 call_among rs a r t q lt is ws s =
     let e : a + r ≡ suc (a + t) + (r - suc t) = omega arith in

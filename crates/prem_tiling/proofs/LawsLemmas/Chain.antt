@@ -1,6 +1,6 @@
 -- The turns of a loop are those of its tiles: one tile begins where the one before it ended.
-use Rattle.std.proofs.Common.{◌≡◌, ℕ, zero, suc, ◌+◌, ◌-◌, ◌*◌, ◌≤◌, Bool, true, false, ◌||◌, List, [], ◌∷◌, ◌++◌, length, set, refl, ap, sym, ◌∙◌, subst, arith, Ok, eqb, true≢false, append_assoc}
 use Rattle.std.specs.Prelude.{slice_index}
+use Rattle.std.proofs.Common.{◌≡◌, ℕ, zero, suc, ◌+◌, ◌-◌, ◌*◌, ◌≤◌, Bool, true, false, ◌||◌, List, [], ◌∷◌, ◌++◌, length, set, refl, ap, sym, ◌∙◌, subst, arith, Ok, eqb, true≢false, append_assoc}
 use Rattle.std.proofs.lemmas.List.{length-set, get_or-set_same, append-nil}
 use Rattle.std.proofs.lemmas.Bool.{eqb-true}
 use Rattle.prem_syntax.specs.Syntax.{Text, Statement}
@@ -17,7 +17,7 @@ use Rattle.prem_tiling.proofs.LawsLemmas.Laps.{laps, laps_add, laps_joint, Cutta
 pub joint_here : {A B : Type 0} {P : A → B → Type 0} {x : A} {y : B} → Joint P (Ok x) (Ok y) → P x y
 joint_here (fine p) = p
 
-pub joint_right : {A B C : Type 0} {P : A → B → Type 0} {Q : A → C → Type 0} {o : Outcome A} {o' : Outcome B} (g : B → C) → Joint P o o' → ((x : A) (y : B) → P x y → Q x (g y)) → Joint Q o (and_then o' (λ y. Ok (g y)))
+joint_right : {A B C : Type 0} {P : A → B → Type 0} {Q : A → C → Type 0} {o : Outcome A} {o' : Outcome B} (g : B → C) → Joint P o o' → ((x : A) (y : B) → P x y → Q x (g y)) → Joint Q o (and_then o' (λ y. Ok (g y)))
 joint_right g (fine p) more = fine (more _ _ p)
 joint_right g (wrong line) more = wrong line
 

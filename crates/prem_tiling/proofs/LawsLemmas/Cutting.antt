@@ -51,7 +51,7 @@ abbrev pub loop_run : (at : Place) (k low high : ℕ) (closed : Bool) (step most
 loop_run at k low high closed step most body base high_at high_kind calls s =
     counting at.line most (loop_test everywhere k closed (Constant high_at high high_kind)) (λ t. and_then (run everywhere calls body t) (loop_step at.line k step)) (with_local k low (record s { locals = base }))
 
-pub loop_entered : (r : Routine) (base : List ℕ) (at : Place) (k low high : ℕ) (closed : Bool) (step most : ℕ) (body : Steps) (is : IsLoopRoutine r base at k low high closed step most body) (calls : Calls) (g : ℕ) (s : ProgramState) →
+loop_entered : (r : Routine) (base : List ℕ) (at : Place) (k low high : ℕ) (closed : Bool) (step most : ℕ) (body : Steps) (is : IsLoopRoutine r base at k low high closed step most body) (calls : Calls) (g : ℕ) (s : ProgramState) →
     enter calls everywhere r g [] s ≡ and_then (loop_run at k low high closed step most body base is.high_at is.high_kind calls s) (leaving r g s)
 loop_entered r base at k low high closed step most body is calls g s =
     ap (λ o. and_then o (λ t. and_then (run everywhere calls r.body t) (λ x. and_then (result_of everywhere r.result x) (λ w. Ok (w, leave r g s x))))) (is.locals_are s)
@@ -82,7 +82,7 @@ module _ (around : Around) (locals : List Text) (body : Statement) (k step low :
         small = small;
       }
 
-  pub piece_is_laps : (closed : Bool) (high : ℕ) (high_at : Place) (high_kind : Kind) (end : ℕ) → high ≤ 2147483647 → ((j : ℕ) → ltb (low + step * j) (bound_with closed high) ≡ ltb j end) →
+  piece_is_laps : (closed : Bool) (high : ℕ) (high_at : Place) (high_kind : Kind) (end : ℕ) → high ≤ 2147483647 → ((j : ℕ) → ltb (low + step * j) (bound_with closed high) ≡ ltb j end) →
       (first m most : ℕ) → first + m ≡ end → m ≤ most → low + step * first ≤ 2147483647 → (s : ProgramState) →
       counting line most (loop_test everywhere k closed (Constant high_at high high_kind)) turn (with_local k (low + step * first) (record s { locals = base })) ≡ laps m turn (with_local k (low + step * first) (record s { locals = base }))
   piece_is_laps closed high high_at high_kind end high_small tests first m most ends enough small s =

@@ -25,13 +25,13 @@ module _ {first tiles : ℕ} where
   new_local_alike : (w : ℕ) {u v : ProgramState} → Alike first tiles u v → Alike first tiles (with_new_local w u) (with_new_local w v)
   new_local_alike w a = record { same = ap (with_new_local w) a.same; marks = a.marks }
 
-  pub declare_alike : (es : List Term) (u v : ProgramState) → Alike first tiles u v → Joint (Alike first tiles) (declare everywhere es u) (declare everywhere es v)
+  declare_alike : (es : List Term) (u v : ProgramState) → Alike first tiles u v → Joint (Alike first tiles) (declare everywhere es u) (declare everywhere es v)
   declare_alike [] u v a = fine a
   declare_alike (e ∷ es) u v a =
       same_then (value everywhere u e) (value everywhere v e) (λ w. declare everywhere es (with_new_local w u)) (λ w. declare everywhere es (with_new_local w v))
       (ap (λ (b : ProgramState). eval everywhere b.globals b.locals e) a.same) (λ w. declare_alike es (with_new_local w u) (with_new_local w v) (new_local_alike w a))
 
-  pub result_alike : (e : Option Term) (u v : ProgramState) → Alike first tiles u v → result_of everywhere e u ≡ result_of everywhere e v
+  result_alike : (e : Option Term) (u v : ProgramState) → Alike first tiles u v → result_of everywhere e u ≡ result_of everywhere e v
   result_alike None u v a = refl
   result_alike (Some e) u v a = ap (λ (b : ProgramState). eval everywhere b.globals b.locals e) a.same
 

@@ -1,7 +1,7 @@
 -- The functions of a program and of the one with tiles, by name and with what stands at their numbers.
-use Rattle.std.proofs.Common.{◌≡◌, ℕ, zero, suc, ◌+◌, ◌-◌, ◌<◌, ◌≤◌, Bool, true, false, cond, List, [], ◌∷◌, ◌++◌, length, map, refl, ap, sym, ◌∙◌, arith, Option, None, Some, option_map, ◌⊎◌, inl, inr}
 use Rattle.std.specs.Prelude.{slice_get}
 use Rattle.std.specs.Str.{bytes_eq}
+use Rattle.std.proofs.Common.{◌≡◌, ℕ, zero, suc, ◌+◌, ◌-◌, ◌<◌, ◌≤◌, Bool, true, false, cond, List, [], ◌∷◌, ◌++◌, length, map, refl, ap, sym, ◌∙◌, arith, Option, None, Some, option_map, ◌⊎◌, inl, inr}
 use Rattle.std.proofs.lemmas.List.{length-map, length-append}
 use Rattle.std.proofs.lemmas.Bool.{cases_lt}
 use Rattle.prem_syntax.specs.Syntax.{Text, FunctionText}
@@ -80,19 +80,19 @@ module _ (c : Cut) (before after fs fs' : List FunctionText) (are : fs ≡ befor
       ∙ tile_at c c.tiles 0 t lt ∙ (let z : 0 + t ≡ t = omega arith in ap (λ j. Some (tile_of c j)) z)
 
   -- where one before it stands, and one behind it
-  pub front_stands : (g : ℕ) (x : FunctionText) → g < first → slice_get fs g ≡ Some x → slice_get fs' g ≡ Some (T x)
+  front_stands : (g : ℕ) (x : FunctionText) → g < first → slice_get fs g ≡ Some x → slice_get fs' g ≡ Some (T x)
   front_stands g x lt e =
       ap (λ xs. slice_get xs g) tiled_are
       ∙ get_more (map T before) (tile_functions c 0 c.tiles ++ map T after) g (T x) (slice_map T before g x (sym (get_left before (c.function ∷ after) g lt) ∙ ap (λ xs. slice_get xs g) (sym are) ∙ e))
 
-  pub back_stands : (j : ℕ) (x : FunctionText) → slice_get fs (first + suc j) ≡ Some x → slice_get fs' (first + (c.tiles + j)) ≡ Some (T x)
+  back_stands : (j : ℕ) (x : FunctionText) → slice_get fs (first + suc j) ≡ Some x → slice_get fs' (first + (c.tiles + j)) ≡ Some (T x)
   back_stands j x e =
       let old : slice_get after j ≡ Some x = sym (get_right before (c.function ∷ after) (suc j)) ∙ ap (λ xs. slice_get xs (first + suc j)) (sym are) ∙ e in
       let z : first + (c.tiles + j) ≡ length (map T before) + (length (tile_functions c 0 c.tiles) + j) = (let k = new_front in let l = tiles_count c 0 c.tiles in omega arith) in
       ap (λ xs. slice_get xs (first + (c.tiles + j))) tiled_are ∙ ap (slice_get (map T before ++ (tile_functions c 0 c.tiles ++ map T after))) z
       ∙ get_right (map T before) (tile_functions c 0 c.tiles ++ map T after) (length (tile_functions c 0 c.tiles) + j) ∙ get_right (tile_functions c 0 c.tiles) (map T after) j ∙ slice_map T after j x old
 
-  pub others_stand : (g : ℕ) (x : FunctionText) → (g ≡ first → ⊥) → slice_get fs g ≡ Some x → slice_get fs' (renumbered first c.tiles g) ≡ Some (T x)
+  others_stand : (g : ℕ) (x : FunctionText) → (g ≡ first → ⊥) → slice_get fs g ≡ Some x → slice_get fs' (renumbered first c.tiles g) ≡ Some (T x)
   others_stand g x other e = by (cases_lt g first)
     where
       by : (g < first) ⊎ (first ≤ g) → slice_get fs' (renumbered first c.tiles g) ≡ Some (T x)

@@ -1,9 +1,9 @@
 -- A program whose function can be cut.
-use Rattle.std.proofs.Common.{refl, arith}
 use Rattle.std.specs.Fmt.{digits}
+use Rattle.std.proofs.Common.{refl, arith}
 use Rattle.prem_meaning.specs.GroupTwo.{IsWellFormed, group_two}
-use Rattle.prem_tiling.proofs.ShapesLemmas.Rows.{eight, eight_cut}
 use Rattle.prem_tiling.specs.Laws.CanCut.{CanCut}
+use Rattle.prem_tiling.proofs.ShapesLemmas.Rows.{eight, eight_cut}
 
 eight_is_well_formed : IsWellFormed eight
 unfolding eight group_two

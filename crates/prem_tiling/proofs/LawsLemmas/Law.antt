@@ -1,7 +1,7 @@
 -- A program with tiles does what the program did.
-use Rattle.std.proofs.Common.{◌≡◌, ℕ, zero, suc, ◌+◌, ◌-◌, ◌*◌, ◌/◌, ◌^◌, ◌<◌, ◌≤◌, Bool, true, false, cond, not, ◌||◌, List, [], ◌∷◌, ◌++◌, length, map, refl, ap, sym, ◌∙◌, subst, arith, Option, None, Some, option_map, unwrap_or, ltb, is_some, ⊎_elim, true≢false, IfSome}
 use Rattle.std.specs.Prelude.{slice_get, codes}
 use Rattle.std.specs.List.{list_any}
+use Rattle.std.proofs.Common.{◌≡◌, ℕ, zero, suc, ◌+◌, ◌-◌, ◌*◌, ◌/◌, ◌^◌, ◌<◌, ◌≤◌, Bool, true, false, cond, not, ◌||◌, List, [], ◌∷◌, ◌++◌, length, map, refl, ap, sym, ◌∙◌, subst, arith, Option, None, Some, option_map, unwrap_or, ltb, is_some, ⊎_elim, true≢false, IfSome}
 use Rattle.std.proofs.lemmas.List.{length-map, length-append}
 use Rattle.std.proofs.lemmas.Bool.{cases_lt, lt-ltb, ltb-true, eqb-true, eq-eqb}
 use Rattle.std.proofs.Math.Nat.{mul-lt-mul_of_pos_right, mul_comm, div-lt_iff_lt-mul}
@@ -366,7 +366,7 @@ module _ (c : Cut) (front back : ProgramText) (can : CanCut (front ++ function_i
       }
       ends (wrong line) = refl
 
-  pub number_there : number_named fs f.name ≡ Some first
+  number_there : number_named fs f.name ≡ Some first
   number_there = ap (option_map (λ (x : ℕ × FunctionText). x.0)) (names.here f.name (same_name f.name))
 
 -- ---- wherever the function stands

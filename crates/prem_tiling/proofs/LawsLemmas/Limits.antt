@@ -1,7 +1,7 @@
 -- Of the limits of programs, one with tiles can only be past that on functions.
-use Rattle.std.proofs.Common.{◌≡◌, ℕ, zero, suc, ◌+◌, ◌≤◌, Bool, true, false, not, ◌||◌, List, [], ◌∷◌, ◌++◌, length, map, refl, ap, sym, ◌∙◌, subst, Option, None, Some, option_map, true≢false, is_some}
 use Rattle.std.specs.Prelude.{nat_lt, nat_le}
 use Rattle.std.specs.List.{list_any}
+use Rattle.std.proofs.Common.{◌≡◌, ℕ, zero, suc, ◌+◌, ◌≤◌, Bool, true, false, not, ◌||◌, List, [], ◌∷◌, ◌++◌, length, map, refl, ap, sym, ◌∙◌, subst, Option, None, Some, option_map, true≢false, is_some}
 use Rattle.std.proofs.lemmas.List.{length-map}
 use Rattle.std.proofs.lemmas.Bool.{and_from, le-leb}
 use Rattle.prem_syntax.specs.declared.rules.Count.TheVariants.{Functions, Globals, Parameters, Regions, Length, Stated}
@@ -158,7 +158,7 @@ module _ (c : Cut) (front back : ProgramText) (can : CanCut (front ++ function_i
       by None h = absurd (true≢false (sym h))
       by (Some m) h = ap not (and_from (nat_le 1 c.stated) (nat_le c.stated 2147483647) (le-leb 1 c.stated some) (le-leb c.stated 2147483647 small))
 
-  pub functions_alone : has_breach (in_limits (globals_of q) fs') ≡ nat_lt 256 (length fs')
+  functions_alone : has_breach (in_limits (globals_of q) fs') ≡ nat_lt 256 (length fs')
   functions_alone =
       one_breach (nat_lt 256 (length fs')) (Limit Functions) (many_globals (globals_of q)) (parameters fs') (regions fs') (lengths (globals_of q)) (stated fs')
       (ap many_globals globals_are ∙ none_right (many_functions fs) (many_globals gs) two)

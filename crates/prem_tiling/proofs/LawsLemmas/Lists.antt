@@ -1,6 +1,6 @@
 -- Programs in parts: the items before a function and those behind it.
-use Rattle.std.proofs.Common.{◌≡◌, ℕ, suc, ◌+◌, Bool, true, false, cond, ◌||◌, List, [], ◌∷◌, ◌++◌, length, map, refl, ap, sym, ◌∙◌, arith, Option, None, Some, option_map, true≢false, append_assoc, is_some}
 use Rattle.std.specs.Str.{bytes_eq}
+use Rattle.std.proofs.Common.{◌≡◌, ℕ, suc, ◌+◌, Bool, true, false, cond, ◌||◌, List, [], ◌∷◌, ◌++◌, length, map, refl, ap, sym, ◌∙◌, arith, Option, None, Some, option_map, true≢false, append_assoc, is_some}
 use Rattle.std.proofs.lemmas.List.{append-nil}
 use Rattle.std.proofs.lemmas.Bool.{and_parts}
 use Rattle.std.proofs.lemmas.Slice.Eq.{bytes_eq-Decides}
@@ -107,7 +107,7 @@ mutual
   any_number scope turns (input at name) n m rest rest' e = ap (input_steps at (meaning_of scope name)) e
   any_number scope turns (call at target callee arguments) n m rest rest' e = ap (call_steps at (target_of scope target) (number_named scope.functions callee) (map (resolve_term scope) arguments)) e
 
-  pub any_numbers : (scope : Scope) (turns : ℕ) (ss : Statements) (n m : ℕ) (rest rest' : Steps) → rest ≡ rest' → resolve_statements scope (λ k. turns) n ss rest ≡ resolve_statements scope (λ k. turns) m ss rest'
+  any_numbers : (scope : Scope) (turns : ℕ) (ss : Statements) (n m : ℕ) (rest rest' : Steps) → rest ≡ rest' → resolve_statements scope (λ k. turns) n ss rest ≡ resolve_statements scope (λ k. turns) m ss rest'
   any_numbers scope turns no_statements n m rest rest' e = e
   any_numbers scope turns (next_statement s ss) n m rest rest' e = any_number scope turns s n m _ _ (any_numbers scope turns ss (n + loops_in s) (m + loops_in s) rest rest' e)
 

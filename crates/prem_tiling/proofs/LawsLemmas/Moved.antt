@@ -1,6 +1,6 @@
 -- Functions and items that break no rule break none in the program with tiles.
-use Rattle.std.proofs.Common.{◌≡◌, ℕ, suc, ◌+◌, ◌<◌, ◌≤◌, Bool, true, false, not, ◌&&◌, ◌||◌, List, [], ◌∷◌, ◌++◌, length, map, refl, ap, ◌∙◌, subst, arith, is_some, is_none, eqb, ⊎_elim, ◌⊎◌, inl, inr}
 use Rattle.std.specs.Str.{bytes_eq}
+use Rattle.std.proofs.Common.{◌≡◌, ℕ, suc, ◌+◌, ◌<◌, ◌≤◌, Bool, true, false, not, ◌&&◌, ◌||◌, List, [], ◌∷◌, ◌++◌, length, map, refl, ap, ◌∙◌, subst, arith, is_some, is_none, eqb, ⊎_elim, ◌⊎◌, inl, inr}
 use Rattle.prem_syntax.specs.declared.tree.Place.{Place}
 use Rattle.prem_syntax.specs.declared.tree.Ty.{Ty}
 use Rattle.prem_syntax.specs.declared.rules.TypeRule.TheVariants as rule
@@ -31,7 +31,7 @@ NoTile c x = (t : ℕ) → t < c.tiles → bytes_eq x (tile_name c.function.name
 abbrev pub Fresh : Cut → List Text → List Text → Type 0
 Fresh c taken taken' = (x : Text) → has_name taken x ≡ false → NoTile c x → has_name taken' x ≡ false
 
-pub fresh_more : (c : Cut) (taken taken' : List Text) (y : Text) → Fresh c taken taken' → Fresh c (taken ++ y ∷ []) (taken' ++ y ∷ [])
+fresh_more : (c : Cut) (taken taken' : List Text) (y : Text) → Fresh c taken taken' → Fresh c (taken ++ y ∷ []) (taken' ++ y ∷ [])
 fresh_more c taken taken' y fresh x e apart = has_append taken' (y ∷ []) x ∙ none_either (fresh x (has_not_left taken (y ∷ []) x e) apart) (has_not_right taken (y ∷ []) x e)
 
 pub fresh_all : (c : Cut) (taken taken' ys : List Text) → Fresh c taken taken' → Fresh c (taken ++ ys) (taken' ++ ys)
@@ -70,7 +70,7 @@ locals_moved c fs taken taken' scope (l ∷ ls) fresh apart e =
     (locals_moved c fs (taken ++ l.name ∷ []) (taken' ++ l.name ∷ []) (declared scope l) ls (fresh_more c taken taken' l.name fresh) (λ t lt. neither_right (bytes_eq l.name (tile_name c.function.name t)) (has_name (names_of ls) (tile_name c.function.name t)) (apart t lt)) (none_right (here ++ value) rest e))
 
 -- what is said at the name of a function, where it is new
-pub heading_moved : (earlier earlier' : List Text) (f : FunctionText) → has_name earlier' f.name ≡ false → in_heading earlier f ≡ [] → in_heading earlier' f ≡ []
+heading_moved : (earlier earlier' : List Text) (f : FunctionText) → has_name earlier' f.name ≡ false → in_heading earlier f ≡ [] → in_heading earlier' f ≡ []
 heading_moved earlier earlier' f new e =
     let twice = if_at (has_name earlier f.name) f.at (Twice f.name) in
     let narrow = if_at (is_narrow f.ty) f.at (OfTypes rule.Narrow) in

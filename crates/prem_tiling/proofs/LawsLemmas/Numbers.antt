@@ -1,7 +1,7 @@
 -- Turns of a loop and of its tiles, by numbers.
-use Rattle.std.proofs.Common.{◌≡◌, ℕ, zero, suc, ◌+◌, ◌-◌, ◌*◌, ◌/◌, ◌%◌, ◌<◌, ◌≤◌, min, Bool, true, false, cond, not, refl, ap, sym, ◌∙◌, arith, ltb, leb, ◌⊎◌, inl, inr, ⊎_elim}
 use Rattle.std.specs.Prelude.{pos, ◌+ℤ◌, int_lt}
 use Rattle.std.specs.Int.{div_ceil}
+use Rattle.std.proofs.Common.{◌≡◌, ℕ, zero, suc, ◌+◌, ◌-◌, ◌*◌, ◌/◌, ◌%◌, ◌<◌, ◌≤◌, min, Bool, true, false, cond, not, refl, ap, sym, ◌∙◌, arith, ltb, leb, ◌⊎◌, inl, inr, ⊎_elim}
 use Rattle.std.proofs.Math.Nat.{mul_comm, mul-suc, mul-le-mul_left, mul-le-mul_right, zero-mul, mul-lt-mul_of_pos_left, mod-lt, div-add-mod, le-mul_of_pos_right, le-div_iff_mul-le, div-mul-le_self, div-eq_of_lt, mul-div_cancel_left}
 use Rattle.std.proofs.lemmas.Int.{ints}
 use Rattle.std.proofs.lemmas.Bool.{cases_lt, lt-ltb, le-ltb, ltb-true, leb-true, leb-false}

@@ -1,7 +1,7 @@
 -- Statements without calls, and regions, break no rule in a tile.
-use Rattle.std.proofs.Common.{◌≡◌, ℕ, ◌≤◌, Bool, true, false, cond, not, ◌||◌, List, [], ◌∷◌, ◌++◌, map, refl, ap, sym, ◌∙◌, arith, Option, None, Some, unwrap_or, true≢false, ◌⊎◌, inl, inr}
 use Rattle.std.specs.Prelude.{ℤ, pos, nat_lt, nat_le, int_le, unsigned_abs, ◌+ℤ◌}
 use Rattle.std.specs.Int.{int_min, int_max}
+use Rattle.std.proofs.Common.{◌≡◌, ℕ, ◌≤◌, Bool, true, false, cond, not, ◌||◌, List, [], ◌∷◌, ◌++◌, map, refl, ap, sym, ◌∙◌, arith, Option, None, Some, unwrap_or, true≢false, ◌⊎◌, inl, inr}
 use Rattle.std.proofs.lemmas.Int.{ints}
 use Rattle.std.proofs.lemmas.Bool.Decides.{nat_tests}
 use Rattle.prem_syntax.specs.declared.tree.Place.{Place}

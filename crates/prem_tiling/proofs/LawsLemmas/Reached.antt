@@ -53,7 +53,7 @@ called (callees ∷ table) set k n (suc m) a b = let z : k + 1 + m ≡ k + suc m
 -- ---- all rounds
 
 module _ (table : List (List ℕ)) (start : List Bool) where
-  pub length_reached : (n : ℕ) → length (reached_by table start n) ≡ length start
+  length_reached : (n : ℕ) → length (reached_by table start n) ≡ length start
   length_reached zero = refl
   length_reached (suc n) = length_with table (reached_by table start n) 0 (reached_by table start n) ∙ length_reached n
 

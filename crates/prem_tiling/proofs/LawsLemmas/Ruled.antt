@@ -1,8 +1,8 @@
 -- A program with tiles breaks no rule.
-use Rattle.std.proofs.Common.{◌≡◌, ℕ, zero, suc, ◌+◌, ◌-◌, ◌<◌, ◌≤◌, Bool, true, false, not, ◌&&◌, ◌||◌, List, [], ◌∷◌, ◌++◌, length, map, refl, ap, sym, ◌∙◌, subst, arith, Option, None, Some, option_map, eqb, is_some, is_none, ◌⊎◌, inl, inr, ⊎_elim, true≢false, append_assoc, slice_index_or, IsTrue}
 use Rattle.std.specs.Prelude.{codes, slice_get}
 use Rattle.std.specs.List.{list_any}
 use Rattle.std.specs.Str.{bytes_eq}
+use Rattle.std.proofs.Common.{◌≡◌, ℕ, zero, suc, ◌+◌, ◌-◌, ◌<◌, ◌≤◌, Bool, true, false, not, ◌&&◌, ◌||◌, List, [], ◌∷◌, ◌++◌, length, map, refl, ap, sym, ◌∙◌, subst, arith, Option, None, Some, option_map, eqb, is_some, is_none, ◌⊎◌, inl, inr, ⊎_elim, true≢false, append_assoc, slice_index_or, IsTrue}
 use Rattle.std.proofs.lemmas.List.{append-nil, length-map}
 use Rattle.std.proofs.lemmas.Bool.{cases_eq}
 use Rattle.std.proofs.lemmas.Slice.Eq.{bytes_eq-Decides}
@@ -404,7 +404,7 @@ module _ (c : Cut) (front back : ProgramText) (can : CanCut (front ++ function_i
           on true k next = refl
           on false k next = next k
 
-  pub unbroken_rules : in_limits (globals_of q) fs' ≡ [] → breaches q ≡ []
+  unbroken_rules : in_limits (globals_of q) fs' ≡ [] → breaches q ≡ []
   unbroken_rules limits = none_both (none_both limits (ap (λ b. if_broken (not b) None NoJob) job_stays)) new_items
 
 -- ---- wherever the function stands

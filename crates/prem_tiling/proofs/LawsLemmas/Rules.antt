@@ -1,7 +1,7 @@
 -- Expressions and statements that break no rule break none in the program with tiles.
-use Rattle.std.proofs.Common.{◌≡◌, ℕ, zero, suc, ◌+◌, ◌<◌, ◌≤◌, Bool, true, false, cond, not, ◌&&◌, ◌||◌, List, [], ◌∷◌, ◌++◌, length, refl, ap, sym, ◌∙◌, arith, Option, None, Some, eqb, ltb, is_some, ◌⊎◌, inl, inr, true≢false}
 use Rattle.std.specs.List.{flat_map}
 use Rattle.std.specs.Str.{bytes_eq}
+use Rattle.std.proofs.Common.{◌≡◌, ℕ, zero, suc, ◌+◌, ◌<◌, ◌≤◌, Bool, true, false, cond, not, ◌&&◌, ◌||◌, List, [], ◌∷◌, ◌++◌, length, refl, ap, sym, ◌∙◌, arith, Option, None, Some, eqb, ltb, is_some, ◌⊎◌, inl, inr, true≢false}
 use Rattle.std.proofs.lemmas.Bool.{and_parts, cases_lt, lt-ltb, ltb-true}
 use Rattle.std.proofs.lemmas.Slice.Eq.{bytes_eq-Decides}
 use Rattle.prem_syntax.specs.declared.tree.Place.{Place}
@@ -13,9 +13,9 @@ use Rattle.prem_syntax.specs.Syntax.{Text, Expression, literal, variable, elemen
 use Rattle.prem_meaning.specs.Resolve.{Scope, find_local, find_global, find_function, first_meaning, meaning_of, resolve_term, kind_of}
 use Rattle.prem_meaning.specs.Rules.{Rule, Breach, OfTypes, CallOrder, MarkedCall, SystemCall, LoopForm}
 use Rattle.prem_meaning.specs.Breaches.{Around, if_at, unknown, used_plain, used_indexed, in_expression, in_expressions, in_option, in_assigned, in_target, in_call_target, in_callee, in_names, is_local, is_int_local, is_int, same_name, assigns, assigns_within, is_between, is_loop, is_void, is_marked_text, in_statement, in_statements}
-use Rattle.prem_tiling.proofs.LawsLemmas.Formed.{none_left, none_right, none_both, kept_rule, kept_rule_not, loop_parts}
 use Rattle.prem_tiling.specs.Shapes.Tiled.{Cut, tile_name, tile_of, calls_from, with_tiles, all_with_tiles, function_with_tiles}
 use Rattle.prem_tiling.specs.Laws.Runs.{renumbered}
+use Rattle.prem_tiling.proofs.LawsLemmas.Formed.{none_left, none_right, none_both, kept_rule, kept_rule_not, loop_parts}
 use Rattle.prem_tiling.proofs.LawsLemmas.Calls.{renumbered_below, renumbered_above, above_first}
 use Rattle.prem_tiling.proofs.LawsLemmas.Terms.{with_functions, same_term, same_meaning}
 
@@ -50,7 +50,7 @@ module _ (fs : List FunctionText) where
   expression_formed scope (binary at op left right) e =
       none_both (expression_formed scope left (none_left (in_expression scope left) (in_expression scope right) e)) (expression_formed scope right (none_right (in_expression scope left) (in_expression scope right) e))
 
-  pub expressions_formed : (scope : Scope) (es : List Expression) → in_expressions scope es ≡ [] → in_expressions (with_functions fs scope) es ≡ []
+  expressions_formed : (scope : Scope) (es : List Expression) → in_expressions scope es ≡ [] → in_expressions (with_functions fs scope) es ≡ []
   expressions_formed scope [] e = refl
   expressions_formed scope (x ∷ xs) e =
       none_both (expression_formed scope x (none_left (in_expression scope x) (flat_map (in_expression scope) xs) e)) (expressions_formed scope xs (none_right (in_expression scope x) (flat_map (in_expression scope) xs) e))
@@ -63,7 +63,7 @@ module _ (fs : List FunctionText) where
   assigned_formed scope at name None e = plain_kept scope at name e
   assigned_formed scope at name (Some index) e = indexed_kept scope at name e
 
-  pub call_target_formed : (scope : Scope) (at : Place) (target : Option Text) → in_call_target at scope target ≡ [] → in_call_target at (with_functions fs scope) target ≡ []
+  call_target_formed : (scope : Scope) (at : Place) (target : Option Text) → in_call_target at scope target ≡ [] → in_call_target at (with_functions fs scope) target ≡ []
   call_target_formed scope at None e = refl
   call_target_formed scope at (Some name) e = target_kept scope at name e
 
@@ -242,7 +242,7 @@ module _ (c : Cut) (first : ℕ) (around : Around) (fs' : List FunctionText) (ke
       none_both (none_both (call_target_formed fs' around.scope at target target_e) (ap (in_callee at there callee (is_some target) (length es)) others.1 ∙ callee_kept at callee (is_some target) (length es) g others.0 e)) (expressions_formed fs' around.scope es es_e)
 
   mutual
-    pub statement_formed : (s : Statement) → in_statement around s ≡ [] → in_statement there (with_tiles c.function.name c.tiles s) ≡ []
+    statement_formed : (s : Statement) → in_statement around s ≡ [] → in_statement there (with_tiles c.function.name c.tiles s) ≡ []
     statement_formed (block at body) e = statements_formed body e
     statement_formed (if_then at condition taken) e =
         none_both (expression_formed fs' around.scope condition (none_left (in_expression around.scope condition) (in_statement around taken) e)) (statement_formed taken (none_right (in_expression around.scope condition) (in_statement around taken) e))

@@ -1,7 +1,7 @@
 -- What a function has that has the shape.
-use Rattle.std.proofs.Common.{◌≡◌, ℕ, zero, suc, ◌≤◌, Bool, true, false, cond, ◌&&◌, ◌||◌, List, [], ◌∷◌, ◌++◌, map, refl, ap, sym, ◌∙◌, subst, arith, Option, None, Some, Ok, eqb, true≢false, option_map, is_some, append_assoc}
 use Rattle.std.specs.Prelude.{nat_le}
 use Rattle.std.specs.Str.{bytes_eq}
+use Rattle.std.proofs.Common.{◌≡◌, ℕ, zero, suc, ◌≤◌, Bool, true, false, cond, ◌&&◌, ◌||◌, List, [], ◌∷◌, ◌++◌, map, refl, ap, sym, ◌∙◌, subst, arith, Option, None, Some, Ok, eqb, true≢false, option_map, is_some, append_assoc}
 use Rattle.std.proofs.lemmas.List.{append-nil}
 use Rattle.std.proofs.lemmas.Bool.{and_parts, leb-true, eqb-true}
 use Rattle.std.proofs.lemmas.Slice.Eq.{bytes_eq-Decides}
@@ -157,7 +157,7 @@ no_successor : (o : Option ℕ) (k : ℕ) → option_map suc o ≡ Some k → ze
 no_successor None k e z = cc
 no_successor (Some j) k e z = let s : suc j ≡ k = cc in absurd (omega arith)
 
-pub named_alike : (names : List Text) (a b : Text) (k : ℕ) → number_of names a ≡ Some k → number_of names b ≡ Some k → bytes_eq a b ≡ true
+named_alike : (names : List Text) (a b : Text) (k : ℕ) → number_of names a ≡ Some k → number_of names b ≡ Some k → bytes_eq a b ≡ true
 named_alike [] a b k e f = cc
 named_alike (x ∷ xs) a b k e f = by (bytes_eq x a) refl (bytes_eq x b) refl (number_of xs a) (number_of xs b) e f (λ j h i. named_alike xs a b j h i)
   where
@@ -200,7 +200,7 @@ module _ (names : List Text) (variable : Text) (k : ℕ) (there : number_of name
     left_alone (call at None callee arguments) e = refl
     left_alone (call at (Some name) callee arguments) e = not_named name e
 
-    pub all_left_alone : (ss : Statements) → assigns_name_within variable ss ≡ false → assign_within names k ss ≡ false
+    all_left_alone : (ss : Statements) → assigns_name_within variable ss ≡ false → assign_within names k ss ≡ false
     all_left_alone no_statements e = refl
     all_left_alone (next_statement s ss) e = none_either (left_alone s (neither_left (assigns_name variable s) (assigns_name_within variable ss) e)) (all_left_alone ss (neither_right (assigns_name variable s) (assigns_name_within variable ss) e))
 

@@ -1,6 +1,6 @@
 -- What the rules say of the function that is cut, and of its loop.
-use Rattle.std.proofs.Common.{◌≡◌, ℕ, ◌+◌, ◌<◌, Bool, true, false, not, ◌&&◌, ◌||◌, List, [], ◌∷◌, ◌++◌, length, refl, ap, sym, ◌∙◌, subst, Option, None, Some, eqb, leb, is_some, is_none, true≢false, IsTrue}
 use Rattle.std.specs.List.{list_any}
+use Rattle.std.proofs.Common.{◌≡◌, ℕ, ◌+◌, ◌<◌, Bool, true, false, not, ◌&&◌, ◌||◌, List, [], ◌∷◌, ◌++◌, length, refl, ap, sym, ◌∙◌, subst, Option, None, Some, eqb, leb, is_some, is_none, true≢false, IsTrue}
 use Rattle.std.proofs.lemmas.Bool.{and_parts, leb-true}
 use Rattle.prem_syntax.specs.declared.rules.TypeRule.TheVariants as rule
 use Rattle.prem_syntax.specs.Syntax.{Text, Expression, GlobalVariable, FunctionText, function_item, ProgramText}

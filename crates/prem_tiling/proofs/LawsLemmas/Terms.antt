@@ -1,6 +1,6 @@
 -- What steps are resolved to doesn't depend on the functions of a program, but for calls.
-use Rattle.std.proofs.Common.{◌≡◌, ℕ, ◌+◌, false, List, [], ◌∷◌, map, refl, ap, sym, ◌∙◌, Option, None, Some, true≢false}
 use Rattle.std.specs.Option.{option_map}
+use Rattle.std.proofs.Common.{◌≡◌, ℕ, ◌+◌, false, List, [], ◌∷◌, map, refl, ap, sym, ◌∙◌, Option, None, Some, true≢false}
 use Rattle.prem_syntax.specs.declared.tree.Place.{Place}
 use Rattle.prem_syntax.specs.declared.tree.Ty.{Ty}
 use Rattle.prem_syntax.specs.declared.meaning.Meaning.{Meaning}
@@ -93,7 +93,7 @@ module _ (fs : List FunctionText) where
     same_statement scope turns (input at name) n n' rest rest' none e = same_input scope at name rest ∙ ap (input_steps at (meaning_of scope name)) e
     same_statement scope turns (call at target callee arguments) n n' rest rest' none e = absurd (true≢false none)
 
-    pub same_statements : (scope : Scope) (turns : ℕ) (ss : Statements) (n n' : ℕ) (rest rest' : Steps) → have_call ss ≡ false → rest ≡ rest' → resolve_statements (with_functions fs scope) (λ k. turns) n ss rest ≡ resolve_statements scope (λ k. turns) n' ss rest'
+    same_statements : (scope : Scope) (turns : ℕ) (ss : Statements) (n n' : ℕ) (rest rest' : Steps) → have_call ss ≡ false → rest ≡ rest' → resolve_statements (with_functions fs scope) (λ k. turns) n ss rest ≡ resolve_statements scope (λ k. turns) n' ss rest'
     same_statements scope turns no_statements n n' rest rest' none e = e
     same_statements scope turns (next_statement first others) n n' rest rest' none e =
         same_statement scope turns first n n' _ _ (neither_left (has_call first) (have_call others) none)

@@ -1,6 +1,6 @@
 -- Two states that differ in stale locals and in their marks alone, and what evaluates alike in them.
-use Rattle.std.proofs.Common.{◌≡◌, ℕ, ◌+◌, ◌<◌, ◌≤◌, Bool, true, false, cond, not, ◌&&◌, ◌||◌, List, [], ◌∷◌, ◌++◌, length, set, refl, ap, sym, ◌∙◌, subst, arith, Option, None, Some, Ok, eqb, ◌⊎◌, inl, inr, true≢false}
 use Rattle.std.specs.Prelude.{slice_index}
+use Rattle.std.proofs.Common.{◌≡◌, ℕ, ◌+◌, ◌<◌, ◌≤◌, Bool, true, false, cond, not, ◌&&◌, ◌||◌, List, [], ◌∷◌, ◌++◌, length, set, refl, ap, sym, ◌∙◌, subst, arith, Option, None, Some, Ok, eqb, ◌⊎◌, inl, inr, true≢false}
 use Rattle.std.proofs.lemmas.List.{length-set, get_or-set_same, get_or-set_other, get_or_past}
 use Rattle.std.proofs.lemmas.Bool.{cases_lt, eq-eqb, eqb-true}
 use Rattle.prem_word.specs.declared.kind.BinOp.{BinOp}
@@ -162,7 +162,7 @@ module _ (scope : Scope) (locals : List Text) (numbered : Numbered scope locals)
   operator_alike at OrElseOp kind l r e f = λ i. and_then (e i) (λ a. cond (eqb a 0) (truth_of (f i)) (Ok 1))
   operator_alike at op kind l r e f = λ i. and_then (e i) (λ a. and_then (f i) (λ b. operate at.line op kind a b))
 
-  pub eval_alike : (e : Expression) → read_of locals stale e ≡ None → eval may globals ls (resolve_term scope e) ≡ eval may globals ls' (resolve_term scope e)
+  eval_alike : (e : Expression) → read_of locals stale e ≡ None → eval may globals ls (resolve_term scope e) ≡ eval may globals ls' (resolve_term scope e)
   eval_alike (literal at w kind) none = refl
   eval_alike (variable at name) none = variable_alike at (meaning_of scope name) (number_of locals name) (numbered.number name) (some_line (is_stale stale (number_of locals name)) at.line none)
   eval_alike (element at name index) none = element_alike at (meaning_of scope name) (resolve_term scope index) (eval_alike index none)

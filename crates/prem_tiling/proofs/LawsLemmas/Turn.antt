@@ -1,7 +1,7 @@
 -- A turn without a read of stale locals does the same from two states that differ in these alone.
-use Rattle.std.proofs.Common.{◌≡◌, ℕ, ◌+◌, Bool, true, false, cond, not, ◌&&◌, ◌||◌, List, [], ◌++◌, refl, ap, sym, ◌∙◌, subst, Option, None, Some, Ok, Err, eqb, true≢false}
 use Rattle.std.specs.Prelude.{ℤ, pos, ◌+ℤ◌, int_lt}
 use Rattle.std.specs.Option.{option_map}
+use Rattle.std.proofs.Common.{◌≡◌, ℕ, ◌+◌, Bool, true, false, cond, not, ◌&&◌, ◌||◌, List, [], ◌++◌, refl, ap, sym, ◌∙◌, subst, Option, None, Some, Ok, Err, eqb, true≢false}
 use Rattle.std.proofs.lemmas.Bool.{eq-eqb}
 use Rattle.prem_word.specs.declared.kind.Kind.TheVariants.{Int}
 use Rattle.prem_word.specs.Words.{value_in, word_of}
@@ -116,7 +116,7 @@ module _ (around : Around) (locals : List Text) (numbered : Numbered around.scop
   input_step_tied Q rest stale at Nothing name is moves go u v t = go u v (more_stale (without (number_of locals name) stale) (λ k h. ap (λ o. without o stale k) is ∙ h) t)
 
   -- the step of a loop
-  pub step_tied : (line k step : ℕ) (stale : LocalSet) (u v : ProgramState) → stale k ≡ false → changed k ≡ true → T stale u v → Joint (T stale) (loop_step line k step u) (loop_step line k step v)
+  step_tied : (line k step : ℕ) (stale : LocalSet) (u v : ProgramState) → stale k ≡ false → changed k ≡ true → T stale u v → Joint (T stale) (loop_step line k step u) (loop_step line k step v)
   step_tied line k step stale u v fresh moves t =
       subst (λ (z : ℤ). Joint (T stale) (loop_step line k step u) (cond (int_lt (pos 2147483647) z) (Err line) (Ok (with_local k (word_of z) v))))
       (ap (λ w. value_in Int w +ℤ pos step) (t.alike k fresh)) (by (int_local k u +ℤ pos step))

@@ -1,7 +1,7 @@
 -- Programs and their tiles, computed; each stands below its text.
-use Rattle.std.proofs.Common.{◌≡◌, refl, ℕ, List, [], ◌∷◌, None, Some, Bool, true, false, Option, Result, Err}
 use Rattle.std.specs.Prelude.{codes, pos, negsuc}
 use Rattle.std.specs.Fmt.{digits}
+use Rattle.std.proofs.Common.{◌≡◌, refl, ℕ, List, [], ◌∷◌, None, Some, Bool, true, false, Option, Result, Err}
 use Rattle.prem_word.specs.declared.kind.Kind.TheVariants.{Int}
 use Rattle.prem_word.specs.declared.kind.BinOp.TheVariants.{Add, Sub}
 use Rattle.prem_syntax.specs.declared.tree.Place.{Place}

@@ -1,13 +1,13 @@
 -- Functions resolved one after another.
 use Rattle.std.proofs.Common.{◌≡◌, ℕ, ◌+◌, List, [], ◌∷◌, ◌++◌, refl, ap, ◌∙◌, sym, arith, append_assoc, append-nil}
-use Rattle.prem_tree.specs.declared.resolve.resolved.Routine.{Routine as RoutineTree}
 use Rattle.prem_syntax.specs.Syntax.{GlobalVariable, FunctionText, ProgramText, global_item, function_item}
 use Rattle.prem_meaning.specs.Resolve.{Scope, resolve_function, resolve_items, globals_of, loops_within}
-use Rattle.prem_tree.specs.Resolve.ResolvedOf.{loops_of, routine_of, routines_of, all_loops, item_loops, IsRoutine, AreRoutines}
 use Rattle.prem_names.specs.Scopes.{SameItems}
+use Rattle.prem_tree.specs.declared.resolve.resolved.Routine.{Routine as RoutineTree}
+use Rattle.prem_tree.specs.Resolve.ResolvedOf.{loops_of, routine_of, routines_of, all_loops, item_loops, IsRoutine, AreRoutines}
 use Rattle.prem_tree.specs.Resolve.NamesOf.{AreBehind}
 
-pub globals_of-append : (xs ys : ProgramText) → globals_of (xs ++ ys) ≡ globals_of xs ++ globals_of ys
+globals_of-append : (xs ys : ProgramText) → globals_of (xs ++ ys) ≡ globals_of xs ++ globals_of ys
 globals_of-append [] ys = refl
 globals_of-append (global_item g ∷ xs) ys = ap (λ gs. g ∷ gs) (globals_of-append xs ys)
 globals_of-append (function_item f ∷ xs) ys = globals_of-append xs ys
@@ -38,14 +38,14 @@ all_loops-append [] r = omega arith
 all_loops-append (q ∷ qs) r = ap (λ k. loops_of q.body + k) (all_loops-append qs r) ∙ omega arith
 
 -- a global adds no function
-pub AreRoutines_global : (rs : List RoutineTree) (fs : List FunctionText) (items : ProgramText) (g : GlobalVariable) → AreRoutines rs fs items → AreRoutines rs fs (items ++ global_item g ∷ [])
+AreRoutines_global : (rs : List RoutineTree) (fs : List FunctionText) (items : ProgramText) (g : GlobalVariable) → AreRoutines rs fs items → AreRoutines rs fs (items ++ global_item g ∷ [])
 AreRoutines_global rs fs items g h = record {
   same = λ turns n. h.same turns n ∙ sym (resolve_items-append fs turns n [] items (global_item g ∷ []) ∙ append-nil (resolve_items fs turns n [] items));
   counted = h.counted ∙ rw (item_loops-append) (omega arith);
 }
 
 -- a function adds itself, behind the globals before it
-pub AreRoutines_function : (rs : List RoutineTree) (r : RoutineTree) (fs : List FunctionText) (items : ProgramText) (f : FunctionText) →
+AreRoutines_function : (rs : List RoutineTree) (r : RoutineTree) (fs : List FunctionText) (items : ProgramText) (f : FunctionText) →
     AreRoutines rs fs items → IsRoutine r fs (globals_of items) f → AreRoutines (rs ++ r ∷ []) fs (items ++ function_item f ∷ [])
 AreRoutines_function rs r fs items f hs h = record {
   same = λ turns n.
@@ -53,7 +53,7 @@ AreRoutines_function rs r fs items f hs h = record {
   counted = all_loops-append rs r ∙ rw (item_loops-append, hs.counted, h.counted) (omega arith);
 }
 
-pub AreRoutines_none : (rs : List RoutineTree) (fs : List FunctionText) → rs ≡ [] → AreRoutines rs fs []
+AreRoutines_none : (rs : List RoutineTree) (fs : List FunctionText) → rs ≡ [] → AreRoutines rs fs []
 AreRoutines_none rs fs e = record { same = λ turns n. ap (routines_of turns n) e; counted = ap all_loops e }
 
 -- behind one more global, and behind one more function
@@ -73,5 +73,5 @@ AreBehind_function old new rs qs r fs items f es er hr h = record {
   routines_are = rw er (AreRoutines_function rs r fs items f h.routines_are (rw (h.functions_are, h.globals_are) at hr));
 }
 
-pub AreBehind_none : (names : Scope) (rs : List RoutineTree) (fs : List FunctionText) → names.functions ≡ fs → names.globals ≡ [] → rs ≡ [] → AreBehind names rs fs []
+AreBehind_none : (names : Scope) (rs : List RoutineTree) (fs : List FunctionText) → names.functions ≡ fs → names.globals ≡ [] → rs ≡ [] → AreBehind names rs fs []
 AreBehind_none names rs fs ef eg er = record { functions_are = ef; globals_are = eg; routines_are = AreRoutines_none rs fs er }

@@ -2,9 +2,9 @@
 use Rattle.std.proofs.Common.{◌≡◌, ℕ, ◌+◌, refl, ap, ◌∙◌}
 use Rattle.prem_list.specs.declared.Sequence.{Sequence}
 use Rattle.prem_list.specs.Sequence.{items_of}
+use Rattle.prem_meaning.specs.Resolved.{Steps}
 use Rattle.prem_tree.specs.declared.resolve.resolved.Step.{Step, Block, Row_of-Step, end_of-Step, more_of-Step, items-the_row-Step, items_hidden-the_row-Step-0}
 use Rattle.prem_tree.specs.declared.resolve.resolved.Step.TheBlock.{hidden-the_row-Step-0}
-use Rattle.prem_meaning.specs.Resolved.{Steps}
 use Rattle.prem_tree.specs.Resolve.ResolvedOf.{loops_of, row_loops, list_loops, step_before, row_before, list_before}
 
 row_listed : {m : _} (turns : ℕ → ℕ) (n : ℕ) (row : Row_of-Step m) (rest : Steps) → row_before turns n row rest ≡ list_before turns n (items-the_row-Step m row) rest

@@ -1,6 +1,6 @@
 -- Words in lists, and stores to them.
-use Rattle.std.proofs.Common.{◌≡◌, ℕ, zero, suc, ◌<◌, ◌≤◌, List, [], ◌∷◌, length, get_or, map, refl, ap, sym, arith, None, Some, Ok}
 use Rattle.std.specs.Prelude.{slice_get, slice_set}
+use Rattle.std.proofs.Common.{◌≡◌, ℕ, zero, suc, ◌<◌, ◌≤◌, List, [], ◌∷◌, length, get_or, map, refl, ap, sym, arith, None, Some, Ok}
 use Rattle.prem_syntax.specs.declared.tree.Ty.{Ty}
 use Rattle.prem_meaning.specs.Statements.{ProgramState, store, stored}
 use Rattle.prem_meaning.specs.Source.{everywhere}

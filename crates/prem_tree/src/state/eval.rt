@@ -1,8 +1,8 @@
 // What expressions evaluate to.
 ghost use Rattle.std.specs.Prelude.{◌≡◌, map};
-ghost use Rattle.prem_tree.specs.Resolve.ResolvedOf.{term_of};
 ghost use Rattle.prem_meaning.specs.Expressions.{cell, unary_word, operate, eval};
 ghost use Rattle.prem_meaning.specs.Source.{everywhere};
+ghost use Rattle.prem_tree.specs.Resolve.ResolvedOf.{term_of};
 
 use crate::resolve::Term;
 use prem_syntax::UnOp;

@@ -1,6 +1,6 @@
 -- A job before others is paced.
-use Rattle.std.proofs.Common.{◌≡◌, ℕ, suc, ◌+◌, ◌*◌, ◌≤◌, max, refl, ap, ◌∙◌, sym, subst, arith, List, [], ◌∷◌, ◌++◌, append_assoc}
 use Rattle.std.specs.Prelude.{All}
+use Rattle.std.proofs.Common.{◌≡◌, ℕ, suc, ◌+◌, ◌*◌, ◌≤◌, max, refl, ap, ◌∙◌, sym, subst, arith, List, [], ◌∷◌, ◌++◌, append_assoc}
 use Rattle.std.proofs.lemmas.List.Elements.{All-cons, All-append, All-nil}
 use Rattle.prem_plant.specs.declared.plant.Plant.{Plant}
 use Rattle.prem_isa.specs.declared.effect.Phase.TheVariants.{Memory as MemoryPhase, Execution}
@@ -10,9 +10,9 @@ use Rattle.prem_isa.specs.Plain.{Did}
 use Rattle.prem_runs.specs.Position.Finish.{due_of}
 use Rattle.prem_sound.specs.Script.Script.{change_due}
 use Rattle.prem_sound.specs.Script.Conforms.{GoesOrDone, IsStretch}
-use Rattle.prem_weave.specs.Weave.{Section, segment_of, section_dids, IsSection, Weave, ends, goes, calls, joined, dids_of, IsWeave, due_along}
-use Rattle.prem_layout.specs.Stretch.Paths.{Takes, Cuts, Path, longest_from}
 use Rattle.prem_sound.specs.Paced.Paced.{within_job, within_stretch}
+use Rattle.prem_layout.specs.Stretch.Paths.{Takes, Cuts, Path, longest_from}
+use Rattle.prem_weave.specs.Weave.{Section, segment_of, section_dids, IsSection, Weave, ends, goes, calls, joined, dids_of, IsWeave, due_along}
 use Rattle.prem_weave.specs.Pace.Pace.{change_events, did_events, events_of, PacedFrom, JobsArePaced}
 
 -- ---- events

@@ -1,6 +1,6 @@
 -- A run along a weave that is paced keeps its bounds.
-use Rattle.std.proofs.Common.{◌≡◌, ℕ, zero, suc, ◌+◌, ◌-◌, ◌*◌, ◌<◌, ◌≤◌, refl, ap, ◌∙◌, sym, subst, arith, cond, ltb, true, false, Bool, Some, None, Option, List, [], ◌∷◌, ◌++◌, length, length-append, slice_index_or, ⊎_elim}
 use Rattle.std.specs.Prelude.{All, is_none, ◌&&◌}
+use Rattle.std.proofs.Common.{◌≡◌, ℕ, zero, suc, ◌+◌, ◌-◌, ◌*◌, ◌<◌, ◌≤◌, refl, ap, ◌∙◌, sym, subst, arith, cond, ltb, true, false, Bool, Some, None, Option, List, [], ◌∷◌, ◌++◌, length, length-append, slice_index_or, ⊎_elim}
 use Rattle.std.proofs.lemmas.Bool.{cases_lt, le-ltb}
 use Rattle.std.proofs.lemmas.List.Elements.{All-cons, All-append, All-nil}
 use Rattle.prem_plant.specs.declared.plant.Plant.{Plant}
@@ -15,10 +15,10 @@ use Rattle.prem_runs.specs.Position.Finish.{due_of}
 use Rattle.prem_sound.specs.Script.Script.{Begun, begun_after, begun_with, begun_by, change_due, did_due, Call, no_call, call_at, Script}
 use Rattle.prem_sound.specs.Script.Scripts.{Reading}
 use Rattle.prem_sound.specs.Script.Conforms.{GoesOrDone, IsStretch}
-use Rattle.prem_sound.proofs.ScriptLemmas.Begins.{begun_by-next}
-use Rattle.prem_weave.specs.Weave.{Section, segment_of, section_dids, IsSection, Weave, ends, goes, calls, dids_of, calls_of, IsWeave, Goes}
 use Rattle.prem_sound.specs.Paced.Paced.{within_job, job_with, job_by, own_due, within_stretch, stretch_with, stretch_by}
+use Rattle.prem_sound.proofs.ScriptLemmas.Begins.{begun_by-next}
 use Rattle.prem_sound.proofs.PacedLemmas.PaceRuns.{job_by-next, stretch_by-next}
+use Rattle.prem_weave.specs.Weave.{Section, segment_of, section_dids, IsSection, Weave, ends, goes, calls, dids_of, calls_of, IsWeave, Goes}
 use Rattle.prem_weave.specs.Pace.Pace.{PacedFrom, AreStated, PacedWeavesKeepBounds}
 
 -- ---- a trace, instruction by instruction

@@ -1,11 +1,10 @@
 -- Calm runs are woven.
-use Rattle.std.proofs.Common.{◌≡◌, ℕ, ◌+◌, ◌*◌, ◌/◌, ◌%◌, ◌^◌, ◌<◌, refl, ap, ◌∙◌, sym, subst, arith, cond, eqb, leb, true, false, List, [], ◌∷◌, ◌++◌, Some, None, Option}
 use Rattle.std.specs.Prelude.{All}
+use Rattle.std.proofs.Common.{◌≡◌, ℕ, ◌+◌, ◌*◌, ◌/◌, ◌%◌, ◌^◌, ◌<◌, refl, ap, ◌∙◌, sym, subst, arith, cond, eqb, leb, true, false, List, [], ◌∷◌, ◌++◌, Some, None, Option}
 use Rattle.std.proofs.lemmas.Bool.{cond_both}
 use Rattle.std.proofs.lemmas.List.Elements.{All-head}
-use Rattle.prem_isa.proofs.Forms.{extended_done}
-use Rattle.prem_plant.specs.declared.plant.Target.{Target}
 use Rattle.prem_word.specs.Bytes.{number_at}
+use Rattle.prem_plant.specs.declared.plant.Target.{Target}
 use Rattle.prem_plant.specs.declared.plant.Plant.{Plant}
 use Rattle.prem_isa.specs.declared.instr.Instr.{Instr}
 use Rattle.prem_isa.specs.declared.instr.Instr.TheVariants.{Lui, Auipc, Jal, Jalr, Branch, Load, Store, OpImm, Op, MulDiv, Fence, Ecall, Ebreak, PmMem, PmExec, PmEnd, PmDone, PmIn, PmOut}
@@ -19,16 +18,17 @@ use Rattle.prem_isa.specs.Alu.{plus, holds, load_size, store_size}
 use Rattle.prem_isa.specs.Act.{sets, jumps, accesses, loads, stores, phase_after}
 use Rattle.prem_isa.specs.Bounds.{OnDone}
 use Rattle.prem_isa.specs.Plain.{TaskRun, TaskState, Did, did_of, next_input, with_last, after_effect, plain_did, plain_step, plain_steps, plain_trace}
+use Rattle.prem_isa.proofs.Forms.{extended_done}
 use Rattle.prem_isa.proofs.PlainLaws.{EffectWords, act_words, effect_fits}
-use Rattle.prem_asm.specs.Runs.{Setting, allowed, ends_job, outcome_at}
-use Rattle.prem_asm.specs.OwnRun.{in_job, Leads}
 use Rattle.prem_sound.specs.Script.Scripts.{Reading}
 use Rattle.prem_sound.specs.Script.Conforms.{GoesOrDone}
-use Rattle.prem_weave.specs.Weave.{ends, goes, joined, dids_of}
-use Rattle.prem_weave.proofs.Joins.{weaves_join, runs_join}
+use Rattle.prem_asm.specs.Runs.{Setting, allowed, ends_job, outcome_at}
+use Rattle.prem_asm.specs.OwnRun.{in_job, Leads}
 use Rattle.prem_asm.specs.Ways.{Way, IsWay}
-use Rattle.prem_weave.specs.Path.Woven.{IsCalm, CalmAt, woven_way, CalmRunsAreWoven}
 use Rattle.prem_asm.proofs.Ways.{runs_go_ways}
+use Rattle.prem_weave.specs.Weave.{ends, goes, joined, dids_of}
+use Rattle.prem_weave.specs.Path.Woven.{IsCalm, CalmAt, woven_way, CalmRunsAreWoven}
+use Rattle.prem_weave.proofs.Joins.{weaves_join, runs_join}
 
 -- ---- calm instructions
 

@@ -1,10 +1,10 @@
 -- How globals are read.
-use Rattle.std.proofs.Common.{◌≡◌, ℕ, zero, suc, ◌+◌, ◌*◌, ◌^◌, ◌<◌, refl, ap, ◌∙◌, sym, subst, arith, true, Bool, List, [], ◌∷◌, length}
 use Rattle.std.specs.Prelude.{slice_index}
+use Rattle.std.proofs.Common.{◌≡◌, ℕ, zero, suc, ◌+◌, ◌*◌, ◌^◌, ◌<◌, refl, ap, ◌∙◌, sym, subst, arith, true, Bool, List, [], ◌∷◌, length}
 use Rattle.std.proofs.Math.Nat.{suc-mul}
 use Rattle.prem_word.specs.Bytes.{number_at}
-use Rattle.prem_isa.proofs.ActLaws.{number_same}
 use Rattle.prem_isa.specs.Alu.{loaded}
+use Rattle.prem_isa.proofs.ActLaws.{number_same}
 use Rattle.prem_syntax.specs.declared.tree.Ty.{Ty}
 use Rattle.prem_syntax.specs.declared.tree.Ty.TheVariants.{Void, Int, Unsigned, Short, Ushort, Schar, Uchar}
 use Rattle.prem_syntax.specs.Syntax.{GlobalVariable}

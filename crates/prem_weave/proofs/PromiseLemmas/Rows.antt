@@ -1,6 +1,6 @@
 -- Rows: two globals in sixteen bytes.
-use Rattle.std.proofs.Common.{◌≡◌, ℕ, refl, List, [], ◌∷◌, Some, None}
 use Rattle.std.specs.Prelude.{slice_index, codes}
+use Rattle.std.proofs.Common.{◌≡◌, ℕ, refl, List, [], ◌∷◌, Some, None}
 use Rattle.prem_syntax.specs.declared.tree.Place.{Place}
 use Rattle.prem_syntax.specs.declared.tree.Ty.TheVariants.{Int, Short}
 use Rattle.prem_syntax.specs.Syntax.{GlobalVariable, absent}

@@ -1,10 +1,10 @@
 -- Steps of marked functions.
-use Rattle.std.proofs.Common.{◌≡◌, ◌≢◌, ℕ, zero, suc, ◌+◌, ◌*◌, ◌/◌, ◌%◌, ◌<◌, ◌≤◌, refl, ap, ◌∙◌, subst, arith, cond, eqb, leb, true, false, Bool, List, [], ◌∷◌, length}
 use Rattle.std.specs.Prelude.{◌&&◌}
+use Rattle.std.proofs.Common.{◌≡◌, ◌≢◌, ℕ, zero, suc, ◌+◌, ◌*◌, ◌/◌, ◌%◌, ◌<◌, ◌≤◌, refl, ap, ◌∙◌, subst, arith, cond, eqb, leb, true, false, Bool, List, [], ◌∷◌, length}
 use Rattle.std.proofs.lemmas.Bool.{cond_both}
-use Rattle.prem_isa.proofs.Forms.{extended_done}
-use Rattle.prem_plant.specs.declared.plant.Target.{Target}
 use Rattle.prem_word.specs.Bytes.{number_at}
+use Rattle.prem_plant.specs.declared.plant.Target.{Target}
+use Rattle.prem_order.specs.Order.{is_in, AllIn}
 use Rattle.prem_isa.specs.declared.instr.Instr.{Instr}
 use Rattle.prem_isa.specs.declared.instr.Instr.TheVariants.{Lui, Auipc, Jal, Jalr, Branch, Load, Store, OpImm, Op, MulDiv, Fence, Ecall, Ebreak, PmMem, PmExec, PmEnd, PmDone, PmIn, PmOut}
 use Rattle.prem_isa.specs.declared.instr.LoadOp.{LoadOp}
@@ -22,7 +22,7 @@ use Rattle.prem_isa.specs.Act.{sets, jumps, accesses, loads, stores, phase_after
 use Rattle.prem_isa.specs.Bounds.{OnDone}
 use Rattle.prem_isa.specs.Decode.{cost_of}
 use Rattle.prem_isa.specs.Plain.{TaskState, Did}
-use Rattle.prem_order.specs.Order.{is_in, AllIn}
+use Rattle.prem_isa.proofs.Forms.{extended_done}
 use Rattle.prem_sound.specs.Script.Script.{access_lines}
 use Rattle.prem_asm.specs.Pieces.{code_of, weighted}
 use Rattle.prem_asm.specs.Runs.{Guard, Setting, Ending, allowed, stepped, outcome_at, run}

@@ -1,11 +1,13 @@
 -- The steps of a stub as a marked call.
-use Rattle.std.proofs.Common.{◌≡◌, ℕ, zero, suc, ◌+◌, ◌*◌, ◌/◌, ◌<◌, ◌≤◌, refl, ap, ◌∙◌, sym, subst, arith, eqb, true, false, Bool, List, [], ◌∷◌, ◌++◌, append_assoc, length, Some, None, Option, IfSome, inl, inr}
 use Rattle.std.specs.Prelude.{All, pos}
 use Rattle.std.specs.List.{concat}
+use Rattle.std.proofs.Common.{◌≡◌, ℕ, zero, suc, ◌+◌, ◌*◌, ◌/◌, ◌<◌, ◌≤◌, refl, ap, ◌∙◌, sym, subst, arith, eqb, true, false, Bool, List, [], ◌∷◌, ◌++◌, append_assoc, length, Some, None, Option, IfSome, inl, inr}
 use Rattle.std.proofs.Math.Nat.{mul-div_cancel}
 use Rattle.std.proofs.lemmas.List.Sums.{sum_by-cons}
 use Rattle.prem_plant.specs.declared.plant.Target.{Target}
 use Rattle.prem_plant.specs.Places.{Extent}
+use Rattle.prem_order.specs.Order.{is_in, AllIn}
+use Rattle.prem_order.proofs.Members.{in_head, all_by, in_append_left}
 use Rattle.prem_isa.specs.declared.instr.Instr.{Instr}
 use Rattle.prem_isa.specs.declared.instr.Instr.TheVariants.{Jalr, PmMem}
 use Rattle.prem_isa.specs.declared.effect.Access.{Access}
@@ -15,8 +17,8 @@ use Rattle.prem_isa.specs.declared.effect.Outcome.{Outcome}
 use Rattle.prem_isa.specs.declared.effect.Outcome.TheVariants.{Trap, Done}
 use Rattle.prem_isa.specs.Decode.{cost_of}
 use Rattle.prem_isa.specs.Plain.{TaskState, Did}
-use Rattle.prem_order.specs.Order.{is_in, AllIn}
-use Rattle.prem_order.proofs.Members.{in_head, all_by, in_append_left}
+use Rattle.prem_sound.specs.Script.Script.{access_lines, lines_of_did, lines_of_dids, cost_of_dids, IsCovered}
+use Rattle.prem_sound.proofs.ScriptLemmas.Residency.{lines_of_dids-append, all_in-append}
 use Rattle.prem_asm.specs.Pieces.{Pieces, code_of, weighted}
 use Rattle.prem_asm.specs.Runs.{Guard, Setting, Returns, stepped, outcome_at, run}
 use Rattle.prem_asm.specs.Steps.{AllSteps, Holds, AllCode, Rules, Within, total}
@@ -28,12 +30,10 @@ use Rattle.prem_code_laws.specs.GenLaws.Table.{Codes, code_calls}
 use Rattle.prem_code_laws.specs.PrefetchLaws.Touches.{Touches, CoversAll, Passes, LoadsLine, IsFetch, IsLineOf}
 use Rattle.prem_code_laws.specs.PrefetchLaws.Stubs.{memory_step}
 use Rattle.prem_code_laws.specs.PrefetchLaws.Confined.{exec_step, end_step, return_step}
-use Rattle.prem_sound.specs.Script.Script.{access_lines, lines_of_did, lines_of_dids, cost_of_dids, IsCovered}
-use Rattle.prem_sound.proofs.ScriptLemmas.Residency.{lines_of_dids-append, all_in-append}
 use Rattle.prem_code_laws.proofs.GenLawsLemmas.Quiet.{one_holds}
-use Rattle.prem_weave.proofs.Charges.{Fetching, Running}
 use Rattle.prem_weave.specs.Segment.Bodies.{CodeIsWithin, IsBody, code_costs}
 use Rattle.prem_weave.specs.Segment.Sections.{StubsAreSections}
+use Rattle.prem_weave.proofs.Charges.{Fetching, Running}
 use Rattle.prem_weave.proofs.SegmentLemmas.Bodies.{bodies_are_within, charge, weighs, calls_cost}
 
 -- ---- lists of steps

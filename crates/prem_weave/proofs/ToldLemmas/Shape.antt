@@ -1,10 +1,10 @@
 -- Statements, calls and jobs keep the number of globals.
-use Rattle.std.proofs.Common.{◌≡◌, ℕ, zero, suc, ◌∙◌, subst, eqb, true, false, Bool, Some, None, Option, List, [], ◌∷◌, ◌++◌, length, Ok, Err}
 use Rattle.std.specs.Prelude.{pos, ◌+ℤ◌, int_lt, slice_get}
+use Rattle.std.proofs.Common.{◌≡◌, ℕ, zero, suc, ◌∙◌, subst, eqb, true, false, Bool, Some, None, Option, List, [], ◌∷◌, ◌++◌, length, Ok, Err}
 use Rattle.std.proofs.lemmas.Bool.{cond_both}
 use Rattle.std.proofs.lemmas.List.{length-set, length-map}
-use Rattle.prem_syntax.specs.declared.tree.Ty.{Ty}
 use Rattle.prem_word.specs.Words.{word_of}
+use Rattle.prem_syntax.specs.declared.tree.Ty.{Ty}
 use Rattle.prem_meaning.specs.Resolved.{Term, Steps, Done as NoSteps, SetLocal, SetScalar, SetElement, Output, Input, If, For, While, Call, Routine, Resolved}
 use Rattle.prem_meaning.specs.Expressions.{Outcome, and_then, Access, cell, or_wrong}
 use Rattle.prem_meaning.specs.Statements.{ProgramState, MarkedCall, Calls, choose, value, values, with_local, with_cell, stored, store, take_input, holds, int_local, loop_test, loop_step, counting, bounded, with_target, run, with_new_local, declare, result_of, with_mark, is_marked, leave, enter, with_output}

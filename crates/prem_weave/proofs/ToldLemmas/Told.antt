@@ -1,21 +1,21 @@
 -- A run along a weave tells its marks.
-use Rattle.std.proofs.Common.{◌≡◌, ℕ, zero, suc, ◌+◌, ◌≤◌, refl, ap, ◌∙◌, sym, subst, arith, Some, None, Option, List, [], ◌∷◌, ◌++◌, length, length-append, map}
 use Rattle.std.specs.Prelude.{All}
+use Rattle.std.proofs.Common.{◌≡◌, ℕ, zero, suc, ◌+◌, ◌≤◌, refl, ap, ◌∙◌, sym, subst, arith, Some, None, Option, List, [], ◌∷◌, ◌++◌, length, length-append, map}
 use Rattle.std.proofs.lemmas.List.Elements.{All-head, All-tail}
 use Rattle.prem_plant.specs.declared.plant.Plant.{Plant}
 use Rattle.prem_isa.specs.declared.effect.Change.{Change}
 use Rattle.prem_isa.specs.declared.effect.Change.TheVariants.{Stay, Memory, Execute, End, Job}
 use Rattle.prem_isa.specs.Plain.{TaskRun, PlainState, Did, with_last, plain_did, plain_step, plain_steps, plain_trace}
 use Rattle.prem_isa.proofs.PlainLaws.{plain_steps-first, plain_steps-add, plain_trace-add}
+use Rattle.prem_sound.specs.Script.Scripts.{Reading, Mark}
+use Rattle.prem_sound.specs.Script.Conforms.{GoesOrDone}
 use Rattle.prem_meaning.specs.Resolved.{Routine}
 use Rattle.prem_meaning.specs.Statements.{MarkedCall}
 use Rattle.prem_asm.specs.Runs.{Setting}
-use Rattle.prem_sound.specs.Script.Scripts.{Reading, Mark}
-use Rattle.prem_sound.specs.Script.Conforms.{GoesOrDone}
-use Rattle.prem_weave.specs.Weave.{Section, section_dids, IsSection, ends, goes, calls, dids_of, marks_of}
 use Rattle.prem_code_laws.specs.ExprLaws.Relation.{Globals}
 use Rattle.prem_code_laws.specs.GenLaws.Marks.{Event, call_begins, call_opens, call_ends, event_of, events_with, plain_events, Seen, seen_none, seen_call}
 use Rattle.prem_code_laws.proofs.GenLawsLemmas.PlainMarks.{plain_events-add, one_event, first_of}
+use Rattle.prem_weave.specs.Weave.{Section, section_dids, IsSection, ends, goes, calls, dids_of, marks_of}
 use Rattle.prem_weave.specs.Promise.Promised.{stated_at, mark_of}
 use Rattle.prem_weave.specs.Told.Told.{Tells, tells_none, tells_call, WeavesTell, AreRead, MarksAreTold, MarksAreRead}
 use Rattle.prem_weave.proofs.PromiseLemmas.Reading.{globals_are_read}

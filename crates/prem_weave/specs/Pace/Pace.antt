@@ -9,10 +9,10 @@ use Rattle.prem_isa.specs.Plain.{TaskRun, PlainState, Did, plain_start}
 use Rattle.prem_runs.specs.Position.Finish.{due_of}
 use Rattle.prem_sound.specs.Script.Script.{change_due, Script}
 use Rattle.prem_sound.specs.Script.Scripts.{Reading}
-use Rattle.prem_weave.specs.Weave.{Weave, ends, goes, calls, joined, dids_of, calls_of, IsWeave, due_along, Goes}
+use Rattle.prem_sound.specs.Paced.Paced.{within_job, within_stretch, IsPaced}
 use Rattle.prem_layout.specs.Stretch.Sums.{Sums, sums_of_path}
 use Rattle.prem_layout.specs.Stretch.Paths.{Takes, Cuts, Path, longest_from}
-use Rattle.prem_sound.specs.Paced.Paced.{within_job, within_stretch, IsPaced}
+use Rattle.prem_weave.specs.Weave.{Weave, ends, goes, calls, joined, dids_of, calls_of, IsWeave, due_along, Goes}
 
 -- ---- events
 

@@ -6,13 +6,13 @@ use Rattle.prem_isa.specs.declared.instr.Instr.TheVariants.{Ecall, Ebreak, PmMem
 use Rattle.prem_isa.specs.declared.effect.Phase.TheVariants.{Compatible}
 use Rattle.prem_isa.specs.Decode.{Fits}
 use Rattle.prem_isa.specs.Plain.{TaskRun, TaskState, TaskFits, Did}
+use Rattle.prem_sound.specs.Script.Scripts.{Reading}
 use Rattle.prem_asm.specs.Pieces.{Pieces, size_of, code_of}
 use Rattle.prem_asm.specs.Runs.{Setting, Calls, run}
 use Rattle.prem_asm.specs.Steps.{AllCode}
 use Rattle.prem_asm.specs.OwnRun.{Agrees, in_job}
-use Rattle.prem_sound.specs.Script.Scripts.{Reading}
-use Rattle.prem_weave.specs.Weave.{Weave, dids_of, IsWeave, Goes}
 use Rattle.prem_asm.specs.Ways.{Way, GoesWay, LaidWay, StandsGood}
+use Rattle.prem_weave.specs.Weave.{Weave, dids_of, IsWeave, Goes}
 
 -- it changes no phase
 abbrev pub IsCalm : Instr → Type 0

@@ -2,6 +2,7 @@
 use Rattle.std.specs.Prelude.{◌≡◌, ℕ, zero, suc, ◌+◌, ◌*◌, ◌<◌, Bool, true, List, [], ◌∷◌, length, map, slice_get, unwrap_or, option_map, Ok, Err}
 use Rattle.prem_word.specs.Bytes.{number_at}
 use Rattle.prem_isa.specs.Alu.{load_size, loaded}
+use Rattle.prem_sound.specs.Script.Scripts.{Reading, Mark, Promise, ReadsOwn}
 use Rattle.prem_syntax.specs.declared.tree.Ty.{Ty}
 use Rattle.prem_syntax.specs.Syntax.{GlobalVariable, ProgramText}
 use Rattle.prem_syntax.specs.Syntax.{MarkText}
@@ -13,7 +14,6 @@ use Rattle.prem_meaning.specs.Resolve.{resolve}
 use Rattle.prem_asm.specs.Runs.{Setting}
 use Rattle.prem_template.specs.Terms.{load_of}
 use Rattle.prem_code_laws.specs.ExprLaws.Relation.{Globals, GlobalsStand}
-use Rattle.prem_sound.specs.Script.Scripts.{Reading, Mark, Promise, ReadsOwn}
 
 -- ---- reading
 

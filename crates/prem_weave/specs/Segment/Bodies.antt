@@ -1,18 +1,18 @@
 -- The steps of a marked function and of all that it calls.
 use Rattle.std.specs.Prelude.{◌≡◌, ◌≢◌, ◌<◌, ◌≤◌, ℕ, zero, suc, ◌+◌, ◌/◌, ◌==◌, true, List, if◌then◌else◌}
+use Rattle.prem_order.specs.Order.{is_in, AllIn}
 use Rattle.prem_isa.specs.declared.instr.Instr.{Instr}
 use Rattle.prem_isa.specs.declared.instr.Instr.TheVariants.{Load}
 use Rattle.prem_isa.specs.declared.effect.Phase.TheVariants.{Execution}
 use Rattle.prem_isa.specs.declared.effect.Change.TheVariants.{Stay}
 use Rattle.prem_isa.specs.Decode.{cost_of}
 use Rattle.prem_isa.specs.Plain.{TaskState, Did}
+use Rattle.prem_sound.specs.Script.Script.{lines_of_did}
 use Rattle.prem_asm.specs.Pieces.{size_of, weighted}
 use Rattle.prem_asm.specs.Runs.{Setting, Returns}
 use Rattle.prem_asm.specs.Steps.{AllSteps, total}
 use Rattle.prem_asm.specs.Quiet.{IsQuiet, EachPiece}
 use Rattle.prem_code_laws.specs.GenLaws.Table.{Codes, code_calls}
-use Rattle.prem_order.specs.Order.{is_in, AllIn}
-use Rattle.prem_sound.specs.Script.Script.{lines_of_did}
 
 -- a load takes something, as all do but those of a prefetch
 abbrev pub TakesSome : Instr → Type 0

@@ -2,9 +2,11 @@
 use Rattle.std.specs.Prelude.{◌≡◌, ◌<◌, ◌≤◌, ℕ, ◌+◌, ◌*◌, ◌/◌, pos, true, List, length}
 use Rattle.prem_plant.specs.declared.plant.Plant.{Plant}
 use Rattle.prem_plant.specs.Places.{Extent}
+use Rattle.prem_order.specs.Order.{is_in, HaveRoom}
 use Rattle.prem_isa.specs.declared.instr.Instr.TheVariants.{Jalr, PmMem}
 use Rattle.prem_isa.specs.Decode.{cost_of}
 use Rattle.prem_isa.specs.Plain.{TaskState, Did}
+use Rattle.prem_sound.specs.Script.Scripts.{Mark}
 use Rattle.prem_asm.specs.Pieces.{Pieces, size_of, weighted}
 use Rattle.prem_asm.specs.Runs.{Setting, Ending, Returns, run}
 use Rattle.prem_layout.specs.Parts.{Passes as PassCount}
@@ -13,8 +15,6 @@ use Rattle.prem_code_laws.specs.GenLaws.Table.{Codes, code_calls}
 use Rattle.prem_code_laws.specs.PrefetchLaws.Touches.{IsLineOf}
 use Rattle.prem_code_laws.specs.PrefetchLaws.Stubs.{memory_step}
 use Rattle.prem_code_laws.specs.PrefetchLaws.Confined.{exec_step, end_step, StubSteps}
-use Rattle.prem_order.specs.Order.{is_in, HaveRoom}
-use Rattle.prem_sound.specs.Script.Scripts.{Mark}
 use Rattle.prem_weave.specs.Weave.{Section, IsSection}
 use Rattle.prem_weave.specs.Segment.Bodies.{CodeIsWithin, code_costs}
 

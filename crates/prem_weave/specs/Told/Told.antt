@@ -2,14 +2,14 @@
 use Rattle.std.specs.Prelude.{◌≡◌, ⊤, ℕ, List, [], ◌∷◌, ◌++◌, length, map}
 use Rattle.prem_plant.specs.declared.plant.Plant.{Plant}
 use Rattle.prem_isa.specs.Plain.{TaskRun, PlainState}
+use Rattle.prem_sound.specs.Script.Scripts.{Reading, Mark}
+use Rattle.prem_syntax.specs.Syntax.{GlobalVariable}
 use Rattle.prem_meaning.specs.Resolved.{Routine}
 use Rattle.prem_meaning.specs.Statements.{MarkedCall}
 use Rattle.prem_asm.specs.Runs.{Setting}
-use Rattle.prem_sound.specs.Script.Scripts.{Reading, Mark}
-use Rattle.prem_weave.specs.Weave.{Weave, dids_of, marks_of, IsWeave, Goes}
 use Rattle.prem_code_laws.specs.ExprLaws.Relation.{Globals, GlobalsStand}
 use Rattle.prem_code_laws.specs.GenLaws.Marks.{Event, call_begins, call_opens, call_ends, plain_events, Noted}
-use Rattle.prem_syntax.specs.Syntax.{GlobalVariable}
+use Rattle.prem_weave.specs.Weave.{Weave, dids_of, marks_of, IsWeave, Goes}
 use Rattle.prem_weave.specs.Promise.Promised.{stated_at, mark_of, read_globals, TheseStand}
 
 -- events tell marks, one behind another

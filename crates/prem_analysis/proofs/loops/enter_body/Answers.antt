@@ -1,5 +1,5 @@
-use Rattle.std.proofs.Common.{◌≡◌, ap, ◌∙◌, arith, to_z, of_z}
 use Rattle.std.specs.Int.{w64}
+use Rattle.std.proofs.Common.{◌≡◌, ap, ◌∙◌, arith, to_z, of_z}
 use Rattle.std.proofs.lemmas.Int.{ints}
 use Rattle.prem_word.specs.Ranges.{Span}
 use Rattle.prem_ranges.specs.Environment.{at_local, with_range}

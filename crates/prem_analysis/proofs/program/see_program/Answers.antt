@@ -1,5 +1,5 @@
-use Rattle.std.proofs.Common.{List, ap, ◌∙◌, [], None, ℕ}
 use Rattle.std.specs.Borrow.{Bor}
+use Rattle.std.proofs.Common.{List, ap, ◌∙◌, [], None, ℕ}
 use Rattle.prem_syntax.specs.declared.tree.Global.{Global}
 use Rattle.prem_tree.specs.declared.resolve.resolved.Routine.{Routine}
 use Rattle.prem_analysis.specs.Seen.{Seen}

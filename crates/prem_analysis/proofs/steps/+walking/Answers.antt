@@ -7,8 +7,8 @@ use Rattle.prem_analysis.specs.declared.ranging.saves.Saved.{Saved}
 use Rattle.prem_analysis.specs.Ranging.View.{env_of, saves_of}
 use Rattle.prem_analysis.specs.Ranging.SiteOf.{site_of}
 use Rattle.prem_analysis.specs.Ranging.Plain.{plain, plain_list}
-use Rattle.prem_analysis.proofs.RangingLemmas.Sequences.{block_is}
 use Rattle.prem_analysis.specs.Seen.{seen_of, behind}
+use Rattle.prem_analysis.proofs.RangingLemmas.Sequences.{block_is}
 use Rattle.prem_analysis.proofs.Behind.{if_arm, for_arm, while_arm, walked_on}
 use Rattle.prem_analysis.proofs.InPlace.{if_other_known, if_known, for_known, while_known}
 use Rattle.prem_analysis.proofs.steps.+walking.Goals as goal

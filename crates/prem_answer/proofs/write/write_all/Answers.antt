@@ -1,5 +1,5 @@
-use Rattle.std.proofs.Common.{◌≡◌, length-drop, take, drop, arith}
 use Rattle.std.specs.Io.KnownBytes.{append_known}
+use Rattle.std.proofs.Common.{◌≡◌, length-drop, take, drop, arith}
 use Rattle.std.proofs.lemmas.List.{take_rest}
 use Rattle.prem_answer.proofs.Written.{written_on}
 use Rattle.prem_answer.proofs.write.write_all.Goals as goal

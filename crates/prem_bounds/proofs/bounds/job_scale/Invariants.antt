@@ -1,6 +1,6 @@
 use Rattle.std.proofs.Common.{map, length}
-use Rattle.prem_split.specs.PlanOf.{plan_of}
 use Rattle.prem_layout.specs.Bounds.{weight_at}
+use Rattle.prem_split.specs.PlanOf.{plan_of}
 use Rattle.prem_bounds.specs.TableOf.{listed}
 use Rattle.prem_bounds.specs.Told.{Tells}
 use Rattle.prem_bounds.proofs.Told.{job_known}

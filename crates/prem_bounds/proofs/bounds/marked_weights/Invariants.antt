@@ -1,6 +1,6 @@
 use Rattle.std.proofs.Common.{map, take}
-use Rattle.prem_split.specs.PlanOf.{plan_of}
 use Rattle.prem_layout.specs.Bounds.{marked_weights}
+use Rattle.prem_split.specs.PlanOf.{plan_of}
 use Rattle.prem_bounds.specs.Told.{Tells}
 use Rattle.prem_bounds.proofs.bounds.marked_weights.Given as goal
 

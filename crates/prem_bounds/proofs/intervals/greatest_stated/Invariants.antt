@@ -1,6 +1,6 @@
 use Rattle.std.proofs.Common.{◌≡◌, ◌<◌, ◌^◌, max, map, drop}
-use Rattle.prem_split.specs.PlanOf.{plan_of}
 use Rattle.prem_layout.specs.Stretch.Paths.{greatest_stated}
+use Rattle.prem_split.specs.PlanOf.{plan_of}
 use Rattle.prem_bounds.proofs.intervals.greatest_stated.Given as goal
 
 -- the greatest so far and that of the rest are that of all

@@ -1,7 +1,7 @@
 use Rattle.std.proofs.Common.{◌≡◌, ◌<◌, ◌^◌, map, sym, ◌∙◌, arith}
-use Rattle.prem_split.specs.PlanOf.{plan_of}
 use Rattle.prem_list.specs.Sequence.{items_of}
 use Rattle.prem_layout.specs.Stretch.Paths.{greatest_stated, longest_of}
+use Rattle.prem_split.specs.PlanOf.{plan_of}
 use Rattle.prem_bounds.specs.TableOf.{table_of}
 use Rattle.prem_bounds.proofs.Steps.{listed_long}
 use Rattle.prem_bounds.proofs.Told.{plans_long}

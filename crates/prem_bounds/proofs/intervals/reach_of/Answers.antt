@@ -1,8 +1,8 @@
 use Rattle.std.proofs.Common.{ℕ, List, map, ap, sym, subst, ◌+◌, ◌<◌, ◌∙◌, ◌≡◌, arith, length, get_or, slice_set}
 use Rattle.prem_asm.specs.Pieces.{no_pieces}
 use Rattle.prem_asm.specs.PiecesOf.{pieces_of}
-use Rattle.prem_split.specs.PlanOf.{plan_of}
 use Rattle.prem_layout.specs.Stretch.Sums.{sums_at}
+use Rattle.prem_split.specs.PlanOf.{plan_of}
 use Rattle.prem_bounds.specs.declared.stretches.Sums.{Sums as SumsInMemory}
 use Rattle.prem_bounds.specs.TableOf.{listed}
 use Rattle.prem_bounds.specs.ToldSums.{TellsSums}

@@ -1,5 +1,5 @@
-use Rattle.std.proofs.Common.{◌≡◌, map, drop, nat_lt, length}
 use Rattle.std.specs.List.{list_any}
+use Rattle.std.proofs.Common.{◌≡◌, map, drop, nat_lt, length}
 use Rattle.prem_syntax.specs.Syntax.{FunctionText}
 use Rattle.prem_syntax.specs.SyntaxOf.{function_of}
 use Rattle.prem_meaning.specs.Breaches.{regions_of}

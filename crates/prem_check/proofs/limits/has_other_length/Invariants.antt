@@ -1,5 +1,5 @@
-use Rattle.std.proofs.Common.{◌≡◌, map, drop, not}
 use Rattle.std.specs.List.{list_any}
+use Rattle.std.proofs.Common.{◌≡◌, map, drop, not}
 use Rattle.prem_syntax.specs.Syntax.{GlobalVariable}
 use Rattle.prem_syntax.specs.SyntaxOf.{global_of}
 use Rattle.prem_meaning.specs.Breaches.{is_length}

@@ -1,6 +1,6 @@
+use Rattle.std.specs.List.{list_any}
 use Rattle.std.proofs.Common.{ap, sym, ◌∙◌, map, length, nat_lt, not, None}
 use Rattle.std.proofs.lemmas.List.{length-map}
-use Rattle.std.specs.List.{list_any}
 use Rattle.prem_syntax.specs.declared.rules.Count.TheVariants.{Functions, Globals, Parameters, Regions, Length, Stated}
 use Rattle.prem_syntax.specs.Syntax.{FunctionText, GlobalVariable}
 use Rattle.prem_syntax.specs.SyntaxOf.{function_of, global_of}

@@ -1,8 +1,8 @@
 use Rattle.std.specs.Prelude.{Option, Ok, Err}
 use Rattle.std.proofs.Common.{ap, ◌∙◌, subst}
 use Rattle.prem_io.specs.Files.{Files}
-use Rattle.prem_image.specs.declared.image.Image.{Image}
 use Rattle.prem_gate.specs.declared.request.RunInput.{RunInput}
+use Rattle.prem_image.specs.declared.image.Image.{Image}
 use Rattle.prem_image.specs.Text.{ImageText, image_text}
 use Rattle.prem_command.specs.Words.{run_asked}
 use Rattle.prem_answer.specs.declared.answer.Answer.{Answer}

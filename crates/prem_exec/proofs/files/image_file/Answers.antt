@@ -1,12 +1,12 @@
 use Rattle.std.specs.Prelude.{ℕ, List, Option, Vec}
 use Rattle.std.specs.declared.alloc.Global.{Global}
+use Rattle.std.proofs.Common.{◌≡◌, ◌≢◌, ap, ◌∙◌, sym, subst, rules}
 use Rattle.prem_io.specs.Files.{Files}
 use Rattle.prem_image.specs.declared.image.Image.{Image}
-use Rattle.prem_answer.specs.Stages.{IsRead, IsReadAs}
-use Rattle.std.proofs.Common.{◌≡◌, ◌≢◌, ap, ◌∙◌, sym, subst, rules}
-use Rattle.prem_imagefile.specs.declared.fail.ImageFail.TheVariants.{OutOfMemory as NoMemory}
 use Rattle.prem_image.specs.Text.{ImageText, image_text}
+use Rattle.prem_imagefile.specs.declared.fail.ImageFail.TheVariants.{OutOfMemory as NoMemory}
 use Rattle.prem_imagefile.specs.Reading.{read_as, Fails}
+use Rattle.prem_answer.specs.Stages.{IsRead, IsReadAs}
 use Rattle.prem_answer.proofs.Reading.{halt_passes, made_ok, not_made}
 use Rattle.prem_exec.specs.Exec.{image_limit, image_of_bytes}
 use Rattle.prem_exec.proofs.Stages.{image_read, image_refused}

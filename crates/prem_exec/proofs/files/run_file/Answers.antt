@@ -1,16 +1,16 @@
 use Rattle.std.specs.Prelude.{ℕ, List, Option, Vec}
 use Rattle.std.specs.declared.alloc.Global.{Global}
+use Rattle.std.proofs.Common.{ap, ◌∙◌, sym, subst}
 use Rattle.prem_io.specs.Files.{Files}
 use Rattle.prem_gate.specs.declared.request.RunInput.{RunInput}
-use Rattle.prem_answer.specs.declared.answer.Telling.TheVariants.{Whole}
-use Rattle.prem_answer.specs.Stages.{IsRead, IsReadAs}
-use Rattle.prem_exec.specs.Forms.{RunText}
-use Rattle.std.proofs.Common.{ap, ◌∙◌, sym, subst}
 use Rattle.prem_image.specs.Text.{image_text}
 use Rattle.prem_set.specs.Run.Run.{run_of}
 use Rattle.prem_set.specs.Run.Views.{IsRun}
 use Rattle.prem_report.specs.Fitting.Named.{names_in}
+use Rattle.prem_answer.specs.declared.answer.Telling.TheVariants.{Whole}
+use Rattle.prem_answer.specs.Stages.{IsRead, IsReadAs}
 use Rattle.prem_answer.proofs.Reading.{halt_passes, made_ok, not_made}
+use Rattle.prem_exec.specs.Forms.{RunText}
 use Rattle.prem_exec.specs.Exec.{run_limit, run_of_bytes, input_of}
 use Rattle.prem_exec.proofs.Stages.{run_read, run_refused}
 use Rattle.prem_exec.proofs.files.run_file.Goals as goal

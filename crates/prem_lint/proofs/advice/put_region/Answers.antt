@@ -1,7 +1,7 @@
 use Rattle.std.specs.Prelude.{◌++◌, codes, decimal}
-use Rattle.prem_syntax.specs.Name.{name_bytes}
 use Rattle.std.specs.Fmt.{signed_decimal}
 use Rattle.prem_word.specs.Ranges.{span_of}
+use Rattle.prem_syntax.specs.Name.{name_bytes}
 use Rattle.prem_lint.proofs.Chains.{joined, ends_so}
 use Rattle.prem_lint.proofs.advice.put_region.Goals as goal
 

@@ -1,13 +1,13 @@
 use Rattle.std.specs.Prelude.{Option, Ok, map}
 use Rattle.std.proofs.Common.{◌≡◌, ◌∙◌, ap}
 use Rattle.prem_io.specs.Files.{Files}
+use Rattle.prem_tasks.specs.declared.set.TaskSet.{TaskSet as SetTree}
+use Rattle.prem_tasks.specs.Broken.{TaskSet}
+use Rattle.prem_tasks.specs.SetOf.{set_of}
 use Rattle.prem_set.specs.SetFile.{SetData}
 use Rattle.prem_set.specs.Views.{set_view}
 use Rattle.prem_set.specs.declared.set_file.SetFile.{SetFile}
 use Rattle.prem_set.specs.declared.task.TaskEntry.{TaskEntry}
-use Rattle.prem_tasks.specs.declared.set.TaskSet.{TaskSet as SetTree}
-use Rattle.prem_tasks.specs.Broken.{TaskSet}
-use Rattle.prem_tasks.specs.SetOf.{set_of}
 use Rattle.prem_answer.specs.declared.answer.Answer.{Answer}
 use Rattle.prem_answer.specs.declared.answer.Telling.TheVariants.{Whole}
 use Rattle.prem_answer.specs.Stages.{Reply, reply_of, IsGiven, IsReadAs}

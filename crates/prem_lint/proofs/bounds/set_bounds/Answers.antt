@@ -18,5 +18,6 @@ coded_bounds-requires c =
       tasks_are = c.in_ok-tasks.ensures;
       codes_are = codes_of_set set c.in_ok-programs.field-0 front;
       as_many = front.count;
+      early = front.early;
       broken_is = front.broken_is;
     }

@@ -1,5 +1,5 @@
-use Rattle.std.proofs.Common.{◌≡◌, ◌++◌, take}
 use Rattle.std.specs.List.{flat_map}
+use Rattle.std.proofs.Common.{◌≡◌, ◌++◌, take}
 use Rattle.prem_lint.specs.Spots.{pad}
 use Rattle.prem_lint.proofs.excerpt.put_pads.Given as goal
 

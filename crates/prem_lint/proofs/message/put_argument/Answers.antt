@@ -1,6 +1,6 @@
 use Rattle.std.specs.Prelude.{◌++◌, codes, decimal}
-use Rattle.prem_word.specs.Ranges.{span_of}
 use Rattle.std.specs.Fmt.{signed_decimal}
+use Rattle.prem_word.specs.Ranges.{span_of}
 use Rattle.prem_lint.specs.Elements.{past}
 use Rattle.prem_lint.proofs.Chains.{joined, ends_so}
 use Rattle.prem_lint.proofs.message.put_argument.Goals as goal

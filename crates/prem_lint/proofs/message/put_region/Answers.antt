@@ -1,6 +1,6 @@
 use Rattle.std.specs.Prelude.{◌++◌, codes}
-use Rattle.prem_syntax.specs.Name.{name_bytes}
 use Rattle.prem_word.specs.Ranges.{span_of}
+use Rattle.prem_syntax.specs.Name.{name_bytes}
 use Rattle.prem_lint.specs.Elements.{values}
 use Rattle.prem_lint.proofs.Chains.{joined, ends_so}
 use Rattle.prem_lint.proofs.message.put_region.Goals as goal

@@ -1,5 +1,5 @@
-use Rattle.std.proofs.Common.{◌≡◌, ◌++◌, map, take}
 use Rattle.std.specs.List.{flat_map}
+use Rattle.std.proofs.Common.{◌≡◌, ◌++◌, map, take}
 use Rattle.prem_syntax.specs.SyntaxOf.{function_of}
 use Rattle.prem_place.specs.Verdict.Told.{numbered}
 use Rattle.prem_lint.specs.Needs.{need_text}

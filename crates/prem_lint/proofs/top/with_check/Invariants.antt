@@ -1,5 +1,5 @@
-use Rattle.std.proofs.Common.{◌≡◌, ◌∷◌, map, take}
 use Rattle.std.specs.Prelude.{codes, string_bytes}
+use Rattle.std.proofs.Common.{◌≡◌, ◌∷◌, map, take}
 use Rattle.prem_lint.proofs.top.with_check.Given as goal
 
 abbrev pub invariant-loop-word : goal.invariant-loop-word

@@ -1,7 +1,7 @@
 use Rattle.std.proofs.Common.{◌≡◌, ◌++◌, drop}
 use Rattle.prem_syntax.specs.SyntaxOf.{statements_of}
-use Rattle.prem_names.specs.Scopes.{scope_of}
 use Rattle.prem_meaning.specs.Breaches.{callees_within}
+use Rattle.prem_names.specs.Scopes.{scope_of}
 use Rattle.prem_names.proofs.reach.+calling.Given as goal
 
 abbrev pub invariant-add_all_callees-loop-stmt : goal.invariant-add_all_callees-loop-stmt

@@ -1,5 +1,5 @@
-use Rattle.std.proofs.Common.{◌≡◌, Bool, true, false, Decides, true≢false, refl, sym}
 use Rattle.std.specs.Bool.{beq}
+use Rattle.std.proofs.Common.{◌≡◌, Bool, true, false, Decides, true≢false, refl, sym}
 use Rattle.std.proofs.lemmas.Slice.Eq.{slice_eq-Decides}
 use Rattle.prem_names.proofs.reach.is_same.Goals as goal
 

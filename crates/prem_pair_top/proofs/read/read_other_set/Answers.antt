@@ -1,12 +1,12 @@
 use Rattle.std.specs.Prelude.{Option}
 use Rattle.std.proofs.Common.{subst}
 use Rattle.prem_io.specs.Files.{Files}
-use Rattle.prem_set.specs.declared.set_file.SetFile.{SetFile}
-use Rattle.prem_set.specs.SetFile.{SetData}
-use Rattle.prem_set.specs.Views.{set_view}
 use Rattle.prem_tasks.specs.declared.set.TaskSet.{TaskSet as SetTree}
 use Rattle.prem_tasks.specs.Broken.{TaskSet}
 use Rattle.prem_tasks.specs.SetOf.{set_of}
+use Rattle.prem_set.specs.declared.set_file.SetFile.{SetFile}
+use Rattle.prem_set.specs.SetFile.{SetData}
+use Rattle.prem_set.specs.Views.{set_view}
 use Rattle.prem_answer.specs.declared.answer.Telling.TheVariants.{Brief}
 use Rattle.prem_answer.specs.Stages.{IsReadAsBy}
 use Rattle.prem_answer.proofs.Reading.{halt_passes}

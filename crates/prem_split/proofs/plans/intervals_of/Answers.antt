@@ -1,13 +1,13 @@
-use Rattle.std.proofs.Common.{ℕ, ◌≡◌, ◌≤◌, ◌∙◌, ◌++◌, [], ap, sym, subst, arith, List, map, length, get_or, slice_index, Vec, Global}
 use Rattle.std.specs.List.{AllByRecursion}
+use Rattle.std.specs.Borrow.{Bor}
+use Rattle.std.proofs.Common.{ℕ, ◌≡◌, ◌≤◌, ◌∙◌, ◌++◌, [], ap, sym, subst, arith, List, map, length, get_or, slice_index, Vec, Global}
+use Rattle.std.proofs.lemmas.List.{length-map}
 use Rattle.prem_list.specs.Sequence.{items_of}
+use Rattle.prem_syntax.specs.declared.tree.Global.{Global as GlobalTree}
+use Rattle.prem_syntax.specs.SyntaxOf.{function_of, global_of}
 use Rattle.prem_tree.specs.declared.resolve.resolved.Routine.{Routine}
 use Rattle.prem_split.specs.Walk.{HasFrame, frame_of}
 use Rattle.prem_split.specs.Tables.{depths_of}
-use Rattle.std.specs.Borrow.{Bor}
-use Rattle.std.proofs.lemmas.List.{length-map}
-use Rattle.prem_syntax.specs.declared.tree.Global.{Global as GlobalTree}
-use Rattle.prem_syntax.specs.SyntaxOf.{function_of, global_of}
 use Rattle.prem_split.specs.PlanOf.{plan_of}
 use Rattle.prem_split.specs.PlansWith.{Known, known_of, calls_of, plan_if}
 use Rattle.prem_split.proofs.PlanLaws.{frames_small, known_same, plans_step}

@@ -1,6 +1,6 @@
 use Rattle.std.proofs.Common.{map, drop}
-use Rattle.prem_syntax.specs.SyntaxOf.{item_of}
 use Rattle.prem_list.specs.Sequence.{items_of}
+use Rattle.prem_syntax.specs.SyntaxOf.{item_of}
 use Rattle.prem_syntax.specs.Literals.{ProgramHasWords}
 use Rattle.prem_syntax.proofs.words.have_words.Given as goal
 

@@ -2,10 +2,10 @@ use Rattle.std.specs.Prelude.{ℕ, List, Option, Vec}
 use Rattle.std.specs.declared.alloc.Global.{Global}
 use Rattle.std.proofs.Common.{ap, ◌∙◌}
 use Rattle.prem_io.specs.Files.{Files}
+use Rattle.prem_command.specs.Words.{TileAsked, tile_asked}
 use Rattle.prem_answer.specs.declared.answer.Answer.{Answer}
 use Rattle.prem_answer.specs.Stages.{Reply, reply_of, IsRead, IsGiven}
 use Rattle.prem_answer.proofs.Reading.{halt_passes}
-use Rattle.prem_command.specs.Words.{TileAsked, tile_asked}
 use Rattle.prem_tile_answer.specs.Reply.{tile_reply, tile_stages, source_limit}
 use Rattle.prem_tile_answer.proofs.Stages.{tile_ended, tile_given}
 use Rattle.prem_tile_answer.proofs.answer.tile_answer.Goals as goal

@@ -1,5 +1,5 @@
-use Rattle.std.proofs.Common.{◌<◌, ◌^◌, ℕ, sym, ◌∙◌, subst}
 use Rattle.std.specs.Prelude.{All}
+use Rattle.std.proofs.Common.{◌<◌, ◌^◌, ℕ, sym, ◌∙◌, subst}
 use Rattle.prem_ranges.specs.GroupThree.{turn_bounds}
 use Rattle.prem_ranges.proofs.AnalysisSound.{turns_are_words}
 use Rattle.prem_analyse.specs.Analysed.{analysed_text}

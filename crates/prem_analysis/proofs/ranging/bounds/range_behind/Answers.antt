@@ -1,6 +1,6 @@
-use Rattle.std.proofs.Common.{arith, sym, ◌∙◌, to_z, of_z}
 use Rattle.std.specs.Prelude.{pos, ◌+ℤ◌, ◌-ℤ◌}
 use Rattle.std.specs.Int.{w64, int_max}
+use Rattle.std.proofs.Common.{arith, sym, ◌∙◌, to_z, of_z}
 use Rattle.std.proofs.lemmas.Int.{ints, clamps}
 use Rattle.prem_word.specs.Ranges.{from_to}
 use Rattle.prem_ranges.proofs.SavesLemmas.Ways.{ends}

@@ -1,8 +1,8 @@
-use Rattle.std.proofs.Common.{◌≡◌, ◌++◌, map, drop}
 use Rattle.std.specs.List.{AllByRecursion}
+use Rattle.std.proofs.Common.{◌≡◌, ◌++◌, map, drop}
+use Rattle.prem_layout.specs.Footprint.{footprint_of}
 use Rattle.prem_split.specs.PlanOf.{plan_of}
 use Rattle.prem_foot.specs.PlacesOf.{IsPlanAt}
-use Rattle.prem_layout.specs.Footprint.{footprint_of}
 use Rattle.prem_bounds.proofs.facts.lines.footprints.Given as goal
 
 abbrev pub invariant-loop-plan : goal.invariant-loop-plan

@@ -1,7 +1,7 @@
 use Rattle.std.specs.Prelude.{IfOk}
 use Rattle.std.proofs.Common.{◌≡◌, ◌∙◌, subst}
-use Rattle.prem_set.specs.Run.Names.{KnownNames}
 use Rattle.prem_tasks.specs.SetOf.{set_of}
+use Rattle.prem_set.specs.Run.Names.{KnownNames}
 use Rattle.prem_exec.proofs.SourcesLemmas.Lawful.{known_is}
 use Rattle.prem_exec.proofs.sources.run.names_of.Goals as goal
 

@@ -3,15 +3,15 @@ use Rattle.std.specs.declared.alloc.Global.{Global}
 use Rattle.std.proofs.Common.{ap, ◌∙◌, sym, subst}
 use Rattle.prem_io.specs.Files.{Files}
 use Rattle.prem_gate.specs.declared.request.RunInput.{RunInput}
+use Rattle.prem_tasks.specs.SetOf.{set_of}
 use Rattle.prem_set.specs.Run.Names.{KnownNames}
 use Rattle.prem_set.specs.Run.Run.{run_of}
 use Rattle.prem_set.specs.Run.Views.{IsRun}
-use Rattle.prem_tasks.specs.SetOf.{set_of}
 use Rattle.prem_answer.specs.Stages.{IsReadBy, IsReadAsBy}
 use Rattle.prem_answer.proofs.Reading.{halt_passes, made_ok_by, not_made_by}
 use Rattle.prem_exec.specs.Forms.{RunText}
-use Rattle.prem_exec.proofs.Stages.{run_refused}
 use Rattle.prem_exec.specs.Sources.Sources.{input_of, names_of, run_limit, run_of_bytes_by}
+use Rattle.prem_exec.proofs.Stages.{run_refused}
 use Rattle.prem_exec.proofs.SourcesLemmas.Passing.{run_formed}
 use Rattle.prem_exec.proofs.sources.run.read_run_file_by.Goals as goal
 

@@ -1,13 +1,13 @@
 use Rattle.std.specs.Prelude.{List, Option, Ok, Err}
 use Rattle.std.proofs.Common.{ap, map}
-use Rattle.prem_io.specs.Files.{Files}
 use Rattle.prem_list.specs.declared.Sequence.{Sequence}
 use Rattle.prem_list.specs.Sequence.{items_of}
-use Rattle.prem_set.specs.Views.{set_view}
+use Rattle.prem_io.specs.Files.{Files}
 use Rattle.prem_tasks.specs.declared.set.TaskText.{TaskText as TaskTree}
 use Rattle.prem_tasks.specs.declared.set.TaskSet.{TaskSet as SetTree}
 use Rattle.prem_tasks.specs.Broken.{TaskText, TaskSet}
 use Rattle.prem_tasks.specs.SetOf.{set_of, task_of}
+use Rattle.prem_set.specs.Views.{set_view}
 use Rattle.prem_answer.proofs.Reading.{halt_passes}
 use Rattle.prem_exec.specs.Sources.Sources.{Passes, reading_behind, reading_sources}
 use Rattle.prem_exec.proofs.SourcesLemmas.Lawful.{heads_are, set_is_lawful}

@@ -1,8 +1,8 @@
 use Rattle.std.specs.Prelude.{List, Option, Err}
 use Rattle.std.proofs.Common.{◌∷◌, map, sym, subst}
-use Rattle.prem_io.specs.Files.{Files}
 use Rattle.prem_list.specs.declared.Sequence.{Sequence}
 use Rattle.prem_list.specs.Sequence.{items_of}
+use Rattle.prem_io.specs.Files.{Files}
 use Rattle.prem_tasks.specs.declared.set.TaskText.{TaskText as TaskTree}
 use Rattle.prem_tasks.specs.Broken.{TaskText}
 use Rattle.prem_tasks.specs.SetOf.{task_of}

@@ -1,5 +1,5 @@
-use Rattle.std.proofs.Common.{◌≤◌, get_or, ap, sym, ◌∙◌, arith, subst}
 use Rattle.std.specs.Prelude.{slice_index}
+use Rattle.std.proofs.Common.{◌≤◌, get_or, ap, sym, ◌∙◌, arith, subst}
 use Rattle.prem_list.specs.Sequence.{items_of}
 use Rattle.prem_template.specs.Limits.{greatest_frame}
 use Rattle.prem_gen.proofs.RoutineLemmas.Whole.{frame_is}

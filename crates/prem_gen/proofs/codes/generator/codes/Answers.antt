@@ -1,14 +1,14 @@
-use Rattle.std.proofs.Common.{◌≡◌, ◌<◌, ◌≤◌, ◌++◌, ap, sym, ◌∙◌, arith, subst, map, get_or, length, refl, None}
 use Rattle.std.specs.Prelude.{slice_index}
+use Rattle.std.proofs.Common.{◌≡◌, ◌<◌, ◌≤◌, ◌++◌, ap, sym, ◌∙◌, arith, subst, map, get_or, length, refl, None}
 use Rattle.std.proofs.lemmas.List.{append-nil}
 use Rattle.prem_list.specs.Sequence.{items_of}
 use Rattle.prem_tree.specs.Resolve.ResolvedOf.{routine_of, resolved_of}
 use Rattle.prem_template.specs.Limits.{excess_among}
 use Rattle.prem_template.specs.Parts.{parts_of, codes_of}
 use Rattle.prem_gen.specs.Term.Excess.{Exceeds}
+use Rattle.prem_gen.specs.Codes.Codes.{code_at, excess_at, CalleesFit}
 use Rattle.prem_gen.proofs.RoutineLemmas.Lists.{drop_end}
 use Rattle.prem_gen.proofs.TableLemmas.Parts.{length_same}
-use Rattle.prem_gen.specs.Codes.Codes.{code_at, excess_at, CalleesFit}
 use Rattle.prem_gen.proofs.CodesLemmas.Numbered.{loops_at}
 use Rattle.prem_gen.proofs.CodesLemmas.Told.{there}
 use Rattle.prem_gen.proofs.CodesLemmas.All.{view, callees_fit, codes_next, fits_next, excess_next, exceeds_here, take_next}

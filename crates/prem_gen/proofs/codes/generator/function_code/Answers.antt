@@ -1,5 +1,5 @@
-use Rattle.std.proofs.Common.{ap, sym, arith, take, length}
 use Rattle.std.specs.Prelude.{slice_index}
+use Rattle.std.proofs.Common.{ap, sym, arith, take, length}
 use Rattle.prem_list.specs.Sequence.{items_of}
 use Rattle.prem_syntax.specs.SyntaxOf.{program_of}
 use Rattle.prem_tree.specs.Resolve.ResolvedOf.{all_loops}

@@ -1,6 +1,6 @@
 use Rattle.std.proofs.Common.{ap, sym, ◌∙◌, min}
-use Rattle.prem_gen.proofs.RoutineLemmas.Nodes.{block_loops}
 use Rattle.prem_gen.specs.Codes.Loops.{most_loops}
+use Rattle.prem_gen.proofs.RoutineLemmas.Nodes.{block_loops}
 use Rattle.prem_gen.proofs.codes.loops.+loops.Goals as goal
 
 pub loops-returns-in-Block : goal.loops-returns-in-Block

@@ -1,6 +1,7 @@
 use Rattle.std.proofs.Common.{◌≡◌, ◌+◌, ap, sym, ◌∙◌, drop, arith}
 use Rattle.prem_list.specs.Sequence.{items_of}
 use Rattle.prem_tree.specs.Resolve.ResolvedOf.{loops_of, list_loops}
+use Rattle.prem_tree.proofs.Weights.{weight, list_weight, weight-Block, weight-at}
 use Rattle.prem_asm.specs.Pieces.{followed}
 use Rattle.prem_asm.specs.PiecesOf.{pieces_of}
 use Rattle.prem_asm.proofs.Rows.{followed_append, followed_none}
@@ -9,7 +10,6 @@ use Rattle.prem_gen.specs.Routine.Parts.{parts_in, turns_in}
 use Rattle.prem_gen.specs.Routine.StepCode.{whiles_of, list_whiles, code_at, list_code, list_deep}
 use Rattle.prem_gen.proofs.RoutineLemmas.Lists.{drop_end}
 use Rattle.prem_gen.proofs.RoutineLemmas.Nodes.{block_whiles, block_loops, block_code, block_deep, block_small, small_at, steps_drop}
-use Rattle.prem_tree.proofs.Weights.{weight, list_weight, weight-Block, weight-at}
 use Rattle.prem_gen.proofs.routine.steps.+steps.Goals as goal
 
 pub put_step-put_steps-requires : goal.put_step-put_steps-requires

@@ -1,11 +1,11 @@
 use Rattle.std.proofs.Common.{◌≡◌, ◌+◌, ◌*◌, drop}
 use Rattle.prem_list.specs.Sequence.{items_of}
 use Rattle.prem_tree.specs.Resolve.ResolvedOf.{list_loops}
+use Rattle.prem_tree.proofs.Weights.{weight, list_weight}
 use Rattle.prem_asm.specs.Pieces.{followed}
 use Rattle.prem_asm.specs.PiecesOf.{pieces_of}
 use Rattle.prem_gen.specs.Routine.Parts.{parts_in, turns_in}
 use Rattle.prem_gen.specs.Routine.StepCode.{list_whiles, list_code, list_deep}
-use Rattle.prem_tree.proofs.Weights.{weight, list_weight}
 use Rattle.prem_gen.proofs.routine.steps.+steps.Given as goal
 
 -- what is there, and the rest

@@ -1,5 +1,5 @@
-use Rattle.std.proofs.Common.{◌≡◌, ◌<◌, ℕ, List, All, length, sym, subst, arith}
 use Rattle.std.specs.Prelude.{slice_index_or}
+use Rattle.std.proofs.Common.{◌≡◌, ◌<◌, ℕ, List, All, length, sym, subst, arith}
 use Rattle.prem_mail.specs.Mailing.{Mailing}
 use Rattle.prem_mail.proofs.mail.Mail.lose.Goals as goal
 

@@ -1,5 +1,5 @@
-use Rattle.std.proofs.Common.{◌≡◌, ◌<◌, Some, length, ap, sym, ◌∙◌, subst}
 use Rattle.std.specs.Prelude.{IfSome, slice_get}
+use Rattle.std.proofs.Common.{◌≡◌, ◌<◌, Some, length, ap, sym, ◌∙◌, subst}
 use Rattle.prem_cycle.specs.FactsOf.{Report}
 use Rattle.prem_mail.specs.Delivery.{receiver}
 use Rattle.prem_mail.specs.Mailing.{Mailing, with_mailed, handed_to, received_by}

@@ -1,5 +1,5 @@
-use Rattle.std.proofs.Common.{◌≡◌, ◌≤◌, ◌+◌, ℕ, All, List, length, ap, sym, ◌∙◌, subst, Option}
 use Rattle.std.specs.Prelude.{is_some, slice_get}
+use Rattle.std.proofs.Common.{◌≡◌, ◌≤◌, ◌+◌, ℕ, All, List, length, ap, sym, ◌∙◌, subst, Option}
 use Rattle.prem_gate.specs.declared.bus.Transfer.{Transfer}
 use Rattle.prem_cycle.specs.declared.state.Trap.{Trap}
 use Rattle.prem_cycle.specs.State.{rule_in}

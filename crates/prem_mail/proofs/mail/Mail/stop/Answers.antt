@@ -1,5 +1,5 @@
-use Rattle.std.proofs.Common.{◌≡◌, Some, ap, sym, ◌∙◌, subst}
 use Rattle.std.specs.Prelude.{◌==◌, ⊤}
+use Rattle.std.proofs.Common.{◌≡◌, Some, ap, sym, ◌∙◌, subst}
 use Rattle.prem_cycle.specs.FactsOf.{stop_of}
 use Rattle.prem_machine.specs.States.{Running}
 use Rattle.prem_mail.specs.MailFields.{HoldsMail}

@@ -1,12 +1,12 @@
-use Rattle.std.proofs.Common.{◌≡◌, ◌+◌, None, ap, sym, ◌∙◌, subst, arith}
 use Rattle.std.specs.Prelude.{is_some, ◌&&◌}
+use Rattle.std.proofs.Common.{◌≡◌, ◌+◌, None, ap, sym, ◌∙◌, subst, arith}
 use Rattle.prem_gate.specs.declared.bus.BusTurn.{BusTurn}
 use Rattle.prem_gate.specs.Gates.{GatesState}
 use Rattle.prem_cycle.specs.State.{MachineState}
 use Rattle.prem_cycle.specs.Cycle.{arrivals_at, next_cycle}
+use Rattle.prem_cycle.specs.State.{rule_in}
 use Rattle.prem_machine.specs.Parts.{state_of}
 use Rattle.prem_machine.specs.Work.{setup_in}
-use Rattle.prem_cycle.specs.State.{rule_in}
 use Rattle.prem_pair.specs.Cycles.Token.{holder_after, is_first, is_second}
 use Rattle.prem_pair.specs.Cycles.Pair.{ended_in_place, first_acted, second_acted, pair_cycle}
 use Rattle.prem_pair.specs.Sides.{Arrives}

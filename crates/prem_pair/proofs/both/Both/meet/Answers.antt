@@ -1,5 +1,5 @@
-use Rattle.std.proofs.Common.{◌≡◌, ℕ, true, length, ap, sym, ◌∙◌, refl, subst, arith, List, All}
 use Rattle.std.specs.Prelude.{is_some, IsSome}
+use Rattle.std.proofs.Common.{◌≡◌, ℕ, true, length, ap, sym, ◌∙◌, refl, subst, arith, List, All}
 use Rattle.std.proofs.lemmas.List.{with_items_is}
 use Rattle.prem_list.specs.Sequence.{items_of}
 use Rattle.prem_list.specs.declared.Sequence.{Sequence}

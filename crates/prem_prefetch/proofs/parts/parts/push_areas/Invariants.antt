@@ -1,5 +1,5 @@
-use Rattle.std.proofs.Common.{◌≡◌, ◌++◌, ◌≤◌, drop}
 use Rattle.std.specs.List.{AllByRecursion}
+use Rattle.std.proofs.Common.{◌≡◌, ◌++◌, ◌≤◌, drop}
 use Rattle.prem_layout.specs.Parts.{area_parts}
 use Rattle.prem_prefetch.proofs.parts.parts.push_areas.Given as goal
 

@@ -1,5 +1,5 @@
-use Rattle.std.proofs.Common.{◌≡◌, ◌++◌, drop}
 use Rattle.std.specs.List.{AllByRecursion}
+use Rattle.std.proofs.Common.{◌≡◌, ◌++◌, drop}
 use Rattle.prem_layout.specs.Parts.{code_parts}
 use Rattle.prem_prefetch.specs.Parts.Parts.{sizes_of, IsWordSize}
 use Rattle.prem_prefetch.proofs.parts.parts.push_code.Given as goal

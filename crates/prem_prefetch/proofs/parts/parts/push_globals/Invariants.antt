@@ -1,5 +1,5 @@
-use Rattle.std.proofs.Common.{◌≡◌, ◌++◌, map, drop}
 use Rattle.std.specs.List.{AllByRecursion}
+use Rattle.std.proofs.Common.{◌≡◌, ◌++◌, map, drop}
 use Rattle.prem_syntax.specs.SyntaxOf.{global_of}
 use Rattle.prem_layout.specs.Parts.{global_parts}
 use Rattle.prem_prefetch.specs.Parts.Parts.{IsShortGlobal}

@@ -1,7 +1,7 @@
-use Rattle.std.proofs.Common.{◌≡◌, ◌++◌, map, drop}
 use Rattle.std.specs.List.{AllByRecursion}
-use Rattle.prem_split.specs.PlanOf.{plan_of}
+use Rattle.std.proofs.Common.{◌≡◌, ◌++◌, map, drop}
 use Rattle.prem_layout.specs.Parts.{stub_passes, stub_parts}
+use Rattle.prem_split.specs.PlanOf.{plan_of}
 use Rattle.prem_prefetch.specs.Parts.Parts.{IsShortPlan}
 use Rattle.prem_prefetch.proofs.parts.parts.push_stubs.Given as goal
 

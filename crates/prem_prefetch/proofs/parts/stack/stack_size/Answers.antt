@@ -1,5 +1,5 @@
-use Rattle.std.proofs.Common.{ℕ, ◌≡◌, ◌≤◌, ◌∙◌, [], ap, sym, subst, arith, List, map, slice_index, slice_index_or, Vec, Global}
 use Rattle.std.specs.List.{AllByRecursion}
+use Rattle.std.proofs.Common.{ℕ, ◌≡◌, ◌≤◌, ◌∙◌, [], ap, sym, subst, arith, List, map, slice_index, slice_index_or, Vec, Global}
 use Rattle.prem_list.specs.Sequence.{items_of}
 use Rattle.prem_tree.specs.declared.resolve.resolved.Routine.{Routine}
 use Rattle.prem_split.specs.Walk.{HasFrame, frame_of}

@@ -1,5 +1,5 @@
-use Rattle.std.proofs.Common.{◌≡◌, ◌++◌, drop}
 use Rattle.std.specs.List.{AllByRecursion}
+use Rattle.std.proofs.Common.{◌≡◌, ◌++◌, drop}
 use Rattle.prem_layout.specs.Parts.{stub_passes}
 use Rattle.prem_prefetch.specs.Sizes.Sizes.{sized_from, MayHaveParts}
 use Rattle.prem_prefetch.proofs.sizes.sizes.parts_of_tasks.Given as goal

@@ -7,13 +7,13 @@ use Rattle.prem_tasks.specs.declared.set.TaskSet.{TaskSet as SetTree}
 use Rattle.prem_tasks.specs.Broken.{TaskSet}
 use Rattle.prem_tasks.specs.SetOf.{set_of}
 use Rattle.prem_command.specs.Words.{mail_asked}
+use Rattle.prem_mail.specs.declared.feed.Feed.{Feed}
 use Rattle.prem_answer.specs.declared.answer.Answer.{Answer}
 use Rattle.prem_answer.specs.Stages.{Comes, Reply, reply_of, IsReadAs, IsGiven}
 use Rattle.prem_answer.proofs.Reading.{halt_passes}
 use Rattle.prem_exec.specs.Forms.{RunText}
 use Rattle.prem_exec.specs.Sources.Sources.{Passes, input_of, reading_set, run_limit, run_of_bytes}
 use Rattle.prem_exec.proofs.SourcesLemmas.Passing.{comes_as}
-use Rattle.prem_mail.specs.declared.feed.Feed.{Feed}
 use Rattle.prem_running.specs.Mail.Files.{mail_limit, feeds_of_bytes}
 use Rattle.prem_running.specs.Mail.Mail.{mail_stages, set_reply}
 use Rattle.prem_running.proofs.MailLemmas.Stages.{mail_told, no_mail, no_run, no_set}

@@ -2,13 +2,13 @@ use Rattle.std.specs.Prelude.{ℕ, List, Option, Vec}
 use Rattle.std.specs.declared.alloc.Global.{Global}
 use Rattle.std.proofs.Common.{ap, ◌∙◌, sym}
 use Rattle.prem_io.specs.Files.{Files}
-use Rattle.prem_set.specs.Run.Names.{KnownNames}
 use Rattle.prem_tasks.specs.SetOf.{set_of}
+use Rattle.prem_set.specs.Run.Names.{KnownNames}
+use Rattle.prem_mail.specs.declared.feed.Feed.{Feed}
+use Rattle.prem_mail.specs.MailFile.{feeds_of}
 use Rattle.prem_answer.specs.Stages.{IsRead, IsReadAs}
 use Rattle.prem_answer.proofs.Reading.{halt_passes, made_ok, not_made}
 use Rattle.prem_exec.specs.Sources.Sources.{names_of}
-use Rattle.prem_mail.specs.declared.feed.Feed.{Feed}
-use Rattle.prem_mail.specs.MailFile.{feeds_of}
 use Rattle.prem_running.specs.Mail.Files.{mail_limit, feeds_of_bytes}
 use Rattle.prem_running.proofs.MailLemmas.Files.{mail_formed, mail_refused}
 use Rattle.prem_running.proofs.mail.files.read_mail_file.Goals as goal

@@ -1,5 +1,5 @@
-use Rattle.std.proofs.Common.{◌≡◌, ◌++◌, take}
 use Rattle.std.specs.List.{flat_map}
+use Rattle.std.proofs.Common.{◌≡◌, ◌++◌, take}
 use Rattle.prem_running.specs.Mail.Text.{word_text}
 use Rattle.prem_running.proofs.mail.text.push_words.Given as goal
 

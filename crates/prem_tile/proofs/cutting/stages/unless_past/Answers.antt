@@ -1,5 +1,5 @@
-use Rattle.std.proofs.Common.{◌≤◌, false, Ok, length, map, ap, sym, ◌∙◌, arith}
 use Rattle.std.specs.Prelude.{nat_lt}
+use Rattle.std.proofs.Common.{◌≤◌, false, Ok, length, map, ap, sym, ◌∙◌, arith}
 use Rattle.std.proofs.lemmas.Bool.{le-ltb}
 use Rattle.prem_syntax.specs.Syntax.{ProgramText}
 use Rattle.prem_syntax.specs.SyntaxOf.{item_of, program_of}

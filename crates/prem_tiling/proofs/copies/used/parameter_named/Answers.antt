@@ -1,5 +1,5 @@
-use Rattle.std.proofs.Common.{rules, ◌≡◌, ◌+◌, true, List, ◌∷◌, drop, map, ap, sym, ◌∙◌, arith}
 use Rattle.std.specs.Str.{bytes_eq}
+use Rattle.std.proofs.Common.{rules, ◌≡◌, ◌+◌, true, List, ◌∷◌, drop, map, ap, sym, ◌∙◌, arith}
 use Rattle.std.proofs.lemmas.List.{drop_more}
 use Rattle.prem_syntax.specs.Name.{name_bytes}
 use Rattle.prem_syntax.specs.SyntaxOf.{parameter_of}

@@ -1,7 +1,7 @@
-use Rattle.std.proofs.Common.{◌<◌, length, map, ap, ◌∙◌, arith}
 use Rattle.std.specs.Prelude.{slice_set}
-use Rattle.std.proofs.lemmas.List.{map-set}
 use Rattle.std.specs.Vec.{with_item}
+use Rattle.std.proofs.Common.{◌<◌, length, map, ap, ◌∙◌, arith}
+use Rattle.std.proofs.lemmas.List.{map-set}
 use Rattle.prem_tree.specs.State.Interpreter.{state_of}
 use Rattle.prem_tree.proofs.StateLemmas.Cells.{slice_get-map, slice_get-at, store_at}
 use Rattle.prem_tree.proofs.state.interpreter.Interpreter.store.Goals as goal

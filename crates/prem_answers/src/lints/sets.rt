@@ -1,7 +1,7 @@
 // What is said of sets, over files in memory and an outside that fails at calls.
 //
-// Each line of `sets.txt` has the call at which the store fails and that at which the sink does, 0 for none, and then the words.
-use crate::lines::{listed, on_one_line};
+// Each line of `lint_sets.txt` has the call at which the store fails and that at which the sink does, 0 for none, and then the words.
+use super::lines::{listed, on_one_line};
 use prem_io::{MemorySink, MemoryStore};
 use prem_lint::lint;
 use std::rt::Files;
@@ -33,8 +33,8 @@ fn tell_line(rt: &(impl Print + Files + AllocGlobal), list: &str, line: &str) ->
 }
 
 pub fn tell(rt: &(impl Print + Files + AllocGlobal)) -> io::Result<()> {
-    let list = fs::read_to_string(rt, "files.txt")?;
-    let file = fs::read_to_string(rt, "sets.txt")?;
+    let list = fs::read_to_string(rt, "lint_files.txt")?;
+    let file = fs::read_to_string(rt, "lint_sets.txt")?;
     for line in file.lines() {
         tell_line(rt, &list, line)?;
     }

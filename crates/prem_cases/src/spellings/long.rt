@@ -1,6 +1,6 @@
 // Texts that are made of repeated pieces.
 
-use crate::spelling::length_told;
+use super::spelling::length_told;
 use std::alloc::{AllocError, Global};
 use std::rt::Files;
 use std::{fs, io};

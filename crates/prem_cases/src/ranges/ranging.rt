@@ -1,6 +1,6 @@
 // What comes of the analysis of a text, as text.
 
-use crate::names::{function_name, global_name};
+use super::names::{function_name, global_name};
 use prem_analyse::{Analysed, RangeFail, analyse};
 use prem_check::check;
 use prem_front::parse;

@@ -1,5 +1,5 @@
 // What is said of a set of one task, whose source is a line of a file.
-use crate::lines::{on_one_line, with_lines};
+use super::lines::{on_one_line, with_lines};
 use prem_io::{FileMap, MemorySink, MemoryStore};
 use prem_lint::{Status, lint};
 use std::alloc::{AllocError, Global};
@@ -24,7 +24,7 @@ fn said(alloc: Global, source: &[u8]) -> Result<(Status, Vec<u8>), AllocError> {
 
 pub fn tell(rt: &(impl Print + Files + AllocGlobal)) -> io::Result<()> {
     let alloc = rt.alloc();
-    let file = fs::read_to_string(rt, "sources.txt")?;
+    let file = fs::read_to_string(rt, "lint_sources.txt")?;
     for text in file.lines() {
         let source = with_lines(alloc, text.as_bytes())?;
         let (status, written) = said(alloc, &source)?;
