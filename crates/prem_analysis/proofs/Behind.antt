@@ -9,8 +9,8 @@ use Rattle.prem_syntax.specs.declared.tree.Local.{Local}
 use Rattle.prem_syntax.specs.Syntax.{LocalVariable}
 use Rattle.prem_syntax.specs.SyntaxOf.{parameter_of, local_of}
 use Rattle.prem_syntax.specs.declared.tree.Place.{Place}
-use Rattle.prem_meaning.specs.Resolve.{promoted}
-use Rattle.prem_meaning.specs.Resolved.{Term, Routine, Steps, Done, If, For, While}
+use Rattle.prem_syntax.specs.Resolve.{promoted}
+use Rattle.prem_syntax.specs.Resolved.{Term, Routine, Steps, Done, If, For, While}
 use Rattle.prem_tree.specs.declared.resolve.resolved.Term.{Term as TermTree}
 use Rattle.prem_tree.specs.Resolve.ResolvedOf.{term_of}
 use Rattle.prem_tree.specs.declared.resolve.resolved.Step.{Step}

@@ -3,7 +3,7 @@ use Rattle.std.specs.Prelude.{ℤ}
 use Rattle.std.proofs.Common.{◌≡◌, ℕ, Bool, List, Option, ap, sym, ◌∙◌}
 use Rattle.prem_word.specs.Ranges.{Span}
 use Rattle.prem_syntax.specs.declared.tree.Place.{Place}
-use Rattle.prem_meaning.specs.Resolved.{Term, Steps}
+use Rattle.prem_syntax.specs.Resolved.{Term, Steps}
 use Rattle.prem_ranges.specs.Environment.{with_range, Environment, at_local}
 use Rattle.prem_ranges.specs.RangeOf.{range_of}
 use Rattle.prem_ranges.specs.After.{end_of, turn_bound, loop_end, in_counting, body_range, range_behind, in_body, behind_loop}

@@ -3,7 +3,7 @@ use Rattle.std.proofs.Common.{◌≡◌, ℕ, Bool, true, false, eqb, List, [], 
 use Rattle.std.proofs.lemmas.Bool.{or_parts}
 use Rattle.prem_word.specs.Ranges.{Span}
 use Rattle.prem_syntax.specs.declared.tree.Place.{Place}
-use Rattle.prem_meaning.specs.Resolved.{Term, Done, If, For, While}
+use Rattle.prem_syntax.specs.Resolved.{Term, Done, If, For, While}
 use Rattle.prem_tree.specs.declared.resolve.resolved.Step.{Step}
 use Rattle.prem_ranges.specs.Environment.{with_range, Environment, at_local}
 use Rattle.prem_ranges.specs.RangeOf.{range_of, refined}

@@ -8,9 +8,9 @@ use Rattle.prem_list.specs.Sequence.{items_of}
 use Rattle.prem_syntax.specs.Syntax.{FunctionText, ProgramText}
 use Rattle.prem_syntax.specs.SyntaxOf.{function_of}
 use Rattle.prem_syntax.specs.Literals.{ProgramHasWords}
-use Rattle.prem_meaning.specs.GroupTwo.{IsWellFormed}
-use Rattle.prem_meaning.specs.Source.{unlimited}
-use Rattle.prem_meaning.specs.Resolved.{Routine, Resolved}
+use Rattle.prem_syntax.specs.GroupTwo.{IsWellFormed}
+use Rattle.prem_syntax.specs.Source.{unlimited}
+use Rattle.prem_syntax.specs.Resolved.{Routine, Resolved}
 use Rattle.prem_tree.specs.declared.resolve.resolved.Routine.{Routine as RoutineTree}
 use Rattle.prem_tree.specs.Resolve.ResolvedOf.{loops_of, routine_of, routines_of}
 use Rattle.prem_tree.specs.Resolve.ResolvedOf.{IsResolved}

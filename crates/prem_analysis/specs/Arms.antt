@@ -3,7 +3,7 @@ use Rattle.std.specs.Prelude.{ℕ, ◌+◌, ◌*◌, ◌^◌, min, ℤ, Bool}
 use Rattle.std.specs.Prelude.{List, [], Option, None, Some}
 use Rattle.prem_syntax.specs.declared.tree.Place.{Place}
 use Rattle.prem_syntax.specs.Syntax.{Parameter}
-use Rattle.prem_meaning.specs.Resolved.{Term, Steps}
+use Rattle.prem_syntax.specs.Resolved.{Term, Steps}
 use Rattle.prem_ranges.specs.Environment.{Environment}
 use Rattle.prem_ranges.specs.RangeOf.{range_of}
 use Rattle.prem_ranges.specs.After.{turn_bound, loop_end, in_counting, in_while}

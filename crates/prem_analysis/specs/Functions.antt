@@ -5,8 +5,8 @@ use Rattle.std.specs.Option.{option_map}
 use Rattle.prem_list.specs.Sequence.{items_of}
 use Rattle.prem_syntax.specs.SyntaxOf.{global_of, function_of}
 use Rattle.prem_syntax.specs.declared.tree.Global.{Global}
-use Rattle.prem_meaning.specs.Source.{unlimited}
-use Rattle.prem_meaning.specs.Resolved.{Routine}
+use Rattle.prem_syntax.specs.Source.{unlimited}
+use Rattle.prem_syntax.specs.Resolved.{Routine}
 use Rattle.prem_tree.specs.declared.resolve.resolved.Routine.{Routine as RoutineTree}
 use Rattle.prem_tree.specs.Resolve.ResolvedOf.{term_of, routines_of}
 use Rattle.prem_ranges.specs.After.{bounds_in, known_parameter}

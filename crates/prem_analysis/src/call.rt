@@ -4,7 +4,7 @@ ghost use Rattle.std.specs.Option.{option_map};
 ghost use Rattle.prem_list.specs.Sequence.{items_of};
 ghost use Rattle.prem_word.specs.Ranges.{from_to, encloses};
 ghost use Rattle.prem_syntax.specs.SyntaxOf.{parameter_of};
-ghost use Rattle.prem_meaning.specs.Source.{unlimited};
+ghost use Rattle.prem_syntax.specs.Source.{unlimited};
 ghost use Rattle.prem_tree.specs.Resolve.ResolvedOf.{term_of, routines_of};
 ghost use Rattle.prem_ranges.specs.RangeRules.{first_of};
 ghost use Rattle.prem_ranges.specs.RangeBreaches.{in_stated, in_argument, in_arguments, parameters_of};

@@ -3,7 +3,7 @@ ghost use Rattle.std.specs.Prelude.{◌≡◌, ℕ, ◌<◌, None, [], map, leng
 ghost use Rattle.std.specs.List.{flat_map};
 ghost use Rattle.prem_list.specs.Sequence.{items_of};
 ghost use Rattle.prem_syntax.specs.SyntaxOf.{function_of};
-ghost use Rattle.prem_meaning.specs.Source.{unlimited};
+ghost use Rattle.prem_syntax.specs.Source.{unlimited};
 ghost use Rattle.prem_tree.specs.Resolve.ResolvedOf.{resolved_of};
 ghost use Rattle.prem_ranges.specs.After.{known_parameter, bounds_in};
 ghost use Rattle.prem_ranges.specs.RangeRules.{first_of};

@@ -4,7 +4,7 @@ ghost use Rattle.std.specs.Option.{option_map};
 ghost use Rattle.prem_list.specs.Sequence.{items_of};
 ghost use Rattle.prem_word.specs.Ranges.{IsRange};
 ghost use Rattle.prem_syntax.specs.SyntaxOf.{parameter_of, local_of, function_of};
-ghost use Rattle.prem_meaning.specs.Resolve.{promoted};
+ghost use Rattle.prem_syntax.specs.Resolve.{promoted};
 ghost use Rattle.prem_tree.specs.Resolve.ResolvedOf.{term_of};
 ghost use Rattle.prem_ranges.specs.After.{stated_or_whole, known_parameter, known_local, declared};
 ghost use Rattle.prem_ranges.specs.RangeRules.{first_of};

@@ -12,7 +12,7 @@ use Rattle.prem_cycle.specs.declared.state.Stop.TheVariants.{Finished, Trap, Log
 use Rattle.prem_cycle.specs.declared.facts.EndedInterval.{EndedInterval}
 use Rattle.prem_cycle.specs.State.{Counts}
 use Rattle.prem_cycle.specs.FactsOf.{Report}
-use Rattle.prem_runs.specs.Transfer.Lengths.{device_cost}
+use Rattle.prem_cycle.specs.Runs.Transfer.Lengths.{device_cost}
 use Rattle.prem_report.specs.Report.{in_turn, task_name, kind_word, direction_word}
 use Rattle.prem_chart.specs.declared.view.View.{View}
 use Rattle.prem_chart.specs.declared.view.Sheet.{Sheet}

@@ -5,7 +5,7 @@ use Rattle.prem_image.specs.declared.image.TaskRecord.{TaskRecord}
 use Rattle.prem_image.specs.declared.image.DeviceRecord.{DeviceRecord}
 use Rattle.prem_cycle.specs.declared.facts.EndedInterval.{EndedInterval}
 use Rattle.prem_cycle.specs.FactsOf.{Report}
-use Rattle.prem_runs.specs.Transfer.Lengths.{device_cost}
+use Rattle.prem_cycle.specs.Runs.Transfer.Lengths.{device_cost}
 use Rattle.prem_report.specs.Report.{task_name, device_name, kind_word, direction_word}
 use Rattle.prem_chart.specs.declared.view.Look.{Look}
 use Rattle.prem_chart.specs.declared.view.Look.TheVariants.{Compatible, Predictable, Device}

@@ -1,7 +1,7 @@
 // The bars of intervals and transfers.
 ghost use Rattle.std.specs.Prelude.{◌≡◌, ◌++◌, IfOk, OnOk, string_bytes};
 ghost use Rattle.std.specs.List.{flat_map};
-ghost use Rattle.prem_runs.specs.Transfer.Lengths.{device_cost};
+ghost use Rattle.prem_cycle.specs.Runs.Transfer.Lengths.{device_cost};
 ghost use Rattle.prem_report.specs.Report.{device_name, direction_word, kind_word, task_name};
 ghost use Rattle.prem_chart.specs.Places.{IsView};
 ghost use Rattle.prem_chart.specs.Bars.{shape_text};

@@ -12,7 +12,7 @@ use Rattle.prem_cycle.specs.Cycle.{cycle_of, is_finished, is_full, is_over, log_
 use Rattle.prem_cycle.specs.FactsOf.{stop_of, stop_trapped}
 use Rattle.prem_cycle.specs.Run.{cycles_of}
 use Rattle.prem_cycle.proofs.RunLaws.{cycles_of-add, cycles_of-over, step_of-goes, step_of-stays}
-use Rattle.prem_runs.specs.Dull.Dull.{AreDull, OnlyCounts}
+use Rattle.prem_cycle.specs.Runs.Dull.Dull.{AreDull, OnlyCounts}
 use Rattle.prem_chart.specs.declared.note.Note.{Note}
 use Rattle.prem_chart_answer.specs.Notes.{goes_on, noted, notes_of}
 

@@ -1,7 +1,7 @@
 -- The first breach of parts is the first of the whole.
 use Rattle.std.proofs.Common.{◌≡◌, List, ◌++◌, Option, None}
-use Rattle.prem_meaning.specs.Rules.{Breach, standing, first, first_of}
-use Rattle.prem_meaning.proofs.Order.{first_by_none, first_by_assoc, first_of_by_append}
+use Rattle.prem_syntax.specs.Rules.{Breach, standing, first, first_of}
+use Rattle.prem_syntax.proofs.Order.{first_by_none, first_by_assoc, first_of_by_append}
 
 pub first_none : (a : Option Breach) → first a None ≡ a
 first_none a = first_by_none standing a

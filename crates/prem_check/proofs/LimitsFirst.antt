@@ -6,11 +6,11 @@ use Rattle.prem_syntax.specs.declared.tree.Place.{Place}
 use Rattle.prem_syntax.specs.declared.rules.Count.{Count}
 use Rattle.prem_syntax.specs.declared.rules.Count.TheVariants.{Functions, Globals, Parameters, Regions, Length, Stated}
 use Rattle.prem_syntax.specs.Syntax.{GlobalVariable, FunctionText, ProgramText}
-use Rattle.prem_meaning.specs.Resolve.{globals_of, functions_of}
-use Rattle.prem_meaning.specs.GroupTwo.{group_two}
-use Rattle.prem_meaning.specs.Order.{less, key_of}
-use Rattle.prem_meaning.specs.Rules.{Limit, NoJob, Breach, rank, first, first_of}
-use Rattle.prem_meaning.specs.Breaches.{if_broken, is_length, is_stated, regions_of, is_job_name, item_names, reached, in_limits, in_items}
+use Rattle.prem_syntax.specs.Resolve.{globals_of, functions_of}
+use Rattle.prem_syntax.specs.GroupTwo.{group_two}
+use Rattle.prem_syntax.specs.Order.{less, key_of}
+use Rattle.prem_syntax.specs.Rules.{Limit, NoJob, Breach, rank, first, first_of}
+use Rattle.prem_syntax.specs.Breaches.{if_broken, is_length, is_stated, regions_of, is_job_name, item_names, reached, in_limits, in_items}
 use Rattle.prem_check.specs.declared.found.Broken.{Broken}
 use Rattle.prem_check.specs.FoundOf.{found_of}
 use Rattle.prem_check.proofs.First.{first_of_append}

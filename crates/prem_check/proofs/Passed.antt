@@ -1,9 +1,9 @@
 -- What is broken behind one more item.
 use Rattle.std.proofs.Common.{◌≡◌, ◌≤◌, ℕ, ◌+◌, Bool, List, [], ◌∷◌, ◌++◌, Option, Result, Ok, Err, IfOk, OnOk, ap, sym, ◌∙◌, arith}
 use Rattle.prem_syntax.specs.Syntax.{Text, GlobalVariable, FunctionText, ItemText, ProgramText, global_item, function_item}
-use Rattle.prem_meaning.specs.Rules.{Breach, first, first_of}
-use Rattle.prem_meaning.specs.Breaches.{in_global, in_function, in_items}
-use Rattle.prem_meaning.specs.Reach.{is_in_set}
+use Rattle.prem_syntax.specs.Rules.{Breach, first, first_of}
+use Rattle.prem_syntax.specs.Breaches.{in_global, in_function, in_items}
+use Rattle.prem_syntax.specs.Reach.{is_in_set}
 use Rattle.prem_check.specs.declared.program.Walk.{Walk}
 use Rattle.prem_check.specs.declared.found.Broken.{Broken}
 use Rattle.prem_check.specs.FoundOf.{found_of}

@@ -1,6 +1,6 @@
 -- One more part, behind what is found already.
 use Rattle.std.proofs.Common.{◌≡◌, List, ◌++◌, Option, ap, ◌∙◌, sym}
-use Rattle.prem_meaning.specs.Rules.{Breach, first, first_of}
+use Rattle.prem_syntax.specs.Rules.{Breach, first, first_of}
 use Rattle.prem_check.proofs.First.{first_assoc, first_of_append}
 
 pub next : (old new : Option Breach) (part rest : List Breach) → new ≡ first old (first_of part) → first new (first_of rest) ≡ first old (first_of (part ++ rest))

@@ -4,8 +4,8 @@ use Rattle.std.proofs.Common.{◌≡◌, ℕ, ◌+◌, ◌<◌, length, take, ge
 use Rattle.std.proofs.lemmas.List.{take_more}
 use Rattle.prem_syntax.specs.declared.tree.Ty.{Ty}
 use Rattle.prem_syntax.specs.Syntax.{Text, Parameter}
-use Rattle.prem_meaning.specs.Resolve.{Scope, parameter_names}
-use Rattle.prem_meaning.specs.Breaches.{has_name, parameter_texts}
+use Rattle.prem_syntax.specs.Resolve.{Scope, parameter_names}
+use Rattle.prem_syntax.specs.Breaches.{has_name, parameter_texts}
 use Rattle.prem_names.specs.Scopes.{with_locals, local_texts}
 use Rattle.prem_names.proofs.ReachLemmas.Sets.{grouped}
 use Rattle.prem_check.specs.Taken.{taken_of}

@@ -1,5 +1,5 @@
 -- Where a statement in memory stands.
-use Rattle.prem_meaning.specs.Breaches.{Around}
+use Rattle.prem_syntax.specs.Breaches.{Around}
 use Rattle.prem_names.specs.Scopes.{scope_of}
 use Rattle.prem_check.specs.declared.call.Around.{Around as CodeAround}
 

@@ -2,7 +2,7 @@
 use Rattle.std.specs.Prelude.{Option, None, Some}
 use Rattle.std.specs.Option.{option_map}
 use Rattle.prem_syntax.specs.Name.{name_bytes}
-use Rattle.prem_meaning.specs.Rules.{Rule, Limit, NoJob, Unknown, Twice, OfTypes, CallOrder, MarkedCall, SystemCall, LoopForm, Breach}
+use Rattle.prem_syntax.specs.Rules.{Rule, Limit, NoJob, Unknown, Twice, OfTypes, CallOrder, MarkedCall, SystemCall, LoopForm, Breach}
 use Rattle.prem_check.specs.declared.found.Rule.{Rule as CodeRule}
 use Rattle.prem_check.specs.declared.found.Rule.TheVariants as r
 use Rattle.prem_check.specs.declared.found.Broken.{Broken}

@@ -1,7 +1,7 @@
 -- Names that are taken.
 use Rattle.std.specs.Prelude.{List, ◌++◌}
 use Rattle.prem_syntax.specs.Syntax.{Text}
-use Rattle.prem_meaning.specs.Resolve.{Scope}
+use Rattle.prem_syntax.specs.Resolve.{Scope}
 use Rattle.prem_names.specs.Scopes.{local_texts}
 
 -- the names of items, then those of parameters and locals

@@ -5,8 +5,8 @@ use Rattle.prem_syntax.specs.declared.tree.Place.{Place}
 use Rattle.prem_syntax.specs.declared.tree.Program.{Program}
 use Rattle.prem_syntax.specs.Name.{name_bytes}
 use Rattle.prem_syntax.specs.SyntaxOf.{program_of}
-use Rattle.prem_meaning.specs.Rules.{Rule, Limit, NoJob, Unknown, Twice, OfTypes, CallOrder, MarkedCall, SystemCall, LoopForm, Breach}
-use Rattle.prem_meaning.specs.GroupTwo.{IsWellFormed, group_two}
+use Rattle.prem_syntax.specs.Rules.{Rule, Limit, NoJob, Unknown, Twice, OfTypes, CallOrder, MarkedCall, SystemCall, LoopForm, Breach}
+use Rattle.prem_syntax.specs.GroupTwo.{IsWellFormed, group_two}
 use Rattle.prem_tree.specs.declared.checked.Checked.{Checked}
 use Rattle.prem_tree.specs.Checked.{checked_program}
 use Rattle.prem_check.specs.declared.fail.CheckFail.{CheckFail}

@@ -1,8 +1,8 @@
 -- The items of a program that are passed, and what is broken behind them.
 use Rattle.std.specs.Prelude.{◌≡◌, ◌+◌, Bool, List, [], ◌∷◌, ◌++◌, Option}
 use Rattle.prem_syntax.specs.Syntax.{Text, GlobalVariable, FunctionText, ProgramText}
-use Rattle.prem_meaning.specs.Rules.{Breach, first_of}
-use Rattle.prem_meaning.specs.Breaches.{in_items}
+use Rattle.prem_syntax.specs.Rules.{Breach, first_of}
+use Rattle.prem_syntax.specs.Breaches.{in_items}
 use Rattle.prem_names.specs.Scopes.{scope_of}
 use Rattle.prem_check.specs.declared.program.Walk.{Walk}
 

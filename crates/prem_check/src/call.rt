@@ -3,9 +3,9 @@ ghost use Rattle.std.specs.Prelude.{◌≡◌, [], Some, length, map, is_some, n
 ghost use Rattle.std.specs.Option.{option_map};
 ghost use Rattle.prem_syntax.specs.Name.{name_bytes};
 ghost use Rattle.prem_syntax.specs.SyntaxOf.{expression_of, function_of};
-ghost use Rattle.prem_meaning.specs.Resolve.{find_function};
-ghost use Rattle.prem_meaning.specs.Rules.{first_of};
-ghost use Rattle.prem_meaning.specs.Breaches.{is_void, is_local, is_marked_text, in_target, in_call_target, in_callee, in_expressions};
+ghost use Rattle.prem_syntax.specs.Resolve.{find_function};
+ghost use Rattle.prem_syntax.specs.Rules.{first_of};
+ghost use Rattle.prem_syntax.specs.Breaches.{is_void, is_local, is_marked_text, in_target, in_call_target, in_callee, in_expressions};
 ghost use Rattle.prem_names.specs.Scopes.{scope_of};
 ghost use Rattle.prem_check.specs.FoundOf.{found_of};
 ghost use Rattle.prem_check.specs.AroundOf.{around_of};

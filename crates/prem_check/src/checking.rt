@@ -2,7 +2,7 @@
 ghost use Rattle.std.specs.Prelude.{◌≡◌, Some, IsNone, IfSome, IfOk};
 ghost use Rattle.std.specs.Option.{option_map};
 ghost use Rattle.prem_syntax.specs.SyntaxOf.{program_of};
-ghost use Rattle.prem_meaning.specs.GroupTwo.{IsWellFormed, group_two};
+ghost use Rattle.prem_syntax.specs.GroupTwo.{IsWellFormed, group_two};
 ghost use Rattle.prem_check.specs.FoundOf.{breach_of, rule_of};
 ghost use Rattle.prem_check.specs.Told.{at_line, told_of, said, IsAnswer};
 

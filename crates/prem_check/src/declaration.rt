@@ -2,9 +2,9 @@
 ghost use Rattle.std.specs.Prelude.{◌≡◌, ◌++◌, map, IfOk, OnOk, not};
 ghost use Rattle.prem_syntax.specs.Name.{name_bytes};
 ghost use Rattle.prem_syntax.specs.SyntaxOf.{parameter_of, local_of};
-ghost use Rattle.prem_meaning.specs.Resolve.{parameter_names, local_names};
-ghost use Rattle.prem_meaning.specs.Rules.{OfTypes, first_of};
-ghost use Rattle.prem_meaning.specs.Breaches.{if_at, has_name, is_narrow, is_from, fits_type, is_range, in_declared, in_parameters, in_expression, in_locals};
+ghost use Rattle.prem_syntax.specs.Resolve.{parameter_names, local_names};
+ghost use Rattle.prem_syntax.specs.Rules.{OfTypes, first_of};
+ghost use Rattle.prem_syntax.specs.Breaches.{if_at, has_name, is_narrow, is_from, fits_type, is_range, in_declared, in_parameters, in_expression, in_locals};
 ghost use Rattle.prem_names.specs.Scopes.{scope_of, with_locals};
 ghost use Rattle.prem_check.specs.FoundOf.{found_of};
 ghost use Rattle.prem_check.specs.Taken.{taken_of};

@@ -3,8 +3,8 @@ ghost use Rattle.std.specs.Prelude.{◌≡◌, map};
 ghost use Rattle.std.specs.Option.{option_map};
 ghost use Rattle.prem_syntax.specs.Name.{name_bytes};
 ghost use Rattle.prem_syntax.specs.SyntaxOf.{expression_of};
-ghost use Rattle.prem_meaning.specs.Rules.{first_of};
-ghost use Rattle.prem_meaning.specs.Breaches.{unknown, used_plain, used_indexed, in_expression, in_expressions, in_option};
+ghost use Rattle.prem_syntax.specs.Rules.{first_of};
+ghost use Rattle.prem_syntax.specs.Breaches.{unknown, used_plain, used_indexed, in_expression, in_expressions, in_option};
 ghost use Rattle.prem_names.specs.Scopes.{scope_of};
 ghost use Rattle.prem_check.specs.FoundOf.{found_of};
 

@@ -1,7 +1,7 @@
 // The first broken rule among those that are found.
 ghost use Rattle.std.specs.Prelude.{◌≡◌, Option};
-ghost use Rattle.prem_meaning.specs.Rules.{OfTypes, type_rank, rank, comes_before, first, first_of};
-ghost use Rattle.prem_meaning.specs.Breaches.{broken_at, if_at};
+ghost use Rattle.prem_syntax.specs.Rules.{OfTypes, type_rank, rank, comes_before, first, first_of};
+ghost use Rattle.prem_syntax.specs.Breaches.{broken_at, if_at};
 ghost use Rattle.prem_check.specs.FoundOf.{rule_of, breach_of, found_of};
 
 use prem_syntax::{Count, Name, Place, TypeRule};

@@ -1,8 +1,8 @@
 // The breaches in functions.
 ghost use Rattle.std.specs.Prelude.{◌≡◌, ◌&&◌, ◌||◌, ◌==◌, not, is_some, is_none, length, IfOk, OnOk};
 ghost use Rattle.prem_syntax.specs.SyntaxOf.{function_of};
-ghost use Rattle.prem_meaning.specs.Rules.{first_of};
-ghost use Rattle.prem_meaning.specs.Breaches.{is_void, is_job_name, is_marked_text, in_heading, in_function};
+ghost use Rattle.prem_syntax.specs.Rules.{first_of};
+ghost use Rattle.prem_syntax.specs.Breaches.{is_void, is_job_name, is_marked_text, in_heading, in_function};
 ghost use Rattle.prem_names.specs.Scopes.{scope_of, SameItems};
 ghost use Rattle.prem_check.specs.FoundOf.{found_of};
 

@@ -3,9 +3,9 @@ ghost use Rattle.std.specs.Prelude.{◌≡◌, ◌||◌, nat_lt, nat_le, unwrap_
 ghost use Rattle.std.specs.Option.{option_map};
 ghost use Rattle.prem_syntax.specs.Name.{name_bytes};
 ghost use Rattle.prem_syntax.specs.SyntaxOf.{initial_of, global_of, region_of, mark_of};
-ghost use Rattle.prem_meaning.specs.Resolve.{find_global};
-ghost use Rattle.prem_meaning.specs.Rules.{first_of};
-ghost use Rattle.prem_meaning.specs.Breaches.{is_initial, in_global, in_region, in_regions, regions_of};
+ghost use Rattle.prem_syntax.specs.Resolve.{find_global};
+ghost use Rattle.prem_syntax.specs.Rules.{first_of};
+ghost use Rattle.prem_syntax.specs.Breaches.{is_initial, in_global, in_region, in_regions, regions_of};
 ghost use Rattle.prem_names.specs.Scopes.{scope_of};
 ghost use Rattle.prem_check.specs.FoundOf.{found_of};
 

@@ -1,8 +1,8 @@
 // The kinds of expressions, as far as their names are known.
 ghost use Rattle.std.specs.Prelude.{◌≡◌};
 ghost use Rattle.prem_syntax.specs.SyntaxOf.{expression_of};
-ghost use Rattle.prem_meaning.specs.Resolved.{Term};
-ghost use Rattle.prem_meaning.specs.Resolve.{kind_of, variable_term, element_term, resolve_term};
+ghost use Rattle.prem_syntax.specs.Resolved.{Term};
+ghost use Rattle.prem_syntax.specs.Resolve.{kind_of, variable_term, element_term, resolve_term};
 ghost use Rattle.prem_names.specs.Scopes.{scope_of};
 
 use prem_syntax::{Expr, Kind, Place, UnOp};
@@ -27,7 +27,7 @@ fn element_kind(meaning: Meaning) -> Kind
 }
 
 /// The kind of an expression. What can't stand where it stands counts as int.
-#[tactic(auto, using(prem_meaning::proofs::KindLaws::kind_of_operator))]
+#[tactic(auto, using(prem_syntax::proofs::KindLaws::kind_of_operator))]
 pub fn kind_of(names: &Names, e: &Expr) -> Kind
     ensures { result ≡ kind_of (resolve_term (scope_of names.now) (expression_of e.now)) }
 {

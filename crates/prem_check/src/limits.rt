@@ -4,8 +4,8 @@ ghost use Rattle.std.specs.Option.{option_map};
 ghost use Rattle.std.specs.List.{list_any};
 ghost use Rattle.prem_syntax.specs.Syntax.{FunctionText, GlobalVariable};
 ghost use Rattle.prem_syntax.specs.SyntaxOf.{function_of, global_of, mark_of};
-ghost use Rattle.prem_meaning.specs.Rules.{Limit, NoJob, first_of};
-ghost use Rattle.prem_meaning.specs.Breaches.{if_broken, is_stated, is_length, regions_of, is_job_name, in_limits};
+ghost use Rattle.prem_syntax.specs.Rules.{Limit, NoJob, first_of};
+ghost use Rattle.prem_syntax.specs.Breaches.{if_broken, is_stated, is_length, regions_of, is_job_name, in_limits};
 ghost use Rattle.prem_check.specs.FoundOf.{found_of};
 
 use crate::found::{Broken, earlier};

@@ -3,7 +3,7 @@ ghost use Rattle.std.specs.Prelude.{◌≡◌};
 ghost use Rattle.std.specs.Option.{option_map};
 ghost use Rattle.prem_syntax.specs.Name.{name_bytes};
 ghost use Rattle.prem_syntax.specs.SyntaxOf.{expression_of, loop_names_of, statement_of, statements_of};
-ghost use Rattle.prem_meaning.specs.Breaches.{is_int_local, same_name, is_name, assigns, assigns_within, is_int, is_between, is_loop};
+ghost use Rattle.prem_syntax.specs.Breaches.{is_int_local, same_name, is_name, assigns, assigns_within, is_int, is_between, is_loop};
 ghost use Rattle.prem_names.specs.Scopes.{scope_of};
 
 use crate::kinds::kind_of;

@@ -4,11 +4,11 @@ ghost use Rattle.prem_list.specs.Sequence.{items_of};
 ghost use Rattle.prem_syntax.specs.Name.{name_bytes};
 ghost use Rattle.prem_syntax.specs.Syntax.{ProgramText};
 ghost use Rattle.prem_syntax.specs.SyntaxOf.{global_of, function_of, item_of, program_of};
-ghost use Rattle.prem_meaning.specs.Resolve.{globals_of, functions_of};
-ghost use Rattle.prem_meaning.specs.Rules.{first, first_of};
-ghost use Rattle.prem_meaning.specs.Breaches.{in_global, in_function, item_name, item_names, in_items, reached};
-ghost use Rattle.prem_meaning.specs.Reach.{is_in_set};
-ghost use Rattle.prem_meaning.specs.GroupTwo.{group_two};
+ghost use Rattle.prem_syntax.specs.Resolve.{globals_of, functions_of};
+ghost use Rattle.prem_syntax.specs.Rules.{first, first_of};
+ghost use Rattle.prem_syntax.specs.Breaches.{in_global, in_function, item_name, item_names, in_items, reached};
+ghost use Rattle.prem_syntax.specs.Reach.{is_in_set};
+ghost use Rattle.prem_syntax.specs.GroupTwo.{group_two};
 ghost use Rattle.prem_check.specs.FoundOf.{found_of};
 ghost use Rattle.prem_check.specs.Walk.{functions_in, globals_in, before_in, first_behind, BehindGlobal, BehindFunction};
 

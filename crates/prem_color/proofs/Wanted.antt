@@ -8,7 +8,7 @@ use Rattle.prem_plant.specs.declared.plant.Plant.{Plant}
 use Rattle.prem_plant.specs.declared.layout.PartSize.{PartSize}
 use Rattle.prem_plant.specs.declared.layout.PartKind.TheVariants.{Start}
 use Rattle.prem_plant.specs.Places.{Extent, ArePlaces}
-use Rattle.prem_meaning.specs.Resolved.{Resolved}
+use Rattle.prem_syntax.specs.Resolved.{Resolved}
 use Rattle.prem_layout.specs.Plans.{Region, Plan, plans_of}
 use Rattle.prem_layout.specs.Parts.{element_size, part, part_count}
 use Rattle.prem_layout.specs.Footprint.{TaskPlaces, Conflict, no_place, place_at, index_of, code_range, stub_range, stack_place, stack_range, region_range, ranges_of, lines_of, conflict_of}

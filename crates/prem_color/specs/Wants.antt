@@ -2,7 +2,7 @@
 use Rattle.std.specs.Prelude.{ℕ, ◌+◌, ◌-◌, ◌*◌, List, [], ◌∷◌, ◌++◌, length, map, slice_index, slice_index_or}
 use Rattle.prem_plant.specs.declared.layout.PartKind.TheVariants.{Start}
 use Rattle.prem_plant.specs.declared.layout.PartSize.{PartSize}
-use Rattle.prem_meaning.specs.Resolved.{Resolved}
+use Rattle.prem_syntax.specs.Resolved.{Resolved}
 use Rattle.prem_layout.specs.Plans.{Region, Plan, plans_of}
 use Rattle.prem_layout.specs.Parts.{element_size, part, part_count}
 use Rattle.prem_layout.specs.Footprint.{index_of}

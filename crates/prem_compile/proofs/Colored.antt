@@ -8,7 +8,7 @@ use Rattle.prem_plant.specs.declared.layout.PartSize.{PartSize}
 use Rattle.prem_plant.specs.Places.{Extent, ArePlaces}
 use Rattle.prem_syntax.specs.Syntax.{ProgramText}
 use Rattle.prem_asm.specs.Pieces.{size_of}
-use Rattle.prem_template.specs.Parts.{parts_of as code_parts_of}
+use Rattle.prem_layout.specs.Template.Parts.{parts_of as code_parts_of}
 use Rattle.prem_layout.specs.Parts.{Passes, stub_passes, task_parts, parts_from, area_parts, part_count}
 use Rattle.prem_layout.specs.Placed.{Coded, Placed, sized_of, parts_of, placed_from, part_total}
 use Rattle.prem_layout.specs.Rules.{LateRule, or_else, refused_by, first_among, over_tasks, group_seven}

@@ -12,8 +12,8 @@ use Rattle.prem_syntax.specs.Syntax.{ProgramText}
 use Rattle.prem_syntax.specs.Name.{name_bytes}
 use Rattle.prem_syntax.specs.SyntaxOf.{global_of}
 use Rattle.prem_syntax.specs.declared.tree.Global.{Global as GlobalTree}
-use Rattle.prem_meaning.specs.Resolved.{Resolved}
-use Rattle.prem_template.specs.Parts.{parts_of as code_parts_of}
+use Rattle.prem_syntax.specs.Resolved.{Resolved}
+use Rattle.prem_layout.specs.Template.Parts.{parts_of as code_parts_of}
 use Rattle.prem_layout.specs.Plans.{Plan, plans_of}
 use Rattle.prem_layout.specs.Parts.{part_count}
 use Rattle.prem_layout.specs.Placed.{Coded, parts_of}

@@ -12,13 +12,13 @@ use Rattle.prem_plant.specs.declared.layout.PartKind.TheVariants.{Start, Global,
 use Rattle.prem_syntax.specs.declared.tree.Ty.{Ty}
 use Rattle.prem_syntax.specs.declared.tree.Ty.TheVariants.{Void, Int, Unsigned, Short, Ushort, Schar, Uchar}
 use Rattle.prem_syntax.specs.Syntax.{GlobalVariable, ProgramText}
-use Rattle.prem_meaning.specs.GroupTwo.{IsWellFormed}
-use Rattle.prem_meaning.specs.Resolve.{globals_of, resolve}
-use Rattle.prem_meaning.specs.Resolved.{Routine, Resolved}
+use Rattle.prem_syntax.specs.GroupTwo.{IsWellFormed}
+use Rattle.prem_syntax.specs.Resolve.{globals_of, resolve}
+use Rattle.prem_syntax.specs.Resolved.{Routine, Resolved}
 use Rattle.prem_asm.specs.Pieces.{Pieces, size_of}
-use Rattle.prem_template.specs.Frames.{stack_size}
-use Rattle.prem_template.specs.Steps.{Parts}
-use Rattle.prem_template.specs.Parts.{codes_of, parts_of as code_parts_of}
+use Rattle.prem_layout.specs.Template.Frames.{stack_size}
+use Rattle.prem_layout.specs.Template.Steps.{Parts}
+use Rattle.prem_layout.specs.Template.Parts.{codes_of, parts_of as code_parts_of}
 use Rattle.prem_layout.specs.Plans.{Region, Plan, plans_of}
 use Rattle.prem_layout.specs.Parts.{Passes, stub_passes, element_size, global_size, part, task_parts, parts_from, area_parts, part_count}
 use Rattle.prem_layout.specs.Footprint.{index_of}
@@ -32,9 +32,9 @@ use Rattle.prem_color.specs.Wants.{Shape, shape_of, size_at, element_at, global_
 use Rattle.prem_color.specs.Standing.{RegionStands, PlanStands, TasksStand}
 use Rattle.prem_tasks.specs.Broken.{TaskSet, programs_of}
 use Rattle.prem_tasks.specs.Compiled.{coded_in, parts_in}
-use Rattle.prem_stub_laws.specs.Initial.Standing.{count_of}
-use Rattle.prem_task_laws.specs.TaskFrame.Plans.{IsRegion, IsLegalPlan}
-use Rattle.prem_task_laws.proofs.LegalPlansLemmas.Legal.{plans_are_legal}
+use Rattle.prem_sets_sound.specs.StubLaws.Initial.Standing.{count_of}
+use Rattle.prem_sets_sound.specs.TaskLaws.TaskFrame.Plans.{IsRegion, IsLegalPlan}
+use Rattle.prem_sets_sound.proofs.TaskLawsLemmas.LegalPlansLemmas.Legal.{plans_are_legal}
 
 -- ---- lists
 

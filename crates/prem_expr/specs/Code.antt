@@ -2,14 +2,14 @@
 use Rattle.std.specs.Prelude.{ℕ, ◌+◌, Option}
 use Rattle.prem_plant.specs.declared.plant.Target.{Target}
 use Rattle.prem_syntax.specs.Syntax.{Expression, ProgramText}
-use Rattle.prem_meaning.specs.Resolve.{functions_of}
+use Rattle.prem_syntax.specs.Resolve.{functions_of}
 use Rattle.prem_asm.specs.Pieces.{Pieces}
-use Rattle.prem_template.specs.Limits.{Excess}
-use Rattle.prem_template.specs.Terms.{term_code}
-use Rattle.prem_expr.specs.Scope.{frame_in, term_in}
-use Rattle.prem_expr.specs.Marks.{first_global}
+use Rattle.prem_layout.specs.Template.Limits.{Excess}
+use Rattle.prem_layout.specs.Template.Terms.{term_code}
 use Rattle.prem_gen.specs.Term.Numbers.{from_part}
 use Rattle.prem_gen.specs.Term.Excess.{term_excess}
+use Rattle.prem_expr.specs.Scope.{frame_in, term_in}
+use Rattle.prem_expr.specs.Marks.{first_global}
 
 -- the register of the k-th value: the first of twelve is x10
 abbrev pub value_register : ℕ → ℕ

@@ -2,20 +2,20 @@
 ghost use Rattle.std.specs.Prelude.{◌≡◌, ◌<◌, ◌≤◌, IfOk, length};
 ghost use Rattle.prem_list.specs.Sequence.{items_of};
 ghost use Rattle.prem_syntax.specs.SyntaxOf.{expression_of, program_of};
-ghost use Rattle.prem_meaning.specs.GroupTwo.{IsWellFormed};
-ghost use Rattle.prem_meaning.specs.Resolve.{functions_of};
+ghost use Rattle.prem_syntax.specs.GroupTwo.{IsWellFormed};
+ghost use Rattle.prem_syntax.specs.Resolve.{functions_of};
 ghost use Rattle.prem_tree.specs.Resolve.ResolvedOf.{term_of};
-ghost use Rattle.prem_analyse.specs.Analysed.{analysed_text};
+ghost use Rattle.prem_analysis.specs.Analysed.{analysed_text};
 ghost use Rattle.prem_asm.specs.PiecesOf.{pieces_of};
-ghost use Rattle.prem_expr.specs.Scope.{frame_in, term_in};
-ghost use Rattle.prem_expr.specs.Code.{expression_code, expression_excess};
 ghost use Rattle.prem_gen.specs.Term.Excess.{Refuses};
 ghost use Rattle.prem_gen.specs.Term.Numbers.{HasSmall};
+ghost use Rattle.prem_expr.specs.Scope.{frame_in, term_in};
+ghost use Rattle.prem_expr.specs.Code.{expression_code, expression_excess};
 
 use crate::face::frame;
 use crate::marks::first_global;
 use crate::names::names_in;
-use prem_analyse::Analysed;
+use prem_analysis::Analysed;
 use prem_asm::{Piece, Sequence};
 use prem_gen::term::{GenFail, gen_fail, term_alone};
 use prem_plant::Target;

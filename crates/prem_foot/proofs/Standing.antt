@@ -14,15 +14,15 @@ use Rattle.prem_syntax.specs.declared.rules.TypeRule.TheVariants.{Region as Regi
 use Rattle.prem_syntax.specs.declared.tree.Ty.{Ty}
 use Rattle.prem_syntax.specs.declared.tree.Ty.TheVariants.{Void, Int, Unsigned, Short, Ushort, Schar, Uchar}
 use Rattle.prem_syntax.specs.Syntax.{Text, RegionText, MarkText, GlobalVariable, FunctionText, global_item, function_item, ProgramText}
-use Rattle.prem_meaning.specs.Resolved.{Routine, Resolved}
-use Rattle.prem_meaning.specs.Resolve.{Scope, find_named, find_global, scope_at, scope_in, loops_within, resolve_items, globals_of, functions_of, resolve}
-use Rattle.prem_meaning.specs.Rules.{NoJob, OfTypes}
-use Rattle.prem_meaning.specs.Breaches.{in_region, in_regions, regions_of, in_heading, in_parameters, in_locals, in_statements, in_option, around, parameter_texts, in_function, in_global, in_items, item_names, in_limits, reached, is_job_name, if_broken}
-use Rattle.prem_meaning.specs.Reach.{is_in_set}
+use Rattle.prem_syntax.specs.Resolved.{Routine, Resolved}
+use Rattle.prem_syntax.specs.Resolve.{Scope, find_named, find_global, scope_at, scope_in, loops_within, resolve_items, globals_of, functions_of, resolve}
+use Rattle.prem_syntax.specs.Rules.{NoJob, OfTypes}
+use Rattle.prem_syntax.specs.Breaches.{in_region, in_regions, regions_of, in_heading, in_parameters, in_locals, in_statements, in_option, around, parameter_texts, in_function, in_global, in_items, item_names, in_limits, reached, is_job_name, if_broken}
+use Rattle.prem_syntax.specs.Reach.{is_in_set}
 use Rattle.prem_ranges.proofs.Basics.{none_left, none_right}
 use Rattle.prem_ranges.proofs.Named.{kept_rule, found_at}
 use Rattle.prem_ranges.proofs.WellFormed.{all_breaches}
-use Rattle.prem_template.specs.Frames.{frame_at, depth_of, deepest_marked, stack_size}
+use Rattle.prem_layout.specs.Template.Frames.{frame_at, depth_of, deepest_marked, stack_size}
 use Rattle.prem_layout.specs.Plans.{Plan, Region, number_or, global_number, region_of, plan_before, plans_from, plans_of}
 use Rattle.prem_layout.specs.Parts.{Passes, element_size, global_size, code_parts, stub_parts, global_parts, part, task_parts, part_count}
 use Rattle.prem_layout.specs.Footprint.{no_place, place_at, global_range, stack_place}

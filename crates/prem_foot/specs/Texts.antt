@@ -2,8 +2,8 @@
 use Rattle.std.specs.Prelude.{List}
 use Rattle.prem_plant.specs.Places.{Extent}
 use Rattle.prem_syntax.specs.Syntax.{ProgramText}
-use Rattle.prem_meaning.specs.Resolve.{resolve}
-use Rattle.prem_meaning.specs.Source.{unlimited}
+use Rattle.prem_syntax.specs.Resolve.{resolve}
+use Rattle.prem_syntax.specs.Source.{unlimited}
 use Rattle.prem_layout.specs.Footprint.{TaskPlaces}
 use Rattle.prem_layout.specs.Placed.{task_places}
 

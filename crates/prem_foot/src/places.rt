@@ -6,7 +6,7 @@ ghost use Rattle.prem_layout.specs.Footprint.{index_of};
 ghost use Rattle.prem_split.specs.PlansWith.{marks_of};
 ghost use Rattle.prem_foot.specs.PlacesFrom.{marked_if, marked_from};
 
-use prem_analyse::Analysed;
+use prem_analysis::Analysed;
 use prem_plant::{FnId, Layout};
 use prem_syntax::{Global as GlobalTree, Mark, Ty};
 use prem_tree::resolve::{Resolved, Routine, resolve};
@@ -38,7 +38,7 @@ impl Model for TaskPlaces {
 impl TaskPlaces {
     ghost use Rattle.std.specs.Prelude.{◌≡◌, ◌+◌, ◌≤◌, length, drop, slice_index, IfOk};
     ghost use Rattle.prem_list.specs.Sequence.{items_of};
-    ghost use Rattle.prem_analyse.specs.Analysed.{analysed_text};
+    ghost use Rattle.prem_analysis.specs.Analysed.{analysed_text};
     ghost use Rattle.prem_layout.specs.Footprint.{place_at, code_range, stub_range, global_range, stack_place, stack_range_of, region_range};
     ghost use Rattle.prem_foot.specs.PlacesFrom.{places_in};
     ghost use Rattle.prem_foot.specs.Texts.{places_of};

@@ -1,7 +1,7 @@
 -- What is read of a text at the end of its tokens.
 use Rattle.std.proofs.Common.{◌≡◌, List, Ok, true, false, refl}
 use Rattle.prem_syntax.specs.Syntax.{ItemText}
-use Rattle.prem_lexer.specs.Token.Reading.{no_program}
+use Rattle.prem_text.specs.Lexing.Token.Reading.{no_program}
 use Rattle.prem_text.specs.Grammar.Item.{Stage, finished}
 use Rattle.prem_text.specs.Grammar.Reader.{nowhere, at_end}
 use Rattle.prem_front.specs.Ends.{is_finished}

@@ -1,8 +1,8 @@
 -- A refusal passed on.
 use Rattle.std.proofs.Common.{Result, ap}
-use Rattle.prem_lexer.specs.declared.token.fail.FrontFail.{FrontFail}
-use Rattle.prem_lexer.specs.declared.token.fail.FrontFail.TheVariants.{NotText, Token, Syntax, TooLong, TooDeep, OutOfMemory}
-use Rattle.prem_lexer.specs.Token.Reading.{◌>>=◌, Fails}
+use Rattle.prem_text.specs.declared.lexing.token.fail.FrontFail.{FrontFail}
+use Rattle.prem_text.specs.declared.lexing.token.fail.FrontFail.TheVariants.{NotText, Token, Syntax, TooLong, TooDeep, OutOfMemory}
+use Rattle.prem_text.specs.Lexing.Token.Reading.{◌>>=◌, Fails}
 
 pub passed_on : {A B : Type 0} (fail : FrontFail) (first : Result A FrontFail) (f : A → Result B FrontFail) → Fails fail first → Fails fail (first >>= f)
 passed_on OutOfMemory first f is = tt

@@ -2,17 +2,17 @@
 ghost use Rattle.std.specs.Prelude.{◌≡◌, IfOk, map};
 ghost use Rattle.prem_list.specs.Sequence.{items_of};
 ghost use Rattle.prem_syntax.specs.SyntaxOf.{mark_of, region_of};
-ghost use Rattle.prem_lexer.specs.Token.Lexeme.{seen_of};
+ghost use Rattle.prem_text.specs.Lexing.Token.Lexeme.{seen_of};
 ghost use Rattle.prem_text.specs.Grammar.Item.{item_begins, behind_mark, with_region, row_ends, mark_row, region_row};
 ghost use Rattle.prem_front.specs.StageOf.{step_of};
 
 use crate::global::begin_row;
 use crate::stage::{Declared, ItemRow, ItemStep, Stage};
 use crate::typing::type_begins;
-use prem_lexer::token::{Spotted, Token, Word};
 use prem_list::Sequence;
 use prem_reader::statement::{Slot, name_at, place_at, value_at};
 use prem_syntax::{Mark, Region};
+use prem_text::lexing::token::{Spotted, Token, Word};
 use std::alloc::{AllocError, Global};
 
 /// Behind `PREDICTABLE (`.

@@ -2,7 +2,7 @@
 ghost use Rattle.std.specs.Prelude.{◌≡◌, IfOk, map};
 ghost use Rattle.prem_list.specs.Sequence.{items_of};
 ghost use Rattle.prem_syntax.specs.SyntaxOf.{expression_of, statement_of, parameter_of, local_of, function_of};
-ghost use Rattle.prem_lexer.specs.Token.Lexeme.{seen_of};
+ghost use Rattle.prem_text.specs.Lexing.Token.Lexeme.{seen_of};
 ghost use Rattle.prem_text.specs.Grammar.Statement.{listed};
 ghost use Rattle.prem_text.specs.Grammar.Item.{parameter_begins, parameter_ends, parameter_goes_on, with_local, with_body, with_result, value_begins, body_ends, statement_step, local_begins, value_ends, value_goes_on};
 ghost use Rattle.prem_reader.specs.Expression.StateOf.{state_of};
@@ -12,7 +12,6 @@ ghost use Rattle.prem_front.specs.StageOf.{value_of, stage_of, step_of};
 use crate::global::{begin_row, with_parameter};
 use crate::stage::{Declared, ItemRow, ItemStep, Stage, Typing, Value};
 use crate::typing::{NOTHING, begins_type, type_begins};
-use prem_lexer::token::{Spotted, Token, Word};
 use prem_list::Sequence;
 use prem_reader::expression::{Move, Open, State, advance};
 use prem_reader::statement::{
@@ -20,6 +19,7 @@ use prem_reader::statement::{
     turn,
 };
 use prem_syntax::{Expr, Function, Item, Local, Param, Stmt};
+use prem_text::lexing::token::{Spotted, Token, Word};
 use std::alloc::{AllocError, Global};
 
 /// The greatest number of tokens of an expression, and one more: past it nothing is left of the room.

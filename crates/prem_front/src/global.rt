@@ -4,20 +4,20 @@ ghost use Rattle.std.specs.Option.{option_map};
 ghost use Rattle.prem_list.specs.Sequence.{items_of};
 ghost use Rattle.prem_syntax.specs.Name.{name_bytes};
 ghost use Rattle.prem_syntax.specs.SyntaxOf.{mark_of, global_of, initial_of, parameter_of, function_of};
-ghost use Rattle.prem_lexer.specs.Token.Lexeme.{lexeme_of, seen_of};
+ghost use Rattle.prem_text.specs.Lexing.Token.Lexeme.{lexeme_of, seen_of};
 ghost use Rattle.prem_text.specs.Grammar.Item.{begin_row, scalar, with_length, with_initial, global_ends, new_function, global_or, item_goes_on, constant_of as number_of, minus_once, constant, constant_ends, range_high, only_value, with_parameter, with_range, next_value, initial_begins};
 ghost use Rattle.prem_reader.specs.Statement.SlotOf.{slot_of};
 ghost use Rattle.prem_front.specs.StageOf.{row_of, constant_of, stage_of, step_of};
 
 use crate::stage::{Constant, ItemRow, ItemStep, Stage};
 use crate::typing::NOTHING;
-use prem_lexer::token::{Mark as Sign, Spotted, Token};
 use prem_list::Sequence;
 use prem_reader::statement::{
     Slot, boxed, copy_spotted, is_comma, is_equal, is_left_brace, is_left_bracket,
     is_left_parenthesis, is_right_brace, is_right_parenthesis, is_semicolon,
 };
 use prem_syntax::{Function, Global as Variable, Initial, Item, Mark, Name, Param, Place, Ty};
+use prem_text::lexing::token::{Mark as Sign, Spotted, Token};
 use std::alloc::{AllocError, Global};
 
 /// Behind `[ literal`.

@@ -1,7 +1,7 @@
 // Reading the items of a program, one token after the other.
 ghost use Rattle.std.specs.Prelude.{◌≡◌, IfOk, map};
 ghost use Rattle.prem_list.specs.Sequence.{items_of};
-ghost use Rattle.prem_lexer.specs.Token.Lexeme.{lexeme_of, seen_of};
+ghost use Rattle.prem_text.specs.Lexing.Token.Lexeme.{lexeme_of, seen_of};
 ghost use Rattle.prem_text.specs.Grammar.Item.{in_row, row_ends, row_goes_on, step, is_too_deep};
 ghost use Rattle.prem_reader.specs.Statement.SlotOf.{slot_of};
 ghost use Rattle.prem_front.specs.StageOf.{row_of, stage_of, step_of};
@@ -16,10 +16,10 @@ use crate::global::{
 };
 use crate::stage::{Constant, ItemRow, ItemStep, Stage, Value};
 use crate::typing::type_or_name;
-use prem_lexer::token::Spotted;
 use prem_list::Sequence;
 use prem_reader::statement::{Slot, copy_spotted, fits, is_past, turn, value_at};
 use prem_syntax::Item;
+use prem_text::lexing::token::Spotted;
 use std::alloc::{AllocError, Global};
 
 /// A row has all its tokens.

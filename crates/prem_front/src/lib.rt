@@ -9,6 +9,6 @@ mod program;
 mod stage;
 mod typing;
 
-pub use prem_lexer::token::FrontFail;
 pub use prem_print::print;
+pub use prem_text::lexing::token::FrontFail;
 pub use program::parse;

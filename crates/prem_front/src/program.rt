@@ -2,8 +2,8 @@
 ghost use Rattle.std.specs.Prelude.{◌≡◌, map};
 ghost use Rattle.prem_list.specs.Sequence.{items_of};
 ghost use Rattle.prem_syntax.specs.SyntaxOf.{item_of, program_of};
-ghost use Rattle.prem_lexer.specs.Token.Reading.{Gives};
-ghost use Rattle.prem_lexer.specs.Token.Lexeme.{seen_of};
+ghost use Rattle.prem_text.specs.Lexing.Token.Reading.{Gives};
+ghost use Rattle.prem_text.specs.Lexing.Token.Lexeme.{seen_of};
 ghost use Rattle.prem_text.specs.Grammar.Reader.{at_end, read};
 ghost use Rattle.prem_text.specs.Texts.{reads};
 ghost use Rattle.prem_front.specs.Ends.{is_finished};
@@ -11,10 +11,10 @@ ghost use Rattle.prem_front.specs.StageOf.{stage_of};
 
 use crate::item::{is_too_deep, step};
 use crate::stage::{ItemStep, Stage};
-use prem_lexer::token::{FrontFail, Spotted};
-use prem_lexer::tokens;
 use prem_list::Sequence;
 use prem_syntax::{Item, Place, Program};
+use prem_text::lexing::token::{FrontFail, Spotted};
+use prem_text::lexing::tokens;
 use std::alloc::Global;
 
 /// No program has the token at a place.

@@ -1,9 +1,9 @@
 // Where the reader of a program stands. What is large in a stage stands behind a `Box`, as in a point of statements.
-use prem_lexer::token::Spotted;
 use prem_list::Sequence;
 use prem_reader::expression::State;
 use prem_reader::statement::{Point, Slot};
 use prem_syntax::{Function, Global, Item, Mark, Name, Param, Place, Ty};
+use prem_text::lexing::token::Spotted;
 
 /// How far a type is read: `unsigned` is one, and the beginning of others.
 #[derive(Clone, Copy, Debug)]

@@ -2,15 +2,15 @@
 ghost use Rattle.std.specs.Prelude.{◌≡◌, IfOk};
 ghost use Rattle.std.specs.Option.{option_map};
 ghost use Rattle.prem_syntax.specs.Name.{name_bytes};
-ghost use Rattle.prem_lexer.specs.Token.Lexeme.{lexeme_of, seen_of};
+ghost use Rattle.prem_text.specs.Lexing.Token.Lexeme.{lexeme_of, seen_of};
 ghost use Rattle.prem_text.specs.Grammar.Item.{type_begun, behind_signed, behind_unsigned, type_word, type_in, declared, type_or_name, type_begins, begins_type};
 ghost use Rattle.prem_front.specs.StageOf.{typing_of, declared_of, stage_of, step_of};
 
 use crate::stage::{Declared, ItemRow, ItemStep, Stage, Typing};
-use prem_lexer::token::{Spotted, Token, Word};
 use prem_list::Sequence;
 use prem_reader::statement::{Slot, boxed};
 use prem_syntax::{Name, Param, Place, Ty, copy_name};
+use prem_text::lexing::token::{Spotted, Token, Word};
 use std::alloc::{AllocError, Global};
 
 /// No tokens.

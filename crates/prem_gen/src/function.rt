@@ -1,18 +1,18 @@
 // The code of a function of an analysed program.
 ghost use Rattle.std.specs.Prelude.{◌≡◌, ◌<◌, ◌^◌, All, length, map, slice_index, IfOk};
 ghost use Rattle.prem_list.specs.Sequence.{items_of};
-ghost use Rattle.prem_meaning.specs.Resolve.{functions_of};
+ghost use Rattle.prem_syntax.specs.Resolve.{functions_of};
 ghost use Rattle.prem_ranges.specs.GroupThree.{turn_bounds};
-ghost use Rattle.prem_analyse.specs.Analysed.{analysed_text};
+ghost use Rattle.prem_analysis.specs.Analysed.{analysed_text};
 ghost use Rattle.prem_asm.specs.PiecesOf.{pieces_of};
-ghost use Rattle.prem_template.specs.Limits.{excess};
-ghost use Rattle.prem_template.specs.Parts.{parts_of, codes_of};
+ghost use Rattle.prem_layout.specs.Template.Limits.{excess};
+ghost use Rattle.prem_layout.specs.Template.Parts.{parts_of, codes_of};
 ghost use Rattle.prem_gen.specs.Term.Excess.{Refuses};
 ghost use Rattle.prem_gen.specs.Codes.Codes.{code_at, excess_at, CalleesFit};
 ghost use Rattle.prem_gen.specs.Compiled.{compiled};
 
 use crate::codes::{FnId, GenFail, codes, function_code};
-use prem_analyse::Analysed;
+use prem_analysis::Analysed;
 use prem_asm::{Piece, Sequence};
 use prem_plant::Target;
 use prem_tree::resolve::resolve;

@@ -2,8 +2,8 @@
 use Rattle.std.specs.Option.{option_map}
 use Rattle.std.proofs.Common.{◌≡◌, ◌≢◌, Option, None, Some, refl, sym}
 use Rattle.prem_syntax.specs.Syntax.{ProgramText}
-use Rattle.prem_meaning.specs.Rules.{Breach}
-use Rattle.prem_meaning.specs.GroupTwo.{group_two}
+use Rattle.prem_syntax.specs.Rules.{Breach}
+use Rattle.prem_syntax.specs.GroupTwo.{group_two}
 use Rattle.prem_check.specs.Told.{IsRefusal, Told, told_of, said}
 use Rattle.prem_check.specs.declared.fail.CheckFail.{CheckFail}
 use Rattle.prem_check.specs.declared.fail.CheckFail.TheVariants as f

@@ -4,10 +4,10 @@ use Rattle.std.specs.Option.{option_map}
 use Rattle.std.specs.Str.{bytes_eq}
 use Rattle.prem_syntax.specs.declared.tree.Place.{Place}
 use Rattle.prem_syntax.specs.Syntax.{Text, FunctionText, ItemText, ProgramText, global_item, function_item}
-use Rattle.prem_meaning.specs.Rules.{Breach}
-use Rattle.prem_meaning.specs.GroupTwo.{group_two}
-use Rattle.prem_lexer.specs.declared.token.fail.FrontFail.{FrontFail}
-use Rattle.prem_lexer.specs.declared.token.fail.FrontFail.TheVariants.{TooLong, NotText, Token, Syntax, TooDeep, OutOfMemory}
+use Rattle.prem_syntax.specs.Rules.{Breach}
+use Rattle.prem_syntax.specs.GroupTwo.{group_two}
+use Rattle.prem_text.specs.declared.lexing.token.fail.FrontFail.{FrontFail}
+use Rattle.prem_text.specs.declared.lexing.token.fail.FrontFail.TheVariants.{TooLong, NotText, Token, Syntax, TooDeep, OutOfMemory}
 use Rattle.prem_text.specs.Texts.{reads}
 use Rattle.prem_ranges.specs.RangeRules.{RangeBreach}
 use Rattle.prem_ranges.specs.GroupThree.{group_three}

@@ -3,7 +3,7 @@ ghost use Rattle.std.specs.Prelude.{◌≡◌, ◌-◌, ◌++◌, OnOk, decimal,
 ghost use Rattle.std.specs.Fmt.{signed_decimal};
 ghost use Rattle.prem_word.specs.Ranges.{span_of};
 ghost use Rattle.prem_syntax.specs.Name.{name_bytes};
-ghost use Rattle.prem_lexer.specs.declared.token.fail.FrontFail.TheVariants.{NotText};
+ghost use Rattle.prem_text.specs.declared.lexing.token.fail.FrontFail.TheVariants.{NotText};
 ghost use Rattle.prem_layout.specs.Rules.{ConflictIn, Length, MemoryFull};
 ghost use Rattle.prem_tasks.specs.Told.{told_of};
 ghost use Rattle.prem_lint.specs.Messages.{argument_message, count_message, divisor_message, front_message, index_message, late_message, message, region_message, type_message};

@@ -4,7 +4,7 @@ ghost use Rattle.std.specs.Option.{option_map};
 ghost use Rattle.prem_syntax.specs.Name.{name_bytes};
 ghost use Rattle.prem_syntax.specs.SyntaxOf.{item_of, program_of};
 ghost use Rattle.prem_syntax.specs.Literals.{ProgramHasWords};
-ghost use Rattle.prem_meaning.specs.GroupTwo.{IsWellFormed};
+ghost use Rattle.prem_syntax.specs.GroupTwo.{IsWellFormed};
 ghost use Rattle.prem_tree.specs.Checked.{checked_program};
 ghost use Rattle.prem_ranges.specs.GroupThree.{group_three};
 ghost use Rattle.prem_tasks.specs.Told.{told_of};

@@ -14,9 +14,9 @@ use Rattle.prem_cycle.specs.Core.{CoreMove, CoreTurn, Issues, core_issued, core_
 use Rattle.prem_cycle.specs.Cycle.{Arrivals, arrivals_at, bus_at, cycle_of, is_full, is_over, joined, move_at, step_of, ticked, with_clash, with_memory}
 use Rattle.prem_cycle.specs.Run.{cycles_of}
 use Rattle.prem_cycle.proofs.RunLaws.{cycles_of-add, step_of-goes}
-use Rattle.prem_runs.specs.Dull.Issuing.{IssuesAlone, continues, idle_turn}
-use Rattle.prem_runs.proofs.DullLemmas.Alone.{issues_alone}
-use Rattle.prem_runs.proofs.DullLemmas.Stretch.{none_arrives}
+use Rattle.prem_cycle.specs.Runs.Dull.Issuing.{IssuesAlone, continues, idle_turn}
+use Rattle.prem_cycle.proofs.RunsLemmas.DullLemmas.Alone.{issues_alone}
+use Rattle.prem_cycle.proofs.RunsLemmas.DullLemmas.Stretch.{none_arrives}
 use Rattle.prem_machine.specs.Stretch.{IsLone}
 use Rattle.prem_machine.proofs.Resting.{unclashed}
 

@@ -12,7 +12,7 @@ use Rattle.prem_gate.specs.Stretch.{AreQuiet, BusRun, IsNextChange, bus_run, cha
 use Rattle.prem_gate.proofs.Quiet.{free_passed, quiet_turn}
 use Rattle.prem_cycle.specs.declared.state.Mode.TheVariants.{Running}
 use Rattle.prem_cycle.specs.State.{no_debt}
-use Rattle.prem_runs.specs.Dull.Issuing.{idle_turn}
+use Rattle.prem_cycle.specs.Runs.Dull.Issuing.{idle_turn}
 use Rattle.prem_machine.specs.declared.parts.Parts.{Parts}
 use Rattle.prem_machine.specs.Owed.{debt_of}
 use Rattle.prem_machine.specs.Parts.{state_of}

@@ -30,14 +30,14 @@ use Rattle.prem_cycle.specs.Run.{cycles_of}
 use Rattle.prem_cycle.specs.declared.facts.DeviceFacts.{DeviceFacts}
 use Rattle.prem_cycle.specs.Core.{phase_in}
 use Rattle.prem_cycle.proofs.RunLaws.{step_of-goes, step_of-stays, cycles_of-add}
-use Rattle.prem_runs.specs.Window.Windows.{WindowsHold}
-use Rattle.prem_runs.specs.Dull.Dull.{AreDull, IsDull, IsNextEvent}
-use Rattle.prem_runs.specs.Dull.Rest.{Within, NoneArrive, Rests, IsSteady, bus_rest, idle_rest, core_rest}
-use Rattle.prem_runs.specs.Window.Windows.{closing_at}
-use Rattle.prem_runs.proofs.WindowLemmas.Cycles.{cycle_holds}
-use Rattle.prem_runs.proofs.DullLemmas.Steps.{within_both, want_by}
-use Rattle.prem_runs.proofs.DullLemmas.Stretch.{rests_dull}
-use Rattle.prem_runs.proofs.DullLemmas.Dull.{dull_rest}
+use Rattle.prem_cycle.specs.Runs.Window.Windows.{WindowsHold}
+use Rattle.prem_cycle.specs.Runs.Dull.Dull.{AreDull, IsDull, IsNextEvent}
+use Rattle.prem_cycle.specs.Runs.Dull.Rest.{Within, NoneArrive, Rests, IsSteady, bus_rest, idle_rest, core_rest}
+use Rattle.prem_cycle.specs.Runs.Window.Windows.{closing_at}
+use Rattle.prem_cycle.proofs.RunsLemmas.WindowLemmas.Cycles.{cycle_holds}
+use Rattle.prem_cycle.proofs.RunsLemmas.DullLemmas.Steps.{within_both, want_by}
+use Rattle.prem_cycle.proofs.RunsLemmas.DullLemmas.Stretch.{rests_dull}
+use Rattle.prem_cycle.proofs.RunsLemmas.DullLemmas.Dull.{dull_rest}
 use Rattle.prem_machine.specs.declared.work.Setting.{Setting}
 use Rattle.prem_machine.specs.declared.parts.Parts.{Parts}
 use Rattle.prem_machine.specs.Parts.{Runs, Stands, state_of}

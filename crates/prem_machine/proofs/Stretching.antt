@@ -19,8 +19,8 @@ use Rattle.prem_cycle.specs.Run.{cycles_of}
 use Rattle.prem_cycle.specs.State.{Counts, Log, MachineState, Setup, rule_in}
 use Rattle.prem_cycle.proofs.RunLaws.{cycles_of-add, step_of-goes}
 use Rattle.prem_cycle.proofs.Time.{goes_untrapped}
-use Rattle.prem_runs.specs.Dull.Issuing.{IssuesAlone, continues, issue_joined}
-use Rattle.prem_runs.proofs.DullLemmas.Alone.{issues_alone}
+use Rattle.prem_cycle.specs.Runs.Dull.Issuing.{IssuesAlone, continues, issue_joined}
+use Rattle.prem_cycle.proofs.RunsLemmas.DullLemmas.Alone.{issues_alone}
 use Rattle.prem_machine.specs.declared.moment.Moment.{Moment}
 use Rattle.prem_machine.specs.declared.parts.Parts.{Parts}
 use Rattle.prem_machine.specs.declared.work.Setting.{Setting}

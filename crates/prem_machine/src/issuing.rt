@@ -29,7 +29,7 @@ impl<P: Policy> Parts<P> {
     ghost use Rattle.prem_list.specs.Sequence.{items_of, room_of};
     ghost use Rattle.prem_cycle.specs.State.{rule_in};
     ghost use Rattle.prem_cycle.specs.Cycle.{arrivals_at, bus_at, core_at, is_full, joined};
-    ghost use Rattle.prem_runs.specs.Dull.Issuing.{IssuesAlone, issue_joined};
+    ghost use Rattle.prem_cycle.specs.Runs.Dull.Issuing.{IssuesAlone, issue_joined};
     ghost use Rattle.prem_machine.specs.Work.{setup_in};
     ghost use Rattle.prem_machine.specs.Parts.{IsSetting, Runs, Stands, state_of};
 

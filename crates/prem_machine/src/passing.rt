@@ -35,7 +35,7 @@ fn cycle_behind(now: u64, limit: u64, cycles: Option<u64>) -> u64
 impl<P: Policy> Parts<P> {
     ghost use Rattle.std.specs.Prelude.{◌≡◌, ◌-◌, ◌*◌, ◌<◌, ◌≤◌, ◌^◌};
     ghost use Rattle.std.specs.List.Sorted.{IsNonDecreasingBy};
-    ghost use Rattle.prem_runs.specs.Dull.Rest.{Rests, passed};
+    ghost use Rattle.prem_cycle.specs.Runs.Dull.Rest.{Rests, passed};
     ghost use Rattle.prem_machine.specs.Parts.{IsSetting, Runs, Stands, state_of};
     ghost use Rattle.prem_machine.specs.Passing.{RestsUpTo};
 

@@ -11,7 +11,7 @@ use Rattle.prem_image.specs.declared.image.TaskRecord.{TaskRecord}
 use Rattle.prem_cycle.specs.State.{Setup, MachineState, first_task, first_tasks, no_record, start_of}
 use Rattle.prem_cycle.specs.FactsOf.{inputs_size}
 use Rattle.prem_cycle.specs.Run.{cycles_of, memory_of, run_of}
-use Rattle.prem_runs.specs.Inputs.Taken.{TakesFrom}
+use Rattle.prem_cycle.specs.Runs.Inputs.Taken.{TakesFrom}
 use Rattle.prem_machine.specs.States.{Running}
 use Rattle.prem_mail.specs.declared.feed.Feed.{Feed}
 use Rattle.prem_mail.specs.Feeds.{IsFeed}

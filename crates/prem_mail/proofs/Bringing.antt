@@ -8,7 +8,7 @@ use Rattle.prem_cycle.specs.State.{rule_in}
 use Rattle.prem_cycle.specs.State.{Task, task_in}
 use Rattle.prem_cycle.specs.FactsOf.{has_room_for_word, inputs_size}
 use Rattle.prem_cycle.specs.Run.{cycles_of}
-use Rattle.prem_runs.specs.Inputs.Taken.{TakesFrom}
+use Rattle.prem_cycle.specs.Runs.Inputs.Taken.{TakesFrom}
 use Rattle.prem_machine.specs.States.{Running, with_state}
 use Rattle.prem_mail.specs.declared.feed.Feed.{Feed}
 use Rattle.prem_mail.specs.Delivery.{has_room}

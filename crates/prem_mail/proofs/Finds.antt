@@ -12,9 +12,9 @@ use Rattle.prem_cycle.specs.Core.{is_empty, CoreMove, Passes, Issues}
 use Rattle.prem_cycle.specs.Cycle.{arrivals_at, bus_at, with_memory, move_at, is_over}
 use Rattle.prem_cycle.specs.FactsOf.{with_input, with_word}
 use Rattle.prem_cycle.specs.Run.{step_by, step_in, step_with, coming_step, wants_word, wants_input_of}
-use Rattle.prem_runs.proofs.InputsLemmas.Words.{no_task, tasks_with}
-use Rattle.prem_runs.proofs.InputsLemmas.Turns.{work_with, past_of, move_with}
-use Rattle.prem_runs.proofs.InputsLemmas.Cycles.{over_with}
+use Rattle.prem_cycle.proofs.RunsLemmas.InputsLemmas.Words.{no_task, tasks_with}
+use Rattle.prem_cycle.proofs.RunsLemmas.InputsLemmas.Turns.{work_with, past_of, move_with}
+use Rattle.prem_cycle.proofs.RunsLemmas.InputsLemmas.Cycles.{over_with}
 
 -- ---- the task that has got a word has one left
 

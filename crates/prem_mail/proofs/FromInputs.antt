@@ -20,10 +20,10 @@ use Rattle.prem_cycle.specs.Cycle.{arrivals_at, bus_at, with_memory, move_at, is
 use Rattle.prem_cycle.specs.Run.{CycleStep, wants_word}
 use Rattle.prem_cycle.proofs.CycleParts.{cycle_work}
 use Rattle.prem_cycle.proofs.RunLaws.{step_of-goes, step_of-stays}
-use Rattle.prem_runs.specs.Inputs.PastEnd.{is_past_end}
-use Rattle.prem_runs.specs.Inputs.Taken.{TakesFrom}
-use Rattle.prem_runs.proofs.InputsLemmas.Words.{no_task}
-use Rattle.prem_runs.proofs.InputsLemmas.Turns.{past_of}
+use Rattle.prem_cycle.specs.Runs.Inputs.PastEnd.{is_past_end}
+use Rattle.prem_cycle.specs.Runs.Inputs.Taken.{TakesFrom}
+use Rattle.prem_cycle.proofs.RunsLemmas.InputsLemmas.Words.{no_task}
+use Rattle.prem_cycle.proofs.RunsLemmas.InputsLemmas.Turns.{past_of}
 
 -- ---- one effect
 

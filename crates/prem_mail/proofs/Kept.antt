@@ -17,8 +17,8 @@ use Rattle.prem_cycle.specs.Cycle.{arrivals_at, bus_at, core_at, joined, with_no
 use Rattle.prem_cycle.specs.FactsOf.{inputs_size, with_input, with_word}
 use Rattle.prem_cycle.proofs.CycleParts.{settle_keeps}
 use Rattle.prem_cycle.proofs.RunLaws.{step_of-goes, step_of-stays}
-use Rattle.prem_runs.specs.Inputs.Taken.{TakesFrom}
-use Rattle.prem_runs.proofs.InputsLemmas.Words.{no_task, tasks_with, task_with}
+use Rattle.prem_cycle.specs.Runs.Inputs.Taken.{TakesFrom}
+use Rattle.prem_cycle.proofs.RunsLemmas.InputsLemmas.Words.{no_task, tasks_with, task_with}
 use Rattle.prem_machine.specs.States.{Running, with_state}
 use Rattle.prem_mail.specs.declared.feed.Feed.{Feed}
 use Rattle.prem_mail.specs.Delivery.{has_room}

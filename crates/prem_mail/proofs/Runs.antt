@@ -11,13 +11,13 @@ use Rattle.prem_cycle.specs.Cycle.{step_of}
 use Rattle.prem_cycle.specs.FactsOf.{inputs_size}
 use Rattle.prem_cycle.specs.Inputs.{FitsRun}
 use Rattle.prem_cycle.specs.Run.{coming_step, cycles_of, memory_of, run_of, steps_of, wants_input_of}
-use Rattle.prem_runs.specs.Inputs.PastEnd.{run_reads_past_end}
-use Rattle.prem_runs.specs.Inputs.Extended.{with_word_for}
-use Rattle.prem_runs.proofs.InputsLemmas.Turns.{past_of}
-use Rattle.prem_runs.proofs.InputsLemmas.Cycles.{has_read-next}
-use Rattle.prem_runs.proofs.InputsLemmas.Runs.{state_extends, reads_stay}
-use Rattle.prem_runs.proofs.InputsLemmas.Taken.{room_is_of_the_list}
-use Rattle.prem_runs.proofs.InputsLemmas.Fits.{lists_stay_fit}
+use Rattle.prem_cycle.specs.Runs.Inputs.PastEnd.{run_reads_past_end}
+use Rattle.prem_cycle.specs.Runs.Inputs.Extended.{with_word_for}
+use Rattle.prem_cycle.proofs.RunsLemmas.InputsLemmas.Turns.{past_of}
+use Rattle.prem_cycle.proofs.RunsLemmas.InputsLemmas.Cycles.{has_read-next}
+use Rattle.prem_cycle.proofs.RunsLemmas.InputsLemmas.Runs.{state_extends, reads_stay}
+use Rattle.prem_cycle.proofs.RunsLemmas.InputsLemmas.Taken.{room_is_of_the_list}
+use Rattle.prem_cycle.proofs.RunsLemmas.InputsLemmas.Fits.{lists_stay_fit}
 use Rattle.prem_mail.specs.declared.feed.Feed.{Feed}
 use Rattle.prem_mail.specs.Delivery.{Delivery, with_lists, with_lost, has_room, supplied, handed, receiver, received, ended_between, with_cycle, delivered_in}
 use Rattle.prem_mail.specs.Mailing.{Mailed, with_mail, without_mail, supplied_to, handed_to, received_by, cycled, stepped, mail_step, mailed_by}

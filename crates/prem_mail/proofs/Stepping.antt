@@ -3,7 +3,7 @@ use Rattle.std.specs.Prelude.{is_some, IfSome}
 use Rattle.std.proofs.Common.{◌≡◌, ℕ, suc, ◌<◌, Bool, true, false, cond, List, [], ◌∷◌, Option, None, Some, All, refl, arith}
 use Rattle.prem_gate.specs.declared.bus.Transfer.{Transfer}
 use Rattle.prem_cycle.specs.Cycle.{is_over}
-use Rattle.prem_runs.proofs.InputsLemmas.Cycles.{over_with}
+use Rattle.prem_cycle.proofs.RunsLemmas.InputsLemmas.Cycles.{over_with}
 use Rattle.prem_mail.specs.declared.feed.Feed.{Feed}
 use Rattle.prem_mail.specs.MailFile.{is_of}
 use Rattle.prem_mail.specs.Delivery.{has_room, fed_by, receiver}

@@ -18,7 +18,7 @@ use Rattle.prem_cycle.specs.State.{Setup, MachineState, start_of}
 use Rattle.prem_cycle.specs.Core.{want_of}
 use Rattle.prem_cycle.specs.Cycle.{Arrivals, arrivals_at, bus_at, cycle_of, is_over, step_of}
 use Rattle.prem_cycle.specs.Run.{cycles_of, memory_of, run_of, wants_input_of}
-use Rattle.prem_runs.specs.Inputs.Extended.{with_word_for}
+use Rattle.prem_cycle.specs.Runs.Inputs.Extended.{with_word_for}
 use Rattle.prem_sound.specs.Serve.Requests.{PutWords}
 use Rattle.prem_sound.specs.Sound.{AreInputs}
 use Rattle.prem_sound.proofs.ServeLemmas.Puts.{HoldAll, arrivals_all, head_all, cycles_all, start_all}

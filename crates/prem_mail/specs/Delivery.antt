@@ -10,7 +10,7 @@ use Rattle.prem_cycle.specs.State.{Setup, MachineState}
 use Rattle.prem_cycle.specs.FactsOf.{inputs_size}
 use Rattle.prem_cycle.specs.Inputs.{setup_of, words_of}
 use Rattle.prem_cycle.specs.Run.{run_of, wants_input_of}
-use Rattle.prem_runs.specs.Inputs.Extended.{with_word_for}
+use Rattle.prem_cycle.specs.Runs.Inputs.Extended.{with_word_for}
 use Rattle.prem_mail.specs.declared.feed.Feed.{Feed}
 use Rattle.prem_mail.specs.MailFile.{is_of}
 

@@ -4,7 +4,7 @@ use Rattle.prem_list.specs.declared.Sequence.{Sequence}
 use Rattle.prem_list.specs.Sequence.{items_of, room_of}
 use Rattle.prem_cycle.specs.State.{task_in}
 use Rattle.prem_cycle.specs.FactsOf.{inputs_size}
-use Rattle.prem_runs.specs.Inputs.Taken.{TakesFrom}
+use Rattle.prem_cycle.specs.Runs.Inputs.Taken.{TakesFrom}
 use Rattle.prem_machine.specs.States.{Running}
 use Rattle.prem_mail.specs.declared.feed.Feed.{Feed}
 use Rattle.prem_mail.specs.declared.mail.Mail.TheInside.{Inside}

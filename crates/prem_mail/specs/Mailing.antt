@@ -7,7 +7,7 @@ use Rattle.prem_cycle.specs.State.{Setup, MachineState}
 use Rattle.prem_cycle.specs.Cycle.{step_of}
 use Rattle.prem_cycle.specs.FactsOf.{with_input}
 use Rattle.prem_cycle.specs.Run.{wants_input_of}
-use Rattle.prem_runs.specs.Inputs.Extended.{with_word_for}
+use Rattle.prem_cycle.specs.Runs.Inputs.Extended.{with_word_for}
 use Rattle.prem_mail.specs.declared.feed.Feed.{Feed}
 use Rattle.prem_mail.specs.Delivery.{Delivery, with_lists, with_lost, has_room, receiver, ended_between}
 

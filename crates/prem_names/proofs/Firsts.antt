@@ -8,7 +8,7 @@ use Rattle.std.proofs.lemmas.List.{length-map, map_push}
 use Rattle.indexmap.specs.IndexMap.{IndexMap, insert_entry}
 use Rattle.indexmap.proofs.CallerLemmas.{insert_entry-new}
 use Rattle.prem_syntax.specs.Syntax.{Text}
-use Rattle.prem_meaning.specs.Breaches.{has_name}
+use Rattle.prem_syntax.specs.Breaches.{has_name}
 use Rattle.prem_names.specs.Numbers.{number_of, texts_in, with_first, AreFirsts}
 
 -- the first one that is there

@@ -2,7 +2,7 @@
 use Rattle.std.specs.Str.{bytes_eq}
 use Rattle.std.proofs.Common.{◌≡◌, ℕ, suc, ◌+◌, Bool, true, false, cond, List, [], ◌∷◌, map, get_or, Option, None, Some, option_map, is_some, true≢false, refl, ap, ◌∙◌, arith}
 use Rattle.prem_syntax.specs.Syntax.{Text}
-use Rattle.prem_meaning.specs.Resolve.{find_named}
+use Rattle.prem_syntax.specs.Resolve.{find_named}
 use Rattle.prem_names.specs.Numbers.{number_of}
 
 module _ {A B : Type 0} (f : A → B) (name_of : B → Text) (w : Text) (d : A) where

@@ -8,7 +8,7 @@ use Rattle.prem_syntax.specs.declared.tree.Global.{Global}
 use Rattle.prem_syntax.specs.Name.{name_bytes}
 use Rattle.prem_syntax.specs.Syntax.{Text, GlobalVariable, FunctionText}
 use Rattle.prem_syntax.specs.SyntaxOf.{global_of, function_of}
-use Rattle.prem_meaning.specs.Resolve.{Scope}
+use Rattle.prem_syntax.specs.Resolve.{Scope}
 
 -- what has a name: parameters, then the locals that are declared before, the globals that stand before, and all functions
 pub record Known : Type 0 where

@@ -1,6 +1,6 @@
 // Names, looked up by spelling.
 ghost use Rattle.std.specs.Prelude.{◌≡◌, ◌<◌, ◌++◌, [], ◌∷◌, length, OnErr, OnOk, IfSome};
-ghost use Rattle.prem_meaning.specs.Breaches.{has_name};
+ghost use Rattle.prem_syntax.specs.Breaches.{has_name};
 ghost use Rattle.prem_names.specs.Numbers.{number_of, with_first};
 
 use indexmap::IndexMap;

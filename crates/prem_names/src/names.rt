@@ -3,8 +3,8 @@ ghost use Rattle.std.specs.Prelude.{◌≡◌, ◌++◌, [], ◌∷◌, map, IfO
 ghost use Rattle.std.specs.Option.{option_map};
 ghost use Rattle.prem_syntax.specs.Name.{name_bytes};
 ghost use Rattle.prem_syntax.specs.SyntaxOf.{global_of, function_of};
-ghost use Rattle.prem_meaning.specs.Breaches.{has_name};
-ghost use Rattle.prem_meaning.specs.Resolve.{find_local, find_global, find_function, number_named, meaning_of};
+ghost use Rattle.prem_syntax.specs.Breaches.{has_name};
+ghost use Rattle.prem_syntax.specs.Resolve.{find_local, find_global, find_function, number_named, meaning_of};
 ghost use Rattle.prem_names.specs.Scopes.{function_found, global_found, local_found, local_texts, with_global, with_locals, without_locals, first_scope, scope_of};
 
 use crate::index::Index;

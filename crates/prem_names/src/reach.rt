@@ -2,9 +2,9 @@
 ghost use Rattle.std.specs.Prelude.{◌≡◌, ◌++◌, ◌↔◌, map, slice_set, true, IfOk, IsTrue, OnOk};
 ghost use Rattle.prem_syntax.specs.Name.{name_bytes};
 ghost use Rattle.prem_syntax.specs.SyntaxOf.{statement_of, statements_of, function_of};
-ghost use Rattle.prem_meaning.specs.Resolve.{find_function};
-ghost use Rattle.prem_meaning.specs.Breaches.{callee_number, callees, callees_within, is_marked_text, reached};
-ghost use Rattle.prem_meaning.specs.Reach.{is_in_set};
+ghost use Rattle.prem_syntax.specs.Resolve.{find_function};
+ghost use Rattle.prem_syntax.specs.Breaches.{callee_number, callees, callees_within, is_marked_text, reached};
+ghost use Rattle.prem_syntax.specs.Reach.{is_in_set};
 ghost use Rattle.prem_names.specs.Scopes.{scope_of};
 ghost use Rattle.prem_names.specs.Reach.Reach.{callees_of_each, followed, is_new, with_new, with_numbers};
 

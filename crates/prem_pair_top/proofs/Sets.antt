@@ -3,7 +3,7 @@ use Rattle.std.specs.Prelude.{drop}
 use Rattle.std.proofs.Common.{◌≡◌, ◌+◌, ◌≤◌, ◌⊎◌, ◌==◌, ◌||◌, ℕ, Bool, true, false, cond, List, [], None, Some, Option, unwrap_or, refl, ap, ◌∙◌, sym, arith, inl, inr, ⊎_elim, true≢false}
 use Rattle.std.proofs.lemmas.Bool.{cases_Bool, false_from_ne_true}
 use Rattle.prem_plant.specs.declared.plant.Device.{Device}
-use Rattle.prem_order.specs.Rules.{order_rule_of, passes_of}
+use Rattle.prem_plant.specs.Order.Rules.{order_rule_of, passes_of}
 use Rattle.prem_lru.specs.Rules.{rule_of}
 use Rattle.prem_cycle.specs.declared.state.Trap.{Trap}
 use Rattle.prem_cycle.specs.Alone.{run_in}
@@ -20,9 +20,9 @@ use Rattle.prem_layout.specs.Image.{device_records}
 use Rattle.prem_layout.specs.Placed.{part_total}
 use Rattle.prem_tasks.specs.Broken.{TaskSet, broken}
 use Rattle.prem_tasks.specs.Compiled.{coded_in, places_in, placed_in, compiled}
-use Rattle.prem_stub_laws.specs.Own.Owned.{own_of}
-use Rattle.prem_stub_laws.specs.Join.Joined.{IsJoined}
-use Rattle.prem_stub_laws.proofs.JoinLemmas.Joined.{scripted, are_scripts, limits}
+use Rattle.prem_sets_sound.specs.StubLaws.Own.Owned.{own_of}
+use Rattle.prem_sets_sound.specs.StubLaws.Join.Joined.{IsJoined}
+use Rattle.prem_sets_sound.proofs.StubLawsLemmas.JoinLemmas.Joined.{scripted, are_scripts, limits}
 use Rattle.prem_sets_sound.specs.Accepted.Accepted.{HasValues, limits_at, setup_in}
 use Rattle.prem_sets_sound.specs.Meant.{promises_in}
 use Rattle.prem_sets_sound.proofs.AcceptedLemmas.Whole.{accepted_sets_are_laid_out, accepted_sets_join, default_places_are_lawful}

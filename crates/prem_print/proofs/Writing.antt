@@ -2,7 +2,7 @@
 use Rattle.std.proofs.Common.{◌≡◌, ℕ, ◌-◌, List, [], ◌∷◌, ◌++◌, length, map, refl, ap, sym, ◌∙◌, append_assoc, take, arith}
 use Rattle.std.proofs.Math.Seq.{take-append_seam}
 use Rattle.std.proofs.lemmas.List.{length-append}
-use Rattle.prem_lexer.specs.Token.Lexeme.{Lexeme}
+use Rattle.prem_text.specs.Lexing.Token.Lexeme.{Lexeme}
 use Rattle.prem_text.specs.Spelling.Spelled.{joined}
 use Rattle.prem_text.specs.Canonical.Printed.{lexeme_bytes, spelling_of}
 use Rattle.prem_print.specs.Written.{piece, written}

@@ -1,6 +1,6 @@
 -- A text with tokens put behind it.
 use Rattle.std.specs.Prelude.{ℕ, List, [], ◌∷◌, ◌++◌}
-use Rattle.prem_lexer.specs.Token.Lexeme.{Lexeme}
+use Rattle.prem_text.specs.Lexing.Token.Lexeme.{Lexeme}
 use Rattle.prem_text.specs.Canonical.Printed.{lexeme_bytes}
 
 -- a token and a blank

@@ -8,8 +8,8 @@ ghost use Rattle.prem_text.specs.Canonical.Canonical.{constant_lexemes, expressi
 ghost use Rattle.prem_print.specs.Written.{written};
 
 use crate::token::{push_literal, push_mark, push_name, push_number};
-use prem_lexer::token::Mark;
 use prem_syntax::{BinOp, Expr, UnOp};
+use prem_text::lexing::token::Mark;
 use std::alloc::AllocError;
 
 /// A constant.

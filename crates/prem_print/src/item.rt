@@ -12,8 +12,8 @@ ghost use Rattle.prem_print.specs.Written.{written};
 use crate::expression::{push_constant, push_expression};
 use crate::statement::push_statements;
 use crate::token::{push_mark, push_name, push_number, push_word};
-use prem_lexer::token::{Mark, Word};
 use prem_syntax::{Expr, Function, Global, Initial, Item, Local, Name, Param, Region, Ty};
+use prem_text::lexing::token::{Mark, Word};
 use std::alloc::AllocError;
 
 /// A type; `unsigned` stands without `int`.

@@ -5,15 +5,15 @@ ghost use Rattle.std.specs.Prelude.{◌≡◌, [], ◌∷◌, ◌++◌, OnOk, ma
 ghost use Rattle.std.specs.Option.{option_map};
 ghost use Rattle.prem_syntax.specs.Name.{name_bytes};
 ghost use Rattle.prem_syntax.specs.SyntaxOf.{expression_of, statement_of, statements_of};
-ghost use Rattle.prem_lexer.specs.Token.Lexeme.{mark};
-ghost use Rattle.prem_lexer.specs.declared.token.token.Mark.TheVariants as m;
+ghost use Rattle.prem_text.specs.Lexing.Token.Lexeme.{mark};
+ghost use Rattle.prem_text.specs.declared.lexing.token.token.Mark.TheVariants as m;
 ghost use Rattle.prem_text.specs.Canonical.Canonical.{argument_lexemes, bound_lexemes, call_lexemes, comparison_sign, expression_lexemes, for_lexemes, if_lexemes, input_lexemes, more_arguments, statement_lexemes, statements_lexemes, step_lexemes, tail_lexemes, target_lexemes, while_lexemes};
 ghost use Rattle.prem_print.specs.Written.{written};
 
 use crate::expression::push_expression;
 use crate::token::{push_mark, push_name, push_number, push_word};
-use prem_lexer::token::{Mark, Word};
 use prem_syntax::{Expr, Name, Stmt};
+use prem_text::lexing::token::{Mark, Word};
 use std::alloc::AllocError;
 
 /// The arguments behind the first one.

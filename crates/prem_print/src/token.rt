@@ -3,13 +3,13 @@
 
 ghost use Rattle.std.specs.Prelude.{◌≡◌, ◌++◌, ◌∷◌, [], OnOk};
 ghost use Rattle.prem_syntax.specs.Name.{name_bytes};
-ghost use Rattle.prem_lexer.specs.Token.Lexeme.{name, number, word, mark};
+ghost use Rattle.prem_text.specs.Lexing.Token.Lexeme.{name, number, word, mark};
 ghost use Rattle.prem_text.specs.Canonical.Canonical.{number_lexeme, kind_for};
 ghost use Rattle.prem_text.specs.Canonical.Printed.{word_bytes, mark_bytes};
 ghost use Rattle.prem_print.specs.Written.{piece};
 
-use prem_lexer::token::{Mark, Word};
 use prem_syntax::{Kind, Name};
+use prem_text::lexing::token::{Mark, Word};
 use std::alloc::AllocError;
 
 /// The spelling of a word.

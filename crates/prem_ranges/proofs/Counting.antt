@@ -12,9 +12,9 @@ use Rattle.prem_word.specs.Ranges.{Span, LiesIn, from_to, whole, within, enclose
 use Rattle.prem_word.proofs.Corners.{word_in_whole}
 use Rattle.prem_syntax.specs.declared.tree.Place.{Place}
 use Rattle.prem_syntax.specs.Syntax.{GlobalVariable}
-use Rattle.prem_meaning.specs.Resolved.{Term, Steps}
-use Rattle.prem_meaning.specs.Expressions.{and_then, Access}
-use Rattle.prem_meaning.specs.Statements.{ProgramState, Calls, value, with_local, int_local, in_bound, loop_test, loop_step, counting, run}
+use Rattle.prem_syntax.specs.Resolved.{Term, Steps}
+use Rattle.prem_syntax.specs.Expressions.{and_then, Access}
+use Rattle.prem_syntax.specs.Statements.{ProgramState, Calls, value, with_local, int_local, in_bound, loop_test, loop_step, counting, run}
 use Rattle.prem_ranges.specs.Unary.TableLaws.{TableLaws}
 use Rattle.prem_ranges.specs.Environment.{Known, with_range, Environment, at_local}
 use Rattle.prem_ranges.specs.RangeOf.{range_of}

@@ -14,9 +14,9 @@ use Rattle.prem_syntax.specs.declared.tree.Place.{Place}
 use Rattle.prem_syntax.specs.declared.tree.Ty.{Ty}
 use Rattle.prem_syntax.specs.declared.tree.UnOp.TheVariants.{Neg, Flip, Not}
 use Rattle.prem_syntax.specs.Syntax.{GlobalVariable}
-use Rattle.prem_meaning.specs.Resolved.{Term, Constant, Local, Scalar, Element, Unary, Binary, AndAlso, OrElse}
-use Rattle.prem_meaning.specs.Resolve.{kind_of, operand_kind}
-use Rattle.prem_meaning.specs.Expressions.{Outcome, and_then, Access, words_of, cell, or_wrong, unary_word, divide, operate, truth_of, eval}
+use Rattle.prem_syntax.specs.Resolved.{Term, Constant, Local, Scalar, Element, Unary, Binary, AndAlso, OrElse}
+use Rattle.prem_syntax.specs.Resolve.{kind_of, operand_kind}
+use Rattle.prem_syntax.specs.Expressions.{Outcome, and_then, Access, words_of, cell, or_wrong, unary_word, divide, operate, truth_of, eval}
 use Rattle.prem_ranges.specs.Unary.TableLaws.{TableLaws}
 use Rattle.prem_ranges.specs.Environment.{Environment, at_local}
 use Rattle.prem_ranges.specs.RangeOf.{range_of, cut, cut_if_some, opposite, is_same_kind, cut_by, refined}

@@ -8,12 +8,12 @@ use Rattle.prem_word.specs.Words.{word_of}
 use Rattle.prem_syntax.specs.declared.tree.Ty.{Ty}
 use Rattle.prem_syntax.specs.declared.tree.Ty.TheVariants.{Void, Int as IntTy, Unsigned as UnsignedTy, Short, Ushort, Schar, Uchar}
 use Rattle.prem_syntax.specs.Syntax.{LocalVariable, MarkText, GlobalVariable}
-use Rattle.prem_meaning.specs.Resolved.{Term, Steps, Done, SetLocal, SetScalar, SetElement, Output, Input, If, For, While, Call, Routine, Resolved}
-use Rattle.prem_meaning.specs.Resolve.{kind_of, promoted}
-use Rattle.prem_meaning.specs.Reach.{callees_in, IsAmong}
-use Rattle.prem_meaning.specs.Expressions.{and_then, Access}
-use Rattle.prem_meaning.specs.Statements.{ProgramState, Calls, stored, value, run, with_new_local, declare, result_of, leave, enter}
-use Rattle.prem_meaning.specs.Source.{Limits, access_of, enter_if_there, this_or, calls_below, constants_of, initial_words, start, everywhere, do_jobs}
+use Rattle.prem_syntax.specs.Resolved.{Term, Steps, Done, SetLocal, SetScalar, SetElement, Output, Input, If, For, While, Call, Routine, Resolved}
+use Rattle.prem_syntax.specs.Resolve.{kind_of, promoted}
+use Rattle.prem_syntax.specs.Reach.{callees_in, IsAmong}
+use Rattle.prem_syntax.specs.Expressions.{and_then, Access}
+use Rattle.prem_syntax.specs.Statements.{ProgramState, Calls, stored, value, run, with_new_local, declare, result_of, leave, enter}
+use Rattle.prem_syntax.specs.Source.{Limits, access_of, enter_if_there, this_or, calls_below, constants_of, initial_words, start, everywhere, do_jobs}
 use Rattle.prem_ranges.specs.Unary.TableLaws.{TableLaws}
 use Rattle.prem_ranges.specs.Environment.{Known, Environment}
 use Rattle.prem_ranges.specs.RangeOf.{range_of}

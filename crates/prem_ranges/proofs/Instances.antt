@@ -6,13 +6,13 @@ use Rattle.prem_word.specs.declared.kind.Kind.TheVariants.{Int}
 use Rattle.prem_word.specs.declared.kind.BinOp.TheVariants.{Add}
 use Rattle.prem_word.specs.Ranges.{from_to}
 use Rattle.prem_syntax.specs.Literals.{ProgramHasWords}
-use Rattle.prem_meaning.specs.Resolved.{Term, Constant, Local, Binary}
-use Rattle.prem_meaning.specs.Expressions.{Outcome, and_then, eval}
-use Rattle.prem_meaning.specs.Statements.{ProgramState, Calls, counting, bounded}
-use Rattle.prem_meaning.specs.Source.{unlimited, everywhere, source_within, source}
-use Rattle.prem_meaning.specs.GroupTwo.{IsWellFormed, group_two}
-use Rattle.prem_meaning.specs.Reach.{IsAmong}
-use Rattle.prem_meaning.proofs.Samples.{at}
+use Rattle.prem_syntax.specs.Resolved.{Term, Constant, Local, Binary}
+use Rattle.prem_syntax.specs.Expressions.{Outcome, and_then, eval}
+use Rattle.prem_syntax.specs.Statements.{ProgramState, Calls, counting, bounded}
+use Rattle.prem_syntax.specs.Source.{unlimited, everywhere, source_within, source}
+use Rattle.prem_syntax.specs.GroupTwo.{IsWellFormed, group_two}
+use Rattle.prem_syntax.specs.Reach.{IsAmong}
+use Rattle.prem_syntax.proofs.Samples.{at}
 use Rattle.prem_ranges.specs.Environment.{Environment}
 use Rattle.prem_ranges.specs.GroupThree.{resolved, StaysInRange, group_three, turn_bounds, limits_of}
 use Rattle.prem_ranges.specs.RangeBreaches.{Site}

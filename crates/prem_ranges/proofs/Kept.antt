@@ -19,8 +19,8 @@ use Rattle.prem_syntax.specs.declared.tree.Ty.{Ty}
 use Rattle.prem_syntax.specs.declared.tree.Ty.TheVariants.{Void, Int as IntTy, Unsigned as UnsignedTy, Short, Ushort, Schar, Uchar}
 use Rattle.prem_syntax.specs.declared.tree.UnOp.TheVariants.{Neg, Flip, Not}
 use Rattle.prem_syntax.specs.Syntax.{LocalVariable, GlobalVariable}
-use Rattle.prem_meaning.specs.Resolved.{Term, Constant, Local, Scalar, Element, Unary, Binary, AndAlso, OrElse, Steps, Done, SetLocal, SetScalar, SetElement, Output, Input, If, For, While, Call, Routine, Resolved}
-use Rattle.prem_meaning.specs.Resolve.{kind_of, promoted}
+use Rattle.prem_syntax.specs.Resolved.{Term, Constant, Local, Scalar, Element, Unary, Binary, AndAlso, OrElse, Steps, Done, SetLocal, SetScalar, SetElement, Output, Input, If, For, While, Call, Routine, Resolved}
+use Rattle.prem_syntax.specs.Resolve.{kind_of, promoted}
 use Rattle.prem_ranges.specs.Environment.{Known, any_again, with_range, assigned, Environment, range_at, at_local, loosened, joined}
 use Rattle.prem_ranges.specs.RangeOf.{type_range, range_of, cut, cut_if_some, opposite, is_same_kind, cut_by, refined}
 use Rattle.prem_ranges.specs.After.{assigns, in_counting, loop_end, turn_bound, body_range, range_behind, in_body, behind_loop, in_while, behind_call, after, bounds, known_parameter, known_local, declared, at_body, bounds_in}

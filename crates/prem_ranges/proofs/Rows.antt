@@ -5,7 +5,7 @@ use Rattle.prem_word.specs.declared.kind.BinOp.TheVariants.{Add, Mul, Div, Lt}
 use Rattle.prem_word.specs.Ranges.{from_to}
 use Rattle.prem_syntax.specs.declared.tree.Ty.TheVariants.{Void as VoidTy, Int as IntTy, Short}
 use Rattle.prem_syntax.specs.Syntax.{variable, element, binary, block, if_then, counting_for, assign, output, input, call, absent, many, ProgramText}
-use Rattle.prem_meaning.proofs.Samples.{at, int, statements, one_name, parameter, local, region, global, function, plain}
+use Rattle.prem_syntax.proofs.Samples.{at, int, statements, one_name, parameter, local, region, global, function, plain}
 use Rattle.prem_ranges.specs.RangeRules.{RangeRule, ZeroDivisor, IndexOutside, RegionOutside, ArgRange, RangeBreach}
 use Rattle.prem_ranges.specs.GroupThree.{resolved, group_three, turn_bounds}
 use Rattle.prem_ranges.specs.Wrong.{program_lines}

@@ -9,11 +9,11 @@ use Rattle.prem_word.specs.Words.{value_in}
 use Rattle.prem_word.specs.Ranges.{Span, LiesIn, exactly, converted, from_to}
 use Rattle.prem_syntax.specs.declared.tree.Place.{Place}
 use Rattle.prem_syntax.specs.Syntax.{Parameter, GlobalVariable}
-use Rattle.prem_meaning.specs.Resolved.{Term, Steps, Done, SetLocal, SetScalar, SetElement, Output, Input, If, For, While, Call, Resolved}
-use Rattle.prem_meaning.specs.Resolve.{kind_of, promoted}
-use Rattle.prem_meaning.specs.Reach.{callees_in, IsAmong}
-use Rattle.prem_meaning.specs.Expressions.{Outcome, and_then, Access, eval_all}
-use Rattle.prem_meaning.specs.Statements.{ProgramState, Calls, choose, value, values, with_local, store, with_output, take_input, holds, loop_test, loop_step, counting, bounded, with_target, run}
+use Rattle.prem_syntax.specs.Resolved.{Term, Steps, Done, SetLocal, SetScalar, SetElement, Output, Input, If, For, While, Call, Resolved}
+use Rattle.prem_syntax.specs.Resolve.{kind_of, promoted}
+use Rattle.prem_syntax.specs.Reach.{callees_in, IsAmong}
+use Rattle.prem_syntax.specs.Expressions.{Outcome, and_then, Access, eval_all}
+use Rattle.prem_syntax.specs.Statements.{ProgramState, Calls, choose, value, values, with_local, store, with_output, take_input, holds, loop_test, loop_step, counting, bounded, with_target, run}
 use Rattle.prem_ranges.specs.Unary.TableLaws.{TableLaws}
 use Rattle.prem_ranges.specs.Environment.{any_again, with_range, assigned, Environment, at_local, joined}
 use Rattle.prem_ranges.specs.RangeOf.{range_of, refined}

@@ -7,10 +7,10 @@ use Rattle.std.proofs.lemmas.Option.{slice_get_within}
 use Rattle.prem_word.specs.Ranges.{Span, LiesIn, exactly, from_to, encloses}
 use Rattle.prem_syntax.specs.declared.tree.Place.{Place}
 use Rattle.prem_syntax.specs.Syntax.{MarkText, GlobalVariable}
-use Rattle.prem_meaning.specs.Resolved.{Routine, Resolved}
-use Rattle.prem_meaning.specs.Reach.{callees_in, callee_table, is_in, reach_set, IsAmong, CallsBefore}
-use Rattle.prem_meaning.specs.Expressions.{Access}
-use Rattle.prem_meaning.proofs.Reach.{reach_is_closed}
+use Rattle.prem_syntax.specs.Resolved.{Routine, Resolved}
+use Rattle.prem_syntax.specs.Reach.{callees_in, callee_table, is_in, reach_set, IsAmong, CallsBefore}
+use Rattle.prem_syntax.specs.Expressions.{Access}
+use Rattle.prem_syntax.proofs.Reach.{reach_is_closed}
 use Rattle.prem_ranges.specs.Regions.{Area, Watch, area_holds, areas_hold, areas_of, watch_if, watches_from, watches_of, inside_regions}
 use Rattle.prem_ranges.specs.RangeBreaches.{in_watches, in_watch}
 use Rattle.prem_ranges.specs.Sound.{Allows}

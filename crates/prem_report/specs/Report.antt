@@ -14,7 +14,7 @@ use Rattle.prem_cycle.specs.declared.facts.EndedInterval.{EndedInterval}
 use Rattle.prem_cycle.specs.declared.facts.DeviceFacts.{DeviceFacts}
 use Rattle.prem_cycle.specs.State.{Counts}
 use Rattle.prem_cycle.specs.FactsOf.{TaskReport, Report}
-use Rattle.prem_runs.specs.Transfer.Lengths.{device_cost}
+use Rattle.prem_cycle.specs.Runs.Transfer.Lengths.{device_cost}
 
 -- ---- parts of lines
 

@@ -3,18 +3,18 @@ use Rattle.std.specs.Prelude.{unwrap_or}
 use Rattle.std.proofs.Common.{◌≡◌, ℕ, zero, suc, ◌+◌, ◌<◌, ◌≤◌, refl, ap, ◌∙◌, sym, subst, arith, true, List, [], ◌∷◌, length, map, Option, Some, slice_get}
 use Rattle.std.proofs.lemmas.List.{length-map}
 use Rattle.prem_cycle.specs.State.{record_of}
-use Rattle.prem_busy.specs.declared.load.Load.{Load}
-use Rattle.prem_busy.specs.declared.length.Busy.{Busy}
-use Rattle.prem_busy.specs.declared.length.Busy.TheVariants.{Within, Past}
-use Rattle.prem_busy.specs.Busy.{load_at, no_load}
-use Rattle.prem_busy.specs.Found.{IsFound, busy_of}
-use Rattle.prem_busy.proofs.First.{busy_found}
 use Rattle.prem_layout.specs.Image.{task_record}
 use Rattle.prem_layout.specs.Placed.{Placed}
 use Rattle.prem_tasks.specs.Broken.{TaskSet}
 use Rattle.prem_tasks.specs.Compiled.{placed_in}
 use Rattle.prem_sets_sound.specs.Accepted.Accepted.{setup_in}
 use Rattle.prem_sets_sound.proofs.Sound.{there}
+use Rattle.prem_resp.specs.declared.busy.load.Load.{Load}
+use Rattle.prem_resp.specs.declared.busy.length.Busy.{Busy}
+use Rattle.prem_resp.specs.declared.busy.length.Busy.TheVariants.{Within, Past}
+use Rattle.prem_resp.specs.Busy.Busy.{load_at, no_load}
+use Rattle.prem_resp.specs.Busy.Found.{IsFound, busy_of}
+use Rattle.prem_resp.proofs.BusyLemmas.First.{busy_found}
 use Rattle.prem_resp.specs.Timely.Timely.{load_of}
 use Rattle.prem_resp.specs.Lines.{all_within}
 use Rattle.prem_resp.specs.Fits.{loads_in, found_from, found_in, FittingSetsEndInTime}

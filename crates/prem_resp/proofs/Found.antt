@@ -1,9 +1,9 @@
 -- One more busy period of those of all tasks.
 use Rattle.std.proofs.Common.{◌≡◌, ℕ, suc, ◌+◌, ◌-◌, ◌<◌, List, [], ◌∷◌, ◌++◌, ap, ◌∙◌, sym, arith, append_assoc}
-use Rattle.prem_busy.specs.declared.load.Load.{Load}
-use Rattle.prem_busy.specs.declared.length.Busy.{Busy}
-use Rattle.prem_busy.specs.Found.{IsFound, busy_of}
-use Rattle.prem_busy.proofs.First.{busy_found, found_once}
+use Rattle.prem_resp.specs.declared.busy.load.Load.{Load}
+use Rattle.prem_resp.specs.declared.busy.length.Busy.{Busy}
+use Rattle.prem_resp.specs.Busy.Found.{IsFound, busy_of}
+use Rattle.prem_resp.proofs.BusyLemmas.First.{busy_found, found_once}
 use Rattle.prem_resp.specs.Fits.{found_from, found_in}
 
 pub found_more : (loads : List Load) (i n : ℕ) (front : List Busy) (b : Busy) → i < n → IsFound loads i b → front ++ found_from loads i (n - i) ≡ found_in loads →

@@ -1,7 +1,6 @@
 -- Every answer keeps what it promises.
 use Rattle.std.specs.Prelude.{codes, if◌then◌else◌}
 use Rattle.std.proofs.Common.{◌≡◌, ℕ, ◌<◌, Bool, true, false, List, ◌++◌, length, Option, None, Some, Ok, inl, inr, refl, ap, ◌∙◌, sym}
-use Rattle.prem_busy.specs.declared.length.Busy.{Busy}
 use Rattle.prem_layout.specs.Rules.{Refusal}
 use Rattle.prem_tasks.specs.Told.{Told}
 use Rattle.prem_tasks.specs.Broken.{TaskSet, broken}
@@ -12,6 +11,7 @@ use Rattle.prem_answer.specs.declared.answer.Telling.TheVariants.{Brief}
 use Rattle.prem_answer.specs.declared.status.Status.TheVariants as status
 use Rattle.prem_answer.specs.Stages.{Reply, Reads, Stage, replied}
 use Rattle.prem_exec.specs.Sources.Sources.{reading_set_by}
+use Rattle.prem_resp.specs.declared.busy.length.Busy.{Busy}
 use Rattle.prem_resp.specs.declared.status.FitStatus.TheVariants.{Done, Refused}
 use Rattle.prem_resp.specs.Statuses.{fit_status}
 use Rattle.prem_resp.specs.Lines.{all_within, last_line, lines_from}

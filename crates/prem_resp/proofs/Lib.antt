@@ -1,3 +1,5 @@
+pub mod BusyLemmas
+pub mod DeadlineLemmas
 pub mod Fits
 pub mod LoadsAre
 pub mod Found

@@ -8,8 +8,6 @@ use Rattle.prem_list.specs.Sequence.{items_of}
 use Rattle.prem_plant.specs.declared.plant.Plant.{Plant}
 use Rattle.prem_image.specs.declared.image.TaskRecord.{TaskRecord}
 use Rattle.prem_image.specs.Records.{IsTask, IsImage}
-use Rattle.prem_busy.specs.declared.load.Load.{Load}
-use Rattle.prem_busy.specs.Busy.{IsLoad}
 use Rattle.prem_layout.specs.Bounds.{JobBound, job_bound_of}
 use Rattle.prem_layout.specs.Facts.{job_fact}
 use Rattle.prem_layout.specs.Image.{task_record}
@@ -21,6 +19,8 @@ use Rattle.prem_tasks.specs.Compiled.{CompiledText, placed_in}
 use Rattle.prem_compile.specs.declared.compiled.Compiled.{Compiled}
 use Rattle.prem_compile.specs.CompiledOf.{IsCompiled}
 use Rattle.prem_compile.specs.Telling.Longest.{longest_in}
+use Rattle.prem_resp.specs.declared.busy.load.Load.{Load}
+use Rattle.prem_resp.specs.Busy.Busy.{IsLoad}
 use Rattle.prem_resp.specs.Timely.Timely.{load_of, loads_of}
 use Rattle.prem_resp.specs.Lines.{fit_text}
 use Rattle.prem_resp.specs.Fits.{loads_in, found_in}

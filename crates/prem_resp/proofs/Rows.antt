@@ -2,8 +2,8 @@
 use Rattle.std.specs.Prelude.{codes}
 use Rattle.std.specs.Fmt.{digits}
 use Rattle.std.proofs.Common.{◌≡◌, refl, ℕ, [], ◌∷◌}
-use Rattle.prem_busy.specs.declared.load.Load.{Load}
-use Rattle.prem_busy.specs.declared.length.Busy.TheVariants.{Within, Past}
+use Rattle.prem_resp.specs.declared.busy.load.Load.{Load}
+use Rattle.prem_resp.specs.declared.busy.length.Busy.TheVariants.{Within, Past}
 use Rattle.prem_resp.specs.Lines.{fit_text}
 
 abbrev load : ℕ → Load

@@ -1,15 +1,15 @@
 -- The set of two tasks, computed: it fits, and so its jobs end in time.
 use Rattle.std.specs.Prelude.{All}
 use Rattle.std.proofs.Common.{◌≡◌, refl, ap, ◌∙◌, ℕ, zero, suc, ◌<◌, arith, List, [], ◌∷◌, length}
-use Rattle.prem_busy.specs.declared.load.Load.{Load}
-use Rattle.prem_busy.specs.declared.length.Busy.{Busy}
-use Rattle.prem_busy.specs.declared.length.Busy.TheVariants.{Within}
-use Rattle.prem_busy.specs.Busy.{IsLoad}
-use Rattle.prem_busy.specs.Found.{busy_of}
-use Rattle.prem_busy.proofs.First.{busy_found, found_once}
-use Rattle.prem_busy.proofs.Steps.{found}
 use Rattle.prem_sets_sound.specs.Accepted.Accepted.{setup_in}
 use Rattle.prem_sets_sound.proofs.AcceptedLemmas.Sample.{sample, sample_values, sample_breaks_nothing}
+use Rattle.prem_resp.specs.declared.busy.load.Load.{Load}
+use Rattle.prem_resp.specs.declared.busy.length.Busy.{Busy}
+use Rattle.prem_resp.specs.declared.busy.length.Busy.TheVariants.{Within}
+use Rattle.prem_resp.specs.Busy.Busy.{IsLoad}
+use Rattle.prem_resp.specs.Busy.Found.{busy_of}
+use Rattle.prem_resp.proofs.BusyLemmas.First.{busy_found, found_once}
+use Rattle.prem_resp.proofs.BusyLemmas.Steps.{found}
 use Rattle.prem_resp.specs.Lines.{all_within}
 use Rattle.prem_resp.specs.Fits.{loads_in, found_in, EndsInTime}
 use Rattle.prem_resp.proofs.TimelyLemmas.Sample.{sample_loads}

@@ -8,13 +8,13 @@ use Rattle.prem_cycle.specs.State.{record_of}
 use Rattle.prem_cycle.specs.Run.{run_of}
 use Rattle.prem_sound.specs.Serve.Requests.{PutWords}
 use Rattle.prem_sound.specs.Sound.{AreInputs}
-use Rattle.prem_busy.specs.declared.load.Load.{Load}
-use Rattle.prem_busy.specs.declared.length.Busy.{Busy}
-use Rattle.prem_busy.specs.Busy.{IsLength}
-use Rattle.prem_busy.specs.Found.{busy_of}
 use Rattle.prem_tasks.specs.Broken.{TaskSet, broken}
 use Rattle.prem_tasks.specs.Compiled.{placed_in, compiled}
 use Rattle.prem_sets_sound.specs.Accepted.Accepted.{HasValues, setup_in}
+use Rattle.prem_resp.specs.declared.busy.load.Load.{Load}
+use Rattle.prem_resp.specs.declared.busy.length.Busy.{Busy}
+use Rattle.prem_resp.specs.Busy.Busy.{IsLength}
+use Rattle.prem_resp.specs.Busy.Found.{busy_of}
 use Rattle.prem_resp.specs.Timely.Timely.{loads_of}
 use Rattle.prem_resp.specs.Lines.{all_within}
 

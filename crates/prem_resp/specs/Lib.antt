@@ -1,3 +1,5 @@
+pub mod Busy
+pub mod Deadline
 pub mod Lines
 pub mod Fits
 pub mod Told

@@ -2,9 +2,9 @@
 use Rattle.std.specs.Prelude.{◌≡◌, ◌≤◌, ℕ, All, List, [], ◌∷◌, length, map}
 use Rattle.prem_list.specs.Sequence.{items_of}
 use Rattle.prem_image.specs.declared.image.TaskRecord.{TaskRecord}
-use Rattle.prem_busy.specs.declared.load.Load.{Load}
-use Rattle.prem_busy.specs.Busy.{IsLoad}
 use Rattle.prem_compile.specs.declared.compiled.Compiled.{Compiled}
+use Rattle.prem_resp.specs.declared.busy.load.Load.{Load}
+use Rattle.prem_resp.specs.Busy.Busy.{IsLoad}
 use Rattle.prem_resp.specs.Lines.{fit_text}
 use Rattle.prem_resp.specs.Fits.{found_in}
 

@@ -1,10 +1,14 @@
 //! The response test of a compiled set: where it says yes, all jobs end within their periods.
 //!
+//! - `busy`: how long the jobs of a task may take where intervals aren't preempted.
+//! - `deadline`: the jobs of a run of tasks with scripts end in time.
 //! - `timed`: the jobs of an image whose tasks join at their pace end in time.
 //! - `timely`: the jobs of a compiled set end in time where the busy periods of its loads are within the periods.
 #![tactic(auto)]
 
 mod answer;
+pub mod busy;
+pub mod deadline;
 mod laws;
 mod lines;
 mod loads;

@@ -1,10 +1,10 @@
 // What is written of the busy periods of a set.
 ghost use Rattle.std.specs.Prelude.{◌≡◌, ◌++◌, All, IfOk, OnOk, length, string_bytes};
-ghost use Rattle.prem_busy.specs.Busy.{IsLoad};
+ghost use Rattle.prem_resp.specs.Busy.Busy.{IsLoad};
 ghost use Rattle.prem_resp.specs.Lines.{all_within, fit_text, last_line, length_text, lines_from, task_line};
 ghost use Rattle.prem_resp.specs.Told.{names_of};
 
-use prem_busy::{Busy, Load, blocking};
+use crate::busy::{Busy, Load, blocking};
 use prem_image::TaskRecord;
 use std::alloc::{AllocError, Global};
 

@@ -8,27 +8,27 @@ use Rattle.prem_plant.specs.declared.plant.Replacement.TheVariants.{Lru, Fifo}
 use Rattle.prem_plant.specs.declared.plant.Plant.{Plant}
 use Rattle.prem_plant.specs.declared.plant.Device.{Device}
 use Rattle.prem_plant.specs.Places.{Extent}
-use Rattle.prem_order.specs.Rules.{order_rule_of, passes_of}
+use Rattle.prem_plant.specs.Order.Rules.{order_rule_of, passes_of}
 use Rattle.prem_lru.specs.Rules.{rule_of}
 use Rattle.prem_cycle.specs.Alone.{run_in}
 use Rattle.prem_sound.specs.Script.Scripts.{Promise}
 use Rattle.prem_sound.specs.Sound.{AreInputs}
 use Rattle.prem_sound.proofs.ResidentLemmas.Policies.{kind_policy}
-use Rattle.prem_meaning.specs.Resolved.{Resolved}
+use Rattle.prem_syntax.specs.Resolved.{Resolved}
 use Rattle.prem_text.proofs.ReadWordsLemmas.ProgramWords.{reads_have_words}
-use Rattle.prem_template.specs.Parts.{parts_of, codes_of}
+use Rattle.prem_layout.specs.Template.Parts.{parts_of, codes_of}
 use Rattle.prem_layout.specs.Parts.{pass_count, passes_under, stub_passes, part_count}
 use Rattle.prem_layout.specs.Placed.{Coded, Placed, placed_at, placed_from, task_places}
 use Rattle.prem_layout.specs.Image.{task_record}
 use Rattle.prem_tasks.specs.Broken.{TaskSet, bounded}
 use Rattle.prem_tasks.specs.Compiled.{coded_in, places_in, placed_in}
 use Rattle.prem_tasks.specs.SetOf.{set_of}
-use Rattle.prem_stub_laws.specs.Own.Owned.{own_of, setup_of}
-use Rattle.prem_stub_laws.specs.Initial.Initial.{content_of}
-use Rattle.prem_stub_laws.specs.Join.Joined.{JobLimits, TaskJoins}
-use Rattle.prem_task_laws.specs.TaskFrame.Kept.{KeepsTaskRules}
-use Rattle.prem_task_laws.specs.TaskFrame.Limits.{task_limits}
-use Rattle.prem_task_laws.specs.TaskBytes.Parts.{IsPlacedTask}
+use Rattle.prem_sets_sound.specs.StubLaws.Own.Owned.{own_of, setup_of}
+use Rattle.prem_sets_sound.specs.StubLaws.Initial.Initial.{content_of}
+use Rattle.prem_sets_sound.specs.StubLaws.Join.Joined.{JobLimits, TaskJoins}
+use Rattle.prem_sets_sound.specs.TaskLaws.TaskFrame.Kept.{KeepsTaskRules}
+use Rattle.prem_sets_sound.specs.TaskLaws.TaskFrame.Limits.{task_limits}
+use Rattle.prem_sets_sound.specs.TaskLaws.TaskBytes.Parts.{IsPlacedTask}
 use Rattle.prem_sets_sound.specs.Accepted.Accepted.{HasCodedValues, IsLaidOut, limits_at, no_limits, KeepsRules}
 use Rattle.prem_sets_sound.specs.Meant.{meant_by, meant_at, promises_in, AreMeant}
 use Rattle.prem_sets_sound.specs.Sound.{MeantTasksJoin, AcceptedTasksAreMeant, SetsAreSoundUnder, SetsAreSound, LawfulSetsAreSound}

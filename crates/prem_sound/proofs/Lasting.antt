@@ -3,8 +3,8 @@ use Rattle.std.specs.Prelude.{All, is_some, ◌&&◌}
 use Rattle.std.proofs.Common.{◌≡◌, ℕ, ◌+◌, ◌-◌, ◌<◌, ◌≤◌, refl, ap, ◌∙◌, sym, subst, cond, ltb, true, false, Bool, Some, None, Option, List, length, ◌∷◌, arith, []}
 use Rattle.std.proofs.lemmas.Bool.{and_parts, cond_both}
 use Rattle.std.proofs.lemmas.List.Elements.{All-nil, All-push}
+use Rattle.prem_plant.specs.Order.Order.{OrderRule}
 use Rattle.prem_sched.specs.declared.sched.TaskJobs.{TaskJobs}
-use Rattle.prem_order.specs.Order.{OrderRule}
 use Rattle.prem_isa.specs.Decode.{cost_of}
 use Rattle.prem_isa.specs.Plain.{TaskRun, Did, did_of, plain_did, plain_run}
 use Rattle.prem_isa.specs.declared.effect.Phase.{Phase}
@@ -20,12 +20,12 @@ use Rattle.prem_cycle.specs.State.{Setup, Work, CoreState, Counts, MachineState,
 use Rattle.prem_cycle.specs.Issue.{issued_by, owed_by, Attempt, Traps, Executes, LineTouch, attempt_behind, one_if, with_touch, with_touches, with_store}
 use Rattle.prem_cycle.specs.Core.{phase_in, want_of, is_paid, CoreMove, Passes, Issues, is_predictable, new_interval, stated_after, core_issue, core_turn}
 use Rattle.prem_cycle.specs.Cycle.{Arrivals, with_memory, with_clash, joined, ends_before, ended_interval, at_point, close_interval, settle, with_now, next_cycle, ticked}
-use Rattle.prem_runs.proofs.PositionLemmas.Works.{kept_plant}
-use Rattle.prem_runs.proofs.PositionLemmas.Stands.{bump, Stands, Issuing}
-use Rattle.prem_runs.proofs.PositionLemmas.Schedules.{Moves as Scheduled}
-use Rattle.prem_runs.proofs.PositionLemmas.MayMoves.{MayMove, does, stands_still, turn_with}
-use Rattle.prem_runs.proofs.PositionLemmas.Turns.{Runs, bump_move, issuing}
-use Rattle.prem_runs.proofs.PositionLemmas.Issues.{issuing_did}
+use Rattle.prem_cycle.proofs.RunsLemmas.PositionLemmas.Works.{kept_plant}
+use Rattle.prem_cycle.proofs.RunsLemmas.PositionLemmas.Stands.{bump, Stands, Issuing}
+use Rattle.prem_cycle.proofs.RunsLemmas.PositionLemmas.Schedules.{Moves as Scheduled}
+use Rattle.prem_cycle.proofs.RunsLemmas.PositionLemmas.MayMoves.{MayMove, does, stands_still, turn_with}
+use Rattle.prem_cycle.proofs.RunsLemmas.PositionLemmas.Turns.{Runs, bump_move, issuing}
+use Rattle.prem_cycle.proofs.RunsLemmas.PositionLemmas.Issues.{issuing_did}
 use Rattle.prem_sound.specs.Script.Script.{lines_of_did, call_of, Script}
 use Rattle.prem_sound.specs.Good.{LastsAsStated}
 use Rattle.prem_sound.specs.Resident.Faultless.{IsPolicy}

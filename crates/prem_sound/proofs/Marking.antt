@@ -2,8 +2,8 @@
 use Rattle.std.specs.Prelude.{is_some, ◌&&◌}
 use Rattle.std.proofs.Common.{◌≡◌, ℕ, ◌+◌, ◌-◌, ◌<◌, ◌≤◌, refl, ap, ◌∙◌, sym, subst, arith, cond, ltb, true, false, Bool, Some, None, List, length, ⊎_elim}
 use Rattle.std.proofs.lemmas.Bool.{and_parts, cases_eq, cond_both}
+use Rattle.prem_plant.specs.Order.Order.{OrderRule}
 use Rattle.prem_sched.specs.declared.sched.TaskJobs.{TaskJobs}
-use Rattle.prem_order.specs.Order.{OrderRule}
 use Rattle.prem_isa.specs.declared.effect.Change.{Change}
 use Rattle.prem_isa.specs.declared.effect.Change.TheVariants.{End, Stay, Memory, Execute, Job}
 use Rattle.prem_isa.specs.Plain.{TaskRun, Did, did_of, plain_did, plain_steps, plain_run}
@@ -20,11 +20,11 @@ use Rattle.prem_cycle.specs.State.{Setup, Work, CoreState, Counts, MachineState,
 use Rattle.prem_cycle.specs.Core.{is_paid, CoreMove, Passes, Issues, is_predictable, phase_in, stated_after, core_issue, core_turn}
 use Rattle.prem_cycle.specs.Cycle.{Arrivals, with_memory, with_clash, joined, ends_before, ended_interval, at_point, close_interval, settle, with_now, next_cycle, ticked}
 use Rattle.prem_cycle.proofs.CycleParts.{settle_keeps as settles}
-use Rattle.prem_runs.proofs.PositionLemmas.Stands.{bump, Stands, Issuing}
-use Rattle.prem_runs.proofs.PositionLemmas.Schedules.{Moves as Scheduled}
-use Rattle.prem_runs.proofs.PositionLemmas.MayMoves.{MayMove, does, stands_still, turn_with}
-use Rattle.prem_runs.proofs.PositionLemmas.Turns.{Runs, bump_move, issuing}
-use Rattle.prem_runs.proofs.PositionLemmas.Issues.{issuing_did}
+use Rattle.prem_cycle.proofs.RunsLemmas.PositionLemmas.Stands.{bump, Stands, Issuing}
+use Rattle.prem_cycle.proofs.RunsLemmas.PositionLemmas.Schedules.{Moves as Scheduled}
+use Rattle.prem_cycle.proofs.RunsLemmas.PositionLemmas.MayMoves.{MayMove, does, stands_still, turn_with}
+use Rattle.prem_cycle.proofs.RunsLemmas.PositionLemmas.Turns.{Runs, bump_move, issuing}
+use Rattle.prem_cycle.proofs.RunsLemmas.PositionLemmas.Issues.{issuing_did}
 use Rattle.prem_sound.specs.Script.Script.{begun_by, call_of, Script}
 use Rattle.prem_sound.specs.Script.Scripts.{Promise, mark_at, AreKept}
 use Rattle.prem_sound.specs.Good.{predictable_of, read_in, IsOfMark, GivesPromised}

@@ -6,11 +6,11 @@ use Rattle.std.proofs.lemmas.Bool.{and_parts, cond_both, leb-false, lt-leb, ltb-
 use Rattle.std.proofs.lemmas.List.{length-append}
 use Rattle.prem_plant.specs.declared.plant.Plant.{Plant}
 use Rattle.prem_plant.specs.Ranges.{IsPlant}
+use Rattle.prem_plant.specs.Order.Order.{OrderRule, HaveRoom}
 use Rattle.prem_sched.specs.declared.sched.TaskJobs.{TaskJobs}
 use Rattle.prem_sched.specs.declared.sched.Choice.TheVariants.{Idle as Rest, Finished}
 use Rattle.prem_sched.specs.Schedule.{choice, no_task, task_at, IsDone}
 use Rattle.prem_sched.proofs.Choices.{choice_done}
-use Rattle.prem_order.specs.Order.{OrderRule, HaveRoom}
 use Rattle.prem_isa.specs.declared.effect.Phase.{Phase}
 use Rattle.prem_isa.specs.declared.effect.Phase.TheVariants.{Compatible, Memory as MemoryPhase, Execution}
 use Rattle.prem_isa.specs.declared.effect.Change.{Change}
@@ -30,14 +30,14 @@ use Rattle.prem_cycle.specs.Issue.{task_after, issued_by, owed_by}
 use Rattle.prem_cycle.specs.Core.{want_of, is_paid, CoreMove, Passes, Issues, is_predictable, core_issue, core_turn}
 use Rattle.prem_cycle.specs.Cycle.{Arrivals, with_memory, with_clash, joined, ends_before, ended_interval, at_point, close_interval, settle, with_now, next_cycle, ticked, is_finish, is_finished_in, is_finished, output_count, log_size, is_full}
 use Rattle.prem_cycle.proofs.CoreCases.{MoveCase}
-use Rattle.prem_runs.specs.Position.Finish.{data_accesses}
-use Rattle.prem_runs.proofs.PositionLemmas.Works.{kept_plant}
-use Rattle.prem_runs.proofs.PositionLemmas.Stands.{bump, Stands, Issuing}
-use Rattle.prem_runs.proofs.PositionLemmas.Schedules.{GoesOn, Schedules, Moves as Scheduled}
-use Rattle.prem_runs.proofs.PositionLemmas.MayMoves.{MayMove, does, stands_still, turn_with}
-use Rattle.prem_runs.proofs.PositionLemmas.Turns.{Runs, bump_move, issuing}
-use Rattle.prem_runs.proofs.PositionLemmas.Issues.{issuing_did}
-use Rattle.prem_runs.proofs.PositionLemmas.Debts.{total, ArePositive, owed_at_most, paid_is}
+use Rattle.prem_cycle.specs.Runs.Position.Finish.{data_accesses}
+use Rattle.prem_cycle.proofs.RunsLemmas.PositionLemmas.Works.{kept_plant}
+use Rattle.prem_cycle.proofs.RunsLemmas.PositionLemmas.Stands.{bump, Stands, Issuing}
+use Rattle.prem_cycle.proofs.RunsLemmas.PositionLemmas.Schedules.{GoesOn, Schedules, Moves as Scheduled}
+use Rattle.prem_cycle.proofs.RunsLemmas.PositionLemmas.MayMoves.{MayMove, does, stands_still, turn_with}
+use Rattle.prem_cycle.proofs.RunsLemmas.PositionLemmas.Turns.{Runs, bump_move, issuing}
+use Rattle.prem_cycle.proofs.RunsLemmas.PositionLemmas.Issues.{issuing_did}
+use Rattle.prem_cycle.proofs.RunsLemmas.PositionLemmas.Debts.{total, ArePositive, owed_at_most, paid_is}
 use Rattle.prem_sound.specs.Script.Script.{begun_by, Call, call_of, Script, due_by}
 use Rattle.prem_sound.specs.Script.Scripts.{sum_below, last_release, interval_count}
 use Rattle.prem_sound.specs.Resident.Faultless.{IsPolicy}

@@ -1,7 +1,7 @@
 //! Where each task's run on its own keeps to its script, no execution phase misses, no memory phase stores, and the bus has no clash.
 ghost use Rattle.prem_plant.specs.declared.plant.Replacement.{Replacement};
-ghost use Rattle.prem_order.specs.Order.{each_pass, fifo, lru, one_pass};
-ghost use Rattle.prem_order.specs.Rules.{order_rule_of, passes_of};
+ghost use Rattle.prem_plant.specs.Order.Order.{each_pass, fifo, lru, one_pass};
+ghost use Rattle.prem_plant.specs.Order.Rules.{order_rule_of, passes_of};
 ghost use Rattle.prem_lru.specs.Entries.{in_place, to_front};
 ghost use Rattle.prem_lru.specs.Rules.{rule_of};
 ghost use Rattle.prem_sound.specs.Resident.Faultless.{IsPolicy, PlantsMakeNoFault, ScriptsMakeNoFault};

@@ -8,12 +8,12 @@ use Rattle.prem_list.specs.Sequence.{items_of}
 use Rattle.prem_syntax.specs.declared.rules.Count.TheVariants.{Functions, Globals}
 use Rattle.prem_syntax.specs.Syntax.{ProgramText}
 use Rattle.prem_syntax.specs.SyntaxOf.{global_of, function_of}
-use Rattle.prem_meaning.specs.Rules.{Limit, Breach, first_of}
-use Rattle.prem_meaning.specs.Breaches.{if_broken}
-use Rattle.prem_meaning.specs.GroupTwo.{group_two, IsWellFormed}
-use Rattle.prem_meaning.specs.Resolved.{Resolved}
-use Rattle.prem_meaning.specs.Resolve.{globals_of, resolve}
-use Rattle.prem_meaning.specs.Source.{unlimited}
+use Rattle.prem_syntax.specs.Rules.{Limit, Breach, first_of}
+use Rattle.prem_syntax.specs.Breaches.{if_broken}
+use Rattle.prem_syntax.specs.GroupTwo.{group_two, IsWellFormed}
+use Rattle.prem_syntax.specs.Resolved.{Resolved}
+use Rattle.prem_syntax.specs.Resolve.{globals_of, resolve}
+use Rattle.prem_syntax.specs.Source.{unlimited}
 use Rattle.prem_tree.specs.declared.resolve.resolved.Routine.{Routine as RoutineTree}
 use Rattle.prem_tree.specs.declared.resolve.resolved.Resolved.{Resolved as ResolvedTree}
 use Rattle.prem_tree.specs.Resolve.ResolvedOf.{loops_of, routines_of, resolved_of, IsResolved}

@@ -5,12 +5,12 @@ use Rattle.std.proofs.lemmas.List.{length-map}
 use Rattle.prem_list.specs.Sequence.{items_of}
 use Rattle.prem_syntax.specs.Syntax.{MarkText}
 use Rattle.prem_syntax.specs.SyntaxOf.{function_of}
-use Rattle.prem_meaning.specs.Resolved.{Done, Routine, Resolved}
+use Rattle.prem_syntax.specs.Resolved.{Done, Routine, Resolved}
 use Rattle.prem_tree.specs.declared.resolve.resolved.Routine.{Routine as RoutineTree}
 use Rattle.prem_tree.specs.declared.resolve.resolved.Resolved.{Resolved as ResolvedTree}
 use Rattle.prem_tree.specs.Resolve.ResolvedOf.{term_of, loops_of, routine_of, routines_of, resolved_of}
 use Rattle.prem_analysis.proofs.MarksLemmas.CalledTrees.{tables_same}
-use Rattle.prem_template.specs.Frames.{frame_of, frame_at, depth_of}
+use Rattle.prem_layout.specs.Template.Frames.{frame_of, frame_at, depth_of}
 use Rattle.prem_layout.specs.Plans.{plan_before, callee_table, reach_of, region_of, plan_of, plans_from, plans_of}
 use Rattle.prem_split.specs.Walk.{frame_of as frame_of_tree}
 use Rattle.prem_split.specs.Tables.{depths_of}

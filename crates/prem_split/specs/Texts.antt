@@ -2,10 +2,10 @@
 use Rattle.std.specs.Prelude.{◌≤◌, List}
 use Rattle.std.specs.List.{AllByRecursion}
 use Rattle.prem_syntax.specs.Syntax.{ProgramText}
-use Rattle.prem_meaning.specs.Resolved.{Routine}
-use Rattle.prem_meaning.specs.Resolve.{resolve}
-use Rattle.prem_meaning.specs.Source.{unlimited}
-use Rattle.prem_template.specs.Frames.{frame_of}
+use Rattle.prem_syntax.specs.Resolved.{Routine}
+use Rattle.prem_syntax.specs.Resolve.{resolve}
+use Rattle.prem_syntax.specs.Source.{unlimited}
+use Rattle.prem_layout.specs.Template.Frames.{frame_of}
 use Rattle.prem_layout.specs.Plans as layout
 
 abbrev pub HasSmallFrame : Routine → Type 0

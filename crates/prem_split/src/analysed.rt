@@ -1,13 +1,13 @@
 // The plans of analysed programs.
 ghost use Rattle.std.specs.Prelude.{◌≡◌, IfOk, map};
 ghost use Rattle.prem_list.specs.Sequence.{items_of};
-ghost use Rattle.prem_analyse.specs.Analysed.{analysed_text};
+ghost use Rattle.prem_analysis.specs.Analysed.{analysed_text};
 ghost use Rattle.prem_split.specs.PlanOf.{plan_of};
 ghost use Rattle.prem_split.specs.Texts.{HasFrames, plans_of};
 
 use crate::plan::IntervalPlan;
 use crate::plans::intervals_of;
-use prem_analyse::Analysed;
+use prem_analysis::Analysed;
 use prem_list::Sequence;
 use prem_tree::resolve::resolve;
 use std::alloc::{AllocError, Global};

@@ -3,9 +3,9 @@ use Rattle.std.specs.Option.{option_map}
 use Rattle.std.proofs.Common.{◌≡◌, ℕ, suc, ◌+◌, ◌≤◌, List, [], ◌∷◌, Option, None, Some, Result, Ok, Err, length, map, refl, ap, sym, ◌∙◌, subst, arith}
 use Rattle.prem_plant.specs.declared.plant.Target.{Target}
 use Rattle.prem_syntax.specs.Syntax.{ProgramText}
-use Rattle.prem_lexer.specs.declared.token.fail.FrontFail.{FrontFail}
+use Rattle.prem_text.specs.declared.lexing.token.fail.FrontFail.{FrontFail}
 use Rattle.prem_text.specs.Texts.{reads}
-use Rattle.prem_analyse.specs.Analysed.{analysed_text}
+use Rattle.prem_analysis.specs.Analysed.{analysed_text}
 use Rattle.prem_asm.specs.Pieces.{Pieces}
 use Rattle.prem_layout.specs.Placed.{Coded as CodedText}
 use Rattle.prem_layout.specs.Rules.{LateRule, Refusal, or_else, refused_by, first_among, over_tasks, group_four}

@@ -1,17 +1,17 @@
 // The fourth group of rules: the programs of all tasks get their code.
 ghost use Rattle.std.specs.Prelude.{◌≡◌, ◌≤◌, ◌<◌, Some, IfOk, length, map};
-ghost use Rattle.prem_analyse.specs.Analysed.{analysed_text};
-ghost use Rattle.prem_template.specs.Limits.{excess};
+ghost use Rattle.prem_analysis.specs.Analysed.{analysed_text};
+ghost use Rattle.prem_layout.specs.Template.Limits.{excess};
+ghost use Rattle.prem_layout.specs.Rules.{refused_by, over_tasks};
 ghost use Rattle.prem_gen.specs.Term.Excess.{Exceeds};
 ghost use Rattle.prem_gen.specs.Compiled.{compiled};
-ghost use Rattle.prem_layout.specs.Rules.{refused_by, over_tasks};
 ghost use Rattle.prem_tasks.specs.Told.{told_of};
 ghost use Rattle.prem_tasks.specs.Stops.{Ends};
 ghost use Rattle.prem_stages.specs.Stages.{uncoded};
 ghost use Rattle.prem_stages.specs.Code.{code_in, program_code};
 
 use crate::names::{item_names, name_at};
-use prem_analyse::Analysed;
+use prem_analysis::Analysed;
 use prem_gen::{GenFail, Piece, Sequence, gen_all};
 use prem_plant::Target;
 use prem_tasks::{Rule, Stop, refused};

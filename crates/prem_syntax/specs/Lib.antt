@@ -2,3 +2,15 @@ pub mod Literals
 pub mod Name
 pub mod Syntax
 pub mod SyntaxOf
+pub mod Resolved
+pub mod Resolve
+pub mod Expressions
+pub mod Statements
+pub mod Source
+pub mod Sums
+pub mod Order
+pub mod Reach
+pub mod Assigned
+pub mod Rules
+pub mod Breaches
+pub mod GroupTwo

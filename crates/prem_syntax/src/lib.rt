@@ -1,4 +1,4 @@
-//! The trees of the source language, and its syntax as plain data.
+//! The trees of the source language, its syntax as plain data, what its programs mean, and the rules of well-formed ones.
 #![tactic(auto)]
 
 mod copy;

@@ -5,15 +5,15 @@ use Rattle.prem_plant.specs.declared.plant.Target.{Target}
 use Rattle.prem_plant.specs.declared.plant.Plant.{Plant}
 use Rattle.prem_plant.specs.declared.plant.Device.{Device}
 use Rattle.prem_syntax.specs.Syntax.{Text, GlobalVariable, ProgramText}
-use Rattle.prem_meaning.specs.GroupTwo as meaning
-use Rattle.prem_meaning.specs.Resolved.{Resolved}
-use Rattle.prem_meaning.specs.Resolve.{resolve}
+use Rattle.prem_syntax.specs.GroupTwo as meaning
+use Rattle.prem_syntax.specs.Resolved.{Resolved}
+use Rattle.prem_syntax.specs.Resolve.{resolve}
 use Rattle.prem_check.specs.Told.{told_of as told_of_breach}
-use Rattle.prem_lexer.specs.declared.token.fail.FrontFail.{FrontFail}
+use Rattle.prem_text.specs.declared.lexing.token.fail.FrontFail.{FrontFail}
 use Rattle.prem_text.specs.Texts.{reads}
 use Rattle.prem_ranges.specs.RangeRules.{RangeBreach, RangeRule, LoopBound, TooLarge, ZeroDivisor, IndexOutside, RegionOutside, ArgRange}
 use Rattle.prem_ranges.specs.GroupThree as ranges
-use Rattle.prem_template.specs.Parts.{codes_of, parts_of as task_parts}
+use Rattle.prem_layout.specs.Template.Parts.{codes_of, parts_of as task_parts}
 use Rattle.prem_layout.specs.Placed.{Coded, name_at}
 use Rattle.prem_layout.specs.Rules.{LateRule, or_else, Refusal, over_tasks}
 use Rattle.prem_layout.specs.Broken.{broken_late}

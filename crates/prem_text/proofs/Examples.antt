@@ -2,10 +2,10 @@
 use Rattle.std.proofs.Common.{[], ◌∷◌, ◌++◌, None, codes, refl, replicate}
 use Rattle.prem_syntax.specs.declared.tree.Ty.TheVariants as ty
 use Rattle.prem_syntax.specs.Syntax.{ProgramText, absent, global_item, function_item, no_statements}
-use Rattle.prem_lexer.specs.declared.token.fail.FrontFail.TheVariants.{Token, Syntax, TooDeep}
-use Rattle.prem_lexer.specs.Spelling.{used_word, is_unused, reserved_word, longest_mark}
-use Rattle.prem_lexer.specs.Literal.{literal_word}
-use Rattle.prem_lexer.specs.Tokens.{first_token, start, step, lex, tokens_of}
+use Rattle.prem_text.specs.declared.lexing.token.fail.FrontFail.TheVariants.{Token, Syntax, TooDeep}
+use Rattle.prem_text.specs.Lexing.Spelling.{used_word, is_unused, reserved_word, longest_mark}
+use Rattle.prem_text.specs.Lexing.Literal.{literal_word}
+use Rattle.prem_text.specs.Lexing.Tokens.{first_token, start, step, lex, tokens_of}
 use Rattle.prem_text.specs.Texts.{IsProgramText, IsNoProgram}
 use Rattle.prem_text.proofs.Whole.{text_sound, text_refused}
 

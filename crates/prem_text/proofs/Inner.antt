@@ -1,7 +1,7 @@
 -- No item of the grammar has the end of the text among its tokens.
 use Rattle.std.proofs.Common.{◌≡◌, Bool, true, false, List, [], ◌∷◌, ◌++◌, Option, None, Some, refl, not}
 use Rattle.std.proofs.lemmas.Bool.{and_parts, and_from}
-use Rattle.prem_lexer.specs.Token.Lexeme.{Lexeme, name, number, word, mark, end_of_text, Seen}
+use Rattle.prem_text.specs.Lexing.Token.Lexeme.{Lexeme, name, number, word, mark, end_of_text, Seen}
 use Rattle.prem_text.specs.Grammar.Slots.{Slot, left_parenthesis, right_parenthesis, left_brace, right_brace, left_bracket, right_bracket, semicolon, comma, equal_sign, a_name, a_literal, the_else, the_range, the_predictable, the_region, the_void, the_return, the_end, fits, is_end}
 use Rattle.prem_text.specs.Grammar.Phrases.{Phrase, of_literal, of_name, of_element, of_bracket, of_prefix, of_infix, spelled, IsRow}
 use Rattle.prem_text.specs.Grammar.StatementPhrases.{StepForm, by_one_step, step_slots, Target, to_name, to_element, Direction, up, Parted, Arguments, no_arguments, arguments, StatementPhrase, StatementPhrases, of_block, of_if, of_else, of_for, of_while, of_output, of_call, of_input, of_call_to, of_assign, of_change, of_count, no_phrases, next_phrase, AreParted, AreArguments, IsStatement, AreStatements, parted_tokens, argument_tokens, target_tokens, written, all_written, change_sign, count_sign, if_head, for_head, for_bound, while_head, out_head, statement_tail, call_head, call_to_head, input_row}

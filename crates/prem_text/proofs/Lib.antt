@@ -1,3 +1,4 @@
+pub mod LexingLemmas
 pub mod Inner
 pub mod Whole
 pub mod Examples

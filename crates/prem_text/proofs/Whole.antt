@@ -3,11 +3,11 @@ use Rattle.std.proofs.Common.{◌≡◌, ℕ, zero, suc, ◌+◌, Bool, true, fa
 use Rattle.std.proofs.lemmas.Bool.{and_parts, and_from}
 use Rattle.std.proofs.lemmas.Bool.Decides.{nat_tests}
 use Rattle.prem_syntax.specs.Syntax.{ItemText, ProgramText}
-use Rattle.prem_lexer.specs.declared.token.fail.FrontFail.{FrontFail}
-use Rattle.prem_lexer.specs.declared.token.fail.FrontFail.TheVariants.{NotText, Token, Syntax, TooLong, TooDeep, OutOfMemory}
-use Rattle.prem_lexer.specs.Token.Reading.{◌>>=◌, too_deep}
-use Rattle.prem_lexer.specs.Token.Lexeme.{end_of_text, Seen}
-use Rattle.prem_lexer.specs.Tokens.{tokens_of}
+use Rattle.prem_text.specs.declared.lexing.token.fail.FrontFail.{FrontFail}
+use Rattle.prem_text.specs.declared.lexing.token.fail.FrontFail.TheVariants.{NotText, Token, Syntax, TooLong, TooDeep, OutOfMemory}
+use Rattle.prem_text.specs.Lexing.Token.Reading.{◌>>=◌, too_deep}
+use Rattle.prem_text.specs.Lexing.Token.Lexeme.{end_of_text, Seen}
+use Rattle.prem_text.specs.Lexing.Tokens.{tokens_of}
 use Rattle.prem_text.specs.Grammar.Slots.{the_end}
 use Rattle.prem_text.specs.Grammar.Item.{Stage, outside, finished, ItemStep, ahead, made, refused, step, is_too_deep}
 use Rattle.prem_text.specs.Grammar.Reader.{unless_deep, at_end, read_on, read}

@@ -1,3 +1,4 @@
+pub mod Lexing
 pub mod Texts
 pub mod Spelling
 pub mod Grammar

@@ -1,11 +1,11 @@
 -- Which texts are programs, and why another is none.
 use Rattle.std.specs.Prelude.{◌≡◌, ℕ, true, List, Result}
 use Rattle.prem_syntax.specs.Syntax.{ProgramText}
-use Rattle.prem_lexer.specs.declared.token.fail.FrontFail.{FrontFail}
-use Rattle.prem_lexer.specs.declared.token.fail.FrontFail.TheVariants.{Syntax, TooDeep}
-use Rattle.prem_lexer.specs.Token.Reading.{◌>>=◌}
-use Rattle.prem_lexer.specs.Token.Lexeme.{Seen}
-use Rattle.prem_lexer.specs.Tokens.{tokens_of}
+use Rattle.prem_text.specs.declared.lexing.token.fail.FrontFail.{FrontFail}
+use Rattle.prem_text.specs.declared.lexing.token.fail.FrontFail.TheVariants.{Syntax, TooDeep}
+use Rattle.prem_text.specs.Lexing.Token.Reading.{◌>>=◌}
+use Rattle.prem_text.specs.Lexing.Token.Lexeme.{Seen}
+use Rattle.prem_text.specs.Lexing.Tokens.{tokens_of}
 use Rattle.prem_text.specs.Grammar.Reader.{read}
 use Rattle.prem_text.specs.Grammar.ProgramPhrases.{ProgramPhrase, IsProgram, program_tokens, program_tree, program_past}
 use Rattle.prem_text.specs.Grammar.Law.{are_within, IsUnexpected, IsPast}

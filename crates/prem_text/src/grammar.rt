@@ -5,8 +5,8 @@
 //! each alternative, and functions that give a phrase's tokens, its tree, and which of its tokens are past a limit.
 ghost use Rattle.std.specs.Prelude.{◌≡◌, ◌≤◌, ◌<◌, ◌++◌, ◌∷◌, ℕ, List, Some, Ok, Err, true, false};
 ghost use Rattle.prem_syntax.specs.Syntax.{Expression, Statement, ProgramText};
-ghost use Rattle.prem_lexer.specs.declared.token.fail.FrontFail.TheVariants.{Syntax, TooDeep};
-ghost use Rattle.prem_lexer.specs.Token.Lexeme.{Seen};
+ghost use Rattle.prem_text.specs.declared.lexing.token.fail.FrontFail.TheVariants.{Syntax, TooDeep};
+ghost use Rattle.prem_text.specs.Lexing.Token.Lexeme.{Seen};
 ghost use Rattle.prem_text.specs.Grammar.Expression.{State, bottom, wants, ends, stops, move};
 ghost use Rattle.prem_text.specs.Grammar.Statement.{Point, leaves, turn};
 ghost use Rattle.prem_text.specs.Grammar.Reader.{read};

@@ -1,7 +1,7 @@
 // What is read of a text, and what the text is.
 ghost use Rattle.std.specs.Prelude.{◌≡◌, ℕ, List, Ok, Err};
 ghost use Rattle.prem_syntax.specs.Syntax.{ProgramText};
-ghost use Rattle.prem_lexer.specs.declared.token.fail.FrontFail.{FrontFail};
+ghost use Rattle.prem_text.specs.declared.lexing.token.fail.FrontFail.{FrontFail};
 ghost use Rattle.prem_text.specs.Texts.{reads, IsProgramText, IsNoProgram};
 
 /// Reading a text, its tokens first and then the grammar, is exact. It gives a tree exactly where the text divides into

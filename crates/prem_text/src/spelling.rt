@@ -3,9 +3,9 @@
 //! The definitions know no reader: how each token is spelled, what may stand between tokens, which bytes are the
 //! token at a place of a text, and where a token stands. A text divides into such pieces, one behind another.
 ghost use Rattle.std.specs.Prelude.{◌≡◌, ◌≤◌, ◌++◌, ◌∷◌, ℕ, List, [], length, Ok, Err};
-ghost use Rattle.prem_lexer.specs.declared.token.fail.FrontFail.{FrontFail};
-ghost use Rattle.prem_lexer.specs.Token.Lexeme.{Seen, end_of_text};
-ghost use Rattle.prem_lexer.specs.Tokens.{tokens_of};
+ghost use Rattle.prem_text.specs.declared.lexing.token.fail.FrontFail.{FrontFail};
+ghost use Rattle.prem_text.specs.Lexing.Token.Lexeme.{Seen, end_of_text};
+ghost use Rattle.prem_text.specs.Lexing.Tokens.{tokens_of};
 ghost use Rattle.prem_text.specs.Spelling.Division.{Divides, AreTokens, Refused, place_behind};
 ghost use Rattle.prem_text.specs.Spelling.Spelled.{Spelling, AreSpellings, joined, placed};
 

@@ -33,11 +33,6 @@ use Rattle.prem_build.specs.declared.sheet.Sheet.{Sheet}
 use Rattle.prem_build.specs.declared.sheet.Sheet.TheVariants.{Bounds, Image, Listing}
 use Rattle.prem_build.specs.Build.{compiled_reply as sheet_reply, judged_reply as sheet_judged, sheet_stages, sheet_text}
 use Rattle.prem_build.specs.Colors.{stuck_reply, memory_refusal, judged_reply as color_judged, placed_reply, moved_reply, found_places, early_reply, color_reply, color_stages}
-use Rattle.prem_one.specs.One.{judged_answer as one_judged, one_answer, one_set, one_stages, run_text, state_of}
-use Rattle.prem_tile_answer.specs.Reply.{tile_reply, tile_stages}
-use Rattle.prem_tile_answer.specs.Promise.{KeepsTiles}
-use Rattle.prem_tile_answer.proofs.Keeping.{replies_keep}
-use Rattle.prem_source.specs.Source.{judged_reply as source_judged, source_reply, tasks_text}
 use Rattle.prem_running.specs.RunSound.Runs.{SuitsRun}
 use Rattle.prem_running.specs.Running.{compiled_reply, judged_reply as run_judged, run_limit, set_reply}
 use Rattle.prem_running.specs.Mail.Files.{reading_mail}
@@ -47,12 +42,17 @@ use Rattle.prem_running.specs.Sample.Sample.{compiled_reply as sample_compiled, 
 use Rattle.prem_running.proofs.RunSoundLemmas.Reports.{sound_reports_end}
 use Rattle.prem_running.proofs.RunSoundLemmas.SetRuns.{inputs_are_lawful}
 use Rattle.prem_running.proofs.SetLawsLemmas.Names.{lawful_runs_fit}
+use Rattle.prem_top.specs.One.Answer.{judged_answer as one_judged, one_answer, one_set, one_stages, run_text, state_of}
+use Rattle.prem_top.specs.Tile.Reply.{tile_reply, tile_stages}
+use Rattle.prem_top.specs.Tile.Promise.{KeepsTiles}
+use Rattle.prem_top.proofs.TileLemmas.Keeping.{replies_keep}
+use Rattle.prem_top.specs.Source.Answer.{judged_reply as source_judged, source_reply, tasks_text}
 use Rattle.prem_top.specs.Read.{IsRead, SetIsRead, RunIsRead, MailIsRead}
 use Rattle.prem_top.specs.Promises.{IsAccepted, IsSoundTelling, IsSoundColor, Keeps, TellsFirstBroken, IsFirstBroken, TellsWhyUncolored, early, stuck, full, at_places, IsWhyUncolored, delivered_to}
 use Rattle.prem_top.specs.PromiseLaws.{BuildsKeep, ChecksKeep, ListsKeep, OnesKeep, RunsKeep, SamplesKeep, SourcesKeep, TilesKeep, ColorsKeep, MailKeeps}
 use Rattle.prem_top.proofs.Readings.{goes_on, run_goes, SetGoes, set_goes, is_judged, run_goes_on, mail_goes}
 use Rattle.prem_top.proofs.Values.{sample_has_values, sets_read_have_values}
-use Rattle.prem_top.proofs.One.{gives, sound, text_told}
+use Rattle.prem_top.proofs.Alone.{gives, sound, text_told}
 
 -- ---- by the first broken rule
 

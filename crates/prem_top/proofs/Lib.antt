@@ -1,7 +1,10 @@
+pub mod OneLemmas
+pub mod SourceLemmas
+pub mod TileLemmas
 pub mod Readings
 pub mod Values
 pub mod OneTask
-pub mod One
+pub mod Alone
 pub mod Commands
 pub mod Samples
 pub mod Headline

@@ -5,7 +5,7 @@ use Rattle.std.proofs.Common.{◌≡◌, ℕ, Bool, true, false, cond, ◌&&◌,
 use Rattle.std.proofs.lemmas.Bool.{and_parts, leb-true}
 use Rattle.clap.specs.Words.{Row, Text}
 use Rattle.prem_command.specs.Words.{Asked, one, check, build, list, source, run, exec, sample, tile, color, mail, TileAsked, is_from_to, with_numbers, tile_in, text_in, number_in, read_by, tile_words, name_of, names_of, run_of, seed_of, tile_of, mail_of, asked_further, asked_by, command_of}
-use Rattle.prem_tile_answer.specs.Asked.{IsInRange}
+use Rattle.prem_top.specs.Tile.Asked.{IsInRange}
 use Rattle.prem_top.specs.InRange.{AreInRange}
 
 -- what is made of something that is there

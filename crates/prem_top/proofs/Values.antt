@@ -17,10 +17,10 @@ use Rattle.prem_set.specs.Lawful.{IsEntry, IsSet}
 use Rattle.prem_set.proofs.Lawful.{set_is_lawful}
 use Rattle.prem_answer.specs.Stages.{Reads}
 use Rattle.prem_exec.specs.Sources.Sources.{set_with, task_with}
-use Rattle.prem_one.specs.One.{one_set, one_task}
-use Rattle.prem_one.proofs.Sets.{one_name}
 use Rattle.prem_running.specs.Sample.Draws.{numbers}
 use Rattle.prem_running.specs.Sample.Trace.{behind_task, device_named, program_text, sample_devices, sample_set, task_names as sample_names, tasks_from}
+use Rattle.prem_top.specs.One.Answer.{one_set, one_task}
+use Rattle.prem_top.proofs.OneLemmas.Sets.{one_name}
 use Rattle.prem_top.specs.Read.{SourcesAreRead}
 use Rattle.prem_top.specs.PromiseLaws.{SetsReadHaveValues}
 

@@ -6,8 +6,8 @@ use Rattle.prem_cycle.specs.State.{MachineState, task_in}
 use Rattle.prem_cycle.specs.Cycle.{is_finished}
 use Rattle.prem_cycle.specs.FactsOf.{report_of}
 use Rattle.prem_syntax.specs.Syntax.{ProgramText}
-use Rattle.prem_meaning.specs.Statements.{ProgramState}
-use Rattle.prem_meaning.specs.Source.{source}
+use Rattle.prem_syntax.specs.Statements.{ProgramState}
+use Rattle.prem_syntax.specs.Source.{source}
 use Rattle.prem_text.specs.Texts.{reads as program_of}
 use Rattle.prem_layout.specs.Rules.{Refusal, over_tasks, group_seven}
 use Rattle.prem_color.specs.Rooms.{no_part}
@@ -34,14 +34,14 @@ use Rattle.prem_exec.specs.Sources.Sources.{source_limit}
 use Rattle.prem_build.specs.Colors.{found_places, memory_refusal, name_in, stuck_line}
 use Rattle.prem_build.specs.Tables.Check.{check_text}
 use Rattle.prem_build.specs.Tables.Listing.{list_text}
-use Rattle.prem_one.specs.One.{one_set, output_lines, run_lines, state_of}
-use Rattle.prem_tile_answer.specs.Promise.{TellsTiled, TellsWhyNot}
-use Rattle.prem_source.specs.Source.{tasks_text}
 use Rattle.prem_running.specs.RunSound.Runs.{SuitsRun, EndsWell}
 use Rattle.prem_running.specs.Running.{run_limit, compiled_reply}
 use Rattle.prem_running.specs.Sample.Trace.{sample_set}
 use Rattle.prem_running.specs.Sample.Sample.{compiled_reply as sample_reply}
 use Rattle.prem_running.specs.Mail.Mail.{compiled_reply as mailed_reply, delivered_at, mailed_input}
+use Rattle.prem_top.specs.One.Answer.{one_set, output_lines, run_lines, state_of}
+use Rattle.prem_top.specs.Tile.Promise.{TellsTiled, TellsWhyNot}
+use Rattle.prem_top.specs.Source.Answer.{tasks_text}
 use Rattle.prem_top.specs.Read.{IsRead, SetIsRead, RunIsRead, MailIsRead}
 
 -- ---- accepted

@@ -8,10 +8,10 @@ use Rattle.prem_word.specs.Words.{word_of}
 use Rattle.prem_syntax.specs.declared.tree.Ty.{Ty}
 use Rattle.prem_syntax.specs.declared.tree.Mark.{Mark}
 use Rattle.prem_syntax.specs.SyntaxOf.{mark_of}
-use Rattle.prem_meaning.specs.Resolved.{Term, Steps, Done, Routine}
-use Rattle.prem_meaning.specs.Expressions.{Outcome, and_then, or_wrong, cell}
-use Rattle.prem_meaning.specs.Statements.{ProgramState, MarkedCall, Calls, choose, value, values, with_local, with_cell, store, stored, with_output, take_input, holds, loop_test, int_local, loop_step, counting, bounded, with_target, run, declare, result_of, with_mark, is_marked, leave, enter, with_new_local}
-use Rattle.prem_meaning.specs.Source.{Limits, unlimited, everywhere, enter_if_there, this_or, calls_below, do_jobs}
+use Rattle.prem_syntax.specs.Resolved.{Term, Steps, Done, Routine}
+use Rattle.prem_syntax.specs.Expressions.{Outcome, and_then, or_wrong, cell}
+use Rattle.prem_syntax.specs.Statements.{ProgramState, MarkedCall, Calls, choose, value, values, with_local, with_cell, store, stored, with_output, take_input, holds, loop_test, int_local, loop_step, counting, bounded, with_target, run, declare, result_of, with_mark, is_marked, leave, enter, with_new_local}
+use Rattle.prem_syntax.specs.Source.{Limits, unlimited, everywhere, enter_if_there, this_or, calls_below, do_jobs}
 use Rattle.prem_tree.specs.declared.resolve.resolved.Step.{Step, Row_of-Step, end_of-Step, more_of-Step}
 use Rattle.prem_tree.specs.declared.resolve.resolved.Step.TheVariants.{Block', SetLocal, SetScalar, SetElement, Output, Input, If', For', While', Call}
 use Rattle.prem_tree.specs.declared.resolve.resolved.Routine.{Routine as RoutineTree}

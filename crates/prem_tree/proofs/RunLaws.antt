@@ -5,14 +5,14 @@ use Rattle.prem_list.specs.Sequence.{items_of}
 use Rattle.prem_syntax.specs.declared.rules.Count.TheVariants.{Functions}
 use Rattle.prem_syntax.specs.Syntax.{GlobalVariable, FunctionText, global_item, function_item, ProgramText}
 use Rattle.prem_syntax.specs.SyntaxOf.{global_of}
-use Rattle.prem_meaning.specs.Resolve.{functions_of, resolve_items, loops_within}
-use Rattle.prem_meaning.specs.Rules.{Limit, Breach, first, first_of, comes_before}
-use Rattle.prem_meaning.specs.Breaches.{if_broken}
-use Rattle.prem_meaning.specs.GroupTwo.{group_two, IsWellFormed}
-use Rattle.prem_meaning.specs.Resolved.{Resolved}
-use Rattle.prem_meaning.specs.Expressions.{Outcome}
-use Rattle.prem_meaning.specs.Statements.{ProgramState, MarkedCall}
-use Rattle.prem_meaning.specs.Source.{unlimited, initial_words, start, do_jobs, source}
+use Rattle.prem_syntax.specs.Resolve.{functions_of, resolve_items, loops_within}
+use Rattle.prem_syntax.specs.Rules.{Limit, Breach, first, first_of, comes_before}
+use Rattle.prem_syntax.specs.Breaches.{if_broken}
+use Rattle.prem_syntax.specs.GroupTwo.{group_two, IsWellFormed}
+use Rattle.prem_syntax.specs.Resolved.{Resolved}
+use Rattle.prem_syntax.specs.Expressions.{Outcome}
+use Rattle.prem_syntax.specs.Statements.{ProgramState, MarkedCall}
+use Rattle.prem_syntax.specs.Source.{unlimited, initial_words, start, do_jobs, source}
 use Rattle.prem_tree.specs.declared.resolve.resolved.Resolved.{Resolved as ResolvedTree}
 use Rattle.prem_tree.specs.declared.state.interpreter.Interpreter.{Interpreter}
 use Rattle.prem_tree.specs.declared.source.SourceRun.{SourceRun}

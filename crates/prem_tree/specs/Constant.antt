@@ -2,7 +2,7 @@
 use Rattle.std.specs.Prelude.{ℕ, ℤ}
 use Rattle.prem_word.specs.Words.{word_of}
 use Rattle.prem_syntax.specs.declared.tree.Ty.{Ty}
-use Rattle.prem_meaning.specs.Statements.{stored}
+use Rattle.prem_syntax.specs.Statements.{stored}
 
 -- the word of a constant in a global of a type
 unfoldable pub constant_word : Ty → ℤ → ℕ

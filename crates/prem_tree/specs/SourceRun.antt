@@ -1,9 +1,9 @@
 -- What a run of a program gives, against the meaning.
 use Rattle.std.specs.Prelude.{◌≡◌, ℕ, List, map, IsOkAnd}
 use Rattle.prem_list.specs.Sequence.{items_of}
-use Rattle.prem_meaning.specs.Expressions.{Outcome}
-use Rattle.prem_meaning.specs.Statements.{MarkedCall, ProgramState}
-use Rattle.prem_meaning.specs.Source.{unlimited, start, do_jobs}
+use Rattle.prem_syntax.specs.Expressions.{Outcome}
+use Rattle.prem_syntax.specs.Statements.{MarkedCall, ProgramState}
+use Rattle.prem_syntax.specs.Source.{unlimited, start, do_jobs}
 use Rattle.prem_tree.specs.declared.source.SourceRun.{SourceRun}
 use Rattle.prem_tree.specs.declared.resolve.resolved.Resolved.{Resolved}
 use Rattle.prem_tree.specs.Resolve.ResolvedOf.{resolved_of}

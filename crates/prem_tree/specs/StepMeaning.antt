@@ -2,10 +2,10 @@
 use Rattle.std.specs.Prelude.{ℕ, zero, suc, ◌^◌, ◌==◌, Bool, true, false, List, [], ◌∷◌, map, length, slice_get, is_some, Option, None, Some, Ok, Err}
 use Rattle.std.specs.Option.{option_map}
 use Rattle.prem_list.specs.Sequence.{items_of}
-use Rattle.prem_meaning.specs.Resolved.{Term}
-use Rattle.prem_meaning.specs.Expressions.{Outcome, and_then}
-use Rattle.prem_meaning.specs.Statements.{ProgramState, choose, values, take_input, holds, loop_test, loop_step, counting, bounded, with_target, declare, result_of}
-use Rattle.prem_meaning.specs.Source.{everywhere}
+use Rattle.prem_syntax.specs.Resolved.{Term}
+use Rattle.prem_syntax.specs.Expressions.{Outcome, and_then}
+use Rattle.prem_syntax.specs.Statements.{ProgramState, choose, values, take_input, holds, loop_test, loop_step, counting, bounded, with_target, declare, result_of}
+use Rattle.prem_syntax.specs.Source.{everywhere}
 use Rattle.prem_tree.specs.declared.resolve.resolved.Step.{Step, Row_of-Step, end_of-Step, more_of-Step}
 use Rattle.prem_tree.specs.declared.resolve.resolved.Step.TheVariants.{Block', SetLocal, SetScalar, SetElement, Output, Input, If', For', While', Call}
 use Rattle.prem_tree.specs.declared.resolve.resolved.Routine.{Routine}

@@ -1,7 +1,7 @@
 // Runs statements and calls.
 ghost use Rattle.std.specs.Prelude.{◌≡◌, ℕ, ◌≤◌, List, [], map, length};
-ghost use Rattle.prem_meaning.specs.Statements.{bounded, holds};
-ghost use Rattle.prem_meaning.specs.Source.{everywhere};
+ghost use Rattle.prem_syntax.specs.Statements.{bounded, holds};
+ghost use Rattle.prem_syntax.specs.Source.{everywhere};
 ghost use Rattle.prem_tree.specs.Resolve.ResolvedOf.{term_of};
 ghost use Rattle.prem_tree.specs.State.Interpreter.{state_of, Gives};
 ghost use Rattle.prem_tree.specs.StepMeaning.{do_step, do_list, do_counting, do_call, noted_calls, noted_jobs};

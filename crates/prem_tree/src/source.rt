@@ -2,7 +2,7 @@
 ghost use Rattle.std.specs.Prelude.{◌≡◌, ◌≤◌, ℕ, length, map, IfOk, IsErrOf};
 ghost use Rattle.prem_list.specs.Sequence.{items_of};
 ghost use Rattle.prem_syntax.specs.SyntaxOf.{initial_of, global_of, program_of};
-ghost use Rattle.prem_meaning.specs.Source.{constants_of, initial_words, source};
+ghost use Rattle.prem_syntax.specs.Source.{constants_of, initial_words, source};
 ghost use Rattle.prem_tree.specs.Checked.{checked_program};
 ghost use Rattle.prem_tree.specs.Constant.{constant_word};
 ghost use Rattle.prem_tree.specs.SourceRun.{IsRun, resolved_outcome};

@@ -6,7 +6,7 @@ use Rattle.prem_syntax.specs.declared.tree.Global.{Global}
 use Rattle.prem_syntax.specs.declared.tree.Region.{Region}
 use Rattle.prem_syntax.specs.Syntax.{RegionText, GlobalVariable}
 use Rattle.prem_syntax.specs.SyntaxOf.{global_of, region_of}
-use Rattle.prem_meaning.specs.Resolve.{find_named}
+use Rattle.prem_syntax.specs.Resolve.{find_named}
 use Rattle.prem_ranges.specs.Regions.{Area, area_of}
 
 -- the area of a region among globals

@@ -7,9 +7,9 @@ use Rattle.prem_list.specs.Sequence.{items_of}
 use Rattle.prem_syntax.specs.declared.tree.Global.{Global}
 use Rattle.prem_syntax.specs.Syntax.{MarkText, GlobalVariable}
 use Rattle.prem_syntax.specs.SyntaxOf.{global_of, mark_of}
-use Rattle.prem_meaning.specs.Source.{unlimited}
-use Rattle.prem_meaning.specs.Resolved.{Routine}
-use Rattle.prem_meaning.specs.Reach.{is_in, reach_set, callee_table}
+use Rattle.prem_syntax.specs.Source.{unlimited}
+use Rattle.prem_syntax.specs.Resolved.{Routine}
+use Rattle.prem_syntax.specs.Reach.{is_in, reach_set, callee_table}
 use Rattle.prem_tree.specs.declared.resolve.resolved.Routine.{Routine as RoutineTree}
 use Rattle.prem_tree.specs.declared.resolve.resolved.Resolved.{Resolved as ResolvedTree}
 use Rattle.prem_tree.specs.Resolve.ResolvedOf.{loops_of, routines_of, resolved_of}

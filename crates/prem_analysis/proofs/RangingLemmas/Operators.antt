@@ -5,7 +5,7 @@ use Rattle.prem_word.specs.declared.kind.BinOp.{BinOp}
 use Rattle.prem_word.specs.declared.kind.BinOp.TheVariants.{AndAlso as AndAlsoOp, OrElse as OrElseOp}
 use Rattle.prem_word.specs.Ranges.{truths, converted, range_of_op}
 use Rattle.prem_syntax.specs.declared.tree.Place.{Place}
-use Rattle.prem_meaning.specs.Resolved.{Term, operator}
+use Rattle.prem_syntax.specs.Resolved.{Term, operator}
 use Rattle.prem_ranges.specs.Environment.{Environment}
 use Rattle.prem_ranges.specs.RangeOf.{range_of, refined}
 use Rattle.prem_ranges.specs.RangeRules.{first, first_of}

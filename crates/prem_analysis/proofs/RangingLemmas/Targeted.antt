@@ -1,6 +1,6 @@
 -- The locals that a tree in memory assigns are those that its steps assign.
 use Rattle.std.proofs.Common.{◌≡◌, ℕ, Bool, true, false, eqb, ◌||◌, refl, ap, sym, ◌∙◌, Option, None, Some}
-use Rattle.prem_meaning.specs.Resolved.{Steps, Done}
+use Rattle.prem_syntax.specs.Resolved.{Steps, Done}
 use Rattle.prem_tree.specs.declared.resolve.resolved.Step.{Step, Row_of-Step, end_of-Step, more_of-Step}
 use Rattle.prem_tree.specs.declared.resolve.resolved.Step.TheVariants.{Block', SetLocal as SetLocalTree, SetScalar as SetScalarTree, SetElement as SetElementTree, Output as OutputTree, Input as InputTree, If', For', While', Call as CallTree}
 use Rattle.prem_ranges.specs.After.{assigns, is_target}

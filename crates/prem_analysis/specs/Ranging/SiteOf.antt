@@ -2,8 +2,8 @@
 use Rattle.std.specs.Prelude.{◌≡◌, ℕ, ◌<◌, Bool, true, false, List, [], ◌∷◌, length, map}
 use Rattle.prem_list.specs.Sequence.{items_of}
 use Rattle.prem_syntax.specs.SyntaxOf.{global_of}
-use Rattle.prem_meaning.specs.Source.{unlimited}
-use Rattle.prem_meaning.specs.Reach.{is_in}
+use Rattle.prem_syntax.specs.Source.{unlimited}
+use Rattle.prem_syntax.specs.Reach.{is_in}
 use Rattle.prem_tree.specs.declared.resolve.resolved.Resolved.{Resolved}
 use Rattle.prem_tree.specs.Resolve.ResolvedOf.{routines_of, resolved_of}
 use Rattle.prem_ranges.specs.Regions.{Area, Watch, watches_of}

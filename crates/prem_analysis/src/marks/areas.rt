@@ -6,7 +6,7 @@ ghost use Rattle.prem_list.specs.Sequence.{items_of};
 ghost use Rattle.prem_syntax.specs.Name.{name_bytes};
 ghost use Rattle.prem_syntax.specs.Syntax.{RegionText, GlobalVariable};
 ghost use Rattle.prem_syntax.specs.SyntaxOf.{global_of, region_of};
-ghost use Rattle.prem_meaning.specs.Resolve.{find_named};
+ghost use Rattle.prem_syntax.specs.Resolve.{find_named};
 ghost use Rattle.prem_ranges.specs.Regions.{area_of as area_in};
 ghost use Rattle.prem_analysis.specs.Ranging.SiteOf.{area_of};
 

@@ -2,7 +2,7 @@
 ghost use Rattle.std.specs.Prelude.{◌≡◌, ◌<◌, ◌++◌, map, length, IfOk, OnOk};
 ghost use Rattle.std.specs.Option.{option_map};
 ghost use Rattle.prem_syntax.specs.SyntaxOf.{global_of, mark_of};
-ghost use Rattle.prem_meaning.specs.Source.{unlimited};
+ghost use Rattle.prem_syntax.specs.Source.{unlimited};
 ghost use Rattle.prem_tree.specs.Resolve.ResolvedOf.{routines_of};
 ghost use Rattle.prem_analysis.specs.Ranging.SiteOf.{AreWatched};
 ghost use Rattle.prem_analysis.specs.Marks.Entries.{entry_of, entry, entry_if, entries_from};

@@ -1,6 +1,6 @@
 // What functions reach by calls.
 ghost use Rattle.std.specs.Prelude.{◌≡◌, ◌+◌, ◌<◌, ◌≤◌, map, length, IfOk};
-ghost use Rattle.prem_meaning.specs.Reach.{with_all, with_callees_below, reach_set};
+ghost use Rattle.prem_syntax.specs.Reach.{with_all, with_callees_below, reach_set};
 
 use std::alloc::{AllocError, Global};
 

@@ -3,7 +3,7 @@ ghost use Rattle.std.specs.Prelude.{◌≡◌, ◌&&◌, not, pos, ◌-ℤ◌, m
 ghost use Rattle.prem_list.specs.Sequence.{items_of};
 ghost use Rattle.prem_word.specs.Ranges.{from_to, exactly, encloses};
 ghost use Rattle.prem_syntax.specs.SyntaxOf.{global_of};
-ghost use Rattle.prem_meaning.specs.Reach.{is_in};
+ghost use Rattle.prem_syntax.specs.Reach.{is_in};
 ghost use Rattle.prem_ranges.specs.Regions.{area_holds, areas_hold};
 ghost use Rattle.prem_ranges.specs.RangeRules.{first_of};
 ghost use Rattle.prem_ranges.specs.RangeBreaches.{length_of, in_watches, in_index, in_scalar, in_element};

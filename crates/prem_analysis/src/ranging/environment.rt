@@ -1,7 +1,7 @@
 // What is known of the locals, in a vector that changes.
 ghost use Rattle.std.specs.Prelude.{◌≡◌, slice_get};
 ghost use Rattle.prem_word.specs.Ranges.{from_to};
-ghost use Rattle.prem_meaning.specs.Resolve.{kind_of};
+ghost use Rattle.prem_syntax.specs.Resolve.{kind_of};
 ghost use Rattle.prem_tree.specs.Resolve.ResolvedOf.{term_of};
 ghost use Rattle.prem_ranges.specs.Environment.{range_at, at_local, with_range, assigned, any_again};
 ghost use Rattle.prem_ranges.specs.RangeOf.{cut, cut_if_some, opposite, true_operator, is_same_kind, cut_by, refined};

@@ -9,7 +9,7 @@ use Rattle.prem_list.specs.Sequence.{items_of}
 use Rattle.prem_word.specs.Words.{truth}
 use Rattle.prem_syntax.specs.SyntaxOf.{mark_of as mark_text}
 use Rattle.prem_syntax.specs.declared.tree.Mark.{Mark}
-use Rattle.prem_meaning.specs.Resolved.{Steps, Done, SetLocal, SetScalar, SetElement, Output, Input, If, For, While, Call, Routine}
+use Rattle.prem_syntax.specs.Resolved.{Steps, Done, SetLocal, SetScalar, SetElement, Output, Input, If, For, While, Call, Routine}
 use Rattle.prem_tree.specs.declared.resolve.resolved.Routine.{Routine as RoutineTree}
 use Rattle.prem_tree.specs.declared.resolve.resolved.Resolved.{Resolved as ResolvedTree}
 use Rattle.prem_tree.specs.Resolve.ResolvedOf.{loops_of, routine_of, routines_of, resolved_of}

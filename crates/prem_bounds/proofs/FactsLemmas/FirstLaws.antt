@@ -3,7 +3,7 @@ use Rattle.std.specs.Prelude.{nat_lt}
 use Rattle.std.specs.Option.{option_map}
 use Rattle.std.proofs.Common.{◌≡◌, ℕ, Bool, true, false, cond, List, [], ◌∷◌, Option, None, Some, refl, ap, sym, ◌∙◌, map}
 use Rattle.prem_plant.specs.declared.plant.Plant.{Plant}
-use Rattle.prem_meaning.specs.Resolved.{Routine}
+use Rattle.prem_syntax.specs.Resolved.{Routine}
 use Rattle.prem_layout.specs.Plans.{Plan}
 use Rattle.prem_layout.specs.Footprint.{Conflict, conflict_of, footprint_of}
 use Rattle.prem_layout.specs.Facts.{IntervalFact, interval_facts}

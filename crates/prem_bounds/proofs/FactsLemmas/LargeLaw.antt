@@ -2,8 +2,8 @@
 use Rattle.std.specs.Prelude.{◌==◌, ◌&&◌, nat_lt}
 use Rattle.std.specs.Option.{option_map}
 use Rattle.std.proofs.Common.{◌≡◌, ℕ, zero, suc, ◌+◌, Bool, true, false, cond, List, [], ◌∷◌, Option, None, Some, refl, ap, sym, ◌∙◌, arith, map, drop}
-use Rattle.prem_meaning.specs.Resolved.{Routine}
-use Rattle.prem_meaning.specs.Statements.{is_marked}
+use Rattle.prem_syntax.specs.Resolved.{Routine}
+use Rattle.prem_syntax.specs.Statements.{is_marked}
 use Rattle.prem_layout.specs.Facts.{IntervalFact}
 use Rattle.prem_layout.specs.Placed.{name_at}
 use Rattle.prem_layout.specs.Rules.{LateRule, BoundTooLarge, or_else, greatest_bound, if_large, marked_bound, facts_behind, large_bound}

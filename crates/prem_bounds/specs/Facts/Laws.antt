@@ -2,8 +2,8 @@
 use Rattle.std.specs.Prelude.{◌≡◌, ℕ, nat_lt, Bool, List, map}
 use Rattle.std.specs.Option.{option_map}
 use Rattle.prem_plant.specs.declared.plant.Plant.{Plant}
-use Rattle.prem_meaning.specs.Resolved.{Routine}
-use Rattle.prem_meaning.specs.Statements.{is_marked}
+use Rattle.prem_syntax.specs.Resolved.{Routine}
+use Rattle.prem_syntax.specs.Statements.{is_marked}
 use Rattle.prem_layout.specs.Facts.{IntervalFact, interval_facts}
 use Rattle.prem_layout.specs.Footprint.{footprint_of}
 use Rattle.prem_layout.specs.Placed.{Placed, name_at}

@@ -1,7 +1,7 @@
 // What comes of the analysis of a text, as text.
 
 use super::names::{function_name, global_name};
-use prem_analyse::{Analysed, RangeFail, analyse};
+use prem_analysis::{Analysed, RangeFail, analyse};
 use prem_check::check;
 use prem_front::parse;
 use prem_syntax::{Item, Program};

@@ -17,8 +17,8 @@ use Rattle.prem_isa.specs.Act.{with_register}
 use Rattle.prem_isa.proofs.Operators.{add_is, sub_is, srl_is, sra_is, sll_is}
 use Rattle.prem_syntax.specs.declared.tree.UnOp.{UnOp}
 use Rattle.prem_syntax.specs.declared.tree.UnOp.TheVariants.{Neg, Flip, Not}
-use Rattle.prem_meaning.specs.Expressions.{unary_word}
-use Rattle.prem_template.specs.Terms.{scale, unary_code, less, shift_right, truth_code}
+use Rattle.prem_syntax.specs.Expressions.{unary_word}
+use Rattle.prem_layout.specs.Template.Terms.{scale, unary_code, less, shift_right, truth_code}
 use Rattle.prem_code_laws.specs.ExprLaws.Registers.{AreWords, Puts}
 use Rattle.prem_code_laws.proofs.ExprLawsLemmas.Puts.{reg_same, reg_other, put_one, put_two}
 

@@ -14,13 +14,13 @@ use Rattle.prem_isa.specs.declared.instr.MulDivOp.TheVariants.{Mul as MulWord}
 use Rattle.prem_isa.specs.declared.instr.LoadOp.TheVariants.{Lw}
 use Rattle.prem_isa.specs.declared.instr.AluOp.TheVariants.{Add}
 use Rattle.prem_isa.specs.Plain.{TaskState}
-use Rattle.prem_meaning.specs.Resolved.{Term, Constant, Local, Scalar, Element, Unary, Binary, AndAlso, OrElse}
-use Rattle.prem_meaning.specs.Expressions.{Outcome, and_then, Access, unary_word, divide, operate, truth_of, eval}
+use Rattle.prem_syntax.specs.Resolved.{Term, Constant, Local, Scalar, Element, Unary, Binary, AndAlso, OrElse}
+use Rattle.prem_syntax.specs.Expressions.{Outcome, and_then, Access, unary_word, divide, operate, truth_of, eval}
 use Rattle.prem_asm.specs.Pieces.{Pieces, no_pieces, either, size_of, followed, other_at}
 use Rattle.prem_asm.specs.Runs.{Calls, Setting}
-use Rattle.prem_template.specs.Terms.{only, constant, slot, nonzero, unary_code, multiply_code, quotient_code, remainder_code, quotient_op, remainder_op, binary_code, truth_code, scalar_code, element_code, term_code}
-use Rattle.prem_template.specs.Limits.{first_of, first_place, too_deep}
-use Rattle.prem_template.proofs.Depths.{first_none, unless_deep, depth_bound}
+use Rattle.prem_layout.specs.Template.Terms.{only, constant, slot, nonzero, unary_code, multiply_code, quotient_code, remainder_code, quotient_op, remainder_op, binary_code, truth_code, scalar_code, element_code, term_code}
+use Rattle.prem_layout.specs.Template.Limits.{first_of, first_place, too_deep}
+use Rattle.prem_layout.proofs.TemplateLemmas.Depths.{first_none, unless_deep, depth_bound}
 use Rattle.prem_code_laws.specs.ExprLaws.Registers.{AreWords, Puts}
 use Rattle.prem_code_laws.specs.ExprLaws.Relation.{Globals, Stack, Ground, GlobalsStand, LocalsStand}
 use Rattle.prem_code_laws.specs.ExprLaws.Gives.{IsOperator, TermFits, IsKept, Gives, TermRuns}

@@ -11,14 +11,14 @@ use Rattle.prem_isa.specs.declared.instr.AluOp.TheVariants.{Add}
 use Rattle.prem_isa.specs.declared.effect.Phase.{Phase}
 use Rattle.prem_isa.specs.Act.{with_register}
 use Rattle.prem_isa.specs.Plain.{TaskState, Did}
-use Rattle.prem_meaning.specs.Resolved.{Term}
-use Rattle.prem_meaning.specs.Expressions.{Outcome, and_then, Access, truth_of}
-use Rattle.prem_meaning.specs.Statements.{ProgramState, value, choose, holds, bounded}
+use Rattle.prem_syntax.specs.Resolved.{Term}
+use Rattle.prem_syntax.specs.Expressions.{Outcome, and_then, Access, truth_of}
+use Rattle.prem_syntax.specs.Statements.{ProgramState, value, choose, holds, bounded}
 use Rattle.prem_asm.specs.Pieces.{Pieces, no_pieces, straight, either, followed, test_at, back_at, repeat_end}
 use Rattle.prem_asm.specs.Runs.{Calls, Setting, Ending, Falls, run, run_turns, control}
 use Rattle.prem_asm.specs.Quiet.{IsQuiet, EachPiece}
-use Rattle.prem_template.specs.Terms.{only, slot, nonzero, truth_code, term_code}
-use Rattle.prem_template.specs.Steps.{load_slot, store_slot, count_code, turn_code}
+use Rattle.prem_layout.specs.Template.Terms.{only, slot, nonzero, truth_code, term_code}
+use Rattle.prem_layout.specs.Template.Steps.{load_slot, store_slot, count_code, turn_code}
 use Rattle.prem_code_laws.specs.ExprLaws.Registers.{alus}
 use Rattle.prem_code_laws.specs.ExprLaws.Relation.{Globals, Stack, Ground}
 use Rattle.prem_code_laws.specs.GenLaws.Fits.{Fits}

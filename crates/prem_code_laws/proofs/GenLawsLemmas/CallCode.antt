@@ -6,13 +6,13 @@ use Rattle.prem_isa.specs.declared.instr.StoreOp.TheVariants.{Sw}
 use Rattle.prem_isa.specs.declared.effect.Phase.{Phase}
 use Rattle.prem_isa.specs.Act.{with_register}
 use Rattle.prem_isa.specs.Plain.{TaskState, Did}
-use Rattle.prem_meaning.specs.Resolved.{Term}
-use Rattle.prem_meaning.specs.Expressions.{Access}
-use Rattle.prem_meaning.specs.Statements.{ProgramState, Calls as SourceCalls, value, values, with_target}
+use Rattle.prem_syntax.specs.Resolved.{Term}
+use Rattle.prem_syntax.specs.Expressions.{Access}
+use Rattle.prem_syntax.specs.Statements.{ProgramState, Calls as SourceCalls, value, values, with_target}
 use Rattle.prem_asm.specs.Pieces.{Pieces, no_pieces, straight, call_to, size_of, followed, jump_to}
 use Rattle.prem_asm.specs.Runs.{Calls, Setting, Ending, Falls, Stuck, with_trace, run, control, called, linked}
-use Rattle.prem_template.specs.Terms.{term_code}
-use Rattle.prem_template.specs.Steps.{Parts, argument_slot, store_argument, argument_code, target_code}
+use Rattle.prem_layout.specs.Template.Terms.{term_code}
+use Rattle.prem_layout.specs.Template.Steps.{Parts, argument_slot, store_argument, argument_code, target_code}
 use Rattle.prem_code_laws.specs.ExprLaws.Relation.{Globals, Stack, Ground, AreApart}
 use Rattle.prem_code_laws.specs.GenLaws.Fits.{AllFit, TargetFits, Callees, CallFits}
 use Rattle.prem_code_laws.specs.GenLaws.Matches.{Matches, slot_at, Ends, ArgumentsStand, CallRunsAt}

@@ -10,13 +10,13 @@ use Rattle.prem_isa.specs.declared.effect.Phase.{Phase}
 use Rattle.prem_isa.specs.Act.{with_register}
 use Rattle.prem_isa.specs.Plain.{TaskState, Did}
 use Rattle.prem_isa.proofs.Operators.{add_is}
-use Rattle.prem_meaning.specs.Resolved.{Term}
-use Rattle.prem_meaning.specs.Expressions.{Outcome, and_then, Access}
-use Rattle.prem_meaning.specs.Statements.{ProgramState, value, with_local, choose, in_bound, int_local, loop_test, loop_step, counting}
+use Rattle.prem_syntax.specs.Resolved.{Term}
+use Rattle.prem_syntax.specs.Expressions.{Outcome, and_then, Access}
+use Rattle.prem_syntax.specs.Statements.{ProgramState, value, with_local, choose, in_bound, int_local, loop_test, loop_step, counting}
 use Rattle.prem_asm.specs.Pieces.{Pieces, no_pieces, straight, size_of, followed, test_at, back_at, repeat_end}
 use Rattle.prem_asm.specs.Runs.{Calls, Setting, Ending, Falls, run, run_turns, test_holds}
-use Rattle.prem_template.specs.Terms.{only, term_code}
-use Rattle.prem_template.specs.Steps.{load_slot, store_slot, bound_test, step_code}
+use Rattle.prem_layout.specs.Template.Terms.{only, term_code}
+use Rattle.prem_layout.specs.Template.Steps.{load_slot, store_slot, bound_test, step_code}
 use Rattle.prem_code_laws.specs.ExprLaws.Relation.{Globals, Stack, Ground}
 use Rattle.prem_code_laws.specs.GenLaws.Fits.{Fits}
 use Rattle.prem_code_laws.specs.GenLaws.Matches.{Matches, slot_at, Ends}
@@ -56,7 +56,7 @@ module _ (s : Setting) (calls : Calls) (gs : Globals) (may : Access) (k : Stack)
       let w = slice_index p.locals i in
       let len : length p.locals ≡ count = m.count_is in
       let small = local_word t p m in
-      let f = load_falls s at Rattle.prem_isa.specs.declared.instr.LoadOp.TheVariants.Lw 10 2 (Rattle.prem_template.specs.Terms.slot i) t (slot_at k i) w (omega arith) (slot_place s gs may k ground t.registers i (omega arith) m.stack)
+      let f = load_falls s at Rattle.prem_isa.specs.declared.instr.LoadOp.TheVariants.Lw 10 2 (Rattle.prem_layout.specs.Template.Terms.slot i) t (slot_at k i) w (omega arith) (slot_place s gs may k ground t.registers i (omega arith) m.stack)
       (slot_readable s gs may k ground t.view i w (omega arith) (m.locals.stands i (omega arith)) small) in
       let t1 : TaskState = record t { registers = with_register 10 w t.registers } in
       let m1 = changed s calls gs may k ground phase count t p (with_register 10 w t.registers) m (reg_words 10 w t.registers small m.words) (reg_other 10 w t.registers 2 (omega arith) ∙ m.stack) in

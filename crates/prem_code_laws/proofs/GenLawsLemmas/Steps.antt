@@ -3,16 +3,16 @@ use Rattle.std.proofs.Common.{◌≡◌, ℕ, suc, ◌+◌, ◌*◌, ◌%◌, �
 use Rattle.prem_isa.specs.declared.instr.Instr.{Instr}
 use Rattle.prem_isa.specs.declared.effect.Phase.{Phase}
 use Rattle.prem_isa.specs.Plain.{TaskState}
-use Rattle.prem_meaning.specs.Resolved.{Term, Steps, Done as NoSteps, SetLocal, SetScalar, SetElement, Output, Input, If, For, While, Call}
-use Rattle.prem_meaning.specs.Expressions.{and_then, Access}
-use Rattle.prem_meaning.specs.Statements.{ProgramState, MarkedCall, Calls as SourceCalls, value, values, with_local, with_output, take_input, store, choose, holds, loop_test, loop_step, counting, bounded, with_target, run as run_source}
+use Rattle.prem_syntax.specs.Resolved.{Term, Steps, Done as NoSteps, SetLocal, SetScalar, SetElement, Output, Input, If, For, While, Call}
+use Rattle.prem_syntax.specs.Expressions.{and_then, Access}
+use Rattle.prem_syntax.specs.Statements.{ProgramState, MarkedCall, Calls as SourceCalls, value, values, with_local, with_output, take_input, store, choose, holds, loop_test, loop_step, counting, bounded, with_target, run as run_source}
 use Rattle.prem_asm.specs.Pieces.{Pieces, no_pieces, straight, either, repeat, call_to, words, size_of, followed, other_at, either_end, test_at, repeat_end}
 use Rattle.prem_asm.specs.declared.piece.Test.{Test}
 use Rattle.prem_asm.specs.Runs.{Calls, Setting, Ending, run, run_turns}
 use Rattle.prem_asm.proofs.Rows.{words-followed}
-use Rattle.prem_template.specs.Terms.{only, constant, nonzero, scale, shift_of, term_code}
-use Rattle.prem_template.specs.Frames.{counters_in}
-use Rattle.prem_template.specs.Steps.{Parts, load_slot, store_slot, scalar_store, element_store, bound_test, step_code, count_code, turn_code, argument_code, target_code, steps_code}
+use Rattle.prem_layout.specs.Template.Terms.{only, constant, nonzero, scale, shift_of, term_code}
+use Rattle.prem_layout.specs.Template.Frames.{counters_in}
+use Rattle.prem_layout.specs.Template.Steps.{Parts, load_slot, store_slot, scalar_store, element_store, bound_test, step_code, count_code, turn_code, argument_code, target_code, steps_code}
 use Rattle.prem_code_laws.specs.ExprLaws.Relation.{Globals, Stack, Ground}
 use Rattle.prem_code_laws.specs.GenLaws.Fits.{Callees, StepsFit}
 use Rattle.prem_code_laws.specs.GenLaws.Matches.{Matches, Ends}

@@ -3,12 +3,12 @@ use Rattle.std.specs.Prelude.{◌≡◌, ◌≢◌, ◌<◌, ◌≤◌, ⊤, ℕ
 use Rattle.prem_word.specs.declared.kind.BinOp.{BinOp}
 use Rattle.prem_word.specs.declared.kind.BinOp.TheVariants.{AndAlso as AndAlsoOp, OrElse as OrElseOp}
 use Rattle.prem_isa.specs.Plain.{TaskState, Did}
-use Rattle.prem_meaning.specs.Resolved.{Term, Constant, Local, Scalar, Element, Unary, Binary, AndAlso, OrElse}
-use Rattle.prem_meaning.specs.Expressions.{Access, eval}
+use Rattle.prem_syntax.specs.Resolved.{Term, Constant, Local, Scalar, Element, Unary, Binary, AndAlso, OrElse}
+use Rattle.prem_syntax.specs.Expressions.{Access, eval}
 use Rattle.prem_asm.specs.Pieces.{Pieces}
 use Rattle.prem_asm.specs.Runs.{Setting, Calls, Falls, run}
-use Rattle.prem_template.specs.Terms.{term_code}
-use Rattle.prem_template.specs.Limits.{too_deep}
+use Rattle.prem_layout.specs.Template.Terms.{term_code}
+use Rattle.prem_layout.specs.Template.Limits.{too_deep}
 use Rattle.prem_code_laws.specs.ExprLaws.Registers.{AreWords}
 use Rattle.prem_code_laws.specs.ExprLaws.Relation.{Globals, Stack, Ground, GlobalsStand, LocalsStand}
 

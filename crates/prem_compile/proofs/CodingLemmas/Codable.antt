@@ -6,13 +6,13 @@ use Rattle.std.proofs.lemmas.List.{length-map}
 use Rattle.prem_list.specs.Sequence.{items_of}
 use Rattle.prem_plant.specs.declared.plant.Target.{Target}
 use Rattle.prem_syntax.specs.Syntax.{ProgramText}
-use Rattle.prem_meaning.specs.Resolved.{Resolved}
+use Rattle.prem_syntax.specs.Resolved.{Resolved}
 use Rattle.prem_tree.specs.declared.resolve.resolved.Resolved.{Resolved as ResolvedTree}
 use Rattle.prem_tree.specs.Resolve.ResolvedOf.{resolved_of}
 use Rattle.prem_ranges.specs.GroupThree.{turn_bounds}
 use Rattle.prem_asm.specs.Pieces.{Pieces}
-use Rattle.prem_template.specs.Limits.{excess}
-use Rattle.prem_template.specs.Parts.{codes_of, parts_of as task_parts}
+use Rattle.prem_layout.specs.Template.Limits.{excess}
+use Rattle.prem_layout.specs.Template.Parts.{codes_of, parts_of as task_parts}
 use Rattle.prem_layout.specs.Placed.{Coded}
 use Rattle.prem_split.specs.PlanOf.{plan_of}
 use Rattle.prem_split.specs.PlansWith.{MayHavePlans, plans_in}

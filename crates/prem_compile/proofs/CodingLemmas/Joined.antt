@@ -4,20 +4,20 @@ use Rattle.std.specs.Option.{option_map}
 use Rattle.std.proofs.Common.{◌≡◌, ℕ, ◌+◌, List, [], ◌∷◌, Option, None, Some, Result, Ok, Err, map, refl, ap, sym, ◌∙◌, subst, Vec, Global, is_none, IsTrue}
 use Rattle.prem_plant.specs.declared.plant.Target.{Target}
 use Rattle.prem_syntax.specs.Syntax.{ProgramText}
-use Rattle.prem_meaning.specs.Rules.{Breach}
-use Rattle.prem_meaning.specs.GroupTwo as meaning
-use Rattle.prem_meaning.specs.Resolved.{Resolved}
+use Rattle.prem_syntax.specs.Rules.{Breach}
+use Rattle.prem_syntax.specs.GroupTwo as meaning
+use Rattle.prem_syntax.specs.Resolved.{Resolved}
 use Rattle.prem_tree.specs.declared.resolve.resolved.Resolved.{Resolved as ResolvedTree}
 use Rattle.prem_check.specs.Told.{told_of as told_of_breach}
-use Rattle.prem_lexer.specs.declared.token.fail.FrontFail.{FrontFail}
+use Rattle.prem_text.specs.declared.lexing.token.fail.FrontFail.{FrontFail}
 use Rattle.prem_text.specs.Texts.{reads}
 use Rattle.prem_ranges.specs.GroupThree.{turn_bounds}
-use Rattle.prem_analyse.specs.declared.analysed.Analysed.{Analysed}
-use Rattle.prem_analyse.specs.Analysed.{analysed_text}
-use Rattle.prem_template.specs.Limits.{Excess, frame, depth, excess}
-use Rattle.prem_template.specs.Parts.{parts_of as task_parts}
+use Rattle.prem_analysis.specs.declared.analysed.Analysed.{Analysed}
+use Rattle.prem_analysis.specs.Analysed.{analysed_text}
+use Rattle.prem_layout.specs.Template.Limits.{Excess, frame, depth, excess}
+use Rattle.prem_layout.specs.Template.Parts.{parts_of as task_parts}
 use Rattle.prem_layout.specs.Rules.{or_else, refused_by, first_among, over_tasks, of_excess, group_four}
-use Rattle.prem_fit_laws.proofs.MeasureLemmas.ProgramNodes.{codes_are_small}
+use Rattle.prem_code_laws.proofs.FitLawsLemmas.MeasureLemmas.ProgramNodes.{codes_are_small}
 use Rattle.prem_prefetch.specs.Sizes.Sizes.{AreCodesOf}
 use Rattle.prem_tasks.specs.Told.{of_program}
 use Rattle.prem_tasks.specs.Broken.{TaskText, TaskSet, unread, group_one, program_before, programs_of, group_two, group_three, bounded, coded_of, late_refusal}

@@ -7,9 +7,9 @@ use Rattle.prem_plant.specs.declared.layout.PartKind.{PartKind}
 use Rattle.prem_plant.specs.declared.layout.PartKind.TheVariants.{Start, Code, Stub, Global, Stack}
 use Rattle.prem_plant.specs.declared.layout.PartSize.{PartSize}
 use Rattle.prem_syntax.specs.Syntax.{MarkText, GlobalVariable}
-use Rattle.prem_meaning.specs.Resolved.{Routine, Resolved}
+use Rattle.prem_syntax.specs.Resolved.{Routine, Resolved}
 use Rattle.prem_asm.specs.Pieces.{size_of}
-use Rattle.prem_template.specs.Frames.{stack_size}
+use Rattle.prem_layout.specs.Template.Frames.{stack_size}
 use Rattle.prem_layout.specs.Plans.{Plan, plan_before, plans_from, plans_of}
 use Rattle.prem_layout.specs.Parts.{Passes, stub_passes, part, code_parts, stub_parts, global_parts, task_parts, parts_from, area_parts}
 use Rattle.prem_layout.specs.Placed.{Coded, sized_of, parts_of}

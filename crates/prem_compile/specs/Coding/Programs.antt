@@ -1,8 +1,8 @@
 -- Programs whose loops may have any turns.
 use Rattle.std.specs.Prelude.{ℕ}
 use Rattle.prem_syntax.specs.Syntax.{ProgramText}
-use Rattle.prem_meaning.specs.Resolve.{resolve}
-use Rattle.prem_meaning.specs.Resolved.{Resolved}
+use Rattle.prem_syntax.specs.Resolve.{resolve}
+use Rattle.prem_syntax.specs.Resolved.{Resolved}
 use Rattle.prem_tree.specs.declared.resolve.resolved.Resolved.{Resolved as ResolvedTree}
 use Rattle.prem_tree.specs.Resolve.ResolvedOf.{resolved_of}
 

@@ -1,7 +1,7 @@
 // The programs of a set's tasks as the later stages take them.
 ghost use Rattle.std.specs.Prelude.{◌≡◌, IfOk, map};
 ghost use Rattle.prem_ranges.specs.GroupThree.{turn_bounds};
-ghost use Rattle.prem_analyse.specs.Analysed.{analysed_text};
+ghost use Rattle.prem_analysis.specs.Analysed.{analysed_text};
 ghost use Rattle.prem_compile.specs.Coding.Programs.{meant_by, text_by};
 
 use prem_gen::turns_of;

@@ -6,16 +6,16 @@ use Rattle.std.proofs.lemmas.List.{append_assoc, map-append}
 use Rattle.prem_list.specs.declared.Sequence.{Sequence}
 use Rattle.prem_list.specs.Sequence.{items_of}
 use Rattle.prem_plant.specs.declared.plant.Target.{Target}
-use Rattle.prem_meaning.specs.Resolved.{Steps, Done, SetLocal, SetScalar, SetElement, Output, Input, If, For, While, Call, Routine, Resolved}
+use Rattle.prem_syntax.specs.Resolved.{Steps, Done, SetLocal, SetScalar, SetElement, Output, Input, If, For, While, Call, Routine, Resolved}
 use Rattle.prem_tree.specs.declared.resolve.resolved.Routine.{Routine as RoutineTree}
 use Rattle.prem_tree.specs.Resolve.ResolvedOf.{loops_of, all_loops}
 use Rattle.prem_asm.specs.declared.piece.Piece.{Piece}
 use Rattle.prem_asm.specs.Pieces.{Pieces}
 use Rattle.prem_asm.specs.PiecesOf.{pieces_of}
-use Rattle.prem_template.specs.Frames.{frame_at, frame_if_there}
-use Rattle.prem_template.specs.Limits.{Excess, excess_or, excess_among, greatest_frame}
-use Rattle.prem_template.specs.Parts.{parts_of, codes_of}
-use Rattle.prem_template.specs.Steps.{Parts}
+use Rattle.prem_layout.specs.Template.Frames.{frame_at, frame_if_there}
+use Rattle.prem_layout.specs.Template.Limits.{Excess, excess_or, excess_among, greatest_frame}
+use Rattle.prem_layout.specs.Template.Parts.{parts_of, codes_of}
+use Rattle.prem_layout.specs.Template.Steps.{Parts}
 use Rattle.prem_gen.specs.declared.term.fail.GenFail.{GenFail}
 use Rattle.prem_gen.specs.Term.Excess.{Exceeds}
 use Rattle.prem_gen.specs.Numbers.Steps.{StepsSmall, EachCallee}

@@ -4,15 +4,15 @@ use Rattle.std.proofs.Common.{◌≡◌, ◌≤◌, ℕ, ◌+◌, Bool, true, fa
 use Rattle.std.proofs.lemmas.Bool.{ltb-false}
 use Rattle.prem_plant.specs.declared.plant.Target.{Target}
 use Rattle.prem_plant.specs.declared.plant.Target.TheVariants.{Rv32i}
-use Rattle.prem_meaning.specs.Resolved.{Steps, Done, SetLocal, SetScalar, SetElement, Output, Input, If, For, While, Call, Routine, Resolved}
+use Rattle.prem_syntax.specs.Resolved.{Steps, Done, SetLocal, SetScalar, SetElement, Output, Input, If, For, While, Call, Routine, Resolved}
 use Rattle.prem_tree.specs.declared.resolve.resolved.Routine.{Routine as RoutineTree}
 use Rattle.prem_tree.specs.Resolve.ResolvedOf.{routine_of, routines_of}
 use Rattle.prem_asm.specs.Pieces.{straight, followed}
-use Rattle.prem_template.specs.Terms.{only}
-use Rattle.prem_template.specs.Frames.{frame_of, frame_at, frame_if_there, locals_of}
-use Rattle.prem_template.specs.Limits.{frame, deep_excess, too_deep_function, excess_of, greatest_frame}
-use Rattle.prem_template.specs.Steps.{Parts, opening, closing, declare_code, result_code, function_code}
-use Rattle.prem_template.specs.Parts.{parts_of, global_part}
+use Rattle.prem_layout.specs.Template.Terms.{only}
+use Rattle.prem_layout.specs.Template.Frames.{frame_of, frame_at, frame_if_there, locals_of}
+use Rattle.prem_layout.specs.Template.Limits.{frame, deep_excess, too_deep_function, excess_of, greatest_frame}
+use Rattle.prem_layout.specs.Template.Steps.{Parts, opening, closing, declare_code, result_code, function_code}
+use Rattle.prem_layout.specs.Template.Parts.{parts_of, global_part}
 use Rattle.prem_gen.specs.Term.Numbers.{from_part}
 use Rattle.prem_gen.specs.declared.routine.task.Callee.{Callee}
 use Rattle.prem_gen.specs.Routine.Parts.{callee_at}

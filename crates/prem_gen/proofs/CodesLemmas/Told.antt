@@ -4,16 +4,16 @@ use Rattle.std.proofs.Common.{◌≡◌, ◌<◌, ◌≤◌, ℕ, ◌+◌, List,
 use Rattle.prem_list.specs.declared.Sequence.{Sequence}
 use Rattle.prem_list.specs.Sequence.{items_of}
 use Rattle.prem_plant.specs.declared.plant.Target.{Target}
-use Rattle.prem_meaning.specs.Resolved.{Routine}
+use Rattle.prem_syntax.specs.Resolved.{Routine}
 use Rattle.prem_tree.specs.declared.resolve.resolved.Routine.{Routine as RoutineTree}
 use Rattle.prem_tree.specs.declared.resolve.resolved.Resolved.{Resolved as ResolvedTree}
 use Rattle.prem_tree.specs.Resolve.ResolvedOf.{routine_of, routines_of, resolved_of, all_loops}
 use Rattle.prem_asm.specs.declared.piece.Piece.{Piece}
 use Rattle.prem_asm.specs.PiecesOf.{pieces_of}
-use Rattle.prem_template.specs.Frames.{frame_of}
-use Rattle.prem_template.specs.Limits.{excess_of, greatest_frame}
-use Rattle.prem_template.specs.Steps.{function_code}
-use Rattle.prem_template.specs.Parts.{parts_of}
+use Rattle.prem_layout.specs.Template.Frames.{frame_of}
+use Rattle.prem_layout.specs.Template.Limits.{excess_of, greatest_frame}
+use Rattle.prem_layout.specs.Template.Steps.{function_code}
+use Rattle.prem_layout.specs.Template.Parts.{parts_of}
 use Rattle.prem_gen.specs.declared.term.fail.GenFail.{GenFail}
 use Rattle.prem_gen.specs.Term.Excess.{Refuses}
 use Rattle.prem_gen.specs.declared.routine.task.Callee.{Callee}

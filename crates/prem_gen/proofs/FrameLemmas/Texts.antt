@@ -6,9 +6,9 @@ use Rattle.prem_syntax.specs.declared.tree.Place.{Place}
 use Rattle.prem_syntax.specs.declared.meaning.Meaning.{Meaning}
 use Rattle.prem_syntax.specs.declared.meaning.Meaning.TheVariants.{Nothing, Local as LocalName, Scalar as ScalarName, Array as ArrayName, Function as FunctionName}
 use Rattle.prem_syntax.specs.Syntax.{Statement, block, if_then, if_else, bounded_while, counting_for, assign, output, input, call, Statements, no_statements, next_statement, LocalVariable}
-use Rattle.prem_meaning.specs.Resolve.{Scope, meaning_of, set_steps, input_steps, call_steps, target_of, number_named, loops_in, declared, scope_at, scope_in, resolve_term, resolve_statement, resolve_statements, resolve_locals}
-use Rattle.prem_meaning.specs.Resolved.{Term, Steps, Done}
-use Rattle.prem_template.specs.Frames.{counters_in}
+use Rattle.prem_syntax.specs.Resolve.{Scope, meaning_of, set_steps, input_steps, call_steps, target_of, number_named, loops_in, declared, scope_at, scope_in, resolve_term, resolve_statement, resolve_statements, resolve_locals}
+use Rattle.prem_syntax.specs.Resolved.{Term, Steps, Done}
+use Rattle.prem_layout.specs.Template.Frames.{counters_in}
 use Rattle.prem_gen.specs.Frame.Bounded.{bounded_in, bounded_among, FramesAreByText}
 
 set_counters : (at : Place) (m : Meaning) (index : Option Term) (value : Term) (rest : Steps) → counters_in (set_steps at m index value rest) ≡ 0 + counters_in rest

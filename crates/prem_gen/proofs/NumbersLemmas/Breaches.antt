@@ -6,10 +6,10 @@ use Rattle.std.proofs.lemmas.Bool.Decides.{nat_tests}
 use Rattle.prem_syntax.specs.declared.tree.Place.{Place}
 use Rattle.prem_syntax.specs.declared.rules.Count.TheVariants.{Functions, Globals, Parameters, Regions, Length, Stated}
 use Rattle.prem_syntax.specs.Syntax.{GlobalVariable, FunctionText, ProgramText}
-use Rattle.prem_meaning.specs.Resolve.{functions_of, globals_of}
-use Rattle.prem_meaning.specs.Rules.{Rule, Limit, NoJob, Breach, first, first_of, comes_before}
-use Rattle.prem_meaning.specs.Breaches.{if_broken, if_at, is_job_name, regions_of, is_stated, is_length, item_names, reached, in_items, in_limits, breaches}
-use Rattle.prem_meaning.specs.GroupTwo.{group_two, IsWellFormed}
+use Rattle.prem_syntax.specs.Resolve.{functions_of, globals_of}
+use Rattle.prem_syntax.specs.Rules.{Rule, Limit, NoJob, Breach, first, first_of, comes_before}
+use Rattle.prem_syntax.specs.Breaches.{if_broken, if_at, is_job_name, regions_of, is_stated, is_length, item_names, reached, in_items, in_limits, breaches}
+use Rattle.prem_syntax.specs.GroupTwo.{group_two, IsWellFormed}
 
 pub none_left : {A : Type 0} (xs ys : List A) → xs ++ ys ≡ [] → xs ≡ []
 none_left [] ys e = refl

@@ -11,13 +11,13 @@ use Rattle.prem_syntax.specs.declared.meaning.Meaning.{Meaning}
 use Rattle.prem_syntax.specs.declared.meaning.Meaning.TheVariants.{Nothing, Local as LocalName, Scalar as ScalarName, Array as ArrayName, Function as FunctionName}
 use Rattle.prem_syntax.specs.declared.rules.TypeRule.TheVariants.{Target, Count as CountRule}
 use Rattle.prem_syntax.specs.Syntax.{Text, Expression, LoopNames, Statement, block, if_then, if_else, bounded_while, counting_for, assign, output, input, call, Statements, no_statements, next_statement, LocalVariable, Parameter, GlobalVariable, FunctionText, ProgramText, global_item, function_item}
-use Rattle.prem_meaning.specs.Resolve.{Scope, meaning_of, find_function, set_steps, input_steps, call_steps, loop_local, local_number, target_of, loops_in, loops_within, declared, scope_at, scope_in, parameter_names, local_names, resolve_term, resolve_statement, resolve_statements, resolve_locals, resolve_function, resolve_items, functions_of, globals_of}
-use Rattle.prem_meaning.specs.Resolved.{Term, Steps, Done, Routine}
-use Rattle.prem_meaning.specs.Rules.{LoopForm, CallOrder, MarkedCall, OfTypes}
-use Rattle.prem_meaning.specs.Reach.{is_in_set}
-use Rattle.prem_meaning.specs.Breaches.{Around, around, if_at, is_between, is_int_local, same_name, assigns, is_int, is_loop, is_marked_text, is_void, in_expression, in_expressions, in_names, in_call_target, in_callee, in_option, in_statement, in_statements, in_regions, regions_of, in_heading, in_parameters, in_locals, parameter_texts, in_function, in_global, in_items, item_names, reached}
-use Rattle.prem_meaning.specs.Resolve.{kind_of}
-use Rattle.prem_template.specs.Frames.{frame_of, counters_in}
+use Rattle.prem_syntax.specs.Resolve.{Scope, meaning_of, find_function, set_steps, input_steps, call_steps, loop_local, local_number, target_of, loops_in, loops_within, declared, scope_at, scope_in, parameter_names, local_names, resolve_term, resolve_statement, resolve_statements, resolve_locals, resolve_function, resolve_items, functions_of, globals_of}
+use Rattle.prem_syntax.specs.Resolved.{Term, Steps, Done, Routine}
+use Rattle.prem_syntax.specs.Rules.{LoopForm, CallOrder, MarkedCall, OfTypes}
+use Rattle.prem_syntax.specs.Reach.{is_in_set}
+use Rattle.prem_syntax.specs.Breaches.{Around, around, if_at, is_between, is_int_local, same_name, assigns, is_int, is_loop, is_marked_text, is_void, in_expression, in_expressions, in_names, in_call_target, in_callee, in_option, in_statement, in_statements, in_regions, regions_of, in_heading, in_parameters, in_locals, parameter_texts, in_function, in_global, in_items, item_names, reached}
+use Rattle.prem_syntax.specs.Resolve.{kind_of}
+use Rattle.prem_layout.specs.Template.Frames.{frame_of, counters_in}
 use Rattle.prem_gen.specs.Term.Numbers.{IsSmall}
 use Rattle.prem_gen.specs.Routine.Small.{TargetIsSmall}
 use Rattle.prem_gen.specs.Numbers.Small.{TermSmall, FewNames}

@@ -4,7 +4,7 @@ use Rattle.std.specs.Option.{option_map}
 use Rattle.std.proofs.Common.{◌<◌, ℕ, ◌+◌, ◌^◌, List, [], ◌∷◌, map, Option, None, Some, arith}
 use Rattle.std.proofs.lemmas.List.Elements.{All-nil, All-cons}
 use Rattle.prem_list.specs.Sequence.{items_of}
-use Rattle.prem_meaning.specs.Resolved.{Steps, Done}
+use Rattle.prem_syntax.specs.Resolved.{Steps, Done}
 use Rattle.prem_tree.specs.declared.resolve.resolved.Term.{Term as TermTree}
 use Rattle.prem_tree.specs.declared.resolve.resolved.Step.{Step, Row_of-Step, end_of-Step, more_of-Step}
 use Rattle.prem_tree.specs.declared.resolve.resolved.Step.TheVariants.{Block', SetLocal, SetScalar, SetElement, Output, Input, If', For', While', Call}

@@ -3,16 +3,16 @@ use Rattle.std.proofs.Common.{◌≡◌, ℕ, ◌+◌, [], ◌∷◌, refl, ap, 
 use Rattle.prem_list.specs.Sequence.{items_of}
 use Rattle.prem_isa.specs.declared.instr.Instr.TheVariants.{PmOut}
 use Rattle.prem_syntax.specs.declared.tree.Place.{Place}
-use Rattle.prem_meaning.specs.Resolved.{Steps, Done}
+use Rattle.prem_syntax.specs.Resolved.{Steps, Done}
 use Rattle.prem_tree.specs.declared.resolve.resolved.Step.{Step, Row_of-Step, end_of-Step, more_of-Step}
 use Rattle.prem_tree.specs.declared.resolve.resolved.Step.TheVariants.{Block', SetLocal, SetScalar, SetElement, Output, Input, If', For', While', Call}
 use Rattle.prem_tree.specs.Resolve.ResolvedOf.{term_of, loops_of, step_before, row_before}
 use Rattle.prem_asm.specs.Pieces.{Pieces, no_pieces, straight, either, repeat, call_to, followed}
 use Rattle.prem_asm.proofs.Rows.{followed_append, followed_none}
-use Rattle.prem_template.specs.Terms.{only, constant, nonzero, term_code}
-use Rattle.prem_template.specs.Frames.{counters_in}
-use Rattle.prem_template.specs.Steps.{Parts, load_slot, store_slot, scalar_store, element_store, bound_test, step_code, count_code, turn_code, argument_code, target_code, steps_code}
-use Rattle.prem_template.specs.Limits.{first_of, too_deep, too_deep_in}
+use Rattle.prem_layout.specs.Template.Terms.{only, constant, nonzero, term_code}
+use Rattle.prem_layout.specs.Template.Frames.{counters_in}
+use Rattle.prem_layout.specs.Template.Steps.{Parts, load_slot, store_slot, scalar_store, element_store, bound_test, step_code, count_code, turn_code, argument_code, target_code, steps_code}
+use Rattle.prem_layout.specs.Template.Limits.{first_of, too_deep, too_deep_in}
 use Rattle.prem_gen.specs.Routine.StepCode.{whiles_of, row_whiles, code_at, row_code, deep_in, row_deep}
 
 -- ---- counters

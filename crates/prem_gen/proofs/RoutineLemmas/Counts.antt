@@ -3,10 +3,10 @@ use Rattle.std.proofs.Common.{◌≡◌, ℕ, arith, map, length}
 use Rattle.std.proofs.lemmas.List.{length-map}
 use Rattle.prem_list.specs.Sequence.{items_of}
 use Rattle.prem_syntax.specs.SyntaxOf.{parameter_of}
-use Rattle.prem_meaning.specs.Resolved.{Done}
+use Rattle.prem_syntax.specs.Resolved.{Done}
 use Rattle.prem_tree.specs.declared.resolve.resolved.Routine.{Routine}
 use Rattle.prem_tree.specs.Resolve.ResolvedOf.{term_of, routine_of, step_before}
-use Rattle.prem_template.specs.Frames.{counters_in, slots_of}
+use Rattle.prem_layout.specs.Template.Frames.{counters_in, slots_of}
 use Rattle.prem_gen.specs.Routine.StepCode.{whiles_of}
 use Rattle.prem_gen.specs.Routine.FrameOf.{slots_in}
 use Rattle.prem_gen.proofs.RoutineLemmas.Before.{counters_before}

@@ -7,8 +7,8 @@ use Rattle.prem_tree.specs.declared.resolve.resolved.Step.{Step, Block, Row_of-S
 use Rattle.prem_tree.specs.declared.resolve.resolved.Step.TheBlock.{hidden-the_row-Step-0}
 use Rattle.prem_tree.specs.Resolve.ResolvedOf.{loops_of, row_loops, list_loops}
 use Rattle.prem_asm.specs.Pieces.{followed}
-use Rattle.prem_template.specs.Steps.{Parts}
-use Rattle.prem_template.specs.Limits.{first_of}
+use Rattle.prem_layout.specs.Template.Steps.{Parts}
+use Rattle.prem_layout.specs.Template.Limits.{first_of}
 use Rattle.prem_gen.specs.declared.routine.task.Callee.{Callee}
 use Rattle.prem_gen.specs.Routine.Small.{StepSmall, RowSmall, ListSmall}
 use Rattle.prem_gen.specs.Routine.StepCode.{whiles_of, row_whiles, list_whiles, code_at, row_code, list_code, deep_in, row_deep, list_deep}

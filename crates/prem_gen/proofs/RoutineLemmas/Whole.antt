@@ -7,14 +7,14 @@ use Rattle.std.proofs.lemmas.Bool.{lt-ltb, le-ltb}
 use Rattle.prem_list.specs.Sequence.{items_of}
 use Rattle.prem_syntax.specs.declared.tree.Place.{Place}
 use Rattle.prem_syntax.specs.SyntaxOf.{parameter_of}
-use Rattle.prem_meaning.specs.Resolved.{Done}
+use Rattle.prem_syntax.specs.Resolved.{Done}
 use Rattle.prem_tree.specs.declared.resolve.resolved.Routine.{Routine}
 use Rattle.prem_tree.specs.Resolve.ResolvedOf.{term_of, routine_of, step_before}
 use Rattle.prem_asm.specs.Pieces.{straight, followed}
-use Rattle.prem_template.specs.Terms.{only}
-use Rattle.prem_template.specs.Frames.{frame_of}
-use Rattle.prem_template.specs.Steps.{Parts, opening, closing, declare_code, steps_code, result_code, function_code}
-use Rattle.prem_template.specs.Limits.{first_of, too_deep_among, too_deep_result, too_deep_function, frame, depth, greatest_frame, deep_excess, excess_of}
+use Rattle.prem_layout.specs.Template.Terms.{only}
+use Rattle.prem_layout.specs.Template.Frames.{frame_of}
+use Rattle.prem_layout.specs.Template.Steps.{Parts, opening, closing, declare_code, steps_code, result_code, function_code}
+use Rattle.prem_layout.specs.Template.Limits.{first_of, too_deep_among, too_deep_result, too_deep_function, frame, depth, greatest_frame, deep_excess, excess_of}
 use Rattle.prem_gen.specs.declared.term.fail.TermFail.{TermFail}
 use Rattle.prem_gen.specs.declared.term.fail.TermFail.TheVariants.{Deep, OutOfMemory as NoMemory}
 use Rattle.prem_gen.specs.Term.Deep.{TooDeep}

@@ -1,11 +1,11 @@
 -- The code of steps is by what is told of the functions that they call.
 use Rattle.std.proofs.Common.{◌+◌, [], ◌∷◌, refl, ap, ◌∙◌}
 use Rattle.prem_isa.specs.declared.instr.Instr.TheVariants.{PmIn, PmOut}
-use Rattle.prem_meaning.specs.Resolved.{Done, SetLocal, SetScalar, SetElement, Output, Input, If, For, While, Call}
+use Rattle.prem_syntax.specs.Resolved.{Done, SetLocal, SetScalar, SetElement, Output, Input, If, For, While, Call}
 use Rattle.prem_asm.specs.Pieces.{straight, either, repeat, call_to, followed}
-use Rattle.prem_template.specs.Terms.{only, constant, nonzero, term_code}
-use Rattle.prem_template.specs.Frames.{counters_in}
-use Rattle.prem_template.specs.Steps.{load_slot, store_slot, scalar_store, element_store, bound_test, step_code, count_code, turn_code, argument_code, target_code, steps_code}
+use Rattle.prem_layout.specs.Template.Terms.{only, constant, nonzero, term_code}
+use Rattle.prem_layout.specs.Template.Frames.{counters_in}
+use Rattle.prem_layout.specs.Template.Steps.{load_slot, store_slot, scalar_store, element_store, bound_test, step_code, count_code, turn_code, argument_code, target_code, steps_code}
 use Rattle.prem_gen.specs.Table.Same.{with_globals, CodeIsByCalls}
 
 pub code_is_by_calls : CodeIsByCalls

@@ -5,9 +5,9 @@ use Rattle.prem_syntax.specs.declared.tree.Mark.{Mark}
 use Rattle.prem_syntax.specs.SyntaxOf.{mark_of}
 use Rattle.prem_tree.specs.declared.resolve.resolved.Routine.{Routine}
 use Rattle.prem_tree.specs.Resolve.ResolvedOf.{routines_of, loops_of}
-use Rattle.prem_template.specs.Frames.{frame_at}
-use Rattle.prem_template.specs.Limits.{greatest_frame}
-use Rattle.prem_template.specs.Parts.{is_marked_at, marked_before, marked_count, stub_part}
+use Rattle.prem_layout.specs.Template.Frames.{frame_at}
+use Rattle.prem_layout.specs.Template.Limits.{greatest_frame}
+use Rattle.prem_layout.specs.Template.Parts.{is_marked_at, marked_before, marked_count, stub_part}
 use Rattle.prem_gen.specs.Frame.FrameOf.{most, frame_bytes}
 use Rattle.prem_gen.specs.Routine.FrameOf.{slots_in}
 use Rattle.prem_gen.specs.declared.routine.task.Callee.{Callee}

@@ -2,15 +2,15 @@
 use Rattle.std.specs.Prelude.{◌≡◌, ◌≤◌, ℕ, Option, None, Some, slice_get}
 use Rattle.prem_plant.specs.declared.plant.Target.{Target}
 use Rattle.prem_syntax.specs.Syntax.{ProgramText}
-use Rattle.prem_meaning.specs.GroupTwo.{IsWellFormed}
-use Rattle.prem_meaning.specs.Resolved.{Routine, Resolved}
+use Rattle.prem_syntax.specs.GroupTwo.{IsWellFormed}
+use Rattle.prem_syntax.specs.Resolved.{Routine, Resolved}
 use Rattle.prem_tree.specs.declared.resolve.resolved.Resolved.{Resolved as ResolvedTree}
 use Rattle.prem_tree.specs.Resolve.ResolvedOf.{resolved_of, IsResolved}
 use Rattle.prem_asm.specs.Pieces.{Pieces, no_pieces}
-use Rattle.prem_template.specs.Frames.{frame_of, frame_at}
-use Rattle.prem_template.specs.Limits.{Excess, excess_of, greatest_frame}
-use Rattle.prem_template.specs.Steps.{Parts, function_code}
-use Rattle.prem_template.specs.Parts.{parts_of}
+use Rattle.prem_layout.specs.Template.Frames.{frame_of, frame_at}
+use Rattle.prem_layout.specs.Template.Limits.{Excess, excess_of, greatest_frame}
+use Rattle.prem_layout.specs.Template.Steps.{Parts, function_code}
+use Rattle.prem_layout.specs.Template.Parts.{parts_of}
 use Rattle.prem_gen.specs.Numbers.Steps.{FunctionSmall, EachCallee}
 
 -- ---- one function

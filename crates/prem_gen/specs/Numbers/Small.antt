@@ -1,8 +1,8 @@
 -- Small numbers in terms as plain data.
 use Rattle.std.specs.Prelude.{◌≡◌, ◌≤◌, ◌^◌, ⊤, length}
 use Rattle.prem_syntax.specs.Syntax.{Expression}
-use Rattle.prem_meaning.specs.Resolve.{Scope, resolve_term}
-use Rattle.prem_meaning.specs.Resolved.{Term, Constant, Local, Scalar, Element, Unary, Binary, AndAlso, OrElse}
+use Rattle.prem_syntax.specs.Resolve.{Scope, resolve_term}
+use Rattle.prem_syntax.specs.Resolved.{Term, Constant, Local, Scalar, Element, Unary, Binary, AndAlso, OrElse}
 use Rattle.prem_tree.specs.declared.resolve.resolved.Term.{Term as TermTree}
 use Rattle.prem_tree.specs.Resolve.ResolvedOf.{term_of}
 use Rattle.prem_gen.specs.Term.Numbers.{IsSmall, HasSmall}

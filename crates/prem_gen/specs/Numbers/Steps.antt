@@ -2,10 +2,10 @@
 -- before it.
 use Rattle.std.specs.Prelude.{◌≡◌, ◌<◌, ◌≤◌, ◌^◌, ⊤, ℕ, List, [], ◌∷◌, Option, None, Some, slice_get}
 use Rattle.prem_syntax.specs.Syntax.{ProgramText}
-use Rattle.prem_meaning.specs.GroupTwo.{IsWellFormed}
-use Rattle.prem_meaning.specs.Resolve.{resolve}
-use Rattle.prem_meaning.specs.Resolved.{Term, Steps, Done, SetLocal, SetScalar, SetElement, Output, Input, If, For, While, Call, Routine}
-use Rattle.prem_template.specs.Frames.{frame_of}
+use Rattle.prem_syntax.specs.GroupTwo.{IsWellFormed}
+use Rattle.prem_syntax.specs.Resolve.{resolve}
+use Rattle.prem_syntax.specs.Resolved.{Term, Steps, Done, SetLocal, SetScalar, SetElement, Output, Input, If, For, While, Call, Routine}
+use Rattle.prem_layout.specs.Template.Frames.{frame_of}
 use Rattle.prem_gen.specs.Term.Numbers.{IsSmall}
 use Rattle.prem_gen.specs.Routine.Small.{TargetIsSmall}
 use Rattle.prem_gen.specs.Numbers.Small.{TermSmall}

@@ -1,6 +1,6 @@
 -- What the generator knows of a task, as what the templates know of it.
 use Rattle.std.specs.Prelude.{ℕ, ◌+◌, slice_index_or, List}
-use Rattle.prem_template.specs.Steps.{Parts}
+use Rattle.prem_layout.specs.Template.Steps.{Parts}
 use Rattle.prem_gen.specs.Term.Numbers.{from_part}
 use Rattle.prem_gen.specs.declared.routine.task.Callee.{Callee}
 use Rattle.prem_gen.specs.declared.routine.task.Task.{Task}

@@ -7,9 +7,9 @@ use Rattle.prem_tree.specs.declared.resolve.resolved.Term.{Term}
 use Rattle.prem_tree.specs.declared.resolve.resolved.Routine.{Routine}
 use Rattle.prem_tree.specs.Resolve.ResolvedOf.{term_of}
 use Rattle.prem_asm.specs.Pieces.{Pieces, straight, followed}
-use Rattle.prem_template.specs.Terms.{only}
-use Rattle.prem_template.specs.Steps.{Parts, opening, closing, declare_code, result_code}
-use Rattle.prem_template.specs.Limits.{first_of, too_deep_among, too_deep_result}
+use Rattle.prem_layout.specs.Template.Terms.{only}
+use Rattle.prem_layout.specs.Template.Steps.{Parts, opening, closing, declare_code, result_code}
+use Rattle.prem_layout.specs.Template.Limits.{first_of, too_deep_among, too_deep_result}
 use Rattle.prem_gen.specs.Term.Numbers.{HasSmall}
 use Rattle.prem_gen.specs.declared.routine.task.Callee.{Callee}
 use Rattle.prem_gen.specs.Routine.Small.{StepSmall}

@@ -4,14 +4,14 @@ use Rattle.prem_list.specs.Sequence.{items_of}
 use Rattle.prem_isa.specs.declared.instr.Instr.TheVariants.{PmIn, PmOut}
 use Rattle.prem_syntax.specs.declared.tree.Place.{Place}
 use Rattle.prem_syntax.specs.declared.tree.Ty.{Ty}
-use Rattle.prem_meaning.specs.Resolved.{Term}
+use Rattle.prem_syntax.specs.Resolved.{Term}
 use Rattle.prem_tree.specs.declared.resolve.resolved.Step.{Step, Row_of-Step, end_of-Step, more_of-Step}
 use Rattle.prem_tree.specs.declared.resolve.resolved.Step.TheVariants.{Block', SetLocal, SetScalar, SetElement, Output, Input, If', For', While', Call}
 use Rattle.prem_tree.specs.Resolve.ResolvedOf.{term_of, loops_of}
 use Rattle.prem_asm.specs.Pieces.{Pieces, no_pieces, straight, either, repeat, call_to, followed}
-use Rattle.prem_template.specs.Terms.{only, constant, nonzero, term_code}
-use Rattle.prem_template.specs.Steps.{Parts, load_slot, store_slot, scalar_store, element_store, bound_test, step_code as advance_code, count_code, turn_code, argument_code, target_code}
-use Rattle.prem_template.specs.Limits.{first_of, too_deep, too_deep_among}
+use Rattle.prem_layout.specs.Template.Terms.{only, constant, nonzero, term_code}
+use Rattle.prem_layout.specs.Template.Steps.{Parts, load_slot, store_slot, scalar_store, element_store, bound_test, step_code as advance_code, count_code, turn_code, argument_code, target_code}
+use Rattle.prem_layout.specs.Template.Limits.{first_of, too_deep, too_deep_among}
 
 -- the BOUNDED loops of a step
 abbrev mutual

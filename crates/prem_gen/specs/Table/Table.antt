@@ -2,12 +2,12 @@
 use Rattle.std.specs.Prelude.{◌≡◌, ◌≤◌, ℕ, ◌+◌, min, List, [], ◌∷◌, length, Option, None, Some}
 use Rattle.prem_plant.specs.declared.plant.Target.{Target}
 use Rattle.prem_syntax.specs.declared.tree.Mark.{Mark}
-use Rattle.prem_meaning.specs.Resolved.{Routine as PlainRoutine}
+use Rattle.prem_syntax.specs.Resolved.{Routine as PlainRoutine}
 use Rattle.prem_tree.specs.declared.resolve.resolved.Routine.{Routine}
 use Rattle.prem_tree.specs.Resolve.ResolvedOf.{routines_of}
-use Rattle.prem_template.specs.Frames.{frame_at}
-use Rattle.prem_template.specs.Limits.{greatest_frame}
-use Rattle.prem_template.specs.Parts.{parts_of, global_part}
+use Rattle.prem_layout.specs.Template.Frames.{frame_at}
+use Rattle.prem_layout.specs.Template.Limits.{greatest_frame}
+use Rattle.prem_layout.specs.Template.Parts.{parts_of, global_part}
 use Rattle.prem_gen.specs.declared.routine.task.Callee.{Callee}
 use Rattle.prem_gen.specs.Routine.Parts.{callee_at}
 use Rattle.prem_gen.specs.Frame.FrameOf.{most, frame_bytes}

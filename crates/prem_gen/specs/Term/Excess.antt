@@ -1,7 +1,7 @@
 -- What a result tells of why a function has no code.
 use Rattle.std.specs.Prelude.{◌≡◌, ℕ, nat_lt, if◌then◌else◌, Option, Some, None, Result, MatchResult}
-use Rattle.prem_meaning.specs.Resolved.{Term}
-use Rattle.prem_template.specs.Limits.{Excess, frame, depth, greatest_frame, deep_excess, too_deep}
+use Rattle.prem_syntax.specs.Resolved.{Term}
+use Rattle.prem_layout.specs.Template.Limits.{Excess, frame, depth, greatest_frame, deep_excess, too_deep}
 use Rattle.prem_gen.specs.declared.term.fail.TermFail.{TermFail}
 use Rattle.prem_gen.specs.declared.term.fail.TermFail.TheVariants.{Deep, OutOfMemory as NoMemory}
 use Rattle.prem_gen.specs.declared.term.fail.GenFail.{GenFail}

@@ -2,12 +2,12 @@
 ghost use Rattle.std.specs.Prelude.{◌≡◌, ◌≤◌, ◌<◌, ◌+◌, ◌^◌, take, map, length, slice_index, IfOk};
 ghost use Rattle.prem_list.specs.Sequence.{items_of};
 ghost use Rattle.prem_syntax.specs.SyntaxOf.{program_of};
-ghost use Rattle.prem_meaning.specs.GroupTwo.{IsWellFormed};
-ghost use Rattle.prem_meaning.specs.Resolve.{functions_of, resolve};
+ghost use Rattle.prem_syntax.specs.GroupTwo.{IsWellFormed};
+ghost use Rattle.prem_syntax.specs.Resolve.{functions_of, resolve};
 ghost use Rattle.prem_tree.specs.Resolve.ResolvedOf.{all_loops, item_loops, resolved_of};
 ghost use Rattle.prem_asm.specs.PiecesOf.{pieces_of};
-ghost use Rattle.prem_template.specs.Limits.{excess};
-ghost use Rattle.prem_template.specs.Parts.{parts_of, codes_of};
+ghost use Rattle.prem_layout.specs.Template.Limits.{excess};
+ghost use Rattle.prem_layout.specs.Template.Parts.{parts_of, codes_of};
 ghost use Rattle.prem_gen.specs.Term.Excess.{Refuses};
 ghost use Rattle.prem_gen.specs.Table.Table.{all_marks, callees_from};
 ghost use Rattle.prem_gen.specs.Codes.Codes.{code_at, excess_at, FunctionsSmall, CalleesFit};

@@ -4,8 +4,8 @@ ghost use Rattle.prem_list.specs.Sequence.{items_of};
 ghost use Rattle.prem_tree.specs.Resolve.ResolvedOf.{term_of};
 ghost use Rattle.prem_asm.specs.Pieces.{followed};
 ghost use Rattle.prem_asm.specs.PiecesOf.{pieces_of};
-ghost use Rattle.prem_template.specs.Terms.{only, truth_code, term_code};
-ghost use Rattle.prem_template.specs.Limits.{first_place, too_deep};
+ghost use Rattle.prem_layout.specs.Template.Terms.{only, truth_code, term_code};
+ghost use Rattle.prem_layout.specs.Template.Limits.{first_place, too_deep};
 ghost use Rattle.prem_gen.specs.Term.Numbers.{from_part, HasSmall};
 ghost use Rattle.prem_gen.specs.Term.Deep.{Finds};
 

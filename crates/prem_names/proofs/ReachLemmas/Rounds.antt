@@ -1,6 +1,6 @@
 -- Rounds that follow new functions alone.
 use Rattle.std.proofs.Common.{◌≡◌, ◌≤◌, ℕ, zero, suc, ◌+◌, ◌-◌, Bool, true, false, not, ◌&&◌, ◌||◌, List, [], ◌∷◌, true≢false, refl, ap, sym, ◌∙◌, arith}
-use Rattle.prem_meaning.specs.Reach.{has_number, is_in_set, called_by, reached_by, with_called}
+use Rattle.prem_syntax.specs.Reach.{has_number, is_in_set, called_by, reached_by, with_called}
 use Rattle.prem_names.specs.Reach.Reach.{Closed, called_by_new, with_new}
 
 neither : (x y : Bool) → (x || y) ≡ false → (x ≡ false) × (y ≡ false)

@@ -2,7 +2,7 @@
 use Rattle.std.proofs.Common.{◌≡◌, ◌<◌, ◌≤◌, ℕ, zero, suc, ◌+◌, ◌==◌, Bool, true, false, ◌&&◌, ◌||◌, List, [], ◌∷◌, length, drop, get_or, slice_set, refl, ap, sym, ◌∙◌, arith}
 use Rattle.std.proofs.lemmas.Bool.Decides.{nat_tests}
 use Rattle.std.proofs.lemmas.List.{drop_more}
-use Rattle.prem_meaning.specs.Reach.{has_number}
+use Rattle.prem_syntax.specs.Reach.{has_number}
 use Rattle.prem_names.specs.Reach.Reach.{is_new, with_numbers, followed, called_by_new, with_new}
 use Rattle.prem_names.proofs.ReachLemmas.Rounds.{with_none}
 

@@ -1,8 +1,8 @@
 -- What functions reach by calls, from a table of callees. A set of functions has one Bool for each.
 use Rattle.std.specs.Prelude.{◌≡◌, ⊤, ℕ, ◌+◌, Bool, false, not, ◌&&◌, ◌||◌, if◌then◌else◌, List, [], ◌∷◌, map}
 use Rattle.prem_syntax.specs.Syntax.{FunctionText}
-use Rattle.prem_meaning.specs.Breaches.{callees_within}
-use Rattle.prem_meaning.specs.Reach.{has_number, is_in_set, called_by}
+use Rattle.prem_syntax.specs.Breaches.{callees_within}
+use Rattle.prem_syntax.specs.Reach.{has_number, is_in_set, called_by}
 
 -- the callees of each of these functions, among all
 abbrev pub callees_of_each : List FunctionText → List FunctionText → List (List ℕ)

@@ -19,11 +19,11 @@ use Rattle.prem_cycle.specs.Inputs.{IsRequest}
 use Rattle.prem_cycle.specs.Core.{want_of, CoreMove, Passes, phase_in}
 use Rattle.prem_cycle.specs.Cycle.{Arrivals, arrivals_at, with_memory, move_at, is_finish, is_finished_in, is_finished}
 use Rattle.prem_cycle.proofs.CoreCases.{move_cases}
-use Rattle.prem_runs.specs.Position.Own.{IsFree}
-use Rattle.prem_runs.specs.Window.Windows.{LiesInside, CarriesInside, IsQuiet}
-use Rattle.prem_runs.proofs.PositionLemmas.MayMoves.{does, stands_still, MayMoveIn}
-use Rattle.prem_runs.proofs.PositionLemmas.Gated.{AreGates, arrivals_gates, Turns, bus_turns, written_keeps}
-use Rattle.prem_runs.proofs.WindowLemmas.Bus.{turn_quiet}
+use Rattle.prem_cycle.specs.Runs.Position.Own.{IsFree}
+use Rattle.prem_cycle.specs.Runs.Window.Windows.{LiesInside, CarriesInside, IsQuiet}
+use Rattle.prem_cycle.proofs.RunsLemmas.PositionLemmas.MayMoves.{does, stands_still, MayMoveIn}
+use Rattle.prem_cycle.proofs.RunsLemmas.PositionLemmas.Gated.{AreGates, arrivals_gates, Turns, bus_turns, written_keeps}
+use Rattle.prem_cycle.proofs.RunsLemmas.WindowLemmas.Bus.{turn_quiet}
 use Rattle.prem_sound.proofs.ResidentLemmas.Clashes.{turn_serves}
 use Rattle.prem_sound.proofs.ResidentLemmas.Facing.{Meets}
 use Rattle.prem_sound.proofs.ResidentLemmas.Needs.{needs_in}

@@ -3,7 +3,7 @@ use Rattle.std.specs.Prelude.{is_some, ◌&&◌, ◌||◌, max, sum_by}
 use Rattle.std.proofs.Common.{◌≡◌, ℕ, zero, suc, ◌+◌, ◌<◌, ◌≤◌, refl, ap, ◌∙◌, sym, arith, true, false, Bool, List, [], ◌∷◌, length, map, get_or, ⊎_elim}
 use Rattle.std.proofs.lemmas.Bool.{cases_Bool, cond_both}
 use Rattle.std.proofs.lemmas.List.Sums.{sum_by-cons}
-use Rattle.prem_order.specs.Order.{OrderRule}
+use Rattle.prem_plant.specs.Order.Order.{OrderRule}
 use Rattle.prem_isa.specs.Plain.{TaskRun}
 use Rattle.prem_lru.specs.Entries.{ReplacementRule}
 use Rattle.prem_gate.specs.declared.request.Request.{Request}
@@ -13,10 +13,10 @@ use Rattle.prem_cycle.specs.State.{Setup, start_of}
 use Rattle.prem_cycle.specs.Inputs.{no_device}
 use Rattle.prem_cycle.specs.Run.{memory_of}
 use Rattle.prem_cycle.specs.Cycle.{is_finished, is_full}
-use Rattle.prem_runs.proofs.PositionLemmas.Gated.{AreGates}
-use Rattle.prem_runs.proofs.PositionLemmas.Runs.{runs_of}
-use Rattle.prem_runs.proofs.PositionLemmas.Starts.{start_all}
-use Rattle.prem_runs.proofs.WindowLemmas.Cycles.{start_closes}
+use Rattle.prem_cycle.proofs.RunsLemmas.PositionLemmas.Gated.{AreGates}
+use Rattle.prem_cycle.proofs.RunsLemmas.PositionLemmas.Runs.{runs_of}
+use Rattle.prem_cycle.proofs.RunsLemmas.PositionLemmas.Starts.{start_all}
+use Rattle.prem_cycle.proofs.RunsLemmas.WindowLemmas.Cycles.{start_closes}
 use Rattle.prem_sound.specs.Script.Script.{Script}
 use Rattle.prem_sound.specs.Script.Scripts.{last_release, AreScripts}
 use Rattle.prem_sound.specs.Resident.Faultless.{IsPolicy}

@@ -18,7 +18,7 @@ use Rattle.prem_cycle.specs.Inputs.{IsRequest}
 use Rattle.prem_cycle.specs.Issue.{one_if}
 use Rattle.prem_cycle.specs.Core.{is_empty}
 use Rattle.prem_cycle.specs.Cycle.{Arrivals, arrived, arrivals}
-use Rattle.prem_runs.specs.Position.Own.{device_of}
+use Rattle.prem_cycle.specs.Runs.Position.Own.{device_of}
 use Rattle.prem_pair.specs.Cycles.Token.{some_wait, longest_transfer}
 use Rattle.prem_pair.specs.Laws.PairSound.{cost_of_request, all_costs}
 

@@ -5,8 +5,8 @@ use Rattle.std.proofs.lemmas.Bool.{cond_both}
 use Rattle.std.proofs.lemmas.List.{append-nil, append_assoc}
 use Rattle.std.proofs.lemmas.List.Elements.{filter-append}
 use Rattle.prem_plant.specs.Places.{AreApart}
+use Rattle.prem_plant.specs.Order.Order.{OrderRule}
 use Rattle.prem_sched.specs.declared.sched.TaskJobs.{TaskJobs}
-use Rattle.prem_order.specs.Order.{OrderRule}
 use Rattle.prem_isa.specs.Plain.{TaskRun, with_last}
 use Rattle.prem_lru.specs.Entries.{ReplacementRule}
 use Rattle.prem_gate.specs.declared.request.Request.{Request}
@@ -19,10 +19,10 @@ use Rattle.prem_cycle.specs.Core.{CoreMove, Passes, Issues, want_of, core_issue,
 use Rattle.prem_cycle.specs.Cycle.{Arrivals, with_memory, with_clash, with_now, next_cycle, ticked}
 use Rattle.prem_cycle.specs.Run.{memory_of}
 use Rattle.prem_cycle.proofs.CycleParts.{settle_keeps}
-use Rattle.prem_runs.proofs.PositionLemmas.Stands.{Stands, Issuing}
-use Rattle.prem_runs.proofs.PositionLemmas.Schedules.{Moves as Scheduled}
-use Rattle.prem_runs.proofs.PositionLemmas.Turns.{bump_move, issuing}
-use Rattle.prem_runs.proofs.PositionLemmas.Gated.{arrivals_gates}
+use Rattle.prem_cycle.proofs.RunsLemmas.PositionLemmas.Stands.{Stands, Issuing}
+use Rattle.prem_cycle.proofs.RunsLemmas.PositionLemmas.Schedules.{Moves as Scheduled}
+use Rattle.prem_cycle.proofs.RunsLemmas.PositionLemmas.Turns.{bump_move, issuing}
+use Rattle.prem_cycle.proofs.RunsLemmas.PositionLemmas.Gated.{arrivals_gates}
 use Rattle.prem_sound.specs.Script.Script.{Script}
 use Rattle.prem_sound.specs.Script.Scripts.{Promise, AreScripts, AreKept}
 use Rattle.prem_sound.specs.Resident.Faultless.{IsPolicy}

@@ -14,9 +14,9 @@ use Rattle.prem_cycle.specs.Core.{want_of, CoreMove, Passes, Issues, phase_in}
 use Rattle.prem_cycle.specs.Cycle.{Arrivals, with_memory, move_at, joined, with_now, next_cycle, ticked, is_finished}
 use Rattle.prem_cycle.proofs.CoreCases.{move_cases}
 use Rattle.prem_cycle.proofs.CycleParts.{settle_keeps}
-use Rattle.prem_runs.proofs.PositionLemmas.MayMoves.{turn_with}
-use Rattle.prem_runs.proofs.PositionLemmas.Turns.{bump_move}
-use Rattle.prem_runs.proofs.PositionLemmas.Gated.{AreGates}
+use Rattle.prem_cycle.proofs.RunsLemmas.PositionLemmas.MayMoves.{turn_with}
+use Rattle.prem_cycle.proofs.RunsLemmas.PositionLemmas.Turns.{bump_move}
+use Rattle.prem_cycle.proofs.RunsLemmas.PositionLemmas.Gated.{AreGates}
 use Rattle.prem_sound.specs.Script.Scripts.{last_release}
 use Rattle.prem_sound.proofs.ResidentLemmas.Facing.{Meets}
 use Rattle.prem_sound.proofs.Spends.{off_after, off_behind}

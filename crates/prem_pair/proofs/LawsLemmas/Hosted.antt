@@ -2,7 +2,7 @@
 -- that serves it, and however long it is kept waiting at scheduling points.
 use Rattle.std.specs.Prelude.{All}
 use Rattle.std.proofs.Common.{◌≡◌, ℕ, ◌<◌, ◌≤◌, Bool, length}
-use Rattle.prem_order.specs.Order.{OrderRule}
+use Rattle.prem_plant.specs.Order.Order.{OrderRule}
 use Rattle.prem_isa.specs.Plain.{TaskRun}
 use Rattle.prem_lru.specs.Entries.{ReplacementRule}
 use Rattle.prem_gate.specs.Gates.{Turned}
@@ -10,8 +10,8 @@ use Rattle.prem_image.specs.declared.image.TaskRecord.{TaskRecord}
 use Rattle.prem_cycle.specs.State.{Setup, record_of, MachineState}
 use Rattle.prem_cycle.specs.Core.{CoreMove, phase_in}
 use Rattle.prem_cycle.specs.Cycle.{Arrivals, joined, ticked}
-use Rattle.prem_runs.proofs.PositionLemmas.MayMoves.{turn_with}
-use Rattle.prem_runs.proofs.PositionLemmas.Turns.{Runs, bump_move}
+use Rattle.prem_cycle.proofs.RunsLemmas.PositionLemmas.MayMoves.{turn_with}
+use Rattle.prem_cycle.proofs.RunsLemmas.PositionLemmas.Turns.{Runs, bump_move}
 use Rattle.prem_sound.specs.Script.Script.{Script}
 use Rattle.prem_sound.specs.Resident.Faultless.{IsPolicy}
 use Rattle.prem_sound.proofs.ResidentLemmas.Keeps.{KeepScripts, Keeps}

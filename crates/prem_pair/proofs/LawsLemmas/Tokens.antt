@@ -15,7 +15,7 @@ use Rattle.prem_cycle.specs.Issue.{is_execution}
 use Rattle.prem_cycle.specs.Core.{is_paid, CoreMove, Passes, Issues, phase_in, CoreTurn, core_turn}
 use Rattle.prem_cycle.specs.Cycle.{Arrivals, with_memory, with_clash, joined, ends_before, at_point, close_interval, settle, with_now, next_cycle, ticked}
 use Rattle.prem_cycle.proofs.CoreCases.{MoveCase, pays_on_bus, is_denied, pays_cost, waits, goes_on, switches, begins, chooses, chooses_now, begins_idle, has_finished, idles, Continues}
-use Rattle.prem_runs.proofs.PositionLemmas.MayMoves.{turn_with}
+use Rattle.prem_cycle.proofs.RunsLemmas.PositionLemmas.MayMoves.{turn_with}
 use Rattle.prem_sound.proofs.ResidentLemmas.Residents.{opens}
 use Rattle.prem_sound.proofs.ResidentLemmas.Needs.{may_miss, needs_in, IssuesSo, TurnNeeds}
 use Rattle.prem_pair.specs.declared.cycles.state.Holder.{Holder}

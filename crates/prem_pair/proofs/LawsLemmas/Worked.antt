@@ -2,7 +2,7 @@
 use Rattle.std.proofs.Common.{◌≡◌, ℕ, ◌≤◌, refl, arith, true, [], length, map, Some, None}
 use Rattle.std.proofs.lemmas.List.Elements.{All-nil, All-cons}
 use Rattle.prem_plant.specs.Places.{AreApart}
-use Rattle.prem_order.specs.Order.{lru, one_pass}
+use Rattle.prem_plant.specs.Order.Order.{lru, one_pass}
 use Rattle.prem_lru.specs.Entries.{to_front}
 use Rattle.prem_image.specs.Records.{area_of}
 use Rattle.prem_image.specs.declared.image.TaskRecord.{TaskRecord}

@@ -1,6 +1,6 @@
 -- What is good of a run of two cores, and by when it has finished.
 use Rattle.std.specs.Prelude.{◌≡◌, ℕ, zero, suc, ◌+◌, ◌-◌, ◌≤◌, max, Bool, true, List, [], ◌∷◌, ◌++◌, if◌then◌else◌, slice_index_or, sum_by, length}
-use Rattle.prem_order.specs.Order.{OrderRule}
+use Rattle.prem_plant.specs.Order.Order.{OrderRule}
 use Rattle.prem_isa.specs.Plain.{TaskRun}
 use Rattle.prem_lru.specs.Entries.{ReplacementRule}
 use Rattle.prem_gate.specs.declared.request.Request.{Request}

@@ -7,11 +7,11 @@ use Rattle.std.proofs.lemmas.List.{length-take}
 use Rattle.std.proofs.lemmas.Nat.{mul-le}
 use Rattle.prem_isa.specs.declared.instr.Instr.{Instr}
 use Rattle.prem_syntax.specs.Syntax.{GlobalVariable}
-use Rattle.prem_meaning.specs.Source.{initial_words}
-use Rattle.prem_meaning.specs.Resolved.{Steps, Done, SetLocal, SetScalar, SetElement, Output, Input, If, For, While, Call, Routine, Resolved}
-use Rattle.prem_meaning.specs.Statements.{is_marked}
+use Rattle.prem_syntax.specs.Source.{initial_words}
+use Rattle.prem_syntax.specs.Resolved.{Steps, Done, SetLocal, SetScalar, SetElement, Output, Input, If, For, While, Call, Routine, Resolved}
+use Rattle.prem_syntax.specs.Statements.{is_marked}
 use Rattle.prem_asm.specs.Pieces.{Pieces, no_pieces, straight, address_of, either, repeat, call_to, words, skip_words, skip_code, code_of, skip_at, other_at, either_end, test_at, repeat_end}
-use Rattle.prem_template.specs.Frames.{slots_of, frame_of, frame_if_there, frame_at, deepest, depth_if_there, depth_below, depth_of, deepest_marked, deepest_called, stack_size}
+use Rattle.prem_layout.specs.Template.Frames.{slots_of, frame_of, frame_if_there, frame_at, deepest, depth_if_there, depth_below, depth_of, deepest_marked, deepest_called, stack_size}
 use Rattle.prem_layout.specs.Parts.{element_size, global_size}
 use Rattle.prem_layout.specs.Image.{global_bytes}
 use Rattle.prem_layout.proofs.TaskParts.{multiple_above}

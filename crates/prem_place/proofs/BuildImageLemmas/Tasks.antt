@@ -7,9 +7,9 @@ use Rattle.prem_plant.specs.declared.layout.PartKind.TheVariants.{Start, Stack}
 use Rattle.prem_plant.specs.declared.layout.PartSize.{PartSize}
 use Rattle.prem_plant.specs.Places.{Extent}
 use Rattle.prem_syntax.specs.Syntax.{Text, GlobalVariable}
-use Rattle.prem_meaning.specs.Resolved.{Routine}
+use Rattle.prem_syntax.specs.Resolved.{Routine}
 use Rattle.prem_asm.specs.Pieces.{Pieces, size_of}
-use Rattle.prem_template.specs.Frames.{stack_size}
+use Rattle.prem_layout.specs.Template.Frames.{stack_size}
 use Rattle.prem_layout.specs.Plans.{Plan, plans_of}
 use Rattle.prem_layout.specs.Parts.{Passes, stub_passes, part, start_size, code_parts, stub_parts, global_parts, task_parts, parts_from, part_count}
 use Rattle.prem_layout.specs.Footprint.{TaskPlaces, place_at, no_place}

@@ -6,7 +6,7 @@ use Rattle.std.proofs.lemmas.Bool.{lt-ltb, le-ltb}
 use Rattle.std.proofs.lemmas.List.{length-map, length-append, append_assoc}
 use Rattle.prem_isa.specs.declared.instr.Instr.{Instr}
 use Rattle.prem_syntax.specs.Syntax.{Text}
-use Rattle.prem_meaning.specs.Resolved.{Routine}
+use Rattle.prem_syntax.specs.Resolved.{Routine}
 use Rattle.prem_asm.specs.Pieces.{Pieces, size_of, code_of, reaches, first_far}
 use Rattle.prem_asm.proofs.Shape.{code-length}
 use Rattle.prem_layout.specs.Plans.{Plan}

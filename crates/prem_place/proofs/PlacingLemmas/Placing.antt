@@ -10,14 +10,14 @@ use Rattle.prem_plant.specs.Ranges.{IsPlant}
 use Rattle.prem_plant.specs.Places.{Extent}
 use Rattle.prem_syntax.specs.declared.tree.Global.{Global as GlobalTree}
 use Rattle.prem_syntax.specs.SyntaxOf.{global_of}
-use Rattle.prem_meaning.specs.Resolve.{resolve}
-use Rattle.prem_meaning.specs.Resolved.{Resolved}
+use Rattle.prem_syntax.specs.Resolve.{resolve}
+use Rattle.prem_syntax.specs.Resolved.{Resolved}
 use Rattle.prem_tree.specs.declared.resolve.resolved.Routine.{Routine as RoutineTree}
 use Rattle.prem_tree.specs.declared.resolve.resolved.Resolved.{Resolved as ResolvedTree}
 use Rattle.prem_tree.specs.Resolve.ResolvedOf.{loops_of, routines_of as plain_routines}
 use Rattle.prem_asm.specs.declared.piece.Piece.{Piece}
 use Rattle.prem_asm.specs.PiecesOf.{pieces_of}
-use Rattle.prem_template.specs.Parts.{parts_of}
+use Rattle.prem_layout.specs.Template.Parts.{parts_of}
 use Rattle.prem_layout.specs.Plans as layout
 use Rattle.prem_layout.specs.Parts.{stub_passes, part_count}
 use Rattle.prem_layout.specs.Footprint.{TaskPlaces}

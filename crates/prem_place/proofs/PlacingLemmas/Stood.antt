@@ -10,13 +10,13 @@ use Rattle.prem_plant.specs.declared.layout.PartSize.{PartSize}
 use Rattle.prem_plant.specs.Ranges.{IsPlant}
 use Rattle.prem_plant.specs.Places.{Extent, default_places, last_end}
 use Rattle.prem_syntax.specs.Syntax.{Text, MarkText, ProgramText}
-use Rattle.prem_meaning.specs.GroupTwo.{IsWellFormed}
-use Rattle.prem_meaning.specs.Resolve.{functions_of, resolve}
-use Rattle.prem_meaning.specs.Resolved.{Routine, Resolved}
+use Rattle.prem_syntax.specs.GroupTwo.{IsWellFormed}
+use Rattle.prem_syntax.specs.Resolve.{functions_of, resolve}
+use Rattle.prem_syntax.specs.Resolved.{Routine, Resolved}
 use Rattle.prem_asm.specs.Pieces.{Pieces, size_of}
-use Rattle.prem_template.specs.Limits.{excess}
-use Rattle.prem_template.specs.Steps.{Parts}
-use Rattle.prem_template.specs.Parts.{parts_of, codes_of}
+use Rattle.prem_layout.specs.Template.Limits.{excess}
+use Rattle.prem_layout.specs.Template.Steps.{Parts}
+use Rattle.prem_layout.specs.Template.Parts.{parts_of, codes_of}
 use Rattle.prem_layout.specs.Plans.{Plan, plan_before, plans_from, plans_of}
 use Rattle.prem_layout.specs.Parts.{pass_count, stub_passes, part_count, task_parts, parts_from, area_parts}
 use Rattle.prem_layout.specs.Footprint.{TaskPlaces}
@@ -26,10 +26,10 @@ use Rattle.prem_layout.specs.Placed as layout
 use Rattle.prem_layout.specs.Placed.{Coded, sized_of, placed_at, task_places}
 use Rattle.prem_layout.proofs.Lawful.{parts_may_be_placed}
 use Rattle.prem_layout.proofs.StubLaws.{passes_are_few}
-use Rattle.prem_fit_laws.specs.Whole.{HasWords, ProgramHasWords}
-use Rattle.prem_fit_laws.proofs.Whole.{programs_have_words}
 use Rattle.prem_foot.specs.PlacesOf.{IsPlanAt}
 use Rattle.prem_foot.proofs.Standing.{plans_stand}
+use Rattle.prem_code_laws.specs.FitLaws.Whole.{HasWords, ProgramHasWords}
+use Rattle.prem_code_laws.proofs.FitLawsLemmas.Whole.{programs_have_words}
 use Rattle.prem_place.specs.Flat.Flat.{EndWithin}
 use Rattle.prem_place.specs.Stand.Lying.{Lie, starts_of, Stands}
 use Rattle.prem_place.specs.Placing.CodedOf.{AreAtPlaces}

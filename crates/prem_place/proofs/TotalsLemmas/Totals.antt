@@ -3,7 +3,7 @@ use Rattle.std.specs.Prelude.{nat_lt}
 use Rattle.std.proofs.Common.{◌≡◌, ℕ, ◌+◌, ◌*◌, ◌<◌, ◌≤◌, ◌^◌, List, ap, sym, ◌∙◌, ⊎_elim, arith, length, map, drop, get_or}
 use Rattle.std.proofs.lemmas.Bool.{cases_lt, lt-ltb, le-ltb}
 use Rattle.std.proofs.lemmas.List.{at_drop_more, at_drop_all}
-use Rattle.prem_meaning.specs.Resolved.{Resolved}
+use Rattle.prem_syntax.specs.Resolved.{Resolved}
 use Rattle.prem_layout.specs.Counts.{marked_calls_of, intervals_of}
 use Rattle.prem_layout.specs.Rules.{total_of}
 use Rattle.prem_bounds.specs.Counts.Count.{clipped}

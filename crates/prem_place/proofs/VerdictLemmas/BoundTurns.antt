@@ -5,7 +5,7 @@ use Rattle.std.proofs.Common.{◌≡◌, ℕ, zero, suc, ◌+◌, ◌<◌, ◌�
 use Rattle.std.proofs.lemmas.Bool.{lt-ltb, le-ltb}
 use Rattle.std.proofs.lemmas.List.{at_drop_more}
 use Rattle.prem_plant.specs.declared.plant.Plant.{Plant}
-use Rattle.prem_meaning.specs.Statements.{is_marked}
+use Rattle.prem_syntax.specs.Statements.{is_marked}
 use Rattle.prem_layout.specs.Plans as layout
 use Rattle.prem_layout.specs.Bounds.{job_bound_of}
 use Rattle.prem_layout.specs.Footprint.{footprint_of}

@@ -5,7 +5,7 @@ use Rattle.std.proofs.Common.{◌≡◌, ℕ, Bool, true, false, cond, zero, suc
 use Rattle.std.proofs.lemmas.List.{length-map}
 use Rattle.prem_list.specs.Sequence.{items_of}
 use Rattle.prem_syntax.specs.Syntax.{Text, MarkText}
-use Rattle.prem_meaning.specs.Resolved.{Routine, Resolved}
+use Rattle.prem_syntax.specs.Resolved.{Routine, Resolved}
 use Rattle.prem_asm.specs.Pieces.{Pieces}
 use Rattle.prem_layout.specs.Plans.{Plan, plan_before, plans_from}
 use Rattle.prem_layout.specs.Placed.{Placed, name_at, blocks_of}

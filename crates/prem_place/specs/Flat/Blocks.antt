@@ -3,7 +3,7 @@ use Rattle.std.specs.Prelude.{◌≡◌, ◌≤◌, ◌<◌, ◌⊎◌, ℕ, ◌
 use Rattle.std.specs.Option.{option_map}
 use Rattle.prem_isa.specs.Decode.{word_of}
 use Rattle.prem_syntax.specs.Syntax.{Text}
-use Rattle.prem_meaning.specs.Resolved.{Routine}
+use Rattle.prem_syntax.specs.Resolved.{Routine}
 use Rattle.prem_asm.specs.Pieces.{Pieces, size_of}
 use Rattle.prem_layout.specs.Plans.{Plan}
 use Rattle.prem_layout.specs.Footprint.{TaskPlaces, place_at}

@@ -6,11 +6,11 @@ use Rattle.prem_plant.specs.declared.plant.Plant.{Plant}
 use Rattle.prem_plant.specs.declared.plant.Device.{Device}
 use Rattle.prem_plant.specs.Places.{Extent, ArePlaces}
 use Rattle.prem_syntax.specs.Syntax.{ProgramText}
-use Rattle.prem_meaning.specs.GroupTwo.{IsWellFormed}
-use Rattle.prem_meaning.specs.Resolve.{resolve}
+use Rattle.prem_syntax.specs.GroupTwo.{IsWellFormed}
+use Rattle.prem_syntax.specs.Resolve.{resolve}
 use Rattle.prem_tree.specs.Resolve.ResolvedOf.{resolved_of}
-use Rattle.prem_template.specs.Limits.{excess}
-use Rattle.prem_template.specs.Parts as template
+use Rattle.prem_layout.specs.Template.Limits.{excess}
+use Rattle.prem_layout.specs.Template.Parts as template
 use Rattle.prem_layout.specs.Plans.{plans_of}
 use Rattle.prem_layout.specs.Placed.{Coded, parts_of}
 use Rattle.prem_split.specs.PlanOf.{plan_of}

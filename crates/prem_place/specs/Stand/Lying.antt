@@ -2,15 +2,15 @@
 use Rattle.std.specs.Prelude.{◌≡◌, ℕ, ◌+◌, ◌%◌, ◌^◌, ◌≤◌, ⊤, List, [], ◌∷◌, ◌++◌, length, map, drop, slice_index}
 use Rattle.prem_plant.specs.declared.layout.PartSize.{PartSize}
 use Rattle.prem_plant.specs.Places.{Extent, AreDisjoint, ArePlaces}
-use Rattle.prem_meaning.specs.Resolved.{Resolved}
+use Rattle.prem_syntax.specs.Resolved.{Resolved}
 use Rattle.prem_asm.specs.Pieces.{Pieces, size_of}
 use Rattle.prem_layout.specs.Plans.{plans_of}
 use Rattle.prem_layout.specs.Parts.{Passes, task_parts, part_count}
 use Rattle.prem_layout.specs.Footprint.{TaskPlaces}
 use Rattle.prem_layout.specs.Stubs.{stub_of}
 use Rattle.prem_layout.specs.Placed.{task_places}
-use Rattle.prem_fit_laws.specs.Whole.{HasAddresses}
 use Rattle.prem_foot.specs.Standing.{ArePartsAt}
+use Rattle.prem_code_laws.specs.FitLaws.Whole.{HasAddresses}
 use Rattle.prem_place.specs.Flat.Flat.{EndWithin}
 use Rattle.prem_place.specs.Flat.Blocks.{start_at, code_parts, AllApart}
 

@@ -2,8 +2,8 @@
 use Rattle.std.specs.Prelude.{◌≡◌, ℕ, zero, suc, ◌+◌, ◌<◌, nat_lt, not, Bool, List, [], ◌∷◌, length, map, option_map, Option, None, Some, Result, MatchResult}
 use Rattle.prem_plant.specs.declared.plant.Plant.{Plant}
 use Rattle.prem_syntax.specs.Syntax.{Text}
-use Rattle.prem_meaning.specs.Resolved.{Routine}
-use Rattle.prem_meaning.specs.Statements.{is_marked}
+use Rattle.prem_syntax.specs.Resolved.{Routine}
+use Rattle.prem_syntax.specs.Statements.{is_marked}
 use Rattle.prem_layout.specs.Bounds.{job_bound_of}
 use Rattle.prem_layout.specs.Facts.{IntervalFact, interval_facts, job_fact}
 use Rattle.prem_layout.specs.Placed.{Placed, name_at}

@@ -3,11 +3,11 @@ use Rattle.std.specs.Prelude.{is_some, slice_index_or}
 use Rattle.std.proofs.Common.{◌≡◌, ℕ, zero, suc, ◌+◌, max, cond, Bool, List, [], ◌∷◌, ◌++◌, refl, ap, ◌∙◌, arith, map, slice_index, slice_get}
 use Rattle.prem_list.specs.Sequence.{items_of}
 use Rattle.prem_syntax.specs.SyntaxOf.{function_of}
-use Rattle.prem_meaning.specs.Resolved.{Steps, Done, SetLocal, SetScalar, SetElement, Output, Input, If, For, While, Call, Routine, Resolved}
+use Rattle.prem_syntax.specs.Resolved.{Steps, Done, SetLocal, SetScalar, SetElement, Output, Input, If, For, While, Call, Routine, Resolved}
 use Rattle.prem_tree.specs.declared.resolve.resolved.Routine.{Routine as RoutineTree}
 use Rattle.prem_tree.specs.Resolve.ResolvedOf.{loops_of, routines_of, resolved_of}
 use Rattle.prem_analysis.proofs.MarksLemmas.CalledTrees.{tables_same}
-use Rattle.prem_template.specs.Frames.{frame_of, frame_at, depth_of, deepest, deepest_called, deepest_marked}
+use Rattle.prem_layout.specs.Template.Frames.{frame_of, frame_at, depth_of, deepest, deepest_called, deepest_marked}
 use Rattle.prem_layout.specs.Plans.{callees_in, callee_table}
 use Rattle.prem_split.specs.Walk.{frame_of as frame_of_tree}
 use Rattle.prem_split.specs.Tables.{greatest, depths_of}

@@ -12,11 +12,11 @@ use Rattle.prem_plant.specs.declared.layout.PartSize.{PartSize}
 use Rattle.prem_plant.specs.Ranges.{IsDevice}
 use Rattle.prem_syntax.specs.Syntax.{GlobalVariable}
 use Rattle.prem_syntax.specs.SyntaxOf.{global_of}
-use Rattle.prem_meaning.specs.Resolved.{Resolved}
+use Rattle.prem_syntax.specs.Resolved.{Resolved}
 use Rattle.prem_asm.specs.declared.piece.Piece.{Piece}
 use Rattle.prem_asm.specs.Pieces.{Pieces, size_of}
 use Rattle.prem_asm.specs.PiecesOf.{pieces_of}
-use Rattle.prem_template.specs.Frames.{stack_size}
+use Rattle.prem_layout.specs.Template.Frames.{stack_size}
 use Rattle.prem_layout.specs.Plans.{Plan}
 use Rattle.prem_layout.specs.Parts.{Passes, stub_passes, part, code_parts, stub_parts, global_parts, task_parts, parts_from, area_parts}
 use Rattle.prem_layout.specs.Placed.{Coded, sized_of}

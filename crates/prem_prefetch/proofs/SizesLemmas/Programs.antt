@@ -8,22 +8,22 @@ use Rattle.prem_list.specs.declared.Sequence.{Sequence}
 use Rattle.prem_list.specs.Sequence.{items_of}
 use Rattle.prem_syntax.specs.Syntax.{MarkText, GlobalVariable, FunctionText, global_item, function_item, ProgramText}
 use Rattle.prem_syntax.specs.SyntaxOf.{global_of}
-use Rattle.prem_meaning.specs.Breaches.{regions_of}
-use Rattle.prem_meaning.specs.GroupTwo.{IsWellFormed}
-use Rattle.prem_meaning.specs.Reach.{with_all_if, is_in, with_callees_below, members_from, reach_set, reach_of, callee_table, callees_in}
-use Rattle.prem_meaning.specs.Resolve.{loops_within, functions_of, globals_of, resolve_items, resolve}
-use Rattle.prem_meaning.specs.Resolved.{Routine, Resolved}
-use Rattle.prem_meaning.proofs.Reach.{if_long}
+use Rattle.prem_syntax.specs.Breaches.{regions_of}
+use Rattle.prem_syntax.specs.GroupTwo.{IsWellFormed}
+use Rattle.prem_syntax.specs.Reach.{with_all_if, is_in, with_callees_below, members_from, reach_set, reach_of, callee_table, callees_in}
+use Rattle.prem_syntax.specs.Resolve.{loops_within, functions_of, globals_of, resolve_items, resolve}
+use Rattle.prem_syntax.specs.Resolved.{Routine, Resolved}
+use Rattle.prem_syntax.proofs.Reach.{if_long}
 use Rattle.prem_tree.specs.declared.resolve.resolved.Routine.{Routine as RoutineTree}
 use Rattle.prem_tree.specs.declared.resolve.resolved.Resolved.{Resolved as ResolvedTree}
 use Rattle.prem_tree.specs.Resolve.ResolvedOf.{loops_of, routine_of, routines_of, resolved_of}
 use Rattle.prem_asm.specs.declared.piece.Piece.{Piece}
 use Rattle.prem_asm.specs.Pieces.{size_of}
 use Rattle.prem_asm.specs.PiecesOf.{pieces_of}
-use Rattle.prem_template.specs.Frames.{frame_of}
-use Rattle.prem_template.specs.Limits.{Excess, frame, greatest_frame, deep_excess, excess_of, excess_or, excess_among, excess, too_deep_function}
-use Rattle.prem_template.specs.Steps.{Parts}
-use Rattle.prem_template.specs.Parts.{codes_of, parts_of as code_parts_of}
+use Rattle.prem_layout.specs.Template.Frames.{frame_of}
+use Rattle.prem_layout.specs.Template.Limits.{Excess, frame, greatest_frame, deep_excess, excess_of, excess_or, excess_among, excess, too_deep_function}
+use Rattle.prem_layout.specs.Template.Steps.{Parts}
+use Rattle.prem_layout.specs.Template.Parts.{codes_of, parts_of as code_parts_of}
 use Rattle.prem_layout.specs.Plans.{plan_of as plan_text, plan_before, plans_from, plans_of, region_of}
 use Rattle.prem_split.specs.PlanOf.{plan_of}
 use Rattle.prem_split.specs.PlansWith.{MayHavePlans}

@@ -3,7 +3,7 @@ use Rattle.std.specs.Prelude.{codes, slice_index}
 use Rattle.std.proofs.Common.{◌<◌, ◌^◌, refl, arith}
 use Rattle.std.proofs.lemmas.List.Elements.{All-from_recursion}
 use Rattle.prem_plant.specs.declared.plant.Target.TheVariants.{Rv32i}
-use Rattle.prem_meaning.specs.GroupTwo.{group_two, IsWellFormed}
+use Rattle.prem_syntax.specs.GroupTwo.{group_two, IsWellFormed}
 use Rattle.prem_asm.specs.Pieces.{size_of}
 use Rattle.prem_layout.specs.Placed.{Coded}
 use Rattle.prem_layout.proofs.Samples.{m_text, m_turns}

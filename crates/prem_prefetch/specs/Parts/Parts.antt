@@ -5,13 +5,13 @@ use Rattle.prem_list.specs.Sequence.{items_of}
 use Rattle.prem_plant.specs.declared.layout.PartKind.TheVariants.{Start, Stack}
 use Rattle.prem_plant.specs.declared.layout.PartSize.{PartSize}
 use Rattle.prem_syntax.specs.Syntax.{MarkText, GlobalVariable}
-use Rattle.prem_meaning.specs.Resolved.{Resolved}
+use Rattle.prem_syntax.specs.Resolved.{Resolved}
 use Rattle.prem_tree.specs.declared.resolve.resolved.Resolved.{Resolved as ResolvedTree}
 use Rattle.prem_tree.specs.Resolve.ResolvedOf.{resolved_of}
 use Rattle.prem_asm.specs.declared.piece.Piece.{Piece}
 use Rattle.prem_asm.specs.Pieces.{size_of}
 use Rattle.prem_asm.specs.PiecesOf.{pieces_of}
-use Rattle.prem_template.specs.Frames.{stack_size}
+use Rattle.prem_layout.specs.Template.Frames.{stack_size}
 use Rattle.prem_layout.specs.Plans.{Plan, plans_of}
 use Rattle.prem_layout.specs.Parts.{Passes, part, start_size, code_parts, stub_parts, global_parts, task_parts}
 use Rattle.prem_split.specs.Walk.{frame_of}

@@ -4,11 +4,11 @@ use Rattle.std.specs.List.{AllByRecursion}
 use Rattle.prem_plant.specs.declared.plant.Plant.{Plant}
 use Rattle.prem_plant.specs.declared.plant.Device.{Device}
 use Rattle.prem_syntax.specs.Syntax.{ProgramText}
-use Rattle.prem_meaning.specs.GroupTwo.{IsWellFormed}
-use Rattle.prem_meaning.specs.Resolve.{resolve}
+use Rattle.prem_syntax.specs.GroupTwo.{IsWellFormed}
+use Rattle.prem_syntax.specs.Resolve.{resolve}
 use Rattle.prem_tree.specs.declared.resolve.resolved.Resolved.{Resolved as ResolvedTree}
 use Rattle.prem_tree.specs.Resolve.ResolvedOf.{resolved_of}
-use Rattle.prem_template.specs.Limits.{excess}
+use Rattle.prem_layout.specs.Template.Limits.{excess}
 use Rattle.prem_layout.specs.Placed.{Coded, parts_of}
 use Rattle.prem_split.specs.PlansWith.{MayHavePlans}
 use Rattle.prem_prefetch.specs.declared.sizes.sizes.SizedTask.{SizedTask}

@@ -10,15 +10,15 @@ use Rattle.prem_plant.specs.declared.layout.PartSize.{PartSize}
 use Rattle.prem_plant.specs.Places.{HasWholeAreas}
 use Rattle.prem_syntax.specs.Syntax.{GlobalVariable, ProgramText}
 use Rattle.prem_syntax.specs.SyntaxOf.{global_of}
-use Rattle.prem_meaning.specs.GroupTwo.{IsWellFormed}
-use Rattle.prem_meaning.specs.Resolve.{resolve}
+use Rattle.prem_syntax.specs.GroupTwo.{IsWellFormed}
+use Rattle.prem_syntax.specs.Resolve.{resolve}
 use Rattle.prem_tree.specs.declared.resolve.resolved.Resolved.{Resolved as ResolvedTree}
 use Rattle.prem_tree.specs.Resolve.ResolvedOf.{resolved_of}
 use Rattle.prem_asm.specs.declared.piece.Piece.{Piece}
 use Rattle.prem_asm.specs.Pieces.{Pieces, size_of}
 use Rattle.prem_asm.specs.PiecesOf.{pieces_of}
-use Rattle.prem_template.specs.Limits.{excess}
-use Rattle.prem_template.specs.Parts.{codes_of, parts_of as code_parts_of}
+use Rattle.prem_layout.specs.Template.Limits.{excess}
+use Rattle.prem_layout.specs.Template.Parts.{codes_of, parts_of as code_parts_of}
 use Rattle.prem_layout.specs.Plans.{plans_of}
 use Rattle.prem_layout.specs.Parts.{Passes, stub_passes, area_parts}
 use Rattle.prem_layout.specs.Placed.{Coded}

@@ -1,7 +1,7 @@
 -- The tokens of a row, by their number.
 use Rattle.std.proofs.Common.{◌≡◌, ◌≤◌, ◌<◌, ℕ, zero, suc, List, [], ◌∷◌, length, get_or, map, None, refl, arith, false}
-use Rattle.prem_lexer.specs.declared.token.token.Spotted.{Spotted}
-use Rattle.prem_lexer.specs.Token.Lexeme.{lexeme_of, seen_of}
+use Rattle.prem_text.specs.declared.lexing.token.token.Spotted.{Spotted}
+use Rattle.prem_text.specs.Lexing.Token.Lexeme.{lexeme_of, seen_of}
 use Rattle.prem_text.specs.Grammar.Slots.{Slot, fits, is_less_equal, text_of, value_of, text_at, value_at, place_at, slot_at}
 use Rattle.prem_text.specs.Grammar.Statement.{is_at_most}
 

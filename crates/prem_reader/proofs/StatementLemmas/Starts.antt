@@ -4,7 +4,7 @@ use Rattle.prem_syntax.specs.declared.tree.Place.{Place}
 use Rattle.prem_syntax.specs.declared.tree.Expr.{Expr}
 use Rattle.prem_syntax.specs.Syntax.{Text}
 use Rattle.prem_syntax.specs.SyntaxOf.{expression_of}
-use Rattle.prem_lexer.specs.Token.Lexeme.{Seen}
+use Rattle.prem_text.specs.Lexing.Token.Lexeme.{Seen}
 use Rattle.prem_text.specs.Grammar.Statement.{Around, for_argument, wrong, at_start}
 
 pub no_argument : (xs : List Expr) → length xs ≡ 0 → map expression_of xs ≡ []

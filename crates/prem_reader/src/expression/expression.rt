@@ -1,12 +1,12 @@
 // Reading an expression, one token after the other.
 ghost use Rattle.std.specs.Prelude.{◌≡◌, IfOk};
 ghost use Rattle.prem_syntax.specs.SyntaxOf.{expression_of};
-ghost use Rattle.prem_lexer.specs.Token.Lexeme.{lexeme_of, seen_of};
+ghost use Rattle.prem_text.specs.Lexing.Token.Lexeme.{lexeme_of, seen_of};
 ghost use Rattle.prem_text.specs.Grammar.Expression.{infix_of, prefix_of, level_of, bind, operand, operator, closing, behind, move as move_by};
 ghost use Rattle.prem_reader.specs.Expression.StateOf.{open_of, state_of, move_of};
 
-use prem_lexer::token::{Mark, Spotted, Token};
 use prem_syntax::{BinOp, Expr, Name, Place, UnOp, copy_name};
+use prem_text::lexing::token::{Mark, Spotted, Token};
 use std::alloc::{AllocError, Global};
 
 /// What is open around an operand, the innermost first.

@@ -4,7 +4,7 @@ ghost use Rattle.std.specs.Option.{option_map};
 ghost use Rattle.prem_list.specs.Sequence.{items_of};
 ghost use Rattle.prem_syntax.specs.Name.{name_bytes};
 ghost use Rattle.prem_syntax.specs.SyntaxOf.{expression_of, statement_of};
-ghost use Rattle.prem_lexer.specs.Token.Lexeme.{lexeme_of, seen_of};
+ghost use Rattle.prem_text.specs.Lexing.Token.Lexeme.{lexeme_of, seen_of};
 ghost use Rattle.prem_text.specs.Grammar.Statement.{expression, begin, finish, side, changed, by_one, change};
 ghost use Rattle.prem_reader.specs.Statement.SlotOf.{slot_of};
 ghost use Rattle.prem_reader.specs.Statement.PointOf.{around_of, use_of, row_of, turn_of};
@@ -13,9 +13,9 @@ use crate::expression::{Open, State, copy_expression};
 use crate::statement::point::{Around, Point, Purpose, Row, Turn, boxed};
 use crate::statement::row::{NOTHING, copy_spotted};
 use crate::statement::slot::Slot;
-use prem_lexer::token::{Mark, Spotted, Token};
 use prem_list::Sequence;
 use prem_syntax::{BinOp, Expr, Kind, Name, Place, Stmt, copy_name};
+use prem_text::lexing::token::{Mark, Spotted, Token};
 use std::alloc::{AllocError, Global};
 
 /// The greatest number of tokens of an expression, and one more: past it nothing is left of the room.

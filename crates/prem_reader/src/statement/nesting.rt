@@ -3,14 +3,14 @@ ghost use Rattle.std.specs.Prelude.{◌≡◌, IfOk, map};
 ghost use Rattle.prem_list.specs.Sequence.{items_of};
 ghost use Rattle.prem_syntax.specs.Syntax.{block, if_then, if_else, bounded_while, counting_for};
 ghost use Rattle.prem_syntax.specs.SyntaxOf.{expression_of, loop_names_of, statement_of};
-ghost use Rattle.prem_lexer.specs.Token.Lexeme.{seen_of};
+ghost use Rattle.prem_text.specs.Lexing.Token.Lexeme.{seen_of};
 ghost use Rattle.prem_text.specs.Grammar.Statement.{listed, ended, settled, nests, has_begun_block, begins_row, is_past};
 ghost use Rattle.prem_reader.specs.Statement.PointOf.{around_of, row_of, point_of};
 
 use crate::statement::point::{Around, Point, Row, boxed};
-use prem_lexer::token::Spotted;
 use prem_list::Sequence;
 use prem_syntax::{Expr, ForNames, Place, Stmt};
+use prem_text::lexing::token::Spotted;
 use std::alloc::{AllocError, Global};
 
 /// The greatest nesting of a statement; those of a function's body have nesting 1.

@@ -4,9 +4,9 @@ ghost use Rattle.std.specs.Prelude.{◌≡◌, IfOk};
 
 use crate::expression::State;
 use crate::statement::slot::Slot;
-use prem_lexer::token::Spotted;
 use prem_list::Sequence;
 use prem_syntax::{BinOp, Expr, ForNames, Name, Place, Stmt};
+use prem_text::lexing::token::Spotted;
 use std::alloc::{AllocError, Global};
 
 /// What is open around a statement, the innermost first.

@@ -4,7 +4,7 @@ ghost use Rattle.std.specs.Option.{option_map};
 ghost use Rattle.prem_list.specs.Sequence.{items_of};
 ghost use Rattle.prem_syntax.specs.Name.{name_bytes};
 ghost use Rattle.prem_syntax.specs.SyntaxOf.{expression_of, statement_of};
-ghost use Rattle.prem_lexer.specs.Token.Lexeme.{lexeme_of, seen_of};
+ghost use Rattle.prem_text.specs.Lexing.Token.Lexeme.{lexeme_of, seen_of};
 ghost use Rattle.prem_text.specs.Grammar.Slots.{is_left_parenthesis};
 ghost use Rattle.prem_text.specs.Grammar.Statement.{between, in_block, for_row, bound_row, sign_row, step_row, filling, for_output, for_index, for_if, for_while, for_low, for_high, for_value, for_argument, on, ended as grammar_ended, least_of, begins_statement, statement, without, next, else_or, filled, filled_or, behind_name, used, is_start, at_start, lone_name, called, within, turn};
 ghost use Rattle.prem_reader.specs.Expression.StateOf.{state_of};
@@ -23,9 +23,9 @@ use crate::statement::slot::{
     Slot, fits, is_comma, is_else, is_in, is_left_bracket, is_left_parenthesis, is_right_brace,
     is_right_bracket, is_right_parenthesis, is_semicolon,
 };
-use prem_lexer::token::{Mark, Spotted, Token, Word};
 use prem_list::Sequence;
 use prem_syntax::{Expr, ForNames, Name, Place, Stmt, copy_name};
+use prem_text::lexing::token::{Mark, Spotted, Token, Word};
 use std::alloc::{AllocError, Global};
 
 /// The level of the operators of a `for`'s bound, `<<` and `>>`: looser ones don't belong to it.

@@ -2,14 +2,14 @@
 ghost use Rattle.std.specs.Prelude.{◌≡◌, IfOk, map};
 ghost use Rattle.std.specs.Option.{option_map};
 ghost use Rattle.prem_syntax.specs.Name.{name_bytes};
-ghost use Rattle.prem_lexer.specs.Token.Lexeme.{lexeme_of, seen_of};
+ghost use Rattle.prem_text.specs.Lexing.Token.Lexeme.{lexeme_of, seen_of};
 ghost use Rattle.prem_text.specs.Grammar.Slots.{text_of, value_of, text_at, value_at, place_at, slot_at};
 ghost use Rattle.prem_text.specs.Grammar.Statement.{rest_of_step, step_in, fourth_in, is_at_most};
 ghost use Rattle.prem_reader.specs.Statement.SlotOf.{slot_of};
 
 use crate::statement::slot::{Slot, fits, is_less_equal};
-use prem_lexer::token::{Spotted, Token};
 use prem_syntax::{Name, Place, copy_name};
+use prem_text::lexing::token::{Spotted, Token};
 use std::alloc::{AllocError, Global};
 
 /// No tokens.

@@ -1,10 +1,10 @@
 // The tokens that a place in a row may have.
 ghost use Rattle.std.specs.Prelude.{◌≡◌};
-ghost use Rattle.prem_lexer.specs.Token.Lexeme.{lexeme_of};
+ghost use Rattle.prem_text.specs.Lexing.Token.Lexeme.{lexeme_of};
 ghost use Rattle.prem_text.specs.Grammar.Slots.{fits, is_left_parenthesis, is_right_parenthesis, is_left_brace, is_right_brace, is_left_bracket, is_right_bracket, is_semicolon, is_comma, is_equal, is_plus, is_plus_plus, is_plus_equal, is_less_equal, is_comparison, is_step_sign, is_name, is_literal, is_while, is_else, is_in};
 ghost use Rattle.prem_reader.specs.Statement.SlotOf.{slot_of};
 
-use prem_lexer::token::{Mark, Token, Word};
+use prem_text::lexing::token::{Mark, Token, Word};
 
 /// What stands in one place of a row.
 #[derive(Clone, Copy, Debug)]

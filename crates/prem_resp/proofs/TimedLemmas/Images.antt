@@ -1,6 +1,6 @@
 -- An image whose tasks join at their pace meets its deadlines.
 use Rattle.std.proofs.Common.{ℕ, ◌+◌, ◌*◌, ◌<◌, ◌≤◌, refl, sym, subst, arith, Bool, List, [], length}
-use Rattle.prem_order.specs.Order.{OrderRule}
+use Rattle.prem_plant.specs.Order.Order.{OrderRule}
 use Rattle.prem_isa.specs.Plain.{plain_run}
 use Rattle.prem_lru.specs.Entries.{ReplacementRule}
 use Rattle.prem_cycle.specs.Alone.{run_in}
@@ -12,14 +12,14 @@ use Rattle.prem_sound.specs.Resident.Faultless.{IsPolicy}
 use Rattle.prem_sound.specs.Sound.{AreInputs}
 use Rattle.prem_sound.specs.Paced.Paced.{IsPaced}
 use Rattle.prem_sound.proofs.Sums.{sum_le}
-use Rattle.prem_busy.specs.declared.load.Load.{Load}
-use Rattle.prem_busy.specs.Busy.{load_at}
-use Rattle.prem_deadline.specs.Deadlines.{AreLoads}
-use Rattle.prem_deadline.proofs.Timelines.{scripts_meet_deadlines}
-use Rattle.prem_weave.proofs.PaceLemmas.Runs.{paced_weaves_keep_bounds}
-use Rattle.prem_stub_laws.specs.Join.Joined.{JobLimits, TaskJoins, IsJoined}
-use Rattle.prem_stub_laws.proofs.JoinLemmas.Joined.{chosen, Scripted, joined_script, joined_calls, run_fits, runs}
+use Rattle.prem_sets_sound.proofs.WeaveLemmas.PaceLemmas.Runs.{paced_weaves_keep_bounds}
+use Rattle.prem_sets_sound.specs.StubLaws.Join.Joined.{JobLimits, TaskJoins, IsJoined}
+use Rattle.prem_sets_sound.proofs.StubLawsLemmas.JoinLemmas.Joined.{chosen, Scripted, joined_script, joined_calls, run_fits, runs}
 use Rattle.prem_sets_sound.specs.Each.Joins.{TaskPaces}
+use Rattle.prem_resp.specs.declared.busy.load.Load.{Load}
+use Rattle.prem_resp.specs.Busy.Busy.{load_at}
+use Rattle.prem_resp.specs.Deadline.Deadlines.{AreLoads}
+use Rattle.prem_resp.proofs.DeadlineLemmas.Timelines.{scripts_meet_deadlines}
 use Rattle.prem_resp.specs.Timed.Timed.{MeetsDeadlines, TellsTasks, JoinedImagesMeetDeadlines}
 
 module _ (passes : ℕ → ℕ) (p : Setup) (content : List ℕ) (own : ℕ → ℕ → Bool) (most : ℕ → JobLimits) (longest : ℕ → ℕ) (promises : List (List ℕ) → ℕ → Promise) (limit : ℕ) (h : IsJoined passes p content own most promises limit)

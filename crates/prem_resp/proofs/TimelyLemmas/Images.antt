@@ -1,17 +1,17 @@
 -- Compiled tasks at lawful places meet their deadlines.
 use Rattle.std.proofs.Common.{◌≡◌, ℕ, zero, suc, ◌+◌, ◌<◌, refl, ap, ◌∙◌, sym, arith, List, [], ◌∷◌, length, map, get_or}
 use Rattle.std.proofs.lemmas.List.{length-map}
-use Rattle.prem_busy.specs.declared.load.Load.{Load}
-use Rattle.prem_busy.specs.Busy.{no_load}
 use Rattle.prem_layout.specs.Image.{task_record}
 use Rattle.prem_layout.specs.Placed.{Placed, placed_from}
-use Rattle.prem_stub_laws.specs.Own.Owned.{own_of, setup_of}
-use Rattle.prem_stub_laws.specs.Initial.Initial.{content_of}
-use Rattle.prem_stub_laws.specs.Join.Joined.{JobLimits}
-use Rattle.prem_task_laws.specs.TaskFrame.Limits.{task_limits}
+use Rattle.prem_sets_sound.specs.StubLaws.Own.Owned.{own_of, setup_of}
+use Rattle.prem_sets_sound.specs.StubLaws.Initial.Initial.{content_of}
+use Rattle.prem_sets_sound.specs.StubLaws.Join.Joined.{JobLimits}
+use Rattle.prem_sets_sound.specs.TaskLaws.TaskFrame.Limits.{task_limits}
 use Rattle.prem_sets_sound.specs.Accepted.Accepted.{limits_at, no_limits}
 use Rattle.prem_sets_sound.specs.Each.Joins.{task_longest}
 use Rattle.prem_sets_sound.proofs.AcceptedLemmas.Whole.{laid_out_images_join}
+use Rattle.prem_resp.specs.declared.busy.load.Load.{Load}
+use Rattle.prem_resp.specs.Busy.Busy.{no_load}
 use Rattle.prem_resp.specs.Timely.Timely.{load_of, loads_of, longest_at, LaidOutSetsMeetDeadlines}
 use Rattle.prem_resp.proofs.TimedLemmas.Images.{joined_images_meet_deadlines}
 

@@ -1,10 +1,10 @@
 -- The set of two tasks, computed: its loads, the busy periods of both levels, and by when each job has ended.
 use Rattle.std.proofs.Common.{◌≡◌, [], ◌∷◌, refl}
 use Rattle.prem_lru.specs.Rules.{rule_of}
-use Rattle.prem_meaning.specs.GroupTwo.{group_two}
-use Rattle.prem_lexer.specs.Tokens.{tokens_of, lex, step, start, first_token}
-use Rattle.prem_lexer.specs.Spelling.{reserved_word, used_word, is_unused, longest_mark}
-use Rattle.prem_lexer.specs.Literal.{literal_word}
+use Rattle.prem_syntax.specs.GroupTwo.{group_two}
+use Rattle.prem_text.specs.Lexing.Tokens.{tokens_of, lex, step, start, first_token}
+use Rattle.prem_text.specs.Lexing.Spelling.{reserved_word, used_word, is_unused, longest_mark}
+use Rattle.prem_text.specs.Lexing.Literal.{literal_word}
 use Rattle.prem_ranges.specs.GroupThree.{group_three, turn_bounds}
 use Rattle.prem_layout.specs.Stretch.Paths.{turning}
 use Rattle.prem_tasks.specs.Compiled.{placed_in, compiled}

@@ -6,7 +6,7 @@ use Rattle.std.proofs.lemmas.Option.{slice_get-map, get_or_from_slice_get}
 use Rattle.prem_plant.specs.declared.plant.Plant.{Plant}
 use Rattle.prem_plant.specs.declared.plant.Device.{Device}
 use Rattle.prem_plant.specs.Places.{Extent}
-use Rattle.prem_order.specs.Rules.{order_rule_of, passes_of}
+use Rattle.prem_plant.specs.Order.Rules.{order_rule_of, passes_of}
 use Rattle.prem_lru.specs.Rules.{rule_of}
 use Rattle.prem_cycle.specs.Alone.{run_in}
 use Rattle.prem_sound.specs.Script.Scripts.{Promise}
@@ -16,11 +16,11 @@ use Rattle.prem_layout.specs.Parts.{pass_count, stub_passes}
 use Rattle.prem_layout.specs.Placed.{Coded, Placed, placed_from}
 use Rattle.prem_layout.specs.Image.{task_record}
 use Rattle.prem_tasks.specs.Compiled.{coded_in, places_in}
-use Rattle.prem_stub_laws.specs.Own.Owned.{own_of, setup_of}
-use Rattle.prem_stub_laws.specs.Initial.Initial.{content_of}
-use Rattle.prem_stub_laws.specs.Join.Joined.{JobLimits}
-use Rattle.prem_task_laws.specs.TaskFrame.Limits.{task_limits}
-use Rattle.prem_task_laws.specs.TaskBytes.Parts.{IsPlacedTask}
+use Rattle.prem_sets_sound.specs.StubLaws.Own.Owned.{own_of, setup_of}
+use Rattle.prem_sets_sound.specs.StubLaws.Initial.Initial.{content_of}
+use Rattle.prem_sets_sound.specs.StubLaws.Join.Joined.{JobLimits}
+use Rattle.prem_sets_sound.specs.TaskLaws.TaskFrame.Limits.{task_limits}
+use Rattle.prem_sets_sound.specs.TaskLaws.TaskBytes.Parts.{IsPlacedTask}
 use Rattle.prem_sets_sound.specs.Each.Joins.{TaskPaces, task_longest}
 use Rattle.prem_sets_sound.specs.Accepted.Accepted.{HasCodedValues, IsLaidOut, limits_at, no_limits}
 use Rattle.prem_sets_sound.specs.Meant.{promises_in, AreMeant}

@@ -1,7 +1,7 @@
 -- Images whose jobs end in time.
 use Rattle.std.specs.Prelude.{◌≡◌, ℕ, ◌+◌, ◌*◌, ◌<◌, ◌≤◌, Bool, List, length}
+use Rattle.prem_plant.specs.Order.Order.{OrderRule}
 use Rattle.prem_sched.specs.Schedule.{task_at}
-use Rattle.prem_order.specs.Order.{OrderRule}
 use Rattle.prem_lru.specs.Entries.{ReplacementRule}
 use Rattle.prem_gate.specs.declared.request.Request.{Request}
 use Rattle.prem_cycle.specs.Alone.{run_in}
@@ -12,10 +12,10 @@ use Rattle.prem_sound.specs.Script.Scripts.{Promise}
 use Rattle.prem_sound.specs.Serve.Requests.{PutWords}
 use Rattle.prem_sound.specs.Resident.Faultless.{IsPolicy}
 use Rattle.prem_sound.specs.Sound.{AreInputs}
-use Rattle.prem_busy.specs.declared.load.Load.{Load}
-use Rattle.prem_busy.specs.Busy.{load_at, IsBalanced}
-use Rattle.prem_stub_laws.specs.Join.Joined.{JobLimits, IsJoined}
+use Rattle.prem_sets_sound.specs.StubLaws.Join.Joined.{JobLimits, IsJoined}
 use Rattle.prem_sets_sound.specs.Each.Joins.{TaskPaces}
+use Rattle.prem_resp.specs.declared.busy.load.Load.{Load}
+use Rattle.prem_resp.specs.Busy.Busy.{load_at, IsBalanced}
 
 -- ---- deadlines
 

@@ -3,23 +3,23 @@ use Rattle.std.specs.Prelude.{◌≡◌, ℕ, ◌<◌, List, length, map, slice_
 use Rattle.prem_plant.specs.declared.plant.Plant.{Plant}
 use Rattle.prem_plant.specs.declared.plant.Device.{Device}
 use Rattle.prem_plant.specs.Places.{Extent}
-use Rattle.prem_order.specs.Order.{OrderRule}
+use Rattle.prem_plant.specs.Order.Order.{OrderRule}
 use Rattle.prem_lru.specs.Entries.{ReplacementRule}
 use Rattle.prem_lru.specs.Rules.{rule_of}
 use Rattle.prem_cycle.specs.Alone.{run_in}
 use Rattle.prem_sound.specs.Script.Scripts.{Promise}
 use Rattle.prem_sound.specs.Resident.Faultless.{IsPolicy}
 use Rattle.prem_sound.specs.Sound.{AreInputs}
-use Rattle.prem_busy.specs.declared.load.Load.{Load}
 use Rattle.prem_layout.specs.Bounds.{job_bound_of}
 use Rattle.prem_layout.specs.Placed.{Coded, Placed, placed_from}
 use Rattle.prem_layout.specs.Stretch.Paths.{longest_of}
 use Rattle.prem_tasks.specs.Broken.{TaskSet, broken}
 use Rattle.prem_tasks.specs.Compiled.{placed_in, compiled}
-use Rattle.prem_stub_laws.specs.Own.Owned.{own_of, setup_of}
-use Rattle.prem_stub_laws.specs.Initial.Initial.{content_of}
+use Rattle.prem_sets_sound.specs.StubLaws.Own.Owned.{own_of, setup_of}
+use Rattle.prem_sets_sound.specs.StubLaws.Initial.Initial.{content_of}
 use Rattle.prem_sets_sound.specs.Each.Joins.{TaskPaces, task_longest}
 use Rattle.prem_sets_sound.specs.Accepted.Accepted.{HasValues, IsLaidOut, limits_at, setup_in}
+use Rattle.prem_resp.specs.declared.busy.load.Load.{Load}
 use Rattle.prem_resp.specs.Timed.Timed.{MeetsDeadlines}
 
 -- ---- loads

@@ -9,10 +9,10 @@ use Rattle.prem_lru.specs.Rules.{rule_of}
 use Rattle.prem_cycle.specs.declared.state.Stop.TheVariants.{Finished}
 use Rattle.prem_cycle.specs.Run.{run_of}
 use Rattle.prem_sound.specs.Good.{Good}
-use Rattle.prem_meaning.specs.GroupTwo.{group_two}
-use Rattle.prem_lexer.specs.Tokens.{tokens_of, lex, step, start, first_token}
-use Rattle.prem_lexer.specs.Spelling.{reserved_word, used_word, is_unused, longest_mark}
-use Rattle.prem_lexer.specs.Literal.{literal_word}
+use Rattle.prem_syntax.specs.GroupTwo.{group_two}
+use Rattle.prem_text.specs.Lexing.Tokens.{tokens_of, lex, step, start, first_token}
+use Rattle.prem_text.specs.Lexing.Spelling.{reserved_word, used_word, is_unused, longest_mark}
+use Rattle.prem_text.specs.Lexing.Literal.{literal_word}
 use Rattle.prem_ranges.specs.GroupThree.{group_three}
 use Rattle.prem_tasks.specs.Broken.{TaskText, TaskSet, broken}
 use Rattle.prem_tasks.specs.Compiled.{compiled}

@@ -10,9 +10,9 @@ use Rattle.prem_list.specs.Sequence.{items_of}
 use Rattle.prem_plant.specs.declared.plant.Plant.{Plant}
 use Rattle.prem_plant.specs.Places.{Extent}
 use Rattle.prem_syntax.specs.Syntax.{Text, ProgramText}
-use Rattle.prem_meaning.specs.GroupTwo as meaning
-use Rattle.prem_meaning.specs.Resolved.{Routine}
-use Rattle.prem_meaning.specs.Statements.{is_marked}
+use Rattle.prem_syntax.specs.GroupTwo as meaning
+use Rattle.prem_syntax.specs.Resolved.{Routine}
+use Rattle.prem_syntax.specs.Statements.{is_marked}
 use Rattle.prem_ranges.specs.GroupThree.{turn_bounds}
 use Rattle.prem_layout.specs.Bounds.{job_bound_of, JobBound, last_release, work_of, limit_of}
 use Rattle.prem_layout.specs.Facts.{IntervalFact, interval_facts}

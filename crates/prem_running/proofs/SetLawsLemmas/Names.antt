@@ -13,13 +13,13 @@ use Rattle.prem_gate.specs.declared.request.Request.{Request}
 use Rattle.prem_image.specs.Records.{task_names}
 use Rattle.prem_cycle.specs.Inputs.{FitsRun, image_setup}
 use Rattle.prem_syntax.specs.Syntax.{Text, ProgramText}
-use Rattle.prem_meaning.specs.Resolved.{Routine, Resolved}
-use Rattle.prem_lexer.specs.declared.token.fail.FrontFail.{FrontFail}
+use Rattle.prem_syntax.specs.Resolved.{Routine, Resolved}
+use Rattle.prem_text.specs.declared.lexing.token.fail.FrontFail.{FrontFail}
 use Rattle.prem_text.specs.Texts.{reads}
 use Rattle.prem_asm.specs.Pieces.{size_of}
-use Rattle.prem_template.specs.Frames.{stack_size}
-use Rattle.prem_template.specs.Parts.{codes_of}
-use Rattle.prem_template.specs.Steps.{Parts}
+use Rattle.prem_layout.specs.Template.Frames.{stack_size}
+use Rattle.prem_layout.specs.Template.Parts.{codes_of}
+use Rattle.prem_layout.specs.Template.Steps.{Parts}
 use Rattle.prem_layout.specs.Plans.{plans_of}
 use Rattle.prem_layout.specs.Parts.{Passes, stub_passes, part, code_parts, stub_parts, global_parts, task_parts, parts_from, area_parts, part_count}
 use Rattle.prem_layout.specs.Placed.{Coded, sized_of, parts_of, placed_from, part_total}

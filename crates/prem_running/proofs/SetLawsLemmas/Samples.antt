@@ -5,12 +5,12 @@ use Rattle.prem_word.specs.declared.kind.Kind.TheVariants.{Int}
 use Rattle.prem_plant.specs.Ranges.{default_plant}
 use Rattle.prem_syntax.specs.declared.tree.Place.{Place}
 use Rattle.prem_syntax.specs.Syntax.{literal, ProgramText}
-use Rattle.prem_meaning.specs.GroupTwo as meaning
-use Rattle.prem_meaning.specs.Sums.{outputs, job_program}
-use Rattle.prem_lexer.specs.declared.token.fail.FrontFail.{FrontFail}
-use Rattle.prem_lexer.specs.Spelling.{used_word, is_unused, reserved_word, longest_mark}
-use Rattle.prem_lexer.specs.Literal.{literal_word}
-use Rattle.prem_lexer.specs.Tokens.{first_token, start, step, lex, tokens_of}
+use Rattle.prem_syntax.specs.GroupTwo as meaning
+use Rattle.prem_syntax.specs.Sums.{outputs, job_program}
+use Rattle.prem_text.specs.declared.lexing.token.fail.FrontFail.{FrontFail}
+use Rattle.prem_text.specs.Lexing.Spelling.{used_word, is_unused, reserved_word, longest_mark}
+use Rattle.prem_text.specs.Lexing.Literal.{literal_word}
+use Rattle.prem_text.specs.Lexing.Tokens.{first_token, start, step, lex, tokens_of}
 use Rattle.prem_text.specs.Texts.{reads}
 use Rattle.prem_ranges.specs.GroupThree as ranges
 use Rattle.prem_layout.specs.Rules.{Refusal, or_else, refused_by}

@@ -7,17 +7,17 @@ use Rattle.prem_plant.specs.declared.plant.Target.{Target}
 use Rattle.prem_plant.specs.declared.plant.Plant.{Plant}
 use Rattle.prem_plant.specs.Places.{Extent, last_end}
 use Rattle.prem_syntax.specs.Syntax.{ProgramText}
-use Rattle.prem_meaning.specs.Resolved.{Routine}
-use Rattle.prem_lexer.specs.declared.token.fail.FrontFail.{FrontFail}
+use Rattle.prem_syntax.specs.Resolved.{Routine}
+use Rattle.prem_text.specs.declared.lexing.token.fail.FrontFail.{FrontFail}
 use Rattle.prem_text.specs.Texts.{reads}
-use Rattle.prem_template.specs.Steps.{Parts}
-use Rattle.prem_template.specs.Parts.{codes_of}
+use Rattle.prem_layout.specs.Template.Steps.{Parts}
+use Rattle.prem_layout.specs.Template.Parts.{codes_of}
 use Rattle.prem_layout.specs.Placed.{Coded, placed_from}
 use Rattle.prem_layout.specs.Rules.{LateRule, MemoryFull, Refusal, or_else, refused_by, first_among, over_tasks, group_four, group_five, group_six, group_seven, group_eight, group_nine, group_ten}
 use Rattle.prem_layout.specs.Broken.{broken_when_placed, broken_at_places, broken_late}
 use Rattle.prem_tasks.specs.Broken.{TaskText, TaskSet, unread, group_one, program_before, programs_of, group_two, group_three, bounded, coded_one, coded_of, late_refusal, broken_programs, broken}
 use Rattle.prem_tasks.specs.Compiled.{coded_in, places_in}
-use Rattle.prem_stub_laws.specs.Own.Owned.{HasCode}
+use Rattle.prem_sets_sound.specs.StubLaws.Own.Owned.{HasCode}
 use Rattle.prem_sets_sound.specs.Accepted.Accepted.{HasTextValues, HasCodedValues}
 
 -- ---- the first of answers

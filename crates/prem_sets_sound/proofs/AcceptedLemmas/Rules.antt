@@ -6,7 +6,7 @@ use Rattle.prem_plant.specs.declared.plant.Target.{Target}
 use Rattle.prem_plant.specs.declared.plant.Plant.{Plant}
 use Rattle.prem_plant.specs.Places.{Extent}
 use Rattle.prem_syntax.specs.Syntax.{ProgramText}
-use Rattle.prem_meaning.specs.GroupTwo as meaning
+use Rattle.prem_syntax.specs.GroupTwo as meaning
 use Rattle.prem_text.specs.Texts.{reads}
 use Rattle.prem_ranges.specs.GroupThree as ranges
 use Rattle.prem_layout.specs.Parts.{part_count}

@@ -8,15 +8,15 @@ use Rattle.prem_isa.specs.Plain.{TaskRun}
 use Rattle.prem_cycle.specs.Alone.{run_in}
 use Rattle.prem_sound.specs.Script.Scripts.{Reading}
 use Rattle.prem_syntax.specs.Syntax.{ProgramText, MarkText}
-use Rattle.prem_meaning.specs.Resolved.{Routine, Resolved}
-use Rattle.prem_meaning.specs.Source.{initial_words}
-use Rattle.prem_meaning.specs.Statements.{is_marked}
+use Rattle.prem_syntax.specs.Resolved.{Routine, Resolved}
+use Rattle.prem_syntax.specs.Source.{initial_words}
+use Rattle.prem_syntax.specs.Statements.{is_marked}
 use Rattle.prem_ranges.specs.GroupThree.{limits_of}
 use Rattle.prem_asm.specs.Pieces.{call_to, no_pieces}
 use Rattle.prem_asm.specs.Runs.{Setting}
-use Rattle.prem_template.specs.Frames.{depth_of, deepest}
-use Rattle.prem_template.specs.Parts.{parts_of, is_marked_at, marked_before}
-use Rattle.prem_template.specs.Steps.{function_code}
+use Rattle.prem_layout.specs.Template.Frames.{depth_of, deepest}
+use Rattle.prem_layout.specs.Template.Parts.{parts_of, is_marked_at, marked_before}
+use Rattle.prem_layout.specs.Template.Steps.{function_code}
 use Rattle.prem_layout.specs.Parts.{pass_count, stub_passes}
 use Rattle.prem_layout.specs.Plans.{Plan, plan_before, plans_from}
 use Rattle.prem_layout.specs.Bounds.{start_code, job_bound_of}
@@ -26,37 +26,37 @@ use Rattle.prem_layout.specs.Stretch.Paths.{stretch_of, greatest_stated}
 use Rattle.prem_code_laws.specs.ExprLaws.Relation.{GlobalsStand}
 use Rattle.prem_code_laws.specs.GenLaws.Table.{IsStub}
 use Rattle.prem_code_laws.specs.GenLaws.Whole.{StartStands}
-use Rattle.prem_weave.specs.Promise.Promised.{read_globals, stated_at}
-use Rattle.prem_stub_laws.specs.Own.Owned.{own_of, setup_of}
-use Rattle.prem_stub_laws.specs.OwnSteps.OwnSteps.{AreOwnAt}
-use Rattle.prem_stub_laws.specs.Initial.Initial.{content_of}
-use Rattle.prem_stub_laws.specs.Initial.Standing.{setting_of, globals_in}
-use Rattle.prem_stub_laws.specs.StubFits.Within.{codes_in}
-use Rattle.prem_stub_laws.specs.JobWeave.Calm.{CalmStands}
-use Rattle.prem_stub_laws.specs.JobWeave.Confined.{Confinement, ConfinedStands}
-use Rattle.prem_stub_laws.specs.Dues.Dues.{PlacedStands, weight_in}
-use Rattle.prem_stub_laws.specs.Strides.Strided.{ReturnsLast, sums_in}
-use Rattle.prem_stub_laws.specs.Join.Joined.{TaskJoins}
-use Rattle.prem_stub_laws.proofs.OwnStepsLemmas.Takes.{functions_take}
-use Rattle.prem_stub_laws.proofs.InitialLemmas.Values.{globals_stand_first}
-use Rattle.prem_stub_laws.proofs.InitialLemmas.Whole.{content_fits}
-use Rattle.prem_stub_laws.proofs.JobWeaveLemmas.Calm.{functions_are_calm}
-use Rattle.prem_stub_laws.proofs.DuesLemmas.Table.{placed_jobs_are_bounded}
-use Rattle.prem_stub_laws.proofs.StridesLemmas.Last.{functions_return_last}
-use Rattle.prem_stub_laws.proofs.StridesLemmas.Table.{placed_jobs_are_strided}
-use Rattle.prem_task_laws.specs.TaskFrame.Kept.{KeepsTaskRules}
-use Rattle.prem_task_laws.specs.TaskFrame.Limits.{task_limits}
-use Rattle.prem_task_laws.specs.TaskFrame.Frames.{task_guard}
-use Rattle.prem_task_laws.specs.TaskFrame.Callees.{plain_callable}
-use Rattle.prem_task_laws.specs.TaskBytes.Parts.{IsPlacedTask, HasParts}
-use Rattle.prem_task_laws.specs.TaskBytes.Start.{RunStands}
-use Rattle.prem_task_laws.proofs.TaskGroundLemmas.Stands.{jobs_stand}
-use Rattle.prem_task_laws.proofs.TaskGroundLemmas.Elements.{globals_are_placed, globals_are_own, places_are_own}
-use Rattle.prem_task_laws.proofs.ProgramFitsLemmas.Functions.{plain_tasks_fit}
-use Rattle.prem_task_laws.proofs.ProgramFitsLemmas.Stubs.{job_stubs_fit}
-use Rattle.prem_task_laws.proofs.TaskBytesLemmas.Parts.{parts_of_task, at_parts, laid, plans_are}
-use Rattle.prem_task_laws.proofs.TaskBytesLemmas.Guards.{task_guard_is_own, task_code_is_own}
-use Rattle.prem_task_laws.proofs.TaskBytesLemmas.Start.{run_starts}
+use Rattle.prem_sets_sound.specs.Weave.Promise.Promised.{read_globals, stated_at}
+use Rattle.prem_sets_sound.specs.StubLaws.Own.Owned.{own_of, setup_of}
+use Rattle.prem_sets_sound.specs.StubLaws.OwnSteps.OwnSteps.{AreOwnAt}
+use Rattle.prem_sets_sound.specs.StubLaws.Initial.Initial.{content_of}
+use Rattle.prem_sets_sound.specs.StubLaws.Initial.Standing.{setting_of, globals_in}
+use Rattle.prem_sets_sound.specs.StubLaws.StubFits.Within.{codes_in}
+use Rattle.prem_sets_sound.specs.StubLaws.JobWeave.Calm.{CalmStands}
+use Rattle.prem_sets_sound.specs.StubLaws.JobWeave.Confined.{Confinement, ConfinedStands}
+use Rattle.prem_sets_sound.specs.StubLaws.Dues.Dues.{PlacedStands, weight_in}
+use Rattle.prem_sets_sound.specs.StubLaws.Strides.Strided.{ReturnsLast, sums_in}
+use Rattle.prem_sets_sound.specs.StubLaws.Join.Joined.{TaskJoins}
+use Rattle.prem_sets_sound.proofs.StubLawsLemmas.OwnStepsLemmas.Takes.{functions_take}
+use Rattle.prem_sets_sound.proofs.StubLawsLemmas.InitialLemmas.Values.{globals_stand_first}
+use Rattle.prem_sets_sound.proofs.StubLawsLemmas.InitialLemmas.Whole.{content_fits}
+use Rattle.prem_sets_sound.proofs.StubLawsLemmas.JobWeaveLemmas.Calm.{functions_are_calm}
+use Rattle.prem_sets_sound.proofs.StubLawsLemmas.DuesLemmas.Table.{placed_jobs_are_bounded}
+use Rattle.prem_sets_sound.proofs.StubLawsLemmas.StridesLemmas.Last.{functions_return_last}
+use Rattle.prem_sets_sound.proofs.StubLawsLemmas.StridesLemmas.Table.{placed_jobs_are_strided}
+use Rattle.prem_sets_sound.specs.TaskLaws.TaskFrame.Kept.{KeepsTaskRules}
+use Rattle.prem_sets_sound.specs.TaskLaws.TaskFrame.Limits.{task_limits}
+use Rattle.prem_sets_sound.specs.TaskLaws.TaskFrame.Frames.{task_guard}
+use Rattle.prem_sets_sound.specs.TaskLaws.TaskFrame.Callees.{plain_callable}
+use Rattle.prem_sets_sound.specs.TaskLaws.TaskBytes.Parts.{IsPlacedTask, HasParts}
+use Rattle.prem_sets_sound.specs.TaskLaws.TaskBytes.Start.{RunStands}
+use Rattle.prem_sets_sound.proofs.TaskLawsLemmas.TaskGroundLemmas.Stands.{jobs_stand}
+use Rattle.prem_sets_sound.proofs.TaskLawsLemmas.TaskGroundLemmas.Elements.{globals_are_placed, globals_are_own, places_are_own}
+use Rattle.prem_sets_sound.proofs.TaskLawsLemmas.ProgramFitsLemmas.Functions.{plain_tasks_fit}
+use Rattle.prem_sets_sound.proofs.TaskLawsLemmas.ProgramFitsLemmas.Stubs.{job_stubs_fit}
+use Rattle.prem_sets_sound.proofs.TaskLawsLemmas.TaskBytesLemmas.Parts.{parts_of_task, at_parts, laid, plans_are}
+use Rattle.prem_sets_sound.proofs.TaskLawsLemmas.TaskBytesLemmas.Guards.{task_guard_is_own, task_code_is_own}
+use Rattle.prem_sets_sound.proofs.TaskLawsLemmas.TaskBytesLemmas.Start.{run_starts}
 use Rattle.prem_sets_sound.specs.Each.Called.{confinement_of, plan_at, confinement_in}
 use Rattle.prem_sets_sound.specs.Each.Joins.{promise_for, TasksJoin, TaskPaces, task_longest, TasksPace}
 use Rattle.prem_sets_sound.proofs.EachLemmas.Means.{StubMeans, JobStands}
@@ -278,7 +278,7 @@ module _ (passes : ℕ → ℕ) (p : Plant) (devices : List Device) (tasks : Lis
   task_joins : TaskJoins (setup_of p devices places tasks) passes (own_of tasks places k) own (task_limits p t) (promise_for x t (slice_index_or inputs k []))
   task_joins =
       subst (TaskJoins (setup_of p devices places tasks) passes (own_of tasks places k) own (task_limits p t))
-      (sym (ap (λ n. Rattle.prem_weave.specs.Promise.Promised.promise_in (λ g. (global_range t.at g).0) x (slice_index_or inputs k []) n) (sym run.jobs)
+      (sym (ap (λ n. Rattle.prem_sets_sound.specs.Weave.Promise.Promised.promise_in (λ g. (global_range t.at g).0) x (slice_index_or inputs k []) n) (sym run.jobs)
       ∙ promise_is (setup_of p devices places tasks) (own_of tasks places k) passes p x t s own (λ g. (global_range t.at g).0) task_stands))
       (joins (setup_of p devices places tasks) (own_of tasks places k) passes p x t s own (λ g. (global_range t.at g).0) task_stands (task_limits p t) most_is refl refl)
 
@@ -290,7 +290,7 @@ module _ (passes : ℕ → ℕ) (p : Plant) (devices : List Device) (tasks : Lis
   task_paces =
       subst (λ n. TaskPaces (setup_of p devices places tasks) passes (own_of tasks places k) own (task_limits p t) n (promise_for x t (slice_index_or inputs k []))) longest_is
       (subst (TaskPaces (setup_of p devices places tasks) passes (own_of tasks places k) own (task_limits p t) task_stands.longest)
-      (sym (ap (λ n. Rattle.prem_weave.specs.Promise.Promised.promise_in (λ g. (global_range t.at g).0) x (slice_index_or inputs k []) n) (sym run.jobs)
+      (sym (ap (λ n. Rattle.prem_sets_sound.specs.Weave.Promise.Promised.promise_in (λ g. (global_range t.at g).0) x (slice_index_or inputs k []) n) (sym run.jobs)
       ∙ promise_is (setup_of p devices places tasks) (own_of tasks places k) passes p x t s own (λ g. (global_range t.at g).0) task_stands))
       (paces (setup_of p devices places tasks) (own_of tasks places k) passes p x t s own (λ g. (global_range t.at g).0) task_stands (task_limits p t) most_is refl refl))
 

@@ -6,30 +6,30 @@ use Rattle.prem_plant.specs.declared.plant.Plant.{Plant}
 use Rattle.prem_plant.specs.declared.plant.Device.{Device}
 use Rattle.prem_plant.specs.Places.{Extent}
 use Rattle.prem_syntax.specs.Syntax.{ProgramText, MarkText}
-use Rattle.prem_meaning.specs.Resolved.{Routine, Resolved}
-use Rattle.prem_meaning.specs.Statements.{is_marked}
+use Rattle.prem_syntax.specs.Resolved.{Routine, Resolved}
+use Rattle.prem_syntax.specs.Statements.{is_marked}
 use Rattle.prem_ranges.specs.GroupThree.{limits_of}
 use Rattle.prem_asm.specs.Pieces.{Pieces, size_of}
-use Rattle.prem_template.specs.Limits.{Excess, frame, depth, excess}
-use Rattle.prem_template.specs.Parts.{parts_of, codes_of, marked_before}
-use Rattle.prem_template.specs.Steps.{Parts, function_code}
+use Rattle.prem_layout.specs.Template.Limits.{Excess, frame, depth, excess}
+use Rattle.prem_layout.specs.Template.Parts.{parts_of, codes_of, marked_before}
+use Rattle.prem_layout.specs.Template.Steps.{Parts, function_code}
 use Rattle.prem_layout.specs.Plans.{Plan, plan_of, plan_before, plans_from, plans_of}
 use Rattle.prem_layout.specs.Parts.{stub_passes}
 use Rattle.prem_layout.specs.Footprint.{place_at}
 use Rattle.prem_layout.specs.Stubs.{stub_of}
 use Rattle.prem_layout.specs.Placed.{Coded, Placed}
 use Rattle.prem_layout.specs.Rules.{group_four, of_excess}
-use Rattle.prem_stub_laws.specs.Initial.Standing.{setting_of, code_in}
-use Rattle.prem_stub_laws.specs.StubFits.Within.{pieces_or, codes_in}
-use Rattle.prem_stub_laws.proofs.StubFitsLemmas.Within.{get_left}
-use Rattle.prem_task_laws.specs.TaskFrame.Kept.{KeepsTaskRules}
-use Rattle.prem_task_laws.specs.TaskFrame.Frames.{task_guard}
-use Rattle.prem_task_laws.specs.TaskFrame.Callees.{HasCodes}
-use Rattle.prem_task_laws.specs.TaskFrame.Plans.{IsLegalPlan}
-use Rattle.prem_task_laws.specs.ProgramFits.Fits.{KeepsProgramRules}
-use Rattle.prem_task_laws.specs.TaskBytes.Parts.{IsPlacedTask, HasParts}
-use Rattle.prem_task_laws.proofs.LegalPlansLemmas.Legal.{plans_are_legal}
-use Rattle.prem_task_laws.proofs.TaskBytesLemmas.Parts.{parts_of_task, at_parts, plans_are, table_code_is, stubs_are}
+use Rattle.prem_sets_sound.specs.StubLaws.Initial.Standing.{setting_of, code_in}
+use Rattle.prem_sets_sound.specs.StubLaws.StubFits.Within.{pieces_or, codes_in}
+use Rattle.prem_sets_sound.proofs.StubLawsLemmas.StubFitsLemmas.Within.{get_left}
+use Rattle.prem_sets_sound.specs.TaskLaws.TaskFrame.Kept.{KeepsTaskRules}
+use Rattle.prem_sets_sound.specs.TaskLaws.TaskFrame.Frames.{task_guard}
+use Rattle.prem_sets_sound.specs.TaskLaws.TaskFrame.Callees.{HasCodes}
+use Rattle.prem_sets_sound.specs.TaskLaws.TaskFrame.Plans.{IsLegalPlan}
+use Rattle.prem_sets_sound.specs.TaskLaws.ProgramFits.Fits.{KeepsProgramRules}
+use Rattle.prem_sets_sound.specs.TaskLaws.TaskBytes.Parts.{IsPlacedTask, HasParts}
+use Rattle.prem_sets_sound.proofs.TaskLawsLemmas.LegalPlansLemmas.Legal.{plans_are_legal}
+use Rattle.prem_sets_sound.proofs.TaskLawsLemmas.TaskBytesLemmas.Parts.{parts_of_task, at_parts, plans_are, table_code_is, stubs_are}
 
 -- ---- lists
 

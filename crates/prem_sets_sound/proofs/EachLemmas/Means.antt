@@ -7,15 +7,15 @@ use Rattle.prem_plant.specs.Places.{Extent}
 use Rattle.prem_isa.specs.declared.effect.Phase.{Phase}
 use Rattle.prem_isa.specs.declared.effect.Phase.TheVariants.{Compatible}
 use Rattle.prem_isa.specs.Plain.{TaskState}
-use Rattle.prem_meaning.specs.Expressions.{Outcome, Access}
-use Rattle.prem_meaning.specs.Resolved.{Routine, Resolved}
-use Rattle.prem_meaning.specs.Statements.{ProgramState, is_marked}
-use Rattle.prem_meaning.specs.Source.{Limits, calls_below, enter_if_there, this_or, everywhere}
+use Rattle.prem_syntax.specs.Expressions.{Outcome, Access}
+use Rattle.prem_syntax.specs.Resolved.{Routine, Resolved}
+use Rattle.prem_syntax.specs.Statements.{ProgramState, is_marked}
+use Rattle.prem_syntax.specs.Source.{Limits, calls_below, enter_if_there, this_or, everywhere}
 use Rattle.prem_asm.specs.Pieces.{size_of}
 use Rattle.prem_asm.specs.Runs.{Setting, Ending}
-use Rattle.prem_template.specs.Parts.{parts_of, is_marked_at}
-use Rattle.prem_template.specs.Frames.{frame_of, frame_if_there, slots_of}
-use Rattle.prem_template.specs.Steps.{function_code}
+use Rattle.prem_layout.specs.Template.Parts.{parts_of, is_marked_at}
+use Rattle.prem_layout.specs.Template.Frames.{frame_of, frame_if_there, slots_of}
+use Rattle.prem_layout.specs.Template.Steps.{function_code}
 use Rattle.prem_layout.specs.Plans.{Plan}
 use Rattle.prem_layout.specs.Parts.{stub_passes, pass_count}
 use Rattle.prem_layout.specs.Footprint.{ranges_of}
@@ -31,12 +31,12 @@ use Rattle.prem_code_laws.specs.PrefetchLaws.Confined.{with_guard, MarkedStands}
 use Rattle.prem_code_laws.proofs.GenLawsLemmas.Table.{functions_run, marked_is_noted}
 use Rattle.prem_code_laws.proofs.GenLawsLemmas.JobCall.{job_is_called}
 use Rattle.prem_code_laws.proofs.PrefetchLawsLemmas.Marked.{marked_confines}
-use Rattle.prem_stub_laws.specs.Initial.Standing.{globals_in}
-use Rattle.prem_stub_laws.specs.StubFits.Within.{codes_in, reached_in, guard_of}
-use Rattle.prem_stub_laws.specs.Confined.Meaning.{stub_run}
-use Rattle.prem_stub_laws.proofs.ConfinedLemmas.Meaning.{confined_stubs_are_called, confined_calls_mean}
-use Rattle.prem_task_laws.specs.TaskFrame.Frames.{job_frame, plan_frame}
-use Rattle.prem_task_laws.specs.TaskFrame.Callees.{callees_in, job_callable, plain_callable, reach_callable, params_if_there, returns_if_there}
+use Rattle.prem_sets_sound.specs.StubLaws.Initial.Standing.{globals_in}
+use Rattle.prem_sets_sound.specs.StubLaws.StubFits.Within.{codes_in, reached_in, guard_of}
+use Rattle.prem_sets_sound.specs.StubLaws.Confined.Meaning.{stub_run}
+use Rattle.prem_sets_sound.proofs.StubLawsLemmas.ConfinedLemmas.Meaning.{confined_stubs_are_called, confined_calls_mean}
+use Rattle.prem_sets_sound.specs.TaskLaws.TaskFrame.Frames.{job_frame, plan_frame}
+use Rattle.prem_sets_sound.specs.TaskLaws.TaskFrame.Callees.{callees_in, job_callable, plain_callable, reach_callable, params_if_there, returns_if_there}
 use Rattle.prem_sets_sound.specs.Each.Called.{confinement_of, plan_at, confinement_in, task_calls, job_calls}
 
 -- ---- calls that do the same

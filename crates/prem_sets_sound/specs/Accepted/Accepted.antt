@@ -6,7 +6,7 @@ use Rattle.prem_plant.specs.declared.plant.Device.{Device}
 use Rattle.prem_plant.specs.Label.{IsName, AreDistinct}
 use Rattle.prem_plant.specs.Ranges.{Between, IsPlant}
 use Rattle.prem_plant.specs.Places.{Extent, AreLawful}
-use Rattle.prem_order.specs.Order.{OrderRule}
+use Rattle.prem_plant.specs.Order.Order.{OrderRule}
 use Rattle.prem_lru.specs.Entries.{ReplacementRule}
 use Rattle.prem_cycle.specs.Alone.{run_in}
 use Rattle.prem_cycle.specs.Inputs.{image_setup}
@@ -15,7 +15,7 @@ use Rattle.prem_sound.specs.Script.Scripts.{Promise}
 use Rattle.prem_sound.specs.Resident.Faultless.{IsPolicy}
 use Rattle.prem_sound.specs.Sound.{AreInputs, Sound}
 use Rattle.prem_syntax.specs.Syntax.{ProgramText}
-use Rattle.prem_meaning.specs.GroupTwo as meaning
+use Rattle.prem_syntax.specs.GroupTwo as meaning
 use Rattle.prem_text.specs.Texts.{reads}
 use Rattle.prem_ranges.specs.GroupThree as ranges
 use Rattle.prem_layout.specs.Bounds.{limit_of}
@@ -26,10 +26,10 @@ use Rattle.prem_tasks.specs.Compiled.{coded_in, parts_in, places_in, placed_in, 
 use Rattle.prem_tasks.specs.Lawful.{AreDevices, IsSet}
 use Rattle.prem_tasks.specs.SetOf.{set_of}
 use Rattle.prem_tasks.specs.declared.set.TaskSet.{TaskSet as SetTree}
-use Rattle.prem_stub_laws.specs.Own.Owned.{HasCode, own_of, setup_of}
-use Rattle.prem_stub_laws.specs.Initial.Initial.{content_of}
-use Rattle.prem_stub_laws.specs.Join.Joined.{JobLimits, TaskJoins, IsJoined}
-use Rattle.prem_task_laws.specs.TaskFrame.Limits.{task_limits}
+use Rattle.prem_sets_sound.specs.StubLaws.Own.Owned.{HasCode, own_of, setup_of}
+use Rattle.prem_sets_sound.specs.StubLaws.Initial.Initial.{content_of}
+use Rattle.prem_sets_sound.specs.StubLaws.Join.Joined.{JobLimits, TaskJoins, IsJoined}
+use Rattle.prem_sets_sound.specs.TaskLaws.TaskFrame.Limits.{task_limits}
 
 -- ---- values in their ranges
 

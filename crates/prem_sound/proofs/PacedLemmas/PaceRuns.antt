@@ -9,7 +9,7 @@ use Rattle.prem_isa.specs.Bounds.{IsLawful}
 use Rattle.prem_isa.specs.Decode.{cost_of}
 use Rattle.prem_isa.specs.Plain.{TaskRun, PlainState, Did, moved_by, after_change, plain_did, plain_step, plain_steps, plain_run}
 use Rattle.prem_isa.proofs.ActLaws.{cost_bounds}
-use Rattle.prem_runs.specs.Position.Finish.{accesses_of, due_of}
+use Rattle.prem_cycle.specs.Runs.Position.Finish.{accesses_of, due_of}
 use Rattle.prem_sound.specs.Script.Script.{begun_by, change_due, did_due, Script, call_at}
 use Rattle.prem_sound.specs.Paced.Paced.{within_job, job_with, job_by, within_stretch, own_due, stretch_with, stretch_by, IsPaced}
 use Rattle.prem_sound.proofs.ScriptLemmas.Begins.{Executed, executed, did_lawful, still_by}

@@ -10,7 +10,7 @@ use Rattle.prem_gate.specs.declared.bus.CoreWant.TheVariants.{No, New, Held}
 use Rattle.prem_gate.specs.Gates.{GateState, GatesState, Turned, gate_at, no_gate, startable, taken, ends, goes_on, carries, wants, starts, bus_with, bus_turn}
 use Rattle.prem_gate.specs.Ranges.{IsStart}
 use Rattle.prem_gate.proofs.Places.{startable_is}
-use Rattle.prem_runs.specs.Window.Windows.{LiesInside, CarriesInside}
+use Rattle.prem_cycle.specs.Runs.Window.Windows.{LiesInside, CarriesInside}
 
 -- ---- a closed window
 

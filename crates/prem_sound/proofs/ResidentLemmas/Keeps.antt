@@ -5,8 +5,8 @@ use Rattle.std.proofs.lemmas.Bool.{and_parts, cases_Bool, cond_both}
 use Rattle.std.proofs.lemmas.List.{length-map}
 use Rattle.prem_plant.specs.declared.plant.Plant.{Plant}
 use Rattle.prem_plant.specs.Ranges.{IsPlant}
+use Rattle.prem_plant.specs.Order.Order.{OrderRule}
 use Rattle.prem_sched.specs.declared.sched.TaskJobs.{TaskJobs}
-use Rattle.prem_order.specs.Order.{OrderRule}
 use Rattle.prem_isa.specs.declared.effect.Phase.{Phase}
 use Rattle.prem_isa.specs.declared.effect.Phase.TheVariants.{Compatible, Memory as MemoryPhase, Execution}
 use Rattle.prem_isa.specs.declared.effect.Change.{Change}
@@ -29,12 +29,12 @@ use Rattle.prem_cycle.specs.Issue.{Executes, issued_by, is_execution}
 use Rattle.prem_cycle.specs.Core.{want_of, is_paid, CoreMove, Passes, Issues, is_predictable, phase_in, window_after, CoreTurn, core_issue, core_turn}
 use Rattle.prem_cycle.specs.Cycle.{ends_before, at_point, close_interval, settle, with_now, next_cycle, ticked}
 use Rattle.prem_cycle.proofs.CoreCases.{MoveCase, pays_on_bus, is_denied, pays_cost, waits, goes_on, switches, begins, chooses, chooses_now, begins_idle, has_finished, idles}
-use Rattle.prem_runs.proofs.PositionLemmas.Works.{IsKept, kept_plant}
-use Rattle.prem_runs.proofs.PositionLemmas.Stands.{bump, IsAt, Stands, Issuing}
-use Rattle.prem_runs.proofs.PositionLemmas.Schedules.{Moves as Scheduled}
-use Rattle.prem_runs.proofs.PositionLemmas.Turns.{Runs, bump_move, issuing}
-use Rattle.prem_runs.proofs.PositionLemmas.Issues.{issuing_did}
-use Rattle.prem_runs.proofs.WindowLemmas.Moves.{MayIssue as WindowIssue, Moves as Windowed}
+use Rattle.prem_cycle.proofs.RunsLemmas.PositionLemmas.Works.{IsKept, kept_plant}
+use Rattle.prem_cycle.proofs.RunsLemmas.PositionLemmas.Stands.{bump, IsAt, Stands, Issuing}
+use Rattle.prem_cycle.proofs.RunsLemmas.PositionLemmas.Schedules.{Moves as Scheduled}
+use Rattle.prem_cycle.proofs.RunsLemmas.PositionLemmas.Turns.{Runs, bump_move, issuing}
+use Rattle.prem_cycle.proofs.RunsLemmas.PositionLemmas.Issues.{issuing_did}
+use Rattle.prem_cycle.proofs.RunsLemmas.WindowLemmas.Moves.{MayIssue as WindowIssue, Moves as Windowed}
 use Rattle.prem_sound.specs.Script.Script.{lines_of_did, StoresNothing, Script, IsScript}
 use Rattle.prem_sound.specs.Resident.Faultless.{IsPolicy}
 use Rattle.prem_sound.proofs.ResidentLemmas.Touches.{missed_lines, TouchesLines, issue_touches}

@@ -2,7 +2,7 @@
 use Rattle.std.specs.Prelude.{All}
 use Rattle.std.proofs.Common.{◌≡◌, ℕ, zero, suc, sym, subst, cond, None, Option, true, false, Bool, List, ⊎_elim}
 use Rattle.std.proofs.lemmas.Bool.{cases_Bool}
-use Rattle.prem_order.specs.Order.{OrderRule}
+use Rattle.prem_plant.specs.Order.Order.{OrderRule}
 use Rattle.prem_isa.specs.Plain.{TaskRun, with_last}
 use Rattle.prem_lru.specs.Entries.{ReplacementRule}
 use Rattle.prem_gate.specs.declared.request.Request.{Request}
@@ -13,14 +13,14 @@ use Rattle.prem_cycle.specs.Core.{want_of, CoreMove}
 use Rattle.prem_cycle.specs.Cycle.{Arrivals, arrivals_at, bus_at, with_memory, move_at, cycle_of, is_over, step_of}
 use Rattle.prem_cycle.specs.Run.{CycleStep, step_with, coming_step, cycles_of, steps_of, memory_of, run_of}
 use Rattle.prem_cycle.proofs.CoreCases.{move_cases}
-use Rattle.prem_runs.specs.Position.Issued.{count_of, issued_of, AreOwn, IsRunnable}
-use Rattle.prem_runs.specs.Window.Windows.{CarriesInside, WindowsHold, HaveCosts}
-use Rattle.prem_runs.proofs.PositionLemmas.MayMoves.{does}
-use Rattle.prem_runs.proofs.PositionLemmas.Turns.{Runs}
-use Rattle.prem_runs.proofs.PositionLemmas.Runs.{AllAt, count_move, runs_of, keeps_of}
-use Rattle.prem_runs.proofs.PositionLemmas.Positions.{run_stands}
-use Rattle.prem_runs.proofs.WindowLemmas.Bus.{arrivals_inside}
-use Rattle.prem_runs.proofs.WindowLemmas.Cycles.{run_holds}
+use Rattle.prem_cycle.specs.Runs.Position.Issued.{count_of, issued_of, AreOwn, IsRunnable}
+use Rattle.prem_cycle.specs.Runs.Window.Windows.{CarriesInside, WindowsHold, HaveCosts}
+use Rattle.prem_cycle.proofs.RunsLemmas.PositionLemmas.MayMoves.{does}
+use Rattle.prem_cycle.proofs.RunsLemmas.PositionLemmas.Turns.{Runs}
+use Rattle.prem_cycle.proofs.RunsLemmas.PositionLemmas.Runs.{AllAt, count_move, runs_of, keeps_of}
+use Rattle.prem_cycle.proofs.RunsLemmas.PositionLemmas.Positions.{run_stands}
+use Rattle.prem_cycle.proofs.RunsLemmas.WindowLemmas.Bus.{arrivals_inside}
+use Rattle.prem_cycle.proofs.RunsLemmas.WindowLemmas.Cycles.{run_holds}
 use Rattle.prem_sound.specs.Script.Script.{Script}
 use Rattle.prem_sound.specs.Resident.Faultless.{IsPolicy, ScriptsMakeNoFault}
 use Rattle.prem_sound.proofs.ResidentLemmas.Clashes.{turn_calm, turn_serves}

@@ -2,8 +2,8 @@
 use Rattle.std.specs.Prelude.{◌&&◌, not, is_some}
 use Rattle.std.proofs.Common.{◌≡◌, ℕ, ◌+◌, ◌-◌, ◌<◌, refl, ap, ◌∙◌, sym, subst, ltb, Some, true, false, Bool, List, length, inl, inr}
 use Rattle.std.proofs.lemmas.Bool.{and_parts, cond_both}
+use Rattle.prem_plant.specs.Order.Order.{OrderRule}
 use Rattle.prem_sched.specs.declared.sched.TaskJobs.{TaskJobs}
-use Rattle.prem_order.specs.Order.{OrderRule}
 use Rattle.prem_isa.specs.declared.effect.Phase.{Phase}
 use Rattle.prem_isa.specs.declared.effect.Phase.TheVariants.{Compatible, Memory as MemoryPhase, Execution}
 use Rattle.prem_isa.specs.declared.effect.Change.{Change}
@@ -23,12 +23,12 @@ use Rattle.prem_cycle.specs.Issue.{issued_by, is_execution}
 use Rattle.prem_cycle.specs.Core.{want_of, is_paid, CoreMove, Passes, Issues, phase_in, CoreTurn, core_issue, core_turn}
 use Rattle.prem_cycle.specs.Cycle.{Arrivals, with_memory, with_clash, ends_before, at_point, close_interval, settle, with_now, next_cycle, ticked}
 use Rattle.prem_cycle.proofs.CoreCases.{MoveCase, pays_on_bus, is_denied, pays_cost, waits, goes_on, switches, begins, chooses, chooses_now, begins_idle, has_finished, idles}
-use Rattle.prem_runs.proofs.PositionLemmas.Debts.{wants_none, paid_none}
-use Rattle.prem_runs.proofs.PositionLemmas.Stands.{bump, Stands, Issuing}
-use Rattle.prem_runs.proofs.PositionLemmas.Schedules.{Moves as Scheduled}
-use Rattle.prem_runs.proofs.PositionLemmas.MayMoves.{MayMove, does, stands_still, turn_with}
-use Rattle.prem_runs.proofs.PositionLemmas.Turns.{Runs, bump_move, issuing}
-use Rattle.prem_runs.proofs.PositionLemmas.Issues.{issuing_did}
+use Rattle.prem_cycle.proofs.RunsLemmas.PositionLemmas.Debts.{wants_none, paid_none}
+use Rattle.prem_cycle.proofs.RunsLemmas.PositionLemmas.Stands.{bump, Stands, Issuing}
+use Rattle.prem_cycle.proofs.RunsLemmas.PositionLemmas.Schedules.{Moves as Scheduled}
+use Rattle.prem_cycle.proofs.RunsLemmas.PositionLemmas.MayMoves.{MayMove, does, stands_still, turn_with}
+use Rattle.prem_cycle.proofs.RunsLemmas.PositionLemmas.Turns.{Runs, bump_move, issuing}
+use Rattle.prem_cycle.proofs.RunsLemmas.PositionLemmas.Issues.{issuing_did}
 use Rattle.prem_sound.specs.Script.Script.{Script}
 use Rattle.prem_sound.specs.Resident.Faultless.{IsPolicy}
 use Rattle.prem_sound.proofs.ScriptLemmas.Begins.{Executed, executed, next_phase, did_lawful}

@@ -2,8 +2,8 @@
 use Rattle.std.proofs.Common.{◌≡◌, ◌≢◌, ℕ, zero, suc, ◌<◌, refl, ap, ◌∙◌, sym, subst, true, false, Bool, Some, List, [], ◌∷◌, ◌++◌, length, ◌⊎◌, inl, inr, ⊎_elim}
 use Rattle.std.proofs.lemmas.Bool.{cases_eq}
 use Rattle.prem_plant.specs.declared.plant.Plant.{Plant}
+use Rattle.prem_plant.specs.Order.Order.{OrderRule, HaveRoom, IsCacheFullAfter, caches_after, cache_misses}
 use Rattle.prem_sched.specs.declared.sched.TaskJobs.{TaskJobs}
-use Rattle.prem_order.specs.Order.{OrderRule, HaveRoom, IsCacheFullAfter, caches_after, cache_misses}
 use Rattle.prem_isa.specs.declared.effect.Phase.{Phase}
 use Rattle.prem_isa.specs.declared.effect.Phase.TheVariants.{Compatible, Memory as MemoryPhase, Execution}
 use Rattle.prem_isa.specs.declared.effect.Change.{Change}
@@ -20,7 +20,7 @@ use Rattle.prem_cycle.specs.Core.{CoreMove, Passes, Issues, is_predictable, new_
 use Rattle.prem_cycle.specs.Issue.{is_execution}
 use Rattle.prem_cycle.specs.Cycle.{ends_before}
 use Rattle.prem_cycle.proofs.CoreCases.{Continues, MoveCase, pays_on_bus, is_denied, pays_cost, waits, goes_on, switches, begins, chooses, chooses_now, begins_idle, has_finished, idles}
-use Rattle.prem_runs.proofs.PositionLemmas.Stands.{bump, bump_same, bump_other}
+use Rattle.prem_cycle.proofs.RunsLemmas.PositionLemmas.Stands.{bump, bump_same, bump_other}
 use Rattle.prem_sound.specs.Script.Script.{lines_of_did, lines_of_dids, Begun, steps_after, begun_after, begun_with, begun_by, Call, IsCovered, Opens, IsStep, Script, call_of, IsScript}
 use Rattle.prem_sound.proofs.ScriptLemmas.Residency.{lines_of_dids-last, Since, since_none, since_more, covered_hits}
 use Rattle.prem_sound.proofs.ScriptLemmas.Begins.{Executed, executed, next_phase, did_lawful, begun_by-next, Brought, brought_in}

@@ -3,7 +3,7 @@ use Rattle.std.specs.Prelude.{slice_set}
 use Rattle.std.proofs.Common.{◌≡◌, ℕ, ◌+◌, ◌/◌, ◌<◌, ◌≤◌, refl, ap, ◌∙◌, sym, subst, arith, cond, Some, None, Option, List, [], ◌∷◌, length}
 use Rattle.std.proofs.lemmas.List.{length-set}
 use Rattle.prem_plant.specs.declared.plant.Plant.{Plant}
-use Rattle.prem_order.specs.Order.{is_in, OrderRule, order_of, cache_after, caches_after, cache_misses}
+use Rattle.prem_plant.specs.Order.Order.{is_in, OrderRule, order_of, cache_after, caches_after, cache_misses}
 use Rattle.prem_isa.specs.declared.effect.Access.{Access}
 use Rattle.prem_isa.specs.declared.effect.Stored.{Stored}
 use Rattle.prem_isa.specs.declared.effect.Effect.{Effect}
@@ -17,7 +17,7 @@ use Rattle.prem_lru.proofs.Shapes.{touch_kept, touch_hit, is_in-order, lines_in-
 use Rattle.prem_lru.proofs.Stores.{lines-write_line}
 use Rattle.prem_cycle.specs.State.{Setup, record_of, Task, Work, task_in}
 use Rattle.prem_cycle.specs.Issue.{LineTouch, stored_in, Issued, issued_with, issued_by, task_after}
-use Rattle.prem_runs.proofs.PositionLemmas.Works.{IsKept, kept_plant, line_in}
+use Rattle.prem_cycle.proofs.RunsLemmas.PositionLemmas.Works.{IsKept, kept_plant, line_in}
 use Rattle.prem_sound.specs.Script.Script.{access_lines}
 
 -- the lines of those that miss

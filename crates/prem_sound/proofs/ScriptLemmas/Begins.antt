@@ -2,7 +2,7 @@
 use Rattle.std.specs.Prelude.{Result, Ok, Err}
 use Rattle.std.proofs.Common.{◌≡◌, ℕ, zero, suc, ◌+◌, refl, ap, ◌∙◌, sym, subst, arith, cond, true, false, Bool, Some, None, Option, List, [], ◌∷◌, ◌++◌}
 use Rattle.prem_plant.specs.declared.plant.Plant.{Plant}
-use Rattle.prem_order.specs.Order.{AllIn}
+use Rattle.prem_plant.specs.Order.Order.{AllIn}
 use Rattle.prem_isa.specs.declared.instr.Instr.{Instr}
 use Rattle.prem_isa.specs.declared.effect.Phase.{Phase}
 use Rattle.prem_isa.specs.declared.effect.Phase.TheVariants.{Compatible, Memory as MemoryPhase, Execution}

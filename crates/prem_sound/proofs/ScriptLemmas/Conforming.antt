@@ -6,7 +6,7 @@ use Rattle.std.proofs.lemmas.List.{length-append}
 use Rattle.prem_word.specs.Bytes.{number_at}
 use Rattle.prem_plant.specs.declared.plant.Target.{Target}
 use Rattle.prem_plant.specs.declared.plant.Plant.{Plant}
-use Rattle.prem_order.specs.Order.{HaveRoom}
+use Rattle.prem_plant.specs.Order.Order.{HaveRoom}
 use Rattle.prem_isa.specs.declared.instr.Instr.{Instr}
 use Rattle.prem_isa.specs.declared.instr.Instr.TheVariants.{Lui, Auipc, Jal, Jalr, Branch, Load, Store, OpImm, Op, MulDiv, Fence, Ecall, Ebreak, PmMem, PmExec, PmEnd, PmDone, PmIn, PmOut}
 use Rattle.prem_isa.specs.declared.effect.Phase.{Phase}
@@ -27,7 +27,7 @@ use Rattle.prem_isa.proofs.ActLaws.{act_fits}
 use Rattle.prem_isa.proofs.PlainLaws.{plain_fits, fetch_fits, plain_run-add, plain_trace-add, plain_stays}
 use Rattle.prem_cycle.specs.State.{Setup}
 use Rattle.prem_cycle.specs.Core.{is_predictable}
-use Rattle.prem_runs.specs.Position.Own.{AllOwn, LoadsOwn, IsOwn, IsOwnOutcome}
+use Rattle.prem_cycle.specs.Runs.Position.Own.{AllOwn, LoadsOwn, IsOwn, IsOwnOutcome}
 use Rattle.prem_sound.specs.Script.Script.{Begun, none_begun, begun_after, begun_with, begun_by, Call, no_call, call_at, call_of, IsStep, did_due, Script, due_with, due_by}
 use Rattle.prem_sound.specs.Script.Conforms.{takes_nothing, IsOwnDid, begun_behind, KeepsCalls, due_behind, ConformingRunsHaveScripts, AtMark, KeepsMarks, ConformingRunsKeepPromises}
 use Rattle.prem_sound.specs.Script.Scripts.{Reading, Mark}

@@ -5,8 +5,8 @@ use Rattle.std.proofs.lemmas.Bool.{and_parts, cases_eq, eqb-true, eq-eqb, ne_eqb
 use Rattle.std.proofs.lemmas.List.Elements.{All-nil, All-cons}
 use Rattle.std.proofs.Math.Nat.{mod-eq_of_lt}
 use Rattle.prem_plant.specs.declared.plant.Plant.{Plant}
-use Rattle.prem_order.specs.Order.{is_in, AllIn, AreOnce, of_set, one_pass, HaveRoom}
-use Rattle.prem_order.proofs.Members.{in_head, in_other}
+use Rattle.prem_plant.specs.Order.Order.{is_in, AllIn, AreOnce, of_set, one_pass, HaveRoom}
+use Rattle.prem_plant.proofs.OrderLemmas.Members.{in_head, in_other}
 use Rattle.prem_isa.specs.declared.effect.Phase.{Phase}
 use Rattle.prem_isa.specs.declared.effect.Phase.TheVariants.{Compatible, Memory as MemoryPhase, Execution}
 use Rattle.prem_isa.specs.declared.effect.Change.{Change}
@@ -18,7 +18,7 @@ use Rattle.prem_isa.specs.Decode.{cost_of}
 use Rattle.prem_isa.specs.Plain.{Did}
 use Rattle.prem_cycle.specs.State.{Setup}
 use Rattle.prem_cycle.specs.Core.{is_predictable}
-use Rattle.prem_runs.specs.Position.Own.{AllOwn, IsFree}
+use Rattle.prem_cycle.specs.Runs.Position.Own.{AllOwn, IsFree}
 use Rattle.prem_sound.specs.Script.Script.{lines_of_did, lines_of_dids, cost_of_dids, Begun, begun_after, Call, call_of, IsCovered, Opens, StoresNothing, IsStep, Script}
 use Rattle.prem_sound.specs.Script.Conforms.{IsOwnDid, KeepsCalls}
 

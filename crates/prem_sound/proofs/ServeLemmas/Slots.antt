@@ -12,9 +12,9 @@ use Rattle.prem_lru.proofs.Stores.{absent_view}
 use Rattle.prem_image.specs.Records.{area_of, IsPlaced}
 use Rattle.prem_cycle.specs.State.{Setup}
 use Rattle.prem_cycle.specs.Inputs.{no_device}
-use Rattle.prem_runs.specs.Position.Own.{device_of}
-use Rattle.prem_runs.proofs.PositionLemmas.Works.{IsKept, kept_plant}
-use Rattle.prem_runs.proofs.PositionLemmas.Gated.{IsLine}
+use Rattle.prem_cycle.specs.Runs.Position.Own.{device_of}
+use Rattle.prem_cycle.proofs.RunsLemmas.PositionLemmas.Works.{IsKept, kept_plant}
+use Rattle.prem_cycle.proofs.RunsLemmas.PositionLemmas.Gated.{IsLine}
 
 -- the first byte of a line of a device
 abbrev pub slot : Setup → ℕ → ℕ → ℕ

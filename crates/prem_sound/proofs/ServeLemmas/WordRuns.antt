@@ -21,14 +21,14 @@ use Rattle.prem_cycle.specs.Cycle.{Arrivals, arrivals_at, bus_at, with_memory, m
 use Rattle.prem_cycle.specs.Run.{cycles_of, memory_of, run_of}
 use Rattle.prem_cycle.proofs.CoreCases.{move_cases}
 use Rattle.prem_cycle.proofs.CycleParts.{cycle_work}
-use Rattle.prem_runs.specs.Position.Issued.{issued_of, AreOwn, IsRunnable}
-use Rattle.prem_runs.proofs.PositionLemmas.Stands.{Stands, Issuing}
-use Rattle.prem_runs.proofs.PositionLemmas.Schedules.{Moves as Scheduled, moves as scheduled}
-use Rattle.prem_runs.proofs.PositionLemmas.Turns.{issuing, bus_stands}
-use Rattle.prem_runs.proofs.PositionLemmas.Gated.{arrivals_gates}
-use Rattle.prem_runs.proofs.PositionLemmas.Starts.{empty_view}
-use Rattle.prem_runs.proofs.PositionLemmas.Runs.{AllAt, runs_of, keeps_of}
-use Rattle.prem_runs.proofs.PositionLemmas.Positions.{run_stands}
+use Rattle.prem_cycle.specs.Runs.Position.Issued.{issued_of, AreOwn, IsRunnable}
+use Rattle.prem_cycle.proofs.RunsLemmas.PositionLemmas.Stands.{Stands, Issuing}
+use Rattle.prem_cycle.proofs.RunsLemmas.PositionLemmas.Schedules.{Moves as Scheduled, moves as scheduled}
+use Rattle.prem_cycle.proofs.RunsLemmas.PositionLemmas.Turns.{issuing, bus_stands}
+use Rattle.prem_cycle.proofs.RunsLemmas.PositionLemmas.Gated.{arrivals_gates}
+use Rattle.prem_cycle.proofs.RunsLemmas.PositionLemmas.Starts.{empty_view}
+use Rattle.prem_cycle.proofs.RunsLemmas.PositionLemmas.Runs.{AllAt, runs_of, keeps_of}
+use Rattle.prem_cycle.proofs.RunsLemmas.PositionLemmas.Positions.{run_stands}
 use Rattle.prem_sound.specs.Serve.Requests.{GetsLastPuts, PutWords, AreasAreZero, WordsAreLastPuts}
 use Rattle.prem_sound.proofs.ServeLemmas.Queues.{cycle_transfers}
 use Rattle.prem_sound.proofs.ServeLemmas.Puts.{HoldAll, arrivals_all, cycles_all, start_all}

@@ -23,10 +23,10 @@ use Rattle.prem_gate.specs.Ranges.{IsStart}
 use Rattle.prem_gate.proofs.Places.{startable_is}
 use Rattle.prem_image.specs.Records.{area_of, IsPlaced}
 use Rattle.prem_cycle.specs.State.{Setup, Task, Work}
-use Rattle.prem_runs.specs.Position.Own.{AllOwn, device_of, IsFree}
-use Rattle.prem_runs.proofs.PositionLemmas.Works.{IsKept, kept_plant, Issue}
-use Rattle.prem_runs.proofs.PositionLemmas.Stands.{stored_out}
-use Rattle.prem_runs.proofs.PositionLemmas.Gated.{IsLine, AreGates}
+use Rattle.prem_cycle.specs.Runs.Position.Own.{AllOwn, device_of, IsFree}
+use Rattle.prem_cycle.proofs.RunsLemmas.PositionLemmas.Works.{IsKept, kept_plant, Issue}
+use Rattle.prem_cycle.proofs.RunsLemmas.PositionLemmas.Stands.{stored_out}
+use Rattle.prem_cycle.proofs.RunsLemmas.PositionLemmas.Gated.{IsLine, AreGates}
 use Rattle.prem_sound.specs.Serve.Requests.{word_by, word_after, GetsLastPuts}
 use Rattle.prem_sound.proofs.ServeLemmas.Queues.{queue_at}
 use Rattle.prem_sound.proofs.ServeLemmas.Puts.{HoldAll, head_all}

@@ -6,7 +6,7 @@ use Rattle.prem_isa.specs.declared.effect.Phase.TheVariants.{Compatible, Memory 
 use Rattle.prem_isa.specs.declared.effect.Change.{Change}
 use Rattle.prem_isa.specs.declared.effect.Change.TheVariants.{Stay, Memory, Execute, End, Job}
 use Rattle.prem_isa.specs.Plain.{TaskRun, Did, plain_did, plain_run}
-use Rattle.prem_runs.specs.Position.Finish.{due_of}
+use Rattle.prem_cycle.specs.Runs.Position.Finish.{due_of}
 use Rattle.prem_sound.specs.Script.Script.{Begun, begun_by, did_due, Script, call_at}
 
 -- ---- jobs

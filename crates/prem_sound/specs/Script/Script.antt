@@ -2,7 +2,7 @@
 use Rattle.std.specs.Prelude.{◌≡◌, ℕ, zero, suc, ◌+◌, ◌-◌, ◌*◌, ◌/◌, ◌≤◌, true, List, [], ◌∷◌, ◌++◌, Option, Some, None, IfSome, length, sum_by, slice_index_or}
 use Rattle.std.specs.List.{concat}
 use Rattle.prem_plant.specs.declared.plant.Plant.{Plant}
-use Rattle.prem_order.specs.Order.{AllIn, ArePasses, HaveRoom}
+use Rattle.prem_plant.specs.Order.Order.{AllIn, ArePasses, HaveRoom}
 use Rattle.prem_isa.specs.declared.effect.Phase.{Phase}
 use Rattle.prem_isa.specs.declared.effect.Phase.TheVariants.{Compatible, Memory as MemoryPhase, Execution}
 use Rattle.prem_isa.specs.declared.effect.Change.{Change}
@@ -12,7 +12,7 @@ use Rattle.prem_isa.specs.declared.effect.Access.{Access}
 use Rattle.prem_isa.specs.Decode.{cost_of}
 use Rattle.prem_isa.specs.Plain.{TaskRun, Did, plain_did, plain_run}
 use Rattle.prem_cycle.specs.Core.{is_predictable}
-use Rattle.prem_runs.specs.Position.Finish.{due_of}
+use Rattle.prem_cycle.specs.Runs.Position.Finish.{due_of}
 
 -- ---- the lines of instructions
 

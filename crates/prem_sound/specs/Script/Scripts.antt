@@ -5,7 +5,7 @@ use Rattle.prem_isa.specs.Plain.{TaskRun, Did, plain_did, plain_run}
 use Rattle.prem_image.specs.declared.image.TaskRecord.{TaskRecord}
 use Rattle.prem_cycle.specs.State.{Setup}
 use Rattle.prem_cycle.specs.Cycle.{log_size}
-use Rattle.prem_runs.specs.Position.Issued.{AreOwn}
+use Rattle.prem_cycle.specs.Runs.Position.Issued.{AreOwn}
 use Rattle.prem_sound.specs.Script.Script.{begun_by, call_at, Script, IsScript}
 
 -- ---- what a run gives

@@ -13,8 +13,8 @@ use Rattle.prem_image.specs.Records.{area_of}
 use Rattle.prem_cycle.specs.State.{Setup, MachineState, start_of}
 use Rattle.prem_cycle.specs.Cycle.{is_over}
 use Rattle.prem_cycle.specs.Run.{cycles_of, memory_of, run_of}
-use Rattle.prem_runs.specs.Position.Own.{device_of}
-use Rattle.prem_runs.specs.Position.Issued.{AreOwn, IsRunnable}
+use Rattle.prem_cycle.specs.Runs.Position.Own.{device_of}
+use Rattle.prem_cycle.specs.Runs.Position.Issued.{AreOwn, IsRunnable}
 
 -- ---- the requests that find room
 

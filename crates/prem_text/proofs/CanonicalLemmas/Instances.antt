@@ -5,10 +5,10 @@ use Rattle.prem_word.specs.declared.kind.BinOp.TheVariants.{Add, Sub}
 use Rattle.prem_syntax.specs.declared.tree.Place.{Place}
 use Rattle.prem_syntax.specs.declared.tree.Ty.TheVariants as ty
 use Rattle.prem_syntax.specs.Syntax.{literal, binary, output, no_statements, next_statement, function_item, ProgramText}
-use Rattle.prem_lexer.specs.declared.token.token.Mark.TheVariants as m
-use Rattle.prem_lexer.specs.Spelling.{used_word, is_unused, reserved_word, longest_mark}
-use Rattle.prem_lexer.specs.Literal.{literal_word}
-use Rattle.prem_lexer.specs.Tokens.{first_token, start, step, lex, tokens_of}
+use Rattle.prem_text.specs.declared.lexing.token.token.Mark.TheVariants as m
+use Rattle.prem_text.specs.Lexing.Spelling.{used_word, is_unused, reserved_word, longest_mark}
+use Rattle.prem_text.specs.Lexing.Literal.{literal_word}
+use Rattle.prem_text.specs.Lexing.Tokens.{first_token, start, step, lex, tokens_of}
 use Rattle.prem_text.specs.Grammar.Phrases.{Phrase, of_literal, of_bracket, of_infix}
 use Rattle.prem_text.specs.Grammar.Reader.{nowhere}
 use Rattle.prem_text.specs.Texts.{reads}

@@ -5,9 +5,9 @@ use Rattle.std.proofs.lemmas.Bool.Decides.{nat_tests}
 use Rattle.prem_syntax.specs.declared.tree.Ty.{Ty}
 use Rattle.prem_syntax.specs.declared.tree.Ty.TheVariants as ty
 use Rattle.prem_syntax.specs.Syntax.{Text, Expression, Parameter, LocalVariable, RegionText, MarkText, InitialValue, absent, one, many, GlobalVariable, FunctionText, ItemText, global_item, function_item, ProgramText}
-use Rattle.prem_lexer.specs.declared.token.token.Mark.TheVariants as m
-use Rattle.prem_lexer.specs.declared.token.token.Word.TheVariants as w
-use Rattle.prem_lexer.specs.Token.Lexeme.{name, word, mark, end_of_text, Seen}
+use Rattle.prem_text.specs.declared.lexing.token.token.Mark.TheVariants as m
+use Rattle.prem_text.specs.declared.lexing.token.token.Word.TheVariants as w
+use Rattle.prem_text.specs.Lexing.Token.Lexeme.{name, word, mark, end_of_text, Seen}
 use Rattle.prem_text.specs.Grammar.Slots.{left_parenthesis, right_parenthesis, left_brace, right_brace, left_bracket, right_bracket, semicolon, comma, equal_sign, a_name, a_literal, the_return, the_void, the_range, the_predictable, the_region, the_end}
 use Rattle.prem_text.specs.Grammar.Phrases.{name_at}
 use Rattle.prem_text.specs.Grammar.ProgramPhrases.{TypeForm, void_type, int_type, short_type, signed_char_type, unsigned_type, unsigned_short_type, unsigned_char_type, type_slots, type_of, Declaration, IsDeclaration, declaration_tokens, ConstantPhrase, constant_slots, IsConstant, constant_tree, PartedConstant, InitialPhrase, no_initial, one_initial, many_initial, ArePartedConstants, IsInitial, constants_tokens, constants_tree, initial_tokens, initial_tree, IsLength, length_tokens, length_tree, GlobalPhrase, IsGlobal, global_tokens, global_tree, MarkPhrase, AreRegions, region_tokens, region_trees, IsMark, mark_tokens, mark_tree, RangePhrase, IsRange, range_tokens, range_tree, ParameterPhrase, IsParameter, parameter_tokens, parameter_tree, PartedParameter, ParametersPhrase, of_void, of_parameters, is_void_form, begins_void, ArePartedParameters, AreParameters, parted_parameter_tokens, parted_parameter_trees, parameters_tokens, parameters_tree, LocalPhrase, AreLocals, local_tokens, local_trees, ResultPhrase, IsResult, result_tokens, result_tree, FunctionPhrase, IsFunction, function_tokens, function_tree, ItemPhrase, of_global, of_function, IsItem, item_tokens, item_tree, AreItems, items_tokens, items_tree, ProgramPhrase, IsProgram, program_tokens, program_tree}

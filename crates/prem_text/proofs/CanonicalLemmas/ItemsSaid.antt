@@ -3,8 +3,8 @@ use Rattle.std.proofs.Common.{◌≡◌, ◌≤◌, ℕ, ℤ, unsigned_abs, Bool
 use Rattle.prem_syntax.specs.declared.tree.Ty.{Ty}
 use Rattle.prem_syntax.specs.declared.tree.Ty.TheVariants as ty
 use Rattle.prem_syntax.specs.Syntax.{Parameter}
-use Rattle.prem_lexer.specs.declared.token.token.Mark.TheVariants as m
-use Rattle.prem_lexer.specs.Token.Lexeme.{name, mark, Seen}
+use Rattle.prem_text.specs.declared.lexing.token.token.Mark.TheVariants as m
+use Rattle.prem_text.specs.Lexing.Token.Lexeme.{name, mark, Seen}
 use Rattle.prem_text.specs.Grammar.Slots.{left_parenthesis, right_parenthesis, comma, a_name, a_literal, the_region, value_at}
 use Rattle.prem_text.specs.Grammar.Phrases.{spelled, tree, name_at}
 use Rattle.prem_text.specs.Grammar.StatementPhrases.{all_written}

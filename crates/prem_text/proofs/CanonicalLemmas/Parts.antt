@@ -3,7 +3,7 @@ use Rattle.std.proofs.Common.{◌≡◌, ℕ, zero, suc, Bool, true, false, List
 use Rattle.std.proofs.lemmas.Bool.{and_parts}
 use Rattle.prem_syntax.specs.declared.tree.Place.{Place}
 use Rattle.prem_syntax.specs.Syntax.{Text}
-use Rattle.prem_lexer.specs.Token.Lexeme.{Lexeme, Seen}
+use Rattle.prem_text.specs.Lexing.Token.Lexeme.{Lexeme, Seen}
 use Rattle.prem_text.specs.Grammar.Slots.{Slot, fits, text_of, value_of, text_at, value_at, place_at}
 use Rattle.prem_text.specs.Grammar.Phrases.{IsRow, name_or_none, name_at}
 

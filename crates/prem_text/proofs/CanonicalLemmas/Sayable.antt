@@ -2,7 +2,7 @@
 use Rattle.std.proofs.Common.{◌≡◌, ◌≤◌, ℕ, ℤ, pos, neg_ℤ, zero, suc, nat_lt, int_lt, unsigned_abs, Bool, true, false, if◌then◌else◌, List, [], ◌∷◌, ◌++◌, Some, refl, sym, subst, arith}
 use Rattle.std.proofs.lemmas.Bool.Decides.{nat_tests}
 use Rattle.prem_word.specs.declared.kind.Kind.TheVariants.{Int, Unsigned}
-use Rattle.prem_lexer.specs.Token.Lexeme.{Lexeme, name, number, word, mark, end_of_text, Seen}
+use Rattle.prem_text.specs.Lexing.Token.Lexeme.{Lexeme, name, number, word, mark, end_of_text, Seen}
 use Rattle.prem_text.specs.Spelling.Spellings.{Spells, as_name, as_word, as_literal, as_mark, Literal, as_int, as_large, as_suffixed}
 use Rattle.prem_text.specs.Spelling.Division.{Divides, up_to, gap, token, AreTokens}
 use Rattle.prem_text.specs.Grammar.Slots.{Slot, a_name, is_name, fits, text_of, value_of, value_at}

@@ -12,14 +12,14 @@ use native.Mathlib.Omega.{pow_step}
 use native.Mathlib.Nat.{pow-zero}
 use Rattle.prem_word.specs.declared.kind.Kind.{Kind}
 use Rattle.prem_word.specs.declared.kind.Kind.TheVariants.{Int, Unsigned}
-use Rattle.prem_lexer.specs.declared.token.token.Word.{Word}
-use Rattle.prem_lexer.specs.declared.token.token.Word.TheVariants as w
-use Rattle.prem_lexer.specs.declared.token.token.Mark.{Mark}
-use Rattle.prem_lexer.specs.declared.token.token.Mark.TheVariants as m
-use Rattle.prem_lexer.specs.Token.Lexeme.{Lexeme, name, number, word, mark, end_of_text}
-use Rattle.prem_lexer.specs.Spelling.{marks}
-use Rattle.prem_lexer.specs.Literal.{digit_value}
-use Rattle.prem_lexer.specs.Tokens.{is_digit}
+use Rattle.prem_text.specs.declared.lexing.token.token.Word.{Word}
+use Rattle.prem_text.specs.declared.lexing.token.token.Word.TheVariants as w
+use Rattle.prem_text.specs.declared.lexing.token.token.Mark.{Mark}
+use Rattle.prem_text.specs.declared.lexing.token.token.Mark.TheVariants as m
+use Rattle.prem_text.specs.Lexing.Token.Lexeme.{Lexeme, name, number, word, mark, end_of_text}
+use Rattle.prem_text.specs.Lexing.Spelling.{marks}
+use Rattle.prem_text.specs.Lexing.Literal.{digit_value}
+use Rattle.prem_text.specs.Lexing.Tokens.{is_digit}
 use Rattle.prem_text.specs.Spelling.Spellings.{StandsIn, at_front, further, every, value_in, Digits, just_zero, decimal as decimal_digits, as_int, as_suffixed, Reserved, used, without_use, Spells, as_word, as_literal, as_mark}
 use Rattle.prem_text.specs.Spelling.Spelled.{AreSpellings}
 use Rattle.prem_text.specs.Canonical.Printed.{word_bytes, mark_bytes, lexeme_bytes, spelling_of}

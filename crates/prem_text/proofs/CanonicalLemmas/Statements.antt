@@ -2,9 +2,9 @@
 use Rattle.std.specs.Option.{option_map}
 use Rattle.std.proofs.Common.{◌≡◌, Bool, true, false, List, [], ◌∷◌, ◌++◌, Option, None, Some, refl, ap, sym, ◌∙◌, arith, append-nil, map, ◌&&◌}
 use Rattle.prem_syntax.specs.Syntax.{Text, Expression, Statement, block, if_then, if_else, bounded_while, counting_for, assign, output, input, call, Statements, no_statements, next_statement}
-use Rattle.prem_lexer.specs.declared.token.token.Mark.TheVariants as m
-use Rattle.prem_lexer.specs.declared.token.token.Word.TheVariants as w
-use Rattle.prem_lexer.specs.Token.Lexeme.{name, word, mark, Seen}
+use Rattle.prem_text.specs.declared.lexing.token.token.Mark.TheVariants as m
+use Rattle.prem_text.specs.declared.lexing.token.token.Word.TheVariants as w
+use Rattle.prem_text.specs.Lexing.Token.Lexeme.{name, word, mark, Seen}
 use Rattle.prem_text.specs.Grammar.Slots.{left_brace, right_brace, right_parenthesis, semicolon, comma, equal_sign, the_else, is_comparison, place_at}
 use Rattle.prem_text.specs.Grammar.Statement.{listed, is_at_most}
 use Rattle.prem_text.specs.Grammar.Phrases.{Phrase, spelled, tree, IsExpression, IsRow}

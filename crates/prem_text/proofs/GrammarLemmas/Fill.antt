@@ -3,9 +3,9 @@ use Rattle.std.proofs.Common.{◌≡◌, ◌≤◌, ℕ, List, [], ◌∷◌, �
 use Rattle.std.proofs.lemmas.List.{append-nil}
 use Rattle.prem_word.specs.declared.kind.Kind.TheVariants.{Int}
 use Rattle.prem_syntax.specs.declared.tree.Place.{Place}
-use Rattle.prem_lexer.specs.declared.token.token.Mark.TheVariants as m
-use Rattle.prem_lexer.specs.declared.token.token.Word.TheVariants as w
-use Rattle.prem_lexer.specs.Token.Lexeme.{Lexeme, name, number, word, mark, end_of_text, Seen}
+use Rattle.prem_text.specs.declared.lexing.token.token.Mark.TheVariants as m
+use Rattle.prem_text.specs.declared.lexing.token.token.Word.TheVariants as w
+use Rattle.prem_text.specs.Lexing.Token.Lexeme.{Lexeme, name, number, word, mark, end_of_text, Seen}
 use Rattle.prem_text.specs.Grammar.Slots.{left_bracket, plus_sign, minus_sign, minus_minus, minus_equal, the_if, the_for, the_bounded, the_in, the_out, the_return, the_void, the_range, the_predictable, the_region, the_int, the_short, the_signed, the_char, the_unsigned, the_end, Slot, left_parenthesis, right_parenthesis, left_brace, right_brace, right_bracket, semicolon, comma, equal_sign, plus_plus, plus_equal, comparison, step_sign, a_name, a_literal, the_else, the_while, fits}
 use Rattle.prem_text.specs.Grammar.Statement.{Around, Use, for_output, for_high, Row, Point, least_of, rest_of_step}
 use Rattle.prem_text.specs.Grammar.Phrases.{Phrase, of_literal, spelled, IsExpression, IsRow}

@@ -4,9 +4,9 @@ use Rattle.std.proofs.Common.{◌≡◌, ◌+◌, ◌-◌, ℕ, ℤ, List, [], �
 use Rattle.std.proofs.lemmas.List.{append-nil}
 use Rattle.prem_syntax.specs.declared.tree.Place.{Place}
 use Rattle.prem_syntax.specs.Syntax.{Expression, no_statements, Parameter, LocalVariable, FunctionText, function_item}
-use Rattle.prem_lexer.specs.declared.token.token.Mark.TheVariants as m
-use Rattle.prem_lexer.specs.declared.token.token.Word.TheVariants as w
-use Rattle.prem_lexer.specs.Token.Lexeme.{Lexeme, name, number, word, mark, end_of_text, Seen}
+use Rattle.prem_text.specs.declared.lexing.token.token.Mark.TheVariants as m
+use Rattle.prem_text.specs.declared.lexing.token.token.Word.TheVariants as w
+use Rattle.prem_text.specs.Lexing.Token.Lexeme.{Lexeme, name, number, word, mark, end_of_text, Seen}
 use Rattle.prem_text.specs.Grammar.Expression.{bottom, State, wants, has, Move, goes, ends, stops, move}
 use Rattle.prem_text.specs.Grammar.Statement.{in_body, Point, Turn, on, turn, listed}
 use Rattle.prem_text.specs.Grammar.Item.{no_type, an_item, a_parameter, a_local, range_low, range_high, Value, local_value, result_value, body_row, range_row, local_row, end_row, Stage, in_row, in_type, behind_item, before_constant, behind_constant, before_parameter, on_parameter, behind_parameter, before_local, in_statements, in_value, ItemStep, ahead, made, refused, type_begins, with_parameter, with_range, parameter_ends, with_body, with_result, body_ends, statement_step, begins_type, value_ends, step}

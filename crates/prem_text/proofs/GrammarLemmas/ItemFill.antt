@@ -2,7 +2,7 @@
 use Rattle.std.proofs.Common.{◌≡◌, ◌⊎◌, inl, inr, List, [], ◌∷◌, ◌++◌, Option, None, Some, Bool, true, false, refl, ap, sym, subst, ◌∙◌, append_assoc, arith}
 use Rattle.std.proofs.lemmas.List.{append-nil}
 use Rattle.prem_syntax.specs.Syntax.{FunctionText, ItemText}
-use Rattle.prem_lexer.specs.Token.Lexeme.{Seen}
+use Rattle.prem_text.specs.Lexing.Token.Lexeme.{Seen}
 use Rattle.prem_text.specs.Grammar.Item.{Typing, Declared, Constant, Value, ItemRow, Stage}
 use Rattle.prem_text.specs.Grammar.Phrases.{Phrase, spelled, IsExpression, IsRow}
 use Rattle.prem_text.specs.Grammar.StatementPhrases.{StatementPhrases, no_phrases, AreStatements, all_written}

@@ -4,9 +4,9 @@ use Rattle.std.proofs.Common.{◌≡◌, ◌-◌, ℕ, ℤ, List, [], ◌∷◌,
 use Rattle.std.proofs.lemmas.List.{append-nil}
 use Rattle.prem_syntax.specs.declared.tree.Place.{Place}
 use Rattle.prem_syntax.specs.Syntax.{Text, Expression, Statement, Parameter, LocalVariable, RegionText, absent, many, GlobalVariable, FunctionText, ItemText, global_item, function_item}
-use Rattle.prem_lexer.specs.declared.token.token.Mark.TheVariants as m
-use Rattle.prem_lexer.specs.declared.token.token.Word.TheVariants as w
-use Rattle.prem_lexer.specs.Token.Lexeme.{Lexeme, name, number, word, mark, Seen}
+use Rattle.prem_text.specs.declared.lexing.token.token.Mark.TheVariants as m
+use Rattle.prem_text.specs.declared.lexing.token.token.Word.TheVariants as w
+use Rattle.prem_text.specs.Lexing.Token.Lexeme.{Lexeme, name, number, word, mark, Seen}
 use Rattle.prem_text.specs.Grammar.Expression.{bottom, State, wants, Move, goes, ends, stops, move}
 use Rattle.prem_text.specs.Grammar.Statement.{in_body, Point, Turn, on, leaves, wrong, turn, listed}
 use Rattle.prem_text.specs.Grammar.Item.{global_ends, global_or, constant_ends, Typing, no_type, after_signed, after_unsigned, a_type, Declared, an_item, a_parameter, a_local, Constant, range_low, range_high, only_value, next_value, Value, local_value, result_value, ItemRow, mark_row, region_row, length_row, global_row, body_row, range_row, local_row, end_row, Stage, outside, marked, in_row, in_type, behind_item, behind_global, before_initial, before_constant, behind_constant, before_parameter, on_parameter, behind_parameter, before_local, in_statements, in_value, finished, ItemStep, ahead, made, refused, declared, type_or_name, with_initial, constant, with_parameter, parameter_ends, with_local, with_body, with_result, body_ends, statement_step, begins_type, value_ends, with_region, row_ends, row_goes_on, step}

@@ -4,9 +4,9 @@ use Rattle.prem_syntax.specs.declared.tree.Place.{Place}
 use Rattle.prem_syntax.specs.declared.tree.Ty.{Ty}
 use Rattle.prem_syntax.specs.declared.tree.Ty.TheVariants.{Void, Int, Unsigned, Short, Ushort, Schar, Uchar}
 use Rattle.prem_syntax.specs.Syntax.{Text}
-use Rattle.prem_lexer.specs.declared.token.token.Mark.TheVariants as m
-use Rattle.prem_lexer.specs.declared.token.token.Word.TheVariants as w
-use Rattle.prem_lexer.specs.Token.Lexeme.{Lexeme, name, number, word, mark, end_of_text, Seen}
+use Rattle.prem_text.specs.declared.lexing.token.token.Mark.TheVariants as m
+use Rattle.prem_text.specs.declared.lexing.token.token.Word.TheVariants as w
+use Rattle.prem_text.specs.Lexing.Token.Lexeme.{Lexeme, name, number, word, mark, end_of_text, Seen}
 use Rattle.prem_text.specs.Grammar.Slots.{Slot, minus_sign, a_name, a_literal, the_void, the_int, the_short, the_signed, the_char, the_unsigned, fits, text_of, value_at, place_at, is_left_brace, is_name, is_literal}
 use Rattle.prem_text.specs.Grammar.Item.{Typing, no_type, after_signed, after_unsigned, a_type, type_in, Declared, an_item, a_parameter, a_local, Constant, ItemRow, Stage, in_row, in_type, before_constant, behind_constant, ahead, refused, declared, type_or_name, type_begins, constant_of, constant, row_ends, row_goes_on, step, is_too_deep}
 use Rattle.prem_text.specs.Grammar.Phrases.{IsRow, name_at, name_or_none, quiet}

@@ -4,9 +4,9 @@ use Rattle.std.proofs.lemmas.List.{append-nil}
 use Rattle.prem_syntax.specs.declared.tree.Place.{Place}
 use Rattle.prem_syntax.specs.declared.tree.Ty.{Ty}
 use Rattle.prem_syntax.specs.Syntax.{Text, RegionText, MarkText, InitialValue, absent, one, many, GlobalVariable, global_item}
-use Rattle.prem_lexer.specs.declared.token.token.Mark.TheVariants as m
-use Rattle.prem_lexer.specs.declared.token.token.Word.TheVariants as w
-use Rattle.prem_lexer.specs.Token.Lexeme.{Lexeme, word, mark, Seen}
+use Rattle.prem_text.specs.declared.lexing.token.token.Mark.TheVariants as m
+use Rattle.prem_text.specs.declared.lexing.token.token.Word.TheVariants as w
+use Rattle.prem_text.specs.Lexing.Token.Lexeme.{Lexeme, word, mark, Seen}
 use Rattle.prem_text.specs.Grammar.Item.{an_item, only_value, next_value, mark_row, region_row, length_row, global_row, Stage, outside, marked, in_row, behind_item, behind_global, before_initial, before_constant, behind_constant, ahead, made, refused, type_begins, scalar, with_initial, constant, begins_type, with_region, row_ends, step}
 use Rattle.prem_text.specs.Grammar.Phrases.{IsRow, name_at, quiet}
 use Rattle.prem_text.specs.Grammar.ProgramPhrases.{TypeForm, void_type, int_type, short_type, signed_char_type, unsigned_type, unsigned_int_type, unsigned_short_type, unsigned_char_type, type_of, Declaration, declaration_tokens, constant_tree, PartedConstant, InitialPhrase, no_initial, one_initial, many_initial, ArePartedConstants, IsInitial, constants_tokens, constants_tree, initial_tokens, initial_tree, IsLength, length_tokens, length_tree, GlobalPhrase, IsGlobal, MarkPhrase, AreRegions, region_tokens, region_trees, IsMark, mark_tokens, mark_tree, ItemPhrase, of_global, item_tokens, item_tree, item_past}

@@ -3,8 +3,8 @@ use Rattle.std.proofs.Common.{◌≡◌, ℕ, suc, List, [], ◌∷◌, ◌++◌
 use Rattle.std.proofs.lemmas.List.{append-nil}
 use Rattle.prem_syntax.specs.declared.tree.Place.{Place}
 use Rattle.prem_syntax.specs.Syntax.{Expression, Statement, block, if_then}
-use Rattle.prem_lexer.specs.declared.token.token.Mark.TheVariants as m
-use Rattle.prem_lexer.specs.Token.Lexeme.{Lexeme, mark, Seen}
+use Rattle.prem_text.specs.declared.lexing.token.token.Mark.TheVariants as m
+use Rattle.prem_text.specs.Lexing.Token.Lexeme.{Lexeme, mark, Seen}
 use Rattle.prem_text.specs.Grammar.Slots.{right_brace, value_at, place_at, is_else, is_right_brace}
 use Rattle.prem_text.specs.Grammar.Statement.{Around, in_block, in_taken, in_other, in_while, in_for, Point, between, may_else, on, ended, is_at_most, turn, listed}
 use Rattle.prem_text.specs.Grammar.Phrases.{tree, name_at, quiet, opening}

@@ -3,9 +3,9 @@ use Rattle.std.proofs.Common.{◌≡◌, List, [], ◌∷◌, ◌++◌, Option, 
 use Rattle.std.proofs.lemmas.List.{append-nil}
 use Rattle.prem_syntax.specs.declared.tree.Place.{Place}
 use Rattle.prem_syntax.specs.Syntax.{ItemText, ProgramText}
-use Rattle.prem_lexer.specs.declared.token.fail.FrontFail.{FrontFail}
-use Rattle.prem_lexer.specs.Token.Lexeme.{Seen}
-use Rattle.prem_lexer.specs.Token.Reading.{no_program, too_deep}
+use Rattle.prem_text.specs.declared.lexing.token.fail.FrontFail.{FrontFail}
+use Rattle.prem_text.specs.Lexing.Token.Lexeme.{Seen}
+use Rattle.prem_text.specs.Lexing.Token.Reading.{no_program, too_deep}
 use Rattle.prem_text.specs.Grammar.Slots.{the_end, fits}
 use Rattle.prem_text.specs.Grammar.Item.{Stage, outside, finished, ItemStep, ahead, made, refused, step, is_too_deep}
 use Rattle.prem_text.specs.Grammar.Reader.{unless_deep, at_end, read_on, read}

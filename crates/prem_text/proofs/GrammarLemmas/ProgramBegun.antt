@@ -2,7 +2,7 @@
 use Rattle.std.proofs.Common.{◌≡◌, ◌⊎◌, inl, inr, List, [], ◌∷◌, ◌++◌, None, Some, refl, ap, sym, subst, ◌∙◌, append_assoc}
 use Rattle.std.proofs.lemmas.List.{append-nil}
 use Rattle.prem_syntax.specs.Syntax.{ItemText}
-use Rattle.prem_lexer.specs.Token.Lexeme.{Seen}
+use Rattle.prem_text.specs.Lexing.Token.Lexeme.{Seen}
 use Rattle.prem_text.specs.Grammar.Slots.{the_end}
 use Rattle.prem_text.specs.Grammar.Item.{Stage, outside, ItemStep, ahead, made, refused, step}
 use Rattle.prem_text.specs.Grammar.Phrases.{IsRow}

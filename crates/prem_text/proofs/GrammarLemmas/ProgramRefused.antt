@@ -1,10 +1,10 @@
 -- Which tokens are refused: those that stand in no program, and the first ones past a limit.
 use Rattle.std.proofs.Common.{◌≡◌, ◌<◌, ℕ, List, [], ◌∷◌, ◌++◌, None, Some, Err, Bool, true, false, refl, ap, sym, subst, ◌∙◌, append_assoc, arith}
 use Rattle.prem_syntax.specs.Syntax.{ItemText}
-use Rattle.prem_lexer.specs.declared.token.fail.FrontFail.{FrontFail}
-use Rattle.prem_lexer.specs.declared.token.fail.FrontFail.TheVariants.{Syntax, TooDeep}
-use Rattle.prem_lexer.specs.Token.Lexeme.{Seen}
-use Rattle.prem_lexer.specs.Token.Reading.{too_deep}
+use Rattle.prem_text.specs.declared.lexing.token.fail.FrontFail.{FrontFail}
+use Rattle.prem_text.specs.declared.lexing.token.fail.FrontFail.TheVariants.{Syntax, TooDeep}
+use Rattle.prem_text.specs.Lexing.Token.Lexeme.{Seen}
+use Rattle.prem_text.specs.Lexing.Token.Reading.{too_deep}
 use Rattle.prem_text.specs.Grammar.Item.{Stage, outside, finished, ItemStep, ahead, made, refused, step, is_too_deep}
 use Rattle.prem_text.specs.Grammar.Reader.{unless_deep, at_end, read_on, read}
 use Rattle.prem_text.specs.Grammar.Phrases.{quiet}

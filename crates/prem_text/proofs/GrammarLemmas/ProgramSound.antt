@@ -2,8 +2,8 @@
 use Rattle.std.proofs.Common.{◌≡◌, List, [], ◌∷◌, ◌++◌, Ok, Bool, true, false, refl, ap, sym, subst, ◌∙◌, append_assoc}
 use Rattle.std.proofs.lemmas.List.{append-nil}
 use Rattle.prem_syntax.specs.Syntax.{ItemText, ProgramText}
-use Rattle.prem_lexer.specs.Token.Lexeme.{Seen}
-use Rattle.prem_lexer.specs.Token.Reading.{no_program, too_deep}
+use Rattle.prem_text.specs.Lexing.Token.Lexeme.{Seen}
+use Rattle.prem_text.specs.Lexing.Token.Reading.{no_program, too_deep}
 use Rattle.prem_text.specs.Grammar.Item.{Stage, outside, finished, ItemStep, ahead, made, refused, step, is_too_deep}
 use Rattle.prem_text.specs.Grammar.Reader.{at_end, read_on, read}
 use Rattle.prem_text.specs.Grammar.ProgramPhrases.{ItemPhrase, IsItem, item_tokens, item_tree, AreItems, items_tokens, items_tree, ProgramPhrase, IsProgram, program_tokens, program_tree, program_past}

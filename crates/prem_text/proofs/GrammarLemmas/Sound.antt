@@ -8,9 +8,9 @@ use Rattle.prem_syntax.specs.declared.tree.Place.{Place}
 use Rattle.prem_syntax.specs.declared.tree.UnOp.{UnOp}
 use Rattle.prem_syntax.specs.declared.tree.UnOp.TheVariants.{Neg, Flip, Not}
 use Rattle.prem_syntax.specs.Syntax.{Text, Expression, element}
-use Rattle.prem_lexer.specs.declared.token.token.Mark.{Mark}
-use Rattle.prem_lexer.specs.declared.token.token.Mark.TheVariants as m
-use Rattle.prem_lexer.specs.Token.Lexeme.{Lexeme, name, number, word, mark, end_of_text, Seen}
+use Rattle.prem_text.specs.declared.lexing.token.token.Mark.{Mark}
+use Rattle.prem_text.specs.declared.lexing.token.token.Mark.TheVariants as m
+use Rattle.prem_text.specs.Lexing.Token.Lexeme.{Lexeme, name, number, word, mark, end_of_text, Seen}
 use Rattle.prem_text.specs.Grammar.Expression.{infix_of, prefix_of, level_of, Open, bottom, under, right_of, bracket, index_of, bind, State, wants, named, has, Move, goes, ends, stops, operand, operator, closing, behind, move}
 use Rattle.prem_text.specs.Grammar.Phrases.{Phrase, of_literal, of_name, of_element, of_bracket, of_prefix, of_infix, spelled, tree, level, Binds, Spells}
 use Rattle.prem_text.proofs.GrammarLemmas.Steps.{Loose, level_small}

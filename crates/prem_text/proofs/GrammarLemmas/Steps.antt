@@ -6,9 +6,9 @@ use Rattle.prem_word.specs.declared.kind.BinOp.TheVariants.{Add}
 use Rattle.prem_syntax.specs.declared.tree.Place.{Place}
 use Rattle.prem_syntax.specs.declared.tree.UnOp.{UnOp}
 use Rattle.prem_syntax.specs.Syntax.{Expression}
-use Rattle.prem_lexer.specs.declared.token.token.Mark.{Mark}
-use Rattle.prem_lexer.specs.declared.token.token.Mark.TheVariants as m
-use Rattle.prem_lexer.specs.Token.Lexeme.{Lexeme, mark, Seen}
+use Rattle.prem_text.specs.declared.lexing.token.token.Mark.{Mark}
+use Rattle.prem_text.specs.declared.lexing.token.token.Mark.TheVariants as m
+use Rattle.prem_text.specs.Lexing.Token.Lexeme.{Lexeme, mark, Seen}
 use Rattle.prem_text.specs.Grammar.Expression.{infix_of, prefix_of, level_of, Open, bottom, under, right_of, bracket, index_of, bind, State, wants, goes, move}
 
 -- a state reads all of these tokens

@@ -4,9 +4,9 @@ use Rattle.std.proofs.Common.{◌≡◌, ◌+◌, ◌-◌, ℕ, zero, suc, List,
 use Rattle.std.proofs.lemmas.Bool.Decides.{nat_tests}
 use Rattle.prem_syntax.specs.declared.tree.Place.{Place}
 use Rattle.prem_syntax.specs.Syntax.{Text, Statement, if_else, bounded_while, counting_for}
-use Rattle.prem_lexer.specs.declared.token.token.Mark.TheVariants as m
-use Rattle.prem_lexer.specs.declared.token.token.Word.TheVariants as w
-use Rattle.prem_lexer.specs.Token.Lexeme.{Lexeme, name, number, word, mark, end_of_text, Seen}
+use Rattle.prem_text.specs.declared.lexing.token.token.Mark.TheVariants as m
+use Rattle.prem_text.specs.declared.lexing.token.token.Word.TheVariants as w
+use Rattle.prem_text.specs.Lexing.Token.Lexeme.{Lexeme, name, number, word, mark, end_of_text, Seen}
 use Rattle.prem_text.specs.Grammar.Slots.{Slot, left_parenthesis, right_parenthesis, semicolon, comma, equal_sign, a_name, a_literal, the_while, fits, text_of, text_at, place_at, is_left_parenthesis, is_comma, is_if, is_out, is_bounded, is_for, is_name, is_left_brace}
 use Rattle.prem_text.specs.Grammar.Expression.{bottom, State, wants, has, Move, goes, ends, stops, move}
 use Rattle.prem_text.specs.Grammar.Statement.{Around, in_body, in_block, in_taken, in_other, in_while, in_for, Use, for_low, Row, if_row, out_row, while_row, for_row, bound_row, sign_row, step_row, last_row, Point, between, filling, inside, on_name, Turn, on, wrong, ended, expression, least_of, begin, next, filled, when, used, turn, nests, begins_row, is_past, is_start, at_start, lone_name, called}

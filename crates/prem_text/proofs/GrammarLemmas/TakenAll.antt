@@ -2,9 +2,9 @@
 use Rattle.std.proofs.Common.{◌≡◌, suc, List, [], ◌∷◌, ◌++◌, None, Some, Bool, true, false, refl, sym, ◌∙◌}
 use Rattle.prem_syntax.specs.declared.tree.Place.{Place}
 use Rattle.prem_syntax.specs.Syntax.{Text, Statement, if_else, bounded_while, counting_for, input}
-use Rattle.prem_lexer.specs.declared.token.token.Mark.TheVariants as m
-use Rattle.prem_lexer.specs.declared.token.token.Word.TheVariants as w
-use Rattle.prem_lexer.specs.Token.Lexeme.{Lexeme, name, number, word, mark, end_of_text, Seen}
+use Rattle.prem_text.specs.declared.lexing.token.token.Mark.TheVariants as m
+use Rattle.prem_text.specs.declared.lexing.token.token.Word.TheVariants as w
+use Rattle.prem_text.specs.Lexing.Token.Lexeme.{Lexeme, name, number, word, mark, end_of_text, Seen}
 use Rattle.prem_text.specs.Grammar.Slots.{Slot, left_parenthesis, right_parenthesis, left_brace, semicolon, equal_sign, a_name, a_literal, the_if, the_for, the_while, the_bounded, the_in, the_out, fits, text_of, place_at, is_left_parenthesis, is_else, is_in, is_name, is_equal}
 use Rattle.prem_text.specs.Grammar.Expression.{bottom, wants, named}
 use Rattle.prem_text.specs.Grammar.Statement.{Around, in_body, in_block, in_taken, in_other, in_while, in_for, for_index, for_value, for_change, for_argument, last_row, Point, between, inside, on_name, on_element, on, ended, settled, begin, next, behind_name, turn, by_one}

@@ -3,8 +3,8 @@ use Rattle.std.proofs.Common.{◌≡◌, ℕ, suc, List, [], ◌∷◌, ◌++◌
 use Rattle.std.proofs.lemmas.List.{append-nil}
 use Rattle.prem_syntax.specs.declared.tree.Place.{Place}
 use Rattle.prem_syntax.specs.Syntax.{Text, Expression, Statement, output, call}
-use Rattle.prem_lexer.specs.declared.token.token.Mark.TheVariants as m
-use Rattle.prem_lexer.specs.Token.Lexeme.{Lexeme, mark, Seen}
+use Rattle.prem_text.specs.declared.lexing.token.token.Mark.TheVariants as m
+use Rattle.prem_text.specs.Lexing.Token.Lexeme.{Lexeme, mark, Seen}
 use Rattle.prem_text.specs.Grammar.Slots.{left_parenthesis, right_parenthesis, semicolon, comma, equal_sign, comparison, step_sign, a_name, a_literal, the_if, the_for, the_while, the_bounded, the_out, fits, text_at, value_at, place_at, is_comma}
 use Rattle.prem_text.specs.Grammar.Expression.{bottom, State, wants, has}
 use Rattle.prem_text.specs.Grammar.Statement.{Around, in_taken, in_while, in_for, Use, for_output, for_if, for_while, for_low, for_high, for_argument, if_row, out_row, while_row, for_row, bound_row, sign_row, step_row, last_row, Point, between, filling, inside, on, wrong, ended, expression, least_of, finish, rest_of_step, fourth_in, looped, is_at_most, filled, used, turn, is_past}

@@ -4,9 +4,9 @@ use Rattle.std.proofs.Common.{◌≡◌, ◌≤◌, ◌-◌, ℕ, List, [], ◌�
 use Rattle.std.proofs.lemmas.List.{append-nil}
 use Rattle.prem_syntax.specs.declared.tree.Place.{Place}
 use Rattle.prem_syntax.specs.Syntax.{Text, Expression, Statement, input}
-use Rattle.prem_lexer.specs.declared.token.token.Mark.TheVariants as m
-use Rattle.prem_lexer.specs.declared.token.token.Word.TheVariants as w
-use Rattle.prem_lexer.specs.Token.Lexeme.{Lexeme, name, number, word, mark, end_of_text, Seen}
+use Rattle.prem_text.specs.declared.lexing.token.token.Mark.TheVariants as m
+use Rattle.prem_text.specs.declared.lexing.token.token.Word.TheVariants as w
+use Rattle.prem_text.specs.Lexing.Token.Lexeme.{Lexeme, name, number, word, mark, end_of_text, Seen}
 use Rattle.prem_text.specs.Grammar.Slots.{Slot, left_parenthesis, right_parenthesis, semicolon, comma, equal_sign, comparison, step_sign, a_name, a_literal, the_while, fits, text_at, place_at, is_left_parenthesis, is_else, is_in, is_comma, is_right_brace}
 use Rattle.prem_text.specs.Grammar.Expression.{bottom, State, wants, Move, goes, ends, stops, move}
 use Rattle.prem_text.specs.Grammar.Statement.{Around, in_for, Use, for_output, for_if, for_while, for_low, for_high, for_index, for_value, for_change, for_argument, Row, if_row, out_row, while_row, for_row, bound_row, sign_row, step_row, last_row, Point, between, filling, inside, on, wrong, expression, least_of, statement, begins_statement, without, next, else_or, rest_of_step, step_in, fourth_in, looped, is_at_most, filled, filled_or, change, behind_name, used, is_start, at_start, lone_name, called, turn}

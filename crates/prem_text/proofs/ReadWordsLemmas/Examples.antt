@@ -6,10 +6,10 @@ use Rattle.prem_syntax.specs.declared.tree.Place.{Place}
 use Rattle.prem_syntax.specs.declared.tree.Ty.TheVariants as ty
 use Rattle.prem_syntax.specs.Syntax.{literal, variable, element, binary, assign, no_statements, next_statement, ProgramText, absent, global_item, function_item}
 use Rattle.prem_syntax.specs.Literals.{ProgramHasWords}
-use Rattle.prem_lexer.specs.declared.token.fail.FrontFail.TheVariants.{Token}
-use Rattle.prem_lexer.specs.Spelling.{used_word, is_unused, reserved_word, longest_mark}
-use Rattle.prem_lexer.specs.Literal.{literal_word}
-use Rattle.prem_lexer.specs.Tokens.{first_token, start, step, lex, tokens_of}
+use Rattle.prem_text.specs.declared.lexing.token.fail.FrontFail.TheVariants.{Token}
+use Rattle.prem_text.specs.Lexing.Spelling.{used_word, is_unused, reserved_word, longest_mark}
+use Rattle.prem_text.specs.Lexing.Literal.{literal_word}
+use Rattle.prem_text.specs.Lexing.Tokens.{first_token, start, step, lex, tokens_of}
 use Rattle.prem_text.specs.Texts.{reads}
 use Rattle.prem_text.proofs.ReadWordsLemmas.ProgramWords.{reads_have_words}
 

@@ -3,7 +3,7 @@ use Rattle.std.proofs.Common.{ℕ, ◌^◌, ◌<◌, [], ◌∷◌, arith}
 use Rattle.prem_word.specs.declared.kind.Kind.{Kind}
 use Rattle.prem_syntax.specs.declared.tree.Place.{Place}
 use Rattle.prem_syntax.specs.Literals.{HasWords}
-use Rattle.prem_lexer.specs.Token.Lexeme.{number}
+use Rattle.prem_text.specs.Lexing.Token.Lexeme.{number}
 use Rattle.prem_text.specs.Grammar.Phrases.{Phrase, of_literal, of_name, of_element, of_bracket, of_prefix, of_infix, spelled, tree}
 use Rattle.prem_text.proofs.CanonicalLemmas.Sayable.{IsSayable, AreSaid, front, back, value_bound}
 

@@ -3,8 +3,8 @@ use Rattle.std.proofs.Common.{◌≡◌, ◌≤◌, ℕ, Bool, true, false, List
 use Rattle.std.proofs.lemmas.Bool.{and_parts, and_from}
 use Rattle.std.proofs.lemmas.Bool.Decides.{nat_tests}
 use Rattle.std.proofs.lemmas.List.Sums.{take_while-cons}
-use Rattle.prem_lexer.specs.Literal.{digit_value, is_suffix}
-use Rattle.prem_lexer.specs.Tokens.{is_digit, is_name_byte, is_blank, is_printable}
+use Rattle.prem_text.specs.Lexing.Literal.{digit_value, is_suffix}
+use Rattle.prem_text.specs.Lexing.Tokens.{is_digit, is_name_byte, is_blank, is_printable}
 use Rattle.prem_text.specs.Spelling.Spellings.{every, is_letter, is_hexadecimal}
 use Rattle.prem_text.specs.Spelling.Division.{goes_on}
 

@@ -2,13 +2,13 @@
 use Rattle.std.proofs.Common.{◌≡◌, ℕ, Bool, true, false, List, [], ◌∷◌, ◌++◌, codes, refl, replicate}
 use Rattle.prem_word.specs.declared.kind.Kind.TheVariants.{Int, Unsigned}
 use Rattle.prem_syntax.specs.declared.tree.Place.{Place}
-use Rattle.prem_lexer.specs.declared.token.fail.FrontFail.TheVariants.{NotText, Token}
-use Rattle.prem_lexer.specs.declared.token.token.Mark.TheVariants as m
-use Rattle.prem_lexer.specs.declared.token.token.Word.TheVariants as w
-use Rattle.prem_lexer.specs.Token.Lexeme.{Lexeme, name, number, word, mark, end_of_text, Seen}
-use Rattle.prem_lexer.specs.Spelling.{used_word, is_unused, reserved_word, longest_mark}
-use Rattle.prem_lexer.specs.Literal.{literal_word}
-use Rattle.prem_lexer.specs.Tokens.{first_token, start, step, lex, tokens_of}
+use Rattle.prem_text.specs.declared.lexing.token.fail.FrontFail.TheVariants.{NotText, Token}
+use Rattle.prem_text.specs.declared.lexing.token.token.Mark.TheVariants as m
+use Rattle.prem_text.specs.declared.lexing.token.token.Word.TheVariants as w
+use Rattle.prem_text.specs.Lexing.Token.Lexeme.{Lexeme, name, number, word, mark, end_of_text, Seen}
+use Rattle.prem_text.specs.Lexing.Spelling.{used_word, is_unused, reserved_word, longest_mark}
+use Rattle.prem_text.specs.Lexing.Literal.{literal_word}
+use Rattle.prem_text.specs.Lexing.Tokens.{first_token, start, step, lex, tokens_of}
 use Rattle.prem_text.specs.Spelling.Spellings.{value_in}
 use Rattle.prem_text.specs.Spelling.Division.{has_close, opens_comment, place_behind, AreTokens, Refused}
 use Rattle.prem_text.specs.Spelling.Spelled.{Spelling, joined, placed}

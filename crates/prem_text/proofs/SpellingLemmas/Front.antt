@@ -3,12 +3,12 @@ use Rattle.std.proofs.Common.{◌≡◌, ◌≤◌, ℕ, Bool, true, false, List
 use Rattle.std.proofs.lemmas.Bool.{and_parts, and_from, not-true}
 use Rattle.std.proofs.lemmas.List.Sums.{take_while-cons}
 use Rattle.prem_word.specs.declared.kind.Kind.{Kind}
-use Rattle.prem_lexer.specs.declared.token.token.Word.{Word}
-use Rattle.prem_lexer.specs.declared.token.token.Mark.{Mark}
-use Rattle.prem_lexer.specs.Token.Lexeme.{Lexeme, name, number, word, mark}
-use Rattle.prem_lexer.specs.Spelling.{reserved_word, longest_mark, marks}
-use Rattle.prem_lexer.specs.Literal.{literal_word}
-use Rattle.prem_lexer.specs.Tokens.{is_digit, is_name_byte, is_blank, is_printable, plain_word, word_token, first_token}
+use Rattle.prem_text.specs.declared.lexing.token.token.Word.{Word}
+use Rattle.prem_text.specs.declared.lexing.token.token.Mark.{Mark}
+use Rattle.prem_text.specs.Lexing.Token.Lexeme.{Lexeme, name, number, word, mark}
+use Rattle.prem_text.specs.Lexing.Spelling.{reserved_word, longest_mark, marks}
+use Rattle.prem_text.specs.Lexing.Literal.{literal_word}
+use Rattle.prem_text.specs.Lexing.Tokens.{is_digit, is_name_byte, is_blank, is_printable, plain_word, word_token, first_token}
 use Rattle.prem_text.specs.Spelling.Spellings.{StandsIn, every, is_letter, Literal, Reserved, Spells, as_name, as_word, as_literal, as_mark}
 use Rattle.prem_text.specs.Spelling.Division.{goes_on, is_mark, opens_comment, IsToken}
 use Rattle.prem_text.proofs.SpellingLemmas.Bytes.{letter_name, letter_digit, name_letter, digit_name, name_blank, name_printable, run_is, run_of, run_longest}

@@ -2,10 +2,10 @@
 use Rattle.std.proofs.Common.{◌≡◌, ◌≤◌, ℕ, suc, Bool, true, false, List, [], ◌∷◌, ◌++◌, length, Ok, refl, sym, ap, subst, ◌∙◌, arith, ◌&&◌, ◌==◌, not, append-nil, zero-le}
 use Rattle.std.proofs.lemmas.Bool.{and_parts, and_from, and_left, and_right, or_from}
 use Rattle.std.proofs.lemmas.Bool.Decides.{nat_tests}
-use Rattle.prem_lexer.specs.declared.token.token.Mark.{Mark}
-use Rattle.prem_lexer.specs.Token.Lexeme.{Lexeme, end_of_text}
-use Rattle.prem_lexer.specs.Spelling.{marks}
-use Rattle.prem_lexer.specs.Tokens.{is_name_byte, is_blank, begins_with, tokens_of}
+use Rattle.prem_text.specs.declared.lexing.token.token.Mark.{Mark}
+use Rattle.prem_text.specs.Lexing.Token.Lexeme.{Lexeme, end_of_text}
+use Rattle.prem_text.specs.Lexing.Spelling.{marks}
+use Rattle.prem_text.specs.Lexing.Tokens.{is_name_byte, is_blank, begins_with, tokens_of}
 use Rattle.prem_text.specs.Spelling.Spellings.{every, Spells}
 use Rattle.prem_text.specs.Spelling.Division.{a_blank, goes_on, opens_comment, IsToken, place_behind, Divides, up_to, gap, token}
 use Rattle.prem_text.specs.Spelling.Spelled.{Spelling, AreSpellings, joined, placed}

@@ -6,8 +6,8 @@ use native.Mathlib.Omega.{pow_step}
 use native.Mathlib.Nat.{pow-zero}
 use Rattle.prem_word.specs.declared.kind.Kind.{Kind}
 use Rattle.prem_word.specs.declared.kind.Kind.TheVariants.{Int, Unsigned}
-use Rattle.prem_lexer.specs.Literal.{digit_value, is_suffix, digits, with_kind, literal_word}
-use Rattle.prem_lexer.specs.Tokens.{is_digit, is_name_byte}
+use Rattle.prem_text.specs.Lexing.Literal.{digit_value, is_suffix, digits, with_kind, literal_word}
+use Rattle.prem_text.specs.Lexing.Tokens.{is_digit, is_name_byte}
 use Rattle.prem_text.specs.Spelling.Spellings.{every, is_hexadecimal, value_in, Digits, just_zero, decimal, hexadecimal, Literal, as_int, as_large, as_suffixed}
 use Rattle.prem_text.proofs.SpellingLemmas.Bytes.{value_suffix, suffix_x, suffix_digit, suffix_name, digit_decimal, decimal_digit, digit_name, hexadecimal_name, x_name, every_append, every_more}
 

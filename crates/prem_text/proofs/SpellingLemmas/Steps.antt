@@ -4,15 +4,15 @@ use Rattle.std.proofs.lemmas.Bool.{and_parts, or_parts, and_right}
 use Rattle.std.proofs.lemmas.List.{reverse-append}
 use Rattle.std.proofs.lemmas.List.Sums.{take_while-cons, sum_by-append, sum_by-cons}
 use Rattle.prem_syntax.specs.declared.tree.Place.{Place}
-use Rattle.prem_lexer.specs.declared.token.fail.FrontFail.{FrontFail}
-use Rattle.prem_lexer.specs.declared.token.fail.FrontFail.TheVariants.{NotText}
-use Rattle.prem_lexer.specs.Token.Reading.{no_token}
-use Rattle.prem_lexer.specs.Token.Lexeme.{Lexeme, Seen}
-use Rattle.prem_lexer.specs.declared.lexer.Mode.{Mode}
-use Rattle.prem_lexer.specs.declared.lexer.Mode.TheVariants.{Skip, Line, Block}
-use Rattle.prem_lexer.specs.declared.lexer.Cursor.{Cursor}
-use Rattle.prem_lexer.specs.Tokens.{is_blank, is_printable, first_token, place, behind, begins_with, start, step, put, lex, with_front}
-use Rattle.prem_lexer.proofs.Lexing.{lex_cons}
+use Rattle.prem_text.specs.declared.lexing.token.fail.FrontFail.{FrontFail}
+use Rattle.prem_text.specs.declared.lexing.token.fail.FrontFail.TheVariants.{NotText}
+use Rattle.prem_text.specs.Lexing.Token.Reading.{no_token}
+use Rattle.prem_text.specs.Lexing.Token.Lexeme.{Lexeme, Seen}
+use Rattle.prem_text.specs.declared.lexing.lexer.Mode.{Mode}
+use Rattle.prem_text.specs.declared.lexing.lexer.Mode.TheVariants.{Skip, Line, Block}
+use Rattle.prem_text.specs.declared.lexing.lexer.Cursor.{Cursor}
+use Rattle.prem_text.specs.Lexing.Tokens.{is_blank, is_printable, first_token, place, behind, begins_with, start, step, put, lex, with_front}
+use Rattle.prem_text.proofs.LexingLemmas.Lexing.{lex_cons}
 use Rattle.prem_text.specs.Spelling.Spellings.{every}
 use Rattle.prem_text.specs.Spelling.Division.{is_feed, has_close, ends_line, Gap, a_blank, a_block, a_line, opens_comment, IsToken, place_behind}
 use Rattle.prem_text.proofs.SpellingLemmas.Front.{token_ready}

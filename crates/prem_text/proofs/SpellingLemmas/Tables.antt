@@ -3,10 +3,10 @@ use Rattle.std.specs.Prelude.{◌⊎◌}
 use Rattle.std.proofs.Common.{◌≡◌, ℕ, Bool, true, false, List, [], ◌∷◌, Option, None, Some, refl, sym, ap, subst, ◌∙◌, not, ◌&&◌, ◌||◌, bytes_eq, is_none, inl, inr, if◌then◌else◌}
 use Rattle.std.proofs.lemmas.Bool.{and_parts, or_left, not-true}
 use Rattle.std.proofs.lemmas.Slice.Eq.{bytes_eq-Decides}
-use Rattle.prem_lexer.specs.declared.token.token.Word.{Word}
-use Rattle.prem_lexer.specs.declared.token.token.Word.TheVariants as w
-use Rattle.prem_lexer.specs.Spelling.{words, unused, word_in, used_word, is_one_of, is_unused, reserved_word}
-use Rattle.prem_lexer.specs.Tokens.{is_name_byte}
+use Rattle.prem_text.specs.declared.lexing.token.token.Word.{Word}
+use Rattle.prem_text.specs.declared.lexing.token.token.Word.TheVariants as w
+use Rattle.prem_text.specs.Lexing.Spelling.{words, unused, word_in, used_word, is_one_of, is_unused, reserved_word}
+use Rattle.prem_text.specs.Lexing.Tokens.{is_name_byte}
 use Rattle.prem_text.specs.Spelling.Spellings.{StandsIn, at_front, further, every, is_letter, Reserved, used, without_use}
 
 pub stands_every : {X : Type 0} (p : X → Bool) (x : X) (xs : List X) → StandsIn x xs → every p xs ≡ true → p x ≡ true

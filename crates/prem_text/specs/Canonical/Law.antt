@@ -1,10 +1,10 @@
 -- What holds of the canonical spelling of a text's tree.
 use Rattle.std.specs.Prelude.{◌≡◌, ℕ, ◌+◌, ◌≤◌, ◌<◌, List, [], ◌∷◌, ◌++◌, length, map, Result, Ok, Err}
 use Rattle.prem_syntax.specs.Syntax.{Expression, ProgramText}
-use Rattle.prem_lexer.specs.declared.token.fail.FrontFail.{FrontFail}
-use Rattle.prem_lexer.specs.declared.token.fail.FrontFail.TheVariants.{TooLong, TooDeep}
-use Rattle.prem_lexer.specs.declared.token.token.Mark.TheVariants as m
-use Rattle.prem_lexer.specs.Token.Lexeme.{Lexeme, mark, end_of_text, Seen}
+use Rattle.prem_text.specs.declared.lexing.token.fail.FrontFail.{FrontFail}
+use Rattle.prem_text.specs.declared.lexing.token.fail.FrontFail.TheVariants.{TooLong, TooDeep}
+use Rattle.prem_text.specs.declared.lexing.token.token.Mark.TheVariants as m
+use Rattle.prem_text.specs.Lexing.Token.Lexeme.{Lexeme, mark, end_of_text, Seen}
 use Rattle.prem_text.specs.Grammar.Phrases.{Phrase, spelled, tree, IsExpression}
 use Rattle.prem_text.specs.Grammar.ProgramPhrases.{ProgramPhrase, IsProgram, program_tokens, program_tree}
 use Rattle.prem_text.specs.Grammar.Law.{IsPast}

@@ -5,9 +5,9 @@ use Rattle.prem_word.specs.declared.kind.BinOp.{BinOp}
 use Rattle.prem_syntax.specs.declared.tree.Place.{Place}
 use Rattle.prem_syntax.specs.declared.tree.UnOp.{UnOp}
 use Rattle.prem_syntax.specs.Syntax.{Text, Expression, literal, variable, element, unary, binary}
-use Rattle.prem_lexer.specs.declared.token.token.Mark.{Mark}
-use Rattle.prem_lexer.specs.declared.token.token.Mark.TheVariants as m
-use Rattle.prem_lexer.specs.Token.Lexeme.{name, number, mark, Seen}
+use Rattle.prem_text.specs.declared.lexing.token.token.Mark.{Mark}
+use Rattle.prem_text.specs.declared.lexing.token.token.Mark.TheVariants as m
+use Rattle.prem_text.specs.Lexing.Token.Lexeme.{name, number, mark, Seen}
 use Rattle.prem_text.specs.Grammar.Slots.{Slot, fits, text_at}
 use Rattle.prem_text.specs.Grammar.Expression.{infix_of, prefix_of, level_of}
 

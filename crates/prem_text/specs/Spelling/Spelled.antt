@@ -1,6 +1,6 @@
 -- Texts that are made of spellings.
 use Rattle.std.specs.Prelude.{ℕ, List, [], ◌∷◌, ◌++◌}
-use Rattle.prem_lexer.specs.Token.Lexeme.{Lexeme, Seen}
+use Rattle.prem_text.specs.Lexing.Token.Lexeme.{Lexeme, Seen}
 use Rattle.prem_text.specs.Spelling.Spellings.{Spells}
 use Rattle.prem_text.specs.Spelling.Division.{place_behind}
 

@@ -2,10 +2,10 @@
 use Rattle.std.proofs.lemmas.Bool.Decides.{nat_tests}
 use Rattle.std.proofs.Common.{◌≡◌, ◌≤◌, ◌<◌, nat_lt, Bool, true, false, arith, ℕ, suc, List, [], ◌∷◌, ◌++◌, length, Result, Ok, Err, refl, ap, sym, subst, ◌∙◌, map}
 use Rattle.prem_syntax.specs.Syntax.{ProgramText}
-use Rattle.prem_lexer.specs.declared.token.fail.FrontFail.{FrontFail}
-use Rattle.prem_lexer.specs.declared.token.fail.FrontFail.TheVariants.{TooLong}
-use Rattle.prem_lexer.specs.Token.Lexeme.{Lexeme, end_of_text, Seen}
-use Rattle.prem_lexer.specs.Tokens.{tokens_of}
+use Rattle.prem_text.specs.declared.lexing.token.fail.FrontFail.{FrontFail}
+use Rattle.prem_text.specs.declared.lexing.token.fail.FrontFail.TheVariants.{TooLong}
+use Rattle.prem_text.specs.Lexing.Token.Lexeme.{Lexeme, end_of_text, Seen}
+use Rattle.prem_text.specs.Lexing.Tokens.{tokens_of}
 use Rattle.prem_text.specs.Spelling.Spelled.{placed}
 use Rattle.prem_text.specs.Spelling.Division.{Divides, AreTokens, too_long, too_many, place_behind}
 use Rattle.prem_text.specs.Grammar.Item.{outside, finished}

@@ -13,12 +13,12 @@ use Rattle.prem_word.specs.declared.kind.Kind.{Kind}
 use Rattle.prem_word.specs.declared.kind.Kind.TheVariants.{Int, Unsigned}
 use Rattle.prem_syntax.specs.declared.tree.Place.{Place}
 use Rattle.prem_syntax.specs.Syntax.{Text, Expression, literal, Statement, block, if_then, if_else, bounded_while, counting_for, assign, output, input, call, Statements, no_statements, next_statement, RegionText, MarkText, FunctionText, ItemText, global_item, function_item, ProgramText}
-use Rattle.prem_lexer.specs.declared.token.token.Word.{Word}
-use Rattle.prem_lexer.specs.declared.token.token.Mark.TheVariants as m
-use Rattle.prem_lexer.specs.declared.token.token.Word.TheVariants as w
-use Rattle.prem_lexer.specs.Spelling.{words, unused}
-use Rattle.prem_lexer.specs.Token.Lexeme.{Lexeme, name, number, word, mark, end_of_text}
-use Rattle.prem_lexer.specs.Tokens.{is_digit, is_name_byte}
+use Rattle.prem_text.specs.declared.lexing.token.token.Word.{Word}
+use Rattle.prem_text.specs.declared.lexing.token.token.Mark.TheVariants as m
+use Rattle.prem_text.specs.declared.lexing.token.token.Word.TheVariants as w
+use Rattle.prem_text.specs.Lexing.Spelling.{words, unused}
+use Rattle.prem_text.specs.Lexing.Token.Lexeme.{Lexeme, name, number, word, mark, end_of_text}
+use Rattle.prem_text.specs.Lexing.Tokens.{is_digit, is_name_byte}
 use Rattle.prem_text.specs.Spelling.Spellings.{StandsIn, at_front, further, every, Reserved, used, without_use, Spells, as_name, as_word, as_literal, as_mark}
 use Rattle.prem_text.specs.Canonical.Unplaced.{unplaced_statement, unplaced_statements, unplaced_item, unplaced}
 use Rattle.prem_text.specs.Canonical.Canonical.{number_lexeme, expression_lexemes, while_lexemes, for_lexemes, bound_lexemes, step_lexemes, if_lexemes, statement_lexemes, statements_lexemes, declaration_lexemes, regions_lexemes, mark_lexemes, parameters_lexemes, locals_lexemes, result_lexemes, function_lexemes, item_lexemes, program_lexemes, type_lexemes}

@@ -4,11 +4,11 @@ use Rattle.std.specs.List.{list_any}
 use Rattle.std.proofs.Common.{◌≡◌, ℕ, zero, suc, ◌+◌, ◌<◌, ◌≤◌, false, ◌||◌, List, [], length, refl, sym, subst, arith, Result, Ok, true≢false, ⊎_elim}
 use Rattle.std.proofs.lemmas.Bool.{ltb-false, cases_lt}
 use Rattle.prem_syntax.specs.Syntax.{Text, ProgramText, function_item}
-use Rattle.prem_meaning.specs.Resolve.{functions_of, globals_of}
-use Rattle.prem_meaning.specs.Breaches.{in_limits}
-use Rattle.prem_meaning.specs.GroupTwo.{IsWellFormed}
-use Rattle.prem_lexer.specs.declared.token.fail.FrontFail.{FrontFail}
-use Rattle.prem_lexer.specs.Token.Lexeme.{name}
+use Rattle.prem_syntax.specs.Resolve.{functions_of, globals_of}
+use Rattle.prem_syntax.specs.Breaches.{in_limits}
+use Rattle.prem_syntax.specs.GroupTwo.{IsWellFormed}
+use Rattle.prem_text.specs.declared.lexing.token.fail.FrontFail.{FrontFail}
+use Rattle.prem_text.specs.Lexing.Token.Lexeme.{name}
 use Rattle.prem_text.specs.Texts.{reads}
 use Rattle.prem_text.specs.Spelling.Spellings.{Spells}
 use Rattle.prem_text.specs.Canonical.Canonical.{function_lexemes}

@@ -4,11 +4,11 @@ use Rattle.prem_syntax.specs.declared.tree.Program.{Program}
 use Rattle.prem_syntax.specs.Name.{name_bytes}
 use Rattle.prem_syntax.specs.Syntax.{Text, ProgramText}
 use Rattle.prem_syntax.specs.SyntaxOf.{program_of}
-use Rattle.prem_meaning.specs.Resolve.{functions_of, number_named}
-use Rattle.prem_meaning.specs.Source.{source}
-use Rattle.prem_meaning.specs.GroupTwo.{IsWellFormed}
-use Rattle.prem_lexer.specs.declared.token.fail.FrontFail.{FrontFail}
-use Rattle.prem_lexer.specs.declared.token.fail.FrontFail.TheVariants.{TooLong, TooDeep}
+use Rattle.prem_syntax.specs.Resolve.{functions_of, number_named}
+use Rattle.prem_syntax.specs.Source.{source}
+use Rattle.prem_syntax.specs.GroupTwo.{IsWellFormed}
+use Rattle.prem_text.specs.declared.lexing.token.fail.FrontFail.{FrontFail}
+use Rattle.prem_text.specs.declared.lexing.token.fail.FrontFail.TheVariants.{TooLong, TooDeep}
 use Rattle.prem_text.specs.Texts.{reads}
 use Rattle.prem_text.specs.Canonical.Printed.{printed}
 use Rattle.prem_text.specs.Canonical.Unplaced.{unplaced}

@@ -11,13 +11,13 @@ use Rattle.prem_syntax.specs.declared.rules.TypeRule.TheVariants as rule
 use Rattle.prem_syntax.specs.declared.meaning.Meaning.{Meaning}
 use Rattle.prem_syntax.specs.declared.meaning.Meaning.TheVariants.{Nothing, Local as LocalName, Scalar as ScalarName, Array as ArrayName, Function as FunctionName}
 use Rattle.prem_syntax.specs.Syntax.{Text, Expression, Statement, block, if_then, if_else, bounded_while, counting_for, assign, output, input, call, Statements, no_statements, next_statement, FunctionText}
-use Rattle.prem_meaning.specs.Resolved.{Term, Steps, Done, Call}
-use Rattle.prem_meaning.specs.Resolve.{Scope, meaning_of, find_function, resolve_term, loops_in, set_steps, input_steps, loop_local, number_named, target_of, call_steps, resolve_statement, resolve_statements}
-use Rattle.prem_meaning.specs.Expressions.{Outcome, and_then, cell, or_wrong, eval, eval_all}
-use Rattle.prem_meaning.specs.Statements.{ProgramState, Calls, choose, value, values, with_local, stored, with_cell, store, with_output, take_input, holds, in_bound, int_local, loop_test, loop_step, counting, with_target, run}
-use Rattle.prem_meaning.specs.Source.{everywhere}
-use Rattle.prem_meaning.specs.Rules.{OfTypes, CallOrder, MarkedCall as MarkedCallRule, LoopForm}
-use Rattle.prem_meaning.specs.Breaches.{Around, if_at, is_between, is_loop, is_void, is_marked_text, in_expression, in_expressions, in_call_target, in_callee, in_names, in_statement, in_statements}
+use Rattle.prem_syntax.specs.Resolved.{Term, Steps, Done, Call}
+use Rattle.prem_syntax.specs.Resolve.{Scope, meaning_of, find_function, resolve_term, loops_in, set_steps, input_steps, loop_local, number_named, target_of, call_steps, resolve_statement, resolve_statements}
+use Rattle.prem_syntax.specs.Expressions.{Outcome, and_then, cell, or_wrong, eval, eval_all}
+use Rattle.prem_syntax.specs.Statements.{ProgramState, Calls, choose, value, values, with_local, stored, with_cell, store, with_output, take_input, holds, in_bound, int_local, loop_test, loop_step, counting, with_target, run}
+use Rattle.prem_syntax.specs.Source.{everywhere}
+use Rattle.prem_syntax.specs.Rules.{OfTypes, CallOrder, MarkedCall as MarkedCallRule, LoopForm}
+use Rattle.prem_syntax.specs.Breaches.{Around, if_at, is_between, is_loop, is_void, is_marked_text, in_expression, in_expressions, in_call_target, in_callee, in_names, in_statement, in_statements}
 use Rattle.prem_tiling.specs.Shapes.Tiled.{tile_name, calls_from, with_tiles, all_with_tiles}
 use Rattle.prem_tiling.specs.Laws.Runs.{renumbered, MarksTiled}
 use Rattle.prem_tiling.proofs.LawsLemmas.Joint.{Joint, fine, wrong, joint_then, same_then, counting_joint, bounded_joint}

@@ -6,10 +6,10 @@ use Rattle.std.proofs.lemmas.Bool.{or_cases, eqb-true, eq-eqb, ltb-true}
 use Rattle.prem_syntax.specs.declared.tree.Place.{Place}
 use Rattle.prem_syntax.specs.declared.rules.TypeRule.TheVariants as rule
 use Rattle.prem_syntax.specs.Syntax.{Text, Expression, Statement, block, if_then, if_else, bounded_while, counting_for, assign, output, input, call, Statements, no_statements, next_statement, FunctionText, global_item, function_item, ProgramText, GlobalVariable}
-use Rattle.prem_meaning.specs.Resolve.{find_function, functions_of, scope_at, scope_in}
-use Rattle.prem_meaning.specs.Reach.{has_number, is_in_set}
-use Rattle.prem_meaning.specs.Rules.{CallOrder, MarkedCall, OfTypes, LoopForm}
-use Rattle.prem_meaning.specs.Breaches.{Around, around, if_at, in_expression, in_expressions, in_call_target, in_callee, in_names, is_between, is_loop, is_void, is_marked_text, in_statement, in_statements, in_option, in_regions, regions_of, in_heading, in_parameters, in_locals, parameter_texts, callee_number, callees, callees_within, in_function, in_global, in_items}
+use Rattle.prem_syntax.specs.Resolve.{find_function, functions_of, scope_at, scope_in}
+use Rattle.prem_syntax.specs.Reach.{has_number, is_in_set}
+use Rattle.prem_syntax.specs.Rules.{CallOrder, MarkedCall, OfTypes, LoopForm}
+use Rattle.prem_syntax.specs.Breaches.{Around, around, if_at, in_expression, in_expressions, in_call_target, in_callee, in_names, is_between, is_loop, is_void, is_marked_text, in_statement, in_statements, in_option, in_regions, regions_of, in_heading, in_parameters, in_locals, parameter_texts, callee_number, callees, callees_within, in_function, in_global, in_items}
 use Rattle.prem_tiling.specs.Shapes.Shape.{has_call, have_call}
 use Rattle.prem_tiling.specs.Shapes.Tiled.{Cut, tile_name, calls_from, with_tiles, all_with_tiles}
 use Rattle.prem_tiling.specs.Laws.Runs.{renumbered}

@@ -2,10 +2,10 @@
 use Rattle.std.specs.Prelude.{slice_get}
 use Rattle.std.proofs.Common.{◌≡◌, ℕ, zero, suc, ◌+◌, ◌-◌, ◌<◌, ◌≤◌, Bool, true, false, cond, List, [], ◌∷◌, length, refl, ap, sym, ◌∙◌, subst, arith, Option, None, Some, Err, ◌⊎◌, inl, inr, ⊎_elim}
 use Rattle.std.proofs.lemmas.Bool.{cases_lt, cases_eq, eq-eqb, ne_eqb, lt-ltb, le-ltb}
-use Rattle.prem_meaning.specs.Resolved.{Routine}
-use Rattle.prem_meaning.specs.Expressions.{and_then}
-use Rattle.prem_meaning.specs.Statements.{ProgramState, Calls, is_marked, enter}
-use Rattle.prem_meaning.specs.Source.{access_of, enter_if_there, this_or, calls_below, everywhere, unlimited}
+use Rattle.prem_syntax.specs.Resolved.{Routine}
+use Rattle.prem_syntax.specs.Expressions.{and_then}
+use Rattle.prem_syntax.specs.Statements.{ProgramState, Calls, is_marked, enter}
+use Rattle.prem_syntax.specs.Source.{access_of, enter_if_there, this_or, calls_below, everywhere, unlimited}
 use Rattle.prem_tiling.specs.Laws.Runs.{renumbered}
 use Rattle.prem_tiling.proofs.LawsLemmas.Joint.{Joint, wrong}
 use Rattle.prem_tiling.proofs.LawsLemmas.Alike.{Alike, calls_all, CallsAlike}

@@ -4,10 +4,10 @@ use Rattle.std.proofs.Common.{◌≡◌, ℕ, zero, suc, ◌+◌, ◌-◌, ◌*�
 use Rattle.std.proofs.lemmas.List.{length-set, get_or-set_same, append-nil}
 use Rattle.std.proofs.lemmas.Bool.{eqb-true}
 use Rattle.prem_syntax.specs.Syntax.{Text, Statement}
-use Rattle.prem_meaning.specs.Resolved.{Routine}
-use Rattle.prem_meaning.specs.Expressions.{Outcome, and_then, Access}
-use Rattle.prem_meaning.specs.Statements.{ProgramState, MarkedCall, Calls, with_local, is_marked, leave, with_mark}
-use Rattle.prem_meaning.specs.Breaches.{Around}
+use Rattle.prem_syntax.specs.Resolved.{Routine}
+use Rattle.prem_syntax.specs.Expressions.{Outcome, and_then, Access}
+use Rattle.prem_syntax.specs.Statements.{ProgramState, MarkedCall, Calls, with_local, is_marked, leave, with_mark}
+use Rattle.prem_syntax.specs.Breaches.{Around}
 use Rattle.prem_tiling.specs.Shapes.Carried.{stale_first}
 use Rattle.prem_tiling.specs.Laws.Runs.{AreTiles}
 use Rattle.prem_tiling.proofs.LawsLemmas.Joint.{Joint, fine, wrong, joint_then, joint_mapped}

@@ -7,12 +7,12 @@ use Rattle.prem_word.specs.declared.kind.Kind.TheVariants.{Int}
 use Rattle.prem_word.specs.Words.{value_in}
 use Rattle.prem_syntax.specs.declared.tree.Place.{Place}
 use Rattle.prem_syntax.specs.Syntax.{Text, Statement}
-use Rattle.prem_meaning.specs.Resolved.{Constant, Steps, Done, For, Routine}
-use Rattle.prem_meaning.specs.Resolve.{resolve_statement}
-use Rattle.prem_meaning.specs.Expressions.{Outcome, and_then}
-use Rattle.prem_meaning.specs.Statements.{ProgramState, MarkedCall, Calls, with_local, in_bound, loop_test, loop_step, counting, run, declare, result_of, with_mark, is_marked, leave, enter}
-use Rattle.prem_meaning.specs.Source.{everywhere}
-use Rattle.prem_meaning.specs.Breaches.{Around}
+use Rattle.prem_syntax.specs.Resolved.{Constant, Steps, Done, For, Routine}
+use Rattle.prem_syntax.specs.Resolve.{resolve_statement}
+use Rattle.prem_syntax.specs.Expressions.{Outcome, and_then}
+use Rattle.prem_syntax.specs.Statements.{ProgramState, MarkedCall, Calls, with_local, in_bound, loop_test, loop_step, counting, run, declare, result_of, with_mark, is_marked, leave, enter}
+use Rattle.prem_syntax.specs.Source.{everywhere}
+use Rattle.prem_syntax.specs.Breaches.{Around}
 use Rattle.prem_tiling.specs.Shapes.Carried.{stale_first}
 use Rattle.prem_tiling.specs.Laws.Runs.{AreTiles, MarksTiled, no_marks, tile_marks}
 use Rattle.prem_tiling.proofs.LawsLemmas.Joint.{Joint, fine, wrong}

@@ -5,8 +5,8 @@ use Rattle.std.proofs.Common.{◌≡◌, ℕ, zero, suc, ◌+◌, ◌-◌, ◌<�
 use Rattle.std.proofs.lemmas.List.{length-map, length-append}
 use Rattle.std.proofs.lemmas.Bool.{cases_lt}
 use Rattle.prem_syntax.specs.Syntax.{Text, FunctionText}
-use Rattle.prem_meaning.specs.Resolve.{find_named, find_function, number_named}
-use Rattle.prem_meaning.specs.Breaches.{is_marked_text}
+use Rattle.prem_syntax.specs.Resolve.{find_named, find_function, number_named}
+use Rattle.prem_syntax.specs.Breaches.{is_marked_text}
 use Rattle.prem_tiling.specs.Shapes.Tiled.{Cut, tile_name, tile_of, function_with_tiles}
 use Rattle.prem_tiling.specs.Laws.Runs.{renumbered}
 use Rattle.prem_tiling.proofs.LawsLemmas.Alike.{Renamed}

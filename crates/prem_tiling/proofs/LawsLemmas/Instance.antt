@@ -1,7 +1,7 @@
 -- A program whose function can be cut.
 use Rattle.std.specs.Fmt.{digits}
 use Rattle.std.proofs.Common.{refl, arith}
-use Rattle.prem_meaning.specs.GroupTwo.{IsWellFormed, group_two}
+use Rattle.prem_syntax.specs.GroupTwo.{IsWellFormed, group_two}
 use Rattle.prem_tiling.specs.Laws.CanCut.{CanCut}
 use Rattle.prem_tiling.proofs.ShapesLemmas.Rows.{eight, eight_cut}
 

@@ -7,11 +7,11 @@ use Rattle.std.proofs.lemmas.Bool.{lt-ltb, le-ltb}
 use Rattle.prem_word.specs.declared.kind.Kind.TheVariants.{Int}
 use Rattle.prem_word.specs.Words.{value_in, word_of}
 use Rattle.prem_syntax.specs.Syntax.{Text, Statement}
-use Rattle.prem_meaning.specs.Resolved.{Steps, Done}
-use Rattle.prem_meaning.specs.Resolve.{resolve_statement}
-use Rattle.prem_meaning.specs.Expressions.{Outcome, and_then, Access}
-use Rattle.prem_meaning.specs.Statements.{ProgramState, MarkedCall, Calls, choose, with_local, int_local, loop_step, counting, run}
-use Rattle.prem_meaning.specs.Breaches.{Around, in_statement}
+use Rattle.prem_syntax.specs.Resolved.{Steps, Done}
+use Rattle.prem_syntax.specs.Resolve.{resolve_statement}
+use Rattle.prem_syntax.specs.Expressions.{Outcome, and_then, Access}
+use Rattle.prem_syntax.specs.Statements.{ProgramState, MarkedCall, Calls, choose, with_local, int_local, loop_step, counting, run}
+use Rattle.prem_syntax.specs.Breaches.{Around, in_statement}
 use Rattle.prem_tiling.specs.Shapes.Shape.{has_call}
 use Rattle.prem_tiling.specs.Shapes.Carried.{assigns, LocalSet, stale_first, behind, carried_in}
 use Rattle.prem_tiling.proofs.LawsLemmas.Joint.{Joint, fine, wrong, joint_then, joint_mapped}

@@ -6,15 +6,15 @@ use Rattle.std.proofs.lemmas.List.{length-map, length-append}
 use Rattle.std.proofs.lemmas.Bool.{cases_lt, lt-ltb, ltb-true, eqb-true, eq-eqb}
 use Rattle.std.proofs.Math.Nat.{mul-lt-mul_of_pos_right, mul_comm, div-lt_iff_lt-mul}
 use Rattle.prem_syntax.specs.Syntax.{Text, MarkText, LocalVariable, GlobalVariable, FunctionText, function_item, ProgramText}
-use Rattle.prem_meaning.specs.Resolved.{Constant, Steps, Done, For, Routine, Resolved}
-use Rattle.prem_meaning.specs.Resolve.{Scope, find_named, find_function, number_named, meaning_of, loop_local, resolve_term, resolve_statement, resolve_statements, parameter_names, local_names, scope_at, scope_in, resolve_function, resolve_items, resolve, globals_of, functions_of}
-use Rattle.prem_meaning.specs.Expressions.{Outcome}
-use Rattle.prem_meaning.specs.Statements.{ProgramState, Calls, enter}
-use Rattle.prem_meaning.specs.Source.{calls_below, everywhere, unlimited, start, do_jobs, source, initial_words}
-use Rattle.prem_meaning.specs.Rules.{NoJob, LoopForm}
-use Rattle.prem_meaning.specs.Reach.{is_in_set}
-use Rattle.prem_meaning.specs.Breaches.{Around, around, if_at, if_broken, is_job_name, is_loop, in_names, in_expression, in_regions, regions_of, in_heading, in_parameters, in_locals, in_statement, in_statements, in_option, parameter_texts, in_function, in_items, item_names, in_limits, has_name, reached}
-use Rattle.prem_meaning.specs.GroupTwo.{IsWellFormed}
+use Rattle.prem_syntax.specs.Resolved.{Constant, Steps, Done, For, Routine, Resolved}
+use Rattle.prem_syntax.specs.Resolve.{Scope, find_named, find_function, number_named, meaning_of, loop_local, resolve_term, resolve_statement, resolve_statements, parameter_names, local_names, scope_at, scope_in, resolve_function, resolve_items, resolve, globals_of, functions_of}
+use Rattle.prem_syntax.specs.Expressions.{Outcome}
+use Rattle.prem_syntax.specs.Statements.{ProgramState, Calls, enter}
+use Rattle.prem_syntax.specs.Source.{calls_below, everywhere, unlimited, start, do_jobs, source, initial_words}
+use Rattle.prem_syntax.specs.Rules.{NoJob, LoopForm}
+use Rattle.prem_syntax.specs.Reach.{is_in_set}
+use Rattle.prem_syntax.specs.Breaches.{Around, around, if_at, if_broken, is_job_name, is_loop, in_names, in_expression, in_regions, regions_of, in_heading, in_parameters, in_locals, in_statement, in_statements, in_option, parameter_texts, in_function, in_items, item_names, in_limits, has_name, reached}
+use Rattle.prem_syntax.specs.GroupTwo.{IsWellFormed}
 use Rattle.prem_names.specs.Numbers.{number_of}
 use Rattle.prem_names.proofs.Firsts.{within_names}
 use Rattle.prem_tiling.specs.Shapes.Shape.{Loop, bound_of, turns_of}

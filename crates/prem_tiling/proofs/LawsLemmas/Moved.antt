@@ -5,11 +5,11 @@ use Rattle.prem_syntax.specs.declared.tree.Place.{Place}
 use Rattle.prem_syntax.specs.declared.tree.Ty.{Ty}
 use Rattle.prem_syntax.specs.declared.rules.TypeRule.TheVariants as rule
 use Rattle.prem_syntax.specs.Syntax.{Text, Parameter, LocalVariable, GlobalVariable, FunctionText, global_item, function_item, ProgramText}
-use Rattle.prem_meaning.specs.Resolve.{Scope, declared, scope_at, scope_in}
-use Rattle.prem_meaning.specs.Rules.{Twice, OfTypes}
-use Rattle.prem_meaning.specs.Reach.{is_in_set}
-use Rattle.prem_meaning.specs.Breaches.{around, if_at, has_name, is_void, is_narrow, is_range, is_job_name, is_marked_text, is_initial, in_declared, in_parameters, in_locals, in_expression, in_regions, regions_of, in_heading, in_statements, in_option, parameter_texts, in_function, in_global, in_items}
-use Rattle.prem_meaning.specs.Resolve.{functions_of}
+use Rattle.prem_syntax.specs.Resolve.{Scope, declared, scope_at, scope_in}
+use Rattle.prem_syntax.specs.Rules.{Twice, OfTypes}
+use Rattle.prem_syntax.specs.Reach.{is_in_set}
+use Rattle.prem_syntax.specs.Breaches.{around, if_at, has_name, is_void, is_narrow, is_range, is_job_name, is_marked_text, is_initial, in_declared, in_parameters, in_locals, in_expression, in_regions, regions_of, in_heading, in_statements, in_option, parameter_texts, in_function, in_global, in_items}
+use Rattle.prem_syntax.specs.Resolve.{functions_of}
 use Rattle.prem_tiling.specs.Shapes.Carried.{names_of}
 use Rattle.prem_tiling.specs.Shapes.Tiled.{Cut, tile_name, function_with_tiles, used_names}
 use Rattle.prem_tiling.specs.Laws.Runs.{renumbered}

@@ -7,7 +7,7 @@ use Rattle.std.proofs.lemmas.Int.{ints}
 use Rattle.std.proofs.lemmas.Bool.{cases_lt, lt-ltb, le-ltb, ltb-true, leb-true, leb-false}
 use Rattle.prem_word.specs.declared.kind.Kind.TheVariants.{Int}
 use Rattle.prem_word.specs.Words.{value_in, word_of}
-use Rattle.prem_meaning.specs.Statements.{in_bound}
+use Rattle.prem_syntax.specs.Statements.{in_bound}
 use Rattle.prem_tiling.specs.Shapes.Shape.{turns_between}
 
 -- a test is decided by what it tests

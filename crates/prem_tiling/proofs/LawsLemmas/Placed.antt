@@ -5,10 +5,10 @@ use Rattle.std.proofs.Common.{◌≡◌, ℕ, zero, suc, ◌+◌, ◌^◌, ◌<�
 use Rattle.std.proofs.lemmas.Fmt.{decimal_injective}
 use Rattle.std.proofs.lemmas.Slice.Eq.{bytes_eq-Decides}
 use Rattle.prem_syntax.specs.Syntax.{Text, GlobalVariable, FunctionText, ItemText, global_item, function_item, ProgramText}
-use Rattle.prem_meaning.specs.Resolve.{globals_of, functions_of, scope_at}
-use Rattle.prem_meaning.specs.Rules.{Twice}
-use Rattle.prem_meaning.specs.Reach.{is_in_set}
-use Rattle.prem_meaning.specs.Breaches.{has_name, in_global, in_regions, regions_of, in_heading, in_function, in_items, item_names, parameter_texts}
+use Rattle.prem_syntax.specs.Resolve.{globals_of, functions_of, scope_at}
+use Rattle.prem_syntax.specs.Rules.{Twice}
+use Rattle.prem_syntax.specs.Reach.{is_in_set}
+use Rattle.prem_syntax.specs.Breaches.{has_name, in_global, in_regions, regions_of, in_heading, in_function, in_items, item_names, parameter_texts}
 use Rattle.prem_names.specs.Numbers.{number_of}
 use Rattle.prem_tiling.specs.Shapes.Carried.{names_of}
 use Rattle.prem_tiling.specs.Shapes.Tiled.{Cut, tile_name, tile_of, tiles_from, function_with_tiles, item_with_tiles, tiled, used_names}

@@ -7,9 +7,9 @@ use Rattle.std.proofs.lemmas.Bool.Decides.{nat_tests}
 use Rattle.prem_syntax.specs.declared.tree.Place.{Place}
 use Rattle.prem_syntax.specs.declared.rules.TypeRule.TheVariants as rule
 use Rattle.prem_syntax.specs.Syntax.{Text, Expression, Statement, block, if_then, if_else, bounded_while, counting_for, assign, output, input, call, Statements, no_statements, next_statement, RegionText, GlobalVariable, FunctionText}
-use Rattle.prem_meaning.specs.Resolve.{Scope, find_global, meaning_of}
-use Rattle.prem_meaning.specs.Rules.{SystemCall, LoopForm, OfTypes}
-use Rattle.prem_meaning.specs.Breaches.{Around, if_at, in_expression, in_option, in_assigned, in_target, in_names, is_between, is_loop, in_statement, in_statements, in_region, in_regions}
+use Rattle.prem_syntax.specs.Resolve.{Scope, find_global, meaning_of}
+use Rattle.prem_syntax.specs.Rules.{SystemCall, LoopForm, OfTypes}
+use Rattle.prem_syntax.specs.Breaches.{Around, if_at, in_expression, in_option, in_assigned, in_target, in_names, is_between, is_loop, in_statement, in_statements, in_region, in_regions}
 use Rattle.prem_tiling.specs.Shapes.Shape.{has_call, have_call}
 use Rattle.prem_tiling.specs.Shapes.Narrowed.{Added, nothing, within, elsewhere, added_in, cut_to, narrowed}
 use Rattle.prem_tiling.specs.Shapes.Tiled.{Cut, low_of, last_of, tile_region}

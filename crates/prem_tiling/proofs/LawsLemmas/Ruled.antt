@@ -8,11 +8,11 @@ use Rattle.std.proofs.lemmas.Bool.{cases_eq}
 use Rattle.std.proofs.lemmas.Slice.Eq.{bytes_eq-Decides}
 use Rattle.prem_syntax.specs.declared.rules.TypeRule.TheVariants as rule
 use Rattle.prem_syntax.specs.Syntax.{Text, MarkText, GlobalVariable, FunctionText, global_item, function_item, ProgramText}
-use Rattle.prem_meaning.specs.Resolve.{Scope, scope_at, scope_in, globals_of, functions_of}
-use Rattle.prem_meaning.specs.Rules.{Breach, NoJob, Twice, OfTypes, LoopForm, first_of}
-use Rattle.prem_meaning.specs.Reach.{has_number, is_in_set, reached_by}
-use Rattle.prem_meaning.specs.Breaches.{Around, around, if_at, if_broken, is_job_name, is_marked_text, is_narrow, is_void, is_loop, in_names, in_expression, in_regions, regions_of, in_heading, in_parameters, in_locals, in_statement, in_statements, in_option, parameter_texts, callees, callees_within, in_function, in_items, item_name, item_names, in_limits, has_name, breaches, reached, table_of}
-use Rattle.prem_meaning.specs.GroupTwo.{group_two, IsWellFormed}
+use Rattle.prem_syntax.specs.Resolve.{Scope, scope_at, scope_in, globals_of, functions_of}
+use Rattle.prem_syntax.specs.Rules.{Breach, NoJob, Twice, OfTypes, LoopForm, first_of}
+use Rattle.prem_syntax.specs.Reach.{has_number, is_in_set, reached_by}
+use Rattle.prem_syntax.specs.Breaches.{Around, around, if_at, if_broken, is_job_name, is_marked_text, is_narrow, is_void, is_loop, in_names, in_expression, in_regions, regions_of, in_heading, in_parameters, in_locals, in_statement, in_statements, in_option, parameter_texts, callees, callees_within, in_function, in_items, item_name, item_names, in_limits, has_name, breaches, reached, table_of}
+use Rattle.prem_syntax.specs.GroupTwo.{group_two, IsWellFormed}
 use Rattle.prem_tiling.specs.Shapes.Shape.{Loop}
 use Rattle.prem_tiling.specs.Shapes.Carried.{names_of}
 use Rattle.prem_tiling.specs.Shapes.Tiled.{Cut, tile_name, tile_names, tile_mark, tile_of, tiles_from, function_with_tiles, tiled, used_names}

@@ -10,9 +10,9 @@ use Rattle.prem_syntax.specs.declared.rules.TypeRule.TheVariants as rule
 use Rattle.prem_syntax.specs.declared.meaning.Meaning.{Meaning}
 use Rattle.prem_syntax.specs.declared.meaning.Meaning.TheVariants.{Nothing, Local as LocalName, Scalar as ScalarName, Array as ArrayName, Function as FunctionName}
 use Rattle.prem_syntax.specs.Syntax.{Text, Expression, literal, variable, element, unary, binary, LoopNames, Statement, block, if_then, if_else, bounded_while, counting_for, assign, output, input, call, Statements, no_statements, next_statement, Parameter, GlobalVariable, FunctionText}
-use Rattle.prem_meaning.specs.Resolve.{Scope, find_local, find_global, find_function, first_meaning, meaning_of, resolve_term, kind_of}
-use Rattle.prem_meaning.specs.Rules.{Rule, Breach, OfTypes, CallOrder, MarkedCall, SystemCall, LoopForm}
-use Rattle.prem_meaning.specs.Breaches.{Around, if_at, unknown, used_plain, used_indexed, in_expression, in_expressions, in_option, in_assigned, in_target, in_call_target, in_callee, in_names, is_local, is_int_local, is_int, same_name, assigns, assigns_within, is_between, is_loop, is_void, is_marked_text, in_statement, in_statements}
+use Rattle.prem_syntax.specs.Resolve.{Scope, find_local, find_global, find_function, first_meaning, meaning_of, resolve_term, kind_of}
+use Rattle.prem_syntax.specs.Rules.{Rule, Breach, OfTypes, CallOrder, MarkedCall, SystemCall, LoopForm}
+use Rattle.prem_syntax.specs.Breaches.{Around, if_at, unknown, used_plain, used_indexed, in_expression, in_expressions, in_option, in_assigned, in_target, in_call_target, in_callee, in_names, is_local, is_int_local, is_int, same_name, assigns, assigns_within, is_between, is_loop, is_void, is_marked_text, in_statement, in_statements}
 use Rattle.prem_tiling.specs.Shapes.Tiled.{Cut, tile_name, tile_of, calls_from, with_tiles, all_with_tiles, function_with_tiles}
 use Rattle.prem_tiling.specs.Laws.Runs.{renumbered}
 use Rattle.prem_tiling.proofs.LawsLemmas.Formed.{none_left, none_right, none_both, kept_rule, kept_rule_not, loop_parts}

@@ -10,10 +10,10 @@ use Rattle.prem_syntax.specs.declared.tree.Ty.{Ty}
 use Rattle.prem_syntax.specs.declared.tree.Ty.TheVariants.{Int as IntTy}
 use Rattle.prem_syntax.specs.declared.tree.UnOp.TheVariants.{Neg, Flip, Not}
 use Rattle.prem_syntax.specs.Syntax.{Text, Expression, literal, variable, element, unary, binary, Statement, block, if_then, if_else, bounded_while, counting_for, assign, output, input, call, Statements, no_statements, next_statement, Parameter, LocalVariable, GlobalVariable, FunctionText}
-use Rattle.prem_meaning.specs.Resolve.{Scope, find_named, find_local, find_global, find_function, global_meaning, first_meaning, meaning_of, local_number, declared, resolve_term, resolve_locals, local_names}
-use Rattle.prem_meaning.specs.Expressions.{Access, and_then, eval, unary_word}
-use Rattle.prem_meaning.specs.Statements.{ProgramState, declare, with_new_local}
-use Rattle.prem_meaning.specs.Breaches.{assigns as assigns_name, assigns_within as assigns_name_within}
+use Rattle.prem_syntax.specs.Resolve.{Scope, find_named, find_local, find_global, find_function, global_meaning, first_meaning, meaning_of, local_number, declared, resolve_term, resolve_locals, local_names}
+use Rattle.prem_syntax.specs.Expressions.{Access, and_then, eval, unary_word}
+use Rattle.prem_syntax.specs.Statements.{ProgramState, declare, with_new_local}
+use Rattle.prem_syntax.specs.Breaches.{assigns as assigns_name, assigns_within as assigns_name_within}
 use Rattle.prem_names.specs.Numbers.{number_of}
 use Rattle.prem_names.proofs.Named.{number_found, number_missing}
 use Rattle.prem_tiling.specs.Shapes.Shape.{is_constant, has_call, Number, Loop, number_of as number_at, loop_between, loop_of, only_loop, without_call, no_parameters, are_constants, shape_of}

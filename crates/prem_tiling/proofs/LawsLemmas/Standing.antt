@@ -4,11 +4,11 @@ use Rattle.std.proofs.Common.{◌≡◌, ℕ, ◌+◌, ◌<◌, Bool, true, fals
 use Rattle.std.proofs.lemmas.Bool.{and_parts, leb-true}
 use Rattle.prem_syntax.specs.declared.rules.TypeRule.TheVariants as rule
 use Rattle.prem_syntax.specs.Syntax.{Text, Expression, GlobalVariable, FunctionText, function_item, ProgramText}
-use Rattle.prem_meaning.specs.Resolve.{Scope, scope_at, scope_in, globals_of, functions_of}
-use Rattle.prem_meaning.specs.Rules.{Breach, NoJob, Twice, OfTypes, LoopForm}
-use Rattle.prem_meaning.specs.Reach.{is_in_set}
-use Rattle.prem_meaning.specs.Breaches.{Around, around, if_at, if_broken, is_job_name, is_marked_text, is_narrow, is_void, is_loop, in_names, in_expression, in_regions, regions_of, in_heading, in_parameters, in_locals, in_statement, in_statements, in_option, parameter_texts, in_function, in_items, item_names, in_limits, has_name, breaches, reached}
-use Rattle.prem_meaning.specs.GroupTwo.{group_two, IsWellFormed}
+use Rattle.prem_syntax.specs.Resolve.{Scope, scope_at, scope_in, globals_of, functions_of}
+use Rattle.prem_syntax.specs.Rules.{Breach, NoJob, Twice, OfTypes, LoopForm}
+use Rattle.prem_syntax.specs.Reach.{is_in_set}
+use Rattle.prem_syntax.specs.Breaches.{Around, around, if_at, if_broken, is_job_name, is_marked_text, is_narrow, is_void, is_loop, in_names, in_expression, in_regions, regions_of, in_heading, in_parameters, in_locals, in_statement, in_statements, in_option, parameter_texts, in_function, in_items, item_names, in_limits, has_name, breaches, reached}
+use Rattle.prem_syntax.specs.GroupTwo.{group_two, IsWellFormed}
 use Rattle.prem_tiling.specs.Shapes.Shape.{Loop, shape_of, marked_named}
 use Rattle.prem_tiling.specs.Shapes.Tiled.{Cut, tiled}
 use Rattle.prem_tiling.proofs.LawsLemmas.Formed.{none_left, none_right, kept_rule, kept_rule_not, none_broken, IsLoop, loop_parts}

@@ -6,8 +6,8 @@ use Rattle.prem_syntax.specs.declared.tree.Ty.{Ty}
 use Rattle.prem_syntax.specs.declared.meaning.Meaning.{Meaning}
 use Rattle.prem_syntax.specs.declared.meaning.Meaning.TheVariants.{Nothing, Function as FunctionName}
 use Rattle.prem_syntax.specs.Syntax.{Text, Expression, literal, variable, element, unary, binary, Statement, block, if_then, if_else, bounded_while, counting_for, assign, output, input, call, Statements, no_statements, next_statement, LocalVariable, GlobalVariable, FunctionText}
-use Rattle.prem_meaning.specs.Resolved.{Term, Steps, Done, Unary, If, For, While, Output}
-use Rattle.prem_meaning.specs.Resolve.{Scope, find_local, find_global, find_function, first_meaning, meaning_of, variable_term, element_term, binary_term, resolve_term, loops_in, set_steps, input_steps, loop_local, local_number, target_of, resolve_statement, resolve_statements, declared, resolve_locals}
+use Rattle.prem_syntax.specs.Resolved.{Term, Steps, Done, Unary, If, For, While, Output}
+use Rattle.prem_syntax.specs.Resolve.{Scope, find_local, find_global, find_function, first_meaning, meaning_of, variable_term, element_term, binary_term, resolve_term, loops_in, set_steps, input_steps, loop_local, local_number, target_of, resolve_statement, resolve_statements, declared, resolve_locals}
 use Rattle.prem_tiling.specs.Shapes.Shape.{has_call, have_call}
 use Rattle.prem_tiling.proofs.LawsLemmas.Tied.{neither_left, neither_right}
 

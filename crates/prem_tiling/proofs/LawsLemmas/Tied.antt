@@ -11,10 +11,10 @@ use Rattle.prem_syntax.specs.declared.tree.Ty.{Ty}
 use Rattle.prem_syntax.specs.declared.meaning.Meaning.{Meaning}
 use Rattle.prem_syntax.specs.declared.meaning.Meaning.TheVariants.{Nothing, Local as LocalName, Scalar as ScalarName, Array as ArrayName, Function as FunctionName}
 use Rattle.prem_syntax.specs.Syntax.{Text, Expression, literal, variable, element, unary, binary}
-use Rattle.prem_meaning.specs.Resolved.{Term, operator}
-use Rattle.prem_meaning.specs.Resolve.{Scope, meaning_of, operand_kind, kind_of, variable_term, element_term, resolve_term, local_number}
-use Rattle.prem_meaning.specs.Expressions.{and_then, Access, cell, or_wrong, eval, truth_of, unary_word, operate}
-use Rattle.prem_meaning.specs.Statements.{ProgramState, MarkedCall, value, with_local, stored, with_cell, store, with_output, take_input}
+use Rattle.prem_syntax.specs.Resolved.{Term, operator}
+use Rattle.prem_syntax.specs.Resolve.{Scope, meaning_of, operand_kind, kind_of, variable_term, element_term, resolve_term, local_number}
+use Rattle.prem_syntax.specs.Expressions.{and_then, Access, cell, or_wrong, eval, truth_of, unary_word, operate}
+use Rattle.prem_syntax.specs.Statements.{ProgramState, MarkedCall, value, with_local, stored, with_cell, store, with_output, take_input}
 use Rattle.prem_names.specs.Numbers.{number_of}
 use Rattle.prem_tiling.specs.Shapes.Carried.{LocalSet, without, first_line, is_stale, read_of}
 use Rattle.prem_tiling.proofs.LawsLemmas.Joint.{Joint, fine, same_then}

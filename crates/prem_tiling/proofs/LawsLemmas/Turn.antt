@@ -9,12 +9,12 @@ use Rattle.prem_syntax.specs.declared.tree.Place.{Place}
 use Rattle.prem_syntax.specs.declared.meaning.Meaning.{Meaning}
 use Rattle.prem_syntax.specs.declared.meaning.Meaning.TheVariants.{Nothing, Local as LocalName, Scalar as ScalarName, Array as ArrayName, Function as FunctionName}
 use Rattle.prem_syntax.specs.Syntax.{Text, Expression, Statement, block, if_then, if_else, bounded_while, counting_for, assign, output, input, call, Statements, no_statements, next_statement}
-use Rattle.prem_meaning.specs.Resolved.{Steps, Done}
-use Rattle.prem_meaning.specs.Resolve.{meaning_of, resolve_term, loops_in, set_steps, input_steps, loop_local, local_number, resolve_statement, resolve_statements}
-use Rattle.prem_meaning.specs.Expressions.{Outcome, and_then, Access}
-use Rattle.prem_meaning.specs.Statements.{ProgramState, MarkedCall, Calls, choose, value, with_local, store, with_output, take_input, holds, in_bound, int_local, loop_test, loop_step, counting, run}
-use Rattle.prem_meaning.specs.Rules.{LoopForm}
-use Rattle.prem_meaning.specs.Breaches.{Around, if_at, is_between, is_loop, in_expression, in_names, in_statement, in_statements}
+use Rattle.prem_syntax.specs.Resolved.{Steps, Done}
+use Rattle.prem_syntax.specs.Resolve.{meaning_of, resolve_term, loops_in, set_steps, input_steps, loop_local, local_number, resolve_statement, resolve_statements}
+use Rattle.prem_syntax.specs.Expressions.{Outcome, and_then, Access}
+use Rattle.prem_syntax.specs.Statements.{ProgramState, MarkedCall, Calls, choose, value, with_local, store, with_output, take_input, holds, in_bound, int_local, loop_test, loop_step, counting, run}
+use Rattle.prem_syntax.specs.Rules.{LoopForm}
+use Rattle.prem_syntax.specs.Breaches.{Around, if_at, is_between, is_loop, in_expression, in_names, in_statement, in_statements}
 use Rattle.prem_names.specs.Numbers.{number_of}
 use Rattle.prem_tiling.specs.Shapes.Shape.{has_call, have_call}
 use Rattle.prem_tiling.specs.Shapes.Carried.{is_number, is_local_named, assigns, assign_within, LocalSet, without, settled, settled_plain, behind, behind_all, first_line, read_of, read_of_option, read_in, read_within}

@@ -6,10 +6,10 @@ use Rattle.std.proofs.lemmas.List.{append-nil, length-map}
 use Rattle.std.proofs.lemmas.Bool.{cases_lt}
 use Rattle.std.proofs.lemmas.Slice.Eq.{bytes_eq-Decides}
 use Rattle.prem_syntax.specs.Syntax.{Text, GlobalVariable, FunctionText, global_item, function_item, ProgramText}
-use Rattle.prem_meaning.specs.Resolved.{Routine}
-use Rattle.prem_meaning.specs.Resolve.{find_named, find_function, number_named, resolve_function, resolve_items, loops_within, globals_of, functions_of}
-use Rattle.prem_meaning.specs.Reach.{is_in_set}
-use Rattle.prem_meaning.specs.Breaches.{is_void, in_function, in_items, in_global, item_names, has_name}
+use Rattle.prem_syntax.specs.Resolved.{Routine}
+use Rattle.prem_syntax.specs.Resolve.{find_named, find_function, number_named, resolve_function, resolve_items, loops_within, globals_of, functions_of}
+use Rattle.prem_syntax.specs.Reach.{is_in_set}
+use Rattle.prem_syntax.specs.Breaches.{is_void, in_function, in_items, in_global, item_names, has_name}
 use Rattle.prem_names.specs.Numbers.{number_of}
 use Rattle.prem_names.proofs.Firsts.{within_names}
 use Rattle.prem_tiling.specs.Shapes.Tiled.{Cut, tile_name, tile_of, tiles_from, function_with_tiles, tiled, used_names, taken_from}

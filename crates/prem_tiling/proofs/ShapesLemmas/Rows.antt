@@ -7,8 +7,8 @@ use Rattle.prem_word.specs.declared.kind.BinOp.TheVariants.{Add, Sub}
 use Rattle.prem_syntax.specs.declared.tree.Place.{Place}
 use Rattle.prem_syntax.specs.declared.tree.Ty.TheVariants.{Void, Int as IntTy}
 use Rattle.prem_syntax.specs.Syntax.{Text, Expression, literal, variable, element, binary, Statement, block, if_then, if_else, bounded_while, counting_for, assign, output, call, no_statements, absent, LocalVariable, RegionText, FunctionText, ItemText, ProgramText}
-use Rattle.prem_meaning.specs.Resolve.{functions_of}
-use Rattle.prem_meaning.proofs.Samples.{at, statements, one_name, local, region, global, function, plain}
+use Rattle.prem_syntax.specs.Resolve.{functions_of}
+use Rattle.prem_syntax.proofs.Samples.{at, statements, one_name, local, region, global, function, plain}
 use Rattle.prem_tiling.specs.Shapes.Shape.{Loop, shape_of, turns_of, marked_named}
 use Rattle.prem_tiling.specs.Shapes.Carried.{carried_in}
 use Rattle.prem_tiling.specs.Shapes.Narrowed.{Added, within, nothing, elsewhere, added_in}

@@ -1,7 +1,7 @@
 -- Names that are looked for.
 use Rattle.std.specs.Prelude.{if◌then◌else◌, List, Option, None, Some}
 use Rattle.prem_syntax.specs.Syntax.{Text}
-use Rattle.prem_meaning.specs.Breaches.{has_name}
+use Rattle.prem_syntax.specs.Breaches.{has_name}
 
 -- a name, where it is among others
 abbrev pub found_in : List Text → Text → Option Text

@@ -2,9 +2,9 @@
 use Rattle.std.specs.Prelude.{ℕ, nat_lt, Bool, true, false, ◌||◌, if◌then◌else◌, List, [], ◌∷◌, length, Option, None, Some, Result, Ok, Err}
 use Rattle.std.specs.List.{list_any}
 use Rattle.prem_syntax.specs.Syntax.{Text, FunctionText, ProgramText}
-use Rattle.prem_meaning.specs.Resolve.{functions_of, globals_of}
-use Rattle.prem_meaning.specs.Breaches.{in_limits}
-use Rattle.prem_meaning.specs.Rules.{Breach}
+use Rattle.prem_syntax.specs.Resolve.{functions_of, globals_of}
+use Rattle.prem_syntax.specs.Breaches.{in_limits}
+use Rattle.prem_syntax.specs.Rules.{Breach}
 use Rattle.prem_tiling.specs.Shapes.Shape.{Loop, marked_named, shape_of, turns_of}
 use Rattle.prem_tiling.specs.Shapes.Carried.{names_of, carried_in}
 use Rattle.prem_tiling.specs.Shapes.Tiled.{Cut, tile_names, tiled, used_names, taken_from}

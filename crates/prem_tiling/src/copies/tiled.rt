@@ -3,7 +3,7 @@ ghost use Rattle.std.specs.Prelude.{◌≡◌, ◌++◌, map, OnOk, IfOk, length
 ghost use Rattle.prem_list.specs.Sequence.{items_of};
 ghost use Rattle.prem_syntax.specs.Name.{name_bytes};
 ghost use Rattle.prem_syntax.specs.SyntaxOf.{item_of, function_of, program_of};
-ghost use Rattle.prem_meaning.specs.Resolve.{functions_of};
+ghost use Rattle.prem_syntax.specs.Resolve.{functions_of};
 ghost use Rattle.prem_tiling.specs.Shapes.Tiled.{tile_names, tiles_from, function_with_tiles, item_with_tiles, tiled};
 ghost use Rattle.prem_tiling.specs.Copies.CutOf.{cut_in, IsReady};
 

@@ -1,7 +1,7 @@
 -- Functions resolved one after another.
 use Rattle.std.proofs.Common.{◌≡◌, ℕ, ◌+◌, List, [], ◌∷◌, ◌++◌, refl, ap, ◌∙◌, sym, arith, append_assoc, append-nil}
 use Rattle.prem_syntax.specs.Syntax.{GlobalVariable, FunctionText, ProgramText, global_item, function_item}
-use Rattle.prem_meaning.specs.Resolve.{Scope, resolve_function, resolve_items, globals_of, loops_within}
+use Rattle.prem_syntax.specs.Resolve.{Scope, resolve_function, resolve_items, globals_of, loops_within}
 use Rattle.prem_names.specs.Scopes.{SameItems}
 use Rattle.prem_tree.specs.declared.resolve.resolved.Routine.{Routine as RoutineTree}
 use Rattle.prem_tree.specs.Resolve.ResolvedOf.{loops_of, routine_of, routines_of, all_loops, item_loops, IsRoutine, AreRoutines}

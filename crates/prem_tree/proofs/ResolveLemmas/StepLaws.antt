@@ -11,8 +11,8 @@ use Rattle.prem_syntax.specs.declared.tree.Function.{Function}
 use Rattle.prem_syntax.specs.declared.tree.Stmt.{Stmt}
 use Rattle.prem_syntax.specs.Syntax.{GlobalVariable, FunctionText}
 use Rattle.prem_syntax.specs.SyntaxOf.{function_of, statement_of, statements_of}
-use Rattle.prem_meaning.specs.Resolved.{Steps, Done, If, For, While}
-use Rattle.prem_meaning.specs.Resolve.{scope_at, scope_in, resolve_locals, resolve_term, Scope, loops_in, loops_within, resolve_statement, resolve_statements}
+use Rattle.prem_syntax.specs.Resolved.{Steps, Done, If, For, While}
+use Rattle.prem_syntax.specs.Resolve.{scope_at, scope_in, resolve_locals, resolve_term, Scope, loops_in, loops_within, resolve_statement, resolve_statements}
 use Rattle.prem_tree.specs.declared.resolve.resolved.Term.{Term as TermTree}
 use Rattle.prem_tree.specs.declared.resolve.resolved.Step.{Step, Block}
 use Rattle.prem_tree.specs.declared.resolve.resolved.Step.TheVariants.{If as IfTree, For as ForTree, While as WhileTree}

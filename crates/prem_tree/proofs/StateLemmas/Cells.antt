@@ -2,8 +2,8 @@
 use Rattle.std.specs.Prelude.{slice_get, slice_set}
 use Rattle.std.proofs.Common.{◌≡◌, ℕ, zero, suc, ◌<◌, ◌≤◌, List, [], ◌∷◌, length, get_or, map, refl, ap, sym, arith, None, Some, Ok}
 use Rattle.prem_syntax.specs.declared.tree.Ty.{Ty}
-use Rattle.prem_meaning.specs.Statements.{ProgramState, store, stored}
-use Rattle.prem_meaning.specs.Source.{everywhere}
+use Rattle.prem_syntax.specs.Statements.{ProgramState, store, stored}
+use Rattle.prem_syntax.specs.Source.{everywhere}
 
 -- an element that is there
 pub slice_get-map : {X Y : Type 0} (f : X → Y) (xs : List X) (i : ℕ) (x : X) → i < length xs → x ≡ get_or xs i x → slice_get (map f xs) i ≡ Some (f x)

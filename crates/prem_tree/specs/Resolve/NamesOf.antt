@@ -1,7 +1,7 @@
 -- The names and the functions behind items.
 use Rattle.std.specs.Prelude.{◌≡◌, List}
 use Rattle.prem_syntax.specs.Syntax.{FunctionText, ProgramText}
-use Rattle.prem_meaning.specs.Resolve.{Scope, globals_of}
+use Rattle.prem_syntax.specs.Resolve.{Scope, globals_of}
 use Rattle.prem_tree.specs.declared.resolve.resolved.Routine.{Routine}
 use Rattle.prem_tree.specs.Resolve.ResolvedOf.{AreRoutines}
 

@@ -4,8 +4,8 @@ use Rattle.std.specs.Option.{option_map}
 use Rattle.prem_list.specs.Sequence.{items_of}
 use Rattle.prem_syntax.specs.Syntax.{GlobalVariable, FunctionText, ProgramText, global_item, function_item}
 use Rattle.prem_syntax.specs.SyntaxOf.{global_of, function_of}
-use Rattle.prem_meaning.specs.Resolve.{loops_within, resolve_function, resolve_items, resolve}
-use Rattle.prem_meaning.specs.Resolved.{Term, Constant, Local, Scalar, Element, Unary, operator, Steps, Done, SetLocal, SetScalar, SetElement, Output, Input, If, For, While, Call, Routine, Resolved}
+use Rattle.prem_syntax.specs.Resolve.{loops_within, resolve_function, resolve_items, resolve}
+use Rattle.prem_syntax.specs.Resolved.{Term, Constant, Local, Scalar, Element, Unary, operator, Steps, Done, SetLocal, SetScalar, SetElement, Output, Input, If, For, While, Call, Routine, Resolved}
 use Rattle.prem_tree.specs.declared.resolve.resolved.Term.{Term as TermTree}
 use Rattle.prem_tree.specs.declared.resolve.resolved.Term.TheVariants.{Constant as ConstantTree, Local as LocalTree, Scalar as ScalarTree, Element' as ElementTree, Unary' as UnaryTree, Binary' as BinaryTree}
 use Rattle.prem_tree.specs.declared.resolve.resolved.Step.{Step, Row_of-Step, end_of-Step, more_of-Step}

@@ -1,8 +1,8 @@
 -- What a run in the code holds, as a state of the meaning, and what its results say of an outcome.
 use Rattle.std.specs.Prelude.{◌≡◌, ℕ, List, [], map, drop, Ok, Err, Result, MatchResult}
 use Rattle.prem_list.specs.Sequence.{items_of}
-use Rattle.prem_meaning.specs.Expressions.{Outcome}
-use Rattle.prem_meaning.specs.Statements.{MarkedCall, ProgramState}
+use Rattle.prem_syntax.specs.Expressions.{Outcome}
+use Rattle.prem_syntax.specs.Statements.{MarkedCall, ProgramState}
 use Rattle.prem_tree.specs.declared.state.interpreter.Interpreter.{Interpreter}
 use Rattle.prem_tree.specs.declared.state.fail.SourceFail.{SourceFail}
 use Rattle.prem_tree.specs.declared.state.fail.SourceFail.TheVariants.{Wrong}

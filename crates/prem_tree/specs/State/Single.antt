@@ -1,10 +1,10 @@
 -- What single statements in memory do.
 use Rattle.std.specs.Prelude.{ℕ, Bool, Ok}
 use Rattle.prem_syntax.specs.declared.tree.Ty.{Ty}
-use Rattle.prem_meaning.specs.Resolved.{Term}
-use Rattle.prem_meaning.specs.Expressions.{Outcome, and_then}
-use Rattle.prem_meaning.specs.Statements.{ProgramState, value, with_local, store, with_output, with_mark}
-use Rattle.prem_meaning.specs.Source.{everywhere}
+use Rattle.prem_syntax.specs.Resolved.{Term}
+use Rattle.prem_syntax.specs.Expressions.{Outcome, and_then}
+use Rattle.prem_syntax.specs.Statements.{ProgramState, value, with_local, store, with_output, with_mark}
+use Rattle.prem_syntax.specs.Source.{everywhere}
 use Rattle.prem_tree.specs.State.Interpreter.{noted}
 
 abbrev pub do_set_local : ℕ → Term → ProgramState → Outcome ProgramState

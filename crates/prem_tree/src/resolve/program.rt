@@ -6,8 +6,8 @@ ghost use Rattle.prem_word.specs.Words.{result_kind};
 ghost use Rattle.prem_syntax.specs.Name.{name_bytes};
 ghost use Rattle.prem_syntax.specs.Syntax.{FunctionText, ProgramText};
 ghost use Rattle.prem_syntax.specs.SyntaxOf.{item_of, program_of, parameter_of, function_of, expression_of, local_of, statement_of, statements_of};
-ghost use Rattle.prem_meaning.specs.Resolved.{Constant};
-ghost use Rattle.prem_meaning.specs.Resolve.{functions_of, parameter_names, resolve_locals, local_names, resolve_statement, resolve_statements, loops_in, loops_within, set_steps, input_steps, call_steps, target_of, loop_local, promoted, common, operand_kind, unary_kind, kind_of, variable_term, element_term, binary_term, resolve_term, meaning_of};
+ghost use Rattle.prem_syntax.specs.Resolved.{Constant};
+ghost use Rattle.prem_syntax.specs.Resolve.{functions_of, parameter_names, resolve_locals, local_names, resolve_statement, resolve_statements, loops_in, loops_within, set_steps, input_steps, call_steps, target_of, loop_local, promoted, common, operand_kind, unary_kind, kind_of, variable_term, element_term, binary_term, resolve_term, meaning_of};
 ghost use Rattle.prem_names.specs.Scopes.{scope_of, with_locals, SameItems};
 ghost use Rattle.prem_tree.specs.Resolve.NamesOf.{AreBehind};
 ghost use Rattle.prem_tree.specs.Resolve.ResolvedOf.{term_of, IsStep, AreSteps, IsRoutine, IsResolved};
@@ -68,7 +68,7 @@ pub fn binary_kind(op: BinOp, kind: Kind) -> Kind
 }
 
 /// The kind of what a term evaluates to.
-#[tactic(auto, using(prem_meaning::proofs::KindLaws::kind_of_operator))]
+#[tactic(auto, using(prem_syntax::proofs::KindLaws::kind_of_operator))]
 pub fn kind_of(term: &Term) -> Kind
     ensures { result ≡ kind_of (term_of term.now) }
 {

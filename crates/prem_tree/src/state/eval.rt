@@ -1,7 +1,7 @@
 // What expressions evaluate to.
 ghost use Rattle.std.specs.Prelude.{◌≡◌, map};
-ghost use Rattle.prem_meaning.specs.Expressions.{cell, unary_word, operate, eval};
-ghost use Rattle.prem_meaning.specs.Source.{everywhere};
+ghost use Rattle.prem_syntax.specs.Expressions.{cell, unary_word, operate, eval};
+ghost use Rattle.prem_syntax.specs.Source.{everywhere};
 ghost use Rattle.prem_tree.specs.Resolve.ResolvedOf.{term_of};
 
 use crate::resolve::Term;

@@ -1,9 +1,9 @@
 // The state of a run of a program, and what single statements do to it.
 ghost use Rattle.std.specs.Prelude.{◌≡◌, ℕ, List, map, slice_set, drop, is_some, OnOk};
 ghost use Rattle.std.specs.Option.{option_map};
-ghost use Rattle.prem_meaning.specs.Resolved.{Term};
-ghost use Rattle.prem_meaning.specs.Statements.{stored, with_local, store, take_input, value, values, holds, int_local, loop_test, loop_step, declare, result_of};
-ghost use Rattle.prem_meaning.specs.Source.{everywhere};
+ghost use Rattle.prem_syntax.specs.Resolved.{Term};
+ghost use Rattle.prem_syntax.specs.Statements.{stored, with_local, store, take_input, value, values, holds, int_local, loop_test, loop_step, declare, result_of};
+ghost use Rattle.prem_syntax.specs.Source.{everywhere};
 ghost use Rattle.prem_tree.specs.Resolve.ResolvedOf.{term_of};
 ghost use Rattle.prem_tree.specs.State.Interpreter.{state_of, Gives, Yields};
 ghost use Rattle.prem_tree.specs.State.Single.{do_set_local, do_set_scalar, do_set_element, do_output, noted_in};

@@ -2,9 +2,9 @@ use Rattle.std.specs.Option.{option_map}
 use Rattle.std.proofs.Common.{ap, sym, ◌∙◌, map, length, is_some}
 use Rattle.prem_syntax.specs.Name.{name_bytes}
 use Rattle.prem_syntax.specs.SyntaxOf.{expression_of}
-use Rattle.prem_meaning.specs.Rules.{first_of}
-use Rattle.prem_meaning.specs.Resolve.{find_function}
-use Rattle.prem_meaning.specs.Breaches.{in_call_target, in_callee, in_expressions}
+use Rattle.prem_syntax.specs.Rules.{first_of}
+use Rattle.prem_syntax.specs.Resolve.{find_function}
+use Rattle.prem_syntax.specs.Breaches.{in_call_target, in_callee, in_expressions}
 use Rattle.prem_check.specs.FoundOf.{found_of}
 use Rattle.prem_check.specs.AroundOf.{around_of}
 use Rattle.prem_check.proofs.Steps.{in_three}

@@ -1,8 +1,8 @@
 use Rattle.std.proofs.Common.{ap, ◌∙◌, not, ◌&&◌, nat_lt, ◌==◌, length}
 use Rattle.prem_syntax.specs.declared.rules.TypeRule.TheVariants.{Count, Target}
 use Rattle.prem_syntax.specs.SyntaxOf.{function_of}
-use Rattle.prem_meaning.specs.Rules.{CallOrder, MarkedCall, OfTypes, first_of}
-use Rattle.prem_meaning.specs.Breaches.{if_at, is_marked_text, is_void}
+use Rattle.prem_syntax.specs.Rules.{CallOrder, MarkedCall, OfTypes, first_of}
+use Rattle.prem_syntax.specs.Breaches.{if_at, is_marked_text, is_void}
 use Rattle.prem_check.specs.FoundOf.{found_of}
 use Rattle.prem_check.proofs.Steps.{in_four}
 use Rattle.prem_check.proofs.call.in_called.Goals as goal

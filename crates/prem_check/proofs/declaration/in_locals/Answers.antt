@@ -3,9 +3,9 @@ use Rattle.std.proofs.lemmas.List.{drop_more}
 use Rattle.prem_syntax.specs.Name.{name_bytes}
 use Rattle.prem_syntax.specs.Syntax.{LocalVariable}
 use Rattle.prem_syntax.specs.SyntaxOf.{local_of}
-use Rattle.prem_meaning.specs.Resolve.{declared, local_names}
-use Rattle.prem_meaning.specs.Rules.{first, first_of}
-use Rattle.prem_meaning.specs.Breaches.{in_declared, in_expression, in_locals}
+use Rattle.prem_syntax.specs.Resolve.{declared, local_names}
+use Rattle.prem_syntax.specs.Rules.{first, first_of}
+use Rattle.prem_syntax.specs.Breaches.{in_declared, in_expression, in_locals}
 use Rattle.prem_names.specs.Scopes.{scope_of, with_locals}
 use Rattle.prem_check.specs.FoundOf.{found_of}
 use Rattle.prem_check.specs.Taken.{taken_of}

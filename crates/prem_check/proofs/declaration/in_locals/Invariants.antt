@@ -1,8 +1,8 @@
 use Rattle.std.proofs.Common.{◌≡◌, map, take, drop}
 use Rattle.prem_syntax.specs.SyntaxOf.{local_of}
-use Rattle.prem_meaning.specs.Resolve.{local_names}
-use Rattle.prem_meaning.specs.Rules.{first, first_of}
-use Rattle.prem_meaning.specs.Breaches.{in_locals}
+use Rattle.prem_syntax.specs.Resolve.{local_names}
+use Rattle.prem_syntax.specs.Rules.{first, first_of}
+use Rattle.prem_syntax.specs.Breaches.{in_locals}
 use Rattle.prem_names.specs.Scopes.{scope_of, with_locals}
 use Rattle.prem_check.specs.FoundOf.{found_of}
 use Rattle.prem_check.specs.Taken.{taken_of}

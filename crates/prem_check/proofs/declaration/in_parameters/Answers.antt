@@ -4,9 +4,9 @@ use Rattle.prem_syntax.specs.declared.rules.TypeRule.TheVariants.{Range}
 use Rattle.prem_syntax.specs.Name.{name_bytes}
 use Rattle.prem_syntax.specs.Syntax.{Parameter}
 use Rattle.prem_syntax.specs.SyntaxOf.{parameter_of}
-use Rattle.prem_meaning.specs.Resolve.{parameter_names}
-use Rattle.prem_meaning.specs.Rules.{OfTypes, first, first_of}
-use Rattle.prem_meaning.specs.Breaches.{if_at, is_range, in_declared, in_parameters}
+use Rattle.prem_syntax.specs.Resolve.{parameter_names}
+use Rattle.prem_syntax.specs.Rules.{OfTypes, first, first_of}
+use Rattle.prem_syntax.specs.Breaches.{if_at, is_range, in_declared, in_parameters}
 use Rattle.prem_names.specs.Scopes.{scope_of, with_locals}
 use Rattle.prem_check.specs.FoundOf.{found_of}
 use Rattle.prem_check.specs.Taken.{taken_of}

@@ -1,8 +1,8 @@
 use Rattle.std.proofs.Common.{◌≡◌, ◌+◌, ◌∷◌, map, drop, ap, sym, ◌∙◌, arith}
 use Rattle.std.proofs.lemmas.List.{drop_more}
 use Rattle.prem_syntax.specs.SyntaxOf.{expression_of}
-use Rattle.prem_meaning.specs.Rules.{first, first_of}
-use Rattle.prem_meaning.specs.Breaches.{in_expression, in_expressions}
+use Rattle.prem_syntax.specs.Rules.{first, first_of}
+use Rattle.prem_syntax.specs.Breaches.{in_expression, in_expressions}
 use Rattle.prem_names.specs.Scopes.{scope_of}
 use Rattle.prem_check.specs.FoundOf.{found_of}
 use Rattle.prem_check.proofs.Steps.{next}

@@ -1,9 +1,9 @@
 use Rattle.std.specs.Option.{option_map}
 use Rattle.std.proofs.Common.{◌≡◌, [], ◌++◌, map, ap, ◌∙◌, append-nil}
 use Rattle.prem_syntax.specs.SyntaxOf.{function_of, parameter_of, local_of, statements_of, expression_of}
-use Rattle.prem_meaning.specs.Resolve.{Scope, scope_at, scope_in, parameter_names, local_names}
-use Rattle.prem_meaning.specs.Rules.{first_of}
-use Rattle.prem_meaning.specs.Breaches.{around, in_regions, regions_of, in_heading, in_parameters, in_locals, in_statements, in_option, parameter_texts}
+use Rattle.prem_syntax.specs.Resolve.{Scope, scope_at, scope_in, parameter_names, local_names}
+use Rattle.prem_syntax.specs.Rules.{first_of}
+use Rattle.prem_syntax.specs.Breaches.{around, in_regions, regions_of, in_heading, in_parameters, in_locals, in_statements, in_option, parameter_texts}
 use Rattle.prem_names.specs.Scopes.{scope_of, with_locals}
 use Rattle.prem_check.specs.FoundOf.{found_of}
 use Rattle.prem_check.specs.Taken.{taken_of}

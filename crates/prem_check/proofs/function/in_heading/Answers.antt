@@ -1,8 +1,8 @@
 use Rattle.std.proofs.Common.{ap, ◌∙◌, not, ◌&&◌, ◌||◌, ◌==◌, length, is_some, is_none}
 use Rattle.prem_syntax.specs.declared.rules.TypeRule.TheVariants.{Narrow, Return, Marked, Job}
 use Rattle.prem_syntax.specs.SyntaxOf.{function_of}
-use Rattle.prem_meaning.specs.Rules.{Twice, OfTypes, first_of}
-use Rattle.prem_meaning.specs.Breaches.{if_at, has_name, is_narrow, is_void, is_marked_text, is_job_name}
+use Rattle.prem_syntax.specs.Rules.{Twice, OfTypes, first_of}
+use Rattle.prem_syntax.specs.Breaches.{if_at, has_name, is_narrow, is_void, is_marked_text, is_job_name}
 use Rattle.prem_check.specs.FoundOf.{found_of}
 use Rattle.prem_check.proofs.Steps.{in_five}
 use Rattle.prem_check.proofs.function.in_heading.Goals as goal

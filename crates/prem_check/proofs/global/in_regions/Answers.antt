@@ -2,9 +2,9 @@ use Rattle.std.proofs.Common.{◌≡◌, ◌+◌, ◌∷◌, map, drop, ap, sym,
 use Rattle.std.proofs.lemmas.List.{drop_more}
 use Rattle.prem_syntax.specs.Name.{name_bytes}
 use Rattle.prem_syntax.specs.SyntaxOf.{region_of}
-use Rattle.prem_meaning.specs.Resolve.{find_global}
-use Rattle.prem_meaning.specs.Rules.{first, first_of}
-use Rattle.prem_meaning.specs.Breaches.{in_region, in_regions}
+use Rattle.prem_syntax.specs.Resolve.{find_global}
+use Rattle.prem_syntax.specs.Rules.{first, first_of}
+use Rattle.prem_syntax.specs.Breaches.{in_region, in_regions}
 use Rattle.prem_names.specs.Scopes.{scope_of}
 use Rattle.prem_check.specs.FoundOf.{found_of}
 use Rattle.prem_check.proofs.Steps.{next}

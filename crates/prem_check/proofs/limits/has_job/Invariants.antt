@@ -2,7 +2,7 @@ use Rattle.std.specs.List.{list_any}
 use Rattle.std.proofs.Common.{◌≡◌, map, drop}
 use Rattle.prem_syntax.specs.Syntax.{FunctionText}
 use Rattle.prem_syntax.specs.SyntaxOf.{function_of}
-use Rattle.prem_meaning.specs.Breaches.{is_job_name}
+use Rattle.prem_syntax.specs.Breaches.{is_job_name}
 use Rattle.prem_check.proofs.limits.has_job.Given as goal
 
 abbrev pub invariant-loop-f : goal.invariant-loop-f

@@ -2,7 +2,7 @@ use Rattle.std.specs.List.{list_any}
 use Rattle.std.proofs.Common.{◌≡◌, map, drop, nat_lt, length}
 use Rattle.prem_syntax.specs.Syntax.{FunctionText}
 use Rattle.prem_syntax.specs.SyntaxOf.{function_of}
-use Rattle.prem_meaning.specs.Breaches.{regions_of}
+use Rattle.prem_syntax.specs.Breaches.{regions_of}
 use Rattle.prem_check.proofs.limits.has_many_regions.Given as goal
 
 abbrev pub invariant-loop-f : goal.invariant-loop-f

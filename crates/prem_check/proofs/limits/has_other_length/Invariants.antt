@@ -2,7 +2,7 @@ use Rattle.std.specs.List.{list_any}
 use Rattle.std.proofs.Common.{◌≡◌, map, drop, not}
 use Rattle.prem_syntax.specs.Syntax.{GlobalVariable}
 use Rattle.prem_syntax.specs.SyntaxOf.{global_of}
-use Rattle.prem_meaning.specs.Breaches.{is_length}
+use Rattle.prem_syntax.specs.Breaches.{is_length}
 use Rattle.prem_check.proofs.limits.has_other_length.Given as goal
 
 abbrev pub invariant-loop-g : goal.invariant-loop-g

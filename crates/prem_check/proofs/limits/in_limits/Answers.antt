@@ -4,8 +4,8 @@ use Rattle.std.proofs.lemmas.List.{length-map}
 use Rattle.prem_syntax.specs.declared.rules.Count.TheVariants.{Functions, Globals, Parameters, Regions, Length, Stated}
 use Rattle.prem_syntax.specs.Syntax.{FunctionText, GlobalVariable}
 use Rattle.prem_syntax.specs.SyntaxOf.{function_of, global_of}
-use Rattle.prem_meaning.specs.Rules.{Limit, first_of}
-use Rattle.prem_meaning.specs.Breaches.{if_broken, is_stated, is_length, regions_of}
+use Rattle.prem_syntax.specs.Rules.{Limit, first_of}
+use Rattle.prem_syntax.specs.Breaches.{if_broken, is_stated, is_length, regions_of}
 use Rattle.prem_check.specs.FoundOf.{found_of}
 use Rattle.prem_check.proofs.Steps.{in_six}
 use Rattle.prem_check.proofs.limits.in_limits.Goals as goal

@@ -1,6 +1,6 @@
 use Rattle.std.proofs.Common.{ap, sym, ◌∙◌}
 use Rattle.prem_syntax.specs.Name.{name_bytes}
-use Rattle.prem_meaning.specs.Breaches.{assigns}
+use Rattle.prem_syntax.specs.Breaches.{assigns}
 use Rattle.prem_check.proofs.Blocks.{block_is}
 use Rattle.prem_check.proofs.loops.+assigning.Goals as goal
 

@@ -1,8 +1,8 @@
 use Rattle.std.proofs.Common.{◌≡◌, map, ap, sym, ◌∙◌}
 use Rattle.prem_syntax.specs.SyntaxOf.{item_of, global_of, function_of, program_of}
-use Rattle.prem_meaning.specs.Resolve.{globals_of, functions_of}
-use Rattle.prem_meaning.specs.Rules.{first_of}
-use Rattle.prem_meaning.specs.Breaches.{in_limits}
+use Rattle.prem_syntax.specs.Resolve.{globals_of, functions_of}
+use Rattle.prem_syntax.specs.Rules.{first_of}
+use Rattle.prem_syntax.specs.Breaches.{in_limits}
 use Rattle.prem_check.specs.FoundOf.{found_of}
 use Rattle.prem_check.proofs.LimitsFirst.{without_job, among_items, past_limit, within_limits}
 use Rattle.prem_check.proofs.program.first_broken.Goals as goal

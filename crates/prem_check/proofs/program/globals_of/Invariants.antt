@@ -1,6 +1,6 @@
 use Rattle.std.proofs.Common.{◌≡◌, map, drop, ◌++◌}
 use Rattle.prem_syntax.specs.SyntaxOf.{global_of, item_of}
-use Rattle.prem_meaning.specs.Resolve.{globals_of}
+use Rattle.prem_syntax.specs.Resolve.{globals_of}
 use Rattle.prem_check.proofs.program.globals_of.Given as goal
 
 abbrev pub invariant-loop-item : goal.invariant-loop-item

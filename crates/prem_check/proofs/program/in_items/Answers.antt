@@ -1,7 +1,7 @@
 use Rattle.std.proofs.Common.{◌≡◌, [], map, IfOk, ap, subst, ◌∙◌}
 use Rattle.prem_syntax.specs.SyntaxOf.{item_of, function_of}
-use Rattle.prem_meaning.specs.Rules.{first_of}
-use Rattle.prem_meaning.specs.Breaches.{in_items, item_names, reached}
+use Rattle.prem_syntax.specs.Rules.{first_of}
+use Rattle.prem_syntax.specs.Breaches.{in_items, item_names, reached}
 use Rattle.prem_names.specs.Scopes.{first_scope, scope_of}
 use Rattle.prem_check.specs.FoundOf.{found_of}
 use Rattle.prem_check.proofs.program.in_items.Goals as goal

@@ -1,7 +1,7 @@
 use Rattle.std.proofs.Common.{◌≡◌, ◌+◌, ◌∷◌, map, drop, ap, sym, ◌∙◌, arith}
 use Rattle.std.proofs.lemmas.List.{drop_more}
 use Rattle.prem_syntax.specs.SyntaxOf.{item_of}
-use Rattle.prem_meaning.specs.Rules.{first}
+use Rattle.prem_syntax.specs.Rules.{first}
 use Rattle.prem_check.specs.FoundOf.{found_of}
 use Rattle.prem_check.specs.Walk.{first_behind}
 use Rattle.prem_check.proofs.First.{first_assoc}

@@ -1,6 +1,6 @@
 use Rattle.std.proofs.Common.{◌≡◌, ◌≤◌, map, drop}
 use Rattle.prem_syntax.specs.SyntaxOf.{item_of}
-use Rattle.prem_meaning.specs.Rules.{first}
+use Rattle.prem_syntax.specs.Rules.{first}
 use Rattle.prem_check.specs.FoundOf.{found_of}
 use Rattle.prem_check.specs.Walk.{first_behind}
 use Rattle.prem_check.proofs.program.pass_items.Given as goal

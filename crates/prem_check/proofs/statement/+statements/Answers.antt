@@ -1,8 +1,8 @@
 use Rattle.std.proofs.Common.{◌≡◌, ◌+◌, ◌∷◌, drop, ap, sym, ◌∙◌, arith}
 use Rattle.std.proofs.lemmas.List.{drop_more}
 use Rattle.prem_syntax.specs.SyntaxOf.{statement_of, statements_of}
-use Rattle.prem_meaning.specs.Rules.{first, first_of}
-use Rattle.prem_meaning.specs.Breaches.{in_statement, in_statements}
+use Rattle.prem_syntax.specs.Rules.{first, first_of}
+use Rattle.prem_syntax.specs.Breaches.{in_statement, in_statements}
 use Rattle.prem_check.specs.FoundOf.{found_of}
 use Rattle.prem_check.specs.AroundOf.{around_of}
 use Rattle.prem_check.proofs.Blocks.{block_is}

@@ -1,7 +1,7 @@
 use Rattle.std.proofs.Common.{◌≡◌, drop}
 use Rattle.prem_syntax.specs.SyntaxOf.{statements_of}
-use Rattle.prem_meaning.specs.Rules.{first, first_of}
-use Rattle.prem_meaning.specs.Breaches.{in_statements}
+use Rattle.prem_syntax.specs.Rules.{first, first_of}
+use Rattle.prem_syntax.specs.Breaches.{in_statements}
 use Rattle.prem_check.specs.FoundOf.{found_of}
 use Rattle.prem_check.specs.AroundOf.{around_of}
 use Rattle.prem_check.proofs.statement.+statements.Given as goal

@@ -1,7 +1,7 @@
 use Rattle.std.proofs.Common.{◌≡◌, drop, map}
 use Rattle.prem_list.specs.Sequence.{items_of}
 use Rattle.prem_syntax.specs.SyntaxOf.{item_of}
-use Rattle.prem_lexer.specs.Token.Lexeme.{seen_of}
+use Rattle.prem_text.specs.Lexing.Token.Lexeme.{seen_of}
 use Rattle.prem_text.specs.Grammar.Reader.{read, read_on}
 use Rattle.prem_front.specs.StageOf.{stage_of}
 use Rattle.prem_front.proofs.program.read.Given as goal

@@ -1,6 +1,6 @@
 use Rattle.std.proofs.Common.{◌≡◌, ◌++◌, drop}
 use Rattle.prem_syntax.specs.SyntaxOf.{statements_of}
-use Rattle.prem_meaning.specs.Breaches.{callees_within}
+use Rattle.prem_syntax.specs.Breaches.{callees_within}
 use Rattle.prem_names.specs.Scopes.{scope_of}
 use Rattle.prem_names.proofs.reach.+calling.Given as goal
 

@@ -1,6 +1,6 @@
 use Rattle.std.proofs.Common.{◌≡◌, map, take}
 use Rattle.prem_syntax.specs.SyntaxOf.{function_of}
-use Rattle.prem_meaning.specs.Breaches.{is_marked_text}
+use Rattle.prem_syntax.specs.Breaches.{is_marked_text}
 use Rattle.prem_names.proofs.reach.marked.Given as goal
 
 abbrev pub invariant-loop-f : goal.invariant-loop-f

@@ -1,8 +1,8 @@
 use Rattle.std.proofs.Common.{◌≡◌, ◌≤◌, map, length, ap, sym, subst, ◌∙◌, arith, rules}
 use Rattle.std.proofs.lemmas.List.{length-map}
 use Rattle.prem_syntax.specs.SyntaxOf.{function_of}
-use Rattle.prem_meaning.specs.Breaches.{is_marked_text, table_of}
-use Rattle.prem_meaning.specs.Reach.{with_called}
+use Rattle.prem_syntax.specs.Breaches.{is_marked_text, table_of}
+use Rattle.prem_syntax.specs.Reach.{with_called}
 use Rattle.prem_names.specs.Scopes.{scope_of}
 use Rattle.prem_names.specs.Reach.Reach.{Closed, callees_of_each, with_new}
 use Rattle.prem_names.proofs.ReachLemmas.Rounds.{closed_behind, closed_first, reached_more, reached_where_same, round}

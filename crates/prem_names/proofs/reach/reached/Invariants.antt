@@ -1,6 +1,6 @@
 use Rattle.std.proofs.Common.{◌≡◌, map}
-use Rattle.prem_meaning.specs.Breaches.{is_marked_text, table_of}
-use Rattle.prem_meaning.specs.Reach.{reached_by}
+use Rattle.prem_syntax.specs.Breaches.{is_marked_text, table_of}
+use Rattle.prem_syntax.specs.Reach.{reached_by}
 use Rattle.prem_names.specs.Scopes.{scope_of}
 use Rattle.prem_names.specs.Reach.Reach.{Closed}
 use Rattle.prem_names.proofs.reach.reached.Given as goal

@@ -2,8 +2,8 @@ use Rattle.std.proofs.Common.{◌≡◌, ℕ, ◌+◌, List, ◌∷◌, map, dro
 use Rattle.std.proofs.lemmas.List.{drop_more}
 use Rattle.prem_syntax.specs.declared.tree.Expr.{Expr}
 use Rattle.prem_syntax.specs.SyntaxOf.{expression_of}
-use Rattle.prem_lexer.specs.declared.token.token.Mark.TheVariants as m
-use Rattle.prem_lexer.specs.Token.Lexeme.{mark}
+use Rattle.prem_text.specs.declared.lexing.token.token.Mark.TheVariants as m
+use Rattle.prem_text.specs.Lexing.Token.Lexeme.{mark}
 use Rattle.prem_text.specs.Canonical.Canonical.{expression_lexemes, more_arguments}
 use Rattle.prem_print.specs.Written.{written}
 use Rattle.prem_print.proofs.Writing.{behind_part}

@@ -1,4 +1,4 @@
-use Rattle.prem_order.specs.Rules.{order_rule_of, passes_of}
+use Rattle.prem_plant.specs.Order.Rules.{order_rule_of, passes_of}
 use Rattle.prem_lru.specs.Rules.{rule_of}
 use Rattle.prem_sound.proofs.ResidentLemmas.KeptRuns.{no_faults}
 use Rattle.prem_sound.proofs.ResidentLemmas.Policies.{kind_policy}

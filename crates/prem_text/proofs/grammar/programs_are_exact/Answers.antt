@@ -1,4 +1,4 @@
-use Rattle.prem_lexer.specs.declared.token.fail.FrontFail.TheVariants.{Syntax, TooDeep}
+use Rattle.prem_text.specs.declared.lexing.token.fail.FrontFail.TheVariants.{Syntax, TooDeep}
 use Rattle.prem_text.proofs.GrammarLemmas.Program.{programs_read}
 use Rattle.prem_text.proofs.GrammarLemmas.ProgramSound.{programs_sound}
 use Rattle.prem_text.proofs.GrammarLemmas.ProgramRefused.{refused_for, unexpected_refused, past_refused}

@@ -1,6 +1,6 @@
 use Rattle.std.proofs.Common.{◌≡◌, take, map}
 use Rattle.prem_syntax.specs.SyntaxOf.{global_of}
-use Rattle.prem_meaning.specs.Source.{initial_words}
+use Rattle.prem_syntax.specs.Source.{initial_words}
 use Rattle.prem_tree.proofs.source.initial_globals.Given as goal
 
 abbrev pub invariant-loop-g : goal.invariant-loop-g

@@ -2,7 +2,7 @@ use Rattle.std.proofs.Common.{◌≡◌, List, [], map, refl, sym, ◌∙◌, ap
 use Rattle.std.proofs.lemmas.Result.{err_from_is_err_and}
 use Rattle.prem_list.specs.Sequence.{items_of}
 use Rattle.prem_syntax.specs.SyntaxOf.{global_of}
-use Rattle.prem_meaning.specs.Source.{initial_words}
+use Rattle.prem_syntax.specs.Source.{initial_words}
 use Rattle.prem_tree.specs.declared.state.interpreter.Interpreter.{Interpreter}
 use Rattle.prem_tree.specs.declared.state.fail.SourceFail.TheVariants.{Wrong}
 use Rattle.prem_tree.specs.declared.resolve.resolved.Routine.{Routine}

@@ -1,7 +1,7 @@
 use Rattle.std.proofs.Common.{◌≡◌, sym, ◌∙◌, ap}
 use Rattle.prem_syntax.specs.declared.tree.Program.{Program}
 use Rattle.prem_syntax.specs.SyntaxOf.{program_of}
-use Rattle.prem_meaning.specs.Source.{source}
+use Rattle.prem_syntax.specs.Source.{source}
 use Rattle.prem_tree.specs.Checked.{checked_program}
 use Rattle.prem_tree.specs.SourceRun.{resolved_outcome}
 use Rattle.prem_tree.proofs.RunLaws.{few_routines, source-resolved}

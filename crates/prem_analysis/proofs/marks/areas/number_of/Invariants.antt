@@ -2,7 +2,7 @@ use Rattle.std.proofs.Common.{◌≡◌, map, drop, option_map}
 use Rattle.prem_syntax.specs.Name.{name_bytes}
 use Rattle.prem_syntax.specs.Syntax.{GlobalVariable}
 use Rattle.prem_syntax.specs.SyntaxOf.{global_of}
-use Rattle.prem_meaning.specs.Resolve.{find_named}
+use Rattle.prem_syntax.specs.Resolve.{find_named}
 use Rattle.prem_analysis.proofs.marks.areas.number_of.Given as goal
 
 abbrev pub invariant-loop-k : goal.invariant-loop-k

@@ -1,6 +1,6 @@
 use Rattle.std.proofs.Common.{◌≡◌, ◌++◌, map, drop}
 use Rattle.prem_syntax.specs.SyntaxOf.{global_of}
-use Rattle.prem_meaning.specs.Source.{unlimited}
+use Rattle.prem_syntax.specs.Source.{unlimited}
 use Rattle.prem_tree.specs.Resolve.ResolvedOf.{routines_of}
 use Rattle.prem_analysis.specs.Marks.Entries.{entry_of, entries_from}
 use Rattle.prem_analysis.proofs.marks.marked.entries.Given as goal

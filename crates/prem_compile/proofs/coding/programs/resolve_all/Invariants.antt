@@ -1,5 +1,5 @@
 use Rattle.std.proofs.Common.{◌≡◌, ◌++◌, map, drop}
-use Rattle.prem_analyse.specs.Analysed.{analysed_text}
+use Rattle.prem_analysis.specs.Analysed.{analysed_text}
 use Rattle.prem_compile.specs.Coding.Programs.{meant_by, text_by}
 use Rattle.prem_compile.proofs.coding.programs.resolve_all.Given as goal
 

@@ -1,7 +1,7 @@
 use Rattle.std.specs.Prelude.{slice_index}
 use Rattle.std.proofs.Common.{◌≤◌, get_or, ap, sym, ◌∙◌, arith, subst}
 use Rattle.prem_list.specs.Sequence.{items_of}
-use Rattle.prem_template.specs.Limits.{greatest_frame}
+use Rattle.prem_layout.specs.Template.Limits.{greatest_frame}
 use Rattle.prem_gen.proofs.RoutineLemmas.Whole.{frame_is}
 use Rattle.prem_gen.proofs.CodesLemmas.Numbered.{loops_at}
 use Rattle.prem_gen.proofs.CodesLemmas.Told.{small_told, code_told, excess_told}

@@ -3,8 +3,8 @@ use Rattle.std.proofs.Common.{◌≡◌, ◌<◌, ◌≤◌, ◌++◌, ap, sym, 
 use Rattle.std.proofs.lemmas.List.{append-nil}
 use Rattle.prem_list.specs.Sequence.{items_of}
 use Rattle.prem_tree.specs.Resolve.ResolvedOf.{routine_of, resolved_of}
-use Rattle.prem_template.specs.Limits.{excess_among}
-use Rattle.prem_template.specs.Parts.{parts_of, codes_of}
+use Rattle.prem_layout.specs.Template.Limits.{excess_among}
+use Rattle.prem_layout.specs.Template.Parts.{parts_of, codes_of}
 use Rattle.prem_gen.specs.Term.Excess.{Exceeds}
 use Rattle.prem_gen.specs.Codes.Codes.{code_at, excess_at, CalleesFit}
 use Rattle.prem_gen.proofs.RoutineLemmas.Lists.{drop_end}

@@ -2,8 +2,8 @@ use Rattle.std.specs.Prelude.{slice_index}
 use Rattle.std.proofs.Common.{◌≡◌, ◌++◌, drop, take, map}
 use Rattle.prem_list.specs.Sequence.{items_of}
 use Rattle.prem_tree.specs.Resolve.ResolvedOf.{all_loops, resolved_of}
-use Rattle.prem_template.specs.Limits.{excess, excess_among}
-use Rattle.prem_template.specs.Parts.{parts_of, codes_of}
+use Rattle.prem_layout.specs.Template.Limits.{excess, excess_among}
+use Rattle.prem_layout.specs.Template.Parts.{parts_of, codes_of}
 use Rattle.prem_gen.proofs.CodesLemmas.All.{FitBelow, view}
 use Rattle.prem_gen.proofs.codes.generator.codes.Given as goal
 

@@ -1,5 +1,5 @@
 use Rattle.std.proofs.Common.{ap, sym, ◌∙◌, ◌≤◌, ◌<◌, arith, rules, subst}
-use Rattle.prem_template.specs.Limits.{deep_excess}
+use Rattle.prem_layout.specs.Template.Limits.{deep_excess}
 use Rattle.prem_gen.specs.Routine.Parts.{parts_in, turns_in}
 use Rattle.prem_gen.specs.Routine.RoutineCode.{routine_code, routine_deep}
 use Rattle.prem_gen.specs.Routine.FrameOf.{slots_in}

@@ -4,7 +4,7 @@ use Rattle.prem_tree.specs.Resolve.ResolvedOf.{term_of}
 use Rattle.prem_asm.specs.Pieces.{followed}
 use Rattle.prem_asm.specs.PiecesOf.{pieces_of}
 use Rattle.prem_asm.proofs.Rows.{followed_none}
-use Rattle.prem_template.specs.Steps.{declare_code}
+use Rattle.prem_layout.specs.Template.Steps.{declare_code}
 use Rattle.prem_gen.specs.Term.Numbers.{from_part}
 use Rattle.prem_gen.proofs.RoutineLemmas.Lists.{drop_end}
 use Rattle.prem_gen.proofs.routine.routine.put_locals.Goals as goal

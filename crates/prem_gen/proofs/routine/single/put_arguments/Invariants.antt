@@ -3,8 +3,8 @@ use Rattle.prem_list.specs.Sequence.{items_of}
 use Rattle.prem_tree.specs.Resolve.ResolvedOf.{term_of}
 use Rattle.prem_asm.specs.Pieces.{followed}
 use Rattle.prem_asm.specs.PiecesOf.{pieces_of}
-use Rattle.prem_template.specs.Steps.{argument_code}
-use Rattle.prem_template.specs.Limits.{too_deep_among}
+use Rattle.prem_layout.specs.Template.Steps.{argument_code}
+use Rattle.prem_layout.specs.Template.Limits.{too_deep_among}
 use Rattle.prem_gen.specs.Term.Numbers.{from_part}
 use Rattle.prem_gen.proofs.routine.single.put_arguments.Given as goal
 

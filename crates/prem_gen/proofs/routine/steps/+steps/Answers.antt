@@ -5,7 +5,7 @@ use Rattle.prem_tree.proofs.Weights.{weight, list_weight, weight-Block, weight-a
 use Rattle.prem_asm.specs.Pieces.{followed}
 use Rattle.prem_asm.specs.PiecesOf.{pieces_of}
 use Rattle.prem_asm.proofs.Rows.{followed_append, followed_none}
-use Rattle.prem_template.specs.Limits.{first_of as first_place_of}
+use Rattle.prem_layout.specs.Template.Limits.{first_of as first_place_of}
 use Rattle.prem_gen.specs.Routine.Parts.{parts_in, turns_in}
 use Rattle.prem_gen.specs.Routine.StepCode.{whiles_of, list_whiles, code_at, list_code, list_deep}
 use Rattle.prem_gen.proofs.RoutineLemmas.Lists.{drop_end}

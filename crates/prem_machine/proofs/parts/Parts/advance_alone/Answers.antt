@@ -9,7 +9,7 @@ use Rattle.prem_cycle.specs.FactsOf.{devices_reported}
 use Rattle.prem_cycle.specs.State.{Counts, Log}
 use Rattle.prem_cycle.specs.Core.{CoreTurn, Issues, core_turn}
 use Rattle.prem_cycle.specs.Cycle.{with_clash}
-use Rattle.prem_runs.specs.Dull.Issuing.{issue_joined}
+use Rattle.prem_cycle.specs.Runs.Dull.Issuing.{issue_joined}
 use Rattle.prem_machine.specs.Work.{setup_in, with_counts}
 use Rattle.prem_machine.specs.Parts.{state_of}
 use Rattle.prem_machine.specs.Log.{counts_in, dropped_in, log_in}

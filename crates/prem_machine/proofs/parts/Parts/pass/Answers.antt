@@ -7,7 +7,7 @@ use Rattle.prem_gate.specs.Stretch.{BusRun, bus_run}
 use Rattle.prem_cycle.specs.State.{CoreState}
 use Rattle.prem_cycle.specs.declared.state.Interval.{Interval}
 use Rattle.prem_cycle.specs.Core.{want_of}
-use Rattle.prem_runs.proofs.DullLemmas.Steps.{want_passed}
+use Rattle.prem_cycle.proofs.RunsLemmas.DullLemmas.Steps.{want_passed}
 use Rattle.prem_machine.specs.Log.{counts_in, dropped_in}
 use Rattle.prem_machine.specs.Moment.{core_of}
 use Rattle.prem_machine.proofs.Resting.{SameQueues, arrived_after, counts_after, mode_after, quiet_queues}

@@ -4,7 +4,7 @@ use Rattle.prem_syntax.specs.declared.name.Name.{Name}
 use Rattle.prem_syntax.specs.declared.tree.Ty.{Ty}
 use Rattle.prem_syntax.specs.Name.{name_bytes}
 use Rattle.prem_syntax.specs.Syntax.{Text}
-use Rattle.prem_meaning.specs.Breaches.{has_name}
+use Rattle.prem_syntax.specs.Breaches.{has_name}
 use Rattle.prem_names.specs.Scopes.{local_of}
 use Rattle.prem_names.proofs.names.Names.has_local.Goals as goal
 

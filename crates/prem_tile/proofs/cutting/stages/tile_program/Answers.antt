@@ -1,6 +1,6 @@
 use Rattle.std.proofs.Common.{map, ap, sym, ◌∙◌}
 use Rattle.prem_syntax.specs.SyntaxOf.{item_of, function_of, program_of}
-use Rattle.prem_meaning.specs.Resolve.{functions_of}
+use Rattle.prem_syntax.specs.Resolve.{functions_of}
 use Rattle.prem_tiling.specs.Shapes.Shape.{marked_named}
 use Rattle.prem_tile.proofs.CuttingLemmas.Stages.{named_again}
 use Rattle.prem_tile.proofs.cutting.stages.tile_program.Goals as goal

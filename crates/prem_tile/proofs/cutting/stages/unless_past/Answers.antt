@@ -3,7 +3,7 @@ use Rattle.std.proofs.Common.{◌≤◌, false, Ok, length, map, ap, sym, ◌∙
 use Rattle.std.proofs.lemmas.Bool.{le-ltb}
 use Rattle.prem_syntax.specs.Syntax.{ProgramText}
 use Rattle.prem_syntax.specs.SyntaxOf.{item_of, program_of}
-use Rattle.prem_meaning.specs.Resolve.{functions_of}
+use Rattle.prem_syntax.specs.Resolve.{functions_of}
 use Rattle.prem_tiling.specs.Copies.CutOf.{cut_in}
 use Rattle.prem_tile.specs.Cutting.Answer.{is_text_past}
 use Rattle.prem_tile.proofs.CuttingLemmas.Stages.{ends_by}

@@ -1,6 +1,6 @@
 use Rattle.std.proofs.Common.{◌≡◌, ◌+◌, ◌≤◌, drop, map, length}
 use Rattle.prem_syntax.specs.SyntaxOf.{item_of}
-use Rattle.prem_meaning.specs.Resolve.{functions_of}
+use Rattle.prem_syntax.specs.Resolve.{functions_of}
 use Rattle.prem_tiling.proofs.copies.tiled.function_count.Given as goal
 
 abbrev pub invariant-items : goal.invariant-items

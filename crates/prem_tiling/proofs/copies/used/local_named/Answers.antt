@@ -4,7 +4,7 @@ use Rattle.std.proofs.lemmas.List.{drop_more}
 use Rattle.prem_syntax.specs.Name.{name_bytes}
 use Rattle.prem_syntax.specs.SyntaxOf.{local_of}
 use Rattle.prem_syntax.specs.declared.tree.Local.{Local}
-use Rattle.prem_meaning.specs.Breaches.{has_name}
+use Rattle.prem_syntax.specs.Breaches.{has_name}
 use Rattle.prem_tiling.specs.Shapes.Carried.{names_of}
 use Rattle.prem_tiling.proofs.CopiesLemmas.Looking.{found_first}
 use Rattle.prem_tiling.proofs.copies.used.local_named.Goals as goal

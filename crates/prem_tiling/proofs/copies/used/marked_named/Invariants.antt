@@ -1,6 +1,6 @@
 use Rattle.std.proofs.Common.{◌≡◌, drop, map}
 use Rattle.prem_syntax.specs.SyntaxOf.{item_of}
-use Rattle.prem_meaning.specs.Resolve.{functions_of}
+use Rattle.prem_syntax.specs.Resolve.{functions_of}
 use Rattle.prem_tiling.specs.Shapes.Shape.{marked_named}
 use Rattle.prem_tiling.proofs.copies.used.marked_named.Given as goal
 

@@ -4,7 +4,7 @@ use Rattle.std.proofs.lemmas.List.{drop_more}
 use Rattle.prem_syntax.specs.Name.{name_bytes}
 use Rattle.prem_syntax.specs.SyntaxOf.{parameter_of}
 use Rattle.prem_syntax.specs.declared.tree.Param.{Param}
-use Rattle.prem_meaning.specs.Breaches.{has_name, parameter_texts}
+use Rattle.prem_syntax.specs.Breaches.{has_name, parameter_texts}
 use Rattle.prem_tiling.proofs.CopiesLemmas.Looking.{found_first}
 use Rattle.prem_tiling.proofs.copies.used.parameter_named.Goals as goal
 

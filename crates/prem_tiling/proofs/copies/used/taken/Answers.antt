@@ -2,7 +2,7 @@ use Rattle.std.proofs.Common.{◌≡◌, ◌+◌, ◌-◌, suc, false, cond, Som
 use Rattle.prem_syntax.specs.Name.{name_bytes}
 use Rattle.prem_syntax.specs.Syntax.{Text}
 use Rattle.prem_syntax.specs.SyntaxOf.{item_of, program_of}
-use Rattle.prem_meaning.specs.Breaches.{has_name}
+use Rattle.prem_syntax.specs.Breaches.{has_name}
 use Rattle.prem_tiling.specs.Shapes.Tiled.{tile_name, used_names, taken_from}
 use Rattle.prem_tiling.proofs.CopiesLemmas.Looking.{not_found}
 use Rattle.prem_tiling.proofs.copies.used.taken.Goals as goal

@@ -3,7 +3,7 @@ use Rattle.prem_list.specs.Sequence.{items_of}
 use Rattle.prem_syntax.specs.Syntax.{block}
 use Rattle.prem_syntax.specs.SyntaxOf.{statement_of, statements_of}
 use Rattle.prem_syntax.proofs.Rows.{statement_of-Block}
-use Rattle.prem_meaning.specs.Resolve.{resolve_statements, loops_within}
+use Rattle.prem_syntax.specs.Resolve.{resolve_statements, loops_within}
 use Rattle.prem_names.specs.Scopes.{scope_of}
 use Rattle.prem_tree.proofs.ResolveLemmas.StepLaws.{IsStep_block, AreSteps_more}
 use Rattle.prem_tree.proofs.resolve.program.+steps.Goals as goal

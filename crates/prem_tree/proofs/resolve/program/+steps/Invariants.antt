@@ -1,7 +1,7 @@
 use Rattle.std.proofs.Common.{take}
 use Rattle.prem_list.specs.Sequence.{items_of}
 use Rattle.prem_syntax.specs.SyntaxOf.{statements_of}
-use Rattle.prem_meaning.specs.Resolve.{resolve_statements, loops_within}
+use Rattle.prem_syntax.specs.Resolve.{resolve_statements, loops_within}
 use Rattle.prem_names.specs.Scopes.{scope_of}
 use Rattle.prem_tree.specs.Resolve.ResolvedOf.{AreSteps}
 use Rattle.prem_tree.proofs.resolve.program.+steps.Given as goal

@@ -1,6 +1,6 @@
 use Rattle.std.proofs.Common.{◌≡◌, map, take}
 use Rattle.prem_syntax.specs.SyntaxOf.{parameter_of}
-use Rattle.prem_meaning.specs.Resolve.{parameter_names}
+use Rattle.prem_syntax.specs.Resolve.{parameter_names}
 use Rattle.prem_names.specs.Scopes.{scope_of, with_locals}
 use Rattle.prem_tree.proofs.resolve.program.add_params.Given as goal
 

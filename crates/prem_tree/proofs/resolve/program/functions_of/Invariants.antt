@@ -1,6 +1,6 @@
 use Rattle.std.proofs.Common.{◌≡◌, map, drop, ◌++◌}
 use Rattle.prem_syntax.specs.SyntaxOf.{function_of, item_of}
-use Rattle.prem_meaning.specs.Resolve.{functions_of}
+use Rattle.prem_syntax.specs.Resolve.{functions_of}
 use Rattle.prem_tree.proofs.resolve.program.functions_of.Given as goal
 
 abbrev pub invariant-loop-item : goal.invariant-loop-item

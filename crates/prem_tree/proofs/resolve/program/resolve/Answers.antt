@@ -4,7 +4,7 @@ use Rattle.std.proofs.lemmas.Grind.{common_steps}
 use Rattle.std.proofs.lemmas.List.{length-map}
 use Rattle.prem_list.specs.Sequence.{items_of}
 use Rattle.prem_syntax.specs.SyntaxOf.{item_of, function_of, program_of}
-use Rattle.prem_meaning.specs.Resolve.{functions_of, number_named}
+use Rattle.prem_syntax.specs.Resolve.{functions_of, number_named}
 use Rattle.prem_names.specs.Scopes.{scope_of}
 use Rattle.prem_tree.specs.Resolve.NamesOf.{AreBehind}
 use Rattle.prem_tree.proofs.resolve.program.resolve.Goals as goal

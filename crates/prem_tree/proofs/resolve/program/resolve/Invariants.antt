@@ -1,7 +1,7 @@
 use Rattle.std.proofs.Common.{map, take}
 use Rattle.prem_list.specs.Sequence.{items_of}
 use Rattle.prem_syntax.specs.SyntaxOf.{item_of, program_of}
-use Rattle.prem_meaning.specs.Resolve.{functions_of}
+use Rattle.prem_syntax.specs.Resolve.{functions_of}
 use Rattle.prem_names.specs.Scopes.{scope_of}
 use Rattle.prem_tree.specs.Resolve.NamesOf.{AreBehind}
 use Rattle.prem_tree.proofs.resolve.program.resolve.Given as goal

@@ -1,7 +1,7 @@
 use Rattle.std.proofs.Common.{◌≡◌, arith, rules}
 use Rattle.std.proofs.lemmas.Grind.{common_steps}
 use Rattle.prem_syntax.specs.SyntaxOf.{function_of}
-use Rattle.prem_meaning.specs.Resolve.{scope_at, scope_in}
+use Rattle.prem_syntax.specs.Resolve.{scope_at, scope_in}
 use Rattle.prem_names.specs.Scopes.{scope_of}
 use Rattle.prem_tree.proofs.ResolveLemmas.StepLaws.{IsRoutine_made}
 use Rattle.prem_tree.proofs.resolve.program.resolve_function.Goals as goal

@@ -1,7 +1,7 @@
 use Rattle.std.proofs.Common.{◌≡◌, ◌++◌, map, take, drop}
 use Rattle.prem_list.specs.Sequence.{items_of}
 use Rattle.prem_syntax.specs.SyntaxOf.{local_of}
-use Rattle.prem_meaning.specs.Resolve.{resolve_locals, local_names}
+use Rattle.prem_syntax.specs.Resolve.{resolve_locals, local_names}
 use Rattle.prem_names.specs.Scopes.{scope_of, with_locals}
 use Rattle.prem_tree.specs.Resolve.ResolvedOf.{term_of}
 use Rattle.prem_tree.proofs.resolve.program.resolve_locals.Given as goal

@@ -1,7 +1,7 @@
 use Rattle.std.proofs.Common.{◌≡◌, map, take}
 use Rattle.prem_list.specs.Sequence.{items_of}
 use Rattle.prem_syntax.specs.SyntaxOf.{expression_of}
-use Rattle.prem_meaning.specs.Resolve.{resolve_term}
+use Rattle.prem_syntax.specs.Resolve.{resolve_term}
 use Rattle.prem_names.specs.Scopes.{scope_of}
 use Rattle.prem_tree.specs.Resolve.ResolvedOf.{term_of}
 use Rattle.prem_tree.proofs.resolve.program.resolve_terms.Given as goal

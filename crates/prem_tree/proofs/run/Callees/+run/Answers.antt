@@ -1,9 +1,9 @@
 use Rattle.std.specs.Prelude.{◌^◌}
 use Rattle.std.proofs.Common.{◌≡◌, ◌+◌, drop, ap, sym, ◌∙◌, arith, rules, Ok, Err, true, false}
 use Rattle.std.proofs.lemmas.Grind.{common_steps}
-use Rattle.prem_meaning.specs.Expressions.{and_then}
-use Rattle.prem_meaning.specs.Statements.{ProgramState, bounded, holds, loop_test, loop_step}
-use Rattle.prem_meaning.specs.Source.{everywhere}
+use Rattle.prem_syntax.specs.Expressions.{and_then}
+use Rattle.prem_syntax.specs.Statements.{ProgramState, bounded, holds, loop_test, loop_step}
+use Rattle.prem_syntax.specs.Source.{everywhere}
 use Rattle.prem_tree.specs.declared.resolve.resolved.Step.{Step}
 use Rattle.prem_tree.specs.Resolve.ResolvedOf.{term_of}
 use Rattle.prem_tree.specs.State.Interpreter.{state_of}

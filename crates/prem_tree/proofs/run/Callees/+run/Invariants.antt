@@ -1,6 +1,6 @@
 use Rattle.std.proofs.Common.{◌≡◌, ◌+◌, ◌*◌, drop}
-use Rattle.prem_meaning.specs.Statements.{bounded, holds}
-use Rattle.prem_meaning.specs.Source.{everywhere}
+use Rattle.prem_syntax.specs.Statements.{bounded, holds}
+use Rattle.prem_syntax.specs.Source.{everywhere}
 use Rattle.prem_tree.specs.Resolve.ResolvedOf.{term_of}
 use Rattle.prem_tree.specs.State.Interpreter.{state_of}
 use Rattle.prem_tree.specs.StepMeaning.{do_step, do_list, do_counting, noted_calls}

@@ -1,6 +1,6 @@
 use Rattle.std.proofs.Common.{◌≡◌, map, drop}
-use Rattle.prem_meaning.specs.Statements.{declare}
-use Rattle.prem_meaning.specs.Source.{everywhere}
+use Rattle.prem_syntax.specs.Statements.{declare}
+use Rattle.prem_syntax.specs.Source.{everywhere}
 use Rattle.prem_tree.specs.Resolve.ResolvedOf.{term_of}
 use Rattle.prem_tree.specs.State.Interpreter.{state_of}
 use Rattle.prem_tree.proofs.state.interpreter.Interpreter.declare.Given as goal

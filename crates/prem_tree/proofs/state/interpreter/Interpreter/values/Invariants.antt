@@ -1,7 +1,7 @@
 use Rattle.std.proofs.Common.{◌≡◌, ◌++◌, map, drop, Ok}
-use Rattle.prem_meaning.specs.Expressions.{and_then}
-use Rattle.prem_meaning.specs.Statements.{values}
-use Rattle.prem_meaning.specs.Source.{everywhere}
+use Rattle.prem_syntax.specs.Expressions.{and_then}
+use Rattle.prem_syntax.specs.Statements.{values}
+use Rattle.prem_syntax.specs.Source.{everywhere}
 use Rattle.prem_tree.specs.Resolve.ResolvedOf.{term_of}
 use Rattle.prem_tree.specs.State.Interpreter.{state_of}
 use Rattle.prem_tree.proofs.state.interpreter.Interpreter.values.Given as goal

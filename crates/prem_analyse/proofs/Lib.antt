@@ -1,4 +1,0 @@
-pub mod Naming
-pub mod Counts
-pub mod Lookup
-pub mod Bounded

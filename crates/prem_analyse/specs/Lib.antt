@@ -1,4 +1,0 @@
-pub mod Analysed
-pub mod Told
-pub mod Named
-pub mod Words

@@ -1,0 +1,6 @@
+use Rattle.prem_ranges.proofs.AnalysisSound.{analysis_sound}
+use Rattle.prem_analysis.specs.Analysed.{analysed_text}
+use Rattle.prem_analysis.proofs.analysed.Analysed.checked.Goals as goal
+
+pub returns-clause-sound : goal.returns-clause-sound
+returns-clause-sound c = let a = c.args.self.now in analysis_sound (analysed_text a) a.well_formed a.words a.stays

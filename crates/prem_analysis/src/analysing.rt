@@ -1,0 +1,49 @@
+// The analysis of a program.
+ghost use Rattle.std.specs.Prelude.{◌≡◌, IfOk};
+ghost use Rattle.prem_syntax.specs.SyntaxOf.{program_of};
+ghost use Rattle.prem_syntax.specs.Literals.{ProgramHasWords};
+ghost use Rattle.prem_syntax.specs.GroupTwo.{IsWellFormed};
+ghost use Rattle.prem_ranges.specs.GroupThree.{group_three, turn_bounds};
+ghost use Rattle.prem_analysis.specs.Ranging.View.{found_of};
+ghost use Rattle.prem_analysis.specs.Told.{IsAnswer};
+
+use crate::analysed::Analysed;
+use crate::fail::RangeFail;
+use crate::marks::marked_of;
+use crate::telling::told;
+use crate::{Seen, see_program};
+use prem_syntax::have_words;
+use prem_tree::resolve::resolve;
+use prem_tree::{Checked, Program};
+use std::alloc::{AllocError, Global};
+
+/// The first broken rule on ranges of a program, and its turn bounds.
+#[tactic(auto, using(crate::proofs::Programs::all_ranged, crate::proofs::Programs::is_group_three, crate::proofs::Programs::are_turn_bounds))]
+fn see(alloc: Global, p: &Program) -> Result<Seen, AllocError>
+    requires formed { IsWellFormed (program_of p.now) }
+    requires words { ProgramHasWords (program_of p.now) }
+    ensures found { IfOk result (λ s. found_of s.found ≡ group_three (program_of p.now)) }
+    ensures turns { IfOk result (λ s. s.turns.items ≡ turn_bounds (program_of p.now)) }
+{
+    let r = resolve(alloc, p)?;
+    let marked = marked_of(alloc, &r)?;
+    let seen = see_program(alloc, &r, &marked)?;
+    Ok(seen)
+}
+
+/// Analyses a program: which values its expressions can have, and how many turns its loops take at most.
+///
+/// Gives the program as an analysed one where it breaks no rule on ranges; such a program never goes wrong. Else it is dropped,
+/// and the refusal is the first rule that it breaks: by place, then in the order in which `RangeFail` lists them.
+/// `OutOfMemory` comes only for want of memory.
+pub fn analyse(alloc: Global, c: Checked) -> Result<Analysed, RangeFail>
+    ensures { IsAnswer c result }
+{
+    let program = c.program();
+    have_words(program);
+    let seen = see(alloc, program)?;
+    match seen.found {
+        Some(broken) => Err(told(broken)),
+        None => Ok(Analysed::adopt(c, seen.turns)),
+    }
+}

@@ -1,0 +1,1 @@
+//! The code of each construct of the language, as pieces.

@@ -1,9 +1,0 @@
-use Rattle.prem_runs.proofs.InputsLemmas.Runs.{inputs_extend}
-use Rattle.prem_runs.proofs.InputsLemmas.Fits.{lists_stay_fit}
-use Rattle.prem_runs.proofs.inputs.inputs_extend.Goals as goal
-
-pub returns-clause-state : goal.returns-clause-state
-returns-clause-state c = inputs_extend
-
-pub returns-clause-fits : goal.returns-clause-fits
-returns-clause-fits c = lists_stay_fit

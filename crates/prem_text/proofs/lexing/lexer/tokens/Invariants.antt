@@ -1,0 +1,14 @@
+use Rattle.std.proofs.Common.{◌≡◌, ◌≤◌, ◌-◌, ◌+◌, drop, map, vec_len}
+use Rattle.prem_text.specs.declared.lexing.lexer.Mode.TheVariants.{Skip}
+use Rattle.prem_text.specs.Lexing.Token.Lexeme.{seen_of}
+use Rattle.prem_text.specs.Lexing.Tokens.{with_front, lex, beginning}
+use Rattle.prem_text.proofs.lexing.lexer.tokens.Given as goal
+
+abbrev pub invariant-loop-i : goal.invariant-loop-i
+invariant-loop-i l = record {
+  so_far : with_front (map seen_of l.all.items) (lex l.mode l.cursor (200000 - vec_len l.all) (drop l.i l.text)) ≡ lex (Skip 0) beginning 200000 l.text;
+  room : vec_len l.all ≤ 200000;
+  offset : l.cursor.offset ≡ l.i;
+  line : l.cursor.line ≤ l.i + 1;
+  col : l.cursor.col ≤ l.i + 1;
+}
