@@ -92,6 +92,7 @@ pub fn step_word(
 }
 
 /// What a word comes to.
+#[inline(always)]
 pub fn upshot_of(
     target: Target,
     size: u32,
@@ -108,6 +109,7 @@ pub fn upshot_of(
     by_opcode(target, size, registers, pc, phase, word, Fields::of(word))
 }
 
+#[inline(always)]
 fn by_opcode(
     target: Target,
     size: u32,
@@ -147,6 +149,7 @@ fn by_opcode(
 }
 
 /// The constant of the format I as a word, at once from the word of these fields.
+#[inline(always)]
 fn constant(word: u32, f: Fields) -> u32
     requires { f ≡ fields_of word }
     ensures { result ≡ word_of_int (signed (2 ^ 11) (imm_i f)) }
@@ -155,6 +158,7 @@ fn constant(word: u32, f: Fields) -> u32
 }
 
 /// The number of the upper bits of the format U in their place.
+#[inline(always)]
 fn upper(word: u32, f: Fields) -> u32
     requires { f ≡ fields_of word }
     ensures { result ≡ imm_u f * 2 ^ 12 }
@@ -162,6 +166,7 @@ fn upper(word: u32, f: Fields) -> u32
     word >> 12 << 12
 }
 
+#[inline(always)]
 fn moved(next: u32, rd: u8, value: u32) -> Upshot
     requires { rd < 32 }
     ensures outcome { (view : ℕ → ℕ) (pc input : ℕ) → told_by view pc input result ≡ sets next rd value }
@@ -170,6 +175,7 @@ fn moved(next: u32, rd: u8, value: u32) -> Upshot
     Upshot::Moves { rd, value, next }
 }
 
+#[inline(always)]
 fn jumped(target: u32, rd: u8, value: u32) -> Upshot
     requires { rd < 32 }
     ensures outcome { (view : ℕ → ℕ) (pc input : ℕ) → told_by view pc input result ≡ jumps target rd value }
@@ -182,6 +188,7 @@ fn jumped(target: u32, rd: u8, value: u32) -> Upshot
     }
 }
 
+#[inline(always)]
 fn branched(registers: &[u32; 32], pc: u32, f: Fields) -> Upshot
     requires fields { FieldsFit f }
     requires place { pc + 4 < 2 ^ 32 }
@@ -200,6 +207,7 @@ fn branched(registers: &[u32; 32], pc: u32, f: Fields) -> Upshot
     }
 }
 
+#[inline(always)]
 fn loading(size: u32, registers: &[u32; 32], pc: u32, f: Fields, imm: u32) -> Upshot
     requires fields { FieldsFit f }
     requires imm { imm ≡ word_of_int (signed (2 ^ 11) (imm_i f)) }
@@ -224,6 +232,7 @@ fn loading(size: u32, registers: &[u32; 32], pc: u32, f: Fields, imm: u32) -> Up
     }
 }
 
+#[inline(always)]
 fn storing(size: u32, registers: &[u32; 32], pc: u32, f: Fields) -> Upshot
     requires fields { FieldsFit f }
     requires place { pc + 4 < 2 ^ 32 }
@@ -247,6 +256,7 @@ fn storing(size: u32, registers: &[u32; 32], pc: u32, f: Fields) -> Upshot
     }
 }
 
+#[inline(always)]
 fn with_constant(registers: &[u32; 32], next: u32, f: Fields, imm: u32) -> Upshot
     requires fields { FieldsFit f }
     requires imm { imm ≡ word_of_int (signed (2 ^ 11) (imm_i f)) }
@@ -271,6 +281,7 @@ fn with_constant(registers: &[u32; 32], next: u32, f: Fields, imm: u32) -> Upsho
     }
 }
 
+#[inline(always)]
 fn with_registers(target: Target, registers: &[u32; 32], next: u32, f: Fields) -> Upshot
     requires fields { FieldsFit f }
     ensures outcome { (size : ℕ) (view : ℕ → ℕ) (pc : ℕ) (phase : Phase) (input : ℕ) → pc + 4 ≡ next → told_by view pc input result
@@ -347,6 +358,7 @@ fn marked(registers: &[u32; 32], phase: Phase, f: Fields) -> Upshot
 }
 
 /// An upshot of one phase, in another.
+#[inline(always)]
 fn in_phase(lawful: Phase, phase: Phase, upshot: Upshot) -> Upshot
     ensures outcome { (view : ℕ → ℕ) (pc input : ℕ) → told_by view pc input result
         ≡ in_phase lawful phase (told_by view pc input upshot) }

@@ -8,9 +8,10 @@ use Rattle.prem_plant.specs.declared.plant.Plant.{Plant}
 use Rattle.prem_plant.specs.declared.plant.Replacement.TheVariants.{Lru, Fifo}
 use Rattle.prem_plant.specs.declared.plant.Target.TheVariants.{Rv32i}
 use Rattle.prem_lru.specs.Entries.{to_front}
-use Rattle.prem_lru.specs.CacheState.{Touched, empty_cache, entry_of, view_of, touch_of, store_of}
+use Rattle.prem_lru.specs.CacheState.{Touched, empty_cache, entry_of, set_of, view_of, touch_of, store_of}
+use Rattle.prem_lru.specs.Settled.{IsSettled}
 use Rattle.prem_lru.specs.Rules.{rule_of}
-use Rattle.prem_lru.specs.Order.{lines_in}
+use Rattle.prem_lru.specs.Order.{lines_of, lines_in}
 
 abbrev plant : Plant
 plant = record { line = 4; sets = 2; ways = 2; fill = 10; back = 10; switch = 20; memory = 40; policy = Lru; target = Rv32i }
@@ -41,6 +42,16 @@ row_order = refl
 
 row_hit : (after (0 ∷ 2 ∷ 0 ∷ [])).hit ≡ true
 row_hit = refl
+
+-- the line that was touched last is settled; the other one of its set isn't
+row_settled : IsSettled to_front (after (0 ∷ 2 ∷ [])).cache 2
+row_settled = record { resident = refl; stays = refl }
+
+row_unsettled : lines_of (to_front 0 (set_of (after (0 ∷ 2 ∷ [])).cache 0)) ≡ 0 ∷ 2 ∷ []
+row_unsettled = refl
+
+row_set : lines_of (set_of (after (0 ∷ 2 ∷ [])).cache 0) ≡ 2 ∷ 0 ∷ []
+row_set = refl
 
 row_gone : lines_in (after (0 ∷ 2 ∷ 0 ∷ 4 ∷ [])).cache ≡ (4 ∷ 0 ∷ []) ∷ [] ∷ []
 row_gone = refl
@@ -88,3 +99,7 @@ row_first_goes = refl
 
 row_stays_hit : (placed (0 ∷ 2 ∷ 0 ∷ []) start).hit ≡ true
 row_stays_hit = refl
+
+-- each resident line is settled
+row_stays_settled : IsSettled (rule_of Fifo) (placed (0 ∷ 2 ∷ []) start).cache 0
+row_stays_settled = record { resident = refl; stays = refl }

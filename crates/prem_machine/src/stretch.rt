@@ -1,4 +1,5 @@
 // Instructions that follow each other while the bus has nothing to do.
+use crate::issue::Near;
 use crate::log::room_left;
 use crate::parts::Parts;
 use crate::passing::next_arrival;
@@ -24,6 +25,7 @@ impl<P: Policy> Parts<P> {
     ghost use Rattle.prem_cycle.specs.State.{rule_in};
     ghost use Rattle.prem_cycle.specs.Cycle.{is_over, log_size};
     ghost use Rattle.prem_cycle.specs.Run.{cycles_of};
+    ghost use Rattle.prem_machine.specs.Issue.Near.{IsNear};
     ghost use Rattle.prem_machine.specs.Log.{put_out};
     ghost use Rattle.prem_machine.specs.Work.{setup_in};
     ghost use Rattle.prem_machine.specs.Parts.{IsSetting, Runs, Stands, state_of};
@@ -56,9 +58,9 @@ impl<P: Policy> Parts<P> {
     }
 
     /// One instruction that goes on in its interval and ends before the bus has something to do, with all its cycles.
-    /// It answers whether another one may follow at once.
+    /// It answers whether another one may follow at once. `near` tells what is known of the line of the last fetch.
     #[inline(always)]
-    fn step(&mut self, setting: &Setting, requests: &[Request], lone: Lone) -> bool
+    fn step(&mut self, setting: &Setting, requests: &[Request], lone: Lone, near: &mut Near) -> bool
         requires setting { IsSetting setting.now requests.now }
         requires stands { Stands setting.now requests.now self.old }
         requires runs { Runs self.old.now (4 * self.old.now) requests.now self.old }
@@ -68,6 +70,7 @@ impl<P: Policy> Parts<P> {
         requires trapped { self.old.trapped ≡ None }
         requires room { put_out (items_of self.old.facts.tasks) + 2 ≤ log_size }
         requires intervals { length (items_of self.old.facts.intervals) < log_size }
+        requires near { IsNear self.old.work.cache near.old.line }
         ensures state { state_of self.new ≡ cycles_of (rule_in (setup_in setting.now)) (setup_in setting.now) requests.now
             (self.new.now - self.old.now) (state_of self.old) }
         ensures stands { Stands setting.now requests.now self.new }
@@ -75,16 +78,18 @@ impl<P: Policy> Parts<P> {
         ensures from { self.old.now ≤ self.new.now }
         ensures within { self.new.now ≤ lone.until }
         ensures trapped { self.new.trapped ≡ None }
+        ensures near { result ≡ true → IsNear self.new.work.cache near.new.line }
         ensures lone { result ≡ true → IsLone lone.task lone.until requests.now (state_of self.new) }
         ensures put { result ≡ true → put_out (items_of self.new.facts.tasks) ≤ put_out (items_of self.old.facts.tasks) + 1 }
         ensures intervals { result ≡ true → items_of self.new.facts.intervals ≡ items_of self.old.facts.intervals }
     {
         let k = usize::from(lone.task);
         let most = lone.until - self.now;
-        let Some(plain) = issue_plain(k, most, setting, &mut self.work, &mut self.facts) else {
+        let Some(plain) = issue_plain(k, most, setting, &mut self.work, near, &mut self.facts)
+        else {
             return false;
         };
-        if plain.touches.hit() {
+        if plain.hit {
             self.now += u64::from(plain.cost);
             return true;
         }
@@ -118,9 +123,10 @@ impl<P: Policy> Parts<P> {
         let Some(lone) = self.lone(requests, limit) else {
             return;
         };
+        let mut near = Near::none();
         let mut left = room_left(self.facts.tasks.items());
         'instructions: while left > 1 {
-            if !self.step(setting, requests, lone) {
+            if !self.step(setting, requests, lone, &mut near) {
                 return;
             }
             left -= 1;

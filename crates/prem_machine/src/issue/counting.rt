@@ -38,6 +38,10 @@ fn count_touch(facts: &mut Facts, phase: Phase, touch: LineTouch)
     ensures most { (most : ℕ) → AreAtMost most (counts_in facts.old)
         → AreAtMost (most + 1) (counts_in facts.new) }
 {
+    if touch.is_hit() {
+        facts.hits += 1;
+        return;
+    }
     facts.hits += one_if(touch.hit);
     facts.misses += one_if(!touch.hit);
     facts.writebacks += one_if(touch.back);

@@ -1,5 +1,5 @@
-use Rattle.std.specs.Prelude.{◌/◌, slice_set}
-use Rattle.std.proofs.Common.{◌≡◌, ◌<◌, ℕ, List, [], length, map, ap, sym, ◌∙◌, subst, arith}
+use Rattle.std.specs.Prelude.{slice_set}
+use Rattle.std.proofs.Common.{◌≡◌, ◌/◌, ◌<◌, ℕ, List, [], length, map, refl, ap, sym, ◌∙◌, subst, arith}
 use Rattle.std.proofs.lemmas.List.{get_or_default, with_items_is}
 use Rattle.prem_list.specs.Sequence.{items_of, room_of}
 use Rattle.prem_plant.specs.declared.plant.Plant.{Plant}
@@ -7,14 +7,17 @@ use Rattle.prem_isa.specs.declared.effect.Phase.{Phase}
 use Rattle.prem_lru.specs.Entries.{ReplacementRule}
 use Rattle.prem_lru.specs.Rules.{rule_of}
 use Rattle.prem_lru.specs.CacheState.{CacheState, touch_of}
+use Rattle.prem_lru.specs.Settled.{IsSettled}
 use Rattle.prem_cycle.specs.declared.facts.Facts.{Facts}
 use Rattle.prem_cycle.specs.declared.facts.TaskFacts.{TaskFacts}
 use Rattle.prem_cycle.specs.State.{Task, Work, first_task, no_record, record_of, task_in}
 use Rattle.prem_cycle.specs.Issue.{Issued, issued_with, task_after, with_store, with_touches}
 use Rattle.prem_machine.specs.Issue.Attempts.{CanIssue}
+use Rattle.prem_machine.specs.Issue.Near.{IsNear}
 use Rattle.prem_machine.specs.Log.{counts_in, ended_in, log_in, put_out}
 use Rattle.prem_machine.specs.Wanted.{core_in}
 use Rattle.prem_machine.specs.Work.{setup_in, tasks_in, work_in}
+use Rattle.prem_machine.proofs.IssueLemmas.Nearness.{stored_none}
 use Rattle.prem_machine.proofs.Executing.{pc-tasks_in}
 use Rattle.prem_machine.proofs.plain.carry_known.Goals as goal
 
@@ -29,8 +32,41 @@ touch_known-touches-requires-clause-ready g c =
     let Q : ℕ → Type 0 = λ n. CanIssue c.args.setting.now.plant.memory n c.args.effect in
     subst P (sym c.requires.cache) (subst Q pc c.requires.ready)
 
+pub carry_near-requires-clause-line : goal.carry_near-requires-clause-line
+carry_near-requires-clause-line g c =
+    let w = c.args.work.now in
+    let core = c.index-core.result.now in
+    let lt : c.args.k < length w.cores.items = omega (arith, c.requires.at, c.requires.cores) in
+    let same : core_in w c.args.k ≡ core = get_or_default w.cores.items c.args.k (first_task no_record []) core lt ∙ sym c.index-core.ensures in
+    let pc : (core_in w c.args.k).pc ≡ c.pc-pc.result = ap (λ (t : Task). t.pc) same ∙ sym c.pc-pc.ensures.same in
+    c.line_of-line.ensures.line ∙ ap (λ n. n / w.cache.plant.line) (sym pc) ∙ ap (λ (p : Plant). (core_in w c.args.k).pc / p.line) c.requires.cache
+
+pub carry_near-requires-clause-settled : goal.carry_near-requires-clause-settled
+carry_near-requires-clause-settled g c =
+    let w = c.args.work.now in
+    let core = c.index-core.result.now in
+    let lt : c.args.k < length w.cores.items = omega (arith, c.requires.at, c.requires.cores) in
+    let same : core_in w c.args.k ≡ core = get_or_default w.cores.items c.args.k (first_task no_record []) core lt ∙ sym c.index-core.ensures in
+    let pc : (core_in w c.args.k).pc ≡ c.pc-pc.result = ap (λ (t : Task). t.pc) same ∙ sym c.pc-pc.ensures.same in
+    let memory = ap (λ (p : Plant). p.memory) c.requires.cache in
+    let within = c.line_of-line.ensures.within (omega (arith, c.requires.ready.place, pc, memory)) in
+    let is : c.line_of-line.result ≡ c.args.near.now.line = (c.if-stays_near.ensures refl).0 in
+    let N : ℕ → Type 0 = λ n. n < w.cache.plant.memory / w.cache.plant.line in
+    let S : ℕ → Type 0 = λ n. IsSettled (rule_of w.cache.plant.policy) w.cache n in
+    let P : Plant → Type 0 = λ p. IsSettled (rule_of p.policy) w.cache c.line_of-line.result in
+    subst P c.requires.cache (subst S (sym is) (c.requires.near.settled (subst N is within)))
+
+pub carry_near-requires-clause-access : goal.carry_near-requires-clause-access
+carry_near-requires-clause-access g c = (c.if-stays_near.ensures refl).1
+
+pub carry_near-requires-clause-stored : goal.carry_near-requires-clause-stored
+carry_near-requires-clause-stored g c = stored_none c.args.effect.access c.args.effect.stored c.requires.ready.fits.matches (c.if-stays_near.ensures refl).1
+
+pub returns-then-stays_near-clause-near : goal.returns-then-stays_near-clause-near
+returns-then-stays_near-clause-near g c = subst (λ (x : CacheState). IsNear x c.args.near.now.line) (sym c.carry_near.ensures.cache) c.requires.near
+
 -- the facts behind it tell the tasks that were told
-told : (g : _) (c : goal.After-count g) → items_of c.count.new.facts.tasks ≡ c.go_on_by.new.tasks
+told : (g : _) (c : goal.After-hit g) → items_of c.count.new.facts.tasks ≡ c.go_on_by.new.tasks
 told g c =
     let all = c.args.facts.now.tasks in
     let same : length c.go_on_by.new.tasks ≡ all.all.len = c.go_on_by.auto.tasks ∙ ap length c.items_mut.ensures.value ∙ sym all.all.ok.0 in
@@ -115,3 +151,6 @@ returns-clause-kept g c =
           };
       put = (let a = ap put_out there in let b = ap put_out value in omega (arith, a, b, c.go_on_by.ensures.put));
     }
+
+pub returns-clause-near : goal.returns-clause-near
+returns-clause-near g c = subst (λ (x : CacheState). IsNear x c.touch_known-touches.new.near.line) (sym c.go_on_by.ensures.cache) c.touch_known-touches.ensures.near

@@ -15,6 +15,7 @@ use Rattle.prem_cycle.specs.declared.facts.TaskFacts.{TaskFacts}
 use Rattle.prem_cycle.specs.State.{Task, Work, first_task, no_record, record_of, rule_in, task_in}
 use Rattle.prem_cycle.specs.Issue.{Issued, issued_with, task_after, view_behind, view_touched, with_store, with_touches}
 use Rattle.prem_machine.specs.Issue.Coming.{load_access, load_effect}
+use Rattle.prem_machine.specs.Issue.Near.{IsNear}
 use Rattle.prem_machine.specs.Log.{counts_in, ended_in, log_in, put_out}
 use Rattle.prem_machine.specs.Wanted.{core_in}
 use Rattle.prem_machine.specs.Work.{setup_in, tasks_in, work_in}
@@ -132,3 +133,6 @@ returns-clause-kept g c =
           };
       put = (let a = ap put_out there in let b = ap put_out value in omega (arith, a, b, c.go_on_by.ensures.put));
     }
+
+pub returns-clause-near : goal.returns-clause-near
+returns-clause-near g c = subst (λ (x : CacheState). IsNear x c.touch_load-touches.new.near.line) (sym c.go_on_by.ensures.cache) c.touch_load-touches.ensures.near

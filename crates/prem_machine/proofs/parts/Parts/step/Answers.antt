@@ -26,8 +26,8 @@ returns-in_default-clause-state g c =
     ap state_of (unmoved x new.work new.facts kept.0 kept.1)
     ∙ stays (rule_in (setup_in c.args.setting.now)) (setup_in c.args.setting.now) c.args.requests.now (state_of x) x.now
 
-pub returns-then-hit-clause-state : goal.returns-then-hit-clause-state
-returns-then-hit-clause-state g c =
+pub returns-then-plain-clause-state : goal.returns-then-plain-clause-state
+returns-then-plain-clause-state g c =
     let x = c.args.self.now in
     let p = c.args.setting.now in
     let new = c.issue_plain.new in
@@ -38,10 +38,10 @@ returns-then-hit-clause-state g c =
     let G : ℕ → Type 0 = λ k. GoesOn p k x.work x.facts new.work new.facts plain.touches plain.cost in
     let T : ℕ → Type 0 = λ n. state_of (behind x new.work new.facts (x.now + n) x.moment) ≡ cycles (x.now + n - x.now) in
     subst T (sym c.from.ensures) (went_state p c.args.requests.now x new.work new.facts c.args.lone.task c.args.lone.until plain.cost plain.touches c.requires.lone c.requires.stands c.requires.trapped
-    (subst G c.from-k.ensures e.goes_on) (c.hit.ensures c.if-hit.true p.plant) e.kept e.cost.0 (omega (arith, e.cost.1, c.requires.now)) c.requires.room c.requires.intervals ∙ ap cycles t)
+    (subst G c.from-k.ensures e.goes_on) (e.hit c.if-plain.true p.plant) e.kept e.cost.0 (omega (arith, e.cost.1, c.requires.now)) c.requires.room c.requires.intervals ∙ ap cycles t)
 
-pub returns-then-hit-clause-runs : goal.returns-then-hit-clause-runs
-returns-then-hit-clause-runs g c =
+pub returns-then-plain-clause-runs : goal.returns-then-plain-clause-runs
+returns-then-plain-clause-runs g c =
     let x = c.args.self.now in
     let new = c.issue_plain.new in
     let e = c.in-Some.ensures in
@@ -49,8 +49,8 @@ returns-then-hit-clause-runs g c =
     subst T (sym c.from.ensures) (kept_runs c.args.requests.now x new.work new.facts c.args.lone.task c.args.lone.until c.in-Some.plain.cost c.requires.lone c.requires.stands.periods c.requires.runs e.kept
     e.cost.0 (omega (arith, e.cost.1, c.requires.now)))
 
-pub returns-then-hit-clause-lone : goal.returns-then-hit-clause-lone
-returns-then-hit-clause-lone g c so =
+pub returns-then-plain-clause-lone : goal.returns-then-plain-clause-lone
+returns-then-plain-clause-lone g c so =
     let new = c.issue_plain.new in
     went_lone c.args.requests.now c.args.self.now new.work new.facts c.args.lone.task c.args.lone.until c.from.result c.requires.lone
 

@@ -1,9 +1,12 @@
-use Rattle.std.proofs.Common.{◌-◌, ap, ◌∙◌, arith}
+use Rattle.std.proofs.Common.{◌-◌, ap, sym, ◌∙◌, subst, arith}
+use Rattle.prem_plant.specs.Ranges.{IsPlant}
 use Rattle.prem_cycle.specs.State.{rule_in}
 use Rattle.prem_cycle.specs.Cycle.{log_size}
+use Rattle.prem_machine.specs.Issue.Near.{IsNear}
 use Rattle.prem_machine.specs.Log.{put_out}
 use Rattle.prem_machine.specs.Parts.{state_of}
 use Rattle.prem_machine.specs.Work.{setup_in}
+use Rattle.prem_machine.proofs.IssueLemmas.Nearness.{near_none}
 use Rattle.prem_machine.proofs.Stretching.{follows_none, follows_on, follows_one, rooms_going, stays}
 use Rattle.prem_machine.proofs.parts.Parts.stretch.Goals as goal
 
@@ -18,16 +21,18 @@ instructions-init g c =
     let p = c.args.setting.now in
     let lone = c.in-Some.lone in
     let rooms = rooms_going p c.args.requests.now x c.requires.stands c.requires.going in
-    let left = c.room_left-left.ensures ∙ ap (λ ts. log_size - put_out ts) c.items.ensures in
-    follows_none p c.args.requests.now lone.task lone.until x c.room_left-left.result c.requires.stands c.requires.runs c.requires.going c.in-Some.ensures.until.0 c.in-Some.ensures.lone
-    (omega (arith, rooms.0, left))
+    let left = c.room_left-left.ensures ∙ ap (λ ts. log_size - put_out ts) c.items.ensures in (
+      follows_none p c.args.requests.now lone.task lone.until x c.room_left-left.result c.requires.stands c.requires.runs c.requires.going c.in-Some.ensures.until.0 c.in-Some.ensures.lone
+          (omega (arith, rooms.0, left)),
+      subst (IsNear x.work.cache) (sym c.none-near.ensures) (near_none x.work.cache (subst IsPlant (sym c.requires.stands.cache) c.requires.setting.plant)),
+    )
 
 pub returns-then-not-step-clause-state : goal.returns-then-not-step-clause-state
 returns-then-not-step-clause-state g c =
     let p = c.args.setting.now in
     let old = c.instructions.self in
     let new = c.step.new.self in
-    let f = c.instructions.invariant in
+    let f = c.instructions.invariant.0 in
     follows_on (rule_in (setup_in p)) (setup_in p) c.args.requests.now (state_of c.args.self.now) (state_of old) (state_of new) c.args.self.now.now old.now new.now f.begun c.step.ensures.from
     f.state c.step.ensures.state
 
@@ -37,6 +42,8 @@ instructions-preserved g c =
     let old = c.instructions.self in
     let new = c.step.new.self in
     let e = c.step.ensures in
-    let lone = c.in-Some.lone in
-    follows_one p c.args.requests.now lone.task lone.until c.args.self.now old new c.instructions.left c.instructions.invariant (omega (arith, c.instructions-test.true))
-    e.state e.stands e.runs e.from e.within e.trapped (e.lone c.if-not-step.false) (e.put c.if-not-step.false) (e.intervals c.if-not-step.false)
+    let lone = c.in-Some.lone in (
+      follows_one p c.args.requests.now lone.task lone.until c.args.self.now old new c.instructions.left c.instructions.invariant.0 (omega (arith, c.instructions-test.true))
+          e.state e.stands e.runs e.from e.within e.trapped (e.lone c.if-not-step.false) (e.put c.if-not-step.false) (e.intervals c.if-not-step.false),
+      e.near c.if-not-step.false,
+    )
