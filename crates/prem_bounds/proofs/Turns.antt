@@ -1,7 +1,7 @@
 -- The four sums of a loop at once are those of its turns one after another.
 use Rattle.std.proofs.Common.{◌≡◌, ℕ, zero, suc, ◌+◌, ◌-◌, ◌*◌, ◌≤◌, max, refl, ap, ◌∙◌, sym, subst, arith, Option, Some, None}
 use Rattle.prem_layout.specs.Stretch.Sums.{Sums, both, most, or_none, turned}
-use Rattle.prem_layout.proofs.StretchLemmas.Algebra.{both_most, same_sums}
+use Rattle.prem_layout.proofs.StretchLemmas.Algebra.{both_most, same_sums, same_code, code_most}
 use Rattle.prem_bounds.specs.Turns.{repeated, again, before_turns, between_turns, behind_turns, looped}
 
 -- ---- sums that may not be there, as numbers: one more than the sum, or 0
@@ -9,17 +9,6 @@ use Rattle.prem_bounds.specs.Turns.{repeated, again, before_turns, between_turns
 abbrev code : Option ℕ → ℕ
 code None = 0
 code (Some a) = suc a
-
-same_code : (a b : Option ℕ) → code a ≡ code b → a ≡ b
-same_code None None e = refl
-same_code None (Some b) e = absurd (omega (arith, e))
-same_code (Some a) None e = absurd (omega (arith, e))
-same_code (Some a) (Some b) e = let same : a ≡ b = omega (arith, e) in ap (λ n. Some n) same
-
-code_most : (a b : Option ℕ) → code (most a b) ≡ max (code a) (code b)
-code_most None b = omega arith
-code_most (Some a) None = omega arith
-code_most (Some a) (Some b) = omega arith
 
 -- ---- sums behind turns
 

@@ -2,8 +2,9 @@
 ghost use Rattle.std.specs.Prelude.{◌≡◌, ◌<◌, ◌≤◌, ◌^◌, length, map, IfOk, OnOk, OnErr};
 ghost use Rattle.prem_list.specs.Sequence.{items_of};
 ghost use Rattle.prem_plant.specs.Ranges.{IsPlant};
+ghost use Rattle.prem_isa.specs.Decode.{cost_of};
 ghost use Rattle.prem_asm.specs.PiecesOf.{pieces_of};
-ghost use Rattle.prem_layout.specs.Bounds.{bound_of, first_call, job_bound_of, marked_weight, marked_weights, job_weights, stub_calling, stub_number, weight_at};
+ghost use Rattle.prem_layout.specs.Bounds.{bound_of, costs_of, first_call, job_bound_of, marked_weight, marked_weights, job_weights, stub_calling, stub_number, stub_weight, weight_at};
 ghost use Rattle.prem_split.specs.PlanOf.{plan_of};
 ghost use Rattle.prem_bounds.specs.TableOf.{IsTable, listed, table_of};
 ghost use Rattle.prem_bounds.specs.Told.{Tells};
@@ -19,14 +20,10 @@ use prem_split::IntervalPlan;
 #[derive(Clone, Copy, Debug, PartialEq, Eq)]
 pub struct BoundTooLarge;
 
-/// The bound of the marked function that has the stub number k, and touches so many lines.
-pub fn bound_at(k: usize, table: &CodeTable, lines: u64, p: &Plant) -> Result<u64, BoundTooLarge>
-    requires table { IsTable table.now }
-    requires plant { IsPlant p.now }
-    requires stub { k < length (items_of table.now.stubs) }
-    ensures bound { IfOk result (λ bound. bound ≡ bound_of p.now (table_of table.now) k lines) }
-    ensures small { OnOk result (bound_of p.now (table_of table.now) k lines ≤ 2 ^ 40) }
-    ensures large { OnErr result (2 ^ 40 < bound_of p.now (table_of table.now) k lines) }
+/// What the code of each stub costs on its dearest path, with what it calls.
+pub fn stub_costs(table: &CodeTable) -> [u64; 256]
+    requires { IsTable table.now }
+    ensures { Tells 256 result (stub_weight cost_of (length (table_of table.now).code) (table_of table.now).stubs (costs_of (table_of table.now))) }
 {
     let scale = Scale {
         access: 0,
@@ -35,7 +32,26 @@ pub fn bound_at(k: usize, table: &CodeTable, lines: u64, p: &Plant) -> Result<u6
         functions: costs(table),
         stubs: [0; 256],
     };
-    let stubs = weights_listed(table.stubs.items(), &scale);
+    weights_listed(table.stubs.items(), &scale)
+}
+
+/// The bound of the marked function that has the stub number k, and touches so many lines, by what the stubs of a task's code cost.
+pub fn bound_by(
+    stubs: &[u64; 256],
+    k: usize,
+    table: &CodeTable,
+    lines: u64,
+    p: &Plant,
+) -> Result<u64, BoundTooLarge>
+    requires table { IsTable table.now }
+    requires costs { Tells 256 stubs.now (stub_weight cost_of (length (table_of table.now).code) (table_of table.now).stubs (costs_of (table_of table.now))) }
+    requires plant { IsPlant p.now }
+    requires stub { k < length (items_of table.now.stubs) }
+    ensures bound { IfOk result (λ bound. bound ≡ bound_of p.now (table_of table.now) k lines) }
+    ensures small { OnOk result (bound_of p.now (table_of table.now) k lines ≤ 2 ^ 40) }
+    ensures large { OnErr result (2 ^ 40 < bound_of p.now (table_of table.now) k lines) }
+{
+    let _table = table;
     let path = stubs[k].saturating_sub(3);
     let misses = lines.saturating_mul(u64::from(p.fill + p.back));
     let bound = path.saturating_add(misses);
@@ -85,7 +101,7 @@ pub fn bound(
     ensures large { OnErr result (2 ^ 40 < bound_of p.now (table_of code.now) (stub_number (table_of code.now) (plan_of plan.now)) lines) }
 {
     let k = stub_calling(1 + u32::from(plan.function), code.stubs.items());
-    bound_at(k, code, lines, p)
+    bound_by(&stub_costs(code), k, code, lines, p)
 }
 
 /// What a call of a marked function weighs behind its jump.

@@ -15,7 +15,7 @@ mod stretches;
 mod table;
 mod weights;
 
-pub use bounds::{BoundTooLarge, bound, bound_at, job_bound};
+pub use bounds::{BoundTooLarge, bound, bound_by, job_bound, stub_costs};
 pub use intervals::longest;
 pub use laws::stubs_are_in_order;
 pub use table::CodeTable;

@@ -18,7 +18,10 @@ use Rattle.prem_color.specs.Offsets.{PartRange, moved_place, least_from, offset_
 use Rattle.prem_color.specs.Rooms.{Room, no_lines, ranges_of_part, all_fit, rooms_after, AreRooms, LiesIn, no_part}
 use Rattle.prem_color.specs.RoomOf.{room_of}
 use Rattle.prem_color.specs.WantOf.{ranges_in}
+use Rattle.prem_color.specs.Claims.{Share, shares_from}
+use Rattle.prem_color.specs.Shares.{shares_fit, with_shares}
 use Rattle.prem_color.specs.Placing.{EndsBy, AllEndBy, IsPlacing}
+use Rattle.prem_color.proofs.Sharing.{offset_for_all, take_same}
 use Rattle.prem_color.proofs.Steps.{rooms_next, all_wide_end, end_last, rise_last, each_last, offset_passes, offset_same, moved_more, moved_some, moved_none, next_is, no_rooms, nothing_ends}
 
 -- ---- the start
@@ -42,42 +45,45 @@ nothing_placed p wants sizes places rooms plant none are =
 
 -- ---- one part more
 
--- what the cache of a plant is, and where the next part may stand
-pub record IsNext (p : Plant) (ws : List (List PartRange)) (s : Placing) (part : PartSize) (n : ℕ) (k : Cache) (base : ℕ) (owns : List (List PartRange)) : Type 0 where
+-- what the cache of a plant is, where the next part may stand, and which wants have ranges in it
+pub record IsNext (p : Plant) (ws : List (List PartRange)) (s : Placing) (part : PartSize) (n : ℕ) (k : Cache) (base : ℕ) (shares : List Share) : Type 0 where
   pub plant : IsPlant p
   pub line : k.line ≡ p.line
   pub sets : k.sets ≡ p.sets
   pub «ways» : k.«ways» ≡ p.«ways»
   pub base_is : base ≡ next_multiple_of s.at part.align
-  pub owns_are : owns ≡ map (ranges_of_part n) ws
+  pub shares_are : shares ≡ shares_from n 0 ws
+  pub long : length (map room_of s.rooms.items) ≡ length ws
 
-module _ (p : Plant) (ws : List (List PartRange)) (sizes : List PartSize) (s : Placing) (part : PartSize) (n : ℕ) (k : Cache) (base : ℕ) (owns : List (List PartRange)) (i : IsNext p ws s part n k base owns) (h : IsPlacing p ws sizes n s) where
+module _ (p : Plant) (ws : List (List PartRange)) (sizes : List PartSize) (s : Placing) (part : PartSize) (n : ℕ) (k : Cache) (base : ℕ) (shares : List Share) (i : IsNext p ws s part n k base shares) (h : IsPlacing p ws sizes n s) where
   abbrev rooms : List Room
   rooms = map room_of s.rooms.items
 
   abbrev places : List Extent
   places = s.places.items
 
-  offset_is : (found : Option ℕ) → found ≡ least_from (λ o. all_fit k.line k.sets k.«ways» (base + o * k.line) rooms owns) 0 k.sets → found ≡ offset_of p ws places s.at part
+  offset_is : (found : Option ℕ) → found ≡ least_from (λ o. shares_fit k.line k.sets k.«ways» (base + o * k.line) rooms shares) 0 k.sets → found ≡ offset_of p ws places s.at part
   offset_is found e =
       let sets = i.plant.sets in
       let line = i.plant.line in
-      e ∙ ap (λ x. least_from (λ o. all_fit x k.sets k.«ways» (base + o * x) rooms owns) 0 k.sets) i.line
-      ∙ ap (λ x. least_from (λ o. all_fit p.line x k.«ways» (base + o * p.line) rooms owns) 0 x) i.sets
-      ∙ ap (λ x. least_from (λ o. all_fit p.line p.sets x (base + o * p.line) rooms owns) 0 p.sets) i.«ways»
-      ∙ ap (λ x. least_from (λ o. all_fit p.line p.sets p.«ways» (x + o * p.line) rooms owns) 0 p.sets) i.base_is
-      ∙ ap (λ x. least_from (λ o. all_fit p.line p.sets p.«ways» (next_multiple_of s.at part.align + o * p.line) rooms x) 0 p.sets) (i.owns_are ∙ ap (λ m. map (ranges_of_part m) ws) (sym h.count))
+      e ∙ ap (λ x. least_from (λ o. shares_fit x k.sets k.«ways» (base + o * x) rooms shares) 0 k.sets) i.line
+      ∙ ap (λ x. least_from (λ o. shares_fit p.line x k.«ways» (base + o * p.line) rooms shares) 0 x) i.sets
+      ∙ ap (λ x. least_from (λ o. shares_fit p.line p.sets x (base + o * p.line) rooms shares) 0 p.sets) i.«ways»
+      ∙ ap (λ x. least_from (λ o. shares_fit p.line p.sets p.«ways» (x + o * p.line) rooms shares) 0 p.sets) i.base_is
+      ∙ ap (λ (x : List Share). least_from (λ o. shares_fit p.line p.sets p.«ways» (next_multiple_of s.at part.align + o * p.line) rooms x) 0 p.sets) i.shares_are
+      ∙ offset_for_all p.line p.sets p.«ways» (next_multiple_of s.at part.align) n rooms ws i.long
+      ∙ ap (λ m. least_from (λ o. all_fit p.line p.sets p.«ways» (next_multiple_of s.at part.align + o * p.line) rooms (map (ranges_of_part m) ws)) 0 p.sets) (sym h.count)
       ∙ offset_same p ws places s.at part rooms sets.0 sets.1 (let low = line.0 in omega (arith, low)) h.rooms h.ends
 
-  pub no_offset : (found : Option ℕ) → n < length sizes → part ≡ slice_index_or sizes n no_part → found ≡ least_from (λ o. all_fit k.line k.sets k.«ways» (base + o * k.line) rooms owns) 0 k.sets → found ≡ None → moved_places p ws sizes ≡ Err n
+  pub no_offset : (found : Option ℕ) → n < length sizes → part ≡ slice_index_or sizes n no_part → found ≡ least_from (λ o. shares_fit k.line k.sets k.«ways» (base + o * k.line) rooms shares) 0 k.sets → found ≡ None → moved_places p ws sizes ≡ Err n
   no_offset found lt is e none =
       sym h.whole ∙ moved_more p ws sizes places s.at n part lt is
       ∙ moved_none (offset_of p ws places s.at part) (length places) _ (sym (offset_is found e) ∙ none)
       ∙ ap Err h.count
 
   pub placed_next : (found : Option ℕ) (o : ℕ) (next : Placing) → n < length sizes → part ≡ slice_index_or sizes n no_part → AllByRecursion (AllByRecursion (LiesIn sizes)) ws →
-      found ≡ least_from (λ o. all_fit k.line k.sets k.«ways» (base + o * k.line) rooms owns) 0 k.sets → found ≡ Some o → next.at ≡ base + o * k.line + part.size → next.places.items ≡ places ++ (base + o * k.line, next.at) ∷ [] →
-      map room_of next.rooms.items ≡ rooms_after k.line k.sets k.«ways» (base + o * k.line) rooms owns → IsPlacing p ws sizes (n + 1) next
+      found ≡ least_from (λ o. shares_fit k.line k.sets k.«ways» (base + o * k.line) rooms shares) 0 k.sets → found ≡ Some o → next.at ≡ base + o * k.line + part.size → next.places.items ≡ places ++ (base + o * k.line, next.at) ∷ [] →
+      map room_of next.rooms.items ≡ with_shares k.line k.sets k.«ways» (base + o * k.line) rooms shares → IsPlacing p ws sizes (n + 1) next
   placed_next found o next lt is lies e some end put took =
       let sets = i.plant.sets in
       let line = i.plant.line in
@@ -92,10 +98,11 @@ module _ (p : Plant) (ws : List (List PartRange)) (sizes : List PartSize) (s : P
       let forward : pl.0 ≤ pl.1 = omega arith in
       let further : s.at ≤ pl.1 = omega (arith, behind, forward) in
       let size : pl.1 ≡ pl.0 + (slice_index_or sizes (length places) no_part).size = ap (λ (q : PartSize). pl.0 + q.size) (is ∙ ap (λ m. slice_index_or sizes m no_part) (sym h.count)) in
-      let owned : owns ≡ map (ranges_of_part (length places)) ws = i.owns_are ∙ ap (λ m. map (ranges_of_part m) ws) (sym h.count) in
       let took_is : map room_of next.rooms.items ≡ rooms_after p.line p.sets p.«ways» pl.0 rooms (map (ranges_of_part (length places)) ws) =
-      took ∙ ap (λ x. rooms_after x k.sets k.«ways» (base + o * k.line) rooms owns) i.line ∙ ap (λ x. rooms_after p.line x k.«ways» (base + o * k.line) rooms owns) i.sets
-      ∙ ap (λ x. rooms_after p.line p.sets x (base + o * k.line) rooms owns) i.«ways» ∙ ap (λ x. rooms_after p.line p.sets p.«ways» x rooms owns) start_is ∙ ap (λ x. rooms_after p.line p.sets p.«ways» pl.0 rooms x) owned in
+      took ∙ ap (λ x. with_shares x k.sets k.«ways» (base + o * k.line) rooms shares) i.line ∙ ap (λ x. with_shares p.line x k.«ways» (base + o * k.line) rooms shares) i.sets
+      ∙ ap (λ x. with_shares p.line p.sets x (base + o * k.line) rooms shares) i.«ways» ∙ ap (λ x. with_shares p.line p.sets p.«ways» x rooms shares) start_is
+      ∙ ap (λ (x : List Share). with_shares p.line p.sets p.«ways» pl.0 rooms x) i.shares_are ∙ take_same p.line p.sets p.«ways» pl.0 n rooms ws i.long
+      ∙ ap (λ m. rooms_after p.line p.sets p.«ways» pl.0 rooms (map (ranges_of_part m) ws)) (sym h.count) in
       let are : AreRooms p.line p.sets p.«ways» (places ++ pl ∷ []) (rooms_after p.line p.sets p.«ways» pl.0 rooms (map (ranges_of_part (length places)) ws)) ws =
       rooms_next p sets.0 sets.1 pos places s.at pl behind rooms ws h.rooms h.ends (offset_passes p ws places s.at part o at_is) in
       let count : length (places ++ pl ∷ []) ≡ n + 1 = (let a = length-append places (pl ∷ []) in let b = h.count in omega (arith, a, b)) in

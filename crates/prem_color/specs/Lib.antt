@@ -4,6 +4,8 @@ pub mod Standing
 pub mod WantOf
 pub mod Rooms
 pub mod RoomOf
+pub mod Claims
+pub mod Shares
 pub mod Placing
 pub mod Told
 pub mod Laws

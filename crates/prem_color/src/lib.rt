@@ -1,6 +1,7 @@
 //! The ranges of marked functions by the parts of a set, and places of parts that are moved by whole lines, so that these have room in the cache.
 #![tactic(auto)]
 
+mod claims;
 mod fail;
 mod laws;
 mod moving;

@@ -1,5 +1,5 @@
 // Places of parts that are moved by whole lines.
-ghost use Rattle.std.specs.Prelude.{◌≡◌, ◌+◌, ◌*◌, ◌≤◌, ◌<◌, ◌^◌, List, All, IfOk, IfErr, IfSome, MatchResult, OnOk, Ok, [], length, map, replicate, slice_index_or};
+ghost use Rattle.std.specs.Prelude.{◌≡◌, ◌+◌, ◌*◌, ◌≤◌, ◌<◌, ◌^◌, List, All, IfOk, IfErr, IfSome, MatchResult, OnOk, Ok, length, map, replicate, slice_index_or};
 ghost use Rattle.std.specs.List.{AllByRecursion};
 ghost use Rattle.std.specs.Int.{next_multiple_of};
 ghost use Rattle.prem_plant.specs.Places.{AreApart};
@@ -9,43 +9,18 @@ ghost use Rattle.prem_plant.specs.declared.layout.PartSize.{PartSize};
 ghost use Rattle.prem_color.specs.Offsets.{least_from, moved_places, range_in};
 ghost use Rattle.prem_color.specs.Placing.{AnyStuck, IsPlacing, IsStuck};
 ghost use Rattle.prem_color.specs.RoomOf.{room_of};
-ghost use Rattle.prem_color.specs.Rooms.{LiesIn, no_lines, all_fit, fits_one, no_part, ranges_at, ranges_of_part, room_after, rooms_after};
+ghost use Rattle.prem_color.specs.Rooms.{LiesIn, no_lines, fits_one, no_part, ranges_at, room_after};
+ghost use Rattle.prem_color.specs.Claims.{claims_from, claims_in, share_of};
+ghost use Rattle.prem_color.specs.Shares.{IsOf, shares_fit, with_shares};
 ghost use Rattle.prem_color.specs.Told.{ArePlaced, TellsColor};
 ghost use Rattle.prem_color.specs.WantOf.{ranges_in};
 
+use crate::claims::{Claim, PartRange, Share, claims_by_part, shares_of};
 use crate::fail::ColorFail;
 use crate::room::{Cache, Room};
 use prem_foot::Want;
 use prem_plant::{Layout, PartSize, Plant};
 use std::alloc::{AllocError, Global};
-
-/// A range of bytes: the number of a part, the first byte and the end within it.
-type PartRange = (u32, u32, u32);
-
-/// Those of the ranges that lie in part number n.
-fn ranges_of_part(alloc: Global, ranges: &[PartRange], n: u32) -> Result<Vec<PartRange>, AllocError>
-    ensures { IfOk result (λ own. own.items ≡ ranges_of_part n ranges.now) }
-{
-    let mut own = Vec::new(alloc);
-    for range in ranges {
-        if range.0 == n {
-            own.push(*range)?;
-        }
-    }
-    Ok(own)
-}
-
-/// Those of each want.
-fn all_of_part(alloc: Global, wants: &[Want], n: u32) -> Result<Vec<Vec<PartRange>>, AllocError>
-    ensures own { IfOk result (λ owns. map (λ own. own.items) owns.items ≡ map (ranges_of_part n) (ranges_in wants.now)) }
-    ensures count { IfOk result (λ owns. length owns.items ≡ length wants.now) }
-{
-    let mut owns = Vec::new(alloc);
-    for want in wants {
-        owns.push(ranges_of_part(alloc, want.ranges.items(), n)?)?;
-    }
-    Ok(owns)
-}
 
 /// A range of a part that starts at this address.
 fn range_at(range: PartRange, address: u64) -> (u64, u64)
@@ -81,18 +56,15 @@ fn fits_one(
     requires most { cache.sets ≤ 1024 }
     ensures { IfOk result (λ b. b ≡ fits_one cache.line cache.sets cache.«ways» address (room_of room.now) own.now) }
 {
-    if own.is_empty() {
-        return Ok(true);
-    }
     let ranges = ranges_at(alloc, own, address)?;
     Ok(room.with_ranges(&ranges, cache).is_some())
 }
 
-/// Whether they have, of each want.
-fn all_fit(
+/// Whether they have, of each share.
+fn shares_fit(
     alloc: Global,
     rooms: &[Room],
-    owns: &[Vec<PartRange>],
+    shares: &[Share],
     address: u64,
     cache: Cache,
 ) -> Result<bool, AllocError>
@@ -100,11 +72,11 @@ fn all_fit(
     requires line { 1 ≤ cache.line }
     requires some { 1 ≤ cache.sets }
     requires most { cache.sets ≤ 1024 }
-    requires long { length rooms.now ≡ length owns.now }
-    ensures { IfOk result (λ b. b ≡ all_fit cache.line cache.sets cache.«ways» address (map room_of rooms.now) (map (λ own. own.items) owns.now)) }
+    requires there { AllByRecursion (IsOf (length rooms.now)) (map share_of shares.now) }
+    ensures { IfOk result (λ b. b ≡ shares_fit cache.line cache.sets cache.«ways» address (map room_of rooms.now) (map share_of shares.now)) }
 {
-    for k in 0..rooms.len() {
-        if !fits_one(alloc, &rooms[k], owns[k].as_slice(), address, cache)? {
+    for share in shares {
+        if !fits_one(alloc, &rooms[share.want], &share.own, address, cache)? {
             return Ok(false);
         }
     }
@@ -115,7 +87,7 @@ fn all_fit(
 fn offset(
     alloc: Global,
     rooms: &[Room],
-    owns: &[Vec<PartRange>],
+    shares: &[Share],
     base: u64,
     cache: Cache,
 ) -> Result<Option<u64>, AllocError>
@@ -124,12 +96,12 @@ fn offset(
     requires thin { cache.line ≤ 256 }
     requires some { 1 ≤ cache.sets }
     requires most { cache.sets ≤ 1024 }
-    requires long { length rooms.now ≡ length owns.now }
+    requires there { AllByRecursion (IsOf (length rooms.now)) (map share_of shares.now) }
     ensures within { IfOk result (λ o. IfSome o (λ o. o < cache.sets)) }
-    ensures least { IfOk result (λ o. o ≡ least_from (λ o. all_fit cache.line cache.sets cache.«ways» (base + o * cache.line) (map room_of rooms.now) (map (λ own. own.items) owns.now)) 0 cache.sets) }
+    ensures least { IfOk result (λ o. o ≡ least_from (λ o. shares_fit cache.line cache.sets cache.«ways» (base + o * cache.line) (map room_of rooms.now) (map share_of shares.now)) 0 cache.sets) }
 {
     for o in 0..cache.sets {
-        if all_fit(alloc, rooms, owns, base + o * cache.line, cache)? {
+        if shares_fit(alloc, rooms, shares, base + o * cache.line, cache)? {
             return Ok(Some(o));
         }
     }
@@ -150,9 +122,6 @@ fn take_one(
     requires most { cache.sets ≤ 1024 }
     ensures { OnOk result (room_of room.new ≡ room_after cache.line cache.sets cache.«ways» address (room_of room.old) own.now) }
 {
-    if own.is_empty() {
-        return Ok(());
-    }
     let ranges = ranges_at(alloc, own, address)?;
     if let Some(next) = room.with_ranges(&ranges, cache) {
         *room = next;
@@ -160,11 +129,11 @@ fn take_one(
     Ok(())
 }
 
-/// Takes those of each want.
+/// Takes those of each share.
 fn take_all(
     alloc: Global,
     rooms: &mut Vec<Room>,
-    owns: &[Vec<PartRange>],
+    shares: &[Share],
     address: u64,
     cache: Cache,
 ) -> Result<(), AllocError>
@@ -172,12 +141,12 @@ fn take_all(
     requires line { 1 ≤ cache.line }
     requires some { 1 ≤ cache.sets }
     requires most { cache.sets ≤ 1024 }
-    requires long { length rooms.old.items ≡ length owns.now }
+    requires there { AllByRecursion (IsOf (length rooms.old.items)) (map share_of shares.now) }
     ensures count { OnOk result (length rooms.new.items ≡ length rooms.old.items) }
-    ensures taken { OnOk result (map room_of rooms.new.items ≡ rooms_after cache.line cache.sets cache.«ways» address (map room_of rooms.old.items) (map (λ own. own.items) owns.now)) }
+    ensures taken { OnOk result (map room_of rooms.new.items ≡ with_shares cache.line cache.sets cache.«ways» address (map room_of rooms.old.items) (map share_of shares.now)) }
 {
-    for k in 0..owns.len() {
-        take_one(alloc, &mut rooms[k], owns[k].as_slice(), address, cache)?;
+    for share in shares {
+        take_one(alloc, &mut rooms[share.want], &share.own, address, cache)?;
     }
     Ok(())
 }
@@ -235,10 +204,12 @@ fn place_next(
     s: Placing,
     part: PartSize,
     n: u32,
+    claims: &[Claim],
     wants: &[Want],
     p: &Plant,
 ) -> Result<Placing, ColorFail>
     requires few { n < 100000 }
+    requires claims { claims.now ≡ claims_in n (claims_from 0 (ranges_in wants.now)) }
     requires aligned { 1 ≤ part.align }
     requires plant { IsPlant p.now }
     requires rooms { length s.rooms.items ≡ length wants.now }
@@ -255,13 +226,14 @@ fn place_next(
         mut rooms,
     } = s;
     let cache = cache_of(p);
-    let owns = all_of_part(alloc, wants, n)?;
+    let _wants = wants;
+    let shares = shares_of(alloc, claims)?;
     let base = at.next_multiple_of(u64::from(part.align));
-    let Some(o) = offset(alloc, &rooms, &owns, base, cache)? else {
+    let Some(o) = offset(alloc, &rooms, &shares, base, cache)? else {
         return Err(ColorFail::NoOffset { part: n });
     };
     let start = base + o * cache.line;
-    take_all(alloc, &mut rooms, &owns, start, cache)?;
+    take_all(alloc, &mut rooms, &shares, start, cache)?;
     let end = start + u64::from(part.size);
     places.push((start, end))?;
     Ok(Placing {
@@ -285,9 +257,10 @@ fn place_all(
     ensures placed { IfOk result (IsPlacing p.now (ranges_in wants.now) sizes.now (length sizes.now)) }
     ensures stuck { IfErr result (AnyStuck (moved_places p.now (ranges_in wants.now) sizes.now)) }
 {
+    let index = claims_by_part(alloc, sizes.len(), wants)?;
     let mut s = no_places(alloc, wants)?;
     for n in 0..sizes.len() {
-        s = place_next(alloc, s, sizes[n], n as u32, wants, p)?;
+        s = place_next(alloc, s, sizes[n], n as u32, &index[n], wants, p)?;
     }
     Ok(s)
 }

@@ -15,6 +15,7 @@ use Rattle.prem_tree.specs.declared.resolve.resolved.Resolved.{Resolved as Resol
 use Rattle.prem_tree.specs.Resolve.ResolvedOf.{loops_of, routine_of, routines_of, resolved_of}
 use Rattle.prem_ranges.specs.Counts.{Tally, outputs_tally, marks_tally, most_in, most_of, most_below, most_in_job}
 use Rattle.prem_layout.specs.Counts.{outputs_of, marked_calls_of}
+use Rattle.prem_split.proofs.DepthsAre.{put_last, first_of_rest, at_last, rest_of_rest}
 use Rattle.prem_bounds.specs.Counts.Count.{clipped, mark_of, mark_if, count_of_routine, counts_behind}
 use Rattle.prem_bounds.proofs.CountsLemmas.StepCounts.{step_most}
 
@@ -23,7 +24,7 @@ use Rattle.prem_bounds.proofs.CountsLemmas.StepCounts.{step_most}
 abbrev Alike : ℕ → ℕ → Type 0
 Alike a b = clipped a ≡ clipped b
 
-large_product : (n a limit : ℕ) → limit ≤ a → min (suc n * limit) limit ≡ min (suc n * a) limit
+pub large_product : (n a limit : ℕ) → limit ≤ a → min (suc n * limit) limit ≡ min (suc n * a) limit
 large_product n a limit le =
     let m : n * limit ≤ n * a = mul-le n limit n a (omega arith) le in
     omega arith
@@ -63,28 +64,6 @@ most_alike output c d h (While at turns condition body rest) =
 most_alike output c d h (Call at target f arguments rest) = alike_sum _ _ _ _ (h f) (most_alike output c d h rest)
 
 -- ---- one function after another
-
-first_of_rest : (all : List Routine) (n : ℕ) (r : Routine) (rs : List Routine) → drop n all ≡ r ∷ rs → slice_get all n ≡ Some r
-first_of_rest [] zero r rs e = cc
-first_of_rest [] (suc n) r rs e = cc
-first_of_rest (x ∷ xs) zero r rs e = cc
-first_of_rest (x ∷ xs) (suc n) r rs e = first_of_rest xs n r rs e
-
-rest_of_rest : (all : List Routine) (n : ℕ) (r : Routine) (rs : List Routine) → drop n all ≡ r ∷ rs → drop (suc n) all ≡ rs
-rest_of_rest [] zero r rs e = cc
-rest_of_rest [] (suc n) r rs e = cc
-rest_of_rest (x ∷ xs) zero r rs e = cc
-rest_of_rest (x ∷ xs) (suc n) r rs e = rest_of_rest xs n r rs e
-
-put_last : (xs : List ℕ) (n x k : ℕ) → length xs ≡ n → (k ≡ n → ⊥) → slice_index (xs ++ x ∷ []) k ≡ slice_index xs k
-put_last [] n x zero e other = absurd (other e)
-put_last [] n x (suc k) e other = refl
-put_last (y ∷ ys) n x zero e other = refl
-put_last (y ∷ ys) n x (suc k) e other = put_last ys (length ys) x k refl (λ same. other (let f : suc k ≡ suc (length ys) = ap suc same in f ∙ e))
-
-at_last : (xs : List ℕ) (n x : ℕ) → length xs ≡ n → slice_index (xs ++ x ∷ []) n ≡ x
-at_last [] n x e = ap (λ k. slice_index (x ∷ []) k) (sym e)
-at_last (y ∷ ys) n x e = ap (λ k. slice_index (y ∷ (ys ++ x ∷ [])) k) (sym e) ∙ at_last ys (length ys) x refl
 
 -- the first n functions are told
 abbrev Known : Tally → List Routine → ℕ → List ℕ → Type 0

@@ -2,12 +2,14 @@
 ghost use Rattle.std.specs.Prelude.{◌≡◌, ◌<◌, ◌≤◌, ◌^◌, IsNone, IfSome, length, map, option_map};
 ghost use Rattle.prem_list.specs.Sequence.{items_of};
 ghost use Rattle.prem_plant.specs.Ranges.{IsPlant};
-ghost use Rattle.prem_layout.specs.Bounds.{bound_of};
+ghost use Rattle.prem_isa.specs.Decode.{cost_of};
+ghost use Rattle.prem_layout.specs.Bounds.{bound_of, costs_of, stub_weight};
 ghost use Rattle.prem_split.specs.PlanOf.{plan_of};
 ghost use Rattle.prem_bounds.specs.TableOf.{IsTable, table_of};
+ghost use Rattle.prem_bounds.specs.Told.{Tells};
 ghost use Rattle.prem_bounds.specs.Facts.FactOf.{fact_of, fact_with, first_short};
 
-use crate::{CodeTable, bound_at};
+use crate::{CodeTable, bound_by};
 use prem_foot::{Lines, most};
 use prem_plant::{FnId, Plant, TaskId};
 use prem_split::IntervalPlan;
@@ -24,16 +26,19 @@ pub struct IntervalFact {
     pub stated: u32,
 }
 
-/// What is told of the marked function with the stub number k, or none where its bound passes 2^40.
+/// What is told of the marked function with the stub number k, by what the stubs of its task's code cost, or none where its bound passes
+/// 2^40.
 pub fn fact(
     task: TaskId,
     k: usize,
     plan: &IntervalPlan,
     lines: &Lines,
+    stubs: &[u64; 256],
     table: &CodeTable,
     p: &Plant,
 ) -> Option<IntervalFact>
     requires table { IsTable table.now }
+    requires costs { Tells 256 stubs.now (stub_weight cost_of (length (table_of table.now).code) (table_of table.now).stubs (costs_of (table_of table.now))) }
     requires plant { IsPlant p.now }
     requires stub { k < length (items_of table.now.stubs) }
     ensures fact { IfSome result (λ f. fact_of f ≡ fact_with p.now (table_of table.now) k (plan_of plan.now) lines.now) }
@@ -42,7 +47,7 @@ pub fn fact(
     ensures large { IsNone result → 2 ^ 40 < bound_of p.now (table_of table.now) k (length lines.now) }
 {
     let count = lines.count();
-    match bound_at(k, table, u64::from(count), p) {
+    match bound_by(stubs, k, table, u64::from(count), p) {
         Ok(bound) => Some(IntervalFact {
             task,
             function: plan.function,

@@ -35,7 +35,7 @@ use Rattle.prem_place.proofs.BuildImageLemmas.Areas.{whole_long}
 
 -- ---- how many parts there are
 
-routines_long : (turns : ℕ → ℕ) (m : ℕ) (rs : List Routine) → length (plain_routines turns m rs) ≡ length rs
+pub routines_long : (turns : ℕ → ℕ) (m : ℕ) (rs : List Routine) → length (plain_routines turns m rs) ≡ length rs
 routines_long turns m [] = refl
 routines_long turns m (r ∷ rs) = ap suc (routines_long turns (m + loops_of r.body) rs)
 

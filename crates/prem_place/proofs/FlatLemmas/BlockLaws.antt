@@ -13,7 +13,7 @@ use Rattle.prem_layout.specs.Plans.{Plan}
 use Rattle.prem_layout.specs.Footprint.{TaskPlaces}
 use Rattle.prem_layout.specs.Bounds.{start_code}
 use Rattle.prem_layout.specs.Placed.{Placed, Block, block, blocks_from, job_name, name_at, blocks_of}
-use Rattle.prem_layout.specs.Rules.{LateRule, Reach, Jump, jump_in, lower_jump, far_jump, of_jump}
+use Rattle.prem_layout.specs.Rules.{Reach, Jump, jump_in, lower_jump, far_jump, of_jump}
 use Rattle.prem_place.specs.Content.Blocks.{Words}
 use Rattle.prem_place.specs.Flat.Flat.{far_in, part_if, lower_part, lowest_far, words_at, words_from}
 use Rattle.prem_place.specs.Flat.Blocks.{start_at, parts_in, names_in, words_of, LieApart, AllApart, HasParts, ReachIsLowest, BlocksHaveWords}

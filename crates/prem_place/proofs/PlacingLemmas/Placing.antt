@@ -28,6 +28,7 @@ use Rattle.prem_split.specs.PlanOf.{plan_of}
 use Rattle.prem_foot.specs.PlacesOf.{IsPlanAt}
 use Rattle.prem_foot.specs.PlacesFrom.{places_in}
 use Rattle.prem_foot.proofs.PlacesAre.{places_are}
+use Rattle.prem_prefetch.proofs.SizesLemmas.Programs.{as_many_codes as codes_counted}
 use Rattle.prem_bounds.specs.TableOf.{listed}
 use Rattle.prem_place.specs.Placed.PlacedOf.{placed_of, routines_of, IsPlacedTask}
 use Rattle.prem_place.specs.declared.placed.PlacedTask.{PlacedTask}
@@ -35,7 +36,7 @@ use Rattle.prem_place.specs.declared.placing.coded.CodedTask.{CodedTask}
 use Rattle.prem_place.specs.Placing.CodedOf.{coded_in, IsCodedTask}
 use Rattle.prem_place.specs.Placing.Standing.{TaskLies, stands_in, IsStanding}
 use Rattle.prem_place.proofs.PlacingLemmas.Formed.{has_its_job}
-use Rattle.prem_place.proofs.PlacingLemmas.Stood.{are_counted, Stood, stood, codes_counted}
+use Rattle.prem_place.proofs.PlacingLemmas.Stood.{are_counted, Stood, stood}
 
 pub routines_long : (turns : ℕ → ℕ) (m : ℕ) (rs : List RoutineTree) → length (plain_routines turns m rs) ≡ length rs
 routines_long turns m [] = refl

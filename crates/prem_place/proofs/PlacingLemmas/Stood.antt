@@ -8,14 +8,13 @@ use Rattle.prem_plant.specs.declared.plant.Target.{Target}
 use Rattle.prem_plant.specs.declared.plant.Plant.{Plant}
 use Rattle.prem_plant.specs.declared.layout.PartSize.{PartSize}
 use Rattle.prem_plant.specs.Ranges.{IsPlant}
-use Rattle.prem_plant.specs.Places.{Extent, default_places, last_end}
+use Rattle.prem_plant.specs.Places.{Extent}
 use Rattle.prem_syntax.specs.Syntax.{Text, MarkText, ProgramText}
 use Rattle.prem_syntax.specs.GroupTwo.{IsWellFormed}
 use Rattle.prem_syntax.specs.Resolve.{functions_of, resolve}
 use Rattle.prem_syntax.specs.Resolved.{Routine, Resolved}
 use Rattle.prem_asm.specs.Pieces.{Pieces, size_of}
 use Rattle.prem_layout.specs.Template.Limits.{excess}
-use Rattle.prem_layout.specs.Template.Steps.{Parts}
 use Rattle.prem_layout.specs.Template.Parts.{parts_of, codes_of}
 use Rattle.prem_layout.specs.Plans.{Plan, plan_before, plans_from, plans_of}
 use Rattle.prem_layout.specs.Parts.{pass_count, stub_passes, part_count, task_parts, parts_from, area_parts}
@@ -24,12 +23,12 @@ use Rattle.prem_layout.specs.Stubs.{stub_of}
 use Rattle.prem_layout.specs.Bounds.{start_code}
 use Rattle.prem_layout.specs.Placed as layout
 use Rattle.prem_layout.specs.Placed.{Coded, sized_of, placed_at, task_places}
-use Rattle.prem_layout.proofs.Lawful.{parts_may_be_placed}
 use Rattle.prem_layout.proofs.StubLaws.{passes_are_few}
 use Rattle.prem_foot.specs.PlacesOf.{IsPlanAt}
 use Rattle.prem_foot.proofs.Standing.{plans_stand}
 use Rattle.prem_code_laws.specs.FitLaws.Whole.{HasWords, ProgramHasWords}
 use Rattle.prem_code_laws.proofs.FitLawsLemmas.Whole.{programs_have_words}
+use Rattle.prem_prefetch.proofs.SizesLemmas.Programs.{as_many_codes as codes_counted}
 use Rattle.prem_place.specs.Flat.Flat.{EndWithin}
 use Rattle.prem_place.specs.Stand.Lying.{Lie, starts_of, Stands}
 use Rattle.prem_place.specs.Placing.CodedOf.{AreAtPlaces}
@@ -39,10 +38,6 @@ use Rattle.prem_place.proofs.StandLemmas.TaskParts.{first_stands, others_lie}
 use Rattle.prem_place.proofs.PlacingLemmas.Formed.{are_few, has_its_job, functions_counted}
 
 -- ---- counts
-
-pub codes_counted : (parts : Parts) (fs : List Routine) → length (codes_of parts fs) ≡ length fs
-codes_counted parts [] = refl
-codes_counted parts (f ∷ fs) = ap suc (codes_counted parts fs)
 
 plans_few : (p : Resolved) (n : ℕ) (fs : List Routine) → length (plans_from p n fs) ≤ length fs
 plans_few p n [] = omega arith

@@ -9,6 +9,7 @@ use Rattle.prem_layout.specs.Placed.{name_at}
 use Rattle.prem_place.specs.Placed.PlacedOf.{placed_of, routines_of}
 use Rattle.prem_place.specs.Verdict.Told.{routines_in, name_in, HasFunction}
 use Rattle.prem_place.specs.declared.placed.PlacedTask.{PlacedTask}
+use Rattle.prem_place.proofs.BuildImageLemmas.Whole.{routines_long}
 
 pub tasks_long : (tasks : List PlacedTask) → length (map placed_of tasks) ≡ length tasks
 tasks_long [] = refl
@@ -16,10 +17,6 @@ tasks_long (t ∷ ts) = ap suc (tasks_long ts)
 
 task_within : (tasks : List PlacedTask) (n f : ℕ) → HasFunction (map placed_of tasks) n f → n < length tasks
 task_within tasks n f h = omega (arith, h.task, tasks_long tasks)
-
-pub routines_long : (turns : ℕ → ℕ) (m : ℕ) (rs : List Routine) → length (plain_routines turns m rs) ≡ length rs
-routines_long turns m [] = refl
-routines_long turns m (r ∷ rs) = ap suc (routines_long turns (m + loops_of r.body) rs)
 
 -- those of a task by its number
 pub routines_at : (tasks : List PlacedTask) (n : ℕ) (t : PlacedTask) → n < length tasks → t ≡ get_or tasks n t → routines_in (map placed_of tasks) n ≡ (placed_of t).task.program.routines

@@ -12,7 +12,7 @@ use crate::placed::PlacedTask;
 use crate::verdict::told::{TaskBounds, VerdictFail};
 use crate::verdict::verdict::{Blame, Verdict};
 use prem_bounds::facts::{IntervalFact, fact, first_large};
-use prem_bounds::job_bound;
+use prem_bounds::{job_bound, stub_costs};
 use prem_foot::Lines;
 use prem_plant::{FnId, Plant, TaskId};
 use std::alloc::{AllocError, Global};
@@ -58,10 +58,11 @@ fn facts_of(
     ensures large { IfOk result (λ told. told.large.items ≡ map is_large (interval_facts p.now (placed_of t.now))) }
 {
     let plans = t.plans.items();
+    let stubs = stub_costs(&t.table);
     let mut facts = Vec::new(alloc);
     let mut large = Vec::new(alloc);
     for k in 0..plans.len() {
-        let found = fact(task, k, &plans[k], &lines[k], &t.table, p);
+        let found = fact(task, k, &plans[k], &lines[k], &stubs, &t.table, p);
         put_fact(&mut facts, &mut large, found)?;
     }
     Ok(Facts { facts, large })
