@@ -1,13 +1,14 @@
 // Functions behind their name.
-ghost use Rattle.std.specs.Prelude.{◌≡◌, IfOk, map};
+ghost use Rattle.std.specs.Prelude.{◌≡◌, IfOk, Some, map};
+ghost use Rattle.std.specs.Option.{option_map};
 ghost use Rattle.prem_list.specs.Sequence.{items_of};
 ghost use Rattle.prem_syntax.specs.SyntaxOf.{expression_of, statement_of, parameter_of, local_of, function_of};
 ghost use Rattle.prem_text.specs.Lexing.Token.Lexeme.{seen_of};
 ghost use Rattle.prem_text.specs.Grammar.Statement.{listed};
-ghost use Rattle.prem_text.specs.Grammar.Item.{parameter_begins, parameter_ends, parameter_goes_on, with_local, with_body, with_result, value_begins, body_ends, statement_step, local_begins, value_ends, value_goes_on};
+ghost use Rattle.prem_text.specs.Grammar.Item.{parameter_begins, parameter_ends, parameter_goes_on, with_local, with_body, with_result, value_begins, body_ends, statement_step, step, local_begins, value_ends, value_goes_on};
 ghost use Rattle.prem_reader.specs.Expression.StateOf.{state_of};
-ghost use Rattle.prem_reader.specs.Statement.PointOf.{turn_of};
-ghost use Rattle.prem_front.specs.StageOf.{value_of, stage_of, step_of};
+ghost use Rattle.prem_reader.specs.Statement.PointOf.{point_of, turn_of};
+ghost use Rattle.prem_front.specs.StageOf.{value_of, stage_of, statements_of, step_of};
 
 use crate::global::{begin_row, with_parameter};
 use crate::stage::{Declared, ItemRow, ItemStep, Stage, Typing, Value};
@@ -142,10 +143,18 @@ fn body_ends(alloc: Global, function: Function, spotted: &Spotted) -> Result<Ite
     }
 }
 
-/// A token that the statements have taken, or left.
-pub(crate) fn statement_step(
+/// Puts a value where there is none.
+fn put<T: Drop>(place: &mut Option<T>, value: T)
+    ensures { place.new ≡ Some value }
+{
+    *place = Some(value);
+}
+
+/// A token that the statements have taken, or left, where their next point stands in this box.
+fn statement_step(
     alloc: Global,
     function: Function,
+    mut place: Box<Option<Point>>,
     taken: Turn,
     spotted: &Spotted,
 ) -> Result<ItemStep, AllocError>
@@ -153,9 +162,12 @@ pub(crate) fn statement_step(
 {
     match taken {
         Turn::On { point } => {
-            let point = boxed(alloc, point)?;
+            put(&mut place, point);
             Ok(ItemStep::Ahead {
-                stage: Stage::InStatements { function, point },
+                stage: Stage::InStatements {
+                    function,
+                    point: place,
+                },
             })
         }
         Turn::Leaves { statements } => body_ends(alloc, with_body(function, statements), spotted),
@@ -176,8 +188,25 @@ pub(crate) fn local_begins(
     }
     let before = Sequence::new(alloc);
     let around = boxed(alloc, Around::Body { before })?;
+    let place = boxed(alloc, None)?;
     let taken = turn(alloc, Point::Between { around }, spotted)?;
-    statement_step(alloc, function, taken, spotted)
+    statement_step(alloc, function, place, taken, spotted)
+}
+
+/// A token behind the point of a function's statements, or before a local or the first of them.
+pub(crate) fn statements_go_on(
+    alloc: Global,
+    function: Function,
+    mut place: Box<Option<Point>>,
+    spotted: &Spotted,
+) -> Result<ItemStep, AllocError>
+    ensures { IfOk result (λ s. step_of s ≡ step (statements_of (function_of function) (option_map point_of place.value)) (seen_of spotted.now)) }
+{
+    let Some(point) = place.take() else {
+        return local_begins(alloc, function, spotted);
+    };
+    let taken = turn(alloc, point, spotted)?;
+    statement_step(alloc, function, place, taken, spotted)
 }
 
 /// The `;` behind an expression outside statements.

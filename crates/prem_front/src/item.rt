@@ -8,7 +8,7 @@ ghost use Rattle.prem_front.specs.StageOf.{row_of, stage_of, step_of};
 
 use crate::annotation::{behind_mark, item_begins, mark_ends, region_ends};
 use crate::function::{
-    local_begins, parameter_begins, parameter_ends, parameter_goes_on, statement_step,
+    local_begins, parameter_begins, parameter_ends, parameter_goes_on, statements_go_on,
     value_begins, value_goes_on,
 };
 use crate::global::{
@@ -17,7 +17,7 @@ use crate::global::{
 use crate::stage::{Constant, ItemRow, ItemStep, Stage, Value};
 use crate::typing::type_or_name;
 use prem_list::Sequence;
-use prem_reader::statement::{Slot, copy_spotted, fits, is_past, turn, value_at};
+use prem_reader::statement::{Slot, copy_spotted, fits, is_past, value_at};
 use prem_syntax::Item;
 use prem_text::lexing::token::Spotted;
 use std::alloc::{AllocError, Global};
@@ -137,8 +137,7 @@ pub(crate) fn step(alloc: Global, stage: Stage, spotted: &Spotted) -> Result<Ite
         Stage::BehindParameter { function } => parameter_ends(alloc, function, spotted),
         Stage::BeforeLocal { function } => local_begins(alloc, function, spotted),
         Stage::InStatements { function, point } => {
-            let taken = turn(alloc, Box::into_inner(point), spotted)?;
-            statement_step(alloc, function, taken, spotted)
+            statements_go_on(alloc, function, point, spotted)
         }
         Stage::InValue { value, state, room } => {
             value_goes_on(alloc, value, state, room, spotted)
@@ -152,7 +151,10 @@ pub(crate) fn is_too_deep(stage: &Stage) -> bool
     ensures { result ≡ is_too_deep (stage_of stage.now) }
 {
     match stage {
-        Stage::InStatements { point, .. } => is_past(point),
+        Stage::InStatements { point, .. } => match &**point {
+            Some(point) => is_past(point),
+            None => false,
+        },
         Stage::InValue { room, .. } => *room == 0,
         _ => false,
     }

@@ -165,10 +165,11 @@ pub enum Stage {
     BeforeLocal {
         function: Function,
     },
-    /// In the statements of a function.
+    /// In the statements of a function, or before its first local or statement, where there is no point. The
+    /// box is that of the first point: later ones take its place.
     InStatements {
         function: Function,
-        point: Box<Point>,
+        point: Box<Option<Point>>,
     },
     /// In an expression outside statements that may have `room` - 1 more tokens.
     InValue {
