@@ -1,5 +1,5 @@
 -- What is drawn of the run of a compiled set is the answer.
-use Rattle.std.specs.Prelude.{ℕ, List, unwrap_or}
+use Rattle.std.specs.Prelude.{ℕ, List}
 use Rattle.std.proofs.Common.{◌≡◌, Option, None, Some, Result, Ok, Err, IsTrue, refl, ap, ◌∙◌, sym}
 use Rattle.prem_io.specs.Files.{Files}
 use Rattle.prem_lru.specs.Rules.{rule_of}
@@ -7,9 +7,8 @@ use Rattle.prem_image.specs.Text.{ImageText}
 use Rattle.prem_image.specs.declared.image.TaskRecord.{TaskRecord}
 use Rattle.prem_image.specs.declared.image.DeviceRecord.{DeviceRecord}
 use Rattle.prem_cycle.specs.declared.state.Stop.{Stop}
-use Rattle.prem_cycle.specs.declared.state.Stop.TheVariants.{Limit}
 use Rattle.prem_cycle.specs.State.{MachineState}
-use Rattle.prem_cycle.specs.FactsOf.{Report, report_of, stop_of}
+use Rattle.prem_cycle.specs.FactsOf.{Report, report_of}
 use Rattle.prem_cycle.specs.Inputs.{image_setup}
 use Rattle.prem_layout.specs.Rules.{Refusal}
 use Rattle.prem_tasks.specs.Told.{Told}
@@ -74,9 +73,6 @@ chart_is_fine asked reads =
     (λ set rest. run_fine Settled set asked.run (behind_run asked set) (λ input more. judged_fine asked set input (broken set)) rest) reads
 
 -- ---- the picture of a run
-
-pub stop_is : (stop : Stop) (limit : ℕ) (s : MachineState) → Some stop ≡ stop_of limit s → stop ≡ stop_at limit s
-stop_is stop limit s is = ap (λ o. unwrap_or o Limit) is
 
 -- the picture of what a machine says of itself is that of its run
 pub picture_is : (asked : ChartAsked) (i : ImageText) (input : RunText) (limit : ℕ) (s : MachineState) (v : View) (tasks : List TaskRecord) (devices : List DeviceRecord) (r : Report)

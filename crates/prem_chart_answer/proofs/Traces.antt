@@ -6,7 +6,7 @@ use Rattle.prem_list.specs.Sequence.{items_of}
 use Rattle.prem_gate.specs.declared.request.RunInput.{RunInput}
 use Rattle.prem_image.specs.declared.image.Image.{Image}
 use Rattle.prem_cycle.specs.declared.state.Stop.{Stop}
-use Rattle.prem_cycle.specs.declared.state.Stop.TheVariants.{Finished, Trap, LogFull, Limit}
+use Rattle.prem_cycle.specs.declared.state.Stop.TheVariants.{Finished, LogFull, Limit}
 use Rattle.prem_cycle.specs.declared.state.Trap.{Trap as Trapped}
 use Rattle.prem_cycle.specs.State.{MachineState, rule_in}
 use Rattle.prem_cycle.specs.Cycle.{is_finished, is_full, is_over, log_size}

@@ -1,6 +1,6 @@
 -- Places with offsets of a set's parts are lawful, and leave no conflict.
 use Rattle.std.specs.List.{AllByRecursion}
-use Rattle.std.proofs.Common.{◌≡◌, ℕ, ◌+◌, ◌<◌, ◌≤◌, true, List, [], ◌∷◌, ◌++◌, Option, None, Some, Ok, refl, ap, sym, ◌∙◌, arith, length, length-append, map}
+use Rattle.std.proofs.Common.{◌≡◌, ℕ, ◌+◌, ◌<◌, List, [], ◌∷◌, Option, None, Some, Ok, refl, ap, ◌∙◌, arith, length, length-append, map}
 use Rattle.std.proofs.lemmas.List.{length-map}
 use Rattle.prem_plant.specs.declared.plant.Plant.{Plant}
 use Rattle.prem_plant.specs.declared.plant.Device.{Device}
@@ -15,18 +15,19 @@ use Rattle.prem_layout.specs.Rules.{LateRule, or_else, refused_by, first_among, 
 use Rattle.prem_layout.proofs.Lawful.{parts_may_be_placed}
 use Rattle.prem_layout.proofs.TaskParts.{parts_counted}
 use Rattle.prem_prefetch.specs.Sizes.Sizes.{AreCodesOf}
+use Rattle.prem_prefetch.proofs.SizesLemmas.Programs.{as_many_codes as codes_long}
 use Rattle.prem_color.specs.Offsets.{moved_places}
 use Rattle.prem_color.specs.Wants.{wants_of, ranges_of}
 use Rattle.prem_color.specs.Standing.{TasksStand}
 use Rattle.prem_color.proofs.Moved.{moved_places_are_lawful, moved_places_have_room}
 use Rattle.prem_color.proofs.Sets.{parts_align_lines}
 use Rattle.prem_color.proofs.Wanted.{wants_leave_no_conflict}
-use Rattle.prem_tasks.specs.Broken.{TaskSet, programs_of}
+use Rattle.prem_tasks.specs.Broken.{programs_of}
 use Rattle.prem_tasks.specs.Compiled.{coded_in, parts_in}
 use Rattle.prem_compile.specs.PartsOf.{ranges_wanted}
 use Rattle.prem_compile.specs.Colors.{ColorsAreLawful, ColorsLeaveNoConflict}
 use Rattle.prem_compile.proofs.CodingLemmas.Joined.{codes_when_early}
-use Rattle.prem_compile.proofs.Wanting.{codes_long, tasks_stand}
+use Rattle.prem_compile.proofs.Wanting.{tasks_stand}
 
 pub colors_are_lawful : ColorsAreLawful
 colors_are_lawful set places h =

@@ -1,7 +1,7 @@
 -- The wants of tasks in memory, and what their names ask for.
 use Rattle.std.specs.Prelude.{OnOk, slice_index}
 use Rattle.std.specs.List.{AllByRecursion}
-use Rattle.std.proofs.Common.{◌≡◌, ℕ, ◌+◌, ◌≤◌, All, List, [], ◌∷◌, ◌++◌, Result, Ok, Err, refl, ap, sym, ◌∙◌, subst, arith, length, map, Bor}
+use Rattle.std.proofs.Common.{◌≡◌, ℕ, ◌+◌, ◌≤◌, All, List, [], ◌∷◌, ◌++◌, Result, Ok, Err, ap, sym, ◌∙◌, subst, arith, length, map, Bor}
 use Rattle.std.proofs.lemmas.List.{length-map}
 use Rattle.std.proofs.lemmas.List.Elements.{recursion_from_All}
 use Rattle.prem_list.specs.Sequence.{items_of}
@@ -16,10 +16,11 @@ use Rattle.prem_syntax.specs.Resolved.{Resolved}
 use Rattle.prem_layout.specs.Template.Parts.{parts_of as code_parts_of}
 use Rattle.prem_layout.specs.Plans.{Plan, plans_of}
 use Rattle.prem_layout.specs.Parts.{part_count}
-use Rattle.prem_layout.specs.Placed.{Coded, parts_of}
+use Rattle.prem_layout.specs.Placed.{Coded}
 use Rattle.prem_split.specs.PlanOf.{plan_of}
 use Rattle.prem_split.specs.declared.plan.IntervalPlan.{IntervalPlan}
 use Rattle.prem_prefetch.specs.Sizes.Sizes.{AreCodesOf, MayHavePlaces}
+use Rattle.prem_prefetch.proofs.SizesLemmas.Programs.{as_many_codes as codes_long}
 use Rattle.prem_place.specs.declared.placing.coded.CodedTask.{CodedTask}
 use Rattle.prem_place.specs.Placing.CodedOf.{IsCodedTask, coded_in as coded_task}
 use Rattle.prem_place.proofs.PlacingLemmas.Placing.{routines_long}
@@ -39,7 +40,7 @@ use Rattle.prem_compile.specs.PartsOf.{AreParts}
 use Rattle.prem_compile.specs.Telling.There.{HasName, HasCode, IsThere}
 use Rattle.prem_compile.specs.declared.parts.Parts.{Parts}
 use Rattle.prem_compile.proofs.TellingLemmas.PartsThere.{parts_there}
-use Rattle.prem_compile.proofs.Wanting.{codes_long, tasks_stand}
+use Rattle.prem_compile.proofs.Wanting.{tasks_stand}
 
 -- ---- one task
 

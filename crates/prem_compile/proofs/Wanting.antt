@@ -1,24 +1,20 @@
 -- The plans of a set's tasks name what is there among its parts.
-use Rattle.std.specs.Prelude.{◌==◌, if◌then◌else◌, slice_get, slice_index, slice_index_or}
+use Rattle.std.specs.Prelude.{◌==◌, if◌then◌else◌, slice_get}
 use Rattle.std.specs.List.{AllByRecursion}
 use Rattle.std.proofs.Common.{◌≡◌, ℕ, zero, suc, ◌+◌, ◌*◌, ◌<◌, ◌≤◌, ◌^◌, Bool, true, false, List, [], ◌∷◌, ◌++◌, Option, None, Some, refl, ap, sym, ◌∙◌, subst, arith, append_assoc, length, length-append, map}
 use Rattle.std.proofs.lemmas.Bool.{eq-eqb}
 use Rattle.std.proofs.lemmas.List.{length-map}
 use Rattle.std.proofs.lemmas.List.Elements.{recursion_from_All}
 use Rattle.std.proofs.lemmas.Nat.{mul-le}
-use Rattle.prem_plant.specs.declared.plant.Device.{Device}
 use Rattle.prem_plant.specs.declared.layout.PartSize.{PartSize}
-use Rattle.prem_plant.specs.declared.layout.PartKind.TheVariants.{Start, Global, Stack}
-use Rattle.prem_syntax.specs.declared.tree.Ty.{Ty}
-use Rattle.prem_syntax.specs.declared.tree.Ty.TheVariants.{Void, Int, Unsigned, Short, Ushort, Schar, Uchar}
+use Rattle.prem_plant.specs.declared.layout.PartKind.TheVariants.{Global, Stack}
 use Rattle.prem_syntax.specs.Syntax.{GlobalVariable, ProgramText}
 use Rattle.prem_syntax.specs.GroupTwo.{IsWellFormed}
-use Rattle.prem_syntax.specs.Resolve.{globals_of, resolve}
-use Rattle.prem_syntax.specs.Resolved.{Routine, Resolved}
-use Rattle.prem_asm.specs.Pieces.{Pieces, size_of}
+use Rattle.prem_syntax.specs.Resolve.{resolve}
+use Rattle.prem_syntax.specs.Resolved.{Resolved}
+use Rattle.prem_asm.specs.Pieces.{size_of}
 use Rattle.prem_layout.specs.Template.Frames.{stack_size}
-use Rattle.prem_layout.specs.Template.Steps.{Parts}
-use Rattle.prem_layout.specs.Template.Parts.{codes_of, parts_of as code_parts_of}
+use Rattle.prem_layout.specs.Template.Parts.{parts_of as code_parts_of}
 use Rattle.prem_layout.specs.Plans.{Region, Plan, plans_of}
 use Rattle.prem_layout.specs.Parts.{Passes, stub_passes, element_size, global_size, part, task_parts, parts_from, area_parts, part_count}
 use Rattle.prem_layout.specs.Footprint.{index_of}
@@ -28,6 +24,7 @@ use Rattle.prem_foot.proofs.Standing.{behind_stubs, global_there, stack_there, e
 use Rattle.prem_prefetch.specs.Parts.Parts.{IsShortGlobal}
 use Rattle.prem_prefetch.specs.Sizes.Sizes.{IsCodeOf, AreCodesOf}
 use Rattle.prem_prefetch.proofs.SizesLemmas.Kept.{all_kept}
+use Rattle.prem_prefetch.proofs.SizesLemmas.Programs.{as_many_codes as codes_long}
 use Rattle.prem_color.specs.Wants.{Shape, shape_of, size_at, element_at, global_number, stack_number}
 use Rattle.prem_color.specs.Standing.{RegionStands, PlanStands, TasksStand}
 use Rattle.prem_tasks.specs.Broken.{TaskSet, programs_of}
@@ -35,6 +32,7 @@ use Rattle.prem_tasks.specs.Compiled.{coded_in, parts_in}
 use Rattle.prem_sets_sound.specs.StubLaws.Initial.Standing.{count_of}
 use Rattle.prem_sets_sound.specs.TaskLaws.TaskFrame.Plans.{IsRegion, IsLegalPlan}
 use Rattle.prem_sets_sound.proofs.TaskLawsLemmas.LegalPlansLemmas.Legal.{plans_are_legal}
+use Rattle.prem_sets_sound.proofs.StubLawsLemmas.InitialLemmas.Values.{size_small as element_small}
 
 -- ---- lists
 
@@ -68,19 +66,6 @@ index_there (x ∷ xs) (suc j) plan e = by (x.function == plan.function) (index_
         (if b then 0 else 1 + index_of plan.function (map (λ (q : Plan). q.function) xs)) < suc (length (map (λ (q : Plan). q.function) xs))
     by true lt = omega arith
     by false lt = omega (arith, lt)
-
-pub codes_long : (parts : Parts) (fs : List Routine) → length (codes_of parts fs) ≡ length fs
-codes_long parts [] = refl
-codes_long parts (f ∷ fs) = ap suc (codes_long parts fs)
-
-element_small : (ty : Ty) → element_size ty ≤ 4
-element_small Void = omega arith
-element_small Int = omega arith
-element_small Unsigned = omega arith
-element_small Short = omega arith
-element_small Ushort = omega arith
-element_small Schar = omega arith
-element_small Uchar = omega arith
 
 -- ---- one task
 

@@ -1,6 +1,6 @@
 -- Answers over the files that a store tells, or over some readings where it tells none.
 use Rattle.std.specs.Prelude.{codes}
-use Rattle.std.proofs.Common.{◌≡◌, ℕ, List, [], ◌∷◌, Option, None, Some, Result, Ok, Err, IsTrue, refl, ap, ◌∙◌, sym, subst}
+use Rattle.std.proofs.Common.{◌≡◌, ℕ, List, ◌∷◌, Option, None, Some, Result, Ok, Err, IsTrue, refl, ap, ◌∙◌, sym, subst}
 use Rattle.prem_io.specs.Files.{Files}
 use Rattle.prem_syntax.specs.Syntax.{Text}
 use Rattle.prem_command.specs.Words.{Asked, command_of}
@@ -11,7 +11,7 @@ use Rattle.prem_answer.specs.declared.answer.Halt.{Halt}
 use Rattle.prem_answer.specs.declared.answer.Halt.TheVariants.{Answered, ReadFault as HaltReadFault, OutOfMemory as HaltOutOfMemory}
 use Rattle.prem_answer.specs.Stages.{Reply, Reads, Stage, reply_of, Comes, IsGiven, IsFine, is_settled, replied}
 use Rattle.prem_answer.proofs.Reading.{some_reads}
-use Rattle.prem_lint.specs.Answers.{lint_command, lint_of, lint_asked, usage_reply, Ends, Answered as IsAnswered}
+use Rattle.prem_lint.specs.Answers.{lint_command, lint_of, lint_asked, Ends, Answered as IsAnswered}
 use Rattle.prem_lint.proofs.Linting.{lint_is_fine}
 
 abbrev Settled : Reply → Type 0

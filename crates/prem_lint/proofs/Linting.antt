@@ -1,5 +1,5 @@
 -- A set file and its sources are read, and what is said of the set is the answer.
-use Rattle.std.proofs.Common.{◌≡◌, ℕ, List, Option, None, Some, Result, Ok, Err, IsTrue, refl, ap, ◌∙◌, sym, subst}
+use Rattle.std.proofs.Common.{◌≡◌, ℕ, List, Option, None, Some, Result, Ok, Err, IsTrue, refl, ap, ◌∙◌, subst}
 use Rattle.prem_io.specs.Files.{Files}
 use Rattle.prem_syntax.specs.Syntax.{Text}
 use Rattle.prem_layout.specs.Rules.{Refusal}

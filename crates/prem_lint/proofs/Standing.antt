@@ -1,6 +1,6 @@
 -- The placed tasks of a set, and what is told of their marked functions.
 use Rattle.std.specs.List.{AllByRecursion}
-use Rattle.std.proofs.Common.{◌≡◌, ℕ, ◌≤◌, List, [], ◌∷◌, length, map, refl, ap, sym, ◌∙◌, subst, arith, suc, drop}
+use Rattle.std.proofs.Common.{◌≡◌, List, [], ◌∷◌, length, map, refl, ap, sym, ◌∙◌, subst, arith, suc, drop}
 use Rattle.std.proofs.lemmas.List.{length-map}
 use Rattle.prem_plant.specs.declared.plant.Plant.{Plant}
 use Rattle.prem_plant.specs.declared.layout.PartSize.{PartSize}
@@ -12,7 +12,7 @@ use Rattle.prem_place.specs.Placing.CodedOf.{coded_in as coded_task}
 use Rattle.prem_place.specs.declared.placed.PlacedTask.{PlacedTask}
 use Rattle.prem_place.specs.declared.placing.coded.CodedTask.{CodedTask}
 use Rattle.prem_tasks.specs.Broken.{TaskSet}
-use Rattle.prem_tasks.specs.Compiled.{TaskFact, coded_in, parts_in, places_in, placed_in, facts_from, compiled}
+use Rattle.prem_tasks.specs.Compiled.{TaskFact, parts_in, places_in, facts_from, compiled}
 use Rattle.prem_compile.specs.Joined.{HasCode}
 use Rattle.prem_lint.specs.Needs.{AreStanding}
 

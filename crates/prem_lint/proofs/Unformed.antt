@@ -4,7 +4,7 @@ use Rattle.std.proofs.Common.{◌≡◌, ◌≢◌, Option, None, Some, refl, sy
 use Rattle.prem_syntax.specs.Syntax.{ProgramText}
 use Rattle.prem_syntax.specs.Rules.{Breach}
 use Rattle.prem_syntax.specs.GroupTwo.{group_two}
-use Rattle.prem_check.specs.Told.{IsRefusal, Told, told_of, said}
+use Rattle.prem_check.specs.Told.{IsRefusal, Told, told_of}
 use Rattle.prem_check.specs.declared.fail.CheckFail.{CheckFail}
 use Rattle.prem_check.specs.declared.fail.CheckFail.TheVariants as f
 use Rattle.prem_lint.specs.Places.{breach_place, program_place}

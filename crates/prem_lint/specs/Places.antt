@@ -1,9 +1,9 @@
 -- Where in a text a rule is broken.
-use Rattle.std.specs.Prelude.{ℕ, ◌-◌, ◌==◌, if◌then◌else◌, List, [], ◌∷◌, Option, None, Some, Result, Ok, Err}
+use Rattle.std.specs.Prelude.{ℕ, ◌-◌, if◌then◌else◌, List, [], ◌∷◌, Option, None, Some, Result, Ok, Err}
 use Rattle.std.specs.Option.{option_map}
 use Rattle.std.specs.Str.{bytes_eq}
 use Rattle.prem_syntax.specs.declared.tree.Place.{Place}
-use Rattle.prem_syntax.specs.Syntax.{Text, FunctionText, ItemText, ProgramText, global_item, function_item}
+use Rattle.prem_syntax.specs.Syntax.{Text, ItemText, ProgramText, global_item, function_item}
 use Rattle.prem_syntax.specs.Rules.{Breach}
 use Rattle.prem_syntax.specs.GroupTwo.{group_two}
 use Rattle.prem_text.specs.declared.lexing.token.fail.FrontFail.{FrontFail}

@@ -11,10 +11,10 @@ use Rattle.prem_cycle.specs.Issue.{Attempt, Traps, Executes, attempt_behind}
 use Rattle.prem_cycle.specs.Core.{is_empty, CoreMove, Passes, Issues}
 use Rattle.prem_cycle.specs.Cycle.{arrivals_at, bus_at, with_memory, move_at, is_over}
 use Rattle.prem_cycle.specs.FactsOf.{with_input, with_word}
-use Rattle.prem_cycle.specs.Run.{step_by, step_in, step_with, coming_step, wants_word, wants_input_of}
+use Rattle.prem_cycle.specs.Run.{step_by, step_in, coming_step, wants_word, wants_input_of}
 use Rattle.prem_cycle.proofs.RunsLemmas.InputsLemmas.Words.{no_task, tasks_with}
 use Rattle.prem_cycle.proofs.RunsLemmas.InputsLemmas.Turns.{work_with, past_of, move_with}
-use Rattle.prem_cycle.proofs.RunsLemmas.InputsLemmas.Cycles.{over_with}
+use Rattle.prem_cycle.proofs.RunsLemmas.InputsLemmas.Cycles.{over_with, coming_goes, coming_stays}
 
 -- ---- the task that has got a word has one left
 
@@ -55,12 +55,6 @@ finds_in rule p j now k w (Issues i v) lt h =
     step_finds rule p j now i v (work_with k 0 w) (attempt_behind rule p i (work_with k 0 w)) (ap (λ (t : Task). is_empty t.left) there ∙ not_empty (task_in w k).left 0)
 
 -- ---- a cycle
-
-coming_goes : (rule : ReplacementRule) (p : Setup) (requests : List Request) (s : MachineState) → is_over s ≡ false → coming_step rule p requests s ≡ step_with rule p (bus_at (arrivals_at requests s).gates s) s
-coming_goes rule p requests s h = ap (λ b. cond b None (step_with rule p (bus_at (arrivals_at requests s).gates s) s)) h
-
-coming_stays : (rule : ReplacementRule) (p : Setup) (requests : List Request) (s : MachineState) → is_over s ≡ true → coming_step rule p requests s ≡ None
-coming_stays rule p requests s h = ap (λ b. cond b None (step_with rule p (bus_at (arrivals_at requests s).gates s) s)) h
 
 -- where a task wants a word and gets it, no task reads past the end in the coming cycle
 pub supplied_finds : (rule : ReplacementRule) (p : Setup) (requests : List Request) (s : MachineState) (k j : ℕ) → k < length s.work.tasks → wants_input_of rule p requests s ≡ Some k → past_of j (coming_step rule p requests (with_input k 0 s)) ≡ false

@@ -1,29 +1,12 @@
 -- Lemmas of prem_inputs that it doesn't export: how a cycle takes input words, and steps that aren't past the end.
-use Rattle.std.specs.Prelude.{◌==◌, ◌&&◌, nat_le, slice_index_or, slice_set}
-use Rattle.std.proofs.Common.{◌≡◌, ◌≢◌, ℕ, zero, suc, ◌-◌, ◌/◌, ◌≤◌, refl, ap, ◌∙◌, sym, subst, arith, cond, ⊎_elim, eqb-true, Bool, true, false, Option, Some, None, List, [], ◌∷◌, drop, length, length-drop, drop-drop}
+use Rattle.std.specs.Prelude.{◌&&◌, nat_le}
+use Rattle.std.proofs.Common.{◌≡◌, ◌≢◌, ℕ, ◌-◌, ◌≤◌, refl, ◌∙◌, sym, arith, ⊎_elim, Bool, true, false, Option, Some, None, List, [], ◌∷◌, drop, length}
 use Rattle.std.proofs.lemmas.Bool.{cases_Bool, lt-leb}
-use Rattle.prem_isa.specs.declared.effect.Access.{Access}
-use Rattle.prem_isa.specs.declared.effect.Change.{Change}
-use Rattle.prem_isa.specs.declared.effect.Change.TheVariants.{Stay, Memory, Execute, End, Job}
-use Rattle.prem_isa.specs.declared.effect.Effect.{Effect}
-use Rattle.prem_isa.specs.declared.effect.Stored.{Stored}
-use Rattle.prem_isa.specs.Plain.{left_after, used_after}
-use Rattle.prem_lru.specs.Entries.{ReplacementRule}
-use Rattle.prem_lru.specs.CacheState.{Touched, touch_of}
-use Rattle.prem_gate.specs.declared.request.Request.{Request}
-use Rattle.prem_gate.specs.Gates.{Turned}
-use Rattle.prem_image.specs.declared.image.TaskRecord.{TaskRecord}
-use Rattle.prem_cycle.specs.State.{Setup, MachineState, record_of, Task, Work, task_in}
-use Rattle.prem_cycle.specs.Issue.{Attempt, Traps, Executes, attempt_behind, task_moved, task_changed, task_after, issued_with}
-use Rattle.prem_cycle.specs.Core.{is_empty, CoreMove, Passes, Issues, attempted, moved}
-use Rattle.prem_cycle.specs.Cycle.{arrivals_at, bus_at, with_memory, move_at, is_over, step_of}
+use Rattle.prem_cycle.specs.Core.{is_empty}
 use Rattle.prem_cycle.specs.Run.{CycleStep, wants_word}
-use Rattle.prem_cycle.proofs.CycleParts.{cycle_work}
-use Rattle.prem_cycle.proofs.RunLaws.{step_of-goes, step_of-stays}
 use Rattle.prem_cycle.specs.Runs.Inputs.PastEnd.{is_past_end}
-use Rattle.prem_cycle.specs.Runs.Inputs.Taken.{TakesFrom}
-use Rattle.prem_cycle.proofs.RunsLemmas.InputsLemmas.Words.{no_task}
 use Rattle.prem_cycle.proofs.RunsLemmas.InputsLemmas.Turns.{past_of}
+use Rattle.prem_cycle.proofs.RunsLemmas.InputsLemmas.Wants.{past_is, wants}
 
 -- ---- one effect
 
@@ -32,63 +15,7 @@ record Split (words left : List ℕ) (used : ℕ) : Type 0 where
   pub within : used ≤ length words
   pub rest : left ≡ drop used words
 
-taken_after : (words : List ℕ) (b : Bool) (left : List ℕ) (used : ℕ) → Split words left used → Split words (left_after b left) (used_after b left used)
-taken_after words false left used h = h
-taken_after words true [] used h = h
-taken_after words true (x ∷ left) used h =
-    let count : suc (length left) ≡ length words - used = ap length h.rest ∙ length-drop used words in
-    record { within = omega arith; rest = ap (drop 1) h.rest ∙ drop-drop 1 used words }
-
-changed_from : (words : List ℕ) (r : TaskRecord) (c : Change) (t : Task) → TakesFrom words t → TakesFrom words (task_changed r c t)
-changed_from words r Stay t h = h
-changed_from words r Memory t h = h
-changed_from words r (Execute stated) t h = h
-changed_from words r End t h = h
-changed_from words r Job t h = record { used = h.used; left = h.left }
-
-after_from : (words : List ℕ) (r : TaskRecord) (e : Effect) (t : Task) → TakesFrom words t → TakesFrom words (task_after r e t)
-after_from words r e t h =
-    let s : Split words (left_after e.input t.left) (used_after e.input t.left t.used) =
-    taken_after words e.input t.left t.used (record { within = h.used; rest = h.left }) in
-    changed_from words r e.change (task_moved e t) (record { used = s.within; left = s.rest })
-
 -- ---- a cycle
-
-set_holds : (P : Task → Type 0) (tasks : List Task) (j k : ℕ) (t : Task) → P (slice_index_or tasks k no_task) → (k ≡ j → P t) → P (slice_index_or (slice_set tasks j t) k no_task)
-set_holds P [] j k t h at = h
-set_holds P (u ∷ tasks) zero zero t h at = at refl
-set_holds P (u ∷ tasks) zero (suc k) t h at = h
-set_holds P (u ∷ tasks) (suc j) zero t h at = h
-set_holds P (u ∷ tasks) (suc j) (suc k) t h at = set_holds P tasks j k t h (λ e. at (ap suc e))
-
-issued_tasks : (rule : ReplacementRule) (size : ℕ) (tasks : List Task) (stored : Option Stored) (line : ℕ) (t : Touched) (access : Option Access) → (issued_with rule size tasks stored line t access).work.tasks ≡ tasks
-issued_tasks rule size tasks stored line t None = refl
-issued_tasks rule size tasks stored line t (Some a) = refl
-
-attempted_from : (rule : ReplacementRule) (p : Setup) (words : List ℕ) (k j : ℕ) (a : Attempt) (w : Work) → TakesFrom words (task_in w k) → TakesFrom words (task_in (attempted rule p j a w) k)
-attempted_from rule p words k j (Traps cause) w h = h
-attempted_from rule p words k j (Executes instr e) w h =
-    let line : ℕ = (task_in w j).pc / p.plant.line in
-    let t : Task = task_after (record_of p j) e (task_in w j) in
-    subst (λ tasks. TakesFrom words (slice_index_or tasks k no_task))
-    (sym (issued_tasks rule p.plant.line (slice_set w.tasks j t) e.stored line (touch_of rule w.cache line w.memory) e.access))
-    (set_holds (TakesFrom words) w.tasks j k t h
-    (λ q. after_from words (record_of p j) e (task_in w j) (subst (λ i. TakesFrom words (task_in w i)) q h)))
-
-moved_from : (rule : ReplacementRule) (p : Setup) (words : List ℕ) (k : ℕ) (m : CoreMove) (w : Work) → TakesFrom words (task_in w k) → TakesFrom words (task_in (moved rule p m w) k)
-moved_from rule p words k (Passes c) w h = h
-moved_from rule p words k (Issues j i) w h = attempted_from rule p words k j (attempt_behind rule p j w) w h
-
-pub step_from : (rule : ReplacementRule) (p : Setup) (requests : List Request) (words : List ℕ) (k : ℕ) (s : MachineState) → TakesFrom words (task_in s.work k) → TakesFrom words (task_in (step_of rule p requests s).work k)
-step_from rule p requests words k s h =
-    let b : Turned = bus_at (arrivals_at requests s).gates s in
-    ⊎_elim (λ (e : is_over s ≡ true).
-    subst (λ (u : MachineState). TakesFrom words (task_in u.work k)) (sym (step_of-stays rule p requests s e)) h)
-    (λ (e : is_over s ≡ false).
-    subst (λ (w : Work). TakesFrom words (task_in w k))
-    (sym (ap (λ (u : MachineState). u.work) (step_of-goes rule p requests s e) ∙ cycle_work rule p (arrivals_at requests s) b s))
-    (moved_from rule p words k (move_at p b s) (with_memory b.memory s.work) h))
-    (cases_Bool (is_over s))
 
 -- ---- steps that are not past the end
 
@@ -100,11 +27,6 @@ grouped : (a b c : Bool) → (a && b && c) ≡ (a && (b && c))
 grouped true b c = refl
 grouped false b c = refl
 
-past_is : (k : ℕ) (step : CycleStep) → is_past_end k step ≡ ((step.task == k) && (step.effect.input && nat_le (length step.before.left) 0))
-past_is k step =
-    grouped (step.task == k) step.effect.input (is_empty step.before.left)
-    ∙ ap (λ b. (step.task == k) && (step.effect.input && b)) (empty_is step.before.left)
-
 and_first : (a b : Bool) → (a && b) ≡ true → a ≡ true
 and_first true b h = refl
 and_first false b h = h
@@ -112,10 +34,6 @@ and_first false b h = h
 and_second : (a b : Bool) → (a && b) ≡ true → b ≡ true
 and_second true b h = h
 and_second false b h = absurd (let x : false ≡ true = h in cc)
-
-wants : (k task : ℕ) (b : Bool) → ((task == k) && b) ≡ true → cond b (Some task) None ≡ Some k
-wants k task true h = ap Some (eqb-true task k (and_first (task == k) true h))
-wants k task false h = absurd (let x : false ≡ true = and_second (task == k) false h in cc)
 
 pub not_past : (k : ℕ) (o : Option CycleStep) → wants_word o ≢ Some k → past_of k o ≡ false
 not_past k None h = refl

@@ -1,6 +1,6 @@
 -- What a run in memory keeps.
 use Rattle.std.specs.Prelude.{is_some, slice_index, slice_index_or}
-use Rattle.std.proofs.Common.{◌≡◌, ℕ, zero, suc, ◌+◌, ◌<◌, ◌≤◌, Bool, true, false, cond, List, [], ◌∷◌, ◌++◌, Option, None, Some, refl, ap, sym, ◌∙◌, subst, arith, ⊎_elim, length, drop, slice_set, length-append, length-set, All}
+use Rattle.std.proofs.Common.{◌≡◌, ℕ, zero, suc, ◌+◌, ◌<◌, ◌≤◌, true, false, List, [], ◌∷◌, ◌++◌, Option, None, Some, refl, ap, sym, ◌∙◌, subst, arith, ⊎_elim, length, drop, slice_set, length-append, length-set, All}
 use Rattle.std.proofs.lemmas.Bool.{cases_Bool, cases_eq}
 use Rattle.std.proofs.lemmas.List.{get_or-set_same, get_or-set_other, map-set, length-map}
 use Rattle.std.proofs.lemmas.List.Elements.{All-set}
@@ -13,17 +13,17 @@ use Rattle.prem_gate.specs.declared.request.Request.{Request}
 use Rattle.prem_gate.specs.declared.bus.Transfer.{Transfer}
 use Rattle.prem_gate.specs.Gates.{Turned}
 use Rattle.prem_cycle.specs.State.{Setup, MachineState, Task, task_in, rule_in}
-use Rattle.prem_cycle.specs.Cycle.{arrivals_at, bus_at, core_at, joined, with_now, next_cycle, is_over, step_of}
+use Rattle.prem_cycle.specs.Cycle.{arrivals_at, bus_at, core_at, joined, is_over, step_of}
 use Rattle.prem_cycle.specs.FactsOf.{inputs_size, with_input, with_word}
-use Rattle.prem_cycle.proofs.CycleParts.{settle_keeps}
 use Rattle.prem_cycle.proofs.RunLaws.{step_of-goes, step_of-stays}
 use Rattle.prem_cycle.specs.Runs.Inputs.Taken.{TakesFrom}
 use Rattle.prem_cycle.proofs.RunsLemmas.InputsLemmas.Words.{no_task, tasks_with, task_with}
+use Rattle.prem_cycle.proofs.RunsLemmas.InputsLemmas.Taken.{step_from}
 use Rattle.prem_machine.specs.States.{Running, with_state}
+use Rattle.prem_sound.proofs.ServeLemmas.Queues.{ticked_transfers}
 use Rattle.prem_mail.specs.declared.feed.Feed.{Feed}
 use Rattle.prem_mail.specs.Delivery.{has_room}
 use Rattle.prem_mail.specs.MailFields.{lists_of, HoldsMail}
-use Rattle.prem_mail.proofs.FromInputs.{step_from}
 use Rattle.prem_mail.proofs.Finds.{set_there}
 use Rattle.prem_mail.proofs.Steps.{step_long}
 use Rattle.prem_mail.proofs.Runs.{room_there}
@@ -83,10 +83,6 @@ brought_keeps r feeds words lost k word list h room items big =
         (other_stays (TakesFrom (slice_index_or (lists_of words) j [])) r.state.work.tasks k j word other takes)
 
 -- ---- a cycle
-
-ticked_transfers : (b : Bool) (s : MachineState) → (cond b s (next_cycle s)).log.transfers ≡ s.log.transfers
-ticked_transfers true s = refl
-ticked_transfers false s = (settle_keeps s.core.mode (with_now s (s.now + 1))).transfers
 
 last_longer : {A : Type 0} (o : Option A) (xs : List A) → length xs ≤ length (with_last o xs)
 last_longer None xs = omega arith

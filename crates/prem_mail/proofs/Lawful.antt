@@ -4,16 +4,16 @@ use Rattle.std.specs.Option.{option_and_then}
 use Rattle.std.specs.Str.{bytes_eq}
 use Rattle.std.proofs.Common.{◌≡◌, ◌<◌, ◌+◌, ℕ, zero, suc, Bool, true, false, nat_lt, List, [], ◌∷◌, ◌++◌, length, map, get_or, slice_get, Option, None, Some, option_map, Result, Ok, Err, codes, refl, sym, ap, subst, ◌∙◌, arith, ◌⊎◌, inl, inr, length-append}
 use Rattle.std.proofs.lemmas.Bool.{cases_Bool, ltb-true, eq-eqb}
-use Rattle.std.proofs.lemmas.Bool.Decides.{nat_tests}
 use Rattle.std.proofs.lemmas.List.{get_or-map}
 use Rattle.std.proofs.lemmas.List.Elements.{All-push}
 use Rattle.std.proofs.lemmas.List.Quantifiers.{position-Some}
-use Rattle.std.proofs.lemmas.Option.{get_or_from_slice_get, slice_get_past, none-some, same_Some}
+use Rattle.std.proofs.lemmas.Option.{get_or_from_slice_get, none-some, same_Some}
 use Rattle.prem_line.specs.Chain.{◌>>=◌, wanted, holds}
 use Rattle.prem_line.specs.Lines.{lines_of, words_of, is_skipped, is_text, first_of}
 use Rattle.prem_line.specs.Numbers.{number_of}
 use Rattle.prem_line.proofs.Chain.{same_Ok, no_value, bound, held, found}
 use Rattle.prem_set.specs.Run.Names.{KnownNames, place_of, task_of, device_of}
+use Rattle.prem_set.proofs.RunLemmas.Lawful.{within}
 use Rattle.prem_mail.specs.declared.feed.Feed.{Feed}
 use Rattle.prem_mail.specs.declared.fail.MailWhich.{MailWhich}
 use Rattle.prem_mail.specs.declared.fail.MailWhich.TheVariants as which
@@ -27,13 +27,6 @@ abbrev Are : KnownNames → List Feed → Type 0
 Are names feeds = AreFeeds (length names.tasks) (lines_in names) feeds
 
 -- ---- one feed
-
-within : (devices : List (List ℕ × ℕ)) (n : ℕ) (x : List ℕ × ℕ) → slice_get devices n ≡ Some x → n < length devices
-within devices n x there =
-    elim (cases_Bool (nat_lt n (length devices))) [
-      | inl inside ↦ ltb-true n (length devices) inside
-      | inr past ↦ absurd (none-some x (sym (slice_get_past devices n (grind (arith, nat_tests, past))) ∙ there))
-    ]
 
 -- the device is there, with so many lines
 record Known (names : KnownNames) (d : ℕ × ℕ) : Type 0 where

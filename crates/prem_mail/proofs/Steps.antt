@@ -1,25 +1,20 @@
 -- How many tasks a state has.
 use Rattle.std.specs.Prelude.{slice_set}
-use Rattle.std.proofs.Common.{◌≡◌, ℕ, zero, suc, ◌/◌, refl, ap, ◌∙◌, ⊎_elim, true, false, List, [], ◌∷◌, Option, Some, None, length, length-set}
+use Rattle.std.proofs.Common.{◌≡◌, ℕ, zero, suc, ◌/◌, refl, ap, ◌∙◌, ⊎_elim, true, false, List, length, length-set}
 use Rattle.std.proofs.lemmas.Bool.{cases_Bool}
-use Rattle.prem_isa.specs.declared.effect.Access.{Access}
-use Rattle.prem_isa.specs.declared.effect.Stored.{Stored}
 use Rattle.prem_lru.specs.Entries.{ReplacementRule}
-use Rattle.prem_lru.specs.CacheState.{Touched, touch_of}
+use Rattle.prem_lru.specs.CacheState.{touch_of}
 use Rattle.prem_gate.specs.declared.request.Request.{Request}
 use Rattle.prem_gate.specs.Gates.{Turned}
-use Rattle.prem_image.specs.declared.image.TaskRecord.{TaskRecord}
-use Rattle.prem_cycle.specs.State.{Setup, MachineState, Task, Work, first_tasks, record_of, start_of, task_in}
-use Rattle.prem_cycle.specs.Issue.{Attempt, Traps, Executes, attempt_behind, task_after, issued_with}
+use Rattle.prem_cycle.specs.State.{Setup, MachineState, Task, Work, record_of, start_of, task_in}
+use Rattle.prem_cycle.specs.Issue.{Attempt, Traps, Executes, attempt_behind, task_after}
 use Rattle.prem_cycle.specs.Core.{CoreMove, Passes, Issues, attempted, moved}
 use Rattle.prem_cycle.specs.Cycle.{arrivals_at, bus_at, with_memory, move_at, is_over, step_of}
 use Rattle.prem_cycle.specs.Run.{cycles_of, memory_of, run_of}
 use Rattle.prem_cycle.proofs.CycleParts.{cycle_work}
 use Rattle.prem_cycle.proofs.RunLaws.{step_of-goes, step_of-stays}
-
-issued_tasks : (rule : ReplacementRule) (size : ℕ) (tasks : List Task) (stored : Option Stored) (line : ℕ) (t : Touched) (access : Option Access) → (issued_with rule size tasks stored line t access).work.tasks ≡ tasks
-issued_tasks rule size tasks stored line t None = refl
-issued_tasks rule size tasks stored line t (Some a) = refl
+use Rattle.prem_cycle.proofs.RunsLemmas.InputsLemmas.Taken.{issued_tasks}
+use Rattle.prem_cycle.proofs.RunsLemmas.PositionLemmas.Starts.{length-first_tasks as first_long}
 
 attempted_long : (rule : ReplacementRule) (p : Setup) (j : ℕ) (a : Attempt) (w : Work) → length (attempted rule p j a w).tasks ≡ length w.tasks
 attempted_long rule p j (Traps cause) w = refl
@@ -46,11 +41,6 @@ cycles_long : (rule : ReplacementRule) (p : Setup) (requests : List Request) (n 
 unfolding cycles_of
 cycles_long rule p requests zero s = refl
 cycles_long rule p requests (suc n) s = step_long rule p requests (cycles_of rule p requests n s) ∙ cycles_long rule p requests n s
-
-first_long : (rs : List TaskRecord) (inputs : List (List ℕ)) → length (first_tasks rs inputs) ≡ length rs
-first_long [] inputs = refl
-first_long (r ∷ rs) [] = ap suc (first_long rs [])
-first_long (r ∷ rs) (words ∷ inputs) = ap suc (first_long rs inputs)
 
 -- a state of a run has as many as the machine
 pub run_long : (rule : ReplacementRule) (p : Setup) (content : List ℕ) (inputs : List (List ℕ)) (requests : List Request) (n : ℕ) → length (run_of rule p content inputs requests n).work.tasks ≡ length p.tasks

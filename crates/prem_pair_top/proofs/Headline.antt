@@ -9,11 +9,12 @@ use Rattle.prem_answer.specs.declared.status.Status.TheVariants.{Done, Refused}
 use Rattle.prem_answer.specs.Stages.{Reply, Reads, Stage, replied}
 use Rattle.prem_exec.specs.Forms.{RunText}
 use Rattle.prem_exec.specs.Sources.Sources.{reading_run_by, reading_set_by}
+use Rattle.prem_exec.proofs.SourcesLemmas.Reading.{is_judged, IsRight, anything, Goes, Outcome, Stops, set_outcome}
 use Rattle.prem_pair_top.specs.Words.{PairAsked}
 use Rattle.prem_pair_top.specs.Running.{cycles_in, limit_in}
 use Rattle.prem_pair_top.specs.Stages.{compiled_text, judged_reply, pair_stages, reading_other, refused_text, sets_reply, words_answer}
 use Rattle.prem_pair_top.specs.Headline.{AreRead, Keeps, TellsBroken, WordsKeep}
-use Rattle.prem_pair_top.proofs.Reading.{is_judged, IsRight, anything, none_there, Goes, Outcome, Stops, SuitsSet, first_outcome, second_outcome, run_outcome}
+use Rattle.prem_pair_top.proofs.Reading.{none_there, SuitsSet, second_outcome, run_outcome}
 use Rattle.prem_pair_top.proofs.Sets.{pair_reports_end, pairs_of_sets_are_sound}
 use Rattle.prem_pair_top.proofs.Limits.{pair_limits_are_small}
 
@@ -50,7 +51,7 @@ module _ (asked : PairAsked) (given : Reply) (judged : is_judged given.0 ≡ tru
   behind_one one = reading_other asked.other_set (behind_two one)
 
   all_read : replied (pair_stages asked reads) ≡ given → AllRead reads asked given
-  all_read is = first (first_outcome asked.set reads) where
+  all_read is = first (set_outcome asked.set reads) where
     last : (a : Goes (reading_set_by Brief asked.set) reads (IsRight anything)) (b : Goes (reading_other asked.other_set) a.left (IsRight none_there)) (c : Goes (reading_run_by Brief a.value asked.run) b.left (SuitsSet a.value)) →
         replied (behind_input a.value b.value c.value c.left) ≡ given → Outcome (reading_run_by Brief b.value asked.other_run) c.left (SuitsSet b.value) → AllRead reads asked given
     last a b c there (inr stop) = absurd (unread (reading_run_by Brief b.value asked.other_run) c.left (behind_other a.value b.value c.value) given stop judged there)

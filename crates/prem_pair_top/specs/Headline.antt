@@ -7,9 +7,9 @@ use Rattle.prem_tasks.specs.Compiled.{compiled}
 use Rattle.prem_sets_sound.specs.Accepted.Accepted.{HasValues, setup_in}
 use Rattle.prem_answer.specs.declared.answer.Telling.TheVariants.{Brief}
 use Rattle.prem_answer.specs.declared.status.Status.TheVariants.{Done, Refused}
-use Rattle.prem_answer.specs.Stages.{Reply, Reads, Stage}
+use Rattle.prem_answer.specs.Stages.{Reply, Reads}
 use Rattle.prem_exec.specs.Forms.{RunText}
-use Rattle.prem_exec.specs.Sources.Sources.{reading_run_by, reading_set_by}
+use Rattle.prem_exec.specs.Sources.Sources.{Gives, reading_run_by, reading_set_by}
 use Rattle.prem_running.specs.RunSound.Runs.{SuitsRun}
 use Rattle.prem_pair_top.specs.Words.{PairAsked}
 use Rattle.prem_pair_top.specs.Running.{cycles_in, limit_in, pair_at}
@@ -17,10 +17,6 @@ use Rattle.prem_pair_top.specs.Stages.{compiled_text, reading_other, refused_tex
 use Rattle.prem_pair_top.specs.Sound.{AreSound, EndsWell}
 
 -- ---- what is read
-
--- with these readings this is read, whatever comes next, and those readings are left
-abbrev pub Gives : {A : Type 0} → ((A → Stage Reply) → Stage Reply) → Reads → A → Reads → Type 0
-Gives readings reads x left = (next : _ → Stage Reply) → readings next reads ≡ next x left
 
 -- both sets with their sources, and then both run files, one after another; their values are in their ranges
 pub record AreRead (reads : Reads) (asked : PairAsked) (one two : TaskSet) (input other : RunText) : Type 0 where

@@ -11,6 +11,7 @@ use Rattle.prem_answer.specs.declared.answer.Telling.TheVariants.{Brief}
 use Rattle.prem_answer.specs.declared.status.Status.TheVariants as status
 use Rattle.prem_answer.specs.Stages.{Reply, Reads, Stage, replied}
 use Rattle.prem_exec.specs.Sources.Sources.{reading_set_by}
+use Rattle.prem_exec.proofs.SourcesLemmas.Reading.{is_judged, IsRight, Outcome, anything, set_outcome}
 use Rattle.prem_resp.specs.declared.busy.length.Busy.{Busy}
 use Rattle.prem_resp.specs.declared.status.FitStatus.TheVariants.{Done, Refused}
 use Rattle.prem_resp.specs.Statuses.{fit_status}
@@ -19,7 +20,6 @@ use Rattle.prem_resp.specs.Fits.{loads_in, found_in, EndsInTime}
 use Rattle.prem_resp.specs.Told.{names_of}
 use Rattle.prem_resp.specs.Stages.{fit_reply, fit_stages, judged_reply, refused_text, set_text, words_answer}
 use Rattle.prem_resp.specs.Headline.{IsRead, Keeps, SaysFits, WordsKeep}
-use Rattle.prem_resp.proofs.Reading.{is_judged, Outcome, set_outcome}
 use Rattle.prem_resp.proofs.Endings.{late_is_other}
 use Rattle.prem_resp.proofs.Fits.{fitting_sets_end_in_time}
 
@@ -36,10 +36,10 @@ behind_set set reads = Ok (fit_reply set)
 
 set_read : (name : List ℕ) (given : Reply) (reads : Reads) → is_judged given.0 ≡ true → replied (fit_stages name reads) ≡ given → SetRead reads name given
 set_read name given reads judged is = by (set_outcome name reads) where
-  by : Outcome (reading_set_by Brief name) reads HasValues → SetRead reads name given
+  by : Outcome (reading_set_by Brief name) reads (IsRight anything) → SetRead reads name given
   by (inl goes) = record {
     set = goes.value;
-    read = record { left = goes.left; gives = goes.gives; values = goes.holds };
+    read = record { left = goes.left; gives = goes.gives; values = goes.holds.0 };
     goes = ap replied (sym (goes.gives behind_set)) ∙ is;
   }
   by (inr stop) =

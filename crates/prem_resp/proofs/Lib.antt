@@ -4,7 +4,6 @@ pub mod Fits
 pub mod LoadsAre
 pub mod Found
 pub mod Endings
-pub mod Reading
 pub mod Headline
 pub mod Stages
 pub mod Complete

@@ -1,5 +1,5 @@
 -- Sets at given places of their parts: the first rule that is broken, and what a set is compiled to there.
-use Rattle.std.specs.Prelude.{ℕ, List, map, Option}
+use Rattle.std.specs.Prelude.{List, map, Option}
 use Rattle.prem_plant.specs.Places.{Extent, AreLawful}
 use Rattle.prem_layout.specs.Bounds.{JobBound, limit_of}
 use Rattle.prem_layout.specs.Placed.{Coded, Placed, placed_from}

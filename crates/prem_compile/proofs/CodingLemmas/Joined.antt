@@ -6,7 +6,6 @@ use Rattle.prem_plant.specs.declared.plant.Target.{Target}
 use Rattle.prem_syntax.specs.Syntax.{ProgramText}
 use Rattle.prem_syntax.specs.Rules.{Breach}
 use Rattle.prem_syntax.specs.GroupTwo as meaning
-use Rattle.prem_syntax.specs.Resolved.{Resolved}
 use Rattle.prem_tree.specs.declared.resolve.resolved.Resolved.{Resolved as ResolvedTree}
 use Rattle.prem_check.specs.Told.{told_of as told_of_breach}
 use Rattle.prem_text.specs.declared.lexing.token.fail.FrontFail.{FrontFail}
@@ -14,9 +13,8 @@ use Rattle.prem_text.specs.Texts.{reads}
 use Rattle.prem_ranges.specs.GroupThree.{turn_bounds}
 use Rattle.prem_analysis.specs.declared.analysed.Analysed.{Analysed}
 use Rattle.prem_analysis.specs.Analysed.{analysed_text}
-use Rattle.prem_layout.specs.Template.Limits.{Excess, frame, depth, excess}
 use Rattle.prem_layout.specs.Template.Parts.{parts_of as task_parts}
-use Rattle.prem_layout.specs.Rules.{or_else, refused_by, first_among, over_tasks, of_excess, group_four}
+use Rattle.prem_layout.specs.Rules.{or_else, refused_by, first_among, over_tasks, group_four}
 use Rattle.prem_code_laws.proofs.FitLawsLemmas.MeasureLemmas.ProgramNodes.{codes_are_small}
 use Rattle.prem_prefetch.specs.Sizes.Sizes.{AreCodesOf}
 use Rattle.prem_tasks.specs.Told.{of_program}
@@ -27,6 +25,7 @@ use Rattle.prem_stages.specs.declared.front.Coded.{Coded}
 use Rattle.prem_stages.specs.Coded.{IsCoded}
 use Rattle.prem_stages.proofs.Groups.{late_four}
 use Rattle.prem_sets_sound.proofs.AcceptedLemmas.Follow.{not_late}
+use Rattle.prem_sets_sound.proofs.EachLemmas.Filled.{not_exceeding}
 use Rattle.prem_compile.specs.Coding.Programs.{meant_by, text_by}
 use Rattle.prem_compile.specs.Coding.Tasks.{Codes, AreForSet}
 
@@ -46,14 +45,6 @@ is_formed p e = by (meaning.group_two p) e
     by : (found : Option Breach) → option_map (λ b. of_program (told_of_breach b)) found ≡ None → IsTrue (is_none found)
     by None e = refl
     by (Some b) e = absurd cc
-
-not_exceeding : (q : Resolved) → group_four q ≡ None → excess q ≡ None
-not_exceeding q e = by (excess q) e
-  where
-    by : (found : Option Excess) → of_excess q.routines found ≡ None → found ≡ None
-    by None e = refl
-    by (Some (frame f)) e = absurd cc
-    by (Some (depth line)) e = absurd cc
 
 -- ---- the code of a set's programs
 

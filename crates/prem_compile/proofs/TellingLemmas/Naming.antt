@@ -3,7 +3,6 @@ use Rattle.std.specs.List.{AllByRecursion}
 use Rattle.std.proofs.Common.{◌≡◌, ℕ, zero, suc, ◌<◌, List, [], ◌∷◌, refl, ap, sym, ◌∙◌, subst, arith, length, map, get_or, Bor}
 use Rattle.prem_plant.specs.declared.plant.Device.{Device}
 use Rattle.prem_plant.specs.declared.layout.PartKind.{PartKind}
-use Rattle.prem_plant.specs.declared.layout.PartKind.TheVariants.{Code, Stub, Area}
 use Rattle.prem_plant.specs.declared.layout.PartSize.{PartSize}
 use Rattle.prem_syntax.specs.declared.tree.Global.{Global}
 use Rattle.prem_syntax.specs.Name.{name_bytes}
@@ -11,7 +10,8 @@ use Rattle.prem_syntax.specs.SyntaxOf.{global_of}
 use Rattle.prem_tree.specs.declared.resolve.resolved.Routine.{Routine}
 use Rattle.prem_tree.specs.Resolve.ResolvedOf.{routines_of as plain_routines}
 use Rattle.prem_layout.specs.Placed.{name_at}
-use Rattle.prem_place.proofs.VerdictLemmas.Names.{routines_long, name_from}
+use Rattle.prem_place.proofs.VerdictLemmas.Names.{name_from}
+use Rattle.prem_place.proofs.BuildImageLemmas.Whole.{routines_long}
 use Rattle.prem_tasks.specs.Broken.{global_name}
 use Rattle.prem_tasks.specs.Compiled.{named_in, names_in, kind_name, part_name}
 use Rattle.prem_compile.specs.declared.telling.names.NamedTask.{NamedTask}

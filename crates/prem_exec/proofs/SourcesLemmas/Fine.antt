@@ -1,5 +1,5 @@
 -- Readings of sets and run files end in answers that may be given.
-use Rattle.std.proofs.Common.{ℕ, List, [], ◌∷◌, Result, Ok, Err, refl}
+use Rattle.std.proofs.Common.{ℕ, List, [], ◌∷◌, Result, Ok, Err}
 use Rattle.prem_tasks.specs.Broken.{TaskText, TaskSet}
 use Rattle.prem_set.specs.Run.Run.{Gathered, LineRefusal, run_of as lines_of_run}
 use Rattle.prem_set.specs.declared.fault.SetFail.{SetFail}

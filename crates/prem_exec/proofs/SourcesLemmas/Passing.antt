@@ -19,7 +19,7 @@ use Rattle.prem_answer.specs.declared.answer.Halt.TheVariants.{Answered, ReadFau
 use Rattle.prem_answer.specs.Stages.{Reply, Stage, Comes, IsReadAsBy, IsGiven, form_by, reply_of}
 use Rattle.prem_answer.proofs.Reading.{goes_on_by, ends_there_by}
 use Rattle.prem_exec.specs.Forms.{run_in_by}
-use Rattle.prem_exec.specs.Sources.Sources.{Leads, Passes, input_of, reading_behind, reading_set_by, reading_sources, reading_tasks_by, set_in_by, set_limit, set_of_bytes_by, set_why, set_with, source_limit, task_of_source}
+use Rattle.prem_exec.specs.Sources.Sources.{Passes, input_of, reading_behind, reading_set_by, reading_sources, reading_tasks_by, set_in_by, set_limit, set_of_bytes_by, set_why, set_with, source_limit, task_of_source}
 
 -- ---- what a call gives
 

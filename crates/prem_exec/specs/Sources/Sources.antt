@@ -14,7 +14,7 @@ use Rattle.prem_set.specs.declared.task.TaskEntry.{TaskEntry}
 use Rattle.prem_set.specs.SetFile.{SetData, set_of as set_of_text}
 use Rattle.prem_answer.specs.declared.answer.Telling.{Telling}
 use Rattle.prem_answer.specs.declared.answer.Telling.TheVariants.{Whole}
-use Rattle.prem_answer.specs.Stages.{Reply, Stage, IsGiven, form_by, reading_by}
+use Rattle.prem_answer.specs.Stages.{Reply, Reads, Stage, IsGiven, form_by, reading_by}
 use Rattle.prem_exec.specs.Forms.{RunText, run_in_by}
 
 -- ---- the set's file
@@ -117,6 +117,10 @@ Leads told next (Err reply) answer = answer ≡ Err reply
 -- over the files that a store tells, readings give this to whatever comes next
 abbrev pub Passes : {A : Type 0} → Option Files → ((A → Stage Reply) → Stage Reply) → Result A Reply → Type 0
 Passes told readings given = (next : _ → Stage Reply) (answer : Result Reply Reply) → Leads told next given answer → IsGiven told (readings next) answer
+
+-- with these readings this is read, whatever comes next, and those readings are left
+abbrev pub Gives : {A : Type 0} → ((A → Stage Reply) → Stage Reply) → Reads → A → Reads → Type 0
+Gives readings reads x left = (next : _ → Stage Reply) → readings next reads ≡ next x left
 
 -- the sources of tasks that stand behind others
 abbrev pub reading_behind : Telling → List TaskText → List TaskEntry → (List TaskText → Stage Reply) → Stage Reply

@@ -8,13 +8,13 @@ abbrev code : Option ℕ → ℕ
 code None = 0
 code (Some a) = suc a
 
-same_code : (a b : Option ℕ) → code a ≡ code b → a ≡ b
+pub same_code : (a b : Option ℕ) → code a ≡ code b → a ≡ b
 same_code None None e = refl
 same_code None (Some b) e = absurd (omega (arith, e))
 same_code (Some a) None e = absurd (omega (arith, e))
 same_code (Some a) (Some b) e = let same : a ≡ b = omega (arith, e) in ap (λ n. Some n) same
 
-code_most : (a b : Option ℕ) → code (most a b) ≡ max (code a) (code b)
+pub code_most : (a b : Option ℕ) → code (most a b) ≡ max (code a) (code b)
 code_most None b = omega arith
 code_most (Some a) None = omega arith
 code_most (Some a) (Some b) = omega arith

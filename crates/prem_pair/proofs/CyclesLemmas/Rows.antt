@@ -11,6 +11,7 @@ use Rattle.prem_cycle.specs.State.{Setup, Counts, rule_in}
 use Rattle.prem_cycle.specs.FactsOf.{Report, report_of}
 use Rattle.prem_cycle.proofs.Images.{bytes_in, marked, without_prefetch, plant, alone, device, put}
 use Rattle.prem_cycle.proofs.Told.{task_told, compatible, predictable, counted, carried, gate}
+use Rattle.prem_cycle.proofs.RowsPolicies.{back_and_forth}
 use Rattle.prem_pair.specs.declared.cycles.state.Holder.{Holder}
 use Rattle.prem_pair.specs.declared.cycles.state.Holder.TheVariants.{Nobody, Second}
 use Rattle.prem_pair.specs.declared.cycles.state.PairStop.{PairStop}
@@ -44,11 +45,6 @@ unfolding pair_cycles
 row_two_cores = refl
 
 -- ---- each with its own policy
-
--- jumps from line 0 to line 1 and back, to line 2 and back, in a set of two lines
-abbrev back_and_forth : List ℕ
-back_and_forth =
-    0x0100006f ∷ 0x01c0006f ∷ 0x0000300b ∷ 0x00000013 ∷ 0xff5ff06f ∷ 0x00000013 ∷ 0x00000013 ∷ 0x00000013 ∷ 0xfe9ff06f ∷ []
 
 abbrev two_lines : Replacement → Setup
 two_lines kind = record (alone 48 1 48 []) { plant = record (plant 48) { sets = 1; ways = 2; policy = kind } }

@@ -20,7 +20,7 @@ use Rattle.prem_layout.specs.Template.Frames.{stack_size}
 use Rattle.prem_layout.specs.Plans.{Plan}
 use Rattle.prem_layout.specs.Parts.{Passes, stub_passes, part, code_parts, stub_parts, global_parts, task_parts, parts_from, area_parts}
 use Rattle.prem_layout.specs.Placed.{Coded, sized_of}
-use Rattle.prem_layout.proofs.Lawful.{whole_areas, areas_may, code_may, globals_may, all_aligned, may_append, AllMay}
+use Rattle.prem_layout.proofs.Lawful.{whole_areas, areas_may, code_may, globals_may, all_aligned, may_append, AllMay, stubs_may}
 use Rattle.prem_layout.proofs.TaskParts.{code_counted, globals_counted, areas_counted}
 use Rattle.prem_split.specs.PlanOf.{plan_of}
 use Rattle.prem_prefetch.specs.Parts.Parts.{sizes_of, stack_in, parts_with}
@@ -84,10 +84,6 @@ few_from passes n (t ∷ ts) h =
     omega (arith, length-append (sized_parts passes n t) (sized_from passes (n + 1) ts), few_of passes n t h.0, few_from passes (n + 1) ts h.1)
 
 -- ---- they may be placed
-
-stubs_may : (passes : Passes) (line task : ℕ) (plans : List Plan) → AllMay line (stub_parts passes task plans)
-stubs_may passes line task [] = tt
-stubs_may passes line task (plan ∷ plans) = (record { aligned = omega arith; whole = λ area. absurd area }, stubs_may passes line task plans)
 
 task_may : (passes : Passes) (line n : ℕ) (sizes : List ℕ) (plans : List Plan) (globals : List GlobalVariable) (stack : ℕ) → AllMay line (parts_with passes n sizes plans globals stack)
 task_may passes line n sizes plans globals stack = (

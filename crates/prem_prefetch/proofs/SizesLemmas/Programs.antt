@@ -17,6 +17,7 @@ use Rattle.prem_syntax.proofs.Reach.{if_long}
 use Rattle.prem_tree.specs.declared.resolve.resolved.Routine.{Routine as RoutineTree}
 use Rattle.prem_tree.specs.declared.resolve.resolved.Resolved.{Resolved as ResolvedTree}
 use Rattle.prem_tree.specs.Resolve.ResolvedOf.{loops_of, routine_of, routines_of, resolved_of}
+use Rattle.prem_analysis.proofs.Counts.{as_many}
 use Rattle.prem_asm.specs.declared.piece.Piece.{Piece}
 use Rattle.prem_asm.specs.Pieces.{size_of}
 use Rattle.prem_asm.specs.PiecesOf.{pieces_of}
@@ -36,11 +37,6 @@ use Rattle.prem_prefetch.specs.Sizes.Laws.{ProgramsMayHavePlans, TasksMayHavePar
 use Rattle.prem_prefetch.proofs.SizesLemmas.Kept.{HasFewRegions, Kept, all_kept}
 
 -- ---- functions
-
-as_many : (fs : List FunctionText) (t : ℕ → ℕ) (n : ℕ) (gs : List GlobalVariable) (items : ProgramText) → length (resolve_items fs t n gs items) ≡ length (functions_of items)
-as_many fs t n gs [] = refl
-as_many fs t n gs (global_item g ∷ items) = as_many fs t n (gs ++ g ∷ []) items
-as_many fs t n gs (function_item f ∷ items) = ap suc (as_many fs t (n + loops_within f.body) gs items)
 
 as_many_trees : (turns : ℕ → ℕ) (n : ℕ) (rs : List RoutineTree) → length (routines_of turns n rs) ≡ length rs
 as_many_trees turns n [] = refl
@@ -137,7 +133,7 @@ few_plans p n (f ∷ fs) = by f.text.mark (few_plans p (n + 1) fs)
 
 -- ---- code
 
-as_many_codes : (parts : Parts) (fs : List Routine) → length (codes_of parts fs) ≡ length fs
+pub as_many_codes : (parts : Parts) (fs : List Routine) → length (codes_of parts fs) ≡ length fs
 as_many_codes parts [] = refl
 as_many_codes parts (f ∷ fs) = ap suc (as_many_codes parts fs)
 

@@ -28,6 +28,7 @@ use Rattle.prem_cycle.proofs.Time.{run_of-now}
 use Rattle.prem_cycle.specs.Runs.Position.Issued.{count_of, AreOwn, IsRunnable}
 use Rattle.prem_cycle.proofs.RunsLemmas.PositionLemmas.Works.{kept_plant}
 use Rattle.prem_cycle.proofs.RunsLemmas.PositionLemmas.Schedules.{Schedules, uncounted, uncounted_same, uncounted_other, ends_job}
+use Rattle.prem_cycle.proofs.RunsLemmas.PositionLemmas.Finishes.{finished_point}
 use Rattle.prem_sound.specs.Script.Script.{begun_by, Call, call_of, Script}
 use Rattle.prem_sound.specs.Script.Scripts.{sum_below, last_release, interval_count}
 use Rattle.prem_sound.specs.Resident.Faultless.{IsPolicy}
@@ -40,7 +41,7 @@ use Rattle.prem_sound.proofs.ResidentLemmas.KeptRuns.{Known, known_core, known, 
 use Rattle.prem_sound.proofs.Lasts.{owed_of, InTime}
 use Rattle.prem_sound.proofs.LastingRuns.{run_lasts}
 use Rattle.prem_sound.proofs.Spends.{kept_by, Spent}
-use Rattle.prem_sound.proofs.Ends.{behind_end, finished_point}
+use Rattle.prem_sound.proofs.Ends.{behind_end}
 use Rattle.prem_sound.proofs.Rests.{rest_until}
 use Rattle.prem_sound.proofs.Timing.{first_no, not_finished, unpaid_owes, not_both}
 use Rattle.prem_sound.proofs.Finishing.{over_finished, run_timed}

@@ -1,7 +1,7 @@
 -- The values that run files give are words.
 use Rattle.std.specs.Str.{bytes_eq}
 use Rattle.std.proofs.Common.{◌≡◌, ◌<◌, ◌≤◌, ◌^◌, ◌-◌, ◌%◌, ◌+◌, ◌==◌, ℕ, nat_lt, nat_le, List, [], ◌∷◌, ◌++◌, length, All, get_or, set, Option, None, Some, IfSome, option_map, Result, Ok, Err, codes, refl, sym, subst, arith, inl, inr, ⊎_elim}
-use Rattle.std.proofs.lemmas.Bool.{cases_Bool, cases_lt, leb-true}
+use Rattle.std.proofs.lemmas.Bool.{cases_Bool, cases_lt}
 use Rattle.std.proofs.lemmas.List.{get_or_past}
 use Rattle.std.proofs.lemmas.List.Elements.{All-nil, All-push, All-set, All-replicate}
 use Rattle.std.proofs.lemmas.Option.{none-some, same_Some}
@@ -15,16 +15,9 @@ use Rattle.prem_set.specs.declared.run.fail.Which.{Which}
 use Rattle.prem_set.specs.declared.run.fail.Which.TheVariants as which
 use Rattle.prem_set.specs.Run.Names.{KnownNames, task_of, device_of}
 use Rattle.prem_set.specs.Run.Run.{Gathered, RequestWords, taken, taken_for, inputs_of, request_words, put_of, request_of, with_request, with_words, in_words, req_words, words_read, line_read, lines_read, at_line, nothing_yet, run_of}
+use Rattle.prem_set.proofs.RunLemmas.Lawful.{limited}
 
 -- ---- values
-
-limited : (most : ℕ) (o : Option ℕ) (n : ℕ) → up_to most o ≡ Some n → n ≤ most
-limited most None n is = absurd (none-some n is)
-limited most (Some m) n is =
-    elim (cases_Bool (nat_le m most)) [
-      | inl within ↦ subst (λ k. k ≤ most) (same_Some m n (rw within at is)) (leb-true m most within)
-      | inr past ↦ absurd (none-some n (rw past at is))
-    ]
 
 abbrev IsWord : ℕ → Type 0
 IsWord value = value < 2 ^ 32

@@ -1,6 +1,6 @@
 -- Where the core wants the bus only while the window is closed, core and gate never want one cycle both.
 use Rattle.std.specs.Prelude.{All}
-use Rattle.std.proofs.Common.{◌≡◌, ℕ, ◌+◌, ◌<◌, ◌≤◌, refl, ap, ◌∙◌, arith, leb, Some, None, Option, true, false, Bool, List, length, IfSome, ⊎_elim}
+use Rattle.std.proofs.Common.{◌≡◌, ℕ, ◌+◌, ◌<◌, ◌≤◌, refl, ap, ◌∙◌, arith, leb, Some, None, Option, true, false, Bool, List, length, ⊎_elim}
 use Rattle.std.proofs.lemmas.Bool.{cases_lt, cond_both}
 use Rattle.std.proofs.lemmas.List.{get_or_past}
 use Rattle.prem_gate.specs.declared.bus.Window.{Window}
@@ -10,16 +10,10 @@ use Rattle.prem_gate.specs.declared.bus.CoreWant.TheVariants.{No, New, Held}
 use Rattle.prem_gate.specs.Gates.{GateState, GatesState, Turned, gate_at, no_gate, startable, taken, ends, goes_on, carries, wants, starts, bus_with, bus_turn}
 use Rattle.prem_gate.specs.Ranges.{IsStart}
 use Rattle.prem_gate.proofs.Places.{startable_is}
-use Rattle.prem_cycle.specs.Runs.Window.Windows.{LiesInside, CarriesInside}
+use Rattle.prem_cycle.specs.Runs.Window.Windows.{CarriesInside}
+use Rattle.prem_cycle.proofs.RunsLemmas.WindowLemmas.Bus.{none_inside}
 
 -- ---- a closed window
-
-none_inside : (now : ℕ) (w : Window) (carried : Option Carried) → w.close ≤ now → IfSome carried (LiesInside now w) → carried ≡ None
-none_inside now w None closed l = refl
-none_inside now w (Some c) closed l =
-    let some : 1 ≤ c.left = l.some in
-    let close : now + c.left ≤ w.close = l.before_close in
-    absurd (omega arith)
 
 cost_at : (gates : List GateState) (d : ℕ) → All (λ (g : GateState). 1 ≤ g.cost) gates → 1 ≤ (gate_at gates d).cost
 cost_at gates d all =

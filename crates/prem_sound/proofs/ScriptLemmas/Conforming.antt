@@ -80,11 +80,11 @@ all_at P (x ∷ xs) d ys h = all_at P xs d ys (λ k e lt. h (suc k) e (omega (ar
 
 -- ---- the trace
 
-length-last : (o : Option Did) (xs : List Did) → length (with_last o xs) ≤ length xs + 1
+pub length-last : (o : Option Did) (xs : List Did) → length (with_last o xs) ≤ length xs + 1
 length-last None xs = omega arith
 length-last (Some d) xs = omega (arith, length-append xs (d ∷ []))
 
-trace_short : (run : TaskRun) (n : ℕ) (s : PlainState) → length (plain_trace run n s) ≤ n
+pub trace_short : (run : TaskRun) (n : ℕ) (s : PlainState) → length (plain_trace run n s) ≤ n
 unfolding plain_trace
 trace_short run zero s = omega arith
 trace_short run (suc n) s = omega (arith, length-last (plain_did run (plain_steps run n s)) (plain_trace run n s), trace_short run n s)

@@ -17,6 +17,7 @@ use Rattle.prem_sound.specs.Script.Script.{lines_of_did, lines_of_dids, cost_of_
 use Rattle.prem_sound.specs.Script.Scripts.{Reading, Mark}
 use Rattle.prem_sound.specs.Script.Conforms.{begun_behind, KeepsCalls, GoesOrDone, IsStretch, GoesOrEnds, PiecesJoin, StretchesKeep, MemoryBegins, CallsKeep, AtMark, KeepsMarks, NoMark, MarksJoin, MarksRest, due_behind, DuesJoin, CallsAreDueBefore}
 use Rattle.prem_sound.proofs.ScriptLemmas.Residency.{lines_of_dids-append}
+use Rattle.prem_sound.proofs.Paces.{cost-last}
 
 pub pieces_join : PiecesJoin
 pieces_join plant passes s b [] ys h k = k
@@ -88,11 +89,6 @@ walk plant passes s n before (d ∷ ds) h =
       (λ p. subst (λ k. IsStep plant passes (call_at s k) before d) (sym at) h.0.step, subst (λ b. KeepsCalls plant passes s b ds) (sym next) r.0),
       ap (begun_behind ds) next ∙ r.1 ∙ ap (λ zs. record { calls = n + 1; steps = zs }) (append_assoc before (d ∷ []) ds),
     )
-
-cost-last : (ds : List Did) (d : Did) → cost_of_dids (ds ++ d ∷ []) ≡ cost_of_dids ds + cost_of d.instr
-cost-last ds d =
-    sum_by-append (λ (x : Did). cost_of x.instr) ds (d ∷ [])
-    ∙ ap (λ z. cost_of_dids ds + z) (sum_by-cons (λ (x : Did). cost_of x.instr) d [] ∙ omega arith)
 
 goes_free : (plant : Plant) (passes : ℕ → ℕ) (c : Call) (before : List Did) (ch : Change) → GoesOrEnds ch → Opens plant passes c before ch × (ch ≡ Memory → ⊥)
 goes_free plant passes c before Stay g = (tt, λ e. let x : Stay ≡ Memory = e in cc)

@@ -156,7 +156,7 @@ turn_held d now w core s memory transfers = with_held d now w core s.carried s m
 
 -- ---- a cycle
 
-ticked_transfers : (b : Bool) (s : MachineState) → (cond b s (next_cycle s)).log.transfers ≡ s.log.transfers
+pub ticked_transfers : (b : Bool) (s : MachineState) → (cond b s (next_cycle s)).log.transfers ≡ s.log.transfers
 ticked_transfers true s = refl
 ticked_transfers false s = (settle_keeps s.core.mode (with_now s (s.now + 1))).transfers
 

@@ -1,8 +1,8 @@
 -- What refusals tell, but for want of memory.
-use Rattle.std.specs.Prelude.{ℕ, List, Option, None, Some, codes}
+use Rattle.std.specs.Prelude.{ℕ, List, Option, None, Some}
 use Rattle.prem_syntax.specs.Name.{name_bytes}
 use Rattle.prem_text.specs.declared.lexing.token.fail.FrontFail.{FrontFail}
-use Rattle.prem_text.specs.declared.lexing.token.fail.FrontFail.TheVariants.{NotText, Token, Syntax, TooLong, TooDeep, OutOfMemory}
+use Rattle.prem_text.specs.declared.lexing.token.fail.FrontFail.TheVariants.{OutOfMemory}
 use Rattle.prem_tiling.specs.Shapes.Tile.{no_function, shape, carry, turns, taken, limit}
 use Rattle.prem_tile.specs.declared.cutting.fail.TileFail.{TileFail}
 use Rattle.prem_tile.specs.declared.cutting.fail.TileFail.TheVariants as t

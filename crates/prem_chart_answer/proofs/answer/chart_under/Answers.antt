@@ -5,7 +5,8 @@ use Rattle.prem_cycle.specs.FactsOf.{report_in}
 use Rattle.prem_machine.specs.States.{state_of}
 use Rattle.prem_command.specs.Chart.{chart_asked}
 use Rattle.prem_exec.specs.Sources.Sources.{input_of}
-use Rattle.prem_chart_answer.proofs.Charted.{picture_is, stop_is}
+use Rattle.prem_exec.proofs.Stages.{stop_is}
+use Rattle.prem_chart_answer.proofs.Charted.{picture_is}
 use Rattle.prem_chart_answer.proofs.answer.chart_under.Goals as goal
 
 pub returns : goal.returns

@@ -1,9 +1,6 @@
-use Rattle.std.specs.Prelude.{nat_lt, ◌&&◌}
-use Rattle.std.proofs.Common.{◌≡◌, ◌≤◌, List, false, true, ap, sym, ◌∙◌, subst, arith}
+use Rattle.std.proofs.Common.{◌≤◌, List, false, true, ap, sym, ◌∙◌, subst, arith}
 use Rattle.prem_cycle.specs.State.{MachineState}
-use Rattle.prem_machine.specs.States.{state_of}
 use Rattle.prem_chart.specs.declared.note.Note.{Note}
-use Rattle.prem_chart_answer.specs.Notes.{goes_on}
 use Rattle.prem_chart_answer.proofs.Traces.{IsTraced, ends_traced, first_now, first_traced, here, next_traced, turn_goes}
 use Rattle.prem_chart_answer.proofs.tracing.trace.Goals as goal
 

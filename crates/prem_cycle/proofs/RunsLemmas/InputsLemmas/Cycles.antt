@@ -62,11 +62,11 @@ cycle_same rule p k word a b s h =
     ∙ ticked_with k word (joined a b (core_at rule p b s) s)
 
 -- the step that a cycle takes, if the state isn't over
-coming_goes : (rule : ReplacementRule) (p : Setup) (requests : List Request) (s : MachineState) → is_over s ≡ false → coming_step rule p requests s ≡ step_with rule p (bus_at (arrivals_at requests s).gates s) s
+pub coming_goes : (rule : ReplacementRule) (p : Setup) (requests : List Request) (s : MachineState) → is_over s ≡ false → coming_step rule p requests s ≡ step_with rule p (bus_at (arrivals_at requests s).gates s) s
 coming_goes rule p requests s h =
     ap (λ b. cond b None (step_with rule p (bus_at (arrivals_at requests s).gates s) s)) h
 
-coming_stays : (rule : ReplacementRule) (p : Setup) (requests : List Request) (s : MachineState) → is_over s ≡ true → coming_step rule p requests s ≡ None
+pub coming_stays : (rule : ReplacementRule) (p : Setup) (requests : List Request) (s : MachineState) → is_over s ≡ true → coming_step rule p requests s ≡ None
 coming_stays rule p requests s h =
     ap (λ b. cond b None (step_with rule p (bus_at (arrivals_at requests s).gates s) s)) h
 

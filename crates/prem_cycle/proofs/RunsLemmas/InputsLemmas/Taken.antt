@@ -27,25 +27,25 @@ use Rattle.prem_cycle.proofs.RunsLemmas.InputsLemmas.Words.{no_task}
 -- ---- one effect
 
 -- what is taken, and what is left, of some words
-record Split (words left : List ℕ) (used : ℕ) : Type 0 where
+pub record Split (words left : List ℕ) (used : ℕ) : Type 0 where
   pub within : used ≤ length words
   pub rest : left ≡ drop used words
 
-taken_after : (words : List ℕ) (b : Bool) (left : List ℕ) (used : ℕ) → Split words left used → Split words (left_after b left) (used_after b left used)
+pub taken_after : (words : List ℕ) (b : Bool) (left : List ℕ) (used : ℕ) → Split words left used → Split words (left_after b left) (used_after b left used)
 taken_after words false left used h = h
 taken_after words true [] used h = h
 taken_after words true (x ∷ left) used h =
     let count : suc (length left) ≡ length words - used = ap length h.rest ∙ length-drop used words in
     record { within = omega arith; rest = ap (drop 1) h.rest ∙ drop-drop 1 used words }
 
-changed_from : (words : List ℕ) (r : TaskRecord) (c : Change) (t : Task) → TakesFrom words t → TakesFrom words (task_changed r c t)
+pub changed_from : (words : List ℕ) (r : TaskRecord) (c : Change) (t : Task) → TakesFrom words t → TakesFrom words (task_changed r c t)
 changed_from words r Stay t h = h
 changed_from words r Memory t h = h
 changed_from words r (Execute stated) t h = h
 changed_from words r End t h = h
 changed_from words r Job t h = record { used = h.used; left = h.left }
 
-after_from : (words : List ℕ) (r : TaskRecord) (e : Effect) (t : Task) → TakesFrom words t → TakesFrom words (task_after r e t)
+pub after_from : (words : List ℕ) (r : TaskRecord) (e : Effect) (t : Task) → TakesFrom words t → TakesFrom words (task_after r e t)
 after_from words r e t h =
     let s : Split words (left_after e.input t.left) (used_after e.input t.left t.used) =
     taken_after words e.input t.left t.used (record { within = h.used; rest = h.left }) in
@@ -53,18 +53,18 @@ after_from words r e t h =
 
 -- ---- a cycle
 
-set_holds : (P : Task → Type 0) (tasks : List Task) (j k : ℕ) (t : Task) → P (slice_index_or tasks k no_task) → (k ≡ j → P t) → P (slice_index_or (slice_set tasks j t) k no_task)
+pub set_holds : (P : Task → Type 0) (tasks : List Task) (j k : ℕ) (t : Task) → P (slice_index_or tasks k no_task) → (k ≡ j → P t) → P (slice_index_or (slice_set tasks j t) k no_task)
 set_holds P [] j k t h at = h
 set_holds P (u ∷ tasks) zero zero t h at = at refl
 set_holds P (u ∷ tasks) zero (suc k) t h at = h
 set_holds P (u ∷ tasks) (suc j) zero t h at = h
 set_holds P (u ∷ tasks) (suc j) (suc k) t h at = set_holds P tasks j k t h (λ e. at (ap suc e))
 
-issued_tasks : (rule : ReplacementRule) (size : ℕ) (tasks : List Task) (stored : Option Stored) (line : ℕ) (t : Touched) (access : Option Access) → (issued_with rule size tasks stored line t access).work.tasks ≡ tasks
+pub issued_tasks : (rule : ReplacementRule) (size : ℕ) (tasks : List Task) (stored : Option Stored) (line : ℕ) (t : Touched) (access : Option Access) → (issued_with rule size tasks stored line t access).work.tasks ≡ tasks
 issued_tasks rule size tasks stored line t None = refl
 issued_tasks rule size tasks stored line t (Some a) = refl
 
-attempted_from : (rule : ReplacementRule) (p : Setup) (words : List ℕ) (k j : ℕ) (a : Attempt) (w : Work) → TakesFrom words (task_in w k) → TakesFrom words (task_in (attempted rule p j a w) k)
+pub attempted_from : (rule : ReplacementRule) (p : Setup) (words : List ℕ) (k j : ℕ) (a : Attempt) (w : Work) → TakesFrom words (task_in w k) → TakesFrom words (task_in (attempted rule p j a w) k)
 attempted_from rule p words k j (Traps cause) w h = h
 attempted_from rule p words k j (Executes instr e) w h =
     let line : ℕ = (task_in w j).pc / p.plant.line in
@@ -74,11 +74,11 @@ attempted_from rule p words k j (Executes instr e) w h =
     (set_holds (TakesFrom words) w.tasks j k t h
     (λ q. after_from words (record_of p j) e (task_in w j) (subst (λ i. TakesFrom words (task_in w i)) q h)))
 
-moved_from : (rule : ReplacementRule) (p : Setup) (words : List ℕ) (k : ℕ) (m : CoreMove) (w : Work) → TakesFrom words (task_in w k) → TakesFrom words (task_in (moved rule p m w) k)
+pub moved_from : (rule : ReplacementRule) (p : Setup) (words : List ℕ) (k : ℕ) (m : CoreMove) (w : Work) → TakesFrom words (task_in w k) → TakesFrom words (task_in (moved rule p m w) k)
 moved_from rule p words k (Passes c) w h = h
 moved_from rule p words k (Issues j i) w h = attempted_from rule p words k j (attempt_behind rule p j w) w h
 
-step_from : (rule : ReplacementRule) (p : Setup) (requests : List Request) (words : List ℕ) (k : ℕ) (s : MachineState) → TakesFrom words (task_in s.work k) → TakesFrom words (task_in (step_of rule p requests s).work k)
+pub step_from : (rule : ReplacementRule) (p : Setup) (requests : List Request) (words : List ℕ) (k : ℕ) (s : MachineState) → TakesFrom words (task_in s.work k) → TakesFrom words (task_in (step_of rule p requests s).work k)
 step_from rule p requests words k s h =
     let b : Turned = bus_at (arrivals_at requests s).gates s in
     ⊎_elim (λ (e : is_over s ≡ true).

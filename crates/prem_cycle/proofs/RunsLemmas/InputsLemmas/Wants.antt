@@ -21,7 +21,7 @@ grouped : (a b c : Bool) → (a && b && c) ≡ (a && (b && c))
 grouped true b c = refl
 grouped false b c = refl
 
-past_is : (k : ℕ) (step : CycleStep) → is_past_end k step ≡ ((step.task == k) && (step.effect.input && nat_le (length step.before.left) 0))
+pub past_is : (k : ℕ) (step : CycleStep) → is_past_end k step ≡ ((step.task == k) && (step.effect.input && nat_le (length step.before.left) 0))
 past_is k step =
     grouped (step.task == k) step.effect.input (is_empty step.before.left)
     ∙ ap (λ b. (step.task == k) && (step.effect.input && b)) (empty_is step.before.left)
@@ -38,7 +38,7 @@ and_second : (a b : Bool) → (a && b) ≡ true → b ≡ true
 and_second true b h = h
 and_second false b h = absurd (let x : false ≡ true = h in cc)
 
-wants : (k task : ℕ) (b : Bool) → ((task == k) && b) ≡ true → cond b (Some task) None ≡ Some k
+pub wants : (k task : ℕ) (b : Bool) → ((task == k) && b) ≡ true → cond b (Some task) None ≡ Some k
 wants k task true h = ap Some (eqb-true task k (and_first (task == k) true h))
 wants k task false h = absurd (let x : false ≡ true = and_second (task == k) false h in cc)
 

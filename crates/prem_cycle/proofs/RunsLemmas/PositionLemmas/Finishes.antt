@@ -60,7 +60,7 @@ both_small most a b x y = ap (λ t. t || leb most b) (lt-leb most a x) ∙ lt-le
 
 -- ---- finished
 
-finished_point : (now : ℕ) (sched : List TaskJobs) (mode : Mode) → is_finished_in now sched mode ≡ true → (mode ≡ Point) × (choice now sched ≡ Finished)
+pub finished_point : (now : ℕ) (sched : List TaskJobs) (mode : Mode) → is_finished_in now sched mode ≡ true → (mode ≡ Point) × (choice now sched ≡ Finished)
 finished_point now sched Point h = (refl, by (choice now sched) h) where
   by : (c : Choice) → is_finish c ≡ true → c ≡ Finished
   by (Run k) e = absurd (let x : false ≡ true = e in cc)

@@ -6,7 +6,7 @@ use Rattle.prem_lru.specs.Entries.{ReplacementRule}
 use Rattle.prem_gate.specs.Gates.{Turned}
 use Rattle.prem_cycle.specs.declared.state.Mode.TheVariants.{Point}
 use Rattle.prem_cycle.specs.State.{Setup, Work, CoreState, MachineState}
-use Rattle.prem_cycle.specs.Core.{CoreMove, Passes, Issues, CoreTurn, core_turn}
+use Rattle.prem_cycle.specs.Core.{CoreMove, Passes, CoreTurn, core_turn}
 use Rattle.prem_cycle.specs.Cycle.{with_memory, with_clash}
 use Rattle.prem_cycle.proofs.CoreCases.{MoveCase}
 use Rattle.prem_cycle.proofs.RunsLemmas.PositionLemmas.Schedules.{Schedules, Moves, moves}

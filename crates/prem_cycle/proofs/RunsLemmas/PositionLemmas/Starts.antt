@@ -9,16 +9,15 @@ use Rattle.prem_plant.specs.Ranges.{IsPlant}
 use Rattle.prem_sched.specs.declared.sched.TaskJobs.{TaskJobs}
 use Rattle.prem_sched.specs.Schedule.{start_of as jobs_of, starts_of, no_task, task_at}
 use Rattle.prem_isa.specs.declared.effect.Phase.TheVariants.{Compatible}
-use Rattle.prem_isa.specs.Act.{first_registers, with_register}
+use Rattle.prem_isa.specs.Act.{first_registers}
 use Rattle.prem_isa.specs.Plain.{TaskRun, PlainState, plain_start, plain_steps, plain_run}
-use Rattle.prem_isa.proofs.RegisterFile.{zeros, slice_index-list_with_register}
 use Rattle.prem_lru.specs.Entries.{Entry, find_line}
 use Rattle.prem_lru.specs.CacheState.{empty_cache, entry_of, view_of, byte_in, IsSet, IsCache}
 use Rattle.prem_gate.specs.declared.request.Request.{Request}
 use Rattle.prem_gate.specs.Gates.{gate_of, gates_of, gate_at}
 use Rattle.prem_image.specs.declared.image.TaskRecord.{TaskRecord}
 use Rattle.prem_image.specs.declared.image.DeviceRecord.{DeviceRecord}
-use Rattle.prem_cycle.specs.State.{Setup, no_record, record_of, first_list, first_task, first_tasks, Task, start_of}
+use Rattle.prem_cycle.specs.State.{Setup, no_record, record_of, first_task, first_tasks, Task, start_of}
 use Rattle.prem_cycle.specs.Run.{memory_of}
 use Rattle.prem_cycle.specs.Alone.{plain_of}
 use Rattle.prem_cycle.specs.Inputs.{no_device}
@@ -28,6 +27,7 @@ use Rattle.prem_cycle.proofs.RunsLemmas.PositionLemmas.Works.{IsKept}
 use Rattle.prem_cycle.proofs.RunsLemmas.PositionLemmas.Stands.{IsAt}
 use Rattle.prem_cycle.proofs.RunsLemmas.PositionLemmas.Gated.{IsGateOf, AreGates}
 use Rattle.prem_cycle.proofs.RunsLemmas.PositionLemmas.Runs.{AllAt}
+use Rattle.prem_cycle.proofs.SamePlain.{first_list_reads}
 
 -- ---- an empty cache
 
@@ -73,7 +73,7 @@ length-memory_of p content le =
 
 -- ---- the tasks
 
-length-first_tasks : (rs : List TaskRecord) (inputs : List (List ℕ)) → length (first_tasks rs inputs) ≡ length rs
+pub length-first_tasks : (rs : List TaskRecord) (inputs : List (List ℕ)) → length (first_tasks rs inputs) ≡ length rs
 length-first_tasks [] inputs = refl
 length-first_tasks (r ∷ rs) [] = ap suc (length-first_tasks rs [])
 length-first_tasks (r ∷ rs) (words ∷ inputs) = ap suc (length-first_tasks rs inputs)
@@ -84,10 +84,6 @@ first_at (r ∷ rs) [] zero d lt = refl
 first_at (r ∷ rs) (words ∷ inputs) zero d lt = refl
 first_at (r ∷ rs) [] (suc k) d lt = first_at rs [] k d (omega arith)
 first_at (r ∷ rs) (words ∷ inputs) (suc k) d lt = first_at rs inputs k d (omega arith)
-
-first_reads : (stack : ℕ) → slice_index (first_list stack) ≡ first_registers stack
-first_reads stack =
-    slice_index-list_with_register 2 stack (replicate 32 0) (omega arith) ∙ ap (with_register 2 stack) (zeros 32)
 
 started : (ℕ → ℕ) → (ℕ → ℕ) → List ℕ → ℕ → PlainState
 started registers view left pc =
@@ -101,7 +97,7 @@ started registers view left pc =
 first_same : (run : TaskRun) (r : TaskRecord) (words : List ℕ) → run.entry ≡ r.entry → run.stack ≡ r.stack → run.inputs ≡ words → plain_of (first_task r words) run.bytes 0 ≡ plain_start run
 unfolding started
 first_same run r words e s i =
-    ap (λ f. started f run.bytes words r.entry) (first_reads r.stack ∙ ap first_registers (sym s))
+    ap (λ f. started f run.bytes words r.entry) (first_list_reads r.stack ∙ ap first_registers (sym s))
     ∙ ap (λ left. started (first_registers run.stack) run.bytes left r.entry) (sym i)
     ∙ ap (started (first_registers run.stack) run.bytes run.inputs) (sym e)
 

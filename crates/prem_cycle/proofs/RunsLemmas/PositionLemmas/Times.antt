@@ -70,7 +70,7 @@ marks_by (Execute stated) phase e l h = let x : Execution ≡ Compatible = h in 
 marks_by End phase e l h = let x : Execution ≡ Compatible = sym l ∙ e in cc
 marks_by Job phase e l h = tt
 
-changed_phase : (r : TaskRecord) (c : Change) (t : Task) → (task_changed r c t).phase ≡ t.phase
+pub changed_phase : (r : TaskRecord) (c : Change) (t : Task) → (task_changed r c t).phase ≡ t.phase
 changed_phase r Stay t = refl
 changed_phase r Memory t = refl
 changed_phase r (Execute stated) t = refl

@@ -91,7 +91,7 @@ turn_inside now w core s memory h = with_inside now w core s.carried s memory re
 
 -- ---- a closed window
 
-none_inside : (now : ℕ) (w : Window) (carried : Option Carried) → w.close ≤ now → IfSome carried (LiesInside now w) → carried ≡ None
+pub none_inside : (now : ℕ) (w : Window) (carried : Option Carried) → w.close ≤ now → IfSome carried (LiesInside now w) → carried ≡ None
 none_inside now w None closed l = refl
 none_inside now w (Some c) closed l =
     let some : 1 ≤ c.left = l.some in

@@ -28,10 +28,11 @@ use Rattle.prem_cycle.specs.declared.state.Mode.{Mode}
 use Rattle.prem_cycle.specs.declared.state.Mode.TheVariants.{Point, Switching, Running, Idle}
 use Rattle.prem_cycle.specs.declared.state.Interval.{Interval}
 use Rattle.prem_cycle.specs.State.{Setup, record_of, no_record, first_task, Task, Work, CoreState, Counts, task_in}
-use Rattle.prem_cycle.specs.Issue.{Attempt, Traps, Executes, attempt_by, attempt_fetched, attempt_of, view_behind, effect_in, behind_touches, task_moved, task_changed, task_after, issued_by, issued_with, is_execution}
+use Rattle.prem_cycle.specs.Issue.{Attempt, Traps, Executes, attempt_by, attempt_fetched, attempt_of, view_behind, effect_in, behind_touches, task_moved, task_after, issued_by, issued_with, is_execution}
 use Rattle.prem_cycle.specs.Core.{CoreMove, Passes, Issues, phase_in, new_interval, stated_after, window_after, core_issue, CoreTurn, core_turn}
 use Rattle.prem_cycle.proofs.CoreCases.{Continues, MoveCase, pays_on_bus, is_denied, pays_cost, waits, goes_on, switches, begins, chooses, chooses_now, begins_idle, has_finished, idles}
 use Rattle.prem_cycle.specs.Runs.Window.Windows.{closing_in, closing_at, is_last, WindowCloses}
+use Rattle.prem_cycle.proofs.RunsLemmas.PositionLemmas.Times.{changed_phase}
 
 -- ---- what an instruction may do in a phase
 
@@ -54,13 +55,6 @@ attempt_lawful p k w instr e is =
     fetched_lawful p.plant.target p.plant.memory (view_of w.cache w.memory) (task_in w k) (fetch p.plant.memory (view_of w.cache w.memory) (task_in w k).pc) instr e is
 
 -- ---- the phases behind it
-
-changed_phase : (r : TaskRecord) (c : Change) (t : Task) → (task_changed r c t).phase ≡ t.phase
-changed_phase r Stay t = refl
-changed_phase r Memory t = refl
-changed_phase r (Execute stated) t = refl
-changed_phase r End t = refl
-changed_phase r Job t = refl
 
 tasks_issued : (rule : ReplacementRule) (size : ℕ) (tasks : List Task) (stored : Option Stored) (line : ℕ) (f : Touched) (a : Option Access) → (issued_with rule size tasks stored line f a).work.tasks ≡ tasks
 tasks_issued rule size tasks stored line f None = refl

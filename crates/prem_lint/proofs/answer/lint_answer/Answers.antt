@@ -1,5 +1,5 @@
 use Rattle.std.specs.Prelude.{Option, Ok, map}
-use Rattle.std.proofs.Common.{◌≡◌, ◌∙◌, ap}
+use Rattle.std.proofs.Common.{◌∙◌, ap}
 use Rattle.prem_io.specs.Files.{Files}
 use Rattle.prem_tasks.specs.declared.set.TaskSet.{TaskSet as SetTree}
 use Rattle.prem_tasks.specs.Broken.{TaskSet}

@@ -1,4 +1,4 @@
-use Rattle.std.specs.Prelude.{◌++◌, codes, decimal}
+use Rattle.std.specs.Prelude.{◌++◌, codes}
 use Rattle.std.specs.Fmt.{signed_decimal}
 use Rattle.prem_word.specs.Ranges.{span_of}
 use Rattle.prem_lint.specs.Elements.{past}

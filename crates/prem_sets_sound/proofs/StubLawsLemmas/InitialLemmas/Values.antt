@@ -91,7 +91,7 @@ sizes_agree Ushort = refl
 sizes_agree Schar = refl
 sizes_agree Uchar = refl
 
-size_small : (ty : Ty) → element_size ty ≤ 4
+pub size_small : (ty : Ty) → element_size ty ≤ 4
 size_small Void = omega arith
 size_small Int = omega arith
 size_small Unsigned = omega arith

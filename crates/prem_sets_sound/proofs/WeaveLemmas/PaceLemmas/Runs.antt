@@ -18,19 +18,12 @@ use Rattle.prem_sound.specs.Script.Conforms.{GoesOrDone, IsStretch}
 use Rattle.prem_sound.specs.Paced.Paced.{within_job, job_with, job_by, own_due, within_stretch, stretch_with, stretch_by}
 use Rattle.prem_sound.proofs.ScriptLemmas.Begins.{begun_by-next}
 use Rattle.prem_sound.proofs.PacedLemmas.PaceRuns.{job_by-next, stretch_by-next}
+use Rattle.prem_sound.proofs.ScriptLemmas.Conforming.{trace_short}
 use Rattle.prem_sets_sound.specs.Weave.Weave.{Section, segment_of, section_dids, IsSection, Weave, ends, goes, calls, dids_of, calls_of, IsWeave, Goes}
 use Rattle.prem_sets_sound.specs.Weave.Pace.Pace.{PacedFrom, AreStated, PacedWeavesKeepBounds}
+use Rattle.prem_sets_sound.proofs.WeaveLemmas.Woven.{change_free}
 
 -- ---- a trace, instruction by instruction
-
-length-last : (o : Option Did) (xs : List Did) → length (with_last o xs) ≤ length xs + 1
-length-last None xs = omega arith
-length-last (Some d) xs = omega (arith, length-append xs (d ∷ []))
-
-trace_short : (run : TaskRun) (n : ℕ) (s : PlainState) → length (plain_trace run n s) ≤ n
-unfolding plain_trace
-trace_short run zero s = omega arith
-trace_short run (suc n) s = omega (arith, length-last (plain_did run (plain_steps run n s)) (plain_trace run n s), trace_short run n s)
 
 trace_one : (run : TaskRun) (s : PlainState) → plain_trace run 1 s ≡ with_last (plain_did run s) []
 unfolding plain_trace plain_steps
@@ -63,13 +56,6 @@ module _ (run : TaskRun) where
             absurd (omega (arith, long, trace_short run (length ds) (plain_run run (n + 1))))
 
 -- ---- along a weave
-
-change_free : (plant : Plant) (n : ℕ) (c : Change) → GoesOrDone c → change_due plant n c ≡ change_due plant 0 c
-change_free plant n Stay g = refl
-change_free plant n Memory g = absurd g
-change_free plant n (Execute stated) g = absurd g
-change_free plant n End g = absurd g
-change_free plant n Job g = refl
 
 -- a change within a predictable interval, or its end
 abbrev IsInside : Change → Type 0

@@ -42,11 +42,11 @@ steps_left : (P : Did → Type 0) (xs ys : List Did) → AllSteps P (xs ++ ys) �
 steps_left P [] ys h = tt
 steps_left P (x ∷ xs) ys h = (h.0, steps_left P xs ys h.1)
 
-steps_join : (P : Did → Type 0) (xs ys : List Did) → AllSteps P xs → AllSteps P ys → AllSteps P (xs ++ ys)
+pub steps_join : (P : Did → Type 0) (xs ys : List Did) → AllSteps P xs → AllSteps P ys → AllSteps P (xs ++ ys)
 steps_join P [] ys h k = k
 steps_join P (x ∷ xs) ys h k = (h.0, steps_join P xs ys h.1 k)
 
-steps_map : (P Q : Did → Type 0) → ((d : Did) → P d → Q d) → (xs : List Did) → AllSteps P xs → AllSteps Q xs
+pub steps_map : (P Q : Did → Type 0) → ((d : Did) → P d → Q d) → (xs : List Did) → AllSteps P xs → AllSteps Q xs
 steps_map P Q f [] h = tt
 steps_map P Q f (x ∷ xs) h = (f x h.0, steps_map P Q f xs h.1)
 

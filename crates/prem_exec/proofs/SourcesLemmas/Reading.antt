@@ -5,9 +5,11 @@ use Rattle.std.proofs.lemmas.List.Elements.{All-nil, All-cons, All-head, All-tai
 use Rattle.prem_line.proofs.Chain.{same_Ok}
 use Rattle.prem_plant.specs.Label.{IsName, AreDistinct}
 use Rattle.prem_plant.specs.Ranges.{Between}
-use Rattle.prem_tasks.specs.Broken.{TaskText}
+use Rattle.prem_plant.specs.declared.plant.Device.{Device}
+use Rattle.prem_tasks.specs.Broken.{TaskText, TaskSet}
 use Rattle.prem_sets_sound.specs.Accepted.Accepted.{HasTextValues, HasValues}
 use Rattle.prem_set.specs.Lawful.{IsEntry, IsSet}
+use Rattle.prem_set.specs.Run.Run.{run_of as lines_of_run}
 use Rattle.prem_set.specs.declared.fault.SetFail.{SetFail}
 use Rattle.prem_set.specs.declared.task.TaskEntry.{TaskEntry}
 use Rattle.prem_set.specs.SetFile.{SetData, set_of as set_of_text, task_names as entry_names}
@@ -17,13 +19,9 @@ use Rattle.prem_answer.specs.declared.answer.Telling.TheVariants.{Whole, Brief}
 use Rattle.prem_answer.specs.declared.status.Status.{Status}
 use Rattle.prem_answer.specs.declared.status.Status.TheVariants.{Done, Refused, Trap}
 use Rattle.prem_answer.specs.Stages.{Reply, Reads, Stage, and_then, form_by, later_reads, missing_reply, reading_by, within_by}
-use Rattle.prem_exec.specs.Sources.Sources.{reading_set_by, reading_sources, reading_tasks_by, set_in_by, set_limit, set_of_bytes_by, set_why, set_with, source_limit, task_of_source, task_with}
+use Rattle.prem_exec.specs.Sources.Sources.{Gives, reading_set_by, reading_sources, reading_tasks_by, set_in_by, set_limit, set_of_bytes_by, set_why, set_with, source_limit, task_of_source, task_with}
 
 -- ---- what readings come to
-
--- with these readings this is read, whatever comes next, and those readings are left
-abbrev pub Gives : {A : Type 0} → ((A → Stage Reply) → Stage Reply) → Reads → A → Reads → Type 0
-Gives readings reads x left = (next : _ → Stage Reply) → readings next reads ≡ next x left
 
 -- whether an answer comes from behind the readings
 abbrev pub is_judged : Status → Bool
@@ -59,7 +57,7 @@ chain {A} {B} first second reads right also (inl goes) each = behind (each goes.
 
 -- ---- one file
 
-form_unjudged : (how : Telling) (name why : List ℕ) → is_judged (form_by how name why).0 ≡ false
+pub form_unjudged : (how : Telling) (name why : List ℕ) → is_judged (form_by how name why).0 ≡ false
 form_unjudged Whole name why = refl
 form_unjudged Brief name why = refl
 
@@ -109,12 +107,12 @@ module _ {A : Type 0} (how : Telling) (limit : ℕ) (name : List ℕ) (make : Li
 -- ---- the sources of tasks
 
 -- what tasks have of the entries of a set file
-record HaveOf (es : List TaskEntry) (ts : List TaskText) : Type 0 where
-  count : length ts ≡ length es
-  names : map (λ (t : TaskText). t.name) ts ≡ entry_names es
-  each : All IsEntry es → All HasTextValues ts
+pub record HaveOf (es : List TaskEntry) (ts : List TaskText) : Type 0 where
+  pub count : length ts ≡ length es
+  pub names : map (λ (t : TaskText). t.name) ts ≡ entry_names es
+  pub each : All IsEntry es → All HasTextValues ts
 
-abbrev IsOf : TaskEntry → TaskText → Type 0
+abbrev pub IsOf : TaskEntry → TaskText → Type 0
 IsOf e t = t ≡ task_with e t.text
 
 source_is : (e : TaskEntry) → MakesRight (task_of_source e) (IsOf e)
@@ -130,7 +128,7 @@ task_has e t is entry = record {
   jobs = subst (Between 1 65535) (sym (ap (λ (t : TaskText). t.jobs) is)) entry.jobs;
 }
 
-have_more : (e : TaskEntry) (es : List TaskEntry) (t : TaskText) (ts : List TaskText) → IsOf e t → HaveOf es ts → HaveOf (e ∷ es) (t ∷ ts)
+pub have_more : (e : TaskEntry) (es : List TaskEntry) (t : TaskText) (ts : List TaskText) → IsOf e t → HaveOf es ts → HaveOf (e ∷ es) (t ∷ ts)
 have_more e es t ts is rest =
     let name : t.name ≡ e.name = ap (λ (t : TaskText). t.name) is in
     record {
@@ -155,7 +153,7 @@ tasks_outcome how (e ∷ es) reads =
 
 -- ---- sets
 
-values_with : (s : SetData) (ts : List TaskText) → IsSet s → HaveOf s.tasks ts → HasValues (set_with s ts)
+pub values_with : (s : SetData) (ts : List TaskText) → IsSet s → HaveOf s.tasks ts → HasValues (set_with s ts)
 values_with s ts lawful have = record {
   plant_is = lawful.plant;
   devices_are = record { count = lawful.device_count; each = lawful.each_device; names = lawful.device_names };
@@ -164,14 +162,21 @@ values_with s ts lawful have = record {
   names = subst AreDistinct (sym have.names) lawful.task_names;
 }
 
-sources_outcome : (how : Telling) (s : SetData) (left : Reads) → IsSet s → Outcome (reading_sources how s) left HasValues
-sources_outcome how s left lawful = by (tasks_outcome how s.tasks left) where
-  by : Outcome (reading_tasks_by how s.tasks) left (HaveOf s.tasks) → Outcome (reading_sources how s) left HasValues
+-- a set whose values are in their ranges, with such devices
+abbrev pub IsRight : (List Device → Type 0) → TaskSet → Type 0
+IsRight such set = HasValues set × such set.devices
+
+abbrev pub IsRightFile : (List Device → Type 0) → SetData → Type 0
+IsRightFile such s = IsSet s × such s.devices
+
+pub sources_outcome : (how : Telling) (such : List Device → Type 0) (s : SetData) (left : Reads) → IsRightFile such s → Outcome (reading_sources how s) left (IsRight such)
+sources_outcome how such s left right = by (tasks_outcome how s.tasks left) where
+  by : Outcome (reading_tasks_by how s.tasks) left (HaveOf s.tasks) → Outcome (reading_sources how s) left (IsRight such)
   by (inr stop) = inr (record { reply = stop.reply; unjudged = stop.unjudged; stops = λ next. stop.stops (λ ts. next (set_with s ts)) })
   by (inl goes) =
-      inl (record { value = set_with s goes.value; left = goes.left; gives = λ next. goes.gives (λ ts. next (set_with s ts)); holds = values_with s goes.value lawful goes.holds })
+      inl (record { value = set_with s goes.value; left = goes.left; gives = λ next. goes.gives (λ ts. next (set_with s ts)); holds = (values_with s goes.value right.0 goes.holds, right.1) })
 
-set_formed : (how : Telling) (name : List ℕ) (r : Result SetData SetFail) (reply : Reply) → set_in_by how name r ≡ Err reply → is_judged reply.0 ≡ false
+pub set_formed : (how : Telling) (name : List ℕ) (r : Result SetData SetFail) (reply : Reply) → set_in_by how name r ≡ Err reply → is_judged reply.0 ≡ false
 set_formed how name (Ok s) reply is = absurd cc
 set_formed how name (Err fail) reply is =
     let same : form_by how name (set_why fail) ≡ reply = cc in
@@ -181,10 +186,13 @@ set_lawful : (how : Telling) (name bytes : List ℕ) (r : Result SetData SetFail
 set_lawful how name bytes (Ok x) read s is = set_is_lawful bytes s (read ∙ ap Ok (same_Ok x s is))
 set_lawful how name bytes (Err fail) read s is = absurd cc
 
--- a set's file and its sources, whose values are in their ranges
-pub set_outcome : (name : List ℕ) (reads : Reads) → Outcome (reading_set_by Brief name) reads HasValues
+-- a set's file and its sources
+abbrev pub anything : List Device → Type 0
+anything devices = Unit {0}
+
+pub set_outcome : (name : List ℕ) (reads : Reads) → Outcome (reading_set_by Brief name) reads (IsRight anything)
 set_outcome name reads =
-    chain (reading_by Brief set_limit name (set_of_bytes_by Brief name)) (λ s. reading_sources Brief s) reads IsSet HasValues
-    (file_outcome Brief set_limit name (set_of_bytes_by Brief name) IsSet (λ bytes reply. set_formed Brief name (set_of_text bytes) reply)
-    (λ bytes s is. set_lawful Brief name bytes (set_of_text bytes) refl s is) reads)
-    (sources_outcome Brief)
+    chain (reading_by Brief set_limit name (set_of_bytes_by Brief name)) (λ s. reading_sources Brief s) reads (IsRightFile anything) (IsRight anything)
+    (file_outcome Brief set_limit name (set_of_bytes_by Brief name) (IsRightFile anything) (λ bytes reply. set_formed Brief name (set_of_text bytes) reply)
+    (λ bytes s is. (set_lawful Brief name bytes (set_of_text bytes) refl s is, tt)) reads)
+    (sources_outcome Brief anything)
