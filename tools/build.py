@@ -73,7 +73,7 @@ class Build:
         self.done = {it for it in self.crates if it.is_built()}
         self.running, self.failed, self.killed, self.told = {}, [], set(), None
         self.room, self.need = available(), {it: rt.need(it) for it in self.crates}
-        lines = {it: it.count(rb"\n") + proof_lines(it.folder) for it in [*self.crates, program]}
+        lines = {it: it.count(rb"\n") for it in [*self.crates, program]}
         self.lines, self.rank = lines, {}
         for it in [program, *reversed(self.crates)]:
             above = [self.rank[other] for other in self.rank if it in other.deps]
@@ -95,10 +95,10 @@ class Build:
         return sorted(waiting, key=lambda it: -self.rank[it])
 
     def jobs_for(self, crate, ready):
-        """How many processes share a crate: what the others leave, and two where all the rest waits for its chain."""
+        """How many processes share a crate: what the others leave, and two where its chain may last longer than all the rest."""
         spare = self.at_once - self.used() - len(ready) + 1
         left = sum(self.lines[it] for it in self.crates if it not in self.done)
-        is_last = self.rank[crate] * self.at_once > left
+        is_last = self.rank[crate] * (self.at_once + 1) > 2 * left
         return max(1, min(4, spare), 2 if is_last and self.at_once > 1 else 1)
 
     def used(self):
@@ -157,17 +157,6 @@ class Build:
         self.done.add(self.program)
         self.tell()
         return True
-
-
-def proof_lines(folder):
-    """The lines of definitions and proofs, of which a crate's time is made."""
-    found = 0
-    for part in ("specs", "proofs"):
-        for at, _, names in os.walk(f"{folder}/{part}"):
-            for name in names:
-                with open(f"{at}/{name}", "rb") as it:
-                    found += it.read().count(b"\n")
-    return found
 
 
 def available():

@@ -27,6 +27,7 @@ use Rattle.prem_machine.specs.declared.work.Setting.{Setting}
 use Rattle.prem_machine.specs.declared.work.Works.{Works}
 use Rattle.prem_machine.specs.Log.{counts_in, dropped_in, log_in, put_out}
 use Rattle.prem_machine.specs.Moment.{ModeReady, core_of}
+use Rattle.prem_machine.specs.Owed.{bus_cycles}
 use Rattle.prem_machine.specs.Parts.{Runs, Stands, state_of}
 use Rattle.prem_machine.specs.Plain.{GoesOn, IsKept}
 use Rattle.prem_machine.specs.Stretch.{IsLone}
@@ -60,7 +61,7 @@ kept_stands p requests x w f now m s k =
       rooms = rooms_kept requests x.facts f k.room s.rooms;
     }
 
--- ---- where all touches hit
+-- ---- where all that is owed is paid at once
 
 pub kept_runs : {P : Type 0} (requests : List Request) (x : Parts P) (w : Works P) (f : Facts) (task until cost : ℕ) → IsLone task until requests (state_of x) →
     All (λ j. 1 ≤ j.period) x.sched → Runs x.now (4 * x.now) requests x → IsKept x.work x.facts w f → 1 ≤ cost → x.now + cost ≤ until →
@@ -118,20 +119,20 @@ turn_of p x w f task cost touches owed goes is =
     } in
     goes x.now x.moment.interval (core_of x.moment) ∙ ap F is
 
-pub went_state : {P : Type 0} (p : Setting) (requests : List Request) (x : Parts P) (w : Works P) (f : Facts) (task until cost : ℕ) (touches : List LineTouch) →
-    IsLone task until requests (state_of x) → Stands p requests x → x.trapped ≡ None → GoesOn p task x.work x.facts w f touches cost → owed_by p.plant touches ≡ [] →
-    IsKept x.work x.facts w f → 1 ≤ cost → x.now + cost ≤ until → put_out (items_of x.facts.tasks) + 2 ≤ log_size → length (items_of x.facts.intervals) < log_size →
-    state_of (behind x w f (x.now + cost) x.moment) ≡ cycles_of (rule_in (setup_in p)) (setup_in p) requests cost (state_of x)
-went_state p requests x w f task until cost touches h stands none goes hits k some le room less =
+pub went_state : {P : Type 0} (p : Setting) (requests : List Request) (x : Parts P) (w : Works P) (f : Facts) (task until cost all : ℕ) (touches : List LineTouch) (owed : List ℕ) →
+    IsLone task until requests (state_of x) → Stands p requests x → x.trapped ≡ None → GoesOn p task x.work x.facts w f touches cost → owed_by p.plant touches ≡ owed →
+    IsKept x.work x.facts w f → 1 ≤ cost → all ≡ bus_cycles owed + cost → x.now + all ≤ until → put_out (items_of x.facts.tasks) + 2 ≤ log_size → length (items_of x.facts.intervals) < log_size →
+    state_of (behind x w f (x.now + all) x.moment) ≡ cycles_of (rule_in (setup_in p)) (setup_in p) requests all (state_of x)
+went_state p requests x w f task until cost all touches owed h stands none goes owes k some is le room less =
     let s = state_of x in
-    let y = behind x w f (x.now + cost) x.moment in
+    let y = behind x w f (x.now + all) x.moment in
     let same = as_state task until requests s (state_of y) h none refl refl refl k.log refl in
     let intervals = ap (λ (l : Log). length l.intervals) k.log in
     let full : is_full s ≡ false = has_room p requests x stands (omega (arith, room)) less in
-    let after : is_full (state_of y) ≡ false = has_room p requests y (kept_stands p requests x w f (x.now + cost) x.moment stands k) (omega (arith, room, k.put)) (omega (arith, less, intervals)) in
+    let after : is_full (state_of y) ≡ false = has_room p requests y (kept_stands p requests x w f (x.now + all) x.moment stands k) (omega (arith, room, k.put)) (omega (arith, less, intervals)) in
     same
-    ∙ sym (lone_cycles (rule_in (setup_in p)) (setup_in p) requests task until s (work_in w (items_of f.tasks)) (counts_in f) cost h none some le
-    (goes_lone requests x task until h none full) (sym (ap is_full same) ∙ after) (turn_of p x w f task cost touches [] goes hits))
+    ∙ sym (lone_cycles (rule_in (setup_in p)) (setup_in p) requests task until s (work_in w (items_of f.tasks)) (counts_in f) cost owed all h none some is le
+    (goes_lone requests x task until h none full) (sym (ap is_full same) ∙ after) (turn_of p x w f task cost touches owed goes owes))
 
 pub went_lone : {P : Type 0} (requests : List Request) (x : Parts P) (w : Works P) (f : Facts) (task until cost : ℕ) → IsLone task until requests (state_of x) →
     IsLone task until requests (state_of (behind x w f (x.now + cost) x.moment))
@@ -144,7 +145,7 @@ went_lone requests x w f task until cost h =
       idle = λ t from lt memory. h.idle t (omega (arith, from)) lt memory;
     }
 
--- ---- where one missed
+-- ---- where something else comes first
 
 alone : (task until : ℕ) (requests : List Request) (s : MachineState) → IsLone task until requests s → s.now < until → IssuesAlone task requests s
 alone task until requests s h lt =

@@ -94,6 +94,12 @@ impl<P: Policy> Parts<P> {
             return true;
         }
         let owed = owed_for(&setting.plant, &plain.touches, plain.cost);
+        let cycles = 1 + owed.cycles();
+        if cycles <= most {
+            // nobody else wants the bus, so all that is owed is paid without a pause
+            self.now += cycles;
+            return true;
+        }
         let interval = self.moment.interval;
         self.moment = self
             .moment

@@ -1,8 +1,8 @@
 // The lines of a report.
-ghost use Rattle.std.specs.Prelude.{◌≡◌, IfOk, codes, string_bytes};
+ghost use Rattle.std.specs.Prelude.{◌≡◌, ◌++◌, IfOk, OnOk, codes, string_bytes};
 ghost use Rattle.prem_cycle.specs.FactsOf.{report_in};
 ghost use Rattle.prem_cycle.specs.Runs.Transfer.Lengths.{device_cost};
-ghost use Rattle.prem_report.specs.Report.{task_name, device_name, output_line, task_line, kind_word, interval_line, direction_word, transfer_time, transfer_word, cycles_line, cache_line, phase_line, device_line, cause_word, trap_place, trap_cause};
+ghost use Rattle.prem_report.specs.Report.{task_name, device_name, output_line, task_line, kind_word, interval_line, direction_word, transfer_line, transfer_time, transfer_word, cycles_line, cache_line, phase_line, device_line, cause_word, trap_place, trap_cause};
 
 use prem_cycle::{Cause, DeviceFacts, EndedInterval, Facts};
 use prem_gate::Transfer;
@@ -39,11 +39,11 @@ fn device_cost(devices: &[DeviceRecord], k: usize) -> u32
     }
 }
 
-/// The line of an output word.
-pub fn output_line(alloc: Global, word: u32) -> Result<String, AllocError>
-    ensures { IfOk result (λ s. string_bytes s ≡ output_line word) }
+/// Puts the line of an output word behind a text.
+pub fn write_output(text: &mut String, word: u32) -> Result<(), AllocError>
+    ensures { OnOk result (string_bytes text.new ≡ string_bytes text.old ++ output_line word) }
 {
-    format!(in alloc; "out {word}\n")
+    write!(text, "out {word}\n")
 }
 
 /// The line of a task and its jobs that have ended.
@@ -64,18 +64,18 @@ fn kind_word(predictable: bool) -> &'static str
     }
 }
 
-/// The line of an interval that has ended.
-pub fn interval_line(
-    alloc: Global,
+/// Puts the line of an interval that has ended behind a text.
+pub fn write_interval(
+    text: &mut String,
     tasks: &[TaskRecord],
     ended: &EndedInterval,
-) -> Result<String, AllocError>
-    ensures { IfOk result (λ s. string_bytes s ≡ interval_line tasks.now ended.now) }
+) -> Result<(), AllocError>
+    ensures { OnOk result (string_bytes text.new ≡ string_bytes text.old ++ interval_line tasks.now ended.now) }
 {
     let name = task_name(tasks, ended.task as usize);
     let kind = kind_word(ended.predictable);
     let (first, length) = (ended.first, ended.length);
-    format!(in alloc; "interval {name} {kind} {first} {length}\n")
+    write!(text, "interval {name} {kind} {first} {length}\n")
 }
 
 /// The word for the direction of a transfer.
@@ -88,27 +88,39 @@ fn direction_word(put: Option<u32>) -> &'static str
     }
 }
 
-/// The device of a transfer, its first cycle and its cycles.
-pub fn transfer_time(
-    alloc: Global,
+/// Puts the device of a transfer, its first cycle and its cycles behind a text.
+fn write_transfer_time(
+    text: &mut String,
     devices: &[DeviceRecord],
     ended: &Transfer,
-) -> Result<String, AllocError>
-    ensures { IfOk result (λ s. string_bytes s ≡ transfer_time devices.now ended.now) }
+) -> Result<(), AllocError>
+    ensures { OnOk result (string_bytes text.new ≡ string_bytes text.old ++ transfer_time devices.now ended.now) }
 {
     let name = device_name(devices, ended.device as usize);
     let cost = device_cost(devices, ended.device as usize);
     let first = ended.first;
-    format!(in alloc; "transfer {name} {first} {cost} ")
+    write!(text, "transfer {name} {first} {cost} ")
 }
 
-/// The way a transfer went, its line and its word.
-pub fn transfer_word(alloc: Global, ended: &Transfer) -> Result<String, AllocError>
-    ensures { IfOk result (λ s. string_bytes s ≡ transfer_word ended.now) }
+/// Puts the way a transfer went, its line and its word behind a text.
+fn write_transfer_word(text: &mut String, ended: &Transfer) -> Result<(), AllocError>
+    ensures { OnOk result (string_bytes text.new ≡ string_bytes text.old ++ transfer_word ended.now) }
 {
     let direction = direction_word(ended.request.put);
     let (line, value) = (ended.request.line, ended.value);
-    format!(in alloc; "{direction} {line} {value}\n")
+    write!(text, "{direction} {line} {value}\n")
+}
+
+/// Puts the line of a transfer that has ended behind a text.
+pub fn write_transfer(
+    text: &mut String,
+    devices: &[DeviceRecord],
+    ended: &Transfer,
+) -> Result<(), AllocError>
+    ensures { OnOk result (string_bytes text.new ≡ string_bytes text.old ++ transfer_line devices.now ended.now) }
+{
+    write_transfer_time(text, devices, ended)?;
+    write_transfer_word(text, ended)
 }
 
 /// The line of the cycles that have passed.

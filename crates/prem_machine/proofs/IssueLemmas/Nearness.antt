@@ -1,24 +1,19 @@
 -- The line of the last fetch: its touch changes nothing, while no other line of its set is touched.
-use Rattle.std.specs.Prelude.{slice_set}
-use Rattle.std.proofs.Common.{◌≡◌, ◌≢◌, ℕ, ◌+◌, ◌-◌, ◌/◌, ◌%◌, ◌<◌, refl, ap, ◌∙◌, sym, subst, cond, eqb, ltb, Option, None, Some, true, false, List, [], ◌∷◌, length, take, get_or, arith}
+use Rattle.std.proofs.Common.{◌≡◌, ◌≢◌, ℕ, ◌+◌, ◌/◌, ◌%◌, ◌<◌, refl, ap, ◌∙◌, sym, subst, cond, eqb, Bool, Option, None, Some, true, false, List, [], ◌∷◌, length, arith}
 use Rattle.std.proofs.lemmas.Bool.{cond_both, eq-eqb}
-use Rattle.std.proofs.lemmas.Nat.{mod_below}
-use Rattle.std.proofs.lemmas.List.{get_or-set_same, length-set}
-use Rattle.prem_plant.specs.declared.plant.Replacement.{Replacement}
-use Rattle.prem_plant.specs.declared.plant.Replacement.TheVariants.{Lru, Fifo}
+use Rattle.std.proofs.lemmas.List.{length-set}
+use Rattle.prem_plant.specs.declared.plant.Plant.{Plant}
 use Rattle.prem_plant.specs.Ranges.{IsPlant}
 use Rattle.prem_isa.specs.declared.effect.Access.{Access}
 use Rattle.prem_isa.specs.declared.effect.Phase.{Phase}
 use Rattle.prem_isa.specs.declared.effect.Stored.{Stored}
 use Rattle.prem_isa.specs.Bounds.{AccessMatches}
 use Rattle.prem_lru.specs.Splice.{bytes_of}
-use Rattle.prem_lru.specs.Entries.{Entry, ReplacementRule, SetTouch, find_line, has_line, without_line, filled, written_back, last_entry, hit_in, brought_in, replaced, touch_set, to_front, write_line}
-use Rattle.prem_lru.specs.CacheState.{CacheState, set_of, is_resident, with_set, touch_of, store_of, IsCache}
+use Rattle.prem_lru.specs.Entries.{Entry, ReplacementRule, touch_set, write_line}
+use Rattle.prem_lru.specs.CacheState.{CacheState, set_of, with_set, touch_of, store_of, IsCache}
 use Rattle.prem_lru.specs.Rules.{rule_of}
 use Rattle.prem_lru.specs.Settled.{IsSettled}
-use Rattle.prem_lru.proofs.Lookup.{some_of, found_line, find_head, to_front_is}
-use Rattle.prem_lru.proofs.Settling.{settled_beside, settled_touch}
-use Rattle.prem_lru.proofs.Touches.{some_sets}
+use Rattle.prem_lru.proofs.Settling.{settled_beside, settled_touch, touch_settles}
 use Rattle.prem_lru.proofs.FlatCaches.{inside_small}
 use Rattle.prem_cycle.specs.State.{Counts, Task}
 use Rattle.prem_cycle.specs.Issue.{issued_with, with_store, with_touch, with_touches}
@@ -33,40 +28,9 @@ near_none c h =
 
 -- ---- behind a touch of the line itself
 
-front_stays : (line : ℕ) (e : Entry) (es : List Entry) → e.line ≡ line → to_front line (e ∷ es) ≡ e ∷ es
-front_stays line e es is =
-    to_front_is line (e ∷ es) e (find_head line e es is)
-    ∙ ap (λ b. e ∷ cond b es (e ∷ without_line line es)) (eq-eqb e.line line is)
-
-touched_stays : (kind : Replacement) (size room line : ℕ) (es : List Entry) (memory : List ℕ) → rule_of kind line (touch_set (rule_of kind) size room line es memory).entries ≡ (touch_set (rule_of kind) size room line es memory).entries
-touched_stays Fifo size room line es memory = refl
-touched_stays Lru size room line es memory =
-    let P : SetTouch → Type 0 = λ t. to_front line t.entries ≡ t.entries in
-    cond_both (has_line line es) (hit_in to_front line es memory)
-    (cond (ltb (length es) room) (brought_in size line es memory) (replaced size line (take (length es - 1) es) (last_entry es) memory)) P
-    (λ t.
-    let s : (e : Entry) × (find_line line es ≡ Some e) = some_of (find_line line es) t in
-    subst (λ xs. to_front line xs ≡ xs) (sym (to_front_is line es s.0 s.1)) (front_stays line s.0 (without_line line es) (found_line line es s.0 s.1)))
-    (λ _. cond_both (ltb (length es) room) (brought_in size line es memory) (replaced size line (take (length es - 1) es) (last_entry es) memory) P
-    (λ _. front_stays line (filled size line memory) es refl)
-    (λ _. front_stays line (filled size line (written_back size (last_entry es) memory)) (take (length es - 1) es) refl))
-
-pub near_fetched : (c : CacheState) (line : ℕ) (memory : List ℕ) → IsCache (touch_of (rule_of c.plant.policy) c line memory).cache →
-    is_resident (touch_of (rule_of c.plant.policy) c line memory).cache line ≡ true → IsNear (touch_of (rule_of c.plant.policy) c line memory).cache line
-near_fetched c line memory h there =
-    let new : CacheState = (touch_of (rule_of c.plant.policy) c line memory).cache in
-    let es : List Entry = (touch_set (rule_of c.plant.policy) c.plant.line c.plant.ways line (set_of c line) memory).entries in
-    let same : length (slice_set c.sets (line % length c.sets) es) ≡ length c.sets = length-set c.sets (line % length c.sets) es in
-    let some : 0 < length c.sets = subst (λ n. 0 < n) same (some_sets new h) in
-    let here : set_of new line ≡ es =
-    ap (λ n. get_or (slice_set c.sets (line % length c.sets) es) (line % n) []) same
-    ∙ get_or-set_same c.sets (line % length c.sets) es [] (mod_below line (length c.sets) some) in
-    let settled : IsSettled (rule_of c.plant.policy) new line =
-    record {
-      resident = there;
-      stays = subst (λ xs. rule_of c.plant.policy line xs ≡ xs) (sym here) (touched_stays c.plant.policy c.plant.line c.plant.ways line (set_of c line) memory);
-    } in
-    record { kept = λ lt. h; settled = λ lt. settled }
+pub near_fetched : (c : CacheState) (line : ℕ) (memory : List ℕ) → IsCache c → IsCache (touch_of (rule_of c.plant.policy) c line memory).cache →
+    IsNear (touch_of (rule_of c.plant.policy) c line memory).cache line
+near_fetched c line memory before h = record { kept = λ lt. h; settled = λ lt. touch_settles c.plant.policy c line memory before }
 
 -- ---- behind that of another line
 
@@ -85,11 +49,28 @@ pub near_touched : (c : CacheState) (line near : ℕ) (memory : List ℕ) → Is
     IsNear (touch_of (rule_of c.plant.policy) c line memory).cache (left_line c.plant near line)
 near_touched c line near memory h n = near_left c line near (touch_set (rule_of c.plant.policy) c.plant.line c.plant.ways line (set_of c line) memory).entries h n
 
-pub near_stored : (c : CacheState) (address size value near : ℕ) → IsCache (store_of c address size value) → IsNear c near →
+near_stored : (c : CacheState) (address size value near : ℕ) → IsCache (store_of c address size value) → IsNear c near →
     IsNear (store_of c address size value) (left_line c.plant near (address / c.plant.line))
 near_stored c address size value near h n =
     let line : ℕ = address / c.plant.line in
     near_left c line near (write_line line (address % c.plant.line) (bytes_of size value) (set_of c line)) h n
+
+-- a store into the line that was touched for it leaves no more and no less
+left_once : (p : Plant) (near line : ℕ) → left_line p (left_line p near line) line ≡ left_line p near line
+left_once p near line = by (eqb (near % p.sets) (line % p.sets)) refl
+  where
+    by : (shares : Bool) → eqb (near % p.sets) (line % p.sets) ≡ shares → left_line p (cond shares no_line near) line ≡ cond shares no_line near
+    by true is = cond_both (eqb (no_line % p.sets) (line % p.sets)) no_line no_line (λ n. n ≡ no_line) (λ _. refl) (λ _. refl)
+    by false is = ap (λ b. cond b no_line near) is
+
+pub near_touch_stored : (c : CacheState) (address size value near : ℕ) (memory : List ℕ) → IsCache (touch_of (rule_of c.plant.policy) c (address / c.plant.line) memory).cache →
+    IsCache (store_of (touch_of (rule_of c.plant.policy) c (address / c.plant.line) memory).cache address size value) → IsNear c near →
+    IsNear (store_of (touch_of (rule_of c.plant.policy) c (address / c.plant.line) memory).cache address size value) (left_line c.plant near (address / c.plant.line))
+near_touch_stored c address size value near memory touched stored n =
+    let line : ℕ = address / c.plant.line in
+    let new : CacheState = (touch_of (rule_of c.plant.policy) c line memory).cache in
+    subst (IsNear (store_of new address size value)) (left_once c.plant near line)
+    (near_stored new address size value (left_line c.plant near line) stored (near_touched c line near memory touched n))
 
 -- ---- an instruction that accesses nothing
 

@@ -169,6 +169,13 @@ pub(crate) fn touch_known<P: Policy>(
 {
     let line = cache.line_of(pc);
     let fetch = touch_fetch(cache, mem, near, line);
+    if let Some(stored) = effect.stored {
+        let access = store_line(cache, mem, near, stored);
+        return Touches {
+            fetch,
+            access: Some(access),
+        };
+    }
     let access = match effect.access {
         None => None,
         Some(access) => {
@@ -176,9 +183,6 @@ pub(crate) fn touch_known<P: Policy>(
             Some(touch_data(cache, mem, near, line))
         }
     };
-    if let Some(stored) = effect.stored {
-        store_beside(cache, near, stored);
-    }
     Touches { fetch, access }
 }
 
@@ -306,19 +310,36 @@ fn load_line<P: Policy>(
     (touch, number)
 }
 
-/// A store into a resident line.
+/// The touch of a store, and the store itself.
 #[inline(always)]
-fn store_beside<P: Policy>(cache: &mut Cache<P>, near: &mut Near, stored: Stored)
+fn store_line<P: Policy>(
+    cache: &mut Cache<P>,
+    mem: &mut Memory,
+    near: &mut Near,
+    stored: Stored,
+) -> LineTouch
+    requires kept { IsCache cache.old }
+    requires memory { length mem.old ≡ cache.old.plant.memory }
+    requires near { IsNear cache.old near.old.line }
     requires size { IsWidth stored.size }
     requires aligned { stored.address % stored.size ≡ 0 }
-    requires resident { is_resident cache.old (stored.address / cache.old.plant.line) ≡ true }
-    requires near { IsNear cache.old near.old.line }
-    ensures cache { cache.new ≡ store_of cache.old stored.address stored.size stored.value }
+    requires within { stored.address < cache.old.plant.memory }
+    ensures cache { cache.new ≡ store_of (touch_of (rule_of cache.old.plant.policy) cache.old (stored.address / cache.old.plant.line) mem.old).cache
+        stored.address stored.size stored.value }
+    ensures memory { mem.new ≡ (touch_of (rule_of cache.old.plant.policy) cache.old (stored.address / cache.old.plant.line) mem.old).memory }
+    ensures touch { line_touch_as result ≡ line_touch (stored.address / cache.old.plant.line)
+        (touch_of (rule_of cache.old.plant.policy) cache.old (stored.address / cache.old.plant.line) mem.old) }
     ensures near { IsNear cache.new near.new.line }
+    ensures len { length mem.new ≡ length mem.old }
 {
     let line = cache.line_of(stored.address);
     near.leave(cache, line);
-    cache.store(stored.address, stored.size as u8, stored.value);
+    let touch = cache.touch_store(mem, stored.address, stored.size as u8, stored.value);
+    LineTouch {
+        line,
+        hit: touch.hit,
+        back: touch.back,
+    }
 }
 
 #[inline(always)]
@@ -330,6 +351,7 @@ fn touch_line<P: Policy>(cache: &mut Cache<P>, mem: &mut Memory, line: u32) -> L
     ensures touch { line_touch_as result ≡ line_touch line (touch_of (rule_of cache.old.plant.policy) cache.old line mem.old) }
     ensures resident { is_resident cache.new line ≡ true }
     ensures len { length mem.new ≡ length mem.old }
+    ensures before { IsCache cache.old }
     ensures kept { IsCache cache.new }
 {
     let touch = cache.touch(mem, line);
