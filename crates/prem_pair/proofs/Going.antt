@@ -82,6 +82,9 @@ over_parts false false false true g e = absurd (cc)
 over_parts false false false false true e = absurd (cc)
 over_parts false false false false false e = (refl, (refl, refl))
 
+pub none_trapped : (s : PairState) → is_pair_over s ≡ false → one_trapped s ≡ false
+none_trapped s e = (over_parts (both_finished s) (is_some s.first.trapped) (is_some s.second.trapped) (is_full s.first) (is_full s.second) e).0
+
 -- ---- the cycles of a run up to a limit
 
 abbrev goes_from : PairRunning → ℕ → PairState → PairState
@@ -168,3 +171,32 @@ smaller limit s s' le none next stays =
     let lt : s.first.now < limit = grind (arith, nat_tests) in
     left_smaller limit s.first.now s'.first.now (is_pair_over s) (is_pair_over s') (one_trapped s') on.0
     (λ e. over_trapped (both_finished s') (one_trapped s') (is_full s'.first || is_full s'.second) e) lt next stays
+
+-- so many cycles at once
+pub passes_to : (limit at : ℕ) (from m : PairRunning) (s : PairState) → GoesTo limit from m → m.state.first.now ≤ at → at ≤ limit →
+    s ≡ pair_cycles (rule_in m.first) (rule_in m.second) m.first m.second m.requests (at - m.state.first.now) m.state → s.first.now ≡ at → GoesTo limit from (with_state m s)
+passes_to limit at from m s g le most is now =
+    let n = at - m.state.first.now in
+    let here : s ≡ goes_from from n m.state =
+    is ∙ ap (λ p. pair_cycles (rule_in p) (rule_in m.second) p m.second m.requests n m.state) g.first
+    ∙ ap (λ q. pair_cycles (rule_in from.first) (rule_in q) from.first q m.requests n m.state) g.second
+    ∙ ap (λ r. pair_cycles (rule_in from.first) (rule_in from.second) from.first from.second r n m.state) g.requests in
+    let e : n + (limit - at) ≡ limit - m.state.first.now = omega (arith, le, most) in
+    record {
+      within = omega (arith, now, most);
+      first = g.first;
+      second = g.second;
+      requests = g.requests;
+      left = ap (λ k. goes_from from (limit - k) s) now ∙ ap (goes_from from (limit - at)) here
+          ∙ sym (pair_cycles-add (rule_in from.first) (rule_in from.second) from.first from.second from.requests n (limit - at) m.state)
+          ∙ ap (λ k. goes_from from k m.state) e ∙ g.left;
+    }
+
+going_most : (b : Bool) → going b ≤ 1
+going_most true = omega arith
+going_most false = omega arith
+
+pub passes_less : (limit at : ℕ) (s t : PairState) → s.first.now < at → at ≤ limit → t.first.now ≡ at → cycles_left limit t < cycles_left limit s
+passes_less limit at s t lt most now =
+    let a = going_most (is_pair_over t) in
+    omega (arith, lt, most, now, a)

@@ -1,4 +1,4 @@
-//! Two cores on one bus: a run of two images that goes cycle by cycle, each the cycle that the definitions give.
+//! Two cores on one bus: a run of two images that goes by the cycles that the definitions give, and passes over dull ones.
 //!
 //! - `cycles`: two cores with a cache and a memory each, the devices of the first, and the one bus that goes by a
 //!   token.
@@ -10,6 +10,7 @@ mod both;
 pub mod cycles;
 pub mod laws;
 mod pair;
+mod passing;
 mod side;
 mod token;
 

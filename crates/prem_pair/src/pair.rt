@@ -1,4 +1,4 @@
-// Two cores in the middle of a run, which go cycle by cycle.
+// Two cores in the middle of a run.
 
 use crate::both::Both;
 use crate::cycles::{Holder, PairStop};
@@ -42,6 +42,7 @@ impl<P: Policy, Q: Policy> Pair<P, Q> {
     ghost use Rattle.prem_cycle.specs.FactsOf.{report_in, report_of};
     ghost use Rattle.prem_cycle.specs.State.{rule_in};
     ghost use Rattle.prem_pair.specs.Cycles.Pair.{is_pair_over, one_trapped, pair_cycle, pair_cycles, pair_run, pair_stop_of};
+    ghost use Rattle.prem_pair.specs.Cycles.Rest.{PairRests};
     ghost use Rattle.prem_pair.specs.States.{core_in, with_state};
 
     /// Both cores before the first cycle of a run. It fails only for want of memory, of which it takes all here that
@@ -118,7 +119,7 @@ impl<P: Policy, Q: Policy> Pair<P, Q> {
         &self.both.second.facts
     }
 
-    /// Goes on, cycle by cycle, until the run stops or this cycle has come.
+    /// Goes on until the run stops or this cycle has come. Cycles in which both cores rest are passed over.
     ///
     /// It looks before each cycle whether all jobs of both cores have ended, then whether an instruction has trapped,
     /// then whether a log is full, then whether the cycle has come, and tells the first of these that is so. A run
@@ -139,8 +140,42 @@ impl<P: Policy, Q: Policy> Pair<P, Q> {
             if let Some(stop) = self.stop(limit) {
                 return stop;
             }
+            let at = self.rest_until(limit);
+            if at > self.now() {
+                self.pass_to(at);
+                continue;
+            }
             self.cycle();
         }
+    }
+
+    /// A cycle up to which both rest, which is now where an instruction seems to issue.
+    fn rest_until(&self, limit: u64) -> u64
+        requires now { self.now.state.first.now < 2 ^ 61 }
+        requires going { is_pair_over self.now.state ≡ false }
+        requires limit { self.now.state.first.now ≤ limit }
+        ensures not_before { self.now.state.first.now ≤ result }
+        ensures within { result ≤ limit }
+        ensures rests { self.now.state.first.now < result → PairRests (result - self.now.state.first.now) self.now.requests self.now.state }
+    {
+        if self.both.may_rest() {
+            return self.both.rest(&self.requests, limit);
+        }
+        self.now()
+    }
+
+    /// Passes over the cycles up to this one, in which both rest.
+    fn pass_to(&mut self, at: u64)
+        requires from { self.old.state.first.now ≤ at }
+        requires limit { at ≤ 2 ^ 61 }
+        requires going { is_pair_over self.old.state ≡ false }
+        requires rests { PairRests (at - self.old.state.first.now) self.old.requests self.old.state }
+        ensures new { self.new ≡ with_state self.old
+            (pair_cycles (rule_in self.old.first) (rule_in self.old.second) self.old.first self.old.second self.old.requests (at - self.old.state.first.now) self.old.state) }
+        ensures now { self.new.state.first.now ≡ at }
+    {
+        self.both
+            .pass(&self.first, &self.second, &self.requests, at);
     }
 
     /// One cycle of a run that is not over.

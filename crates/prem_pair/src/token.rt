@@ -93,7 +93,7 @@ pub(crate) fn two_want(first: bool, second: bool, gates: bool) -> bool
 }
 
 /// Whether a core frees the token: it stands at a scheduling point, or its last instruction was a `pm.exec`.
-fn frees(moment: &Moment) -> bool
+pub(crate) fn frees(moment: &Moment) -> bool
     ensures { result ≡ frees (core_of moment.now) }
 {
     match moment.mode {

@@ -19,7 +19,7 @@ use Rattle.prem_pair.specs.declared.cycles.state.PairStop.TheVariants.{Finished,
 use Rattle.prem_pair.specs.Cycles.Pair.{PairState, pair_cycles, pair_run, pair_stop_of}
 
 -- n cycles of a run on these words, without input words
-abbrev pair : Setup → Setup → (first second : List ℕ) → List Request → ℕ → PairState
+abbrev pub pair : Setup → Setup → (first second : List ℕ) → List Request → ℕ → PairState
 pair p q first second requests n = pair_run (rule_in p) (rule_in q) p q (bytes_in first) (bytes_in second) [] [] requests n
 
 -- the cycles so far, why a run up to a limit stops, who holds the token, and all facts of both cores
@@ -28,7 +28,7 @@ pair_told limit s = (s.first.now, pair_stop_of limit s, s.holder, report_of s.fi
 
 -- ---- the same marked function on both cores
 
-abbrev same_set : Setup
+abbrev pub same_set : Setup
 same_set = alone 304 1 304 []
 
 -- core 0 goes first, and core 1 begins while the execution phase of core 0 needs no bus; the last interval of core 0 waits

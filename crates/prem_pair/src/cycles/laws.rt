@@ -4,6 +4,7 @@ ghost use Rattle.prem_lru.specs.Entries.{ReplacementRule};
 ghost use Rattle.prem_gate.specs.declared.request.Request.{Request};
 ghost use Rattle.prem_cycle.specs.State.{Setup};
 ghost use Rattle.prem_pair.specs.Cycles.Pair.{PairState, is_pair_over, pair_cycles};
+ghost use Rattle.prem_pair.specs.Cycles.Rest.{PairRestsComeToOneStep};
 
 /// Runs compose. A state in which both cores have ended all jobs, one has trapped or one has a full log stays as it is.
 pub fn pair_runs_compose()
@@ -11,4 +12,11 @@ pub fn pair_runs_compose()
         → pair_cycles rule other p q requests (m + n) s ≡ pair_cycles rule other p q requests n (pair_cycles rule other p q requests m s) }
     ensures stays { (rule other : ReplacementRule) (p q : Setup) (requests : List Request) (n : ℕ) (s : PairState)
         → is_pair_over s ≡ true → pair_cycles rule other p q requests n s ≡ s }
+{}
+
+/// From a steady state so many cycles in which no request arrives, the token stays, the bus starts and ends nothing, and
+/// both cores do nothing but count come to one step: what is left is so many cycles less, and each is a clash where two
+/// want the bus.
+pub fn pair_rests_come_to_one_step()
+    ensures { PairRestsComeToOneStep }
 {}

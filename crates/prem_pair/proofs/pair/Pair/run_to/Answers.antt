@@ -1,6 +1,6 @@
 use Rattle.std.proofs.Common.{◌≡◌, ap, sym, ◌∙◌, subst}
 use Rattle.prem_pair.specs.States.{PairRunning, with_state}
-use Rattle.prem_pair.proofs.Going.{GoesTo, goes_to, ends_at, smaller}
+use Rattle.prem_pair.proofs.Going.{GoesTo, goes_on, goes_to, ends_at, passes_to, smaller}
 use Rattle.prem_pair.proofs.pair.Pair.run_to.Goals as goal
 
 pub cycles-preserved : goal.cycles-preserved
@@ -19,3 +19,16 @@ returns-in-Some-clause-state g c =
 pub cycles-smaller : goal.cycles-smaller
 cycles-smaller g c =
     smaller c.args.limit c.cycles.self.state c.cycle.new.self.state c.cycles.invariant.within (sym c.stop.ensures ∙ c.in_default.is) c.cycle.ensures.goes_on c.cycle.ensures.stops
+
+pub cycles-preserved-then-at-now : goal.cycles-preserved-then-at-now
+cycles-preserved-then-at-now g c =
+    let old = c.cycles.self in
+    let new = c.pass_to.new.self in
+    let is = ap (λ (m : PairRunning). m.state) c.pass_to.ensures.new in
+    let same : with_state old new.state ≡ new = ap (with_state old) is ∙ sym c.pass_to.ensures.new in
+    let P : PairRunning → Type 0 = λ m. GoesTo c.args.limit c.args.self.now m in
+    subst P same (passes_to c.args.limit c.rest_until-at.result c.args.self.now old new.state c.cycles.invariant c.rest_until-at.ensures.not_before
+    c.rest_until-at.ensures.within is c.pass_to.ensures.now)
+
+pub pass_to-requires-clause-going : goal.pass_to-requires-clause-going
+pass_to-requires-clause-going g c = (goes_on c.args.limit c.cycles.self.state (sym c.stop.ensures ∙ c.in_default.is)).0

@@ -1,0 +1,58 @@
+-- Two cores that rest, computed.
+use Rattle.std.specs.Prelude.{slice_index_or}
+use Rattle.std.proofs.Common.{◌≡◌, ℕ, zero, suc, ◌<◌, ◌≤◌, [], refl, arith}
+use Rattle.prem_sched.specs.declared.sched.TaskJobs.{TaskJobs}
+use Rattle.prem_gate.proofs.Quiet.{next_none}
+use Rattle.prem_cycle.specs.State.{rule_in}
+use Rattle.prem_cycle.specs.declared.state.Mode.{Mode}
+use Rattle.prem_cycle.specs.declared.state.Mode.TheVariants.{Point, Switching}
+use Rattle.prem_cycle.proofs.Images.{marked}
+use Rattle.prem_pair.specs.declared.cycles.state.Holder.{Holder}
+use Rattle.prem_pair.specs.declared.cycles.state.Holder.TheVariants.{First}
+use Rattle.prem_pair.specs.Cycles.Token.{empty_window}
+use Rattle.prem_pair.specs.Cycles.Pair.{PairState, pair_cycles}
+use Rattle.prem_pair.specs.Cycles.Rest.{IsSteadyPair, PairRests, pair_passed}
+use Rattle.prem_pair.proofs.CyclesLemmas.Rests.{pair_one_step}
+use Rattle.prem_pair.proofs.CyclesLemmas.Rows.{pair, same_set}
+
+-- core 0 is in its first switch, and core 1 waits for the token
+abbrev behind : ℕ → PairState
+behind n = pair same_set same_set marked marked [] n
+
+one_period : (k : ℕ) (d : TaskJobs) → k < 1 → 1 ≤ (slice_index_or (behind 1).first.sched k d).period
+unfolding pair_cycles
+one_period zero d lt = omega arith
+one_period (suc k) d lt = absurd (omega (arith, lt))
+
+steady_one : IsSteadyPair (behind 1)
+unfolding pair_cycles
+steady_one =
+    record {
+      going = refl;
+      same_now = refl;
+      free = λ ne. refl;
+      periods = one_period;
+      other_periods = one_period;
+    }
+
+rests_one : PairRests 18 [] (behind 1)
+unfolding pair_cycles
+rests_one =
+    record {
+      arrivals = λ k d lt. absurd (omega (arith, lt));
+      token = refl;
+      gates = (next_none 1 empty_window (behind 1).first.gates 19 refl (omega arith) refl).quiet;
+      first = (let le : 18 ≤ 18 = omega arith in le);
+      second = tt;
+    }
+
+row_step : pair_cycles (rule_in same_set) (rule_in same_set) same_set same_set [] 18 (behind 1) ≡ pair_passed 18 (behind 1)
+row_step = pair_one_step (rule_in same_set) (rule_in same_set) same_set same_set [] 18 (behind 1) steady_one rests_one
+
+abbrev modes_told : PairState → ℕ × Mode × Mode × Holder
+modes_told s = (s.second.now, s.first.core.mode, s.second.core.mode, s.holder)
+
+-- one cycle of the switch is left
+row_passed : modes_told (pair_passed 18 (behind 1)) ≡ (19, Switching 0 1, Point, First)
+unfolding pair_cycles
+row_passed = refl

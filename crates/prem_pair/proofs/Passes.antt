@@ -1,0 +1,110 @@
+-- How far two cores rest, and what their parts keep where cycles are passed over.
+use Rattle.std.proofs.Common.{◌≡◌, ℕ, ◌+◌, ◌-◌, ◌*◌, ◌≤◌, true, false, List, Option, Some, None, ap, sym, ◌∙◌, subst, arith, All, length}
+use Rattle.prem_list.specs.Sequence.{items_of}
+use Rattle.prem_gate.specs.declared.request.Request.{Request}
+use Rattle.prem_gate.specs.Gates.{GateState, GatesState}
+use Rattle.prem_gate.specs.Ranges.{HasLine, LiesIn}
+use Rattle.prem_gate.specs.Stretch.{IsNextChange}
+use Rattle.prem_cycle.specs.declared.state.Interval.{Interval}
+use Rattle.prem_cycle.specs.Runs.Dull.Rest.{NoneArrive, Within}
+use Rattle.prem_machine.specs.declared.work.Setting.{Setting}
+use Rattle.prem_machine.specs.declared.moment.Moment.{Moment}
+use Rattle.prem_machine.specs.declared.parts.Parts.{Parts}
+use Rattle.prem_machine.specs.Log.{counts_in, dropped_in}
+use Rattle.prem_machine.specs.Moment.{ModeReady}
+use Rattle.prem_machine.specs.Parts.{Stands}
+use Rattle.prem_machine.proofs.Resting.{SameQueues, arrived_after, counts_more, mode_after}
+use Rattle.prem_machine.specs.Passing.{IsNextArrival, cycle_behind}
+use Rattle.prem_pair.specs.declared.both.Both.{Both}
+use Rattle.prem_pair.specs.Cycles.Token.{empty_window, is_first, is_second}
+use Rattle.prem_pair.specs.Cycles.Pair.{PairState, is_pair_over}
+use Rattle.prem_pair.specs.Cycles.Rest.{IsSteadyPair, PairRests, rest_with, stays_with, wanted}
+use Rattle.prem_pair.specs.Sides.{Arrives, Goes}
+use Rattle.prem_pair.specs.BothOf.{AreBoth, GoOn, pair_of}
+
+-- ---- how far both rest
+
+within_behind : (now n limit : ℕ) (o : Option ℕ) → now ≤ limit → n ≤ cycle_behind now limit o - now → Within n o
+within_behind now n limit None le h = tt
+within_behind now n limit (Some k) le h = omega (arith, le, h)
+
+pub behind_most : (now limit : ℕ) (o : Option ℕ) → now ≤ limit → cycle_behind now limit o ≤ limit
+behind_most now limit None le = omega arith
+behind_most now limit (Some k) le = omega (arith, le)
+
+pub behind_least : (now limit : ℕ) (o : Option ℕ) → now ≤ limit → now ≤ cycle_behind now limit o
+behind_least now limit None le = le
+behind_least now limit (Some k) le = omega arith
+
+less_arrive : (m n now : ℕ) (rs : List Request) → m ≤ n → NoneArrive n now rs → NoneArrive m now rs
+less_arrive m n now rs le h = λ k d lt j less. h k d lt j (omega (arith, le, less))
+
+-- the cycle up to which both do, where the token stays
+pub rests_until : (requests : List Request) (s : PairState) (limit arrival at : ℕ) → stays_with s.holder s ≡ true → IsNextArrival s.first.now limit requests arrival →
+    IsNextChange s.first.now empty_window (wanted s) s.first.gates
+    (cycle_behind s.first.now (cycle_behind s.first.now arrival (rest_with (is_first s.holder) s.first)) (rest_with (is_second s.holder) s.second)) at →
+    PairRests (at - s.first.now) requests s × (at ≤ limit)
+rests_until requests s limit arrival at stays a g =
+    let now = s.first.now in
+    let o = rest_with (is_first s.holder) s.first in
+    let u = rest_with (is_second s.holder) s.second in
+    let one = cycle_behind now arrival o in
+    let from_now = behind_least now arrival o a.not_before in
+    let most = behind_most now arrival o a.not_before in
+    let both = behind_most now one u from_now in (
+      record {
+        arrivals = less_arrive (at - now) (arrival - now) now requests (omega (arith, g.within, both, most)) a.none;
+        token = stays;
+        gates = g.quiet;
+        first = within_behind now (at - now) arrival o a.not_before (omega (arith, g.within, both));
+        second = within_behind now (at - now) one u from_now (omega (arith, g.within));
+      },
+      omega (arith, g.within, both, most, a.within),
+    )
+
+-- ---- what both keep
+
+pub steady_pair : {P Q : Type 0} (p q : Setting) (requests : List Request) (x : Both P Q) → AreBoth p q requests x → GoOn requests x → is_pair_over (pair_of x) ≡ false → IsSteadyPair (pair_of x)
+steady_pair p q requests x stands on going =
+    record { going = going; same_now = stands.same_now; free = on.free; periods = stands.first.periods; other_periods = stands.second.periods }
+
+pub goes_at : {P : Type 0} (x : Parts P) (m : Moment) (at : ℕ) → All (λ j. 1 ≤ j.period) x.sched → x.now ≤ at → Goes (4 * x.now + (at - x.now)) x → ModeReady x.now x.sched m.mode → m.interval ≡ x.moment.interval →
+    Goes (4 * at) (record x { now = at; moment = m })
+goes_at x m at periods le r ready interval =
+    let first = ap (λ (i : Interval). i.first) interval in
+    record {
+      ready = mode_after x.now at x.sched m.mode periods le ready;
+      first = omega (arith, first, r.first, le);
+      counts = counts_more (4 * x.now + (at - x.now)) (4 * at) (counts_in x.facts) r.counts (omega (arith, le));
+    }
+
+-- with gates that differ in what is left of their transfer, and so many clashes
+abbrev with_gates : {P : Type 0} → Parts P → GatesState → ℕ → Parts P
+with_gates x g clashes = record x { gates = g; facts = record x.facts { clashes = clashes } }
+
+pub passed_stands : {P : Type 0} (p : Setting) (requests : List Request) (x : Parts P) (g : GatesState) (clashes : ℕ) → Stands p requests x → SameQueues x.gates g → Stands p requests (with_gates x g clashes)
+passed_stands p requests x g clashes s same =
+    let bytes = length x.work.memory in
+    let L : List GateState → Type 0 = λ gs. All (λ r. HasLine gs r.device r.line) requests in
+    let A : List GateState → Type 0 = λ gs. All (LiesIn x.gates.line bytes) gs in
+    let B : ℕ → Type 0 = λ line. All (LiesIn line bytes) g.gates in
+    record {
+      memory = s.memory;
+      cache = s.cache;
+      cores = s.cores;
+      tasks = s.tasks;
+      told = s.told;
+      jobs = s.jobs;
+      periods = s.periods;
+      lines = subst L (sym same.gates) s.lines;
+      areas = subst B (sym same.line) (subst A (sym same.gates) s.areas);
+      devices = s.devices ∙ ap length (sym same.gates);
+      eight = omega (arith, s.eight, ap length same.gates);
+      waiting = s.waiting ∙ sym (same.reported 0 (dropped_in (items_of x.facts.devices)));
+      rooms = record { outputs = s.rooms.outputs; intervals = s.rooms.intervals; transfers = s.rooms.transfers };
+    }
+
+pub passed_arrives : {P : Type 0} (requests : List Request) (x : Parts P) (g : GatesState) (clashes at : ℕ) → Arrives x.now requests x → SameQueues x.gates g → x.now ≤ at → NoneArrive (at - x.now) x.now requests →
+    Arrives at requests (with_gates x g clashes)
+passed_arrives requests x g clashes at r same le none =
+    record { arrived = arrived_after x.now at x.arrived requests r.arrived le none; few = r.few; pending = omega (arith, r.pending, same.pending_same) }
