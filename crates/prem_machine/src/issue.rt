@@ -9,7 +9,7 @@ mod touches;
 pub use attempt::Attempt;
 pub(crate) use coming::cost_at;
 pub use counting::count;
-pub(crate) use near::Near;
+pub use near::Near;
 pub use task::{Core, INPUTS};
 pub use touches::{LineTouch, Touches, touch_lines};
 pub(crate) use touches::{touch_known, touch_load};

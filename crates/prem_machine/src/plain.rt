@@ -332,7 +332,7 @@ fn issue_upshot<P: Policy>(
 /// The next instruction of a task, where it goes on in its interval, takes no input word, and has at most this cost: it
 /// issues at once. Of any other one, and where it traps, nothing changes.
 #[inline(always)]
-pub(crate) fn issue_plain<P: Policy>(
+pub fn issue_plain<P: Policy>(
     k: usize,
     most: u64,
     setting: &Setting,
