@@ -2,6 +2,8 @@ pub mod Meeting
 pub mod Cycling
 pub mod Going
 pub mod Passes
+pub mod Owning
+pub mod Stretched
 pub mod Beginning
 pub mod CyclesLemmas
 pub mod LawsLemmas

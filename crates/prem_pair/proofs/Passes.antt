@@ -24,7 +24,7 @@ use Rattle.prem_pair.specs.BothOf.{AreBoth, GoOn, pair_of}
 
 -- ---- how far both rest
 
-within_behind : (now n limit : ℕ) (o : Option ℕ) → now ≤ limit → n ≤ cycle_behind now limit o - now → Within n o
+pub within_behind : (now n limit : ℕ) (o : Option ℕ) → now ≤ limit → n ≤ cycle_behind now limit o - now → Within n o
 within_behind now n limit None le h = tt
 within_behind now n limit (Some k) le h = omega (arith, le, h)
 
@@ -36,7 +36,7 @@ pub behind_least : (now limit : ℕ) (o : Option ℕ) → now ≤ limit → now 
 behind_least now limit None le = le
 behind_least now limit (Some k) le = omega arith
 
-less_arrive : (m n now : ℕ) (rs : List Request) → m ≤ n → NoneArrive n now rs → NoneArrive m now rs
+pub less_arrive : (m n now : ℕ) (rs : List Request) → m ≤ n → NoneArrive n now rs → NoneArrive m now rs
 less_arrive m n now rs le h = λ k d lt j less. h k d lt j (omega (arith, le, less))
 
 -- the cycle up to which both do, where the token stays
@@ -108,3 +108,6 @@ pub passed_arrives : {P : Type 0} (requests : List Request) (x : Parts P) (g : G
     Arrives at requests (with_gates x g clashes)
 passed_arrives requests x g clashes at r same le none =
     record { arrived = arrived_after x.now at x.arrived requests r.arrived le none; few = r.few; pending = omega (arith, r.pending, same.pending_same) }
+
+pub arrives_later : {P : Type 0} (requests : List Request) (x : Parts P) (at : ℕ) → Arrives x.now requests x → x.now ≤ at → NoneArrive (at - x.now) x.now requests → Arrives at requests x
+arrives_later requests x at r le none = record { arrived = arrived_after x.now at x.arrived requests r.arrived le none; few = r.few; pending = r.pending }

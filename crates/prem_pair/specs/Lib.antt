@@ -3,5 +3,6 @@ pub mod States
 pub mod PairFields
 pub mod Nobody
 pub mod BothOf
+pub mod MayStretch
 pub mod Cycles
 pub mod Laws

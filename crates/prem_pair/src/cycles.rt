@@ -2,6 +2,6 @@
 mod laws;
 mod state;
 
-pub use laws::{pair_rests_come_to_one_step, pair_runs_compose};
+pub use laws::{apart_cycles_are_own, pair_rests_come_to_one_step, pair_runs_compose};
 pub use prem_cycle::{Cause, Facts};
 pub use state::{Holder, PairStop};

@@ -6,6 +6,7 @@
 //!   limit.
 #![tactic(auto)]
 
+mod apart;
 mod both;
 pub mod cycles;
 pub mod laws;

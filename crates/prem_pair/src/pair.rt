@@ -119,7 +119,8 @@ impl<P: Policy, Q: Policy> Pair<P, Q> {
         &self.both.second.facts
     }
 
-    /// Goes on until the run stops or this cycle has come. Cycles in which both cores rest are passed over.
+    /// Goes on until the run stops or this cycle has come. Cycles in which both cores rest are passed over,
+    /// and instructions of one core that follow each other while the other rests are done at once.
     ///
     /// It looks before each cycle whether all jobs of both cores have ended, then whether an instruction has trapped,
     /// then whether a log is full, then whether the cycle has come, and tells the first of these that is so. A run
@@ -145,6 +146,9 @@ impl<P: Policy, Q: Policy> Pair<P, Q> {
                 self.pass_to(at);
                 continue;
             }
+            if self.stretch(limit) {
+                continue;
+            }
             self.cycle();
         }
     }
@@ -162,6 +166,25 @@ impl<P: Policy, Q: Policy> Pair<P, Q> {
             return self.both.rest(&self.requests, limit);
         }
         self.now()
+    }
+
+    /// Goes on by instructions that follow each other while the cores don't touch each other, and answers whether there were
+    /// some.
+    fn stretch(&mut self, limit: u64) -> bool
+        requires now { self.old.state.first.now < limit }
+        requires limit { limit ≤ 2 ^ 61 }
+        requires going { is_pair_over self.old.state ≡ false }
+        ensures new { self.new ≡ with_state self.old (pair_cycles (rule_in self.old.first) (rule_in self.old.second) self.old.first self.old.second self.old.requests
+            (self.new.state.first.now - self.old.state.first.now) self.old.state) }
+        ensures from { self.old.state.first.now ≤ self.new.state.first.now }
+        ensures within { self.new.state.first.now ≤ limit }
+        ensures went { result ≡ true → self.old.state.first.now < self.new.state.first.now }
+        ensures kept { result ≡ false → self.new ≡ self.old }
+    {
+        let before = self.now();
+        self.both
+            .stretch(&self.first, &self.second, &self.requests, limit);
+        self.now() > before
     }
 
     /// Passes over the cycles up to this one, in which both rest.

@@ -21,7 +21,7 @@ use prem_machine::{Mode, Parts, Setting, is_finished};
 const CLOSED: Window = Window { start: 1, close: 0 };
 
 /// Of requests in order of cycle, of which so many have arrived, the cycle of the next one, or the limit if that is less.
-fn next_arrival(requests: &[Request], arrived: usize, limit: u64) -> u64
+pub(crate) fn next_arrival(requests: &[Request], arrived: usize, limit: u64) -> u64
     requires { IsNonDecreasingBy (λ r. r.cycle) requests.now }
     ensures { (now : ℕ) → HaveArrived now arrived requests.now → now ≤ limit → IsNextArrival now limit requests.now result }
 {
@@ -33,7 +33,7 @@ fn next_arrival(requests: &[Request], arrived: usize, limit: u64) -> u64
 }
 
 /// The cycle behind so many, if it is told how many, or the limit if that is less.
-fn cycle_behind(now: u64, limit: u64, cycles: Option<u64>) -> u64
+pub(crate) fn cycle_behind(now: u64, limit: u64, cycles: Option<u64>) -> u64
     requires { now ≤ limit }
     ensures { result ≡ cycle_behind now limit cycles }
 {
@@ -56,7 +56,7 @@ fn waiting_rest(now: u64, mode: Mode) -> Option<u64>
 }
 
 /// How many cycles a core rests that holds the token or doesn't, if it does so by itself.
-fn rest_with<P: Policy>(parts: &Parts<P>, holds: bool) -> Option<u64>
+pub(crate) fn rest_with<P: Policy>(parts: &Parts<P>, holds: bool) -> Option<u64>
     requires now { parts.now.now < 2 ^ 61 }
     requires begun { parts.now.moment.interval.first ≤ parts.now.now }
     ensures { result ≡ rest_with holds (state_of parts.entry.now) }
@@ -81,7 +81,7 @@ fn may_rest<P: Policy>(parts: &Parts<P>) -> bool {
 }
 
 /// A core passes over the cycles up to this one, in which it does nothing but count.
-fn pass_with<P: Policy>(
+pub(crate) fn pass_with<P: Policy>(
     setting: &Setting,
     requests: &[Request],
     parts: &mut Parts<P>,
@@ -120,7 +120,7 @@ impl<P: Policy, Q: Policy> Both<P, Q> {
     ghost use Rattle.prem_pair.specs.BothOf.{AreBoth, GoOn, IsFree, pair_of};
 
     /// Whether the token stays where it is in the coming cycle.
-    fn stays(&self) -> bool
+    pub(crate) fn stays(&self) -> bool
         requires few { length self.now.first.gates.gates ≤ 8 }
         requires free { IsFree self.now }
         ensures { result ≡ stays_with self.now.holder (pair_of self.now) }
@@ -136,7 +136,7 @@ impl<P: Policy, Q: Policy> Both<P, Q> {
     }
 
     /// What the holder wants of the bus.
-    fn wanted(&self) -> CoreWant
+    pub(crate) fn wanted(&self) -> CoreWant
         ensures { result ≡ wanted (pair_of self.now) }
     {
         want_with(
@@ -147,7 +147,7 @@ impl<P: Policy, Q: Policy> Both<P, Q> {
     }
 
     /// Whether two want the bus.
-    fn clashes(&self) -> bool
+    pub(crate) fn clashes(&self) -> bool
         ensures { result ≡ clashes self.now.holder (pair_of self.now) }
     {
         let first = is_wanted(self.first.moment.want());

@@ -5,6 +5,7 @@ ghost use Rattle.prem_gate.specs.declared.request.Request.{Request};
 ghost use Rattle.prem_cycle.specs.State.{Setup};
 ghost use Rattle.prem_pair.specs.Cycles.Pair.{PairState, is_pair_over, pair_cycles};
 ghost use Rattle.prem_pair.specs.Cycles.Rest.{PairRestsComeToOneStep};
+ghost use Rattle.prem_pair.specs.Cycles.Apart.{ApartCyclesAreOwn};
 
 /// Runs compose. A state in which both cores have ended all jobs, one has trapped or one has a full log stays as it is.
 pub fn pair_runs_compose()
@@ -19,4 +20,11 @@ pub fn pair_runs_compose()
 /// want the bus.
 pub fn pair_rests_come_to_one_step()
     ensures { PairRestsComeToOneStep }
+{}
+
+/// Where no request arrives, the token stays and not with the gates, no transaction begins, at most one core owes one, and
+/// neither traps or frees the token, a cycle is each core's own, and the token is where it was. So the cycles of one core may
+/// be done before those of the other.
+pub fn apart_cycles_are_own()
+    ensures { ApartCyclesAreOwn }
 {}

@@ -1,0 +1,95 @@
+-- Cycles in which two cores don't touch each other.
+use Rattle.std.specs.Prelude.{max, ◌&&◌, is_some}
+use Rattle.std.proofs.Common.{◌≡◌, ◌≢◌, ℕ, ◌+◌, ◌-◌, ◌≤◌, Bool, true, false, List, Option, Some, None, refl, ap, sym, ◌∙◌, subst, arith}
+use Rattle.std.proofs.lemmas.Bool.Decides.{nat_tests}
+use Rattle.prem_lru.specs.Entries.{ReplacementRule}
+use Rattle.prem_gate.specs.declared.request.Request.{Request}
+use Rattle.prem_gate.specs.declared.bus.CoreWant.{CoreWant}
+use Rattle.prem_gate.specs.declared.bus.CoreWant.TheVariants.{No, New, Held}
+use Rattle.prem_gate.specs.Gates.{GatesState, is_held, wants, with_carried}
+use Rattle.prem_gate.specs.Stretch.{AreQuiet, OnlyGoesOn, bus_run, changes, fits_any, least_cost, transfer_left, with_transfer}
+use Rattle.prem_gate.proofs.Quiet.{next_held, next_none, quiet_turn}
+use Rattle.prem_cycle.specs.State.{Setup}
+use Rattle.prem_cycle.specs.Core.{want_of}
+use Rattle.prem_pair.specs.declared.cycles.state.Holder.{Holder}
+use Rattle.prem_pair.specs.declared.cycles.state.Holder.TheVariants.{Nobody, First, Second, Gates}
+use Rattle.prem_pair.specs.Cycles.Token.{asks, empty_window, holder_after, is_first, is_gates, is_second, some_wait, two_want}
+use Rattle.prem_pair.specs.Cycles.Pair.{PairState, clashes, pair_cycle}
+use Rattle.prem_pair.specs.Cycles.Rest.{stays_with, wanted}
+use Rattle.prem_pair.specs.Cycles.Apart.{AreApart, own_cycle, own_part}
+use Rattle.prem_pair.proofs.CyclesLemmas.OneCycle.{IsCalm, SideGoes, calm_goes, turn_in}
+use Rattle.prem_pair.proofs.CyclesLemmas.Rests.{none_of}
+
+-- ---- the bus
+
+never_fits : (u : ℕ) (cost : Option ℕ) → 1 ≤ u → fits_any u empty_window cost ≡ false
+never_fits u None some = refl
+never_fits u (Some cost) some = grind (arith, nat_tests)
+
+quiet_here : (now : ℕ) (core : CoreWant) (g : GatesState) (memory : List ℕ) → AreQuiet (now + 1 - now) now empty_window core g → changes now empty_window core g memory ≡ false
+unfolding bus_run
+quiet_here now core g memory quiet =
+    let e : now + 0 ≡ now = omega arith in
+    ap (λ k. changes k empty_window core g memory) (sym e) ∙ quiet 0 memory (omega arith)
+
+-- without the gates' token the bus starts and ends nothing, but where a transaction begins
+quiet_bus : (now : ℕ) (core : CoreWant) (g : GatesState) (memory : List ℕ) → g.carried ≡ None → core ≢ New → changes now empty_window core g memory ≡ false
+quiet_bus now No g memory free ne =
+    quiet_here now No g memory (next_none now empty_window g (now + 1) free (omega arith) (never_fits (max now 1) (least_cost g.gates) (omega arith))).quiet
+quiet_bus now New g memory free ne = absurd (ne refl)
+quiet_bus now Held g memory free ne = quiet_here now Held g memory (next_held now empty_window g (now + 1) free (omega arith)).quiet
+
+same_gates : (n : ℕ) (g : GatesState) → g.carried ≡ None → with_carried g (with_transfer n g.carried) ≡ g
+same_gates n g none = ap (λ o. with_carried g (with_transfer n o)) none ∙ ap (with_carried g) (sym none)
+
+-- ---- a cycle
+
+no_gates : (h : Holder) → h ≢ Gates → is_gates h ≡ false
+no_gates Nobody ne = refl
+no_gates First ne = refl
+no_gates Second ne = refl
+no_gates Gates ne = absurd (ne refl)
+
+not_two : (x y z : Bool) → z ≡ false → (x && y) ≡ false → two_want x y z ≡ false
+not_two true true z e f = absurd (cc)
+not_two true false true e f = absurd (cc)
+not_two true false false e f = refl
+not_two false true true e f = absurd (cc)
+not_two false true false e f = refl
+not_two false false z e f = refl
+
+abbrev quiet_token : PairState → Type 0
+quiet_token s = s.holder ≡ Nobody → (asks s.first ≡ false) × ((asks s.second ≡ false) × (some_wait s.first.gates.gates ≡ false))
+
+token_is : (s : PairState) → stays_with s.holder s ≡ true → quiet_token s
+token_is s stays is = none_of (asks s.first) (asks s.second) (some_wait s.first.gates.gates) (subst (λ v. stays_with v s ≡ true) is stays)
+
+module _ (requests : List Request) (s : PairState) (apart : AreApart requests s) where
+  goes : OnlyGoesOn (wanted s) s.first.gates s.first.work.memory (turn_in s)
+  goes =
+      quiet_turn s.first.now empty_window (wanted s) s.first.gates s.first.work.memory (λ held. apart.free)
+      (quiet_bus s.first.now (wanted s) s.first.gates s.first.work.memory apart.free apart.begins)
+
+  pub apart_calm : IsCalm requests s
+  apart_calm = record { none = apart.arrivals; token = token_is s apart.token; turn = goes }
+
+  gates_stay : (turn_in s).gates ≡ s.first.gates
+  gates_stay = goes.gates ∙ same_gates (transfer_left (turn_in s).gates.carried) s.first.gates apart.free
+
+  no_clash : clashes s.holder s ≡ false
+  no_clash = not_two (wants (want_of s.first.core.debt)) (wants (want_of s.second.core.debt)) (is_gates s.holder) (no_gates s.holder apart.gates) apart.one
+
+pub own_cycles : (rule other : ReplacementRule) (p q : Setup) (requests : List Request) (s : PairState) → AreApart requests s →
+    is_some (own_part rule p (is_first s.holder) s.first).trapped ≡ false → is_some (own_part other q (is_second s.holder) s.second).trapped ≡ false →
+    holder_after s.holder (own_cycle rule p (is_first s.holder) s.first).core (own_cycle other q (is_second s.holder) s.second).core false ≡ s.holder →
+    pair_cycle rule other p q requests s
+    ≡ record { first = own_cycle rule p (is_first s.holder) s.first; second = own_cycle other q (is_second s.holder) s.second; holder = s.holder }
+own_cycles rule other p q requests s apart one two stays =
+    let h = s.holder in
+    let x = own_cycle rule p (is_first h) s.first in
+    let y = own_cycle other q (is_second h) s.second in
+    let first : SideGoes rule p (is_first h) (is_first h && is_held (want_of s.first.core.debt)) false s.first.gates s.first x = record { goes = one; next = refl } in
+    let second : SideGoes other q (is_second h) (is_second h && is_held (want_of s.second.core.debt)) false s.second.gates s.second y = record { goes = two; next = refl } in
+    let G : Bool → GatesState → Type 0 = λ clash g. SideGoes rule p (is_first h) (is_first h && is_held (want_of s.first.core.debt)) clash g s.first x in
+    calm_goes rule other p q requests s x y (apart_calm requests s apart) (subst (λ c. G c (turn_in s).gates) (sym (no_clash requests s apart)) (subst (G false) (sym (gates_stay requests s apart)) first))
+    second stays

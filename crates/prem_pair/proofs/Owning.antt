@@ -1,0 +1,216 @@
+-- A core's parts behind a cycle of its own.
+use Rattle.std.specs.Prelude.{nat_le, ◌||◌, ◌&&◌}
+use Rattle.std.proofs.Common.{◌≡◌, ◌≢◌, ℕ, zero, suc, ◌+◌, ◌-◌, ◌*◌, ◌≤◌, ◌<◌, Bool, true, false, List, [], None, refl, ap, sym, ◌∙◌, subst, arith, All, length}
+use Rattle.std.proofs.lemmas.Bool.Decides.{nat_tests}
+use Rattle.prem_list.specs.Sequence.{items_of}
+use Rattle.prem_gate.specs.declared.request.Request.{Request}
+use Rattle.prem_gate.specs.declared.bus.CoreWant.{CoreWant}
+use Rattle.prem_gate.specs.declared.bus.CoreWant.TheVariants.{No, New, Held}
+use Rattle.prem_gate.specs.Gates.{wants}
+use Rattle.prem_gate.specs.Stretch.{is_new}
+use Rattle.prem_cycle.specs.Core.{want_of}
+use Rattle.prem_isa.specs.declared.effect.Change.TheVariants.{Stay}
+use Rattle.prem_cycle.specs.declared.facts.Facts.{Facts}
+use Rattle.prem_cycle.specs.declared.state.Mode.{Mode}
+use Rattle.prem_cycle.specs.Issue.{LineTouch, owed_by}
+use Rattle.prem_cycle.specs.Core.{core_issued}
+use Rattle.prem_cycle.specs.Cycle.{is_full, log_size}
+use Rattle.prem_cycle.specs.State.{rule_in}
+use Rattle.prem_machine.specs.declared.moment.Moment.{Moment}
+use Rattle.prem_machine.specs.declared.parts.Parts.{Parts}
+use Rattle.prem_machine.specs.declared.work.Setting.{Setting}
+use Rattle.prem_machine.specs.declared.work.Works.{Works}
+use Rattle.prem_machine.specs.Log.{counts_in, put_out}
+use Rattle.prem_machine.specs.Moment.{ModeReady, core_of}
+use Rattle.prem_machine.specs.Parts.{Stands, state_of}
+use Rattle.prem_machine.specs.Plain.{GoesOn, IsKept}
+use Rattle.prem_machine.specs.Work.{setup_in, work_in}
+use Rattle.prem_machine.proofs.Advancing.{same_state}
+use Rattle.prem_machine.proofs.Resting.{counts_more, mode_after}
+use Rattle.prem_machine.proofs.Stretching.{behind}
+use Rattle.prem_machine.specs.Passing.{IsNextArrival}
+use Rattle.prem_machine.proofs.Telling.{full_told}
+use Rattle.prem_pair.specs.declared.cycles.state.Holder.{Holder}
+use Rattle.prem_pair.specs.declared.cycles.state.Holder.TheVariants.{Nobody, First, Second, Gates}
+use Rattle.prem_pair.specs.Cycles.Token.{is_gates, two_want}
+use Rattle.prem_pair.specs.Cycles.Pair.{PairState, clashes}
+use Rattle.prem_pair.specs.Cycles.Rest.{stays_with, wanted}
+use Rattle.prem_pair.specs.Cycles.Own.{IsGoing, OwnCycle, OwnRun, no_cycle, one_more}
+use Rattle.prem_pair.specs.MayStretch.{MayStretch}
+use Rattle.prem_pair.specs.Sides.{Arrives, Goes}
+use Rattle.prem_pair.proofs.CyclesLemmas.Own.{as_going, going_state, issue_own, pay_own}
+
+pub kept_goes : {P : Type 0} (x : Parts P) (w : Works P) (f : Facts) (m : Moment) → All (λ j. 1 ≤ j.period) x.sched → Goes (4 * x.now) x → IsKept x.work x.facts w f → m.mode ≡ x.moment.mode →
+    m.interval.first ≡ x.moment.interval.first → Goes (4 * (x.now + 1)) (behind x w f (x.now + 1) m)
+kept_goes x w f m periods r k mode first =
+    let M : Mode → Type 0 = λ d. ModeReady x.now x.sched d in
+    record {
+      ready = mode_after x.now (x.now + 1) x.sched m.mode periods (omega arith) (subst M (sym mode) r.ready);
+      first = omega (arith, first, r.first);
+      counts = counts_more (4 * x.now + 2) (4 * (x.now + 1)) (counts_in f) (k.counts (4 * x.now) r.counts) (omega arith);
+    }
+
+-- the state behind an instruction that goes on
+issued_state : {P : Type 0} (x : Parts P) (w : Works P) (f : Facts) (m : Moment) (task cost : ℕ) (owed : List ℕ) → x.trapped ≡ None → IsKept x.work x.facts w f →
+    core_of m ≡ core_issued x.now task x.moment.interval Stay cost owed (core_of x.moment) →
+    state_of (behind x w f (x.now + 1) m) ≡ going_state (state_of x) task (work_in w (items_of f.tasks)) (counts_in f) (x.now + 1) owed (cost - 1)
+issued_state x w f m task cost owed none k core =
+    same_state (state_of (behind x w f (x.now + 1) m)) (going_state (state_of x) task (work_in w (items_of f.tasks)) (counts_in f) (x.now + 1) owed (cost - 1)) refl refl refl core refl k.log none
+
+pub issues_own : {P : Type 0} (p : Setting) (holds : Bool) (x : Parts P) (w : Works P) (f : Facts) (m : Moment) (task cost : ℕ) (touches : List LineTouch) (owed : List ℕ) → IsGoing task (state_of x) →
+    x.moment.owed.cost ≡ 0 → x.trapped ≡ None → is_full (state_of x) ≡ false → GoesOn p task x.work x.facts w f touches cost → owed_by p.plant touches ≡ owed → IsKept x.work x.facts w f →
+    core_of m ≡ core_issued x.now task x.moment.interval Stay cost owed (core_of x.moment) →
+    OwnCycle (rule_in (setup_in p)) (setup_in p) holds No (state_of x) (state_of (behind x w f (x.now + 1) m))
+issues_own p holds x w f m task cost touches owed going paid none room goes is k core =
+    let s = state_of x in
+    let q = setup_in p in
+    let from : s ≡ going_state s task s.work s.log.counts s.now [] 0 = as_going task s going none ∙ ap (going_state s task s.work s.log.counts s.now []) paid in
+    let start = going_state s task s.work s.log.counts s.now [] 0 in
+    let work = work_in w (items_of f.tasks) in
+    let full : is_full start ≡ false = sym (ap is_full from) ∙ room in
+    let turn = goes x.now x.moment.interval start.core ∙ ap (λ o. record { work = work; core = core_issued x.now task x.moment.interval Stay cost o start.core; counts = counts_in f; trapped = None }) is in
+    let own = issue_own (rule_in q) q holds s task s.work work s.log.counts (counts_in f) s.now cost owed full turn in
+    subst (λ a. OwnCycle (rule_in q) q holds No a (state_of (behind x w f (x.now + 1) m))) (sym from)
+    (subst (OwnCycle (rule_in q) q holds No start) (sym (issued_state x w f m task cost owed none k core)) own)
+
+-- behind a cycle of its cost
+pub pays_own : {P : Type 0} (p : Setting) (holds : Bool) (x : Parts P) (task : ℕ) → IsGoing task (state_of x) → 1 ≤ x.moment.owed.cost → x.trapped ≡ None → is_full (state_of x) ≡ false →
+    OwnCycle (rule_in (setup_in p)) (setup_in p) holds No (state_of x)
+    (state_of (behind x x.work x.facts (x.now + 1) (record x.moment { owed = record x.moment.owed { cost = x.moment.owed.cost - 1 } })))
+pays_own p holds x task going some none room =
+    let s = state_of x in
+    let q = setup_in p in
+    let m = record x.moment { owed = record x.moment.owed { cost = x.moment.owed.cost - 1 } } in
+    let y = behind x x.work x.facts (x.now + 1) m in
+    let c = x.moment.owed.cost - 1 in
+    let e : x.moment.owed.cost ≡ suc c = omega (arith, some) in
+    let start = going_state s task s.work s.log.counts s.now [] (suc c) in
+    let from : s ≡ start = as_going task s going none ∙ ap (going_state s task s.work s.log.counts s.now []) e in
+    let after : IsGoing task (state_of y) = record { mode = going.mode; transactions = going.transactions; begun = going.begun; mark = going.mark } in
+    let full : is_full start ≡ false = sym (ap is_full from) ∙ room in
+    let to : state_of y ≡ going_state s task s.work s.log.counts (s.now + 1) [] c = as_going task (state_of y) after none in
+    subst (λ a. OwnCycle (rule_in q) q holds No a (state_of y)) (sym from)
+    (subst (OwnCycle (rule_in q) q holds No start) (sym to) (pay_own (rule_in q) q holds s task s.work s.log.counts s.now c full))
+
+-- where all touches hit, nothing but its cost is owed
+pub hit_core : {P : Type 0} (x : Parts P) (task cost : ℕ) → IsGoing task (state_of x) →
+    core_of (record x.moment { owed = record x.moment.owed { cost = cost - 1 } }) ≡ core_issued x.now task x.moment.interval Stay cost [] (core_of x.moment)
+hit_core x task cost going =
+    λ j. record {
+      mode = going.mode j;
+      debt = record { transactions = going.transactions j; begun = going.begun j; cost = cost - 1 };
+      mark = going.mark j;
+      interval = x.moment.interval;
+      window = x.moment.window;
+    }
+
+-- a log that has room isn't full
+not_full : (a b : ℕ) → a < log_size → b < log_size → (nat_le log_size a || nat_le log_size b) ≡ false
+not_full a b p q =
+    let u : nat_le log_size a ≡ false = grind (arith, nat_tests) in
+    let v : nat_le log_size b ≡ false = grind (arith, nat_tests) in
+    rw u v
+
+pub has_room : {P : Type 0} (p : Setting) (requests : List Request) (x : Parts P) → Stands p requests x → put_out (items_of x.facts.tasks) < log_size → length (items_of x.facts.intervals) < log_size →
+    is_full (state_of x) ≡ false
+has_room p requests x s few less = sym (full_told p requests x s) ∙ not_full (put_out (items_of x.facts.tasks)) (length (items_of x.facts.intervals)) few less
+
+pub rooms_left : {P : Type 0} (p : Setting) (requests : List Request) (x : Parts P) → Stands p requests x → is_full (state_of x) ≡ false →
+    (put_out (items_of x.facts.tasks) < log_size) × (length (items_of x.facts.intervals) < log_size)
+rooms_left p requests x s room =
+    by (put_out (items_of x.facts.tasks)) (length (items_of x.facts.intervals)) (nat_le log_size (put_out (items_of x.facts.tasks))) refl (nat_le log_size (length (items_of x.facts.intervals))) refl (full_told p requests x s ∙ room)
+  where
+    by : (a b : ℕ) (u : Bool) → nat_le log_size a ≡ u → (v : Bool) → nat_le log_size b ≡ v → (u || v) ≡ false → (a < log_size) × (b < log_size)
+    by a b true is v other e = absurd (cc)
+    by a b false is true other e = absurd (cc)
+    by a b false is false other e = (grind (arith, nat_tests), grind (arith, nat_tests))
+
+-- ---- cycles that follow each other
+
+-- so far, with room for so many words more
+pub record OwnSoFar {P : Type 0} (p : Setting) (requests : List Request) (task until : ℕ) (from x : Parts P) (left : ℕ) : Type 0 where
+  pub own : (holds : Bool) → OwnRun (rule_in (setup_in p)) (setup_in p) holds No (state_of from) (x.now - from.now) (state_of x)
+  pub stands : Stands p requests x
+  pub goes : Goes (4 * x.now) x
+  pub arrives : (t : ℕ) → Arrives t requests from → Arrives t requests x
+  pub gates : x.gates ≡ from.gates
+  pub trapped : x.trapped ≡ None
+  pub going : IsGoing task (state_of x)
+  pub begun : from.now ≤ x.now
+  pub within : x.now ≤ until
+  pub room : put_out (items_of x.facts.tasks) + left ≤ log_size
+  pub intervals : length (items_of x.facts.intervals) < log_size
+
+pub own_none : {P : Type 0} (p : Setting) (requests : List Request) (task until : ℕ) (x : Parts P) (left : ℕ) → Stands p requests x → Goes (4 * x.now) x → x.trapped ≡ None → IsGoing task (state_of x) → x.now ≤ until →
+    put_out (items_of x.facts.tasks) + left ≤ log_size → length (items_of x.facts.intervals) < log_size → OwnSoFar p requests task until x x left
+own_none p requests task until x left stands goes none going le room intervals =
+    let z : zero ≡ x.now - x.now = omega arith in
+    record {
+      own = λ holds. subst (λ k. OwnRun (rule_in (setup_in p)) (setup_in p) holds No (state_of x) k (state_of x)) z no_cycle;
+      stands = stands;
+      goes = goes;
+      arrives = λ t r. r;
+      gates = refl;
+      trapped = none;
+      going = going;
+      begun = omega arith;
+      within = le;
+      room = room;
+      intervals = intervals;
+    }
+
+pub own_more : {P : Type 0} (p : Setting) (holds : Bool) (from x y : Parts P) → OwnRun (rule_in (setup_in p)) (setup_in p) holds No (state_of from) (x.now - from.now) (state_of x) → from.now ≤ x.now →
+    OwnCycle (rule_in (setup_in p)) (setup_in p) holds No (state_of x) (state_of y) → y.now ≡ x.now + 1 → OwnRun (rule_in (setup_in p)) (setup_in p) holds No (state_of from) (y.now - from.now) (state_of y)
+own_more p holds from x y run le c next =
+    let e : suc (x.now - from.now) ≡ y.now - from.now = omega (arith, le, next) in
+    subst (λ k. OwnRun (rule_in (setup_in p)) (setup_in p) holds No (state_of from) k (state_of y)) e (one_more (x.now - from.now) (state_of x) (state_of y) run c)
+
+pub own_next : {P : Type 0} (p : Setting) (requests : List Request) (task until : ℕ) (from x y : Parts P) (left : ℕ) → OwnSoFar p requests task until from x left → 1 ≤ left → x.now < until →
+    ((holds : Bool) → OwnCycle (rule_in (setup_in p)) (setup_in p) holds No (state_of x) (state_of y)) → Stands p requests y → Goes (4 * y.now) y → ((t : ℕ) → Arrives t requests x → Arrives t requests y) → y.gates ≡ x.gates →
+    y.trapped ≡ None → IsGoing task (state_of y) → y.now ≡ x.now + 1 → put_out (items_of y.facts.tasks) ≤ put_out (items_of x.facts.tasks) + 1 → items_of y.facts.intervals ≡ items_of x.facts.intervals →
+    OwnSoFar p requests task until from y (left - 1)
+own_next p requests task until from x y left f some lt c stands goes arrives gates none going next put intervals =
+    let same = ap length intervals in
+    record {
+      own = λ holds. own_more p holds from x y (f.own holds) f.begun (c holds) next;
+      stands = stands;
+      goes = goes;
+      arrives = λ t r. arrives t (f.arrives t r);
+      gates = gates ∙ f.gates;
+      trapped = none;
+      going = going;
+      begun = omega (arith, f.begun, next);
+      within = omega (arith, lt, next);
+      room = omega (arith, some, put, f.room);
+      intervals = omega (arith, same, f.intervals);
+    }
+
+-- ---- up to when
+
+no_gates : (h : Holder) → is_gates h ≡ false → h ≢ Gates
+no_gates Gates e g = absurd (cc)
+no_gates Nobody e g = cc
+no_gates First e g = cc
+no_gates Second e g = cc
+
+not_both : (x y z : Bool) → two_want x y z ≡ false → (x && y) ≡ false
+not_both true true z e = absurd (cc)
+not_both true false z e = refl
+not_both false y z e = refl
+
+not_new : (k : CoreWant) → is_new k ≡ false → k ≢ New
+not_new No e g = cc
+not_new New e g = absurd (cc)
+not_new Held e g = cc
+
+pub may_stretch : (requests : List Request) (s : PairState) (limit arrival : ℕ) → is_gates s.holder ≡ false → clashes s.holder s ≡ false → is_new (wanted s) ≡ false → stays_with s.holder s ≡ true →
+    IsNextArrival s.first.now limit requests arrival → MayStretch arrival requests s
+may_stretch requests s limit arrival gates clash new stays next =
+    record {
+      from = next.not_before;
+      arrivals = next.none;
+      token = stays;
+      gates = no_gates s.holder gates;
+      begins = not_new (wanted s) new;
+      one = not_both (wants (want_of s.first.core.debt)) (wants (want_of s.second.core.debt)) (is_gates s.holder) clash;
+    }
