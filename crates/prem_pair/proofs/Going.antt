@@ -1,5 +1,5 @@
 -- A run of two cores that goes on until it stops.
-use Rattle.std.specs.Prelude.{◌==◌, ◌||◌, ◌&&◌, is_some}
+use Rattle.std.specs.Prelude.{◌==◌, ◌||◌, ◌&&◌, is_some, if◌then◌else◌}
 use Rattle.std.specs.Bool.{then_some}
 use Rattle.std.proofs.Common.{◌≡◌, ℕ, ◌+◌, ◌*◌, ◌-◌, ◌<◌, ◌≤◌, Bool, true, false, cond, Option, Some, None, refl, ap, sym, ◌∙◌, arith, ◌⊎◌, inl, inr}
 use Rattle.std.proofs.lemmas.Bool.Decides.{nat_tests}
@@ -9,6 +9,7 @@ use Rattle.prem_cycle.specs.Cycle.{is_full, log_size}
 use Rattle.prem_pair.specs.declared.cycles.state.PairStop.{PairStop}
 use Rattle.prem_pair.specs.declared.cycles.state.PairStop.TheVariants.{Finished, LogFull, Limit}
 use Rattle.prem_pair.specs.Cycles.Pair.{PairState, both_finished, full_stop, is_pair_over, one_trapped, pair_cycle, pair_cycles, pair_step, pair_stop_of, trap_stop}
+use Rattle.prem_pair.specs.MayStretch.{cycles_taken}
 use Rattle.prem_pair.specs.States.{PairRunning, with_state}
 use Rattle.prem_pair.proofs.CyclesLemmas.PairRuns.{pair_cycles-add, pair_cycles-over}
 
@@ -200,3 +201,65 @@ pub passes_less : (limit at : ℕ) (s t : PairState) → s.first.now < at → at
 passes_less limit at s t lt most now =
     let a = going_most (is_pair_over t) in
     omega (arith, lt, most, now, a)
+
+-- cycles that are taken, one that traps too
+takes_by : (limit : ℕ) (from m : PairRunning) (s : PairState) (t : Bool) → one_trapped s ≡ t → GoesTo limit from m → m.state.first.now ≤ s.first.now → s.first.now ≤ limit → (t ≡ true → s.first.now < limit) →
+    s ≡ pair_cycles (rule_in m.first) (rule_in m.second) m.first m.second m.requests (s.first.now - m.state.first.now + (if t then 1 else 0)) m.state → GoesTo limit from (with_state m s)
+takes_by limit from m s false e g le most early is =
+    let z : s.first.now - m.state.first.now + 0 ≡ s.first.now - m.state.first.now = omega arith in
+    passes_to limit s.first.now from m s g le most (is ∙ ap (λ k. pair_cycles (rule_in m.first) (rule_in m.second) m.first m.second m.requests k m.state) z) refl
+takes_by limit from m s true e g le most early is =
+    let k = s.first.now - m.state.first.now + 1 in
+    let n = limit - m.state.first.now - k in
+    let lt : s.first.now < limit = early refl in
+    let over : is_pair_over s ≡ true = over_trapped (both_finished s) (one_trapped s) (is_full s.first || is_full s.second) e in
+    let here : s ≡ goes_from from k m.state =
+    is ∙ ap (λ p. pair_cycles (rule_in p) (rule_in m.second) p m.second m.requests k m.state) g.first
+    ∙ ap (λ q. pair_cycles (rule_in from.first) (rule_in q) from.first q m.requests k m.state) g.second
+    ∙ ap (λ r. pair_cycles (rule_in from.first) (rule_in from.second) from.first from.second r k m.state) g.requests in
+    let d : k + n ≡ limit - m.state.first.now = omega (arith, le, lt) in
+    record {
+      within = most;
+      first = g.first;
+      second = g.second;
+      requests = g.requests;
+      left = pair_cycles-over (rule_in from.first) (rule_in from.second) from.first from.second from.requests (limit - s.first.now) s over
+          ∙ sym (pair_cycles-over (rule_in from.first) (rule_in from.second) from.first from.second from.requests n s over)
+          ∙ ap (goes_from from n) here
+          ∙ sym (pair_cycles-add (rule_in from.first) (rule_in from.second) from.first from.second from.requests k n m.state)
+          ∙ ap (λ j. goes_from from j m.state) d ∙ g.left;
+    }
+
+pub takes_to : (limit : ℕ) (from m : PairRunning) (s : PairState) → GoesTo limit from m → m.state.first.now ≤ s.first.now → s.first.now ≤ limit → (one_trapped s ≡ true → s.first.now < limit) →
+    s ≡ pair_cycles (rule_in m.first) (rule_in m.second) m.first m.second m.requests (cycles_taken m.state s) m.state → GoesTo limit from (with_state m s)
+takes_to limit from m s g le most early is = takes_by limit from m s (one_trapped s) refl g le most early is
+
+takes_less_by : (limit : ℕ) (s t : PairState) (b : Bool) → one_trapped t ≡ b → is_pair_over s ≡ false → s.first.now ≤ t.first.now → t.first.now ≤ limit → 1 ≤ t.first.now - s.first.now + (if b then 1 else 0) →
+    cycles_left limit t < cycles_left limit s
+takes_less_by limit s t false e on le most some = passes_less limit t.first.now s t (omega (arith, some)) most refl
+takes_less_by limit s t true e on le most some =
+    let over : is_pair_over t ≡ true = over_trapped (both_finished t) (one_trapped t) (is_full t.first || is_full t.second) e in
+    let a = ap going over in
+    let b = ap going on in
+    omega (arith, le, most, a, b)
+
+pub takes_less : (limit : ℕ) (s t : PairState) → is_pair_over s ≡ false → s.first.now ≤ t.first.now → t.first.now ≤ limit → 1 ≤ cycles_taken s t → cycles_left limit t < cycles_left limit s
+takes_less limit s t on le most some = takes_less_by limit s t (one_trapped t) refl on le most some
+
+-- whether some are taken
+pub later_takes : (s t : PairState) → s.first.now < t.first.now → 1 ≤ cycles_taken s t
+later_takes s t lt = omega (arith, lt)
+
+trap_by : (b : Bool) (n : ℕ) → b ≡ true → 1 ≤ n + (if b then 1 else 0)
+trap_by true n e = omega arith
+trap_by false n e = absurd (cc)
+
+pub trap_takes : (s t : PairState) → one_trapped t ≡ true → 1 ≤ cycles_taken s t
+trap_takes s t e = trap_by (one_trapped t) (t.first.now - s.first.now) e
+
+none_by_test : (b : Bool) (n : ℕ) → b ≡ false → n ≡ 0 → n + (if b then 1 else 0) ≡ 0
+none_by_test true n e z = absurd (cc)
+none_by_test false n e z = omega (arith, z)
+
+pub takes_none : (s t : PairState) → one_trapped t ≡ false → t.first.now ≤ s.first.now → cycles_taken s t ≡ 0
+takes_none s t e le = none_by_test (one_trapped t) (t.first.now - s.first.now) e (omega (arith, le))

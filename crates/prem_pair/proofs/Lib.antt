@@ -4,6 +4,7 @@ pub mod Going
 pub mod Passes
 pub mod Owning
 pub mod Stretched
+pub mod Together
 pub mod Beginning
 pub mod CyclesLemmas
 pub mod LawsLemmas

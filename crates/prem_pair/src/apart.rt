@@ -12,9 +12,10 @@ ghost use Rattle.prem_machine.specs.Work.{setup_in};
 ghost use Rattle.prem_pair.specs.Cycles.Own.{IsGoing, OwnCycle, OwnRun};
 ghost use Rattle.prem_pair.specs.Sides.{Arrives, Goes};
 
-use crate::both::Both;
+use crate::both::{Both, tick};
 use crate::passing::{cycle_behind, next_arrival, pass_with, rest_with};
-use crate::token::{is_first, is_gates, is_second};
+use crate::side::act;
+use crate::token::{holder_after, is_first, is_gates, is_second};
 use prem_gate::{CoreWant, Request};
 use prem_isa::Change;
 use prem_lru::Policy;
@@ -174,14 +175,24 @@ fn run_own<P: Policy>(
 }
 
 impl<P: Policy, Q: Policy> Both<P, Q> {
-    ghost use Rattle.std.specs.Prelude.{◌≡◌, ◌+◌, ◌-◌, ◌<◌, ◌≤◌, ◌^◌, [], IfSome, false, length};
+    ghost use Rattle.std.specs.Prelude.{◌≡◌, ◌≢◌, ◌+◌, ◌-◌, ◌*◌, ◌<◌, ◌≤◌, ◌^◌, [], IfSome, None, false, true, length};
     ghost use Rattle.std.specs.List.Sorted.{IsNonDecreasingBy};
-    ghost use Rattle.prem_cycle.specs.State.{rule_in};
-    ghost use Rattle.prem_machine.specs.Parts.{IsSetting, state_of};
+    ghost use Rattle.prem_list.specs.Sequence.{items_of};
+    ghost use Rattle.prem_gate.specs.declared.bus.CoreWant.{CoreWant};
+    ghost use Rattle.prem_cycle.specs.State.{Setup, rule_in};
+    ghost use Rattle.prem_cycle.specs.Core.{want_of};
+    ghost use Rattle.prem_cycle.specs.Cycle.{is_full};
+    ghost use Rattle.prem_machine.specs.Issue.Near.{IsNear};
+    ghost use Rattle.prem_machine.specs.Log.{put_out};
+    ghost use Rattle.prem_machine.specs.Parts.{IsSetting, Stands, state_of};
     ghost use Rattle.prem_machine.specs.Work.{setup_in};
-    ghost use Rattle.prem_pair.specs.Cycles.Own.{IsGoing};
-    ghost use Rattle.prem_pair.specs.Cycles.Pair.{is_pair_over, one_trapped, pair_cycles};
-    ghost use Rattle.prem_pair.specs.MayStretch.{MayStretch};
+    ghost use Rattle.prem_pair.specs.declared.cycles.state.Holder.{Holder};
+    ghost use Rattle.prem_pair.specs.Cycles.Token.{is_first};
+    ghost use Rattle.prem_pair.specs.Cycles.Apart.{AreApart};
+    ghost use Rattle.prem_pair.specs.Cycles.Own.{IsGoing, OwnCycle};
+    ghost use Rattle.prem_pair.specs.Cycles.Pair.{PairState, is_pair_over, one_trapped, pair_cycle, pair_cycles};
+    ghost use Rattle.prem_pair.specs.MayStretch.{MayStretch, cycles_taken};
+    ghost use Rattle.prem_pair.specs.Sides.{Arrives, Goes};
     ghost use Rattle.prem_pair.specs.BothOf.{AreBoth, GoOn, pair_of};
 
     /// The cycle up to which neither core touches the other, at most the limit, where that is so now.
@@ -200,6 +211,13 @@ impl<P: Policy, Q: Policy> Both<P, Q> {
             return None;
         }
         Some(next_arrival(requests, self.first.arrived, limit))
+    }
+
+    /// Whether an instruction has trapped.
+    pub fn has_trapped(&self) -> bool
+        ensures { result ≡ one_trapped (pair_of self.now) }
+    {
+        self.first.trapped.is_some() || self.second.trapped.is_some()
     }
 
     /// Core 0 runs while core 1 rests.
@@ -268,7 +286,143 @@ impl<P: Policy, Q: Policy> Both<P, Q> {
         pass_with(first, requests, &mut self.first, holds, self.second.now);
     }
 
-    /// Instructions of one core that follow each other while the other rests, up to the limit; none where something else
+    /// Core 1 does the cycle that core 0 has done: where its instruction traps, core 0 hasn't counted it.
+    fn catch_up(&mut self, first: &Setting, second: &Setting, requests: &[Request])
+        requires two { IsSetting second.now [] }
+        requires stands { Stands first.now requests.now self.old.first }
+        requires other_stands { Stands second.now [] self.old.second }
+        requires goes { Goes (4 * self.old.first.now) self.old.first }
+        requires other_goes { Goes (4 * self.old.second.now) self.old.second }
+        requires arrives { Arrives self.old.first.now requests.now self.old.first }
+        requires free { self.old.first.gates.carried ≡ None }
+        requires gates { self.old.holder ≢ Holder.Gates }
+        requires wants { want_of (state_of self.old.second).core.debt ≡ CoreWant.No }
+        requires trapped { self.old.first.trapped ≡ None }
+        requires full { is_full (state_of self.old.second) ≡ false }
+        requires now { self.old.second.now < 2 ^ 61 }
+        requires next { self.old.first.now ≡ self.old.second.now + 1 }
+        ensures state { (p : Setup) (s : PairState) → s.second ≡ state_of self.old.second → s.holder ≡ self.old.holder → AreApart requests.now s
+            → OwnCycle (rule_in p) p (is_first s.holder) CoreWant.No s.first (state_of self.old.first)
+            → pair_of self.new ≡ pair_cycle (rule_in p) (rule_in (setup_in second.now)) p (setup_in second.now) requests.now s }
+        ensures stands { AreBoth first.now second.now requests.now self.new }
+        ensures goes { one_trapped (pair_of self.new) ≡ false → GoOn requests.now self.new }
+        ensures goes_on { one_trapped (pair_of self.new) ≡ false → self.new.first.now ≡ self.old.first.now }
+        ensures stops { one_trapped (pair_of self.new) ≡ true → self.new.first.now ≡ self.old.second.now }
+    {
+        let holder = self.holder;
+        act(second, &[], &mut self.second, is_second(holder), false);
+        if self.second.trapped.is_some() {
+            self.first.now -= 1;
+            return;
+        }
+        tick(second, &[], &mut self.second);
+        self.holder = holder_after(holder, &self.first.moment, &self.second.moment, false);
+    }
+
+    /// A cycle of both, where they run and this cycle hasn't come. It answers whether both go on so behind it.
+    fn both_step(
+        &mut self,
+        first: &Setting,
+        second: &Setting,
+        requests: &[Request],
+        task: TaskId,
+        other: TaskId,
+        near: &mut Near,
+        other_near: &mut Near,
+        until: u64,
+    ) -> bool
+        requires one { IsSetting first.now requests.now }
+        requires two { IsSetting second.now [] }
+        requires stands { AreBoth first.now second.now requests.now self.old }
+        requires goes { GoOn requests.now self.old }
+        requires over { is_pair_over (pair_of self.old) ≡ false }
+        requires may { MayStretch until requests.now (pair_of self.old) }
+        requires until { until ≤ 2 ^ 61 }
+        requires going { IsGoing task (state_of self.old.first) }
+        requires other_going { IsGoing other (state_of self.old.second) }
+        requires near { IsNear self.old.first.work.cache near.old.line }
+        requires other_near { IsNear self.old.second.work.cache other_near.old.line }
+        ensures state { pair_of self.new ≡ pair_cycles (rule_in (setup_in first.now)) (rule_in (setup_in second.now)) (setup_in first.now) (setup_in second.now) requests.now
+            (cycles_taken (pair_of self.old) (pair_of self.new)) (pair_of self.old) }
+        ensures stands { AreBoth first.now second.now requests.now self.new }
+        ensures goes { one_trapped (pair_of self.new) ≡ false → GoOn requests.now self.new }
+        ensures from { self.old.first.now ≤ self.new.first.now }
+        ensures within { self.new.first.now ≤ until }
+        ensures early { one_trapped (pair_of self.new) ≡ true → self.new.first.now < until }
+        ensures trapped { result ≡ true → one_trapped (pair_of self.new) ≡ false }
+        ensures may { result ≡ true → MayStretch until requests.now (pair_of self.new) }
+        ensures going { result ≡ true → IsGoing task (state_of self.new.first) }
+        ensures other_going { result ≡ true → IsGoing other (state_of self.new.second) }
+        ensures put { result ≡ true → put_out (items_of self.new.first.facts.tasks) ≤ put_out (items_of self.old.first.facts.tasks) + 1 }
+        ensures other_put { result ≡ true → put_out (items_of self.new.second.facts.tasks) ≤ put_out (items_of self.old.second.facts.tasks) + 1 }
+        ensures intervals { result ≡ true → items_of self.new.first.facts.intervals ≡ items_of self.old.first.facts.intervals }
+        ensures other_intervals { result ≡ true → items_of self.new.second.facts.intervals ≡ items_of self.old.second.facts.intervals }
+        ensures near { result ≡ true → IsNear self.new.first.work.cache near.new.line }
+        ensures other_near { result ≡ true → IsNear self.new.second.work.cache other_near.new.line }
+    {
+        if self.first.now >= until {
+            return false;
+        }
+        let Some(one) = own_cycle(first, requests, &mut self.first, task, near) else {
+            return false;
+        };
+        let Some(two) = own_cycle(second, &[], &mut self.second, other, other_near) else {
+            self.catch_up(first, second, requests);
+            return false;
+        };
+        one && two
+    }
+
+    /// Both run.
+    fn both_run(
+        &mut self,
+        first: &Setting,
+        second: &Setting,
+        requests: &[Request],
+        task: TaskId,
+        other: TaskId,
+        until: u64,
+    )
+        requires one { IsSetting first.now requests.now }
+        requires two { IsSetting second.now [] }
+        requires stands { AreBoth first.now second.now requests.now self.old }
+        requires goes { GoOn requests.now self.old }
+        requires over { is_pair_over (pair_of self.old) ≡ false }
+        requires may { MayStretch until requests.now (pair_of self.old) }
+        requires until { until ≤ 2 ^ 61 }
+        requires going { IsGoing task (state_of self.old.first) }
+        requires other_going { IsGoing other (state_of self.old.second) }
+        ensures state { pair_of self.new ≡ pair_cycles (rule_in (setup_in first.now)) (rule_in (setup_in second.now)) (setup_in first.now) (setup_in second.now) requests.now
+            (cycles_taken (pair_of self.old) (pair_of self.new)) (pair_of self.old) }
+        ensures stands { AreBoth first.now second.now requests.now self.new }
+        ensures goes { one_trapped (pair_of self.new) ≡ false → GoOn requests.now self.new }
+        ensures from { self.old.first.now ≤ self.new.first.now }
+        ensures within { self.new.first.now ≤ until }
+        ensures early { one_trapped (pair_of self.new) ≡ true → self.new.first.now < until }
+    {
+        let mut near = Near::none();
+        let mut other_near = Near::none();
+        let first_left = room_left(self.first.facts.tasks.items());
+        let second_left = room_left(self.second.facts.tasks.items());
+        let mut left = first_left.min(second_left);
+        'cycles: while left > 0 {
+            if !self.both_step(
+                first,
+                second,
+                requests,
+                task,
+                other,
+                &mut near,
+                &mut other_near,
+                until,
+            ) {
+                return;
+            }
+            left -= 1;
+        }
+    }
+
+    /// Instructions that follow each other while neither core touches the other, up to the limit; none where something else
     /// comes first.
     pub fn stretch(&mut self, first: &Setting, second: &Setting, requests: &[Request], limit: u64)
         requires one { IsSetting first.now requests.now }
@@ -279,12 +433,12 @@ impl<P: Policy, Q: Policy> Both<P, Q> {
         requires now { self.old.first.now < limit }
         requires limit { limit ≤ 2 ^ 61 }
         ensures state { pair_of self.new ≡ pair_cycles (rule_in (setup_in first.now)) (rule_in (setup_in second.now)) (setup_in first.now) (setup_in second.now) requests.now
-            (self.new.first.now - self.old.first.now) (pair_of self.old) }
+            (cycles_taken (pair_of self.old) (pair_of self.new)) (pair_of self.old) }
         ensures stands { AreBoth first.now second.now requests.now self.new }
-        ensures goes { GoOn requests.now self.new }
+        ensures goes { one_trapped (pair_of self.new) ≡ false → GoOn requests.now self.new }
         ensures from { self.old.first.now ≤ self.new.first.now }
         ensures within { self.new.first.now ≤ limit }
-        ensures trapped { one_trapped (pair_of self.new) ≡ false }
+        ensures early { one_trapped (pair_of self.new) ≡ true → self.new.first.now < limit }
     {
         let Some(until) = self.apart_until(requests, limit) else {
             return;
@@ -292,7 +446,10 @@ impl<P: Policy, Q: Policy> Both<P, Q> {
         match (going_task(&self.first), going_task(&self.second)) {
             (Some(task), None) => self.first_runs(first, second, requests, task, until),
             (None, Some(task)) => self.second_runs(first, second, requests, task, until),
-            _ => {}
+            (Some(task), Some(other)) => {
+                self.both_run(first, second, requests, task, other, until)
+            }
+            (None, None) => {}
         }
     }
 }

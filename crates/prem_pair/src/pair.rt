@@ -43,6 +43,7 @@ impl<P: Policy, Q: Policy> Pair<P, Q> {
     ghost use Rattle.prem_cycle.specs.State.{rule_in};
     ghost use Rattle.prem_pair.specs.Cycles.Pair.{is_pair_over, one_trapped, pair_cycle, pair_cycles, pair_run, pair_stop_of};
     ghost use Rattle.prem_pair.specs.Cycles.Rest.{PairRests};
+    ghost use Rattle.prem_pair.specs.MayStretch.{cycles_taken};
     ghost use Rattle.prem_pair.specs.States.{core_in, with_state};
 
     /// Both cores before the first cycle of a run. It fails only for want of memory, of which it takes all here that
@@ -120,7 +121,7 @@ impl<P: Policy, Q: Policy> Pair<P, Q> {
     }
 
     /// Goes on until the run stops or this cycle has come. Cycles in which both cores rest are passed over,
-    /// and instructions of one core that follow each other while the other rests are done at once.
+    /// and instructions that follow each other while neither core touches the other are done at once.
     ///
     /// It looks before each cycle whether all jobs of both cores have ended, then whether an instruction has trapped,
     /// then whether a log is full, then whether the cycle has come, and tells the first of these that is so. A run
@@ -175,16 +176,17 @@ impl<P: Policy, Q: Policy> Pair<P, Q> {
         requires limit { limit ≤ 2 ^ 61 }
         requires going { is_pair_over self.old.state ≡ false }
         ensures new { self.new ≡ with_state self.old (pair_cycles (rule_in self.old.first) (rule_in self.old.second) self.old.first self.old.second self.old.requests
-            (self.new.state.first.now - self.old.state.first.now) self.old.state) }
+            (cycles_taken self.old.state self.new.state) self.old.state) }
         ensures from { self.old.state.first.now ≤ self.new.state.first.now }
         ensures within { self.new.state.first.now ≤ limit }
-        ensures went { result ≡ true → self.old.state.first.now < self.new.state.first.now }
+        ensures early { one_trapped self.new.state ≡ true → self.new.state.first.now < limit }
+        ensures went { result ≡ true → 1 ≤ cycles_taken self.old.state self.new.state }
         ensures kept { result ≡ false → self.new ≡ self.old }
     {
         let before = self.now();
         self.both
             .stretch(&self.first, &self.second, &self.requests, limit);
-        self.now() > before
+        self.now() > before || self.both.has_trapped()
     }
 
     /// Passes over the cycles up to this one, in which both rest.

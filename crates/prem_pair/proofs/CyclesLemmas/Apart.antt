@@ -1,6 +1,6 @@
 -- Cycles in which two cores don't touch each other.
 use Rattle.std.specs.Prelude.{max, ◌&&◌, is_some}
-use Rattle.std.proofs.Common.{◌≡◌, ◌≢◌, ℕ, ◌+◌, ◌-◌, ◌≤◌, Bool, true, false, List, Option, Some, None, refl, ap, sym, ◌∙◌, subst, arith}
+use Rattle.std.proofs.Common.{◌≡◌, ◌≢◌, ℕ, ◌+◌, ◌-◌, ◌≤◌, Bool, true, false, cond, List, Option, Some, None, refl, ap, sym, ◌∙◌, subst, arith}
 use Rattle.std.proofs.lemmas.Bool.Decides.{nat_tests}
 use Rattle.prem_lru.specs.Entries.{ReplacementRule}
 use Rattle.prem_gate.specs.declared.request.Request.{Request}
@@ -9,15 +9,17 @@ use Rattle.prem_gate.specs.declared.bus.CoreWant.TheVariants.{No, New, Held}
 use Rattle.prem_gate.specs.Gates.{GatesState, is_held, wants, with_carried}
 use Rattle.prem_gate.specs.Stretch.{AreQuiet, OnlyGoesOn, bus_run, changes, fits_any, least_cost, transfer_left, with_transfer}
 use Rattle.prem_gate.proofs.Quiet.{next_held, next_none, quiet_turn}
-use Rattle.prem_cycle.specs.State.{Setup}
+use Rattle.prem_cycle.specs.State.{Setup, MachineState}
 use Rattle.prem_cycle.specs.Core.{want_of}
+use Rattle.prem_cycle.specs.Cycle.{with_now}
 use Rattle.prem_pair.specs.declared.cycles.state.Holder.{Holder}
 use Rattle.prem_pair.specs.declared.cycles.state.Holder.TheVariants.{Nobody, First, Second, Gates}
 use Rattle.prem_pair.specs.Cycles.Token.{asks, empty_window, holder_after, is_first, is_gates, is_second, some_wait, two_want}
-use Rattle.prem_pair.specs.Cycles.Pair.{PairState, clashes, pair_cycle}
+use Rattle.prem_pair.specs.Cycles.Pair.{PairState, both_ticked, clashes, ended_in_place, pair_cycle, second_done}
 use Rattle.prem_pair.specs.Cycles.Rest.{stays_with, wanted}
 use Rattle.prem_pair.specs.Cycles.Apart.{AreApart, own_cycle, own_part}
-use Rattle.prem_pair.proofs.CyclesLemmas.OneCycle.{IsCalm, SideGoes, calm_goes, turn_in}
+use Rattle.prem_pair.specs.Cycles.Own.{OwnCycle}
+use Rattle.prem_pair.proofs.CyclesLemmas.OneCycle.{IsCalm, SideGoes, calm_cycle, calm_goes, first_side, paired, side, turn_in}
 use Rattle.prem_pair.proofs.CyclesLemmas.Rests.{none_of}
 
 -- ---- the bus
@@ -78,6 +80,50 @@ module _ (requests : List Request) (s : PairState) (apart : AreApart requests s)
 
   no_clash : clashes s.holder s ≡ false
   no_clash = not_two (wants (want_of s.first.core.debt)) (wants (want_of s.second.core.debt)) (is_gates s.holder) (no_gates s.holder apart.gates) apart.one
+
+-- the cycle by its parts
+pub apart_cycle : (rule other : ReplacementRule) (p q : Setup) (requests : List Request) (s : PairState) → AreApart requests s → pair_cycle rule other p q requests s
+    ≡ cond (is_some (own_part rule p (is_first s.holder) s.first).trapped) (paired (own_part rule p (is_first s.holder) s.first) s.second s.holder)
+    (second_done s.holder (turn_in s) (own_part rule p (is_first s.holder) s.first) (own_part other q (is_second s.holder) s.second))
+apart_cycle rule other p q requests s apart =
+    let h = s.holder in
+    let had = is_first h && is_held (want_of s.first.core.debt) in
+    let g = own_part other q (is_second h) s.second in
+    let first : first_side rule p s ≡ own_part rule p (is_first h) s.first =
+    ap (λ c. side rule p (is_first h) had c (turn_in s).gates s.first) (no_clash requests s apart) ∙ ap (λ k. side rule p (is_first h) had false k s.first) (gates_stay requests s apart) in
+    calm_cycle rule other p q requests s (apart_calm requests s apart)
+    ∙ ap (λ (x : MachineState). cond (is_some x.trapped) (paired x s.second h) (second_done h (turn_in s) x g)) first
+
+-- where core 0 has done its cycle and core 1 does its own, core 1 traps or both go on
+pub catch_stops : (rule other : ReplacementRule) (p q : Setup) (requests : List Request) (s : PairState) (x : MachineState) → AreApart requests s → OwnCycle rule p (is_first s.holder) No s.first x →
+    is_some (own_part other q (is_second s.holder) s.second).trapped ≡ true →
+    pair_cycle rule other p q requests s ≡ paired (with_now x s.first.now) (own_part other q (is_second s.holder) s.second) s.holder
+catch_stops rule other p q requests s x apart own traps =
+    let h = s.holder in
+    let f = own_part rule p (is_first h) s.first in
+    let g = own_part other q (is_second h) s.second in
+    let all : PairState = both_ticked h (turn_in s) f g in
+    apart_cycle rule other p q requests s apart
+    ∙ ap (λ v. cond v (paired f s.second h) (second_done h (turn_in s) f g)) own.part
+    ∙ ap (λ v. cond v (paired (ended_in_place f) g h) all) traps
+    ∙ ap (λ (z : MachineState). paired (with_now z s.first.now) g h) own.next
+
+pub catch_goes : (rule other : ReplacementRule) (p q : Setup) (requests : List Request) (s : PairState) (x : MachineState) → AreApart requests s → OwnCycle rule p (is_first s.holder) No s.first x →
+    is_some (own_part other q (is_second s.holder) s.second).trapped ≡ false →
+    pair_cycle rule other p q requests s
+    ≡ paired x (own_cycle other q (is_second s.holder) s.second) (holder_after s.holder x.core (own_cycle other q (is_second s.holder) s.second).core false)
+catch_goes rule other p q requests s x apart own goes_on =
+    let h = s.holder in
+    let f = own_part rule p (is_first h) s.first in
+    let g = own_part other q (is_second h) s.second in
+    let y = own_cycle other q (is_second h) s.second in
+    let all : PairState = both_ticked h (turn_in s) f g in
+    let calm = apart_calm requests s apart in
+    apart_cycle rule other p q requests s apart
+    ∙ ap (λ v. cond v (paired f s.second h) (second_done h (turn_in s) f g)) own.part
+    ∙ ap (λ v. cond v (paired (ended_in_place f) g h) all) goes_on
+    ∙ ap (λ (z : MachineState). paired z y (holder_after h z.core y.core (is_some (turn_in s).turn.ended))) own.next
+    ∙ ap (λ o. paired x y (holder_after h x.core y.core (is_some o))) calm.turn.ended
 
 pub own_cycles : (rule other : ReplacementRule) (p q : Setup) (requests : List Request) (s : PairState) → AreApart requests s →
     is_some (own_part rule p (is_first s.holder) s.first).trapped ≡ false → is_some (own_part other q (is_second s.holder) s.second).trapped ≡ false →

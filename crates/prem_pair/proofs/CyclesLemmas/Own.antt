@@ -80,7 +80,7 @@ fewer_apart m n requests v w s le h =
 renot : (b : Bool) → b ≡ false → not b ≡ true
 renot b e = ap not e
 
-stays_later : (h : Holder) (n : ℕ) (s : PairState) (x y : MachineState) → OwnKept (is_first h) n s.first x → OwnKept (is_second h) n s.second y → stays_with h s ≡ true → stays_with h (paired x y h) ≡ true
+pub stays_later : (h : Holder) (n : ℕ) (s : PairState) (x y : MachineState) → OwnKept (is_first h) n s.first x → OwnKept (is_second h) n s.second y → stays_with h s ≡ true → stays_with h (paired x y h) ≡ true
 stays_later Nobody n s x y k l e =
     ap (λ v. not (v || asks y || some_wait x.gates.gates)) (k.asks_same refl)
     ∙ ap (λ v. not (asks s.first || v || some_wait x.gates.gates)) (l.asks_same refl)
@@ -89,7 +89,7 @@ stays_later First n s x y k l e = renot (frees x.core) (k.keeps refl (unnot (fre
 stays_later Second n s x y k l e = renot (frees y.core) (l.keeps refl (unnot (frees s.second.core) e))
 stays_later Gates n s x y k l e = refl
 
-holder_same : (h : Holder) (x y : MachineState) → (is_first h ≡ true → frees x.core ≡ false) → (is_second h ≡ true → frees y.core ≡ false) → h ≢ Gates → holder_after h x.core y.core false ≡ h
+pub holder_same : (h : Holder) (x y : MachineState) → (is_first h ≡ true → frees x.core ≡ false) → (is_second h ≡ true → frees y.core ≡ false) → h ≢ Gates → holder_after h x.core y.core false ≡ h
 holder_same Nobody x y f g ne = refl
 holder_same First x y f g ne = ap (λ b. cond b Nobody First) (f refl)
 holder_same Second x y f g ne = ap (λ b. cond b Nobody Second) (g refl)
@@ -99,6 +99,20 @@ goes_by : (fin full full' : Bool) (t u : Option Trap) → fin ≡ false → t �
 goes_by fin full full' t u a b c d e =
     ap (λ v. v || (is_some t || is_some u) || (full || full')) a ∙ ap (λ v. false || (is_some v || is_some u) || (full || full')) b
     ∙ ap (λ v. false || (false || is_some v) || (full || full')) c ∙ ap (λ v. false || (false || false) || (v || full')) d ∙ e
+
+pub still_apart : (n : ℕ) (requests : List Request) (v w : CoreWant) (s : PairState) (t u : MachineState) → MayRunApart (suc n) requests v w s → OwnKept (is_first s.holder) n s.first t → OwnKept (is_second s.holder) n s.second u →
+    want_of t.core.debt ≡ v → want_of u.core.debt ≡ w → AreApart requests (paired t u s.holder)
+still_apart n requests v w s t u may k l first second =
+    let h = s.holder in
+    let want : wanted (paired t u h) ≡ want_with h v w = ap (λ z. want_with h z (want_of u.core.debt)) first ∙ ap (want_with h v) second in
+    record {
+      arrivals = λ i r lt is. may.arrivals i r lt n (omega arith) (is ∙ k.time);
+      token = stays_later h n s t u k l may.token;
+      gates = may.gates;
+      free = ap (λ g. g.carried) k.gates ∙ may.free;
+      begins = λ is. may.begins (sym want ∙ is);
+      one = ap (λ z. wants z && wants (want_of u.core.debt)) first ∙ ap (λ z. wants v && wants z) second ∙ may.one;
+    }
 
 pub own_runs : (rule other : ReplacementRule) (p q : Setup) (requests : List Request) (n : ℕ) (s : PairState) (v w : CoreWant) (x y : MachineState) → MayRunApart n requests v w s →
     OwnRun rule p (is_first s.holder) v s.first n x → OwnRun other q (is_second s.holder) w s.second n y → pair_cycles rule other p q requests n s ≡ paired x y s.holder
@@ -110,20 +124,9 @@ own_runs rule other p q requests (suc n) s v w x y may (one_more _ t _ run c) (o
     let l = own_kept other q (is_second h) w s.second n u other_run in
     let here : PairState = paired t u h in
     let before = own_runs rule other p q requests n s v w t u (fewer_apart n (suc n) requests v w s (omega arith) may) run other_run in
-    let want : wanted here ≡ want_with h v w = ap (λ z. want_with h z (want_of u.core.debt)) c.wants_it ∙ ap (want_with h v) d.wants_it in
-    let one : (wants (want_of t.core.debt) && wants (want_of u.core.debt)) ≡ false =
-    ap (λ z. wants z && wants (want_of u.core.debt)) c.wants_it ∙ ap (λ z. wants v && wants z) d.wants_it ∙ may.one in
     let fin : both_finished here ≡ false = ap (λ z. z && is_finished u) k.finished ∙ ap (λ z. is_finished s.first && z) l.finished ∙ may.unfinished in
     let on : is_pair_over here ≡ false = goes_by (both_finished here) (is_full t) (is_full u) t.trapped u.trapped fin c.going d.going c.room d.room in
-    let apart : AreApart requests here =
-    record {
-      arrivals = λ i r lt is. may.arrivals i r lt n (omega arith) (is ∙ k.time);
-      token = stays_later h n s t u k l may.token;
-      gates = may.gates;
-      free = ap (λ g. g.carried) k.gates ∙ may.free;
-      begins = λ is. may.begins (sym want ∙ is);
-      one = one;
-    } in
+    let apart = still_apart n requests v w s t u may k l c.wants_it d.wants_it in
     let stays : holder_after h (own_cycle rule p (is_first h) t).core (own_cycle other q (is_second h) u).core false ≡ h =
     ap (λ (z : MachineState). holder_after h z.core (own_cycle other q (is_second h) u).core false) c.next ∙ ap (λ (z : MachineState). holder_after h x.core z.core false) d.next
     ∙ holder_same h x y c.keeps d.keeps may.gates in

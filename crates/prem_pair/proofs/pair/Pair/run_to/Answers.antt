@@ -1,7 +1,7 @@
-use Rattle.std.proofs.Common.{◌≡◌, ◌<◌, None, refl, ap, sym, ◌∙◌, subst}
+use Rattle.std.proofs.Common.{◌≡◌, ◌<◌, None, ap, sym, ◌∙◌, subst}
 use Rattle.prem_pair.specs.Cycles.Pair.{pair_stop_of}
 use Rattle.prem_pair.specs.States.{PairRunning, with_state}
-use Rattle.prem_pair.proofs.Going.{GoesTo, cycles_left, goes_on, goes_to, ends_at, passes_to, smaller}
+use Rattle.prem_pair.proofs.Going.{GoesTo, cycles_left, goes_on, goes_to, ends_at, passes_to, smaller, takes_less, takes_to}
 use Rattle.prem_pair.proofs.pair.Pair.run_to.Goals as goal
 
 pub cycles-preserved : goal.cycles-preserved
@@ -34,7 +34,7 @@ cycles-preserved-then-stretch g c =
     let is = ap (λ (m : PairRunning). m.state) e.new in
     let same : with_state old new.state ≡ new = ap (with_state old) is ∙ sym e.new in
     let P : PairRunning → Type 0 = λ m. GoesTo c.args.limit c.args.self.now m in
-    subst P same (passes_to c.args.limit new.state.first.now c.args.self.now old new.state c.cycles.invariant e.from e.within is refl)
+    subst P same (takes_to c.args.limit c.args.self.now old new.state c.cycles.invariant e.from e.within e.early is)
 
 pub cycles-preserved-then-at-now : goal.cycles-preserved-then-at-now
 cycles-preserved-then-at-now g c =
@@ -55,3 +55,8 @@ pass_to-requires-clause-going g c = (goes_on c.args.limit c.cycles.self.state (s
 
 pub stretch-requires-clause-going : goal.stretch-requires-clause-going
 stretch-requires-clause-going g c = (goes_on c.args.limit c.cycles.self.state (sym c.stop.ensures ∙ c.in_default.is)).0
+
+pub cycles-smaller-then-stretch : goal.cycles-smaller-then-stretch
+cycles-smaller-then-stretch g c =
+    let e = c.stretch.ensures in
+    takes_less c.args.limit c.cycles.self.state c.stretch.new.self.state (goes_on c.args.limit c.cycles.self.state (sym c.stop.ensures ∙ c.in_default.is)).0 e.from e.within (e.went c.if-stretch.true)
