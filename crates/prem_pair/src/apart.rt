@@ -45,6 +45,7 @@ fn is_new(want: CoreWant) -> bool
 
 /// The next instruction of a task that owes nothing, where it goes on in its interval: it issues in a cycle of its own. It
 /// answers whether the task goes on so behind it. Of any other instruction nothing changes.
+#[inline(always)]
 fn issue_own<P: Policy>(
     setting: &Setting,
     requests: &[Request],
@@ -97,6 +98,7 @@ fn issue_own<P: Policy>(
 
 /// A cycle of its own of a core that runs: it pays one of its cost, or its next instruction issues and goes on in its interval.
 /// It answers whether the task goes on so behind it. Where neither can be, nothing changes.
+#[inline(always)]
 fn own_cycle<P: Policy>(
     setting: &Setting,
     requests: &[Request],
@@ -136,6 +138,7 @@ fn own_cycle<P: Policy>(
 }
 
 /// Cycles of its own of a core that runs, up to this one at most.
+#[inline(never)]
 fn run_own<P: Policy>(
     setting: &Setting,
     requests: &[Request],
@@ -287,6 +290,7 @@ impl<P: Policy, Q: Policy> Both<P, Q> {
     }
 
     /// Core 1 does the cycle that core 0 has done: where its instruction traps, core 0 hasn't counted it.
+    #[inline(never)]
     fn catch_up(&mut self, first: &Setting, second: &Setting, requests: &[Request])
         requires two { IsSetting second.now [] }
         requires stands { Stands first.now requests.now self.old.first }
@@ -320,6 +324,7 @@ impl<P: Policy, Q: Policy> Both<P, Q> {
     }
 
     /// A cycle of both, where they run and this cycle hasn't come. It answers whether both go on so behind it.
+    #[inline(always)]
     fn both_step(
         &mut self,
         first: &Setting,
@@ -374,6 +379,7 @@ impl<P: Policy, Q: Policy> Both<P, Q> {
     }
 
     /// Both run.
+    #[inline(never)]
     fn both_run(
         &mut self,
         first: &Setting,

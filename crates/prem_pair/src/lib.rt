@@ -1,4 +1,4 @@
-//! Two cores on one bus: a run of two images that goes by the cycles that the definitions give, and passes over dull ones.
+//! Two cores on one bus: a run of two images by the cycles that the definitions give, of which many are taken at once.
 //!
 //! - `cycles`: two cores with a cache and a memory each, the devices of the first, and the one bus that goes by a
 //!   token.
