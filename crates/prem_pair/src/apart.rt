@@ -45,7 +45,7 @@ fn is_new(want: CoreWant) -> bool
 
 /// The next instruction of a task that owes nothing, where it goes on in its interval: it issues in a cycle of its own. It
 /// answers whether the task goes on so behind it. Of any other instruction nothing changes.
-#[inline(always)]
+#[inline(never)]
 fn issue_own<P: Policy>(
     setting: &Setting,
     requests: &[Request],
