@@ -29,7 +29,7 @@ record Few (p : ProgramText) : Type 0 where
   pub functions : length (functions_of p) ≤ 256
   pub globals : length (globals_of p) ≤ 256
 
-at_most : (n : ℕ) → nat_lt 256 n ≡ false → n ≤ 256
+pub at_most : (n : ℕ) → nat_lt 256 n ≡ false → n ≤ 256
 at_most n is = grind (arith, nat_tests)
 
 few : (p : ProgramText) → IsWellFormed p → Few p

@@ -17,7 +17,7 @@ first_some : (a b : Bool) → (a && b) ≡ true → a ≡ true
 first_some true b e = refl
 first_some false b e = absurd (cc)
 
-rest_some : (a b : Bool) → (a && b) ≡ true → b ≡ true
+pub rest_some : (a b : Bool) → (a && b) ≡ true → b ≡ true
 rest_some true b e = e
 rest_some false b e = absurd (cc)
 

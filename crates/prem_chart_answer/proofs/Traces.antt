@@ -16,6 +16,7 @@ use Rattle.prem_cycle.specs.Run.{cycles_of}
 use Rattle.prem_cycle.proofs.RunLaws.{cycles_of-add, cycles_of-over}
 use Rattle.prem_machine.specs.States.{Running, requests_in, setup_in, state_of}
 use Rattle.prem_chart.specs.declared.note.Note.{Note}
+use Rattle.prem_chart.proofs.Steps.{rest_some}
 use Rattle.prem_chart_answer.specs.Notes.{goes_on, noted, notes_of}
 use Rattle.prem_chart_answer.proofs.Noted.{AtLimit, at_limit, limit_is, notes_of-add, notes_of-over}
 
@@ -63,13 +64,9 @@ first_traced image input limit stop m m' setup requests state goes setup' reques
 
 -- ---- a turn
 
-both_true : (a b : Bool) → (a && b) ≡ true → b ≡ true
-both_true true b e = e
-both_true false b e = absurd (cc)
-
 -- where there is another turn the run goes on
 pub turn_goes : (at limit : ℕ) (stop : Stop) (has : Bool) → has ≡ (nat_lt at limit && goes_on stop) → has ≡ true → goes_on stop ≡ true
-turn_goes at limit stop has is there = both_true (nat_lt at limit) (goes_on stop) (sym is ∙ there)
+turn_goes at limit stop has is there = rest_some (nat_lt at limit) (goes_on stop) (sym is ∙ there)
 
 module _ (image : Image) (input : RunInput) (limit at : ℕ) (stop : Stop) (m : Running) (notes : List Note) (t : IsTraced image input limit at stop m notes) where
   -- the run has come to its limit of this turn, and goes on

@@ -50,12 +50,12 @@ splits_before line all old new (Some p) r s = splits_old line all old new (range
 
 -- ---- one part more
 
-get_left : (places : List Extent) (pl : Extent) (k : ℕ) → k < length places → slice_get (places ++ pl ∷ []) k ≡ slice_get places k
+pub get_left : (places : List Extent) (pl : Extent) (k : ℕ) → k < length places → slice_get (places ++ pl ∷ []) k ≡ slice_get places k
 get_left [] pl k lt = absurd (omega (arith, lt))
 get_left (q ∷ qs) pl zero lt = refl
 get_left (q ∷ qs) pl (suc k) lt = get_left qs pl k (omega (arith, lt))
 
-get_last : (places : List Extent) (pl : Extent) → slice_get (places ++ pl ∷ []) (length places) ≡ Some pl
+pub get_last : (places : List Extent) (pl : Extent) → slice_get (places ++ pl ∷ []) (length places) ≡ Some pl
 get_last [] pl = refl
 get_last (q ∷ qs) pl = get_last qs pl
 
@@ -64,7 +64,7 @@ get_past [] k le = refl
 get_past (q ∷ qs) zero le = absurd (omega (arith, le))
 get_past (q ∷ qs) (suc k) le = get_past qs k (omega (arith, le))
 
-get_beyond : (places : List Extent) (pl : Extent) (k : ℕ) → length places < k → slice_get (places ++ pl ∷ []) k ≡ None
+pub get_beyond : (places : List Extent) (pl : Extent) (k : ℕ) → length places < k → slice_get (places ++ pl ∷ []) k ≡ None
 get_beyond [] pl zero lt = absurd (omega (arith, lt))
 get_beyond [] pl (suc k) lt = refl
 get_beyond (q ∷ qs) pl zero lt = absurd (omega (arith, lt))

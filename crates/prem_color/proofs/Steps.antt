@@ -12,7 +12,7 @@ use Rattle.prem_plant.specs.Apart.{rise_from}
 use Rattle.prem_color.specs.Offsets.{PartRange, range_before, placed_ranges, all_have_room, moved_place, fits_behind, least_from, offset_of, moved_by, moved_from}
 use Rattle.prem_color.specs.Rooms.{Room, no_lines, with_ranges, ranges_of_part, ranges_at, all_fit, rooms_after, IsRoom, AreRooms, LiesIn, no_part}
 use Rattle.prem_color.specs.Placing.{EndsBy, AllEndBy}
-use Rattle.prem_color.proofs.Bridge.{StartsFrom, part_splits, Bridged, bridge}
+use Rattle.prem_color.proofs.Bridge.{StartsFrom, part_splits, Bridged, bridge, get_beyond, get_left, get_last}
 
 -- ---- ranges of a part start behind the places so far
 
@@ -61,21 +61,6 @@ module _ (p : Plant) (some : 1 ≤ p.sets) (most : p.sets ≤ 1024) (pos : 0 < p
 ends_more : (a b : ℕ) (ranges : List Extent) → a ≤ b → AllByRecursion (EndsBy a) ranges → AllByRecursion (EndsBy b) ranges
 ends_more a b [] le h = tt
 ends_more a b (r ∷ rs) le h = let e = h.0 in ((e.0, (let x = e.1 in omega (arith, x, le))), ends_more a b rs le h.1)
-
-get_left : (places : List Extent) (pl : Extent) (k : ℕ) → k < length places → slice_get (places ++ pl ∷ []) k ≡ slice_get places k
-get_left [] pl k lt = absurd (omega (arith, lt))
-get_left (q ∷ qs) pl zero lt = refl
-get_left (q ∷ qs) pl (suc k) lt = get_left qs pl k (omega (arith, lt))
-
-get_last : (places : List Extent) (pl : Extent) → slice_get (places ++ pl ∷ []) (length places) ≡ Some pl
-get_last [] pl = refl
-get_last (q ∷ qs) pl = get_last qs pl
-
-get_beyond : (places : List Extent) (pl : Extent) (k : ℕ) → length places < k → slice_get (places ++ pl ∷ []) k ≡ None
-get_beyond [] pl zero lt = absurd (omega (arith, lt))
-get_beyond [] pl (suc k) lt = refl
-get_beyond (q ∷ qs) pl zero lt = absurd (omega (arith, lt))
-get_beyond (q ∷ qs) pl (suc k) lt = get_beyond qs pl k (omega (arith, lt))
 
 before_head : (b : ℕ) (o : Option Extent) (r : PartRange) (rest : List Extent) → AllByRecursion (EndsBy b) (range_before o r rest) → AllByRecursion (EndsBy b) rest
 before_head b None r rest h = h

@@ -1,4 +1,4 @@
--- The ranges of wants at places are those of the plans, so where all wants have room no task has a conflict.
+-- The ranges of wants place_in places are those of the plans, so where all wants have room no task has a conflict.
 use Rattle.std.specs.Prelude.{is_none, slice_index_or}
 use Rattle.std.specs.List.{AllByRecursion, list_all}
 use Rattle.std.proofs.Common.{◌≡◌, ℕ, zero, suc, ◌+◌, ◌-◌, ◌*◌, ◌<◌, ◌≤◌, Bool, true, false, ◌&&◌, List, [], ◌∷◌, ◌++◌, Option, None, Some, refl, ap, ap₂, sym, ◌∙◌, subst, arith, length, map, take, drop, slice_get}
@@ -11,9 +11,10 @@ use Rattle.prem_plant.specs.Places.{Extent, ArePlaces}
 use Rattle.prem_syntax.specs.Resolved.{Resolved}
 use Rattle.prem_layout.specs.Plans.{Region, Plan, plans_of}
 use Rattle.prem_layout.specs.Parts.{element_size, part, part_count}
-use Rattle.prem_layout.specs.Footprint.{TaskPlaces, Conflict, no_place, place_at, index_of, code_range, stub_range, stack_place, stack_range, region_range, ranges_of, lines_of, conflict_of}
+use Rattle.prem_layout.specs.Footprint.{TaskPlaces, Conflict, place_at, index_of, code_range, stub_range, stack_place, stack_range, region_range, ranges_of, lines_of, conflict_of}
 use Rattle.prem_layout.specs.Placed.{Coded, task_places, placed_at, placed_from, part_total, name_at}
 use Rattle.prem_layout.specs.Rules.{or_else, of_conflict, conflict_in, first_conflict, group_seven}
+use Rattle.prem_layout.proofs.TaskParts.{place_in}
 use Rattle.prem_color.specs.Offsets.{PartRange, range_in, range_before, placed_ranges, has_room, all_have_room}
 use Rattle.prem_color.specs.Wants.{Want, Shape, shape_of, size_at, whole, code_number, stub_number, global_number, stack_number, stack_want, element_at, region_want, plan_ranges, plan_want, task_wants, wants_from}
 use Rattle.prem_color.specs.Standing.{RegionStands, PlanStands, TasksStand}
@@ -21,30 +22,27 @@ use Rattle.prem_color.specs.Laws.{WantsLeaveNoConflict}
 
 -- ---- places by number
 
-abbrev at : List Extent → ℕ → Extent
-at places n = slice_index_or places n no_place
-
-get_at : (places : List Extent) (n : ℕ) → n < length places → slice_get places n ≡ Some (at places n)
+get_at : (places : List Extent) (n : ℕ) → n < length places → slice_get places n ≡ Some (place_in places n)
 get_at [] n lt = absurd (omega (arith, lt))
 get_at (q ∷ qs) zero lt = refl
 get_at (q ∷ qs) (suc n) lt = get_at qs n (omega (arith, lt))
 
-taken_at : (count n : ℕ) (places : List Extent) → n < count → at (take count places) n ≡ at places n
+taken_at : (count n : ℕ) (places : List Extent) → n < count → place_in (take count places) n ≡ place_in places n
 taken_at zero n places lt = absurd (omega (arith, lt))
 taken_at (suc count) n [] lt = refl
 taken_at (suc count) zero (q ∷ qs) lt = refl
 taken_at (suc count) (suc n) (q ∷ qs) lt = taken_at count n qs (omega (arith, lt))
 
-dropped_at : (first n : ℕ) (places : List Extent) → at (drop first places) n ≡ at places (first + n)
-dropped_at zero n places = let z : zero + n ≡ n = omega arith in ap (at places) (sym z)
+dropped_at : (first n : ℕ) (places : List Extent) → place_in (drop first places) n ≡ place_in places (first + n)
+dropped_at zero n places = let z : zero + n ≡ n = omega arith in ap (place_in places) (sym z)
 dropped_at (suc first) n [] = refl
-dropped_at (suc first) n (q ∷ qs) = dropped_at first n qs ∙ (let z : suc first + n ≡ suc (first + n) = omega arith in ap (at (q ∷ qs)) (sym z))
+dropped_at (suc first) n (q ∷ qs) = dropped_at first n qs ∙ (let z : suc first + n ≡ suc (first + n) = omega arith in ap (place_in (q ∷ qs)) (sym z))
 
 -- each place has the size of its part
 abbrev HaveSizes : List PartSize → List Extent → Type 0
-HaveSizes parts places = (n : ℕ) → n < length places → (at places n).1 ≡ (at places n).0 + size_at parts n
+HaveSizes parts places = (n : ℕ) → n < length places → (place_in places n).1 ≡ (place_in places n).0 + size_at parts n
 
-placed_head : (places : List Extent) (r : PartRange) (rs : List PartRange) → r.0 < length places → placed_ranges places (r ∷ rs) ≡ range_in (at places r.0) r ∷ placed_ranges places rs
+placed_head : (places : List Extent) (r : PartRange) (rs : List PartRange) → r.0 < length places → placed_ranges places (r ∷ rs) ≡ range_in (place_in places r.0) r ∷ placed_ranges places rs
 placed_head places r rs lt = ap (λ o. range_before o r (placed_ranges places rs)) (get_at places r.0 lt)
 
 cons_same : (x y : Extent) (xs ys : List Extent) → x ≡ y → xs ≡ ys → x ∷ xs ≡ y ∷ ys
@@ -53,10 +51,10 @@ cons_same x y xs ys e f = ap₂ (λ (a : Extent) (others : List Extent). a ∷ o
 pair_same : (a b c d : ℕ) → a ≡ c → b ≡ d → ◌≡◌ {A = Extent} (a, b) (c, d)
 pair_same a b c d e f = λ i. (e i, f i)
 
-whole_is : (parts : List PartSize) (places : List Extent) (n : ℕ) → HaveSizes parts places → n < length places → range_in (at places n) (whole parts n) ≡ at places n
+whole_is : (parts : List PartSize) (places : List Extent) (n : ℕ) → HaveSizes parts places → n < length places → range_in (place_in places n) (whole parts n) ≡ place_in places n
 whole_is parts places n sizes lt =
-    let z : (at places n).0 + 0 ≡ (at places n).0 = omega arith in
-    pair_same ((at places n).0 + 0) ((at places n).0 + size_at parts n) (at places n).0 (at places n).1 z (sym (sizes n lt))
+    let z : (place_in places n).0 + 0 ≡ (place_in places n).0 = omega arith in
+    pair_same ((place_in places n).0 + 0) ((place_in places n).0 + size_at parts n) (place_in places n).0 (place_in places n).1 z (sym (sizes n lt))
 
 -- ---- one plan
 
@@ -67,7 +65,7 @@ module _ (parts : List PartSize) (places : List Extent) (q : Resolved) (first : 
   abbrev s : Shape
   s = shape_of q
 
-  part_is : (k : ℕ) → k < part_count q → place_at t k ≡ at places (first + k)
+  part_is : (k : ℕ) → k < part_count q → place_at t k ≡ place_in places (first + k)
   part_is k lt = taken_at (part_count q) k (drop first places) lt ∙ dropped_at first k places
 
   marked_long : length s.marked ≡ length (plans_of q)
@@ -84,7 +82,7 @@ module _ (parts : List PartSize) (places : List Extent) (q : Resolved) (first : 
       let small : 1 + f < part_count q = omega (arith, lt) in
       let inside : code_number first f < length places = omega (arith, small, there) in
       placed_head places (whole parts (code_number first f)) (map (λ g. whole parts (code_number first g)) fs ++ rest) inside
-      ∙ cons_same (range_in (at places (code_number first f)) (whole parts (code_number first f))) (code_range t f) (placed_ranges places (map (λ g. whole parts (code_number first g)) fs ++ rest)) (map (code_range t) fs ++ more)
+      ∙ cons_same (range_in (place_in places (code_number first f)) (whole parts (code_number first f))) (code_range t f) (placed_ranges places (map (λ g. whole parts (code_number first g)) fs ++ rest)) (map (code_range t) fs ++ more)
       (whole_is parts places (code_number first f) sizes inside ∙ sym (part_is (1 + f) small)) (codes_are fs rest more h.1 e)
 
   regions_are : (rs : List Region) → AllByRecursion (RegionStands parts s first) rs → placed_ranges places (map (region_want s first) rs) ≡ map (region_range t) rs
@@ -96,24 +94,24 @@ module _ (parts : List PartSize) (places : List Extent) (q : Resolved) (first : 
       let small : 1 + s.functions + length s.marked + r.0 < part_count q = omega (arith, lt, marked, elements) in
       let inside : global_number s first r.0 < length places = omega (arith, small, there) in
       placed_head places (region_want s first r) (map (region_want s first) rs) inside
-      ∙ cons_same (range_in (at places (global_number s first r.0)) (region_want s first r)) (region_range t r) (placed_ranges places (map (region_want s first) rs)) (map (region_range t) rs)
+      ∙ cons_same (range_in (place_in places (global_number s first r.0)) (region_want s first r)) (region_range t r) (placed_ranges places (map (region_want s first) rs)) (map (region_range t) rs)
       (ap (λ (g : Extent). (g.0 + r.1 * element_at s r.0, g.0 + (r.2 + 1) * element_at s r.0)) (sym (part_is (1 + s.functions + length s.marked + r.0) small))) (regions_are rs h.1)
 
   stack_small : 1 + s.functions + length s.marked + length s.elements < part_count q
   stack_small = let marked = marked_long in let elements = elements_long in omega (arith, marked, elements)
 
-  stack_is : stack_place t ≡ at places (stack_number s first)
+  stack_is : stack_place t ≡ place_in places (stack_number s first)
   stack_is = part_is (1 + s.functions + length s.marked + length s.elements) stack_small
 
-  stack_range_is : (plan : Plan) → plan.base + plan.depth ≤ size_at parts (stack_number s first) → range_in (at places (stack_number s first)) (stack_want parts (stack_number s first) plan) ≡ stack_range t plan
+  stack_range_is : (plan : Plan) → plan.base + plan.depth ≤ size_at parts (stack_number s first) → range_in (place_in places (stack_number s first)) (stack_want parts (stack_number s first) plan) ≡ stack_range t plan
   stack_range_is plan le =
       let n : ℕ = stack_number s first in
       let small = stack_small in
       let inside : n < length places = omega (arith, small, there) in
-      let size : (at places n).1 ≡ (at places n).0 + size_at parts n = sizes n inside in
-      let low : (at places n).0 + (size_at parts n - plan.base - plan.depth) ≡ (at places n).1 - plan.base - plan.depth = omega (arith, size, le) in
-      let high : (at places n).0 + (size_at parts n - plan.base) ≡ (at places n).1 - plan.base = omega (arith, size, le) in
-      pair_same ((at places n).0 + (size_at parts n - plan.base - plan.depth)) ((at places n).0 + (size_at parts n - plan.base)) ((at places n).1 - plan.base - plan.depth) ((at places n).1 - plan.base) low high
+      let size : (place_in places n).1 ≡ (place_in places n).0 + size_at parts n = sizes n inside in
+      let low : (place_in places n).0 + (size_at parts n - plan.base - plan.depth) ≡ (place_in places n).1 - plan.base - plan.depth = omega (arith, size, le) in
+      let high : (place_in places n).0 + (size_at parts n - plan.base) ≡ (place_in places n).1 - plan.base = omega (arith, size, le) in
+      pair_same ((place_in places n).0 + (size_at parts n - plan.base - plan.depth)) ((place_in places n).0 + (size_at parts n - plan.base)) ((place_in places n).1 - plan.base - plan.depth) ((place_in places n).1 - plan.base) low high
       ∙ ap (λ (e : Extent). (e.1 - plan.base - plan.depth, e.1 - plan.base)) (sym stack_is)
 
   pub plan_is : (plan : Plan) → PlanStands parts s first plan → placed_ranges places (plan_ranges parts s first plan) ≡ ranges_of t plan
@@ -127,10 +125,10 @@ module _ (parts : List PartSize) (places : List Extent) (q : Resolved) (first : 
       let stack_inside : stack_number s first < length places = omega (arith, last, there) in
       let behind : placed_ranges places (stack_want parts (stack_number s first) plan ∷ map (region_want s first) plan.regions) ≡ stack_range t plan ∷ map (region_range t) plan.regions =
       placed_head places (stack_want parts (stack_number s first) plan) (map (region_want s first) plan.regions) stack_inside
-      ∙ cons_same (range_in (at places (stack_number s first)) (stack_want parts (stack_number s first) plan)) (stack_range t plan) (placed_ranges places (map (region_want s first) plan.regions)) (map (region_range t) plan.regions)
+      ∙ cons_same (range_in (place_in places (stack_number s first)) (stack_want parts (stack_number s first) plan)) (stack_range t plan) (placed_ranges places (map (region_want s first) plan.regions)) (map (region_range t) plan.regions)
       (stack_range_is plan h.stack) (regions_are plan.regions h.regions) in
       placed_head places (whole parts (stub_number s first plan.function)) (map (λ f. whole parts (code_number first f)) plan.reach ++ (stack_want parts (stack_number s first) plan ∷ map (region_want s first) plan.regions)) inside
-      ∙ cons_same (range_in (at places (stub_number s first plan.function)) (whole parts (stub_number s first plan.function))) (stub_range t plan.function)
+      ∙ cons_same (range_in (place_in places (stub_number s first plan.function)) (whole parts (stub_number s first plan.function))) (stub_range t plan.function)
       (placed_ranges places (map (λ f. whole parts (code_number first f)) plan.reach ++ (stack_want parts (stack_number s first) plan ∷ map (region_want s first) plan.regions))) (map (code_range t) plan.reach ++ (stack_range t plan ∷ map (region_range t) plan.regions))
       (whole_is parts places (stub_number s first plan.function) sizes inside ∙ sym (part_is (1 + s.functions + k) small))
       (codes_are plan.reach (stack_want parts (stack_number s first) plan ∷ map (region_want s first) plan.regions) (stack_range t plan ∷ map (region_range t) plan.regions) h.reach behind)
@@ -162,11 +160,11 @@ module _ (p : Plant) (parts : List PartSize) (places : List Extent) (sizes : Hav
   plans_fit c task first there [] h e = refl
   plans_fit c task first there (plan ∷ plans) h e =
       let a = and_parts _ _ e in
-      let at : TaskPlaces = task_places c.program (drop first places) in
-      let room : has_room p (ranges_of at plan) ≡ true = subst (λ ranges. has_room p ranges ≡ true) (plan_is parts places c.program first sizes there plan h.0) a.0 in
-      let none : conflict_of p.sets p.«ways» (lines_of p.line (ranges_of at plan)) ≡ None = none_is (conflict_of p.sets p.«ways» (lines_of p.line (ranges_of at plan))) room in
-      let here : conflict_in p (placed_at p c at) plan ≡ None = ap (of_conflict (name_at c.program.routines plan.function) p.«ways») none in
-      ap (λ o. or_else o (first_conflict p (placed_at p c at) plans)) here ∙ plans_fit c task first there plans h.1 a.1
+      let place_in : TaskPlaces = task_places c.program (drop first places) in
+      let room : has_room p (ranges_of place_in plan) ≡ true = subst (λ ranges. has_room p ranges ≡ true) (plan_is parts places c.program first sizes there plan h.0) a.0 in
+      let none : conflict_of p.sets p.«ways» (lines_of p.line (ranges_of place_in plan)) ≡ None = none_is (conflict_of p.sets p.«ways» (lines_of p.line (ranges_of place_in plan))) room in
+      let here : conflict_in p (placed_at p c place_in) plan ≡ None = ap (of_conflict (name_at c.program.routines plan.function) p.«ways») none in
+      ap (λ o. or_else o (first_conflict p (placed_at p c place_in) plans)) here ∙ plans_fit c task first there plans h.1 a.1
 
   tasks_fit : (tasks : List Coded) (task first : ℕ) → first + part_total tasks ≤ length places → TasksStand parts first tasks → all_have_room p (ranges_list (wants_from parts task first tasks)) places ≡ true →
       AllByRecursion (λ t. group_seven p t ≡ None) (placed_from p (drop first places) tasks)
@@ -196,7 +194,7 @@ size_there : (memory : ℕ) (parts : List PartSize) (places : List Extent) → A
 size_there memory parts places h n lt =
     let count : length places ≡ length parts = h.count in
     let there : slice_get parts n ≡ Some (slice_index_or parts n (part 0 Start 0 1)) = get_part parts n (omega (arith, lt, count)) in
-    h.ends n (slice_index_or parts n (part 0 Start 0 1)) (at places n) there (get_at places n lt)
+    h.ends n (slice_index_or parts n (part 0 Start 0 1)) (place_in places n) there (get_at places n lt)
   where
     get_part : (xs : List PartSize) (k : ℕ) → k < length xs → slice_get xs k ≡ Some (slice_index_or xs k (part 0 Start 0 1))
     get_part [] k less = absurd (omega (arith, less))

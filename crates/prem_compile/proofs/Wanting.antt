@@ -12,6 +12,7 @@ use Rattle.prem_syntax.specs.Syntax.{GlobalVariable, ProgramText}
 use Rattle.prem_syntax.specs.GroupTwo.{IsWellFormed}
 use Rattle.prem_syntax.specs.Resolve.{resolve}
 use Rattle.prem_syntax.specs.Resolved.{Resolved}
+use Rattle.prem_ranges.specs.RangeBreaches.{length_of}
 use Rattle.prem_asm.specs.Pieces.{size_of}
 use Rattle.prem_layout.specs.Template.Frames.{stack_size}
 use Rattle.prem_layout.specs.Template.Parts.{parts_of as code_parts_of}
@@ -29,7 +30,6 @@ use Rattle.prem_color.specs.Wants.{Shape, shape_of, size_at, element_at, global_
 use Rattle.prem_color.specs.Standing.{RegionStands, PlanStands, TasksStand}
 use Rattle.prem_tasks.specs.Broken.{TaskSet, programs_of}
 use Rattle.prem_tasks.specs.Compiled.{coded_in, parts_in}
-use Rattle.prem_sets_sound.specs.StubLaws.Initial.Standing.{count_of}
 use Rattle.prem_sets_sound.specs.TaskLaws.TaskFrame.Plans.{IsRegion, IsLegalPlan}
 use Rattle.prem_sets_sound.proofs.TaskLawsLemmas.LegalPlansLemmas.Legal.{plans_are_legal}
 use Rattle.prem_sets_sound.proofs.StubLawsLemmas.InitialLemmas.Values.{size_small as element_small}
@@ -100,11 +100,11 @@ module _ (passes : Passes) (task : ℕ) (before after : List PartSize) (x : Prog
       ∙ size_from all (first + (1 + length sizes + length (plans_of q) + k)) y
       (get_behind before (mine ++ after) (1 + length sizes + length (plans_of q) + k) ∙ get_left mine after (1 + length sizes + length (plans_of q) + k) y e)
 
-  region_at : (r : Region) (g : GlobalVariable) → slice_get q.globals r.0 ≡ Some g → r.0 < length q.globals → r.1 ≤ r.2 → r.2 < count_of (slice_get q.globals r.0) → RegionStands all s first r
+  region_at : (r : Region) (g : GlobalVariable) → slice_get q.globals r.0 ≡ Some g → r.0 < length q.globals → r.1 ≤ r.2 → r.2 < length_of (slice_get q.globals r.0) → RegionStands all s first r
   region_at r g there lt order last =
       let elements = elements_long in
       let short : IsShortGlobal g = all_at IsShortGlobal q.globals r.0 g (all_kept x formed).lengths there in
-      let count : r.2 < count_of (Some g) = subst (λ (o : Option GlobalVariable). r.2 < count_of o) there last in
+      let count : r.2 < length_of (Some g) = subst (λ (o : Option GlobalVariable). r.2 < length_of o) there last in
       let element : element_at s r.0 ≡ element_size g.ty = element_is q.globals r.0 g there in
       let size : size_at all (global_number s first r.0) ≡ global_size g =
       size_behind r.0 (part task (Global (0 + r.0)) (global_size g) 4)
@@ -123,7 +123,7 @@ module _ (passes : Passes) (task : ℕ) (before after : List PartSize) (x : Prog
   region_stands r is = by (slice_get q.globals r.0) refl
     where
       by : (o : Option GlobalVariable) → slice_get q.globals r.0 ≡ o → RegionStands all s first r
-      by None there = let last : r.2 < count_of None = subst (λ (o : Option GlobalVariable). r.2 < count_of o) there is.last in absurd (omega (arith, last))
+      by None there = let last : r.2 < length_of None = subst (λ (o : Option GlobalVariable). r.2 < length_of o) there is.last in absurd (omega (arith, last))
       by (Some g) there = region_at r g there is.there is.ordered is.last
 
   regions_stand : (rs : List Region) → AllByRecursion (IsRegion q.globals) rs → AllByRecursion (RegionStands all s first) rs

@@ -25,7 +25,8 @@ use Rattle.prem_machine.specs.declared.moment.Moment.{Moment}
 use Rattle.prem_machine.specs.declared.parts.Parts.{Parts}
 use Rattle.prem_machine.specs.declared.work.Setting.{Setting}
 use Rattle.prem_machine.specs.declared.work.Works.{Works}
-use Rattle.prem_machine.specs.Log.{counts_in, dropped_in, log_in, put_out}
+use Rattle.prem_machine.specs.Issue.Counting.{counts_in}
+use Rattle.prem_machine.specs.Log.{dropped_in, log_in, put_out}
 use Rattle.prem_machine.specs.Moment.{ModeReady, core_of}
 use Rattle.prem_machine.specs.Owed.{bus_cycles}
 use Rattle.prem_machine.specs.Parts.{Runs, Stands, state_of}
@@ -79,13 +80,13 @@ kept_runs requests x w f task until cost h periods r k some le =
       counts = counts_more (4 * x.now + 2) (4 * (x.now + cost)) (counts_in f) (k.counts (4 * x.now) r.counts) (omega (arith, some));
     }
 
-not_full : (a b : ℕ) → a < log_size → b < log_size → (nat_le log_size a || nat_le log_size b) ≡ false
+pub not_full : (a b : ℕ) → a < log_size → b < log_size → (nat_le log_size a || nat_le log_size b) ≡ false
 not_full a b p q =
     let u : nat_le log_size a ≡ false = grind (arith, nat_tests) in
     let v : nat_le log_size b ≡ false = grind (arith, nat_tests) in
     rw u v
 
-has_room : {P : Type 0} (p : Setting) (requests : List Request) (x : Parts P) → Stands p requests x → put_out (items_of x.facts.tasks) < log_size →
+pub has_room : {P : Type 0} (p : Setting) (requests : List Request) (x : Parts P) → Stands p requests x → put_out (items_of x.facts.tasks) < log_size →
     length (items_of x.facts.intervals) < log_size → is_full (state_of x) ≡ false
 has_room p requests x s few less = sym (full_told p requests x s) ∙ not_full (put_out (items_of x.facts.tasks)) (length (items_of x.facts.intervals)) few less
 

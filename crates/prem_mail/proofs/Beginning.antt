@@ -13,10 +13,11 @@ use Rattle.prem_cycle.specs.FactsOf.{inputs_size}
 use Rattle.prem_cycle.specs.Run.{cycles_of, memory_of, run_of}
 use Rattle.prem_cycle.specs.Runs.Inputs.Taken.{TakesFrom}
 use Rattle.prem_machine.specs.States.{Running}
+use Rattle.prem_set.specs.Run.Views.{lists_of}
 use Rattle.prem_mail.specs.declared.feed.Feed.{Feed}
 use Rattle.prem_mail.specs.Feeds.{IsFeed}
 use Rattle.prem_mail.specs.Laws.{mailed_first}
-use Rattle.prem_mail.specs.MailFields.{lists_of, HoldsMail}
+use Rattle.prem_mail.specs.MailFields.{HoldsMail}
 use Rattle.prem_mail.specs.Mailing.{Mailed}
 
 -- ---- the state

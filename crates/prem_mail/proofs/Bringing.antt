@@ -10,9 +10,10 @@ use Rattle.prem_cycle.specs.FactsOf.{has_room_for_word, inputs_size}
 use Rattle.prem_cycle.specs.Run.{cycles_of}
 use Rattle.prem_cycle.specs.Runs.Inputs.Taken.{TakesFrom}
 use Rattle.prem_machine.specs.States.{Running, with_state}
+use Rattle.prem_set.specs.Run.Views.{lists_of}
 use Rattle.prem_mail.specs.declared.feed.Feed.{Feed}
 use Rattle.prem_mail.specs.Delivery.{has_room}
-use Rattle.prem_mail.specs.MailFields.{lists_of, HoldsMail}
+use Rattle.prem_mail.specs.MailFields.{HoldsMail}
 use Rattle.prem_mail.proofs.Runs.{room_there, room_left}
 
 taken_long : (words : List ℕ) (t : Task) → TakesFrom words t → t.used + length t.left ≡ length words

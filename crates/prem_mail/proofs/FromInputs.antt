@@ -1,8 +1,7 @@
 -- Lemmas of prem_inputs that it doesn't export: how a cycle takes input words, and steps that aren't past the end.
 use Rattle.std.specs.Prelude.{◌&&◌, nat_le}
-use Rattle.std.proofs.Common.{◌≡◌, ◌≢◌, ℕ, ◌-◌, ◌≤◌, refl, ◌∙◌, sym, arith, ⊎_elim, Bool, true, false, Option, Some, None, List, [], ◌∷◌, drop, length}
-use Rattle.std.proofs.lemmas.Bool.{cases_Bool, lt-leb}
-use Rattle.prem_cycle.specs.Core.{is_empty}
+use Rattle.std.proofs.Common.{◌≡◌, ◌≢◌, ℕ, ◌≤◌, refl, ◌∙◌, sym, ⊎_elim, true, false, Option, Some, None, List, drop, length}
+use Rattle.std.proofs.lemmas.Bool.{cases_Bool}
 use Rattle.prem_cycle.specs.Run.{CycleStep, wants_word}
 use Rattle.prem_cycle.specs.Runs.Inputs.PastEnd.{is_past_end}
 use Rattle.prem_cycle.proofs.RunsLemmas.InputsLemmas.Turns.{past_of}
@@ -18,22 +17,6 @@ record Split (words left : List ℕ) (used : ℕ) : Type 0 where
 -- ---- a cycle
 
 -- ---- steps that are not past the end
-
-empty_is : (left : List ℕ) → is_empty left ≡ nat_le (length left) 0
-empty_is [] = refl
-empty_is (x ∷ left) = sym (lt-leb (length (x ∷ left)) 0 (omega arith))
-
-grouped : (a b c : Bool) → (a && b && c) ≡ (a && (b && c))
-grouped true b c = refl
-grouped false b c = refl
-
-and_first : (a b : Bool) → (a && b) ≡ true → a ≡ true
-and_first true b h = refl
-and_first false b h = h
-
-and_second : (a b : Bool) → (a && b) ≡ true → b ≡ true
-and_second true b h = h
-and_second false b h = absurd (let x : false ≡ true = h in cc)
 
 pub not_past : (k : ℕ) (o : Option CycleStep) → wants_word o ≢ Some k → past_of k o ≡ false
 not_past k None h = refl

@@ -1,6 +1,6 @@
 -- A run that goes on until it stops.
-use Rattle.std.specs.Prelude.{◌==◌, ◌||◌, is_some}
-use Rattle.std.proofs.Common.{◌≡◌, ℕ, zero, suc, ◌+◌, ◌*◌, ◌-◌, ◌<◌, ◌≤◌, Bool, true, false, cond, List, Option, Some, None, length, refl, ap, sym, ◌∙◌, arith, ◌⊎◌, inl, inr}
+use Rattle.std.specs.Prelude.{◌==◌, is_some}
+use Rattle.std.proofs.Common.{◌≡◌, ℕ, zero, suc, ◌+◌, ◌-◌, ◌<◌, ◌≤◌, Bool, true, false, cond, List, Option, Some, None, length, refl, ap, sym, ◌∙◌, arith, inl, inr}
 use Rattle.std.proofs.lemmas.Bool.{eq-eqb}
 use Rattle.std.proofs.lemmas.Bool.Decides.{nat_tests}
 use Rattle.std.proofs.lemmas.Option.{slice_get_past}
@@ -12,28 +12,15 @@ use Rattle.prem_cycle.specs.declared.state.Trap.{Trap}
 use Rattle.prem_cycle.specs.State.{Setup, MachineState, rule_in}
 use Rattle.prem_cycle.specs.Cycle.{arrivals_at, bus_at, is_finished, is_full, is_over, log_size}
 use Rattle.prem_cycle.specs.Run.{step_with, wants_word, wants_input_of}
-use Rattle.prem_cycle.specs.FactsOf.{stop_of, stop_trapped}
+use Rattle.prem_cycle.specs.FactsOf.{stop_of}
 use Rattle.prem_cycle.proofs.RunLaws.{step_of-stays}
-use Rattle.prem_machine.proofs.Going.{goes_on, within_next}
+use Rattle.prem_machine.proofs.Going.{goes_on, within_next, over_trapped, stops, stop_by}
 use Rattle.prem_mail.specs.declared.feed.Feed.{Feed}
 use Rattle.prem_mail.specs.Delivery.{ended_between}
 use Rattle.prem_mail.specs.Stopping.{stop_unless_limit}
 use Rattle.prem_mail.specs.Mailing.{Mailed, Mailing, supplied_to, received_by, cycled, stepped, mail_step, mailed_by, with_mailed}
 
 -- ---- why a run stops
-
-abbrev stop_by : Bool → Option Trap → Bool → Bool → Option Stop
-stop_by finished trapped full last = cond finished (Some Finished) (stop_trapped trapped (cond full (Some (LogFull log_size)) (cond last (Some Limit) None)))
-
-some_by : (finished : Bool) (trapped : Option Trap) (full last : Bool) (stop : Stop) → stop_by finished trapped full last ≡ Some stop → ((finished || is_some trapped || full) ≡ true) ⊎ (last ≡ true)
-some_by true trapped full last stop e = inl refl
-some_by false (Some t) full last stop e = inl refl
-some_by false None true last stop e = inl refl
-some_by false None false true stop e = inr refl
-some_by false None false false stop e = absurd (cc)
-
-stops : (limit : ℕ) (s : MachineState) (stop : Stop) → stop_of limit s ≡ Some stop → (is_over s ≡ true) ⊎ ((s.now == limit) ≡ true)
-stops limit s stop e = some_by (is_finished s) s.trapped (is_full s) (s.now == limit) stop e
 
 -- at now the last test is true, so why the run stops there is why it stops, unless that is the limit
 limited_by : (finished : Bool) (trapped : Option Trap) (full last : Bool) (stop : Stop) → stop_by finished trapped full true ≡ Some stop → stop_by finished trapped full last ≡ stop_unless_limit stop last
@@ -98,15 +85,6 @@ pub record GoesTo (limit : ℕ) (from m : Mailing) : Type 0 where
 abbrev going : Bool → ℕ
 going true = 0
 going false = 1
-
--- it falls in each cycle, also in one that traps
-abbrev pub cycles_left : ℕ → MachineState → ℕ
-cycles_left limit s = 2 * (limit - s.now) + going (is_over s)
-
-over_trapped : (finished : Bool) (trapped : Option Trap) (full : Bool) (t : Trap) → trapped ≡ Some t → (finished || is_some trapped || full) ≡ true
-over_trapped true trapped full t e = refl
-over_trapped false None full t e = absurd (cc)
-over_trapped false (Some u) full t e = refl
 
 next_trapped : (limit k : ℕ) (from : Mailing) (m : Mailed) (t : Option Trap) → m.state.trapped ≡ t → (t ≡ None → limit - m.state.now ≡ k) → cycles from (limit - m.state.now) m ≡ cycles from k m
 next_trapped limit k from m None e h = ap (λ n. cycles from n m) (h refl)

@@ -21,9 +21,10 @@ use Rattle.prem_cycle.proofs.RunsLemmas.InputsLemmas.Words.{no_task, tasks_with,
 use Rattle.prem_cycle.proofs.RunsLemmas.InputsLemmas.Taken.{step_from}
 use Rattle.prem_machine.specs.States.{Running, with_state}
 use Rattle.prem_sound.proofs.ServeLemmas.Queues.{ticked_transfers}
+use Rattle.prem_set.specs.Run.Views.{lists_of}
 use Rattle.prem_mail.specs.declared.feed.Feed.{Feed}
 use Rattle.prem_mail.specs.Delivery.{has_room}
-use Rattle.prem_mail.specs.MailFields.{lists_of, HoldsMail}
+use Rattle.prem_mail.specs.MailFields.{HoldsMail}
 use Rattle.prem_mail.proofs.Finds.{set_there}
 use Rattle.prem_mail.proofs.Steps.{step_long}
 use Rattle.prem_mail.proofs.Runs.{room_there}

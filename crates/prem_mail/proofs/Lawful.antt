@@ -12,6 +12,7 @@ use Rattle.prem_line.specs.Chain.{◌>>=◌, wanted, holds}
 use Rattle.prem_line.specs.Lines.{lines_of, words_of, is_skipped, is_text, first_of}
 use Rattle.prem_line.specs.Numbers.{number_of}
 use Rattle.prem_line.proofs.Chain.{same_Ok, no_value, bound, held, found}
+use Rattle.prem_plant.proofs.Apartness.{not_false}
 use Rattle.prem_set.specs.Run.Names.{KnownNames, place_of, task_of, device_of}
 use Rattle.prem_set.proofs.RunLemmas.Lawful.{within}
 use Rattle.prem_mail.specs.declared.feed.Feed.{Feed}
@@ -55,10 +56,6 @@ record Behind (names : KnownNames) (have : List Feed) (f : Feed) : Type 0 where
   new : is_fed have f.device f.line ≡ false
   few : length have < feeds_size
 
-not_true : (b : Bool) → not b ≡ true → b ≡ false
-not_true false e = refl
-not_true true e = absurd (let z : false ≡ true = e in cc)
-
 stated : (names : KnownNames) (have : List Feed) (t line : ℕ) (d : ℕ × ℕ) (f : Feed) → t < length names.tasks → Known names d →
     (holds which.Slot (nat_lt line d.1) line >>= λ l. holds which.Twice (not (is_fed have d.0 l)) l >>= λ l. holds which.Limit (nat_lt (length have) feeds_size) (record { device = d.0; line = l; task = t })) ≡ Ok f → Behind names have f
 stated names have t line d f inside k is =
@@ -75,7 +72,7 @@ stated names have t line d f inside k is =
     subst (Behind names have) z.1 (
     record {
       feed = record { device = omega (arith, there, count); line = omega (arith, low, at_m, lines); task = inside };
-      new = subst (λ i. is_fed have d.0 i ≡ false) w.1 (not_true _ w.0);
+      new = subst (λ i. is_fed have d.0 i ≡ false) w.1 (not_false _ w.0);
       few = ltb-true (length have) feeds_size z.0;
     })))
   where

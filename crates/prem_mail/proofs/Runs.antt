@@ -18,6 +18,7 @@ use Rattle.prem_cycle.proofs.RunsLemmas.InputsLemmas.Cycles.{has_read-next}
 use Rattle.prem_cycle.proofs.RunsLemmas.InputsLemmas.Runs.{state_extends, reads_stay}
 use Rattle.prem_cycle.proofs.RunsLemmas.InputsLemmas.Taken.{room_is_of_the_list}
 use Rattle.prem_cycle.proofs.RunsLemmas.InputsLemmas.Fits.{lists_stay_fit}
+use Rattle.prem_cycle.proofs.RunsLemmas.InputsLemmas.Wants.{and_second, and_first}
 use Rattle.prem_mail.specs.declared.feed.Feed.{Feed}
 use Rattle.prem_mail.specs.Delivery.{Delivery, with_lists, with_lost, has_room, supplied, handed, receiver, received, ended_between, with_cycle, delivered_in}
 use Rattle.prem_mail.specs.Mailing.{Mailed, with_mail, without_mail, supplied_to, handed_to, received_by, cycled, stepped, mail_step, mailed_by}
@@ -27,14 +28,6 @@ use Rattle.prem_mail.proofs.Finds.{supplied_finds}
 use Rattle.prem_mail.proofs.Steps.{run_long}
 
 -- ---- room
-
-and_first : (a b : Bool) → (a && b) ≡ true → a ≡ true
-and_first true b h = refl
-and_first false b h = h
-
-and_second : (a b : Bool) → (a && b) ≡ true → b ≡ true
-and_second true b h = h
-and_second false b h = absurd (let x : false ≡ true = h in cc)
 
 pub room_there : (k : ℕ) (lists : List (List ℕ)) → has_room k lists ≡ true → k < length lists
 room_there k lists h = ltb-true k (length lists) (and_first _ _ h)

@@ -23,6 +23,7 @@ use Rattle.prem_sound.specs.Serve.Requests.{PutWords}
 use Rattle.prem_sound.specs.Sound.{AreInputs}
 use Rattle.prem_sound.proofs.ServeLemmas.Puts.{HoldAll, arrivals_all, head_all, cycles_all, start_all}
 use Rattle.prem_sound.proofs.ServeLemmas.Queues.{queue_at, cycle_transfers}
+use Rattle.prem_sound.proofs.ServeLemmas.Words.{PutsWord}
 use Rattle.prem_mail.specs.declared.feed.Feed.{Feed}
 use Rattle.prem_mail.specs.Delivery.{Delivery, has_room, with_lists, with_lost, supplied, fed_by, receiver, ended_between, handed, received, delivered_in}
 use Rattle.prem_mail.specs.Laws.{IsRun}
@@ -31,9 +32,6 @@ use Rattle.prem_mail.proofs.Runs.{mailed_runs_are_runs}
 
 abbrev IsWord : ℕ → Type 0
 IsWord value = value < 2 ^ 32
-
-abbrev PutsWord : Request → Type 0
-PutsWord r = IfSome r.put (λ value. value < 2 ^ 32)
 
 -- ---- the values of transfers
 
@@ -99,10 +97,10 @@ right_at (x ∷ xs) (suc k) h = right_at xs k (All-tail IsRight x xs h)
 
 -- ---- what is delivered
 
-abbrev AreWords : List ℕ → Type 0
+abbrev pub AreWords : List ℕ → Type 0
 AreWords words = All (λ word. word < 2 ^ 32) words
 
-abbrev AllWords : List (List ℕ) → Type 0
+abbrev pub AllWords : List (List ℕ) → Type 0
 AllWords lists = All (λ words. All (λ word. word < 2 ^ 32) words) lists
 
 words_at : (lists : List (List ℕ)) (k : ℕ) → AllWords lists → AreWords (slice_index_or lists k [])

@@ -1,17 +1,15 @@
 -- The fields of a run in memory, and what they keep.
-use Rattle.std.specs.Prelude.{◌≡◌, ℕ, ◌<◌, ◌≤◌, All, List, [], length, map, slice_index_or}
+use Rattle.std.specs.Prelude.{◌≡◌, ℕ, ◌<◌, ◌≤◌, All, List, [], length, slice_index_or}
 use Rattle.prem_list.specs.declared.Sequence.{Sequence}
 use Rattle.prem_list.specs.Sequence.{items_of, room_of}
 use Rattle.prem_cycle.specs.State.{task_in}
 use Rattle.prem_cycle.specs.FactsOf.{inputs_size}
 use Rattle.prem_cycle.specs.Runs.Inputs.Taken.{TakesFrom}
 use Rattle.prem_machine.specs.States.{Running}
+use Rattle.prem_set.specs.Run.Views.{lists_of}
 use Rattle.prem_mail.specs.declared.feed.Feed.{Feed}
 use Rattle.prem_mail.specs.declared.mail.Mail.TheInside.{Inside}
 use Rattle.prem_mail.specs.Mailing.{Mailing}
-
-abbrev pub lists_of : Sequence (Sequence ℕ) → List (List ℕ)
-lists_of words = map items_of (items_of words)
 
 abbrev pub mailing_of : {P : Type 0} → Inside P → Mailing
 mailing_of m = record {

@@ -3,8 +3,8 @@ ghost use Rattle.std.specs.Prelude.{◌≡◌, ◌<◌, ◌≤◌, All, IfOk, If
 ghost use Rattle.prem_list.specs.Sequence.{items_of, room_of};
 ghost use Rattle.prem_cycle.specs.FactsOf.{inputs_size, report_in};
 ghost use Rattle.prem_cycle.specs.Inputs.{words_of};
+ghost use Rattle.prem_set.specs.Run.Views.{lists_of};
 ghost use Rattle.prem_mail.specs.Delivery.{has_room, receiver, fed_by};
-ghost use Rattle.prem_mail.specs.MailFields.{lists_of};
 ghost use Rattle.prem_mail.specs.Stopping.{stop_unless_limit};
 
 use crate::feed::Feed;

@@ -6,6 +6,7 @@ use Rattle.std.proofs.lemmas.Bool.Decides.{nat_tests}
 use Rattle.prem_cycle.specs.State.{rule_in}
 use Rattle.prem_cycle.specs.declared.state.Trap.{Trap}
 use Rattle.prem_cycle.specs.Cycle.{is_full, log_size}
+use Rattle.prem_machine.proofs.Going.{then_is, going_most}
 use Rattle.prem_pair.specs.declared.cycles.state.PairStop.{PairStop}
 use Rattle.prem_pair.specs.declared.cycles.state.PairStop.TheVariants.{Finished, LogFull, Limit}
 use Rattle.prem_pair.specs.Cycles.Pair.{PairState, both_finished, full_stop, is_pair_over, one_trapped, pair_cycle, pair_cycles, pair_step, pair_stop_of, trap_stop}
@@ -40,17 +41,9 @@ goes_on limit s e = none_by (both_finished s) s.first.trapped s.second.trapped (
 stops : (limit : ℕ) (s : PairState) (stop : PairStop) → pair_stop_of limit s ≡ Some stop → (is_pair_over s ≡ true) ⊎ ((s.first.now == limit) ≡ true)
 stops limit s stop e = some_by (both_finished s) s.first.trapped s.second.trapped (is_full s.first) (is_full s.second) (s.first.now == limit) stop e
 
-pub then_is : (b : Bool) → then_some b Limit ≡ cond b (Some Limit) None
-then_is true = refl
-then_is false = refl
-
 pub one_rests : (a b : Bool) → a ≡ false → (a && b) ≡ false
 one_rests true b e = absurd (cc)
 one_rests false b e = refl
-
-pub other_rests : (a b : Bool) → b ≡ false → (a && b) ≡ false
-other_rests true b e = e
-other_rests false b e = refl
 
 stop_from : (limit : ℕ) (s : PairState) (f g last : Bool) → both_finished s ≡ false → s.first.trapped ≡ None → s.second.trapped ≡ None → is_full s.first ≡ f → is_full s.second ≡ g → (s.first.now == limit) ≡ last → stop_by false None None f g last ≡ pair_stop_of limit s
 stop_from limit s f g last a b c d e h =
@@ -192,10 +185,6 @@ passes_to limit at from m s g le most is now =
           ∙ sym (pair_cycles-add (rule_in from.first) (rule_in from.second) from.first from.second from.requests n (limit - at) m.state)
           ∙ ap (λ k. goes_from from k m.state) e ∙ g.left;
     }
-
-going_most : (b : Bool) → going b ≤ 1
-going_most true = omega arith
-going_most false = omega arith
 
 pub passes_less : (limit at : ℕ) (s t : PairState) → s.first.now < at → at ≤ limit → t.first.now ≡ at → cycles_left limit t < cycles_left limit s
 passes_less limit at s t lt most now =

@@ -20,7 +20,7 @@ use Rattle.prem_machine.specs.declared.moment.Moment.{Moment}
 use Rattle.prem_machine.specs.declared.parts.Parts.{Parts}
 use Rattle.prem_machine.specs.declared.work.Setting.{Setting}
 use Rattle.prem_machine.specs.declared.work.Works.{Works}
-use Rattle.prem_machine.specs.Log.{counts_in, put_out}
+use Rattle.prem_machine.specs.Log.{put_out}
 use Rattle.prem_machine.specs.Moment.{ModeReady, core_of}
 use Rattle.prem_machine.specs.Parts.{Stands, state_of}
 use Rattle.prem_machine.specs.Plain.{GoesOn, IsKept}
@@ -30,6 +30,7 @@ use Rattle.prem_machine.proofs.Resting.{counts_more, mode_after}
 use Rattle.prem_machine.proofs.Stretching.{behind}
 use Rattle.prem_machine.specs.Passing.{IsNextArrival}
 use Rattle.prem_machine.proofs.Telling.{full_told}
+use Rattle.prem_machine.specs.Issue.Counting.{counts_in}
 use Rattle.prem_pair.specs.declared.cycles.state.Holder.{Holder}
 use Rattle.prem_pair.specs.declared.cycles.state.Holder.TheVariants.{Nobody, First, Second, Gates}
 use Rattle.prem_pair.specs.Cycles.Token.{is_gates, two_want}
@@ -103,17 +104,6 @@ hit_core x task cost going =
       interval = x.moment.interval;
       window = x.moment.window;
     }
-
--- a log that has room isn't full
-not_full : (a b : ℕ) → a < log_size → b < log_size → (nat_le log_size a || nat_le log_size b) ≡ false
-not_full a b p q =
-    let u : nat_le log_size a ≡ false = grind (arith, nat_tests) in
-    let v : nat_le log_size b ≡ false = grind (arith, nat_tests) in
-    rw u v
-
-pub has_room : {P : Type 0} (p : Setting) (requests : List Request) (x : Parts P) → Stands p requests x → put_out (items_of x.facts.tasks) < log_size → length (items_of x.facts.intervals) < log_size →
-    is_full (state_of x) ≡ false
-has_room p requests x s few less = sym (full_told p requests x s) ∙ not_full (put_out (items_of x.facts.tasks)) (length (items_of x.facts.intervals)) few less
 
 pub rooms_left : {P : Type 0} (p : Setting) (requests : List Request) (x : Parts P) → Stands p requests x → is_full (state_of x) ≡ false →
     (put_out (items_of x.facts.tasks) < log_size) × (length (items_of x.facts.intervals) < log_size)

@@ -1,20 +1,21 @@
 -- How far two cores rest, and what their parts keep where cycles are passed over.
-use Rattle.std.proofs.Common.{◌≡◌, ℕ, ◌+◌, ◌-◌, ◌*◌, ◌≤◌, true, false, List, Option, Some, None, ap, sym, ◌∙◌, subst, arith, All, length}
+use Rattle.std.proofs.Common.{◌≡◌, ℕ, ◌+◌, ◌-◌, ◌*◌, ◌≤◌, true, false, List, ap, sym, ◌∙◌, subst, arith, All, length}
 use Rattle.prem_list.specs.Sequence.{items_of}
 use Rattle.prem_gate.specs.declared.request.Request.{Request}
 use Rattle.prem_gate.specs.Gates.{GateState, GatesState}
 use Rattle.prem_gate.specs.Ranges.{HasLine, LiesIn}
 use Rattle.prem_gate.specs.Stretch.{IsNextChange}
 use Rattle.prem_cycle.specs.declared.state.Interval.{Interval}
-use Rattle.prem_cycle.specs.Runs.Dull.Rest.{NoneArrive, Within}
+use Rattle.prem_cycle.specs.Runs.Dull.Rest.{NoneArrive}
 use Rattle.prem_machine.specs.declared.work.Setting.{Setting}
 use Rattle.prem_machine.specs.declared.moment.Moment.{Moment}
 use Rattle.prem_machine.specs.declared.parts.Parts.{Parts}
-use Rattle.prem_machine.specs.Log.{counts_in, dropped_in}
+use Rattle.prem_machine.specs.Log.{dropped_in}
 use Rattle.prem_machine.specs.Moment.{ModeReady}
 use Rattle.prem_machine.specs.Parts.{Stands}
-use Rattle.prem_machine.proofs.Resting.{SameQueues, arrived_after, counts_more, mode_after}
+use Rattle.prem_machine.proofs.Resting.{SameQueues, arrived_after, counts_more, mode_after, core_within, less_arrive, behind_within, behind_from}
 use Rattle.prem_machine.specs.Passing.{IsNextArrival, cycle_behind}
+use Rattle.prem_machine.specs.Issue.Counting.{counts_in}
 use Rattle.prem_pair.specs.declared.both.Both.{Both}
 use Rattle.prem_pair.specs.Cycles.Token.{empty_window, is_first, is_second}
 use Rattle.prem_pair.specs.Cycles.Pair.{PairState, is_pair_over}
@@ -23,21 +24,6 @@ use Rattle.prem_pair.specs.Sides.{Arrives, Goes}
 use Rattle.prem_pair.specs.BothOf.{AreBoth, GoOn, pair_of}
 
 -- ---- how far both rest
-
-pub within_behind : (now n limit : ℕ) (o : Option ℕ) → now ≤ limit → n ≤ cycle_behind now limit o - now → Within n o
-within_behind now n limit None le h = tt
-within_behind now n limit (Some k) le h = omega (arith, le, h)
-
-pub behind_most : (now limit : ℕ) (o : Option ℕ) → now ≤ limit → cycle_behind now limit o ≤ limit
-behind_most now limit None le = omega arith
-behind_most now limit (Some k) le = omega (arith, le)
-
-pub behind_least : (now limit : ℕ) (o : Option ℕ) → now ≤ limit → now ≤ cycle_behind now limit o
-behind_least now limit None le = le
-behind_least now limit (Some k) le = omega arith
-
-pub less_arrive : (m n now : ℕ) (rs : List Request) → m ≤ n → NoneArrive n now rs → NoneArrive m now rs
-less_arrive m n now rs le h = λ k d lt j less. h k d lt j (omega (arith, le, less))
 
 -- the cycle up to which both do, where the token stays
 pub rests_until : (requests : List Request) (s : PairState) (limit arrival at : ℕ) → stays_with s.holder s ≡ true → IsNextArrival s.first.now limit requests arrival →
@@ -49,15 +35,15 @@ rests_until requests s limit arrival at stays a g =
     let o = rest_with (is_first s.holder) s.first in
     let u = rest_with (is_second s.holder) s.second in
     let one = cycle_behind now arrival o in
-    let from_now = behind_least now arrival o a.not_before in
-    let most = behind_most now arrival o a.not_before in
-    let both = behind_most now one u from_now in (
+    let from_now = behind_from now arrival o a.not_before in
+    let most = behind_within now arrival o a.not_before in
+    let both = behind_within now one u from_now in (
       record {
         arrivals = less_arrive (at - now) (arrival - now) now requests (omega (arith, g.within, both, most)) a.none;
         token = stays;
         gates = g.quiet;
-        first = within_behind now (at - now) arrival o a.not_before (omega (arith, g.within, both));
-        second = within_behind now (at - now) one u from_now (omega (arith, g.within));
+        first = core_within now (at - now) arrival o a.not_before (omega (arith, g.within, both));
+        second = core_within now (at - now) one u from_now (omega (arith, g.within));
       },
       omega (arith, g.within, both, most, a.within),
     )

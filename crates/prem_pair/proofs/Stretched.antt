@@ -9,6 +9,8 @@ use Rattle.prem_cycle.specs.State.{Debt, Setup, MachineState}
 use Rattle.prem_cycle.specs.Core.{want_of}
 use Rattle.prem_cycle.specs.Cycle.{is_finished, is_finished_in, is_full}
 use Rattle.prem_cycle.specs.Runs.Dull.Rest.{Within}
+use Rattle.prem_cycle.proofs.RunsLemmas.DullLemmas.Steps.{not_ended}
+use Rattle.prem_machine.proofs.Resting.{less_arrive}
 use Rattle.prem_pair.specs.declared.cycles.state.Holder.{Holder}
 use Rattle.prem_pair.specs.declared.cycles.state.Holder.TheVariants.{Nobody, First, Second, Gates}
 use Rattle.prem_pair.specs.Cycles.Token.{frees, is_first, is_second, want_with}
@@ -19,7 +21,7 @@ use Rattle.prem_pair.specs.MayStretch.{MayStretch}
 use Rattle.prem_pair.proofs.CyclesLemmas.OneCycle.{paired}
 use Rattle.prem_pair.proofs.CyclesLemmas.Rests.{unnot, untrapped}
 use Rattle.prem_pair.proofs.CyclesLemmas.Own.{own_runs, rest_own}
-use Rattle.prem_pair.proofs.Passes.{less_arrive}
+use Rattle.prem_pair.proofs.Going.{one_rests}
 
 pub none_taken : (rule other : ReplacementRule) (p q : Setup) (requests : List Request) (n : ℕ) (s : PairState) → s ≡ pair_cycles rule other p q requests (n - n) s
 unfolding pair_cycles
@@ -59,14 +61,6 @@ second_keeps First s e f = absurd (cc)
 second_keeps Second s e f = unnot (frees s.second.core) e
 second_keeps Gates s e f = absurd (cc)
 
-and_no : (a b : Bool) → b ≡ false → (a && b) ≡ false
-and_no true b e = e
-and_no false b e = refl
-
-no_and : (a b : Bool) → a ≡ false → (a && b) ≡ false
-no_and true b e = absurd (cc)
-no_and false b e = refl
-
 -- ---- the cycles of both
 
 pub apart_first : (rule other : ReplacementRule) (p q : Setup) (requests : List Request) (n until task : ℕ) (s : PairState) (x : MachineState) → IsSteadyPair s → MayStretch until requests s → IsGoing task s.first →
@@ -83,7 +77,7 @@ apart_first rule other p q requests n until task s x steady may going le rests o
       free = steady.free may.gates;
       begins = λ is. may.begins (ap (λ v. want_with s.holder v w) want ∙ is);
       one = ap (λ v. wants v && wants w) (sym want) ∙ may.one;
-      unfinished = no_and (is_finished s.first) (is_finished s.second) (going_unfinished task s.first going);
+      unfinished = one_rests (is_finished s.first) (is_finished s.second) (going_unfinished task s.first going);
     } in
     let rest = rest_own other q (is_second s.holder) s.second steady.other_periods (untrapped s steady.going).1 (none_full s steady.going).1 (second_keeps s.holder s may.token) n rests in
     sym (own_runs rule other p q requests n s No w x (side_passed (is_second s.holder) n s.second) free own rest)
@@ -102,7 +96,7 @@ apart_second rule other p q requests n until task s x steady may going le rests 
       free = steady.free may.gates;
       begins = λ is. may.begins (ap (want_with s.holder v) want ∙ is);
       one = ap (λ w. wants v && wants w) (sym want) ∙ may.one;
-      unfinished = and_no (is_finished s.first) (is_finished s.second) (going_unfinished task s.second going);
+      unfinished = not_ended (is_finished s.first) (is_finished s.second) (going_unfinished task s.second going);
     } in
     let rest = rest_own rule p (is_first s.holder) s.first steady.periods (untrapped s steady.going).0 (none_full s steady.going).0 (first_keeps s.holder s may.token) n rests in
     sym (own_runs rule other p q requests n s v No (side_passed (is_first s.holder) n s.first) x free rest own)

@@ -15,6 +15,7 @@ use Rattle.prem_machine.specs.Log.{put_out}
 use Rattle.prem_machine.specs.Parts.{state_of}
 use Rattle.prem_machine.specs.Work.{setup_in}
 use Rattle.prem_machine.proofs.Resting.{unclashed}
+use Rattle.prem_machine.proofs.Stretching.{has_room}
 use Rattle.prem_pair.specs.declared.both.Both.{Both}
 use Rattle.prem_pair.specs.declared.cycles.state.Holder.{Holder}
 use Rattle.prem_pair.specs.declared.cycles.state.Holder.TheVariants.{Nobody, First, Second, Gates}
@@ -30,9 +31,9 @@ use Rattle.prem_pair.proofs.CyclesLemmas.PairRuns.{pair_cycles-add, pair_step-go
 use Rattle.prem_pair.proofs.CyclesLemmas.OneCycle.{paired}
 use Rattle.prem_pair.proofs.CyclesLemmas.Own.{holder_same, own_kept, own_one, stays_later}
 use Rattle.prem_pair.proofs.CyclesLemmas.Apart.{own_cycles}
-use Rattle.prem_pair.proofs.Owning.{has_room}
 use Rattle.prem_pair.proofs.Passes.{arrives_later}
 use Rattle.prem_pair.proofs.Stretched.{going_unfinished, going_wants, none_taken}
+use Rattle.prem_pair.proofs.Going.{one_rests}
 
 -- ---- how many cycles are taken
 
@@ -113,13 +114,9 @@ over_by false false true g a b c d = absurd (cc)
 over_by false false false true a b c d = absurd (cc)
 over_by false false false false a b c d = refl
 
-no_and : (a b : Bool) → a ≡ false → (a && b) ≡ false
-no_and true b e = absurd (cc)
-no_and false b e = refl
-
 pub goes_both : (task : ℕ) (s : PairState) → IsGoing task s.first → one_trapped s ≡ false → is_full s.first ≡ false → is_full s.second ≡ false → is_pair_over s ≡ false
 goes_both task s going t f g =
-    over_by (both_finished s) (one_trapped s) (is_full s.first) (is_full s.second) (no_and (is_finished s.first) (is_finished s.second) (going_unfinished task s.first going)) t f g
+    over_by (both_finished s) (one_trapped s) (is_full s.first) (is_full s.second) (one_rests (is_finished s.first) (is_finished s.second) (going_unfinished task s.first going)) t f g
 
 -- ---- core 1 does the cycle that core 0 has done
 

@@ -9,9 +9,10 @@ use Rattle.prem_cycle.specs.State.{Setup, rule_in, Work, CoreState, MachineState
 use Rattle.prem_cycle.specs.Core.{CoreMove, Passes, core_turn, move_of}
 use Rattle.prem_cycle.specs.Cycle.{Arrivals, with_memory, with_clash}
 use Rattle.prem_machine.specs.declared.parts.Parts.{Parts}
-use Rattle.prem_machine.specs.Log.{CountsWithin, counts_in}
+use Rattle.prem_machine.specs.Log.{CountsWithin}
 use Rattle.prem_machine.specs.Moment.{ModeReady}
 use Rattle.prem_machine.specs.Requests.{HaveArrived, pending}
+use Rattle.prem_machine.specs.Issue.Counting.{counts_in}
 use Rattle.prem_pair.specs.Cycles.Token.{asks_in}
 
 -- behind arrivals and the bus

@@ -16,6 +16,7 @@ use Rattle.prem_answer.specs.Stages.{Reply, Reads, and_then, form_by, reading_by
 use Rattle.prem_exec.specs.Forms.{RunText, line_why, run_in_by}
 use Rattle.prem_exec.specs.Sources.Sources.{names_of, reading_run_by, reading_sources, run_limit, run_of_bytes_by, set_in_by, set_limit}
 use Rattle.prem_exec.proofs.SourcesLemmas.Reading.{is_judged, IsRight, IsRightFile, Outcome, chain, file_outcome, form_unjudged, set_formed, sources_outcome}
+use Rattle.prem_exec.specs.Sources.There.{run_text_of}
 use Rattle.prem_running.specs.RunSound.Runs.{SuitsRun}
 use Rattle.prem_running.proofs.RunSoundLemmas.SetRuns.{inputs_are_lawful}
 use Rattle.prem_running.proofs.SetLawsLemmas.Names.{lawful_runs_fit}
@@ -65,12 +66,9 @@ run_formed name (Err refusal) reply is =
     let same : form_by Brief name (line_why refusal) ≡ reply = cc in
     subst (λ (r : Reply). is_judged r.0 ≡ false) same (form_unjudged Brief name (line_why refusal))
 
-abbrev gathered : Gathered → RunText
-gathered g = record { words = g.words; requests = g.requests }
-
 run_right : (set : TaskSet) (name bytes : List ℕ) (r : Result Gathered LineRefusal) → lines_of_run bytes (names_of set) ≡ r → (input : RunText) → run_in_by Brief name r ≡ Ok input → SuitsSet set input
 run_right set name bytes (Ok g) read input is =
-    λ none. subst (λ (i : RunText). SuitsRun (setup_in set) i.words i.requests × FitsRun (setup_in set) i.words i.requests) (same_Ok (gathered g) input is)
+    λ none. subst (λ (i : RunText). SuitsRun (setup_in set) i.words i.requests × FitsRun (setup_in set) i.words i.requests) (same_Ok (run_text_of g) input is)
     (inputs_are_lawful set bytes g none read, lawful_runs_fit set g.words g.requests none (run_is_lawful bytes (names_of set) g read))
 run_right set name bytes (Err refusal) read input is = absurd cc
 

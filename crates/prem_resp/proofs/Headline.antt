@@ -31,7 +31,7 @@ record SetRead (reads : Reads) (name : List ℕ) (given : Reply) : Type 0 where
   read : IsRead reads name set
   goes : fit_reply set ≡ given
 
-abbrev behind_set : TaskSet → Stage Reply
+abbrev pub behind_set : TaskSet → Stage Reply
 behind_set set reads = Ok (fit_reply set)
 
 set_read : (name : List ℕ) (given : Reply) (reads : Reads) → is_judged given.0 ≡ true → replied (fit_stages name reads) ≡ given → SetRead reads name given

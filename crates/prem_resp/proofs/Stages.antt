@@ -11,7 +11,7 @@ use Rattle.prem_answer.specs.declared.answer.Halt.{Halt}
 use Rattle.prem_answer.specs.declared.answer.Halt.TheVariants.{Answered, ReadFault as HaltReadFault, OutOfMemory as HaltOutOfMemory}
 use Rattle.prem_answer.specs.declared.answer.Telling.TheVariants.{Brief}
 use Rattle.prem_answer.specs.declared.status.Status.TheVariants as status
-use Rattle.prem_answer.specs.Stages.{Reply, Reads, Stage, Comes, IsFine, IsGiven, is_settled, replied, reply_of}
+use Rattle.prem_answer.specs.Stages.{Reply, Reads, Comes, IsFine, IsGiven, is_settled, replied, reply_of}
 use Rattle.prem_answer.proofs.Reading.{gives_at_once, some_reads}
 use Rattle.prem_exec.specs.Sources.Sources.{Passes, reading_set_by}
 use Rattle.prem_exec.proofs.SourcesLemmas.Fine.{set_fine_by}
@@ -20,7 +20,7 @@ use Rattle.prem_resp.specs.Stages.{asked_of, fit_reply, fit_stages, judged_reply
 use Rattle.prem_resp.specs.Told.{text_by}
 use Rattle.prem_resp.specs.Headline.{WordsKeep}
 use Rattle.prem_resp.specs.Answer.{Answered as IsAnswered, IsAnswer, answer}
-use Rattle.prem_resp.proofs.Headline.{headline_is}
+use Rattle.prem_resp.proofs.Headline.{headline_is, behind_set}
 use Rattle.prem_resp.proofs.LoadsAre.{text_is}
 
 -- ---- a set
@@ -35,9 +35,6 @@ tested_is set c reply is told = told ∙ ap done (text_is set c is) ∙ ap (judg
 -- one that breaks a rule
 pub refused_is : (set : TaskSet) (refusal : Refusal Told) (reply : Reply) → broken set ≡ Some refusal → reply ≡ (status.Refused, refused_text set.tasks refusal) → reply ≡ fit_reply set
 refused_is set refusal reply is told = told ∙ ap (judged_reply set) (sym is)
-
-abbrev behind_set : TaskSet → Stage Reply
-behind_set set reads = Ok (fit_reply set)
 
 pub set_told : (told : Option Files) (name : List ℕ) (set : TaskSet) (given : Result Reply Reply) → Passes told (reading_set_by Brief name) (Ok set) → given ≡ Ok (fit_reply set) → IsGiven told (fit_stages name) given
 set_told told name set given passes is = passes behind_set given (let (reads, (are, same)) = gives_at_once told given in (reads, (are, is)))

@@ -10,7 +10,7 @@ use Rattle.prem_syntax.specs.Statements.{ProgramState, counting, bounded}
 use Rattle.prem_syntax.specs.Source.{source}
 use Rattle.prem_syntax.proofs.Samples.{at, int, uint, statements, one_name, parameter, local, region, global, function, plain}
 
-abbrev outputs_of : Outcome ProgramState → Outcome (List ℕ)
+abbrev pub outputs_of : Outcome ProgramState → Outcome (List ℕ)
 outputs_of r = and_then r (λ s. Ok s.outputs)
 
 -- sums and differences of ints wrap, and an output is a word

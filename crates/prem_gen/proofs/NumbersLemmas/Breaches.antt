@@ -1,27 +1,17 @@
 -- What a well-formed program doesn't break.
-use Rattle.std.specs.Prelude.{nat_lt, not, is_none, IsTrue}
+use Rattle.std.specs.Prelude.{nat_lt, not}
 use Rattle.std.specs.List.{list_any}
-use Rattle.std.proofs.Common.{◌≡◌, ℕ, ◌≤◌, Bool, true, false, cond, List, [], ◌∷◌, ◌++◌, length, refl, arith, Option, None, Some}
-use Rattle.std.proofs.lemmas.Bool.Decides.{nat_tests}
+use Rattle.std.proofs.Common.{◌≡◌, ◌≤◌, Bool, true, false, cond, List, [], ◌∷◌, ◌++◌, length, refl, Option, None, Some}
 use Rattle.prem_syntax.specs.declared.tree.Place.{Place}
 use Rattle.prem_syntax.specs.declared.rules.Count.TheVariants.{Functions, Globals, Parameters, Regions, Length, Stated}
 use Rattle.prem_syntax.specs.Syntax.{GlobalVariable, FunctionText, ProgramText}
 use Rattle.prem_syntax.specs.Resolve.{functions_of, globals_of}
 use Rattle.prem_syntax.specs.Rules.{Rule, Limit, NoJob, Breach, first, first_of, comes_before}
-use Rattle.prem_syntax.specs.Breaches.{if_broken, if_at, is_job_name, regions_of, is_stated, is_length, item_names, reached, in_items, in_limits, breaches}
+use Rattle.prem_syntax.specs.Breaches.{if_broken, is_job_name, regions_of, is_stated, is_length, item_names, reached, in_items, in_limits, breaches}
 use Rattle.prem_syntax.specs.GroupTwo.{group_two, IsWellFormed}
-
-pub none_left : {A : Type 0} (xs ys : List A) → xs ++ ys ≡ [] → xs ≡ []
-none_left [] ys e = refl
-none_left (x ∷ xs) ys e = cc
-
-pub none_right : {A : Type 0} (xs ys : List A) → xs ++ ys ≡ [] → ys ≡ []
-none_right [] ys e = e
-none_right (x ∷ xs) ys e = cc
-
-pub kept : (b : Bool) (at : Place) (rule : Rule) → if_at (not b) at rule ≡ [] → b ≡ true
-kept true at rule e = refl
-kept false at rule e = cc
+use Rattle.prem_ranges.proofs.AnalysisSound.{is_none_tells}
+use Rattle.prem_ranges.proofs.Basics.{none_left, none_right}
+use Rattle.prem_analysis.proofs.Counts.{at_most}
 
 not_broken : (b : Bool) (at : Option Place) (rule : Rule) → if_broken b at rule ≡ [] → b ≡ false
 not_broken true at rule e = cc
@@ -37,13 +27,6 @@ none_broken (b ∷ bs) e = some_first b (first_of bs) e where
     by true k = cc
     by false k = cc
 
-is_none_means : {A : Type 0} (o : Option A) → IsTrue (is_none o) → o ≡ None
-is_none_means None h = refl
-is_none_means (Some x) h = cc
-
-at_most : (n : ℕ) → nat_lt 256 n ≡ false → n ≤ 256
-at_most n is = grind (arith, nat_tests)
-
 pub record Kept (p : ProgramText) : Type 0 where
   pub few_functions : length (functions_of p) ≤ 256
   pub few_globals : length (globals_of p) ≤ 256
@@ -54,7 +37,7 @@ unfolding group_two
 all_kept p formed =
     let gs = globals_of p in
     let fs = functions_of p in
-    let none : breaches p ≡ [] = none_broken (breaches p) (is_none_means (group_two p) formed) in
+    let none : breaches p ≡ [] = none_broken (breaches p) (is_none_tells (group_two p) formed) in
     let job = if_broken (not (list_any (λ (f : FunctionText). is_job_name f.name) fs)) None NoJob in
     let items = in_items fs (item_names p) (reached fs) 0 [] [] p in
     let limits : in_limits gs fs ≡ [] = none_left (in_limits gs fs) job (none_left (in_limits gs fs ++ job) items none) in

@@ -17,13 +17,15 @@ use Rattle.prem_syntax.specs.Rules.{LoopForm, CallOrder, MarkedCall, OfTypes}
 use Rattle.prem_syntax.specs.Reach.{is_in_set}
 use Rattle.prem_syntax.specs.Breaches.{Around, around, if_at, is_between, is_int_local, same_name, assigns, is_int, is_loop, is_marked_text, is_void, in_expression, in_expressions, in_names, in_call_target, in_callee, in_option, in_statement, in_statements, in_regions, regions_of, in_heading, in_parameters, in_locals, parameter_texts, in_function, in_global, in_items, item_names, reached}
 use Rattle.prem_syntax.specs.Resolve.{kind_of}
+use Rattle.prem_ranges.proofs.Named.{kept_rule_not}
+use Rattle.prem_ranges.proofs.Basics.{none_left, none_right}
 use Rattle.prem_layout.specs.Template.Frames.{frame_of, counters_in}
 use Rattle.prem_gen.specs.Term.Numbers.{IsSmall}
 use Rattle.prem_gen.specs.Routine.Small.{TargetIsSmall}
 use Rattle.prem_gen.specs.Numbers.Small.{TermSmall, FewNames}
 use Rattle.prem_gen.specs.Numbers.Steps.{AllSmall, ResultSmall, StepsSmall, FunctionSmall, FunctionsAreSmall}
 use Rattle.prem_gen.proofs.FrameLemmas.Texts.{locals_resolved}
-use Rattle.prem_gen.proofs.NumbersLemmas.Breaches.{none_left, none_right, kept, all_kept}
+use Rattle.prem_gen.proofs.NumbersLemmas.Breaches.{all_kept}
 use Rattle.prem_gen.proofs.NumbersLemmas.Numbers.{MeaningSmall, meaning_small, resolved_small}
 
 -- ---- single steps
@@ -83,7 +85,7 @@ call_small a at target callee has_target count (Some f) arguments rest e t s r =
     let two = if_at (is_marked_text f.1 && not a.is_job) at MarkedCall in
     let three = if_at (has_target && is_void f.1.ty) at (OfTypes Target) in
     let four = if_at (not (length f.1.params == count)) at (OfTypes CountRule) in
-    let before = kept (nat_lt f.0 a.number) at CallOrder (none_left one two (none_left (one ++ two) three (none_left (one ++ two ++ three) four e))) in
+    let before = kept_rule_not (nat_lt f.0 a.number) at CallOrder (none_left one two (none_left (one ++ two) three (none_left (one ++ two ++ three) four e))) in
     ((t, (ltb-true f.0 a.number before, s)), r)
 
 short_step : (scope : Scope) (names : LoopNames) (low high : Expression) (step : ℕ) (body : Statement) → is_loop scope names low high step body ≡ true → step < 2 ^ 11
@@ -122,7 +124,7 @@ mutual
       let two = if_at (not (is_loop a.scope names low high step body)) at LoopForm in
       let three = in_expression a.scope low in
       let four = in_expression a.scope high in
-      let form = kept (is_loop a.scope names low high step body) at LoopForm (none_right one two (none_left (one ++ two) three (none_left (one ++ two ++ three) four (none_left (one ++ two ++ three ++ four) (in_statement a body) e)))) in (
+      let form = kept_rule_not (is_loop a.scope names low high step body) at LoopForm (none_right one two (none_left (one ++ two) three (none_left (one ++ two ++ three) four (none_left (one ++ two ++ three ++ four) (in_statement a body) e)))) in (
         (
           loop_small (meaning_of a.scope names.first) (meaning_small a.scope few names.first),
           (

@@ -5,8 +5,9 @@ use Rattle.prem_plant.specs.declared.plant.Plant.{Plant}
 use Rattle.prem_plant.specs.Ranges.{default_plant as plant}
 use Rattle.prem_layout.specs.Placed.{Coded, Placed}
 use Rattle.prem_layout.specs.Stretch.Paths.{turning, task_paths, stretch_of, longest_of}
-use Rattle.prem_layout.proofs.Samples.{m_text, m_turns, b_text, b_turns}
+use Rattle.prem_layout.proofs.Samples.{m_text, m_turns}
 use Rattle.prem_layout.proofs.Tasks.{coded, placed}
+use Rattle.prem_layout.proofs.Rows.{two_tasks}
 
 abbrev stretches : Plant → List Coded → List ℕ
 stretches p tasks = map (λ (t : Placed). stretch_of p t.plans t.table) (placed p tasks)
@@ -28,10 +29,6 @@ m_stretch = refl
 m_longest : longests plant task_m ≡ 511 ∷ []
 unfolding turning
 m_longest = refl
-
--- two tasks with a marked function each, on a small cache
-abbrev two_tasks : List Coded
-two_tasks = coded (codes "a") 10000 3 m_text m_turns ∷ coded (codes "b") 10000 3 b_text b_turns ∷ []
 
 abbrev small_cache : Plant
 small_cache = record plant { sets = 16; «ways» = 2 }

@@ -16,7 +16,7 @@ use Rattle.prem_pair.proofs.CyclesLemmas.Apart.{own_cycles}
 use Rattle.prem_pair.proofs.CyclesLemmas.Rows.{pair, same_set}
 
 -- a fill of core 0 goes on, and core 1 waits for the token
-abbrev behind : ℕ → PairState
+abbrev pub behind : ℕ → PairState
 behind n = pair same_set same_set marked marked [] n
 
 abbrev wants_told : PairState → Mode × CoreWant × Mode × CoreWant × Holder

@@ -8,6 +8,7 @@ use Rattle.prem_gate.specs.declared.request.Request.{Request}
 use Rattle.prem_gate.specs.declared.bus.CoreWant.{CoreWant}
 use Rattle.prem_gate.specs.declared.bus.CoreWant.TheVariants.{No}
 use Rattle.prem_gate.specs.Gates.{is_held, wants}
+use Rattle.prem_gate.proofs.Quiet.{no_core}
 use Rattle.prem_cycle.specs.declared.state.Mode.{Mode}
 use Rattle.prem_cycle.specs.declared.state.Mode.TheVariants.{Running}
 use Rattle.prem_cycle.specs.State.{Setup, Work, Counts, MachineState}
@@ -203,13 +204,9 @@ as_going task s h none =
     ∙ ap (λ m. with_core s (Running task) [] false m s.trapped) h.mark
     ∙ ap (λ o. with_core s (Running task) [] false Stay o) none
 
-and_no : (b : Bool) → (b && false) ≡ false
-and_no true = refl
-and_no false = refl
-
 -- nothing is over with its cycle
 ends_none : (s : MachineState) (task : ℕ) (w : Work) (n : Counts) (t : ℕ) (owed : List ℕ) (cost : ℕ) → next_cycle (going_state s task w n t owed cost) ≡ going_state s task w n (t + 1) owed cost
-ends_none s task w n t owed cost = rw (and_no (is_paid (record { transactions = owed; begun = false; cost = cost }))) refl
+ends_none s task w n t owed cost = rw (no_core (is_paid (record { transactions = owed; begun = false; cost = cost }))) refl
 
 pays_part : (rule : ReplacementRule) (p : Setup) (holds : Bool) (s : MachineState) (task : ℕ) (w : Work) (n : Counts) (t cost : ℕ) →
     own_part rule p holds (going_state s task w n t [] (suc cost)) ≡ going_state s task w (with_clash false n) t [] cost

@@ -6,18 +6,14 @@ use Rattle.prem_gate.proofs.Quiet.{next_none}
 use Rattle.prem_cycle.specs.State.{rule_in}
 use Rattle.prem_cycle.specs.declared.state.Mode.{Mode}
 use Rattle.prem_cycle.specs.declared.state.Mode.TheVariants.{Point, Switching}
-use Rattle.prem_cycle.proofs.Images.{marked}
 use Rattle.prem_pair.specs.declared.cycles.state.Holder.{Holder}
 use Rattle.prem_pair.specs.declared.cycles.state.Holder.TheVariants.{First}
 use Rattle.prem_pair.specs.Cycles.Token.{empty_window}
 use Rattle.prem_pair.specs.Cycles.Pair.{PairState, pair_cycles}
 use Rattle.prem_pair.specs.Cycles.Rest.{IsSteadyPair, PairRests, pair_passed}
 use Rattle.prem_pair.proofs.CyclesLemmas.Rests.{pair_one_step}
-use Rattle.prem_pair.proofs.CyclesLemmas.Rows.{pair, same_set}
-
--- core 0 is in its first switch, and core 1 waits for the token
-abbrev behind : ℕ → PairState
-behind n = pair same_set same_set marked marked [] n
+use Rattle.prem_pair.proofs.CyclesLemmas.Rows.{same_set}
+use Rattle.prem_pair.proofs.CyclesLemmas.ApartRows.{behind}
 
 one_period : (k : ℕ) (d : TaskJobs) → k < 1 → 1 ≤ (slice_index_or (behind 1).first.sched k d).period
 unfolding pair_cycles

@@ -1,7 +1,6 @@
 -- So many cycles of rest of two cores come to one step.
 use Rattle.std.specs.Prelude.{◌||◌, ◌&&◌, not, is_some, if◌then◌else◌}
 use Rattle.std.proofs.Common.{◌≡◌, ◌≢◌, ℕ, zero, suc, ◌+◌, ◌≤◌, Bool, true, false, cond, List, Option, Some, None, refl, ap, sym, ◌∙◌, subst, arith, All}
-use Rattle.prem_sched.specs.declared.sched.TaskJobs.{TaskJobs}
 use Rattle.prem_lru.specs.Entries.{ReplacementRule}
 use Rattle.prem_gate.specs.declared.request.Request.{Request}
 use Rattle.prem_gate.specs.declared.bus.CoreWant.{CoreWant}
@@ -10,12 +9,13 @@ use Rattle.prem_gate.specs.Gates.{GatesState, Turned, bus_turn, is_held, wants}
 use Rattle.prem_gate.specs.Stretch.{OnlyGoesOn, bus_run, changes}
 use Rattle.prem_gate.proofs.Quiet.{quiet_free, quiet_gates, quiet_memory, quiet_turn}
 use Rattle.prem_cycle.specs.declared.state.Trap.{Trap}
-use Rattle.prem_cycle.specs.State.{Setup, Work, CoreState, Log, MachineState}
+use Rattle.prem_cycle.specs.State.{Setup, CoreState, Log, MachineState}
 use Rattle.prem_cycle.specs.Issue.{one_if}
 use Rattle.prem_cycle.specs.Core.{CoreMove, core_turn, want_of}
 use Rattle.prem_cycle.specs.Cycle.{is_finished, joined, next_cycle, with_clash, with_memory}
 use Rattle.prem_cycle.specs.Runs.Dull.Rest.{Within}
 use Rattle.prem_cycle.proofs.RunsLemmas.DullLemmas.Steps.{within_less}
+use Rattle.prem_cycle.proofs.RunsLemmas.DullLemmas.Stretch.{state_with}
 use Rattle.prem_pair.specs.declared.cycles.state.Holder.{Holder}
 use Rattle.prem_pair.specs.declared.cycles.state.Holder.TheVariants.{Nobody, First, Second, Gates}
 use Rattle.prem_pair.specs.Cycles.Token.{asks, empty_window, frees, holder_after, is_first, is_gates, is_second, some_wait, two_want, want_with}
@@ -38,9 +38,6 @@ none_of false false true e = absurd (cc)
 none_of false false false e = (refl, (refl, refl))
 
 -- ---- a core's state by its parts
-
-abbrev pub state_with : ℕ → Work → List TaskJobs → CoreState → GatesState → Log → Option Trap → MachineState
-state_with n w j c g l t = record { now = n; work = w; sched = j; core = c; gates = g; log = l; trapped = t }
 
 abbrev pub with_clashes : ℕ → Log → Log
 with_clashes n log = record log { counts = record log.counts { clashes = n } }

@@ -1,6 +1,5 @@
 -- Two cores, computed: a wrong number anywhere is refused.
 use Rattle.std.proofs.Common.{◌≡◌, ℕ, List, [], ◌∷◌, refl, Option, Some}
-use Rattle.prem_plant.specs.declared.plant.Replacement.{Replacement}
 use Rattle.prem_plant.specs.declared.plant.Replacement.TheVariants.{Lru, Fifo}
 use Rattle.prem_isa.specs.declared.effect.Cause.TheVariants.{Decode}
 use Rattle.prem_gate.specs.declared.request.Request.{Request}
@@ -9,9 +8,9 @@ use Rattle.prem_cycle.specs.declared.facts.EndedInterval.{EndedInterval}
 use Rattle.prem_cycle.specs.declared.facts.DeviceFacts.{DeviceFacts}
 use Rattle.prem_cycle.specs.State.{Setup, Counts, rule_in}
 use Rattle.prem_cycle.specs.FactsOf.{Report, report_of}
-use Rattle.prem_cycle.proofs.Images.{bytes_in, marked, without_prefetch, plant, alone, device, put}
+use Rattle.prem_cycle.proofs.Images.{bytes_in, marked, without_prefetch, alone, device, put}
 use Rattle.prem_cycle.proofs.Told.{task_told, compatible, predictable, counted, carried, gate}
-use Rattle.prem_cycle.proofs.RowsPolicies.{back_and_forth}
+use Rattle.prem_cycle.proofs.RowsPolicies.{back_and_forth, two_lines}
 use Rattle.prem_pair.specs.declared.cycles.state.Holder.{Holder}
 use Rattle.prem_pair.specs.declared.cycles.state.Holder.TheVariants.{Nobody, Second}
 use Rattle.prem_pair.specs.declared.cycles.state.PairStop.{PairStop}
@@ -45,9 +44,6 @@ unfolding pair_cycles
 row_two_cores = refl
 
 -- ---- each with its own policy
-
-abbrev two_lines : Replacement → Setup
-two_lines kind = record (alone 48 1 48 []) { plant = record (plant 48) { sets = 1; ways = 2; policy = kind } }
 
 abbrev counts_told : PairState → Counts × Counts
 counts_told s = (s.first.log.counts, s.second.log.counts)

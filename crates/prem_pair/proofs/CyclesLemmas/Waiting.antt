@@ -1,6 +1,6 @@
 -- A core that rests with the token or without it.
 use Rattle.std.specs.Prelude.{◌||◌, ◌&&◌, nat_lt, ◌==◌, if◌then◌else◌}
-use Rattle.std.proofs.Common.{◌≡◌, ℕ, suc, ◌+◌, ◌-◌, ◌≤◌, Bool, true, false, cond, List, [], ◌∷◌, Option, Some, None, refl, ap, sym, ◌∙◌, subst, arith, All}
+use Rattle.std.proofs.Common.{◌≡◌, ℕ, suc, ◌+◌, ◌≤◌, Bool, true, false, cond, List, Option, Some, None, refl, ap, sym, ◌∙◌, subst, arith, All}
 use Rattle.std.proofs.lemmas.Bool.Decides.{nat_tests}
 use Rattle.prem_sched.specs.declared.sched.TaskJobs.{TaskJobs}
 use Rattle.prem_sched.specs.declared.sched.Choice.TheVariants.{Finished}
@@ -13,11 +13,12 @@ use Rattle.prem_gate.specs.Gates.{is_held, wants}
 use Rattle.prem_cycle.specs.declared.state.Mode.{Mode}
 use Rattle.prem_cycle.specs.declared.state.Mode.TheVariants.{Point, Switching, Running, Idle}
 use Rattle.prem_cycle.specs.State.{Setup, Work, CoreState, MachineState}
-use Rattle.prem_cycle.specs.Core.{is_empty, want_of, with_cost, with_debt, core_pay, Passes, move_chosen, move_in, move_of}
+use Rattle.prem_cycle.specs.Core.{is_empty, want_of, core_pay, Passes, move_chosen, move_in, move_of}
 use Rattle.prem_cycle.specs.Cycle.{at_point, close_interval, ends_before, is_finish, is_finished, is_finished_in, settle}
 use Rattle.prem_cycle.specs.Runs.Dull.Dull.{with_switch}
-use Rattle.prem_cycle.specs.Runs.Dull.Rest.{Within, core_passed, core_rest, mode_passed, mode_rest, transactions_passed}
-use Rattle.prem_cycle.proofs.RunsLemmas.DullLemmas.Steps.{move_next, passed_by, passed_is, settle_stays, want_by, want_passed}
+use Rattle.prem_cycle.specs.Runs.Dull.Rest.{Within, core_passed, core_rest, mode_passed, mode_rest}
+use Rattle.prem_cycle.proofs.RunsLemmas.DullLemmas.Steps.{move_next, passed_by, passed_is, settle_stays, want_passed, move_free, move_wants, not_empty, unpaid}
+use Rattle.prem_cycle.proofs.RunsLemmas.DullLemmas.Stretch.{zero_by, finished_none}
 use Rattle.prem_machine.proofs.Resting.{mode_after}
 use Rattle.prem_pair.specs.Cycles.Token.{asks, asks_in, frees, frees_in, is_run}
 use Rattle.prem_pair.specs.Cycles.Rest.{core_passed_with, rest_with, waiting_rest}
@@ -42,11 +43,6 @@ run_by t u sched None periods le e r = absurd (let x : true ≡ false = sym r �
 -- where a task is ready, one is ready later
 run_later : (t u : ℕ) (sched : List TaskJobs) → All (λ j. 1 ≤ j.period) sched → t ≤ u → is_run (choice t sched) ≡ true → is_run (choice u sched) ≡ true
 run_later t u sched periods le r = run_by t u sched (first_ready t 0 sched) periods le refl r
-
-finished_none : (o l : Option ℕ) → is_finish (run_or o (rest l)) ≡ true → l ≡ None
-finished_none (Some k) l e = absurd (cc)
-finished_none None None e = refl
-finished_none None (Some u) e = absurd (cc)
 
 -- all jobs have ended at one time as at another
 finish_at : (t u : ℕ) (sched : List TaskJobs) → is_finish (choice t sched) ≡ true → choice u sched ≡ Finished
@@ -179,12 +175,6 @@ alone_same n c w = rw w refl
 
 -- ---- its move
 
-move_wants : (p : Setup) (t : ℕ) (had : Bool) (sched : List TaskJobs) (w : Work) (c : CoreState) → wants (want_of c.debt) ≡ true → move_of p t had sched w c ≡ Passes (core_pay had c)
-move_wants p t had sched w c is = rw is refl
-
-move_free : (p : Setup) (t : ℕ) (had : Bool) (sched : List TaskJobs) (w : Work) (c : CoreState) → wants (want_of c.debt) ≡ false → move_of p t had sched w c ≡ move_in p t sched w c c.mode
-move_free p t had sched w c is = rw is refl
-
 kept_waiting : (p : Setup) (t : ℕ) (had : Bool) (sched : List TaskJobs) (w : Work) (c : CoreState) (a : Bool) → asks_in t sched c.mode ≡ a →
     move_had false had p t sched w c ≡ cond a (Passes c) (move_of p t had sched w c)
 kept_waiting p t had sched w c a e = ap (λ b. cond b (Passes c) (move_of p t had sched w c)) e
@@ -262,13 +252,6 @@ rest_move p false had n w s periods e h = calm_move p had n w s periods e (calm 
 
 -- ---- nothing is over with it
 
-not_empty : (begun : Bool) (ns : List ℕ) → wants (want_by begun ns) ≡ true → is_empty ns ≡ false
-not_empty begun [] e = absurd (cc)
-not_empty begun (n ∷ ns) e = refl
-
-unpaid : (a b d : Bool) → a ≡ false → ((a && b) && d) ≡ false
-unpaid a b d e = rw e refl
-
 owing_stays : (now n : ℕ) (x : MachineState) (mode : Mode) → wants (want_of x.core.debt) ≡ true → Within (suc n) (waiting_rest now mode) → x.now ≡ now + suc n → settle mode x ≡ x
 owing_stays now n x Point w h t = refl
 owing_stays now n x (Switching k left) w h t = refl
@@ -316,23 +299,6 @@ asks_kept true n m s periods e h = absurd (cc)
 asks_kept false n m s periods e h = asks_passed false (s.now + m) m s.sched s.core ∙ calm_asks n m s periods (calm (suc n) s h)
 
 -- ---- no cycle
-
-zero_transactions : (begun : Bool) (ns : List ℕ) → transactions_passed 0 begun ns ≡ ns
-zero_transactions begun [] = refl
-zero_transactions false (m ∷ ns) = refl
-zero_transactions true (m ∷ ns) = let e : m - 0 ≡ m = omega arith in ap (λ k. k ∷ ns) e
-
-zero_mode : (c : CoreState) (mode : Mode) → c.mode ≡ mode → mode_passed 0 c mode ≡ c
-zero_mode c Point is = refl
-zero_mode c (Switching k left) is =
-    let e : left - 0 ≡ left = omega arith in
-    ap (λ x. record c { mode = Switching k x }) e ∙ ap (λ x. record c { mode = x }) (sym is)
-zero_mode c (Running k) is = let e : c.debt.cost - 0 ≡ c.debt.cost = omega arith in ap (with_cost c) e
-zero_mode c (Idle until) is = refl
-
-zero_by : (c : CoreState) (b : Bool) → passed_by b 0 c ≡ c
-zero_by c true = ap (λ ns. with_debt c (record c.debt { transactions = ns })) (zero_transactions c.debt.begun c.debt.transactions)
-zero_by c false = zero_mode c c.mode refl
 
 zero_passed : (c : CoreState) → core_passed 0 c ≡ c
 zero_passed c = let b = wants (want_of c.debt) in passed_is b 0 c refl ∙ zero_by c b

@@ -24,6 +24,7 @@ use Rattle.prem_cycle.specs.Runs.Window.Windows.{LiesInside, CarriesInside, IsQu
 use Rattle.prem_cycle.proofs.RunsLemmas.PositionLemmas.MayMoves.{does, stands_still, MayMoveIn}
 use Rattle.prem_cycle.proofs.RunsLemmas.PositionLemmas.Gated.{AreGates, arrivals_gates, Turns, bus_turns, written_keeps}
 use Rattle.prem_cycle.proofs.RunsLemmas.WindowLemmas.Bus.{turn_quiet}
+use Rattle.prem_cycle.proofs.RunsLemmas.InputsLemmas.Wants.{and_second}
 use Rattle.prem_sound.proofs.ResidentLemmas.Clashes.{turn_serves}
 use Rattle.prem_sound.proofs.ResidentLemmas.Facing.{Meets}
 use Rattle.prem_sound.proofs.ResidentLemmas.Needs.{needs_in}
@@ -49,10 +50,6 @@ not_true false h = refl
 pub both_true : (a b : Bool) → a ≡ true → b ≡ true → (a && b) ≡ true
 both_true true b e f = f
 both_true false b e f = e
-
-second_of : (a b : Bool) → (a && b) ≡ true → b ≡ true
-second_of true b h = h
-second_of false b h = absurd (let x : false ≡ true = h in cc)
 
 asks_point : (now : ℕ) (sched : List TaskJobs) (mode : Mode) → asks_in now sched mode ≡ true → mode ≡ Point
 asks_point now sched Point h = refl
@@ -84,7 +81,7 @@ finished_needs s e f = by s.core.mode refl e f where
 may_under : (holds : Bool) (p : Setup) (b : Turned) (s : MachineState) → MayMoveIn p b s (move_under holds p b s)
 may_under holds p b s =
     cond_both (not holds && asks s) (Passes s.core) (move_at p b s) (MayMoveIn p b s)
-    (λ yes. stands_still (asks_point s.now s.sched s.core.mode (second_of (not holds) (asks s) yes)))
+    (λ yes. stands_still (asks_point s.now s.sched s.core.mode (and_second (not holds) (asks s) yes)))
     (λ _. does (move_at p b s) (move_cases p s.now b.turn.core s.sched (with_memory b.memory s.work) s.core))
 
 -- ---- at most one wants the bus

@@ -24,7 +24,7 @@ use Rattle.prem_sound.specs.Sound.{IsRun}
 use Rattle.prem_sound.proofs.ResidentLemmas.Facing.{start_faultless}
 use Rattle.prem_sound.proofs.ResidentLemmas.Needs.{start_needs}
 use Rattle.prem_sound.proofs.Lasting.{start_lasts}
-use Rattle.prem_sound.proofs.Timing.{start_timed, core_most, core_before, core_room}
+use Rattle.prem_sound.proofs.Timing.{start_timed, core_most, core_before, core_room, first_no}
 use Rattle.prem_pair.specs.Cycles.Pair.{PairState, pair_cycle, both_finished, one_trapped, one_full, is_pair_over, pair_step, pair_cycles, pair_start, pair_run}
 use Rattle.prem_pair.specs.Laws.PairSound.{pair_limit, due_of, PairsFinish}
 use Rattle.prem_pair.proofs.CyclesLemmas.PairRuns.{pair_step-goes, pair_step-stays}
@@ -83,10 +83,6 @@ start_load : (p : Setup) (inputs : List (List ℕ)) (memory : List ℕ) → load
 start_load p inputs memory = let e = none_waits p.devices in omega (arith, e)
 
 -- ---- small facts
-
-pub first_no : (a b c : Bool) → (a || b || c) ≡ false → a ≡ false
-first_no true b c h = absurd (let x : true ≡ false = h in cc)
-first_no false b c h = refl
 
 over_not : (a b c : Bool) → (a || b || c) ≡ true → a ≡ false → b ≡ false → c ≡ false → ⊥
 over_not true b c h x y z = let v : true ≡ false = x in cc

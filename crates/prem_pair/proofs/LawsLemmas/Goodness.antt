@@ -33,6 +33,7 @@ use Rattle.prem_sound.proofs.ServeLemmas.Puts.{HoldAll, arrivals_all, turn_all, 
 use Rattle.prem_sound.proofs.ServeLemmas.Words.{AreWords, PutsWord, turn_words, issue_words}
 use Rattle.prem_sound.proofs.ServeLemmas.WordRuns.{start_words, no_gets}
 use Rattle.prem_sound.proofs.Marking.{MarksIn, core_marks, start_marks, core_gives}
+use Rattle.prem_sound.proofs.Timing.{first_no}
 use Rattle.prem_pair.specs.Cycles.Token.{window_given, want_with}
 use Rattle.prem_pair.specs.Cycles.Pair.{PairState, pair_cycle, both_finished, one_trapped, one_full, is_pair_over, pair_step, pair_cycles, pair_start, pair_run}
 use Rattle.prem_pair.specs.Laws.PairSound.{pair_queued, PairGood, PairsAreGood}
@@ -40,7 +41,7 @@ use Rattle.prem_pair.proofs.CyclesLemmas.PairRuns.{pair_cycles-next, pair_step-g
 use Rattle.prem_pair.proofs.LawsLemmas.Hosted.{Hosted, CoreSteps}
 use Rattle.prem_pair.proofs.LawsLemmas.Facts.{HostsDevices}
 use Rattle.prem_pair.proofs.LawsLemmas.Holds.{PairHolds, holds_more, cycle_holds, next_is, ended, arriving, holder, bus, bus0, bus1, move0, move1, acted0, acted1, meets0, meets1, steps0, steps1, same_gates}
-use Rattle.prem_pair.proofs.LawsLemmas.Finishing.{first_no, host, guest, devices, start_holds, run_now}
+use Rattle.prem_pair.proofs.LawsLemmas.Finishing.{host, guest, devices, start_holds, run_now}
 
 -- ---- the words of the devices
 

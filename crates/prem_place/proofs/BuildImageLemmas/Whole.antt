@@ -26,12 +26,13 @@ use Rattle.prem_place.specs.declared.content.content.Block.{Block as BlockFound}
 use Rattle.prem_place.specs.Content.Blocks.{Words, block_of, EndsBy}
 use Rattle.prem_place.specs.Placed.PlacedOf.{coded_of, placed_of, routines_of}
 use Rattle.prem_place.specs.declared.placed.PlacedTask.{PlacedTask}
-use Rattle.prem_place.specs.Imaging.Standing.{words_of, AllFit}
+use Rattle.prem_place.specs.Imaging.Standing.{AllFit}
 use Rattle.prem_place.specs.BuildImage.Laid.{Ends, IsLaid}
 use Rattle.prem_place.specs.BuildImage.Built.{count_of, total_of, HasRanges, HaveBlocks, IsBuilt, task_names}
 use Rattle.prem_place.proofs.BuildImageLemmas.Ground.{Stand, all_stand, stand_left, stand_within, greatest_within}
 use Rattle.prem_place.proofs.BuildImageLemmas.Tasks.{HasCode, tasks_counted, all_laid}
 use Rattle.prem_place.proofs.BuildImageLemmas.Areas.{whole_long}
+use Rattle.prem_place.specs.Flat.Blocks.{words_of}
 
 -- ---- how many parts there are
 

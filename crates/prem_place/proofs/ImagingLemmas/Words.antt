@@ -8,7 +8,7 @@ use Rattle.prem_asm.specs.Bytes.{code_bytes}
 use Rattle.prem_layout.specs.Placed.{Block}
 use Rattle.prem_layout.specs.Image.{patched, with_blocks}
 use Rattle.prem_place.specs.Content.Blocks.{Words, with_words}
-use Rattle.prem_place.specs.Imaging.Standing.{words_of}
+use Rattle.prem_place.specs.Flat.Blocks.{words_of}
 
 bytes_same : (code : List Instr) → flat_map (to_le_bytes w32) (map word_of code) ≡ code_bytes code
 bytes_same [] = refl

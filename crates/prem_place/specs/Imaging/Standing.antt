@@ -1,16 +1,12 @@
 -- Blocks of words that stand for the code of placed tasks, and end by an address.
 use Rattle.std.specs.Prelude.{◌≡◌, ℕ, ◌≤◌, List, [], ◌∷◌, length, map}
 use Rattle.std.specs.List.{AllByRecursion}
-use Rattle.prem_isa.specs.Decode.{word_of}
-use Rattle.prem_layout.specs.Placed.{Block, blocks_of}
-use Rattle.prem_place.specs.Content.Blocks.{Words, block_of, EndsBy, HasGlobals}
+use Rattle.prem_layout.specs.Placed.{blocks_of}
+use Rattle.prem_place.specs.Content.Blocks.{block_of, EndsBy, HasGlobals}
 use Rattle.prem_place.specs.declared.content.content.Block.{Block as BlockFound}
 use Rattle.prem_place.specs.Placed.PlacedOf.{placed_of}
 use Rattle.prem_place.specs.declared.placed.PlacedTask.{PlacedTask}
-
--- the words of code at its place
-abbrev pub words_of : Block → Words
-words_of b = record { at = b.at; words = map word_of b.code }
+use Rattle.prem_place.specs.Flat.Blocks.{words_of}
 
 abbrev pub HasBlocks : PlacedTask → List BlockFound → Type 0
 HasBlocks t blocks = map block_of blocks ≡ map words_of (blocks_of (placed_of t))

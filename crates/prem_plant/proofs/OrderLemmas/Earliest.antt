@@ -103,7 +103,7 @@ orders_after-append : (rule : OrderRule) (room : ℕ) (xs ys order : List ℕ) �
 orders_after-append rule room [] ys order = refl
 orders_after-append rule room (x ∷ xs) ys order = orders_after-append rule room xs ys (order_after rule room order x)
 
-all_append : (c xs ys : List ℕ) → AllIn c xs → AllIn c ys → AllIn c (xs ++ ys)
+pub all_append : (c xs ys : List ℕ) → AllIn c xs → AllIn c ys → AllIn c (xs ++ ys)
 all_append c [] ys h k = k
 all_append c (x ∷ xs) ys h k = (h.0, all_append c xs ys h.1 k)
 

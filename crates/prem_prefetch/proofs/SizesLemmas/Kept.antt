@@ -10,6 +10,7 @@ use Rattle.prem_syntax.specs.Resolve.{functions_of, globals_of}
 use Rattle.prem_syntax.specs.Rules.{Rule, Limit, NoJob, Breach, first, first_of, comes_before}
 use Rattle.prem_syntax.specs.Breaches.{if_broken, is_job_name, regions_of, is_stated, is_length, item_names, reached, in_items, in_limits, breaches}
 use Rattle.prem_syntax.specs.GroupTwo.{group_two, IsWellFormed}
+use Rattle.prem_analysis.proofs.Counts.{at_most}
 use Rattle.prem_prefetch.specs.Parts.Parts.{IsShortGlobal}
 
 none_left : {A : Type 0} (xs ys : List A) → xs ++ ys ≡ [] → xs ≡ []
@@ -37,9 +38,6 @@ none_broken (b ∷ bs) e = some_first b (first_of bs) e where
 is_none_means : {A : Type 0} (o : Option A) → IsTrue (is_none o) → o ≡ None
 is_none_means None h = refl
 is_none_means (Some x) h = cc
-
-at_most : (n : ℕ) → nat_lt 256 n ≡ false → n ≤ 256
-at_most n is = grind (arith, nat_tests)
 
 -- ---- each global and each function
 

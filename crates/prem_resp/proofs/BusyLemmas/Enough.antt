@@ -1,17 +1,18 @@
 -- The length of a busy period is enough for a job of each task of its level.
 use Rattle.std.proofs.Common.{◌≡◌, ℕ, zero, suc, ◌+◌, ◌*◌, ◌<◌, ◌≤◌, refl, ap, ◌∙◌, sym, subst, arith, List, [], ◌∷◌, length, take, drop}
+use Rattle.prem_sound.specs.Script.Scripts.{sum_below}
 use Rattle.prem_resp.specs.declared.busy.load.Load.{Load}
 use Rattle.prem_resp.specs.Busy.Busy.{load_at, releases_in, interference, greatest_interval, blocking}
-use Rattle.prem_resp.specs.Busy.Schedule.{sum_first, LengthsAreEnough}
+use Rattle.prem_resp.specs.Busy.Schedule.{LengthsAreEnough}
 
 abbrev work : ℕ → List Load → ℕ → ℕ
 work cycles loads k = releases_in (load_at loads k).period cycles * (load_at loads k).cost
 
-sum_front : (n : ℕ) (f : ℕ → ℕ) → sum_first (suc n) f ≡ f 0 + sum_first n (λ k. f (suc k))
+sum_front : (n : ℕ) (f : ℕ → ℕ) → sum_below (suc n) f ≡ f 0 + sum_below n (λ k. f (suc k))
 sum_front zero f = omega arith
-sum_front (suc n) f = let a : sum_first (suc n) f ≡ f 0 + sum_first n (λ k. f (suc k)) = sum_front n f in omega (arith, a)
+sum_front (suc n) f = let a : sum_below (suc n) f ≡ f 0 + sum_below n (λ k. f (suc k)) = sum_front n f in omega (arith, a)
 
-summed : (i cycles : ℕ) (loads : List Load) → i < length loads → sum_first i (work cycles loads) ≡ interference cycles (take i loads)
+summed : (i cycles : ℕ) (loads : List Load) → i < length loads → sum_below i (work cycles loads) ≡ interference cycles (take i loads)
 summed zero cycles loads lt = refl
 summed (suc i) cycles [] lt = absurd (omega (arith, lt))
 summed (suc i) cycles (x ∷ xs) lt =

@@ -4,8 +4,9 @@ use Rattle.std.proofs.Common.{◌≡◌, ℕ, zero, suc, ◌+◌, ◌-◌, ◌*�
 use Rattle.std.proofs.lemmas.Bool.{cases_eq, cases_lt, cases_Bool, eq-eqb, eqb-true, and_parts}
 use Rattle.std.proofs.lemmas.Nat.{mul-le}
 use Rattle.std.proofs.Math.Nat.{mul-add, mul-one, mul_comm}
+use Rattle.prem_sound.specs.Script.Scripts.{sum_below}
 use Rattle.prem_resp.specs.Busy.Busy.{releases_in}
-use Rattle.prem_resp.specs.Busy.Schedule.{Tasks, released, released_before, Schedule, IsReady, is_task, one_if, served, IsServed, IsSchedule, sum_first, IsEnough, JobsEndInTime}
+use Rattle.prem_resp.specs.Busy.Schedule.{Tasks, released, released_before, Schedule, IsReady, is_task, one_if, served, IsServed, IsSchedule, IsEnough, JobsEndInTime}
 use Rattle.prem_resp.proofs.BusyLemmas.Totals.{sum_le, sum_less, all_or_one}
 use Rattle.prem_resp.proofs.BusyLemmas.Releases.{released_next, released_grows, none_at_first, released_add, one_in_period, job_released}
 
@@ -149,7 +150,7 @@ module _ (x : Tasks) (s : Schedule) (h : IsSchedule x s) where
         omega (arith, grows, next, l.2)
 
     abbrev got_all : (from cycles : ℕ) → ℕ
-    got_all a n = sum_first (suc i) (λ k. got k a n)
+    got_all a n = sum_below (suc i) (λ k. got k a n)
 
     -- then each cycle serves the level, but for those at first in which an interval behind it goes on
     level_served : (a n : ℕ) → ((v : ℕ) → v < n → IsLate (suc (a + v))) → n ≤ min n p.blocked + got_all a n
@@ -211,7 +212,7 @@ module _ (x : Tasks) (s : Schedule) (h : IsSchedule x s) where
               let e : suc (a + (length - 1)) ≡ a + length = omega (arith, p.some) in
               let l : IsLate (a + length) = subst IsLate e (late (length - 1) last) in
               let all : length ≤ min length p.blocked + got_all a length = level_served a length late in
-              let less : got_all a length + 1 ≤ sum_first (suc i) work =
+              let less : got_all a length + 1 ≤ sum_below (suc i) work =
               sum_less (suc i) l.0 1 (λ k. got k a length) work l.1
               (let y : got l.0 a length + 1 ≤ x.cost l.0 * releases_in (x.period l.0) length = got_less l.0 a length (below l.0 l.1) (clean l.0 l.1) l.2 in omega (arith, y, swapped l.0))
               (λ k lk. let y : got k a length ≤ x.cost k * releases_in (x.period k) length = got_most k a length (below k lk) (clean k lk) in omega (arith, y, swapped k)) in

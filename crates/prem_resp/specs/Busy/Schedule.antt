@@ -1,6 +1,7 @@
 -- A schedule, cycle by cycle: which task the core serves, and what is known of how it chooses. Tasks are numbered in order of
 -- priority, and time is in cycles.
 use Rattle.std.specs.Prelude.{◌≡◌, ℕ, zero, suc, ◌+◌, ◌*◌, ◌/◌, ◌<◌, ◌≤◌, ◌==◌, ◌&&◌, min, Bool, false, Option, Some, None, if◌then◌else◌, List, length}
+use Rattle.prem_sound.specs.Script.Scripts.{sum_below}
 use Rattle.prem_resp.specs.declared.busy.load.Load.{Load}
 use Rattle.prem_resp.specs.Busy.Busy.{releases_in, load_at, IsBalanced}
 
@@ -64,10 +65,6 @@ pub record IsSchedule (x : Tasks) (s : Schedule) : Type 0 where
 
 -- ---- the law
 
-abbrev pub sum_first : ℕ → (ℕ → ℕ) → ℕ
-sum_first zero f = 0
-sum_first (suc n) f = sum_first n f + f n
-
 -- so many cycles are enough for an interval behind a task, a job of it, and the jobs of those before it
 pub record IsEnough (x : Tasks) (i cycles : ℕ) : Type 0 where
   pub there : i < x.count
@@ -75,7 +72,7 @@ pub record IsEnough (x : Tasks) (i cycles : ℕ) : Type 0 where
   pub within : cycles ≤ x.period i
   pub blocked : ℕ
   pub behind : (k : ℕ) → i < k → k < x.count → x.longest k ≤ blocked
-  pub most : blocked + x.cost i + sum_first i (λ j. releases_in (x.period j) cycles * x.cost j) ≤ cycles
+  pub most : blocked + x.cost i + sum_below i (λ j. releases_in (x.period j) cycles * x.cost j) ≤ cycles
 
 -- then each job of the task has ended so many cycles behind its release
 abbrev pub JobsEndInTime : Type 0

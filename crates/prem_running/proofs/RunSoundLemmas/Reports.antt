@@ -16,7 +16,7 @@ use Rattle.prem_sound.specs.Sound.{Sound}
 use Rattle.prem_exec.specs.Exec.{stop_at}
 use Rattle.prem_running.specs.RunSound.Runs.{SuitsRun, HasRoom, SoundRunsNeverFill, EndsWell, SoundReportsEnd}
 
-third_true : (a b c : Bool) → c ≡ true → (a || b || c) ≡ true
+pub third_true : (a b c : Bool) → c ≡ true → (a || b || c) ≡ true
 third_true true b c h = refl
 third_true false true c h = refl
 third_true false false c h = h
@@ -30,7 +30,7 @@ stop_full n s full = cond full (Some (LogFull log_size)) (cond (s.now == n) (Som
 abbrev stop_by : ℕ → MachineState → Bool → Stop
 stop_by n s finished = unwrap_or (cond finished (Some Finished) (stop_trapped s.trapped (stop_full n s (is_full s)))) Limit
 
-at_cycle : (b : Bool) → unwrap_or (cond b (Some Limit) None) Limit ≡ Limit
+pub at_cycle : (b : Bool) → unwrap_or (cond b (Some Limit) None) Limit ≡ Limit
 at_cycle true = refl
 at_cycle false = refl
 

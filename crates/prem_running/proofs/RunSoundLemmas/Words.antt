@@ -1,6 +1,6 @@
 -- The values that run files give are words.
 use Rattle.std.specs.Str.{bytes_eq}
-use Rattle.std.proofs.Common.{◌≡◌, ◌<◌, ◌≤◌, ◌^◌, ◌-◌, ◌%◌, ◌+◌, ◌==◌, ℕ, nat_lt, nat_le, List, [], ◌∷◌, ◌++◌, length, All, get_or, set, Option, None, Some, IfSome, option_map, Result, Ok, Err, codes, refl, sym, subst, arith, inl, inr, ⊎_elim}
+use Rattle.std.proofs.Common.{◌≡◌, ◌<◌, ◌≤◌, ◌^◌, ◌-◌, ◌%◌, ◌+◌, ◌==◌, ℕ, nat_lt, nat_le, List, [], ◌∷◌, ◌++◌, length, get_or, set, Option, None, Some, IfSome, option_map, Result, Ok, Err, codes, refl, sym, subst, arith, inl, inr, ⊎_elim}
 use Rattle.std.proofs.lemmas.Bool.{cases_Bool, cases_lt}
 use Rattle.std.proofs.lemmas.List.{get_or_past}
 use Rattle.std.proofs.lemmas.List.Elements.{All-nil, All-push, All-set, All-replicate}
@@ -16,6 +16,7 @@ use Rattle.prem_set.specs.declared.run.fail.Which.TheVariants as which
 use Rattle.prem_set.specs.Run.Names.{KnownNames, task_of, device_of}
 use Rattle.prem_set.specs.Run.Run.{Gathered, RequestWords, taken, taken_for, inputs_of, request_words, put_of, request_of, with_request, with_words, in_words, req_words, words_read, line_read, lines_read, at_line, nothing_yet, run_of}
 use Rattle.prem_set.proofs.RunLemmas.Lawful.{limited}
+use Rattle.prem_mail.proofs.Words.{AllWords, AreWords}
 
 -- ---- values
 
@@ -38,12 +39,6 @@ value_is_word (b ∷ bs) v is =
     ]
 
 -- ---- inputs
-
-abbrev AreWords : List ℕ → Type 0
-AreWords words = All (λ word. word < 2 ^ 32) words
-
-abbrev AllWords : List (List ℕ) → Type 0
-AllWords lists = All (λ words. All (λ word. word < 2 ^ 32) words) lists
 
 taken_words : (have : List ℕ) (words : List (List ℕ)) (list : List ℕ) → taken have words ≡ Ok list → AreWords have → AreWords list
 taken_words have [] list is h = subst AreWords (held which.Limit (nat_le (length have) 100000) have list is).1 h

@@ -22,7 +22,7 @@ use Rattle.prem_set.specs.Run.Names.{KnownNames}
 use Rattle.prem_set.specs.Run.Lawful.{IsKnown, IsLawful, IsLawfulRun}
 use Rattle.prem_exec.specs.Forms.{RunText}
 use Rattle.prem_exec.specs.Exec.{input_of}
-use Rattle.prem_running.specs.SetLaws.Laws.{set_names}
+use Rattle.prem_exec.specs.Sources.Sources.{names_of}
 use Rattle.prem_running.specs.Sample.Draws.{next, drawn, after, numbers}
 use Rattle.prem_running.specs.Sample.Trace.{task_names, behind_task, behind_tasks, tasks_from, words_from, request_at, requests_from, device_named, sample_devices, sample_set, sample_run}
 use Rattle.prem_running.proofs.SampleLemmas.Numbers.{numbers_counted}
@@ -97,7 +97,7 @@ set_is_lawful p devices trees seed plant are is = record {
 -- ---- what comes to its run
 
 abbrev names : ℕ → KnownNames
-names seed = set_names (sample_set seed)
+names seed = names_of (sample_set seed)
 
 -- each of the two devices has four lines
 four_lines : (seed k line : ℕ) → k < 2 → line < 4 → line < (get_or (names seed).devices k ([], 0)).1
@@ -184,9 +184,9 @@ run_is_lawful seed =
     few n is = omega (arith, is)
 
 abbrev IsLawfulText : TaskSet → RunText → Type 0
-IsLawfulText set run = IsLawful (set_names set) run.words run.requests
+IsLawfulText set run = IsLawful (names_of set) run.words run.requests
 
-pub sample_is_lawful : (set : TaskSet) (input : RunInput) (seed : ℕ) → set ≡ sample_set seed → input_of input ≡ sample_run seed → IsLawfulRun (set_names set) input
+pub sample_is_lawful : (set : TaskSet) (input : RunInput) (seed : ℕ) → set ≡ sample_set seed → input_of input ≡ sample_run seed → IsLawfulRun (names_of set) input
 sample_is_lawful set input seed is same =
     let drawn_set : IsLawfulText set (sample_run seed) = subst (λ (s : TaskSet). IsLawfulText s (sample_run seed)) (sym is) (run_is_lawful seed) in
     let whole : IsLawfulText set (input_of input) = subst (IsLawfulText set) (sym same) drawn_set in

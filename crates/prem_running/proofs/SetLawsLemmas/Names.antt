@@ -1,5 +1,4 @@
 -- The names of a set are those of its image.
-use Rattle.std.specs.Int.{next_multiple_of}
 use Rattle.std.specs.List.{AllByRecursion}
 use Rattle.std.proofs.Common.{◌≡◌, ℕ, suc, ◌+◌, ◌-◌, List, [], ◌∷◌, ◌++◌, None, Some, Result, Ok, Err, length, map, drop, length-append, length-drop, refl, ap, ap₂, sym, ◌∙◌, subst, arith}
 use Rattle.std.proofs.lemmas.List.{length-map}
@@ -8,7 +7,8 @@ use Rattle.prem_plant.specs.declared.plant.Plant.{Plant}
 use Rattle.prem_plant.specs.declared.plant.Device.{Device}
 use Rattle.prem_plant.specs.declared.layout.PartKind.TheVariants.{Stack}
 use Rattle.prem_plant.specs.declared.layout.PartSize.{PartSize}
-use Rattle.prem_plant.specs.Places.{Extent, places_from, default_places}
+use Rattle.prem_plant.specs.Places.{Extent, default_places}
+use Rattle.prem_plant.proofs.Placing.{length-places}
 use Rattle.prem_gate.specs.declared.request.Request.{Request}
 use Rattle.prem_image.specs.Records.{task_names}
 use Rattle.prem_cycle.specs.Inputs.{FitsRun, image_setup}
@@ -32,7 +32,7 @@ use Rattle.prem_set.specs.Run.Names.{known_of}
 use Rattle.prem_set.specs.Run.Lawful.{IsLawful}
 use Rattle.prem_report.specs.Fitting.Named.{devices_in, names_for}
 use Rattle.prem_report.proofs.FittingLemmas.Fits.{lawful_fits}
-use Rattle.prem_running.specs.SetLaws.Laws.{set_names}
+use Rattle.prem_exec.specs.Sources.Sources.{names_of}
 use Rattle.prem_running.proofs.SetLawsLemmas.Nothing.{none_first}
 
 -- ---- each text has its program
@@ -67,10 +67,6 @@ names_are_placed p places [] = refl
 names_are_placed p places (c ∷ cs) = ap (λ (xs : List Text). c.name ∷ xs) (names_are_placed p (drop (part_count c.program) places) cs)
 
 -- ---- how many parts there are
-
-places_counted : (at : ℕ) (parts : List PartSize) → length (places_from at parts) ≡ length parts
-places_counted at [] = refl
-places_counted at (part ∷ parts) = ap suc (places_counted (next_multiple_of at part.align + part.size) parts)
 
 codes_counted : (parts : Parts) (fs : List Routine) → length (codes_of parts fs) ≡ length fs
 codes_counted parts [] = refl
@@ -111,7 +107,7 @@ areas_left p ds cs h =
     let tasks = parts_from (stub_passes p) 0 (map sized_of cs) in
     let areas = area_parts p.line 0 ds in
     let a : length (drop (part_total cs) (default_places whole)) ≡ length (default_places whole) - part_total cs = length-drop (part_total cs) (default_places whole) in
-    let b : length (default_places whole) ≡ length whole = places_counted 0 whole in
+    let b : length (default_places whole) ≡ length whole = length-places 0 whole in
     let c : length whole ≡ length tasks + length areas = length-append tasks areas in
     let d : length tasks ≡ part_total cs = tasks_counted (stub_passes p) 0 cs h in
     let e : length areas ≡ length ds = areas_counted p.line 0 ds in
@@ -126,7 +122,7 @@ devices_are_recorded (d ∷ ds) (p ∷ places) count = ap (λ (xs : List Device)
 
 -- ---- the whole
 
-pub names_are_kept : (set : TaskSet) → broken set ≡ None → names_for (compiled set).image.tasks (compiled set).image.devices ≡ set_names set
+pub names_are_kept : (set : TaskSet) → broken set ≡ None → names_for (compiled set).image.tasks (compiled set).image.devices ≡ names_of set
 names_are_kept set e =
     let cs = coded_in set in
     let tasks : task_names (compiled set).image.tasks ≡ stated_names set.tasks =
@@ -135,7 +131,7 @@ names_are_kept set e =
     devices_are_recorded set.devices (drop (part_total cs) (places_in set)) (areas_left set.plant set.devices cs (coded_have_code set.plant.target set.tasks (programs_of set.tasks))) in
     ap₂ known_of tasks devices
 
-pub lawful_runs_fit : (set : TaskSet) (words : List (List ℕ)) (requests : List Request) → broken set ≡ None → IsLawful (set_names set) words requests →
+pub lawful_runs_fit : (set : TaskSet) (words : List (List ℕ)) (requests : List Request) → broken set ≡ None → IsLawful (names_of set) words requests →
     FitsRun (image_setup (compiled set).image) words requests
 lawful_runs_fit set words requests e lawful =
     lawful_fits (image_setup (compiled set).image) words requests (subst (λ names. IsLawful names words requests) (sym (names_are_kept set e)) lawful)

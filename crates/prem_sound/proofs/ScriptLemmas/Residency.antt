@@ -3,6 +3,7 @@ use Rattle.std.specs.List.{concat}
 use Rattle.std.proofs.Common.{◌≡◌, ℕ, ◌<◌, refl, ap, ◌∙◌, sym, subst, cond, true, false, Bool, List, [], ◌∷◌, ◌++◌, append_assoc, append-nil, length}
 use Rattle.prem_plant.specs.Order.Order.{is_in, AllIn, OrderRule, order_of, cache_after, caches_after, cache_misses, HaveRoom, IsCacheFullAfter}
 use Rattle.prem_plant.proofs.OrderLemmas.Lift.{length-caches_after}
+use Rattle.prem_plant.proofs.OrderLemmas.Earliest.{all_append}
 use Rattle.prem_isa.specs.Plain.{Did}
 use Rattle.prem_sound.specs.Script.Script.{lines_of_did, lines_of_dids, IsCovered}
 
@@ -22,10 +23,6 @@ cache_misses-append order room orders (x ∷ xs) ys =
     let orders' : List (List ℕ) = cache_after order room orders x in
     miss_append (is_in x (order_of orders x)) x (cache_misses order room orders' (xs ++ ys)) (cache_misses order room orders' xs) (cache_misses order room (caches_after order room orders' xs) ys)
     (cache_misses-append order room orders' xs ys)
-
-pub all_in-append : (c xs ys : List ℕ) → AllIn c xs → AllIn c ys → AllIn c (xs ++ ys)
-all_in-append c [] ys h k = k
-all_in-append c (x ∷ xs) ys h k = (h.0, all_in-append c xs ys h.1 k)
 
 none_right : (xs ys : List ℕ) → xs ++ ys ≡ [] → ys ≡ []
 none_right [] ys e = e
@@ -63,7 +60,7 @@ covered_hits order passes room orders members touches more full pos fits c s all
     let before : List (List ℕ) = caches_after order room s.first (concat c.parts) in
     let same : length s.first ≡ length orders = sym (length-caches_after order room touches s.first) ∙ ap length (sym s.orders_are) in
     let none : cache_misses order room before (c.later ++ more) ≡ [] =
-    (full room s.first members c.parts (c.later ++ more) (subst (λ n. 0 < n) (sym same) pos) (subst (λ n. HaveRoom n room members) (sym same) fits) c.count_is c.passes (all_in-append members c.later more c.within all)).1 in
+    (full room s.first members c.parts (c.later ++ more) (subst (λ n. 0 < n) (sym same) pos) (subst (λ n. HaveRoom n room members) (sym same) fits) c.count_is c.passes (all_append members c.later more c.within all)).1 in
     let now : orders ≡ caches_after order room before c.later =
     s.orders_are ∙ ap (caches_after order room s.first) c.touches_are ∙ caches_after-append order room s.first (concat c.parts) c.later in
     ap (λ o. cache_misses order room o more) now
@@ -77,5 +74,5 @@ covered_more count members touches more c all = record {
   touches_are = ap (λ zs. zs ++ more) c.touches_are ∙ append_assoc (concat c.parts) c.later more;
   count_is = c.count_is;
   passes = c.passes;
-  within = all_in-append members c.later more c.within all;
+  within = all_append members c.later more c.within all;
 }

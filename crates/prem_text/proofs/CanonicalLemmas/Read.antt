@@ -55,18 +55,18 @@ canonical_spellings p is = are_spellings (program_lexemes p) (sayable_of p is)
 
 -- ---- tokens
 
-lexemes_placed : (before : List ℕ) (xs : List Lexeme) → lexemes_of (placed before (map spelling_of xs)) ≡ xs
+pub lexemes_placed : (before : List ℕ) (xs : List Lexeme) → lexemes_of (placed before (map spelling_of xs)) ≡ xs
 lexemes_placed before [] = refl
 lexemes_placed before (x ∷ xs) = ap (λ (ys : List Lexeme). x ∷ ys) (lexemes_placed (before ++ lexeme_bytes x ++ 32 ∷ []) xs)
 
-and_end : (ts : List Seen) (xs : List Lexeme) (t : Seen) → lexemes_of ts ≡ xs → lexemes_of (ts ++ t ∷ []) ≡ xs ++ t.0 ∷ []
+pub and_end : (ts : List Seen) (xs : List Lexeme) (t : Seen) → lexemes_of ts ≡ xs → lexemes_of (ts ++ t ∷ []) ≡ xs ++ t.0 ∷ []
 and_end ts xs t is = appended ts t ∙ ap (λ (ys : List Lexeme). ys ++ t.0 ∷ []) is
   where
     appended : (ts : List Seen) (t : Seen) → lexemes_of (ts ++ t ∷ []) ≡ lexemes_of ts ++ t.0 ∷ []
     appended [] t = refl
     appended (u ∷ ts) t = ap (λ (ys : List Lexeme). u.0 ∷ ys) (appended ts t)
 
-abbrev tokens_in : ProgramText → List Seen
+abbrev pub tokens_in : ProgramText → List Seen
 tokens_in p = placed [] (map spelling_of (program_lexemes p))
 
 own_division : (p : ProgramText) → IsOfText p → Divides [] (printed p) (tokens_in p) []
@@ -78,27 +78,27 @@ own_program p is = canonical_spelled p _ is (and_end (tokens_in p) (program_lexe
 pub canonical_divided : (p : ProgramText) → IsOfText p → IsTextOf p (printed p)
 canonical_divided p is = record { tokens = tokens_in p; divides = own_division p is; canonical = lexemes_placed [] (program_lexemes p); is_spelled = own_program p is }
 
-length_spelled : (xs : List Lexeme) → length (map spelling_of xs) ≡ length xs
+pub length_spelled : (xs : List Lexeme) → length (map spelling_of xs) ≡ length xs
 length_spelled [] = refl
 length_spelled (x ∷ xs) = ap (λ (n : ℕ). suc n) (length_spelled xs)
 
-how_many : (p : ProgramText) → length (tokens_in p) ≡ length (program_lexemes p)
+pub how_many : (p : ProgramText) → length (tokens_in p) ≡ length (program_lexemes p)
 how_many p = placed_length [] (map spelling_of (program_lexemes p)) ∙ length_spelled (program_lexemes p)
 
 -- ---- reading
 
 -- programs with the same tokens have the same tree
-one_tree : (p q : ProgramPhrase) → IsProgram p → IsProgram q → program_tokens p ≡ program_tokens q → program_tree p ≡ program_tree q
+pub one_tree : (p q : ProgramPhrase) → IsProgram p → IsProgram q → program_tokens p ≡ program_tokens q → program_tree p ≡ program_tree q
 one_tree p q is is' same =
     let a = (program_stages p is).0 in
     let b = (program_stages q is').0 in
     let e = sym a ∙ ap (λ (ts : List Seen). stages [] outside ts) same ∙ b in
     ap (λ (r : Reached). r.0) (some_same (program_tree p) finished (reached (program_tree q) finished) e)
 
-same_tokens : (text : List ℕ) (ts all : List Seen) → tokens_of text ≡ Ok ts → AreTokens text all → all ≡ ts
+pub same_tokens : (text : List ℕ) (ts all : List Seen) → tokens_of text ≡ Ok ts → AreTokens text all → all ≡ ts
 same_tokens text ts all read are = let e = complete text all are in cc
 
-back_by : (p : ProgramText) (ts : List Seen) (r : Result ProgramText FrontFail) → Fits p → IsSpelled p ts → tokens_of (printed p) ≡ Ok ts → reads (printed p) ≡ r → ReadBack p r
+pub back_by : (p : ProgramText) (ts : List Seen) (r : Result ProgramText FrontFail) → Fits p → IsSpelled p ts → tokens_of (printed p) ≡ Ok ts → reads (printed p) ≡ r → ReadBack p r
 back_by p ts (Ok items) fits s tokens read =
     let t = text_sound (printed p) items read in
     let same = one_tree t.phrase s.phrase t.right s.right (t.spelled ∙ same_tokens (printed p) ts t.all tokens t.tokens ∙ sym s.tokens) in
@@ -117,13 +117,13 @@ within p is fits =
     let tokens : tokens_of (printed p) ≡ Ok ts = complete (printed p) ts (record { tokens = tokens_in p; divides = own_division p is; is_all = refl; size = fits.bytes; count = few }) in
     back_by p ts (reads (printed p)) fits (own_program p is) tokens refl
 
-refused_by : (p : ProgramText) → IsNoProgram (printed p) TooLong → IsTooLong p → ReadBack p (reads (printed p))
+pub refused_by : (p : ProgramText) → IsNoProgram (printed p) TooLong → IsTooLong p → ReadBack p (reads (printed p))
 refused_by p why long = subst (ReadBack p) (sym (no_program_refused (printed p) TooLong why)) (is_too_long long)
 
-at_most : (n most : ℕ) → nat_lt most n ≡ false → n ≤ most
+pub at_most : (n most : ℕ) → nat_lt most n ≡ false → n ≤ most
 at_most n most is = grind (arith, nat_tests)
 
-more_than : (n most : ℕ) → nat_lt most n ≡ true → most < n
+pub more_than : (n most : ℕ) → nat_lt most n ≡ true → most < n
 more_than n most is = grind (arith, nat_tests)
 
 read_by : (p : ProgramText) (b c : Bool) → IsOfText p → nat_lt 1048576 (length (printed p)) ≡ b → nat_lt 200000 (length (program_lexemes p)) ≡ c → ReadBack p (reads (printed p))

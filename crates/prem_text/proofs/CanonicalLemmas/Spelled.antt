@@ -28,7 +28,7 @@ use Rattle.prem_text.proofs.CanonicalLemmas.Sayable.{AreSayable, IsSayable}
 
 -- ---- digits
 
-in_digits : (c : ℕ) → digit_of c < 10 → is_digit c ≡ true
+pub in_digits : (c : ℕ) → digit_of c < 10 → is_digit c ≡ true
 in_digits c lt = let r = digit_from_value c lt in grind (arith, nat_tests, r)
 
 ten_back : (c : ℕ) → is_digit c ≡ true → digit_value c + 48 ≡ c

@@ -10,7 +10,7 @@ use Rattle.prem_text.specs.Lexing.Spelling.{used_word, is_unused, reserved_word,
 use Rattle.prem_text.specs.Lexing.Literal.{literal_word}
 use Rattle.prem_text.specs.Lexing.Tokens.{first_token, start, step, lex, tokens_of}
 
-abbrev on : ℕ → ℕ → Lexeme → Seen
+abbrev pub on : ℕ → ℕ → Lexeme → Seen
 on line col t = (t, record { line = line; col = col })
 
 abbrev all_of : List (List ℕ) → List (Result (List Seen) FrontFail)

@@ -1,31 +1,25 @@
 -- The canonical spelling of a tree of the right shape, whose tokens can be spelled, is read back, or is past a limit.
-use Rattle.std.proofs.lemmas.Bool.Decides.{nat_tests}
-use Rattle.std.proofs.Common.{◌≡◌, ◌≤◌, ◌<◌, nat_lt, Bool, true, false, arith, ℕ, suc, List, [], ◌∷◌, ◌++◌, length, Result, Ok, Err, refl, ap, sym, subst, ◌∙◌, map}
+use Rattle.std.proofs.Common.{◌≡◌, ◌≤◌, ◌<◌, nat_lt, Bool, true, false, ℕ, List, [], ◌∷◌, ◌++◌, length, Ok, refl, ap, sym, subst, map}
 use Rattle.prem_syntax.specs.Syntax.{ProgramText}
-use Rattle.prem_text.specs.declared.lexing.token.fail.FrontFail.{FrontFail}
 use Rattle.prem_text.specs.declared.lexing.token.fail.FrontFail.TheVariants.{TooLong}
-use Rattle.prem_text.specs.Lexing.Token.Lexeme.{Lexeme, end_of_text, Seen}
+use Rattle.prem_text.specs.Lexing.Token.Lexeme.{Lexeme, end_of_text}
 use Rattle.prem_text.specs.Lexing.Tokens.{tokens_of}
-use Rattle.prem_text.specs.Spelling.Spelled.{placed}
-use Rattle.prem_text.specs.Spelling.Division.{Divides, AreTokens, too_long, too_many, place_behind}
-use Rattle.prem_text.specs.Grammar.Item.{outside, finished}
-use Rattle.prem_text.specs.Grammar.ProgramPhrases.{ProgramPhrase, IsProgram, program_tokens, program_tree}
-use Rattle.prem_text.specs.Grammar.Law.{stages}
-use Rattle.prem_text.specs.Texts.{reads, IsNoProgram, not_divided, unexpected, past}
+use Rattle.prem_text.specs.Spelling.Division.{Divides, too_long, too_many, place_behind}
+use Rattle.prem_text.specs.Texts.{reads, not_divided}
 use Rattle.prem_text.specs.Canonical.Unplaced.{unplaced}
 use Rattle.prem_text.specs.Canonical.Canonical.{program_lexemes}
-use Rattle.prem_text.specs.Canonical.Printed.{lexeme_bytes, spelling_of, printed}
-use Rattle.prem_text.specs.Canonical.Law.{lexemes_of, IsSpelled, Fits, IsTooLong, too_many_bytes, too_many_tokens, ReadBack, gives_back, is_too_long, is_too_deep}
-use Rattle.prem_text.proofs.SpellingLemmas.Exact.{complete, refusals_complete}
-use Rattle.prem_text.proofs.SpellingLemmas.Joined.{divided, placed_length}
-use Rattle.prem_text.proofs.GrammarLemmas.Program.{Reached, reached, some_same, program_stages}
-use Rattle.prem_text.proofs.Whole.{text_sound, text_refused, no_program_refused}
+use Rattle.prem_text.specs.Canonical.Printed.{spelling_of, printed}
+use Rattle.prem_text.specs.Canonical.Law.{IsSpelled, Fits, too_many_bytes, too_many_tokens, ReadBack}
+use Rattle.prem_text.proofs.SpellingLemmas.Exact.{complete}
+use Rattle.prem_text.proofs.SpellingLemmas.Joined.{divided}
+use Rattle.prem_text.proofs.Whole.{text_sound}
 use Rattle.prem_text.proofs.CanonicalLemmas.Parts.{Are, are_own}
 use Rattle.prem_text.proofs.CanonicalLemmas.Shaped.{AreShapedItems}
 use Rattle.prem_text.proofs.CanonicalLemmas.Items.{program_said}
 use Rattle.prem_text.proofs.CanonicalLemmas.Sayable.{AreSayable, AreSaid, front, tokens_said}
 use Rattle.prem_text.proofs.CanonicalLemmas.ItemsSaid.{items_said, items_shaped}
 use Rattle.prem_text.proofs.CanonicalLemmas.Spelled.{are_spellings}
+use Rattle.prem_text.proofs.CanonicalLemmas.Read.{back_by, and_end, lexemes_placed, refused_by, how_many, at_most, more_than, tokens_in}
 
 -- a tree that can be printed so that it is read again
 pub record IsPrintable (p : ProgramText) : Type 0 where
@@ -44,27 +38,6 @@ read_printable text p e =
 
 -- ---- tokens
 
-lexemes_placed : (before : List ℕ) (xs : List Lexeme) → lexemes_of (placed before (map spelling_of xs)) ≡ xs
-lexemes_placed before [] = refl
-lexemes_placed before (x ∷ xs) = ap (λ (ys : List Lexeme). x ∷ ys) (lexemes_placed (before ++ lexeme_bytes x ++ 32 ∷ []) xs)
-
-and_end : (ts : List Seen) (xs : List Lexeme) (t : Seen) → lexemes_of ts ≡ xs → lexemes_of (ts ++ t ∷ []) ≡ xs ++ t.0 ∷ []
-and_end ts xs t is = appended ts t ∙ ap (λ (ys : List Lexeme). ys ++ t.0 ∷ []) is
-  where
-    appended : (ts : List Seen) (t : Seen) → lexemes_of (ts ++ t ∷ []) ≡ lexemes_of ts ++ t.0 ∷ []
-    appended [] t = refl
-    appended (u ∷ ts) t = ap (λ (ys : List Lexeme). u.0 ∷ ys) (appended ts t)
-
-abbrev tokens_in : ProgramText → List Seen
-tokens_in p = placed [] (map spelling_of (program_lexemes p))
-
-length_spelled : (xs : List Lexeme) → length (map spelling_of xs) ≡ length xs
-length_spelled [] = refl
-length_spelled (x ∷ xs) = ap (λ (n : ℕ). suc n) (length_spelled xs)
-
-how_many : (p : ProgramText) → length (tokens_in p) ≡ length (program_lexemes p)
-how_many p = placed_length [] (map spelling_of (program_lexemes p)) ∙ length_spelled (program_lexemes p)
-
 own_division : (p : ProgramText) → IsPrintable p → Divides [] (printed p) (tokens_in p) []
 own_division p is = divided [] (map spelling_of (program_lexemes p)) (are_spellings (program_lexemes p) is.sayable)
 
@@ -77,44 +50,12 @@ own_program p is =
 
 -- ---- reading
 
--- programs with the same tokens have the same tree
-one_tree : (p q : ProgramPhrase) → IsProgram p → IsProgram q → program_tokens p ≡ program_tokens q → program_tree p ≡ program_tree q
-one_tree p q is is' same =
-    let a = (program_stages p is).0 in
-    let b = (program_stages q is').0 in
-    let e = sym a ∙ ap (λ (ts : List Seen). stages [] outside ts) same ∙ b in
-    ap (λ (r : Reached). r.0) (some_same (program_tree p) finished (reached (program_tree q) finished) e)
-
-same_tokens : (text : List ℕ) (ts all : List Seen) → tokens_of text ≡ Ok ts → AreTokens text all → all ≡ ts
-same_tokens text ts all read are = let e = complete text all are in cc
-
-back_by : (p : ProgramText) (ts : List Seen) (r : Result ProgramText FrontFail) → Fits p → IsSpelled p ts → tokens_of (printed p) ≡ Ok ts → reads (printed p) ≡ r → ReadBack p r
-back_by p ts (Ok items) fits s tokens read =
-    let t = text_sound (printed p) items read in
-    let same = one_tree t.phrase s.phrase t.right s.right (t.spelled ∙ same_tokens (printed p) ts t.all tokens t.tokens ∙ sym s.tokens) in
-    gives_back items fits t (ap unplaced (sym t.tree ∙ same) ∙ s.same)
-back_by p ts (Err fail) fits s tokens read = refused fail (text_refused (printed p) fail read)
-  where
-    refused : (fail : FrontFail) → IsNoProgram (printed p) fail → ReadBack p (Err fail)
-    refused fail (not_divided _ why) = let e = refusals_complete (printed p) fail why in absurd cc
-    refused _ (unexpected all line col are why) = absurd (why.none why.rest s.phrase s.right (s.tokens ∙ sym (same_tokens (printed p) ts all tokens are) ∙ why.parts))
-    refused _ (past all line are why) = is_too_deep line all fits are why
-
 within : (p : ProgramText) → IsPrintable p → Fits p → ReadBack p (reads (printed p))
 within p is fits =
     let ts = tokens_in p ++ (end_of_text, place_behind (printed p)) ∷ [] in
     let few : length (tokens_in p) ≤ 200000 = subst (λ (n : ℕ). n ≤ 200000) (sym (how_many p)) fits.tokens in
     let tokens : tokens_of (printed p) ≡ Ok ts = complete (printed p) ts (record { tokens = tokens_in p; divides = own_division p is; is_all = refl; size = fits.bytes; count = few }) in
     back_by p ts (reads (printed p)) fits (own_program p is) tokens refl
-
-refused_by : (p : ProgramText) → IsNoProgram (printed p) TooLong → IsTooLong p → ReadBack p (reads (printed p))
-refused_by p why long = subst (ReadBack p) (sym (no_program_refused (printed p) TooLong why)) (is_too_long long)
-
-at_most : (n most : ℕ) → nat_lt most n ≡ false → n ≤ most
-at_most n most is = grind (arith, nat_tests)
-
-more_than : (n most : ℕ) → nat_lt most n ≡ true → most < n
-more_than n most is = grind (arith, nat_tests)
 
 read_by : (p : ProgramText) (b c : Bool) → IsPrintable p → nat_lt 1048576 (length (printed p)) ≡ b → nat_lt 200000 (length (program_lexemes p)) ≡ c → ReadBack p (reads (printed p))
 read_by p true c is bytes tokens =

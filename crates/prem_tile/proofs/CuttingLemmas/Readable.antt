@@ -1,14 +1,11 @@
 -- A program with tiles can be printed so that it is read again.
 use Rattle.std.specs.Prelude.{nat_lt, nat_le, ◌==◌, codes, decimal, pos}
-use Rattle.std.specs.Char.{digit_value as digit_of}
 use Rattle.std.specs.Str.{bytes_eq}
 use Rattle.std.specs.Str.Parse.{AllDigits}
 use Rattle.std.specs.List.{list_any}
 use Rattle.std.proofs.Common.{◌≡◌, ℕ, zero, suc, ◌+◌, ◌^◌, ◌<◌, ◌≤◌, Bool, true, false, cond, not, ◌&&◌, ◌||◌, List, [], ◌∷◌, ◌++◌, length, map, refl, ap, sym, ◌∙◌, subst, arith, Option, None, Some, option_map, true≢false, ⊎_elim}
 use Rattle.std.proofs.lemmas.Bool.{and_from, and_parts}
-use Rattle.std.proofs.lemmas.Bool.Decides.{nat_tests}
 use Rattle.std.proofs.lemmas.Fmt.{decimal_is_IsNumeral}
-use Rattle.std.proofs.lemmas.Str.Parse.{digit_from_value}
 use Rattle.prem_word.specs.declared.kind.Kind.{Kind}
 use Rattle.prem_word.specs.declared.kind.Kind.TheVariants.{Int, Unsigned}
 use Rattle.prem_syntax.specs.declared.tree.Place.{Place}
@@ -24,6 +21,7 @@ use Rattle.prem_text.specs.Canonical.Unplaced.{unplaced_statement, unplaced_stat
 use Rattle.prem_text.specs.Canonical.Canonical.{number_lexeme, expression_lexemes, while_lexemes, for_lexemes, bound_lexemes, step_lexemes, if_lexemes, statement_lexemes, statements_lexemes, declaration_lexemes, regions_lexemes, mark_lexemes, parameters_lexemes, locals_lexemes, result_lexemes, function_lexemes, item_lexemes, program_lexemes, type_lexemes}
 use Rattle.prem_text.proofs.CanonicalLemmas.Sayable.{IsSayable, AreSayable, both, number_said}
 use Rattle.prem_text.proofs.CanonicalLemmas.Shaped.{leaves_open, IsShaped, AreShaped, IsShapedItem, AreShapedItems}
+use Rattle.prem_text.proofs.CanonicalLemmas.Spelled.{in_digits}
 use Rattle.prem_tiling.specs.Shapes.Narrowed.{added_in}
 use Rattle.prem_tiling.specs.Shapes.Tiled.{Cut, tile_name, last_of, tile_loop, tile_region, tile_mark, tile_of, tiles_from, low_of, closed_of, high_of, calls_from, with_tiles, all_with_tiles, function_with_tiles, item_with_tiles, tiled}
 use Rattle.prem_tiling.proofs.LawsLemmas.Shapes.{IsShape, low_end, high_end, statement_of}
@@ -61,9 +59,6 @@ with_first xs ys zs f p = both zs ys (f (say_front xs ys p)) (say_back xs ys p)
 every_append : (f : ℕ → Bool) (xs ys : List ℕ) → every f xs ≡ true → every f ys ≡ true → every f (xs ++ ys) ≡ true
 every_append f [] ys p q = q
 every_append f (x ∷ xs) ys p q = let parts = and_parts (f x) (every f xs) p in and_from (f x) (every f (xs ++ ys)) parts.0 (every_append f xs ys parts.1 q)
-
-in_digits : (c : ℕ) → digit_of c < 10 → is_digit c ≡ true
-in_digits c lt = let r = digit_from_value c lt in grind (arith, nat_tests, r)
 
 digit_in_name : (c : ℕ) → is_digit c ≡ true → is_name_byte c ≡ true
 digit_in_name c e = ap (λ b. b || (nat_le 65 c && nat_le c 90) || (nat_le 97 c && nat_le c 122) || c == 95) e

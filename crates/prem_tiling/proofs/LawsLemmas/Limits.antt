@@ -30,7 +30,7 @@ unbroken false r e = refl
 broken_none : (b : Bool) (r : Rule) → b ≡ false → if_broken b None r ≡ []
 broken_none b r e = ap (λ x. if_broken x None r) e
 
-none_either : {a b : Bool} → a ≡ false → b ≡ false → (a || b) ≡ false
+pub none_either : {a b : Bool} → a ≡ false → b ≡ false → (a || b) ≡ false
 none_either {a = a} {b = b} e f = ap (λ x. x || b) e ∙ f
 
 any_append : (P : FunctionText → Bool) (xs ys : List FunctionText) → list_any P xs ≡ false → list_any P ys ≡ false → list_any P (xs ++ ys) ≡ false

@@ -19,9 +19,7 @@ use Rattle.prem_tiling.proofs.LawsLemmas.Formed.{none_left, none_right, none_bot
 use Rattle.prem_tiling.proofs.LawsLemmas.Terms.{with_functions}
 use Rattle.prem_tiling.proofs.LawsLemmas.Placed.{has_append, has_not_left, has_not_right, not_earlier, item_of}
 use Rattle.prem_tiling.proofs.LawsLemmas.Rules.{Kept, unbroken, expression_formed, option_formed, statements_formed}
-
-none_either : {a b : Bool} → a ≡ false → b ≡ false → (a || b) ≡ false
-none_either {a = a} {b = b} e f = ap (λ x. x || b) e ∙ f
+use Rattle.prem_tiling.proofs.LawsLemmas.Limits.{none_either}
 
 -- a name is no tile's
 abbrev pub NoTile : Cut → Text → Type 0

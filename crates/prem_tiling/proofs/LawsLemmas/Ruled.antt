@@ -34,9 +34,7 @@ use Rattle.prem_tiling.proofs.LawsLemmas.Standing as standing
 use Rattle.prem_tiling.proofs.LawsLemmas.Standing.{item_breaches, IsMarkedOne}
 use Rattle.prem_tiling.proofs.LawsLemmas.Tied.{neither_left, neither_right, either_right}
 use Rattle.prem_tiling.proofs.LawsLemmas.Whole.{functions_are, tiled_are, functions_tiled}
-
-none_either : {a b : Bool} → a ≡ false → b ≡ false → (a || b) ≡ false
-none_either {a = a} {b = b} e f = ap (λ x. x || b) e ∙ f
+use Rattle.prem_tiling.proofs.LawsLemmas.Limits.{none_either}
 
 -- ---- names of items
 

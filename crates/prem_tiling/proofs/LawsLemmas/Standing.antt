@@ -16,6 +16,7 @@ use Rattle.prem_tiling.proofs.LawsLemmas.Tied.{neither_left, neither_right, eith
 use Rattle.prem_tiling.proofs.LawsLemmas.Shapes.{IsShape, low_end, high_end, shape_parts, statement_of}
 use Rattle.prem_tiling.proofs.LawsLemmas.Lists.{names_of_functions, in_items_append, split_at}
 use Rattle.prem_tiling.proofs.LawsLemmas.Placed.{has_append, same_name, functions_unnamed, heading_of, not_earlier, later_apart}
+use Rattle.prem_tiling.proofs.LawsLemmas.Rules.{not_false}
 
 is_none_means : {A : Type 0} (o : Option A) → IsTrue (is_none o) → o ≡ None
 is_none_means None e = refl
@@ -34,10 +35,6 @@ pub record IsMarkedOne (f : FunctionText) : Type 0 where
   pub void : is_void f.ty ≡ true
   pub other : is_job_name f.name ≡ false
   pub no_result : f.result ≡ None
-
-not_false : (b : Bool) → not b ≡ false → b ≡ true
-not_false true e = refl
-not_false false e = absurd (true≢false e)
 
 pub marked_one : (earlier : List Text) (f : FunctionText) → in_heading earlier f ≡ [] → is_some f.mark ≡ true → IsMarkedOne f
 marked_one earlier f e marked = record { void = void; other = neither_right (not (is_void f.ty)) (is_job_name f.name) none; no_result = by f.result returns }

@@ -99,10 +99,10 @@ bus_next n c false false (m ∷ ns) e h = refl
 bus_next n c true true (m ∷ ns) e h = ap (with_debt c) (paid_next n m ns c c.debt.cost h)
 bus_next n c true false (m ∷ ns) e h = absurd (cc)
 
-move_wants : (p : Setup) (t : ℕ) (had : Bool) (sched : List TaskJobs) (w : Work) (c : CoreState) → wants (want_of c.debt) ≡ true → move_of p t had sched w c ≡ Passes (core_pay had c)
+pub move_wants : (p : Setup) (t : ℕ) (had : Bool) (sched : List TaskJobs) (w : Work) (c : CoreState) → wants (want_of c.debt) ≡ true → move_of p t had sched w c ≡ Passes (core_pay had c)
 move_wants p t had sched w c is = rw is refl
 
-move_free : (p : Setup) (t : ℕ) (had : Bool) (sched : List TaskJobs) (w : Work) (c : CoreState) → wants (want_of c.debt) ≡ false → move_of p t had sched w c ≡ move_in p t sched w c c.mode
+pub move_free : (p : Setup) (t : ℕ) (had : Bool) (sched : List TaskJobs) (w : Work) (c : CoreState) → wants (want_of c.debt) ≡ false → move_of p t had sched w c ≡ move_in p t sched w c c.mode
 move_free p t had sched w c is = rw is refl
 
 -- ---- where it doesn't
@@ -157,18 +157,18 @@ move_next p now n had sched w c e h =
 
 -- ---- nothing is over with it
 
-not_empty : (begun : Bool) (ns : List ℕ) → wants (want_by begun ns) ≡ true → is_empty ns ≡ false
+pub not_empty : (begun : Bool) (ns : List ℕ) → wants (want_by begun ns) ≡ true → is_empty ns ≡ false
 not_empty begun [] e = absurd (cc)
 not_empty begun (n ∷ ns) e = refl
 
-unpaid : (a b d : Bool) → a ≡ false → ((a && b) && d) ≡ false
+pub unpaid : (a b d : Bool) → a ≡ false → ((a && b) && d) ≡ false
 unpaid a b d e = rw e refl
 
 cost_left : (a b d : Bool) → b ≡ false → ((a && b) && d) ≡ false
 cost_left true b d e = rw e refl
 cost_left false b d e = refl
 
-not_ended : (a b : Bool) → b ≡ false → (a && b) ≡ false
+pub not_ended : (a b : Bool) → b ≡ false → (a && b) ≡ false
 not_ended true b e = e
 not_ended false b e = refl
 

@@ -40,7 +40,7 @@ none_arrives now (r ∷ rs) a h =
 
 -- ---- states by their parts
 
-abbrev state_with : ℕ → Work → List TaskJobs → CoreState → GatesState → Log → Option Trap → MachineState
+abbrev pub state_with : ℕ → Work → List TaskJobs → CoreState → GatesState → Log → Option Trap → MachineState
 state_with n w j c g l t = record { now = n; work = w; sched = j; core = c; gates = g; log = l; trapped = t }
 
 same_state : (n n' : ℕ) (w w' : Work) (j : List TaskJobs) (c : CoreState) (g : GatesState) (l l' : Log) (t t' : Option Trap) →
@@ -59,7 +59,7 @@ log_with log ended clashes =
       counts = record log.counts { clashes = clashes };
     }
 
-abbrev made : ReplacementRule → Setup → MachineState → Arrivals → Turned → CoreMove → MachineState
+abbrev pub made : ReplacementRule → Setup → MachineState → Arrivals → Turned → CoreMove → MachineState
 made rule p t a b m =
     ticked (joined a b (core_turn rule p t.now m (with_memory b.memory t.work) t.core (with_clash b.turn.clash t.log.counts)) t)
 
@@ -128,7 +128,7 @@ cycle_next rule p requests n s steady rest =
 
 -- ---- it isn't over
 
-finished_none : (o l : Option ℕ) → is_finish (run_or o (rest l)) ≡ true → l ≡ None
+pub finished_none : (o l : Option ℕ) → is_finish (run_or o (rest l)) ≡ true → l ≡ None
 finished_none (Some k) l e = absurd (cc)
 finished_none None None e = refl
 finished_none None (Some u) e = absurd (cc)
@@ -204,12 +204,12 @@ steady_later n requests s h rest =
 
 -- ---- one step
 
-zero_transactions : (begun : Bool) (ns : List ℕ) → transactions_passed 0 begun ns ≡ ns
+pub zero_transactions : (begun : Bool) (ns : List ℕ) → transactions_passed 0 begun ns ≡ ns
 zero_transactions begun [] = refl
 zero_transactions false (m ∷ ns) = refl
 zero_transactions true (m ∷ ns) = let e : m - 0 ≡ m = omega arith in ap (λ k. k ∷ ns) e
 
-zero_mode : (c : CoreState) (mode : Mode) → c.mode ≡ mode → mode_passed 0 c mode ≡ c
+pub zero_mode : (c : CoreState) (mode : Mode) → c.mode ≡ mode → mode_passed 0 c mode ≡ c
 zero_mode c Point is = refl
 zero_mode c (Switching k left) is =
     let e : left - 0 ≡ left = omega arith in
@@ -217,7 +217,7 @@ zero_mode c (Switching k left) is =
 zero_mode c (Running k) is = let e : c.debt.cost - 0 ≡ c.debt.cost = omega arith in ap (with_cost c) e
 zero_mode c (Idle until) is = refl
 
-zero_by : (c : CoreState) (b : Bool) → passed_by b 0 c ≡ c
+pub zero_by : (c : CoreState) (b : Bool) → passed_by b 0 c ≡ c
 zero_by c true = ap (λ ns. with_debt c (record c.debt { transactions = ns })) (zero_transactions c.debt.begun c.debt.transactions)
 zero_by c false = zero_mode c c.mode refl
 

@@ -13,11 +13,11 @@ use Rattle.prem_cycle.proofs.RunsLemmas.InputsLemmas.Cycles.{has_read-next, or_f
 
 -- ---- one cycle
 
-empty_is : (left : List ℕ) → is_empty left ≡ nat_le (length left) 0
+pub empty_is : (left : List ℕ) → is_empty left ≡ nat_le (length left) 0
 empty_is [] = refl
 empty_is (x ∷ left) = sym (lt-leb (length (x ∷ left)) 0 (omega arith))
 
-grouped : (a b c : Bool) → (a && b && c) ≡ (a && (b && c))
+pub grouped : (a b c : Bool) → (a && b && c) ≡ (a && (b && c))
 grouped true b c = refl
 grouped false b c = refl
 
@@ -30,11 +30,11 @@ wanted : (k task : ℕ) (b : Bool) → cond b (Some task) None ≡ Some k → ((
 wanted k task true h = let x : Some task ≡ Some k = h in let e : task ≡ k = cc in ap (λ b. b && true) (eq-eqb task k e)
 wanted k task false h = absurd (let x : None ≡ Some k = h in cc)
 
-and_first : (a b : Bool) → (a && b) ≡ true → a ≡ true
+pub and_first : (a b : Bool) → (a && b) ≡ true → a ≡ true
 and_first true b h = refl
 and_first false b h = h
 
-and_second : (a b : Bool) → (a && b) ≡ true → b ≡ true
+pub and_second : (a b : Bool) → (a && b) ≡ true → b ≡ true
 and_second true b h = h
 and_second false b h = absurd (let x : false ≡ true = h in cc)
 

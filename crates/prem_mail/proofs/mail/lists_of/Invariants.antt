@@ -1,7 +1,7 @@
 use Rattle.std.proofs.Common.{◌≡◌, ◌≤◌, All, length, map, take}
 use Rattle.prem_list.specs.Sequence.{items_of, room_of}
 use Rattle.prem_cycle.specs.FactsOf.{inputs_size}
-use Rattle.prem_mail.specs.MailFields.{lists_of}
+use Rattle.prem_set.specs.Run.Views.{lists_of}
 use Rattle.prem_mail.proofs.mail.lists_of.Given as goal
 
 abbrev pub invariant-loop-list : goal.invariant-loop-list

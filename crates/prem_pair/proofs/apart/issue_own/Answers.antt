@@ -4,8 +4,8 @@ use Rattle.prem_cycle.specs.Core.{core_issued}
 use Rattle.prem_cycle.specs.Issue.{owed_by}
 use Rattle.prem_machine.specs.Moment.{core_of}
 use Rattle.prem_machine.specs.Plain.{GoesOn}
-use Rattle.prem_machine.proofs.Stretching.{rooms_there}
-use Rattle.prem_pair.proofs.Owning.{has_room, hit_core, issues_own, kept_goes}
+use Rattle.prem_machine.proofs.Stretching.{rooms_there, has_room}
+use Rattle.prem_pair.proofs.Owning.{hit_core, issues_own, kept_goes}
 use Rattle.prem_pair.proofs.apart.issue_own.Goals as goal
 
 pub issue_plain-requires-clause-room : goal.issue_plain-requires-clause-room

@@ -1,7 +1,8 @@
 use Rattle.std.proofs.Common.{◌*◌, ◌+◌, ◌≤◌, arith}
-use Rattle.prem_machine.specs.Log.{counts_in}
 use Rattle.prem_machine.proofs.Resting.{counts_more, mode_after}
-use Rattle.prem_pair.proofs.Owning.{has_room, pays_own}
+use Rattle.prem_machine.proofs.Stretching.{has_room}
+use Rattle.prem_machine.specs.Issue.Counting.{counts_in}
+use Rattle.prem_pair.proofs.Owning.{pays_own}
 use Rattle.prem_pair.proofs.apart.own_cycle.Goals as goal
 
 pub returns-clause-own : goal.returns-clause-own

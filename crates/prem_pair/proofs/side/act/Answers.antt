@@ -2,9 +2,10 @@ use Rattle.std.proofs.Common.{◌≡◌, ◌+◌, ◌*◌, ◌≤◌, length, ap
 use Rattle.prem_list.specs.Sequence.{items_of}
 use Rattle.prem_cycle.specs.State.{Log}
 use Rattle.prem_cycle.specs.declared.facts.DeviceFacts.{DeviceFacts}
-use Rattle.prem_machine.specs.Log.{CountsWithin, counts_in}
+use Rattle.prem_machine.specs.Log.{CountsWithin}
 use Rattle.prem_machine.proofs.Told.{told_length}
 use Rattle.prem_machine.proofs.Advancing.{rooms_left}
+use Rattle.prem_machine.specs.Issue.Counting.{counts_in}
 use Rattle.prem_pair.proofs.side.act.Goals as goal
 
 pub move_core-parts-requires-clause-room : goal.move_core-parts-requires-clause-room

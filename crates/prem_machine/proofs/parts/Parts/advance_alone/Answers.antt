@@ -10,9 +10,10 @@ use Rattle.prem_cycle.specs.State.{Counts, Log}
 use Rattle.prem_cycle.specs.Core.{CoreTurn, Issues, core_turn}
 use Rattle.prem_cycle.specs.Cycle.{with_clash}
 use Rattle.prem_cycle.specs.Runs.Dull.Issuing.{issue_joined}
+use Rattle.prem_machine.specs.Issue.Counting.{counts_in}
 use Rattle.prem_machine.specs.Work.{setup_in, with_counts}
 use Rattle.prem_machine.specs.Parts.{state_of}
-use Rattle.prem_machine.specs.Log.{counts_in, dropped_in, log_in}
+use Rattle.prem_machine.specs.Log.{dropped_in, log_in}
 use Rattle.prem_machine.specs.Moment.{ModeReady}
 use Rattle.prem_machine.proofs.Told.{told_length}
 use Rattle.prem_machine.proofs.Advancing.{few_kept, rooms_kept, rooms_left, same_state}

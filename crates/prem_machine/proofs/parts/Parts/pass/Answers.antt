@@ -8,7 +8,8 @@ use Rattle.prem_cycle.specs.State.{CoreState}
 use Rattle.prem_cycle.specs.declared.state.Interval.{Interval}
 use Rattle.prem_cycle.specs.Core.{want_of}
 use Rattle.prem_cycle.proofs.RunsLemmas.DullLemmas.Steps.{want_passed}
-use Rattle.prem_machine.specs.Log.{counts_in, dropped_in}
+use Rattle.prem_machine.specs.Issue.Counting.{counts_in}
+use Rattle.prem_machine.specs.Log.{dropped_in}
 use Rattle.prem_machine.specs.Moment.{core_of}
 use Rattle.prem_machine.proofs.Resting.{SameQueues, arrived_after, counts_after, mode_after, quiet_queues}
 use Rattle.prem_machine.proofs.parts.Parts.pass.Goals as goal

@@ -6,8 +6,9 @@ use Rattle.prem_list.specs.Sequence.{items_of, room_of}
 use Rattle.prem_list.specs.Lending.{with_item_at}
 use Rattle.prem_cycle.specs.FactsOf.{inputs_size, with_input}
 use Rattle.prem_machine.specs.States.{Running, with_state}
+use Rattle.prem_set.specs.Run.Views.{lists_of}
 use Rattle.prem_mail.specs.Delivery.{has_room}
-use Rattle.prem_mail.specs.MailFields.{lists_of, mailing_of, HoldsMail}
+use Rattle.prem_mail.specs.MailFields.{mailing_of, HoldsMail}
 use Rattle.prem_mail.specs.Mailing.{Mailing, with_mailed, with_mail}
 use Rattle.prem_mail.proofs.Runs.{room_there}
 use Rattle.prem_mail.proofs.Kept.{brought_keeps}

@@ -4,7 +4,7 @@ use Rattle.prem_cycle.specs.FactsOf.{inputs_size}
 use Rattle.prem_cycle.specs.State.{rule_in}
 use Rattle.prem_cycle.specs.Inputs.{words_of, setup_of}
 use Rattle.prem_machine.proofs.Arriving.{all_unmap}
-use Rattle.prem_mail.specs.MailFields.{lists_of}
+use Rattle.prem_set.specs.Run.Views.{lists_of}
 use Rattle.prem_mail.proofs.Beginning.{first_holds, first_mailed}
 use Rattle.prem_mail.proofs.mail.Mail.new.Goals as goal
 

@@ -1,4 +1,5 @@
-use Rattle.prem_mail.proofs.Going.{GoesTo, cycles_left}
+use Rattle.prem_machine.proofs.Going.{cycles_left}
+use Rattle.prem_mail.proofs.Going.{GoesTo}
 use Rattle.prem_mail.proofs.mail.Mail.run_to.Given as goal
 
 abbrev pub invariant-cycles : goal.invariant-cycles

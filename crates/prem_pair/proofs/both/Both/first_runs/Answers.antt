@@ -4,12 +4,13 @@ use Rattle.prem_cycle.specs.State.{MachineState, rule_in}
 use Rattle.prem_cycle.specs.Runs.Dull.Rest.{Within}
 use Rattle.prem_machine.specs.Parts.{state_of}
 use Rattle.prem_machine.specs.Work.{setup_in}
+use Rattle.prem_machine.proofs.Resting.{core_within, less_arrive, behind_within}
 use Rattle.prem_pair.specs.Cycles.Token.{is_first, is_second}
 use Rattle.prem_pair.specs.Cycles.Rest.{rest_with, side_passed}
 use Rattle.prem_pair.specs.Sides.{Goes}
 use Rattle.prem_pair.specs.BothOf.{pair_of}
 use Rattle.prem_pair.proofs.CyclesLemmas.OneCycle.{paired}
-use Rattle.prem_pair.proofs.Passes.{arrives_later, behind_most, less_arrive, steady_pair, within_behind}
+use Rattle.prem_pair.proofs.Passes.{arrives_later, steady_pair}
 use Rattle.prem_pair.proofs.Stretched.{apart_first}
 use Rattle.prem_pair.proofs.both.Both.first_runs.Goals as goal
 
@@ -23,10 +24,10 @@ returns-clause-state g c =
     let now = x.first.now in
     let at = c.run_own.new.parts.now in
     let n = at - now in
-    let most = behind_most now c.args.until c.rest_with-rest.result r.may.from in
+    let most = behind_within now c.args.until c.rest_with-rest.result r.may.from in
     let bound = c.cycle_behind-until.ensures in
     let rest = c.rest_with-rest.ensures ∙ ap (λ b. rest_with b s.second) c.is_second-holds.ensures in
-    let rests = subst (λ o. Within n o) rest (within_behind now n c.args.until c.rest_with-rest.result r.may.from (omega (arith, c.run_own.ensures.within, bound))) in
+    let rests = subst (λ o. Within n o) rest (core_within now n c.args.until c.rest_with-rest.result r.may.from (omega (arith, c.run_own.ensures.within, bound))) in
     let same : at - x.second.now ≡ n = ap (λ k. at - k) r.stands.same_now in
     let second = c.pass_with.ensures.state ∙ ap (λ b. side_passed b (at - x.second.now) s.second) c.is_second-holds.ensures ∙ ap (λ k. side_passed (is_second x.holder) k s.second) same in
     ap (λ (v : MachineState). paired (state_of c.run_own.new.parts) v x.holder) second
@@ -39,7 +40,7 @@ returns-clause-goes g c =
     let r = c.requires in
     let now = x.first.now in
     let at = c.run_own.new.parts.now in
-    let most = behind_most now c.args.until c.rest_with-rest.result r.may.from in
+    let most = behind_within now c.args.until c.rest_with-rest.result r.may.from in
     let bound = c.cycle_behind-until.ensures in
     let none = less_arrive (at - now) (c.args.until - now) now c.args.requests.now (omega (arith, c.run_own.ensures.within, bound, most)) r.may.arrivals in
     record {

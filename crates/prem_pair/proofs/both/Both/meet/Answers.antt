@@ -16,9 +16,10 @@ use Rattle.prem_cycle.specs.Issue.{one_if}
 use Rattle.prem_cycle.specs.Cycle.{Arrivals, arrivals, arrivals_at, with_clash}
 use Rattle.prem_machine.specs.Work.{work_in}
 use Rattle.prem_machine.specs.Requests.{pending}
-use Rattle.prem_machine.specs.Log.{arrivals_in, counts_in, dropped_in, ended_in}
+use Rattle.prem_machine.specs.Log.{arrivals_in, dropped_in, ended_in}
 use Rattle.prem_machine.proofs.Busy.{length-bus_turn, length-with_last, turn_pending}
 use Rattle.prem_machine.proofs.Advancing.{few_kept, rooms_kept, same_log, same_state, told_again, told_still}
+use Rattle.prem_machine.specs.Issue.Counting.{counts_in}
 use Rattle.prem_pair.specs.Cycles.Token.{asks, some_wait}
 use Rattle.prem_pair.specs.Cycles.Pair.{bus_first}
 use Rattle.prem_pair.specs.BothOf.{bus_in, holder_in, pair_of}

@@ -2,10 +2,11 @@ use Rattle.std.proofs.Common.{ℕ, ◌≤◌, ◌∙◌, ap, sym, subst}
 use Rattle.prem_gate.specs.declared.bus.CoreWant.{CoreWant}
 use Rattle.prem_gate.specs.Stretch.{IsNextChange}
 use Rattle.prem_machine.specs.Passing.{cycle_behind}
+use Rattle.prem_machine.proofs.Resting.{behind_from}
 use Rattle.prem_pair.specs.Cycles.Token.{empty_window, is_first}
 use Rattle.prem_pair.specs.Cycles.Rest.{rest_with, wanted}
 use Rattle.prem_pair.specs.BothOf.{pair_of}
-use Rattle.prem_pair.proofs.Passes.{behind_least, rests_until}
+use Rattle.prem_pair.proofs.Passes.{rests_until}
 use Rattle.prem_pair.proofs.both.Both.rest.Goals as goal
 
 pub cycle_behind-first-requires : goal.cycle_behind-first-requires
@@ -15,14 +16,14 @@ pub cycle_behind-both-requires : goal.cycle_behind-both-requires
 cycle_behind-both-requires g c =
     let now = c.args.self.now.first.now in
     let arrival = c.next_arrival-arrival.ensures now c.requires.goes.arrives.arrived c.requires.limit in
-    subst (λ k. now ≤ k) (sym c.cycle_behind-first.ensures) (behind_least now c.next_arrival-arrival.result c.rest_with.result arrival.not_before)
+    subst (λ k. now ≤ k) (sym c.cycle_behind-first.ensures) (behind_from now c.next_arrival-arrival.result c.rest_with.result arrival.not_before)
 
 pub next_change-requires-clause-limit : goal.next_change-requires-clause-limit
 next_change-requires-clause-limit g c =
     let now = c.args.self.now.first.now in
     let arrival = c.next_arrival-arrival.ensures now c.requires.goes.arrives.arrived c.requires.limit in
-    let first = subst (λ k. now ≤ k) (sym c.cycle_behind-first.ensures) (behind_least now c.next_arrival-arrival.result c.rest_with.result arrival.not_before) in
-    subst (λ k. now ≤ k) (sym c.cycle_behind-both.ensures) (behind_least now c.cycle_behind-first.result c.rest_with-2.result first)
+    let first = subst (λ k. now ≤ k) (sym c.cycle_behind-first.ensures) (behind_from now c.next_arrival-arrival.result c.rest_with.result arrival.not_before) in
+    subst (λ k. now ≤ k) (sym c.cycle_behind-both.ensures) (behind_from now c.cycle_behind-first.result c.rest_with-2.result first)
 
 pub returns-clause-within : goal.returns-clause-within
 returns-clause-within g c =

@@ -5,6 +5,7 @@ use Rattle.prem_cycle.specs.State.{MachineState, rule_in}
 use Rattle.prem_cycle.specs.Runs.Dull.Rest.{Within}
 use Rattle.prem_machine.specs.Parts.{state_of}
 use Rattle.prem_machine.specs.Work.{setup_in}
+use Rattle.prem_machine.proofs.Resting.{core_within, less_arrive, behind_within}
 use Rattle.prem_pair.specs.Cycles.Token.{is_second}
 use Rattle.prem_pair.specs.Cycles.Pair.{pair_cycles}
 use Rattle.prem_pair.specs.Cycles.Own.{OwnRun}
@@ -12,7 +13,7 @@ use Rattle.prem_pair.specs.Cycles.Rest.{rest_with, side_passed}
 use Rattle.prem_pair.specs.Sides.{Arrives, Goes}
 use Rattle.prem_pair.specs.BothOf.{pair_of}
 use Rattle.prem_pair.proofs.CyclesLemmas.OneCycle.{paired}
-use Rattle.prem_pair.proofs.Passes.{arrives_later, behind_most, less_arrive, steady_pair, within_behind}
+use Rattle.prem_pair.proofs.Passes.{arrives_later, steady_pair}
 use Rattle.prem_pair.proofs.Stretched.{apart_second}
 use Rattle.prem_pair.proofs.both.Both.second_runs.Goals as goal
 
@@ -26,10 +27,10 @@ returns-clause-state g c =
     let now = x.first.now in
     let at = c.run_own.new.parts.now in
     let n = at - now in
-    let most = behind_most now c.args.until c.rest_with-rest.result r.may.from in
+    let most = behind_within now c.args.until c.rest_with-rest.result r.may.from in
     let bound = c.cycle_behind-until.ensures in
     let rest = c.rest_with-rest.ensures ∙ ap (λ b. rest_with b s.first) c.is_first-holds.ensures in
-    let rests = subst (λ o. Within n o) rest (within_behind now n c.args.until c.rest_with-rest.result r.may.from (omega (arith, c.run_own.ensures.within, bound))) in
+    let rests = subst (λ o. Within n o) rest (core_within now n c.args.until c.rest_with-rest.result r.may.from (omega (arith, c.run_own.ensures.within, bound))) in
     let same : at - x.second.now ≡ n = ap (λ k. at - k) r.stands.same_now in
     let passed : n ≡ c.pass_with.new.parts.now - now = ap (λ k. k - now) (sym c.pass_with.ensures.now) in
     let first = c.pass_with.ensures.state ∙ ap (λ b. side_passed b n s.first) c.is_first-holds.ensures in
@@ -45,7 +46,7 @@ returns-clause-goes g c =
     let r = c.requires in
     let now = x.first.now in
     let at = c.run_own.new.parts.now in
-    let most = behind_most now c.args.until c.rest_with-rest.result r.may.from in
+    let most = behind_within now c.args.until c.rest_with-rest.result r.may.from in
     let bound = c.cycle_behind-until.ensures in
     let from : now ≤ at = omega (arith, c.run_own.ensures.from, r.stands.same_now) in
     let none = less_arrive (at - now) (c.args.until - now) now c.args.requests.now (omega (arith, c.run_own.ensures.within, bound, most)) r.may.arrivals in

@@ -1,10 +1,11 @@
 use Rattle.std.proofs.Common.{◌≡◌, ◌∙◌, sym, None, true, false}
 use Rattle.prem_cycle.specs.Cycle.{is_finished, is_full}
+use Rattle.prem_cycle.proofs.RunsLemmas.DullLemmas.Steps.{not_ended}
 use Rattle.prem_machine.specs.Parts.{state_of}
 use Rattle.prem_machine.proofs.Telling.{full_told}
 use Rattle.prem_pair.specs.Cycles.Pair.{both_finished}
 use Rattle.prem_pair.specs.BothOf.{pair_of}
-use Rattle.prem_pair.proofs.Going.{one_rests, other_rests, stop_full, stop_other, stop_else}
+use Rattle.prem_pair.proofs.Going.{one_rests, stop_full, stop_other, stop_else}
 use Rattle.prem_pair.proofs.pair.Pair.stop.Goals.{else-is_finished-via-then-is_finished+else-is_finished-2, else-is_finished-via-else-is_finished}
 use Rattle.prem_pair.proofs.pair.Pair.stop.Goals as goal
 
@@ -14,7 +15,7 @@ returns-then-are_full g c =
     let y = c.self.inside.both.second in
     let s = pair_of c.self.inside.both in
     let fin : both_finished s ≡ false = elim c.else-is_finished.branch [
-      | else-is_finished-via-then-is_finished+else-is_finished-2 w ↦ other_rests (is_finished s.first) (is_finished s.second) (sym w.is_finished-then-is_finished.ensures ∙ w.if-is_finished-2.false)
+      | else-is_finished-via-then-is_finished+else-is_finished-2 w ↦ not_ended (is_finished s.first) (is_finished s.second) (sym w.is_finished-then-is_finished.ensures ∙ w.if-is_finished-2.false)
       | else-is_finished-via-else-is_finished w ↦ one_rests (is_finished s.first) (is_finished s.second) (sym c.is_finished.ensures ∙ w.if-is_finished.false)
     ] in
     let none : x.trapped ≡ None = c.in_default.is in
@@ -28,7 +29,7 @@ returns-then-are_full-2 g c =
     let y = c.self.inside.both.second in
     let s = pair_of c.self.inside.both in
     let fin : both_finished s ≡ false = elim c.else-is_finished.branch [
-      | else-is_finished-via-then-is_finished+else-is_finished-2 w ↦ other_rests (is_finished s.first) (is_finished s.second) (sym w.is_finished-then-is_finished.ensures ∙ w.if-is_finished-2.false)
+      | else-is_finished-via-then-is_finished+else-is_finished-2 w ↦ not_ended (is_finished s.first) (is_finished s.second) (sym w.is_finished-then-is_finished.ensures ∙ w.if-is_finished-2.false)
       | else-is_finished-via-else-is_finished w ↦ one_rests (is_finished s.first) (is_finished s.second) (sym c.is_finished.ensures ∙ w.if-is_finished.false)
     ] in
     let none : x.trapped ≡ None = c.in_default.is in
@@ -43,7 +44,7 @@ returns g c =
     let y = c.self.inside.both.second in
     let s = pair_of c.self.inside.both in
     let fin : both_finished s ≡ false = elim c.else-is_finished.branch [
-      | else-is_finished-via-then-is_finished+else-is_finished-2 w ↦ other_rests (is_finished s.first) (is_finished s.second) (sym w.is_finished-then-is_finished.ensures ∙ w.if-is_finished-2.false)
+      | else-is_finished-via-then-is_finished+else-is_finished-2 w ↦ not_ended (is_finished s.first) (is_finished s.second) (sym w.is_finished-then-is_finished.ensures ∙ w.if-is_finished-2.false)
       | else-is_finished-via-else-is_finished w ↦ one_rests (is_finished s.first) (is_finished s.second) (sym c.is_finished.ensures ∙ w.if-is_finished.false)
     ] in
     let none : x.trapped ≡ None = c.in_default.is in
