@@ -10,15 +10,7 @@ use Rattle.prem_gate.specs.declared.bus.CoreWant.TheVariants.{No, New, Held}
 use Rattle.prem_gate.specs.Gates.{GateState, GatesState, fits, start_of, first_of, startable_from, startable, bus_with, bus_turn, wants}
 use Rattle.prem_pair.specs.declared.cycles.state.Holder.{Holder}
 use Rattle.prem_pair.specs.declared.cycles.state.Holder.TheVariants.{Nobody, First, Second, Gates}
-use Rattle.prem_pair.specs.Cycles.Token.{given, holder_with, empty_window, window_given, want_with, two_want, is_gates}
-use Rattle.prem_pair.specs.Nobody.{is_nobody}
-
--- whether a request waits matters only where the token is free
-pub same_holder : (before : Holder) (a b x a' b' y : Bool) → a ≡ a' → b ≡ b' → (is_nobody before ≡ true → x ≡ y) → holder_with before a b x ≡ holder_with before a' b' y
-same_holder Nobody a b x a' b' y ea eb e = ap (λ v. given v b x) ea ∙ ap (λ v. given a' v x) eb ∙ ap (λ v. given a' b' v) (e refl)
-same_holder First a b x a' b' y ea eb e = refl
-same_holder Second a b x a' b' y ea eb e = refl
-same_holder Gates a b x a' b' y ea eb e = refl
+use Rattle.prem_pair.specs.Cycles.Token.{holder_with, empty_window, window_given, want_with, two_want, is_gates}
 
 pub same_bus : (now : ℕ) (before h h' : Holder) (w : Window) (v x y x' y' : CoreWant) (g g' : GatesState) (memory : List ℕ) → h ≡ h' → w ≡ window_given now before h → v ≡ want_with h x y → x ≡ x' → y ≡ y' → g ≡ g' → bus_turn now w v g memory ≡ bus_turn now (window_given now before h') (want_with h' x' y') g' memory
 same_bus now before h h' w v x y x' y' g g' memory eh ew ev ex ey eg =

@@ -1,7 +1,6 @@
 pub mod Sides
 pub mod States
 pub mod PairFields
-pub mod Nobody
 pub mod BothOf
 pub mod MayStretch
 pub mod Cycles

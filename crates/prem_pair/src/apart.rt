@@ -446,10 +446,15 @@ impl<P: Policy, Q: Policy> Both<P, Q> {
         ensures within { self.new.first.now ≤ limit }
         ensures early { one_trapped (pair_of self.new) ≡ true → self.new.first.now < limit }
     {
+        let one = going_task(&self.first);
+        let two = going_task(&self.second);
+        if one.is_none() && two.is_none() {
+            return;
+        }
         let Some(until) = self.apart_until(requests, limit) else {
             return;
         };
-        match (going_task(&self.first), going_task(&self.second)) {
+        match (one, two) {
             (Some(task), None) => self.first_runs(first, second, requests, task, until),
             (None, Some(task)) => self.second_runs(first, second, requests, task, until),
             (Some(task), Some(other)) => {

@@ -9,8 +9,8 @@ ghost use Rattle.prem_pair.specs.Sides.{Arrives, Goes};
 use crate::cycles::Holder;
 use crate::side::act;
 use crate::token::{
-    asks, holder_after, holder_with, is_first, is_gates, is_nobody, is_second, is_wanted,
-    some_wait, two_want, want_with, window_given,
+    holder_after, holder_now, is_first, is_gates, is_second, is_wanted, two_want, want_with,
+    window_given,
 };
 use prem_gate::{BusTurn, Request};
 use prem_lru::Policy;
@@ -104,8 +104,7 @@ impl<P: Policy, Q: Policy> Both<P, Q> {
             self.first.facts.devices.items_mut(),
         );
         let before = self.holder;
-        let wait = is_nobody(before) && some_wait(&self.first.gates);
-        let holder = holder_with(before, asks(&self.first), asks(&self.second), wait);
+        let holder = holder_now(before, &self.first, &self.second);
         let first = self.first.moment.want();
         let second = self.second.moment.want();
         let turn = self.first.gates.bus_cycle(

@@ -1,10 +1,10 @@
 // Who holds the memory token in a cycle, and what the gates may start.
-ghost use Rattle.std.specs.Prelude.{◌≡◌, ◌<◌, ◌≤◌, ◌^◌, None, length};
+ghost use Rattle.std.specs.Prelude.{◌≡◌, ◌≢◌, ◌<◌, ◌≤◌, ◌^◌, None, length};
 ghost use Rattle.prem_gate.specs.Gates.{wants};
 ghost use Rattle.prem_machine.specs.Moment.{core_of};
 ghost use Rattle.prem_machine.specs.Parts.{state_of};
+ghost use Rattle.prem_pair.specs.declared.cycles.state.Holder.{Holder};
 ghost use Rattle.prem_pair.specs.Cycles.Token.{asks, frees, holder_after, holder_with, is_first, is_gates, is_second, some_wait, two_want, want_with, window_given};
-ghost use Rattle.prem_pair.specs.Nobody.{is_nobody};
 
 use crate::cycles::Holder;
 use prem_gate::{CoreWant, Gates, Window};
@@ -33,30 +33,39 @@ pub(crate) fn some_wait(gates: &Gates) -> bool
     ensures { result ≡ some_wait gates.now.gates }
 {
     for device in 0..8 {
-        if gates.waiting(device).unwrap_or(0) > 0 {
-            return true;
+        match gates.waiting(device) {
+            Some(0) => {}
+            Some(_) => return true,
+            None => return false,
         }
     }
     false
 }
 
-/// Who gets a free token, or keeps it.
-pub(crate) fn holder_with(holder: Holder, first: bool, second: bool, gates: bool) -> Holder
-    ensures { result ≡ holder_with holder first second gates }
+/// Who holds the token in a cycle, behind its arrivals: whoever held it keeps it, and a free one goes to the first of core 0,
+/// core 1 and the gates that asks.
+pub(crate) fn holder_now<P: Policy, Q: Policy>(
+    before: Holder,
+    first: &Parts<P>,
+    second: &Parts<Q>,
+) -> Holder
+    requires few { length first.now.gates.gates ≤ 8 }
+    requires free { before ≢ Holder.Gates → first.now.gates.carried ≡ None }
+    ensures { result ≡ holder_with before (asks (state_of first.entry.now)) (asks (state_of second.entry.now)) (some_wait first.entry.now.gates.gates) }
 {
-    match holder {
+    match before {
         Holder::Nobody => {
-            if first {
+            if asks(first) {
                 Holder::First
-            } else if second {
+            } else if asks(second) {
                 Holder::Second
-            } else if gates {
+            } else if some_wait(&first.gates) {
                 Holder::Gates
             } else {
                 Holder::Nobody
             }
         }
-        Holder::First | Holder::Second | Holder::Gates => holder,
+        Holder::First | Holder::Second | Holder::Gates => before,
     }
 }
 
@@ -140,13 +149,6 @@ pub(crate) fn is_second(holder: Holder) -> bool
     ensures { result ≡ is_second holder }
 {
     matches!(holder, Holder::Second)
-}
-
-/// Whether nobody holds it.
-pub(crate) fn is_nobody(holder: Holder) -> bool
-    ensures { result ≡ is_nobody holder }
-{
-    matches!(holder, Holder::Nobody)
 }
 
 /// Whether the gates hold it.

@@ -20,13 +20,11 @@ use Rattle.prem_machine.specs.Log.{arrivals_in, dropped_in, ended_in}
 use Rattle.prem_machine.proofs.Busy.{length-bus_turn, length-with_last, turn_pending}
 use Rattle.prem_machine.proofs.Advancing.{few_kept, rooms_kept, same_log, same_state, told_again, told_still}
 use Rattle.prem_machine.specs.Issue.Counting.{counts_in}
-use Rattle.prem_pair.specs.Cycles.Token.{asks, some_wait}
+use Rattle.prem_pair.specs.Cycles.Token.{asks, holder_with, some_wait}
 use Rattle.prem_pair.specs.Cycles.Pair.{bus_first}
 use Rattle.prem_pair.specs.BothOf.{bus_in, holder_in, pair_of}
-use Rattle.prem_pair.specs.Nobody.{is_nobody}
 use Rattle.prem_pair.specs.Sides.{bus_done}
-use Rattle.prem_pair.proofs.Meeting.{same_holder, same_bus, same_clash, still_free}
-use Rattle.prem_pair.proofs.both.Both.meet.Goals.{then-is_nobody, else-is_nobody}
+use Rattle.prem_pair.proofs.Meeting.{same_bus, same_clash, still_free}
 use Rattle.prem_pair.proofs.both.Both.meet.Goals as goal
 
 pub bus_cycle-turn-requires-clause-areas : goal.bus_cycle-turn-requires-clause-areas
@@ -46,21 +44,18 @@ returns-clause-turn g c =
     let s = pair_of old in
     let arrive = c.deliver-self.ensures.arrived ∙ ap (λ (ds : List DeviceFacts). arrivals old.first.now c.args.requests.now (arrivals_in old.first.gates ds)) c.items_mut.ensures.value in
     let gates = ap (λ (a : Arrivals). a.gates) arrive in
-    let wait : is_nobody old.holder ≡ true → c.if-is_nobody.wait ≡ some_wait (arrivals_at c.args.requests.now s.first).gates.gates = elim c.if-is_nobody.branch [
-      | then-is_nobody w ↦ (λ e. w.wait-is ∙ w.some_wait-wait.ensures ∙ ap (λ (g : GatesState). some_wait g.gates) gates)
-      | else-is_nobody w ↦ (λ e. let f = sym e ∙ sym c.is_nobody.ensures ∙ w.if-is_nobody.false in absurd cc)
-    ] in
-    let holder : c.holder_with-holder.result ≡ holder_in c.args.requests.now s =
-    c.holder_with-holder.ensures ∙ same_holder old.holder c.asks.result c.asks-2.result c.if-is_nobody.wait (asks s.first) (asks s.second) (some_wait (arrivals_at c.args.requests.now s.first).gates.gates) c.asks.ensures c.asks-2.ensures wait in
+    let holder : c.holder_now-holder.result ≡ holder_in c.args.requests.now s =
+    c.holder_now-holder.ensures ∙ ap (λ (g : GatesState). holder_with old.holder (asks s.first) (asks s.second) (some_wait g.gates)) gates in
     c.bus_cycle-turn.ensures.turn
-    ∙ ap (λ (t : Turned). t.turn) (same_bus old.first.now old.holder c.holder_with-holder.result (holder_in c.args.requests.now s) c.window_given.result c.want_with.result c.want-first.result c.want-second.result _ _ c.deliver-self.new.gates _ old.first.work.memory holder c.window_given.ensures c.want_with.ensures c.want-first.ensures c.want-second.ensures gates)
+    ∙ ap (λ (t : Turned). t.turn) (same_bus old.first.now old.holder c.holder_now-holder.result (holder_in c.args.requests.now s) c.window_given.result c.want_with.result c.want-first.result c.want-second.result _ _ c.deliver-self.new.gates _ old.first.work.memory holder c.window_given.ensures c.want_with.ensures c.want-first.ensures c.want-second.ensures gates)
 
 pub returns-clause-free : goal.returns-clause-free
 returns-clause-free g c = λ ne.
     let old = c.args.self.now in
+    let s = pair_of old in
     ap (λ (g : GatesState). g.carried) c.bus_cycle-turn.ensures.gates
     ∙ ap (λ w. (bus_turn old.first.now w c.want_with.result c.deliver-self.new.gates old.first.work.memory).gates.carried) c.window_given.ensures
-    ∙ still_free old.first.now old.holder c.holder_with-holder.result c.asks.result c.asks-2.result c.if-is_nobody.wait c.want_with.result c.deliver-self.new.gates old.first.work.memory c.holder_with-holder.ensures ne
+    ∙ still_free old.first.now old.holder c.holder_now-holder.result (asks s.first) (asks s.second) (some_wait c.deliver-self.new.gates.gates) c.want_with.result c.deliver-self.new.gates old.first.work.memory c.holder_now-holder.ensures ne
     (λ nb. c.deliver-self.ensures.carried ∙ c.requires.free nb)
 
 pub returns-clause-arrives : goal.returns-clause-arrives
@@ -131,14 +126,10 @@ returns-clause-first g c =
     let served = c.log_turn.new in
     let arrive = c.deliver-self.ensures.arrived ∙ ap (λ (ds : List DeviceFacts). arrivals old.first.now c.args.requests.now (arrivals_in old.first.gates ds)) c.items_mut.ensures.value in
     let gates = ap (λ (a : Arrivals). a.gates) arrive in
-    let wait : is_nobody old.holder ≡ true → c.if-is_nobody.wait ≡ some_wait (arrivals_at c.args.requests.now s.first).gates.gates = elim c.if-is_nobody.branch [
-      | then-is_nobody w ↦ (λ e. w.wait-is ∙ w.some_wait-wait.ensures ∙ ap (λ (g : GatesState). some_wait g.gates) gates)
-      | else-is_nobody w ↦ (λ e. let f = sym e ∙ sym c.is_nobody.ensures ∙ w.if-is_nobody.false in absurd cc)
-    ] in
-    let holder : c.holder_with-holder.result ≡ holder_in c.args.requests.now s =
-    c.holder_with-holder.ensures ∙ same_holder old.holder c.asks.result c.asks-2.result c.if-is_nobody.wait (asks s.first) (asks s.second) (some_wait (arrivals_at c.args.requests.now s.first).gates.gates) c.asks.ensures c.asks-2.ensures wait in
-    let bus = same_bus old.first.now old.holder c.holder_with-holder.result (holder_in c.args.requests.now s) c.window_given.result c.want_with.result c.want-first.result c.want-second.result _ _ c.deliver-self.new.gates _ old.first.work.memory holder c.window_given.ensures c.want_with.ensures c.want-first.ensures c.want-second.ensures gates in
-    let clash = same_clash c.two_want-clash.result c.is_wanted.result c.is_wanted-2.result c.is_gates.result c.want-first.result c.want-second.result _ _ c.holder_with-holder.result (holder_in c.args.requests.now s)
+    let holder : c.holder_now-holder.result ≡ holder_in c.args.requests.now s =
+    c.holder_now-holder.ensures ∙ ap (λ (g : GatesState). holder_with old.holder (asks s.first) (asks s.second) (some_wait g.gates)) gates in
+    let bus = same_bus old.first.now old.holder c.holder_now-holder.result (holder_in c.args.requests.now s) c.window_given.result c.want_with.result c.want-first.result c.want-second.result _ _ c.deliver-self.new.gates _ old.first.work.memory holder c.window_given.ensures c.want_with.ensures c.want-first.ensures c.want-second.ensures gates in
+    let clash = same_clash c.two_want-clash.result c.is_wanted.result c.is_wanted-2.result c.is_gates.result c.want-first.result c.want-second.result _ _ c.holder_now-holder.result (holder_in c.args.requests.now s)
     c.two_want-clash.ensures c.is_wanted.ensures c.is_wanted-2.ensures c.is_gates.ensures c.want-first.ensures c.want-second.ensures holder in
     let first : length c.deliver-self.new.devices ≡ old.first.facts.devices.all.len =
     c.deliver-self.auto.devices ∙ ap length c.items_mut.ensures.value ∙ sym old.first.facts.devices.all.ok.0 in
