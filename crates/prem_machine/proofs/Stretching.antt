@@ -158,7 +158,7 @@ alone task until requests s h lt =
       idle = h.idle s.now (omega arith) lt;
     }
 
-not_held : (ns : List ℕ) (begun : Bool) (cost : ℕ) → begun ≡ false → want_of (record { transactions = ns; begun = begun; cost = cost }) ≡ Held → ⊥
+pub not_held : (ns : List ℕ) (begun : Bool) (cost : ℕ) → begun ≡ false → want_of (record { transactions = ns; begun = begun; cost = cost }) ≡ Held → ⊥
 not_held [] begun cost is held = absurd (cc)
 not_held (n ∷ ns) true cost is held = absurd (cc)
 not_held (n ∷ ns) false cost is held = absurd (cc)

@@ -5,7 +5,7 @@ ghost use Rattle.prem_isa.specs.Fields.{fields_of};
 ghost use Rattle.prem_isa.specs.Step.{UpshotFits, act_of, told_by};
 ghost use Rattle.prem_machine.specs.Issue.Coming.{cost_at};
 
-use crate::issue::task::Core;
+use crate::issue::task::TaskCore;
 use prem_isa::{Upshot, upshot_of};
 use prem_plant::Target;
 
@@ -52,7 +52,7 @@ fn operation_cost(funct3: u32, funct7: u32) -> u32
     }
 }
 
-impl Core {
+impl TaskCore {
     /// What a word comes to that stands at the program counter.
     #[inline(always)]
     pub(crate) fn coming(&self, target: Target, size: u32, word: u32) -> Upshot
@@ -61,6 +61,7 @@ impl Core {
             ≡ act_of target size view (slice_index self.now.registers) self.now.pc self.now.phase input (decode_of word) }
         ensures fit { UpshotFits size result }
     {
-        upshot_of(target, size, &self.registers, self.pc, self.phase, word)
+        let hart = &self.hart;
+        upshot_of(target, size, &hart.registers, hart.pc, hart.phase, word)
     }
 }

@@ -2,6 +2,7 @@
 ghost use Rattle.std.specs.Prelude.{◌≡◌, ◌+◌, ◌<◌, ◌≤◌, ◌^◌, ℕ};
 ghost use Rattle.prem_isa.specs.declared.effect.Stored.{Stored};
 ghost use Rattle.prem_cycle.specs.Issue.{is_execution, is_memory, one_if, with_store, with_touch, with_touches};
+ghost use Rattle.prem_machine.specs.Issue.Cores.{tallied};
 ghost use Rattle.prem_machine.specs.Issue.Counting.{AreAtMost, counts_in, recounted};
 ghost use Rattle.prem_machine.specs.Issue.Touches.{line_touch_as};
 
@@ -28,6 +29,27 @@ pub fn count(facts: &mut Facts, phase: Phase, effect: Effect, touches: &Touches)
     if effect.stored.is_some() {
         facts.memory_stores += one_if(phase == Phase::Memory);
     }
+}
+
+/// Counts an instruction that has issued in a phase, with so many lines that it found, missed and had written back, and that was a
+/// store or not.
+///
+/// Of what a run tells, nothing else changes. No count grows by more than 2.
+pub(crate) fn tally(facts: &mut Facts, phase: Phase, hits: u8, misses: u8, backs: u8, stored: bool)
+    requires few { (hits ≤ 2) × ((misses ≤ 2) × (backs ≤ 2)) }
+    requires room { AreAtMost (2 ^ 63) (counts_in facts.old) }
+    ensures counts { counts_in facts.new ≡ tallied phase hits misses backs stored (counts_in facts.old) }
+    ensures rest { facts.new ≡ recounted (counts_in facts.new) facts.old }
+    ensures most { (most : ℕ) → AreAtMost most (counts_in facts.old)
+        → AreAtMost (most + 2) (counts_in facts.new) }
+{
+    facts.hits += u64::from(hits);
+    facts.misses += u64::from(misses);
+    facts.writebacks += u64::from(backs);
+    if phase == Phase::Execution {
+        facts.exec_misses += u64::from(misses);
+    }
+    facts.memory_stores += one_if(stored && phase == Phase::Memory);
 }
 
 #[inline(always)]

@@ -9,15 +9,17 @@ ghost use Rattle.prem_lru.specs.Rules.{rule_of};
 ghost use Rattle.prem_lru.specs.CacheState.{IsCache, is_resident, store_of, touch_of, view_of};
 ghost use Rattle.prem_cycle.specs.State.{Task};
 ghost use Rattle.prem_cycle.specs.Issue.{effect_in, issued_with, line_touch, view_touched};
+ghost use Rattle.prem_machine.specs.Issue.Harts.{given};
 ghost use Rattle.prem_machine.specs.Issue.Attempts.{CanIssue, HasActed};
 ghost use Rattle.prem_machine.specs.Issue.Coming.{load_access, load_effect};
 ghost use Rattle.prem_machine.specs.Issue.Near.{IsNear};
 ghost use Rattle.prem_machine.specs.Issue.Touches.{line_touch_as};
 
+use crate::issue::hart::Hart;
 use crate::issue::near::Near;
-use crate::issue::task::Core;
 use prem_isa::{DataLoad, Effect, Instr, Stored};
 use prem_lru::{Cache, Memory, Policy};
+use prem_plant::Target;
 use std::marker::Model;
 
 /// A touch of a line: its number, whether it was resident, and whether another line was written back for it.
@@ -99,34 +101,37 @@ impl Touches {
     }
 }
 
-/// The next instruction of a task issues: the line of its fetch is touched, then that of its data, and then what it
-/// loads is read, and what it stores comes into the resident line. Gives its effect as it is behind the touches.
-pub fn touch_lines<P: Policy>(
+/// The next instruction of a hart that takes this word issues: the line of its fetch is touched, then that of its data, and
+/// then what it loads is read, and what it stores comes into the resident line. Gives its effect as it is behind the
+/// touches.
+pub(crate) fn touch_lines<P: Policy>(
     cache: &mut Cache<P>,
     mem: &mut Memory,
-    core: &Core,
+    hart: &Hart,
+    target: Target,
+    input: u32,
     instr: Instr,
     effect: Effect,
 ) -> (Touches, Effect)
     requires memory { length mem.old ≡ cache.old.plant.memory }
     requires fits { Fits instr }
-    requires ready { CanIssue cache.old.plant.memory core.now.pc effect }
-    requires acted { HasActed cache.old.plant.target core.now instr effect }
+    requires ready { CanIssue cache.old.plant.memory hart.now.pc effect }
+    requires acted { HasActed target (given input hart.now) instr effect }
     ensures issued { (tasks : List Task)
-        → issued_with (rule_of cache.old.plant.policy) cache.old.plant.line tasks effect.stored (core.now.pc / cache.old.plant.line)
-        (touch_of (rule_of cache.old.plant.policy) cache.old (core.now.pc / cache.old.plant.line) mem.old) effect.access
+        → issued_with (rule_of cache.old.plant.policy) cache.old.plant.line tasks effect.stored (hart.now.pc / cache.old.plant.line)
+        (touch_of (rule_of cache.old.plant.policy) cache.old (hart.now.pc / cache.old.plant.line) mem.old) effect.access
         ≡ record {
           work = record { tasks = tasks; cache = cache.new; memory = mem.new };
           touches = result.0;
         } }
     ensures effect { result.1
-        ≡ effect_in cache.old.plant.target cache.old.plant.memory
-        (view_touched (rule_of cache.old.plant.policy) cache.old.plant.line cache.old mem.old core.now.pc effect.access) core.now instr effect }
+        ≡ effect_in target cache.old.plant.memory
+        (view_touched (rule_of cache.old.plant.policy) cache.old.plant.line cache.old mem.old hart.now.pc effect.access) (given input hart.now) instr effect }
     ensures plant { cache.new.plant ≡ cache.old.plant }
     ensures len { length mem.new ≡ length mem.old }
     ensures kept { IsCache cache.new }
 {
-    let pc = core.pc();
+    let pc = hart.pc();
     let line = cache.line_of(pc);
     let fetch = touch_line(cache, mem, line);
     let access = match effect.access {
@@ -136,7 +141,7 @@ pub fn touch_lines<P: Policy>(
             Some(touch_line(cache, mem, line))
         }
     };
-    let effect = core.effect_behind(cache, mem, instr, effect);
+    let effect = hart.effect_behind(target, cache, mem, input, instr, effect);
     if let Some(stored) = effect.stored {
         cache.store(stored.address, stored.size as u8, stored.value);
     }

@@ -1,0 +1,7 @@
+-- The fields of a core as its parts.
+use Rattle.prem_machine.specs.declared.issue.one_core.Core.TheInside.{Inside}
+use Rattle.prem_machine.specs.Issue.Cores.{CoreParts}
+use Rattle.prem_machine.specs.Owed.{debt_of}
+
+abbrev pub core_parts : Inside → CoreParts
+core_parts c = record { task = c.hart; first = c.first; target = c.target; debt = debt_of c.owed }
