@@ -9,7 +9,8 @@ use crate::work::Setting;
 use prem_gate::Request;
 use prem_lru::Policy;
 
-/// Of requests in order of cycle, of which so many have arrived, the cycle of the next one, or the limit if that is less.
+/// Of requests in order of cycle, of which so many have arrived, the cycle of the next one, or the limit if that is
+/// less.
 pub(crate) fn next_arrival(requests: &[Request], arrived: usize, limit: u64) -> u64
     requires { IsNonDecreasingBy (λ r. r.cycle) requests.now }
     ensures { (now : ℕ) → HaveArrived now arrived requests.now → now ≤ limit → IsNextArrival now limit requests.now result }

@@ -43,8 +43,8 @@ fn is_new(want: CoreWant) -> bool
     matches!(want, CoreWant::New)
 }
 
-/// The next instruction of a task that owes nothing, where it goes on in its interval: it issues in a cycle of its own. It
-/// answers whether the task goes on so behind it. Of any other instruction nothing changes.
+/// The next instruction of a task that owes nothing, where it goes on in its interval: it issues in a cycle of its own.
+/// It answers whether the task goes on so behind it. Of any other instruction nothing changes.
 #[inline(never)]
 fn issue_own<P: Policy>(
     setting: &Setting,
@@ -96,8 +96,8 @@ fn issue_own<P: Policy>(
     Some(false)
 }
 
-/// A cycle of its own of a core that runs: it pays one of its cost, or its next instruction issues and goes on in its interval.
-/// It answers whether the task goes on so behind it. Where neither can be, nothing changes.
+/// A cycle of its own of a core that runs: it pays one of its cost, or its next instruction issues and goes on in its
+/// interval. It answers whether the task goes on so behind it. Where neither can be, nothing changes.
 #[inline(always)]
 fn own_cycle<P: Policy>(
     setting: &Setting,
@@ -428,8 +428,8 @@ impl<P: Policy, Q: Policy> Both<P, Q> {
         }
     }
 
-    /// Instructions that follow each other while neither core touches the other, up to the limit; none where something else
-    /// comes first.
+    /// Instructions that follow each other while neither core touches the other, up to the limit; none where something
+    /// else comes first.
     pub fn stretch(&mut self, first: &Setting, second: &Setting, requests: &[Request], limit: u64)
         requires one { IsSetting first.now requests.now }
         requires two { IsSetting second.now [] }

@@ -42,8 +42,8 @@ pub(crate) fn some_wait(gates: &Gates) -> bool
     false
 }
 
-/// Who holds the token in a cycle, behind its arrivals: whoever held it keeps it, and a free one goes to the first of core 0,
-/// core 1 and the gates that asks.
+/// Who holds the token in a cycle, behind its arrivals: whoever held it keeps it, and a free one goes to the first of
+/// core 0, core 1 and the gates that asks.
 pub(crate) fn holder_now<P: Policy, Q: Policy>(
     before: Holder,
     first: &Parts<P>,

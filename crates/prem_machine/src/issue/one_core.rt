@@ -27,7 +27,8 @@ use std::marker::Model;
 /// The core of one task: its registers, its program counter, the phase and first cycle of its interval, the target, and
 /// what it owes for its last instruction. It takes no memory.
 ///
-/// The program counter is a multiple of 4. The wait up to an interval's end, the switch and the idle time are kept by the caller.
+/// The program counter is a multiple of 4. The wait up to an interval's end, the switch and the idle time are kept by
+/// the caller.
 #[derive(Drop)]
 pub struct Core {
     pub(crate) hart: Hart,
@@ -100,8 +101,8 @@ impl Core {
 
     /// Pays a cycle of what it owes, on the bus or of the instruction's cost, and tells whether nothing is owed then.
     ///
-    /// Conditions: it owes, and it has the bus exactly where it wants it. A core that wants the bus and hasn't got it pays
-    /// nothing in this cycle.
+    /// Conditions: it owes, and it has the bus exactly where it wants it. A core that wants the bus and hasn't got it
+    /// pays nothing in this cycle.
     pub fn pay(&mut self, had_bus: bool) -> bool
         requires owes { is_paid self.old.debt ≡ false }
         requires bus { had_bus ≡ wants (want_of self.old.debt) }
@@ -116,11 +117,12 @@ impl Core {
         self.owed.is_paid()
     }
 
-    /// Issues one instruction: the lines that it needs are touched, and it is executed, or it traps and changes nothing.
-    /// `input` is the word that a `pm.in` takes. What the core then owes, this cycle paid, takes the place of what it owed.
+    /// Issues one instruction: the lines that it needs are touched, and it is executed, or it traps and changes
+    /// nothing. `input` is the word that a `pm.in` takes. What the core then owes, this cycle paid, takes the place of
+    /// what it owed.
     ///
-    /// Conditions: its interval has begun and hasn't ended, it owes nothing, fewer than 2^62 cycles have passed, and memory
-    /// has the size of the plant with which the cache was made, all of whose numbers are in their ranges.
+    /// Conditions: its interval has begun and hasn't ended, it owes nothing, fewer than 2^62 cycles have passed, and
+    /// memory has the size of the plant with which the cache was made, all of whose numbers are in their ranges.
     pub fn issue<P: Policy>(
         &mut self,
         now: u64,
@@ -140,16 +142,13 @@ impl Core {
     {
         match self.hart.attempt(self.target, cache, mem, input) {
             Attempt::Traps(cause) => Issued::Trap(cause),
-            Attempt::Executes { instr, effect } => {
-                self.execute(now, cache, mem, input, instr, effect)
-            }
+            Attempt::Executes { instr, effect } => self.execute(cache, mem, input, instr, effect),
         }
     }
 
     /// Executes the next instruction, which had this effect before its touches.
     fn execute<P: Policy>(
         &mut self,
-        now: u64,
         cache: &mut Cache<P>,
         mem: &mut Memory,
         input: u32,
@@ -158,8 +157,7 @@ impl Core {
     ) -> Issued
         requires memory { length mem.old ≡ cache.old.plant.memory }
         requires plant { IsPlant cache.old.plant }
-        requires begun { self.old.first ≤ now }
-        requires now { now < 2 ^ 62 }
+        requires first { self.old.first < 2 ^ 62 }
         requires fits { Fits instr }
         requires ready { CanIssue cache.old.plant.memory self.old.task.pc effect }
         requires acted { HasActed self.old.target (given input self.old.task) instr effect }

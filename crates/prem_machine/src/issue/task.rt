@@ -21,8 +21,8 @@ use std::marker::Model;
 /// As many input words as a task may have.
 pub const INPUTS: usize = 100_000;
 
-/// One task on the core: what executes it, and its input words. Contracts see it as the task that has put out nothing; the words that
-/// it puts out are kept by the caller.
+/// One task on the core: what executes it, and its input words. Contracts see it as the task that has put out nothing;
+/// the words that it puts out are kept by the caller.
 #[derive(Drop)]
 pub struct TaskCore {
     pub(crate) hart: Hart,
@@ -120,8 +120,9 @@ impl TaskCore {
         }
     }
 
-    /// Goes on as its core did for an instruction, which took the next input word or didn't, put this word out, and changed
-    /// this. Behind `pm.done` the task's next job begins. A word is put behind the outputs, which have room for it.
+    /// Goes on as its core did for an instruction, which took the next input word or didn't, put this word out, and
+    /// changed this. Behind `pm.done` the task's next job begins. A word is put behind the outputs, which have room for
+    /// it.
     pub(crate) fn follow(
         &mut self,
         task: &TaskRecord,
