@@ -1,6 +1,5 @@
 // The core of a task: what executes its instructions, and what it owes for the last one.
 ghost use Rattle.std.specs.Prelude.{◌≡◌, ◌%◌, ◌≤◌, ◌<◌, ◌^◌, false, not, length};
-ghost use Rattle.prem_plant.specs.Ranges.{IsPlant};
 ghost use Rattle.prem_isa.specs.Decode.{Fits};
 ghost use Rattle.prem_lru.specs.Rules.{rule_of};
 ghost use Rattle.prem_gate.specs.Gates.{wants};
@@ -42,9 +41,11 @@ impl Model for Core {
 
     ghost Value = { CoreParts };
 
-    ghost use Rattle.prem_machine.specs.Issue.CoreFields.{core_parts};
+    ghost use Rattle.prem_machine.specs.Issue.CoreFields.{IsOneCore, core_parts};
 
     ghost view = { core_parts };
+
+    ghost invariant = { IsOneCore };
 }
 
 impl Core {
@@ -64,7 +65,10 @@ impl Core {
     }
 
     /// This cycle becomes the interval's first one.
+    ///
+    /// Condition: fewer than 2^62 cycles have passed. What it owes stays.
     pub fn begin(&mut self, now: u64)
+        requires { now < 2 ^ 62 }
         ensures { self.new ≡ record self.old { first = now } }
     {
         self.first = now;
@@ -121,8 +125,8 @@ impl Core {
     /// nothing. `input` is the word that a `pm.in` takes. What the core then owes, this cycle paid, takes the place of
     /// what it owed.
     ///
-    /// Conditions: its interval has begun and hasn't ended, it owes nothing, fewer than 2^62 cycles have passed, and
-    /// memory has the size of the plant with which the cache was made, all of whose numbers are in their ranges.
+    /// Conditions: its interval has begun by this cycle and hasn't ended, it owes nothing, and memory has the size of
+    /// the plant with which the cache was made.
     pub fn issue<P: Policy>(
         &mut self,
         now: u64,
@@ -131,12 +135,11 @@ impl Core {
         input: u32,
     ) -> Issued
         requires memory { length mem.old ≡ cache.old.plant.memory }
-        requires plant { IsPlant cache.old.plant }
         requires begun { self.old.first ≤ now }
-        requires now { now < 2 ^ 62 }
         ensures issued { core_issues input self.old cache.old mem.old
             ≡ record { issued = result; core = self.new; cache = cache.new; memory = mem.new } }
         ensures small { IsTold self.old.first result }
+        ensures kept { (self.new.first ≡ self.old.first) × (self.new.target ≡ self.old.target) }
         ensures plant { cache.new.plant ≡ cache.old.plant }
         ensures len { length mem.new ≡ length mem.old }
     {
@@ -156,8 +159,6 @@ impl Core {
         effect: Effect,
     ) -> Issued
         requires memory { length mem.old ≡ cache.old.plant.memory }
-        requires plant { IsPlant cache.old.plant }
-        requires first { self.old.first < 2 ^ 62 }
         requires fits { Fits instr }
         requires ready { CanIssue cache.old.plant.memory self.old.task.pc effect }
         requires acted { HasActed self.old.target (given input self.old.task) instr effect }
@@ -166,6 +167,7 @@ impl Core {
             (view_touched rule cache.old.plant.line cache.old mem.old self.old.task.pc effect.access) (given input self.old.task) instr effect))
             ≡ record { issued = result; core = self.new; cache = cache.new; memory = mem.new } }
         ensures small { IsTold self.old.first result }
+        ensures kept { (self.new.first ≡ self.old.first) × (self.new.target ≡ self.old.target) }
         ensures plant { cache.new.plant ≡ cache.old.plant }
         ensures len { length mem.new ≡ length mem.old }
     {
