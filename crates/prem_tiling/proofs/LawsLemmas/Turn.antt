@@ -1,7 +1,7 @@
 -- A turn without a read of stale locals does the same from two states that differ in these alone.
 use Rattle.std.specs.Prelude.{ℤ, pos, ◌+ℤ◌, int_lt}
 use Rattle.std.specs.Option.{option_map}
-use Rattle.std.proofs.Common.{◌≡◌, ℕ, ◌+◌, Bool, true, false, cond, not, ◌&&◌, List, [], ◌++◌, refl, ap, sym, ◌∙◌, subst, Option, None, Some, Ok, Err, eqb, true≢false}
+use Rattle.std.proofs.Common.{◌≡◌, ℕ, ◌+◌, Bool, true, false, cond, not, ◌&&◌, ◌||◌, List, [], ◌++◌, refl, ap, sym, ◌∙◌, subst, Option, None, Some, Ok, Err, eqb, true≢false}
 use Rattle.std.proofs.lemmas.Bool.{eq-eqb}
 use Rattle.prem_word.specs.declared.kind.Kind.TheVariants.{Int}
 use Rattle.prem_word.specs.Words.{value_in, word_of}
@@ -21,7 +21,6 @@ use Rattle.prem_tiling.specs.Shapes.Carried.{is_number, is_local_named, assigns,
 use Rattle.prem_tiling.proofs.LawsLemmas.Joint.{Joint, fine, wrong, joint_then, same_then, counting_joint, bounded_joint}
 use Rattle.prem_tiling.proofs.LawsLemmas.Tied.{neither_left, neither_right, either_left, either_right, no_line_left, no_line_right, Numbered, Tied, more_stale, with_local_tied, output_tied, store_tied, input_tied, value_tied}
 use Rattle.prem_tiling.proofs.LawsLemmas.Formed.{none_left, none_right, kept_rule_not, int_local_numbered, loop_parts}
-use Rattle.prem_tiling.proofs.LawsLemmas.Limits.{none_either}
 
 -- ---- nothing becomes stale
 
@@ -33,11 +32,14 @@ without_less (Some j) stale k e = by (not (eqb j k)) (stale k) e
     by true b h = h
     by false b h = refl
 
+neither : {a b : Bool} → a ≡ false → b ≡ false → (a || b) ≡ false
+neither {a = a} {b = b} e f = ap (λ x. x || b) e ∙ f
+
 mutual
   pub behind_less : (locals : List Text) (s : Statement) (stale : LocalSet) (k : ℕ) → stale k ≡ false → behind locals stale s k ≡ false
   behind_less locals (block at body) stale k e = behind_all_less locals body stale k e
-  behind_less locals (if_then at condition taken) stale k e = none_either e (behind_less locals taken stale k e)
-  behind_less locals (if_else at condition taken other) stale k e = none_either (behind_less locals taken stale k e) (behind_less locals other stale k e)
+  behind_less locals (if_then at condition taken) stale k e = neither e (behind_less locals taken stale k e)
+  behind_less locals (if_else at condition taken other) stale k e = neither (behind_less locals taken stale k e) (behind_less locals other stale k e)
   behind_less locals (bounded_while at turns condition body) stale k e = e
   behind_less locals (counting_for at names low closed high step body) stale k e = without_less (number_of locals names.first) stale k e
   behind_less locals (assign at name None value) stale k e = without_less (number_of locals name) stale k e
