@@ -6,7 +6,7 @@ use Rattle.std.proofs.lemmas.Bool.Decides.{nat_tests}
 use Rattle.prem_cycle.specs.State.{rule_in}
 use Rattle.prem_cycle.specs.declared.state.Trap.{Trap}
 use Rattle.prem_cycle.specs.Cycle.{is_full, log_size}
-use Rattle.prem_machine.proofs.Going.{then_is, going_most}
+use Rattle.prem_machine.proofs.Going.{going_most}
 use Rattle.prem_pair.specs.declared.cycles.state.PairStop.{PairStop}
 use Rattle.prem_pair.specs.declared.cycles.state.PairStop.TheVariants.{Finished, LogFull, Limit}
 use Rattle.prem_pair.specs.Cycles.Pair.{PairState, both_finished, full_stop, is_pair_over, one_trapped, pair_cycle, pair_cycles, pair_step, pair_stop_of, trap_stop}
@@ -40,6 +40,10 @@ goes_on limit s e = none_by (both_finished s) s.first.trapped s.second.trapped (
 
 stops : (limit : ℕ) (s : PairState) (stop : PairStop) → pair_stop_of limit s ≡ Some stop → (is_pair_over s ≡ true) ⊎ ((s.first.now == limit) ≡ true)
 stops limit s stop e = some_by (both_finished s) s.first.trapped s.second.trapped (is_full s.first) (is_full s.second) (s.first.now == limit) stop e
+
+pub then_is : (b : Bool) → then_some b Limit ≡ cond b (Some Limit) None
+then_is true = refl
+then_is false = refl
 
 pub one_rests : (a b : Bool) → a ≡ false → (a && b) ≡ false
 one_rests true b e = absurd (cc)
