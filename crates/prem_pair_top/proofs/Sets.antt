@@ -29,7 +29,7 @@ use Rattle.prem_sets_sound.proofs.AcceptedLemmas.Whole.{accepted_sets_are_laid_o
 use Rattle.prem_sets_sound.proofs.Sound.{accepted_tasks_are_meant, as_stubs_make, meant_tasks_join}
 use Rattle.prem_exec.specs.Forms.{RunText}
 use Rattle.prem_running.specs.RunSound.Runs.{SuitsRun}
-use Rattle.prem_running.proofs.RunSoundLemmas.Reports.{third_true, at_cycle}
+use Rattle.prem_running.proofs.RunSoundLemmas.Reports.{third_true}
 use Rattle.prem_pair_top.specs.Running.{limit_in, pair_at, pair_stop_at}
 use Rattle.prem_pair_top.specs.Sound.{AreSound, PairsOfSetsAreSound, EndsWell, PairReportsEnd}
 
@@ -94,6 +94,10 @@ stop_at_cycle n s = cond (s.first.now == n) (Some Limit) None
 
 abbrev stop_by : ℕ → PairState → Bool → Option Trap → Option Trap → Bool → Bool → PairStop
 stop_by n s finished t u f g = unwrap_or (cond finished (Some Finished) (trap_stop 0 t (trap_stop 1 u (full_stop 0 f (full_stop 1 g (stop_at_cycle n s)))))) Limit
+
+at_cycle : (b : Bool) → unwrap_or (cond b (Some Limit) None) Limit ≡ Limit
+at_cycle true = refl
+at_cycle false = refl
 
 tells_finished : (n : ℕ) (s : PairState) → both_finished s ≡ true → pair_stop_at n s ≡ Finished
 tells_finished n s f = ap (λ b. stop_by n s b s.first.trapped s.second.trapped (is_full s.first) (is_full s.second)) f
