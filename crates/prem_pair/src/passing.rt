@@ -178,7 +178,13 @@ impl<P: Policy, Q: Policy> Both<P, Q> {
         }
         let arrival = next_arrival(requests, self.first.arrived, limit);
         let first = cycle_behind(now, arrival, rest_with(&self.first, is_first(self.holder)));
+        if first == now {
+            return now;
+        }
         let both = cycle_behind(now, first, rest_with(&self.second, is_second(self.holder)));
+        if both == now {
+            return now;
+        }
         let want = self.wanted();
         self.first.gates.next_change(now, CLOSED, want, both)
     }

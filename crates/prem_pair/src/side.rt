@@ -52,6 +52,11 @@ pub(crate) fn act<P: Policy>(
     ensures now { parts.new.now ≡ parts.old.now }
     ensures gates { parts.new.gates ≡ parts.old.gates }
 {
+    if !holds && asks(parts) {
+        // it waits for the token
+        parts.trapped = None;
+        return;
+    }
     let step = next_step(parts, setting.plant.switch, holds, had);
     parts.trapped = move_core(
         parts.now,
