@@ -56,6 +56,7 @@ fn waiting_rest(now: u64, mode: Mode) -> Option<u64>
 }
 
 /// How many cycles a core rests that holds the token or doesn't, if it does so by itself.
+#[inline(always)]
 pub(crate) fn rest_with<P: Policy>(parts: &Parts<P>, holds: bool) -> Option<u64>
     requires now { parts.now.now < 2 ^ 61 }
     requires begun { parts.now.moment.interval.first ≤ parts.now.now }
@@ -120,6 +121,7 @@ impl<P: Policy, Q: Policy> Both<P, Q> {
     ghost use Rattle.prem_pair.specs.BothOf.{AreBoth, GoOn, IsFree, pair_of};
 
     /// Whether the token stays where it is in the coming cycle.
+    #[inline(always)]
     pub(crate) fn stays(&self) -> bool
         requires few { length self.now.first.gates.gates ≤ 8 }
         requires free { IsFree self.now }

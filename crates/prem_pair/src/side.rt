@@ -31,6 +31,7 @@ fn next_step<P: Policy>(parts: &Parts<P>, switch: u32, holds: bool, had: bool) -
 }
 
 /// The core's part of a cycle, behind arrivals and the bus.
+#[inline(always)]
 pub(crate) fn act<P: Policy>(
     setting: &Setting,
     requests: &[Request],
