@@ -25,9 +25,10 @@ use Rattle.prem_machine.specs.declared.moment.Moment.{Moment}
 use Rattle.prem_machine.specs.declared.parts.Parts.{Parts}
 use Rattle.prem_machine.specs.declared.work.Setting.{Setting}
 use Rattle.prem_machine.specs.declared.work.Works.{Works}
+use Rattle.prem_machine.specs.Issue.Cores.{CoreParts}
 use Rattle.prem_machine.specs.Issue.Counting.{counts_in}
 use Rattle.prem_machine.specs.Log.{dropped_in, log_in, put_out}
-use Rattle.prem_machine.specs.Moment.{ModeReady, core_of}
+use Rattle.prem_machine.specs.Moment.{ModeReady, core_with}
 use Rattle.prem_machine.specs.Owed.{bus_cycles}
 use Rattle.prem_machine.specs.Parts.{Runs, Stands, state_of}
 use Rattle.prem_machine.specs.Plain.{GoesOn, IsKept}
@@ -38,18 +39,19 @@ use Rattle.prem_machine.proofs.Lonely.{as_lone, lone_cycles, lone_state}
 use Rattle.prem_machine.proofs.Resting.{arrived_after, counts_more, mode_after, unclashed}
 use Rattle.prem_machine.proofs.Telling.{cores_told, full_told}
 
--- the parts with other work and facts, at another time, in another moment
-abbrev pub behind : {P : Type 0} → Parts P → Works P → Facts → ℕ → Moment → Parts P
-behind x w f now m = record x { work = w; facts = f; now = now; moment = m }
+-- the parts with other work and facts, at another time, in another moment, where another core owes
+abbrev pub behind : {P : Type 0} → Parts P → Works P → Facts → ℕ → Moment → CoreParts → Parts P
+behind x w f now m c = record x { work = w; facts = f; now = now; moment = m; core = c }
 
-kept_stands : {P : Type 0} (p : Setting) (requests : List Request) (x : Parts P) (w : Works P) (f : Facts) (now : ℕ) (m : Moment) →
-    Stands p requests x → IsKept x.work x.facts w f → Stands p requests (behind x w f now m)
-kept_stands p requests x w f now m s k =
+kept_stands : {P : Type 0} (p : Setting) (requests : List Request) (x : Parts P) (w : Works P) (f : Facts) (now : ℕ) →
+    Stands p requests x → IsKept x.work x.facts w f → Stands p requests (behind x w f now x.moment x.core)
+kept_stands p requests x w f now s k =
     let A : ℕ → Type 0 = λ n. All (LiesIn x.gates.line n) x.gates.gates in
     record {
       memory = k.memory ∙ s.memory;
       cache = k.cache ∙ s.cache;
       cores = k.cores ∙ s.cores;
+      target = s.target;
       tasks = s.tasks;
       told = k.ended ∙ s.told;
       jobs = s.jobs;
@@ -66,7 +68,7 @@ kept_stands p requests x w f now m s k =
 
 pub kept_runs : {P : Type 0} (requests : List Request) (x : Parts P) (w : Works P) (f : Facts) (task until cost : ℕ) → IsLone task until requests (state_of x) →
     All (λ j. 1 ≤ j.period) x.sched → Runs x.now (4 * x.now) requests x → IsKept x.work x.facts w f → 1 ≤ cost → x.now + cost ≤ until →
-    Runs (x.now + cost) (4 * (x.now + cost)) requests (behind x w f (x.now + cost) x.moment)
+    Runs (x.now + cost) (4 * (x.now + cost)) requests (behind x w f (x.now + cost) x.moment x.core)
 kept_runs requests x w f task until cost h periods r k some le =
     let log = ap (λ (l : Log). length l.transfers) k.log in
     record {
@@ -103,10 +105,10 @@ as_state task until requests s t h none sched core gates log trapped =
 -- the turn of the core
 turn_of : {P : Type 0} (p : Setting) (x : Parts P) (w : Works P) (f : Facts) (task cost : ℕ) (touches : List LineTouch) (owed : List ℕ) →
     GoesOn p task x.work x.facts w f touches cost → owed_by p.plant touches ≡ owed →
-    core_turn (rule_in (setup_in p)) (setup_in p) x.now (Issues task x.moment.interval) (state_of x).work (core_of x.moment) (counts_in x.facts)
+    core_turn (rule_in (setup_in p)) (setup_in p) x.now (Issues task x.moment.interval) (state_of x).work (core_with x.core.debt x.moment) (counts_in x.facts)
     ≡ record {
       work = work_in w (items_of f.tasks);
-      core = core_issued x.now task x.moment.interval Stay cost owed (core_of x.moment);
+      core = core_issued x.now task x.moment.interval Stay cost owed (core_with x.core.debt x.moment);
       counts = counts_in f;
       trapped = None;
     }
@@ -114,29 +116,29 @@ turn_of p x w f task cost touches owed goes is =
     let F : List ℕ → CoreTurn = λ o.
     record {
       work = work_in w (items_of f.tasks);
-      core = core_issued x.now task x.moment.interval Stay cost o (core_of x.moment);
+      core = core_issued x.now task x.moment.interval Stay cost o (core_with x.core.debt x.moment);
       counts = counts_in f;
       trapped = None;
     } in
-    goes x.now x.moment.interval (core_of x.moment) ∙ ap F is
+    goes x.now x.moment.interval (core_with x.core.debt x.moment) ∙ ap F is
 
 pub went_state : {P : Type 0} (p : Setting) (requests : List Request) (x : Parts P) (w : Works P) (f : Facts) (task until cost all : ℕ) (touches : List LineTouch) (owed : List ℕ) →
     IsLone task until requests (state_of x) → Stands p requests x → x.trapped ≡ None → GoesOn p task x.work x.facts w f touches cost → owed_by p.plant touches ≡ owed →
     IsKept x.work x.facts w f → 1 ≤ cost → all ≡ bus_cycles owed + cost → x.now + all ≤ until → put_out (items_of x.facts.tasks) + 2 ≤ log_size → length (items_of x.facts.intervals) < log_size →
-    state_of (behind x w f (x.now + all) x.moment) ≡ cycles_of (rule_in (setup_in p)) (setup_in p) requests all (state_of x)
+    state_of (behind x w f (x.now + all) x.moment x.core) ≡ cycles_of (rule_in (setup_in p)) (setup_in p) requests all (state_of x)
 went_state p requests x w f task until cost all touches owed h stands none goes owes k some is le room less =
     let s = state_of x in
-    let y = behind x w f (x.now + all) x.moment in
+    let y = behind x w f (x.now + all) x.moment x.core in
     let same = as_state task until requests s (state_of y) h none refl refl refl k.log refl in
     let intervals = ap (λ (l : Log). length l.intervals) k.log in
     let full : is_full s ≡ false = has_room p requests x stands (omega (arith, room)) less in
-    let after : is_full (state_of y) ≡ false = has_room p requests y (kept_stands p requests x w f (x.now + all) x.moment stands k) (omega (arith, room, k.put)) (omega (arith, less, intervals)) in
+    let after : is_full (state_of y) ≡ false = has_room p requests y (kept_stands p requests x w f (x.now + all) stands k) (omega (arith, room, k.put)) (omega (arith, less, intervals)) in
     same
     ∙ sym (lone_cycles (rule_in (setup_in p)) (setup_in p) requests task until s (work_in w (items_of f.tasks)) (counts_in f) cost owed all h none some is le
     (goes_lone requests x task until h none full) (sym (ap is_full same) ∙ after) (turn_of p x w f task cost touches owed goes owes))
 
 pub went_lone : {P : Type 0} (requests : List Request) (x : Parts P) (w : Works P) (f : Facts) (task until cost : ℕ) → IsLone task until requests (state_of x) →
-    IsLone task until requests (state_of (behind x w f (x.now + cost) x.moment))
+    IsLone task until requests (state_of (behind x w f (x.now + cost) x.moment x.core))
 went_lone requests x w f task until cost h =
     record {
       mode = h.mode;
@@ -163,17 +165,17 @@ not_held [] begun cost is held = absurd (cc)
 not_held (n ∷ ns) true cost is held = absurd (cc)
 not_held (n ∷ ns) false cost is held = absurd (cc)
 
-pub missed_state : {P : Type 0} (p : Setting) (requests : List Request) (x : Parts P) (w : Works P) (f : Facts) (m : Moment) (t : MachineState) (task until cost : ℕ) (touches : List LineTouch) →
+pub missed_state : {P : Type 0} (p : Setting) (requests : List Request) (x : Parts P) (w : Works P) (f : Facts) (m : Moment) (c : CoreParts) (t : MachineState) (task until cost : ℕ) (touches : List LineTouch) →
     IsLone task until requests (state_of x) → Stands p requests x → x.trapped ≡ None → GoesOn p task x.work x.facts w f touches cost → IsKept x.work x.facts w f → x.now < until →
-    core_of m ≡ core_issued x.now task x.moment.interval Stay cost (owed_by p.plant touches) (core_of x.moment) →
-    t ≡ next_cycle (state_of (behind x w f x.now m)) → put_out (items_of x.facts.tasks) + 2 ≤ log_size → length (items_of x.facts.intervals) < log_size →
+    core_with c.debt m ≡ core_issued x.now task x.moment.interval Stay cost (owed_by p.plant touches) (core_with x.core.debt x.moment) →
+    t ≡ next_cycle (state_of (behind x w f x.now m c)) → put_out (items_of x.facts.tasks) + 2 ≤ log_size → length (items_of x.facts.intervals) < log_size →
     t ≡ cycles_of (rule_in (setup_in p)) (setup_in p) requests 1 (state_of x)
 unfolding cycles_of
-missed_state p requests x w f m t task until cost touches h stands none goes k lt core next room less =
+missed_state p requests x w f m c t task until cost touches h stands none goes k lt core next room less =
     let s = state_of x in
     let q = setup_in p in
     let rule = rule_in q in
-    let mid = state_of (behind x w f x.now m) in
+    let mid = state_of (behind x w f x.now m c) in
     let turn = turn_of p x w f task cost touches (owed_by p.plant touches) goes refl in
     let T : Counts → CoreTurn = λ n. core_turn rule q x.now (Issues task x.moment.interval) s.work s.core n in
     let clash = ap T (sym (unclashed (counts_in x.facts))) ∙ turn in
@@ -187,10 +189,10 @@ missed_state p requests x w f m t task until cost touches h stands none goes k l
     ∙ sym (issues_alone rule q requests task s (alone task until requests s h lt))
     ∙ sym (step_of-goes rule q requests s (goes_lone requests x task until h none full))
 
-pub missed_runs : {P : Type 0} (requests : List Request) (x : Parts P) (w : Works P) (f : Facts) (m : Moment) (task until : ℕ) → IsLone task until requests (state_of x) →
-    Runs x.now (4 * x.now) requests x → IsKept x.work x.facts w f → x.now < until → m.mode ≡ x.moment.mode → m.owed.begun ≡ false → m.interval.first ≡ x.moment.interval.first →
-    Runs (x.now + 1) (4 * x.now + 3) requests (behind x w f x.now m)
-missed_runs requests x w f m task until h r k lt mode begun first =
+pub missed_runs : {P : Type 0} (requests : List Request) (x : Parts P) (w : Works P) (f : Facts) (m : Moment) (c : CoreParts) (task until : ℕ) → IsLone task until requests (state_of x) →
+    Runs x.now (4 * x.now) requests x → IsKept x.work x.facts w f → x.now < until → m.mode ≡ x.moment.mode → c.debt.begun ≡ false → m.interval.first ≡ x.moment.interval.first →
+    Runs (x.now + 1) (4 * x.now + 3) requests (behind x w f x.now m c)
+missed_runs requests x w f m c task until h r k lt mode begun first =
     let log = ap (λ (l : Log). length l.transfers) k.log in
     let M : Mode → Type 0 = λ d. ModeReady x.now x.sched d in
     record {
@@ -198,7 +200,7 @@ missed_runs requests x w f m task until h r k lt mode begun first =
           (λ at d below j less is. h.none (x.now + j) (omega arith) (omega (arith, less, lt)) at d below is);
       few = few_kept x.arrived (items_of x.facts.devices) (items_of f.devices) (ap dropped_in k.devices) r.few;
       pending = omega (arith, r.pending, log);
-      free = λ held. absurd (not_held (core_of m).debt.transactions m.owed.begun m.owed.cost begun held);
+      free = λ held. absurd (not_held c.debt.transactions c.debt.begun c.debt.cost begun held);
       ready = subst M (sym mode) r.ready;
       first = omega (arith, first, r.first);
       counts = counts_more (4 * x.now + 2) (4 * x.now + 3) (counts_in f) (k.counts (4 * x.now) r.counts) (omega arith);
@@ -213,7 +215,7 @@ rooms_there p requests x s few less = rooms_left requests x.work.cores.items x.f
 
 -- ---- the parts behind it
 
-pub unmoved : {P : Type 0} (x : Parts P) (w : Works P) (f : Facts) → w ≡ x.work → f ≡ x.facts → behind x w f x.now x.moment ≡ x
+pub unmoved : {P : Type 0} (x : Parts P) (w : Works P) (f : Facts) → w ≡ x.work → f ≡ x.facts → behind x w f x.now x.moment x.core ≡ x
 unmoved x w f work facts = λ i. record x { work = work i; facts = facts i }
 
 -- ---- a stretch of them

@@ -45,7 +45,7 @@ impl<P: Policy> Parts<P> {
         if !self.moment.stays() {
             return None;
         }
-        if !self.moment.owed.is_nothing() {
+        if !self.core.owes_nothing() {
             return None;
         }
         let (now, window) = (self.now, self.moment.window);
@@ -103,7 +103,8 @@ impl<P: Policy> Parts<P> {
         let interval = self.moment.interval;
         self.moment = self
             .moment
-            .issued(self.now, lone.task, interval, Change::Stay, owed);
+            .issued(self.now, lone.task, interval, Change::Stay);
+        self.core.owe(owed);
         self.tick(setting, requests);
         false
     }

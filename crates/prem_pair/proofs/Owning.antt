@@ -1,5 +1,5 @@
 -- A core's parts behind a cycle of its own.
-use Rattle.std.specs.Prelude.{nat_le, ◌||◌, ◌&&◌}
+use Rattle.std.specs.Prelude.{nat_le, ◌||◌, ◌&&◌, if◌then◌else◌}
 use Rattle.std.proofs.Common.{◌≡◌, ◌≢◌, ℕ, zero, suc, ◌+◌, ◌-◌, ◌*◌, ◌≤◌, ◌<◌, Bool, true, false, List, [], None, refl, ap, sym, ◌∙◌, subst, arith, All, length}
 use Rattle.std.proofs.lemmas.Bool.Decides.{nat_tests}
 use Rattle.prem_list.specs.Sequence.{items_of}
@@ -8,20 +8,21 @@ use Rattle.prem_gate.specs.declared.bus.CoreWant.{CoreWant}
 use Rattle.prem_gate.specs.declared.bus.CoreWant.TheVariants.{No, New, Held}
 use Rattle.prem_gate.specs.Gates.{wants}
 use Rattle.prem_gate.specs.Stretch.{is_new}
-use Rattle.prem_cycle.specs.Core.{want_of}
+use Rattle.prem_cycle.specs.Core.{paid_on_bus, want_of}
 use Rattle.prem_isa.specs.declared.effect.Change.TheVariants.{Stay}
 use Rattle.prem_cycle.specs.declared.facts.Facts.{Facts}
 use Rattle.prem_cycle.specs.declared.state.Mode.{Mode}
 use Rattle.prem_cycle.specs.Issue.{LineTouch, owed_by}
 use Rattle.prem_cycle.specs.Core.{core_issued}
 use Rattle.prem_cycle.specs.Cycle.{is_full, log_size}
-use Rattle.prem_cycle.specs.State.{rule_in}
+use Rattle.prem_cycle.specs.State.{Debt, no_debt, rule_in}
 use Rattle.prem_machine.specs.declared.moment.Moment.{Moment}
 use Rattle.prem_machine.specs.declared.parts.Parts.{Parts}
 use Rattle.prem_machine.specs.declared.work.Setting.{Setting}
 use Rattle.prem_machine.specs.declared.work.Works.{Works}
 use Rattle.prem_machine.specs.Log.{put_out}
-use Rattle.prem_machine.specs.Moment.{ModeReady, core_of}
+use Rattle.prem_machine.specs.Issue.Cores.{CoreParts, paid_once}
+use Rattle.prem_machine.specs.Moment.{ModeReady, core_with}
 use Rattle.prem_machine.specs.Parts.{Stands, state_of}
 use Rattle.prem_machine.specs.Plain.{GoesOn, IsKept}
 use Rattle.prem_machine.specs.Work.{setup_in, work_in}
@@ -41,9 +42,9 @@ use Rattle.prem_pair.specs.MayStretch.{MayStretch}
 use Rattle.prem_pair.specs.Sides.{Arrives, Goes}
 use Rattle.prem_pair.proofs.CyclesLemmas.Own.{as_going, going_state, issue_own, pay_own}
 
-pub kept_goes : {P : Type 0} (x : Parts P) (w : Works P) (f : Facts) (m : Moment) → All (λ j. 1 ≤ j.period) x.sched → Goes (4 * x.now) x → IsKept x.work x.facts w f → m.mode ≡ x.moment.mode →
-    m.interval.first ≡ x.moment.interval.first → Goes (4 * (x.now + 1)) (behind x w f (x.now + 1) m)
-kept_goes x w f m periods r k mode first =
+pub kept_goes : {P : Type 0} (x : Parts P) (w : Works P) (f : Facts) (m : Moment) (c : CoreParts) → All (λ j. 1 ≤ j.period) x.sched → Goes (4 * x.now) x → IsKept x.work x.facts w f → m.mode ≡ x.moment.mode →
+    m.interval.first ≡ x.moment.interval.first → Goes (4 * (x.now + 1)) (behind x w f (x.now + 1) m c)
+kept_goes x w f m c periods r k mode first =
     let M : Mode → Type 0 = λ d. ModeReady x.now x.sched d in
     record {
       ready = mode_after x.now (x.now + 1) x.sched m.mode periods (omega arith) (subst M (sym mode) r.ready);
@@ -52,17 +53,17 @@ kept_goes x w f m periods r k mode first =
     }
 
 -- the state behind an instruction that goes on
-issued_state : {P : Type 0} (x : Parts P) (w : Works P) (f : Facts) (m : Moment) (task cost : ℕ) (owed : List ℕ) → x.trapped ≡ None → IsKept x.work x.facts w f →
-    core_of m ≡ core_issued x.now task x.moment.interval Stay cost owed (core_of x.moment) →
-    state_of (behind x w f (x.now + 1) m) ≡ going_state (state_of x) task (work_in w (items_of f.tasks)) (counts_in f) (x.now + 1) owed (cost - 1)
-issued_state x w f m task cost owed none k core =
-    same_state (state_of (behind x w f (x.now + 1) m)) (going_state (state_of x) task (work_in w (items_of f.tasks)) (counts_in f) (x.now + 1) owed (cost - 1)) refl refl refl core refl k.log none
+issued_state : {P : Type 0} (x : Parts P) (w : Works P) (f : Facts) (m : Moment) (c : CoreParts) (task cost : ℕ) (owed : List ℕ) → x.trapped ≡ None → IsKept x.work x.facts w f →
+    core_with c.debt m ≡ core_issued x.now task x.moment.interval Stay cost owed (core_with x.core.debt x.moment) →
+    state_of (behind x w f (x.now + 1) m c) ≡ going_state (state_of x) task (work_in w (items_of f.tasks)) (counts_in f) (x.now + 1) owed (cost - 1)
+issued_state x w f m c task cost owed none k core =
+    same_state (state_of (behind x w f (x.now + 1) m c)) (going_state (state_of x) task (work_in w (items_of f.tasks)) (counts_in f) (x.now + 1) owed (cost - 1)) refl refl refl core refl k.log none
 
-pub issues_own : {P : Type 0} (p : Setting) (holds : Bool) (x : Parts P) (w : Works P) (f : Facts) (m : Moment) (task cost : ℕ) (touches : List LineTouch) (owed : List ℕ) → IsGoing task (state_of x) →
-    x.moment.owed.cost ≡ 0 → x.trapped ≡ None → is_full (state_of x) ≡ false → GoesOn p task x.work x.facts w f touches cost → owed_by p.plant touches ≡ owed → IsKept x.work x.facts w f →
-    core_of m ≡ core_issued x.now task x.moment.interval Stay cost owed (core_of x.moment) →
-    OwnCycle (rule_in (setup_in p)) (setup_in p) holds No (state_of x) (state_of (behind x w f (x.now + 1) m))
-issues_own p holds x w f m task cost touches owed going paid none room goes is k core =
+pub issues_own : {P : Type 0} (p : Setting) (holds : Bool) (x : Parts P) (w : Works P) (f : Facts) (m : Moment) (c : CoreParts) (task cost : ℕ) (touches : List LineTouch) (owed : List ℕ) → IsGoing task (state_of x) →
+    x.core.debt.cost ≡ 0 → x.trapped ≡ None → is_full (state_of x) ≡ false → GoesOn p task x.work x.facts w f touches cost → owed_by p.plant touches ≡ owed → IsKept x.work x.facts w f →
+    core_with c.debt m ≡ core_issued x.now task x.moment.interval Stay cost owed (core_with x.core.debt x.moment) →
+    OwnCycle (rule_in (setup_in p)) (setup_in p) holds No (state_of x) (state_of (behind x w f (x.now + 1) m c))
+issues_own p holds x w f m c task cost touches owed going paid none room goes is k core =
     let s = state_of x in
     let q = setup_in p in
     let from : s ≡ going_state s task s.work s.log.counts s.now [] 0 = as_going task s going none ∙ ap (going_state s task s.work s.log.counts s.now []) paid in
@@ -71,35 +72,46 @@ issues_own p holds x w f m task cost touches owed going paid none room goes is k
     let full : is_full start ≡ false = sym (ap is_full from) ∙ room in
     let turn = goes x.now x.moment.interval start.core ∙ ap (λ o. record { work = work; core = core_issued x.now task x.moment.interval Stay cost o start.core; counts = counts_in f; trapped = None }) is in
     let own = issue_own (rule_in q) q holds s task s.work work s.log.counts (counts_in f) s.now cost owed full turn in
-    subst (λ a. OwnCycle (rule_in q) q holds No a (state_of (behind x w f (x.now + 1) m))) (sym from)
-    (subst (OwnCycle (rule_in q) q holds No start) (sym (issued_state x w f m task cost owed none k core)) own)
+    subst (λ a. OwnCycle (rule_in q) q holds No a (state_of (behind x w f (x.now + 1) m c))) (sym from)
+    (subst (OwnCycle (rule_in q) q holds No start) (sym (issued_state x w f m c task cost owed none k core)) own)
+
+-- where no transaction is owed, a cycle of the cost is paid
+pub paid_alone : (d : Debt) → d.transactions ≡ [] → paid_once d ≡ record d { cost = d.cost - 1 }
+paid_alone d none =
+    ap (λ ns. if wants (want_of (record d { transactions = ns })) then paid_on_bus d.transactions d else record d { cost = d.cost - 1 }) none
 
 -- behind a cycle of its cost
-pub pays_own : {P : Type 0} (p : Setting) (holds : Bool) (x : Parts P) (task : ℕ) → IsGoing task (state_of x) → 1 ≤ x.moment.owed.cost → x.trapped ≡ None → is_full (state_of x) ≡ false →
-    OwnCycle (rule_in (setup_in p)) (setup_in p) holds No (state_of x)
-    (state_of (behind x x.work x.facts (x.now + 1) (record x.moment { owed = record x.moment.owed { cost = x.moment.owed.cost - 1 } })))
-pays_own p holds x task going some none room =
+pub pays_own : {P : Type 0} (p : Setting) (holds : Bool) (x : Parts P) (core : CoreParts) (task : ℕ) → core.debt ≡ paid_once x.core.debt → IsGoing task (state_of x) → 1 ≤ x.core.debt.cost → x.trapped ≡ None →
+    is_full (state_of x) ≡ false → OwnCycle (rule_in (setup_in p)) (setup_in p) holds No (state_of x) (state_of (behind x x.work x.facts (x.now + 1) x.moment core))
+pays_own p holds x core task pays going some none room =
     let s = state_of x in
     let q = setup_in p in
-    let m = record x.moment { owed = record x.moment.owed { cost = x.moment.owed.cost - 1 } } in
-    let y = behind x x.work x.facts (x.now + 1) m in
-    let c = x.moment.owed.cost - 1 in
-    let e : x.moment.owed.cost ≡ suc c = omega (arith, some) in
+    let y = behind x x.work x.facts (x.now + 1) x.moment core in
+    let paid : core.debt ≡ record x.core.debt { cost = x.core.debt.cost - 1 } = pays ∙ paid_alone x.core.debt going.transactions in
+    let c = x.core.debt.cost - 1 in
+    let e : x.core.debt.cost ≡ suc c = omega (arith, some) in
     let start = going_state s task s.work s.log.counts s.now [] (suc c) in
     let from : s ≡ start = as_going task s going none ∙ ap (going_state s task s.work s.log.counts s.now []) e in
-    let after : IsGoing task (state_of y) = record { mode = going.mode; transactions = going.transactions; begun = going.begun; mark = going.mark } in
+    let after : IsGoing task (state_of y) =
+    record {
+      mode = going.mode;
+      transactions = ap (λ (d : Debt). d.transactions) paid ∙ going.transactions;
+      begun = ap (λ (d : Debt). d.begun) paid ∙ going.begun;
+      mark = going.mark;
+    } in
     let full : is_full start ≡ false = sym (ap is_full from) ∙ room in
-    let to : state_of y ≡ going_state s task s.work s.log.counts (s.now + 1) [] c = as_going task (state_of y) after none in
+    let to : state_of y ≡ going_state s task s.work s.log.counts (s.now + 1) [] c = as_going task (state_of y) after none
+    ∙ ap (going_state s task s.work s.log.counts (s.now + 1) []) (ap (λ (d : Debt). d.cost) paid) in
     subst (λ a. OwnCycle (rule_in q) q holds No a (state_of y)) (sym from)
     (subst (OwnCycle (rule_in q) q holds No start) (sym to) (pay_own (rule_in q) q holds s task s.work s.log.counts s.now c full))
 
 -- where all touches hit, nothing but its cost is owed
 pub hit_core : {P : Type 0} (x : Parts P) (task cost : ℕ) → IsGoing task (state_of x) →
-    core_of (record x.moment { owed = record x.moment.owed { cost = cost - 1 } }) ≡ core_issued x.now task x.moment.interval Stay cost [] (core_of x.moment)
+    core_with (record no_debt { cost = cost - 1 }) x.moment ≡ core_issued x.now task x.moment.interval Stay cost [] (core_with x.core.debt x.moment)
 hit_core x task cost going =
     λ j. record {
       mode = going.mode j;
-      debt = record { transactions = going.transactions j; begun = going.begun j; cost = cost - 1 };
+      debt = record no_debt { cost = cost - 1 };
       mark = going.mark j;
       interval = x.moment.interval;
       window = x.moment.window;

@@ -7,6 +7,7 @@ use Rattle.prem_gate.specs.Ranges.{HasLine, LiesIn}
 use Rattle.prem_gate.specs.Stretch.{IsNextChange}
 use Rattle.prem_cycle.specs.declared.state.Interval.{Interval}
 use Rattle.prem_cycle.specs.Runs.Dull.Rest.{NoneArrive}
+use Rattle.prem_machine.specs.Issue.Cores.{CoreParts}
 use Rattle.prem_machine.specs.declared.work.Setting.{Setting}
 use Rattle.prem_machine.specs.declared.moment.Moment.{Moment}
 use Rattle.prem_machine.specs.declared.parts.Parts.{Parts}
@@ -54,9 +55,9 @@ pub steady_pair : {P Q : Type 0} (p q : Setting) (requests : List Request) (x : 
 steady_pair p q requests x stands on going =
     record { going = going; same_now = stands.same_now; free = on.free; periods = stands.first.periods; other_periods = stands.second.periods }
 
-pub goes_at : {P : Type 0} (x : Parts P) (m : Moment) (at : ℕ) → All (λ j. 1 ≤ j.period) x.sched → x.now ≤ at → Goes (4 * x.now + (at - x.now)) x → ModeReady x.now x.sched m.mode → m.interval ≡ x.moment.interval →
-    Goes (4 * at) (record x { now = at; moment = m })
-goes_at x m at periods le r ready interval =
+pub goes_at : {P : Type 0} (x : Parts P) (m : Moment) (core : CoreParts) (at : ℕ) → All (λ j. 1 ≤ j.period) x.sched → x.now ≤ at → Goes (4 * x.now + (at - x.now)) x → ModeReady x.now x.sched m.mode → m.interval ≡ x.moment.interval →
+    Goes (4 * at) (record x { now = at; moment = m; core = core })
+goes_at x m core at periods le r ready interval =
     let first = ap (λ (i : Interval). i.first) interval in
     record {
       ready = mode_after x.now at x.sched m.mode periods le ready;
@@ -78,6 +79,7 @@ passed_stands p requests x g clashes s same =
       memory = s.memory;
       cache = s.cache;
       cores = s.cores;
+      target = s.target;
       tasks = s.tasks;
       told = s.told;
       jobs = s.jobs;

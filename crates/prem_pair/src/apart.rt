@@ -19,7 +19,7 @@ use crate::token::{holder_after, is_first, is_gates, is_second};
 use prem_gate::{CoreWant, Request};
 use prem_isa::Change;
 use prem_lru::Policy;
-use prem_machine::{Mode, Near, Parts, Setting, issue_plain, owed_for, room_left};
+use prem_machine::{Mode, Near, Owed, Parts, Setting, issue_plain, owed_for, room_left};
 use prem_plant::TaskId;
 
 /// The task that runs in an interval that goes on, and owes no transaction, if there is one.
@@ -30,7 +30,7 @@ fn going_task<P: Policy>(parts: &Parts<P>) -> Option<TaskId>
     let Mode::Running { task } = moment.mode else {
         return None;
     };
-    if moment.stays() && !moment.owed.begun && !moment.owed.wants_bus() {
+    if moment.stays() && !parts.core.has_begun() && !parts.core.wants_bus() {
         return Some(task);
     }
     None
@@ -59,7 +59,7 @@ fn issue_own<P: Policy>(
     requires now { parts.old.now < 2 ^ 61 }
     requires trapped { parts.old.trapped ≡ None }
     requires going { IsGoing task (state_of parts.old) }
-    requires paid { parts.old.moment.owed.cost ≡ 0 }
+    requires paid { parts.old.core.debt.cost ≡ 0 }
     requires room { put_out (items_of parts.old.facts.tasks) < log_size }
     requires intervals { length (items_of parts.old.facts.intervals) < log_size }
     requires near { IsNear parts.old.work.cache near.old.line }
@@ -83,15 +83,14 @@ fn issue_own<P: Policy>(
         return None;
     };
     if plain.hit {
-        parts.moment.owed.cost = plain.cost - 1;
+        parts.core.owe(Owed::cost_alone(plain.cost - 1));
         parts.now += 1;
         return Some(true);
     }
     let owed = owed_for(&setting.plant, &plain.touches, plain.cost);
     let interval = parts.moment.interval;
-    parts.moment = parts
-        .moment
-        .issued(parts.now, task, interval, Change::Stay, owed);
+    parts.moment = parts.moment.issued(parts.now, task, interval, Change::Stay);
+    parts.core.owe(owed);
     parts.now += 1;
     Some(false)
 }
@@ -129,10 +128,10 @@ fn own_cycle<P: Policy>(
     ensures intervals { items_of parts.new.facts.intervals ≡ items_of parts.old.facts.intervals }
     ensures none { IfNone result (parts.new ≡ parts.old) }
 {
-    if parts.moment.owed.cost == 0 {
+    if parts.core.cost() == 0 {
         return issue_own(setting, requests, parts, task, near);
     }
-    parts.moment.owed.cost -= 1;
+    parts.core.pay(false);
     parts.now += 1;
     Some(true)
 }

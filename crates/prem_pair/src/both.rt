@@ -43,6 +43,7 @@ pub(crate) fn tick<P: Policy>(setting: &Setting, requests: &[Request], parts: &m
     parts.now += 1;
     settle(
         parts.now,
+        &parts.core,
         &mut parts.moment,
         &mut parts.sched,
         &mut parts.facts,
@@ -61,7 +62,13 @@ fn end_in_place<P: Policy>(setting: &Setting, requests: &[Request], parts: &mut 
     ensures trapped { parts.new.trapped ≡ parts.old.trapped }
 {
     let next = parts.now + 1;
-    settle(next, &mut parts.moment, &mut parts.sched, &mut parts.facts);
+    settle(
+        next,
+        &parts.core,
+        &mut parts.moment,
+        &mut parts.sched,
+        &mut parts.facts,
+    );
 }
 
 impl<P: Policy, Q: Policy> Both<P, Q> {
@@ -105,8 +112,8 @@ impl<P: Policy, Q: Policy> Both<P, Q> {
         );
         let before = self.holder;
         let holder = holder_now(before, &self.first, &self.second);
-        let first = self.first.moment.want();
-        let second = self.second.moment.want();
+        let first = self.first.core.wants();
+        let second = self.second.core.wants();
         let turn = self.first.gates.bus_cycle(
             now,
             window_given(now, before, holder),

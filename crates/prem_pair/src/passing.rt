@@ -63,22 +63,22 @@ pub(crate) fn rest_with<P: Policy>(parts: &Parts<P>, holds: bool) -> Option<u64>
     ensures { result ≡ rest_with holds (state_of parts.entry.now) }
 {
     let now = parts.now;
-    let moment = &parts.moment;
+    let (moment, core) = (&parts.moment, &parts.core);
     if holds {
-        return moment.rest(now);
+        return moment.rest(core, now);
     }
     if asks(parts) || is_finished(now, &parts.sched, moment.mode) {
         return None;
     }
-    if moment.owed.wants_bus() {
+    if core.wants_bus() {
         return waiting_rest(now, moment.mode);
     }
-    moment.rest(now)
+    moment.rest(core, now)
 }
 
 /// Whether it may be worth while to ask how long a core rests: in an interval an instruction issues in most cycles.
 fn may_rest<P: Policy>(parts: &Parts<P>) -> bool {
-    matches!(parts.moment.mode, Mode::Point) || parts.moment.may_rest()
+    matches!(parts.moment.mode, Mode::Point) || parts.moment.may_rest(&parts.core)
 }
 
 /// A core passes over the cycles up to this one, in which it does nothing but count.
@@ -102,8 +102,8 @@ pub(crate) fn pass_with<P: Policy>(
     ensures gates { parts.new.gates ≡ parts.old.gates }
 {
     let cycles = at - parts.now;
-    if holds || !parts.moment.owed.wants_bus() {
-        parts.moment.pass(cycles);
+    if holds || !parts.core.wants_bus() {
+        parts.moment.pass(&mut parts.core, cycles);
     }
     parts.now = at;
 }
@@ -143,8 +143,8 @@ impl<P: Policy, Q: Policy> Both<P, Q> {
     {
         want_with(
             self.holder,
-            self.first.moment.want(),
-            self.second.moment.want(),
+            self.first.core.wants(),
+            self.second.core.wants(),
         )
     }
 
@@ -152,8 +152,8 @@ impl<P: Policy, Q: Policy> Both<P, Q> {
     pub(crate) fn clashes(&self) -> bool
         ensures { result ≡ clashes self.now.holder (pair_of self.now) }
     {
-        let first = is_wanted(self.first.moment.want());
-        let second = is_wanted(self.second.moment.want());
+        let first = is_wanted(self.first.core.wants());
+        let second = is_wanted(self.second.core.wants());
         two_want(first, second, is_gates(self.holder))
     }
 
@@ -210,7 +210,8 @@ impl<P: Policy, Q: Policy> Both<P, Q> {
         ensures arrives { Arrives at requests.now self.new.first }
         ensures free { IsFree self.new }
         ensures now { self.new.first.now ≡ self.old.first.now }
-        ensures core { self.new.first.moment ≡ self.old.first.moment }
+        ensures moment { self.new.first.moment ≡ self.old.first.moment }
+        ensures core { self.new.first.core ≡ self.old.first.core }
     {
         let now = self.first.now;
         let clashes = if self.clashes() { at - now } else { 0 };

@@ -2,8 +2,9 @@
 ghost use Rattle.std.specs.Prelude.{◌≡◌, ◌+◌, ◌*◌, ◌<◌, ◌≤◌, ◌^◌, ℕ, All, length, false};
 ghost use Rattle.prem_list.specs.Sequence.{items_of, room_of};
 ghost use Rattle.prem_cycle.specs.State.{Setup, Work};
+ghost use Rattle.prem_cycle.specs.Core.{move_of};
 ghost use Rattle.prem_cycle.specs.Cycle.{is_full};
-ghost use Rattle.prem_machine.specs.Moment.{ModeReady, MoveBegun, MoveReady, core_of, move_as};
+ghost use Rattle.prem_machine.specs.Moment.{ModeReady, MoveBegun, MovePays, MoveReady, core_with, move_as};
 ghost use Rattle.prem_machine.specs.Parts.{IsSetting, Stands, state_of};
 ghost use Rattle.prem_machine.specs.Work.{setup_in};
 ghost use Rattle.prem_pair.specs.Sides.{Arrives, Goes, core_done, move_had};
@@ -13,21 +14,21 @@ use prem_gate::Request;
 use prem_lru::Policy;
 use prem_machine::{Move, Parts, Setting, move_core};
 
-/// What a core does that holds the token or doesn't, and has had the bus or hasn't.
-fn next_step<P: Policy>(parts: &Parts<P>, switch: u32, holds: bool, had: bool) -> Move
+/// What a core does that doesn't wait for the token, and has had the bus or hasn't.
+fn next_step<P: Policy>(parts: &Parts<P>, switch: u32, had: bool) -> Move
     requires now { parts.now.now < 2 ^ 61 }
     requires ready { ModeReady parts.now.now parts.now.sched parts.now.moment.mode }
     requires begun { parts.now.moment.interval.first ≤ parts.now.now }
     ensures meaning { (p : Setup) (w : Work) → p.plant.switch ≡ switch
-        → move_as parts.entry.now.now w (core_of parts.entry.now.moment) result
-        ≡ move_had holds had p parts.entry.now.now parts.entry.now.sched w (core_of parts.entry.now.moment) }
+        → let c = core_with parts.entry.now.core.debt parts.entry.now.moment in
+        move_as parts.entry.now.now w c result ≡ move_of p parts.entry.now.now had parts.entry.now.sched w c }
     ensures ready { MoveReady parts.entry.now.now parts.entry.now.sched result }
     ensures begun { MoveBegun parts.entry.now.now result }
+    ensures pays { MovePays parts.entry.now.core.debt result }
 {
-    if !holds && asks(parts) {
-        return Move::Goes(parts.moment);
-    }
-    parts.moment.next_move(switch, parts.now, had, &parts.sched)
+    parts
+        .moment
+        .next_move(&parts.core, switch, parts.now, had, &parts.sched)
 }
 
 /// The core's part of a cycle, behind arrivals and the bus.
@@ -58,12 +59,13 @@ pub(crate) fn act<P: Policy>(
         parts.trapped = None;
         return;
     }
-    let step = next_step(parts, setting.plant.switch, holds, had);
+    let step = next_step(parts, setting.plant.switch, had);
     parts.trapped = move_core(
         parts.now,
         step,
         setting,
         &mut parts.work,
+        &mut parts.core,
         &mut parts.moment,
         &mut parts.facts,
     );

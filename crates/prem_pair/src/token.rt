@@ -1,10 +1,11 @@
 // Who holds the memory token in a cycle, and what the gates may start.
 ghost use Rattle.std.specs.Prelude.{◌≡◌, ◌≢◌, ◌<◌, ◌≤◌, ◌^◌, None, length};
 ghost use Rattle.prem_gate.specs.Gates.{wants};
-ghost use Rattle.prem_machine.specs.Moment.{core_of};
+ghost use Rattle.prem_cycle.specs.State.{Debt};
+ghost use Rattle.prem_machine.specs.Moment.{core_with};
 ghost use Rattle.prem_machine.specs.Parts.{state_of};
 ghost use Rattle.prem_pair.specs.declared.cycles.state.Holder.{Holder};
-ghost use Rattle.prem_pair.specs.Cycles.Token.{asks, frees, holder_after, holder_with, is_first, is_gates, is_second, some_wait, two_want, want_with, window_given};
+ghost use Rattle.prem_pair.specs.Cycles.Token.{asks, frees_in, holder_after, holder_with, is_first, is_gates, is_second, some_wait, two_want, want_with, window_given};
 
 use crate::cycles::Holder;
 use prem_gate::{CoreWant, Gates, Window};
@@ -103,7 +104,7 @@ pub(crate) fn two_want(first: bool, second: bool, gates: bool) -> bool
 
 /// Whether a core frees the token: it stands at a scheduling point, or its last instruction was a `pm.exec`.
 pub(crate) fn frees(moment: &Moment) -> bool
-    ensures { result ≡ frees (core_of moment.now) }
+    ensures { result ≡ frees_in moment.now.mode moment.now.mark }
 {
     match moment.mode {
         Mode::Point => true,
@@ -114,7 +115,7 @@ pub(crate) fn frees(moment: &Moment) -> bool
 
 /// Who holds the token behind a cycle that leaves the cores so, and that was a transfer's last one or not.
 pub(crate) fn holder_after(holder: Holder, first: &Moment, second: &Moment, ended: bool) -> Holder
-    ensures { result ≡ holder_after holder (core_of first.now) (core_of second.now) ended }
+    ensures { (one two : Debt) → result ≡ holder_after holder (core_with one first.now) (core_with two second.now) ended }
 {
     match holder {
         Holder::First => {

@@ -1,11 +1,13 @@
 // The core of a task: what executes its instructions, and what it owes for the last one.
-ghost use Rattle.std.specs.Prelude.{◌≡◌, ◌%◌, ◌≤◌, ◌<◌, ◌^◌, false, not, length};
+ghost use Rattle.std.specs.Prelude.{◌≡◌, ◌-◌, ◌%◌, ◌≤◌, ◌<◌, ◌^◌, false, true, not, length};
 ghost use Rattle.prem_isa.specs.Decode.{Fits};
 ghost use Rattle.prem_lru.specs.Rules.{rule_of};
 ghost use Rattle.prem_gate.specs.Gates.{wants};
 ghost use Rattle.prem_cycle.specs.Issue as Issue;
 ghost use Rattle.prem_cycle.specs.Issue.{effect_in, view_touched};
+ghost use Rattle.prem_cycle.specs.State.{no_debt};
 ghost use Rattle.prem_cycle.specs.Core.{is_paid, want_of};
+ghost use Rattle.prem_cycle.specs.Runs.Dull.Rest.{Within, bus_rest, debt_passed};
 ghost use Rattle.prem_machine.specs.Issue.Attempts.{CanIssue, HasActed};
 ghost use Rattle.prem_machine.specs.Issue.Cores.{IsTold, core_issues, core_started, core_turned, paid_once};
 ghost use Rattle.prem_machine.specs.Issue.Harts.{given};
@@ -15,7 +17,7 @@ use crate::issue::attempt::Attempt;
 use crate::issue::hart::Hart;
 use crate::issue::issued::{Issued, went};
 use crate::issue::touches::touch_lines;
-use crate::owed::{NOTHING, Owed};
+use crate::owed::{NOTHING, Owed, less_by};
 use crate::work::owed_for;
 use prem_gate::CoreWant;
 use prem_isa::{Effect, Instr, cost};
@@ -75,6 +77,7 @@ impl Core {
     }
 
     /// The address of its next instruction.
+    #[inline(always)]
     pub fn pc(&self) -> u32
         ensures same { result ≡ self.now.task.pc }
         ensures aligned { result % 4 ≡ 0 }
@@ -83,6 +86,7 @@ impl Core {
     }
 
     /// What it wants of the bus: it has it for the transactions that it owes.
+    #[inline(always)]
     pub fn wants(&self) -> CoreWant
         ensures { result ≡ want_of self.now.debt }
     {
@@ -90,23 +94,80 @@ impl Core {
     }
 
     /// Whether it owes a transaction, or a cycle of its last instruction's cost.
+    #[inline(always)]
     pub fn owes(&self) -> bool
         ensures { result ≡ not (is_paid self.now.debt) }
     {
         !self.owed.is_paid()
     }
 
-    /// What it owes.
-    pub(crate) fn owed(&self) -> Owed
-        ensures { debt_of result ≡ self.now.debt }
+    /// Whether it wants the bus at all.
+    #[inline(always)]
+    pub fn wants_bus(&self) -> bool
+        ensures { result ≡ wants (want_of self.now.debt) }
     {
-        self.owed
+        self.owed.wants_bus()
+    }
+
+    /// Whether nothing is owed, and nothing has begun.
+    #[inline(always)]
+    pub fn owes_nothing(&self) -> bool
+        ensures { result ≡ true → self.now.debt ≡ no_debt }
+    {
+        self.owed.is_nothing()
+    }
+
+    /// Whether a transaction that it owes has begun.
+    #[inline(always)]
+    pub fn has_begun(&self) -> bool
+        ensures { result ≡ self.now.debt.begun }
+    {
+        self.owed.begun
+    }
+
+    /// How many cycles of its last instruction's cost it owes.
+    #[inline(always)]
+    pub fn cost(&self) -> u32
+        ensures { result ≡ self.now.debt.cost }
+    {
+        self.owed.cost
+    }
+
+    /// How many cycles the transaction that has begun goes on, its last one left out, if one has begun.
+    pub(crate) fn rest(&self) -> Option<u64>
+        ensures { result ≡ bus_rest self.now.debt.begun self.now.debt.transactions }
+    {
+        self.owed.rest()
+    }
+
+    /// Passes over so many cycles of the transaction that has begun, which doesn't end in them.
+    pub(crate) fn pass_on_bus(&mut self, cycles: u64)
+        requires { Within cycles (bus_rest self.old.debt.begun self.old.debt.transactions) }
+        ensures { self.new ≡ record self.old { debt = debt_passed cycles self.old.debt } }
+    {
+        self.owed = self.owed.passed(cycles);
+    }
+
+    /// Passes over so many cycles of its last instruction's cost.
+    pub(crate) fn pass_cost(&mut self, cycles: u64)
+        ensures { self.new ≡ record self.old { debt = record self.old.debt { cost = self.old.debt.cost - cycles } } }
+    {
+        self.owed.cost = less_by(self.owed.cost, cycles);
+    }
+
+    /// It owes this for an instruction that was issued in its place.
+    #[inline(always)]
+    pub fn owe(&mut self, owed: Owed)
+        ensures { self.new ≡ record self.old { debt = debt_of owed } }
+    {
+        self.owed = owed;
     }
 
     /// Pays a cycle of what it owes, on the bus or of the instruction's cost, and tells whether nothing is owed then.
     ///
     /// Conditions: it owes, and it has the bus exactly where it wants it. A core that wants the bus and hasn't got it
     /// pays nothing in this cycle.
+    #[inline(always)]
     pub fn pay(&mut self, had_bus: bool) -> bool
         requires owes { is_paid self.old.debt ≡ false }
         requires bus { had_bus ≡ wants (want_of self.old.debt) }

@@ -1,8 +1,9 @@
-use Rattle.std.proofs.Common.{ℕ, ◌-◌, [], ap, sym, ◌∙◌, subst, refl}
+use Rattle.std.proofs.Common.{◌≡◌, ℕ, ◌-◌, [], false, ap, sym, ◌∙◌, subst, refl}
 use Rattle.prem_isa.specs.declared.effect.Change.TheVariants.{Stay}
-use Rattle.prem_cycle.specs.Core.{core_issued}
+use Rattle.prem_cycle.specs.State.{Debt, no_debt}
 use Rattle.prem_cycle.specs.Issue.{owed_by}
-use Rattle.prem_machine.specs.Moment.{core_of}
+use Rattle.prem_machine.specs.Issue.Cores.{CoreParts}
+use Rattle.prem_machine.specs.Moment.{core_owing, core_with}
 use Rattle.prem_machine.specs.Plain.{GoesOn}
 use Rattle.prem_machine.proofs.Stretching.{rooms_there, has_room}
 use Rattle.prem_pair.proofs.Owning.{hit_core, issues_own, kept_goes}
@@ -20,14 +21,16 @@ returns-then-plain-clause-own g c = λ holds.
     let plain = c.in-Some.plain in
     let e = c.in-Some.ensures in
     let G : ℕ → Type 0 = λ k. GoesOn p k x.work x.facts new.work new.facts plain.touches plain.cost in
-    issues_own p holds x new.work new.facts (record x.moment { owed = record x.moment.owed { cost = plain.cost - 1 } }) c.args.task plain.cost plain.touches [] r.going r.paid r.trapped
-    (has_room p c.args.requests.now x r.stands r.room r.intervals) (subst G c.from-k.ensures e.goes_on) (e.hit c.if-plain.true p.plant) e.kept (hit_core x c.args.task plain.cost r.going)
+    let debt : c.owe.new.self.debt ≡ record no_debt { cost = plain.cost - 1 } = ap (λ (k : CoreParts). k.debt) c.owe.ensures ∙ c.cost_alone.ensures in
+    let core = ap (λ (d : Debt). core_with d x.moment) debt ∙ hit_core x c.args.task plain.cost r.going in
+    issues_own p holds x new.work new.facts x.moment c.owe.new.self c.args.task plain.cost plain.touches [] r.going r.paid r.trapped
+    (has_room p c.args.requests.now x r.stands r.room r.intervals) (subst G c.from-k.ensures e.goes_on) (e.hit c.if-plain.true p.plant) e.kept core
 
 pub returns-then-plain-clause-goes : goal.returns-then-plain-clause-goes
 returns-then-plain-clause-goes g c =
     let x = c.args.parts.now in
     let new = c.issue_plain.new in
-    kept_goes x new.work new.facts (record x.moment { owed = record x.moment.owed { cost = c.in-Some.plain.cost - 1 } }) c.requires.stands.periods c.requires.goes c.in-Some.ensures.kept refl refl
+    kept_goes x new.work new.facts x.moment c.owe.new.self c.requires.stands.periods c.requires.goes c.in-Some.ensures.kept refl refl
 
 pub returns-clause-own : goal.returns-clause-own
 returns-clause-own g c = λ holds.
@@ -39,13 +42,15 @@ returns-clause-own g c = λ holds.
     let e = c.in-Some.ensures in
     let owed = c.owed_for-owed.ensures in
     let G : ℕ → Type 0 = λ k. GoesOn p k x.work x.facts new.work new.facts plain.touches plain.cost in
-    let core = c.issued-parts.ensures.core plain.cost owed.cost owed.begun
-    ∙ ap (λ ts. core_issued x.now c.args.task x.moment.interval Stay plain.cost ts (core_of x.moment)) owed.transactions in
-    issues_own p holds x new.work new.facts c.issued-parts.result c.args.task plain.cost plain.touches (owed_by p.plant plain.touches) r.going r.paid r.trapped
+    let debt : c.owe-2.new.self.debt ≡ record { transactions = owed_by p.plant plain.touches; begun = false; cost = plain.cost - 1 } =
+    ap (λ (k : CoreParts). k.debt) c.owe-2.ensures ∙ (λ i. record { transactions = owed.transactions i; begun = owed.begun i; cost = owed.cost i }) in
+    let core = c.issued-parts.ensures.core c.owe-2.new.self.debt x.core.debt
+    ∙ ap (λ (d : Debt). core_owing x.now c.args.task x.moment.interval Stay d (core_with x.core.debt x.moment)) debt in
+    issues_own p holds x new.work new.facts c.issued-parts.result c.owe-2.new.self c.args.task plain.cost plain.touches (owed_by p.plant plain.touches) r.going r.paid r.trapped
     (has_room p c.args.requests.now x r.stands r.room r.intervals) (subst G c.from-k.ensures e.goes_on) refl e.kept core
 
 pub returns-clause-goes : goal.returns-clause-goes
 returns-clause-goes g c =
     let x = c.args.parts.now in
     let new = c.issue_plain.new in
-    kept_goes x new.work new.facts c.issued-parts.result c.requires.stands.periods c.requires.goes c.in-Some.ensures.kept (c.issued-parts.ensures.mode ∙ sym c.requires.going.mode) c.issued-parts.ensures.interval
+    kept_goes x new.work new.facts c.issued-parts.result c.owe-2.new.self c.requires.stands.periods c.requires.goes c.in-Some.ensures.kept (c.issued-parts.ensures.mode ∙ sym c.requires.going.mode) c.issued-parts.ensures.interval

@@ -1,6 +1,7 @@
-use Rattle.std.proofs.Common.{◌*◌, ◌+◌, ◌≤◌, arith}
+use Rattle.std.proofs.Common.{◌*◌, ◌+◌, ◌≤◌, ap, arith}
 use Rattle.prem_machine.proofs.Resting.{counts_more, mode_after}
 use Rattle.prem_machine.proofs.Stretching.{has_room}
+use Rattle.prem_machine.specs.Issue.Cores.{CoreParts}
 use Rattle.prem_machine.specs.Issue.Counting.{counts_in}
 use Rattle.prem_pair.proofs.Owning.{pays_own}
 use Rattle.prem_pair.proofs.apart.own_cycle.Goals as goal
@@ -9,8 +10,8 @@ pub returns-clause-own : goal.returns-clause-own
 returns-clause-own g c = λ holds.
     let x = c.args.parts.now in
     let r = c.requires in
-    let some : 1 ≤ x.moment.owed.cost = omega (arith, c.if-parts-eq0.false) in
-    pays_own c.args.setting.now holds x c.args.task r.going some r.trapped (has_room c.args.setting.now c.args.requests.now x r.stands r.room r.intervals)
+    let some : 1 ≤ x.core.debt.cost = omega (arith, c.if-cost-eq0.false, c.cost.ensures) in
+    pays_own c.args.setting.now holds x c.pay.new.self c.args.task (ap (λ (k : CoreParts). k.debt) c.pay.ensures.core) r.going some r.trapped (has_room c.args.setting.now c.args.requests.now x r.stands r.room r.intervals)
 
 pub returns-clause-goes : goal.returns-clause-goes
 returns-clause-goes g c =

@@ -3,7 +3,7 @@ use Rattle.prem_list.specs.Sequence.{items_of}
 use Rattle.prem_cycle.specs.State.{Counts, Log, Task, Work}
 use Rattle.prem_cycle.specs.Cycle.{with_now}
 use Rattle.prem_machine.specs.Log.{CountsWithin, dropped_in, log_in}
-use Rattle.prem_machine.specs.Moment.{core_of, over_in}
+use Rattle.prem_machine.specs.Moment.{core_with, over_in}
 use Rattle.prem_machine.specs.Parts.{state_of}
 use Rattle.prem_machine.proofs.Settling.{settle_parts}
 use Rattle.prem_machine.proofs.Advancing.{counts_settled, few_kept, mode_later, same_state, same_tasks, transfers-log_settled}
@@ -25,7 +25,7 @@ pub returns-clause-goes : goal.returns-clause-goes
 returns-clause-goes g c =
     let old = c.args.parts.now in
     let r = c.requires.goes in
-    let over = over_in (old.now + 1) old.moment in
+    let over = over_in (old.now + 1) old.core.debt old.moment in
     let counts = ap (λ (l : Log). l.counts) c.settle.ensures.log in
     let e : 4 * old.now + 3 + 1 ≡ 4 * (old.now + 1) = omega arith in
     let Q : ℕ → Type 0 = λ n. CountsWithin n (log_in c.settle.new.facts).counts in
@@ -33,14 +33,14 @@ returns-clause-goes g c =
     record {
       ready = c.settle.ensures.ready;
       first = omega (arith, c.settle.ensures.begun);
-      counts = subst Q e (subst R (sym counts) (counts_settled (4 * old.now + 3) (old.now + 1) over (core_of old.moment) (log_in old.facts) r.counts));
+      counts = subst Q e (subst R (sym counts) (counts_settled (4 * old.now + 3) (old.now + 1) over (core_with old.core.debt old.moment) (log_in old.facts) r.counts));
     }
 
 pub returns-clause-arrives : goal.returns-clause-arrives
 returns-clause-arrives g c = λ t h.
     let old = c.args.parts.now in
-    let over = over_in (old.now + 1) old.moment in
-    let transfers = ap (λ (l : Log). length l.transfers) c.settle.ensures.log ∙ ap length (transfers-log_settled (old.now + 1) over (core_of old.moment) (log_in old.facts)) in
+    let over = over_in (old.now + 1) old.core.debt old.moment in
+    let transfers = ap (λ (l : Log). length l.transfers) c.settle.ensures.log ∙ ap length (transfers-log_settled (old.now + 1) over (core_with old.core.debt old.moment) (log_in old.facts)) in
     record {
       arrived = h.arrived;
       few = few_kept old.arrived (items_of old.facts.devices) (items_of c.settle.new.facts.devices) (ap dropped_in c.settle.ensures.devices) h.few;

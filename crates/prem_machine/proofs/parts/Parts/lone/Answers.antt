@@ -15,4 +15,4 @@ pub returns-clause-lone : goal.returns-clause-lone
 returns-clause-lone g c =
     let x = c.args.self.now in
     is_lone c.args.requests.now x c.in-Running.task c.args.limit c.next_arrival-arrival.result c.next_change-until.result c.in-Running.is
-    (c.stays.ensures c.if-not-stays.false) (c.is_nothing.ensures c.if-not-is_nothing.false) (c.is_idle.ensures c.if-not-is_idle.false) (c.next_arrival-arrival.ensures x.now c.requires.runs.arrived c.requires.limit) c.next_change-until.ensures
+    (c.stays.ensures c.if-not-stays.false) (c.owes_nothing.ensures c.if-not-owes_nothing.false) (c.is_idle.ensures c.if-not-is_idle.false) (c.next_arrival-arrival.ensures x.now c.requires.runs.arrived c.requires.limit) c.next_change-until.ensures

@@ -43,7 +43,7 @@ returns-clause-state g c = λ p s same held apart own.
     ∙ ap (own_part (rule_in q) q (is_second h)) (sym same) in
     let none = ap (λ (z : MachineState). is_some z.trapped) (sym y) ∙ sym c.is_some.ensures ∙ c.if-is_some.false in
     let z : state_of c.tick.new.parts ≡ own_cycle (rule_in q) q (is_second h) s.second = c.tick.ensures.state ∙ ap next_cycle y in
-    let holder = c.holder_after-self.ensures ∙ ap (λ v. holder_after v x.core (state_of c.tick.new.parts).core false) (sym held)
+    let holder = c.holder_after-self.ensures old.first.core.debt c.tick.new.parts.core.debt ∙ ap (λ v. holder_after v x.core (state_of c.tick.new.parts).core false) (sym held)
     ∙ ap (λ (v : MachineState). holder_after h x.core v.core false) z in
     ap (paired x (state_of c.tick.new.parts)) holder
     ∙ ap (λ v. paired x v (holder_after h x.core (own_cycle (rule_in q) q (is_second h) s.second).core false)) z

@@ -72,7 +72,7 @@ returns-clause-state g c =
     let one = c.tick.ensures.state ∙ ap next_cycle f in
     let two = c.tick-2.ensures.state ∙ ap next_cycle g in
     let ended = c.is_some-3.ensures ∙ ap (λ (t : BusTurn). is_some t.ended) c.meet-turn.ensures.turn in
-    let holder = c.holder_after-self.ensures
+    let holder = c.holder_after-self.ensures c.tick.new.parts.core.debt c.tick-2.new.parts.core.debt
     ∙ ap (λ v. holder_after v (state_of c.tick.new.parts).core (state_of c.tick-2.new.parts).core c.is_some-3.result) c.meet-turn.ensures.holder
     ∙ ap (λ (x : MachineState). holder_after h x.core (state_of c.tick-2.new.parts).core c.is_some-3.result) one
     ∙ ap (λ (x : MachineState). holder_after h (next_cycle (first_acted (rule_in p) p h (arrivals_at rs s.first) b s)).core x.core c.is_some-3.result) two
@@ -99,7 +99,7 @@ returns-clause-goes g c = λ none.
       free = λ ne.
           ap (λ (x : GatesState). x.carried) (c.tick.ensures.gates ∙ c.act.ensures.gates)
           ∙ after_free c.meet-turn.new.self.holder (state_of c.tick.new.parts).core (state_of c.tick-2.new.parts).core c.is_some-3.result (c.meet-turn.new.self.first.gates.carried ≡ None)
-          (λ e. ne (c.holder_after-self.ensures ∙ e)) c.meet-turn.ensures.free
+          (λ e. ne (c.holder_after-self.ensures c.tick.new.parts.core.debt c.tick-2.new.parts.core.debt ∙ e)) c.meet-turn.ensures.free
           (λ over. ap (λ (x : GatesState). x.carried) gates
           ∙ bus_frees rs s (ap (λ (t : BusTurn). is_some t.ended) (sym c.meet-turn.ensures.turn) ∙ sym c.is_some-3.ensures ∙ over));
     }

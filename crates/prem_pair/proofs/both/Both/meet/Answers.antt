@@ -47,7 +47,7 @@ returns-clause-turn g c =
     let holder : c.holder_now-holder.result ≡ holder_in c.args.requests.now s =
     c.holder_now-holder.ensures ∙ ap (λ (g : GatesState). holder_with old.holder (asks s.first) (asks s.second) (some_wait g.gates)) gates in
     c.bus_cycle-turn.ensures.turn
-    ∙ ap (λ (t : Turned). t.turn) (same_bus old.first.now old.holder c.holder_now-holder.result (holder_in c.args.requests.now s) c.window_given.result c.want_with.result c.want-first.result c.want-second.result _ _ c.deliver-self.new.gates _ old.first.work.memory holder c.window_given.ensures c.want_with.ensures c.want-first.ensures c.want-second.ensures gates)
+    ∙ ap (λ (t : Turned). t.turn) (same_bus old.first.now old.holder c.holder_now-holder.result (holder_in c.args.requests.now s) c.window_given.result c.want_with.result c.wants-first.result c.wants-second.result _ _ c.deliver-self.new.gates _ old.first.work.memory holder c.window_given.ensures c.want_with.ensures c.wants-first.ensures c.wants-second.ensures gates)
 
 pub returns-clause-free : goal.returns-clause-free
 returns-clause-free g c = λ ne.
@@ -103,6 +103,7 @@ returns-clause-stands g c =
       memory = c.bus_cycle-turn.ensures.len ∙ s.memory;
       cache = s.cache;
       cores = s.cores;
+      target = s.target;
       tasks = s.tasks;
       told = ap (λ (t : Sequence TaskFacts). ended_in (items_of t)) c.log_turn.ensures.tasks ∙ s.told;
       jobs = s.jobs;
@@ -128,9 +129,9 @@ returns-clause-first g c =
     let gates = ap (λ (a : Arrivals). a.gates) arrive in
     let holder : c.holder_now-holder.result ≡ holder_in c.args.requests.now s =
     c.holder_now-holder.ensures ∙ ap (λ (g : GatesState). holder_with old.holder (asks s.first) (asks s.second) (some_wait g.gates)) gates in
-    let bus = same_bus old.first.now old.holder c.holder_now-holder.result (holder_in c.args.requests.now s) c.window_given.result c.want_with.result c.want-first.result c.want-second.result _ _ c.deliver-self.new.gates _ old.first.work.memory holder c.window_given.ensures c.want_with.ensures c.want-first.ensures c.want-second.ensures gates in
-    let clash = same_clash c.two_want-clash.result c.is_wanted.result c.is_wanted-2.result c.is_gates.result c.want-first.result c.want-second.result _ _ c.holder_now-holder.result (holder_in c.args.requests.now s)
-    c.two_want-clash.ensures c.is_wanted.ensures c.is_wanted-2.ensures c.is_gates.ensures c.want-first.ensures c.want-second.ensures holder in
+    let bus = same_bus old.first.now old.holder c.holder_now-holder.result (holder_in c.args.requests.now s) c.window_given.result c.want_with.result c.wants-first.result c.wants-second.result _ _ c.deliver-self.new.gates _ old.first.work.memory holder c.window_given.ensures c.want_with.ensures c.wants-first.ensures c.wants-second.ensures gates in
+    let clash = same_clash c.two_want-clash.result c.is_wanted.result c.is_wanted-2.result c.is_gates.result c.wants-first.result c.wants-second.result _ _ c.holder_now-holder.result (holder_in c.args.requests.now s)
+    c.two_want-clash.ensures c.is_wanted.ensures c.is_wanted-2.ensures c.is_gates.ensures c.wants-first.ensures c.wants-second.ensures holder in
     let first : length c.deliver-self.new.devices ≡ old.first.facts.devices.all.len =
     c.deliver-self.auto.devices ∙ ap length c.items_mut.ensures.value ∙ sym old.first.facts.devices.all.ok.0 in
     let again : length c.tell_waiting.new.devices ≡ served.facts.devices.all.len =
