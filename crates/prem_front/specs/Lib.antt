@@ -1,2 +1,3 @@
 pub mod StageOf
 pub mod Ends
+pub mod Taking

@@ -1,12 +1,10 @@
 -- What the reader's stages in memory stand for.
-use Rattle.std.specs.Prelude.{Option, None, Some, map}
+use Rattle.std.specs.Prelude.{map}
 use Rattle.std.specs.Option.{option_map}
 use Rattle.prem_list.specs.Sequence.{items_of}
 use Rattle.prem_syntax.specs.Name.{name_bytes}
-use Rattle.prem_syntax.specs.Syntax.{FunctionText}
 use Rattle.prem_syntax.specs.SyntaxOf.{mark_of, global_of, parameter_of, function_of, item_of}
 use Rattle.prem_text.specs.Lexing.Token.Lexeme.{seen_of}
-use Rattle.prem_text.specs.Grammar.Statement.{Point}
 use Rattle.prem_text.specs.Grammar.Item.{Typing, no_type, after_signed, after_unsigned, a_type, Declared, an_item, a_parameter, a_local, Constant, range_low, range_high, only_value, next_value, Value, local_value, result_value, ItemRow, mark_row, region_row, length_row, global_row, body_row, range_row, local_row, end_row, Stage, outside, marked, in_row, in_type, behind_item, behind_global, before_initial, before_constant, behind_constant, before_parameter, on_parameter, behind_parameter, before_local, in_statements, in_value, finished, ItemStep, ahead, made, refused}
 use Rattle.prem_reader.specs.Expression.StateOf.{state_of}
 use Rattle.prem_reader.specs.Statement.SlotOf.{slot_of}
@@ -57,11 +55,6 @@ row_of (r.RangeRow function param) = range_row (function_of function) (parameter
 row_of (r.LocalRow function ty at name) = local_row (function_of function) ty at (name_bytes name)
 row_of (r.EndRow function) = end_row (function_of function)
 
--- behind a point of a function's statements, or before the first of them
-abbrev pub statements_of : FunctionText → Option Point → Stage
-statements_of f None = before_local f
-statements_of f (Some p) = in_statements f p
-
 abbrev pub stage_of : CodeStage → Stage
 stage_of s.Outside = outside
 stage_of (s.Marked mark) = marked (mark_of mark)
@@ -76,7 +69,7 @@ stage_of (s.BeforeParameter function) = before_parameter (function_of function)
 stage_of (s.OnParameter function param) = on_parameter (function_of function) (parameter_of param)
 stage_of (s.BehindParameter function) = behind_parameter (function_of function)
 stage_of (s.BeforeLocal function) = before_local (function_of function)
-stage_of (s.InStatements function point) = statements_of (function_of function) (option_map point_of point.value)
+stage_of (s.InStatements function point) = in_statements (function_of function) (point_of point.value)
 stage_of (s.InValue value state room) = in_value (value_of value.value) (state_of state) room
 stage_of s.Finished = finished
 

@@ -1,14 +1,13 @@
 // Functions behind their name.
-ghost use Rattle.std.specs.Prelude.{◌≡◌, IfOk, Some, map};
-ghost use Rattle.std.specs.Option.{option_map};
+ghost use Rattle.std.specs.Prelude.{◌≡◌, IfOk, map};
 ghost use Rattle.prem_list.specs.Sequence.{items_of};
 ghost use Rattle.prem_syntax.specs.SyntaxOf.{expression_of, statement_of, parameter_of, local_of, function_of};
 ghost use Rattle.prem_text.specs.Lexing.Token.Lexeme.{seen_of};
-ghost use Rattle.prem_text.specs.Grammar.Statement.{listed};
-ghost use Rattle.prem_text.specs.Grammar.Item.{parameter_begins, parameter_ends, parameter_goes_on, with_local, with_body, with_result, value_begins, body_ends, statement_step, step, local_begins, value_ends, value_goes_on};
+ghost use Rattle.prem_text.specs.Grammar.Statement.{listed, turn};
+ghost use Rattle.prem_text.specs.Grammar.Item.{parameter_begins, parameter_ends, parameter_goes_on, with_local, with_body, with_result, value_begins, body_ends, statement_step, local_begins, value_ends, value_goes_on};
 ghost use Rattle.prem_reader.specs.Expression.StateOf.{state_of};
 ghost use Rattle.prem_reader.specs.Statement.PointOf.{point_of, turn_of};
-ghost use Rattle.prem_front.specs.StageOf.{value_of, stage_of, statements_of, step_of};
+ghost use Rattle.prem_front.specs.StageOf.{value_of, stage_of, step_of};
 
 use crate::global::{begin_row, with_parameter};
 use crate::stage::{Declared, ItemRow, ItemStep, Stage, Typing, Value};
@@ -98,7 +97,7 @@ fn with_local(mut function: Function, local: Local) -> Result<Function, AllocErr
 }
 
 #[tactic(auto, using(prem_reader::proofs::StatementLemmas::Blocks::statements_listed))]
-fn with_body(mut function: Function, body: Sequence<Stmt>) -> Function
+pub(crate) fn with_body(mut function: Function, body: Sequence<Stmt>) -> Function
     ensures { function_of result ≡ with_body (function_of function) (listed (map statement_of (items_of body))) }
 {
     function.body = body;
@@ -125,7 +124,11 @@ pub(crate) fn value_begins(alloc: Global, value: Value) -> Result<Stage, AllocEr
 }
 
 /// A token behind the last statement.
-fn body_ends(alloc: Global, function: Function, spotted: &Spotted) -> Result<ItemStep, AllocError>
+pub(crate) fn body_ends(
+    alloc: Global,
+    function: Function,
+    spotted: &Spotted,
+) -> Result<ItemStep, AllocError>
     ensures { IfOk result (λ s. step_of s ≡ body_ends (function_of function) (seen_of spotted.now)) }
 {
     match &spotted.token {
@@ -143,18 +146,10 @@ fn body_ends(alloc: Global, function: Function, spotted: &Spotted) -> Result<Ite
     }
 }
 
-/// Puts a value where there is none.
-fn put<T: Drop>(place: &mut Option<T>, value: T)
-    ensures { place.new ≡ Some value }
-{
-    *place = Some(value);
-}
-
-/// A token that the statements have taken, or left, where their next point stands in this box.
+/// A token that the statements have taken, or left.
 fn statement_step(
     alloc: Global,
     function: Function,
-    mut place: Box<Option<Point>>,
     taken: Turn,
     spotted: &Spotted,
 ) -> Result<ItemStep, AllocError>
@@ -162,12 +157,9 @@ fn statement_step(
 {
     match taken {
         Turn::On { point } => {
-            put(&mut place, point);
+            let point = boxed(alloc, point)?;
             Ok(ItemStep::Ahead {
-                stage: Stage::InStatements {
-                    function,
-                    point: place,
-                },
+                stage: Stage::InStatements { function, point },
             })
         }
         Turn::Leaves { statements } => body_ends(alloc, with_body(function, statements), spotted),
@@ -188,25 +180,20 @@ pub(crate) fn local_begins(
     }
     let before = Sequence::new(alloc);
     let around = boxed(alloc, Around::Body { before })?;
-    let place = boxed(alloc, None)?;
-    let taken = turn(alloc, Point::Between { around }, spotted)?;
-    statement_step(alloc, function, place, taken, spotted)
+    statements_go_on(alloc, function, Point::Between { around }, spotted)
 }
 
-/// A token behind the point of a function's statements, or before a local or the first of them.
+/// A token behind the point of a function's statements.
 pub(crate) fn statements_go_on(
     alloc: Global,
     function: Function,
-    mut place: Box<Option<Point>>,
+    point: Point,
     spotted: &Spotted,
 ) -> Result<ItemStep, AllocError>
-    ensures { IfOk result (λ s. step_of s ≡ step (statements_of (function_of function) (option_map point_of place.value)) (seen_of spotted.now)) }
+    ensures { IfOk result (λ s. step_of s ≡ statement_step (function_of function) (turn (point_of point) (seen_of spotted.now)) (seen_of spotted.now)) }
 {
-    let Some(point) = place.take() else {
-        return local_begins(alloc, function, spotted);
-    };
     let taken = turn(alloc, point, spotted)?;
-    statement_step(alloc, function, place, taken, spotted)
+    statement_step(alloc, function, taken, spotted)
 }
 
 /// The `;` behind an expression outside statements.

@@ -137,7 +137,7 @@ pub(crate) fn step(alloc: Global, stage: Stage, spotted: &Spotted) -> Result<Ite
         Stage::BehindParameter { function } => parameter_ends(alloc, function, spotted),
         Stage::BeforeLocal { function } => local_begins(alloc, function, spotted),
         Stage::InStatements { function, point } => {
-            statements_go_on(alloc, function, point, spotted)
+            statements_go_on(alloc, function, Box::into_inner(point), spotted)
         }
         Stage::InValue { value, state, room } => {
             value_goes_on(alloc, value, state, room, spotted)
@@ -151,10 +151,7 @@ pub(crate) fn is_too_deep(stage: &Stage) -> bool
     ensures { result ≡ is_too_deep (stage_of stage.now) }
 {
     match stage {
-        Stage::InStatements { point, .. } => match &**point {
-            Some(point) => is_past(point),
-            None => false,
-        },
+        Stage::InStatements { point, .. } => is_past(point),
         Stage::InValue { room, .. } => *room == 0,
         _ => false,
     }

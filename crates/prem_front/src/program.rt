@@ -1,18 +1,23 @@
 // Reading a text.
-ghost use Rattle.std.specs.Prelude.{◌≡◌, map};
+ghost use Rattle.std.specs.Prelude.{◌≡◌, ◌<◌, ◌≤◌, IfOk, length, map};
 ghost use Rattle.prem_list.specs.Sequence.{items_of};
-ghost use Rattle.prem_syntax.specs.SyntaxOf.{item_of, program_of};
+ghost use Rattle.prem_syntax.specs.SyntaxOf.{function_of, item_of, program_of};
 ghost use Rattle.prem_text.specs.Lexing.Token.Reading.{Gives};
 ghost use Rattle.prem_text.specs.Lexing.Token.Lexeme.{seen_of};
 ghost use Rattle.prem_text.specs.Grammar.Reader.{at_end, read};
 ghost use Rattle.prem_text.specs.Texts.{reads};
 ghost use Rattle.prem_front.specs.Ends.{is_finished};
 ghost use Rattle.prem_front.specs.StageOf.{stage_of};
+ghost use Rattle.prem_front.specs.Taking.{Takes};
+ghost use Rattle.prem_reader.specs.Statement.PointOf.{point_of};
+ghost use Rattle.prem_text.specs.Grammar.Item.{in_statements};
 
+use crate::function::{body_ends, with_body};
 use crate::item::{is_too_deep, step};
 use crate::stage::{ItemStep, Stage};
 use prem_list::Sequence;
-use prem_syntax::{Item, Place, Program};
+use prem_reader::statement::{Point, Turn, is_past, turn};
+use prem_syntax::{Function, Item, Place, Program};
 use prem_text::lexing::token::{FrontFail, Spotted};
 use prem_text::lexing::tokens;
 use std::alloc::Global;
@@ -25,6 +30,13 @@ fn syntax(at: Place) -> FrontFail
         line: at.line,
         col: at.col,
     }
+}
+
+/// The token at a place is past a limit of expressions or statements.
+fn too_deep(at: Place) -> FrontFail
+    ensures { result ≡ FrontFail.TooDeep at.line }
+{
+    FrontFail::TooDeep { line: at.line }
 }
 
 /// Whether the end of the text has been read.
@@ -45,27 +57,96 @@ fn at_end(items: Sequence<Item>, stage: &Stage) -> Result<Program, FrontFail>
     Err(syntax(Place { line: 0, col: 0 }))
 }
 
+/// What some tokens are to a program: the place of the last one, and the number of the one behind it.
+#[derive(Drop)]
+pub struct Taken {
+    pub step: ItemStep,
+    pub at: Place,
+    pub next: usize,
+}
+
+/// What the token of this number is to the program, or in the statements of a function all those up to the one that they
+/// leave.
+fn take(alloc: Global, stage: Stage, all: &[Spotted], from: usize) -> Result<Taken, FrontFail>
+    requires { from < length all.now }
+    ensures takes { Takes (stage_of stage) all.now from result }
+    ensures some { IfOk result (λ t. (from < t.next) × (t.next ≤ length all.now)) }
+{
+    match stage {
+        Stage::InStatements { function, point } => {
+            take_statements(alloc, function, Box::into_inner(point), all, from)
+        }
+        other => {
+            let spotted = &all[from];
+            let step = step(alloc, other, spotted)?;
+            Ok(Taken {
+                step,
+                at: spotted.at,
+                next: from + 1,
+            })
+        }
+    }
+}
+
+/// The tokens of a function's statements, of which those up to `point` have been read, up to the one that they leave.
+fn take_statements(
+    alloc: Global,
+    function: Function,
+    mut point: Point,
+    all: &[Spotted],
+    from: usize,
+) -> Result<Taken, FrontFail>
+    requires { from < length all.now }
+    ensures takes { Takes (in_statements (function_of function) (point_of point)) all.now from result }
+    ensures some { IfOk result (λ t. (from < t.next) × (t.next ≤ length all.now)) }
+{
+    let mut next = from;
+    while next < all.len() {
+        let spotted = &all[next];
+        next += 1;
+        match turn(alloc, point, spotted)? {
+            Turn::On { point: behind } => {
+                if is_past(&behind) {
+                    return Err(too_deep(spotted.at));
+                }
+                point = behind;
+            }
+            Turn::Leaves { statements } => {
+                let step = body_ends(alloc, with_body(function, statements), spotted)?;
+                return Ok(Taken {
+                    step,
+                    at: spotted.at,
+                    next,
+                });
+            }
+            Turn::Wrong => return Err(syntax(spotted.at)),
+        }
+    }
+    Err(syntax(Place { line: 0, col: 0 }))
+}
+
 /// The program that tokens are, the last of which is the end of the text.
 fn read(alloc: Global, all: &[Spotted]) -> Result<Program, FrontFail>
     ensures { Gives program_of result (read (map seen_of all.now)) }
 {
     let mut items = Sequence::new(alloc);
     let mut stage = Stage::Outside;
-    for spotted in all {
-        match step(alloc, stage, spotted)? {
-            ItemStep::Ahead { stage: next } => {
-                if is_too_deep(&next) {
-                    return Err(FrontFail::TooDeep {
-                        line: spotted.at.line,
-                    });
+    let mut from = 0;
+    while from < all.len() {
+        let Taken { step, at, next } = take(alloc, stage, all, from)?;
+        from = next;
+        match step {
+            ItemStep::Ahead { stage: behind } => {
+                if is_too_deep(&behind) {
+                    return Err(too_deep(at));
                 }
-                stage = next;
+                stage = behind;
             }
             ItemStep::Made { item } => {
                 items.push(item)?;
                 stage = Stage::Outside;
             }
-            ItemStep::Refused => return Err(syntax(spotted.at)),
+            ItemStep::Refused => return Err(syntax(at)),
         }
     }
     at_end(items, &stage)

@@ -165,11 +165,10 @@ pub enum Stage {
     BeforeLocal {
         function: Function,
     },
-    /// In the statements of a function, or before its first local or statement, where there is no point. The
-    /// box is that of the first point: later ones take its place.
+    /// In the statements of a function.
     InStatements {
         function: Function,
-        point: Box<Option<Point>>,
+        point: Box<Point>,
     },
     /// In an expression outside statements that may have `room` - 1 more tokens.
     InValue {
