@@ -1,12 +1,14 @@
 -- What is told of the first broken rule on ranges.
-use Rattle.std.specs.Prelude.{◌≡◌, ℕ, Option, None, Some, Result, Ok, Err}
+use Rattle.std.specs.Prelude.{◌≡◌, ◌<◌, ◌^◌, ℕ, All, List, Option, None, Some, Result, Ok, Err, Vec}
+use Rattle.std.specs.Global.{Global}
 use Rattle.std.specs.Option.{option_map}
 use Rattle.prem_word.specs.Ranges.{span_of}
+use Rattle.prem_syntax.specs.Syntax.{ProgramText}
 use Rattle.prem_syntax.specs.SyntaxOf.{program_of}
 use Rattle.prem_tree.specs.declared.checked.Checked.{Checked}
 use Rattle.prem_tree.specs.Checked.{checked_program}
 use Rattle.prem_ranges.specs.RangeRules.{RangeRule, LoopBound, TooLarge, ZeroDivisor, IndexOutside, RegionOutside, ArgRange, RangeBreach}
-use Rattle.prem_ranges.specs.GroupThree.{group_three, StaysInRange}
+use Rattle.prem_ranges.specs.GroupThree.{group_three, turn_bounds, StaysInRange}
 use Rattle.prem_analysis.specs.declared.analysed.Analysed.{Analysed}
 use Rattle.prem_analysis.specs.Analysed.{analysed_checked}
 use Rattle.prem_analysis.specs.declared.fail.RangeFail.{RangeFail}
@@ -43,3 +45,13 @@ IsRefusal fail first = said fail ≡ option_map told_of first
 abbrev pub IsAnswer : Checked → Result Analysed RangeFail → Type 0
 IsAnswer c (Ok a) = (analysed_checked a ≡ c) × StaysInRange (program_of (checked_program c))
 IsAnswer c (Err fail) = IsRefusal fail (group_three (program_of (checked_program c)))
+
+-- turn bounds are those of a program that breaks no rule on ranges, each a word, or a refusal with the first one
+pub record HasBounds (p : ProgramText) (turns : List ℕ) : Type 0 where
+  pub turns_are : turns ≡ turn_bounds p
+  pub words : All (λ t. t < 2 ^ 32) turns
+  pub stays : StaysInRange p
+
+abbrev pub AreBounds : ProgramText → Result (Vec ℕ Global) RangeFail → Type 0
+AreBounds p (Ok turns) = HasBounds p turns.items
+AreBounds p (Err fail) = IsRefusal fail (group_three p)

@@ -3,9 +3,11 @@ ghost use Rattle.std.specs.Prelude.{◌≡◌, IfOk};
 ghost use Rattle.prem_syntax.specs.SyntaxOf.{program_of};
 ghost use Rattle.prem_syntax.specs.Literals.{ProgramHasWords};
 ghost use Rattle.prem_syntax.specs.GroupTwo.{IsWellFormed};
+ghost use Rattle.prem_tree.specs.Checked.{checked_program};
+ghost use Rattle.prem_tree.specs.Resolve.ResolvedOf.{IsResolved};
 ghost use Rattle.prem_ranges.specs.GroupThree.{group_three, turn_bounds};
 ghost use Rattle.prem_analysis.specs.Ranging.View.{found_of};
-ghost use Rattle.prem_analysis.specs.Told.{IsAnswer};
+ghost use Rattle.prem_analysis.specs.Told.{AreBounds, IsAnswer};
 
 use crate::analysed::Analysed;
 use crate::fail::RangeFail;
@@ -13,22 +15,48 @@ use crate::marks::marked_of;
 use crate::telling::told;
 use crate::{Seen, see_program};
 use prem_syntax::have_words;
-use prem_tree::resolve::resolve;
+use prem_tree::resolve::{Resolved, resolve};
 use prem_tree::{Checked, Program};
 use std::alloc::{AllocError, Global};
 
-/// The first broken rule on ranges of a program, and its turn bounds.
+/// The first broken rule on ranges of a program whose names resolve so, and its turn bounds.
 #[tactic(auto, using(crate::proofs::Programs::all_ranged, crate::proofs::Programs::is_group_three, crate::proofs::Programs::are_turn_bounds))]
-fn see(alloc: Global, p: &Program) -> Result<Seen, AllocError>
+fn see(alloc: Global, p: &Program, r: &Resolved<'_>) -> Result<Seen, AllocError>
     requires formed { IsWellFormed (program_of p.now) }
     requires words { ProgramHasWords (program_of p.now) }
+    requires resolved { IsResolved r.now (program_of p.now) }
     ensures found { IfOk result (λ s. found_of s.found ≡ group_three (program_of p.now)) }
     ensures turns { IfOk result (λ s. s.turns.items ≡ turn_bounds (program_of p.now)) }
 {
-    let r = resolve(alloc, p)?;
-    let marked = marked_of(alloc, &r)?;
-    let seen = see_program(alloc, &r, &marked)?;
+    let marked = marked_of(alloc, r)?;
+    let seen = see_program(alloc, r, &marked)?;
     Ok(seen)
+}
+
+/// The turn bounds of the counting loops of a program whose names resolve so, in the order of the text, each of which is a
+/// word; or the first rule on ranges that the program breaks.
+///
+/// The refusals are those of `analyse`. `OutOfMemory` comes only for want of memory.
+pub fn bounds_of(alloc: Global, c: &Checked, r: &Resolved<'_>) -> Result<Vec<u64>, RangeFail>
+    requires { IsResolved r.now (program_of (checked_program c.now)) }
+    ensures { AreBounds (program_of (checked_program c.now)) result }
+{
+    let program = c.program();
+    have_words(program);
+    let seen = see(alloc, program, r)?;
+    match seen.found {
+        Some(broken) => Err(told(broken)),
+        None => Ok(seen.turns),
+    }
+}
+
+/// The same of a program whose names are resolved for it.
+fn bounds(alloc: Global, c: &Checked) -> Result<Vec<u64>, RangeFail>
+    ensures { AreBounds (program_of (checked_program c.now)) result }
+{
+    let program = c.program();
+    let resolved = resolve(alloc, program)?;
+    bounds_of(alloc, c, &resolved)
 }
 
 /// Analyses a program: which values its expressions can have, and how many turns its loops take at most.
@@ -41,9 +69,6 @@ pub fn analyse(alloc: Global, c: Checked) -> Result<Analysed, RangeFail>
 {
     let program = c.program();
     have_words(program);
-    let seen = see(alloc, program)?;
-    match seen.found {
-        Some(broken) => Err(told(broken)),
-        None => Ok(Analysed::adopt(c, seen.turns)),
-    }
+    let turns = bounds(alloc, &c)?;
+    Ok(Analysed::adopt(c, turns))
 }

@@ -13,14 +13,14 @@ ghost use Rattle.prem_compile.specs.Joined.{HasCode};
 ghost use Rattle.prem_compile.specs.PartsOf.{AreParts, EndsParts, IsPartsAnswer};
 
 use crate::built::listed;
-use crate::coding::{coded_tasks, parts_of_tasks, resolve_all, turns_of_all};
+use crate::coding::{coded_tasks, parts_of_tasks};
 use crate::telling::names_of_coded;
 use prem_color::{push_wants, shape_of};
 use prem_foot::Want;
 use prem_list::Sequence;
 use prem_place::placing::CodedTask;
 use prem_plant::{PartSize, TaskId};
-use prem_stages::{Coded, front_half};
+use prem_stages::{Coded, checked_programs, coded_programs};
 use prem_syntax::Name;
 use prem_tasks::{CompileFail, Stop, TaskSet};
 use std::alloc::{AllocError, Global};
@@ -104,9 +104,12 @@ fn parts_behind(alloc: Global, set: &TaskSet, tasks: &[CodedTask]) -> Result<Par
 fn stages(alloc: Global, set: &TaskSet) -> Result<Parts, Stop>
     ensures { EndsParts (set_of set.now) result }
 {
-    let Coded { programs, codes } = front_half(alloc, set)?;
-    let turns = turns_of_all(alloc, &programs)?;
-    let resolved = resolve_all(alloc, &programs)?;
+    let programs = checked_programs(alloc, set)?;
+    let Coded {
+        resolved,
+        turns,
+        codes,
+    } = coded_programs(alloc, set, &programs)?;
     let tasks = coded_tasks(alloc, set, &resolved, &turns, codes)?;
     let parts = parts_behind(alloc, set, &tasks)?;
     Ok(parts)

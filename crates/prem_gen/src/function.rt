@@ -1,7 +1,10 @@
 // The code of a function of an analysed program.
 ghost use Rattle.std.specs.Prelude.{◌≡◌, ◌<◌, ◌^◌, All, length, map, slice_index, IfOk};
 ghost use Rattle.prem_list.specs.Sequence.{items_of};
+ghost use Rattle.prem_syntax.specs.SyntaxOf.{program_of};
 ghost use Rattle.prem_syntax.specs.Resolve.{functions_of};
+ghost use Rattle.prem_tree.specs.Checked.{checked_program};
+ghost use Rattle.prem_tree.specs.Resolve.ResolvedOf.{IsResolved};
 ghost use Rattle.prem_ranges.specs.GroupThree.{turn_bounds};
 ghost use Rattle.prem_analysis.specs.Analysed.{analysed_text};
 ghost use Rattle.prem_asm.specs.PiecesOf.{pieces_of};
@@ -9,17 +12,18 @@ ghost use Rattle.prem_layout.specs.Template.Limits.{excess};
 ghost use Rattle.prem_layout.specs.Template.Parts.{parts_of, codes_of};
 ghost use Rattle.prem_gen.specs.Term.Excess.{Refuses};
 ghost use Rattle.prem_gen.specs.Codes.Codes.{code_at, excess_at, CalleesFit};
-ghost use Rattle.prem_gen.specs.Compiled.{compiled};
+ghost use Rattle.prem_gen.specs.Compiled.{compiled, compiled_text};
 
 use crate::codes::{FnId, GenFail, codes, function_code};
 use prem_analysis::Analysed;
 use prem_asm::{Piece, Sequence};
 use prem_plant::Target;
-use prem_tree::resolve::resolve;
+use prem_tree::Checked;
+use prem_tree::resolve::Resolved;
 use std::alloc::{AllocError, Global};
 
-/// Words that are kept as longer numbers.
-fn words_of(alloc: Global, numbers: &[u64]) -> Result<Vec<u32>, AllocError>
+/// Words that are kept as longer numbers. It fails only for want of memory.
+pub fn words_of(alloc: Global, numbers: &[u64]) -> Result<Vec<u32>, AllocError>
     requires { All (λ n. n < 2 ^ 32) numbers.now }
     ensures { IfOk result (λ words. words.items ≡ numbers.now) }
 {
@@ -57,20 +61,24 @@ pub fn gen_function(
     function_code(alloc, checked.program(), turns.as_slice(), f, target)
 }
 
-/// The code of all functions of an analysed program for a target, in their order.
+/// The code of all functions of a checked program for a target, in their order. Its names are resolved, and the turn
+/// bounds of its counting loops are told.
 ///
 /// `Frame` and `Depth` come exactly where a frame passes 2032 bytes or an expression needs a register past the twelfth; it
 /// is the first such function, and of it the frame before its expressions.
 pub fn gen_all(
     alloc: Global,
-    a: &Analysed,
+    c: &Checked,
+    r: &Resolved<'_>,
+    turns: &[u32],
     target: Target,
 ) -> Result<Sequence<Sequence<Piece>>, GenFail>
-    ensures codes { IfOk result (λ codes. map (λ code. pieces_of (items_of code)) (items_of codes) ≡ codes_of (parts_of target (compiled a.now).routines) (compiled a.now).routines) }
-    ensures excess { Refuses result (excess (compiled a.now)) }
+    requires resolved { IsResolved r.now (program_of (checked_program c.now)) }
+    requires turns { turns.now ≡ turn_bounds (program_of (checked_program c.now)) }
+    ensures codes { let p = compiled_text (program_of (checked_program c.now)) in
+        IfOk result (λ codes. map (λ code. pieces_of (items_of code)) (items_of codes) ≡ codes_of (parts_of target p.routines) p.routines) }
+    ensures excess { Refuses result (excess (compiled_text (program_of (checked_program c.now)))) }
 {
-    let turns = turns_of(alloc, a)?;
-    let checked = a.checked();
-    let resolved = resolve(alloc, checked.program())?;
-    codes(alloc, &resolved, turns.as_slice(), target)
+    let _formed = c.program();
+    codes(alloc, r, turns, target)
 }

@@ -8,13 +8,13 @@ ghost use Rattle.prem_compile.specs.Joined.{HasCode};
 ghost use Rattle.prem_lint.specs.Needs.{AreStanding};
 
 use prem_compile::IntervalFact;
-use prem_compile::coding::{coded_tasks, parts_of_tasks, resolve_all, turns_of_all};
+use prem_compile::coding::{coded_tasks, parts_of_tasks};
 use prem_compile::late::places_of;
 use prem_compile::telling::told_bounds;
 use prem_list::Sequence;
 use prem_place::placing::{CodedTask, PlacedTask, place_all};
 use prem_place::verdict::{bounds_of_all, footprints_of_all};
-use prem_stages::{Coded, front_half};
+use prem_stages::{Coded, checked_programs, coded_programs};
 use prem_tasks::{Stop, TaskSet};
 use std::alloc::{AllocError, Global};
 
@@ -58,9 +58,12 @@ fn coded_bounds(
 fn set_bounds(alloc: Global, set: &TaskSet) -> Result<Sequence<IntervalFact>, Stop>
     ensures { IfOk result (λ facts. map numbered (items_of facts) ≡ (compiled (set_of set.now)).intervals) }
 {
-    let Coded { programs, codes } = front_half(alloc, set)?;
-    let turns = turns_of_all(alloc, &programs)?;
-    let resolved = resolve_all(alloc, &programs)?;
+    let programs = checked_programs(alloc, set)?;
+    let Coded {
+        resolved,
+        turns,
+        codes,
+    } = coded_programs(alloc, set, &programs)?;
     let tasks = coded_tasks(alloc, set, &resolved, &turns, codes)?;
     coded_bounds(alloc, set, tasks)
 }

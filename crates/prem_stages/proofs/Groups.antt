@@ -1,11 +1,12 @@
 -- The groups of rules up to code, one after another.
 use Rattle.std.specs.Option.{option_map}
-use Rattle.std.proofs.Common.{◌≡◌, ℕ, suc, ◌+◌, ◌≤◌, List, [], ◌∷◌, Option, None, Some, Result, Ok, Err, length, map, refl, ap, sym, ◌∙◌, subst, arith}
+use Rattle.std.proofs.Common.{◌≡◌, ℕ, suc, ◌+◌, ◌≤◌, List, [], ◌∷◌, Option, None, Some, Result, Ok, Err, length, map, refl, ap, sym, ◌∙◌, subst, arith, Vec, Global}
 use Rattle.prem_plant.specs.declared.plant.Target.{Target}
 use Rattle.prem_syntax.specs.Syntax.{ProgramText}
 use Rattle.prem_text.specs.declared.lexing.token.fail.FrontFail.{FrontFail}
 use Rattle.prem_text.specs.Texts.{reads}
-use Rattle.prem_analysis.specs.Analysed.{analysed_text}
+use Rattle.prem_tree.specs.declared.checked.Checked.{Checked}
+use Rattle.prem_ranges.specs.GroupThree.{turn_bounds}
 use Rattle.prem_asm.specs.Pieces.{Pieces}
 use Rattle.prem_layout.specs.Placed.{Coded as CodedText}
 use Rattle.prem_layout.specs.Rules.{LateRule, Refusal, or_else, refused_by, first_among, over_tasks, group_four}
@@ -18,9 +19,10 @@ use Rattle.prem_tasks.specs.Compiled.{coded_in, places_in}
 use Rattle.prem_tasks.specs.At.{code_broken, broken_early}
 use Rattle.prem_tasks.specs.Stops.{Stops}
 use Rattle.prem_tasks.specs.declared.stop.Stop.{Stop}
-use Rattle.prem_stages.specs.Stages.{uncoded}
+use Rattle.prem_stages.specs.Stages.{checked_text, uncoded}
 use Rattle.prem_stages.specs.Code.{code_in, program_code}
-use Rattle.prem_stages.specs.Coded.{IsCoded}
+use Rattle.prem_stages.specs.Resolving.{meant_by, text_by}
+use Rattle.prem_stages.specs.Coded.{AreFormed, IsCoded}
 use Rattle.prem_stages.specs.declared.front.Coded.{Coded}
 use Rattle.prem_stages.proofs.Passing.{same_stop, first_stops, none_passes}
 
@@ -84,9 +86,6 @@ codes_listed target (t ∷ ts) (p ∷ ps) count = ap (λ (codes : List (List Pie
 -- ---- where a set is refused
 
 -- the groups so far refuse nothing
-pub record ReadWell (set : TaskSet) : Type 0 where
-  pub texts : over_tasks group_one set.tasks ≡ None
-
 pub record FormedWell (set : TaskSet) : Type 0 where
   pub texts : over_tasks group_one set.tasks ≡ None
   pub programs : over_tasks group_two (programs_of set.tasks) ≡ None
@@ -96,15 +95,13 @@ pub record KeptWell (set : TaskSet) : Type 0 where
   pub programs : over_tasks group_two (programs_of set.tasks) ≡ None
   pub ranges : over_tasks group_three (programs_of set.tasks) ≡ None
 
--- what the stages up to the analysis tell
-pub kept_well : (set : TaskSet) (ts : List TaskText) (ps qs : List ProgramText) → ts ≡ set.tasks → over_tasks group_one ts ≡ None → ps ≡ programs_of ts → over_tasks group_two ps ≡ None →
-    qs ≡ ps → over_tasks group_three qs ≡ None → KeptWell set
-kept_well set ts ps qs tasks one are two same three =
-    let listed : ps ≡ programs_of set.tasks = are ∙ ap programs_of tasks in
+-- what is known behind the analysis
+pub kept_well : (set : TaskSet) (programs : List Checked) → AreFormed set programs → over_tasks group_three (map checked_text programs) ≡ None → KeptWell set
+kept_well set programs k three =
     record {
-      texts = ap (λ (xs : List TaskText). over_tasks group_one xs) (sym tasks) ∙ one;
-      programs = ap (λ (xs : List ProgramText). over_tasks group_two xs) (sym listed) ∙ two;
-      ranges = ap (λ (xs : List ProgramText). over_tasks group_three xs) (sym (same ∙ listed)) ∙ three;
+      texts = k.texts_are_read;
+      programs = k.programs_are_formed;
+      ranges = ap (λ (xs : List ProgramText). over_tasks group_three xs) (sym k.programs_are) ∙ three;
     }
 
 -- ---- the rules up to code generation
@@ -129,18 +126,10 @@ behind_ranges set well =
     behind_programs set (record { texts = well.texts; programs = well.programs })
     ∙ none_passes (over_tasks group_three (programs_of set.tasks)) (four_in set) well.ranges
 
-at_texts : (set : TaskSet) (stop : Stop) → Stops stop (over_tasks group_one set.tasks) → Stops stop (broken_early set)
-at_texts set stop s = first_stops stop (over_tasks group_one set.tasks) (from_programs set) (broken_early set) s refl
-
-at_programs : (set : TaskSet) (stop : Stop) (ps : List ProgramText) → ps ≡ programs_of set.tasks → ReadWell set → Stops stop (over_tasks group_two ps) → Stops stop (broken_early set)
-at_programs set stop ps are well s =
-    let here : Stops stop (over_tasks group_two (programs_of set.tasks)) = subst (λ (qs : List ProgramText). Stops stop (over_tasks group_two qs)) are s in
-    first_stops stop (over_tasks group_two (programs_of set.tasks)) (from_ranges set) (broken_early set) here (sym (behind_texts set well.texts))
-
-at_ranges : (set : TaskSet) (stop : Stop) (ps : List ProgramText) → ps ≡ programs_of set.tasks → FormedWell set → Stops stop (over_tasks group_three ps) → Stops stop (broken_early set)
-at_ranges set stop ps are well s =
-    let here : Stops stop (over_tasks group_three (programs_of set.tasks)) = subst (λ (qs : List ProgramText). Stops stop (over_tasks group_three qs)) are s in
-    first_stops stop (over_tasks group_three (programs_of set.tasks)) (four_in set) (broken_early set) here (sym (behind_programs set well))
+pub at_ranges : (set : TaskSet) (stop : Stop) (programs : List Checked) → AreFormed set programs → Stops stop (over_tasks group_three (map checked_text programs)) → Stops stop (broken_early set)
+at_ranges set stop programs k s =
+    let here : Stops stop (over_tasks group_three (programs_of set.tasks)) = subst (λ (qs : List ProgramText). Stops stop (over_tasks group_three qs)) k.programs_are s in
+    first_stops stop (over_tasks group_three (programs_of set.tasks)) (four_in set) (broken_early set) here (sym (behind_programs set (record { texts = k.texts_are_read; programs = k.programs_are_formed })))
 
 four_is : (set : TaskSet) → over_tasks group_one set.tasks ≡ None → four_in set ≡ over_tasks uncoded (programs_of set.tasks)
 four_is set one = late_among set.plant.target 0 set.tasks (programs_of set.tasks) (as_many_programs set.tasks one)
@@ -175,9 +164,9 @@ broken_parts set =
 
 -- ---- where it isn't
 
-pub set_is_coded : (set : TaskSet) (c : Coded) (ps : List ProgramText) → KeptWell set → map analysed_text c.programs.items ≡ ps → ps ≡ programs_of set.tasks → over_tasks uncoded ps ≡ None →
-    map code_in c.codes.items ≡ map (program_code set.plant.target) ps → IsCoded set c
-set_is_coded set c ps well programs are coded codes =
+pub set_is_coded : (set : TaskSet) (c : Coded) (ps : List ProgramText) → KeptWell set → ps ≡ programs_of set.tasks → over_tasks uncoded ps ≡ None → map meant_by c.resolved.items ≡ map text_by ps →
+    map (λ (t : Vec ℕ Global). t.items) c.turns.items ≡ map turn_bounds ps → map code_in c.codes.items ≡ map (program_code set.plant.target) ps → IsCoded set c
+set_is_coded set c ps well are coded resolved turns codes =
     let count = as_many_programs set.tasks well.texts in
     let none : four_in set ≡ None = four_is set well.texts ∙ ap (λ (qs : List ProgramText). over_tasks uncoded qs) (sym are) ∙ coded in
     let early : broken_early set ≡ None = behind_ranges set well ∙ none in
@@ -189,6 +178,7 @@ set_is_coded set c ps well programs are coded codes =
       early = early;
       broken_is = broken_parts set ∙ none_passes (broken_early set) (late_refusal (placed_in_set set)) early;
       count = count;
-      programs_are = programs ∙ are;
+      resolved_are = resolved ∙ ap (map text_by) are;
+      turns_are = turns ∙ ap (map turn_bounds) are;
       codes_are = codes ∙ ap (λ (qs : List ProgramText). map (program_code set.plant.target) qs) are ∙ codes_listed set.plant.target set.tasks (programs_of set.tasks) count;
     }

@@ -26,7 +26,7 @@ use Rattle.prem_tasks.specs.Compiled.{coded_in}
 use Rattle.prem_tasks.specs.SetOf.{task_of}
 use Rattle.prem_tasks.specs.declared.set.TaskText.{TaskText as TaskTree}
 use Rattle.prem_stages.specs.Code.{code_in, program_code}
-use Rattle.prem_compile.specs.Coding.Programs.{meant_by, text_by}
+use Rattle.prem_stages.specs.Resolving.{meant_by, text_by}
 use Rattle.prem_compile.specs.Coding.Tasks.{Codes, AreForSet, AreTasksOf, IsCodable, AreCodable, coded_with, all_coded}
 
 -- ---- one task

@@ -1,7 +1,7 @@
 -- What a coded set gives to the stages behind it.
 use Rattle.std.specs.Prelude.{slice_index}
 use Rattle.std.specs.Option.{option_map}
-use Rattle.std.proofs.Common.{◌≡◌, ℕ, ◌+◌, List, [], ◌∷◌, Option, None, Some, Result, Ok, Err, map, refl, ap, sym, ◌∙◌, subst, Vec, Global, is_none, IsTrue}
+use Rattle.std.proofs.Common.{◌≡◌, ℕ, ◌+◌, List, [], ◌∷◌, Option, None, Some, Result, Ok, Err, refl, sym, subst, Vec, Global, is_none, IsTrue}
 use Rattle.prem_plant.specs.declared.plant.Target.{Target}
 use Rattle.prem_syntax.specs.Syntax.{ProgramText}
 use Rattle.prem_syntax.specs.Rules.{Breach}
@@ -11,8 +11,6 @@ use Rattle.prem_check.specs.Told.{told_of as told_of_breach}
 use Rattle.prem_text.specs.declared.lexing.token.fail.FrontFail.{FrontFail}
 use Rattle.prem_text.specs.Texts.{reads}
 use Rattle.prem_ranges.specs.GroupThree.{turn_bounds}
-use Rattle.prem_analysis.specs.declared.analysed.Analysed.{Analysed}
-use Rattle.prem_analysis.specs.Analysed.{analysed_text}
 use Rattle.prem_layout.specs.Template.Parts.{parts_of as task_parts}
 use Rattle.prem_layout.specs.Rules.{or_else, refused_by, first_among, over_tasks, group_four}
 use Rattle.prem_code_laws.proofs.FitLawsLemmas.MeasureLemmas.ProgramNodes.{codes_are_small}
@@ -26,8 +24,7 @@ use Rattle.prem_stages.specs.Coded.{IsCoded}
 use Rattle.prem_stages.proofs.Groups.{late_four}
 use Rattle.prem_sets_sound.proofs.AcceptedLemmas.Follow.{not_late}
 use Rattle.prem_sets_sound.proofs.EachLemmas.Filled.{not_exceeding}
-use Rattle.prem_compile.specs.Coding.Programs.{meant_by, text_by}
-use Rattle.prem_compile.specs.Coding.Tasks.{Codes, AreForSet}
+use Rattle.prem_compile.specs.Coding.Tasks.{AreForSet}
 
 -- ---- no rule is broken
 
@@ -88,18 +85,16 @@ codes_of_set set c is = codes_from set.plant.target 0 set.tasks is.texts_are_rea
 
 -- ---- all that is known of a set's tasks
 
--- the programs as they are lent to the readers of turns and of names
-pub are_for_set : (set : TaskSet) (c : Coded) (read named : List Analysed) (programs : List ResolvedTree) (turns : List (Vec ℕ Global)) → IsCoded set c → read ≡ c.programs.items → named ≡ c.programs.items →
-    map (λ (t : Vec ℕ Global). t.items) turns ≡ map turn_bounds (map analysed_text read) → map meant_by programs ≡ map text_by (map analysed_text named) → AreForSet set programs turns c.codes.items
-are_for_set set c read named programs turns is er en bounds resolved = record {
-  programs_are = resolved ∙ ap (λ (all : List Analysed). map text_by (map analysed_text all)) en ∙ ap (map text_by) is.programs_are;
-  turns_are = bounds ∙ ap (λ (all : List Analysed). map turn_bounds (map analysed_text all)) er ∙ ap (map turn_bounds) is.programs_are;
+are_for_set : (set : TaskSet) (c : Coded) → IsCoded set c → AreForSet set c.resolved.items c.turns.items c.codes.items
+are_for_set set c is = record {
+  programs_are = is.resolved_are;
+  turns_are = is.turns_are;
   codes_are = is.codes_are;
   count = is.count;
   coded = codes_of_set set c is;
 }
 
 -- lists that are lent are the same
-pub lent_for_set : (set : TaskSet) (programs lent : List ResolvedTree) (turns words : List (Vec ℕ Global)) (codes : List Codes) → lent ≡ programs → words ≡ turns → AreForSet set programs turns codes → AreForSet set lent words codes
-lent_for_set set programs lent turns words codes ep et h =
-    subst (λ (us : List (Vec ℕ Global)). AreForSet set lent us codes) (sym et) (subst (λ (rs : List ResolvedTree). AreForSet set rs turns codes) (sym ep) h)
+pub lent_for_set : (set : TaskSet) (c : Coded) (programs : List ResolvedTree) (turns : List (Vec ℕ Global)) → programs ≡ c.resolved.items → turns ≡ c.turns.items → IsCoded set c → AreForSet set programs turns c.codes.items
+lent_for_set set c programs turns ep et is =
+    subst (λ (us : List (Vec ℕ Global)). AreForSet set programs us c.codes.items) (sym et) (subst (λ (rs : List ResolvedTree). AreForSet set rs c.turns.items c.codes.items) (sym ep) (are_for_set set c is))

@@ -18,7 +18,7 @@ use Rattle.prem_place.specs.Placing.CodedOf.{IsCodedTask, coded_in as coded_task
 use Rattle.prem_tasks.specs.Broken.{TaskText, TaskSet, programs_of, bounded}
 use Rattle.prem_tasks.specs.Compiled.{coded_in}
 use Rattle.prem_stages.specs.Code.{code_in, program_code}
-use Rattle.prem_compile.specs.Coding.Programs.{meant_by, text_by}
+use Rattle.prem_stages.specs.Resolving.{meant_by, text_by}
 
 -- the code of the functions of a program in memory
 abbrev pub Codes : Type 0

@@ -30,7 +30,7 @@ stop_full n s full = cond full (Some (LogFull log_size)) (cond (s.now == n) (Som
 abbrev stop_by : ℕ → MachineState → Bool → Stop
 stop_by n s finished = unwrap_or (cond finished (Some Finished) (stop_trapped s.trapped (stop_full n s (is_full s)))) Limit
 
-pub at_cycle : (b : Bool) → unwrap_or (cond b (Some Limit) None) Limit ≡ Limit
+at_cycle : (b : Bool) → unwrap_or (cond b (Some Limit) None) Limit ≡ Limit
 at_cycle true = refl
 at_cycle false = refl
 
