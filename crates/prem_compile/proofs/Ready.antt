@@ -15,6 +15,7 @@ use Rattle.prem_plant.specs.Ranges.{Between, IsPlant}
 use Rattle.prem_image.specs.Text.{image_text}
 use Rattle.prem_syntax.specs.Syntax.{ProgramText}
 use Rattle.prem_syntax.specs.Name.{name_bytes}
+use Rattle.prem_ranges.specs.GroupThree.{bounded}
 use Rattle.prem_layout.specs.Bounds.{JobBound, limit_of}
 use Rattle.prem_layout.specs.Image.{image_of}
 use Rattle.prem_layout.specs.Placed.{Coded, Placed, parts_of, placed_from}
@@ -28,7 +29,7 @@ use Rattle.prem_place.specs.BuildImage.Built as built
 use Rattle.prem_place.specs.BuildImage.Built.{HasRanges, HaveBlocks, IsBuilt}
 use Rattle.prem_place.specs.Totals.Limits.{HasJobs}
 use Rattle.prem_place.specs.Verdict.Told.{numbered}
-use Rattle.prem_tasks.specs.Broken.{TaskText, TaskSet, bounded, coded_one, programs_of}
+use Rattle.prem_tasks.specs.Broken.{TaskText, TaskSet, coded_one, programs_of}
 use Rattle.prem_tasks.specs.Broken as tasks
 use Rattle.prem_tasks.specs.Lawful as lawful
 use Rattle.prem_tasks.specs.Lawful.{IsTaskText, AreDevices, AreTasks}

@@ -5,14 +5,14 @@ ghost use Rattle.prem_syntax.specs.SyntaxOf.{program_of};
 ghost use Rattle.prem_syntax.specs.Resolve.{functions_of};
 ghost use Rattle.prem_tree.specs.Checked.{checked_program};
 ghost use Rattle.prem_tree.specs.Resolve.ResolvedOf.{IsResolved};
-ghost use Rattle.prem_ranges.specs.GroupThree.{turn_bounds};
+ghost use Rattle.prem_ranges.specs.GroupThree.{bounded, turn_bounds};
 ghost use Rattle.prem_analysis.specs.Analysed.{analysed_text};
 ghost use Rattle.prem_asm.specs.PiecesOf.{pieces_of};
 ghost use Rattle.prem_layout.specs.Template.Limits.{excess};
 ghost use Rattle.prem_layout.specs.Template.Parts.{parts_of, codes_of};
 ghost use Rattle.prem_gen.specs.Term.Excess.{Refuses};
 ghost use Rattle.prem_gen.specs.Codes.Codes.{code_at, excess_at, CalleesFit};
-ghost use Rattle.prem_gen.specs.Compiled.{compiled, compiled_text};
+ghost use Rattle.prem_gen.specs.Compiled.{compiled};
 
 use crate::codes::{FnId, GenFail, codes, function_code};
 use prem_analysis::Analysed;
@@ -75,9 +75,9 @@ pub fn gen_all(
 ) -> Result<Sequence<Sequence<Piece>>, GenFail>
     requires resolved { IsResolved r.now (program_of (checked_program c.now)) }
     requires turns { turns.now ≡ turn_bounds (program_of (checked_program c.now)) }
-    ensures codes { let p = compiled_text (program_of (checked_program c.now)) in
+    ensures codes { let p = bounded (program_of (checked_program c.now)) in
         IfOk result (λ codes. map (λ code. pieces_of (items_of code)) (items_of codes) ≡ codes_of (parts_of target p.routines) p.routines) }
-    ensures excess { Refuses result (excess (compiled_text (program_of (checked_program c.now)))) }
+    ensures excess { Refuses result (excess (bounded (program_of (checked_program c.now)))) }
 {
     let _formed = c.program();
     codes(alloc, r, turns, target)

@@ -6,13 +6,13 @@ use Rattle.prem_syntax.specs.Syntax.{ProgramText}
 use Rattle.prem_text.specs.declared.lexing.token.fail.FrontFail.{FrontFail}
 use Rattle.prem_text.specs.Texts.{reads}
 use Rattle.prem_tree.specs.declared.checked.Checked.{Checked}
-use Rattle.prem_ranges.specs.GroupThree.{turn_bounds}
+use Rattle.prem_ranges.specs.GroupThree.{turn_bounds, bounded}
 use Rattle.prem_asm.specs.Pieces.{Pieces}
 use Rattle.prem_layout.specs.Placed.{Coded as CodedText}
 use Rattle.prem_layout.specs.Rules.{LateRule, Refusal, or_else, refused_by, first_among, over_tasks, group_four}
 use Rattle.prem_layout.specs.Broken.{broken_at_places}
 use Rattle.prem_tasks.specs.Told.{Told, of_code}
-use Rattle.prem_tasks.specs.Broken.{TaskText, TaskSet, unread, group_one, program_before, programs_of, group_two, group_three, bounded, coded_of, late_refusal, broken}
+use Rattle.prem_tasks.specs.Broken.{TaskText, TaskSet, unread, group_one, program_before, programs_of, group_two, group_three, coded_of, late_refusal, broken}
 use Rattle.prem_tasks.specs.SetOf.{task_of}
 use Rattle.prem_tasks.specs.declared.set.TaskText.{TaskText as TaskTree}
 use Rattle.prem_tasks.specs.Compiled.{coded_in, places_in}
@@ -50,6 +50,11 @@ pub few_programs : {A : Type 0} (text_of : A → ProgramText) (all : List A) (ta
 few_programs text_of all tasks are read few =
     let same : length all ≡ length tasks = sym (map_count text_of all) ∙ ap length are ∙ as_many_programs (map task_of tasks) read ∙ map_count task_of tasks in
     omega (arith, same)
+
+pub few_read : {A : Type 0} {ts : List TaskText} (text_of : A → ProgramText) (all : List A) (tasks : List TaskTree) → map task_of tasks ≡ ts → map text_of all ≡ programs_of ts → over_tasks group_one ts ≡ None →
+    length tasks ≤ 16 → length all ≤ 16
+few_read text_of all tasks same are read few =
+    few_programs text_of all tasks (are ∙ sym (ap programs_of same)) (ap (λ (ts : List TaskText). over_tasks group_one ts) same ∙ read) few
 
 -- ---- code
 

@@ -1,11 +1,10 @@
 // The fourth group of rules: the programs of all tasks get their code.
 ghost use Rattle.std.specs.Prelude.{◌≡◌, ◌≤◌, ◌<◌, Some, IfOk, length, map};
 ghost use Rattle.prem_tree.specs.Resolve.ResolvedOf.{IsResolved};
-ghost use Rattle.prem_ranges.specs.GroupThree.{turn_bounds};
+ghost use Rattle.prem_ranges.specs.GroupThree.{bounded, turn_bounds};
 ghost use Rattle.prem_layout.specs.Template.Limits.{excess};
 ghost use Rattle.prem_layout.specs.Rules.{refused_by, over_tasks};
 ghost use Rattle.prem_gen.specs.Term.Excess.{Exceeds};
-ghost use Rattle.prem_gen.specs.Compiled.{compiled_text};
 ghost use Rattle.prem_tasks.specs.Told.{told_of};
 ghost use Rattle.prem_tasks.specs.Stops.{Ends};
 ghost use Rattle.prem_stages.specs.Stages.{checked_text, uncoded};
@@ -25,7 +24,7 @@ pub type Codes = Sequence<Sequence<Piece>>;
 
 /// The rule that a program breaks which has no code, with a name in place of a number. Want of memory is no rule.
 fn code_rule(alloc: Global, program: &Checked, fail: GenFail) -> Result<Rule, AllocError>
-    requires { Exceeds fail (excess (compiled_text (checked_text program.now))) }
+    requires { Exceeds fail (excess (bounded (checked_text program.now))) }
     ensures { IfOk result (λ rule. uncoded (checked_text program.now) ≡ Some (told_of rule)) }
 {
     match fail {

@@ -1,5 +1,5 @@
 -- The first rule that a task set breaks: the groups of rules one after another, each over all tasks before the next.
-use Rattle.std.specs.Prelude.{ℕ, List, [], ◌∷◌, Option, None, Some, Result, Ok, Err, map, slice_index, slice_index_or}
+use Rattle.std.specs.Prelude.{ℕ, List, [], ◌∷◌, Option, None, Some, Result, Ok, Err, map, slice_index_or}
 use Rattle.std.specs.Option.{option_map}
 use Rattle.prem_plant.specs.declared.plant.Target.{Target}
 use Rattle.prem_plant.specs.declared.plant.Plant.{Plant}
@@ -7,7 +7,6 @@ use Rattle.prem_plant.specs.declared.plant.Device.{Device}
 use Rattle.prem_syntax.specs.Syntax.{Text, GlobalVariable, ProgramText}
 use Rattle.prem_syntax.specs.GroupTwo as meaning
 use Rattle.prem_syntax.specs.Resolved.{Resolved}
-use Rattle.prem_syntax.specs.Resolve.{resolve}
 use Rattle.prem_check.specs.Told.{told_of as told_of_breach}
 use Rattle.prem_text.specs.declared.lexing.token.fail.FrontFail.{FrontFail}
 use Rattle.prem_text.specs.Texts.{reads}
@@ -75,17 +74,13 @@ group_three p = option_map (λ (b : RangeBreach). of_ranges (range_told (ranges.
 
 -- ---- code
 
--- a program whose counting loops take as many turns as their bounds say
-abbrev pub bounded : ProgramText → Resolved
-bounded p = resolve (slice_index (ranges.turn_bounds p)) p
-
 abbrev pub coded_one : Target → TaskText → Resolved → Coded
 coded_one target t p = record { name = t.name; period = t.period; jobs = t.jobs; program = p; code = codes_of (task_parts target p.routines) p.routines }
 
 abbrev pub coded_of : Target → List TaskText → List ProgramText → List Coded
 coded_of target [] ps = []
 coded_of target (t ∷ ts) [] = []
-coded_of target (t ∷ ts) (p ∷ ps) = coded_one target t (bounded p) ∷ coded_of target ts ps
+coded_of target (t ∷ ts) (p ∷ ps) = coded_one target t (ranges.bounded p) ∷ coded_of target ts ps
 
 abbrev pub late_refusal : Option (Refusal LateRule) → Option (Refusal Told)
 late_refusal None = None

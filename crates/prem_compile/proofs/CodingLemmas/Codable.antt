@@ -9,7 +9,7 @@ use Rattle.prem_syntax.specs.Syntax.{ProgramText}
 use Rattle.prem_syntax.specs.Resolved.{Resolved}
 use Rattle.prem_tree.specs.declared.resolve.resolved.Resolved.{Resolved as ResolvedTree}
 use Rattle.prem_tree.specs.Resolve.ResolvedOf.{resolved_of}
-use Rattle.prem_ranges.specs.GroupThree.{turn_bounds}
+use Rattle.prem_ranges.specs.GroupThree.{turn_bounds, bounded}
 use Rattle.prem_asm.specs.Pieces.{Pieces}
 use Rattle.prem_layout.specs.Template.Limits.{excess}
 use Rattle.prem_layout.specs.Template.Parts.{codes_of, parts_of as task_parts}
@@ -21,7 +21,7 @@ use Rattle.prem_prefetch.specs.Sizes.Sizes.{AreCodesOf}
 use Rattle.prem_prefetch.proofs.SizesLemmas.Programs.{programs_may_have_plans}
 use Rattle.prem_place.specs.declared.placing.coded.CodedTask.{CodedTask}
 use Rattle.prem_place.specs.Placing.CodedOf.{IsCodedTask, coded_in as coded_task}
-use Rattle.prem_tasks.specs.Broken.{TaskText, TaskSet, bounded, coded_one, coded_of, programs_of}
+use Rattle.prem_tasks.specs.Broken.{TaskText, TaskSet, coded_one, coded_of, programs_of}
 use Rattle.prem_tasks.specs.Compiled.{coded_in}
 use Rattle.prem_tasks.specs.SetOf.{task_of}
 use Rattle.prem_tasks.specs.declared.set.TaskText.{TaskText as TaskTree}

@@ -10,13 +10,13 @@ use Rattle.prem_tree.specs.declared.resolve.resolved.Resolved.{Resolved as Resol
 use Rattle.prem_check.specs.Told.{told_of as told_of_breach}
 use Rattle.prem_text.specs.declared.lexing.token.fail.FrontFail.{FrontFail}
 use Rattle.prem_text.specs.Texts.{reads}
-use Rattle.prem_ranges.specs.GroupThree.{turn_bounds}
+use Rattle.prem_ranges.specs.GroupThree.{turn_bounds, bounded}
 use Rattle.prem_layout.specs.Template.Parts.{parts_of as task_parts}
 use Rattle.prem_layout.specs.Rules.{or_else, refused_by, first_among, over_tasks, group_four}
 use Rattle.prem_code_laws.proofs.FitLawsLemmas.MeasureLemmas.ProgramNodes.{codes_are_small}
 use Rattle.prem_prefetch.specs.Sizes.Sizes.{AreCodesOf}
 use Rattle.prem_tasks.specs.Told.{of_program}
-use Rattle.prem_tasks.specs.Broken.{TaskText, TaskSet, unread, group_one, program_before, programs_of, group_two, group_three, bounded, coded_of, late_refusal}
+use Rattle.prem_tasks.specs.Broken.{TaskText, TaskSet, unread, group_one, program_before, programs_of, group_two, group_three, coded_of, late_refusal}
 use Rattle.prem_tasks.specs.At.{code_broken, broken_early}
 use Rattle.prem_tasks.specs.Compiled.{coded_in}
 use Rattle.prem_stages.specs.declared.front.Coded.{Coded}

@@ -8,14 +8,14 @@ use Rattle.prem_syntax.specs.Syntax.{ProgramText}
 use Rattle.prem_syntax.specs.GroupTwo.{IsWellFormed}
 use Rattle.prem_tree.specs.declared.resolve.resolved.Resolved.{Resolved as ResolvedTree}
 use Rattle.prem_tree.specs.Resolve.ResolvedOf.{resolved_of, IsResolved}
-use Rattle.prem_ranges.specs.GroupThree.{turn_bounds}
+use Rattle.prem_ranges.specs.GroupThree.{turn_bounds, bounded}
 use Rattle.prem_asm.specs.declared.piece.Piece.{Piece}
 use Rattle.prem_layout.specs.Template.Limits.{excess}
 use Rattle.prem_layout.specs.Placed.{Coded}
 use Rattle.prem_prefetch.specs.Sizes.Sizes.{AreCodesOf}
 use Rattle.prem_place.specs.declared.placing.coded.CodedTask.{CodedTask}
 use Rattle.prem_place.specs.Placing.CodedOf.{IsCodedTask, coded_in as coded_task}
-use Rattle.prem_tasks.specs.Broken.{TaskText, TaskSet, programs_of, bounded}
+use Rattle.prem_tasks.specs.Broken.{TaskText, TaskSet, programs_of}
 use Rattle.prem_tasks.specs.Compiled.{coded_in}
 use Rattle.prem_stages.specs.Code.{code_in, program_code}
 use Rattle.prem_stages.specs.Resolving.{meant_by, text_by}

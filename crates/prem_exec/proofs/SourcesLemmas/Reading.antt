@@ -62,7 +62,7 @@ form_unjudged Whole name why = refl
 form_unjudged Brief name why = refl
 
 -- what makes something of bytes refuses them by their form alone
-abbrev pub RefusesForms : {A : Type 0} → (List ℕ → Result A Reply) → Type 0
+abbrev RefusesForms : {A : Type 0} → (List ℕ → Result A Reply) → Type 0
 RefusesForms make = (bytes : List ℕ) (reply : Reply) → make bytes ≡ Err reply → is_judged reply.0 ≡ false
 
 abbrev MakesRight : {A : Type 0} → (List ℕ → Result A Reply) → (A → Type 0) → Type 0

@@ -13,7 +13,7 @@ use Rattle.prem_syntax.specs.Syntax.{Text, ProgramText}
 use Rattle.prem_syntax.specs.GroupTwo as meaning
 use Rattle.prem_syntax.specs.Resolved.{Routine}
 use Rattle.prem_syntax.specs.Statements.{is_marked}
-use Rattle.prem_ranges.specs.GroupThree.{turn_bounds}
+use Rattle.prem_ranges.specs.GroupThree.{turn_bounds, bounded}
 use Rattle.prem_layout.specs.Bounds.{job_bound_of, JobBound, last_release, work_of, limit_of}
 use Rattle.prem_layout.specs.Facts.{IntervalFact, interval_facts}
 use Rattle.prem_layout.specs.Parts.{part_count}
@@ -23,7 +23,7 @@ use Rattle.prem_layout.specs.Broken.{broken_late}
 use Rattle.prem_tasks.specs.declared.set.TaskText.{TaskText as TaskTree}
 use Rattle.prem_tasks.specs.declared.set.TaskSet.{TaskSet as SetTree}
 use Rattle.prem_tasks.specs.Lawful.{IsTaskText}
-use Rattle.prem_tasks.specs.Broken.{TaskText, TaskSet, group_one, programs_of, group_two, group_three, bounded, coded_one, coded_of, late_refusal, broken_programs, broken}
+use Rattle.prem_tasks.specs.Broken.{TaskText, TaskSet, group_one, programs_of, group_two, group_three, coded_one, coded_of, late_refusal, broken_programs, broken}
 use Rattle.prem_tasks.specs.Compiled.{compiled, coded_in, places_in, placed_in, job_bounds}
 use Rattle.prem_tasks.specs.SetOf.{set_of, task_of}
 use Rattle.prem_running.proofs.SetLawsLemmas.Nothing.{none_first, none_second, unrefused, unmapped, not_late}

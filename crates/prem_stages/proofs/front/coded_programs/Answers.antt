@@ -1,23 +1,19 @@
 use Rattle.std.proofs.Common.{List, map, ap, sym, ◌∙◌}
 use Rattle.std.proofs.lemmas.Result.{err_from_is_err_and}
 use Rattle.prem_plant.specs.declared.plant.Plant.{Plant}
-use Rattle.prem_layout.specs.Rules.{over_tasks}
-use Rattle.prem_tasks.specs.Broken.{TaskText, group_one, programs_of}
 use Rattle.prem_tasks.specs.SetOf.{set_of}
 use Rattle.prem_stages.specs.Stages.{checked_text}
 use Rattle.prem_stages.specs.Code.{program_code}
-use Rattle.prem_stages.proofs.Groups.{few_programs, kept_well, at_ranges, at_code, set_is_coded}
+use Rattle.prem_stages.proofs.Groups.{few_read, kept_well, at_ranges, at_code, set_is_coded}
 use Rattle.prem_stages.proofs.front.coded_programs.Goals as goal
 
 pub turns_all-requires-clause-few : goal.turns_all-requires-clause-few
 turns_all-requires-clause-few c =
-    let tasks = c.tasks-tasks.ensures.tasks in
-    few_programs checked_text c.args.programs.now c.tasks-tasks.result.now (c.requires.programs_are ∙ sym (ap programs_of tasks)) (ap (λ (ts : List TaskText). over_tasks group_one ts) tasks ∙ c.requires.texts_are_read) c.tasks-tasks.ensures.ranges.count.1
+    few_read checked_text c.args.programs.now c.tasks-tasks.result.now c.tasks-tasks.ensures.tasks c.requires.programs_are c.requires.texts_are_read c.tasks-tasks.ensures.ranges.count.1
 
 pub code_all-requires-clause-few : goal.code_all-requires-clause-few
 code_all-requires-clause-few c =
-    let tasks = c.tasks-tasks.ensures.tasks in
-    few_programs checked_text c.args.programs.now c.tasks-tasks.result.now (c.requires.programs_are ∙ sym (ap programs_of tasks)) (ap (λ (ts : List TaskText). over_tasks group_one ts) tasks ∙ c.requires.texts_are_read) c.tasks-tasks.ensures.ranges.count.1
+    few_read checked_text c.args.programs.now c.tasks-tasks.result.now c.tasks-tasks.ensures.tasks c.requires.programs_are c.requires.texts_are_read c.tasks-tasks.ensures.ranges.count.1
 
 pub returns-in_err-turns : goal.returns-in_err-turns
 returns-in_err-turns c =
