@@ -1,13 +1,16 @@
 -- The next token of a program that is read from a stage on.
-use Rattle.std.proofs.Common.{◌≡◌, ℕ, zero, suc, ◌+◌, ◌<◌, List, [], ◌∷◌, ◌++◌, Result, drop, length, map, get_or, ap, sym, ◌∙◌, refl, arith}
+use Rattle.std.proofs.Common.{◌≡◌, List, [], ◌∷◌, ◌++◌, Result, map, ap, ◌∙◌, refl}
 use Rattle.prem_syntax.specs.declared.tree.Place.{Place}
-use Rattle.prem_syntax.specs.Syntax.{ItemText, ProgramText}
+use Rattle.prem_syntax.specs.Syntax.{FunctionText, ItemText, ProgramText}
 use Rattle.prem_text.specs.declared.lexing.token.fail.FrontFail.{FrontFail}
 use Rattle.prem_text.specs.Lexing.Token.Reading.{no_program}
 use Rattle.prem_text.specs.declared.lexing.token.Spotted.{Spotted}
 use Rattle.prem_text.specs.Lexing.Token.Lexeme.{Seen, seen_of}
-use Rattle.prem_text.specs.Grammar.Item.{ItemStep, Stage, ahead, made, outside, refused, step}
+use Rattle.prem_text.specs.Grammar.Item.{ItemStep, Stage, ahead, made, outside, refused, statement_step, step}
 use Rattle.prem_text.specs.Grammar.Reader.{read_on, unless_deep}
+use Rattle.prem_reader.specs.declared.statement.point.Turn.{Turn as CodeTurn}
+use Rattle.prem_reader.specs.declared.statement.point.Turn.TheVariants as turns
+use Rattle.prem_reader.specs.Statement.PointOf.{IsLeft, turn_of}
 use Rattle.prem_front.specs.Taking.{go_on}
 
 read_one : (items : List ItemText) (s : Stage) (t : Seen) (ts : List Seen) (o : ItemStep) → step s t ≡ o → read_on items s (t ∷ ts) ≡ go_on items o t.1 ts
@@ -27,12 +30,13 @@ read_one items s t ts o is =
     opened items at ts (made item) = refl
     opened items at ts refused = refl
 
--- where some tokens are read
-pub read_at : (items : List ItemText) (s : Stage) (all : List Spotted) (n : ℕ) (x : Spotted) (o : ItemStep) → n < length all → x ≡ get_or all n x → step s (seen_of x) ≡ o →
-    read_on items s (map seen_of (drop n all)) ≡ go_on items o x.at (map seen_of (drop (n + 1) all))
-read_at items s [] n x o lt here is = absurd (omega arith)
-read_at items s (y ∷ all) zero x o lt here is =
-    ap (λ z. read_on items s (seen_of z ∷ map seen_of all)) (sym here) ∙ read_one items s (seen_of x) (map seen_of all) o is
-read_at items s (y ∷ all) (suc n) x o lt here is =
-    let next : suc (n + 1) ≡ suc n + 1 = omega arith in
-    read_at items s all n x o (omega arith) here is ∙ ap (λ k. go_on items o x.at (map seen_of (drop k (y ∷ all)))) next
+-- where these tokens are left
+pub read_next : (items : List ItemText) (s : Stage) (all rest : List Spotted) (x : Spotted) (o : ItemStep) → all ≡ x ∷ rest → step s (seen_of x) ≡ o →
+    read_on items s (map seen_of all) ≡ go_on items o x.at (map seen_of rest)
+read_next items s all rest x o are is = ap (λ ts. read_on items s (map seen_of ts)) are ∙ read_one items s (seen_of x) (map seen_of rest) o is
+
+-- a token that is behind the statements of a function is the one that was there
+pub left_step : (f : FunctionText) (u : CodeTurn) (old new : Spotted) → IsLeft u old new → statement_step f (turn_of u) (seen_of new) ≡ statement_step f (turn_of u) (seen_of old)
+left_step f (turns.On point) old new left = refl
+left_step f (turns.Leaves statements) old new left = ap (λ t. statement_step f (turn_of (turns.Leaves statements)) (seen_of t)) left
+left_step f turns.Wrong old new left = refl

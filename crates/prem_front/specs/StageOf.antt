@@ -70,7 +70,7 @@ stage_of (s.OnParameter function param) = on_parameter (function_of function) (p
 stage_of (s.BehindParameter function) = behind_parameter (function_of function)
 stage_of (s.BeforeLocal function) = before_local (function_of function)
 stage_of (s.InStatements function point) = in_statements (function_of function) (point_of point.value)
-stage_of (s.InValue value state room) = in_value (value_of value.value) (state_of state) room
+stage_of (s.InValue reading) = in_value (value_of reading.value.value) (state_of reading.value.state) reading.value.room
 stage_of s.Finished = finished
 
 abbrev pub step_of : CodeStep → ItemStep

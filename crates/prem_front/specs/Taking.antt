@@ -1,5 +1,5 @@
 -- What tokens of a program are to it, several at once.
-use Rattle.std.specs.Prelude.{◌≡◌, ℕ, List, [], ◌∷◌, ◌++◌, Result, Ok, Err, drop, map}
+use Rattle.std.specs.Prelude.{◌≡◌, List, [], ◌∷◌, ◌++◌, Result, Ok, Err, map}
 use Rattle.prem_syntax.specs.declared.tree.Place.{Place}
 use Rattle.prem_syntax.specs.Syntax.{ItemText, ProgramText}
 use Rattle.prem_text.specs.declared.lexing.token.fail.FrontFail.{FrontFail}
@@ -17,9 +17,8 @@ go_on items (ahead next) at ts = unless_deep next at (read_on items next ts)
 go_on items (made item) at ts = read_on (items ++ item ∷ []) outside ts
 go_on items refused at ts = no_program at
 
--- whatever items stand before, a program that is read from a stage and a token on goes on behind what was taken, or
--- fails so
-abbrev pub Takes : Stage → (all : List Spotted) (from : ℕ) → Result Taken FrontFail → Type 0
-Takes s all from (Ok t) = (items : List ItemText) →
-    read_on items s (map seen_of (drop from all)) ≡ go_on items (step_of t.step) t.at (map seen_of (drop t.next all))
-Takes s all from (Err fail) = (items : List ItemText) → Fails fail (read_on items s (map seen_of (drop from all)))
+-- whatever items stand before, a program that is read from a stage and all these tokens on goes on with the rest behind
+-- what was taken, or fails so
+abbrev pub Takes : Stage → (all : List Spotted) → Result Taken FrontFail → (rest : List Spotted) → Type 0
+Takes s all (Ok t) rest = (items : List ItemText) → read_on items s (map seen_of all) ≡ go_on items (step_of t.step) t.at (map seen_of rest)
+Takes s all (Err fail) rest = (items : List ItemText) → Fails fail (read_on items s (map seen_of all))

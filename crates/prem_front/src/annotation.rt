@@ -28,8 +28,8 @@ static REGION_ROW: [Slot; 6] = [
 ];
 
 /// A token before an item.
-pub(crate) fn item_begins(alloc: Global, spotted: &Spotted) -> Result<ItemStep, AllocError>
-    ensures { IfOk result (λ s. step_of s ≡ item_begins (seen_of spotted.now)) }
+pub(crate) fn item_begins(alloc: Global, spotted: &mut Spotted) -> Result<ItemStep, AllocError>
+    ensures { IfOk result (λ s. step_of s ≡ item_begins (seen_of spotted.old)) }
 {
     match &spotted.token {
         Token::End => Ok(ItemStep::Ahead {
@@ -50,9 +50,9 @@ pub(crate) fn item_begins(alloc: Global, spotted: &Spotted) -> Result<ItemStep, 
 pub(crate) fn behind_mark(
     alloc: Global,
     mark: Mark,
-    spotted: &Spotted,
+    spotted: &mut Spotted,
 ) -> Result<ItemStep, AllocError>
-    ensures { IfOk result (λ s. step_of s ≡ behind_mark (mark_of mark) (seen_of spotted.now)) }
+    ensures { IfOk result (λ s. step_of s ≡ behind_mark (mark_of mark) (seen_of spotted.old)) }
 {
     match &spotted.token {
         Token::Word(Word::Region) => begin_row(

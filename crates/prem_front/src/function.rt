@@ -10,10 +10,10 @@ ghost use Rattle.prem_reader.specs.Statement.PointOf.{point_of, turn_of};
 ghost use Rattle.prem_front.specs.StageOf.{value_of, stage_of, step_of};
 
 use crate::global::{begin_row, with_parameter};
-use crate::stage::{Declared, ItemRow, ItemStep, Stage, Typing, Value};
+use crate::stage::{Declared, ItemRow, ItemStep, Stage, Typing, Value, ValueReading};
 use crate::typing::{NOTHING, begins_type, type_begins};
 use prem_list::Sequence;
-use prem_reader::expression::{Move, Open, State, advance};
+use prem_reader::expression::{Move, ROOM, State};
 use prem_reader::statement::{
     Around, Point, Slot, Turn, boxed, is_comma, is_right_brace, is_right_parenthesis, is_semicolon,
     turn,
@@ -22,9 +22,6 @@ use prem_syntax::{Expr, Function, Item, Local, Param, Stmt};
 use prem_text::lexing::token::{Spotted, Token, Word};
 use std::alloc::{AllocError, Global};
 
-/// The greatest number of tokens of an expression, and one more: past it nothing is left of the room.
-const ROOM: u32 = 257;
-
 /// Behind `void )`.
 static BODY_ROW: [Slot; 1] = [Slot::LeftBrace];
 
@@ -32,9 +29,9 @@ static BODY_ROW: [Slot; 1] = [Slot::LeftBrace];
 pub(crate) fn parameter_begins(
     alloc: Global,
     function: Function,
-    spotted: &Spotted,
+    spotted: &mut Spotted,
 ) -> Result<ItemStep, AllocError>
-    ensures { IfOk result (λ s. step_of s ≡ parameter_begins (function_of function) (seen_of spotted.now)) }
+    ensures { IfOk result (λ s. step_of s ≡ parameter_begins (function_of function) (seen_of spotted.old)) }
 {
     match &spotted.token {
         Token::Word(Word::Void) => {
@@ -49,9 +46,9 @@ pub(crate) fn parameter_begins(
 pub(crate) fn parameter_ends(
     alloc: Global,
     function: Function,
-    spotted: &Spotted,
+    spotted: &mut Spotted,
 ) -> Result<ItemStep, AllocError>
-    ensures { IfOk result (λ s. step_of s ≡ parameter_ends (function_of function) (seen_of spotted.now)) }
+    ensures { IfOk result (λ s. step_of s ≡ parameter_ends (function_of function) (seen_of spotted.old)) }
 {
     if is_comma(&spotted.token) {
         return Ok(ItemStep::Ahead {
@@ -73,9 +70,9 @@ pub(crate) fn parameter_goes_on(
     alloc: Global,
     function: Function,
     param: Param,
-    spotted: &Spotted,
+    spotted: &mut Spotted,
 ) -> Result<ItemStep, AllocError>
-    ensures { IfOk result (λ s. step_of s ≡ parameter_goes_on (function_of function) (parameter_of param) (seen_of spotted.now)) }
+    ensures { IfOk result (λ s. step_of s ≡ parameter_goes_on (function_of function) (parameter_of param) (seen_of spotted.old)) }
 {
     match &spotted.token {
         Token::Word(Word::Range) => {
@@ -115,12 +112,13 @@ fn with_result(mut function: Function, value: Expr) -> Function
 pub(crate) fn value_begins(alloc: Global, value: Value) -> Result<Stage, AllocError>
     ensures { IfOk result (λ s. stage_of s ≡ value_begins (value_of value)) }
 {
-    let value = boxed(alloc, value)?;
-    let state = State::Wants {
-        around: Open::Bottom,
+    let reading = ValueReading {
+        value,
+        state: State::new(alloc),
+        room: ROOM,
     };
-    let room = ROOM;
-    Ok(Stage::InValue { value, state, room })
+    let reading = boxed(alloc, reading)?;
+    Ok(Stage::InValue { reading })
 }
 
 /// A token behind the last statement.
@@ -171,9 +169,9 @@ fn statement_step(
 pub(crate) fn local_begins(
     alloc: Global,
     function: Function,
-    spotted: &Spotted,
+    spotted: &mut Spotted,
 ) -> Result<ItemStep, AllocError>
-    ensures { IfOk result (λ s. step_of s ≡ local_begins (function_of function) (seen_of spotted.now)) }
+    ensures { IfOk result (λ s. step_of s ≡ local_begins (function_of function) (seen_of spotted.old)) }
 {
     if begins_type(&spotted.token) {
         return type_begins(alloc, Declared::ALocal { function }, spotted);
@@ -188,9 +186,9 @@ pub(crate) fn statements_go_on(
     alloc: Global,
     function: Function,
     point: Point,
-    spotted: &Spotted,
+    spotted: &mut Spotted,
 ) -> Result<ItemStep, AllocError>
-    ensures { IfOk result (λ s. step_of s ≡ statement_step (function_of function) (turn (point_of point) (seen_of spotted.now)) (seen_of spotted.now)) }
+    ensures { IfOk result (λ s. step_of s ≡ statement_step (function_of function) (turn (point_of point) (seen_of spotted.old)) (seen_of spotted.old)) }
 {
     let taken = turn(alloc, point, spotted)?;
     statement_step(alloc, function, taken, spotted)
@@ -201,9 +199,9 @@ fn value_ends(
     alloc: Global,
     what: Value,
     value: Expr,
-    spotted: &Spotted,
+    spotted: &mut Spotted,
 ) -> Result<ItemStep, AllocError>
-    ensures { IfOk result (λ s. step_of s ≡ value_ends (value_of what) (expression_of value) (seen_of spotted.now)) }
+    ensures { IfOk result (λ s. step_of s ≡ value_ends (value_of what) (expression_of value) (seen_of spotted.old)) }
 {
     match what {
         Value::OfLocal {
@@ -234,26 +232,23 @@ fn value_ends(
 /// A token of an expression outside statements, or the first one behind it.
 pub(crate) fn value_goes_on(
     alloc: Global,
-    what: Box<Value>,
-    state: State,
-    room: u32,
-    spotted: &Spotted,
+    mut reading: Box<ValueReading>,
+    spotted: &mut Spotted,
 ) -> Result<ItemStep, AllocError>
-    ensures { IfOk result (λ s. step_of s ≡ value_goes_on (value_of what.value) (state_of state) room (seen_of spotted.now)) }
+    ensures { IfOk result (λ s. step_of s ≡ value_goes_on (value_of reading.value.value) (state_of reading.value.state) reading.value.room (seen_of spotted.old)) }
 {
-    match advance(alloc, 1, state, spotted)? {
-        Move::Goes { state } => Ok(ItemStep::Ahead {
-            stage: Stage::InValue {
-                value: what,
-                state,
-                room: room.saturating_sub(1),
-            },
-        }),
+    match reading.state.advance(alloc, 1, spotted)? {
+        Move::Goes => {
+            reading.room = reading.room.saturating_sub(1);
+            Ok(ItemStep::Ahead {
+                stage: Stage::InValue { reading },
+            })
+        }
         Move::Ends { value } => {
             if !is_semicolon(&spotted.token) {
                 return Ok(ItemStep::Refused);
             }
-            value_ends(alloc, Box::into_inner(what), value, spotted)
+            value_ends(alloc, Box::into_inner(reading).value, value, spotted)
         }
         Move::Stops => Ok(ItemStep::Refused),
     }

@@ -13,9 +13,10 @@ use crate::stage::{Constant, ItemRow, ItemStep, Stage};
 use crate::typing::NOTHING;
 use prem_list::Sequence;
 use prem_reader::statement::{
-    Slot, boxed, copy_spotted, is_comma, is_equal, is_left_brace, is_left_bracket,
-    is_left_parenthesis, is_right_brace, is_right_parenthesis, is_semicolon,
+    Slot, boxed, is_comma, is_equal, is_left_brace, is_left_bracket, is_left_parenthesis,
+    is_right_brace, is_right_parenthesis, is_semicolon,
 };
+use prem_reader::taken::take_spotted;
 use prem_syntax::{Function, Global as Variable, Initial, Item, Mark, Name, Param, Place, Ty};
 use prem_text::lexing::token::{Mark as Sign, Spotted, Token};
 use std::alloc::{AllocError, Global};
@@ -27,15 +28,15 @@ static LENGTH_ROW: [Slot; 1] = [Slot::RightBracket];
 pub(crate) fn begin_row(
     alloc: Global,
     row: ItemRow,
-    spotted: &Spotted,
+    spotted: &mut Spotted,
     wanted: Slot,
     later: &'static [Slot],
 ) -> Result<ItemStep, AllocError>
-    ensures { IfOk result (λ s. step_of s ≡ begin_row (row_of row) (seen_of spotted.now) (slot_of wanted) (map slot_of later.now)) }
+    ensures { IfOk result (λ s. step_of s ≡ begin_row (row_of row) (seen_of spotted.old) (slot_of wanted) (map slot_of later.now)) }
 {
     let row = boxed(alloc, row)?;
     let mut got = Sequence::new(alloc);
-    got.push(copy_spotted(alloc, spotted)?)?;
+    got.push(take_spotted(spotted))?;
     Ok(ItemStep::Ahead {
         stage: Stage::InRow {
             row,
@@ -124,9 +125,9 @@ fn global_or(
     ty: Ty,
     at: Place,
     name: Name,
-    spotted: &Spotted,
+    spotted: &mut Spotted,
 ) -> Result<ItemStep, AllocError>
-    ensures { IfOk result (λ s. step_of s ≡ global_or (option_map mark_of mark) ty at (name_bytes name) (seen_of spotted.now)) }
+    ensures { IfOk result (λ s. step_of s ≡ global_or (option_map mark_of mark) ty at (name_bytes name) (seen_of spotted.old)) }
 {
     if mark.is_some() {
         return Ok(ItemStep::Refused);
@@ -146,9 +147,9 @@ pub(crate) fn item_goes_on(
     ty: Ty,
     at: Place,
     name: Name,
-    spotted: &Spotted,
+    spotted: &mut Spotted,
 ) -> Result<ItemStep, AllocError>
-    ensures { IfOk result (λ s. step_of s ≡ item_goes_on (option_map mark_of mark) ty at (name_bytes name) (seen_of spotted.now)) }
+    ensures { IfOk result (λ s. step_of s ≡ item_goes_on (option_map mark_of mark) ty at (name_bytes name) (seen_of spotted.old)) }
 {
     if is_left_parenthesis(&spotted.token) {
         let function = new_function(alloc, mark, ty, at, name);
@@ -226,9 +227,9 @@ fn element_ends(
     global: Variable,
     mut before: Sequence<i64>,
     value: i64,
-    spotted: &Spotted,
+    spotted: &mut Spotted,
 ) -> Result<ItemStep, AllocError>
-    ensures { IfOk result (λ s. step_of s ≡ constant_ends (next_value (global_of global) (items_of before)) value (seen_of spotted.now)) }
+    ensures { IfOk result (λ s. step_of s ≡ constant_ends (next_value (global_of global) (items_of before)) value (seen_of spotted.old)) }
 {
     before.push(value)?;
     if is_comma(&spotted.token) {
@@ -286,9 +287,9 @@ pub(crate) fn constant_ends(
     alloc: Global,
     what: Constant,
     value: i64,
-    spotted: &Spotted,
+    spotted: &mut Spotted,
 ) -> Result<ItemStep, AllocError>
-    ensures { IfOk result (λ s. step_of s ≡ constant_ends (constant_of what) value (seen_of spotted.now)) }
+    ensures { IfOk result (λ s. step_of s ≡ constant_ends (constant_of what) value (seen_of spotted.old)) }
 {
     match what {
         Constant::RangeLow { function, param } => {

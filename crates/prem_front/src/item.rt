@@ -17,7 +17,8 @@ use crate::global::{
 use crate::stage::{Constant, ItemRow, ItemStep, Stage, Value};
 use crate::typing::type_or_name;
 use prem_list::Sequence;
-use prem_reader::statement::{Slot, copy_spotted, fits, is_past, value_at};
+use prem_reader::statement::{Slot, fits, is_past, value_at};
+use prem_reader::taken::take_spotted;
 use prem_syntax::Item;
 use prem_text::lexing::token::Spotted;
 use std::alloc::{AllocError, Global};
@@ -93,20 +94,24 @@ fn in_row(
     mut got: Sequence<Spotted>,
     wanted: Slot,
     later: &'static [Slot],
-    spotted: &Spotted,
+    spotted: &mut Spotted,
 ) -> Result<ItemStep, AllocError>
-    ensures { IfOk result (λ s. step_of s ≡ step (in_row (row_of row.value) (map seen_of (items_of got)) (slot_of wanted) (map slot_of later.now)) (seen_of spotted.now)) }
+    ensures { IfOk result (λ s. step_of s ≡ step (in_row (row_of row.value) (map seen_of (items_of got)) (slot_of wanted) (map slot_of later.now)) (seen_of spotted.old)) }
 {
     if !fits(wanted, &spotted.token) {
         return Ok(ItemStep::Refused);
     }
-    got.push(copy_spotted(alloc, spotted)?)?;
+    got.push(take_spotted(spotted))?;
     row_goes_on(alloc, row, got, later)
 }
 
 /// What a token is to the program of which the tokens up to `stage` have been read.
-pub(crate) fn step(alloc: Global, stage: Stage, spotted: &Spotted) -> Result<ItemStep, AllocError>
-    ensures { IfOk result (λ s. step_of s ≡ step (stage_of stage) (seen_of spotted.now)) }
+pub(crate) fn step(
+    alloc: Global,
+    stage: Stage,
+    spotted: &mut Spotted,
+) -> Result<ItemStep, AllocError>
+    ensures { IfOk result (λ s. step_of s ≡ step (stage_of stage) (seen_of spotted.old)) }
 {
     match stage {
         Stage::Outside => item_begins(alloc, spotted),
@@ -139,9 +144,7 @@ pub(crate) fn step(alloc: Global, stage: Stage, spotted: &Spotted) -> Result<Ite
         Stage::InStatements { function, point } => {
             statements_go_on(alloc, function, Box::into_inner(point), spotted)
         }
-        Stage::InValue { value, state, room } => {
-            value_goes_on(alloc, value, state, room, spotted)
-        }
+        Stage::InValue { reading } => value_goes_on(alloc, reading, spotted),
         Stage::Finished => Ok(ItemStep::Refused),
     }
 }
@@ -152,7 +155,7 @@ pub(crate) fn is_too_deep(stage: &Stage) -> bool
 {
     match stage {
         Stage::InStatements { point, .. } => is_past(point),
-        Stage::InValue { room, .. } => *room == 0,
+        Stage::InValue { reading } => reading.room == 0,
         _ => false,
     }
 }

@@ -1,5 +1,6 @@
 // Reading a text.
-ghost use Rattle.std.specs.Prelude.{◌≡◌, ◌<◌, ◌≤◌, IfOk, length, map};
+ghost use Rattle.std.specs.Prelude.{◌≡◌, ◌<◌, IfOk, map};
+ghost use Rattle.std.specs.Vec.Iter.{into_iter_items, into_iter_len};
 ghost use Rattle.prem_list.specs.Sequence.{items_of};
 ghost use Rattle.prem_syntax.specs.SyntaxOf.{function_of, item_of, program_of};
 ghost use Rattle.prem_text.specs.Lexing.Token.Reading.{Gives};
@@ -21,6 +22,7 @@ use prem_syntax::{Function, Item, Place, Program};
 use prem_text::lexing::token::{FrontFail, Spotted};
 use prem_text::lexing::tokens;
 use std::alloc::Global;
+use std::vec::IntoIter;
 
 /// No program has the token at a place.
 fn syntax(at: Place) -> FrontFail
@@ -57,35 +59,39 @@ fn at_end(items: Sequence<Item>, stage: &Stage) -> Result<Program, FrontFail>
     Err(syntax(Place { line: 0, col: 0 }))
 }
 
-/// What some tokens are to a program: the place of the last one, and the number of the one behind it.
+/// What some tokens are to a program, and the place of the last one.
 #[derive(Drop)]
 pub struct Taken {
     pub step: ItemStep,
     pub at: Place,
-    pub next: usize,
 }
 
-/// What the token of this number is to the program, or in the statements of a function all those up to the one that they
-/// leave.
-fn take(alloc: Global, stage: Stage, all: &[Spotted], from: usize) -> Result<Taken, FrontFail>
-    requires { from < length all.now }
-    ensures takes { Takes (stage_of stage) all.now from result }
-    ensures some { IfOk result (λ t. (from < t.next) × (t.next ≤ length all.now)) }
+/// What the next token is to the program, or in the statements of a function all those up to the one that they leave.
+fn take(alloc: Global, stage: Stage, tokens: &mut IntoIter<Spotted>) -> Result<Taken, FrontFail>
+    requires { 0 < into_iter_len tokens.old }
+    ensures takes { Takes (stage_of stage) (into_iter_items tokens.old) result (into_iter_items tokens.new) }
+    ensures some { IfOk result (λ t. into_iter_len tokens.new < into_iter_len tokens.old) }
 {
     match stage {
         Stage::InStatements { function, point } => {
-            take_statements(alloc, function, Box::into_inner(point), all, from)
+            take_statements(alloc, function, Box::into_inner(point), tokens)
         }
-        other => {
-            let spotted = &all[from];
-            let step = step(alloc, other, spotted)?;
-            Ok(Taken {
-                step,
-                at: spotted.at,
-                next: from + 1,
-            })
-        }
+        other => take_one(alloc, other, tokens),
     }
+}
+
+/// What the next token is to the program.
+fn take_one(alloc: Global, stage: Stage, tokens: &mut IntoIter<Spotted>) -> Result<Taken, FrontFail>
+    requires { 0 < into_iter_len tokens.old }
+    ensures takes { Takes (stage_of stage) (into_iter_items tokens.old) result (into_iter_items tokens.new) }
+    ensures some { IfOk result (λ t. into_iter_len tokens.new < into_iter_len tokens.old) }
+{
+    let Some(mut spotted) = tokens.next() else {
+        return Err(syntax(Place { line: 0, col: 0 }));
+    };
+    let at = spotted.at;
+    let step = step(alloc, stage, &mut spotted)?;
+    Ok(Taken { step, at })
 }
 
 /// The tokens of a function's statements, of which those up to `point` have been read, up to the one that they leave.
@@ -93,48 +99,40 @@ fn take_statements(
     alloc: Global,
     function: Function,
     mut point: Point,
-    all: &[Spotted],
-    from: usize,
+    tokens: &mut IntoIter<Spotted>,
 ) -> Result<Taken, FrontFail>
-    requires { from < length all.now }
-    ensures takes { Takes (in_statements (function_of function) (point_of point)) all.now from result }
-    ensures some { IfOk result (λ t. (from < t.next) × (t.next ≤ length all.now)) }
+    requires { 0 < into_iter_len tokens.old }
+    ensures takes { Takes (in_statements (function_of function) (point_of point)) (into_iter_items tokens.old) result (into_iter_items tokens.new) }
+    ensures some { IfOk result (λ t. into_iter_len tokens.new < into_iter_len tokens.old) }
 {
-    let mut next = from;
-    while next < all.len() {
-        let spotted = &all[next];
-        next += 1;
-        match turn(alloc, point, spotted)? {
+    while let Some(mut spotted) = tokens.next() {
+        let at = spotted.at;
+        match turn(alloc, point, &mut spotted)? {
             Turn::On { point: behind } => {
                 if is_past(&behind) {
-                    return Err(too_deep(spotted.at));
+                    return Err(too_deep(at));
                 }
                 point = behind;
             }
             Turn::Leaves { statements } => {
-                let step = body_ends(alloc, with_body(function, statements), spotted)?;
-                return Ok(Taken {
-                    step,
-                    at: spotted.at,
-                    next,
-                });
+                let step = body_ends(alloc, with_body(function, statements), &spotted)?;
+                return Ok(Taken { step, at });
             }
-            Turn::Wrong => return Err(syntax(spotted.at)),
+            Turn::Wrong => return Err(syntax(at)),
         }
     }
     Err(syntax(Place { line: 0, col: 0 }))
 }
 
 /// The program that tokens are, the last of which is the end of the text.
-fn read(alloc: Global, all: &[Spotted]) -> Result<Program, FrontFail>
-    ensures { Gives program_of result (read (map seen_of all.now)) }
+fn read(alloc: Global, all: Vec<Spotted>) -> Result<Program, FrontFail>
+    ensures { Gives program_of result (read (map seen_of all.items)) }
 {
     let mut items = Sequence::new(alloc);
     let mut stage = Stage::Outside;
-    let mut from = 0;
-    while from < all.len() {
-        let Taken { step, at, next } = take(alloc, stage, all, from)?;
-        from = next;
+    let mut tokens = all.into_iter();
+    'tokens: while tokens.len() > 0 {
+        let Taken { step, at } = take(alloc, stage, &mut tokens)?;
         match step {
             ItemStep::Ahead { stage: behind } => {
                 if is_too_deep(&behind) {
@@ -165,5 +163,5 @@ pub fn parse(alloc: Global, text: &[u8]) -> Result<Program, FrontFail>
     ensures { Gives program_of result (reads text.now) }
 {
     let all = tokens(alloc, text)?;
-    read(alloc, &all)
+    read(alloc, all)
 }

@@ -102,6 +102,14 @@ pub enum ItemRow {
     },
 }
 
+/// An expression outside statements that is read, and may have `room` - 1 more tokens.
+#[derive(Drop)]
+pub struct ValueReading {
+    pub value: Value,
+    pub state: State,
+    pub room: u32,
+}
+
 /// Where the reader of a program stands.
 #[derive(Drop)]
 pub enum Stage {
@@ -170,11 +178,9 @@ pub enum Stage {
         function: Function,
         point: Box<Point>,
     },
-    /// In an expression outside statements that may have `room` - 1 more tokens.
+    /// In an expression outside statements.
     InValue {
-        value: Box<Value>,
-        state: State,
-        room: u32,
+        reading: Box<ValueReading>,
     },
     /// Behind the end of the text.
     Finished,

@@ -9,7 +9,8 @@ ghost use Rattle.prem_front.specs.StageOf.{typing_of, declared_of, stage_of, ste
 use crate::stage::{Declared, ItemRow, ItemStep, Stage, Typing};
 use prem_list::Sequence;
 use prem_reader::statement::{Slot, boxed};
-use prem_syntax::{Name, Param, Place, Ty, copy_name};
+use prem_reader::taken::take_name;
+use prem_syntax::{Name, Param, Place, Ty};
 use prem_text::lexing::token::{Spotted, Token, Word};
 use std::alloc::{AllocError, Global};
 
@@ -116,9 +117,9 @@ pub(crate) fn type_or_name(
     alloc: Global,
     what: Box<Declared>,
     typing: Typing,
-    spotted: &Spotted,
+    spotted: &mut Spotted,
 ) -> Result<ItemStep, AllocError>
-    ensures { IfOk result (λ s. step_of s ≡ type_or_name (declared_of what.value) (typing_of typing) spotted.now.at (lexeme_of spotted.now.token)) }
+    ensures { IfOk result (λ s. step_of s ≡ type_or_name (declared_of what.value) (typing_of typing) spotted.old.at (lexeme_of spotted.old.token)) }
 {
     match &spotted.token {
         Token::Word(word) => Ok(match type_word(typing, *word) {
@@ -130,14 +131,17 @@ pub(crate) fn type_or_name(
             },
             None => ItemStep::Refused,
         }),
-        Token::Name(name) => match type_in(typing) {
-            Some(ty) => {
-                let name = copy_name(alloc, name)?;
-                let stage = declared(alloc, Box::into_inner(what), ty, spotted.at, name)?;
-                Ok(ItemStep::Ahead { stage })
-            }
-            None => Ok(ItemStep::Refused),
-        },
+        Token::Name(_) => {
+            let Some(ty) = type_in(typing) else {
+                return Ok(ItemStep::Refused);
+            };
+            let at = spotted.at;
+            let Some(name) = take_name(spotted) else {
+                return Ok(ItemStep::Refused);
+            };
+            let stage = declared(alloc, Box::into_inner(what), ty, at, name)?;
+            Ok(ItemStep::Ahead { stage })
+        }
         _ => Ok(ItemStep::Refused),
     }
 }
@@ -146,9 +150,9 @@ pub(crate) fn type_or_name(
 pub(crate) fn type_begins(
     alloc: Global,
     what: Declared,
-    spotted: &Spotted,
+    spotted: &mut Spotted,
 ) -> Result<ItemStep, AllocError>
-    ensures { IfOk result (λ s. step_of s ≡ type_begins (declared_of what) (seen_of spotted.now)) }
+    ensures { IfOk result (λ s. step_of s ≡ type_begins (declared_of what) (seen_of spotted.old)) }
 {
     type_or_name(alloc, boxed(alloc, what)?, Typing::NoType, spotted)
 }

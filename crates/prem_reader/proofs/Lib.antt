@@ -1,1 +1,2 @@
+pub mod ExpressionLemmas
 pub mod StatementLemmas

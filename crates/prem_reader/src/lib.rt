@@ -2,7 +2,9 @@
 //!
 //! - `expression`: the reader of expressions: one token after the other, without recursion.
 //! - `statement`: the reader of statements: one token after the other, without recursion over the text.
+//! - `taken`: tokens that are moved out of where they stand.
 #![tactic(auto)]
 
 pub mod expression;
 pub mod statement;
+pub mod taken;

@@ -7,9 +7,9 @@ mod row;
 mod slot;
 
 pub use nesting::is_past;
-pub use point::{Around, Header, Point, Purpose, Row, Turn, boxed};
+pub use point::{Around, Header, Point, Purpose, Reading, Row, Turn, boxed};
 pub use reader::turn;
-pub use row::{copy_spotted, name_at, place_at, value_at};
+pub use row::{name_at, place_at, value_at};
 pub use slot::{
     Slot, fits, is_comma, is_equal, is_left_brace, is_left_bracket, is_left_parenthesis,
     is_right_brace, is_right_parenthesis, is_semicolon,

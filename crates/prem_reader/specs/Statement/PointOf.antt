@@ -1,9 +1,10 @@
 -- What the reader's points in memory stand for.
-use Rattle.std.specs.Prelude.{map}
+use Rattle.std.specs.Prelude.{◌≡◌, map, Option, None, Some}
 use Rattle.std.specs.Option.{option_map}
 use Rattle.prem_list.specs.Sequence.{items_of}
 use Rattle.prem_syntax.specs.Name.{name_bytes}
 use Rattle.prem_syntax.specs.SyntaxOf.{expression_of, loop_names_of, statement_of}
+use Rattle.prem_text.specs.declared.lexing.token.token.Spotted.{Spotted}
 use Rattle.prem_text.specs.Lexing.Token.Lexeme.{seen_of}
 use Rattle.prem_text.specs.Grammar.Statement.{Around, in_body, in_block, in_taken, in_other, in_while, in_for, Header, Use, for_output, for_if, for_while, for_low, for_high, for_index, for_value, for_change, for_argument, Row, if_row, out_row, while_row, for_row, bound_row, sign_row, step_row, last_row, Point, between, may_else, filling, inside, on_name, on_element, Turn, on, leaves, wrong}
 use Rattle.prem_reader.specs.Expression.StateOf.{state_of}
@@ -66,7 +67,7 @@ point_of (p.Between around) = between (around_of around.value)
 point_of (p.MayElse at condition taken around) = may_else at (expression_of condition) (statement_of taken.value) (around_of around.value)
 point_of (p.Filling row got wanted later around) =
     filling (row_of row.value) (map seen_of (items_of got)) (slot_of wanted) (map slot_of later.now) (around_of around.value)
-point_of (p.Inside purpose state room around) = inside (use_of purpose.value) (state_of state) room (around_of around.value)
+point_of (p.Inside reading around) = inside (use_of reading.value.purpose) (state_of reading.value.state) reading.value.room (around_of around.value)
 point_of (p.OnName at name around) = on_name at (name_bytes name) (around_of around.value)
 point_of (p.OnElement at name index around) = on_element at (name_bytes name) (expression_of index) (around_of around.value)
 
@@ -74,3 +75,13 @@ abbrev pub turn_of : CodeTurn → Turn
 turn_of (t.On point) = on (point_of point)
 turn_of (t.Leaves statements) = leaves (map statement_of (items_of statements))
 turn_of t.Wrong = wrong
+
+-- a token that the statements have, which lead to a point, or that no body has
+abbrev pub taken_of : Option CodePoint → Turn
+taken_of None = wrong
+taken_of (Some point) = on (point_of point)
+
+-- a token that is behind the statements stays as it was
+abbrev pub IsLeft : CodeTurn → (old new : Spotted) → Type 0
+IsLeft (t.Leaves statements) old new = new ≡ old
+IsLeft _ old new = Unit

@@ -7,48 +7,41 @@ ghost use Rattle.prem_syntax.specs.SyntaxOf.{expression_of, statement_of};
 ghost use Rattle.prem_text.specs.Lexing.Token.Lexeme.{lexeme_of, seen_of};
 ghost use Rattle.prem_text.specs.Grammar.Statement.{expression, begin, finish, side, changed, by_one, change};
 ghost use Rattle.prem_reader.specs.Statement.SlotOf.{slot_of};
-ghost use Rattle.prem_reader.specs.Statement.PointOf.{around_of, use_of, row_of, turn_of};
+ghost use Rattle.prem_reader.specs.Statement.PointOf.{around_of, use_of, row_of, taken_of};
 
-use crate::expression::{Open, State, copy_expression};
-use crate::statement::point::{Around, Point, Purpose, Row, Turn, boxed};
-use crate::statement::row::{NOTHING, copy_spotted};
+use crate::expression::{ROOM, State, copy_expression};
+use crate::statement::point::{Around, Point, Purpose, Reading, Row, boxed};
+use crate::statement::row::NOTHING;
 use crate::statement::slot::Slot;
+use crate::taken::take_spotted;
 use prem_list::Sequence;
 use prem_syntax::{BinOp, Expr, Kind, Name, Place, Stmt, copy_name};
 use prem_text::lexing::token::{Mark, Spotted, Token};
 use std::alloc::{AllocError, Global};
-
-/// The greatest number of tokens of an expression, and one more: past it nothing is left of the room.
-const ROOM: u32 = 257;
 
 /// An expression is read from its beginning.
 pub(crate) fn expression(
     alloc: Global,
     purpose: Purpose,
     around: Box<Around>,
-) -> Result<Turn, AllocError>
-    ensures { IfOk result (λ t. turn_of t ≡ expression (use_of purpose) (around_of around.value)) }
+) -> Result<Option<Point>, AllocError>
+    ensures { IfOk result (λ p. taken_of p ≡ expression (use_of purpose) (around_of around.value)) }
 {
-    let purpose = boxed(alloc, purpose)?;
-    let state = State::Wants {
-        around: Open::Bottom,
+    let reading = Reading {
+        purpose,
+        state: State::new(alloc),
+        room: ROOM,
     };
-    Ok(Turn::On {
-        point: Point::Inside {
-            purpose,
-            state,
-            room: ROOM,
-            around,
-        },
-    })
+    let reading = boxed(alloc, reading)?;
+    Ok(Some(Point::Inside { reading, around }))
 }
 
 /// The first token of a row.
-fn first_of(alloc: Global, spotted: &Spotted) -> Result<Sequence<Spotted>, AllocError>
-    ensures { IfOk result (λ got. map seen_of (items_of got) ≡ seen_of spotted.now ∷ []) }
+fn first_of(alloc: Global, spotted: &mut Spotted) -> Result<Sequence<Spotted>, AllocError>
+    ensures { IfOk result (λ got. map seen_of (items_of got) ≡ seen_of spotted.old ∷ []) }
 {
     let mut got = Sequence::new(alloc);
-    got.push(copy_spotted(alloc, spotted)?)?;
+    got.push(take_spotted(spotted))?;
     Ok(got)
 }
 
@@ -56,34 +49,32 @@ fn first_of(alloc: Global, spotted: &Spotted) -> Result<Sequence<Spotted>, Alloc
 pub(crate) fn begin(
     alloc: Global,
     row: Row,
-    spotted: &Spotted,
+    spotted: &mut Spotted,
     wanted: Slot,
     later: &'static [Slot],
     around: Box<Around>,
-) -> Result<Turn, AllocError>
-    ensures { IfOk result (λ t. turn_of t ≡ begin (row_of row) (seen_of spotted.now) (slot_of wanted) (map slot_of later.now) (around_of around.value)) }
+) -> Result<Option<Point>, AllocError>
+    ensures { IfOk result (λ p. taken_of p ≡ begin (row_of row) (seen_of spotted.old) (slot_of wanted) (map slot_of later.now) (around_of around.value)) }
 {
     let row = boxed(alloc, row)?;
     let got = first_of(alloc, spotted)?;
-    Ok(Turn::On {
-        point: Point::Filling {
-            row,
-            got,
-            wanted,
-            later,
-            around,
-        },
-    })
+    Ok(Some(Point::Filling {
+        row,
+        got,
+        wanted,
+        later,
+        around,
+    }))
 }
 
 /// Only the `;` of a statement is left.
 pub(crate) fn finish(
     alloc: Global,
     statement: Stmt,
-    spotted: &Spotted,
+    spotted: &mut Spotted,
     around: Box<Around>,
-) -> Result<Turn, AllocError>
-    ensures { IfOk result (λ t. turn_of t ≡ finish (statement_of statement) (seen_of spotted.now) (around_of around.value)) }
+) -> Result<Option<Point>, AllocError>
+    ensures { IfOk result (λ p. taken_of p ≡ finish (statement_of statement) (seen_of spotted.old) (around_of around.value)) }
 {
     let statement = boxed(alloc, statement)?;
     let row = Row::Last { statement };
@@ -158,9 +149,9 @@ pub(crate) fn change(
     name: Name,
     index: Option<Expr>,
     around: Box<Around>,
-    spotted: &Spotted,
-) -> Result<Turn, AllocError>
-    ensures { IfOk result (λ t. turn_of t ≡ change at (name_bytes name) (option_map expression_of index) (around_of around.value) (seen_of spotted.now) (lexeme_of spotted.now.token)) }
+    spotted: &mut Spotted,
+) -> Result<Option<Point>, AllocError>
+    ensures { IfOk result (λ p. taken_of p ≡ change at (name_bytes name) (option_map expression_of index) (around_of around.value) (seen_of spotted.old) (lexeme_of spotted.old.token)) }
 {
     let sign = spotted.at;
     match &spotted.token {
@@ -195,6 +186,6 @@ pub(crate) fn change(
             let whole = by_one(alloc, at, name, index, BinOp::Sub, sign)?;
             finish(alloc, whole, spotted, around)
         }
-        _ => Ok(Turn::Wrong),
+        _ => Ok(None),
     }
 }

@@ -270,7 +270,7 @@ pub fn is_past(point: &Point) -> bool
             around,
             ..
         } => begins_row(row, got.items()) && !nests(around, NESTING - 1),
-        Point::Inside { room, .. } => *room == 0,
+        Point::Inside { reading, .. } => reading.room == 0,
         Point::OnName { around, .. } => !nests(around, NESTING - 1),
         Point::MayElse { .. } | Point::OnElement { .. } => false,
     }

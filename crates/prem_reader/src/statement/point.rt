@@ -140,6 +140,14 @@ pub enum Row {
     Last { statement: Box<Stmt> },
 }
 
+/// An expression that is read, and may have `room` - 1 more tokens.
+#[derive(Drop)]
+pub struct Reading {
+    pub purpose: Purpose,
+    pub state: State,
+    pub room: u32,
+}
+
 /// Where the reader of statements stands.
 #[derive(Drop)]
 pub enum Point {
@@ -162,11 +170,9 @@ pub enum Point {
         later: &'static [Slot],
         around: Box<Around>,
     },
-    /// In an expression that may have `room` - 1 more tokens.
+    /// In an expression.
     Inside {
-        purpose: Box<Purpose>,
-        state: State,
-        room: u32,
+        reading: Box<Reading>,
         around: Box<Around>,
     },
     /// Behind the name that begins a statement.

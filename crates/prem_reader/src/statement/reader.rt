@@ -6,23 +6,24 @@ ghost use Rattle.prem_syntax.specs.Name.{name_bytes};
 ghost use Rattle.prem_syntax.specs.SyntaxOf.{expression_of, statement_of};
 ghost use Rattle.prem_text.specs.Lexing.Token.Lexeme.{lexeme_of, seen_of};
 ghost use Rattle.prem_text.specs.Grammar.Slots.{is_left_parenthesis};
-ghost use Rattle.prem_text.specs.Grammar.Statement.{between, in_block, for_row, bound_row, sign_row, step_row, filling, for_output, for_index, for_if, for_while, for_low, for_high, for_value, for_argument, on, ended as grammar_ended, least_of, begins_statement, statement, without, next, else_or, filled, filled_or, behind_name, used, is_start, at_start, lone_name, called, within, turn};
+ghost use Rattle.prem_text.specs.Grammar.Statement.{between, in_block, for_row, bound_row, sign_row, step_row, filling, for_output, for_index, for_if, for_while, for_low, for_high, for_value, for_argument, on, ended as grammar_ended, least_of, begins_statement, statement, without, next, else_or, filled, filled_or, behind_name, used, at_start, lone_name, called, within, turn};
 ghost use Rattle.prem_reader.specs.Expression.StateOf.{state_of};
 ghost use Rattle.prem_reader.specs.Statement.SlotOf.{slot_of};
-ghost use Rattle.prem_reader.specs.Statement.PointOf.{around_of, header_of, use_of, row_of, point_of, turn_of};
+ghost use Rattle.prem_reader.specs.Statement.PointOf.{around_of, header_of, use_of, row_of, point_of, taken_of, turn_of, IsLeft};
 
-use crate::expression::{Move, Open, State, advance};
+use crate::expression::{Move, State};
 use crate::statement::change::{begin, change, changed, expression, finish};
 use crate::statement::nesting::{block, ended, no_else};
-use crate::statement::point::{Around, Header, Point, Purpose, Row, Turn, boxed};
+use crate::statement::point::{Around, Header, Point, Purpose, Reading, Row, Turn, boxed};
 use crate::statement::row::{
-    BOUND_ROW, FOR_ROW, INPUT_ROW, NOTHING, SIGN_ROW, WHILE_ROW, copy_spotted, fourth_in,
-    is_at_most, name_at, place_at, rest_of_step, step_in, value_at,
+    BOUND_ROW, FOR_ROW, INPUT_ROW, NOTHING, SIGN_ROW, WHILE_ROW, fourth_in, is_at_most, name_at,
+    place_at, rest_of_step, step_in, value_at,
 };
 use crate::statement::slot::{
     Slot, fits, is_comma, is_else, is_in, is_left_bracket, is_left_parenthesis, is_right_brace,
     is_right_bracket, is_right_parenthesis, is_semicolon,
 };
+use crate::taken::{take_name, take_spotted};
 use prem_list::Sequence;
 use prem_syntax::{Expr, ForNames, Name, Place, Stmt, copy_name};
 use prem_text::lexing::token::{Mark, Spotted, Token, Word};
@@ -41,37 +42,37 @@ fn least_of(purpose: &Purpose) -> u32
 }
 
 /// A block begins.
-fn block_begins(alloc: Global, at: Place, around: Box<Around>) -> Result<Turn, AllocError>
-    ensures { IfOk result (λ t. turn_of t ≡ on (between (in_block at [] (around_of around.value)))) }
+fn block_begins(alloc: Global, at: Place, around: Box<Around>) -> Result<Option<Point>, AllocError>
+    ensures { IfOk result (λ p. taken_of p ≡ on (between (in_block at [] (around_of around.value)))) }
 {
     let before = Sequence::new(alloc);
     let around = boxed(alloc, Around::Block { at, before, around })?;
-    Ok(Turn::On {
-        point: Point::Between { around },
-    })
+    Ok(Some(Point::Between { around }))
 }
 
 /// The first token of a statement.
-fn statement(alloc: Global, around: Box<Around>, spotted: &Spotted) -> Result<Turn, AllocError>
-    ensures { IfOk result (λ t. turn_of t ≡ statement (around_of around.value) (seen_of spotted.now) (lexeme_of spotted.now.token)) }
+fn statement(
+    alloc: Global,
+    around: Box<Around>,
+    spotted: &mut Spotted,
+) -> Result<Option<Point>, AllocError>
+    ensures { IfOk result (λ p. taken_of p ≡ statement (around_of around.value) (seen_of spotted.old) (lexeme_of spotted.old.token)) }
 {
     let at = spotted.at;
     let left = Slot::LeftParenthesis;
     match &spotted.token {
         Token::Mark(Mark::OpenBrace) => block_begins(alloc, at, around),
-        Token::Name(name) => {
-            let name = copy_name(alloc, name)?;
-            Ok(Turn::On {
-                point: Point::OnName { at, name, around },
-            })
-        }
+        Token::Name(_) => Ok(match take_name(spotted) {
+            Some(name) => Some(Point::OnName { at, name, around }),
+            None => None,
+        }),
         Token::Word(Word::If) => begin(alloc, Row::If, spotted, left, &NOTHING, around),
         Token::Word(Word::Out) => begin(alloc, Row::Out, spotted, left, &NOTHING, around),
         Token::Word(Word::Bounded) => {
             begin(alloc, Row::While, spotted, left, &WHILE_ROW, around)
         }
         Token::Word(Word::For) => begin(alloc, Row::For, spotted, left, &FOR_ROW, around),
-        _ => Ok(Turn::Wrong),
+        _ => Ok(None),
     }
 }
 
@@ -93,13 +94,24 @@ fn block_ends(
     before: Sequence<Stmt>,
     around: Box<Around>,
     spotted: &Spotted,
-) -> Result<Turn, AllocError>
-    ensures { IfOk result (λ t. turn_of t ≡ without (in_block at (map statement_of (items_of before)) (around_of around.value)) (seen_of spotted.now)) }
+) -> Result<Option<Point>, AllocError>
+    ensures { IfOk result (λ p. taken_of p ≡ without (in_block at (map statement_of (items_of before)) (around_of around.value)) (seen_of spotted.now)) }
 {
     if !is_right_brace(&spotted.token) {
-        return Ok(Turn::Wrong);
+        return Ok(None);
     }
     statement_ends(alloc, around, block(at, before))
+}
+
+/// What a token is that no body leaves by.
+fn turned(point: Option<Point>) -> Turn
+    ensures turn { turn_of result ≡ taken_of point }
+    ensures left { (old new : Spotted) → IsLeft result old new }
+{
+    match point {
+        Some(point) => Turn::On { point },
+        None => Turn::Wrong,
+    }
 }
 
 /// A token that begins no statement is behind the body, or it closes a block.
@@ -108,16 +120,19 @@ fn without(alloc: Global, around: Box<Around>, spotted: &Spotted) -> Result<Turn
 {
     match Box::into_inner(around) {
         Around::Body { before } => Ok(Turn::Leaves { statements: before }),
-        Around::Block { at, before, around } => block_ends(alloc, at, before, around, spotted),
+        Around::Block { at, before, around } => {
+            Ok(turned(block_ends(alloc, at, before, around, spotted)?))
+        }
         _around => Ok(Turn::Wrong),
     }
 }
 
-fn next(alloc: Global, around: Box<Around>, spotted: &Spotted) -> Result<Turn, AllocError>
-    ensures { IfOk result (λ t. turn_of t ≡ next (around_of around.value) (seen_of spotted.now)) }
+fn next(alloc: Global, around: Box<Around>, spotted: &mut Spotted) -> Result<Turn, AllocError>
+    ensures turn { IfOk result (λ t. turn_of t ≡ next (around_of around.value) (seen_of spotted.old)) }
+    ensures left { IfOk result (λ t. IsLeft t spotted.old spotted.new) }
 {
     if begins_statement(&spotted.token) {
-        return statement(alloc, around, spotted);
+        return Ok(turned(statement(alloc, around, spotted)?));
     }
     without(alloc, around, spotted)
 }
@@ -129,9 +144,10 @@ fn else_or(
     condition: Expr,
     taken: Box<Stmt>,
     around: Box<Around>,
-    spotted: &Spotted,
+    spotted: &mut Spotted,
 ) -> Result<Turn, AllocError>
-    ensures { IfOk result (λ t. turn_of t ≡ else_or at (expression_of condition) (statement_of taken.value) (around_of around.value) (seen_of spotted.now)) }
+    ensures turn { IfOk result (λ t. turn_of t ≡ else_or at (expression_of condition) (statement_of taken.value) (around_of around.value) (seen_of spotted.old)) }
+    ensures left { IfOk result (λ t. IsLeft t spotted.old spotted.new) }
 {
     if is_else(&spotted.token) {
         let around = Around::Other {
@@ -155,14 +171,14 @@ fn step_filled(
     header: Header,
     got: &[Spotted],
     around: Box<Around>,
-) -> Result<Turn, AllocError>
-    ensures { IfOk result (λ t. turn_of t ≡ filled (step_row (header_of header)) (map seen_of got.now) (around_of around.value)) }
+) -> Result<Option<Point>, AllocError>
+    ensures { IfOk result (λ p. taken_of p ≡ filled (step_row (header_of header)) (map seen_of got.now) (around_of around.value)) }
 {
     let Some(third) = name_at(alloc, got, 1)? else {
-        return Ok(Turn::Wrong);
+        return Ok(None);
     };
     let Some(fourth) = fourth_in(alloc, got)? else {
-        return Ok(Turn::Wrong);
+        return Ok(None);
     };
     let names = ForNames {
         first: header.first,
@@ -180,19 +196,21 @@ fn step_filled(
         around,
     };
     let around = boxed(alloc, around)?;
-    Ok(Turn::On {
-        point: Point::Between { around },
-    })
+    Ok(Some(Point::Between { around }))
 }
 
 /// The first row of a `for` has all its tokens.
-fn for_filled(alloc: Global, got: &[Spotted], around: Box<Around>) -> Result<Turn, AllocError>
-    ensures { IfOk result (λ t. turn_of t ≡ filled for_row (map seen_of got.now) (around_of around.value)) }
+fn for_filled(
+    alloc: Global,
+    got: &[Spotted],
+    around: Box<Around>,
+) -> Result<Option<Point>, AllocError>
+    ensures { IfOk result (λ p. taken_of p ≡ filled for_row (map seen_of got.now) (around_of around.value)) }
 {
     let at = place_at(got, 0);
     match name_at(alloc, got, 2)? {
         Some(first) => expression(alloc, Purpose::Low { at, first }, around),
-        None => Ok(Turn::Wrong),
+        None => Ok(None),
     }
 }
 
@@ -204,8 +222,8 @@ fn bound_filled(
     low: Expr,
     got: &[Spotted],
     around: Box<Around>,
-) -> Result<Turn, AllocError>
-    ensures { IfOk result (λ t. turn_of t ≡ filled (bound_row at (name_bytes first) (expression_of low)) (map seen_of got.now) (around_of around.value)) }
+) -> Result<Option<Point>, AllocError>
+    ensures { IfOk result (λ p. taken_of p ≡ filled (bound_row at (name_bytes first) (expression_of low)) (map seen_of got.now) (around_of around.value)) }
 {
     let closed = is_at_most(got);
     match name_at(alloc, got, 1)? {
@@ -219,7 +237,7 @@ fn bound_filled(
             };
             expression(alloc, purpose, around)
         }
-        None => Ok(Turn::Wrong),
+        None => Ok(None),
     }
 }
 
@@ -229,20 +247,18 @@ fn sign_filled(
     header: Header,
     got: Sequence<Spotted>,
     around: Box<Around>,
-) -> Result<Turn, AllocError>
-    ensures { IfOk result (λ t. turn_of t ≡ filled (sign_row (header_of header)) (map seen_of (items_of got)) (around_of around.value)) }
+) -> Result<Option<Point>, AllocError>
+    ensures { IfOk result (λ p. taken_of p ≡ filled (sign_row (header_of header)) (map seen_of (items_of got)) (around_of around.value)) }
 {
     let (wanted, later) = rest_of_step(got.items());
     let row = boxed(alloc, Row::Step { header })?;
-    Ok(Turn::On {
-        point: Point::Filling {
-            row,
-            got,
-            wanted,
-            later,
-            around,
-        },
-    })
+    Ok(Some(Point::Filling {
+        row,
+        got,
+        wanted,
+        later,
+        around,
+    }))
 }
 
 /// A row has all its tokens.
@@ -251,8 +267,8 @@ fn filled(
     row: Row,
     got: Sequence<Spotted>,
     around: Box<Around>,
-) -> Result<Turn, AllocError>
-    ensures { IfOk result (λ t. turn_of t ≡ filled (row_of row) (map seen_of (items_of got)) (around_of around.value)) }
+) -> Result<Option<Point>, AllocError>
+    ensures { IfOk result (λ p. taken_of p ≡ filled (row_of row) (map seen_of (items_of got)) (around_of around.value)) }
 {
     let at = place_at(got.items(), 0);
     match row {
@@ -278,20 +294,18 @@ fn filled_or(
     got: Sequence<Spotted>,
     later: &'static [Slot],
     around: Box<Around>,
-) -> Result<Turn, AllocError>
-    ensures { IfOk result (λ t. turn_of t ≡ filled_or (row_of row.value) (map seen_of (items_of got)) (map slot_of later.now) (around_of around.value)) }
+) -> Result<Option<Point>, AllocError>
+    ensures { IfOk result (λ p. taken_of p ≡ filled_or (row_of row.value) (map seen_of (items_of got)) (map slot_of later.now) (around_of around.value)) }
 {
     match later {
         [] => filled(alloc, Box::into_inner(row), got, around),
-        [wanted, rest @ ..] => Ok(Turn::On {
-            point: Point::Filling {
-                row,
-                got,
-                wanted: *wanted,
-                later: rest,
-                around,
-            },
-        }),
+        [wanted, rest @ ..] => Ok(Some(Point::Filling {
+            row,
+            got,
+            wanted: *wanted,
+            later: rest,
+            around,
+        })),
     }
 }
 
@@ -303,14 +317,14 @@ fn filling(
     wanted: Slot,
     later: &'static [Slot],
     around: Box<Around>,
-    spotted: &Spotted,
-) -> Result<Turn, AllocError>
-    ensures { IfOk result (λ t. turn_of t ≡ turn (filling (row_of row.value) (map seen_of (items_of got)) (slot_of wanted) (map slot_of later.now) (around_of around.value)) (seen_of spotted.now)) }
+    spotted: &mut Spotted,
+) -> Result<Option<Point>, AllocError>
+    ensures { IfOk result (λ p. taken_of p ≡ turn (filling (row_of row.value) (map seen_of (items_of got)) (slot_of wanted) (map slot_of later.now) (around_of around.value)) (seen_of spotted.old)) }
 {
     if !fits(wanted, &spotted.token) {
-        return Ok(Turn::Wrong);
+        return Ok(None);
     }
-    got.push(copy_spotted(alloc, spotted)?)?;
+    got.push(take_spotted(spotted))?;
     filled_or(alloc, row, got, later, around)
 }
 
@@ -320,9 +334,9 @@ fn behind_name(
     at: Place,
     name: Name,
     around: Box<Around>,
-    spotted: &Spotted,
-) -> Result<Turn, AllocError>
-    ensures { IfOk result (λ t. turn_of t ≡ behind_name at (name_bytes name) (around_of around.value) (seen_of spotted.now)) }
+    spotted: &mut Spotted,
+) -> Result<Option<Point>, AllocError>
+    ensures { IfOk result (λ p. taken_of p ≡ behind_name at (name_bytes name) (around_of around.value) (seen_of spotted.old)) }
 {
     if is_left_parenthesis(&spotted.token) {
         let purpose = Purpose::Argument {
@@ -348,9 +362,9 @@ fn argument_ends(
     mut before: Sequence<Expr>,
     value: Expr,
     around: Box<Around>,
-    spotted: &Spotted,
-) -> Result<Turn, AllocError>
-    ensures { IfOk result (λ t. turn_of t ≡ used (for_argument at (option_map name_bytes target) (name_bytes callee) (map expression_of (items_of before))) (expression_of value) (around_of around.value) (seen_of spotted.now)) }
+    spotted: &mut Spotted,
+) -> Result<Option<Point>, AllocError>
+    ensures { IfOk result (λ p. taken_of p ≡ used (for_argument at (option_map name_bytes target) (name_bytes callee) (map expression_of (items_of before))) (expression_of value) (around_of around.value) (seen_of spotted.old)) }
 {
     before.push(value)?;
     if is_comma(&spotted.token) {
@@ -363,7 +377,7 @@ fn argument_ends(
         return expression(alloc, purpose, around);
     }
     if !is_right_parenthesis(&spotted.token) {
-        return Ok(Turn::Wrong);
+        return Ok(None);
     }
     let whole = Stmt::Call {
         at,
@@ -382,11 +396,11 @@ fn condition_ends(
     condition: Expr,
     around: Box<Around>,
     spotted: &Spotted,
-) -> Result<Turn, AllocError>
-    ensures { IfOk result (λ t. turn_of t ≡ used (elim turns [ None ↦ for_if at | Some n ↦ for_while at n ]) (expression_of condition) (around_of around.value) (seen_of spotted.now)) }
+) -> Result<Option<Point>, AllocError>
+    ensures { IfOk result (λ p. taken_of p ≡ used (elim turns [ None ↦ for_if at | Some n ↦ for_while at n ]) (expression_of condition) (around_of around.value) (seen_of spotted.now)) }
 {
     if !is_right_parenthesis(&spotted.token) {
-        return Ok(Turn::Wrong);
+        return Ok(None);
     }
     let around = match turns {
         None => Around::Taken {
@@ -402,9 +416,7 @@ fn condition_ends(
         },
     };
     let around = boxed(alloc, around)?;
-    Ok(Turn::On {
-        point: Point::Between { around },
-    })
+    Ok(Some(Point::Between { around }))
 }
 
 /// A token behind the first value of a `for`.
@@ -414,12 +426,12 @@ fn low_ends(
     first: Name,
     low: Expr,
     around: Box<Around>,
-    spotted: &Spotted,
-) -> Result<Turn, AllocError>
-    ensures { IfOk result (λ t. turn_of t ≡ used (for_low at (name_bytes first)) (expression_of low) (around_of around.value) (seen_of spotted.now)) }
+    spotted: &mut Spotted,
+) -> Result<Option<Point>, AllocError>
+    ensures { IfOk result (λ p. taken_of p ≡ used (for_low at (name_bytes first)) (expression_of low) (around_of around.value) (seen_of spotted.old)) }
 {
     if !is_semicolon(&spotted.token) {
-        return Ok(Turn::Wrong);
+        return Ok(None);
     }
     let row = Row::Bound { at, first, low };
     begin(alloc, row, spotted, Slot::AName, &BOUND_ROW, around)
@@ -430,23 +442,27 @@ fn high_ends(
     alloc: Global,
     header: Header,
     around: Box<Around>,
-    spotted: &Spotted,
-) -> Result<Turn, AllocError>
-    ensures { IfOk result (λ t. turn_of t ≡ used (for_high header.at (name_bytes header.first) (expression_of header.low) (name_bytes header.second) header.closed) (expression_of header.high) (around_of around.value) (seen_of spotted.now)) }
+    spotted: &mut Spotted,
+) -> Result<Option<Point>, AllocError>
+    ensures { IfOk result (λ p. taken_of p ≡ used (for_high header.at (name_bytes header.first) (expression_of header.low) (name_bytes header.second) header.closed) (expression_of header.high) (around_of around.value) (seen_of spotted.old)) }
 {
     if !is_semicolon(&spotted.token) {
-        return Ok(Turn::Wrong);
+        return Ok(None);
     }
     let row = Row::Sign { header };
     begin(alloc, row, spotted, Slot::AName, &SIGN_ROW, around)
 }
 
 /// A statement has ended.
-fn statement_ends(alloc: Global, around: Box<Around>, statement: Stmt) -> Result<Turn, AllocError>
-    ensures { IfOk result (λ t. turn_of t ≡ on (grammar_ended (statement_of statement) (around_of around.value))) }
+fn statement_ends(
+    alloc: Global,
+    around: Box<Around>,
+    statement: Stmt,
+) -> Result<Option<Point>, AllocError>
+    ensures { IfOk result (λ p. taken_of p ≡ on (grammar_ended (statement_of statement) (around_of around.value))) }
 {
     let point = ended(alloc, around, statement)?;
-    Ok(Turn::On { point })
+    Ok(Some(point))
 }
 
 /// A token behind the value of an output.
@@ -455,31 +471,35 @@ fn output_ends(
     at: Place,
     value: Expr,
     around: Box<Around>,
-    spotted: &Spotted,
-) -> Result<Turn, AllocError>
-    ensures { IfOk result (λ t. turn_of t ≡ used (for_output at) (expression_of value) (around_of around.value) (seen_of spotted.now)) }
+    spotted: &mut Spotted,
+) -> Result<Option<Point>, AllocError>
+    ensures { IfOk result (λ p. taken_of p ≡ used (for_output at) (expression_of value) (around_of around.value) (seen_of spotted.old)) }
 {
     if !is_right_parenthesis(&spotted.token) {
-        return Ok(Turn::Wrong);
+        return Ok(None);
     }
     finish(alloc, Stmt::Output { at, value }, spotted, around)
 }
 
 /// A token behind the index at the left of an assignment.
-fn index_ends(at: Place, name: Name, index: Expr, around: Box<Around>, spotted: &Spotted) -> Turn
-    ensures { turn_of result ≡ used (for_index at (name_bytes name)) (expression_of index) (around_of around.value) (seen_of spotted.now) }
+fn index_ends(
+    at: Place,
+    name: Name,
+    index: Expr,
+    around: Box<Around>,
+    spotted: &Spotted,
+) -> Option<Point>
+    ensures { taken_of result ≡ used (for_index at (name_bytes name)) (expression_of index) (around_of around.value) (seen_of spotted.now) }
 {
     if !is_right_bracket(&spotted.token) {
-        return Turn::Wrong;
+        return None;
     }
-    Turn::On {
-        point: Point::OnElement {
-            at,
-            name,
-            index,
-            around,
-        },
-    }
+    Some(Point::OnElement {
+        at,
+        name,
+        index,
+        around,
+    })
 }
 
 /// A token behind the right side of `=`.
@@ -491,11 +511,11 @@ fn value_ends(
     value: Expr,
     around: Box<Around>,
     spotted: &Spotted,
-) -> Result<Turn, AllocError>
-    ensures { IfOk result (λ t. turn_of t ≡ used (for_value at (name_bytes name) (option_map expression_of index)) (expression_of value) (around_of around.value) (seen_of spotted.now)) }
+) -> Result<Option<Point>, AllocError>
+    ensures { IfOk result (λ p. taken_of p ≡ used (for_value at (name_bytes name) (option_map expression_of index)) (expression_of value) (around_of around.value) (seen_of spotted.now)) }
 {
     if !is_semicolon(&spotted.token) {
-        return Ok(Turn::Wrong);
+        return Ok(None);
     }
     let whole = Stmt::Set {
         at,
@@ -512,9 +532,9 @@ fn used(
     purpose: Purpose,
     value: Expr,
     around: Box<Around>,
-    spotted: &Spotted,
-) -> Result<Turn, AllocError>
-    ensures { IfOk result (λ t. turn_of t ≡ used (use_of purpose) (expression_of value) (around_of around.value) (seen_of spotted.now)) }
+    spotted: &mut Spotted,
+) -> Result<Option<Point>, AllocError>
+    ensures { IfOk result (λ p. taken_of p ≡ used (use_of purpose) (expression_of value) (around_of around.value) (seen_of spotted.old)) }
 {
     match purpose {
         Purpose::Output { at } => output_ends(alloc, at, value, around, spotted),
@@ -553,7 +573,7 @@ fn used(
             sign,
         } => {
             if !is_semicolon(&spotted.token) {
-                return Ok(Turn::Wrong);
+                return Ok(None);
             }
             let whole = changed(alloc, at, name, index, op, sign, value)?;
             statement_ends(alloc, around, whole)
@@ -567,29 +587,18 @@ fn used(
     }
 }
 
-fn is_start(state: &State) -> bool
-    ensures { result ≡ is_start (state_of state.now) }
-{
-    matches!(
-        state,
-        State::Wants {
-            around: Open::Bottom
-        }
-    )
-}
-
 /// `in` where the value of `name =` begins.
 fn input_begins(
     alloc: Global,
     at: Place,
     name: Name,
     around: Box<Around>,
-    spotted: &Spotted,
-) -> Result<Turn, AllocError>
-    ensures { IfOk result (λ t. turn_of t ≡ at_start (for_value at (name_bytes name) None) (around_of around.value) (seen_of spotted.now)) }
+    spotted: &mut Spotted,
+) -> Result<Option<Point>, AllocError>
+    ensures { IfOk result (λ p. taken_of p ≡ at_start (for_value at (name_bytes name) None) (around_of around.value) (seen_of spotted.old)) }
 {
     if !is_in(&spotted.token) {
-        return Ok(Turn::Wrong);
+        return Ok(None);
     }
     let statement = boxed(alloc, Stmt::Input { at, name })?;
     let row = Row::Last { statement };
@@ -610,12 +619,12 @@ fn no_arguments(
     target: Option<Name>,
     callee: Name,
     around: Box<Around>,
-    spotted: &Spotted,
-) -> Result<Turn, AllocError>
-    ensures { IfOk result (λ t. turn_of t ≡ at_start (for_argument at (option_map name_bytes target) (name_bytes callee) []) (around_of around.value) (seen_of spotted.now)) }
+    spotted: &mut Spotted,
+) -> Result<Option<Point>, AllocError>
+    ensures { IfOk result (λ p. taken_of p ≡ at_start (for_argument at (option_map name_bytes target) (name_bytes callee) []) (around_of around.value) (seen_of spotted.old)) }
 {
     if !is_right_parenthesis(&spotted.token) {
-        return Ok(Turn::Wrong);
+        return Ok(None);
     }
     let whole = Stmt::Call {
         at,
@@ -633,14 +642,14 @@ fn at_start(
     alloc: Global,
     purpose: Purpose,
     around: Box<Around>,
-    spotted: &Spotted,
-) -> Result<Turn, AllocError>
-    ensures { IfOk result (λ t. turn_of t ≡ at_start (use_of purpose) (around_of around.value) (seen_of spotted.now)) }
+    spotted: &mut Spotted,
+) -> Result<Option<Point>, AllocError>
+    ensures { IfOk result (λ p. taken_of p ≡ at_start (use_of purpose) (around_of around.value) (seen_of spotted.old)) }
 {
     match purpose {
         Purpose::Value { at, name, index } => match index {
             None => input_begins(alloc, at, name, around, spotted),
-            Some(_index) => Ok(Turn::Wrong),
+            Some(_index) => Ok(None),
         },
         Purpose::Argument {
             at,
@@ -649,7 +658,7 @@ fn at_start(
             before,
         } => match before.items() {
             [] => no_arguments(alloc, at, target, callee, around, spotted),
-            [_, ..] => Ok(Turn::Wrong),
+            [_, ..] => Ok(None),
         },
         Purpose::Output { .. }
         | Purpose::If { .. }
@@ -657,7 +666,7 @@ fn at_start(
         | Purpose::Low { .. }
         | Purpose::High { .. }
         | Purpose::Index { .. }
-        | Purpose::Change { .. } => Ok(Turn::Wrong),
+        | Purpose::Change { .. } => Ok(None),
     }
 }
 
@@ -668,14 +677,7 @@ fn callee_at(alloc: Global, state: &State, token: &Token) -> Result<Option<Name>
     if !is_left_parenthesis(token) {
         return Ok(None);
     }
-    match state {
-        State::Named {
-            name,
-            around: Open::Bottom,
-            ..
-        } => Ok(Some(copy_name(alloc, name)?)),
-        _ => Ok(None),
-    }
+    state.lone_name(alloc)
 }
 
 /// `(` behind `name = name` begins the arguments of a call.
@@ -684,8 +686,8 @@ fn called(
     purpose: Purpose,
     callee: Name,
     around: Box<Around>,
-) -> Result<Turn, AllocError>
-    ensures { IfOk result (λ t. turn_of t ≡ called (use_of purpose) (name_bytes callee) (around_of around.value)) }
+) -> Result<Option<Point>, AllocError>
+    ensures { IfOk result (λ p. taken_of p ≡ called (use_of purpose) (name_bytes callee) (around_of around.value)) }
 {
     match purpose {
         Purpose::Value { at, name, index } => match index {
@@ -698,7 +700,7 @@ fn called(
                 };
                 expression(alloc, purpose, around)
             }
-            Some(_index) => Ok(Turn::Wrong),
+            Some(_index) => Ok(None),
         },
         Purpose::Output { .. }
         | Purpose::If { .. }
@@ -707,83 +709,75 @@ fn called(
         | Purpose::High { .. }
         | Purpose::Index { .. }
         | Purpose::Change { .. }
-        | Purpose::Argument { .. } => Ok(Turn::Wrong),
+        | Purpose::Argument { .. } => Ok(None),
     }
 }
 
 /// A token of an expression, or the first one behind it.
 fn within(
     alloc: Global,
-    purpose: Box<Purpose>,
-    state: State,
-    room: u32,
+    mut reading: Box<Reading>,
     around: Box<Around>,
-    spotted: &Spotted,
-) -> Result<Turn, AllocError>
-    ensures { IfOk result (λ t. turn_of t ≡ within (use_of purpose.value) (state_of state) room (around_of around.value) (seen_of spotted.now)) }
+    spotted: &mut Spotted,
+) -> Result<Option<Point>, AllocError>
+    ensures { IfOk result (λ p. taken_of p ≡ within (use_of reading.value.purpose) (state_of reading.value.state) reading.value.room (around_of around.value) (seen_of spotted.old)) }
 {
-    let starts = is_start(&state);
-    let callee = callee_at(alloc, &state, &spotted.token)?;
-    let least = least_of(&purpose);
-    match advance(alloc, least, state, spotted)? {
-        Move::Goes { state } => Ok(Turn::On {
-            point: Point::Inside {
-                purpose,
-                state,
-                room: room.saturating_sub(1),
-                around,
-            },
-        }),
+    let starts = reading.state.is_start();
+    let callee = callee_at(alloc, &reading.state, &spotted.token)?;
+    let least = least_of(&reading.purpose);
+    match reading.state.advance(alloc, least, spotted)? {
+        Move::Goes => {
+            reading.room = reading.room.saturating_sub(1);
+            Ok(Some(Point::Inside { reading, around }))
+        }
         Move::Ends { value } => {
+            let purpose = Box::into_inner(reading).purpose;
             if !is_left_parenthesis(&spotted.token) {
-                return used(alloc, Box::into_inner(purpose), value, around, spotted);
+                return used(alloc, purpose, value, around, spotted);
             }
             match callee {
-                Some(callee) => called(alloc, Box::into_inner(purpose), callee, around),
-                None => Ok(Turn::Wrong),
+                Some(callee) => called(alloc, purpose, callee, around),
+                None => Ok(None),
             }
         }
         Move::Stops => {
             if starts {
-                return at_start(alloc, Box::into_inner(purpose), around, spotted);
+                return at_start(alloc, Box::into_inner(reading).purpose, around, spotted);
             }
-            Ok(Turn::Wrong)
+            Ok(None)
         }
     }
 }
 
-/// What a token is to the statements of a body of which the tokens up to `point` have been read. It fails
-/// only for want of memory.
-pub fn turn(alloc: Global, point: Point, spotted: &Spotted) -> Result<Turn, AllocError>
-    ensures { IfOk result (λ t. turn_of t ≡ turn (point_of point) (seen_of spotted.now)) }
+/// What a token is to the statements of a body of which the tokens up to `point` have been read. What they keep of one
+/// of their tokens, as a name, is moved out of it. It fails only for want of memory.
+pub fn turn(alloc: Global, point: Point, spotted: &mut Spotted) -> Result<Turn, AllocError>
+    ensures turn { IfOk result (λ t. turn_of t ≡ turn (point_of point) (seen_of spotted.old)) }
+    ensures left { IfOk result (λ t. IsLeft t spotted.old spotted.new) }
 {
-    match point {
-        Point::Between { around } => next(alloc, around, spotted),
+    let point = match point {
+        Point::Between { around } => return next(alloc, around, spotted),
         Point::MayElse {
             at,
             condition,
             taken,
             around,
-        } => { else_or(alloc, at, condition, taken, around, spotted) }
+        } => return else_or(alloc, at, condition, taken, around, spotted),
         Point::Filling {
             row,
             got,
             wanted,
             later,
             around,
-        } => { filling(alloc, row, got, wanted, later, around, spotted) }
-        Point::Inside {
-            purpose,
-            state,
-            room,
-            around,
-        } => { within(alloc, purpose, state, room, around, spotted) }
-        Point::OnName { at, name, around } => behind_name(alloc, at, name, around, spotted),
+        } => filling(alloc, row, got, wanted, later, around, spotted)?,
+        Point::Inside { reading, around } => within(alloc, reading, around, spotted)?,
+        Point::OnName { at, name, around } => behind_name(alloc, at, name, around, spotted)?,
         Point::OnElement {
             at,
             name,
             index,
             around,
-        } => { change(alloc, at, name, Some(index), around, spotted) }
-    }
+        } => change(alloc, at, name, Some(index), around, spotted)?,
+    };
+    Ok(turned(point))
 }

@@ -34,26 +34,6 @@ static CLOSING: [Slot; 1] = [Slot::RightParenthesis];
 /// Behind `name = name`.
 static SUM: [Slot; 3] = [Slot::PlusSign, Slot::ALiteral, Slot::RightParenthesis];
 
-/// A copy of a token with its place. It fails only for want of memory.
-pub fn copy_spotted(alloc: Global, spotted: &Spotted) -> Result<Spotted, AllocError>
-    ensures { IfOk result (λ copy. seen_of copy ≡ seen_of spotted.now) }
-{
-    let token = match &spotted.token {
-        Token::Name(name) => Token::Name(copy_name(alloc, name)?),
-        Token::Literal { value, kind } => Token::Literal {
-            value: *value,
-            kind: *kind,
-        },
-        Token::Word(word) => Token::Word(*word),
-        Token::Mark(mark) => Token::Mark(*mark),
-        Token::End => Token::End,
-    };
-    Ok(Spotted {
-        token,
-        at: spotted.at,
-    })
-}
-
 /// The name that a token is.
 fn text_of(alloc: Global, token: &Token) -> Result<Option<Name>, AllocError>
     ensures { IfOk result (λ name. option_map name_bytes name ≡ text_of (lexeme_of token.now)) }

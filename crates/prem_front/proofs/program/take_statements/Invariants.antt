@@ -1,4 +1,5 @@
-use Rattle.std.proofs.Common.{◌≡◌, ◌≤◌, ◌-◌, List, drop, length, map}
+use Rattle.std.proofs.Common.{◌≡◌, ◌≤◌, List, map}
+use Rattle.std.specs.Vec.Iter.{into_iter_items, into_iter_len}
 use Rattle.prem_syntax.specs.Syntax.{ItemText}
 use Rattle.prem_syntax.specs.SyntaxOf.{function_of}
 use Rattle.prem_text.specs.Lexing.Token.Lexeme.{seen_of}
@@ -8,13 +9,12 @@ use Rattle.prem_reader.specs.Statement.PointOf.{point_of}
 use Rattle.prem_front.proofs.program.take_statements.Given as goal
 
 -- what is left reads as all does
-abbrev pub invariant-loop-next : goal.invariant-loop-next
-invariant-loop-next l = record {
-  reads : (items : List ItemText) → read_on items (in_statements (function_of l.function) (point_of l.initial.point)) (map seen_of (drop l.from l.all))
-      ≡ read_on items (in_statements (function_of l.function) (point_of l.point)) (map seen_of (drop l.next l.all));
-  behind : l.from ≤ l.next;
-  within : l.next ≤ length l.all;
+abbrev pub invariant-loop-spotted : goal.invariant-loop-spotted
+invariant-loop-spotted l = record {
+  reads : (items : List ItemText) → read_on items (in_statements (function_of l.function) (point_of l.initial.point)) (map seen_of (into_iter_items l.initial.tokens))
+      ≡ read_on items (in_statements (function_of l.function) (point_of l.point)) (map seen_of (into_iter_items l.tokens));
+  less : into_iter_len l.tokens ≤ into_iter_len l.initial.tokens;
 }
 
-abbrev pub decreases-loop-next : goal.decreases-loop-next
-decreases-loop-next l = length l.all - l.next
+abbrev pub decreases-loop-spotted : goal.decreases-loop-spotted
+decreases-loop-spotted l = into_iter_len l.tokens
