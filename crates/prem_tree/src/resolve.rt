@@ -7,4 +7,4 @@ pub use prem_syntax::Meaning;
 pub use program::{
     binary_kind, functions_of, kind_of, operand_kind, promoted, resolve, resolve_term,
 };
-pub use resolved::{Resolved, Routine, Step, Term};
+pub use resolved::{Operands, Resolved, Routine, Step, Term};

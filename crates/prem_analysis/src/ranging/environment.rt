@@ -168,34 +168,33 @@ pub fn refine(b: bool, env: &mut [Known], term: &Term)
         } => refine(!b, env, operand),
         Term::Binary {
             op: BinOp::AndAlso,
-            left,
-            right,
+            operands,
             ..
         } => {
             if b {
-                refine(true, env, left);
-                refine(true, env, right);
+                refine(true, env, &operands.left);
+                refine(true, env, &operands.right);
             }
         }
         Term::Binary {
             op: BinOp::OrElse,
-            left,
-            right,
+            operands,
             ..
         } => {
             if !b {
-                refine(false, env, left);
-                refine(false, env, right);
+                refine(false, env, &operands.left);
+                refine(false, env, &operands.right);
             }
         }
-        Term::Binary {
-            op,
-            left,
-            right,
-            ..
-        } => {
-            let e = range_of(env, right);
-            cut_by(env, true_operator(b, *op), left, kind_of(right), e);
+        Term::Binary { op, operands, .. } => {
+            let e = range_of(env, &operands.right);
+            cut_by(
+                env,
+                true_operator(b, *op),
+                &operands.left,
+                kind_of(&operands.right),
+                e,
+            );
         }
         _ => {}
     }

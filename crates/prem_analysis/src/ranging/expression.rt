@@ -59,14 +59,13 @@ pub fn range_of(env: &[Known], term: &Term) -> Range
         Term::Binary {
             op,
             kind,
-            left,
-            right,
+            operands,
             ..
         } => operator(
             *op,
             *kind,
-            convert(*kind, range_of(env, left)),
-            convert(*kind, range_of(env, right)),
+            convert(*kind, range_of(env, &operands.left)),
+            convert(*kind, range_of(env, &operands.right)),
         ),
     }
 }
@@ -167,14 +166,13 @@ pub fn look_at(
             at,
             op,
             kind,
-            left,
-            right,
+            operands,
         } => {
-            let first = look_at(alloc, site, env, left)?;
+            let first = look_at(alloc, site, env, &operands.left)?;
             match shortcut(*op) {
                 Some(b) => {
-                    let saves = refine_saved(alloc, b, env, left)?;
-                    let second = look_at(alloc, site, env, right)?;
+                    let saves = refine_saved(alloc, b, env, &operands.left)?;
+                    let second = look_at(alloc, site, env, &operands.right)?;
                     restore(env, &saves);
                     Ok(Looked {
                         range: truths(),
@@ -182,7 +180,7 @@ pub fn look_at(
                     })
                 }
                 None => {
-                    let second = look_at(alloc, site, env, right)?;
+                    let second = look_at(alloc, site, env, &operands.right)?;
                     Ok(Looked {
                         range: operator_range(*op, *kind, first.range, second.range),
                         found: either_side(*at, *op, *kind, first, second),

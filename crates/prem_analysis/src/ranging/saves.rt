@@ -33,9 +33,9 @@ pub fn add_named(locals: &mut Vec<usize>, term: &Term) -> Result<(), AllocError>
             Ok(())
         }
         Term::Unary { operand, .. } => add_named(locals, operand),
-        Term::Binary { left, right, .. } => {
-            add_named(locals, left)?;
-            add_named(locals, right)?;
+        Term::Binary { operands, .. } => {
+            add_named(locals, &operands.left)?;
+            add_named(locals, &operands.right)?;
             Ok(())
         }
         Term::Constant { .. } | Term::Scalar { .. } | Term::Element { .. } => Ok(()),

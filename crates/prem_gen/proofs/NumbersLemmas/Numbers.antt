@@ -137,7 +137,7 @@ tree_small (LocalTree at number kind) h = h
 tree_small (ScalarTree at g ty) h = h
 tree_small (ElementTree at g ty p index) h = (h.0, tree_small index h.1)
 tree_small (UnaryTree at op p operand) h = tree_small operand h
-tree_small (BinaryTree at op kind p left q right) h =
+tree_small (BinaryTree at op kind p left right) h =
     let both = sides_small at op kind (term_of left) (term_of right) h in (tree_small left both.0, tree_small right both.1)
 
 pub resolved_are_small : ResolvedAreSmall

@@ -17,4 +17,4 @@ HasSmall (Local at number kind) = IsSmall number
 HasSmall (Scalar at g ty) = IsSmall g
 HasSmall (Element' at g ty p index) = IsSmall g × HasSmall index
 HasSmall (Unary' at op p operand) = HasSmall operand
-HasSmall (Binary' at op kind p left q right) = HasSmall left × HasSmall right
+HasSmall (Binary' at op kind p left right) = HasSmall left × HasSmall right

@@ -27,7 +27,7 @@ fn first_place(term: &Term) -> Place
     ensures { result ≡ first_place (term_of term.now) }
 {
     match term {
-        Term::Binary { left, .. } => first_place(left),
+        Term::Binary { operands, .. } => first_place(&operands.left),
         Term::Constant { at, .. }
         | Term::Local { at, .. }
         | Term::Scalar { at, .. }
@@ -48,18 +48,13 @@ pub fn too_deep(term: &Term, r: u8) -> Option<Place>
         Term::Constant { .. } | Term::Local { .. } | Term::Scalar { .. } => None,
         Term::Element { index, .. } => too_deep(index, r),
         Term::Unary { operand, .. } => too_deep(operand, r),
-        Term::Binary {
-            op,
-            left,
-            right,
-            ..
-        } => {
-            if let Some(at) = too_deep(left, r) {
+        Term::Binary { op, operands, .. } => {
+            if let Some(at) = too_deep(&operands.left, r) {
                 return Some(at);
             }
             match op {
-                BinOp::AndAlso | BinOp::OrElse => too_deep(right, r),
-                _ => too_deep(right, r + 1),
+                BinOp::AndAlso | BinOp::OrElse => too_deep(&operands.right, r),
+                _ => too_deep(&operands.right, r + 1),
             }
         }
     }
@@ -145,34 +140,31 @@ pub fn put_term(
         }
         Term::Binary {
             op: BinOp::AndAlso,
-            left,
-            right,
+            operands,
             ..
         } => {
-            put_term(left, alloc, target, first, pieces, r)?;
-            let taken = truth_of(right, alloc, target, first, r)?;
+            put_term(&operands.left, alloc, target, first, pieces, r)?;
+            let taken = truth_of(&operands.right, alloc, target, first, r)?;
             put_choice(pieces, nonzero(r), taken, Sequence::new(alloc))?
         }
         Term::Binary {
             op: BinOp::OrElse,
-            left,
-            right,
+            operands,
             ..
         } => {
-            put_term(left, alloc, target, first, pieces, r)?;
-            let other = truth_of(right, alloc, target, first, r)?;
+            put_term(&operands.left, alloc, target, first, pieces, r)?;
+            let other = truth_of(&operands.right, alloc, target, first, r)?;
             let taken = code_alone(alloc, &[op_imm(AluOp::Add, r, 0, 1)])?;
             put_choice(pieces, nonzero(r), taken, other)?
         }
         Term::Binary {
             op,
             kind,
-            left,
-            right,
+            operands,
             ..
         } => {
-            put_term(left, alloc, target, first, pieces, r)?;
-            put_term(right, alloc, target, first, pieces, r + 1)?;
+            put_term(&operands.left, alloc, target, first, pieces, r)?;
+            put_term(&operands.right, alloc, target, first, pieces, r + 1)?;
             put_binary(alloc, pieces, target, *op, *kind, r, r + 1)?
         }
     }

@@ -19,7 +19,7 @@ term_of (LocalTree at number kind) = Local at number kind
 term_of (ScalarTree at g ty) = Scalar at g ty
 term_of (ElementTree at g ty p index) = Element at g ty (term_of index)
 term_of (UnaryTree at op p operand) = Unary at op (term_of operand)
-term_of (BinaryTree at op kind p left q right) = operator at op kind (term_of left) (term_of right)
+term_of (BinaryTree at op kind p left right) = operator at op kind (term_of left) (term_of right)
 
 -- the counting loops of a step
 abbrev mutual

@@ -12,7 +12,7 @@ ghost use Rattle.prem_names.specs.Scopes.{scope_of, with_locals, SameItems};
 ghost use Rattle.prem_tree.specs.Resolve.NamesOf.{AreBehind};
 ghost use Rattle.prem_tree.specs.Resolve.ResolvedOf.{term_of, IsStep, AreSteps, IsRoutine, IsResolved};
 
-use crate::resolve::resolved::{Resolved, Routine, Step, Term};
+use crate::resolve::resolved::{Operands, Resolved, Routine, Step, Term};
 use prem_list::Sequence;
 use prem_names::Names;
 use prem_syntax::{
@@ -131,8 +131,7 @@ fn binary(alloc: Global, at: Place, op: BinOp, left: Term, right: Term) -> Resul
         at,
         op,
         kind,
-        left: Box::new(alloc, left)?,
-        right: Box::new(alloc, right)?,
+        operands: Box::new(alloc, Operands { left, right })?,
     })
 }
 

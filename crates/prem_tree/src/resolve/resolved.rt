@@ -7,6 +7,7 @@ use prem_word::{BinOp, Kind};
 ///
 /// Parameters and locals are numbered together from 0, globals in the order of the text.
 #[derive(Drop)]
+#[cycle(terms)]
 pub enum Term {
     Constant {
         at: Place,
@@ -39,9 +40,16 @@ pub enum Term {
         at: Place,
         op: BinOp,
         kind: Kind,
-        left: Box<Term>,
-        right: Box<Term>,
+        operands: Box<Operands>,
     },
+}
+
+/// The operands of an operator, which stand beside each other in memory.
+#[derive(Drop)]
+#[cycle(terms)]
+pub struct Operands {
+    pub left: Term,
+    pub right: Term,
 }
 
 /// A statement, with its names resolved.

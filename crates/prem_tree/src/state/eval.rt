@@ -65,35 +65,32 @@ pub fn eval(globals: &[Vec<u32>], locals: &[u32], term: &Term) -> Result<u32, Li
         Term::Unary { op, operand, .. } => Ok(unary_word(*op, eval(globals, locals, operand)?)),
         Term::Binary {
             op: BinOp::AndAlso,
-            left,
-            right,
+            operands,
             ..
         } => {
-            if eval(globals, locals, left)? == 0 {
+            if eval(globals, locals, &operands.left)? == 0 {
                 return Ok(0);
             }
-            Ok(u32::from(eval(globals, locals, right)? != 0))
+            Ok(u32::from(eval(globals, locals, &operands.right)? != 0))
         }
         Term::Binary {
             op: BinOp::OrElse,
-            left,
-            right,
+            operands,
             ..
         } => {
-            if eval(globals, locals, left)? != 0 {
+            if eval(globals, locals, &operands.left)? != 0 {
                 return Ok(1);
             }
-            Ok(u32::from(eval(globals, locals, right)? != 0))
+            Ok(u32::from(eval(globals, locals, &operands.right)? != 0))
         }
         Term::Binary {
             at,
             op,
             kind,
-            left,
-            right,
+            operands,
         } => {
-            let a = eval(globals, locals, left)?;
-            let b = eval(globals, locals, right)?;
+            let a = eval(globals, locals, &operands.left)?;
+            let b = eval(globals, locals, &operands.right)?;
             operate(at.line, *op, *kind, a, b)
         }
     }
