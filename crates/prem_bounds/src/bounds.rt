@@ -25,14 +25,20 @@ pub fn stub_costs(table: &CodeTable) -> [u64; 256]
     requires { IsTable table.now }
     ensures { Tells 256 result (stub_weight cost_of (length (table_of table.now).code) (table_of table.now).stubs (costs_of (table_of table.now))) }
 {
+    let stubs = table.stubs.items();
+    if stubs.is_empty() {
+        // nothing asks for what functions cost
+        return [0; 256];
+    }
+    let code = table.code.items();
     let scale = Scale {
         access: 0,
         other: 0,
-        count: table.code.items().len() as u32,
+        count: code.len() as u32,
         functions: costs(table),
         stubs: [0; 256],
     };
-    weights_listed(table.stubs.items(), &scale)
+    weights_listed(stubs, &scale)
 }
 
 /// The bound of the marked function that has the stub number k, and touches so many lines, by what the stubs of a task's code cost.
