@@ -1,2 +1,3 @@
 pub mod SlotOf
 pub mod PointOf
+pub mod Goings

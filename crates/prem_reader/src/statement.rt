@@ -1,13 +1,15 @@
 //! The reader of statements: one token after the other, without recursion over the text.
 mod change;
+mod inside;
 mod nesting;
 mod point;
 mod reader;
 mod row;
 mod slot;
 
+pub use inside::{behind, go_on};
 pub use nesting::is_past;
-pub use point::{Around, Header, Point, Purpose, Reading, Row, Turn, boxed};
+pub use point::{Around, Going, Header, Point, Purpose, Reading, Row, Turn, boxed};
 pub use reader::turn;
 pub use row::{name_at, place_at, value_at};
 pub use slot::{

@@ -4,8 +4,8 @@ ghost use Rattle.prem_list.specs.Sequence.{items_of};
 ghost use Rattle.prem_syntax.specs.Syntax.{block, if_then, if_else, bounded_while, counting_for};
 ghost use Rattle.prem_syntax.specs.SyntaxOf.{expression_of, loop_names_of, statement_of};
 ghost use Rattle.prem_text.specs.Lexing.Token.Lexeme.{seen_of};
-ghost use Rattle.prem_text.specs.Grammar.Statement.{listed, ended, settled, nests, has_begun_block, begins_row, is_past};
-ghost use Rattle.prem_reader.specs.Statement.PointOf.{around_of, row_of, point_of};
+ghost use Rattle.prem_text.specs.Grammar.Statement.{listed, on, ended, settled, nests, has_begun_block, begins_row, is_past};
+ghost use Rattle.prem_reader.specs.Statement.PointOf.{around_of, row_of, point_of, taken_of};
 
 use crate::statement::point::{Around, Point, Row, boxed};
 use prem_list::Sequence;
@@ -207,6 +207,18 @@ fn settled(alloc: Global, around: Box<Around>, statement: Stmt) -> Result<Box<Ar
             settled(alloc, around, whole)
         }
     }
+}
+
+/// A statement has ended.
+pub(crate) fn statement_ends(
+    alloc: Global,
+    around: Box<Around>,
+    statement: Stmt,
+) -> Result<Option<Point>, AllocError>
+    ensures { IfOk result (λ p. taken_of p ≡ on (ended (statement_of statement) (around_of around.value))) }
+{
+    let point = ended(alloc, around, statement)?;
+    Ok(Some(point))
 }
 
 /// An `if` has ended without an `else`.

@@ -148,6 +148,17 @@ pub struct Reading {
     pub room: u32,
 }
 
+/// What a token is to an expression that is read.
+#[derive(Drop)]
+pub enum Going {
+    /// One of its tokens.
+    On,
+    /// The first one behind it. Where that is `(`, `callee` is the name that is all of the expression.
+    Ends { value: Expr, callee: Option<Name> },
+    /// No expression has it here; `first` tells whether it would have been the first one.
+    Stops { first: bool },
+}
+
 /// Where the reader of statements stands.
 #[derive(Drop)]
 pub enum Point {

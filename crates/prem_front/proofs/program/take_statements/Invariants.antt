@@ -9,12 +9,12 @@ use Rattle.prem_reader.specs.Statement.PointOf.{point_of}
 use Rattle.prem_front.proofs.program.take_statements.Given as goal
 
 -- what is left reads as all does
-abbrev pub invariant-loop-spotted : goal.invariant-loop-spotted
-invariant-loop-spotted l = record {
+abbrev pub invariant-tokens : goal.invariant-tokens
+invariant-tokens l = record {
   reads : (items : List ItemText) → read_on items (in_statements (function_of l.function) (point_of l.initial.point)) (map seen_of (into_iter_items l.initial.tokens))
       ≡ read_on items (in_statements (function_of l.function) (point_of l.point)) (map seen_of (into_iter_items l.tokens));
   less : into_iter_len l.tokens ≤ into_iter_len l.initial.tokens;
 }
 
-abbrev pub decreases-loop-spotted : goal.decreases-loop-spotted
-decreases-loop-spotted l = into_iter_len l.tokens
+abbrev pub decreases-tokens : goal.decreases-tokens
+decreases-tokens l = into_iter_len l.tokens

@@ -1,8 +1,7 @@
 use Rattle.std.proofs.Common.{ap, sym, ◌++◌, ◌∷◌, [], ◌∙◌, refl, arith}
-use Rattle.prem_syntax.specs.Syntax.{Expression, unary, binary}
+use Rattle.prem_syntax.specs.Syntax.{unary, binary}
 use Rattle.prem_syntax.specs.SyntaxOf.{expression_of}
 use Rattle.prem_text.specs.Grammar.Expression.{bind, bottom}
-use Rattle.prem_reader.specs.declared.expression.open.Open.{Open as CodeOpen}
 use Rattle.prem_reader.specs.declared.expression.open.Open.TheVariants as code
 use Rattle.prem_reader.specs.Expression.StateOf.{open_in, open_of}
 use Rattle.prem_reader.proofs.ExpressionLemmas.Opened.{bind_innermost, bind_looser, bind_operator, bind_stops}
