@@ -1,4 +1,4 @@
-//! Tokens that are moved out of where they stand, so that a name is never copied.
+//! Tokens that are moved out of where they stand: what a tree or a row keeps of them is no copy.
 ghost use Rattle.std.specs.Prelude.{◌≡◌, None};
 ghost use Rattle.std.specs.Option.{option_map};
 ghost use Rattle.prem_syntax.specs.Name.{name_bytes};
