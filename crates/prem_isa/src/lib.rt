@@ -22,4 +22,6 @@ pub use execution::execute;
 pub use instr::{AluOp, BranchOp, Instr, LoadOp, MulDivOp, StoreOp};
 pub use laws::{instructions_keep_bounds, instructions_read_their_bytes, runs_compose_and_fit};
 pub use registers::{first_registers, set_register};
-pub use step::{Upshot, step_word, upshot_of};
+pub use step::{
+    Moving, Upshot, loading_of, moving_of, putting_of, step_word, storing_of, upshot_of,
+};

@@ -1,10 +1,12 @@
 // What a word does: decoded and executed at once.
 
-ghost use Rattle.std.specs.Prelude.{◌≡◌, ℕ, ◌≤◌, ◌<◌, ◌+◌, ◌*◌, ◌^◌, slice_index, option_map};
+ghost use Rattle.std.specs.Prelude.{◌≡◌, ℕ, ◌≤◌, ◌<◌, ◌+◌, ◌*◌, ◌^◌, IfSome, slice_index, option_map};
+ghost use Rattle.prem_isa.specs.declared.step.Moving.{Moving};
+ghost use Rattle.prem_isa.specs.declared.step.Upshot.TheVariants.{Loads, Moves, Puts, Stores};
 ghost use Rattle.prem_plant.specs.declared.plant.Target.{Target};
 ghost use Rattle.prem_isa.specs.declared.instr.Instr.TheVariants.{Branch, Load, Store, MulDiv};
 ghost use Rattle.prem_isa.specs.declared.effect.Phase.{Phase};
-ghost use Rattle.prem_isa.specs.Fields.{FieldsFit, fields_of, signed, imm_b, imm_i, imm_s, imm_u};
+ghost use Rattle.prem_isa.specs.Fields.{FieldsFit, fields_of, signed, imm_b, imm_i, imm_j, imm_s, imm_u};
 ghost use Rattle.prem_isa.specs.Codes.{branch_op, load_op, store_op, low_op, muldiv_op};
 ghost use Rattle.prem_isa.specs.Decode.{op_imm, operation, system, custom, instr_of, decode_of};
 ghost use Rattle.prem_isa.specs.Alu.{word_of_int, load_size, store_size};
@@ -12,8 +14,7 @@ ghost use Rattle.prem_isa.specs.Act.{sets, jumps, in_phase};
 ghost use Rattle.prem_isa.specs.Bounds.{IsPlaced};
 ghost use Rattle.prem_isa.specs.Step.{act_of, told_by, UpshotFits, registers_moved, pc_moved};
 
-use crate::alu::offset_by;
-use crate::effect::{Cause, Phase};
+use crate::effect::{Cause, DataLoad, Phase, Stored};
 use crate::execution::misplaced;
 use crate::fields::Fields;
 use crate::instr::{AluOp, BranchOp, LoadOp, MulDivOp, StoreOp};
@@ -131,14 +132,14 @@ fn by_opcode(
     match f.opcode {
         0b0110111 => moved(next, rd, upper(word, f)),
         0b0010111 => moved(next, rd, pc.wrapping_add(upper(word, f))),
-        0b1101111 => jumped(offset_by(pc, f.j_immediate()), rd, next),
+        0b1101111 => jumped(pc.wrapping_add(jump_offset(word, f)), rd, next),
         0b1100111 if f.funct3 == 0 => {
             let place = registers[f.rs1 as usize].wrapping_add(constant(word, f));
             jumped(place / 2 * 2, rd, next)
         }
-        0b1100011 => branched(registers, pc, f),
+        0b1100011 => branched(registers, pc, word, f),
         0b0000011 => loading(size, registers, pc, f, constant(word, f)),
-        0b0100011 => storing(size, registers, pc, f),
+        0b0100011 => storing(size, registers, pc, word, f),
         0b0010011 => with_constant(registers, next, f, constant(word, f)),
         0b0110011 => with_registers(target, registers, next, f),
         0b0001111 if f.funct3 == 0 => moved(next, 0, 0),
@@ -166,6 +167,36 @@ fn upper(word: u32, f: Fields) -> u32
     word >> 12 << 12
 }
 
+/// The offset of the format B as a word, at once from the word of these fields.
+#[inline(always)]
+fn branch_offset(word: u32, f: Fields) -> u32
+    requires { f ≡ fields_of word }
+    ensures { result ≡ word_of_int (signed (2 ^ 12) (imm_b f)) }
+{
+    let low = (word >> 7) % 32 / 2 * 2 + (word >> 25) % 64 * 32 + (word >> 7) % 2 * 2048;
+    low.wrapping_sub((word >> 31) * 4096)
+}
+
+/// The offset of the format J as a word, at once from the word of these fields.
+#[inline(always)]
+fn jump_offset(word: u32, f: Fields) -> u32
+    requires { f ≡ fields_of word }
+    ensures { result ≡ word_of_int (signed (2 ^ 20) (imm_j f)) }
+{
+    let low = (word >> 20) % 2048 / 2 * 2 + (word >> 20) % 2 * 2048 + (word >> 12) % 256 * 4096;
+    low.wrapping_sub((word >> 31) * 1048576)
+}
+
+/// The offset of the format S as a word, at once from the word of these fields.
+#[inline(always)]
+fn store_offset(word: u32, f: Fields) -> u32
+    requires { f ≡ fields_of word }
+    ensures { result ≡ word_of_int (signed (2 ^ 11) (imm_s f)) }
+{
+    let low = (word >> 7) % 32 + (word >> 25) % 64 * 32;
+    low.wrapping_sub((word >> 31) * 2048)
+}
+
 #[inline(always)]
 fn moved(next: u32, rd: u8, value: u32) -> Upshot
     requires { rd < 32 }
@@ -189,8 +220,9 @@ fn jumped(target: u32, rd: u8, value: u32) -> Upshot
 }
 
 #[inline(always)]
-fn branched(registers: &[u32; 32], pc: u32, f: Fields) -> Upshot
+fn branched(registers: &[u32; 32], pc: u32, word: u32, f: Fields) -> Upshot
     requires fields { FieldsFit f }
+    requires same { f ≡ fields_of word }
     requires place { pc + 4 < 2 ^ 32 }
     ensures outcome { (target : Target) (size : ℕ) (view : ℕ → ℕ) (phase : Phase) (input : ℕ) → told_by view pc input result
         ≡ act_of target size view (slice_index registers.now) pc phase input
@@ -201,7 +233,7 @@ fn branched(registers: &[u32; 32], pc: u32, f: Fields) -> Upshot
         return Upshot::Traps(Cause::Decode);
     };
     if op.holds(registers[f.rs1 as usize], registers[f.rs2 as usize]) {
-        jumped(offset_by(pc, f.b_immediate()), 0, 0)
+        jumped(pc.wrapping_add(branch_offset(word, f)), 0, 0)
     } else {
         moved(pc + 4, 0, 0)
     }
@@ -233,8 +265,9 @@ fn loading(size: u32, registers: &[u32; 32], pc: u32, f: Fields, imm: u32) -> Up
 }
 
 #[inline(always)]
-fn storing(size: u32, registers: &[u32; 32], pc: u32, f: Fields) -> Upshot
+fn storing(size: u32, registers: &[u32; 32], pc: u32, word: u32, f: Fields) -> Upshot
     requires fields { FieldsFit f }
+    requires same { f ≡ fields_of word }
     requires place { pc + 4 < 2 ^ 32 }
     ensures outcome { (target : Target) (view : ℕ → ℕ) (phase : Phase) (input : ℕ) → told_by view pc input result
         ≡ act_of target size view (slice_index registers.now) pc phase input
@@ -244,7 +277,7 @@ fn storing(size: u32, registers: &[u32; 32], pc: u32, f: Fields) -> Upshot
     let Some(op) = StoreOp::from_funct3(f.funct3) else {
         return Upshot::Traps(Cause::Decode);
     };
-    let address = offset_by(registers[f.rs1 as usize], f.s_immediate());
+    let address = registers[f.rs1 as usize].wrapping_add(store_offset(word, f));
     let bytes = op.size();
     match misplaced(size, address, bytes) {
         Some(cause) => Upshot::Traps(cause),
@@ -331,6 +364,7 @@ fn called(f: Fields) -> Upshot
     }
 }
 
+#[inline(always)]
 fn marked(registers: &[u32; 32], phase: Phase, f: Fields) -> Upshot
     requires { FieldsFit f }
     ensures outcome { (target : Target) (size : ℕ) (view : ℕ → ℕ) (pc : ℕ) (input : ℕ) → told_by view pc input result
@@ -368,5 +402,194 @@ fn in_phase(lawful: Phase, phase: Phase, upshot: Upshot) -> Upshot
         upshot
     } else {
         Upshot::Traps(Cause::Phase)
+    }
+}
+
+/// An instruction that only writes a register, of which 0 writes nothing, and goes on.
+#[derive(Clone, Copy, PartialEq, Eq, Debug)]
+pub struct Moving {
+    pub rd: u8,
+    pub value: u32,
+    pub next: u32,
+}
+
+/// The upshot of a word, as one.
+#[inline(always)]
+fn as_moving(
+    target: Target,
+    registers: &[u32; 32],
+    pc: u32,
+    word: u32,
+    upshot: Upshot,
+) -> Option<Moving>
+    requires outcome { (size : ℕ) (view : ℕ → ℕ) (phase : Phase) (input : ℕ) → (m : Moving) → upshot ≡ Moves m.rd m.value m.next
+        → told_by view pc input upshot ≡ act_of target size view (slice_index registers.now) pc phase input (decode_of word) }
+    requires fit { (size : ℕ) → UpshotFits size upshot }
+    ensures outcome { IfSome result (λ m. (size : ℕ) (view : ℕ → ℕ) (phase : Phase) (input : ℕ) → told_by view pc input (Moves m.rd m.value m.next)
+        ≡ act_of target size view (slice_index registers.now) pc phase input (decode_of word)) }
+    ensures fit { IfSome result (λ m. m.rd < 32) }
+{
+    match upshot {
+        Upshot::Moves { rd, value, next } => Some(Moving { rd, value, next }),
+        _ => None,
+    }
+}
+
+/// The opcode of a word.
+#[inline(always)]
+fn opcode_of(word: u32) -> u32
+    ensures code { result ≡ (fields_of word).opcode }
+{
+    word & 0x7f
+}
+
+/// What a word comes to, if it only writes a register and goes on: as `upshot_of`, with the fields of each opcode alone.
+#[inline(always)]
+pub fn moving_of(target: Target, registers: &[u32; 32], pc: u32, word: u32) -> Option<Moving>
+    requires place { pc + 4 < 2 ^ 32 }
+    ensures outcome { IfSome result (λ m. (size : ℕ) (view : ℕ → ℕ) (phase : Phase) (input : ℕ) → told_by view pc input (Moves m.rd m.value m.next)
+        ≡ act_of target size view (slice_index registers.now) pc phase input (decode_of word)) }
+    ensures fit { IfSome result (λ m. m.rd < 32) }
+{
+    let next = pc + 4;
+    match opcode_of(word) {
+        0b0110111 => {
+            let f = Fields::of(word);
+            as_moving(
+                target,
+                registers,
+                pc,
+                word,
+                moved(next, f.rd as u8, upper(word, f)),
+            )
+        }
+        0b0010111 => {
+            let f = Fields::of(word);
+            as_moving(
+                target,
+                registers,
+                pc,
+                word,
+                moved(next, f.rd as u8, pc.wrapping_add(upper(word, f))),
+            )
+        }
+        0b1101111 => {
+            let f = Fields::of(word);
+            let place = pc.wrapping_add(jump_offset(word, f));
+            as_moving(target, registers, pc, word, jumped(place, f.rd as u8, next))
+        }
+        0b1100111 => {
+            let f = Fields::of(word);
+            if f.funct3 != 0 {
+                return None;
+            }
+            let place = registers[f.rs1 as usize].wrapping_add(constant(word, f));
+            as_moving(
+                target,
+                registers,
+                pc,
+                word,
+                jumped(place / 2 * 2, f.rd as u8, next),
+            )
+        }
+        0b1100011 => {
+            let f = Fields::of(word);
+            as_moving(
+                target,
+                registers,
+                pc,
+                word,
+                branched(registers, pc, word, f),
+            )
+        }
+        0b0010011 => {
+            let f = Fields::of(word);
+            as_moving(
+                target,
+                registers,
+                pc,
+                word,
+                with_constant(registers, next, f, constant(word, f)),
+            )
+        }
+        0b0110011 => {
+            let f = Fields::of(word);
+            as_moving(
+                target,
+                registers,
+                pc,
+                word,
+                with_registers(target, registers, next, f),
+            )
+        }
+        _ => None,
+    }
+}
+
+/// What a word comes to, if it loads.
+#[inline(always)]
+pub fn loading_of(size: u32, registers: &[u32; 32], pc: u32, word: u32) -> Option<DataLoad>
+    requires place { pc + 4 < 2 ^ 32 }
+    ensures outcome { IfSome result (λ l. (target : Target) (view : ℕ → ℕ) (phase : Phase) (input : ℕ) →
+        told_by view pc input (Loads l.op l.rd l.address l.next) ≡ act_of target size view (slice_index registers.now) pc phase input (decode_of word)) }
+    ensures fit { IfSome result (λ l. UpshotFits size (Loads l.op l.rd l.address l.next)) }
+{
+    if opcode_of(word) != 0b0000011 {
+        return None;
+    }
+    let f = Fields::of(word);
+    match loading(size, registers, pc, f, constant(word, f)) {
+        Upshot::Loads {
+            op,
+            rd,
+            address,
+            next,
+        } => Some(DataLoad {
+            op,
+            rd,
+            address,
+            next,
+        }),
+        _ => None,
+    }
+}
+
+/// What a word comes to, if it stores.
+#[inline(always)]
+pub fn storing_of(size: u32, registers: &[u32; 32], pc: u32, word: u32) -> Option<Stored>
+    requires place { pc + 4 < 2 ^ 32 }
+    ensures outcome { IfSome result (λ s. (target : Target) (view : ℕ → ℕ) (phase : Phase) (input : ℕ) →
+        told_by view pc input (Stores s.address s.size s.value) ≡ act_of target size view (slice_index registers.now) pc phase input (decode_of word)) }
+    ensures fit { IfSome result (λ s. UpshotFits size (Stores s.address s.size s.value)) }
+{
+    if opcode_of(word) != 0b0100011 {
+        return None;
+    }
+    match storing(size, registers, pc, word, Fields::of(word)) {
+        Upshot::Stores {
+            address,
+            size,
+            value,
+        } => Some(Stored {
+            address,
+            size,
+            value,
+        }),
+        _ => None,
+    }
+}
+
+/// The word that a word puts out, if it puts one out.
+#[inline(always)]
+pub fn putting_of(registers: &[u32; 32], phase: Phase, word: u32) -> Option<u32>
+    ensures outcome { IfSome result (λ out. (target : Target) (size : ℕ) (view : ℕ → ℕ) (pc : ℕ) (input : ℕ) →
+        told_by view pc input (Puts out) ≡ act_of target size view (slice_index registers.now) pc phase input (decode_of word)) }
+{
+    if opcode_of(word) != 0b0001011 {
+        return None;
+    }
+    match marked(registers, phase, Fields::of(word)) {
+        Upshot::Puts { word } => Some(word),
+        _ => None,
     }
 }

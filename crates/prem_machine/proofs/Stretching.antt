@@ -32,10 +32,12 @@ use Rattle.prem_machine.specs.Moment.{ModeReady, core_with}
 use Rattle.prem_machine.specs.Owed.{bus_cycles}
 use Rattle.prem_machine.specs.Parts.{Runs, Stands, state_of}
 use Rattle.prem_machine.specs.Plain.{GoesOn, IsKept}
+use Rattle.prem_machine.specs.Silent.{AreSilent}
 use Rattle.prem_machine.specs.Stretch.{IsLone}
 use Rattle.prem_machine.specs.Work.{setup_in, with_counts, work_in}
 use Rattle.prem_machine.proofs.Advancing.{few_kept, rooms_kept, rooms_left, same_state, ticked_went}
 use Rattle.prem_machine.proofs.Lonely.{as_lone, lone_cycles, lone_state}
+use Rattle.prem_machine.proofs.Silence.{silent_none, silent_then}
 use Rattle.prem_machine.proofs.Resting.{arrived_after, counts_more, mode_after, unclashed}
 use Rattle.prem_machine.proofs.Telling.{cores_told, full_told}
 
@@ -43,7 +45,7 @@ use Rattle.prem_machine.proofs.Telling.{cores_told, full_told}
 abbrev pub behind : {P : Type 0} → Parts P → Works P → Facts → ℕ → Moment → CoreParts → Parts P
 behind x w f now m c = record x { work = w; facts = f; now = now; moment = m; core = c }
 
-kept_stands : {P : Type 0} (p : Setting) (requests : List Request) (x : Parts P) (w : Works P) (f : Facts) (now : ℕ) →
+pub kept_stands : {P : Type 0} (p : Setting) (requests : List Request) (x : Parts P) (w : Works P) (f : Facts) (now : ℕ) →
     Stands p requests x → IsKept x.work x.facts w f → Stands p requests (behind x w f now x.moment x.core)
 kept_stands p requests x w f now s k =
     let A : ℕ → Type 0 = λ n. All (LiesIn x.gates.line n) x.gates.gates in
@@ -92,18 +94,18 @@ pub has_room : {P : Type 0} (p : Setting) (requests : List Request) (x : Parts P
     length (items_of x.facts.intervals) < log_size → is_full (state_of x) ≡ false
 has_room p requests x s few less = sym (full_told p requests x s) ∙ not_full (put_out (items_of x.facts.tasks)) (length (items_of x.facts.intervals)) few less
 
-goes_lone : {P : Type 0} (requests : List Request) (x : Parts P) (task until : ℕ) → IsLone task until requests (state_of x) → x.trapped ≡ None → is_full (state_of x) ≡ false →
+pub goes_lone : {P : Type 0} (requests : List Request) (x : Parts P) (task until : ℕ) → IsLone task until requests (state_of x) → x.trapped ≡ None → is_full (state_of x) ≡ false →
     is_over (state_of x) ≡ false
 goes_lone requests x task until h none full = ap is_over (as_lone task until requests (state_of x) h none) ∙ full
 
-as_state : (task until : ℕ) (requests : List Request) (s t : MachineState) → IsLone task until requests s → s.trapped ≡ None → t.sched ≡ s.sched → t.core ≡ s.core → t.gates ≡ s.gates →
+pub as_state : (task until : ℕ) (requests : List Request) (s t : MachineState) → IsLone task until requests s → s.trapped ≡ None → t.sched ≡ s.sched → t.core ≡ s.core → t.gates ≡ s.gates →
     t.log ≡ record s.log { counts = t.log.counts } → t.trapped ≡ s.trapped → t ≡ lone_state task s t.work t.log.counts t.now 0
 as_state task until requests s t h none sched core gates log trapped =
     same_state t (lone_state task s t.work t.log.counts t.now 0) refl refl sched
     (core ∙ ap (λ (u : MachineState). u.core) (as_lone task until requests s h none)) gates log (trapped ∙ none)
 
 -- the turn of the core
-turn_of : {P : Type 0} (p : Setting) (x : Parts P) (w : Works P) (f : Facts) (task cost : ℕ) (touches : List LineTouch) (owed : List ℕ) →
+pub turn_of : {P : Type 0} (p : Setting) (x : Parts P) (w : Works P) (f : Facts) (task cost : ℕ) (touches : List LineTouch) (owed : List ℕ) →
     GoesOn p task x.work x.facts w f touches cost → owed_by p.plant touches ≡ owed →
     core_turn (rule_in (setup_in p)) (setup_in p) x.now (Issues task x.moment.interval) (state_of x).work (core_with x.core.debt x.moment) (counts_in x.facts)
     ≡ record {
@@ -223,6 +225,7 @@ unmoved x w f work facts = λ i. record x { work = work i; facts = facts i }
 -- so far, with room for so many words more
 pub record Follows {P : Type 0} (p : Setting) (requests : List Request) (task until : ℕ) (from x : Parts P) (left : ℕ) : Type 0 where
   pub state : state_of x ≡ cycles_of (rule_in (setup_in p)) (setup_in p) requests (x.now - from.now) (state_of from)
+  pub silent : AreSilent (rule_in (setup_in p)) (setup_in p) requests (x.now - from.now) (state_of from)
   pub stands : Stands p requests x
   pub runs : Runs x.now (4 * x.now) requests x
   pub begun : from.now ≤ x.now
@@ -242,6 +245,20 @@ follows_on rule p requests s t u a b c le more first then_ =
 pub stays : (rule : ReplacementRule) (p : Setup) (requests : List Request) (s : MachineState) (n : ℕ) → s ≡ cycles_of rule p requests (n - n) s
 unfolding cycles_of
 stays rule p requests s n = let z : 0 ≡ n - n = omega arith in ap (λ k. cycles_of rule p requests k s) z
+
+pub silent_on : (rule : ReplacementRule) (p : Setup) (requests : List Request) (s t : MachineState) (a b c : ℕ) → a ≤ b → b ≤ c →
+    t ≡ cycles_of rule p requests (b - a) s → AreSilent rule p requests (b - a) s → AreSilent rule p requests (c - b) t → AreSilent rule p requests (c - a) s
+silent_on rule p requests s t a b c le more is first then_ =
+    let e : b - a + (c - b) ≡ c - a = omega (arith, le, more) in
+    let N : ℕ → Type 0 = λ k. AreSilent rule p requests k s in
+    let S : MachineState → Type 0 = λ u. AreSilent rule p requests (c - b) u in
+    subst N e (silent_then rule p requests (b - a) (c - b) s first (subst S is then_))
+
+pub silent_stays : (rule : ReplacementRule) (p : Setup) (requests : List Request) (s : MachineState) (n : ℕ) → AreSilent rule p requests (n - n) s
+silent_stays rule p requests s n =
+    let z : 0 ≡ n - n = omega arith in
+    let N : ℕ → Type 0 = λ k. AreSilent rule p requests k s in
+    subst N z (silent_none rule p requests s)
 
 full_by : (finished trapped full : Bool) → (finished || trapped || full) ≡ false → full ≡ false
 full_by true trapped full h = absurd (cc)
@@ -269,6 +286,7 @@ pub follows_none : {P : Type 0} (p : Setting) (requests : List Request) (task un
 follows_none p requests task until x left stands runs going le h room =
     record {
       state = stays (rule_in (setup_in p)) (setup_in p) requests (state_of x) x.now;
+      silent = silent_stays (rule_in (setup_in p)) (setup_in p) requests (state_of x) x.now;
       stands = stands;
       runs = runs;
       begun = omega arith;
@@ -281,13 +299,15 @@ follows_none p requests task until x left stands runs going le h room =
 
 -- one more
 pub follows_one : {P : Type 0} (p : Setting) (requests : List Request) (task until : ℕ) (from x y : Parts P) (left : ℕ) → Follows p requests task until from x left → 1 ≤ left →
-    state_of y ≡ cycles_of (rule_in (setup_in p)) (setup_in p) requests (y.now - x.now) (state_of x) → Stands p requests y → Runs y.now (4 * y.now) requests y →
+    state_of y ≡ cycles_of (rule_in (setup_in p)) (setup_in p) requests (y.now - x.now) (state_of x) →
+    AreSilent (rule_in (setup_in p)) (setup_in p) requests (y.now - x.now) (state_of x) → Stands p requests y → Runs y.now (4 * y.now) requests y →
     x.now ≤ y.now → y.now ≤ until → y.trapped ≡ None → IsLone task until requests (state_of y) → put_out (items_of y.facts.tasks) ≤ put_out (items_of x.facts.tasks) + 1 →
     items_of y.facts.intervals ≡ items_of x.facts.intervals → Follows p requests task until from y (left - 1)
-follows_one p requests task until from x y left f some state stands runs later within trapped h put intervals =
+follows_one p requests task until from x y left f some state silent stands runs later within trapped h put intervals =
     let same = ap length intervals in
     record {
       state = follows_on (rule_in (setup_in p)) (setup_in p) requests (state_of from) (state_of x) (state_of y) from.now x.now y.now f.begun later f.state state;
+      silent = silent_on (rule_in (setup_in p)) (setup_in p) requests (state_of from) (state_of x) from.now x.now y.now f.begun later f.state f.silent silent;
       stands = stands;
       runs = runs;
       begun = omega (arith, f.begun, later);
@@ -295,5 +315,26 @@ follows_one p requests task until from x y left f some state stands runs later w
       trapped = trapped;
       lone = h;
       room = omega (arith, some, put, f.room);
+      intervals = omega (arith, same, f.intervals);
+    }
+
+-- some more, which leave room for so many words
+pub follows_far : {P : Type 0} (p : Setting) (requests : List Request) (task until : ℕ) (from x y : Parts P) (left rest : ℕ) → Follows p requests task until from x left →
+    state_of y ≡ cycles_of (rule_in (setup_in p)) (setup_in p) requests (y.now - x.now) (state_of x) →
+    AreSilent (rule_in (setup_in p)) (setup_in p) requests (y.now - x.now) (state_of x) → Stands p requests y → Runs y.now (4 * y.now) requests y →
+    x.now ≤ y.now → y.now ≤ until → y.trapped ≡ None → IsLone task until requests (state_of y) → put_out (items_of y.facts.tasks) + rest ≤ log_size →
+    items_of y.facts.intervals ≡ items_of x.facts.intervals → Follows p requests task until from y rest
+follows_far p requests task until from x y left rest f state silent stands runs later within trapped h room intervals =
+    let same = ap length intervals in
+    record {
+      state = follows_on (rule_in (setup_in p)) (setup_in p) requests (state_of from) (state_of x) (state_of y) from.now x.now y.now f.begun later f.state state;
+      silent = silent_on (rule_in (setup_in p)) (setup_in p) requests (state_of from) (state_of x) from.now x.now y.now f.begun later f.state f.silent silent;
+      stands = stands;
+      runs = runs;
+      begun = omega (arith, f.begun, later);
+      within = within;
+      trapped = trapped;
+      lone = h;
+      room = room;
       intervals = omega (arith, same, f.intervals);
     }

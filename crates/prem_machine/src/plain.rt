@@ -1,5 +1,5 @@
 // Instructions that go on in their interval and take no input word, decoded and executed at once.
-ghost use Rattle.std.specs.Prelude.{◌≡◌, ◌+◌, ◌/◌, ◌%◌, ◌<◌, ◌≤◌, ◌^◌, [], true, All, IfNone, IfSome, None, Some, length, map, slice_set};
+ghost use Rattle.std.specs.Prelude.{◌≡◌, ◌+◌, ◌/◌, ◌%◌, ◌<◌, ◌≤◌, ◌^◌, [], false, true, All, IfNone, IfSome, None, Some, length, map, slice_set};
 ghost use Rattle.prem_list.specs.Sequence.{items_of, room_of};
 ghost use Rattle.prem_plant.specs.declared.plant.Plant.{Plant};
 ghost use Rattle.prem_plant.specs.Ranges.{IsPlant};
@@ -9,13 +9,14 @@ ghost use Rattle.prem_lru.specs.Rules.{rule_of};
 ghost use Rattle.prem_lru.specs.Settled.{IsSettled};
 ghost use Rattle.prem_cycle.specs.State.{record_of, rule_in, task_in};
 ghost use Rattle.prem_cycle.specs.Issue.{issued_by, owed_by, task_after, view_behind, with_store, with_touches};
+ghost use Rattle.prem_cycle.specs.Runs.Window.Wants.{lacks_word};
 ghost use Rattle.prem_machine.specs.Issue.Attempts.{CanIssue};
 ghost use Rattle.prem_machine.specs.Issue.Coming.{load_access, load_effect};
 ghost use Rattle.prem_machine.specs.Issue.Counting.{counts_in};
 ghost use Rattle.prem_machine.specs.Issue.Near.{IsNear};
 ghost use Rattle.prem_machine.specs.Log.{CountsWithin, ended_in, put_out};
 ghost use Rattle.prem_machine.specs.Plain.{GoesOn, IsComing, IsKept, moving, putting, storing};
-ghost use Rattle.prem_machine.specs.Wanted.{core_in};
+ghost use Rattle.prem_machine.specs.Wanted.{attempt_at, core_in};
 ghost use Rattle.prem_machine.specs.Work.{setup_in, tasks_in, work_in};
 
 use crate::issue::{Near, Touches, cost_at, count, touch_known, touch_load};
@@ -51,7 +52,7 @@ fn going(next: u32) -> Effect
 
 /// The effect of one that writes a register.
 #[inline(always)]
-fn moving(rd: u8, value: u32, next: u32) -> Effect
+pub(crate) fn moving(rd: u8, value: u32, next: u32) -> Effect
     ensures { result ≡ moving rd value next }
 {
     Effect {
@@ -63,7 +64,7 @@ fn moving(rd: u8, value: u32, next: u32) -> Effect
 
 /// The effect of a store.
 #[inline(always)]
-fn storing(address: u32, size: u32, value: u32, next: u32) -> Effect
+pub(crate) fn storing(address: u32, size: u32, value: u32, next: u32) -> Effect
     ensures { result ≡ storing address size value next }
 {
     Effect {
@@ -83,7 +84,7 @@ fn storing(address: u32, size: u32, value: u32, next: u32) -> Effect
 
 /// The effect of an instruction that puts a word out.
 #[inline(always)]
-fn putting(word: u32, next: u32) -> Effect
+pub(crate) fn putting(word: u32, next: u32) -> Effect
     ensures { result ≡ putting word next }
 {
     Effect {
@@ -286,6 +287,7 @@ fn issue_upshot<P: Policy>(
     ensures hit { IfSome result (λ r. r.hit ≡ true → (plant : Plant) → owed_by plant r.touches ≡ []) }
     ensures kept { IfSome result (λ r. IsKept work.old facts.old work.new facts.new) }
     ensures cost { IfSome result (λ r. r.cost ≡ cost) }
+    ensures takes_none { IfSome result (λ r. lacks_word (core_in work.old k) (attempt_at work.old k) ≡ false) }
     ensures near { IsNear work.new.cache near.new.line }
     ensures none { IfNone result ((work.new ≡ work.old) × (facts.new ≡ facts.old)) }
 {
@@ -355,6 +357,7 @@ pub fn issue_plain<P: Policy>(
     ensures hit { IfSome result (λ r. r.hit ≡ true → (plant : Plant) → owed_by plant r.touches ≡ []) }
     ensures kept { IfSome result (λ r. IsKept work.old facts.old work.new facts.new) }
     ensures cost { IfSome result (λ r. (1 ≤ r.cost) × (r.cost ≤ most)) }
+    ensures takes_none { IfSome result (λ r. lacks_word (core_in work.old k) (attempt_at work.old k) ≡ false) }
     ensures near { IsNear work.new.cache near.new.line }
     ensures none { IfNone result ((work.new ≡ work.old) × (facts.new ≡ facts.old)) }
 {

@@ -1,4 +1,5 @@
 // Instructions that follow each other while the bus has nothing to do.
+use crate::hits::follow_in;
 use crate::issue::Near;
 use crate::log::room_left;
 use crate::parts::Parts;
@@ -29,6 +30,7 @@ impl<P: Policy> Parts<P> {
     ghost use Rattle.prem_machine.specs.Log.{put_out};
     ghost use Rattle.prem_machine.specs.Work.{setup_in};
     ghost use Rattle.prem_machine.specs.Parts.{IsSetting, Runs, Stands, state_of};
+    ghost use Rattle.prem_machine.specs.Silent.{AreSilent};
     ghost use Rattle.prem_machine.specs.Stretch.{IsLone};
 
     /// The task whose instructions issue alone, and up to when, at most up to the limit.
@@ -57,6 +59,93 @@ impl<P: Policy> Parts<P> {
         Some(Lone { task, until })
     }
 
+    /// Instructions that hit and go on in their interval, with all their cycles, of which there are fewer than these tasks may
+    /// put out words. It answers how many words they may put out then.
+    #[inline(always)]
+    fn follow(&mut self, setting: &Setting, requests: &[Request], lone: Lone, left: usize) -> usize
+        requires setting { IsSetting setting.now requests.now }
+        requires stands { Stands setting.now requests.now self.old }
+        requires runs { Runs self.old.now (4 * self.old.now) requests.now self.old }
+        requires now { self.old.now ≤ lone.until }
+        requires limit { lone.until ≤ 2 ^ 61 }
+        requires lone { IsLone lone.task lone.until requests.now (state_of self.old) }
+        requires trapped { self.old.trapped ≡ None }
+        requires room { put_out (items_of self.old.facts.tasks) + left ≤ log_size }
+        requires intervals { length (items_of self.old.facts.intervals) < log_size }
+        ensures state { state_of self.new ≡ cycles_of (rule_in (setup_in setting.now)) (setup_in setting.now) requests.now
+            (self.new.now - self.old.now) (state_of self.old) }
+        ensures silent { AreSilent (rule_in (setup_in setting.now)) (setup_in setting.now) requests.now (self.new.now - self.old.now) (state_of self.old) }
+        ensures stands { Stands setting.now requests.now self.new }
+        ensures runs { Runs self.new.now (4 * self.new.now) requests.now self.new }
+        ensures from { self.old.now ≤ self.new.now }
+        ensures within { self.new.now ≤ lone.until }
+        ensures trapped { self.new.trapped ≡ None }
+        ensures lone { IsLone lone.task lone.until requests.now (state_of self.new) }
+        ensures room { put_out (items_of self.new.facts.tasks) + result ≤ log_size }
+        ensures less { result ≤ left }
+        ensures intervals { items_of self.new.facts.intervals ≡ items_of self.old.facts.intervals }
+    {
+        let room = (left as u64).min(lone.until - self.now);
+        if room <= 21 {
+            return left;
+        }
+        let k = usize::from(lone.task);
+        let followed = follow_in(
+            k,
+            room - 21,
+            setting,
+            &mut self.work,
+            self.facts.tasks.items_mut(),
+        );
+        self.now += followed.time;
+        self.facts.hits += followed.hits;
+        self.facts.memory_stores += followed.stores;
+        left - followed.time as usize
+    }
+
+    /// The same where it is to, and nothing where not.
+    #[inline(always)]
+    fn follow_where(
+        &mut self,
+        follows: bool,
+        setting: &Setting,
+        requests: &[Request],
+        lone: Lone,
+        left: usize,
+        near: &mut Near,
+    ) -> usize
+        requires setting { IsSetting setting.now requests.now }
+        requires stands { Stands setting.now requests.now self.old }
+        requires runs { Runs self.old.now (4 * self.old.now) requests.now self.old }
+        requires now { self.old.now ≤ lone.until }
+        requires limit { lone.until ≤ 2 ^ 61 }
+        requires lone { IsLone lone.task lone.until requests.now (state_of self.old) }
+        requires trapped { self.old.trapped ≡ None }
+        requires room { put_out (items_of self.old.facts.tasks) + left ≤ log_size }
+        requires intervals { length (items_of self.old.facts.intervals) < log_size }
+        requires near { IsNear self.old.work.cache near.old.line }
+        ensures state { state_of self.new ≡ cycles_of (rule_in (setup_in setting.now)) (setup_in setting.now) requests.now
+            (self.new.now - self.old.now) (state_of self.old) }
+        ensures silent { AreSilent (rule_in (setup_in setting.now)) (setup_in setting.now) requests.now (self.new.now - self.old.now) (state_of self.old) }
+        ensures stands { Stands setting.now requests.now self.new }
+        ensures runs { Runs self.new.now (4 * self.new.now) requests.now self.new }
+        ensures from { self.old.now ≤ self.new.now }
+        ensures within { self.new.now ≤ lone.until }
+        ensures trapped { self.new.trapped ≡ None }
+        ensures lone { IsLone lone.task lone.until requests.now (state_of self.new) }
+        ensures room { put_out (items_of self.new.facts.tasks) + result ≤ log_size }
+        ensures less { result ≤ left }
+        ensures intervals { items_of self.new.facts.intervals ≡ items_of self.old.facts.intervals }
+        ensures near { IsNear self.new.work.cache near.new.line }
+    {
+        if !follows {
+            return left;
+        }
+        let rest = self.follow(setting, requests, lone, left);
+        *near = Near::none();
+        rest
+    }
+
     /// One instruction that goes on in its interval and ends before the bus has something to do, with all its cycles.
     /// It answers whether another one may follow at once. `near` tells what is known of the line of the last fetch.
     #[inline(always)]
@@ -73,6 +162,7 @@ impl<P: Policy> Parts<P> {
         requires near { IsNear self.old.work.cache near.old.line }
         ensures state { state_of self.new ≡ cycles_of (rule_in (setup_in setting.now)) (setup_in setting.now) requests.now
             (self.new.now - self.old.now) (state_of self.old) }
+        ensures silent { AreSilent (rule_in (setup_in setting.now)) (setup_in setting.now) requests.now (self.new.now - self.old.now) (state_of self.old) }
         ensures stands { Stands setting.now requests.now self.new }
         ensures runs { Runs self.new.now (4 * self.new.now) requests.now self.new }
         ensures from { self.old.now ≤ self.new.now }
@@ -121,6 +211,7 @@ impl<P: Policy> Parts<P> {
         requires limit { limit ≤ 2 ^ 61 }
         ensures state { state_of self.new ≡ cycles_of (rule_in (setup_in setting.now)) (setup_in setting.now) requests.now
             (self.new.now - self.old.now) (state_of self.old) }
+        ensures silent { AreSilent (rule_in (setup_in setting.now)) (setup_in setting.now) requests.now (self.new.now - self.old.now) (state_of self.old) }
         ensures stands { Stands setting.now requests.now self.new }
         ensures runs { Runs self.new.now (4 * self.new.now) requests.now self.new }
         ensures from { self.old.now ≤ self.new.now }
@@ -132,11 +223,19 @@ impl<P: Policy> Parts<P> {
         };
         let mut near = Near::none();
         let mut left = room_left(self.facts.tasks.items());
+        let mut follows = true;
         'instructions: while left > 1 {
+            let rest = self.follow_where(follows, setting, requests, lone, left, &mut near);
+            if rest <= 1 {
+                return;
+            }
+            let misses = self.facts.misses;
             if !self.step(setting, requests, lone, &mut near) {
                 return;
             }
-            left -= 1;
+            // behind a miss the next instruction is issued alone
+            follows = self.facts.misses == misses;
+            left = rest - 1;
         }
     }
 }

@@ -1,12 +1,17 @@
 // What a word comes to that stands at a task's place, decoded and executed at once.
-ghost use Rattle.std.specs.Prelude.{◌≡◌, ◌==◌, ◌+◌, ◌≤◌, ℕ, slice_index, if◌then◌else◌};
+ghost use Rattle.std.specs.Prelude.{◌≡◌, ◌==◌, ◌+◌, ◌≤◌, ◌<◌, ℕ, IfSome, slice_index, if◌then◌else◌};
+ghost use Rattle.prem_plant.specs.declared.plant.Target.{Target};
+ghost use Rattle.prem_isa.specs.declared.step.Upshot.TheVariants.{Loads, Moves, Puts, Stores};
+ghost use Rattle.prem_isa.specs.declared.effect.Phase.{Phase};
 ghost use Rattle.prem_isa.specs.Decode.{decode_of};
 ghost use Rattle.prem_isa.specs.Fields.{fields_of};
 ghost use Rattle.prem_isa.specs.Step.{UpshotFits, act_of, told_by};
 ghost use Rattle.prem_machine.specs.Issue.Coming.{cost_at};
 
 use crate::issue::task::TaskCore;
-use prem_isa::{Upshot, upshot_of};
+use prem_isa::{
+    DataLoad, Moving, Stored, Upshot, loading_of, moving_of, putting_of, storing_of, upshot_of,
+};
 use prem_plant::Target;
 
 /// The cost of the instruction of a word, if it is one.
@@ -14,6 +19,7 @@ use prem_plant::Target;
 pub(crate) fn cost_at(word: u32) -> u32
     ensures cost { result ≡ cost_at (fields_of word) }
     ensures some { 1 ≤ result }
+    ensures most { result ≤ 20 }
 {
     let opcode = word & 0x7f;
     if opcode == 0b0110111 {
@@ -44,6 +50,7 @@ pub(crate) fn cost_at(word: u32) -> u32
 fn operation_cost(funct3: u32, funct7: u32) -> u32
     ensures cost { result ≡ (if funct7 == 1 then (if funct3 == 0 then 4 else 20) else 1) }
     ensures some { 1 ≤ result }
+    ensures most { result ≤ 20 }
 {
     if funct7 == 1 {
         if funct3 == 0 { 4 } else { 20 }
@@ -63,5 +70,52 @@ impl TaskCore {
     {
         let hart = &self.hart;
         upshot_of(target, size, &hart.registers, hart.pc, hart.phase, word)
+    }
+
+    /// The same, if it only writes a register and goes on, and isn't a fence.
+    #[inline(always)]
+    pub(crate) fn moves(&self, target: Target, size: u32, word: u32) -> Option<Moving>
+        requires { self.now.pc + 4 ≤ size }
+        ensures outcome { IfSome result (λ m. (bytes : ℕ) (view : ℕ → ℕ) (phase : Phase) (input : ℕ) →
+            told_by view self.now.pc input (Moves m.rd m.value m.next)
+            ≡ act_of target bytes view (slice_index self.now.registers) self.now.pc phase input (decode_of word)) }
+        ensures fit { IfSome result (λ m. m.rd < 32) }
+    {
+        let _size = size;
+        moving_of(target, &self.hart.registers, self.hart.pc, word)
+    }
+
+    /// The same, if it loads.
+    #[inline(always)]
+    pub(crate) fn loads(&self, size: u32, word: u32) -> Option<DataLoad>
+        requires { self.now.pc + 4 ≤ size }
+        ensures outcome { IfSome result (λ l. (target : Target) (view : ℕ → ℕ) (phase : Phase) (input : ℕ) →
+            told_by view self.now.pc input (Loads l.op l.rd l.address l.next)
+            ≡ act_of target size view (slice_index self.now.registers) self.now.pc phase input (decode_of word)) }
+        ensures fit { IfSome result (λ l. UpshotFits size (Loads l.op l.rd l.address l.next)) }
+    {
+        loading_of(size, &self.hart.registers, self.hart.pc, word)
+    }
+
+    /// The same, if it stores.
+    #[inline(always)]
+    pub(crate) fn stores(&self, size: u32, word: u32) -> Option<Stored>
+        requires { self.now.pc + 4 ≤ size }
+        ensures outcome { IfSome result (λ s. (target : Target) (view : ℕ → ℕ) (phase : Phase) (input : ℕ) →
+            told_by view self.now.pc input (Stores s.address s.size s.value)
+            ≡ act_of target size view (slice_index self.now.registers) self.now.pc phase input (decode_of word)) }
+        ensures fit { IfSome result (λ s. UpshotFits size (Stores s.address s.size s.value)) }
+    {
+        storing_of(size, &self.hart.registers, self.hart.pc, word)
+    }
+
+    /// The word that it puts out, if it puts one out.
+    #[inline(always)]
+    pub(crate) fn puts(&self, word: u32) -> Option<u32>
+        ensures outcome { IfSome result (λ out. (target : Target) (size : ℕ) (view : ℕ → ℕ) (pc : ℕ) (input : ℕ) →
+            told_by view pc input (Puts out)
+            ≡ act_of target size view (slice_index self.now.registers) pc self.now.phase input (decode_of word)) }
+    {
+        putting_of(&self.hart.registers, self.hart.phase, word)
     }
 }

@@ -1,0 +1,17 @@
+use Rattle.std.specs.Prelude.{IfSome, slice_index}
+use Rattle.std.proofs.Common.{◌≡◌, ℕ, subst}
+use Rattle.prem_plant.specs.declared.plant.Target.{Target}
+use Rattle.prem_isa.specs.declared.effect.Phase.{Phase}
+use Rattle.prem_isa.specs.declared.step.Upshot.TheVariants.{Loads}
+use Rattle.prem_isa.specs.Decode.{decode_of}
+use Rattle.prem_isa.specs.Step.{act_of, told_by}
+use Rattle.prem_cycle.specs.State.{Task}
+use Rattle.prem_machine.specs.declared.issue.task.TaskCore.TheInside.{Inside}
+use Rattle.prem_machine.specs.Issue.Fields.{core_task}
+use Rattle.prem_machine.proofs.issue.task.TaskCore.loads.Goals as goal
+
+pub returns-clause-outcome : goal.returns-clause-outcome
+returns-clause-outcome c =
+    let M : Task → Type 0 = λ t. IfSome c.loading_of.result (λ m. (target : Target) (view : ℕ → ℕ) (phase : Phase) (input : ℕ) →
+    told_by view t.pc input (Loads m.op m.rd m.address m.next) ≡ act_of target c.args.size view (slice_index t.registers) t.pc phase input (decode_of c.args.word)) in
+    subst M c.self.view_is (subst (λ (i : Inside). M (core_task i)) c.self-inside.view_is c.loading_of.ensures.outcome)
