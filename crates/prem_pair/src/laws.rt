@@ -1,5 +1,5 @@
 //! Every state of a run of two cores whose tasks keep to their scripts is good, and it finishes by its limit.
-ghost use Rattle.prem_pair.specs.Laws.PairSound.{PairsAreGood, PairsFinish, PairsOfImagesAreSound};
+ghost use Rattle.prem_pair.specs.Laws.PairSound.{PairRoomIsFoundInOrder, PairsAreGood, PairsFinish, PairsFinishByTotals, PairsOfImagesAreSound};
 
 /// Two cores, each with tasks that stay with bytes of their own and do what their scripts say, and the devices of the first. In every
 /// state of every run each core is as good as where it is the only one: no task has trapped, each has put out a beginning of what is
@@ -11,13 +11,21 @@ pub fn pairs_are_good()
 {}
 
 /// From the limit on all jobs of both cores have ended: the greatest last release, what the jobs of both are due, and over all requests
-/// the greatest cycle and the sum of their transfers' cycles.
+/// the greatest cycle and the sum of their transfers' cycles; and so where their instructions are parted into scopes, from what these
+/// are charged in place of what is due.
 pub fn pairs_finish_by_their_limit()
-    ensures { PairsFinish }
+    ensures dues { PairsFinish }
+    ensures charges { PairsFinishByTotals }
 {}
 
 /// For two images whose tasks have scripts for all input words, of which the second has no device: whatever the input words and the
 /// requests are, each state of a run of both is good, and from the limit on the run has finished.
 pub fn pairs_of_images_are_sound()
     ensures { PairsOfImagesAreSound }
+{}
+
+/// Whatever the images, their tasks and the requests are: where requests stand in order of cycle, those that have found room
+/// in their queues are some of those of the cycles that have passed, in their order, each once.
+pub fn pair_requests_find_room_in_order()
+    ensures { PairRoomIsFoundInOrder }
 {}

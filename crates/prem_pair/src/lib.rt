@@ -3,7 +3,7 @@
 //! - `cycles`: two cores with a cache and a memory each, the devices of the first, and the one bus that goes by a
 //!   token.
 //! - `laws`: every state of a run of two cores whose tasks keep to their scripts is good, and it finishes by its
-//!   limit.
+//!   limit; requests find room in their order, each once.
 #![tactic(auto)]
 
 mod apart;

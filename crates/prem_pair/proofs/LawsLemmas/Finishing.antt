@@ -20,23 +20,34 @@ use Rattle.prem_cycle.proofs.RunsLemmas.WindowLemmas.Cycles.{start_closes}
 use Rattle.prem_sound.specs.Script.Script.{Script}
 use Rattle.prem_sound.specs.Script.Scripts.{last_release, AreScripts}
 use Rattle.prem_sound.specs.Resident.Faultless.{IsPolicy}
+use Rattle.prem_sound.specs.Scopes.Charged.{each_alone}
 use Rattle.prem_sound.specs.Sound.{IsRun}
 use Rattle.prem_sound.proofs.ResidentLemmas.Facing.{start_faultless}
 use Rattle.prem_sound.proofs.ResidentLemmas.Needs.{start_needs}
 use Rattle.prem_sound.proofs.Lasting.{start_lasts}
-use Rattle.prem_sound.proofs.Timing.{start_timed, core_most, core_before, core_room, first_no}
+use Rattle.prem_sound.proofs.ScopesLemmas.Alone.{all_same, alone_is_scoped}
+use Rattle.prem_sound.proofs.Timing.{first_no, start_timed, core_most, core_before, core_room}
 use Rattle.prem_pair.specs.Cycles.Pair.{PairState, pair_cycle, both_finished, one_trapped, one_full, is_pair_over, pair_step, pair_cycles, pair_start, pair_run}
-use Rattle.prem_pair.specs.Laws.PairSound.{pair_limit, due_of, PairsFinish}
-use Rattle.prem_pair.proofs.CyclesLemmas.PairRuns.{pair_step-goes, pair_step-stays}
+use Rattle.prem_pair.specs.Laws.PairSound.{pair_limit, HasTotals, total_of, PairsFinish, PairsFinishByTotals}
+use Rattle.prem_pair.proofs.CyclesLemmas.PairTime.{pair_run-now}
 use Rattle.prem_pair.proofs.LawsLemmas.Hosted.{Hosted, CoreHolds}
 use Rattle.prem_pair.proofs.LawsLemmas.Gating.{Gated, load, asked_most}
 use Rattle.prem_pair.proofs.LawsLemmas.Facts.{HostsDevices}
-use Rattle.prem_pair.proofs.LawsLemmas.Holds.{PairHolds, cycle_holds, next_is, next_now0}
+use Rattle.prem_pair.proofs.LawsLemmas.Holds.{PairHolds, cycle_holds}
 
 -- ---- a core with its scripts
 
-abbrev pub host_of : (rule : ReplacementRule) (order : OrderRule) (passes : ℕ → ℕ) (p : Setup) (content : List ℕ) (inputs : List (List ℕ)) (requests : List Request) (own : ℕ → ℕ → Bool) (runs : ℕ → TaskRun) (scripts : ℕ → Script) → IsPolicy rule order passes → IsRun p content requests → AreScripts p passes content inputs own runs scripts → Hosted
-host_of rule order passes p content inputs requests own runs scripts policy run are = record {
+-- what is due is charged where each instruction is a scope by itself
+abbrev pub due_totals : (passes : ℕ → ℕ) (p : Setup) (content : List ℕ) (inputs : List (List ℕ)) (own : ℕ → ℕ → Bool) (runs : ℕ → TaskRun) (scripts : ℕ → Script) → AreScripts p passes content inputs own runs scripts → HasTotals p runs scripts
+due_totals passes p content inputs own runs scripts are = record {
+  scopings = λ k. each_alone p.plant (runs k);
+  scoped = λ k lt. alone_is_scoped p.plant (runs k);
+  total = λ k. (scripts k).due;
+  totals = λ k lt. omega (arith, all_same p.plant (runs k) (scripts k) (scripts k).count, (are.each k lt).dues);
+}
+
+abbrev pub host_of : (rule : ReplacementRule) (order : OrderRule) (passes : ℕ → ℕ) (p : Setup) (content : List ℕ) (inputs : List (List ℕ)) (requests : List Request) (own : ℕ → ℕ → Bool) (runs : ℕ → TaskRun) (scripts : ℕ → Script) → IsPolicy rule order passes → IsRun p content requests → AreScripts p passes content inputs own runs scripts → HasTotals p runs scripts → Hosted
+host_of rule order passes p content inputs requests own runs scripts policy run are t = record {
   rule = rule;
   order = order;
   passes = passes;
@@ -49,17 +60,18 @@ host_of rule order passes p content inputs requests own runs scripts policy run 
   are_runs = runs_of rule p content inputs requests own runs policy.keeps run.runnable are.own_runs;
   jobs_are = λ k lt. (are.own_runs.runs_are k lt).jobs;
   periods = run.periods;
+  charged = t;
 }
 
-host_starts : (rule : ReplacementRule) (order : OrderRule) (passes : ℕ → ℕ) (p : Setup) (content : List ℕ) (inputs : List (List ℕ)) (requests : List Request) (own : ℕ → ℕ → Bool) (runs : ℕ → TaskRun) (scripts : ℕ → Script) (policy : IsPolicy rule order passes) (run : IsRun p content requests) (are : AreScripts p passes content inputs own runs scripts) → CoreHolds (host_of rule order passes p content inputs requests own runs scripts policy run are) 0 (λ k. 0) (start_of p inputs (memory_of p content))
-host_starts rule order passes p content inputs requests own runs scripts policy run are = record {
+host_starts : (rule : ReplacementRule) (order : OrderRule) (passes : ℕ → ℕ) (p : Setup) (content : List ℕ) (inputs : List (List ℕ)) (requests : List Request) (own : ℕ → ℕ → Bool) (runs : ℕ → TaskRun) (scripts : ℕ → Script) (policy : IsPolicy rule order passes) (run : IsRun p content requests) (are : AreScripts p passes content inputs own runs scripts) → (t : HasTotals p runs scripts) → CoreHolds (host_of rule order passes p content inputs requests own runs scripts policy run are t) 0 (λ k. 0) (start_of p inputs (memory_of p content))
+host_starts rule order passes p content inputs requests own runs scripts policy run are t = record {
   known = record {
     position = (start_all p content inputs requests own runs run.runnable are.own_runs).position;
     closes = start_closes p inputs (memory_of p content);
   };
   keeps = start_faultless rule order passes p own runs scripts policy are.each inputs (memory_of p content);
   lasts = start_lasts rule order passes p own runs scripts policy are.each inputs (memory_of p content);
-  timed = start_timed rule order passes p own runs scripts policy are.each (λ k lt. (are.own_runs.runs_are k lt).jobs) run.periods inputs (memory_of p content);
+  timed = start_timed rule order passes p own runs scripts policy are.each (λ k lt. (are.own_runs.runs_are k lt).jobs) run.periods t.scopings t.scoped t.total t.totals inputs (memory_of p content);
   needs = start_needs p inputs (memory_of p content);
 }
 
@@ -101,12 +113,12 @@ one_not false b h e = absurd (let x : false ≡ true = e in cc)
 -- ---- runs
 
 module _ (rule other : ReplacementRule) (order order' : OrderRule) (passes passes' : ℕ → ℕ) (p q : Setup) (content behind : List ℕ) (inputs others : List (List ℕ)) (requests : List Request) (own own' : ℕ → ℕ → Bool) (runs runs' : ℕ → TaskRun) (scripts scripts' : ℕ → Script)
-    (policy : IsPolicy rule order passes) (policy' : IsPolicy other order' passes') (run : IsRun p content requests) (run' : IsRun q behind []) (are : AreScripts p passes content inputs own runs scripts) (are' : AreScripts q passes' behind others own' runs' scripts') where
+    (policy : IsPolicy rule order passes) (policy' : IsPolicy other order' passes') (run : IsRun p content requests) (run' : IsRun q behind []) (are : AreScripts p passes content inputs own runs scripts) (are' : AreScripts q passes' behind others own' runs' scripts') (t : HasTotals p runs scripts) (t' : HasTotals q runs' scripts') where
   abbrev pub host : Hosted
-  host = host_of rule order passes p content inputs requests own runs scripts policy run are
+  host = host_of rule order passes p content inputs requests own runs scripts policy run are t
 
   abbrev pub guest : Hosted
-  guest = host_of other order' passes' q behind others [] own' runs' scripts' policy' run' are'
+  guest = host_of other order' passes' q behind others [] own' runs' scripts' policy' run' are' t'
 
   abbrev pub after : ℕ → PairState
   after n = pair_run rule other p q content behind inputs others requests n
@@ -130,8 +142,8 @@ module _ (rule other : ReplacementRule) (order order' : OrderRule) (passes passe
         off' = 0;
         at = λ k. 0;
         at' = λ k. 0;
-        first = host_starts rule order passes p content inputs requests own runs scripts policy run are;
-        second = host_starts other order' passes' q behind others [] own' runs' scripts' policy' run' are';
+        first = host_starts rule order passes p content inputs requests own runs scripts policy run are t;
+        second = host_starts other order' passes' q behind others [] own' runs' scripts' policy' run' are' t';
         same_now = refl;
         gates = gates;
         gated = start_gated p inputs (memory_of p content) gates;
@@ -156,51 +168,32 @@ module _ (rule other : ReplacementRule) (order order' : OrderRule) (passes passe
   run_holds zero = start_holds Nothing tt
   run_holds (suc n) = step_holds (after n) (run_holds n)
 
-  -- until it stops, as many cycles have passed
-  step_now : (s : PairState) → PairHolds host guest requests Nothing s → is_pair_over s ≡ false → (pair_step rule other p q requests s).first.now ≡ s.first.now + 1
-  step_now s x on =
-      ap (λ (z : PairState). z.first.now) (pair_step-goes rule other p q requests s on ∙ next_is host guest requests devices Nothing s x) ∙ next_now0 host guest requests devices Nothing s x
-
-  went_before : (s : PairState) → is_pair_over (pair_step rule other p q requests s) ≡ false → is_pair_over s ≡ false
-  went_before s h =
-      ⊎_elim (λ (e : is_pair_over s ≡ true). let x : true ≡ false = sym e ∙ ap is_pair_over (sym (pair_step-stays rule other p q requests s e)) ∙ h in absurd cc)
-      (λ (e : is_pair_over s ≡ false). e) (cases_Bool (is_pair_over s))
-
-  pub run_now : (n : ℕ) → is_pair_over (after n) ≡ false → (after n).first.now ≡ n
-  unfolding pair_cycles
-  run_now zero h = refl
-  run_now (suc n) h =
-      let on : is_pair_over (after n) ≡ false = went_before (after n) h in
-      let e : (after n).first.now ≡ n = run_now n on in
-      let t : (pair_step rule other p q requests (after n)).first.now ≡ (after n).first.now + 1 = step_now (after n) (run_holds n) on in
-      omega (arith, e, t)
-
   -- ---- before the limit
 
   abbrev last : ℕ
   last = max (last_release p.tasks) (last_release q.tasks)
 
   abbrev limit : ℕ
-  limit = pair_limit p q (due_of p scripts) (due_of q scripts') requests
+  limit = pair_limit p q (total_of p t.total) (total_of q t'.total) requests
 
   before_by : (n : ℕ) → both_finished (after n) ≡ false → (after n).first.now + 1 ≤ limit
   before_by n go =
       let x : PairHolds host guest requests Nothing (after n) = run_holds n in
-      let most : (after n).first.now ≤ x.off + due_of p scripts =
-      core_most rule order passes p own runs scripts policy are.each (λ k lt. (are.own_runs.runs_are k lt).jobs) run.periods x.off x.at (after n).first x.first.known x.first.keeps x.first.lasts x.first.timed in
-      let most' : (after n).second.now ≤ x.off' + due_of q scripts' =
-      core_most other order' passes' q own' runs' scripts' policy' are'.each (λ k lt. (are'.own_runs.runs_are k lt).jobs) run'.periods x.off' x.at' (after n).second x.second.known x.second.keeps x.second.lasts x.second.timed in
+      let most : (after n).first.now ≤ x.off + total_of p t.total =
+      core_most rule order passes p own runs scripts policy are.each (λ k lt. (are.own_runs.runs_are k lt).jobs) run.periods t.scopings t.scoped t.total t.totals x.off x.at (after n).first x.first.known x.first.keeps x.first.lasts x.first.timed in
+      let most' : (after n).second.now ≤ x.off' + total_of q t'.total =
+      core_most other order' passes' q own' runs' scripts' policy' are'.each (λ k lt. (are'.own_runs.runs_are k lt).jobs) run'.periods t'.scopings t'.scoped t'.total t'.totals x.off' x.at' (after n).second x.second.known x.second.keeps x.second.lasts x.second.timed in
       ⊎_elim (λ (f : is_finished (after n).first ≡ true).
-      ⊎_elim (λ (y : (after n).second.now + 1 ≤ x.off' + due_of q scripts').
+      ⊎_elim (λ (y : (after n).second.now + 1 ≤ x.off' + total_of q t'.total).
       omega (arith, most, y, x.same_now, x.spans.time, x.spans.high, x.served, asked_most (after n).first.now p requests))
       (λ (y : (after n).second.now < last_release q.tasks). omega (arith, y, x.same_now))
-      (core_before other order' passes' q own' runs' scripts' policy' are'.each (λ k lt. (are'.own_runs.runs_are k lt).jobs) run'.periods x.off' x.at' (after n).second x.second.known x.second.keeps x.second.lasts x.second.timed
+      (core_before other order' passes' q own' runs' scripts' policy' are'.each (λ k lt. (are'.own_runs.runs_are k lt).jobs) run'.periods t'.scopings t'.scoped t'.total t'.totals x.off' x.at' (after n).second x.second.known x.second.keeps x.second.lasts x.second.timed
       (one_not (is_finished (after n).first) (is_finished (after n).second) go f)))
       (λ (f : is_finished (after n).first ≡ false).
-      ⊎_elim (λ (y : (after n).first.now + 1 ≤ x.off + due_of p scripts).
+      ⊎_elim (λ (y : (after n).first.now + 1 ≤ x.off + total_of p t.total).
       omega (arith, most', y, x.same_now, x.spans.time, x.spans.high, x.served, asked_most (after n).first.now p requests))
       (λ (y : (after n).first.now < last_release p.tasks). omega (arith, y))
-      (core_before rule order passes p own runs scripts policy are.each (λ k lt. (are.own_runs.runs_are k lt).jobs) run.periods x.off x.at (after n).first x.first.known x.first.keeps x.first.lasts x.first.timed f))
+      (core_before rule order passes p own runs scripts policy are.each (λ k lt. (are.own_runs.runs_are k lt).jobs) run.periods t.scopings t.scoped t.total t.totals x.off x.at (after n).first x.first.known x.first.keeps x.first.lasts x.first.timed f))
       (cases_Bool (is_finished (after n).first))
 
   none_trapped : (n : ℕ) → one_trapped (after n) ≡ false
@@ -212,18 +205,23 @@ module _ (rule other : ReplacementRule) (order order' : OrderRule) (passes passe
   none_full n =
       let x : PairHolds host guest requests Nothing (after n) = run_holds n in
       neither (is_full (after n).first) (is_full (after n).second)
-      (core_room rule order passes p own runs scripts policy are.each (λ k lt. (are.own_runs.runs_are k lt).jobs) run.periods x.off x.at (after n).first x.first.known x.first.keeps x.first.lasts x.first.timed are.outputs are.intervals)
-      (core_room other order' passes' q own' runs' scripts' policy' are'.each (λ k lt. (are'.own_runs.runs_are k lt).jobs) run'.periods x.off' x.at' (after n).second x.second.known x.second.keeps x.second.lasts x.second.timed are'.outputs are'.intervals)
+      (core_room rule order passes p own runs scripts policy are.each (λ k lt. (are.own_runs.runs_are k lt).jobs) run.periods t.scopings t.scoped t.total t.totals x.off x.at (after n).first x.first.known x.first.keeps x.first.lasts x.first.timed are.outputs are.intervals)
+      (core_room other order' passes' q own' runs' scripts' policy' are'.each (λ k lt. (are'.own_runs.runs_are k lt).jobs) run'.periods t'.scopings t'.scoped t'.total t'.totals x.off' x.at' (after n).second x.second.known x.second.keeps x.second.lasts x.second.timed are'.outputs are'.intervals)
 
   pub finishes : (n : ℕ) → limit ≤ n → both_finished (after n) ≡ true
   finishes n le =
       ⊎_elim (λ (yes : both_finished (after n) ≡ true). yes)
       (λ (go : both_finished (after n) ≡ false).
       ⊎_elim (λ (over : is_pair_over (after n) ≡ true). absurd (over_not (both_finished (after n)) (one_trapped (after n)) (one_full (after n)) over go (none_trapped n) (none_full n)))
-      (λ (on : is_pair_over (after n) ≡ false). absurd (omega (arith, run_now n on, before_by n go, le)))
+      (λ (on : is_pair_over (after n) ≡ false). absurd (omega (arith, pair_run-now rule other p q content behind inputs others requests n on, before_by n go, le)))
       (cases_Bool (is_pair_over (after n))))
       (cases_Bool (both_finished (after n)))
 
+pub pairs_finish_by_totals : PairsFinishByTotals
+pairs_finish_by_totals rule other order order' passes passes' p q content behind inputs others requests own own' runs runs' scripts scripts' n policy policy' run run' none are are' t t' le =
+    finishes rule other order order' passes passes' p q content behind inputs others requests own own' runs runs' scripts scripts' policy policy' run run' are are' t t' n le
+
 pub pairs_finish : PairsFinish
 pairs_finish rule other order order' passes passes' p q content behind inputs others requests own own' runs runs' scripts scripts' n policy policy' run run' none are are' le =
-    finishes rule other order order' passes passes' p q content behind inputs others requests own own' runs runs' scripts scripts' policy policy' run run' are are' n le
+    pairs_finish_by_totals rule other order order' passes passes' p q content behind inputs others requests own own' runs runs' scripts scripts' n policy policy' run run' none are are'
+    (due_totals passes p content inputs own runs scripts are) (due_totals passes' q behind others own' runs' scripts' are') le

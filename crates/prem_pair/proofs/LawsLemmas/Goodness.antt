@@ -36,12 +36,13 @@ use Rattle.prem_sound.proofs.Marking.{MarksIn, core_marks, start_marks, core_giv
 use Rattle.prem_sound.proofs.Timing.{first_no}
 use Rattle.prem_pair.specs.Cycles.Token.{window_given, want_with}
 use Rattle.prem_pair.specs.Cycles.Pair.{PairState, pair_cycle, both_finished, one_trapped, one_full, is_pair_over, pair_step, pair_cycles, pair_start, pair_run}
-use Rattle.prem_pair.specs.Laws.PairSound.{pair_queued, PairGood, PairsAreGood}
+use Rattle.prem_pair.specs.Laws.PairSound.{pair_queued, PairGood, HasTotals, PairsAreGood}
 use Rattle.prem_pair.proofs.CyclesLemmas.PairRuns.{pair_cycles-next, pair_step-goes}
+use Rattle.prem_pair.proofs.CyclesLemmas.PairTime.{pair_run-now}
 use Rattle.prem_pair.proofs.LawsLemmas.Hosted.{Hosted, CoreSteps}
 use Rattle.prem_pair.proofs.LawsLemmas.Facts.{HostsDevices}
 use Rattle.prem_pair.proofs.LawsLemmas.Holds.{PairHolds, holds_more, cycle_holds, next_is, ended, arriving, holder, bus, bus0, bus1, move0, move1, acted0, acted1, meets0, meets1, steps0, steps1, same_gates}
-use Rattle.prem_pair.proofs.LawsLemmas.Finishing.{host, guest, devices, start_holds, run_now}
+use Rattle.prem_pair.proofs.LawsLemmas.Finishing.{due_totals, host, guest, devices, start_holds}
 
 -- ---- the words of the devices
 
@@ -65,14 +66,20 @@ ticked_work s = cond_both (is_some s.trapped) s (next_cycle s) (λ (t : MachineS
 
 module _ (rule other : ReplacementRule) (order order' : OrderRule) (passes passes' : ℕ → ℕ) (p q : Setup) (content behind : List ℕ) (inputs others : List (List ℕ)) (requests : List Request) (own own' : ℕ → ℕ → Bool) (runs runs' : ℕ → TaskRun) (scripts scripts' : ℕ → Script) (promises promises' : ℕ → Promise)
     (policy : IsPolicy rule order passes) (policy' : IsPolicy other order' passes') (run : IsRun p content requests) (run' : IsRun q behind []) (none : q.devices ≡ []) (are : AreScripts p passes content inputs own runs scripts) (are' : AreScripts q passes' behind others own' runs' scripts') (kept : AreKept p own runs scripts promises) (kept' : AreKept q own' runs' scripts' promises') where
+  abbrev total : HasTotals p runs scripts
+  total = due_totals passes p content inputs own runs scripts are
+
+  abbrev total' : HasTotals q runs' scripts'
+  total' = due_totals passes' q behind others own' runs' scripts' are'
+
   abbrev one : Hosted
-  one = host rule other order order' passes passes' p q content behind inputs others requests own own' runs runs' scripts scripts' policy policy' run run' are are'
+  one = host rule other order order' passes passes' p q content behind inputs others requests own own' runs runs' scripts scripts' policy policy' run run' are are' total total'
 
   abbrev two : Hosted
-  two = guest rule other order order' passes passes' p q content behind inputs others requests own own' runs runs' scripts scripts' policy policy' run run' are are'
+  two = guest rule other order order' passes passes' p q content behind inputs others requests own own' runs runs' scripts scripts' policy policy' run run' are are' total total'
 
   abbrev dev : HostsDevices one requests
-  dev = devices rule other order order' passes passes' p q content behind inputs others requests own own' runs runs' scripts scripts' policy policy' run run' are are'
+  dev = devices rule other order order' passes passes' p q content behind inputs others requests own own' runs runs' scripts scripts' policy policy' run run' are are' total total'
 
   abbrev then : ℕ → PairState
   then n = pair_run rule other p q content behind inputs others requests n
@@ -126,7 +133,7 @@ module _ (rule other : ReplacementRule) (order order' : OrderRule) (passes passe
     ends = ended one two requests dev (Good n) s x
 
     here : s.first.now ≡ n
-    here = run_now rule other order order' passes passes' p q content behind inputs others requests own own' runs runs' scripts scripts' policy policy' run run' are are' n on
+    here = pair_run-now rule other p q content behind inputs others requests n on
 
     next_state : then (n + 1) ≡ ends
     next_state = pair_cycles-next rule other p q requests n begin ∙ pair_step-goes rule other p q requests s on ∙ next_is one two requests dev (Good n) s x
@@ -209,7 +216,7 @@ module _ (rule other : ReplacementRule) (order order' : OrderRule) (passes passe
 
   start_good : PairHolds one two requests (Good 0) begin
   unfolding pair_queued
-  start_good = start_holds rule other order order' passes passes' p q content behind inputs others requests own own' runs runs' scripts scripts' policy policy' run run' are are' (Good 0) (record {
+  start_good = start_holds rule other order order' passes passes' p q content behind inputs others requests own own' runs runs' scripts scripts' policy policy' run run' are are' total total' (Good 0) (record {
     marks = start_marks rule order passes p own runs scripts policy are.each promises kept works inputs (memory_of p content);
     marks' = start_marks other order' passes' q own' runs' scripts' policy' are'.each promises' kept' works' others (memory_of q behind);
     held = λ d. start_held p inputs (memory_of p content) d;

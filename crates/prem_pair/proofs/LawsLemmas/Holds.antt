@@ -55,7 +55,7 @@ module _ (g : Hosted) where
       ⊎_elim (λ (f : is_finished s ≡ true). it_has_finished f)
       (λ (go : is_finished s ≡ false).
       ⊎_elim (λ (x : off_behind (move_at g.setup b s) off ≡ off). it_works x) (λ (x : s.now < last_release g.setup.tasks). it_idles x)
-      (core_off g.rule g.order g.passes g.setup g.own g.runs g.scripts g.policy g.keep g.jobs_are g.periods off at b (move_at g.setup b s) s h.known h.timed
+      (core_off g.rule g.order g.passes g.setup g.own g.runs g.scripts g.policy g.keep g.jobs_are g.periods g.charged.scopings g.charged.scoped g.charged.total g.charged.totals off at b (move_at g.setup b s) s h.known h.timed
       (move_cases g.setup s.now b.turn.core s.sched (with_memory b.memory s.work) s.core) serves go))
       (cases_Bool (is_finished s)))
 

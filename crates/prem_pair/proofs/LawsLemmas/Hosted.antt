@@ -20,6 +20,7 @@ use Rattle.prem_sound.proofs.ResidentLemmas.Needs.{NeedsIn, TurnNeeds, core_turn
 use Rattle.prem_sound.proofs.Lasting.{Lasts, core_lasts}
 use Rattle.prem_sound.proofs.Spends.{off_behind}
 use Rattle.prem_sound.proofs.Timing.{Timed, core_timed}
+use Rattle.prem_pair.specs.Laws.PairSound.{HasTotals}
 
 pub record Hosted : Type 0 where
   pub rule : ReplacementRule
@@ -34,6 +35,7 @@ pub record Hosted : Type 0 where
   pub are_runs : Runs setup own runs
   pub jobs_are : (k : ℕ) → k < length setup.tasks → (runs k).jobs ≡ (record_of setup k).jobs
   pub periods : All (λ (r : TaskRecord). 1 ≤ r.period) setup.tasks
+  pub charged : HasTotals setup runs scripts
 
 module _ (g : Hosted) where
   abbrev pub FacesIn : (ℕ → ℕ) → Turned → CoreMove → MachineState → Type 0
@@ -49,7 +51,7 @@ module _ (g : Hosted) where
   LastsIn at s = Lasts g.rule g.order g.passes g.setup g.own g.runs g.scripts g.policy g.keep at s
 
   abbrev pub TimedIn : ℕ → (ℕ → ℕ) → MachineState → Type 0
-  TimedIn off at s = Timed g.rule g.order g.passes g.setup g.own g.runs g.scripts g.policy g.keep g.jobs_are g.periods off at s
+  TimedIn off at s = Timed g.rule g.order g.passes g.setup g.own g.runs g.scripts g.policy g.keep g.jobs_are g.periods g.charged.scopings g.charged.scoped g.charged.total g.charged.totals off at s
 
   -- its tasks have issued so many instructions each, and it hasn't worked in so many cycles
   pub record CoreHolds (off : ℕ) (at : ℕ → ℕ) (s : MachineState) : Type 0 where
@@ -80,7 +82,7 @@ module _ (g : Hosted) where
           known = core_known g.rule g.order g.passes g.setup g.own g.runs g.scripts g.policy g.keep g.are_runs at a b m s c;
           keeps = core_keeps g.rule g.order g.passes g.setup g.own g.runs g.scripts g.policy g.keep g.are_runs at a b m s c;
           lasts = core_lasts g.rule g.order g.passes g.setup g.own g.runs g.scripts g.policy g.keep g.are_runs at a b m s h.keeps h.lasts meets f c;
-          timed = core_timed g.rule g.order g.passes g.setup g.own g.runs g.scripts g.policy g.keep g.jobs_are g.periods g.are_runs off at a b m s h.known h.keeps h.lasts h.timed meets f c;
+          timed = core_timed g.rule g.order g.passes g.setup g.own g.runs g.scripts g.policy g.keep g.jobs_are g.periods g.charged.scopings g.charged.scoped g.charged.total g.charged.totals g.are_runs off at a b m s h.known h.keeps h.lasts h.timed meets f c;
           needs = ticked_needs (joined a b (turn_with g.rule g.setup b m s) s) t.needs;
         };
       }

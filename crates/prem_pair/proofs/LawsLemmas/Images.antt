@@ -1,6 +1,6 @@
 -- Two images whose tasks have scripts for all input words are sound together.
 use Rattle.std.specs.Prelude.{max}
-use Rattle.std.proofs.Common.{ℕ, ◌+◌, ◌-◌, ◌≤◌, arith, List, []}
+use Rattle.std.proofs.Common.{◌≡◌, ℕ, ◌+◌, ◌≤◌, arith, List, []}
 use Rattle.std.proofs.lemmas.List.Elements.{All-nil}
 use Rattle.prem_gate.specs.declared.request.Request.{Request}
 use Rattle.prem_cycle.specs.State.{Setup}
@@ -18,15 +18,11 @@ no_trace q = record { each = All-nil (IsRequest q.devices); ordered = λ i j d l
 no_puts : PutWords []
 no_puts i d lt = absurd (omega (arith, lt))
 
--- what is due within a limit
-due_within : (limit last due : ℕ) → last + due ≤ limit → due ≤ limit - last
-due_within limit last due h = omega (arith, h)
-
 within : (last due due' more more' rest n : ℕ) → due ≤ more → due' ≤ more' → last + (more + more') + rest ≤ n → last + (due + due') + rest ≤ n
 within last due due' more more' rest n a b h = omega (arith, a, b, h)
 
-pub image_run : (passes : ℕ → ℕ) (p : Setup) (content : List ℕ) (promises : List (List ℕ) → ℕ → Promise) (limit : ℕ) (requests : List Request) → GivesScripts passes p content promises limit → IsTrace p.devices requests → PutWords requests → IsRun p content requests
-image_run passes p content promises limit requests h t w = record {
+pub image_run : (passes : ℕ → ℕ) (p : Setup) (content : List ℕ) (promises : List (List ℕ) → ℕ → Promise) (due : ℕ) (requests : List Request) → GivesScripts passes p content promises due → IsTrace p.devices requests → PutWords requests → IsRun p content requests
+image_run passes p content promises due requests h t w = record {
   runnable = record { plant = h.image.plant; room = h.image.within; devices = h.image.each_device; asked = t.each };
   periods = λ k d lt. (h.image.each_task k d lt).period.0;
   apart = h.image.apart;
@@ -34,27 +30,36 @@ image_run passes p content promises limit requests h t w = record {
   words = w;
 }
 
--- an image with scripts for all lists of words gives them
-scripts_given : (passes : ℕ → ℕ) (p : Setup) (content : List ℕ) (promises : List (List ℕ) → ℕ → Promise) (limit : ℕ) → HasScripts passes p content promises limit → GivesScripts passes p content promises limit
-scripts_given passes p content promises limit h = record {
+-- what is due within a limit
+due_within : (limit last due more : ℕ) → limit ≡ last + more → last + due ≤ limit → due ≤ more
+due_within limit last due more is h = omega (arith, is, h)
+
+-- an image with scripts for all lists of words gives them, where its limit counts what its jobs are due from the last release on
+scripts_given : (passes : ℕ → ℕ) (p : Setup) (content : List ℕ) (promises : List (List ℕ) → ℕ → Promise) (limit due : ℕ) → limit ≡ last_release p.tasks + due → HasScripts passes p content promises limit → GivesScripts passes p content promises due
+scripts_given passes p content promises limit due is h = record {
   image = h.image;
   zero = h.zero;
   own = h.own;
-  for_inputs = λ inputs i. record { runs = h.runs inputs; scripts = h.scripts inputs; are_scripts = h.are_scripts inputs i; keep = h.keep inputs i; limits = h.limits inputs i };
+  for_inputs = λ inputs i. record {
+    runs = h.runs inputs;
+    scripts = h.scripts inputs;
+    are_scripts = h.are_scripts inputs i;
+    keep = h.keep inputs i;
+    within = due_within limit (last_release p.tasks) (due_of p (h.scripts inputs)) due is (h.limits inputs i);
+  };
 }
 
 pub pairs_of_images : PairsOfImagesAreSound
-pairs_of_images rule other order order' passes passes' p q content behind promises promises' limit limit' policy policy' none h k = record {
+pairs_of_images rule other order order' passes passes' p q content behind promises promises' due due' policy policy' none h k = record {
   good = λ inputs others requests n i j t w.
-      let x : ScriptsFor passes p content inputs h.own (promises inputs) limit = h.for_inputs inputs i in
-      let y : ScriptsFor passes' q behind others k.own (promises' others) limit' = k.for_inputs others j in
+      let x : ScriptsFor passes p content inputs h.own (promises inputs) due = h.for_inputs inputs i in
+      let y : ScriptsFor passes' q behind others k.own (promises' others) due' = k.for_inputs others j in
       pairs_are_good rule other order order' passes passes' p q content behind inputs others requests h.own k.own x.runs y.runs x.scripts y.scripts (promises inputs) (promises' others) n policy policy'
-      (image_run passes p content promises limit requests h t w) (image_run passes' q behind promises' limit' [] k (no_trace q) no_puts) none x.are_scripts y.are_scripts x.keep y.keep;
+      (image_run passes p content promises due requests h t w) (image_run passes' q behind promises' due' [] k (no_trace q) no_puts) none x.are_scripts y.are_scripts x.keep y.keep;
   finished = λ inputs others requests n i j t w le.
-      let x : ScriptsFor passes p content inputs h.own (promises inputs) limit = h.for_inputs inputs i in
-      let y : ScriptsFor passes' q behind others k.own (promises' others) limit' = k.for_inputs others j in
+      let x : ScriptsFor passes p content inputs h.own (promises inputs) due = h.for_inputs inputs i in
+      let y : ScriptsFor passes' q behind others k.own (promises' others) due' = k.for_inputs others j in
       pairs_finish rule other order order' passes passes' p q content behind inputs others requests h.own k.own x.runs y.runs x.scripts y.scripts n policy policy'
-      (image_run passes p content promises limit requests h t w) (image_run passes' q behind promises' limit' [] k (no_trace q) no_puts) none x.are_scripts y.are_scripts
-      (within (max (last_release p.tasks) (last_release q.tasks)) (due_of p x.scripts) (due_of q y.scripts) (limit - last_release p.tasks) (limit' - last_release q.tasks) (last_request requests + all_costs p.devices requests) n
-      (due_within limit (last_release p.tasks) (due_of p x.scripts) x.limits) (due_within limit' (last_release q.tasks) (due_of q y.scripts) y.limits) le);
+      (image_run passes p content promises due requests h t w) (image_run passes' q behind promises' due' [] k (no_trace q) no_puts) none x.are_scripts y.are_scripts
+      (within (max (last_release p.tasks) (last_release q.tasks)) (due_of p x.scripts) (due_of q y.scripts) due due' (last_request requests + all_costs p.devices requests) n x.within y.within le);
 }

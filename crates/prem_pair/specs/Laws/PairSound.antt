@@ -1,5 +1,6 @@
 -- What is good of a run of two cores, and by when it has finished.
-use Rattle.std.specs.Prelude.{◌≡◌, ℕ, zero, suc, ◌+◌, ◌-◌, ◌≤◌, max, Bool, true, List, [], ◌∷◌, ◌++◌, if◌then◌else◌, slice_index_or, sum_by, length}
+use Rattle.std.specs.Prelude.{◌≡◌, ℕ, zero, suc, ◌+◌, ◌<◌, ◌≤◌, max, Bool, true, List, [], ◌∷◌, ◌++◌, if◌then◌else◌, slice_index_or, sum_by, length}
+use Rattle.std.specs.List.Sorted.{IsNonDecreasingBy}
 use Rattle.prem_plant.specs.Order.Order.{OrderRule}
 use Rattle.prem_isa.specs.Plain.{TaskRun}
 use Rattle.prem_lru.specs.Entries.{ReplacementRule}
@@ -10,9 +11,10 @@ use Rattle.prem_cycle.specs.State.{Setup}
 use Rattle.prem_cycle.specs.Inputs.{no_device, IsTrace}
 use Rattle.prem_cycle.specs.Run.{memory_of}
 use Rattle.prem_sound.specs.Script.Script.{Script}
-use Rattle.prem_sound.specs.Script.Scripts.{Promise, last_release, limit_of, sum_below, AreScripts, AreKept}
+use Rattle.prem_sound.specs.Script.Scripts.{Promise, last_release, sum_below, AreScripts, AreKept}
 use Rattle.prem_sound.specs.Resident.Faultless.{IsPolicy}
-use Rattle.prem_sound.specs.Serve.Requests.{found_room, PutWords, AreasAreZero}
+use Rattle.prem_sound.specs.Scopes.Charged.{Scoping, IsScoped, charges_by, all_charged}
+use Rattle.prem_sound.specs.Serve.Requests.{found_room, AreAmong, asked_before, PutWords, AreasAreZero}
 use Rattle.prem_sound.specs.Good.{GoodState}
 use Rattle.prem_sound.specs.Sound.{IsRun, AreInputs}
 use Rattle.prem_pair.specs.Cycles.Pair.{PairState, both_finished, is_pair_over, pair_cycles, pair_start, pair_run}
@@ -26,6 +28,13 @@ pair_coming requests s = if is_pair_over s then [] else found_room s.first.now r
 unfoldable pub pair_queued : (rule other : ReplacementRule) → Setup → Setup → List Request → ℕ → PairState → List Request
 pair_queued rule other p q requests zero s = []
 pair_queued rule other p q requests (suc n) s = pair_queued rule other p q requests n s ++ pair_coming requests (pair_cycles rule other p q requests n s)
+
+-- where requests stand in order of cycle, those that have found room are among those of cycles that have passed: in their order, each once
+abbrev pub PairRoomIsFoundInOrder : Type 0
+PairRoomIsFoundInOrder =
+    (rule other : ReplacementRule) (p q : Setup) (content behind : List ℕ) (inputs others : List (List ℕ)) (requests : List Request) (n : ℕ) →
+    IsNonDecreasingBy (λ (r : Request). r.cycle) requests →
+    AreAmong (pair_queued rule other p q requests n (pair_start p q inputs others (memory_of p content) (memory_of q behind))) (asked_before n requests)
 
 -- ---- a state
 
@@ -61,6 +70,16 @@ pair_limit p q due due' requests =
 abbrev pub due_of : Setup → (ℕ → Script) → ℕ
 due_of p scripts = sum_below (length p.tasks) (λ k. (scripts k).due)
 
+-- the scopes of the tasks of a core, and what all instructions of each are charged at most
+pub record HasTotals (p : Setup) (runs : ℕ → TaskRun) (scripts : ℕ → Script) : Type 0 where
+  pub scopings : ℕ → Scoping
+  pub scoped : (k : ℕ) → k < length p.tasks → IsScoped p.plant (runs k) (scopings k)
+  pub total : ℕ → ℕ
+  pub totals : (k : ℕ) → k < length p.tasks → all_charged p.plant (scripts k) (runs k) (charges_by p.plant (runs k) (scopings k)) (scripts k).count ≤ total k
+
+abbrev pub total_of : Setup → (ℕ → ℕ) → ℕ
+total_of p total = sum_below (length p.tasks) total
+
 -- ---- the laws
 
 -- where the tasks of both cores have scripts, each state is good
@@ -80,6 +99,15 @@ PairsFinish =
     pair_limit p q (due_of p scripts) (due_of q scripts') requests ≤ n →
     both_finished (pair_run rule other p q content behind inputs others requests n) ≡ true
 
+-- and so from the limit of what the tasks of both are charged on, where their instructions are parted into scopes
+abbrev pub PairsFinishByTotals : Type 0
+PairsFinishByTotals =
+    (rule other : ReplacementRule) (order order' : OrderRule) (passes passes' : ℕ → ℕ) (p q : Setup) (content behind : List ℕ) (inputs others : List (List ℕ)) (requests : List Request) (own own' : ℕ → ℕ → Bool) (runs runs' : ℕ → TaskRun) (scripts scripts' : ℕ → Script) (n : ℕ) →
+    IsPolicy rule order passes → IsPolicy other order' passes' → IsRun p content requests → IsRun q behind [] → q.devices ≡ [] →
+    AreScripts p passes content inputs own runs scripts → AreScripts q passes' behind others own' runs' scripts' → (t : HasTotals p runs scripts) → (t' : HasTotals q runs' scripts') →
+    pair_limit p q (total_of p t.total) (total_of q t'.total) requests ≤ n →
+    both_finished (pair_run rule other p q content behind inputs others requests n) ≡ true
+
 -- ---- images
 
 -- for all input words of both and all requests each state of a run is good, and from the limit on it has finished
@@ -89,25 +117,25 @@ pub record PairIsSound (rule other : ReplacementRule) (p q : Setup) (content beh
   pub finished : (inputs others : List (List ℕ)) (requests : List Request) (n : ℕ) → AreInputs p inputs → AreInputs q others → IsTrace p.devices requests → PutWords requests →
       pair_limit p q due due' requests ≤ n → both_finished (pair_run rule other p q content behind inputs others requests n) ≡ true
 
--- scripts of an image's tasks for these input words, which keep what is promised and are due by a limit
-pub record ScriptsFor (passes : ℕ → ℕ) (p : Setup) (content : List ℕ) (inputs : List (List ℕ)) (own : ℕ → ℕ → Bool) (promises : ℕ → Promise) (limit : ℕ) : Type 0 where
+-- scripts of an image's tasks for these input words, which keep what is promised, and whose jobs are due so many cycles at most
+pub record ScriptsFor (passes : ℕ → ℕ) (p : Setup) (content : List ℕ) (inputs : List (List ℕ)) (own : ℕ → ℕ → Bool) (promises : ℕ → Promise) (due : ℕ) : Type 0 where
   pub runs : ℕ → TaskRun
   pub scripts : ℕ → Script
   pub are_scripts : AreScripts p passes content inputs own runs scripts
   pub keep : AreKept p own runs scripts promises
-  pub limits : limit_of p scripts ≤ limit
+  pub within : due_of p scripts ≤ due
 
 -- an image whose tasks have such scripts for all input words
-pub record GivesScripts (passes : ℕ → ℕ) (p : Setup) (content : List ℕ) (promises : List (List ℕ) → ℕ → Promise) (limit : ℕ) : Type 0 where
+pub record GivesScripts (passes : ℕ → ℕ) (p : Setup) (content : List ℕ) (promises : List (List ℕ) → ℕ → Promise) (due : ℕ) : Type 0 where
   pub image : IsImage p.plant p.tasks p.devices content
   pub zero : AreasAreZero p (memory_of p content)
   pub own : ℕ → ℕ → Bool
-  pub for_inputs : (inputs : List (List ℕ)) → AreInputs p inputs → ScriptsFor passes p content inputs own (promises inputs) limit
+  pub for_inputs : (inputs : List (List ℕ)) → AreInputs p inputs → ScriptsFor passes p content inputs own (promises inputs) due
 
--- two such images are sound together, where the second has no device, by a limit that counts what is due within theirs
+-- two such images are sound together, where the second has no device, by a limit that counts what the jobs of both are due
 abbrev pub PairsOfImagesAreSound : Type 0
 PairsOfImagesAreSound =
-    (rule other : ReplacementRule) (order order' : OrderRule) (passes passes' : ℕ → ℕ) (p q : Setup) (content behind : List ℕ) (promises promises' : List (List ℕ) → ℕ → Promise) (limit limit' : ℕ) →
+    (rule other : ReplacementRule) (order order' : OrderRule) (passes passes' : ℕ → ℕ) (p q : Setup) (content behind : List ℕ) (promises promises' : List (List ℕ) → ℕ → Promise) (due due' : ℕ) →
     IsPolicy rule order passes → IsPolicy other order' passes' → q.devices ≡ [] →
-    GivesScripts passes p content promises limit → GivesScripts passes' q behind promises' limit' →
-    PairIsSound rule other p q content behind promises promises' (limit - last_release p.tasks) (limit' - last_release q.tasks)
+    GivesScripts passes p content promises due → GivesScripts passes' q behind promises' due' →
+    PairIsSound rule other p q content behind promises promises' due due'

@@ -12,20 +12,20 @@ use Rattle.prem_cycle.specs.Run.{cycles_of, memory_of, run_of}
 use Rattle.prem_cycle.proofs.Time.{run_of-now}
 use Rattle.prem_sound.specs.Serve.Requests.{found_room, coming_requests, queued_of, AreAmong, among_none, among_skip, among_take, asked_before, RoomIsFoundInOrder}
 
-among_append : (xs ys us vs : List Request) → AreAmong xs ys → AreAmong us vs → AreAmong (xs ++ us) (ys ++ vs)
+pub among_append : (xs ys us vs : List Request) → AreAmong xs ys → AreAmong us vs → AreAmong (xs ++ us) (ys ++ vs)
 among_append _ _ us vs among_none k = k
 among_append _ _ us vs (among_skip r xs ys h) k = among_skip r (xs ++ us) (ys ++ vs) (among_append xs ys us vs h k)
 among_append _ _ us vs (among_take r xs ys h) k = among_take r (xs ++ us) (ys ++ vs) (among_append xs ys us vs h k)
 
-none_among : (ys : List Request) → AreAmong [] ys
+pub none_among : (ys : List Request) → AreAmong [] ys
 none_among [] = among_none
 none_among (y ∷ ys) = among_skip y [] ys (none_among ys)
 
 -- those of a cycle
-abbrev asked_at : ℕ → List Request → List Request
+abbrev pub asked_at : ℕ → List Request → List Request
 asked_at n requests = filter (λ (r : Request). eqb r.cycle n) requests
 
-room_among : (n : ℕ) (requests : List Request) (s : GatesState) → AreAmong (found_room n requests s) (asked_at n requests)
+pub room_among : (n : ℕ) (requests : List Request) (s : GatesState) → AreAmong (found_room n requests s) (asked_at n requests)
 room_among n [] s = among_none
 room_among n (r ∷ requests) s =
     by (eqb r.cycle n) (is_full (gate_at s.gates r.device)) (found_room n requests (after_arrival r s)) (found_room n requests s) (asked_at n requests)
@@ -61,7 +61,7 @@ tail_sorted r requests h = λ i j d le lt. h (suc i) (suc j) d (omega (arith, le
 from_first : (r : Request) (requests : List Request) → IsNonDecreasingBy (λ (x : Request). x.cycle) (r ∷ requests) → From r.cycle requests
 from_first r requests h = λ k d lt. h 0 (suc k) d (omega arith) (omega (arith, lt))
 
-before_next : (n : ℕ) (requests : List Request) → IsNonDecreasingBy (λ (r : Request). r.cycle) requests → asked_before (n + 1) requests ≡ asked_before n requests ++ asked_at n requests
+pub before_next : (n : ℕ) (requests : List Request) → IsNonDecreasingBy (λ (r : Request). r.cycle) requests → asked_before (n + 1) requests ≡ asked_before n requests ++ asked_at n requests
 before_next n [] h = refl
 before_next n (r ∷ requests) h =
     let ih : asked_before (n + 1) requests ≡ asked_before n requests ++ asked_at n requests = before_next n requests (tail_sorted r requests h) in
