@@ -57,11 +57,11 @@ use Rattle.prem_sets_sound.proofs.TaskLawsLemmas.ProgramFitsLemmas.Stubs.{job_st
 use Rattle.prem_sets_sound.proofs.TaskLawsLemmas.TaskBytesLemmas.Parts.{parts_of_task, at_parts, laid, plans_are}
 use Rattle.prem_sets_sound.proofs.TaskLawsLemmas.TaskBytesLemmas.Guards.{task_guard_is_own, task_code_is_own}
 use Rattle.prem_sets_sound.proofs.TaskLawsLemmas.TaskBytesLemmas.Start.{run_starts}
-use Rattle.prem_sets_sound.specs.Each.Called.{confinement_of, plan_at, confinement_in}
-use Rattle.prem_sets_sound.specs.Each.Joins.{promise_for, TasksJoin, TaskPaces, task_longest, TasksPace}
+use Rattle.prem_sets_sound.specs.Each.Called.{confinement_of, plan_at, confinement_in, job_calls}
+use Rattle.prem_sets_sound.specs.Each.Joins.{promise_for, TasksJoin, TaskPaces, task_longest, TasksPace, JobsTell, TasksTell}
 use Rattle.prem_sets_sound.proofs.EachLemmas.Means.{StubMeans, JobStands}
 use Rattle.prem_sets_sound.proofs.EachLemmas.Lands.{CallsStand}
-use Rattle.prem_sets_sound.proofs.EachLemmas.Joins.{TaskStands, joins, promise_is, paces}
+use Rattle.prem_sets_sound.proofs.EachLemmas.Joins.{TaskStands, joins, promise_is, paces, jobs_tell}
 use Rattle.prem_sets_sound.proofs.EachLemmas.Filled.{plan_there, routine_at, program_keeps, code_is, table_code, code_within, small_memory, codes_stand, part_listed}
 use Rattle.prem_sets_sound.proofs.EachLemmas.Words.{job_fits, code_stands, job_is, start_stands}
 use Rattle.prem_sets_sound.proofs.EachLemmas.Stubs.{planned_at, stub_means, confined_stands, stated_so}
@@ -72,7 +72,7 @@ one_there (x ∷ xs) zero h = h 0 0 (omega arith)
 one_there (x ∷ xs) (suc a) h = one_there xs a (λ k d lt. h (suc k) d (omega (arith, lt)))
 
 -- a marked function is there, with its mark
-marked_there : (fs : List Routine) (n : ℕ) → is_marked_at fs n ≡ true → (f : Routine) × ((slice_get fs n ≡ Some f) × (is_marked f ≡ true))
+pub marked_there : (fs : List Routine) (n : ℕ) → is_marked_at fs n ≡ true → (f : Routine) × ((slice_get fs n ≡ Some f) × (is_marked f ≡ true))
 marked_there [] n e = cc
 marked_there (x ∷ fs) zero e = (x, (refl, e))
 marked_there (x ∷ fs) (suc n) e = marked_there fs n e
@@ -89,19 +89,19 @@ stated_in q n (x ∷ fs) f = by x.text.mark refl f (λ k. stated_in q (n + 1) fs
 
 module _ (passes : ℕ → ℕ) (p : Plant) (devices : List Device) (tasks : List Coded) (places : List Extent) (k : ℕ) (t : Placed) (placed : IsPlacedTask p devices tasks places k t) (same : passes p.ways ≡ pass_count (stub_passes p)) (x : ProgramText) (keeps : KeepsTaskRules p x t)
     (some : 1 ≤ t.task.jobs) (inputs : List (List ℕ)) (words : All (λ word. word < 2 ^ 32) (slice_index_or inputs k [])) where
-  abbrev s : Setting
+  abbrev pub s : Setting
   s = setting_of p (task_guard t) t
 
-  abbrev own : TaskRun
+  abbrev pub own : TaskRun
   own = run_in (setup_of p devices places tasks) (content_of p places tasks) inputs k
 
   abbrev reads : Reading
   reads = read_globals (λ g. (global_range t.at g).0) t.task.program.globals
 
-  abbrev first_bytes : ℕ → ℕ
+  abbrev pub first_bytes : ℕ → ℕ
   first_bytes = slice_index (content_of p places tasks)
 
-  abbrev counted : ℕ
+  abbrev pub counted : ℕ
   counted = length (map (λ (q : Extent). q.0) t.at.places)
 
   parts : HasParts p tasks places k t
@@ -127,7 +127,7 @@ module _ (passes : ℕ → ℕ) (p : Plant) (devices : List Device) (tasks : Lis
         function_is = r.1.1 ∙ z;
       }
 
-  stub_meant : (n : ℕ) → (codes_in t).marked n ≡ true → n < t.task.program.job → StubMeans p s t (limits_of x) n
+  pub stub_meant : (n : ℕ) → (codes_in t).marked n ≡ true → n < t.task.program.job → StubMeans p s t (limits_of x) n
   stub_meant n marked lt =
       let r = planned n marked in
       let first : r.plan.function < t.task.program.job = subst (λ m. m < t.task.program.job) (sym r.function_is) lt in
@@ -146,13 +146,13 @@ module _ (passes : ℕ → ℕ) (p : Plant) (devices : List Device) (tasks : Lis
       })
 
   -- a stub in memory, in a job, under a confinement
-  record StubHere (y : Confinement) (ended n : ℕ) : Type 0 where
-    plan : Plan
-    there : plan_at t n ≡ Some plan
-    here : ConfinedStands (setup_of p devices places tasks) (own_of tasks places k) passes s (codes_in t) y own ended first_bytes counted t.task.program.job n
-    stated : here.at.stated ≡ plan.stated
+  pub record StubHere (y : Confinement) (ended n : ℕ) : Type 0 where
+    pub plan : Plan
+    pub there : plan_at t n ≡ Some plan
+    pub here : ConfinedStands (setup_of p devices places tasks) (own_of tasks places k) passes s (codes_in t) y own ended first_bytes counted t.task.program.job n
+    pub stated : here.at.stated ≡ plan.stated
 
-  stub_here : (ended : ℕ) → ended < own.jobs → (n : ℕ) → IsStub (codes_in t) t.task.program.job n → StubHere (confinement_in t n) ended n
+  pub stub_here : (ended : ℕ) → ended < own.jobs → (n : ℕ) → IsStub (codes_in t) t.task.program.job n → StubHere (confinement_in t n) ended n
   stub_here ended less n is =
       let r = planned n is.marked in
       let lt = is.below in
@@ -196,7 +196,7 @@ module _ (passes : ℕ → ℕ) (p : Plant) (devices : List Device) (tasks : Lis
       let f = routine_at t.task.program.routines n lt in
       subst ReturnsLast (sym (code_is p devices tasks places k t placed x keeps n f.0 f.1)) (functions_return_last (parts_of p.target t.task.program.routines) f.0)
 
-  job_stands : JobStands p s t own.stack
+  pub job_stands : JobStands p s t own.stack
   job_stands =
       let f = job_fits p devices tasks places k t placed x keeps in
       let g = jobs_stand p placed.plant_is devices tasks places (laid p devices tasks places k t placed) k t placed.there f.routine f.there in
@@ -222,6 +222,10 @@ module _ (passes : ℕ → ℕ) (p : Plant) (devices : List Device) (tasks : Lis
 
   start_own : AreOwnAt (own_of tasks places k) (place_at t.at 0).0 (call_to 1 ((codes_in t).code_part t.task.program.job) no_pieces)
   start_own a ge lt = task_code_is_own p devices tasks places k t placed 0 (start_code t.table.job) refl a ge (omega (arith, lt))
+
+  task_names : (f : ℕ) → stated_at t.task.program.routines f ≤ greatest_stated t.plans
+  task_names f =
+      subst (λ (ps : List Plan). stated_at t.task.program.routines f ≤ greatest_stated ps) (sym (plans_are p places _ t (at_parts p devices tasks places k t placed))) (stated_in t.task.program 0 t.task.program.routines f)
 
   task_stands : TaskStands (setup_of p devices places tasks) (own_of tasks places k) passes p x t s own (λ g. (global_range t.at g).0)
   task_stands =
@@ -257,9 +261,9 @@ module _ (passes : ℕ → ℕ) (p : Plant) (devices : List Device) (tasks : Lis
         longest = task_longest p t;
         strided = strides.0;
         long = left_most (stretch_of p t.plans t.table) (greatest_stated t.plans) _ strides.1;
-        stated = λ f.
-            right_most (stretch_of p t.plans t.table) (greatest_stated t.plans) _
-            (subst (λ (ps : List Plan). stated_at t.task.program.routines f ≤ greatest_stated ps) (sym (plans_are p places _ t (at_parts p devices tasks places k t placed))) (stated_in t.task.program 0 t.task.program.routines f));
+        stated = λ f. right_most (stretch_of p t.plans t.table) (greatest_stated t.plans) _ (task_names f);
+        named = greatest_stated t.plans;
+        names = task_names;
       }
     where
       four_more : (n : ℕ) → n % 4 ≡ 0 → (n + 4) % 4 ≡ 0
@@ -294,6 +298,22 @@ module _ (passes : ℕ → ℕ) (p : Plant) (devices : List Device) (tasks : Lis
       ∙ promise_is (setup_of p devices places tasks) (own_of tasks places k) passes p x t s own (λ g. (global_range t.at g).0) task_stands))
       (paces (setup_of p devices places tasks) (own_of tasks places k) passes p x t s own (λ g. (global_range t.at g).0) task_stands (task_limits p t) most_is refl refl))
 
+  named_is : task_stands.named ≡ greatest_stated t.plans
+  unfolding task_stands
+  named_is = refl
+
+  task_tells : JobsTell (setup_of p devices places tasks) passes (own_of tasks places k) own (task_limits p t) (task_longest p t) (greatest_stated t.plans) s (globals_in p.target t.task.program) (limits_of x) t.task.program (job_calls s t) 0 ((codes_in t).code_part t.task.program.job)
+      (promise_for x t (slice_index_or inputs k []))
+  task_tells =
+      subst (λ n. JobsTell (setup_of p devices places tasks) passes (own_of tasks places k) own (task_limits p t) (task_longest p t) n s (globals_in p.target t.task.program) (limits_of x) t.task.program (job_calls s t) 0 ((codes_in t).code_part t.task.program.job)
+      (promise_for x t (slice_index_or inputs k []))) named_is
+      (subst (λ n. JobsTell (setup_of p devices places tasks) passes (own_of tasks places k) own (task_limits p t) n task_stands.named s (globals_in p.target t.task.program) (limits_of x) t.task.program (job_calls s t) 0 ((codes_in t).code_part t.task.program.job)
+      (promise_for x t (slice_index_or inputs k []))) longest_is
+      (subst (JobsTell (setup_of p devices places tasks) passes (own_of tasks places k) own (task_limits p t) task_stands.longest task_stands.named s (globals_in p.target t.task.program) (limits_of x) t.task.program (job_calls s t) 0 ((codes_in t).code_part t.task.program.job))
+      (sym (ap (λ n. Rattle.prem_sets_sound.specs.Weave.Promise.Promised.promise_in (λ g. (global_range t.at g).0) x (slice_index_or inputs k []) n) (sym run.jobs)
+      ∙ promise_is (setup_of p devices places tasks) (own_of tasks places k) passes p x t s own (λ g. (global_range t.at g).0) task_stands))
+      (jobs_tell (setup_of p devices places tasks) (own_of tasks places k) passes p x t s own (λ g. (global_range t.at g).0) task_stands (task_limits p t) most_is refl refl)))
+
 pub tasks_join : TasksJoin
 tasks_join passes p devices tasks places k t placed same x keeps some inputs words = task_joins passes p devices tasks places k t placed same x keeps some inputs words
 
@@ -301,3 +321,8 @@ tasks_join passes p devices tasks places k t placed same x keeps some inputs wor
 
 pub tasks_pace : TasksPace
 tasks_pace passes p devices tasks places k t placed same x keeps some inputs words = task_paces passes p devices tasks places k t placed same x keeps some inputs words
+
+-- ---- what its jobs do
+
+pub tasks_tell : TasksTell
+tasks_tell passes p devices tasks places k t placed same x keeps some inputs words = task_tells passes p devices tasks places k t placed same x keeps some inputs words

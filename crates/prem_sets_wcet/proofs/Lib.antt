@@ -1,0 +1,10 @@
+pub mod Stands
+pub mod Marked
+pub mod JobCourse
+pub mod QuietJobs
+pub mod Partings
+pub mod Aligned
+pub mod Jobs
+pub mod Walk
+pub mod Tasks
+pub mod Sets

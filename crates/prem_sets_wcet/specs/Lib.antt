@@ -1,0 +1,9 @@
+pub mod Stands
+pub mod Marked
+pub mod Partings
+pub mod Aligned
+pub mod Jobs
+pub mod QuietJobs
+pub mod Walk
+pub mod Tasks
+pub mod Sets

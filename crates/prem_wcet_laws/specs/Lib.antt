@@ -1,0 +1,17 @@
+pub mod Counts
+pub mod Weights
+pub mod Scopes
+pub mod Least
+pub mod Parted
+pub mod Wcet
+pub mod Divided
+pub mod Named
+pub mod Keeping
+pub mod ScopeLaws
+pub mod LeastLaws
+pub mod FunctionLaws
+pub mod TaskLaws
+pub mod Scenes
+pub mod Starts
+pub mod PartedLaws
+pub mod Laws
