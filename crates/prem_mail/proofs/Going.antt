@@ -18,6 +18,7 @@ use Rattle.prem_machine.proofs.Going.{goes_on, within_next, over_trapped, stops,
 use Rattle.prem_mail.specs.declared.feed.Feed.{Feed}
 use Rattle.prem_mail.specs.Delivery.{ended_between}
 use Rattle.prem_mail.specs.Stopping.{stop_unless_limit}
+use Rattle.prem_mail.specs.Gliding.{GoesBy}
 use Rattle.prem_mail.specs.Mailing.{Mailed, Mailing, supplied_to, received_by, cycled, stepped, mail_step, mailed_by, with_mailed}
 
 -- ---- why a run stops
@@ -40,7 +41,7 @@ module _ (rule : ReplacementRule) (p : Setup) (requests : List Request) (feeds :
 
   -- ---- any number of cycles
 
-  mailed_by-add : (n k : ℕ) (m : Mailed) → mailed_by rule p requests feeds (n + k) m ≡ mailed_by rule p requests feeds k (mailed_by rule p requests feeds n m)
+  pub mailed_by-add : (n k : ℕ) (m : Mailed) → mailed_by rule p requests feeds (n + k) m ≡ mailed_by rule p requests feeds k (mailed_by rule p requests feeds n m)
   unfolding mailed_by
   mailed_by-add n zero m = let e : n + 0 ≡ n = omega arith in ap (λ i. mailed_by rule p requests feeds i m) e
   mailed_by-add n (suc k) m =
@@ -58,13 +59,13 @@ module _ (rule : ReplacementRule) (p : Setup) (requests : List Request) (feeds :
   nothing_ended : (s : MachineState) → ended_between s s ≡ None
   nothing_ended s = slice_get_past s.log.transfers (length s.log.transfers) (omega arith)
 
-  step_over : (m : Mailed) → is_over m.state ≡ true → step m ≡ m
+  pub step_over : (m : Mailed) → is_over m.state ≡ true → step m ≡ m
   step_over m over =
       let next : stepped rule p requests m ≡ m =
       ap (λ o. cycled rule p requests (supplied_to o m)) (nothing_wanted m.state over) ∙ ap (with_stopped m) (step_of-stays rule p requests m.state over) in
       ap (λ (x : Mailed). received_by feeds (ended_between m.state x.state) x) next ∙ ap (λ o. received_by feeds o m) (nothing_ended m.state)
 
-  mailed_by-over : (n : ℕ) (m : Mailed) → is_over m.state ≡ true → mailed_by rule p requests feeds n m ≡ m
+  pub mailed_by-over : (n : ℕ) (m : Mailed) → is_over m.state ≡ true → mailed_by rule p requests feeds n m ≡ m
   unfolding mailed_by
   mailed_by-over zero m over = refl
   mailed_by-over (suc n) m over = ap step (mailed_by-over n m over) ∙ step_over m over
@@ -118,6 +119,28 @@ goes_to limit from m x g none is next stays =
       requests = g.requests;
       feeds = g.feeds;
       left = next_trapped limit k from x x.state.trapped refl (λ e. ap (λ n. limit - n) (next e)) ∙ sym rest ∙ g.left;
+    }
+
+-- some cycles at once
+pub goes_by : (limit : ℕ) (from m x : Mailing) → GoesTo limit from m → GoesBy limit m x → GoesTo limit from x
+goes_by limit from m x g by =
+    let now : ℕ = m.mailed.state.now in
+    let k : ℕ = limit - now - by.cycles in
+    let d : limit - now ≡ by.cycles + k = omega (arith, by.within) in
+    let p = from.setup in
+    let r = from.requests in
+    let f = from.feeds in
+    let there : x.mailed ≡ mailed_by (rule_in p) p r f by.cycles m.mailed =
+    ap (λ (y : Mailing). y.mailed) by.mailed ∙ ap (λ q. mailed_by (rule_in q) q m.requests m.feeds by.cycles m.mailed) g.setup
+    ∙ ap (λ q. mailed_by (rule_in p) p q m.feeds by.cycles m.mailed) g.requests ∙ ap (λ q. mailed_by (rule_in p) p r q by.cycles m.mailed) g.feeds in
+    let rest : cycles from (limit - now) m.mailed ≡ cycles from k x.mailed =
+    ap (λ n. cycles from n m.mailed) d ∙ mailed_by-add (rule_in p) p r f by.cycles k m.mailed ∙ ap (cycles from k) (sym there) in
+    record {
+      within = omega (arith, by.passed, by.within);
+      setup = ap (λ (y : Mailing). y.setup) by.mailed ∙ g.setup;
+      requests = ap (λ (y : Mailing). y.requests) by.mailed ∙ g.requests;
+      feeds = ap (λ (y : Mailing). y.feeds) by.mailed ∙ g.feeds;
+      left = next_trapped limit k from x.mailed x.mailed.state.trapped refl (λ e. (let t = by.time e in omega (arith, t, by.within))) ∙ sym rest ∙ g.left;
     }
 
 pub ends_at : (limit : ℕ) (from m : Mailing) (stop : Stop) → GoesTo limit from m → stop_of limit m.mailed.state ≡ Some stop → m.mailed ≡ cycles from (limit - from.mailed.state.now) from.mailed

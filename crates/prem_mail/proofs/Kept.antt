@@ -89,7 +89,7 @@ last_longer : {A : Type 0} (o : Option A) (xs : List A) → length xs ≤ length
 last_longer None xs = omega arith
 last_longer (Some x) xs = let e = length-append xs (x ∷ []) in omega (arith, e)
 
-more_transfers : (rule : ReplacementRule) (p : Setup) (requests : List Request) (s : MachineState) → length s.log.transfers ≤ length (step_of rule p requests s).log.transfers
+pub more_transfers : (rule : ReplacementRule) (p : Setup) (requests : List Request) (s : MachineState) → length s.log.transfers ≤ length (step_of rule p requests s).log.transfers
 more_transfers rule p requests s =
     let b : Turned = bus_at (arrivals_at requests s).gates s in
     ⊎_elim (λ (e : is_over s ≡ true). (let x : length (step_of rule p requests s).log.transfers ≡ length s.log.transfers = ap (λ (u : MachineState). length u.log.transfers) (step_of-stays rule p requests s e) in omega (arith, x)))

@@ -8,6 +8,8 @@ pub mod Kept
 pub mod Left
 pub mod Beginning
 pub mod Going
+pub mod Gliding
+pub mod TwoCalls
 pub mod Lawful
 pub mod Words
 mod Rows

@@ -1,6 +1,6 @@
 -- A worked run with a feed, computed: `void job(void) { int x = 0; x = in(); out(x); }` in two jobs of a period of 1000 cycles. The device puts 5 in
 -- the idle window between them, so the first job takes a 0 that comes as it is wanted, and the second one the 5.
-use Rattle.std.proofs.Common.{◌≡◌, ℕ, List, [], ◌∷◌, refl}
+use Rattle.std.proofs.Common.{◌≡◌, ℕ, List, [], ◌∷◌, refl, lit≤}
 use Rattle.prem_lru.specs.Entries.{to_front}
 use Rattle.prem_gate.specs.declared.request.Request.{Request}
 use Rattle.prem_cycle.specs.declared.facts.DeviceFacts.{DeviceFacts}
@@ -10,8 +10,10 @@ use Rattle.prem_cycle.specs.Run.{cycles_of, run_of}
 use Rattle.prem_cycle.proofs.Images.{bytes_in, alone, device, put, get}
 use Rattle.prem_cycle.proofs.Told.{task_told, gate, counted}
 use Rattle.prem_mail.specs.declared.feed.Feed.{Feed}
-use Rattle.prem_mail.specs.Mailing.{Mailed, mailed_by}
-use Rattle.prem_mail.specs.Laws.{mailed_run}
+use Rattle.prem_mail.specs.Mailing.{Mailed, Mailing, mailed_by}
+use Rattle.prem_mail.specs.Laws.{mailed_first, mailed_run}
+use Rattle.prem_mail.specs.Calls.{AreOneCall}
+use Rattle.prem_mail.proofs.TwoCalls.{two_calls_are_one}
 
 -- the start at 0, the job at 8, the stack from 64 to 80, the device's area from 80 on
 abbrev echo : List ℕ
@@ -56,3 +58,10 @@ other_line = refl
 a_get : (mailed (feed 0 0 0 ∷ []) (get 30 0 0 ∷ []) 1100).mail.lists ≡ (0 ∷ 0 ∷ []) ∷ []
 unfolding cycles_of mailed_by
 a_get = refl
+
+-- this run in memory, before its first cycle: calls up to cycles 500 and 1100 are one up to 1100
+abbrev begun : Mailing
+begun = record { setup = machine; requests = put 30 0 0 5 ∷ []; feeds = feed 0 0 0 ∷ []; mailed = mailed_first machine (bytes_in echo) ([] ∷ []) }
+
+in_two_calls : AreOneCall 500 1100 begun
+in_two_calls = two_calls_are_one 500 1100 begun (lit≤ tt) (lit≤ tt)

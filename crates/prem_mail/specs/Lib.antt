@@ -3,7 +3,9 @@ pub mod Feeds
 pub mod Views
 pub mod Delivery
 pub mod Mailing
+pub mod Gliding
 pub mod MailFields
 pub mod Stopping
 pub mod Laws
+pub mod Calls
 pub mod Good

@@ -1,10 +1,11 @@
 // A run in which devices feed tasks.
-ghost use Rattle.std.specs.Prelude.{◌≡◌, ◌<◌, ◌≤◌, All, IfOk, IfSome, length, map, replicate, slice_get};
+ghost use Rattle.std.specs.Prelude.{◌≡◌, ◌<◌, ◌≤◌, ◌^◌, All, IfOk, IfSome, length, map, replicate, slice_get};
 ghost use Rattle.prem_list.specs.Sequence.{items_of, room_of};
 ghost use Rattle.prem_cycle.specs.FactsOf.{inputs_size, report_in};
 ghost use Rattle.prem_cycle.specs.Inputs.{words_of};
 ghost use Rattle.prem_set.specs.Run.Views.{lists_of};
 ghost use Rattle.prem_mail.specs.Delivery.{has_room, receiver, fed_by};
+ghost use Rattle.prem_mail.specs.Gliding.{awaited};
 ghost use Rattle.prem_mail.specs.Stopping.{stop_unless_limit};
 
 use crate::feed::Feed;
@@ -131,6 +132,18 @@ fn stop_unless_limit(stop: Stop, last: bool) -> Option<Stop>
     }
 }
 
+/// How many transfers have to have ended, where so many have, before a value can come to a task.
+fn awaited(feeds: &[Feed], before: usize) -> usize
+    requires { before < 2 ^ 63 }
+    ensures { result ≡ awaited feeds.now before }
+{
+    if feeds.is_empty() {
+        usize::MAX
+    } else {
+        before + 1
+    }
+}
+
 /// Whether there is such a list, and it has fewer words than it may have.
 fn has_room(lists: &[Sequence<u32>], task: TaskId) -> bool
     ensures { result ≡ has_room task (map (λ list. items_of list) lists.now) }
@@ -142,7 +155,7 @@ fn has_room(lists: &[Sequence<u32>], task: TaskId) -> bool
 }
 
 impl<P: Policy> Mail<P> {
-    ghost use Rattle.std.specs.Prelude.{◌≡◌, ◌+◌, ◌-◌, ◌<◌, ◌≤◌, ◌^◌, All, IfOk, IfSome, IsSome, None, Some, false, true, length, map, option_map, slice_get};
+    ghost use Rattle.std.specs.Prelude.{◌≡◌, ◌↔◌, ◌+◌, ◌-◌, ◌<◌, ◌≤◌, ◌^◌, All, IfOk, IfSome, IsSome, None, Some, false, true, length, map, option_map, slice_get};
     ghost use Rattle.prem_list.specs.Sequence.{items_of};
     ghost use Rattle.prem_cycle.specs.Inputs.{FitsRun, setup_of, words_of};
     ghost use Rattle.prem_cycle.specs.State.{rule_in};
@@ -152,6 +165,8 @@ impl<P: Policy> Mail<P> {
     ghost use Rattle.prem_mail.specs.Feeds.{AreFeeds};
     ghost use Rattle.prem_mail.specs.Delivery.{has_room, receiver};
     ghost use Rattle.prem_mail.specs.Mailing.{setup_in, requests_in, feeds_in, mailed_in, state_in, with_mail, without_mail, with_mailed, supplied_to, received_by, handed_to, cycled, mail_step, mailed_by};
+    ghost use Rattle.prem_machine.specs.Deliveries.{RunsSilently};
+    ghost use Rattle.prem_mail.specs.Gliding.{GoesBy, machine_in, with_machine};
     ghost use Rattle.prem_mail.specs.Laws.{mailed_first};
 
     /// The run of an image before its first cycle. It fails only for want of memory, of which it takes all here that the run needs.
@@ -200,7 +215,8 @@ impl<P: Policy> Mail<P> {
 
     /// All input words of a task so far, or none where there is no such task.
     pub fn words(&self, t: TaskId) -> Option<&[u32]>
-        ensures { option_map (λ words. words.now) result ≡ slice_get (mailed_in self.now).mail.lists t }
+        ensures words { option_map (λ words. words.now) result ≡ slice_get (mailed_in self.now).mail.lists t }
+        ensures there { IsSome result ↔ (t < length (setup_in self.now).tasks) }
     {
         match self.words.items().get(usize::from(t)) {
             Some(list) => Some(list.items()),
@@ -210,7 +226,8 @@ impl<P: Policy> Mail<P> {
 
     /// How many values for a task found its list full, or none where there is no such task.
     pub fn lost(&self, t: TaskId) -> Option<u64>
-        ensures { result ≡ slice_get (mailed_in self.now).mail.lost t }
+        ensures lost { result ≡ slice_get (mailed_in self.now).mail.lost t }
+        ensures there { IsSome result ↔ (t < length (setup_in self.now).tasks) }
     {
         self.lost.get(usize::from(t)).copied()
     }
@@ -300,6 +317,28 @@ impl<P: Policy> Mail<P> {
         self.receive(before);
     }
 
+    /// The machine goes on until it stops, has come to the limit, wants an input word, or so many transfers have ended.
+    fn advance(&mut self, limit: u64, transfers: usize)
+        requires now { (state_in self.old).now ≤ limit }
+        requires limit { limit ≤ 2 ^ 61 }
+        ensures runs { RunsSilently limit transfers (machine_in self.old) (machine_in self.new) }
+        ensures kept { self.new ≡ with_machine self.old (machine_in self.new) }
+    {
+        self.machine.run_to_delivery(limit, transfers);
+    }
+
+    /// Goes on at once up to where a word may come to a task, with the word that has come behind the last cycle.
+    fn glide(&mut self, limit: u64)
+        requires now { (state_in self.old).now ≤ limit }
+        requires limit { limit ≤ 2 ^ 61 }
+        ensures { GoesBy limit self.old self.new }
+    {
+        let before = self.machine.facts().transfers.items().len();
+        let transfers = awaited(&self.feeds, before);
+        self.advance(limit, transfers);
+        self.receive(before);
+    }
+
     /// Why a run that is to go up to this cycle stops here, if it does. Nothing changes.
     fn stop(&mut self, limit: u64) -> Option<Stop>
         requires now { (state_in self.old).now ≤ limit }
@@ -312,7 +351,7 @@ impl<P: Policy> Mail<P> {
         stop_unless_limit(stop, now == limit)
     }
 
-    /// Goes on, cycle by cycle, until the run stops or this cycle has come.
+    /// Goes on until the run stops or this cycle has come. Cycles in which no word comes to a task are the machine's own.
     ///
     /// It looks before each cycle whether all jobs have ended, then whether an instruction has trapped, then whether a log is full, then
     /// whether the cycle has come, and tells the first of these that is so. A run that stopped before stays as it is.
@@ -329,6 +368,7 @@ impl<P: Policy> Mail<P> {
         ensures stop { Some result ≡ stop_of limit (state_in self.new) }
     {
         'cycles: loop {
+            self.glide(limit);
             if let Some(stop) = self.stop(limit) {
                 return stop;
             }
