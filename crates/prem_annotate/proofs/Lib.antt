@@ -1,0 +1,4 @@
+pub mod Sights
+pub mod Arms
+pub mod Slots
+pub mod Outlooks

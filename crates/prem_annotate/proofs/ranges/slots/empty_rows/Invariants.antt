@@ -1,0 +1,7 @@
+use Rattle.std.proofs.Common.{◌≡◌, ◌++◌, map, drop}
+use Rattle.prem_analysis.specs.Functions.{plain_routine}
+use Rattle.prem_annotate.specs.Ranges.Slots.{row_of, empty_row}
+use Rattle.prem_annotate.proofs.ranges.slots.empty_rows.Given as goal
+
+abbrev pub invariant-loop-f : goal.invariant-loop-f
+invariant-loop-f l = map row_of l.rows.items ++ map empty_row (map plain_routine (drop l.f-index l.routines)) ≡ map empty_row (map plain_routine l.routines)

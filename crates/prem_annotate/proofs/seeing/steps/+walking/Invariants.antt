@@ -1,0 +1,8 @@
+use Rattle.std.proofs.Common.{drop}
+use Rattle.prem_analysis.specs.Ranging.View.{env_of}
+use Rattle.prem_annotate.specs.Seeing.Sight.{sight_of}
+use Rattle.prem_annotate.proofs.Sights.{Walking}
+use Rattle.prem_annotate.proofs.seeing.steps.+walking.Given as goal
+
+abbrev pub invariant-walk_all-loop-s : goal.invariant-walk_all-loop-s
+invariant-walk_all-loop-s l = Walking l.steps (drop l.s-index l.steps) (env_of l.env.items) (env_of l.fn.env.items) (sight_of l.sight) (sight_of l.fn.sight)

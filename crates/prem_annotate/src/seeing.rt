@@ -1,0 +1,14 @@
+//! The walk over a function that gives what it accesses, and what it passes to others.
+mod entering;
+mod expression;
+mod knowing;
+mod locals;
+mod routine;
+mod sight;
+mod simple;
+mod steps;
+
+pub use expression::look;
+pub use routine::see_routine;
+pub use sight::{Argument, Sight, Touch};
+pub use steps::walk;

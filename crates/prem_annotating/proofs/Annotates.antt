@@ -1,0 +1,309 @@
+-- Each text of a program has one with its annotations, by edits at annotations alone.
+use Rattle.std.specs.Option.{option_map}
+use Rattle.std.proofs.Common.{◌≡◌, ℕ, ℤ, suc, ◌+◌, true, List, [], ◌∷◌, ◌++◌, length, map, refl, sym, ap, subst, ◌∙◌, arith, Option, None, Some}
+use Rattle.std.proofs.lemmas.List.{append_assoc, append-nil, append_cancel_right}
+use Rattle.prem_syntax.specs.Syntax.{Parameter, MarkText, GlobalVariable, FunctionText, global_item, function_item, ProgramText}
+use Rattle.prem_syntax.specs.Resolved.{Routine}
+use Rattle.prem_syntax.specs.Resolve.{promoted, resolve_items, functions_of, loops_within}
+use Rattle.prem_syntax.specs.Source.{unlimited}
+use Rattle.prem_ranges.specs.GroupThree.{resolved}
+use Rattle.prem_text.specs.Lexing.Token.Lexeme.{Lexeme, end_of_text, Seen}
+use Rattle.prem_text.specs.Grammar.Slots.{a_name, the_end, is_end}
+use Rattle.prem_text.specs.Grammar.Phrases.{IsRow}
+use Rattle.prem_text.specs.Grammar.ProgramPhrases.{type_of, Declaration, IsDeclaration, declaration_tokens, MarkPhrase, IsMark, mark_tokens, mark_tree, RangePhrase, IsRange, range_tokens, range_tree, ParameterPhrase, IsParameter, parameter_tokens, parameter_tree, PartedParameter, ParametersPhrase, of_void, of_parameters, begins_void, ArePartedParameters, AreParameters, parted_parameter_tokens, parted_parameter_trees, parameters_tokens, parameters_tree, local_tokens, result_tokens, FunctionPhrase, IsFunction, function_tokens, function_tree, ItemPhrase, of_global, of_function, AreItems, items_tokens, items_tree, global_tokens}
+use Rattle.prem_text.specs.Grammar.StatementPhrases.{all_written}
+use Rattle.prem_text.specs.Canonical.Canonical.{range_lexemes}
+use Rattle.prem_text.specs.Canonical.Law.{lexemes_of}
+use Rattle.prem_text.specs.Canonical.Unplaced.{unplaced_parameter, unplaced_mark}
+use Rattle.prem_annotating.specs.Lists.{Each}
+use Rattle.prem_annotating.specs.Seen.{KnownCall, calls_of_all}
+use Rattle.prem_annotating.specs.Inferred.{stated_or, inferred, ranged_parameter, ranged_parameters, ranged_routines}
+use Rattle.prem_annotating.specs.Reached.{regions_reached}
+use Rattle.prem_annotating.specs.Annotated.{annotated_mark, marked_routines, texts_of, all_ranged, all_annotated}
+use Rattle.prem_annotating.specs.Pieces.{Piece, a_token, lexemes_in, range_pieces, IsConstant, EndsInToken, Edited}
+use Rattle.prem_annotating.specs.Phrases.{range_phrase, AnnotatedFunction, AnnotatedItems, no_items, a_global, a_function, IsSaidRange, IsSaidMark, CanBeSaid, AnnotatedTextsAreThere, TextsAreAnnotated}
+use Rattle.prem_annotating.proofs.Calls.{each_left, each_right}
+use Rattle.prem_annotating.proofs.Pieces.{pieces_of}
+use Rattle.prem_annotating.proofs.Inserted.{lexemes_append, range_says}
+use Rattle.prem_annotating.proofs.Edits.{edited_divide, range_right, range_is, range_lexed, lexemes_join}
+use Rattle.prem_annotating.proofs.Phrases.{read_as_annotated, lexemes_end}
+use Rattle.prem_annotating.proofs.There.{piece_cut, first_token, gap_lexemes, AreSpelled, divided_spelled, spelled_left, spelled_right, edited_itself, edited_append, kept_front, EditedTo, new_mark_of}
+use Rattle.prem_annotating.specs.Pieces.{with_range}
+
+itself : (ps : List Piece) (ls : List Lexeme) → lexemes_in ps ≡ ls → EditedTo ps ls
+itself ps ls e = record { new = ps; edited = edited_itself ps; lexemes = e }
+
+-- edits of two parts
+both_edited : (a b ps : List Piece) (xs ys : List Seen) → a ++ b ≡ ps → EditedTo a (lexemes_of xs) → EditedTo b (lexemes_of ys) → EditedTo ps (lexemes_of (xs ++ ys))
+both_edited a b ps xs ys parts one two = record {
+  new = one.new ++ two.new;
+  edited = subst (λ l. Edited l (one.new ++ two.new)) parts (edited_append one.edited two.edited);
+  lexemes = lexemes_append one.new two.new ∙ (λ i. one.lexemes i ++ two.lexemes i) ∙ sym (lexemes_join xs ys);
+}
+
+-- ---- parameters
+
+abbrev with_new : Option RangePhrase → Option (ℤ × ℤ) → Option RangePhrase
+with_new None x = option_map range_phrase x
+with_new (Some r) x = Some r
+
+new_right : (o : Option RangePhrase) (x : Option (ℤ × ℤ)) → IsRange o → IsRange (with_new o x)
+new_right None None h = tt
+new_right None (Some r) h = range_right r
+new_right (Some r) x h = h
+
+new_tree : (o : Option RangePhrase) (x : Option (ℤ × ℤ)) → range_tree (with_new o x) ≡ stated_or (range_tree o) x
+new_tree None None = refl
+new_tree None (Some r) = range_is r
+new_tree (Some r) x = refl
+
+-- a RANGE behind a name
+range_behind : (type_row name_row : List Seen) (r : ℤ × ℤ) (ps : List Piece) → IsRow (a_name ∷ []) name_row → IsConstant r.0 → IsConstant r.1 → lexemes_in ps ≡ lexemes_of (type_row ++ name_row) →
+    EditedTo ps (lexemes_of (type_row ++ name_row ++ range_tokens (Some (range_phrase r))))
+range_behind type_row [] r ps h low high e = absurd h
+range_behind type_row (t ∷ u ∷ more) r ps h low high e = absurd h.1
+range_behind type_row (t ∷ []) r ps h low high e =
+    let c = piece_cut type_row (t ∷ []) ps e in
+    let f = first_token t.0 [] c.back c.two in
+    let inner = with_range f.bytes t.0 r low high (edited_itself f.rest) in
+    let new = f.gaps ++ (a_token f.bytes t.0 ∷ (range_pieces r ++ f.rest)) in
+    let back : Edited c.back new = subst (λ l. Edited l new) f.parts (kept_front f.gaps inner) in
+    let new_lexemes : lexemes_in new ≡ t.0 ∷ range_lexemes (Some r) =
+    gap_lexemes f.gaps (a_token f.bytes t.0 ∷ (range_pieces r ++ f.rest)) f.are
+    ∙ ap (λ l. t.0 ∷ l) (lexemes_append (range_pieces r) f.rest ∙ (λ i. range_says r i ++ f.two i) ∙ append-nil (range_lexemes (Some r))) in
+    record {
+      new = c.front ++ new;
+      edited = subst (λ l. Edited l (c.front ++ new)) c.parts (kept_front c.front back);
+      lexemes =
+          lexemes_append c.front new ∙ (λ i. c.one i ++ new_lexemes i)
+          ∙ sym (lexemes_join (type_row ++ t ∷ []) (range_tokens (Some (range_phrase r))) ∙ (λ i. lexemes_join type_row (t ∷ []) i ++ range_lexed r i) ∙ append_assoc (lexemes_of type_row) (t.0 ∷ []) (range_lexemes (Some r)));
+    }
+
+-- a parameter of which a range may have been inferred
+parameter_by : (d : Declaration) (o : Option RangePhrase) (x : Option (ℤ × ℤ)) (ps : List Piece) → IsDeclaration d → IsSaidRange (stated_or (range_tree o) x) → lexemes_in ps ≡ lexemes_of (declaration_tokens d ++ range_tokens o) →
+    EditedTo ps (lexemes_of (declaration_tokens d ++ range_tokens (with_new o x)))
+parameter_by d None None ps h said e = itself ps _ e
+parameter_by d None (Some r) ps h said e = range_behind d.type_row d.name_row r ps h.1 said.0 said.1 (e ∙ ap lexemes_of (append-nil (declaration_tokens d)))
+parameter_by d (Some q) x ps h said e = itself ps _ e
+
+abbrev ranged_phrase : List KnownCall → ℕ → ℕ → ParameterPhrase → ParameterPhrase
+ranged_phrase calls f k p = record { declaration = p.declaration; range = with_new p.range (inferred calls f k (promoted (type_of p.declaration.form))) }
+
+ranged_tree : (calls : List KnownCall) (f k : ℕ) (p : ParameterPhrase) → parameter_tree (ranged_phrase calls f k p) ≡ ranged_parameter calls f k (parameter_tree p)
+ranged_tree calls f k p =
+    let range = new_tree p.range (inferred calls f k (promoted (type_of p.declaration.form))) in
+    λ i. record { at = (parameter_tree p).at; ty = (parameter_tree p).ty; name = (parameter_tree p).name; range = range i }
+
+ranged_is : (calls : List KnownCall) (f k : ℕ) (p : ParameterPhrase) → IsParameter p → IsParameter (ranged_phrase calls f k p)
+ranged_is calls f k p h = (h.0, new_right p.range (inferred calls f k (promoted (type_of p.declaration.form))) h.1)
+
+parameter_edited : (calls : List KnownCall) (f k : ℕ) (p : ParameterPhrase) (ps : List Piece) → IsParameter p → IsSaidRange (ranged_parameter calls f k (parameter_tree p)).range → lexemes_in ps ≡ lexemes_of (parameter_tokens p) →
+    EditedTo ps (lexemes_of (parameter_tokens (ranged_phrase calls f k p)))
+parameter_edited calls f k p ps h said e = parameter_by p.declaration p.range (inferred calls f k (promoted (type_of p.declaration.form))) ps h.0 said e
+
+record PartedEdited (calls : List KnownCall) (f k : ℕ) (before : List PartedParameter) (ps : List Piece) : Type 0 where
+  phrases : List PartedParameter
+  right : ArePartedParameters phrases
+  trees : parted_parameter_trees phrases ≡ ranged_parameters calls f k (parted_parameter_trees before)
+  void_is : (a b : ParameterPhrase) → a.declaration ≡ b.declaration → begins_void phrases a ≡ begins_void before b
+  to : EditedTo ps (lexemes_of (parted_parameter_tokens phrases))
+
+parted_edited : (calls : List KnownCall) (f k : ℕ) (before : List PartedParameter) (ps : List Piece) → ArePartedParameters before → Each (λ (q : Parameter). IsSaidRange q.range) (ranged_parameters calls f k (parted_parameter_trees before)) →
+    lexemes_in ps ≡ lexemes_of (parted_parameter_tokens before) → PartedEdited calls f k before ps
+parted_edited calls f k [] ps h said e = record { phrases = []; right = tt; trees = refl; void_is = λ a b same. ap (λ d. begins_void [] (record { declaration = d; range = None })) same; to = itself ps [] e }
+parted_edited calls f k (p ∷ before) ps h said e =
+    let c = piece_cut (parameter_tokens p.0 ++ p.1) (parted_parameter_tokens before) ps e in
+    let d = piece_cut (parameter_tokens p.0) p.1 c.front c.one in
+    let one = parameter_edited calls f k p.0 d.front h.0 said.0 d.one in
+    let rest = parted_edited calls f (k + 1) before c.back h.2 said.1 c.two in
+    let new = ranged_phrase calls f k p.0 in
+    record {
+      phrases = (new, p.1) ∷ rest.phrases;
+      right = (ranged_is calls f k p.0 h.0, h.1, rest.right);
+      trees = λ i. ranged_tree calls f k p.0 i ∷ rest.trees i;
+      void_is = λ a b same. void_same calls f k p.0;
+      to = both_edited c.front c.back ps (parameter_tokens new ++ p.1) (parted_parameter_tokens rest.phrases) c.parts (both_edited d.front d.back c.front (parameter_tokens new) p.1 d.parts one (itself d.back (lexemes_of p.1) d.two)) rest.to;
+    }
+  where
+    void_same : (calls : List KnownCall) (f k : ℕ) (q : ParameterPhrase) → begins_void [] (ranged_phrase calls f k q) ≡ begins_void [] q
+    void_same calls f k q = refl
+
+ranged_end : (calls : List KnownCall) (f k : ℕ) (xs : List Parameter) (y : Parameter) → ranged_parameters calls f k (xs ++ y ∷ []) ≡ ranged_parameters calls f k xs ++ ranged_parameter calls f (k + length xs) y ∷ []
+ranged_end calls f k [] y = let e : k + 0 ≡ k = omega arith in rw e
+ranged_end calls f k (x ∷ xs) y = let e : k + suc (length xs) ≡ k + 1 + length xs = omega arith in rw e (ap (λ l. ranged_parameter calls f k x ∷ l) (ranged_end calls f (k + 1) xs y))
+
+record ParametersEdited (calls : List KnownCall) (f : ℕ) (p : ParametersPhrase) (ps : List Piece) : Type 0 where
+  phrase : ParametersPhrase
+  right : AreParameters phrase
+  trees : parameters_tree phrase ≡ ranged_parameters calls f 0 (parameters_tree p)
+  to : EditedTo ps (lexemes_of (parameters_tokens phrase))
+
+parameters_edited : (calls : List KnownCall) (f : ℕ) (p : ParametersPhrase) (ps : List Piece) → AreParameters p → Each (λ (q : Parameter). IsSaidRange q.range) (ranged_parameters calls f 0 (parameters_tree p)) → lexemes_in ps ≡ lexemes_of (parameters_tokens p) →
+    ParametersEdited calls f p ps
+parameters_edited calls f (of_void row) ps h said e = record { phrase = of_void row; right = h; trees = refl; to = itself ps (lexemes_of row) e }
+parameters_edited calls f (of_parameters before last) ps h said e =
+    let trees = parted_parameter_trees before in
+    let k = 0 + length trees in
+    let c = piece_cut (parted_parameter_tokens before) (parameter_tokens last) ps e in
+    let split = ranged_end calls f 0 trees (parameter_tree last) in
+    let said' = subst (Each (λ (q : Parameter). IsSaidRange q.range)) split said in
+    let front = parted_edited calls f 0 before c.front h.0 (each_left (λ (q : Parameter). IsSaidRange q.range) (ranged_parameters calls f 0 trees) (ranged_parameter calls f k (parameter_tree last) ∷ []) said') c.one in
+    let one = parameter_edited calls f k last c.back h.1 (each_right (λ (q : Parameter). IsSaidRange q.range) (ranged_parameters calls f 0 trees) (ranged_parameter calls f k (parameter_tree last) ∷ []) said').0 c.two in
+    let new = ranged_phrase calls f k last in
+    record {
+      phrase = of_parameters front.phrases new;
+      right = (front.right, ranged_is calls f k last h.1, front.void_is new last (declaration_same calls f k last) ∙ h.2);
+      trees = (λ i. front.trees i ++ ranged_tree calls f k last i ∷ []) ∙ sym split;
+      to = both_edited c.front c.back ps (parted_parameter_tokens front.phrases) (parameter_tokens new) c.parts front.to one;
+    }
+  where
+    declaration_same : (calls : List KnownCall) (f k : ℕ) (q : ParameterPhrase) → (ranged_phrase calls f k q).declaration ≡ q.declaration
+    declaration_same calls f k q = refl
+
+-- ---- marks
+
+record MarkEdited (o : Option MarkPhrase) (a : Option MarkText) (ps : List Piece) : Type 0 where
+  phrase : Option MarkPhrase
+  right : IsMark phrase
+  tree_is : option_map unplaced_mark (mark_tree phrase) ≡ option_map unplaced_mark a
+  to : EditedTo ps (lexemes_of (mark_tokens phrase))
+
+mark_edited : (o : Option MarkPhrase) (h : MarkText → MarkText) (ps : List Piece) → IsMark o → IsSaidMark (option_map h (mark_tree o)) → EndsInToken ps → AreSpelled ps → lexemes_in ps ≡ lexemes_of (mark_tokens o) → MarkEdited o (option_map h (mark_tree o)) ps
+mark_edited None h ps right said ends spelled e = record { phrase = None; right = tt; tree_is = refl; to = itself ps [] e }
+mark_edited (Some k) h ps right said ends spelled e =
+    let new = new_mark_of k _ ps right said.0 said.1 ends spelled e in
+    record { phrase = Some new.phrase; right = new.right; tree_is = new.tree_is; to = new.to }
+
+-- ---- functions
+
+rest_tokens : FunctionPhrase → List Seen
+rest_tokens f = f.begins ++ local_tokens f.locals ++ all_written f.body ++ result_tokens f.result ++ f.tail
+
+regroup : (m d o p b l s r t : List Seen) → m ++ d ++ o ++ p ++ b ++ l ++ s ++ r ++ t ≡ m ++ ((d ++ o) ++ (p ++ (b ++ l ++ s ++ r ++ t)))
+regroup m d o p b l s r t = simp (append_assoc)
+
+tokens_are : (f : FunctionPhrase) → function_tokens f ≡ mark_tokens f.mark ++ ((declaration_tokens f.declaration ++ f.opening) ++ (parameters_tokens f.params ++ rest_tokens f))
+unfolding rest_tokens
+tokens_are f = regroup (mark_tokens f.mark) (declaration_tokens f.declaration) f.opening (parameters_tokens f.params) f.begins (local_tokens f.locals) (all_written f.body) (result_tokens f.result) f.tail
+
+record FunctionEdited (f : FunctionPhrase) (t : FunctionText) (ps : List Piece) : Type 0 where
+  phrase : FunctionPhrase
+  is : AnnotatedFunction f phrase t
+  to : EditedTo ps (lexemes_of (function_tokens phrase))
+
+with_annotations : List KnownCall → ℕ → (MarkText → MarkText) → FunctionText → FunctionText
+with_annotations calls n h f = record f { mark = option_map h f.mark; params = ranged_parameters calls n 0 f.params }
+
+function_edited : (f : FunctionPhrase) (calls : List KnownCall) (n : ℕ) (h : MarkText → MarkText) (ps : List Piece) → IsFunction f → Each (λ (q : Parameter). IsSaidRange q.range) (with_annotations calls n h (function_tree f)).params →
+    IsSaidMark (with_annotations calls n h (function_tree f)).mark → AreSpelled ps → lexemes_in ps ≡ lexemes_of (function_tokens f) → FunctionEdited f (with_annotations calls n h (function_tree f)) ps
+unfolding rest_tokens with_annotations
+function_edited f calls n h ps right ranges marks spelled e =
+    let m = mark_tokens f.mark in
+    let d = declaration_tokens f.declaration ++ f.opening in
+    let p = parameters_tokens f.params in
+    let one = piece_cut m (d ++ (p ++ rest_tokens f)) ps (e ∙ ap lexemes_of (tokens_are f)) in
+    let two = piece_cut d (p ++ rest_tokens f) one.back one.two in
+    let three = piece_cut p (rest_tokens f) two.back two.two in
+    let k = mark_edited f.mark h one.front right.0 marks one.ends (spelled_left one.front one.back (subst AreSpelled (sym one.parts) spelled)) one.one in
+    let q = parameters_edited calls n f.params three.front right.3 ranges three.one in
+    let g : FunctionPhrase = record { mark = k.phrase; declaration = f.declaration; opening = f.opening; params = q.phrase; begins = f.begins; locals = f.locals; body = f.body; result = f.result; tail = f.tail } in
+    let last = both_edited three.front three.back two.back (parameters_tokens q.phrase) (rest_tokens f) three.parts q.to (itself three.back (lexemes_of (rest_tokens f)) three.two) in
+    let middle = both_edited two.front two.back one.back d (parameters_tokens q.phrase ++ rest_tokens f) two.parts (itself two.front (lexemes_of d) two.one) last in
+    let whole = both_edited one.front one.back ps (mark_tokens k.phrase) (d ++ (parameters_tokens q.phrase ++ rest_tokens f)) one.parts k.to middle in
+    record {
+      phrase = g;
+      is = record {
+        text = record { ty_is = refl; name_is = refl; locals_are = refl; body_is = refl; result_is = refl };
+        mark_right = k.right;
+        mark_is = k.tree_is;
+        params_right = q.right;
+        params_are = ap (map unplaced_parameter) q.trees;
+        declaration_is = refl;
+        opening_is = refl;
+        begins_is = refl;
+        locals_are = refl;
+        body_is = refl;
+        result_is = refl;
+        tail_is = refl;
+      };
+      to = record { new = whole.new; edited = whole.edited; lexemes = whole.lexemes ∙ ap lexemes_of (sym (tokens_are g)) };
+    }
+
+-- ---- items
+
+-- texts of functions with annotations
+data WithAnnotations : List FunctionText → List FunctionText → Type 0 where
+  none_with : WithAnnotations [] []
+  next_with : (calls : List KnownCall) (n : ℕ) (h : MarkText → MarkText) (f : FunctionText) {fs ts : List FunctionText} → WithAnnotations fs ts → WithAnnotations (f ∷ fs) (with_annotations calls n h f ∷ ts)
+
+record ItemsEdited (ps : List ItemPhrase) (ts : List FunctionText) (all : List Piece) : Type 0 where
+  items : List ItemPhrase
+  are : AnnotatedItems ps ts items
+  to : EditedTo all (lexemes_of (items_tokens items))
+
+items_edited : (ps : List ItemPhrase) (ts : List FunctionText) (all : List Piece) → WithAnnotations (functions_of (items_tree ps)) ts → CanBeSaid ts → AreItems ps → AreSpelled all → lexemes_in all ≡ lexemes_of (items_tokens ps) → ItemsEdited ps ts all
+items_edited [] [] all none_with said right spelled e = record { items = []; are = no_items; to = itself all [] e }
+items_edited [] (t ∷ ts) all with_ said right spelled e = elim with_ [ ]
+items_edited (of_global g ∷ ps) ts all with_ said right spelled e =
+    let c = piece_cut (global_tokens g) (items_tokens ps) all e in
+    let rest = items_edited ps ts c.back with_ said right.1 (spelled_right c.front c.back (subst AreSpelled (sym c.parts) spelled)) c.two in
+    record { items = of_global g ∷ rest.items; are = a_global g rest.are; to = both_edited c.front c.back all (global_tokens g) (items_tokens rest.items) c.parts (itself c.front (lexemes_of (global_tokens g)) c.one) rest.to }
+items_edited (of_function f ∷ ps) [] all with_ said right spelled e = elim with_ [ ]
+items_edited (of_function f ∷ ps) (_ ∷ ts) all (next_with calls n h _ more) said right spelled e =
+    let c = piece_cut (function_tokens f) (items_tokens ps) all e in
+    let spelled' = subst AreSpelled (sym c.parts) spelled in
+    let one = function_edited f calls n h c.front right.0 said.0 said.1 (spelled_left c.front c.back spelled') c.one in
+    let rest = items_edited ps ts c.back more said.2 right.1 (spelled_right c.front c.back spelled') c.two in
+    record { items = of_function one.phrase ∷ rest.items; are = a_function one.is rest.are; to = both_edited c.front c.back all (function_tokens one.phrase) (items_tokens rest.items) c.parts one.to rest.to }
+
+-- ---- programs
+
+texts_resolved : (fs : List FunctionText) (t : ℕ → ℕ) (n : ℕ) (gs : List GlobalVariable) (items : ProgramText) → texts_of (resolve_items fs t n gs items) ≡ functions_of items
+texts_resolved fs t n gs [] = refl
+texts_resolved fs t n gs (global_item g ∷ items) = texts_resolved fs t n (gs ++ g ∷ []) items
+texts_resolved fs t n gs (function_item f ∷ items) = ap (λ l. f ∷ l) (texts_resolved fs t (n + loops_within f.body) gs items)
+
+routines_with : (lengths : ℕ → ℕ) (gs : List GlobalVariable) (all : List Routine) (n k : ℕ) (fs : List Routine) → WithAnnotations (texts_of fs) (texts_of (marked_routines lengths gs all n (ranged_routines k fs)))
+unfolding with_annotations
+routines_with lengths gs all n k [] = none_with
+routines_with lengths gs all n k (f ∷ fs) =
+    next_with (calls_of_all (ranged_routines (k + 1) fs)) k (annotated_mark (regions_reached f.text.at gs all n) (lengths n)) f.text (routines_with lengths gs all (n + 1) (k + 1) fs)
+
+program_with : (lengths : ℕ → ℕ) (p : ProgramText) → WithAnnotations (functions_of p) (texts_of (all_annotated lengths p))
+program_with lengths p =
+    subst (λ l. WithAnnotations l (texts_of (all_annotated lengths p))) (texts_resolved (functions_of p) unlimited.turns 0 [] p) (routines_with lengths (resolved p).globals (all_ranged p) 0 0 (resolved p).routines)
+
+end_is : (x : Lexeme) → is_end x ≡ true → x ≡ end_of_text
+end_is end_of_text h = refl
+end_is _ h = absurd cc
+
+end_lexemes : (row : List Seen) → IsRow (the_end ∷ []) row → lexemes_of row ≡ end_of_text ∷ []
+end_lexemes [] h = absurd h
+end_lexemes (t ∷ []) h = ap (λ x. x ∷ []) (end_is t.0 h.0)
+end_lexemes (t ∷ u ∷ more) h = absurd h.1
+
+pub texts_are_there : AnnotatedTextsAreThere
+texts_are_there lengths text p is said =
+    let ts = texts_of (all_annotated lengths p) in
+    let phrase = is.phrase in
+    let pieces = pieces_of [] text is.tokens.tokens is.tokens.divides in
+    let end = end_lexemes phrase.end is.right.1 in
+    let whole : lexemes_of (items_tokens phrase.items) ++ end_of_text ∷ [] ≡ lexemes_in pieces.all ++ end_of_text ∷ [] =
+    ap (λ l. lexemes_of (items_tokens phrase.items) ++ l) (sym end) ∙ sym (lexemes_join (items_tokens phrase.items) phrase.end) ∙ ap lexemes_of (is.spelled ∙ is.tokens.is_all) ∙ lexemes_end is.tokens.tokens _ ∙ ap (λ l. l ++ end_of_text ∷ []) (sym pieces.lexemes) in
+    let same : lexemes_in pieces.all ≡ lexemes_of (items_tokens phrase.items) = append_cancel_right (lexemes_in pieces.all) (lexemes_of (items_tokens phrase.items)) (end_of_text ∷ []) (sym whole) in
+    let with_ : WithAnnotations (functions_of (items_tree phrase.items)) ts = subst (λ l. WithAnnotations (functions_of l) ts) (sym is.tree) (program_with lengths p) in
+    let new = items_edited phrase.items ts pieces.all with_ said is.right.0 (divided_spelled pieces.all pieces.divided) same in
+    record {
+      old = pieces.all;
+      old_is = pieces.text_is;
+      old_divided = pieces.divided;
+      new = new.to.new;
+      edited = new.to.edited;
+      items = new.items;
+      annotated_items = new.are;
+      lexemes = ap (λ l. l ++ end_of_text ∷ []) new.to.lexemes ∙ ap (λ l. lexemes_of (items_tokens new.items) ++ l) (sym end) ∙ sym (lexemes_join (items_tokens new.items) phrase.end);
+    }
+
+pub texts_are_annotated : TextsAreAnnotated
+texts_are_annotated lengths text p is a size count =
+    read_as_annotated lengths text p is a.new (edited_divide a.old a.new a.edited a.old_divided) (record { items = a.items; annotated_items = a.annotated_items; lexemes = a.lexemes; size = size; count = count })
