@@ -7,6 +7,7 @@ use Rattle.std.proofs.lemmas.List.{length-replicate}
 use Rattle.prem_io.specs.Files.{Files, stored}
 use Rattle.prem_answer.specs.declared.answer.Telling.{Telling}
 use Rattle.prem_answer.specs.declared.answer.Telling.TheVariants.{Whole, Brief}
+use Rattle.prem_answer.specs.declared.answer.Answer.{Answer}
 use Rattle.prem_answer.specs.declared.answer.Halt.{Halt}
 use Rattle.prem_answer.specs.declared.answer.Halt.TheVariants.{Answered, ReadFault as HaltReadFault, OutOfMemory as HaltOutOfMemory}
 use Rattle.prem_answer.specs.Stages.{Reply, reply_of, Comes, Reads, is_settled, IsFine, Stage, AreReads, IsReadBy, IsGiven, IsReadAs, IsReadAsBy, IsRead, within_by, form_by, missing_reply, reading, reading_by, and_then, later_reads}
@@ -80,6 +81,12 @@ ends_there_by how told limit name make next reply read =
 -- where no file is read any more
 pub gives_at_once : {A : Type 0} → (told : Option Files) (given : Result A Reply) → IsGiven told (λ reads. given) given
 gives_at_once told given = let (reads, are) = some_reads told in (reads, (are, refl))
+
+pub given_at_once : (told : Option Files) (reply : Reply) (r : Result Answer Halt) → Comes reply_of (λ given. given ≡ Ok reply) r → Comes reply_of (IsGiven told (λ reads. Ok reply)) r
+given_at_once told reply (Ok a) is = let (reads, are) = some_reads told in (reads, (are, is))
+given_at_once told reply (Err (Answered a)) is = let (reads, are) = some_reads told in (reads, (are, is))
+given_at_once told reply (Err HaltReadFault) is = tt
+given_at_once told reply (Err HaltOutOfMemory) is = tt
 
 -- ---- answers that may be given
 

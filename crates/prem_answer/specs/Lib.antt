@@ -1,2 +1,4 @@
 pub mod Stages
+pub mod Statuses
+pub mod Tool
 pub mod Refusal

@@ -1,11 +1,12 @@
 //! Answers of the programs over stores and sinks in memory: to sources, at limits, to commands whose outside may fail, of
-//! two cores, and in plain words.
+//! two cores, of the response test, and in plain words.
 //!
 //! Each answer is a line, with a `$` for each end of a line of what is written. `stdout` has the lines as they were
 //! worked out by hand.
 #![tactic(auto)]
 
 mod commands;
+mod fits;
 mod limits;
 mod lints;
 mod pairs;
@@ -20,6 +21,7 @@ fn main(rt: HostRuntime) -> io::Result<()> {
     commands::tell(&rt, "sets.txt")?;
     commands::tell(&rt, "runs.txt")?;
     pairs::tell(&rt, "pairs.txt")?;
+    fits::tell(&rt, "fits.txt")?;
     commands::tell_steady(&rt)?;
     lints::tell(&rt)
 }

@@ -37,10 +37,10 @@ told_is asked set input c reply is told =
 
 -- ---- the stages
 
-abbrev behind_run : ChartAsked → TaskSet → RunText → Stage Reply
+abbrev pub behind_run : ChartAsked → TaskSet → RunText → Stage Reply
 behind_run asked set input reads = Ok (set_reply asked set input)
 
-abbrev behind_set : ChartAsked → TaskSet → Stage Reply
+abbrev pub behind_set : ChartAsked → TaskSet → Stage Reply
 behind_set asked set = reading_run set asked.run (behind_run asked set)
 
 pub chart_told : (told : Option Files) (asked : ChartAsked) (set : TaskSet) (input : RunText) (given : Result Reply Reply) → Passes told (reading_set asked.set) (Ok set) →

@@ -1,4 +1,4 @@
 pub mod Noted
 pub mod Traces
 pub mod Charted
-pub mod Told
+pub mod Tool

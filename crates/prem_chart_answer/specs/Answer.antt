@@ -1,6 +1,5 @@
 -- The answer to `SET RUN [--from N] [--to N]`: the picture of the run of a compiled set, or the first rule that the set breaks.
-use Rattle.std.specs.Prelude.{◌≡◌, ℕ, ◌+◌, ◌-◌, ◌^◌, min, max, List, take, Option, None, Some, Ok, unwrap_or, codes}
-use Rattle.std.specs.Io.KnownBytes.{append_known}
+use Rattle.std.specs.Prelude.{◌≡◌, ⊤, ℕ, ◌+◌, ◌-◌, ◌^◌, min, max, List, Option, None, Some, Ok, unwrap_or, codes}
 use Rattle.prem_io.specs.Files.{Files}
 use Rattle.prem_lru.specs.Rules.{rule_of}
 use Rattle.prem_image.specs.Text.{ImageText}
@@ -14,13 +13,14 @@ use Rattle.prem_tasks.specs.Compiled.{CompiledText, compiled}
 use Rattle.prem_command.specs.Chart.{ChartAsked, chart_of}
 use Rattle.prem_chart.specs.declared.view.View.{View}
 use Rattle.prem_chart.specs.Picture.{chart_text}
-use Rattle.prem_answer.specs.declared.status.Status.{Status}
-use Rattle.prem_answer.specs.declared.status.Status.TheVariants.{Done, Usage, ReadFault, WriteFault, OutOfMemory}
-use Rattle.prem_answer.specs.Stages.{Reply, Reads, Stage, AreReads, replied}
+use Rattle.prem_answer.specs.declared.status.Status.TheVariants.{Done}
+use Rattle.prem_answer.specs.Stages.{Reply, Stage}
+use Rattle.prem_answer.specs.Tool.{ToolMeaning}
 use Rattle.prem_answer.specs.Refusal.Texts.{refused_reply}
 use Rattle.prem_exec.specs.Forms.{RunText}
 use Rattle.prem_exec.specs.Exec.{state_at, stop_at}
 use Rattle.prem_exec.specs.Sources.Sources.{reading_set, reading_run}
+use Rattle.prem_exec.specs.Sources.There.{RunIsThere, SetIsThere}
 use Rattle.prem_running.specs.Running.{run_limit}
 use Rattle.prem_chart_answer.specs.Notes.{notes_of}
 
@@ -58,35 +58,23 @@ set_reply asked set input = judged_reply asked set input (broken set)
 abbrev pub chart_stages : ChartAsked → Stage Reply
 chart_stages asked = reading_set asked.set (λ set. reading_run set asked.run (λ input reads. Ok (set_reply asked set input)))
 
-abbrev pub usage_reply : Reply
-usage_reply = (Usage, codes "usage: prem_chart SET RUN [--from N] [--to N]\n")
+-- ---- the program
 
--- to what the words ask for, or where they ask for nothing
-abbrev pub command_stages : Option ChartAsked → Stage Reply
-command_stages None = λ reads. Ok usage_reply
-command_stages (Some asked) = chart_stages asked
+-- the set and its run file are there and in form, and the set breaks no rule
+pub record Succeeds (files : Files) (asked : ChartAsked) (reply : Reply) : Type 0 where
+  pub set : TaskSet
+  pub input : RunText
+  pub there : SetIsThere files asked.set set
+  pub run_there : RunIsThere files set asked.run input
+  pub unbroken : broken set ≡ None
+  pub reply_is : reply ≡ compiled_reply asked input (compiled set)
 
--- the status and the text for the words, over what is read
-abbrev pub answer : List (List ℕ) → Reads → Reply
-answer words reads = replied (command_stages (chart_of words) reads)
-
--- ---- the top call
-
--- a status and a text are the answer over the files that the store tells, or over some readings where it tells none
-pub record IsAnswer (words : List (List ℕ)) (told : Option Files) (given : Reply) : Type 0 where
-  pub reads : Reads
-  pub are_read : AreReads told reads
-  pub is : given ≡ answer words reads
-
--- what a call with this status wrote, where its answer is `given`, by what the sink tells before and after
-abbrev pub Ends : Reply → Option (List ℕ) → Option (List ℕ) → Status → Type 0
-Ends given old new WriteFault = (n : ℕ) × (new ≡ append_known old (take n given.1))
-Ends given old new ReadFault = new ≡ old
-Ends given old new OutOfMemory = new ≡ old
-Ends given old new status = (status ≡ given.0) × (new ≡ append_known old given.1)
-
--- its status and what it wrote are those of the answer, a prefix of it behind a fault of the sink, or nothing
-pub record Answered (words : List (List ℕ)) (told : Option Files) (old new : Option (List ℕ)) (status : Status) : Type 0 where
-  pub given : Reply
-  pub answer : IsAnswer words told given
-  pub ends : Ends given old new status
+abbrev pub chart_tool : ToolMeaning
+chart_tool = record {
+  Asked = ChartAsked;
+  asked_of = chart_of;
+  usage = codes "usage: prem_chart SET RUN [--from N] [--to N]\n";
+  stages = chart_stages;
+  keeps = λ asked reads given. ⊤;
+  succeeds = Succeeds;
+}

@@ -4,3 +4,4 @@ pub mod FileEntry
 pub mod Answers
 pub mod MemoryStore
 pub mod MemorySink
+pub mod WordsCode

@@ -1,5 +1,5 @@
 pub mod Chains
-pub mod Commanded
+pub mod Tool
 pub mod Linting
 pub mod Standing
 pub mod Stated

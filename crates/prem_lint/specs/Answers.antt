@@ -1,7 +1,6 @@
 -- The answer to a set: nothing where it breaks no rule, else its first broken rule.
-use Rattle.std.specs.Prelude.{◌≡◌, ℕ, List, [], ◌∷◌, ◌++◌, take, map, Option, None, Some, Ok, slice_get, codes}
+use Rattle.std.specs.Prelude.{◌≡◌, ⊤, ℕ, List, [], ◌++◌, map, Option, None, Some, Ok, slice_get, codes}
 use Rattle.std.specs.Option.{option_map_or}
-use Rattle.std.specs.Io.KnownBytes.{append_known}
 use Rattle.prem_io.specs.Files.{Files}
 use Rattle.prem_syntax.specs.Syntax.{Text}
 use Rattle.prem_layout.specs.Rules.{Refusal}
@@ -9,12 +8,13 @@ use Rattle.prem_tasks.specs.Told.{Told}
 use Rattle.prem_tasks.specs.Broken.{TaskText, TaskSet, broken}
 use Rattle.prem_set.specs.SetFile.{SetData}
 use Rattle.prem_set.specs.declared.task.TaskEntry.{TaskEntry}
-use Rattle.prem_command.specs.Words.{Asked, one, check, build, list, source, run, exec, sample, tile, color, mail, command_of}
+use Rattle.prem_command.specs.Words.{name_of}
 use Rattle.prem_answer.specs.declared.answer.Telling.TheVariants.{Whole}
-use Rattle.prem_answer.specs.declared.status.Status.{Status}
-use Rattle.prem_answer.specs.declared.status.Status.TheVariants.{Done, Refused, Usage, ReadFault, WriteFault, OutOfMemory}
-use Rattle.prem_answer.specs.Stages.{Reply, Reads, Stage, AreReads, reading, replied}
+use Rattle.prem_answer.specs.declared.status.Status.TheVariants.{Done, Refused}
+use Rattle.prem_answer.specs.Stages.{Reply, Stage, reading}
+use Rattle.prem_answer.specs.Tool.{ToolMeaning}
 use Rattle.prem_exec.specs.Sources.Sources.{reading_sources}
+use Rattle.prem_exec.specs.Sources.There.{SetIsThere}
 use Rattle.prem_lint.specs.Places.{spot_of}
 use Rattle.prem_lint.specs.Diagnostics.{Diagnostic, diagnostic_text}
 use Rattle.prem_lint.specs.Needs.{needs_text, source_name}
@@ -65,47 +65,21 @@ behind_file name s = reading_sources Whole s (behind_set name s)
 abbrev pub lint_stages : Text → Stage Reply
 lint_stages name = reading set_limit name (stated_in name) (behind_file name)
 
--- ---- the words
+-- ---- the program
 
-abbrev pub usage_reply : Reply
-usage_reply = (Usage, codes "usage: prem_lint SET\n")
+-- the set is there and in form, and breaks no rule
+pub record Succeeds (files : Files) (name : Text) (reply : Reply) : Type 0 where
+  pub set : TaskSet
+  pub there : SetIsThere files name set
+  pub unbroken : broken set ≡ None
+  pub reply_is : reply ≡ (Done, [])
 
--- the set that is to be checked
-abbrev pub asked_set : Asked → Option Text
-asked_set (one file) = None
-asked_set (check set) = Some set
-asked_set (build set) = None
-asked_set (list set) = None
-asked_set (source set file) = None
-asked_set (run asked) = None
-asked_set (exec asked) = None
-asked_set (sample seed) = None
-asked_set (tile asked) = None
-asked_set (color set) = None
-asked_set (mail asked) = None
-
-abbrev pub lint_of : Option Text → Stage Reply
-lint_of None reads = Ok usage_reply
-lint_of (Some name) reads = lint_stages name reads
-
-abbrev pub lint_asked : Option Asked → Stage Reply
-lint_asked None = lint_of None
-lint_asked (Some asked) = lint_of (asked_set asked)
-
--- the words are those of a check, without its name
-abbrev pub lint_command : List (List ℕ) → Stage Reply
-lint_command words = lint_asked (command_of (codes "check" ∷ words))
-
--- what a call with this status wrote, where its answer is `given`, by what the sink tells before and after
-abbrev pub Ends : Reply → Option (List ℕ) → Option (List ℕ) → Status → Type 0
-Ends given old new WriteFault = (n : ℕ) × (new ≡ append_known old (take n given.1))
-Ends given old new ReadFault = new ≡ old
-Ends given old new OutOfMemory = new ≡ old
-Ends given old new status = (status ≡ given.0) × (new ≡ append_known old given.1)
-
--- the status and what was written are those of the answer over the files that the store tells, or over some readings where it tells none; a
--- prefix of it behind a fault of the sink, or nothing
-pub record Answered (words : List (List ℕ)) (told : Option Files) (old new : Option (List ℕ)) (status : Status) : Type 0 where
-  pub reads : Reads
-  pub are_read : AreReads told reads
-  pub ends : Ends (replied (lint_command words reads)) old new status
+abbrev pub lint_tool : ToolMeaning
+lint_tool = record {
+  Asked = Text;
+  asked_of = name_of;
+  usage = codes "usage: prem_lint SET\n";
+  stages = lint_stages;
+  keeps = λ name reads given. ⊤;
+  succeeds = Succeeds;
+}

@@ -1,97 +1,30 @@
 // The program's call.
-ghost use Rattle.std.specs.Prelude.{◌≡◌, ◌≤◌, ◌⊎◌, ◌∷◌, IfOk, IsErrOf, IsTrue, Ok, codes, map, option_map, string_bytes};
+ghost use Rattle.std.specs.Prelude.{◌≡◌, ◌≤◌, map, string_bytes};
 ghost use Rattle.prem_io.specs.Counts.{Rose};
-ghost use Rattle.prem_command.specs.Words.{asked_in};
-ghost use Rattle.prem_answer.specs.Stages.{Comes, IsGiven, is_settled, reply_of};
-ghost use Rattle.prem_lint.specs.Answers.{Answered, Ends, lint_command, lint_of, usage_reply, asked_set};
+ghost use Rattle.prem_answer.specs.Tool.{Answered, IsComplete};
+ghost use Rattle.prem_lint.specs.Answers.{lint_tool};
 
 use crate::answer::lint_answer;
-use prem_answer::{Answer, Halt, Status, write_all};
-use prem_command::{Said, WordsFail, command};
+use prem_answer::{Answer, Halt, Status, Tool, run_tool, usage};
+use prem_command::{WordsFail, name_of};
 use prem_io::{Sink, Store};
-use std::alloc::{AllocError, Global};
+use std::alloc::Global;
 
 /// The usage line.
-fn usage(alloc: Global) -> Result<Answer, Halt>
-    ensures usage { Comes reply_of (λ given. given ≡ Ok usage_reply) result }
-    ensures unread { IsErrOf result Halt.ReadFault → ⊥ }
-{
-    Ok(Answer {
-        status: Status::Usage,
-        text: b"usage: prem_lint SET\n".to_vec(alloc)?,
-    })
-}
+const USAGE: &str = "usage: prem_lint SET\n";
 
-/// The words of a check of what the words name.
-fn with_check(alloc: Global, words: &[String]) -> Result<Vec<String>, AllocError>
-    ensures { IfOk result (λ all. map string_bytes all.items ≡ codes "check" ∷ map string_bytes words.now) }
-{
-    let mut all = Vec::new(alloc);
-    all.push(String::from_str(alloc, "check")?)?;
-    for word in words {
-        all.push(String::from_str(alloc, word.as_str())?)?;
-    }
-    Ok(all)
-}
+/// The program.
+struct LintTool;
 
-/// The set that is to be checked.
-fn asked_set<'a>(said: Said<'a>) -> Option<&'a str>
-    ensures { option_map (λ s. s.now) result ≡ asked_set (asked_in said.entry) }
-{
-    match said {
-        Said::Check { set } => Some(set),
-        Said::One { .. } => None,
-        Said::Build { .. } => None,
-        Said::List { .. } => None,
-        Said::Source { .. } => None,
-        Said::Run(_) => None,
-        Said::Exec(_) => None,
-        Said::Sample { .. } => None,
-        Said::Tile(_) => None,
-        Said::Color { .. } => None,
-        Said::Mail(_) => None,
-    }
-}
+impl Tool for LintTool {
+    ghost meaning = { lint_tool };
 
-/// The answer where the words name a set or not.
-fn answer_of<S: Store>(alloc: Global, set: Option<&str>, store: &mut S) -> Result<Answer, Halt>
-    ensures answer { Comes reply_of (IsGiven (S.files store.old) (lint_of (option_map (λ s. s.now) set.entry))) result }
-    ensures fault { IsErrOf result Halt.ReadFault → Rose (S.faults store.old) (S.faults store.new) }
-    ensures later { S.faults store.old ≤ S.faults store.new }
-    ensures same { S.files store.new ≡ S.files store.old }
-{
-    match set {
-        Some(name) => lint_answer(alloc, name, store),
-        None => usage(alloc),
-    }
-}
-
-/// The answer to the words, over what the store gives.
-fn find_answer<S: Store>(alloc: Global, words: &[String], store: &mut S) -> Result<Answer, Halt>
-    ensures answer { Comes reply_of (IsGiven (S.files store.old) (lint_command (map string_bytes words.now))) result }
-    ensures fault { IsErrOf result Halt.ReadFault → Rose (S.faults store.old) (S.faults store.new) }
-    ensures later { S.faults store.old ≤ S.faults store.new }
-    ensures same { S.files store.new ≡ S.files store.old }
-{
-    let checked = with_check(alloc, words)?;
-    match command(alloc, &checked) {
-        Ok(said) => answer_of(alloc, asked_set(said), store),
-        Err(WordsFail::Usage) => answer_of(alloc, None, store),
-        Err(WordsFail::OutOfMemory) => Err(Halt::OutOfMemory),
-    }
-}
-
-/// Writes an answer.
-fn finish<K: Sink>(sink: &mut K, answer: Answer) -> Status
-    requires { IsTrue (is_settled answer.status) }
-    ensures ends { Ends (answer.status, answer.text.items) (K.bytes sink.old) (K.bytes sink.new) result }
-    ensures write { result ≡ Status.WriteFault → Rose (K.faults sink.old) (K.faults sink.new) }
-    ensures others { IsTrue (is_settled result) ⊎ (result ≡ Status.WriteFault) }
-    ensures later { K.faults sink.old ≤ K.faults sink.new }
-{
-    match write_all(sink, &answer.text) {
-        Ok(()) => answer.status,
-        Err(_) => Status::WriteFault,
+    fn answer<S: Store>(alloc: Global, words: &[String], store: &mut S) -> Result<Answer, Halt> {
+        match name_of(alloc, words) {
+            Ok(set) => lint_answer(alloc, set, store),
+            Err(WordsFail::Usage) => usage(alloc, USAGE),
+            Err(WordsFail::OutOfMemory) => Err(Halt::OutOfMemory),
+        }
     }
 }
 
@@ -105,7 +38,10 @@ pub fn lint<S: Store, K: Sink>(
     store: &mut S,
     sink: &mut K,
 ) -> Status
-    ensures answered { Answered (map string_bytes words.now) (S.files store.old) (K.bytes sink.old) (K.bytes sink.new) result }
+    ensures answered { Answered lint_tool (map string_bytes words.now) (S.files store.old) (K.bytes sink.old) (K.bytes sink.new) result }
+
+    // Where the files are there and in form, no rule is broken and no fault is counted, nothing is said, but for want of memory.
+    ensures complete { (Rose (S.faults store.old) (S.faults store.new) → ⊥) → (Rose (K.faults sink.old) (K.faults sink.new) → ⊥) → IsComplete lint_tool (map string_bytes words.now) (S.files store.old) (K.bytes sink.old) (K.bytes sink.new) result }
 
     // A fault is answered only where it was counted.
     ensures read { result ≡ Status.ReadFault → Rose (S.faults store.old) (S.faults store.new) }
@@ -119,10 +55,5 @@ pub fn lint<S: Store, K: Sink>(
     ensures reads_counted { S.faults store.old ≤ S.faults store.new }
     ensures writes_counted { K.faults sink.old ≤ K.faults sink.new }
 {
-    match find_answer(alloc, words, store) {
-        Ok(answer) => finish(sink, answer),
-        Err(Halt::Answered(answer)) => finish(sink, answer),
-        Err(Halt::ReadFault) => Status::ReadFault,
-        Err(Halt::OutOfMemory) => Status::OutOfMemory,
-    }
+    run_tool::<LintTool, S, K>(alloc, words, store, sink)
 }

@@ -1,5 +1,5 @@
 -- Sets in memory, compiled, and the answer to both.
-use Rattle.std.proofs.Common.{◌≡◌, ℕ, List, [], Option, None, ap, ◌∙◌, sym}
+use Rattle.std.proofs.Common.{◌≡◌, ℕ, List, [], Option, None, ap, ◌∙◌, sym, subst}
 use Rattle.prem_list.specs.Sequence.{items_of}
 use Rattle.prem_gate.specs.declared.request.RunInput.{RunInput}
 use Rattle.prem_layout.specs.Rules.{Refusal}
@@ -15,14 +15,19 @@ use Rattle.prem_exec.specs.Forms.{RunText}
 use Rattle.prem_exec.specs.Sources.Sources.{names_of}
 use Rattle.prem_running.proofs.Runs.{input_fits}
 use Rattle.prem_pair_top.specs.Words.{PairAsked}
+use Rattle.prem_pair_top.specs.Running.{CountsDue}
 use Rattle.prem_pair_top.specs.Stages.{compiled_text, judged_reply, sets_reply}
-use Rattle.prem_pair_top.proofs.Sets.{no_devices}
+use Rattle.prem_pair_top.proofs.Sets.{counts_due, no_devices}
 use Rattle.prem_pair_top.proofs.Runs.{no_requests}
 
 -- a set without devices is asked for no transfer
 pub asks_nothing : (set : TaskSet) (c : Compiled) (input : RunInput) → IsCompiled set c → IsLawfulRun (names_of set) input → set.devices ≡ [] → items_of input.requests ≡ []
 asks_nothing set c input is lawful none =
     no_requests (items_of c.image.devices) (items_of input.requests) (ap (λ (t : CompiledText). t.image.devices) is.compiled ∙ no_devices set none) (input_fits set c input is lawful).short.trace
+
+-- its limit counts what its jobs are due
+pub compiled_counts_due : (set : TaskSet) (c : Compiled) → IsCompiled set c → CountsDue (compiled_of c)
+compiled_counts_due set c is = subst CountsDue (sym is.compiled) (counts_due set)
 
 -- ---- the answer to both
 

@@ -5,15 +5,17 @@ use Rattle.prem_tasks.specs.Told.{Told}
 use Rattle.prem_tasks.specs.Broken.{TaskSet, broken}
 use Rattle.prem_tasks.specs.Compiled.{compiled}
 use Rattle.prem_answer.specs.declared.answer.Telling.TheVariants.{Brief}
-use Rattle.prem_answer.specs.declared.status.Status.TheVariants.{Done, Refused}
+use Rattle.prem_answer.specs.declared.status.Status.TheVariants as status
 use Rattle.prem_answer.specs.Stages.{Reply, Reads, Stage, replied}
 use Rattle.prem_exec.specs.Forms.{RunText}
 use Rattle.prem_exec.specs.Sources.Sources.{reading_run_by, reading_set_by}
-use Rattle.prem_exec.proofs.SourcesLemmas.Reading.{is_judged, IsRight, anything, Goes, Outcome, Stops, set_outcome}
+use Rattle.prem_exec.proofs.SourcesLemmas.Reading.{done_judged, is_judged, refused_judged, IsRight, anything, Goes, Outcome, Stops, set_outcome}
+use Rattle.prem_answer.specs.declared.status.PlainStatus.TheVariants.{Done, Refused}
+use Rattle.prem_answer.specs.Statuses.{plain_status}
 use Rattle.prem_pair_top.specs.Words.{PairAsked}
 use Rattle.prem_pair_top.specs.Running.{cycles_in, limit_in}
-use Rattle.prem_pair_top.specs.Stages.{compiled_text, judged_reply, pair_stages, reading_other, refused_text, sets_reply, words_answer}
-use Rattle.prem_pair_top.specs.Headline.{AreRead, Keeps, TellsBroken, WordsKeep}
+use Rattle.prem_pair_top.specs.Stages.{compiled_text, judged_reply, pair_stages, reading_other, refused_text, sets_reply}
+use Rattle.prem_pair_top.specs.Headline.{AreRead, Keeps, TellsBroken}
 use Rattle.prem_pair_top.proofs.Reading.{none_there, SuitsSet, second_outcome, run_outcome}
 use Rattle.prem_pair_top.proofs.Sets.{pair_reports_end, pairs_of_sets_are_sound}
 use Rattle.prem_pair_top.proofs.Limits.{pair_limits_are_small}
@@ -94,14 +96,14 @@ module _ (asked : PairAsked) (given : Reply) (judged : is_judged given.0 ≡ tru
 -- ---- by the first broken rules
 
 record Judged (asked : PairAsked) (one two : TaskSet) (input other : RunText) (given : Reply) : Type 0 where
-  on_done : given.0 ≡ Done → (broken one ≡ None) × ((broken two ≡ None) × (given.1 ≡ compiled_text asked input other (compiled one) (compiled two)))
-  on_refused : given.0 ≡ Refused → TellsBroken one two given.1
+  on_done : plain_status given.0 ≡ Done → (broken one ≡ None) × ((broken two ≡ None) × (given.1 ≡ compiled_text asked input other (compiled one) (compiled two)))
+  on_refused : plain_status given.0 ≡ Refused → TellsBroken one two given.1
 
-refused_is_other : (text : List ℕ) (given : Reply) → (Refused, text) ≡ given → given.0 ≡ Done → ⊥
-refused_is_other text given same done = let no : Refused ≡ Done = ap (λ (r : Reply). r.0) same ∙ done in absurd cc
+refused_is_other : (text : List ℕ) (given : Reply) → (status.Refused, text) ≡ given → plain_status given.0 ≡ Done → ⊥
+refused_is_other text given same done = let no : Refused ≡ Done = ap (λ (r : Reply). plain_status r.0) same ∙ done in absurd cc
 
-done_is_other : (text : List ℕ) (given : Reply) → (Done, text) ≡ given → given.0 ≡ Refused → ⊥
-done_is_other text given same refused = let no : Done ≡ Refused = ap (λ (r : Reply). r.0) same ∙ refused in absurd cc
+done_is_other : (text : List ℕ) (given : Reply) → (status.Done, text) ≡ given → plain_status given.0 ≡ Refused → ⊥
+done_is_other text given same refused = let no : Done ≡ Refused = ap (λ (r : Reply). plain_status r.0) same ∙ refused in absurd cc
 
 judged_by : (asked : PairAsked) (one two : TaskSet) (input other : RunText) (given : Reply) (a b : Option (Refusal Told)) → broken one ≡ a → broken two ≡ b →
     judged_reply asked one two input other a b ≡ given → Judged asked one two input other given
@@ -123,10 +125,10 @@ judged_all reads asked given r = judged_by asked r.one r.two r.input r.other giv
 
 -- ---- the answers
 
-pairs_keep : (asked : PairAsked) (reads : Reads) (given : Reply) → replied (pair_stages asked reads) ≡ given → Keeps reads asked given
+pub pairs_keep : (asked : PairAsked) (reads : Reads) (given : Reply) → replied (pair_stages asked reads) ≡ given → Keeps reads asked given
 pairs_keep asked reads given is = record {
   on_done = λ done.
-      let r = all_read asked given (ap is_judged done) reads is in
+      let r = all_read asked given (done_judged given.0 done) reads is in
       let told = (judged_all reads asked given r).on_done done in
       let sound = pairs_of_sets_are_sound r.one r.two r.read.values r.read.other_values told.0 told.1.0 r.read.none in
       let suits = (r.suits told.0).0 in
@@ -147,10 +149,6 @@ pairs_keep asked reads given is = record {
         text_is = told.1.1;
       };
   on_refused = λ refused.
-      let r = all_read asked given (ap is_judged refused) reads is in
+      let r = all_read asked given (refused_judged given.0 refused) reads is in
       record { one = r.one; two = r.two; input = r.input; other = r.other; read = r.read; tells = (judged_all reads asked given r).on_refused refused };
 }
-
-pub headline_is : (asked : Option PairAsked) (reads : Reads) (given : Reply) → replied (words_answer asked reads) ≡ given → WordsKeep asked reads given
-headline_is None reads given is = tt
-headline_is (Some asked) reads given is = pairs_keep asked reads given is

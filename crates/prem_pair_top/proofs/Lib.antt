@@ -7,4 +7,4 @@ pub mod CompiledSets
 pub mod Reading
 pub mod Headline
 pub mod Stages
-pub mod Complete
+pub mod Tool

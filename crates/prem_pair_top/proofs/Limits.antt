@@ -1,7 +1,7 @@
 -- By cycle 2 ^ 61 two sets that break no rule have finished together.
 use Rattle.std.specs.Prelude.{if◌then◌else◌}
 use Rattle.std.specs.List.{AllByRecursion}
-use Rattle.std.proofs.Common.{◌≡◌, ◌+◌, ◌-◌, ◌*◌, ◌^◌, ◌≤◌, ℕ, suc, nat_lt, max, Bool, true, false, List, [], ◌∷◌, length, map, drop, None, Some, refl, arith, All}
+use Rattle.std.proofs.Common.{◌≡◌, ◌+◌, ◌-◌, ◌*◌, ◌^◌, ◌≤◌, ℕ, suc, nat_lt, max, Bool, true, false, List, [], ◌∷◌, length, map, drop, None, Some, refl, subst, arith, All}
 use Rattle.std.proofs.lemmas.Bool.Decides.{nat_tests}
 use Rattle.std.proofs.lemmas.List.Elements.{All-head, All-tail}
 use Rattle.std.proofs.lemmas.List.Sums.{sum_by-cons}
@@ -24,9 +24,10 @@ use Rattle.prem_tasks.specs.Broken.{TaskText, TaskSet, broken, programs_of}
 use Rattle.prem_tasks.specs.Compiled.{coded_in, compiled, job_bounds, places_in, placed_in}
 use Rattle.prem_sets_sound.specs.Accepted.Accepted.{HasTextValues, HasValues, setup_in}
 use Rattle.prem_sets_sound.proofs.AcceptedLemmas.Follow.{keeps}
-use Rattle.prem_running.proofs.SetLawsLemmas.Limits.{InRange, IsSmall, bounds_are_small, eight_kept, last_small, two_kept}
+use Rattle.prem_running.proofs.SetLawsLemmas.Limits.{InRange, IsSmall, bounds_are_small, eight_kept, two_kept}
+use Rattle.prem_pair_top.specs.Running.{due_in}
 use Rattle.prem_pair_top.specs.Sound.{PairLimitsAreSmall}
-use Rattle.prem_pair_top.proofs.Sets.{joined}
+use Rattle.prem_pair_top.proofs.Sets.{joined, work_is_due}
 
 -- ---- the jobs of a set
 
@@ -71,7 +72,7 @@ releases_small p (t ∷ ts) h =
 
 record SmallSet (set : TaskSet) : Type 0 where
   released : last_release (setup_in set).tasks ≤ 281466386710530
-  limited : (compiled set).limit ≤ 288510743026794498
+  due : due_in (compiled set) ≤ 288229276640083968
 
 small_set : (set : TaskSet) → HasValues set → broken set ≡ None → SmallSet set
 small_set set values e =
@@ -80,7 +81,10 @@ small_set set values e =
     let small : AllByRecursion IsSmall js = bounds_are_small p 0 0 (places_in set) set.tasks (programs_of set.tasks) (ranges_in set.tasks values.each) (two_kept set e) (eight_kept set e) in
     let total : total_of intervals_of (coded_in set) ≤ 262143 = few (total_of outputs_of (coded_in set)) (total_of intervals_of (coded_in set)) (keeps set e).logs in
     let work : work_of js ≤ total_of intervals_of (coded_in set) * 1099511627776 = work_few p (places_in set) (coded_in set) small in
-    record { released = releases_small p (placed_in set) small; limited = omega (arith, last_small js small, total, work) }
+    record { released = releases_small p (placed_in set) small; due = subst (λ n. n ≤ 288229276640083968) (work_is_due p (placed_in set)) (most (work_of js) (total_of intervals_of (coded_in set)) total work) }
+  where
+    most : (w n : ℕ) → n ≤ 262143 → w ≤ n * 1099511627776 → w ≤ 288229276640083968
+    most w n few h = omega (arith, few, h)
 
 -- ---- requests
 
@@ -113,9 +117,9 @@ pair_limits_are_small one two values other_values none other_none input fits =
     let image = (joined one values none).image in
     let costs : all_costs p.devices input.requests ≤ length input.requests * 100000 =
     costs_small p.devices input.requests (λ r is. (image.each_device r.device no_device is.device).device.cost.1) fits.short.trace.each in
-    within (last_release p.tasks) (last_release q.tasks) (compiled one).limit (compiled two).limit (last_request input.requests) (all_costs p.devices input.requests) (length input.requests)
-    a.released b.released a.limited b.limited (cycles_small input.requests fits.short.early) costs fits.short.count
+    within (last_release p.tasks) (last_release q.tasks) (due_in (compiled one)) (due_in (compiled two)) (last_request input.requests) (all_costs p.devices input.requests) (length input.requests)
+    a.released b.released a.due b.due (cycles_small input.requests fits.short.early) costs fits.short.count
   where
-    within : (r s c d m n k : ℕ) → r ≤ 281466386710530 → s ≤ 281466386710530 → c ≤ 288510743026794498 → d ≤ 288510743026794498 → m ≤ 1125899906842624 → n ≤ k * 100000 → k ≤ 100000 →
-        max r s + ((c - r) + (d - s)) + (m + n) ≤ 2 ^ 61
+    within : (r s c d m n k : ℕ) → r ≤ 281466386710530 → s ≤ 281466386710530 → c ≤ 288229276640083968 → d ≤ 288229276640083968 → m ≤ 1125899906842624 → n ≤ k * 100000 → k ≤ 100000 →
+        max r s + (c + d) + (m + n) ≤ 2 ^ 61
     within r s c d m n k a b e f g h i = omega (arith, a, b, e, f, g, h, i)

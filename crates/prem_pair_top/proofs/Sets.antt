@@ -1,7 +1,8 @@
 -- Two sets that break no rule are sound together.
-use Rattle.std.specs.Prelude.{drop}
-use Rattle.std.proofs.Common.{◌≡◌, ◌+◌, ◌≤◌, ◌⊎◌, ◌==◌, ◌||◌, ℕ, Bool, true, false, cond, List, [], None, Some, Option, unwrap_or, refl, ap, ◌∙◌, sym, arith, inl, inr, ⊎_elim, true≢false}
+use Rattle.std.specs.Prelude.{drop, max}
+use Rattle.std.proofs.Common.{◌≡◌, ◌+◌, ◌-◌, ◌*◌, ◌≤◌, ◌⊎◌, ◌==◌, ◌||◌, ℕ, Bool, true, false, cond, List, [], ◌∷◌, map, None, Some, Option, unwrap_or, refl, ap, ◌∙◌, sym, arith, inl, inr, ⊎_elim, true≢false}
 use Rattle.std.proofs.lemmas.Bool.{cases_Bool, false_from_ne_true}
+use Rattle.prem_plant.specs.declared.plant.Plant.{Plant}
 use Rattle.prem_plant.specs.declared.plant.Device.{Device}
 use Rattle.prem_plant.specs.Order.Rules.{order_rule_of, passes_of}
 use Rattle.prem_lru.specs.Rules.{rule_of}
@@ -9,17 +10,20 @@ use Rattle.prem_cycle.specs.declared.state.Trap.{Trap}
 use Rattle.prem_cycle.specs.Alone.{run_in}
 use Rattle.prem_cycle.specs.Cycle.{is_full}
 use Rattle.prem_cycle.specs.Run.{memory_of}
+use Rattle.prem_sound.specs.Script.Scripts.{last_release as last_of}
 use Rattle.prem_sound.proofs.ResidentLemmas.Policies.{kind_policy}
 use Rattle.prem_pair.specs.declared.cycles.state.PairStop.{PairStop}
 use Rattle.prem_pair.specs.declared.cycles.state.PairStop.TheVariants.{Finished, Limit}
-use Rattle.prem_pair.specs.Cycles.Pair.{PairState, both_finished, full_stop, is_pair_over, one_full, one_trapped, pair_start, trap_stop}
-use Rattle.prem_pair.specs.Laws.PairSound.{GivesScripts}
+use Rattle.prem_pair.specs.Cycles.Pair.{PairState, both_finished, full_stop, is_pair_over, one_full, one_trapped, pair_start, pair_stop_of, trap_stop}
+use Rattle.prem_pair.specs.Laws.PairSound.{due_of, GivesScripts}
 use Rattle.prem_pair.proofs.CyclesLemmas.PairRuns.{pair_cycles-add, pair_cycles-over}
 use Rattle.prem_pair.proofs.LawsLemmas.Images.{pairs_of_images}
-use Rattle.prem_layout.specs.Image.{device_records}
-use Rattle.prem_layout.specs.Placed.{part_total}
+use Rattle.prem_layout.specs.Bounds.{JobBound, job_bound_of, last_release, work_of}
+use Rattle.prem_layout.specs.Facts.{job_fact}
+use Rattle.prem_layout.specs.Image.{device_records, task_record}
+use Rattle.prem_layout.specs.Placed.{Placed, part_total}
 use Rattle.prem_tasks.specs.Broken.{TaskSet, broken}
-use Rattle.prem_tasks.specs.Compiled.{coded_in, places_in, placed_in, compiled}
+use Rattle.prem_tasks.specs.Compiled.{coded_in, places_in, placed_in, job_bounds, compiled}
 use Rattle.prem_sets_sound.specs.StubLaws.Own.Owned.{own_of}
 use Rattle.prem_sets_sound.specs.StubLaws.Join.Joined.{IsJoined}
 use Rattle.prem_sets_sound.proofs.StubLawsLemmas.JoinLemmas.Joined.{scripted, are_scripts, limits}
@@ -30,8 +34,8 @@ use Rattle.prem_sets_sound.proofs.Sound.{accepted_tasks_are_meant, as_stubs_make
 use Rattle.prem_exec.specs.Forms.{RunText}
 use Rattle.prem_running.specs.RunSound.Runs.{SuitsRun}
 use Rattle.prem_running.proofs.RunSoundLemmas.Reports.{third_true}
-use Rattle.prem_pair_top.specs.Running.{limit_in, pair_at, pair_stop_at}
-use Rattle.prem_pair_top.specs.Sound.{AreSound, PairsOfSetsAreSound, EndsWell, PairReportsEnd}
+use Rattle.prem_pair_top.specs.Running.{CountsDue, due_in, jobs_due, limit_in, pair_at, pair_stop_at}
+use Rattle.prem_pair_top.specs.Sound.{AreSound, PairsOfSetsAreSound, EndsWell, GoesWell, PairReportsEnd}
 
 -- ---- scripts
 
@@ -43,8 +47,27 @@ joined set values none =
     (meant_tasks_join (passes_of kind) set.plant set.devices (coded_in set) (places_in set) (promises_in set)
     (accepted_sets_are_laid_out set (places_in set) values none (default_places_are_lawful set values none)) (as_stubs_make kind set.plant.ways) (accepted_tasks_are_meant set none))
 
+-- ---- what the jobs of a set are due
+
+releases_are : (p : Plant) (ts : List Placed) → last_release (map (job_fact p) ts) ≡ last_of (map task_record ts)
+releases_are p [] = refl
+releases_are p (t ∷ ts) = ap (max ((t.task.jobs - 1) * t.task.period)) (releases_are p ts)
+
+pub work_is_due : (p : Plant) (ts : List Placed) → work_of (map (job_fact p) ts) ≡ jobs_due (map task_record ts) (map (λ (j : JobBound). j.bound) (map (job_fact p) ts))
+work_is_due p [] = refl
+work_is_due p (t ∷ ts) = ap (λ n. t.task.jobs * job_bound_of p t.plans t.table + n) (work_is_due p ts)
+
+-- the limit of a compiled set counts them
+pub counts_due : (set : TaskSet) → CountsDue (compiled set)
+counts_due set =
+    let p = set.plant in
+    ap (λ n. n + work_of (job_bounds p (placed_in set))) (releases_are p (placed_in set)) ∙ ap (λ n. last_of (setup_in set).tasks + n) (work_is_due p (placed_in set))
+
+due_within : (limit last due more : ℕ) → limit ≡ last + more → last + due ≤ limit → due ≤ more
+due_within limit last due more is h = omega (arith, is, h)
+
 -- its tasks have scripts for all input words
-gives_scripts : (set : TaskSet) → HasValues set → broken set ≡ None → GivesScripts (passes_of set.plant.policy) (setup_in set) (compiled set).image.content (promises_in set) (compiled set).limit
+gives_scripts : (set : TaskSet) → HasValues set → broken set ≡ None → GivesScripts (passes_of set.plant.policy) (setup_in set) (compiled set).image.content (promises_in set) (due_in (compiled set))
 gives_scripts set values none =
     let passes = passes_of set.plant.policy in
     let p = setup_in set in
@@ -61,7 +84,9 @@ gives_scripts set values none =
         scripts = (scripted passes p content own most (promises_in set) (compiled set).limit h inputs i).0;
         are_scripts = are_scripts passes p content own most (promises_in set) (compiled set).limit h inputs i;
         keep = λ k lt. ((scripted passes p content own most (promises_in set) (compiled set).limit h inputs i).1 k lt).kept;
-        limits = limits passes p content own most (promises_in set) (compiled set).limit h inputs i;
+        within =
+            due_within (compiled set).limit (last_of p.tasks) (due_of p (scripted passes p content own most (promises_in set) (compiled set).limit h inputs i).0) (due_in (compiled set)) (counts_due set)
+            (limits passes p content own most (promises_in set) (compiled set).limit h inputs i);
       };
     }
 
@@ -73,7 +98,7 @@ pairs_of_sets_are_sound one two values other_values none other_none free =
     let kind = one.plant.policy in
     let other = two.plant.policy in
     pairs_of_images (rule_of kind) (rule_of other) (order_rule_of kind) (order_rule_of other) (passes_of kind) (passes_of other) (setup_in one) (setup_in two)
-    (compiled one).image.content (compiled two).image.content (promises_in one) (promises_in two) (compiled one).limit (compiled two).limit (kind_policy kind) (kind_policy other)
+    (compiled one).image.content (compiled two).image.content (promises_in one) (promises_in two) (due_in (compiled one)) (due_in (compiled two)) (kind_policy kind) (kind_policy other)
     (no_devices two free) (gives_scripts one values none) (gives_scripts two other_values other_none)
 
 -- ---- how their reports end
@@ -92,25 +117,41 @@ parts_false false false e = (refl, refl)
 abbrev stop_at_cycle : ℕ → PairState → Option PairStop
 stop_at_cycle n s = cond (s.first.now == n) (Some Limit) None
 
-abbrev stop_by : ℕ → PairState → Bool → Option Trap → Option Trap → Bool → Bool → PairStop
-stop_by n s finished t u f g = unwrap_or (cond finished (Some Finished) (trap_stop 0 t (trap_stop 1 u (full_stop 0 f (full_stop 1 g (stop_at_cycle n s)))))) Limit
+abbrev stop_by : ℕ → PairState → Bool → Option Trap → Option Trap → Bool → Bool → Option PairStop
+stop_by n s finished t u f g = cond finished (Some Finished) (trap_stop 0 t (trap_stop 1 u (full_stop 0 f (full_stop 1 g (stop_at_cycle n s)))))
 
-at_cycle : (b : Bool) → unwrap_or (cond b (Some Limit) None) Limit ≡ Limit
-at_cycle true = refl
-at_cycle false = refl
+-- both have finished
+stops_finished : (n : ℕ) (s : PairState) → both_finished s ≡ true → pair_stop_of n s ≡ Some Finished
+stops_finished n s f = ap (λ b. stop_by n s b s.first.trapped s.second.trapped (is_full s.first) (is_full s.second)) f
 
-tells_finished : (n : ℕ) (s : PairState) → both_finished s ≡ true → pair_stop_at n s ≡ Finished
-tells_finished n s f = ap (λ b. stop_by n s b s.first.trapped s.second.trapped (is_full s.first) (is_full s.second)) f
-
-tells_limit : (n : ℕ) (s : PairState) → HasRoom s → both_finished s ≡ false → pair_stop_at n s ≡ Limit
-tells_limit n s h f =
+-- or only the cycle decides
+stops_by_cycle : (n : ℕ) (s : PairState) → HasRoom s → both_finished s ≡ false → pair_stop_of n s ≡ stop_at_cycle n s
+stops_by_cycle n s h f =
     let room = parts_false (is_full s.first) (is_full s.second) (h.room f) in
     ap (λ b. stop_by n s b s.first.trapped s.second.trapped (is_full s.first) (is_full s.second)) f
     ∙ ap (λ t. stop_by n s false t s.second.trapped (is_full s.first) (is_full s.second)) h.untrapped
     ∙ ap (λ t. stop_by n s false None t (is_full s.first) (is_full s.second)) h.other_untrapped
     ∙ ap (λ b. stop_by n s false None None b (is_full s.second)) room.0
     ∙ ap (λ b. stop_by n s false None None false b) room.1
-    ∙ at_cycle (s.first.now == n)
+
+at_cycle : (b : Bool) → unwrap_or (cond b (Some Limit) None) Limit ≡ Limit
+at_cycle true = refl
+at_cycle false = refl
+
+tells_finished : (n : ℕ) (s : PairState) → both_finished s ≡ true → pair_stop_at n s ≡ Finished
+tells_finished n s f = ap (λ o. unwrap_or o Limit) (stops_finished n s f)
+
+tells_limit : (n : ℕ) (s : PairState) → HasRoom s → both_finished s ≡ false → pair_stop_at n s ≡ Limit
+tells_limit n s h f = ap (λ o. unwrap_or o Limit) (stops_by_cycle n s h f) ∙ at_cycle (s.first.now == n)
+
+goes_by_cycle : (stop : Option PairStop) (b : Bool) → stop ≡ cond b (Some Limit) None → GoesWell stop
+goes_by_cycle stop true e = inr (inr e)
+goes_by_cycle stop false e = inl e
+
+goes_well : (n : ℕ) (s : PairState) → HasRoom s → GoesWell (pair_stop_of n s)
+goes_well n s h =
+    ⊎_elim (λ (f : both_finished s ≡ true). inr (inl (stops_finished n s f)))
+    (λ (f : both_finished s ≡ false). goes_by_cycle (pair_stop_of n s) (s.first.now == n) (stops_by_cycle n s h f)) (cases_Bool (both_finished s))
 
 tells_one : (n : ℕ) (s : PairState) → HasRoom s → (pair_stop_at n s ≡ Finished) ⊎ (pair_stop_at n s ≡ Limit)
 tells_one n s h =
@@ -147,8 +188,8 @@ module _ (one two : TaskSet) (input other : RunText) (sound : AreSound one two) 
         room = λ going. false_from_ne_true (one_full (state n)) (λ full. true≢false (sym (full_finished n full) ∙ going));
       }
 
-  ends_well : (n : ℕ) → EndsWell limit n (state n)
-  ends_well n = record { ends = tells_one n (state n) (has_room n); finishes = λ le. tells_finished n (state n) (from_limit n le) }
+  ends_well : (n : ℕ) → EndsWell limit n state
+  ends_well n = record { ends = tells_one n (state n) (has_room n); finishes = λ le. tells_finished n (state n) (from_limit n le); on_the_way = λ m le. goes_well n (state m) (has_room m) }
 
 pub pair_reports_end : PairReportsEnd
 pair_reports_end one two input other n sound suits other_suits = ends_well one two input other sound suits other_suits n

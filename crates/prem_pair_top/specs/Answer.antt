@@ -1,64 +1,52 @@
--- What the program answers to its words, over what it reads of files by name: a status and a text.
-use Rattle.std.specs.Prelude.{◌≡◌, ℕ, List, take, Option}
-use Rattle.std.specs.Io.KnownBytes.{append_known}
+-- What the program is, and what a call of it leaves.
+use Rattle.std.specs.Prelude.{◌≡◌, ℕ, List, [], Option, None, codes}
 use Rattle.prem_io.specs.Files.{Files}
-use Rattle.prem_answer.specs.declared.status.Status.{Status}
-use Rattle.prem_answer.specs.declared.status.Status.TheVariants as status
-use Rattle.prem_answer.specs.Stages.{Reply, Reads, AreReads, replied}
-use Rattle.prem_pair_top.specs.declared.status.PairStatus.{PairStatus}
-use Rattle.prem_pair_top.specs.declared.status.PairStatus.TheVariants.{Done, Refused, Usage, Form, ReadFault, WriteFault, OutOfMemory, Missing}
-use Rattle.prem_pair_top.specs.Words.{asked_of}
-use Rattle.prem_pair_top.specs.Stages.{words_answer}
-use Rattle.prem_pair_top.specs.Headline.{WordsKeep}
+use Rattle.prem_tasks.specs.Broken.{TaskSet, broken}
+use Rattle.prem_tasks.specs.Compiled.{compiled}
+use Rattle.prem_answer.specs.declared.status.PlainStatus.{PlainStatus}
+use Rattle.prem_answer.specs.declared.status.Status.TheVariants.{Done}
+use Rattle.prem_answer.specs.Stages.{Reply}
+use Rattle.prem_answer.specs.Tool.{IsPlainlyComplete, PlainlyAnswered, ToolMeaning}
+use Rattle.prem_exec.specs.Forms.{RunText}
+use Rattle.prem_exec.specs.Sources.There.{SetIsThere, RunIsThere}
+use Rattle.prem_pair_top.specs.Words.{PairAsked, asked_of}
+use Rattle.prem_pair_top.specs.Stages.{compiled_text, pair_stages}
+use Rattle.prem_pair_top.specs.Headline.{Keeps}
 
--- ---- the answer
+-- the files of both sets and both run files are there and in form, and the second set has no device
+pub record AreThere (files : Files) (asked : PairAsked) (one two : TaskSet) (input other : RunText) : Type 0 where
+  pub first : SetIsThere files asked.set one
+  pub second : SetIsThere files asked.other_set two
+  pub none : two.devices ≡ []
+  pub first_run : RunIsThere files one asked.run input
+  pub second_run : RunIsThere files two asked.other_run other
 
--- the status and the text for the words, over what is read
-abbrev pub answer : List (List ℕ) → Reads → Reply
-answer words reads = replied (words_answer (asked_of words) reads)
+-- what is asked for succeeds over these files with this answer
+pub record Succeeds (files : Files) (asked : PairAsked) (reply : Reply) : Type 0 where
+  pub one : TaskSet
+  pub two : TaskSet
+  pub input : RunText
+  pub other : RunText
+  pub there : AreThere files asked one two input other
+  pub first_unbroken : broken one ≡ None
+  pub second_unbroken : broken two ≡ None
+  pub reply_is : reply ≡ (Done, compiled_text asked input other (compiled one) (compiled two))
 
--- a status and a text are the answer over the files that the store tells, or over some readings where it tells none
-pub record IsAnswer (words : List (List ℕ)) (told : Option Files) (given : Reply) : Type 0 where
-  pub reads : Reads
-  pub are_read : AreReads told reads
-  pub is : given ≡ answer words reads
-
--- ---- what the call leaves
-
--- the exit status
-abbrev pub pair_code : PairStatus → ℕ
-pair_code Done = 0
-pair_code Refused = 1
-pair_code Usage = 2
-pair_code Form = 3
-pair_code ReadFault = 4
-pair_code WriteFault = 5
-pair_code OutOfMemory = 6
-pair_code Missing = 7
-
--- an answer's status as this program's: it has none for a trap, of which no answer tells
-abbrev pub pair_status : Status → PairStatus
-pair_status status.Done = Done
-pair_status status.Refused = Refused
-pair_status status.Usage = Usage
-pair_status status.Form = Form
-pair_status status.ReadFault = ReadFault
-pair_status status.WriteFault = WriteFault
-pair_status status.OutOfMemory = OutOfMemory
-pair_status status.Missing = Missing
-pair_status status.Trap = Done
-
--- what a call with this status wrote, where its answer is `given`, by what the sink tells before and after
-abbrev pub Ends : Reply → Option (List ℕ) → Option (List ℕ) → PairStatus → Type 0
-Ends given old new WriteFault = (n : ℕ) × (new ≡ append_known old (take n given.1))
-Ends given old new ReadFault = new ≡ old
-Ends given old new OutOfMemory = new ≡ old
-Ends given old new result = (result ≡ pair_status given.0) × (new ≡ append_known old given.1)
+abbrev pub pair_tool : ToolMeaning
+pair_tool = record {
+  Asked = PairAsked;
+  asked_of = asked_of;
+  usage = codes "usage: prem_pair SET SET2 RUN RUN2 [--cycles N] [--intervals]\n";
+  stages = pair_stages;
+  keeps = λ asked reads given. Keeps reads asked given;
+  succeeds = Succeeds;
+}
 
 -- its status and what it wrote are those of the answer, a prefix of it behind a fault of the sink, or nothing; and the answer keeps the
 -- headline, over what is read
-pub record Answered (words : List (List ℕ)) (told : Option Files) (old new : Option (List ℕ)) (result : PairStatus) : Type 0 where
-  pub given : Reply
-  pub answer : IsAnswer words told given
-  pub headline : WordsKeep (asked_of words) answer.reads given
-  pub ends : Ends given old new result
+abbrev pub Answered : List (List ℕ) → Option Files → Option (List ℕ) → Option (List ℕ) → PlainStatus → Type 0
+Answered words told old new result = PlainlyAnswered pair_tool words told old new result
+
+-- with words that ask for a run that succeeds over the files that a store tells, the whole answer is written, or nothing for want of memory
+abbrev pub IsComplete : List (List ℕ) → Option Files → Option (List ℕ) → Option (List ℕ) → PlainStatus → Type 0
+IsComplete words told old new result = IsPlainlyComplete pair_tool words told old new result

@@ -1,12 +1,13 @@
 -- What the answers promise: where two sets are accepted they are sound together, and where one is refused it breaks a rule, the first set first.
-use Rattle.std.specs.Prelude.{◌≡◌, ◌≤◌, ◌^◌, ◌⊎◌, ⊤, ℕ, List, [], Option, None, Some}
+use Rattle.std.specs.Prelude.{◌≡◌, ◌≤◌, ◌^◌, ◌⊎◌, ℕ, List, [], None, Some}
 use Rattle.prem_layout.specs.Rules.{Refusal}
 use Rattle.prem_tasks.specs.Told.{Told}
 use Rattle.prem_tasks.specs.Broken.{TaskSet, broken}
 use Rattle.prem_tasks.specs.Compiled.{compiled}
 use Rattle.prem_sets_sound.specs.Accepted.Accepted.{HasValues, setup_in}
 use Rattle.prem_answer.specs.declared.answer.Telling.TheVariants.{Brief}
-use Rattle.prem_answer.specs.declared.status.Status.TheVariants.{Done, Refused}
+use Rattle.prem_answer.specs.declared.status.PlainStatus.TheVariants.{Done, Refused}
+use Rattle.prem_answer.specs.Statuses.{plain_status}
 use Rattle.prem_answer.specs.Stages.{Reply, Reads}
 use Rattle.prem_exec.specs.Forms.{RunText}
 use Rattle.prem_exec.specs.Sources.Sources.{Gives, reading_run_by, reading_set_by}
@@ -35,8 +36,8 @@ pub record AreRead (reads : Reads) (asked : PairAsked) (one two : TaskSet) (inpu
 -- ---- accepted
 
 -- a text is the report of the run of two such sets that break no rule and are sound together, with the words and requests of their run
--- files, of which their soundness speaks; a machine reaches their limit, and the report ends as finished or stopped, never with a trap or a
--- full log
+-- files, of which their soundness speaks; a machine reaches their limit, the report ends as finished or stopped, and on the way there no
+-- task has trapped and no log was full while jobs were left
 pub record IsSoundRun (reads : Reads) (asked : PairAsked) (text : List ℕ) : Type 0 where
   pub one : TaskSet
   pub two : TaskSet
@@ -51,8 +52,7 @@ pub record IsSoundRun (reads : Reads) (asked : PairAsked) (text : List ℕ) : Ty
   pub reaches : limit_in (compiled one) (compiled two) input.requests ≤ 2 ^ 61
   pub ends :
       (let limit = limit_in (compiled one) (compiled two) input.requests in
-      let n = cycles_in asked.options.cycles limit in
-      EndsWell limit n (pair_at (compiled one).image (compiled two).image input other n))
+      EndsWell limit (cycles_in asked.options.cycles limit) (pair_at (compiled one).image (compiled two).image input other))
   pub text_is : text ≡ compiled_text asked input other (compiled one) (compiled two)
 
 -- ---- refused
@@ -73,10 +73,7 @@ pub record IsFirstBroken (reads : Reads) (asked : PairAsked) (text : List ℕ) :
 
 -- ---- both
 
+-- where the program ends with this answer as done or as refused
 pub record Keeps (reads : Reads) (asked : PairAsked) (given : Reply) : Type 0 where
-  pub on_done : given.0 ≡ Done → IsSoundRun reads asked given.1
-  pub on_refused : given.0 ≡ Refused → IsFirstBroken reads asked given.1
-
-abbrev pub WordsKeep : Option PairAsked → Reads → Reply → Type 0
-WordsKeep None reads given = ⊤
-WordsKeep (Some asked) reads given = Keeps reads asked given
+  pub on_done : plain_status given.0 ≡ Done → IsSoundRun reads asked given.1
+  pub on_refused : plain_status given.0 ≡ Refused → IsFirstBroken reads asked given.1

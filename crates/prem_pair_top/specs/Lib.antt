@@ -5,4 +5,3 @@ pub mod Sound
 pub mod Stages
 pub mod Headline
 pub mod Answer
-pub mod Complete

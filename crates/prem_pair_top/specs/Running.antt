@@ -1,7 +1,8 @@
 -- The run of two images, and the cycle up to which it goes.
-use Rattle.std.specs.Prelude.{ℕ, ◌-◌, ◌^◌, min, Bool, List, Option, unwrap_or}
+use Rattle.std.specs.Prelude.{◌≡◌, ℕ, ◌+◌, ◌*◌, ◌^◌, min, Bool, List, [], ◌∷◌, Option, unwrap_or}
 use Rattle.prem_lru.specs.Rules.{rule_of}
 use Rattle.prem_gate.specs.declared.request.Request.{Request}
+use Rattle.prem_image.specs.declared.image.TaskRecord.{TaskRecord}
 use Rattle.prem_image.specs.Text.{ImageText}
 use Rattle.prem_cycle.specs.FactsOf.{report_of}
 use Rattle.prem_cycle.specs.Inputs.{image_setup}
@@ -35,11 +36,21 @@ run_text i j input other times limit = told_text i j times limit (pair_at i j in
 
 -- ---- by when it has finished
 
--- what the jobs of all tasks of a compiled set are due: its limit is counted from the last release on
-abbrev pub due_in : CompiledText → ℕ
-due_in c = c.limit - last_release c.image.tasks
+-- the jobs of some tasks times the bounds of a job of each
+abbrev pub jobs_due : List TaskRecord → (bounds : List ℕ) → ℕ
+jobs_due [] bounds = 0
+jobs_due (t ∷ ts) [] = 0
+jobs_due (t ∷ ts) (bound ∷ bounds) = t.jobs * bound + jobs_due ts bounds
 
--- the greatest last release of both, what the jobs of both are due, and the greatest cycle and the costs of all requests
+-- what the jobs of all tasks of a compiled set are due
+abbrev pub due_in : CompiledText → ℕ
+due_in c = jobs_due c.image.tasks c.jobs
+
+-- the limit of a compiled set alone is that behind its last release
+abbrev pub CountsDue : CompiledText → Type 0
+CountsDue c = c.limit ≡ last_release c.image.tasks + due_in c
+
+-- the greatest last release of both, the jobs of both times their bounds, and the greatest cycle and the costs of all requests
 abbrev pub limit_in : CompiledText → CompiledText → List Request → ℕ
 limit_in c d requests = pair_limit (image_setup c.image) (image_setup d.image) (due_in c) (due_in d) requests
 

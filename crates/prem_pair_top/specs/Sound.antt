@@ -1,9 +1,10 @@
 -- Two sets that break no rule are sound together, and their reports end well.
-use Rattle.std.specs.Prelude.{◌≡◌, ◌≤◌, ◌^◌, ◌⊎◌, ℕ, [], None}
+use Rattle.std.specs.Prelude.{◌≡◌, ◌≤◌, ◌^◌, ◌⊎◌, ℕ, [], Option, None, Some}
 use Rattle.prem_lru.specs.Rules.{rule_of}
 use Rattle.prem_cycle.specs.Inputs.{FitsRun}
+use Rattle.prem_pair.specs.declared.cycles.state.PairStop.{PairStop}
 use Rattle.prem_pair.specs.declared.cycles.state.PairStop.TheVariants.{Finished, Limit}
-use Rattle.prem_pair.specs.Cycles.Pair.{PairState}
+use Rattle.prem_pair.specs.Cycles.Pair.{PairState, pair_stop_of}
 use Rattle.prem_pair.specs.Laws.PairSound.{PairIsSound}
 use Rattle.prem_tasks.specs.Broken.{TaskSet, broken}
 use Rattle.prem_tasks.specs.Compiled.{compiled}
@@ -31,13 +32,18 @@ PairLimitsAreSmall =
     (one two : TaskSet) → HasValues one → HasValues two → broken one ≡ None → broken two ≡ None → (input : RunText) → FitsRun (setup_in one) input.words input.requests →
     limit_in (compiled one) (compiled two) input.requests ≤ 2 ^ 61
 
--- a report up to cycle n, where both have come to this state, tells that they have finished or that they were stopped there, and from the
--- limit on that they have finished
-pub record EndsWell (limit n : ℕ) (s : PairState) : Type 0 where
-  pub ends : (pair_stop_at n s ≡ Finished) ⊎ (pair_stop_at n s ≡ Limit)
-  pub finishes : limit ≤ n → pair_stop_at n s ≡ Finished
+-- in a state a run goes on, has finished, or is stopped by its cycle: no task has trapped, and while jobs are left no log is full
+abbrev pub GoesWell : Option PairStop → Type 0
+GoesWell stop = (stop ≡ None) ⊎ ((stop ≡ Some Finished) ⊎ (stop ≡ Some Limit))
+
+-- A report up to cycle n of a run of these states tells that both have finished or that they were stopped there, and from the limit on
+-- that they have finished; and so it goes in each state on the way.
+pub record EndsWell (limit n : ℕ) (states : ℕ → PairState) : Type 0 where
+  pub ends : (pair_stop_at n (states n) ≡ Finished) ⊎ (pair_stop_at n (states n) ≡ Limit)
+  pub finishes : limit ≤ n → pair_stop_at n (states n) ≡ Finished
+  pub on_the_way : (m : ℕ) → m ≤ n → GoesWell (pair_stop_of n (states m))
 
 abbrev pub PairReportsEnd : Type 0
 PairReportsEnd =
     (one two : TaskSet) (input other : RunText) (n : ℕ) → AreSound one two → SuitsRun (setup_in one) input.words input.requests → SuitsRun (setup_in two) other.words other.requests →
-    EndsWell (limit_in (compiled one) (compiled two) input.requests) n (pair_at (compiled one).image (compiled two).image input other n)
+    EndsWell (limit_in (compiled one) (compiled two) input.requests) n (pair_at (compiled one).image (compiled two).image input other)

@@ -7,7 +7,7 @@ use Rattle.prem_tasks.specs.Broken.{TaskText, TaskSet, broken}
 use Rattle.prem_tasks.specs.Compiled.{CompiledText, compiled}
 use Rattle.prem_set.specs.SetFile.{SetData}
 use Rattle.prem_answer.specs.declared.answer.Telling.TheVariants.{Brief}
-use Rattle.prem_answer.specs.declared.status.Status.TheVariants.{Done, Refused, Usage}
+use Rattle.prem_answer.specs.declared.status.Status.TheVariants.{Done, Refused}
 use Rattle.prem_answer.specs.Stages.{Reply, Stage, and_then, form_reply, reading_by}
 use Rattle.prem_answer.specs.Refusal.Texts.{breaker}
 use Rattle.prem_exec.specs.Forms.{RunText}
@@ -59,12 +59,3 @@ pair_stages asked =
     reading_run_by Brief one asked.run (λ input.
     reading_run_by Brief two asked.other_run (λ other reads.
     Ok (sets_reply asked one two input other)))))
-
--- ---- by the words
-
-abbrev pub usage_reply : Reply
-usage_reply = (Usage, codes "usage: prem_pair SET SET2 RUN RUN2 [--cycles N] [--intervals]\n")
-
-abbrev pub words_answer : Option PairAsked → Stage Reply
-words_answer None reads = Ok usage_reply
-words_answer (Some asked) reads = pair_stages asked reads

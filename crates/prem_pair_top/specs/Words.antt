@@ -1,14 +1,10 @@
 -- What the words of the command line say: two sets, a run file for each, and how far and what is told.
-use Rattle.std.specs.Prelude.{ℕ, ◌^◌, ◌==◌, ◌&&◌, not, Bool, true, false, if◌then◌else◌, List, [], ◌∷◌, Option, None, Some, option_map, codes}
+use Rattle.std.specs.Prelude.{ℕ, ◌^◌, ◌&&◌, Bool, true, false, if◌then◌else◌, List, [], ◌∷◌, Option, None, Some, option_map, codes}
 use Rattle.std.specs.Str.{bytes_eq}
 use Rattle.prem_line.specs.Numbers.{number_of, up_to}
+use Rattle.prem_answer.specs.Tool.{is_file}
 use Rattle.prem_pair_top.specs.declared.words.Options.{Options}
 use Rattle.prem_pair_top.specs.declared.words.PairWords.{PairWords}
-
--- a file's name begins with no `-`
-abbrev pub is_file : List ℕ → Bool
-is_file [] = true
-is_file (b ∷ bs) = not (b == 45)
 
 -- [--intervals]
 abbrev pub flag_of : List (List ℕ) → Option Bool

@@ -11,6 +11,7 @@ ghost use Rattle.prem_answer.specs.Stages.{Comes, IsGiven, reply_of};
 ghost use Rattle.prem_answer.specs.Refusal.Texts.{breaker};
 ghost use Rattle.prem_exec.specs.Sources.Sources.{input_of, names_of};
 ghost use Rattle.prem_pair_top.specs.Words.{pair_asked};
+ghost use Rattle.prem_pair_top.specs.Running.{CountsDue};
 ghost use Rattle.prem_pair_top.specs.Stages.{compiled_text, pair_stages, refused_text, sets_reply};
 
 use crate::limit::cycles_in;
@@ -62,6 +63,8 @@ fn told(
     requires one { FitsRun (setup_of one.now.image) (words_of sets.now.input.now) (items_of sets.now.input.now.requests) }
     requires two { FitsRun (setup_of two.now.image) (words_of sets.now.other.now) (items_of sets.now.other.now.requests) }
     requires none { items_of sets.now.other.now.requests ≡ [] }
+    requires due { CountsDue (compiled_of one.now) }
+    requires other_due { CountsDue (compiled_of two.now) }
     ensures { IfOk result (λ a. reply_of a ≡ (Status.Done, compiled_text (pair_asked asked.now) (input_of sets.now.input.now) (input_of sets.now.other.now) (compiled_of one.now) (compiled_of two.now))) }
 {
     let limit = cycles_in(asked.options.cycles, one, two, sets.input.requests.items());

@@ -7,11 +7,10 @@ mod limit;
 mod read;
 mod report;
 mod run;
-mod status;
 mod top;
 mod words;
 
 pub use laws::pairs_of_sets_are_sound;
-pub use status::PairStatus;
+pub use prem_answer::PlainStatus as PairStatus;
 pub use top::run_pair;
 pub use words::{Options, PairWords};

@@ -5,7 +5,7 @@ ghost use Rattle.prem_image.specs.Text.{image_text};
 ghost use Rattle.prem_sound.specs.Script.Scripts.{last_release};
 ghost use Rattle.prem_pair.specs.Laws.PairSound.{all_costs, cost_of_request, last_request};
 ghost use Rattle.prem_compile.specs.CompiledOf.{compiled_of};
-ghost use Rattle.prem_pair_top.specs.Running.{cycles_in, due_in, limit_in};
+ghost use Rattle.prem_pair_top.specs.Running.{CountsDue, cycles_in, due_in, limit_in};
 
 use prem_compile::Compiled;
 use prem_gate::Request;
@@ -65,16 +65,18 @@ fn all_costs(devices: &[DeviceRecord], requests: &[Request]) -> u128
     costs
 }
 
-/// What the jobs of all tasks of a set are due.
+/// What the jobs of all tasks of a set are due: their numbers times their bounds, which its limit counts from the last release on.
 fn due(compiled: &Compiled) -> u64
+    requires { CountsDue (compiled_of compiled.now) }
     ensures { result ≡ due_in (compiled_of compiled.now) }
 {
-    let last = last_release(compiled.image.tasks.items());
-    compiled.limit.saturating_sub(last)
+    compiled.limit - last_release(compiled.image.tasks.items())
 }
 
-/// The greatest last release of both sets, what the jobs of both are due, and the greatest cycle and the costs of all requests.
+/// The greatest last release of both sets, the jobs of both times their bounds, and the greatest cycle and the costs of all requests.
 fn limit_in(one: &Compiled, two: &Compiled, requests: &[Request]) -> u128
+    requires due { CountsDue (compiled_of one.now) }
+    requires other_due { CountsDue (compiled_of two.now) }
     ensures { result ≡ limit_in (compiled_of one.now) (compiled_of two.now) requests.now }
 {
     let last = last_release(one.image.tasks.items()).max(last_release(two.image.tasks.items()));
@@ -91,6 +93,8 @@ pub(crate) fn cycles_in(
     two: &Compiled,
     requests: &[Request],
 ) -> u64
+    requires due { CountsDue (compiled_of one.now) }
+    requires other_due { CountsDue (compiled_of two.now) }
     ensures cycles { result ≡ cycles_in cycles (limit_in (compiled_of one.now) (compiled_of two.now) requests.now) }
     ensures within { result ≤ 2 ^ 61 }
 {

@@ -1,58 +1,28 @@
 // The top call.
-ghost use Rattle.std.specs.Prelude.{◌≡◌, ◌≤◌, ◌⊎◌, IsErrOf, IsTrue, Ok, map, string_bytes};
+ghost use Rattle.std.specs.Prelude.{◌≡◌, ◌≤◌, map, string_bytes};
 ghost use Rattle.prem_io.specs.Counts.{Rose};
-ghost use Rattle.prem_answer.specs.Stages.{Comes, IsGiven, is_settled, reply_of};
-ghost use Rattle.prem_pair_top.specs.Words.{asked_of};
-ghost use Rattle.prem_pair_top.specs.Stages.{usage_reply, words_answer};
-ghost use Rattle.prem_pair_top.specs.Answer.{Answered, Ends};
-ghost use Rattle.prem_pair_top.specs.Complete.{IsComplete};
+ghost use Rattle.prem_pair_top.specs.Answer.{Answered, IsComplete, pair_tool};
 
 use crate::answer::pair_answer;
-use crate::status::{PairStatus, pair_status};
 use crate::words::asked_of;
-use prem_answer::{Answer, Halt, Status, write_all};
+use prem_answer::{Answer, Halt, PlainStatus as PairStatus, Tool, run_plain_tool, usage};
 use prem_io::{Sink, Store};
 use std::alloc::Global;
 
 /// The usage line.
 const USAGE: &str = "usage: prem_pair SET SET2 RUN RUN2 [--cycles N] [--intervals]\n";
 
-/// The usage line, where the words are other ones.
-fn no_words(alloc: Global) -> Result<Answer, Halt>
-    ensures usage { Comes reply_of (λ given. given ≡ Ok usage_reply) result }
-    ensures unread { IsErrOf result Halt.ReadFault → ⊥ }
-{
-    Ok(Answer {
-        status: Status::Usage,
-        text: USAGE.as_bytes().to_vec(alloc)?,
-    })
-}
+/// The program.
+struct PairTool;
 
-/// The answer to the words, over what the store gives.
-fn find_answer<S: Store>(alloc: Global, words: &[String], store: &mut S) -> Result<Answer, Halt>
-    ensures answer { Comes reply_of (IsGiven (S.files store.old) (words_answer (asked_of (map string_bytes words.now)))) result }
-    ensures fault { IsErrOf result Halt.ReadFault → Rose (S.faults store.old) (S.faults store.new) }
-    ensures later { S.faults store.old ≤ S.faults store.new }
-    ensures same { S.files store.new ≡ S.files store.old }
-{
-    match asked_of(words) {
-        Some(asked) => pair_answer(alloc, &asked, store),
-        None => no_words(alloc),
-    }
-}
+impl Tool for PairTool {
+    ghost meaning = { pair_tool };
 
-/// Writes an answer.
-fn finish<K: Sink>(sink: &mut K, answer: Answer) -> PairStatus
-    requires { IsTrue (is_settled answer.status) }
-    ensures ends { Ends (answer.status, answer.text.items) (K.bytes sink.old) (K.bytes sink.new) result }
-    ensures write { result ≡ PairStatus.WriteFault → Rose (K.faults sink.old) (K.faults sink.new) }
-    ensures read { result ≡ PairStatus.ReadFault → ⊥ }
-    ensures memory { result ≡ PairStatus.OutOfMemory → ⊥ }
-    ensures later { K.faults sink.old ≤ K.faults sink.new }
-{
-    match write_all(sink, &answer.text) {
-        Ok(()) => pair_status(answer.status),
-        Err(_) => PairStatus::WriteFault,
+    fn answer<S: Store>(alloc: Global, words: &[String], store: &mut S) -> Result<Answer, Halt> {
+        match asked_of(words) {
+            Some(asked) => pair_answer(alloc, &asked, store),
+            None => usage(alloc, USAGE),
+        }
     }
 }
 
@@ -84,10 +54,5 @@ pub fn run_pair<S: Store, K: Sink>(
     ensures reads_counted { S.faults store.old ≤ S.faults store.new }
     ensures writes_counted { K.faults sink.old ≤ K.faults sink.new }
 {
-    match find_answer(alloc, words, store) {
-        Ok(answer) => finish(sink, answer),
-        Err(Halt::Answered(answer)) => finish(sink, answer),
-        Err(Halt::ReadFault) => PairStatus::ReadFault,
-        Err(Halt::OutOfMemory) => PairStatus::OutOfMemory,
-    }
+    run_plain_tool::<PairTool, S, K>(alloc, words, store, sink)
 }

@@ -1,8 +1,9 @@
 // The words of the command line.
 ghost use Rattle.std.specs.Prelude.{◌≡◌, codes, map, option_map, string_bytes};
 ghost use Rattle.std.specs.Str.{bytes_eq};
-ghost use Rattle.prem_pair_top.specs.Words.{are_files, asked_of, flag_of, is_file, limited, options_of, pair_asked, unlimited};
+ghost use Rattle.prem_pair_top.specs.Words.{are_files, asked_of, flag_of, limited, options_of, pair_asked, unlimited};
 
+use prem_answer::is_file;
 use prem_line::number_up_to;
 
 /// The last cycle up to which a run may be asked to go.
@@ -25,16 +26,6 @@ pub struct PairWords<'a> {
     pub run: &'a str,
     pub other_run: &'a str,
     pub options: Options,
-}
-
-/// Whether a word may name a file: it doesn't begin as an option does.
-fn is_file(word: &str) -> bool
-    ensures { result ≡ is_file word.now }
-{
-    match word.as_bytes() {
-        [] => true,
-        [first, ..] => *first != b'-',
-    }
 }
 
 /// Whether all four may.

@@ -80,7 +80,10 @@ fitting_sets_end_in_time set values kept all i lt =
     let within : w.0 ≤ (record_of (setup_in set) i).period = subst (λ n. w.0 ≤ n) (period_is set i lt) is.1 in
     record {
       cycles = w.0;
-      length = is.0;
-      within = within;
-      ended = λ inputs requests i' t put job n left late. sets_meet_deadlines set values kept inputs requests i' t put i w.0 lt is.0.balanced within job n left late;
+      found = b.1 ∙ ap (λ (x : Busy). Some x) w.1;
+      ends = record {
+        length = is.0;
+        within = within;
+        ended = λ inputs requests i' t put job n left late. sets_meet_deadlines set values kept inputs requests i' t put i w.0 lt is.0.balanced within job n left late;
+      };
     }

@@ -1,27 +1,28 @@
 -- Every answer keeps what it promises.
 use Rattle.std.specs.Prelude.{codes, if◌then◌else◌}
-use Rattle.std.proofs.Common.{◌≡◌, ℕ, ◌<◌, Bool, true, false, List, ◌++◌, length, Option, None, Some, Ok, inl, inr, refl, ap, ◌∙◌, sym}
+use Rattle.std.proofs.Common.{◌≡◌, ℕ, ◌<◌, Bool, true, false, List, ◌++◌, length, Option, None, Some, Ok, inl, inr, refl, ap, ◌∙◌, sym, subst}
+use Rattle.prem_cycle.specs.State.{record_of}
 use Rattle.prem_layout.specs.Rules.{Refusal}
 use Rattle.prem_tasks.specs.Told.{Told}
 use Rattle.prem_tasks.specs.Broken.{TaskSet, broken}
 use Rattle.prem_tasks.specs.Compiled.{compiled}
 use Rattle.prem_sets_sound.specs.Accepted.Accepted.{HasValues, setup_in}
-use Rattle.prem_answer.specs.declared.status.Status.{Status}
 use Rattle.prem_answer.specs.declared.answer.Telling.TheVariants.{Brief}
 use Rattle.prem_answer.specs.declared.status.Status.TheVariants as status
+use Rattle.prem_answer.specs.Statuses.{plain_status}
 use Rattle.prem_answer.specs.Stages.{Reply, Reads, Stage, replied}
 use Rattle.prem_exec.specs.Sources.Sources.{reading_set_by}
-use Rattle.prem_exec.proofs.SourcesLemmas.Reading.{is_judged, IsRight, Outcome, anything, set_outcome}
+use Rattle.prem_exec.proofs.SourcesLemmas.Reading.{done_judged, is_judged, refused_judged, IsRight, Outcome, anything, set_outcome}
 use Rattle.prem_resp.specs.declared.busy.length.Busy.{Busy}
-use Rattle.prem_resp.specs.declared.status.FitStatus.TheVariants.{Done, Refused}
-use Rattle.prem_resp.specs.Statuses.{fit_status}
-use Rattle.prem_resp.specs.Lines.{all_within, last_line, lines_from}
-use Rattle.prem_resp.specs.Fits.{loads_in, found_in, EndsInTime}
+use Rattle.prem_answer.specs.declared.status.PlainStatus.TheVariants.{Done, Refused}
+use Rattle.prem_resp.specs.Lines.{all_within, last_line, lines_from, TellsLength}
+use Rattle.prem_resp.specs.Fits.{loads_in, found_in}
 use Rattle.prem_resp.specs.Told.{names_of}
-use Rattle.prem_resp.specs.Stages.{fit_reply, fit_stages, judged_reply, refused_text, set_text, words_answer}
-use Rattle.prem_resp.specs.Headline.{IsRead, Keeps, SaysFits, WordsKeep}
+use Rattle.prem_resp.specs.Stages.{fit_reply, fit_stages, judged_reply, refused_text, set_text}
+use Rattle.prem_resp.specs.Headline.{EndsAsTold, IsRead, Keeps, SaysFits}
 use Rattle.prem_resp.proofs.Endings.{late_is_other}
 use Rattle.prem_resp.proofs.Fits.{fitting_sets_end_in_time}
+use Rattle.prem_resp.proofs.TaskLines.{task_line_tells}
 
 -- ---- what is read
 
@@ -50,16 +51,16 @@ set_read name given reads judged is = by (set_outcome name reads) where
 -- ---- by the first broken rule
 
 record Judged (set : TaskSet) (given : Reply) : Type 0 where
-  on_done : fit_status given.0 ≡ Done → (broken set ≡ None) × (given.1 ≡ set_text set)
-  on_refused : fit_status given.0 ≡ Refused → (r : Refusal Told) × ((broken set ≡ Some r) × (given.1 ≡ refused_text set.tasks r))
+  on_done : plain_status given.0 ≡ Done → (broken set ≡ None) × (given.1 ≡ set_text set)
+  on_refused : plain_status given.0 ≡ Refused → (r : Refusal Told) × ((broken set ≡ Some r) × (given.1 ≡ refused_text set.tasks r))
 
 judged_by : (set : TaskSet) (given : Reply) (first : Option (Refusal Told)) → broken set ≡ first → judged_reply set first ≡ given → Judged set given
 judged_by set given None is goes = record {
   on_done = λ done. (is, sym (ap (λ (x : Reply). x.1) goes));
-  on_refused = λ refused. let no : Done ≡ Refused = ap (λ (r : Reply). fit_status r.0) goes ∙ refused in absurd cc;
+  on_refused = λ refused. let no : Done ≡ Refused = ap (λ (r : Reply). plain_status r.0) goes ∙ refused in absurd cc;
 }
 judged_by set given (Some r) is goes = record {
-  on_done = λ done. let no : Refused ≡ Done = ap (λ (x : Reply). fit_status x.0) goes ∙ done in absurd cc;
+  on_done = λ done. let no : Refused ≡ Done = ap (λ (x : Reply). plain_status x.0) goes ∙ done in absurd cc;
   on_refused = λ refused. (r, (is, sym (ap (λ (x : Reply). x.1) goes)));
 }
 
@@ -71,37 +72,21 @@ says_within lines found says = by (all_within found) refl where
   by true e = e
   by false e = absurd (late_is_other lines says.lines (sym (ap (λ b. lines ++ (if b then codes "fits\n" else codes "late\n")) e) ∙ says.is))
 
-in_time : (set : TaskSet) (text : List ℕ) → HasValues set → broken set ≡ None → text ≡ set_text set → SaysFits text → (i : ℕ) → i < length (setup_in set).tasks → EndsInTime set i
+in_time : (set : TaskSet) (text : List ℕ) → HasValues set → broken set ≡ None → text ≡ set_text set → SaysFits text → (i : ℕ) → i < length (setup_in set).tasks → EndsAsTold set text i
 in_time set text values none is says i lt =
     let found : List Busy = found_in (loads_in set) in
     let lines : List ℕ = lines_from (loads_in set) 0 (names_of (compiled set).image.tasks) found in
-    fitting_sets_end_in_time set values none (says_within lines found (record { lines = says.lines; is = sym is ∙ says.is })) i lt
+    let all = says_within lines found (record { lines = says.lines; is = sym is ∙ says.is }) in
+    let x = fitting_sets_end_in_time set values none all i lt in
+    record {
+      cycles = x.cycles;
+      line = subst (λ t. TellsLength t (loads_in set) i (record_of (setup_in set) i).name x.cycles) (sym is) (task_line_tells set values none all i x.cycles lt x.found);
+      ends = x.ends;
+    }
 
 -- ---- the answers
 
-done_judged : (s : Status) → fit_status s ≡ Done → is_judged s ≡ true
-done_judged status.Done e = refl
-done_judged status.Refused e = refl
-done_judged status.Usage e = absurd cc
-done_judged status.Form e = absurd cc
-done_judged status.ReadFault e = absurd cc
-done_judged status.WriteFault e = absurd cc
-done_judged status.OutOfMemory e = absurd cc
-done_judged status.Missing e = absurd cc
-done_judged status.Trap e = refl
-
-refused_judged : (s : Status) → fit_status s ≡ Refused → is_judged s ≡ true
-refused_judged status.Done e = refl
-refused_judged status.Refused e = refl
-refused_judged status.Usage e = absurd cc
-refused_judged status.Form e = absurd cc
-refused_judged status.ReadFault e = absurd cc
-refused_judged status.WriteFault e = absurd cc
-refused_judged status.OutOfMemory e = absurd cc
-refused_judged status.Missing e = absurd cc
-refused_judged status.Trap e = refl
-
-fits_keep : (name : List ℕ) (reads : Reads) (given : Reply) → replied (fit_stages name reads) ≡ given → Keeps reads name given
+pub fits_keep : (name : List ℕ) (reads : Reads) (given : Reply) → replied (fit_stages name reads) ≡ given → Keeps reads name given
 fits_keep name reads given is = record {
   on_done = λ done.
       let r = set_read name given reads (done_judged given.0 done) is in
@@ -112,7 +97,3 @@ fits_keep name reads given is = record {
       let told = (judged_by r.set given (broken r.set) refl r.goes).on_refused refused in
       record { set = r.set; read = r.read; refusal = told.0; is_first = told.1.0; text_is = told.1.1 };
 }
-
-pub headline_is : (asked : Option (List ℕ)) (reads : Reads) (given : Reply) → replied (words_answer asked reads) ≡ given → WordsKeep asked reads given
-headline_is None reads given is = tt
-headline_is (Some name) reads given is = fits_keep name reads given is

@@ -4,9 +4,11 @@ pub mod Fits
 pub mod LoadsAre
 pub mod Found
 pub mod Endings
+pub mod LengthLines
+pub mod TaskLines
 pub mod Headline
 pub mod Stages
-pub mod Complete
+pub mod Tool
 mod Sample
 mod Rows
 pub mod TimedLemmas

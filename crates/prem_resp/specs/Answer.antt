@@ -1,39 +1,37 @@
--- What the program answers to its words, over what it reads of files by name: a status and a text.
-use Rattle.std.specs.Prelude.{◌≡◌, ℕ, List, take, Option}
-use Rattle.std.specs.Io.KnownBytes.{append_known}
+-- What the program is, and what a call of it leaves.
+use Rattle.std.specs.Prelude.{◌≡◌, ℕ, List, Option, None, codes}
 use Rattle.prem_io.specs.Files.{Files}
-use Rattle.prem_answer.specs.Stages.{Reply, Reads, AreReads, replied}
-use Rattle.prem_resp.specs.declared.status.FitStatus.{FitStatus}
-use Rattle.prem_resp.specs.declared.status.FitStatus.TheVariants.{ReadFault, WriteFault, OutOfMemory}
-use Rattle.prem_resp.specs.Statuses.{fit_status}
-use Rattle.prem_resp.specs.Stages.{asked_of, words_answer}
-use Rattle.prem_resp.specs.Headline.{WordsKeep}
+use Rattle.prem_tasks.specs.Broken.{TaskSet, broken}
+use Rattle.prem_answer.specs.declared.status.PlainStatus.{PlainStatus}
+use Rattle.prem_answer.specs.declared.status.Status.TheVariants.{Done}
+use Rattle.prem_answer.specs.Stages.{Reply}
+use Rattle.prem_answer.specs.Tool.{IsPlainlyComplete, PlainlyAnswered, ToolMeaning}
+use Rattle.prem_exec.specs.Sources.There.{SetIsThere}
+use Rattle.prem_resp.specs.Stages.{asked_of, fit_stages, set_text}
+use Rattle.prem_resp.specs.Headline.{Keeps}
 
--- ---- the answer
+-- the test of the set of this name succeeds over these files with this answer: its files are there and in form, and it breaks no rule
+pub record Succeeds (files : Files) (name : List ℕ) (reply : Reply) : Type 0 where
+  pub set : TaskSet
+  pub there : SetIsThere files name set
+  pub unbroken : broken set ≡ None
+  pub reply_is : reply ≡ (Done, set_text set)
 
--- the status and the text for the words, over what is read
-abbrev pub answer : List (List ℕ) → Reads → Reply
-answer words reads = replied (words_answer (asked_of words) reads)
-
--- a status and a text are the answer over the files that the store tells, or over some readings where it tells none
-pub record IsAnswer (words : List (List ℕ)) (told : Option Files) (given : Reply) : Type 0 where
-  pub reads : Reads
-  pub are_read : AreReads told reads
-  pub is : given ≡ answer words reads
-
--- ---- what the call leaves
-
--- what a call with this status wrote, where its answer is `given`, by what the sink tells before and after
-abbrev pub Ends : Reply → Option (List ℕ) → Option (List ℕ) → FitStatus → Type 0
-Ends given old new WriteFault = (n : ℕ) × (new ≡ append_known old (take n given.1))
-Ends given old new ReadFault = new ≡ old
-Ends given old new OutOfMemory = new ≡ old
-Ends given old new result = (result ≡ fit_status given.0) × (new ≡ append_known old given.1)
+abbrev pub fit_tool : ToolMeaning
+fit_tool = record {
+  Asked = List ℕ;
+  asked_of = asked_of;
+  usage = codes "usage: prem_resp SET\n";
+  stages = fit_stages;
+  keeps = λ name reads given. Keeps reads name given;
+  succeeds = Succeeds;
+}
 
 -- its status and what it wrote are those of the answer, a prefix of it behind a fault of the sink, or nothing; and the answer keeps what it
 -- promises, over what is read
-pub record Answered (words : List (List ℕ)) (told : Option Files) (old new : Option (List ℕ)) (result : FitStatus) : Type 0 where
-  pub given : Reply
-  pub answer : IsAnswer words told given
-  pub promise : WordsKeep (asked_of words) answer.reads given
-  pub ends : Ends given old new result
+abbrev pub Answered : List (List ℕ) → Option Files → Option (List ℕ) → Option (List ℕ) → PlainStatus → Type 0
+Answered words told old new result = PlainlyAnswered fit_tool words told old new result
+
+-- with words that name a set whose test succeeds over the files that a store tells, the whole answer is written, or nothing for want of memory
+abbrev pub IsComplete : List (List ℕ) → Option Files → Option (List ℕ) → Option (List ℕ) → PlainStatus → Type 0
+IsComplete words told old new result = IsPlainlyComplete fit_tool words told old new result

@@ -3,10 +3,8 @@ pub mod Deadline
 pub mod Lines
 pub mod Fits
 pub mod Told
-pub mod Statuses
 pub mod Stages
 pub mod Headline
 pub mod Answer
-pub mod Complete
 pub mod Timed
 pub mod Timely

@@ -5,8 +5,9 @@ use Rattle.prem_tasks.specs.Told.{Told}
 use Rattle.prem_tasks.specs.Broken.{TaskText, TaskSet, broken}
 use Rattle.prem_tasks.specs.Compiled.{compiled}
 use Rattle.prem_answer.specs.declared.answer.Telling.TheVariants.{Brief}
-use Rattle.prem_answer.specs.declared.status.Status.TheVariants.{Done, Refused, Usage}
+use Rattle.prem_answer.specs.declared.status.Status.TheVariants.{Done, Refused}
 use Rattle.prem_answer.specs.Stages.{Reply, Stage}
+use Rattle.prem_answer.specs.Tool.{is_file}
 use Rattle.prem_answer.specs.Refusal.Texts.{breaker}
 use Rattle.prem_exec.specs.Sources.Sources.{reading_set_by}
 use Rattle.prem_resp.specs.Lines.{fit_text}
@@ -37,20 +38,8 @@ fit_stages name = reading_set_by Brief name (λ set reads. Ok (fit_reply set))
 
 -- ---- by the words
 
-abbrev pub usage_reply : Reply
-usage_reply = (Usage, codes "usage: prem_resp SET\n")
-
--- a file's name begins with no `-`
-abbrev pub is_file : List ℕ → Bool
-is_file [] = true
-is_file (b ∷ bs) = not (b == 45)
-
 -- SET
 abbrev pub asked_of : List (List ℕ) → Option (List ℕ)
 asked_of [] = None
 asked_of (word ∷ []) = if is_file word then Some word else None
 asked_of (word ∷ other ∷ words) = None
-
-abbrev pub words_answer : Option (List ℕ) → Stage Reply
-words_answer None reads = Ok usage_reply
-words_answer (Some name) reads = fit_stages name reads

@@ -1,57 +1,28 @@
 // The top call.
-ghost use Rattle.std.specs.Prelude.{◌≡◌, ◌≤◌, IsErrOf, IsTrue, Ok, map, string_bytes};
+ghost use Rattle.std.specs.Prelude.{◌≡◌, ◌≤◌, map, string_bytes};
 ghost use Rattle.prem_io.specs.Counts.{Rose};
-ghost use Rattle.prem_answer.specs.Stages.{Comes, IsGiven, is_settled, reply_of};
-ghost use Rattle.prem_resp.specs.Stages.{asked_of, usage_reply, words_answer};
-ghost use Rattle.prem_resp.specs.Answer.{Answered, Ends};
-ghost use Rattle.prem_resp.specs.Complete.{IsComplete};
+ghost use Rattle.prem_resp.specs.Answer.{Answered, IsComplete, fit_tool};
 
 use crate::answer::fit_answer;
-use crate::status::{FitStatus, fit_status};
 use crate::words::asked_of;
-use prem_answer::{Answer, Halt, Status, write_all};
+use prem_answer::{Answer, Halt, PlainStatus as FitStatus, Tool, run_plain_tool, usage};
 use prem_io::{Sink, Store};
 use std::alloc::Global;
 
 /// The usage line.
 const USAGE: &str = "usage: prem_resp SET\n";
 
-/// The usage line, where the words are other ones.
-fn no_words(alloc: Global) -> Result<Answer, Halt>
-    ensures usage { Comes reply_of (λ given. given ≡ Ok usage_reply) result }
-    ensures unread { IsErrOf result Halt.ReadFault → ⊥ }
-{
-    Ok(Answer {
-        status: Status::Usage,
-        text: USAGE.as_bytes().to_vec(alloc)?,
-    })
-}
+/// The program.
+struct FitTool;
 
-/// The answer to the words, over what the store gives.
-fn find_answer<S: Store>(alloc: Global, words: &[String], store: &mut S) -> Result<Answer, Halt>
-    ensures answer { Comes reply_of (IsGiven (S.files store.old) (words_answer (asked_of (map string_bytes words.now)))) result }
-    ensures fault { IsErrOf result Halt.ReadFault → Rose (S.faults store.old) (S.faults store.new) }
-    ensures later { S.faults store.old ≤ S.faults store.new }
-    ensures same { S.files store.new ≡ S.files store.old }
-{
-    match asked_of(words) {
-        Some(name) => fit_answer(alloc, name, store),
-        None => no_words(alloc),
-    }
-}
+impl Tool for FitTool {
+    ghost meaning = { fit_tool };
 
-/// Writes an answer.
-fn finish<K: Sink>(sink: &mut K, answer: Answer) -> FitStatus
-    requires { IsTrue (is_settled answer.status) }
-    ensures ends { Ends (answer.status, answer.text.items) (K.bytes sink.old) (K.bytes sink.new) result }
-    ensures write { result ≡ FitStatus.WriteFault → Rose (K.faults sink.old) (K.faults sink.new) }
-    ensures read { result ≡ FitStatus.ReadFault → ⊥ }
-    ensures memory { result ≡ FitStatus.OutOfMemory → ⊥ }
-    ensures later { K.faults sink.old ≤ K.faults sink.new }
-{
-    match write_all(sink, &answer.text) {
-        Ok(()) => fit_status(answer.status),
-        Err(_) => FitStatus::WriteFault,
+    fn answer<S: Store>(alloc: Global, words: &[String], store: &mut S) -> Result<Answer, Halt> {
+        match asked_of(words) {
+            Some(name) => fit_answer(alloc, name, store),
+            None => usage(alloc, USAGE),
+        }
     }
 }
 
@@ -84,10 +55,5 @@ pub fn fit<S: Store, K: Sink>(
     ensures reads_counted { S.faults store.old ≤ S.faults store.new }
     ensures writes_counted { K.faults sink.old ≤ K.faults sink.new }
 {
-    match find_answer(alloc, words, store) {
-        Ok(answer) => finish(sink, answer),
-        Err(Halt::Answered(answer)) => finish(sink, answer),
-        Err(Halt::ReadFault) => FitStatus::ReadFault,
-        Err(Halt::OutOfMemory) => FitStatus::OutOfMemory,
-    }
+    run_plain_tool::<FitTool, S, K>(alloc, words, store, sink)
 }

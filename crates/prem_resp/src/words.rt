@@ -1,16 +1,8 @@
 // The words of the command line.
 ghost use Rattle.std.specs.Prelude.{◌≡◌, IfSome, IsNone, None, Some, map, string_bytes};
-ghost use Rattle.prem_resp.specs.Stages.{asked_of, is_file};
+ghost use Rattle.prem_resp.specs.Stages.{asked_of};
 
-/// Whether a word may name a file: it doesn't begin as an option does.
-fn is_file(word: &str) -> bool
-    ensures { result ≡ is_file word.now }
-{
-    match word.as_bytes() {
-        [] => true,
-        [first, ..] => *first != b'-',
-    }
-}
+use prem_answer::is_file;
 
 /// The file that the words name, or none where they are other ones.
 pub(crate) fn asked_of(words: &[String]) -> Option<&str>

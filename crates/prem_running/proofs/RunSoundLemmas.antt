@@ -1,4 +1,3 @@
-pub mod Words
 pub mod Reports
 pub mod SetRuns
 pub mod Sample

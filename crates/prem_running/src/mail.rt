@@ -6,4 +6,4 @@ mod laws;
 mod text;
 
 pub use answer::mail_answer;
-pub use laws::run_tells_again;
+pub use laws::deliveries_are_read_back;

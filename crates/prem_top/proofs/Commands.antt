@@ -48,8 +48,10 @@ use Rattle.prem_top.specs.Tile.Promise.{KeepsTiles}
 use Rattle.prem_top.proofs.TileLemmas.Keeping.{replies_keep}
 use Rattle.prem_top.specs.Source.Answer.{judged_reply as source_judged, source_reply, tasks_text}
 use Rattle.prem_top.specs.Read.{IsRead, SetIsRead, RunIsRead, MailIsRead}
+use Rattle.prem_top.specs.Again.{IsToldAgain}
 use Rattle.prem_top.specs.Promises.{IsAccepted, IsSoundTelling, IsSoundColor, Keeps, TellsFirstBroken, IsFirstBroken, TellsWhyUncolored, early, stuck, full, at_places, IsWhyUncolored, delivered_to}
 use Rattle.prem_top.specs.PromiseLaws.{BuildsKeep, ChecksKeep, ListsKeep, OnesKeep, RunsKeep, SamplesKeep, SourcesKeep, TilesKeep, ColorsKeep, MailKeeps}
+use Rattle.prem_top.proofs.Again.{told_again}
 use Rattle.prem_top.proofs.Readings.{goes_on, run_goes, SetGoes, set_goes, is_judged, run_goes_on, mail_goes}
 use Rattle.prem_top.proofs.Values.{sample_has_values, sets_read_have_values}
 use Rattle.prem_top.proofs.Alone.{gives, sound, text_told}
@@ -270,6 +272,7 @@ mail_keeps reads asked given is = record {
       let told = judged.on_done done in
       let accepted_is = accepted reads asked.of set g.read told.0 in
       let r = g.run_read in
+      let text_of : RunText → Type 0 = λ i. given.1 ≡ (mail_compiled asked.cycles i g.feeds c).1 in
       let suits = subst (λ (i : RunText). SuitsRun (setup_in set) i.words i.requests) (sym r.input_is) (inputs_are_lawful set r.bytes r.lines told.0 r.formed) in
       let fits : FitsRun (setup_in set) g.input.words g.input.requests =
       subst (λ (i : RunText). FitsRun (setup_in set) i.words i.requests) (sym r.input_is) (lawful_runs_fit set r.lines.words r.lines.requests told.0 (run_is_lawful r.bytes _ r.lines r.formed)) in
@@ -286,6 +289,8 @@ mail_keeps reads asked given is = record {
         ends = sound_reports_end (rule_of set.plant.policy) (setup_in set) c.image.content (promises_in set) c.limit (delivered_to asked c g.input g.feeds).lists g.input.requests n accepted_is.sound
             (record { inputs_are = good.inputs; trace = suits.trace; puts = suits.puts });
         text_is = told.1;
+        again = subst (λ (i : RunText). text_of i → IsToldAgain asked set r.bytes r.lines (delivered_to asked c i g.feeds) given.1) (sym r.input_is)
+            (told_again asked set r.bytes r.lines g.feeds given.1 accepted_is.values told.0 r.formed) told.1;
       };
   on_refused = λ refused.
       let g = mailed reads asked given (refused_is_judged given.0 refused) is in

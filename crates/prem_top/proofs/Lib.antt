@@ -5,10 +5,12 @@ pub mod Readings
 pub mod Values
 pub mod OneTask
 pub mod Alone
+pub mod Again
 pub mod Commands
 pub mod Samples
 pub mod Headline
-pub mod Told
 pub mod Complete
 pub mod Rows
+pub mod AgainRows
 pub mod Ranges
+pub mod Tool

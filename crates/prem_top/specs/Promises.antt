@@ -43,6 +43,7 @@ use Rattle.prem_top.specs.One.Answer.{one_set, output_lines, run_lines, state_of
 use Rattle.prem_top.specs.Tile.Promise.{TellsTiled, TellsWhyNot}
 use Rattle.prem_top.specs.Source.Answer.{tasks_text}
 use Rattle.prem_top.specs.Read.{IsRead, SetIsRead, RunIsRead, MailIsRead}
+use Rattle.prem_top.specs.Again.{IsToldAgain}
 
 -- ---- accepted
 
@@ -125,7 +126,8 @@ abbrev pub delivered_to : MailAsked → CompiledText → RunText → List Feed �
 delivered_to asked c input feeds = delivered_at c.image input feeds (run_limit asked.cycles c.limit)
 
 -- a text tells the lists of input words that the run files and the devices of such a set gave, and the report of its run, which is that of the run on these
--- lists: for them its state is good, from the set's limit on it has finished, and the report ends as finished or stopped
+-- lists: for them its state is good, from the set's limit on it has finished, and the report ends as finished or stopped; `run` tells this report again, with a
+-- run file of these lists and of the first run file's requests
 pub record IsSoundMail (reads : Reads) (asked : MailAsked) (text : List ℕ) : Type 0 where
   pub set : TaskSet
   pub accepted : IsAccepted reads asked.of set
@@ -136,6 +138,7 @@ pub record IsSoundMail (reads : Reads) (asked : MailAsked) (text : List ℕ) : T
   pub good : IsGoodRun (rule_of set.plant.policy) (setup_in set) (compiled set).image.content (promises_in set) (compiled set).limit (delivered_to asked (compiled set) input feeds).lists input.requests (run_limit asked.cycles (compiled set).limit)
   pub ends : EndsWell (compiled set).limit (run_limit asked.cycles (compiled set).limit) (state_at (compiled set).image (mailed_input input (delivered_to asked (compiled set) input feeds)) (run_limit asked.cycles (compiled set).limit))
   pub text_is : text ≡ (mailed_reply asked.cycles input feeds (compiled set)).1
+  pub again : IsToldAgain asked set run_read.bytes run_read.lines (delivered_to asked (compiled set) input feeds) text
 
 -- a text is the bytes of the image of a set whose parts have places with offsets: there no set of the cache is asked for too many lines, no rule is broken, and
 -- the image is sound

@@ -17,7 +17,9 @@ use Rattle.prem_set.proofs.Lawful.{set_is_lawful}
 use Rattle.prem_answer.specs.declared.answer.Telling.{Telling}
 use Rattle.prem_answer.specs.declared.answer.Telling.TheVariants.{Whole, Brief}
 use Rattle.prem_answer.specs.declared.status.Status.{Status}
-use Rattle.prem_answer.specs.declared.status.Status.TheVariants.{Done, Refused, Trap}
+use Rattle.prem_answer.specs.declared.status.Status.TheVariants.{Done, Refused, Usage, Form, ReadFault, WriteFault, OutOfMemory, Missing, Trap}
+use Rattle.prem_answer.specs.declared.status.PlainStatus.TheVariants as plain
+use Rattle.prem_answer.specs.Statuses.{plain_status}
 use Rattle.prem_answer.specs.Stages.{Reply, Reads, Stage, and_then, form_by, later_reads, missing_reply, reading_by, within_by}
 use Rattle.prem_exec.specs.Sources.Sources.{Gives, reading_set_by, reading_sources, reading_tasks_by, set_in_by, set_limit, set_of_bytes_by, set_why, set_with, source_limit, task_of_source, task_with}
 
@@ -29,6 +31,29 @@ is_judged Done = true
 is_judged Refused = true
 is_judged Trap = true
 is_judged _ = false
+
+-- an answer with which a program that tells of no trap ends as done or as refused does
+pub done_judged : (s : Status) → plain_status s ≡ plain.Done → is_judged s ≡ true
+done_judged Done e = refl
+done_judged Refused e = refl
+done_judged Usage e = absurd cc
+done_judged Form e = absurd cc
+done_judged ReadFault e = absurd cc
+done_judged WriteFault e = absurd cc
+done_judged OutOfMemory e = absurd cc
+done_judged Missing e = absurd cc
+done_judged Trap e = refl
+
+pub refused_judged : (s : Status) → plain_status s ≡ plain.Refused → is_judged s ≡ true
+refused_judged Done e = refl
+refused_judged Refused e = refl
+refused_judged Usage e = absurd cc
+refused_judged Form e = absurd cc
+refused_judged ReadFault e = absurd cc
+refused_judged WriteFault e = absurd cc
+refused_judged OutOfMemory e = absurd cc
+refused_judged Missing e = absurd cc
+refused_judged Trap e = refl
 
 pub record Goes {A : Type 0} (readings : (A → Stage Reply) → Stage Reply) (reads : Reads) (right : A → Type 0) : Type 0 where
   pub value : A

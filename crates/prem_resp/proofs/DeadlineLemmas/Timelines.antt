@@ -3,6 +3,7 @@ use Rattle.std.specs.Prelude.{All, is_some, ◌&&◌}
 use Rattle.std.proofs.Common.{◌≡◌, ℕ, zero, suc, ◌+◌, ◌-◌, ◌*◌, ◌/◌, ◌<◌, ◌≤◌, min, refl, ap, ◌∙◌, sym, subst, arith, cond, eqb, true, false, Bool, Some, None, Option, List, length, ◌⊎◌, inl, inr, ⊎_elim}
 use Rattle.std.proofs.lemmas.Bool.{and_parts, cases_Bool, cases_eq, eq-eqb, eqb-true, ne_eqb}
 use Rattle.std.proofs.lemmas.List.{get_or_default}
+use Rattle.std.proofs.lemmas.List.Elements.{All-nil}
 use Rattle.prem_plant.specs.Ranges.{IsPlant}
 use Rattle.prem_plant.specs.Order.Order.{OrderRule, HaveRoom}
 use Rattle.prem_sched.specs.declared.sched.TaskJobs.{TaskJobs}
@@ -13,7 +14,7 @@ use Rattle.prem_isa.specs.declared.effect.Phase.{Phase}
 use Rattle.prem_isa.specs.declared.effect.Phase.TheVariants.{Compatible, Memory as MemoryPhase, Execution}
 use Rattle.prem_isa.specs.declared.effect.Change.{Change}
 use Rattle.prem_isa.specs.declared.effect.Change.TheVariants.{Stay, Memory, Execute, End, Job}
-use Rattle.prem_isa.specs.Plain.{TaskRun, PlainState, plain_steps, plain_run, with_last}
+use Rattle.prem_isa.specs.Plain.{TaskRun, PlainState, Did, plain_steps, plain_run, with_last}
 use Rattle.prem_lru.specs.Entries.{ReplacementRule}
 use Rattle.prem_lru.specs.Order.{lines_in}
 use Rattle.prem_gate.specs.declared.request.Request.{Request}
@@ -32,7 +33,9 @@ use Rattle.prem_cycle.proofs.RunsLemmas.PositionLemmas.Finishes.{finished_point}
 use Rattle.prem_sound.specs.Script.Script.{begun_by, Call, call_of, Script}
 use Rattle.prem_sound.specs.Script.Scripts.{sum_below, last_release, interval_count}
 use Rattle.prem_sound.specs.Resident.Faultless.{IsPolicy}
-use Rattle.prem_sound.specs.Paced.Paced.{job_by, stretch_by, IsPaced}
+use Rattle.prem_sound.specs.Scopes.Charged.{Scoping, scope_by, scope_at, Charges, charges_by, job_charged, stretch_charged, all_charged, IsCharged}
+use Rattle.prem_resp.specs.Deadline.Timeline.{chosen_task, serves_in}
+use Rattle.prem_sound.proofs.ScopesLemmas.ChargeRuns.{some_charge, job_left, stretch_most}
 use Rattle.prem_sound.proofs.ResidentLemmas.Residents.{Goes, Issued, phase_at, begun_at}
 use Rattle.prem_sound.proofs.ResidentLemmas.Keeps.{sets_are, KeepScripts}
 use Rattle.prem_sound.proofs.ResidentLemmas.Facing.{KnownCore}
@@ -45,40 +48,43 @@ use Rattle.prem_sound.proofs.Ends.{behind_end}
 use Rattle.prem_sound.proofs.Rests.{rest_until}
 use Rattle.prem_sound.proofs.Timing.{first_no, not_finished, unpaid_owes, not_both}
 use Rattle.prem_sound.proofs.Finishing.{over_finished, run_timed}
-use Rattle.prem_sound.proofs.PacedLemmas.PaceRuns.{job_left, stretch_most}
 use Rattle.prem_resp.specs.declared.busy.load.Load.{Load}
 use Rattle.prem_resp.specs.Busy.Busy.{load_at}
 use Rattle.prem_resp.specs.Busy.Schedule.{Tasks, released, released_before, Schedule, IsReady, is_task, one_if, served, IsServed, IsSchedule}
 use Rattle.prem_resp.proofs.BusyLemmas.Releases.{released_next, released_grows}
 use Rattle.prem_resp.proofs.BusyLemmas.Periods.{jobs_end_in_time}
 use Rattle.prem_resp.proofs.BusyLemmas.Enough.{lengths_are_enough}
-use Rattle.prem_resp.specs.Deadline.Deadlines.{AreLoads, ScriptsMeetDeadlines}
+use Rattle.prem_resp.specs.Deadline.Deadlines.{AreLoads, LastsWithin, RunsWithin, ScriptsMeetDeadlines, ScriptsKeepCharges}
 use Rattle.prem_resp.proofs.DeadlineLemmas.Choosing.{Reads, Since, chooses_since, finished_done, idle_none, ready_then}
-use Rattle.prem_resp.proofs.DeadlineLemmas.Accounts.{chosen_task, serves_in, more, kept_at, job_at, stretch_at, InStretch, HasHad, InRun, InSwitch, Booked}
+use Rattle.prem_resp.proofs.DeadlineLemmas.Accounts.{more, kept_at, job_at, stretch_at, InStretch, HasHad, InRun, InSwitch, Booked}
 use Rattle.prem_resp.proofs.DeadlineLemmas.BookedRuns.{tasks, timeline, at, had, start, some_period, CountsJob, Settled, cycle_booked}
 
-module _ (rule : ReplacementRule) (order : OrderRule) (passes : ℕ → ℕ) (p : Setup) (content : List ℕ) (inputs : List (List ℕ)) (requests : List Request) (own : ℕ → ℕ → Bool) (runs : ℕ → TaskRun) (scripts : ℕ → Script) (policy : IsPolicy rule order passes) (keep : KeepScripts p passes runs scripts) (q : IsRunnable p content requests) (o : AreOwn p content inputs own runs) (periods : All (λ (r : TaskRecord). 1 ≤ r.period) p.tasks) (loads : List Load) (are : AreLoads p runs scripts loads)
+module _ (rule : ReplacementRule) (order : OrderRule) (passes : ℕ → ℕ) (p : Setup) (content : List ℕ) (inputs : List (List ℕ)) (requests : List Request) (own : ℕ → ℕ → Bool) (runs : ℕ → TaskRun) (scripts : ℕ → Script) (policy : IsPolicy rule order passes) (keep : KeepScripts p passes runs scripts) (q : IsRunnable p content requests) (o : AreOwn p content inputs own runs) (periods : All (λ (r : TaskRecord). 1 ≤ r.period) p.tasks) (scopings : ℕ → Scoping) (loads : List Load) (are : AreLoads p runs scripts scopings loads)
     (outs : sum_below (length p.tasks) (λ k. length (plain_run (runs k) (scripts k).count).task.outputs) < log_size) (ints : sum_below (length p.tasks) (λ k. interval_count (runs k) (scripts k)) < log_size) where
   abbrev all_tasks : Tasks
-  all_tasks = tasks rule order passes p content inputs requests own runs scripts policy keep q o periods loads are
+  all_tasks = tasks rule order passes p content inputs requests own runs scripts policy keep q o periods scopings loads are
 
   abbrev states : ℕ → MachineState
   states n = run_of rule p content inputs requests n
 
   abbrev line : Schedule
-  line = timeline rule order passes p content inputs requests own runs scripts policy keep q o periods loads are
+  line = timeline rule order passes p content inputs requests own runs scripts policy keep q o periods scopings loads are
 
   abbrev issued : ℕ → ℕ → ℕ
-  issued n = at rule order passes p content inputs requests own runs scripts policy keep q o periods loads are n
+  issued n = at rule order passes p content inputs requests own runs scripts policy keep q o periods scopings loads are n
 
   abbrev had_by : ℕ → ℕ → ℕ
-  had_by n = had rule order passes p content inputs requests own runs scripts policy keep q o periods loads are n
+  had_by n = had rule order passes p content inputs requests own runs scripts policy keep q o periods scopings loads are n
+
+  -- what a task is charged in all
+  abbrev total : ℕ → ℕ
+  total k = all_charged p.plant (scripts k) (runs k) (charges_by p.plant (runs k) (scopings k)) (scripts k).count
 
   abbrev IsBooked : ℕ → (ℕ → ℕ) → (ℕ → ℕ) → MachineState → Type 0
-  IsBooked now h a s = Booked p.plant (length p.tasks) runs scripts all_tasks line now h a s.sched s.core.mode s.core.interval s.core.mark s.core.debt
+  IsBooked now h a s = Booked p.plant (length p.tasks) runs scripts order scopings all_tasks line now h a (lines_in s.work.cache) s.sched s.core.mode s.core.interval s.core.mark s.core.debt
 
   some : (k : ℕ) → k < length p.tasks → 1 ≤ all_tasks.period k
-  some k lt = some_period rule order passes p content inputs requests own runs scripts policy keep q o periods loads are k lt
+  some k lt = some_period rule order passes p content inputs requests own runs scripts policy keep q o periods scopings loads are k lt
 
   -- ---- what is known of each state
 
@@ -116,20 +122,26 @@ module _ (rule : ReplacementRule) (order : OrderRule) (passes : ℕ → ℕ) (p 
     booked : is_over (states n) ≡ false → IsBooked (states n).now (had_by n) (issued n) (states n)
     unserved : (j m : ℕ) → j < length p.tasks → line.ended j n < m → served line j m n ≡ 0
     counted : (j : ℕ) → j < length p.tasks → line.ended j n ≤ released_before all_tasks j n
+    intervals : All (LastsWithin p.plant loads) (states n).log.intervals
 
   first_ended : (j : ℕ) → j < length p.tasks → line.ended j 0 ≡ 0
   unfolding cycles_of steps_of plain_steps
   first_ended j lt = let e : line.ended j 0 + 0 ≡ 0 = (schedules 0).ended j lt in omega (arith, e)
 
   start_booked : IsBooked (states 0).now (had_by 0) (issued 0) (states 0)
-  unfolding cycles_of steps_of begun_by plain_steps job_by stretch_by
-  start_booked = record { current = refl; held = λ j lt out. omega arith }
+  unfolding cycles_of steps_of begun_by plain_steps job_charged stretch_charged scope_by
+  start_booked = record { current = refl; held = λ j lt out. omega arith; fresh = λ j lt out. refl }
+
+  first_intervals : All (LastsWithin p.plant loads) (states 0).log.intervals
+  unfolding cycles_of
+  first_intervals = All-nil (LastsWithin p.plant loads)
 
   first_through : Through 0
   first_through = record {
     booked = λ on. start_booked;
     unserved = λ j m lt less. refl;
     counted = λ j lt. omega (arith, first_ended j lt);
+    intervals = first_intervals;
   }
 
   -- ---- one more cycle
@@ -138,16 +150,16 @@ module _ (rule : ReplacementRule) (order : OrderRule) (passes : ℕ → ℕ) (p 
   unfolding cycles_of
   over_stays n e = ap (λ b. cond b (states n) (cycle_of rule p requests (states n))) e
 
-  next_settled : (n : ℕ) → Through n → is_over (states n) ≡ false → Settled rule order passes p content inputs requests own runs scripts policy keep q o periods loads are (more (line.serves n) (had_by n)) (states n).sched (issued (suc n)) ((states n).now + 1) (states (suc n))
+  next_settled : (n : ℕ) → Through n → is_over (states n) ≡ false → Settled rule order passes p content inputs requests own runs scripts policy keep q o periods scopings loads are (more (line.serves n) (had_by n)) (states n).sched (issued (suc n)) ((states n).now + 1) (states (suc n))
   unfolding cycles_of steps_of
   next_settled n t on =
       let s : MachineState = states n in
-      let xs : List CycleStep = steps_of rule p requests n (start rule order passes p content inputs requests own runs scripts policy keep q o periods loads are) in
+      let xs : List CycleStep = steps_of rule p requests n (start rule order passes p content inputs requests own runs scripts policy keep q o periods scopings loads are) in
       let none : Option CycleStep = None in
-      subst (λ b. Settled rule order passes p content inputs requests own runs scripts policy keep q o periods loads are (more (serves_in s.now s.sched s.core.mode) (had_by n)) s.sched (λ k. count_of k (with_last (cond b none (step_with rule p (bus_at (arrivals_at requests s).gates s) s)) xs)) (s.now + 1) (cond b s (cycle_of rule p requests s))) (sym on)
-      (cycle_booked rule order passes p content inputs requests own runs scripts policy keep q o periods loads are s xs (had_by n) (first_no (is_finished s) (is_some s.trapped) (is_full s) on) (knows n)
+      subst (λ b. Settled rule order passes p content inputs requests own runs scripts policy keep q o periods scopings loads are (more (serves_in s.now s.sched s.core.mode) (had_by n)) s.sched (λ k. count_of k (with_last (cond b none (step_with rule p (bus_at (arrivals_at requests s).gates s) s)) xs)) (s.now + 1) (cond b s (cycle_of rule p requests s))) (sym on)
+      (cycle_booked rule order passes p content inputs requests own runs scripts policy keep q o periods scopings loads are s xs (had_by n) (first_no (is_finished s) (is_some s.trapped) (is_full s) on) (knows n)
       (run_keeps rule order passes p content inputs requests own runs scripts policy keep q o n) (run_lasts rule order passes p content inputs requests own runs scripts policy keep q o n)
-      (reads n on) (t.booked on))
+      (reads n on) (t.booked on) t.intervals)
 
   -- a job may have ended in it
   abbrev Counts : ℕ → ℕ → Type 0
@@ -155,7 +167,7 @@ module _ (rule : ReplacementRule) (order : OrderRule) (passes : ℕ → ℕ) (p 
 
   counts_settled : (n j : ℕ) → j < length p.tasks → (on : is_over (states n) ≡ false) → (t : Through n) → Counts n j
   counts_settled n j lt on t =
-      let c : Settled rule order passes p content inputs requests own runs scripts policy keep q o periods loads are (more (line.serves n) (had_by n)) (states n).sched (issued (suc n)) ((states n).now + 1) (states (suc n)) = next_settled n t on in
+      let c : Settled rule order passes p content inputs requests own runs scripts policy keep q o periods scopings loads are (more (line.serves n) (had_by n)) (states n).sched (issued (suc n)) ((states n).now + 1) (states (suc n)) = next_settled n t on in
       let e : (states n).now ≡ n = run_of-now rule p content inputs requests n on in
       let f : (states n).now + 1 ≡ suc n = omega (arith, e) in
       ⊎_elim (λ (same : ((task_at (states (suc n)).sched j).ended ≡ (task_at (states n).sched j).ended) × (c.left j ≡ more (line.serves n) (had_by n) j)). inl same.0)
@@ -187,7 +199,7 @@ module _ (rule : ReplacementRule) (order : OrderRule) (passes : ℕ → ℕ) (p 
       omega (arith, z)
 
   -- what is left of what each job has had
-  had_next : (n j : ℕ) → j < length p.tasks → (t : Through n) → (left : ℕ → ℕ) → CountsJob rule order passes p content inputs requests own runs scripts policy keep q o periods loads are ((states n).now + 1) (states n).sched (states (suc n)).sched (more (line.serves n) (had_by n)) left j → had_by (suc n) j ≡ left j
+  had_next : (n j : ℕ) → j < length p.tasks → (t : Through n) → (left : ℕ → ℕ) → CountsJob rule order passes p content inputs requests own runs scripts policy keep q o periods scopings loads are ((states n).now + 1) (states n).sched (states (suc n)).sched (more (line.serves n) (had_by n)) left j → had_by (suc n) j ≡ left j
   had_next n j lt t left (inl same) =
       let e : line.ended j (suc n) ≡ line.ended j n = same.0 in
       let z : one_if (is_task j (line.serves n) && (eqb (line.ended j n) (line.ended j n))) ≡ one_if (is_task j (line.serves n)) = and_true (is_task j (line.serves n)) _ (eq-eqb (line.ended j n) (line.ended j n) refl) in
@@ -197,38 +209,49 @@ module _ (rule : ReplacementRule) (order : OrderRule) (passes : ℕ → ℕ) (p 
       ap (λ m. served line j m (suc n)) e ∙ not_served n j (line.ended j n + 1) (λ x. omega (arith, x)) ∙ t.unserved j (line.ended j n + 1) lt (omega arith) ∙ sym one.1
 
   -- the accounts look at the tasks alone
-  current_same : (now : ℕ) (h h' : ℕ → ℕ) (a : ℕ → ℕ) (s : MachineState) (m : Mode) → ((j : ℕ) → j < length p.tasks → h' j ≡ h j) → Booked p.plant (length p.tasks) runs scripts all_tasks line now h a s.sched m s.core.interval s.core.mark s.core.debt → Booked p.plant (length p.tasks) runs scripts all_tasks line now h' a s.sched m s.core.interval s.core.mark s.core.debt
-  current_same now h h' a s Point e b = record { current = b.current; held = λ j lt out. omega (arith, e j lt, b.held j lt out) }
+  current_same : (now : ℕ) (h h' : ℕ → ℕ) (a : ℕ → ℕ) (s : MachineState) (m : Mode) → ((j : ℕ) → j < length p.tasks → h' j ≡ h j) → Booked p.plant (length p.tasks) runs scripts order scopings all_tasks line now h a (lines_in s.work.cache) s.sched m s.core.interval s.core.mark s.core.debt → Booked p.plant (length p.tasks) runs scripts order scopings all_tasks line now h' a (lines_in s.work.cache) s.sched m s.core.interval s.core.mark s.core.debt
+  current_same now h h' a s Point e b = record { current = b.current; held = λ j lt out. omega (arith, e j lt, b.held j lt out); fresh = b.fresh }
   current_same now h h' a s (Switching k left) e b =
-      let i : InSwitch p.plant (length p.tasks) runs scripts all_tasks line now h a s.sched k left = b.current.0 in
+      let i : InSwitch p.plant (length p.tasks) runs scripts order scopings all_tasks line now h a s.sched k left = b.current.0 in
       record {
         current = (record { since = i.since; lasts = i.lasts; has_had = omega (arith, e k i.since.there, i.has_had) }, b.current.1);
         held = λ j lt out. omega (arith, e j lt, b.held j lt out);
+        fresh = b.fresh;
       }
   current_same now h h' a s (Running k) e b =
-      let i : InRun p.plant (length p.tasks) runs scripts all_tasks line now h a s.sched k s.core.interval s.core.mark s.core.debt = b.current in
+      let i : InRun p.plant (length p.tasks) runs scripts order scopings all_tasks line now h a (lines_in s.work.cache) s.sched k s.core.interval s.core.mark s.core.debt = b.current in
       record {
         current = record {
           since = i.since;
           lasts = i.lasts;
+          credit = i.credit;
+          backed = i.backed;
+          over = i.over;
           pace = i.pace;
-          has_had = subst (λ n. HasHad p.plant (length p.tasks) runs scripts all_tasks line s.core.interval.predictable s.core.mark now (owed_of s.core.debt) s.core.interval.first s.core.interval.stated n (kept_at p.plant (length p.tasks) runs scripts all_tasks line a k) (job_at p.plant (length p.tasks) runs scripts all_tasks line a k) (all_tasks.cost k)) (sym (e k i.since.there)) i.has_had;
+          has_had = subst (λ n. HasHad p.plant (length p.tasks) runs scripts order scopings all_tasks line s.core.interval.predictable s.core.mark now (owed_of s.core.debt) i.credit s.core.interval.first s.core.interval.stated n (kept_at p.plant (length p.tasks) runs scripts order scopings all_tasks line a k) (job_at p.plant (length p.tasks) runs scripts order scopings all_tasks line a k) (all_tasks.cost k)) (sym (e k i.since.there)) i.has_had;
         };
         held = λ j lt out. omega (arith, e j lt, b.held j lt out);
+        fresh = b.fresh;
       }
-  current_same now h h' a s (Idle until) e b = record { current = b.current; held = λ j lt out. omega (arith, e j lt, b.held j lt out) }
+  current_same now h h' a s (Idle until) e b = record { current = b.current; held = λ j lt out. omega (arith, e j lt, b.held j lt out); fresh = b.fresh }
 
   next_booked : (n : ℕ) → Through n → is_over (states (suc n)) ≡ false → IsBooked (states (suc n)).now (had_by (suc n)) (issued (suc n)) (states (suc n))
   next_booked n t on' =
       ⊎_elim (λ (over : is_over (states n) ≡ true). let x : false ≡ true = sym on' ∙ ap is_over (over_stays n over) ∙ over in absurd cc)
       (λ (on : is_over (states n) ≡ false).
-      let c : Settled rule order passes p content inputs requests own runs scripts policy keep q o periods loads are (more (line.serves n) (had_by n)) (states n).sched (issued (suc n)) ((states n).now + 1) (states (suc n)) = next_settled n t on in
+      let c : Settled rule order passes p content inputs requests own runs scripts policy keep q o periods scopings loads are (more (line.serves n) (had_by n)) (states n).sched (issued (suc n)) ((states n).now + 1) (states (suc n)) = next_settled n t on in
       current_same (states (suc n)).now c.left (had_by (suc n)) (issued (suc n)) (states (suc n)) (states (suc n)).core.mode (λ j lt. had_next n j lt t c.left (c.counts j lt)) c.booked)
       (cases_Bool (is_over (states n)))
 
   counted_next : (n j : ℕ) → j < length p.tasks → line.ended j n ≤ released_before all_tasks j n → Counts n j → line.ended j (suc n) ≤ released_before all_tasks j (suc n)
   counted_next n j lt was (inl e) = let g : released_before all_tasks j n ≤ released_before all_tasks j (suc n) = released_grows all_tasks j n (suc n) (some j lt) (omega arith) in omega (arith, e, was, g)
   counted_next n j lt was (inr e) = omega (arith, e.0, e.1)
+
+  next_intervals : (n : ℕ) → Through n → All (LastsWithin p.plant loads) (states (suc n)).log.intervals
+  next_intervals n t =
+      ⊎_elim (λ (over : is_over (states n) ≡ true). subst (λ (s : MachineState). All (LastsWithin p.plant loads) s.log.intervals) (sym (over_stays n over)) t.intervals)
+      (λ (on : is_over (states n) ≡ false). (next_settled n t on).intervals)
+      (cases_Bool (is_over (states n)))
 
   next_through : (n : ℕ) → Through n → Through (suc n)
   next_through n t = record {
@@ -237,6 +260,7 @@ module _ (rule : ReplacementRule) (order : OrderRule) (passes : ℕ → ℕ) (p 
         let g : line.ended j n ≤ line.ended j (suc n) = ended_grows n j (counts n j lt t) in
         not_served n j m (λ e. omega (arith, e, g, less)) ∙ t.unserved j m lt (omega (arith, g, less));
     counted = λ j lt. counted_next n j lt (t.counted j lt) (counts n j lt t);
+    intervals = next_intervals n t;
   }
 
   through : (n : ℕ) → Through n
@@ -248,7 +272,7 @@ module _ (rule : ReplacementRule) (order : OrderRule) (passes : ℕ → ℕ) (p 
   over_finishes : (n : ℕ) → is_over (states n) ≡ true → ((states n).core.mode ≡ Point) × (choice (states n).now (states n).sched ≡ Finished)
   over_finishes n over =
       finished_point (states n).now (states n).sched (states n).core.mode
-      (over_finished rule order passes p content inputs requests own runs scripts policy keep q o periods n outs ints over)
+      (over_finished rule order passes p content inputs requests own runs scripts policy keep q o periods scopings (λ k lt. (are.each k lt).scoped) total (λ k lt. omega arith) n outs ints over)
 
   over_serves : (n : ℕ) → is_over (states n) ≡ true → line.serves n ≡ None
   over_serves n over = let f = over_finishes n over in ap (serves_in (states n).now (states n).sched) f.0 ∙ ap chosen_task f.1
@@ -292,8 +316,14 @@ module _ (rule : ReplacementRule) (order : OrderRule) (passes : ℕ → ℕ) (p 
     abbrev call_stated : ℕ
     call_stated = (call_of (scripts k) (begun_at runs (issued t) k)).stated
 
-    paced : IsPaced p.plant (runs k) (scripts k) (all_tasks.cost k) (all_tasks.longest k)
-    paced = (are.each k lt).paced
+    abbrev charge : Charges
+    charge = charges_by p.plant (runs k) (scopings k)
+
+    some_cycle : (n : ℕ) (d : Did) → 1 ≤ charge n d
+    some_cycle n d = some_charge p.plant (scopings k n) (scope_at (runs k) (scopings k) n) d
+
+    charged : IsCharged p.plant (runs k) (scripts k) charge (all_tasks.cost k) (all_tasks.longest k)
+    charged = (are.each k lt).charged
 
     fits : IsInTime Stay → (states t).now + owed_of (states t).core.debt ≤ (states t).core.interval.first + call_stated
     fits y =
@@ -305,26 +335,26 @@ module _ (rule : ReplacementRule) (order : OrderRule) (passes : ℕ → ℕ) (p 
         paced_fits order p.plant (states t).now (owed_of (states t).core.debt) (states t).core.interval.first c (begun_at runs (issued t) k).steps (lines_in (states t).work.cache) policy.once (omega (arith, pos, sets))
         (subst (λ n. HaveRoom n p.plant.ways c.members) (sym sets) ((keep k lt).room _)) (in_script p.plant passes (runs k) (scripts k) (keep k lt) (issued t k)) y.1 y.0
 
-    within : (b : Bool) (mark : Change) → (states t).core.interval.predictable ≡ b → IsIn mark →
-        (b ≡ false → InStretch p.plant (length p.tasks) runs scripts all_tasks line mark (states t).now (owed_of (states t).core.debt) (states t).core.interval.first (stretch_at p.plant (length p.tasks) runs scripts all_tasks line (issued t) k) (all_tasks.longest k)) →
+    within : (b : Bool) (mark : Change) (credit : ℕ) → (states t).core.interval.predictable ≡ b → IsIn mark →
+        (b ≡ false → InStretch p.plant (length p.tasks) runs scripts order scopings all_tasks line mark (states t).now (owed_of (states t).core.debt) credit (states t).core.interval.first (stretch_at p.plant (length p.tasks) runs scripts order scopings all_tasks line (issued t) k) (all_tasks.longest k)) →
         (b ≡ true → IsInTime mark) → (states t).now + p.plant.switch ≤ (states t).core.interval.first + all_tasks.longest k
-    within false Stay e x pace time = omega (arith, pace refl, stretch_most p.plant (scripts k) (runs k) (all_tasks.cost k) (all_tasks.longest k) paced (issued t k))
-    within false (Execute l) e x pace time = omega (arith, pace refl, stretch_most p.plant (scripts k) (runs k) (all_tasks.cost k) (all_tasks.longest k) paced (issued t k))
-    within false Memory e x pace time = omega (arith, pace refl)
-    within false Job e x pace time = omega (arith, pace refl)
-    within false End e x pace time = absurd (let z : true ≡ false = sym x.0 ∙ e in cc)
-    within true Stay e x pace time = omega (arith, fits (time refl), paced.calls ((begun_at runs (issued t) k).calls - 1))
-    within true (Execute l) e x pace time = omega (arith, fits (time refl), paced.calls ((begun_at runs (issued t) k).calls - 1))
-    within true End e x pace time = let y : (states t).now + owed_of (states t).core.debt ≤ (states t).core.interval.first + (states t).core.interval.stated = time refl in omega (arith, y, x.2, paced.calls ((begun_at runs (issued t) k).calls - 1))
-    within true Memory e x pace time = absurd (let z : false ≡ true = sym x.0 ∙ e in cc)
-    within true Job e x pace time = absurd (let z : false ≡ true = sym x.0 ∙ e in cc)
+    within false Stay credit e x pace time = omega (arith, pace refl, stretch_most p.plant (scripts k) (runs k) charge (all_tasks.cost k) (all_tasks.longest k) some_cycle charged (issued t k))
+    within false (Execute l) credit e x pace time = omega (arith, pace refl, stretch_most p.plant (scripts k) (runs k) charge (all_tasks.cost k) (all_tasks.longest k) some_cycle charged (issued t k))
+    within false Memory credit e x pace time = omega (arith, pace refl)
+    within false Job credit e x pace time = omega (arith, pace refl)
+    within false End credit e x pace time = absurd (let z : true ≡ false = sym x.0 ∙ e in cc)
+    within true Stay credit e x pace time = omega (arith, fits (time refl), charged.calls ((begun_at runs (issued t) k).calls - 1))
+    within true (Execute l) credit e x pace time = omega (arith, fits (time refl), charged.calls ((begun_at runs (issued t) k).calls - 1))
+    within true End credit e x pace time = let y : (states t).now + owed_of (states t).core.debt ≤ (states t).core.interval.first + (states t).core.interval.stated = time refl in omega (arith, y, x.2, charged.calls ((begun_at runs (issued t) k).calls - 1))
+    within true Memory credit e x pace time = absurd (let z : false ≡ true = sym x.0 ∙ e in cc)
+    within true Job credit e x pace time = absurd (let z : false ≡ true = sym x.0 ∙ e in cc)
 
     -- ---- a job that isn't over
 
-    left : (plain_run (runs k) (issued t k)).ended < (runs k).jobs → job_at p.plant (length p.tasks) runs scripts all_tasks line (issued t) k + (1 + p.plant.switch) ≤ all_tasks.cost k
+    left : (plain_run (runs k) (issued t k)).ended < (runs k).jobs → job_at p.plant (length p.tasks) runs scripts order scopings all_tasks line (issued t) k + (1 + p.plant.switch) ≤ all_tasks.cost k
     left less =
         let ends : (runs k).jobs ≤ (plain_run (runs k) (scripts k).count).ended = omega (arith, (keep k lt).ends) in
-        job_left p.plant (scripts k) (runs k) (all_tasks.cost k) (all_tasks.longest k) paced (issued t k) (scripts k).count less
+        job_left p.plant (scripts k) (runs k) charge (all_tasks.cost k) (all_tasks.longest k) some_cycle charged (issued t k) (scripts k).count less
         (λ n le. subst (λ (x : PlainState). (runs k).jobs ≤ x.ended) (sym (behind_end (runs k) (scripts k).count n ends le)) ends)
 
     kept_of : (ph : Phase) (stated : ℕ) → is_predictable ph ≡ true → kept_by p.plant.switch ph stated ≡ stated + p.plant.switch
@@ -338,26 +368,26 @@ module _ (rule : ReplacementRule) (order : OrderRule) (passes : ℕ → ℕ) (p 
         (λ (out : ends_before (states t).now (states t).core.interval mark ≡ false). let x : true ≡ false = sym e ∙ out in absurd cc)
         (not_both (is_paid (states t).core.debt) (ends_before (states t).now (states t).core.interval mark) on)
 
-    goes_less : (h0 cost : ℕ) → (goes : Goes (phase_at runs (issued t) k) call_stated (states t).core.interval) → (states t).core.interval.predictable ≡ true → IsInTime Stay → job_at p.plant (length p.tasks) runs scripts all_tasks line (issued t) k + (1 + p.plant.switch) ≤ cost → h0 + (states t).core.interval.first + kept_at p.plant (length p.tasks) runs scripts all_tasks line (issued t) k ≤ p.plant.switch + job_at p.plant (length p.tasks) runs scripts all_tasks line (issued t) k + (states t).now → h0 < cost
+    goes_less : (h0 cost : ℕ) → (goes : Goes (phase_at runs (issued t) k) call_stated (states t).core.interval) → (states t).core.interval.predictable ≡ true → IsInTime Stay → job_at p.plant (length p.tasks) runs scripts order scopings all_tasks line (issued t) k + (1 + p.plant.switch) ≤ cost → h0 + (states t).core.interval.first + kept_at p.plant (length p.tasks) runs scripts order scopings all_tasks line (issued t) k ≤ p.plant.switch + job_at p.plant (length p.tasks) runs scripts order scopings all_tasks line (issued t) k + (states t).now → h0 < cost
     goes_less h0 cost goes e time le h =
-        let z : kept_at p.plant (length p.tasks) runs scripts all_tasks line (issued t) k ≡ call_stated + p.plant.switch = kept_of (phase_at runs (issued t) k) call_stated (goes.kind ∙ e) in
+        let z : kept_at p.plant (length p.tasks) runs scripts order scopings all_tasks line (issued t) k ≡ call_stated + p.plant.switch = kept_of (phase_at runs (issued t) k) call_stated (goes.kind ∙ e) in
         omega (arith, fits time, z, le, h)
 
-    own_less : (h0 : ℕ) (b : Bool) (mark : Change) → (states t).core.interval.predictable ≡ b → IsIn mark → (is_paid (states t).core.debt && ends_before (states t).now (states t).core.interval mark) ≡ false → (b ≡ true → IsInTime mark) → (ends_job mark ≡ 0 → job_at p.plant (length p.tasks) runs scripts all_tasks line (issued t) k + (1 + p.plant.switch) ≤ all_tasks.cost k) →
-        HasHad p.plant (length p.tasks) runs scripts all_tasks line b mark (states t).now (owed_of (states t).core.debt) (states t).core.interval.first (states t).core.interval.stated h0 (kept_at p.plant (length p.tasks) runs scripts all_tasks line (issued t) k) (job_at p.plant (length p.tasks) runs scripts all_tasks line (issued t) k) (all_tasks.cost k) → h0 < all_tasks.cost k
-    own_less h0 false Stay e x on time le h = omega (arith, le refl, h)
-    own_less h0 false (Execute l) e x on time le h = omega (arith, le refl, h)
-    own_less h0 false Memory e x on time le h = omega (arith, le refl, h)
-    own_less h0 false Job e x on time le h = omega (arith, h, owes Job on refl)
-    own_less h0 false End e x on time le h = absurd (let z : true ≡ false = sym x.0 ∙ e in cc)
-    own_less h0 true Stay e x on time le h = goes_less h0 (all_tasks.cost k) x e (time refl) (le refl) h
-    own_less h0 true (Execute l) e x on time le h = goes_less h0 (all_tasks.cost k) x e (time refl) (le refl) h
-    own_less h0 true End e x on time le h = let y : (states t).now + owed_of (states t).core.debt ≤ (states t).core.interval.first + (states t).core.interval.stated = time refl in omega (arith, y, le refl, h)
-    own_less h0 true Memory e x on time le h = absurd (let z : false ≡ true = sym x.0 ∙ e in cc)
-    own_less h0 true Job e x on time le h = absurd (let z : false ≡ true = sym x.0 ∙ e in cc)
+    own_less : (h0 credit : ℕ) (b : Bool) (mark : Change) → (states t).core.interval.predictable ≡ b → IsIn mark → (is_paid (states t).core.debt && ends_before (states t).now (states t).core.interval mark) ≡ false → (b ≡ true → IsInTime mark) → (ends_job mark ≡ 0 → job_at p.plant (length p.tasks) runs scripts order scopings all_tasks line (issued t) k + (1 + p.plant.switch) ≤ all_tasks.cost k) →
+        HasHad p.plant (length p.tasks) runs scripts order scopings all_tasks line b mark (states t).now (owed_of (states t).core.debt) credit (states t).core.interval.first (states t).core.interval.stated h0 (kept_at p.plant (length p.tasks) runs scripts order scopings all_tasks line (issued t) k) (job_at p.plant (length p.tasks) runs scripts order scopings all_tasks line (issued t) k) (all_tasks.cost k) → h0 < all_tasks.cost k
+    own_less h0 credit false Stay e x on time le h = omega (arith, le refl, h)
+    own_less h0 credit false (Execute l) e x on time le h = omega (arith, le refl, h)
+    own_less h0 credit false Memory e x on time le h = omega (arith, le refl, h)
+    own_less h0 credit false Job e x on time le h = omega (arith, h, owes Job on refl)
+    own_less h0 credit false End e x on time le h = absurd (let z : true ≡ false = sym x.0 ∙ e in cc)
+    own_less h0 credit true Stay e x on time le h = goes_less h0 (all_tasks.cost k) x e (time refl) (le refl) h
+    own_less h0 credit true (Execute l) e x on time le h = goes_less h0 (all_tasks.cost k) x e (time refl) (le refl) h
+    own_less h0 credit true End e x on time le h = let y : (states t).now + owed_of (states t).core.debt ≤ (states t).core.interval.first + (states t).core.interval.stated = time refl in omega (arith, y, le refl, h)
+    own_less h0 credit true Memory e x on time le h = absurd (let z : false ≡ true = sym x.0 ∙ e in cc)
+    own_less h0 credit true Job e x on time le h = absurd (let z : false ≡ true = sym x.0 ∙ e in cc)
 
   abbrev BookedIn : ℕ → Mode → Type 0
-  BookedIn t m = Booked p.plant (length p.tasks) runs scripts all_tasks line (states t).now (had_by t) (issued t) (states t).sched m (states t).core.interval (states t).core.mark (states t).core.debt
+  BookedIn t m = Booked p.plant (length p.tasks) runs scripts order scopings all_tasks line (states t).now (had_by t) (issued t) (lines_in (states t).work.cache) (states t).sched m (states t).core.interval (states t).core.mark (states t).core.debt
 
   served_by : (t k : ℕ) → is_over (states t) ≡ false → (m : Mode) → (states t).core.mode ≡ m → BookedIn t m → serves_in (states t).now (states t).sched m ≡ Some k → IsServed all_tasks line k t
   served_by t k on Point e b h =
@@ -375,18 +405,29 @@ module _ (rule : ReplacementRule) (order : OrderRule) (passes : ℕ → ℕ) (p 
       }
   served_by t k on (Switching j left) e b h =
       let same : j ≡ k = (let x : Some j ≡ Some k = h in cc) in
-      let i : InSwitch p.plant (length p.tasks) runs scripts all_tasks line (states t).now (had_by t) (issued t) (states t).sched j left = b.current.0 in
+      let i : InSwitch p.plant (length p.tasks) runs scripts order scopings all_tasks line (states t).now (had_by t) (issued t) (states t).sched j left = b.current.0 in
       subst (λ n. IsServed all_tasks line n t) same
-      (from_since t j i.since (run_of-now rule p content inputs requests t on) (omega (arith, i.lasts, (are.each j i.since.there).paced.calls 0)))
+      (from_since t j i.since (run_of-now rule p content inputs requests t on) (omega (arith, i.lasts, (are.each j i.since.there).charged.calls 0)))
   served_by t k on (Running j) e b h =
       let same : j ≡ k = (let x : Some j ≡ Some k = h in cc) in
-      let i : InRun p.plant (length p.tasks) runs scripts all_tasks line (states t).now (had_by t) (issued t) (states t).sched j (states t).core.interval (states t).core.mark (states t).core.debt = b.current in
+      let i : InRun p.plant (length p.tasks) runs scripts order scopings all_tasks line (states t).now (had_by t) (issued t) (lines_in (states t).work.cache) (states t).sched j (states t).core.interval (states t).core.mark (states t).core.debt = b.current in
       let l = run_lasts rule order passes p content inputs requests own runs scripts policy keep q o t in
       let ke = run_keeps rule order passes p content inputs requests own runs scripts policy keep q o t in
       subst (λ n. IsServed all_tasks line n t) same
       (from_since t j i.since (run_of-now rule p content inputs requests t on)
-      (omega (arith, i.lasts, within t j i.since.there on (states t).core.interval.predictable (states t).core.mark refl (ke.resides.runs_in j e).issued i.pace (l.clock.in_time j e))))
+      (omega (arith, i.lasts, within t j i.since.there on (states t).core.interval.predictable (states t).core.mark i.credit refl (ke.resides.runs_in j e).issued i.pace (l.clock.in_time j e))))
   served_by t k on (Idle until) e b h = absurd (let x : None ≡ Some k = h in cc)
+
+  -- the interval in which the core stands
+  runs_within : (t : ℕ) → RunsWithin p.plant loads (states t)
+  runs_within t k run none =
+      ⊎_elim (λ (over : is_over (states t) ≡ true). absurd (let x : Point ≡ Running k = sym (over_finishes t over).0 ∙ run in cc))
+      (λ (on : is_over (states t) ≡ false).
+      let b : BookedIn t (Running k) = subst (BookedIn t) run ((through t).booked on) in
+      let l = run_lasts rule order passes p content inputs requests own runs scripts policy keep q o t in
+      let ke = run_keeps rule order passes p content inputs requests own runs scripts policy keep q o t in
+      omega (arith, within t k b.current.since.there on (states t).core.interval.predictable (states t).core.mark b.current.credit refl (ke.resides.runs_in k run).issued b.current.pace (l.clock.in_time k run)))
+      (cases_Bool (is_over (states t)))
 
   serves_means : (t k : ℕ) → line.serves t ≡ Some k → IsServed all_tasks line k t
   serves_means t k h =
@@ -415,8 +456,8 @@ module _ (rule : ReplacementRule) (order : OrderRule) (passes : ℕ → ℕ) (p 
   rests_by t on (Switching j left) e b h = absurd (let x : Some j ≡ None = h in cc)
   rests_by t on (Running j) e b h = absurd (let x : Some j ≡ None = h in cc)
   rests_by t on (Idle until) e b h =
-      let timed = run_timed rule order passes p content inputs requests own runs scripts policy keep q o periods t in
-      let spent = subst (λ m. Spent p.plant (length p.tasks) runs scripts 0 (states t).now (last_release p.tasks) timed.off (issued t) m (states t).core.interval (states t).core.mark (states t).core.debt) e timed.timed.spent in
+      let timed = run_timed rule order passes p content inputs requests own runs scripts policy keep q o periods scopings (λ k lt. (are.each k lt).scoped) total (λ k lt. omega arith) t in
+      let spent = subst (λ m. Spent p.plant (length p.tasks) runs scripts order scopings 0 (states t).now (last_release p.tasks) timed.off (issued t) (lines_in (states t).work.cache) m (states t).core.interval (states t).core.mark (states t).core.debt) e timed.timed.spent in
       b.current.0 (states t).now (let y : (states t).now < until + 0 = spent.time.2 in omega arith)
 
   rests_means : (t : ℕ) → line.serves t ≡ None → (k : ℕ) → k < length p.tasks → IsReady all_tasks line k t → ⊥
@@ -433,7 +474,7 @@ module _ (rule : ReplacementRule) (order : OrderRule) (passes : ℕ → ℕ) (p 
         let g : Schedules p runs (issued t) (states t).sched m (states t).core.mark = subst (λ m. Schedules p runs (issued t) (states t).sched m (states t).core.mark) e (schedules t) in
         omega (arith, g.ended k lt, none, less, (o.runs_are k lt).jobs)
 
-    held_less : (m : Mode) → (states t).core.mode ≡ m → uncounted m (states t).core.mark k ≡ 0 → had_by t k + kept_at p.plant (length p.tasks) runs scripts all_tasks line (issued t) k ≤ job_at p.plant (length p.tasks) runs scripts all_tasks line (issued t) k → had_by t k < all_tasks.cost k
+    held_less : (m : Mode) → (states t).core.mode ≡ m → uncounted m (states t).core.mark k ≡ 0 → had_by t k + kept_at p.plant (length p.tasks) runs scripts order scopings all_tasks line (issued t) k ≤ job_at p.plant (length p.tasks) runs scripts order scopings all_tasks line (issued t) k → had_by t k < all_tasks.cost k
     held_less m e none h = omega (arith, h, left t k lt on (unended m e none))
 
     had_less : (m : Mode) → (states t).core.mode ≡ m → BookedIn t m → had_by t k < all_tasks.cost k
@@ -441,19 +482,19 @@ module _ (rule : ReplacementRule) (order : OrderRule) (passes : ℕ → ℕ) (p 
     had_less (Idle until) e b = held_less (Idle until) e refl (b.held k lt (λ y. y))
     had_less (Switching j n) e b =
         ⊎_elim (λ (same : k ≡ j).
-        let i : InSwitch p.plant (length p.tasks) runs scripts all_tasks line (states t).now (had_by t) (issued t) (states t).sched k n =
-        subst (λ u. InSwitch p.plant (length p.tasks) runs scripts all_tasks line (states t).now (had_by t) (issued t) (states t).sched u n) (sym same) b.current.0 in
+        let i : InSwitch p.plant (length p.tasks) runs scripts order scopings all_tasks line (states t).now (had_by t) (issued t) (states t).sched k n =
+        subst (λ u. InSwitch p.plant (length p.tasks) runs scripts order scopings all_tasks line (states t).now (had_by t) (issued t) (states t).sched u n) (sym same) b.current.0 in
         omega (arith, i.has_had, left t k lt on (unended (Switching j n) e refl)))
         (λ (ne : k ≡ j → ⊥). held_less (Switching j n) e refl (b.held k lt ne))
         (cases_eq k j)
     had_less (Running j) e b =
         ⊎_elim (λ (same : k ≡ j).
-        let i : InRun p.plant (length p.tasks) runs scripts all_tasks line (states t).now (had_by t) (issued t) (states t).sched k (states t).core.interval (states t).core.mark (states t).core.debt =
-        subst (λ u. InRun p.plant (length p.tasks) runs scripts all_tasks line (states t).now (had_by t) (issued t) (states t).sched u (states t).core.interval (states t).core.mark (states t).core.debt) (sym same) b.current in
+        let i : InRun p.plant (length p.tasks) runs scripts order scopings all_tasks line (states t).now (had_by t) (issued t) (lines_in (states t).work.cache) (states t).sched k (states t).core.interval (states t).core.mark (states t).core.debt =
+        subst (λ u. InRun p.plant (length p.tasks) runs scripts order scopings all_tasks line (states t).now (had_by t) (issued t) (lines_in (states t).work.cache) (states t).sched u (states t).core.interval (states t).core.mark (states t).core.debt) (sym same) b.current in
         let run : (states t).core.mode ≡ Running k = e ∙ ap (λ u. Running u) (sym same) in
         let l = run_lasts rule order passes p content inputs requests own runs scripts policy keep q o t in
         let ke = run_keeps rule order passes p content inputs requests own runs scripts policy keep q o t in
-        own_less t k lt on (had_by t k) (states t).core.interval.predictable (states t).core.mark refl (ke.resides.runs_in k run).issued (l.goes_on k run) (l.clock.in_time k run)
+        own_less t k lt on (had_by t k) i.credit (states t).core.interval.predictable (states t).core.mark refl (ke.resides.runs_in k run).issued (l.goes_on k run) (l.clock.in_time k run)
         (λ none. left t k lt on (unended (Running k) run (uncounted_same k (states t).core.mark ∙ none))) i.has_had)
         (λ (ne : k ≡ j → ⊥). held_less (Running j) e (uncounted_other j k (states t).core.mark ne) (b.held k lt ne))
         (cases_eq k j)
@@ -500,10 +541,17 @@ module _ (rule : ReplacementRule) (order : OrderRule) (passes : ℕ → ℕ) (p 
   }
 
 pub scripts_meet_deadlines : ScriptsMeetDeadlines
-scripts_meet_deadlines rule order passes p content inputs requests own runs scripts loads i cycles policy run is are lt balanced le job n left late =
+scripts_meet_deadlines rule order passes p content inputs requests own runs scripts scopings loads i cycles policy run is are lt balanced le job n left late =
     let period : (load_at loads i).period ≡ (record_of p i).period = (are.each i lt).period in
-    jobs_end_in_time (tasks rule order passes p content inputs requests own runs scripts policy is.each run.runnable is.own_runs run.periods loads are)
-    (timeline rule order passes p content inputs requests own runs scripts policy is.each run.runnable is.own_runs run.periods loads are) i cycles
-    (is_schedule rule order passes p content inputs requests own runs scripts policy is.each run.runnable is.own_runs run.periods loads are is.outputs is.intervals)
+    jobs_end_in_time (tasks rule order passes p content inputs requests own runs scripts policy is.each run.runnable is.own_runs run.periods scopings loads are)
+    (timeline rule order passes p content inputs requests own runs scripts policy is.each run.runnable is.own_runs run.periods scopings loads are) i cycles
+    (is_schedule rule order passes p content inputs requests own runs scripts policy is.each run.runnable is.own_runs run.periods scopings loads are is.outputs is.intervals)
     (lengths_are_enough loads (λ k. (record_of p k).jobs) i cycles (omega (arith, lt, are.count)) balanced (omega (arith, le, period)))
     job n left (subst (λ m. job * m + cycles ≤ n) (sym period) late)
+
+pub scripts_keep_charges : ScriptsKeepCharges
+scripts_keep_charges rule order passes p content inputs requests own runs scripts scopings loads n policy run is are = (
+  (through rule order passes p content inputs requests own runs scripts policy is.each run.runnable is.own_runs run.periods scopings loads are is.outputs is.intervals n).intervals,
+  runs_within rule order passes p content inputs requests own runs scripts policy is.each run.runnable is.own_runs run.periods scopings loads are is.outputs is.intervals n,
+  λ k job lt. served_most rule order passes p content inputs requests own runs scripts policy is.each run.runnable is.own_runs run.periods scopings loads are is.outputs is.intervals k job n lt,
+)

@@ -1,85 +1,63 @@
--- An image whose tasks join at their pace meets its deadlines.
-use Rattle.std.proofs.Common.{ℕ, ◌+◌, ◌*◌, ◌<◌, ◌≤◌, refl, sym, subst, arith, Bool, List, [], length}
-use Rattle.prem_plant.specs.Order.Order.{OrderRule}
-use Rattle.prem_isa.specs.Plain.{plain_run}
-use Rattle.prem_lru.specs.Entries.{ReplacementRule}
+-- A joined image meets its deadlines by what its tasks' scopes are charged, and so by the bounds of the rules.
+use Rattle.std.proofs.Common.{ℕ, ◌+◌, ◌<◌, sym, subst, Bool, List, length}
+use Rattle.prem_isa.specs.Plain.{TaskRun}
 use Rattle.prem_cycle.specs.Alone.{run_in}
-use Rattle.prem_cycle.specs.State.{Setup, record_of}
-use Rattle.prem_cycle.specs.Cycle.{log_size}
+use Rattle.prem_cycle.specs.State.{Setup}
+use Rattle.prem_sound.specs.Script.Scripts.{Promise}
 use Rattle.prem_sound.specs.Script.Script.{Script}
-use Rattle.prem_sound.specs.Script.Scripts.{Promise, sum_below, interval_count, AreScripts}
-use Rattle.prem_sound.specs.Resident.Faultless.{IsPolicy}
+use Rattle.prem_sound.specs.Scopes.Charged.{Scoping, IsScoped, charges_by, IsCharged}
 use Rattle.prem_sound.specs.Sound.{AreInputs}
-use Rattle.prem_sound.specs.Paced.Paced.{IsPaced}
-use Rattle.prem_sound.proofs.Sums.{sum_le}
-use Rattle.prem_sets_sound.proofs.WeaveLemmas.PaceLemmas.Runs.{paced_weaves_keep_bounds}
-use Rattle.prem_sets_sound.specs.StubLaws.Join.Joined.{JobLimits, TaskJoins, IsJoined}
-use Rattle.prem_sets_sound.proofs.StubLawsLemmas.JoinLemmas.Joined.{chosen, Scripted, joined_script, joined_calls, run_fits, runs}
-use Rattle.prem_sets_sound.specs.Each.Joins.{TaskPaces}
+use Rattle.prem_sets_sound.specs.StubLaws.Join.Joined.{JobLimits, IsJoined}
+use Rattle.prem_sets_sound.specs.StubLaws.Charges.Charges.{TaskCharges}
+use Rattle.prem_sets_sound.proofs.StubLawsLemmas.JoinLemmas.Joined.{runs}
+use Rattle.prem_sets_sound.proofs.StubLawsLemmas.ChargesLemmas.Images.{all_charged, are_scripts}
+use Rattle.prem_sets_sound.proofs.StubLawsLemmas.ChargesLemmas.Singles.{paced_tasks_are_charged}
 use Rattle.prem_resp.specs.declared.busy.load.Load.{Load}
 use Rattle.prem_resp.specs.Busy.Busy.{load_at}
 use Rattle.prem_resp.specs.Deadline.Deadlines.{AreLoads}
-use Rattle.prem_resp.proofs.DeadlineLemmas.Timelines.{scripts_meet_deadlines}
-use Rattle.prem_resp.specs.Timed.Timed.{MeetsDeadlines, TellsTasks, JoinedImagesMeetDeadlines}
+use Rattle.prem_resp.proofs.DeadlineLemmas.Timelines.{scripts_meet_deadlines, scripts_keep_charges}
+use Rattle.prem_resp.specs.Timed.Timed.{TellsCharges, JoinedImagesGoByCharges, JoinedImagesMeetDeadlines}
 
-module _ (passes : ℕ → ℕ) (p : Setup) (content : List ℕ) (own : ℕ → ℕ → Bool) (most : ℕ → JobLimits) (longest : ℕ → ℕ) (promises : List (List ℕ) → ℕ → Promise) (limit : ℕ) (h : IsJoined passes p content own most promises limit)
-    (each : (inputs : List (List ℕ)) → AreInputs p inputs → (k : ℕ) → k < length p.tasks → TaskPaces p passes (own k) (run_in p content inputs k) (most k) (longest k) (promises inputs k)) where
-  record Timed (inputs : List (List ℕ)) (k : ℕ) (s : Script) : Type 0 where
-    scripted : Scripted p passes (own k) (run_in p content inputs k) (most k) (promises inputs k) s
-    paced : IsPaced p.plant (run_in p content inputs k) s (most k).cycles (p.plant.switch + longest k)
+-- loads that tell what the tasks are charged
+pub loads_join : (p : Setup) (runs : ℕ → TaskRun) (scripts : ℕ → Script) (scopings : ℕ → Scoping) (cycles longest : ℕ → ℕ) (loads : List Load) → TellsCharges p cycles longest loads →
+    ((k : ℕ) → k < length p.tasks → IsScoped p.plant (runs k) (scopings k) × IsCharged p.plant (runs k) (scripts k) (charges_by p.plant (runs k) (scopings k)) (cycles k) (p.plant.switch + longest k)) → AreLoads p runs scripts scopings loads
+loads_join p runs scripts scopings cycles longest loads told each = record {
+  count = told.count;
+  each = λ k lt. record {
+    period = told.period k lt;
+    scoped = (each k lt).0;
+    charged =
+        subst (λ n. IsCharged p.plant (runs k) (scripts k) (charges_by p.plant (runs k) (scopings k)) n (load_at loads k).longest) (sym (told.cost k lt))
+        (subst (λ n. IsCharged p.plant (runs k) (scripts k) (charges_by p.plant (runs k) (scopings k)) (cycles k) n) (sym (told.longest_is k lt)) (each k lt).1);
+  };
+}
 
-  one : (inputs : List (List ℕ)) → AreInputs p inputs → (k : ℕ) → k < length p.tasks → (s : Script) × Timed inputs k s
-  one inputs i k lt =
-      let t : TaskPaces p passes (own k) (run_in p content inputs k) (most k) (longest k) (promises inputs k) = each inputs i k lt in
-      let j : TaskJoins p passes (own k) (run_in p content inputs k) (most k) (promises inputs k) = t.joins in
-      let fits = run_fits passes p content own most promises limit h inputs i k lt in
-      let r = joined_script p passes (own k) (run_in p content inputs k) (most k) (promises inputs k) fits t.joins in
-      let least : p.plant.switch + longest k ≤ p.plant.switch + longest k = omega arith in (
-        r.0,
-        record {
-          scripted = r.1;
-          paced = paced_weaves_keep_bounds p.plant passes (promises inputs k).reads (run_in p content inputs k) j.weave j.ending r.0 (most k).cycles (longest k) (p.plant.switch + longest k)
-              j.woven.weave j.woven.goes_along j.woven.jobs_end (joined_calls p passes (own k) (run_in p content inputs k) (most k) (promises inputs k) fits t.joins) t.paced t.stated least;
-        },
-      )
+module _ (passes : ℕ → ℕ) (p : Setup) (content : List ℕ) (own : ℕ → ℕ → Bool) (most : ℕ → JobLimits) (cycles longest : ℕ → ℕ) (promises : List (List ℕ) → ℕ → Promise) (limit : ℕ) (h : IsJoined passes p content own most promises limit)
+    (each : (inputs : List (List ℕ)) → AreInputs p inputs → (k : ℕ) → k < length p.tasks → TaskCharges p passes (own k) (run_in p content inputs k) (most k) (cycles k) (longest k) (promises inputs k)) (inputs : List (List ℕ)) (i : AreInputs p inputs) where
+  abbrev scripts : ℕ → Script
+  scripts k = ((all_charged passes p content own most cycles longest promises limit h each inputs i).0 k).script
 
-  timed : (inputs : List (List ℕ)) → AreInputs p inputs → (scripts : ℕ → Script) × ((k : ℕ) → k < length p.tasks → Timed inputs k (scripts k))
-  timed inputs i = chosen (length p.tasks) (λ k s. Timed inputs k s) (record { count = 0; calls = []; due = 0 }) (λ k lt. one inputs i k lt)
+  abbrev scopings : ℕ → Scoping
+  scopings k = ((all_charged passes p content own most cycles longest promises limit h each inputs i).0 k).scoping
 
-  are_scripts : (inputs : List (List ℕ)) (i : AreInputs p inputs) → AreScripts p passes content inputs own (run_in p content inputs) (timed inputs i).0
-  are_scripts inputs i =
-      let n : ℕ = length p.tasks in
-      let s = timed inputs i in
-      let outputs : sum_below n (λ k. length (plain_run (run_in p content inputs k) (s.0 k).count).task.outputs) ≤ sum_below n (λ k. (record_of p k).jobs * (most k).outputs) = sum_le n _ _ (λ k lt. (s.1 k lt).scripted.outputs) in
-      let intervals : sum_below n (λ k. interval_count (run_in p content inputs k) (s.0 k)) ≤ sum_below n (λ k. (record_of p k).jobs * (1 + 2 * (most k).calls)) = sum_le n _ _ (λ k lt. (s.1 k lt).scripted.intervals) in
-      record {
-        own_runs = record {
-          runs_are = λ k lt. record { size = refl; target = refl; entry = refl; stack = refl; jobs = refl; words = refl; bytes = λ a e. refl; fits = run_fits passes p content own most promises limit h inputs i k lt };
-          stay = λ k lt. (s.1 k lt).scripted.stays;
-          apart = h.apart;
-          free = h.free;
-        };
-        each = λ k lt. (s.1 k lt).scripted.script;
-        outputs = less _ _ log_size outputs h.outputs;
-        intervals = less _ _ log_size intervals h.intervals;
-      } where
-        less : (x y z : ℕ) → x ≤ y → y < z → x < z
-        less x y z a b = omega (arith, a, b)
+  are_loads : (loads : List Load) → TellsCharges p cycles longest loads → AreLoads p (run_in p content inputs) scripts scopings loads
+  are_loads loads told =
+      loads_join p (run_in p content inputs) scripts scopings cycles longest loads told
+      (λ k lt. let c = (all_charged passes p content own most cycles longest promises limit h each inputs i).1 k lt in (c.scoped, c.charged))
 
-  images_meet_deadlines : (rule : ReplacementRule) (order : OrderRule) (loads : List Load) → IsPolicy rule order passes → TellsTasks p most longest loads → MeetsDeadlines rule p content loads
-  images_meet_deadlines rule order loads policy told inputs requests i t w k cycles lt balanced le job n left late =
-      let s = timed inputs i in
-      let are : AreLoads p (run_in p content inputs) s.0 loads = record {
-        count = told.count;
-        each = λ j lj. record {
-          period = told.period j lj;
-          paced =
-              subst (λ c. IsPaced p.plant (run_in p content inputs j) (s.0 j) c (load_at loads j).longest) (sym (told.cost j lj))
-              (subst (λ l. IsPaced p.plant (run_in p content inputs j) (s.0 j) (most j).cycles l) (sym (told.longest_is j lj)) (s.1 j lj).paced);
-        };
-      } in
-      scripts_meet_deadlines rule order passes p content inputs requests own (run_in p content inputs) s.0 loads k cycles policy (runs passes p content own most promises limit h requests t w) (are_scripts inputs i) are
-      lt balanced le job n left late
+pub joined_images_go_by_charges : JoinedImagesGoByCharges
+joined_images_go_by_charges rule order passes p content own most cycles longest promises limit loads policy h each told = (
+  λ inputs requests i t w k least lt balanced le job n left late.
+      scripts_meet_deadlines rule order passes p content inputs requests own (run_in p content inputs) (scripts passes p content own most cycles longest promises limit h each inputs i) (scopings passes p content own most cycles longest promises limit h each inputs i) loads k least policy
+      (runs passes p content own most promises limit h requests t w) (are_scripts passes p content own most cycles longest promises limit h each inputs i) (are_loads passes p content own most cycles longest promises limit h each inputs i loads told)
+      lt balanced le job n left late,
+  λ inputs requests i t w n.
+      (scripts_keep_charges rule order passes p content inputs requests own (run_in p content inputs) (scripts passes p content own most cycles longest promises limit h each inputs i) (scopings passes p content own most cycles longest promises limit h each inputs i) loads n policy
+      (runs passes p content own most promises limit h requests t w) (are_scripts passes p content own most cycles longest promises limit h each inputs i) (are_loads passes p content own most cycles longest promises limit h each inputs i loads told)).0,
+)
 
+-- a task at its pace is charged what is due, where each of its instructions is a scope by itself
 pub joined_images_meet_deadlines : JoinedImagesMeetDeadlines
-joined_images_meet_deadlines rule order passes p content own most longest promises limit loads policy h each told = images_meet_deadlines passes p content own most longest promises limit h each rule order loads policy told
+joined_images_meet_deadlines rule order passes p content own most longest promises limit loads policy h each told =
+    (joined_images_go_by_charges rule order passes p content own most (λ k. (most k).cycles) longest promises limit loads policy h
+    (λ inputs i k lt. paced_tasks_are_charged p passes (own k) (run_in p content inputs k) (most k) (longest k) (promises inputs k) (each inputs i k lt)) told).0

@@ -10,7 +10,7 @@ use Rattle.prem_layout.specs.Stretch.Paths.{turning}
 use Rattle.prem_tasks.specs.Compiled.{placed_in, compiled}
 use Rattle.prem_sets_sound.specs.Accepted.Accepted.{setup_in}
 use Rattle.prem_sets_sound.proofs.AcceptedLemmas.Sample.{sample, sample_values, sample_breaks_nothing}
-use Rattle.prem_resp.specs.Timed.Timed.{MeetsDeadlines}
+use Rattle.prem_resp.specs.Deadline.Images.{MeetsDeadlines}
 use Rattle.prem_resp.specs.Timely.Timely.{loads_of}
 use Rattle.prem_resp.proofs.TimelyLemmas.Sets.{sets_meet_deadlines}
 

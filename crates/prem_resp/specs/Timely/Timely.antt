@@ -20,7 +20,7 @@ use Rattle.prem_sets_sound.specs.StubLaws.Initial.Initial.{content_of}
 use Rattle.prem_sets_sound.specs.Each.Joins.{TaskPaces, task_longest}
 use Rattle.prem_sets_sound.specs.Accepted.Accepted.{HasValues, IsLaidOut, limits_at, setup_in}
 use Rattle.prem_resp.specs.declared.busy.load.Load.{Load}
-use Rattle.prem_resp.specs.Timed.Timed.{MeetsDeadlines}
+use Rattle.prem_resp.specs.Deadline.Images.{MeetsDeadlines}
 
 -- ---- loads
 

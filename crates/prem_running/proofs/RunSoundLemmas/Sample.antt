@@ -30,17 +30,17 @@ use Rattle.prem_running.proofs.RunSoundLemmas.SetRuns.{inputs_are_lawful, set_ru
 abbrev echo : TaskText
 echo = record { name = codes "echo"; text = codes "void job(void){ int x = 0; x = in(); out(x); }"; period = 20000; jobs = 2 }
 
-abbrev echoing : TaskSet
+abbrev pub echoing : TaskSet
 echoing = record { plant = default_plant; devices = net ∷ []; tasks = echo ∷ [] }
 
-echoing_breaks_nothing : broken echoing ≡ None
+pub echoing_breaks_nothing : broken echoing ≡ None
 unfolding tokens_of lex step start first_token reserved_word used_word is_unused longest_mark literal_word group_two group_three
 echoing_breaks_nothing = refl
 
 echo_name : IsName (codes "echo")
 echo_name = record { some = omega arith; short = omega arith; each = refl }
 
-echoing_values : HasValues echoing
+pub echoing_values : HasValues echoing
 echoing_values = record {
   plant_is = default_is_plant;
   devices_are = record { count = omega arith; each = All-from_recursion IsDevice (net ∷ []) (net_is, tt); names = one_name (codes "net") };
@@ -51,17 +51,17 @@ echoing_values = record {
 
 -- ---- the run file
 
-abbrev run_text : List ℕ
+abbrev pub run_text : List ℕ
 run_text = codes "# a word below 0, and a request of each kind\nin echo 7 -1\nreq 100 net put 1 5\nreq 900 net get 1\n"
 
-abbrev read : Gathered
+abbrev pub read : Gathered
 read = record {
   words = (7 ∷ 4294967295 ∷ []) ∷ [];
   requests = record { cycle = 100; device = 0; line = 1; put = Some 5 } ∷ record { cycle = 900; device = 0; line = 1; put = None } ∷ [];
   last = 900;
 }
 
-run_is_read : lines_of_run run_text (names_of echoing) ≡ Ok read
+pub run_is_read : lines_of_run run_text (names_of echoing) ≡ Ok read
 unfolding lines_read line_read in_words req_words inputs_of request_of request_words
 run_is_read = refl
 

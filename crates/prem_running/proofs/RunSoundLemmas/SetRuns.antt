@@ -9,11 +9,11 @@ use Rattle.prem_sets_sound.specs.Sound.{IsSoundSet}
 use Rattle.prem_sets_sound.proofs.Sound.{sets_are_sound}
 use Rattle.prem_set.specs.Run.Run.{run_of as lines_of_run}
 use Rattle.prem_set.proofs.RunLemmas.Lawful.{run_is_lawful}
+use Rattle.prem_set.proofs.RunLemmas.GivenWords.{HasWords, run_has_words}
 use Rattle.prem_report.specs.Fitting.Named.{names_for}
 use Rattle.prem_report.proofs.FittingLemmas.Fits.{lawful_fits}
 use Rattle.prem_running.specs.RunSound.Runs.{RunFilesSuit, InputsAreLawful, SetRunsAreGood, SetReportsEnd}
 use Rattle.prem_running.proofs.SetLawsLemmas.Names.{names_are_kept}
-use Rattle.prem_running.proofs.RunSoundLemmas.Words.{HasWords, run_has_words}
 use Rattle.prem_running.proofs.RunSoundLemmas.Reports.{sound_reports_end}
 
 pub run_files_suit : RunFilesSuit

@@ -1,26 +1,16 @@
 -- What a run in which devices feed tasks tells beside its report.
 use Rattle.std.specs.Prelude.{ℕ, ◌==◌, false, if◌then◌else◌, List, [], ◌++◌, length, codes, decimal, slice_get}
-use Rattle.std.specs.List.{flat_map}
 use Rattle.std.specs.Option.{option_map_or}
 use Rattle.prem_image.specs.declared.image.TaskRecord.{TaskRecord}
 use Rattle.prem_image.specs.Text.{ImageText}
 use Rattle.prem_cycle.specs.declared.state.Stop.{Stop}
 use Rattle.prem_cycle.specs.State.{MachineState}
 use Rattle.prem_cycle.specs.FactsOf.{report_of}
+use Rattle.prem_set.specs.Run.Text.{list_line}
 use Rattle.prem_report.specs.Report.{in_turn, task_name, report_text}
 use Rattle.prem_mail.specs.Delivery.{Delivery}
 
--- ---- lists
-
-abbrev pub word_text : ℕ → List ℕ
-word_text v = codes " " ++ decimal v
-
-abbrev pub list_head : List ℕ → List ℕ
-list_head name = codes "in " ++ name
-
--- all input words of a task
-abbrev pub list_line : List ℕ → List ℕ → List ℕ
-list_line name words = list_head name ++ (flat_map word_text words ++ codes "\n")
+-- ---- lists, each as a run file's line
 
 abbrev pub lists_text : List TaskRecord → List (List ℕ) → List ℕ
 lists_text tasks lists = in_turn (λ k. option_map_or (list_line (task_name tasks k)) (slice_get lists k) []) (length tasks)

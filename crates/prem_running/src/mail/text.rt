@@ -3,9 +3,10 @@ ghost use Rattle.std.specs.Prelude.{◌≡◌, ◌++◌, ◌≤◌, [], IfOk, On
 ghost use Rattle.std.specs.List.{flat_map};
 ghost use Rattle.std.specs.Option.{option_map_or};
 ghost use Rattle.prem_image.specs.Text.{image_text};
+ghost use Rattle.prem_set.specs.Run.Text.{list_head, list_line, word_text};
 ghost use Rattle.prem_report.specs.Report.{task_name};
 ghost use Rattle.prem_mail.specs.Mailing.{mailed_in, state_in};
-ghost use Rattle.prem_running.specs.Mail.Text.{list_head, list_line, lists_text, loss_text, losses_text, lost_line, mailed_text, word_text};
+ghost use Rattle.prem_running.specs.Mail.Text.{lists_text, loss_text, losses_text, lost_line, mailed_text};
 
 use prem_cycle::Stop;
 use prem_image::{Image, TaskRecord};

@@ -5,7 +5,7 @@ use Rattle.prem_answer.specs.Stages.{reply_of}
 use Rattle.prem_exec.specs.Sources.Sources.{input_of}
 use Rattle.prem_running.proofs.Runs.{input_fits}
 use Rattle.prem_pair_top.specs.Words.{pair_asked}
-use Rattle.prem_pair_top.proofs.CompiledSets.{asks_nothing, both_told}
+use Rattle.prem_pair_top.proofs.CompiledSets.{asks_nothing, both_told, compiled_counts_due}
 use Rattle.prem_pair_top.proofs.answer.sets_answer.Goals as goal
 
 pub told-requires-clause-one : goal.told-requires-clause-one
@@ -18,6 +18,12 @@ pub told-requires-clause-none : goal.told-requires-clause-none
 told-requires-clause-none c =
     let x = c.args.sets.now in
     asks_nothing (set_of x.two.now) c.in-Ok-compile.two x.other.now c.in-Ok-compile.ensures c.requires.two c.requires.none
+
+pub told-requires-clause-due : goal.told-requires-clause-due
+told-requires-clause-due c = compiled_counts_due (set_of c.args.sets.now.one.now) c.in-Ok.one c.in-Ok.ensures
+
+pub told-requires-clause-other_due : goal.told-requires-clause-other_due
+told-requires-clause-other_due c = compiled_counts_due (set_of c.args.sets.now.two.now) c.in-Ok-compile.two c.in-Ok-compile.ensures
 
 pub returns-in-Ok-compile-clause-answer : goal.returns-in-Ok-compile-clause-answer
 returns-in-Ok-compile-clause-answer c =

@@ -2,7 +2,7 @@ use Rattle.std.specs.Prelude.{slice_get}
 use Rattle.std.specs.Option.{option_map_or}
 use Rattle.std.proofs.Common.{◌≡◌, ◌++◌, ◌∙◌, ℕ, List, [], length, ap, arith}
 use Rattle.prem_report.specs.Report.{in_turn, task_name}
-use Rattle.prem_running.specs.Mail.Text.{list_line}
+use Rattle.prem_set.specs.Run.Text.{list_line}
 use Rattle.prem_running.proofs.mail.text.push_lists.Goals as goal
 
 pub returns : goal.returns

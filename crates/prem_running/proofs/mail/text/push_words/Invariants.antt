@@ -1,6 +1,6 @@
 use Rattle.std.specs.List.{flat_map}
 use Rattle.std.proofs.Common.{◌≡◌, ◌++◌, take}
-use Rattle.prem_running.specs.Mail.Text.{word_text}
+use Rattle.prem_set.specs.Run.Text.{word_text}
 use Rattle.prem_running.proofs.mail.text.push_words.Given as goal
 
 abbrev pub invariant-words : goal.invariant-words
