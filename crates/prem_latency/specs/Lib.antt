@@ -1,0 +1,10 @@
+pub mod Wait
+pub mod Timeline
+pub mod Bus
+pub mod Served
+pub mod Requests
+pub mod Closed
+pub mod Opened
+pub mod Waits
+pub mod Images
+pub mod Joined
