@@ -19,14 +19,13 @@ import threading
 import time
 
 TOP = os.path.dirname(os.path.dirname(os.path.abspath(__file__)))
-# The word by which people call a program, where it isn't its crate's name.
-CALLED = {
-    "prem_cli": "prem",
-    "prem_resp_cli": "prem_resp",
-    "prem_lint_cli": "prem_lint",
-    "prem_pair_cli": "prem_pair",
-    "prem_chart_cli": "prem_chart",
-}
+
+
+def called():
+    """For each program's crate the word by which people call it."""
+    with open(f"{TOP}/tools/programs", encoding="utf-8") as it:
+        rows = [line.split() for line in it if not line.startswith("#")]
+    return {crate: word for word, crate, _ in rows}
 
 
 def fail(why):
@@ -211,6 +210,6 @@ def main():
 
 
 WORDS = sys.argv[1:]
-NAME = CALLED.get(WORDS[0], WORDS[0]) if WORDS else "build.py"
+NAME = called().get(WORDS[0], WORDS[0]) if WORDS else "build.py"
 if __name__ == "__main__":
     sys.exit(main())

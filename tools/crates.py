@@ -5,6 +5,8 @@
                               files cite and the line lacks; with --fix the lines are mended
     crates.py twice [LEAST]   definitions and lemmas that stand twice, alike but for their names, of LEAST characters (120) and more: the
                               lower crate first, and whether the other one can cite it
+    crates.py programs        what a program of the list tools/programs lacks: its crates, its script, its stored run, its place in the
+                              documents, or one of its commands in completions and manual; and scripts that the list lacks
 """
 import collections
 import os
@@ -78,11 +80,60 @@ def twice(least):
             print(f"{len(text)} {first[2]}: {first[3]}, also {other[2]}: {other[3]} ({how})")
 
 
+def read(path):
+    """The text of a file, or none where there is no such file."""
+    try:
+        with open(f"{TOP}/{path}", encoding="utf-8") as it:
+            return it.read()
+    except FileNotFoundError:
+        return None
+
+
+def lacks(word, crate, answers, named):
+    """What a program lacks, line by line."""
+    for it in (crate, answers):
+        if it not in named:
+            yield f"{it} in crates.txt"
+        if f"- `{it}`: " not in (read("docs/ARCHITECTURE.md") or ""):
+            yield f"{it} in docs/ARCHITECTURE.md"
+    if f"tools/start\" {crate} " not in (read(word) or ""):
+        yield f"a script ./{word} that starts {crate}"
+    for it in ("args", "stdout", "src/main.rt"):
+        if read(f"crates/{crate}/{it}") is None:
+            yield f"crates/{crate}/{it}"
+    if f"`./{word}`" not in (read("README.md") or "") and f"./{word} " not in (read("README.md") or ""):
+        yield f"./{word} in README.md"
+    usage = re.search(rf'"usage: {word} (.*)\\n"', read(f"crates/{answers}/src/top.rt") or "")
+    if not usage:
+        yield f"a usage line in crates/{answers}/src/top.rt"
+    elif " | " in usage.group(1):
+        for path in (f"completions/{word}.bash", f"completions/_{word}", f"completions/{word}.fish", f"docs/{word}.1"):
+            text = read(path)
+            for command in usage.group(1).split(" | ") if text is not None else ():
+                if not re.search(rf"\b{command.split()[0]}\b", text):
+                    yield f"{command.split()[0]} in {path}"
+            if text is None:
+                yield path
+
+
+def programs():
+    _, named = lines_of_crates()
+    rows = [it.split() for it in read("tools/programs").split("\n") if it and not it.startswith("#")]
+    for word, crate, answers in rows:
+        for what in lacks(word, crate, answers, named):
+            print(f"{word}: lacks {what}")
+    for name in sorted(os.listdir(TOP)):
+        if os.path.isfile(f"{TOP}/{name}") and "tools/start\"" in read(name) and name not in [it[0] for it in rows]:
+            print(f"{name}: isn't in tools/programs")
+
+
 if __name__ == "__main__":
     words = sys.argv[1:]
     if words[:1] == ["cited"]:
         cited("--fix" in words)
     elif words[:1] == ["twice"]:
         twice(int(words[1]) if len(words) > 1 else 120)
+    elif words[:1] == ["programs"]:
+        programs()
     else:
         sys.exit(__doc__)

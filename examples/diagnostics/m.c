@@ -1,0 +1,3 @@
+int g;
+PREDICTABLE(491) REGION(g, 0, 0) void set(int x RANGE(0, 9)) { g = x; }
+void job(void) { set(7); out(g); }
