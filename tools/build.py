@@ -43,7 +43,8 @@ def load_rt():
     sys.modules["rt"] = made
     try:
         loader.exec_module(made)
-        made.share_work(True)
+        if hasattr(made, "share_work"):  # (kits before 13f share nothing between calls)
+            made.share_work(True)
         made.rtlib.Crate.below = once(made.rtlib.Crate.below)
     except (OSError, SyntaxError, AttributeError) as error:
         fail(f"this rt isn't that of the kit that README.md names: {error}")
