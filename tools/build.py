@@ -45,7 +45,9 @@ def load_rt():
         loader.exec_module(made)
         if hasattr(made, "share_work"):  # (kits before 13f share nothing between calls)
             made.share_work(True)
+        # (rt walks crates.txt anew for each, and there are many ways through it)
         made.rtlib.Crate.below = once(made.rtlib.Crate.below)
+        made.rtlib.Crate.stamp = once(made.rtlib.Crate.stamp)
     except (OSError, SyntaxError, AttributeError) as error:
         fail(f"this rt isn't that of the kit that README.md names: {error}")
     return made
@@ -56,9 +58,10 @@ def once(asked):
     known = {}
 
     def answer(crate):
-        if crate not in known:
-            known[crate] = asked(crate)
-        return list(known[crate])
+        if crate.folder not in known:
+            known[crate.folder] = asked(crate)
+        told = known[crate.folder]
+        return list(told) if isinstance(told, list) else told
 
     return answer
 
