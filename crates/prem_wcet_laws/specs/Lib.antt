@@ -4,6 +4,7 @@ pub mod Scopes
 pub mod Least
 pub mod Parted
 pub mod Wcet
+pub mod Opens
 pub mod Divided
 pub mod Named
 pub mod Keeping
