@@ -10,11 +10,10 @@ use Rattle.prem_isa.specs.declared.effect.Phase.TheVariants.{Compatible}
 use Rattle.prem_isa.specs.Plain.{Did}
 use Rattle.prem_cycle.specs.Core.{is_predictable}
 use Rattle.prem_cycle.specs.Runs.Position.Finish.{due_of}
-use Rattle.prem_sound.specs.Script.Script.{change_due, Call, no_call, call_at, Script}
+use Rattle.prem_sound.specs.Script.Script.{change_due, Call, call_at, Script}
 use Rattle.prem_sound.specs.Script.Conforms.{GoesOrDone}
-use Rattle.prem_asm.specs.Steps.{AllSteps, total}
-use Rattle.prem_sets_sound.specs.Weave.Weave.{Section, segment_of, section_dids, IsSection, Weave, ends, goes, calls, dids_of, calls_of, IsWeave, due_along, charge}
-use Rattle.prem_sets_sound.proofs.WeaveLemmas.Charges.{weaves_are_charged}
+use Rattle.prem_asm.specs.Steps.{AllSteps}
+use Rattle.prem_sets_sound.specs.Weave.Weave.{Section, segment_of, section_dids, IsSection, Weave, ends, goes, calls, dids_of, calls_of, IsWeave}
 use Rattle.prem_sound.specs.Scopes.Scopes.{Scope, charge_of, single}
 use Rattle.prem_sound.specs.Scopes.Strands.{Strand, runs, dids_along, GoesTo, IsWithinInterval, IsStrand, change_behind, last_change, calls_begun, scope_due, begun_along, charges_along, EndsNoJob, StretchesWithin}
 use Rattle.prem_sound.specs.Scopes.Strands as S
@@ -22,8 +21,10 @@ use Rattle.prem_sound.proofs.ScopesLemmas.Alone.{singles_are_due}
 use Rattle.prem_wcet_laws.specs.Divided.{Division, alone, together, section, steps_of, lone_charge, scope_charge, StaysOn, AreLoose, IsCourse, path_of}
 use Rattle.prem_wcet_laws.specs.Divided as D
 use Rattle.prem_wcet_laws.specs.PartedLaws.{is_marked}
-use Rattle.prem_sets_wcet.specs.Marked.{is_memory, is_stay, returns, goes_by, goes_to_end, is_call, is_marked_call, first_within, last_within}
-use Rattle.prem_sets_wcet.specs.Aligned.{HasCalls, CourseStrand, CoursesAreStrands}
+use Rattle.prem_sets_wcet.specs.Marked.{is_memory, is_stay, returns, goes_by, goes_to_end, is_call, is_marked_call, first_within, last_within, last_due as due_of_last, call_due}
+use Rattle.prem_sets_wcet.specs.Openings.{up_to_end, counts_of}
+use Rattle.prem_sets_wcet.specs.Aligned.{StateWithin, CourseStrand, CoursesAreStrands}
+use Rattle.prem_sets_wcet.proofs.Openings.{section_ends, last_is}
 use Rattle.prem_sets_wcet.proofs.Partings.{scopes_agree, lones_agree, steps_in}
 use Rattle.prem_layout.specs.Stretch.Paths.{Path, Takes, Cuts, longest_from}
 use Rattle.prem_layout.specs.Bounds.{job_weight}
@@ -77,17 +78,18 @@ none_begun begun c e = ap (λ c. begun + calls_begun c) e ∙ same begun where
 
 -- ---- loose steps
 
-pub record Taken (p : Plant) (passes : ℕ → ℕ) (w : Weave) (steps more : List Did) : Type 0 where
+pub record Taken (p : Plant) (passes : ℕ → ℕ) (counts : List Did → ℕ) (w : Weave) (steps more : List Did) : Type 0 where
   pub rest : Weave
   pub is_weave : IsWeave p passes rest
   pub dids : dids_of rest ≡ more
   pub calls_are : calls_of w ≡ calls_of rest
+  pub counts_are : counts_of counts w ≡ counts_of counts rest
   pub quiet : IsWithinInterval steps
   pub last : change_behind Stay steps ≡ Stay
 
-module _ (p : Plant) (passes : ℕ → ℕ) where
-  pub take : (steps more : List Did) (w : Weave) → IsWeave p passes w → AllSteps StaysOn steps → dids_of w ≡ steps ++ more → Taken p passes w steps more
-  take [] more w h st e = record { rest = w; is_weave = h; dids = e; calls_are = refl; quiet = tt; last = refl }
+module _ (p : Plant) (passes : ℕ → ℕ) (counts : List Did → ℕ) where
+  pub take : (steps more : List Did) (w : Weave) → IsWeave p passes w → AllSteps StaysOn steps → dids_of w ≡ steps ++ more → Taken p passes counts w steps more
+  take [] more w h st e = record { rest = w; is_weave = h; dids = e; calls_are = refl; counts_are = refl; quiet = tt; last = refl }
   take (d ∷ ds) more ends h st e = absurd (none_some d (ds ++ more) e)
   take (d ∷ ds) more (goes x w) h st e =
       let head : x ≡ d = head_is x d (dids_of w) (ds ++ more) e in
@@ -97,6 +99,7 @@ module _ (p : Plant) (passes : ℕ → ℕ) where
         is_weave = r.is_weave;
         dids = r.dids;
         calls_are = r.calls_are;
+        counts_are = r.counts_are;
         quiet = (subst (λ (z : Did). z.phase ≡ Compatible) head h.0.phase, subst (λ c. GoesTo c ds) (sym st.0) tt, r.quiet);
         last = ap (λ c. change_behind c ds) st.0 ∙ r.last;
       }
@@ -167,9 +170,17 @@ call_taken p passes m ys ds more h g e =
           ∙ sym (append_assoc m.before (m.exec ∷ (m.body ++ m.last ∷ [])) (d.ret ∷ []));
     }
 
+-- ---- the calls of a script
+
+first_state : (s : Script) (begun n : ℕ) (ns : List ℕ) → StateWithin s begun (n ∷ ns) → (call_at s begun).stated ≤ n
+first_state s begun n ns h = let e : begun + 0 ≡ begun = omega arith in subst (λ i. (call_at s i).stated ≤ n) e (h 0 (omega arith))
+
+next_states : (s : Script) (begun n : ℕ) (ns : List ℕ) → StateWithin s begun (n ∷ ns) → StateWithin s (begun + 1) ns
+next_states s begun n ns h i lt = let e : begun + suc i ≡ begun + 1 + i = omega arith in subst (λ j. (call_at s j).stated ≤ slice_index_or ns i 0) e (h (suc i) (omega (arith, lt)))
+
 -- ---- the strand
 
-module _ (p : Plant) (passes : ℕ → ℕ) (s : Script) where
+module _ (p : Plant) (passes : ℕ → ℕ) (s : Script) (counts : List Did → ℕ) where
   abbrev IsMarked : Did → Type 0
   IsMarked d = is_predictable d.phase ≡ true
 
@@ -250,13 +261,13 @@ module _ (p : Plant) (passes : ℕ → ℕ) (s : Script) where
   last_due : (d : Did) → due_of p d ≤ job_weight p (Jalr 0 4 (pos 0)) → charge_of p (single p d) ≤ job_weight p (Jalr 0 4 (pos 0))
   last_due d le = let e = (singles_are_due p d).1 in omega (arith, e, le)
 
-  strands : (v : Division) (w : Weave) (begun : ℕ) → IsWeave p passes w → IsCourse (is_marked (is_marked_call p)) p.line v → AreLoose v → dids_of w ≡ steps_of v → HasCalls s begun (calls_of w) → CourseStrand p s begun w v
+  strands : (v : Division) (w : Weave) (begun : ℕ) → IsWeave p passes w → IsCourse (is_marked (is_marked_call p counts)) p.line v → AreLoose v → dids_of w ≡ steps_of v → StateWithin s begun (counts_of counts w) → CourseStrand p s begun w v
   strands D.ends ends begun h k st e c = record { strand = S.ends; dids_are = refl; is_strand = tt; no_job = tt; begun_is = omega arith; charged = omega arith; stretches = λ most stretch d last le fits. (first_fits stretch d [] most le fits, tt) }
   strands D.ends (goes x w) begun h k st e c = absurd (none_some x (dids_of w) (sym e))
   strands D.ends (calls m w) begun h k st e c = absurd (none_some m.begin (segment_of m ++ dids_of w) (sym e))
   strands (alone d_ rest) w begun h k st e c =
-      let t = take p passes (d_ ∷ []) (steps_of rest) w h (st.0, tt) e in
-      let r = strands rest t.rest begun t.is_weave k st.1 t.dids (subst (HasCalls s begun) t.calls_are c) in
+      let t = take p passes counts (d_ ∷ []) (steps_of rest) w h (st.0, tt) e in
+      let r = strands rest t.rest begun t.is_weave k st.1 t.dids (subst (StateWithin s begun) t.counts_are c) in
       let b = before begun (single p d_) (lone_charge p d_) t.rest rest [] 0 r t.last ((singles_are_due p d_).1 ∙ lones_agree p d_) in
       record {
         strand = runs (single p d_) r.strand;
@@ -268,8 +279,8 @@ module _ (p : Plant) (passes : ℕ → ℕ) (s : Script) where
         stretches = λ most stretch d z le fits. one_stretch most stretch (single p d_) (lone_charge p d_) (path_of p rest ++ Takes d ∷ []) r.strand z t.last (low_of ((singles_are_due p d_).1 ∙ lones_agree p d_)) fits (λ st2 low. r.stretches most st2 d z le low);
       }
   strands (together lines steps rest) w begun h k st e c =
-      let t = take p passes steps (steps_of rest) w h st.0 e in
-      let r = strands rest t.rest begun t.is_weave k.1 st.1 t.dids (subst (HasCalls s begun) t.calls_are c) in
+      let t = take p passes counts steps (steps_of rest) w h st.0 e in
+      let r = strands rest t.rest begun t.is_weave k.1 st.1 t.dids (subst (StateWithin s begun) t.counts_are c) in
       let x : Scope = record { lines = lines; dids = steps } in
       let b = before begun x (scope_charge p lines steps) t.rest rest [] 0 r t.last (scopes_agree p lines steps) in
       record {
@@ -281,38 +292,33 @@ module _ (p : Plant) (passes : ℕ → ℕ) (s : Script) where
         charged = b.1;
         stretches = λ most stretch d z le fits. one_stretch most stretch x (scope_charge p lines steps) (path_of p rest ++ Takes d ∷ []) r.strand z t.last (low_of (scopes_agree p lines steps)) fits (λ st2 low. r.stretches most st2 d z le low);
       }
-  strands (section [] weight rest) w begun h k st e c = absurd (false_true (and_parts (is_call []) (leb (total (charge p) []) weight && (first_within p [] && last_within p [])) k.0).0)
+  strands (section [] weight rest) w begun h k st e c = absurd (false_true (and_parts (is_call []) (leb (call_due p counts []) weight && (first_within p [] && last_within p [])) k.0).0)
   strands (section (b ∷ ds) weight rest) ends begun h k st e c = absurd (none_some b (ds ++ steps_of rest) e)
   strands (section (b ∷ ds) weight rest) (goes x w) begun h k st e c =
-      let call : is_call (b ∷ ds) ≡ true = (and_parts (is_call (b ∷ ds)) (leb (total (charge p) (b ∷ ds)) weight && (first_within p (b ∷ ds) && last_within p (b ∷ ds))) k.0).0 in
+      let call : is_call (b ∷ ds) ≡ true = (and_parts (is_call (b ∷ ds)) (leb (call_due p counts (b ∷ ds)) weight && (first_within p (b ∷ ds) && last_within p (b ∷ ds))) k.0).0 in
       let opens : is_memory b.change ≡ true = (and_parts (is_memory b.change) (goes_to_end ds) call).0 in
       let head : x ≡ b = head_is x b (dids_of w) (ds ++ steps_of rest) e in
       absurd (no_memory x.change h.0.goes_on (ap (λ (z : Did). is_memory z.change) head ∙ opens))
   strands (section (b ∷ ds) weight rest) (calls m w) begun h k st e c =
-      let two = and_parts (is_call (b ∷ ds)) (leb (total (charge p) (b ∷ ds)) weight && (first_within p (b ∷ ds) && last_within p (b ∷ ds))) k.0 in
-      let costs = and_parts (leb (total (charge p) (b ∷ ds)) weight) (first_within p (b ∷ ds) && last_within p (b ∷ ds)) two.1 in
+      let two = and_parts (is_call (b ∷ ds)) (leb (call_due p counts (b ∷ ds)) weight && (first_within p (b ∷ ds) && last_within p (b ∷ ds))) k.0 in
+      let costs = and_parts (leb (call_due p counts (b ∷ ds)) weight) (first_within p (b ∷ ds) && last_within p (b ∷ ds)) two.1 in
       let ruled = and_parts (first_within p (b ∷ ds)) (last_within p (b ∷ ds)) costs.1 in
       let on : goes_to_end ds ≡ true = (and_parts (is_memory b.change) (goes_to_end ds) two.0).1 in
       let head : m.begin ≡ b = head_is m.begin b (segment_of m ++ dids_of w) (ds ++ steps_of rest) e in
       let q = call_taken p passes m (dids_of w) ds (steps_of rest) h.0 on (tail_is m.begin b (segment_of m ++ dids_of w) (ds ++ steps_of rest) e) in
-      let t = take p passes (q.ret ∷ []) (steps_of rest) w h.1 (q.stays, tt) q.left in
-      let later : HasCalls s (begun + 1) (calls_of t.rest) = subst (HasCalls s (begun + 1)) t.calls_are (λ i lt. let z : begun + 1 + i ≡ begun + suc i = omega arith in ap (call_at s) z ∙ c (suc i) (omega (arith, lt))) in
+      let t = take p passes counts (q.ret ∷ []) (steps_of rest) w h.1 (q.stays, tt) q.left in
+      let later : StateWithin s (begun + 1) (counts_of counts t.rest) = subst (StateWithin s (begun + 1)) t.counts_are (next_states s begun (counts (segment_of m)) (counts_of counts w) c) in
       let r = strands rest t.rest (begun + 1) t.is_weave k.1 st t.dids later in
       let memory : b.change ≡ Memory = ap (λ (z : Did). z.change) (sym head) ∙ h.0.begins.1 in
       let count : begun + calls_begun b.change ≡ begun + 1 = ap (λ c. begun + calls_begun c) memory in
       let f = before (begun + 1) (single p q.ret) (due_of p q.ret) t.rest rest [] 0 r t.last (singles_are_due p q.ret).1 in
-      let inner : Strand = runs (single p q.ret) r.strand in
-      let zero_is : begun + 0 ≡ begun = omega arith in
-      let this : (call_at s begun).stated ≡ m.call.stated = ap (λ n. (call_at s n).stated) (sym zero_is) ∙ ap (λ (c : Call). c.stated) (c 0 (omega arith)) in
-      let first : scope_due p s begun (single p b) ≡ due_of p b + (2 * p.switch + m.call.stated) =
-      begins (charge_of p (single p b)) (change_due p (call_at s begun).stated b.change) (due_of p b) (2 * p.switch + m.call.stated) (singles_are_due p b).1
-      (ap (change_due p (call_at s begun).stated) memory ∙ ap (λ n. 2 * p.switch + n) this) in
-      let phase : q.ret.phase ≡ Compatible = t.quiet.0 in
+      let this : (call_at s begun).stated ≤ counts (segment_of m) = first_state s begun (counts (segment_of m)) (counts_of counts w) c in
+      let first : scope_due p s begun (single p b) ≤ due_of p b + (2 * p.switch + counts (segment_of m)) =
+      begins (charge_of p (single p b)) (change_due p (call_at s begun).stated b.change) (due_of p b) (2 * p.switch) (call_at s begun).stated (counts (segment_of m)) (singles_are_due p b).1
+      (ap (change_due p (call_at s begun).stated) memory) this in
       let steps_are : b ∷ ds ≡ section_dids m ++ q.ret ∷ [] = ap (λ zs. b ∷ zs) q.is ∙ ap (λ z. z ∷ (segment_of m ++ q.ret ∷ [])) (sym head) in
-      let weave : IsWeave p passes (calls m (goes q.ret ends)) = (h.0, (record { phase = phase; goes_on = subst GoesOrDone (sym q.stays) tt }, tt)) in
-      let paid : due_along p (calls m (goes q.ret ends)) ≡ total (charge p) (b ∷ ds) = weaves_are_charged p passes (calls m (goes q.ret ends)) weave ∙ ap (total (charge p)) (sym steps_are) in
-      let free : change_due p 0 q.ret.change ≡ 0 = ap (change_due p 0) q.stays in
-      let same_due : due_of p m.begin ≡ due_of p b = ap (due_of p) head in
+      let inner_is : counts (up_to_end ds) ≡ counts (segment_of m) = ap (λ zs. counts (up_to_end zs)) q.is ∙ ap counts (section_ends p passes m h.0 (q.ret ∷ [])) in
+      let ret_is : due_of_last p ds ≡ due_of p q.ret = ap (due_of_last p) q.is ∙ last_is p (segment_of m) q.ret in
       record {
         strand = runs (single p b) (S.calls (segment_of m) (runs (single p q.ret) r.strand));
         dids_are = ap (λ zs. b ∷ zs)
@@ -324,22 +330,22 @@ module _ (p : Plant) (passes : ℕ → ℕ) (s : Script) where
         );
         no_job = ((λ j. memory_job (sym memory ∙ j)), ((λ j. stay_job (sym q.stays ∙ j)), r.no_job));
         begun_is = ap (λ n. begun_along n (runs (single p q.ret) r.strand)) count ∙ f.0 ∙ longer begun (length (calls_of t.rest)) (length (calls_of w)) (ap (λ (cs : List Call). length cs) (sym t.calls_are));
-        charged = within (scope_due p s begun (single p b)) (charges_along p s (begun + calls_begun b.change) (runs (single p q.ret) r.strand)) (due_of p b) (2 * p.switch + m.call.stated) (due_of p q.ret) (D.charge_of p rest)
-            (due_of p m.begin) (change_due p 0 q.ret.change) (total (charge p) (b ∷ ds)) weight first (subst (λ n. charges_along p s n (runs (single p q.ret) r.strand) ≤ due_of p q.ret + D.charge_of p rest) (sym count) f.1) same_due free paid
+        charged = within (scope_due p s begun (single p b)) (charges_along p s (begun + calls_begun b.change) (runs (single p q.ret) r.strand)) (due_of p b) (2 * p.switch) (counts (segment_of m)) (counts (up_to_end ds)) (due_of p q.ret) (due_of_last p ds)
+            (D.charge_of p rest) (call_due p counts (b ∷ ds)) weight first (subst (λ n. charges_along p s n (runs (single p q.ret) r.strand) ≤ due_of p q.ret + D.charge_of p rest) (sym count) f.1) inner_is ret_is refl
             (leb-true _ _ costs.0);
         stretches = λ most stretch d z le fits. call_stretches most stretch (single p b) (segment_of m) (single p q.ret) (path_of p rest ++ Takes d ∷ []) r.strand z memory t.last
             (first_due b (leb-true _ _ ruled.0)) (last_due q.ret (leb-true _ _ (sym (ap (last_within p) steps_are ∙ last_end p (section_dids m) q.ret) ∙ ruled.1))) fits
             (λ st2 low. r.stretches most st2 d z le low);
       }
     where
-      begins : (a b x y : ℕ) → a ≡ x → b ≡ y → a + b ≡ x + y
-      begins a b x y e f = omega (arith, e, f)
+      begins : (a b x w n m : ℕ) → a ≡ x → b ≡ w + n → n ≤ m → a + b ≤ x + (w + m)
+      begins a b x w n m e f le = omega (arith, e, f, le)
 
       longer : (n a b : ℕ) → a ≡ b → n + 1 + a ≡ n + suc b
       longer n a b e = omega (arith, e)
 
-      within : (first more due call ret rest begin free all weight : ℕ) → first ≡ due + call → more ≤ ret + rest → begin ≡ due → free ≡ 0 → begin + call + (ret + free + 0) ≡ all → all ≤ weight → first + more ≤ weight + rest
-      within first more due call ret rest begin free all weight a b c d e f = omega (arith, a, b, c, d, e, f)
+      within : (first more due switches inner up ret last rest all weight : ℕ) → first ≤ due + (switches + inner) → more ≤ ret + rest → up ≡ inner → last ≡ ret → all ≡ due + (switches + up) + last → all ≤ weight → first + more ≤ weight + rest
+      within first more due switches inner up ret last rest all weight a b c d e f = omega (arith, a, b, c, d, e, f)
 
 pub courses_are_strands : CoursesAreStrands
-courses_are_strands p passes s begun v w h k st e c = strands p passes s v w begun h k st e c
+courses_are_strands p passes s counts begun v w h k st e c = strands p passes s counts v w begun h k st e c

@@ -19,8 +19,8 @@ use Rattle.prem_sets_wcet.specs.Jobs.{JobStrand, CourseJobsAreCharged}
 use Rattle.prem_sets_wcet.proofs.Aligned.{courses_are_strands}
 
 pub course_jobs_are_charged : CourseJobsAreCharged
-course_jobs_are_charged p passes s cost most begun v w last others h k loose e has phase job paid enough u =
-    let c = courses_are_strands p passes s begun v w h k loose e has in
+course_jobs_are_charged p passes s counts cost most begun v w last others h k loose e has phase job paid enough u =
+    let c = courses_are_strands p passes s counts begun v w h k loose e has in
     let over = jobs_end_due p s (begun_along begun c.strand) last phase job in
     let rest : Strand = runs (single p last) u.strand in
     let alone : Strand = runs (single p last) ends in

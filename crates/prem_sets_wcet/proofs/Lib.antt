@@ -1,4 +1,7 @@
 pub mod Stands
+pub mod Openings
+pub mod Trimmed
+pub mod OpeningRuns
 pub mod Marked
 pub mod JobCourse
 pub mod QuietJobs
@@ -8,3 +11,4 @@ pub mod Jobs
 pub mod Walk
 pub mod Tasks
 pub mod Sets
+pub mod Sample

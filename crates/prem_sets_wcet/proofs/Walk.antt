@@ -6,7 +6,7 @@ use Rattle.prem_plant.specs.declared.plant.Plant.{Plant}
 use Rattle.prem_isa.specs.declared.instr.Instr.TheVariants.{Jal, PmDone}
 use Rattle.prem_isa.specs.Plain.{TaskRun, Did}
 use Rattle.prem_cycle.specs.Runs.Position.Finish.{due_of}
-use Rattle.prem_sound.specs.Script.Script.{Call, no_call, call_at, Script, change_due}
+use Rattle.prem_sound.specs.Script.Script.{call_at, Script, change_due}
 use Rattle.prem_syntax.specs.Resolved.{Resolved}
 use Rattle.prem_syntax.specs.Source.{Limits}
 use Rattle.prem_asm.specs.Pieces.{jump_weight, jump_to}
@@ -19,18 +19,18 @@ use Rattle.prem_layout.proofs.StretchLemmas.Algebra.{chained_assoc, taken_none}
 use Rattle.prem_layout.proofs.StretchLemmas.Exact.{path_joined}
 use Rattle.prem_layout.proofs.StretchLemmas.Order.{within_same, chained_within, taking_within, longest_within}
 use Rattle.prem_code_laws.specs.ExprLaws.Relation.{Globals}
-use Rattle.prem_sets_sound.specs.Weave.Weave.{Weave, ends, goes, joined, dids_of, calls_of, IsWeave}
+use Rattle.prem_sets_sound.specs.Weave.Weave.{Weave, ends, goes, joined, segment_of, dids_of, calls_of, IsWeave}
 use Rattle.prem_sets_sound.specs.StubLaws.JobWeave.Jobs.{JobRun, all_jobs, EachJob, JobsAlong}
 use Rattle.prem_sets_sound.proofs.WeaveLemmas.Joins.{weaves_join}
 use Rattle.prem_sound.specs.Scopes.Strands as S
-use Rattle.prem_sets_sound.specs.StubLaws.Charges.Charges.{script_of}
 use Rattle.prem_wcet_laws.specs.Counts.{Count, quiet, then_count}
 use Rattle.prem_wcet_laws.specs.Divided.{charge_of, path_of, count_of, Courses, StaysOn, scope_charge, KeepsTo}
 use Rattle.prem_wcet_laws.specs.PartedLaws.{is_marked}
 use Rattle.prem_wcet_laws.proofs.Alone.{control_divides}
 use Rattle.prem_wcet_laws.proofs.Courses.{course_of, courses_join}
 use Rattle.prem_sets_wcet.specs.Marked.{is_marked_call}
-use Rattle.prem_sets_wcet.specs.Aligned.{HasCalls}
+use Rattle.prem_sets_wcet.specs.Openings.{stated_of, counts_of}
+use Rattle.prem_sets_wcet.specs.Aligned.{StateWithin}
 use Rattle.prem_sets_wcet.specs.Jobs.{JobStrand}
 use Rattle.prem_sets_wcet.specs.Walk.{cost_with, stretch_with, CallsCourse, JobsGoByCourses, CallsScope, JobsGoByScopes}
 use Rattle.prem_sets_wcet.proofs.Jobs.{course_jobs_are_charged}
@@ -51,28 +51,38 @@ use Rattle.prem_sets_wcet.proofs.Partings.{steps_in, scopes_agree}
 abbrev record_did : (at : ℕ) → Instr → Phase → Did
 record_did at i ph = record { pc = at; instr = i; phase = ph; access = None; change = Stay }
 
--- ---- the calls of a script
+-- ---- what calls count
 
-first_calls : (xs ys : List Call) (i : ℕ) → i < length xs → slice_index_or (xs ++ ys) i no_call ≡ slice_index_or xs i no_call
-first_calls [] ys i lt = absurd (omega (arith, lt))
-first_calls (x ∷ xs) ys zero lt = refl
-first_calls (x ∷ xs) ys (suc i) lt = first_calls xs ys i (omega (arith, lt))
+counts_joined : (counts : List Did → ℕ) (w v : Weave) → counts_of counts (joined w v) ≡ counts_of counts w ++ counts_of counts v
+counts_joined counts ends v = refl
+counts_joined counts (goes d rest) v = counts_joined counts rest v
+counts_joined counts (Rattle.prem_sets_sound.specs.Weave.Weave.calls m rest) v = ap (λ ns. counts (segment_of m) ∷ ns) (counts_joined counts rest v)
 
-next_calls : (xs ys : List Call) (i : ℕ) → slice_index_or (xs ++ ys) (length xs + i) no_call ≡ slice_index_or ys i no_call
-next_calls [] ys i = let e : 0 + i ≡ i = omega arith in ap (λ n. slice_index_or ys n no_call) e
-next_calls (x ∷ xs) ys i = let e : suc (length xs) + i ≡ suc (length xs + i) = omega arith in ap (λ n. slice_index_or (x ∷ (xs ++ ys)) n no_call) e ∙ next_calls xs ys i
+counted_calls : (counts : List Did → ℕ) (w : Weave) → length (counts_of counts w) ≡ length (calls_of w)
+counted_calls counts ends = refl
+counted_calls counts (goes d rest) = counted_calls counts rest
+counted_calls counts (Rattle.prem_sets_sound.specs.Weave.Weave.calls m rest) = ap suc (counted_calls counts rest)
 
-has_first : (s : Script) (begun : ℕ) (xs ys : List Call) → HasCalls s begun (xs ++ ys) → HasCalls s begun xs
-has_first s begun xs ys h i lt = let n = length-append xs ys in h i (omega (arith, lt, n)) ∙ first_calls xs ys i lt
+first_counts : (xs ys : List ℕ) (i : ℕ) → i < length xs → slice_index_or (xs ++ ys) i 0 ≡ slice_index_or xs i 0
+first_counts [] ys i lt = absurd (omega (arith, lt))
+first_counts (x ∷ xs) ys zero lt = refl
+first_counts (x ∷ xs) ys (suc i) lt = first_counts xs ys i (omega (arith, lt))
 
-has_next : (s : Script) (begun : ℕ) (xs ys : List Call) → HasCalls s begun (xs ++ ys) → HasCalls s (begun + length xs) ys
-has_next s begun xs ys h i lt =
+next_counts : (xs ys : List ℕ) (i : ℕ) → slice_index_or (xs ++ ys) (length xs + i) 0 ≡ slice_index_or ys i 0
+next_counts [] ys i = let e : 0 + i ≡ i = omega arith in ap (λ n. slice_index_or ys n 0) e
+next_counts (x ∷ xs) ys i = let e : suc (length xs) + i ≡ suc (length xs + i) = omega arith in ap (λ n. slice_index_or (x ∷ (xs ++ ys)) n 0) e ∙ next_counts xs ys i
+
+first_states : (s : Script) (begun : ℕ) (xs ys : List ℕ) → StateWithin s begun (xs ++ ys) → StateWithin s begun xs
+first_states s begun xs ys h i lt = let n = length-append xs ys in subst (λ m. (call_at s (begun + i)).stated ≤ m) (first_counts xs ys i lt) (h i (omega (arith, lt, n)))
+
+next_states : (s : Script) (begun : ℕ) (xs ys : List ℕ) → StateWithin s begun (xs ++ ys) → StateWithin s (begun + length xs) ys
+next_states s begun xs ys h i lt =
     let n = length-append xs ys in
-    let e : begun + length xs + i ≡ begun + (length xs + i) = omega arith in
-    ap (call_at s) e ∙ h (length xs + i) (omega (arith, lt, n)) ∙ next_calls xs ys i
+    let e : begun + (length xs + i) ≡ begun + length xs + i = omega arith in
+    subst (λ j. (call_at s j).stated ≤ slice_index_or ys i 0) e (subst (λ m. (call_at s (begun + (length xs + i))).stated ≤ m) (next_counts xs ys i) (h (length xs + i) (omega (arith, lt, n))))
 
-module _ (p : Plant) (passes : ℕ → ℕ) (s : Setting) (gs : Globals) (limits : Limits) (program : Resolved) (own : TaskRun) (calls : Calls) (start job : ℕ) (call : Count) (cost most : ℕ)
-    (course : CallsCourse p s gs limits program own calls start job call) (paid : cost_with p call ≤ cost) (long : stretch_with p call ≤ most) (script : Script) where
+module _ (p : Plant) (passes : ℕ → ℕ) (counts : List Did → ℕ) (s : Setting) (gs : Globals) (limits : Limits) (program : Resolved) (own : TaskRun) (calls : Calls) (start job : ℕ) (call : Count) (cost most : ℕ)
+    (course : CallsCourse p counts s gs limits program own calls start job call) (paid : cost_with p call ≤ cost) (long : stretch_with p call ≤ most) (script : Script) where
   abbrev OneJob : Weave → Type 0
   OneJob w = IsWeave p passes w × JobRun s gs limits program own calls start job (dids_of w)
 
@@ -80,12 +90,12 @@ module _ (p : Plant) (passes : ℕ → ℕ) (s : Setting) (gs : Globals) (limits
   done = done_step (own.entry + 4)
 
   -- with the jump
-  with_jump : (w : Weave) → JobRun s gs limits program own calls start job (dids_of w) → Courses p (is_marked (is_marked_call p)) (then_count (quiet (jump_weight (job_weight p))) call) (dids_of w)
+  with_jump : (w : Weave) → JobRun s gs limits program own calls start job (dids_of w) → Courses p (is_marked (is_marked_call p counts)) (then_count (quiet (jump_weight (job_weight p))) call) (dids_of w)
   with_jump w r =
       let at = s.places start in
       let jump = control_divides p at (jump_to 1 at (s.places job)) r.task (jump_weight (job_weight p)) refl (omega arith) in
-      subst (Courses p (is_marked (is_marked_call p)) (then_count (quiet (jump_weight (job_weight p))) call)) (sym r.steps_are)
-      (courses_join p (is_marked (is_marked_call p)) (quiet (jump_weight (job_weight p))) call (control at (jump_to 1 at (s.places job)) r.task) r.trace (course_of p (is_marked (is_marked_call p)) _ _ jump) (course (dids_of w) r))
+      subst (Courses p (is_marked (is_marked_call p counts)) (then_count (quiet (jump_weight (job_weight p))) call)) (sym r.steps_are)
+      (courses_join p (is_marked (is_marked_call p counts)) (quiet (jump_weight (job_weight p))) call (control at (jump_to 1 at (s.places job)) r.task) r.trace (course_of p (is_marked (is_marked_call p counts)) _ _ jump) (course (dids_of w) r))
 
   done_less : due_of p done ≤ job_weight p PmDone
   done_less = omega arith
@@ -108,25 +118,24 @@ module _ (p : Plant) (passes : ℕ → ℕ) (s : Setting) (gs : Globals) (limits
         further : (a b c : ℕ) → a ≤ b → b ≤ c → a ≤ c
         further a b c h k = omega (arith, h, k)
 
-  strands_of : (ws : List Weave) (begun : ℕ) → EachJob OneJob ws → HasCalls script begun (calls_of (all_jobs done ws)) → JobStrand p script cost most begun (dids_of (all_jobs done ws))
+  strands_of : (ws : List Weave) (begun : ℕ) → EachJob OneJob ws → StateWithin script begun (counts_of counts (all_jobs done ws)) → JobStrand p script cost most begun (dids_of (all_jobs done ws))
   strands_of [] begun h has = record { strand = S.ends; dids_are = refl; is_strand = tt; charged = tt }
   strands_of (w ∷ ws) begun h has =
       let rest = all_jobs done ws in
       let join = weaves_join p passes w (goes done rest) in
-      let calls_are = subst (HasCalls script begun) join.calls_are has in
+      let states = subst (StateWithin script begun) (counts_joined counts w (goes done rest)) has in
+      let later = subst (λ n. StateWithin script (begun + n) (counts_of counts rest)) (counted_calls counts w) (next_states script begun (counts_of counts w) (counts_of counts rest) states) in
       let c = with_jump w h.0.1 in
-      let more = strands_of ws (begun + length (calls_of w)) h.1 (has_next script begun (calls_of w) (calls_of rest) calls_are) in
+      let more = strands_of ws (begun + length (calls_of w)) h.1 later in
       subst (JobStrand p script cost most begun) (sym join.dids)
-      (course_jobs_are_charged p passes script cost most begun c.division w done (dids_of rest) h.0.0 c.keeps c.loose c.steps_are (has_first script begun (calls_of w) (calls_of rest) calls_are) refl refl
+      (course_jobs_are_charged p passes script counts cost most begun c.division w done (dids_of rest) h.0.0 c.keeps c.loose c.steps_are (first_states script begun (counts_of counts w) (counts_of counts rest) states) refl refl
       (total_less (charge_of p c.division) c.counted.total) (stretch_less (path_of p c.division) c.counted.sums) more)
 
 pub jobs_go_by_courses : JobsGoByCourses
-jobs_go_by_courses p passes s gs limits program own calls start job weave call cost most along course paid long =
+jobs_go_by_courses p passes script counts s gs limits program own calls start job weave call cost most along course paid long states =
     let done = done_step (own.entry + 4) in
-    let script = script_of (calls_of weave) in
     subst (JobStrand p script cost most 0) (ap dids_of (sym along.weave_is))
-    (strands_of p passes s gs limits program own calls start job call cost most course paid long script along.jobs 0 along.each
-    (subst (λ w. HasCalls script 0 (calls_of w)) along.weave_is (λ i lt. let e : 0 + i ≡ i = omega arith in ap (λ n. slice_index_or (calls_of weave) n no_call) e)))
+    (strands_of p passes counts s gs limits program own calls start job call cost most course paid long script along.jobs 0 along.each (subst (λ w. StateWithin script 0 (counts_of counts w)) along.weave_is states))
 
 -- ---- without marked calls
 
@@ -165,7 +174,7 @@ module _ (p : Plant) (passes : ℕ → ℕ) (s : Setting) (gs : Globals) (limits
       let steps_are : dids_of w ≡ jump ∷ r.trace =
       r.steps_are ∙ ap (λ (ph : Phase). record_did (s.places start) (jump_to 1 (s.places start) (s.places job)) ph ∷ r.trace) r.phase in
       let stays : AllSteps StaysOn (dids_of w) = subst (AllSteps StaysOn) (sym steps_are) (refl, c.1.0) in
-      let taken = take p passes (dids_of w) [] w h.0.0 stays (sym (append-nil (dids_of w))) in
+      let taken = take p passes stated_of (dids_of w) [] w h.0.0 stays (sym (append-nil (dids_of w))) in
       let quiet_ : IsWithinInterval (jump ∷ r.trace) = subst IsWithinInterval steps_are taken.quiet in
       let finish_is : done_step (s.places start + 4) ≡ finish = ap (λ n. done_step (n + 4)) entry in
       let inside : IsWithinInterval steps = interval_end (jump ∷ r.trace) (done_step (s.places start + 4)) quiet_ (refl, c.1.0) refl refl in
@@ -188,6 +197,6 @@ module _ (p : Plant) (passes : ℕ → ℕ) (s : Setting) (gs : Globals) (limits
         short own_ sc e le = omega (arith, e, le, long)
 
 pub jobs_go_by_scopes : JobsGoByScopes
-jobs_go_by_scopes p passes s gs limits program own calls start job weave lines charge cost most entry along scope paid long =
-    subst (JobStrand p (script_of (calls_of weave)) cost most 0) (ap dids_of (sym along.weave_is))
-    (scopes_of p passes s gs limits program own calls start job lines charge cost most entry scope paid long (script_of (calls_of weave)) along.jobs 0 along.each)
+jobs_go_by_scopes p passes script s gs limits program own calls start job weave lines charge cost most entry along scope paid long =
+    subst (JobStrand p script cost most 0) (ap dids_of (sym along.weave_is))
+    (scopes_of p passes s gs limits program own calls start job lines charge cost most entry scope paid long script along.jobs 0 along.each)

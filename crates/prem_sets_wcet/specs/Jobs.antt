@@ -11,7 +11,8 @@ use Rattle.prem_sound.specs.Scopes.Strands.{Strand, dids_along, IsStrand, Charge
 use Rattle.prem_wcet_laws.specs.Divided.{Division, steps_of, charge_of, AreLoose, IsCourse, path_of}
 use Rattle.prem_wcet_laws.specs.PartedLaws.{is_marked}
 use Rattle.prem_sets_wcet.specs.Marked.{is_marked_call}
-use Rattle.prem_sets_wcet.specs.Aligned.{HasCalls}
+use Rattle.prem_sets_wcet.specs.Openings.{counts_of}
+use Rattle.prem_sets_wcet.specs.Aligned.{StateWithin}
 use Rattle.prem_layout.specs.Stretch.Paths.{Takes, longest_from}
 
 -- a strand of these steps that is charged job by job
@@ -24,7 +25,7 @@ pub record JobStrand (p : Plant) (s : Script) (cost most begun : ℕ) (steps : L
 -- a job's course with the step that ends the job, before other jobs
 abbrev pub CourseJobsAreCharged : Type 0
 CourseJobsAreCharged =
-    (p : Plant) (passes : ℕ → ℕ) (s : Script) (cost most begun : ℕ) (v : Division) (w : Weave) (last : Did) (others : List Did) →
-    IsWeave p passes w → IsCourse (is_marked (is_marked_call p)) p.line v → AreLoose v → dids_of w ≡ steps_of v → HasCalls s begun (calls_of w) →
+    (p : Plant) (passes : ℕ → ℕ) (s : Script) (counts : List Did → ℕ) (cost most begun : ℕ) (v : Division) (w : Weave) (last : Did) (others : List Did) →
+    IsWeave p passes w → IsCourse (is_marked (is_marked_call p counts)) p.line v → AreLoose v → dids_of w ≡ steps_of v → StateWithin s begun (counts_of counts w) →
     last.phase ≡ Compatible → last.change ≡ Job → charge_of p v + (due_of p last + p.switch) ≤ cost → longest_from 0 (path_of p v ++ Takes (due_of p last) ∷ []) ≤ most →
     JobStrand p s cost most (begun + length (calls_of w)) others → JobStrand p s cost most begun (dids_of w ++ last ∷ others)

@@ -1,4 +1,5 @@
 pub mod Stands
+pub mod Openings
 pub mod Marked
 pub mod Partings
 pub mod Aligned

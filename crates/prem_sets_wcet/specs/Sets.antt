@@ -19,7 +19,7 @@ use Rattle.prem_sets_sound.specs.Meant.{AreMeant}
 use Rattle.prem_sets_sound.specs.PlacesSound.At.{promises_at}
 use Rattle.prem_sound.specs.Limits.{jobs_limit}
 use Rattle.prem_sets_sound.specs.StubLaws.Charges.Charges.{TaskCharges}
-use Rattle.prem_sets_wcet.specs.Tasks.{task_wcet, task_stretch}
+use Rattle.prem_sets_wcet.specs.Tasks.{task_wcet, task_stretch, task_closed, TaskShuts}
 
 -- what a job of task k takes at most, and how long its stretches and intervals last without the switch before them
 abbrev pub wcet_at : Plant → List Placed → ℕ → ℕ
@@ -35,6 +35,17 @@ MeantTasksGoByWcet =
     AreMeant p (placed_from p places tasks) promises → (inputs : List (List ℕ)) → AreInputs (setup_of p devices places tasks) inputs → (k : ℕ) → k < length (setup_of p devices places tasks).tasks →
     TaskCharges (setup_of p devices places tasks) passes (own_of tasks places k) (run_in (setup_of p devices places tasks) (content_of p places tasks) inputs k) (limits_at p (placed_from p places tasks) k)
     (wcet_at p (placed_from p places tasks) k) (stretch_at p (placed_from p places tasks) k) (promises inputs k)
+
+-- what a job of it keeps closed at most to transfers of such a cost, without the idle time that its release ends
+abbrev pub closed_at : Plant → (top : ℕ) → List Placed → ℕ → ℕ
+closed_at p top placed k = slice_index_or (map (task_closed p top) placed) k 0
+
+abbrev pub MeantTasksShutByWcet : Type 0
+MeantTasksShutByWcet =
+    (passes : ℕ → ℕ) (p : Plant) (devices : List Device) (tasks : List Coded) (places : List Extent) (promises : List (List ℕ) → ℕ → Promise) → IsLaidOut p devices tasks places → passes p.«ways» ≡ pass_count (stub_passes p) →
+    AreMeant p (placed_from p places tasks) promises → (top : ℕ) (inputs : List (List ℕ)) → AreInputs (setup_of p devices places tasks) inputs → (k : ℕ) → k < length (setup_of p devices places tasks).tasks →
+    TaskShuts (setup_of p devices places tasks) passes (own_of tasks places k) (run_in (setup_of p devices places tasks) (content_of p places tasks) inputs k) (limits_at p (placed_from p places tasks) k)
+    (wcet_at p (placed_from p places tasks) k) (stretch_at p (placed_from p places tasks) k) top (closed_at p top (placed_from p places tasks) k) (promises inputs k)
 
 -- For all input words and all requests of devices the image of a set that breaks no rule is sound, and its run has finished by the last release
 -- and the sum of jobs times what they take.

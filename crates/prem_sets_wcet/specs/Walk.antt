@@ -10,13 +10,15 @@ use Rattle.prem_asm.specs.Runs.{Setting, Calls}
 use Rattle.prem_layout.specs.Bounds.{job_weight}
 use Rattle.prem_layout.specs.Stretch.Sums.{Sums, taking, chained, greatest}
 use Rattle.prem_code_laws.specs.ExprLaws.Relation.{Globals}
-use Rattle.prem_sets_sound.specs.Weave.Weave.{Weave, dids_of, calls_of}
+use Rattle.prem_sound.specs.Script.Script.{Script}
+use Rattle.prem_sets_sound.specs.Weave.Weave.{Weave, dids_of}
 use Rattle.prem_sets_sound.specs.StubLaws.JobWeave.Jobs.{JobRun, JobsAlong}
-use Rattle.prem_sets_sound.specs.StubLaws.Charges.Charges.{script_of}
 use Rattle.prem_wcet_laws.specs.Counts.{Count}
 use Rattle.prem_wcet_laws.specs.Divided.{Courses, KeepsTo, StaysOn, scope_charge}
 use Rattle.prem_wcet_laws.specs.PartedLaws.{is_marked}
+use Rattle.prem_sets_wcet.specs.Openings.{counts_of}
 use Rattle.prem_sets_wcet.specs.Marked.{is_marked_call}
+use Rattle.prem_sets_wcet.specs.Aligned.{StateWithin}
 use Rattle.prem_sets_wcet.specs.Jobs.{JobStrand}
 use Rattle.prem_asm.specs.Steps.{AllSteps}
 use Rattle.prem_wcet_laws.specs.Starts.{start_steps}
@@ -30,16 +32,16 @@ abbrev pub stretch_with : Plant → Count → ℕ
 stretch_with p call = greatest (chained (taking (jump_weight (job_weight p))) (chained call.sums (taking (job_weight p PmDone))))
 
 -- each call of `job` is such a course
-abbrev pub CallsCourse : Plant → Setting → Globals → Limits → Resolved → TaskRun → Calls → (start job : ℕ) → Count → Type 0
-CallsCourse p s gs limits program own calls start job call =
-    (steps : List Did) (r : JobRun s gs limits program own calls start job steps) → Courses p (is_marked (is_marked_call p)) call r.trace
+abbrev pub CallsCourse : Plant → (counts : List Did → ℕ) → Setting → Globals → Limits → Resolved → TaskRun → Calls → (start job : ℕ) → Count → Type 0
+CallsCourse p counts s gs limits program own calls start job call =
+    (steps : List Did) (r : JobRun s gs limits program own calls start job steps) → Courses p (is_marked (is_marked_call p counts)) call r.trace
 
--- then the weave of these jobs is a strand that is charged so much for each of them
+-- then the weave of these jobs is a strand that is charged so much for each of them, where marked calls count what a script's calls state
 abbrev pub JobsGoByCourses : Type 0
 JobsGoByCourses =
-    (p : Plant) (passes : ℕ → ℕ) (s : Setting) (gs : Globals) (limits : Limits) (program : Resolved) (own : TaskRun) (calls : Calls) (start job : ℕ) (weave : Weave) (call : Count) (cost most : ℕ) →
-    JobsAlong p passes s gs limits program own calls start job weave → CallsCourse p s gs limits program own calls start job call → cost_with p call ≤ cost → stretch_with p call ≤ most →
-    JobStrand p (script_of (calls_of weave)) cost most 0 (dids_of weave)
+    (p : Plant) (passes : ℕ → ℕ) (script : Script) (counts : List Did → ℕ) (s : Setting) (gs : Globals) (limits : Limits) (program : Resolved) (own : TaskRun) (calls : Calls) (start job : ℕ) (weave : Weave) (call : Count) (cost most : ℕ) →
+    JobsAlong p passes s gs limits program own calls start job weave → CallsCourse p counts s gs limits program own calls start job call → cost_with p call ≤ cost → stretch_with p call ≤ most →
+    StateWithin script 0 (counts_of counts weave) → JobStrand p script cost most 0 (dids_of weave)
 
 -- ---- without marked calls
 
@@ -52,6 +54,6 @@ CallsScope p s gs limits program own calls start job lines most =
 -- then the weave of these jobs is a strand of such scopes
 abbrev pub JobsGoByScopes : Type 0
 JobsGoByScopes =
-    (p : Plant) (passes : ℕ → ℕ) (s : Setting) (gs : Globals) (limits : Limits) (program : Resolved) (own : TaskRun) (calls : Calls) (start job : ℕ) (weave : Weave) (lines : List ℕ) (charge cost most : ℕ) → s.places start ≡ own.entry →
+    (p : Plant) (passes : ℕ → ℕ) (script : Script) (s : Setting) (gs : Globals) (limits : Limits) (program : Resolved) (own : TaskRun) (calls : Calls) (start job : ℕ) (weave : Weave) (lines : List ℕ) (charge cost most : ℕ) → s.places start ≡ own.entry →
     JobsAlong p passes s gs limits program own calls start job weave → CallsScope p s gs limits program own calls start job lines charge → p.switch + charge ≤ cost → charge ≤ most →
-    JobStrand p (script_of (calls_of weave)) cost most 0 (dids_of weave)
+    JobStrand p script cost most 0 (dids_of weave)

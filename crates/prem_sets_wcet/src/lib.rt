@@ -3,12 +3,12 @@
 
 ghost use Rattle.prem_sets_wcet.specs.Aligned.{CoursesAreStrands};
 ghost use Rattle.prem_sets_wcet.specs.Jobs.{CourseJobsAreCharged};
-ghost use Rattle.prem_sets_wcet.specs.Marked.{PlacedJobsCourse};
+ghost use Rattle.prem_sets_wcet.specs.Marked.{PlacedJobsCourse, PlacedJobsShut};
 ghost use Rattle.prem_sets_wcet.specs.Partings.{DivisionsArePartings, LonesAgree, ScopesAgree};
 ghost use Rattle.prem_sets_wcet.specs.QuietJobs.{PlacedQuietJobsDivide, PlacedQuietStarts};
-ghost use Rattle.prem_sets_wcet.specs.Sets.{MeantTasksGoByWcet, SetsGoByWcet};
+ghost use Rattle.prem_sets_wcet.specs.Sets.{MeantTasksGoByWcet, MeantTasksShutByWcet, SetsGoByWcet};
 ghost use Rattle.prem_sets_wcet.specs.Stands.{PlacedFramesStand, PlacedTasksStand};
-ghost use Rattle.prem_sets_wcet.specs.Tasks.{TasksGoByWcet};
+ghost use Rattle.prem_sets_wcet.specs.Tasks.{TasksGoByWcet, TasksShutByWcet};
 ghost use Rattle.prem_sets_wcet.specs.Walk.{JobsGoByCourses, JobsGoByScopes};
 
 /// A placed task that keeps the rules stands as the least charges ask, and so does the frame of its `job`.
@@ -17,9 +17,11 @@ pub fn placed_tasks_stand()
     ensures frames { PlacedFramesStand }
 {}
 
-/// A call of its `job` runs in scopes, lone steps and marked calls, charged no more than the parted charge.
+/// A call of its `job` runs in scopes, lone steps and marked calls, charged no more than the parted charge; and with marked calls that
+/// count no more than they keep the bus closed, no more than the parted charge of plans with these lengths.
 pub fn placed_jobs_course()
-    ensures { PlacedJobsCourse }
+    ensures stated { PlacedJobsCourse }
+    ensures shut { PlacedJobsShut }
 {}
 
 /// A call of a `job` without marked calls runs in scopes and lone steps, charged no more than the least charge, and is one scope
@@ -53,13 +55,15 @@ pub fn jobs_go()
 {}
 
 /// At any lawful places, and for all input words, no job of a task that keeps the rules takes more than `wcet_of`, and no stretch or call
-/// lasts longer than its longest.
+/// lasts longer than its longest; and no job keeps the bus closed for longer than it takes with calls that last until a transfer may start.
 pub fn tasks_go_by_wcet()
-    ensures { TasksGoByWcet }
+    ensures stated { TasksGoByWcet }
+    ensures shut { TasksShutByWcet }
 {}
 
 /// So sets that break no rule are sound up to the limit of these, at any lawful places.
 pub fn sets_go_by_wcet()
     ensures tasks { MeantTasksGoByWcet }
+    ensures shut { MeantTasksShutByWcet }
     ensures sets { SetsGoByWcet }
 {}
