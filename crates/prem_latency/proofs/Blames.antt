@@ -25,8 +25,8 @@ use Rattle.prem_latency.specs.Bus.{coming_transfer}
 use Rattle.prem_latency.specs.Served.{serves_of, ended_of, works_for, is_closed}
 use Rattle.prem_resp.specs.Busy.Schedule.{is_task}
 use Rattle.prem_resp.specs.Deadline.Timeline.{chosen_task, serves_in}
-use Rattle.prem_latency.specs.Requests.{IsAskingOf, Serves}
-use Rattle.prem_latency.proofs.Steps.{state, on_before, some_cost}
+use Rattle.prem_latency.specs.Requests.{Serves}
+use Rattle.prem_latency.proofs.Steps.{state, on_before}
 use Rattle.prem_latency.proofs.Scheduled.{Holds, Idles, Waited, waited, InMode, some_period, ready_means, run_holds, run_ends, run_rests, first_rests, served_ready, EndsOne}
 
 -- ---- the first that passes a test
@@ -78,10 +78,8 @@ module _ (rule : ReplacementRule) (p : Setup) (content : List ℕ) (inputs : Lis
 
   pub some_longest : 1 ≤ longest
   some_longest =
-      let a : IsAskingOf p requests d (asking_at devices d) = sv.askings.each d sv.there in
-      let c : 1 ≤ device_cost p.devices d = some_cost p.devices d sv.costs sv.there in
       let w : (asking_at devices d).cost ≤ longest_of (take (d + 1) devices) = within_top devices (d + 1) d (omega arith) (omega (arith, sv.there, sv.askings.count)) in
-      omega (arith, a.cost, c, w)
+      omega (arith, sv.asks, w)
 
   -- ---- who keeps it closed
 

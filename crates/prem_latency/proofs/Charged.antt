@@ -16,7 +16,7 @@ use Rattle.prem_latency.specs.declared.wait.Asking.{Asking}
 use Rattle.prem_latency.specs.declared.wait.Closing.{Closing}
 use Rattle.prem_latency.specs.Wait.{longest, top}
 use Rattle.prem_latency.specs.Timeline.{asking_at, closing_at}
-use Rattle.prem_latency.specs.Requests.{IsAskingOf, Serves, states_of, AreTransferred}
+use Rattle.prem_latency.specs.Requests.{Serves, states_of, AreTransferred}
 use Rattle.prem_sound.specs.Serve.Requests.{transferred_of}
 use Rattle.prem_sound.specs.Scopes.Charged.{Scoping, charges_by, all_charged}
 use Rattle.prem_resp.specs.declared.busy.load.Load.{Load}
@@ -24,7 +24,6 @@ use Rattle.prem_resp.specs.Busy.Busy.{load_at}
 use Rattle.prem_resp.specs.Deadline.Deadlines.{IsLoadOf}
 use Rattle.prem_resp.proofs.DeadlineLemmas.Timelines.{scripts_meet_deadlines}
 use Rattle.prem_latency.specs.Waits.{IsClosingBy, ServesBy, ChargesServeInTime, ChargesServeEach, ChargesDropNone}
-use Rattle.prem_latency.proofs.Steps.{some_cost}
 use Rattle.prem_latency.proofs.Blames.{within_top}
 use Rattle.prem_latency.proofs.Serving.{requests_are_served}
 use Rattle.prem_latency.proofs.Dropped.{all_find_room, none_is_dropped}
@@ -33,10 +32,8 @@ use Rattle.prem_latency.proofs.AccountRuns.{jobs_keep_closed_by_charges}
 module _ (rule : ReplacementRule) (order : OrderRule) (passes : ℕ → ℕ) (p : Setup) (content : List ℕ) (inputs : List (List ℕ)) (requests : List Request) (own : ℕ → ℕ → Bool) (runs : ℕ → TaskRun) (scripts : ℕ → Script) (scopings : ℕ → Scoping) (loads : List Load) (devices : List Asking) (tasks : List Closing) (d : ℕ) (s : ServesBy rule order passes p content inputs requests own runs scripts scopings loads devices tasks d) where
   some_top : 1 ≤ top devices d
   some_top =
-      let a : IsAskingOf p requests d (asking_at devices d) = s.askings.each d s.there in
-      let c : 1 ≤ device_cost p.devices d = some_cost p.devices d (costs_of p s.run.runnable.devices) s.there in
       let w : (asking_at devices d).cost ≤ longest (take (d + 1) devices) = within_top devices (d + 1) d (omega arith) (omega (arith, s.there, s.askings.count)) in
-      omega (arith, a.cost, c, w)
+      omega (arith, s.asks, w)
 
   serves : Serves rule p content inputs requests devices tasks d
   serves = record {
@@ -47,7 +44,7 @@ module _ (rule : ReplacementRule) (order : OrderRule) (passes : ℕ → ℕ) (p 
     closings = record {
       count = s.closings.count;
       each = λ k lt.
-          let c : IsClosingBy p (runs k) (scripts k) (scopings k) loads (top devices d) k (closing_at tasks k) = s.closings.each k lt in
+          let c : IsClosingBy p (runs k) (scripts k) loads (top devices d) k (closing_at tasks k) = s.closings.each k lt in
           let x : IsLoadOf p runs scripts scopings k (load_at loads k) = s.are_loads.each k lt in
           let same : (closing_at tasks k).period ≡ (record_of p k).period = c.period ∙ x.period in
           record {
@@ -55,10 +52,11 @@ module _ (rule : ReplacementRule) (order : OrderRule) (passes : ℕ → ℕ) (p 
             ends = λ job n left late.
                 scripts_meet_deadlines rule order passes p content inputs requests own runs scripts scopings loads k (closing_at tasks k).length s.policy s.run s.are_scripts s.are_loads lt c.balanced (omega (arith, c.soon, same)) job n left
                 (subst (λ period. job * period + (closing_at tasks k).length ≤ n) same late);
-            closes = λ job n. let f = jobs_keep_closed_by_charges rule order passes p content inputs requests own runs scripts (scopings k) c.opens (top devices d) k c.most job n s.policy s.run s.are_scripts lt some_top x.scoped c.opened c.jobs in omega (arith, f, c.closed);
+            closes = λ job n. let f = jobs_keep_closed_by_charges rule order passes p content inputs requests own runs scripts c.parting c.opens (top devices d) k c.most job n s.policy s.run s.are_scripts lt some_top c.parted c.opened c.jobs in omega (arith, f, c.closed);
           };
     };
     there = s.there;
+    asks = s.asks;
   }
 
   -- what a task is charged in all

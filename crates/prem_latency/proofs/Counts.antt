@@ -245,7 +245,7 @@ module _ (rule : ReplacementRule) (p : Setup) (content : List ℕ) (inputs : Lis
     pub on_way : (n : ℕ) (c : Carried) → is_over (run n) ≡ false → (run n).gates.carried ≡ Some c → (1 ≤ c.left) × (c.first < n) × (c.first + device_cost p.devices c.device ≡ n + c.left)
     on_way n c on e =
         let w : IsOnItsWay p.devices (run n).now c = subst (λ (o : Option Carried). IfSome o (IsOnItsWay p.devices (run n).now)) e (runs_are_on_their_way rule p content inputs requests n all (goes_untrapped (run n) on)) in
-        let b : c.first < n = (have_begun rule p content inputs requests 0 0 all (λ j lt. absurd (omega (arith, lt))) (omega arith) n c e (omega arith)).0 in
+        let b : c.first < n = (have_begun rule p content inputs requests 0 0 all (λ m on j lt some. absurd (omega (arith, lt))) n c e (omega arith)).0 in
         let now : (run n).now ≡ n = run_of-now rule p content inputs requests n on in
         (w.some, b, omega (arith, w.on_time, now))
 

@@ -1,7 +1,7 @@
 -- A worked run that meets all that the laws ask for: two jobs of the worked image of a marked call, parted into scopes, and a device whose two
 -- requests come 600 cycles apart.
 use Rattle.std.specs.Prelude.{◌&&◌, ◌||◌, is_some, codes, slice_get, slice_index, All, IfSome, replicate}
-use Rattle.std.proofs.Common.{◌≡◌, ℕ, zero, suc, ◌+◌, ◌-◌, ◌*◌, ◌/◌, ◌^◌, ◌<◌, ◌≤◌, leb, refl, ap, ◌∙◌, sym, subst, arith, true, false, Bool, Some, None, Option, List, [], ◌∷◌, ◌++◌, length, get_or, take, drop, append-nil}
+use Rattle.std.proofs.Common.{◌≡◌, ℕ, zero, suc, ◌+◌, ◌-◌, ◌*◌, ◌/◌, ◌^◌, ◌<◌, ◌≤◌, leb, refl, ap, ◌∙◌, sym, subst, arith, true, false, Bool, Some, None, Option, List, [], ◌∷◌, ◌++◌, length, get_or, take, drop, append-nil, inl}
 use Rattle.std.proofs.lemmas.Bool.{and_parts, leb-true, le-leb}
 use Rattle.std.proofs.lemmas.Nat.{le-div}
 use Rattle.std.proofs.Math.Nat.{div-lt_iff_lt-mul}
@@ -384,7 +384,7 @@ distant = (All-cons (λ (q : Request). 0 + 600 ≤ q.cycle) (put 600 0 1 6) [] (
 askings : AreAskings setup asked devices
 askings = record {
   count = refl;
-  each = λ j lt. subst (λ i. IsAskingOf setup asked i (asking_at devices i)) (sym (only j lt)) (record { cost = refl; every = omega arith; distant = distant });
+  each = λ j lt. subst (λ i. IsAskingOf setup asked i (asking_at devices i)) (sym (only j lt)) (record { cost = inl refl; every = omega arith; distant = distant });
 }
 
 abbrev run_at : ℕ → MachineState
@@ -402,13 +402,15 @@ worked_loads = record {
       (record { period = refl; scoped = worked_charged.0; charged = worked_charged.1 });
 }
 
-closing : IsClosingBy setup run the_script (scoping_of strand) loads 8 0 (closing_at tasks 0)
+closing : IsClosingBy setup run the_script loads 8 0 (closing_at tasks 0)
 closing = record {
   period = refl;
   balanced = (omega arith, refl);
   soon = omega arith;
   opens = λ i. 473;
   opened = worked_opened;
+  parting = scoping_of strand;
+  parted = worked_closed.0;
   most = 785;
   jobs = worked_closed.1;
   closed = omega arith;
@@ -423,9 +425,10 @@ serves = record {
   askings = askings;
   closings = record {
     count = refl;
-    each = λ k lt. subst (λ i. IsClosingBy setup run the_script (scoping_of strand) loads 8 i (closing_at tasks i)) (sym (only k lt)) closing;
+    each = λ k lt. subst (λ i. IsClosingBy setup run the_script loads 8 i (closing_at tasks i)) (sym (only k lt)) closing;
   };
   there = omega arith;
+  asks = omega arith;
 }
 
 -- ---- what the laws give

@@ -40,7 +40,7 @@ keeps_open plant passes run s (d ∷ ds) n b g k = (
   sum a b c s h = omega (arith, h)
 
 -- with calls that state less a strand is charged no more
-charged_less : (plant : Plant) (s other : Script) (cost most begun job job' stretch : ℕ) (w : Strand) → ((i : ℕ) → (call_at other i).stated ≤ (call_at s i).stated) → job' ≤ job → ChargedFrom plant s cost most begun job stretch w → ChargedFrom plant other cost most begun job' stretch w
+pub charged_less : (plant : Plant) (s other : Script) (cost most begun job job' stretch : ℕ) (w : Strand) → ((i : ℕ) → (call_at other i).stated ≤ (call_at s i).stated) → job' ≤ job → ChargedFrom plant s cost most begun job stretch w → ChargedFrom plant other cost most begun job' stretch w
 charged_less plant s other cost most begun job job' stretch ends less le h = tt
 charged_less plant s other cost most begun job job' stretch (runs x rest) less le h =
     let m : change_due plant (call_at other begun).stated (last_change x.dids) ≤ change_due plant (call_at s begun).stated (last_change x.dids) = change_more plant (last_change x.dids) (call_at other begun).stated (call_at s begun).stated (less begun) in
@@ -74,6 +74,10 @@ charged_tasks_wait p passes own run most cycles longest top q t =
       opens = stated;
       opened = opens_look p.plant (record { count = length ds; calls = calls_of j.weave; due = run.jobs * most.cycles }) (script_of (calls_of j.weave)) stated none_begun ds refl
           (keeps_open p.plant passes run (record { count = length ds; calls = calls_of j.weave; due = run.jobs * most.cycles }) ds 0 none_begun g c.keeps);
+      strand = t.strand;
+      dids_are = t.dids_are;
+      scopes = t.scopes;
+      stretch = longest;
       closes = charged_less p.plant (script_of (calls_of j.weave)) (script_of (shortened stated top (calls_of j.weave))) cycles longest 0 0 0 0 t.strand (shortened_less (calls_of j.weave) stated top) (omega arith) t.charged;
     }
 

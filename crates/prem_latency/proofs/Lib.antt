@@ -25,3 +25,7 @@ mod Spans
 mod Instance
 mod JoinedRuns
 mod JoinedTasks
+mod WeaveOpens
+mod SetDevices
+pub mod SetWaits
+mod SetSample

@@ -1,12 +1,13 @@
 -- The requests of a run of the machine have been transferred so many cycles behind their arrival.
 use Rattle.std.specs.Prelude.{◌&&◌, not, IfSome, take, drop}
-use Rattle.std.proofs.Common.{◌≡◌, ℕ, zero, suc, ◌+◌, ◌-◌, ◌*◌, ◌<◌, ◌≤◌, min, refl, ap, ◌∙◌, sym, subst, arith, eqb, ltb, cond, true, false, Bool, Some, None, Option, List, [], ◌∷◌, ◌++◌, append_assoc, append-nil, length, inl, inr}
-use Rattle.std.proofs.lemmas.Bool.{ltb-true, ltb-false, lt-ltb, le-ltb, ne_eqb}
+use Rattle.std.proofs.Common.{◌≡◌, ℕ, zero, suc, ◌+◌, ◌-◌, ◌*◌, ◌<◌, ◌≤◌, min, refl, ap, ◌∙◌, sym, subst, arith, eqb, ltb, cond, true, false, Bool, Some, None, Option, List, [], ◌∷◌, ◌++◌, append_assoc, append-nil, length, inl, inr, ⊎_elim, ◌⊎◌}
+use Rattle.std.proofs.lemmas.List.{length-append}
+use Rattle.std.proofs.lemmas.Bool.{cases_Bool, ltb-true, ltb-false, lt-ltb, le-ltb, eq-eqb, ne_eqb}
 use Rattle.std.proofs.Math.Nat.{mul_comm, zero-mul}
 use Rattle.prem_lru.specs.Entries.{ReplacementRule}
 use Rattle.prem_gate.specs.declared.request.Request.{Request}
 use Rattle.prem_gate.specs.declared.bus.Carried.{Carried}
-use Rattle.prem_gate.specs.Gates.{GatesState, fits, startable, carries_for}
+use Rattle.prem_gate.specs.Gates.{GatesState, gate_at, fits, startable, carries_for}
 use Rattle.prem_cycle.specs.State.{Setup, MachineState, record_of, no_record}
 use Rattle.prem_cycle.specs.Core.{want_of}
 use Rattle.prem_cycle.specs.Cycle.{is_over}
@@ -15,17 +16,17 @@ use Rattle.prem_cycle.proofs.Time.{run_of-now}
 use Rattle.prem_cycle.specs.Runs.Transfer.Lengths.{device_cost}
 use Rattle.prem_cycle.specs.Runs.Window.Windows.{LiesInside}
 use Rattle.prem_cycle.proofs.RunsLemmas.WindowLemmas.Cycles.{run_holds as windows_hold}
-use Rattle.prem_sound.specs.Serve.Requests.{coming_requests, asked_of, transferred_of, carried_of, held_of}
+use Rattle.prem_sound.specs.Serve.Requests.{found_room, coming_requests, asked_of, transferred_of, carried_of, held_of}
 use Rattle.prem_sound.proofs.ServeLemmas.Queues.{arrivals_carried, queue_at, requests_held}
 use Rattle.prem_latency.specs.Wait.{Asking, Closing, requests_in, top, longest as longest_of, IsRoom}
 use Rattle.prem_latency.specs.Timeline.{Level, IsLevel, Deed, Carries, Behind, Shut, Free, Timeline, is_carried, is_shut, carried, shut, GoesOn, IsFor, IsTimeline, asking_at, closing_at, level_of}
 use Rattle.prem_resp.specs.Busy.Schedule.{one_if}
-use Rattle.prem_latency.specs.Bus.{waiting, NoneWaits, on_bus, coming_transfer, BusUse, serves, goes_on, closed}
+use Rattle.prem_latency.specs.Bus.{waiting, NoneWaits, AreAtMost, on_bus, coming_transfer, BusUse, serves, goes_on, closed}
 use Rattle.prem_latency.specs.Served.{serves_of, ended_of, works_for, is_closed, closed_for}
 use Rattle.prem_latency.specs.Requests.{IsAskingOf, Serves, RequestsAreServed}
-use Rattle.prem_latency.proofs.Steps.{state, asked_gates, bus_in, some_cost, no_clash, there_if}
+use Rattle.prem_latency.proofs.Steps.{state, asked_gates, asked_costs, cost_is, bus_in, some_cost, no_clash, there_if}
 use Rattle.prem_latency.proofs.BusUses.{bus_serves_first}
-use Rattle.prem_latency.proofs.Begins.{asked_most, begun_free}
+use Rattle.prem_latency.proofs.Begins.{begun_free}
 use Rattle.prem_latency.proofs.Traces.{before, come_before, few_come, at_cycle, next_before}
 use Rattle.prem_latency.proofs.Counts.{part, is_for, found, asked, served, asked_are, found_next, asked_grows, none_first, asked_in, few_asked, served_grows, on_way, carried_next}
 use Rattle.prem_latency.proofs.Scheduled.{run_ends, EndsOne}
@@ -70,13 +71,50 @@ module _ (rule : ReplacementRule) (p : Setup) (content : List ℕ) (inputs : Lis
   in_devices : (j : ℕ) → j < d + 1 → j < length p.devices
   in_devices j lt = omega (arith, lt, sv.there)
 
-  cost_same : (j : ℕ) → j < length p.devices → (asking_at devices j).cost ≡ device_cost p.devices j
-  cost_same j lt = (sv.askings.each j lt).cost
+  -- a device that makes no request has none
+  silent_none : (j n : ℕ) → asked_of j requests ≡ [] → asked_by j n ≡ 0
+  silent_none j zero e = none_first rule p content inputs requests j
+  silent_none j (suc n) e =
+      let was : asked_by j n ≡ 0 = silent_none j n e in
+      ⊎_elim (λ (over : is_over (run n) ≡ true).
+      let more : asked_by j (suc n) ≡ asked_by j n + length (asked_of j (coming_requests requests (run n))) =
+      ap length (found_next rule p content inputs requests j n) ∙ length-append (found rule p content inputs requests j n) (asked_of j (coming_requests requests (run n))) in
+      let none : length (asked_of j (coming_requests requests (run n))) ≡ 0 = ap (λ b. length (asked_of j (cond b [] (found_room (run n).now requests (run n).gates)))) over in
+      omega (arith, was, more, none))
+      (λ (on : is_over (run n) ≡ false).
+      let few : asked_by j (suc n) ≤ asked_by j n + at_cycle n (asked_of j requests) = few_asked rule p content inputs requests n on j in
+      let none : at_cycle n (asked_of j requests) ≡ 0 = ap (at_cycle n) e in
+      omega (arith, was, few, none))
+      (cases_Bool (is_over (run n)))
 
-  cost_most : (j : ℕ) → j < d + 1 → device_cost p.devices j ≤ top_cost
-  cost_most j lt =
-      let w : (asking_at devices j).cost ≤ longest_of (take (d + 1) devices) = within_top devices (d + 1) j lt (omega (arith, in_devices j lt, sv.askings.count)) in
-      omega (arith, w, cost_same j (in_devices j lt))
+  silent_waits : (j n : ℕ) → asked_of j requests ≡ [] → (served_by j n ≡ 0) × (waiting j (run n).gates ≡ 0)
+  silent_waits j n e =
+      let none : asked_by j n ≡ 0 = silent_none j n e in
+      let all : asked_by j n ≡ served_by j n + waiting j (run n).gates = asked_are rule p content inputs requests j n in
+      (omega (arith, none, all), omega (arith, none, all))
+
+  -- of what is carried the cost is told
+  carried_cost : (n : ℕ) (c : Carried) → (run n).gates.carried ≡ Some c → c.device < length p.devices → (asking_at devices c.device).cost ≡ device_cost p.devices c.device
+  carried_cost n c e lt = by (sv.askings.each c.device lt).cost where
+    by : ((asking_at devices c.device).cost ≡ device_cost p.devices c.device) ⊎ (((asking_at devices c.device).cost ≡ 0) × (asked_of c.device requests ≡ [])) → (asking_at devices c.device).cost ≡ device_cost p.devices c.device
+    by (inl same) = same
+    by (inr silent) =
+        let none : waiting c.device (run n).gates ≡ 0 = (silent_waits c.device n silent.1).1 in
+        let one : carries_for c.device (run n).gates.carried ≡ 1 = ap (carries_for c.device) e ∙ ap (λ b. cond b 1 0) (eq-eqb c.device c.device refl) in
+        absurd (omega (arith, none, one))
+
+  -- what waits takes no longer than the longest of the level
+  queue_most : (n : ℕ) → is_over (run n) ≡ false → AreAtMost (d + 1) top_cost (gates_in n).gates
+  queue_most n on j lt some = by (sv.askings.each j (in_devices j lt)).cost where
+    by : ((asking_at devices j).cost ≡ device_cost p.devices j) ⊎ (((asking_at devices j).cost ≡ 0) × (asked_of j requests ≡ [])) → (gate_at (gates_in n).gates j).cost ≤ top_cost
+    by (inl same) =
+        let e : (gate_at (gates_in n).gates j).cost ≡ device_cost p.devices j = cost_is (gates_in n).gates p.devices j (asked_costs rule p content inputs requests sv.costs n on) (in_devices j lt) in
+        let w : (asking_at devices j).cost ≤ longest_of (take (d + 1) devices) = within_top devices (d + 1) j lt (omega (arith, in_devices j lt, sv.askings.count)) in
+        omega (arith, e, w, same)
+    by (inr silent) =
+        let none : asked_by j (suc n) ≡ 0 = silent_none j (suc n) silent.1 in
+        let all : asked_by j (suc n) ≡ served_by j n + waiting j (gates_in n) = asked_in rule p content inputs requests n on j in
+        absurd (omega (arith, none, all, some))
 
   is_level : IsLevel here
   is_level = record {
@@ -281,13 +319,13 @@ module _ (rule : ReplacementRule) (p : Setup) (content : List ℕ) (inputs : Lis
           let held : (run n).gates.carried ≡ Some c = sym (arrivals_carried (run n).now requests (record { gates = (run n).gates; dropped = (run n).log.dropped })) ∙ e in
           let w = on_way rule p content inputs requests sv.costs n c still_on held in
           let f : (c.first < n) × NoneWaits (d + 1) (run (suc c.first)).gates =
-          begun_free rule p content inputs requests (d + 1) top_cost sv.costs cost_most (omega (arith, sv.there)) n c still_on held behind (ap (λ t. fits t (run n).core.window top_cost) (sym now_is) ∙ room) in
+          begun_free rule p content inputs requests (d + 1) top_cost sv.costs queue_most n c still_on held behind (ap (λ t. fits t (run n).core.window top_cost) (sym now_is) ∙ room) in
           let there : c.device < length p.devices = there_if p.devices c.device n c.first c.left w.1 w.0 w.2 in
           let r : (asking_at devices c.device).cost ≤ longest_of (drop (d + 1) devices) = within_rest devices (d + 1) c.device behind (omega (arith, there, sv.askings.count)) in
           record {
             begun = c.first;
             before = f.0;
-            lasts = omega (arith, w.0, w.2, r, cost_same c.device there);
+            lasts = omega (arith, w.0, w.2, r, carried_cost n c held there);
             free = λ j lj. let z : waiting j (run (suc c.first)).gates ≡ 0 = f.1 j lj in let a : asked_by j (suc c.first) ≡ served_by j (suc c.first) + waiting j (run (suc c.first)).gates = asked_are rule p content inputs requests j (suc c.first) in omega (arith, z, a);
           }
 
@@ -313,32 +351,56 @@ module _ (rule : ReplacementRule) (p : Setup) (content : List ℕ) (inputs : Lis
           let a : asked_by j (suc n) ≡ served_by j n + waiting j (gates_in n) = asked_in rule p content inputs requests n still_on j in
           let g : served_by j n ≤ served_by j (suc n) = served_grows rule p content inputs requests j n in
           used_for (bus_serves_first (d + 1) top_cost (run n).now (run n).core.window (want_of (run n).core.debt) (gates_in n) (run n).work.memory
-          (asked_most rule p content inputs requests (d + 1) top_cost sv.costs cost_most (omega (arith, sv.there)) n still_on)
+          (queue_most n still_on)
           (record { device = j; there = lj; some = omega (arith, a, g, late) }) calm)
 
     -- ---- the timeline
 
+    -- the cost of a device is told, or it is none and the device makes no request
+    abbrev IsTold : ℕ → Type 0
+    IsTold j = ((asking_at devices j).cost ≡ device_cost p.devices j) ⊎ (((asking_at devices j).cost ≡ 0) × (asked_of j requests ≡ []))
+
+    is_told : (j : ℕ) → j < d + 1 → IsTold j
+    is_told j lj = (sv.askings.each j (in_devices j lj)).cost
+
     whole_one : (j t : ℕ) → j < d + 1 → t ≤ cycles → (asking_at devices j).cost * served_by j t ≤ carried line j t
-    whole_one j t lj le =
-        let e : carried line j t ≡ device_cost p.devices j * served_by j t + part j (device_cost p.devices j) (run t).gates.carried = carried_are j t lj le in
-        let c : (asking_at devices j).cost * served_by j t ≡ device_cost p.devices j * served_by j t = ap (λ m. m * served_by j t) (cost_same j (in_devices j lj)) in
-        omega (arith, e, c)
+    whole_one j t lj le = by (is_told j lj) where
+      by : IsTold j → (asking_at devices j).cost * served_by j t ≤ carried line j t
+      by (inl same) =
+          let e : carried line j t ≡ device_cost p.devices j * served_by j t + part j (device_cost p.devices j) (run t).gates.carried = carried_are j t lj le in
+          let c : (asking_at devices j).cost * served_by j t ≡ device_cost p.devices j * served_by j t = ap (λ m. m * served_by j t) same in
+          omega (arith, e, c)
+      by (inr silent) = let z : (asking_at devices j).cost * served_by j t ≡ 0 = ap (λ m. m * served_by j t) silent.0 ∙ zero-mul (served_by j t) in omega (arith, z)
 
     idle_one : (j t : ℕ) → j < d + 1 → t ≤ cycles → asked_by j t ≤ served_by j t → carried line j t ≤ (asking_at devices j).cost * asked_by j t
-    idle_one j t lj le done =
-        let a : asked_by j t ≡ served_by j t + waiting j (run t).gates = asked_are rule p content inputs requests j t in
-        let z : part j (device_cost p.devices j) (run t).gates.carried ≡ 0 = part_none j t (omega (arith, a, done)) in
-        let e : carried line j t ≡ device_cost p.devices j * served_by j t + part j (device_cost p.devices j) (run t).gates.carried = carried_are j t lj le in
-        let same : asked_by j t ≡ served_by j t = omega (arith, a, done) in
-        let c : (asking_at devices j).cost * asked_by j t ≡ device_cost p.devices j * served_by j t = ap (λ m. m * asked_by j t) (cost_same j (in_devices j lj)) ∙ ap (λ m. device_cost p.devices j * m) same in
-        omega (arith, e, c, z)
+    idle_one j t lj le done = by (is_told j lj) where
+      a : asked_by j t ≡ served_by j t + waiting j (run t).gates
+      a = asked_are rule p content inputs requests j t
 
-    part_one : (j t : ℕ) → j < d + 1 → t ≤ cycles → carried line j t < (asking_at devices j).cost * served_by j t + (asking_at devices j).cost
-    part_one j t lj le =
-        let e : carried line j t ≡ device_cost p.devices j * served_by j t + part j (device_cost p.devices j) (run t).gates.carried = carried_are j t lj le in
-        let c : (asking_at devices j).cost * served_by j t ≡ device_cost p.devices j * served_by j t = ap (λ m. m * served_by j t) (cost_same j (in_devices j lj)) in
-        let l : part j (device_cost p.devices j) (run t).gates.carried < device_cost p.devices j = part_less j t lj in
-        omega (arith, e, c, l, cost_same j (in_devices j lj))
+      z : part j (device_cost p.devices j) (run t).gates.carried ≡ 0
+      z = part_none j t (omega (arith, asked_are rule p content inputs requests j t, done))
+
+      e : carried line j t ≡ device_cost p.devices j * served_by j t + part j (device_cost p.devices j) (run t).gates.carried
+      e = carried_are j t lj le
+
+      by : IsTold j → carried line j t ≤ (asking_at devices j).cost * asked_by j t
+      by (inl told) =
+          let same : asked_by j t ≡ served_by j t = omega (arith, a, done) in
+          let c : (asking_at devices j).cost * asked_by j t ≡ device_cost p.devices j * served_by j t = ap (λ m. m * asked_by j t) told ∙ ap (λ m. device_cost p.devices j * m) same in
+          omega (arith, e, c, z)
+      by (inr silent) =
+          let none : device_cost p.devices j * served_by j t ≡ 0 = ap (λ m. device_cost p.devices j * m) (silent_waits j t silent.1).0 ∙ times_none (device_cost p.devices j) in
+          omega (arith, e, none, z)
+
+    part_one : (j t : ℕ) → j < d + 1 → t ≤ cycles → served_by j t < asked_by j t → carried line j t < (asking_at devices j).cost * served_by j t + (asking_at devices j).cost
+    part_one j t lj le late = by (is_told j lj) where
+      by : IsTold j → carried line j t < (asking_at devices j).cost * served_by j t + (asking_at devices j).cost
+      by (inl same) =
+          let e : carried line j t ≡ device_cost p.devices j * served_by j t + part j (device_cost p.devices j) (run t).gates.carried = carried_are j t lj le in
+          let c : (asking_at devices j).cost * served_by j t ≡ device_cost p.devices j * served_by j t = ap (λ m. m * served_by j t) same in
+          let l : part j (device_cost p.devices j) (run t).gates.carried < device_cost p.devices j = part_less j t lj in
+          omega (arith, e, c, l, same)
+      by (inr silent) = let none : asked_by j t ≡ 0 = silent_none j t silent.1 in absurd (omega (arith, none, late))
 
     pub is_timeline : IsTimeline here line cycles
     is_timeline = record {
@@ -349,7 +411,7 @@ module _ (rule : ReplacementRule) (p : Setup) (content : List ℕ) (inputs : Lis
       grows = λ j t lj. served_grows rule p content inputs requests j t;
       whole = whole_one;
       idle = idle_one;
-      part = λ j t lj le late. part_one j t lj le;
+      part = part_one;
       busy = λ j t lj lt late. busy_one t lt j lj late;
       shuts = shuts;
     }

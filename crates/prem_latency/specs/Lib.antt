@@ -8,3 +8,4 @@ pub mod Opened
 pub mod Waits
 pub mod Images
 pub mod Joined
+pub mod Sets

@@ -13,7 +13,7 @@ use Rattle.prem_sound.specs.Script.Scripts.{AreScripts}
 use Rattle.prem_sound.specs.Serve.Requests.{asked_before, asked_of, transferred_of}
 use Rattle.prem_sound.specs.Resident.Faultless.{IsPolicy}
 use Rattle.prem_sound.specs.Sound.{IsRun}
-use Rattle.prem_sound.specs.Scopes.Charged.{Scoping, charges_by}
+use Rattle.prem_sound.specs.Scopes.Charged.{Scoping, IsScoped, charges_by}
 use Rattle.prem_resp.specs.declared.busy.load.Load.{Load}
 use Rattle.prem_resp.specs.Busy.Busy.{load_at, IsBalanced}
 use Rattle.prem_resp.specs.Deadline.Deadlines.{AreLoads}
@@ -24,21 +24,23 @@ use Rattle.prem_latency.specs.Timeline.{asking_at, closing_at}
 use Rattle.prem_latency.specs.Requests.{AreAskings, states_of, found_of, AreTransferred}
 use Rattle.prem_latency.specs.Closed.{IsOpened, short_of, IsClosedBy}
 
--- of a task with a script, scopes and a load: its jobs end within the busy period of its level, which lasts no longer than its period; and what a
--- job keeps closed, by what its scopes are charged, with the idle time that its release ends
-pub record IsClosingBy (p : Setup) (run : TaskRun) (s : Script) (scoping : Scoping) (loads : List Load) (longest k : ℕ) (t : Closing) : Type 0 where
+-- of a task with a script and a load: its jobs end within the busy period of its level, which lasts no longer than its period; and what a job keeps
+-- closed, by what the scopes of a parting of its own are charged, with the idle time that its release ends
+pub record IsClosingBy (p : Setup) (run : TaskRun) (s : Script) (loads : List Load) (longest k : ℕ) (t : Closing) : Type 0 where
   pub period : t.period ≡ (load_at loads k).period
   pub balanced : IsBalanced loads k t.length
   pub soon : t.length ≤ t.period
   pub opens : ℕ → ℕ
   pub opened : IsOpened p.plant run s opens
+  pub parting : Scoping
+  pub parted : IsScoped p.plant run parting
   pub most : ℕ
-  pub jobs : IsClosedBy p.plant run (short_of s opens longest) (charges_by p.plant run scoping) most
+  pub jobs : IsClosedBy p.plant run (short_of s opens longest) (charges_by p.plant run parting) most
   pub closed : most + longest ≤ t.closed
 
-pub record AreClosingsBy (p : Setup) (runs : ℕ → TaskRun) (scripts : ℕ → Script) (scopings : ℕ → Scoping) (loads : List Load) (longest : ℕ) (tasks : List Closing) : Type 0 where
+pub record AreClosingsBy (p : Setup) (runs : ℕ → TaskRun) (scripts : ℕ → Script) (loads : List Load) (longest : ℕ) (tasks : List Closing) : Type 0 where
   pub count : length tasks ≡ length p.tasks
-  pub each : (k : ℕ) → k < length p.tasks → IsClosingBy p (runs k) (scripts k) (scopings k) loads longest k (closing_at tasks k)
+  pub each : (k : ℕ) → k < length p.tasks → IsClosingBy p (runs k) (scripts k) loads longest k (closing_at tasks k)
 
 -- a run of tasks that keep to their scripts, with devices, loads and tasks of which this is said
 pub record ServesBy (rule : ReplacementRule) (order : OrderRule) (passes : ℕ → ℕ) (p : Setup) (content : List ℕ) (inputs : List (List ℕ)) (requests : List Request) (own : ℕ → ℕ → Bool) (runs : ℕ → TaskRun) (scripts : ℕ → Script) (scopings : ℕ → Scoping) (loads : List Load) (devices : List Asking) (tasks : List Closing) (d : ℕ) : Type 0 where
@@ -47,8 +49,9 @@ pub record ServesBy (rule : ReplacementRule) (order : OrderRule) (passes : ℕ �
   pub are_scripts : AreScripts p passes content inputs own runs scripts
   pub are_loads : AreLoads p runs scripts scopings loads
   pub askings : AreAskings p requests devices
-  pub closings : AreClosingsBy p runs scripts scopings loads (top devices d) tasks
+  pub closings : AreClosingsBy p runs scripts loads (top devices d) tasks
   pub there : d < length p.devices
+  pub asks : 1 ≤ (asking_at devices d).cost
 
 -- then each request of the device that has found room has been transferred so many cycles behind its cycle, unless the run has finished before
 abbrev pub ChargesServeInTime : Type 0

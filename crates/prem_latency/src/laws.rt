@@ -5,6 +5,7 @@ ghost use Rattle.prem_latency.specs.Images.{ChargedImagesServeDevices};
 ghost use Rattle.prem_latency.specs.Joined.{ChargedTasksWait, JoinedImagesServeDevices, PacedTasksWait};
 ghost use Rattle.prem_latency.specs.Opened.{CallsOpen, OpeningsJoin, QuietListsOpen, StrandsClose, TracesOpen};
 ghost use Rattle.prem_latency.specs.Requests.{AllFindRoom, NoneIsDropped, RequestsAreServed};
+ghost use Rattle.prem_latency.specs.Sets.{SetsServeDevices};
 ghost use Rattle.prem_latency.specs.Timeline.{LevelsAreEnough, QueuesHaveRoom, RequestsEndInTime};
 ghost use Rattle.prem_latency.specs.Wait.{WaitsAreFound};
 ghost use Rattle.prem_latency.specs.Waits.{ChargesDropNone, ChargesServeEach, ChargesServeInTime};
@@ -95,4 +96,11 @@ pub fn joined_images_serve_devices()
 pub fn charged_tasks_wait()
     ensures charged { ChargedTasksWait }
     ensures paced { PacedTasksWait }
+{}
+
+/// And so of a set that breaks no rule, at any lawful places, whose tasks have busy periods within their periods by what their jobs take at
+/// most, and keep the bus closed for what they take with calls that last until a transfer may start: each device that is named is served in
+/// time, where those that aren't named make no request.
+pub fn sets_serve_devices()
+    ensures { SetsServeDevices }
 {}
