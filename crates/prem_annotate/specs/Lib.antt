@@ -1,2 +1,4 @@
 pub mod Seeing
 pub mod Ranges
+pub mod Regions
+pub mod Notes

@@ -1,8 +1,12 @@
 //! The annotations that a program needs.
 //!
+//! - `notes`: the annotations of a program's functions, as a value.
 //! - `ranges`: the ranges of parameters, from the last function to the first.
+//! - `regions`: the regions of marked functions.
 //! - `seeing`: a walk over a function that gives its accesses of globals, and the ranges of the arguments that it passes.
 #![tactic(auto)]
 
+pub mod notes;
 pub mod ranges;
+pub mod regions;
 pub mod seeing;

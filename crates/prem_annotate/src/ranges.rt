@@ -6,4 +6,4 @@ mod slots;
 
 pub use inferring::infer;
 pub use outlook::{Outlook, regard};
-pub use slots::{Slot, add_all, empty_rows};
+pub use slots::{Slot, add_all, empty_rows, join};

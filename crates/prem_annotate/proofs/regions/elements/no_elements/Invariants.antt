@@ -1,0 +1,9 @@
+use Rattle.std.proofs.Common.{◌≡◌, ◌++◌, map, drop}
+use Rattle.prem_syntax.specs.SyntaxOf.{global_of}
+use Rattle.prem_annotate.specs.Regions.Elements.{elements_of}
+use Rattle.prem_annotate.specs.Regions.Found.{no_elements}
+use Rattle.prem_annotate.proofs.regions.elements.no_elements.Given as goal
+
+abbrev pub invariant-loop-global : goal.invariant-loop-global
+invariant-loop-global l =
+    elements_of l.all.items ++ no_elements (map (λ g. global_of g.now) (drop l.global-index l.globals)) ≡ no_elements (map (λ g. global_of g.now) l.globals)

@@ -1,0 +1,12 @@
+use Rattle.std.proofs.Common.{map, drop, arith}
+use Rattle.prem_list.specs.Sequence.{items_of}
+use Rattle.prem_syntax.specs.SyntaxOf.{global_of, region_of}
+use Rattle.prem_annotate.specs.Regions.Elements.{elements_of}
+use Rattle.prem_annotate.specs.Regions.Found.{regions_around}
+use Rattle.prem_annotate.proofs.Reaching.{regions_end}
+use Rattle.prem_annotate.proofs.regions.found.regions_around.Goals as goal
+
+pub returns-then-k-elements : goal.returns-then-k-elements
+returns-then-k-elements c =
+    regions_end c.args.at (map (λ g. global_of g.now) (drop c.loop-k.k c.args.globals.now)) c.args.elements.now c.loop-k.k (map region_of (items_of c.loop-k.all))
+    (regions_around c.args.at (map (λ g. global_of g.now) c.args.globals.now) (elements_of c.args.elements.now)) (omega arith) c.loop-k.invariant

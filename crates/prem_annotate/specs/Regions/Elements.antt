@@ -1,0 +1,36 @@
+-- The elements of globals that functions access: for each global the least range around them.
+use Rattle.std.specs.Prelude.{ℕ, ◌+◌, Bool, true, false, List, [], ◌∷◌, map, Option, Some}
+use Rattle.std.specs.Option.{option_map}
+use Rattle.prem_word.specs.Ranges.{Span}
+use Rattle.prem_syntax.specs.Reach.{is_in}
+use Rattle.prem_annotating.specs.Seen.{Touch}
+use Rattle.prem_annotating.specs.Inferred.{join_with}
+use Rattle.prem_analysis.specs.declared.ranging.range.Range.{Range}
+use Rattle.prem_analysis.specs.Ranging.View.{span_of}
+use Rattle.prem_annotate.specs.Ranges.Slots.{at_number}
+use Rattle.prem_annotate.specs.Ranges.Outlook.{Outlook}
+
+-- in memory
+abbrev pub elements_of : List (Option Range) → List (Option Span)
+elements_of all = map (option_map span_of) all
+
+abbrev pub widened : Span → Option Span → Option Span
+widened r s = Some (join_with r s)
+
+-- ---- more accesses
+
+abbrev pub with_touch : Touch → List (Option Span) → List (Option Span)
+with_touch t all = at_number t.global (widened t.elements) all
+
+abbrev pub with_touches : List Touch → List (Option Span) → List (Option Span)
+with_touches [] all = all
+with_touches (t ∷ ts) all = with_touch t (with_touches ts all)
+
+abbrev pub with_touches_if : Bool → List Touch → List (Option Span) → List (Option Span)
+with_touches_if true ts all = with_touches ts all
+with_touches_if false ts all = all
+
+-- those of the functions of a set, of the functions from number n on
+abbrev pub with_members : List Bool → ℕ → List Outlook → List (Option Span) → List (Option Span)
+with_members set n [] all = all
+with_members set n (o ∷ os) all = with_touches_if (is_in set n) o.sight.touches (with_members set (n + 1) os all)
