@@ -5,7 +5,7 @@ mod places;
 mod refusals;
 
 pub use blocks::blocks_of;
-pub use late::late_rules;
+pub use late::{bounds_of_placed, late_rules};
 pub use places::places_of;
 pub use prem_place::content::Block;
 pub use prem_place::placed::PlacedTask;

@@ -6,6 +6,7 @@ ghost use Rattle.prem_layout.specs.Rules.{refused_by, over_tasks, group_seven, g
 ghost use Rattle.prem_place.specs.Placed.PlacedOf.{IsPlacedTask, coded_of, lines_of, placed_of};
 ghost use Rattle.prem_place.specs.Verdict.Told.{bounds_of, told_from};
 ghost use Rattle.prem_compile.specs.Late.Late.{EndsLate, broken_behind};
+ghost use Rattle.prem_compile.specs.Bounding.{broken_up_to_bounds};
 
 use crate::late::refusals::{blamed, refused_whole};
 use prem_foot::Lines;
@@ -85,6 +86,25 @@ fn logs(alloc: Global, tasks: &[PlacedTask]) -> Result<(), Stop>
         Some(LogRule::Outputs) => Err(refused_whole(alloc, Rule::Outputs)),
         Some(LogRule::Intervals) => Err(refused_whole(alloc, Rule::Intervals)),
     }
+}
+
+/// What is told of the marked functions and jobs of placed tasks, or the first rule on conflicts and then on bounds that they
+/// break, each for all tasks before the next.
+pub fn bounds_of_placed(
+    alloc: Global,
+    tasks: &[PlacedTask],
+    plant: &Plant,
+) -> Result<Vec<TaskBounds>, Stop>
+    requires tasks { AllByRecursion (IsPlacedTask plant.now) tasks.now }
+    requires count { length tasks.now ≤ 16 }
+    requires plant { IsPlant plant.now }
+    ensures ends { EndsLate result (broken_up_to_bounds plant.now (map placed_of tasks.now)) }
+    ensures told { IfOk result (λ all. map bounds_of all.items ≡ told_from plant.now 0 (map placed_of tasks.now)) }
+{
+    let lines = footprints_of_all(alloc, tasks, plant)?;
+    conflicts(alloc, tasks, &lines, plant)?;
+    let all = bounds(alloc, tasks, &lines, plant)?;
+    Ok(all)
 }
 
 /// What is told of the marked functions and jobs of placed tasks, or the first rule that they break: first those on
