@@ -1,0 +1,3 @@
+pub mod Unstated
+pub mod Stated
+pub mod Annotating
