@@ -1,8 +1,7 @@
 -- The stages of a run of an image file, joined.
 use Rattle.std.specs.Prelude.{Bool, unwrap_or}
-use Rattle.std.proofs.Common.{◌≡◌, ◌≢◌, ℕ, List, Option, Some, Result, Ok, Err, IsTrue, refl, ap, ◌∙◌, sym}
+use Rattle.std.proofs.Common.{◌≡◌, ◌≢◌, ℕ, List, Some, Result, Ok, Err, IsTrue, refl, ap, ◌∙◌, sym}
 use Rattle.prem_list.specs.Sequence.{items_of}
-use Rattle.prem_io.specs.Files.{Files}
 use Rattle.prem_lru.specs.Rules.{rule_of}
 use Rattle.prem_gate.specs.declared.request.RunInput.{RunInput}
 use Rattle.prem_image.specs.declared.image.Image.{Image}
@@ -24,39 +23,20 @@ use Rattle.prem_report.specs.Report.{report_text}
 use Rattle.prem_report.specs.Fitting.Named.{names_for}
 use Rattle.prem_answer.specs.declared.status.Status.{Status}
 use Rattle.prem_answer.specs.declared.answer.Telling.{Telling}
-use Rattle.prem_answer.specs.Stages.{Reply, Reads, Stage, IsReadAs, IsGiven, IsFine, is_settled, form_by, form_reply, reading}
-use Rattle.prem_answer.proofs.Reading.{goes_on, ends_there, gives_at_once, reading_fine}
+use Rattle.prem_answer.specs.Stages.{Reply, Reads, Stage, IsFine, is_settled, form_by, form_reply, reading}
+use Rattle.prem_answer.specs.Tool.{IsSettled}
+use Rattle.prem_answer.proofs.Reading.{reading_fine}
 use Rattle.prem_exec.specs.Forms.{RunText, image_in, image_why, line_why, run_in, run_in_by}
 use Rattle.prem_exec.specs.Exec.{exec_stages, image_limit, run_limit, image_of_bytes, run_of_bytes, run_reply, exec_limit, stop_status, stop_at, state_at, told_reply, input_of}
 
 abbrev reply : Status → List ℕ → Reply
 reply status text = (status, text)
 
-abbrev told_run : RunAsked → ImageText → RunText → Stage Reply
+abbrev pub told_run : RunAsked → ImageText → RunText → Stage Reply
 told_run asked i input reads = Ok (run_reply i input asked.intervals (exec_limit asked.cycles))
 
-abbrev behind_image : RunAsked → ImageText → Stage Reply
+abbrev pub behind_image : RunAsked → ImageText → Stage Reply
 behind_image asked i = reading run_limit asked.run (run_of_bytes i asked.run) (told_run asked i)
-
-pub run_told : (told : Option Files) (asked : RunAsked) (i : ImageText) (input : RunText) (reply : Reply) →
-    IsReadAs told image_limit asked.of (image_of_bytes asked.of) (Ok i) → IsReadAs told run_limit asked.run (run_of_bytes i asked.run) (Ok input) →
-    reply ≡ run_reply i input asked.intervals (exec_limit asked.cycles) → IsGiven told (exec_stages asked) (Ok reply)
-run_told told asked i input reply image run is =
-    let last : IsGiven told (told_run asked i input) (Ok reply) =
-    let (reads, (are, same)) = gives_at_once told (Ok reply) in (reads, (are, same ∙ ap Ok is)) in
-    goes_on told image_limit asked.of (image_of_bytes asked.of) (behind_image asked) i (Ok reply) image
-    (goes_on told run_limit asked.run (run_of_bytes i asked.run) (told_run asked i) input (Ok reply) run last)
-
-pub no_run : (told : Option Files) (asked : RunAsked) (i : ImageText) (reply : Reply) →
-    IsReadAs told image_limit asked.of (image_of_bytes asked.of) (Ok i) → IsReadAs told run_limit asked.run (run_of_bytes i asked.run) (Err reply) →
-    IsGiven told (exec_stages asked) (Err reply)
-no_run told asked i reply image run =
-    goes_on told image_limit asked.of (image_of_bytes asked.of) (behind_image asked) i (Err reply) image
-    (ends_there told run_limit asked.run (run_of_bytes i asked.run) (told_run asked i) reply run)
-
-pub no_image : (told : Option Files) (asked : RunAsked) (reply : Reply) →
-    IsReadAs told image_limit asked.of (image_of_bytes asked.of) (Err reply) → IsGiven told (exec_stages asked) (Err reply)
-no_image told asked reply image = ends_there told image_limit asked.of (image_of_bytes asked.of) (behind_image asked) reply image
 
 -- ---- answers that may be given
 
@@ -74,13 +54,10 @@ stops_fine (Trap task pc cause) = refl
 stops_fine (LogFull size) = refl
 stops_fine Limit = refl
 
-abbrev Settled : Reply → Type 0
-Settled reply = IsTrue (is_settled reply.0)
-
-pub exec_is_fine : (asked : RunAsked) (reads : Reads) → IsFine (λ reply. IsTrue (is_settled reply.0)) (exec_stages asked reads)
+pub exec_is_fine : (asked : RunAsked) (reads : Reads) → IsFine IsSettled (exec_stages asked reads)
 exec_is_fine asked reads =
-    reading_fine Settled image_limit asked.of (image_of_bytes asked.of) (behind_image asked) (λ bytes. images_fine asked.of (read_as bytes))
-    (λ i rest. reading_fine Settled run_limit asked.run (run_of_bytes i asked.run) (told_run asked i)
+    reading_fine IsSettled image_limit asked.of (image_of_bytes asked.of) (behind_image asked) (λ bytes. images_fine asked.of (read_as bytes))
+    (λ i rest. reading_fine IsSettled run_limit asked.run (run_of_bytes i asked.run) (told_run asked i)
     (λ bytes. runs_fine asked.run (run_of bytes (names_for i.tasks i.devices)))
     (λ input more. stops_fine (stop_at (exec_limit asked.cycles) (state_at i input (exec_limit asked.cycles)))) rest) reads
 

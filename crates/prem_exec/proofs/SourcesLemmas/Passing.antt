@@ -19,7 +19,7 @@ use Rattle.prem_answer.specs.declared.answer.Halt.TheVariants.{Answered, ReadFau
 use Rattle.prem_answer.specs.Stages.{Reply, Stage, Comes, IsReadAsBy, IsGiven, form_by, reply_of}
 use Rattle.prem_answer.proofs.Reading.{goes_on_by, ends_there_by}
 use Rattle.prem_exec.specs.Forms.{run_in_by}
-use Rattle.prem_exec.specs.Sources.Sources.{Passes, input_of, reading_behind, reading_set_by, reading_sources, reading_tasks_by, set_in_by, set_limit, set_of_bytes_by, set_why, set_with, source_limit, task_of_source}
+use Rattle.prem_exec.specs.Sources.Sources.{Passes, input_of, reading_behind, reading_sources, reading_tasks_by, set_in_by, set_why, set_with, source_limit, task_of_source}
 
 -- ---- what a call gives
 
@@ -63,19 +63,6 @@ sources_read how told s tasks all is passes next answer leads =
 pub sources_unread : (how : Telling) (told : Option Files) (s : SetData) (reply : Reply) → Passes told (reading_behind how [] s.tasks) (Err reply) →
     Passes told (reading_sources how s) (Err reply)
 sources_unread how told s reply passes next answer leads = passes (λ ts. next (set_with s ts)) answer leads
-
--- ---- the whole set
-
-pub set_passes : (how : Telling) (told : Option Files) (name : List ℕ) (s : SetData) (given : Result TaskSet Reply) →
-    IsReadAsBy how told set_limit name (set_of_bytes_by how name) (Ok s) → Passes told (reading_sources how s) given → Passes told (reading_set_by how name) given
-set_passes how told name s given read passes next answer leads =
-    goes_on_by how told set_limit name (set_of_bytes_by how name) (λ s. reading_sources how s next) s answer read (passes next answer leads)
-
-pub set_unread : (how : Telling) (told : Option Files) (name : List ℕ) (reply : Reply) → IsReadAsBy how told set_limit name (set_of_bytes_by how name) (Err reply) →
-    Passes told (reading_set_by how name) (Err reply)
-set_unread how told name reply read next answer leads =
-    stops told (reading_set_by how name next) reply answer
-    (ends_there_by how told set_limit name (set_of_bytes_by how name) (λ s. reading_sources how s next) reply read) leads
 
 -- ---- forms
 

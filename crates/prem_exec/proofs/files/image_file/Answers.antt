@@ -1,14 +1,13 @@
-use Rattle.std.specs.Prelude.{ℕ, List, Option, Vec}
-use Rattle.std.specs.declared.alloc.Global.{Global}
+use Rattle.std.specs.Prelude.{Option}
 use Rattle.std.proofs.Common.{◌≡◌, ◌≢◌, ap, ◌∙◌, sym, subst, rules}
 use Rattle.prem_io.specs.Files.{Files}
-use Rattle.prem_image.specs.declared.image.Image.{Image}
-use Rattle.prem_image.specs.Text.{ImageText, image_text}
+use Rattle.prem_image.specs.Text.{image_text}
 use Rattle.prem_imagefile.specs.declared.fail.ImageFail.TheVariants.{OutOfMemory as NoMemory}
 use Rattle.prem_imagefile.specs.Reading.{read_as, Fails}
-use Rattle.prem_answer.specs.Stages.{IsRead, IsReadAs}
-use Rattle.prem_answer.proofs.Reading.{halt_passes, made_ok, not_made}
+use Rattle.prem_answer.specs.declared.answer.Telling.TheVariants.{Whole}
+use Rattle.prem_answer.proofs.Reading.{made_ok}
 use Rattle.prem_exec.specs.Exec.{image_limit, image_of_bytes}
+use Rattle.prem_exec.proofs.Behind.{read_halts}
 use Rattle.prem_exec.proofs.Stages.{image_read, image_refused}
 use Rattle.prem_exec.proofs.files.image_file.Goals as goal
 
@@ -16,8 +15,7 @@ pub returns-in-Err-clause-image : goal.returns-in-Err-clause-image
 returns-in-Err-clause-image g c =
     let name = c.args.name.now in
     let told : Option Files = g.S.Store.files c.args.store.now in
-    halt_passes {X = Vec ℕ Global} {Y = List ℕ} {V = Image} {W = ImageText} (λ v. v.items) image_text (IsRead told image_limit name) (IsReadAs told image_limit name (image_of_bytes name)) c.in-Err.halt
-    (λ reply read. not_made told image_limit name (image_of_bytes name) reply read) c.in-Err.ensures.read
+    read_halts Whole told image_limit name (image_of_bytes name) image_text c.in-Err.halt c.in-Err.ensures.read
 
 pub returns-in-Ok-read_image-clause-image : goal.returns-in-Ok-read_image-clause-image
 returns-in-Ok-read_image-clause-image g c =

@@ -1,27 +1,22 @@
-use Rattle.std.specs.Prelude.{ℕ, List, Option, Vec}
-use Rattle.std.specs.declared.alloc.Global.{Global}
+use Rattle.std.specs.Prelude.{Option}
 use Rattle.std.proofs.Common.{ap, ◌∙◌, sym, subst}
 use Rattle.prem_io.specs.Files.{Files}
-use Rattle.prem_gate.specs.declared.request.RunInput.{RunInput}
 use Rattle.prem_image.specs.Text.{image_text}
 use Rattle.prem_set.specs.Run.Run.{run_of}
 use Rattle.prem_set.specs.Run.Views.{IsRun}
 use Rattle.prem_report.specs.Fitting.Named.{names_in}
 use Rattle.prem_answer.specs.declared.answer.Telling.TheVariants.{Whole}
-use Rattle.prem_answer.specs.Stages.{IsRead, IsReadAs}
-use Rattle.prem_answer.proofs.Reading.{halt_passes, made_ok, not_made}
-use Rattle.prem_exec.specs.Forms.{RunText}
+use Rattle.prem_answer.proofs.Reading.{made_ok}
 use Rattle.prem_exec.specs.Exec.{run_limit, run_of_bytes, input_of}
+use Rattle.prem_exec.proofs.Behind.{read_halts}
 use Rattle.prem_exec.proofs.Stages.{run_read, run_refused}
 use Rattle.prem_exec.proofs.files.run_file.Goals as goal
 
 pub returns-in-Err-clause-input : goal.returns-in-Err-clause-input
 returns-in-Err-clause-input g c =
     let name = c.args.name.now in
-    let i = image_text c.args.image.now in
     let told : Option Files = g.S.Store.files c.args.store.now in
-    halt_passes {X = Vec ℕ Global} {Y = List ℕ} {V = RunInput} {W = RunText} (λ v. v.items) input_of (IsRead told run_limit name) (IsReadAs told run_limit name (run_of_bytes i name)) c.in-Err.halt
-    (λ reply read. not_made told run_limit name (run_of_bytes i name) reply read) c.in-Err.ensures.read
+    read_halts Whole told run_limit name (run_of_bytes (image_text c.args.image.now) name) input_of c.in-Err.halt c.in-Err.ensures.read
 
 pub returns-in-Ok-read_run_of-clause-input : goal.returns-in-Ok-read_run_of-clause-input
 returns-in-Ok-read_run_of-clause-input g c =

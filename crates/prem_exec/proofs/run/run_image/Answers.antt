@@ -34,19 +34,4 @@ returns-clause-state g c =
 
 pub returns-clause-stop : goal.returns-clause-stop
 returns-clause-stop g c =
-    let image = c.args.image.now in
-    let input = c.args.input.now in
-    let m = c.in_ok-machine.machine in
-    let limit = c.args.limit in
-    let left = limit - (state_of m).now in
-    let rule = rule_of image.plant.policy in
-    let first = image_run rule image input 0 in
-    let whole : limit - 0 ≡ limit = omega arith in
-    let state = c.run_to-stop.ensures.state
-    ∙ ap (λ p. cycles_of (rule_in p) p (requests_in m) left (state_of m)) c.in_ok-machine.ensures.setup
-    ∙ ap (λ r. cycles_of rule (setup_of image) r left (state_of m)) c.in_ok-machine.ensures.requests
-    ∙ ap (λ s. cycles_of rule (setup_of image) (items_of input.requests) (limit - s.now) s) c.in_ok-machine.ensures.state
-    ∙ ap (λ n. cycles_of rule (setup_of image) (items_of input.requests) (limit - n) first) (starts_at image input)
-    ∙ ap (λ n. cycles_of rule (setup_of image) (items_of input.requests) n first) whole
-    ∙ goes_from_start image input limit in
-    stop_is c.run_to-stop.result limit (state_of c.run_to-stop.new.self) c.run_to-stop.ensures.stop ∙ ap (stop_at limit) state
+    stop_is c.run_to-stop.result c.args.limit (state_of c.run_to-stop.new.self) c.run_to-stop.ensures.stop ∙ ap (stop_at c.args.limit) (returns-clause-state g c)

@@ -1,16 +1,13 @@
-use Rattle.std.specs.Prelude.{ℕ, List, Option, Vec}
-use Rattle.std.specs.declared.alloc.Global.{Global}
+use Rattle.std.specs.Prelude.{Option}
 use Rattle.std.proofs.Common.{ap, ◌∙◌, sym, subst}
 use Rattle.prem_io.specs.Files.{Files}
-use Rattle.prem_gate.specs.declared.request.RunInput.{RunInput}
 use Rattle.prem_tasks.specs.SetOf.{set_of}
 use Rattle.prem_set.specs.Run.Names.{KnownNames}
 use Rattle.prem_set.specs.Run.Run.{run_of}
 use Rattle.prem_set.specs.Run.Views.{IsRun}
-use Rattle.prem_answer.specs.Stages.{IsReadBy, IsReadAsBy}
-use Rattle.prem_answer.proofs.Reading.{halt_passes, made_ok_by, not_made_by}
-use Rattle.prem_exec.specs.Forms.{RunText}
+use Rattle.prem_answer.proofs.Reading.{made_ok_by}
 use Rattle.prem_exec.specs.Sources.Sources.{input_of, names_of, run_limit, run_of_bytes_by}
+use Rattle.prem_exec.proofs.Behind.{read_halts}
 use Rattle.prem_exec.proofs.Stages.{run_refused}
 use Rattle.prem_exec.proofs.SourcesLemmas.Passing.{run_formed}
 use Rattle.prem_exec.proofs.sources.run.read_run_file_by.Goals as goal
@@ -19,10 +16,8 @@ pub returns-in-Err-clause-input : goal.returns-in-Err-clause-input
 returns-in-Err-clause-input g c =
     let how = c.args.telling in
     let name = c.args.name.now in
-    let set = set_of c.args.set.now in
     let told : Option Files = g.S.Store.files c.args.store.now in
-    halt_passes {X = Vec ℕ Global} {Y = List ℕ} {V = RunInput} {W = RunText} (λ v. v.items) input_of (IsReadBy how told run_limit name) (IsReadAsBy how told run_limit name (run_of_bytes_by how set name)) c.in-Err.halt
-    (λ reply read. not_made_by how told run_limit name (run_of_bytes_by how set name) reply read) c.in-Err.ensures.read
+    read_halts how told run_limit name (run_of_bytes_by how (set_of c.args.set.now) name) input_of c.in-Err.halt c.in-Err.ensures.read
 
 pub returns-in-Ok-read_run-clause-input : goal.returns-in-Ok-read_run-clause-input
 returns-in-Ok-read_run-clause-input g c =

@@ -1,14 +1,12 @@
-use Rattle.std.specs.Prelude.{ℕ, List, Option, Vec}
-use Rattle.std.specs.declared.alloc.Global.{Global}
+use Rattle.std.specs.Prelude.{Option}
 use Rattle.std.proofs.Common.{rules, ◌≡◌, ◌≢◌, subst, Ok}
 use Rattle.prem_io.specs.Files.{Files}
-use Rattle.prem_set.specs.SetFile.{SetData, set_of}
+use Rattle.prem_set.specs.SetFile.{set_of}
 use Rattle.prem_set.specs.Views.{set_view, SetFails}
 use Rattle.prem_set.specs.declared.fault.SetFail.TheVariants.{OutOfMemory as NoMemory}
-use Rattle.prem_set.specs.declared.set_file.SetFile.{SetFile}
-use Rattle.prem_answer.specs.Stages.{IsReadBy, IsReadAsBy}
-use Rattle.prem_answer.proofs.Reading.{halt_passes, made_ok_by, not_made_by}
+use Rattle.prem_answer.proofs.Reading.{made_ok_by}
 use Rattle.prem_exec.specs.Sources.Sources.{set_limit, set_of_bytes_by}
+use Rattle.prem_exec.proofs.Behind.{read_halts}
 use Rattle.prem_exec.proofs.SourcesLemmas.Passing.{set_formed, set_refused}
 use Rattle.prem_exec.proofs.sources.set.read_set_file.Goals as goal
 
@@ -17,8 +15,7 @@ returns-in-Err-clause-set g c =
     let how = c.args.telling in
     let name = c.args.name.now in
     let told : Option Files = g.S.Store.files c.args.store.now in
-    halt_passes {X = Vec ℕ Global} {Y = List ℕ} {V = SetFile} {W = SetData} (λ v. v.items) set_view (IsReadBy how told set_limit name) (IsReadAsBy how told set_limit name (set_of_bytes_by how name)) c.in-Err.halt
-    (λ reply read. not_made_by how told set_limit name (set_of_bytes_by how name) reply read) c.in-Err.ensures.read
+    read_halts how told set_limit name (set_of_bytes_by how name) set_view c.in-Err.halt c.in-Err.ensures.read
 
 pub returns-in-Ok-read_set-clause-set : goal.returns-in-Ok-read_set-clause-set
 returns-in-Ok-read_set-clause-set g c =

@@ -1,23 +1,21 @@
-use Rattle.std.specs.Prelude.{ℕ, List, Option, Vec}
-use Rattle.std.specs.declared.alloc.Global.{Global}
+use Rattle.std.specs.Prelude.{Option}
 use Rattle.std.proofs.Common.{◌≡◌, ap, ◌∙◌, sym, subst, Ok, Err}
 use Rattle.prem_io.specs.Files.{Files}
-use Rattle.prem_tasks.specs.declared.set.TaskText.{TaskText as TaskTree}
-use Rattle.prem_tasks.specs.Broken.{TaskText}
 use Rattle.prem_tasks.specs.SetOf.{task_of}
-use Rattle.prem_answer.specs.Stages.{IsReadBy, IsReadAsBy}
-use Rattle.prem_answer.proofs.Reading.{halt_passes, made_ok_by, not_made_by}
+use Rattle.prem_answer.specs.Stages.{Comes, IsReadAsBy}
+use Rattle.prem_answer.proofs.Reading.{made_ok_by}
 use Rattle.prem_exec.specs.Sources.Sources.{source_limit, task_of_source, task_with}
+use Rattle.prem_exec.proofs.Behind.{read_halts}
 use Rattle.prem_exec.proofs.sources.tasks.read_task.Goals as goal
 
 pub returns-in-Err-clause-task : goal.returns-in-Err-clause-task
 returns-in-Err-clause-task g c =
     let how = c.args.telling in
     let e = c.args.entry.now in
-    let name = c.text.result.now in
     let told : Option Files = g.S.Store.files c.args.store.now in
-    halt_passes {X = Vec ℕ Global} {Y = List ℕ} {V = TaskTree} {W = TaskText} (λ v. v.items) task_of (IsReadBy how told source_limit name) (IsReadAsBy how told source_limit e.source (task_of_source e)) c.in-Err.halt
-    (λ reply read. subst (λ n. IsReadAsBy how told source_limit n (task_of_source e) (Err reply)) c.text.ensures (not_made_by how told source_limit name (task_of_source e) reply read)) c.in-Err.ensures.read
+    let halt = c.in-Err.halt in
+    subst (λ name. Comes task_of (IsReadAsBy how told source_limit name (task_of_source e)) (Err halt)) c.text.ensures
+    (read_halts how told source_limit c.text.result.now (task_of_source e) task_of halt c.in-Err.ensures.read)
 
 pub returns-clause-task : goal.returns-clause-task
 returns-clause-task g c =
