@@ -1,6 +1,5 @@
 -- The stages joined.
-use Rattle.std.proofs.Common.{◌≡◌, ℕ, List, Option, None, Some, Result, Ok, Err, refl, ap, ◌∙◌, sym}
-use Rattle.prem_io.specs.Files.{Files}
+use Rattle.std.proofs.Common.{◌≡◌, ℕ, List, Option, None, Some, refl, ap, ◌∙◌, sym}
 use Rattle.prem_layout.specs.Rules.{Refusal}
 use Rattle.prem_tasks.specs.Told.{Told}
 use Rattle.prem_tasks.specs.Broken.{TaskSet, broken}
@@ -8,10 +7,8 @@ use Rattle.prem_compile.specs.declared.compiled.Compiled.{Compiled}
 use Rattle.prem_compile.specs.CompiledOf.{IsCompiled}
 use Rattle.prem_answer.specs.declared.answer.Telling.TheVariants.{Brief}
 use Rattle.prem_answer.specs.declared.status.Status.TheVariants as status
-use Rattle.prem_answer.specs.Stages.{Reply, Reads, IsFine, IsGiven}
+use Rattle.prem_answer.specs.Stages.{Reply, Reads, IsFine}
 use Rattle.prem_answer.specs.Tool.{IsSettled}
-use Rattle.prem_answer.proofs.Reading.{gives_at_once}
-use Rattle.prem_exec.specs.Sources.Sources.{Passes, reading_set_by}
 use Rattle.prem_exec.proofs.SourcesLemmas.Fine.{set_fine_by}
 use Rattle.prem_resp.specs.Stages.{fit_reply, fit_stages, judged_reply, refused_text}
 use Rattle.prem_resp.specs.Told.{text_by}
@@ -30,12 +27,6 @@ tested_is set c reply is told = told ∙ ap done (text_is set c is) ∙ ap (judg
 -- one that breaks a rule
 pub refused_is : (set : TaskSet) (refusal : Refusal Told) (reply : Reply) → broken set ≡ Some refusal → reply ≡ (status.Refused, refused_text set.tasks refusal) → reply ≡ fit_reply set
 refused_is set refusal reply is told = told ∙ ap (judged_reply set) (sym is)
-
-pub set_told : (told : Option Files) (name : List ℕ) (set : TaskSet) (given : Result Reply Reply) → Passes told (reading_set_by Brief name) (Ok set) → given ≡ Ok (fit_reply set) → IsGiven told (fit_stages name) given
-set_told told name set given passes is = passes behind_set given (let (reads, (are, same)) = gives_at_once told given in (reads, (are, is)))
-
-pub no_set : (told : Option Files) (name : List ℕ) (reply : Reply) → Passes told (reading_set_by Brief name) (Err reply) → IsGiven told (fit_stages name) (Err reply)
-no_set told name reply passes = passes behind_set (Err reply) refl
 
 -- ---- every answer may be given
 

@@ -1,14 +1,13 @@
-use Rattle.std.specs.Prelude.{ℕ, List, Option, Vec}
-use Rattle.std.specs.declared.alloc.Global.{Global}
+use Rattle.std.specs.Prelude.{Option}
 use Rattle.std.proofs.Common.{rules, ◌≡◌, ◌≢◌, subst, Ok, ap, ◌∙◌}
 use Rattle.prem_io.specs.Files.{Files}
-use Rattle.prem_set.specs.SetFile.{SetData, set_of}
+use Rattle.prem_set.specs.SetFile.{set_of}
 use Rattle.prem_set.specs.Views.{set_view, SetFails}
 use Rattle.prem_set.specs.declared.fault.SetFail.TheVariants.{OutOfMemory as NoMemory}
-use Rattle.prem_set.specs.declared.set_file.SetFile.{SetFile}
 use Rattle.prem_answer.specs.declared.status.Status.TheVariants.{Refused}
-use Rattle.prem_answer.specs.Stages.{IsRead, IsReadAs}
-use Rattle.prem_answer.proofs.Reading.{halt_passes, made_ok, not_made}
+use Rattle.prem_answer.specs.declared.answer.Telling.TheVariants.{Whole}
+use Rattle.prem_answer.proofs.Reading.{made_ok}
+use Rattle.prem_exec.proofs.Behind.{read_halts}
 use Rattle.prem_lint.specs.Forms.{form_text, set_limit, stated_in}
 use Rattle.prem_lint.proofs.Stated.{stated_formed, stated_refused}
 use Rattle.prem_lint.proofs.form.read_stated.Goals as goal
@@ -17,8 +16,7 @@ pub returns-in-Err-clause-set : goal.returns-in-Err-clause-set
 returns-in-Err-clause-set g c =
     let name = c.args.name.now in
     let told : Option Files = g.S.Store.files c.args.store.now in
-    halt_passes {X = Vec ℕ Global} {Y = List ℕ} {V = SetFile} {W = SetData} (λ v. v.items) set_view (IsRead told set_limit name) (IsReadAs told set_limit name (stated_in name)) c.in-Err.halt
-    (λ reply read. not_made told set_limit name (stated_in name) reply read) c.in-Err.ensures.read
+    read_halts Whole told set_limit name (stated_in name) set_view c.in-Err.halt c.in-Err.ensures.read
 
 pub returns-in-Ok-read_set-clause-set : goal.returns-in-Ok-read_set-clause-set
 returns-in-Ok-read_set-clause-set g c =
