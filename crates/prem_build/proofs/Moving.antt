@@ -1,10 +1,9 @@
 -- What is told of a set with moved parts is the answer.
 use Rattle.std.specs.Prelude.{nat_lt, slice_index_or}
 use Rattle.std.specs.List.{AllByRecursion}
-use Rattle.std.proofs.Common.{◌≡◌, ◌<◌, ◌≤◌, ℕ, Bool, true, false, cond, List, [], ◌∷◌, Option, None, Some, Result, Ok, Err, IsTrue, map, refl, ap, ◌∙◌, sym, subst}
+use Rattle.std.proofs.Common.{◌≡◌, ◌<◌, ◌≤◌, ℕ, Bool, true, false, cond, List, [], ◌∷◌, Option, None, Some, Result, Ok, Err, map, refl, ap, ◌∙◌, sym, subst}
 use Rattle.std.proofs.lemmas.Bool.{lt-ltb, le-ltb}
 use Rattle.prem_list.specs.Sequence.{items_of}
-use Rattle.prem_io.specs.Files.{Files}
 use Rattle.prem_plant.specs.declared.plant.Plant.{Plant}
 use Rattle.prem_plant.specs.declared.layout.PartSize.{PartSize}
 use Rattle.prem_plant.specs.Places.{Extent, last_end}
@@ -28,9 +27,8 @@ use Rattle.prem_compile.specs.declared.parts.Parts.{Parts}
 use Rattle.prem_compile.proofs.Colored.{colors_are_lawful}
 use Rattle.prem_answer.specs.declared.status.Status.TheVariants.{Refused}
 use Rattle.prem_answer.specs.Refusal.Texts.{refused_reply}
-use Rattle.prem_answer.specs.Stages.{Reply, Reads, Stage, IsFine, IsGiven, is_settled}
-use Rattle.prem_answer.proofs.Reading.{gives_at_once}
-use Rattle.prem_exec.specs.Sources.Sources.{Passes, reading_set}
+use Rattle.prem_answer.specs.Stages.{Reply, Reads, Stage, IsFine}
+use Rattle.prem_answer.specs.Tool.{IsSettled}
 use Rattle.prem_exec.proofs.SourcesLemmas.Fine.{set_fine}
 use Rattle.prem_build.specs.Colors.{stuck_line, memory_refusal, judged_reply, placed_reply, moved_reply, found_places, early_reply, color_reply, color_stages}
 
@@ -108,35 +106,26 @@ module _ (set : TaskSet) (parts : Parts) (h : HasParts set parts) (sizes : List 
 
 -- ---- the stages
 
-abbrev behind_set : TaskSet → Stage Reply
+abbrev pub behind_set : TaskSet → Stage Reply
 behind_set set reads = Ok (color_reply set)
-
-pub set_told : (told : Option Files) (name : List ℕ) (set : TaskSet) (given : Result Reply Reply) → Passes told (reading_set name) (Ok set) → given ≡ Ok (color_reply set) → IsGiven told (color_stages name) given
-set_told told name set given passes is = passes behind_set given (let (reads, (are, same)) = gives_at_once told given in (reads, (are, is)))
-
-pub no_set : (told : Option Files) (name : List ℕ) (reply : Reply) → Passes told (reading_set name) (Err reply) → IsGiven told (color_stages name) (Err reply)
-no_set told name reply passes = passes behind_set (Err reply) refl
 
 -- ---- answers that may be given
 
-abbrev Settled : Reply → Type 0
-Settled reply = IsTrue (is_settled reply.0)
-
-judged_fine : (set : TaskSet) (places : List Extent) (first : Option (Refusal Told)) → Settled (judged_reply set places first)
+judged_fine : (set : TaskSet) (places : List Extent) (first : Option (Refusal Told)) → IsSettled (judged_reply set places first)
 judged_fine set places None = refl
 judged_fine set places (Some refusal) = refl
 
-full_fine : (b : Bool) (set : TaskSet) (places : List Extent) → Settled (cond b (refused_reply set.tasks (memory_refusal (last_end places) set.plant.memory)) (placed_reply set places))
+full_fine : (b : Bool) (set : TaskSet) (places : List Extent) → IsSettled (cond b (refused_reply set.tasks (memory_refusal (last_end places) set.plant.memory)) (placed_reply set places))
 full_fine true set places = refl
 full_fine false set places = judged_fine set places (broken_at set places)
 
-moved_fine : (set : TaskSet) (found : Result (List Extent) ℕ) → Settled (moved_reply set found)
+moved_fine : (set : TaskSet) (found : Result (List Extent) ℕ) → IsSettled (moved_reply set found)
 moved_fine set (Err n) = refl
 moved_fine set (Ok places) = full_fine (nat_lt set.plant.memory (last_end places)) set places
 
-early_fine : (set : TaskSet) (first : Option (Refusal Told)) → Settled (early_reply set first)
+early_fine : (set : TaskSet) (first : Option (Refusal Told)) → IsSettled (early_reply set first)
 early_fine set None = moved_fine set (found_places set)
 early_fine set (Some refusal) = refl
 
-pub color_is_fine : (name : List ℕ) (reads : Reads) → IsFine (λ reply. IsTrue (is_settled reply.0)) (color_stages name reads)
-color_is_fine name reads = set_fine Settled name behind_set (λ set more. early_fine set (broken_early set)) reads
+pub color_is_fine : (name : List ℕ) (reads : Reads) → IsFine IsSettled (color_stages name reads)
+color_is_fine name reads = set_fine IsSettled name behind_set (λ set more. early_fine set (broken_early set)) reads

@@ -1,31 +1,22 @@
-use Rattle.std.specs.Prelude.{Option, Ok}
-use Rattle.std.proofs.Common.{◌≡◌}
+use Rattle.std.specs.Prelude.{Option}
+use Rattle.std.proofs.Common.{refl}
 use Rattle.prem_io.specs.Files.{Files}
-use Rattle.prem_tasks.specs.declared.set.TaskSet.{TaskSet as SetTree}
-use Rattle.prem_tasks.specs.Broken.{TaskSet}
 use Rattle.prem_tasks.specs.SetOf.{set_of}
-use Rattle.prem_answer.specs.declared.answer.Answer.{Answer}
-use Rattle.prem_answer.specs.Stages.{Reply, reply_of, IsGiven}
-use Rattle.prem_answer.proofs.Reading.{halt_passes}
-use Rattle.prem_exec.specs.Sources.Sources.{Passes, reading_set}
-use Rattle.prem_exec.proofs.SourcesLemmas.Passing.{comes_as}
-use Rattle.prem_build.specs.Build.{compiled_reply, sheet_stages}
-use Rattle.prem_build.proofs.Build.{no_set, set_told}
+use Rattle.prem_answer.proofs.Reading.{given_at_once}
+use Rattle.prem_exec.specs.Sources.Sources.{reading_set}
+use Rattle.prem_exec.proofs.Behind.{pass_goes, pass_halts}
+use Rattle.prem_build.specs.Build.{compiled_reply}
+use Rattle.prem_build.proofs.Build.{behind_set}
 use Rattle.prem_build.proofs.answer.sheet_answer.Goals as goal
 
 pub returns-in-Err-clause-answer : goal.returns-in-Err-clause-answer
 returns-in-Err-clause-answer g c =
-    let name = c.args.name.now in
-    let sheet = c.args.sheet in
     let told : Option Files = g.S.Store.files c.args.store.now in
-    halt_passes {X = SetTree} {Y = TaskSet} {V = Answer} {W = Reply} set_of reply_of (Passes told (reading_set name)) (IsGiven told (sheet_stages sheet name)) c.in-Err.halt
-    (λ reply passes. no_set told sheet name reply passes) c.in-Err.ensures.set
+    pass_halts told (reading_set c.args.name.now) (behind_set c.args.sheet) set_of c.in-Err.halt c.in-Err.ensures.set
 
 pub returns-clause-answer : goal.returns-clause-answer
 returns-clause-answer g c =
-    let name = c.args.name.now in
-    let sheet = c.args.sheet in
     let set = set_of c.in-Ok.set in
     let told : Option Files = g.S.Store.files c.args.store.now in
-    comes_as reply_of (λ given. given ≡ Ok (compiled_reply sheet set)) (IsGiven told (sheet_stages sheet name)) c.compiled_answer.result
-    (λ given is. set_told told sheet name set given c.in-Ok.ensures.set is) c.compiled_answer.ensures.answer
+    let result = c.compiled_answer.result in
+    pass_goes told (reading_set c.args.name.now) (behind_set c.args.sheet) told set result refl c.in-Ok.ensures.set (given_at_once told (compiled_reply c.args.sheet set) result c.compiled_answer.ensures.answer)
