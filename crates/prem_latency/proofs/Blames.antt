@@ -18,7 +18,6 @@ use Rattle.prem_cycle.specs.declared.state.Mode.TheVariants.{Point, Switching, R
 use Rattle.prem_cycle.specs.State.{Setup, MachineState, record_of}
 use Rattle.prem_cycle.specs.Cycle.{is_finish, is_finished_in, is_finished, is_full, is_over}
 use Rattle.prem_cycle.proofs.Time.{run_of-now}
-use Rattle.prem_cycle.specs.Runs.Transfer.Lengths.{device_cost}
 use Rattle.prem_latency.specs.Wait.{Asking, Closing, longest as longest_of, top}
 use Rattle.prem_latency.specs.Timeline.{Level, Deed, Carries, Behind, Shut, Free, IsShut, asking_at, level_of}
 use Rattle.prem_latency.specs.Bus.{coming_transfer}

@@ -8,7 +8,6 @@ use Rattle.prem_lru.specs.Entries.{ReplacementRule}
 use Rattle.prem_gate.specs.declared.request.Request.{Request}
 use Rattle.prem_cycle.specs.State.{Setup, record_of}
 use Rattle.prem_cycle.specs.Cycle.{is_finished, is_over}
-use Rattle.prem_cycle.specs.Runs.Transfer.Lengths.{device_cost}
 use Rattle.prem_sound.specs.Script.Script.{Script}
 use Rattle.prem_sound.proofs.ResidentLemmas.KeptRuns.{costs_of, no_faults}
 use Rattle.prem_sound.proofs.Finishing.{over_finished}

@@ -159,10 +159,10 @@ joined_images_serve_devices rule order passes p content own most cycles longest 
       closings = are_closings passes p content own most cycles longest closed top_most promises limit h each inputs given.inputs_are loads tasks waits;
       there = there;
       asks = asks;
-    } in
-    (
+    } in (
       λ t n on le. charges_serve_in_time rule order passes p content inputs requests own (run_in p content inputs) (λ k. (all.0 k).script) (λ k. (all.0 k).scoping) loads devices tasks d wait t n s room on le,
       λ holds. record {
-      served = λ t n on le. charges_serve_each rule order passes p content inputs requests own (run_in p content inputs) (λ k. (all.0 k).script) (λ k. (all.0 k).scoping) loads devices tasks d wait t n s room holds on le;
-      kept = λ n. charges_drop_none rule order passes p content inputs requests own (run_in p content inputs) (λ k. (all.0 k).script) (λ k. (all.0 k).scoping) loads devices tasks d wait n s room holds;
-    })
+        served = λ t n on le. charges_serve_each rule order passes p content inputs requests own (run_in p content inputs) (λ k. (all.0 k).script) (λ k. (all.0 k).scoping) loads devices tasks d wait t n s room holds on le;
+        kept = λ n. charges_drop_none rule order passes p content inputs requests own (run_in p content inputs) (λ k. (all.0 k).script) (λ k. (all.0 k).scoping) loads devices tasks d wait n s room holds;
+      },
+    )

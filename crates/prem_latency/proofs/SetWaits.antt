@@ -1,6 +1,6 @@
 -- Sets that break no rule serve their devices in time.
 use Rattle.std.specs.Prelude.{drop, map}
-use Rattle.std.proofs.Common.{◌≡◌, ℕ, ◌+◌, ◌<◌, ◌≤◌, refl, ap, ◌∙◌, sym, subst, arith, Some, Option, List, length}
+use Rattle.std.proofs.Common.{◌≡◌, ℕ, ◌<◌, ◌≤◌, refl, ap, ◌∙◌, sym, subst, arith, Some, List, length}
 use Rattle.std.proofs.lemmas.Option.{slice_get_within}
 use Rattle.prem_plant.specs.declared.plant.Plant.{Plant}
 use Rattle.prem_plant.specs.declared.plant.Device.{Device}

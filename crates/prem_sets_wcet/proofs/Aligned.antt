@@ -1,6 +1,6 @@
 -- Courses along weaves are strands.
 use Rattle.std.specs.Prelude.{All, slice_index_or}
-use Rattle.std.proofs.Common.{◌≡◌, ℕ, zero, suc, ◌+◌, ◌*◌, ◌<◌, ◌≤◌, refl, ap, ◌∙◌, sym, subst, arith, true, false, Bool, ◌&&◌, leb, List, [], ◌∷◌, ◌++◌, append_assoc, length, max, pos}
+use Rattle.std.proofs.Common.{◌≡◌, ℕ, suc, ◌+◌, ◌*◌, ◌≤◌, refl, ap, ◌∙◌, sym, subst, arith, true, false, ◌&&◌, leb, List, [], ◌∷◌, ◌++◌, append_assoc, length, max, pos}
 use Rattle.std.proofs.lemmas.Bool.{and_parts, leb-true}
 use Rattle.std.proofs.lemmas.List.Elements.{All-nil, All-cons, All-append}
 use Rattle.prem_plant.specs.declared.plant.Plant.{Plant}

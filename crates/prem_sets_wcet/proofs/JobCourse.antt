@@ -1,7 +1,7 @@
 -- A call of `job` runs in scopes, lone steps and marked calls.
 use Rattle.std.specs.Prelude.{All, slice_index, slice_index_or, not, map, min, option_map}
 use Rattle.std.specs.List.{list_any}
-use Rattle.std.proofs.Common.{◌≡◌, ◌≢◌, ℕ, zero, suc, ◌+◌, ◌%◌, ◌^◌, ◌<◌, ◌≤◌, inl, inr, refl, ap, ◌∙◌, sym, subst, arith, cond, eqb, eq-eqb, ltb, ltb-true, true, false, Bool, ◌&&◌, ◌||◌, List, [], ◌∷◌, append-nil, length, Ok, Some, slice_get}
+use Rattle.std.proofs.Common.{◌≡◌, ◌≢◌, ℕ, zero, suc, ◌+◌, ◌^◌, ◌<◌, ◌≤◌, inl, inr, refl, ap, ◌∙◌, sym, subst, arith, cond, eqb, eq-eqb, ltb, ltb-true, true, false, Bool, ◌||◌, List, [], ◌∷◌, append-nil, length, Some, slice_get}
 use Rattle.std.proofs.lemmas.Bool.{eqb-true, and_parts, and_from}
 use Rattle.std.proofs.lemmas.Option.{slice_get-map}
 use Rattle.prem_plant.specs.declared.plant.Plant.{Plant}
@@ -15,11 +15,11 @@ use Rattle.prem_cycle.specs.Alone.{run_in}
 use Rattle.prem_syntax.specs.Syntax.{ProgramText}
 use Rattle.prem_syntax.specs.Resolved.{Routine, Resolved}
 use Rattle.prem_syntax.specs.Reach.{IsAmong, callees_in as called_in}
-use Rattle.prem_syntax.specs.Source.{Limits, calls_below, everywhere}
+use Rattle.prem_syntax.specs.Source.{calls_below, everywhere}
 use Rattle.prem_ranges.specs.GroupThree.{limits_of}
 use Rattle.prem_sound.specs.Script.Script.{lines_of_dids}
 use Rattle.prem_asm.specs.Pieces.{weighted}
-use Rattle.prem_asm.specs.Runs.{Setting, Calls, Ending, Falls, Returns, Stuck, run}
+use Rattle.prem_asm.specs.Runs.{Setting, Ending, Falls, Returns, Stuck, run}
 use Rattle.prem_asm.specs.Steps.{Same}
 use Rattle.prem_layout.specs.Template.Parts.{parts_of, is_marked_at, marked_before, stub_part}
 use Rattle.prem_layout.specs.Template.Steps.{Parts, function_code}
@@ -31,11 +31,11 @@ use Rattle.prem_layout.specs.Placed.{Coded, Placed}
 use Rattle.prem_code_laws.specs.ExprLaws.Relation.{Globals}
 use Rattle.prem_code_laws.specs.GenLaws.Fits.{Callees}
 use Rattle.prem_code_laws.specs.GenLaws.Laws.{CalleesAt}
-use Rattle.prem_code_laws.specs.GenLaws.Table.{Codes, one_of, code_calls, IsStub, StubsFit, TaskFits}
+use Rattle.prem_code_laws.specs.GenLaws.Table.{Codes, one_of, code_calls, StubsFit, TaskFits}
 use Rattle.prem_code_laws.proofs.GenLawsLemmas.Table.{differs}
 use Rattle.prem_code_laws.specs.PrefetchLaws.Premises.{stub_code}
 use Rattle.prem_code_laws.specs.PrefetchLaws.Confined.{with_guard}
-use Rattle.prem_sets_sound.specs.StubLaws.Own.Owned.{own_of, setup_of}
+use Rattle.prem_sets_sound.specs.StubLaws.Own.Owned.{setup_of}
 use Rattle.prem_sets_sound.specs.StubLaws.Initial.Initial.{content_of}
 use Rattle.prem_sets_sound.specs.StubLaws.Initial.Standing.{setting_of, globals_in}
 use Rattle.prem_sets_sound.specs.StubLaws.StubFits.Within.{codes_in}
@@ -61,7 +61,7 @@ use Rattle.prem_sets_sound.proofs.EachLemmas.Means.{JobStands, callees_mean}
 use Rattle.prem_sets_sound.proofs.EachLemmas.Each.{marked_there, stub_meant, job_stands}
 use Rattle.prem_wcet_laws.specs.Scopes.{Fact, Scene, fact_of}
 use Rattle.prem_wcet_laws.specs.Wcet.{frame_range, below_range, stack_of, known_scene, scene_of, fact_at}
-use Rattle.prem_wcet_laws.specs.Parted.{cuts, has_cut, called_parted, parted_function, bottom_of}
+use Rattle.prem_wcet_laws.specs.Parted.{cuts, called_parted, parted_function, bottom_of}
 use Rattle.prem_wcet_laws.specs.Keeping.{is_held}
 use Rattle.prem_wcet_laws.specs.Scenes.{TaskStands, facts_in, scene_in}
 use Rattle.prem_wcet_laws.specs.TaskLaws.{AreScenes}
@@ -280,7 +280,7 @@ module _ (passes : ℕ → ℕ) (p : Plant) (devices : List Device) (tasks : Lis
               let code_is : c.stub f ≡ stub_code (stub_at p t h.plan).kind p.line (stub_at p t h.plan).ranges (stub_at p t h.plan).stated (stub_at p t h.plan).part =
               h.code_is ∙ ap (λ n. stub_code (stub_passes p) p.line (ranges_of t.at h.plan) h.plan.stated (1 + n)) (sym h.number_is) in
               let stub_is : stub_run s c (confinement_in t f) job f u ≡
-                  run (with_guard y.guard s) (code_calls (with_guard y.guard s) y.codes job) (s.places (stub_at p t h.plan).stub) (stub_code (stub_at p t h.plan).kind p.line (stub_at p t h.plan).ranges (stub_at p t h.plan).stated (stub_at p t h.plan).part) u =
+              run (with_guard y.guard s) (code_calls (with_guard y.guard s) y.codes job) (s.places (stub_at p t h.plan).stub) (stub_code (stub_at p t h.plan).kind p.line (stub_at p t h.plan).ranges (stub_at p t h.plan).stated (stub_at p t h.plan).part) u =
               ap (λ q. run (with_guard y.guard s) (code_calls (with_guard y.guard s) y.codes job) (s.places q) (c.stub f) u) (sym h.part_is)
               ∙ ap (λ ps. run (with_guard y.guard s) (code_calls (with_guard y.guard s) y.codes job) (s.places (stub_at p t h.plan).stub) ps u) code_is in
               let goes = sym stub_is ∙ sym run_is ∙ b.goes in

@@ -1,21 +1,14 @@
 -- Jobs along weaves are charged one behind another.
-use Rattle.std.proofs.Common.{◌≡◌, ℕ, ◌+◌, ◌≤◌, refl, ap, ◌∙◌, sym, subst, arith, List, [], ◌∷◌, ◌++◌, length}
-use Rattle.prem_plant.specs.declared.plant.Plant.{Plant}
-use Rattle.prem_isa.specs.declared.effect.Change.{Change}
-use Rattle.prem_isa.specs.declared.effect.Change.TheVariants.{Stay, Memory, Execute, End, Job}
-use Rattle.prem_isa.specs.Plain.{Did}
+use Rattle.std.proofs.Common.{◌≡◌, ℕ, ◌+◌, ◌≤◌, ap, ◌∙◌, sym, subst, arith, ◌∷◌, ◌++◌}
 use Rattle.prem_cycle.specs.Runs.Position.Finish.{due_of}
-use Rattle.prem_sound.specs.Paced.Paced.{within_stretch}
-use Rattle.prem_sound.specs.Script.Script.{change_due, call_at}
-use Rattle.prem_sets_sound.specs.Weave.Weave.{dids_of, calls_of}
-use Rattle.prem_sound.specs.Scopes.Scopes.{charge_of, single}
-use Rattle.prem_sound.specs.Scopes.Strands.{Strand, ends, runs, calls, dids_along, joined, last_change, calls_begun, scope_due, begun_along, charges_along, ChargedFrom, StretchesWithin}
-use Rattle.prem_sound.specs.Scopes.Parted.{JobsEndDue}
+use Rattle.prem_sets_sound.specs.Weave.Weave.{dids_of}
+use Rattle.prem_sound.specs.Scopes.Scopes.{single}
+use Rattle.prem_sound.specs.Scopes.Strands.{Strand, ends, runs, dids_along, joined, scope_due, begun_along, charges_along, ChargedFrom, StretchesWithin}
 use Rattle.prem_sound.proofs.ScopesLemmas.StrandLaws.{strands_join, jobs_are_charged}
-use Rattle.prem_sound.proofs.ScopesLemmas.Parting.{strands_sum_up, jobs_end_due}
+use Rattle.prem_sound.proofs.ScopesLemmas.Parting.{jobs_end_due}
 use Rattle.prem_sound.proofs.ScopesLemmas.Alone.{singles_are_due}
 use Rattle.prem_wcet_laws.specs.Divided as D
-use Rattle.prem_sets_wcet.specs.Jobs.{JobStrand, CourseJobsAreCharged}
+use Rattle.prem_sets_wcet.specs.Jobs.{CourseJobsAreCharged}
 use Rattle.prem_sets_wcet.proofs.Aligned.{courses_are_strands}
 
 pub course_jobs_are_charged : CourseJobsAreCharged

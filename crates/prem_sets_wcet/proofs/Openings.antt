@@ -6,7 +6,7 @@ use Rattle.std.proofs.lemmas.Bool.{eqb-true, cond_both}
 use Rattle.std.proofs.lemmas.Nat.{mul-le}
 use Rattle.prem_plant.specs.declared.plant.Plant.{Plant}
 use Rattle.prem_plant.specs.Order.Order.{is_in, AllIn, AreOnce, ArePasses, of_set, HaveRoom}
-use Rattle.prem_plant.proofs.OrderLemmas.Members.{in_other, no_more, all_by, all_in_through}
+use Rattle.prem_plant.proofs.OrderLemmas.Members.{no_more, all_by, all_in_through}
 use Rattle.prem_isa.specs.declared.effect.Change.TheVariants.{Stay, Execute}
 use Rattle.prem_isa.specs.Plain.{Did}
 use Rattle.prem_cycle.specs.Runs.Position.Finish.{due_of}

@@ -1,6 +1,6 @@
 -- Divisions of steps are partings into scopes.
 use Rattle.std.specs.Prelude.{All, sum_by, filter}
-use Rattle.std.proofs.Common.{◌≡◌, ℕ, zero, suc, ◌+◌, ◌*◌, ◌/◌, ◌%◌, ◌≤◌, ◌⊎◌, inl, inr, refl, ap, ◌∙◌, sym, subst, arith, cond, true, Bool, List, [], ◌∷◌, ◌++◌, length, Option, None, Some}
+use Rattle.std.proofs.Common.{◌≡◌, ℕ, ◌+◌, ◌*◌, ◌/◌, ◌%◌, ◌≤◌, inl, inr, refl, ap, ◌∙◌, sym, subst, arith, cond, true, Bool, List, [], ◌∷◌, ◌++◌, length, Option, None, Some}
 use Rattle.std.proofs.lemmas.List.Sums.{sum_by-cons}
 use Rattle.std.proofs.lemmas.List.Elements.{All-nil, All-cons}
 use Rattle.prem_plant.specs.declared.plant.Plant.{Plant}
@@ -9,20 +9,19 @@ use Rattle.prem_plant.proofs.OrderLemmas.Members.{in_head, in_tail}
 use Rattle.prem_isa.specs.declared.effect.Access.{Access}
 use Rattle.prem_isa.specs.Decode.{cost_of}
 use Rattle.prem_isa.specs.Plain.{Did}
-use Rattle.prem_cycle.specs.Runs.Position.Finish.{due_of, data_accesses}
+use Rattle.prem_cycle.specs.Runs.Position.Finish.{data_accesses}
 use Rattle.prem_sound.specs.Script.Script.{lines_of_did, lines_of_dids, access_lines as data_line}
 use Rattle.prem_syntax.specs.Reach.{IsAmong}
 use Rattle.prem_asm.specs.Steps.{AllSteps, total}
 use Rattle.prem_layout.specs.Bounds.{line_cost}
 use Rattle.prem_sound.specs.Scopes.Lines.{roomy_of}
-use Rattle.prem_sound.specs.Scopes.Scopes.{Scope, KeepsToLines, charge_of, dids_of, charges_of, single}
+use Rattle.prem_sound.specs.Scopes.Scopes.{Scope, KeepsToLines, dids_of, charges_of, single}
 use Rattle.prem_sound.specs.Scopes.Charged.{charge_with, crowd_cost as touch_cost, access_cost}
-use Rattle.prem_sound.specs.Scopes.Parted.{IsParted}
 use Rattle.prem_sound.proofs.ScopesLemmas.StrandLaws.{charges_by_access, scopes_sum_up}
 use Rattle.prem_sound.proofs.ScopesLemmas.Alone.{singles_are_due}
 use Rattle.prem_sets_sound.proofs.StubLawsLemmas.ChargesLemmas.Singles.{room_is_counted}
 use Rattle.prem_wcet_laws.specs.Scopes.{is_roomy, roomy_lines, crowd_cost}
-use Rattle.prem_wcet_laws.specs.Divided.{access_lines, lines_of_step, AreAmong, KeepsTo, crowd_costs, step_charge, lone_charge, scope_charge, Division, ends, alone, together, section, steps_of, IsDivision, Divides}
+use Rattle.prem_wcet_laws.specs.Divided.{access_lines, AreAmong, KeepsTo, crowd_costs, step_charge, lone_charge, scope_charge, Division, ends, alone, together, section, steps_of, IsDivision}
 use Rattle.prem_wcet_laws.specs.Divided.{charge_of as division_charge}
 use Rattle.prem_sets_wcet.specs.Partings.{ScopesAgree, LonesAgree, DivisionsArePartings}
 

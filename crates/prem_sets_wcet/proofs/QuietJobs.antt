@@ -1,67 +1,32 @@
 -- A `job` without marked calls runs in scopes and lone steps.
-use Rattle.std.specs.Prelude.{All, slice_index_or, not, nat_lt}
+use Rattle.std.specs.Prelude.{not}
 use Rattle.std.specs.List.{list_any}
-use Rattle.std.proofs.Common.{◌≡◌, ◌≢◌, ℕ, zero, suc, ◌+◌, ◌%◌, ◌^◌, ◌<◌, ◌≤◌, ◌⊎◌, inl, inr, refl, ap, ◌∙◌, sym, subst, arith, cond, eqb, eq-eqb, ltb, ltb-true, true, false, Bool, ◌&&◌, ◌||◌, List, [], ◌∷◌, append-nil, length, Ok, Some, slice_get}
-use Rattle.std.proofs.lemmas.Bool.{eqb-true, and_parts, and_from}
-use Rattle.prem_plant.specs.declared.plant.Plant.{Plant}
-use Rattle.prem_plant.specs.declared.plant.Device.{Device}
-use Rattle.prem_plant.specs.Places.{Extent}
+use Rattle.std.proofs.Common.{◌≡◌, ℕ, ◌+◌, ◌^◌, ◌<◌, inl, inr, refl, ap, ◌∙◌, sym, subst, arith, eq-eqb, ltb, true, false, Bool, ◌||◌, List, [], ◌∷◌, length, Some}
+use Rattle.std.proofs.lemmas.Bool.{and_from}
 use Rattle.prem_isa.specs.declared.effect.Phase.TheVariants.{Compatible}
-use Rattle.prem_isa.specs.Plain.{TaskState, TaskRun}
-use Rattle.prem_cycle.specs.Alone.{run_in}
-use Rattle.prem_syntax.specs.Syntax.{ProgramText}
-use Rattle.prem_syntax.specs.Resolved.{Routine, Resolved}
+use Rattle.prem_syntax.specs.Resolved.{Routine}
 use Rattle.prem_syntax.specs.Reach.{IsAmong, callees_in as called_in}
-use Rattle.prem_syntax.specs.Source.{Limits, calls_below, everywhere}
 use Rattle.prem_ranges.specs.GroupThree.{limits_of}
-use Rattle.prem_asm.specs.Runs.{Setting, Calls, Ending, Falls, Returns, Stuck, run}
-use Rattle.prem_asm.specs.Steps.{Same}
-use Rattle.prem_layout.specs.Template.Parts.{parts_of, is_marked_at, marked_before, stub_part}
-use Rattle.prem_layout.specs.Template.Steps.{Parts, function_code}
+use Rattle.prem_asm.specs.Runs.{Stuck, run}
+use Rattle.prem_layout.specs.Template.Parts.{parts_of, is_marked_at}
+use Rattle.prem_layout.specs.Template.Steps.{function_code}
 use Rattle.prem_layout.specs.Template.Frames.{frame_of}
-use Rattle.prem_layout.specs.Parts.{code_part, pass_count, stub_passes, start_part}
+use Rattle.prem_layout.specs.Parts.{start_part}
 use Rattle.prem_layout.specs.Footprint.{place_at}
-use Rattle.prem_layout.specs.Bounds.{marked_weights}
-use Rattle.prem_layout.specs.Placed.{Coded, Placed}
-use Rattle.prem_code_laws.specs.ExprLaws.Relation.{Globals}
 use Rattle.prem_code_laws.specs.GenLaws.Fits.{Callees}
-use Rattle.prem_code_laws.specs.GenLaws.Laws.{CalleesAt}
-use Rattle.prem_code_laws.specs.GenLaws.Table.{Codes, one_of, code_calls, IsStub, StubsFit, TaskFits}
-use Rattle.prem_code_laws.proofs.GenLawsLemmas.Table.{differs}
-use Rattle.prem_code_laws.specs.PrefetchLaws.Premises.{stub_code}
-use Rattle.prem_code_laws.specs.PrefetchLaws.Confined.{with_guard}
-use Rattle.prem_sets_sound.specs.StubLaws.Own.Owned.{own_of, setup_of}
-use Rattle.prem_sets_sound.specs.StubLaws.Initial.Initial.{content_of}
+use Rattle.prem_code_laws.specs.GenLaws.Table.{one_of}
 use Rattle.prem_sets_sound.specs.StubLaws.Initial.Standing.{setting_of, globals_in}
 use Rattle.prem_sets_sound.specs.StubLaws.StubFits.Within.{codes_in}
-use Rattle.prem_sets_sound.specs.StubLaws.JobWeave.Confined.{with_confined, confined_calls}
-use Rattle.prem_sets_sound.specs.StubLaws.Confined.Meaning.{stub_run}
-use Rattle.prem_sets_sound.proofs.StubLawsLemmas.ConfinedLemmas.Meaning.{stub_called}
-use Rattle.prem_sets_sound.specs.StubLaws.Dues.Charged.{call_weight}
-use Rattle.prem_sets_sound.specs.TaskLaws.TaskFrame.Kept.{KeepsTaskRules}
 use Rattle.prem_sets_sound.specs.TaskLaws.TaskFrame.Frames.{task_guard, job_frame}
 use Rattle.prem_sets_sound.specs.TaskLaws.TaskFrame.Callees.{callees_in, job_callable, plain_callable}
-use Rattle.prem_sets_sound.specs.TaskLaws.TaskBytes.Parts.{IsPlacedTask}
-use Rattle.prem_sets_sound.proofs.TaskLawsLemmas.ProgramFitsLemmas.Stubs.{job_stubs_fit}
-use Rattle.prem_sets_sound.proofs.TaskLawsLemmas.TaskBytesLemmas.Start.{run_starts}
-use Rattle.prem_sets_sound.specs.Each.Called.{confinement_in, task_calls, job_calls}
-use Rattle.prem_sets_sound.proofs.EachLemmas.Filled.{program_keeps, codes_stand, routine_at}
-use Rattle.prem_sets_sound.proofs.TaskLawsLemmas.ProgramFitsLemmas.Functions.{plain_tasks_fit}
-use Rattle.prem_sets_sound.proofs.EachLemmas.Words.{job_fits}
-use Rattle.prem_sets_sound.proofs.EachLemmas.Means.{JobStands, callees_mean}
-use Rattle.prem_sets_sound.proofs.EachLemmas.Each.{StubHere, stub_here, stub_meant, job_stands, first_bytes, counted}
-use Rattle.prem_wcet_laws.specs.Scopes.{Fact, Scene, fact_of, lines_in, charge}
-use Rattle.prem_wcet_laws.specs.Wcet.{frame_range, below_range, stack_of, known_scene, scene_of, fact_at, start_span}
-use Rattle.prem_wcet_laws.specs.Parted.{cuts, has_cut, called_parted, parted_function}
-use Rattle.prem_wcet_laws.specs.Keeping.{is_held}
-use Rattle.prem_wcet_laws.specs.Scenes.{TaskStands, facts_in, scene_in}
-use Rattle.prem_wcet_laws.specs.TaskLaws.{AreScenes}
-use Rattle.prem_wcet_laws.specs.Divided.{section, ends, RunCourses}
-use Rattle.prem_wcet_laws.specs.PartedLaws.{CallCourses, Mixes, is_marked}
+use Rattle.prem_sets_sound.specs.Each.Called.{task_calls, job_calls}
+use Rattle.prem_sets_sound.proofs.EachLemmas.Filled.{program_keeps}
+use Rattle.prem_wcet_laws.specs.Scopes.{Fact, fact_of, lines_in, charge}
+use Rattle.prem_wcet_laws.specs.Wcet.{stack_of, known_scene, scene_of, fact_at, start_span}
+use Rattle.prem_wcet_laws.specs.Parted.{cuts, has_cut}
+use Rattle.prem_wcet_laws.specs.Scenes.{facts_in, scene_in}
 use Rattle.prem_wcet_laws.proofs.OneScope.{steps_callable}
-use Rattle.prem_wcet_laws.proofs.CallRuns.{frames_work}
-use Rattle.prem_wcet_laws.proofs.FunctionCourse.{functions_course}
-use Rattle.prem_wcet_laws.proofs.Scenes.{IsFact, each_fact, taken_length, scenes_stand, fact_is}
+use Rattle.prem_wcet_laws.proofs.Scenes.{IsFact, each_fact}
 use Rattle.prem_sets_wcet.proofs.Stands.{placed_tasks_stand, placed_frames_stand}
 use Rattle.prem_sets_sound.proofs.TaskLawsLemmas.ProgramFitsLemmas.Functions.{functions_fit}
 use Rattle.prem_sets_sound.proofs.TaskLawsLemmas.TaskGroundLemmas.Stands.{jobs_stand}

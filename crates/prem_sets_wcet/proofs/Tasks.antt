@@ -6,8 +6,7 @@ use Rattle.prem_plant.specs.declared.plant.Plant.{Plant}
 use Rattle.prem_plant.specs.declared.plant.Device.{Device}
 use Rattle.prem_plant.specs.Places.{Extent}
 use Rattle.prem_isa.specs.declared.instr.Instr.TheVariants.{PmDone}
-use Rattle.prem_isa.specs.declared.effect.Phase.TheVariants.{Compatible}
-use Rattle.prem_isa.specs.Plain.{TaskRun, TaskState, Did}
+use Rattle.prem_isa.specs.Plain.{TaskRun, Did}
 use Rattle.prem_cycle.specs.Alone.{run_in}
 use Rattle.prem_syntax.specs.Syntax.{ProgramText}
 use Rattle.prem_syntax.specs.Resolved.{Routine, Resolved}
@@ -15,15 +14,13 @@ use Rattle.prem_syntax.specs.Statements.{enter}
 use Rattle.prem_syntax.specs.Source.{calls_below, enter_if_there, everywhere}
 use Rattle.prem_ranges.specs.GroupThree.{limits_of}
 use Rattle.prem_asm.specs.Pieces.{jump_weight}
-use Rattle.prem_asm.specs.Runs.{Setting, Calls, Returns, linked}
-use Rattle.prem_layout.specs.Parts.{pass_count, stub_passes, start_part}
-use Rattle.prem_layout.specs.Footprint.{place_at}
+use Rattle.prem_asm.specs.Runs.{Setting, linked}
+use Rattle.prem_layout.specs.Parts.{pass_count, stub_passes}
 use Rattle.prem_layout.specs.Placed.{Coded, Placed}
 use Rattle.prem_layout.specs.Bounds.{job_weight}
 use Rattle.prem_layout.specs.Stretch.Paths.{greatest_stated}
 use Rattle.prem_layout.specs.Stretch.Sums.{taking, chained, greatest}
 use Rattle.prem_layout.specs.Template.Frames.{frame_of}
-use Rattle.prem_code_laws.specs.ExprLaws.Relation.{Globals}
 use Rattle.prem_code_laws.specs.GenLaws.Functions.{performed}
 use Rattle.prem_code_laws.proofs.ExprLawsLemmas.Puts.{reg_other}
 use Rattle.prem_code_laws.proofs.GenLawsLemmas.Table.{meant_below, unmarked_access, performed_is}
@@ -45,9 +42,9 @@ use Rattle.prem_sets_sound.proofs.EachLemmas.Each.{tasks_tell}
 use Rattle.prem_sets_sound.proofs.TaskLawsLemmas.TaskBytesLemmas.Parts.{parts_of_task}
 use Rattle.prem_sets_sound.proofs.TaskLawsLemmas.TaskBytesLemmas.Start.{run_starts}
 use Rattle.prem_sets_sound.specs.StubLaws.Charges.Charges.{script_of, TaskCharges}
-use Rattle.prem_wcet_laws.specs.Counts.{Count, quiet}
+use Rattle.prem_wcet_laws.specs.Counts.{quiet}
 use Rattle.prem_wcet_laws.specs.Scopes.{Scene, fact_of, lines_in, charge}
-use Rattle.prem_wcet_laws.specs.Divided.{Courses, RunCourses, RunDivides}
+use Rattle.prem_wcet_laws.specs.Divided.{RunCourses, RunDivides}
 use Rattle.prem_wcet_laws.specs.PartedLaws.{is_marked}
 use Rattle.prem_wcet_laws.specs.Wcet.{known_scene, job_of, own_start, wcet_of, stretch_within, start_span}
 use Rattle.prem_wcet_laws.proofs.Courses.{course_of}
@@ -57,7 +54,7 @@ use Rattle.prem_sets_wcet.specs.Openings.{stated_of, shut_of, counts_of, trimmed
 use Rattle.prem_sets_wcet.specs.Marked.{is_marked_call, JobsCourse}
 use Rattle.prem_sets_wcet.specs.Aligned.{StateWithin}
 use Rattle.prem_sets_wcet.specs.Jobs.{JobStrand}
-use Rattle.prem_sets_wcet.specs.Walk.{cost_with, stretch_with, CallsCourse, CallsScope}
+use Rattle.prem_sets_wcet.specs.Walk.{stretch_with, CallsCourse, CallsScope}
 use Rattle.prem_sets_wcet.specs.Tasks.{task_wcet, task_stretch, task_closed, script_by, TaskShuts, TasksGoByWcet, TasksShutByWcet}
 use Rattle.prem_sets_wcet.proofs.Trimmed.{weave_trimmed, stated_within, by_lengths, dids_trimmed, calls_trimmed, counts_trimmed, states_trimmed, are_trimmed, woven_trimmed, promised_trimmed}
 use Rattle.prem_sets_wcet.proofs.JobCourse.{job_here, placed_jobs_course, placed_jobs_shut}

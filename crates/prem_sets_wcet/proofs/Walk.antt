@@ -1,9 +1,9 @@
 -- The walk over jobs.
-use Rattle.std.specs.Prelude.{slice_index_or, pos}
+use Rattle.std.specs.Prelude.{slice_index_or}
 use Rattle.std.proofs.Common.{◌≡◌, ℕ, zero, suc, ◌+◌, ◌<◌, ◌≤◌, refl, ap, ◌∙◌, sym, subst, arith, List, [], ◌∷◌, ◌++◌, length, None, append_assoc, append-nil}
 use Rattle.std.proofs.lemmas.List.{length-append}
 use Rattle.prem_plant.specs.declared.plant.Plant.{Plant}
-use Rattle.prem_isa.specs.declared.instr.Instr.TheVariants.{Jal, PmDone}
+use Rattle.prem_isa.specs.declared.instr.Instr.TheVariants.{PmDone}
 use Rattle.prem_isa.specs.Plain.{TaskRun, Did}
 use Rattle.prem_cycle.specs.Runs.Position.Finish.{due_of}
 use Rattle.prem_sound.specs.Script.Script.{call_at, Script, change_due}
@@ -14,17 +14,17 @@ use Rattle.prem_asm.specs.Runs.{Setting, Calls, control}
 use Rattle.prem_asm.specs.OwnRun.{done_step}
 use Rattle.prem_layout.specs.Bounds.{job_weight}
 use Rattle.prem_layout.specs.Stretch.Paths.{Path, Takes, longest_from}
-use Rattle.prem_layout.specs.Stretch.Sums.{Sums, taking, chained, greatest, sums_of_path, IsWithin}
+use Rattle.prem_layout.specs.Stretch.Sums.{Sums, taking, chained, sums_of_path, IsWithin}
 use Rattle.prem_layout.proofs.StretchLemmas.Algebra.{chained_assoc, taken_none}
 use Rattle.prem_layout.proofs.StretchLemmas.Exact.{path_joined}
-use Rattle.prem_layout.proofs.StretchLemmas.Order.{within_same, chained_within, taking_within, longest_within}
+use Rattle.prem_layout.proofs.StretchLemmas.Order.{chained_within, taking_within, longest_within}
 use Rattle.prem_code_laws.specs.ExprLaws.Relation.{Globals}
 use Rattle.prem_sets_sound.specs.Weave.Weave.{Weave, ends, goes, joined, segment_of, dids_of, calls_of, IsWeave}
-use Rattle.prem_sets_sound.specs.StubLaws.JobWeave.Jobs.{JobRun, all_jobs, EachJob, JobsAlong}
+use Rattle.prem_sets_sound.specs.StubLaws.JobWeave.Jobs.{JobRun, all_jobs, EachJob}
 use Rattle.prem_sets_sound.proofs.WeaveLemmas.Joins.{weaves_join}
 use Rattle.prem_sound.specs.Scopes.Strands as S
 use Rattle.prem_wcet_laws.specs.Counts.{Count, quiet, then_count}
-use Rattle.prem_wcet_laws.specs.Divided.{charge_of, path_of, count_of, Courses, StaysOn, scope_charge, KeepsTo}
+use Rattle.prem_wcet_laws.specs.Divided.{charge_of, path_of, Courses, StaysOn, scope_charge}
 use Rattle.prem_wcet_laws.specs.PartedLaws.{is_marked}
 use Rattle.prem_wcet_laws.proofs.Alone.{control_divides}
 use Rattle.prem_wcet_laws.proofs.Courses.{course_of, courses_join}
@@ -44,7 +44,7 @@ use Rattle.prem_sound.specs.Scopes.Scopes.{Scope, charge_of as charge_of_scope}
 use Rattle.prem_sound.specs.Scopes.Strands.{GoesTo, IsWithinInterval, change_behind, last_change, scope_due}
 use Rattle.prem_sound.proofs.ScopesLemmas.StrandLaws.{jobs_are_charged}
 use Rattle.prem_wcet_laws.specs.Starts.{start_steps}
-use Rattle.prem_sets_wcet.proofs.Aligned.{Taken, take}
+use Rattle.prem_sets_wcet.proofs.Aligned.{take}
 use Rattle.prem_sets_wcet.proofs.Partings.{steps_in, scopes_agree}
 
 -- the jump to `job`

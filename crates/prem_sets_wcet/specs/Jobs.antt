@@ -7,7 +7,7 @@ use Rattle.prem_isa.specs.Plain.{Did}
 use Rattle.prem_cycle.specs.Runs.Position.Finish.{due_of}
 use Rattle.prem_sound.specs.Script.Script.{Script}
 use Rattle.prem_sets_sound.specs.Weave.Weave.{Weave, dids_of, calls_of, IsWeave}
-use Rattle.prem_sound.specs.Scopes.Strands.{Strand, dids_along, IsStrand, ChargedFrom, charges_along, StretchesWithin}
+use Rattle.prem_sound.specs.Scopes.Strands.{Strand, dids_along, IsStrand, ChargedFrom}
 use Rattle.prem_wcet_laws.specs.Divided.{Division, steps_of, charge_of, AreLoose, IsCourse, path_of}
 use Rattle.prem_wcet_laws.specs.PartedLaws.{is_marked}
 use Rattle.prem_sets_wcet.specs.Marked.{is_marked_call}

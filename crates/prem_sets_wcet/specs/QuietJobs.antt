@@ -1,19 +1,15 @@
 -- A call of a `job` without marked calls.
-use Rattle.std.specs.Prelude.{◌≡◌, ◌<◌, ◌≤◌, ℕ, ◌+◌, ◌%◌, ◌^◌, nat_le, Bool, true, false, ◌&&◌, List, [], ◌∷◌, Ok, Some, slice_get}
+use Rattle.std.specs.Prelude.{◌≡◌, ◌<◌, ◌≤◌, ℕ, ◌+◌, ◌%◌, ◌^◌, false, List, [], Ok, Some, slice_get}
 use Rattle.prem_plant.specs.declared.plant.Plant.{Plant}
 use Rattle.prem_plant.specs.declared.plant.Device.{Device}
 use Rattle.prem_plant.specs.Places.{Extent}
-use Rattle.prem_isa.specs.declared.effect.Change.{Change}
-use Rattle.prem_isa.specs.declared.effect.Change.TheVariants.{Stay, Memory, Execute, End, Job}
 use Rattle.prem_isa.specs.declared.effect.Phase.TheVariants.{Compatible}
-use Rattle.prem_isa.specs.Plain.{TaskState, Did}
+use Rattle.prem_isa.specs.Plain.{TaskState}
 use Rattle.prem_syntax.specs.Syntax.{ProgramText}
 use Rattle.prem_syntax.specs.Resolved.{Routine}
 use Rattle.prem_syntax.specs.Statements.{ProgramState}
 use Rattle.prem_syntax.specs.Source.{calls_below, everywhere}
 use Rattle.prem_ranges.specs.GroupThree.{limits_of}
-use Rattle.prem_asm.specs.Runs.{run}
-use Rattle.prem_asm.specs.Steps.{total}
 use Rattle.prem_layout.specs.Parts.{pass_count, stub_passes, start_part}
 use Rattle.prem_layout.specs.Placed.{Coded, Placed}
 use Rattle.prem_layout.specs.Plans.{Plan}

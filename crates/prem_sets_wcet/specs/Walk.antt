@@ -8,7 +8,7 @@ use Rattle.prem_syntax.specs.Source.{Limits}
 use Rattle.prem_asm.specs.Pieces.{jump_weight}
 use Rattle.prem_asm.specs.Runs.{Setting, Calls}
 use Rattle.prem_layout.specs.Bounds.{job_weight}
-use Rattle.prem_layout.specs.Stretch.Sums.{Sums, taking, chained, greatest}
+use Rattle.prem_layout.specs.Stretch.Sums.{taking, chained, greatest}
 use Rattle.prem_code_laws.specs.ExprLaws.Relation.{Globals}
 use Rattle.prem_sound.specs.Script.Script.{Script}
 use Rattle.prem_sets_sound.specs.Weave.Weave.{Weave, dids_of}
