@@ -1,12 +1,12 @@
 -- The annotations by what is found of functions are those of the annotated program.
 use Rattle.std.specs.Prelude.{max}
 use Rattle.std.specs.Option.{option_map}
-use Rattle.std.proofs.Common.{◌≡◌, ℕ, ◌+◌, ◌≤◌, List, [], ◌∷◌, ◌++◌, length, map, drop, refl, ap, sym, ◌∙◌, arith, Option, None, Some}
+use Rattle.std.proofs.Common.{◌≡◌, ℕ, ◌+◌, ◌≤◌, List, [], ◌∷◌, ◌++◌, length, map, drop, refl, ap, sym, ◌∙◌, arith}
 use Rattle.std.proofs.lemmas.List.{append-nil, drop_all}
 use Rattle.prem_list.specs.Sequence.{items_of}
-use Rattle.prem_syntax.specs.Syntax.{MarkText, GlobalVariable, FunctionText, ProgramText}
+use Rattle.prem_syntax.specs.Syntax.{GlobalVariable, FunctionText, ProgramText}
 use Rattle.prem_syntax.specs.SyntaxOf.{function_of}
-use Rattle.prem_syntax.specs.Resolved.{Routine, Resolved}
+use Rattle.prem_syntax.specs.Resolved.{Routine}
 use Rattle.prem_syntax.specs.Reach.{callees_in, callee_table}
 use Rattle.prem_syntax.specs.Source.{unlimited}
 use Rattle.prem_tree.specs.declared.resolve.resolved.Routine.{Routine as RoutineTree}
@@ -23,8 +23,7 @@ use Rattle.prem_annotating.specs.Reached.{regions_reached}
 use Rattle.prem_annotating.specs.Annotated.{annotated_mark, marked_routines, texts_of}
 use Rattle.prem_annotate.specs.declared.ranges.outlook.Outlook.{Outlook as OutlookTree}
 use Rattle.prem_annotate.specs.Ranges.Outlook.{Outlook, ranges_of, outlook_of, outlook}
-use Rattle.prem_annotate.specs.Regions.Found.{regions_found}
-use Rattle.prem_annotate.specs.Notes.{Notes, notes, no_lengths, mark_found, notes_found, all_notes_found, resolved_notes, program_notes}
+use Rattle.prem_annotate.specs.Notes.{Notes, notes, no_lengths, mark_found, all_notes_found, resolved_notes, program_notes}
 use Rattle.prem_annotate.proofs.Reaching.{regions_are}
 use Rattle.prem_annotate.proofs.Turned.{all_ranged_same, outlooks_same}
 

@@ -2,7 +2,7 @@
 use Rattle.std.specs.Prelude.{ℕ, List, [], ◌∷◌, ◌++◌, map, Option, None}
 use Rattle.prem_word.specs.Ranges.{Span}
 use Rattle.prem_syntax.specs.declared.tree.Place.{Place}
-use Rattle.prem_syntax.specs.Syntax.{Text, RegionText, GlobalVariable}
+use Rattle.prem_syntax.specs.Syntax.{RegionText, GlobalVariable}
 use Rattle.prem_syntax.specs.Reach.{reach_set}
 use Rattle.prem_annotating.specs.Reached.{region_of}
 use Rattle.prem_annotate.specs.Ranges.Outlook.{Outlook}

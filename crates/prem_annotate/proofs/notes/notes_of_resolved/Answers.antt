@@ -1,5 +1,4 @@
 use Rattle.std.proofs.Common.{map, List, ap, ◌∙◌}
-use Rattle.prem_list.specs.Sequence.{items_of}
 use Rattle.prem_syntax.specs.SyntaxOf.{global_of, function_of}
 use Rattle.prem_tree.specs.declared.resolve.resolved.Routine.{Routine}
 use Rattle.prem_analysis.specs.Marks.Called.{called}
