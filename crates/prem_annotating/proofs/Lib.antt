@@ -16,5 +16,6 @@ pub mod Anew
 pub mod AnewItems
 pub mod Phrases
 pub mod Edits
+pub mod EditingLemmas
 pub mod There
 pub mod Annotates

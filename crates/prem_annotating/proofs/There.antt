@@ -1,5 +1,5 @@
 -- The edits of a text: at each function's mark and parameters, where something differs.
-use Rattle.std.specs.Prelude.{cond, ◌==◌, ◌&&◌}
+use Rattle.std.specs.Prelude.{cond, ◌==◌, ◌&&◌, length, if◌then◌else◌}
 use Rattle.std.specs.Option.{option_map}
 use Rattle.std.specs.Str.{bytes_eq}
 use Rattle.std.proofs.Common.{◌≡◌, ◌≤◌, ℕ, Bool, true, false, List, [], ◌∷◌, ◌++◌, map, refl, sym, ap, subst, ◌∙◌, arith, Some}
@@ -14,19 +14,28 @@ use Rattle.prem_text.specs.declared.lexing.token.token.Mark.TheVariants as m
 use Rattle.prem_text.specs.declared.lexing.token.token.Word.TheVariants as w
 use Rattle.prem_text.specs.Lexing.Token.Lexeme.{Lexeme, number, word, mark, Seen}
 use Rattle.prem_text.specs.Lexing.Spelling.{marks}
-use Rattle.prem_text.specs.Grammar.Slots.{Slot, left_parenthesis, right_parenthesis, a_literal, the_predictable, value_of, is_predictable, is_left_parenthesis, is_right_parenthesis, is_literal}
+use Rattle.prem_text.specs.Grammar.Slots.{Slot, left_parenthesis, right_parenthesis, a_name, a_literal, comma, the_region, the_predictable, value_of, value_at, is_predictable, is_left_parenthesis, is_right_parenthesis, is_literal}
 use Rattle.prem_text.specs.Grammar.Reader.{nowhere}
 use Rattle.prem_text.specs.Grammar.Phrases.{IsRow}
 use Rattle.prem_text.specs.Grammar.ProgramPhrases.{MarkPhrase, AreRegions, region_tokens, region_trees, IsMark, mark_tokens, mark_tree}
 use Rattle.prem_text.specs.Spelling.Spellings.{StandsIn, every, Spells, as_mark}
-use Rattle.prem_text.specs.Canonical.Canonical.{number_lexeme}
+use Rattle.prem_text.specs.Canonical.Canonical.{number_lexeme, kind_for}
+use Rattle.prem_text.specs.Canonical.Printed.{lexeme_bytes}
 use Rattle.prem_text.specs.Canonical.Law.{lexemes_of}
 use Rattle.prem_text.specs.Canonical.Unplaced.{unplaced_region, unplaced_mark}
 use Rattle.prem_text.proofs.SpellingLemmas.Tables.{stands_every, same_bytes}
-use Rattle.prem_annotating.specs.Pieces.{Piece, between, a_token, lexemes_in, AreDivided, said, mark_piece, range_pieces, regions_pieces, AreRegionWords, AreGaps, EndsInToken, Edited, all_edited, kept_piece, with_range, with_regions, with_length}
+use Rattle.prem_annotating.specs.Pieces.{Piece, between, a_token, text_of, lexemes_in, AreDivided, said, mark_piece, range_pieces, regions_pieces, AreRegionWords, AreGaps, EndsInToken, Edited, all_edited, kept_piece, with_range, with_regions, with_length}
 use Rattle.prem_annotating.specs.Phrases.{region_row}
+use Rattle.prem_annotating.specs.declared.editing.walk.Spot.{Spot}
+use Rattle.prem_annotating.specs.declared.editing.walk.Spot.TheVariants.{Elsewhere, InMark}
+use Rattle.prem_annotating.specs.declared.editing.walk.Mode.TheVariants.{Copying}
+use Rattle.prem_annotating.specs.Editing.Walk.{Order, leave, put, put_for, mode_of}
+use Rattle.prem_annotating.specs.Editing.Orders.{same_region, same_regions, length_order, regions_order}
 use Rattle.prem_annotating.proofs.Inserted.{regions_say}
 use Rattle.prem_annotating.proofs.Edits.{regions_right, regions_are, regions_lexed}
+use Rattle.prem_annotating.proofs.EditingLemmas.Goes.{Goes, Stays, goes_both, stays_go, AreQuiet, quiet_join, quiet_stays}
+use Rattle.prem_annotating.proofs.EditingLemmas.Quiet.{row_quiet}
+use Rattle.prem_annotating.proofs.EditingLemmas.Single.{leave_goes, literal_goes, regions_go, trees_length}
 
 -- ---- pieces cut where tokens are
 
@@ -164,11 +173,22 @@ edited_append {c = c} {d = d} (with_length head before gaps bytes old kind n {ps
 pub kept_front : (front : List Piece) {ps qs : List Piece} → Edited ps qs → Edited (front ++ ps) (front ++ qs)
 kept_front front edited = edited_append (edited_itself front) edited
 
--- pieces with other lexemes
-pub record EditedTo (ps : List Piece) (ls : List Lexeme) : Type 0 where
+-- pieces with other lexemes, as the walk from one spot to another gives them by orders, of which some are left
+pub record EditedTo (s : Spot) (os : List Order) (ps : List Piece) (ls : List Lexeme) (s' : Spot) (os' : List Order) : Type 0 where
   pub new : List Piece
   pub edited : Edited ps new
   pub lexemes : lexemes_in new ≡ ls
+  pub goes : Goes s os ps new s' os'
+
+-- ---- the walk over gaps and marks
+
+gaps_none : (gaps : List Piece) → AreGaps gaps → lexemes_in gaps ≡ []
+gaps_none [] are = refl
+gaps_none (between b ∷ gaps) are = gaps_none gaps are
+gaps_none (a_token b t ∷ gaps) are = absurd are
+
+pub gaps_go : (s : Spot) (os : List Order) (gaps : List Piece) → mode_of s ≡ Copying → AreGaps gaps → Goes s os gaps gaps s os
+gaps_go s os gaps mode are = stays_go s s os gaps mode (subst (λ l. Stays s l s) (sym (gaps_none gaps are)) refl)
 
 -- ---- a mark
 
@@ -196,15 +216,6 @@ number_of : (x : Lexeme) → is_literal x ≡ true → IsNumber x
 number_of (number v k) h = record { value = v; kind = k; is = refl }
 number_of _ h = absurd cc
 
--- regions that are the same, places aside
-abbrev pub same_region : RegionText → RegionText → Bool
-same_region a b = bytes_eq a.name b.name && ((a.low == b.low) && (a.high == b.high))
-
-abbrev pub same_regions : List RegionText → List RegionText → Bool
-same_regions [] [] = true
-same_regions (a ∷ as_) (b ∷ bs) = same_region a b && same_regions as_ bs
-same_regions _ _ = false
-
 same_regions_are : (xs ys : List RegionText) → same_regions xs ys ≡ true → map unplaced_region xs ≡ map unplaced_region ys
 same_regions_are [] [] h = refl
 same_regions_are [] (y ∷ ys) h = cc
@@ -219,7 +230,7 @@ same_regions_are (x ∷ xs) (y ∷ ys) h =
     let rest = same_regions_are xs ys parts.1 in
     λ i. record { at = nowhere; name = name_is i; low = low_is i; high = high_is i } ∷ rest i
 
-same_regions_yes : (xs ys : List RegionText) → map unplaced_region xs ≡ map unplaced_region ys → same_regions xs ys ≡ true
+pub same_regions_yes : (xs ys : List RegionText) → map unplaced_region xs ≡ map unplaced_region ys → same_regions xs ys ≡ true
 same_regions_yes [] [] e = refl
 same_regions_yes [] (y ∷ ys) e = cc
 same_regions_yes (x ∷ xs) [] e = cc
@@ -237,19 +248,39 @@ two_answers : true ≡ false → ⊥
 two_answers e = cc
 
 -- the regions behind a `)`
-record NewRows (rs : List RegionText) (old : List Piece) : Type 0 where
+record NewRows (before : List (List Seen)) (rs : List RegionText) (old : List Piece) : Type 0 where
   rows : List (List Seen)
   right : AreRegions rows
   are : map unplaced_region (region_trees rows) ≡ map unplaced_region rs
   new : List Piece
   edited : Edited (mark_piece m.CloseParenthesis ∷ old) (mark_piece m.CloseParenthesis ∷ new)
   lexemes : lexemes_in new ≡ lexemes_of (region_tokens rows)
+  goes : (os : List Order) → Goes InMark (regions_order (region_trees before) rs ∷ os) (mark_piece m.CloseParenthesis ∷ old) (mark_piece m.CloseParenthesis ∷ new) Elsewhere os
 
-new_rows : (rows : List (List Seen)) (rs : List RegionText) (old : List Piece) → AreRegions rows → AreRegionWords rs → EndsInToken old → lexemes_in old ≡ lexemes_of (region_tokens rows) → NewRows rs old
+-- regions that stay
+rows_stay : (rows : List (List Seen)) → AreRegions rows → AreQuiet (region_tokens rows)
+rows_stay [] h = tt
+rows_stay (row ∷ rows) h = quiet_join row (region_tokens rows) (row_quiet (the_region ∷ left_parenthesis ∷ a_name ∷ comma ∷ a_literal ∷ comma ∷ a_literal ∷ right_parenthesis ∷ []) row refl h.0) (rows_stay rows h.1)
+
+left_goes : (os : List Order) (rows : List (List Seen)) (old : List Piece) → AreRegions rows → lexemes_in old ≡ lexemes_of (region_tokens rows) → Goes InMark (leave ∷ os) (mark_piece m.CloseParenthesis ∷ old) (mark_piece m.CloseParenthesis ∷ old) Elsewhere os
+left_goes os rows old right e =
+    goes_both InMark Elsewhere Elsewhere (leave ∷ os) os os (mark_piece m.CloseParenthesis ∷ []) old (mark_piece m.CloseParenthesis ∷ []) old
+    (leave_goes InMark Elsewhere os (lexeme_bytes (mark m.CloseParenthesis)) (mark m.CloseParenthesis) refl (λ b. refl))
+    (stays_go Elsewhere Elsewhere os old refl (subst (λ l. Stays Elsewhere l Elsewhere) (sym e) (quiet_stays (region_tokens rows) (rows_stay rows right))))
+
+new_rows : (rows : List (List Seen)) (rs : List RegionText) (old : List Piece) → AreRegions rows → AreRegionWords rs → EndsInToken old → lexemes_in old ≡ lexemes_of (region_tokens rows) → NewRows rows rs old
 new_rows rows rs old right words ends e = by (same_regions (region_trees rows) rs) refl
   where
-    by : (b : Bool) → same_regions (region_trees rows) rs ≡ b → NewRows rs old
-    by true is = record { rows = rows; right = right; are = same_regions_are (region_trees rows) rs is; new = old; edited = edited_itself (mark_piece m.CloseParenthesis ∷ old); lexemes = e }
+    by : (b : Bool) → same_regions (region_trees rows) rs ≡ b → NewRows rows rs old
+    by true is = record {
+      rows = rows;
+      right = right;
+      are = same_regions_are (region_trees rows) rs is;
+      new = old;
+      edited = edited_itself (mark_piece m.CloseParenthesis ∷ old);
+      lexemes = e;
+      goes = λ os. subst (λ x. Goes InMark (x ∷ os) (mark_piece m.CloseParenthesis ∷ old) (mark_piece m.CloseParenthesis ∷ old) Elsewhere os) (sym (ap (λ (x : Bool). if x then leave else put_for (length (region_trees rows)) (text_of (regions_pieces rs))) is)) (left_goes os rows old right e);
+    }
     by false is = record {
       rows = map region_row rs;
       right = regions_right rs;
@@ -257,6 +288,10 @@ new_rows rows rs old right words ends e = by (same_regions (region_trees rows) r
       new = regions_pieces rs ++ [];
       edited = subst (λ l. Edited (mark_piece m.CloseParenthesis ∷ l) (mark_piece m.CloseParenthesis ∷ (regions_pieces rs ++ []))) (append-nil old) (with_regions old rs (record { rows = rows; right = right; lexemes = e; ends = ends; differ = λ same. two_answers (sym (same_regions_yes (region_trees rows) rs same) ∙ is) }) words all_edited);
       lexemes = ap lexemes_in (append-nil (regions_pieces rs)) ∙ regions_say rs ∙ sym (regions_lexed rs);
+      goes =
+          λ os. let order : put_for (length rows) (text_of (regions_pieces rs ++ [])) ≡ regions_order (region_trees rows) rs =
+          (λ i. put_for (sym (trees_length rows) i) (text_of (append-nil (regions_pieces rs) i))) ∙ sym (ap (λ (x : Bool). if x then leave else put_for (length (region_trees rows)) (text_of (regions_pieces rs))) is) in
+          subst (λ x. Goes InMark (x ∷ os) (mark_piece m.CloseParenthesis ∷ old) (mark_piece m.CloseParenthesis ∷ (regions_pieces rs ++ [])) Elsewhere os) order (regions_go close_bytes os rows old (regions_pieces rs ++ []) right ends e);
     }
 
 same_number : (a b : ℕ) → a ≡ b → (a == b) ≡ true
@@ -267,9 +302,10 @@ record NewLiteral (n : ℕ) (head : List ℕ) (before gaps : List Piece) (bytes 
   lexeme : Lexeme
   fits_is : is_literal lexeme ≡ true
   value_is : value_of lexeme ≡ n
-  new : List Piece
-  edited : Edited (a_token head (word w.Predictable) ∷ (before ++ (mark_piece m.OpenParenthesis ∷ (gaps ++ (a_token bytes (number old kind) ∷ ps))))) (a_token head (word w.Predictable) ∷ (before ++ (mark_piece m.OpenParenthesis ∷ new)))
-  lexemes : lexemes_in new ≡ lexeme ∷ lexemes_in qs
+  piece : Piece
+  edited : Edited (a_token head (word w.Predictable) ∷ (before ++ (mark_piece m.OpenParenthesis ∷ (gaps ++ (a_token bytes (number old kind) ∷ ps))))) (a_token head (word w.Predictable) ∷ (before ++ (mark_piece m.OpenParenthesis ∷ (gaps ++ (piece ∷ qs)))))
+  lexemes : lexemes_in (gaps ++ (piece ∷ qs)) ≡ lexeme ∷ lexemes_in qs
+  goes : (os : List Order) → Goes InMark (length_order old n ∷ os) (a_token bytes (number old kind) ∷ []) (piece ∷ []) InMark os
 
 new_literal : (n : ℕ) (head : List ℕ) (before gaps : List Piece) (bytes : List ℕ) (old : ℕ) (kind : Kind) (ps qs : List Piece) → n ≤ 4294967295 → AreGaps before → AreGaps gaps → Edited ps qs → NewLiteral n head before gaps bytes old kind ps qs
 new_literal n head before gaps bytes old kind ps qs le are_before are edited = by (old == n) refl
@@ -279,36 +315,38 @@ new_literal n head before gaps bytes old kind ps qs le are_before are edited = b
       lexeme = number old kind;
       fits_is = refl;
       value_is = grind (arith, nat_tests);
-      new = gaps ++ (a_token bytes (number old kind) ∷ qs);
+      piece = a_token bytes (number old kind);
       edited = kept_piece (a_token head (word w.Predictable)) (kept_front before (kept_piece (mark_piece m.OpenParenthesis) (kept_front gaps (kept_piece (a_token bytes (number old kind)) edited))));
       lexemes = gap_lexemes gaps (a_token bytes (number old kind) ∷ qs) are;
+      goes = λ os. subst (λ x. Goes InMark (x ∷ os) (a_token bytes (number old kind) ∷ []) (a_token bytes (number old kind) ∷ []) InMark os) (sym (ap (λ (x : Bool). if x then leave else put (lexeme_bytes (number_lexeme n))) is)) (leave_goes InMark InMark os bytes (number old kind) refl (λ b. refl));
     }
     by false is = record {
       lexeme = number_lexeme n;
       fits_is = refl;
       value_is = refl;
-      new = gaps ++ (said (number_lexeme n) ∷ qs);
+      piece = said (number_lexeme n);
       edited = with_length head before gaps bytes old kind n (λ same. two_answers (sym (same_number old n same) ∙ is)) le are_before are edited;
       lexemes = gap_lexemes gaps (said (number_lexeme n) ∷ qs) are;
+      goes = λ os. subst (λ x. Goes InMark (x ∷ os) (a_token bytes (number old kind) ∷ []) (said (number_lexeme n) ∷ []) InMark os) (sym (ap (λ (x : Bool). if x then leave else put (lexeme_bytes (number_lexeme n))) is)) (literal_goes os bytes (lexeme_bytes (number_lexeme n)) old n kind (kind_for n));
     }
 
-pub record NewMarkOf (a : MarkText) (ps : List Piece) : Type 0 where
+pub record NewMarkOf (k a : MarkText) (os : List Order) (ps : List Piece) : Type 0 where
   pub phrase : MarkPhrase
   pub right : IsMark (Some phrase)
   pub tree_is : option_map unplaced_mark (mark_tree (Some phrase)) ≡ Some (unplaced_mark a)
-  pub to : EditedTo ps (lexemes_of (mark_tokens (Some phrase)))
+  pub to : EditedTo Elsewhere (length_order k.stated a.stated ∷ regions_order k.regions a.regions ∷ os) ps (lexemes_of (mark_tokens (Some phrase))) Elsewhere os
 
 abbrev mark_slots : List Slot
 mark_slots = the_predictable ∷ left_parenthesis ∷ a_literal ∷ right_parenthesis ∷ []
 
 -- the pieces of a mark
-mark_by : (head : List Seen) (rows : List (List Seen)) (a : MarkText) (ps : List Piece) → IsRow mark_slots head → AreRegions rows → a.stated ≤ 4294967295 → AreRegionWords a.regions → EndsInToken ps → AreSpelled ps → lexemes_in ps ≡ lexemes_of (head ++ region_tokens rows) → NewMarkOf a ps
-mark_by [] rows a ps h right le words ends spelled e = absurd h
-mark_by (t ∷ []) rows a ps h right le words ends spelled e = absurd h.1
-mark_by (t ∷ u ∷ []) rows a ps h right le words ends spelled e = absurd h.1.1
-mark_by (t ∷ u ∷ v ∷ []) rows a ps h right le words ends spelled e = absurd h.1.1.1
-mark_by (t ∷ u ∷ v ∷ x ∷ y ∷ more) rows a ps h right le words ends spelled e = absurd h.1.1.1.1
-mark_by (t ∷ u ∷ v ∷ x ∷ []) rows a ps h right le words ends spelled e =
+mark_by : (head : List Seen) (rows : List (List Seen)) (a : MarkText) (os : List Order) (ps : List Piece) → IsRow mark_slots head → AreRegions rows → a.stated ≤ 4294967295 → AreRegionWords a.regions → EndsInToken ps → AreSpelled ps → lexemes_in ps ≡ lexemes_of (head ++ region_tokens rows) → NewMarkOf (record { stated = value_at 2 head; regions = region_trees rows }) a os ps
+mark_by [] rows a os ps h right le words ends spelled e = absurd h
+mark_by (t ∷ []) rows a os ps h right le words ends spelled e = absurd h.1
+mark_by (t ∷ u ∷ []) rows a os ps h right le words ends spelled e = absurd h.1.1
+mark_by (t ∷ u ∷ v ∷ []) rows a os ps h right le words ends spelled e = absurd h.1.1.1
+mark_by (t ∷ u ∷ v ∷ x ∷ y ∷ more) rows a os ps h right le words ends spelled e = absurd h.1.1.1.1
+mark_by (t ∷ u ∷ v ∷ x ∷ []) rows a os ps h right le words ends spelled e =
     let one = first_token t.0 (u.0 ∷ v.0 ∷ x.0 ∷ lexemes_of (region_tokens rows)) ps e in
     let two = first_token u.0 (v.0 ∷ x.0 ∷ lexemes_of (region_tokens rows)) one.rest one.two in
     let three = first_token v.0 (x.0 ∷ lexemes_of (region_tokens rows)) two.rest two.two in
@@ -334,25 +372,48 @@ mark_by (t ∷ u ∷ v ∷ x ∷ []) rows a ps h right le words ends spelled e =
     let tail : Edited (four.gaps ++ (mark_piece m.CloseParenthesis ∷ four.rest)) (four.gaps ++ (mark_piece m.CloseParenthesis ∷ regions.new)) = kept_front four.gaps regions.edited in
     let stated = new_literal a.stated one.bytes two.gaps three.gaps three.bytes literal.value literal.kind (four.gaps ++ (mark_piece m.CloseParenthesis ∷ four.rest)) (four.gaps ++ (mark_piece m.CloseParenthesis ∷ regions.new)) le two.are three.are tail in
     let start : Piece = a_token one.bytes (word w.Predictable) in
+    let open' : Piece = mark_piece m.OpenParenthesis in
+    let behind_old = four.gaps ++ (mark_piece m.CloseParenthesis ∷ four.rest) in
+    let behind_new = four.gaps ++ (mark_piece m.CloseParenthesis ∷ regions.new) in
+    let lit : Piece = a_token three.bytes (number literal.value literal.kind) in
+    let stated_new : List Piece = three.gaps ++ (stated.piece ∷ behind_new) in
+    let o2 = regions_order (region_trees rows) a.regions in
+    let o1 = length_order literal.value a.stated in
+    let both = o1 ∷ o2 ∷ os in
+    let g7 = regions.goes os in
+    let g6 = goes_both InMark InMark Elsewhere (o2 ∷ os) (o2 ∷ os) os four.gaps (mark_piece m.CloseParenthesis ∷ four.rest) four.gaps (mark_piece m.CloseParenthesis ∷ regions.new) (gaps_go InMark (o2 ∷ os) four.gaps refl four.are) g7 in
+    let g5 = goes_both InMark InMark Elsewhere both (o2 ∷ os) os (lit ∷ []) behind_old (stated.piece ∷ []) behind_new (stated.goes (o2 ∷ os)) g6 in
+    let g4 = goes_both InMark InMark Elsewhere both both os three.gaps (lit ∷ behind_old) three.gaps (stated.piece ∷ behind_new) (gaps_go InMark both three.gaps refl three.are) g5 in
+    let g3 = goes_both InMark InMark Elsewhere both both os (open' ∷ []) (three.gaps ++ (lit ∷ behind_old)) (open' ∷ []) stated_new (stays_go InMark InMark both (open' ∷ []) refl (InMark, (λ o b. refl), refl, refl)) g4 in
+    let g2 = goes_both InMark InMark Elsewhere both both os two.gaps (open' ∷ (three.gaps ++ (lit ∷ behind_old))) two.gaps (open' ∷ stated_new) (gaps_go InMark both two.gaps refl two.are) g3 in
+    let g1 = goes_both Elsewhere InMark Elsewhere both both os (start ∷ []) (two.gaps ++ (open' ∷ (three.gaps ++ (lit ∷ behind_old)))) (start ∷ []) (two.gaps ++ (open' ∷ stated_new)) (stays_go Elsewhere InMark both (start ∷ []) refl (InMark, (λ o b. refl), refl, refl)) g2 in
+    let g0 = goes_both Elsewhere Elsewhere Elsewhere both both os one.gaps (start ∷ (two.gaps ++ (open' ∷ (three.gaps ++ (lit ∷ behind_old))))) one.gaps (start ∷ (two.gaps ++ (open' ∷ stated_new))) (gaps_go Elsewhere both one.gaps refl one.are) g1 in
     let whole : Edited (one.gaps ++ (start ∷ (two.gaps ++ (mark_piece m.OpenParenthesis ∷ (three.gaps ++ (a_token three.bytes (number literal.value literal.kind) ∷ (four.gaps ++ (mark_piece m.CloseParenthesis ∷ four.rest))))))))
-    (one.gaps ++ (start ∷ (two.gaps ++ (mark_piece m.OpenParenthesis ∷ stated.new)))) = kept_front one.gaps stated.edited in
+    (one.gaps ++ (start ∷ (two.gaps ++ (mark_piece m.OpenParenthesis ∷ stated_new)))) = kept_front one.gaps stated.edited in
     let old_is : one.gaps ++ (start ∷ (two.gaps ++ (mark_piece m.OpenParenthesis ∷ (three.gaps ++ (a_token three.bytes (number literal.value literal.kind) ∷ (four.gaps ++ (mark_piece m.CloseParenthesis ∷ four.rest))))))) ≡ ps =
     (λ i. one.gaps ++ (a_token one.bytes (sym is_word i) ∷ (two.gaps ++ (sym open_piece i ∷ (three.gaps ++ (a_token three.bytes (sym literal.is i) ∷ (four.gaps ++ (sym close_piece i ∷ four.rest))))))))
     ∙ ap (λ l. one.gaps ++ (a_token one.bytes t.0 ∷ (two.gaps ++ (a_token two.bytes u.0 ∷ (three.gaps ++ (a_token three.bytes v.0 ∷ l)))))) four.parts
     ∙ ap (λ l. one.gaps ++ (a_token one.bytes t.0 ∷ (two.gaps ++ (a_token two.bytes u.0 ∷ l)))) three.parts
     ∙ ap (λ l. one.gaps ++ (a_token one.bytes t.0 ∷ l)) two.parts
     ∙ one.parts in
-    let new = one.gaps ++ (start ∷ (two.gaps ++ (mark_piece m.OpenParenthesis ∷ stated.new))) in
+    let new = one.gaps ++ (start ∷ (two.gaps ++ (mark_piece m.OpenParenthesis ∷ stated_new))) in
     let new_lexemes : lexemes_in new ≡ t.0 ∷ mark m.OpenParenthesis ∷ stated.lexeme ∷ mark m.CloseParenthesis ∷ lexemes_of (region_tokens regions.rows) =
-    gap_lexemes one.gaps (start ∷ (two.gaps ++ (mark_piece m.OpenParenthesis ∷ stated.new))) one.are
-    ∙ (λ i. sym is_word i ∷ lexemes_in (two.gaps ++ (mark_piece m.OpenParenthesis ∷ stated.new)))
-    ∙ ap (λ l. t.0 ∷ l) (gap_lexemes two.gaps (mark_piece m.OpenParenthesis ∷ stated.new) two.are ∙ ap (λ l. mark m.OpenParenthesis ∷ l) (stated.lexemes ∙ ap (λ l. stated.lexeme ∷ l) (gap_lexemes four.gaps (mark_piece m.CloseParenthesis ∷ regions.new) four.are ∙ ap (λ l. mark m.CloseParenthesis ∷ l) regions.lexemes))) in
+    gap_lexemes one.gaps (start ∷ (two.gaps ++ (mark_piece m.OpenParenthesis ∷ stated_new))) one.are
+    ∙ (λ i. sym is_word i ∷ lexemes_in (two.gaps ++ (mark_piece m.OpenParenthesis ∷ stated_new)))
+    ∙ ap (λ l. t.0 ∷ l) (gap_lexemes two.gaps (mark_piece m.OpenParenthesis ∷ stated_new) two.are ∙ ap (λ l. mark m.OpenParenthesis ∷ l) (stated.lexemes ∙ ap (λ l. stated.lexeme ∷ l) (gap_lexemes four.gaps (mark_piece m.CloseParenthesis ∷ regions.new) four.are ∙ ap (λ l. mark m.CloseParenthesis ∷ l) regions.lexemes))) in
     record {
       phrase = record { head = t ∷ (mark m.OpenParenthesis, nowhere) ∷ (stated.lexeme, nowhere) ∷ (mark m.CloseParenthesis, nowhere) ∷ []; regions = regions.rows };
       right = ((h.0, (refl, (stated.fits_is, (refl, tt)))), regions.right);
       tree_is = λ i. Some (record { stated = stated.value_is i; regions = regions.are i });
-      to = record { new = new; edited = subst (λ l. Edited l new) old_is whole; lexemes = new_lexemes };
+      to = record {
+        new = new;
+        edited = subst (λ l. Edited l new) old_is whole;
+        lexemes = new_lexemes;
+        goes =
+            let value : value_of v.0 ≡ literal.value = ap value_of literal.is in
+            subst (λ n. Goes Elsewhere (length_order n a.stated ∷ o2 ∷ os) ps new Elsewhere os) (sym value) (subst (λ l. Goes Elsewhere both l new Elsewhere os) old_is g0);
+      };
     }
 
-pub new_mark_of : (k : MarkPhrase) (a : MarkText) (ps : List Piece) → IsMark (Some k) → a.stated ≤ 4294967295 → AreRegionWords a.regions → EndsInToken ps → AreSpelled ps → lexemes_in ps ≡ lexemes_of (mark_tokens (Some k)) → NewMarkOf a ps
-new_mark_of k a ps h le words ends spelled e = mark_by k.head k.regions a ps h.0 h.1 le words ends spelled e
+pub new_mark_of : (k : MarkPhrase) (a : MarkText) (os : List Order) (ps : List Piece) → IsMark (Some k) → a.stated ≤ 4294967295 → AreRegionWords a.regions → EndsInToken ps → AreSpelled ps → lexemes_in ps ≡ lexemes_of (mark_tokens (Some k)) → NewMarkOf (record { stated = value_at 2 k.head; regions = region_trees k.regions }) a os ps
+new_mark_of k a os ps h le words ends spelled e = mark_by k.head k.regions a os ps h.0 h.1 le words ends spelled e

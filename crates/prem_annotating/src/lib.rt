@@ -2,6 +2,7 @@
 //! the laws of these, on trees and on texts.
 #![tactic(auto)]
 
+pub mod editing;
 mod laws;
 mod texts;
 
@@ -10,6 +11,6 @@ pub use laws::{
     regions_are_the_least, runs_stay_the_same,
 };
 pub use texts::{
-    annotated_texts_are_read, annotations_may_be_put, pieces_are_exact, pieces_say_annotations,
-    places_do_not_matter, texts_are_annotated,
+    annotated_texts_are_read, annotated_texts_stay, annotations_may_be_put, pieces_are_exact,
+    pieces_say_annotations, places_do_not_matter, texts_are_annotated,
 };

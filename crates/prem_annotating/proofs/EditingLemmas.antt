@@ -1,0 +1,11 @@
+pub mod Standing
+pub mod Places
+pub mod Goes
+pub mod Quiet
+pub mod Rows
+pub mod Single
+pub mod Said
+pub mod Ranges
+pub mod Unchanged
+pub mod Examples
+pub mod Fits

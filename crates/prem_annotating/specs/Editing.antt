@@ -1,0 +1,4 @@
+pub mod Walk
+pub mod Orders
+pub mod Standing
+pub mod Marks
