@@ -45,7 +45,7 @@ told_both r a b e = ap clip e ∙ clip_twice (both a b)
 
 -- ---- four sums
 
-chained_alike : (a b c d : Sums) → clipped_sums a ≡ clipped_sums c → clipped_sums b ≡ clipped_sums d → clipped_sums (chained a b) ≡ clipped_sums (chained c d)
+pub chained_alike : (a b c d : Sums) → clipped_sums a ≡ clipped_sums c → clipped_sums b ≡ clipped_sums d → clipped_sums (chained a b) ≡ clipped_sums (chained c d)
 chained_alike a b c d e f =
     let aw : clip a.whole ≡ clip c.whole = ap (λ (s : Sums). s.whole) e in
     let ab : clip a.before ≡ clip c.before = ap (λ (s : Sums). s.before) e in
@@ -61,14 +61,14 @@ chained_alike a b c d e f =
     (most_alike a.between b.between c.between d.between at bt) (both_alike a.behind b.before c.behind d.before ah bb))
     (most_alike b.behind (both a.behind b.whole) d.behind (both c.behind d.whole) bh (both_alike a.behind b.whole c.behind d.whole ah bw))
 
-among_alike : (a b c d : Sums) → clipped_sums a ≡ clipped_sums c → clipped_sums b ≡ clipped_sums d → clipped_sums (among a b) ≡ clipped_sums (among c d)
+pub among_alike : (a b c d : Sums) → clipped_sums a ≡ clipped_sums c → clipped_sums b ≡ clipped_sums d → clipped_sums (among a b) ≡ clipped_sums (among c d)
 among_alike a b c d e f =
     same_sums _ _ (most_alike a.whole b.whole c.whole d.whole (ap (λ (s : Sums). s.whole) e) (ap (λ (s : Sums). s.whole) f))
     (most_alike a.before b.before c.before d.before (ap (λ (s : Sums). s.before) e) (ap (λ (s : Sums). s.before) f))
     (most_alike a.between b.between c.between d.between (ap (λ (s : Sums). s.between) e) (ap (λ (s : Sums). s.between) f))
     (most_alike a.behind b.behind c.behind d.behind (ap (λ (s : Sums). s.behind) e) (ap (λ (s : Sums). s.behind) f))
 
-turned_alike : (turns : ℕ) (a b c d : Sums) → clipped_sums a ≡ clipped_sums c → clipped_sums b ≡ clipped_sums d → clipped_sums (turned turns a b) ≡ clipped_sums (turned turns c d)
+pub turned_alike : (turns : ℕ) (a b c d : Sums) → clipped_sums a ≡ clipped_sums c → clipped_sums b ≡ clipped_sums d → clipped_sums (turned turns a b) ≡ clipped_sums (turned turns c d)
 unfolding turned
 turned_alike zero a b c d e f = f
 turned_alike (suc turns) a b c d e f =

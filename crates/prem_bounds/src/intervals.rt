@@ -19,7 +19,7 @@ use prem_plant::Plant;
 use prem_split::IntervalPlan;
 
 /// What a line costs, which is brought in behind one that is written back.
-fn line_cost(p: &Plant) -> u64
+pub fn line_cost(p: &Plant) -> u64
     requires { IsPlant p.now }
     ensures cost { result ≡ line_cost p.now }
     ensures small { result ≤ 2000 }
@@ -28,7 +28,7 @@ fn line_cost(p: &Plant) -> u64
 }
 
 /// The sums of a call's way through a stub: up to `pm.mem`, and the way back.
-fn marked_sums(p: &Plant) -> Sums
+pub fn marked_sums(p: &Plant) -> Sums
     requires { IsPlant p.now }
     ensures { sums_of result ≡ marked_sums_of p.now }
 {

@@ -2,6 +2,9 @@
 //!
 //! - `counts`: how many outputs and marked calls a job has at most, by the turns of its loops.
 //! - `facts`: what is told of the predictable intervals of a placed task, and the rules that they break.
+//! - `scale`: what instructions and called parts weigh.
+//! - `stretches`: four sums of cycles, which tell the greatest stretches of paths, and how they go together.
+//! - `weights`: the greatest weight over the paths of pieces.
 #![tactic(auto)]
 
 mod bounds;
@@ -10,12 +13,12 @@ pub mod facts;
 mod intervals;
 mod laws;
 mod reach;
-mod scale;
-mod stretches;
+pub mod scale;
+pub mod stretches;
 mod table;
-mod weights;
+pub mod weights;
 
 pub use bounds::{BoundTooLarge, bound, bound_by, job_bound, stub_costs};
-pub use intervals::longest;
+pub use intervals::{line_cost, longest, marked_sums};
 pub use laws::stubs_are_in_order;
 pub use table::CodeTable;

@@ -13,6 +13,6 @@ pub use lines::{Lines, fits, footprint, most, ranges_of};
 pub use places::{TaskPlaces, element_sizes, index_of, marked_functions};
 pub use prem_plant::Plant;
 pub use prem_split::IntervalPlan;
-pub use runs::{line_count, line_end, next_run};
-pub use sets::Conflict;
+pub use runs::{line_count, line_end, lines_of, next_run};
+pub use sets::{Conflict, counts_of};
 pub use want::Want;

@@ -11,8 +11,8 @@ place_all-requires-clause-places c =
     tasks_at_places (set_of c.args.set.now) c.args.tasks.items c.plant-plant.result.now c.args.parts.now c.args.layout same c.requires.code c.requires.parts
     (subst (λ (q : Plant). ArePlaces q.memory c.args.parts.now c.args.layout) (sym same) c.requires.placed)
 
-pub behind_places-requires : goal.behind_places-requires
-behind_places-requires c =
+pub compile_placed-requires : goal.compile_placed-requires
+compile_placed-requires c =
     let same = c.plant-plant.ensures.plant in
     lent_has_places (set_of c.args.set.now) c.args.tasks.items c.plant-plant.result.now c.args.parts.now c.args.parts.now c.args.parts.now c.args.layout c.in_ok-placed.placed.items c.deref.result.now
     same refl refl c.deref.ensures.value c.requires.code c.requires.parts c.requires.few (subst (λ (q : Plant). ArePlaces q.memory c.args.parts.now c.args.layout) (sym same) c.requires.placed)

@@ -1,0 +1,5 @@
+pub mod OutlineCode
+pub mod OutlineLeast
+pub mod OutlineParted
+pub mod SameRanges
+pub mod Slices

@@ -1,0 +1,4 @@
+pub mod Outlines
+pub mod Outlined
+pub mod Sliced
+pub mod Same
