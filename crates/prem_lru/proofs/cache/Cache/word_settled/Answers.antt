@@ -1,7 +1,6 @@
 use Rattle.std.specs.Prelude.{slice_index}
-use Rattle.std.proofs.Common.{◌≡◌, ◌≢◌, ◌∙◌, ℕ, List, ◌+◌, ◌*◌, ◌/◌, ◌%◌, ◌<◌, ◌≤◌, true, false, refl, ap, sym, subst, arith, inr}
+use Rattle.std.proofs.Common.{◌≡◌, ◌≢◌, ◌∙◌, ◌+◌, ◌*◌, ◌/◌, ◌%◌, ◌<◌, ◌≤◌, true, false, refl, ap, sym, subst, arith, inr}
 use Rattle.prem_word.specs.Bytes.{number_at}
-use Rattle.prem_plant.specs.Order.Orders.{order_at}
 use Rattle.prem_lru.specs.CacheState.{CacheState, touch_of, view_of}
 use Rattle.prem_lru.specs.Rules.{rule_of}
 use Rattle.prem_lru.specs.Flat.{IsWayOf, no_line, slot_entry, slot_of}
