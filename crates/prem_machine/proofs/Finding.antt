@@ -1,6 +1,6 @@
 -- An instruction that finds all its lines leaves memory as it is, and all its touches hit.
 use Rattle.std.specs.Prelude.{◌/◌, ◌%◌, nat_lt, is_some, false, slice_index, slice_index_or, IfSome}
-use Rattle.std.proofs.Common.{◌≡◌, ℕ, ◌+◌, ◌≤◌, ◌<◌, ◌-◌, Bool, true, false, List, [], ◌∷◌, Option, None, Some, length, map, take, refl, ap, sym, ◌∙◌, subst, cond, arith}
+use Rattle.std.proofs.Common.{◌≡◌, ℕ, ◌+◌, ◌≤◌, ◌<◌, ◌-◌, true, false, List, [], ◌∷◌, Option, None, Some, length, map, take, refl, ap, sym, ◌∙◌, subst, cond, arith}
 use Rattle.prem_isa.specs.declared.effect.Access.{Access}
 use Rattle.prem_isa.specs.declared.effect.AccessKind.TheVariants.{Loads as LoadKind}
 use Rattle.prem_isa.specs.declared.effect.Change.TheVariants.{Stay}
@@ -19,7 +19,7 @@ use Rattle.prem_isa.specs.Step.{UpshotFits, act_of, told_by}
 use Rattle.prem_word.specs.Bytes.{number_at}
 use Rattle.prem_isa.specs.declared.effect.Stored.{Stored}
 use Rattle.prem_lru.specs.Entries.{Entry, ReplacementRule, brought_in, find_line, hit_in, last_entry, replaced}
-use Rattle.prem_lru.specs.CacheState.{CacheState, Touched, entry_of, is_resident, set_of, touch_of, touched_by, view_of, with_set}
+use Rattle.prem_lru.specs.CacheState.{CacheState, Touched, is_resident, set_of, touch_of, touched_by, view_of, with_set}
 use Rattle.prem_lru.specs.Rules.{IsRule, rule_of}
 use Rattle.prem_lru.proofs.RuleKinds.{kind_rule}
 use Rattle.prem_lru.proofs.Touches.{entry_same}

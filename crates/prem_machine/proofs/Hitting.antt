@@ -1,6 +1,6 @@
 -- Instructions that hit, one behind the other, are cycles of the machine.
-use Rattle.std.specs.Prelude.{◌/◌, nat_le, ◌||◌, slice_set}
-use Rattle.std.proofs.Common.{◌≡◌, ℕ, zero, suc, ◌+◌, ◌-◌, ◌≤◌, ◌<◌, Bool, true, false, List, [], ◌∷◌, None, Some, Option, length, map, get_or, refl, ap, sym, ◌∙◌, subst, arith}
+use Rattle.std.specs.Prelude.{◌/◌, slice_set}
+use Rattle.std.proofs.Common.{◌≡◌, ℕ, zero, suc, ◌+◌, ◌≤◌, ◌<◌, Bool, false, List, [], ◌∷◌, None, Some, Option, length, map, get_or, refl, ap, sym, ◌∙◌, subst, arith}
 use Rattle.std.proofs.lemmas.List.{get_or-set_same, set-get_or, set-set}
 use Rattle.std.proofs.lemmas.List.Sums.{sum_by-set}
 use Rattle.prem_plant.specs.declared.plant.Plant.{Plant}
@@ -14,14 +14,13 @@ use Rattle.prem_isa.specs.declared.effect.Effect.{Effect}
 use Rattle.prem_isa.specs.declared.effect.Phase.{Phase}
 use Rattle.prem_isa.specs.declared.effect.Stored.{Stored}
 use Rattle.prem_isa.specs.Decode.{cost_of}
-use Rattle.prem_lru.specs.Entries.{ReplacementRule}
-use Rattle.prem_lru.specs.CacheState.{CacheState, touch_of, view_of}
+use Rattle.prem_lru.specs.CacheState.{touch_of, view_of}
 use Rattle.prem_gate.specs.declared.request.Request.{Request}
 use Rattle.prem_image.specs.declared.image.TaskRecord.{TaskRecord}
-use Rattle.prem_cycle.specs.State.{CoreState, Counts, MachineState, Setup, Task, Work, first_task, no_record, record_of, rule_in, task_in}
-use Rattle.prem_cycle.specs.Issue.{Attempt, Executes, Issued, LineTouch, attempt_behind, attempt_in, attempt_of, attempt_seen, issued_with, owed_by, task_after, task_changed, task_moved, view_touched, with_store, with_touch, with_touches}
+use Rattle.prem_cycle.specs.State.{CoreState, Counts, MachineState, Setup, Task, first_task, no_record, record_of, rule_in, task_in}
+use Rattle.prem_cycle.specs.Issue.{Attempt, Executes, Issued, attempt_behind, attempt_in, attempt_of, attempt_seen, issued_with, owed_by, task_after, task_changed, task_moved, view_touched, with_store, with_touch, with_touches}
 use Rattle.prem_cycle.specs.Core.{CoreTurn, Issues, core_issue, core_issued, core_turn}
-use Rattle.prem_cycle.specs.Cycle.{is_full, is_over, log_size, output_count}
+use Rattle.prem_cycle.specs.Cycle.{is_full, log_size, output_count}
 use Rattle.prem_cycle.specs.Run.{cycles_of}
 use Rattle.prem_cycle.proofs.RunLaws.{cycles_of-add}
 use Rattle.prem_machine.specs.Owed.{bus_cycles}

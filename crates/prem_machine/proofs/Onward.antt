@@ -1,6 +1,5 @@
 -- What instructions that hit make of the machine's parts.
-use Rattle.std.specs.Prelude.{slice_set}
-use Rattle.std.proofs.Common.{◌≡◌, ℕ, zero, suc, ◌+◌, ◌*◌, ◌-◌, ◌≤◌, ◌<◌, List, [], ◌∷◌, None, All, length, map, get_or, refl, ap, sym, ◌∙◌, subst, arith}
+use Rattle.std.proofs.Common.{◌≡◌, ℕ, zero, suc, ◌+◌, ◌*◌, ◌≤◌, ◌<◌, List, [], ◌∷◌, None, All, length, map, get_or, refl, ap, sym, ◌∙◌, subst, arith}
 use Rattle.std.proofs.lemmas.List.Sums.{sum_by-cons}
 use Rattle.prem_machine.proofs.Arriving.{all_unmap}
 use Rattle.prem_list.specs.Sequence.{items_of, room_of}
@@ -14,7 +13,7 @@ use Rattle.prem_cycle.specs.Run.{cycles_of}
 use Rattle.prem_machine.specs.declared.parts.Parts.{Parts}
 use Rattle.prem_machine.specs.declared.work.Setting.{Setting}
 use Rattle.prem_machine.specs.declared.work.Works.{Works}
-use Rattle.prem_machine.specs.Hits.{LeadsTo, Spot, spot_at, spot_in, state_at}
+use Rattle.prem_machine.specs.Hits.{LeadsTo, spot_at, state_at}
 use Rattle.prem_machine.specs.Log.{ended_in, put_out}
 use Rattle.prem_machine.specs.Parts.{HasRooms, Runs, Stands, state_of}
 use Rattle.prem_machine.specs.Stretch.{IsLone}

@@ -26,6 +26,10 @@ use Rattle.prem_machine.specs.Stretch.{IsLone}
 abbrev pub hit_of : ℕ → LineTouch
 hit_of line = record { line = line; hit = true; back = false }
 
+-- a touch of a line finds it, and leaves this cache
+abbrev pub Finds : CacheState → (line : ℕ) → (memory : List ℕ) → CacheState → Type 0
+Finds c line memory c' = touch_of (rule_of c.plant.policy) c line memory ≡ record { cache = c'; memory = memory; hit = true; back = false }
+
 -- what a store counts as in a phase
 abbrev pub stores_in : Phase → Option Stored → ℕ
 stores_in phase None = 0
@@ -98,6 +102,14 @@ pub record IsNext (p : Plant) (memory : List ℕ) (a b : Spot) : Type 0 where
 pub data Leads (p : Plant) (memory : List ℕ) (a : Spot) : ℕ → Spot → Type 0 where
   here : Leads p memory a 0 a
   then_hits : {n : ℕ} {c : Spot} (b : Spot) → Leads p memory a n b → IsNext p memory b c → Leads p memory a (suc n) c
+
+-- one does, which takes 1 to 20 cycles, finds at most two lines and counts as one store at most
+pub record IsStep (p : Plant) (memory : List ℕ) (a b : Spot) : Type 0 where
+  pub next : IsNext p memory a b
+  pub some : a.time + 1 ≤ b.time
+  pub most : b.time ≤ a.time + 20
+  pub found : b.hits ≤ a.hits + 2
+  pub stored : b.stores ≤ a.stores + 1
 
 -- some do
 pub record Reaches (p : Plant) (memory : List ℕ) (a b : Spot) : Type 0 where

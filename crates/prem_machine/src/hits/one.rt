@@ -1,20 +1,22 @@
 // One instruction that hits and goes on.
-ghost use Rattle.std.specs.Prelude.{◌≡◌, ◌+◌, ◌/◌, ◌%◌, ◌<◌, ◌≤◌, false, true, length, IfNone, IfSome, Some};
+ghost use Rattle.std.specs.Prelude.{◌≡◌, ◌+◌, ◌*◌, ◌^◌, ◌/◌, ◌%◌, ◌<◌, ◌≤◌, false, true, length, IfNone, IfSome, Some};
 ghost use Rattle.prem_list.specs.Sequence.{items_of, room_of};
 ghost use Rattle.prem_isa.specs.declared.effect.Change.TheVariants.{Stay};
 ghost use Rattle.prem_isa.specs.Alu.{load_size};
 ghost use Rattle.prem_isa.specs.Bounds.{IsPlaced};
 ghost use Rattle.prem_lru.specs.CacheState.{is_resident, view_of};
-ghost use Rattle.prem_machine.specs.Hits.{IsHit, count_of, lines_there, stores_in};
+ghost use Rattle.prem_machine.specs.Hits.{IsHit, IsStep, count_of, lines_there, spot_at};
 ghost use Rattle.prem_machine.specs.Issue.Attempts.{CanIssue};
 ghost use Rattle.prem_machine.specs.Issue.Coming.{IsExecuted, load_access, load_effect};
 ghost use Rattle.prem_machine.specs.Issue.Near.{IsNear};
 ghost use Rattle.prem_machine.specs.Issue.Tasks.{with_outputs};
 
+use crate::hits::followed::{Followed, stores_in};
+use crate::hits::settled::hit_settled;
 use crate::issue::{Near, TaskCore, cost_at, touch_known, touch_load};
 use crate::plain::{moving, putting, storing};
 use prem_image::TaskRecord;
-use prem_isa::{Access, AccessKind, DataLoad, Effect, Phase, Stored};
+use prem_isa::{Access, AccessKind, DataLoad, Effect};
 use prem_list::Sequence;
 use prem_lru::{Cache, Memory, Policy};
 
@@ -24,17 +26,6 @@ pub(crate) struct Hit {
     pub cost: u32,
     pub hits: u32,
     pub stores: u32,
-}
-
-/// What a store counts as in a phase.
-#[inline(always)]
-fn stores_in(phase: Phase, stored: Option<Stored>) -> u32
-    ensures { result ≡ stores_in phase stored }
-{
-    match stored {
-        Some(_) => { if phase == Phase::Memory { 1 } else { 0 } }
-        None => 0,
-    }
 }
 
 /// How many lines an instruction with this access touches.
@@ -161,7 +152,7 @@ pub(crate) fn hit_load<P: Policy>(
 /// The next instruction of a task, where it hits and goes on in its interval, and takes no input word, is executed. Of any
 /// other one, and where it traps, nothing changes.
 #[inline(always)]
-pub(crate) fn hit_next<P: Policy>(
+fn hit_next<P: Policy>(
     task: &TaskRecord,
     core: &mut TaskCore,
     cache: &mut Cache<P>,
@@ -207,4 +198,90 @@ pub(crate) fn hit_next<P: Policy>(
         return hit_known(cost_at(word), effect, task, core, cache, mem, near, outputs);
     }
     None
+}
+
+/// As `hit_next`, with nothing known of the line of the last fetch.
+#[inline(never)]
+fn hit_far<P: Policy>(
+    task: &TaskRecord,
+    core: &mut TaskCore,
+    cache: &mut Cache<P>,
+    mem: &mut Memory,
+    outputs: &mut Sequence<u32>,
+) -> Option<Hit>
+    requires entry { task.now.entry % 4 ≡ 0 }
+    requires memory { length mem.old ≡ cache.old.plant.memory }
+    requires room { length (items_of outputs.old) < room_of outputs.old }
+    ensures hit { IfSome result (λ h. IsHit cache.old.plant mem.old (with_outputs (items_of outputs.old) core.old) cache.old
+        (with_outputs (items_of outputs.new) core.new) cache.new h.cost h.hits h.stores) }
+    ensures cost { IfSome result (λ h. (1 ≤ h.cost) × ((h.cost ≤ 20) × ((h.hits ≤ 2) × (h.stores ≤ 1)))) }
+    ensures none { IfNone result ((core.new ≡ core.old) × (cache.new ≡ cache.old) × (outputs.new ≡ outputs.old)) }
+    ensures memory { mem.new ≡ mem.old }
+    ensures plant { cache.new.plant ≡ cache.old.plant }
+    ensures room { room_of outputs.new ≡ room_of outputs.old }
+{
+    let _plant = cache.plant();
+    let mut near = Near::none();
+    hit_next(task, core, cache, mem, &mut near, outputs)
+}
+
+/// As `hit_far`, and counted.
+#[inline(always)]
+fn hit_unsettled<P: Policy>(
+    task: &TaskRecord,
+    core: &mut TaskCore,
+    cache: &mut Cache<P>,
+    mem: &mut Memory,
+    outputs: &mut Sequence<u32>,
+    sum: &mut Followed,
+) -> bool
+    requires entry { task.now.entry % 4 ≡ 0 }
+    requires memory { length mem.old ≡ cache.old.plant.memory }
+    requires room { length (items_of outputs.old) < room_of outputs.old }
+    requires sum { (sum.old.time < 2 ^ 62) × ((sum.old.hits < 2 ^ 63) × (sum.old.stores < 2 ^ 63)) }
+    ensures step { result ≡ true → IsStep cache.old.plant mem.old
+        (spot_at (with_outputs (items_of outputs.old) core.old) cache.old sum.old.time sum.old.hits sum.old.stores)
+        (spot_at (with_outputs (items_of outputs.new) core.new) cache.new sum.new.time sum.new.hits sum.new.stores) }
+    ensures none { result ≡ false → (core.new ≡ core.old) × ((cache.new ≡ cache.old) × ((outputs.new ≡ outputs.old) × (sum.new ≡ sum.old))) }
+    ensures memory { mem.new ≡ mem.old }
+    ensures plant { cache.new.plant ≡ cache.old.plant }
+    ensures room { room_of outputs.new ≡ room_of outputs.old }
+{
+    let Some(hit) = hit_far(task, core, cache, mem, outputs) else {
+        return false;
+    };
+    sum.add(hit.cost, hit.hits, hit.stores);
+    true
+}
+
+/// The next instruction of a task, where it hits and goes on in its interval, and takes no input word, is executed, and counted. Of any
+/// other one, and where it traps, nothing changes. `near` is a slot to look for its line first.
+#[inline(always)]
+pub(crate) fn hit_one<P: Policy>(
+    task: &TaskRecord,
+    core: &mut TaskCore,
+    cache: &mut Cache<P>,
+    mem: &mut Memory,
+    near: &mut usize,
+    outputs: &mut Sequence<u32>,
+    sum: &mut Followed,
+) -> bool
+    requires entry { task.now.entry % 4 ≡ 0 }
+    requires memory { length mem.old ≡ cache.old.plant.memory }
+    requires near { near.old < cache.old.plant.sets * cache.old.plant.«ways» }
+    requires room { length (items_of outputs.old) < room_of outputs.old }
+    requires sum { (sum.old.time < 2 ^ 62) × ((sum.old.hits < 2 ^ 63) × (sum.old.stores < 2 ^ 63)) }
+    ensures step { result ≡ true → IsStep cache.old.plant mem.old
+        (spot_at (with_outputs (items_of outputs.old) core.old) cache.old sum.old.time sum.old.hits sum.old.stores)
+        (spot_at (with_outputs (items_of outputs.new) core.new) cache.new sum.new.time sum.new.hits sum.new.stores) }
+    ensures none { result ≡ false → (core.new ≡ core.old) × ((cache.new ≡ cache.old) × ((outputs.new ≡ outputs.old) × (sum.new ≡ sum.old))) }
+    ensures memory { mem.new ≡ mem.old }
+    ensures near { near.new < cache.old.plant.sets * cache.old.plant.«ways» }
+    ensures plant { cache.new.plant ≡ cache.old.plant }
+    ensures room { room_of outputs.new ≡ room_of outputs.old }
+{
+    if hit_settled(task, core, cache, mem, near, outputs, sum) {
+        return true;
+    }
+    hit_unsettled(task, core, cache, mem, outputs, sum)
 }

@@ -1,6 +1,5 @@
 use Rattle.std.proofs.Common.{◌≡◌, ℕ, ◌/◌, List, ap, sym, ◌∙◌}
 use Rattle.prem_list.specs.Sequence.{items_of}
-use Rattle.prem_isa.specs.declared.effect.Effect.{Effect}
 use Rattle.prem_isa.specs.declared.effect.Phase.{Phase}
 use Rattle.prem_lru.specs.Rules.{rule_of}
 use Rattle.prem_lru.specs.CacheState.{touch_of, view_of}

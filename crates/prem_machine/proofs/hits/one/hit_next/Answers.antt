@@ -1,4 +1,4 @@
-use Rattle.std.proofs.Common.{◌≡◌, ℕ, ◌+◌, ap, subst, sym, ◌∙◌, arith}
+use Rattle.std.proofs.Common.{◌≡◌, ◌+◌, ap, subst, sym, ◌∙◌, arith}
 use Rattle.prem_isa.specs.Bounds.{EffectFits}
 use Rattle.prem_isa.specs.declared.effect.Outcome.TheVariants.{Done}
 use Rattle.prem_isa.specs.declared.step.Upshot.TheVariants.{Loads, Moves, Puts, Stores}

@@ -8,11 +8,11 @@ use Rattle.prem_cycle.specs.State.{MachineState, rule_in}
 use Rattle.prem_cycle.specs.Run.{cycles_of}
 use Rattle.std.specs.Vec.{with_items}
 use Rattle.prem_machine.specs.Hits.{LeadsTo}
-use Rattle.prem_machine.specs.Log.{ended_in, put_out}
+use Rattle.prem_machine.specs.Log.{ended_in}
 use Rattle.prem_machine.specs.Moment.{ModeReady}
 use Rattle.prem_machine.specs.Parts.{state_of}
 use Rattle.prem_machine.specs.Work.{setup_in, work_in}
-use Rattle.prem_machine.proofs.Onward.{Leaves, onward, onward_lone, onward_put, onward_runs, onward_silent, onward_stands, onward_state, room_for}
+use Rattle.prem_machine.proofs.Onward.{Leaves, onward_lone, onward_put, onward_runs, onward_silent, onward_stands, onward_state, room_for}
 use Rattle.prem_machine.specs.Silent.{AreSilent}
 use Rattle.prem_machine.proofs.Stretching.{silent_stays, stays}
 use Rattle.prem_machine.proofs.parts.Parts.follow.Goals as goal
