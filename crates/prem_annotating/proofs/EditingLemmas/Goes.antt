@@ -1,20 +1,20 @@
 -- How the walk goes over pieces.
 use Rattle.std.specs.Prelude.{if◌then◌else◌}
-use Rattle.std.proofs.Common.{◌≡◌, ℕ, zero, suc, Bool, true, false, not, ◌&&◌, List, [], ◌∷◌, ◌++◌, map, refl, sym, ap, subst, ◌∙◌, arith, append_assoc, append-nil, Option, Some, None}
+use Rattle.std.proofs.Common.{◌≡◌, ℕ, Bool, true, false, not, ◌&&◌, List, [], ◌∷◌, ◌++◌, refl, sym, ap, subst, ◌∙◌, append_assoc, Option, Some}
 use Rattle.std.proofs.lemmas.Bool.{and_parts}
 use Rattle.prem_text.specs.Lexing.Token.Lexeme.{Lexeme, name, number, word, mark, end_of_text, Seen}
 use Rattle.prem_text.specs.Lexing.Tokens.{is_name_byte}
 use Rattle.prem_text.specs.Spelling.Spellings.{every}
-use Rattle.prem_text.specs.Spelling.Division.{Gap, IsToken, goes_on}
+use Rattle.prem_text.specs.Spelling.Division.{goes_on}
 use Rattle.prem_text.specs.Canonical.Law.{lexemes_of}
 use Rattle.prem_annotating.specs.Pieces.{Piece, between, a_token, text_of, lexemes_in, AreDivided}
 use Rattle.prem_annotating.specs.declared.editing.walk.Spot.{Spot}
-use Rattle.prem_annotating.specs.declared.editing.walk.Spot.TheVariants.{Elsewhere, BehindType, BehindName, InMark, AmongRegions, InParameters, InRange}
+use Rattle.prem_annotating.specs.declared.editing.walk.Spot.TheVariants.{Elsewhere, BehindType, InMark}
 use Rattle.prem_annotating.specs.declared.editing.walk.Mode.{Mode}
 use Rattle.prem_annotating.specs.declared.editing.walk.Mode.TheVariants.{Copying, Dropping, Skipping}
-use Rattle.prem_annotating.specs.Editing.Walk.{Order, Marked, Step, kept, at_token, at_byte, skipped, first_order, rest_if, walked, mode_of, is_type, is_predictable, type_or, elsewhere}
-use Rattle.prem_annotating.specs.Editing.Marks.{plain, first_marked, marks_of}
-use Rattle.prem_annotating.proofs.Pieces.{Begun, token_begun}
+use Rattle.prem_annotating.specs.Editing.Walk.{Order, Marked, Step, kept, at_token, skipped, first_order, rest_if, walked, mode_of, is_type, is_predictable, type_or, elsewhere}
+use Rattle.prem_annotating.specs.Editing.Marks.{plain, marks_of}
+use Rattle.prem_annotating.proofs.Pieces.{token_begun}
 
 -- what a step and the bytes behind it give
 abbrev pub after_step : Step → List Order → List Marked → List ℕ

@@ -1,6 +1,6 @@
 -- The orders of parameters and of regions in memory.
-use Rattle.std.specs.Prelude.{◌==◌, ◌&&◌}
-use Rattle.std.proofs.Common.{◌≡◌, ◌≤◌, ℕ, ℤ, zero, suc, ◌+◌, Bool, true, false, List, [], ◌∷◌, ◌++◌, length, drop, map, Option, None, Some, refl, sym, ap, ◌∙◌, arith, append_assoc}
+use Rattle.std.specs.Prelude.{◌&&◌}
+use Rattle.std.proofs.Common.{◌≡◌, ◌≤◌, ℕ, ℤ, zero, suc, ◌+◌, Bool, true, false, List, [], ◌∷◌, ◌++◌, length, map, Option, None, Some, refl, ap, ◌∙◌, arith, append_assoc}
 use Rattle.prem_syntax.specs.Syntax.{Parameter, FunctionText, MarkText, RegionText}
 use Rattle.prem_annotating.specs.Editing.Walk.{Order, leave}
 use Rattle.prem_annotating.specs.Editing.Orders.{range_order, range_at, orders_from, range_orders, mark_orders, function_orders, same_region, same_regions}

@@ -1,24 +1,23 @@
 -- A text stays where nothing differs.
-use Rattle.std.specs.Prelude.{◌==◌, ◌&&◌, if◌then◌else◌}
+use Rattle.std.specs.Prelude.{◌==◌, if◌then◌else◌}
 use Rattle.std.specs.Option.{option_map}
-use Rattle.std.proofs.Common.{◌≡◌, ℕ, ℤ, zero, suc, Bool, true, false, List, [], ◌∷◌, ◌++◌, length, drop, map, Option, None, Some, Result, Ok, Err, refl, sym, ap, subst, ◌∙◌, arith}
+use Rattle.std.proofs.Common.{◌≡◌, ℕ, ℤ, Bool, true, false, List, [], ◌∷◌, ◌++◌, length, map, Option, None, Some, Result, Ok, Err, refl, sym, ap, subst, ◌∙◌, arith}
 use Rattle.std.proofs.lemmas.Bool.Decides.{nat_tests}
 use Rattle.prem_syntax.specs.declared.tree.Place.{Place}
 use Rattle.prem_syntax.specs.Syntax.{Parameter, RegionText, MarkText, FunctionText, ProgramText}
 use Rattle.prem_syntax.specs.Resolve.{functions_of}
 use Rattle.prem_text.specs.declared.lexing.token.fail.FrontFail.{FrontFail}
-use Rattle.prem_text.specs.declared.lexing.token.token.Mark.{Mark}
 use Rattle.prem_text.specs.declared.lexing.token.token.Word.{Word}
 use Rattle.prem_text.specs.Lexing.Token.Lexeme.{Lexeme, name, number, word, mark, end_of_text, Seen}
 use Rattle.prem_text.specs.Lexing.Tokens.{tokens_of}
-use Rattle.prem_text.specs.Texts.{reads, IsProgramText}
+use Rattle.prem_text.specs.Texts.{reads}
 use Rattle.prem_text.specs.Canonical.Unplaced.{unplaced_region, unplaced_mark}
 use Rattle.prem_text.proofs.Whole.{text_read}
 use Rattle.prem_annotating.specs.declared.editing.walk.Spot.{Spot}
 use Rattle.prem_annotating.specs.declared.editing.walk.Spot.TheVariants.{Elsewhere, BehindType, BehindName, InMark, AmongRegions, InParameters, InRange}
 use Rattle.prem_annotating.specs.declared.editing.walk.Mode.TheVariants.{Copying}
-use Rattle.prem_annotating.specs.Editing.Walk.{Order, leave, put, put_for, Marked, Step, is_type, is_predictable, is_range, is_open, is_close, type_or, elsewhere, behind_type, behind_name, in_range, at_literal, at_close, at_name, kept, in_mark, in_parameters, at_token, first_order, rest_if, walked, begins, first_if, tokens_behind, marked, behind, edited}
-use Rattle.prem_annotating.specs.Editing.Orders.{length_bytes, regions_bytes, same_region, same_regions, length_order, regions_order, mark_orders, range_order, range_orders, function_orders, Wanted, annotations, unplaced_wanted, all_orders, edited_text, text_with, StaysWhereSame}
+use Rattle.prem_annotating.specs.Editing.Walk.{Order, leave, put, put_for, Marked, Step, is_type, is_predictable, is_range, is_open, is_close, type_or, elsewhere, behind_type, behind_name, in_range, at_literal, at_close, at_name, kept, in_mark, in_parameters, at_token, first_order, rest_if, walked, begins, tokens_behind, marked, behind, edited}
+use Rattle.prem_annotating.specs.Editing.Orders.{length_bytes, regions_bytes, length_order, regions_order, mark_orders, range_order, range_orders, function_orders, Wanted, annotations, unplaced_wanted, all_orders, edited_text, text_with, StaysWhereSame}
 use Rattle.prem_annotating.proofs.There.{same_regions_yes}
 
 -- ---- one step

@@ -1,5 +1,5 @@
 -- The bytes of pieces, with the tokens that begin with them.
-use Rattle.std.specs.Prelude.{ℕ, List, [], ◌∷◌, ◌++◌, map, Option, None, Some}
+use Rattle.std.specs.Prelude.{ℕ, List, [], ◌∷◌, ◌++◌, map, None, Some}
 use Rattle.prem_text.specs.Lexing.Token.Lexeme.{Lexeme, end_of_text, Seen}
 use Rattle.prem_text.specs.Spelling.Division.{place_behind}
 use Rattle.prem_annotating.specs.Pieces.{Piece, between, a_token}

@@ -1,6 +1,4 @@
-use Rattle.std.proofs.Common.{◌≡◌, ◌≤◌, ◌+◌, ◌++◌, List, ℕ, get_or, ap, ◌∙◌, sym, subst, arith}
-use Rattle.prem_syntax.specs.declared.tree.Place.{Place}
-use Rattle.prem_annotating.specs.declared.editing.whole.Standing.{Standing}
+use Rattle.std.proofs.Common.{◌++◌, List, ℕ, get_or, ap, ◌∙◌, arith}
 use Rattle.prem_annotating.specs.Editing.Standing.{over}
 use Rattle.prem_annotating.proofs.EditingLemmas.Standing.{over_is, over_next, token_next, order_next, line_next, col_next}
 use Rattle.prem_annotating.proofs.editing.whole.edited.Goals as goal
