@@ -1,13 +1,14 @@
 -- What a choice means.
 use Rattle.std.specs.Prelude.{All}
-use Rattle.std.proofs.Common.{◌≡◌, ℕ, zero, suc, ◌+◌, ◌*◌, ◌/◌, ◌<◌, ◌≤◌, Bool, true, false, List, [], ◌∷◌, Option, Some, None, length, refl, ap, sym, ◌∙◌, arith, get_or, subst}
+use Rattle.std.proofs.Common.{◌≡◌, ℕ, zero, suc, ◌+◌, ◌*◌, ◌/◌, ◌<◌, ◌≤◌, Bool, true, false, List, [], ◌∷◌, Option, Some, None, length, cond, refl, ap, sym, ◌∙◌, arith, get_or, subst}
 use Rattle.std.proofs.lemmas.List.{get_or-map, length-map}
-use Rattle.std.proofs.Math.Nat.{div-lt_iff_lt-mul, lt-div-mul-add}
+use Rattle.std.proofs.Math.Nat.{div-lt_iff_lt-mul, div-mul-le_self, lt-div-mul-add}
+use Rattle.std.proofs.lemmas.Nat.{le-div}
 use Rattle.std.proofs.lemmas.Bool.{false_from_ne_true}
 use Rattle.std.proofs.lemmas.Bool.Decides.{nat_tests}
 use Rattle.prem_sched.specs.declared.sched.TaskJobs.{TaskJobs}
 use Rattle.prem_sched.specs.declared.sched.Choice.TheVariants.{Finished}
-use Rattle.prem_sched.specs.Schedule.{is_ready, has_jobs_left, next_release, earlier, least_release, rest, first_ready, run_or, choice, start_of, starts_of, no_task, task_at, IsTask, IsReady, IsDone, NoneReady, IsChoice, IsSet}
+use Rattle.prem_sched.specs.Schedule.{is_ready, has_jobs_left, next_release, earlier, least_release, rest, first_ready, run_or, choice, start_of, starts_of, no_task, task_at, becomes_ready, next_ready, Before, IsTask, IsReady, IsDone, NoneReady, IsChoice, IsSet}
 
 -- ---- one task
 
@@ -23,11 +24,6 @@ left_is_release t task is = rw is
 
 done_no_release : (t : ℕ) (task : TaskJobs) → has_jobs_left task ≡ false → next_release t task ≡ None
 done_no_release t task is = rw is
-
--- the time is before this one, if there is one
-abbrev pub Before : ℕ → Option ℕ → Type 0
-Before v None = Unit {0}
-Before v (Some u) = v < u
 
 in_period : (v t period : ℕ) → 1 ≤ period → v < (t / period + 1) * period → v / period ≤ t / period
 in_period v t period some lt =
@@ -63,7 +59,7 @@ done_at t task true is none = let e = sym (left_is_release t task is) ∙ none i
 
 -- ---- the earlier of two times
 
-earlier_assoc : (a b c : Option ℕ) → earlier (earlier a b) c ≡ earlier a (earlier b c)
+pub earlier_assoc : (a b c : Option ℕ) → earlier (earlier a b) c ≡ earlier a (earlier b c)
 earlier_assoc None b c = refl
 earlier_assoc (Some x) None c = refl
 earlier_assoc (Some x) (Some y) None = refl
@@ -229,3 +225,46 @@ starts_set tasks positive count =
           let P : TaskJobs → Type 0 = λ task. 1 ≤ task.period in
           subst P (sym e) (positive k (1, 1) in_tasks).0;
     }
+
+-- ---- while no job ends
+
+quotients : (t v period : ℕ) → 1 ≤ period → t ≤ v → t / period ≤ v / period
+quotients t v period some later =
+    let down : t / period * period ≤ t = div-mul-le_self t period in
+    le-div (t / period) v period (omega arith) (omega arith)
+
+abbrev HasPeriod : TaskJobs → Type 0
+HasPeriod task = 1 ≤ task.period
+
+-- a task that is ready stays so
+ready_on : (t v : ℕ) (task : TaskJobs) → 1 ≤ task.period → t ≤ v → is_ready t task ≡ true → is_ready v task ≡ true
+ready_on t v task some later is =
+    let q = quotients t v task.period some later in
+    grind (arith, nat_tests)
+
+kept_by : (t v : ℕ) (task : TaskJobs) (b : Bool) → is_ready t task ≡ b → 1 ≤ task.period → t ≤ v → Before v (cond b None (next_release t task)) → is_ready v task ≡ b
+kept_by t v task true is some later before = ready_on t v task some later is
+kept_by t v task false is some later before = waits_before t v task some is before
+
+later_by : (t : ℕ) (task : TaskJobs) (b : Bool) → 1 ≤ task.period → Before t (cond b None (next_release t task))
+later_by t task true some = tt
+later_by t task false some = next_later t task some
+
+-- the next task that becomes ready does so later
+pub next_ready_later : (t : ℕ) (tasks : List TaskJobs) → All (λ task. 1 ≤ task.period) tasks → Before t (next_ready t tasks)
+next_ready_later t [] some = tt
+next_ready_later t (task ∷ tasks) some =
+    before_both t (becomes_ready t task) (next_ready t tasks) (later_by t task (is_ready t task) (all_front HasPeriod task tasks some))
+    (next_ready_later t tasks (all_behind HasPeriod task tasks some))
+
+-- and until then each task is ready or not as it was
+pub ready_kept : (t v : ℕ) (tasks : List TaskJobs) (k : ℕ) → All (λ task. 1 ≤ task.period) tasks → t ≤ v → Before v (next_ready t tasks) →
+    is_ready v (task_at tasks k) ≡ is_ready t (task_at tasks k)
+ready_kept t v [] k some later before = none_ready
+  where
+    none_ready : is_ready v no_task ≡ is_ready t no_task
+    none_ready = let a : is_ready v no_task ≡ false = grind (arith, nat_tests) in let b : is_ready t no_task ≡ false = grind (arith, nat_tests) in a ∙ sym b
+ready_kept t v (task ∷ tasks) zero some later before =
+    kept_by t v task (is_ready t task) refl (all_front HasPeriod task tasks some) later (before_first v (becomes_ready t task) (next_ready t tasks) before)
+ready_kept t v (task ∷ tasks) (suc k) some later before =
+    ready_kept t v tasks k (all_behind HasPeriod task tasks some) later (before_second v (becomes_ready t task) (next_ready t tasks) before)

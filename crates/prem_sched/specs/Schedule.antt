@@ -53,6 +53,19 @@ run_or None other = other
 abbrev pub choice : ℕ → List TaskJobs → Choice
 choice t tasks = run_or (first_ready t 0 tasks) (rest (least_release t tasks))
 
+-- the first cycle behind t in which a task becomes ready that isn't, while no job ends
+abbrev pub becomes_ready : ℕ → TaskJobs → Option ℕ
+becomes_ready t task = if is_ready t task then None else next_release t task
+
+abbrev pub next_ready : ℕ → List TaskJobs → Option ℕ
+next_ready t [] = None
+next_ready t (task ∷ tasks) = earlier (becomes_ready t task) (next_ready t tasks)
+
+-- the time is before this one, if there is one
+abbrev pub Before : ℕ → Option ℕ → Type 0
+Before v None = Unit {0}
+Before v (Some u) = v < u
+
 -- ---- the start, and the end of a job
 
 -- no job has ended

@@ -1,6 +1,6 @@
 // Periodic tasks, the jobs of each that have ended, and what the core does next.
-ghost use Rattle.std.specs.Prelude.{◌≡◌, ◌≤◌, IfOk, All, length};
-ghost use Rattle.prem_sched.specs.Schedule.{IsChoice, IsDone, IsReady, IsTask, choice, earlier, job_ended, starts_of};
+ghost use Rattle.std.specs.Prelude.{◌≡◌, ℕ, ◌≤◌, IfOk, All, length};
+ghost use Rattle.prem_sched.specs.Schedule.{Before, IsChoice, IsDone, IsReady, IsTask, choice, earlier, is_ready, job_ended, next_ready, starts_of, task_at};
 
 use prem_plant::TaskId;
 use std::alloc::{AllocError, Global};
@@ -48,7 +48,7 @@ impl Model for Sched {
 
 impl TaskJobs {
     ghost use Rattle.std.specs.Prelude.{◌≡◌, ◌<◌, ◌≤◌, false};
-    ghost use Rattle.prem_sched.specs.Schedule.{is_ready, next_release, with_job};
+    ghost use Rattle.prem_sched.specs.Schedule.{becomes_ready, is_ready, next_release, with_job};
 
     /// Whether fewer jobs have ended than are released.
     fn is_ready(&self, now: u64) -> bool
@@ -66,6 +66,17 @@ impl TaskJobs {
     {
         let period = u64::from(self.period);
         (self.ended < self.jobs).then(|| (now / period + 1) * period)
+    }
+
+    /// The first cycle behind this one in which it becomes ready, where it isn't.
+    fn next_ready(&self, now: u64) -> Option<u64>
+        requires { 1 ≤ self.now.period }
+        ensures { result ≡ becomes_ready now self.now }
+    {
+        if self.is_ready(now) {
+            return None;
+        }
+        self.next_release(now)
     }
 
     /// One more job has ended.
@@ -115,6 +126,40 @@ impl Sched {
             Some(until) => Choice::Idle { until },
             None => Choice::Finished,
         }
+    }
+
+    /// Whether fewer jobs of a task have ended than are released. A task that isn't in the set isn't ready.
+    pub fn is_ready(&self, t: TaskId, now: u64) -> bool
+        ensures { result ≡ is_ready now (task_at self.now t) }
+    {
+        match self.tasks.get(usize::from(t)) {
+            Some(task) => task.is_ready(now),
+            None => false,
+        }
+    }
+
+    /// How many jobs of a task have ended: the number of the job that is under way or comes next.
+    pub fn ended(&self, t: TaskId) -> u32
+        ensures { result ≡ (task_at self.now t).ended }
+    {
+        match self.tasks.get(usize::from(t)) {
+            Some(task) => task.ended,
+            None => 0,
+        }
+    }
+
+    /// The first cycle behind this one in which a task becomes ready that isn't, while no job ends. Up to it each task is
+    /// ready or not as it is now.
+    pub fn next_ready(&self, now: u64) -> Option<u64>
+        ensures first { result ≡ next_ready now self.now }
+        ensures later { Before now result }
+        ensures kept { (k v : ℕ) → now ≤ v → Before v result → is_ready v (task_at self.now k) ≡ is_ready now (task_at self.now k) }
+    {
+        let mut least = None;
+        'tasks: for task in &self.tasks {
+            least = earlier(least, task.next_ready(now));
+        }
+        least
     }
 
     /// A job of a task that is ready now has ended.

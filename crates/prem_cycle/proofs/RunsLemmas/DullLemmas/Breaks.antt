@@ -4,8 +4,8 @@ use Rattle.std.proofs.Common.{◌≡◌, ◌≢◌, ℕ, zero, suc, ◌+◌, ◌
 use Rattle.std.proofs.lemmas.Bool.Decides.{nat_tests}
 use Rattle.prem_sched.specs.declared.sched.Choice.{Choice}
 use Rattle.prem_sched.specs.declared.sched.Choice.TheVariants.{Run, Idle as Rest, Finished}
-use Rattle.prem_sched.specs.Schedule.{choice, first_ready, least_release, rest, run_or}
-use Rattle.prem_sched.proofs.Choices.{Before, least_later}
+use Rattle.prem_sched.specs.Schedule.{Before, choice, first_ready, least_release, rest, run_or}
+use Rattle.prem_sched.proofs.Choices.{least_later}
 use Rattle.prem_isa.specs.declared.effect.Access.{Access}
 use Rattle.prem_isa.specs.declared.effect.Stored.{Stored}
 use Rattle.prem_isa.specs.declared.effect.Phase.{Phase}
