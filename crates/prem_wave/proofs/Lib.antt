@@ -1,0 +1,10 @@
+pub mod Moments
+pub mod Phases
+pub mod Kept
+pub mod Between
+pub mod ReadBack
+pub mod Digits
+pub mod Declared
+pub mod Simulated
+pub mod Waved
+pub mod Rows

@@ -1,0 +1,9 @@
+pub mod Dump
+pub mod Changed
+pub mod Header
+pub mod Names
+pub mod Grammar
+pub mod Signals
+pub mod Waves
+pub mod ReadBack
+pub mod Laws
