@@ -6,3 +6,4 @@ pub mod Turned
 pub mod Reaching
 pub mod Noted
 pub mod Lengthened
+pub mod WritingLemmas

@@ -2,3 +2,4 @@ pub mod Seeing
 pub mod Ranges
 pub mod Regions
 pub mod Notes
+pub mod Writing

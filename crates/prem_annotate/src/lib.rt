@@ -4,9 +4,11 @@
 //! - `ranges`: the ranges of parameters, from the last function to the first.
 //! - `regions`: the regions of marked functions.
 //! - `seeing`: a walk over a function that gives its accesses of globals, and the ranges of the arguments that it passes.
+//! - `writing`: a program's text with its annotations.
 #![tactic(auto)]
 
 pub mod notes;
 pub mod ranges;
 pub mod regions;
 pub mod seeing;
+pub mod writing;

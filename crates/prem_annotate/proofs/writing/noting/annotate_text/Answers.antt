@@ -1,0 +1,16 @@
+use Rattle.std.proofs.Common.{List, ap, ◌∙◌, map}
+use Rattle.prem_syntax.specs.declared.tree.Item.{Item}
+use Rattle.prem_syntax.specs.Resolve.{functions_of}
+use Rattle.prem_syntax.specs.SyntaxOf.{item_of, program_of}
+use Rattle.prem_annotating.specs.declared.editing.walk.Order.{Order}
+use Rattle.prem_annotating.specs.Editing.Orders.{order_of, edited_text}
+use Rattle.prem_annotate.specs.Notes.{notes_of}
+use Rattle.prem_annotate.specs.Writing.Text.{orders_from}
+use Rattle.prem_annotate.proofs.WritingLemmas.Writing.{text_is}
+use Rattle.prem_annotate.proofs.writing.noting.annotate_text.Goals as goal
+
+pub returns : goal.returns
+returns c =
+    text_is c.args.text.now (program_of c.args.program.now) (map order_of c.in_ok-orders.orders.items) (map notes_of c.args.notes.now) c.in_ok-edited.edited.items c.requires
+    (c.in_ok-orders.ensures ∙ ap (λ (items : List Item). orders_from 0 (functions_of (map item_of items)) (map notes_of c.args.notes.now)) c.items.ensures)
+    (c.in_ok-edited.ensures ∙ ap (λ (os : List Order). edited_text (map order_of os) c.args.text.now) c.deref.ensures.value)
