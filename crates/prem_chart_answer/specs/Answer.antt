@@ -1,13 +1,11 @@
 -- The answer to `SET RUN [--from N] [--to N]`: the picture of the run of a compiled set, or the first rule that the set breaks.
-use Rattle.std.specs.Prelude.{◌≡◌, ⊤, ℕ, ◌+◌, ◌-◌, ◌^◌, min, max, List, Option, None, Some, Ok, unwrap_or, codes}
+use Rattle.std.specs.Prelude.{◌≡◌, ⊤, ℕ, ◌+◌, ◌-◌, ◌^◌, min, max, List, Option, None, unwrap_or, codes}
 use Rattle.prem_io.specs.Files.{Files}
 use Rattle.prem_lru.specs.Rules.{rule_of}
 use Rattle.prem_image.specs.Text.{ImageText}
 use Rattle.prem_cycle.specs.State.{MachineState}
 use Rattle.prem_cycle.specs.FactsOf.{report_of}
 use Rattle.prem_cycle.specs.Inputs.{image_setup}
-use Rattle.prem_layout.specs.Rules.{Refusal}
-use Rattle.prem_tasks.specs.Told.{Told}
 use Rattle.prem_tasks.specs.Broken.{TaskSet, broken}
 use Rattle.prem_tasks.specs.Compiled.{CompiledText, compiled}
 use Rattle.prem_command.specs.Chart.{ChartAsked, chart_of}
@@ -16,11 +14,10 @@ use Rattle.prem_chart.specs.Picture.{chart_text}
 use Rattle.prem_answer.specs.declared.status.Status.TheVariants.{Done}
 use Rattle.prem_answer.specs.Stages.{Reply, Stage}
 use Rattle.prem_answer.specs.Tool.{ToolMeaning}
-use Rattle.prem_answer.specs.Refusal.Texts.{refused_reply}
 use Rattle.prem_exec.specs.Forms.{RunText}
 use Rattle.prem_exec.specs.Exec.{state_at, stop_at}
-use Rattle.prem_exec.specs.Sources.Sources.{reading_set, reading_run}
 use Rattle.prem_exec.specs.Sources.There.{RunIsThere, SetIsThere}
+use Rattle.prem_running.specs.Tellings.{Tells, told_stages}
 use Rattle.prem_running.specs.Running.{run_limit}
 use Rattle.prem_chart_answer.specs.Notes.{notes_of}
 
@@ -46,17 +43,11 @@ image_chart asked i input limit = state_chart asked i input limit (state_at i in
 abbrev pub compiled_reply : ChartAsked → RunText → CompiledText → Reply
 compiled_reply asked input c = (Done, image_chart asked c.image input (run_limit None c.limit))
 
--- to a set whose first broken rule is this, if it breaks one
-abbrev pub judged_reply : ChartAsked → TaskSet → RunText → Option (Refusal Told) → Reply
-judged_reply asked set input None = compiled_reply asked input (compiled set)
-judged_reply asked set input (Some refusal) = refused_reply set.tasks refusal
+abbrev pub chart_tells : ChartAsked → Tells
+chart_tells asked set input c = compiled_reply asked input c
 
-abbrev pub set_reply : ChartAsked → TaskSet → RunText → Reply
-set_reply asked set input = judged_reply asked set input (broken set)
-
--- the set and its sources are read, then the run file; the set is judged by all rules, compiled and run
 abbrev pub chart_stages : ChartAsked → Stage Reply
-chart_stages asked = reading_set asked.set (λ set. reading_run set asked.run (λ input reads. Ok (set_reply asked set input)))
+chart_stages asked = told_stages (chart_tells asked) asked.set asked.run
 
 -- ---- the program
 

@@ -5,7 +5,6 @@ mod answer;
 mod top;
 mod tracing;
 
-pub use answer::chart_answer;
 pub use prem_answer::Status;
 pub use top::draw;
 pub use tracing::{Traced, trace};

@@ -4,11 +4,12 @@ ghost use Rattle.prem_io.specs.Counts.{Rose};
 ghost use Rattle.prem_answer.specs.Tool.{Answered, IsComplete};
 ghost use Rattle.prem_chart_answer.specs.Answer.{chart_tool};
 
-use crate::answer::chart_answer;
+use crate::answer::Drawing;
 use prem_answer::{Answer, Halt, Status, Tool, run_tool, usage};
 use prem_command::WordsFail;
 use prem_command::chart::chart_command;
 use prem_io::{Sink, Store};
+use prem_running::tell_files;
 use std::alloc::Global;
 
 /// The usage line.
@@ -22,7 +23,10 @@ impl Tool for ChartTool {
 
     fn answer<S: Store>(alloc: Global, words: &[String], store: &mut S) -> Result<Answer, Halt> {
         match chart_command(alloc, words) {
-            Ok(asked) => chart_answer(alloc, &asked, store),
+            Ok(asked) => {
+                let drawing = Drawing { asked: &asked };
+                tell_files(alloc, &drawing, asked.set, asked.run, store)
+            }
             Err(WordsFail::Usage) => usage(alloc, USAGE),
             Err(WordsFail::OutOfMemory) => Err(Halt::OutOfMemory),
         }

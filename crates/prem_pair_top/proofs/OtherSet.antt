@@ -1,15 +1,13 @@
 -- The second set, which has no device.
 use Rattle.std.specs.Prelude.{codes}
-use Rattle.std.proofs.Common.{◌≡◌, ◌≤◌, ℕ, List, [], ◌∷◌, length, arith, Option, Result, Ok, Err, refl, ap, ◌∙◌, sym, subst}
+use Rattle.std.proofs.Common.{◌≡◌, ◌≤◌, ℕ, List, [], ◌∷◌, length, arith, Option, Result, Ok, Err, refl, ap, ◌∙◌, sym}
 use Rattle.prem_io.specs.Files.{Files}
 use Rattle.prem_plant.specs.declared.plant.Device.{Device}
-use Rattle.prem_tasks.specs.Broken.{TaskSet}
 use Rattle.prem_set.specs.SetFile.{SetData}
 use Rattle.prem_answer.specs.declared.answer.Telling.TheVariants.{Brief}
-use Rattle.prem_answer.specs.Stages.{Reply, IsGiven, IsReadAsBy, and_then, form_reply}
-use Rattle.prem_answer.proofs.Reading.{ends_there_by, goes_on_by}
-use Rattle.prem_exec.specs.Sources.Sources.{Passes, reading_sources, set_limit, set_of_bytes_by}
-use Rattle.prem_pair_top.specs.Stages.{other_of_bytes, reading_other, without, without_devices}
+use Rattle.prem_answer.specs.Stages.{Reply, IsReadAsBy, and_then, form_reply}
+use Rattle.prem_exec.specs.Sources.Sources.{set_limit, set_of_bytes_by}
+use Rattle.prem_pair_top.specs.Stages.{other_of_bytes, without, without_devices}
 
 -- its file, as any set file is read, and then without devices
 read_without : (told : Option Files) (name : List ℕ) (given also : Result SetData Reply) → IsReadAsBy Brief told set_limit name (set_of_bytes_by Brief name) given →
@@ -29,12 +27,3 @@ pub file_with_some : (told : Option Files) (name : List ℕ) (s : SetData) (devi
     devices ≡ s.devices → 1 ≤ length devices → reply ≡ form_reply name (codes "limit device") → IsReadAsBy Brief told set_limit name (other_of_bytes name) (Err reply)
 file_with_some told name s [] reply read are some is = absurd (omega (arith, some))
 file_with_some told name s (d ∷ ds) reply read are some is = file_with told name s d ds reply read (sym are) is
-
-pub set_passes : (told : Option Files) (name : List ℕ) (s : SetData) (given : Result TaskSet Reply) → IsReadAsBy Brief told set_limit name (other_of_bytes name) (Ok s) →
-    Passes told (reading_sources Brief s) given → Passes told (reading_other name) given
-set_passes told name s given read passes next answer leads =
-    goes_on_by Brief told set_limit name (other_of_bytes name) (λ s. reading_sources Brief s next) s answer read (passes next answer leads)
-
-pub set_unread : (told : Option Files) (name : List ℕ) (reply : Reply) → IsReadAsBy Brief told set_limit name (other_of_bytes name) (Err reply) → Passes told (reading_other name) (Err reply)
-set_unread told name reply read next answer leads =
-    subst (λ a. IsGiven told (reading_other name next) a) (sym leads) (ends_there_by Brief told set_limit name (other_of_bytes name) (λ s. reading_sources Brief s next) reply read)

@@ -1,3 +1,4 @@
+pub mod Tellings
 pub mod Running
 pub mod SetLaws
 pub mod RunSound

@@ -14,5 +14,7 @@ pub mod run_sound;
 mod running;
 pub mod sample;
 pub mod set_laws;
+mod teller;
 
-pub use running::run_answer;
+pub use running::{run_answer, run_limit};
+pub use teller::{Teller, tell_files, tell_set};

@@ -8,8 +8,8 @@ use Rattle.prem_lru.specs.Rules.{rule_of}
 use Rattle.prem_cycle.specs.Inputs.{FitsRun}
 use Rattle.prem_layout.specs.Rules.{Refusal}
 use Rattle.prem_tasks.specs.Told.{Told}
-use Rattle.prem_tasks.specs.Broken.{TaskSet, broken, programs_of}
-use Rattle.prem_tasks.specs.Compiled.{compiled}
+use Rattle.prem_tasks.specs.Broken.{TaskSet, broken}
+use Rattle.prem_tasks.specs.Compiled.{CompiledText, compiled}
 use Rattle.prem_tasks.specs.At.{broken_early, broken_at, compiled_at}
 use Rattle.prem_sets_sound.specs.Accepted.Accepted.{setup_in}
 use Rattle.prem_sets_sound.specs.Meant.{promises_in}
@@ -34,25 +34,26 @@ use Rattle.prem_build.specs.declared.sheet.Sheet.TheVariants.{Bounds, Image, Lis
 use Rattle.prem_build.specs.Build.{compiled_reply as sheet_reply, judged_reply as sheet_judged, sheet_stages, sheet_text}
 use Rattle.prem_build.specs.Colors.{stuck_reply, memory_refusal, judged_reply as color_judged, placed_reply, moved_reply, found_places, early_reply, color_reply, color_stages}
 use Rattle.prem_running.specs.RunSound.Runs.{SuitsRun}
-use Rattle.prem_running.specs.Running.{compiled_reply, judged_reply as run_judged, run_limit, set_reply}
+use Rattle.prem_running.specs.Tellings.{Tells, judged_reply, set_reply, told_stages}
+use Rattle.prem_running.specs.Running.{run_limit, run_tells}
 use Rattle.prem_running.specs.Mail.Files.{reading_mail}
 use Rattle.prem_running.specs.Mail.Mail.{compiled_reply as mail_compiled, judged_reply as mail_judged, set_reply as mail_reply, mail_stages}
-use Rattle.prem_running.specs.Sample.Trace.{sample_set}
-use Rattle.prem_running.specs.Sample.Sample.{compiled_reply as sample_compiled, judged_reply as sample_judged}
+use Rattle.prem_running.specs.Sample.Trace.{sample_run, sample_set}
+use Rattle.prem_running.specs.Sample.Sample.{compiled_reply as sample_compiled, sample_tells}
 use Rattle.prem_running.proofs.RunSoundLemmas.Reports.{sound_reports_end}
 use Rattle.prem_running.proofs.RunSoundLemmas.SetRuns.{inputs_are_lawful}
 use Rattle.prem_running.proofs.SetLawsLemmas.Names.{lawful_runs_fit}
-use Rattle.prem_top.specs.One.Answer.{judged_answer as one_judged, one_answer, one_set, one_stages, run_text, state_of}
+use Rattle.prem_top.specs.One.Answer.{no_input, one_answer, one_set, one_stages, one_tells, run_text, state_of}
 use Rattle.prem_top.specs.Tile.Reply.{tile_reply, tile_stages}
 use Rattle.prem_top.specs.Tile.Promise.{KeepsTiles}
 use Rattle.prem_top.proofs.TileLemmas.Keeping.{replies_keep}
-use Rattle.prem_top.specs.Source.Answer.{judged_reply as source_judged, source_reply, tasks_text}
+use Rattle.prem_top.specs.Source.Answer.{source_tells}
 use Rattle.prem_top.specs.Read.{IsRead, SetIsRead, RunIsRead, MailIsRead}
 use Rattle.prem_top.specs.Again.{IsToldAgain}
 use Rattle.prem_top.specs.Promises.{IsAccepted, IsSoundTelling, IsSoundColor, Keeps, TellsFirstBroken, IsFirstBroken, TellsWhyUncolored, early, stuck, full, at_places, IsWhyUncolored, delivered_to}
 use Rattle.prem_top.specs.PromiseLaws.{BuildsKeep, ChecksKeep, ListsKeep, OnesKeep, RunsKeep, SamplesKeep, SourcesKeep, TilesKeep, ColorsKeep, MailKeeps}
 use Rattle.prem_top.proofs.Again.{told_again}
-use Rattle.prem_top.proofs.Readings.{goes_on, run_goes, SetGoes, set_goes, is_judged, run_goes_on, mail_goes}
+use Rattle.prem_top.proofs.Readings.{goes_on, run_goes, set_goes, is_judged, run_goes_on, mail_goes}
 use Rattle.prem_top.proofs.Values.{sample_has_values, sets_read_have_values}
 use Rattle.prem_top.proofs.Alone.{gives, sound, text_told}
 
@@ -116,27 +117,33 @@ lists_keep = sheets_keep Listing
 
 -- ---- `run` and `source`
 
--- a set and its run file are read, and the set is judged
-record Ran (reads : Reads) (name run : List ℕ) (judge : TaskSet → RunText → Option (Refusal Told) → Reply) (given : Reply) : Type 0 where
+-- a set and its run file are read, and the set is judged and told
+record Ran (reads : Reads) (name run : List ℕ) (tells : Tells) (given : Reply) : Type 0 where
   set : TaskSet
   read : SetIsRead reads name set
   input : RunText
   run_read : RunIsRead reads set run input
-  goes : judge set input (broken set) ≡ given
+  judged : Judged set (tells set input (compiled set)).1 given
 
-ran : (reads : Reads) (name run : List ℕ) (judge : TaskSet → RunText → Option (Refusal Told) → Reply) (given : Reply) → is_judged given.0 ≡ true →
-    (g : SetGoes reads name (λ set. reading_run set run (λ input reads. Ok (judge set input (broken set)))) given) → Ran reads name run judge given
-ran reads name run judge given judged g =
-    let r = run_goes reads g.set run (λ input. judge g.set input (broken g.set)) given judged g.goes in
-    record { set = g.set; read = g.read; input = r.input; run_read = r.read; goes = r.goes }
+ran : (reads : Reads) (name run : List ℕ) (tells : Tells) → ((set : TaskSet) (input : RunText) (c : CompiledText) → tells set input c ≡ (Done, (tells set input c).1)) → (given : Reply) →
+    is_judged given.0 ≡ true → replied (told_stages tells name run reads) ≡ given → Ran reads name run tells given
+ran reads name run tells done given answered is =
+    let g = set_goes reads name (λ set. reading_run set run (λ input reads. Ok (set_reply tells set input))) given answered is in
+    let r = run_goes reads g.set run (set_reply tells g.set) given answered g.goes in
+    let text = (tells g.set r.input (compiled g.set)).1 in
+    record {
+      set = g.set;
+      read = g.read;
+      input = r.input;
+      run_read = r.read;
+      judged = judged_by g.set (judged_reply tells g.set r.input) text given (done g.set r.input (compiled g.set)) (λ r. refl) (broken g.set) refl r.goes;
+    }
 
 pub runs_keep : RunsKeep
 runs_keep reads asked given is = record {
   on_done = λ done.
-      let answered = done_is_judged given.0 done in
-      let g = ran reads asked.of asked.run (run_judged asked) given answered (set_goes reads asked.of (λ set. reading_run set asked.run (λ input reads. Ok (set_reply asked set input))) given answered is) in
-      let judged = judged_by g.set (run_judged asked g.set g.input) (compiled_reply asked g.input (compiled g.set)).1 given refl (λ r. refl) (broken g.set) refl g.goes in
-      let told = judged.on_done done in
+      let g = ran reads asked.of asked.run (run_tells asked) (λ set input c. refl) given (done_is_judged given.0 done) is in
+      let told = g.judged.on_done done in
       let accepted_is = accepted reads asked.of g.set g.read told.0 in
       let r = g.run_read in
       let suits = subst (λ (i : RunText). SuitsRun (setup_in g.set) i.words i.requests) (sym r.input_is) (inputs_are_lawful g.set r.bytes r.lines told.0 r.formed) in
@@ -150,25 +157,19 @@ runs_keep reads asked given is = record {
         text_is = told.1;
       };
   on_refused = λ refused.
-      let answered = refused_is_judged given.0 refused in
-      let g = ran reads asked.of asked.run (run_judged asked) given answered (set_goes reads asked.of (λ set. reading_run set asked.run (λ input reads. Ok (set_reply asked set input))) given answered is) in
-      let judged = judged_by g.set (run_judged asked g.set g.input) (compiled_reply asked g.input (compiled g.set)).1 given refl (λ r. refl) (broken g.set) refl g.goes in
-      record { set = g.set; read = g.read; input = g.input; run_read = g.run_read; first = judged.on_refused refused };
+      let g = ran reads asked.of asked.run (run_tells asked) (λ set input c. refl) given (refused_is_judged given.0 refused) is in
+      record { set = g.set; read = g.read; input = g.input; run_read = g.run_read; first = g.judged.on_refused refused };
 }
 
 pub sources_keep : SourcesKeep
 sources_keep reads name run given is = record {
   on_done = λ done.
-      let answered = done_is_judged given.0 done in
-      let g = ran reads name run source_judged given answered (set_goes reads name (λ set. reading_run set run (λ input reads. Ok (source_reply set input))) given answered is) in
-      let judged = judged_by g.set (source_judged g.set g.input) (tasks_text g.set.tasks (programs_of g.set.tasks) g.input.words) given refl (λ r. refl) (broken g.set) refl g.goes in
-      let told = judged.on_done done in
+      let g = ran reads name run source_tells (λ set input c. refl) given (done_is_judged given.0 done) is in
+      let told = g.judged.on_done done in
       record { set = g.set; accepted = accepted reads name g.set g.read told.0; input = g.input; run_read = g.run_read; text_is = told.1 };
   on_refused = λ refused.
-      let answered = refused_is_judged given.0 refused in
-      let g = ran reads name run source_judged given answered (set_goes reads name (λ set. reading_run set run (λ input reads. Ok (source_reply set input))) given answered is) in
-      let judged = judged_by g.set (source_judged g.set g.input) (tasks_text g.set.tasks (programs_of g.set.tasks) g.input.words) given refl (λ r. refl) (broken g.set) refl g.goes in
-      record { set = g.set; read = g.read; input = g.input; run_read = g.run_read; first = judged.on_refused refused };
+      let g = ran reads name run source_tells (λ set input c. refl) given (refused_is_judged given.0 refused) is in
+      record { set = g.set; read = g.read; input = g.input; run_read = g.run_read; first = g.judged.on_refused refused };
 }
 
 -- ---- `one`
@@ -186,7 +187,7 @@ one_goes reads file given answered is =
     record {
       bytes = g.bytes;
       read = g.read;
-      judged = judged_by (one_set g.bytes) (one_judged (one_set g.bytes)) (run_text (state_of (compiled (one_set g.bytes)))) given refl (λ r. refl) (broken (one_set g.bytes)) refl goes;
+      judged = judged_by (one_set g.bytes) (judged_reply one_tells (one_set g.bytes) no_input) (run_text (state_of (compiled (one_set g.bytes)))) given refl (λ r. refl) (broken (one_set g.bytes)) refl goes;
     }
 
 pub ones_keep : OnesKeep
@@ -211,7 +212,7 @@ ones_keep reads file given is = record {
 
 pub samples_keep : SamplesKeep
 samples_keep reads seed given is =
-    let judged = judged_by (sample_set seed) (sample_judged seed) (sample_compiled seed (compiled (sample_set seed))).1 given refl (λ r. refl) (broken (sample_set seed)) refl is in
+    let judged = judged_by (sample_set seed) (judged_reply (sample_tells seed) (sample_set seed) (sample_run seed)) (sample_compiled seed (compiled (sample_set seed))).1 given refl (λ r. refl) (broken (sample_set seed)) refl is in
     record {
       on_done = λ done.
           let told = judged.on_done done in

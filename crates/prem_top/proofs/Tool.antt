@@ -7,13 +7,14 @@ use Rattle.prem_exec.proofs.Stages.{exec_is_fine}
 use Rattle.prem_build.specs.declared.sheet.Sheet.TheVariants.{Bounds, Image, Listing}
 use Rattle.prem_build.proofs.Build.{sheet_is_fine}
 use Rattle.prem_build.proofs.Moving.{color_is_fine}
-use Rattle.prem_running.proofs.Runs.{run_is_fine}
+use Rattle.prem_running.specs.Running.{run_tells}
+use Rattle.prem_running.proofs.Tellings.{told_fine}
 use Rattle.prem_running.proofs.SampleLemmas.Told.{sample_is_fine}
 use Rattle.prem_running.proofs.MailLemmas.Stages.{mail_is_fine}
 use Rattle.prem_top.specs.Answer.{asked_answer, prem_tool}
+use Rattle.prem_top.specs.Source.Answer.{source_tells}
 use Rattle.prem_top.proofs.OneLemmas.Stages.{one_is_fine}
 use Rattle.prem_top.proofs.TileLemmas.Stages.{tile_is_fine}
-use Rattle.prem_top.proofs.SourceLemmas.Source.{source_is_fine}
 use Rattle.prem_top.proofs.Headline.{asked_keeps}
 use Rattle.prem_top.proofs.Ranges.{words_in_range}
 use Rattle.prem_top.proofs.Complete.{succeeds}
@@ -24,8 +25,8 @@ asked_fine (exec asked) reads = exec_is_fine asked reads
 asked_fine (check set) reads = sheet_is_fine Bounds set reads
 asked_fine (build set) reads = sheet_is_fine Image set reads
 asked_fine (list set) reads = sheet_is_fine Listing set reads
-asked_fine (source set file) reads = source_is_fine set file reads
-asked_fine (run asked) reads = run_is_fine asked reads
+asked_fine (source set file) reads = told_fine source_tells set file (λ set input c. refl) reads
+asked_fine (run asked) reads = told_fine (run_tells asked) asked.of asked.run (λ set input c. refl) reads
 asked_fine (sample seed) reads = sample_is_fine seed reads
 asked_fine (tile asked) reads = tile_is_fine asked reads
 asked_fine (color set) reads = color_is_fine set reads

@@ -1,8 +1,7 @@
 -- What is told of the run of a compiled set is the answer.
-use Rattle.std.proofs.Common.{◌≡◌, ℕ, List, [], ◌∷◌, Option, None, Some, Result, Ok, Err, IsTrue, length, map, refl, ap, ◌∙◌, sym, subst}
+use Rattle.std.proofs.Common.{◌≡◌, ℕ, List, [], ◌∷◌, Option, None, Some, Ok, length, map, refl, ap, ◌∙◌, sym, subst}
 use Rattle.std.proofs.lemmas.List.{length-map}
 use Rattle.prem_list.specs.Sequence.{items_of}
-use Rattle.prem_io.specs.Files.{Files}
 use Rattle.prem_image.specs.declared.image.TaskRecord.{TaskRecord}
 use Rattle.prem_image.specs.declared.image.DeviceRecord.{DeviceRecord}
 use Rattle.prem_layout.specs.Rules.{Refusal}
@@ -16,12 +15,12 @@ use Rattle.prem_command.specs.Words.{MailAsked}
 use Rattle.prem_report.specs.Fitting.Named.{names_for}
 use Rattle.prem_mail.specs.declared.feed.Feed.{Feed}
 use Rattle.prem_mail.specs.Feeds.{AreFeeds}
-use Rattle.prem_answer.specs.Stages.{Reply, Reads, Stage, IsFine, IsGiven, IsReadAs, is_settled}
-use Rattle.prem_answer.proofs.Reading.{goes_on, ends_there, gives_at_once}
+use Rattle.prem_answer.specs.Stages.{Reply, Reads, Stage, IsFine}
+use Rattle.prem_answer.specs.Tool.{IsSettled}
 use Rattle.prem_exec.specs.Forms.{RunText}
-use Rattle.prem_exec.specs.Sources.Sources.{Passes, names_of, reading_run, reading_set, run_limit as file_limit, run_of_bytes}
+use Rattle.prem_exec.specs.Sources.Sources.{names_of, reading_run}
 use Rattle.prem_exec.proofs.SourcesLemmas.Fine.{run_fine, set_fine}
-use Rattle.prem_running.specs.Mail.Files.{mail_limit, feeds_of_bytes, reading_mail}
+use Rattle.prem_running.specs.Mail.Files.{reading_mail}
 use Rattle.prem_running.specs.Mail.Mail.{compiled_reply, judged_reply, set_reply, mail_stages}
 use Rattle.prem_running.proofs.SetLawsLemmas.Names.{names_are_kept}
 use Rattle.prem_running.proofs.MailLemmas.Files.{mail_fine}
@@ -55,49 +54,22 @@ told_is cycles set input feeds c reply is told =
 -- ---- the stages
 
 module _ (asked : MailAsked) where
-  abbrev behind_mail : TaskSet → RunText → List Feed → Stage Reply
+  abbrev pub behind_mail : TaskSet → RunText → List Feed → Stage Reply
   behind_mail set input feeds reads = Ok (set_reply asked.cycles set input feeds)
 
-  abbrev behind_run : TaskSet → RunText → Stage Reply
+  abbrev pub behind_run : TaskSet → RunText → Stage Reply
   behind_run set input = reading_mail set asked.mail (behind_mail set input)
 
-  abbrev behind_set : TaskSet → Stage Reply
+  abbrev pub behind_set : TaskSet → Stage Reply
   behind_set set = reading_run set asked.run (behind_run set)
-
-  pub mail_told : (told : Option Files) (set : TaskSet) (input : RunText) (feeds : List Feed) (given : Result Reply Reply) → Passes told (reading_set asked.of) (Ok set) →
-      IsReadAs told file_limit asked.run (run_of_bytes set asked.run) (Ok input) → IsReadAs told mail_limit asked.mail (feeds_of_bytes set asked.mail) (Ok feeds) → given ≡ Ok (set_reply asked.cycles set input feeds) →
-      IsGiven told (mail_stages asked) given
-  mail_told told set input feeds given passes read fed is =
-      let last : IsGiven told (behind_mail set input feeds) given =
-      let (reads, (are, same)) = gives_at_once told given in (reads, (are, is)) in
-      passes behind_set given
-      (goes_on told file_limit asked.run (run_of_bytes set asked.run) (behind_run set) input given read
-      (goes_on told mail_limit asked.mail (feeds_of_bytes set asked.mail) (behind_mail set input) feeds given fed last))
-
-  pub no_mail : (told : Option Files) (set : TaskSet) (input : RunText) (reply : Reply) → Passes told (reading_set asked.of) (Ok set) → IsReadAs told file_limit asked.run (run_of_bytes set asked.run) (Ok input) →
-      IsReadAs told mail_limit asked.mail (feeds_of_bytes set asked.mail) (Err reply) → IsGiven told (mail_stages asked) (Err reply)
-  no_mail told set input reply passes read fed =
-      passes behind_set (Err reply)
-      (goes_on told file_limit asked.run (run_of_bytes set asked.run) (behind_run set) input (Err reply) read
-      (ends_there told mail_limit asked.mail (feeds_of_bytes set asked.mail) (behind_mail set input) reply fed))
-
-  pub no_run : (told : Option Files) (set : TaskSet) (reply : Reply) → Passes told (reading_set asked.of) (Ok set) → IsReadAs told file_limit asked.run (run_of_bytes set asked.run) (Err reply) →
-      IsGiven told (mail_stages asked) (Err reply)
-  no_run told set reply passes read = passes behind_set (Err reply) (ends_there told file_limit asked.run (run_of_bytes set asked.run) (behind_run set) reply read)
-
-  pub no_set : (told : Option Files) (reply : Reply) → Passes told (reading_set asked.of) (Err reply) → IsGiven told (mail_stages asked) (Err reply)
-  no_set told reply passes = passes behind_set (Err reply) refl
 
   -- ---- answers that may be given
 
-  abbrev Settled : Reply → Type 0
-  Settled reply = IsTrue (is_settled reply.0)
-
-  judged_fine : (set : TaskSet) (input : RunText) (feeds : List Feed) (first : Option (Refusal Told)) → Settled (judged_reply asked.cycles set input feeds first)
+  judged_fine : (set : TaskSet) (input : RunText) (feeds : List Feed) (first : Option (Refusal Told)) → IsSettled (judged_reply asked.cycles set input feeds first)
   judged_fine set input feeds None = refl
   judged_fine set input feeds (Some refusal) = refl
 
-  pub mail_is_fine : (reads : Reads) → IsFine (λ reply. IsTrue (is_settled reply.0)) (mail_stages asked reads)
+  pub mail_is_fine : (reads : Reads) → IsFine IsSettled (mail_stages asked reads)
   mail_is_fine reads =
-      set_fine Settled asked.of behind_set
-      (λ set rest. run_fine Settled set asked.run (behind_run set) (λ input more. mail_fine Settled set asked.mail (behind_mail set input) (λ feeds last. judged_fine set input feeds (broken set)) more) rest) reads
+      set_fine IsSettled asked.of behind_set
+      (λ set rest. run_fine IsSettled set asked.run (behind_run set) (λ input more. mail_fine IsSettled set asked.mail (behind_mail set input) (λ feeds last. judged_fine set input feeds (broken set)) more) rest) reads

@@ -1,5 +1,5 @@
 -- The answer to `sample N`: what the run of the compiled sample tells in sums, or the first rule that its set breaks.
-use Rattle.std.specs.Prelude.{ℕ, ◌%◌, ◌^◌, ◌++◌, List, length, Option, None, Some, Ok, codes, decimal}
+use Rattle.std.specs.Prelude.{ℕ, ◌%◌, ◌^◌, ◌++◌, List, length, Ok, codes, decimal}
 use Rattle.std.specs.List.{flat_map, sum}
 use Rattle.prem_image.specs.declared.image.DeviceRecord.{DeviceRecord}
 use Rattle.prem_image.specs.declared.image.TaskRecord.{TaskRecord}
@@ -7,15 +7,12 @@ use Rattle.prem_image.specs.Text.{ImageText}
 use Rattle.prem_cycle.specs.declared.state.Stop.{Stop}
 use Rattle.prem_cycle.specs.State.{MachineState}
 use Rattle.prem_cycle.specs.FactsOf.{TaskReport, Report, report_of}
-use Rattle.prem_layout.specs.Rules.{Refusal}
-use Rattle.prem_tasks.specs.Told.{Told}
-use Rattle.prem_tasks.specs.Broken.{broken}
-use Rattle.prem_tasks.specs.Compiled.{CompiledText, compiled}
+use Rattle.prem_tasks.specs.Compiled.{CompiledText}
 use Rattle.prem_report.specs.Report.{counts_text, devices_text, stop_line}
 use Rattle.prem_answer.specs.declared.status.Status.TheVariants.{Done}
 use Rattle.prem_answer.specs.Stages.{Reply, Stage}
-use Rattle.prem_answer.specs.Refusal.Texts.{refused_reply}
 use Rattle.prem_exec.specs.Exec.{state_at, stop_at}
+use Rattle.prem_running.specs.Tellings.{Tells, set_reply}
 use Rattle.prem_running.specs.Sample.Trace.{sample_set, sample_run}
 
 -- ---- the text
@@ -46,17 +43,15 @@ abbrev pub told_reply : ℕ → ImageText → (limit : ℕ) → MachineState →
 told_reply seed i limit s =
     (Done, sample_text seed i.tasks i.devices s.now (report_of s) (stop_at limit s))
 
--- the run of a compiled sample goes up to its limit
-abbrev pub compiled_reply : ℕ → CompiledText → Reply
-compiled_reply seed c = told_reply seed c.image c.limit (state_at c.image (sample_run seed) c.limit)
+-- the run of a compiled set goes up to its limit
+abbrev pub sample_tells : ℕ → Tells
+sample_tells seed set input c = told_reply seed c.image c.limit (state_at c.image input c.limit)
 
--- by the first rule that its set breaks, if it breaks one
-abbrev pub judged_reply : ℕ → Option (Refusal Told) → Reply
-judged_reply seed None = compiled_reply seed (compiled (sample_set seed))
-judged_reply seed (Some refusal) = refused_reply (sample_set seed).tasks refusal
+abbrev pub compiled_reply : ℕ → CompiledText → Reply
+compiled_reply seed c = sample_tells seed (sample_set seed) (sample_run seed) c
 
 abbrev pub sample_reply : ℕ → Reply
-sample_reply seed = judged_reply seed (broken (sample_set seed))
+sample_reply seed = set_reply (sample_tells seed) (sample_set seed) (sample_run seed)
 
 -- no file is read
 abbrev pub sample_stages : ℕ → Stage Reply

@@ -3,17 +3,15 @@ ghost use Rattle.std.specs.Prelude.{◌≡◌, ◌≤◌, ◌^◌, IfOk, IsErrOf
 ghost use Rattle.prem_list.specs.Sequence.{items_of};
 ghost use Rattle.prem_image.specs.Text.{image_text};
 ghost use Rattle.prem_cycle.specs.Inputs.{FitsRun, setup_of, words_of};
-ghost use Rattle.prem_compile.specs.CompiledOf.{compiled_of};
 ghost use Rattle.prem_answer.specs.Stages.{Comes, reply_of};
 ghost use Rattle.prem_exec.specs.Exec.{input_of, state_at};
-ghost use Rattle.prem_running.specs.Sample.Sample.{compiled_reply, sample_reply, told_reply};
-ghost use Rattle.prem_running.specs.Sample.Trace.{sample_run};
+ghost use Rattle.prem_running.specs.Sample.Sample.{sample_reply, sample_tells, told_reply};
 
 use crate::sample::text::sample_text;
 use crate::sample::trace::draw_sample;
-use prem_answer::refusal::refused;
+use crate::teller::{Teller, tell_set};
 use prem_answer::{Answer, Halt, Status};
-use prem_compile::{CompileFail, compile};
+use prem_compile::{Compiled, TaskSet};
 use prem_exec::run_image;
 use prem_gate::RunInput;
 use prem_image::Image;
@@ -50,21 +48,27 @@ fn told_under<P: Policy>(
     })
 }
 
-/// The answer to a sample with this image: it is run up to its limit, on the machine of its policy.
-fn told(
-    alloc: Global,
+/// What draws sets by a seed.
+#[derive(Drop)]
+struct Sampler {
     seed: u64,
-    image: &Image,
-    input: &RunInput,
-    limit: u64,
-) -> Result<Answer, AllocError>
-    requires fits { FitsRun (setup_of image.now) (words_of input.now) (items_of input.now.requests) }
-    requires limit { limit ≤ 2 ^ 61 }
-    ensures { IfOk result (λ a. reply_of a ≡ told_reply seed (image_text image.now) limit (state_at (image_text image.now) (input_of input.now) limit)) }
-{
-    match image.plant.policy {
-        Replacement::Lru => told_under::<Lru>(alloc, seed, image, input, limit),
-        Replacement::Fifo => told_under::<Fifo>(alloc, seed, image, input, limit),
+}
+
+impl Teller for Sampler {
+    ghost told = { λ sampler. sample_tells sampler.seed };
+
+    fn tell(
+        &self,
+        alloc: Global,
+        _set: &TaskSet,
+        input: &RunInput,
+        compiled: &Compiled,
+    ) -> Result<Answer, AllocError> {
+        let image = &compiled.image;
+        match image.plant.policy {
+            Replacement::Lru => told_under::<Lru>(alloc, self.seed, image, input, compiled.limit),
+            Replacement::Fifo => told_under::<Fifo>(alloc, self.seed, image, input, compiled.limit),
+        }
     }
 }
 
@@ -75,9 +79,5 @@ pub fn sample_answer(alloc: Global, seed: u64) -> Result<Answer, Halt>
     ensures unread { IsErrOf result Halt.ReadFault → ⊥ }
 {
     let sample = draw_sample(alloc, seed)?;
-    match compile(alloc, &sample.set) {
-        Ok(compiled) => Ok(told(alloc, seed, &compiled.image, &sample.input, compiled.limit)?),
-        Err(CompileFail::Refused(refusal)) => { Ok(refused(alloc, sample.set.tasks(), &refusal)?) }
-        Err(CompileFail::OutOfMemory) => Err(Halt::OutOfMemory),
-    }
+    tell_set(alloc, &Sampler { seed }, &sample.set, &sample.input)
 }

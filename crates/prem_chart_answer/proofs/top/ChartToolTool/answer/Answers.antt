@@ -6,8 +6,8 @@ use Rattle.prem_chart_answer.proofs.top.ChartToolTool.answer.Goals as goal
 
 pub returns-in-Ok-clause-answer : goal.returns-in-Ok-clause-answer
 returns-in-Ok-clause-answer g c =
-    asked_given (g.S.Store.files c.args.store.now) chart_tool.usage chart_tool.stages (chart_tool.asked_of (map string_bytes c.args.words.now)) (chart_asked c.in-Ok.asked) c.chart_answer.result
-    c.in-Ok.ensures c.chart_answer.ensures.answer
+    asked_given (g.S.Store.files c.args.store.now) chart_tool.usage chart_tool.stages (chart_tool.asked_of (map string_bytes c.args.words.now)) (chart_asked c.in-Ok.asked) c.tell_files.result
+    c.in-Ok.ensures c.tell_files.ensures.answer
 
 pub returns-in-Err-Usage-clause-answer : goal.returns-in-Err-Usage-clause-answer
 returns-in-Err-Usage-clause-answer g c =

@@ -1,4 +1,4 @@
-use Rattle.std.specs.Prelude.{ℕ, List, Option, Vec}
+use Rattle.std.specs.Prelude.{Option, Vec}
 use Rattle.std.specs.declared.alloc.Global.{Global}
 use Rattle.std.proofs.Common.{ap, ◌∙◌, sym}
 use Rattle.prem_io.specs.Files.{Files}
@@ -6,9 +6,10 @@ use Rattle.prem_tasks.specs.SetOf.{set_of}
 use Rattle.prem_set.specs.Run.Names.{KnownNames}
 use Rattle.prem_mail.specs.declared.feed.Feed.{Feed}
 use Rattle.prem_mail.specs.MailFile.{feeds_of}
-use Rattle.prem_answer.specs.Stages.{IsRead, IsReadAs}
-use Rattle.prem_answer.proofs.Reading.{halt_passes, made_ok, not_made}
+use Rattle.prem_answer.specs.declared.answer.Telling.TheVariants.{Whole}
+use Rattle.prem_answer.proofs.Reading.{made_ok}
 use Rattle.prem_exec.specs.Sources.Sources.{names_of}
+use Rattle.prem_exec.proofs.Behind.{read_halts}
 use Rattle.prem_running.specs.Mail.Files.{mail_limit, feeds_of_bytes}
 use Rattle.prem_running.proofs.MailLemmas.Files.{mail_formed, mail_refused}
 use Rattle.prem_running.proofs.mail.files.read_mail_file.Goals as goal
@@ -16,10 +17,8 @@ use Rattle.prem_running.proofs.mail.files.read_mail_file.Goals as goal
 pub returns-in-Err-clause-feeds : goal.returns-in-Err-clause-feeds
 returns-in-Err-clause-feeds g c =
     let name = c.args.name.now in
-    let set = set_of c.args.set.now in
     let told : Option Files = g.S.Store.files c.args.store.now in
-    halt_passes {X = Vec ℕ Global} {Y = List ℕ} {V = Vec Feed Global} {W = List Feed} (λ v. v.items) (λ v. v.items) (IsRead told mail_limit name) (IsReadAs told mail_limit name (feeds_of_bytes set name)) c.in-Err.halt
-    (λ reply read. not_made told mail_limit name (feeds_of_bytes set name) reply read) c.in-Err.ensures.read
+    read_halts Whole told mail_limit name (feeds_of_bytes (set_of c.args.set.now) name) (λ (v : Vec Feed Global). v.items) c.in-Err.halt c.in-Err.ensures.read
 
 pub returns-in-Ok-read_mail-clause-feeds : goal.returns-in-Ok-read_mail-clause-feeds
 returns-in-Ok-read_mail-clause-feeds g c =

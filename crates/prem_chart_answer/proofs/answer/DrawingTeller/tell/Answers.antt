@@ -5,7 +5,7 @@ use Rattle.prem_answer.specs.declared.status.Status.TheVariants.{Done}
 use Rattle.prem_answer.specs.Stages.{Reply}
 use Rattle.prem_exec.specs.Sources.Sources.{input_of}
 use Rattle.prem_chart_answer.specs.Answer.{image_chart}
-use Rattle.prem_chart_answer.proofs.answer.drawn.Goals as goal
+use Rattle.prem_chart_answer.proofs.answer.DrawingTeller.tell.Goals as goal
 
 abbrev done : List ℕ → Reply
 done text = (Done, text)
@@ -13,4 +13,4 @@ done text = (Done, text)
 pub returns : goal.returns
 returns c =
     ap done c.in_ok-image_chart.ensures
-    ∙ ap (λ n. done (image_chart (chart_asked c.args.asked.now) (image_text c.args.compiled.now.image) (input_of c.args.input.now) n)) c.run_limit-limit.ensures.limit
+    ∙ ap (λ n. done (image_chart (chart_asked c.args.self.now.asked.now) (image_text c.args.compiled.now.image) (input_of c.args.input.now) n)) c.run_limit-limit.ensures.limit

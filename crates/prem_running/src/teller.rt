@@ -1,0 +1,81 @@
+// A set is read with its run file and compiled, and something is told of it.
+ghost use Rattle.std.specs.Prelude.{◌≡◌, ◌≤◌, ◌^◌, IfOk, IsErrOf, Ok};
+ghost use Rattle.prem_list.specs.Sequence.{items_of};
+ghost use Rattle.prem_io.specs.Counts.{Rose};
+ghost use Rattle.prem_cycle.specs.Inputs.{FitsRun, setup_of, words_of};
+ghost use Rattle.prem_tasks.specs.SetOf.{set_of};
+ghost use Rattle.prem_compile.specs.CompiledOf.{IsCompiled, compiled_of};
+ghost use Rattle.prem_set.specs.Run.Lawful.{IsLawfulRun};
+ghost use Rattle.prem_answer.specs.Stages.{Comes, IsGiven, reply_of};
+ghost use Rattle.prem_exec.specs.Sources.Sources.{input_of, names_of};
+ghost use Rattle.prem_running.specs.Tellings.{Tells, set_reply, told_stages};
+
+use prem_answer::refusal::refused;
+use prem_answer::{Answer, Halt};
+use prem_compile::{CompileFail, Compiled, TaskSet, compile};
+use prem_exec::sources::{read_run_file, read_task_set};
+use prem_gate::RunInput;
+use prem_io::Store;
+use std::alloc::{AllocError, Global};
+
+/// What tells something of a set that breaks no rule, and of what its run is given.
+pub trait Teller {
+    /// What it tells.
+    ghost told: { Self → Tells };
+
+    /// The answer to a set that breaks no rule.
+    fn tell(
+        &self,
+        alloc: Global,
+        set: &TaskSet,
+        input: &RunInput,
+        compiled: &Compiled,
+    ) -> Result<Answer, AllocError>
+        requires compiled { IsCompiled (set_of set.now) compiled.now }
+        requires fits { FitsRun (setup_of compiled.now.image) (words_of input.now) (items_of input.now.requests) }
+        requires limit { compiled.now.limit ≤ 2 ^ 61 }
+        ensures { IfOk result (λ a. reply_of a ≡ told self.now (set_of set.now) (input_of input.now) (compiled_of compiled.now)) };
+}
+
+/// The answer to a set with its run file: it is compiled and told, or the first rule that it breaks is.
+pub fn tell_set<T: Teller>(
+    alloc: Global,
+    teller: &T,
+    set: &TaskSet,
+    input: &RunInput,
+) -> Result<Answer, Halt>
+    requires { IsLawfulRun (names_of (set_of set.now)) input.now }
+    ensures answer { Comes reply_of (λ given. given ≡ Ok (set_reply (T.told teller.now) (set_of set.now) (input_of input.now))) result }
+    ensures unread { IsErrOf result Halt.ReadFault → ⊥ }
+{
+    match compile(alloc, set) {
+        Ok(compiled) => Ok(teller.tell(alloc, set, input, &compiled)?),
+        Err(CompileFail::Refused(refusal)) => Ok(refused(alloc, set.tasks(), &refusal)?),
+        Err(CompileFail::OutOfMemory) => Err(Halt::OutOfMemory),
+    }
+}
+
+/// The answer to the names of a set and a run file: the set and its sources are read, then the run file, and the set is compiled and
+/// told. The first of these stages that doesn't go through decides.
+pub fn tell_files<T: Teller, S: Store>(
+    alloc: Global,
+    teller: &T,
+    name: &str,
+    run: &str,
+    store: &mut S,
+) -> Result<Answer, Halt>
+    ensures answer { Comes reply_of (IsGiven (S.files store.old) (told_stages (T.told teller.now) name.now run.now)) result }
+    ensures fault { IsErrOf result Halt.ReadFault → Rose (S.faults store.old) (S.faults store.new) }
+    ensures later { S.faults store.old ≤ S.faults store.new }
+    ensures same { S.files store.new ≡ S.files store.old }
+{
+    let set = match read_task_set(alloc, store, name) {
+        Ok(set) => set,
+        Err(halt) => return Err(halt),
+    };
+    let input = match read_run_file(alloc, store, run, &set) {
+        Ok(input) => input,
+        Err(halt) => return Err(halt),
+    };
+    tell_set(alloc, teller, &set, &input)
+}
