@@ -3,3 +3,11 @@ pub mod OutlineLeast
 pub mod OutlineParted
 pub mod SameRanges
 pub mod Slices
+pub mod PieceCuts
+pub mod BlockCuts
+pub mod Cuts
+pub mod FunctionCuts
+pub mod WalkSums
+pub mod Rooms
+pub mod AlikeScopes
+pub mod AlikeParted

@@ -2,3 +2,9 @@ pub mod Outlines
 pub mod Outlined
 pub mod Sliced
 pub mod Same
+pub mod PartsOf
+pub mod Cut
+pub mod Crowds
+pub mod Walks
+pub mod CountOf
+pub mod Alike

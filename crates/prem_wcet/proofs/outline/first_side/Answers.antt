@@ -1,0 +1,6 @@
+use Rattle.std.proofs.Common.{◌∙◌}
+use Rattle.prem_wcet.proofs.PieceCuts.{first_side_first}
+use Rattle.prem_wcet.proofs.outline.first_side.Goals as goal
+
+pub returns-in-len1-up : goal.returns-in-len1-up
+returns-in-len1-up c = c.taken_side.ensures ∙ first_side_first c.args.code.now c.piece-item.result c.in-len1-up.len_at_least c.piece-item.is
