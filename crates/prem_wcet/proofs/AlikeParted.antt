@@ -1,16 +1,14 @@
 -- Scenes whose facts are alike: outlines with marked calls count alike.
-use Rattle.std.proofs.Common.{◌≡◌, ℕ, ◌+◌, ◌*◌, min, Bool, true, false, cond, ◌||◌, List, ◌++◌, map, refl, ap, subst, ◌∙◌}
+use Rattle.std.proofs.Common.{◌≡◌, ℕ, ◌+◌, ◌*◌, Bool, true, false, cond, ◌||◌, List, ◌++◌, map, refl, ap, subst, ◌∙◌}
 use Rattle.std.specs.List.{list_any}
-use Rattle.prem_plant.specs.Places.{Extent}
-use Rattle.prem_asm.specs.Pieces.{Pieces, size_of, branch_of}
+use Rattle.prem_asm.specs.Pieces.{size_of, branch_of}
 use Rattle.prem_layout.specs.Template.Steps.{Parts}
 use Rattle.prem_layout.specs.Template.Terms.{nonzero}
 use Rattle.prem_layout.specs.Footprint.{lines_of}
 use Rattle.prem_layout.specs.Plans.{Plan}
 use Rattle.prem_layout.specs.Bounds.{job_weight}
-use Rattle.prem_layout.specs.Stretch.Sums.{Sums, chained, among, turned, taking}
+use Rattle.prem_layout.specs.Stretch.Sums.{taking}
 use Rattle.prem_bounds.specs.Scale.{clipped}
-use Rattle.prem_bounds.specs.ToldSums.{clipped_sums}
 use Rattle.prem_bounds.proofs.AlikeSums.{chained_alike, among_alike, turned_alike}
 use Rattle.prem_wcet_laws.specs.Counts.{Count, quiet, then_count, either_count, turned_count, marked_count}
 use Rattle.prem_wcet_laws.specs.Scopes.{Fact, Scene, Span, fact_of, code_ranges, data_ranges, charge_with}
@@ -18,7 +16,7 @@ use Rattle.prem_wcet_laws.specs.Least.{own, own_jump}
 use Rattle.prem_wcet_laws.specs.Parted.{cuts, by_cut, Edge, no_edge, bottom_of, called_parted, turn_count}
 use Rattle.prem_wcet.specs.Same.{AreSame}
 use Rattle.prem_wcet.specs.Alike.{AreAlike, FactsAlike}
-use Rattle.prem_wcet.specs.Outlines.{Outline, ended, plain, calling, choice, turning, cut_in, front_in, edge_in, landing_in, between, data_between, below_in, callees_of, passage_in, choice_parted, call_parted, first_place, second_place, inner_place, closed_in, parted_in, least_in}
+use Rattle.prem_wcet.specs.Outlines.{Outline, ended, plain, calling, choice, turning, cut_in, front_in, edge_in, landing_in, between, data_between, below_in, callees_of, passage_in, choice_parted, first_place, second_place, inner_place, closed_in, parted_in, least_in}
 use Rattle.prem_wcet.proofs.SameRanges.{same_append, same_lines}
 use Rattle.prem_wcet.proofs.AlikeScopes.{Alike, alike_sum, alike_min, alike_max, alike_product, other_scene, code_same, data_same, with_same, least_alike}
 
@@ -45,7 +43,6 @@ same_count a = record { total = refl; sums = refl }
 module _ (e : Scene) (parts : Parts) (plans : List Plan) (stub : ℕ → ℕ) (facts : List Fact)
     (same : (f : ℕ) → FactsAlike (fact_of e f) (fact_of (other_scene e parts plans stub facts) f)) (pieces : map (λ (f : Fact). f.pieces) e.facts ≡ map (λ (f : Fact). f.pieces) facts)
     (frame : (f : ℕ) → e.parts.frame f ≡ parts.frame f) (marks : (f : ℕ) → e.marked f ≡ true → marked_count e.plant e.plans (e.stub f) ≡ marked_count e.plant plans (stub f)) where
-
   abbrev v : Scene
   v = other_scene e parts plans stub facts
 
@@ -86,7 +83,7 @@ module _ (e : Scene) (parts : Parts) (plans : List Plan) (stub : ℕ → ℕ) (f
       let s : Span = between before o last in
       let held = same_lines e.plant.line (data_between e before o last) (data_between v before o last) (between_same before o last) in
       let lines = same_lines e.plant.line (code_ranges e at s ++ data_between e before o last) (code_ranges v at s ++ data_between v before o last)
-          (same_append (code_ranges e at s) (code_ranges v at s) (data_between e before o last) (data_between v before o last) (code_same e parts plans stub facts same pieces at s) (between_same before o last)) in
+      (same_append (code_ranges e at s) (code_ranges v at s) (data_between e before o last) (data_between v before o last) (code_same e parts plans stub facts same pieces at s) (between_same before o last)) in
       alike_min _ _ _ _
       (ap clipped (with_same e parts plans stub facts same pieces at s (lines_of e.plant.line (code_ranges e at s ++ data_between e before o last)) (lines_of e.plant.line (data_between e before o last))
       ∙ (λ i. charge_with v at s (lines i) (held i))))

@@ -1,24 +1,19 @@
 -- Scenes whose facts are alike: scopes have the same charges, and outlines count alike.
-use Rattle.std.proofs.Common.{◌≡◌, ℕ, suc, ◌+◌, ◌*◌, ◌^◌, min, max, Bool, true, false, cond, ◌||◌, List, [], ◌∷◌, ◌++◌, length, map, flat_map, refl, ap, sym, ◌∙◌, arith}
-use Rattle.std.specs.List.{list_any, list_all}
-use Rattle.prem_plant.specs.declared.plant.Plant.{Plant}
-use Rattle.prem_plant.specs.Places.{Extent}
+use Rattle.std.proofs.Common.{◌≡◌, ℕ, ◌+◌, ◌*◌, ◌^◌, min, max, Bool, true, false, cond, List, [], ◌∷◌, ◌++◌, length, map, refl, ap, sym, ◌∙◌, arith}
+use Rattle.std.specs.List.{list_all}
 use Rattle.prem_asm.specs.Pieces.{Pieces, size_of, branch_of}
 use Rattle.prem_layout.specs.Template.Steps.{Parts}
 use Rattle.prem_layout.specs.Template.Terms.{nonzero}
-use Rattle.prem_layout.specs.Footprint.{lines_of}
 use Rattle.prem_layout.specs.Plans.{Plan}
 use Rattle.prem_layout.specs.Parts.{code_part}
 use Rattle.prem_layout.specs.Bounds.{job_weight, line_cost, part_weight, weight_at}
-use Rattle.prem_layout.specs.Stretch.Sums.{Sums, chained, among, turned, taking}
 use Rattle.prem_bounds.specs.Scale.{clipped}
-use Rattle.prem_bounds.specs.ToldSums.{clipped_sums}
 use Rattle.prem_bounds.proofs.Sums.{clipped_times}
 use Rattle.prem_wcet_laws.specs.Weights.{PlaceWeight, weighted_from}
-use Rattle.prem_wcet_laws.specs.Scopes.{Fact, Scene, Span, fact_of, code_ranges, data_ranges, data_lines, lines_in, places_behind, path_weight, roomy_lines, is_roomy, scope_weight, charge_with, charge}
+use Rattle.prem_wcet_laws.specs.Scopes.{Fact, Scene, Span, fact_of, code_ranges, data_ranges, data_lines, lines_in, places_behind, roomy_lines, is_roomy, scope_weight, charge_with, charge}
 use Rattle.prem_wcet_laws.specs.Least.{own, own_jump, own_turns, called_least}
 use Rattle.prem_wcet.specs.Same.{AreSame}
-use Rattle.prem_wcet.specs.Alike.{AreAlike, FactsAlike}
+use Rattle.prem_wcet.specs.Alike.{FactsAlike}
 use Rattle.prem_wcet.specs.Outlines.{Outline, ended, plain, calling, choice, turning, coded_span, span_in, choice_by, first_place, second_place, inner_place, apart_in, least_in}
 use Rattle.prem_wcet.proofs.SameRanges.{same_append, same_flat, same_lines}
 
@@ -59,7 +54,6 @@ other_scene e parts plans stub facts = record e { parts = parts; plans = plans; 
 
 module _ (e : Scene) (parts : Parts) (plans : List Plan) (stub : ℕ → ℕ) (facts : List Fact)
     (same : (f : ℕ) → FactsAlike (fact_of e f) (fact_of (other_scene e parts plans stub facts) f)) (pieces : map (λ (f : Fact). f.pieces) e.facts ≡ map (λ (f : Fact). f.pieces) facts) where
-
   abbrev v : Scene
   v = other_scene e parts plans stub facts
 
@@ -75,7 +69,7 @@ module _ (e : Scene) (parts : Parts) (plans : List Plan) (stub : ℕ → ℕ) (f
   with_same at s lines held =
       let w : PlaceWeight = scope_weight e.plant lines (list_all (is_roomy e.plant lines) held) in
       let known : places_behind w e.functions e.places [] e.facts ≡ places_behind w e.functions e.places [] facts =
-          by_pieces w e.functions e.places e.facts [] ∙ ap (behind_pieces w e.functions e.places []) pieces ∙ sym (by_pieces w e.functions e.places facts []) in
+      by_pieces w e.functions e.places e.facts [] ∙ ap (behind_pieces w e.functions e.places []) pieces ∙ sym (by_pieces w e.functions e.places facts []) in
       ap (λ ws. length (roomy_lines e.plant lines) * line_cost e.plant + weighted_from w (part_weight e.functions (weight_at ws) (λ k. 0)) at s.pieces) known
 
   pub charge_same : (at : ℕ) (s : Span) → charge e at s ≡ charge v at s

@@ -9,9 +9,8 @@ use Rattle.prem_layout.specs.Template.Steps.{steps_code}
 use Rattle.prem_tree.specs.declared.resolve.resolved.Step.{Step, Row_of-Step, end_of-Step, more_of-Step}
 use Rattle.prem_tree.specs.declared.resolve.resolved.Step.TheVariants.{Block', SetLocal, SetScalar, SetElement, Output, Input, If', For', While', Call}
 use Rattle.prem_tree.specs.Resolve.ResolvedOf.{term_of, loops_of, step_before, row_before}
-use Rattle.prem_wcet_laws.specs.Scopes.{Scene, globals_in_term, globals_in_terms}
-use Rattle.prem_wcet.specs.Outlines.{Outline, ended, plain, calling, choice, turning}
-use Rattle.prem_wcet.specs.Outlined.{outline_of}
+use Rattle.prem_wcet_laws.specs.Scopes.{globals_in_term, globals_in_terms}
+use Rattle.prem_wcet.specs.Outlines.{calling, choice, turning}
 use Rattle.prem_wcet.specs.Sliced.{tail_of, behind_pieces, before_pieces, first_side, second_side, turns_in, head_in, body_in, behind_term, behind_terms, behind_target, behind_steps, sliced}
 use Rattle.prem_wcet.specs.PartsOf.{joined, behind_step, behind_row, cut_step, cut_row}
 use Rattle.prem_wcet.specs.Cut.{CutsAreOutlines}

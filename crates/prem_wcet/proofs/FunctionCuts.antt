@@ -6,15 +6,12 @@ use Rattle.prem_asm.specs.Pieces.{Pieces, straight, followed}
 use Rattle.prem_asm.proofs.Rows.{followed_append}
 use Rattle.prem_layout.specs.Template.Terms.{only, term_code}
 use Rattle.prem_layout.specs.Template.Frames.{locals_of, frame_of}
-use Rattle.prem_layout.specs.Template.Steps.{store_slot, declare_code, result_code, closing, steps_code, function_code}
-use Rattle.prem_tree.specs.declared.resolve.resolved.Routine.{Routine as RoutineTree}
+use Rattle.prem_layout.specs.Template.Steps.{store_slot, declare_code, result_code, closing, steps_code}
 use Rattle.prem_tree.specs.Resolve.ResolvedOf.{routine_of}
-use Rattle.prem_wcet_laws.specs.Scopes.{Scene}
 use Rattle.prem_wcet_laws.specs.Parted.{entry as entry_edge}
-use Rattle.prem_wcet.specs.declared.outline.Outline.{Outline as OutlineTree}
 use Rattle.prem_wcet.specs.Sliced.{tail_of, before_pieces, behind_term, behind_terms}
-use Rattle.prem_wcet.specs.PartsOf.{IsOutline, inside_of, behind_step, cut_step}
-use Rattle.prem_wcet.specs.Cut.{IsFunction, FunctionsAreCut}
+use Rattle.prem_wcet.specs.PartsOf.{inside_of, behind_step, cut_step}
+use Rattle.prem_wcet.specs.Cut.{FunctionsAreCut}
 use Rattle.prem_wcet.proofs.Slices.{before_is, term_behind}
 use Rattle.prem_wcet.proofs.Cuts.{cuts_are_outlines}
 

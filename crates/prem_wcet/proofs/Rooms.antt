@@ -1,5 +1,5 @@
 -- Lines that have room: what is counted in memory is what the definition counts.
-use Rattle.std.proofs.Common.{◌≡◌, ℕ, zero, suc, ◌+◌, ◌%◌, ◌/◌, ◌==◌, ◌<◌, ◌≤◌, ◌^◌, nat_eq, nat_le, Bool, ◌&&◌, true, false, cond, if◌then◌else◌, List, [], ◌∷◌, length, filter, slice_index, refl, ap, sym, ◌∙◌, ⊎_elim, arith}
+use Rattle.std.proofs.Common.{◌≡◌, ℕ, zero, suc, ◌+◌, ◌%◌, ◌/◌, ◌==◌, ◌<◌, ◌≤◌, ◌^◌, nat_eq, nat_le, Bool, ◌&&◌, true, false, cond, if◌then◌else◌, List, [], ◌∷◌, length, filter, slice_index, refl, ap, sym, ◌∙◌, arith}
 use Rattle.std.specs.List.{count_by, list_all}
 use Rattle.std.proofs.Math.Dec.{leb-zero}
 use Rattle.std.proofs.lemmas.Bool.{eqb-true}
@@ -27,6 +27,7 @@ held_room room sets s (x ∷ xs) all some = by_room (room (x % sets)) refl (held
       (count_by (λ n. room (n % sets)) xs ≡ length xs → 1 ≤ count_by (λ n. n % sets == s) xs → room s ≡ true) → room s ≡ true
   by_set true is here left rest = sym (ap room (eqb-true (x % sets) s is)) ∙ here
   by_set false is here left rest = let e = count_cons (λ n. n % sets == s) x xs false is in rest left (omega (arith, e, some))
+
   by_room : (b : Bool) → room (x % sets) ≡ b → (count_by (λ n. room (n % sets)) xs ≡ length xs → 1 ≤ count_by (λ n. n % sets == s) xs → room s ≡ true) → room s ≡ true
   by_room true is rest =
       let e = count_cons (λ n. room (n % sets)) x xs true is in
@@ -76,7 +77,6 @@ crowd_told p lines touched counts roomy miss held alone plant are all cost kept 
     }
 
 module _ (p : Plant) (lines touched : List ℕ) (c : Crowd) (plant : IsPlant p) (is : IsCrowd p lines touched c) where
-
   pub crowd_cache : IsCache c
   crowd_cache = record {
     line = omega (arith, is.line, plant.line.0);
@@ -130,8 +130,10 @@ module _ (p : Plant) (lines touched : List ℕ) (c : Crowd) (plant : IsPlant p) 
   free_at alone at i = by_instr i where
     free : fetch_by c at ≡ 0
     free = fetch_is at ∙ ap (crowd_cost p) (is.alone alone (at / p.line))
+
     none : access_by c ≡ 0
     none = access_is ∙ ap (crowd_cost p) (all_true (is_roomy p lines) (is.alone alone) touched)
+
     by_instr : (x : Instr) → place_weight c at x ≡ cost_of x
     by_instr (Load op rd rs1 offset) = (λ j. cost_of (Load op rd rs1 offset) + free j + none j) ∙ none_twice (cost_of (Load op rd rs1 offset))
     by_instr (Store op rs1 rs2 offset) = (λ j. cost_of (Store op rs1 rs2 offset) + free j + none j) ∙ none_twice (cost_of (Store op rs1 rs2 offset))

@@ -1,5 +1,5 @@
 -- Weights of pieces at places, sum by sum.
-use Rattle.std.proofs.Common.{◌≡◌, ℕ, ◌+◌, ◌*◌, ◌<◌, ◌≤◌, ◌^◌, min, List, length, drop, get_or, ap, sym, ◌∙◌, arith}
+use Rattle.std.proofs.Common.{◌≡◌, ℕ, ◌+◌, ◌*◌, ◌<◌, List, length, drop, get_or, ap, ◌∙◌, arith}
 use Rattle.prem_list.specs.Sequence.{items_of}
 use Rattle.prem_asm.specs.declared.piece.Piece.{Piece}
 use Rattle.prem_asm.specs.declared.piece.Piece.TheVariants.{Straight, Address, Either', Repeat', CallTo}
@@ -11,7 +11,6 @@ use Rattle.prem_bounds.proofs.Sums.{clipped_product}
 use Rattle.prem_wcet_laws.specs.Weights.{PlaceWeight, weighted_from}
 
 module _ (w : PlaceWeight) (calls : ℕ → ℕ) where
-
   -- a piece before others
   from_before : (at : ℕ) (p : Piece) (rest : Pieces) → weighted_from w calls at (piece_before p rest) ≡ weighted_from w calls at (piece_of p) + weighted_from w calls (at + size_of (piece_of p)) rest
   from_before at (Straight code) rest =
@@ -19,11 +18,11 @@ module _ (w : PlaceWeight) (calls : ℕ → ℕ) where
   from_before at (Address rd part plus) rest = omega arith
   from_before at (Either' test p taken q other) rest =
       let e = ap (λ k. weighted_from w calls k rest)
-          (let f : either_end at (row_before taken no_pieces) (row_before other no_pieces) ≡ at + size_of (piece_of (Either' test p taken q other)) = omega arith in f) in
+      (let f : either_end at (row_before taken no_pieces) (row_before other no_pieces) ≡ at + size_of (piece_of (Either' test p taken q other)) = omega arith in f) in
       omega (arith, e)
   from_before at (Repeat' turns p head test q body) rest =
       let e = ap (λ k. weighted_from w calls k rest)
-          (let f : repeat_end at (row_before head no_pieces) (row_before body no_pieces) ≡ at + size_of (piece_of (Repeat' turns p head test q body)) = omega arith in f) in
+      (let f : repeat_end at (row_before head no_pieces) (row_before body no_pieces) ≡ at + size_of (piece_of (Repeat' turns p head test q body)) = omega arith in f) in
       omega (arith, e)
   from_before at (CallTo link part) rest = omega arith
 

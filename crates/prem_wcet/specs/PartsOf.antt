@@ -1,9 +1,9 @@
 -- What statements with their code in memory stand for, and what is put behind them.
-use Rattle.std.specs.Prelude.{◌≡◌, ℕ, List, [], ◌∷◌, ◌++◌, map, length, Option, None, Some}
+use Rattle.std.specs.Prelude.{◌≡◌, ℕ, List, [], ◌∷◌, ◌++◌, map, length}
 use Rattle.std.specs.Option.{option_map}
 use Rattle.prem_list.specs.Sequence.{items_of}
 use Rattle.prem_plant.specs.declared.plant.Target.{Target}
-use Rattle.prem_asm.specs.Pieces.{Pieces, no_pieces, skip_words}
+use Rattle.prem_asm.specs.Pieces.{Pieces, skip_words}
 use Rattle.prem_asm.specs.PiecesOf.{pieces_of}
 use Rattle.prem_tree.specs.declared.resolve.resolved.Step.{Step, Row_of-Step, end_of-Step, more_of-Step}
 use Rattle.prem_tree.specs.declared.resolve.resolved.Step.TheVariants.{Block', SetLocal, SetScalar, SetElement, Output, Input, If', For', While', Call}

@@ -116,11 +116,13 @@ fn taken_side(piece: &Piece) -> &[Piece]
     ensures { pieces_of result.now ≡ first_side (piece_of piece.now) }
 {
     match piece {
-        Piece::Either { test: _, taken, other: _ } => taken.items(),
-        Piece::Straight(_)
-        | Piece::Address { .. }
-        | Piece::Repeat { .. }
-        | Piece::CallTo { .. } => &[],
+        Piece::Either {
+            test: _,
+            taken,
+            other: _,
+        } => taken.items(),
+        Piece::Straight(_) | Piece::Address { .. } | Piece::Repeat { .. } | Piece::CallTo { .. } =>
+            &[],
     }
 }
 
@@ -139,11 +141,13 @@ fn other_side(piece: &Piece) -> &[Piece]
     ensures { pieces_of result.now ≡ second_side (piece_of piece.now) }
 {
     match piece {
-        Piece::Either { test: _, taken: _, other } => other.items(),
-        Piece::Straight(_)
-        | Piece::Address { .. }
-        | Piece::Repeat { .. }
-        | Piece::CallTo { .. } => &[],
+        Piece::Either {
+            test: _,
+            taken: _,
+            other,
+        } => other.items(),
+        Piece::Straight(_) | Piece::Address { .. } | Piece::Repeat { .. } | Piece::CallTo { .. } =>
+            &[],
     }
 }
 
@@ -172,11 +176,14 @@ fn head_side(piece: &Piece) -> &[Piece]
     ensures { pieces_of result.now ≡ head_in (piece_of piece.now) }
 {
     match piece {
-        Piece::Repeat { turns: _, head, test: _, body: _ } => head.items(),
-        Piece::Straight(_)
-        | Piece::Address { .. }
-        | Piece::Either { .. }
-        | Piece::CallTo { .. } => &[],
+        Piece::Repeat {
+            turns: _,
+            head,
+            test: _,
+            body: _,
+        } => head.items(),
+        Piece::Straight(_) | Piece::Address { .. } | Piece::Either { .. } | Piece::CallTo { .. } =>
+            &[],
     }
 }
 
@@ -195,11 +202,14 @@ fn body_side(piece: &Piece) -> &[Piece]
     ensures { pieces_of result.now ≡ body_in (piece_of piece.now) }
 {
     match piece {
-        Piece::Repeat { turns: _, head: _, test: _, body } => body.items(),
-        Piece::Straight(_)
-        | Piece::Address { .. }
-        | Piece::Either { .. }
-        | Piece::CallTo { .. } => &[],
+        Piece::Repeat {
+            turns: _,
+            head: _,
+            test: _,
+            body,
+        } => body.items(),
+        Piece::Straight(_) | Piece::Address { .. } | Piece::Either { .. } | Piece::CallTo { .. } =>
+            &[],
     }
 }
 
@@ -538,7 +548,10 @@ fn put_step<'a>(
             put_choice(all, names, head, skips(second), taken, other, parts)
         }
         Step::For {
-            low, high, body, ..
+            low,
+            high,
+            body,
+            ..
         } => {
             let names = named_by_both(alloc, low, high)?;
             let at = tail(behind_term(low, target, code));
@@ -546,15 +559,29 @@ fn put_step<'a>(
             put_turns(alloc, names, body, code, at, inner, inner, target, parts)
         }
         Step::While {
-            condition, body, ..
+            condition,
+            body,
+            ..
         } => {
             let names = named_by(alloc, condition)?;
             let at = behind_two(code);
             let inner = body_in(at);
-            put_turns(alloc, names, body, code, at, inner, tail(inner), target, parts)
+            put_turns(
+                alloc,
+                names,
+                body,
+                code,
+                at,
+                inner,
+                tail(inner),
+                target,
+                parts,
+            )
         }
         Step::Call {
-            callee, arguments, ..
+            callee,
+            arguments,
+            ..
         } => put_call(alloc, *callee, arguments.items(), step, code, target, parts),
         Step::SetLocal { .. }
         | Step::SetScalar { .. }

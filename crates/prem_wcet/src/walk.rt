@@ -133,13 +133,7 @@ fn skip_size(other: &[Piece]) -> u32
 }
 
 #[cycle(walks)]
-fn walk_either(
-    test: Test,
-    taken: &[Piece],
-    other: &[Piece],
-    at: u32,
-    scale: &PlaceScale,
-) -> Weighed
+fn walk_either(test: Test, taken: &[Piece], other: &[Piece], at: u32, scale: &PlaceScale) -> Weighed
     requires cache { IsCache scale.now.crowd.now }
     requires place { either_end at (pieces_of taken.now) (pieces_of other.now) < 2 ^ 32 }
     ensures sum { result.sum ≡ clipped (weighted_from (weight_by scale.now) (calls_by scale.now) at (either test (pieces_of taken.now) (pieces_of other.now) no_pieces)) }

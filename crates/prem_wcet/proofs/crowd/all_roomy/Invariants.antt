@@ -1,4 +1,4 @@
-use Rattle.std.specs.Prelude.{◌≡◌, ◌≤◌, ◌+◌, ◌%◌, drop, filter, length, nat_le, slice_index}
+use Rattle.std.specs.Prelude.{◌≡◌, ◌%◌, drop, nat_le, slice_index}
 use Rattle.std.specs.List.{list_all}
 use Rattle.prem_wcet.proofs.crowd.all_roomy.Given as goal
 

@@ -41,9 +41,10 @@ walk_piece-returns-in-Repeat-clause-end t c =
 
 pub walk-walk_piece-next-requires : goal.walk-walk_piece-next-requires
 walk-walk_piece-next-requires t c =
-    let left = size_drop c.args.pieces.now c.loop-piece.piece-index c.piece-item.result c.loop-piece-test.true c.piece-item.is in
-    (omega (arith, c.decreases, count_item c.args.pieces.now c.loop-piece.piece-index c.piece-item.result c.loop-piece-test.true c.piece-item.is),
-    (c.requires.cache, omega (arith, c.requires.place, c.loop-piece.invariant.place, left)))
+    let left = size_drop c.args.pieces.now c.loop-piece.piece-index c.piece-item.result c.loop-piece-test.true c.piece-item.is in (
+      omega (arith, c.decreases, count_item c.args.pieces.now c.loop-piece.piece-index c.piece-item.result c.loop-piece-test.true c.piece-item.is),
+      (c.requires.cache, omega (arith, c.requires.place, c.loop-piece.invariant.place, left)),
+    )
 
 pub walk-loop-piece-preserved : goal.walk-loop-piece-preserved
 walk-loop-piece-preserved t c =

@@ -1,4 +1,4 @@
-use Rattle.std.proofs.Common.{◌+◌, ◌*◌, ap, sym, ◌∙◌, arith}
+use Rattle.std.proofs.Common.{◌+◌, ◌*◌, ap, arith}
 use Rattle.prem_asm.proofs.PieceWords.{skip_some}
 use Rattle.prem_wcet.specs.Crowds.{fetch_by}
 use Rattle.prem_wcet.proofs.walk.skip_at.Goals as goal
