@@ -4,8 +4,8 @@ use Rattle.std.proofs.Common.{◌≡◌, ℕ, ◌+◌, ◌<◌, ◌≤◌, refl,
 use Rattle.std.proofs.lemmas.Bool.{ltb-true, lt-ltb}
 use Rattle.prem_sched.specs.declared.sched.TaskJobs.{TaskJobs}
 use Rattle.prem_sched.specs.declared.sched.Choice.TheVariants.{Run, Idle as Rest, Finished}
-use Rattle.prem_sched.specs.Schedule.{choice, run_or, rest, least_release, first_ready, is_ready, released as released_at, task_at, NoneReady, IsDone}
-use Rattle.prem_sched.proofs.Choices.{FirstReady, first_found, none_found, none_ready_before, Before, least_none}
+use Rattle.prem_sched.specs.Schedule.{choice, run_or, rest, least_release, first_ready, is_ready, released as released_at, task_at, Before, NoneReady, IsDone}
+use Rattle.prem_sched.proofs.Choices.{FirstReady, first_found, none_found, none_ready_before, least_none}
 use Rattle.prem_resp.specs.Busy.Schedule.{Tasks, released, Schedule, IsReady}
 
 -- ---- the choice
