@@ -38,6 +38,17 @@ parts_before (first ∷ others) rest = part_before first (parts_before others re
 abbrev pub parts_of : List Part → Outline
 parts_of ps = parts_before ps ended
 
+-- one alone
+abbrev pub part_of : Part → Outline
+part_of p = part_before p ended
+
+-- all its code
+abbrev pub part_code : Part → Pieces
+part_code (Plain code names) = pieces_of code.now
+part_code (Calling code names arguments count callee landing) = pieces_of code.now
+part_code (Choice' code names condition skips p taken q other) = pieces_of code.now
+part_code (Turning' code names first turns head before p body behind) = pieces_of code.now
+
 -- others behind them
 abbrev pub joined : Outline → Outline → Outline
 joined ended o = o

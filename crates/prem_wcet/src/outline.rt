@@ -57,8 +57,14 @@ pub enum Part<'a> {
 }
 
 impl<'a> Part<'a> {
+    ghost use Rattle.std.specs.Prelude.{◌≡◌};
+    ghost use Rattle.prem_asm.specs.PiecesOf.{pieces_of};
+    ghost use Rattle.prem_wcet.specs.PartsOf.{part_code};
+
     /// All its code.
-    pub fn code(&self) -> &'a [Piece] {
+    pub fn code(&self) -> &'a [Piece]
+        ensures { pieces_of result.now ≡ part_code self.now }
+    {
         match self {
             Part::Plain { code, .. }
             | Part::Calling { code, .. }
