@@ -8,3 +8,4 @@ pub mod Declared
 pub mod Simulated
 pub mod Waved
 pub mod Rows
+pub mod RowsRuns

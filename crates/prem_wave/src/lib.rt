@@ -1,4 +1,4 @@
-//! The answer of the program `prem_wave` to its words: the run of a set as a value change dump.
+//! The run of an image as a value change dump: the values of its signals in each cycle, and the text of what changes.
 #![tactic(auto)]
 
 mod bus;
