@@ -39,6 +39,13 @@ impl<T> Sequence<T> {
         })
     }
 
+    /// The items of a vector, which is moved.
+    pub fn from_vec(all: Vec<T>) -> Sequence<T>
+        ensures { items_of result ≡ all.items }
+    {
+        Sequence { all }
+    }
+
     /// Puts the item behind the others, where there is room for it. It takes no memory.
     pub fn put(&mut self, item: T)
         requires { length (items_of self.old) < room_of self.old }
