@@ -6,9 +6,9 @@
 // - `# ..` is a remark;
 // - any other line is put behind the text. An end of line stands before it where the line above is another such line.
 
-use crate::checking::check_told;
-use crate::reading::read_told;
-use crate::running::line_told;
+use crate::texts::checking::check_told;
+use crate::texts::reading::read_told;
+use crate::texts::running::line_told;
 use std::alloc::{AllocError, Global};
 use std::rt::Files;
 use std::{fs, io};

@@ -2,7 +2,7 @@
 mod names;
 mod ranging;
 
-use crate::lines::with_lines;
+use crate::texts::lines::with_lines;
 use ranging::range_told;
 use std::rt::Files;
 use std::{fs, io};

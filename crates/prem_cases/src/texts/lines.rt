@@ -1,7 +1,7 @@
 // Files in which each line is a text.
 
-use crate::checking::check_told;
-use crate::reading::read_told;
+use crate::texts::checking::check_told;
+use crate::texts::reading::read_told;
 use std::alloc::{AllocError, Global};
 use std::rt::Files;
 use std::{fs, io};

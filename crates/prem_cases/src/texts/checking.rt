@@ -1,6 +1,6 @@
 // What comes of the check of a text, as text.
 
-use crate::reading::front_told;
+use crate::texts::reading::front_told;
 use prem_check::{CheckFail, Count, TypeRule, check};
 use prem_front::parse;
 use prem_syntax::Name;

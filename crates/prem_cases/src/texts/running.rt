@@ -1,7 +1,7 @@
 // What runs of a text do, as text.
 
-use crate::checking::fail_told;
-use crate::reading::front_told;
+use crate::texts::checking::fail_told;
+use crate::texts::reading::front_told;
 use prem_check::check;
 use prem_front::parse;
 use prem_tree::{Checked, SourceFail, SourceRun, source_run};

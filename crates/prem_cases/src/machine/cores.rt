@@ -2,8 +2,8 @@
 ghost use Rattle.std.specs.Prelude.{◌≡◌, length};
 ghost use Rattle.prem_gate.specs.Gates.{wants};
 
-use crate::images::PLANT;
-use crate::programs::OUT_FIVE;
+use crate::machine::images::PLANT;
+use crate::machine::programs::OUT_FIVE;
 use prem_gate::CoreWant;
 use prem_lru::{Cache, Lru, Memory};
 use prem_machine::{Change, Core, Issued};
