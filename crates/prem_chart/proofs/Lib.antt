@@ -2,3 +2,7 @@ pub mod Within
 pub mod Steps
 pub mod Taken
 pub mod Pictures
+pub mod Noted
+pub mod Traces
+pub mod Charted
+pub mod Tool

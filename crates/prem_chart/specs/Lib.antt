@@ -8,3 +8,5 @@ pub mod Shapes
 pub mod Phases
 pub mod Rows
 pub mod Picture
+pub mod Notes
+pub mod Answer

@@ -1,6 +1,7 @@
-//! A picture of a run, as the text of an SVG file.
+//! Pictures of runs, as texts of SVG files, and the answer of the program `prem_chart` to its words.
 #![tactic(auto)]
 
+mod answer;
 mod axis;
 mod bars;
 mod head;
@@ -11,10 +12,15 @@ mod placing;
 mod rows;
 mod shapes;
 mod text;
+mod top;
+mod tracing;
 mod view;
 
 pub use note::Note;
 pub use picture::chart;
 pub use placing::{is_inside, place};
+pub use prem_answer::Status;
 pub use shapes::{push_intervals, push_transfers};
+pub use top::draw;
+pub use tracing::{Traced, trace};
 pub use view::{Bar, Look, Sheet, View};

@@ -1,7 +1,7 @@
 //! The program `prem_chart`: its words, the computer's files and its standard output.
 #![tactic(auto)]
 
-use prem_chart_answer::draw;
+use prem_chart::draw;
 use prem_io::{DiskStore, OutSink, words_of};
 use std::process::ExitCode;
 

@@ -9,3 +9,4 @@ pub mod Simulated
 pub mod Waved
 pub mod Rows
 pub mod RowsRuns
+pub mod Tool

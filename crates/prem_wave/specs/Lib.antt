@@ -7,3 +7,4 @@ pub mod Signals
 pub mod Waves
 pub mod ReadBack
 pub mod Laws
+pub mod Answer

@@ -1,13 +1,18 @@
-//! The run of an image as a value change dump: the values of its signals in each cycle, and the text of what changes.
+//! Runs of images as value change dumps: the values of their signals in each cycle, the text of what changes, and the
+//! answer of the program `prem_wave` to its words.
 #![tactic(auto)]
 
+mod answer;
 mod bus;
 mod changes;
 mod doing;
 mod header;
 mod laws;
+mod top;
 mod tracing;
 mod words;
 
 pub use laws::{dumps_are_read_back, waves_are_dumps};
+pub use prem_answer::Status;
+pub use top::waves;
 pub use tracing::wave;

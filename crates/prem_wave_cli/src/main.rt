@@ -2,7 +2,7 @@
 #![tactic(auto)]
 
 use prem_io::{DiskStore, OutSink, words_of};
-use prem_wave_answer::waves;
+use prem_wave::waves;
 use std::process::ExitCode;
 
 fn main(rt: HostRuntime) -> ExitCode {

@@ -1,4 +1,0 @@
-pub mod Noted
-pub mod Traces
-pub mod Charted
-pub mod Tool
