@@ -11,3 +11,10 @@ pub mod WalkSums
 pub mod Rooms
 pub mod AlikeScopes
 pub mod AlikeParted
+pub mod PartRows
+pub mod FactRows
+pub mod OnceSame
+pub mod PlaceWeights
+pub mod Charges
+pub mod Outcomes
+pub mod LeastSums

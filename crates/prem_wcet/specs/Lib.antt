@@ -8,3 +8,8 @@ pub mod Crowds
 pub mod Walks
 pub mod CountOf
 pub mod Alike
+pub mod Once
+pub mod Known
+pub mod SceneOf
+pub mod Fitting
+pub mod Functions
