@@ -1,17 +1,21 @@
 // What a word comes to that stands at a task's place, decoded and executed at once.
-ghost use Rattle.std.specs.Prelude.{◌≡◌, ◌==◌, ◌+◌, ◌≤◌, ◌<◌, ℕ, IfSome, slice_index, if◌then◌else◌};
+ghost use Rattle.std.specs.Prelude.{◌≡◌, ◌==◌, ◌+◌, ◌≤◌, ◌<◌, ℕ, IfSome, length, slice_index, if◌then◌else◌};
 ghost use Rattle.prem_plant.specs.declared.plant.Target.{Target};
 ghost use Rattle.prem_isa.specs.declared.step.Upshot.TheVariants.{Loads, Moves, Puts, Stores};
 ghost use Rattle.prem_isa.specs.declared.effect.Phase.{Phase};
 ghost use Rattle.prem_isa.specs.Decode.{decode_of};
 ghost use Rattle.prem_isa.specs.Fields.{fields_of};
 ghost use Rattle.prem_isa.specs.Step.{UpshotFits, act_of, told_by};
+ghost use Rattle.prem_lru.specs.CacheState.{view_of};
+ghost use Rattle.prem_cycle.specs.Issue.{attempt_in};
 ghost use Rattle.prem_machine.specs.Issue.Coming.{cost_at};
+ghost use Rattle.prem_machine.specs.Wanted.{is_taking, takes_word};
 
 use crate::issue::task::TaskCore;
 use prem_isa::{
     DataLoad, Moving, Stored, Upshot, loading_of, moving_of, putting_of, storing_of, upshot_of,
 };
+use prem_lru::{Cache, Memory, Policy};
 use prem_plant::Target;
 
 /// The cost of the instruction of a word, if it is one.
@@ -59,6 +63,14 @@ fn operation_cost(funct3: u32, funct7: u32) -> u32
     }
 }
 
+/// Whether an upshot is that of an instruction that takes an input word.
+#[inline(always)]
+fn is_taking(upshot: Upshot) -> bool
+    ensures { result ≡ is_taking upshot }
+{
+    matches!(upshot, Upshot::Takes { .. })
+}
+
 impl TaskCore {
     /// What a word comes to that stands at the program counter.
     #[inline(always)]
@@ -70,6 +82,22 @@ impl TaskCore {
     {
         let hart = &self.hart;
         upshot_of(target, size, &hart.registers, hart.pc, hart.phase, word)
+    }
+
+    /// Whether its next instruction takes an input word. It touches nothing.
+    #[inline(always)]
+    pub(crate) fn takes_word<P: Policy>(&self, cache: &Cache<P>, mem: &Memory) -> bool
+        requires { length mem.now ≡ cache.now.plant.memory }
+        ensures { result
+            ≡ takes_word (attempt_in cache.now.plant.target cache.now.plant.memory (view_of cache.now mem.now) self.now) }
+    {
+        let plant = cache.plant();
+        let pc = self.pc();
+        if u64::from(pc) + 4 > u64::from(plant.memory) {
+            return false;
+        }
+        let word = cache.peek(mem, pc, 4);
+        is_taking(self.coming(plant.target, plant.memory, word))
     }
 
     /// The same, if it only writes a register and goes on, and isn't a fence.
