@@ -1,6 +1,6 @@
 -- Cycles in which no word comes to a task are those of the machine.
-use Rattle.std.specs.Prelude.{is_some, slice_get}
-use Rattle.std.proofs.Common.{◌≡◌, ℕ, zero, suc, ◌+◌, ◌-◌, ◌<◌, ◌≤◌, Bool, true, false, cond, List, [], ◌∷◌, Option, None, Some, length, refl, ap, sym, ◌∙◌, subst, arith}
+use Rattle.std.specs.Prelude.{is_some, slice_get, Ok}
+use Rattle.std.proofs.Common.{◌≡◌, ℕ, zero, suc, ◌+◌, ◌<◌, ◌≤◌, Bool, true, false, cond, List, [], ◌∷◌, Option, None, Some, length, refl, ap, sym, ◌∙◌, subst, arith}
 use Rattle.std.proofs.lemmas.Option.{slice_get_past}
 use Rattle.prem_list.specs.declared.Sequence.{Sequence}
 use Rattle.prem_lru.specs.Entries.{ReplacementRule}
@@ -11,11 +11,12 @@ use Rattle.prem_cycle.specs.Cycle.{is_over, step_of}
 use Rattle.prem_cycle.specs.FactsOf.{stop_of}
 use Rattle.prem_cycle.specs.Run.{cycles_of, wants_input_of}
 use Rattle.prem_machine.specs.States.{Running, with_state}
-use Rattle.prem_machine.specs.Deliveries.{RunsSilently}
+use Rattle.prem_machine.specs.Deliveries.{HaltsBy, RunsSilently}
+use Rattle.prem_machine.specs.declared.machine.deliveries.Halt.TheVariants.{Wants}
 use Rattle.prem_machine.proofs.Going.{cycles_left, goes_less, goes_on, going_most, going_one}
 use Rattle.prem_mail.specs.declared.feed.Feed.{Feed}
 use Rattle.prem_mail.specs.Delivery.{ended_between}
-use Rattle.prem_mail.specs.Gliding.{GoesBy, awaited, machine_in, with_machine}
+use Rattle.prem_mail.specs.Gliding.{GoesBy, TellsNext, awaited, machine_in, with_machine}
 use Rattle.prem_mail.specs.MailFields.{HoldsMail}
 use Rattle.prem_mail.specs.Mailing.{Mailed, Mailing, cycled, handed_to, mail_step, mailed_by, received_by, stepped, supplied_to, with_mailed}
 use Rattle.prem_mail.proofs.Going.{mailed_by-over}
@@ -100,7 +101,23 @@ either rule p requests [] n m wanted ended =
 either rule p requests (f ∷ feeds) n m wanted ended =
     none_ends rule p requests (f ∷ feeds) n m wanted (λ k lt. omega (arith, ended k lt))
 
+-- and where fewer have ended than are awaited, no value has come
+receives_behind : (feeds : List Feed) (before : ℕ) (transfers : List Transfer) (m : Mailed) → length transfers < awaited feeds before → received_by feeds (slice_get transfers before) m ≡ m
+receives_behind [] before transfers m lt = receives_none (slice_get transfers before) m
+receives_behind (f ∷ feeds) before transfers m lt = ap (λ o. received_by (f ∷ feeds) o m) (slice_get_past transfers before (omega (arith, lt)))
+
 -- ---- a run in memory
+
+-- where the machine halts since a task wants an input word, that is so of the run
+pub wants_there : (limit before k : ℕ) (x y z : Mailing) → y ≡ with_machine x (machine_in y) → HaltsBy limit (awaited x.feeds before) (machine_in y) (Wants k) →
+    z ≡ with_mailed y (received_by y.feeds (slice_get y.mailed.state.log.transfers before) y.mailed) → TellsNext limit z (Ok (Some k))
+wants_there limit before k x y z kept halts is =
+    let feeds : y.feeds ≡ x.feeds = ap (λ (v : Mailing). v.feeds) kept in
+    let few : length y.mailed.state.log.transfers < awaited y.feeds before =
+    (let R : List Feed → Type 0 = λ fs. length y.mailed.state.log.transfers < awaited fs before in subst R (sym feeds) halts.1) in
+    let same : z ≡ y = is ∙ ap (with_mailed y) (receives_behind y.feeds before y.mailed.state.log.transfers y.mailed few) in
+    let T : Mailing → Type 0 = λ m. TellsNext limit m (Ok (Some k)) in
+    subst T (sym same) (halts.0, sym halts.2)
 
 pub glides : (limit before : ℕ) (x y z : Mailing) → before ≡ length x.mailed.state.log.transfers → RunsSilently limit (awaited x.feeds before) (machine_in x) (machine_in y) →
     y ≡ with_machine x (machine_in y) → z ≡ with_mailed y (received_by y.feeds (slice_get y.mailed.state.log.transfers before) y.mailed) → GoesBy limit x z

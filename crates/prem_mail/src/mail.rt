@@ -14,7 +14,7 @@ use prem_gate::{RunInput, Transfer};
 use prem_image::Image;
 use prem_list::Sequence;
 use prem_lru::Policy;
-use prem_machine::Machine;
+use prem_machine::{Halt, Machine};
 use prem_plant::TaskId;
 use std::alloc::{AllocError, Global};
 use std::marker::Model;
@@ -165,8 +165,8 @@ impl<P: Policy> Mail<P> {
     ghost use Rattle.prem_mail.specs.Feeds.{AreFeeds};
     ghost use Rattle.prem_mail.specs.Delivery.{has_room, receiver};
     ghost use Rattle.prem_mail.specs.Mailing.{setup_in, requests_in, feeds_in, mailed_in, state_in, with_mail, without_mail, with_mailed, supplied_to, received_by, handed_to, cycled, mail_step, mailed_by};
-    ghost use Rattle.prem_machine.specs.Deliveries.{RunsSilently};
-    ghost use Rattle.prem_mail.specs.Gliding.{GoesBy, machine_in, with_machine};
+    ghost use Rattle.prem_machine.specs.Deliveries.{HaltsBy, RunsSilently};
+    ghost use Rattle.prem_mail.specs.Gliding.{GoesBy, TellsNext, machine_in, with_machine};
     ghost use Rattle.prem_mail.specs.Laws.{mailed_first};
 
     /// The run of an image before its first cycle. It fails only for want of memory, of which it takes all here that the run needs.
@@ -266,13 +266,11 @@ impl<P: Policy> Mail<P> {
         }
     }
 
-    /// Where a task is to take an input word in the coming cycle and its list is used up, a 0 comes to it.
-    fn supply(&mut self)
-        ensures { self.new ≡ with_mailed self.old (supplied_to (wants_input_of (rule_in (setup_in self.old)) (setup_in self.old) (requests_in self.old) (state_in self.old)) (mailed_in self.old)) }
+    /// Where a task wants an input word that isn't there, a 0 comes to it, if it may have one more.
+    fn supply(&mut self, wanted: Option<TaskId>)
+        ensures { self.new ≡ with_mailed self.old (supplied_to wanted (mailed_in self.old)) }
     {
-        let Some(task) = self.machine.wants_input() else {
-            return
-        };
+        let Some(task) = wanted else { return };
         if has_room(self.words.items(), task) {
             self.bring(task, 0);
         }
@@ -304,39 +302,61 @@ impl<P: Policy> Mail<P> {
     }
 
     /// A cycle, with the word that is wanted before it, and the word that has come behind it.
-    fn step(&mut self)
+    fn step(&mut self, wanted: Option<TaskId>)
         requires now { (state_in self.old).now < 2 ^ 61 }
         requires going { is_over (state_in self.old) ≡ false }
+        requires wanted { wanted ≡ wants_input_of (rule_in (setup_in self.old)) (setup_in self.old) (requests_in self.old) (state_in self.old) }
         ensures new { self.new ≡ with_mailed self.old (mail_step (rule_in (setup_in self.old)) (setup_in self.old) (requests_in self.old) (feeds_in self.old) (mailed_in self.old)) }
         ensures goes_on { (state_in self.new).trapped ≡ None → (state_in self.new).now ≡ (state_in self.old).now + 1 }
         ensures stops { IsSome (state_in self.new).trapped → (state_in self.new).now ≡ (state_in self.old).now }
     {
         let before = self.machine.facts().transfers.items().len();
-        self.supply();
+        self.supply(wanted);
         self.cycle();
         self.receive(before);
     }
 
     /// The machine goes on until it stops, has come to the limit, wants an input word, or so many transfers have ended.
-    fn advance(&mut self, limit: u64, transfers: usize)
+    fn advance(&mut self, limit: u64, transfers: usize) -> Halt
         requires now { (state_in self.old).now ≤ limit }
         requires limit { limit ≤ 2 ^ 61 }
         ensures runs { RunsSilently limit transfers (machine_in self.old) (machine_in self.new) }
         ensures kept { self.new ≡ with_machine self.old (machine_in self.new) }
+        ensures halts { HaltsBy limit transfers (machine_in self.new) result }
     {
-        self.machine.run_to_delivery(limit, transfers);
+        self.machine.run_to_delivery(limit, transfers)
     }
 
-    /// Goes on at once up to where a word may come to a task, with the word that has come behind the last cycle.
-    fn glide(&mut self, limit: u64)
+    /// Goes on at once up to where a word may come to a task, with the word that has come behind the last cycle. It tells why the
+    /// run stops there, or else the task that wants an input word there, if one does.
+    fn glide(&mut self, limit: u64) -> Result<Option<TaskId>, Stop>
         requires now { (state_in self.old).now ≤ limit }
         requires limit { limit ≤ 2 ^ 61 }
-        ensures { GoesBy limit self.old self.new }
+        ensures by { GoesBy limit self.old self.new }
+        ensures next { TellsNext limit self.new result }
     {
         let before = self.machine.facts().transfers.items().len();
         let transfers = awaited(&self.feeds, before);
-        self.advance(limit, transfers);
+        let halt = self.advance(limit, transfers);
         self.receive(before);
+        match halt {
+            Halt::Wants(task) => Ok(Some(task)),
+            Halt::Stops(_) | Halt::Ended => self.next(limit),
+        }
+    }
+
+    /// Why a run that is to go up to this cycle stops here, or else the task that wants an input word, if one does. Nothing
+    /// changes.
+    fn next(&mut self, limit: u64) -> Result<Option<TaskId>, Stop>
+        requires now { (state_in self.old).now ≤ limit }
+        requires limit { limit ≤ 2 ^ 61 }
+        ensures same { self.new ≡ self.old }
+        ensures next { TellsNext limit self.old result }
+    {
+        if let Some(stop) = self.stop(limit) {
+            return Err(stop);
+        }
+        Ok(self.machine.wants_input())
     }
 
     /// Why a run that is to go up to this cycle stops here, if it does. Nothing changes.
@@ -368,11 +388,10 @@ impl<P: Policy> Mail<P> {
         ensures stop { Some result ≡ stop_of limit (state_in self.new) }
     {
         'cycles: loop {
-            self.glide(limit);
-            if let Some(stop) = self.stop(limit) {
-                return stop;
+            match self.glide(limit) {
+                Ok(wanted) => self.step(wanted),
+                Err(stop) => return stop,
             }
-            self.step();
         }
     }
 }

@@ -2,21 +2,16 @@ use Rattle.std.specs.Prelude.{is_some, slice_get}
 use Rattle.std.proofs.Common.{◌≡◌, ◌≤◌, ◌+◌, ℕ, All, List, length, ap, sym, ◌∙◌, subst, Option}
 use Rattle.prem_gate.specs.declared.bus.Transfer.{Transfer}
 use Rattle.prem_cycle.specs.declared.state.Trap.{Trap}
-use Rattle.prem_cycle.specs.State.{rule_in}
 use Rattle.prem_cycle.specs.Cycle.{is_over}
 use Rattle.prem_cycle.specs.FactsOf.{Report}
-use Rattle.prem_cycle.specs.Run.{wants_input_of}
 use Rattle.prem_mail.specs.Mailing.{Mailing}
 use Rattle.prem_mail.proofs.Stepping.{supplied_over, supplied_now, supplied_lost, received_now, received_trapped}
 use Rattle.prem_mail.proofs.mail.Mail.step.Goals as goal
 
-abbrev wanted : Mailing → Option ℕ
-wanted x = wants_input_of (rule_in x.setup) x.setup x.requests x.mailed.state
-
 pub cycle-requires-clause-going : goal.cycle-requires-clause-going
 cycle-requires-clause-going g c =
     let x : Mailing = c.args.self.now in
-    ap (λ (y : Mailing). is_over y.mailed.state) c.supply.ensures ∙ supplied_over (wanted x) x.mailed ∙ c.requires.going
+    ap (λ (y : Mailing). is_over y.mailed.state) c.supply.ensures ∙ supplied_over c.args.wanted x.mailed ∙ c.requires.going
 
 pub receive-requires : goal.receive-requires
 receive-requires g c =
@@ -27,7 +22,7 @@ receive-requires g c =
     let few : All (λ n. n ≤ length c.items-before.result.now) m.lost.items = subst (λ i. All (λ n. n ≤ i) m.lost.items) long c.self.invariant.few in
     let lost : m.lost.items ≡ c.cycle.new.self.mailed.mail.lost =
     ap (λ (y : Mailing). y.mailed.mail.lost) c.self.view_is
-    ∙ sym (ap (λ (y : Mailing). y.mailed.mail.lost) c.cycle.ensures.new ∙ ap (λ (y : Mailing). y.mailed.mail.lost) c.supply.ensures ∙ supplied_lost (wanted x) x.mailed) in
+    ∙ sym (ap (λ (y : Mailing). y.mailed.mail.lost) c.cycle.ensures.new ∙ ap (λ (y : Mailing). y.mailed.mail.lost) c.supply.ensures ∙ supplied_lost c.args.wanted x.mailed) in
     record { few = subst (λ (ls : List ℕ). All (λ n. n ≤ length c.items-before.result.now) ls) lost few }
 
 pub returns-clause-goes_on : goal.returns-clause-goes_on
@@ -37,7 +32,7 @@ returns-clause-goes_on g c none =
     let o : Option Transfer = slice_get y.mailed.state.log.transfers (length c.items-before.result.now) in
     ap (λ (z : Mailing). z.mailed.state.now) c.receive.ensures ∙ received_now y.feeds o y.mailed
     ∙ c.cycle.ensures.goes_on (sym (ap (λ (z : Mailing). z.mailed.state.trapped) c.receive.ensures ∙ received_trapped y.feeds o y.mailed) ∙ none)
-    ∙ ap (λ (z : Mailing). z.mailed.state.now + 1) c.supply.ensures ∙ ap (λ n. n + 1) (supplied_now (wanted x) x.mailed)
+    ∙ ap (λ (z : Mailing). z.mailed.state.now + 1) c.supply.ensures ∙ ap (λ n. n + 1) (supplied_now c.args.wanted x.mailed)
 
 pub returns-clause-stops : goal.returns-clause-stops
 returns-clause-stops g c some =
@@ -46,4 +41,4 @@ returns-clause-stops g c some =
     let o : Option Transfer = slice_get y.mailed.state.log.transfers (length c.items-before.result.now) in
     ap (λ (z : Mailing). z.mailed.state.now) c.receive.ensures ∙ received_now y.feeds o y.mailed
     ∙ c.cycle.ensures.stops (sym (ap (λ (t : Option Trap). is_some t) (ap (λ (z : Mailing). z.mailed.state.trapped) c.receive.ensures ∙ received_trapped y.feeds o y.mailed)) ∙ some)
-    ∙ ap (λ (z : Mailing). z.mailed.state.now) c.supply.ensures ∙ supplied_now (wanted x) x.mailed
+    ∙ ap (λ (z : Mailing). z.mailed.state.now) c.supply.ensures ∙ supplied_now c.args.wanted x.mailed

@@ -1,7 +1,5 @@
 use Rattle.std.proofs.Common.{◌≡◌, true, false, cond, Some, map, ap, sym, ◌∙◌}
 use Rattle.prem_list.specs.Sequence.{items_of}
-use Rattle.prem_cycle.specs.State.{rule_in}
-use Rattle.prem_cycle.specs.Run.{wants_input_of}
 use Rattle.prem_mail.specs.Delivery.{has_room}
 use Rattle.prem_mail.specs.Mailing.{Mailing, with_mail, with_mailed, supplied_to}
 use Rattle.prem_mail.proofs.mail.Mail.supply.Goals as goal
@@ -17,8 +15,7 @@ pub returns-then-has_room : goal.returns-then-has_room
 returns-then-has_room g c =
     let x = c.args.self.now in
     let k = c.in-Some.task in
-    let wanted : wants_input_of (rule_in x.setup) x.setup x.requests x.mailed.state ≡ Some k =
-    ap (λ (y : Mailing). wants_input_of (rule_in y.setup) y.setup y.requests y.mailed.state) (sym c.self.view_is) ∙ sym c.wants_input.ensures ∙ c.in-Some.is in
+    let wanted : c.args.wanted ≡ Some k = c.in-Some.is in
     let room : has_room k x.mailed.mail.lists ≡ true =
     ap (λ (y : Mailing). has_room k y.mailed.mail.lists) (sym c.self.view_is)
     ∙ ap (λ ls. has_room k (map items_of ls)) (sym c.items.ensures) ∙ sym c.has_room.ensures ∙ c.if-has_room.true in
@@ -28,8 +25,7 @@ pub returns-else-has_room : goal.returns-else-has_room
 returns-else-has_room g c =
     let x = c.args.self.now in
     let k = c.in-Some.task in
-    let wanted : wants_input_of (rule_in x.setup) x.setup x.requests x.mailed.state ≡ Some k =
-    ap (λ (y : Mailing). wants_input_of (rule_in y.setup) y.setup y.requests y.mailed.state) (sym c.self.view_is) ∙ sym c.wants_input.ensures ∙ c.in-Some.is in
+    let wanted : c.args.wanted ≡ Some k = c.in-Some.is in
     let room : has_room k x.mailed.mail.lists ≡ false =
     ap (λ (y : Mailing). has_room k y.mailed.mail.lists) (sym c.self.view_is)
     ∙ ap (λ ls. has_room k (map items_of ls)) (sym c.items.ensures) ∙ sym c.has_room.ensures ∙ c.if-has_room.false in
