@@ -1,20 +1,19 @@
 -- The charges of scopes, by what is known of functions in memory.
 use Rattle.std.proofs.Common.{◌≡◌, ℕ, ◌+◌, ◌*◌, ◌≤◌, List, [], ◌∷◌, ◌++◌, map, length, take, refl, ap, sym, ◌∙◌, arith}
-use Rattle.std.specs.List.{flat_map, list_all}
+use Rattle.std.specs.List.{list_all}
 use Rattle.prem_list.specs.declared.Sequence.{Sequence}
 use Rattle.prem_list.specs.Sequence.{items_of}
 use Rattle.prem_plant.specs.Places.{Extent}
 use Rattle.prem_asm.specs.declared.piece.Piece.{Piece}
-use Rattle.prem_asm.specs.Pieces.{Pieces, size_of}
+use Rattle.prem_asm.specs.Pieces.{Pieces}
 use Rattle.prem_asm.specs.PiecesOf.{pieces_of}
 use Rattle.prem_layout.specs.Footprint.{lines_of, place_at}
 use Rattle.prem_layout.specs.Bounds.{part_weight, weight_at, line_cost}
 use Rattle.prem_bounds.specs.Scale.{clipped}
-use Rattle.prem_bounds.specs.Told.{Tells}
 use Rattle.prem_bounds.specs.TableOf.{listed}
 use Rattle.prem_bounds.proofs.Steps.{listed_long}
 use Rattle.prem_wcet_laws.specs.Weights.{PlaceWeight, weighted_from}
-use Rattle.prem_wcet_laws.specs.Scopes.{Scene, Span, Fact, fact_of, path_weight, places_behind, roomy_lines, is_roomy, scope_weight, extent_of, code_ranges, data_ranges, charge, charge_with}
+use Rattle.prem_wcet_laws.specs.Scopes.{Scene, Span, Fact, path_weight, places_behind, roomy_lines, is_roomy, scope_weight, extent_of, code_ranges, data_ranges, charge, charge_with}
 use Rattle.prem_wcet.specs.declared.scene.Fact.{Fact as FactTree}
 use Rattle.prem_wcet.specs.declared.scene.Scene.{Scene as SceneTree}
 use Rattle.prem_wcet.specs.SceneOf.{facts_in, scene_in}

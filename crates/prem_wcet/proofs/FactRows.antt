@@ -1,5 +1,5 @@
 -- Facts in memory by their numbers.
-use Rattle.std.proofs.Common.{◌≡◌, ℕ, zero, suc, ◌+◌, ◌<◌, ◌≤◌, List, [], ◌∷◌, refl, ap, ◌∙◌, sym, arith, length, get_or, slice_index_or}
+use Rattle.std.proofs.Common.{◌≡◌, ℕ, zero, suc, ◌<◌, ◌≤◌, List, [], ◌∷◌, refl, ap, ◌∙◌, sym, arith, length, get_or, slice_index_or}
 use Rattle.prem_list.specs.declared.Sequence.{Sequence}
 use Rattle.prem_asm.specs.declared.piece.Piece.{Piece}
 use Rattle.prem_asm.specs.Pieces.{Pieces}

@@ -1,9 +1,7 @@
 -- Sums of least charges as they are told.
-use Rattle.std.proofs.Common.{◌≡◌, ℕ, zero, suc, ◌+◌, ◌*◌, ◌<◌, ◌≤◌, ◌^◌, min, max, List, [], ◌∷◌, refl, ap, sym, ◌∙◌, arith, length, drop, take, get_or}
-use Rattle.std.proofs.lemmas.List.{drop_more}
+use Rattle.std.proofs.Common.{◌≡◌, ℕ, zero, suc, ◌+◌, ◌*◌, ◌<◌, ◌^◌, min, max, List, [], ◌∷◌, refl, ap, sym, ◌∙◌, arith, length, drop, take, get_or}
 use Rattle.prem_plant.specs.declared.plant.Plant.{Plant}
-use Rattle.prem_isa.specs.declared.instr.Instr.{Instr}
-use Rattle.prem_asm.specs.Pieces.{Pieces, no_pieces, followed, size_of, weighted, branch_of}
+use Rattle.prem_asm.specs.Pieces.{Pieces, size_of, weighted, branch_of}
 use Rattle.prem_asm.specs.PiecesOf.{pieces_of}
 use Rattle.prem_asm.proofs.Rows.{followed_none}
 use Rattle.prem_layout.specs.Bounds.{job_weight, line_cost}
@@ -13,10 +11,10 @@ use Rattle.prem_bounds.specs.Scale.{clipped, with_misses, weight_by, calls_by}
 use Rattle.prem_bounds.proofs.Calls.{job_weights_same}
 use Rattle.prem_bounds.proofs.Sums.{clipped_times}
 use Rattle.prem_wcet_laws.specs.Scopes.{Scene, charge}
-use Rattle.prem_wcet_laws.specs.Least.{own, own_jump, own_turns, called_least}
+use Rattle.prem_wcet_laws.specs.Least.{own_jump, own_turns}
 use Rattle.prem_wcet.specs.declared.outline.Part.{Part}
 use Rattle.prem_wcet.specs.declared.outline.Part.TheVariants.{Plain, Calling, Choice', Turning'}
-use Rattle.prem_wcet.specs.Outlines.{Outline, ended, plain, calling, choice, turning, code_of, names_of, callees_of, coded_span, span_in, choice_by, first_place, second_place, inner_place, apart_in, least_in}
+use Rattle.prem_wcet.specs.Outlines.{Outline, ended, plain, calling, choice, turning, code_of, coded_span, span_in, choice_by, apart_in}
 use Rattle.prem_wcet.specs.PartsOf.{part_before, part_of, parts_of, part_code}
 use Rattle.prem_wcet.specs.Fitting.{FitsAt, divided_in}
 use Rattle.prem_wcet.proofs.PartRows.{drop_part}

@@ -18,3 +18,8 @@ pub mod PlaceWeights
 pub mod Charges
 pub mod Outcomes
 pub mod LeastSums
+pub mod Passages
+pub mod CountSums
+pub mod CutSteps
+pub mod MarkedFaces
+pub mod PartedSums

@@ -1,12 +1,12 @@
 -- Ranges that are each kept once are the same as all that were put behind each other.
-use Rattle.std.proofs.Common.{◌≡◌, ℕ, ◌==◌, Bool, true, false, ◌||◌, ◌&&◌, cond, List, [], ◌∷◌, ◌++◌, map, refl, ap, sym, ◌∙◌, append_assoc, append-nil}
+use Rattle.std.proofs.Common.{◌≡◌, ℕ, Bool, true, false, ◌||◌, cond, List, [], ◌∷◌, ◌++◌, map, refl, ap, sym, ◌∙◌}
 use Rattle.std.proofs.lemmas.Bool.{eqb-true, and_parts}
 use Rattle.std.proofs.lemmas.List.Folds.{list_any-append}
 use Rattle.std.specs.List.{list_any, flat_map}
 use Rattle.prem_plant.specs.Places.{Extent}
 use Rattle.prem_wcet_laws.specs.Scopes.{Scene, fact_of}
 use Rattle.prem_wcet.specs.Same.{AreSame}
-use Rattle.prem_wcet.specs.Once.{is_range, with_range, with_ranges, with_some, with_names, with_code, with_touched}
+use Rattle.prem_wcet.specs.Once.{is_range, with_range, with_ranges, with_names, with_code, with_touched}
 use Rattle.prem_wcet.specs.Outlines.{Outline, ended, plain, calling, choice, turning, names_of, callees_of}
 
 or_true : (b : Bool) → b || true ≡ true
@@ -41,13 +41,13 @@ found p r (x ∷ xs) is = by_first (is_range r x) refl is (found p r xs) where
   by_first true same e rest = ap (λ y. p y || list_any p xs) (is_it r x same) ∙ or_twice (p r) (list_any p xs) ∙ ap (λ y. (p y || list_any p xs) || p r) (sym (is_it r x same))
   by_first false same e rest = ap (λ b. p x || b) (rest e) ∙ sym (or_assoc (p x) (list_any p xs) (p r))
 
-range_same : (rs : List Extent) (r : Extent) (p : Extent → Bool) → list_any p (with_range rs r) ≡ list_any p rs || p r
+pub range_same : (rs : List Extent) (r : Extent) (p : Extent → Bool) → list_any p (with_range rs r) ≡ list_any p rs || p r
 range_same rs r p = by_test (list_any (is_range r) rs) refl where
   by_test : (b : Bool) → list_any (is_range r) rs ≡ b → list_any p (cond b rs (rs ++ r ∷ [])) ≡ list_any p rs || p r
   by_test true is = found p r rs is
   by_test false is = list_any-append p rs (r ∷ []) ∙ ap (λ b. list_any p rs || b) (or_false (p r))
 
-ranges_same : (rs more : List Extent) (p : Extent → Bool) → list_any p (with_ranges rs more) ≡ list_any p rs || list_any p more
+pub ranges_same : (rs more : List Extent) (p : Extent → Bool) → list_any p (with_ranges rs more) ≡ list_any p rs || list_any p more
 ranges_same rs [] p = sym (or_false (list_any p rs))
 ranges_same rs (r ∷ more) p = ranges_same (with_range rs r) more p ∙ ap (λ b. b || list_any p more) (range_same rs r p) ∙ or_assoc (list_any p rs) (p r) (list_any p more)
 

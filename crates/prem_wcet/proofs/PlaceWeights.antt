@@ -1,7 +1,6 @@
 -- Weights at places: of pieces one behind another, of calls that are told alike, and of functions one after another.
 use Rattle.std.specs.Prelude.{nat_lt}
-use Rattle.std.proofs.Common.{◌≡◌, ℕ, zero, suc, ◌+◌, ◌-◌, ◌*◌, ◌^◌, ◌<◌, ◌≤◌, max, Bool, true, false, cond, List, [], ◌∷◌, ◌++◌, refl, ap, sym, ◌∙◌, ⊎_elim, arith, length, take, get_or, slice_set, map}
-use Rattle.std.proofs.lemmas.Bool.{cases_lt, cases_eq}
+use Rattle.std.proofs.Common.{◌≡◌, ℕ, zero, suc, ◌+◌, ◌*◌, ◌<◌, Bool, true, false, cond, List, [], ◌∷◌, ◌++◌, refl, ap, sym, ◌∙◌, arith, length, take, get_or, slice_set, map}
 use Rattle.std.proofs.lemmas.List.{length-take, take_more}
 use Rattle.prem_asm.specs.Pieces.{Pieces, no_pieces, straight, address_of, either, repeat, call_to, followed, size_of, branch_of, skip_words, skip_at, other_at, either_end, test_at, back_at, repeat_end}
 use Rattle.prem_asm.proofs.Rows.{words-followed}

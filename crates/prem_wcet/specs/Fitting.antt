@@ -4,7 +4,7 @@ use Rattle.prem_asm.specs.Pieces.{size_of}
 use Rattle.prem_wcet_laws.specs.Scopes.{Scene}
 use Rattle.prem_wcet_laws.specs.Least.{own, own_jump, own_turns, called_least}
 use Rattle.prem_layout.specs.Template.Terms.{nonzero}
-use Rattle.prem_wcet.specs.Outlines.{Outline, ended, plain, calling, choice, turning, code_of, first_place, second_place, inner_place, choice_by, least_in}
+use Rattle.prem_wcet.specs.Outlines.{Outline, ended, plain, calling, choice, turning, first_place, second_place, inner_place, choice_by, least_in}
 
 abbrev pub FitsAt : ℕ → Outline → Type 0
 FitsAt at ended = at < 2 ^ 32

@@ -13,3 +13,4 @@ pub mod Known
 pub mod SceneOf
 pub mod Fitting
 pub mod Functions
+pub mod EdgesOf

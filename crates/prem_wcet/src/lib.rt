@@ -7,6 +7,7 @@
 //! - `scene`: what is known of a task at the code of a function.
 //! - `scope`: the charge of code that runs as one scope.
 //! - `least`: least charges of statements without marked calls.
+//! - `parted`: charges of statements with marked calls.
 #![tactic(auto)]
 
 pub mod count;
@@ -14,6 +15,7 @@ pub mod crowd;
 mod laws;
 pub mod least;
 pub mod outline;
+pub mod parted;
 pub mod scene;
 pub mod scope;
 pub mod walk;

@@ -1,11 +1,11 @@
-use Rattle.std.proofs.Common.{◌≡◌, ◌+◌, ap, ◌∙◌, sym, subst, arith, drop}
+use Rattle.std.proofs.Common.{◌+◌, ap, ◌∙◌, sym, subst, arith, drop}
 use Rattle.prem_asm.specs.Pieces.{size_of}
 use Rattle.prem_asm.specs.PiecesOf.{pieces_of}
 use Rattle.prem_bounds.specs.Scale.{clipped}
 use Rattle.prem_wcet_laws.specs.Least.{own}
 use Rattle.prem_wcet.specs.Fitting.{FitsAt, divided_in}
 use Rattle.prem_wcet.specs.Outlines.{first_place, inner_place, least_in, second_place}
-use Rattle.prem_wcet.specs.PartsOf.{part_code, part_of, parts_of}
+use Rattle.prem_wcet.specs.PartsOf.{part_code, parts_of}
 use Rattle.prem_wcet.specs.SceneOf.{scene_in}
 use Rattle.prem_wcet.proofs.LeastSums.{apart_step, body_told, choice_told, first_fits, fits_all, fits_behind, fits_one, turns_told}
 use Rattle.prem_wcet.proofs.Outcomes.{if_more}

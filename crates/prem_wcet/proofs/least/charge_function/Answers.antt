@@ -1,4 +1,4 @@
-use Rattle.std.proofs.Common.{[], ◌∷◌, ◌+◌, ap, ◌∙◌, sym, arith}
+use Rattle.std.proofs.Common.{[], ◌∷◌, ◌+◌, ap, ◌∙◌, arith}
 use Rattle.prem_list.specs.Sequence.{items_of}
 use Rattle.prem_asm.specs.Pieces.{followed, no_pieces, size_of}
 use Rattle.prem_asm.specs.PiecesOf.{pieces_of}

@@ -1,4 +1,4 @@
-use Rattle.std.proofs.Common.{◌≡◌, ◌+◌, ◌-◌, ap, ◌∙◌, sym, arith, take, drop}
+use Rattle.std.proofs.Common.{◌≡◌, ◌+◌, ◌-◌, ap, ◌∙◌, arith, take, drop}
 use Rattle.prem_bounds.specs.Scale.{clipped}
 use Rattle.prem_wcet_laws.specs.Scopes.{charge}
 use Rattle.prem_wcet.specs.Outlines.{span_in}

@@ -1,7 +1,7 @@
 use Rattle.std.proofs.Common.{refl, ap, ◌∙◌, sym, ◌||◌, ◌+◌, arith, drop}
 use Rattle.prem_list.specs.Sequence.{items_of}
 use Rattle.prem_wcet.specs.Outlines.{cut_in}
-use Rattle.prem_wcet.specs.PartsOf.{part_of, parts_of}
+use Rattle.prem_wcet.specs.PartsOf.{parts_of}
 use Rattle.prem_wcet.specs.SceneOf.{scene_in}
 use Rattle.prem_wcet.proofs.PartRows.{count, is_choice, is_turning, drop_part, count_item, cut_before, choice_cut, turn_cut}
 use Rattle.prem_wcet.proofs.scene.+cuts.Goals as goal

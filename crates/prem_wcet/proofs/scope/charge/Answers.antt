@@ -1,4 +1,4 @@
-use Rattle.std.proofs.Common.{[], ◌∷◌, ◌+◌, ap, ◌∙◌, sym, arith}
+use Rattle.std.proofs.Common.{[], ◌∷◌, ◌+◌, ap, ◌∙◌, arith}
 use Rattle.prem_asm.specs.Pieces.{followed, no_pieces, size_of}
 use Rattle.prem_asm.proofs.Rows.{followed_none}
 use Rattle.prem_bounds.specs.Scale.{clipped}

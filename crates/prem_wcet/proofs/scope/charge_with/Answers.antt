@@ -1,4 +1,4 @@
-use Rattle.std.proofs.Common.{◌≡◌, ◌+◌, ◌*◌, ◌++◌, ap, ◌∙◌, sym, refl, length}
+use Rattle.std.proofs.Common.{◌*◌, ◌++◌, ap, ◌∙◌, sym}
 use Rattle.prem_asm.specs.Pieces.{followed}
 use Rattle.prem_asm.specs.PiecesOf.{pieces_of}
 use Rattle.prem_layout.specs.Bounds.{part_weight, weight_at}

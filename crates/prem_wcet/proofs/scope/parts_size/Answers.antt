@@ -1,4 +1,4 @@
-use Rattle.std.proofs.Common.{◌+◌, ap, ◌∙◌, sym, arith, drop}
+use Rattle.std.proofs.Common.{◌+◌, ap, ◌∙◌, arith, drop}
 use Rattle.prem_asm.specs.Pieces.{size_of}
 use Rattle.prem_wcet.specs.Outlines.{code_of}
 use Rattle.prem_wcet.specs.PartsOf.{parts_of, part_code}

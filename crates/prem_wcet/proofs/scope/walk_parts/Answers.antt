@@ -1,4 +1,4 @@
-use Rattle.std.proofs.Common.{◌≡◌, ◌+◌, ap, ◌∙◌, sym, arith, drop}
+use Rattle.std.proofs.Common.{◌+◌, ap, ◌∙◌, sym, arith, drop}
 use Rattle.prem_asm.specs.Pieces.{followed, size_of}
 use Rattle.prem_asm.specs.PiecesOf.{pieces_of}
 use Rattle.prem_asm.proofs.Rows.{followed_append}

@@ -1,4 +1,4 @@
-use Rattle.std.proofs.Common.{◌≡◌, ◌+◌, ◌^◌, ◌≤◌, drop}
+use Rattle.std.proofs.Common.{◌≡◌, ◌+◌, drop}
 use Rattle.prem_asm.specs.Pieces.{followed, size_of}
 use Rattle.prem_asm.specs.PiecesOf.{pieces_of}
 use Rattle.prem_bounds.specs.Scale.{clipped}

@@ -1,5 +1,4 @@
-use Rattle.std.proofs.Common.{◌≡◌, ℕ, ◌+◌, ap, ◌∙◌, sym, arith, length}
-use Rattle.prem_asm.specs.Pieces.{size_of}
+use Rattle.std.proofs.Common.{◌≡◌, ap, ◌∙◌, sym, arith, length}
 use Rattle.prem_layout.specs.Bounds.{part_weight, weight_at}
 use Rattle.prem_layout.specs.Footprint.{place_at}
 use Rattle.prem_bounds.specs.Scale.{clipped}
