@@ -17,24 +17,13 @@ use std::alloc::{AllocError, Global};
 /// The bytes that a source has at most.
 const SOURCE_LIMIT: usize = 1_048_576;
 
-/// The bytes as a list.
-fn sequence_of(alloc: Global, bytes: &[u8]) -> Result<Sequence<u8>, AllocError>
-    ensures { IfOk result (λ s. items_of s ≡ bytes.now) }
-{
-    let mut list = Sequence::new(alloc);
-    for byte in bytes {
-        list.push(*byte)?;
-    }
-    Ok(list)
-}
-
 /// A task with its text.
-fn task_with(alloc: Global, entry: &TaskEntry, text: &[u8]) -> Result<TaskText, AllocError>
-    ensures { IfOk result (λ t. task_of t ≡ task_with entry.now text.now) }
+fn task_with(alloc: Global, entry: &TaskEntry, text: Vec<u8>) -> Result<TaskText, AllocError>
+    ensures { IfOk result (λ t. task_of t ≡ task_with entry.now text.items) }
 {
     Ok(TaskText {
         name: Label::new(alloc, entry.name.text())?,
-        text: sequence_of(alloc, text)?,
+        text: Sequence::from_vec(text),
         period: entry.period,
         jobs: entry.jobs,
     })
@@ -57,7 +46,7 @@ fn read_task<S: Store>(
         Ok(text) => text,
         Err(halt) => return Err(halt),
     };
-    Ok(task_with(alloc, entry, &text)?)
+    Ok(task_with(alloc, entry, text)?)
 }
 
 /// The first entry, and those behind it.
