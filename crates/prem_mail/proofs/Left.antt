@@ -2,13 +2,15 @@
 use Rattle.std.proofs.Common.{◌≡◌, ◌≤◌, ◌<◌, ◌+◌, ℕ, List, [], ◌∷◌, length, Ok, Err, refl, sym, ap, ◌∙◌, arith}
 use Rattle.std.proofs.lemmas.List.{nil_from_length}
 use Rattle.prem_line.specs.Lines.{lines_of}
+use Rattle.prem_set.specs.declared.failing.Failing.{Failing}
+use Rattle.prem_set.specs.declared.failing.Failing.TheVariants.{OutOfMemory, Refused}
+use Rattle.prem_set.specs.Failing.{Fails}
 use Rattle.prem_set.specs.Run.Names.{KnownNames}
 use Rattle.prem_mail.specs.declared.feed.Feed.{Feed}
-use Rattle.prem_mail.specs.declared.fail.LineFail.{LineFail}
-use Rattle.prem_mail.specs.declared.fail.LineFail.TheVariants.{OutOfMemory, Refused}
+use Rattle.prem_mail.specs.declared.fail.MailWhich.{MailWhich}
 use Rattle.prem_mail.specs.declared.fail.MailFail.{MailFail}
 use Rattle.prem_mail.specs.MailFile.{line_read, lines_read, feeds_of}
-use Rattle.prem_mail.specs.Views.{Fails, MailFails, line_fault}
+use Rattle.prem_mail.specs.Views.{MailFails, line_fault}
 
 -- the lines that are left give what all give, and the number of the next line is small
 pub record Left (names : KnownNames) (bytes : List ℕ) (n : ℕ) (feeds : List Feed) (rest : List ℕ) : Type 0 where
@@ -16,7 +18,7 @@ pub record Left (names : KnownNames) (bytes : List ℕ) (n : ℕ) (feeds : List 
   pub number : n + length rest ≤ length bytes + 1
 
 -- a line that is refused
-pub failed : (names : KnownNames) (bytes : List ℕ) (n : ℕ) (feeds : List Feed) (rest line more : List ℕ) (fail : LineFail) (result : MailFail) → Left names bytes n feeds rest →
+pub failed : (names : KnownNames) (bytes : List ℕ) (n : ℕ) (feeds : List Feed) (rest line more : List ℕ) (fail : Failing MailWhich) (result : MailFail) → Left names bytes n feeds rest →
     lines_of rest ≡ line ∷ lines_of more → Fails fail (line_read names feeds line) → result ≡ line_fault n fail → MailFails result (feeds_of bytes names)
 unfolding lines_read
 failed names bytes n feeds rest line more OutOfMemory result left cut fails is = rw is tt
