@@ -10,7 +10,7 @@ use Rattle.prem_answer.specs.declared.answer.Telling.TheVariants.{Whole, Brief}
 use Rattle.prem_answer.specs.declared.answer.Answer.{Answer}
 use Rattle.prem_answer.specs.declared.answer.Halt.{Halt}
 use Rattle.prem_answer.specs.declared.answer.Halt.TheVariants.{Answered, ReadFault as HaltReadFault, OutOfMemory as HaltOutOfMemory}
-use Rattle.prem_answer.specs.Stages.{Reply, reply_of, Comes, Reads, is_settled, IsFine, Stage, AreReads, IsReadBy, IsGiven, IsReadAs, IsReadAsBy, IsRead, within_by, form_by, missing_reply, reading, reading_by, and_then, later_reads}
+use Rattle.prem_answer.specs.Stages.{Reply, reply_of, Comes, Reads, is_settled, IsFine, Stage, AreReads, IsReadBy, IsGiven, IsReadAs, IsReadAsBy, IsRead, within_by, form_by, reading, reading_by, and_then, later_reads}
 
 pub short_file : (how : Telling) (limit : ℕ) (name bytes : List ℕ) → length bytes ≤ limit → within_by how limit name (Some bytes) ≡ Ok bytes
 short_file how limit name bytes short = ap (λ b. if b then Ok bytes else Err (form_by how name (codes "too-long"))) (le-leb (length bytes) limit short)
@@ -23,10 +23,6 @@ long_file how limit name bytes long =
 pub read_ok : (how : Telling) (told : Option Files) (limit : ℕ) (name bytes : List ℕ) → IfSome told (λ files. stored files name ≡ Some bytes) →
     length bytes ≤ limit → IsReadBy how told limit name (Ok bytes)
 read_ok how told limit name bytes there short = (Some bytes, (there, sym (short_file how limit name bytes short)))
-
-read_missing : (how : Telling) (told : Option Files) (limit : ℕ) (name : List ℕ) (reply : Reply) → IfSome told (λ files. stored files name ≡ None) →
-    reply ≡ missing_reply name → IsReadBy how told limit name (Err reply)
-read_missing how told limit name reply gone is = (None, (gone, ap Err is))
 
 too_long : (how : Telling) (limit : ℕ) (name : List ℕ) (o : Option (List ℕ)) → IsSomeAnd o (λ bytes. limit < length bytes) → within_by how limit name o ≡ Err (form_by how name (codes "too-long"))
 too_long how limit name None h = absurd h
@@ -140,14 +136,6 @@ not_made_by how told limit name make reply read = (Err reply, (read, refl))
 
 -- ---- where the reason is told too
 
-pub goes_on : {A B : Type 0} → (told : Option Files) (limit : ℕ) (name : List ℕ) (make : List ℕ → Result A Reply) (next : A → Stage B) (x : A) (given : Result B Reply) →
-    IsReadAs told limit name make (Ok x) → IsGiven told (next x) given → IsGiven told (reading limit name make next) given
-goes_on = goes_on_by Whole
-
-pub ends_there : {A B : Type 0} → (told : Option Files) (limit : ℕ) (name : List ℕ) (make : List ℕ → Result A Reply) (next : A → Stage B) (reply : Reply) →
-    IsReadAs told limit name make (Err reply) → IsGiven told (reading limit name make next) (Err reply)
-ends_there = ends_there_by Whole
-
 pub reading_fine : {A B : Type 0} → (right : B → Type 0) (limit : ℕ) (name : List ℕ) (make : List ℕ → Result A Reply) (next : A → Stage B) →
     ((bytes : List ℕ) → IsFine (λ x. Unit {0}) (make bytes)) → ((x : A) (reads : Reads) → IsFine right (next x reads)) →
     (reads : Reads) → IsFine right (reading limit name make next reads)
@@ -156,7 +144,3 @@ reading_fine right = reading_fine_by right Whole
 pub made_ok : {A : Type 0} → (told : Option Files) (limit : ℕ) (name : List ℕ) (make : List ℕ → Result A Reply) (bytes : List ℕ) (given : Result A Reply) →
     IsRead told limit name (Ok bytes) → make bytes ≡ given → IsReadAs told limit name make given
 made_ok = made_ok_by Whole
-
-pub not_made : {A : Type 0} → (told : Option Files) (limit : ℕ) (name : List ℕ) (make : List ℕ → Result A Reply) (reply : Reply) →
-    IsRead told limit name (Err reply) → IsReadAs told limit name make (Err reply)
-not_made = not_made_by Whole

@@ -1,11 +1,7 @@
 -- Bytes that a sink tells, written piece by piece.
 use Rattle.std.specs.Io.KnownBytes.{append_known}
-use Rattle.std.proofs.Common.{◌≡◌, ℕ, List, [], ◌++◌, Option, None, Some, take, drop, ◌+◌, refl, ap, ◌∙◌, sym, append_assoc, append-nil}
+use Rattle.std.proofs.Common.{◌≡◌, ℕ, List, ◌++◌, Option, None, Some, take, drop, ◌+◌, refl, ap, ◌∙◌, sym, append_assoc}
 use Rattle.std.proofs.Math.Seq.{take-add}
-
-append_known-nil : (known : Option (List ℕ)) → known ≡ append_known known []
-append_known-nil None = refl
-append_known-nil (Some xs) = ap Some (sym (append-nil xs))
 
 append_known-append : (known : Option (List ℕ)) (xs ys : List ℕ) → append_known (append_known known xs) ys ≡ append_known known (xs ++ ys)
 append_known-append None xs ys = refl
