@@ -1,23 +1,18 @@
 -- The answer to `SET RUN [--from N] [--to N]`: the picture of the run of a compiled set, or the first rule that the set breaks.
-use Rattle.std.specs.Prelude.{◌≡◌, ⊤, ℕ, ◌+◌, ◌-◌, ◌^◌, min, max, List, Option, None, unwrap_or, codes}
-use Rattle.prem_io.specs.Files.{Files}
+use Rattle.std.specs.Prelude.{ℕ, ◌+◌, ◌-◌, ◌^◌, min, max, List, Option, None, unwrap_or, codes}
 use Rattle.prem_lru.specs.Rules.{rule_of}
 use Rattle.prem_image.specs.Text.{ImageText}
 use Rattle.prem_cycle.specs.State.{MachineState}
 use Rattle.prem_cycle.specs.FactsOf.{report_of}
 use Rattle.prem_cycle.specs.Inputs.{image_setup}
-use Rattle.prem_tasks.specs.Broken.{TaskSet, broken}
-use Rattle.prem_tasks.specs.Compiled.{CompiledText, compiled}
-use Rattle.prem_command.specs.Chart.{ChartAsked, chart_of}
+use Rattle.prem_command.specs.Chart.{ChartAsked}
 use Rattle.prem_chart.specs.declared.view.View.{View}
 use Rattle.prem_chart.specs.Picture.{chart_text}
 use Rattle.prem_answer.specs.declared.status.Status.TheVariants.{Done}
-use Rattle.prem_answer.specs.Stages.{Reply, Stage}
 use Rattle.prem_answer.specs.Tool.{ToolMeaning}
 use Rattle.prem_exec.specs.Forms.{RunText}
 use Rattle.prem_exec.specs.Exec.{state_at, stop_at}
-use Rattle.prem_exec.specs.Sources.There.{RunIsThere, SetIsThere}
-use Rattle.prem_running.specs.Tellings.{Tells, told_stages}
+use Rattle.prem_running.specs.Tellings.{Tells, telling_tool}
 use Rattle.prem_running.specs.Running.{run_limit}
 use Rattle.prem_chart.specs.Notes.{notes_of}
 
@@ -40,32 +35,8 @@ image_chart asked i input limit = state_chart asked i input limit (state_at i in
 -- ---- the answer
 
 -- to a compiled set
-abbrev pub compiled_reply : ChartAsked → RunText → CompiledText → Reply
-compiled_reply asked input c = (Done, image_chart asked c.image input (run_limit None c.limit))
-
 abbrev pub chart_tells : ChartAsked → Tells
-chart_tells asked set input c = compiled_reply asked input c
-
-abbrev pub chart_stages : ChartAsked → Stage Reply
-chart_stages asked = told_stages (chart_tells asked) asked.set asked.run
-
--- ---- the program
-
--- the set and its run file are there and in form, and the set breaks no rule
-pub record Succeeds (files : Files) (asked : ChartAsked) (reply : Reply) : Type 0 where
-  pub set : TaskSet
-  pub input : RunText
-  pub there : SetIsThere files asked.set set
-  pub run_there : RunIsThere files set asked.run input
-  pub unbroken : broken set ≡ None
-  pub reply_is : reply ≡ compiled_reply asked input (compiled set)
+chart_tells asked set input c = (Done, image_chart asked c.image input (run_limit None c.limit))
 
 abbrev pub chart_tool : ToolMeaning
-chart_tool = record {
-  Asked = ChartAsked;
-  asked_of = chart_of;
-  usage = codes "usage: prem_chart SET RUN [--from N] [--to N]\n";
-  stages = chart_stages;
-  keeps = λ asked reads given. ⊤;
-  succeeds = Succeeds;
-}
+chart_tool = telling_tool (codes "usage: prem_chart SET RUN [--from N] [--to N]\n") chart_tells

@@ -7,15 +7,16 @@ use Rattle.prem_tasks.specs.Broken.{TaskSet, broken}
 use Rattle.prem_tasks.specs.Compiled.{CompiledText, compiled}
 use Rattle.prem_compile.specs.declared.compiled.Compiled.{Compiled}
 use Rattle.prem_compile.specs.CompiledOf.{IsCompiled, compiled_of}
+use Rattle.prem_command.specs.Chart.{ChartAsked}
 use Rattle.prem_answer.specs.declared.answer.Telling.TheVariants.{Whole}
 use Rattle.prem_answer.specs.Stages.{Reply, Reads, Stage, AreReads, IsFine}
-use Rattle.prem_answer.specs.Tool.{IsSettled}
+use Rattle.prem_answer.specs.Tool.{IsSettled, IsTool}
 use Rattle.prem_exec.specs.Forms.{RunText}
 use Rattle.prem_exec.specs.Sources.Sources.{reading_run}
 use Rattle.prem_exec.specs.Sources.There.{RunIsThere, SetIsThere}
 use Rattle.prem_exec.proofs.SourcesLemmas.Fine.{run_fine, set_fine}
 use Rattle.prem_exec.proofs.SourcesLemmas.There.{run_read, set_read}
-use Rattle.prem_running.specs.Tellings.{Tells, judged_reply, set_reply, told_stages}
+use Rattle.prem_running.specs.Tellings.{Tells, judged_reply, set_reply, telling_tool, told_stages}
 
 module _ (tells : Tells) where
   -- a set that breaks no rule
@@ -48,3 +49,15 @@ module _ (tells : Tells) where
   told_there files name run set input reads are there input_there none =
       let first = set_read Whole files name set (behind_set run) reads are there in
       first.is ∙ run_read Whole files set run input (behind_run set) first.reads first.are input_there ∙ ap (λ rule. Ok (judged_reply tells set input rule)) none
+
+-- ---- programs
+
+-- each answer may be given, and what is told is told of a set and a run file that are there and in form
+pub is_telling_tool : (usage : List ℕ) (tells : ChartAsked → Tells) → ((asked : ChartAsked) (set : TaskSet) (input : RunText) (c : CompiledText) → IsSettled (tells asked set input c)) →
+    IsTool (telling_tool usage tells)
+is_telling_tool usage tells fine = record {
+  settled = λ asked reads. told_fine (tells asked) asked.set asked.run (fine asked) reads;
+  kept = λ words asked is reads. tt;
+  complete = λ files asked reply reads are does.
+      told_there (tells asked) files asked.set asked.run does.set does.input reads are does.there does.run_there does.unbroken ∙ ap Ok (sym does.reply_is);
+}

@@ -1,8 +1,9 @@
 // A set is read with its run file and compiled, and something is told of it.
-ghost use Rattle.std.specs.Prelude.{◌≡◌, ◌≤◌, ◌^◌, IfOk, IsErrOf, Ok};
+ghost use Rattle.std.specs.Prelude.{◌≡◌, ◌≤◌, ◌^◌, ⊤, IfOk, IsErrOf, Ok};
 ghost use Rattle.prem_list.specs.Sequence.{items_of};
 ghost use Rattle.prem_io.specs.Counts.{Rose};
 ghost use Rattle.prem_cycle.specs.Inputs.{FitsRun, setup_of, words_of};
+ghost use Rattle.prem_tasks.specs.Broken.{TaskSet as SetText};
 ghost use Rattle.prem_tasks.specs.SetOf.{set_of};
 ghost use Rattle.prem_compile.specs.CompiledOf.{IsCompiled, compiled_of};
 ghost use Rattle.prem_set.specs.Run.Lawful.{IsLawfulRun};
@@ -23,6 +24,9 @@ pub trait Teller {
     /// What it tells.
     ghost told: { Self → Tells };
 
+    /// Of which sets it can tell that.
+    ghost suits: { Self → SetText → Type 0 } = { λ _ _. ⊤ };
+
     /// The answer to a set that breaks no rule.
     fn tell(
         &self,
@@ -34,6 +38,7 @@ pub trait Teller {
         requires compiled { IsCompiled (set_of set.now) compiled.now }
         requires fits { FitsRun (setup_of compiled.now.image) (words_of input.now) (items_of input.now.requests) }
         requires limit { compiled.now.limit ≤ 2 ^ 61 }
+        requires suits { suits self.now (set_of set.now) }
         ensures { IfOk result (λ a. reply_of a ≡ told self.now (set_of set.now) (input_of input.now) (compiled_of compiled.now)) };
 }
 
@@ -44,7 +49,8 @@ pub fn tell_set<T: Teller>(
     set: &TaskSet,
     input: &RunInput,
 ) -> Result<Answer, Halt>
-    requires { IsLawfulRun (names_of (set_of set.now)) input.now }
+    requires lawful { IsLawfulRun (names_of (set_of set.now)) input.now }
+    requires suits { T.suits teller.now (set_of set.now) }
     ensures answer { Comes reply_of (λ given. given ≡ Ok (set_reply (T.told teller.now) (set_of set.now) (input_of input.now))) result }
     ensures unread { IsErrOf result Halt.ReadFault → ⊥ }
 {
@@ -64,6 +70,7 @@ pub fn tell_files<T: Teller, S: Store>(
     run: &str,
     store: &mut S,
 ) -> Result<Answer, Halt>
+    requires { (set : SetText) → T.suits teller.now set }
     ensures answer { Comes reply_of (IsGiven (S.files store.old) (told_stages (T.told teller.now) name.now run.now)) result }
     ensures fault { IsErrOf result Halt.ReadFault → Rose (S.faults store.old) (S.faults store.new) }
     ensures later { S.faults store.old ≤ S.faults store.new }

@@ -37,7 +37,7 @@ use Rattle.prem_running.specs.RunSound.Runs.{SuitsRun}
 use Rattle.prem_running.specs.Tellings.{Tells, judged_reply, set_reply, told_stages}
 use Rattle.prem_running.specs.Running.{run_limit, run_tells}
 use Rattle.prem_running.specs.Mail.Files.{reading_mail}
-use Rattle.prem_running.specs.Mail.Mail.{compiled_reply as mail_compiled, judged_reply as mail_judged, set_reply as mail_reply, mail_stages}
+use Rattle.prem_running.specs.Mail.Mail.{compiled_reply as mail_compiled, mail_stages, mail_tells}
 use Rattle.prem_running.specs.Sample.Trace.{sample_run, sample_set}
 use Rattle.prem_running.specs.Sample.Sample.{compiled_reply as sample_compiled, sample_tells}
 use Rattle.prem_running.proofs.RunSoundLemmas.Reports.{sound_reports_end}
@@ -253,13 +253,13 @@ record Mailed (reads : Reads) (asked : MailAsked) (given : Reply) : Type 0 where
   run_read : RunIsRead reads set asked.run input
   feeds : List Feed
   mail_read : MailIsRead reads set asked.mail feeds
-  goes : mail_judged asked.cycles set input feeds (broken set) ≡ given
+  goes : judged_reply (mail_tells asked.cycles feeds) set input (broken set) ≡ given
 
 mailed : (reads : Reads) (asked : MailAsked) (given : Reply) → is_judged given.0 ≡ true → replied (mail_stages asked reads) ≡ given → Mailed reads asked given
 mailed reads asked given judged is =
-    let s = set_goes reads asked.of (λ set. reading_run set asked.run (λ input. reading_mail set asked.mail (λ feeds reads. Ok (mail_reply asked.cycles set input feeds)))) given judged is in
-    let r = run_goes_on reads s.set asked.run (λ input. reading_mail s.set asked.mail (λ feeds reads. Ok (mail_reply asked.cycles s.set input feeds))) given judged s.goes in
-    let m = mail_goes reads s.set asked.mail (λ feeds. mail_judged asked.cycles s.set r.input feeds (broken s.set)) given judged r.goes in
+    let s = set_goes reads asked.of (λ set. reading_run set asked.run (λ input. reading_mail set asked.mail (λ feeds reads. Ok (set_reply (mail_tells asked.cycles feeds) set input)))) given judged is in
+    let r = run_goes_on reads s.set asked.run (λ input. reading_mail s.set asked.mail (λ feeds reads. Ok (set_reply (mail_tells asked.cycles feeds) s.set input))) given judged s.goes in
+    let m = mail_goes reads s.set asked.mail (λ feeds. judged_reply (mail_tells asked.cycles feeds) s.set r.input (broken s.set)) given judged r.goes in
     record { set = s.set; read = s.read; input = r.input; run_read = r.read; feeds = m.feeds; mail_read = m.read; goes = m.goes }
 
 pub mail_keeps : MailKeeps
@@ -269,7 +269,7 @@ mail_keeps reads asked given is = record {
       let set = g.set in
       let c = compiled set in
       let n = run_limit asked.cycles c.limit in
-      let judged = judged_by set (mail_judged asked.cycles set g.input g.feeds) (mail_compiled asked.cycles g.input g.feeds c).1 given refl (λ r. refl) (broken set) refl g.goes in
+      let judged = judged_by set (judged_reply (mail_tells asked.cycles g.feeds) set g.input) (mail_compiled asked.cycles g.input g.feeds c).1 given refl (λ r. refl) (broken set) refl g.goes in
       let told = judged.on_done done in
       let accepted_is = accepted reads asked.of set g.read told.0 in
       let r = g.run_read in
@@ -295,7 +295,7 @@ mail_keeps reads asked given is = record {
       };
   on_refused = λ refused.
       let g = mailed reads asked given (refused_is_judged given.0 refused) is in
-      let judged = judged_by g.set (mail_judged asked.cycles g.set g.input g.feeds) (mail_compiled asked.cycles g.input g.feeds (compiled g.set)).1 given refl (λ r. refl) (broken g.set) refl g.goes in
+      let judged = judged_by g.set (judged_reply (mail_tells asked.cycles g.feeds) g.set g.input) (mail_compiled asked.cycles g.input g.feeds (compiled g.set)).1 given refl (λ r. refl) (broken g.set) refl g.goes in
       record { set = g.set; read = g.read; input = g.input; run_read = g.run_read; feeds = g.feeds; mail_read = g.mail_read; first = judged.on_refused refused };
 }
 

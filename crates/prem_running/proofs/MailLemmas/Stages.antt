@@ -1,15 +1,13 @@
 -- What is told of the run of a compiled set is the answer.
-use Rattle.std.proofs.Common.{◌≡◌, ℕ, List, [], ◌∷◌, Option, None, Some, Ok, length, map, refl, ap, ◌∙◌, sym, subst}
+use Rattle.std.proofs.Common.{◌≡◌, ℕ, List, [], ◌∷◌, Ok, length, map, refl, ap, sym, subst}
 use Rattle.std.proofs.lemmas.List.{length-map}
 use Rattle.prem_list.specs.Sequence.{items_of}
 use Rattle.prem_image.specs.declared.image.TaskRecord.{TaskRecord}
 use Rattle.prem_image.specs.declared.image.DeviceRecord.{DeviceRecord}
-use Rattle.prem_layout.specs.Rules.{Refusal}
-use Rattle.prem_tasks.specs.Told.{Told}
 use Rattle.prem_tasks.specs.Broken.{TaskSet, broken}
 use Rattle.prem_tasks.specs.Compiled.{CompiledText, compiled}
 use Rattle.prem_compile.specs.declared.compiled.Compiled.{Compiled}
-use Rattle.prem_compile.specs.CompiledOf.{IsCompiled, compiled_of}
+use Rattle.prem_compile.specs.CompiledOf.{IsCompiled}
 use Rattle.prem_set.specs.Run.Names.{KnownNames}
 use Rattle.prem_command.specs.Words.{MailAsked}
 use Rattle.prem_report.specs.Fitting.Named.{names_for}
@@ -20,14 +18,16 @@ use Rattle.prem_answer.specs.Tool.{IsSettled}
 use Rattle.prem_exec.specs.Forms.{RunText}
 use Rattle.prem_exec.specs.Sources.Sources.{names_of, reading_run}
 use Rattle.prem_exec.proofs.SourcesLemmas.Fine.{run_fine, set_fine}
+use Rattle.prem_running.specs.Tellings.{set_reply}
 use Rattle.prem_running.specs.Mail.Files.{reading_mail}
-use Rattle.prem_running.specs.Mail.Mail.{compiled_reply, judged_reply, set_reply, mail_stages}
+use Rattle.prem_running.specs.Mail.Mail.{mail_stages, mail_tells}
 use Rattle.prem_running.proofs.SetLawsLemmas.Names.{names_are_kept}
+use Rattle.prem_running.proofs.Tellings.{judged_fine}
 use Rattle.prem_running.proofs.MailLemmas.Files.{mail_fine}
 
 -- ---- feeds
 
-abbrev AreFor : KnownNames → List Feed → Type 0
+abbrev pub AreFor : KnownNames → List Feed → Type 0
 AreFor names feeds = AreFeeds (length names.tasks) (map (λ (d : List ℕ × ℕ). d.1) names.devices) feeds
 
 lines_told : (devices : List DeviceRecord) → map (λ (d : List ℕ × ℕ). d.1) (names_for [] devices).devices ≡ map (λ (d : DeviceRecord). d.device.lines) devices
@@ -44,18 +44,11 @@ feeds_fit set c feeds is are =
     subst (λ n. AreFeeds n (map (λ (d : DeviceRecord). d.device.lines) (items_of c.image.devices)) feeds) (length-map (items_of c.image.tasks) (λ (t : TaskRecord). t.name))
     (subst (λ ns. AreFeeds (length (names_for (items_of c.image.tasks) (items_of c.image.devices)).tasks) ns feeds) (lines_told (items_of c.image.devices)) mine)
 
--- ---- a set that breaks no rule
-
-pub told_is : (cycles : Option ℕ) (set : TaskSet) (input : RunText) (feeds : List Feed) (c : Compiled) (reply : Reply) → IsCompiled set c →
-    reply ≡ compiled_reply cycles input feeds (compiled_of c) → reply ≡ set_reply cycles set input feeds
-told_is cycles set input feeds c reply is told =
-    told ∙ ap (compiled_reply cycles input feeds) is.compiled ∙ ap (judged_reply cycles set input feeds) (sym is.lawful)
-
 -- ---- the stages
 
 module _ (asked : MailAsked) where
   abbrev pub behind_mail : TaskSet → RunText → List Feed → Stage Reply
-  behind_mail set input feeds reads = Ok (set_reply asked.cycles set input feeds)
+  behind_mail set input feeds reads = Ok (set_reply (mail_tells asked.cycles feeds) set input)
 
   abbrev pub behind_run : TaskSet → RunText → Stage Reply
   behind_run set input = reading_mail set asked.mail (behind_mail set input)
@@ -65,11 +58,7 @@ module _ (asked : MailAsked) where
 
   -- ---- answers that may be given
 
-  judged_fine : (set : TaskSet) (input : RunText) (feeds : List Feed) (first : Option (Refusal Told)) → IsSettled (judged_reply asked.cycles set input feeds first)
-  judged_fine set input feeds None = refl
-  judged_fine set input feeds (Some refusal) = refl
-
   pub mail_is_fine : (reads : Reads) → IsFine IsSettled (mail_stages asked reads)
   mail_is_fine reads =
       set_fine IsSettled asked.of behind_set
-      (λ set rest. run_fine IsSettled set asked.run (behind_run set) (λ input more. mail_fine IsSettled set asked.mail (behind_mail set input) (λ feeds last. judged_fine set input feeds (broken set)) more) rest) reads
+      (λ set rest. run_fine IsSettled set asked.run (behind_run set) (λ input more. mail_fine IsSettled set asked.mail (behind_mail set input) (λ feeds last. judged_fine (mail_tells asked.cycles feeds) set input refl (broken set)) more) rest) reads

@@ -1,22 +1,19 @@
 -- The answer to `mail SET RUN MAIL`: what the run of a compiled set tells in which devices feed its tasks, or the first rule that the set breaks.
-use Rattle.std.specs.Prelude.{ℕ, List, Option, None, Some, Ok}
+use Rattle.std.specs.Prelude.{ℕ, List, Option, Ok}
 use Rattle.prem_lru.specs.Rules.{rule_of}
 use Rattle.prem_image.specs.Text.{ImageText}
 use Rattle.prem_cycle.specs.State.{MachineState}
 use Rattle.prem_cycle.specs.Inputs.{image_setup}
-use Rattle.prem_layout.specs.Rules.{Refusal}
-use Rattle.prem_tasks.specs.Told.{Told}
-use Rattle.prem_tasks.specs.Broken.{TaskSet, broken}
-use Rattle.prem_tasks.specs.Compiled.{CompiledText, compiled}
+use Rattle.prem_tasks.specs.Compiled.{CompiledText}
 use Rattle.prem_command.specs.Words.{MailAsked}
 use Rattle.prem_mail.specs.declared.feed.Feed.{Feed}
 use Rattle.prem_mail.specs.Delivery.{Delivery, delivered_in}
 use Rattle.prem_answer.specs.declared.status.Status.TheVariants.{Done}
 use Rattle.prem_answer.specs.Stages.{Reply, Stage}
-use Rattle.prem_answer.specs.Refusal.Texts.{refused_reply}
 use Rattle.prem_exec.specs.Forms.{RunText}
 use Rattle.prem_exec.specs.Exec.{state_at, stop_at}
 use Rattle.prem_exec.specs.Sources.Sources.{reading_set, reading_run}
+use Rattle.prem_running.specs.Tellings.{Tells, set_reply}
 use Rattle.prem_running.specs.Running.{run_limit}
 use Rattle.prem_running.specs.Mail.Files.{reading_mail}
 use Rattle.prem_running.specs.Mail.Text.{mailed_text}
@@ -41,15 +38,10 @@ mailed_reply i input feeds limit =
 abbrev pub compiled_reply : Option ℕ → RunText → List Feed → CompiledText → Reply
 compiled_reply cycles input feeds c = mailed_reply c.image input feeds (run_limit cycles c.limit)
 
--- to a set whose first broken rule is this, if it breaks one
-abbrev pub judged_reply : Option ℕ → TaskSet → RunText → List Feed → Option (Refusal Told) → Reply
-judged_reply cycles set input feeds None = compiled_reply cycles input feeds (compiled set)
-judged_reply cycles set input feeds (Some refusal) = refused_reply set.tasks refusal
-
-abbrev pub set_reply : Option ℕ → TaskSet → RunText → List Feed → Reply
-set_reply cycles set input feeds = judged_reply cycles set input feeds (broken set)
+abbrev pub mail_tells : Option ℕ → List Feed → Tells
+mail_tells cycles feeds set input c = compiled_reply cycles input feeds c
 
 -- the set and its sources are read, then the run file, then the mail file; the set is judged by all rules, compiled and run
 abbrev pub mail_stages : MailAsked → Stage Reply
 mail_stages asked =
-    reading_set asked.of (λ set. reading_run set asked.run (λ input. reading_mail set asked.mail (λ feeds reads. Ok (set_reply asked.cycles set input feeds))))
+    reading_set asked.of (λ set. reading_run set asked.run (λ input. reading_mail set asked.mail (λ feeds reads. Ok (set_reply (mail_tells asked.cycles feeds) set input))))

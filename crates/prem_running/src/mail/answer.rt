@@ -1,25 +1,22 @@
 // A set is read with its run file and its mail file, compiled and run.
-ghost use Rattle.std.specs.Prelude.{◌≡◌, ◌≤◌, ◌^◌, IfOk, IsErrOf, Ok, length, map};
+ghost use Rattle.std.specs.Prelude.{◌≡◌, ◌≤◌, ◌^◌, IfOk, IsErrOf, length, map};
 ghost use Rattle.prem_list.specs.Sequence.{items_of};
 ghost use Rattle.prem_io.specs.Counts.{Rose};
 ghost use Rattle.prem_image.specs.Text.{image_text};
 ghost use Rattle.prem_cycle.specs.Inputs.{FitsRun, setup_of, words_of};
-ghost use Rattle.prem_tasks.specs.SetOf.{set_of};
-ghost use Rattle.prem_compile.specs.CompiledOf.{compiled_of};
-ghost use Rattle.prem_set.specs.Run.Lawful.{IsLawfulRun};
 ghost use Rattle.prem_command.specs.Words.{mail_asked};
 ghost use Rattle.prem_mail.specs.Feeds.{AreFeeds};
 ghost use Rattle.prem_answer.specs.Stages.{Comes, IsGiven, reply_of};
 ghost use Rattle.prem_exec.specs.Sources.Sources.{input_of, names_of};
-ghost use Rattle.prem_running.specs.Mail.Mail.{compiled_reply, mailed_reply, mail_stages, set_reply};
+ghost use Rattle.prem_running.specs.Mail.Mail.{mailed_reply, mail_stages, mail_tells};
 
 use crate::mail::files::read_mail_file;
 use crate::mail::text::mailed_text;
 use crate::running::run_limit;
-use prem_answer::refusal::refused;
+use crate::teller::{Teller, tell_set};
 use prem_answer::{Answer, Halt, Status};
 use prem_command::MailWords;
-use prem_compile::{CompileFail, Compiled, TaskSet, compile};
+use prem_compile::{Compiled, TaskSet};
 use prem_exec::sources::{read_run_file, read_task_set};
 use prem_gate::RunInput;
 use prem_image::Image;
@@ -52,58 +49,31 @@ fn mailed_under<P: Policy>(
     })
 }
 
-/// What is told of the run of an image up to a cycle, on the machine of its policy.
-fn mailed(
-    alloc: Global,
-    image: &Image,
-    input: &RunInput,
-    feeds: &[Feed],
-    limit: u64,
-) -> Result<Answer, AllocError>
-    requires fits { FitsRun (setup_of image.now) (words_of input.now) (items_of input.now.requests) }
-    requires feeds { AreFeeds (length (items_of image.now.tasks)) (map (λ d. d.device.lines) (items_of image.now.devices)) feeds.now }
-    requires limit { limit ≤ 2 ^ 61 }
-    ensures { IfOk result (λ a. reply_of a ≡ mailed_reply (image_text image.now) (input_of input.now) feeds.now limit) }
-{
-    match image.plant.policy {
-        Replacement::Lru => mailed_under::<Lru>(alloc, image, input, feeds, limit),
-        Replacement::Fifo => mailed_under::<Fifo>(alloc, image, input, feeds, limit),
-    }
+/// What runs sets whose devices feed their tasks so.
+#[derive(Drop)]
+struct Mailer<'a> {
+    cycles: Option<u64>,
+    feeds: &'a [Feed],
 }
 
-/// The answer to a set that breaks no rule: its run is told.
-fn told(
-    alloc: Global,
-    cycles: Option<u64>,
-    input: &RunInput,
-    feeds: &[Feed],
-    compiled: &Compiled,
-) -> Result<Answer, AllocError>
-    requires fits { FitsRun (setup_of compiled.now.image) (words_of input.now) (items_of input.now.requests) }
-    requires feeds { AreFeeds (length (items_of compiled.now.image.tasks)) (map (λ d. d.device.lines) (items_of compiled.now.image.devices)) feeds.now }
-    ensures { IfOk result (λ a. reply_of a ≡ compiled_reply cycles (input_of input.now) feeds.now (compiled_of compiled.now)) }
-{
-    let limit = run_limit(cycles, compiled.limit);
-    mailed(alloc, &compiled.image, input, feeds, limit)
-}
+impl Teller for Mailer<'_> {
+    ghost told = { λ mailer. mail_tells mailer.cycles mailer.feeds.now };
 
-/// The answer to a set with its run file and its feeds: it is compiled and its run is told, or the first rule that it breaks is.
-fn set_answer(
-    alloc: Global,
-    cycles: Option<u64>,
-    set: &TaskSet,
-    input: &RunInput,
-    feeds: &[Feed],
-) -> Result<Answer, Halt>
-    requires run { IsLawfulRun (names_of (set_of set.now)) input.now }
-    requires feeds { AreFeeds (length (names_of (set_of set.now)).tasks) (map (λ d. d.1) (names_of (set_of set.now)).devices) feeds.now }
-    ensures answer { Comes reply_of (λ given. given ≡ Ok (set_reply cycles (set_of set.now) (input_of input.now) feeds.now)) result }
-    ensures unread { IsErrOf result Halt.ReadFault → ⊥ }
-{
-    match compile(alloc, set) {
-        Ok(compiled) => Ok(told(alloc, cycles, input, feeds, &compiled)?),
-        Err(CompileFail::Refused(refusal)) => Ok(refused(alloc, set.tasks(), &refusal)?),
-        Err(CompileFail::OutOfMemory) => Err(Halt::OutOfMemory),
+    ghost suits = { λ mailer set. AreFeeds (length (names_of set).tasks) (map (λ d. d.1) (names_of set).devices) mailer.feeds.now };
+
+    fn tell(
+        &self,
+        alloc: Global,
+        set: &TaskSet,
+        input: &RunInput,
+        compiled: &Compiled,
+    ) -> Result<Answer, AllocError> {
+        let image = &compiled.image;
+        let limit = run_limit(self.cycles, compiled.limit);
+        match image.plant.policy {
+            Replacement::Lru => mailed_under::<Lru>(alloc, image, input, self.feeds, limit),
+            Replacement::Fifo => mailed_under::<Fifo>(alloc, image, input, self.feeds, limit),
+        }
     }
 }
 
@@ -131,5 +101,9 @@ pub fn mail_answer<S: Store>(
         Ok(feeds) => feeds,
         Err(halt) => return Err(halt),
     };
-    set_answer(alloc, asked.cycles, &set, &input, &feeds)
+    let mailer = Mailer {
+        cycles: asked.cycles,
+        feeds: feeds.as_slice(),
+    };
+    tell_set(alloc, &mailer, &set, &input)
 }

@@ -71,17 +71,6 @@ fn push_numbers(alloc: Global, text: &mut Vec<u8>, numbers: &[u32]) -> Result<()
     }
 }
 
-/// The bytes as a list of their own.
-fn sequence_of(alloc: Global, bytes: &[u8]) -> Result<Sequence<u8>, AllocError>
-    ensures { IfOk result (λ text. items_of text ≡ bytes.now) }
-{
-    let mut text = Sequence::with_room(alloc, bytes.len())?;
-    'bytes: for byte in bytes {
-        text.put(*byte);
-    }
-    Ok(text)
-}
-
 /// The text up to the coefficients, and these.
 fn coefficients_text(alloc: Global, coefficients: &[u32]) -> Result<Vec<u8>, AllocError>
     ensures { IfOk result (λ text. text.items ≡ codes "short coef[16] = {" ++ join_by decimal (codes ", ") coefficients.now) }
@@ -97,5 +86,5 @@ pub fn program_text(alloc: Global, coefficients: &[u32]) -> Result<Sequence<u8>,
 {
     let mut text = coefficients_text(alloc, coefficients)?;
     text.extend_from_slice(FILTER.as_bytes())?;
-    sequence_of(alloc, &text)
+    Ok(Sequence::from_vec(text))
 }

@@ -10,6 +10,9 @@ use Rattle.prem_running.specs.Tellings.{set_reply}
 use Rattle.prem_running.proofs.Tellings.{behind_run, behind_set}
 use Rattle.prem_running.proofs.teller.tell_files.Goals as goal
 
+pub tell_set-requires-clause-suits : goal.tell_set-requires-clause-suits
+tell_set-requires-clause-suits g c = c.requires (set_of c.in-Ok.set)
+
 pub returns-in-Err-clause-answer : goal.returns-in-Err-clause-answer
 returns-in-Err-clause-answer g c =
     let told : Option Files = g.S.Store.files c.args.store.now in

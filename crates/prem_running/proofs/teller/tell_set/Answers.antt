@@ -8,7 +8,7 @@ use Rattle.prem_running.proofs.Tellings.{told_is}
 use Rattle.prem_running.proofs.teller.tell_set.Goals as goal
 
 pub tell-requires-clause-fits : goal.tell-requires-clause-fits
-tell-requires-clause-fits g c = input_fits (set_of c.args.set.now) c.in-Ok.compiled c.args.input.now c.in-Ok.ensures c.requires
+tell-requires-clause-fits g c = input_fits (set_of c.args.set.now) c.in-Ok.compiled c.args.input.now c.in-Ok.ensures c.requires.lawful
 
 pub tell-requires-clause-limit : goal.tell-requires-clause-limit
 tell-requires-clause-limit g c = limit_within c.args.set.now c.in-Ok.compiled c.in-Ok.ensures

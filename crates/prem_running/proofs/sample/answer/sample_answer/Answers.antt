@@ -11,8 +11,8 @@ use Rattle.prem_running.specs.Sample.Trace.{sample_set}
 use Rattle.prem_running.proofs.SampleLemmas.Lawful.{sample_is_lawful}
 use Rattle.prem_running.proofs.sample.answer.sample_answer.Goals as goal
 
-pub tell_set-requires : goal.tell_set-requires
-tell_set-requires c =
+pub tell_set-requires-clause-lawful : goal.tell_set-requires-clause-lawful
+tell_set-requires-clause-lawful c =
     let s = c.in_ok-sample.sample in
     sample_is_lawful (set_of s.set) s.input c.args.seed c.in_ok-sample.ensures.set c.in_ok-sample.ensures.input
 
