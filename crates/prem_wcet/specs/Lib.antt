@@ -14,3 +14,8 @@ pub mod SceneOf
 pub mod Fitting
 pub mod Functions
 pub mod EdgesOf
+pub mod Lengths
+pub mod KnownOf
+pub mod JobTimes
+pub mod Times
+pub mod TimedOf

@@ -61,7 +61,7 @@ fn own_turns(scene: &Scene, turns: u32, head: u64, body: u64) -> u64
 }
 
 /// What a call counts of a function that isn't marked.
-fn fact_least(scene: &Scene, f: usize) -> u64
+pub fn fact_least(scene: &Scene, f: usize) -> u64
     requires { IsScene scene.now }
     ensures { result ≡ (fact_of (scene_in scene.now) f).least }
 {

@@ -123,7 +123,7 @@ fn add_names(scene: &Scene, ranges: &mut Vec<(u32, u32)>, names: &[usize]) -> Re
 }
 
 /// Puts what a call of a function runs and touches behind others.
-fn add_callee(scene: &Scene, ranges: &mut Ranges, f: usize) -> Result<(), AllocError>
+pub fn add_callee(scene: &Scene, ranges: &mut Ranges, f: usize) -> Result<(), AllocError>
     requires { IsScene scene.now }
     ensures code { OnOk result (ranges.new.code.items ≡ with_ranges ranges.old.code.items (fact_of (scene_in scene.now) f).code) }
     ensures touched { OnOk result (ranges.new.touched.items ≡ with_ranges ranges.old.touched.items (fact_of (scene_in scene.now) f).touched) }
@@ -226,7 +226,7 @@ pub fn is_marked(scene: &Scene, f: usize) -> bool
 }
 
 /// Whether a call of a function that isn't marked has a marked one in it. One that isn't known has.
-fn fact_cuts(scene: &Scene, f: usize) -> bool
+pub fn fact_cuts(scene: &Scene, f: usize) -> bool
     requires { IsScene scene.now }
     ensures { result ≡ (fact_of (scene_in scene.now) f).cuts }
 {
