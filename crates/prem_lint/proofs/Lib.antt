@@ -1,6 +1,5 @@
 pub mod Chains
 pub mod Tool
 pub mod Linting
-pub mod Standing
 pub mod Stated
 pub mod Unformed

@@ -11,6 +11,8 @@ use Rattle.prem_lint.specs.declared.spot.Spot.TheVariants.{Whole, Line}
 use Rattle.prem_lint.specs.declared.keys.Section.{Section}
 use Rattle.prem_lint.specs.declared.keys.Section.TheVariants.{Root, Plant, Task, Device, Other}
 use Rattle.prem_lint.specs.declared.keys.Passed.{Passed}
+use Rattle.prem_lint.specs.declared.keys.Sought.{Sought}
+use Rattle.prem_lint.specs.declared.keys.Sought.TheVariants.{Key, Table}
 use Rattle.prem_lint.specs.Spots.{is_blank}
 
 -- whether the second text begins with the first
@@ -70,16 +72,15 @@ has_key path s line = bytes_eq (prefix s ++ key_in line) path
 abbrev pub begins_table : List ℕ → Section → List ℕ → Bool
 begins_table path s line = is_header line && begins_with (prefix s) path
 
--- the first such line, of which the first has number n
-abbrev pub key_line : List ℕ → Passed → ℕ → List (List ℕ) → Option ℕ
-key_line path p n [] = None
-key_line path p n (l ∷ ls) =
-    if has_key path (behind p (without_blanks l)).section (without_blanks l) then Some n else key_line path (behind p (without_blanks l)) (n + 1) ls
+abbrev pub is_sought : Sought → List ℕ → Section → List ℕ → Bool
+is_sought Key = has_key
+is_sought Table = begins_table
 
-abbrev pub table_line : List ℕ → Passed → ℕ → List (List ℕ) → Option ℕ
-table_line path p n [] = None
-table_line path p n (l ∷ ls) =
-    if begins_table path (behind p (without_blanks l)).section (without_blanks l) then Some n else table_line path (behind p (without_blanks l)) (n + 1) ls
+-- the first line that is looked for, where the first of all has number n
+abbrev pub line_of : (Section → List ℕ → Bool) → Passed → ℕ → List (List ℕ) → Option ℕ
+line_of is p n [] = None
+line_of is p n (l ∷ ls) =
+    if is (behind p (without_blanks l)).section (without_blanks l) then Some n else line_of is (behind p (without_blanks l)) (n + 1) ls
 
 abbrev pub line_spot : Option ℕ → Spot
 line_spot None = Whole
@@ -87,4 +88,4 @@ line_spot (Some n) = Line n
 
 -- of the lines of a set file, which has at most so many bytes
 unfoldable pub key_spot : List ℕ → List ℕ → Spot
-key_spot path text = line_spot (or_else (key_line path start 1 (lines_of (take 65536 text))) (table_line path start 1 (lines_of (take 65536 text))))
+key_spot path text = line_spot (or_else (line_of (has_key path) start 1 (lines_of (take 65536 text))) (line_of (begins_table path) start 1 (lines_of (take 65536 text))))

@@ -1,16 +1,14 @@
 -- The least lengths of all marked functions of a set.
-use Rattle.std.specs.Prelude.{◌≡◌, ◌≤◌, ℕ, ◌+◌, ◌==◌, Bool, true, false, if◌then◌else◌, List, [], ◌∷◌, ◌++◌, length, map, slice_get, slice_index_or, Option, None, Some, Result, Ok, Err, codes, decimal}
-use Rattle.std.specs.List.{flat_map, AllByRecursion}
+use Rattle.std.specs.Prelude.{ℕ, ◌+◌, ◌==◌, Bool, true, false, if◌then◌else◌, List, [], ◌∷◌, ◌++◌, slice_get, slice_index_or, Option, None, Some, Result, Ok, Err, codes, decimal}
+use Rattle.std.specs.List.{flat_map}
 use Rattle.prem_syntax.specs.Syntax.{Text, FunctionText, ProgramText}
 use Rattle.prem_syntax.specs.Resolve.{functions_of}
 use Rattle.prem_text.specs.declared.lexing.token.fail.FrontFail.{FrontFail}
 use Rattle.prem_text.specs.Texts.{reads}
 use Rattle.prem_layout.specs.Rules.{LateRule, Depth, Frame, MemoryFull, Reach, ConflictIn, BoundTooLarge, Length, Outputs, Intervals}
-use Rattle.prem_place.specs.Placed.PlacedOf.{IsPlacedTask, placed_of}
-use Rattle.prem_place.specs.declared.placed.PlacedTask.{PlacedTask}
 use Rattle.prem_tasks.specs.Told.{Told, of_text, of_program, of_ranges, of_code}
 use Rattle.prem_tasks.specs.Broken.{TaskText, TaskSet}
-use Rattle.prem_tasks.specs.Compiled.{TaskFact, compiled, placed_in}
+use Rattle.prem_tasks.specs.Compiled.{TaskFact, compiled}
 use Rattle.prem_lint.specs.declared.spot.Spot.TheVariants.{Line}
 use Rattle.prem_lint.specs.Spots.{head}
 
@@ -64,9 +62,3 @@ is_length (of_code rule) = is_late_length rule
 -- where a stated length is too short, the bound of each marked function of the set, as it is told of a set that breaks no rule
 unfoldable pub needs_text : List Text → TaskSet → Told → List ℕ
 needs_text sources set told = if is_length told then needs_from 0 (compiled set).intervals sources set.tasks else []
-
--- placed tasks are those of a set
-pub record AreStanding (set : TaskSet) (tasks : List PlacedTask) : Type 0 where
-  pub placed : map placed_of tasks ≡ placed_in set
-  pub each : AllByRecursion (IsPlacedTask set.plant) tasks
-  pub count : length tasks ≤ 16

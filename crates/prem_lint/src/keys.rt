@@ -2,7 +2,7 @@
 ghost use Rattle.std.specs.Prelude.{◌≡◌, ◌≤◌, ◌<◌, ◌+◌, ◌^◌, ◌++◌, IfOk, OnOk, length};
 ghost use Rattle.std.specs.List.{prefix_len};
 ghost use Rattle.prem_line.specs.Lines.{lines_of};
-ghost use Rattle.prem_lint.specs.Keys.{begins_table, begins_with, behind, has_key, is_header, is_key_byte, key_in, key_line, key_spot, line_spot, prefix, start, table_line, without_blanks};
+ghost use Rattle.prem_lint.specs.Keys.{begins_table, begins_with, behind, has_key, is_header, is_key_byte, is_sought, key_in, key_spot, line_of, line_spot, prefix, start, without_blanks};
 
 use crate::excerpt::{front_of, indent, rest_of};
 use crate::put::put_number;
@@ -167,31 +167,40 @@ fn start() -> Passed
     }
 }
 
-/// The line of the key with this path.
-fn key_line(alloc: Global, path: &[u8], text: &[u8]) -> Result<Option<usize>, AllocError>
-    requires { length text.now < 2 ^ 32 }
-    ensures { IfOk result (λ line. line ≡ key_line path.now start 1 (lines_of text.now)) }
-{
-    let mut rest = text;
-    let mut passed = start();
-    let mut n = 1usize;
-    while !rest.is_empty() {
-        let (whole, later) = first_line(rest);
-        let line = without_blanks(whole);
-        passed = behind(passed, line);
-        if has_key(alloc, path, passed.section, line)? {
-            return Ok(Some(n));
-        }
-        rest = later;
-        n += 1;
-    }
-    Ok(None)
+/// What a line is looked for by.
+#[derive(Clone, Copy, Debug, PartialEq, Eq)]
+pub(crate) enum Sought {
+    /// It has the key with the path.
+    Key,
+    /// It begins the table in which that would stand.
+    Table,
 }
 
-/// The line that begins the table in which the key with this path would stand.
-fn table_line(alloc: Global, path: &[u8], text: &[u8]) -> Result<Option<usize>, AllocError>
+/// Whether a line is one that is looked for.
+fn is_sought(
+    alloc: Global,
+    sought: Sought,
+    path: &[u8],
+    section: Section,
+    line: &[u8],
+) -> Result<bool, AllocError>
+    ensures { IfOk result (λ is. is ≡ is_sought sought path.now section line.now) }
+{
+    match sought {
+        Sought::Key => has_key(alloc, path, section, line),
+        Sought::Table => begins_table(alloc, path, section, line),
+    }
+}
+
+/// The first line that is looked for by this path.
+fn line_of(
+    alloc: Global,
+    sought: Sought,
+    path: &[u8],
+    text: &[u8],
+) -> Result<Option<usize>, AllocError>
     requires { length text.now < 2 ^ 32 }
-    ensures { IfOk result (λ line. line ≡ table_line path.now start 1 (lines_of text.now)) }
+    ensures { IfOk result (λ line. line ≡ line_of (is_sought sought path.now) start 1 (lines_of text.now)) }
 {
     let mut rest = text;
     let mut passed = start();
@@ -200,7 +209,7 @@ fn table_line(alloc: Global, path: &[u8], text: &[u8]) -> Result<Option<usize>, 
         let (whole, later) = first_line(rest);
         let line = without_blanks(whole);
         passed = behind(passed, line);
-        if begins_table(alloc, path, passed.section, line)? {
+        if is_sought(alloc, sought, path, passed.section, line)? {
             return Ok(Some(n));
         }
         rest = later;
@@ -224,8 +233,8 @@ pub(crate) fn key_spot(alloc: Global, path: &[u8], text: &[u8]) -> Result<Spot, 
     ensures { IfOk result (λ spot. spot ≡ key_spot path.now text.now) }
 {
     let front = front_of(text, SET_LIMIT);
-    match key_line(alloc, path, front)? {
+    match line_of(alloc, Sought::Key, path, front)? {
         Some(n) => Ok(Spot::Line(n)),
-        None => Ok(line_spot(table_line(alloc, path, front)?)),
+        None => Ok(line_spot(line_of(alloc, Sought::Table, path, front)?)),
     }
 }
