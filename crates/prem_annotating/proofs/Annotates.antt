@@ -376,7 +376,7 @@ items_edited (of_function f ∷ ps) (_ ∷ ts) all (next_with calls n h _ more) 
 
 -- ---- programs
 
-texts_resolved : (fs : List FunctionText) (t : ℕ → ℕ) (n : ℕ) (gs : List GlobalVariable) (items : ProgramText) → texts_of (resolve_items fs t n gs items) ≡ functions_of items
+pub texts_resolved : (fs : List FunctionText) (t : ℕ → ℕ) (n : ℕ) (gs : List GlobalVariable) (items : ProgramText) → texts_of (resolve_items fs t n gs items) ≡ functions_of items
 texts_resolved fs t n gs [] = refl
 texts_resolved fs t n gs (global_item g ∷ items) = texts_resolved fs t n (gs ++ g ∷ []) items
 texts_resolved fs t n gs (function_item f ∷ items) = ap (λ l. f ∷ l) (texts_resolved fs t (n + loops_within f.body) gs items)

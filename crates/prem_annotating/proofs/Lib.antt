@@ -19,3 +19,7 @@ pub mod Edits
 pub mod EditingLemmas
 pub mod There
 pub mod Annotates
+pub mod RangesKept
+pub mod Fits
+pub mod Inside
+pub mod Said

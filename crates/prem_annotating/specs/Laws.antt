@@ -1,12 +1,12 @@
 -- What annotating promises.
-use Rattle.std.specs.Prelude.{◌≡◌, ℕ, zero, suc, ◌<◌, ◌⊎◌, ℤ, true, List, [], ◌∷◌, slice_get, Option, None, Some}
+use Rattle.std.specs.Prelude.{◌≡◌, ℕ, zero, suc, ◌<◌, ◌≤◌, ◌⊎◌, ℤ, true, List, [], ◌∷◌, slice_get, unwrap_or, Option, None, Some}
 use Rattle.std.specs.List.{filter, flat_map}
 use Rattle.std.specs.Option.{option_map}
-use Rattle.prem_word.specs.Ranges.{Span, from_to, encloses}
-use Rattle.prem_syntax.specs.Syntax.{Parameter, RegionText, MarkText, ProgramText}
+use Rattle.prem_word.specs.Ranges.{Span, from_to, encloses, IsRange}
+use Rattle.prem_syntax.specs.Syntax.{Parameter, RegionText, MarkText, GlobalVariable, ProgramText}
 use Rattle.prem_syntax.specs.Literals.{ProgramHasWords}
 use Rattle.prem_syntax.specs.Resolved.{Routine}
-use Rattle.prem_syntax.specs.Resolve.{promoted}
+use Rattle.prem_syntax.specs.Resolve.{promoted, globals_of}
 use Rattle.prem_syntax.specs.Source.{source}
 use Rattle.prem_syntax.specs.GroupTwo.{IsWellFormed}
 use Rattle.prem_ranges.specs.GroupThree.{resolved, StaysInRange}
@@ -124,3 +124,25 @@ breaches_by p stated fs = flat_map (in_routine (record { globals = (resolved p).
 -- no call breaks a RANGE that is new: the breaches of the program with its new ranges, but for regions, are those by the RANGEs that stood
 abbrev pub NewRangesHold : Type 0
 NewRangesHold = (p : ProgramText) → IsWellFormed p → ProgramHasWords p → other_breaches p ≡ breaches_by p (functions_in p) (all_ranged p)
+
+-- ---- kinds and globals
+
+-- each RANGE of the annotated program is a range of its parameter's kind: its ends are in order, and numbers of the kind
+abbrev pub RangesFit : Type 0
+RangesFit =
+    (lengths : ℕ → ℕ) (p : ProgramText) → IsWellFormed p → ProgramHasWords p → first_other p ≡ None → (f k : ℕ) (q : Parameter) (r : ℤ × ℤ) → parameter_at (annotated lengths p) f k ≡ Some q → q.range ≡ Some r →
+    IsRange (promoted q.ty) (from_to r.0 r.1)
+
+-- a region's name is that of a global, and its elements are some of the global's
+pub record IsOfGlobal (p : ProgramText) (r : RegionText) : Type 0 where
+  pub number : ℕ
+  pub variable : GlobalVariable
+  pub there : slice_get (globals_of p) number ≡ Some variable
+  pub name_is : r.name ≡ variable.name
+  pub ordered : r.low ≤ r.high
+  pub below : r.high < unwrap_or variable.len 1
+
+-- each region of the annotated program is one of a global
+abbrev pub RegionsFit : Type 0
+RegionsFit =
+    (lengths : ℕ → ℕ) (p : ProgramText) → IsWellFormed p → ProgramHasWords p → first_other p ≡ None → (n k : ℕ) (r : RegionText) → HasRegion (annotated lengths p) n k r → IsOfGlobal p r

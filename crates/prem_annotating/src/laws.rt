@@ -1,5 +1,5 @@
 // What annotating promises.
-ghost use Rattle.prem_annotating.specs.Laws.{SameMeaning, OnceIsEnough, RangesAreInferred, RangesAreLeast, AnnotatedStaysInRange, RegionsAreLeast, NewRangesHold};
+ghost use Rattle.prem_annotating.specs.Laws.{SameMeaning, OnceIsEnough, RangesAreInferred, RangesAreLeast, AnnotatedStaysInRange, RegionsAreLeast, NewRangesHold, RangesFit, RegionsFit};
 
 /// A program and its annotated one do the same, whatever their inputs and however many jobs: the outputs, the globals,
 /// the marked calls and the number of input words used are the same, or both go wrong at the same line.
@@ -31,4 +31,11 @@ pub fn annotated_programs_stay_in_range()
 /// calls access: with one less at either end a rule on regions is broken.
 pub fn regions_are_the_least()
     ensures { RegionsAreLeast }
+{}
+
+/// Where no other rule on ranges is broken, each RANGE of the annotated program, old or new, is a range of its parameter's kind,
+/// and each region lies in the global that it names.
+pub fn annotations_fit()
+    ensures ranges { RangesFit }
+    ensures regions { RegionsFit }
 {}
