@@ -1,1 +1,6 @@
 pub mod Lines
+pub mod Spent
+pub mod Totals
+pub mod Issuer
+pub mod Turn
+pub mod Account
