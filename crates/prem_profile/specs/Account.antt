@@ -8,7 +8,7 @@ use Rattle.prem_cycle.specs.State.{Setup, MachineState}
 use Rattle.prem_profile.specs.declared.cost.Cost.{Cost}
 use Rattle.prem_profile.specs.declared.home.Home.{Home}
 use Rattle.prem_profile.specs.declared.home.Home.TheVariants.{Rest, Switch, At}
-use Rattle.prem_profile.specs.Spent.{no_cost, plus, spent, spent_in_all}
+use Rattle.prem_profile.specs.Spent.{no_cost, plus, spent}
 
 -- ---- rows: 0 for what stands nowhere, 1 for idle time, then one for the switches to each of so many tasks, and behind these those of words of code
 
@@ -58,16 +58,3 @@ goes_on Finished = false
 goes_on (Trap task pc cause) = false
 goes_on (LogFull n) = false
 goes_on Limit = true
-
--- ---- all rows together
-
-abbrev pub costs_sum : List Cost → Cost
-costs_sum [] = no_cost
-costs_sum (x ∷ xs) = plus x (costs_sum xs)
-
--- where each home has one of so many rows, these add up to all that is spent
-abbrev pub RowsAddUp : Type 0
-RowsAddUp =
-    (tasks : ℕ) (words : List ℕ) (rows : ℕ) → ((h : Home) → row_of tasks words h < rows) →
-    (rule : ReplacementRule) (p : Setup) (requests : List Request) (n : ℕ) (s : MachineState) →
-    costs_sum (each_row (row_cost tasks words rule p requests n s) 0 rows) ≡ spent_in_all rule p requests Rest n s

@@ -13,5 +13,5 @@ mod tracing;
 pub use account::{Account, RowTable};
 pub use cost::Cost;
 pub use home::Home;
-pub use laws::{rows_add_up, totals_are_reported};
+pub use laws::totals_are_reported;
 pub use tracing::profile;
