@@ -1,4 +1,4 @@
-// Answers of the response test, over the same files in memory and an outside that fails at calls.
+// Answers of the response test and of the times of sets, over the same files in memory and an outside that fails at calls.
 //
 // Each line of the file is one as those of commands.
 
@@ -6,25 +6,48 @@ use crate::commands::{asked_in, files};
 use crate::sources::on_one_line;
 use prem_io::{MemorySink, MemoryStore};
 use prem_resp::fit;
+use prem_time::time;
 use std::rt::Files;
 use std::{fs, io};
 
+/// Which program answers.
+#[derive(Clone, Copy)]
+pub enum Program {
+    Response,
+    Times,
+}
+
 /// Tells the answer to a line. The sink takes four bytes in a call.
-fn tell_line(rt: &(impl Print + Files + AllocGlobal), line: &str) -> io::Result<()> {
+fn tell_line(
+    rt: &(impl Print + Files + AllocGlobal),
+    program: Program,
+    line: &str,
+) -> io::Result<()> {
     let alloc = rt.alloc();
     let asked = asked_in(alloc, line)?;
     let mut store = MemoryStore::new(files(rt)?, vec![in alloc; asked.read_fault]?);
     let mut sink = MemorySink::new(alloc, 100_000, 4, vec![in alloc; asked.write_fault]?)?;
-    let status = fit(alloc, &asked.words, &mut store, &mut sink);
+    let status = match program {
+        Program::Response => fit(alloc, &asked.words, &mut store, &mut sink),
+        Program::Times => time(alloc, &asked.words, &mut store, &mut sink),
+    };
     let written = on_one_line(alloc, sink.bytes())?;
-    println!(rt; "response: {line} => {status:?} {written}")
+    let word = match program {
+        Program::Response => "response",
+        Program::Times => "times",
+    };
+    println!(rt; "{word}: {line} => {status:?} {written}")
 }
 
 /// Tells the answers to the lines of a file.
-pub fn tell(rt: &(impl Print + Files + AllocGlobal), name: &str) -> io::Result<()> {
+pub fn tell(
+    rt: &(impl Print + Files + AllocGlobal),
+    program: Program,
+    name: &str,
+) -> io::Result<()> {
     let file = fs::read_to_string(rt, name)?;
     for line in file.lines() {
-        tell_line(rt, line)?;
+        tell_line(rt, program, line)?;
     }
     Ok(())
 }

@@ -1,5 +1,5 @@
 //! Answers of the programs over stores and sinks in memory: to sources, at limits, to commands whose outside may fail, of
-//! two cores, of the response test, and in plain words.
+//! two cores, of the response test, of the times of sets, and in plain words.
 //!
 //! Each answer is a line, with a `$` for each end of a line of what is written. `stdout` has the lines as they were
 //! worked out by hand.
@@ -12,6 +12,7 @@ mod lints;
 mod pairs;
 mod sources;
 
+use fits::Program;
 use std::io;
 
 fn main(rt: HostRuntime) -> io::Result<()> {
@@ -21,7 +22,8 @@ fn main(rt: HostRuntime) -> io::Result<()> {
     commands::tell(&rt, "sets.txt")?;
     commands::tell(&rt, "runs.txt")?;
     pairs::tell(&rt, "pairs.txt")?;
-    fits::tell(&rt, "fits.txt")?;
+    fits::tell(&rt, Program::Response, "fits.txt")?;
+    fits::tell(&rt, Program::Times, "times.txt")?;
     commands::tell_steady(&rt)?;
     lints::tell(&rt)
 }

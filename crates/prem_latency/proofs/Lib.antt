@@ -2,7 +2,7 @@ mod Divides
 mod Shuts
 mod Periods
 mod Enough
-mod Found
+pub mod Found
 mod BusUses
 mod Rows
 mod Begins
@@ -26,6 +26,6 @@ mod Instance
 mod JoinedRuns
 mod JoinedTasks
 mod WeaveOpens
-mod SetDevices
+pub mod SetDevices
 pub mod SetWaits
 mod SetSample

@@ -13,4 +13,4 @@ pub use laws::{
     images_serve_devices, jobs_keep_closed, joined_images_serve_devices, requests_are_served,
     requests_end_in_time, scripts_serve_in_time, sets_serve_devices, waits_are_enough,
 };
-pub use wait::{Asking, Closing, wait_length};
+pub use wait::{Asking, Closing, requests_in, top, wait_length};

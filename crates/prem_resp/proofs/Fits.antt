@@ -22,7 +22,7 @@ use Rattle.prem_resp.proofs.TimelyLemmas.Images.{get_mapped, one_of}
 use Rattle.prem_resp.proofs.TimelyLemmas.Sets.{sets_meet_deadlines}
 
 -- one of several that are all within
-one_within : (found : List Busy) (i : ℕ) (busy : Busy) → all_within found ≡ true → slice_get found i ≡ Some busy → (n : ℕ) × (busy ≡ Within n)
+pub one_within : (found : List Busy) (i : ℕ) (busy : Busy) → all_within found ≡ true → slice_get found i ≡ Some busy → (n : ℕ) × (busy ≡ Within n)
 one_within [] i busy all e = cc
 one_within (Within n ∷ found) zero busy all e = (n, sym (ap (λ (o : Option Busy). unwrap_or o (Within n)) e))
 one_within (Within n ∷ found) (suc i) busy all e = one_within found i busy all e
@@ -50,9 +50,9 @@ found_there set found count i lt =
 -- ---- what is found
 
 -- the busy periods of some loads, one each
-record AreFound (loads : List Load) (found : List Busy) : Type 0 where
-  count : length found ≡ length loads
-  each : (i : ℕ) (busy : Busy) → slice_get found i ≡ Some busy → IsFound loads i busy
+pub record AreFound (loads : List Load) (found : List Busy) : Type 0 where
+  pub count : length found ≡ length loads
+  pub each : (i : ℕ) (busy : Busy) → slice_get found i ≡ Some busy → IsFound loads i busy
 
 pub found_long : (loads : List Load) (i count : ℕ) → length (found_from loads i count) ≡ count
 found_long loads i zero = refl
@@ -63,7 +63,7 @@ found_each loads i zero j busy e = cc
 found_each loads i (suc count) zero busy e = let same : i ≡ i + 0 = omega arith in sym (ap (λ (o : Option Busy). unwrap_or o busy) e) ∙ ap (busy_of loads) same
 found_each loads i (suc count) (suc j) busy e = let same : i + 1 + j ≡ i + suc j = omega arith in found_each loads (i + 1) count j busy e ∙ ap (busy_of loads) same
 
-all_found : (loads : List Load) → AreFound loads (found_in loads)
+pub all_found : (loads : List Load) → AreFound loads (found_in loads)
 all_found loads = record {
   count = found_long loads 0 (length loads);
   each = λ i busy e.

@@ -18,5 +18,7 @@ mod top;
 mod words;
 
 pub use laws::fitting_sets_end_in_time;
+pub use lines::all_within;
+pub use loads::busy_periods;
 pub use prem_answer::PlainStatus as FitStatus;
 pub use top::fit;

@@ -38,7 +38,7 @@ fn push_line(alloc: Global, text: &mut Vec<u8>, name: &str, line: Line) -> Resul
 }
 
 /// Whether each busy period is within its task's period.
-fn all_within(found: &[Busy]) -> bool
+pub fn all_within(found: &[Busy]) -> bool
     ensures { result ≡ all_within found.now }
 {
     for busy in found {

@@ -32,7 +32,7 @@ pub(crate) fn loads_of(
 }
 
 /// What is found of the busy period of each task.
-pub(crate) fn busy_periods(alloc: Global, loads: &[Load]) -> Result<Vec<Busy>, AllocError>
+pub fn busy_periods(alloc: Global, loads: &[Load]) -> Result<Vec<Busy>, AllocError>
     requires loads { All IsLoad loads.now }
     requires count { length loads.now ≤ 16 }
     ensures { IfOk result (λ found. found.items ≡ found_in loads.now) }

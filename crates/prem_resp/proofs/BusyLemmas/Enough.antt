@@ -8,7 +8,7 @@ use Rattle.prem_resp.specs.Busy.Schedule.{LengthsAreEnough}
 abbrev work : ℕ → List Load → ℕ → ℕ
 work cycles loads k = releases_in (load_at loads k).period cycles * (load_at loads k).cost
 
-sum_front : (n : ℕ) (f : ℕ → ℕ) → sum_below (suc n) f ≡ f 0 + sum_below n (λ k. f (suc k))
+pub sum_front : (n : ℕ) (f : ℕ → ℕ) → sum_below (suc n) f ≡ f 0 + sum_below n (λ k. f (suc k))
 sum_front zero f = omega arith
 sum_front (suc n) f = let a : sum_below (suc n) f ≡ f 0 + sum_below n (λ k. f (suc k)) = sum_front n f in omega (arith, a)
 

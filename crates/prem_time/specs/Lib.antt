@@ -1,0 +1,11 @@
+pub mod Deadlines
+pub mod Words
+pub mod Asked
+pub mod Times
+pub mod Devices
+pub mod Lines
+pub mod Fits
+pub mod Told
+pub mod Stages
+pub mod Headline
+pub mod Answer
