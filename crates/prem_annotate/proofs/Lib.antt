@@ -7,3 +7,4 @@ pub mod Reaching
 pub mod Noted
 pub mod Lengthened
 pub mod WritingLemmas
+pub mod RulesLemmas

@@ -41,7 +41,7 @@ notes_are gs all n (f ∷ fs) =
 
 -- ---- programs in memory
 
-plain_routines : (t : ℕ → ℕ) (n : ℕ) (rs : List RoutineTree) → AlikeRoutines (λ _ _. ℕ) (map plain_routine rs) (routines_of t n rs)
+pub plain_routines : (t : ℕ → ℕ) (n : ℕ) (rs : List RoutineTree) → AlikeRoutines (λ _ _. ℕ) (map plain_routine rs) (routines_of t n rs)
 plain_routines t n [] = no_routines
 plain_routines t n (r ∷ rs) =
     let this : AlikeRoutine (λ _ _. ℕ) (plain_routine r) (routine_of t n r) = record { text = refl; locals = refl; result = refl; body = plain-alike t n r.body alike_done } in

@@ -28,7 +28,7 @@ pub record Inferring (fs : List Routine) (n : ℕ) (rows : List (List Slot)) (fo
   pub rows_are : rows ≡ slots_of (passed (calls_of_all (ranged_routines n (drop n fs)))) 0 fs
   pub found_are : found ≡ map outlook (ranged_routines n (drop n fs))
 
-some_is : {A : Type 0} (a b : A) → Some a ≡ Some b → a ≡ b
+pub some_is : {A : Type 0} (a b : A) → Some a ≡ Some b → a ≡ b
 some_is a b e = cc
 
 -- the function before these
@@ -52,12 +52,12 @@ looked_before fs m f rows rows' found row o all there behind row_is o_is new_row
 
 -- ---- lists in memory
 
-mapped_drop : {A B : Type 0} (f : A → B) (xs : List A) (m : ℕ) (x : A) → m < length xs → x ≡ get_or xs m x → drop m (map f xs) ≡ f x ∷ drop (m + 1) (map f xs)
+pub mapped_drop : {A B : Type 0} (f : A → B) (xs : List A) (m : ℕ) (x : A) → m < length xs → x ≡ get_or xs m x → drop m (map f xs) ≡ f x ∷ drop (m + 1) (map f xs)
 mapped_drop f [] m x within is = absurd (omega arith)
 mapped_drop f (y ∷ ys) zero x within is = ap (λ z. f z ∷ map f ys) (sym is)
 mapped_drop f (y ∷ ys) (suc m) x within is = let e : suc (m + 1) ≡ suc m + 1 = omega arith in mapped_drop f ys m x (omega arith) is ∙ ap (λ k. f x ∷ drop k (f y ∷ map f ys)) e
 
-mapped_get : {A B : Type 0} (f : A → B) (xs : List A) (m : ℕ) (x : A) → m < length xs → x ≡ get_or xs m x → slice_get (map f xs) m ≡ Some (f x)
+pub mapped_get : {A B : Type 0} (f : A → B) (xs : List A) (m : ℕ) (x : A) → m < length xs → x ≡ get_or xs m x → slice_get (map f xs) m ≡ Some (f x)
 mapped_get f [] m x within is = absurd (omega arith)
 mapped_get f (y ∷ ys) zero x within is = ap (λ z. Some (f z)) (sym is)
 mapped_get f (y ∷ ys) (suc m) x within is = mapped_get f ys m x (omega arith) is

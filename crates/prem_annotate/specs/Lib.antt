@@ -3,3 +3,4 @@ pub mod Ranges
 pub mod Regions
 pub mod Notes
 pub mod Writing
+pub mod Rules

@@ -5,5 +5,5 @@ mod outlook;
 mod slots;
 
 pub use inferring::infer;
-pub use outlook::{Outlook, regard};
+pub use outlook::{Outlook, known_parameters, regard};
 pub use slots::{Slot, add_all, empty_rows, join};

@@ -9,6 +9,6 @@ mod simple;
 mod steps;
 
 pub use expression::look;
-pub use routine::see_routine;
+pub use routine::{known_local, see_routine};
 pub use sight::{Argument, Sight, Touch};
 pub use steps::walk;

@@ -93,7 +93,7 @@ fn add_known(env: &mut Vec<Known>, p: &Param, s: Slot) -> Result<(), AllocError>
 }
 
 /// What is known of parameters.
-fn parameters(alloc: Global, row: &[Slot], ps: &[Param]) -> Result<Vec<Known>, AllocError>
+pub fn known_parameters(alloc: Global, row: &[Slot], ps: &[Param]) -> Result<Vec<Known>, AllocError>
     requires { Ranged (map known_parameter (map parameter_of ps.now)) }
     ensures { IfOk result (λ env. env_of env.items ≡ map known_parameter (with_slots (map slot_of row.now) (map parameter_of ps.now))) }
 {
@@ -135,7 +135,7 @@ pub fn regard(alloc: Global, row: &[Slot], f: &Routine) -> Result<Outlook, Alloc
 {
     let ps = f.text.params.items();
     let ranges = ranges(alloc, row, ps)?;
-    let known = parameters(alloc, row, ps)?;
+    let known = known_parameters(alloc, row, ps)?;
     let sight = see_routine(alloc, known, f)?;
     Ok(Outlook { ranges, sight })
 }

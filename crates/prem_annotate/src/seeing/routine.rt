@@ -18,7 +18,8 @@ use prem_syntax::Local;
 use prem_tree::resolve::{Routine, Term, promoted};
 use std::alloc::{AllocError, Global};
 
-fn known_local(env: &[Known], l: &Local, e: &Term) -> Known
+/// What is known of a local behind its initialiser.
+pub fn known_local(env: &[Known], l: &Local, e: &Term) -> Known
     ensures { known_of result ≡ known_local (env_of env.now) (local_of l.now) (term_of e.now) }
 {
     let kind = promoted(l.ty);

@@ -5,7 +5,7 @@ use Rattle.prem_analysis.specs.Ranging.View.{env_of}
 use Rattle.prem_analysis.proofs.Behind.{ranged_item}
 use Rattle.prem_annotate.specs.Ranges.Slots.{slot_of, with_slots}
 use Rattle.prem_annotate.proofs.Outlooks.{slots_next, parameters_end}
-use Rattle.prem_annotate.proofs.ranges.outlook.parameters.Goals as goal
+use Rattle.prem_annotate.proofs.ranges.outlook.known_parameters.Goals as goal
 
 pub add_known-requires : goal.add_known-requires
 add_known-requires c = ranged_item c.args.ps.now c.loop-i.i c.index-ps-i.result c.requires (omega arith) c.index-ps-i.is
