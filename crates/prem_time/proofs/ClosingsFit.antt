@@ -80,7 +80,7 @@ closings_step loads found times i cost k x b t lt ef et e =
     ap (λ (xs : List Load). closings_of xs (drop k found) (closed_told (map times_in (drop k times)) i) cost) (next_of loads k x lt)
     ∙ ap (λ (bs : List Busy). closings_of (slice_index_or loads k x ∷ drop (k + 1) loads) bs (closed_told (map times_in (drop k times)) i) cost) (next_of found k b (omega (arith, lt, ef)))
     ∙ ap (λ (ts : List TaskTimes). closings_of (slice_index_or loads k x ∷ drop (k + 1) loads) (slice_index_or found k b ∷ drop (k + 1) found) (closed_told (map times_in ts) i) cost)
-      (next_of times k t (omega (arith, lt, et)) ∙ ap (λ (y : TaskTimes). y ∷ drop (k + 1) times) (sym e))
+    (next_of times k t (omega (arith, lt, et)) ∙ ap (λ (y : TaskTimes). y ∷ drop (k + 1) times) (sym e))
 
 pub closed_behind : (times : List TaskTimes) (i k : ℕ) (t : TaskTimes) → k < length times → AllByRecursion (IsClosedAt i) (map times_in (drop k times)) → AllByRecursion (IsClosedAt i) (map times_in (drop (k + 1) times))
 closed_behind times i k t lt h = (subst (λ (ts : List TaskTimes). AllByRecursion (IsClosedAt i) (map times_in ts)) (next_of times k t lt) h).1

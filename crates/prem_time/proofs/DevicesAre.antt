@@ -130,7 +130,10 @@ short_wait askings loads found closed d = by (all_within found) where
 pub are_told : (devices : List Device) (askings : List Asking) (loads : List Load) (found : List Busy) (times : List TimesText) (i : ℕ) (ns : List Named) → length askings ≡ length devices → AllByRecursion (IsNamed askings) ns →
     AreTold devices ns (waits_told askings loads found times i ns)
 are_told devices askings loads found times i [] e h = tt
-are_told devices askings loads found times i (n ∷ ns) e h =
-    ((let there : n.number < length askings = h.0.there in omega (arith, e, there)),
-    (record { some = h.0.some; most = h.0.most; short = short_wait askings loads found (closed_told times i) n.number },
-    are_told devices askings loads found times (i + 1) ns e h.1))
+are_told devices askings loads found times i (n ∷ ns) e h = (
+  (let there : n.number < length askings = h.0.there in omega (arith, e, there)),
+  (
+    record { some = h.0.some; most = h.0.most; short = short_wait askings loads found (closed_told times i) n.number },
+    are_told devices askings loads found times (i + 1) ns e h.1,
+  ),
+)

@@ -94,10 +94,7 @@ pub(crate) fn askings_in(
 {
     let mut askings = Vec::new(alloc);
     for device in devices {
-        askings.push(asking_of(
-            every_of(distances, device.name.text().as_bytes()),
-            device,
-        ))?;
+        askings.push(asking_of(every_of(distances, device.name.text().as_bytes()), device))?;
     }
     Ok(askings)
 }

@@ -164,12 +164,7 @@ pub(crate) fn tasks_text(
 
 /// How long the requests of a device wait, and how many come in as many cycles.
 #[tactic(auto, unfolding(crate::specs::Lines::wait_text))]
-fn wait_text(
-    alloc: Global,
-    every: u64,
-    queue: u32,
-    wait: Option<u64>,
-) -> Result<String, AllocError>
+fn wait_text(alloc: Global, every: u64, queue: u32, wait: Option<u64>) -> Result<String, AllocError>
     requires { IsSpan every wait }
     ensures { IfOk result (λ s. string_bytes s ≡ wait_text every queue wait) }
 {
@@ -213,7 +208,13 @@ pub(crate) fn push_devices(
     ensures { OnOk result (text.new.items ≡ text.old.items ++ ended (map device_line (devices_told devices.now named.now waits.now))) }
 {
     for i in 0..named.len() {
-        push_device(alloc, text, &devices[named[i].number], named[i].every, waits[i])?;
+        push_device(
+            alloc,
+            text,
+            &devices[named[i].number],
+            named[i].every,
+            waits[i],
+        )?;
     }
     Ok(())
 }
