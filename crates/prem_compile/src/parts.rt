@@ -12,7 +12,6 @@ ghost use Rattle.prem_tasks.specs.SetOf.{set_of};
 ghost use Rattle.prem_compile.specs.Joined.{HasCode};
 ghost use Rattle.prem_compile.specs.PartsOf.{AreParts, EndsParts, IsPartsAnswer};
 
-use crate::built::listed;
 use crate::coding::{coded_tasks, parts_of_tasks};
 use crate::telling::names_of_coded;
 use prem_color::{push_wants, shape_of};
@@ -81,6 +80,17 @@ fn wants_of(
         first += part_count(&tasks[n]);
     }
     Ok(wants)
+}
+
+/// A copy of the parts. It fails only for want of memory.
+fn listed(alloc: Global, parts: &[PartSize]) -> Result<Sequence<PartSize>, AllocError>
+    ensures { IfOk result (λ list. items_of list ≡ parts.now) }
+{
+    let mut list = Sequence::with_room(alloc, parts.len())?;
+    for part in parts {
+        list.push(*part)?;
+    }
+    Ok(list)
 }
 
 /// The parts of tasks with their code.

@@ -79,7 +79,14 @@ fn issue_own<P: Policy>(
 {
     let k = usize::from(task);
     let most = u64::MAX;
-    let Some(plain) = issue_plain(k, most, setting, &mut parts.work, near, &mut parts.facts) else {
+    let Some(plain) = issue_plain::<P, false>(
+        k,
+        most,
+        setting,
+        &mut parts.work,
+        near,
+        &mut parts.facts,
+    ) else {
         return None;
     };
     if plain.hit {

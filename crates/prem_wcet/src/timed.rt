@@ -234,11 +234,11 @@ fn timed_placed(
     alloc: Global,
     set: &TaskSet,
     tops: &[u32],
-    parts: &[PartSize],
+    parts: Vec<PartSize>,
     layout: Layout,
     tasks: &[PlacedTask],
 ) -> Result<Timed, Stop>
-    requires { HasPlaces (set_of set.now) parts.now layout tasks.now }
+    requires { HasPlaces (set_of set.now) parts.items layout tasks.now }
     ensures { EndsTimedAt (set_of set.now) layout tops.now result }
 {
     let plant = set.plant();
@@ -253,13 +253,13 @@ fn behind_layout(
     set: &TaskSet,
     tops: &[u32],
     tasks: Vec<CodedTask>,
-    parts: &[PartSize],
+    parts: Vec<PartSize>,
     layout: Layout,
 ) -> Result<Timed, Stop>
     requires code { HasCode (set_of set.now) tasks.items }
-    requires parts { parts.now ≡ parts_in (set_of set.now) }
-    requires few { length parts.now ≤ 100000 }
-    requires placed { ArePlaces (set_of set.now).plant.memory parts.now layout }
+    requires parts { parts.items ≡ parts_in (set_of set.now) }
+    requires few { length parts.items ≤ 100000 }
+    requires placed { ArePlaces (set_of set.now).plant.memory parts.items layout }
     ensures { EndsTimedAt (set_of set.now) layout tops.now result }
 {
     let plant = set.plant();
@@ -280,7 +280,7 @@ fn behind_code(
     let plant = set.plant();
     let parts = parts_of_tasks(alloc, set, &tasks)?;
     let layout = places_of(alloc, &parts, plant)?;
-    behind_layout(alloc, set, tops, tasks, &parts, layout)
+    behind_layout(alloc, set, tops, tasks, parts, layout)
 }
 
 /// All groups of rules in their order, each over all tasks before the next, then the image and the times.

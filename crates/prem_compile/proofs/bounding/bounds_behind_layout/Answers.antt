@@ -1,4 +1,4 @@
-use Rattle.std.proofs.Common.{refl, sym, subst}
+use Rattle.std.proofs.Common.{sym, subst}
 use Rattle.prem_plant.specs.declared.plant.Plant.{Plant}
 use Rattle.prem_plant.specs.Places.{ArePlaces}
 use Rattle.prem_tasks.specs.SetOf.{set_of}
@@ -14,6 +14,6 @@ place_all-requires-clause-places c =
 pub bounds_behind_places-requires : goal.bounds_behind_places-requires
 bounds_behind_places-requires c =
     let same = c.plant-plant.ensures.plant in
-    lent_has_places (set_of c.args.set.now) c.args.tasks.items c.plant-plant.result.now c.args.parts.now c.args.parts.now c.args.parts.now c.args.layout c.in_ok-placed.placed.items c.deref.result.now
-    same refl refl c.deref.ensures.value c.requires.code c.requires.parts c.requires.few (subst (λ (q : Plant). ArePlaces q.memory c.args.parts.now c.args.layout) (sym same) c.requires.placed)
+    lent_has_places (set_of c.args.set.now) c.args.tasks.items c.plant-plant.result.now c.args.parts.now c.args.layout c.in_ok-placed.placed.items c.deref.result.now
+    same c.deref.ensures.value c.requires.code c.requires.parts c.requires.few (subst (λ (q : Plant). ArePlaces q.memory c.args.parts.now c.args.layout) (sym same) c.requires.placed)
     c.in_ok-placed.ensures.same c.in_ok-placed.ensures.placed c.in_ok-placed.ensures.stands

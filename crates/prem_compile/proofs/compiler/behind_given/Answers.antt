@@ -1,4 +1,4 @@
-use Rattle.std.proofs.Common.{◌≤◌, List, length, sym, ◌∙◌, subst}
+use Rattle.std.proofs.Common.{List, sym, ◌∙◌, subst}
 use Rattle.prem_plant.specs.declared.layout.PartSize.{PartSize}
 use Rattle.prem_plant.specs.Places.{Extent, AreApart, ArePlaces}
 use Rattle.prem_tasks.specs.Compiled.{parts_in}
@@ -10,17 +10,14 @@ use Rattle.prem_compile.proofs.compiler.behind_given.Goals as goal
 pub layout_of-requires : goal.layout_of-requires
 layout_of-requires c = subst AreApart (sym c.in_ok-places.ensures) (places_apart (set_of c.args.set.now).plant.memory (parts_in (set_of c.args.set.now)) c.args.l.now c.requires.lawful.placed)
 
-pub behind_layout-requires-clause-parts : goal.behind_layout-requires-clause-parts
-behind_layout-requires-clause-parts c = c.deref-2.ensures.value ∙ c.in_ok-parts.ensures.parts
-
 pub behind_layout-requires-clause-few : goal.behind_layout-requires-clause-few
-behind_layout-requires-clause-few c = subst (λ (ps : List PartSize). length ps ≤ 100000) (sym c.deref-2.ensures.value) c.in_ok-parts.ensures.may.few
+behind_layout-requires-clause-few c = c.in_ok-parts.ensures.may.few
 
 pub behind_layout-requires-clause-placed : goal.behind_layout-requires-clause-placed
 behind_layout-requires-clause-placed c =
     let set = set_of c.args.set.now in
-    subst (λ (places : List Extent). ArePlaces set.plant.memory c.deref-2.result.now places) (sym (c.layout_of.ensures ∙ c.in_ok-places.ensures))
-    (subst (λ (ps : List PartSize). ArePlaces set.plant.memory ps c.args.l.now) (sym (c.deref-2.ensures.value ∙ c.in_ok-parts.ensures.parts)) c.requires.lawful.placed)
+    subst (λ (places : List Extent). ArePlaces set.plant.memory c.in_ok-parts.parts.items places) (sym (c.layout_of.ensures ∙ c.in_ok-places.ensures))
+    (subst (λ (ps : List PartSize). ArePlaces set.plant.memory ps c.args.l.now) (sym c.in_ok-parts.ensures.parts) c.requires.lawful.placed)
 
 pub returns : goal.returns
 returns c =

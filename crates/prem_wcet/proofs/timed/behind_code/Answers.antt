@@ -1,4 +1,4 @@
-use Rattle.std.proofs.Common.{◌≡◌, ◌≤◌, List, None, length, ap, sym, ◌∙◌, subst}
+use Rattle.std.proofs.Common.{◌≡◌, List, None, ap, sym, ◌∙◌, subst}
 use Rattle.prem_plant.specs.declared.plant.Plant.{Plant}
 use Rattle.prem_plant.specs.declared.layout.PartSize.{PartSize}
 use Rattle.prem_plant.specs.Places.{ArePlaces, default_places}
@@ -7,15 +7,12 @@ use Rattle.prem_tasks.specs.SetOf.{set_of}
 use Rattle.prem_wcet.proofs.Ends.{timed_default}
 use Rattle.prem_wcet.proofs.timed.behind_code.Goals as goal
 
-pub behind_layout-requires-clause-parts : goal.behind_layout-requires-clause-parts
-behind_layout-requires-clause-parts c = c.deref-3.ensures.value ∙ c.in_ok-parts.ensures.parts
-
 pub behind_layout-requires-clause-few : goal.behind_layout-requires-clause-few
-behind_layout-requires-clause-few c = subst (λ (ps : List PartSize). length ps ≤ 100000) (sym c.deref-3.ensures.value) c.in_ok-parts.ensures.may.few
+behind_layout-requires-clause-few c = c.in_ok-parts.ensures.may.few
 
 pub behind_layout-requires-clause-placed : goal.behind_layout-requires-clause-placed
 behind_layout-requires-clause-placed c =
-    subst (λ (ps : List PartSize). ArePlaces (set_of c.args.set.now).plant.memory ps c.in_ok-layout.layout) (c.deref-2.ensures.value ∙ sym c.deref-3.ensures.value)
+    subst (λ (ps : List PartSize). ArePlaces (set_of c.args.set.now).plant.memory ps c.in_ok-layout.layout) c.deref-2.ensures.value
     (subst (λ (q : Plant). ArePlaces q.memory c.deref-2.result.now c.in_ok-layout.layout) c.plant-plant.ensures.plant c.in_ok-layout.ensures.lawful.placed)
 
 pub returns : goal.returns

@@ -1,4 +1,4 @@
-use Rattle.std.proofs.Common.{refl, sym, subst}
+use Rattle.std.proofs.Common.{sym, subst}
 use Rattle.prem_plant.specs.declared.plant.Plant.{Plant}
 use Rattle.prem_plant.specs.Places.{ArePlaces}
 use Rattle.prem_tasks.specs.SetOf.{set_of}
@@ -8,12 +8,12 @@ use Rattle.prem_wcet.proofs.timed.behind_layout.Goals as goal
 pub place_all-requires-clause-places : goal.place_all-requires-clause-places
 place_all-requires-clause-places c =
     let same = c.plant-plant.ensures.plant in
-    tasks_at_places (set_of c.args.set.now) c.args.tasks.items c.plant-plant.result.now c.args.parts.now c.args.layout same c.requires.code c.requires.parts
-    (subst (λ (q : Plant). ArePlaces q.memory c.args.parts.now c.args.layout) (sym same) c.requires.placed)
+    tasks_at_places (set_of c.args.set.now) c.args.tasks.items c.plant-plant.result.now c.args.parts.items c.args.layout same c.requires.code c.requires.parts
+    (subst (λ (q : Plant). ArePlaces q.memory c.args.parts.items c.args.layout) (sym same) c.requires.placed)
 
 pub timed_placed-requires : goal.timed_placed-requires
 timed_placed-requires c =
     let same = c.plant-plant.ensures.plant in
-    lent_has_places (set_of c.args.set.now) c.args.tasks.items c.plant-plant.result.now c.args.parts.now c.args.parts.now c.args.parts.now c.args.layout c.in_ok-placed.placed.items c.deref.result.now
-    same refl refl c.deref.ensures.value c.requires.code c.requires.parts c.requires.few (subst (λ (q : Plant). ArePlaces q.memory c.args.parts.now c.args.layout) (sym same) c.requires.placed)
+    lent_has_places (set_of c.args.set.now) c.args.tasks.items c.plant-plant.result.now c.args.parts.items c.args.layout c.in_ok-placed.placed.items c.deref.result.now
+    same c.deref.ensures.value c.requires.code c.requires.parts c.requires.few (subst (λ (q : Plant). ArePlaces q.memory c.args.parts.items c.args.layout) (sym same) c.requires.placed)
     c.in_ok-placed.ensures.same c.in_ok-placed.ensures.placed c.in_ok-placed.ensures.stands
