@@ -261,9 +261,9 @@ fn carry_load<P: Policy>(
 }
 
 /// An instruction of this cost and upshot issues, where it goes on in its interval and takes no input word. Of any other
-/// one nothing changes.
+/// one nothing changes. It is too large to be inlined but where it is called once, so each place has a copy of its own.
 #[inline(always)]
-fn issue_upshot<P: Policy>(
+fn issue_upshot<P: Policy, const FIRST: bool>(
     k: usize,
     cost: u32,
     upshot: Upshot,
@@ -333,9 +333,10 @@ fn issue_upshot<P: Policy>(
 }
 
 /// The next instruction of a task, where it goes on in its interval, takes no input word, and has at most this cost: it
-/// issues at once. Of any other one, and where it traps, nothing changes.
+/// issues at once. Of any other one, and where it traps, nothing changes. Each place that calls it is to have a copy of its
+/// own: `FIRST` tells them apart, the first instruction of an interval and those that follow each other.
 #[inline(always)]
-pub fn issue_plain<P: Policy>(
+pub fn issue_plain<P: Policy, const FIRST: bool>(
     k: usize,
     most: u64,
     setting: &Setting,
@@ -375,5 +376,5 @@ pub fn issue_plain<P: Policy>(
         return None;
     }
     let upshot = core.coming(setting.plant.target, size, word);
-    issue_upshot(k, cost, upshot, setting, work, near, facts)
+    issue_upshot::<P, FIRST>(k, cost, upshot, setting, work, near, facts)
 }

@@ -175,8 +175,14 @@ impl<P: Policy> Parts<P> {
     {
         let k = usize::from(lone.task);
         let most = lone.until - self.now;
-        let Some(plain) = issue_plain(k, most, setting, &mut self.work, near, &mut self.facts)
-        else {
+        let Some(plain) = issue_plain::<P, false>(
+            k,
+            most,
+            setting,
+            &mut self.work,
+            near,
+            &mut self.facts,
+        ) else {
             return false;
         };
         if plain.hit {
