@@ -3,6 +3,9 @@ mod Shuts
 mod Periods
 mod Enough
 pub mod Found
+mod Shares
+mod Rooms
+mod Turns
 mod BusUses
 mod Rows
 mod Begins

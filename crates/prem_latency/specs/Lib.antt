@@ -1,4 +1,5 @@
 pub mod Wait
+pub mod Turns
 pub mod Timeline
 pub mod Bus
 pub mod Served

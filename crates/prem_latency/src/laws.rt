@@ -7,6 +7,7 @@ ghost use Rattle.prem_latency.specs.Opened.{CallsOpen, OpeningsJoin, QuietListsO
 ghost use Rattle.prem_latency.specs.Requests.{AllFindRoom, NoneIsDropped, RequestsAreServed};
 ghost use Rattle.prem_latency.specs.Sets.{SetsServeDevices};
 ghost use Rattle.prem_latency.specs.Timeline.{LevelsAreEnough, QueuesHaveRoom, RequestsEndInTime};
+ghost use Rattle.prem_latency.specs.Turns.{NoneIsBefore, RoomIsThere};
 ghost use Rattle.prem_latency.specs.Wait.{WaitsAreFound};
 ghost use Rattle.prem_latency.specs.Waits.{ChargesDropNone, ChargesServeEach, ChargesServeInTime};
 
@@ -21,6 +22,14 @@ pub fn requests_end_in_time()
 pub fn waits_are_enough()
     ensures enough { LevelsAreEnough }
     ensures found { WaitsAreFound }
+{}
+
+/// No number of cycles is enough that is less than the one with which the search for a wait begins; and where shares of the bus, rounded
+/// up, leave a part of it, so many cycles are enough as that part takes for what is owed with one transfer of each device and one job of
+/// each task.
+pub fn waits_are_bounded()
+    ensures before { NoneIsBefore }
+    ensures there { RoomIsThere }
 {}
 
 /// Where a request of the first devices waits, the cycle is one of a transfer of theirs, or of one behind them that goes on,

@@ -9,6 +9,7 @@ pub mod Rows
 pub mod Headline
 pub mod LoadsAre
 pub mod Stages
+pub mod PromisesAre
 pub mod Tool
 mod Sample
 mod WaitSample

@@ -156,7 +156,7 @@ module _ (set : TaskSet) (ds : List Distance) (b : Bus) (t : Timed) (bus : IsBus
       ∙ ap (λ n. last_release (map task_record placed) + n) (work_is (map task_record placed) (loads_in set) (same ∙ sym long))
 
   -- those that are named
-  devices_same : devices_by set.devices b t ≡ devices_in set ds
+  pub devices_same : devices_by set.devices b t ≡ devices_in set ds
   devices_same =
       ap (λ loads. devices_told set.devices b.named.items (waits_told b.askings.items loads (found_in loads) (times_by t) 0 b.named.items)) loads_are
       ∙ ap (λ xs. devices_told set.devices b.named.items (waits_told b.askings.items (loads_in set) (found_in (loads_in set)) xs 0 b.named.items)) is.times

@@ -56,7 +56,7 @@ with_one ds (Some d) all are is e = by (is_named d.device ds) e where
   by true h = absurd cc
   by false h = let same : ds ++ d ∷ [] ≡ all = cc in subst (λ (xs : List Distance). AreDistances xs) same (one_more ds d are (is d refl))
 
-behind_are : (words : List (List ℕ)) (ds all : List Distance) → AreDistances ds → distances_behind words ds ≡ Some all → AreDistances all
+pub behind_are : (words : List (List ℕ)) (ds all : List Distance) → AreDistances ds → distances_behind words ds ≡ Some all → AreDistances all
 behind_are [] ds all are e = let same : ds ≡ all = cc in subst (λ (xs : List Distance). AreDistances xs) same are
 behind_are (word ∷ words) ds all are e = by (with_distance ds (distance_in word)) refl (λ more some h. behind_are words more all some h) e where
   by : (o : Option (List Distance)) → with_distance ds (distance_in word) ≡ o → ((more : List Distance) → AreDistances more → distances_behind words more ≡ Some all → AreDistances all) →

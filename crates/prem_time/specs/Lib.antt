@@ -6,6 +6,7 @@ pub mod Devices
 pub mod Lines
 pub mod Fits
 pub mod Told
+pub mod Promises
 pub mod Stages
 pub mod Headline
 pub mod Answer

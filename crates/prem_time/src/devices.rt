@@ -18,8 +18,8 @@ pub(crate) struct Named {
     pub(crate) every: u64,
 }
 
-/// What the words say of a device.
-fn every_of(distances: &[Distance], name: &[u8]) -> Option<u64>
+/// What the words say of a device of this name.
+pub fn every_of(distances: &[Distance], name: &[u8]) -> Option<u64>
     ensures { result ≡ every_of (distances_in distances.now) name.now }
 {
     for distance in distances {
@@ -43,7 +43,7 @@ fn is_there(name: &[u8], devices: &[Device]) -> bool
 }
 
 /// The name of the first device that is named and isn't one of these.
-pub(crate) fn unknown_in<'a>(distances: &[Distance<'a>], devices: &[Device]) -> Option<&'a [u8]>
+pub fn unknown_in<'a>(distances: &[Distance<'a>], devices: &[Device]) -> Option<&'a [u8]>
     ensures { option_map (λ name. name.now) result ≡ unknown_in (distances_in distances.now) devices.now }
 {
     for distance in distances {

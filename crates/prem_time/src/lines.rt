@@ -220,7 +220,7 @@ pub(crate) fn push_devices(
 }
 
 /// Whether there is a wait, and the queue holds as many requests as come in it.
-fn is_held(every: u64, queue: u32, wait: Option<u64>) -> bool
+pub(crate) fn is_held(every: u64, queue: u32, wait: Option<u64>) -> bool
     requires { IsSpan every wait }
     ensures { result ≡ is_held every queue wait }
 {

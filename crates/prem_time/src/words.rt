@@ -16,9 +16,11 @@ const MOST_CYCLES: u64 = 1 << 40;
 
 /// The requests of a device are at least so many cycles apart.
 #[derive(Clone, Copy)]
-pub(crate) struct Distance<'a> {
-    pub(crate) device: &'a [u8],
-    pub(crate) every: u64,
+pub struct Distance<'a> {
+    /// Its name.
+    pub device: &'a [u8],
+    /// In cycles, 1 to 2^40.
+    pub every: u64,
 }
 
 /// The file of a set, and how far apart the requests of some of its devices are.
@@ -107,8 +109,8 @@ fn is_named(name: &[u8], distances: &[Distance]) -> bool
     false
 }
 
-/// The distances that words tell, each of another device; none where a word tells none.
-fn distances_in<'a>(
+/// The distances that words tell, each of another device; none where a word tells none. It fails only for want of memory.
+pub fn distances_in<'a>(
     alloc: Global,
     words: &'a [String],
 ) -> Result<Option<Vec<Distance<'a>>>, AllocError>
