@@ -5,4 +5,8 @@ pub mod Pictures
 pub mod Noted
 pub mod Traces
 pub mod Charted
+pub mod Far
+pub mod Kept
+pub mod AnyNamed
+pub mod Asking
 pub mod Tool

@@ -5,6 +5,7 @@ use Rattle.std.specs.Option.{option_map_or}
 use Rattle.std.proofs.Common.{◌≡◌, ◌+◌, ◌==◌, ℕ, zero, suc, List, [], ◌∷◌, ◌++◌, map, Bool, true, false, cond, Option, Some, None, refl, codes, length}
 use Rattle.prem_gate.specs.declared.bus.Window.{Window}
 use Rattle.prem_gate.specs.declared.bus.Transfer.{Transfer}
+use Rattle.prem_gate.specs.declared.request.Request.{Request}
 use Rattle.prem_image.specs.declared.image.TaskRecord.{TaskRecord}
 use Rattle.prem_image.specs.declared.image.DeviceRecord.{DeviceRecord}
 use Rattle.prem_cycle.specs.declared.state.Stop.{Stop}
@@ -13,7 +14,8 @@ use Rattle.prem_cycle.specs.declared.facts.EndedInterval.{EndedInterval}
 use Rattle.prem_cycle.specs.State.{Counts}
 use Rattle.prem_cycle.specs.FactsOf.{Report}
 use Rattle.prem_cycle.specs.Runs.Transfer.Lengths.{device_cost}
-use Rattle.prem_report.specs.Report.{in_turn, task_name, kind_word, direction_word}
+use Rattle.prem_report.specs.Report.{in_turn, task_name, device_name, kind_word, direction_word}
+use Rattle.prem_time.specs.declared.promises.Promise.{Promise}
 use Rattle.prem_chart.specs.declared.view.View.{View}
 use Rattle.prem_chart.specs.declared.view.Sheet.{Sheet}
 use Rattle.prem_chart.specs.declared.view.Look.{Look}
@@ -29,7 +31,8 @@ use Rattle.prem_chart.specs.Bars.{Shape, shape_text, owner_text, look_class, wid
 use Rattle.prem_chart.specs.Shapes.{interval_shape, interval_shapes, interval_told, has_interval, transfer_shape, transfer_shapes, transfer_told, transfer_pieces, has_transfer}
 use Rattle.prem_chart.specs.Phases.{shape_shown, phase_shape, phase_shown, idle_shape, idle_shown, open_shape, open_shown, window_text, windows_text, miss_pieces, miss_path, miss_told, miss_mark, open_told, phase_told, idle_told, miss_text, misses_text, window_cycles, idle_first, idle_cycles}
 use Rattle.prem_chart.specs.Rows.{each_text, base_pieces, base_text, jobs_pieces, jobs_told, name_pieces, name_start, every_pieces, every_text, task_label, plain_pieces, plain_end, plain_label, idle_label, bus_label, labels_text, later_pieces, later_release, release_told, arrow_pieces, arrow_path, arrow_text, is_marked, release_shown, deadline_pieces, deadline_path, last_pieces, deadline_told, deadline_text, deadline_shown, releases_text, all_releases, device_keys}
-use Rattle.prem_chart.specs.Places.{place, is_inside, task_top, idle_top, bus_top}
+use Rattle.prem_chart.specs.Promises.{served_pieces, late_pieces, served_told, apart_pieces, apart_text, within_pieces, unknown_pieces, within_text, promise_label, request_pieces, request_told, request_shape, request_shown, has_come, level_of, requests_from, row_text, promise_row, all_promises}
+use Rattle.prem_chart.specs.Places.{place, is_inside, task_top, idle_top, bus_top, promise_top}
 use Rattle.prem_chart.specs.Picture.{stop_word, counts_text, head_text, frame_text, rows_text, end_text, sheet_text, sheet_of, chart_text}
 use Rattle.prem_chart.proofs.Taken.{all_taken, taken_text, then_taken, escaped_taken}
 
@@ -325,6 +328,75 @@ releases_keep s k t =
     keeps_append (in_turn (release_shown s k t.name t.period) t.jobs) (deadline_shown s k t.name t.period t.jobs)
     (keeps_turns (release_shown s k t.name t.period) (release_keeps s k t.name t.period) t.jobs) (deadline_keeps s k t.name t.period t.jobs)
 
+-- ---- promises
+
+served_taken : (every : ℕ) (wait : Option ℕ) (around : List Name) → read (Content (titled around)) (served_told every wait) ≡ Content (codes "g" ∷ around)
+unfolding served_told
+served_taken every (Some wait) around = taken_text (Content (titled around)) (served_pieces every wait) (Content (codes "g" ∷ around)) refl
+served_taken every None around = taken_text (Content (titled around)) (late_pieces every) (Content (codes "g" ∷ around)) refl
+
+apart_taken : (y every : ℕ) (around : List Name) → read (Content (codes "text" ∷ codes "g" ∷ around)) (apart_text y every) ≡ Content (codes "g" ∷ around)
+unfolding apart_text
+apart_taken y every around = taken_text (Content (codes "text" ∷ codes "g" ∷ around)) (apart_pieces y every) (Content (codes "g" ∷ around)) refl
+
+within_taken : (y : ℕ) (wait : Option ℕ) (around : List Name) (tag : Name) → read (Content (codes "g" ∷ tag ∷ around)) (within_text y wait) ≡ Content (tag ∷ around)
+unfolding within_text
+within_taken y (Some wait) around tag = taken_text (Content (codes "g" ∷ tag ∷ around)) (within_pieces y wait) (Content (tag ∷ around)) refl
+within_taken y None around tag = taken_text (Content (codes "g" ∷ tag ∷ around)) (unknown_pieces y) (Content (tag ∷ around)) refl
+
+promise_label_keeps : (s : Sheet) (devices : List DeviceRecord) (row : ℕ) (p : Promise) → Keeps (promise_label s devices row p)
+promise_label_keeps s devices row p tag around =
+    let out : List Name = tag ∷ around in
+    let inner : List Name = codes "g" ∷ out in
+    let named : List Name = codes "text" ∷ inner in
+    let name : List ℕ = device_name devices p.device in
+    let base : List ℕ = base_text (promise_top s row + 430) in
+    let within : List ℕ = within_text (promise_top s row + 410) p.wait in
+    let apart : List ℕ = apart_text (promise_top s row + 290) p.every in
+    let start : List ℕ = name_start (promise_top s row + 170) in
+    let served : List ℕ = served_told p.every p.wait in
+    then_taken (Content out) (Content (titled out)) (Content out) (owner_text name) (served ++ (start ++ (escaped name ++ (apart ++ (within ++ base))))) (owner_taken name out)
+    (then_taken (Content (titled out)) (Content inner) (Content out) served (start ++ (escaped name ++ (apart ++ (within ++ base)))) (served_taken p.every p.wait out)
+    (then_taken (Content inner) (Content named) (Content out) start (escaped name ++ (apart ++ (within ++ base))) (name_taken (promise_top s row + 170) inner)
+    (then_taken (Content named) (Content named) (Content out) (escaped name) (apart ++ (within ++ base)) (escaped_taken named name)
+    (then_taken (Content named) (Content inner) (Content out) apart (within ++ base) (apart_taken (promise_top s row + 290) p.every out)
+    (then_taken (Content inner) (Content out) (Content out) within base (within_taken (promise_top s row + 410) p.wait around tag) (base_keeps (promise_top s row + 430) tag around))))))
+
+request_told_keeps : (line wait cycle : ℕ) → Keeps (request_told line wait cycle)
+unfolding request_told
+request_told_keeps line wait cycle = keeps_pieces (request_pieces line wait cycle) (λ tag around. refl)
+
+request_keeps : (s : Sheet) (devices : List DeviceRecord) (row wait level : ℕ) (r : Request) → Keeps (request_shown s devices row wait level r)
+request_keeps s devices row wait level r = shown_keeps s r.cycle wait (request_shape s devices row wait level r) (request_told_keeps r.line wait r.cycle)
+
+keeps_either : (b : Bool) (yes_text no_text : List ℕ) → Keeps yes_text → Keeps no_text → Keeps (cond b yes_text no_text)
+keeps_either true yes_text no_text h k = h
+keeps_either false yes_text no_text h k = k
+
+requests_keep : (s : Sheet) (devices : List DeviceRecord) (cycles row device wait behind level : ℕ) (requests : List Request) →
+    Keeps (requests_from s devices cycles row device wait behind level requests)
+requests_keep s devices cycles row device wait behind level [] = keeps_none
+requests_keep s devices cycles row device wait behind level (r ∷ rs) =
+    let next : ℕ = level_of behind level r.cycle in
+    let shown : List ℕ = request_shown s devices row wait next r in
+    let more : List ℕ = requests_from s devices cycles row device wait (r.cycle + wait) next rs in
+    keeps_either (has_come device cycles r) (shown ++ more) (requests_from s devices cycles row device wait behind level rs)
+    (keeps_append shown more (request_keeps s devices row wait next r) (requests_keep s devices cycles row device wait (r.cycle + wait) next rs))
+    (requests_keep s devices cycles row device wait behind level rs)
+
+row_keeps : (s : Sheet) (devices : List DeviceRecord) (requests : List Request) (cycles row device : ℕ) (wait : Option ℕ) → Keeps (row_text s devices requests cycles row device wait)
+row_keeps s devices requests cycles row device None = keeps_none
+row_keeps s devices requests cycles row device (Some wait) = requests_keep s devices cycles row device wait 0 0 requests
+
+promise_keeps : (s : Sheet) (devices : List DeviceRecord) (requests : List Request) (cycles row : ℕ) (p : Promise) → Keeps (promise_row s devices requests cycles row p)
+promise_keeps s devices requests cycles row p =
+    keeps_append (promise_label s devices row p) (row_text s devices requests cycles row p.device p.wait) (promise_label_keeps s devices row p)
+    (row_keeps s devices requests cycles row p.device p.wait)
+
+all_promises_keep : (s : Sheet) (devices : List DeviceRecord) (requests : List Request) (cycles : ℕ) (promises : List Promise) → Keeps (all_promises s devices requests cycles promises)
+unfolding all_promises
+all_promises_keep s devices requests cycles promises = keeps_each (promise_row s devices requests cycles) (promise_keeps s devices requests cycles) promises
+
 -- ---- axis and head
 
 grid_keeps : (s : Sheet) (x : ℕ) → Keeps (grid_text s x)
@@ -482,17 +554,20 @@ ends_picture : read (Content svg) end_text ≡ After
 unfolding end_text
 ends_picture = refl
 
-sheet_is_well_formed : (s : Sheet) (set : List ℕ) (tasks : List TaskRecord) (devices : List DeviceRecord) (r : Report) (cycles : ℕ) (stop : Stop) (notes : List Note) →
-    IsWellFormed (sheet_text s set tasks devices r cycles stop notes)
-sheet_is_well_formed s set tasks devices r cycles stop notes =
+sheet_is_well_formed : (s : Sheet) (set : List ℕ) (tasks : List TaskRecord) (devices : List DeviceRecord) (r : Report) (cycles : ℕ) (stop : Stop) (notes : List Note)
+    (requests : List Request) (promises : List Promise) → IsWellFormed (sheet_text s set tasks devices r cycles stop notes requests promises)
+sheet_is_well_formed s set tasks devices r cycles stop notes requests promises =
     let frame : List ℕ = frame_text s tasks in
     let rows : List ℕ = rows_text s tasks devices r notes in
     let releases : List ℕ = all_releases s tasks in
-    then_taken Before (Content svg) After (head_text s set devices r cycles stop) (frame ++ (rows ++ (releases ++ end_text))) (head_taken s set devices r cycles stop)
-    (then_taken (Content svg) (Content svg) After frame (rows ++ (releases ++ end_text)) (frame_keeps s tasks (codes "svg") [])
-    (then_taken (Content svg) (Content svg) After rows (releases ++ end_text) (rows_keep s tasks devices r notes (codes "svg") [])
-    (then_taken (Content svg) (Content svg) After releases end_text (all_releases_keep s tasks (codes "svg") []) ends_picture)))
+    let below : List ℕ = all_promises s devices requests cycles promises in
+    then_taken Before (Content svg) After (head_text s set devices r cycles stop) (frame ++ (rows ++ (releases ++ (below ++ end_text)))) (head_taken s set devices r cycles stop)
+    (then_taken (Content svg) (Content svg) After frame (rows ++ (releases ++ (below ++ end_text))) (frame_keeps s tasks (codes "svg") [])
+    (then_taken (Content svg) (Content svg) After rows (releases ++ (below ++ end_text)) (rows_keep s tasks devices r notes (codes "svg") [])
+    (then_taken (Content svg) (Content svg) After releases (below ++ end_text) (all_releases_keep s tasks (codes "svg") [])
+    (then_taken (Content svg) (Content svg) After below end_text (all_promises_keep s devices requests cycles promises (codes "svg") []) ends_picture))))
 
-pub chart_is_well_formed : (v : View) (set : List ℕ) (tasks : List TaskRecord) (devices : List DeviceRecord) (r : Report) (cycles : ℕ) (stop : Stop) (notes : List Note) →
-    IsWellFormed (chart_text v set tasks devices r cycles stop notes)
-chart_is_well_formed v set tasks devices r cycles stop notes = sheet_is_well_formed (sheet_of v tasks devices) set tasks devices r cycles stop notes
+pub chart_is_well_formed : (v : View) (set : List ℕ) (tasks : List TaskRecord) (devices : List DeviceRecord) (r : Report) (cycles : ℕ) (stop : Stop) (notes : List Note)
+    (requests : List Request) (promises : List Promise) → IsWellFormed (chart_text v set tasks devices r cycles stop notes requests promises)
+chart_is_well_formed v set tasks devices r cycles stop notes requests promises =
+    sheet_is_well_formed (sheet_of v tasks devices promises) set tasks devices r cycles stop notes requests promises

@@ -7,6 +7,11 @@ pub mod Bars
 pub mod Shapes
 pub mod Phases
 pub mod Rows
+pub mod Promises
 pub mod Picture
 pub mod Notes
+pub mod Words
+pub mod Asked
+pub mod Keeping
 pub mod Answer
+pub mod Served

@@ -1,12 +1,14 @@
 -- The picture of a run.
 use Rattle.std.specs.Prelude.{ℕ, List, ◌++◌, codes, length}
 use Rattle.std.specs.List.{flat_map}
+use Rattle.prem_gate.specs.declared.request.Request.{Request}
 use Rattle.prem_image.specs.declared.image.TaskRecord.{TaskRecord}
 use Rattle.prem_image.specs.declared.image.DeviceRecord.{DeviceRecord}
 use Rattle.prem_cycle.specs.declared.state.Stop.{Stop}
 use Rattle.prem_cycle.specs.declared.state.Stop.TheVariants.{Finished, Trap, LogFull, Limit}
 use Rattle.prem_cycle.specs.State.{Counts}
 use Rattle.prem_cycle.specs.FactsOf.{Report}
+use Rattle.prem_time.specs.declared.promises.Promise.{Promise}
 use Rattle.prem_chart.specs.declared.view.View.{View}
 use Rattle.prem_chart.specs.declared.view.Sheet.{Sheet}
 use Rattle.prem_chart.specs.declared.note.Note.{Note}
@@ -16,6 +18,7 @@ use Rattle.prem_chart.specs.Bars.{shape_text}
 use Rattle.prem_chart.specs.Shapes.{interval_shapes, transfer_shapes}
 use Rattle.prem_chart.specs.Phases.{windows_text, misses_text}
 use Rattle.prem_chart.specs.Rows.{labels_text, all_releases, device_keys}
+use Rattle.prem_chart.specs.Promises.{all_promises}
 
 abbrev pub stop_word : Stop → List ℕ
 stop_word Finished = codes "finished"
@@ -39,16 +42,18 @@ rows_text s tasks devices r notes =
 unfoldable pub frame_text : Sheet → List TaskRecord → List ℕ
 frame_text s tasks = axis_text s ++ labels_text s tasks
 
-abbrev pub sheet_of : View → List TaskRecord → List DeviceRecord → Sheet
-sheet_of v tasks devices = record { view = v; tasks = length tasks; devices = length devices }
+abbrev pub sheet_of : View → List TaskRecord → List DeviceRecord → List Promise → Sheet
+sheet_of v tasks devices promises = record { view = v; tasks = length tasks; devices = length devices; promised = length promises }
 
 unfoldable pub end_text : List ℕ
 end_text = codes "</svg>\n"
 
-abbrev pub sheet_text : Sheet → List ℕ → List TaskRecord → List DeviceRecord → Report → (cycles : ℕ) → Stop → List Note → List ℕ
-sheet_text s set tasks devices r cycles stop notes =
-    head_text s set devices r cycles stop ++ (frame_text s tasks ++ (rows_text s tasks devices r notes ++ (all_releases s tasks ++ end_text)))
+abbrev pub sheet_text : Sheet → List ℕ → List TaskRecord → List DeviceRecord → Report → (cycles : ℕ) → Stop → List Note → List Request → List Promise → List ℕ
+sheet_text s set tasks devices r cycles stop notes requests promises =
+    head_text s set devices r cycles stop ++ (frame_text s tasks ++ (rows_text s tasks devices r notes ++ (all_releases s tasks
+    ++ (all_promises s devices requests cycles promises ++ end_text))))
 
--- of a run of the set of this name that took so many cycles
-abbrev pub chart_text : View → List ℕ → List TaskRecord → List DeviceRecord → Report → (cycles : ℕ) → Stop → List Note → List ℕ
-chart_text v set tasks devices r cycles stop notes = sheet_text (sheet_of v tasks devices) set tasks devices r cycles stop notes
+-- of a run of the set of this name that took so many cycles, with these requests and what is promised of them
+abbrev pub chart_text : View → List ℕ → List TaskRecord → List DeviceRecord → Report → (cycles : ℕ) → Stop → List Note → List Request → List Promise → List ℕ
+chart_text v set tasks devices r cycles stop notes requests promises =
+    sheet_text (sheet_of v tasks devices promises) set tasks devices r cycles stop notes requests promises

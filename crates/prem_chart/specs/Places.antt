@@ -58,8 +58,12 @@ abbrev pub bus_top : Sheet → ℕ
 bus_top s = rows_top s + 520 * s.tasks + 340
 
 abbrev pub axis_top : Sheet → ℕ
-axis_top s = rows_top s + 520 * s.tasks + 780
+axis_top s = rows_top s + 520 * (s.tasks + s.promised) + 780
+
+-- that of a row for what is promised to a device, between the bus and the axis
+abbrev pub promise_top : Sheet → ℕ → ℕ
+promise_top s row = rows_top s + 520 * s.tasks + 780 + 520 * row
 
 -- all of it
 abbrev pub height_of : Sheet → ℕ
-height_of s = rows_top s + 520 * s.tasks + 1340
+height_of s = rows_top s + 520 * (s.tasks + s.promised) + 1340

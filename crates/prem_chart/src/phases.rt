@@ -14,7 +14,7 @@ use prem_image::TaskRecord;
 use std::alloc::{AllocError, Global};
 
 /// A shape, where one of its cycles is in the window.
-fn push_shown(
+pub(crate) fn push_shown(
     alloc: Global,
     text: &mut Vec<u8>,
     sheet: Sheet,

@@ -11,11 +11,14 @@ use crate::head::{
 };
 use crate::note::Note;
 use crate::phases::{push_misses, push_windows};
+use crate::promises::push_promises;
 use crate::rows::{push_device_keys, push_labels, push_releases};
 use crate::shapes::{push_intervals, push_transfers};
 use crate::view::{Sheet, View};
 use prem_cycle::{Facts, Stop};
+use prem_gate::Request;
 use prem_image::{DeviceRecord, TaskRecord};
+use prem_time::Promise;
 use std::alloc::{AllocError, Global};
 
 /// The word for why a run stopped.
@@ -124,22 +127,36 @@ fn drawn(
     cycles: u64,
     stop: Stop,
     notes: &[Note],
+    requests: &[Request],
+    promises: &[Promise],
 ) -> Result<Vec<u8>, AllocError>
     requires view { IsView view }
     requires tasks { length tasks.now ≤ 65535 }
     requires devices { length devices.now ≤ 65535 }
-    ensures { IfOk result (λ text. text.items ≡ chart_text view set.now tasks.now devices.now (report_in facts.now) cycles stop notes.now) }
+    requires promises { length promises.now ≤ 65535 }
+    ensures { IfOk result (λ text. text.items ≡ chart_text view set.now tasks.now devices.now (report_in facts.now) cycles stop notes.now requests.now promises.now) }
 {
     let sheet = Sheet {
         view,
         tasks: tasks.len() as u16,
         devices: devices.len() as u16,
+        promised: promises.len() as u16,
     };
     let mut text = Vec::new(alloc);
     push_head(alloc, &mut text, sheet, set, devices, facts, cycles, stop)?;
     push_frame(alloc, &mut text, sheet, tasks)?;
     push_rows(alloc, &mut text, sheet, tasks, devices, facts, notes)?;
     push_releases(alloc, &mut text, sheet, tasks, sheet.tasks)?;
+    push_promises(
+        alloc,
+        &mut text,
+        sheet,
+        devices,
+        requests,
+        cycles,
+        promises,
+        sheet.promised,
+    )?;
     push_end(&mut text)?;
     Ok(text)
 }
@@ -147,7 +164,8 @@ fn drawn(
 /// The picture of a run of the set of this name, which took so many cycles: the text of an SVG file. It fails only for want of memory.
 ///
 /// It has one bar for each ended interval and each transfer of which a cycle is in the window, from the place of its first cycle there to
-/// that of the cycle behind its last one there, and no other ones. It is well-formed XML, whatever the names are.
+/// that of the cycle behind its last one there, and no other ones. Below them each promise has a row, in which each request of its device
+/// that has come has such a bar, from its own cycle to its last moment, where there is one. It is well-formed XML, whatever the names are.
 pub fn chart(
     alloc: Global,
     view: View,
@@ -158,13 +176,18 @@ pub fn chart(
     cycles: u64,
     stop: Stop,
     notes: &[Note],
+    requests: &[Request],
+    promises: &[Promise],
 ) -> Result<Vec<u8>, AllocError>
     requires view { IsView view }
     requires tasks { length tasks.now ≤ 65535 }
     requires devices { length devices.now ≤ 65535 }
-    ensures picture { IfOk result (λ text. text.items ≡ chart_text view set.now tasks.now devices.now (report_in facts.now) cycles stop notes.now) }
+    requires promises { length promises.now ≤ 65535 }
+    ensures picture { IfOk result (λ text. text.items ≡ chart_text view set.now tasks.now devices.now (report_in facts.now) cycles stop notes.now requests.now promises.now) }
     ensures well_formed { IfOk result (λ text. IsWellFormed text.items) }
 {
-    let text = drawn(alloc, view, set, tasks, devices, facts, cycles, stop, notes)?;
+    let text = drawn(
+        alloc, view, set, tasks, devices, facts, cycles, stop, notes, requests, promises,
+    )?;
     Ok(text)
 }

@@ -1,6 +1,6 @@
 // Where cycles and rows stand in a picture.
 ghost use Rattle.std.specs.Prelude.{◌≡◌, ◌≤◌, ◌+◌, ◌^◌};
-ghost use Rattle.prem_chart.specs.Places.{IsView, axis_top, bar_of, behind_in, bus_top, height_of, held, idle_top, is_inside, place, rows_top, task_top};
+ghost use Rattle.prem_chart.specs.Places.{IsView, axis_top, bar_of, behind_in, bus_top, height_of, held, idle_top, is_inside, place, promise_top, rows_top, task_top};
 
 use crate::view::{Bar, Look, Sheet, View};
 
@@ -103,17 +103,25 @@ pub(crate) fn bus_top(sheet: Sheet) -> u32
     rows_top(sheet) + 520 * u32::from(sheet.tasks) + 340
 }
 
+/// The upper edge of a row for what is promised to a device.
+pub(crate) fn promise_top(sheet: Sheet, row: u16) -> u32
+    ensures is { result ≡ promise_top sheet row }
+    ensures small { result ≤ 2 ^ 30 }
+{
+    rows_top(sheet) + 520 * u32::from(sheet.tasks) + 780 + 520 * u32::from(row)
+}
+
 /// The upper edge of the axis, below the rows.
 pub(crate) fn axis_top(sheet: Sheet) -> u32
     ensures is { result ≡ axis_top sheet }
     ensures small { result ≤ 2 ^ 30 }
 {
-    rows_top(sheet) + 520 * u32::from(sheet.tasks) + 780
+    rows_top(sheet) + 520 * (u32::from(sheet.tasks) + u32::from(sheet.promised)) + 780
 }
 
 /// The height of the picture.
 pub(crate) fn height_of(sheet: Sheet) -> u32
     ensures { result ≡ height_of sheet }
 {
-    rows_top(sheet) + 520 * u32::from(sheet.tasks) + 1340
+    rows_top(sheet) + 520 * (u32::from(sheet.tasks) + u32::from(sheet.promised)) + 1340
 }

@@ -16,7 +16,7 @@ use std::alloc::{AllocError, Global};
 
 /// A line below the bars of a row.
 #[tactic(auto, unfolding(crate::specs::Rows::base_text))]
-fn base_text(alloc: Global, y: u32) -> Result<String, AllocError>
+pub(crate) fn base_text(alloc: Global, y: u32) -> Result<String, AllocError>
     ensures { IfOk result (λ s. string_bytes s ≡ base_text y) }
 {
     format!(in alloc; "<path class=\"base\" d=\"M1400 {y}h10300\"/>\n")
@@ -32,7 +32,7 @@ fn jobs_told(alloc: Global, period: u32, jobs: u32) -> Result<String, AllocError
 
 /// The beginning of the name of a row.
 #[tactic(auto, unfolding(crate::specs::Rows::name_start))]
-fn name_start(alloc: Global, y: u32) -> Result<String, AllocError>
+pub(crate) fn name_start(alloc: Global, y: u32) -> Result<String, AllocError>
     ensures { IfOk result (λ s. string_bytes s ≡ name_start y) }
 {
     format!(in alloc; "<text class=\"name\" x=\"1250\" y=\"{y}\">")

@@ -26,7 +26,7 @@ pub(crate) fn task_name(tasks: &[TaskRecord], k: usize) -> &str
 }
 
 /// The name of a device, and nothing where there is no such device.
-fn device_name(devices: &[DeviceRecord], k: usize) -> &str
+pub(crate) fn device_name(devices: &[DeviceRecord], k: usize) -> &str
     ensures { result.now ≡ device_name devices.now k }
 {
     match devices.get(k) {

@@ -4,16 +4,14 @@ ghost use Rattle.prem_io.specs.Counts.{Rose};
 ghost use Rattle.prem_answer.specs.Tool.{Answered, IsComplete};
 ghost use Rattle.prem_chart.specs.Answer.{chart_tool};
 
-use crate::answer::Drawing;
+use crate::answer::chart_answer;
+use crate::words::{Parted, asked_of, part_words};
 use prem_answer::{Answer, Halt, Status, Tool, run_tool, usage};
-use prem_command::WordsFail;
-use prem_command::chart::chart_command;
 use prem_io::{Sink, Store};
-use prem_running::tell_files;
 use std::alloc::Global;
 
 /// The usage line.
-const USAGE: &str = "usage: prem_chart SET RUN [--from N] [--to N]\n";
+const USAGE: &str = "usage: prem_chart SET RUN [--from N] [--to N] [--every DEVICE=CYCLES ..]\n";
 
 /// The program.
 struct ChartTool;
@@ -22,21 +20,27 @@ impl Tool for ChartTool {
     ghost meaning = { chart_tool };
 
     fn answer<S: Store>(alloc: Global, words: &[String], store: &mut S) -> Result<Answer, Halt> {
-        match chart_command(alloc, words) {
-            Ok(asked) => {
-                let drawing = Drawing { asked: &asked };
-                tell_files(alloc, &drawing, asked.set, asked.run, store)
-            }
-            Err(WordsFail::Usage) => usage(alloc, USAGE),
-            Err(WordsFail::OutOfMemory) => Err(Halt::OutOfMemory),
+        let Parted {
+            plain,
+            every,
+            behind,
+        } = part_words(alloc, words)?;
+        match asked_of(alloc, &plain, &every, behind)? {
+            Some(asked) => chart_answer(alloc, &asked, store),
+            None => usage(alloc, USAGE),
         }
     }
 }
 
 /// Draws what the words ask for: reads from the store, and writes the whole answer to the sink.
 ///
-/// The stages are the words, the files with their forms, the rules, the run and the writing; the first one that doesn't go through
-/// decides, with the status and the text that `prem run` has for it. The text is built whole before the first write.
+/// The stages are the words, the files with their forms, the rules, the devices that are named, the distances of the run's requests, the
+/// run and the writing; the first one that doesn't go through decides, with the status and the text that `prem run` has for it. The text
+/// is built whole before the first write.
+///
+/// For each device that the words name with a distance, the picture has a row in which each of its requests that has come has a bar, from
+/// its cycle to its last moment, so many cycles later as `prem_time` tells of its wait; and none where that tells no wait, or one in which
+/// more requests come than the queue holds. Without such words nothing of this is looked at.
 pub fn draw<S: Store, K: Sink>(
     alloc: Global,
     words: &[String],

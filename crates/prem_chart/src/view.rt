@@ -7,12 +7,14 @@ pub struct View {
     pub behind: u64,
 }
 
-/// The window of a picture, and how many tasks and devices have their place in it.
+/// The window of a picture, and how many tasks, devices and promises have their place in it.
 #[derive(Clone, Copy, PartialEq, Eq, Debug)]
 pub struct Sheet {
     pub view: View,
     pub tasks: u16,
     pub devices: u16,
+    /// How many devices have a row for what is promised to them.
+    pub promised: u16,
 }
 
 /// What a bar stands for.
