@@ -3,7 +3,6 @@ use Rattle.std.specs.Option.{option_map}
 use Rattle.std.proofs.Common.{◌≡◌, ℕ, ◌+◌, List, [], ◌∷◌, map, refl, ap, sym, ◌∙◌, Option, None, Some}
 use Rattle.prem_syntax.specs.Syntax.{RegionText, MarkText, GlobalVariable, FunctionText, ProgramText, global_item, function_item}
 use Rattle.prem_syntax.specs.Resolved.{Routine}
-use Rattle.prem_syntax.specs.Resolve.{functions_of}
 use Rattle.prem_ranges.specs.GroupThree.{resolved}
 use Rattle.prem_annotating.specs.Reached.{regions_reached}
 use Rattle.prem_annotating.specs.Annotated.{annotated_mark, marked_routines, with_texts, texts_of, all_ranged, annotated}
@@ -46,7 +45,7 @@ annotated_unstated before behind p =
     ∙ ap (λ (ts : List FunctionText). with_texts ts (bare_items p)) (texts_unstated before behind gs fs 0 fs)
     ∙ sym (unstated_is (annotated behind p) ∙ bare_with (texts behind) p)
 
-all_unstated : (before behind : ℕ → ℕ → ℕ) (k : ℕ) (ps : List ProgramText) → map unstated (all_annotated before k ps) ≡ map unstated (all_annotated behind k ps)
+pub all_unstated : (before behind : ℕ → ℕ → ℕ) (k : ℕ) (ps : List ProgramText) → map unstated (all_annotated before k ps) ≡ map unstated (all_annotated behind k ps)
 all_unstated before behind k [] = refl
 all_unstated before behind k (p ∷ ps) = λ i. annotated_unstated (before k) (behind k) p i ∷ all_unstated before behind (k + 1) ps i
 

@@ -13,27 +13,26 @@ use Rattle.prem_isa.specs.Decode.{cost_of}
 use Rattle.prem_syntax.specs.Syntax.{ProgramText}
 use Rattle.prem_syntax.specs.Resolved.{Resolved}
 use Rattle.prem_ranges.specs.GroupThree.{bounded}
-use Rattle.prem_asm.specs.Pieces.{Pieces, no_pieces, straight, repeat, followed, address_code, branch_of, size_of, weight, jump_weight, weighted}
+use Rattle.prem_asm.specs.Pieces.{Pieces, no_pieces, straight, followed, address_code, branch_of, size_of, weight, jump_weight, weighted}
 use Rattle.prem_layout.specs.Plans.{Plan, plans_of}
-use Rattle.prem_layout.specs.Parts.{Passes, once, times, stub_passes, part, stub_size, start_size, code_parts, stub_parts, global_parts, task_parts, Sized, parts_from, area_parts, part_count, element_size}
+use Rattle.prem_layout.specs.Parts.{Passes, once, times, stub_passes, part, stub_size, start_size, code_parts, stub_parts, global_parts, task_parts, parts_from, area_parts, part_count, element_size}
 use Rattle.prem_layout.specs.Footprint.{TaskPlaces, ranges_of, line_count, footprint_of}
-use Rattle.prem_layout.specs.Stubs.{is_below_end, line_code, ranges_code, passes_code, predictable_code, return_code, stub_of}
-use Rattle.prem_layout.specs.Bounds.{CodeTable, part_weight, weight_at, weights_behind, weight_listed, stub_weight, costs_of, path_of, bound_of}
+use Rattle.prem_layout.specs.Stubs.{is_below_end, line_code, ranges_code, return_code, stub_of}
+use Rattle.prem_layout.specs.Bounds.{CodeTable, part_weight, weight_at, weights_behind, weight_listed, stub_weight, path_of}
 use Rattle.prem_layout.specs.Facts.{IntervalFact, interval_facts_from}
 use Rattle.prem_layout.specs.Placed.{Coded, sized_of, parts_of, task_places, Placed, placed_at, placed_from}
-use Rattle.prem_layout.specs.Template.Frames.{stack_size}
 use Rattle.prem_tasks.specs.Broken.{TaskText, coded_one, coded_of}
 use Rattle.prem_annotate_answer.specs.Lengths.{unstated, bounds_in, bounds_at, bounds_of, LengthsFollowNoLength}
 use Rattle.prem_annotate_answer.proofs.Unstated.{bare_program, bounded_bare, codes_bare, stack_bare, bare_plan, plans_bare, count_routines}
 
-abbrev bare_coded : Coded → Coded
+abbrev pub bare_coded : Coded → Coded
 bare_coded c = record c { program = bare_program c.program }
 
 one_coded : (target : Target) (t : TaskText) (p : ProgramText) → coded_one target t (bounded (unstated p)) ≡ bare_coded (coded_one target t (bounded p))
 one_coded target t p =
     ap (coded_one target t) (bounded_bare p) ∙ (λ i. record { name = t.name; period = t.period; jobs = t.jobs; program = bare_program (bounded p); code = codes_bare target (bounded p).routines i })
 
-all_coded : (target : Target) (ts : List TaskText) (ps : List ProgramText) → coded_of target ts (map unstated ps) ≡ map bare_coded (coded_of target ts ps)
+pub all_coded : (target : Target) (ts : List TaskText) (ps : List ProgramText) → coded_of target ts (map unstated ps) ≡ map bare_coded (coded_of target ts ps)
 all_coded target [] ps = refl
 all_coded target (t ∷ ts) [] = refl
 all_coded target (t ∷ ts) (p ∷ ps) = λ i. one_coded target t p i ∷ all_coded target ts ps i
@@ -53,7 +52,7 @@ parts_bare_from : (passes : Passes) (n : ℕ) (cs : List Coded) → parts_from p
 parts_bare_from passes n [] = refl
 parts_bare_from passes n (c ∷ cs) = λ i. task_parts_bare passes n (map size_of c.code) c.program i ++ parts_bare_from passes (n + 1) cs i
 
-parts_bare : (p : Plant) (devices : List Device) (cs : List Coded) → parts_of p devices (map bare_coded cs) ≡ parts_of p devices cs
+pub parts_bare : (p : Plant) (devices : List Device) (cs : List Coded) → parts_of p devices (map bare_coded cs) ≡ parts_of p devices cs
 parts_bare p devices cs = ap (λ (l : List PartSize). l ++ area_parts p.line 0 devices) (parts_bare_from (stub_passes p) 0 cs)
 
 -- ---- places
@@ -61,14 +60,14 @@ parts_bare p devices cs = ap (λ (l : List PartSize). l ++ area_parts p.line 0 d
 plan_count : (p : Resolved) → length (plans_of (bare_program p)) ≡ length (plans_of p)
 plan_count p = ap length (plans_bare p) ∙ length-map (plans_of p) bare_plan
 
-count_bare : (p : Resolved) → part_count (bare_program p) ≡ part_count p
+pub count_bare : (p : Resolved) → part_count (bare_program p) ≡ part_count p
 count_bare p = λ i. 2 + count_routines p i + plan_count p i + length p.globals
 
 marked_bare : (plans : List Plan) → map (λ (plan : Plan). plan.function) (map bare_plan plans) ≡ map (λ (plan : Plan). plan.function) plans
 marked_bare [] = refl
 marked_bare (x ∷ xs) = ap (λ l. x.function ∷ l) (marked_bare xs)
 
-places_bare : (p : Resolved) (places : List Extent) → task_places (bare_program p) places ≡ task_places p places
+pub places_bare : (p : Resolved) (places : List Extent) → task_places (bare_program p) places ≡ task_places p places
 places_bare p places =
     let marked : map (λ (plan : Plan). plan.function) (plans_of (bare_program p)) ≡ map (λ (plan : Plan). plan.function) (plans_of p) = ap (map (λ (plan : Plan). plan.function)) (plans_bare p) ∙ marked_bare (plans_of p) in
     λ i. record { places = take (count_bare p i) places; functions = count_routines p i; marked = marked i; elements = map (λ g. element_size g.ty) p.globals }
@@ -95,10 +94,10 @@ listed_cost passes line at calls [] k = refl
 listed_cost passes line at calls (x ∷ xs) zero = stub_cost passes line at calls x
 listed_cost passes line at calls (x ∷ xs) (suc k) = listed_cost passes line at calls xs k
 
-abbrev table_with : List Pieces → ℕ → List Pieces → CodeTable
+abbrev pub table_with : List Pieces → ℕ → List Pieces → CodeTable
 table_with code job stubs = record { code = code; stubs = stubs; job = job }
 
-path_bare : (passes : Passes) (line : ℕ) (at : TaskPlaces) (code : List Pieces) (job : ℕ) (plans : List Plan) →
+pub path_bare : (passes : Passes) (line : ℕ) (at : TaskPlaces) (code : List Pieces) (job : ℕ) (plans : List Plan) →
     path_of (table_with code job (map (stub_of passes line at) (map bare_plan plans))) ≡ path_of (table_with code job (map (stub_of passes line at) plans))
 path_bare passes line at code job plans =
     let n = length code in

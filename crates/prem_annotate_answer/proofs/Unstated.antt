@@ -1,8 +1,8 @@
 -- A program without its stated lengths has the same code, parts and plans but for these.
-use Rattle.std.specs.Prelude.{slice_get, slice_index, is_some, unwrap_or, max, nat_lt, ◌==◌}
+use Rattle.std.specs.Prelude.{slice_get, slice_index, is_some, max, ◌==◌}
 use Rattle.std.specs.List.{flat_map}
 use Rattle.std.specs.Option.{option_map}
-use Rattle.std.proofs.Common.{◌≡◌, ℕ, zero, suc, ◌+◌, Bool, if◌then◌else◌, List, [], ◌∷◌, ◌++◌, length, map, refl, ap, sym, ◌∙◌, Option, None, Some}
+use Rattle.std.proofs.Common.{◌≡◌, ℕ, zero, suc, ◌+◌, if◌then◌else◌, List, [], ◌∷◌, ◌++◌, length, map, refl, ap, sym, ◌∙◌, Option, None, Some}
 use Rattle.std.proofs.lemmas.List.{length-map}
 use Rattle.prem_plant.specs.declared.plant.Target.{Target}
 use Rattle.prem_syntax.specs.Syntax.{MarkText, GlobalVariable, FunctionText, ProgramText, global_item, function_item}
@@ -13,13 +13,12 @@ use Rattle.prem_syntax.specs.Statements.{is_marked}
 use Rattle.prem_syntax.specs.Source.{unlimited}
 use Rattle.prem_ranges.specs.After.{bounds_in as turns_in}
 use Rattle.prem_ranges.specs.GroupThree.{resolved, turn_bounds, bounded}
-use Rattle.prem_asm.specs.Pieces.{Pieces}
-use Rattle.prem_layout.specs.Template.Frames.{frame_of, frame_if_there, frame_at, depth_if_there, depth_below, depth_of, deepest, deepest_marked, deepest_called, stack_size}
-use Rattle.prem_layout.specs.Template.Parts.{marked_count, marked_before, is_marked_at, code_part, stub_part, global_part, parts_of, codes_of}
+use Rattle.prem_layout.specs.Template.Frames.{frame_at, depth_if_there, depth_below, depth_of, deepest_marked, deepest_called, stack_size}
+use Rattle.prem_layout.specs.Template.Parts.{marked_count, marked_before, is_marked_at, code_part, stub_part, parts_of, codes_of}
 use Rattle.prem_layout.specs.Template.Steps.{Parts, function_code}
 use Rattle.prem_layout.specs.Plans.{Plan, region_of, plan_of, plan_before, plans_from, plans_of}
-use Rattle.prem_annotating.specs.Annotated.{texts_of, with_texts, with_routines}
-use Rattle.prem_annotating.proofs.Kept.{Kept, KeptAll, none_kept, next_kept, with_resolved, resolve_kept}
+use Rattle.prem_annotating.specs.Annotated.{texts_of, with_texts}
+use Rattle.prem_annotating.proofs.Kept.{Kept, KeptAll, none_kept, next_kept, resolve_kept}
 use Rattle.prem_annotate_answer.specs.Lengths.{unstated_mark, unstated_text, unstated}
 
 -- ---- functions

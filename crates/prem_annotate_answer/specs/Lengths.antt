@@ -8,6 +8,7 @@ use Rattle.prem_syntax.specs.Syntax.{MarkText, FunctionText, ProgramText}
 use Rattle.prem_syntax.specs.Resolve.{functions_of}
 use Rattle.prem_layout.specs.Facts.{IntervalFact, interval_facts}
 use Rattle.prem_layout.specs.Placed.{Coded, Placed, parts_of, placed_from}
+use Rattle.prem_place.specs.Verdict.Told.{BoundsTold, told_from}
 use Rattle.prem_annotating.specs.Annotated.{with_texts, annotated}
 use Rattle.prem_tasks.specs.Broken.{TaskText, coded_of}
 
@@ -49,3 +50,9 @@ abbrev pub AnnotatedBoundsStay : Type 0
 AnnotatedBoundsStay =
     (p : Plant) (devices : List Device) (tasks : List TaskText) (ps : List ProgramText) (before behind : ℕ → ℕ → ℕ) →
     bounds_of p devices tasks (all_annotated before 0 ps) ≡ bounds_of p devices tasks (all_annotated behind 0 ps)
+
+-- ---- what is told of bounds
+
+-- of the marked functions of tasks with these programs, and of their jobs, at the default places
+abbrev pub told_by : Plant → List Device → List TaskText → List ProgramText → List BoundsTold
+told_by p devices tasks ps = told_from p 0 (placed_from p (default_places (parts_of p devices (coded_of p.target tasks ps))) (coded_of p.target tasks ps))
