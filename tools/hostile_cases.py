@@ -1,11 +1,11 @@
 #!/usr/bin/env python3
-"""The answers that crates/prem_hostile/stdout has to have, by another model and by hand.
+"""The answers to hostile use that crates/prem_answers/stdout has to end with, by another model and by hand.
 
     hostile_cases.py                 prints them
     hostile_cases.py PROGRAM         gives a built prem the same files and words, as far as no call is made to fail, prints each answer that
                                      differs, and the slowest ones with their seconds
 
-The lines of the files in data build files and ask for answers, as the crate's src says. Answers to `exec` come from machine_model.py; those
+The lines of the files in data build files and ask for answers, as src/hostile of that crate says. Answers to `exec` come from machine_model.py; those
 to broken set files, sources and run files stand below, worked out by hand; those to the marked program are the report of its image.
 """
 import os
@@ -16,7 +16,7 @@ import time
 
 from machine_model import Machine, Refused, read_image, read_run
 
-DATA = os.path.join(os.path.dirname(os.path.abspath(__file__)), "..", "crates", "prem_hostile", "data")
+DATA = os.path.join(os.path.dirname(os.path.abspath(__file__)), "..", "crates", "prem_answers", "data")
 LISTS = ["images.txt", "outside.txt", "rules.txt", "large.txt"]
 STATUS = ["Done", "Refused", "Usage", "Form", "ReadFault", "WriteFault", "OutOfMemory", "Missing", "Trap"]
 IMAGE_LIMIT = 16842752

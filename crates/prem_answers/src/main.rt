@@ -1,5 +1,5 @@
 //! Answers of the programs over stores and sinks in memory: to sources, at limits, to commands whose outside may fail, of
-//! two cores, of the response test, of the times of sets, and in plain words.
+//! two cores, of the response test, of the times of sets, and in plain words; and behind these, answers to hostile use.
 //!
 //! Each answer is a line, with a `$` for each end of a line of what is written. `stdout` has the lines as they were
 //! worked out by hand.
@@ -7,6 +7,7 @@
 
 mod commands;
 mod fits;
+mod hostile;
 mod limits;
 mod lints;
 mod pairs;
@@ -25,5 +26,6 @@ fn main(rt: HostRuntime) -> io::Result<()> {
     fits::tell(&rt, Program::Response, "fits.txt")?;
     fits::tell(&rt, Program::Times, "times.txt")?;
     commands::tell_steady(&rt)?;
-    lints::tell(&rt)
+    lints::tell(&rt)?;
+    hostile::tell(&rt)
 }

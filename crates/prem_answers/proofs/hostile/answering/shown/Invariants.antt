@@ -1,6 +1,6 @@
 use denote.Text.{Utf8}
 use denote.Shadow.{shadow}
-use Rattle.prem_hostile.proofs.answering.shown.Given as goal
+use Rattle.prem_answers.proofs.hostile.answering.shown.Given as goal
 
 -- The line before this one is text.
 abbrev pub invariant-loop-line : goal.invariant-loop-line

@@ -9,7 +9,7 @@
 // The sink takes eight bytes in a call. What is written stands on one line, with a `$` for each end of a line. Equal lines
 // behind each other stand once with their number, and `..` stands behind a last line that has no end.
 
-use crate::building::Built;
+use crate::hostile::building::Built;
 use prem_io::{FileMap, MemorySink, MemoryStore};
 use prem_top::{Status, prem};
 use std::alloc::{AllocError, Global};
