@@ -10,10 +10,10 @@ use Rattle.prem_syntax.specs.Resolve.{loops_within, functions_of, globals_of, re
 use Rattle.prem_syntax.specs.Source.{unlimited}
 use Rattle.prem_syntax.specs.Rules.{Rule, Limit, NoJob}
 use Rattle.prem_syntax.specs.Breaches.{if_broken, is_job_name, regions_of, is_stated, is_length, item_names, reached, in_items, in_limits, breaches}
-use Rattle.prem_syntax.specs.GroupTwo.{group_two, IsWellFormed}
+use Rattle.prem_syntax.specs.ProgramRules.{first_breach, IsWellFormed}
 use Rattle.prem_ranges.specs.RangeRules.{RangeRule, LoopBound, TooLarge, ZeroDivisor, IndexOutside, RegionOutside, ArgRange, RangeBreach, first_of}
 use Rattle.prem_ranges.specs.RangeBreaches.{range_breaches}
-use Rattle.prem_ranges.specs.GroupThree.{resolved, group_three}
+use Rattle.prem_ranges.specs.RangesKept.{resolved, first_range_breach}
 use Rattle.prem_ranges.proofs.Basics.{none_left, none_right}
 use Rattle.prem_ranges.proofs.Named.{none_broken}
 use Rattle.prem_ranges.proofs.WellFormed.{well_formed_is_typed}
@@ -33,11 +33,11 @@ pub at_most : (n : ℕ) → nat_lt 256 n ≡ false → n ≤ 256
 at_most n is = grind (arith, nat_tests)
 
 few : (p : ProgramText) → IsWellFormed p → Few p
-unfolding group_two
+unfolding first_breach
 few p formed =
     let gs = globals_of p in
     let fs = functions_of p in
-    let none : breaches p ≡ [] = none_broken (breaches p) (is_none_tells (group_two p) formed) in
+    let none : breaches p ≡ [] = none_broken (breaches p) (is_none_tells (first_breach p) formed) in
     let job = if_broken (not (list_any (λ (f : FunctionText). is_job_name f.name) fs)) None NoJob in
     let limits : in_limits gs fs ≡ [] = none_left (in_limits gs fs) job (none_left (in_limits gs fs ++ job) (in_items fs (item_names p) (reached fs) 0 [] [] p) none) in
     let one = if_broken (nat_lt 256 (length fs)) None (Limit Functions) in
@@ -69,8 +69,8 @@ widened : (m n : ℕ) (o : Option RangeBreach) → m ≤ 65536 → n ≤ 65536 �
 widened m n None a b h = tt
 widened m n (Some x) a b h = more_named m n x.rule a b h
 
-small_named : (p : ProgramText) → IsWellFormed p → ProgramHasWords p → NamedIf 65536 65536 (group_three p)
-unfolding group_three
+small_named : (p : ProgramText) → IsWellFormed p → ProgramHasWords p → NamedIf 65536 65536 (first_range_breach p)
+unfolding first_range_breach
 small_named p formed words =
     let counts = few p formed in
     let many = as_many (functions_of p) unlimited.turns 0 [] p in
@@ -79,5 +79,5 @@ small_named p formed words =
     widened (length (resolved p).routines) (length (resolved p).globals) (first_of (range_breaches (resolved p))) (omega arith) (omega arith) (program_named (resolved p) (well_formed_is_typed p formed words unlimited.turns))
 
 -- what the first breach of a tree names
-pub told_named : (p : ProgramText) (o : Option RangeBreach) (b : RangeBreach) → IsWellFormed p → ProgramHasWords p → o ≡ group_three p → o ≡ Some b → Named 65536 65536 b.rule
+pub told_named : (p : ProgramText) (o : Option RangeBreach) (b : RangeBreach) → IsWellFormed p → ProgramHasWords p → o ≡ first_range_breach p → o ≡ Some b → Named 65536 65536 b.rule
 told_named p o b formed words found is = subst (λ (x : Option RangeBreach). NamedIf 65536 65536 x) (sym found ∙ is) (small_named p formed words)

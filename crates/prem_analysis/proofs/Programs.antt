@@ -8,7 +8,7 @@ use Rattle.prem_list.specs.Sequence.{items_of}
 use Rattle.prem_syntax.specs.Syntax.{FunctionText, ProgramText}
 use Rattle.prem_syntax.specs.SyntaxOf.{function_of}
 use Rattle.prem_syntax.specs.Literals.{ProgramHasWords}
-use Rattle.prem_syntax.specs.GroupTwo.{IsWellFormed}
+use Rattle.prem_syntax.specs.ProgramRules.{IsWellFormed}
 use Rattle.prem_syntax.specs.Source.{unlimited}
 use Rattle.prem_syntax.specs.Resolved.{Routine, Resolved}
 use Rattle.prem_tree.specs.declared.resolve.resolved.Routine.{Routine as RoutineTree}
@@ -18,7 +18,7 @@ use Rattle.prem_tree.specs.declared.resolve.resolved.Resolved.{Resolved as Resol
 use Rattle.prem_tree.specs.Resolve.ResolvedOf.{resolved_of}
 use Rattle.prem_ranges.specs.After.{known_parameter}
 use Rattle.prem_ranges.specs.Sound.{Ranged}
-use Rattle.prem_ranges.specs.GroupThree.{group_three, turn_bounds}
+use Rattle.prem_ranges.specs.RangesKept.{first_range_breach, turn_bounds}
 use Rattle.prem_ranges.specs.Regions.{Watch}
 use Rattle.prem_ranges.specs.RangeBreaches.{range_breaches}
 use Rattle.prem_ranges.specs.After.{bounds_in}
@@ -94,9 +94,9 @@ all_ranged r p is formed words = record {
 }
 
 -- the first breach and the turn bounds of a tree are those of its program
-pub is_group_three : (r : ResolvedTree) (p : ProgramText) → IsResolved r p → first_of (range_breaches (resolved_of unlimited.turns r)) ≡ group_three p
-unfolding group_three
-is_group_three r p is = ap (λ (x : Resolved). first_of (range_breaches x)) (is.same unlimited.turns)
+pub is_first_range_breach : (r : ResolvedTree) (p : ProgramText) → IsResolved r p → first_of (range_breaches (resolved_of unlimited.turns r)) ≡ first_range_breach p
+unfolding first_range_breach
+is_first_range_breach r p is = ap (λ (x : Resolved). first_of (range_breaches x)) (is.same unlimited.turns)
 
 pub are_turn_bounds : (r : ResolvedTree) (p : ProgramText) → IsResolved r p → flat_map bounds_in (resolved_of unlimited.turns r).routines ≡ turn_bounds p
 unfolding turn_bounds

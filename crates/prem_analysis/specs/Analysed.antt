@@ -6,7 +6,7 @@ use Rattle.prem_syntax.specs.Statements.{ProgramState}
 use Rattle.prem_syntax.specs.Source.{source_within, source}
 use Rattle.prem_tree.specs.declared.checked.Checked.{Checked}
 use Rattle.prem_tree.specs.Checked.{checked_program}
-use Rattle.prem_ranges.specs.GroupThree.{limits_of}
+use Rattle.prem_ranges.specs.RangesKept.{limits_of}
 use Rattle.prem_ranges.specs.Sound.{AreWords}
 use Rattle.prem_analysis.specs.declared.analysed.Analysed.{Analysed}
 

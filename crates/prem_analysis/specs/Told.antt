@@ -8,7 +8,7 @@ use Rattle.prem_syntax.specs.SyntaxOf.{program_of}
 use Rattle.prem_tree.specs.declared.checked.Checked.{Checked}
 use Rattle.prem_tree.specs.Checked.{checked_program}
 use Rattle.prem_ranges.specs.RangeRules.{RangeRule, LoopBound, TooLarge, ZeroDivisor, IndexOutside, RegionOutside, ArgRange, RangeBreach}
-use Rattle.prem_ranges.specs.GroupThree.{group_three, turn_bounds, StaysInRange}
+use Rattle.prem_ranges.specs.RangesKept.{first_range_breach, turn_bounds, StaysInRange}
 use Rattle.prem_analysis.specs.declared.analysed.Analysed.{Analysed}
 use Rattle.prem_analysis.specs.Analysed.{analysed_checked}
 use Rattle.prem_analysis.specs.declared.fail.RangeFail.{RangeFail}
@@ -44,7 +44,7 @@ IsRefusal fail first = said fail ≡ option_map told_of first
 -- an answer is right: the program where it breaks no rule on ranges, else a refusal with the first one
 abbrev pub IsAnswer : Checked → Result Analysed RangeFail → Type 0
 IsAnswer c (Ok a) = (analysed_checked a ≡ c) × StaysInRange (program_of (checked_program c))
-IsAnswer c (Err fail) = IsRefusal fail (group_three (program_of (checked_program c)))
+IsAnswer c (Err fail) = IsRefusal fail (first_range_breach (program_of (checked_program c)))
 
 -- turn bounds are those of a program that breaks no rule on ranges, each a word, or a refusal with the first one
 pub record HasBounds (p : ProgramText) (turns : List ℕ) : Type 0 where
@@ -54,4 +54,4 @@ pub record HasBounds (p : ProgramText) (turns : List ℕ) : Type 0 where
 
 abbrev pub AreBounds : ProgramText → Result (Vec ℕ Global) RangeFail → Type 0
 AreBounds p (Ok turns) = HasBounds p turns.items
-AreBounds p (Err fail) = IsRefusal fail (group_three p)
+AreBounds p (Err fail) = IsRefusal fail (first_range_breach p)

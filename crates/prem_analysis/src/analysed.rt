@@ -2,9 +2,9 @@
 ghost use Rattle.std.specs.Prelude.{◌≡◌};
 ghost use Rattle.prem_syntax.specs.SyntaxOf.{program_of};
 ghost use Rattle.prem_syntax.specs.Literals.{ProgramHasWords};
-ghost use Rattle.prem_syntax.specs.GroupTwo.{IsWellFormed};
+ghost use Rattle.prem_syntax.specs.ProgramRules.{IsWellFormed};
 ghost use Rattle.prem_tree.specs.Checked.{checked_program};
-ghost use Rattle.prem_ranges.specs.GroupThree.{StaysInRange, turn_bounds};
+ghost use Rattle.prem_ranges.specs.RangesKept.{StaysInRange, turn_bounds};
 ghost use Rattle.prem_analysis.specs.Words.{have_words_prop};
 
 use prem_tree::Checked;
@@ -26,9 +26,9 @@ impl Analysed {
     ghost use Rattle.std.specs.Prelude.{◌≡◌, ◌<◌, ◌^◌, All, slice_get};
     ghost use Rattle.prem_syntax.specs.SyntaxOf.{program_of};
     ghost use Rattle.prem_syntax.specs.Literals.{ProgramHasWords};
-    ghost use Rattle.prem_syntax.specs.GroupTwo.{IsWellFormed};
+    ghost use Rattle.prem_syntax.specs.ProgramRules.{IsWellFormed};
     ghost use Rattle.prem_tree.specs.Checked.{checked_program};
-    ghost use Rattle.prem_ranges.specs.GroupThree.{StaysInRange, turn_bounds};
+    ghost use Rattle.prem_ranges.specs.RangesKept.{StaysInRange, turn_bounds};
     ghost use Rattle.prem_analysis.specs.Analysed.{analysed_checked, analysed_text, NeverGoesWrong};
 
     /// A program of which it is known that it breaks no rule, with its turn bounds.

@@ -2,10 +2,10 @@
 ghost use Rattle.std.specs.Prelude.{◌≡◌, IfOk};
 ghost use Rattle.prem_syntax.specs.SyntaxOf.{program_of};
 ghost use Rattle.prem_syntax.specs.Literals.{ProgramHasWords};
-ghost use Rattle.prem_syntax.specs.GroupTwo.{IsWellFormed};
+ghost use Rattle.prem_syntax.specs.ProgramRules.{IsWellFormed};
 ghost use Rattle.prem_tree.specs.Checked.{checked_program};
 ghost use Rattle.prem_tree.specs.Resolve.ResolvedOf.{IsResolved};
-ghost use Rattle.prem_ranges.specs.GroupThree.{group_three, turn_bounds};
+ghost use Rattle.prem_ranges.specs.RangesKept.{first_range_breach, turn_bounds};
 ghost use Rattle.prem_analysis.specs.Ranging.View.{found_of};
 ghost use Rattle.prem_analysis.specs.Told.{AreBounds, IsAnswer};
 
@@ -20,12 +20,12 @@ use prem_tree::{Checked, Program};
 use std::alloc::{AllocError, Global};
 
 /// The first broken rule on ranges of a program whose names resolve so, and its turn bounds.
-#[tactic(auto, using(crate::proofs::Programs::all_ranged, crate::proofs::Programs::is_group_three, crate::proofs::Programs::are_turn_bounds))]
+#[tactic(auto, using(crate::proofs::Programs::all_ranged, crate::proofs::Programs::is_first_range_breach, crate::proofs::Programs::are_turn_bounds))]
 fn see(alloc: Global, p: &Program, r: &Resolved<'_>) -> Result<Seen, AllocError>
     requires formed { IsWellFormed (program_of p.now) }
     requires words { ProgramHasWords (program_of p.now) }
     requires resolved { IsResolved r.now (program_of p.now) }
-    ensures found { IfOk result (λ s. found_of s.found ≡ group_three (program_of p.now)) }
+    ensures found { IfOk result (λ s. found_of s.found ≡ first_range_breach (program_of p.now)) }
     ensures turns { IfOk result (λ s. s.turns.items ≡ turn_bounds (program_of p.now)) }
 {
     let marked = marked_of(alloc, r)?;

@@ -4,7 +4,7 @@ use Rattle.std.specs.Option.{option_map}
 use Rattle.std.proofs.Common.{◌≡◌, ℕ, ◌+◌, List, [], ◌∷◌, map, refl, arith, Option, None, Some}
 use Rattle.prem_syntax.specs.Syntax.{RegionText, MarkText, GlobalVariable}
 use Rattle.prem_syntax.specs.Resolved.{Routine}
-use Rattle.prem_ranges.specs.GroupThree.{resolved}
+use Rattle.prem_ranges.specs.RangesKept.{resolved}
 use Rattle.prem_annotating.specs.Reached.{regions_reached}
 use Rattle.prem_annotating.specs.Annotated.{annotated_mark, marked_routines, texts_of, all_ranged}
 use Rattle.prem_annotate.specs.Ranges.Outlook.{ranges_of}

@@ -1,7 +1,7 @@
 -- A set is annotated exactly where nothing stands against it.
 use Rattle.std.proofs.Common.{◌≡◌, Option, None, Some, refl, ap, ◌∙◌, sym}
 use Rattle.prem_layout.specs.Rules.{or_else, over_tasks}
-use Rattle.prem_tasks.specs.Broken.{TaskSet, group_one, group_two, programs_of, broken}
+use Rattle.prem_tasks.specs.Broken.{TaskSet, text_rules, program_rules, programs_of, broken}
 use Rattle.prem_stages.proofs.Passing.{none_passes}
 use Rattle.prem_compile.specs.Bounding.{unbounded}
 use Rattle.prem_annotate_answer.specs.Written.{Writer, unlengthened, written, other_ranges, unwritten, unranged, unannotated, IsAnnotated}
@@ -16,15 +16,15 @@ then_none (Some r) b e = absurd cc
 
 pub none_stands : (write : Writer) (set new : TaskSet) → IsAnnotated write set new → unannotated write set ≡ None
 none_stands write set new is =
-    none_passes (over_tasks group_one set.tasks) (or_else (over_tasks group_two (programs_of set.tasks)) (unranged write set)) is.texts_are_read
-    ∙ none_passes (over_tasks group_two (programs_of set.tasks)) (unranged write set) is.programs_are_formed
+    none_passes (over_tasks text_rules set.tasks) (or_else (over_tasks program_rules (programs_of set.tasks)) (unranged write set)) is.texts_are_read
+    ∙ none_passes (over_tasks program_rules (programs_of set.tasks)) (unranged write set) is.programs_are_formed
     ∙ none_passes (over_tasks other_ranges (programs_of set.tasks)) (unwritten write set) is.ranges_are_kept
     ∙ none_passes (unbounded (unlengthened write set)) (broken (written write set)) is.has_bounds ∙ ap broken (sym is.written_is) ∙ is.lawful
 
 pub none_is_annotated : (write : Writer) (set : TaskSet) → unannotated write set ≡ None → IsAnnotated write set (written write set)
 none_is_annotated write set none =
-    let one = over_tasks group_one set.tasks in
-    let two = over_tasks group_two (programs_of set.tasks) in
+    let one = over_tasks text_rules set.tasks in
+    let two = over_tasks program_rules (programs_of set.tasks) in
     let three = over_tasks other_ranges (programs_of set.tasks) in
     let from_two = then_none one (or_else two (unranged write set)) none in
     let from_three = then_none two (unranged write set) from_two in

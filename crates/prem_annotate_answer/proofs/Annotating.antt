@@ -3,7 +3,7 @@ use Rattle.std.specs.Option.{option_map}
 use Rattle.std.proofs.Common.{◌≡◌, ℕ, ◌+◌, List, [], ◌∷◌, map, refl, ap, sym, ◌∙◌, Option, None, Some}
 use Rattle.prem_syntax.specs.Syntax.{RegionText, MarkText, GlobalVariable, FunctionText, ProgramText, global_item, function_item}
 use Rattle.prem_syntax.specs.Resolved.{Routine}
-use Rattle.prem_ranges.specs.GroupThree.{resolved}
+use Rattle.prem_ranges.specs.RangesKept.{resolved}
 use Rattle.prem_annotating.specs.Reached.{regions_reached}
 use Rattle.prem_annotating.specs.Annotated.{annotated_mark, marked_routines, with_texts, texts_of, all_ranged, annotated}
 use Rattle.prem_annotate_answer.specs.Lengths.{unstated_mark, unstated_text, unstated, all_annotated, AnnotatedBoundsStay}

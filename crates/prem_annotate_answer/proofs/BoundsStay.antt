@@ -7,7 +7,7 @@ use Rattle.prem_plant.specs.declared.plant.Target.{Target}
 use Rattle.prem_plant.specs.declared.layout.PartSize.{PartSize}
 use Rattle.prem_plant.specs.Places.{Extent, default_places}
 use Rattle.prem_syntax.specs.Syntax.{ProgramText}
-use Rattle.prem_ranges.specs.GroupThree.{bounded}
+use Rattle.prem_ranges.specs.RangesKept.{bounded}
 use Rattle.prem_text.specs.declared.lexing.token.fail.FrontFail.{FrontFail}
 use Rattle.prem_text.specs.Canonical.Unplaced.{unplaced}
 use Rattle.prem_text.proofs.Whole.{text_read}

@@ -3,8 +3,8 @@ use Rattle.std.specs.Prelude.{min, if◌then◌else◌, ◌==◌, IsTrue, is_non
 use Rattle.std.specs.Option.{option_map}
 use Rattle.std.proofs.Common.{◌≡◌, ℕ, ◌+◌, ◌≤◌, Bool, true, false, List, [], ◌∷◌, Option, None, Some, Result, Ok, Err, refl, ap, sym, ◌∙◌, subst, arith}
 use Rattle.prem_syntax.specs.Syntax.{ProgramText}
-use Rattle.prem_syntax.specs.GroupTwo.{IsWellFormed}
-use Rattle.prem_syntax.specs.GroupTwo as meaning
+use Rattle.prem_syntax.specs.ProgramRules.{IsWellFormed}
+use Rattle.prem_syntax.specs.ProgramRules as meaning
 use Rattle.prem_text.specs.declared.lexing.token.fail.FrontFail.{FrontFail}
 use Rattle.prem_text.specs.Lexing.Token.Reading.{◌>>=◌}
 use Rattle.prem_text.specs.Lexing.Token.Lexeme.{Seen}
@@ -14,8 +14,8 @@ use Rattle.prem_text.specs.Texts.{reads}
 use Rattle.prem_text.proofs.Whole.{text_sound}
 use Rattle.prem_text.proofs.ReadWordsLemmas.ProgramWords.{reads_have_words}
 use Rattle.prem_layout.specs.Facts.{IntervalFact}
-use Rattle.prem_layout.specs.Rules.{or_else, refused_by, first_among, over_tasks, group_five}
-use Rattle.prem_tasks.specs.Broken.{TaskText, TaskSet, unread, group_one, group_two, group_three, program_before, programs_of, late_refusal, broken_programs}
+use Rattle.prem_layout.specs.Rules.{or_else, refused_by, first_among, over_tasks, memory_rules}
+use Rattle.prem_tasks.specs.Broken.{TaskText, TaskSet, unread, text_rules, program_rules, range_rules, program_before, programs_of, late_refusal, broken_programs}
 use Rattle.prem_tasks.specs.Compiled.{places_in}
 use Rattle.prem_tasks.specs.At.{code_broken, broken_early}
 use Rattle.prem_compile.specs.Bounding.{unbounded_at, bounds_told}
@@ -64,12 +64,12 @@ has_tokens : (r : Result (List Seen) FrontFail) → unread (r >>= read) ≡ None
 has_tokens (Ok ts) e = (ts, refl)
 has_tokens (Err fail) e = absurd cc
 
-one_task : (lengths : ℕ → ℕ) → ((n : ℕ) → lengths n ≤ 2147483647) → (t : TaskText) (p : ProgramText) → reads t.text ≡ Ok p → group_two p ≡ None → other_ranges p ≡ None → group_one (written_task annotated_text lengths t) ≡ None →
+one_task : (lengths : ℕ → ℕ) → ((n : ℕ) → lengths n ≤ 2147483647) → (t : TaskText) (p : ProgramText) → reads t.text ≡ Ok p → program_rules p ≡ None → other_ranges p ≡ None → text_rules (written_task annotated_text lengths t) ≡ None →
     IsAnnotatedTask lengths t (written_task annotated_text lengths t)
 one_task lengths small t p is two three one =
     let text_is = text_sound t.text p is in
     let words = reads_have_words t.text p is in
-    let none : meaning.group_two p ≡ None = mapped_none _ (meaning.group_two p) two in
+    let none : meaning.first_breach p ≡ None = mapped_none _ (meaning.first_breach p) two in
     let formed : IsWellFormed p = subst (λ o. IsTrue (is_none o)) (sym none) refl in
     let others : first_other p ≡ None = mapped_none _ (first_other p) three in
     let said = annotations_can_be_said lengths t.text p text_is formed others (λ n. wider (lengths n) (small n)) in
@@ -98,31 +98,31 @@ one_task lengths small t p is two three one =
 
 -- ---- tasks, from number k on
 
-all_tasks : (lengths : ℕ → ℕ → ℕ) → ((k n : ℕ) → lengths k n ≤ 2147483647) → (k j : ℕ) (ts : List TaskText) → first_among group_one j ts ≡ None → first_among group_two j (programs_of ts) ≡ None → first_among other_ranges j (programs_of ts) ≡ None →
-    first_among group_one j (written_tasks annotated_text lengths k ts) ≡ None → AreAnnotatedTasks lengths k ts (written_tasks annotated_text lengths k ts)
+all_tasks : (lengths : ℕ → ℕ → ℕ) → ((k n : ℕ) → lengths k n ≤ 2147483647) → (k j : ℕ) (ts : List TaskText) → first_among text_rules j ts ≡ None → first_among program_rules j (programs_of ts) ≡ None → first_among other_ranges j (programs_of ts) ≡ None →
+    first_among text_rules j (written_tasks annotated_text lengths k ts) ≡ None → AreAnnotatedTasks lengths k ts (written_tasks annotated_text lengths k ts)
 all_tasks lengths small k j [] one two three new = tt
 all_tasks lengths small k j (t ∷ ts) one two three new = by (reads t.text) refl (λ o w h n. all_tasks lengths small (k + 1) (j + 1) ts o w h n)
   where
     by : (r : Result ProgramText FrontFail) → reads t.text ≡ r →
-        (first_among group_one (j + 1) ts ≡ None → first_among group_two (j + 1) (programs_of ts) ≡ None → first_among other_ranges (j + 1) (programs_of ts) ≡ None →
-        first_among group_one (j + 1) (written_tasks annotated_text lengths (k + 1) ts) ≡ None → AreAnnotatedTasks lengths (k + 1) ts (written_tasks annotated_text lengths (k + 1) ts)) →
+        (first_among text_rules (j + 1) ts ≡ None → first_among program_rules (j + 1) (programs_of ts) ≡ None → first_among other_ranges (j + 1) (programs_of ts) ≡ None →
+        first_among text_rules (j + 1) (written_tasks annotated_text lengths (k + 1) ts) ≡ None → AreAnnotatedTasks lengths (k + 1) ts (written_tasks annotated_text lengths (k + 1) ts)) →
         AreAnnotatedTasks lengths k (t ∷ ts) (written_tasks annotated_text lengths k (t ∷ ts))
     by (Err fail) is more =
-        let no : unread (reads t.text) ≡ None = told_none (Some j) (group_one t) (first_none (refused_by (Some j) (group_one t)) (first_among group_one (j + 1) ts) one) in
+        let no : unread (reads t.text) ≡ None = told_none (Some j) (text_rules t) (first_none (refused_by (Some j) (text_rules t)) (first_among text_rules (j + 1) ts) one) in
         let bad : unread (Err fail) ≡ None = ap unread (sym is) ∙ no in
         absurd cc
     by (Ok p) is more =
         let all : programs_of (t ∷ ts) ≡ p ∷ programs_of ts = ap (λ (r : Result ProgramText FrontFail). program_before r (programs_of ts)) is in
-        let two' : first_among group_two j (p ∷ programs_of ts) ≡ None = ap (λ (ps : List ProgramText). first_among group_two j ps) (sym all) ∙ two in
+        let two' : first_among program_rules j (p ∷ programs_of ts) ≡ None = ap (λ (ps : List ProgramText). first_among program_rules j ps) (sym all) ∙ two in
         let three' : first_among other_ranges j (p ∷ programs_of ts) ≡ None = ap (λ (ps : List ProgramText). first_among other_ranges j ps) (sym all) ∙ three in
         let head = written_task annotated_text (lengths k) t in
         let rest = written_tasks annotated_text lengths (k + 1) ts in (
-          one_task (lengths k) (small k) t p is (told_none (Some j) (group_two p) (first_none (refused_by (Some j) (group_two p)) (first_among group_two (j + 1) (programs_of ts)) two'))
+          one_task (lengths k) (small k) t p is (told_none (Some j) (program_rules p) (first_none (refused_by (Some j) (program_rules p)) (first_among program_rules (j + 1) (programs_of ts)) two'))
               (told_none (Some j) (other_ranges p) (first_none (refused_by (Some j) (other_ranges p)) (first_among other_ranges (j + 1) (programs_of ts)) three'))
-              (told_none (Some j) (group_one head) (first_none (refused_by (Some j) (group_one head)) (first_among group_one (j + 1) rest) new)),
-          more (then_none (refused_by (Some j) (group_one t)) (first_among group_one (j + 1) ts) one)
-              (then_none (refused_by (Some j) (group_two p)) (first_among group_two (j + 1) (programs_of ts)) two') (then_none (refused_by (Some j) (other_ranges p)) (first_among other_ranges (j + 1) (programs_of ts)) three')
-              (then_none (refused_by (Some j) (group_one head)) (first_among group_one (j + 1) rest) new),
+              (told_none (Some j) (text_rules head) (first_none (refused_by (Some j) (text_rules head)) (first_among text_rules (j + 1) rest) new)),
+          more (then_none (refused_by (Some j) (text_rules t)) (first_among text_rules (j + 1) ts) one)
+              (then_none (refused_by (Some j) (program_rules p)) (first_among program_rules (j + 1) (programs_of ts)) two') (then_none (refused_by (Some j) (other_ranges p)) (first_among other_ranges (j + 1) (programs_of ts)) three')
+              (then_none (refused_by (Some j) (text_rules head)) (first_among text_rules (j + 1) rest) new),
         )
 
 -- ---- the set
@@ -131,13 +131,13 @@ pub sets_are_annotated : SetsAreAnnotated
 sets_are_annotated set new_set is =
     let lengths = lengths_of annotated_text set in
     let tasks_are : new_set.tasks ≡ written_tasks annotated_text lengths 0 set.tasks = ap (λ (s : TaskSet). s.tasks) is.written_is in
-    let one : first_among group_one 0 (written_tasks annotated_text lengths 0 set.tasks) ≡ None =
-    ap (λ (ts : List TaskText). first_among group_one 0 ts) (sym tasks_are) ∙ first_none (first_among group_one 0 new_set.tasks) (broken_programs new_set (programs_of new_set.tasks)) is.lawful in
+    let one : first_among text_rules 0 (written_tasks annotated_text lengths 0 set.tasks) ≡ None =
+    ap (λ (ts : List TaskText). first_among text_rules 0 ts) (sym tasks_are) ∙ first_none (first_among text_rules 0 new_set.tasks) (broken_programs new_set (programs_of new_set.tasks)) is.lawful in
     let all = all_tasks lengths (λ k n. length_small (facts_told (bounds_told (unlengthened annotated_text set)) k) n) 0 0 set.tasks is.texts_are_read is.programs_are_formed is.ranges_are_kept one in
     let first = unlengthened annotated_text set in
-    let early : broken_early first ≡ None = first_none (broken_early first) (or_else (late_refusal (refused_by None (group_five first.plant (places_in first)))) (unbounded_at first (places_in first))) is.has_bounds in
-    let read : first_among group_one 0 first.tasks ≡ None =
-    first_none (over_tasks group_one first.tasks) (or_else (over_tasks group_two (programs_of first.tasks)) (or_else (over_tasks group_three (programs_of first.tasks)) (late_refusal (code_broken first)))) early in
+    let early : broken_early first ≡ None = first_none (broken_early first) (or_else (late_refusal (refused_by None (memory_rules first.plant (places_in first)))) (unbounded_at first (places_in first))) is.has_bounds in
+    let read : first_among text_rules 0 first.tasks ≡ None =
+    first_none (over_tasks text_rules first.tasks) (or_else (over_tasks program_rules (programs_of first.tasks)) (or_else (over_tasks range_rules (programs_of first.tasks)) (late_refusal (code_broken first)))) early in
     let before = all_tasks (λ k. no_lengths) (λ k n. omega arith) 0 0 set.tasks is.texts_are_read is.programs_are_formed is.ranges_are_kept read in
     record {
       tasks = subst (λ (ts : List TaskText). AreAnnotatedTasks lengths 0 set.tasks ts) (sym tasks_are) all;

@@ -7,22 +7,22 @@ use Rattle.prem_tree.specs.declared.checked.Checked.{Checked}
 use Rattle.prem_text.specs.declared.lexing.token.fail.FrontFail.{FrontFail}
 use Rattle.prem_text.specs.Texts.{reads}
 use Rattle.prem_layout.specs.Rules.{or_else, refused_by, first_among, over_tasks}
-use Rattle.prem_tasks.specs.Broken.{TaskText, unread, group_one, program_before, programs_of}
+use Rattle.prem_tasks.specs.Broken.{TaskText, unread, text_rules, program_before, programs_of}
 use Rattle.prem_tasks.specs.SetOf.{task_of}
 use Rattle.prem_tasks.specs.declared.set.TaskText.{TaskText as TaskTree}
 use Rattle.prem_stages.specs.Stages.{checked_text}
 use Rattle.prem_annotate_answer.specs.Steps.{read_of, ok_program, AreReadAs}
 
-read_from : (n : ℕ) (ts : List TaskText) → first_among group_one n ts ≡ None → AreReadAs ts (programs_of ts)
+read_from : (n : ℕ) (ts : List TaskText) → first_among text_rules n ts ≡ None → AreReadAs ts (programs_of ts)
 read_from n [] e = refl
 read_from n (t ∷ ts) e = by (reads t.text) e (read_from (n + 1) ts)
   where
-    by : (read : Result ProgramText FrontFail) → or_else (refused_by (Some n) (unread read)) (first_among group_one (n + 1) ts) ≡ None → (first_among group_one (n + 1) ts ≡ None → AreReadAs ts (programs_of ts)) →
+    by : (read : Result ProgramText FrontFail) → or_else (refused_by (Some n) (unread read)) (first_among text_rules (n + 1) ts) ≡ None → (first_among text_rules (n + 1) ts ≡ None → AreReadAs ts (programs_of ts)) →
         read ∷ map read_of ts ≡ map ok_program (program_before read (programs_of ts))
     by (Ok p) e more = ap (λ (rest : List (Result ProgramText FrontFail)). Ok p ∷ rest) (more e)
     by (Err fail) e more = absurd cc
 
-pub tasks_read : (ts : List TaskText) → over_tasks group_one ts ≡ None → AreReadAs ts (programs_of ts)
+pub tasks_read : (ts : List TaskText) → over_tasks text_rules ts ≡ None → AreReadAs ts (programs_of ts)
 tasks_read ts e = read_from 0 ts e
 
 -- a task's text is read as the program with its number

@@ -7,7 +7,7 @@ use Rattle.prem_text.specs.declared.lexing.token.fail.FrontFail.{FrontFail}
 use Rattle.prem_text.specs.Texts.{reads}
 use Rattle.prem_layout.specs.Rules.{or_else, over_tasks}
 use Rattle.prem_place.specs.Verdict.Told.{BoundsTold}
-use Rattle.prem_tasks.specs.Broken.{TaskText, TaskSet, group_one, group_two, programs_of, broken}
+use Rattle.prem_tasks.specs.Broken.{TaskText, TaskSet, text_rules, program_rules, programs_of, broken}
 use Rattle.prem_tasks.specs.Stops.{Stops}
 use Rattle.prem_tasks.specs.declared.stop.Stop.{Stop}
 use Rattle.prem_stages.specs.Stages.{checked_text}
@@ -61,8 +61,8 @@ noted_last write set programs first notes more told formed are is bounds put =
 
 behind_programs : (write : Writer) (set : TaskSet) (programs : List Checked) → AreFormed set programs → unannotated write set ≡ unranged write set
 behind_programs write set programs formed =
-    none_passes (over_tasks group_one set.tasks) (or_else (over_tasks group_two (programs_of set.tasks)) (unranged write set)) formed.texts_are_read
-    ∙ none_passes (over_tasks group_two (programs_of set.tasks)) (unranged write set) formed.programs_are_formed
+    none_passes (over_tasks text_rules set.tasks) (or_else (over_tasks program_rules (programs_of set.tasks)) (unranged write set)) formed.texts_are_read
+    ∙ none_passes (over_tasks program_rules (programs_of set.tasks)) (unranged write set) formed.programs_are_formed
 
 behind_ranges : (write : Writer) (set : TaskSet) (programs : List Checked) → AreFormed set programs → AreRanged set → unannotated write set ≡ unwritten write set
 behind_ranges write set programs formed ranged =

@@ -12,7 +12,7 @@ use Rattle.prem_isa.specs.declared.instr.Instr.TheVariants.{Jalr, PmMem}
 use Rattle.prem_isa.specs.Decode.{cost_of}
 use Rattle.prem_syntax.specs.Syntax.{ProgramText}
 use Rattle.prem_syntax.specs.Resolved.{Resolved}
-use Rattle.prem_ranges.specs.GroupThree.{bounded}
+use Rattle.prem_ranges.specs.RangesKept.{bounded}
 use Rattle.prem_asm.specs.Pieces.{Pieces, no_pieces, straight, followed, address_code, branch_of, size_of, weight, jump_weight, weighted}
 use Rattle.prem_layout.specs.Plans.{Plan, plans_of}
 use Rattle.prem_layout.specs.Parts.{Passes, once, times, stub_passes, part, stub_size, start_size, code_parts, stub_parts, global_parts, task_parts, parts_from, area_parts, part_count, element_size}

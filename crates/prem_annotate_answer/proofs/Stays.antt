@@ -9,7 +9,7 @@ use Rattle.prem_syntax.specs.Resolve.{functions_of}
 use Rattle.prem_syntax.specs.Source.{unlimited}
 use Rattle.prem_ranges.specs.RangeRules.{RangeBreach, first_of}
 use Rattle.prem_ranges.specs.RangeBreaches.{range_breaches}
-use Rattle.prem_ranges.specs.GroupThree.{resolved, group_three as in_range}
+use Rattle.prem_ranges.specs.RangesKept.{resolved, first_range_breach as in_range}
 use Rattle.prem_ranges.proofs.Basics.{none_first}
 use Rattle.prem_text.specs.declared.lexing.token.fail.FrontFail.{FrontFail}
 use Rattle.prem_text.specs.Texts.{reads}
@@ -24,9 +24,9 @@ use Rattle.prem_annotating.proofs.Kept.{length-kept}
 use Rattle.prem_annotating.proofs.Transformed.{all_annotated_kept, resolved_annotated, annotated_twice}
 use Rattle.prem_annotating.proofs.Annotates.{texts_resolved}
 use Rattle.prem_annotating.proofs.EditingLemmas.Unchanged.{stays_where_same}
-use Rattle.prem_layout.specs.Rules.{LateRule, Refusal, or_else, refused_by, first_among, over_tasks, group_five, group_six, group_seven, group_eight, group_nine, group_ten}
+use Rattle.prem_layout.specs.Rules.{LateRule, Refusal, or_else, refused_by, first_among, over_tasks, memory_rules, reach_rules, conflict_rules, bound_rules, length_rules, log_rules}
 use Rattle.prem_tasks.specs.Told.{Told, of_ranges}
-use Rattle.prem_tasks.specs.Broken.{TaskText, TaskSet, group_one, group_two, range_told, group_three, program_before, programs_of, late_refusal, broken}
+use Rattle.prem_tasks.specs.Broken.{TaskText, TaskSet, text_rules, program_rules, range_told, range_rules, program_before, programs_of, late_refusal, broken}
 use Rattle.prem_tasks.specs.Compiled.{coded_in, places_in}
 use Rattle.prem_tasks.specs.At.{code_broken, placed_by}
 use Rattle.prem_compile.specs.Bounding.{unbounded, bounds_told}
@@ -187,7 +187,7 @@ ranged_back lengths q same =
     let back : all_ranged q ≡ rs = routines_back lengths (resolved q).globals (all_ranged q) 0 rs alike in
     ap (λ (l : List Routine). with_routines l q) back ∙ ap (λ (ts : List FunctionText). with_texts ts q) texts ∙ texts_themselves q
 
-none_other : (q : ProgramText) → ranged q ≡ q → group_three q ≡ None → other_ranges q ≡ None
+none_other : (q : ProgramText) → ranged q ≡ q → range_rules q ≡ None → other_ranges q ≡ None
 unfolding first_other in_range
 none_other q same none =
     let broken : in_range q ≡ None = mapped_none _ (in_range q) none in
@@ -195,7 +195,7 @@ none_other q same none =
     let others : other_breaches q ≡ [] = ap (λ (x : ProgramText). but_regions (range_breaches (resolved x))) same ∙ ap but_regions nothing in
     ap (λ (bs : List RangeBreach). option_map (λ (b : RangeBreach). of_ranges (range_told (resolved q) b.at.line b.rule)) (first_of bs)) others
 
-others_stay : (lengths : ℕ → ℕ → ℕ) (k j : ℕ) (ts us : List TaskText) → AreAnnotatedTasks lengths k ts us → first_among group_three j (programs_of us) ≡ None → first_among other_ranges j (programs_of us) ≡ None
+others_stay : (lengths : ℕ → ℕ → ℕ) (k j : ℕ) (ts us : List TaskText) → AreAnnotatedTasks lengths k ts us → first_among range_rules j (programs_of us) ≡ None → first_among other_ranges j (programs_of us) ≡ None
 others_stay lengths k j [] [] are none = refl
 others_stay lengths k j [] (u ∷ us) are none = absurd are
 others_stay lengths k j (t ∷ ts) [] are none = refl
@@ -203,9 +203,9 @@ others_stay lengths k j (t ∷ ts) (u ∷ us) are none =
     let one = are.0 in
     let q = one.read in
     let all : programs_of (u ∷ us) ≡ q ∷ programs_of us = ap (λ (r : Result ProgramText FrontFail). program_before r (programs_of us)) one.is_read in
-    let none' : first_among group_three j (q ∷ programs_of us) ≡ None = ap (λ (ps : List ProgramText). first_among group_three j ps) (sym all) ∙ none in
-    let head = none_other q (ranged_back (λ n. 0) q (read_stays (lengths k) (λ n. 0) (λ n. nothing_is_less (lengths k n)) one.program q one.tree_is)) (told_none (Some j) (group_three q) (first_none (refused_by (Some j) (group_three q)) (first_among group_three (j + 1) (programs_of us)) none')) in
-    let rest = others_stay lengths (k + 1) (j + 1) ts us are.1 (then_none (refused_by (Some j) (group_three q)) (first_among group_three (j + 1) (programs_of us)) none') in
+    let none' : first_among range_rules j (q ∷ programs_of us) ≡ None = ap (λ (ps : List ProgramText). first_among range_rules j ps) (sym all) ∙ none in
+    let head = none_other q (ranged_back (λ n. 0) q (read_stays (lengths k) (λ n. 0) (λ n. nothing_is_less (lengths k n)) one.program q one.tree_is)) (told_none (Some j) (range_rules q) (first_none (refused_by (Some j) (range_rules q)) (first_among range_rules (j + 1) (programs_of us)) none')) in
+    let rest = others_stay lengths (k + 1) (j + 1) ts us are.1 (then_none (refused_by (Some j) (range_rules q)) (first_among range_rules (j + 1) (programs_of us)) none') in
     ap (λ (ps : List ProgramText). first_among other_ranges j ps) all ∙ ap (λ (o : Option Told). or_else (refused_by (Some j) o) (first_among other_ranges (j + 1) (programs_of us))) head ∙ rest
 
 -- ---- a lawful set has bounds
@@ -215,24 +215,24 @@ late_none None e = refl
 late_none (Some r) e = absurd cc
 
 record Ways (set : TaskSet) : Type 0 where
-  one : over_tasks group_one set.tasks ≡ None
-  two : over_tasks group_two (programs_of set.tasks) ≡ None
-  three : over_tasks group_three (programs_of set.tasks) ≡ None
+  one : over_tasks text_rules set.tasks ≡ None
+  two : over_tasks program_rules (programs_of set.tasks) ≡ None
+  three : over_tasks range_rules (programs_of set.tasks) ≡ None
   bounded_at : unbounded set ≡ None
 
 lawful_ways : (set : TaskSet) → broken set ≡ None → Ways set
 lawful_ways set none =
     let places = places_in set in
     let placed = placed_by set places in
-    let g1 = over_tasks group_one set.tasks in
-    let g2 = over_tasks group_two (programs_of set.tasks) in
-    let g3 = over_tasks group_three (programs_of set.tasks) in
+    let g1 = over_tasks text_rules set.tasks in
+    let g2 = over_tasks program_rules (programs_of set.tasks) in
+    let g3 = over_tasks range_rules (programs_of set.tasks) in
     let g4 = code_broken set in
-    let g5 = refused_by None (group_five set.plant places) in
-    let g6 = over_tasks group_six placed in
-    let g7 = over_tasks (group_seven set.plant) placed in
-    let g8 = over_tasks (group_eight set.plant) placed in
-    let late = or_else (over_tasks (group_nine set.plant) placed) (refused_by None (group_ten (coded_in set))) in
+    let g5 = refused_by None (memory_rules set.plant places) in
+    let g6 = over_tasks reach_rules placed in
+    let g7 = over_tasks (conflict_rules set.plant) placed in
+    let g8 = over_tasks (bound_rules set.plant) placed in
+    let late = or_else (over_tasks (length_rules set.plant) placed) (refused_by None (log_rules (coded_in set))) in
     let from_eight = or_else g8 late in
     let from_seven = or_else g7 from_eight in
     let from_six = or_else g6 from_seven in

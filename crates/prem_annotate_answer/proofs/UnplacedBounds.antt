@@ -8,7 +8,7 @@ use Rattle.prem_plant.specs.declared.layout.PartSize.{PartSize}
 use Rattle.prem_plant.specs.Places.{Extent, default_places}
 use Rattle.prem_syntax.specs.Syntax.{GlobalVariable, ProgramText}
 use Rattle.prem_syntax.specs.Resolved.{Resolved}
-use Rattle.prem_ranges.specs.GroupThree.{bounded}
+use Rattle.prem_ranges.specs.RangesKept.{bounded}
 use Rattle.prem_text.specs.Canonical.Unplaced.{unplaced_global, unplaced}
 use Rattle.prem_asm.specs.Pieces.{size_of}
 use Rattle.prem_layout.specs.Plans.{Plan, plans_of}

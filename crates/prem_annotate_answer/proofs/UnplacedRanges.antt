@@ -14,7 +14,7 @@ use Rattle.prem_syntax.specs.Source.{unlimited}
 use Rattle.prem_ranges.specs.Environment.{any_again, with_range, assigned, Environment, at_local, loosened, joined}
 use Rattle.prem_ranges.specs.RangeOf.{range_of, unary_range, true_operator, cut_by, refined}
 use Rattle.prem_ranges.specs.After.{in_counting, end_of, loop_end, turn_bound, body_range, range_behind, in_body, behind_loop, in_while, behind_call, after, bounds, known_parameter, known_local, declared, at_body, bounds_in}
-use Rattle.prem_ranges.specs.GroupThree.{resolved, turn_bounds, bounded}
+use Rattle.prem_ranges.specs.RangesKept.{resolved, turn_bounds, bounded}
 use Rattle.prem_text.specs.Canonical.Unplaced.{unplaced_parameter, unplaced_local, unplaced}
 use Rattle.prem_annotate_answer.specs.Unplaced.{unplaced_term, unplaced_steps, unplaced_routine, unplaced_routines, unplaced_resolved}
 use Rattle.prem_annotate_answer.proofs.UnplacedNames.{kind_same, resolve_unplaced}

@@ -14,7 +14,7 @@ use Rattle.prem_syntax.specs.Reach.{is_in, callee_table, reach_set}
 use Rattle.prem_ranges.specs.Environment.{any_again, assigned, Environment, at_local, joined}
 use Rattle.prem_ranges.specs.RangeOf.{range_of, refined}
 use Rattle.prem_ranges.specs.After.{loop_end, in_counting, in_body, behind_loop, in_while, behind_call, after, known_parameter, known_local, at_body}
-use Rattle.prem_ranges.specs.GroupThree.{resolved}
+use Rattle.prem_ranges.specs.RangesKept.{resolved}
 use Rattle.prem_text.specs.Grammar.Reader.{nowhere}
 use Rattle.prem_text.specs.Canonical.Unplaced.{unplaced_region, unplaced_mark, unplaced_parameter, unplaced_local, unplaced_global, unplaced_function, unplaced}
 use Rattle.prem_annotating.specs.Seen.{Touch, touch, touched_by, touched_by_all, touched_in, touched_by_locals, touched_by_result, touches_of, KnownCall, known_call, calls_in, calls_of, calls_of_all}

@@ -12,7 +12,7 @@ use Rattle.prem_syntax.specs.Reach.{callees_in, callee_table, reach_of}
 use Rattle.prem_syntax.specs.Statements.{is_marked}
 use Rattle.prem_syntax.specs.Source.{unlimited}
 use Rattle.prem_ranges.specs.After.{bounds_in as turns_in}
-use Rattle.prem_ranges.specs.GroupThree.{resolved, turn_bounds, bounded}
+use Rattle.prem_ranges.specs.RangesKept.{resolved, turn_bounds, bounded}
 use Rattle.prem_layout.specs.Template.Frames.{frame_at, depth_if_there, depth_below, depth_of, deepest_marked, deepest_called, stack_size}
 use Rattle.prem_layout.specs.Template.Parts.{marked_count, marked_before, is_marked_at, code_part, stub_part, parts_of, codes_of}
 use Rattle.prem_layout.specs.Template.Steps.{Parts, function_code}

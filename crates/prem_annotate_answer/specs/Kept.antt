@@ -3,10 +3,10 @@ use Rattle.std.specs.Prelude.{◌≡◌, ⊤, ℕ, ◌+◌, ◌<◌, ◌⊎◌, 
 use Rattle.prem_word.specs.Ranges.{from_to}
 use Rattle.prem_syntax.specs.Syntax.{RegionText, ProgramText}
 use Rattle.prem_syntax.specs.Source.{source}
-use Rattle.prem_syntax.specs.GroupTwo.{IsWellFormed}
+use Rattle.prem_syntax.specs.ProgramRules.{IsWellFormed}
 use Rattle.prem_text.specs.Canonical.Unplaced.{unplaced}
 use Rattle.prem_text.specs.Texts.{reads, IsProgramText}
-use Rattle.prem_ranges.specs.GroupThree.{StaysInRange}
+use Rattle.prem_ranges.specs.RangesKept.{StaysInRange}
 use Rattle.prem_tasks.specs.Broken.{TaskText, TaskSet, broken}
 use Rattle.prem_compile.specs.Bounding.{bounds_told}
 use Rattle.prem_annotating.specs.Annotated.{annotated, first_other}

@@ -6,11 +6,11 @@ use Rattle.prem_syntax.specs.Syntax.{ProgramText}
 use Rattle.prem_text.specs.declared.lexing.token.fail.FrontFail.{FrontFail}
 use Rattle.prem_text.specs.Texts.{reads}
 use Rattle.prem_ranges.specs.RangeRules.{RangeBreach}
-use Rattle.prem_ranges.specs.GroupThree.{resolved}
+use Rattle.prem_ranges.specs.RangesKept.{resolved}
 use Rattle.prem_layout.specs.Facts.{IntervalFact}
 use Rattle.prem_layout.specs.Rules.{Refusal, or_else, over_tasks}
 use Rattle.prem_place.specs.Verdict.Told.{BoundsTold}
-use Rattle.prem_tasks.specs.Broken.{TaskText, TaskSet, group_one, group_two, range_told, programs_of, broken}
+use Rattle.prem_tasks.specs.Broken.{TaskText, TaskSet, text_rules, program_rules, range_told, programs_of, broken}
 use Rattle.prem_tasks.specs.Told.{Told, of_ranges}
 use Rattle.prem_compile.specs.Bounding.{unbounded, bounds_told}
 use Rattle.prem_annotating.specs.Annotated.{first_other}
@@ -99,12 +99,12 @@ unranged write set = or_else (over_tasks other_ranges (programs_of set.tasks)) (
 
 -- first the rules on the texts and programs that stand, then those on ranges of the programs with their new ranges, but for regions
 abbrev pub unannotated : Writer → TaskSet → Option (Refusal Told)
-unannotated write set = or_else (over_tasks group_one set.tasks) (or_else (over_tasks group_two (programs_of set.tasks)) (unranged write set))
+unannotated write set = or_else (over_tasks text_rules set.tasks) (or_else (over_tasks program_rules (programs_of set.tasks)) (unranged write set))
 
 -- what a set is annotated to
 pub record IsAnnotated (write : Writer) (set new_set : TaskSet) : Type 0 where
-  pub texts_are_read : over_tasks group_one set.tasks ≡ None
-  pub programs_are_formed : over_tasks group_two (programs_of set.tasks) ≡ None
+  pub texts_are_read : over_tasks text_rules set.tasks ≡ None
+  pub programs_are_formed : over_tasks program_rules (programs_of set.tasks) ≡ None
   pub ranges_are_kept : over_tasks other_ranges (programs_of set.tasks) ≡ None
   pub has_bounds : unbounded (unlengthened write set) ≡ None
   pub written_is : new_set ≡ written write set

@@ -6,7 +6,7 @@ use Rattle.prem_syntax.specs.Syntax.{Text, Parameter, MarkText, GlobalVariable, 
 use Rattle.prem_syntax.specs.Resolved.{Routine}
 use Rattle.prem_syntax.specs.Resolve.{promoted, resolve_items, functions_of, loops_within}
 use Rattle.prem_syntax.specs.Source.{unlimited}
-use Rattle.prem_ranges.specs.GroupThree.{resolved}
+use Rattle.prem_ranges.specs.RangesKept.{resolved}
 use Rattle.prem_text.specs.Lexing.Token.Lexeme.{Lexeme, name, end_of_text, Seen}
 use Rattle.prem_text.specs.Grammar.Slots.{a_name, right_brace, the_end, is_end}
 use Rattle.prem_text.specs.Grammar.Phrases.{IsRow}

@@ -14,7 +14,7 @@ use Rattle.prem_ranges.specs.Environment.{Known, any_again, assigned, Environmen
 use Rattle.prem_ranges.specs.RangeOf.{range_of, refined}
 use Rattle.prem_ranges.specs.After.{assigns, loop_end, turn_bound, in_counting, body_range, range_behind, in_body, behind_loop, in_while, behind_call, after, stated_or_whole, known_parameter, known_local, declared, at_body}
 use Rattle.prem_ranges.specs.RangeBreaches.{Site, in_term, in_range_of_int, in_turns, in_counting_loop, in_steps, in_arguments, in_scalar, in_element, parameters_of, in_locals, in_result, in_routine}
-use Rattle.prem_ranges.specs.GroupThree.{resolved}
+use Rattle.prem_ranges.specs.RangesKept.{resolved}
 use Rattle.prem_ranges.specs.Sound.{kinds_of, AllTyped, TypedSteps, TypedLocals, TypedRoutine, Ranged, none_ranged, next_ranged}
 use Rattle.prem_ranges.proofs.Basics.{none_left, none_right, unbroken, is_not_below, none_first}
 use Rattle.prem_ranges.proofs.Environments.{kinds-at_local, kinds-loosened, kinds-joined}

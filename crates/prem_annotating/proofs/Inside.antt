@@ -15,13 +15,13 @@ use Rattle.prem_syntax.specs.Resolved.{Term, Constant, Local, Scalar, Element, U
 use Rattle.prem_syntax.specs.Resolve.{kind_of, promoted}
 use Rattle.prem_syntax.specs.Reach.{callee_table, reach_set}
 use Rattle.prem_syntax.specs.Source.{unlimited}
-use Rattle.prem_syntax.specs.GroupTwo.{IsWellFormed}
+use Rattle.prem_syntax.specs.ProgramRules.{IsWellFormed}
 use Rattle.prem_ranges.specs.Environment.{Known, any_again, assigned, Environment, at_local, joined}
 use Rattle.prem_ranges.specs.RangeOf.{range_of, refined}
 use Rattle.prem_ranges.specs.After.{assigns, loop_end, turn_bound, in_counting, body_range, range_behind, in_body, behind_loop, in_while, behind_call, after, known_parameter, known_local, declared, at_body}
 use Rattle.prem_ranges.specs.RangeBreaches.{Site, length_of, in_watches, in_index, in_divisor, in_argument, in_term, in_range_of_int, in_turns, in_counting_loop, in_steps, in_arguments, in_scalar, in_element, parameters_of, in_locals, in_result, in_routine}
 use Rattle.prem_ranges.specs.RangeRules.{IndexOutside}
-use Rattle.prem_ranges.specs.GroupThree.{resolved}
+use Rattle.prem_ranges.specs.RangesKept.{resolved}
 use Rattle.prem_ranges.specs.Sound.{kinds_of, Typed, TypedResult, AllTyped, TypedSteps, TypedLocals, TypedRoutine, Ranged}
 use Rattle.prem_ranges.proofs.Basics.{none_left, none_right, unbroken, unbroken_not, is_at_most, is_not_below, none_first}
 use Rattle.prem_ranges.proofs.Environments.{kinds-at_local, kinds-loosened, kinds-joined}

@@ -8,7 +8,7 @@ use Rattle.prem_word.specs.declared.kind.Kind.TheVariants.{Int, Unsigned}
 use Rattle.prem_word.specs.Ranges.{from_to, IsRange}
 use Rattle.prem_syntax.specs.Syntax.{Text, Parameter, RegionText, MarkText, GlobalVariable, FunctionText, ProgramText, global_item, function_item}
 use Rattle.prem_syntax.specs.Literals.{ProgramHasWords}
-use Rattle.prem_syntax.specs.GroupTwo.{IsWellFormed}
+use Rattle.prem_syntax.specs.ProgramRules.{IsWellFormed}
 use Rattle.prem_syntax.specs.Resolved.{Routine, Resolved}
 use Rattle.prem_syntax.specs.Resolve.{promoted, globals_of, functions_of}
 use Rattle.prem_syntax.specs.Source.{unlimited}
@@ -22,7 +22,7 @@ use Rattle.prem_text.proofs.CanonicalLemmas.Sayable.{IsSayable, AreSayable, AreS
 use Rattle.prem_text.proofs.CanonicalLemmas.ItemsSaid.{items_said}
 use Rattle.prem_text.proofs.ReadWordsLemmas.ProgramWords.{reads_have_words}
 use Rattle.prem_text.proofs.Whole.{text_read}
-use Rattle.prem_ranges.specs.GroupThree.{resolved}
+use Rattle.prem_ranges.specs.RangesKept.{resolved}
 use Rattle.prem_ranges.specs.RangeBreaches.{parameters_of}
 use Rattle.prem_annotating.specs.Lists.{Each}
 use Rattle.prem_annotating.specs.Inferred.{ranged_routines}

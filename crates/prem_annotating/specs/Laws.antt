@@ -8,8 +8,8 @@ use Rattle.prem_syntax.specs.Literals.{ProgramHasWords}
 use Rattle.prem_syntax.specs.Resolved.{Routine}
 use Rattle.prem_syntax.specs.Resolve.{promoted, globals_of}
 use Rattle.prem_syntax.specs.Source.{source}
-use Rattle.prem_syntax.specs.GroupTwo.{IsWellFormed}
-use Rattle.prem_ranges.specs.GroupThree.{resolved, StaysInRange}
+use Rattle.prem_syntax.specs.ProgramRules.{IsWellFormed}
+use Rattle.prem_ranges.specs.RangesKept.{resolved, StaysInRange}
 use Rattle.prem_ranges.specs.RangeRules.{RangeBreach}
 use Rattle.prem_ranges.specs.RangeBreaches.{parameters_of, in_routine, range_breaches}
 use Rattle.prem_annotating.specs.Lists.{Among}

@@ -1,7 +1,7 @@
 -- That a text can say the annotations of its program.
 use Rattle.std.specs.Prelude.{◌≡◌, ℕ, ◌≤◌, List, None}
 use Rattle.prem_syntax.specs.Syntax.{ProgramText}
-use Rattle.prem_syntax.specs.GroupTwo.{IsWellFormed}
+use Rattle.prem_syntax.specs.ProgramRules.{IsWellFormed}
 use Rattle.prem_text.specs.Texts.{IsProgramText}
 use Rattle.prem_annotating.specs.Annotated.{texts_of, all_annotated, first_other}
 use Rattle.prem_annotating.specs.Phrases.{CanBeSaid}

@@ -7,7 +7,7 @@ use Rattle.prem_syntax.specs.declared.rules.Count.{Count}
 use Rattle.prem_syntax.specs.declared.rules.Count.TheVariants.{Functions, Globals, Parameters, Regions, Length, Stated}
 use Rattle.prem_syntax.specs.Syntax.{GlobalVariable, FunctionText, ProgramText}
 use Rattle.prem_syntax.specs.Resolve.{globals_of, functions_of}
-use Rattle.prem_syntax.specs.GroupTwo.{group_two}
+use Rattle.prem_syntax.specs.ProgramRules.{first_breach}
 use Rattle.prem_syntax.specs.Order.{less, key_of}
 use Rattle.prem_syntax.specs.Rules.{Limit, NoJob, Breach, rank, first, first_of}
 use Rattle.prem_syntax.specs.Breaches.{if_broken, is_length, is_stated, regions_of, is_job_name, item_names, reached, in_limits, in_items}
@@ -67,9 +67,9 @@ without_job fs = if_broken (not (list_any (λ (f : FunctionText). is_job_name f.
 abbrev pub among_items : List FunctionText → ProgramText → List Breach
 among_items fs p = in_items fs (item_names p) (reached fs) 0 [] [] p
 
-group_two_is : (p : ProgramText) → group_two p ≡ first (first (first_of (limits p)) (first_of (without_job (functions_of p)))) (first_of (among_items (functions_of p) p))
-unfolding group_two
-group_two_is p =
+first_breach_is : (p : ProgramText) → first_breach p ≡ first (first (first_of (limits p)) (first_of (without_job (functions_of p)))) (first_of (among_items (functions_of p) p))
+unfolding first_breach
+first_breach_is p =
     first_of_append (limits p ++ without_job (functions_of p)) (among_items (functions_of p) p)
     ∙ ap (λ o. first o (first_of (among_items (functions_of p) p))) (first_of_append (limits p) (without_job (functions_of p)))
 
@@ -82,18 +82,18 @@ none_is None e = refl
 none_is (Some b) e = ap (λ t. if t then Some b else None) e
 
 -- a limit is the first breach
-pub past_limit : (p : ProgramText) (limit : Option Broken) → found_of limit ≡ first_of (limits p) → is_some limit ≡ true → found_of limit ≡ group_two p
+pub past_limit : (p : ProgramText) (limit : Option Broken) → found_of limit ≡ first_of (limits p) → is_some limit ≡ true → found_of limit ≡ first_breach p
 past_limit p limit is t =
     let some : is_some (first_of (limits p)) ≡ true = ap is_some (sym is) ∙ some_found limit ∙ t in
     let j = first_of (without_job (functions_of p)) in
     let i = first_of (among_items (functions_of p) p) in
     is
-    ∙ sym (group_two_is p ∙ ap (λ o. first o i) (limits_stay (globals_of p) (functions_of p) j some) ∙ limits_stay (globals_of p) (functions_of p) i some)
+    ∙ sym (first_breach_is p ∙ ap (λ o. first o i) (limits_stay (globals_of p) (functions_of p) j some) ∙ limits_stay (globals_of p) (functions_of p) i some)
 
 -- within the limits the rest decides
 pub within_limits : (p : ProgramText) (limit : Option Broken) (job items all : Option Breach) → found_of limit ≡ first_of (limits p) → is_some limit ≡ false →
-    job ≡ first_of (without_job (functions_of p)) → items ≡ first_of (among_items (functions_of p) p) → all ≡ first job items → all ≡ group_two p
+    job ≡ first_of (without_job (functions_of p)) → items ≡ first_of (among_items (functions_of p) p) → all ≡ first job items → all ≡ first_breach p
 within_limits p limit job items all is none is_job is_items is_all =
     let no : first_of (limits p) ≡ None = none_is (first_of (limits p)) (ap is_some (sym is) ∙ some_found limit ∙ none) in
     is_all ∙ ap (λ o. first o items) is_job ∙ ap (first (first_of (without_job (functions_of p)))) is_items
-    ∙ sym (group_two_is p ∙ ap (λ o. first (first o (first_of (without_job (functions_of p)))) (first_of (among_items (functions_of p) p))) no)
+    ∙ sym (first_breach_is p ∙ ap (λ o. first (first o (first_of (without_job (functions_of p)))) (first_of (among_items (functions_of p) p))) no)

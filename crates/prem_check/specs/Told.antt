@@ -6,7 +6,7 @@ use Rattle.prem_syntax.specs.declared.tree.Program.{Program}
 use Rattle.prem_syntax.specs.Name.{name_bytes}
 use Rattle.prem_syntax.specs.SyntaxOf.{program_of}
 use Rattle.prem_syntax.specs.Rules.{Rule, Limit, NoJob, Unknown, Twice, OfTypes, CallOrder, MarkedCall, SystemCall, LoopForm, Breach}
-use Rattle.prem_syntax.specs.GroupTwo.{IsWellFormed, group_two}
+use Rattle.prem_syntax.specs.ProgramRules.{IsWellFormed, first_breach}
 use Rattle.prem_tree.specs.declared.checked.Checked.{Checked}
 use Rattle.prem_tree.specs.Checked.{checked_program}
 use Rattle.prem_check.specs.declared.fail.CheckFail.{CheckFail}
@@ -48,4 +48,4 @@ IsRefusal fail first = said fail ≡ option_map told_of first
 -- an answer is right: the program where it breaks no rule, else a refusal with the first one
 abbrev pub IsAnswer : Program → Result Checked CheckFail → Type 0
 IsAnswer p (Ok c) = (checked_program c ≡ p) × IsWellFormed (program_of p)
-IsAnswer p (Err fail) = IsRefusal fail (group_two (program_of p))
+IsAnswer p (Err fail) = IsRefusal fail (first_breach (program_of p))

@@ -2,7 +2,7 @@
 ghost use Rattle.std.specs.Prelude.{◌≡◌, Some, IsNone, IfSome, IfOk};
 ghost use Rattle.std.specs.Option.{option_map};
 ghost use Rattle.prem_syntax.specs.SyntaxOf.{program_of};
-ghost use Rattle.prem_syntax.specs.GroupTwo.{IsWellFormed, group_two};
+ghost use Rattle.prem_syntax.specs.ProgramRules.{IsWellFormed, first_breach};
 ghost use Rattle.prem_check.specs.FoundOf.{breach_of, rule_of};
 ghost use Rattle.prem_check.specs.Told.{at_line, told_of, said, IsAnswer};
 
@@ -48,7 +48,7 @@ fn told(alloc: Global, broken: Broken) -> Result<CheckFail, AllocError>
 /// What is told of the first broken rule of a program, if one is broken.
 fn refusal(alloc: Global, p: &Program) -> Result<Option<CheckFail>, AllocError>
     ensures none { IfOk result (λ fail. IsNone fail → IsWellFormed (program_of p.now)) }
-    ensures some { IfOk result (λ fail. IfSome fail (λ fail. said fail ≡ option_map told_of (group_two (program_of p.now)))) }
+    ensures some { IfOk result (λ fail. IfSome fail (λ fail. said fail ≡ option_map told_of (first_breach (program_of p.now)))) }
 {
     match first_broken(alloc, p)? {
         Some(broken) => Ok(Some(told(alloc, broken)?)),

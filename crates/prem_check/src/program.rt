@@ -8,7 +8,7 @@ ghost use Rattle.prem_syntax.specs.Resolve.{globals_of, functions_of};
 ghost use Rattle.prem_syntax.specs.Rules.{first, first_of};
 ghost use Rattle.prem_syntax.specs.Breaches.{in_global, in_function, item_name, item_names, in_items, reached};
 ghost use Rattle.prem_syntax.specs.Reach.{is_in_set};
-ghost use Rattle.prem_syntax.specs.GroupTwo.{group_two};
+ghost use Rattle.prem_syntax.specs.ProgramRules.{first_breach};
 ghost use Rattle.prem_check.specs.FoundOf.{found_of};
 ghost use Rattle.prem_check.specs.Walk.{functions_in, globals_in, before_in, first_behind, BehindGlobal, BehindFunction};
 
@@ -156,7 +156,7 @@ fn in_items<'a>(
 
 /// The first broken rule of a program. Where it is past a limit, nothing else is looked at.
 pub fn first_broken<'a>(alloc: Allocator, p: &'a Program) -> Result<Option<Broken<'a>>, AllocError>
-    ensures { IfOk result (λ found. found_of found ≡ group_two (program_of p.now)) }
+    ensures { IfOk result (λ found. found_of found ≡ first_breach (program_of p.now)) }
 {
     let items = p.items.items();
     let functions = functions_of(alloc, items)?;

@@ -13,7 +13,7 @@ use Rattle.prem_layout.specs.Plans.{Region, Plan, plans_of}
 use Rattle.prem_layout.specs.Parts.{element_size, part, part_count}
 use Rattle.prem_layout.specs.Footprint.{TaskPlaces, Conflict, place_at, index_of, code_range, stub_range, stack_place, stack_range, region_range, ranges_of, lines_of, conflict_of}
 use Rattle.prem_layout.specs.Placed.{Coded, task_places, placed_at, placed_from, part_total, name_at}
-use Rattle.prem_layout.specs.Rules.{or_else, of_conflict, conflict_in, first_conflict, group_seven}
+use Rattle.prem_layout.specs.Rules.{or_else, of_conflict, conflict_in, first_conflict, conflict_rules}
 use Rattle.prem_layout.proofs.TaskParts.{place_in}
 use Rattle.prem_color.specs.Offsets.{PartRange, range_in, range_before, placed_ranges, has_room, all_have_room}
 use Rattle.prem_color.specs.Wants.{Want, Shape, shape_of, size_at, whole, code_number, stub_number, global_number, stack_number, stack_want, element_at, region_want, plan_ranges, plan_want, task_wants, wants_from}
@@ -167,16 +167,16 @@ module _ (p : Plant) (parts : List PartSize) (places : List Extent) (sizes : Hav
       ap (λ o. or_else o (first_conflict p (placed_at p c place_in) plans)) here ∙ plans_fit c task first there plans h.1 a.1
 
   tasks_fit : (tasks : List Coded) (task first : ℕ) → first + part_total tasks ≤ length places → TasksStand parts first tasks → all_have_room p (ranges_list (wants_from parts task first tasks)) places ≡ true →
-      AllByRecursion (λ t. group_seven p t ≡ None) (placed_from p (drop first places) tasks)
+      AllByRecursion (λ t. conflict_rules p t ≡ None) (placed_from p (drop first places) tasks)
   tasks_fit [] task first le h e = tt
   tasks_fit (c ∷ cs) task first le h e =
       let test : List PartRange → Bool = λ ranges. has_room p (placed_ranges places ranges) in
       let mine : List Want = task_wants parts task first c.program in
       let more : List Want = wants_from parts (task + 1) (first + part_count c.program) cs in
       let both = split_all test (ranges_list mine) (ranges_list more) (ap (list_all test) (sym (ranges_append mine more)) ∙ e) in
-      let next : AllByRecursion (λ t. group_seven p t ≡ None) (placed_from p (drop (first + part_count c.program) places) cs) = tasks_fit cs (task + 1) (first + part_count c.program) (omega (arith, le)) h.1 both.1 in (
+      let next : AllByRecursion (λ t. conflict_rules p t ≡ None) (placed_from p (drop (first + part_count c.program) places) cs) = tasks_fit cs (task + 1) (first + part_count c.program) (omega (arith, le)) h.1 both.1 in (
         plans_fit c task first (omega (arith, le)) (plans_of c.program) h.0 both.0,
-        subst (λ (ps : List Extent). AllByRecursion (λ t. group_seven p t ≡ None) (placed_from p ps cs)) (drop_more first (part_count c.program) places) next,
+        subst (λ (ps : List Extent). AllByRecursion (λ t. conflict_rules p t ≡ None) (placed_from p ps cs)) (drop_more first (part_count c.program) places) next,
       )
     where
       drop_nil : (n : ℕ) → drop {A = Extent} n [] ≡ []

@@ -7,7 +7,7 @@ use Rattle.prem_plant.specs.Ranges.{IsPlant}
 use Rattle.prem_plant.specs.declared.layout.PartSize.{PartSize}
 use Rattle.prem_plant.specs.Places.{Extent, ArePlaces, HasWholeAreas, AreLawful, last_end}
 use Rattle.prem_layout.specs.Placed.{Coded, parts_of, placed_from, part_total}
-use Rattle.prem_layout.specs.Rules.{group_seven}
+use Rattle.prem_layout.specs.Rules.{conflict_rules}
 use Rattle.prem_color.specs.Wants.{wants_of, ranges_of}
 use Rattle.prem_color.specs.Standing.{TasksStand}
 use Rattle.prem_color.specs.Offsets.{PartRange, all_have_room, moved_places}
@@ -39,7 +39,7 @@ MovedPlacesHaveRoom =
 abbrev pub WantsLeaveNoConflict : Type 0
 WantsLeaveNoConflict =
     (p : Plant) (memory : ℕ) (parts : List PartSize) (places : List Extent) (tasks : List Coded) → ArePlaces memory parts places → part_total tasks ≤ length parts → TasksStand parts 0 tasks →
-    all_have_room p (ranges_of (wants_of parts tasks)) places ≡ true → AllByRecursion (λ t. group_seven p t ≡ None) (placed_from p places tasks)
+    all_have_room p (ranges_of (wants_of parts tasks)) places ≡ true → AllByRecursion (λ t. conflict_rules p t ≡ None) (placed_from p places tasks)
 
 -- a whole line is a multiple of the alignment of each part of a set
 abbrev pub PartsAlignLines : Type 0

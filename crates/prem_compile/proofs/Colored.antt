@@ -11,7 +11,7 @@ use Rattle.prem_asm.specs.Pieces.{size_of}
 use Rattle.prem_layout.specs.Template.Parts.{parts_of as code_parts_of}
 use Rattle.prem_layout.specs.Parts.{Passes, stub_passes, task_parts, parts_from, area_parts, part_count}
 use Rattle.prem_layout.specs.Placed.{Coded, Placed, sized_of, parts_of, placed_from, part_total}
-use Rattle.prem_layout.specs.Rules.{LateRule, or_else, refused_by, first_among, over_tasks, group_seven}
+use Rattle.prem_layout.specs.Rules.{LateRule, or_else, refused_by, first_among, over_tasks, conflict_rules}
 use Rattle.prem_layout.proofs.Lawful.{parts_may_be_placed}
 use Rattle.prem_layout.proofs.TaskParts.{parts_counted}
 use Rattle.prem_prefetch.specs.Sizes.Sizes.{AreCodesOf}
@@ -52,7 +52,7 @@ tasks_counted passes n (p ∷ ps) (c ∷ cs) h =
     ∙ ap (λ k. part_count c.program + k) (tasks_counted passes (n + 1) ps cs h.1)
 
 no_conflict : (p : Plant) (devices : List Device) (ps : List ProgramText) (cs : List Coded) (places : List Extent) → AreCodesOf ps cs → TasksStand (parts_of p devices cs) 0 cs → ArePlaces p.memory (parts_of p devices cs) places →
-    moved_places p (ranges_of (wants_of (parts_of p devices cs) cs)) (parts_of p devices cs) ≡ Ok places → over_tasks (group_seven p) (placed_from p places cs) ≡ None
+    moved_places p (ranges_of (wants_of (parts_of p devices cs) cs)) (parts_of p devices cs) ≡ Ok places → over_tasks (conflict_rules p) (placed_from p places cs) ≡ None
 no_conflict p devices ps [] places codes stand are moved = refl
 no_conflict p devices ps (c ∷ cs) places codes stand are moved =
     let all : List PartSize = parts_of p devices (c ∷ cs) in
@@ -60,7 +60,7 @@ no_conflict p devices ps (c ∷ cs) places codes stand are moved =
     let count : length mine ≡ part_total (c ∷ cs) = tasks_counted (stub_passes p) 0 ps (c ∷ cs) codes in
     let whole : length all ≡ length mine + length (area_parts p.line 0 devices) = length-append mine (area_parts p.line 0 devices) in
     let some : 0 < length all = omega (arith, whole, count) in
-    none_over (group_seven p) 0 (placed_from p places (c ∷ cs))
+    none_over (conflict_rules p) 0 (placed_from p places (c ∷ cs))
     (wants_leave_no_conflict p p.memory all places (c ∷ cs) are (omega (arith, whole, count)) stand (moved_places_have_room p (ranges_of (wants_of all (c ∷ cs))) all places some moved))
 
 pub colors_leave_no_conflict : ColorsLeaveNoConflict

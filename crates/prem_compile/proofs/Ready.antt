@@ -15,7 +15,7 @@ use Rattle.prem_plant.specs.Ranges.{Between, IsPlant}
 use Rattle.prem_image.specs.Text.{image_text}
 use Rattle.prem_syntax.specs.Syntax.{ProgramText}
 use Rattle.prem_syntax.specs.Name.{name_bytes}
-use Rattle.prem_ranges.specs.GroupThree.{bounded}
+use Rattle.prem_ranges.specs.RangesKept.{bounded}
 use Rattle.prem_layout.specs.Bounds.{JobBound, limit_of}
 use Rattle.prem_layout.specs.Image.{image_of}
 use Rattle.prem_layout.specs.Placed.{Coded, Placed, parts_of, placed_from}

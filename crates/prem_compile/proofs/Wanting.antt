@@ -9,7 +9,7 @@ use Rattle.std.proofs.lemmas.Nat.{mul-le}
 use Rattle.prem_plant.specs.declared.layout.PartSize.{PartSize}
 use Rattle.prem_plant.specs.declared.layout.PartKind.TheVariants.{Global, Stack}
 use Rattle.prem_syntax.specs.Syntax.{GlobalVariable, ProgramText}
-use Rattle.prem_syntax.specs.GroupTwo.{IsWellFormed}
+use Rattle.prem_syntax.specs.ProgramRules.{IsWellFormed}
 use Rattle.prem_syntax.specs.Resolve.{resolve}
 use Rattle.prem_syntax.specs.Resolved.{Resolved}
 use Rattle.prem_ranges.specs.RangeBreaches.{length_of}

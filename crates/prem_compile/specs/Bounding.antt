@@ -4,7 +4,7 @@ use Rattle.std.specs.Global.{Global}
 use Rattle.prem_plant.specs.declared.plant.Plant.{Plant}
 use Rattle.prem_plant.specs.Places.{Extent}
 use Rattle.prem_layout.specs.Placed.{Placed}
-use Rattle.prem_layout.specs.Rules.{LateRule, Refusal, or_else, refused_by, over_tasks, group_five, group_six, group_seven, group_eight}
+use Rattle.prem_layout.specs.Rules.{LateRule, Refusal, or_else, refused_by, over_tasks, memory_rules, reach_rules, conflict_rules, bound_rules}
 use Rattle.prem_place.specs.declared.verdict.told.TaskBounds.{TaskBounds}
 use Rattle.prem_place.specs.Verdict.Told.{BoundsTold, bounds_of, told_from}
 use Rattle.prem_tasks.specs.Broken.{TaskSet, late_refusal}
@@ -17,14 +17,14 @@ use Rattle.prem_tasks.specs.declared.stop.Stop.{Stop}
 -- ---- the rules up to bounds
 
 abbrev pub broken_up_to_bounds : Plant → List Placed → Option (Refusal LateRule)
-broken_up_to_bounds p placed = or_else (over_tasks (group_seven p) placed) (over_tasks (group_eight p) placed)
+broken_up_to_bounds p placed = or_else (over_tasks (conflict_rules p) placed) (over_tasks (bound_rules p) placed)
 
 abbrev pub unbounded_at : TaskSet → List Extent → Option (Refusal Told)
-unbounded_at set places = late_refusal (or_else (over_tasks group_six (placed_by set places)) (broken_up_to_bounds set.plant (placed_by set places)))
+unbounded_at set places = late_refusal (or_else (over_tasks reach_rules (placed_by set places)) (broken_up_to_bounds set.plant (placed_by set places)))
 
 -- those of a set at the default places
 abbrev pub unbounded : TaskSet → Option (Refusal Told)
-unbounded set = or_else (broken_early set) (or_else (late_refusal (refused_by None (group_five set.plant (places_in set)))) (unbounded_at set (places_in set)))
+unbounded set = or_else (broken_early set) (or_else (late_refusal (refused_by None (memory_rules set.plant (places_in set)))) (unbounded_at set (places_in set)))
 
 -- ---- the bounds
 

@@ -2,7 +2,7 @@
 use Rattle.std.specs.Prelude.{◌≡◌, ◌≤◌, List, None, Ok}
 use Rattle.prem_plant.specs.Places.{Extent, last_end}
 use Rattle.prem_plant.specs.Ranges.{IsPlant}
-use Rattle.prem_layout.specs.Rules.{over_tasks, group_seven}
+use Rattle.prem_layout.specs.Rules.{over_tasks, conflict_rules}
 use Rattle.prem_color.specs.Offsets.{moved_places}
 use Rattle.prem_tasks.specs.Broken.{TaskSet}
 use Rattle.prem_tasks.specs.Compiled.{parts_in}
@@ -21,4 +21,4 @@ ColorsAreLawful = (set : TaskSet) (places : List Extent) → AreColored set plac
 
 -- and there no marked function of a set that breaks no rule up to code generation asks a set of the cache for more lines than it has ways
 abbrev pub ColorsLeaveNoConflict : Type 0
-ColorsLeaveNoConflict = (set : TaskSet) (places : List Extent) → broken_early set ≡ None → AreColored set places → over_tasks (group_seven set.plant) (placed_by set places) ≡ None
+ColorsLeaveNoConflict = (set : TaskSet) (places : List Extent) → broken_early set ≡ None → AreColored set places → over_tasks (conflict_rules set.plant) (placed_by set places) ≡ None

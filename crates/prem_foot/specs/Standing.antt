@@ -5,7 +5,7 @@ use Rattle.prem_plant.specs.Places.{Extent}
 use Rattle.prem_plant.specs.declared.layout.PartSize.{PartSize}
 use Rattle.prem_syntax.specs.Syntax.{ProgramText}
 use Rattle.prem_syntax.specs.Resolve.{resolve}
-use Rattle.prem_syntax.specs.GroupTwo.{IsWellFormed}
+use Rattle.prem_syntax.specs.ProgramRules.{IsWellFormed}
 use Rattle.prem_layout.specs.Plans.{plans_of}
 use Rattle.prem_layout.specs.Parts.{Passes, task_parts}
 use Rattle.prem_layout.specs.Placed.{task_places}

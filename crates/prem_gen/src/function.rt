@@ -5,7 +5,7 @@ ghost use Rattle.prem_syntax.specs.SyntaxOf.{program_of};
 ghost use Rattle.prem_syntax.specs.Resolve.{functions_of};
 ghost use Rattle.prem_tree.specs.Checked.{checked_program};
 ghost use Rattle.prem_tree.specs.Resolve.ResolvedOf.{IsResolved};
-ghost use Rattle.prem_ranges.specs.GroupThree.{bounded, turn_bounds};
+ghost use Rattle.prem_ranges.specs.RangesKept.{bounded, turn_bounds};
 ghost use Rattle.prem_analysis.specs.Analysed.{analysed_text};
 ghost use Rattle.prem_asm.specs.PiecesOf.{pieces_of};
 ghost use Rattle.prem_layout.specs.Template.Limits.{excess};

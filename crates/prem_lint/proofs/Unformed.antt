@@ -3,7 +3,7 @@ use Rattle.std.specs.Option.{option_map}
 use Rattle.std.proofs.Common.{◌≡◌, ◌≢◌, Option, None, Some, refl, sym}
 use Rattle.prem_syntax.specs.Syntax.{ProgramText}
 use Rattle.prem_syntax.specs.Rules.{Breach}
-use Rattle.prem_syntax.specs.GroupTwo.{group_two}
+use Rattle.prem_syntax.specs.ProgramRules.{first_breach}
 use Rattle.prem_check.specs.Told.{IsRefusal, Told, told_of}
 use Rattle.prem_check.specs.declared.fail.CheckFail.{CheckFail}
 use Rattle.prem_check.specs.declared.fail.CheckFail.TheVariants as f
@@ -13,15 +13,15 @@ found : (p : ProgramText) (first : Option Breach) (told : Told) → Some told �
 found p None told e = absurd cc
 found p (Some b) told e = refl
 
-pub no_place : (p : ProgramText) (fail : CheckFail) → fail ≢ f.OutOfMemory → IsRefusal fail (group_two p) → None ≡ program_place p
+pub no_place : (p : ProgramText) (fail : CheckFail) → fail ≢ f.OutOfMemory → IsRefusal fail (first_breach p) → None ≡ program_place p
 unfolding program_place
-no_place p (f.Limit which) other is = sym (found p (group_two p) _ is)
-no_place p f.NoJob other is = sym (found p (group_two p) _ is)
-no_place p (f.Unknown line name) other is = sym (found p (group_two p) _ is)
-no_place p (f.Twice line name) other is = sym (found p (group_two p) _ is)
-no_place p (f.TypeRule line rule) other is = sym (found p (group_two p) _ is)
-no_place p (f.CallOrder line) other is = sym (found p (group_two p) _ is)
-no_place p (f.MarkedCall line) other is = sym (found p (group_two p) _ is)
-no_place p (f.SystemCall line) other is = sym (found p (group_two p) _ is)
-no_place p (f.LoopForm line) other is = sym (found p (group_two p) _ is)
+no_place p (f.Limit which) other is = sym (found p (first_breach p) _ is)
+no_place p f.NoJob other is = sym (found p (first_breach p) _ is)
+no_place p (f.Unknown line name) other is = sym (found p (first_breach p) _ is)
+no_place p (f.Twice line name) other is = sym (found p (first_breach p) _ is)
+no_place p (f.TypeRule line rule) other is = sym (found p (first_breach p) _ is)
+no_place p (f.CallOrder line) other is = sym (found p (first_breach p) _ is)
+no_place p (f.MarkedCall line) other is = sym (found p (first_breach p) _ is)
+no_place p (f.SystemCall line) other is = sym (found p (first_breach p) _ is)
+no_place p (f.LoopForm line) other is = sym (found p (first_breach p) _ is)
 no_place p f.OutOfMemory other is = absurd (other refl)

@@ -5,12 +5,12 @@ use Rattle.std.specs.Str.{bytes_eq}
 use Rattle.prem_syntax.specs.declared.tree.Place.{Place}
 use Rattle.prem_syntax.specs.Syntax.{Text, ItemText, ProgramText, global_item, function_item}
 use Rattle.prem_syntax.specs.Rules.{Breach}
-use Rattle.prem_syntax.specs.GroupTwo.{group_two}
+use Rattle.prem_syntax.specs.ProgramRules.{first_breach}
 use Rattle.prem_text.specs.declared.lexing.token.fail.FrontFail.{FrontFail}
 use Rattle.prem_text.specs.declared.lexing.token.fail.FrontFail.TheVariants.{TooLong, NotText, Token, Syntax, TooDeep, OutOfMemory}
 use Rattle.prem_text.specs.Texts.{reads}
 use Rattle.prem_ranges.specs.RangeRules.{RangeBreach}
-use Rattle.prem_ranges.specs.GroupThree.{group_three}
+use Rattle.prem_ranges.specs.RangesKept.{first_range_breach}
 use Rattle.prem_layout.specs.Rules.{LateRule, or_else, Depth, Frame, MemoryFull, Reach, ConflictIn, BoundTooLarge, Length, Outputs, Intervals}
 use Rattle.prem_tasks.specs.Told.{RangeTold, loop_bound, too_large, zero_divisor, index_outside, region_outside, arg_range, Told, of_text, of_program, of_ranges, of_code}
 use Rattle.prem_lint.specs.declared.spot.Spot.{Spot}
@@ -44,11 +44,11 @@ function_spot name text = function_spot_in name (reads text)
 
 -- the place of the first broken rule on ranges, where no rule of well-formed programs is broken
 abbrev pub breach_place : Option Breach → ProgramText → Option Place
-breach_place None p = option_map (λ (b : RangeBreach). b.at) (group_three p)
+breach_place None p = option_map (λ (b : RangeBreach). b.at) (first_range_breach p)
 breach_place (Some b) p = None
 
 unfoldable pub program_place : ProgramText → Option Place
-program_place p = breach_place (group_two p) p
+program_place p = breach_place (first_breach p) p
 
 abbrev pub range_place_in : Result ProgramText FrontFail → Option Place
 range_place_in (Err fail) = None

@@ -4,9 +4,9 @@ ghost use Rattle.std.specs.Option.{option_map};
 ghost use Rattle.prem_syntax.specs.Name.{name_bytes};
 ghost use Rattle.prem_syntax.specs.SyntaxOf.{item_of, program_of};
 ghost use Rattle.prem_syntax.specs.Literals.{ProgramHasWords};
-ghost use Rattle.prem_syntax.specs.GroupTwo.{IsWellFormed};
+ghost use Rattle.prem_syntax.specs.ProgramRules.{IsWellFormed};
 ghost use Rattle.prem_tree.specs.Checked.{checked_program};
-ghost use Rattle.prem_ranges.specs.GroupThree.{group_three};
+ghost use Rattle.prem_ranges.specs.RangesKept.{first_range_breach};
 ghost use Rattle.prem_tasks.specs.Told.{told_of};
 ghost use Rattle.prem_lint.specs.Places.{function_spot, item_place, named_place, program_place, range_place, range_spot, spot_at, spot_of};
 
@@ -79,11 +79,11 @@ fn function_spot(alloc: Global, name: &[u8], text: &[u8]) -> Result<Spot, AllocE
 }
 
 /// The place of the first broken rule on ranges of a well-formed program.
-#[tactic(auto, using(prem_analysis::proofs::Programs::all_ranged, prem_analysis::proofs::Programs::is_group_three))]
+#[tactic(auto, using(prem_analysis::proofs::Programs::all_ranged, prem_analysis::proofs::Programs::is_first_range_breach))]
 fn breach_place(alloc: Global, p: &Program) -> Result<Option<Place>, AllocError>
     requires formed { IsWellFormed (program_of p.now) }
     requires words { ProgramHasWords (program_of p.now) }
-    ensures { IfOk result (λ at. at ≡ option_map (λ b. b.at) (group_three (program_of p.now))) }
+    ensures { IfOk result (λ at. at ≡ option_map (λ b. b.at) (first_range_breach (program_of p.now))) }
 {
     let r = resolve(alloc, p)?;
     let marked = marked_of(alloc, &r)?;

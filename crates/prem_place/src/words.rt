@@ -2,7 +2,7 @@
 ghost use Rattle.std.specs.Prelude.{◌≡◌, ◌<◌, ◌≤◌, [], IfOk, MatchResult, None, map, length, slice_index_or};
 ghost use Rattle.std.specs.List.{AllByRecursion};
 ghost use Rattle.prem_layout.specs.Placed.{blocks_of, name_at};
-ghost use Rattle.prem_layout.specs.Rules.{group_six};
+ghost use Rattle.prem_layout.specs.Rules.{reach_rules};
 ghost use Rattle.prem_place.specs.Content.Blocks.{block_of};
 ghost use Rattle.prem_place.specs.Flat.Blocks.{names_in, words_of};
 ghost use Rattle.prem_place.specs.Placed.PlacedOf.{placed_of};
@@ -71,7 +71,7 @@ fn starts(alloc: Global, t: &PlacedTask) -> Result<Vec<u32>, AllocError>
 fn task_words(alloc: Global, t: &PlacedTask) -> Result<Vec<Block>, FlatFail>
     requires { stands_in t.now }
     ensures words { IfOk result (λ blocks. map block_of blocks.items ≡ map words_of (blocks_of (placed_of t.now))) }
-    ensures far { MatchResult result (λ _. group_six (placed_of t.now) ≡ None) (IsFarIn (placed_of t.now)) }
+    ensures far { MatchResult result (λ _. reach_rules (placed_of t.now) ≡ None) (IsFarIn (placed_of t.now)) }
 {
     match starts(alloc, t) {
         Ok(starts) => flatten_parts(

@@ -16,7 +16,7 @@ use Rattle.prem_syntax.specs.Syntax.{ProgramText}
 use Rattle.prem_syntax.specs.Resolved.{Routine, Resolved}
 use Rattle.prem_syntax.specs.Reach.{IsAmong, callees_in as called_in}
 use Rattle.prem_syntax.specs.Source.{calls_below, everywhere}
-use Rattle.prem_ranges.specs.GroupThree.{limits_of}
+use Rattle.prem_ranges.specs.RangesKept.{limits_of}
 use Rattle.prem_sound.specs.Script.Script.{lines_of_dids}
 use Rattle.prem_asm.specs.Pieces.{weighted}
 use Rattle.prem_asm.specs.Runs.{Setting, Ending, Falls, Returns, Stuck, run}

@@ -6,7 +6,7 @@ use Rattle.std.proofs.lemmas.Bool.{and_from}
 use Rattle.prem_isa.specs.declared.effect.Phase.TheVariants.{Compatible}
 use Rattle.prem_syntax.specs.Resolved.{Routine}
 use Rattle.prem_syntax.specs.Reach.{IsAmong, callees_in as called_in}
-use Rattle.prem_ranges.specs.GroupThree.{limits_of}
+use Rattle.prem_ranges.specs.RangesKept.{limits_of}
 use Rattle.prem_asm.specs.Runs.{Stuck, run}
 use Rattle.prem_layout.specs.Template.Parts.{parts_of, is_marked_at}
 use Rattle.prem_layout.specs.Template.Steps.{function_code}

@@ -7,11 +7,11 @@ use Rattle.prem_image.specs.declared.image.TaskRecord.{TaskRecord}
 use Rattle.prem_cycle.specs.Inputs.{image_setup}
 use Rattle.prem_sound.specs.Sound.{Sound}
 use Rattle.prem_sound.specs.Limits.{jobs_limit}
-use Rattle.prem_syntax.specs.GroupTwo.{group_two}
+use Rattle.prem_syntax.specs.ProgramRules.{first_breach}
 use Rattle.prem_text.specs.Lexing.Tokens.{tokens_of, lex, step, start, first_token}
 use Rattle.prem_text.specs.Lexing.Spelling.{reserved_word, used_word, is_unused, longest_mark}
 use Rattle.prem_text.specs.Lexing.Literal.{literal_word}
-use Rattle.prem_ranges.specs.GroupThree.{group_three, turn_bounds}
+use Rattle.prem_ranges.specs.RangesKept.{first_range_breach, turn_bounds}
 use Rattle.prem_layout.specs.Placed.{Placed}
 use Rattle.prem_tasks.specs.Compiled.{places_in}
 use Rattle.prem_tasks.specs.At.{placed_by, compiled_at}
@@ -30,25 +30,25 @@ sample_goes_by_wcet : Sound (rule_of sample.plant.policy) (image_setup (compiled
 sample_goes_by_wcet = sets_go_by_wcet sample (places_in sample) sample_values (default_places_are_lawful sample sample_values sample_breaks_nothing) (default_is_at sample sample_breaks_nothing)
 
 pub sample_periods : map (λ (t : TaskRecord). t.period) (image_setup (compiled_at sample (places_in sample)).image).tasks ≡ 20000 ∷ 50000 ∷ []
-unfolding tokens_of lex step start first_token reserved_word used_word is_unused longest_mark literal_word group_two group_three turn_bounds
+unfolding tokens_of lex step start first_token reserved_word used_word is_unused longest_mark literal_word first_breach first_range_breach turn_bounds
 sample_periods = refl
 
 -- ---- numbers: by the rule a job of the first task takes 2610 cycles, and one of the second 295
 
 pub sample_wcets : map (task_wcet default_plant) (placed_by sample (places_in sample)) ≡ 2370 ∷ 115 ∷ []
-unfolding tokens_of lex step start first_token reserved_word used_word is_unused longest_mark literal_word group_two group_three turn_bounds
+unfolding tokens_of lex step start first_token reserved_word used_word is_unused longest_mark literal_word first_breach first_range_breach turn_bounds
 sample_wcets = refl
 
 pub sample_stretches : map (task_stretch default_plant) (placed_by sample (places_in sample)) ≡ 2000 ∷ 95 ∷ []
-unfolding tokens_of lex step start first_token reserved_word used_word is_unused longest_mark literal_word group_two group_three turn_bounds
+unfolding tokens_of lex step start first_token reserved_word used_word is_unused longest_mark literal_word first_breach first_range_breach turn_bounds
 sample_stretches = refl
 
 -- its marked function opens the bus within 473 of the 2000 cycles that it states
 pub sample_opens : map (λ (t : Placed). map (opens_of default_plant t.at) t.plans) (placed_by sample (places_in sample)) ≡ (473 ∷ []) ∷ [] ∷ []
-unfolding tokens_of lex step start first_token reserved_word used_word is_unused longest_mark literal_word group_two group_three turn_bounds
+unfolding tokens_of lex step start first_token reserved_word used_word is_unused longest_mark literal_word first_breach first_range_breach turn_bounds
 sample_opens = refl
 
 -- so a transfer of 60 cycles may start 533 cycles behind the interval's first one, where 903 is 2370 - 2000 + 533
 pub sample_closed : map (task_closed default_plant 60) (placed_by sample (places_in sample)) ≡ 903 ∷ 115 ∷ []
-unfolding tokens_of lex step start first_token reserved_word used_word is_unused longest_mark literal_word group_two group_three turn_bounds
+unfolding tokens_of lex step start first_token reserved_word used_word is_unused longest_mark literal_word first_breach first_range_breach turn_bounds
 sample_closed = refl

@@ -12,7 +12,7 @@ use Rattle.prem_syntax.specs.Syntax.{ProgramText}
 use Rattle.prem_syntax.specs.Resolved.{Routine, Resolved}
 use Rattle.prem_syntax.specs.Statements.{enter}
 use Rattle.prem_syntax.specs.Source.{calls_below, enter_if_there, everywhere}
-use Rattle.prem_ranges.specs.GroupThree.{limits_of}
+use Rattle.prem_ranges.specs.RangesKept.{limits_of}
 use Rattle.prem_asm.specs.Pieces.{jump_weight}
 use Rattle.prem_asm.specs.Runs.{Setting, linked}
 use Rattle.prem_layout.specs.Parts.{pass_count, stub_passes}

@@ -9,7 +9,7 @@ use Rattle.prem_syntax.specs.Syntax.{ProgramText}
 use Rattle.prem_syntax.specs.Resolved.{Routine}
 use Rattle.prem_syntax.specs.Statements.{ProgramState}
 use Rattle.prem_syntax.specs.Source.{calls_below, everywhere}
-use Rattle.prem_ranges.specs.GroupThree.{limits_of}
+use Rattle.prem_ranges.specs.RangesKept.{limits_of}
 use Rattle.prem_layout.specs.Parts.{pass_count, stub_passes, start_part}
 use Rattle.prem_layout.specs.Placed.{Coded, Placed}
 use Rattle.prem_layout.specs.Plans.{Plan}

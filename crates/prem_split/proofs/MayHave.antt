@@ -10,7 +10,7 @@ use Rattle.prem_syntax.specs.Syntax.{ProgramText}
 use Rattle.prem_syntax.specs.SyntaxOf.{global_of, function_of}
 use Rattle.prem_syntax.specs.Rules.{Limit, Breach, first_of}
 use Rattle.prem_syntax.specs.Breaches.{if_broken}
-use Rattle.prem_syntax.specs.GroupTwo.{group_two, IsWellFormed}
+use Rattle.prem_syntax.specs.ProgramRules.{first_breach, IsWellFormed}
 use Rattle.prem_syntax.specs.Resolved.{Resolved}
 use Rattle.prem_syntax.specs.Resolve.{globals_of, resolve}
 use Rattle.prem_syntax.specs.Source.{unlimited}
@@ -38,7 +38,7 @@ second_unbroken true false b c d e f g none =
     absurd (let e : true ≡ false = sym none ∙ broken in cc)
 
 few_globals : (p : ProgramText) → IsWellFormed p → length (globals_of p) ≤ 256
-unfolding group_two
+unfolding first_breach
 few_globals p well =
     let unbroken : ltb 256 (length (globals_of p)) ≡ false = second_unbroken (ltb 256 (length (globals_of p))) _ _ _ _ _ _ _ well in
     grind (arith, nat_tests)

@@ -1,7 +1,7 @@
 // The fourth group of rules: the programs of all tasks get their code.
 ghost use Rattle.std.specs.Prelude.{◌≡◌, ◌≤◌, ◌<◌, Some, IfOk, length, map};
 ghost use Rattle.prem_tree.specs.Resolve.ResolvedOf.{IsResolved};
-ghost use Rattle.prem_ranges.specs.GroupThree.{bounded, turn_bounds};
+ghost use Rattle.prem_ranges.specs.RangesKept.{bounded, turn_bounds};
 ghost use Rattle.prem_layout.specs.Template.Limits.{excess};
 ghost use Rattle.prem_layout.specs.Rules.{refused_by, over_tasks};
 ghost use Rattle.prem_gen.specs.Term.Excess.{Exceeds};

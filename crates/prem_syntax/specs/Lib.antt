@@ -13,4 +13,4 @@ pub mod Reach
 pub mod Assigned
 pub mod Rules
 pub mod Breaches
-pub mod GroupTwo
+pub mod ProgramRules

@@ -3,25 +3,25 @@ use Rattle.std.specs.Prelude.{List, map, Option}
 use Rattle.prem_plant.specs.Places.{Extent, AreLawful}
 use Rattle.prem_layout.specs.Bounds.{JobBound, limit_of}
 use Rattle.prem_layout.specs.Placed.{Coded, Placed, placed_from}
-use Rattle.prem_layout.specs.Rules.{LateRule, Refusal, or_else, over_tasks, group_four}
+use Rattle.prem_layout.specs.Rules.{LateRule, Refusal, or_else, over_tasks, code_rules}
 use Rattle.prem_layout.specs.Broken.{broken_when_placed}
 use Rattle.prem_layout.specs.Image.{image_of}
 use Rattle.prem_tasks.specs.Told.{Told}
-use Rattle.prem_tasks.specs.Broken.{TaskSet, programs_of, group_one, group_two, group_three, late_refusal}
+use Rattle.prem_tasks.specs.Broken.{TaskSet, programs_of, text_rules, program_rules, range_rules, late_refusal}
 use Rattle.prem_tasks.specs.Compiled.{CompiledText, coded_in, parts_in, part_name, facts_from, job_bounds}
 
 -- ---- the rules
 
 -- registers and frames
 abbrev pub code_broken : TaskSet → Option (Refusal LateRule)
-code_broken set = over_tasks (λ (c : Coded). group_four c.program) (coded_in set)
+code_broken set = over_tasks (λ (c : Coded). code_rules c.program) (coded_in set)
 
 -- the groups up to code generation
 abbrev pub broken_early : TaskSet → Option (Refusal Told)
 broken_early set =
-    or_else (over_tasks group_one set.tasks)
-    (or_else (over_tasks group_two (programs_of set.tasks))
-    (or_else (over_tasks group_three (programs_of set.tasks)) (late_refusal (code_broken set))))
+    or_else (over_tasks text_rules set.tasks)
+    (or_else (over_tasks program_rules (programs_of set.tasks))
+    (or_else (over_tasks range_rules (programs_of set.tasks)) (late_refusal (code_broken set))))
 
 abbrev pub placed_by : TaskSet → List Extent → List Placed
 placed_by set places = placed_from set.plant places (coded_in set)

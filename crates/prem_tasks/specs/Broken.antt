@@ -5,13 +5,13 @@ use Rattle.prem_plant.specs.declared.plant.Target.{Target}
 use Rattle.prem_plant.specs.declared.plant.Plant.{Plant}
 use Rattle.prem_plant.specs.declared.plant.Device.{Device}
 use Rattle.prem_syntax.specs.Syntax.{Text, GlobalVariable, ProgramText}
-use Rattle.prem_syntax.specs.GroupTwo as meaning
+use Rattle.prem_syntax.specs.ProgramRules as meaning
 use Rattle.prem_syntax.specs.Resolved.{Resolved}
 use Rattle.prem_check.specs.Told.{told_of as told_of_breach}
 use Rattle.prem_text.specs.declared.lexing.token.fail.FrontFail.{FrontFail}
 use Rattle.prem_text.specs.Texts.{reads}
 use Rattle.prem_ranges.specs.RangeRules.{RangeBreach, RangeRule, LoopBound, TooLarge, ZeroDivisor, IndexOutside, RegionOutside, ArgRange}
-use Rattle.prem_ranges.specs.GroupThree as ranges
+use Rattle.prem_ranges.specs.RangesKept as ranges
 use Rattle.prem_layout.specs.Template.Parts.{codes_of, parts_of as task_parts}
 use Rattle.prem_layout.specs.Placed.{Coded, name_at}
 use Rattle.prem_layout.specs.Rules.{LateRule, or_else, Refusal, over_tasks}
@@ -38,8 +38,8 @@ abbrev pub unread : Result ProgramText FrontFail → Option Told
 unread (Ok p) = None
 unread (Err fail) = Some (of_text fail)
 
-abbrev pub group_one : TaskText → Option Told
-group_one t = unread (reads t.text)
+abbrev pub text_rules : TaskText → Option Told
+text_rules t = unread (reads t.text)
 
 abbrev pub program_before : Result ProgramText FrontFail → List ProgramText → List ProgramText
 program_before (Ok p) ps = p ∷ ps
@@ -52,8 +52,8 @@ programs_of (t ∷ ts) = program_before (reads t.text) (programs_of ts)
 
 -- ---- programs
 
-abbrev pub group_two : ProgramText → Option Told
-group_two p = option_map (λ b. of_program (told_of_breach b)) (meaning.group_two p)
+abbrev pub program_rules : ProgramText → Option Told
+program_rules p = option_map (λ b. of_program (told_of_breach b)) (meaning.first_breach p)
 
 -- ---- ranges
 
@@ -69,8 +69,8 @@ range_told p line (RegionOutside function elements global) =
     region_outside line (name_at p.routines function) elements (global_name p.globals global)
 range_told p line (ArgRange argument stated) = arg_range line argument stated
 
-abbrev pub group_three : ProgramText → Option Told
-group_three p = option_map (λ (b : RangeBreach). of_ranges (range_told (ranges.resolved p) b.at.line b.rule)) (ranges.group_three p)
+abbrev pub range_rules : ProgramText → Option Told
+range_rules p = option_map (λ (b : RangeBreach). of_ranges (range_told (ranges.resolved p) b.at.line b.rule)) (ranges.first_range_breach p)
 
 -- ---- code
 
@@ -91,8 +91,8 @@ late_refusal (Some r) = Some (record { task = r.task; rule = of_code r.rule })
 -- the groups that look at programs
 abbrev pub broken_programs : TaskSet → List ProgramText → Option (Refusal Told)
 broken_programs set ps =
-    or_else (over_tasks group_two ps)
-    (or_else (over_tasks group_three ps) (late_refusal (broken_late set.plant set.devices (coded_of set.plant.target set.tasks ps))))
+    or_else (over_tasks program_rules ps)
+    (or_else (over_tasks range_rules ps) (late_refusal (broken_late set.plant set.devices (coded_of set.plant.target set.tasks ps))))
 
 abbrev pub broken : TaskSet → Option (Refusal Told)
-broken set = or_else (over_tasks group_one set.tasks) (broken_programs set (programs_of set.tasks))
+broken set = or_else (over_tasks text_rules set.tasks) (broken_programs set (programs_of set.tasks))

@@ -3,7 +3,7 @@ ghost use Rattle.std.specs.Prelude.{◌≡◌, ◌≤◌, ℕ, List, Some, Ok};
 ghost use Rattle.prem_syntax.specs.Syntax.{Text, ProgramText};
 ghost use Rattle.prem_syntax.specs.Resolve.{functions_of, number_named};
 ghost use Rattle.prem_syntax.specs.Source.{source};
-ghost use Rattle.prem_syntax.specs.GroupTwo.{IsWellFormed};
+ghost use Rattle.prem_syntax.specs.ProgramRules.{IsWellFormed};
 ghost use Rattle.prem_tiling.specs.Shapes.Tiled.{Cut, tiled};
 ghost use Rattle.prem_tiling.specs.Shapes.Tile.{Past, tile};
 ghost use Rattle.prem_tiling.specs.Laws.CanCut.{CanCut};

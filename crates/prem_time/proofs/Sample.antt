@@ -2,11 +2,11 @@
 -- transferred within 1198 cycles where it asks each 5000.
 use Rattle.std.specs.Prelude.{All}
 use Rattle.std.proofs.Common.{◌≡◌, refl, ap, ◌∙◌, ℕ, zero, suc, ◌<◌, arith, List, [], ◌∷◌, length}
-use Rattle.prem_syntax.specs.GroupTwo.{group_two}
+use Rattle.prem_syntax.specs.ProgramRules.{first_breach}
 use Rattle.prem_text.specs.Lexing.Tokens.{tokens_of, lex, step, start, first_token}
 use Rattle.prem_text.specs.Lexing.Spelling.{reserved_word, used_word, is_unused, longest_mark}
 use Rattle.prem_text.specs.Lexing.Literal.{literal_word}
-use Rattle.prem_ranges.specs.GroupThree.{group_three, turn_bounds}
+use Rattle.prem_ranges.specs.RangesKept.{first_range_breach, turn_bounds}
 use Rattle.prem_sets_sound.specs.Accepted.Accepted.{setup_in}
 use Rattle.prem_sets_sound.proofs.AcceptedLemmas.Sample.{sample, sample_values, sample_breaks_nothing}
 use Rattle.prem_resp.specs.declared.busy.load.Load.{Load}
@@ -25,7 +25,7 @@ abbrev pub loads : List Load
 loads = record { period = 20000; cost = 2370; longest = 2020 } ∷ record { period = 50000; cost = 115; longest = 115 } ∷ []
 
 pub sample_loads : loads_in sample ≡ loads
-unfolding tokens_of lex step start first_token reserved_word used_word is_unused longest_mark literal_word group_two group_three turn_bounds
+unfolding tokens_of lex step start first_token reserved_word used_word is_unused longest_mark literal_word first_breach first_range_breach turn_bounds
 sample_loads = refl
 
 are_loads : All IsLoad loads

@@ -9,11 +9,11 @@ use Rattle.toml.proofs.OnLiterals.{toml_on_literals}
 use Rattle.clap.proofs.OnLiterals.{clap_on_literals}
 use Rattle.prem_io.specs.Files.{Files, stored}
 use Rattle.prem_plant.specs.Ranges.{default_plant}
-use Rattle.prem_syntax.specs.GroupTwo.{group_two}
+use Rattle.prem_syntax.specs.ProgramRules.{first_breach}
 use Rattle.prem_text.specs.Lexing.Spelling.{used_word, is_unused, reserved_word, longest_mark}
 use Rattle.prem_text.specs.Lexing.Literal.{literal_word}
 use Rattle.prem_text.specs.Lexing.Tokens.{first_token, start, step, lex, tokens_of}
-use Rattle.prem_ranges.specs.GroupThree.{group_three}
+use Rattle.prem_ranges.specs.RangesKept.{first_range_breach}
 use Rattle.prem_tasks.specs.Broken.{TaskSet, broken}
 use Rattle.prem_tasks.specs.Compiled.{compiled}
 use Rattle.prem_sets_sound.specs.Accepted.Accepted.{HasValues}
@@ -104,7 +104,7 @@ set_is_read = record {
 }
 
 set_breaks_nothing : broken set ≡ None
-unfolding tokens_of lex step start first_token reserved_word used_word is_unused longest_mark literal_word group_two group_three
+unfolding tokens_of lex step start first_token reserved_word used_word is_unused longest_mark literal_word first_breach first_range_breach
 set_breaks_nothing = refl
 
 set_has_values : HasValues set

@@ -9,7 +9,7 @@ use Rattle.prem_syntax.specs.Syntax.{ProgramText}
 use Rattle.prem_syntax.specs.Statements.{ProgramState}
 use Rattle.prem_syntax.specs.Source.{source}
 use Rattle.prem_text.specs.Texts.{reads as program_of}
-use Rattle.prem_layout.specs.Rules.{Refusal, over_tasks, group_seven}
+use Rattle.prem_layout.specs.Rules.{Refusal, over_tasks, conflict_rules}
 use Rattle.prem_color.specs.Rooms.{no_part}
 use Rattle.prem_tasks.specs.Told.{Told}
 use Rattle.prem_tasks.specs.Broken.{TaskSet, broken, programs_of}
@@ -149,7 +149,7 @@ pub record IsSoundColor (reads : Reads) (name text : List ℕ) : Type 0 where
   pub places : List Extent
   pub colored : AreColored set places
   pub lawful : AreLawfulFor set places
-  pub no_conflict : over_tasks (group_seven set.plant) (placed_by set places) ≡ None
+  pub no_conflict : over_tasks (conflict_rules set.plant) (placed_by set places) ≡ None
   pub unbroken : broken_at set places ≡ None
   pub sound : IsSoundAt set places
   pub text_is : text ≡ image_bytes (compiled_at set places).image

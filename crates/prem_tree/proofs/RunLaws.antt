@@ -8,7 +8,7 @@ use Rattle.prem_syntax.specs.SyntaxOf.{global_of}
 use Rattle.prem_syntax.specs.Resolve.{functions_of, resolve_items, loops_within}
 use Rattle.prem_syntax.specs.Rules.{Limit, Breach, first, first_of, comes_before}
 use Rattle.prem_syntax.specs.Breaches.{if_broken}
-use Rattle.prem_syntax.specs.GroupTwo.{group_two, IsWellFormed}
+use Rattle.prem_syntax.specs.ProgramRules.{first_breach, IsWellFormed}
 use Rattle.prem_syntax.specs.Resolved.{Resolved}
 use Rattle.prem_syntax.specs.Expressions.{Outcome}
 use Rattle.prem_syntax.specs.Statements.{ProgramState, MarkedCall}
@@ -42,7 +42,7 @@ first_unbroken true a b c d e f g none =
     absurd (let e : true ≡ false = sym none ∙ broken in cc)
 
 few_functions : (p : ProgramText) → IsWellFormed p → length (functions_of p) ≤ 256
-unfolding group_two
+unfolding first_breach
 few_functions p well =
     let unbroken : ltb 256 (length (functions_of p)) ≡ false = first_unbroken (ltb 256 (length (functions_of p))) _ _ _ _ _ _ _ well in
     grind (arith, nat_tests)

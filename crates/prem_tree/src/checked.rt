@@ -1,6 +1,6 @@
 // Programs that break no rule.
 ghost use Rattle.prem_syntax.specs.SyntaxOf.{program_of};
-ghost use Rattle.prem_syntax.specs.GroupTwo.{IsWellFormed};
+ghost use Rattle.prem_syntax.specs.ProgramRules.{IsWellFormed};
 
 use prem_syntax::Program;
 
@@ -17,7 +17,7 @@ pub struct Checked {
 impl Checked {
     ghost use Rattle.std.specs.Prelude.{◌≡◌};
     ghost use Rattle.prem_syntax.specs.SyntaxOf.{program_of};
-    ghost use Rattle.prem_syntax.specs.GroupTwo.{IsWellFormed};
+    ghost use Rattle.prem_syntax.specs.ProgramRules.{IsWellFormed};
     ghost use Rattle.prem_tree.specs.Checked.{checked_program};
 
     /// Takes a program of which it is known that it breaks no rule.

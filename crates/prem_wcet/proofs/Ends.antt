@@ -2,7 +2,7 @@
 use Rattle.std.proofs.Common.{◌≡◌, ℕ, List, Option, None, Result, Ok, Err, ap, sym, ◌∙◌, subst}
 use Rattle.prem_plant.specs.declared.layout.PartSize.{PartSize}
 use Rattle.prem_plant.specs.Places.{Extent, default_places}
-use Rattle.prem_layout.specs.Rules.{LateRule, Refusal, refused_by, group_five}
+use Rattle.prem_layout.specs.Rules.{LateRule, Refusal, refused_by, memory_rules}
 use Rattle.prem_place.specs.declared.placing.coded.CodedTask.{CodedTask}
 use Rattle.prem_tasks.specs.Broken.{TaskSet, late_refusal, broken}
 use Rattle.prem_tasks.specs.Compiled.{parts_in, places_in}
@@ -13,16 +13,16 @@ use Rattle.prem_compile.specs.Joined.{HasCode}
 use Rattle.prem_wcet.specs.TimedOf.{EndsTimed, EndsTimedAt}
 use Rattle.prem_wcet.specs.declared.timed.Timed.{Timed}
 
-default_is : (set : TaskSet) (tasks : List CodedTask) → HasCode set tasks → refused_by None (group_five set.plant (places_in set)) ≡ None → broken set ≡ broken_at set (places_in set)
+default_is : (set : TaskSet) (tasks : List CodedTask) → HasCode set tasks → refused_by None (memory_rules set.plant (places_in set)) ≡ None → broken set ≡ broken_at set (places_in set)
 default_is set tasks h none =
     h.broken_is
-    ∙ ap (λ (x : Option (Refusal LateRule)). late_refusal x) (none_passes (refused_by None (group_five set.plant (places_in set))) (placed_broken set (places_in set)) none)
+    ∙ ap (λ (x : Option (Refusal LateRule)). late_refusal x) (none_passes (refused_by None (memory_rules set.plant (places_in set))) (placed_broken set (places_in set)) none)
     ∙ sym (none_passes (broken_early set) (late_refusal (placed_broken set (places_in set))) h.early)
 
 pub timed_default : (set : TaskSet) (tops : List ℕ) (tasks : List CodedTask) (parts : List PartSize) (layout : List Extent) (result : Result Timed Stop) → HasCode set tasks → parts ≡ parts_in set → layout ≡ default_places parts →
-    refused_by None (group_five set.plant (default_places parts)) ≡ None → EndsTimedAt set layout tops result → EndsTimed set tops result
+    refused_by None (memory_rules set.plant (default_places parts)) ≡ None → EndsTimedAt set layout tops result → EndsTimed set tops result
 timed_default set tops tasks parts layout result h are laid none ends =
-    let kept : refused_by None (group_five set.plant (places_in set)) ≡ None = ap (λ (ps : List PartSize). refused_by None (group_five set.plant (default_places ps))) (sym are) ∙ none in
+    let kept : refused_by None (memory_rules set.plant (places_in set)) ≡ None = ap (λ (ps : List PartSize). refused_by None (memory_rules set.plant (default_places ps))) (sym are) ∙ none in
     by result (subst (λ (places : List Extent). EndsTimedAt set places tops result) (laid ∙ ap default_places are) ends) (default_is set tasks h kept)
   where
     by : (r : Result Timed Stop) → EndsTimedAt set (places_in set) tops r → broken set ≡ broken_at set (places_in set) → EndsTimed set tops r

@@ -17,7 +17,7 @@ use Rattle.prem_layout.specs.Facts.{IntervalFact, interval_fact, interval_facts_
 use Rattle.prem_layout.specs.Placed.{Coded, Placed, name_at}
 use Rattle.prem_layout.specs.Parts.{stub_passes}
 use Rattle.prem_layout.specs.Stubs.{stub_of}
-use Rattle.prem_layout.specs.Rules.{Length, short_interval, or_else, refused_by, over_tasks, group_six, group_seven, group_eight, group_nine, group_ten}
+use Rattle.prem_layout.specs.Rules.{Length, short_interval, or_else, refused_by, over_tasks, reach_rules, conflict_rules, bound_rules, length_rules, log_rules}
 use Rattle.prem_layout.specs.Stretch.Paths.{longest_of, greatest_stated}
 use Rattle.prem_place.specs.Placed.PlacedOf.{plans_of, placed_of}
 use Rattle.prem_place.specs.Totals.Limits.{IsBound}
@@ -80,7 +80,7 @@ opened p t most k (plan ∷ plans) (stub ∷ stubs) es listed nine small =
 
 -- ---- a task, and all tasks
 
-timed_task : (p : Plant) (t : PlacedTask) → StandsWhole p t → HasBound p t → IsBound (longest_of p (placed_of t).plans (placed_of t).table) → group_nine p (placed_of t) ≡ None → IsTimedTask p t
+timed_task : (p : Plant) (t : PlacedTask) → StandsWhole p t → HasBound p t → IsBound (longest_of p (placed_of t).plans (placed_of t).table) → length_rules p (placed_of t) ≡ None → IsTimedTask p t
 timed_task p t whole bound longest nine =
     let is = whole.task in
     let stubs : (placed_of t).table.stubs ≡ map (stub_of (stub_passes p) p.line t.places) (plans_of t) =
@@ -92,25 +92,25 @@ timed_task p t whole bound longest nine =
           (λ j. (let z : 0 + j ≡ j = omega arith in ap (weight_listed cost_of (part_weight (length (placed_of t).table.code) (weight_at (costs_of (placed_of t).table)) (λ i. 0)) (placed_of t).table.stubs) z)) nine (omega (arith, longest));
     }
 
-timed_all : (p : Plant) (ts : List PlacedTask) → AllByRecursion (StandsWhole p) ts → AllByRecursion (HasBound p) ts → AllByRecursion IsBound (longest_in p (map placed_of ts)) → AllByRecursion (λ t. group_nine p t ≡ None) (map placed_of ts) → AllByRecursion (IsTimedTask p) ts
+timed_all : (p : Plant) (ts : List PlacedTask) → AllByRecursion (StandsWhole p) ts → AllByRecursion (HasBound p) ts → AllByRecursion IsBound (longest_in p (map placed_of ts)) → AllByRecursion (λ t. length_rules p t ≡ None) (map placed_of ts) → AllByRecursion (IsTimedTask p) ts
 timed_all p [] a b c d = tt
 timed_all p (t ∷ ts) a b c d = (timed_task p t a.0 b.0 c.0 d.0, timed_all p ts a.1 b.1 c.1 d.1)
 
-nine_kept : (set : TaskSet) (layout : List Extent) → placed_broken set layout ≡ None → AllByRecursion (λ t. group_nine set.plant t ≡ None) (placed_by set layout)
+nine_kept : (set : TaskSet) (layout : List Extent) → placed_broken set layout ≡ None → AllByRecursion (λ t. length_rules set.plant t ≡ None) (placed_by set layout)
 nine_kept set layout h =
     let p : Plant = set.plant in
     let placed : List Placed = placed_by set layout in
     let tasks : List Coded = coded_in set in
-    let six = both_none (over_tasks group_six placed) (or_else (over_tasks (group_seven p) placed) (or_else (over_tasks (group_eight p) placed) (or_else (over_tasks (group_nine p) placed) (refused_by None (group_ten tasks))))) h in
-    let seven = both_none (over_tasks (group_seven p) placed) (or_else (over_tasks (group_eight p) placed) (or_else (over_tasks (group_nine p) placed) (refused_by None (group_ten tasks)))) six.second in
-    let eight = both_none (over_tasks (group_eight p) placed) (or_else (over_tasks (group_nine p) placed) (refused_by None (group_ten tasks))) seven.second in
-    let nine = both_none (over_tasks (group_nine p) placed) (refused_by None (group_ten tasks)) eight.second in
-    none_among (group_nine p) 0 placed nine.first
+    let six = both_none (over_tasks reach_rules placed) (or_else (over_tasks (conflict_rules p) placed) (or_else (over_tasks (bound_rules p) placed) (or_else (over_tasks (length_rules p) placed) (refused_by None (log_rules tasks))))) h in
+    let seven = both_none (over_tasks (conflict_rules p) placed) (or_else (over_tasks (bound_rules p) placed) (or_else (over_tasks (length_rules p) placed) (refused_by None (log_rules tasks)))) six.second in
+    let eight = both_none (over_tasks (bound_rules p) placed) (or_else (over_tasks (length_rules p) placed) (refused_by None (log_rules tasks))) seven.second in
+    let nine = both_none (over_tasks (length_rules p) placed) (refused_by None (log_rules tasks)) eight.second in
+    none_among (length_rules p) 0 placed nine.first
 
 pub tasks_timed : (set : TaskSet) (parts : List PartSize) (layout : List Extent) (tasks : List PlacedTask) (c : Compiled) → IsPlant set.plant → HasPlaces set parts layout tasks → IsMadeAt set layout c → AllByRecursion (IsTimedTask set.plant) tasks
 tasks_timed set parts layout tasks c plant h made =
     let late : placed_broken set layout ≡ None = not_late (placed_broken set layout) (sym h.broken_is ∙ made.lawful) in
-    let nine = subst (λ (ts : List Placed). AllByRecursion (λ t. group_nine set.plant t ≡ None) ts) (sym h.placed) (nine_kept set layout late) in
+    let nine = subst (λ (ts : List Placed). AllByRecursion (λ t. length_rules set.plant t ≡ None) ts) (sym h.placed) (nine_kept set layout late) in
     let longest = subst (λ (ts : List Placed). AllByRecursion IsBound (longest_in set.plant ts)) (sym h.placed) (subst (AllByRecursion IsBound) made.bounds.longest made.bounds.small_longest) in
     let jobs = ap (λ (x : CompiledText). x.jobs) made.compiled ∙ ap (λ (ts : List Placed). map (λ (j : JobBound). j.bound) (job_bounds set.plant ts)) (sym h.placed) in
     timed_all set.plant tasks (tasks_whole set parts layout tasks c plant h made) (have_bounds set.plant tasks (items_of c.jobs) jobs made.bounds.small_jobs) longest nine

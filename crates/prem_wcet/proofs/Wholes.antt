@@ -21,7 +21,7 @@ use Rattle.prem_layout.specs.Template.Parts.{codes_of, parts_of}
 use Rattle.prem_layout.specs.Parts.{part, code_parts, stub_passes, task_parts, part_count}
 use Rattle.prem_layout.specs.Footprint.{no_place, place_at}
 use Rattle.prem_layout.specs.Placed.{Coded, Placed, task_places, placed_at, placed_from, parts_of as set_parts_of}
-use Rattle.prem_layout.specs.Rules.{over_tasks, group_four}
+use Rattle.prem_layout.specs.Rules.{over_tasks, code_rules}
 use Rattle.prem_split.specs.Walk.{HasFrame}
 use Rattle.prem_split.proofs.PlansAre.{frame_same}
 use Rattle.prem_split.proofs.MayHave.{has_frame}
@@ -32,7 +32,7 @@ use Rattle.prem_place.specs.declared.placed.PlacedTask.{PlacedTask}
 use Rattle.prem_place.proofs.StandLemmas.Lying.{lie_left, are_parts, taken_same}
 use Rattle.prem_place.proofs.PlacingLemmas.Placing.{routines_long}
 use Rattle.prem_place.proofs.PlacingLemmas.Stood.{all_lie, first_lies, rest_lie}
-use Rattle.prem_tasks.specs.Broken.{TaskText, TaskSet, programs_of, coded_of as coded_tasks, group_one, group_two, group_three, late_refusal}
+use Rattle.prem_tasks.specs.Broken.{TaskText, TaskSet, programs_of, coded_of as coded_tasks, text_rules, program_rules, range_rules, late_refusal}
 use Rattle.prem_tasks.specs.Compiled.{coded_in}
 use Rattle.prem_tasks.specs.At.{broken_early, code_broken, placed_broken}
 use Rattle.prem_sets_sound.proofs.AcceptedLemmas.Follow.{both_none, not_late}
@@ -166,7 +166,7 @@ codes_given target (t ∷ ts) (p ∷ ps) = (refl, codes_given target ts ps)
 
 -- ---- a task, and all tasks
 
-whole_task : (p : Plant) (t : PlacedTask) → IsPlant p → IsPlacedTask p t → stands_in t → WholePlaces p (placed_of t) → group_four (coded_of t).program ≡ None → StandsWhole p t
+whole_task : (p : Plant) (t : PlacedTask) → IsPlant p → IsPlacedTask p t → stands_in t → WholePlaces p (placed_of t) → code_rules (coded_of t).program ≡ None → StandsWhole p t
 whole_task p t plant is stands w four =
     let memory = plant.memory in
     let small : p.memory ≤ 2 ^ 24 = omega (arith, memory.1) in
@@ -190,18 +190,18 @@ whole_task p t plant is stands w four =
       stack = omega (arith, within, small);
     }
 
-whole_all : (p : Plant) (ts : List PlacedTask) → IsPlant p → AllByRecursion (IsPlacedTask p) ts → AllByRecursion stands_in ts → AllByRecursion (WholePlaces p) (map placed_of ts) → AllByRecursion (λ (c : Coded). group_four c.program ≡ None) (map coded_of ts) → AllByRecursion (StandsWhole p) ts
+whole_all : (p : Plant) (ts : List PlacedTask) → IsPlant p → AllByRecursion (IsPlacedTask p) ts → AllByRecursion stands_in ts → AllByRecursion (WholePlaces p) (map placed_of ts) → AllByRecursion (λ (c : Coded). code_rules c.program ≡ None) (map coded_of ts) → AllByRecursion (StandsWhole p) ts
 whole_all p [] plant a b c d = tt
 whole_all p (t ∷ ts) plant a b c d = (whole_task p t plant a.0 b.0 c.0 d.0, whole_all p ts plant a.1 b.1 c.1 d.1)
 
-four_kept : (set : TaskSet) → broken_early set ≡ None → AllByRecursion (λ (c : Coded). group_four c.program ≡ None) (coded_in set)
+four_kept : (set : TaskSet) → broken_early set ≡ None → AllByRecursion (λ (c : Coded). code_rules c.program ≡ None) (coded_in set)
 four_kept set h =
     let late = late_refusal (code_broken set) in
     let ps = programs_of set.tasks in
-    let one = both_none (over_tasks group_one set.tasks) _ h in
-    let two = both_none (over_tasks group_two ps) _ one.second in
-    let three = both_none (over_tasks group_three ps) late two.second in
-    none_among (λ (c : Coded). group_four c.program) 0 (coded_in set) (not_late (code_broken set) three.second)
+    let one = both_none (over_tasks text_rules set.tasks) _ h in
+    let two = both_none (over_tasks program_rules ps) _ one.second in
+    let three = both_none (over_tasks range_rules ps) late two.second in
+    none_among (λ (c : Coded). code_rules c.program) 0 (coded_in set) (not_late (code_broken set) three.second)
 
 pub tasks_whole : (set : TaskSet) (parts : List PartSize) (layout : List Extent) (tasks : List PlacedTask) (c : Compiled) → IsPlant set.plant → HasPlaces set parts layout tasks → IsMadeAt set layout c → AllByRecursion (StandsWhole set.plant) tasks
 tasks_whole set parts layout tasks c plant h made =
@@ -212,4 +212,4 @@ tasks_whole set parts layout tasks c plant h made =
     (within_all p.memory layout (λ i q e. record { forward = (places_apart p.memory _ layout apart).forward i q e; within = apart.within i q e })) in
     let early = both_none (broken_early set) (late_refusal (placed_broken set layout)) made.lawful in
     whole_all p tasks plant h.each h.standing (subst (λ (ts : List Placed). AllByRecursion (WholePlaces p) ts) (sym h.placed) whole)
-    (subst (λ (cs : List Coded). AllByRecursion (λ (c : Coded). group_four c.program ≡ None) cs) (sym h.coded) (four_kept set early.first))
+    (subst (λ (cs : List Coded). AllByRecursion (λ (c : Coded). code_rules c.program ≡ None) cs) (sym h.coded) (four_kept set early.first))

@@ -7,7 +7,7 @@ use Rattle.std.proofs.lemmas.List.{drop_all, length-map}
 use Rattle.prem_list.specs.Sequence.{items_of}
 use Rattle.prem_syntax.specs.Syntax.{Parameter, GlobalVariable, ProgramText}
 use Rattle.prem_syntax.specs.Literals.{ProgramHasWords}
-use Rattle.prem_syntax.specs.GroupTwo.{IsWellFormed}
+use Rattle.prem_syntax.specs.ProgramRules.{IsWellFormed}
 use Rattle.prem_syntax.specs.Source.{unlimited}
 use Rattle.prem_syntax.specs.Resolved.{Routine, Resolved}
 use Rattle.prem_tree.specs.declared.resolve.resolved.Routine.{Routine as RoutineTree}

@@ -9,7 +9,7 @@ use Rattle.prem_word.specs.Ranges.{Span, from_to, holds, IsRange, encloses, conv
 use Rattle.prem_syntax.specs.declared.tree.Place.{Place}
 use Rattle.prem_syntax.specs.Syntax.{Parameter, LocalVariable, GlobalVariable, ProgramText}
 use Rattle.prem_syntax.specs.Literals.{ProgramHasWords}
-use Rattle.prem_syntax.specs.GroupTwo.{IsWellFormed}
+use Rattle.prem_syntax.specs.ProgramRules.{IsWellFormed}
 use Rattle.prem_syntax.specs.Source.{unlimited}
 use Rattle.prem_syntax.specs.Resolved.{Term, Constant, Local, Scalar, Element, Unary, Binary, AndAlso, OrElse, Steps, Done, SetLocal, SetScalar, SetElement, Output, Input, If, For, While, Call, Routine}
 use Rattle.prem_syntax.specs.Resolve.{promoted}
@@ -18,7 +18,7 @@ use Rattle.prem_ranges.specs.RangeOf.{range_of, refined}
 use Rattle.prem_ranges.specs.After.{loop_end, turn_bound, in_counting, in_body, behind_loop, in_while, behind_call, stated_or_whole, known_parameter, known_local, after, at_body}
 use Rattle.prem_ranges.specs.RangeRules.{RangeRule, LoopBound, TooLarge, ZeroDivisor, IndexOutside, ArgRange, RangeBreach, comes_before, first, first_of, if_at}
 use Rattle.prem_ranges.specs.RangeBreaches.{length_of, in_index, in_element, in_divisor, in_term, in_stated, in_argument, in_arguments, parameters_of, in_turns, in_range_of_int, in_counting_loop, in_steps, in_locals, in_result, in_routine}
-use Rattle.prem_ranges.specs.GroupThree.{resolved}
+use Rattle.prem_ranges.specs.RangesKept.{resolved}
 use Rattle.prem_ranges.specs.Sound.{Ranged, none_ranged, next_ranged}
 use Rattle.prem_ranges.proofs.WellFormed.{well_formed_is_typed}
 use Rattle.prem_annotating.specs.Lists.{Each}

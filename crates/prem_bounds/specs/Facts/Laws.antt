@@ -7,7 +7,7 @@ use Rattle.prem_syntax.specs.Statements.{is_marked}
 use Rattle.prem_layout.specs.Facts.{IntervalFact, interval_facts}
 use Rattle.prem_layout.specs.Footprint.{footprint_of}
 use Rattle.prem_layout.specs.Placed.{Placed, name_at}
-use Rattle.prem_layout.specs.Rules.{BoundTooLarge, ConflictIn, Length, greatest_bound, large_bound, group_seven, group_nine}
+use Rattle.prem_layout.specs.Rules.{BoundTooLarge, ConflictIn, Length, greatest_bound, large_bound, conflict_rules, length_rules}
 use Rattle.prem_bounds.specs.Facts.Large.{first_large}
 use Rattle.prem_bounds.specs.Facts.Clashes.{Clash, first_clash}
 use Rattle.prem_bounds.specs.Facts.FactOf.{first_short}
@@ -25,11 +25,11 @@ LargeIsFirst =
 abbrev pub ClashIsFirst : Type 0
 ClashIsFirst =
     (p : Plant) (t : Placed) →
-    group_seven p t
+    conflict_rules p t
     ≡ option_map (λ (c : Clash). ConflictIn (name_at t.task.program.routines c.function) c.conflict.set c.conflict.lines p.«ways») (first_clash p t.plans (map (footprint_of p.line t.at) t.plans))
 
 -- the rule on lengths, by the first that is too short
 abbrev pub ShortIsFirst : Type 0
 ShortIsFirst =
     (p : Plant) (t : Placed) →
-    group_nine p t ≡ option_map (λ (f : IntervalFact). Length (name_at t.task.program.routines f.function) f.bound f.stated) (first_short (interval_facts p t))
+    length_rules p t ≡ option_map (λ (f : IntervalFact). Length (name_at t.task.program.routines f.function) f.bound f.stated) (first_short (interval_facts p t))

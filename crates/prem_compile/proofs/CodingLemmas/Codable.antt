@@ -9,7 +9,7 @@ use Rattle.prem_syntax.specs.Syntax.{ProgramText}
 use Rattle.prem_syntax.specs.Resolved.{Resolved}
 use Rattle.prem_tree.specs.declared.resolve.resolved.Resolved.{Resolved as ResolvedTree}
 use Rattle.prem_tree.specs.Resolve.ResolvedOf.{resolved_of}
-use Rattle.prem_ranges.specs.GroupThree.{turn_bounds, bounded}
+use Rattle.prem_ranges.specs.RangesKept.{turn_bounds, bounded}
 use Rattle.prem_asm.specs.Pieces.{Pieces}
 use Rattle.prem_layout.specs.Template.Limits.{excess}
 use Rattle.prem_layout.specs.Template.Parts.{codes_of, parts_of as task_parts}

@@ -5,18 +5,18 @@ use Rattle.std.proofs.Common.{◌≡◌, ℕ, ◌+◌, List, [], ◌∷◌, Opti
 use Rattle.prem_plant.specs.declared.plant.Target.{Target}
 use Rattle.prem_syntax.specs.Syntax.{ProgramText}
 use Rattle.prem_syntax.specs.Rules.{Breach}
-use Rattle.prem_syntax.specs.GroupTwo as meaning
+use Rattle.prem_syntax.specs.ProgramRules as meaning
 use Rattle.prem_tree.specs.declared.resolve.resolved.Resolved.{Resolved as ResolvedTree}
 use Rattle.prem_check.specs.Told.{told_of as told_of_breach}
 use Rattle.prem_text.specs.declared.lexing.token.fail.FrontFail.{FrontFail}
 use Rattle.prem_text.specs.Texts.{reads}
-use Rattle.prem_ranges.specs.GroupThree.{turn_bounds, bounded}
+use Rattle.prem_ranges.specs.RangesKept.{turn_bounds, bounded}
 use Rattle.prem_layout.specs.Template.Parts.{parts_of as task_parts}
-use Rattle.prem_layout.specs.Rules.{or_else, refused_by, first_among, over_tasks, group_four}
+use Rattle.prem_layout.specs.Rules.{or_else, refused_by, first_among, over_tasks, code_rules}
 use Rattle.prem_code_laws.proofs.FitLawsLemmas.MeasureLemmas.ProgramNodes.{codes_are_small}
 use Rattle.prem_prefetch.specs.Sizes.Sizes.{AreCodesOf}
 use Rattle.prem_tasks.specs.Told.{of_program}
-use Rattle.prem_tasks.specs.Broken.{TaskText, TaskSet, unread, group_one, program_before, programs_of, group_two, group_three, coded_of, late_refusal}
+use Rattle.prem_tasks.specs.Broken.{TaskText, TaskSet, unread, text_rules, program_before, programs_of, program_rules, range_rules, coded_of, late_refusal}
 use Rattle.prem_tasks.specs.At.{code_broken, broken_early}
 use Rattle.prem_tasks.specs.Compiled.{coded_in}
 use Rattle.prem_stages.specs.declared.front.Coded.{Coded}
@@ -36,8 +36,8 @@ not_refused : {R : Type 0} (task : Option ℕ) (rule : Option R) → refused_by 
 not_refused task None e = refl
 not_refused task (Some r) e = absurd cc
 
-is_formed : (p : ProgramText) → group_two p ≡ None → meaning.IsWellFormed p
-is_formed p e = by (meaning.group_two p) e
+is_formed : (p : ProgramText) → program_rules p ≡ None → meaning.IsWellFormed p
+is_formed p e = by (meaning.first_breach p) e
   where
     by : (found : Option Breach) → option_map (λ b. of_program (told_of_breach b)) found ≡ None → IsTrue (is_none found)
     by None e = refl
@@ -48,24 +48,24 @@ is_formed p e = by (meaning.group_two p) e
 abbrev AreCoded : Target → List TaskText → List ProgramText → Type 0
 AreCoded target ts ps = AreCodesOf ps (coded_of target ts ps)
 
-codes_from : (target : Target) (n : ℕ) (ts : List TaskText) → first_among group_one n ts ≡ None → first_among group_two n (programs_of ts) ≡ None → first_among late_four n (coded_of target ts (programs_of ts)) ≡ None → AreCoded target ts (programs_of ts)
+codes_from : (target : Target) (n : ℕ) (ts : List TaskText) → first_among text_rules n ts ≡ None → first_among program_rules n (programs_of ts) ≡ None → first_among late_four n (coded_of target ts (programs_of ts)) ≡ None → AreCoded target ts (programs_of ts)
 codes_from target n [] one two four = tt
 codes_from target n (t ∷ ts) one two four = by (reads t.text) refl one two four (codes_from target (n + 1) ts)
   where
-    by : (read : Result ProgramText FrontFail) → reads t.text ≡ read → or_else (refused_by (Some n) (unread read)) (first_among group_one (n + 1) ts) ≡ None → first_among group_two n (program_before read (programs_of ts)) ≡ None →
+    by : (read : Result ProgramText FrontFail) → reads t.text ≡ read → or_else (refused_by (Some n) (unread read)) (first_among text_rules (n + 1) ts) ≡ None → first_among program_rules n (program_before read (programs_of ts)) ≡ None →
         first_among late_four n (coded_of target (t ∷ ts) (program_before read (programs_of ts))) ≡ None →
-        (first_among group_one (n + 1) ts ≡ None → first_among group_two (n + 1) (programs_of ts) ≡ None → first_among late_four (n + 1) (coded_of target ts (programs_of ts)) ≡ None → AreCoded target ts (programs_of ts)) →
+        (first_among text_rules (n + 1) ts ≡ None → first_among program_rules (n + 1) (programs_of ts) ≡ None → first_among late_four (n + 1) (coded_of target ts (programs_of ts)) ≡ None → AreCoded target ts (programs_of ts)) →
         AreCoded target (t ∷ ts) (program_before read (programs_of ts))
     by (Err fail) is one two four more = absurd cc
     by (Ok p) is one two four more =
-        let of_two = neither (refused_by (Some n) (group_two p)) (first_among group_two (n + 1) (programs_of ts)) two in
-        let of_four = neither (refused_by (Some n) (group_four (bounded p))) (first_among late_four (n + 1) (coded_of target ts (programs_of ts))) four in (
+        let of_two = neither (refused_by (Some n) (program_rules p)) (first_among program_rules (n + 1) (programs_of ts)) two in
+        let of_four = neither (refused_by (Some n) (code_rules (bounded p))) (first_among late_four (n + 1) (coded_of target ts (programs_of ts))) four in (
           record {
             target = target;
             turns = slice_index (turn_bounds p);
-            formed = is_formed p (not_refused (Some n) (group_two p) of_two.0);
+            formed = is_formed p (not_refused (Some n) (program_rules p) of_two.0);
             program = refl;
-            kept = not_exceeding (bounded p) (not_refused (Some n) (group_four (bounded p)) of_four.0);
+            kept = not_exceeding (bounded p) (not_refused (Some n) (code_rules (bounded p)) of_four.0);
             code = refl;
             small = codes_are_small t.text p (slice_index (turn_bounds p)) (task_parts target (bounded p).routines) is;
           },
@@ -75,9 +75,9 @@ codes_from target n (t ∷ ts) one two four = by (reads t.text) refl one two fou
 -- no rule on code generation or before it is broken
 pub codes_when_early : (set : TaskSet) → broken_early set ≡ None → AreCodesOf (programs_of set.tasks) (coded_in set)
 codes_when_early set e =
-    let one = neither (over_tasks group_one set.tasks) (or_else (over_tasks group_two (programs_of set.tasks)) (or_else (over_tasks group_three (programs_of set.tasks)) (late_refusal (code_broken set)))) e in
-    let two = neither (over_tasks group_two (programs_of set.tasks)) (or_else (over_tasks group_three (programs_of set.tasks)) (late_refusal (code_broken set))) one.1 in
-    let three = neither (over_tasks group_three (programs_of set.tasks)) (late_refusal (code_broken set)) two.1 in
+    let one = neither (over_tasks text_rules set.tasks) (or_else (over_tasks program_rules (programs_of set.tasks)) (or_else (over_tasks range_rules (programs_of set.tasks)) (late_refusal (code_broken set)))) e in
+    let two = neither (over_tasks program_rules (programs_of set.tasks)) (or_else (over_tasks range_rules (programs_of set.tasks)) (late_refusal (code_broken set))) one.1 in
+    let three = neither (over_tasks range_rules (programs_of set.tasks)) (late_refusal (code_broken set)) two.1 in
     codes_from set.plant.target 0 set.tasks one.0 two.0 (not_late (code_broken set) three.1)
 
 pub codes_of_set : (set : TaskSet) (c : Coded) → IsCoded set c → AreCodesOf (programs_of set.tasks) (coded_in set)

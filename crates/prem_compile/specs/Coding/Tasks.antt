@@ -5,10 +5,10 @@ use Rattle.std.specs.List.{AllByRecursion}
 use Rattle.prem_list.specs.declared.Sequence.{Sequence}
 use Rattle.prem_plant.specs.declared.plant.Target.{Target}
 use Rattle.prem_syntax.specs.Syntax.{ProgramText}
-use Rattle.prem_syntax.specs.GroupTwo.{IsWellFormed}
+use Rattle.prem_syntax.specs.ProgramRules.{IsWellFormed}
 use Rattle.prem_tree.specs.declared.resolve.resolved.Resolved.{Resolved as ResolvedTree}
 use Rattle.prem_tree.specs.Resolve.ResolvedOf.{resolved_of, IsResolved}
-use Rattle.prem_ranges.specs.GroupThree.{turn_bounds, bounded}
+use Rattle.prem_ranges.specs.RangesKept.{turn_bounds, bounded}
 use Rattle.prem_asm.specs.declared.piece.Piece.{Piece}
 use Rattle.prem_layout.specs.Template.Limits.{excess}
 use Rattle.prem_layout.specs.Placed.{Coded}

@@ -2,7 +2,7 @@
 use Rattle.std.specs.Prelude.{◌≡◌, List, Option, None, Result, MatchResult}
 use Rattle.prem_plant.specs.declared.plant.Plant.{Plant}
 use Rattle.prem_layout.specs.Placed.{Coded, Placed}
-use Rattle.prem_layout.specs.Rules.{LateRule, Refusal, or_else, refused_by, over_tasks, group_seven, group_eight, group_nine, group_ten}
+use Rattle.prem_layout.specs.Rules.{LateRule, Refusal, or_else, refused_by, over_tasks, conflict_rules, bound_rules, length_rules, log_rules}
 use Rattle.prem_tasks.specs.Broken.{late_refusal}
 use Rattle.prem_tasks.specs.Stops.{Stops}
 use Rattle.prem_tasks.specs.declared.stop.Stop.{Stop}
@@ -14,7 +14,7 @@ EndsLate result found = MatchResult result (λ _. found ≡ None) (λ stop. Stop
 -- the groups behind that on jumps
 abbrev pub broken_behind : Plant → List Coded → List Placed → Option (Refusal LateRule)
 broken_behind p tasks placed =
-    or_else (over_tasks (group_seven p) placed)
-    (or_else (over_tasks (group_eight p) placed)
-    (or_else (over_tasks (group_nine p) placed)
-    (refused_by None (group_ten tasks))))
+    or_else (over_tasks (conflict_rules p) placed)
+    (or_else (over_tasks (bound_rules p) placed)
+    (or_else (over_tasks (length_rules p) placed)
+    (refused_by None (log_rules tasks))))

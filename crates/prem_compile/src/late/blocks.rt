@@ -1,7 +1,7 @@
 // The rule on jumps: the code of placed tasks has words.
 ghost use Rattle.std.specs.Prelude.{◌≡◌, ◌≤◌, IfOk, length, map};
 ghost use Rattle.std.specs.List.{AllByRecursion};
-ghost use Rattle.prem_layout.specs.Rules.{over_tasks, group_six};
+ghost use Rattle.prem_layout.specs.Rules.{over_tasks, reach_rules};
 ghost use Rattle.prem_place.specs.Content.Blocks.{block_of};
 ghost use Rattle.prem_place.specs.Placed.PlacedOf.{placed_of};
 ghost use Rattle.prem_place.specs.Placing.Standing.{stands_in};
@@ -18,7 +18,7 @@ use std::alloc::Global;
 pub fn blocks_of(alloc: Global, tasks: &[PlacedTask]) -> Result<Vec<Vec<Block>>, Stop>
     requires stands { AllByRecursion stands_in tasks.now }
     requires count { length tasks.now ≤ 16 }
-    ensures ends { EndsLate result (over_tasks group_six (map placed_of tasks.now)) }
+    ensures ends { EndsLate result (over_tasks reach_rules (map placed_of tasks.now)) }
     ensures words { IfOk result (λ all. map (λ blocks. map block_of blocks.items) all.items ≡ map words_in tasks.now) }
 {
     match words_of_all(alloc, tasks) {

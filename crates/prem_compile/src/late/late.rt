@@ -2,7 +2,7 @@
 ghost use Rattle.std.specs.Prelude.{◌≡◌, ◌≤◌, IfOk, None, length, map};
 ghost use Rattle.std.specs.List.{AllByRecursion};
 ghost use Rattle.prem_plant.specs.Ranges.{IsPlant};
-ghost use Rattle.prem_layout.specs.Rules.{refused_by, over_tasks, group_seven, group_eight, group_nine, group_ten};
+ghost use Rattle.prem_layout.specs.Rules.{refused_by, over_tasks, conflict_rules, bound_rules, length_rules, log_rules};
 ghost use Rattle.prem_place.specs.Placed.PlacedOf.{IsPlacedTask, coded_of, lines_of, placed_of};
 ghost use Rattle.prem_place.specs.Verdict.Told.{bounds_of, told_from};
 ghost use Rattle.prem_compile.specs.Late.Late.{EndsLate, broken_behind};
@@ -30,7 +30,7 @@ fn conflicts(
     requires count { length tasks.now ≤ 16 }
     requires lines { map (λ lines. lines.items) lines.now ≡ map (lines_of p.now) tasks.now }
     requires plant { IsPlant p.now }
-    ensures { EndsLate result (over_tasks (group_seven p.now) (map placed_of tasks.now)) }
+    ensures { EndsLate result (over_tasks (conflict_rules p.now) (map placed_of tasks.now)) }
 {
     match first_conflict(tasks, lines, p) {
         None => Ok(()),
@@ -49,7 +49,7 @@ fn bounds(
     requires count { length tasks.now ≤ 16 }
     requires lines { map (λ lines. lines.items) lines.now ≡ map (lines_of p.now) tasks.now }
     requires plant { IsPlant p.now }
-    ensures ends { EndsLate result (over_tasks (group_eight p.now) (map placed_of tasks.now)) }
+    ensures ends { EndsLate result (over_tasks (bound_rules p.now) (map placed_of tasks.now)) }
     ensures told { IfOk result (λ all. map bounds_of all.items ≡ told_from p.now 0 (map placed_of tasks.now)) }
 {
     match bounds_of_all(alloc, tasks, lines, p) {
@@ -69,7 +69,7 @@ fn lengths(
     requires tasks { AllByRecursion (IsPlacedTask p.now) tasks.now }
     requires count { length tasks.now ≤ 16 }
     requires bounds { map bounds_of bounds.now ≡ told_from p.now 0 (map placed_of tasks.now) }
-    ensures { EndsLate result (over_tasks (group_nine p.now) (map placed_of tasks.now)) }
+    ensures { EndsLate result (over_tasks (length_rules p.now) (map placed_of tasks.now)) }
 {
     match first_short_interval(tasks, bounds, p) {
         None => Ok(()),
@@ -79,7 +79,7 @@ fn lengths(
 
 /// The logs have room for all that the jobs of all tasks may put into them.
 fn logs(alloc: Global, tasks: &[PlacedTask]) -> Result<(), Stop>
-    ensures { EndsLate result (refused_by None (group_ten (map coded_of tasks.now))) }
+    ensures { EndsLate result (refused_by None (log_rules (map coded_of tasks.now))) }
 {
     match full_log(alloc, tasks)? {
         None => Ok(()),

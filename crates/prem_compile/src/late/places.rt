@@ -2,7 +2,7 @@
 ghost use Rattle.std.specs.Prelude.{◌≡◌, ◌≤◌, IfOk, None};
 ghost use Rattle.prem_plant.specs.Places.{AreLawful, default_places, last_end};
 ghost use Rattle.prem_plant.specs.Ranges.{IsPlant};
-ghost use Rattle.prem_layout.specs.Rules.{refused_by, group_five};
+ghost use Rattle.prem_layout.specs.Rules.{refused_by, memory_rules};
 ghost use Rattle.prem_prefetch.specs.Sizes.Sizes.{MayHavePlaces};
 ghost use Rattle.prem_compile.specs.Late.Late.{EndsLate};
 
@@ -17,7 +17,7 @@ use std::alloc::Global;
 pub fn places_of(alloc: Global, parts: &[PartSize], plant: &Plant) -> Result<Layout, Stop>
     requires parts { MayHavePlaces plant.now.line parts.now }
     requires plant { IsPlant plant.now }
-    ensures ends { EndsLate result (refused_by None (group_five plant.now (default_places parts.now))) }
+    ensures ends { EndsLate result (refused_by None (memory_rules plant.now (default_places parts.now))) }
     ensures places { IfOk result (λ layout. layout ≡ default_places parts.now) }
     ensures lawful { IfOk result (AreLawful plant.now.line plant.now.memory parts.now) }
     ensures within { IfOk result (λ layout. last_end layout ≤ plant.now.memory) }

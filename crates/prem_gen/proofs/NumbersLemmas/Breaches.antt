@@ -8,7 +8,7 @@ use Rattle.prem_syntax.specs.Syntax.{GlobalVariable, FunctionText, ProgramText}
 use Rattle.prem_syntax.specs.Resolve.{functions_of, globals_of}
 use Rattle.prem_syntax.specs.Rules.{Rule, Limit, NoJob, Breach, first, first_of, comes_before}
 use Rattle.prem_syntax.specs.Breaches.{if_broken, is_job_name, regions_of, is_stated, is_length, item_names, reached, in_items, in_limits, breaches}
-use Rattle.prem_syntax.specs.GroupTwo.{group_two, IsWellFormed}
+use Rattle.prem_syntax.specs.ProgramRules.{first_breach, IsWellFormed}
 use Rattle.prem_ranges.proofs.AnalysisSound.{is_none_tells}
 use Rattle.prem_ranges.proofs.Basics.{none_left, none_right}
 use Rattle.prem_analysis.proofs.Counts.{at_most}
@@ -33,11 +33,11 @@ pub record Kept (p : ProgramText) : Type 0 where
   pub items : in_items (functions_of p) (item_names p) (reached (functions_of p)) 0 [] [] p ≡ []
 
 pub all_kept : (p : ProgramText) → IsWellFormed p → Kept p
-unfolding group_two
+unfolding first_breach
 all_kept p formed =
     let gs = globals_of p in
     let fs = functions_of p in
-    let none : breaches p ≡ [] = none_broken (breaches p) (is_none_tells (group_two p) formed) in
+    let none : breaches p ≡ [] = none_broken (breaches p) (is_none_tells (first_breach p) formed) in
     let job = if_broken (not (list_any (λ (f : FunctionText). is_job_name f.name) fs)) None NoJob in
     let items = in_items fs (item_names p) (reached fs) 0 [] [] p in
     let limits : in_limits gs fs ≡ [] = none_left (in_limits gs fs) job (none_left (in_limits gs fs ++ job) items none) in

@@ -2,7 +2,7 @@
 ghost use Rattle.std.specs.Prelude.{◌≡◌, ◌≤◌, ◌<◌, ◌+◌, ◌^◌, take, map, length, slice_index, IfOk};
 ghost use Rattle.prem_list.specs.Sequence.{items_of};
 ghost use Rattle.prem_syntax.specs.SyntaxOf.{program_of};
-ghost use Rattle.prem_syntax.specs.GroupTwo.{IsWellFormed};
+ghost use Rattle.prem_syntax.specs.ProgramRules.{IsWellFormed};
 ghost use Rattle.prem_syntax.specs.Resolve.{functions_of, resolve};
 ghost use Rattle.prem_tree.specs.Resolve.ResolvedOf.{all_loops, item_loops, resolved_of};
 ghost use Rattle.prem_asm.specs.PiecesOf.{pieces_of};

@@ -10,7 +10,7 @@ use Rattle.prem_plant.specs.declared.layout.PartSize.{PartSize}
 use Rattle.prem_plant.specs.Ranges.{IsPlant}
 use Rattle.prem_plant.specs.Places.{Extent}
 use Rattle.prem_syntax.specs.Syntax.{Text, MarkText, ProgramText}
-use Rattle.prem_syntax.specs.GroupTwo.{IsWellFormed}
+use Rattle.prem_syntax.specs.ProgramRules.{IsWellFormed}
 use Rattle.prem_syntax.specs.Resolve.{functions_of, resolve}
 use Rattle.prem_syntax.specs.Resolved.{Routine, Resolved}
 use Rattle.prem_asm.specs.Pieces.{Pieces, size_of}

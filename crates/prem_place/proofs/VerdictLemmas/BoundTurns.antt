@@ -11,7 +11,7 @@ use Rattle.prem_layout.specs.Bounds.{job_bound_of}
 use Rattle.prem_layout.specs.Footprint.{footprint_of}
 use Rattle.prem_layout.specs.Facts.{IntervalFact, interval_fact, interval_facts_from, interval_facts}
 use Rattle.prem_layout.specs.Placed.{Placed, name_at}
-use Rattle.prem_layout.specs.Rules.{LateRule, BoundTooLarge, Length, Refusal, first_among, or_else, greatest_bound, group_eight, group_nine}
+use Rattle.prem_layout.specs.Rules.{LateRule, BoundTooLarge, Length, Refusal, first_among, or_else, greatest_bound, bound_rules, length_rules}
 use Rattle.prem_bounds.specs.TableOf.{table_of}
 use Rattle.prem_bounds.specs.Facts.FactOf.{fact_of, first_short}
 use Rattle.prem_bounds.specs.Facts.Large.{is_marked_tree, marked_large, rest_behind, first_large}
@@ -36,13 +36,13 @@ Below n plan = plan.function < n
 
 -- ---- bounds
 
-eight_is : (p : Plant) (t : PlacedTask) → group_eight p (placed_of t) ≡ option_map (λ m. BoundTooLarge (name_at (coded_of t).program.routines m)) (large_in p (placed_of t))
+eight_is : (p : Plant) (t : PlacedTask) → bound_rules p (placed_of t) ≡ option_map (λ m. BoundTooLarge (name_at (coded_of t).program.routines m)) (large_in p (placed_of t))
 eight_is p t = large_is_first (coded_of t).program.routines t.table.job (job_bound_of p (plans_of t) (table_of t.table)) (interval_facts p (placed_of t))
 
-pub eight_breaks : (p : Plant) (t : PlacedTask) (f : ℕ) → large_in p (placed_of t) ≡ Some f → group_eight p (placed_of t) ≡ Some (BoundTooLarge (name_at (coded_of t).program.routines f))
+pub eight_breaks : (p : Plant) (t : PlacedTask) (f : ℕ) → large_in p (placed_of t) ≡ Some f → bound_rules p (placed_of t) ≡ Some (BoundTooLarge (name_at (coded_of t).program.routines f))
 eight_breaks p t f e = eight_is p t ∙ ap (option_map (λ m. BoundTooLarge (name_at (coded_of t).program.routines m))) e
 
-pub eight_keeps : (p : Plant) (t : PlacedTask) → large_in p (placed_of t) ≡ None → group_eight p (placed_of t) ≡ None
+pub eight_keeps : (p : Plant) (t : PlacedTask) → large_in p (placed_of t) ≡ None → bound_rules p (placed_of t) ≡ None
 eight_keeps p t e = eight_is p t ∙ ap (option_map (λ m. BoundTooLarge (name_at (coded_of t).program.routines m))) e
 
 pub large_found : (p : Plant) (t : PlacedTask) (job : ℕ) (jl : Bool) (flags : List Bool) → job ≡ t.table.job → flags ≡ map is_large (interval_facts p (placed_of t)) → jl ≡ nat_lt greatest_bound (job_bound_of p (plans_of t) (table_of t.table)) →
@@ -132,15 +132,15 @@ facts_at : (p : Plant) (t : PlacedTask) (n : ℕ) (b : TaskBounds) → bounds_of
 facts_at p t n b e = facts_plain n b.facts.items (interval_facts p (placed_of t)) (ap (λ told. told.facts) e)
 
 nine_is : (p : Plant) (t : PlacedTask) (n : ℕ) (b : TaskBounds) (found : Option IntervalFact) → bounds_of b ≡ told_of p n (placed_of t) → found ≡ first_short (map fact_of b.facts.items) →
-    group_nine p (placed_of t) ≡ option_map (λ (f : IntervalFact). Length (name_at (coded_of t).program.routines f.function) f.bound f.stated) found
+    length_rules p (placed_of t) ≡ option_map (λ (f : IntervalFact). Length (name_at (coded_of t).program.routines f.function) f.bound f.stated) found
 nine_is p t n b found e is =
     short_is_first p (placed_of t) ∙ ap (λ o. option_map (λ (f : IntervalFact). Length (name_at (coded_of t).program.routines f.function) f.bound f.stated) o) (sym (is ∙ ap first_short (facts_at p t n b e)))
 
 nine_breaks : (p : Plant) (t : PlacedTask) (n : ℕ) (b : TaskBounds) (f : FactFound) → bounds_of b ≡ told_of p n (placed_of t) → Some (fact_of f) ≡ first_short (map fact_of b.facts.items) →
-    group_nine p (placed_of t) ≡ Some (Length (name_at (coded_of t).program.routines f.function) f.bound f.stated)
+    length_rules p (placed_of t) ≡ Some (Length (name_at (coded_of t).program.routines f.function) f.bound f.stated)
 nine_breaks p t n b f e is = nine_is p t n b (Some (fact_of f)) e is
 
-nine_keeps : (p : Plant) (t : PlacedTask) (n : ℕ) (b : TaskBounds) → bounds_of b ≡ told_of p n (placed_of t) → None ≡ first_short (map fact_of b.facts.items) → group_nine p (placed_of t) ≡ None
+nine_keeps : (p : Plant) (t : PlacedTask) (n : ℕ) (b : TaskBounds) → bounds_of b ≡ told_of p n (placed_of t) → None ≡ first_short (map fact_of b.facts.items) → length_rules p (placed_of t) ≡ None
 nine_keeps p t n b e is = nine_is p t n b None e is
 
 short_case : (b : Bool) (g f : IntervalFact) (rest : Option IntervalFact) (n : ℕ) → g.function < n → (rest ≡ Some f → f.function < n) → cond b (Some g) rest ≡ Some f → f.function < n
@@ -215,13 +215,13 @@ told_first p tasks bounds n t b e lt it ib =
     told_at p tasks bounds 0 n t b e lt (omega (arith, lt, told_long p tasks bounds 0 e)) it ib ∙ ap (λ k. told_of p k (placed_of t)) z
 
 pub short_first : (p : Plant) (tasks : List PlacedTask) (bounds : List TaskBounds) (n : ℕ) (b : TaskBounds) (facts : List FactFound) (f : FactFound) (whole : Option (Refusal LateRule)) → n < length tasks → map bounds_of bounds ≡ told_from p 0 (map placed_of tasks) →
-    b ≡ get_or bounds n b → facts ≡ b.facts.items → Some (fact_of f) ≡ first_short (map fact_of facts) → first_among (group_nine p) n (map placed_of (drop n tasks)) ≡ whole →
+    b ≡ get_or bounds n b → facts ≡ b.facts.items → Some (fact_of f) ≡ first_short (map fact_of facts) → first_among (length_rules p) n (map placed_of (drop n tasks)) ≡ whole →
     Some (refusal_of (map placed_of tasks) (record { task = n; verdict = LengthOf f.function f.bound f.stated })) ≡ whole
 short_first p tasks bounds n b facts f whole lt e ib ef is h =
     let there = item_there tasks n lt in
     let t : PlacedTask = there.0 in
     let told : bounds_of b ≡ told_of p n (placed_of t) = told_first p tasks bounds n t b e lt there.1 ib in
-    blame_is (group_nine p) tasks n t (LengthOf f.function f.bound f.stated) whole lt there.1 (nine_breaks p t n b f told (is ∙ ap (λ fs. first_short (map fact_of fs)) ef)) h
+    blame_is (length_rules p) tasks n t (LengthOf f.function f.bound f.stated) whole lt there.1 (nine_breaks p t n b f told (is ∙ ap (λ fs. first_short (map fact_of fs)) ef)) h
 
 pub short_there : (p : Plant) (tasks : List PlacedTask) (bounds : List TaskBounds) (n : ℕ) (b : TaskBounds) (facts : List FactFound) (f : FactFound) → AllByRecursion (IsPlacedTask p) tasks → n < length tasks → map bounds_of bounds ≡ told_from p 0 (map placed_of tasks) →
     b ≡ get_or bounds n b → facts ≡ b.facts.items → Some (fact_of f) ≡ first_short (map fact_of facts) → HasFunction (map placed_of tasks) n f.function
@@ -232,9 +232,9 @@ short_there p tasks bounds n b facts f all lt e ib ef is =
     has_function tasks n f.function t lt there.1 (short_within p t n b f (all_at (IsPlacedTask p) tasks n t all lt there.1) told (is ∙ ap (λ fs. first_short (map fact_of fs)) ef))
 
 pub short_passes : (p : Plant) (tasks : List PlacedTask) (bounds : List TaskBounds) (n : ℕ) (b : TaskBounds) (facts : List FactFound) (whole : Option (Refusal LateRule)) → n < length tasks → map bounds_of bounds ≡ told_from p 0 (map placed_of tasks) →
-    b ≡ get_or bounds n b → facts ≡ b.facts.items → None ≡ first_short (map fact_of facts) → first_among (group_nine p) n (map placed_of (drop n tasks)) ≡ whole → first_among (group_nine p) (n + 1) (map placed_of (drop (n + 1) tasks)) ≡ whole
+    b ≡ get_or bounds n b → facts ≡ b.facts.items → None ≡ first_short (map fact_of facts) → first_among (length_rules p) n (map placed_of (drop n tasks)) ≡ whole → first_among (length_rules p) (n + 1) (map placed_of (drop (n + 1) tasks)) ≡ whole
 short_passes p tasks bounds n b facts whole lt e ib ef is h =
     let there = item_there tasks n lt in
     let t : PlacedTask = there.0 in
     let told : bounds_of b ≡ told_of p n (placed_of t) = told_first p tasks bounds n t b e lt there.1 ib in
-    passes_at (group_nine p) tasks n t whole lt there.1 (nine_keeps p t n b told (is ∙ ap (λ fs. first_short (map fact_of fs)) ef)) h
+    passes_at (length_rules p) tasks n t whole lt there.1 (nine_keeps p t n b told (is ∙ ap (λ fs. first_short (map fact_of fs)) ef)) h

@@ -9,7 +9,7 @@ use Rattle.prem_layout.specs.Plans as layout
 use Rattle.prem_layout.specs.Footprint.{Conflict, conflict_of, footprint_of}
 use Rattle.prem_layout.specs.Facts.{IntervalFact, interval_fact, interval_facts_from}
 use Rattle.prem_layout.specs.Placed.{Placed, name_at}
-use Rattle.prem_layout.specs.Rules.{ConflictIn, or_else, group_seven}
+use Rattle.prem_layout.specs.Rules.{ConflictIn, or_else, conflict_rules}
 use Rattle.prem_split.specs.declared.plan.IntervalPlan.{IntervalPlan}
 use Rattle.prem_split.specs.PlanOf.{plan_of}
 use Rattle.prem_bounds.specs.Facts.Clashes.{Clash, clash_in, clash_of, first_clash}
@@ -54,14 +54,14 @@ pub clash_within : (p : Plant) (t : PlacedTask) (lines : List (List ℕ)) (c : C
 clash_within p t lines c h e = clash_below (length (routines_of t)) p (plans_of t) lines (record { function = c.function; conflict = record { set = c.conflict.set; lines = c.conflict.lines } }) (plans_within p t h) (sym e)
 
 pub seven_breaks : (p : Plant) (t : PlacedTask) (lines : List (List ℕ)) (c : ClashFound) → lines ≡ lines_of p t → clash_of (Some c) ≡ first_clash p (plans_of t) lines → c.conflict.«ways» ≡ p.«ways» →
-    group_seven p (placed_of t) ≡ Some (ConflictIn (name_at (coded_of t).program.routines c.function) c.conflict.set c.conflict.lines c.conflict.«ways»)
+    conflict_rules p (placed_of t) ≡ Some (ConflictIn (name_at (coded_of t).program.routines c.function) c.conflict.set c.conflict.lines c.conflict.«ways»)
 seven_breaks p t lines c el e ew =
     clash_is_first p (placed_of t)
     ∙ ap (λ ls. option_map (λ (k : Clash). ConflictIn (name_at (coded_of t).program.routines k.function) k.conflict.set k.conflict.lines p.«ways») (first_clash p (plans_of t) ls)) (sym el)
     ∙ ap (λ o. option_map (λ (k : Clash). ConflictIn (name_at (coded_of t).program.routines k.function) k.conflict.set k.conflict.lines p.«ways») o) (sym e)
     ∙ ap (λ w. Some (ConflictIn (name_at (coded_of t).program.routines c.function) c.conflict.set c.conflict.lines w)) (sym ew)
 
-pub seven_keeps : (p : Plant) (t : PlacedTask) (lines : List (List ℕ)) → lines ≡ lines_of p t → None ≡ first_clash p (plans_of t) lines → group_seven p (placed_of t) ≡ None
+pub seven_keeps : (p : Plant) (t : PlacedTask) (lines : List (List ℕ)) → lines ≡ lines_of p t → None ≡ first_clash p (plans_of t) lines → conflict_rules p (placed_of t) ≡ None
 seven_keeps p t lines el e =
     clash_is_first p (placed_of t)
     ∙ ap (λ ls. option_map (λ (k : Clash). ConflictIn (name_at (coded_of t).program.routines k.function) k.conflict.set k.conflict.lines p.«ways») (first_clash p (plans_of t) ls)) (sym el)

@@ -9,7 +9,7 @@ use Rattle.prem_syntax.specs.Resolved.{Routine, Resolved}
 use Rattle.prem_asm.specs.Pieces.{Pieces}
 use Rattle.prem_layout.specs.Plans.{Plan, plan_before, plans_from}
 use Rattle.prem_layout.specs.Placed.{Placed, name_at, blocks_of}
-use Rattle.prem_layout.specs.Rules.{LateRule, Reach, group_six}
+use Rattle.prem_layout.specs.Rules.{LateRule, Reach, reach_rules}
 use Rattle.prem_split.specs.declared.plan.IntervalPlan.{IntervalPlan}
 use Rattle.prem_split.specs.PlanOf.{plan_of as plan_in}
 use Rattle.prem_place.specs.Placed.PlacedOf.{placed_of, routines_of}
@@ -61,7 +61,7 @@ module _ (t : Placed) (s : IsStanding t) where
   abbrev told : Option ℕ → Option LateRule
   told = option_map (λ part. Reach (slice_index_or (names_in t) part []))
 
-  six_is : group_six t ≡ told far
+  six_is : reach_rules t ≡ told far
   six_is = reach_is_lowest t s.parts s.apart
 
   names_long : length (names_in t) ≡ length (parts_in t)
@@ -82,7 +82,7 @@ module _ (t : Placed) (s : IsStanding t) where
       let lt = lowest_below (start_at t.at) 0 (parts_in t) part h in
       record { first = six_is ∙ ap told h; there = omega (arith, lt, names_long) }
 
-  pub six_ends : {A : Type 0} (found : Option ℕ) (r : Result A FlatFail) → found ≡ far → MatchResult r (λ _. found ≡ None) (Blames found) → MatchResult r (λ _. group_six t ≡ None) (IsFarIn t)
+  pub six_ends : {A : Type 0} (found : Option ℕ) (r : Result A FlatFail) → found ≡ far → MatchResult r (λ _. found ≡ None) (Blames found) → MatchResult r (λ _. reach_rules t ≡ None) (IsFarIn t)
   six_ends found (Ok a) e h = six_is ∙ ap told (sym e ∙ h)
   six_ends found (Err x) e h = blamed_is x (subst (λ (o : Option ℕ). Blames o x) e h)
 

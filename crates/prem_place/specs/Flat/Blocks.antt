@@ -9,7 +9,7 @@ use Rattle.prem_layout.specs.Plans.{Plan}
 use Rattle.prem_layout.specs.Footprint.{TaskPlaces, place_at}
 use Rattle.prem_layout.specs.Bounds.{start_code}
 use Rattle.prem_layout.specs.Placed.{Placed, Block, job_name, name_at, blocks_of}
-use Rattle.prem_layout.specs.Rules.{Reach, group_six}
+use Rattle.prem_layout.specs.Rules.{Reach, reach_rules}
 use Rattle.prem_place.specs.Content.Blocks.{Words}
 use Rattle.prem_place.specs.Flat.Flat.{lowest_far, words_from}
 
@@ -58,7 +58,7 @@ pub record HasParts (t : Placed) : Type 0 where
 abbrev pub ReachIsLowest : Type 0
 ReachIsLowest =
     (t : Placed) → HasParts t → AllApart (start_at t.at) 0 (parts_in t) →
-    group_six t ≡ option_map (λ part. Reach (slice_index_or (names_in t) part [])) (lowest_far (start_at t.at) 0 (parts_in t))
+    reach_rules t ≡ option_map (λ part. Reach (slice_index_or (names_in t) part [])) (lowest_far (start_at t.at) 0 (parts_in t))
 
 -- the blocks of a task have the words of its parts
 abbrev pub BlocksHaveWords : Type 0

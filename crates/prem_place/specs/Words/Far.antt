@@ -1,7 +1,7 @@
 -- The words of placed tasks, and what is told of the first jump out of reach.
 use Rattle.std.specs.Prelude.{◌≡◌, ◌<◌, ℕ, ⊤, List, [], map, length, slice_index_or, None, Some, Result, MatchResult}
 use Rattle.prem_layout.specs.Placed.{Placed, blocks_of}
-use Rattle.prem_layout.specs.Rules.{LateRule, Reach, Refusal, over_tasks, group_six}
+use Rattle.prem_layout.specs.Rules.{LateRule, Reach, Refusal, over_tasks, reach_rules}
 use Rattle.prem_place.specs.Content.Blocks.{Words}
 use Rattle.prem_place.specs.Flat.Blocks.{names_in, words_of}
 use Rattle.prem_place.specs.declared.flat.flat.FlatFail.{FlatFail}
@@ -15,7 +15,7 @@ use Rattle.prem_place.specs.declared.words.WordsFail.TheVariants.{Far, OutOfMemo
 
 -- of the parts of a task that have a jump out of reach the one that starts lowest
 pub record FarPart (t : Placed) (part : ℕ) : Type 0 where
-  pub first : group_six t ≡ Some (Reach (slice_index_or (names_in t) part []))
+  pub first : reach_rules t ≡ Some (Reach (slice_index_or (names_in t) part []))
   pub there : part < length (names_in t)
 
 abbrev pub IsFarIn : Placed → FlatFail → Type 0
@@ -28,7 +28,7 @@ refusal_of ts j = record { task = Some j.task; rule = Reach (name_in ts j.task j
 
 -- the first jump out of reach, whose task and function are there
 pub record IsFirstFar (ts : List Placed) (j : FarJump) : Type 0 where
-  pub first : over_tasks group_six ts ≡ Some (refusal_of ts j)
+  pub first : over_tasks reach_rules ts ≡ Some (refusal_of ts j)
   pub there : HasFunction ts j.task j.function
 
 -- want of memory tells nothing
@@ -38,7 +38,7 @@ IsFar ts OutOfMemory = ⊤
 
 -- no jump is out of reach exactly where it ends well, but for want of memory
 abbrev pub EndsFar : {A : Type 0} → List Placed → Result A WordsFail → Type 0
-EndsFar ts result = MatchResult result (λ _. over_tasks group_six ts ≡ None) (IsFar ts)
+EndsFar ts result = MatchResult result (λ _. over_tasks reach_rules ts ≡ None) (IsFar ts)
 
 -- the words of a task's parts at their places
 abbrev pub words_in : PlacedTask → List Words

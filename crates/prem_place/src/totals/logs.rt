@@ -1,7 +1,7 @@
 // The rule on logs: they have room for all outputs and intervals of all jobs.
 ghost use Rattle.std.specs.Prelude.{◌≡◌, IfOk, map};
 ghost use Rattle.prem_layout.specs.Counts.{outputs_of, intervals_of};
-ghost use Rattle.prem_layout.specs.Rules.{total_of, group_ten};
+ghost use Rattle.prem_layout.specs.Rules.{total_of, log_rules};
 ghost use Rattle.prem_bounds.specs.Counts.Count.{clipped};
 ghost use Rattle.prem_place.specs.Placed.PlacedOf.{coded_of};
 ghost use Rattle.prem_place.specs.Totals.Logs.{told_of};
@@ -49,7 +49,7 @@ fn all_intervals(alloc: Global, tasks: &[PlacedTask]) -> Result<u64, AllocError>
 
 /// Which log has no room for all that jobs may put into it, if one has none: that of outputs is looked at first.
 pub fn full_log(alloc: Global, tasks: &[PlacedTask]) -> Result<Option<LogRule>, AllocError>
-    ensures { IfOk result (λ found. told_of found ≡ group_ten (map coded_of tasks.now)) }
+    ensures { IfOk result (λ found. told_of found ≡ log_rules (map coded_of tasks.now)) }
 {
     let outputs = all_outputs(alloc, tasks)?;
     if outputs > LOG_ROOM {

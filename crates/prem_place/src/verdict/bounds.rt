@@ -3,7 +3,7 @@ ghost use Rattle.std.specs.Prelude.{◌≡◌, ◌≤◌, ◌++◌, ◌∷◌, [
 ghost use Rattle.std.specs.List.{AllByRecursion};
 ghost use Rattle.prem_plant.specs.Ranges.{IsPlant};
 ghost use Rattle.prem_layout.specs.Facts.{interval_facts};
-ghost use Rattle.prem_layout.specs.Rules.{over_tasks, group_eight};
+ghost use Rattle.prem_layout.specs.Rules.{over_tasks, bound_rules};
 ghost use Rattle.prem_bounds.specs.Facts.Laws.{is_large};
 ghost use Rattle.prem_place.specs.Placed.PlacedOf.{IsPlacedTask, placed_of, lines_of};
 ghost use Rattle.prem_place.specs.Verdict.Told.{numbered, with_task, is_small, bounds_of, told_of, told_from, large_in, Ends};
@@ -113,7 +113,7 @@ pub fn bounds_of_all(
     requires count { length tasks.now ≤ 16 }
     requires lines { map (λ lines. lines.items) lines.now ≡ map (lines_of p.now) tasks.now }
     requires plant { IsPlant p.now }
-    ensures ends { Ends (group_eight p.now) (map placed_of tasks.now) result }
+    ensures ends { Ends (bound_rules p.now) (map placed_of tasks.now) result }
     ensures told { IfOk result (λ all. map bounds_of all.items ≡ told_from p.now 0 (map placed_of tasks.now)) }
 {
     let mut all = Vec::new(alloc);

@@ -2,7 +2,7 @@
 ghost use Rattle.std.specs.Prelude.{◌≡◌, ◌≤◌, IfOk, IfSome, map, length};
 ghost use Rattle.std.specs.List.{AllByRecursion};
 ghost use Rattle.prem_plant.specs.Ranges.{IsPlant};
-ghost use Rattle.prem_layout.specs.Rules.{over_tasks, group_seven};
+ghost use Rattle.prem_layout.specs.Rules.{over_tasks, conflict_rules};
 ghost use Rattle.prem_place.specs.Placed.PlacedOf.{IsPlacedTask, placed_of, lines_of};
 ghost use Rattle.prem_place.specs.Verdict.Told.{blame_of, HasBlamed};
 
@@ -36,7 +36,7 @@ pub fn first_conflict(tasks: &[PlacedTask], lines: &[Vec<Lines>], p: &Plant) -> 
     requires count { length tasks.now ≤ 16 }
     requires lines { map (λ lines. lines.items) lines.now ≡ map (lines_of p.now) tasks.now }
     requires plant { IsPlant p.now }
-    ensures first { blame_of (map placed_of tasks.now) result ≡ over_tasks (group_seven p.now) (map placed_of tasks.now) }
+    ensures first { blame_of (map placed_of tasks.now) result ≡ over_tasks (conflict_rules p.now) (map placed_of tasks.now) }
     ensures there { HasBlamed (map placed_of tasks.now) result }
 {
     for n in 0..tasks.len() {

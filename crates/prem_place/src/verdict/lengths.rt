@@ -1,7 +1,7 @@
 // The rule on lengths: a marked function states at least its bound.
 ghost use Rattle.std.specs.Prelude.{◌≡◌, ◌≤◌, map, length};
 ghost use Rattle.std.specs.List.{AllByRecursion};
-ghost use Rattle.prem_layout.specs.Rules.{over_tasks, group_nine};
+ghost use Rattle.prem_layout.specs.Rules.{over_tasks, length_rules};
 ghost use Rattle.prem_place.specs.Placed.PlacedOf.{IsPlacedTask, placed_of};
 ghost use Rattle.prem_place.specs.Verdict.Told.{blame_of, HasBlamed, bounds_of, told_from};
 
@@ -16,7 +16,7 @@ pub fn first_short_interval(tasks: &[PlacedTask], bounds: &[TaskBounds], p: &Pla
     requires tasks { AllByRecursion (IsPlacedTask p.now) tasks.now }
     requires count { length tasks.now ≤ 16 }
     requires bounds { map bounds_of bounds.now ≡ told_from p.now 0 (map placed_of tasks.now) }
-    ensures first { blame_of (map placed_of tasks.now) result ≡ over_tasks (group_nine p.now) (map placed_of tasks.now) }
+    ensures first { blame_of (map placed_of tasks.now) result ≡ over_tasks (length_rules p.now) (map placed_of tasks.now) }
     ensures there { HasBlamed (map placed_of tasks.now) result }
 {
     for n in 0..tasks.len() {

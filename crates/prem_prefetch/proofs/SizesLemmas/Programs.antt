@@ -9,7 +9,7 @@ use Rattle.prem_list.specs.Sequence.{items_of}
 use Rattle.prem_syntax.specs.Syntax.{MarkText, GlobalVariable, FunctionText, global_item, function_item, ProgramText}
 use Rattle.prem_syntax.specs.SyntaxOf.{global_of}
 use Rattle.prem_syntax.specs.Breaches.{regions_of}
-use Rattle.prem_syntax.specs.GroupTwo.{IsWellFormed}
+use Rattle.prem_syntax.specs.ProgramRules.{IsWellFormed}
 use Rattle.prem_syntax.specs.Reach.{with_all_if, is_in, with_callees_below, members_from, reach_set, reach_of, callee_table, callees_in}
 use Rattle.prem_syntax.specs.Resolve.{loops_within, functions_of, globals_of, resolve_items, resolve}
 use Rattle.prem_syntax.specs.Resolved.{Routine, Resolved}

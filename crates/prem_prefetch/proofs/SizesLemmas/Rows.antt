@@ -3,7 +3,7 @@ use Rattle.std.specs.Prelude.{codes, slice_index}
 use Rattle.std.proofs.Common.{◌<◌, ◌^◌, refl, arith}
 use Rattle.std.proofs.lemmas.List.Elements.{All-from_recursion}
 use Rattle.prem_plant.specs.declared.plant.Target.TheVariants.{Rv32i}
-use Rattle.prem_syntax.specs.GroupTwo.{group_two, IsWellFormed}
+use Rattle.prem_syntax.specs.ProgramRules.{first_breach, IsWellFormed}
 use Rattle.prem_asm.specs.Pieces.{size_of}
 use Rattle.prem_layout.specs.Placed.{Coded}
 use Rattle.prem_layout.proofs.Samples.{m_text, m_turns}
@@ -14,7 +14,7 @@ abbrev task_m : Coded
 task_m = coded (codes "m") 1000 1 m_text m_turns
 
 m_formed : IsWellFormed m_text
-unfolding group_two
+unfolding first_breach
 m_formed = refl
 
 -- a marked function of one store, and `job`

@@ -4,7 +4,7 @@ use Rattle.std.specs.List.{AllByRecursion}
 use Rattle.prem_plant.specs.declared.plant.Plant.{Plant}
 use Rattle.prem_plant.specs.declared.plant.Device.{Device}
 use Rattle.prem_syntax.specs.Syntax.{ProgramText}
-use Rattle.prem_syntax.specs.GroupTwo.{IsWellFormed}
+use Rattle.prem_syntax.specs.ProgramRules.{IsWellFormed}
 use Rattle.prem_syntax.specs.Resolve.{resolve}
 use Rattle.prem_tree.specs.declared.resolve.resolved.Resolved.{Resolved as ResolvedTree}
 use Rattle.prem_tree.specs.Resolve.ResolvedOf.{resolved_of}

@@ -2,7 +2,7 @@
 ghost use Rattle.std.specs.Prelude.{◌≡◌, ◌≤◌, IfOk, IfErr, OnOk, None};
 ghost use Rattle.prem_plant.specs.Places.{AreLawful, default_places, last_end};
 ghost use Rattle.prem_plant.specs.Ranges.{IsPlant};
-ghost use Rattle.prem_layout.specs.Rules.{group_five};
+ghost use Rattle.prem_layout.specs.Rules.{memory_rules};
 ghost use Rattle.prem_prefetch.specs.Sizes.Sizes.{MayHavePlaces};
 ghost use Rattle.prem_prefetch.specs.Sizes.Full.{TellsMemory};
 
@@ -19,8 +19,8 @@ pub fn place(alloc: Global, parts: &[PartSize], plant: &Plant) -> Result<Layout,
     ensures places { IfOk result (λ layout. layout ≡ default_places parts.now) }
     ensures lawful { IfOk result (AreLawful plant.now.line plant.now.memory parts.now) }
     ensures within { OnOk result (last_end (default_places parts.now) ≤ plant.now.memory) }
-    ensures kept { OnOk result (group_five plant.now (default_places parts.now) ≡ None) }
-    ensures full { IfErr result (TellsMemory (group_five plant.now (default_places parts.now))) }
+    ensures kept { OnOk result (memory_rules plant.now (default_places parts.now) ≡ None) }
+    ensures full { IfErr result (TellsMemory (memory_rules plant.now (default_places parts.now))) }
 {
     place_parts(alloc, parts, plant)
 }

@@ -9,11 +9,11 @@ use Rattle.prem_lru.specs.Rules.{rule_of}
 use Rattle.prem_cycle.specs.declared.state.Stop.TheVariants.{Finished}
 use Rattle.prem_cycle.specs.Run.{run_of}
 use Rattle.prem_sound.specs.Good.{Good}
-use Rattle.prem_syntax.specs.GroupTwo.{group_two}
+use Rattle.prem_syntax.specs.ProgramRules.{first_breach}
 use Rattle.prem_text.specs.Lexing.Tokens.{tokens_of, lex, step, start, first_token}
 use Rattle.prem_text.specs.Lexing.Spelling.{reserved_word, used_word, is_unused, longest_mark}
 use Rattle.prem_text.specs.Lexing.Literal.{literal_word}
-use Rattle.prem_ranges.specs.GroupThree.{group_three}
+use Rattle.prem_ranges.specs.RangesKept.{first_range_breach}
 use Rattle.prem_tasks.specs.Broken.{TaskText, TaskSet, broken}
 use Rattle.prem_tasks.specs.Compiled.{compiled}
 use Rattle.prem_sets_sound.specs.Accepted.Accepted.{HasTextValues, HasValues, setup_in}
@@ -34,7 +34,7 @@ abbrev pub echoing : TaskSet
 echoing = record { plant = default_plant; devices = net ∷ []; tasks = echo ∷ [] }
 
 pub echoing_breaks_nothing : broken echoing ≡ None
-unfolding tokens_of lex step start first_token reserved_word used_word is_unused longest_mark literal_word group_two group_three
+unfolding tokens_of lex step start first_token reserved_word used_word is_unused longest_mark literal_word first_breach first_range_breach
 echoing_breaks_nothing = refl
 
 echo_name : IsName (codes "echo")

@@ -10,20 +10,20 @@ use Rattle.prem_list.specs.Sequence.{items_of}
 use Rattle.prem_plant.specs.declared.plant.Plant.{Plant}
 use Rattle.prem_plant.specs.Places.{Extent}
 use Rattle.prem_syntax.specs.Syntax.{Text, ProgramText}
-use Rattle.prem_syntax.specs.GroupTwo as meaning
+use Rattle.prem_syntax.specs.ProgramRules as meaning
 use Rattle.prem_syntax.specs.Resolved.{Routine}
 use Rattle.prem_syntax.specs.Statements.{is_marked}
-use Rattle.prem_ranges.specs.GroupThree.{turn_bounds, bounded}
+use Rattle.prem_ranges.specs.RangesKept.{turn_bounds, bounded}
 use Rattle.prem_layout.specs.Bounds.{job_bound_of, JobBound, last_release, work_of, limit_of}
 use Rattle.prem_layout.specs.Facts.{IntervalFact, interval_facts}
 use Rattle.prem_layout.specs.Parts.{part_count}
 use Rattle.prem_layout.specs.Placed.{Coded, Placed, placed_at, placed_from, task_places}
-use Rattle.prem_layout.specs.Rules.{BoundTooLarge, or_else, refused_by, first_among, over_tasks, greatest_bound, if_large, marked_bound, facts_behind, large_bound, group_four, group_five, group_six, group_seven, group_eight, group_nine, group_ten}
+use Rattle.prem_layout.specs.Rules.{BoundTooLarge, or_else, refused_by, first_among, over_tasks, greatest_bound, if_large, marked_bound, facts_behind, large_bound, code_rules, memory_rules, reach_rules, conflict_rules, bound_rules, length_rules, log_rules}
 use Rattle.prem_layout.specs.Broken.{broken_late}
 use Rattle.prem_tasks.specs.declared.set.TaskText.{TaskText as TaskTree}
 use Rattle.prem_tasks.specs.declared.set.TaskSet.{TaskSet as SetTree}
 use Rattle.prem_tasks.specs.Lawful.{IsTaskText}
-use Rattle.prem_tasks.specs.Broken.{TaskText, TaskSet, group_one, programs_of, group_two, group_three, coded_one, coded_of, late_refusal, broken_programs, broken}
+use Rattle.prem_tasks.specs.Broken.{TaskText, TaskSet, text_rules, programs_of, program_rules, range_rules, coded_one, coded_of, late_refusal, broken_programs, broken}
 use Rattle.prem_tasks.specs.Compiled.{compiled, coded_in, places_in, placed_in, job_bounds}
 use Rattle.prem_tasks.specs.SetOf.{set_of, task_of}
 use Rattle.prem_running.proofs.SetLawsLemmas.Nothing.{none_first, none_second, unrefused, unmapped, not_late}
@@ -59,7 +59,7 @@ abbrev pub IsSmall : JobBound → Type 0
 IsSmall j = ((j.period ≤ 4294967295) × (j.jobs ≤ 65535)) × (j.bound ≤ 1099511627776)
 
 pub bounds_are_small : (p : Plant) (m n : ℕ) (places : List Extent) (ts : List TaskText) (qs : List ProgramText) → AllByRecursion InRange ts →
-    first_among group_two m qs ≡ None → first_among (group_eight p) n (placed_from p places (coded_of p.target ts qs)) ≡ None →
+    first_among program_rules m qs ≡ None → first_among (bound_rules p) n (placed_from p places (coded_of p.target ts qs)) ≡ None →
     AllByRecursion IsSmall (job_bounds p (placed_from p places (coded_of p.target ts qs)))
 bounds_are_small p m n places [] qs ranges two eight = tt
 bounds_are_small p m n places (t ∷ ts) [] ranges two eight = tt
@@ -67,14 +67,14 @@ bounds_are_small p m n places (t ∷ ts) (q ∷ qs) ranges two eight =
     let c = coded_one p.target t (bounded q) in
     let rest = drop (part_count c.program) places in
     let placed : Placed = placed_at p c (task_places c.program places) in
-    let formed : meaning.group_two q ≡ None =
-    unmapped _ (meaning.group_two q) (unrefused (Some m) (group_two q) (none_first (refused_by (Some m) (group_two q)) (first_among group_two (m + 1) qs) two)) in
-    let others : first_among group_two (m + 1) qs ≡ None = none_second (refused_by (Some m) (group_two q)) (first_among group_two (m + 1) qs) two in
-    let behind = first_among (group_eight p) (n + 1) (placed_from p rest (coded_of p.target ts qs)) in
-    let kept : group_eight p placed ≡ None = unrefused (Some n) (group_eight p placed) (none_first (refused_by (Some n) (group_eight p placed)) behind eight) in
+    let formed : meaning.first_breach q ≡ None =
+    unmapped _ (meaning.first_breach q) (unrefused (Some m) (program_rules q) (none_first (refused_by (Some m) (program_rules q)) (first_among program_rules (m + 1) qs) two)) in
+    let others : first_among program_rules (m + 1) qs ≡ None = none_second (refused_by (Some m) (program_rules q)) (first_among program_rules (m + 1) qs) two in
+    let behind = first_among (bound_rules p) (n + 1) (placed_from p rest (coded_of p.target ts qs)) in
+    let kept : bound_rules p placed ≡ None = unrefused (Some n) (bound_rules p placed) (none_first (refused_by (Some n) (bound_rules p placed)) behind eight) in
     let small = not_large c.program.job (job_bound_of p placed.plans placed.table) 0 (interval_facts p placed) c.program.routines kept (omega arith)
     (omega (arith, job_below (slice_index (turn_bounds q)) q formed)) in
-    ((ranges.0, small), bounds_are_small p (m + 1) (n + 1) rest ts qs ranges.1 others (none_second (refused_by (Some n) (group_eight p placed)) behind eight))
+    ((ranges.0, small), bounds_are_small p (m + 1) (n + 1) rest ts qs ranges.1 others (none_second (refused_by (Some n) (bound_rules p placed)) behind eight))
 
 few_bounds : (p : Plant) (places : List Extent) (ts : List TaskText) (qs : List ProgramText) → length (job_bounds p (placed_from p places (coded_of p.target ts qs))) ≤ length ts
 few_bounds p places [] qs = omega arith
@@ -117,17 +117,17 @@ ranges_of (t ∷ ts) h =
     let one : IsTaskText t = All-head IsTaskText t ts h in
     ((one.period.1, one.jobs.1), ranges_of ts (All-tail IsTaskText t ts h))
 
-pub two_kept : (set : TaskSet) → broken set ≡ None → over_tasks group_two (programs_of set.tasks) ≡ None
-two_kept set e = none_first _ _ (none_second (over_tasks group_one set.tasks) (broken_programs set (programs_of set.tasks)) e)
+pub two_kept : (set : TaskSet) → broken set ≡ None → over_tasks program_rules (programs_of set.tasks) ≡ None
+two_kept set e = none_first _ _ (none_second (over_tasks text_rules set.tasks) (broken_programs set (programs_of set.tasks)) e)
 
 late_kept : (set : TaskSet) → broken set ≡ None → broken_late set.plant set.devices (coded_in set) ≡ None
 late_kept set e =
     let qs = programs_of set.tasks in
     let late = late_refusal (broken_late set.plant set.devices (coded_in set)) in
     not_late (broken_late set.plant set.devices (coded_in set))
-    (none_second (over_tasks group_three qs) late
-    (none_second (over_tasks group_two qs) (or_else (over_tasks group_three qs) late)
-    (none_second (over_tasks group_one set.tasks) (broken_programs set qs) e)))
+    (none_second (over_tasks range_rules qs) late
+    (none_second (over_tasks program_rules qs) (or_else (over_tasks range_rules qs) late)
+    (none_second (over_tasks text_rules set.tasks) (broken_programs set qs) e)))
 
 eighth : {A : Type 0} (four five six seven eight rest : Option A) → or_else four (or_else five (or_else six (or_else seven (or_else eight rest)))) ≡ None → eight ≡ None
 eighth four five six seven eight rest h =
@@ -137,13 +137,13 @@ eighth four five six seven eight rest h =
     (none_second five (or_else six (or_else seven (or_else eight rest)))
     (none_second four (or_else five (or_else six (or_else seven (or_else eight rest)))) h))))
 
-pub eight_kept : (set : TaskSet) → broken set ≡ None → over_tasks (group_eight set.plant) (placed_in set) ≡ None
+pub eight_kept : (set : TaskSet) → broken set ≡ None → over_tasks (bound_rules set.plant) (placed_in set) ≡ None
 eight_kept set e =
     let p = set.plant in
     let cs = coded_in set in
     let placed = placed_in set in
-    eighth (over_tasks (λ (c : Coded). group_four c.program) cs) (refused_by None (group_five p (places_in set))) (over_tasks group_six placed)
-    (over_tasks (group_seven p) placed) (over_tasks (group_eight p) placed) (or_else (over_tasks (group_nine p) placed) (refused_by None (group_ten cs))) (late_kept set e)
+    eighth (over_tasks (λ (c : Coded). code_rules c.program) cs) (refused_by None (memory_rules p (places_in set))) (over_tasks reach_rules placed)
+    (over_tasks (conflict_rules p) placed) (over_tasks (bound_rules p) placed) (or_else (over_tasks (length_rules p) placed) (refused_by None (log_rules cs))) (late_kept set e)
 
 pub limits_are_small : (set : SetTree) → broken (set_of set) ≡ None → (compiled (set_of set)).limit ≤ 2 ^ 61
 limits_are_small tree e =

@@ -26,7 +26,7 @@ use Rattle.prem_layout.specs.Placed.{Coded, sized_of, parts_of, placed_from, par
 use Rattle.prem_layout.specs.Image.{task_record, device_records}
 use Rattle.prem_layout.specs.Rules.{or_else, refused_by, first_among, over_tasks}
 use Rattle.prem_layout.proofs.TaskParts.{code_counted, globals_counted, areas_counted}
-use Rattle.prem_tasks.specs.Broken.{TaskText, TaskSet, unread, group_one, program_before, programs_of, coded_of, broken_programs, broken}
+use Rattle.prem_tasks.specs.Broken.{TaskText, TaskSet, unread, text_rules, program_before, programs_of, coded_of, broken_programs, broken}
 use Rattle.prem_tasks.specs.Compiled.{compiled, coded_in, places_in}
 use Rattle.prem_set.specs.Run.Names.{known_of}
 use Rattle.prem_set.specs.Run.Lawful.{IsLawful}
@@ -37,17 +37,17 @@ use Rattle.prem_running.proofs.SetLawsLemmas.Nothing.{none_first}
 
 -- ---- each text has its program
 
-read_count : (n : ℕ) (ts : List TaskText) → first_among group_one n ts ≡ None → length (programs_of ts) ≡ length ts
+read_count : (n : ℕ) (ts : List TaskText) → first_among text_rules n ts ≡ None → length (programs_of ts) ≡ length ts
 read_count n [] e = refl
 read_count n (t ∷ ts) e = by (reads t.text) e (read_count (n + 1) ts)
   where
-    by : (read : Result ProgramText FrontFail) → or_else (refused_by (Some n) (unread read)) (first_among group_one (n + 1) ts) ≡ None →
-        (first_among group_one (n + 1) ts ≡ None → length (programs_of ts) ≡ length ts) → length (program_before read (programs_of ts)) ≡ suc (length ts)
+    by : (read : Result ProgramText FrontFail) → or_else (refused_by (Some n) (unread read)) (first_among text_rules (n + 1) ts) ≡ None →
+        (first_among text_rules (n + 1) ts ≡ None → length (programs_of ts) ≡ length ts) → length (program_before read (programs_of ts)) ≡ suc (length ts)
     by (Ok p) e more = ap suc (more e)
     by (Err fail) e more = absurd cc
 
 pub as_many_programs : (set : TaskSet) → broken set ≡ None → length (programs_of set.tasks) ≡ length set.tasks
-as_many_programs set e = read_count 0 set.tasks (none_first (over_tasks group_one set.tasks) (broken_programs set (programs_of set.tasks)) e)
+as_many_programs set e = read_count 0 set.tasks (none_first (over_tasks text_rules set.tasks) (broken_programs set (programs_of set.tasks)) e)
 
 -- ---- the names of tasks
 

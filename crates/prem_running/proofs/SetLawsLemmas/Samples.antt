@@ -5,14 +5,14 @@ use Rattle.prem_word.specs.declared.kind.Kind.TheVariants.{Int}
 use Rattle.prem_plant.specs.Ranges.{default_plant}
 use Rattle.prem_syntax.specs.declared.tree.Place.{Place}
 use Rattle.prem_syntax.specs.Syntax.{literal, ProgramText}
-use Rattle.prem_syntax.specs.GroupTwo as meaning
+use Rattle.prem_syntax.specs.ProgramRules as meaning
 use Rattle.prem_syntax.specs.Sums.{outputs, job_program}
 use Rattle.prem_text.specs.declared.lexing.token.fail.FrontFail.{FrontFail}
 use Rattle.prem_text.specs.Lexing.Spelling.{used_word, is_unused, reserved_word, longest_mark}
 use Rattle.prem_text.specs.Lexing.Literal.{literal_word}
 use Rattle.prem_text.specs.Lexing.Tokens.{first_token, start, step, lex, tokens_of}
 use Rattle.prem_text.specs.Texts.{reads}
-use Rattle.prem_ranges.specs.GroupThree as ranges
+use Rattle.prem_ranges.specs.RangesKept as ranges
 use Rattle.prem_layout.specs.Rules.{Refusal, or_else, refused_by}
 use Rattle.prem_tasks.specs.Told.{Told}
 use Rattle.prem_tasks.specs.Broken.{TaskSet, unread, program_before, broken_programs, broken}
@@ -45,7 +45,7 @@ abbrev judged : Result ProgramText FrontFail → Option (Refusal Told)
 judged read = or_else (or_else (refused_by (Some 0) (unread read)) None) (broken_programs five_set (program_before read []))
 
 five_is_kept : judged (Ok five_program) ≡ None
-unfolding meaning.group_two ranges.group_three ranges.turn_bounds
+unfolding meaning.first_breach ranges.first_range_breach ranges.turn_bounds
 five_is_kept = refl
 
 five_is_unbroken : broken five_set ≡ None

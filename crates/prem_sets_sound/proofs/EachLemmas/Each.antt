@@ -11,7 +11,7 @@ use Rattle.prem_syntax.specs.Syntax.{ProgramText, MarkText}
 use Rattle.prem_syntax.specs.Resolved.{Routine, Resolved}
 use Rattle.prem_syntax.specs.Source.{initial_words}
 use Rattle.prem_syntax.specs.Statements.{is_marked}
-use Rattle.prem_ranges.specs.GroupThree.{limits_of}
+use Rattle.prem_ranges.specs.RangesKept.{limits_of}
 use Rattle.prem_asm.specs.Pieces.{call_to, no_pieces}
 use Rattle.prem_asm.specs.Runs.{Setting}
 use Rattle.prem_layout.specs.Template.Frames.{depth_of, deepest}

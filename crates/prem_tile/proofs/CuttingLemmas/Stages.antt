@@ -6,7 +6,7 @@ use Rattle.prem_syntax.specs.declared.tree.Program.{Program}
 use Rattle.prem_syntax.specs.Syntax.{Text, FunctionText, ProgramText}
 use Rattle.prem_syntax.specs.SyntaxOf.{program_of}
 use Rattle.prem_syntax.specs.Resolve.{functions_of}
-use Rattle.prem_syntax.specs.GroupTwo.{IsWellFormed}
+use Rattle.prem_syntax.specs.ProgramRules.{IsWellFormed}
 use Rattle.prem_tiling.specs.Shapes.Shape.{marked_named}
 use Rattle.prem_tiling.specs.Shapes.Tiled.{Cut, tile_names, tiled}
 use Rattle.prem_tiling.specs.Shapes.Tile.{limit, Past, is_past, unless_past, tile}

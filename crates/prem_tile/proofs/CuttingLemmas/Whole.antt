@@ -6,7 +6,7 @@ use Rattle.std.proofs.lemmas.Bool.{ltb-false, cases_lt}
 use Rattle.prem_syntax.specs.Syntax.{Text, ProgramText, function_item}
 use Rattle.prem_syntax.specs.Resolve.{functions_of, globals_of}
 use Rattle.prem_syntax.specs.Breaches.{in_limits}
-use Rattle.prem_syntax.specs.GroupTwo.{IsWellFormed}
+use Rattle.prem_syntax.specs.ProgramRules.{IsWellFormed}
 use Rattle.prem_text.specs.declared.lexing.token.fail.FrontFail.{FrontFail}
 use Rattle.prem_text.specs.Lexing.Token.Lexeme.{name}
 use Rattle.prem_text.specs.Texts.{reads}

@@ -6,7 +6,7 @@ use Rattle.prem_syntax.specs.Syntax.{Text, ProgramText}
 use Rattle.prem_syntax.specs.SyntaxOf.{program_of}
 use Rattle.prem_syntax.specs.Resolve.{functions_of, number_named}
 use Rattle.prem_syntax.specs.Source.{source}
-use Rattle.prem_syntax.specs.GroupTwo.{IsWellFormed}
+use Rattle.prem_syntax.specs.ProgramRules.{IsWellFormed}
 use Rattle.prem_text.specs.declared.lexing.token.fail.FrontFail.{FrontFail}
 use Rattle.prem_text.specs.declared.lexing.token.fail.FrontFail.TheVariants.{TooLong, TooDeep}
 use Rattle.prem_text.specs.Texts.{reads}

@@ -1,7 +1,7 @@
 // The text of a program with tiles.
 ghost use Rattle.std.specs.Prelude.{◌≡◌, ◌≤◌, ℕ, List, Ok};
 ghost use Rattle.prem_syntax.specs.Syntax.{Text, ProgramText};
-ghost use Rattle.prem_syntax.specs.GroupTwo.{IsWellFormed};
+ghost use Rattle.prem_syntax.specs.ProgramRules.{IsWellFormed};
 ghost use Rattle.prem_text.specs.Texts.{reads};
 ghost use Rattle.prem_tiling.specs.Shapes.Tile.{tile};
 ghost use Rattle.prem_tile.specs.Cutting.Answer.{is_text_past, IsReadBack};

@@ -3,7 +3,7 @@ ghost use Rattle.std.specs.Prelude.{◌≡◌, ◌≤◌, IfOk, map, Some, None}
 ghost use Rattle.prem_syntax.specs.Name.{name_bytes};
 ghost use Rattle.prem_syntax.specs.SyntaxOf.{function_of, local_of, program_of};
 ghost use Rattle.prem_syntax.specs.Resolve.{functions_of};
-ghost use Rattle.prem_syntax.specs.GroupTwo.{IsWellFormed};
+ghost use Rattle.prem_syntax.specs.ProgramRules.{IsWellFormed};
 ghost use Rattle.prem_tiling.specs.Shapes.Shape.{marked_named, shape_of, turns_of};
 ghost use Rattle.prem_tiling.specs.Shapes.Carried.{names_of, carried_in};
 ghost use Rattle.prem_tiling.specs.Shapes.Tiled.{used_names, taken_from};

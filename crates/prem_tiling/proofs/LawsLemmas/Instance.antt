@@ -1,12 +1,12 @@
 -- A program whose function can be cut.
 use Rattle.std.specs.Fmt.{digits}
 use Rattle.std.proofs.Common.{refl, arith}
-use Rattle.prem_syntax.specs.GroupTwo.{IsWellFormed, group_two}
+use Rattle.prem_syntax.specs.ProgramRules.{IsWellFormed, first_breach}
 use Rattle.prem_tiling.specs.Laws.CanCut.{CanCut}
 use Rattle.prem_tiling.proofs.ShapesLemmas.Rows.{eight, eight_cut}
 
 eight_is_well_formed : IsWellFormed eight
-unfolding eight group_two
+unfolding eight first_breach
 eight_is_well_formed = refl
 
 eight_can_be_cut : CanCut eight eight_cut

@@ -14,7 +14,7 @@ use Rattle.prem_syntax.specs.Source.{calls_below, everywhere, unlimited, start, 
 use Rattle.prem_syntax.specs.Rules.{NoJob, LoopForm}
 use Rattle.prem_syntax.specs.Reach.{is_in_set}
 use Rattle.prem_syntax.specs.Breaches.{Around, around, if_at, if_broken, is_job_name, is_loop, in_names, in_expression, in_regions, regions_of, in_heading, in_parameters, in_locals, in_statement, in_statements, in_option, parameter_texts, in_function, in_items, item_names, in_limits, has_name, reached}
-use Rattle.prem_syntax.specs.GroupTwo.{IsWellFormed}
+use Rattle.prem_syntax.specs.ProgramRules.{IsWellFormed}
 use Rattle.prem_names.specs.Numbers.{number_of}
 use Rattle.prem_names.proofs.Firsts.{within_names}
 use Rattle.prem_tiling.specs.Shapes.Shape.{Loop, bound_of, turns_of}

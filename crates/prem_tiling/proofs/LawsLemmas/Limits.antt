@@ -9,7 +9,7 @@ use Rattle.prem_syntax.specs.Syntax.{MarkText, GlobalVariable, FunctionText, fun
 use Rattle.prem_syntax.specs.Resolve.{globals_of, functions_of}
 use Rattle.prem_syntax.specs.Rules.{Rule, Limit, NoJob, Breach}
 use Rattle.prem_syntax.specs.Breaches.{if_broken, is_job_name, regions_of, is_stated, is_length, in_limits, in_items, item_names, reached}
-use Rattle.prem_syntax.specs.GroupTwo.{IsWellFormed}
+use Rattle.prem_syntax.specs.ProgramRules.{IsWellFormed}
 use Rattle.prem_tiling.specs.Shapes.Tiled.{Cut, tile_region, tile_mark, tile_of, function_with_tiles, tiled}
 use Rattle.prem_tiling.specs.Shapes.Tile.{has_breach}
 use Rattle.prem_tiling.specs.Laws.CanCut.{CanCut}

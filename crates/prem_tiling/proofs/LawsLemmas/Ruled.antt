@@ -12,7 +12,7 @@ use Rattle.prem_syntax.specs.Resolve.{Scope, scope_at, scope_in, globals_of, fun
 use Rattle.prem_syntax.specs.Rules.{Breach, NoJob, Twice, OfTypes, LoopForm, first_of}
 use Rattle.prem_syntax.specs.Reach.{has_number, is_in_set, reached_by}
 use Rattle.prem_syntax.specs.Breaches.{Around, around, if_at, if_broken, is_job_name, is_marked_text, is_narrow, is_void, is_loop, in_names, in_expression, in_regions, regions_of, in_heading, in_parameters, in_locals, in_statement, in_statements, in_option, parameter_texts, callees, callees_within, in_function, in_items, item_name, item_names, in_limits, has_name, breaches, reached, table_of}
-use Rattle.prem_syntax.specs.GroupTwo.{group_two, IsWellFormed}
+use Rattle.prem_syntax.specs.ProgramRules.{first_breach, IsWellFormed}
 use Rattle.prem_tiling.specs.Shapes.Shape.{Loop}
 use Rattle.prem_tiling.specs.Shapes.Carried.{names_of}
 use Rattle.prem_tiling.specs.Shapes.Tiled.{Cut, tile_name, tile_names, tile_mark, tile_of, tiles_from, function_with_tiles, tiled, used_names}
@@ -408,7 +408,7 @@ module _ (c : Cut) (front back : ProgramText) (can : CanCut (front ++ function_i
 -- ---- wherever the function stands
 
 pub well_formed : (p : ProgramText) (c : Cut) → IsWellFormed p → CanCut p c → in_limits (globals_of (tiled c p)) (functions_of (tiled c p)) ≡ [] → IsWellFormed (tiled c p)
-unfolding group_two
+unfolding first_breach
 well_formed p c formed can limits =
     let s = split_at p c.function.name c.function can.named in
     let whole = s.front ++ function_item c.function ∷ s.back in

@@ -8,7 +8,7 @@ use Rattle.prem_syntax.specs.Resolve.{Scope, scope_at, scope_in, globals_of, fun
 use Rattle.prem_syntax.specs.Rules.{Breach, NoJob, Twice, OfTypes, LoopForm}
 use Rattle.prem_syntax.specs.Reach.{is_in_set}
 use Rattle.prem_syntax.specs.Breaches.{Around, around, if_at, if_broken, is_job_name, is_marked_text, is_narrow, is_void, is_loop, in_names, in_expression, in_regions, regions_of, in_heading, in_parameters, in_locals, in_statement, in_statements, in_option, parameter_texts, in_function, in_items, item_names, in_limits, has_name, breaches, reached}
-use Rattle.prem_syntax.specs.GroupTwo.{group_two, IsWellFormed}
+use Rattle.prem_syntax.specs.ProgramRules.{first_breach, IsWellFormed}
 use Rattle.prem_tiling.specs.Shapes.Shape.{Loop, shape_of, marked_named}
 use Rattle.prem_tiling.specs.Shapes.Tiled.{Cut, tiled}
 use Rattle.prem_tiling.proofs.LawsLemmas.Formed.{none_left, none_right, kept_rule, kept_rule_not, none_broken, IsLoop, loop_parts}
@@ -23,8 +23,8 @@ is_none_means None e = refl
 is_none_means (Some x) e = cc
 
 pub all_breaches : (p : ProgramText) → IsWellFormed p → breaches p ≡ []
-unfolding group_two
-all_breaches p formed = none_broken (breaches p) (is_none_means (group_two p) formed)
+unfolding first_breach
+all_breaches p formed = none_broken (breaches p) (is_none_means (first_breach p) formed)
 
 pub item_breaches : (p : ProgramText) → IsWellFormed p → in_items (functions_of p) (item_names p) (reached (functions_of p)) 0 [] [] p ≡ []
 item_breaches p formed =

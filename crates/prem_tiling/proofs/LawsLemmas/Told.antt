@@ -6,7 +6,7 @@ use Rattle.prem_syntax.specs.Resolve.{functions_of, globals_of, number_named}
 use Rattle.prem_syntax.specs.Source.{source}
 use Rattle.prem_syntax.specs.Rules.{Breach}
 use Rattle.prem_syntax.specs.Breaches.{in_limits}
-use Rattle.prem_syntax.specs.GroupTwo.{IsWellFormed}
+use Rattle.prem_syntax.specs.ProgramRules.{IsWellFormed}
 use Rattle.prem_tiling.specs.Shapes.Shape.{Loop, marked_named, shape_of, turns_of}
 use Rattle.prem_tiling.specs.Shapes.Carried.{names_of, carried_in}
 use Rattle.prem_tiling.specs.Shapes.Tiled.{tiled, used_names, taken_from}

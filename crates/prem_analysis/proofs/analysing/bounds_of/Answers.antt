@@ -2,9 +2,9 @@ use Rattle.std.specs.Prelude.{All, IsTrue, is_none}
 use Rattle.std.proofs.Common.{◌≡◌, Option, None, refl, ap, ◌∙◌, ◌<◌, ◌^◌, ℕ, sym, subst}
 use Rattle.prem_syntax.specs.SyntaxOf.{program_of}
 use Rattle.prem_syntax.specs.Literals.{ProgramHasWords}
-use Rattle.prem_syntax.specs.GroupTwo.{IsWellFormed}
+use Rattle.prem_syntax.specs.ProgramRules.{IsWellFormed}
 use Rattle.prem_tree.specs.Checked.{checked_program}
-use Rattle.prem_ranges.specs.GroupThree.{group_three, turn_bounds, StaysInRange}
+use Rattle.prem_ranges.specs.RangesKept.{first_range_breach, turn_bounds, StaysInRange}
 use Rattle.prem_ranges.proofs.AnalysisSound.{turns_are_words}
 use Rattle.prem_analysis.specs.declared.ranging.found.Broken.{Broken}
 use Rattle.prem_analysis.specs.Ranging.View.{breach_of, found_of}
@@ -23,7 +23,7 @@ returns-in-None c =
     let text : program_of c.program-program.result.now ≡ p = ap program_of c.program-program.ensures.program in
     let formed = subst IsWellFormed text c.program-program.ensures.well_formed in
     let has_words = subst ProgramHasWords text c.have_words.ensures in
-    let none : group_three p ≡ None = ap group_three (sym text) ∙ sym c.in_ok-seen.ensures.found ∙ ap (λ (o : Option Broken). found_of o) c.in-None.is in
+    let none : first_range_breach p ≡ None = ap first_range_breach (sym text) ∙ sym c.in_ok-seen.ensures.found ∙ ap (λ (o : Option Broken). found_of o) c.in-None.is in
     let stays : StaysInRange p = subst (λ o. IsTrue (is_none o)) (sym none) refl in
     let turns : c.in_ok-seen.seen.turns.items ≡ turn_bounds p = c.in_ok-seen.ensures.turns ∙ ap turn_bounds text in
     record {

@@ -2,7 +2,7 @@ use Rattle.std.proofs.Common.{List, ap, sym, ◌∙◌}
 use Rattle.prem_syntax.specs.Syntax.{ProgramText}
 use Rattle.prem_syntax.specs.SyntaxOf.{program_of}
 use Rattle.prem_layout.specs.Rules.{over_tasks}
-use Rattle.prem_tasks.specs.Broken.{TaskText, group_one, group_two, programs_of}
+use Rattle.prem_tasks.specs.Broken.{TaskText, text_rules, program_rules, programs_of}
 use Rattle.prem_stages.proofs.Groups.{few_programs}
 use Rattle.prem_annotate_answer.proofs.formed.formed_programs.Goals as goal
 
@@ -14,7 +14,7 @@ returns c =
     let tasks = c.tasks.ensures.tasks in
     let listed = c.in_ok-texts.ensures.programs ∙ ap programs_of tasks in
     record {
-      texts_are_read = ap (λ (ts : List TaskText). over_tasks group_one ts) (sym tasks) ∙ c.in_ok-texts.ensures.ends;
-      programs_are_formed = ap (λ (ps : List ProgramText). over_tasks group_two ps) (sym listed) ∙ c.in_ok-programs.ensures.ends;
+      texts_are_read = ap (λ (ts : List TaskText). over_tasks text_rules ts) (sym tasks) ∙ c.in_ok-texts.ensures.ends;
+      programs_are_formed = ap (λ (ps : List ProgramText). over_tasks program_rules ps) (sym listed) ∙ c.in_ok-programs.ensures.ends;
       programs_are = c.in_ok-programs.ensures.programs ∙ listed;
     }

@@ -1,5 +1,5 @@
 use Rattle.std.proofs.Common.{map}
-use Rattle.prem_layout.specs.Rules.{over_tasks, group_six}
+use Rattle.prem_layout.specs.Rules.{over_tasks, reach_rules}
 use Rattle.prem_place.specs.Content.Blocks.{block_of}
 use Rattle.prem_place.specs.Placed.PlacedOf.{placed_of}
 use Rattle.prem_place.specs.Words.Far.{words_in}
@@ -18,7 +18,7 @@ loop-n-preserved c =
     let tasks = c.args.tasks.now in
     let lt = c.loop-n-test.true in
     record {
-      rest = passes_at group_six tasks c.loop-n.n c.index-tasks-n.result (over_tasks group_six (map placed_of tasks)) lt c.index-tasks-n.is c.in-Ok.ensures.far c.loop-n.invariant.rest;
+      rest = passes_at reach_rules tasks c.loop-n.n c.index-tasks-n.result (over_tasks reach_rules (map placed_of tasks)) lt c.index-tasks-n.is c.in-Ok.ensures.far c.loop-n.invariant.rest;
       words = more_words (λ blocks. map block_of blocks.items) tasks c.loop-n.n c.index-tasks-n.result c.loop-n.all.items c.push.new.self.items c.in-Ok.blocks (map words_in tasks) lt c.index-tasks-n.is c.in-Ok.ensures.words
           c.in_ok-push-in-Ok.ensures.items c.loop-n.invariant.words;
     }

@@ -2,7 +2,7 @@ use Rattle.std.proofs.Common.{◌≡◌, ap, sym, ◌∙◌, map, subst}
 use Rattle.prem_syntax.specs.Name.{name_bytes}
 use Rattle.prem_syntax.specs.Syntax.{ProgramText}
 use Rattle.prem_syntax.specs.SyntaxOf.{program_of}
-use Rattle.prem_ranges.specs.GroupThree.{group_three}
+use Rattle.prem_ranges.specs.RangesKept.{first_range_breach}
 use Rattle.prem_analysis.specs.Told.{IsRefusal}
 use Rattle.prem_tasks.specs.Told.{told_of}
 use Rattle.prem_stages.specs.Stages.{checked_text, function_names, global_names}
@@ -14,7 +14,7 @@ range_rule-requires c =
     let p = program_of c.program-program.result.now in
     let text : p ≡ checked_text c.args.checked.now = ap program_of c.program-program.ensures.program in
     let names = c.in_ok-names-in-Err.names in
-    let refused : IsRefusal c.in-Err.fail (group_three p) = subst (λ (q : ProgramText). IsRefusal c.in-Err.fail (group_three q)) (sym text) c.in-Err.ensures in
+    let refused : IsRefusal c.in-Err.fail (first_range_breach p) = subst (λ (q : ProgramText). IsRefusal c.in-Err.fail (first_range_breach q)) (sym text) c.in-Err.ensures in
     names_there p c.in-Err.fail names.functions.items names.globals.items c.program-program.ensures.well_formed c.have_words.ensures c.in_ok-names-in-Err.ensures.functions c.in_ok-names-in-Err.ensures.globals refused
 
 pub returns-in_ok-range_rule-in-Err-clause-ends : goal.returns-in_ok-range_rule-in-Err-clause-ends

@@ -1,5 +1,5 @@
 use Rattle.std.proofs.Common.{Vec, ℕ, Global, ◌∙◌}
-use Rattle.prem_ranges.specs.GroupThree.{turn_bounds}
+use Rattle.prem_ranges.specs.RangesKept.{turn_bounds}
 use Rattle.prem_stages.proofs.Codes.{alike_at, resolved_as}
 use Rattle.prem_stages.proofs.code.code_all.Goals as goal
 

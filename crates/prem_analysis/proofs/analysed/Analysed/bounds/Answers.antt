@@ -1,6 +1,6 @@
 use Rattle.std.specs.Prelude.{All}
 use Rattle.std.proofs.Common.{◌<◌, ◌^◌, ℕ, sym, ◌∙◌, subst}
-use Rattle.prem_ranges.specs.GroupThree.{turn_bounds}
+use Rattle.prem_ranges.specs.RangesKept.{turn_bounds}
 use Rattle.prem_ranges.proofs.AnalysisSound.{turns_are_words}
 use Rattle.prem_analysis.specs.Analysed.{analysed_text}
 use Rattle.prem_analysis.proofs.Bounded.{all_below}

@@ -1,6 +1,6 @@
 use Rattle.std.specs.Prelude.{slice_get}
 use Rattle.std.proofs.Common.{◌≡◌, ◌<◌, ◌^◌, List, ℕ, ap, sym, ◌∙◌, arith, subst, Some}
-use Rattle.prem_ranges.specs.GroupThree.{turn_bounds}
+use Rattle.prem_ranges.specs.RangesKept.{turn_bounds}
 use Rattle.prem_ranges.proofs.AnalysisSound.{turns_are_words}
 use Rattle.prem_analysis.proofs.Arguments.{got_some}
 use Rattle.prem_analysis.specs.Analysed.{analysed_text}

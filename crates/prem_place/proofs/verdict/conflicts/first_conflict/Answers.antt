@@ -1,7 +1,7 @@
 use Rattle.std.proofs.Common.{◌≡◌, ap, sym, ◌∙◌, arith, length, map}
 use Rattle.std.proofs.Common.{Some, None}
 use Rattle.prem_list.specs.Sequence.{items_of}
-use Rattle.prem_layout.specs.Rules.{over_tasks, group_seven}
+use Rattle.prem_layout.specs.Rules.{over_tasks, conflict_rules}
 use Rattle.prem_bounds.specs.Facts.Clashes.{clash_of}
 use Rattle.prem_place.specs.Placed.PlacedOf.{placed_of, lines_of, IsPlacedTask}
 use Rattle.prem_place.specs.declared.verdict.verdict.Verdict.TheVariants.{Conflict}
@@ -30,7 +30,7 @@ returns-in-Some-clause-first c =
     let line : c.deref.result.now ≡ lines_of p t =
     c.deref.ensures.value ∙ both_at (λ v. v.items) (lines_of p) c.args.lines.now c.args.tasks.now c.loop-n.n c.index-lines-n.result t c.requires.lines (omega (arith, lt, long)) lt c.index-lines-n.is c.index-tasks-n.is in
     let plans : c.items.result.now ≡ items_of t.plans = c.items.ensures ∙ ap (λ q. items_of q.plans) (sym c.index-tasks-n.is) in
-    blame_is (group_seven p) c.args.tasks.now c.loop-n.n t (Conflict c.in-Some.clash) (over_tasks (group_seven p) (map placed_of c.args.tasks.now)) lt c.index-tasks-n.is
+    blame_is (conflict_rules p) c.args.tasks.now c.loop-n.n t (Conflict c.in-Some.clash) (over_tasks (conflict_rules p) (map placed_of c.args.tasks.now)) lt c.index-tasks-n.is
     (seven_breaks p t c.deref.result.now c.in-Some.clash line (clash_at p t c.items.result.now c.deref.result.now (clash_of (Some c.in-Some.clash)) plans c.in-Some.ensures.clash) c.in-Some.ensures.ways) c.loop-n.invariant
 
 pub returns-in-Some-clause-there : goal.returns-in-Some-clause-there
@@ -52,5 +52,5 @@ loop-n-preserved c =
     let line : c.deref.result.now ≡ lines_of p t =
     c.deref.ensures.value ∙ both_at (λ v. v.items) (lines_of p) c.args.lines.now c.args.tasks.now c.loop-n.n c.index-lines-n.result t c.requires.lines (omega (arith, lt, long)) lt c.index-lines-n.is c.index-tasks-n.is in
     let plans : c.items.result.now ≡ items_of t.plans = c.items.ensures ∙ ap (λ q. items_of q.plans) (sym c.index-tasks-n.is) in
-    passes_at (group_seven p) c.args.tasks.now c.loop-n.n t (over_tasks (group_seven p) (map placed_of c.args.tasks.now)) lt c.index-tasks-n.is
+    passes_at (conflict_rules p) c.args.tasks.now c.loop-n.n t (over_tasks (conflict_rules p) (map placed_of c.args.tasks.now)) lt c.index-tasks-n.is
     (seven_keeps p t c.deref.result.now line (clash_at p t c.items.result.now c.deref.result.now None plans c.in_default.ensures.clash)) c.loop-n.invariant
