@@ -58,7 +58,8 @@ pub behind_step : (site : Site) (around : ℕ) (env : Environment) (step : Step)
     behind site around (after env (plain step)) rest (behind site around env (plain step) s) ≡ behind site around env (plain_before step rest) s
 behind_step site around env step rest s =
     same_seen _ _ _ _ (append_assoc s.bounds (bounds env (plain step)) (bounds (after env (plain step)) rest) ∙ ap (λ l. s.bounds ++ l) (sym (bounds-step env step rest)))
-    (first_assoc s.found (first_of (in_steps site around env (plain step))) (first_of (in_steps site around (after env (plain step)) rest)) ∙ ap (first s.found) (sym (first-step site around env step rest)))
+    (first_assoc s.found (first_of (in_steps site around env (plain step))) (first_of (in_steps site around (after env (plain step)) rest))
+    ∙ ap (first s.found) (sym (first-step site around env step rest)))
 
 -- ---- the arms of `if`
 
@@ -66,7 +67,8 @@ behind_if : (site : Site) (around : ℕ) (env : Environment) (at : Place) (c : T
     behind site around (refined false env c) other (behind site around (refined true env c) taken (at_term site env c s)) ≡ behind site around env (If at c taken other Done) s
 behind_if site around env at c taken other s =
     let t = in_steps site around (refined true env c) taken in let o = in_steps site around (refined false env c) other in let i = in_term site env c in
-    same_seen _ _ _ _ (append_assoc s.bounds (bounds (refined true env c) taken) (bounds (refined false env c) other) ∙ ap (λ l. s.bounds ++ l) (sym (append-nil (bounds (refined true env c) taken ++ bounds (refined false env c) other))))
+    same_seen _ _ _ _ (append_assoc s.bounds (bounds (refined true env c) taken) (bounds (refined false env c) other)
+    ∙ ap (λ l. s.bounds ++ l) (sym (append-nil (bounds (refined true env c) taken ++ bounds (refined false env c) other))))
     (ap (λ f. first f (first_of o)) (more s.found i t) ∙ more s.found (i ++ t) o ∙ ended s.found (i ++ t ++ o))
 
 -- ---- loops
@@ -102,7 +104,8 @@ behind_for site around env at k low closed high step turns body s =
     same_seen _ _ _ _ (append_assoc s.bounds (bound ∷ []) (bounds e body) ∙ ap (λ l. s.bounds ++ l) (sym (append-nil (bound ∷ bounds e body))))
     (ap (λ l. first (first (first (first s.found (first_of l)) (first_of i)) (first_of j)) (first_of (in_steps site (capped around bound) e body))) (counting_capped at end step around bound)
     ∙ ap (λ l. first (first (first (first s.found (first_of t)) (first_of i)) (first_of j)) (first_of l)) (body_capped site around bound e body)
-    ∙ ap (λ f. first (first f (first_of j)) (first_of b)) (more s.found t i) ∙ ap (λ f. first f (first_of b)) (more s.found (t ++ i) j) ∙ more s.found (t ++ i ++ j) b ∙ ended s.found (t ++ i ++ j ++ b))
+    ∙ ap (λ f. first (first f (first_of j)) (first_of b)) (more s.found t i) ∙ ap (λ f. first f (first_of b)) (more s.found (t ++ i) j)
+    ∙ more s.found (t ++ i ++ j) b ∙ ended s.found (t ++ i ++ j ++ b))
 
 -- ---- steps of a list, one after the other: what is left leads where all led
 
@@ -121,10 +124,12 @@ walked_on site around steps i step env env' env0 s s' s0 inside is w new_env new
           ∙ ap (λ (l : List Step). behind site around env (plain_list l) s) (sym all) ∙ w.seen_is;
     }
 
-walked_env : (site : Site) (around : ℕ) (steps : List Step) (i : ℕ) (env env0 : Environment) (s s0 : Seen) → length steps ≤ i → Walking site around steps (drop i steps) env env0 s s0 → env ≡ after env0 (plain_list steps)
+walked_env : (site : Site) (around : ℕ) (steps : List Step) (i : ℕ) (env env0 : Environment) (s s0 : Seen) → length steps ≤ i →
+    Walking site around steps (drop i steps) env env0 s s0 → env ≡ after env0 (plain_list steps)
 walked_env site around steps i env env0 s s0 past w = ap (λ (l : List Step). after env (plain_list l)) (sym (drop_all i steps past)) ∙ w.known
 
-walked_seen : (site : Site) (around : ℕ) (steps : List Step) (i : ℕ) (env env0 : Environment) (s s0 : Seen) → length steps ≤ i → Walking site around steps (drop i steps) env env0 s s0 → s ≡ behind site around env0 (plain_list steps) s0
+walked_seen : (site : Site) (around : ℕ) (steps : List Step) (i : ℕ) (env env0 : Environment) (s s0 : Seen) → length steps ≤ i →
+    Walking site around steps (drop i steps) env env0 s s0 → s ≡ behind site around env0 (plain_list steps) s0
 walked_seen site around steps i env env0 s s0 past w = behind_none site around env s ∙ ap (λ (l : List Step). behind site around env (plain_list l) s) (sym (drop_all i steps past)) ∙ w.seen_is
 
 -- ---- an arm of the walk, from what its calls give
@@ -134,11 +139,14 @@ pub if_arm : (site : Site) (around : ℕ) (env right inner : Environment) (at : 
     s2 ≡ behind site around inner (plain t) s1 → s3 ≡ behind site around right (plain o) s2 → s3 ≡ behind site around env (If at c (plain taken) (plain other) Done) s
 if_arm site around env right inner at c taken other t o s1 s2 s3 s e1 e2 e3 e4 e5 e6 e7 =
     e7 ∙ ap (λ r. behind site around r (plain o) s2) e1 ∙ ap (λ (x : Step). behind site around (refined false env c) (plain x) s2) e5
-    ∙ ap (behind site around (refined false env c) (plain other)) (e6 ∙ ap (λ r. behind site around r (plain t) s1) e2 ∙ ap (λ (x : Step). behind site around (refined true env c) (plain x) s1) e4 ∙ ap (behind site around (refined true env c) (plain taken)) e3)
+    ∙ ap (behind site around (refined false env c) (plain other))
+    (e6 ∙ ap (λ r. behind site around r (plain t) s1) e2 ∙ ap (λ (x : Step). behind site around (refined true env c) (plain x) s1) e4
+    ∙ ap (behind site around (refined true env c) (plain taken)) e3)
     ∙ behind_if site around env at c (plain taken) (plain other) s
 
 -- a loop's body is walked over in what is known there
-in_loop : (site : Site) (a a' : ℕ) (e e' : Environment) (b body : Step) (s1 s2 s3 : Seen) → s3 ≡ behind site a e (plain b) s1 → a ≡ a' → e ≡ e' → b ≡ body → s1 ≡ s2 → s3 ≡ behind site a' e' (plain body) s2
+in_loop : (site : Site) (a a' : ℕ) (e e' : Environment) (b body : Step) (s1 s2 s3 : Seen) → s3 ≡ behind site a e (plain b) s1 → a ≡ a' → e ≡ e' →
+    b ≡ body → s1 ≡ s2 → s3 ≡ behind site a' e' (plain body) s2
 in_loop site a a' e e' b body s1 s2 s3 h one two three four =
     h ∙ ap (λ x. behind site x e (plain b) s1) one ∙ ap (λ x. behind site a' x (plain b) s1) two ∙ ap (λ (x : Step). behind site a' e' (plain x) s1) three ∙ ap (behind site a' e' (plain body)) four
 
@@ -164,7 +172,8 @@ pub record Declaring (site : Site) (ls left_ls : List LocalVariable) (es left_es
   pub known : declared env left_ls left_es ≡ declared env0 ls es
   pub seen_is : noted (first_of (in_locals site env left_ls left_es)) s ≡ noted (first_of (in_locals site env0 ls es)) s0
 
-pub declared_on : (site : Site) (all : List LocalVariable) (all_es : List Term) (l : LocalVariable) (ls : List LocalVariable) (e : Term) (es : List Term) (env env' env0 : Environment) (s s' s0 : Seen) →
+pub declared_on : (site : Site) (all : List LocalVariable) (all_es : List Term) (l : LocalVariable) (ls : List LocalVariable) (e : Term)
+    (es : List Term) (env env' env0 : Environment) (s s' s0 : Seen) →
     Declaring site all (l ∷ ls) all_es (e ∷ es) env env0 s s0 → env' ≡ env ++ known_local env l e ∷ [] → s' ≡ at_term site env e s → Declaring site all ls all_es es env' env0 s' s0
 declared_on site all all_es l ls e es env env' env0 s s' s0 d new_env new_seen =
     let next = env ++ known_local env l e ∷ [] in
@@ -200,7 +209,9 @@ no_locals site all ls all_es es env env0 s s0 none d = (
 )
 
 pub behind_function : (site : Site) (f : Routine) (s : Seen) →
-    noted (first_of (in_result site (after (at_body f) f.body) f.result)) (behind site 1 (at_body f) f.body (noted (first_of (in_locals site (map known_parameter f.text.params) f.text.locals f.locals)) s)) ≡ behind_routine site f s
+    noted (first_of (in_result site (after (at_body f) f.body) f.result))
+    (behind site 1 (at_body f) f.body (noted (first_of (in_locals site (map known_parameter f.text.params) f.text.locals f.locals)) s))
+    ≡ behind_routine site f s
 behind_function site f s =
     let a = in_locals site (map known_parameter f.text.params) f.text.locals f.locals in let b = in_steps site 1 (at_body f) f.body in let c = in_result site (after (at_body f) f.body) f.result in
     same_seen _ _ _ _ refl (ap (λ o. first o (first_of c)) (more s.found a b) ∙ more s.found (a ++ b) c)
@@ -212,8 +223,10 @@ ranged_item [] i p r inside is = absurd (omega arith)
 ranged_item (q ∷ qs) zero p (next_ranged r rest) inside is = subst (λ (x : Param). IsRange (promoted x.ty) (stated_or_whole (promoted x.ty) x.range)) (sym is) r
 ranged_item (q ∷ qs) (suc i) p (next_ranged r rest) inside is = ranged_item qs i p rest (omega arith) is
 
-pub declared_next : (site : Site) (ls : List Local) (es : List TermTree) (i : ℕ) (l : Local) (e : TermTree) (env env' env0 : Environment) (s s' s0 : Seen) → i < length ls → i < length es → l ≡ get_or ls i l → e ≡ get_or es i e →
-    Declaring site (map local_of ls) (map local_of (drop i ls)) (map term_of es) (map term_of (drop i es)) env env0 s s0 → env' ≡ env ++ known_local env (local_of l) (term_of e) ∷ [] → s' ≡ at_term site env (term_of e) s →
+pub declared_next : (site : Site) (ls : List Local) (es : List TermTree) (i : ℕ) (l : Local) (e : TermTree) (env env' env0 : Environment)
+    (s s' s0 : Seen) → i < length ls → i < length es → l ≡ get_or ls i l → e ≡ get_or es i e →
+    Declaring site (map local_of ls) (map local_of (drop i ls)) (map term_of es) (map term_of (drop i es)) env env0 s s0 →
+    env' ≡ env ++ known_local env (local_of l) (term_of e) ∷ [] → s' ≡ at_term site env (term_of e) s →
     Declaring site (map local_of ls) (map local_of (drop (i + 1) ls)) (map term_of es) (map term_of (drop (i + 1) es)) env' env0 s' s0
 declared_next site ls es i l e env env' env0 s s' s0 in_ls in_es is_l is_e d new_env new_seen =
     let all_ls : drop i ls ≡ l ∷ drop (i + 1) ls = drop_more ls i l in_ls ∙ ap (λ x. x ∷ drop (i + 1) ls) (sym is_l) in
@@ -229,7 +242,8 @@ routine_arm site f ls es e0 e1 e2 e3 s0 s1 s2 s3 h0 hl he h1 g1 h2 g2 h3 g3 =
     let start = map known_parameter f.text.params in
     let body : e1 ≡ at_body f = h1 ∙ ap (λ e. declared e ls es) h0 ∙ ap (λ l. declared start l es) hl ∙ ap (declared start f.text.locals) he in
     let first_seen : s1 ≡ noted (first_of (in_locals site start f.text.locals f.locals)) s0 =
-    g1 ∙ ap (λ e. noted (first_of (in_locals site e ls es)) s0) h0 ∙ ap (λ l. noted (first_of (in_locals site start l es)) s0) hl ∙ ap (λ l. noted (first_of (in_locals site start f.text.locals l)) s0) he in
+    g1 ∙ ap (λ e. noted (first_of (in_locals site e ls es)) s0) h0 ∙ ap (λ l. noted (first_of (in_locals site start l es)) s0) hl
+    ∙ ap (λ l. noted (first_of (in_locals site start f.text.locals l)) s0) he in
     g3 ∙ ap (λ e. noted (first_of (in_result site e f.result)) s2) (h3 ∙ h2 ∙ ap (λ e. after e f.body) body)
     ∙ ap (noted (first_of (in_result site (after (at_body f) f.body) f.result))) (g2 ∙ ap (λ e. behind site 1 e f.body s1) body ∙ ap (behind site 1 (at_body f) f.body) first_seen)
     ∙ behind_function site f s0

@@ -76,7 +76,8 @@ small_named p formed words =
     let many = as_many (functions_of p) unlimited.turns 0 [] p in
     let functions = counts.functions in
     let globals = counts.globals in
-    widened (length (resolved p).routines) (length (resolved p).globals) (first_of (range_breaches (resolved p))) (omega arith) (omega arith) (program_named (resolved p) (well_formed_is_typed p formed words unlimited.turns))
+    widened (length (resolved p).routines) (length (resolved p).globals) (first_of (range_breaches (resolved p))) (omega arith) (omega arith)
+    (program_named (resolved p) (well_formed_is_typed p formed words unlimited.turns))
 
 -- what the first breach of a tree names
 pub told_named : (p : ProgramText) (o : Option RangeBreach) (b : RangeBreach) → IsWellFormed p → ProgramHasWords p → o ≡ first_range_breach p → o ≡ Some b → Named 65536 65536 b.rule

@@ -66,13 +66,15 @@ for_back env k r q body =
     let ks = k ∷ targets body in let from = at_local k (with_range q) env in
     ap (λ e. restored (saved_few from ks) (after e (plain body))) (sym (set_again k r q env))
     ∙ restored_few ks (after (at_local k (with_range r) from) (plain body)) from
-    (differs_after ks (at_local k (with_range r) from) from (plain body) (differs_at ks k (with_range r) from (λ l. refl) (λ j out. (or_parts (eqb k j) (among j (targets body)) out).0)) (for_body k body))
+    (differs_after ks (at_local k (with_range r) from) from (plain body)
+    (differs_at ks k (with_range r) from (λ l. refl) (λ j out. (or_parts (eqb k j) (among j (targets body)) out).0)) (for_body k body))
 
 -- ---- an arm of the walk, from what its calls give
 
 -- what is known in the other arm of an `if`
 pub if_other_known : (env e1 e2 e3 : Environment) (c : Term) (taken other t1 o1 t2 : Step) (before : List Saved) →
-    before ≡ saved_few env (in_if c t1 o1) → e1 ≡ refined true env c → e2 ≡ after e1 (plain t2) → e3 ≡ refined false (restored before e2) c → t1 ≡ taken → o1 ≡ other → t2 ≡ taken → e3 ≡ refined false env c
+    before ≡ saved_few env (in_if c t1 o1) → e1 ≡ refined true env c → e2 ≡ after e1 (plain t2) → e3 ≡ refined false (restored before e2) c →
+    t1 ≡ taken → o1 ≡ other → t2 ≡ taken → e3 ≡ refined false env c
 if_other_known env e1 e2 e3 c taken other t1 o1 t2 before is_before is1 is2 is3 t1_is o1_is t2_is =
     is3 ∙ ap (λ b. refined false (restored b e2) c) (is_before ∙ ap (λ (x : Step). saved_few env (in_if c x o1)) t1_is ∙ ap (λ (x : Step). saved_few env (in_if c taken x)) o1_is)
     ∙ ap (λ e. refined false (restored (saved_few env (in_if c taken other)) e) c) (is2 ∙ ap (λ e. after e (plain t2)) is1 ∙ ap (λ (x : Step). after (refined true env c) (plain x)) t2_is)
@@ -80,7 +82,8 @@ if_other_known env e1 e2 e3 c taken other t1 o1 t2 before is_before is1 is2 is3 
 
 -- and behind it
 pub if_known : (env e1 e2 e3 e4 e5 : Environment) (at : Place) (c : Term) (taken other t1 o1 t2 o2 : Step) (ks : List ℕ) (behind : List Saved) →
-    ks ≡ few_or_all (length env) (in_if c t1 o1) → e1 ≡ refined true env c → e2 ≡ after e1 (plain t2) → behind ≡ saved e2 ks → e3 ≡ refined false env c → e4 ≡ after e3 (plain o2) → e5 ≡ merged behind e4 →
+    ks ≡ few_or_all (length env) (in_if c t1 o1) → e1 ≡ refined true env c → e2 ≡ after e1 (plain t2) → behind ≡ saved e2 ks →
+    e3 ≡ refined false env c → e4 ≡ after e3 (plain o2) → e5 ≡ merged behind e4 →
     t1 ≡ taken → o1 ≡ other → t2 ≡ taken → o2 ≡ other → e5 ≡ after env (If at c (plain taken) (plain other) Done)
 if_known env e1 e2 e3 e4 e5 at c taken other t1 o1 t2 o2 ks behind is_ks is1 is2 is_behind is3 is4 is5 t1_is o1_is t2_is o2_is =
     let few = few_or_all (length env) (in_if c taken other) in

@@ -9,14 +9,17 @@ use Rattle.prem_word.specs.Ranges.{Span, from_to, exactly, holds, IsRange, enclo
 use Rattle.prem_syntax.specs.declared.tree.Place.{Place}
 use Rattle.prem_syntax.specs.declared.tree.Ty.{Ty}
 use Rattle.prem_syntax.specs.Syntax.{Parameter, LocalVariable, MarkText, GlobalVariable}
-use Rattle.prem_syntax.specs.Resolved.{Term, Constant, Local, Scalar, Element, Unary, Binary, AndAlso, OrElse, Steps, Done, SetLocal, SetScalar, SetElement, Output, Input, If, For, While, Call, Routine, Resolved}
+use Rattle.prem_syntax.specs.Resolved.{Term, Constant, Local, Scalar, Element, Unary, Binary, AndAlso, OrElse, Steps, Done, SetLocal, SetScalar, SetElement, Output, Input, If, For}
+use Rattle.prem_syntax.specs.Resolved.{While, Call, Routine, Resolved}
 use Rattle.prem_syntax.specs.Resolve.{promoted}
 use Rattle.prem_ranges.specs.Environment.{Known, any_again, assigned, Environment, at_local, joined as joined_env}
 use Rattle.prem_ranges.specs.RangeOf.{range_of, refined}
 use Rattle.prem_ranges.specs.After.{loop_end, turn_bound, in_counting, in_body, behind_loop, in_while, behind_call, stated_or_whole, known_parameter, known_local, after, at_body}
 use Rattle.prem_ranges.specs.Regions.{Watch, areas_hold, watch_if, watches_from}
 use Rattle.prem_ranges.specs.RangeRules.{RangeRule, LoopBound, TooLarge, ZeroDivisor, IndexOutside, ArgRange, RangeBreach, comes_before, first, first_of, if_at}
-use Rattle.prem_ranges.specs.RangeBreaches.{Site, site_of, length_of, in_watch, in_watches, in_index, in_scalar, in_element, in_divisor, in_term, in_stated, in_argument, in_arguments, parameters_of, in_turns, in_range_of_int, in_counting_loop, in_steps, in_locals, in_result, in_routine, in_routines, range_breaches}
+use Rattle.prem_ranges.specs.RangeBreaches.{Site, site_of, length_of, in_watch, in_watches, in_index, in_scalar, in_element, in_divisor, in_term, in_stated, in_argument}
+use Rattle.prem_ranges.specs.RangeBreaches.{in_arguments, parameters_of, in_turns, in_range_of_int, in_counting_loop, in_steps, in_locals, in_result, in_routine, in_routines}
+use Rattle.prem_ranges.specs.RangeBreaches.{range_breaches}
 use Rattle.prem_ranges.specs.Sound.{kinds_of, HasGlobal, Typed, AllTyped, TypedSteps, TypedLocals, TypedResult, Ranged, none_ranged, next_ranged, TypedRoutine, TypedProgram}
 use Rattle.prem_analysis.specs.Named.{Named}
 
@@ -110,13 +113,17 @@ stated_named : (m n : ℕ) (at : Place) (r : Span) (kind : Kind) (range : Option
 stated_named m n at r kind None is = tt
 stated_named m n at r kind (Some stated) is = if_named m n (not (encloses (from_to stated.0 stated.1) r)) at (ArgRange r (from_to stated.0 stated.1)) is.ordered
 
-arguments_named : (p : Resolved) (site : Site) → Within p site → (at : Place) (ks : List Kind) (env : Environment) (es : List Term) (ps : List Parameter) → AllTyped p.globals ks es → Ranged (map known_parameter ps) → NamedIn p (in_arguments at site env es ps)
+arguments_named : (p : Resolved) (site : Site) → Within p site →
+    (at : Place) (ks : List Kind) (env : Environment) (es : List Term) (ps : List Parameter) → AllTyped p.globals ks es →
+    Ranged (map known_parameter ps) → NamedIn p (in_arguments at site env es ps)
 arguments_named p site within at ks env [] ps typed ranged = tt
 arguments_named p site within at ks env (e ∷ es) [] typed ranged =
     joined p (in_term site env e) (in_arguments at site env es []) (term_named p site within ks e env typed.0) (arguments_named p site within at ks env es [] typed.1 ranged)
 arguments_named p site within at ks env (e ∷ es) (q ∷ qs) typed ranged =
     joined p (in_argument at env e q ++ in_term site env e) (in_arguments at site env es qs)
-    (joined p (in_argument at env e q) (in_term site env e) (stated_named (length p.routines) (length p.globals) at (converted (promoted q.ty) (range_of env e)) (promoted q.ty) q.range (first_ranged ranged)) (term_named p site within ks e env typed.0))
+    (joined p (in_argument at env e q) (in_term site env e)
+    (stated_named (length p.routines) (length p.globals) at (converted (promoted q.ty) (range_of env e)) (promoted q.ty) q.range
+    (first_ranged ranged)) (term_named p site within ks e env typed.0))
     (arguments_named p site within at ks env es qs typed.1 (others_ranged ranged))
 
 -- ---- steps
@@ -127,7 +134,8 @@ ParametersRanged p = (f : ℕ) (routine : Routine) → slice_get p.routines f �
 in_turns_named : (m n : ℕ) (at : Place) (turns : ℕ) → AllNamed m n (in_turns at turns)
 in_turns_named m n at turns = if_named m n (nat_lt (2 ^ 40) turns) at TooLarge tt
 
-steps_named : (p : Resolved) (site : Site) → Within p site → ParametersRanged p → (n : ℕ) (ks : List Kind) (steps : Steps) (around : ℕ) (env : Environment) → TypedSteps p n ks steps → NamedIn p (in_steps site around env steps)
+steps_named : (p : Resolved) (site : Site) → Within p site → ParametersRanged p →
+    (n : ℕ) (ks : List Kind) (steps : Steps) (around : ℕ) (env : Environment) → TypedSteps p n ks steps → NamedIn p (in_steps site around env steps)
 steps_named p site within ranged n ks Done around env typed = tt
 steps_named p site within ranged n ks (SetLocal at k e rest) around env typed =
     let next = at_local k (assigned (range_of env e)) env in
@@ -141,7 +149,8 @@ steps_named p site within ranged n ks (SetElement at g ty index e rest) around e
     let element = in_element site at g r in
     joined p (element ++ in_term site env index ++ in_term site env e) (in_steps site around env rest)
     (joined p (element ++ in_term site env index) (in_term site env e)
-    (joined p element (in_term site env index) (element_named p site within at g r (global_there p.globals g ty typed.0)) (term_named p site within ks index env typed.1)) (term_named p site within ks e env typed.2))
+    (joined p element (in_term site env index) (element_named p site within at g r (global_there p.globals g ty typed.0))
+    (term_named p site within ks index env typed.1)) (term_named p site within ks e env typed.2))
     (steps_named p site within ranged n ks rest around env typed.3)
 steps_named p site within ranged n ks (Output at e rest) around env typed =
     joined p (in_term site env e) (in_steps site around env rest) (term_named p site within ks e env typed.0) (steps_named p site within ranged n ks rest around env typed.1)
@@ -152,7 +161,8 @@ steps_named p site within ranged n ks (If at condition taken other rest) around 
     let next = joined_env (after yes taken) (after no other) in
     joined p (in_term site env condition ++ in_steps site around yes taken ++ in_steps site around no other) (in_steps site around next rest)
     (joined p (in_term site env condition ++ in_steps site around yes taken) (in_steps site around no other)
-    (joined p (in_term site env condition) (in_steps site around yes taken) (term_named p site within ks condition env typed.0) (steps_named p site within ranged n ks taken around yes typed.1)) (steps_named p site within ranged n ks other around no typed.2))
+    (joined p (in_term site env condition) (in_steps site around yes taken) (term_named p site within ks condition env typed.0)
+    (steps_named p site within ranged n ks taken around yes typed.1)) (steps_named p site within ranged n ks other around no typed.2))
     (steps_named p site within ranged n ks rest around next typed.3)
 steps_named p site within ranged n ks (For at k low closed high step turns body rest) around env typed =
     let end = loop_end env k closed high body in
@@ -165,7 +175,8 @@ steps_named p site within ranged n ks (For at k low closed high step turns body 
     (if_named (length p.routines) (length p.globals) (int_lt (pos 2147483647) (end -ℤ pos 1 +ℤ pos step)) at LoopBound tt) (in_turns_named (length p.routines) (length p.globals) at product) in
     joined p (own ++ in_term site env low ++ in_term site head high ++ in_steps site product inner body) (in_steps site around next rest)
     (joined p (own ++ in_term site env low ++ in_term site head high) (in_steps site product inner body)
-    (joined p (own ++ in_term site env low) (in_term site head high) (joined p own (in_term site env low) own_named (term_named p site within ks low env typed.1)) (term_named p site within ks high head typed.2))
+    (joined p (own ++ in_term site env low) (in_term site head high)
+    (joined p own (in_term site env low) own_named (term_named p site within ks low env typed.1)) (term_named p site within ks high head typed.2))
     (steps_named p site within ranged n ks body product inner typed.3))
     (steps_named p site within ranged n ks rest around next typed.4)
 steps_named p site within ranged n ks (While at turns condition body rest) around env typed =
@@ -174,11 +185,13 @@ steps_named p site within ranged n ks (While at turns condition body rest) aroun
     let inner = refined true head condition in
     joined p (in_turns at product ++ in_term site head condition ++ in_steps site product inner body) (in_steps site around head rest)
     (joined p (in_turns at product ++ in_term site head condition) (in_steps site product inner body)
-    (joined p (in_turns at product) (in_term site head condition) (in_turns_named (length p.routines) (length p.globals) at product) (term_named p site within ks condition head typed.0)) (steps_named p site within ranged n ks body product inner typed.1))
+    (joined p (in_turns at product) (in_term site head condition) (in_turns_named (length p.routines) (length p.globals) at product)
+    (term_named p site within ks condition head typed.0)) (steps_named p site within ranged n ks body product inner typed.1))
     (steps_named p site within ranged n ks rest around head typed.2)
 steps_named p site within ranged n ks (Call at target f arguments rest) around env typed =
     let next = behind_call target env in
-    joined p (in_arguments at site env arguments (parameters_of (slice_get site.routines f))) (in_steps site around next rest) (by (slice_get site.routines f) (ap (λ fs. slice_get fs f) within.routines)) (steps_named p site within ranged n ks rest around next typed.2)
+    joined p (in_arguments at site env arguments (parameters_of (slice_get site.routines f))) (in_steps site around next rest)
+    (by (slice_get site.routines f) (ap (λ fs. slice_get fs f) within.routines)) (steps_named p site within ranged n ks rest around next typed.2)
   where
     by : (found : Option Routine) → found ≡ slice_get p.routines f → NamedIn p (in_arguments at site env arguments (parameters_of found))
     by None is = arguments_named p site within at ks env arguments [] typed.1 none_ranged
@@ -186,7 +199,8 @@ steps_named p site within ranged n ks (Call at target f arguments rest) around e
 
 -- ---- functions
 
-locals_named : (p : Resolved) (site : Site) → Within p site → (ls : List LocalVariable) (es : List Term) (ks : List Kind) (env : Environment) → TypedLocals p.globals ks ls es → NamedIn p (in_locals site env ls es)
+locals_named : (p : Resolved) (site : Site) → Within p site → (ls : List LocalVariable) (es : List Term) (ks : List Kind) (env : Environment) →
+    TypedLocals p.globals ks ls es → NamedIn p (in_locals site env ls es)
 locals_named p site within [] [] ks env typed = tt
 locals_named p site within [] (e ∷ es) ks env typed = absurd typed
 locals_named p site within (l ∷ ls) [] ks env typed = absurd typed
@@ -205,7 +219,8 @@ routine_named p site within ranged n f typed =
     let steps = in_steps site 1 (at_body f) f.body in
     let result = in_result site (after (at_body f) f.body) f.result in
     joined p (locals ++ steps) result
-    (joined p locals steps (locals_named p site within f.text.locals f.locals (kinds_of env) env typed.locals) (steps_named p site within ranged n (kinds_of (at_body f)) f.body 1 (at_body f) typed.body))
+    (joined p locals steps (locals_named p site within f.text.locals f.locals (kinds_of env) env typed.locals)
+    (steps_named p site within ranged n (kinds_of (at_body f)) f.body 1 (at_body f) typed.body))
     (result_named p site within (kinds_of (at_body f)) (after (at_body f) f.body) f.result typed.result)
 
 -- ---- programs
@@ -219,7 +234,8 @@ watches_below gs fs f n m (marked ∷ rest) within = by _ marked.text.mark (watc
     by true (Some mark) more = (omega arith, more)
     by false (Some mark) more = more
 
-routines_named : (p : Resolved) → ParametersRanged p → (n : ℕ) (rest : List Routine) → ((i : ℕ) (f : Routine) → slice_get rest i ≡ Some f → (k : ℕ) × TypedRoutine p k f) → NamedIn p (in_routines p n rest)
+routines_named : (p : Resolved) → ParametersRanged p → (n : ℕ) (rest : List Routine) →
+    ((i : ℕ) (f : Routine) → slice_get rest i ≡ Some f → (k : ℕ) × TypedRoutine p k f) → NamedIn p (in_routines p n rest)
 routines_named p ranged n [] typed = tt
 routines_named p ranged n (f ∷ rest) typed =
     let first = typed 0 f refl in
@@ -246,4 +262,5 @@ first_named m n (b ∷ bs) all = pick (first_of bs) (first_named m n bs all.1)
 -- the first breach of a program with right names and kinds
 pub program_named : (p : Resolved) → TypedProgram p → NamedIf (length p.routines) (length p.globals) (first_of (range_breaches p))
 program_named p typed =
-    first_named (length p.routines) (length p.globals) (range_breaches p) (routines_named p (λ f routine there. (typed.each f routine there).parameters) 0 p.routines (λ i f there. (i, typed.each i f there)))
+    first_named (length p.routines) (length p.globals) (range_breaches p)
+    (routines_named p (λ f routine there. (typed.each f routine there).parameters) 0 p.routines (λ i f there. (i, typed.each i f there)))

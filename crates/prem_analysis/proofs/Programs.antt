@@ -62,7 +62,8 @@ all_seen at p t m n (r ∷ rs) s same =
     ∙ ap (behind_routines at (n + 1) rs) (turns_aside (site_of p n) t m r s)
     ∙ all_seen at p t (m + loops_of r.body) (n + 1) rs s' (λ k below. same k (omega arith))
     ∙ same_seen _ _ _ _ (append_assoc s.bounds (bounds_in f) (flat_map bounds_in fs))
-    (first_assoc s.found (first_of (in_routine (site_of p n) f)) (first_of (in_routines p (n + 1) fs)) ∙ ap (first s.found) (sym (first_of_append (in_routine (site_of p n) f) (in_routines p (n + 1) fs))))
+    (first_assoc s.found (first_of (in_routine (site_of p n) f)) (first_of (in_routines p (n + 1) fs))
+    ∙ ap (first s.found) (sym (first_of_append (in_routine (site_of p n) f) (in_routines p (n + 1) fs))))
 
 pub program_seen : (r : ResolvedTree) (marked : List Marked) → AreWatched r marked →
     behind_routines (site_at r.globals.items (items_of r.routines) marked) 0 (items_of r.routines) (seen [] None)

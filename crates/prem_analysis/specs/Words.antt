@@ -2,7 +2,8 @@
 use Rattle.std.specs.Prelude.{List, [], ◌∷◌, Option, None, Some}
 use Rattle.std.specs.Coded.{le_prop}
 use mathlib.Core.HLevel.{×_prop, Unit-prop}
-use Rattle.prem_syntax.specs.Syntax.{Expression, literal, variable, element, unary, binary, Statement, block, if_then, if_else, bounded_while, counting_for, assign, output, input, call, Statements, no_statements, next_statement, LocalVariable, global_item, function_item, ProgramText}
+use Rattle.prem_syntax.specs.Syntax.{Expression, literal, variable, element, unary, binary, Statement, block, if_then, if_else, bounded_while, counting_for, assign, output, input}
+use Rattle.prem_syntax.specs.Syntax.{call, Statements, no_statements, next_statement, LocalVariable, global_item, function_item, ProgramText}
 use Rattle.prem_syntax.specs.Literals.{HasWords, HasWordsIf, HaveWords, StatementHasWords, StatementsHaveWords, LocalsHaveWords, ProgramHasWords}
 
 -- three and four facts side by side

@@ -40,7 +40,9 @@ pub if_arm : (env right inner : Environment) (at : Place) (c : Term) (taken othe
     s2 ≡ behind inner (plain t) s1 → s3 ≡ behind right (plain o) s2 → s3 ≡ behind env (If at c (plain taken) (plain other) Done) s
 if_arm env right inner at c taken other t o s1 s2 s3 s e1 e2 e3 e4 e5 e6 e7 =
     e7 ∙ ap (λ r. behind r (plain o) s2) e1 ∙ ap (λ (x : Step). behind (refined false env c) (plain x) s2) e5
-    ∙ ap (behind (refined false env c) (plain other)) (e6 ∙ ap (λ r. behind r (plain t) s1) e2 ∙ ap (λ (x : Step). behind (refined true env c) (plain x) s1) e4 ∙ ap (behind (refined true env c) (plain taken)) e3)
+    ∙ ap (behind (refined false env c) (plain other))
+    (e6 ∙ ap (λ r. behind r (plain t) s1) e2 ∙ ap (λ (x : Step). behind (refined true env c) (plain x) s1) e4
+    ∙ ap (behind (refined true env c) (plain taken)) e3)
     ∙ behind_if env at c (plain taken) (plain other) s
 
 -- ---- loops
@@ -59,9 +61,11 @@ behind_for : (env : Environment) (at : Place) (k : ℕ) (low : Term) (closed : B
     behind (in_body env k low (loop_end env k closed high body) body) body (at_counting env k low high body s) ≡ behind env (For at k low closed high step turns body Done) s
 behind_for env at k low closed high step turns body s =
     let e = in_body env k low (loop_end env k closed high body) body in
-    same_sight _ _ _ _ (two_behind s.touches (touched_by env low ++ touched_by (in_counting k body env) high) (touched_in e body)) (ap (λ l. s.arguments ++ passed l) (sym (append-nil (calls_in e body))))
+    same_sight _ _ _ _ (two_behind s.touches (touched_by env low ++ touched_by (in_counting k body env) high) (touched_in e body))
+    (ap (λ l. s.arguments ++ passed l) (sym (append-nil (calls_in e body))))
 
-behind_while : (env : Environment) (at : Place) (most : ℕ) (c : Term) (body : Steps) (s : Sight) → behind (refined true (in_while body env) c) body (at_while env c body s) ≡ behind env (While at most c body Done) s
+behind_while : (env : Environment) (at : Place) (most : ℕ) (c : Term) (body : Steps) (s : Sight) →
+    behind (refined true (in_while body env) c) body (at_while env c body s) ≡ behind env (While at most c body Done) s
 behind_while env at most c body s =
     let e = refined true (in_while body env) c in
     same_sight _ _ _ _ (two_behind s.touches (touched_by (in_while body env) c) (touched_in e body)) (ap (λ l. s.arguments ++ passed l) (sym (append-nil (calls_in e body))))
@@ -81,7 +85,8 @@ while_arm env e at most c first_body second_body body s1 s3 s two three h f g =
     ∙ ap (λ (x : Step). behind env (While at most c (plain x) Done) s) f
 
 -- the head of a counting loop
-pub head_sight : (env e1 e2 : Environment) (k : ℕ) (low high : Term) (body : Steps) (s s1 s2 : Sight) → e1 ≡ env → e2 ≡ in_counting k body e1 → s1 ≡ touched (touched_by env low) s → s2 ≡ touched (touched_by e2 high) s1 →
+pub head_sight : (env e1 e2 : Environment) (k : ℕ) (low high : Term) (body : Steps) (s s1 s2 : Sight) → e1 ≡ env → e2 ≡ in_counting k body e1 →
+    s1 ≡ touched (touched_by env low) s → s2 ≡ touched (touched_by e2 high) s1 →
     s2 ≡ at_counting env k low high body s
 head_sight env e1 e2 k low high body s s1 s2 is1 is2 one two =
     two ∙ ap (λ e. touched (touched_by e high) s1) (is2 ∙ ap (in_counting k body) is1) ∙ ap (touched (touched_by (in_counting k body env) high)) one
@@ -100,11 +105,14 @@ declared_on all all_es l ls e es env env' env0 s s' s0 d new_env new_sight =
     let next = env ++ known_local env l e ∷ [] in
     record {
       known = ap (λ v. declared v ls es) new_env ∙ d.known;
-      sight_is = ap (λ v. touched (touched_by_locals v ls es) s') new_env ∙ ap (touched (touched_by_locals next ls es)) new_sight ∙ touched_more (touched_by env e) (touched_by_locals next ls es) s ∙ d.sight_is;
+      sight_is = ap (λ v. touched (touched_by_locals v ls es) s') new_env ∙ ap (touched (touched_by_locals next ls es)) new_sight
+          ∙ touched_more (touched_by env e) (touched_by_locals next ls es) s ∙ d.sight_is;
     }
 
-pub declared_next : (ls : List Local) (es : List TermTree) (i : ℕ) (l : Local) (e : TermTree) (env env' env0 : Environment) (s s' s0 : Sight) → i < length ls → i < length es → l ≡ get_or ls i l → e ≡ get_or es i e →
-    Declaring (map local_of ls) (map local_of (drop i ls)) (map term_of es) (map term_of (drop i es)) env env0 s s0 → env' ≡ env ++ known_local env (local_of l) (term_of e) ∷ [] → s' ≡ touched (touched_by env (term_of e)) s →
+pub declared_next : (ls : List Local) (es : List TermTree) (i : ℕ) (l : Local) (e : TermTree) (env env' env0 : Environment) (s s' s0 : Sight) →
+    i < length ls → i < length es → l ≡ get_or ls i l → e ≡ get_or es i e →
+    Declaring (map local_of ls) (map local_of (drop i ls)) (map term_of es) (map term_of (drop i es)) env env0 s s0 →
+    env' ≡ env ++ known_local env (local_of l) (term_of e) ∷ [] → s' ≡ touched (touched_by env (term_of e)) s →
     Declaring (map local_of ls) (map local_of (drop (i + 1) ls)) (map term_of es) (map term_of (drop (i + 1) es)) env' env0 s' s0
 declared_next ls es i l e env env' env0 s s' s0 in_ls in_es is_l is_e d new_env new_sight =
     let all_ls : drop i ls ≡ l ∷ drop (i + 1) ls = drop_more ls i l in_ls ∙ ap (λ x. x ∷ drop (i + 1) ls) (sym is_l) in
@@ -141,6 +149,7 @@ pub routine_arm : (env0 : Environment) (f : Routine) (ls : List LocalVariable) (
 routine_arm env0 f ls es e1 e2 s0 s1 s2 s3 hl he h0 h1 g1 h2 g2 g3 =
     let body : e1 ≡ begun env0 f = h1 ∙ ap (λ l. declared env0 l es) hl ∙ ap (declared env0 f.text.locals) he in
     let first_seen : s1 ≡ touched (touched_by_locals env0 f.text.locals f.locals) (sight [] []) =
-    g1 ∙ ap (touched (touched_by_locals env0 ls es)) h0 ∙ ap (λ l. touched (touched_by_locals env0 l es) (sight [] [])) hl ∙ ap (λ l. touched (touched_by_locals env0 f.text.locals l) (sight [] [])) he in
+    g1 ∙ ap (touched (touched_by_locals env0 ls es)) h0 ∙ ap (λ l. touched (touched_by_locals env0 l es) (sight [] [])) hl
+    ∙ ap (λ l. touched (touched_by_locals env0 f.text.locals l) (sight [] [])) he in
     g3 ∙ ap (λ e. touched (touched_by_result e f.result) s2) (h2 ∙ ap (λ e. after e f.body) body)
     ∙ ap (touched (touched_by_result (after (begun env0 f) f.body) f.result)) (g2 ∙ ap (λ e. behind e f.body s1) body ∙ ap (behind (begun env0 f) f.body) first_seen)

@@ -42,11 +42,14 @@ looked_before fs m f rows rows' found row o all there behind row_is o_is new_row
     let first : 0 + m ≡ m = omega arith in
     let whole : ranged_routines m (drop m fs) ≡ g ∷ later = ap (ranged_routines m) all in
     let own : row ≡ slots_in (passed calls) m 0 f.text.params =
-    some_is row (slots_in (passed calls) m 0 f.text.params) (sym row_is ∙ ap (λ l. slice_get l m) behind.rows_are ∙ row_at (passed calls) 0 m fs f there ∙ ap (λ k. Some (slots_in (passed calls) k 0 f.text.params)) first) in
+    some_is row (slots_in (passed calls) m 0 f.text.params)
+    (sym row_is ∙ ap (λ l. slice_get l m) behind.rows_are ∙ row_at (passed calls) 0 m fs f there
+    ∙ ap (λ k. Some (slots_in (passed calls) k 0 f.text.params)) first) in
     let this : o ≡ outlook g = o_is ∙ ap (λ r. outlook (with_parameters (with_slots r f.text.params) f)) own ∙ ap (λ ps. outlook (with_parameters ps f)) (slots_range calls m 0 f.text.params) in
     record {
       rows_are = new_rows ∙ ap (with_arguments o.sight.arguments) behind.rows_are ∙ ap (λ (x : Outlook). with_arguments x.sight.arguments (slots_of (passed calls) 0 fs)) this
-          ∙ arguments_added (passed (calls_of g)) (passed calls) fs ∙ ap (λ l. slots_of l 0 fs) (sym (passed-append (calls_of g) calls)) ∙ ap (λ l. slots_of (passed (calls_of_all l)) 0 fs) (sym whole);
+          ∙ arguments_added (passed (calls_of g)) (passed calls) fs ∙ ap (λ l. slots_of l 0 fs) (sym (passed-append (calls_of g) calls))
+          ∙ ap (λ l. slots_of (passed (calls_of_all l)) 0 fs) (sym whole);
       found_are = (λ i. this i ∷ behind.found_are i) ∙ sym (ap (map outlook) whole);
     }
 
@@ -62,11 +65,13 @@ mapped_get f [] m x within is = absurd (omega arith)
 mapped_get f (y ∷ ys) zero x within is = ap (λ z. Some (f z)) (sym is)
 mapped_get f (y ∷ ys) (suc m) x within is = mapped_get f ys m x (omega arith) is
 
-pub row_there : (as_ : List Argument) (fs : List Routine) (routines : List RoutineTree) (rows : List (Vec SlotTree Global)) → fs ≡ map plain_routine routines → map row_of rows ≡ slots_of as_ 0 fs → length rows ≡ length routines
+pub row_there : (as_ : List Argument) (fs : List Routine) (routines : List RoutineTree) (rows : List (Vec SlotTree Global)) →
+    fs ≡ map plain_routine routines → map row_of rows ≡ slots_of as_ 0 fs → length rows ≡ length routines
 row_there as_ fs routines rows is are = sym (length-map rows row_of) ∙ ap length are ∙ slots_long as_ 0 fs ∙ ap length is ∙ length-map routines plain_routine
 
 pub inferred_next : (routines : List RoutineTree) (n : ℕ) (r : RoutineTree) (rows rows' : List (Vec SlotTree Global)) (row : Vec SlotTree Global) (all all' : List OutlookTree) (o : OutlookTree) →
-    0 < n → n ≤ length routines → n ≤ length rows → r ≡ get_or routines (n - 1) r → row ≡ get_or rows (n - 1) row → Inferring (map plain_routine routines) n (map row_of rows) (map outlook_of (reverse all)) →
+    0 < n → n ≤ length routines → n ≤ length rows → r ≡ get_or routines (n - 1) r → row ≡ get_or rows (n - 1) row →
+    Inferring (map plain_routine routines) n (map row_of rows) (map outlook_of (reverse all)) →
     outlook_of o ≡ outlook_with (row_of row) (plain_routine r) → map row_of rows' ≡ with_arguments (outlook_of o).sight.arguments (map row_of rows) → all' ≡ all ++ o ∷ [] →
     Inferring (map plain_routine routines) (n - 1) (map row_of rows') (map outlook_of (reverse all'))
 inferred_next routines n r rows rows' row all all' o some within there is_r is_row before found new_rows new_all =
@@ -90,7 +95,8 @@ none_inferred routines rows all is nothing =
     }
 
 -- a function's parameters, among all
-pub ranged_there : (routines : List RoutineTree) (k : ℕ) (r : RoutineTree) → AllRanged routines → k < length routines → r ≡ get_or routines k r → Ranged (map known_parameter (function_of r.text.now).params)
+pub ranged_there : (routines : List RoutineTree) (k : ℕ) (r : RoutineTree) → AllRanged routines → k < length routines → r ≡ get_or routines k r →
+    Ranged (map known_parameter (function_of r.text.now).params)
 ranged_there routines k r all within is = all.each k r (got routines k r within is)
   where
     got : (rs : List RoutineTree) (k : ℕ) (r : RoutineTree) → k < length rs → r ≡ get_or rs k r → slice_get rs k ≡ Some r
@@ -122,4 +128,5 @@ row_ends g row ps i done whole past left =
 pub parameters_end : {B : Type 0} (g : Parameter → B) (row : List SlotTree) (ps : List Param) (i : ℕ) (done whole : List B) → length ps ≤ i →
     done ++ map g (with_slots (map slot_of (drop i row)) (map parameter_of (drop i ps))) ≡ whole → done ≡ whole
 parameters_end g row ps i done whole past left =
-    sym (ap (λ (l : List Param). done ++ map g (with_slots (map slot_of (drop i row)) (map parameter_of l))) (drop_all i ps past) ∙ ap (λ l. done ++ map g l) (no_parameters (map slot_of (drop i row))) ∙ append-nil done) ∙ left
+    sym (ap (λ (l : List Param). done ++ map g (with_slots (map slot_of (drop i row)) (map parameter_of l))) (drop_all i ps past)
+    ∙ ap (λ l. done ++ map g l) (no_parameters (map slot_of (drop i row))) ∙ append-nil done) ∙ left

@@ -10,7 +10,8 @@ use Rattle.prem_syntax.specs.declared.tree.Place.{Place}
 use Rattle.prem_syntax.specs.Resolved.{Term, operator, Steps, Done, SetLocal, SetScalar, SetElement, Output, Input, If, For, While, Call}
 use Rattle.prem_tree.specs.declared.resolve.resolved.Term.{Term as TermTree}
 use Rattle.prem_tree.specs.declared.resolve.resolved.Step.{Step, Row_of-Step, end_of-Step, more_of-Step}
-use Rattle.prem_tree.specs.declared.resolve.resolved.Step.TheVariants.{Block', SetLocal as SetLocalTree, SetScalar as SetScalarTree, SetElement as SetElementTree, Output as OutputTree, Input as InputTree, If', For', While', Call as CallTree}
+use Rattle.prem_tree.specs.declared.resolve.resolved.Step.TheVariants.{Block', SetLocal as SetLocalTree, SetScalar as SetScalarTree, SetElement as SetElementTree}
+use Rattle.prem_tree.specs.declared.resolve.resolved.Step.TheVariants.{Output as OutputTree, Input as InputTree, If', For', While', Call as CallTree}
 use Rattle.prem_tree.specs.Resolve.ResolvedOf.{term_of}
 use Rattle.prem_ranges.specs.Environment.{Environment, at_local, any_again, assigned, joined}
 use Rattle.prem_ranges.specs.RangeOf.{range_of, refined}
@@ -37,7 +38,8 @@ touched_none s = same_sight _ _ _ _ (sym (append-nil s.touches)) refl
 pub touched_more : (xs ys : List Touch) (s : Sight) → touched ys (touched xs s) ≡ touched (xs ++ ys) s
 touched_more xs ys s = same_sight _ _ _ _ (append_assoc s.touches xs ys) refl
 
-pub touched_some : (env : Environment) (at : Place) (op : BinOp) (k : Kind) (l r : Term) (b : Bool) → shortcut_of op ≡ Some b → touched_by env (operator at op k l r) ≡ touched_by env l ++ touched_by (refined b env l) r
+pub touched_some : (env : Environment) (at : Place) (op : BinOp) (k : Kind) (l r : Term) (b : Bool) → shortcut_of op ≡ Some b →
+    touched_by env (operator at op k l r) ≡ touched_by env l ++ touched_by (refined b env l) r
 touched_some env at AndAlsoOp k l r true is = refl
 touched_some env at OrElseOp k l r false is = refl
 touched_some env at AndAlsoOp k l r false is = cc
@@ -147,7 +149,8 @@ calls-followed env (SetElement at g ty index e rest) b = calls-followed env rest
 calls-followed env (Output at e rest) b = calls-followed env rest b
 calls-followed env (Input at k rest) b = calls-followed (at_local k any_again env) rest b
 calls-followed env (If at c taken other rest) b =
-    append_behind (calls_in (refined true env c) taken ++ calls_in (refined false env c) other) _ _ _ (calls-followed (joined (after (refined true env c) taken) (after (refined false env c) other)) rest b)
+    append_behind (calls_in (refined true env c) taken ++ calls_in (refined false env c) other) _ _ _
+    (calls-followed (joined (after (refined true env c) taken) (after (refined false env c) other)) rest b)
 calls-followed env (For at k low closed high step turns body rest) b =
     let end = loop_end env k closed high body in append_behind (calls_in (in_body env k low end body) body) _ _ _ (calls-followed (behind_loop env k low end step body) rest b)
 calls-followed env (While at turns c body rest) b = append_behind (calls_in (refined true (in_while body env) c) body) _ _ _ (calls-followed (in_while body env) rest b)
@@ -162,7 +165,8 @@ behind_none env s = same_sight _ _ _ _ (sym (append-nil s.touches)) (sym (append
 
 pub behind_step : (env : Environment) (step : Step) (rest : Steps) (s : Sight) → behind (after env (plain step)) rest (behind env (plain step) s) ≡ behind env (plain_before step rest) s
 behind_step env step rest s =
-    let touches : touched_in env (plain_before step rest) ≡ touched_in env (plain step) ++ touched_in (after env (plain step)) rest = ap (touched_in env) (one_by_one step rest) ∙ touched-followed env (plain step) rest in
+    let touches : touched_in env (plain_before step rest) ≡ touched_in env (plain step) ++ touched_in (after env (plain step)) rest =
+    ap (touched_in env) (one_by_one step rest) ∙ touched-followed env (plain step) rest in
     let calls : passed (calls_in env (plain_before step rest)) ≡ passed (calls_in env (plain step)) ++ passed (calls_in (after env (plain step)) rest) =
     ap (λ l. passed (calls_in env l)) (one_by_one step rest) ∙ ap passed (calls-followed env (plain step) rest) ∙ passed-append (calls_in env (plain step)) (calls_in (after env (plain step)) rest) in
     same_sight _ _ _ _ (append_assoc s.touches _ _ ∙ ap (λ l. s.touches ++ l) (sym touches)) (append_assoc s.arguments _ _ ∙ ap (λ l. s.arguments ++ l) (sym calls))
@@ -180,7 +184,8 @@ walked_on steps i step env env' env0 s s' s0 inside is w new_env new_sight =
     let rest = plain_list (drop (i + 1) steps) in
     record {
       known = ap (λ e. after e rest) new_env ∙ sym (after-step env step rest) ∙ ap (λ (l : List Step). after env (plain_list l)) (sym all) ∙ w.known;
-      sight_is = ap (λ e. behind e rest s') new_env ∙ ap (behind (after env (plain step)) rest) new_sight ∙ behind_step env step rest s ∙ ap (λ (l : List Step). behind env (plain_list l) s) (sym all) ∙ w.sight_is;
+      sight_is = ap (λ e. behind e rest s') new_env ∙ ap (behind (after env (plain step)) rest) new_sight ∙ behind_step env step rest s
+          ∙ ap (λ (l : List Step). behind env (plain_list l) s) (sym all) ∙ w.sight_is;
     }
 
 pub walked_env : (steps : List Step) (i : ℕ) (env env0 : Environment) (s s0 : Sight) → length steps ≤ i → Walking steps (drop i steps) env env0 s s0 → env ≡ after env0 (plain_list steps)

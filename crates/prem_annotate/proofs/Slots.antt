@@ -70,7 +70,8 @@ row_other a as_ f k (p ∷ ps) is =
     let rest = row_other a as_ f (k + 1) ps is in
     λ i. slot_if (other_function a f k is i) (promoted p.ty) a.range (given_to as_ f k (promoted p.ty)) ∷ rest i
 
-row_hit : (a : Argument) (as_ : List Argument) (f k j : ℕ) (ps : List Parameter) → (a.callee == f) ≡ true → a.parameter ≡ k + j → at_number j (given a.range) (slots_in as_ f k ps) ≡ slots_in (a ∷ as_) f k ps
+row_hit : (a : Argument) (as_ : List Argument) (f k j : ℕ) (ps : List Parameter) → (a.callee == f) ≡ true → a.parameter ≡ k + j →
+    at_number j (given a.range) (slots_in as_ f k ps) ≡ slots_in (a ∷ as_) f k ps
 row_hit a as_ f k zero [] is e = refl
 row_hit a as_ f k (suc j) [] is e = refl
 row_hit a as_ f k zero (p ∷ ps) is e =
@@ -89,7 +90,8 @@ rows_past a as_ n (f ∷ fs) lt =
     let rest = rows_past a as_ (n + 1) fs (omega arith) in
     λ i. row_other a as_ n 0 f.text.params other i ∷ rest i
 
-rows_hit : (a : Argument) (as_ : List Argument) (n j : ℕ) (fs : List Routine) → a.callee ≡ n + j → at_number j (λ row. at_number a.parameter (given a.range) row) (slots_of as_ n fs) ≡ slots_of (a ∷ as_) n fs
+rows_hit : (a : Argument) (as_ : List Argument) (n j : ℕ) (fs : List Routine) → a.callee ≡ n + j →
+    at_number j (λ row. at_number a.parameter (given a.range) row) (slots_of as_ n fs) ≡ slots_of (a ∷ as_) n fs
 rows_hit a as_ n zero [] e = refl
 rows_hit a as_ n (suc j) [] e = refl
 rows_hit a as_ n zero (f ∷ fs) e =
@@ -130,7 +132,8 @@ given_to-append : (xs ys : List Argument) (f k : ℕ) (kind : Kind) → given_to
 given_to-append [] ys f k kind = refl
 given_to-append (a ∷ as_) ys f k kind = by (is_for a f k) (given_to-append as_ ys f k kind)
   where
-    by : (b : Bool) → given_to (as_ ++ ys) f k kind ≡ given_to as_ f k kind ++ given_to ys f k kind → given_if b kind a.range (given_to (as_ ++ ys) f k kind) ≡ given_if b kind a.range (given_to as_ f k kind) ++ given_to ys f k kind
+    by : (b : Bool) → given_to (as_ ++ ys) f k kind ≡ given_to as_ f k kind ++ given_to ys f k kind →
+        given_if b kind a.range (given_to (as_ ++ ys) f k kind) ≡ given_if b kind a.range (given_to as_ f k kind) ++ given_to ys f k kind
     by true e = ap (λ l. converted kind a.range ∷ l) e
     by false e = e
 
@@ -147,7 +150,8 @@ from_past c j env (e ∷ es) f k kind lt =
     let other : (j == k) ≡ false = grind (arith, nat_tests) in
     ap (λ b. given_if b kind (range_of env e) rest) (other_parameter a f k other) ∙ from_past c (j + 1) env es f k kind (omega arith)
 
-from_hit : (c j i : ℕ) (env : Environment) (es : List Term) (f k : ℕ) (kind : Kind) → (c == f) ≡ true → k ≡ j + i → given_to (arguments_from c j env es) f k kind ≡ argument_at env kind (slice_get es i)
+from_hit : (c j i : ℕ) (env : Environment) (es : List Term) (f k : ℕ) (kind : Kind) → (c == f) ≡ true → k ≡ j + i →
+    given_to (arguments_from c j env es) f k kind ≡ argument_at env kind (slice_get es i)
 from_hit c j i env [] f k kind is same = refl
 from_hit c j zero env (e ∷ es) f k kind is same =
     let a = argument c j (range_of env e) in let rest = given_to (arguments_from c (j + 1) env es) f k kind in
@@ -181,7 +185,8 @@ slots_range calls f k (p ∷ ps) =
 
 -- ---- lists in memory
 
-pub number_within : {A B : Type 0} (f : A → B) (xs : List A) (k : ℕ) (change : B → B) (x y : A) → k < length xs → x ≡ get_or xs k x → f y ≡ change (f x) → map f (set xs k y) ≡ at_number k change (map f xs)
+pub number_within : {A B : Type 0} (f : A → B) (xs : List A) (k : ℕ) (change : B → B) (x y : A) → k < length xs → x ≡ get_or xs k x →
+    f y ≡ change (f x) → map f (set xs k y) ≡ at_number k change (map f xs)
 number_within f [] k change x y within is changed = absurd (omega arith)
 number_within f (z ∷ zs) zero change x y within is changed = ap (λ l. l ∷ map f zs) (changed ∙ ap (λ u. change (f u)) is)
 number_within f (z ∷ zs) (suc k) change x y within is changed = ap (λ l. f z ∷ l) (number_within f zs k change x y (omega arith) is changed)

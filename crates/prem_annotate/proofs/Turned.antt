@@ -7,7 +7,8 @@ use Rattle.prem_syntax.specs.Resolved.{Term, Steps, Routine}
 use Rattle.prem_ranges.specs.Environment.{Environment, any_again, with_range, assigned, at_local, joined, loosened}
 use Rattle.prem_ranges.specs.RangeOf.{range_of, refined}
 use Rattle.prem_ranges.specs.After.{is_target, assigns, end_of, loop_end, body_range, range_behind, in_body, behind_loop, in_while, behind_call, after, known_parameter, declared, at_body}
-use Rattle.prem_ranges.specs.Sound.{Alike, alike_done, alike_local, alike_scalar, alike_element, alike_output, alike_input, alike_if, alike_for, alike_while, alike_call, AlikeRoutine, AlikeRoutines, no_routines, next_routine}
+use Rattle.prem_ranges.specs.Sound.{Alike, alike_done, alike_local, alike_scalar, alike_element, alike_output, alike_input, alike_if, alike_for, alike_while, alike_call}
+use Rattle.prem_ranges.specs.Sound.{AlikeRoutine, AlikeRoutines, no_routines, next_routine}
 use Rattle.prem_ranges.proofs.Alike.{both_same}
 use Rattle.prem_annotating.specs.Seen.{touch, touched_by, touched_by_all, touched_in, touched_by_locals, touched_by_result, touches_of, KnownCall, known_call, calls_in, calls_of, calls_of_all}
 use Rattle.prem_annotating.specs.Inferred.{ranged_parameters, ranged_routine, ranged_routines}
@@ -54,7 +55,8 @@ after_same (alike_element at g ty index e rest) env = after_same rest env
 after_same (alike_output at e rest) env = after_same rest env
 after_same (alike_input at k rest) env = after_same rest (at_local k any_again env)
 after_same (alike_if at c {c = t} {d = t'} {e = o} {f = o'} {a = a} taken other rest) env =
-    (λ i. after (joined (after_same taken (refined true env c) i) (after_same other (refined false env c) i)) a) ∙ after_same rest (joined (after (refined true env c) t') (after (refined false env c) o'))
+    (λ i. after (joined (after_same taken (refined true env c) i) (after_same other (refined false env c) i)) a)
+    ∙ after_same rest (joined (after (refined true env c) t') (after (refined false env c) o'))
 after_same (alike_for at k low closed high step {d = d} {a = a} turns body rest) env =
     ap (λ in_it. after (behind_by env k low closed high step in_it) a) (picks body) ∙ after_same rest (behind_loop env k low (loop_end env k closed high d) step d)
 after_same (alike_while at turns c {d = d} {a = a} body rest) env = ap (λ (in_it : ℕ → Bool). after (loosened in_it env) a) (picks body) ∙ after_same rest (in_while d env)
@@ -121,11 +123,14 @@ pub touches_of_same : {turn : ℕ → ℕ → Type 0} {f g : Routine} → AlikeR
 touches_of_same {f = f} {g = g} same =
     both_same _ _ _ _
     (both_same _ _ _ _
-    (ap (λ (t : FunctionText). touched_by_locals (map known_parameter t.params) t.locals f.locals) same.text ∙ ap (λ es. touched_by_locals (map known_parameter g.text.params) g.text.locals es) same.locals)
+    (ap (λ (t : FunctionText). touched_by_locals (map known_parameter t.params) t.locals f.locals) same.text
+    ∙ ap (λ es. touched_by_locals (map known_parameter g.text.params) g.text.locals es) same.locals)
     (ap (λ env. touched_in env f.body) (body_same same) ∙ touched_same same.body (at_body g)))
-    (ap (λ env. touched_by_result (after env f.body) f.result) (body_same same) ∙ ap (λ env. touched_by_result env f.result) (after_same same.body (at_body g)) ∙ ap (touched_by_result (after (at_body g) g.body)) same.result)
+    (ap (λ env. touched_by_result (after env f.body) f.result) (body_same same)
+    ∙ ap (λ env. touched_by_result env f.result) (after_same same.body (at_body g)) ∙ ap (touched_by_result (after (at_body g) g.body)) same.result)
 
-ranged_same : {turn : ℕ → ℕ → Type 0} {f g : Routine} (calls calls' : List KnownCall) (n : ℕ) → calls ≡ calls' → AlikeRoutine turn f g → AlikeRoutine turn (ranged_routine calls n f) (ranged_routine calls' n g)
+ranged_same : {turn : ℕ → ℕ → Type 0} {f g : Routine} (calls calls' : List KnownCall) (n : ℕ) → calls ≡ calls' → AlikeRoutine turn f g →
+    AlikeRoutine turn (ranged_routine calls n f) (ranged_routine calls' n g)
 ranged_same {f = f} {g = g} calls calls' n is same = record {
   text = ap (λ (t : FunctionText). record t { params = ranged_parameters calls n 0 t.params }) same.text ∙ ap (λ cs. record g.text { params = ranged_parameters cs n 0 g.text.params }) is;
   locals = same.locals;

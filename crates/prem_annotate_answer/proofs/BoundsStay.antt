@@ -60,12 +60,14 @@ all_keys p n places [] = refl
 all_keys p n places (c ∷ cs) =
     let this : keys_of (told_of p n (placed_at p (bare_coded c) (task_places (bare_program c.program) places))) ≡ keys_of (told_of p n (placed_at p c (task_places c.program places))) =
     ap (λ at. keys_of (told_of p n (placed_at p (bare_coded c) at))) (places_bare c.program places) ∙ placed_keys p n c (task_places c.program places) in
-    let rest : map keys_of (told_from p (n + 1) (placed_from p (drop (part_count (bare_program c.program)) places) (map bare_coded cs))) ≡ map keys_of (told_from p (n + 1) (placed_from p (drop (part_count c.program) places) cs)) =
+    let rest : map keys_of (told_from p (n + 1) (placed_from p (drop (part_count (bare_program c.program)) places) (map bare_coded cs)))
+    ≡ map keys_of (told_from p (n + 1) (placed_from p (drop (part_count c.program) places) cs)) =
     ap (λ m. map keys_of (told_from p (n + 1) (placed_from p (drop m places) (map bare_coded cs)))) (count_bare c.program) ∙ all_keys p (n + 1) (drop (part_count c.program) places) cs in
     λ i. this i ∷ rest i
 
 codes_keys : (p : Plant) (devices : List Device) (cs : List Coded) →
-    map keys_of (told_from p 0 (placed_from p (default_places (parts_of p devices (map bare_coded cs))) (map bare_coded cs))) ≡ map keys_of (told_from p 0 (placed_from p (default_places (parts_of p devices cs)) cs))
+    map keys_of (told_from p 0 (placed_from p (default_places (parts_of p devices (map bare_coded cs))) (map bare_coded cs)))
+    ≡ map keys_of (told_from p 0 (placed_from p (default_places (parts_of p devices cs)) cs))
 codes_keys p devices cs =
     ap (λ (parts : List PartSize). map keys_of (told_from p 0 (placed_from p (default_places parts) (map bare_coded cs)))) (parts_bare p devices cs)
     ∙ all_keys p 0 (default_places (parts_of p devices cs)) cs
@@ -114,7 +116,8 @@ programs_are lengths k (t ∷ ts) (u ∷ us) are =
     ∙ (λ i. one.tree_is i ∷ rest i)
     ∙ ap (λ (r : Result ProgramText FrontFail). map unplaced (all_annotated lengths k (program_before r (programs_of ts)))) (sym (text_read t.text one.program one.text_is))
 
-tasks_coded : (write : Writer) (target : Target) (lengths : ℕ → ℕ → ℕ) (k : ℕ) (ts : List TaskText) (ps : List ProgramText) → coded_of target (written_tasks write lengths k ts) ps ≡ coded_of target ts ps
+tasks_coded : (write : Writer) (target : Target) (lengths : ℕ → ℕ → ℕ) (k : ℕ) (ts : List TaskText) (ps : List ProgramText) →
+    coded_of target (written_tasks write lengths k ts) ps ≡ coded_of target ts ps
 tasks_coded write target lengths k [] ps = refl
 tasks_coded write target lengths k (t ∷ ts) [] = refl
 tasks_coded write target lengths k (t ∷ ts) (p ∷ ps) = ap (λ (cs : List Coded). coded_one target t (bounded p) ∷ cs) (tasks_coded write target lengths (k + 1) ts ps)
@@ -129,12 +132,17 @@ set_keys set lengths are =
     let us = written_tasks annotated_text lengths 0 set.tasks in
     let ps = programs_of us in
     let qs = all_annotated lengths 0 (programs_of ts) in
-    ap (λ (cs : List Coded). map keys_of (told_from set.plant 0 (placed_from set.plant (default_places (parts_of set.plant set.devices cs)) cs))) (tasks_coded annotated_text set.plant.target lengths 0 ts ps)
+    ap (λ (cs : List Coded). map keys_of (told_from set.plant 0 (placed_from set.plant (default_places (parts_of set.plant set.devices cs)) cs)))
+    (tasks_coded annotated_text set.plant.target lengths 0 ts ps)
     ∙ ap (map keys_of) (sym (told_unplaced set.plant set.devices ts ps) ∙ ap (told_by set.plant set.devices ts) (programs_are lengths 0 ts us are) ∙ told_unplaced set.plant set.devices ts qs)
     ∙ sym (keys_unstated set.plant set.devices ts qs)
 
-pub lengths_stay : (set : TaskSet) (before behind : ℕ → ℕ → ℕ) → AreAnnotatedTasks before 0 set.tasks (written_tasks annotated_text before 0 set.tasks) → AreAnnotatedTasks behind 0 set.tasks (written_tasks annotated_text behind 0 set.tasks) → (k n : ℕ) →
+pub lengths_stay : (set : TaskSet) (before behind : ℕ → ℕ → ℕ) →
+    AreAnnotatedTasks before 0 set.tasks (written_tasks annotated_text before 0 set.tasks) →
+    AreAnnotatedTasks behind 0 set.tasks (written_tasks annotated_text behind 0 set.tasks) → (k n : ℕ) →
     length_told (told_by set.plant set.devices (written_tasks annotated_text before 0 set.tasks) (programs_of (written_tasks annotated_text before 0 set.tasks))) k n
     ≡ length_told (told_by set.plant set.devices (written_tasks annotated_text behind 0 set.tasks) (programs_of (written_tasks annotated_text behind 0 set.tasks))) k n
 lengths_stay set before behind old new k n =
-    same_lengths _ _ (set_keys set before old ∙ ap (λ (ps : List ProgramText). map keys_of (told_by set.plant set.devices set.tasks ps)) (all_unstated before behind 0 (programs_of set.tasks)) ∙ sym (set_keys set behind new)) k n
+    same_lengths _ _ (set_keys set before old
+    ∙ ap (λ (ps : List ProgramText). map keys_of (told_by set.plant set.devices set.tasks ps))
+    (all_unstated before behind 0 (programs_of set.tasks)) ∙ sym (set_keys set behind new)) k n

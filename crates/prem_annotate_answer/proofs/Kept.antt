@@ -64,7 +64,8 @@ has_tokens : (r : Result (List Seen) FrontFail) → unread (r >>= read) ≡ None
 has_tokens (Ok ts) e = (ts, refl)
 has_tokens (Err fail) e = absurd cc
 
-one_task : (lengths : ℕ → ℕ) → ((n : ℕ) → lengths n ≤ 2147483647) → (t : TaskText) (p : ProgramText) → reads t.text ≡ Ok p → program_rules p ≡ None → other_ranges p ≡ None → text_rules (written_task annotated_text lengths t) ≡ None →
+one_task : (lengths : ℕ → ℕ) → ((n : ℕ) → lengths n ≤ 2147483647) → (t : TaskText) (p : ProgramText) → reads t.text ≡ Ok p → program_rules p ≡ None →
+    other_ranges p ≡ None → text_rules (written_task annotated_text lengths t) ≡ None →
     IsAnnotatedTask lengths t (written_task annotated_text lengths t)
 one_task lengths small t p is two three one =
     let text_is = text_sound t.text p is in
@@ -98,7 +99,8 @@ one_task lengths small t p is two three one =
 
 -- ---- tasks, from number k on
 
-all_tasks : (lengths : ℕ → ℕ → ℕ) → ((k n : ℕ) → lengths k n ≤ 2147483647) → (k j : ℕ) (ts : List TaskText) → first_among text_rules j ts ≡ None → first_among program_rules j (programs_of ts) ≡ None → first_among other_ranges j (programs_of ts) ≡ None →
+all_tasks : (lengths : ℕ → ℕ → ℕ) → ((k n : ℕ) → lengths k n ≤ 2147483647) → (k j : ℕ) (ts : List TaskText) → first_among text_rules j ts ≡ None →
+    first_among program_rules j (programs_of ts) ≡ None → first_among other_ranges j (programs_of ts) ≡ None →
     first_among text_rules j (written_tasks annotated_text lengths k ts) ≡ None → AreAnnotatedTasks lengths k ts (written_tasks annotated_text lengths k ts)
 all_tasks lengths small k j [] one two three new = tt
 all_tasks lengths small k j (t ∷ ts) one two three new = by (reads t.text) refl (λ o w h n. all_tasks lengths small (k + 1) (j + 1) ts o w h n)
@@ -121,7 +123,8 @@ all_tasks lengths small k j (t ∷ ts) one two three new = by (reads t.text) ref
               (told_none (Some j) (other_ranges p) (first_none (refused_by (Some j) (other_ranges p)) (first_among other_ranges (j + 1) (programs_of ts)) three'))
               (told_none (Some j) (text_rules head) (first_none (refused_by (Some j) (text_rules head)) (first_among text_rules (j + 1) rest) new)),
           more (then_none (refused_by (Some j) (text_rules t)) (first_among text_rules (j + 1) ts) one)
-              (then_none (refused_by (Some j) (program_rules p)) (first_among program_rules (j + 1) (programs_of ts)) two') (then_none (refused_by (Some j) (other_ranges p)) (first_among other_ranges (j + 1) (programs_of ts)) three')
+              (then_none (refused_by (Some j) (program_rules p)) (first_among program_rules (j + 1) (programs_of ts)) two')
+              (then_none (refused_by (Some j) (other_ranges p)) (first_among other_ranges (j + 1) (programs_of ts)) three')
               (then_none (refused_by (Some j) (text_rules head)) (first_among text_rules (j + 1) rest) new),
         )
 
@@ -135,9 +138,13 @@ sets_are_annotated set new_set is =
     ap (λ (ts : List TaskText). first_among text_rules 0 ts) (sym tasks_are) ∙ first_none (first_among text_rules 0 new_set.tasks) (broken_programs new_set (programs_of new_set.tasks)) is.lawful in
     let all = all_tasks lengths (λ k n. length_small (facts_told (bounds_told (unlengthened annotated_text set)) k) n) 0 0 set.tasks is.texts_are_read is.programs_are_formed is.ranges_are_kept one in
     let first = unlengthened annotated_text set in
-    let early : broken_early first ≡ None = first_none (broken_early first) (or_else (late_refusal (refused_by None (memory_rules first.plant (places_in first)))) (unbounded_at first (places_in first))) is.has_bounds in
+    let early : broken_early first ≡ None =
+    first_none (broken_early first)
+    (or_else (late_refusal (refused_by None (memory_rules first.plant (places_in first)))) (unbounded_at first (places_in first))) is.has_bounds in
     let read : first_among text_rules 0 first.tasks ≡ None =
-    first_none (over_tasks text_rules first.tasks) (or_else (over_tasks program_rules (programs_of first.tasks)) (or_else (over_tasks range_rules (programs_of first.tasks)) (late_refusal (code_broken first)))) early in
+    first_none (over_tasks text_rules first.tasks)
+    (or_else (over_tasks program_rules (programs_of first.tasks))
+    (or_else (over_tasks range_rules (programs_of first.tasks)) (late_refusal (code_broken first)))) early in
     let before = all_tasks (λ k. no_lengths) (λ k n. omega arith) 0 0 set.tasks is.texts_are_read is.programs_are_formed is.ranges_are_kept read in
     record {
       tasks = subst (λ (ts : List TaskText). AreAnnotatedTasks lengths 0 set.tasks ts) (sym tasks_are) all;

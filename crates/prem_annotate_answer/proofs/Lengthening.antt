@@ -26,10 +26,13 @@ put_alike f g n (x ∷ xs) same =
     ap (λ (l : ℕ). lengthened_notes l x ∷ lengthened f (n + 1) xs) first ∙ ap (λ (ys : List Notes). lengthened_notes (g n) x ∷ ys) (put_alike f g (n + 1) xs rest)
 
 -- a list of as many lengths as there are functions
-pub listed_lengths : (facts : List (ℕ × IntervalFact)) (lengths : List ℕ) (count : ℕ) (xs new : List Notes) → lengths ≡ lengths_from facts 0 count → count ≡ length xs → new ≡ lengthened (length_at lengths) 0 xs → new ≡ lengthened (length_in facts) 0 xs
+pub listed_lengths : (facts : List (ℕ × IntervalFact)) (lengths : List ℕ) (count : ℕ) (xs new : List Notes) → lengths ≡ lengths_from facts 0 count →
+    count ≡ length xs → new ≡ lengthened (length_at lengths) 0 xs → new ≡ lengthened (length_in facts) 0 xs
 listed_lengths facts lengths count xs new are size is =
     is ∙ ap (λ (ls : List ℕ). lengthened (length_at ls) 0 xs) are
-    ∙ put_alike (length_at (lengths_from facts 0 count)) (length_in facts) 0 xs (λ k lt. let same : 0 + (0 + k) ≡ 0 + k = omega arith in length_there facts 0 count (0 + k) (omega (arith, size, lt)) ∙ ap (λ (j : ℕ). length_in facts j) same)
+    ∙ put_alike (length_at (lengths_from facts 0 count)) (length_in facts) 0 xs
+    (λ k lt. let same : 0 + (0 + k) ≡ 0 + k = omega arith in length_there facts 0 count (0 + k) (omega (arith, size, lt))
+    ∙ ap (λ (j : ℕ). length_in facts j) same)
 
 -- ---- program by program
 
@@ -49,7 +52,8 @@ all_count lengths k (ns ∷ xs) = ap suc (all_count lengths (k + 1) xs)
 
 -- ---- step by step
 
-pub one_more : (facts : List (ℕ × IntervalFact)) (old new : List ℕ) (n count length : ℕ) (whole : List ℕ) → n < count → old ++ lengths_from facts n (count - n) ≡ whole → new ≡ old ++ length ∷ [] → length ≡ length_in facts n →
+pub one_more : (facts : List (ℕ × IntervalFact)) (old new : List ℕ) (n count length : ℕ) (whole : List ℕ) → n < count →
+    old ++ lengths_from facts n (count - n) ≡ whole → new ≡ old ++ length ∷ [] → length ≡ length_in facts n →
     new ++ lengths_from facts (n + 1) (count - (n + 1)) ≡ whole
 one_more facts old new n count length whole lt so_far is of =
     let rest = lengths_from facts (n + 1) (count - (n + 1)) in

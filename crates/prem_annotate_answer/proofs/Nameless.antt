@@ -25,7 +25,8 @@ no_names p line (RegionOutside function elements global) h = absurd h
 no_names p line (ArgRange argument stated) h = refl
 
 -- a program with such a rule is refused by it
-pub other_stops : (p : ProgramText) (b : RangeBreach) (rule : Told) (stop : Stop) (n : ℕ) → Some b ≡ first_other p → Tellable b.rule → rule ≡ told_nameless b → Stops stop (Some (record { task = Some n; rule = rule })) →
+pub other_stops : (p : ProgramText) (b : RangeBreach) (rule : Told) (stop : Stop) (n : ℕ) → Some b ≡ first_other p → Tellable b.rule →
+    rule ≡ told_nameless b → Stops stop (Some (record { task = Some n; rule = rule })) →
     Stops stop (refused_by (Some n) (other_ranges p))
 other_stops p b rule stop n is tellable told s =
     let here : told_nameless b ≡ of_ranges (range_told (resolved p) b.at.line b.rule) = ap of_ranges (no_names (resolved p) b.at.line b.rule tellable) in

@@ -26,7 +26,8 @@ Any x = Unit {0}
 task_formed : (e : TaskEntry) (bytes : List ℕ) (reply : Reply) → task_of_source e bytes ≡ Err reply → is_judged reply.0 ≡ false
 task_formed e bytes reply is = absurd cc
 
-put_first : (es : List TaskEntry) (t : TaskText) (left : Reads) → Outcome (reading_tasks_by Whole es) left Any → Outcome (λ (next : List TaskText → Stage Reply). reading_tasks_by Whole es (λ ts. next (t ∷ ts))) left Any
+put_first : (es : List TaskEntry) (t : TaskText) (left : Reads) → Outcome (reading_tasks_by Whole es) left Any →
+    Outcome (λ (next : List TaskText → Stage Reply). reading_tasks_by Whole es (λ ts. next (t ∷ ts))) left Any
 put_first es t left (inr stop) = inr (record { reply = stop.reply; unjudged = stop.unjudged; stops = λ next. stop.stops (λ ts. next (t ∷ ts)) })
 put_first es t left (inl goes) = inl (record { value = t ∷ goes.value; left = goes.left; gives = λ next. goes.gives (λ ts. next (t ∷ ts)); holds = tt })
 
@@ -112,7 +113,14 @@ annotations_keep a reads given is = record {
   on_done = λ done.
       let r = set_read a given reads (is_done given.0 done) is in
       let told = (found_by a.task r.set given (text_named a.task r.set.tasks) r.goes).on_done done in
-      record { set = r.set; read = r.read; new_set = written annotated_text r.set; annotated_set = sets_are_annotated r.set (written annotated_text r.set) (none_is_annotated annotated_text r.set told.0); text_is = told.1 };
+      record {
+        set = r.set;
+        read = r.read;
+        new_set = written annotated_text r.set;
+        annotated_set =
+            sets_are_annotated r.set (written annotated_text r.set) (none_is_annotated annotated_text r.set told.0);
+        text_is = told.1;
+      };
   on_refused = λ refused.
       let r = set_read a given reads (is_refused given.0 refused) is in
       let told = (found_by a.task r.set given (text_named a.task r.set.tasks) r.goes).on_refused refused in

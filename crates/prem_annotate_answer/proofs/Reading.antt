@@ -17,7 +17,8 @@ read_from : (n : ℕ) (ts : List TaskText) → first_among text_rules n ts ≡ N
 read_from n [] e = refl
 read_from n (t ∷ ts) e = by (reads t.text) e (read_from (n + 1) ts)
   where
-    by : (read : Result ProgramText FrontFail) → or_else (refused_by (Some n) (unread read)) (first_among text_rules (n + 1) ts) ≡ None → (first_among text_rules (n + 1) ts ≡ None → AreReadAs ts (programs_of ts)) →
+    by : (read : Result ProgramText FrontFail) → or_else (refused_by (Some n) (unread read)) (first_among text_rules (n + 1) ts) ≡ None →
+        (first_among text_rules (n + 1) ts ≡ None → AreReadAs ts (programs_of ts)) →
         read ∷ map read_of ts ≡ map ok_program (program_before read (programs_of ts))
     by (Ok p) e more = ap (λ (rest : List (Result ProgramText FrontFail)). Ok p ∷ rest) (more e)
     by (Err fail) e more = absurd cc
@@ -26,7 +27,8 @@ pub tasks_read : (ts : List TaskText) → over_tasks text_rules ts ≡ None → 
 tasks_read ts e = read_from 0 ts e
 
 -- a task's text is read as the program with its number
-pub read_at : (tasks : List TaskTree) (programs : List Checked) (n : ℕ) (task : TaskTree) (program : Checked) → AreReadAs (map task_of tasks) (map checked_text programs) → task ≡ slice_index_or tasks n task →
+pub read_at : (tasks : List TaskTree) (programs : List Checked) (n : ℕ) (task : TaskTree) (program : Checked) →
+    AreReadAs (map task_of tasks) (map checked_text programs) → task ≡ slice_index_or tasks n task →
     program ≡ slice_index_or programs n program → n < length tasks → reads (items_of task.text) ≡ Ok (checked_text program)
 read_at [] programs n task program are et ep lt = absurd (omega (arith, lt))
 read_at (t ∷ ts) [] n task program are et ep lt = absurd cc

@@ -69,7 +69,8 @@ marked_bare (x ∷ xs) = ap (λ l. x.function ∷ l) (marked_bare xs)
 
 pub places_bare : (p : Resolved) (places : List Extent) → task_places (bare_program p) places ≡ task_places p places
 places_bare p places =
-    let marked : map (λ (plan : Plan). plan.function) (plans_of (bare_program p)) ≡ map (λ (plan : Plan). plan.function) (plans_of p) = ap (map (λ (plan : Plan). plan.function)) (plans_bare p) ∙ marked_bare (plans_of p) in
+    let marked : map (λ (plan : Plan). plan.function) (plans_of (bare_program p)) ≡ map (λ (plan : Plan). plan.function) (plans_of p) =
+    ap (map (λ (plan : Plan). plan.function)) (plans_bare p) ∙ marked_bare (plans_of p) in
     λ i. record { places = take (count_bare p i) places; functions = count_routines p i; marked = marked i; elements = map (λ g. element_size g.ty) p.globals }
 
 -- ---- what stubs cost
@@ -77,14 +78,16 @@ places_bare p places =
 abbrev range_before : ℕ → (ℕ → ℕ) → Extent → ℕ → ℕ
 range_before line calls r behind =
     weight cost_of (address_code 5 (r.0 / line * line) ++ address_code 6 r.1)
-    + (line_count line r * (0 + cost_of (branch_of is_below_end) + weighted cost_of calls (straight (line_code line) no_pieces) + jump_weight cost_of) + (0 + cost_of (branch_of is_below_end) + jump_weight cost_of) + behind)
+    + (line_count line r * (0 + cost_of (branch_of is_below_end) + weighted cost_of calls (straight (line_code line) no_pieces) + jump_weight cost_of)
+    + (0 + cost_of (branch_of is_below_end) + jump_weight cost_of) + behind)
 
 ranges_cost : (line : ℕ) (calls : ℕ → ℕ) (rs : List Extent) (x y behind : Pieces) → weighted cost_of calls (followed x behind) ≡ weighted cost_of calls (followed y behind) →
     weighted cost_of calls (followed (ranges_code line rs x) behind) ≡ weighted cost_of calls (followed (ranges_code line rs y) behind)
 ranges_cost line calls [] x y behind e = e
 ranges_cost line calls (r ∷ rs) x y behind e = ap (range_before line calls r) (ranges_cost line calls rs x y behind e)
 
-stub_cost : (passes : Passes) (line : ℕ) (at : TaskPlaces) (calls : ℕ → ℕ) (plan : Plan) → weighted cost_of calls (stub_of passes line at (bare_plan plan)) ≡ weighted cost_of calls (stub_of passes line at plan)
+stub_cost : (passes : Passes) (line : ℕ) (at : TaskPlaces) (calls : ℕ → ℕ) (plan : Plan) →
+    weighted cost_of calls (stub_of passes line at (bare_plan plan)) ≡ weighted cost_of calls (stub_of passes line at plan)
 stub_cost once line at calls plan = ap (λ n. weight cost_of (PmMem ∷ []) + n) (ranges_cost line calls (ranges_of at plan) _ _ (straight return_code no_pieces) refl)
 stub_cost (times n) line at calls plan = refl
 
@@ -110,7 +113,8 @@ path_bare passes line at code job plans =
 abbrev bound_in : IntervalFact → ℕ
 bound_in f = f.bound
 
-facts_bare : (p : Plant) (s t : Placed) (k : ℕ) (plans : List Plan) → s.at ≡ t.at → path_of s.table ≡ path_of t.table → map bound_in (interval_facts_from p s k (map bare_plan plans)) ≡ map bound_in (interval_facts_from p t k plans)
+facts_bare : (p : Plant) (s t : Placed) (k : ℕ) (plans : List Plan) → s.at ≡ t.at → path_of s.table ≡ path_of t.table →
+    map bound_in (interval_facts_from p s k (map bare_plan plans)) ≡ map bound_in (interval_facts_from p t k plans)
 facts_bare p s t k [] places paths = refl
 facts_bare p s t k (x ∷ xs) places paths =
     λ i. (paths i k + length (footprint_of p.line (places i) x) * (p.fill + p.back)) ∷ facts_bare p s t (k + 1) xs places paths i

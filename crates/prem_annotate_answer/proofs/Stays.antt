@@ -18,7 +18,8 @@ use Rattle.prem_text.proofs.Whole.{text_sound}
 use Rattle.prem_annotating.specs.Seen.{KnownCall, calls_of_all}
 use Rattle.prem_annotating.specs.Inferred.{ranged_parameter, ranged_parameters, with_parameters, ranged_routine, ranged_routines}
 use Rattle.prem_annotating.specs.Reached.{regions_reached}
-use Rattle.prem_annotating.specs.Annotated.{annotated_mark, with_mark, marked_routine, marked_routines, with_texts, texts_of, with_routines, all_ranged, all_annotated, ranged, annotated, but_regions, other_breaches, first_other}
+use Rattle.prem_annotating.specs.Annotated.{annotated_mark, with_mark, marked_routine, marked_routines, with_texts, texts_of, with_routines, all_ranged, all_annotated, ranged}
+use Rattle.prem_annotating.specs.Annotated.{annotated, but_regions, other_breaches, first_other}
 use Rattle.prem_annotating.specs.Editing.Orders.{annotations, unplaced_wanted}
 use Rattle.prem_annotating.proofs.Kept.{length-kept}
 use Rattle.prem_annotating.proofs.Transformed.{all_annotated_kept, resolved_annotated, annotated_twice}
@@ -66,7 +67,8 @@ texts_put (t ∷ ts) (function_item f ∷ items) e = ap (λ xs. t ∷ xs) (texts
 annotated_functions : (lengths : ℕ → ℕ) (p : ProgramText) → functions_of (annotated lengths p) ≡ texts_of (all_annotated lengths p)
 annotated_functions lengths p =
     let fs = all_annotated lengths p in
-    texts_put (texts_of fs) p (length-map fs (λ (f : Routine). f.text) ∙ sym (length-kept (all_annotated_kept lengths p)) ∙ sym (length-map (resolved p).routines (λ (f : Routine). f.text)) ∙ ap length (texts_resolved (functions_of p) unlimited.turns 0 [] p))
+    texts_put (texts_of fs) p (length-map fs (λ (f : Routine). f.text) ∙ sym (length-kept (all_annotated_kept lengths p))
+    ∙ sym (length-map (resolved p).routines (λ (f : Routine). f.text)) ∙ ap length (texts_resolved (functions_of p) unlimited.turns 0 [] p))
 
 wanted_are : (fs : List FunctionText) → map wanted (map notes fs) ≡ map annotations fs
 wanted_are [] = refl
@@ -84,7 +86,8 @@ text_stays lengths text q is same =
 same_most : (a b c : ℕ) → c ≤ b → max (max a b) c ≡ max (max a b) b
 same_most a b c h = grind (arith, h)
 
-mark_less : (rs qs : List RegionText) (more less : ℕ) (m : Option MarkText) → less ≤ more → option_map (annotated_mark rs less) (option_map (annotated_mark qs more) m) ≡ option_map (annotated_mark rs more) (option_map (annotated_mark qs more) m)
+mark_less : (rs qs : List RegionText) (more less : ℕ) (m : Option MarkText) → less ≤ more →
+    option_map (annotated_mark rs less) (option_map (annotated_mark qs more) m) ≡ option_map (annotated_mark rs more) (option_map (annotated_mark qs more) m)
 mark_less rs qs more less None h = refl
 mark_less rs qs more less (Some m) h = λ i. Some (record { stated = same_most m.stated more less h i; regions = rs })
 
@@ -120,7 +123,8 @@ read_stays before behind h p q same =
 
 task_stays : (before behind : ℕ → ℕ) → ((n : ℕ) → behind n ≤ before n) → (t u : TaskText) → IsAnnotatedTask before t u → written_task annotated_text behind u ≡ u
 task_stays before behind h t u is =
-    let by_read : written_by annotated_text behind u.text (reads u.text) ≡ annotated_text (program_notes behind is.read) u.text = ap (λ (r : Result ProgramText FrontFail). written_by annotated_text behind u.text r) is.is_read in
+    let by_read : written_by annotated_text behind u.text (reads u.text) ≡ annotated_text (program_notes behind is.read) u.text =
+    ap (λ (r : Result ProgramText FrontFail). written_by annotated_text behind u.text r) is.is_read in
     ap (λ (text : List ℕ). with_text text u) (by_read ∙ text_stays behind u.text is.read is.is_read (read_stays before behind h is.program is.read is.tree_is))
 
 tasks_stay : (before behind : ℕ → ℕ → ℕ) → ((k n : ℕ) → behind k n ≤ before k n) → (k : ℕ) (ts us : List TaskText) → AreAnnotatedTasks before k ts us → written_tasks annotated_text behind k us ≡ us
@@ -195,7 +199,8 @@ none_other q same none =
     let others : other_breaches q ≡ [] = ap (λ (x : ProgramText). but_regions (range_breaches (resolved x))) same ∙ ap but_regions nothing in
     ap (λ (bs : List RangeBreach). option_map (λ (b : RangeBreach). of_ranges (range_told (resolved q) b.at.line b.rule)) (first_of bs)) others
 
-others_stay : (lengths : ℕ → ℕ → ℕ) (k j : ℕ) (ts us : List TaskText) → AreAnnotatedTasks lengths k ts us → first_among range_rules j (programs_of us) ≡ None → first_among other_ranges j (programs_of us) ≡ None
+others_stay : (lengths : ℕ → ℕ → ℕ) (k j : ℕ) (ts us : List TaskText) → AreAnnotatedTasks lengths k ts us →
+    first_among range_rules j (programs_of us) ≡ None → first_among other_ranges j (programs_of us) ≡ None
 others_stay lengths k j [] [] are none = refl
 others_stay lengths k j [] (u ∷ us) are none = absurd are
 others_stay lengths k j (t ∷ ts) [] are none = refl
@@ -204,7 +209,8 @@ others_stay lengths k j (t ∷ ts) (u ∷ us) are none =
     let q = one.read in
     let all : programs_of (u ∷ us) ≡ q ∷ programs_of us = ap (λ (r : Result ProgramText FrontFail). program_before r (programs_of us)) one.is_read in
     let none' : first_among range_rules j (q ∷ programs_of us) ≡ None = ap (λ (ps : List ProgramText). first_among range_rules j ps) (sym all) ∙ none in
-    let head = none_other q (ranged_back (λ n. 0) q (read_stays (lengths k) (λ n. 0) (λ n. nothing_is_less (lengths k n)) one.program q one.tree_is)) (told_none (Some j) (range_rules q) (first_none (refused_by (Some j) (range_rules q)) (first_among range_rules (j + 1) (programs_of us)) none')) in
+    let head = none_other q (ranged_back (λ n. 0) q (read_stays (lengths k) (λ n. 0) (λ n. nothing_is_less (lengths k n)) one.program q one.tree_is))
+    (told_none (Some j) (range_rules q) (first_none (refused_by (Some j) (range_rules q)) (first_among range_rules (j + 1) (programs_of us)) none')) in
     let rest = others_stay lengths (k + 1) (j + 1) ts us are.1 (then_none (refused_by (Some j) (range_rules q)) (first_among range_rules (j + 1) (programs_of us)) none') in
     ap (λ (ps : List ProgramText). first_among other_ranges j ps) all ∙ ap (λ (o : Option Told). or_else (refused_by (Some j) o) (first_among other_ranges (j + 1) (programs_of us))) head ∙ rest
 
@@ -259,7 +265,8 @@ lawful_ways set none =
       one = one;
       two = two;
       three = three;
-      bounded_at = λ i. or_else (or_else (one i) (or_else (two i) (or_else (three i) (late_refusal (four i))))) (or_else (late_refusal (five i)) (late_refusal (or_else (six i) (or_else (seven i) (eight i)))));
+      bounded_at = λ i. or_else (or_else (one i) (or_else (two i) (or_else (three i) (late_refusal (four i)))))
+          (or_else (late_refusal (five i)) (late_refusal (or_else (six i) (or_else (seven i) (eight i)))));
     }
 
 -- ---- annotated once more

@@ -18,11 +18,13 @@ use Rattle.prem_annotate_answer.proofs.Promise.{annotations_keep}
 
 -- ---- the answer to a set
 
-pub told_is : (task : List ℕ) (set new : TaskSet) (reply : Reply) → IsAnnotated annotated_text set new → reply ≡ text_reply task (text_named task new.tasks) → reply ≡ judged_reply task set (unannotated annotated_text set)
+pub told_is : (task : List ℕ) (set new : TaskSet) (reply : Reply) → IsAnnotated annotated_text set new →
+    reply ≡ text_reply task (text_named task new.tasks) → reply ≡ judged_reply task set (unannotated annotated_text set)
 told_is task set new reply is told =
     told ∙ ap (λ (s : TaskSet). text_reply task (text_named task s.tasks)) is.written_is ∙ ap (judged_reply task set) (sym (none_stands annotated_text set new is))
 
-pub refused_is : (task : List ℕ) (set : TaskSet) (refusal : Refusal Told) (reply : Reply) → unannotated annotated_text set ≡ Some refusal → reply ≡ refused_reply set.tasks refusal → reply ≡ judged_reply task set (unannotated annotated_text set)
+pub refused_is : (task : List ℕ) (set : TaskSet) (refusal : Refusal Told) (reply : Reply) → unannotated annotated_text set ≡ Some refusal →
+    reply ≡ refused_reply set.tasks refusal → reply ≡ judged_reply task set (unannotated annotated_text set)
 refused_is task set refusal reply is told = told ∙ ap (judged_reply task set) (sym is)
 
 -- ---- answers that may be given

@@ -53,7 +53,13 @@ elements_same (g ∷ gs) = ap (λ l. element_size g.ty ∷ l) (elements_same gs)
 
 places_same : (p : Resolved) (places : List Extent) → task_places (unplaced_resolved p) places ≡ task_places p places
 places_same p places =
-    λ i. record { places = take (part_count_same p i) places; functions = length_same p.routines i; marked = map (λ (plan : Plan). plan.function) (plans_same p i); elements = elements_same p.globals i }
+    λ i. record {
+      places = take (part_count_same p i) places;
+      functions = length_same p.routines i;
+      marked =
+          map (λ (plan : Plan). plan.function) (plans_same p i);
+      elements = elements_same p.globals i;
+    }
 
 -- ---- facts
 
@@ -81,7 +87,8 @@ all_told p n places [] = refl
 all_told p n places (c ∷ cs) =
     let this : told_of p n (placed_at p (unplaced_coded c) (task_places (unplaced_resolved c.program) places)) ≡ told_of p n (placed_at p c (task_places c.program places)) =
     ap (λ at. told_of p n (placed_at p (unplaced_coded c) at)) (places_same c.program places) ∙ told_same p n c (task_places c.program places) in
-    let rest : told_from p (n + 1) (placed_from p (drop (part_count (unplaced_resolved c.program)) places) (map unplaced_coded cs)) ≡ told_from p (n + 1) (placed_from p (drop (part_count c.program) places) cs) =
+    let rest : told_from p (n + 1) (placed_from p (drop (part_count (unplaced_resolved c.program)) places) (map unplaced_coded cs))
+    ≡ told_from p (n + 1) (placed_from p (drop (part_count c.program) places) cs) =
     ap (λ m. told_from p (n + 1) (placed_from p (drop m places) (map unplaced_coded cs))) (part_count_same c.program) ∙ all_told p (n + 1) (drop (part_count c.program) places) cs in
     λ i. this i ∷ rest i
 

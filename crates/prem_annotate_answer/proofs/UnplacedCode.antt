@@ -9,13 +9,15 @@ use Rattle.prem_plant.specs.declared.layout.PartKind.TheVariants.{Start, Stack}
 use Rattle.prem_isa.specs.declared.instr.Instr.TheVariants.{OpImm, PmIn, PmOut}
 use Rattle.prem_isa.specs.declared.instr.AluOp.TheVariants.{Add}
 use Rattle.prem_syntax.specs.Syntax.{RegionText, MarkText, GlobalVariable}
-use Rattle.prem_syntax.specs.Resolved.{Term, Constant, Local, Scalar, Element, Unary, Binary, AndAlso, OrElse, Steps, Done, SetLocal, SetScalar, SetElement, Output, Input, If, For, While, Call, Routine, Resolved}
+use Rattle.prem_syntax.specs.Resolved.{Term, Constant, Local, Scalar, Element, Unary, Binary, AndAlso, OrElse, Steps, Done, SetLocal, SetScalar, SetElement, Output, Input, If, For}
+use Rattle.prem_syntax.specs.Resolved.{While, Call, Routine, Resolved}
 use Rattle.prem_syntax.specs.Resolve.{find_global}
 use Rattle.prem_syntax.specs.Reach.{callees_in, callee_table, reach_of}
 use Rattle.prem_asm.specs.Pieces.{no_pieces, straight, either, repeat, call_to, followed}
 use Rattle.prem_layout.specs.Template.Terms.{only, constant, nonzero, unary_code, binary_code, truth_code, element_code, term_code}
 use Rattle.prem_layout.specs.Template.Frames.{counters_in, frame_of, frame_at, deepest, depth_if_there, depth_below, depth_of, deepest_marked, deepest_called, stack_size}
-use Rattle.prem_layout.specs.Template.Steps.{Parts, store_slot, load_slot, scalar_store, element_store, bound_test, step_code, count_code, store_argument, argument_code, target_code, steps_code, opening, closing, declare_code, result_code, function_code}
+use Rattle.prem_layout.specs.Template.Steps.{Parts, store_slot, load_slot, scalar_store, element_store, bound_test, step_code, count_code, store_argument, argument_code}
+use Rattle.prem_layout.specs.Template.Steps.{target_code, steps_code, opening, closing, declare_code, result_code, function_code}
 use Rattle.prem_layout.specs.Template.Parts.{marked_count, marked_before, is_marked_at, code_part, stub_part, parts_of, codes_of}
 use Rattle.prem_layout.specs.Plans.{Plan, number_or, region_of, plan_of, plan_before, plans_from, plans_of}
 use Rattle.prem_layout.specs.Parts.{Passes, part, stub_parts, start_size, code_parts, global_parts, task_parts, part_count}
@@ -69,7 +71,8 @@ steps_same parts n (Output at value rest) =
 steps_same parts n (Input at k rest) = ap (straight (PmIn 10 ∷ store_slot k ∷ [])) (steps_same parts n rest)
 steps_same parts n (If at condition taken other rest) =
     let two = ap (λ m. steps_code parts (n + m) (unplaced_steps other)) (counters_same taken) ∙ steps_same parts (n + counters_in taken) other in
-    let three : steps_code parts (n + counters_in (unplaced_steps taken) + counters_in (unplaced_steps other)) (unplaced_steps rest) ≡ steps_code parts (n + counters_in taken + counters_in other) rest =
+    let three : steps_code parts (n + counters_in (unplaced_steps taken) + counters_in (unplaced_steps other)) (unplaced_steps rest)
+    ≡ steps_code parts (n + counters_in taken + counters_in other) rest =
     (λ i. steps_code parts (n + counters_same taken i + counters_same other i) (unplaced_steps rest)) ∙ steps_same parts (n + counters_in taken + counters_in other) rest in
     λ i. followed (term_same parts.target parts.global 10 condition i) (either (nonzero 10) (steps_same parts n taken i) (two i) (three i))
 steps_same parts n (For at k low closed high step turns body rest) =
@@ -108,7 +111,8 @@ frame_same f = λ i. next_multiple_of (4 + 4 * (params_same f i + locals_same f 
 code_same : (parts : Parts) (f : Routine) → function_code parts (unplaced_routine f) ≡ function_code parts f
 code_same parts f =
     let declared = ap (λ k. declare_code parts.target parts.global k (map unplaced_term f.locals)) (params_same f) ∙ declare_same parts.target parts.global (length f.text.params) f.locals in
-    let steps : steps_code parts (length (map unplaced_parameter f.text.params) + length (map unplaced_term f.locals)) (unplaced_steps f.body) ≡ steps_code parts (length f.text.params + length f.locals) f.body =
+    let steps : steps_code parts (length (map unplaced_parameter f.text.params) + length (map unplaced_term f.locals)) (unplaced_steps f.body)
+    ≡ steps_code parts (length f.text.params + length f.locals) f.body =
     (λ i. steps_code parts (params_same f i + locals_same f i) (unplaced_steps f.body)) ∙ steps_same parts (length f.text.params + length f.locals) f.body in
     λ i. straight (opening (frame_same f i)) (followed (declared i) (followed (steps i) (followed (result_same parts.target parts.global f.result i) (only (closing (frame_same f i))))))
 

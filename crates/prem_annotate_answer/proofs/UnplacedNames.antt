@@ -11,9 +11,14 @@ use Rattle.prem_syntax.specs.declared.tree.Place.{Place}
 use Rattle.prem_syntax.specs.declared.tree.Ty.{Ty}
 use Rattle.prem_syntax.specs.declared.meaning.Meaning.{Meaning}
 use Rattle.prem_syntax.specs.declared.meaning.Meaning.TheVariants.{Nothing, Local as LocalName, Scalar as ScalarName, Array as ArrayName, Function as FunctionName}
-use Rattle.prem_syntax.specs.Syntax.{Text, Expression, literal, variable, element, unary, binary, Statement, block, if_then, if_else, bounded_while, counting_for, assign, output, input, call, Statements, no_statements, next_statement, Parameter, LocalVariable, GlobalVariable, FunctionText, global_item, function_item, ProgramText}
+use Rattle.prem_syntax.specs.Syntax.{Text, Expression, literal, variable, element, unary, binary, Statement, block, if_then, if_else, bounded_while, counting_for, assign, output}
+use Rattle.prem_syntax.specs.Syntax.{input, call, Statements, no_statements, next_statement, Parameter, LocalVariable, GlobalVariable, FunctionText, global_item, function_item}
+use Rattle.prem_syntax.specs.Syntax.{ProgramText}
 use Rattle.prem_syntax.specs.Resolved.{Term, Constant, Local, Scalar, Element, Unary, Binary, AndAlso, OrElse, operator, Steps, Done, Output, If, For, While, Routine, Resolved}
-use Rattle.prem_syntax.specs.Resolve.{Scope, find_named, find_local, find_global, find_function, first_meaning, meaning_of, operand_kind, unary_kind, kind_of, variable_term, element_term, binary_term, resolve_term, loops_in, loops_within, set_steps, input_steps, loop_local, local_number, target_of, number_named, call_steps, resolve_statement, resolve_statements, resolve_locals, parameter_names, local_names, resolve_function, globals_of, functions_of, resolve_items, resolve}
+use Rattle.prem_syntax.specs.Resolve.{Scope, find_named, find_local, find_global, find_function, first_meaning, meaning_of, operand_kind, unary_kind, kind_of, variable_term}
+use Rattle.prem_syntax.specs.Resolve.{element_term, binary_term, resolve_term, loops_in, loops_within, set_steps, input_steps, loop_local, local_number, target_of, number_named}
+use Rattle.prem_syntax.specs.Resolve.{call_steps, resolve_statement, resolve_statements, resolve_locals, parameter_names, local_names, resolve_function, globals_of, functions_of}
+use Rattle.prem_syntax.specs.Resolve.{resolve_items, resolve}
 use Rattle.prem_text.specs.Grammar.Reader.{nowhere}
 use Rattle.prem_text.specs.Canonical.Unplaced.{unplaced_expression, unplaced_statement, unplaced_statements, unplaced_parameter, unplaced_local, unplaced_global, unplaced_function, unplaced}
 use Rattle.prem_annotate_answer.specs.Unplaced.{unplaced_term, unplaced_steps, unplaced_routine, unplaced_routines, unplaced_resolved}
@@ -24,13 +29,17 @@ either_found : {A : Type 0} (f : A → A) (b : Bool) (x : A) (o o' : Option A) �
 either_found f true x o o' e = refl
 either_found f false x o o' e = e
 
-pub globals_found : (name : Text) (n : ℕ) (gs : List GlobalVariable) → find_named (λ (g : GlobalVariable). g.name) name n (map unplaced_global gs) ≡ option_map (λ (g : ℕ × GlobalVariable). (g.0, unplaced_global g.1)) (find_named (λ (g : GlobalVariable). g.name) name n gs)
+pub globals_found : (name : Text) (n : ℕ) (gs : List GlobalVariable) →
+    find_named (λ (g : GlobalVariable). g.name) name n (map unplaced_global gs)
+    ≡ option_map (λ (g : ℕ × GlobalVariable). (g.0, unplaced_global g.1)) (find_named (λ (g : GlobalVariable). g.name) name n gs)
 globals_found name n [] = refl
 globals_found name n (g ∷ gs) =
     either_found (λ (x : ℕ × GlobalVariable). (x.0, unplaced_global x.1)) (bytes_eq g.name name) (n, g) (find_named (λ (x : GlobalVariable). x.name) name (n + 1) gs)
     (find_named (λ (x : GlobalVariable). x.name) name (n + 1) (map unplaced_global gs)) (globals_found name (n + 1) gs)
 
-functions_found : (name : Text) (n : ℕ) (fs : List FunctionText) → find_named (λ (f : FunctionText). f.name) name n (map unplaced_function fs) ≡ option_map (λ (f : ℕ × FunctionText). (f.0, unplaced_function f.1)) (find_named (λ (f : FunctionText). f.name) name n fs)
+functions_found : (name : Text) (n : ℕ) (fs : List FunctionText) →
+    find_named (λ (f : FunctionText). f.name) name n (map unplaced_function fs)
+    ≡ option_map (λ (f : ℕ × FunctionText). (f.0, unplaced_function f.1)) (find_named (λ (f : FunctionText). f.name) name n fs)
 functions_found name n [] = refl
 functions_found name n (f ∷ fs) =
     either_found (λ (x : ℕ × FunctionText). (x.0, unplaced_function x.1)) (bytes_eq f.name name) (n, f) (find_named (λ (x : FunctionText). x.name) name (n + 1) fs)
@@ -48,7 +57,9 @@ meaning_same s name =
     (λ i. first_meaning (find_local s name) (globals_found name 0 s.globals i) (functions_found name 0 s.functions i))
     ∙ meaning_by (find_local s name) (find_global s name) (find_function s.functions name)
 
-number_by : (o : Option (ℕ × FunctionText)) → option_map (λ (f : ℕ × FunctionText). f.0) (option_map (λ (f : ℕ × FunctionText). (f.0, unplaced_function f.1)) o) ≡ option_map (λ (f : ℕ × FunctionText). f.0) o
+number_by : (o : Option (ℕ × FunctionText)) →
+    option_map (λ (f : ℕ × FunctionText). f.0) (option_map (λ (f : ℕ × FunctionText). (f.0, unplaced_function f.1)) o)
+    ≡ option_map (λ (f : ℕ × FunctionText). f.0) o
 number_by None = refl
 number_by (Some f) = refl
 
@@ -180,7 +191,8 @@ target_same a b same None = refl
 target_same a b same (Some name) = ap local_number (same.meaning name)
 
 mutual
-  statement_same : (a b : Scope) → Alike a b → (t : ℕ → ℕ) (n : ℕ) (s : Statement) (rest rest' : Steps) → rest' ≡ unplaced_steps rest → resolve_statement a t n (unplaced_statement s) rest' ≡ unplaced_steps (resolve_statement b t n s rest)
+  statement_same : (a b : Scope) → Alike a b → (t : ℕ → ℕ) (n : ℕ) (s : Statement) (rest rest' : Steps) → rest' ≡ unplaced_steps rest →
+      resolve_statement a t n (unplaced_statement s) rest' ≡ unplaced_steps (resolve_statement b t n s rest)
   statement_same a b same t n (block at body) rest rest' e = statements_same a b same t n body rest rest' e
   statement_same a b same t n (if_then at condition taken) rest rest' e =
       let one = statement_same a b same t n taken Done Done refl in
@@ -205,11 +217,13 @@ mutual
       (λ i. call_steps nowhere (target_same a b same target i) (same.number callee i) (terms_same a b same arguments i) (e i))
       ∙ call_same at (target_of b target) (number_named b.functions callee) (map (resolve_term b) arguments) rest
 
-  statements_same : (a b : Scope) → Alike a b → (t : ℕ → ℕ) (n : ℕ) (s : Statements) (rest rest' : Steps) → rest' ≡ unplaced_steps rest → resolve_statements a t n (unplaced_statements s) rest' ≡ unplaced_steps (resolve_statements b t n s rest)
+  statements_same : (a b : Scope) → Alike a b → (t : ℕ → ℕ) (n : ℕ) (s : Statements) (rest rest' : Steps) → rest' ≡ unplaced_steps rest →
+      resolve_statements a t n (unplaced_statements s) rest' ≡ unplaced_steps (resolve_statements b t n s rest)
   statements_same a b same t n no_statements rest rest' e = e
   statements_same a b same t n (next_statement first others) rest rest' e =
       let more = ap (λ k. resolve_statements a t (n + k) (unplaced_statements others) rest') (loops_same first) ∙ statements_same a b same t (n + loops_in first) others rest rest' e in
-      statement_same a b same t n first (resolve_statements b t (n + loops_in first) others rest) (resolve_statements a t (n + loops_in (unplaced_statement first)) (unplaced_statements others) rest') more
+      statement_same a b same t n first (resolve_statements b t (n + loops_in first) others rest)
+      (resolve_statements a t (n + loops_in (unplaced_statement first)) (unplaced_statements others) rest') more
 
 -- ---- functions
 
@@ -222,10 +236,12 @@ names_of_locals [] = refl
 names_of_locals (l ∷ ls) = ap (λ ns. (l.name, l.ty) ∷ ns) (names_of_locals ls)
 
 locals_same : (locals : List (Text × Ty)) (gs : List GlobalVariable) (fs : List FunctionText) (ls : List LocalVariable) →
-    resolve_locals (record { locals = locals; globals = map unplaced_global gs; functions = map unplaced_function fs }) (map unplaced_local ls) ≡ map unplaced_term (resolve_locals (record { locals = locals; globals = gs; functions = fs }) ls)
+    resolve_locals (record { locals = locals; globals = map unplaced_global gs; functions = map unplaced_function fs }) (map unplaced_local ls)
+    ≡ map unplaced_term (resolve_locals (record { locals = locals; globals = gs; functions = fs }) ls)
 locals_same locals gs fs [] = refl
 locals_same locals gs fs (l ∷ ls) =
-    let first = term_same (record { locals = locals; globals = map unplaced_global gs; functions = map unplaced_function fs }) (record { locals = locals; globals = gs; functions = fs }) (scopes_alike locals gs fs) l.value in
+    let first = term_same (record { locals = locals; globals = map unplaced_global gs; functions = map unplaced_function fs })
+    (record { locals = locals; globals = gs; functions = fs }) (scopes_alike locals gs fs) l.value in
     let rest = locals_same (locals ++ (l.name, l.ty) ∷ []) gs fs ls in
     λ i. first i ∷ rest i
 
@@ -236,10 +252,12 @@ function_same : (fs : List FunctionText) (t : ℕ → ℕ) (n : ℕ) (gs : List 
     resolve_function (map unplaced_function fs) t n (map unplaced_global gs) (unplaced_function f) ≡ unplaced_routine (resolve_function fs t n gs f)
 function_same fs t n gs f =
     let at_names = names_of_parameters f.params in
-    let in_names : parameter_names (map unplaced_parameter f.params) ++ local_names (map unplaced_local f.locals) ≡ parameter_names f.params ++ local_names f.locals = λ i. at_names i ++ names_of_locals f.locals i in
+    let in_names : parameter_names (map unplaced_parameter f.params) ++ local_names (map unplaced_local f.locals) ≡ parameter_names f.params
+    ++ local_names f.locals = λ i. at_names i ++ names_of_locals f.locals i in
     let names = parameter_names f.params ++ local_names f.locals in
     routine_is (resolve_function (map unplaced_function fs) t n (map unplaced_global gs) (unplaced_function f)) (unplaced_routine (resolve_function fs t n gs f)) refl
-    (ap (λ ns. resolve_locals (record { locals = ns; globals = map unplaced_global gs; functions = map unplaced_function fs }) (map unplaced_local f.locals)) at_names ∙ locals_same (parameter_names f.params) gs fs f.locals)
+    (ap (λ ns. resolve_locals (record { locals = ns; globals = map unplaced_global gs; functions = map unplaced_function fs })
+    (map unplaced_local f.locals)) at_names ∙ locals_same (parameter_names f.params) gs fs f.locals)
     (ap (λ ns. resolve_statements (record { locals = ns; globals = map unplaced_global gs; functions = map unplaced_function fs }) t n (unplaced_statements f.body) Done) in_names
     ∙ statements_same _ _ (scopes_alike names gs fs) t n f.body Done Done refl)
     (ap (λ ns. option_map (resolve_term (record { locals = ns; globals = map unplaced_global gs; functions = map unplaced_function fs })) (option_map unplaced_expression f.result)) in_names

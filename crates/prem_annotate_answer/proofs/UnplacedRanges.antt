@@ -7,13 +7,15 @@ use Rattle.prem_word.specs.declared.kind.BinOp.{BinOp}
 use Rattle.prem_word.specs.Ranges.{Span, converted, range_of_op}
 use Rattle.prem_syntax.specs.declared.tree.UnOp.TheVariants.{Neg, Flip, Not}
 use Rattle.prem_syntax.specs.Syntax.{Parameter, LocalVariable, ProgramText}
-use Rattle.prem_syntax.specs.Resolved.{Term, Constant, Local, Scalar, Element, Unary, Binary, AndAlso, OrElse, Steps, Done, SetLocal, SetScalar, SetElement, Output, Input, If, For, While, Call, Routine, Resolved}
+use Rattle.prem_syntax.specs.Resolved.{Term, Constant, Local, Scalar, Element, Unary, Binary, AndAlso, OrElse, Steps, Done, SetLocal, SetScalar, SetElement, Output, Input, If, For}
+use Rattle.prem_syntax.specs.Resolved.{While, Call, Routine, Resolved}
 use Rattle.prem_syntax.specs.Resolve.{kind_of, promoted, resolve}
 use Rattle.prem_syntax.specs.Assigned.{is_target, assigns}
 use Rattle.prem_syntax.specs.Source.{unlimited}
 use Rattle.prem_ranges.specs.Environment.{any_again, with_range, assigned, Environment, at_local, loosened, joined}
 use Rattle.prem_ranges.specs.RangeOf.{range_of, unary_range, true_operator, cut_by, refined}
-use Rattle.prem_ranges.specs.After.{in_counting, end_of, loop_end, turn_bound, body_range, range_behind, in_body, behind_loop, in_while, behind_call, after, bounds, known_parameter, known_local, declared, at_body, bounds_in}
+use Rattle.prem_ranges.specs.After.{in_counting, end_of, loop_end, turn_bound, body_range, range_behind, in_body, behind_loop, in_while, behind_call, after, bounds}
+use Rattle.prem_ranges.specs.After.{known_parameter, known_local, declared, at_body, bounds_in}
 use Rattle.prem_ranges.specs.RangesKept.{resolved, turn_bounds, bounded}
 use Rattle.prem_text.specs.Canonical.Unplaced.{unplaced_parameter, unplaced_local, unplaced}
 use Rattle.prem_annotate_answer.specs.Unplaced.{unplaced_term, unplaced_steps, unplaced_routine, unplaced_routines, unplaced_resolved}
@@ -42,7 +44,8 @@ cut_same op (AndAlso at a b) right r env = refl
 cut_same op (OrElse at a b) right r env = refl
 
 comparison_same : (b : Bool) (op : BinOp) (left right : Term) (env : Environment) →
-    cut_by (true_operator b op) (unplaced_term left) (kind_of (unplaced_term right)) (range_of env (unplaced_term right)) env ≡ cut_by (true_operator b op) left (kind_of right) (range_of env right) env
+    cut_by (true_operator b op) (unplaced_term left) (kind_of (unplaced_term right)) (range_of env (unplaced_term right)) env
+    ≡ cut_by (true_operator b op) left (kind_of right) (range_of env right) env
 comparison_same b op left right env =
     (λ i. cut_by (true_operator b op) (unplaced_term left) (kind_same right i) (range_same env right i) env) ∙ cut_same (true_operator b op) left (kind_of right) (range_of env right) env
 
@@ -97,7 +100,8 @@ pub body_same : (env : Environment) (k : ℕ) (low : Term) (closed : Bool) (high
 body_same env k low closed high body = λ i. at_local k (with_range (body_range (range_same env low i) (end_same env k closed high body i))) (counting_same k body env i)
 
 pub behind_same : (env : Environment) (k : ℕ) (low : Term) (closed : Bool) (high : Term) (step : ℕ) (body : Steps) →
-    behind_loop env k (unplaced_term low) (loop_end env k closed (unplaced_term high) (unplaced_steps body)) step (unplaced_steps body) ≡ behind_loop env k low (loop_end env k closed high body) step body
+    behind_loop env k (unplaced_term low) (loop_end env k closed (unplaced_term high) (unplaced_steps body)) step (unplaced_steps body)
+    ≡ behind_loop env k low (loop_end env k closed high body) step body
 behind_same env k low closed high step body = λ i. at_local k (with_range (range_behind (range_same env low i) (end_same env k closed high body i) step)) (counting_same k body env i)
 
 pub after_same : (env : Environment) (b : Steps) → after env (unplaced_steps b) ≡ after env b
@@ -121,7 +125,9 @@ pub arm_same : (b : Bool) (env : Environment) (condition : Term) (arm : Steps) �
 arm_same b env condition arm = ap (λ known. after known (unplaced_steps arm)) (refined_same b env condition) ∙ after_same (refined b env condition) arm
 
 pub arms_same : (env : Environment) (condition : Term) (taken other : Steps) →
-    joined (after (refined true env (unplaced_term condition)) (unplaced_steps taken)) (after (refined false env (unplaced_term condition)) (unplaced_steps other)) ≡ joined (after (refined true env condition) taken) (after (refined false env condition) other)
+    joined (after (refined true env (unplaced_term condition)) (unplaced_steps taken))
+    (after (refined false env (unplaced_term condition)) (unplaced_steps other))
+    ≡ joined (after (refined true env condition) taken) (after (refined false env condition) other)
 arms_same env condition taken other = λ i. joined (arm_same true env condition taken i) (arm_same false env condition other i)
 
 bounds_same : (env : Environment) (b : Steps) → bounds env (unplaced_steps b) ≡ bounds env b
@@ -135,14 +141,16 @@ bounds_same env (Input at k rest) = bounds_same (at_local k any_again env) rest
 bounds_same env (If at condition taken other rest) =
     let one = ap (λ known. bounds known (unplaced_steps taken)) (refined_same true env condition) ∙ bounds_same (refined true env condition) taken in
     let two = ap (λ known. bounds known (unplaced_steps other)) (refined_same false env condition) ∙ bounds_same (refined false env condition) other in
-    let three = ap (λ known. bounds known (unplaced_steps rest)) (arms_same env condition taken other) ∙ bounds_same (joined (after (refined true env condition) taken) (after (refined false env condition) other)) rest in
+    let three = ap (λ known. bounds known (unplaced_steps rest)) (arms_same env condition taken other)
+    ∙ bounds_same (joined (after (refined true env condition) taken) (after (refined false env condition) other)) rest in
     λ i. one i ++ two i ++ three i
 bounds_same env (For at k low closed high step turns body rest) =
     let one = ap (λ known. bounds known (unplaced_steps body)) (body_same env k low closed high body) ∙ bounds_same (in_body env k low (loop_end env k closed high body) body) body in
     let two = ap (λ known. bounds known (unplaced_steps rest)) (behind_same env k low closed high step body) ∙ bounds_same (behind_loop env k low (loop_end env k closed high body) step body) rest in
     λ i. turn_bound (range_same env low i).lo (end_same env k closed high body i) step ∷ one i ++ two i
 bounds_same env (While at turns condition body rest) =
-    let test : refined true (in_while (unplaced_steps body) env) (unplaced_term condition) ≡ refined true (in_while body env) condition = ap (λ known. refined true known (unplaced_term condition)) (while_same body env) ∙ refined_same true (in_while body env) condition in
+    let test : refined true (in_while (unplaced_steps body) env) (unplaced_term condition) ≡ refined true (in_while body env) condition =
+    ap (λ known. refined true known (unplaced_term condition)) (while_same body env) ∙ refined_same true (in_while body env) condition in
     let one = ap (λ known. bounds known (unplaced_steps body)) test ∙ bounds_same (refined true (in_while body env) condition) body in
     let two = ap (λ known. bounds known (unplaced_steps rest)) (while_same body env) ∙ bounds_same (in_while body env) rest in
     λ i. one i ++ two i
@@ -163,7 +171,8 @@ parameters_same [] = refl
 parameters_same (p ∷ ps) = ap (λ known. known_parameter p ∷ known) (parameters_same ps)
 
 pub start_same : (f : Routine) → at_body (unplaced_routine f) ≡ at_body f
-start_same f = ap (λ known. declared known (map unplaced_local f.text.locals) (map unplaced_term f.locals)) (parameters_same f.text.params) ∙ declared_same (map known_parameter f.text.params) f.text.locals f.locals
+start_same f = ap (λ known. declared known (map unplaced_local f.text.locals) (map unplaced_term f.locals)) (parameters_same f.text.params)
+    ∙ declared_same (map known_parameter f.text.params) f.text.locals f.locals
 
 turns_same : (f : Routine) → bounds_in (unplaced_routine f) ≡ bounds_in f
 turns_same f = ap (λ known. bounds known (unplaced_steps f.body)) (start_same f) ∙ bounds_same (at_body f) f.body

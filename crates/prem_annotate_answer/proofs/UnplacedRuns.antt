@@ -9,10 +9,12 @@ use Rattle.prem_word.specs.declared.kind.BinOp.TheVariants.{Add, Sub, Mul, Div, 
 use Rattle.prem_word.specs.Words.{word_of, apply_op}
 use Rattle.prem_syntax.specs.declared.tree.Ty.{Ty}
 use Rattle.prem_syntax.specs.Syntax.{MarkText, GlobalVariable, ProgramText}
-use Rattle.prem_syntax.specs.Resolved.{Term, Constant, Local, Scalar, Element, Unary, Binary, AndAlso, OrElse, Steps, Done, SetLocal, SetScalar, SetElement, Output, Input, If, For, While, Call, Routine, Resolved}
+use Rattle.prem_syntax.specs.Resolved.{Term, Constant, Local, Scalar, Element, Unary, Binary, AndAlso, OrElse, Steps, Done, SetLocal, SetScalar, SetElement, Output, Input, If, For}
+use Rattle.prem_syntax.specs.Resolved.{While, Call, Routine, Resolved}
 use Rattle.prem_syntax.specs.Resolve.{resolve}
 use Rattle.prem_syntax.specs.Expressions.{Outcome, and_then, Access, cell, or_wrong, unary_word, operate, truth_of, eval, eval_all}
-use Rattle.prem_syntax.specs.Statements.{ProgramState, Calls, choose, value, values, with_local, stored, with_cell, store, with_output, take_input, holds, int_local, loop_test, loop_step, counting, bounded, with_target, run, with_new_local, declare, result_of, with_mark, is_marked, leave, enter}
+use Rattle.prem_syntax.specs.Statements.{ProgramState, Calls, choose, value, values, with_local, stored, with_cell, store, with_output, take_input, holds, int_local, loop_test}
+use Rattle.prem_syntax.specs.Statements.{loop_step, counting, bounded, with_target, run, with_new_local, declare, result_of, with_mark, is_marked, leave, enter}
 use Rattle.prem_syntax.specs.Source.{Limits, unlimited, enter_if_there, this_or, calls_below, initial_words, start, everywhere, do_jobs, source}
 use Rattle.prem_text.specs.Grammar.Reader.{nowhere}
 use Rattle.prem_text.specs.Canonical.Unplaced.{unplaced_mark, unplaced_global, unplaced}
@@ -79,7 +81,8 @@ eval_same may gs ls (Unary at op operand) =
 eval_same may gs ls (Binary at op kind left right) =
     then_same (eval may gs ls (unplaced_term left)) (eval may gs ls left) (λ a. and_then (eval may gs ls (unplaced_term right)) (λ b. operate nowhere.line op kind a b))
     (λ a. and_then (eval may gs ls right) (λ b. operate at.line op kind a b)) (eval_same may gs ls left)
-    (λ a. then_same (eval may gs ls (unplaced_term right)) (eval may gs ls right) (λ b. operate nowhere.line op kind a b) (λ b. operate at.line op kind a b) (eval_same may gs ls right) (λ b. operate_same nowhere.line at.line op kind a b))
+    (λ a. then_same (eval may gs ls (unplaced_term right)) (eval may gs ls right) (λ b. operate nowhere.line op kind a b)
+    (λ b. operate at.line op kind a b) (eval_same may gs ls right) (λ b. operate_same nowhere.line at.line op kind a b))
 eval_same may gs ls (AndAlso at left right) =
     then_same (eval may gs ls (unplaced_term left)) (eval may gs ls left) (λ a. if a == 0 then Ok 0 else truth_of (eval may gs ls (unplaced_term right)))
     (λ a. if a == 0 then Ok 0 else truth_of (eval may gs ls right)) (eval_same may gs ls left)
@@ -122,21 +125,25 @@ step_same : (line other k step : ℕ) (s : ProgramState) → unlined (loop_step 
 step_same line other k step s =
     step_by (int_lt (pos 2147483647) (int_local k s +ℤ pos step)) line other (with_local k (word_of (int_local k s +ℤ pos step)) s)
 
-choose_same : (go : Bool) (f g f' g' : ProgramState → Outcome ProgramState) → ((s : ProgramState) → unlined (f s) ≡ unlined (f' s)) → ((s : ProgramState) → unlined (g s) ≡ unlined (g' s)) → (s : ProgramState) → unlined (choose go f g s) ≡ unlined (choose go f' g' s)
+choose_same : (go : Bool) (f g f' g' : ProgramState → Outcome ProgramState) → ((s : ProgramState) → unlined (f s) ≡ unlined (f' s)) →
+    ((s : ProgramState) → unlined (g s) ≡ unlined (g' s)) → (s : ProgramState) → unlined (choose go f g s) ≡ unlined (choose go f' g' s)
 choose_same true f g f' g' one two s = one s
 choose_same false f g f' g' one two s = two s
 
-counting_same : (line other n : ℕ) (test test' : ProgramState → Outcome Bool) (turn turn' : ProgramState → Outcome ProgramState) → ((s : ProgramState) → unlined (test s) ≡ unlined (test' s)) → ((s : ProgramState) → unlined (turn s) ≡ unlined (turn' s)) →
+counting_same : (line other n : ℕ) (test test' : ProgramState → Outcome Bool) (turn turn' : ProgramState → Outcome ProgramState) →
+    ((s : ProgramState) → unlined (test s) ≡ unlined (test' s)) → ((s : ProgramState) → unlined (turn s) ≡ unlined (turn' s)) →
     (s : ProgramState) → unlined (counting line n test turn s) ≡ unlined (counting other n test' turn' s)
 unfolding counting
 counting_same line other zero test test' turn turn' tests turns s =
-    then_same (test s) (test' s) (λ go. choose go (λ t. Err line) Ok s) (λ go. choose go (λ t. Err other) Ok s) (tests s) (λ go. choose_same go (λ t. Err line) Ok (λ t. Err other) Ok (λ t. refl) (λ t. refl) s)
+    then_same (test s) (test' s) (λ go. choose go (λ t. Err line) Ok s) (λ go. choose go (λ t. Err other) Ok s) (tests s)
+    (λ go. choose_same go (λ t. Err line) Ok (λ t. Err other) Ok (λ t. refl) (λ t. refl) s)
 counting_same line other (suc n) test test' turn turn' tests turns s =
     then_same (test s) (test' s) (λ go. choose go (λ t. and_then (turn t) (counting line n test turn)) Ok s) (λ go. choose go (λ t. and_then (turn' t) (counting other n test' turn')) Ok s) (tests s)
     (λ go. choose_same go (λ t. and_then (turn t) (counting line n test turn)) Ok (λ t. and_then (turn' t) (counting other n test' turn')) Ok
     (λ t. then_same (turn t) (turn' t) (counting line n test turn) (counting other n test' turn') (turns t) (counting_same line other n test test' turn turn' tests turns)) (λ t. refl) s)
 
-bounded_same : (n : ℕ) (test test' : ProgramState → Outcome Bool) (turn turn' : ProgramState → Outcome ProgramState) → ((s : ProgramState) → unlined (test s) ≡ unlined (test' s)) → ((s : ProgramState) → unlined (turn s) ≡ unlined (turn' s)) →
+bounded_same : (n : ℕ) (test test' : ProgramState → Outcome Bool) (turn turn' : ProgramState → Outcome ProgramState) →
+    ((s : ProgramState) → unlined (test s) ≡ unlined (test' s)) → ((s : ProgramState) → unlined (turn s) ≡ unlined (turn' s)) →
     (s : ProgramState) → unlined (bounded n test turn s) ≡ unlined (bounded n test' turn' s)
 unfolding bounded
 bounded_same zero test test' turn turn' tests turns s = refl
@@ -155,15 +162,21 @@ run_same calls calls' same may (SetLocal at k e rest) s =
     then_same (value may s (unplaced_term e)) (value may s e) (λ w. run may calls (unplaced_steps rest) (with_local k w s)) (λ w. run may calls' rest (with_local k w s)) (value_same may s e)
     (λ w. run_same calls calls' same may rest (with_local k w s))
 run_same calls calls' same may (SetScalar at g ty e rest) s =
-    then_same (value may s (unplaced_term e)) (value may s e) (λ w. and_then (store may nowhere.line ty g 0 w s) (run may calls (unplaced_steps rest))) (λ w. and_then (store may at.line ty g 0 w s) (run may calls' rest)) (value_same may s e)
-    (λ w. then_same (store may nowhere.line ty g 0 w s) (store may at.line ty g 0 w s) (run may calls (unplaced_steps rest)) (run may calls' rest) (store_same may nowhere.line at.line ty g 0 w s) (run_same calls calls' same may rest))
+    then_same (value may s (unplaced_term e)) (value may s e)
+    (λ w. and_then (store may nowhere.line ty g 0 w s) (run may calls (unplaced_steps rest)))
+    (λ w. and_then (store may at.line ty g 0 w s) (run may calls' rest)) (value_same may s e)
+    (λ w. then_same (store may nowhere.line ty g 0 w s) (store may at.line ty g 0 w s) (run may calls (unplaced_steps rest)) (run may calls' rest)
+    (store_same may nowhere.line at.line ty g 0 w s) (run_same calls calls' same may rest))
 run_same calls calls' same may (SetElement at g ty index e rest) s =
     then_same (value may s (unplaced_term e)) (value may s e)
     (λ w. and_then (value may s (unplaced_term index)) (λ j. and_then (store may nowhere.line ty g j w s) (run may calls (unplaced_steps rest))))
     (λ w. and_then (value may s index) (λ j. and_then (store may at.line ty g j w s) (run may calls' rest))) (value_same may s e)
-    (λ w. then_same (value may s (unplaced_term index)) (value may s index) (λ j. and_then (store may nowhere.line ty g j w s) (run may calls (unplaced_steps rest))) (λ j. and_then (store may at.line ty g j w s) (run may calls' rest))
+    (λ w. then_same (value may s (unplaced_term index)) (value may s index)
+    (λ j. and_then (store may nowhere.line ty g j w s) (run may calls (unplaced_steps rest)))
+    (λ j. and_then (store may at.line ty g j w s) (run may calls' rest))
     (value_same may s index)
-    (λ j. then_same (store may nowhere.line ty g j w s) (store may at.line ty g j w s) (run may calls (unplaced_steps rest)) (run may calls' rest) (store_same may nowhere.line at.line ty g j w s) (run_same calls calls' same may rest)))
+    (λ j. then_same (store may nowhere.line ty g j w s) (store may at.line ty g j w s) (run may calls (unplaced_steps rest)) (run may calls' rest)
+    (store_same may nowhere.line at.line ty g j w s) (run_same calls calls' same may rest)))
 run_same calls calls' same may (Output at e rest) s =
     then_same (value may s (unplaced_term e)) (value may s e) (λ w. run may calls (unplaced_steps rest) (with_output w s)) (λ w. run may calls' rest (with_output w s)) (value_same may s e)
     (λ w. run_same calls calls' same may rest (with_output w s))
@@ -172,27 +185,38 @@ run_same calls calls' same may (If at condition taken other rest) s =
     then_same (holds may (unplaced_term condition) s) (holds may condition s)
     (λ c. and_then (choose c (run may calls (unplaced_steps taken)) (run may calls (unplaced_steps other)) s) (run may calls (unplaced_steps rest)))
     (λ c. and_then (choose c (run may calls' taken) (run may calls' other) s) (run may calls' rest)) (holds_same may condition s)
-    (λ c. then_same (choose c (run may calls (unplaced_steps taken)) (run may calls (unplaced_steps other)) s) (choose c (run may calls' taken) (run may calls' other) s) (run may calls (unplaced_steps rest)) (run may calls' rest)
-    (choose_same c (run may calls (unplaced_steps taken)) (run may calls (unplaced_steps other)) (run may calls' taken) (run may calls' other) (run_same calls calls' same may taken) (run_same calls calls' same may other) s)
+    (λ c. then_same (choose c (run may calls (unplaced_steps taken)) (run may calls (unplaced_steps other)) s)
+    (choose c (run may calls' taken) (run may calls' other) s) (run may calls (unplaced_steps rest)) (run may calls' rest)
+    (choose_same c (run may calls (unplaced_steps taken)) (run may calls (unplaced_steps other)) (run may calls' taken) (run may calls' other)
+    (run_same calls calls' same may taken) (run_same calls calls' same may other) s)
     (run_same calls calls' same may rest))
 run_same calls calls' same may (For at k low closed high step turns body rest) s =
     then_same (value may s (unplaced_term low)) (value may s low)
-    (λ w. and_then (counting nowhere.line turns (loop_test may k closed (unplaced_term high)) (λ t. and_then (run may calls (unplaced_steps body) t) (loop_step nowhere.line k step)) (with_local k w s)) (run may calls (unplaced_steps rest)))
-    (λ w. and_then (counting at.line turns (loop_test may k closed high) (λ t. and_then (run may calls' body t) (loop_step at.line k step)) (with_local k w s)) (run may calls' rest)) (value_same may s low)
-    (λ w. then_same (counting nowhere.line turns (loop_test may k closed (unplaced_term high)) (λ t. and_then (run may calls (unplaced_steps body) t) (loop_step nowhere.line k step)) (with_local k w s))
-    (counting at.line turns (loop_test may k closed high) (λ t. and_then (run may calls' body t) (loop_step at.line k step)) (with_local k w s)) (run may calls (unplaced_steps rest)) (run may calls' rest)
-    (counting_same nowhere.line at.line turns (loop_test may k closed (unplaced_term high)) (loop_test may k closed high) (λ t. and_then (run may calls (unplaced_steps body) t) (loop_step nowhere.line k step))
+    (λ w. and_then (counting nowhere.line turns (loop_test may k closed (unplaced_term high))
+    (λ t. and_then (run may calls (unplaced_steps body) t) (loop_step nowhere.line k step)) (with_local k w s)) (run may calls (unplaced_steps rest)))
+    (λ w. and_then (counting at.line turns (loop_test may k closed high) (λ t. and_then (run may calls' body t) (loop_step at.line k step))
+    (with_local k w s)) (run may calls' rest)) (value_same may s low)
+    (λ w. then_same (counting nowhere.line turns (loop_test may k closed (unplaced_term high))
+    (λ t. and_then (run may calls (unplaced_steps body) t) (loop_step nowhere.line k step)) (with_local k w s))
+    (counting at.line turns (loop_test may k closed high) (λ t. and_then (run may calls' body t) (loop_step at.line k step)) (with_local k w s))
+    (run may calls (unplaced_steps rest)) (run may calls' rest)
+    (counting_same nowhere.line at.line turns (loop_test may k closed (unplaced_term high)) (loop_test may k closed high)
+    (λ t. and_then (run may calls (unplaced_steps body) t) (loop_step nowhere.line k step))
     (λ t. and_then (run may calls' body t) (loop_step at.line k step)) (test_same may k closed high)
-    (λ t. then_same (run may calls (unplaced_steps body) t) (run may calls' body t) (loop_step nowhere.line k step) (loop_step at.line k step) (run_same calls calls' same may body t) (step_same nowhere.line at.line k step)) (with_local k w s))
+    (λ t. then_same (run may calls (unplaced_steps body) t) (run may calls' body t) (loop_step nowhere.line k step) (loop_step at.line k step)
+    (run_same calls calls' same may body t) (step_same nowhere.line at.line k step)) (with_local k w s))
     (run_same calls calls' same may rest))
 run_same calls calls' same may (While at turns condition body rest) s =
-    then_same (bounded turns (holds may (unplaced_term condition)) (run may calls (unplaced_steps body)) s) (bounded turns (holds may condition) (run may calls' body) s) (run may calls (unplaced_steps rest)) (run may calls' rest)
-    (bounded_same turns (holds may (unplaced_term condition)) (holds may condition) (run may calls (unplaced_steps body)) (run may calls' body) (holds_same may condition) (run_same calls calls' same may body) s)
+    then_same (bounded turns (holds may (unplaced_term condition)) (run may calls (unplaced_steps body)) s)
+    (bounded turns (holds may condition) (run may calls' body) s) (run may calls (unplaced_steps rest)) (run may calls' rest)
+    (bounded_same turns (holds may (unplaced_term condition)) (holds may condition) (run may calls (unplaced_steps body)) (run may calls' body)
+    (holds_same may condition) (run_same calls calls' same may body) s)
     (run_same calls calls' same may rest)
 run_same calls calls' same may (Call at target f arguments rest) s =
     then_same (values may s (map unplaced_term arguments)) (values may s arguments) (λ ws. and_then (calls may f ws s) (λ r. run may calls (unplaced_steps rest) (with_target target r.0 r.1)))
     (λ ws. and_then (calls' may f ws s) (λ r. run may calls' rest (with_target target r.0 r.1))) (all_same may s.globals s.locals arguments)
-    (λ ws. then_same (calls may f ws s) (calls' may f ws s) (λ r. run may calls (unplaced_steps rest) (with_target target r.0 r.1)) (λ r. run may calls' rest (with_target target r.0 r.1)) (same may f ws s)
+    (λ ws. then_same (calls may f ws s) (calls' may f ws s) (λ r. run may calls (unplaced_steps rest) (with_target target r.0 r.1))
+    (λ r. run may calls' rest (with_target target r.0 r.1)) (same may f ws s)
     (λ r. run_same calls calls' same may rest (with_target target r.0 r.1)))
 
 -- ---- functions
@@ -200,7 +224,8 @@ run_same calls calls' same may (Call at target f arguments rest) s =
 declare_same : (may : Access) (es : List Term) (s : ProgramState) → unlined (declare may (map unplaced_term es) s) ≡ unlined (declare may es s)
 declare_same may [] s = refl
 declare_same may (e ∷ es) s =
-    then_same (value may s (unplaced_term e)) (value may s e) (λ w. declare may (map unplaced_term es) (with_new_local w s)) (λ w. declare may es (with_new_local w s)) (value_same may s e) (λ w. declare_same may es (with_new_local w s))
+    then_same (value may s (unplaced_term e)) (value may s e) (λ w. declare may (map unplaced_term es) (with_new_local w s))
+    (λ w. declare may es (with_new_local w s)) (value_same may s e) (λ w. declare_same may es (with_new_local w s))
 
 result_same : (may : Access) (e : Option Term) (s : ProgramState) → unlined (result_of may (option_map unplaced_term e) s) ≡ unlined (result_of may e s)
 result_same may None s = refl
@@ -216,17 +241,21 @@ marked_same f = mark_same f.text.mark
 leave_same : (f : Routine) (n : ℕ) (s t : ProgramState) → leave (unplaced_routine f) n s t ≡ leave f n s t
 leave_same f n s t = ap (λ b. record t { locals = s.locals; marks = with_mark b (record { function = n; before = s.globals; after = t.globals }) t.marks }) (marked_same f)
 
-enter_same : (calls calls' : Calls) → SameCalls calls calls' → (may : Access) (f : Routine) (n : ℕ) (ws : List ℕ) (s : ProgramState) → unlined (enter calls may (unplaced_routine f) n ws s) ≡ unlined (enter calls' may f n ws s)
+enter_same : (calls calls' : Calls) → SameCalls calls calls' → (may : Access) (f : Routine) (n : ℕ) (ws : List ℕ) (s : ProgramState) →
+    unlined (enter calls may (unplaced_routine f) n ws s) ≡ unlined (enter calls' may f n ws s)
 enter_same calls calls' same may f n ws s =
     then_same (declare may (map unplaced_term f.locals) (record s { locals = ws })) (declare may f.locals (record s { locals = ws }))
     (λ t. and_then (run may calls (unplaced_steps f.body) t) (λ u. and_then (result_of may (option_map unplaced_term f.result) u) (λ w. Ok (w, leave (unplaced_routine f) n s u))))
     (λ t. and_then (run may calls' f.body t) (λ u. and_then (result_of may f.result u) (λ w. Ok (w, leave f n s u)))) (declare_same may f.locals (record s { locals = ws }))
-    (λ t. then_same (run may calls (unplaced_steps f.body) t) (run may calls' f.body t) (λ u. and_then (result_of may (option_map unplaced_term f.result) u) (λ w. Ok (w, leave (unplaced_routine f) n s u)))
+    (λ t. then_same (run may calls (unplaced_steps f.body) t) (run may calls' f.body t)
+    (λ u. and_then (result_of may (option_map unplaced_term f.result) u) (λ w. Ok (w, leave (unplaced_routine f) n s u)))
     (λ u. and_then (result_of may f.result u) (λ w. Ok (w, leave f n s u))) (run_same calls calls' same may f.body t)
-    (λ u. then_same (result_of may (option_map unplaced_term f.result) u) (result_of may f.result u) (λ w. Ok (w, leave (unplaced_routine f) n s u)) (λ w. Ok (w, leave f n s u)) (result_same may f.result u)
+    (λ u. then_same (result_of may (option_map unplaced_term f.result) u) (result_of may f.result u) (λ w. Ok (w, leave (unplaced_routine f) n s u))
+    (λ w. Ok (w, leave f n s u)) (result_same may f.result u)
     (λ w. ap (λ (x : ProgramState). Some (w, x)) (leave_same f n s u))))
 
-there_same : (limits : Limits) (calls calls' : Calls) → SameCalls calls calls' → (o : Option Routine) (n : ℕ) → SameCalls (enter_if_there limits calls (option_map unplaced_routine o) n) (enter_if_there limits calls' o n)
+there_same : (limits : Limits) (calls calls' : Calls) → SameCalls calls calls' → (o : Option Routine) (n : ℕ) →
+    SameCalls (enter_if_there limits calls (option_map unplaced_routine o) n) (enter_if_there limits calls' o n)
 there_same limits calls calls' same None n may f ws s = refl
 there_same limits calls calls' same (Some routine) n may f ws s =
     ap (λ b. unlined (enter calls (if b then limits.inside n else may) (unplaced_routine routine) n ws s)) (marked_same routine)
@@ -245,7 +274,8 @@ below_same : (limits : Limits) (fs : List Routine) (n : ℕ) → SameCalls (call
 below_same limits fs zero may f ws s = refl
 below_same limits fs (suc n) may f ws s =
     let below = below_same limits fs n in
-    let here : SameCalls (enter_if_there limits (calls_below limits (unplaced_routines fs) n) (slice_get (unplaced_routines fs) n) n) (enter_if_there limits (calls_below limits fs n) (slice_get fs n) n) =
+    let here : SameCalls (enter_if_there limits (calls_below limits (unplaced_routines fs) n) (slice_get (unplaced_routines fs) n) n)
+    (enter_if_there limits (calls_below limits fs n) (slice_get fs n) n) =
     λ m g vs t. ap (λ o. unlined (enter_if_there limits (calls_below limits (unplaced_routines fs) n) o n m g vs t)) (get_same fs n)
     ∙ there_same limits (calls_below limits (unplaced_routines fs) n) (calls_below limits fs n) below (slice_get fs n) n m g vs t in
     this_same (f == n) (enter_if_there limits (calls_below limits (unplaced_routines fs) n) (slice_get (unplaced_routines fs) n) n) (calls_below limits (unplaced_routines fs) n)

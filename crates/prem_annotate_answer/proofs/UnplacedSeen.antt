@@ -8,7 +8,8 @@ use Rattle.prem_word.specs.declared.kind.Kind.{Kind}
 use Rattle.prem_word.specs.Ranges.{Span, exactly, converted}
 use Rattle.prem_syntax.specs.declared.tree.Place.{Place}
 use Rattle.prem_syntax.specs.Syntax.{Parameter, LocalVariable, RegionText, MarkText, GlobalVariable, FunctionText, global_item, function_item, ProgramText}
-use Rattle.prem_syntax.specs.Resolved.{Term, Constant, Local, Scalar, Element, Unary, Binary, AndAlso, OrElse, Steps, Done, SetLocal, SetScalar, SetElement, Output, Input, If, For, While, Call, Routine, Resolved}
+use Rattle.prem_syntax.specs.Resolved.{Term, Constant, Local, Scalar, Element, Unary, Binary, AndAlso, OrElse, Steps, Done, SetLocal, SetScalar, SetElement, Output, Input, If, For}
+use Rattle.prem_syntax.specs.Resolved.{While, Call, Routine, Resolved}
 use Rattle.prem_syntax.specs.Resolve.{promoted}
 use Rattle.prem_syntax.specs.Reach.{is_in, callee_table, reach_set}
 use Rattle.prem_ranges.specs.Environment.{any_again, assigned, Environment, at_local, joined}
@@ -63,7 +64,8 @@ in_same env (SetLocal at k e rest) =
 in_same env (SetScalar at g ty e rest) =
     front (touch at g (exactly (pos 0))) (touched_by env e ++ touched_in env rest) _ (both (touched_by env e) (touched_in env rest) _ _ (by_same env e) (in_same env rest))
 in_same env (SetElement at g ty index e rest) =
-    let behind = both (touched_by env index ++ touched_by env e) (touched_in env rest) _ _ (both (touched_by env index) (touched_by env e) _ _ (by_same env index) (by_same env e)) (in_same env rest) in
+    let behind = both (touched_by env index ++ touched_by env e) (touched_in env rest) _ _
+    (both (touched_by env index) (touched_by env e) _ _ (by_same env index) (by_same env e)) (in_same env rest) in
     λ i. touch nowhere g (range_same env index i) ∷ behind i
 in_same env (Output at e rest) = both (touched_by env e) (touched_in env rest) _ _ (by_same env e) (in_same env rest)
 in_same env (Input at k rest) = in_same (at_local k any_again env) rest
@@ -89,7 +91,8 @@ in_same env (For at k low closed high step turns body rest) =
     (ap (λ x. touched_in x (unplaced_steps rest)) (behind_same env k low closed high step body) ∙ in_same (behind_loop env k low end step body) rest)
 in_same env (While at turns condition body rest) =
     let inside = in_while body env in
-    let test : refined true (in_while (unplaced_steps body) env) (unplaced_term condition) ≡ refined true (in_while body env) condition = ap (λ known. refined true known (unplaced_term condition)) (while_same body env) ∙ refined_same true (in_while body env) condition in
+    let test : refined true (in_while (unplaced_steps body) env) (unplaced_term condition) ≡ refined true (in_while body env) condition =
+    ap (λ known. refined true known (unplaced_term condition)) (while_same body env) ∙ refined_same true (in_while body env) condition in
     both (touched_by inside condition ++ touched_in (refined true inside condition) body) (touched_in inside rest) _ _
     (both (touched_by inside condition) (touched_in (refined true inside condition) body) _ _
     (ap (λ x. touched_by x (unplaced_term condition)) (while_same body env) ∙ by_same inside condition)
@@ -146,17 +149,21 @@ region_bare : (at : Place) (name : List ℕ) (o : Option Span) → region_of now
 region_bare at name None = refl
 region_bare at name (Some r) = refl
 
-regions_same : (at : Place) (fs : List Routine) (set : List Bool) (g : ℕ) (vs : List GlobalVariable) → regions_from nowhere (unplaced_routines fs) set g (map unplaced_global vs) ≡ map unplaced_region (regions_from at fs set g vs)
+regions_same : (at : Place) (fs : List Routine) (set : List Bool) (g : ℕ) (vs : List GlobalVariable) →
+    regions_from nowhere (unplaced_routines fs) set g (map unplaced_global vs) ≡ map unplaced_region (regions_from at fs set g vs)
 regions_same at fs set g [] = refl
 regions_same at fs set g (v ∷ vs) =
     let this = ap (λ l. region_of nowhere v.name (join_all l)) (elements_same set g 0 fs) ∙ region_bare at v.name (join_all (elements_in set g 0 fs)) in
     (λ i. this i ++ regions_same at fs set (g + 1) vs i) ∙ sym (map-append unplaced_region (region_of at v.name (join_all (elements_in set g 0 fs))) (regions_from at fs set (g + 1) vs))
 
-reached_same : (at : Place) (gs : List GlobalVariable) (fs : List Routine) (n : ℕ) → regions_reached nowhere (map unplaced_global gs) (unplaced_routines fs) n ≡ map unplaced_region (regions_reached at gs fs n)
+reached_same : (at : Place) (gs : List GlobalVariable) (fs : List Routine) (n : ℕ) →
+    regions_reached nowhere (map unplaced_global gs) (unplaced_routines fs) n ≡ map unplaced_region (regions_reached at gs fs n)
 reached_same at gs fs n =
     ap (λ table. regions_from nowhere (unplaced_routines fs) (reach_set table n) 0 (map unplaced_global gs)) (table_same fs) ∙ regions_same at fs (reach_set (callee_table fs) n) 0 gs
 
-mark_same : (rs : List RegionText) (length : ℕ) (m : Option MarkText) → option_map (annotated_mark (map unplaced_region rs) length) (option_map unplaced_mark m) ≡ option_map unplaced_mark (option_map (annotated_mark rs length) m)
+mark_same : (rs : List RegionText) (length : ℕ) (m : Option MarkText) →
+    option_map (annotated_mark (map unplaced_region rs) length) (option_map unplaced_mark m)
+    ≡ option_map unplaced_mark (option_map (annotated_mark rs length) m)
 mark_same rs length None = refl
 mark_same rs length (Some m) = refl
 
@@ -164,7 +171,8 @@ marked_same : (lengths : ℕ → ℕ) (gs : List GlobalVariable) (fs : List Rout
     marked_routines lengths (map unplaced_global gs) (unplaced_routines fs) n (unplaced_routines rest) ≡ unplaced_routines (marked_routines lengths gs fs n rest)
 marked_same lengths gs fs n [] = refl
 marked_same lengths gs fs n (f ∷ rest) =
-    let mark = ap (λ rs. option_map (annotated_mark rs (lengths n)) (option_map unplaced_mark f.text.mark)) (reached_same f.text.at gs fs n) ∙ mark_same (regions_reached f.text.at gs fs n) (lengths n) f.text.mark in
+    let mark = ap (λ rs. option_map (annotated_mark rs (lengths n)) (option_map unplaced_mark f.text.mark)) (reached_same f.text.at gs fs n)
+    ∙ mark_same (regions_reached f.text.at gs fs n) (lengths n) f.text.mark in
     λ i. record (unplaced_routine f) { text = record (unplaced_function f.text) { mark = mark i } } ∷ marked_same lengths gs fs (n + 1) rest i
 
 -- ---- calls
@@ -199,7 +207,8 @@ calls_same env (For at k low closed high step turns body rest) =
     (ap (λ x. calls_in x (unplaced_steps rest)) (behind_same env k low closed high step body) ∙ calls_same (behind_loop env k low end step body) rest)
 calls_same env (While at turns condition body rest) =
     let inside = in_while body env in
-    let test : refined true (in_while (unplaced_steps body) env) (unplaced_term condition) ≡ refined true (in_while body env) condition = ap (λ known. refined true known (unplaced_term condition)) (while_same body env) ∙ refined_same true (in_while body env) condition in
+    let test : refined true (in_while (unplaced_steps body) env) (unplaced_term condition) ≡ refined true (in_while body env) condition =
+    ap (λ known. refined true known (unplaced_term condition)) (while_same body env) ∙ refined_same true (in_while body env) condition in
     joint (calls_in (refined true inside condition) body) (calls_in inside rest) _ _
     (ap (λ x. calls_in x (unplaced_steps body)) test ∙ calls_same (refined true inside condition) body)
     (ap (λ x. calls_in x (unplaced_steps rest)) (while_same body env) ∙ calls_same inside rest)

@@ -60,7 +60,8 @@ all_bare_kept (f ∷ fs) = next_kept (bare_kept f) (all_bare_kept fs)
 
 -- ---- resolving
 
-bare_texts : (functions : List FunctionText) (t : ℕ → ℕ) (n : ℕ) (gs : List GlobalVariable) (items : ProgramText) → texts_of (all_bare (resolve_items functions t n gs items)) ≡ map unstated_text (functions_of items)
+bare_texts : (functions : List FunctionText) (t : ℕ → ℕ) (n : ℕ) (gs : List GlobalVariable) (items : ProgramText) →
+    texts_of (all_bare (resolve_items functions t n gs items)) ≡ map unstated_text (functions_of items)
 bare_texts functions t n gs [] = refl
 bare_texts functions t n gs (global_item g ∷ items) = bare_texts functions t n (gs ++ g ∷ []) items
 bare_texts functions t n gs (function_item f ∷ items) = ap (λ l. unstated_text f ∷ l) (bare_texts functions t (n + loops_within f.body) gs items)
@@ -177,7 +178,8 @@ plan_bare p n m = λ i. record {
   stated = 0;
 }
 
-before_plan : (p : Resolved) (n : ℕ) (m : Option MarkText) (rest rest' : List Plan) → rest ≡ map bare_plan rest' → plan_before (bare_program p) n (option_map unstated_mark m) rest ≡ map bare_plan (plan_before p n m rest')
+before_plan : (p : Resolved) (n : ℕ) (m : Option MarkText) (rest rest' : List Plan) → rest ≡ map bare_plan rest' →
+    plan_before (bare_program p) n (option_map unstated_mark m) rest ≡ map bare_plan (plan_before p n m rest')
 before_plan p n None rest rest' e = e
 before_plan p n (Some m) rest rest' e = λ i. plan_bare p n m i ∷ e i
 

@@ -2,7 +2,8 @@
 use Rattle.std.specs.Prelude.{◌≡◌, ℕ, List, map, Option, None, Some, Ok, Err}
 use Rattle.std.specs.Option.{option_map}
 use Rattle.prem_syntax.specs.Syntax.{ProgramText}
-use Rattle.prem_syntax.specs.Resolved.{Term, Constant, Local, Scalar, Element, Unary, Binary, AndAlso, OrElse, Steps, Done, SetLocal, SetScalar, SetElement, Output, Input, If, For, While, Call, Routine, Resolved}
+use Rattle.prem_syntax.specs.Resolved.{Term, Constant, Local, Scalar, Element, Unary, Binary, AndAlso, OrElse, Steps, Done, SetLocal, SetScalar, SetElement, Output, Input, If, For}
+use Rattle.prem_syntax.specs.Resolved.{While, Call, Routine, Resolved}
 use Rattle.prem_syntax.specs.Expressions.{Outcome}
 use Rattle.prem_syntax.specs.Source.{source}
 use Rattle.prem_text.specs.Grammar.Reader.{nowhere}

@@ -8,7 +8,8 @@ use Rattle.prem_text.specs.declared.lexing.token.token.Mark.TheVariants as m
 use Rattle.prem_text.specs.declared.lexing.token.token.Word.TheVariants as w
 use Rattle.prem_text.specs.Lexing.Token.Lexeme.{Lexeme, number, word, mark, Seen}
 use Rattle.prem_text.specs.Grammar.Phrases.{IsRow}
-use Rattle.prem_text.specs.Grammar.ProgramPhrases.{IsConstant as IsConstantPhrase, constant_slots, constant_tree, constant_value, IsRange, range_tokens, range_tree, AreRegions, region_trees, region_tokens}
+use Rattle.prem_text.specs.Grammar.ProgramPhrases.{IsConstant as IsConstantPhrase, constant_slots, constant_tree, constant_value, IsRange, range_tokens, range_tree, AreRegions}
+use Rattle.prem_text.specs.Grammar.ProgramPhrases.{region_trees, region_tokens}
 use Rattle.prem_text.specs.Canonical.Canonical.{number_lexeme, constant_lexemes, range_lexemes, region_lexemes, regions_lexemes}
 use Rattle.prem_text.specs.Canonical.Law.{lexemes_of}
 use Rattle.prem_text.specs.Canonical.Unplaced.{unplaced_region}
@@ -36,7 +37,8 @@ edited_behind front _ _ (with_length word_bytes before gaps bytes old kind n {ps
     let open_row = mark_piece m.OpenParenthesis ∷ (gaps ++ literal) in
     let from_open : (rest : List Piece) → List Piece = λ rest. mark_piece m.OpenParenthesis ∷ (gaps ++ (a_token bytes (number old kind) ∷ rest)) in
     let whole : (rest : List Piece) → (front ++ (head ++ open_row)) ++ rest ≡ front ++ (head ++ from_open rest) =
-    λ rest. append_assoc front (head ++ open_row) rest ∙ ap (λ l. front ++ l) (append_assoc head open_row rest ∙ ap (λ l. head ++ (mark_piece m.OpenParenthesis ∷ l)) (append_assoc gaps literal rest)) in
+    λ rest. append_assoc front (head ++ open_row) rest
+    ∙ ap (λ l. front ++ l) (append_assoc head open_row rest ∙ ap (λ l. head ++ (mark_piece m.OpenParenthesis ∷ l)) (append_assoc gaps literal rest)) in
     let rest = edited_behind (front ++ (head ++ open_row)) ps qs more (subst AreDivided (sym (whole ps)) h) in
     let put = length_put (front ++ head) gaps qs bytes old kind n le are (subst AreDivided (whole qs ∙ sym (append_assoc front head (from_open qs))) rest) in
     subst AreDivided (append_assoc front head (mark_piece m.OpenParenthesis ∷ (gaps ++ (said (number_lexeme n) ∷ qs)))) put

@@ -12,7 +12,8 @@ use Rattle.prem_syntax.specs.Resolve.{kind_of, promoted, parameter_names}
 use Rattle.prem_syntax.specs.Source.{unlimited}
 use Rattle.prem_ranges.specs.Environment.{Known, any_again, assigned, Environment, at_local, joined}
 use Rattle.prem_ranges.specs.RangeOf.{range_of, refined}
-use Rattle.prem_ranges.specs.After.{assigns, loop_end, turn_bound, in_counting, body_range, range_behind, in_body, behind_loop, in_while, behind_call, after, stated_or_whole, known_parameter, known_local, declared, at_body}
+use Rattle.prem_ranges.specs.After.{assigns, loop_end, turn_bound, in_counting, body_range, range_behind, in_body, behind_loop, in_while, behind_call, after, stated_or_whole}
+use Rattle.prem_ranges.specs.After.{known_parameter, known_local, declared, at_body}
 use Rattle.prem_ranges.specs.RangeBreaches.{Site, in_term, in_range_of_int, in_turns, in_counting_loop, in_steps, in_arguments, in_scalar, in_element, parameters_of, in_locals, in_result, in_routine}
 use Rattle.prem_ranges.specs.RangesKept.{resolved}
 use Rattle.prem_ranges.specs.Sound.{kinds_of, AllTyped, TypedSteps, TypedLocals, TypedRoutine, Ranged, none_ranged, next_ranged}
@@ -20,7 +21,8 @@ use Rattle.prem_ranges.proofs.Basics.{none_left, none_right, unbroken, is_not_be
 use Rattle.prem_ranges.proofs.Environments.{kinds-at_local, kinds-loosened, kinds-joined}
 use Rattle.prem_ranges.proofs.Expressions.{kinds-refined}
 use Rattle.prem_ranges.proofs.Statements.{kinds-after, kinds-behind_call, kinds-in_body}
-use Rattle.prem_annotating.proofs.RangesKept.{ranged_local, ranged_any, ranged_loosened, ranged_joined, term_kept, ranged_refined, LoopFits, body_kept, behind_kept, ranged_counting, ranged_call, ranged_declared}
+use Rattle.prem_annotating.proofs.RangesKept.{ranged_local, ranged_any, ranged_loosened, ranged_joined, term_kept, ranged_refined, LoopFits, body_kept, behind_kept}
+use Rattle.prem_annotating.proofs.RangesKept.{ranged_counting, ranged_call, ranged_declared}
 use Rattle.prem_ranges.proofs.WellFormed.{well_formed_is_typed}
 use Rattle.prem_annotating.specs.Lists.{Each}
 use Rattle.prem_annotating.specs.Seen.{KnownCall, calls_in, calls_of, calls_of_all}
@@ -41,7 +43,8 @@ pub record Walked (env : Environment) (s : Steps) : Type 0 where
   pub ranged : Ranged (after env s)
   pub calls : Each InKinds (calls_in env s)
 
-terms_kept : (gs : List GlobalVariable) (env : Environment) → Ranged env → (es : List Term) → AllTyped gs (kinds_of env) es → (k : ℕ) (e : Term) → slice_get es k ≡ Some e → IsRange (kind_of e) (range_of env e)
+terms_kept : (gs : List GlobalVariable) (env : Environment) → Ranged env → (es : List Term) → AllTyped gs (kinds_of env) es → (k : ℕ) (e : Term) →
+    slice_get es k ≡ Some e → IsRange (kind_of e) (range_of env e)
 terms_kept gs env ranged [] typed k e there = cc
 terms_kept gs env ranged (x ∷ es) typed zero e there = let same : x ≡ e = cc in subst (λ y. IsRange (kind_of y) (range_of env y)) same (term_kept gs env ranged x typed.0)
 terms_kept gs env ranged (x ∷ es) typed (suc k) e there = terms_kept gs env ranged es typed.1 k e there
@@ -51,13 +54,15 @@ walked p n site Done around env ranged typed none = record { ranged = ranged; ca
 walked p n site (SetLocal at k e rest) around env ranged typed none =
     let env' = at_local k (assigned (range_of env e)) env in
     let ranged' : Ranged env' = ranged_local ranged k (assigned (range_of env e)) (λ l there is. converted_kept (kind_of e) l.kind (range_of env e) (term_kept p.globals env ranged e typed.0)) in
-    let h = walked p n site rest around env' ranged' (rw (kinds-at_local env k (assigned (range_of env e)) (λ l. refl)) typed.1) (none_right (in_term site env e) (in_steps site around env' rest) none) in
+    let h = walked p n site rest around env' ranged' (rw (kinds-at_local env k (assigned (range_of env e)) (λ l. refl)) typed.1)
+    (none_right (in_term site env e) (in_steps site around env' rest) none) in
     record { ranged = h.ranged; calls = h.calls }
 walked p n site (SetScalar at g ty e rest) around env ranged typed none =
     let h = walked p n site rest around env ranged typed.2 (none_right (in_scalar site at g ++ in_term site env e) (in_steps site around env rest) none) in
     record { ranged = h.ranged; calls = h.calls }
 walked p n site (SetElement at g ty index e rest) around env ranged typed none =
-    let h = walked p n site rest around env ranged typed.3 (none_right (in_element site at g (range_of env index) ++ in_term site env index ++ in_term site env e) (in_steps site around env rest) none) in
+    let h = walked p n site rest around env ranged typed.3
+    (none_right (in_element site at g (range_of env index) ++ in_term site env index ++ in_term site env e) (in_steps site around env rest) none) in
     record { ranged = h.ranged; calls = h.calls }
 walked p n site (Output at e rest) around env ranged typed none =
     let h = walked p n site rest around env ranged typed.1 (none_right (in_term site env e) (in_steps site around env rest) none) in
@@ -82,10 +87,12 @@ walked p n site (If at c taken other rest) around env ranged typed none =
     let no_kinds : kinds_of b ≡ kinds_of env = kinds-after no_env other ∙ kinds-refined false env c in
     let same : kinds_of a ≡ kinds_of b = yes_kinds ∙ sym no_kinds in
     let rest_kinds : kinds_of (joined a b) ≡ kinds_of env = kinds-joined a b same ∙ yes_kinds in
-    let h = walked p n site rest around (joined a b) (ranged_joined one_kept.ranged two_kept.ranged same) (rw rest_kinds typed.3) (none_right (c_breaches ++ taken_breaches ++ other_breaches') rest_breaches none) in
+    let h = walked p n site rest around (joined a b) (ranged_joined one_kept.ranged two_kept.ranged same) (rw rest_kinds typed.3)
+    (none_right (c_breaches ++ taken_breaches ++ other_breaches') rest_breaches none) in
     record {
       ranged = h.ranged;
-      calls = each_append InKinds (calls_in yes_env taken ++ calls_in no_env other) (calls_in (joined a b) rest) (each_append InKinds (calls_in yes_env taken) (calls_in no_env other) one_kept.calls two_kept.calls) h.calls;
+      calls = each_append InKinds (calls_in yes_env taken ++ calls_in no_env other) (calls_in (joined a b) rest)
+          (each_append InKinds (calls_in yes_env taken) (calls_in no_env other) one_kept.calls two_kept.calls) h.calls;
     }
 walked p n site (For at k low closed high step turns body rest) around env ranged typed none =
     let end = loop_end env k closed high body in
@@ -102,9 +109,19 @@ walked p n site (For at k low closed high step turns body rest) around env range
     let three = none_left (loop_breaches ++ low_breaches ++ high_breaches) body_breaches four in
     let two = none_left (loop_breaches ++ low_breaches) high_breaches three in
     let range_unbroken = none_left (in_range_of_int at end step) (in_turns at (around * bound)) (none_left loop_breaches low_breaches two) in
-    let fits_loop : LoopFits r end step = record { is = rw typed.0.low_is_int at (term_kept p.globals env ranged low typed.1); ends = is_not_below _ _ (unbroken _ _ _ range_unbroken); some = typed.0.some } in
-    let body_h = walked p n site body (around * bound) body_env (ranged_counting p.globals env k (body_range r end) body typed.0.is_int ranged (body_kept r end step fits_loop)) (rw (kinds-in_body env k (body_range r end) body) typed.3) (none_right (loop_breaches ++ low_breaches ++ high_breaches) body_breaches four) in
-    let h = walked p n site rest around env' (ranged_counting p.globals env k (range_behind r end step) body typed.0.is_int ranged (behind_kept r end step fits_loop)) (rw (kinds-in_body env k (range_behind r end step) body) typed.4) (none_right (loop_breaches ++ low_breaches ++ high_breaches ++ body_breaches) rest_breaches none) in
+    let fits_loop : LoopFits r end step =
+    record {
+      is = rw typed.0.low_is_int at (term_kept p.globals env ranged low typed.1);
+      ends = is_not_below _ _ (unbroken _ _ _ range_unbroken);
+      some = typed.0.some;
+    } in
+    let body_h = walked p n site body (around * bound) body_env
+    (ranged_counting p.globals env k (body_range r end) body typed.0.is_int ranged (body_kept r end step fits_loop))
+    (rw (kinds-in_body env k (body_range r end) body) typed.3) (none_right (loop_breaches ++ low_breaches ++ high_breaches) body_breaches four) in
+    let h = walked p n site rest around env'
+    (ranged_counting p.globals env k (range_behind r end step) body typed.0.is_int ranged (behind_kept r end step fits_loop))
+    (rw (kinds-in_body env k (range_behind r end step) body) typed.4)
+    (none_right (loop_breaches ++ low_breaches ++ high_breaches ++ body_breaches) rest_breaches none) in
     record { ranged = h.ranged; calls = each_append InKinds (calls_in body_env body) (calls_in env' rest) body_h.calls h.calls }
 walked p n site (While at turns c body rest) around env ranged typed none =
     let env' = in_while body env in
@@ -149,12 +166,15 @@ joined_kept kind (r ∷ rs) j h e = by (join_all rs) refl e (λ q is. joined_kep
 
 -- ---- parameters
 
-parameter_fits : (calls : List KnownCall) (f k : ℕ) (p : Parameter) → Each InKinds calls → IsRange (known_parameter p).kind (known_parameter p).range → IsRange (known_parameter (ranged_parameter calls f k p)).kind (known_parameter (ranged_parameter calls f k p)).range
+parameter_fits : (calls : List KnownCall) (f k : ℕ) (p : Parameter) → Each InKinds calls →
+    IsRange (known_parameter p).kind (known_parameter p).range →
+    IsRange (known_parameter (ranged_parameter calls f k p)).kind (known_parameter (ranged_parameter calls f k p)).range
 parameter_fits calls f k p h is = by p.range refl
   where
     found : (o : Option (ℤ × ℤ)) → inferred calls f k (promoted p.ty) ≡ o → IsRange (promoted p.ty) (stated_or_whole (promoted p.ty) o)
     found None e = whole_kept (promoted p.ty)
-    found (Some r) e = joined_kept (promoted p.ty) (given calls f k (promoted p.ty)) (from_to r.0 r.1) (given_kept calls f k (promoted p.ty) h) (narrower_is (promoted p.ty) (given calls f k (promoted p.ty)) r e)
+    found (Some r) e = joined_kept (promoted p.ty) (given calls f k (promoted p.ty)) (from_to r.0 r.1) (given_kept calls f k (promoted p.ty) h)
+        (narrower_is (promoted p.ty) (given calls f k (promoted p.ty)) r e)
 
     by : (o : Option (ℤ × ℤ)) → p.range ≡ o → IsRange (promoted p.ty) (stated_or_whole (promoted p.ty) (stated_or p.range (inferred calls f k (promoted p.ty))))
     by None e = rw e (found (inferred calls f k (promoted p.ty)) refl)
@@ -177,14 +197,17 @@ kinds_declared (l ∷ ls) (x ∷ es) a b e =
     kinds_declared ls es (a ++ known_local a l x ∷ []) (b ++ known_local b l x ∷ [])
     (map-append (λ (y : Known). y.kind) a (known_local a l x ∷ []) ∙ ap (λ ks. ks ++ promoted l.ty ∷ []) e ∙ sym (map-append (λ (y : Known). y.kind) b (known_local b l x ∷ [])))
 
-routine_calls : (p : Resolved) (n : ℕ) (site : Site) (f : Routine) (calls : List KnownCall) → TypedRoutine p n f → Ranged (map known_parameter (ranged_routine calls n f).text.params) → in_routine site (ranged_routine calls n f) ≡ [] →
+routine_calls : (p : Resolved) (n : ℕ) (site : Site) (f : Routine) (calls : List KnownCall) → TypedRoutine p n f →
+    Ranged (map known_parameter (ranged_routine calls n f).text.params) → in_routine site (ranged_routine calls n f) ≡ [] →
     Each InKinds (calls_of (ranged_routine calls n f))
 routine_calls p n site f calls typed ranged none =
     let g = ranged_routine calls n f in
     let start = map known_parameter g.text.params in
-    let same : kinds_of (map known_parameter f.text.params) ≡ kinds_of start = kinds_parameters f.text.params ∙ ap (map (λ (l : Text × Ty). promoted l.1)) (routine_ranged calls n f).parameters ∙ sym (kinds_parameters g.text.params) in
+    let same : kinds_of (map known_parameter f.text.params) ≡ kinds_of start = kinds_parameters f.text.params
+    ∙ ap (map (λ (l : Text × Ty). promoted l.1)) (routine_ranged calls n f).parameters ∙ sym (kinds_parameters g.text.params) in
     let locals : TypedLocals p.globals (kinds_of start) f.text.locals f.locals = subst (λ ks. TypedLocals p.globals ks f.text.locals f.locals) same typed.locals in
-    let body : TypedSteps p n (kinds_of (at_body g)) f.body = subst (λ ks. TypedSteps p n ks f.body) (kinds_declared f.text.locals f.locals (map known_parameter f.text.params) start same) typed.body in
+    let body : TypedSteps p n (kinds_of (at_body g)) f.body =
+    subst (λ ks. TypedSteps p n ks f.body) (kinds_declared f.text.locals f.locals (map known_parameter f.text.params) start same) typed.body in
     let one = in_locals site start g.text.locals g.locals in
     let two = in_steps site 1 (at_body g) g.body in
     let steps = none_right one two (none_left (one ++ two) (in_result site (after (at_body g) g.body) g.result) none) in
@@ -198,7 +221,9 @@ all_calls : (fs : List Routine) → AllFit fs → Each InKinds (calls_of_all fs)
 all_calls [] h = tt
 all_calls (f ∷ fs) h = each_append InKinds (calls_of f) (calls_of_all fs) h.0.1 (all_calls fs h.1)
 
-pub all_fit : (p : Resolved) (site : Site) (n : ℕ) (fs : List Routine) → ((i : ℕ) (f : Routine) → slice_get fs i ≡ Some f → TypedRoutine p (n + i) f) → ((i : ℕ) (g : Routine) → slice_get (ranged_routines n fs) i ≡ Some g → in_routine site g ≡ []) → AllFit (ranged_routines n fs)
+pub all_fit : (p : Resolved) (site : Site) (n : ℕ) (fs : List Routine) →
+    ((i : ℕ) (f : Routine) → slice_get fs i ≡ Some f → TypedRoutine p (n + i) f) →
+    ((i : ℕ) (g : Routine) → slice_get (ranged_routines n fs) i ≡ Some g → in_routine site g ≡ []) → AllFit (ranged_routines n fs)
 all_fit p site n [] typed none = tt
 all_fit p site n (f ∷ fs) typed none =
     let e : n + 0 ≡ n = omega arith in

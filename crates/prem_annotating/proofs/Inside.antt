@@ -11,15 +11,18 @@ use Rattle.prem_syntax.specs.declared.tree.Place.{Place}
 use Rattle.prem_syntax.specs.declared.tree.Ty.{Ty}
 use Rattle.prem_syntax.specs.Syntax.{Text, Parameter, LocalVariable, GlobalVariable, ProgramText}
 use Rattle.prem_syntax.specs.Literals.{ProgramHasWords}
-use Rattle.prem_syntax.specs.Resolved.{Term, Constant, Local, Scalar, Element, Unary, Binary, AndAlso, OrElse, Steps, Done, SetLocal, SetScalar, SetElement, Output, Input, If, For, While, Call, Routine, Resolved}
+use Rattle.prem_syntax.specs.Resolved.{Term, Constant, Local, Scalar, Element, Unary, Binary, AndAlso, OrElse, Steps, Done, SetLocal, SetScalar, SetElement, Output, Input, If, For}
+use Rattle.prem_syntax.specs.Resolved.{While, Call, Routine, Resolved}
 use Rattle.prem_syntax.specs.Resolve.{kind_of, promoted}
 use Rattle.prem_syntax.specs.Reach.{callee_table, reach_set}
 use Rattle.prem_syntax.specs.Source.{unlimited}
 use Rattle.prem_syntax.specs.ProgramRules.{IsWellFormed}
 use Rattle.prem_ranges.specs.Environment.{Known, any_again, assigned, Environment, at_local, joined}
 use Rattle.prem_ranges.specs.RangeOf.{range_of, refined}
-use Rattle.prem_ranges.specs.After.{assigns, loop_end, turn_bound, in_counting, body_range, range_behind, in_body, behind_loop, in_while, behind_call, after, known_parameter, known_local, declared, at_body}
-use Rattle.prem_ranges.specs.RangeBreaches.{Site, length_of, in_watches, in_index, in_divisor, in_argument, in_term, in_range_of_int, in_turns, in_counting_loop, in_steps, in_arguments, in_scalar, in_element, parameters_of, in_locals, in_result, in_routine}
+use Rattle.prem_ranges.specs.After.{assigns, loop_end, turn_bound, in_counting, body_range, range_behind, in_body, behind_loop, in_while, behind_call, after, known_parameter}
+use Rattle.prem_ranges.specs.After.{known_local, declared, at_body}
+use Rattle.prem_ranges.specs.RangeBreaches.{Site, length_of, in_watches, in_index, in_divisor, in_argument, in_term, in_range_of_int, in_turns, in_counting_loop, in_steps}
+use Rattle.prem_ranges.specs.RangeBreaches.{in_arguments, in_scalar, in_element, parameters_of, in_locals, in_result, in_routine}
 use Rattle.prem_ranges.specs.RangeRules.{IndexOutside}
 use Rattle.prem_ranges.specs.RangesKept.{resolved}
 use Rattle.prem_ranges.specs.Sound.{kinds_of, Typed, TypedResult, AllTyped, TypedSteps, TypedLocals, TypedRoutine, Ranged}
@@ -27,7 +30,8 @@ use Rattle.prem_ranges.proofs.Basics.{none_left, none_right, unbroken, unbroken_
 use Rattle.prem_ranges.proofs.Environments.{kinds-at_local, kinds-loosened, kinds-joined}
 use Rattle.prem_ranges.proofs.Expressions.{kinds-refined}
 use Rattle.prem_ranges.proofs.Statements.{kinds-after, kinds-behind_call, kinds-in_body}
-use Rattle.prem_annotating.proofs.RangesKept.{ranged_local, ranged_any, ranged_loosened, ranged_joined, term_kept, ranged_refined, LoopFits, body_kept, behind_kept, ranged_counting, ranged_call, ranged_declared}
+use Rattle.prem_annotating.proofs.RangesKept.{ranged_local, ranged_any, ranged_loosened, ranged_joined, term_kept, ranged_refined, LoopFits, body_kept, behind_kept}
+use Rattle.prem_annotating.proofs.RangesKept.{ranged_counting, ranged_call, ranged_declared}
 use Rattle.prem_ranges.proofs.WellFormed.{well_formed_is_typed}
 use Rattle.prem_annotating.specs.Lists.{Each}
 use Rattle.prem_annotating.specs.Seen.{Touch, touch, touched_by, touched_by_all, touched_in, touched_by_locals, touched_by_result, touches_of}
@@ -57,17 +61,20 @@ scalar_inside gs at g some = record { ordered = omega (arith, ints); below = ome
 element_inside : (p : Resolved) (stated : List Routine) (at : Place) (g : ℕ) (k : Kind) (r : Span) → IsRange k r → in_element (site_by p stated) at g r ≡ [] → Inside p.globals (touch at g r)
 element_inside p stated at g k r is none =
     let n = length_of (slice_get p.globals g) in
-    let inside : encloses (from_to (pos 0) (pos n -ℤ pos 1)) r ≡ true = unbroken_not (encloses (from_to (pos 0) (pos n -ℤ pos 1)) r) at (IndexOutside r n) (none_left (in_index at r n) (in_watches at g r []) none) in
+    let inside : encloses (from_to (pos 0) (pos n -ℤ pos 1)) r ≡ true =
+    unbroken_not (encloses (from_to (pos 0) (pos n -ℤ pos 1)) r) at (IndexOutside r n) (none_left (in_index at r n) (in_watches at g r []) none) in
     let parts = and_parts (int_le (pos 0) r.lo) (int_le r.hi (pos n -ℤ pos 1)) inside in
     record { ordered = is.ordered; below = is_at_most r.hi (pos n -ℤ pos 1) parts.1 }
 
-term_inside : (p : Resolved) (stated : List Routine) (env : Environment) → Ranged env → (e : Term) → Typed p.globals (kinds_of env) e → in_term (site_by p stated) env e ≡ [] → Each (Inside p.globals) (touched_by env e)
+term_inside : (p : Resolved) (stated : List Routine) (env : Environment) → Ranged env → (e : Term) → Typed p.globals (kinds_of env) e →
+    in_term (site_by p stated) env e ≡ [] → Each (Inside p.globals) (touched_by env e)
 term_inside p stated env ranged (Constant at word kind) typed none = tt
 term_inside p stated env ranged (Local at k kind) typed none = tt
 term_inside p stated env ranged (Scalar at g ty) typed none = (scalar_inside p.globals at g typed.some, tt)
 term_inside p stated env ranged (Element at g ty index) typed none =
     let site = site_by p stated in (
-      element_inside p stated at g (kind_of index) (range_of env index) (term_kept p.globals env ranged index typed.1) (none_left (in_element site at g (range_of env index)) (in_term site env index) none),
+      element_inside p stated at g (kind_of index) (range_of env index) (term_kept p.globals env ranged index typed.1)
+          (none_left (in_element site at g (range_of env index)) (in_term site env index) none),
       term_inside p stated env ranged index typed.1 (none_right (in_element site at g (range_of env index)) (in_term site env index) none),
     )
 term_inside p stated env ranged (Unary at op e) typed none = term_inside p stated env ranged e typed none
@@ -88,7 +95,8 @@ term_inside p stated env ranged (OrElse at left right) typed none =
     each_append (Inside p.globals) (touched_by env left) (touched_by behind right) (term_inside p stated env ranged left typed.0 (none_left (in_term site env left) (in_term site behind right) none))
     (term_inside p stated behind (ranged_refined false env left ranged) right (rw (kinds-refined false env left) typed.1) (none_right (in_term site env left) (in_term site behind right) none))
 
-arguments_inside : (p : Resolved) (stated : List Routine) (at : Place) (env : Environment) → Ranged env → (es : List Term) (ps : List Parameter) → AllTyped p.globals (kinds_of env) es → in_arguments at (site_by p stated) env es ps ≡ [] → Each (Inside p.globals) (touched_by_all env es)
+arguments_inside : (p : Resolved) (stated : List Routine) (at : Place) (env : Environment) → Ranged env → (es : List Term) (ps : List Parameter) →
+    AllTyped p.globals (kinds_of env) es → in_arguments at (site_by p stated) env es ps ≡ [] → Each (Inside p.globals) (touched_by_all env es)
 arguments_inside p stated at env ranged [] ps typed none = tt
 arguments_inside p stated at env ranged (e ∷ es) [] typed none =
     let site = site_by p stated in
@@ -97,10 +105,13 @@ arguments_inside p stated at env ranged (e ∷ es) [] typed none =
 arguments_inside p stated at env ranged (e ∷ es) (q ∷ ps) typed none =
     let site = site_by p stated in
     let argument = in_argument at env e q in
-    each_append (Inside p.globals) (touched_by env e) (touched_by_all env es) (term_inside p stated env ranged e typed.0 (none_right argument (in_term site env e) (none_left (argument ++ in_term site env e) (in_arguments at site env es ps) none)))
+    each_append (Inside p.globals) (touched_by env e) (touched_by_all env es)
+    (term_inside p stated env ranged e typed.0
+    (none_right argument (in_term site env e) (none_left (argument ++ in_term site env e) (in_arguments at site env es ps) none)))
     (arguments_inside p stated at env ranged es ps typed.1 (none_right (argument ++ in_term site env e) (in_arguments at site env es ps) none))
 
-inside : (p : Resolved) (n : ℕ) (stated : List Routine) (s : Steps) (around : ℕ) (env : Environment) → Ranged env → TypedSteps p n (kinds_of env) s → in_steps (site_by p stated) around env s ≡ [] → Each (Inside p.globals) (touched_in env s)
+inside : (p : Resolved) (n : ℕ) (stated : List Routine) (s : Steps) (around : ℕ) (env : Environment) → Ranged env → TypedSteps p n (kinds_of env) s →
+    in_steps (site_by p stated) around env s ≡ [] → Each (Inside p.globals) (touched_in env s)
 inside p n stated Done around env ranged typed none = tt
 inside p n stated (SetLocal at k e rest) around env ranged typed none =
     let site = site_by p stated in
@@ -133,7 +144,8 @@ inside p n stated (Output at e rest) around env ranged typed none =
     let site = site_by p stated in
     each_append (Inside p.globals) (touched_by env e) (touched_in env rest) (term_inside p stated env ranged e typed.0 (none_left (in_term site env e) (in_steps site around env rest) none))
     (inside p n stated rest around env ranged typed.1 (none_right (in_term site env e) (in_steps site around env rest) none))
-inside p n stated (Input at k rest) around env ranged typed none = inside p n stated rest around (at_local k any_again env) (ranged_any ranged k) (rw (kinds-at_local env k any_again (λ l. refl)) typed) none
+inside p n stated (Input at k rest) around env ranged typed none =
+    inside p n stated rest around (at_local k any_again env) (ranged_any ranged k) (rw (kinds-at_local env k any_again (λ l. refl)) typed) none
 inside p n stated (If at c taken other rest) around env ranged typed none =
     let site = site_by p stated in
     let yes = refined true env c in
@@ -159,7 +171,8 @@ inside p n stated (If at c taken other rest) around env ranged typed none =
     let behind = ranged_joined (walked p n site taken around yes yes_ranged yes_typed taken_none).ranged (walked p n site other around no no_ranged no_typed other_none).ranged same in
     each_append (Inside p.globals) (touched_by env c ++ touched_in yes taken ++ touched_in no other) (touched_in (joined a b) rest)
     (each_append (Inside p.globals) (touched_by env c ++ touched_in yes taken) (touched_in no other)
-    (each_append (Inside p.globals) (touched_by env c) (touched_in yes taken) (term_inside p stated env ranged c typed.0 (none_left one two head)) (inside p n stated taken around yes yes_ranged yes_typed taken_none))
+    (each_append (Inside p.globals) (touched_by env c) (touched_in yes taken) (term_inside p stated env ranged c typed.0 (none_left one two head))
+    (inside p n stated taken around yes yes_ranged yes_typed taken_none))
     (inside p n stated other around no no_ranged no_typed other_none))
     (inside p n stated rest around (joined a b) behind (rw rest_kinds typed.3) (none_right (one ++ two ++ three) others none))
 inside p n stated (For at k low closed high step turns body rest) around env ranged typed none =
@@ -179,15 +192,24 @@ inside p n stated (For at k low closed high step turns body rest) around env ran
     let middle = none_left (loop ++ one ++ two) three front in
     let head = none_left (loop ++ one) two middle in
     let range_unbroken = none_left (in_range_of_int at end step) (in_turns at (around * bound)) (none_left loop one head) in
-    let fits_loop : LoopFits r end step = record { is = rw typed.0.low_is_int at (term_kept p.globals env ranged low typed.1); ends = is_not_below _ _ (unbroken _ _ _ range_unbroken); some = typed.0.some } in
+    let fits_loop : LoopFits r end step =
+    record {
+      is = rw typed.0.low_is_int at (term_kept p.globals env ranged low typed.1);
+      ends = is_not_below _ _ (unbroken _ _ _ range_unbroken);
+      some = typed.0.some;
+    } in
     let known_kinds : kinds_of known ≡ kinds_of env = kinds-loosened (λ j. (k == j) || assigns j body) env in
     let high_typed : Typed p.globals (kinds_of known) high = rw known_kinds typed.2 in
     each_append (Inside p.globals) (touched_by env low ++ touched_by known high ++ touched_in body_env body) (touched_in env' rest)
     (each_append (Inside p.globals) (touched_by env low ++ touched_by known high) (touched_in body_env body)
     (each_append (Inside p.globals) (touched_by env low) (touched_by known high) (term_inside p stated env ranged low typed.1 (none_right loop one head))
     (term_inside p stated known (ranged_loosened ranged (λ j. (k == j) || assigns j body)) high high_typed (none_right (loop ++ one) two middle)))
-    (inside p n stated body (around * bound) body_env (ranged_counting p.globals env k (body_range r end) body typed.0.is_int ranged (body_kept r end step fits_loop)) (rw (kinds-in_body env k (body_range r end) body) typed.3) (none_right (loop ++ one ++ two) three front)))
-    (inside p n stated rest around env' (ranged_counting p.globals env k (range_behind r end step) body typed.0.is_int ranged (behind_kept r end step fits_loop)) (rw (kinds-in_body env k (range_behind r end step) body) typed.4) (none_right (loop ++ one ++ two ++ three) others none))
+    (inside p n stated body (around * bound) body_env
+    (ranged_counting p.globals env k (body_range r end) body typed.0.is_int ranged (body_kept r end step fits_loop))
+    (rw (kinds-in_body env k (body_range r end) body) typed.3) (none_right (loop ++ one ++ two) three front)))
+    (inside p n stated rest around env'
+    (ranged_counting p.globals env k (range_behind r end step) body typed.0.is_int ranged (behind_kept r end step fits_loop))
+    (rw (kinds-in_body env k (range_behind r end step) body) typed.4) (none_right (loop ++ one ++ two ++ three) others none))
 inside p n stated (While at turns c body rest) around env ranged typed none =
     let site = site_by p stated in
     let env' = in_while body env in
@@ -208,12 +230,15 @@ inside p n stated (Call at target f arguments rest) around env ranged typed none
     let site = site_by p stated in
     let given' = in_arguments at site env arguments (parameters_of (slice_get stated f)) in
     let env' = behind_call target env in
-    each_append (Inside p.globals) (touched_by_all env arguments) (touched_in env' rest) (arguments_inside p stated at env ranged arguments (parameters_of (slice_get stated f)) typed.1 (none_left given' (in_steps site around env' rest) none))
+    each_append (Inside p.globals) (touched_by_all env arguments) (touched_in env' rest)
+    (arguments_inside p stated at env ranged arguments (parameters_of (slice_get stated f)) typed.1
+    (none_left given' (in_steps site around env' rest) none))
     (inside p n stated rest around env' (ranged_call target env ranged) (rw (kinds-behind_call target env) typed.2) (none_right given' (in_steps site around env' rest) none))
 
 -- ---- functions
 
-locals_inside : (p : Resolved) (stated : List Routine) (ls : List LocalVariable) (es : List Term) (env : Environment) → Ranged env → TypedLocals p.globals (kinds_of env) ls es → in_locals (site_by p stated) env ls es ≡ [] → Each (Inside p.globals) (touched_by_locals env ls es)
+locals_inside : (p : Resolved) (stated : List Routine) (ls : List LocalVariable) (es : List Term) (env : Environment) → Ranged env →
+    TypedLocals p.globals (kinds_of env) ls es → in_locals (site_by p stated) env ls es ≡ [] → Each (Inside p.globals) (touched_by_locals env ls es)
 locals_inside p stated [] es env ranged typed none = tt
 locals_inside p stated (l ∷ ls) [] env ranged typed none = tt
 locals_inside p stated (l ∷ ls) (e ∷ es) env ranged typed none =
@@ -221,26 +246,33 @@ locals_inside p stated (l ∷ ls) (e ∷ es) env ranged typed none =
     let next = env ++ known_local env l e ∷ [] in
     let kinds : kinds_of next ≡ kinds_of env ++ promoted l.ty ∷ [] = map-append (λ (y : Known). y.kind) env (known_local env l e ∷ []) in
     each_append (Inside p.globals) (touched_by env e) (touched_by_locals next ls es) (term_inside p stated env ranged e typed.0 (none_left (in_term site env e) (in_locals site next ls es) none))
-    (locals_inside p stated ls es next (ranged_declared p.globals (l ∷ []) (e ∷ []) env ranged (typed.0, tt)) (subst (λ ks. TypedLocals p.globals ks ls es) (sym kinds) typed.1) (none_right (in_term site env e) (in_locals site next ls es) none))
+    (locals_inside p stated ls es next (ranged_declared p.globals (l ∷ []) (e ∷ []) env ranged (typed.0, tt))
+    (subst (λ ks. TypedLocals p.globals ks ls es) (sym kinds) typed.1) (none_right (in_term site env e) (in_locals site next ls es) none))
 
-result_inside : (p : Resolved) (stated : List Routine) (env : Environment) → Ranged env → (e : Option Term) → TypedResult p.globals (kinds_of env) e → in_result (site_by p stated) env e ≡ [] → Each (Inside p.globals) (touched_by_result env e)
+result_inside : (p : Resolved) (stated : List Routine) (env : Environment) → Ranged env → (e : Option Term) → TypedResult p.globals (kinds_of env) e →
+    in_result (site_by p stated) env e ≡ [] → Each (Inside p.globals) (touched_by_result env e)
 result_inside p stated env ranged None typed none = tt
 result_inside p stated env ranged (Some e) typed none = term_inside p stated env ranged e typed none
 
-routine_inside : (p : Resolved) (n : ℕ) (stated : List Routine) (f g : Routine) → Kept f g → TypedRoutine p n f → Ranged (map known_parameter g.text.params) → in_routine (site_by p stated) g ≡ [] → Each (Inside p.globals) (touches_of g)
+routine_inside : (p : Resolved) (n : ℕ) (stated : List Routine) (f g : Routine) → Kept f g → TypedRoutine p n f →
+    Ranged (map known_parameter g.text.params) → in_routine (site_by p stated) g ≡ [] → Each (Inside p.globals) (touches_of g)
 routine_inside p n stated f g kept typed ranged none =
     let site = site_by p stated in
     let old_start = map known_parameter f.text.params in
     let start = map known_parameter g.text.params in
     let same : kinds_of old_start ≡ kinds_of start = kinds_parameters f.text.params ∙ ap (map (λ (l : Text × Ty). promoted l.1)) kept.parameters ∙ sym (kinds_parameters g.text.params) in
     let locals_f : TypedLocals p.globals (kinds_of start) f.text.locals f.locals = subst (λ ks. TypedLocals p.globals ks f.text.locals f.locals) same typed.locals in
-    let locals : TypedLocals p.globals (kinds_of start) g.text.locals g.locals = subst (λ es. TypedLocals p.globals (kinds_of start) g.text.locals es) kept.locals (subst (λ ls. TypedLocals p.globals (kinds_of start) ls f.locals) kept.declarations locals_f) in
+    let locals : TypedLocals p.globals (kinds_of start) g.text.locals g.locals =
+    subst (λ es. TypedLocals p.globals (kinds_of start) g.text.locals es) kept.locals
+    (subst (λ ls. TypedLocals p.globals (kinds_of start) ls f.locals) kept.declarations locals_f) in
     let at : kinds_of (at_body f) ≡ kinds_of (at_body g) =
-    kinds_declared f.text.locals f.locals old_start start same ∙ ap (λ ls. kinds_of (declared start ls f.locals)) kept.declarations ∙ ap (λ es. kinds_of (declared start g.text.locals es)) kept.locals in
+    kinds_declared f.text.locals f.locals old_start start same ∙ ap (λ ls. kinds_of (declared start ls f.locals)) kept.declarations
+    ∙ ap (λ es. kinds_of (declared start g.text.locals es)) kept.locals in
     let body : TypedSteps p n (kinds_of (at_body g)) g.body = subst (λ s. TypedSteps p n (kinds_of (at_body g)) s) kept.body (subst (λ ks. TypedSteps p n ks f.body) at typed.body) in
     let end = after (at_body g) g.body in
     let end_kinds : kinds_of (at_body g) ≡ kinds_of end = sym (kinds-after (at_body g) g.body) in
-    let result : TypedResult p.globals (kinds_of end) g.result = subst (λ r. TypedResult p.globals (kinds_of end) r) kept.result (subst (λ ks. TypedResult p.globals ks f.result) (at ∙ end_kinds) typed.result) in
+    let result : TypedResult p.globals (kinds_of end) g.result =
+    subst (λ r. TypedResult p.globals (kinds_of end) r) kept.result (subst (λ ks. TypedResult p.globals ks f.result) (at ∙ end_kinds) typed.result) in
     let one = in_locals site start g.text.locals g.locals in
     let two = in_steps site 1 (at_body g) g.body in
     let three = in_result site end g.result in
@@ -256,7 +288,8 @@ routine_inside p n stated f g kept typed ranged none =
 fit_of : (fs : List Routine) → AllFit fs → (i : ℕ) (g : Routine) → slice_get fs i ≡ Some g → Ranged (map known_parameter g.text.params)
 fit_of fs h i g there = subst (λ o. Ranged (map known_parameter (parameters_of o))) there (fit_at fs h i)
 
-source_inside_global : (p : ProgramText) → IsWellFormed p → ProgramHasWords p → other_breaches p ≡ [] → (set : List Bool) (g : ℕ) (s : Span) → Source set g 0 (all_ranged p) s → (s.lo ≤ℤ s.hi) × (s.hi ≤ℤ (pos (length_of (slice_get (resolved p).globals g)) -ℤ pos 1))
+source_inside_global : (p : ProgramText) → IsWellFormed p → ProgramHasWords p → other_breaches p ≡ [] → (set : List Bool) (g : ℕ) (s : Span) →
+    Source set g 0 (all_ranged p) s → (s.lo ≤ℤ s.hi) × (s.hi ≤ℤ (pos (length_of (slice_get (resolved p).globals g)) -ℤ pos 1))
 source_inside_global p formed words others set g s source =
     let rs = (resolved p).routines in
     let i = source.number in
@@ -265,10 +298,12 @@ source_inside_global p formed words others set g s source =
     (λ j h there. unwatched p j h (others_at p others j h there)) in
     let from = origin (slice_get rs i) (slice_get (all_ranged p) i) source.function (kept_at (all_ranged_kept p) i) source.there in
     let typed = (well_formed_is_typed p formed words unlimited.turns).each i from.routine from.there in
-    let all = routine_inside (resolved p) i (all_ranged p) from.routine source.function from.kept typed (fit_of (all_ranged p) fit i source.function source.there) (unwatched p i source.function (others_at p others i source.function source.there)) in
+    let all = routine_inside (resolved p) i (all_ranged p) from.routine source.function from.kept typed
+    (fit_of (all_ranged p) fit i source.function source.there) (unwatched p i source.function (others_at p others i source.function source.there)) in
     let is = each_at (Inside (resolved p).globals) source.access (touches_of source.function) all source.among in
     let ordered : s.lo ≤ℤ s.hi = subst (λ (r : Span). r.lo ≤ℤ r.hi) source.elements is.ordered in
-    let below : s.hi ≤ℤ (pos (length_of (slice_get (resolved p).globals source.access.global)) -ℤ pos 1) = subst (λ (r : Span). r.hi ≤ℤ (pos (length_of (slice_get (resolved p).globals source.access.global)) -ℤ pos 1)) source.elements is.below in
+    let below : s.hi ≤ℤ (pos (length_of (slice_get (resolved p).globals source.access.global)) -ℤ pos 1) =
+    subst (λ (r : Span). r.hi ≤ℤ (pos (length_of (slice_get (resolved p).globals source.access.global)) -ℤ pos 1)) source.elements is.below in
     (ordered, subst (λ m. s.hi ≤ℤ (pos (length_of (slice_get (resolved p).globals m)) -ℤ pos 1)) source.global below)
 
 -- ---- the law
@@ -297,11 +332,14 @@ regions_fit lengths p formed words first n k r has =
     let lowest = source_inside_global p formed words others set g meets.lowest (source_back set g 0 all meets.lowest meets.lowest_among) in
     let highest = source_inside_global p formed words others set g meets.highest (source_back set g 0 all meets.highest meets.highest_among) in
     let natural = source_natural p formed words others set g meets.lowest (source_back set g 0 all meets.lowest meets.lowest_among) in
-    let held = and_parts (int_le one.around.lo meets.lowest.lo) (int_le meets.lowest.hi one.around.hi) (joined_encloses (elements_in set g 0 all) one.around meets.lowest one.joined meets.lowest_among) in
+    let held = and_parts (int_le one.around.lo meets.lowest.lo) (int_le meets.lowest.hi one.around.hi)
+    (joined_encloses (elements_in set g 0 all) one.around meets.lowest one.joined meets.lowest_among) in
     let low_is : meets.lowest.lo ≡ one.around.lo = meets.lowest_is in
     let high_is : meets.highest.hi ≡ one.around.hi = meets.highest_is in
     let lo_natural : pos 0 ≤ℤ one.around.lo = subst (λ z. pos 0 ≤ℤ z) low_is natural in
-    let ordered : one.around.lo ≤ℤ one.around.hi = ≤ℤ_chain one.around.lo meets.lowest.hi one.around.hi (subst (λ z. z ≤ℤ meets.lowest.hi) low_is lowest.0) (is_at_most meets.lowest.hi one.around.hi held.1) in
+    let ordered : one.around.lo ≤ℤ one.around.hi =
+    ≤ℤ_chain one.around.lo meets.lowest.hi one.around.hi (subst (λ z. z ≤ℤ meets.lowest.hi) low_is lowest.0)
+    (is_at_most meets.lowest.hi one.around.hi held.1) in
     let size : length_of (slice_get gs g) ≡ unwrap_or one.variable.len 1 = ap (λ m. length_of (slice_get gs m)) e ∙ ap length_of one.variable_there in
     let below : one.around.hi ≤ℤ (pos (length_of (slice_get gs g)) -ℤ pos 1) = subst (λ z. z ≤ℤ (pos (length_of (slice_get gs g)) -ℤ pos 1)) high_is highest.1 in
     record {
@@ -310,5 +348,6 @@ regions_fit lengths p formed words first n k r has =
       there = one.variable_there;
       name_is = one.name_is;
       ordered = subst (λ m. m ≤ r.high) (sym one.low_is) (subst (λ m. element_number one.around.lo ≤ m) (sym one.high_is) (number_ordered one.around.lo one.around.hi ordered));
-      below = subst (λ m. m < unwrap_or one.variable.len 1) (sym one.high_is) (subst (λ m. element_number one.around.hi < m) size (number_below one.around.lo one.around.hi (length_of (slice_get gs g)) lo_natural ordered below));
+      below = subst (λ m. m < unwrap_or one.variable.len 1) (sym one.high_is)
+          (subst (λ m. element_number one.around.hi < m) size (number_below one.around.lo one.around.hi (length_of (slice_get gs g)) lo_natural ordered below));
     }

@@ -27,7 +27,8 @@ use Rattle.prem_ranges.proofs.Environments.{kinds-loosened, kind_known}
 
 -- ---- environments
 
-pub ranged_local : {env : Environment} → Ranged env → (k : ℕ) (change : Known → Known) → ((l : Known) → slice_get env k ≡ Some l → IsRange l.kind l.range → IsRange (change l).kind (change l).range) → Ranged (at_local k change env)
+pub ranged_local : {env : Environment} → Ranged env → (k : ℕ) (change : Known → Known) →
+    ((l : Known) → slice_get env k ≡ Some l → IsRange l.kind l.range → IsRange (change l).kind (change l).range) → Ranged (at_local k change env)
 ranged_local none_ranged k change keeps = none_ranged
 ranged_local (next_ranged {l = l} is rest) zero change keeps = next_ranged (keeps l refl is) rest
 ranged_local (next_ranged is rest) (suc k) change keeps = next_ranged is (ranged_local rest k change keeps)
@@ -79,7 +80,8 @@ term_kept gs env ranged (Local at k kind) typed = range_at_kept ranged k kind ty
 term_kept gs env ranged (Scalar at g ty) typed = type_kept ty
 term_kept gs env ranged (Element at g ty index) typed = type_kept ty
 term_kept gs env ranged (Unary at Neg e) typed = negate_kept (kind_of e) (converted (kind_of e) (range_of env e))
-term_kept gs env ranged (Unary at Flip e) typed = flip_kept (kind_of e) (converted (kind_of e) (range_of env e)) (converted_kept (kind_of e) (kind_of e) (range_of env e) (term_kept gs env ranged e typed))
+term_kept gs env ranged (Unary at Flip e) typed =
+    flip_kept (kind_of e) (converted (kind_of e) (range_of env e)) (converted_kept (kind_of e) (kind_of e) (range_of env e) (term_kept gs env ranged e typed))
 term_kept gs env ranged (Unary at Not e) typed = truths_kept Int
 term_kept gs env ranged (Binary at op kind left right) typed =
     range_kept op kind (converted kind (range_of env left)) (converted kind (range_of env right)) (converted_kept (kind_of left) kind (range_of env left) (term_kept gs env ranged left typed.2))
@@ -161,7 +163,8 @@ behind_kept low end step h = within_kept Int (from_to low.lo (int_max low.hi (en
 
 -- ---- steps
 
-pub ranged_counting : (gs : List GlobalVariable) (env : Environment) (k : ℕ) (r : Span) (body : Steps) → slice_get (kinds_of env) k ≡ Some Int → Ranged env → IsRange Int r → Ranged (at_local k (with_range r) (in_counting k body env))
+pub ranged_counting : (gs : List GlobalVariable) (env : Environment) (k : ℕ) (r : Span) (body : Steps) → slice_get (kinds_of env) k ≡ Some Int →
+    Ranged env → IsRange Int r → Ranged (at_local k (with_range r) (in_counting k body env))
 ranged_counting gs env k r body is_int ranged is =
     let env' = in_counting k body env in
     let same : kinds_of env' ≡ kinds_of env = kinds-loosened (λ j. eqb k j || assigns j body) env in

@@ -15,7 +15,8 @@ use Rattle.prem_syntax.specs.Source.{unlimited}
 use Rattle.prem_text.specs.Lexing.Token.Lexeme.{Lexeme, name, number, word, mark, end_of_text}
 use Rattle.prem_text.specs.declared.lexing.token.token.Mark.TheVariants as m
 use Rattle.prem_text.specs.Grammar.ProgramPhrases.{items_tokens}
-use Rattle.prem_text.specs.Canonical.Canonical.{kind_for, type_lexemes, declaration_lexemes, length_lexemes, initial_lexemes, global_lexemes, mark_lexemes, parameters_lexemes, locals_lexemes, statements_lexemes, result_lexemes, function_lexemes, program_lexemes}
+use Rattle.prem_text.specs.Canonical.Canonical.{kind_for, type_lexemes, declaration_lexemes, length_lexemes, initial_lexemes, global_lexemes, mark_lexemes, parameters_lexemes}
+use Rattle.prem_text.specs.Canonical.Canonical.{locals_lexemes, statements_lexemes, result_lexemes, function_lexemes, program_lexemes}
 use Rattle.prem_text.specs.Spelling.Spellings.{Spells}
 use Rattle.prem_text.specs.Texts.{IsProgramText}
 use Rattle.prem_text.proofs.CanonicalLemmas.Sayable.{IsSayable, AreSayable, AreSaid, front as said_front, tokens_said}
@@ -186,13 +187,15 @@ record Basis (lengths : ℕ → ℕ) (p : ProgramText) : Type 0 where
 routines_are : (lengths : ℕ → ℕ) (p : ProgramText) → functions_in (annotated lengths p) ≡ all_annotated lengths p
 routines_are lengths p = ap (λ (q : Resolved). q.routines) (resolved_annotated lengths p)
 
-parameter_said : (lengths : ℕ → ℕ) (p : ProgramText) → Basis lengths p → (n : ℕ) (f : Routine) → slice_get (all_annotated lengths p) n ≡ Some f → (k : ℕ) (q : Parameter) → slice_get f.text.params k ≡ Some q → IsSaidRange q.range
+parameter_said : (lengths : ℕ → ℕ) (p : ProgramText) → Basis lengths p → (n : ℕ) (f : Routine) → slice_get (all_annotated lengths p) n ≡ Some f →
+    (k : ℕ) (q : Parameter) → slice_get f.text.params k ≡ Some q → IsSaidRange q.range
 parameter_said lengths p basis n f there k q q_there = by q.range refl
   where
     by : (o : Option (ℤ × ℤ)) → q.range ≡ o → IsSaidRange o
     by None e = tt
     by (Some r) e =
-        let params : parameters_of (slice_get (functions_in (annotated lengths p)) n) ≡ f.text.params = ap (λ (fs : List Routine). parameters_of (slice_get fs n)) (routines_are lengths p) ∙ ap parameters_of there in
+        let params : parameters_of (slice_get (functions_in (annotated lengths p)) n) ≡ f.text.params =
+        ap (λ (fs : List Routine). parameters_of (slice_get fs n)) (routines_are lengths p) ∙ ap parameters_of there in
         range_small (promoted q.ty) r (ranges_fit lengths p basis.formed basis.words basis.first n k q r (ap (λ (ps : List Parameter). slice_get ps k) params ∙ q_there) e)
 
 regions_said : (p : ProgramText) → Each GlobalSaid (globals_of p) → (rs : List RegionText) → ((k : ℕ) (r : RegionText) → slice_get rs k ≡ Some r → IsOfGlobal p r) → AreRegionWords rs
@@ -227,7 +230,14 @@ mark_said lengths p basis n f there = by f.text.mark refl
     by (Some k) e = (
       stated k e,
       regions_said p basis.globals k.regions (λ j r r_there.
-          regions_fit lengths p basis.formed basis.words basis.first n j r (record { function = f; there = ap (λ (fs : List Routine). slice_get fs n) (routines_are lengths p) ∙ there; mark = k; marked = e; stands = r_there })),
+          regions_fit lengths p basis.formed basis.words basis.first n j r
+          (record {
+            function = f;
+            there = ap (λ (fs : List Routine). slice_get fs n) (routines_are lengths p) ∙ there;
+            mark = k;
+            marked = e;
+            stands = r_there;
+          })),
     )
 
 all_said : (ts : List FunctionText) → ((n : ℕ) (t : FunctionText) → slice_get ts n ≡ Some t → Each (λ (q : Parameter). IsSaidRange q.range) t.params × IsSaidMark t.mark) → CanBeSaid ts
@@ -237,7 +247,15 @@ all_said (t ∷ ts) h = let one = h 0 t refl in (one.0, one.1, all_said ts (λ n
 pub annotations_can_be_said : AnnotationsCanBeSaid
 annotations_can_be_said lengths text p is formed first small =
     let sayable = text_said text p is in
-    let basis : Basis lengths p = record { formed = formed; words = reads_have_words text p (text_read text p is); first = first; globals = globals_said p sayable; marks = marks_said p sayable; lengths_are = small } in
+    let basis : Basis lengths p = record {
+      formed = formed;
+      words = reads_have_words text p (text_read text p is);
+      first = first;
+      globals =
+          globals_said p sayable;
+      marks = marks_said p sayable;
+      lengths_are = small;
+    } in
     all_said (texts_of (all_annotated lengths p)) (λ n t there.
     let has = text_at (all_annotated lengths p) n t there in
     subst (λ (x : FunctionText). Each (λ (q : Parameter). IsSaidRange q.range) x.params × IsSaidMark x.mark) has.is

@@ -14,7 +14,8 @@ use Rattle.prem_text.specs.declared.lexing.token.token.Mark.TheVariants as m
 use Rattle.prem_text.specs.declared.lexing.token.token.Word.TheVariants as w
 use Rattle.prem_text.specs.Lexing.Token.Lexeme.{Lexeme, number, word, mark, Seen}
 use Rattle.prem_text.specs.Lexing.Spelling.{marks}
-use Rattle.prem_text.specs.Grammar.Slots.{Slot, left_parenthesis, right_parenthesis, a_name, a_literal, comma, the_region, the_predictable, value_of, value_at, is_predictable, is_left_parenthesis, is_right_parenthesis, is_literal}
+use Rattle.prem_text.specs.Grammar.Slots.{Slot, left_parenthesis, right_parenthesis, a_name, a_literal, comma, the_region, the_predictable, value_of, value_at, is_predictable}
+use Rattle.prem_text.specs.Grammar.Slots.{is_left_parenthesis, is_right_parenthesis, is_literal}
 use Rattle.prem_text.specs.Grammar.Reader.{nowhere}
 use Rattle.prem_text.specs.Grammar.Phrases.{IsRow}
 use Rattle.prem_text.specs.Grammar.ProgramPhrases.{MarkPhrase, AreRegions, region_tokens, region_trees, IsMark, mark_tokens, mark_tree}
@@ -24,7 +25,8 @@ use Rattle.prem_text.specs.Canonical.Printed.{lexeme_bytes}
 use Rattle.prem_text.specs.Canonical.Law.{lexemes_of}
 use Rattle.prem_text.specs.Canonical.Unplaced.{unplaced_region, unplaced_mark}
 use Rattle.prem_text.proofs.SpellingLemmas.Tables.{stands_every, same_bytes}
-use Rattle.prem_annotating.specs.Pieces.{Piece, between, a_token, text_of, lexemes_in, AreDivided, said, mark_piece, range_pieces, regions_pieces, AreRegionWords, AreGaps, EndsInToken, Edited, all_edited, kept_piece, with_range, with_regions, with_length}
+use Rattle.prem_annotating.specs.Pieces.{Piece, between, a_token, text_of, lexemes_in, AreDivided, said, mark_piece, range_pieces, regions_pieces, AreRegionWords, AreGaps}
+use Rattle.prem_annotating.specs.Pieces.{EndsInToken, Edited, all_edited, kept_piece, with_range, with_regions, with_length}
 use Rattle.prem_annotating.specs.Phrases.{region_row}
 use Rattle.prem_annotating.specs.declared.editing.walk.Spot.{Spot}
 use Rattle.prem_annotating.specs.declared.editing.walk.Spot.TheVariants.{Elsewhere, InMark}
@@ -141,10 +143,14 @@ stands_of : (b : List ℕ) (k : Mark) → Spells b (mark k) → StandsIn (b, k) 
 stands_of _ _ (as_mark b k there) = there
 
 pub open_bytes : (b : List ℕ) → Spells b (mark m.OpenParenthesis) → b ≡ 40 ∷ []
-open_bytes b s = same_bytes b (40 ∷ []) (stands_every (λ (x : List ℕ × Mark). cond (is_open x.1) (bytes_eq x.0 (40 ∷ [])) true) (b, m.OpenParenthesis) marks (stands_of b m.OpenParenthesis s) opens_alone)
+open_bytes b s = same_bytes b (40 ∷ [])
+    (stands_every (λ (x : List ℕ × Mark). cond (is_open x.1) (bytes_eq x.0 (40 ∷ [])) true) (b, m.OpenParenthesis) marks
+    (stands_of b m.OpenParenthesis s) opens_alone)
 
 pub close_bytes : (b : List ℕ) → Spells b (mark m.CloseParenthesis) → b ≡ 41 ∷ []
-close_bytes b s = same_bytes b (41 ∷ []) (stands_every (λ (x : List ℕ × Mark). cond (is_close x.1) (bytes_eq x.0 (41 ∷ [])) true) (b, m.CloseParenthesis) marks (stands_of b m.CloseParenthesis s) closes_alone)
+close_bytes b s = same_bytes b (41 ∷ [])
+    (stands_every (λ (x : List ℕ × Mark). cond (is_close x.1) (bytes_eq x.0 (41 ∷ [])) true) (b, m.CloseParenthesis) marks
+    (stands_of b m.CloseParenthesis s) closes_alone)
 
 -- ---- edits
 
@@ -260,15 +266,18 @@ record NewRows (before : List (List Seen)) (rs : List RegionText) (old : List Pi
 -- regions that stay
 rows_stay : (rows : List (List Seen)) → AreRegions rows → AreQuiet (region_tokens rows)
 rows_stay [] h = tt
-rows_stay (row ∷ rows) h = quiet_join row (region_tokens rows) (row_quiet (the_region ∷ left_parenthesis ∷ a_name ∷ comma ∷ a_literal ∷ comma ∷ a_literal ∷ right_parenthesis ∷ []) row refl h.0) (rows_stay rows h.1)
+rows_stay (row ∷ rows) h = quiet_join row (region_tokens rows)
+    (row_quiet (the_region ∷ left_parenthesis ∷ a_name ∷ comma ∷ a_literal ∷ comma ∷ a_literal ∷ right_parenthesis ∷ []) row refl h.0) (rows_stay rows h.1)
 
-left_goes : (os : List Order) (rows : List (List Seen)) (old : List Piece) → AreRegions rows → lexemes_in old ≡ lexemes_of (region_tokens rows) → Goes InMark (leave ∷ os) (mark_piece m.CloseParenthesis ∷ old) (mark_piece m.CloseParenthesis ∷ old) Elsewhere os
+left_goes : (os : List Order) (rows : List (List Seen)) (old : List Piece) → AreRegions rows → lexemes_in old ≡ lexemes_of (region_tokens rows) →
+    Goes InMark (leave ∷ os) (mark_piece m.CloseParenthesis ∷ old) (mark_piece m.CloseParenthesis ∷ old) Elsewhere os
 left_goes os rows old right e =
     goes_both InMark Elsewhere Elsewhere (leave ∷ os) os os (mark_piece m.CloseParenthesis ∷ []) old (mark_piece m.CloseParenthesis ∷ []) old
     (leave_goes InMark Elsewhere os (lexeme_bytes (mark m.CloseParenthesis)) (mark m.CloseParenthesis) refl (λ b. refl))
     (stays_go Elsewhere Elsewhere os old refl (subst (λ l. Stays Elsewhere l Elsewhere) (sym e) (quiet_stays (region_tokens rows) (rows_stay rows right))))
 
-new_rows : (rows : List (List Seen)) (rs : List RegionText) (old : List Piece) → AreRegions rows → AreRegionWords rs → EndsInToken old → lexemes_in old ≡ lexemes_of (region_tokens rows) → NewRows rows rs old
+new_rows : (rows : List (List Seen)) (rs : List RegionText) (old : List Piece) → AreRegions rows → AreRegionWords rs → EndsInToken old →
+    lexemes_in old ≡ lexemes_of (region_tokens rows) → NewRows rows rs old
 new_rows rows rs old right words ends e = by (same_regions (region_trees rows) rs) refl
   where
     by : (b : Bool) → same_regions (region_trees rows) rs ≡ b → NewRows rows rs old
@@ -279,19 +288,29 @@ new_rows rows rs old right words ends e = by (same_regions (region_trees rows) r
       new = old;
       edited = edited_itself (mark_piece m.CloseParenthesis ∷ old);
       lexemes = e;
-      goes = λ os. subst (λ x. Goes InMark (x ∷ os) (mark_piece m.CloseParenthesis ∷ old) (mark_piece m.CloseParenthesis ∷ old) Elsewhere os) (sym (ap (λ (x : Bool). if x then leave else put_for (length (region_trees rows)) (text_of (regions_pieces rs))) is)) (left_goes os rows old right e);
+      goes = λ os. subst (λ x. Goes InMark (x ∷ os) (mark_piece m.CloseParenthesis ∷ old) (mark_piece m.CloseParenthesis ∷ old) Elsewhere os)
+          (sym (ap (λ (x : Bool). if x then leave else put_for (length (region_trees rows)) (text_of (regions_pieces rs))) is)) (left_goes os rows old right e);
     }
     by false is = record {
       rows = map region_row rs;
       right = regions_right rs;
       are = regions_are rs;
       new = regions_pieces rs ++ [];
-      edited = subst (λ l. Edited (mark_piece m.CloseParenthesis ∷ l) (mark_piece m.CloseParenthesis ∷ (regions_pieces rs ++ []))) (append-nil old) (with_regions old rs (record { rows = rows; right = right; lexemes = e; ends = ends; differ = λ same. two_answers (sym (same_regions_yes (region_trees rows) rs same) ∙ is) }) words all_edited);
+      edited = subst (λ l. Edited (mark_piece m.CloseParenthesis ∷ l) (mark_piece m.CloseParenthesis ∷ (regions_pieces rs ++ []))) (append-nil old)
+          (with_regions old rs (record {
+            rows = rows;
+            right = right;
+            lexemes = e;
+            ends = ends;
+            differ = λ same. two_answers (sym (same_regions_yes (region_trees rows) rs same) ∙ is);
+          }) words all_edited);
       lexemes = ap lexemes_in (append-nil (regions_pieces rs)) ∙ regions_say rs ∙ sym (regions_lexed rs);
       goes =
           λ os. let order : put_for (length rows) (text_of (regions_pieces rs ++ [])) ≡ regions_order (region_trees rows) rs =
-          (λ i. put_for (sym (trees_length rows) i) (text_of (append-nil (regions_pieces rs) i))) ∙ sym (ap (λ (x : Bool). if x then leave else put_for (length (region_trees rows)) (text_of (regions_pieces rs))) is) in
-          subst (λ x. Goes InMark (x ∷ os) (mark_piece m.CloseParenthesis ∷ old) (mark_piece m.CloseParenthesis ∷ (regions_pieces rs ++ [])) Elsewhere os) order (regions_go close_bytes os rows old (regions_pieces rs ++ []) right ends e);
+          (λ i. put_for (sym (trees_length rows) i) (text_of (append-nil (regions_pieces rs) i)))
+          ∙ sym (ap (λ (x : Bool). if x then leave else put_for (length (region_trees rows)) (text_of (regions_pieces rs))) is) in
+          subst (λ x. Goes InMark (x ∷ os) (mark_piece m.CloseParenthesis ∷ old) (mark_piece m.CloseParenthesis ∷ (regions_pieces rs ++ []))
+          Elsewhere os) order (regions_go close_bytes os rows old (regions_pieces rs ++ []) right ends e);
     }
 
 same_number : (a b : ℕ) → a ≡ b → (a == b) ≡ true
@@ -303,11 +322,13 @@ record NewLiteral (n : ℕ) (head : List ℕ) (before gaps : List Piece) (bytes 
   fits_is : is_literal lexeme ≡ true
   value_is : value_of lexeme ≡ n
   piece : Piece
-  edited : Edited (a_token head (word w.Predictable) ∷ (before ++ (mark_piece m.OpenParenthesis ∷ (gaps ++ (a_token bytes (number old kind) ∷ ps))))) (a_token head (word w.Predictable) ∷ (before ++ (mark_piece m.OpenParenthesis ∷ (gaps ++ (piece ∷ qs)))))
+  edited : Edited (a_token head (word w.Predictable) ∷ (before ++ (mark_piece m.OpenParenthesis ∷ (gaps ++ (a_token bytes (number old kind) ∷ ps)))))
+      (a_token head (word w.Predictable) ∷ (before ++ (mark_piece m.OpenParenthesis ∷ (gaps ++ (piece ∷ qs)))))
   lexemes : lexemes_in (gaps ++ (piece ∷ qs)) ≡ lexeme ∷ lexemes_in qs
   goes : (os : List Order) → Goes InMark (length_order old n ∷ os) (a_token bytes (number old kind) ∷ []) (piece ∷ []) InMark os
 
-new_literal : (n : ℕ) (head : List ℕ) (before gaps : List Piece) (bytes : List ℕ) (old : ℕ) (kind : Kind) (ps qs : List Piece) → n ≤ 4294967295 → AreGaps before → AreGaps gaps → Edited ps qs → NewLiteral n head before gaps bytes old kind ps qs
+new_literal : (n : ℕ) (head : List ℕ) (before gaps : List Piece) (bytes : List ℕ) (old : ℕ) (kind : Kind) (ps qs : List Piece) → n ≤ 4294967295 →
+    AreGaps before → AreGaps gaps → Edited ps qs → NewLiteral n head before gaps bytes old kind ps qs
 new_literal n head before gaps bytes old kind ps qs le are_before are edited = by (old == n) refl
   where
     by : (b : Bool) → (old == n) ≡ b → NewLiteral n head before gaps bytes old kind ps qs
@@ -318,7 +339,9 @@ new_literal n head before gaps bytes old kind ps qs le are_before are edited = b
       piece = a_token bytes (number old kind);
       edited = kept_piece (a_token head (word w.Predictable)) (kept_front before (kept_piece (mark_piece m.OpenParenthesis) (kept_front gaps (kept_piece (a_token bytes (number old kind)) edited))));
       lexemes = gap_lexemes gaps (a_token bytes (number old kind) ∷ qs) are;
-      goes = λ os. subst (λ x. Goes InMark (x ∷ os) (a_token bytes (number old kind) ∷ []) (a_token bytes (number old kind) ∷ []) InMark os) (sym (ap (λ (x : Bool). if x then leave else put (lexeme_bytes (number_lexeme n))) is)) (leave_goes InMark InMark os bytes (number old kind) refl (λ b. refl));
+      goes = λ os. subst (λ x. Goes InMark (x ∷ os) (a_token bytes (number old kind) ∷ []) (a_token bytes (number old kind) ∷ []) InMark os)
+          (sym (ap (λ (x : Bool). if x then leave else put (lexeme_bytes (number_lexeme n))) is))
+          (leave_goes InMark InMark os bytes (number old kind) refl (λ b. refl));
     }
     by false is = record {
       lexeme = number_lexeme n;
@@ -327,7 +350,9 @@ new_literal n head before gaps bytes old kind ps qs le are_before are edited = b
       piece = said (number_lexeme n);
       edited = with_length head before gaps bytes old kind n (λ same. two_answers (sym (same_number old n same) ∙ is)) le are_before are edited;
       lexemes = gap_lexemes gaps (said (number_lexeme n) ∷ qs) are;
-      goes = λ os. subst (λ x. Goes InMark (x ∷ os) (a_token bytes (number old kind) ∷ []) (said (number_lexeme n) ∷ []) InMark os) (sym (ap (λ (x : Bool). if x then leave else put (lexeme_bytes (number_lexeme n))) is)) (literal_goes os bytes (lexeme_bytes (number_lexeme n)) old n kind (kind_for n));
+      goes = λ os. subst (λ x. Goes InMark (x ∷ os) (a_token bytes (number old kind) ∷ []) (said (number_lexeme n) ∷ []) InMark os)
+          (sym (ap (λ (x : Bool). if x then leave else put (lexeme_bytes (number_lexeme n))) is))
+          (literal_goes os bytes (lexeme_bytes (number_lexeme n)) old n kind (kind_for n));
     }
 
 pub record NewMarkOf (k a : MarkText) (os : List Order) (ps : List Piece) : Type 0 where
@@ -340,7 +365,9 @@ abbrev mark_slots : List Slot
 mark_slots = the_predictable ∷ left_parenthesis ∷ a_literal ∷ right_parenthesis ∷ []
 
 -- the pieces of a mark
-mark_by : (head : List Seen) (rows : List (List Seen)) (a : MarkText) (os : List Order) (ps : List Piece) → IsRow mark_slots head → AreRegions rows → a.stated ≤ 4294967295 → AreRegionWords a.regions → EndsInToken ps → AreSpelled ps → lexemes_in ps ≡ lexemes_of (head ++ region_tokens rows) → NewMarkOf (record { stated = value_at 2 head; regions = region_trees rows }) a os ps
+mark_by : (head : List Seen) (rows : List (List Seen)) (a : MarkText) (os : List Order) (ps : List Piece) → IsRow mark_slots head → AreRegions rows →
+    a.stated ≤ 4294967295 → AreRegionWords a.regions → EndsInToken ps → AreSpelled ps → lexemes_in ps ≡ lexemes_of (head ++ region_tokens rows) →
+    NewMarkOf (record { stated = value_at 2 head; regions = region_trees rows }) a os ps
 mark_by [] rows a os ps h right le words ends spelled e = absurd h
 mark_by (t ∷ []) rows a os ps h right le words ends spelled e = absurd h.1
 mark_by (t ∷ u ∷ []) rows a os ps h right le words ends spelled e = absurd h.1.1
@@ -370,7 +397,8 @@ mark_by (t ∷ u ∷ v ∷ x ∷ []) rows a os ps h right le words ends spelled 
     (λ i. a_token four.bytes (is_close' i)) ∙ ap (λ b. a_token b (mark m.CloseParenthesis)) (close_bytes four.bytes (subst (λ l. Spells four.bytes l) is_close' at_four.0)) in
     let regions = new_rows rows a.regions four.rest right words ends_four four.two in
     let tail : Edited (four.gaps ++ (mark_piece m.CloseParenthesis ∷ four.rest)) (four.gaps ++ (mark_piece m.CloseParenthesis ∷ regions.new)) = kept_front four.gaps regions.edited in
-    let stated = new_literal a.stated one.bytes two.gaps three.gaps three.bytes literal.value literal.kind (four.gaps ++ (mark_piece m.CloseParenthesis ∷ four.rest)) (four.gaps ++ (mark_piece m.CloseParenthesis ∷ regions.new)) le two.are three.are tail in
+    let stated = new_literal a.stated one.bytes two.gaps three.gaps three.bytes literal.value literal.kind
+    (four.gaps ++ (mark_piece m.CloseParenthesis ∷ four.rest)) (four.gaps ++ (mark_piece m.CloseParenthesis ∷ regions.new)) le two.are three.are tail in
     let start : Piece = a_token one.bytes (word w.Predictable) in
     let open' : Piece = mark_piece m.OpenParenthesis in
     let behind_old = four.gaps ++ (mark_piece m.CloseParenthesis ∷ four.rest) in
@@ -381,17 +409,26 @@ mark_by (t ∷ u ∷ v ∷ x ∷ []) rows a os ps h right le words ends spelled 
     let o1 = length_order literal.value a.stated in
     let both = o1 ∷ o2 ∷ os in
     let g7 = regions.goes os in
-    let g6 = goes_both InMark InMark Elsewhere (o2 ∷ os) (o2 ∷ os) os four.gaps (mark_piece m.CloseParenthesis ∷ four.rest) four.gaps (mark_piece m.CloseParenthesis ∷ regions.new) (gaps_go InMark (o2 ∷ os) four.gaps refl four.are) g7 in
+    let g6 = goes_both InMark InMark Elsewhere (o2 ∷ os) (o2 ∷ os) os four.gaps (mark_piece m.CloseParenthesis ∷ four.rest) four.gaps
+    (mark_piece m.CloseParenthesis ∷ regions.new) (gaps_go InMark (o2 ∷ os) four.gaps refl four.are) g7 in
     let g5 = goes_both InMark InMark Elsewhere both (o2 ∷ os) os (lit ∷ []) behind_old (stated.piece ∷ []) behind_new (stated.goes (o2 ∷ os)) g6 in
     let g4 = goes_both InMark InMark Elsewhere both both os three.gaps (lit ∷ behind_old) three.gaps (stated.piece ∷ behind_new) (gaps_go InMark both three.gaps refl three.are) g5 in
-    let g3 = goes_both InMark InMark Elsewhere both both os (open' ∷ []) (three.gaps ++ (lit ∷ behind_old)) (open' ∷ []) stated_new (stays_go InMark InMark both (open' ∷ []) refl (InMark, (λ o b. refl), refl, refl)) g4 in
+    let g3 = goes_both InMark InMark Elsewhere both both os (open' ∷ []) (three.gaps ++ (lit ∷ behind_old)) (open' ∷ []) stated_new
+    (stays_go InMark InMark both (open' ∷ []) refl (InMark, (λ o b. refl), refl, refl)) g4 in
     let g2 = goes_both InMark InMark Elsewhere both both os two.gaps (open' ∷ (three.gaps ++ (lit ∷ behind_old))) two.gaps (open' ∷ stated_new) (gaps_go InMark both two.gaps refl two.are) g3 in
-    let g1 = goes_both Elsewhere InMark Elsewhere both both os (start ∷ []) (two.gaps ++ (open' ∷ (three.gaps ++ (lit ∷ behind_old)))) (start ∷ []) (two.gaps ++ (open' ∷ stated_new)) (stays_go Elsewhere InMark both (start ∷ []) refl (InMark, (λ o b. refl), refl, refl)) g2 in
-    let g0 = goes_both Elsewhere Elsewhere Elsewhere both both os one.gaps (start ∷ (two.gaps ++ (open' ∷ (three.gaps ++ (lit ∷ behind_old))))) one.gaps (start ∷ (two.gaps ++ (open' ∷ stated_new))) (gaps_go Elsewhere both one.gaps refl one.are) g1 in
-    let whole : Edited (one.gaps ++ (start ∷ (two.gaps ++ (mark_piece m.OpenParenthesis ∷ (three.gaps ++ (a_token three.bytes (number literal.value literal.kind) ∷ (four.gaps ++ (mark_piece m.CloseParenthesis ∷ four.rest))))))))
+    let g1 = goes_both Elsewhere InMark Elsewhere both both os (start ∷ []) (two.gaps ++ (open' ∷ (three.gaps ++ (lit ∷ behind_old)))) (start ∷ [])
+    (two.gaps ++ (open' ∷ stated_new)) (stays_go Elsewhere InMark both (start ∷ []) refl (InMark, (λ o b. refl), refl, refl)) g2 in
+    let g0 = goes_both Elsewhere Elsewhere Elsewhere both both os one.gaps (start ∷ (two.gaps ++ (open' ∷ (three.gaps ++ (lit ∷ behind_old)))))
+    one.gaps (start ∷ (two.gaps ++ (open' ∷ stated_new))) (gaps_go Elsewhere both one.gaps refl one.are) g1 in
+    let whole : Edited (one.gaps ++
+    (start ∷ (two.gaps ++ (mark_piece m.OpenParenthesis ∷
+    (three.gaps ++ (a_token three.bytes (number literal.value literal.kind) ∷ (four.gaps ++ (mark_piece m.CloseParenthesis ∷ four.rest))))))))
     (one.gaps ++ (start ∷ (two.gaps ++ (mark_piece m.OpenParenthesis ∷ stated_new)))) = kept_front one.gaps stated.edited in
-    let old_is : one.gaps ++ (start ∷ (two.gaps ++ (mark_piece m.OpenParenthesis ∷ (three.gaps ++ (a_token three.bytes (number literal.value literal.kind) ∷ (four.gaps ++ (mark_piece m.CloseParenthesis ∷ four.rest))))))) ≡ ps =
-    (λ i. one.gaps ++ (a_token one.bytes (sym is_word i) ∷ (two.gaps ++ (sym open_piece i ∷ (three.gaps ++ (a_token three.bytes (sym literal.is i) ∷ (four.gaps ++ (sym close_piece i ∷ four.rest))))))))
+    let old_is : one.gaps ++ (start ∷
+    (two.gaps ++ (mark_piece m.OpenParenthesis ∷
+    (three.gaps ++ (a_token three.bytes (number literal.value literal.kind) ∷ (four.gaps ++ (mark_piece m.CloseParenthesis ∷ four.rest))))))) ≡ ps =
+    (λ i. one.gaps ++ (a_token one.bytes (sym is_word i) ∷
+    (two.gaps ++ (sym open_piece i ∷ (three.gaps ++ (a_token three.bytes (sym literal.is i) ∷ (four.gaps ++ (sym close_piece i ∷ four.rest))))))))
     ∙ ap (λ l. one.gaps ++ (a_token one.bytes t.0 ∷ (two.gaps ++ (a_token two.bytes u.0 ∷ (three.gaps ++ (a_token three.bytes v.0 ∷ l)))))) four.parts
     ∙ ap (λ l. one.gaps ++ (a_token one.bytes t.0 ∷ (two.gaps ++ (a_token two.bytes u.0 ∷ l)))) three.parts
     ∙ ap (λ l. one.gaps ++ (a_token one.bytes t.0 ∷ l)) two.parts
@@ -400,7 +437,10 @@ mark_by (t ∷ u ∷ v ∷ x ∷ []) rows a os ps h right le words ends spelled 
     let new_lexemes : lexemes_in new ≡ t.0 ∷ mark m.OpenParenthesis ∷ stated.lexeme ∷ mark m.CloseParenthesis ∷ lexemes_of (region_tokens regions.rows) =
     gap_lexemes one.gaps (start ∷ (two.gaps ++ (mark_piece m.OpenParenthesis ∷ stated_new))) one.are
     ∙ (λ i. sym is_word i ∷ lexemes_in (two.gaps ++ (mark_piece m.OpenParenthesis ∷ stated_new)))
-    ∙ ap (λ l. t.0 ∷ l) (gap_lexemes two.gaps (mark_piece m.OpenParenthesis ∷ stated_new) two.are ∙ ap (λ l. mark m.OpenParenthesis ∷ l) (stated.lexemes ∙ ap (λ l. stated.lexeme ∷ l) (gap_lexemes four.gaps (mark_piece m.CloseParenthesis ∷ regions.new) four.are ∙ ap (λ l. mark m.CloseParenthesis ∷ l) regions.lexemes))) in
+    ∙ ap (λ l. t.0 ∷ l) (gap_lexemes two.gaps (mark_piece m.OpenParenthesis ∷ stated_new) two.are
+    ∙ ap (λ l. mark m.OpenParenthesis ∷ l)
+    (stated.lexemes ∙ ap (λ l. stated.lexeme ∷ l)
+    (gap_lexemes four.gaps (mark_piece m.CloseParenthesis ∷ regions.new) four.are ∙ ap (λ l. mark m.CloseParenthesis ∷ l) regions.lexemes))) in
     record {
       phrase = record { head = t ∷ (mark m.OpenParenthesis, nowhere) ∷ (stated.lexeme, nowhere) ∷ (mark m.CloseParenthesis, nowhere) ∷ []; regions = regions.rows };
       right = ((h.0, (refl, (stated.fits_is, (refl, tt)))), regions.right);
@@ -415,5 +455,7 @@ mark_by (t ∷ u ∷ v ∷ x ∷ []) rows a os ps h right le words ends spelled 
       };
     }
 
-pub new_mark_of : (k : MarkPhrase) (a : MarkText) (os : List Order) (ps : List Piece) → IsMark (Some k) → a.stated ≤ 4294967295 → AreRegionWords a.regions → EndsInToken ps → AreSpelled ps → lexemes_in ps ≡ lexemes_of (mark_tokens (Some k)) → NewMarkOf (record { stated = value_at 2 k.head; regions = region_trees k.regions }) a os ps
+pub new_mark_of : (k : MarkPhrase) (a : MarkText) (os : List Order) (ps : List Piece) → IsMark (Some k) → a.stated ≤ 4294967295 →
+    AreRegionWords a.regions → EndsInToken ps → AreSpelled ps → lexemes_in ps ≡ lexemes_of (mark_tokens (Some k)) →
+    NewMarkOf (record { stated = value_at 2 k.head; regions = region_trees k.regions }) a os ps
 new_mark_of k a os ps h le words ends spelled e = mark_by k.head k.regions a os ps h.0 h.1 le words ends spelled e

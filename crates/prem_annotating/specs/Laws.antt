@@ -68,7 +68,8 @@ arguments_for p f k q = given (calls_of_all (functions_in p)) f k (promoted q.ty
 
 abbrev pub RangesAreLeast : Type 0
 RangesAreLeast =
-    (lengths : ℕ → ℕ) (p : ProgramText) → IsWellFormed p → ProgramHasWords p → (f k : ℕ) (r : ℤ × ℤ) → (gets : GetsRange lengths p f k r) → IsLeast (arguments_for (annotated lengths p) f k gets.old) (from_to r.0 r.1)
+    (lengths : ℕ → ℕ) (p : ProgramText) → IsWellFormed p → ProgramHasWords p → (f k : ℕ) (r : ℤ × ℤ) → (gets : GetsRange lengths p f k r) →
+    IsLeast (arguments_for (annotated lengths p) f k gets.old) (from_to r.0 r.1)
 
 -- ---- rules
 
@@ -130,7 +131,8 @@ NewRangesHold = (p : ProgramText) → IsWellFormed p → ProgramHasWords p → o
 -- each RANGE of the annotated program is a range of its parameter's kind: its ends are in order, and numbers of the kind
 abbrev pub RangesFit : Type 0
 RangesFit =
-    (lengths : ℕ → ℕ) (p : ProgramText) → IsWellFormed p → ProgramHasWords p → first_other p ≡ None → (f k : ℕ) (q : Parameter) (r : ℤ × ℤ) → parameter_at (annotated lengths p) f k ≡ Some q → q.range ≡ Some r →
+    (lengths : ℕ → ℕ) (p : ProgramText) → IsWellFormed p → ProgramHasWords p → first_other p ≡ None → (f k : ℕ) (q : Parameter) (r : ℤ × ℤ) →
+    parameter_at (annotated lengths p) f k ≡ Some q → q.range ≡ Some r →
     IsRange (promoted q.ty) (from_to r.0 r.1)
 
 -- a region's name is that of a global, and its elements are some of the global's

@@ -62,7 +62,8 @@ range_pieces r = blank ∷ said (word w.Range) ∷ mark_piece m.OpenParenthesis 
 -- ` REGION(g, low, high)`
 abbrev pub region_pieces : RegionText → List Piece
 region_pieces r =
-    blank ∷ said (word w.Region) ∷ mark_piece m.OpenParenthesis ∷ said (name r.name) ∷ mark_piece m.Comma ∷ blank ∷ said (number_lexeme r.low) ∷ mark_piece m.Comma ∷ blank ∷ said (number_lexeme r.high) ∷ mark_piece m.CloseParenthesis ∷ []
+    blank ∷ said (word w.Region) ∷ mark_piece m.OpenParenthesis ∷ said (name r.name) ∷ mark_piece m.Comma ∷ blank ∷ said (number_lexeme r.low)
+    ∷ mark_piece m.Comma ∷ blank ∷ said (number_lexeme r.high) ∷ mark_piece m.CloseParenthesis ∷ []
 
 abbrev pub regions_pieces : List RegionText → List Piece
 regions_pieces [] = []
@@ -109,7 +110,8 @@ AreGaps (a_token bytes t ∷ ps) = ⊥
 -- a literal behind a `(` and gaps in place of another one: all other pieces stay
 abbrev pub LengthMayBePut : Type 0
 LengthMayBePut =
-    (front gaps back : List Piece) (bytes : List ℕ) (old : ℕ) (kind : Kind) (n : ℕ) → n ≤ 4294967295 → AreGaps gaps → AreDivided (front ++ (mark_piece m.OpenParenthesis ∷ (gaps ++ (a_token bytes (number old kind) ∷ back)))) →
+    (front gaps back : List Piece) (bytes : List ℕ) (old : ℕ) (kind : Kind) (n : ℕ) → n ≤ 4294967295 → AreGaps gaps →
+    AreDivided (front ++ (mark_piece m.OpenParenthesis ∷ (gaps ++ (a_token bytes (number old kind) ∷ back)))) →
     AreDivided (front ++ (mark_piece m.OpenParenthesis ∷ (gaps ++ (said (number_lexeme n) ∷ back))))
 
 -- ---- a text with edits
@@ -130,9 +132,12 @@ pub record AreOtherRegions (old : List Piece) (rs : List RegionText) : Type 0 wh
 pub data Edited : List Piece → List Piece → Type 0 where
   all_edited : Edited [] []
   kept_piece : (p : Piece) {ps qs : List Piece} → Edited ps qs → Edited (p ∷ ps) (p ∷ qs)
-  with_range : (bytes : List ℕ) (t : Lexeme) (r : ℤ × ℤ) {ps qs : List Piece} → IsConstant r.0 → IsConstant r.1 → Edited ps qs → Edited (a_token bytes t ∷ ps) (a_token bytes t ∷ (range_pieces r ++ qs))
-  with_regions : (old : List Piece) (rs : List RegionText) {ps qs : List Piece} → AreOtherRegions old rs → AreRegionWords rs → Edited ps qs → Edited (mark_piece m.CloseParenthesis ∷ (old ++ ps)) (mark_piece m.CloseParenthesis ∷ (regions_pieces rs ++ qs))
-  with_length : (head : List ℕ) (before gaps : List Piece) (bytes : List ℕ) (old : ℕ) (kind : Kind) (n : ℕ) {ps qs : List Piece} → (old ≡ n → ⊥) → n ≤ 4294967295 → AreGaps before → AreGaps gaps → Edited ps qs →
+  with_range : (bytes : List ℕ) (t : Lexeme) (r : ℤ × ℤ) {ps qs : List Piece} → IsConstant r.0 → IsConstant r.1 → Edited ps qs →
+      Edited (a_token bytes t ∷ ps) (a_token bytes t ∷ (range_pieces r ++ qs))
+  with_regions : (old : List Piece) (rs : List RegionText) {ps qs : List Piece} → AreOtherRegions old rs → AreRegionWords rs → Edited ps qs →
+      Edited (mark_piece m.CloseParenthesis ∷ (old ++ ps)) (mark_piece m.CloseParenthesis ∷ (regions_pieces rs ++ qs))
+  with_length : (head : List ℕ) (before gaps : List Piece) (bytes : List ℕ) (old : ℕ) (kind : Kind) (n : ℕ) {ps qs : List Piece} → (old ≡ n → ⊥) →
+      n ≤ 4294967295 → AreGaps before → AreGaps gaps → Edited ps qs →
       Edited (a_token head (word w.Predictable) ∷ (before ++ (mark_piece m.OpenParenthesis ∷ (gaps ++ (a_token bytes (number old kind) ∷ ps)))))
       (a_token head (word w.Predictable) ∷ (before ++ (mark_piece m.OpenParenthesis ∷ (gaps ++ (said (number_lexeme n) ∷ qs)))))
 

@@ -10,7 +10,8 @@ use Rattle.prem_answer.specs.declared.answer.Telling.TheVariants.{Whole, Brief}
 use Rattle.prem_answer.specs.declared.answer.Answer.{Answer}
 use Rattle.prem_answer.specs.declared.answer.Halt.{Halt}
 use Rattle.prem_answer.specs.declared.answer.Halt.TheVariants.{Answered, ReadFault as HaltReadFault, OutOfMemory as HaltOutOfMemory}
-use Rattle.prem_answer.specs.Stages.{Reply, reply_of, Comes, Reads, is_settled, IsFine, Stage, AreReads, IsReadBy, IsGiven, IsReadAs, IsReadAsBy, IsRead, within_by, form_by, reading, reading_by, and_then, later_reads}
+use Rattle.prem_answer.specs.Stages.{Reply, reply_of, Comes, Reads, is_settled, IsFine, Stage, AreReads, IsReadBy, IsGiven, IsReadAs, IsReadAsBy, IsRead, within_by, form_by}
+use Rattle.prem_answer.specs.Stages.{reading, reading_by, and_then, later_reads}
 
 pub short_file : (how : Telling) (limit : ℕ) (name bytes : List ℕ) → length bytes ≤ limit → within_by how limit name (Some bytes) ≡ Ok bytes
 short_file how limit name bytes short = ap (λ b. if b then Ok bytes else Err (form_by how name (codes "too-long"))) (le-leb (length bytes) limit short)

@@ -31,7 +31,8 @@ module _ (tool : ToolMeaning) (is_tool : IsTool tool) where
   asked_fine None reads = refl
   asked_fine (Some asked) reads = is_tool.settled asked reads
 
-  asked_kept : (words : Words) (asked : Option tool.Asked) → tool.asked_of words ≡ asked → (reads : Reads) → WordsKeep tool.keeps asked reads (replied (asked_stages tool.usage tool.stages asked reads))
+  asked_kept : (words : Words) (asked : Option tool.Asked) → tool.asked_of words ≡ asked → (reads : Reads) →
+      WordsKeep tool.keeps asked reads (replied (asked_stages tool.usage tool.stages asked reads))
   asked_kept words None is reads = tt
   asked_kept words (Some asked) is reads = is_tool.kept words asked is reads
 

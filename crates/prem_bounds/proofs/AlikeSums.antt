@@ -186,7 +186,8 @@ Same a b = clipped_sums a ≡ clipped_sums b
 module _ (w : Instr → ℕ) (calls : ℕ → Sums) where
   pub either_told : (test : Test) (taken other : Pieces) (r sides a b first second skip jump branch : Sums) →
       Same r (chained branch sides) → branch ≡ taking (w (branch_of test)) → sides ≡ among a b → Same a (chained first skip) → skip ≡ taking (skip_words other * jump_weight w) →
-      Same b (chained jump second) → jump ≡ taking (jump_weight w) → Same first (summed w calls taken) → Same second (summed w calls other) → Same r (summed w calls (either test taken other no_pieces))
+      Same b (chained jump second) → jump ≡ taking (jump_weight w) → Same first (summed w calls taken) → Same second (summed w calls other) →
+      Same r (summed w calls (either test taken other no_pieces))
   either_told test taken other r sides a b first second skip jump branch er eb es ea ek ec ej ef eg =
       let x : Sums = chained (summed w calls taken) (taking (skip_words other * jump_weight w)) in
       let y : Sums = chained (taking (jump_weight w)) (summed w calls other) in
@@ -198,7 +199,8 @@ module _ (w : Instr → ℕ) (calls : ℕ → Sums) where
       ∙ ap clipped_sums (sym (chained_none (among x y))))
 
   pub repeat_told : (turns : ℕ) (head : Pieces) (test : Test) (body : Pieces) (r turn inside back start inner branch jump out last : Sums) (way : ℕ) →
-      Same r (turned turns turn out) → Same turn (chained start inside) → Same inside (chained branch back) → branch ≡ taking (w (branch_of test)) → Same back (chained inner jump) → jump ≡ taking (jump_weight w) →
+      Same r (turned turns turn out) → Same turn (chained start inside) → Same inside (chained branch back) → branch ≡ taking (w (branch_of test)) →
+      Same back (chained inner jump) → jump ≡ taking (jump_weight w) →
       Same out (chained start last) → last ≡ taking way → way ≡ clipped (w (branch_of test) + jump_weight w) → Same start (summed w calls head) → Same inner (summed w calls body) →
       Same r (summed w calls (repeat turns head test body no_pieces))
   repeat_told turns head test body r turn inside back start inner branch jump out last way er et ei eb ek ej eo el ew es en =
@@ -228,7 +230,8 @@ module _ (w : Instr → ℕ) (calls : ℕ → Sums) where
       er ∙ ap (λ s. clipped_sums (chained s called)) ej ∙ ap (λ s. clipped_sums (chained (taking (jump_weight w)) s)) (ec ∙ sym (chained_none (calls part)))
 
   -- the start of a task
-  start_told : (job : ℕ) (r call last : Sums) (way : ℕ) → Same r (chained call last) → Same call (summed w calls (call_to 0 (code_part job) no_pieces)) → last ≡ taking way → way ≡ w PmDone → Same r (summed w calls (start_code job))
+  start_told : (job : ℕ) (r call last : Sums) (way : ℕ) → Same r (chained call last) →
+      Same call (summed w calls (call_to 0 (code_part job) no_pieces)) → last ≡ taking way → way ≡ w PmDone → Same r (summed w calls (start_code job))
   start_told job r call last way er ec el ew =
       let j : Sums = taking (jump_weight w) in
       let c : Sums = calls (code_part job) in

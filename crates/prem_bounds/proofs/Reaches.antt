@@ -1,6 +1,7 @@
 -- From arrays of sums to those of a task.
 use Rattle.std.specs.Prelude.{nat_lt}
-use Rattle.std.proofs.Common.{◌≡◌, ℕ, zero, suc, ◌+◌, ◌*◌, ◌<◌, ◌≤◌, List, [], ◌∷◌, ◌++◌, refl, ap, ◌∙◌, sym, subst, arith, cond, Bool, true, false, ⊎_elim, length, length-append, take, get_or, set, replicate, slice_set, max}
+use Rattle.std.proofs.Common.{◌≡◌, ℕ, zero, suc, ◌+◌, ◌*◌, ◌<◌, ◌≤◌, List, [], ◌∷◌, ◌++◌, refl, ap, ◌∙◌, sym, subst, arith, cond, Bool, true, false, ⊎_elim, length, length-append}
+use Rattle.std.proofs.Common.{take, get_or, set, replicate, slice_set, max}
 use Rattle.std.proofs.lemmas.Bool.{cases_eq, ltb-true, ltb-false}
 use Rattle.std.proofs.lemmas.List.{length-set, length-replicate, length-take, take_more, take_all}
 use Rattle.prem_list.specs.declared.Sequence.{Sequence}
@@ -56,12 +57,14 @@ in_replicate (suc count) x e (suc k) = in_replicate count x e k
 pub none_told : (count : ℕ) (x : SumsInMemory) → sums_of x ≡ taking 0 → TellsSums count (replicate count x) (λ k. taking 0)
 none_told count x e = record { long = length-replicate {A = SumsInMemory} count x; each = λ k. ap clipped_sums (in_replicate count x e k) }
 
-set_tells : (count n : ℕ) (value : SumsInMemory) (array : List SumsInMemory) (old new : ℕ → Sums) → n < count → TellsSums count array old → AreTold value (new n) → ((k : ℕ) → (k ≡ n → ⊥) → old k ≡ new k) →
+set_tells : (count n : ℕ) (value : SumsInMemory) (array : List SumsInMemory) (old new : ℕ → Sums) → n < count → TellsSums count array old →
+    AreTold value (new n) → ((k : ℕ) → (k ≡ n → ⊥) → old k ≡ new k) →
     TellsSums count (slice_set array n value) new
 set_tells count n value array old new lt t e same = record {
   long = length-set array n value ∙ t.long;
   each = λ k. ⊎_elim
-      (λ (is : k ≡ n). ap (λ j. clipped_sums (sums_in (set array n value) j)) is ∙ ap clipped_sums (in_set_same array n value (omega (arith, t.long, lt))) ∙ e ∙ ap (λ j. clipped_sums (new j)) (sym is))
+      (λ (is : k ≡ n). ap (λ j. clipped_sums (sums_in (set array n value) j)) is
+      ∙ ap clipped_sums (in_set_same array n value (omega (arith, t.long, lt))) ∙ e ∙ ap (λ j. clipped_sums (new j)) (sym is))
       (λ (other : k ≡ n → ⊥). ap clipped_sums (in_set_other array n k value other) ∙ t.each k ∙ ap clipped_sums (same k other))
       (cases_eq k n);
 }
@@ -123,7 +126,8 @@ marked_none p [] k le = refl
 marked_none p (plan ∷ plans) zero le = absurd (omega (arith, le))
 marked_none p (plan ∷ plans) (suc k) le = marked_none p plans k (omega (arith, le))
 
-pub stubs_are : (p : Plant) (plans : List Plan) (stubs : ℕ) (marked : SumsInMemory) → stubs ≡ length plans → sums_of marked ≡ marked_sums_of p → (k : ℕ) → stub_sums stubs marked k ≡ marked_sums p plans k
+pub stubs_are : (p : Plant) (plans : List Plan) (stubs : ℕ) (marked : SumsInMemory) → stubs ≡ length plans → sums_of marked ≡ marked_sums_of p →
+    (k : ℕ) → stub_sums stubs marked k ≡ marked_sums p plans k
 stubs_are p plans stubs marked count e k = by (nat_lt k stubs) refl where
   by : (b : Bool) → nat_lt k stubs ≡ b → cond b (sums_of marked) (taking 0) ≡ marked_sums p plans k
   by true is = e ∙ sym (marked_there p plans k (let lt : k < stubs = ltb-true k stubs is in omega (arith, lt, count)))
@@ -135,9 +139,11 @@ abbrev pub job_known : Plant → List Plan → List Pieces → ℕ → ℕ → L
 job_known p plans code functions n = known_sums (job_weight p) functions (marked_sums p plans) code n
 
 -- instructions weigh what they weigh in jobs, and so do parts
-known_alike : (p : Plant) (plans : List Plan) (access other count stubs : ℕ) (functions : List SumsInMemory) (marked : SumsInMemory) (known : ℕ → Sums) (ps : Pieces) → access ≡ 2 * line_cost p → other ≡ line_cost p → stubs ≡ length plans → sums_of marked ≡ marked_sums_of p →
+known_alike : (p : Plant) (plans : List Plan) (access other count stubs : ℕ) (functions : List SumsInMemory) (marked : SumsInMemory)
+    (known : ℕ → Sums) (ps : Pieces) → access ≡ 2 * line_cost p → other ≡ line_cost p → stubs ≡ length plans → sums_of marked ≡ marked_sums_of p →
     TellsSums 256 functions known →
-    clipped_sums (summed (with_misses access other) (part_sums count (sums_in functions) (stub_sums stubs marked)) ps) ≡ clipped_sums (summed (job_weight p) (part_sums count known (marked_sums p plans)) ps)
+    clipped_sums (summed (with_misses access other) (part_sums count (sums_in functions) (stub_sums stubs marked)) ps)
+    ≡ clipped_sums (summed (job_weight p) (part_sums count known (marked_sums p plans)) ps)
 known_alike p plans access other count stubs functions marked known ps ea eo es em t =
     let c : ℕ → Sums = part_sums count (sums_in functions) (stub_sums stubs marked) in
     ap (λ m. clipped_sums (summed (with_misses m other) c ps)) ea
@@ -146,7 +152,8 @@ known_alike p plans access other count stubs functions marked known ps ea eo es 
     ∙ summed_alike (job_weight p) c (part_sums count known (marked_sums p plans))
     (part_alike count (sums_in functions) known (stub_sums stubs marked) (marked_sums p plans) t.each (λ k. ap clipped_sums (stubs_are p plans stubs marked es em k))) ps
 
-pub job_step : (p : Plant) (plans : List Plan) (code : List Pieces) (access other count stubs n : ℕ) (functions : List SumsInMemory) (marked value : SumsInMemory) (ps : Pieces) → access ≡ 2 * line_cost p → other ≡ line_cost p → stubs ≡ length plans → sums_of marked ≡ marked_sums_of p →
+pub job_step : (p : Plant) (plans : List Plan) (code : List Pieces) (access other count stubs n : ℕ) (functions : List SumsInMemory)
+    (marked value : SumsInMemory) (ps : Pieces) → access ≡ 2 * line_cost p → other ≡ line_cost p → stubs ≡ length plans → sums_of marked ≡ marked_sums_of p →
     n < length code → n < 256 → TellsSums 256 functions (sums_at (job_known p plans code count n)) →
     AreTold value (summed (with_misses access other) (part_sums count (sums_in functions) (stub_sums stubs marked)) ps) → get_or code n no_pieces ≡ ps →
     TellsSums 256 (slice_set functions n value) (sums_at (job_known p plans code count (n + 1)))
@@ -175,7 +182,8 @@ pub record IsReach (p : Plant) (plans : List Plan) (t : CodeTable) (r : Reach) :
   pub marked : sums_of r.marked ≡ marked_sums_of p
   pub functions : TellsSums 256 r.functions (sums_at (job_sums p plans t))
 
-pub longest_told : (p : Plant) (plans : List Plan) (t : CodeTable) (r : Reach) (start : SumsInMemory) (stretch stated longest : ℕ) → IsReach p plans t r → AreTold start (summed (step_weight r) (sums_by r) (start_code t.job)) →
+pub longest_told : (p : Plant) (plans : List Plan) (t : CodeTable) (r : Reach) (start : SumsInMemory) (stretch stated longest : ℕ) →
+    IsReach p plans t r → AreTold start (summed (step_weight r) (sums_by r) (start_code t.job)) →
     stretch ≡ greatest (sums_of start) → stated ≡ greatest_stated plans → longest ≡ clipped (p.switch + max stretch stated) → clipped longest ≡ clipped (longest_of p plans t)
 longest_told p plans t r start stretch stated longest h e es et el =
     let known : ℕ → Sums = sums_at (job_sums p plans t) in

@@ -54,7 +54,8 @@ plan_above : (p : Resolved) (n : ℕ) (fs : List Routine) (k : ℕ) (plan : Plan
 plan_above p n [] k plan e = absurd cc
 plan_above p n (f ∷ fs) k plan e = by f.text.mark k e (λ j h. plan_above p (n + 1) fs j plan h)
   where
-    by : (mark : Option MarkText) (k : ℕ) → slice_get (plan_before p n mark (plans_from p (n + 1) fs)) k ≡ Some plan → ((j : ℕ) → slice_get (plans_from p (n + 1) fs) j ≡ Some plan → n + 1 ≤ plan.function) → n ≤ plan.function
+    by : (mark : Option MarkText) (k : ℕ) → slice_get (plan_before p n mark (plans_from p (n + 1) fs)) k ≡ Some plan →
+        ((j : ℕ) → slice_get (plans_from p (n + 1) fs) j ≡ Some plan → n + 1 ≤ plan.function) → n ≤ plan.function
     by None k e more = let le = more k e in omega (arith, le)
     by (Some mark) zero e more = let same : plan_of p n mark ≡ plan = cc in let here : n ≡ plan.function = ap (λ (q : Plan). q.function) same in omega (arith, here)
     by (Some mark) (suc j) e more = let le = more j e in omega (arith, le)

@@ -37,12 +37,19 @@ record IsUnder (n : ℕ) (s : Sums) : Type 0 where
   behind : IsLess s.behind (Some n)
 
 greatest_under : (n : ℕ) (s : Sums) → IsUnder n s → greatest s ≤ n
-greatest_under n s h = all (or_none s.whole) (or_none s.before) (or_none s.between) (or_none s.behind) (none_under s.whole n h.whole) (none_under s.before n h.before) (none_under s.between n h.between) (none_under s.behind n h.behind) where
-  all : (w x y z : ℕ) → w ≤ n → x ≤ n → y ≤ n → z ≤ n → max (max w x) (max y z) ≤ n
-  all w x y z h k l m = omega (arith, h, k, l, m)
+greatest_under n s h = all (or_none s.whole) (or_none s.before) (or_none s.between) (or_none s.behind) (none_under s.whole n h.whole)
+    (none_under s.before n h.before) (none_under s.between n h.between) (none_under s.behind n h.behind) where
+      all : (w x y z : ℕ) → w ≤ n → x ≤ n → y ≤ n → z ≤ n → max (max w x) (max y z) ≤ n
+      all w x y z h k l m = omega (arith, h, k, l, m)
 
 sums_more : (a b : ℕ) (s : Sums) → a ≤ b → IsUnder a s → IsUnder b s
-sums_more a b s le h = record { whole = more_under s.whole a b le h.whole; before = more_under s.before a b le h.before; between = more_under s.between a b le h.between; behind = more_under s.behind a b le h.behind }
+sums_more a b s le h = record {
+  whole = more_under s.whole a b le h.whole;
+  before = more_under s.before a b le h.before;
+  between =
+      more_under s.between a b le h.between;
+  behind = more_under s.behind a b le h.behind;
+}
 
 taking_under : (n : ℕ) → IsUnder n (taking n)
 taking_under n = let same : n ≤ n = omega arith in record { whole = same; before = tt; between = tt; behind = tt }
@@ -61,7 +68,12 @@ chained_under a b s t h k =
     }
 
 among_under : (n : ℕ) (s t : Sums) → IsUnder n s → IsUnder n t → IsUnder n (among s t)
-among_under n s t h k = record { whole = most_under s.whole t.whole n h.whole k.whole; before = most_under s.before t.before n h.before k.before; between = most_under s.between t.between n h.between k.between; behind = most_under s.behind t.behind n h.behind k.behind }
+among_under n s t h k = record {
+  whole = most_under s.whole t.whole n h.whole k.whole;
+  before = most_under s.before t.before n h.before k.before;
+  between = most_under s.between t.between n h.between k.between;
+  behind = most_under s.behind t.behind n h.behind k.behind;
+}
 
 turned_under : (turns a b : ℕ) (s t : Sums) → IsUnder a s → IsUnder b t → IsUnder (turns * a + b) (turned turns s t)
 unfolding turned
@@ -77,7 +89,9 @@ module _ (w : Instr → ℕ) (weights : ℕ → ℕ) (sums : ℕ → Sums) (know
   pieces_under : (ps : Pieces) → IsUnder (weighted w weights ps) (summed w sums ps)
   pieces_under no_pieces = taking_under 0
   pieces_under (straight code rest) = chained_under (weight w code) (weighted w weights rest) (taking (weight w code)) (summed w sums rest) (taking_under (weight w code)) (pieces_under rest)
-  pieces_under (address_of rd part more rest) = chained_under (address_weight w) (weighted w weights rest) (taking (address_weight w)) (summed w sums rest) (taking_under (address_weight w)) (pieces_under rest)
+  pieces_under (address_of rd part more rest) =
+      chained_under (address_weight w) (weighted w weights rest) (taking (address_weight w)) (summed w sums rest) (taking_under (address_weight w))
+      (pieces_under rest)
   pieces_under (either test taken other rest) =
       let skip : ℕ = skip_words other * jump_weight w in
       let jump : ℕ = jump_weight w in
@@ -141,7 +155,8 @@ last_under [] (t ∷ ss) n s h k = absurd h
 last_under (m ∷ ns) [] n s h k = absurd h
 last_under (m ∷ ns) (t ∷ ss) n s h k = (h.0, last_under ns ss n s h.1 k)
 
-part_under : (functions : ℕ) (code stubs : ℕ → ℕ) (code' stubs' : ℕ → Sums) → ((n : ℕ) → IsUnder (code n) (code' n)) → ((n : ℕ) → IsUnder (stubs n) (stubs' n)) → (part : ℕ) → IsUnder (part_weight functions code stubs part) (part_sums functions code' stubs' part)
+part_under : (functions : ℕ) (code stubs : ℕ → ℕ) (code' stubs' : ℕ → Sums) → ((n : ℕ) → IsUnder (code n) (code' n)) →
+    ((n : ℕ) → IsUnder (stubs n) (stubs' n)) → (part : ℕ) → IsUnder (part_weight functions code stubs part) (part_sums functions code' stubs' part)
 part_under functions code stubs code' stubs' h k zero = taking_under 0
 part_under functions code stubs code' stubs' h k (suc n) = by (nat_lt n functions) where
   by : (b : Bool) → IsUnder (cond b (code n) (stubs (n - functions))) (cond b (code' n) (stubs' (n - functions)))
@@ -153,7 +168,8 @@ behind_under : (w : Instr → ℕ) (functions : ℕ) (stubs : ℕ → ℕ) (stub
 behind_under w functions stubs stubs' k [] ns ss h = h
 behind_under w functions stubs stubs' k (ps ∷ rest) ns ss h =
     behind_under w functions stubs stubs' k rest _ _
-    (last_under ns ss _ _ h (pieces_under w (part_weight functions (weight_at ns) stubs) (part_sums functions (sums_at ss) stubs') (part_under functions (weight_at ns) stubs (sums_at ss) stubs' (one_under ns ss h) k) ps))
+    (last_under ns ss _ _ h (pieces_under w (part_weight functions (weight_at ns) stubs) (part_sums functions (sums_at ss) stubs')
+    (part_under functions (weight_at ns) stubs (sums_at ss) stubs' (one_under ns ss h) k) ps))
 
 marked_under : (p : Plant) (plans : List Plan) (k : ℕ) → IsUnder (marked_weights p plans k) (marked_sums p plans k)
 marked_under p [] k = taking_under 0

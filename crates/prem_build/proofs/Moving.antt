@@ -38,7 +38,8 @@ refused_text text = (Refused, text)
 -- ---- places
 
 -- as sizes, wants and plant are lent
-module _ (set : TaskSet) (parts : Parts) (h : HasParts set parts) (sizes : List PartSize) (wants : List WantInMemory) (p : Plant) (es : sizes ≡ items_of parts.sizes) (ew : wants ≡ items_of parts.wants) (ep : p ≡ set.plant) where
+module _ (set : TaskSet) (parts : Parts) (h : HasParts set parts) (sizes : List PartSize) (wants : List WantInMemory) (p : Plant)
+    (es : sizes ≡ items_of parts.sizes) (ew : wants ≡ items_of parts.wants) (ep : p ≡ set.plant) where
   sizes_are : sizes ≡ parts_in set
   sizes_are = es ∙ h.parts.sizes
 
@@ -86,11 +87,14 @@ module _ (set : TaskSet) (parts : Parts) (h : HasParts set parts) (sizes : List 
   pub stuck_is : (n : ℕ) (tasks : List TaskText) (reply : Reply) → moved_places p (ranges_in wants) sizes ≡ Err n → tasks ≡ set.tasks →
       reply ≡ stuck_told tasks n → reply ≡ moved_reply set (found_places set)
   stuck_is n tasks reply e same told =
-      told ∙ ap (λ (ts : List TaskText). stuck_told ts n) same ∙ ap (λ (ps : List PartSize). refused_text (stuck_line set.tasks (slice_index_or ps n no_part) (slice_index_or (map name_bytes (items_of parts.names)) n []))) h.parts.sizes
+      told ∙ ap (λ (ts : List TaskText). stuck_told ts n) same
+      ∙ ap (λ (ps : List PartSize). refused_text
+      (stuck_line set.tasks (slice_index_or ps n no_part) (slice_index_or (map name_bytes (items_of parts.names)) n []))) h.parts.sizes
       ∙ ap (λ (ns : List (List ℕ)). refused_text (stuck_line set.tasks (slice_index_or (parts_in set) n no_part) (slice_index_or ns n []))) h.parts.names
       ∙ ap (moved_reply set) (sym e ∙ found_is)
 
-  pub full_is : (need have : ℕ) (tasks : List TaskText) (reply : Reply) → IsFull p.memory need have (moved_places p (ranges_in wants) sizes) → tasks ≡ set.tasks → reply ≡ refused_reply tasks (memory_refusal need have) →
+  pub full_is : (need have : ℕ) (tasks : List TaskText) (reply : Reply) → IsFull p.memory need have (moved_places p (ranges_in wants) sizes) →
+      tasks ≡ set.tasks → reply ≡ refused_reply tasks (memory_refusal need have) →
       reply ≡ moved_reply set (found_places set)
   full_is need have tasks reply full same told = by (moved_places p (ranges_in wants) sizes) refl full
     where

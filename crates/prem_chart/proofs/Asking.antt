@@ -41,7 +41,8 @@ promised_some set (d ∷ ds) h = refl
 
 -- ---- the distances are such as words tell
 
-chart_ranges : (every : List Text) (chart : Option ChartAsked) (o : Option (List Distance)) (asked : Asked) → distances_behind every [] ≡ o → with_chart chart o ≡ Some asked → AreDistances asked.distances
+chart_ranges : (every : List Text) (chart : Option ChartAsked) (o : Option (List Distance)) (asked : Asked) → distances_behind every [] ≡ o →
+    with_chart chart o ≡ Some asked → AreDistances asked.distances
 chart_ranges every None o asked is e = absurd cc
 chart_ranges every (Some chart) None asked is e = absurd cc
 chart_ranges every (Some chart) (Some ds) asked is e = let same : ds ≡ asked.distances = cc in subst (λ (xs : List Distance). AreDistances xs) same (behind_are every [] ds tt is)

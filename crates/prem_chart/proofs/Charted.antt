@@ -21,8 +21,10 @@ use Rattle.prem_chart.specs.Notes.{notes_of}
 use Rattle.prem_chart.specs.Answer.{image_chart, state_chart, view_of}
 
 -- the picture of what a machine says of itself is that of its run
-pub picture_is : (asked : ChartAsked) (i : ImageText) (input : RunText) (promises : List Promise) (limit : ℕ) (s : MachineState) (v : View) (tasks : List TaskRecord) (devices : List DeviceRecord) (r : Report)
-    (cycles : ℕ) (stop : Stop) (notes : List Note) (requests : List Request) → v ≡ view_of asked.from_cycle asked.to_cycle cycles → tasks ≡ i.tasks → devices ≡ i.devices → r ≡ report_of s → cycles ≡ s.now →
+pub picture_is : (asked : ChartAsked) (i : ImageText) (input : RunText) (promises : List Promise) (limit : ℕ) (s : MachineState) (v : View)
+    (tasks : List TaskRecord) (devices : List DeviceRecord) (r : Report)
+    (cycles : ℕ) (stop : Stop) (notes : List Note) (requests : List Request) → v ≡ view_of asked.from_cycle asked.to_cycle cycles → tasks ≡ i.tasks →
+    devices ≡ i.devices → r ≡ report_of s → cycles ≡ s.now →
     stop ≡ stop_at limit s → notes ≡ notes_of (rule_of i.plant.policy) (image_setup i) input.requests limit (state_at i input 0) → requests ≡ input.requests → s ≡ state_at i input limit →
     chart_text v asked.set tasks devices r cycles stop notes requests promises ≡ image_chart asked i input promises limit
 picture_is asked i input promises limit s v tasks devices r cycles stop notes requests view same_tasks same_devices told at stopped noted came state =

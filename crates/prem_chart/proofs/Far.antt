@@ -39,7 +39,8 @@ one_behind every last r rs far h = record {
 are_behind : (every j last : ℕ) (rs : List Request) → are_far (Some every) j (Some last) rs ≡ true → AreBehind every last (asked_of j rs)
 are_behind every j last [] e = record { later = tt; distant = tt }
 are_behind every j last (r ∷ rs) e = by (r.device == j) (are_behind every j r.cycle rs) (are_behind every j last rs) e where
-  by : (b : Bool) → (are_far (Some every) j (Some r.cycle) rs ≡ true → AreBehind every r.cycle (asked_of j rs)) → (are_far (Some every) j (Some last) rs ≡ true → AreBehind every last (asked_of j rs)) →
+  by : (b : Bool) → (are_far (Some every) j (Some r.cycle) rs ≡ true → AreBehind every r.cycle (asked_of j rs)) →
+      (are_far (Some every) j (Some last) rs ≡ true → AreBehind every last (asked_of j rs)) →
       cond b (leb (last + every) r.cycle && are_far (Some every) j (Some r.cycle) rs) (are_far (Some every) j (Some last) rs) ≡ true → AreBehind every last (cond b (r ∷ asked_of j rs) (asked_of j rs))
   by true here skip h =
       let two = both_true (leb (last + every) r.cycle) (are_far (Some every) j (Some r.cycle) rs) h in
@@ -59,7 +60,8 @@ are_distant every j (r ∷ rs) e = by (r.device == j) (are_distant every j rs) e
 none_asked : (j : ℕ) (last : Option ℕ) (rs : List Request) → are_far None j last rs ≡ true → asked_of j rs ≡ []
 none_asked j last [] e = refl
 none_asked j last (r ∷ rs) e = by (r.device == j) (none_asked j last rs) e where
-  by : (b : Bool) → (are_far None j last rs ≡ true → asked_of j rs ≡ []) → cond b (false && are_far None j (Some r.cycle) rs) (are_far None j last rs) ≡ true → cond b (r ∷ asked_of j rs) (asked_of j rs) ≡ []
+  by : (b : Bool) → (are_far None j last rs ≡ true → asked_of j rs ≡ []) →
+      cond b (false && are_far None j (Some r.cycle) rs) (are_far None j last rs) ≡ true → cond b (r ∷ asked_of j rs) (asked_of j rs) ≡ []
   by true skip h = absurd cc
   by false skip h = skip h
 
@@ -73,7 +75,8 @@ none_strays : (ds : List Distance) (k : ℕ) (devices : List Device) (rs : List 
     are_far (every_of ds x.name) (k + i) None rs ≡ true
 none_strays ds k [] rs e i x at = absurd cc
 none_strays ds k (y ∷ ys) rs e i x at = by (are_far (every_of ds y.name) k None rs) refl (none_strays ds (k + 1) ys rs) e i at where
-  by : (b : Bool) → are_far (every_of ds y.name) k None rs ≡ b → (stray_from ds (k + 1) ys rs ≡ None → (i : ℕ) (x : Device) → slice_get ys i ≡ Some x → are_far (every_of ds x.name) (k + 1 + i) None rs ≡ true) →
+  by : (b : Bool) → are_far (every_of ds y.name) k None rs ≡ b →
+      (stray_from ds (k + 1) ys rs ≡ None → (i : ℕ) (x : Device) → slice_get ys i ≡ Some x → are_far (every_of ds x.name) (k + 1 + i) None rs ≡ true) →
       cond b (stray_from ds (k + 1) ys rs) (Some y.name) ≡ None → (i : ℕ) → slice_get (y ∷ ys) i ≡ Some x → are_far (every_of ds x.name) (k + i) None rs ≡ true
   by true far more h zero there =
       let same : y ≡ x = cc in
@@ -102,7 +105,8 @@ none_behind n j (r ∷ rs) h le = by (r.device == j) refl (none_behind n j rs h.
   by true e rest = let less : r.device < n = h.0 in absurd (grind (arith, nat_tests))
   by false e rest = rest
 
-pub each_keeps : (ds : List Distance) (devices : List Device) (n : ℕ) (rs : List Request) → stray_from ds 0 devices rs ≡ None → AllByRecursion (λ (r : Request). r.device < n) rs → n ≤ length devices → (j : ℕ) →
+pub each_keeps : (ds : List Distance) (devices : List Device) (n : ℕ) (rs : List Request) → stray_from ds 0 devices rs ≡ None →
+    AllByRecursion (λ (r : Request). r.device < n) rs → n ≤ length devices → (j : ℕ) →
     KeepsDistance (distance_at (distances_of ds devices) j) (asked_of j rs)
 each_keeps ds devices n rs e within le j = by (slice_get devices j) refl where
   by : (o : Option Device) → slice_get devices j ≡ o → KeepsDistance (distance_at (distances_of ds devices) j) (asked_of j rs)

@@ -26,12 +26,19 @@ use Rattle.prem_chart.specs.declared.note.Note.TheVariants.{Phase, Rest, Miss}
 use Rattle.prem_chart.specs.Pieces.{Piece, words, number, text_of, escaped}
 use Rattle.prem_chart.specs.Xml.{Name, Reading, Before, Content, Value, After, read, IsWellFormed}
 use Rattle.prem_chart.specs.Axis.{grid_pieces, grid_text, tick_pieces, tick_text, tick_shown, multiples_before, tick_step, ticks_text, axis_pieces, axis_name, axis_text}
-use Rattle.prem_chart.specs.Head.{size_pieces, size_text, style_text, paper_pieces, paper_text, title_text, keys_text, key_pieces, key_text, key_name_pieces, key_name, device_key, time_pieces, time_text, cache_pieces, cache_text, phase_pieces, phase_text, bus_pieces, bus_text}
-use Rattle.prem_chart.specs.Bars.{Shape, shape_text, owner_text, look_class, wide_class, rect_pieces, rect_end, bar_start, bar_text, cycle_pieces, cycle_told, shape_end, number_pieces, number_text, number_shown, shows_number, span_pieces}
+use Rattle.prem_chart.specs.Head.{size_pieces, size_text, style_text, paper_pieces, paper_text, title_text, keys_text, key_pieces, key_text, key_name_pieces, key_name, device_key}
+use Rattle.prem_chart.specs.Head.{time_pieces, time_text, cache_pieces, cache_text, phase_pieces, phase_text, bus_pieces, bus_text}
+use Rattle.prem_chart.specs.Bars.{Shape, shape_text, owner_text, look_class, wide_class, rect_pieces, rect_end, bar_start, bar_text, cycle_pieces, cycle_told, shape_end}
+use Rattle.prem_chart.specs.Bars.{number_pieces, number_text, number_shown, shows_number, span_pieces}
 use Rattle.prem_chart.specs.Shapes.{interval_shape, interval_shapes, interval_told, has_interval, transfer_shape, transfer_shapes, transfer_told, transfer_pieces, has_transfer}
-use Rattle.prem_chart.specs.Phases.{shape_shown, phase_shape, phase_shown, idle_shape, idle_shown, open_shape, open_shown, window_text, windows_text, miss_pieces, miss_path, miss_told, miss_mark, open_told, phase_told, idle_told, miss_text, misses_text, window_cycles, idle_first, idle_cycles}
-use Rattle.prem_chart.specs.Rows.{each_text, base_pieces, base_text, jobs_pieces, jobs_told, name_pieces, name_start, every_pieces, every_text, task_label, plain_pieces, plain_end, plain_label, idle_label, bus_label, labels_text, later_pieces, later_release, release_told, arrow_pieces, arrow_path, arrow_text, is_marked, release_shown, deadline_pieces, deadline_path, last_pieces, deadline_told, deadline_text, deadline_shown, releases_text, all_releases, device_keys}
-use Rattle.prem_chart.specs.Promises.{served_pieces, late_pieces, served_told, apart_pieces, apart_text, within_pieces, unknown_pieces, within_text, promise_label, request_pieces, request_told, request_shape, request_shown, has_come, level_of, requests_from, row_text, promise_row, all_promises}
+use Rattle.prem_chart.specs.Phases.{shape_shown, phase_shape, phase_shown, idle_shape, idle_shown, open_shape, open_shown, window_text, windows_text, miss_pieces, miss_path}
+use Rattle.prem_chart.specs.Phases.{miss_told, miss_mark, open_told, phase_told, idle_told, miss_text, misses_text, window_cycles, idle_first, idle_cycles}
+use Rattle.prem_chart.specs.Rows.{each_text, base_pieces, base_text, jobs_pieces, jobs_told, name_pieces, name_start, every_pieces, every_text, task_label, plain_pieces, plain_end}
+use Rattle.prem_chart.specs.Rows.{plain_label, idle_label, bus_label, labels_text, later_pieces, later_release, release_told, arrow_pieces, arrow_path, arrow_text, is_marked}
+use Rattle.prem_chart.specs.Rows.{release_shown, deadline_pieces, deadline_path, last_pieces, deadline_told, deadline_text, deadline_shown, releases_text, all_releases}
+use Rattle.prem_chart.specs.Rows.{device_keys}
+use Rattle.prem_chart.specs.Promises.{served_pieces, late_pieces, served_told, apart_pieces, apart_text, within_pieces, unknown_pieces, within_text, promise_label, request_pieces}
+use Rattle.prem_chart.specs.Promises.{request_told, request_shape, request_shown, has_come, level_of, requests_from, row_text, promise_row, all_promises}
 use Rattle.prem_chart.specs.Places.{place, is_inside, task_top, idle_top, bus_top, promise_top}
 use Rattle.prem_chart.specs.Picture.{stop_word, counts_text, head_text, frame_text, rows_text, end_text, sheet_text, sheet_of, chart_text}
 use Rattle.prem_chart.proofs.Taken.{all_taken, taken_text, then_taken, escaped_taken}
@@ -197,7 +204,9 @@ window_keeps s tasks (Miss k cycle) = keeps_none
 
 -- a mark behind the title that its owner began
 keeps_mark : (owner mark : List ℕ) → ((around : List Name) (tag : Name) → read (Content (titled (tag ∷ around))) mark ≡ Content (tag ∷ around)) → Keeps (owner_text owner ++ mark)
-keeps_mark owner mark h tag around = then_taken (Content (tag ∷ around)) (Content (titled (tag ∷ around))) (Content (tag ∷ around)) (owner_text owner) mark (owner_taken owner (tag ∷ around)) (h around tag)
+keeps_mark owner mark h tag around =
+    then_taken (Content (tag ∷ around)) (Content (titled (tag ∷ around))) (Content (tag ∷ around)) (owner_text owner) mark
+    (owner_taken owner (tag ∷ around)) (h around tag)
 
 miss_path_taken : (x y : ℕ) (around : List Name) (tag : Name) → read (Content (codes "g" ∷ tag ∷ around)) (miss_path x y) ≡ Content (tag ∷ around)
 unfolding miss_path

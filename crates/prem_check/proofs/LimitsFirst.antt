@@ -54,7 +54,11 @@ limits_stay gs fs =
     let f = if_broken (list_any (λ (f : FunctionText). not (is_stated f.mark)) fs) None (Limit Stated) in
     both_stay (a ++ b ++ c ++ d ++ e) f
     (both_stay (a ++ b ++ c ++ d) e
-    (both_stay (a ++ b ++ c) d (both_stay (a ++ b) c (both_stay a b (one_stays (nat_lt 256 (length fs)) Functions) (one_stays (nat_lt 256 (length gs)) Globals)) (one_stays (list_any (λ (f : FunctionText). nat_lt 8 (length f.params)) fs) Parameters)) (one_stays (list_any (λ (f : FunctionText). nat_lt 32 (length (regions_of f.mark))) fs) Regions)) (one_stays (list_any (λ (g : GlobalVariable). not (is_length g.len)) gs) Length))
+    (both_stay (a ++ b ++ c) d (both_stay (a ++ b) c
+    (both_stay a b (one_stays (nat_lt 256 (length fs)) Functions) (one_stays (nat_lt 256 (length gs)) Globals))
+    (one_stays (list_any (λ (f : FunctionText). nat_lt 8 (length f.params)) fs) Parameters))
+    (one_stays (list_any (λ (f : FunctionText). nat_lt 32 (length (regions_of f.mark))) fs) Regions))
+    (one_stays (list_any (λ (g : GlobalVariable). not (is_length g.len)) gs) Length))
     (one_stays (list_any (λ (f : FunctionText). not (is_stated f.mark)) fs) Stated)
 
 -- the three parts of what is broken in a program

@@ -29,20 +29,23 @@ cut n end lt = let e : end - n ≡ suc (end - (n + 1)) = omega (arith, lt) in ap
 pub line_full : (sets «ways» n end : ℕ) (counts : List ℕ) → n < end → «ways» ≤ slice_index counts (n % sets) → with_lines sets «ways» (numbers_from n (end - n)) counts ≡ None
 line_full sets «ways» n end counts lt le =
     ap (λ ns. with_lines sets «ways» ns counts) (cut n end lt)
-    ∙ ap (λ b. option_and_then (λ next. with_lines sets «ways» (numbers_from (n + 1) (end - (n + 1))) next) (cond b (Some (slice_set counts (n % sets) (slice_index counts (n % sets) + 1))) None)) (le-ltb (slice_index counts (n % sets)) «ways» le)
+    ∙ ap (λ b. option_and_then (λ next. with_lines sets «ways» (numbers_from (n + 1) (end - (n + 1))) next)
+    (cond b (Some (slice_set counts (n % sets) (slice_index counts (n % sets) + 1))) None)) (le-ltb (slice_index counts (n % sets)) «ways» le)
 
 pub line_room : (sets «ways» n end : ℕ) (counts : List ℕ) → n < end → slice_index counts (n % sets) < «ways» →
     with_lines sets «ways» (numbers_from n (end - n)) counts ≡ with_lines sets «ways» (numbers_from (n + 1) (end - (n + 1))) (slice_set counts (n % sets) (slice_index counts (n % sets) + 1))
 line_room sets «ways» n end counts lt less =
     ap (λ ns. with_lines sets «ways» ns counts) (cut n end lt)
-    ∙ ap (λ b. option_and_then (λ next. with_lines sets «ways» (numbers_from (n + 1) (end - (n + 1))) next) (cond b (Some (slice_set counts (n % sets) (slice_index counts (n % sets) + 1))) None)) (lt-ltb (slice_index counts (n % sets)) «ways» less)
+    ∙ ap (λ b. option_and_then (λ next. with_lines sets «ways» (numbers_from (n + 1) (end - (n + 1))) next)
+    (cond b (Some (slice_set counts (n % sets) (slice_index counts (n % sets) + 1))) None)) (lt-ltb (slice_index counts (n % sets)) «ways» less)
 
 -- no line of an empty run
 pub no_line : (sets «ways» n end : ℕ) (counts : List ℕ) → end ≤ n → with_lines sets «ways» (numbers_from n (end - n)) counts ≡ Some counts
 no_line sets «ways» n end counts le = let e : end - n ≡ 0 = omega (arith, le) in ap (λ k. with_lines sets «ways» (numbers_from n k) counts) e
 
 -- the next run, and the lines behind it
-pub behind_run : (line : ℕ) (ranges : List Extent) (at : ℕ) (run : Run) → Found at (is_touched line ranges) run → lines_behind line ranges at ≡ numbers_from run.0 (run.1 - run.0) ++ lines_behind line ranges run.1
+pub behind_run : (line : ℕ) (ranges : List Extent) (at : ℕ) (run : Run) → Found at (is_touched line ranges) run →
+    lines_behind line ranges at ≡ numbers_from run.0 (run.1 - run.0) ++ lines_behind line ranges run.1
 behind_run line ranges at run f =
     let p : ℕ → Bool = is_touched line ranges in
     let end : ℕ = last_line_end line ranges in
@@ -71,19 +74,22 @@ behind_none line ranges at h = filter_none (is_touched line ranges) at (last_lin
 
 -- ---- the steps of the code
 
-pub runs_full : (line sets «ways» : ℕ) (ranges : List Extent) (at : ℕ) (run : Run) (counts : List ℕ) → Found at (is_touched line ranges) run → with_lines sets «ways» (numbers_from run.0 (run.1 - run.0)) counts ≡ None →
+pub runs_full : (line sets «ways» : ℕ) (ranges : List Extent) (at : ℕ) (run : Run) (counts : List ℕ) → Found at (is_touched line ranges) run →
+    with_lines sets «ways» (numbers_from run.0 (run.1 - run.0)) counts ≡ None →
     with_lines sets «ways» (lines_behind line ranges at) counts ≡ None
 runs_full line sets «ways» ranges at run counts f none =
     ap (λ ns. with_lines sets «ways» ns counts) (behind_run line ranges at run f)
     ∙ lines_then sets «ways» (numbers_from run.0 (run.1 - run.0)) (lines_behind line ranges run.1) counts
     ∙ ap (λ o. option_and_then (λ next. with_lines sets «ways» (lines_behind line ranges run.1) next) o) none
 
-pub runs_go : (line sets «ways» : ℕ) (ranges : List Extent) (at : ℕ) (run : Run) (counts next : List ℕ) → Found at (is_touched line ranges) run → with_lines sets «ways» (numbers_from run.0 (run.1 - run.0)) counts ≡ Some next →
+pub runs_go : (line sets «ways» : ℕ) (ranges : List Extent) (at : ℕ) (run : Run) (counts next : List ℕ) → Found at (is_touched line ranges) run →
+    with_lines sets «ways» (numbers_from run.0 (run.1 - run.0)) counts ≡ Some next →
     with_lines sets «ways» (lines_behind line ranges at) counts ≡ with_lines sets «ways» (lines_behind line ranges run.1) next
 runs_go line sets «ways» ranges at run counts next f some =
     ap (λ ns. with_lines sets «ways» ns counts) (behind_run line ranges at run f)
     ∙ lines_then sets «ways» (numbers_from run.0 (run.1 - run.0)) (lines_behind line ranges run.1) counts
     ∙ ap (λ o. option_and_then (λ more. with_lines sets «ways» (lines_behind line ranges run.1) more) o) some
 
-pub runs_done : (line sets «ways» : ℕ) (ranges : List Extent) (at : ℕ) (counts : List ℕ) → ((n : ℕ) → at ≤ n → is_touched line ranges n ≡ false) → with_lines sets «ways» (lines_behind line ranges at) counts ≡ Some counts
+pub runs_done : (line sets «ways» : ℕ) (ranges : List Extent) (at : ℕ) (counts : List ℕ) → ((n : ℕ) → at ≤ n → is_touched line ranges n ≡ false) →
+    with_lines sets «ways» (lines_behind line ranges at) counts ≡ Some counts
 runs_done line sets «ways» ranges at counts h = ap (λ ns. with_lines sets «ways» ns counts) (behind_none line ranges at h)

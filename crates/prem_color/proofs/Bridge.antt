@@ -1,7 +1,8 @@
 -- The lines of a part's ranges behind those of the parts before it.
 use Rattle.std.specs.Prelude.{filter, is_none, is_some, option_map, IfSome}
 use Rattle.std.specs.List.{AllByRecursion}
-use Rattle.std.proofs.Common.{◌≡◌, ℕ, zero, suc, ◌+◌, ◌-◌, ◌/◌, ◌<◌, ◌≤◌, max, Bool, true, false, cond, ◌||◌, List, [], ◌∷◌, ◌++◌, Option, None, Some, refl, ap, ap₂, sym, ◌∙◌, subst, arith, ⊎_elim, length, slice_get}
+use Rattle.std.proofs.Common.{◌≡◌, ℕ, zero, suc, ◌+◌, ◌-◌, ◌/◌, ◌<◌, ◌≤◌, max, Bool, true, false, cond, ◌||◌, List, [], ◌∷◌, ◌++◌, Option, None, Some, refl, ap, ap₂, sym, ◌∙◌}
+use Rattle.std.proofs.Common.{subst, arith, ⊎_elim, length, slice_get}
 use Rattle.std.proofs.lemmas.Bool.{eq-eqb, ne_eqb, leb-true, and_parts, cases_eq, cases_lt, or_cases}
 use Rattle.std.proofs.lemmas.List.Elements.{filter-append}
 use Rattle.prem_plant.specs.Places.{Extent}
@@ -79,7 +80,8 @@ own_not n pl r w ne = ap (λ b. ranges_at pl.0 (cond b (r ∷ ranges_of_part n w
 own_is : (n : ℕ) (pl : Extent) (r : PartRange) (w : List PartRange) → r.0 ≡ n → own n pl (r ∷ w) ≡ range_in pl r ∷ own n pl w
 own_is n pl r w e = ap (λ b. ranges_at pl.0 (cond b (r ∷ ranges_of_part n w) (ranges_of_part n w))) (eq-eqb r.0 n e)
 
-pub part_splits : (line : ℕ) (places : List Extent) (pl : Extent) (w : List PartRange) → Splits line (placed_ranges (places ++ pl ∷ []) w) (placed_ranges places w) (ranges_at pl.0 (ranges_of_part (length places) w))
+pub part_splits : (line : ℕ) (places : List Extent) (pl : Extent) (w : List PartRange) →
+    Splits line (placed_ranges (places ++ pl ∷ []) w) (placed_ranges places w) (ranges_at pl.0 (ranges_of_part (length places) w))
 part_splits line places pl [] = splits_none line
 part_splits line places pl (r ∷ w) =
     let all : List Extent = placed_ranges (places ++ pl ∷ []) w in
@@ -97,7 +99,8 @@ part_splits line places pl (r ∷ w) =
     let e : slice_get (places ++ pl ∷ []) r.0 ≡ slice_get places r.0 =
     ⊎_elim (λ (lt : r.0 < n). get_left places pl r.0 lt) (λ (ge : n ≤ r.0). get_beyond places pl r.0 (omega (arith, ge, other)) ∙ sym (get_past places r.0 ge)) (cases_lt r.0 n) in
     subst (λ o. Splits line (range_before o r all) (range_before (slice_get places r.0) r old) (own n pl (r ∷ w))) (sym e)
-    (subst (λ ns. Splits line (range_before (slice_get places r.0) r all) (range_before (slice_get places r.0) r old) ns) (sym (own_not n pl r w other)) (splits_before line all old (own n pl w) (slice_get places r.0) r rest)))
+    (subst (λ ns. Splits line (range_before (slice_get places r.0) r all) (range_before (slice_get places r.0) r old) ns)
+    (sym (own_not n pl r w other)) (splits_before line all old (own n pl w) (slice_get places r.0) r rest)))
     (cases_eq r.0 n)
 
 -- ---- old ranges end where new ones begin, or before
@@ -108,7 +111,8 @@ StartsFrom a r = a ≤ r.0
 starts_late : (line a : ℕ) (new : List Extent) (k : ℕ) → 0 < line → AllByRecursion (StartsFrom a) new → is_touched line new k ≡ true → a / line ≤ k
 starts_late line a [] k pos h e = cc
 starts_late line a (r ∷ rs) k pos h e =
-    ⊎_elim (λ (t : touches line k r ≡ true). let low : first_line line r ≤ k = leb-true _ _ (and_parts _ _ t).0 in omega (arith, low, div_rises a r.0 line pos h.0)) (λ (t : is_touched line rs k ≡ true). starts_late line a rs k pos h.1 t)
+    ⊎_elim (λ (t : touches line k r ≡ true). let low : first_line line r ≤ k = leb-true _ _ (and_parts _ _ t).0 in
+    omega (arith, low, div_rises a r.0 line pos h.0)) (λ (t : is_touched line rs k ≡ true). starts_late line a rs k pos h.1 t)
     (or_cases _ _ e)
 
 old_touched : (line a : ℕ) (old : List Extent) (k : ℕ) → 0 < line → AllByRecursion (EndsBy a) old → a / line ≤ k → k < last_line_end line old → is_touched line old k ≡ true
@@ -158,7 +162,8 @@ pub record Bridged (line sets «ways» : ℕ) (all : List Extent) (next : Option
   pub fits : is_some next ≡ is_none (conflict_of sets «ways» (lines_of line all))
   pub room : IfSome next (IsRoom line sets «ways» all)
 
-pub bridge : (line a sets «ways» : ℕ) (all old new : List Extent) (r : Room) → 0 < line → 1 ≤ sets → sets ≤ 1024 → Splits line all old new → AllByRecursion (EndsBy a) old → AllByRecursion (StartsFrom a) new → IsRoom line sets «ways» old r →
+pub bridge : (line a sets «ways» : ℕ) (all old new : List Extent) (r : Room) → 0 < line → 1 ≤ sets → sets ≤ 1024 → Splits line all old new →
+    AllByRecursion (EndsBy a) old → AllByRecursion (StartsFrom a) new → IsRoom line sets «ways» old r →
     Bridged line sets «ways» all (with_ranges line sets «ways» new r)
 bridge line a sets «ways» all old new r pos some most s ends starts room =
     let lines : lines_of line all ≡ lines_of line old ++ lines_behind line new (last_line_end line old) = lines_split line a all old new pos s ends starts in
@@ -166,11 +171,13 @@ bridge line a sets «ways» all old new r pos some most s ends starts room =
     let go : Ends sets «ways» (lines_of line old ++ lines_behind line new (last_line_end line old)) (with_lines sets «ways» (lines_behind line new (last_line_end line old)) r.counts) =
     lines_go sets «ways» (lines_behind line new (last_line_end line old)) (lines_of line old) r.counts some most counted in
     let here : Ends sets «ways» (lines_of line all) (with_lines sets «ways» (lines_behind line new r.at) r.counts) =
-    subst (λ k. Ends sets «ways» (lines_of line all) (with_lines sets «ways» (lines_behind line new k) r.counts)) (sym room.at_is) (subst (λ ls. Ends sets «ways» ls (with_lines sets «ways» (lines_behind line new (last_line_end line old)) r.counts)) (sym lines) go) in
+    subst (λ k. Ends sets «ways» (lines_of line all) (with_lines sets «ways» (lines_behind line new k) r.counts)) (sym room.at_is)
+    (subst (λ ls. Ends sets «ways» ls (with_lines sets «ways» (lines_behind line new (last_line_end line old)) r.counts)) (sym lines) go) in
     let end : max r.at (last_line_end line new) ≡ last_line_end line all = ap (λ k. max k (last_line_end line new)) room.at_is ∙ sym s.end_is in
     by (with_lines sets «ways» (lines_behind line new r.at) r.counts) here end
   where
-    by : (o : Option (List ℕ)) → Ends sets «ways» (lines_of line all) o → max r.at (last_line_end line new) ≡ last_line_end line all → Bridged line sets «ways» all (option_map (room_behind (max r.at (last_line_end line new))) o)
+    by : (o : Option (List ℕ)) → Ends sets «ways» (lines_of line all) o → max r.at (last_line_end line new) ≡ last_line_end line all →
+        Bridged line sets «ways» all (option_map (room_behind (max r.at (last_line_end line new))) o)
     by None over end = record { fits = sym (no_room_where sets «ways» (lines_of line all) over); room = tt }
     by (Some counts) counted end = record {
       fits = sym (has_room_where sets «ways» (lines_of line all) counted.few);

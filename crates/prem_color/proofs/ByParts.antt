@@ -80,7 +80,8 @@ at_from n (suc count) (suc k) cs lt = let z : n + 1 + k ≡ n + suc k = omega ar
 pub index_long : (index : List (Vec Claim Global)) (count : ℕ) (cs : List Claim) → lists index ≡ by_parts count cs → length index ≡ count
 index_long index count cs e = sym (length-map index (λ (own : Vec Claim Global). own.items)) ∙ ap length e ∙ long_from 0 count cs
 
-pub claims_at : (index : List (Vec Claim Global)) (count n : ℕ) (cs : List Claim) (none : Vec Claim Global) → lists index ≡ by_parts count cs → n < count → (slice_index_or index n none).items ≡ claims_in n cs
+pub claims_at : (index : List (Vec Claim Global)) (count n : ℕ) (cs : List Claim) (none : Vec Claim Global) → lists index ≡ by_parts count cs →
+    n < count → (slice_index_or index n none).items ≡ claims_in n cs
 claims_at index count n cs none e lt =
     let long = index_long index count cs e in
     let there : n < length index = omega (arith, lt, long) in

@@ -1,7 +1,8 @@
 -- Lines that are counted one by one, and room in the cache.
 use Rattle.std.specs.Prelude.{◌==◌, nat_lt, count_by, filter, is_none}
 use Rattle.std.specs.Option.{option_and_then}
-use Rattle.std.proofs.Common.{◌≡◌, ℕ, zero, suc, ◌+◌, ◌%◌, ◌<◌, ◌≤◌, Bool, true, false, cond, List, [], ◌∷◌, ◌++◌, Option, None, Some, refl, ap, sym, ◌∙◌, subst, arith, ⊎_elim, append_assoc, append-nil, length, slice_index, slice_set}
+use Rattle.std.proofs.Common.{◌≡◌, ℕ, zero, suc, ◌+◌, ◌%◌, ◌<◌, ◌≤◌, Bool, true, false, cond, List, [], ◌∷◌, ◌++◌, Option, None, Some, refl, ap, sym, ◌∙◌, subst, arith, ⊎_elim}
+use Rattle.std.proofs.Common.{append_assoc, append-nil, length, slice_index, slice_set}
 use Rattle.std.proofs.lemmas.Bool.{eq-eqb, ne_eqb, cases_eq, cases_lt, lt-ltb, le-ltb, ltb-false}
 use Rattle.std.proofs.lemmas.Nat.{mod_below}
 use Rattle.std.proofs.lemmas.List.{get_or-set_same, get_or-set_other, length-set}
@@ -110,7 +111,8 @@ lines_go sets «ways» [] lines counts some most h = subst (λ ls. Counted sets 
 lines_go sets «ways» (n ∷ ns) lines counts some most h =
     by (with_line sets «ways» n counts) (line_goes sets «ways» lines counts n some most h) (λ next counted. lines_go sets «ways» ns (lines ++ n ∷ []) next some most counted)
   where
-    by : (o : Option (List ℕ)) → Ends sets «ways» (lines ++ n ∷ []) o → ((next : List ℕ) → Counted sets «ways» (lines ++ n ∷ []) next → Ends sets «ways» ((lines ++ n ∷ []) ++ ns) (with_lines sets «ways» ns next)) →
+    by : (o : Option (List ℕ)) → Ends sets «ways» (lines ++ n ∷ []) o →
+        ((next : List ℕ) → Counted sets «ways» (lines ++ n ∷ []) next → Ends sets «ways» ((lines ++ n ∷ []) ++ ns) (with_lines sets «ways» ns next)) →
         Ends sets «ways» (lines ++ n ∷ ns) (option_and_then (λ next. with_lines sets «ways» ns next) o)
     by None over go = subst (IsOver sets «ways») (append_assoc lines (n ∷ []) ns) (over_more sets «ways» (lines ++ n ∷ []) ns over)
     by (Some next) counted go = subst (λ ls. Ends sets «ways» ls (with_lines sets «ways» ns next)) (append_assoc lines (n ∷ []) ns) (go next counted)
@@ -128,7 +130,8 @@ no_room_from sets «ways» lines s zero k low high over = absurd (omega (arith, 
 no_room_from sets «ways» lines s (suc left) k low high over =
     by (nat_lt «ways» (count_in sets lines s)) refl (λ (other : s ≡ k → ⊥). no_room_from sets «ways» lines (s + 1) left k (omega (arith, low, other)) (omega (arith, high)) over)
   where
-    by : (b : Bool) → nat_lt «ways» (count_in sets lines s) ≡ b → ((s ≡ k → ⊥) → is_none (conflict_from sets «ways» lines (s + 1) left) ≡ false) → is_none (conflict_or b (record { set = s; lines = count_in sets lines s }) (conflict_from sets «ways» lines (s + 1) left)) ≡ false
+    by : (b : Bool) → nat_lt «ways» (count_in sets lines s) ≡ b → ((s ≡ k → ⊥) → is_none (conflict_from sets «ways» lines (s + 1) left) ≡ false) →
+        is_none (conflict_or b (record { set = s; lines = count_in sets lines s }) (conflict_from sets «ways» lines (s + 1) left)) ≡ false
     by true e go = refl
     by false e go =
         let le : count_in sets lines s ≤ «ways» = ltb-false _ _ e in

@@ -2,7 +2,8 @@
 use Rattle.std.specs.Prelude.{◌&&◌, nat_le}
 use Rattle.std.specs.Int.{next_multiple_of}
 use Rattle.std.specs.List.{AllByRecursion}
-use Rattle.std.proofs.Common.{◌≡◌, ℕ, zero, suc, ◌+◌, ◌-◌, ◌*◌, ◌/◌, ◌%◌, ◌<◌, ◌≤◌, true, List, [], ◌∷◌, ◌++◌, Option, None, Some, Ok, Err, Result, refl, ap, sym, ◌∙◌, subst, arith, ⊎_elim, append_assoc, append-nil, length, slice_get, add-zero, All}
+use Rattle.std.proofs.Common.{◌≡◌, ℕ, zero, suc, ◌+◌, ◌-◌, ◌*◌, ◌/◌, ◌%◌, ◌<◌, ◌≤◌, true, List, [], ◌∷◌, ◌++◌, Option, None, Some, Ok, Err, Result, refl, ap, sym, ◌∙◌, subst}
+use Rattle.std.proofs.Common.{arith, ⊎_elim, append_assoc, append-nil, length, slice_get, add-zero, All}
 use Rattle.std.proofs.lemmas.Bool.{and_from, le-leb, cases_lt}
 use Rattle.std.proofs.lemmas.List.Elements.{recursion_from_All}
 use Rattle.std.proofs.lemmas.Nat.{div-add-mod', mod_below, le-div, mul-le}
@@ -34,9 +35,12 @@ placed_areas_are_lawful line memory parts places pos placed whole =
       areas = λ i j x y part p q h area k l in_p in_q same.
           let w : (part.align ≡ line) × (part.size % line ≡ 0) = whole i part h area in
           let start : p.0 % line ≡ 0 = subst (λ n. p.0 % n ≡ 0) w.0 (placed.aligned i part p h k) in
-          let end : p.1 % line ≡ 0 = ap (λ n. n % line) (placed.ends i part p h k) ∙ sym (add-mod-mod p.0 part.size line) ∙ ap (λ n. (p.0 + n) % line) w.1 ∙ ap (λ n. n % line) (add-zero p.0) ∙ start in
+          let end : p.1 % line ≡ 0 = ap (λ n. n % line) (placed.ends i part p h k) ∙ sym (add-mod-mod p.0 part.size line)
+          ∙ ap (λ n. (p.0 + n) % line) w.1 ∙ ap (λ n. n % line) (add-zero p.0) ∙ start in
           let low : p.0 ≤ y = line_side line p.0 x y pos start in_p.0 same in
-          let high : y < p.1 = ⊎_elim (λ (lt : y < p.1). lt) (λ (ge : p.1 ≤ y). absurd (let b : p.1 ≤ x = line_side line p.1 y x pos end ge (sym same) in let c : x < p.1 = in_p.1 in omega (arith, b, c))) (cases_lt y p.1) in
+          let high : y < p.1 = ⊎_elim (λ (lt : y < p.1). lt)
+          (λ (ge : p.1 ≤ y). absurd (let b : p.1 ≤ x = line_side line p.1 y x pos end ge (sym same) in let c : x < p.1 = in_p.1 in
+          omega (arith, b, c))) (cases_lt y p.1) in
           placed.disjoint i j y p q k l (low, high) in_q;
     }
 
@@ -60,14 +64,17 @@ record MovedOn (line at : ℕ) (parts : List PartSize) (places all : List Extent
 err_ok : {P : Type 0} (e : ℕ) (a : List Extent) → ◌≡◌ {A = Result (List Extent) ℕ} (Err e) (Ok a) → P
 err_ok e a h = absurd cc
 
-moved_on : (p : Plant) (ws : List (List PartRange)) (parts : List PartSize) (places : List Extent) (at : ℕ) (all : List Extent) → moved_from p ws places at parts ≡ Ok all → MovedOn p.line at parts places all
+moved_on : (p : Plant) (ws : List (List PartRange)) (parts : List PartSize) (places : List Extent) (at : ℕ) (all : List Extent) →
+    moved_from p ws places at parts ≡ Ok all → MovedOn p.line at parts places all
 moved_on p ws [] places at all e =
     let same : places ≡ all = cc in
     record { rest = []; all_is = sym same ∙ sym (append-nil places); moves = tt }
 moved_on p ws (part ∷ parts) places at all e = by (offset_of p ws places at part) e (λ o. moved_on p ws parts (places ++ moved_place p.line at part o ∷ []) (moved_place p.line at part o).1 all)
   where
     by : (found : Option ℕ) → moved_by found (length places) (λ o. moved_from p ws (places ++ moved_place p.line at part o ∷ []) (moved_place p.line at part o).1 parts) ≡ Ok all →
-        ((o : ℕ) → moved_from p ws (places ++ moved_place p.line at part o ∷ []) (moved_place p.line at part o).1 parts ≡ Ok all → MovedOn p.line (moved_place p.line at part o).1 parts (places ++ moved_place p.line at part o ∷ []) all) → MovedOn p.line at (part ∷ parts) places all
+        ((o : ℕ) → moved_from p ws (places ++ moved_place p.line at part o ∷ []) (moved_place p.line at part o).1 parts ≡ Ok all →
+        MovedOn p.line (moved_place p.line at part o).1 parts (places ++ moved_place p.line at part o ∷ []) all) →
+        MovedOn p.line at (part ∷ parts) places all
     by None h go = err_ok (length places) all h
     by (Some o) h go =
         let m = go o h in
@@ -82,7 +89,8 @@ moves_long line at [] (q ∷ qs) m = absurd m
 moves_long line at (part ∷ parts) [] m = absurd m
 moves_long line at (part ∷ parts) (q ∷ qs) m = ap suc (moves_long line q.1 parts qs m.1)
 
-moves_end : (line at : ℕ) (parts : List PartSize) (places : List Extent) → Moves line at parts places → (i : ℕ) (part : PartSize) (q : Extent) → slice_get parts i ≡ Some part → slice_get places i ≡ Some q → q.1 ≡ q.0 + part.size
+moves_end : (line at : ℕ) (parts : List PartSize) (places : List Extent) → Moves line at parts places → (i : ℕ) (part : PartSize) (q : Extent) →
+    slice_get parts i ≡ Some part → slice_get places i ≡ Some q → q.1 ≡ q.0 + part.size
 moves_end line at [] places m i part q h k = cc
 moves_end line at (x ∷ xs) [] m i part q h k = absurd m
 moves_end line at (x ∷ xs) (y ∷ ys) m zero part q h k =
@@ -109,7 +117,8 @@ lines_mod line align o pos whole =
 sum_mod : (a b y : ℕ) → a % y ≡ 0 → b % y ≡ 0 → (a + b) % y ≡ 0
 sum_mod a b y ea eb = sym (add-mod-mod a b y) ∙ ap (λ n. (a + n) % y) eb ∙ ap (λ n. n % y) (add-zero a) ∙ ea
 
-moves_aligned : (line at : ℕ) (parts : List PartSize) (places : List Extent) → Moves line at parts places → AllByRecursion (λ part. 1 ≤ part.align) parts → AllByRecursion (λ part. line % part.align ≡ 0) parts →
+moves_aligned : (line at : ℕ) (parts : List PartSize) (places : List Extent) → Moves line at parts places →
+    AllByRecursion (λ part. 1 ≤ part.align) parts → AllByRecursion (λ part. line % part.align ≡ 0) parts →
     (i : ℕ) (part : PartSize) (q : Extent) → slice_get parts i ≡ Some part → slice_get places i ≡ Some q → q.0 % part.align ≡ 0
 moves_aligned line at [] places m a w i part q h k = cc
 moves_aligned line at (x ∷ xs) [] m a w i part q h k = absurd m
@@ -118,7 +127,8 @@ moves_aligned line at (x ∷ xs) (y ∷ ys) m a w zero part q h k =
     let here : y ≡ q = cc in
     let one : 1 ≤ x.align = a.0 in
     let pos : 0 < x.align = omega (arith, one) in
-    let e : y.0 % x.align ≡ 0 = ap (λ (z : Extent). z.0 % x.align) m.0.is ∙ sum_mod (next_multiple_of at x.align) (m.0.offset * line) x.align (next_multiple-mod at x.align pos) (lines_mod line x.align m.0.offset pos w.0) in
+    let e : y.0 % x.align ≡ 0 = ap (λ (z : Extent). z.0 % x.align) m.0.is
+    ∙ sum_mod (next_multiple_of at x.align) (m.0.offset * line) x.align (next_multiple-mod at x.align pos) (lines_mod line x.align m.0.offset pos w.0) in
     subst (λ (z : Extent). z.0 % part.align ≡ 0) here (subst (λ (z : PartSize). y.0 % z.align ≡ 0) same e)
 moves_aligned line at (x ∷ xs) (y ∷ ys) m a w (suc i) part q h k = moves_aligned line y.1 xs ys m.1 a.1 w.1 i part q h k
 
@@ -154,12 +164,14 @@ moves_within line at (x ∷ xs) (y ∷ ys) m zero q k =
     subst (λ (z : Extent). z.1 ≤ end_behind y.1 ys) here (end_high line y.1 xs ys m.1)
 moves_within line at (x ∷ xs) (y ∷ ys) m (suc i) q k = moves_within line y.1 xs ys m.1 i q k
 
-moved_are_places : (line memory : ℕ) (parts : List PartSize) (places : List Extent) → Moves line 0 parts places → All (λ part. 1 ≤ part.align) parts → AlignLines line parts → last_end places ≤ memory → ArePlaces memory parts places
+moved_are_places : (line memory : ℕ) (parts : List PartSize) (places : List Extent) → Moves line 0 parts places → All (λ part. 1 ≤ part.align) parts →
+    AlignLines line parts → last_end places ≤ memory → ArePlaces memory parts places
 moved_are_places line memory parts places m aligned lines le =
     record {
       count = moves_long line 0 parts places m;
       ends = moves_end line 0 parts places m;
-      aligned = moves_aligned line 0 parts places m (recursion_from_All (λ (part : PartSize). 1 ≤ part.align) parts aligned) (recursion_from_All (λ (part : PartSize). line % part.align ≡ 0) parts lines);
+      aligned = moves_aligned line 0 parts places m (recursion_from_All (λ (part : PartSize). 1 ≤ part.align) parts aligned)
+          (recursion_from_All (λ (part : PartSize). line % part.align ≡ 0) parts lines);
       within = λ i q k. (let x = moves_within line 0 parts places m i q k in omega (arith, x, le));
       disjoint = ((exact places _ refl).0 (risen_apart 0 places (moves_rise line 0 parts places m))).disjoint;
     }
@@ -185,10 +197,12 @@ room_more : (p : Plant) (ws : List (List PartRange)) (part : PartSize) (parts : 
 room_more p ws part parts places at all None h go = err_ok (length places) all h
 room_more p ws part parts places at all (Some o) h go = go o h
 
-room_at : (p : Plant) (ws : List (List PartRange)) (part : PartSize) (parts : List PartSize) (places : List Extent) (at : ℕ) (all : List Extent) → moved_from p ws places at (part ∷ parts) ≡ Ok all → all_have_room p ws all ≡ true
+room_at : (p : Plant) (ws : List (List PartRange)) (part : PartSize) (parts : List PartSize) (places : List Extent) (at : ℕ) (all : List Extent) →
+    moved_from p ws places at (part ∷ parts) ≡ Ok all → all_have_room p ws all ≡ true
 room_at p ws part [] places at all e = room_last p ws part places at all (offset_of p ws places at part) refl e
 room_at p ws part (next ∷ more) places at all e =
-    room_more p ws part (next ∷ more) places at all (offset_of p ws places at part) e (λ o h. room_at p ws next more (places ++ moved_place p.line at part o ∷ []) (moved_place p.line at part o).1 all h)
+    room_more p ws part (next ∷ more) places at all (offset_of p ws places at part) e
+    (λ o h. room_at p ws next more (places ++ moved_place p.line at part o ∷ []) (moved_place p.line at part o).1 all h)
 
 pub moved_places_have_room : MovedPlacesHaveRoom
 moved_places_have_room p ws [] places some e = absurd (omega (arith, some))

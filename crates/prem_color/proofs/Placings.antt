@@ -26,7 +26,8 @@ use Rattle.prem_color.proofs.Steps.{rooms_next, all_wide_end, end_last, rise_las
 
 -- ---- the start
 
-pub nothing_placed : (p : Plant) (wants : List Want) (sizes : List PartSize) (places : Vec Extent Global) (rooms : Vec RoomInMemory Global) → IsPlant p → places.items ≡ [] → map room_of rooms.items ≡ replicate (length wants) no_lines →
+pub nothing_placed : (p : Plant) (wants : List Want) (sizes : List PartSize) (places : Vec Extent Global) (rooms : Vec RoomInMemory Global) →
+    IsPlant p → places.items ≡ [] → map room_of rooms.items ≡ replicate (length wants) no_lines →
     IsPlacing p (ranges_in wants) sizes 0 (record { places = places; at = 0; rooms = rooms })
 nothing_placed p wants sizes places rooms plant none are =
     let sets = plant.sets in
@@ -55,7 +56,8 @@ pub record IsNext (p : Plant) (ws : List (List PartRange)) (s : Placing) (part :
   pub shares_are : shares ≡ shares_from n 0 ws
   pub long : length (map room_of s.rooms.items) ≡ length ws
 
-module _ (p : Plant) (ws : List (List PartRange)) (sizes : List PartSize) (s : Placing) (part : PartSize) (n : ℕ) (k : Cache) (base : ℕ) (shares : List Share) (i : IsNext p ws s part n k base shares) (h : IsPlacing p ws sizes n s) where
+module _ (p : Plant) (ws : List (List PartRange)) (sizes : List PartSize) (s : Placing) (part : PartSize) (n : ℕ) (k : Cache) (base : ℕ)
+    (shares : List Share) (i : IsNext p ws s part n k base shares) (h : IsPlacing p ws sizes n s) where
   abbrev rooms : List Room
   rooms = map room_of s.rooms.items
 
@@ -75,14 +77,16 @@ module _ (p : Plant) (ws : List (List PartRange)) (sizes : List PartSize) (s : P
       ∙ ap (λ m. least_from (λ o. all_fit p.line p.sets p.«ways» (next_multiple_of s.at part.align + o * p.line) rooms (map (ranges_of_part m) ws)) 0 p.sets) (sym h.count)
       ∙ offset_same p ws places s.at part rooms sets.0 sets.1 (let low = line.0 in omega (arith, low)) h.rooms h.ends
 
-  pub no_offset : (found : Option ℕ) → n < length sizes → part ≡ slice_index_or sizes n no_part → found ≡ least_from (λ o. shares_fit k.line k.sets k.«ways» (base + o * k.line) rooms shares) 0 k.sets → found ≡ None → moved_places p ws sizes ≡ Err n
+  pub no_offset : (found : Option ℕ) → n < length sizes → part ≡ slice_index_or sizes n no_part →
+      found ≡ least_from (λ o. shares_fit k.line k.sets k.«ways» (base + o * k.line) rooms shares) 0 k.sets → found ≡ None → moved_places p ws sizes ≡ Err n
   no_offset found lt is e none =
       sym h.whole ∙ moved_more p ws sizes places s.at n part lt is
       ∙ moved_none (offset_of p ws places s.at part) (length places) _ (sym (offset_is found e) ∙ none)
       ∙ ap Err h.count
 
   pub placed_next : (found : Option ℕ) (o : ℕ) (next : Placing) → n < length sizes → part ≡ slice_index_or sizes n no_part → AllByRecursion (AllByRecursion (LiesIn sizes)) ws →
-      found ≡ least_from (λ o. shares_fit k.line k.sets k.«ways» (base + o * k.line) rooms shares) 0 k.sets → found ≡ Some o → next.at ≡ base + o * k.line + part.size → next.places.items ≡ places ++ (base + o * k.line, next.at) ∷ [] →
+      found ≡ least_from (λ o. shares_fit k.line k.sets k.«ways» (base + o * k.line) rooms shares) 0 k.sets → found ≡ Some o →
+      next.at ≡ base + o * k.line + part.size → next.places.items ≡ places ++ (base + o * k.line, next.at) ∷ [] →
       map room_of next.rooms.items ≡ with_shares k.line k.sets k.«ways» (base + o * k.line) rooms shares → IsPlacing p ws sizes (n + 1) next
   placed_next found o next lt is lies e some end put took =
       let sets = i.plant.sets in
@@ -110,11 +114,14 @@ module _ (p : Plant) (ws : List (List PartRange)) (sizes : List PartSize) (s : P
         count = ap length wide ∙ count;
         end = ap (end_behind 0) wide ∙ end_last 0 places pl ∙ sym end_is;
         rise = ap (rise_from 0) wide ∙ rise_last 0 places pl h.rise (let x = h.end in omega (arith, x, behind)) forward;
-        each = subst (λ (a : ℕ). AllByRecursion (EndsBy a) next.places.items) (sym end_is) (subst (λ (ps : List Extent). AllByRecursion (EndsBy pl.1) ps) (sym wide) (each_last s.at places pl h.each further forward));
-        ends = subst (λ (a : ℕ). AllEndBy a next.places.items ws) (sym end_is) (subst (λ (ps : List Extent). AllEndBy pl.1 ps ws) (sym wide) (all_wide_end sizes places pl s.at ws further size lies h.ends));
+        each = subst (λ (a : ℕ). AllByRecursion (EndsBy a) next.places.items) (sym end_is)
+            (subst (λ (ps : List Extent). AllByRecursion (EndsBy pl.1) ps) (sym wide) (each_last s.at places pl h.each further forward));
+        ends = subst (λ (a : ℕ). AllEndBy a next.places.items ws) (sym end_is)
+            (subst (λ (ps : List Extent). AllEndBy pl.1 ps ws) (sym wide) (all_wide_end sizes places pl s.at ws further size lies h.ends));
         rooms = subst (λ (ps : List Extent). AreRooms p.line p.sets p.«ways» ps (map room_of next.rooms.items) ws) (sym wide)
             (subst (λ (rs : List Room). AreRooms p.line p.sets p.«ways» (places ++ pl ∷ []) rs ws) (sym took_is) are);
         whole = ap (λ (a : ℕ). moved_from p ws next.places.items a (drop (n + 1) sizes)) end_is ∙ ap (λ (ps : List Extent). moved_from p ws ps pl.1 (drop (n + 1) sizes)) wide
-            ∙ sym (moved_some (offset_of p ws places s.at part) (length places) o (λ o. moved_from p ws (places ++ moved_place p.line s.at part o ∷ []) (moved_place p.line s.at part o).1 (drop (n + 1) sizes)) at_is)
+            ∙ sym (moved_some (offset_of p ws places s.at part) (length places) o
+            (λ o. moved_from p ws (places ++ moved_place p.line s.at part o ∷ []) (moved_place p.line s.at part o).1 (drop (n + 1) sizes)) at_is)
             ∙ sym (moved_more p ws sizes places s.at n part lt is) ∙ h.whole;
       }

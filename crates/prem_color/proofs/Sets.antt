@@ -18,7 +18,8 @@ use Rattle.prem_layout.specs.Placed.{Coded, sized_of, parts_of}
 use Rattle.prem_layout.proofs.TaskParts.{IsFour, parts_fours}
 use Rattle.prem_color.specs.Offsets.{PartRange}
 use Rattle.prem_color.specs.Rooms.{LiesIn, no_part}
-use Rattle.prem_color.specs.Wants.{Want, Shape, shape_of, size_at, whole, code_number, stub_number, stack_number, stack_want, element_at, region_want, plan_ranges, plan_want, task_wants, wants_from, ranges_of}
+use Rattle.prem_color.specs.Wants.{Want, Shape, shape_of, size_at, whole, code_number, stub_number, stack_number, stack_want, element_at, region_want, plan_ranges, plan_want}
+use Rattle.prem_color.specs.Wants.{task_wants, wants_from, ranges_of}
 use Rattle.prem_color.specs.Standing.{RegionStands, PlanStands, TasksStand}
 use Rattle.prem_color.specs.Laws.{PartsAlignLines, WantsLie}
 use Rattle.prem_color.proofs.Wanted.{ranges_append}
@@ -94,7 +95,8 @@ module _ (parts : List PartSize) where
         (stack_lies (stack_number s first) plan, regions_lie s first plan.regions h.regions),
   )
 
-  plans_lie : (s : Shape) (task first : ℕ) (plans : List Plan) → AllByRecursion (PlanStands parts s first) plans → AllByRecursion (AllByRecursion Lies) (ranges_of (map (plan_want parts s task first) plans))
+  plans_lie : (s : Shape) (task first : ℕ) (plans : List Plan) → AllByRecursion (PlanStands parts s first) plans →
+      AllByRecursion (AllByRecursion Lies) (ranges_of (map (plan_want parts s task first) plans))
   plans_lie s task first [] h = tt
   plans_lie s task first (plan ∷ plans) h = (plan_lies s first plan h.0, plans_lie s task first plans h.1)
 

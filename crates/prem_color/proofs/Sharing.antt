@@ -1,7 +1,8 @@
 -- The wants with ranges in a part have room exactly where all wants have, and the others keep theirs.
 use Rattle.std.specs.Prelude.{⊤, ◌==◌, slice_index_or, slice_set}
 use Rattle.std.specs.List.{AllByRecursion}
-use Rattle.std.proofs.Common.{◌≡◌, ℕ, suc, ◌+◌, ◌*◌, ◌<◌, ◌≤◌, Bool, true, false, cond, ◌&&◌, List, [], ◌∷◌, ◌++◌, ◌-◌, refl, ap, ap₂, sym, ◌∙◌, subst, arith, append_assoc, length, length-append, map, drop}
+use Rattle.std.proofs.Common.{◌≡◌, ℕ, suc, ◌+◌, ◌*◌, ◌<◌, ◌≤◌, Bool, true, false, cond, ◌&&◌, List, [], ◌∷◌, ◌++◌, ◌-◌, refl, ap, ap₂, sym, ◌∙◌, subst, arith, append_assoc, length}
+use Rattle.std.proofs.Common.{length-append, map, drop}
 use Rattle.std.proofs.lemmas.Bool.{eq-eqb, ne_eqb, eqb-true}
 use Rattle.std.proofs.lemmas.List.{at_drop_more, drop-drop, get_or-map, length-drop, map-set}
 use Rattle.std.proofs.lemmas.List.Elements.{filter-append}
@@ -53,7 +54,8 @@ pub record IsShared (claims : List Claim) (at : ℕ) (want : ℕ) (own : List Pa
   pub joins : grouped (drop at claims) ≡ share want own ∷ grouped (drop (at + length own) claims)
   pub within : at + length own ≤ length claims
 
-pub shared : (claims : List Claim) (at : ℕ) (own : List PartRange) (none : Claim) → at < length claims → own ≡ leading (slice_index_or claims at none).want (drop at claims) → IsShared claims at (slice_index_or claims at none).want own
+pub shared : (claims : List Claim) (at : ℕ) (own : List PartRange) (none : Claim) → at < length claims →
+    own ≡ leading (slice_index_or claims at none).want (drop at claims) → IsShared claims at (slice_index_or claims at none).want own
 shared claims at own none lt e =
     let c : Claim = slice_index_or claims at none in
     let cs : List Claim = drop (at + 1) claims in
@@ -160,14 +162,17 @@ module _ (line sets «ways» address n : ℕ) where
       let next : List Room = before ++ r ∷ [] in
       let more : length before + 1 ≡ length next = sym (length-append before (r ∷ [])) in
       fit_before before r rs (ranges_of_part n w) (shares_from n (length before + 1) ws) (fit_all rs ws)
-      (ap (fit (before ++ r ∷ rs)) (ap (λ k. shares_from n k ws) more) ∙ ap (λ (rooms : List Room). fit rooms (shares_from n (length next) ws)) (sym (append_assoc before (r ∷ []) rs)) ∙ fit_behind next rs ws (omega (arith, long)))
+      (ap (fit (before ++ r ∷ rs)) (ap (λ k. shares_from n k ws) more)
+      ∙ ap (λ (rooms : List Room). fit rooms (shares_from n (length next) ws)) (sym (append_assoc before (r ∷ []) rs))
+      ∙ fit_behind next rs ws (omega (arith, long)))
 
   take_before : (before : List Room) (r : Room) (rs : List Room) (own : List PartRange) (ss : List Share) (rest : List Room) → ((q : Room) → taken (before ++ q ∷ rs) ss ≡ before ++ q ∷ rest) →
       taken (before ++ r ∷ rs) (share_before (length before) own ss) ≡ before ++ room_after line sets «ways» address r own ∷ rest
   take_before before r rs [] ss rest e = e r ∙ ap (λ (q : Room). before ++ q ∷ rest) (takes_nothing line sets «ways» address r [] refl)
   take_before before r rs (x ∷ xs) ss rest e =
       ap (λ (rooms : List Room). taken rooms ss)
-      (ap (λ (q : Room). slice_set (before ++ r ∷ rs) (length before) (room_after line sets «ways» address q (x ∷ xs))) (at_behind before r rs) ∙ set_behind before r (room_after line sets «ways» address r (x ∷ xs)) rs)
+      (ap (λ (q : Room). slice_set (before ++ r ∷ rs) (length before) (room_after line sets «ways» address q (x ∷ xs))) (at_behind before r rs)
+      ∙ set_behind before r (room_after line sets «ways» address r (x ∷ xs)) rs)
       ∙ e (room_after line sets «ways» address r (x ∷ xs))
 
   take_behind : (before rooms : List Room) (ws : List (List PartRange)) → length rooms ≡ length ws → taken (before ++ rooms) (shares_from n (length before) ws) ≡ before ++ taken_all rooms ws
@@ -182,10 +187,12 @@ module _ (line sets «ways» address n : ℕ) where
       ap (taken (before ++ q ∷ rs)) (ap (λ k. shares_from n k ws) more) ∙ ap (λ (rooms : List Room). taken rooms (shares_from n (length next) ws)) (sym (append_assoc before (q ∷ []) rs))
       ∙ take_behind next rs ws (omega (arith, long)) ∙ append_assoc before (q ∷ []) (taken_all rs ws))
 
-  pub fit_same : (rooms : List Room) (ws : List (List PartRange)) → length rooms ≡ length ws → shares_fit line sets «ways» address rooms (shares_from n 0 ws) ≡ all_fit line sets «ways» address rooms (map (ranges_of_part n) ws)
+  pub fit_same : (rooms : List Room) (ws : List (List PartRange)) → length rooms ≡ length ws →
+      shares_fit line sets «ways» address rooms (shares_from n 0 ws) ≡ all_fit line sets «ways» address rooms (map (ranges_of_part n) ws)
   fit_same rooms ws long = fit_behind [] rooms ws long
 
-  pub take_same : (rooms : List Room) (ws : List (List PartRange)) → length rooms ≡ length ws → with_shares line sets «ways» address rooms (shares_from n 0 ws) ≡ rooms_after line sets «ways» address rooms (map (ranges_of_part n) ws)
+  pub take_same : (rooms : List Room) (ws : List (List PartRange)) → length rooms ≡ length ws →
+      with_shares line sets «ways» address rooms (shares_from n 0 ws) ≡ rooms_after line sets «ways» address rooms (map (ranges_of_part n) ws)
   take_same rooms ws long = take_behind [] rooms ws long
 
 -- one share is taken, and others are left
@@ -199,6 +206,7 @@ took_one line sets «ways» address rooms s ss next none lt e =
 
 -- the least offset for the wants with ranges in a part is that for all
 pub offset_for_all : (line sets «ways» base n : ℕ) (rooms : List Room) (ws : List (List PartRange)) → length rooms ≡ length ws →
-    least_from (λ o. shares_fit line sets «ways» (base + o * line) rooms (shares_from n 0 ws)) 0 sets ≡ least_from (λ o. all_fit line sets «ways» (base + o * line) rooms (map (ranges_of_part n) ws)) 0 sets
+    least_from (λ o. shares_fit line sets «ways» (base + o * line) rooms (shares_from n 0 ws)) 0 sets
+    ≡ least_from (λ o. all_fit line sets «ways» (base + o * line) rooms (map (ranges_of_part n) ws)) 0 sets
 offset_for_all line sets «ways» base n rooms ws long =
     ap (λ (test : ℕ → Bool). least_from test 0 sets) (λ i o. (fit_same line sets «ways» (base + o * line) n rooms ws long) i)

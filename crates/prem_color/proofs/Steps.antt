@@ -2,7 +2,8 @@
 use Rattle.std.specs.Prelude.{is_some, unwrap_or, IfSome, slice_index_or}
 use Rattle.std.specs.Int.{next_multiple_of}
 use Rattle.std.specs.List.{AllByRecursion}
-use Rattle.std.proofs.Common.{◌≡◌, ℕ, zero, suc, ◌+◌, ◌*◌, ◌<◌, ◌≤◌, Bool, true, false, cond, ◌&&◌, List, [], ◌∷◌, ◌++◌, Option, None, Some, Err, Result, refl, ap, ap₂, sym, ◌∙◌, subst, arith, ⊎_elim, length, map, drop, replicate, slice_get}
+use Rattle.std.proofs.Common.{◌≡◌, ℕ, zero, suc, ◌+◌, ◌*◌, ◌<◌, ◌≤◌, Bool, true, false, cond, ◌&&◌, List, [], ◌∷◌, ◌++◌, Option, None, Some, Err, Result, refl, ap, ap₂, sym, ◌∙◌}
+use Rattle.std.proofs.Common.{subst, arith, ⊎_elim, length, map, drop, replicate, slice_get}
 use Rattle.std.proofs.lemmas.Bool.{and_parts, and_from, le-leb, cases_eq, cases_lt}
 use Rattle.std.proofs.lemmas.List.{at_drop_more, get_or-replicate, length-replicate}
 use Rattle.prem_plant.specs.declared.plant.Plant.{Plant}
@@ -66,16 +67,19 @@ before_head : (b : ℕ) (o : Option Extent) (r : PartRange) (rest : List Extent)
 before_head b None r rest h = h
 before_head b (Some q) r rest h = h.1
 
-before_with : (b : ℕ) (o : Option Extent) (r : PartRange) (old rest : List Extent) → AllByRecursion (EndsBy b) (range_before o r old) → AllByRecursion (EndsBy b) rest → AllByRecursion (EndsBy b) (range_before o r rest)
+before_with : (b : ℕ) (o : Option Extent) (r : PartRange) (old rest : List Extent) → AllByRecursion (EndsBy b) (range_before o r old) →
+    AllByRecursion (EndsBy b) rest → AllByRecursion (EndsBy b) (range_before o r rest)
 before_with b None r old rest h k = k
 before_with b (Some q) r old rest h k = (h.0, k)
 
-wide_ends : (sizes : List PartSize) (places : List Extent) (pl : Extent) (at : ℕ) (w : List PartRange) → at ≤ pl.1 → pl.1 ≡ pl.0 + (slice_index_or sizes (length places) no_part).size → AllByRecursion (LiesIn sizes) w →
+wide_ends : (sizes : List PartSize) (places : List Extent) (pl : Extent) (at : ℕ) (w : List PartRange) → at ≤ pl.1 →
+    pl.1 ≡ pl.0 + (slice_index_or sizes (length places) no_part).size → AllByRecursion (LiesIn sizes) w →
     AllByRecursion (EndsBy at) (placed_ranges places w) → AllByRecursion (EndsBy pl.1) (placed_ranges (places ++ pl ∷ []) w)
 wide_ends sizes places pl at [] le end lies ends = tt
 wide_ends sizes places pl at (r ∷ w) le end lies ends =
     let n : ℕ = length places in
-    let rest : AllByRecursion (EndsBy pl.1) (placed_ranges (places ++ pl ∷ []) w) = wide_ends sizes places pl at w le end lies.1 (before_head at (slice_get places r.0) r (placed_ranges places w) ends) in
+    let rest : AllByRecursion (EndsBy pl.1) (placed_ranges (places ++ pl ∷ []) w) =
+    wide_ends sizes places pl at w le end lies.1 (before_head at (slice_get places r.0) r (placed_ranges places w) ends) in
     ⊎_elim
     (λ (same : r.0 ≡ n).
     let size : (slice_index_or sizes r.0 no_part).size ≡ (slice_index_or sizes n no_part).size = ap (λ k. (slice_index_or sizes k no_part).size) same in
@@ -86,12 +90,14 @@ wide_ends sizes places pl at (r ∷ w) le end lies ends =
     (λ (other : r.0 ≡ n → ⊥).
     ⊎_elim
     (λ (lt : r.0 < n). subst (λ o. AllByRecursion (EndsBy pl.1) (range_before o r (placed_ranges (places ++ pl ∷ []) w))) (sym (get_left places pl r.0 lt))
-    (before_with pl.1 (slice_get places r.0) r (placed_ranges places w) (placed_ranges (places ++ pl ∷ []) w) (ends_more at pl.1 (range_before (slice_get places r.0) r (placed_ranges places w)) le ends) rest))
+    (before_with pl.1 (slice_get places r.0) r (placed_ranges places w) (placed_ranges (places ++ pl ∷ []) w)
+    (ends_more at pl.1 (range_before (slice_get places r.0) r (placed_ranges places w)) le ends) rest))
     (λ (ge : n ≤ r.0). subst (λ o. AllByRecursion (EndsBy pl.1) (range_before o r (placed_ranges (places ++ pl ∷ []) w))) (sym (get_beyond places pl r.0 (omega (arith, ge, other)))) rest)
     (cases_lt r.0 n))
     (cases_eq r.0 n)
 
-pub all_wide_end : (sizes : List PartSize) (places : List Extent) (pl : Extent) (at : ℕ) (ws : List (List PartRange)) → at ≤ pl.1 → pl.1 ≡ pl.0 + (slice_index_or sizes (length places) no_part).size → AllByRecursion (AllByRecursion (LiesIn sizes)) ws →
+pub all_wide_end : (sizes : List PartSize) (places : List Extent) (pl : Extent) (at : ℕ) (ws : List (List PartRange)) → at ≤ pl.1 →
+    pl.1 ≡ pl.0 + (slice_index_or sizes (length places) no_part).size → AllByRecursion (AllByRecursion (LiesIn sizes)) ws →
     AllEndBy at places ws → AllEndBy pl.1 (places ++ pl ∷ []) ws
 all_wide_end sizes places pl at [] le end lies ends = tt
 all_wide_end sizes places pl at (w ∷ ws) le end lies ends = (wide_ends sizes places pl at w le end lies.0 ends.0, all_wide_end sizes places pl at ws le end lies.1 ends.1)
@@ -116,18 +122,21 @@ least_passes : (test : ℕ → Bool) (n left o : ℕ) → least_from test n left
 least_passes test n zero o e = cc
 least_passes test n (suc left) o e = by (test n) refl e (λ h. least_passes test (n + 1) left o h)
   where
-    by : (b : Bool) → test n ≡ b → cond b (Some n) (least_from test (n + 1) left) ≡ Some o → (least_from test (n + 1) left ≡ Some o → (test o ≡ true) × (o < n + 1 + left)) → (test o ≡ true) × (o < n + suc left)
+    by : (b : Bool) → test n ≡ b → cond b (Some n) (least_from test (n + 1) left) ≡ Some o →
+        (least_from test (n + 1) left ≡ Some o → (test o ≡ true) × (o < n + 1 + left)) → (test o ≡ true) × (o < n + suc left)
     by true t h more = let same : n ≡ o = cc in (ap test (sym same) ∙ t, omega (arith, same))
     by false t h more = let m = more h in (m.0, (let x = m.1 in omega (arith, x)))
 
-pub offset_passes : (p : Plant) (ws : List (List PartRange)) (places : List Extent) (at : ℕ) (part : PartSize) (o : ℕ) → offset_of p ws places at part ≡ Some o → all_have_room p ws (places ++ moved_place p.line at part o ∷ []) ≡ true
+pub offset_passes : (p : Plant) (ws : List (List PartRange)) (places : List Extent) (at : ℕ) (part : PartSize) (o : ℕ) →
+    offset_of p ws places at part ≡ Some o → all_have_room p ws (places ++ moved_place p.line at part o ∷ []) ≡ true
 offset_passes p ws places at part o e = (least_passes (fits_behind p ws places at part) 0 p.sets o e).0
 
 pub next_is : (at align : ℕ) → at ≤ next_multiple_of at align
 next_is at align = omega arith
 
 -- the least offset by the rooms is the least one by the definition
-pub offset_same : (p : Plant) (ws : List (List PartRange)) (places : List Extent) (at : ℕ) (part : PartSize) (rooms : List Room) → 1 ≤ p.sets → p.sets ≤ 1024 → 0 < p.line → AreRooms p.line p.sets p.«ways» places rooms ws → AllEndBy at places ws →
+pub offset_same : (p : Plant) (ws : List (List PartRange)) (places : List Extent) (at : ℕ) (part : PartSize) (rooms : List Room) → 1 ≤ p.sets →
+    p.sets ≤ 1024 → 0 < p.line → AreRooms p.line p.sets p.«ways» places rooms ws → AllEndBy at places ws →
     least_from (λ o. all_fit p.line p.sets p.«ways» (next_multiple_of at part.align + o * p.line) rooms (map (ranges_of_part (length places)) ws)) 0 p.sets ≡ offset_of p ws places at part
 offset_same p ws places at part rooms some most pos are ends =
     ap (λ (test : ℕ → Bool). least_from test 0 p.sets) (λ i o. (agree o) i)
@@ -136,7 +145,9 @@ offset_same p ws places at part rooms some most pos are ends =
     agree o = fit_same p some most pos places at (moved_place p.line at part o) (omega (arith, next_is at part.align)) rooms ws are ends
 
 pub moved_more : (p : Plant) (ws : List (List PartRange)) (sizes : List PartSize) (places : List Extent) (at n : ℕ) (part : PartSize) → n < length sizes → part ≡ slice_index_or sizes n no_part →
-    moved_from p ws places at (drop n sizes) ≡ moved_by (offset_of p ws places at part) (length places) (λ o. moved_from p ws (places ++ moved_place p.line at part o ∷ []) (moved_place p.line at part o).1 (drop (n + 1) sizes))
+    moved_from p ws places at (drop n sizes)
+    ≡ moved_by (offset_of p ws places at part) (length places)
+    (λ o. moved_from p ws (places ++ moved_place p.line at part o ∷ []) (moved_place p.line at part o).1 (drop (n + 1) sizes))
 moved_more p ws sizes places at n part lt is =
     at_drop_more (λ (ps : List PartSize). moved_from p ws places at ps) sizes n no_part lt
     ∙ ap (λ (q : PartSize). moved_from p ws places at (q ∷ drop (n + 1) sizes)) (sym is)

@@ -1,7 +1,8 @@
 -- The ranges of wants place_in places are those of the plans, so where all wants have room no task has a conflict.
 use Rattle.std.specs.Prelude.{is_none, slice_index_or}
 use Rattle.std.specs.List.{AllByRecursion, list_all}
-use Rattle.std.proofs.Common.{◌≡◌, ℕ, zero, suc, ◌+◌, ◌-◌, ◌*◌, ◌<◌, ◌≤◌, Bool, true, false, ◌&&◌, List, [], ◌∷◌, ◌++◌, Option, None, Some, refl, ap, ap₂, sym, ◌∙◌, subst, arith, length, map, take, drop, slice_get}
+use Rattle.std.proofs.Common.{◌≡◌, ℕ, zero, suc, ◌+◌, ◌-◌, ◌*◌, ◌<◌, ◌≤◌, Bool, true, false, ◌&&◌, List, [], ◌∷◌, ◌++◌, Option, None, Some, refl, ap, ap₂, sym, ◌∙◌, subst, arith}
+use Rattle.std.proofs.Common.{length, map, take, drop, slice_get}
 use Rattle.std.proofs.lemmas.Bool.{and_parts}
 use Rattle.std.proofs.lemmas.List.{length-map}
 use Rattle.prem_plant.specs.declared.plant.Plant.{Plant}
@@ -16,7 +17,8 @@ use Rattle.prem_layout.specs.Placed.{Coded, task_places, placed_at, placed_from,
 use Rattle.prem_layout.specs.Rules.{or_else, of_conflict, conflict_in, first_conflict, conflict_rules}
 use Rattle.prem_layout.proofs.TaskParts.{place_in}
 use Rattle.prem_color.specs.Offsets.{PartRange, range_in, range_before, placed_ranges, has_room, all_have_room}
-use Rattle.prem_color.specs.Wants.{Want, Shape, shape_of, size_at, whole, code_number, stub_number, global_number, stack_number, stack_want, element_at, region_want, plan_ranges, plan_want, task_wants, wants_from}
+use Rattle.prem_color.specs.Wants.{Want, Shape, shape_of, size_at, whole, code_number, stub_number, global_number, stack_number, stack_want, element_at, region_want, plan_ranges}
+use Rattle.prem_color.specs.Wants.{plan_want, task_wants, wants_from}
 use Rattle.prem_color.specs.Standing.{RegionStands, PlanStands, TasksStand}
 use Rattle.prem_color.specs.Laws.{WantsLeaveNoConflict}
 
@@ -82,7 +84,8 @@ module _ (parts : List PartSize) (places : List Extent) (q : Resolved) (first : 
       let small : 1 + f < part_count q = omega (arith, lt) in
       let inside : code_number first f < length places = omega (arith, small, there) in
       placed_head places (whole parts (code_number first f)) (map (λ g. whole parts (code_number first g)) fs ++ rest) inside
-      ∙ cons_same (range_in (place_in places (code_number first f)) (whole parts (code_number first f))) (code_range t f) (placed_ranges places (map (λ g. whole parts (code_number first g)) fs ++ rest)) (map (code_range t) fs ++ more)
+      ∙ cons_same (range_in (place_in places (code_number first f)) (whole parts (code_number first f))) (code_range t f)
+      (placed_ranges places (map (λ g. whole parts (code_number first g)) fs ++ rest)) (map (code_range t) fs ++ more)
       (whole_is parts places (code_number first f) sizes inside ∙ sym (part_is (1 + f) small)) (codes_are fs rest more h.1 e)
 
   regions_are : (rs : List Region) → AllByRecursion (RegionStands parts s first) rs → placed_ranges places (map (region_want s first) rs) ≡ map (region_range t) rs
@@ -103,7 +106,8 @@ module _ (parts : List PartSize) (places : List Extent) (q : Resolved) (first : 
   stack_is : stack_place t ≡ place_in places (stack_number s first)
   stack_is = part_is (1 + s.functions + length s.marked + length s.elements) stack_small
 
-  stack_range_is : (plan : Plan) → plan.base + plan.depth ≤ size_at parts (stack_number s first) → range_in (place_in places (stack_number s first)) (stack_want parts (stack_number s first) plan) ≡ stack_range t plan
+  stack_range_is : (plan : Plan) → plan.base + plan.depth ≤ size_at parts (stack_number s first) →
+      range_in (place_in places (stack_number s first)) (stack_want parts (stack_number s first) plan) ≡ stack_range t plan
   stack_range_is plan le =
       let n : ℕ = stack_number s first in
       let small = stack_small in
@@ -111,7 +115,8 @@ module _ (parts : List PartSize) (places : List Extent) (q : Resolved) (first : 
       let size : (place_in places n).1 ≡ (place_in places n).0 + size_at parts n = sizes n inside in
       let low : (place_in places n).0 + (size_at parts n - plan.base - plan.depth) ≡ (place_in places n).1 - plan.base - plan.depth = omega (arith, size, le) in
       let high : (place_in places n).0 + (size_at parts n - plan.base) ≡ (place_in places n).1 - plan.base = omega (arith, size, le) in
-      pair_same ((place_in places n).0 + (size_at parts n - plan.base - plan.depth)) ((place_in places n).0 + (size_at parts n - plan.base)) ((place_in places n).1 - plan.base - plan.depth) ((place_in places n).1 - plan.base) low high
+      pair_same ((place_in places n).0 + (size_at parts n - plan.base - plan.depth)) ((place_in places n).0 + (size_at parts n - plan.base))
+      ((place_in places n).1 - plan.base - plan.depth) ((place_in places n).1 - plan.base) low high
       ∙ ap (λ (e : Extent). (e.1 - plan.base - plan.depth, e.1 - plan.base)) (sym stack_is)
 
   pub plan_is : (plan : Plan) → PlanStands parts s first plan → placed_ranges places (plan_ranges parts s first plan) ≡ ranges_of t plan
@@ -125,11 +130,16 @@ module _ (parts : List PartSize) (places : List Extent) (q : Resolved) (first : 
       let stack_inside : stack_number s first < length places = omega (arith, last, there) in
       let behind : placed_ranges places (stack_want parts (stack_number s first) plan ∷ map (region_want s first) plan.regions) ≡ stack_range t plan ∷ map (region_range t) plan.regions =
       placed_head places (stack_want parts (stack_number s first) plan) (map (region_want s first) plan.regions) stack_inside
-      ∙ cons_same (range_in (place_in places (stack_number s first)) (stack_want parts (stack_number s first) plan)) (stack_range t plan) (placed_ranges places (map (region_want s first) plan.regions)) (map (region_range t) plan.regions)
+      ∙ cons_same (range_in (place_in places (stack_number s first)) (stack_want parts (stack_number s first) plan)) (stack_range t plan)
+      (placed_ranges places (map (region_want s first) plan.regions)) (map (region_range t) plan.regions)
       (stack_range_is plan h.stack) (regions_are plan.regions h.regions) in
-      placed_head places (whole parts (stub_number s first plan.function)) (map (λ f. whole parts (code_number first f)) plan.reach ++ (stack_want parts (stack_number s first) plan ∷ map (region_want s first) plan.regions)) inside
+      placed_head places (whole parts (stub_number s first plan.function))
+      (map (λ f. whole parts (code_number first f)) plan.reach
+      ++ (stack_want parts (stack_number s first) plan ∷ map (region_want s first) plan.regions)) inside
       ∙ cons_same (range_in (place_in places (stub_number s first plan.function)) (whole parts (stub_number s first plan.function))) (stub_range t plan.function)
-      (placed_ranges places (map (λ f. whole parts (code_number first f)) plan.reach ++ (stack_want parts (stack_number s first) plan ∷ map (region_want s first) plan.regions))) (map (code_range t) plan.reach ++ (stack_range t plan ∷ map (region_range t) plan.regions))
+      (placed_ranges places (map (λ f. whole parts (code_number first f)) plan.reach
+      ++ (stack_want parts (stack_number s first) plan ∷ map (region_want s first) plan.regions)))
+      (map (code_range t) plan.reach ++ (stack_range t plan ∷ map (region_range t) plan.regions))
       (whole_is parts places (stub_number s first plan.function) sizes inside ∙ sym (part_is (1 + s.functions + k) small))
       (codes_are plan.reach (stack_want parts (stack_number s first) plan ∷ map (region_want s first) plan.regions) (stack_range t plan ∷ map (region_range t) plan.regions) h.reach behind)
 
@@ -166,7 +176,8 @@ module _ (p : Plant) (parts : List PartSize) (places : List Extent) (sizes : Hav
       let here : conflict_in p (placed_at p c place_in) plan ≡ None = ap (of_conflict (name_at c.program.routines plan.function) p.«ways») none in
       ap (λ o. or_else o (first_conflict p (placed_at p c place_in) plans)) here ∙ plans_fit c task first there plans h.1 a.1
 
-  tasks_fit : (tasks : List Coded) (task first : ℕ) → first + part_total tasks ≤ length places → TasksStand parts first tasks → all_have_room p (ranges_list (wants_from parts task first tasks)) places ≡ true →
+  tasks_fit : (tasks : List Coded) (task first : ℕ) → first + part_total tasks ≤ length places → TasksStand parts first tasks →
+      all_have_room p (ranges_list (wants_from parts task first tasks)) places ≡ true →
       AllByRecursion (λ t. conflict_rules p t ≡ None) (placed_from p (drop first places) tasks)
   tasks_fit [] task first le h e = tt
   tasks_fit (c ∷ cs) task first le h e =
@@ -174,7 +185,8 @@ module _ (p : Plant) (parts : List PartSize) (places : List Extent) (sizes : Hav
       let mine : List Want = task_wants parts task first c.program in
       let more : List Want = wants_from parts (task + 1) (first + part_count c.program) cs in
       let both = split_all test (ranges_list mine) (ranges_list more) (ap (list_all test) (sym (ranges_append mine more)) ∙ e) in
-      let next : AllByRecursion (λ t. conflict_rules p t ≡ None) (placed_from p (drop (first + part_count c.program) places) cs) = tasks_fit cs (task + 1) (first + part_count c.program) (omega (arith, le)) h.1 both.1 in (
+      let next : AllByRecursion (λ t. conflict_rules p t ≡ None) (placed_from p (drop (first + part_count c.program) places) cs) =
+      tasks_fit cs (task + 1) (first + part_count c.program) (omega (arith, le)) h.1 both.1 in (
         plans_fit c task first (omega (arith, le)) (plans_of c.program) h.0 both.0,
         subst (λ (ps : List Extent). AllByRecursion (λ t. conflict_rules p t ≡ None) (placed_from p ps cs)) (drop_more first (part_count c.program) places) next,
       )

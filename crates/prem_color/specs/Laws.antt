@@ -25,7 +25,8 @@ PlacedAreasAreLawful =
 -- so are places with offsets, where the last one ends within memory
 abbrev pub MovedPlacesAreLawful : Type 0
 MovedPlacesAreLawful =
-    (p : Plant) (wants : List (List PartRange)) (parts : List PartSize) (places : List Extent) → 0 < p.line → All (λ part. 1 ≤ part.align) parts → AlignLines p.line parts → HasWholeAreas p.line parts →
+    (p : Plant) (wants : List (List PartRange)) (parts : List PartSize) (places : List Extent) → 0 < p.line → All (λ part. 1 ≤ part.align) parts →
+    AlignLines p.line parts → HasWholeAreas p.line parts →
     moved_places p wants parts ≡ Ok places → last_end places ≤ p.memory → AreLawful p.line p.memory parts places
 
 -- and all wants have room at them

@@ -42,11 +42,13 @@ passed_jumps set parts layout tasks h none =
     let rest = broken_up_to_bounds set.plant (map placed_of tasks) in
     unbounded_is set parts layout tasks h ∙ ap (λ (x : Option (Refusal LateRule)). late_refusal x) (none_passes jumps rest none)
 
-pub bounds_stop : (set : TaskSet) (parts : List PartSize) (layout : List Extent) (tasks : List PlacedTask) (stop : Stop) → HasPlaces set parts layout tasks → over_tasks reach_rules (map placed_of tasks) ≡ None →
+pub bounds_stop : (set : TaskSet) (parts : List PartSize) (layout : List Extent) (tasks : List PlacedTask) (stop : Stop) →
+    HasPlaces set parts layout tasks → over_tasks reach_rules (map placed_of tasks) ≡ None →
     Stops stop (late_refusal (broken_up_to_bounds set.plant (map placed_of tasks))) → Stops stop (unbounded_at set layout)
 bounds_stop set parts layout tasks stop h none s = same_stop stop _ _ (passed_jumps set parts layout tasks h none) s
 
-pub bounds_there : (set : TaskSet) (parts : List PartSize) (layout : List Extent) (tasks : List PlacedTask) (all : List TaskBounds) → HasPlaces set parts layout tasks → over_tasks reach_rules (map placed_of tasks) ≡ None →
+pub bounds_there : (set : TaskSet) (parts : List PartSize) (layout : List Extent) (tasks : List PlacedTask) (all : List TaskBounds) →
+    HasPlaces set parts layout tasks → over_tasks reach_rules (map placed_of tasks) ≡ None →
     broken_up_to_bounds set.plant (map placed_of tasks) ≡ None → map bounds_of all ≡ told_from set.plant 0 (map placed_of tasks) → AreBoundsAt set layout all
 bounds_there set parts layout tasks all h none kept told = record {
   lawful = passed_jumps set parts layout tasks h none ∙ ap (λ (x : Option (Refusal LateRule)). late_refusal x) kept;
@@ -74,7 +76,8 @@ behind_memory : (set : TaskSet) (tasks : List CodedTask) → HasCode set tasks �
 behind_memory set tasks h none =
     behind_early set h.early ∙ none_passes (memory_rule set) (unbounded_at set (places_in set)) (ap (λ (x : Option (Refusal LateRule)). late_refusal x) none)
 
-pub bounds_default : (set : TaskSet) (tasks : List CodedTask) (parts : List PartSize) (layout : List Extent) (result : Result (Vec TaskBounds Global) Stop) → HasCode set tasks → parts ≡ parts_in set → layout ≡ default_places parts →
+pub bounds_default : (set : TaskSet) (tasks : List CodedTask) (parts : List PartSize) (layout : List Extent)
+    (result : Result (Vec TaskBounds Global) Stop) → HasCode set tasks → parts ≡ parts_in set → layout ≡ default_places parts →
     refused_by None (memory_rules set.plant (default_places parts)) ≡ None → EndsBoundsAt set layout result → EndsBounds set result
 bounds_default set tasks parts layout result h are laid none ends =
     let kept : refused_by None (memory_rules set.plant (places_in set)) ≡ None = ap (λ (ps : List PartSize). refused_by None (memory_rules set.plant (default_places ps))) (sym are) ∙ none in

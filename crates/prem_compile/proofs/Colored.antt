@@ -51,7 +51,8 @@ tasks_counted passes n (p ∷ ps) (c ∷ cs) h =
     ∙ ap (λ k. k + length (parts_from passes (n + 1) (map sized_of cs))) (parts_counted passes n sizes c.program sized)
     ∙ ap (λ k. part_count c.program + k) (tasks_counted passes (n + 1) ps cs h.1)
 
-no_conflict : (p : Plant) (devices : List Device) (ps : List ProgramText) (cs : List Coded) (places : List Extent) → AreCodesOf ps cs → TasksStand (parts_of p devices cs) 0 cs → ArePlaces p.memory (parts_of p devices cs) places →
+no_conflict : (p : Plant) (devices : List Device) (ps : List ProgramText) (cs : List Coded) (places : List Extent) → AreCodesOf ps cs →
+    TasksStand (parts_of p devices cs) 0 cs → ArePlaces p.memory (parts_of p devices cs) places →
     moved_places p (ranges_of (wants_of (parts_of p devices cs) cs)) (parts_of p devices cs) ≡ Ok places → over_tasks (conflict_rules p) (placed_from p places cs) ≡ None
 no_conflict p devices ps [] places codes stand are moved = refl
 no_conflict p devices ps (c ∷ cs) places codes stand are moved =

@@ -48,7 +48,8 @@ pub record IsCounted (t : CodedTask) (count : ℕ) : Type 0 where
   pub is : count ≡ part_count (coded_task t).program
   pub few : count ≤ 1024
 
-pub counted : (t : CodedTask) (functions plans globals : ℕ) → IsCodedTask t → functions ≡ length (items_of t.program.now.routines) → plans ≡ length (items_of t.plans) → globals ≡ length t.program.now.globals.items →
+pub counted : (t : CodedTask) (functions plans globals : ℕ) → IsCodedTask t → functions ≡ length (items_of t.program.now.routines) →
+    plans ≡ length (items_of t.plans) → globals ≡ length t.program.now.globals.items →
     IsCounted t (2 + functions + plans + globals)
 counted t functions plans globals h ef ep eg =
     let a = routines_long (slice_index t.turns.now) 0 (items_of t.program.now.routines) in
@@ -76,7 +77,8 @@ module _ (t : CodedTask) (is : IsCodedTask t) (shape : ShapeInMemory) (plans : L
       subst (λ (ps : List Plan). AllByRecursion (PlanStands sizes (shape_in shape) first) ps) (sym plans_same)
       (subst (λ s. AllByRecursion (PlanStands sizes s first) (plans_of (coded_task t).program)) (sym shape_same) h)
 
-  pub pushed : {A E : Type 0} (sizes : List PartSize) (n first : ℕ) (old new : List Want) (result : Result A E) → OnOk result (new ≡ old ++ map (plan_want sizes (shape_in shape) n first) (map plan_of plans)) →
+  pub pushed : {A E : Type 0} (sizes : List PartSize) (n first : ℕ) (old new : List Want) (result : Result A E) →
+      OnOk result (new ≡ old ++ map (plan_want sizes (shape_in shape) n first) (map plan_of plans)) →
       OnOk result (new ≡ old ++ task_wants sizes n first (coded_task t).program)
   pushed sizes n first old new (Ok x) h =
       h ∙ ap (λ (ps : List Plan). old ++ map (plan_want sizes (shape_in shape) n first) ps) plans_same ∙ ap (λ s. old ++ map (plan_want sizes s n first) (plans_of (coded_task t).program)) shape_same
@@ -103,11 +105,13 @@ module _ (set : TaskSet) (tasks : List CodedTask) (h : AreTasksOf set tasks) whe
       ap (λ (texts : List TaskText). coded_of set.plant.target texts (programs_of set.tasks)) same ∙ sym h.same in
       subst (AllByRecursion HasName) all (names_given set.plant.target ts (programs_of set.tasks) (recursion_from_All IsTaskText ts stated.each))
 
-  pub coded_there : (devices : List Device) (sizes lent : List PartSize) → AreCodesOf (programs_of set.tasks) (coded_in set) → devices ≡ set.devices → sizes ≡ parts_in set → lent ≡ sizes → All (IsThere devices (map coded_task tasks)) lent
+  pub coded_there : (devices : List Device) (sizes lent : List PartSize) → AreCodesOf (programs_of set.tasks) (coded_in set) → devices ≡ set.devices →
+      sizes ≡ parts_in set → lent ≡ sizes → All (IsThere devices (map coded_task tasks)) lent
   coded_there devices sizes lent codes ed es el =
       subst (λ (ps : List PartSize). All (IsThere devices (map coded_task tasks)) ps) (sym (el ∙ es))
       (subst (λ (ds : List Device). All (IsThere ds (map coded_task tasks)) (parts_in set)) (sym ed)
-      (subst (λ (cs : List Coded). All (IsThere set.devices cs) (parts_in set)) (sym h.same) (parts_there set.plant set.devices (coded_in set) (code_given (programs_of set.tasks) (coded_in set) codes))))
+      (subst (λ (cs : List Coded). All (IsThere set.devices cs) (parts_in set)) (sym h.same)
+      (parts_there set.plant set.devices (coded_in set) (code_given (programs_of set.tasks) (coded_in set) codes))))
 
   pub coded_stand : (sizes lent : List PartSize) → AreCodesOf (programs_of set.tasks) (coded_in set) → sizes ≡ parts_in set → lent ≡ sizes → TasksStand lent 0 (map coded_task tasks)
   coded_stand sizes lent codes es el =

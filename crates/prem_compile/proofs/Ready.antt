@@ -57,7 +57,8 @@ head_of target t p = coded_one target (task_of t) (bounded p)
 abbrev coded_all : Target → List TaskTree → List ProgramText → List Coded
 coded_all target ts ps = tasks.coded_of target (map task_of ts) ps
 
-names_same : (target : Target) (xs : List PlacedTask) (ts : List TaskTree) (ps : List ProgramText) → map coded_of xs ≡ coded_all target ts ps → length ps ≡ length ts → built.task_names xs ≡ lawful.task_names ts
+names_same : (target : Target) (xs : List PlacedTask) (ts : List TaskTree) (ps : List ProgramText) → map coded_of xs ≡ coded_all target ts ps →
+    length ps ≡ length ts → built.task_names xs ≡ lawful.task_names ts
 names_same target [] [] ps e l = refl
 names_same target [] (t ∷ ts) [] e l = absurd (omega (arith, l))
 names_same target [] (t ∷ ts) (p ∷ ps) e l = absurd cc
@@ -87,7 +88,8 @@ ranges_of target x t p here s is =
       code = s.parts.code;
     }
 
-each_in_range : (target : Target) (xs : List PlacedTask) (ts : List TaskTree) (ps : List ProgramText) → map coded_of xs ≡ coded_all target ts ps → length ps ≡ length ts → AllByRecursion stands_in xs → AllByRecursion IsTaskText ts →
+each_in_range : (target : Target) (xs : List PlacedTask) (ts : List TaskTree) (ps : List ProgramText) → map coded_of xs ≡ coded_all target ts ps →
+    length ps ≡ length ts → AllByRecursion stands_in xs → AllByRecursion IsTaskText ts →
     AllByRecursion HasRanges xs
 each_in_range target [] ts ps e l s is = tt
 each_in_range target (x ∷ xs) [] ps e l s is = absurd cc
@@ -117,7 +119,8 @@ blocks_are (x ∷ xs) (bs ∷ bss) e =
 set_is_built : (set : TaskSet) (ts : List TaskTree) (parts : List PartSize) (layout : List Extent) (xs : List PlacedTask) (bss : List (List Block)) →
     IsPlant set.plant → AreDevices set.devices → AreTasks ts → map task_of ts ≡ set.tasks → HasPlaces set parts layout xs → views_of bss ≡ map words_in xs → IsBuilt set.plant xs bss set.devices layout
 set_is_built set ts parts layout xs bss plant devices stated same h blocks =
-    let coded : map coded_of xs ≡ coded_all set.plant.target ts (programs_of set.tasks) = h.coded ∙ ap (λ (texts : List TaskText). tasks.coded_of set.plant.target texts (programs_of set.tasks)) (sym same) in
+    let coded : map coded_of xs ≡ coded_all set.plant.target ts (programs_of set.tasks) = h.coded
+    ∙ ap (λ (texts : List TaskText). tasks.coded_of set.plant.target texts (programs_of set.tasks)) (sym same) in
     let long : length (programs_of set.tasks) ≡ length ts = h.as_many ∙ ap (λ (texts : List TaskText). length texts) (sym same) ∙ length-map ts task_of in
     let count : length xs ≡ length ts = as_many set.plant.target xs ts (programs_of set.tasks) coded long in
     record {
@@ -135,7 +138,8 @@ set_is_built set ts parts layout xs bss plant devices stated same h blocks =
     }
 
 -- as plant and devices are lent
-pub lent_is_built : (set : TaskSet) (p : Plant) (ds : List Device) (ts : List TaskTree) (parts : List PartSize) (layout : List Extent) (xs : List PlacedTask) (all : List (Vec Block Global)) → p ≡ set.plant → ds ≡ set.devices →
+pub lent_is_built : (set : TaskSet) (p : Plant) (ds : List Device) (ts : List TaskTree) (parts : List PartSize) (layout : List Extent)
+    (xs : List PlacedTask) (all : List (Vec Block Global)) → p ≡ set.plant → ds ≡ set.devices →
     IsPlant p → AreDevices ds → AreTasks ts → map task_of ts ≡ set.tasks → HasPlaces set parts layout xs → map (λ (bs : Vec Block Global). map block_of bs.items) all ≡ map words_in xs →
     IsBuilt p xs (map (λ (bs : Vec Block Global). bs.items) all) ds layout
 lent_is_built set p ds ts parts layout xs all ep ed plant devices stated same h blocks =
@@ -168,7 +172,8 @@ pub record AreReady (set : TaskSet) (parts : List PartSize) (xs : List PlacedTas
 pub tasks_are_ready : (set : TaskSet) (ts : List TaskTree) (parts : List PartSize) (layout : List Extent) (xs : List PlacedTask) →
     AreTasks ts → map task_of ts ≡ set.tasks → HasPlaces set parts layout xs → AreReady set parts xs
 tasks_are_ready set ts parts layout xs stated same h =
-    let coded : map coded_of xs ≡ coded_all set.plant.target ts (programs_of set.tasks) = h.coded ∙ ap (λ (texts : List TaskText). tasks.coded_of set.plant.target texts (programs_of set.tasks)) (sym same) in
+    let coded : map coded_of xs ≡ coded_all set.plant.target ts (programs_of set.tasks) = h.coded
+    ∙ ap (λ (texts : List TaskText). tasks.coded_of set.plant.target texts (programs_of set.tasks)) (sym same) in
     let long : length (programs_of set.tasks) ≡ length ts = h.as_many ∙ ap (λ (texts : List TaskText). length texts) (sym same) ∙ length-map ts task_of in
     let ranges : AllByRecursion HasRanges xs = each_in_range set.plant.target xs ts (programs_of set.tasks) coded long h.standing (recursion_from_All IsTaskText ts stated.each) in
     let all : parts_of set.plant set.devices (map coded_of xs) ≡ parts = ap (λ (cs : List Coded). parts_of set.plant set.devices cs) h.coded ∙ sym h.parts_are in

@@ -1,7 +1,8 @@
 -- The plans of a set's tasks name what is there among its parts.
 use Rattle.std.specs.Prelude.{◌==◌, if◌then◌else◌, slice_get}
 use Rattle.std.specs.List.{AllByRecursion}
-use Rattle.std.proofs.Common.{◌≡◌, ℕ, zero, suc, ◌+◌, ◌*◌, ◌<◌, ◌≤◌, ◌^◌, Bool, true, false, List, [], ◌∷◌, ◌++◌, Option, None, Some, refl, ap, sym, ◌∙◌, subst, arith, append_assoc, length, length-append, map}
+use Rattle.std.proofs.Common.{◌≡◌, ℕ, zero, suc, ◌+◌, ◌*◌, ◌<◌, ◌≤◌, ◌^◌, Bool, true, false, List, [], ◌∷◌, ◌++◌, Option, None, Some, refl, ap, sym, ◌∙◌, subst, arith}
+use Rattle.std.proofs.Common.{append_assoc, length, length-append, map}
 use Rattle.std.proofs.lemmas.Bool.{eq-eqb}
 use Rattle.std.proofs.lemmas.List.{length-map}
 use Rattle.std.proofs.lemmas.List.Elements.{recursion_from_All}
@@ -59,7 +60,8 @@ index_there : (plans : List Plan) (j : ℕ) (plan : Plan) → slice_get plans j 
 index_there [] j plan e = cc
 index_there (x ∷ xs) zero plan e =
     let same : x.function ≡ plan.function = (let is : x ≡ plan = cc in ap (λ (q : Plan). q.function) is) in
-    subst (λ b. (if b then 0 else 1 + index_of plan.function (map (λ (q : Plan). q.function) xs)) < suc (length (map (λ (q : Plan). q.function) xs))) (sym (eq-eqb x.function plan.function same)) (omega arith)
+    subst (λ b. (if b then 0 else 1 + index_of plan.function (map (λ (q : Plan). q.function) xs)) < suc (length (map (λ (q : Plan). q.function) xs)))
+    (sym (eq-eqb x.function plan.function same)) (omega arith)
 index_there (x ∷ xs) (suc j) plan e = by (x.function == plan.function) (index_there xs j plan e)
   where
     by : (b : Bool) → index_of plan.function (map (λ (q : Plan). q.function) xs) < length (map (λ (q : Plan). q.function) xs) →
@@ -69,7 +71,8 @@ index_there (x ∷ xs) (suc j) plan e = by (x.function == plan.function) (index_
 
 -- ---- one task
 
-module _ (passes : Passes) (task : ℕ) (before after : List PartSize) (x : ProgramText) (turns : ℕ → ℕ) (formed : IsWellFormed x) (sizes : List ℕ) (long : length sizes ≡ length (resolve turns x).routines) where
+module _ (passes : Passes) (task : ℕ) (before after : List PartSize) (x : ProgramText) (turns : ℕ → ℕ) (formed : IsWellFormed x) (sizes : List ℕ)
+    (long : length sizes ≡ length (resolve turns x).routines) where
   abbrev q : Resolved
   q = resolve turns x
 
@@ -159,7 +162,8 @@ code_stands passes task before after p c h =
     subst (λ (r : Resolved). AllByRecursion (PlanStands (before ++ (task_parts passes task sizes r ++ after)) (shape_of r) (length before)) (plans_of r)) (sym h.program)
     (plans_stand passes task before after p h.turns h.formed sizes long)
 
-each_stands : (passes : Passes) (before after : List PartSize) (n : ℕ) (ps : List ProgramText) (cs : List Coded) → AreCodesOf ps cs → TasksStand (before ++ (parts_from passes n (map sized_of cs) ++ after)) (length before) cs
+each_stands : (passes : Passes) (before after : List PartSize) (n : ℕ) (ps : List ProgramText) (cs : List Coded) → AreCodesOf ps cs →
+    TasksStand (before ++ (parts_from passes n (map sized_of cs) ++ after)) (length before) cs
 each_stands passes before after n ps [] h = tt
 each_stands passes before after n [] (c ∷ cs) h = absurd h
 each_stands passes before after n (p ∷ ps) (c ∷ cs) h =

@@ -3,7 +3,8 @@ use Rattle.std.specs.Prelude.{nat_lt, nat_le, not, is_some, is_none, IsTrue, ◌
 use Rattle.std.specs.Int.{next_multiple_of}
 use Rattle.std.specs.List.{AllByRecursion, list_any}
 use Rattle.std.specs.Str.{bytes_eq}
-use Rattle.std.proofs.Common.{◌≡◌, ℕ, zero, suc, ◌+◌, ◌*◌, ◌<◌, ◌≤◌, ◌^◌, max, cond, Bool, true, false, List, [], ◌∷◌, ◌++◌, Option, None, Some, refl, ap, sym, ◌∙◌, subst, arith, length, map, take, append_assoc}
+use Rattle.std.proofs.Common.{◌≡◌, ℕ, zero, suc, ◌+◌, ◌*◌, ◌<◌, ◌≤◌, ◌^◌, max, cond, Bool, true, false, List, [], ◌∷◌, ◌++◌, Option, None, Some, refl, ap, sym, ◌∙◌, subst, arith}
+use Rattle.std.proofs.Common.{length, map, take, append_assoc}
 use Rattle.std.proofs.lemmas.Nat.{mul-le}
 use Rattle.std.proofs.lemmas.List.{length-map}
 use Rattle.std.proofs.lemmas.Bool.Decides.{nat_tests}
@@ -17,7 +18,8 @@ use Rattle.prem_syntax.specs.Syntax.{Text, RegionText, MarkText, GlobalVariable,
 use Rattle.prem_syntax.specs.Resolved.{Routine, Resolved}
 use Rattle.prem_syntax.specs.Resolve.{Scope, find_named, find_global, scope_at, scope_in, loops_within, resolve_items, globals_of, functions_of, resolve}
 use Rattle.prem_syntax.specs.Rules.{NoJob, OfTypes}
-use Rattle.prem_syntax.specs.Breaches.{in_region, in_regions, regions_of, in_heading, in_parameters, in_locals, in_statements, in_option, around, parameter_texts, in_function, in_global, in_items, item_names, in_limits, reached, is_job_name, if_broken}
+use Rattle.prem_syntax.specs.Breaches.{in_region, in_regions, regions_of, in_heading, in_parameters, in_locals, in_statements, in_option, around, parameter_texts, in_function}
+use Rattle.prem_syntax.specs.Breaches.{in_global, in_items, item_names, in_limits, reached, is_job_name, if_broken}
 use Rattle.prem_syntax.specs.Reach.{is_in_set}
 use Rattle.prem_ranges.proofs.Basics.{none_left, none_right}
 use Rattle.prem_ranges.proofs.Named.{kept_rule, found_at}
@@ -41,7 +43,8 @@ pub record RegionFits (globals : List GlobalVariable) (r : RegionText) : Type 0 
   pub order : r.low ≤ r.high
   pub inside : r.high < unwrap_or global.len 1
 
-found_more : (name : Text) (n : ℕ) (xs ys : List GlobalVariable) (r : ℕ × GlobalVariable) → find_named (λ (g : GlobalVariable). g.name) name n xs ≡ Some r → find_named (λ (g : GlobalVariable). g.name) name n (xs ++ ys) ≡ Some r
+found_more : (name : Text) (n : ℕ) (xs ys : List GlobalVariable) (r : ℕ × GlobalVariable) →
+    find_named (λ (g : GlobalVariable). g.name) name n xs ≡ Some r → find_named (λ (g : GlobalVariable). g.name) name n (xs ++ ys) ≡ Some r
 found_more name n [] ys r e = cc
 found_more name n (x ∷ xs) ys r e = by (bytes_eq x.name name) e (λ h. found_more name (n + 1) xs ys r h)
   where
@@ -55,7 +58,8 @@ or_false : (a b : Bool) → a || b ≡ false → (a ≡ false) × (b ≡ false)
 or_false true b e = absurd cc
 or_false false b e = (refl, e)
 
-region_fits : (globals later : List GlobalVariable) (r : RegionText) (found : Option (ℕ × GlobalVariable)) → find_named (λ (g : GlobalVariable). g.name) r.name 0 globals ≡ found → in_region r found ≡ [] → RegionFits (globals ++ later) r
+region_fits : (globals later : List GlobalVariable) (r : RegionText) (found : Option (ℕ × GlobalVariable)) →
+    find_named (λ (g : GlobalVariable). g.name) r.name 0 globals ≡ found → in_region r found ≡ [] → RegionFits (globals ++ later) r
 region_fits globals later r None is e = absurd cc
 region_fits globals later r (Some g) is e =
     let tests = or_false (nat_lt r.high r.low) (nat_le (unwrap_or g.1.len 1) r.high) (kept_rule (nat_lt r.high r.low || nat_le (unwrap_or g.1.len 1) r.high) r.at (OfTypes RegionRule) e) in
@@ -122,7 +126,8 @@ codes_long task n (s ∷ ss) = ap suc (codes_long task (n + 1) ss)
 pub global_there : (task n k : ℕ) (gs : List GlobalVariable) (g : GlobalVariable) (rest : List PartSize) → slice_get gs k ≡ Some g →
     slice_get (global_parts task n gs ++ rest) k ≡ Some (part task (Global (n + k)) (global_size g) 4)
 global_there task n k [] g rest e = absurd cc
-global_there task n zero (x ∷ xs) g rest e = let same : x ≡ g = cc in let z : n ≡ n + 0 = omega arith in ap (λ (y : GlobalVariable). Some (part task (Global n) (global_size y) 4)) same ∙ ap (λ j. Some (part task (Global j) (global_size g) 4)) z
+global_there task n zero (x ∷ xs) g rest e = let same : x ≡ g = cc in let z : n ≡ n + 0 = omega arith in
+    ap (λ (y : GlobalVariable). Some (part task (Global n) (global_size y) 4)) same ∙ ap (λ j. Some (part task (Global j) (global_size g) 4)) z
 global_there task n (suc k) (x ∷ xs) g rest e = let z : (n + 1) + k ≡ n + suc k = omega arith in global_there task (n + 1) k xs g rest e ∙ ap (λ j. Some (part task (Global j) (global_size g) 4)) z
 
 -- the number of a part behind the start, the code and the stubs
@@ -160,7 +165,8 @@ pub record PlanFits (p : Resolved) (most : ℕ) (plan : Plan) : Type 0 where
   pub base : plan.base ≡ frame_at p.routines p.job
   pub depth : plan.depth ≤ most
 
-plans_fit : (p : Resolved) (most n : ℕ) (fs : List Routine) → deepest_marked (depth_of p.routines) n fs ≤ most → AllByRecursion (RoutineFits p.globals) fs → AllByRecursion (PlanFits p most) (plans_from p n fs)
+plans_fit : (p : Resolved) (most n : ℕ) (fs : List Routine) → deepest_marked (depth_of p.routines) n fs ≤ most →
+    AllByRecursion (RoutineFits p.globals) fs → AllByRecursion (PlanFits p most) (plans_from p n fs)
 plans_fit p most n [] deep fit = tt
 plans_fit p most n (f ∷ fs) deep fit = by f.text.mark deep fit.0 (λ le. plans_fit p most (n + 1) fs le fit.1)
   where
@@ -202,14 +208,17 @@ get_inside (x ∷ xs) zero g e = omega arith
 get_inside (x ∷ xs) (suc k) g e = let lt = get_inside xs k g e in omega (arith, lt)
 
 -- the place of what stands k parts behind the stubs
-behind_at : (p : Resolved) (places : List Extent) (sizes : List ℕ) (memory k number : ℕ) (part : PartSize) → length sizes ≡ length p.routines → k ≤ length p.globals → number ≡ 1 + length sizes + length (plans_of p) + k →
+behind_at : (p : Resolved) (places : List Extent) (sizes : List ℕ) (memory k number : ℕ) (part : PartSize) → length sizes ≡ length p.routines →
+    k ≤ length p.globals → number ≡ 1 + length sizes + length (plans_of p) + k →
     (s : StandsAt memory places number part) → place_at (task_places p places) (1 + length p.routines + length (task_places p places).marked + k) ≡ s.at
 behind_at p places sizes memory k number part long le is s =
     let marked : length (task_places p places).marked ≡ length (plans_of p) = length-map (plans_of p) (λ (plan : Plan). plan.function) in
     let z : 1 + length p.routines + length (task_places p places).marked + k ≡ number = omega (arith, marked, long, is) in
     ap (place_at (task_places p places)) z ∙ place_taken places (part_count p) number s.at (omega (arith, long, is)) s.there
 
-region_stands : (p : Resolved) (places : List Extent) (sizes : List ℕ) (passes : Passes) (task memory : ℕ) (r : RegionText) → length sizes ≡ length p.routines → memory ≤ 2 ^ 24 → ArePartsAt memory (task_parts passes task sizes p) places → RegionFits p.globals r → IsRegionAt (task_places p places) (region_of p.globals r)
+region_stands : (p : Resolved) (places : List Extent) (sizes : List ℕ) (passes : Passes) (task memory : ℕ) (r : RegionText) →
+    length sizes ≡ length p.routines → memory ≤ 2 ^ 24 → ArePartsAt memory (task_parts passes task sizes p) places → RegionFits p.globals r →
+    IsRegionAt (task_places p places) (region_of p.globals r)
 region_stands p places sizes passes task memory r long small stand fit =
     let t = task_places p places in
     let g = fit.global in
@@ -219,7 +228,9 @@ region_stands p places sizes passes task memory r long small stand fit =
     let inside : k < length p.globals = get_inside p.globals k g there in
     let at_part = behind_stubs passes task k sizes p ∙ global_there task 0 k p.globals g (part task Stack (stack_size p) 16 ∷ []) there in
     let s = stand (1 + length sizes + length (plans_of p) + k) (part task (Global (0 + k)) (global_size g) 4) at_part in
-    let place : global_range t k ≡ s.at = behind_at p places sizes memory k (1 + length sizes + length (plans_of p) + k) (part task (Global (0 + k)) (global_size g) 4) long (omega (arith, inside)) refl s in
+    let place : global_range t k ≡ s.at =
+    behind_at p places sizes memory k (1 + length sizes + length (plans_of p) + k) (part task (Global (0 + k)) (global_size g) 4) long
+    (omega (arith, inside)) refl s in
     let element : slice_index_or t.elements k 0 ≡ element_size g.ty = element_at p.globals k g there in
     let fits : (r.high + 1) * element_size g.ty ≤ global_size g = inside_global (element_size g.ty) r.high (unwrap_or g.len 1) fit.inside in
     let start : (global_range t k).0 ≡ s.at.0 = ap (λ (q : Extent). q.0) place in
@@ -230,13 +241,17 @@ region_stands p places sizes passes task memory r long small stand fit =
     let Q : ℕ → Type 0 = λ n. IsRegionAt t (n, r.low, r.high) in
     subst Q (sym number) (record { order = fit.order; small = few; ends = omega (arith, end, small) })
 
-regions_stand : (p : Resolved) (places : List Extent) (sizes : List ℕ) (passes : Passes) (task memory : ℕ) (rs : List RegionText) → length sizes ≡ length p.routines → memory ≤ 2 ^ 24 → ArePartsAt memory (task_parts passes task sizes p) places → AllByRecursion (RegionFits p.globals) rs → AllByRecursion (IsRegionAt (task_places p places)) (map (region_of p.globals) rs)
+regions_stand : (p : Resolved) (places : List Extent) (sizes : List ℕ) (passes : Passes) (task memory : ℕ) (rs : List RegionText) →
+    length sizes ≡ length p.routines → memory ≤ 2 ^ 24 → ArePartsAt memory (task_parts passes task sizes p) places →
+    AllByRecursion (RegionFits p.globals) rs → AllByRecursion (IsRegionAt (task_places p places)) (map (region_of p.globals) rs)
 regions_stand p places sizes passes task memory [] long small stand fits = tt
-regions_stand p places sizes passes task memory (r ∷ rs) long small stand fits = (region_stands p places sizes passes task memory r long small stand fits.0, regions_stand p places sizes passes task memory rs long small stand fits.1)
+regions_stand p places sizes passes task memory (r ∷ rs) long small stand fits =
+    (region_stands p places sizes passes task memory r long small stand fits.0, regions_stand p places sizes passes task memory rs long small stand fits.1)
 
 -- ---- all plans
 
-plan_stands : (p : Resolved) (places : List Extent) (sizes : List ℕ) (passes : Passes) (task memory most : ℕ) (plan : Plan) → length sizes ≡ length p.routines → memory ≤ 2 ^ 24 → ArePartsAt memory (task_parts passes task sizes p) places →
+plan_stands : (p : Resolved) (places : List Extent) (sizes : List ℕ) (passes : Passes) (task memory most : ℕ) (plan : Plan) →
+    length sizes ≡ length p.routines → memory ≤ 2 ^ 24 → ArePartsAt memory (task_parts passes task sizes p) places →
     frame_at p.routines p.job + most ≤ stack_size p → PlanFits p most plan → IsPlanAt (task_places p places) plan
 plan_stands p places sizes passes task memory most plan long small stand room fit =
     let t = task_places p places in
@@ -244,14 +259,17 @@ plan_stands p places sizes passes task memory most plan long small stand room fi
     let at_part = behind_stubs passes task gs sizes p ∙ stack_there task p.globals (stack_size p) in
     let s = stand (1 + length sizes + length (plans_of p) + gs) (part task Stack (stack_size p) 16) at_part in
     let elements : length t.elements ≡ gs = length-map p.globals (λ (g : GlobalVariable). element_size g.ty) in
-    let place : stack_place t ≡ s.at = ap (λ k. place_at t (1 + t.functions + length t.marked + k)) elements ∙ behind_at p places sizes memory gs (1 + length sizes + length (plans_of p) + gs) (part task Stack (stack_size p) 16) long (omega arith) refl s in
+    let place : stack_place t ≡ s.at = ap (λ k. place_at t (1 + t.functions + length t.marked + k)) elements
+    ∙ behind_at p places sizes memory gs (1 + length sizes + length (plans_of p) + gs) (part task Stack (stack_size p) 16) long (omega arith) refl s in
     let top : (stack_place t).1 ≡ s.at.1 = ap (λ (q : Extent). q.1) place in
     record {
       stack = let a = s.ends in let b = fit.base in let d = fit.depth in omega (arith, top, a, b, d, room);
-      regions = let P : List Region → Type 0 = λ rs. AllByRecursion (IsRegionAt t) rs in subst P (sym fit.regions) (regions_stand p places sizes passes task memory fit.mark.regions long small stand fit.fits);
+      regions = let P : List Region → Type 0 = λ rs. AllByRecursion (IsRegionAt t) rs in
+          subst P (sym fit.regions) (regions_stand p places sizes passes task memory fit.mark.regions long small stand fit.fits);
     }
 
-each_stands : (p : Resolved) (places : List Extent) (sizes : List ℕ) (passes : Passes) (task memory most : ℕ) (plans : List Plan) → length sizes ≡ length p.routines → memory ≤ 2 ^ 24 → ArePartsAt memory (task_parts passes task sizes p) places →
+each_stands : (p : Resolved) (places : List Extent) (sizes : List ℕ) (passes : Passes) (task memory most : ℕ) (plans : List Plan) →
+    length sizes ≡ length p.routines → memory ≤ 2 ^ 24 → ArePartsAt memory (task_parts passes task sizes p) places →
     frame_at p.routines p.job + most ≤ stack_size p → AllByRecursion (PlanFits p most) plans → AllByRecursion (IsPlanAt (task_places p places)) plans
 each_stands p places sizes passes task memory most [] long small stand room fits = tt
 each_stands p places sizes passes task memory most (plan ∷ plans) long small stand room fits =

@@ -5,7 +5,10 @@ use Rattle.prem_list.specs.Sequence.{items_of}
 use Rattle.prem_syntax.specs.Name.{name_bytes}
 use Rattle.prem_syntax.specs.SyntaxOf.{mark_of, global_of, parameter_of, function_of, item_of}
 use Rattle.prem_text.specs.Lexing.Token.Lexeme.{seen_of}
-use Rattle.prem_text.specs.Grammar.Item.{Typing, no_type, after_signed, after_unsigned, a_type, Declared, an_item, a_parameter, a_local, Constant, range_low, range_high, only_value, next_value, Value, local_value, result_value, ItemRow, mark_row, region_row, length_row, global_row, body_row, range_row, local_row, end_row, Stage, outside, marked, in_row, in_type, behind_item, behind_global, before_initial, before_constant, behind_constant, before_parameter, on_parameter, behind_parameter, before_local, in_statements, in_value, finished, ItemStep, ahead, made, refused}
+use Rattle.prem_text.specs.Grammar.Item.{Typing, no_type, after_signed, after_unsigned, a_type, Declared, an_item, a_parameter, a_local, Constant, range_low, range_high}
+use Rattle.prem_text.specs.Grammar.Item.{only_value, next_value, Value, local_value, result_value, ItemRow, mark_row, region_row, length_row, global_row, body_row, range_row}
+use Rattle.prem_text.specs.Grammar.Item.{local_row, end_row, Stage, outside, marked, in_row, in_type, behind_item, behind_global, before_initial, before_constant, behind_constant}
+use Rattle.prem_text.specs.Grammar.Item.{before_parameter, on_parameter, behind_parameter, before_local, in_statements, in_value, finished, ItemStep, ahead, made, refused}
 use Rattle.prem_reader.specs.Expression.StateOf.{state_of}
 use Rattle.prem_reader.specs.Statement.SlotOf.{slot_of}
 use Rattle.prem_reader.specs.Statement.PointOf.{point_of}

@@ -40,7 +40,9 @@ use Rattle.prem_sound.specs.Scopes.Charged.{Scoping, within_scope, scope_with, s
 use Rattle.prem_sound.proofs.ScopesLemmas.ChargeRuns.{scope_by-next}
 use Rattle.prem_sound.proofs.ScopesLemmas.Credits.{Backed, backed_none}
 
-closed_charged-next : (plant : Plant) (short : ℕ → ℕ) (run : TaskRun) (charge : Charges) (n : ℕ) → closed_charged plant short run charge (n + 1) ≡ closed_with plant short (begun_by run n) charge n (plain_did run (plain_run run n)) (closed_charged plant short run charge n)
+closed_charged-next : (plant : Plant) (short : ℕ → ℕ) (run : TaskRun) (charge : Charges) (n : ℕ) →
+    closed_charged plant short run charge (n + 1)
+    ≡ closed_with plant short (begun_by run n) charge n (plain_did run (plain_run run n)) (closed_charged plant short run charge n)
 unfolding closed_charged
 closed_charged-next plant short run charge n = let e : n + 1 ≡ suc n = omega arith in ap (closed_charged plant short run charge) e
 
@@ -91,7 +93,9 @@ module _ (plant : Plant) (run : TaskRun) (s : Script) (order : OrderRule) (scopi
 
   abbrev pub Shuts : (now had a : ℕ) → List (List ℕ) → Window → Mode → Interval → Change → Debt → Type 0
   Shuts now had a orders w Point i mark debt = Held had a
-  Shuts now had a orders w (Switching j left) i mark debt = (j ≡ k → (had + left + kept_by plant.switch (phase_now a) (short (call_now a)) ≤ plant.switch + job_now a) × (scope_now a ≡ [])) × ((j ≡ k → ⊥) → Held had a)
+  Shuts now had a orders w (Switching j left) i mark debt =
+      (j ≡ k → (had + left + kept_by plant.switch (phase_now a) (short (call_now a)) ≤ plant.switch + job_now a) × (scope_now a ≡ []))
+      × ((j ≡ k → ⊥) → Held had a)
   Shuts now had a orders w (Running j) i mark debt = (j ≡ k → InRun now had a orders w i mark debt) × ((j ≡ k → ⊥) → Held had a)
   Shuts now had a orders w (Idle until) i mark debt = Held had a
 
@@ -119,8 +123,10 @@ module _ (plant : Plant) (run : TaskRun) (s : Script) (order : OrderRule) (scopi
 
     -- while a task runs, with the same window
     run_on : (j : ℕ) (c c' : CoreState) → c.mode ≡ Running j → c'.mode ≡ Running j → c'.window ≡ c.window → c'.interval ≡ c.interval → c'.mark ≡ c.mark →
-        (InRun now had a orders c.window c.interval c.mark c.debt → InRun (now + 1) (had + counts longest (is_task k (serves_in now sched c.mode)) now c.window) a orders c.window c.interval c.mark c'.debt) →
-        Shuts now had a orders c.window c.mode c.interval c.mark c.debt → Shuts (now + 1) (had + counts longest (is_task k (serves_in now sched c.mode)) now c.window) a orders c'.window c'.mode c'.interval c'.mark c'.debt
+        (InRun now had a orders c.window c.interval c.mark c.debt →
+        InRun (now + 1) (had + counts longest (is_task k (serves_in now sched c.mode)) now c.window) a orders c.window c.interval c.mark c'.debt) →
+        Shuts now had a orders c.window c.mode c.interval c.mark c.debt →
+        Shuts (now + 1) (had + counts longest (is_task k (serves_in now sched c.mode)) now c.window) a orders c'.window c'.mode c'.interval c'.mark c'.debt
     run_on j c c' e f g h i step r =
         let t : (j ≡ k → InRun now had a orders c.window c.interval c.mark c.debt) × ((j ≡ k → ⊥) → Held had a) = subst (λ m. Shuts now had a orders c.window m c.interval c.mark c.debt) e r in
         subst (λ m. Shuts (now + 1) (had + counts longest (is_task k (serves_in now sched c.mode)) now c.window) a orders c'.window m c'.interval c'.mark c'.debt) (sym f)
@@ -129,17 +135,23 @@ module _ (plant : Plant) (run : TaskRun) (s : Script) (order : OrderRule) (scopi
         (subst (λ v. Shuts (now + 1) (had + counts longest (is_task k (serves_in now sched c.mode)) now c.window) a orders c.window (Running j) c.interval v c'.debt) (sym i)
         (λ same. step (t.0 same), λ ne. held_other (serves_in now sched c.mode) c.window (ap (λ m. is_task k (serves_in now sched m)) e ∙ other_task j ne) (t.1 ne)))))
 
-    pays_on : (c : CoreState) (debt : Debt) → 1 + owed_of debt ≤ owed_of c.debt → InRun now had a orders c.window c.interval c.mark c.debt → InRun (now + 1) (had + counts longest (is_task k (serves_in now sched c.mode)) now c.window) a orders c.window c.interval c.mark debt
+    pays_on : (c : CoreState) (debt : Debt) → 1 + owed_of debt ≤ owed_of c.debt → InRun now had a orders c.window c.interval c.mark c.debt →
+        InRun (now + 1) (had + counts longest (is_task k (serves_in now sched c.mode)) now c.window) a orders c.window c.interval c.mark debt
     pays_on c debt le h =
         record {
           credit = h.credit;
           backed = h.backed;
           over = h.over;
-          shuts = shut_on plant.switch longest most (is_task k (serves_in now sched c.mode)) c.interval.predictable c.mark (phase_now a) now (owed_of c.debt) (owed_of debt) h.credit c.interval.first (stated_now a) (opens (call_now a)) had (short (call_now a)) (job_now a) c.window le h.shuts;
+          shuts = shut_on plant.switch longest most (is_task k (serves_in now sched c.mode)) c.interval.predictable c.mark (phase_now a) now
+              (owed_of c.debt) (owed_of debt) h.credit c.interval.first (stated_now a) (opens (call_now a)) had (short (call_now a)) (job_now a)
+              c.window le h.shuts;
         }
 
-    pub moves_shut : (p : Setup) (bus : Bool) (w : Work) (c : CoreState) (m : CoreMove) → p.plant.switch ≡ plant.switch → MoveCase p now bus sched w c m → ArePositive c.debt.transactions → (wants (want_of c.debt) ≡ true → bus ≡ true) → (wants (want_of c.debt) ≡ true → (j : ℕ) × (c.mode ≡ Running j)) →
-        ((j : ℕ) → c.mode ≡ Running j → (is_paid c.debt && ends_before now c.interval c.mark) ≡ false) → (c.interval.predictable ≡ false → c.mark ≡ End → c.mode ≡ Running k → ⊥) → (c.mode ≡ Point → choice now sched ≡ Finished → ⊥) →
+    pub moves_shut : (p : Setup) (bus : Bool) (w : Work) (c : CoreState) (m : CoreMove) → p.plant.switch ≡ plant.switch →
+        MoveCase p now bus sched w c m → ArePositive c.debt.transactions → (wants (want_of c.debt) ≡ true → bus ≡ true) →
+        (wants (want_of c.debt) ≡ true → (j : ℕ) × (c.mode ≡ Running j)) →
+        ((j : ℕ) → c.mode ≡ Running j → (is_paid c.debt && ends_before now c.interval c.mark) ≡ false) →
+        (c.interval.predictable ≡ false → c.mark ≡ End → c.mode ≡ Running k → ⊥) → (c.mode ≡ Point → choice now sched ≡ Finished → ⊥) →
         phase_in w k ≡ phase_now a → (phase_now a ≡ Execution → c.mode ≡ Running k) →
         Shuts now had a orders c.window c.mode c.interval c.mark c.debt → ShutMove now had a orders sched c.mode c.window m
     moves_shut p bus w c _ sw (pays_on_bus q h) pos serves owes on no_end go same ex r =
@@ -157,7 +169,9 @@ module _ (plant : Plant) (run : TaskRun) (s : Script) (order : OrderRule) (scopi
           credit = h.credit;
           backed = h.backed;
           over = h.over;
-          shuts = shut_waits plant.switch longest most (is_task k (serves_in now sched c.mode)) c.interval.predictable c.interval c.mark (phase_now a) now (owed_of c.debt) h.credit c.interval.first (stated_now a) (opens (call_now a)) had (short (call_now a)) (job_now a) c.window y (λ f g. no_end f g (e ∙ ap (λ i. Running i) mine)) over h.shuts;
+          shuts = shut_waits plant.switch longest most (is_task k (serves_in now sched c.mode)) c.interval.predictable c.interval c.mark (phase_now a)
+              now (owed_of c.debt) h.credit c.interval.first (stated_now a) (opens (call_now a)) had (short (call_now a)) (job_now a) c.window y
+              (λ f g. no_end f g (e ∙ ap (λ i. Running i) mine)) over h.shuts;
         }) r)
         (λ (ne : j ≡ k → ⊥).
         let t : (j ≡ k → InRun now had a orders c.window c.interval c.mark c.debt) × ((j ≡ k → ⊥) → Held had a) = subst (λ m. Shuts now had a orders c.window m c.interval c.mark c.debt) e r in
@@ -172,22 +186,30 @@ module _ (plant : Plant) (run : TaskRun) (s : Script) (order : OrderRule) (scopi
               record {
                 credit = h.credit;
                 backed = h.backed;
-                shuts = shut_goes plant.switch longest most c.interval.predictable c.mark (phase_now a) now (owed_of c.debt) h.credit c.interval.first (stated_now a) (opens (call_now a)) had (short (call_now a)) (job_now a) c.window y h.shuts;
+                shuts = shut_goes plant.switch longest most c.interval.predictable c.mark (phase_now a) now (owed_of c.debt) h.credit c.interval.first
+                    (stated_now a) (opens (call_now a)) had (short (call_now a)) (job_now a) c.window y h.shuts;
               },
           t.1,
         )
     moves_shut p bus w c _ sw (switches j left q e) pos serves owes on no_end go same ex r =
-        let t : (j ≡ k → (had + suc left + kept_by plant.switch (phase_now a) (short (call_now a)) ≤ plant.switch + job_now a) × (scope_now a ≡ [])) × ((j ≡ k → ⊥) → Held had a) = subst (λ m. Shuts now had a orders c.window m c.interval c.mark c.debt) e r in (
-          λ mine. let one : counts longest (is_task k (serves_in now sched c.mode)) now c.window ≤ 1 = one_most longest (is_task k (serves_in now sched c.mode)) now c.window in (omega (arith, (t.0 mine).0, one), (t.0 mine).1),
+        let t : (j ≡ k → (had + suc left + kept_by plant.switch (phase_now a) (short (call_now a)) ≤ plant.switch + job_now a) × (scope_now a ≡ []))
+        × ((j ≡ k → ⊥) → Held had a) = subst (λ m. Shuts now had a orders c.window m c.interval c.mark c.debt) e r in (
+          λ mine. let one : counts longest (is_task k (serves_in now sched c.mode)) now c.window ≤ 1 =
+              one_most longest (is_task k (serves_in now sched c.mode)) now c.window in (omega (arith, (t.0 mine).0, one), (t.0 mine).1),
           λ ne. held_other (serves_in now sched c.mode) c.window (ap (λ m. is_task k (serves_in now sched m)) e ∙ other_task j ne) (t.1 ne),
         )
     moves_shut p bus w c _ sw (begins j q e) pos serves owes on no_end go same ex r =
-        let t : (j ≡ k → (had + zero + kept_by plant.switch (phase_now a) (short (call_now a)) ≤ plant.switch + job_now a) × (scope_now a ≡ [])) × ((j ≡ k → ⊥) → Held had a) = subst (λ m. Shuts now had a orders c.window m c.interval c.mark c.debt) e r in (
+        let t : (j ≡ k → (had + zero + kept_by plant.switch (phase_now a) (short (call_now a)) ≤ plant.switch + job_now a) × (scope_now a ≡ []))
+        × ((j ≡ k → ⊥) → Held had a) = subst (λ m. Shuts now had a orders c.window m c.interval c.mark c.debt) e r in (
           ap (serves_in now sched) e,
-          λ mine. begun j w c mine same (λ x. let y : Switching j zero ≡ Running k = sym e ∙ ex x in cc) (let z : had + 0 + kept_by plant.switch (phase_now a) (short (call_now a)) ≤ plant.switch + job_now a = (t.0 mine).0 in omega (arith, z)) (t.0 mine).1,
+          λ mine. begun j w c mine same (λ x. let y : Switching j zero ≡ Running k = sym e ∙ ex x in cc)
+              (let z : had + 0 + kept_by plant.switch (phase_now a) (short (call_now a)) ≤ plant.switch + job_now a = (t.0 mine).0 in
+              omega (arith, z)) (t.0 mine).1,
           t.1,
         ) where
-          begun : (j : ℕ) (w : Work) (c : CoreState) → j ≡ k → phase_in w k ≡ phase_now a → (phase_now a ≡ Execution → ⊥) → had + kept_by plant.switch (phase_now a) (short (call_now a)) ≤ plant.switch + job_now a → scope_now a ≡ [] → ShutIssue now had a orders c.window (new_interval now (phase_in w j))
+          begun : (j : ℕ) (w : Work) (c : CoreState) → j ≡ k → phase_in w k ≡ phase_now a → (phase_now a ≡ Execution → ⊥) →
+              had + kept_by plant.switch (phase_now a) (short (call_now a)) ≤ plant.switch + job_now a → scope_now a ≡ [] →
+              ShutIssue now had a orders c.window (new_interval now (phase_in w j))
           begun j w c mine same none h fresh =
               let f : phase_in w j ≡ phase_now a = ap (phase_in w) mine ∙ same in
               subst (λ ph. ShutIssue now had a orders c.window (new_interval now ph)) (sym f)
@@ -199,7 +221,8 @@ module _ (plant : Plant) (run : TaskRun) (s : Script) (order : OrderRule) (scopi
     moves_shut p bus w c _ sw (chooses j left q e h z) pos serves owes on no_end go same ex r =
         let t : Held had a = subst (λ m. Shuts now had a orders c.window m c.interval c.mark c.debt) e r in
         let sv : serves_in now sched c.mode ≡ Some j = ap (serves_in now sched) e ∙ ap chosen_task h in (
-          λ mine. let one : counts longest (is_task k (serves_in now sched c.mode)) now c.window ≤ 1 = one_most longest (is_task k (serves_in now sched c.mode)) now c.window in (omega (arith, t.0, one, z, sw), t.1),
+          λ mine. let one : counts longest (is_task k (serves_in now sched c.mode)) now c.window ≤ 1 =
+              one_most longest (is_task k (serves_in now sched c.mode)) now c.window in (omega (arith, t.0, one, z, sw), t.1),
           λ ne. held_other (serves_in now sched c.mode) c.window (ap (is_task k) sv ∙ other_task j ne) t,
         )
     moves_shut p bus w c _ sw (chooses_now j q e h z) pos serves owes on no_end go same ex r =
@@ -208,7 +231,9 @@ module _ (plant : Plant) (run : TaskRun) (s : Script) (order : OrderRule) (scopi
           λ mine. begun j w c mine same (λ x. let y : Point ≡ Running k = sym e ∙ ex x in cc) (omega (arith, t.0)) t.1,
           λ ne. t,
         ) where
-          begun : (j : ℕ) (w : Work) (c : CoreState) → j ≡ k → phase_in w k ≡ phase_now a → (phase_now a ≡ Execution → ⊥) → had + kept_by plant.switch (phase_now a) (short (call_now a)) ≤ plant.switch + job_now a → scope_now a ≡ [] → ShutIssue now had a orders c.window (new_interval now (phase_in w j))
+          begun : (j : ℕ) (w : Work) (c : CoreState) → j ≡ k → phase_in w k ≡ phase_now a → (phase_now a ≡ Execution → ⊥) →
+              had + kept_by plant.switch (phase_now a) (short (call_now a)) ≤ plant.switch + job_now a → scope_now a ≡ [] →
+              ShutIssue now had a orders c.window (new_interval now (phase_in w j))
           begun j w c mine same none h fresh =
               let f : phase_in w j ≡ phase_now a = ap (phase_in w) mine ∙ same in
               subst (λ ph. ShutIssue now had a orders c.window (new_interval now ph)) (sym f)
@@ -245,7 +270,9 @@ module _ (plant : Plant) (run : TaskRun) (s : Script) (order : OrderRule) (scopi
     pub scope_next : (d : Did) → plain_did run (plain_run run a) ≡ Some d → scope_now (a + 1) ≡ within_scope d.change (lines_at run scoping a)
     scope_next d e = scope_by-next run scoping a ∙ ap (λ o. scope_with o (lines_at run scoping a)) e
 
-    pub issues_shut : (orders' : List (List ℕ)) (i : Interval) (d : Did) (debt : Debt) (w : Window) (serves : Bool) → plain_did run (plain_run run a) ≡ Some d → Goes (phase_now a) (stated_now a) i → ((l : ℕ) → d.change ≡ Execute l → l ≡ stated_now a) → ((l : ℕ) → d.change ≡ Execute l → now ≤ i.first + opens (call_now a)) →
+    pub issues_shut : (orders' : List (List ℕ)) (i : Interval) (d : Did) (debt : Debt) (w : Window) (serves : Bool) →
+        plain_did run (plain_run run a) ≡ Some d → Goes (phase_now a) (stated_now a) i → ((l : ℕ) → d.change ≡ Execute l → l ≡ stated_now a) →
+        ((l : ℕ) → d.change ≡ Execute l → now ≤ i.first + opens (call_now a)) →
         IsClosedBy plant run short (charges_by plant run scoping) most → (h : ShutIssue now had a orders w i) → Paid orders' d (owed_of debt) h.credit (charges_by plant run scoping a d) →
         InRun (now + 1) (had + counts longest serves now w) (a + 1) orders' (window_after d.change now i.first w) (with_stated d.change i) d.change debt
     issues_shut orders' i d debt w serves e goes stated soon most_of h paid =
@@ -261,7 +288,8 @@ module _ (plant : Plant) (run : TaskRun) (s : Script) (order : OrderRule) (scopi
         let after : begun_by run (a + 1) ≡ begun_after c d b = begun_by-next run a ∙ ap (λ o. begun_with o b) e in
         let calls : (begun_by run (a + 1)).calls ≡ b.calls + begins_call c = ap (λ (y : Begun). y.calls) after ∙ calls_after c d b in
         let job : job_now (a + 1) ≡ within_job c (job_now a + did_charge plant (short b.calls) ph c n) =
-        closed_charged-next plant short run charge a ∙ ap (λ o. closed_with plant short b charge a o (job_now a)) e ∙ ap (λ q. within_job c (job_now a + did_charge plant (short b.calls) q c n)) same in
+        closed_charged-next plant short run charge a ∙ ap (λ o. closed_with plant short b charge a o (job_now a)) e
+        ∙ ap (λ q. within_job c (job_now a + did_charge plant (short b.calls) q c n)) same in
         let le : job_now a + did_charge plant (short b.calls) ph c n ≤ most = subst (λ q. job_now a + did_charge plant (short b.calls) q c n ≤ most) same (most_of.jobs a d e) in
         let fresh : c ≡ Memory → short (call_now (a + 1)) ≡ short b.calls = (λ m. let y : call_now (a + 1) ≡ b.calls = omega (arith, calls, ap begins_call m) in ap short y) in
         let kept : (c ≡ Memory → ⊥) → (short (call_now (a + 1)) ≡ short (call_now a)) × (stated_now (a + 1) ≡ stated_now a) × (opens (call_now (a + 1)) ≡ opens (call_now a)) =
@@ -271,9 +299,17 @@ module _ (plant : Plant) (run : TaskRun) (s : Script) (order : OrderRule) (scopi
           backed = λ none. paid.backed (same ∙ calm_phase ph (goes.kind ∙ none));
           over = λ y. scope_next d e ∙ over_scope c (lines_at run scoping a) y;
           shuts =
-              subst (λ q. HasShut plant.switch longest most q c (phase_now (a + 1)) (now + 1) (owed_of debt) paid.spare i.first (stated_now (a + 1)) (opens (call_now (a + 1))) (had + counts longest serves now w) (short (call_now (a + 1))) (job_now (a + 1)) (window_after c now i.first w)) goes.kind
-              (subst (λ q. HasShut plant.switch longest most (is_predictable ph) c q (now + 1) (owed_of debt) paid.spare i.first (stated_now (a + 1)) (opens (call_now (a + 1))) (had + counts longest serves now w) (short (call_now (a + 1))) (job_now (a + 1)) (window_after c now i.first w)) (sym next)
-              (subst (λ q. HasShut plant.switch longest most (is_predictable ph) c (phase_after c ph) (now + 1) (owed_of debt) paid.spare i.first (stated_now (a + 1)) (opens (call_now (a + 1))) (had + counts longest serves now w) (short (call_now (a + 1))) q (window_after c now i.first w)) (sym job)
-              (shut_issues plant.switch longest most plant serves ph c now (owed_of debt) h.credit paid.spare n i.first (stated_now a) (opens (call_now a)) had (short (call_now a)) (job_now a) (short b.calls) (stated_now (a + 1)) (opens (call_now (a + 1))) (short (call_now (a + 1))) w refl l stated soon (λ y. paid.pays (same ∙ y)) le fresh kept
+              subst (λ q. HasShut plant.switch longest most q c (phase_now (a + 1)) (now + 1) (owed_of debt) paid.spare i.first (stated_now (a + 1))
+              (opens (call_now (a + 1))) (had + counts longest serves now w) (short (call_now (a + 1))) (job_now (a + 1))
+              (window_after c now i.first w)) goes.kind
+              (subst (λ q. HasShut plant.switch longest most (is_predictable ph) c q (now + 1) (owed_of debt) paid.spare i.first (stated_now (a + 1))
+              (opens (call_now (a + 1))) (had + counts longest serves now w) (short (call_now (a + 1))) (job_now (a + 1))
+              (window_after c now i.first w)) (sym next)
+              (subst (λ q. HasShut plant.switch longest most (is_predictable ph) c (phase_after c ph) (now + 1) (owed_of debt) paid.spare i.first
+              (stated_now (a + 1)) (opens (call_now (a + 1))) (had + counts longest serves now w) (short (call_now (a + 1))) q
+              (window_after c now i.first w)) (sym job)
+              (shut_issues plant.switch longest most plant serves ph c now (owed_of debt) h.credit paid.spare n i.first (stated_now a)
+              (opens (call_now a)) had (short (call_now a)) (job_now a) (short b.calls) (stated_now (a + 1)) (opens (call_now (a + 1)))
+              (short (call_now (a + 1))) w refl l stated soon (λ y. paid.pays (same ∙ y)) le fresh kept
               (subst (λ q. MayShut plant.switch longest most q ph now h.credit i.first (stated_now a) (opens (call_now a)) had (short (call_now a)) (job_now a) w) (sym goes.kind) h.shuts))));
         }

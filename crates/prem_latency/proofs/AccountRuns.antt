@@ -25,7 +25,8 @@ use Rattle.prem_cycle.specs.declared.state.Interval.{Interval}
 use Rattle.prem_cycle.specs.State.{Setup, record_of, Task, Work, Debt, CoreState, Counts, MachineState, start_of, task_in}
 use Rattle.prem_cycle.specs.Issue.{issued_by, owed_by, Executes, LineTouch}
 use Rattle.prem_cycle.specs.Core.{want_of, is_paid, CoreMove, Passes, Issues, is_predictable, stated_after, window_after, core_issue, core_turn}
-use Rattle.prem_cycle.specs.Cycle.{Arrivals, arrivals_at, bus_at, with_memory, with_clash, move_at, core_at, joined, ends_before, sched_after, at_point, close_interval, settle, with_now, next_cycle, ticked, cycle_of, is_finished, is_full, is_over}
+use Rattle.prem_cycle.specs.Cycle.{Arrivals, arrivals_at, bus_at, with_memory, with_clash, move_at, core_at, joined, ends_before, sched_after, at_point, close_interval, settle}
+use Rattle.prem_cycle.specs.Cycle.{with_now, next_cycle, ticked, cycle_of, is_finished, is_full, is_over}
 use Rattle.prem_cycle.specs.Run.{CycleStep, step_with, memory_of, cycles_of, steps_of}
 use Rattle.prem_cycle.proofs.CoreCases.{move_cases, Closes}
 use Rattle.prem_cycle.specs.Runs.Position.Issued.{count_of, issued_of, AreOwn, IsRunnable}
@@ -75,7 +76,9 @@ use Rattle.prem_cycle.proofs.RunsLemmas.PositionLemmas.Finishes.{finished_point}
 -- ---- when a call opens
 
 -- an interval's time, where its instructions and a fill and a write back for each member are at most so many cycles
-pub opened_by : (order : OrderRule) (plant : Plant) (now begin most : ℕ) (c : Call) (ds : List Did) (orders : List (List ℕ)) → CacheMissesOnce order → 0 < length orders → HaveRoom (length orders) plant.ways c.members → AllIn c.members (lines_of_dids plant.line ds) → cost_of_dids ds + length c.members * (plant.fill + plant.back) ≤ most → Paced order plant now 0 begin ds orders → now ≤ begin + most
+pub opened_by : (order : OrderRule) (plant : Plant) (now begin most : ℕ) (c : Call) (ds : List Did) (orders : List (List ℕ)) → CacheMissesOnce order →
+    0 < length orders → HaveRoom (length orders) plant.ways c.members → AllIn c.members (lines_of_dids plant.line ds) →
+    cost_of_dids ds + length c.members * (plant.fill + plant.back) ≤ most → Paced order plant now 0 begin ds orders → now ≤ begin + most
 opened_by order plant now begin most c ds orders once pos room within le h =
     let xs : List ℕ = lines_of_dids plant.line ds in
     let f : ℕ = plant.fill + plant.back in
@@ -87,8 +90,13 @@ opened_by order plant now begin most c ds orders once pos room within le h =
       sum : (t begin c a b s : ℕ) → a ≤ b → c + b ≤ s → t + 0 ≤ begin + c + a → t ≤ begin + s
       sum t begin c a b s x y h = omega (arith, x, y, h)
 
-module _ (rule : ReplacementRule) (order : OrderRule) (passes : ℕ → ℕ) (p : Setup) (content : List ℕ) (inputs : List (List ℕ)) (requests : List Request) (own : ℕ → ℕ → Bool) (runs : ℕ → TaskRun) (scripts : ℕ → Script) (policy : IsPolicy rule order passes) (keep : KeepScripts p passes runs scripts) (q : IsRunnable p content requests) (o : AreOwn p content inputs own runs) (periods : All (λ (r : TaskRecord). 1 ≤ r.period) p.tasks)
-    (scoping : Scoping) (opens : ℕ → ℕ) (longest most k : ℕ) (there : k < length p.tasks) (some : 1 ≤ longest) (scoped : IsScoped p.plant (runs k) scoping) (opened : IsOpened p.plant (runs k) (scripts k) opens) (few : IsClosedBy p.plant (runs k) (short_of (scripts k) opens longest) (charges_by p.plant (runs k) scoping) most) where
+module _ (rule : ReplacementRule) (order : OrderRule) (passes : ℕ → ℕ) (p : Setup) (content : List ℕ) (inputs : List (List ℕ))
+    (requests : List Request) (own : ℕ → ℕ → Bool) (runs : ℕ → TaskRun) (scripts : ℕ → Script) (policy : IsPolicy rule order passes)
+    (keep : KeepScripts p passes runs scripts) (q : IsRunnable p content requests) (o : AreOwn p content inputs own runs)
+    (periods : All (λ (r : TaskRecord). 1 ≤ r.period) p.tasks)
+    (scoping : Scoping) (opens : ℕ → ℕ) (longest most k : ℕ) (there : k < length p.tasks) (some : 1 ≤ longest)
+    (scoped : IsScoped p.plant (runs k) scoping) (opened : IsOpened p.plant (runs k) (scripts k) opens)
+    (few : IsClosedBy p.plant (runs k) (short_of (scripts k) opens longest) (charges_by p.plant (runs k) scoping) most) where
   abbrev states : ℕ → MachineState
   states n = state rule p content inputs requests n
 
@@ -127,28 +135,77 @@ module _ (rule : ReplacementRule) (order : OrderRule) (passes : ℕ → ℕ) (p 
   -- an instruction is paid for by what it is charged, and by its scope's credit
   abbrev PaidBy : (now had : ℕ) (sched : List TaskJobs) (a : ℕ → ℕ) (w : Work) (d : Did) (owed credit : ℕ) → Type 0
   PaidBy now had sched a w d owed credit =
-      Paid p.plant (runs k) (scripts k) order scoping opens longest most k now had (a k) (lines_in w.cache) sched (caches_after order p.plant.ways (lines_in w.cache) (lines_of_did p.plant.line d)) d owed credit (charges_by p.plant (runs k) scoping (a k) d)
+      Paid p.plant (runs k) (scripts k) order scoping opens longest most k now had (a k) (lines_in w.cache) sched
+      (caches_after order p.plant.ways (lines_in w.cache) (lines_of_did p.plant.line d)) d owed credit (charges_by p.plant (runs k) scoping (a k) d)
 
-  paid_by : (now had : ℕ) (sched : List TaskJobs) (a : ℕ → ℕ) (d : Did) (w : Work) (owed credit : ℕ) (ts : List LineTouch) → plain_did (runs k) (plain_run (runs k) (a k)) ≡ Some d → 0 < p.plant.sets → length (lines_in w.cache) ≡ p.plant.sets → missed_lines ts ≡ cache_misses order p.plant.ways (lines_in w.cache) (lines_of_did p.plant.line d) → owed ≡ total (owed_by p.plant ts) + (cost_of d.instr - 1) → (d.phase ≡ Compatible → Backed order p.plant (lines_in w.cache) (scope_by (runs k) scoping (a k)) credit) →
+  paid_by : (now had : ℕ) (sched : List TaskJobs) (a : ℕ → ℕ) (d : Did) (w : Work) (owed credit : ℕ) (ts : List LineTouch) →
+      plain_did (runs k) (plain_run (runs k) (a k)) ≡ Some d → 0 < p.plant.sets → length (lines_in w.cache) ≡ p.plant.sets →
+      missed_lines ts ≡ cache_misses order p.plant.ways (lines_in w.cache) (lines_of_did p.plant.line d) →
+      owed ≡ total (owed_by p.plant ts) + (cost_of d.instr - 1) →
+      (d.phase ≡ Compatible → Backed order p.plant (lines_in w.cache) (scope_by (runs k) scoping (a k)) credit) →
       (c : Change) → d.change ≡ c → (ph : Phase) → d.phase ≡ ph → PaidBy now had sched a w d owed credit
-  paid_by now had sched a d w owed credit ts did pos count missed owed_is h c ch MemoryPhase ph = record { spare = 0; backed = λ e. absurd (let y : MemoryPhase ≡ Compatible = sym ph ∙ e in cc); pays = λ e. absurd (let y : MemoryPhase ≡ Compatible = sym ph ∙ e in cc) }
-  paid_by now had sched a d w owed credit ts did pos count missed owed_is h c ch Execution ph = record { spare = 0; backed = λ e. absurd (let y : Execution ≡ Compatible = sym ph ∙ e in cc); pays = λ e. absurd (let y : Execution ≡ Compatible = sym ph ∙ e in cc) }
+  paid_by now had sched a d w owed credit ts did pos count missed owed_is h c ch MemoryPhase ph =
+      record {
+        spare = 0;
+        backed = λ e. absurd (let y : MemoryPhase ≡ Compatible = sym ph ∙ e in cc);
+        pays = λ e. absurd (let y : MemoryPhase ≡ Compatible = sym ph ∙ e in cc);
+      }
+  paid_by now had sched a d w owed credit ts did pos count missed owed_is h c ch Execution ph =
+      record {
+        spare = 0;
+        backed = λ e. absurd (let y : Execution ≡ Compatible = sym ph ∙ e in cc);
+        pays = λ e. absurd (let y : Execution ≡ Compatible = sym ph ∙ e in cc);
+      }
   paid_by now had sched a d w owed credit ts did pos count missed owed_is h c ch Compatible ph =
-      let y : Pays order p.plant (caches_after order p.plant.ways (lines_in w.cache) (lines_of_did p.plant.line d)) (lines_at (runs k) scoping (a k)) owed credit (charges_by p.plant (runs k) scoping (a k) d) =
+      let y : Pays order p.plant (caches_after order p.plant.ways (lines_in w.cache) (lines_of_did p.plant.line d)) (lines_at (runs k) scoping (a k))
+      owed credit (charges_by p.plant (runs k) scoping (a k) d) =
       backed_with order p.plant (lines_in w.cache) (scoping (a k)) (scope_by (runs k) scoping (a k)) d credit owed ts policy.once pos count (scoped.within (a k) d did ph) missed owed_is (h ph) in
-      let next : scope_by (runs k) scoping (a k + 1) ≡ within_scope d.change (lines_at (runs k) scoping (a k)) = scope_next p.plant (runs k) (scripts k) order scoping opens longest most k now had (a k) (lines_in w.cache) sched d did in
+      let next : scope_by (runs k) scoping (a k + 1) ≡ within_scope d.change (lines_at (runs k) scoping (a k)) =
+      scope_next p.plant (runs k) (scripts k) order scoping opens longest most k now had (a k) (lines_in w.cache) sched d did in
       leaves c ch y next where
-        leaves : (c : Change) → d.change ≡ c → Pays order p.plant (caches_after order p.plant.ways (lines_in w.cache) (lines_of_did p.plant.line d)) (lines_at (runs k) scoping (a k)) owed credit (charges_by p.plant (runs k) scoping (a k) d) → scope_by (runs k) scoping (a k + 1) ≡ within_scope d.change (lines_at (runs k) scoping (a k)) → PaidBy now had sched a w d owed credit
-        leaves Stay ch y next = record { spare = y.spare; backed = λ _. subst (λ ls. Backed order p.plant (caches_after order p.plant.ways (lines_in w.cache) (lines_of_did p.plant.line d)) ls y.spare) (sym (next ∙ ap (λ q. within_scope q (lines_at (runs k) scoping (a k))) ch)) y.backed; pays = λ _. y.pays }
-        leaves (Execute t) ch y next = record { spare = y.spare; backed = λ _. subst (λ ls. Backed order p.plant (caches_after order p.plant.ways (lines_in w.cache) (lines_of_did p.plant.line d)) ls y.spare) (sym (next ∙ ap (λ q. within_scope q (lines_at (runs k) scoping (a k))) ch)) y.backed; pays = λ _. y.pays }
-        leaves Memory ch y next = record { spare = 0; backed = λ _. subst (λ ls. Backed order p.plant (caches_after order p.plant.ways (lines_in w.cache) (lines_of_did p.plant.line d)) ls 0) (sym (next ∙ ap (λ q. within_scope q (lines_at (runs k) scoping (a k))) ch)) (backed_none order p.plant _); pays = λ _. omega (arith, y.pays) }
-        leaves End ch y next = record { spare = 0; backed = λ _. subst (λ ls. Backed order p.plant (caches_after order p.plant.ways (lines_in w.cache) (lines_of_did p.plant.line d)) ls 0) (sym (next ∙ ap (λ q. within_scope q (lines_at (runs k) scoping (a k))) ch)) (backed_none order p.plant _); pays = λ _. omega (arith, y.pays) }
-        leaves Job ch y next = record { spare = 0; backed = λ _. subst (λ ls. Backed order p.plant (caches_after order p.plant.ways (lines_in w.cache) (lines_of_did p.plant.line d)) ls 0) (sym (next ∙ ap (λ q. within_scope q (lines_at (runs k) scoping (a k))) ch)) (backed_none order p.plant _); pays = λ _. omega (arith, y.pays) }
+        leaves : (c : Change) → d.change ≡ c →
+            Pays order p.plant (caches_after order p.plant.ways (lines_in w.cache) (lines_of_did p.plant.line d)) (lines_at (runs k) scoping (a k))
+            owed credit (charges_by p.plant (runs k) scoping (a k) d) →
+            scope_by (runs k) scoping (a k + 1) ≡ within_scope d.change (lines_at (runs k) scoping (a k)) → PaidBy now had sched a w d owed credit
+        leaves Stay ch y next = record {
+          spare = y.spare;
+          backed = λ _. subst (λ ls. Backed order p.plant (caches_after order p.plant.ways (lines_in w.cache) (lines_of_did p.plant.line d))
+              ls y.spare) (sym (next ∙ ap (λ q. within_scope q (lines_at (runs k) scoping (a k))) ch)) y.backed;
+          pays = λ _. y.pays;
+        }
+        leaves (Execute t) ch y next =
+            record {
+              spare = y.spare;
+              backed = λ _. subst
+                  (λ ls. Backed order p.plant (caches_after order p.plant.ways (lines_in w.cache) (lines_of_did p.plant.line d)) ls y.spare)
+                  (sym (next ∙ ap (λ q. within_scope q (lines_at (runs k) scoping (a k))) ch)) y.backed;
+              pays = λ _. y.pays;
+            }
+        leaves Memory ch y next = record {
+          spare = 0;
+          backed = λ _. subst (λ ls. Backed order p.plant (caches_after order p.plant.ways (lines_in w.cache) (lines_of_did p.plant.line d)) ls 0)
+              (sym (next ∙ ap (λ q. within_scope q (lines_at (runs k) scoping (a k))) ch)) (backed_none order p.plant _);
+          pays = λ _. omega (arith, y.pays);
+        }
+        leaves End ch y next = record {
+          spare = 0;
+          backed = λ _. subst (λ ls. Backed order p.plant (caches_after order p.plant.ways (lines_in w.cache) (lines_of_did p.plant.line d)) ls 0)
+              (sym (next ∙ ap (λ q. within_scope q (lines_at (runs k) scoping (a k))) ch)) (backed_none order p.plant _);
+          pays = λ _. omega (arith, y.pays);
+        }
+        leaves Job ch y next = record {
+          spare = 0;
+          backed = λ _. subst (λ ls. Backed order p.plant (caches_after order p.plant.ways (lines_in w.cache) (lines_of_did p.plant.line d)) ls 0)
+              (sym (next ∙ ap (λ q. within_scope q (lines_at (runs k) scoping (a k))) ch)) (backed_none order p.plant _);
+          pays = λ _. omega (arith, y.pays);
+        }
 
   abbrev TurnOf : (a : ℕ → ℕ) (now had : ℕ) (sched : List TaskJobs) (before : Mode) (w : Work) (c : CoreState) (n : Counts) → CoreMove → Type 0
   TurnOf a now had sched before w c n m =
       Scheduled p runs a sched m → Moves order p.plant (length p.tasks) runs scripts a (lines_in w.cache) m → ClockMove order p.plant (length p.tasks) runs scripts now a (lines_in w.cache) m →
-      ShutMove p.plant (runs k) (scripts k) order scoping opens longest most k now had (a k) (lines_in w.cache) sched before c.window m → ShutsAt (now + 1) (had + counts longest (is_task k (serves_in now sched before)) now c.window) (bump_move m a k) (lines_in (core_turn rule p now m w c n).work.cache) (core_turn rule p now m w c n).core
+      ShutMove p.plant (runs k) (scripts k) order scoping opens longest most k now had (a k) (lines_in w.cache) sched before c.window m →
+      ShutsAt (now + 1) (had + counts longest (is_task k (serves_in now sched before)) now c.window) (bump_move m a k)
+      (lines_in (core_turn rule p now m w c n).work.cache) (core_turn rule p now m w c n).core
 
   module _ (a : ℕ → ℕ) (now had : ℕ) (sched : List TaskJobs) (before : Mode) (w : Work) (c : CoreState) (n : Counts) (s : Stands p own runs a w) (rs : Runs p own runs) where
     abbrev cnt : ℕ
@@ -163,7 +220,9 @@ module _ (rule : ReplacementRule) (order : OrderRule) (passes : ℕ → ℕ) (p 
         let d : Did = did_of t.pc t.phase x.instr x.effect in
         let ts : List LineTouch = (issued_by rule p k x.effect w).touches in
         let debt : Debt = record { transactions = owed_by p.plant ts; begun = false; cost = cost_of x.instr - 1 } in
-        let fits : AttemptFits (runs k).size t x.effect = attempt_fits (runs k).target (runs k).size (plain_run (runs k) (a k)).task.view t x.instr x.effect (plain_fits (runs k) (rs.is k there).fits (a k)).task.bytes x.alone in
+        let fits : AttemptFits (runs k).size t x.effect =
+        attempt_fits (runs k).target (runs k).size (plain_run (runs k) (a k)).task.view t x.instr x.effect
+        (plain_fits (runs k) (rs.is k there).fits (a k)).task.bytes x.alone in
         let touches : TouchesLines order p.plant.ways w.cache (lines_of_did p.plant.line d) (issued_by rule p k x.effect w) =
         issue_touches rule order policy.moves p k x.effect w policy.keeps s.kept (subst (λ m. t.pc + 4 ≤ m) (rs.is k there).size fits.within) in
         let h : ShutIssue p.plant (runs k) (scripts k) order scoping opens longest most k now had (a k) (lines_in w.cache) c.window i = b.1 refl in
@@ -179,13 +238,19 @@ module _ (rule : ReplacementRule) (order : OrderRule) (passes : ℕ → ℕ) (p 
         (λ v e. opened_by order p.plant now i.first (opens ((begun_by (runs k) (a k)).calls - 1)) (call a) (begun_at runs a k).steps (lines_in w.cache) policy.once (omega (arith, pos, sets))
         (subst (λ n. HaveRoom n p.plant.ways (call a).members) (sym sets) ((keep k there).room _)) (in_script p.plant passes (runs k) (scripts k) (keep k there) (a k)).within
         (opened.calls (a k) v d did e) (cl (sym r.goes.kind ∙ exec_predictable (phase_at runs a k) d.change v e l))) in
-        let paid : Paid p.plant (runs k) (scripts k) order scoping opens longest most k now had (a k) (lines_in w.cache) sched (caches_after order p.plant.ways (lines_in w.cache) (lines_of_did p.plant.line d)) d (owed_of debt) h.credit (charges_by p.plant (runs k) scoping (a k) d) =
+        let paid : Paid p.plant (runs k) (scripts k) order scoping opens longest most k now had (a k) (lines_in w.cache) sched
+        (caches_after order p.plant.ways (lines_in w.cache) (lines_of_did p.plant.line d)) d (owed_of debt) h.credit
+        (charges_by p.plant (runs k) scoping (a k) d) =
         paid_by now had sched a d w (owed_of debt) h.credit ts did (omega (arith, pos)) sets touches.misses_are refl
         (λ e. h.backed (sym r.goes.kind ∙ ap is_predictable (sym same ∙ e))) d.change refl d.phase refl in
         subst (λ e. ShutsAt (now + 1) (had + cnt) (bump k a k) (lines_in (core_issue rule p now k i e w c n).work.cache) (core_issue rule p now k i e w c n).core) (sym (x.behind rule policy.keeps))
         (subst (λ l. ShutsAt (now + 1) (had + cnt) (bump k a k) l (core_issue rule p now k i (Executes x.instr x.effect) w c n).core) (sym touches.lines_are) (
-          λ mine. subst (λ m. InRun p.plant (runs k) (scripts k) order scoping opens longest most k (now + 1) (had + cnt) m (caches_after order p.plant.ways (lines_in w.cache) (lines_of_did p.plant.line d)) (window_after d.change now i.first c.window) (record i { stated = stated_after d.change i.stated }) d.change debt) (sym (bump_same k a))
-              (issues_shut p.plant (runs k) (scripts k) order scoping opens longest most k now had (a k) (lines_in w.cache) sched (caches_after order p.plant.ways (lines_in w.cache) (lines_of_did p.plant.line d)) i d debt c.window (is_task k (serves_in now sched before)) did r.goes stated soon few h paid),
+          λ mine. subst (λ m. InRun p.plant (runs k) (scripts k) order scoping opens longest most k (now + 1) (had + cnt) m
+              (caches_after order p.plant.ways (lines_in w.cache) (lines_of_did p.plant.line d)) (window_after d.change now i.first c.window)
+              (record i { stated = stated_after d.change i.stated }) d.change debt) (sym (bump_same k a))
+              (issues_shut p.plant (runs k) (scripts k) order scoping opens longest most k now had (a k) (lines_in w.cache) sched
+              (caches_after order p.plant.ways (lines_in w.cache) (lines_of_did p.plant.line d)) i d debt c.window
+              (is_task k (serves_in now sched before)) did r.goes stated soon few h paid),
           λ ne. absurd (ne refl),
         ))
 
@@ -257,27 +322,44 @@ module _ (rule : ReplacementRule) (order : OrderRule) (passes : ℕ → ℕ) (p 
   closes_then now i Job e = tt
 
   module _ (a : ℕ → ℕ) (had : ℕ) (s : MachineState) (count : length s.sched ≡ length p.tasks) (r : ResidesIn a s) (c : ClockIn s.now a s) where
-    own_closes : (i : Interval) (mark : Change) → s.core.mode ≡ Running k → s.core.interval ≡ i → s.core.mark ≡ mark → ends_before s.now i mark ≡ true → InRun p.plant (runs k) (scripts k) order scoping opens longest most k s.now had (a k) (lines_in s.work.cache) s.core.window i mark s.core.debt → Settled had (ended_of k s) a (close_interval k s)
+    own_closes : (i : Interval) (mark : Change) → s.core.mode ≡ Running k → s.core.interval ≡ i → s.core.mark ≡ mark →
+        ends_before s.now i mark ≡ true →
+        InRun p.plant (runs k) (scripts k) order scoping opens longest most k s.now had (a k) (lines_in s.work.cache)
+        s.core.window i mark s.core.debt → Settled had (ended_of k s) a (close_interval k s)
     own_closes i mark e fi fm over h =
         let y : Issued mark (phase_at runs a k) (call_of (scripts k) (begun_at runs a k)).stated (begun_at runs a k).steps i =
         subst (λ m. Issued m (phase_at runs a k) (call_of (scripts k) (begun_at runs a k)).stated (begun_at runs a k).steps i) fm
         (subst (λ v. Issued s.core.mark (phase_at runs a k) (call_of (scripts k) (begun_at runs a k)).stated (begun_at runs a k).steps v) fi (r.runs_in k e).issued) in
         ⊎_elim (λ (job : mark ≡ Job).
-        let z : phase_now p.plant (runs k) (scripts k) order scoping opens longest most k (a k) ≡ Compatible = (subst (λ m. Issued m (phase_at runs a k) (call_of (scripts k) (begun_at runs a k)).stated (begun_at runs a k).steps i) job y).1 in
-        let kept : kept_by p.plant.switch (phase_now p.plant (runs k) (scripts k) order scoping opens longest most k (a k)) (short p.plant (runs k) (scripts k) order scoping opens longest most k (call_now p.plant (runs k) (scripts k) order scoping opens longest most k (a k))) ≡ 0 = ap (λ q. kept_by p.plant.switch q (short p.plant (runs k) (scripts k) order scoping opens longest most k (call_now p.plant (runs k) (scripts k) order scoping opens longest most k (a k)))) z in
+        let z : phase_now p.plant (runs k) (scripts k) order scoping opens longest most k (a k) ≡ Compatible =
+        (subst (λ m. Issued m (phase_at runs a k) (call_of (scripts k) (begun_at runs a k)).stated (begun_at runs a k).steps i) job y).1 in
+        let kept : kept_by p.plant.switch (phase_now p.plant (runs k) (scripts k) order scoping opens longest most k (a k))
+        (short p.plant (runs k) (scripts k) order scoping opens longest most k
+        (call_now p.plant (runs k) (scripts k) order scoping opens longest most k (a k))) ≡ 0 =
+        ap (λ q. kept_by p.plant.switch q
+        (short p.plant (runs k) (scripts k) order scoping opens longest most k
+        (call_now p.plant (runs k) (scripts k) order scoping opens longest most k (a k)))) z in
         record {
           left = 0;
           shuts = (omega (arith, kept), h.over (closes_then s.now i mark over));
           counted = inr (
             ap (λ m. (task_at (sched_after m k s.sched) k).ended) (fm ∙ job) ∙ job_sched s.sched (omega (arith, there, count)),
             refl,
-            shut_job p.plant.switch longest most i.predictable mark i (phase_at runs a k) (begun_at runs a k).steps s.now (owed_of s.core.debt) h.credit (call_of (scripts k) (begun_at runs a k)).stated (opens ((begun_by (runs k) (a k)).calls - 1)) had (short p.plant (runs k) (scripts k) order scoping opens longest most k (call_now p.plant (runs k) (scripts k) order scoping opens longest most k (a k))) (job_now p.plant (runs k) (scripts k) order scoping opens longest most k (a k)) s.core.window refl y job h.shuts,
+            shut_job p.plant.switch longest most i.predictable mark i (phase_at runs a k) (begun_at runs a k).steps s.now (owed_of s.core.debt)
+                h.credit (call_of (scripts k) (begun_at runs a k)).stated (opens ((begun_by (runs k) (a k)).calls - 1)) had
+                (short p.plant (runs k) (scripts k) order scoping opens longest most k
+                (call_now p.plant (runs k) (scripts k) order scoping opens longest most k (a k)))
+                (job_now p.plant (runs k) (scripts k) order scoping opens longest most k (a k)) s.core.window refl y job h.shuts,
           );
         })
         (λ (ne : mark ≡ Job → ⊥). record {
           left = had;
           shuts = (
-            shut_ends p.plant.switch longest most i.predictable mark i (phase_at runs a k) (begun_at runs a k).steps s.now (owed_of s.core.debt) h.credit (call_of (scripts k) (begun_at runs a k)).stated (opens ((begun_by (runs k) (a k)).calls - 1)) had (short p.plant (runs k) (scripts k) order scoping opens longest most k (call_now p.plant (runs k) (scripts k) order scoping opens longest most k (a k))) (job_now p.plant (runs k) (scripts k) order scoping opens longest most k (a k)) s.core.window refl some refl over y
+            shut_ends p.plant.switch longest most i.predictable mark i (phase_at runs a k) (begun_at runs a k).steps s.now (owed_of s.core.debt)
+                h.credit (call_of (scripts k) (begun_at runs a k)).stated (opens ((begun_by (runs k) (a k)).calls - 1)) had
+                (short p.plant (runs k) (scripts k) order scoping opens longest most k
+                (call_now p.plant (runs k) (scripts k) order scoping opens longest most k (a k)))
+                (job_now p.plant (runs k) (scripts k) order scoping opens longest most k (a k)) s.core.window refl some refl over y
                 (λ pred is_end. in_time i e fi pred (fm ∙ is_end)) ne h.shuts,
             h.over (closes_then s.now i mark over),
           );
@@ -286,7 +368,9 @@ module _ (rule : ReplacementRule) (order : OrderRule) (passes : ℕ → ℕ) (p 
         (job_or mark) where
           in_time : (i : Interval) → s.core.mode ≡ Running k → s.core.interval ≡ i → i.predictable ≡ true → s.core.mark ≡ End → s.now ≤ i.first + i.stated
           in_time i e fi pred m =
-              let y : s.now + owed_of s.core.debt ≤ s.core.interval.first + s.core.interval.stated = subst (λ x. InTime order p.plant x s.now (owed_of s.core.debt) s.core.interval (begun_at runs a k).steps (lines_in s.work.cache)) m (c.in_time k e (ap (λ (v : Interval). v.predictable) fi ∙ pred)) in
+              let y : s.now + owed_of s.core.debt ≤ s.core.interval.first + s.core.interval.stated =
+              subst (λ x. InTime order p.plant x s.now (owed_of s.core.debt) s.core.interval (begun_at runs a k).steps (lines_in s.work.cache)) m
+              (c.in_time k e (ap (λ (v : Interval). v.predictable) fi ∙ pred)) in
               subst (λ (v : Interval). s.now ≤ v.first + v.stated) fi (omega (arith, y))
 
     settle_shut : (m : Mode) → s.core.mode ≡ m → ShutsAt s.now had (a k) (lines_in s.work.cache) s.core → Settled had (ended_of k s) a (settle m s)
@@ -296,18 +380,27 @@ module _ (rule : ReplacementRule) (order : OrderRule) (passes : ℕ → ℕ) (p 
         cond_both (is_paid s.core.debt && ends_before s.now s.core.interval s.core.mark) (close_interval j s) s (Settled had (ended_of k s) a)
         (λ over.
         let parts : (is_paid s.core.debt ≡ true) × (ends_before s.now s.core.interval s.core.mark ≡ true) = and_parts (is_paid s.core.debt) (ends_before s.now s.core.interval s.core.mark) over in
-        let t : (j ≡ k → InRun p.plant (runs k) (scripts k) order scoping opens longest most k s.now had (a k) (lines_in s.work.cache) s.core.window s.core.interval s.core.mark s.core.debt) × ((j ≡ k → ⊥) → IsHeld had (a k)) =
+        let t : (j ≡ k → InRun p.plant (runs k) (scripts k) order scoping opens longest most k s.now had (a k) (lines_in s.work.cache)
+        s.core.window s.core.interval s.core.mark s.core.debt) × ((j ≡ k → ⊥) → IsHeld had (a k)) =
         subst (λ m. Shuts p.plant (runs k) (scripts k) order scoping opens longest most k s.now had (a k) (lines_in s.work.cache) s.core.window m s.core.interval s.core.mark s.core.debt) e b in
-        ⊎_elim (λ (mine : j ≡ k). subst (λ v. Settled had (ended_of k s) a (close_interval v s)) (sym mine) (own_closes s.core.interval s.core.mark (e ∙ ap (λ v. Running v) mine) refl refl parts.1 (t.0 mine)))
+        ⊎_elim (λ (mine : j ≡ k). subst (λ v. Settled had (ended_of k s) a (close_interval v s)) (sym mine)
+        (own_closes s.core.interval s.core.mark (e ∙ ap (λ v. Running v) mine) refl refl parts.1 (t.0 mine)))
         (λ (ne : j ≡ k → ⊥). record { left = had; shuts = t.1 ne; counted = inl (other_sched s.core.mark j s.sched ne, refl) })
         (cases_eq j k))
         (λ _. record { left = had; shuts = b; counted = inl (refl, refl) })
     settle_shut (Idle until) e b =
         cond_both (ltb s.now until) s (record s { core = at_point s.core }) (Settled had (ended_of k s) a)
         (λ _. record { left = had; shuts = b; counted = inl (refl, refl) })
-        (λ _. record { left = had; shuts = subst (λ m. Shuts p.plant (runs k) (scripts k) order scoping opens longest most k s.now had (a k) (lines_in s.work.cache) s.core.window m s.core.interval s.core.mark s.core.debt) e b; counted = inl (refl, refl) })
+        (λ _. record {
+          left = had;
+          shuts =
+              subst (λ m. Shuts p.plant (runs k) (scripts k) order scoping opens longest most k s.now had (a k) (lines_in s.work.cache)
+              s.core.window m s.core.interval s.core.mark s.core.debt) e b;
+          counted = inl (refl, refl);
+        })
 
-  ticked_shut : (a : ℕ → ℕ) (had : ℕ) (s : MachineState) → s.trapped ≡ None → length s.sched ≡ length p.tasks → ShutsAt (s.now + 1) had (a k) (lines_in s.work.cache) s.core → ResidesIn a s → ClockIn (s.now + 1) a s → Settled had (ended_of k s) a (ticked s)
+  ticked_shut : (a : ℕ → ℕ) (had : ℕ) (s : MachineState) → s.trapped ≡ None → length s.sched ≡ length p.tasks →
+      ShutsAt (s.now + 1) had (a k) (lines_in s.work.cache) s.core → ResidesIn a s → ClockIn (s.now + 1) a s → Settled had (ended_of k s) a (ticked s)
   ticked_shut a had s u count b r c =
       subst (λ t. Settled had (ended_of k s) a (cond (is_some t) s (next_cycle s))) (sym u)
       (settle_shut a had (with_now s (s.now + 1)) count r c s.core.mode refl b)
@@ -321,8 +414,11 @@ module _ (rule : ReplacementRule) (order : OrderRule) (passes : ℕ → ℕ) (p 
       subst (λ c. Issued c (phase_at runs a k) (call_of (scripts k) (begun_at runs a k)).stated (begun_at runs a k).steps s.core.interval) mark (r.runs_in k e).issued in
       let y : true ≡ false = sym x.0 ∙ none in cc
 
-  cycle_shut : (s : MachineState) (xs : List CycleStep) (had : ℕ) → is_finished s ≡ false → IsKnown (λ j. count_of j xs) s → IsKeeping (λ j. count_of j xs) s → IsLasting (λ j. count_of j xs) s → (wants (want_of s.core.debt) ≡ true → (j : ℕ) × (s.core.mode ≡ Running j)) → ShutsAt s.now had (count_of k xs) (lines_in s.work.cache) s.core →
-      Settled (had + counts longest (is_task k (serves_of s)) s.now s.core.window) (ended_of k s) (λ j. count_of j (with_last (step_with rule p (bus_at (arrivals_at requests s).gates s) s) xs)) (cycle_of rule p requests s)
+  cycle_shut : (s : MachineState) (xs : List CycleStep) (had : ℕ) → is_finished s ≡ false → IsKnown (λ j. count_of j xs) s →
+      IsKeeping (λ j. count_of j xs) s → IsLasting (λ j. count_of j xs) s →
+      (wants (want_of s.core.debt) ≡ true → (j : ℕ) × (s.core.mode ≡ Running j)) → ShutsAt s.now had (count_of k xs) (lines_in s.work.cache) s.core →
+      Settled (had + counts longest (is_task k (serves_of s)) s.now s.core.window) (ended_of k s)
+      (λ j. count_of j (with_last (step_with rule p (bus_at (arrivals_at requests s).gates s) s) xs)) (cycle_of rule p requests s)
   cycle_shut s xs had go kn ke l owes t =
       let a : ℕ → ℕ = λ j. count_of j xs in
       let ar : Arrivals = arrivals_at requests s in
@@ -340,13 +436,17 @@ module _ (rule : ReplacementRule) (order : OrderRule) (passes : ℕ → ℕ) (p 
       ke.resides.rests j lt none (ap is_predictable (sym (fa.phases.same j lt)) ∙ pred))
       l.goes_on l.clock in
       let mb : ShutMove p.plant (runs k) (scripts k) order scoping opens longest most k s.now had (a k) (lines_in w.cache) s.sched s.core.mode s.core.window (move_at p b s) =
-      moves_shut p.plant (runs k) (scripts k) order scoping opens longest most k s.now had (a k) (lines_in w.cache) s.sched p b.turn.core w s.core (move_at p b s) refl (move_cases p s.now b.turn.core s.sched w s.core) l.clock.positive f.serves owes l.goes_on
+      moves_shut p.plant (runs k) (scripts k) order scoping opens longest most k s.now had (a k) (lines_in w.cache) s.sched p b.turn.core w s.core
+      (move_at p b s) refl (move_cases p s.now b.turn.core s.sched w s.core) l.clock.positive f.serves owes l.goes_on
       (no_end a s ke.resides) (not_finished s go) (fa.phases.same k there) (λ x. fa.phases.runs_alone k (fa.phases.same k there ∙ x)) t in
       let c : Comes rule order passes p own runs scripts policy keep rs a ar b (move_at p b s) s = coming rule order passes p content inputs requests own runs scripts policy keep q o a s kn ke in
-      let tb : ShutsAt (s.now + 1) (had + counts longest (is_task k (serves_of s)) s.now s.core.window) (bump_move (move_at p b s) a k) (lines_in (core_at rule p b s).work.cache) (core_at rule p b s).core =
+      let tb : ShutsAt (s.now + 1) (had + counts longest (is_task k (serves_of s)) s.now s.core.window) (bump_move (move_at p b s) a k)
+      (lines_in (core_at rule p b s).work.cache) (core_at rule p b s).core =
       turn_shut a s.now had s.sched s.core.mode w s.core n fa.stands rs (move_at p b s) fa.scheduled fa.moves_to cm mb in
-      subst (λ f. Settled (had + counts longest (is_task k (serves_of s)) s.now s.core.window) (ended_of k s) f (cycle_of rule p requests s)) (λ x i. count_move rule p s.now w (move_at p b s) xs i c.issued x)
-      (ticked_shut (bump_move (move_at p b s) a) (had + counts longest (is_task k (serves_of s)) s.now s.core.window) (joined ar b (core_at rule p b s) s) c.position.untrapped kn.stand.position.schedules.count tb c.turn.resides
+      subst (λ f. Settled (had + counts longest (is_task k (serves_of s)) s.now s.core.window) (ended_of k s) f (cycle_of rule p requests s))
+      (λ x i. count_move rule p s.now w (move_at p b s) xs i c.issued x)
+      (ticked_shut (bump_move (move_at p b s) a) (had + counts longest (is_task k (serves_of s)) s.now s.core.window)
+      (joined ar b (core_at rule p b s) s) c.position.untrapped kn.stand.position.schedules.count tb c.turn.resides
       (core_clock rule order passes p own runs scripts policy keep rs a b (move_at p b s) s ke l f fa))
 
   -- ---- all states
@@ -372,20 +472,28 @@ module _ (rule : ReplacementRule) (order : OrderRule) (passes : ℕ → ℕ) (p 
   drop_false true b e = e
   drop_false false b e = refl
 
-  count_here : (n : ℕ) → is_over (states n) ≡ false → closed_for states longest k (ended_of k (states n)) (suc n) ≡ had_by n + counts longest (is_task k (serves_of (states n))) (states n).now (states n).core.window
+  count_here : (n : ℕ) → is_over (states n) ≡ false →
+      closed_for states longest k (ended_of k (states n)) (suc n)
+      ≡ had_by n + counts longest (is_task k (serves_of (states n))) (states n).now (states n).core.window
   count_here n on =
-      let a : one_if (not (is_over (states n)) && (works_for k (ended_of k (states n)) (states n) && is_closed longest (states n))) ≡ one_if (works_for k (ended_of k (states n)) (states n) && is_closed longest (states n)) = ap (λ b. one_if (not b && (works_for k (ended_of k (states n)) (states n) && is_closed longest (states n)))) on in
-      let b : works_for k (ended_of k (states n)) (states n) ≡ is_task k (serves_of (states n)) = drop_true (is_task k (serves_of (states n))) (eqb (ended_of k (states n)) (ended_of k (states n))) (eq-eqb (ended_of k (states n)) (ended_of k (states n)) refl) in
+      let a : one_if (not (is_over (states n)) && (works_for k (ended_of k (states n)) (states n) && is_closed longest (states n)))
+      ≡ one_if (works_for k (ended_of k (states n)) (states n) && is_closed longest (states n)) =
+      ap (λ b. one_if (not b && (works_for k (ended_of k (states n)) (states n) && is_closed longest (states n)))) on in
+      let b : works_for k (ended_of k (states n)) (states n) ≡ is_task k (serves_of (states n)) =
+      drop_true (is_task k (serves_of (states n))) (eqb (ended_of k (states n)) (ended_of k (states n)))
+      (eq-eqb (ended_of k (states n)) (ended_of k (states n)) refl) in
       ap (λ x. had_by n + x) (a ∙ ap (λ x. one_if (x && is_closed longest (states n))) b)
 
   count_other : (n m : ℕ) → (ended_of k (states n) ≡ m → ⊥) → closed_for states longest k m (suc n) ≡ closed_for states longest k m n
   count_other n m ne =
       let b : works_for k m (states n) ≡ false = drop_false (is_task k (serves_of (states n))) (eqb (ended_of k (states n)) m) (ne_eqb (ended_of k (states n)) m ne) in
-      let z : one_if (not (is_over (states n)) && (works_for k m (states n) && is_closed longest (states n))) ≡ 0 = ap (λ x. one_if (not (is_over (states n)) && (x && is_closed longest (states n)))) b ∙ ap one_if (drop_false (not (is_over (states n))) false refl) in
+      let z : one_if (not (is_over (states n)) && (works_for k m (states n) && is_closed longest (states n))) ≡ 0 =
+      ap (λ x. one_if (not (is_over (states n)) && (x && is_closed longest (states n)))) b ∙ ap one_if (drop_false (not (is_over (states n))) false refl) in
       omega (arith, z)
 
   count_over : (n m : ℕ) → is_over (states n) ≡ true → closed_for states longest k m (suc n) ≡ closed_for states longest k m n
-  count_over n m over = let z : one_if (not (is_over (states n)) && (works_for k m (states n) && is_closed longest (states n))) ≡ 0 = ap (λ x. one_if (not x && (works_for k m (states n) && is_closed longest (states n)))) over in omega (arith, z)
+  count_over n m over = let z : one_if (not (is_over (states n)) && (works_for k m (states n) && is_closed longest (states n))) ≡ 0 =
+      ap (λ x. one_if (not x && (works_for k m (states n) && is_closed longest (states n)))) over in omega (arith, z)
 
   running_wants : (n : ℕ) → is_over (states n) ≡ false → wants (want_of (states n).core.debt) ≡ true → (j : ℕ) × ((states n).core.mode ≡ Running j)
   running_wants n on w = by (states n).core.mode (run_holds p periods rule content inputs requests n on).mode where
@@ -395,35 +503,50 @@ module _ (rule : ReplacementRule) (order : OrderRule) (passes : ℕ → ℕ) (p 
     by (Running j) h = (j, refl)
     by (Idle until) h = absurd (let x : false ≡ true = sym h.1 ∙ w in cc)
 
-  next_settled : (n : ℕ) → Through n → is_over (states n) ≡ false → Settled (had_by n + counts longest (is_task k (serves_of (states n))) (states n).now (states n).core.window) (ended_of k (states n)) (at (suc n)) (states (suc n))
+  next_settled : (n : ℕ) → Through n → is_over (states n) ≡ false →
+      Settled (had_by n + counts longest (is_task k (serves_of (states n))) (states n).now (states n).core.window) (ended_of k (states n))
+      (at (suc n)) (states (suc n))
   unfolding cycles_of steps_of
   next_settled n t on =
       let s : MachineState = states n in
       let xs : List CycleStep = steps_of rule p requests n start in
       let none : Option CycleStep = None in
-      subst (λ b. Settled (had_by n + counts longest (is_task k (serves_of (states n))) (states n).now (states n).core.window) (ended_of k (states n)) (λ j. count_of j (with_last (cond b none (step_with rule p (bus_at (arrivals_at requests s).gates s) s)) xs)) (cond b s (cycle_of rule p requests s))) (sym on)
+      subst (λ b. Settled (had_by n + counts longest (is_task k (serves_of (states n))) (states n).now (states n).core.window) (ended_of k (states n))
+      (λ j. count_of j (with_last (cond b none (step_with rule p (bus_at (arrivals_at requests s).gates s) s)) xs))
+      (cond b s (cycle_of rule p requests s))) (sym on)
       (cycle_shut s xs (had_by n) (first_no (is_finished s) (is_some s.trapped) (is_full s) on) (known rule order passes p content inputs requests own runs scripts policy keep q o n)
       (run_keeps rule order passes p content inputs requests own runs scripts policy keep q o n) (run_lasts rule order passes p content inputs requests own runs scripts policy keep q o n)
       (running_wants n on) (t.current on))
 
-  next_by : (n : ℕ) → is_over (states n) ≡ false → Through n → (left : ℕ) → (is_over (states (suc n)) ≡ false → ShutsAt (states (suc n)).now left (at (suc n) k) (lines_in (states (suc n)).work.cache) (states (suc n)).core) →
+  next_by : (n : ℕ) → is_over (states n) ≡ false → Through n → (left : ℕ) →
+      (is_over (states (suc n)) ≡ false → ShutsAt (states (suc n)).now left (at (suc n) k) (lines_in (states (suc n)).work.cache) (states (suc n)).core) →
       Counted (had_by n + counts longest (is_task k (serves_of (states n))) (states n).now (states n).core.window) left (ended_of k (states n)) (ended_of k (states (suc n))) → Through (suc n)
   next_by n on t left sh (inl same) = record {
-    current = λ on'. subst (λ h. ShutsAt (states (suc n)).now h (at (suc n) k) (lines_in (states (suc n)).work.cache) (states (suc n)).core) (same.1 ∙ sym (count_here n on) ∙ ap (λ m. closed_for states longest k m (suc n)) (sym same.0)) (sh on');
+    current = λ on'. subst (λ h. ShutsAt (states (suc n)).now h (at (suc n) k) (lines_in (states (suc n)).work.cache) (states (suc n)).core)
+        (same.1 ∙ sym (count_here n on) ∙ ap (λ m. closed_for states longest k m (suc n)) (sym same.0)) (sh on');
     later = λ m lt. count_other n m (λ e. omega (arith, e, lt, same.0)) ∙ t.later m (omega (arith, lt, same.0));
-    before = λ m lt. let e : closed_for states longest k m (suc n) ≡ closed_for states longest k m n = count_other n m (λ e. omega (arith, e, lt, same.0)) in let b : closed_for states longest k m n ≤ most = t.before m (omega (arith, lt, same.0)) in omega (arith, e, b);
+    before = λ m lt. let e : closed_for states longest k m (suc n) ≡ closed_for states longest k m n =
+        count_other n m (λ e. omega (arith, e, lt, same.0)) in let b : closed_for states longest k m n ≤ most =
+        t.before m (omega (arith, lt, same.0)) in omega (arith, e, b);
   }
   next_by n on t left sh (inr one) = record {
     current = λ on'.
-        let z : closed_for states longest k (ended_of k (states n) + 1) (suc n) ≡ 0 = count_other n (ended_of k (states n) + 1) (λ e. omega (arith, e)) ∙ t.later (ended_of k (states n) + 1) (omega arith) in
-        subst (λ h. ShutsAt (states (suc n)).now h (at (suc n) k) (lines_in (states (suc n)).work.cache) (states (suc n)).core) (one.1 ∙ sym z ∙ ap (λ m. closed_for states longest k m (suc n)) (sym one.0)) (sh on');
+        let z : closed_for states longest k (ended_of k (states n) + 1) (suc n) ≡ 0 =
+        count_other n (ended_of k (states n) + 1) (λ e. omega (arith, e)) ∙ t.later (ended_of k (states n) + 1) (omega arith) in
+        subst (λ h. ShutsAt (states (suc n)).now h (at (suc n) k) (lines_in (states (suc n)).work.cache) (states (suc n)).core)
+        (one.1 ∙ sym z ∙ ap (λ m. closed_for states longest k m (suc n)) (sym one.0)) (sh on');
     later = λ m lt. count_other n m (λ e. omega (arith, e, lt, one.0)) ∙ t.later m (omega (arith, lt, one.0));
     before = λ m lt.
         ⊎_elim (λ (same : m ≡ ended_of k (states n)).
-        let e : closed_for states longest k m (suc n) ≡ had_by n + counts longest (is_task k (serves_of (states n))) (states n).now (states n).core.window = ap (λ i. closed_for states longest k i (suc n)) same ∙ count_here n on in
+        let e : closed_for states longest k m (suc n)
+        ≡ had_by n + counts longest (is_task k (serves_of (states n))) (states n).now (states n).core.window =
+        ap (λ i. closed_for states longest k i (suc n)) same ∙ count_here n on in
         omega (arith, e, one.2))
         (λ (ne : m ≡ ended_of k (states n) → ⊥).
-        let less : m < ended_of k (states n) = ⊎_elim (λ (y : m < ended_of k (states n)). y) (λ (y : ended_of k (states n) ≤ m). let e : m ≡ ended_of k (states n) = omega (arith, y, lt, one.0) in absurd (ne e)) (cases_lt m (ended_of k (states n))) in
+        let less : m < ended_of k (states n) =
+        ⊎_elim (λ (y : m < ended_of k (states n)). y)
+        (λ (y : ended_of k (states n) ≤ m). let e : m ≡ ended_of k (states n) = omega (arith, y, lt, one.0) in absurd (ne e))
+        (cases_lt m (ended_of k (states n))) in
         let e : closed_for states longest k m (suc n) ≡ closed_for states longest k m n = count_other n m (λ e. ne (sym e)) in
         let b : closed_for states longest k m n ≤ most = t.before m less in omega (arith, e, b))
         (cases_eq m (ended_of k (states n)));
@@ -435,7 +558,8 @@ module _ (rule : ReplacementRule) (order : OrderRule) (passes : ℕ → ℕ) (p 
       record {
         current = λ on'. let x : true ≡ false = sym over ∙ ap is_over (sym e) ∙ on' in absurd cc;
         later = λ m lt. count_over n m over ∙ t.later m (subst (λ (s : MachineState). ended_of k s < m) e lt);
-        before = λ m lt. let f : closed_for states longest k m (suc n) ≡ closed_for states longest k m n = count_over n m over in let b : closed_for states longest k m n ≤ most = t.before m (subst (λ (s : MachineState). m < ended_of k s) e lt) in omega (arith, f, b);
+        before = λ m lt. let f : closed_for states longest k m (suc n) ≡ closed_for states longest k m n = count_over n m over in
+            let b : closed_for states longest k m n ≤ most = t.before m (subst (λ (s : MachineState). m < ended_of k s) e lt) in omega (arith, f, b);
       }
 
   through : (n : ℕ) → Through n
@@ -443,7 +567,8 @@ module _ (rule : ReplacementRule) (order : OrderRule) (passes : ℕ → ℕ) (p 
   through (suc n) =
       ⊎_elim (λ (over : is_over (states n) ≡ true). over_next n over (through n))
       (λ (on : is_over (states n) ≡ false).
-      let c : Settled (had_by n + counts longest (is_task k (serves_of (states n))) (states n).now (states n).core.window) (ended_of k (states n)) (at (suc n)) (states (suc n)) = next_settled n (through n) on in
+      let c : Settled (had_by n + counts longest (is_task k (serves_of (states n))) (states n).now (states n).core.window) (ended_of k (states n))
+      (at (suc n)) (states (suc n)) = next_settled n (through n) on in
       next_by n on (through n) c.left (λ _. c.shuts) c.counted)
       (cases_Bool (is_over (states n)))
 
@@ -457,7 +582,9 @@ module _ (rule : ReplacementRule) (order : OrderRule) (passes : ℕ → ℕ) (p 
       (λ (on : is_over (states n) ≡ false).
       ⊎_elim (λ (same : ended_of k (states n) ≡ m).
       let w : is_task k (serves_of (states n)) ≡ false = not_served n m on same le in
-      let z : one_if (not (is_over (states n)) && (works_for k m (states n) && is_closed longest (states n))) ≡ 0 = ap (λ x. one_if (not (is_over (states n)) && ((x && (eqb (ended_of k (states n)) m)) && is_closed longest (states n)))) w ∙ ap one_if (drop_false (not (is_over (states n))) false refl) in
+      let z : one_if (not (is_over (states n)) && (works_for k m (states n) && is_closed longest (states n))) ≡ 0 =
+      ap (λ x. one_if (not (is_over (states n)) && ((x && (eqb (ended_of k (states n)) m)) && is_closed longest (states n)))) w
+      ∙ ap one_if (drop_false (not (is_over (states n))) false refl) in
       let y : closed_for states longest k m n ≡ 0 = no_job n m le in omega (arith, z, y))
       (λ (ne : ended_of k (states n) ≡ m → ⊥). count_other n m ne ∙ no_job n m le)
       (cases_eq (ended_of k (states n)) m))
@@ -500,7 +627,9 @@ least_done now sched None (Some u) f m e = absurd (let x : Rest u ≡ Finished =
 least_done now sched None None f m e = least_none now sched m
 
 -- from the limit on all jobs have ended
-pub all_ended : (rule : ReplacementRule) (order : OrderRule) (passes : ℕ → ℕ) (p : Setup) (content : List ℕ) (inputs : List (List ℕ)) (requests : List Request) (own : ℕ → ℕ → Bool) (runs : ℕ → TaskRun) (scripts : ℕ → Script) (k m : ℕ) → IsPolicy rule order passes → IsRun p content requests → AreScripts p passes content inputs own runs scripts → k < length p.tasks → limit_of p scripts ≤ m →
+pub all_ended : (rule : ReplacementRule) (order : OrderRule) (passes : ℕ → ℕ) (p : Setup) (content : List ℕ) (inputs : List (List ℕ))
+    (requests : List Request) (own : ℕ → ℕ → Bool) (runs : ℕ → TaskRun) (scripts : ℕ → Script) (k m : ℕ) → IsPolicy rule order passes →
+    IsRun p content requests → AreScripts p passes content inputs own runs scripts → k < length p.tasks → limit_of p scripts ≤ m →
     (record_of p k).jobs ≤ ended_of k (state rule p content inputs requests m)
 all_ended rule order passes p content inputs requests own runs scripts k m policy run is there le =
     let s : MachineState = state rule p content inputs requests m in
@@ -513,5 +642,6 @@ all_ended rule order passes p content inputs requests own runs scripts k m polic
 
 pub jobs_keep_closed_by_charges : JobsKeepClosedByCharges
 jobs_keep_closed_by_charges rule order passes p content inputs requests own runs scripts scoping opens longest k most job n policy run is there some scoped opened few =
-    few_closed rule order passes p content inputs requests own runs scripts policy is.each run.runnable is.own_runs run.periods scoping opens longest most k there some scoped opened few (limit_of p scripts)
+    few_closed rule order passes p content inputs requests own runs scripts policy is.each run.runnable is.own_runs run.periods scoping opens longest
+    most k there some scoped opened few (limit_of p scripts)
     (λ m le. all_ended rule order passes p content inputs requests own runs scripts k m policy run is there le) job n

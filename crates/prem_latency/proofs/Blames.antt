@@ -1,6 +1,7 @@
 -- A run of the machine is a timeline of the bus: each closed cycle is one of a job of a task.
 use Rattle.std.specs.Prelude.{◌&&◌, ◌||◌, not, is_some, take, drop}
-use Rattle.std.proofs.Common.{◌≡◌, ℕ, zero, suc, ◌+◌, ◌-◌, ◌*◌, ◌/◌, ◌<◌, ◌≤◌, refl, ap, ◌∙◌, sym, subst, arith, eqb, leb, ltb, cond, true, false, Bool, Some, None, Option, List, [], ◌∷◌, length, inl, inr, ⊎_elim}
+use Rattle.std.proofs.Common.{◌≡◌, ℕ, zero, suc, ◌+◌, ◌-◌, ◌*◌, ◌/◌, ◌<◌, ◌≤◌, refl, ap, ◌∙◌, sym, subst, arith, eqb, leb, ltb, cond, true, false, Bool, Some, None, Option, List}
+use Rattle.std.proofs.Common.{[], ◌∷◌, length, inl, inr, ⊎_elim}
 use Rattle.std.proofs.lemmas.Bool.{cases_lt, and_parts, ltb-true, lt-ltb, le-leb, leb-false, eqb-true, eq-eqb}
 use Rattle.std.proofs.lemmas.Nat.{mul-le}
 use Rattle.std.proofs.Math.Nat.{div-mul-le_self, add-mul}
@@ -65,7 +66,8 @@ within_rest (x ∷ xs) (suc n) (suc k) le lt = within_rest xs n k (omega (arith,
 
 -- ---- a run
 
-module _ (rule : ReplacementRule) (p : Setup) (content : List ℕ) (inputs : List (List ℕ)) (requests : List Request) (devices : List Asking) (tasks : List Closing) (d : ℕ) (sv : Serves rule p content inputs requests devices tasks d) where
+module _ (rule : ReplacementRule) (p : Setup) (content : List ℕ) (inputs : List (List ℕ)) (requests : List Request) (devices : List Asking)
+    (tasks : List Closing) (d : ℕ) (sv : Serves rule p content inputs requests devices tasks d) where
   abbrev run : ℕ → MachineState
   run n = state rule p content inputs requests n
 
@@ -154,7 +156,9 @@ module _ (rule : ReplacementRule) (p : Setup) (content : List ℕ) (inputs : Lis
     work_blamed k e =
         let r : IsReady (run n).now (run n).sched k = served_ready p sv.periods rule content inputs requests n k on e in
         let lt : k < length p.tasks = omega (arith, r.0, holds.tasks.count) in
-        let m : ((task_at (run n).sched k).ended < (task_at (run n).sched k).jobs) × ((task_at (run n).sched k).ended * (task_at (run n).sched k).period ≤ (run n).now) = ready_means (task_at (run n).sched k) (run n).now (some k lt) r.1 in
+        let m : ((task_at (run n).sched k).ended < (task_at (run n).sched k).jobs)
+        × ((task_at (run n).sched k).ended * (task_at (run n).sched k).period ≤ (run n).now) =
+        ready_means (task_at (run n).sched k) (run n).now (some k lt) r.1 in
         let q : ended_of k (run n) * (task_at (run n).sched k).period ≡ ended_of k (run n) * level.period k = ap (λ i. ended_of k (run n) * i) (same_period k lt) in
         let late : n < ended_of k (run n) * level.period k + level.length k = not_late k (ended_of k (run n)) lt (omega (arith, m.0, holds.tasks.jobs k lt)) (omega arith) in
         record {
@@ -164,11 +168,13 @@ module _ (rule : ReplacementRule) (p : Setup) (content : List ℕ) (inputs : Lis
             behind = omega (arith, m.1, q, now);
             within = omega (arith, late);
           };
-          by_case = works (ap (λ o. is_task k o && (eqb (ended_of k (run n)) (ended_of k (run n)))) e ∙ ap (λ b. b && (eqb (ended_of k (run n)) (ended_of k (run n)))) (eq-eqb k k refl) ∙ eq-eqb (ended_of k (run n)) (ended_of k (run n)) refl);
+          by_case = works (ap (λ o. is_task k o && (eqb (ended_of k (run n)) (ended_of k (run n)))) e
+              ∙ ap (λ b. b && (eqb (ended_of k (run n)) (ended_of k (run n)))) (eq-eqb k k refl) ∙ eq-eqb (ended_of k (run n)) (ended_of k (run n)) refl);
         }
 
     -- the one for whose release idle time waits
-    wait_blamed : (until k : ℕ) → Idles p sv.periods (run n).now until (run n).sched (run n).core.window → fits (run n).now (run n).core.window longest ≡ false → k < length p.tasks → waits_for until n k ≡ true → Blamed k (ended_of k (run n)) n
+    wait_blamed : (until k : ℕ) → Idles p sv.periods (run n).now until (run n).sched (run n).core.window →
+        fits (run n).now (run n).core.window longest ≡ false → k < length p.tasks → waits_for until n k ≡ true → Blamed k (ended_of k (run n)) n
     wait_blamed until k i out lt e =
         let x : TaskJobs = task_at (run n).sched k in
         let parts : (has_jobs_left x ≡ true) × (eqb (x.ended * x.period) until ≡ true) = and_parts (has_jobs_left x) (eqb (x.ended * x.period) until) e in
@@ -183,7 +189,8 @@ module _ (rule : ReplacementRule) (p : Setup) (content : List ℕ) (inputs : Lis
           shut = record {
             there = in_tasks k lt;
             near = omega (arith, at, q, near, i.close, now);
-            behind = sum x.ended (x.ended * x.period) (x.ended * level.period k) ((i.begun / x.period + 1) * x.period) (i.begun / x.period * x.period) x.period (level.period k) i.begun (run n).now n q m s l (same_period k lt) i.before now;
+            behind = sum x.ended (x.ended * x.period) (x.ended * level.period k) ((i.begun / x.period + 1) * x.period) (i.begun / x.period * x.period)
+                x.period (level.period k) i.begun (run n).now n q m s l (same_period k lt) i.before now;
             within = omega (arith, at, q, i.more, now);
           };
           by_case = waits_near (omega (arith, at, q, i.more, now)) (omega (arith, at, q, near, i.close, now));
@@ -203,7 +210,8 @@ module _ (rule : ReplacementRule) (p : Setup) (content : List ℕ) (inputs : Lis
       let was : is_over (run last) ≡ false = on_before rule p content inputs requests last (suc last) (omega arith) on in
       let less : ended_of k (run last) < ended_of k (run (suc last)) = ltb-true (ended_of k (run last)) (ended_of k (run (suc last))) e in
       by was less (run_ends p sv.periods rule content inputs requests last k was) where
-        by : is_over (run last) ≡ false → ended_of k (run last) < ended_of k (run (suc last)) → EndsOne p sv.periods (serves_of (run last)) (run last).sched (run (suc last)).sched k → Blamed k (ended_of k (run (suc last)) - 1) (suc last)
+        by : is_over (run last) ≡ false → ended_of k (run last) < ended_of k (run (suc last)) →
+            EndsOne p sv.periods (serves_of (run last)) (run last).sched (run (suc last)).sched k → Blamed k (ended_of k (run (suc last)) - 1) (suc last)
         by was less (inl same) = absurd (omega (arith, same, less))
         by was less (inr one) =
             let b : Blamed k (ended_of k (run last)) last = work_blamed last was k one.1 in
@@ -217,8 +225,11 @@ module _ (rule : ReplacementRule) (p : Setup) (content : List ℕ) (inputs : Lis
               late was lt s =
                   let r : IsReady (run last).now (run last).sched k = served_ready p sv.periods rule content inputs requests last k was s in
                   let lk : k < length p.tasks = omega (arith, lt, sv.closings.count) in
-                  let m : ((task_at (run last).sched k).ended < (task_at (run last).sched k).jobs) × ((task_at (run last).sched k).ended * (task_at (run last).sched k).period ≤ (run last).now) = ready_means (task_at (run last).sched k) (run last).now (some last was k lk) r.1 in
-                  let n : last < ended_of k (run last) * level.period k + level.length k = not_late last was k (ended_of k (run last)) lk (omega (arith, m.0, (holds last was).tasks.jobs k lk)) (omega arith) in
+                  let m : ((task_at (run last).sched k).ended < (task_at (run last).sched k).jobs)
+                  × ((task_at (run last).sched k).ended * (task_at (run last).sched k).period ≤ (run last).now) =
+                  ready_means (task_at (run last).sched k) (run last).now (some last was k lk) r.1 in
+                  let n : last < ended_of k (run last) * level.period k + level.length k =
+                  not_late last was k (ended_of k (run last)) lk (omega (arith, m.0, (holds last was).tasks.jobs k lk)) (omega arith) in
                   omega (arith, n)
 
   -- ---- all closed cycles
@@ -227,7 +238,8 @@ module _ (rule : ReplacementRule) (p : Setup) (content : List ℕ) (inputs : Lis
   three_false true b c h = absurd (let x : true ≡ false = h in cc)
   three_false false b c h = refl
 
-  idle_blamed : (n until : ℕ) → is_over (run n) ≡ false → Idles p sv.periods (run n).now until (run n).sched (run n).core.window → fits (run n).now (run n).core.window longest ≡ false → IsBlamed n (shut_next n (find (waits_for until n) (length p.tasks)))
+  idle_blamed : (n until : ℕ) → is_over (run n) ≡ false → Idles p sv.periods (run n).now until (run n).sched (run n).core.window →
+      fits (run n).now (run n).core.window longest ≡ false → IsBlamed n (shut_next n (find (waits_for until n) (length p.tasks)))
   idle_blamed n until on i out =
       let w : Waited p sv.periods until (run n).sched i.begun = waited p sv.periods i.begun until (run n).now (run n).sched (holds n on).tasks i.rested in
       let x : TaskJobs = task_at (run n).sched w.task in
@@ -243,7 +255,8 @@ module _ (rule : ReplacementRule) (p : Setup) (content : List ℕ) (inputs : Lis
       let f : (j : ℕ) × (find (just_ended (suc n)) (length p.tasks) ≡ Some j) × (j < length p.tasks) × (just_ended (suc n) j ≡ true) = find_one (just_ended (suc n)) (length p.tasks) x.0 x.1 t in
       subst (λ o. IsBlamed (suc n) (shut_last (suc n) o)) (sym f.1) (end_blamed n f.0 on f.2 f.3)
 
-  chosen_blamed : (n : ℕ) → is_over (run n) ≡ false → (run n).core.mode ≡ Point → (c : Choice) → choice (run n).now (run n).sched ≡ c → chosen_task c ≡ None → IsBlamed n (shut_last n (find (just_ended n) (length p.tasks)))
+  chosen_blamed : (n : ℕ) → is_over (run n) ≡ false → (run n).core.mode ≡ Point → (c : Choice) → choice (run n).now (run n).sched ≡ c →
+      chosen_task c ≡ None → IsBlamed n (shut_last n (find (just_ended n) (length p.tasks)))
   chosen_blamed n on e (Run k) h s = absurd (let x : Some k ≡ None = s in cc)
   chosen_blamed n on e (Rest until) h s = point_blamed n until on e h
   chosen_blamed n on e Finished h s =
@@ -251,7 +264,9 @@ module _ (rule : ReplacementRule) (p : Setup) (content : List ℕ) (inputs : Lis
       let y : is_finished (run n) ≡ true = ap (is_finished_in (run n).now (run n).sched) e ∙ ap is_finish h in
       absurd (let z : true ≡ false = sym y ∙ x in cc)
 
-  mode_blamed : (n : ℕ) → is_over (run n) ≡ false → fits (run n).now (run n).core.window longest ≡ false → (m : Mode) → (run n).core.mode ≡ m → InMode p sv.periods (run n).now (run n).sched (run n).core.window (run n).core.debt m → serves_in (run n).now (run n).sched m ≡ None → IsBlamed n (blame_idle n m)
+  mode_blamed : (n : ℕ) → is_over (run n) ≡ false → fits (run n).now (run n).core.window longest ≡ false → (m : Mode) → (run n).core.mode ≡ m →
+      InMode p sv.periods (run n).now (run n).sched (run n).core.window (run n).core.debt m → serves_in (run n).now (run n).sched m ≡ None →
+      IsBlamed n (blame_idle n m)
   mode_blamed n on out Point e h s = chosen_blamed n on e (choice (run n).now (run n).sched) refl s
   mode_blamed n on out (Switching k left) e h s = absurd (let x : Some k ≡ None = s in cc)
   mode_blamed n on out (Running k) e h s = absurd (let x : Some k ≡ None = s in cc)
@@ -285,7 +300,8 @@ module _ (rule : ReplacementRule) (p : Setup) (content : List ℕ) (inputs : Lis
 
   pub shut_blamed : (n k m : ℕ) → does n ≡ Shut k m → (is_over (run n) ≡ false) × (is_closed longest (run n) ≡ true) × Blamed k m n
   shut_blamed n k m e = by (is_over (run n)) refl where
-    inner : is_over (run n) ≡ false → (b : Bool) → fits (run n).now (run n).core.window longest ≡ b → cond b Behind (blame n) ≡ Shut k m → (is_over (run n) ≡ false) × (is_closed longest (run n) ≡ true) × Blamed k m n
+    inner : is_over (run n) ≡ false → (b : Bool) → fits (run n).now (run n).core.window longest ≡ b → cond b Behind (blame n) ≡ Shut k m →
+        (is_over (run n) ≡ false) × (is_closed longest (run n) ≡ true) × Blamed k m n
     inner on true f h = absurd (let x : Behind ≡ Shut k m = h in cc)
     inner on false f h = (on, ap not f, subst (IsBlamed n) h (closed_blamed n on f))
 

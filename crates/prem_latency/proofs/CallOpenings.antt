@@ -21,7 +21,8 @@ quiet_lists_open plant s opens b (d ∷ ds) h = (
 no_exec : (c : Change) (stated : ℕ) → GoesOrEnds c → c ≡ Execute stated → ⊥
 no_exec c stated h e = subst GoesOrEnds e h
 
-behind_did : (c : Change) (ph : Phase) (d : Did) (n : ℕ) (done : List Did) → GoesOrEnds c → ph ≡ MemoryPhase → d.phase ≡ ph → begun_after c d (record { calls = n; steps = done }) ≡ record { calls = n; steps = done ++ d ∷ [] }
+behind_did : (c : Change) (ph : Phase) (d : Did) (n : ℕ) (done : List Did) → GoesOrEnds c → ph ≡ MemoryPhase → d.phase ≡ ph →
+    begun_after c d (record { calls = n; steps = done }) ≡ record { calls = n; steps = done ++ d ∷ [] }
 behind_did Stay ph d n done g e f = ap (λ (q : Phase). begun n (steps_after q d done)) (f ∙ e) where
   begun : ℕ → List Did → Begun
   begun n xs = record { calls = n; steps = xs }
@@ -36,7 +37,8 @@ module _ (plant : Plant) (passes : ℕ → ℕ) (s : Script) (opens : ℕ → �
   abbrev OpensBy : List Did → Type 0
   OpensBy ds = cost_of_dids ds + length (call_at s n).members * (plant.fill + plant.back) ≤ opens n
 
-  walk : (before done : List Did) (exec : Did) (rest : List Did) → All (λ (d : Did). (d.phase ≡ MemoryPhase) × GoesOrEnds d.change) before → All (λ (d : Did). (stated : ℕ) → d.change ≡ Execute stated → ⊥) rest → OpensBy (done ++ before) →
+  walk : (before done : List Did) (exec : Did) (rest : List Did) → All (λ (d : Did). (d.phase ≡ MemoryPhase) × GoesOrEnds d.change) before →
+      All (λ (d : Did). (stated : ℕ) → d.change ≡ Execute stated → ⊥) rest → OpensBy (done ++ before) →
       OpensAlong plant s opens (record { calls = n + 1; steps = done }) (before ++ exec ∷ rest)
   walk [] done exec rest h k le = (
     λ stated c.

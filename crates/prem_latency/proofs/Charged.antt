@@ -28,7 +28,10 @@ use Rattle.prem_latency.proofs.Serving.{requests_are_served}
 use Rattle.prem_latency.proofs.Dropped.{all_find_room, none_is_dropped}
 use Rattle.prem_latency.proofs.AccountRuns.{jobs_keep_closed_by_charges}
 
-module _ (rule : ReplacementRule) (order : OrderRule) (passes : ℕ → ℕ) (p : Setup) (content : List ℕ) (inputs : List (List ℕ)) (requests : List Request) (own : ℕ → ℕ → Bool) (runs : ℕ → TaskRun) (scripts : ℕ → Script) (scopings : ℕ → Scoping) (loads : List Load) (devices : List Asking) (tasks : List Closing) (d : ℕ) (s : ServesBy rule order passes p content inputs requests own runs scripts scopings loads devices tasks d) where
+module _ (rule : ReplacementRule) (order : OrderRule) (passes : ℕ → ℕ) (p : Setup) (content : List ℕ) (inputs : List (List ℕ))
+    (requests : List Request) (own : ℕ → ℕ → Bool) (runs : ℕ → TaskRun) (scripts : ℕ → Script) (scopings : ℕ → Scoping) (loads : List Load)
+    (devices : List Asking) (tasks : List Closing) (d : ℕ)
+    (s : ServesBy rule order passes p content inputs requests own runs scripts scopings loads devices tasks d) where
   some_top : 1 ≤ top devices d
   some_top =
       let w : (asking_at devices d).cost ≤ longest (take (d + 1) devices) = within_top devices (d + 1) d (omega arith) (omega (arith, s.there, s.askings.count)) in
@@ -49,9 +52,11 @@ module _ (rule : ReplacementRule) (order : OrderRule) (passes : ℕ → ℕ) (p 
           record {
             period = same;
             ends = λ job n left late.
-                scripts_meet_deadlines rule order passes p content inputs requests own runs scripts scopings loads k (closing_at tasks k).length s.policy s.run s.are_scripts s.are_loads lt c.balanced (omega (arith, c.soon, same)) job n left
+                scripts_meet_deadlines rule order passes p content inputs requests own runs scripts scopings loads k
+                (closing_at tasks k).length s.policy s.run s.are_scripts s.are_loads lt c.balanced (omega (arith, c.soon, same)) job n left
                 (subst (λ period. job * period + (closing_at tasks k).length ≤ n) same late);
-            closes = λ job n. let f = jobs_keep_closed_by_charges rule order passes p content inputs requests own runs scripts c.parting c.opens (top devices d) k c.most job n s.policy s.run s.are_scripts lt some_top c.parted c.opened c.jobs in omega (arith, f, c.closed);
+            closes = λ job n. let f = jobs_keep_closed_by_charges rule order passes p content inputs requests own runs scripts c.parting c.opens
+                (top devices d) k c.most job n s.policy s.run s.are_scripts lt some_top c.parted c.opened c.jobs in omega (arith, f, c.closed);
           };
     };
     there = s.there;
@@ -66,7 +71,10 @@ module _ (rule : ReplacementRule) (order : OrderRule) (passes : ℕ → ℕ) (p 
   goes_on : (m : ℕ) → is_finished (states_of rule p content inputs requests m) ≡ false → is_over (states_of rule p content inputs requests m) ≡ false
   goes_on m e =
       ⊎_elim (λ (over : is_over (states_of rule p content inputs requests m) ≡ true).
-      absurd (let x : true ≡ false = sym (over_finished rule order passes p content inputs requests own runs scripts s.policy s.are_scripts.each s.run.runnable s.are_scripts.own_runs s.run.periods scopings (λ k lt. (s.are_loads.each k lt).scoped) total (λ k lt. omega arith) m s.are_scripts.outputs s.are_scripts.intervals over) ∙ e in cc))
+      absurd (let x : true ≡ false =
+      sym (over_finished rule order passes p content inputs requests own runs scripts s.policy s.are_scripts.each s.run.runnable
+      s.are_scripts.own_runs s.run.periods scopings (λ k lt. (s.are_loads.each k lt).scoped) total (λ k lt. omega arith)
+      m s.are_scripts.outputs s.are_scripts.intervals over) ∙ e in cc))
       (λ (on : is_over (states_of rule p content inputs requests m) ≡ false). on)
       (cases_Bool (is_over (states_of rule p content inputs requests m)))
 
@@ -85,5 +93,6 @@ charges_serve_each rule order passes p content inputs requests own runs scripts 
     let some : 1 ≤ wait = room.0 in
     let before : (m : ℕ) → m < suc t → is_over (states_of rule p content inputs requests m) ≡ false =
     (λ m lt. goes_on rule order passes p content inputs requests own runs scripts scopings loads devices tasks d s m (on m (omega (arith, lt, le, some)))) in
-    subst (λ xs. AreTransferred xs (transferred_of d (states_of rule p content inputs requests n).log.transfers)) (all_find_room rule p content inputs requests devices tasks d wait (suc t) sv room holds before)
+    subst (λ xs. AreTransferred xs (transferred_of d (states_of rule p content inputs requests n).log.transfers))
+    (all_find_room rule p content inputs requests devices tasks d wait (suc t) sv room holds before)
     (charges_serve_in_time rule order passes p content inputs requests own runs scripts scopings loads devices tasks d wait t n s room on le)

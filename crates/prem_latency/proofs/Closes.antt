@@ -22,7 +22,8 @@ stated_of s i = (call_at s i).stated
 
 pub scripts_open : ScriptsOpen
 scripts_open plant passes run s h = record { calls = one } where
-  one : (n stated : ℕ) (d : Did) → plain_did run (plain_run run n) ≡ Some d → d.change ≡ Execute stated → cost_of_dids (begun_by run n).steps + length (call_of s (begun_by run n)).members * (plant.fill + plant.back) ≤ stated_of s ((begun_by run n).calls - 1)
+  one : (n stated : ℕ) (d : Did) → plain_did run (plain_run run n) ≡ Some d → d.change ≡ Execute stated →
+      cost_of_dids (begun_by run n).steps + length (call_of s (begun_by run n)).members * (plant.fill + plant.back) ≤ stated_of s ((begun_by run n).calls - 1)
   one n stated d e c =
       let x : Executed run (plain_run run n) d = executed run (plain_run run n) d e in
       let l : IsLawful (plain_run run n).task.phase d.change = did_lawful run (plain_run run n) d x in
@@ -55,17 +56,25 @@ job_more End a b le = le
 job_more Job a b le = omega arith
 
 module _ (plant : Plant) (run : TaskRun) (s : Script) (short : ℕ → ℕ) (charge : Charges) (less : (i : ℕ) → short i ≤ (call_at s i).stated) where
-  pub did_less : (n : ℕ) (d : Did) → did_charge plant (short (begun_by run n).calls) d.phase d.change (charge n d) ≤ did_charge plant (call_at s (begun_by run n).calls).stated d.phase d.change (charge n d)
+  pub did_less : (n : ℕ) (d : Did) →
+      did_charge plant (short (begun_by run n).calls) d.phase d.change (charge n d) ≤ did_charge plant
+      (call_at s (begun_by run n).calls).stated d.phase d.change (charge n d)
   did_less n d = charge_more plant d.phase d.change (charge n d) (short (begun_by run n).calls) (call_at s (begun_by run n).calls).stated (less (begun_by run n).calls)
 
   pub closed_within : (n : ℕ) → closed_charged plant short run charge n ≤ job_charged plant s run charge n
   unfolding closed_charged job_charged
   closed_within zero = omega arith
   closed_within (suc n) = by (plain_did run (plain_run run n)) (closed_within n) (did_less n) where
-    by : (o : Option Did) → closed_charged plant short run charge n ≤ job_charged plant s run charge n → ((d : Did) → did_charge plant (short (begun_by run n).calls) d.phase d.change (charge n d) ≤ did_charge plant (call_at s (begun_by run n).calls).stated d.phase d.change (charge n d)) → closed_with plant short (begun_by run n) charge n o (closed_charged plant short run charge n) ≤ job_with plant s (begun_by run n) charge n o (job_charged plant s run charge n)
+    by : (o : Option Did) → closed_charged plant short run charge n ≤ job_charged plant s run charge n →
+        ((d : Did) → did_charge plant (short (begun_by run n).calls) d.phase d.change (charge n d) ≤ did_charge plant
+        (call_at s (begun_by run n).calls).stated d.phase d.change (charge n d)) →
+        closed_with plant short (begun_by run n) charge n o (closed_charged plant short run charge n) ≤ job_with plant s (begun_by run n) charge n o
+        (job_charged plant s run charge n)
     by None le m = le
     by (Some d) le m =
-        job_more d.change (closed_charged plant short run charge n + did_charge plant (short (begun_by run n).calls) d.phase d.change (charge n d)) (job_charged plant s run charge n + did_charge plant (call_at s (begun_by run n).calls).stated d.phase d.change (charge n d)) (omega (arith, le, m d))
+        job_more d.change (closed_charged plant short run charge n + did_charge plant (short (begun_by run n).calls) d.phase d.change (charge n d))
+        (job_charged plant s run charge n + did_charge plant (call_at s (begun_by run n).calls).stated d.phase d.change (charge n d))
+        (omega (arith, le, m d))
 
 pub shorter_calls_close : ShorterCallsClose
 shorter_calls_close plant run s short charge cost longest less h = record {

@@ -13,7 +13,8 @@ use Rattle.prem_gate.specs.declared.bus.Carried.{Carried}
 use Rattle.prem_gate.specs.declared.bus.Transfer.{Transfer}
 use Rattle.prem_gate.specs.declared.bus.CoreWant.{CoreWant}
 use Rattle.prem_gate.specs.declared.bus.CoreWant.TheVariants.{No, New, Held}
-use Rattle.prem_gate.specs.Gates.{GatesState, Turned, gate_at, is_full, after_arrival, startable, taken, transfer_of, ends, goes_on as carry_on, carries, wants, starts, bus_free, bus_with, bus_turn, carries_for}
+use Rattle.prem_gate.specs.Gates.{GatesState, Turned, gate_at, is_full, after_arrival, startable, taken, transfer_of, ends, goes_on as carry_on, carries, wants, starts, bus_free}
+use Rattle.prem_gate.specs.Gates.{bus_with, bus_turn, carries_for}
 use Rattle.prem_gate.specs.Ranges.{IsStart}
 use Rattle.prem_gate.proofs.Places.{startable_is}
 use Rattle.prem_cycle.specs.State.{Setup, MachineState, start_of}
@@ -47,8 +48,11 @@ few_found j now (r ∷ rs) s = by (eqb r.device j) (eqb r.cycle now) (is_full (g
   mine : List Request
   mine = asked_of j rs
 
-  by : (b c full : Bool) → eqb r.cycle now ≡ c → length (asked_of j (found_room now rs (after_arrival r s))) ≤ at_cycle now (asked_of j rs) → length (asked_of j (found_room now rs s)) ≤ at_cycle now (asked_of j rs) →
-      length (filter (λ (x : Request). eqb x.device j) (cond c (cond full (found_room now rs (after_arrival r s)) (r ∷ found_room now rs (after_arrival r s))) (found_room now rs s))) ≤ at_cycle now (cond (eqb r.device j) (r ∷ asked_of j rs) (asked_of j rs))
+  by : (b c full : Bool) → eqb r.cycle now ≡ c → length (asked_of j (found_room now rs (after_arrival r s))) ≤ at_cycle now (asked_of j rs) →
+      length (asked_of j (found_room now rs s)) ≤ at_cycle now (asked_of j rs) →
+      length (filter (λ (x : Request). eqb x.device j)
+      (cond c (cond full (found_room now rs (after_arrival r s)) (r ∷ found_room now rs (after_arrival r s))) (found_room now rs s)))
+      ≤ at_cycle now (cond (eqb r.device j) (r ∷ asked_of j rs) (asked_of j rs))
   by b false full e x y = skip (eqb r.device j) (length (asked_of j (found_room now rs s))) y where
     skip : (b : Bool) (n : ℕ) → n ≤ at_cycle now (asked_of j rs) → n ≤ at_cycle now (cond b (r ∷ asked_of j rs) (asked_of j rs))
     skip true n h = omega (arith, h)
@@ -58,7 +62,8 @@ few_found j now (r ∷ rs) s = by (eqb r.device j) (eqb r.cycle now) (is_full (g
     skip true n h = omega (arith, h)
     skip false n h = h
   by b true false e x y = take (eqb r.device j) where
-    take : (b : Bool) → length (cond b (r ∷ asked_of j (found_room now rs (after_arrival r s))) (asked_of j (found_room now rs (after_arrival r s)))) ≤ at_cycle now (cond b (r ∷ asked_of j rs) (asked_of j rs))
+    take : (b : Bool) → length (cond b (r ∷ asked_of j (found_room now rs (after_arrival r s))) (asked_of j (found_room now rs (after_arrival r s))))
+        ≤ at_cycle now (cond b (r ∷ asked_of j rs) (asked_of j rs))
     take true = let z : one_if (eqb r.cycle now) ≡ 1 = ap one_if e in omega (arith, x, z)
     take false = x
 
@@ -96,7 +101,8 @@ module _ (j cost : ℕ) (ts : List Transfer) where
   abbrev Has : (before on : Option Carried) → Turned → Type 0
   Has before on t = cost * done j (with_last t.turn.ended ts) + part j cost t.gates.carried ≡ cost * done j ts + part j cost before + one_if (is_for j on)
 
-  ends_has : (c : Carried) (x : Transfer) → x.device ≡ c.device → IsLeft j cost c → c.left ≤ 1 → cost * done j (ts ++ x ∷ []) + 0 ≡ cost * done j ts + cond (eqb c.device j) (cost - c.left) 0 + one_if (eqb c.device j)
+  ends_has : (c : Carried) (x : Transfer) → x.device ≡ c.device → IsLeft j cost c → c.left ≤ 1 →
+      cost * done j (ts ++ x ∷ []) + 0 ≡ cost * done j ts + cond (eqb c.device j) (cost - c.left) 0 + one_if (eqb c.device j)
   ends_has c x same l last = by (eqb c.device j) refl where
     d : (b : Bool) → eqb c.device j ≡ b → done j (ts ++ x ∷ []) ≡ done j ts + one_if b
     d b e = done_one j x ts ∙ ap (λ n. done j ts + one_if (eqb n j)) same ∙ ap (λ b. done j ts + one_if b) e
@@ -116,7 +122,8 @@ module _ (j cost : ℕ) (ts : List Transfer) where
         let m : cost * (done j ts + 0) ≡ cost * done j ts = ap (λ m. cost * m) z in
         omega (arith, n, m)
 
-  goes_has : (c : Carried) → IsLeft j cost c → 1 < c.left → cost * done j ts + cond (eqb c.device j) (cost - (c.left - 1)) 0 ≡ cost * done j ts + cond (eqb c.device j) (cost - c.left) 0 + one_if (eqb c.device j)
+  goes_has : (c : Carried) → IsLeft j cost c → 1 < c.left →
+      cost * done j ts + cond (eqb c.device j) (cost - (c.left - 1)) 0 ≡ cost * done j ts + cond (eqb c.device j) (cost - c.left) 0 + one_if (eqb c.device j)
   goes_has c l more = by (eqb c.device j) refl where
     by : (b : Bool) → eqb c.device j ≡ b → cost * done j ts + cond b (cost - (c.left - 1)) 0 ≡ cost * done j ts + cond b (cost - c.left) 0 + one_if b
     by true e = let le : c.left ≤ cost = l.1 (eqb-true c.device j e) in sum (cost * done j ts) cost c.left le more where
@@ -131,7 +138,8 @@ module _ (j cost : ℕ) (ts : List Transfer) where
       (λ more. goes_has c l (leb-false c.left 1 more))
 
   -- one that starts has had none
-  starts_has : (core : Bool) (o : Option Carried) (s : GatesState) (memory : List ℕ) → ((c : Carried) → o ≡ Some c → IsLeft j cost c × (c.device ≡ j → c.left ≡ cost)) → s.carried ≡ None → Has None o (starts core o s memory)
+  starts_has : (core : Bool) (o : Option Carried) (s : GatesState) (memory : List ℕ) →
+      ((c : Carried) → o ≡ Some c → IsLeft j cost c × (c.device ≡ j → c.left ≡ cost)) → s.carried ≡ None → Has None o (starts core o s memory)
   starts_has core None s memory l none = let z : part j cost s.carried ≡ 0 = ap (part j cost) none in omega (arith, z)
   starts_has core (Some c) s memory l none =
       let h : IsLeft j cost c × (c.device ≡ j → c.left ≡ cost) = l c refl in
@@ -142,12 +150,17 @@ module _ (j cost : ℕ) (ts : List Transfer) where
         full true e h = let y : c.left ≡ cost = h (eqb-true c.device j e) in omega (arith, y)
         full false e h = refl
 
-  free_has : (now : ℕ) (w : Window) (core : CoreWant) (s : GatesState) (memory : List ℕ) → ((c : Carried) → startable now w s ≡ Some c → IsLeft j cost c × (c.device ≡ j → c.left ≡ cost)) → s.carried ≡ None → Has None (on_bus core None (startable now w s)) (bus_free core (startable now w s) s memory)
+  free_has : (now : ℕ) (w : Window) (core : CoreWant) (s : GatesState) (memory : List ℕ) →
+      ((c : Carried) → startable now w s ≡ Some c → IsLeft j cost c × (c.device ≡ j → c.left ≡ cost)) → s.carried ≡ None →
+      Has None (on_bus core None (startable now w s)) (bus_free core (startable now w s) s memory)
   free_has now w No s memory l none = starts_has false (startable now w s) s memory l none
   free_has now w New s memory l none = starts_has true (startable now w s) s memory l none
   free_has now w Held s memory l none = let z : part j cost s.carried ≡ 0 = ap (part j cost) none in omega (arith, z)
 
-  pub turn_has : (now : ℕ) (w : Window) (core : CoreWant) (s : GatesState) (memory : List ℕ) → ((c : Carried) → s.carried ≡ Some c → IsLeft j cost c) → ((c : Carried) → startable now w s ≡ Some c → IsLeft j cost c × (c.device ≡ j → c.left ≡ cost)) → Has s.carried (transfer_on now w core s) (bus_turn now w core s memory)
+  pub turn_has : (now : ℕ) (w : Window) (core : CoreWant) (s : GatesState) (memory : List ℕ) →
+      ((c : Carried) → s.carried ≡ Some c → IsLeft j cost c) →
+      ((c : Carried) → startable now w s ≡ Some c → IsLeft j cost c × (c.device ≡ j → c.left ≡ cost)) →
+      Has s.carried (transfer_on now w core s) (bus_turn now w core s memory)
   turn_has now w core s memory held l = by s.carried refl where
     by : (o : Option Carried) → s.carried ≡ o → Has o (on_bus core o (startable now w s)) (bus_with core o (startable now w s) s memory)
     by (Some c) e = carries_has (wants core) c s memory (held c e)
@@ -178,8 +191,12 @@ module _ (rule : ReplacementRule) (p : Setup) (content : List ℕ) (inputs : Lis
   pub asked_are : (j n : ℕ) → asked j n ≡ served j n + waiting j (run n).gates
   asked_are j n =
       let e : length (held_of j (run n)) ≡ asked j n = ap length (requests_held rule p content inputs requests n j) in
-      let a : length (held_of j (run n)) ≡ length (transferred_of j (run n).log.transfers ++ carried_of j (run n).gates.carried) + length (queue_at (run n).gates j) = length-append (transferred_of j (run n).log.transfers ++ carried_of j (run n).gates.carried) (queue_at (run n).gates j) in
-      let b : length (transferred_of j (run n).log.transfers ++ carried_of j (run n).gates.carried) ≡ served j n + length (carried_of j (run n).gates.carried) = length-append (transferred_of j (run n).log.transfers) (carried_of j (run n).gates.carried) in
+      let a : length (held_of j (run n))
+      ≡ length (transferred_of j (run n).log.transfers ++ carried_of j (run n).gates.carried) + length (queue_at (run n).gates j) =
+      length-append (transferred_of j (run n).log.transfers ++ carried_of j (run n).gates.carried) (queue_at (run n).gates j) in
+      let b : length (transferred_of j (run n).log.transfers ++ carried_of j (run n).gates.carried)
+      ≡ served j n + length (carried_of j (run n).gates.carried) =
+      length-append (transferred_of j (run n).log.transfers) (carried_of j (run n).gates.carried) in
       let c : length (carried_of j (run n).gates.carried) ≡ carries_for j (run n).gates.carried = carried_count j (run n).gates.carried in
       omega (arith, e, a, b, c)
 
@@ -189,7 +206,8 @@ module _ (rule : ReplacementRule) (p : Setup) (content : List ℕ) (inputs : Lis
 
   pub asked_grows : (j n : ℕ) → asked j n ≤ asked j (suc n)
   asked_grows j n =
-      let e : asked j (suc n) ≡ asked j n + length (asked_of j (coming_requests requests (run n))) = ap length (found_next j n) ∙ length-append (found j n) (asked_of j (coming_requests requests (run n))) in
+      let e : asked j (suc n) ≡ asked j n + length (asked_of j (coming_requests requests (run n))) = ap length (found_next j n)
+      ∙ length-append (found j n) (asked_of j (coming_requests requests (run n))) in
       omega (arith, e)
 
   pub none_found : (j : ℕ) → found j 0 ≡ []
@@ -213,7 +231,8 @@ module _ (rule : ReplacementRule) (p : Setup) (content : List ℕ) (inputs : Lis
         let a : List Request = asked_of j (found_room (run n).now requests (run n).gates) in
         let q : length (queue_at (asked_gates rule p content inputs requests n) j) ≡ length (queue_at (run n).gates j) + length a =
         ap length (arrivals_queue (run n).now requests (record { gates = (run n).gates; dropped = (run n).log.dropped }) j) ∙ length-append (queue_at (run n).gates j) a in
-        let c : carries_for j (asked_gates rule p content inputs requests n).carried ≡ carries_for j (run n).gates.carried = ap (carries_for j) (arrivals_carried (run n).now requests (record { gates = (run n).gates; dropped = (run n).log.dropped })) in
+        let c : carries_for j (asked_gates rule p content inputs requests n).carried ≡ carries_for j (run n).gates.carried =
+        ap (carries_for j) (arrivals_carried (run n).now requests (record { gates = (run n).gates; dropped = (run n).log.dropped })) in
         omega (arith, asked_next j, asked_are j n, q, c)
 
     pub few_asked : (j : ℕ) → asked j (suc n) ≤ asked j n + at_cycle n (asked_of j requests)
@@ -223,7 +242,8 @@ module _ (rule : ReplacementRule) (p : Setup) (content : List ℕ) (inputs : Lis
         omega (arith, asked_next j, f, e)
 
     pub transfers_are : (run (suc n)).log.transfers ≡ with_last (bus_in rule p content inputs requests n).turn.ended (run n).log.transfers
-    transfers_are = ap (λ (s : MachineState). s.log.transfers) (goes_is rule p content inputs requests n on) ∙ cycle_transfers rule p (arrivals_at requests (run n)) (bus_in rule p content inputs requests n) (run n)
+    transfers_are = ap (λ (s : MachineState). s.log.transfers) (goes_is rule p content inputs requests n on)
+        ∙ cycle_transfers rule p (arrivals_at requests (run n)) (bus_in rule p content inputs requests n) (run n)
 
   -- ---- transfers
 
@@ -233,10 +253,13 @@ module _ (rule : ReplacementRule) (p : Setup) (content : List ℕ) (inputs : Lis
 
   pub served_grows : (j n : ℕ) → served j n ≤ served j (suc n)
   served_grows j n =
-      ⊎_elim (λ (over : is_over (run n) ≡ true). let e : served j (suc n) ≡ served j n = ap (λ (s : MachineState). length (transferred_of j s.log.transfers)) (stays_is rule p content inputs requests n over) in omega (arith, e))
+      ⊎_elim (λ (over : is_over (run n) ≡ true). let e : served j (suc n) ≡ served j n =
+      ap (λ (s : MachineState). length (transferred_of j s.log.transfers)) (stays_is rule p content inputs requests n over) in omega (arith, e))
       (λ (on : is_over (run n) ≡ false).
-      let e : served j (suc n) ≡ length (transferred_of j (with_last (bus_in rule p content inputs requests n).turn.ended (run n).log.transfers)) = ap (λ ts. length (transferred_of j ts)) (transfers_are n on) in
-      let m : served j n ≤ length (transferred_of j (with_last (bus_in rule p content inputs requests n).turn.ended (run n).log.transfers)) = more_done j (bus_in rule p content inputs requests n).turn.ended (run n).log.transfers in
+      let e : served j (suc n) ≡ length (transferred_of j (with_last (bus_in rule p content inputs requests n).turn.ended (run n).log.transfers)) =
+      ap (λ ts. length (transferred_of j ts)) (transfers_are n on) in
+      let m : served j n ≤ length (transferred_of j (with_last (bus_in rule p content inputs requests n).turn.ended (run n).log.transfers)) =
+      more_done j (bus_in rule p content inputs requests n).turn.ended (run n).log.transfers in
       omega (arith, e, m))
       (cases_Bool (is_over (run n)))
 
@@ -244,14 +267,18 @@ module _ (rule : ReplacementRule) (p : Setup) (content : List ℕ) (inputs : Lis
     -- what is carried has begun before, and has some cycles left
     pub on_way : (n : ℕ) (c : Carried) → is_over (run n) ≡ false → (run n).gates.carried ≡ Some c → (1 ≤ c.left) × (c.first < n) × (c.first + device_cost p.devices c.device ≡ n + c.left)
     on_way n c on e =
-        let w : IsOnItsWay p.devices (run n).now c = subst (λ (o : Option Carried). IfSome o (IsOnItsWay p.devices (run n).now)) e (runs_are_on_their_way rule p content inputs requests n all (goes_untrapped (run n) on)) in
+        let w : IsOnItsWay p.devices (run n).now c =
+        subst (λ (o : Option Carried). IfSome o (IsOnItsWay p.devices (run n).now)) e
+        (runs_are_on_their_way rule p content inputs requests n all (goes_untrapped (run n) on)) in
         let b : c.first < n = (have_begun rule p content inputs requests 0 0 all (λ m on j lt some. absurd (omega (arith, lt))) n c e (omega arith)).0 in
         let now : (run n).now ≡ n = run_of-now rule p content inputs requests n on in
         (w.some, b, omega (arith, w.on_time, now))
 
     -- the cycles of a device's transfers in one cycle more
     pub carried_next : (n j : ℕ) → is_over (run n) ≡ false → j < length p.devices →
-        device_cost p.devices j * served j (suc n) + part j (device_cost p.devices j) (run (suc n)).gates.carried ≡ device_cost p.devices j * served j n + part j (device_cost p.devices j) (run n).gates.carried + one_if (is_for j (coming_transfer requests (run n)))
+        device_cost p.devices j * served j (suc n) + part j (device_cost p.devices j) (run (suc n)).gates.carried
+        ≡ device_cost p.devices j * served j n + part j (device_cost p.devices j) (run n).gates.carried + one_if
+        (is_for j (coming_transfer requests (run n)))
     carried_next n j on lt =
         let cost : ℕ = device_cost p.devices j in
         let g : GatesState = asked_gates rule p content inputs requests n in
@@ -265,14 +292,20 @@ module _ (rule : ReplacementRule) (p : Setup) (content : List ℕ) (inputs : Lis
         let some : 1 ≤ c.left = new_left n on c st in
         ((some, λ d. let y : c.left ≡ cost = full d in omega (arith, y)), full) in
         let t = turn_has j cost (run n).log.transfers (run n).now (run n).core.window (want_of (run n).core.debt) g (run n).work.memory held new in
-        let a : served j (suc n) ≡ length (transferred_of j (with_last (bus_in rule p content inputs requests n).turn.ended (run n).log.transfers)) = ap (λ ts. length (transferred_of j ts)) (transfers_are n on) in
-        let b : part j cost (run (suc n)).gates.carried ≡ part j cost (bus_in rule p content inputs requests n).gates.carried = ap (λ (x : GatesState). part j cost x.carried) (gates_are rule p content inputs requests n on) in
+        let a : served j (suc n) ≡ length (transferred_of j (with_last (bus_in rule p content inputs requests n).turn.ended (run n).log.transfers)) =
+        ap (λ ts. length (transferred_of j ts)) (transfers_are n on) in
+        let b : part j cost (run (suc n)).gates.carried ≡ part j cost (bus_in rule p content inputs requests n).gates.carried =
+        ap (λ (x : GatesState). part j cost x.carried) (gates_are rule p content inputs requests n on) in
         let d : part j cost g.carried ≡ part j cost (run n).gates.carried = ap (part j cost) same in
         let e : cost * served j (suc n) ≡ cost * length (transferred_of j (with_last (bus_in rule p content inputs requests n).turn.ended (run n).log.transfers)) = ap (λ m. cost * m) a in
         omega (arith, t, b, d, e) where
           new_left : (n : ℕ) → is_over (run n) ≡ false → (c : Carried) → IsStart (run n).now (run n).core.window (asked_gates rule p content inputs requests n).gates c → 1 ≤ c.left
           new_left n on c st =
-              let there : c.device < length p.devices = gates_there (asked_gates rule p content inputs requests n).gates p.devices (asked_costs rule p content inputs requests all n on) c.device st.there in
-              let e : c.left ≡ device_cost p.devices c.device = st.cost ∙ cost_is (asked_gates rule p content inputs requests n).gates p.devices c.device (asked_costs rule p content inputs requests all n on) there in
+              let there : c.device < length p.devices =
+              gates_there (asked_gates rule p content inputs requests n).gates p.devices (asked_costs rule p content inputs requests all n on)
+              c.device st.there in
+              let e : c.left ≡ device_cost p.devices c.device = st.cost
+              ∙ cost_is (asked_gates rule p content inputs requests n).gates p.devices c.device
+              (asked_costs rule p content inputs requests all n on) there in
               let one : 1 ≤ device_cost p.devices c.device = some_cost p.devices c.device all there in
               omega (arith, e, one)

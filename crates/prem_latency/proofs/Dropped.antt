@@ -1,6 +1,7 @@
 -- No request of a device is dropped where its queue holds as many as come in so many cycles.
 use Rattle.std.specs.Prelude.{All, filter, is_some, map, slice_index, slice_index_or, slice_set}
-use Rattle.std.proofs.Common.{◌≡◌, ◌≢◌, ℕ, zero, suc, ◌+◌, ◌*◌, ◌<◌, ◌≤◌, refl, ap, ◌∙◌, sym, subst, arith, eqb, leb, ltb, cond, true, false, Bool, Some, None, Option, List, [], ◌∷◌, ◌++◌, length, drop, ◌⊎◌, inl, inr, ⊎_elim}
+use Rattle.std.proofs.Common.{◌≡◌, ◌≢◌, ℕ, zero, suc, ◌+◌, ◌*◌, ◌<◌, ◌≤◌, refl, ap, ◌∙◌, sym, subst, arith, eqb, leb, ltb, cond, true, false, Bool, Some, None, Option, List, []}
+use Rattle.std.proofs.Common.{◌∷◌, ◌++◌, length, drop, ◌⊎◌, inl, inr, ⊎_elim}
 use Rattle.std.proofs.lemmas.Bool.{cases_lt, cases_eq, cases_Bool, lt-leb, lt-ltb, le-ltb, eq-eqb, ne_eqb, cond_both}
 use Rattle.std.proofs.lemmas.List.{length-append, get_or-set_same, get_or-set_other, get_or_past}
 use Rattle.prem_lru.specs.Entries.{ReplacementRule}
@@ -11,7 +12,8 @@ use Rattle.prem_gate.specs.declared.bus.Window.{Window}
 use Rattle.prem_gate.specs.declared.bus.Carried.{Carried}
 use Rattle.prem_gate.specs.declared.bus.CoreWant.{CoreWant}
 use Rattle.prem_gate.specs.declared.bus.CoreWant.TheVariants.{No, New, Held}
-use Rattle.prem_gate.specs.Gates.{GateState, GatesState, Turned, gate_at, no_gate, with_queue, with_gates, is_full, arrival_of, queued, after_arrival, gates_of, startable, taken, ends, goes_on, carries, wants, starts, bus_free, bus_with, bus_turn}
+use Rattle.prem_gate.specs.Gates.{GateState, GatesState, Turned, gate_at, no_gate, with_queue, with_gates, is_full, arrival_of, queued, after_arrival, gates_of, startable, taken}
+use Rattle.prem_gate.specs.Gates.{ends, goes_on, carries, wants, starts, bus_free, bus_with, bus_turn}
 use Rattle.prem_image.specs.declared.image.DeviceRecord.{DeviceRecord}
 use Rattle.prem_cycle.specs.State.{Setup, MachineState}
 use Rattle.prem_cycle.specs.Inputs.{no_device}
@@ -46,7 +48,8 @@ set_caps [] d q = refl
 set_caps (g ∷ gates) zero q = refl
 set_caps (g ∷ gates) (suc d) q = ap (λ cs. g.capacity ∷ cs) (set_caps gates d q)
 
-cap_is : (gates : List GateState) (devices : List DeviceRecord) (d : ℕ) → caps_of gates ≡ caps_in devices → d < length devices → (gate_at gates d).capacity ≡ (slice_index_or devices d no_device).device.queue
+cap_is : (gates : List GateState) (devices : List DeviceRecord) (d : ℕ) → caps_of gates ≡ caps_in devices → d < length devices →
+    (gate_at gates d).capacity ≡ (slice_index_or devices d no_device).device.queue
 cap_is [] [] d same within = absurd (omega (arith, within))
 cap_is [] (e ∷ devices) d same within = absurd (let x : ◌≡◌ {A = List ℕ} [] (e.device.queue ∷ caps_in devices) = same in cc)
 cap_is (g ∷ gates) [] d same within = absurd (omega (arith, within))
@@ -119,7 +122,8 @@ module _ (d now : ℕ) where
   NoneDropped a = slice_index a.dropped d ≡ 0
 
   -- one of the device arrives
-  own_arrives : (r : Request) (rs : List Request) (a : Arrivals) → d ≡ r.device → eqb r.cycle now ≡ true → HasRoom d now (r ∷ rs) a.gates → NoneDropped a → HasRoom d now rs (arrived r a).gates × NoneDropped (arrived r a)
+  own_arrives : (r : Request) (rs : List Request) (a : Arrivals) → d ≡ r.device → eqb r.cycle now ≡ true → HasRoom d now (r ∷ rs) a.gates →
+      NoneDropped a → HasRoom d now rs (arrived r a).gates × NoneDropped (arrived r a)
   own_arrives r rs a same cycle room none =
       let mine : asked_of d (r ∷ rs) ≡ r ∷ asked_of d rs = ap (λ b. cond b (r ∷ asked_of d rs) (asked_of d rs)) (eq-eqb r.device d (sym same)) in
       let one : one_if (eqb r.cycle now) ≡ 1 = ap one_if cycle in
@@ -207,11 +211,13 @@ module _ (d now : ℕ) where
     others ne more =
         let h : HasRoom d now rs (after_arrival r s) = (other_arrives d now r rs (record { gates = s; dropped = [] }) ne room refl).0 in
         let not_d : (xs : List Request) → asked_of d (r ∷ xs) ≡ asked_of d xs = λ xs. ap (λ b. cond b (r ∷ asked_of d xs) (asked_of d xs)) (ne_eqb r.device d (λ e. ne (sym e))) in
-        cond_both (is_full (gate_at s.gates r.device)) (found_room now rs (after_arrival r s)) (r ∷ found_room now rs (after_arrival r s)) (λ xs. asked_of d xs ≡ asked_of d (found_room now rs (after_arrival r s))) (λ _. refl) (λ _. not_d (found_room now rs (after_arrival r s)))
+        cond_both (is_full (gate_at s.gates r.device)) (found_room now rs (after_arrival r s)) (r ∷ found_room now rs (after_arrival r s))
+        (λ xs. asked_of d xs ≡ asked_of d (found_room now rs (after_arrival r s))) (λ _. refl) (λ _. not_d (found_room now rs (after_arrival r s)))
         ∙ more h ∙ sym (ap (at_only now) (not_d rs))
 
     by : (c : Bool) → eqb r.cycle now ≡ c → ((t : GatesState) → HasRoom d now rs t → asked_of d (found_room now rs t) ≡ at_only now (asked_of d rs)) →
-        asked_of d (cond c (cond (is_full (gate_at s.gates r.device)) (found_room now rs (after_arrival r s)) (r ∷ found_room now rs (after_arrival r s))) (found_room now rs s)) ≡ at_only now (asked_of d (r ∷ rs))
+        asked_of d (cond c (cond (is_full (gate_at s.gates r.device)) (found_room now rs (after_arrival r s))
+        (r ∷ found_room now rs (after_arrival r s))) (found_room now rs s)) ≡ at_only now (asked_of d (r ∷ rs))
     by true e more =
         ⊎_elim (λ (same : d ≡ r.device). mine e same (more (after_arrival r s))) (λ (ne : d ≡ r.device → ⊥). others ne (more (after_arrival r s))) (cases_eq d r.device)
     by false e more = more s (passes d now r rs (record { gates = s; dropped = [] }) e room) ∙ sym (skips (eqb r.device d) e)
@@ -256,8 +262,10 @@ none_before_zero (r ∷ rs) = ap (λ b. cond b (r ∷ before_only 0 rs) (before_
 swapped : (d n : ℕ) (rs : List Request) → asked_of d (before_only n rs) ≡ before_only n (asked_of d rs)
 swapped d n [] = refl
 swapped d n (r ∷ rs) = by (eqb r.device d) (ltb r.cycle n) refl refl (swapped d n rs) where
-  by : (a b : Bool) → eqb r.device d ≡ a → ltb r.cycle n ≡ b → asked_of d (before_only n rs) ≡ before_only n (asked_of d rs) → asked_of d (cond b (r ∷ before_only n rs) (before_only n rs)) ≡ before_only n (cond a (r ∷ asked_of d rs) (asked_of d rs))
-  by true true e f h = ap (λ c. cond c (r ∷ asked_of d (before_only n rs)) (asked_of d (before_only n rs))) e ∙ ap (λ xs. r ∷ xs) h ∙ sym (ap (λ c. cond c (r ∷ before_only n (asked_of d rs)) (before_only n (asked_of d rs))) f)
+  by : (a b : Bool) → eqb r.device d ≡ a → ltb r.cycle n ≡ b → asked_of d (before_only n rs) ≡ before_only n (asked_of d rs) →
+      asked_of d (cond b (r ∷ before_only n rs) (before_only n rs)) ≡ before_only n (cond a (r ∷ asked_of d rs) (asked_of d rs))
+  by true true e f h = ap (λ c. cond c (r ∷ asked_of d (before_only n rs)) (asked_of d (before_only n rs))) e ∙ ap (λ xs. r ∷ xs) h
+      ∙ sym (ap (λ c. cond c (r ∷ before_only n (asked_of d rs)) (before_only n (asked_of d rs))) f)
   by true false e f h = h ∙ sym (ap (λ c. cond c (r ∷ before_only n (asked_of d rs)) (before_only n (asked_of d rs))) f)
   by false true e f h = ap (λ c. cond c (r ∷ asked_of d (before_only n rs)) (asked_of d (before_only n rs))) e ∙ h
   by false false e f h = h
@@ -299,16 +307,23 @@ module _ (rule : ReplacementRule) (p : Setup) (content : List ℕ) (inputs : Lis
   first_dropped d = none_of p.devices d
 
   next_dropped : (n : ℕ) → is_over (run n) ≡ false → (run (suc n)).log.dropped ≡ (arrivals_at requests (run n)).dropped
-  next_dropped n on = ap (λ (s : MachineState). s.log.dropped) (goes_is rule p content inputs requests n on) ∙ ticked_dropped (joined (arrivals_at requests (run n)) (bus_in rule p content inputs requests n) (core_at rule p (bus_in rule p content inputs requests n) (run n)) (run n))
+  next_dropped n on = ap (λ (s : MachineState). s.log.dropped) (goes_is rule p content inputs requests n on)
+      ∙ ticked_dropped (joined (arrivals_at requests (run n)) (bus_in rule p content inputs requests n)
+      (core_at rule p (bus_in rule p content inputs requests n) (run n)) (run n))
 
-  module _ (devices : List Asking) (tasks : List Closing) (d wait : ℕ) (sv : Serves rule p content inputs requests devices tasks d) (room : IsRoom devices tasks d wait) (holds : requests_in (asking_at devices d).every wait ≤ (device_of p d).device.queue) where
+  module _ (devices : List Asking) (tasks : List Closing) (d wait : ℕ) (sv : Serves rule p content inputs requests devices tasks d)
+      (room : IsRoom devices tasks d wait) (holds : requests_in (asking_at devices d).every wait ≤ (device_of p d).device.queue) where
     one_comes : (n : ℕ) → at_cycle n (asked_of d requests) ≤ 1
     one_comes n =
         let k : IsAskingOf p requests d (asking_at devices d) = sv.askings.each d sv.there in
-        let f : before (n + 1) (asked_of d requests) ≤ before n (asked_of d requests) + requests_in (asking_at devices d).every 1 = few_come (asking_at devices d).every n 1 (asked_of d requests) k.every k.distant in
+        let f : before (n + 1) (asked_of d requests) ≤ before n (asked_of d requests) + requests_in (asking_at devices d).every 1 =
+        few_come (asking_at devices d).every n 1 (asked_of d requests) k.every k.distant in
         let e : suc n ≡ n + 1 = omega arith in
-        let g : before (n + 1) (asked_of d requests) ≡ before n (asked_of d requests) + at_cycle n (asked_of d requests) = ap (λ t. before t (asked_of d requests)) (sym e) ∙ next_before n (asked_of d requests) in
-        let one : requests_in (asking_at devices d).every 1 ≤ 1 = least_distances (asking_at devices d).every 1 1 k.every (let z : 1 * (asking_at devices d).every ≡ (asking_at devices d).every = omega arith in omega (arith, z, k.every)) in
+        let g : before (n + 1) (asked_of d requests) ≡ before n (asked_of d requests) + at_cycle n (asked_of d requests) =
+        ap (λ t. before t (asked_of d requests)) (sym e) ∙ next_before n (asked_of d requests) in
+        let one : requests_in (asking_at devices d).every 1 ≤ 1 =
+        least_distances (asking_at devices d).every 1 1 k.every
+        (let z : 1 * (asking_at devices d).every ≡ (asking_at devices d).every = omega arith in omega (arith, z, k.every)) in
         omega (arith, f, g, one)
 
     room_in : (n : ℕ) → is_over (run n) ≡ false → HasRoom d (run n).now requests (run n).gates
@@ -317,7 +332,8 @@ module _ (rule : ReplacementRule) (p : Setup) (content : List ℕ) (inputs : Lis
       by zero e = inl e
       by (suc m) e =
           let g : come_before d (suc n) requests ≡ come_before d n requests + at_cycle n (asked_of d requests) = next_before n (asked_of d requests) in
-          let h = has_room_in rule p content inputs requests devices tasks d sv (suc n) (λ i lt. on_before rule p content inputs requests i n (omega (arith, lt)) on) wait n room (omega arith) (omega (arith, g, e)) in
+          let h = has_room_in rule p content inputs requests devices tasks d sv (suc n)
+          (λ i lt. on_before rule p content inputs requests i n (omega (arith, lt)) on) wait n room (omega arith) (omega (arith, g, e)) in
           let a = asked_are rule p content inputs requests d n in
           let c : (gate_at (run n).gates.gates d).capacity ≡ (device_of p d).device.queue = cap_is (run n).gates.gates p.devices d (run_caps n) sv.there in
           inr (omega (arith, h, a, c, holds, one_comes n))
@@ -331,7 +347,8 @@ module _ (rule : ReplacementRule) (p : Setup) (content : List ℕ) (inputs : Lis
         let k : IsAskingOf p requests d (asking_at devices d) = sv.askings.each d sv.there in
         let c : coming_requests requests (run n) ≡ found_room (run n).now requests (run n).gates = ap (λ b. cond b [] (found_room (run n).now requests (run n).gates)) here in
         let now : (run n).now ≡ n = run_of-now rule p content inputs requests n here in
-        let all : asked_of d (found_room (run n).now requests (run n).gates) ≡ at_only n (asked_of d requests) = found_all d (run n).now requests (run n).gates (room_in n here) ∙ ap (λ t. at_only t (asked_of d requests)) now in
+        let all : asked_of d (found_room (run n).now requests (run n).gates) ≡ at_only n (asked_of d requests) =
+        found_all d (run n).now requests (run n).gates (room_in n here) ∙ ap (λ t. at_only t (asked_of d requests)) now in
         found_next rule p content inputs requests d n ∙ ap (λ xs. found rule p content inputs requests d n ++ asked_of d xs) c
         ∙ ap (λ xs. found rule p content inputs requests d n ++ xs) all
         ∙ ap (λ xs. xs ++ at_only n (asked_of d requests)) (found_before n (λ m lt. on m (omega (arith, lt))))

@@ -18,7 +18,8 @@ charged_images_serve_devices rule order passes p content promises limit scopings
     } in (
       λ t n on le. charges_serve_in_time rule order passes p content inputs requests h.own (h.runs inputs) (h.scripts inputs) (scopings inputs) loads devices tasks d wait t n s room on le,
       λ holds. record {
-        served = λ t n on le. charges_serve_each rule order passes p content inputs requests h.own (h.runs inputs) (h.scripts inputs) (scopings inputs) loads devices tasks d wait t n s room holds on le;
+        served = λ t n on le. charges_serve_each rule order passes p content inputs requests h.own (h.runs inputs) (h.scripts inputs)
+            (scopings inputs) loads devices tasks d wait t n s room holds on le;
         kept = λ n. charges_drop_none rule order passes p content inputs requests h.own (h.runs inputs) (h.scripts inputs) (scopings inputs) loads devices tasks d wait n s room holds;
       },
     )

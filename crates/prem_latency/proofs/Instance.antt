@@ -1,7 +1,8 @@
 -- A worked run that meets all that the laws ask for: two jobs of the worked image of a marked call, parted into scopes, and a device whose two
 -- requests come 600 cycles apart.
 use Rattle.std.specs.Prelude.{◌&&◌, ◌||◌, is_some, codes, slice_get, slice_index, All, IfSome, replicate}
-use Rattle.std.proofs.Common.{◌≡◌, ℕ, zero, suc, ◌+◌, ◌-◌, ◌*◌, ◌/◌, ◌^◌, ◌<◌, ◌≤◌, leb, refl, ap, ◌∙◌, sym, subst, arith, true, false, Bool, Some, None, Option, List, [], ◌∷◌, ◌++◌, length, get_or, take, drop, append-nil, inl}
+use Rattle.std.proofs.Common.{◌≡◌, ℕ, zero, suc, ◌+◌, ◌-◌, ◌*◌, ◌/◌, ◌^◌, ◌<◌, ◌≤◌, leb, refl, ap, ◌∙◌, sym, subst, arith, true, false, Bool, Some, None, Option, List, [], ◌∷◌}
+use Rattle.std.proofs.Common.{◌++◌, length, get_or, take, drop, append-nil, inl}
 use Rattle.std.proofs.lemmas.Bool.{and_parts, leb-true, le-leb}
 use Rattle.std.proofs.lemmas.Nat.{le-div}
 use Rattle.std.proofs.Math.Nat.{div-lt_iff_lt-mul}
@@ -206,8 +207,20 @@ runnable : IsRunnable setup (bytes_in marked) asked
 runnable = record {
   plant = worked_runnable.plant;
   room = worked_runnable.room;
-  devices = All-cons (IsPlaced 16 4096) dev [] (record { device = record { name = record { some = omega arith; short = omega arith; each = refl }; queue = (omega arith, omega arith); cost = (omega arith, omega arith); lines = (omega arith, omega arith) }; aligned = refl; within = omega arith }) (All-nil (IsPlaced 16 4096));
-  asked = All-cons (IsRequest (dev ∷ [])) (put 0 0 0 5) (put 600 0 1 6 ∷ []) (one_request (put 0 0 0 5) refl (omega arith)) (All-cons (IsRequest (dev ∷ [])) (put 600 0 1 6) [] (one_request (put 600 0 1 6) refl (omega arith)) (All-nil (IsRequest (dev ∷ []))));
+  devices = All-cons (IsPlaced 16 4096) dev []
+      (record {
+        device = record {
+          name = record { some = omega arith; short = omega arith; each = refl };
+          queue = (omega arith, omega arith);
+          cost =
+              (omega arith, omega arith);
+          lines = (omega arith, omega arith);
+        };
+        aligned = refl;
+        within = omega arith;
+      }) (All-nil (IsPlaced 16 4096));
+  asked = All-cons (IsRequest (dev ∷ [])) (put 0 0 0 5) (put 600 0 1 6 ∷ []) (one_request (put 0 0 0 5) refl (omega arith))
+      (All-cons (IsRequest (dev ∷ [])) (put 600 0 1 6) [] (one_request (put 600 0 1 6) refl (omega arith)) (All-nil (IsRequest (dev ∷ []))));
 }
 
 -- ---- its areas
@@ -244,7 +257,9 @@ is_run = record {
   periods = All-cons (λ (r : TaskRecord). 1 ≤ r.period) (task 10000 2 0 304) [] (omega arith) (All-nil (λ (r : TaskRecord). 1 ≤ r.period));
   apart = apart;
   zero = zero_areas;
-  words = All-cons (λ (r : Request). IfSome r.put (λ value. value < 2 ^ 32)) (put 0 0 0 5) (put 600 0 1 6 ∷ []) (omega arith) (All-cons (λ (r : Request). IfSome r.put (λ value. value < 2 ^ 32)) (put 600 0 1 6) [] (omega arith) (All-nil (λ (r : Request). IfSome r.put (λ value. value < 2 ^ 32))));
+  words = All-cons (λ (r : Request). IfSome r.put (λ value. value < 2 ^ 32)) (put 0 0 0 5) (put 600 0 1 6 ∷ []) (omega arith)
+      (All-cons (λ (r : Request). IfSome r.put (λ value. value < 2 ^ 32)) (put 600 0 1 6) [] (omega arith)
+      (All-nil (λ (r : Request). IfSome r.put (λ value. value < 2 ^ 32))));
 }
 
 -- ---- when calls open, as a test that is computed
@@ -268,7 +283,8 @@ opens_by : (p : Plant) (s : Script) (opens : ℕ → ℕ) (b : Begun) (ds : List
 opens_by p s opens b [] h = tt
 opens_by p s opens b (d ∷ ds) h =
     let cost : ℕ = cost_of_dids b.steps + length (call_of s b).members * (p.fill + p.back) in
-    let a : (opens_at d.change (leb cost (opens (b.calls - 1))) ≡ true) × (opens_test p s opens (begun_after d.change d b) ds ≡ true) = and_parts (opens_at d.change (leb cost (opens (b.calls - 1)))) (opens_test p s opens (begun_after d.change d b) ds) h in
+    let a : (opens_at d.change (leb cost (opens (b.calls - 1))) ≡ true) × (opens_test p s opens (begun_after d.change d b) ds ≡ true) =
+    and_parts (opens_at d.change (leb cost (opens (b.calls - 1)))) (opens_test p s opens (begun_after d.change d b) ds) h in
     (λ stated c. leb-true cost (opens (b.calls - 1)) (opens_at_by d.change (leb cost (opens (b.calls - 1))) stated a.0 c), opens_by p s opens (begun_after d.change d b) ds a.1)
 
 -- ---- the scopes
@@ -446,14 +462,17 @@ going m lt = first_false (is_finished (run_at m)) (is_some (run_at m).trapped) (
 -- both requests are transferred by cycle 1409
 both_transferred : AreTransferred (found_of to_front setup (bytes_in marked) [] asked 0 601) (transferred_of 0 (run_at 1409).log.transfers)
 both_transferred =
-    charges_serve_in_time to_front lru one_pass setup (bytes_in marked) [] asked (λ k. below 304) (λ k. run) (λ k. the_script) (λ k. scoping_of strand) loads devices tasks 0 809 600 1409 serves room going (omega arith)
+    charges_serve_in_time to_front lru one_pass setup (bytes_in marked) [] asked (λ k. below 304) (λ k. run) (λ k. the_script)
+    (λ k. scoping_of strand) loads devices tasks 0 809 600 1409 serves room going (omega arith)
 
 -- the same said of the requests themselves
 each_transferred : AreTransferred (put 0 0 0 5 ∷ put 600 0 1 6 ∷ []) (transferred_of 0 (run_at 1409).log.transfers)
 each_transferred =
-    charges_serve_each to_front lru one_pass setup (bytes_in marked) [] asked (λ k. below 304) (λ k. run) (λ k. the_script) (λ k. scoping_of strand) loads devices tasks 0 809 600 1409 serves room (leb-true _ 4 refl) going (omega arith)
+    charges_serve_each to_front lru one_pass setup (bytes_in marked) [] asked (λ k. below 304) (λ k. run) (λ k. the_script) (λ k. scoping_of strand)
+    loads devices tasks 0 809 600 1409 serves room (leb-true _ 4 refl) going (omega arith)
 
 -- none is dropped
 none_dropped : (n : ℕ) → slice_index (run_at n).log.dropped 0 ≡ 0
 none_dropped n =
-    charges_drop_none to_front lru one_pass setup (bytes_in marked) [] asked (λ k. below 304) (λ k. run) (λ k. the_script) (λ k. scoping_of strand) loads devices tasks 0 809 n serves room (leb-true _ 4 refl)
+    charges_drop_none to_front lru one_pass setup (bytes_in marked) [] asked (λ k. below 304) (λ k. run) (λ k. the_script) (λ k. scoping_of strand)
+    loads devices tasks 0 809 n serves room (leb-true _ 4 refl)

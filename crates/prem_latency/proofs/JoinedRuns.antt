@@ -44,14 +44,16 @@ short_is (c ∷ cs) opens longest zero = omega arith
 short_is (c ∷ cs) opens longest (suc i) = short_is cs (λ n. opens (suc n)) longest i
 
 -- and no more than these
-shortened_most : (most : ℕ) (cs : List Call) (opens : ℕ → ℕ) (longest : ℕ) → ((i : ℕ) → (call_at (script_of cs) i).stated ≤ most) → (i : ℕ) → (call_at (script_of (shortened opens longest cs)) i).stated ≤ most
+shortened_most : (most : ℕ) (cs : List Call) (opens : ℕ → ℕ) (longest : ℕ) → ((i : ℕ) → (call_at (script_of cs) i).stated ≤ most) → (i : ℕ) →
+    (call_at (script_of (shortened opens longest cs)) i).stated ≤ most
 shortened_most most [] opens longest h i = omega arith
 shortened_most most (c ∷ cs) opens longest h zero = let y : c.stated ≤ most = h 0 in omega (arith, y)
 shortened_most most (c ∷ cs) opens longest h (suc i) = shortened_most most cs (λ n. opens (suc n)) longest (λ n. h (suc n)) i
 
 -- ---- one task
 
-module _ (p : Setup) (passes : ℕ → ℕ) (own : ℕ → Bool) (run : TaskRun) (most : JobLimits) (cycles longest top closed : ℕ) (q : Promise) (fits : RunFits run) (u : TaskWaits p passes own run most cycles longest top closed q) where
+module _ (p : Setup) (passes : ℕ → ℕ) (own : ℕ → Bool) (run : TaskRun) (most : JobLimits) (cycles longest top closed : ℕ) (q : Promise)
+    (fits : RunFits run) (u : TaskWaits p passes own run most cycles longest top closed q) where
   abbrev script : Script
   script = joined_of p passes own run most cycles longest q fits u.charges
 
@@ -77,13 +79,17 @@ module _ (p : Setup) (passes : ℕ → ℕ) (own : ℕ → Bool) (run : TaskRun)
   closes =
       strands_close p.plant run shorter (short_of script u.opens top) u.strand closed u.stretch (p.plant.switch + (u.stretch + longest))
       parted_trace parted_ends u.scopes u.closes (omega arith)
-      (λ n. let y : (call_at shorter n).stated ≤ longest = shortened_most longest (calls_of u.charges.joins.weave) u.opens top (calls_most p passes own run most cycles longest q fits u.charges) n in omega (arith, y))
+      (λ n. let y : (call_at shorter n).stated ≤ longest =
+      shortened_most longest (calls_of u.charges.joins.weave) u.opens top (calls_most p passes own run most cycles longest q fits u.charges) n in
+      omega (arith, y))
       (λ n. subst (λ cs. min (call_at (script_of cs) n).stated (u.opens n + top) ≤ (call_at shorter n).stated) (sym calls_are) (short_is (calls_of u.charges.joins.weave) u.opens top n))
 
 -- ---- all of them
 
-module _ (passes : ℕ → ℕ) (p : Setup) (content : List ℕ) (own : ℕ → ℕ → Bool) (most : ℕ → JobLimits) (cycles longest closed : ℕ → ℕ) (longest_transfer : ℕ) (promises : List (List ℕ) → ℕ → Promise) (limit : ℕ) (h : IsJoined passes p content own most promises limit)
-    (each : (inputs : List (List ℕ)) → AreInputs p inputs → (k : ℕ) → k < length p.tasks → TaskWaits p passes (own k) (run_in p content inputs k) (most k) (cycles k) (longest k) longest_transfer (closed k) (promises inputs k)) where
+module _ (passes : ℕ → ℕ) (p : Setup) (content : List ℕ) (own : ℕ → ℕ → Bool) (most : ℕ → JobLimits) (cycles longest closed : ℕ → ℕ)
+    (longest_transfer : ℕ) (promises : List (List ℕ) → ℕ → Promise) (limit : ℕ) (h : IsJoined passes p content own most promises limit)
+    (each : (inputs : List (List ℕ)) → AreInputs p inputs → (k : ℕ) → k < length p.tasks →
+    TaskWaits p passes (own k) (run_in p content inputs k) (most k) (cycles k) (longest k) longest_transfer (closed k) (promises inputs k)) where
   record Told : Type 0 where
     script : Script
     scoping : Scoping
@@ -104,7 +110,12 @@ module _ (passes : ℕ → ℕ) (p : Setup) (content : List ℕ) (own : ℕ → 
       let fits = run_fits passes p content own most promises limit h inputs i k lt in
       let x = charged_strand p passes (own k) (run_in p content inputs k) (most k) (cycles k) (longest k) (promises inputs k) fits u.charges in
       let y = closes p passes (own k) (run_in p content inputs k) (most k) (cycles k) (longest k) longest_transfer (closed k) (promises inputs k) fits u in (
-        record { script = joined_of p passes (own k) (run_in p content inputs k) (most k) (cycles k) (longest k) (promises inputs k) fits u.charges; scoping = scoping_of u.charges.strand; parting = scoping_of u.strand; opens = u.opens },
+        record {
+          script = joined_of p passes (own k) (run_in p content inputs k) (most k) (cycles k) (longest k) (promises inputs k) fits u.charges;
+          scoping = scoping_of u.charges.strand;
+          parting = scoping_of u.strand;
+          opens = u.opens;
+        },
         record {
           scripted = (joined_script p passes (own k) (run_in p content inputs k) (most k) (promises inputs k) fits u.charges.joins).1;
           scoped = x.0;
@@ -116,17 +127,22 @@ module _ (passes : ℕ → ℕ) (p : Setup) (content : List ℕ) (own : ℕ → 
       )
 
   all_charged : (inputs : List (List ℕ)) → AreInputs p inputs → (told : ℕ → Told) × ((k : ℕ) → k < length p.tasks → Charged inputs k (told k))
-  all_charged inputs i = chosen (length p.tasks) (λ k x. Charged inputs k x) (record { script = record { count = 0; calls = []; due = 0 }; scoping = scoping_of over; parting = scoping_of over; opens = λ n. 0 }) (λ k lt. one inputs i k lt)
+  all_charged inputs i = chosen (length p.tasks) (λ k x. Charged inputs k x)
+      (record { script = record { count = 0; calls = []; due = 0 }; scoping = scoping_of over; parting = scoping_of over; opens = λ n. 0 })
+      (λ k lt. one inputs i k lt)
 
   are_scripts : (inputs : List (List ℕ)) (i : AreInputs p inputs) → AreScripts p passes content inputs own (run_in p content inputs) (λ k. ((all_charged inputs i).0 k).script)
   are_scripts inputs i = scripts_join passes p content own most promises limit h inputs i (λ k. ((all_charged inputs i).0 k).script) (λ k lt. ((all_charged inputs i).1 k lt).scripted)
 
-  are_loads : (inputs : List (List ℕ)) (i : AreInputs p inputs) (loads : List Load) → TellsCharges p cycles longest loads → AreLoads p (run_in p content inputs) (λ k. ((all_charged inputs i).0 k).script) (λ k. ((all_charged inputs i).0 k).scoping) loads
+  are_loads : (inputs : List (List ℕ)) (i : AreInputs p inputs) (loads : List Load) → TellsCharges p cycles longest loads →
+      AreLoads p (run_in p content inputs) (λ k. ((all_charged inputs i).0 k).script) (λ k. ((all_charged inputs i).0 k).scoping) loads
   are_loads inputs i loads told =
       loads_join p (run_in p content inputs) (λ k. ((all_charged inputs i).0 k).script) (λ k. ((all_charged inputs i).0 k).scoping) cycles longest loads told
       (λ k lt. let c = (all_charged inputs i).1 k lt in (c.scoped, c.charged))
 
-  are_closings : (inputs : List (List ℕ)) (i : AreInputs p inputs) (loads : List Load) (tasks : List Closing) → TellsWaits p loads closed longest_transfer tasks → AreClosingsBy p (run_in p content inputs) (λ k. ((all_charged inputs i).0 k).script) loads longest_transfer tasks
+  are_closings : (inputs : List (List ℕ)) (i : AreInputs p inputs) (loads : List Load) (tasks : List Closing) →
+      TellsWaits p loads closed longest_transfer tasks →
+      AreClosingsBy p (run_in p content inputs) (λ k. ((all_charged inputs i).0 k).script) loads longest_transfer tasks
   are_closings inputs i loads tasks told = record {
     count = told.count;
     each = λ k lt.
@@ -160,9 +176,12 @@ joined_images_serve_devices rule order passes p content own most cycles longest 
       there = there;
       asks = asks;
     } in (
-      λ t n on le. charges_serve_in_time rule order passes p content inputs requests own (run_in p content inputs) (λ k. (all.0 k).script) (λ k. (all.0 k).scoping) loads devices tasks d wait t n s room on le,
+      λ t n on le. charges_serve_in_time rule order passes p content inputs requests own (run_in p content inputs) (λ k. (all.0 k).script)
+          (λ k. (all.0 k).scoping) loads devices tasks d wait t n s room on le,
       λ holds. record {
-        served = λ t n on le. charges_serve_each rule order passes p content inputs requests own (run_in p content inputs) (λ k. (all.0 k).script) (λ k. (all.0 k).scoping) loads devices tasks d wait t n s room holds on le;
-        kept = λ n. charges_drop_none rule order passes p content inputs requests own (run_in p content inputs) (λ k. (all.0 k).script) (λ k. (all.0 k).scoping) loads devices tasks d wait n s room holds;
+        served = λ t n on le. charges_serve_each rule order passes p content inputs requests own (run_in p content inputs) (λ k. (all.0 k).script)
+            (λ k. (all.0 k).scoping) loads devices tasks d wait t n s room holds on le;
+        kept = λ n. charges_drop_none rule order passes p content inputs requests own (run_in p content inputs) (λ k. (all.0 k).script)
+            (λ k. (all.0 k).scoping) loads devices tasks d wait n s room holds;
       },
     )

@@ -24,7 +24,8 @@ use Rattle.prem_latency.specs.Joined.{shortened, ChargedTasksWait, PacedTasksWai
 use Rattle.prem_latency.proofs.JoinedRuns.{opens_look}
 
 -- what keeps the calls of a script opens them within what they state
-keeps_open : (plant : Plant) (passes : ℕ → ℕ) (run : TaskRun) (s : Script) (ds : List Did) (n : ℕ) (b : Begun) → ListGoes run n ds → KeepsCalls plant passes s b ds → OpensAlong plant s (λ i. (call_at s i).stated) b ds
+keeps_open : (plant : Plant) (passes : ℕ → ℕ) (run : TaskRun) (s : Script) (ds : List Did) (n : ℕ) (b : Begun) → ListGoes run n ds →
+    KeepsCalls plant passes s b ds → OpensAlong plant s (λ i. (call_at s i).stated) b ds
 keeps_open plant passes run s [] n b g k = tt
 keeps_open plant passes run s (d ∷ ds) n b g k = (
   λ stated c.
@@ -40,14 +41,21 @@ keeps_open plant passes run s (d ∷ ds) n b g k = (
   sum a b c s h = omega (arith, h)
 
 -- with calls that state less a strand is charged no more
-pub charged_less : (plant : Plant) (s other : Script) (cost most begun job job' stretch : ℕ) (w : Strand) → ((i : ℕ) → (call_at other i).stated ≤ (call_at s i).stated) → job' ≤ job → ChargedFrom plant s cost most begun job stretch w → ChargedFrom plant other cost most begun job' stretch w
+pub charged_less : (plant : Plant) (s other : Script) (cost most begun job job' stretch : ℕ) (w : Strand) →
+    ((i : ℕ) → (call_at other i).stated ≤ (call_at s i).stated) → job' ≤ job → ChargedFrom plant s cost most begun job stretch w →
+    ChargedFrom plant other cost most begun job' stretch w
 charged_less plant s other cost most begun job job' stretch ends less le h = tt
 charged_less plant s other cost most begun job job' stretch (runs x rest) less le h =
-    let m : change_due plant (call_at other begun).stated (last_change x.dids) ≤ change_due plant (call_at s begun).stated (last_change x.dids) = change_more plant (last_change x.dids) (call_at other begun).stated (call_at s begun).stated (less begun) in
-    let more : job' + scope_due plant other begun x ≤ job + scope_due plant s begun x = sum job' job (charge_of plant x) (change_due plant (call_at other begun).stated (last_change x.dids)) (change_due plant (call_at s begun).stated (last_change x.dids)) le m in (
+    let m : change_due plant (call_at other begun).stated (last_change x.dids) ≤ change_due plant (call_at s begun).stated (last_change x.dids) =
+    change_more plant (last_change x.dids) (call_at other begun).stated (call_at s begun).stated (less begun) in
+    let more : job' + scope_due plant other begun x ≤ job + scope_due plant s begun x =
+    sum job' job (charge_of plant x) (change_due plant (call_at other begun).stated (last_change x.dids))
+    (change_due plant (call_at s begun).stated (last_change x.dids)) le m in (
       within (job' + scope_due plant other begun x) (job + scope_due plant s begun x) cost more h.0,
       h.1,
-      charged_less plant s other cost most (begun + calls_begun (last_change x.dids)) (within_job (last_change x.dids) (job + scope_due plant s begun x)) (within_job (last_change x.dids) (job' + scope_due plant other begun x)) (within_stretch (last_change x.dids) (stretch + charge_of plant x)) rest less
+      charged_less plant s other cost most (begun + calls_begun (last_change x.dids))
+          (within_job (last_change x.dids) (job + scope_due plant s begun x)) (within_job (last_change x.dids) (job' + scope_due plant other begun x))
+          (within_stretch (last_change x.dids) (stretch + charge_of plant x)) rest less
           (job_more (last_change x.dids) (job' + scope_due plant other begun x) (job + scope_due plant s begun x) more) h.2,
     ) where
       sum : (j' j c x y : ℕ) → j' ≤ j → x ≤ y → j' + (c + x) ≤ j + (c + y)
@@ -78,7 +86,8 @@ charged_tasks_wait p passes own run most cycles longest top q t =
       dids_are = t.dids_are;
       scopes = t.scopes;
       stretch = longest;
-      closes = charged_less p.plant (script_of (calls_of j.weave)) (script_of (shortened stated top (calls_of j.weave))) cycles longest 0 0 0 0 t.strand (shortened_less (calls_of j.weave) stated top) (omega arith) t.charged;
+      closes = charged_less p.plant (script_of (calls_of j.weave)) (script_of (shortened stated top (calls_of j.weave)))
+          cycles longest 0 0 0 0 t.strand (shortened_less (calls_of j.weave) stated top) (omega arith) t.charged;
     }
 
 pub paced_tasks_wait : PacedTasksWait

@@ -38,7 +38,8 @@ module _ (x : Level) (s : Timeline) (cycles : ℕ) (l : IsLevel x) (h : IsTimeli
   clean_or_late t = all_or_one x.devices (λ j. s.asked j t) (λ j. s.served j t)
 
   asked_more : (j a n : ℕ) → j < x.devices → a + n ≤ cycles → s.asked j (a + n) ≤ s.asked j a + requests_in (x.every j) n
-  asked_more j a n lt le = let p : s.came j (a + n) ≤ s.came j a + requests_in (x.every j) n = h.apart j a n lt le in let q : s.asked j (a + n) + s.came j a ≤ s.asked j a + s.came j (a + n) = h.some j a n lt le in omega (arith, p, q)
+  asked_more j a n lt le = let p : s.came j (a + n) ≤ s.came j a + requests_in (x.every j) n = h.apart j a n lt le in
+      let q : s.asked j (a + n) + s.came j a ≤ s.asked j a + s.came j (a + n) = h.some j a n lt le in omega (arith, p, q)
 
   -- from where none of its requests is left, a device gets no more than it asks for from there on, and less where one is left
   got_less : (j a n : ℕ) → j < x.devices → a + n ≤ cycles → s.asked j a ≤ s.served j a → s.served j (a + n) < s.asked j (a + n) → got j a n + 1 ≤ x.cost j * requests_in (x.every j) n
@@ -47,11 +48,13 @@ module _ (x : Level) (s : Timeline) (cycles : ℕ) (l : IsLevel x) (h : IsTimeli
       let part : carried s j (a + n) < c * s.served j (a + n) + c = h.part j (a + n) lt le late in
       let whole : c * s.served j a ≤ carried s j a = h.whole j a lt (omega (arith, le)) in
       let m : s.asked j (a + n) ≤ s.asked j a + requests_in (x.every j) n = asked_more j a n lt le in
-      let up : c * (s.served j (a + n) + 1) ≤ c * (s.served j a + requests_in (x.every j) n) = mul-le c (s.served j (a + n) + 1) c (s.served j a + requests_in (x.every j) n) (omega arith) (omega (arith, late, m, clean)) in
+      let up : c * (s.served j (a + n) + 1) ≤ c * (s.served j a + requests_in (x.every j) n) =
+      mul-le c (s.served j (a + n) + 1) c (s.served j a + requests_in (x.every j) n) (omega arith) (omega (arith, late, m, clean)) in
       let d : c * (s.served j (a + n) + 1) ≡ c * s.served j (a + n) + c * 1 = mul-add c (s.served j (a + n)) 1 in
       let e : c * (s.served j a + requests_in (x.every j) n) ≡ c * s.served j a + c * requests_in (x.every j) n = mul-add c (s.served j a) (requests_in (x.every j) n) in
       let unit : c * 1 ≡ c = mul-one c in
-      sum (got j a n) (carried s j a) (carried s j (a + n)) (c * s.served j (a + n)) c (c * s.served j a) (c * (s.served j (a + n) + 1)) (c * (s.served j a + requests_in (x.every j) n)) (c * 1) (c * requests_in (x.every j) n) (got_is j a n) part whole up d e unit where
+      sum (got j a n) (carried s j a) (carried s j (a + n)) (c * s.served j (a + n)) c (c * s.served j a) (c * (s.served j (a + n) + 1))
+      (c * (s.served j a + requests_in (x.every j) n)) (c * 1) (c * requests_in (x.every j) n) (got_is j a n) part whole up d e unit where
         sum : (g ca cb sb c sa u v w r : ℕ) → ca + g ≡ cb → cb < sb + c → sa ≤ ca → u ≤ v → u ≡ sb + w → v ≡ sa + r → w ≡ c → g + 1 ≤ r
         sum g ca cb sb c sa u v w r h1 h2 h3 h4 h5 h6 h7 = omega (arith, h1, h2, h3, h4, h5, h6, h7)
 
@@ -63,9 +66,11 @@ module _ (x : Level) (s : Timeline) (cycles : ℕ) (l : IsLevel x) (h : IsTimeli
       let idle : carried s j (a + n) ≤ c * s.asked j (a + n) = h.idle j (a + n) lt le done in
       let whole : c * s.served j a ≤ carried s j a = h.whole j a lt (omega (arith, le)) in
       let m : s.asked j (a + n) ≤ s.asked j a + requests_in (x.every j) n = asked_more j a n lt le in
-      let up : c * s.asked j (a + n) ≤ c * (s.served j a + requests_in (x.every j) n) = mul-le c (s.asked j (a + n)) c (s.served j a + requests_in (x.every j) n) (omega arith) (omega (arith, m, clean)) in
+      let up : c * s.asked j (a + n) ≤ c * (s.served j a + requests_in (x.every j) n) =
+      mul-le c (s.asked j (a + n)) c (s.served j a + requests_in (x.every j) n) (omega arith) (omega (arith, m, clean)) in
       let e : c * (s.served j a + requests_in (x.every j) n) ≡ c * s.served j a + c * requests_in (x.every j) n = mul-add c (s.served j a) (requests_in (x.every j) n) in
-      sum (got j a n) (carried s j a) (carried s j (a + n)) (c * s.asked j (a + n)) (c * s.served j a) (c * (s.served j a + requests_in (x.every j) n)) (c * requests_in (x.every j) n) (got_is j a n) idle whole up e)
+      sum (got j a n) (carried s j a) (carried s j (a + n)) (c * s.asked j (a + n)) (c * s.served j a)
+      (c * (s.served j a + requests_in (x.every j) n)) (c * requests_in (x.every j) n) (got_is j a n) idle whole up e)
       (cases_lt (s.served j (a + n)) (s.asked j (a + n))) where
         sum : (g ca cb ab sa v r : ℕ) → ca + g ≡ cb → cb ≤ ab → sa ≤ ca → ab ≤ v → v ≡ sa + r → g ≤ r
         sum g ca cb ab sa v r h1 h2 h3 h4 h5 = omega (arith, h1, h2, h3, h4, h5)
@@ -145,7 +150,8 @@ module _ (x : Level) (s : Timeline) (cycles : ℕ) (l : IsLevel x) (h : IsTimeli
     shut_most_of a k le lt late =
         closes_most x s k a wait (l.periods k lt) (l.idle k lt) p.some
         (λ v m lv e. subst (IsFor x s (a + v)) e (is_for (a + v) (omega (arith, lv, le)) (late v lv)))
-        (λ m. let y : shut s k m a + shut_in s k a m wait ≡ shut s k m (a + wait) = shut_most s k a m wait in let z : shut s k m (a + wait) ≤ x.closed k = few_shut k m (a + wait) lt le in omega (arith, y, z)) where
+        (λ m. let y : shut s k m a + shut_in s k a m wait ≡ shut s k m (a + wait) = shut_most s k a m wait in
+        let z : shut s k m (a + wait) ≤ x.closed k = few_shut k m (a + wait) lt le in omega (arith, y, z)) where
           grows : (k m a n : ℕ) → shut s k m a ≤ shut s k m (a + n)
           grows k m a n = let y : shut s k m a + shut_in s k a m n ≡ shut s k m (a + n) = shut_most s k a m n in omega (arith, y)
 
@@ -222,10 +228,12 @@ module _ (x : Level) (s : Timeline) (cycles : ℕ) (l : IsLevel x) (h : IsTimeli
     -- ---- the queue
 
     -- of those that have come since a cycle, some are left, and one more comes
-    few_left : (j u n t : ℕ) → j < x.devices → u + n ≡ t → suc n ≤ wait → t < cycles → s.asked j u ≤ s.served j t → s.came j t < s.came j (suc t) → s.asked j t < s.served j t + requests_in (x.every j) wait
+    few_left : (j u n t : ℕ) → j < x.devices → u + n ≡ t → suc n ≤ wait → t < cycles → s.asked j u ≤ s.served j t → s.came j t < s.came j (suc t) →
+        s.asked j t < s.served j t + requests_in (x.every j) wait
     few_left j u n t lt e le within done comes =
         let f : u + suc n ≡ suc t = omega (arith, e) in
-        let a : s.came j (suc t) ≤ s.came j u + requests_in (x.every j) (suc n) = subst (λ v. s.came j v ≤ s.came j u + requests_in (x.every j) (suc n)) f (h.apart j u (suc n) lt (omega (arith, f, within))) in
+        let a : s.came j (suc t) ≤ s.came j u + requests_in (x.every j) (suc n) =
+        subst (λ v. s.came j v ≤ s.came j u + requests_in (x.every j) (suc n)) f (h.apart j u (suc n) lt (omega (arith, f, within))) in
         let b : s.asked j t + s.came j u ≤ s.asked j u + s.came j t = subst (λ v. s.asked j v + s.came j u ≤ s.asked j u + s.came j v) e (h.some j u n lt (omega (arith, e, within))) in
         let c : requests_in (x.every j) (suc n) ≤ requests_in (x.every j) wait = requests_grow (x.every j) (suc n) wait (l.distances j lt) le in
         sum (s.asked j t) (s.asked j u) (s.came j u) (s.came j t) (s.came j (suc t)) (s.served j t) (requests_in (x.every j) (suc n)) (requests_in (x.every j) wait) a b c done comes where

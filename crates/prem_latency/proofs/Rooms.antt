@@ -36,7 +36,9 @@ asked_over w c p l n some le =
     let a : n * p * (c * w) ≤ (l + p) * (c * w) = mul-le (n * p) (c * w) (l + p) (c * w) le (omega arith) in
     let b : (l + p) * (c * w) ≡ l * (c * w) + p * (c * w) = add-mul l p (c * w) in
     let d : (s * l + c * w) * p ≡ s * l * p + c * w * p = add-mul (s * l) (c * w) p in
-    le_of_mul-le-mul_right {k = p} (through (n * c * w * p) (n * p * (c * w)) ((l + p) * (c * w)) (l * (c * w)) (p * (c * w)) (s * l * p) (c * w * p) ((s * l + c * w) * p) (turned n c w p) a b (rounded w c p l some) (mul_comm p (c * w)) d) (omega (arith, some)) where
+    le_of_mul-le-mul_right {k = p}
+    (through (n * c * w * p) (n * p * (c * w)) ((l + p) * (c * w)) (l * (c * w)) (p * (c * w)) (s * l * p) (c * w * p) ((s * l + c * w) * p)
+    (turned n c w p) a b (rounded w c p l some) (mul_comm p (c * w)) d) (omega (arith, some)) where
       through : (a b c d e f g h : ℕ) → a ≡ b → b ≤ c → c ≡ d + e → d ≤ f → e ≡ g → h ≡ f + g → a ≤ h
       through a b c d e f g h x y z u v w = omega (arith, x, y, z, u, v, w)
 
@@ -52,7 +54,10 @@ closed_over w c p r l n some le =
     let f : r * c * w ≤ q * p * w = mul-le (r * c) w (q * p) w (below (r * c) (r * c / p * p + p) (q * p) o (one_more (r * c / p) p)) (omega arith) in
     let g : q * p * w ≡ q * w * p = mul_right_comm q p w in
     let h : (q * w + s * l + c * w) * p ≡ q * w * p + s * l * p + c * w * p = add-mul (q * w + s * l) (c * w) p ∙ ap (λ i. i + c * w * p) (add-mul (q * w) (s * l) p) in
-    le_of_mul-le-mul_right {k = p} (through (n * c * w * p) (n * p * (c * w)) ((l + r + p) * (c * w)) ((l + r) * (c * w)) (p * (c * w)) (l * (c * w)) (r * (c * w)) (r * c * w) (q * p * w) (q * w * p) (s * l * p) (c * w * p) ((q * w + s * l + c * w) * p) (turned n c w p) a b d (mul_assoc r c w) f g (rounded w c p l some) (mul_comm p (c * w)) h) (omega (arith, some)) where
+    le_of_mul-le-mul_right {k = p}
+    (through (n * c * w * p) (n * p * (c * w)) ((l + r + p) * (c * w)) ((l + r) * (c * w)) (p * (c * w)) (l * (c * w)) (r * (c * w)) (r * c * w)
+    (q * p * w) (q * w * p) (s * l * p) (c * w * p) ((q * w + s * l + c * w) * p) (turned n c w p) a b d (mul_assoc r c w) f g
+    (rounded w c p l some) (mul_comm p (c * w)) h) (omega (arith, some)) where
       below : (a b c : ℕ) → a < b → c ≡ b → a ≤ c
       below a b c x y = omega (arith, x, y)
 
@@ -108,13 +113,16 @@ closed_all_over (x ∷ xs) l one all =
 
 -- ---- some cycles are enough
 
-demand_over : (devices : List Asking) (tasks : List Closing) (d l : ℕ) → All IsAsking devices → All IsClosing tasks → 1 ≤ l → demand devices tasks d l * 2 ^ 64 ≤ used_up devices tasks d * l + owed_once devices tasks d * 2 ^ 64
+demand_over : (devices : List Asking) (tasks : List Closing) (d l : ℕ) → All IsAsking devices → All IsClosing tasks → 1 ≤ l →
+    demand devices tasks d l * 2 ^ 64 ≤ used_up devices tasks d * l + owed_once devices tasks d * 2 ^ 64
 demand_over devices tasks d l asks closes one =
     let ours : List Asking = take (d + 1) devices in
     let a : transfers_in l ours * 2 ^ 64 ≤ (shares_asked ours + length ours) * l + costs ours * 2 ^ 64 = asked_all_over ours l (All-take IsAsking (d + 1) devices asks) in
     let b : closed_in l tasks * 2 ^ 64 ≤ (shares_closed tasks + length tasks) * l + (debts tasks + closings tasks) * 2 ^ 64 = closed_all_over tasks l one closes in
-    let e : used_up devices tasks d * l ≡ (shares_asked ours + length ours) * l + (shares_closed tasks + length tasks) * l = parted (shares_asked ours) (shares_closed tasks) (length ours) (length tasks) l in
-    sum (rest_behind devices d) (transfers_in l ours) (closed_in l tasks) ((shares_asked ours + length ours) * l) ((shares_closed tasks + length tasks) * l) (costs ours) (debts tasks) (closings tasks) (used_up devices tasks d * l) a b e where
+    let e : used_up devices tasks d * l ≡ (shares_asked ours + length ours) * l + (shares_closed tasks + length tasks) * l =
+    parted (shares_asked ours) (shares_closed tasks) (length ours) (length tasks) l in
+    sum (rest_behind devices d) (transfers_in l ours) (closed_in l tasks) ((shares_asked ours + length ours) * l)
+    ((shares_closed tasks + length tasks) * l) (costs ours) (debts tasks) (closings tasks) (used_up devices tasks d * l) a b e where
       parted : (s t m n l : ℕ) → (s + t + m + n) * l ≡ (s + m) * l + (t + n) * l
       parted s t m n l = (let e : s + t + m + n ≡ s + m + (t + n) = omega arith in ap (λ i. i * l) e) ∙ add-mul (s + m) (t + n) l
 
@@ -132,7 +140,9 @@ enough w u o demand lt le =
     let e : u + f ≡ w = omega (arith, lt) in
     let g : (u + f) * l ≡ u * l + f * l = add-mul u f l in
     let h : (u + f) * l ≡ w * l = ap (λ i. i * l) e in
-    le_of_mul-le-mul_right {k = w} (through (demand * w) (u * l) (o * w) (o * w / f * f + f) (l * f) (f * l) ((u + f) * l) (w * l) (l * w) le a b (mul_comm f l) g h (mul_comm w l)) (omega (arith, lt)) where
+    le_of_mul-le-mul_right {k = w}
+    (through (demand * w) (u * l) (o * w) (o * w / f * f + f) (l * f) (f * l) ((u + f) * l) (w * l) (l * w) le a b (mul_comm f l) g h
+    (mul_comm w l)) (omega (arith, lt)) where
       through : (a b c d e f g h i : ℕ) → a ≤ b + c → c < d → e ≡ d → f ≡ e → g ≡ b + f → g ≡ h → h ≡ i → a ≤ i
       through a b c d e f g h i x1 x2 x3 x4 x5 x6 x7 = omega (arith, x1, x2, x3, x4, x5, x6, x7)
 

@@ -1,7 +1,8 @@
 -- What holds of the tasks and the core's mode in every state of a run: who is served has a job that is released, idle time ends with a
 -- release, and it begins where a job has ended.
 use Rattle.std.specs.Prelude.{◌&&◌, ◌||◌, All, is_some, map}
-use Rattle.std.proofs.Common.{◌≡◌, ℕ, zero, suc, ◌+◌, ◌*◌, ◌/◌, ◌<◌, ◌≤◌, min, refl, ap, ◌∙◌, sym, subst, arith, eqb, ltb, cond, true, false, Bool, Some, None, Option, List, [], ◌∷◌, length, get_or, ◌⊎◌, inl, inr, ⊎_elim}
+use Rattle.std.proofs.Common.{◌≡◌, ℕ, zero, suc, ◌+◌, ◌*◌, ◌/◌, ◌<◌, ◌≤◌, min, refl, ap, ◌∙◌, sym, subst, arith, eqb, ltb, cond, true, false, Bool, Some, None, Option, List, []}
+use Rattle.std.proofs.Common.{◌∷◌, length, get_or, ◌⊎◌, inl, inr, ⊎_elim}
 use Rattle.std.proofs.lemmas.Bool.{cases_lt, cases_eq, cases_Bool, and_parts, ltb-true, ltb-false, lt-ltb, cond_both}
 use Rattle.std.proofs.lemmas.Nat.{le-div, mul-le}
 use Rattle.std.proofs.Math.Nat.{div-mul-le_self, add-mul}
@@ -9,7 +10,8 @@ use Rattle.std.proofs.lemmas.List.{get_or-set_same, get_or-set_other, length-set
 use Rattle.prem_sched.specs.declared.sched.TaskJobs.{TaskJobs}
 use Rattle.prem_sched.specs.declared.sched.Choice.{Choice}
 use Rattle.prem_sched.specs.declared.sched.Choice.TheVariants.{Run, Idle as Rest, Finished}
-use Rattle.prem_sched.specs.Schedule.{choice, run_or, rest, least_release, earlier, has_jobs_left, is_ready, released, first_ready, no_task, task_at, with_job, job_ended, NoneReady, IsReady, starts_of}
+use Rattle.prem_sched.specs.Schedule.{choice, run_or, rest, least_release, earlier, has_jobs_left, is_ready, released, first_ready, no_task, task_at, with_job, job_ended}
+use Rattle.prem_sched.specs.Schedule.{NoneReady, IsReady, starts_of}
 use Rattle.prem_sched.proofs.Choices.{FirstReady, first_found, none_found}
 use Rattle.prem_isa.specs.declared.effect.Change.{Change}
 use Rattle.prem_isa.specs.declared.effect.Change.TheVariants.{Stay, Memory, Execute, End, Job}
@@ -25,7 +27,8 @@ use Rattle.prem_cycle.specs.declared.state.Mode.TheVariants.{Point, Switching, R
 use Rattle.prem_cycle.specs.State.{Setup, MachineState, Work, CoreState, Counts, Debt, record_of, no_record}
 use Rattle.prem_cycle.specs.Issue.{Attempt, Traps, Executes, attempt_behind}
 use Rattle.prem_cycle.specs.Core.{want_of, is_empty, is_paid, CoreMove, Passes, Issues, core_issue, core_turn}
-use Rattle.prem_cycle.specs.Cycle.{arrivals_at, bus_at, with_memory, with_clash, move_at, core_at, joined, at_point, close_interval, ends_before, sched_after, settle, with_now, next_cycle, cycle_of, is_finish, is_finished_in, is_finished, is_full, is_over}
+use Rattle.prem_cycle.specs.Cycle.{arrivals_at, bus_at, with_memory, with_clash, move_at, core_at, joined, at_point, close_interval, ends_before, sched_after, settle, with_now}
+use Rattle.prem_cycle.specs.Cycle.{next_cycle, cycle_of, is_finish, is_finished_in, is_finished, is_full, is_over}
 use Rattle.prem_cycle.specs.Run.{cycles_of}
 use Rattle.prem_cycle.proofs.CoreCases.{MoveCase, pays_on_bus, is_denied, pays_cost, waits, goes_on, switches, begins, chooses, chooses_now, begins_idle, has_finished, idles, move_cases}
 use Rattle.prem_latency.specs.Served.{serves_of}
@@ -45,7 +48,8 @@ run_ready now sched k e =
     let n : f.place ≡ k = omega (arith, f.number) in
     subst (IsReady now sched) n f.ready
 
-rest_by : (now : ℕ) (sched : List TaskJobs) (until : ℕ) (o l : Option ℕ) → first_ready now 0 sched ≡ o → least_release now sched ≡ l → run_or o (rest l) ≡ Rest until → (first_ready now 0 sched ≡ None) × (least_release now sched ≡ Some until)
+rest_by : (now : ℕ) (sched : List TaskJobs) (until : ℕ) (o l : Option ℕ) → first_ready now 0 sched ≡ o → least_release now sched ≡ l →
+    run_or o (rest l) ≡ Rest until → (first_ready now 0 sched ≡ None) × (least_release now sched ≡ Some until)
 rest_by now sched until (Some k) l f m e = absurd (let x : Run k ≡ Rest until = e in cc)
 rest_by now sched until None None f m e = absurd (let x : Finished ≡ Rest until = e in cc)
 rest_by now sched until None (Some u) f m e = let x : Rest u ≡ Rest until = e in let same : u ≡ until = cc in (f, m ∙ ap Some same)
@@ -63,7 +67,8 @@ behind_one now t ts until h = record { task = suc h.task; there = omega (arith, 
 either_min : (a b u : ℕ) → min a b ≡ u → (a ≡ u) ⊎ (b ≡ u)
 either_min a b u e = ⊎_elim (λ (lt : a < b). inl (omega (arith, lt, e))) (λ (le : b ≤ a). inr (omega (arith, le, e))) (cases_lt a b)
 
-one_releases : (now : ℕ) (t : TaskJobs) (ts : List TaskJobs) (until : ℕ) (left : Bool) (o : Option ℕ) → has_jobs_left t ≡ left → ((v : ℕ) → o ≡ Some v → Releases now ts v) → earlier (cond left (Some ((now / t.period + 1) * t.period)) None) o ≡ Some until → Releases now (t ∷ ts) until
+one_releases : (now : ℕ) (t : TaskJobs) (ts : List TaskJobs) (until : ℕ) (left : Bool) (o : Option ℕ) → has_jobs_left t ≡ left →
+    ((v : ℕ) → o ≡ Some v → Releases now ts v) → earlier (cond left (Some ((now / t.period + 1) * t.period)) None) o ≡ Some until → Releases now (t ∷ ts) until
 one_releases now t ts until false o l behind e = behind_one now t ts until (behind until e)
 one_releases now t ts until true None l behind e =
     let x : Some ((now / t.period + 1) * t.period) ≡ Some until = e in
@@ -122,7 +127,9 @@ module _ (p : Setup) (periods : All (λ (r : TaskRecord). 1 ≤ r.period) p.task
     count = t.count;
     period = t.period;
     jobs = t.jobs;
-    few = λ k lt. let x : (task_at sched k).ended ≤ released (task_at sched k) now = t.few k lt in let g : released (task_at sched k) now ≤ released (task_at sched k) (now + 1) = released_grows (task_at sched k) now (now + 1) (some_period now sched t k lt) (omega arith) in omega (arith, x, g);
+    few = λ k lt. let x : (task_at sched k).ended ≤ released (task_at sched k) now = t.few k lt in
+        let g : released (task_at sched k) now ≤ released (task_at sched k) (now + 1) =
+        released_grows (task_at sched k) now (now + 1) (some_period now sched t k lt) (omega arith) in omega (arith, x, g);
   }
 
   -- ---- the mode
@@ -167,13 +174,19 @@ module _ (p : Setup) (periods : All (λ (r : TaskRecord). 1 ≤ r.period) p.task
   TurnsMove now sched before (Passes c) = Turns now sched before c
   TurnsMove now sched before (Issues k i) = IsReady now sched k × (serves_in now sched before ≡ Some k)
 
-  module _ (now : ℕ) (had : Bool) (sched : List TaskJobs) (w : Work) (c : CoreState) (go : c.mode ≡ Point → choice now sched ≡ Finished → ⊥) (h : InMode now sched c.window c.debt c.mode) (ts : Tasks now sched) where
+  module _ (now : ℕ) (had : Bool) (sched : List TaskJobs) (w : Work) (c : CoreState) (go : c.mode ≡ Point → choice now sched ≡ Finished → ⊥)
+      (h : InMode now sched c.window c.debt c.mode) (ts : Tasks now sched) where
     at_mode : (m : Mode) → c.mode ≡ m → InMode now sched c.window c.debt m
     at_mode m e = subst (InMode now sched c.window c.debt) e h
 
     -- the mode stays: it is a task's, or idle
-    stays_in : (c' : CoreState) (m : Mode) → c.mode ≡ m → c'.mode ≡ m → c'.window ≡ c.window → (m ≡ Point → ⊥) → (((k : ℕ) → m ≡ Running k → ⊥) → wants (want_of c'.debt) ≡ false) → Turns now sched c.mode c'
-    stays_in c' m e f g np d = record { turning = by m e f np d; serving = λ k x. subst (λ y. serves_in now sched y ≡ Some k) (sym e ∙ ap (λ y. y) refl) (subst (λ y. serves_in now sched y ≡ Some k) (sym (sym f ∙ x)) refl) } where
+    stays_in : (c' : CoreState) (m : Mode) → c.mode ≡ m → c'.mode ≡ m → c'.window ≡ c.window → (m ≡ Point → ⊥) →
+        (((k : ℕ) → m ≡ Running k → ⊥) → wants (want_of c'.debt) ≡ false) → Turns now sched c.mode c'
+    stays_in c' m e f g np d = record {
+      turning = by m e f np d;
+      serving = λ k x. subst (λ y. serves_in now sched y ≡ Some k) (sym e ∙ ap (λ y. y) refl)
+          (subst (λ y. serves_in now sched y ≡ Some k) (sym (sym f ∙ x)) refl);
+    } where
       by : (m : Mode) → c.mode ≡ m → c'.mode ≡ m → (m ≡ Point → ⊥) → (((k : ℕ) → m ≡ Running k → ⊥) → wants (want_of c'.debt) ≡ false) → Turning now sched c'.window c'.debt c'.mode
       by Point e f np d = absurd (np refl)
       by (Switching k left) e f np d =
@@ -232,14 +245,17 @@ module _ (p : Setup) (periods : All (λ (r : TaskRecord). 1 ≤ r.period) p.task
     turns _ (has_finished q e x) = absurd (go e x)
     turns _ (idles until q e) = stays_in c (Idle until) e e refl (λ y. let z : Idle until ≡ Point = y in cc) (λ n. q)
 
-  issue_turns : (rule : ReplacementRule) (now k : ℕ) (i : Interval) (sched : List TaskJobs) (before : Mode) (a : Attempt) (w : Work) (c : CoreState) (n : Counts) → IsReady now sched k × (serves_in now sched before ≡ Some k) → is_some (core_issue rule p now k i a w c n).trapped ≡ false → Turns now sched before (core_issue rule p now k i a w c n).core
+  issue_turns : (rule : ReplacementRule) (now k : ℕ) (i : Interval) (sched : List TaskJobs) (before : Mode) (a : Attempt) (w : Work) (c : CoreState)
+      (n : Counts) → IsReady now sched k × (serves_in now sched before ≡ Some k) → is_some (core_issue rule p now k i a w c n).trapped ≡ false →
+      Turns now sched before (core_issue rule p now k i a w c n).core
   issue_turns rule now k i sched before (Traps cause) w c n h e = absurd (let x : true ≡ false = e in cc)
   issue_turns rule now k i sched before (Executes instr e) w c n h u = record {
     turning = h.0;
     serving = λ j x. let y : Running k ≡ Running j = x in let same : k ≡ j = cc in h.1 ∙ ap (λ m. Some m) same;
   }
 
-  turn_turns : (rule : ReplacementRule) (now : ℕ) (sched : List TaskJobs) (before : Mode) (m : CoreMove) (w : Work) (c : CoreState) (n : Counts) → TurnsMove now sched before m → is_some (core_turn rule p now m w c n).trapped ≡ false → Turns now sched before (core_turn rule p now m w c n).core
+  turn_turns : (rule : ReplacementRule) (now : ℕ) (sched : List TaskJobs) (before : Mode) (m : CoreMove) (w : Work) (c : CoreState) (n : Counts) →
+      TurnsMove now sched before m → is_some (core_turn rule p now m w c n).trapped ≡ false → Turns now sched before (core_turn rule p now m w c n).core
   turn_turns rule now sched before (Passes c') w c n h u = h
   turn_turns rule now sched before (Issues k i) w c n h u = issue_turns rule now k i sched before (attempt_behind rule p k w) w c n h u
 
@@ -338,7 +354,9 @@ module _ (p : Setup) (periods : All (λ (r : TaskRecord). 1 ≤ r.period) p.task
           few = λ j lt.
               ⊎_elim (λ (e : j ≡ k).
               subst (λ (y : TaskJobs). y.ended ≤ released y s.now) (sym (ap (task_at (job_ended k s.sched)) e ∙ same))
-              (let g : released (task_at s.sched k) now ≤ released (task_at s.sched k) s.now = released_grows (task_at s.sched k) now s.now (some_period now s.sched t k (omega (arith, r.0, t.count))) (omega (arith, is)) in omega (arith, ready, g)))
+              (let g : released (task_at s.sched k) now ≤ released (task_at s.sched k) s.now =
+              released_grows (task_at s.sched k) now s.now (some_period now s.sched t k (omega (arith, r.0, t.count))) (omega (arith, is)) in
+              omega (arith, ready, g)))
               (λ (ne : j ≡ k → ⊥). subst (λ (y : TaskJobs). y.ended ≤ released y s.now) (sym (others j ne)) (later.few j lt))
               (cases_eq j k);
         }
@@ -347,11 +365,17 @@ module _ (p : Setup) (periods : All (λ (r : TaskRecord). 1 ≤ r.period) p.task
     job_ends k r e j =
         let x : TaskJobs = with_job (task_at s.sched k) in
         ⊎_elim (λ (same : j ≡ k).
-        inr (ap (λ i. (task_at (job_ended k s.sched) i).ended) same ∙ ap (λ (y : TaskJobs). y.ended) (get_or-set_same s.sched k x no_task r.0) ∙ ap (λ i. (task_at s.sched i).ended + 1) (sym same), e ∙ ap (λ i. Some i) (sym same)))
+        inr (
+          ap (λ i. (task_at (job_ended k s.sched) i).ended) same ∙ ap (λ (y : TaskJobs). y.ended) (get_or-set_same s.sched k x no_task r.0)
+              ∙ ap (λ i. (task_at s.sched i).ended + 1) (sym same),
+          e ∙ ap (λ i. Some i) (sym same),
+        ))
         (λ (ne : j ≡ k → ⊥). inl (ap (λ (y : TaskJobs). y.ended) (get_or-set_other s.sched k j x no_task ne)))
         (cases_eq j k)
 
-    closes_by : (mark : Change) (k : ℕ) → s.core.mark ≡ mark → IsReady now s.sched k → served ≡ Some k → wants (want_of s.core.debt) ≡ false → (sched' : List TaskJobs) → sched' ≡ sched_after mark k s.sched → (u : MachineState) → u.now ≡ s.now → u.sched ≡ sched' → u.core ≡ at_point s.core → Settled served s.sched u
+    closes_by : (mark : Change) (k : ℕ) → s.core.mark ≡ mark → IsReady now s.sched k → served ≡ Some k → wants (want_of s.core.debt) ≡ false →
+        (sched' : List TaskJobs) → sched' ≡ sched_after mark k s.sched → (u : MachineState) → u.now ≡ s.now → u.sched ≡ sched' →
+        u.core ≡ at_point s.core → Settled served s.sched u
     closes_by mark k m r e q sched' f u n us c = record {
       holds = record {
         tasks = subst (λ i. Tasks i u.sched) (sym n) (subst (Tasks s.now) (sym (us ∙ f)) (by_tasks mark));
@@ -377,12 +401,18 @@ module _ (p : Setup) (periods : All (λ (r : TaskRecord). 1 ≤ r.period) p.task
       still : (until : ℕ) → choice s.now u.sched ≡ Rest until → u.sched ≡ s.sched → (k : ℕ) × (k < length p.tasks) × ((task_at u.sched k).ended ≡ (task_at s.sched k).ended + 1)
       still until h same = absurd (no_rest s.now s.sched k until (subst (λ i. IsReady i s.sched k) (sym is) (ready_next now s.sched k t r)) (ap (choice s.now) (sym same) ∙ h))
 
-      by_rest : (mark : Change) (until : ℕ) → choice s.now u.sched ≡ Rest until → u.sched ≡ sched_after mark k s.sched → (k : ℕ) × (k < length p.tasks) × ((task_at u.sched k).ended ≡ (task_at s.sched k).ended + 1)
+      by_rest : (mark : Change) (until : ℕ) → choice s.now u.sched ≡ Rest until → u.sched ≡ sched_after mark k s.sched →
+          (k : ℕ) × (k < length p.tasks) × ((task_at u.sched k).ended ≡ (task_at s.sched k).ended + 1)
       by_rest Stay until h same = still until h same
       by_rest Memory until h same = still until h same
       by_rest (Execute stated) until h same = still until h same
       by_rest End until h same = still until h same
-      by_rest Job until h same = (k, omega (arith, r.0, t.count), ap (λ l. (task_at l k).ended) same ∙ ap (λ (y : TaskJobs). y.ended) (get_or-set_same s.sched k (with_job (task_at s.sched k)) no_task r.0))
+      by_rest Job until h same = (
+        k,
+        omega (arith, r.0, t.count),
+        ap (λ l. (task_at l k).ended) same
+            ∙ ap (λ (y : TaskJobs). y.ended) (get_or-set_same s.sched k (with_job (task_at s.sched k)) no_task r.0),
+      )
 
     settles : (m : Mode) → s.core.mode ≡ m → Turning now s.sched s.core.window s.core.debt m → ((k : ℕ) → m ≡ Running k → served ≡ Some k) → Settled served s.sched (settle m s)
     settles Point e h sv = absurd h
@@ -446,7 +476,8 @@ module _ (p : Setup) (periods : All (λ (r : TaskRecord). 1 ≤ r.period) p.task
     turned : is_some (core_at rule p b s).trapped ≡ false → Turns s.now s.sched s.core.mode (core_at rule p b s).core
     turned u =
         turn_turns rule s.now s.sched s.core.mode (move_at p b s) (with_memory b.memory s.work) s.core (with_clash b.turn.clash s.log.counts)
-        (turns s.now b.turn.core s.sched (with_memory b.memory s.work) s.core (not_done s on) h.mode h.tasks (move_at p b s) (move_cases p s.now b.turn.core s.sched (with_memory b.memory s.work) s.core)) u
+        (turns s.now b.turn.core s.sched (with_memory b.memory s.work) s.core (not_done s on) h.mode h.tasks (move_at p b s)
+        (move_cases p s.now b.turn.core s.sched (with_memory b.memory s.work) s.core)) u
 
     by_trap : (t : Bool) → is_some (core_at rule p b s).trapped ≡ t → Next (cond (is_some (core_at rule p b s).trapped) j (next_cycle j))
     by_trap true e = subst (λ t. Next (cond t j (next_cycle j))) (sym e) (inl (e, λ k. inl refl))
@@ -464,7 +495,9 @@ module _ (p : Setup) (periods : All (λ (r : TaskRecord). 1 ≤ r.period) p.task
     abbrev run : ℕ → MachineState
     run n = state rule p content inputs requests n
 
-    start_at : (tasks : List TaskRecord) (k : ℕ) → task_at (starts_of (map (λ (r : TaskRecord). (r.period, r.jobs)) tasks)) k ≡ record { period = (get_or tasks k no_record).period; jobs = (get_or tasks k no_record).jobs; ended = 0 }
+    start_at : (tasks : List TaskRecord) (k : ℕ) →
+        task_at (starts_of (map (λ (r : TaskRecord). (r.period, r.jobs)) tasks)) k
+        ≡ record { period = (get_or tasks k no_record).period; jobs = (get_or tasks k no_record).jobs; ended = 0 }
     start_at [] k = refl
     start_at (r ∷ rs) zero = refl
     start_at (r ∷ rs) (suc k) = start_at rs k
@@ -499,7 +532,8 @@ module _ (p : Setup) (periods : All (λ (r : TaskRecord). 1 ≤ r.period) p.task
     run_holds zero on = first_holds
     run_holds (suc n) on =
         let before : is_over (run n) ≡ false = on_before rule p content inputs requests n (suc n) (omega arith) on in
-        ⊎_elim (λ (t : (is_some (run (suc n)).trapped ≡ true) × ((k : ℕ) → EndsOne (serves_of (run n)) (run n).sched (run (suc n)).sched k)). absurd (let x : true ≡ false = sym (trapped_over (run (suc n)) t.0) ∙ on in cc))
+        ⊎_elim (λ (t : (is_some (run (suc n)).trapped ≡ true) × ((k : ℕ) → EndsOne (serves_of (run n)) (run n).sched (run (suc n)).sched k)). absurd
+        (let x : true ≡ false = sym (trapped_over (run (suc n)) t.0) ∙ on in cc))
         (λ (s : Settled (serves_of (run n)) (run n).sched (run (suc n))). s.holds)
         (next_settles n before (run_holds n before))
 
@@ -512,7 +546,8 @@ module _ (p : Setup) (periods : All (λ (r : TaskRecord). 1 ≤ r.period) p.task
     pub run_rests : (n : ℕ) → is_over (run (suc n)) ≡ false → EndsBeforeRest (run n).sched (run (suc n))
     run_rests n on =
         let before : is_over (run n) ≡ false = on_before rule p content inputs requests n (suc n) (omega arith) on in
-        ⊎_elim (λ (t : (is_some (run (suc n)).trapped ≡ true) × ((k : ℕ) → EndsOne (serves_of (run n)) (run n).sched (run (suc n)).sched k)). absurd (let x : true ≡ false = sym (trapped_over (run (suc n)) t.0) ∙ on in cc))
+        ⊎_elim (λ (t : (is_some (run (suc n)).trapped ≡ true) × ((k : ℕ) → EndsOne (serves_of (run n)) (run n).sched (run (suc n)).sched k)). absurd
+        (let x : true ≡ false = sym (trapped_over (run (suc n)) t.0) ∙ on in cc))
         (λ (s : Settled (serves_of (run n)) (run n).sched (run (suc n))). s.rest)
         (next_settles n before (run_holds n before))
 

@@ -1,6 +1,7 @@
 -- The requests of a run of the machine have been transferred so many cycles behind their arrival.
 use Rattle.std.specs.Prelude.{◌&&◌, not, IfSome, take, drop}
-use Rattle.std.proofs.Common.{◌≡◌, ℕ, zero, suc, ◌+◌, ◌-◌, ◌*◌, ◌<◌, ◌≤◌, min, refl, ap, ◌∙◌, sym, subst, arith, eqb, ltb, cond, true, false, Bool, Some, None, Option, List, [], ◌∷◌, ◌++◌, append_assoc, append-nil, length, inl, inr, ⊎_elim, ◌⊎◌}
+use Rattle.std.proofs.Common.{◌≡◌, ℕ, zero, suc, ◌+◌, ◌-◌, ◌*◌, ◌<◌, ◌≤◌, min, refl, ap, ◌∙◌, sym, subst, arith, eqb, ltb, cond, true, false, Bool, Some, None, Option, List, []}
+use Rattle.std.proofs.Common.{◌∷◌, ◌++◌, append_assoc, append-nil, length, inl, inr, ⊎_elim, ◌⊎◌}
 use Rattle.std.proofs.lemmas.List.{length-append}
 use Rattle.std.proofs.lemmas.Bool.{cases_Bool, ltb-true, ltb-false, lt-ltb, le-ltb, eq-eqb, ne_eqb}
 use Rattle.std.proofs.Math.Nat.{mul_comm, zero-mul}
@@ -35,7 +36,8 @@ use Rattle.prem_latency.proofs.Blames.{within_top, within_rest, some_longest, bl
 use Rattle.prem_latency.proofs.Enough.{levels_are_enough}
 use Rattle.prem_latency.proofs.Periods.{requests_end_in_time, queues_have_room}
 
-module _ (rule : ReplacementRule) (p : Setup) (content : List ℕ) (inputs : List (List ℕ)) (requests : List Request) (devices : List Asking) (tasks : List Closing) (d : ℕ) (sv : Serves rule p content inputs requests devices tasks d) where
+module _ (rule : ReplacementRule) (p : Setup) (content : List ℕ) (inputs : List (List ℕ)) (requests : List Request) (devices : List Asking)
+    (tasks : List Closing) (d : ℕ) (sv : Serves rule p content inputs requests devices tasks d) where
   abbrev run : ℕ → MachineState
   run n = state rule p content inputs requests n
 
@@ -96,7 +98,8 @@ module _ (rule : ReplacementRule) (p : Setup) (content : List ℕ) (inputs : Lis
   -- of what is carried the cost is told
   carried_cost : (n : ℕ) (c : Carried) → (run n).gates.carried ≡ Some c → c.device < length p.devices → (asking_at devices c.device).cost ≡ device_cost p.devices c.device
   carried_cost n c e lt = by (sv.askings.each c.device lt).cost where
-    by : ((asking_at devices c.device).cost ≡ device_cost p.devices c.device) ⊎ (((asking_at devices c.device).cost ≡ 0) × (asked_of c.device requests ≡ [])) → (asking_at devices c.device).cost ≡ device_cost p.devices c.device
+    by : ((asking_at devices c.device).cost ≡ device_cost p.devices c.device)
+        ⊎ (((asking_at devices c.device).cost ≡ 0) × (asked_of c.device requests ≡ [])) → (asking_at devices c.device).cost ≡ device_cost p.devices c.device
     by (inl same) = same
     by (inr silent) =
         let none : waiting c.device (run n).gates ≡ 0 = (silent_waits c.device n silent.1).1 in
@@ -152,7 +155,9 @@ module _ (rule : ReplacementRule) (p : Setup) (content : List ℕ) (inputs : Lis
     -- ---- transfers
 
     on_deed : (n : ℕ) → n < cycles → deed n ≡ deed_with rule p content inputs requests devices tasks d sv (coming_transfer requests (run n)) (other rule p content inputs requests devices tasks d sv n)
-    on_deed n lt = ap (λ b. cond b Free (deed_with rule p content inputs requests devices tasks d sv (coming_transfer requests (run n)) (other rule p content inputs requests devices tasks d sv n))) (on n lt)
+    on_deed n lt = ap (λ b. cond b Free
+        (deed_with rule p content inputs requests devices tasks d sv (coming_transfer requests (run n))
+        (other rule p content inputs requests devices tasks d sv n))) (on n lt)
 
     -- a closed cycle is for no transfer of theirs, nor is one behind them
     other_none : (n j : ℕ) → n < cycles → is_carried j (other rule p content inputs requests devices tasks d sv n) ≡ false
@@ -202,7 +207,9 @@ module _ (rule : ReplacementRule) (p : Setup) (content : List ℕ) (inputs : Lis
       by : (o : Option Carried) → (run n).gates.carried ≡ o → part j (device_cost p.devices j) o < device_cost p.devices j
       by None e = one
       by (Some c) e =
-          let l : LiesInside (run n).now (run n).core.window c = subst (λ (o : Option Carried). IfSome o (LiesInside (run n).now (run n).core.window)) e (windows_hold rule p content inputs requests n sv.costs).gates.carried in
+          let l : LiesInside (run n).now (run n).core.window c =
+          subst (λ (o : Option Carried). IfSome o (LiesInside (run n).now (run n).core.window)) e
+          (windows_hold rule p content inputs requests n sv.costs).gates.carried in
           less c (eqb c.device j) l.some
 
     part_none : (j n : ℕ) → waiting j (run n).gates ≡ 0 → part j (device_cost p.devices j) (run n).gates.carried ≡ 0
@@ -224,7 +231,8 @@ module _ (rule : ReplacementRule) (p : Setup) (content : List ℕ) (inputs : Lis
     few_first : (k m : ℕ) → Few k m 0
     few_first k m = omega arith
 
-    works_more : (k m n : ℕ) → is_over (run n) ≡ false → works_for k m (run n) ≡ true → is_closed top_cost (run n) ≡ true → one_if (not (is_over (run n)) && (works_for k m (run n) && is_closed top_cost (run n))) ≡ 1
+    works_more : (k m n : ℕ) → is_over (run n) ≡ false → works_for k m (run n) ≡ true → is_closed top_cost (run n) ≡ true →
+        one_if (not (is_over (run n)) && (works_for k m (run n) && is_closed top_cost (run n))) ≡ 1
     works_more k m n a b c = ap (λ o. one_if (not o && (works_for k m (run n) && is_closed top_cost (run n)))) a ∙ ap (λ o. one_if (o && is_closed top_cost (run n))) b ∙ ap one_if c
 
     ended_grows : (k n : ℕ) → is_over (run n) ≡ false → ended_of k (run n) ≤ ended_of k (run (suc n))
@@ -261,7 +269,8 @@ module _ (rule : ReplacementRule) (p : Setup) (content : List ℕ) (inputs : Lis
       by : (b : Bool) → is_shut k m (deed n) ≡ b → Few k m (suc n)
       by false e = same (ap one_if e)
       by true e =
-          let s : (is_over (run n) ≡ false) × (is_closed top_cost (run n) ≡ true) × Blamed rule p content inputs requests devices tasks d sv k m n = shut_blamed rule p content inputs requests devices tasks d sv n k m (shut_is k m (deed n) e) in
+          let s : (is_over (run n) ≡ false) × (is_closed top_cost (run n) ≡ true) × Blamed rule p content inputs requests devices tasks d sv k m n =
+          shut_blamed rule p content inputs requests devices tasks d sv n k m (shut_is k m (deed n) e) in
           cases s.0 s.1 (ap one_if e) s.2.by_case
 
     few_shut : (k m n : ℕ) → n ≤ cycles → Few k m n
@@ -300,10 +309,13 @@ module _ (rule : ReplacementRule) (p : Setup) (content : List ℕ) (inputs : Lis
       blamed_for Free h = absurd h
 
       -- one that is closed
-      closed_for_one : fits (run n).now (run n).core.window top_cost ≡ false → (o : Option Carried) → For (deed_with rule p content inputs requests devices tasks d sv o (other rule p content inputs requests devices tasks d sv n))
+      closed_for_one : fits (run n).now (run n).core.window top_cost ≡ false → (o : Option Carried) →
+          For (deed_with rule p content inputs requests devices tasks d sv o (other rule p content inputs requests devices tasks d sv n))
       closed_for_one out o = by o where
         shut_one : For (other rule p content inputs requests devices tasks d sv n)
-        shut_one = subst (λ b. For (cond b Behind (blame rule p content inputs requests devices tasks d sv n))) (sym out) (blamed_for (blame rule p content inputs requests devices tasks d sv n) (closed_blamed rule p content inputs requests devices tasks d sv n still_on out))
+        shut_one = subst (λ b. For (cond b Behind (blame rule p content inputs requests devices tasks d sv n))) (sym out)
+            (blamed_for (blame rule p content inputs requests devices tasks d sv n)
+            (closed_blamed rule p content inputs requests devices tasks d sv n still_on out))
 
         one : (c : Carried) (b : Bool) → ltb c.device (d + 1) ≡ b → For (cond b (Carries c.device) (other rule p content inputs requests devices tasks d sv n))
         one c true e = ltb-true c.device (d + 1) e
@@ -326,12 +338,16 @@ module _ (rule : ReplacementRule) (p : Setup) (content : List ℕ) (inputs : Lis
             begun = c.first;
             before = f.0;
             lasts = omega (arith, w.0, w.2, r, carried_cost n c held there);
-            free = λ j lj. let z : waiting j (run (suc c.first)).gates ≡ 0 = f.1 j lj in let a : asked_by j (suc c.first) ≡ served_by j (suc c.first) + waiting j (run (suc c.first)).gates = asked_are rule p content inputs requests j (suc c.first) in omega (arith, z, a);
+            free = λ j lj. let z : waiting j (run (suc c.first)).gates ≡ 0 = f.1 j lj in
+                let a : asked_by j (suc c.first) ≡ served_by j (suc c.first) + waiting j (run (suc c.first)).gates =
+                asked_are rule p content inputs requests j (suc c.first) in omega (arith, z, a);
           }
 
       used_for : BusUse (d + 1) top_cost (run n).now (run n).core.window (gates_in n) (coming_transfer requests (run n)) → For (deed n)
       used_for u = subst For (sym (on_deed n lt)) (by u) where
-        by : BusUse (d + 1) top_cost (run n).now (run n).core.window (gates_in n) (coming_transfer requests (run n)) → For (deed_with rule p content inputs requests devices tasks d sv (coming_transfer requests (run n)) (other rule p content inputs requests devices tasks d sv n))
+        by : BusUse (d + 1) top_cost (run n).now (run n).core.window (gates_in n) (coming_transfer requests (run n)) →
+            For (deed_with rule p content inputs requests devices tasks d sv (coming_transfer requests (run n))
+            (other rule p content inputs requests devices tasks d sv n))
         by (serves c e less) =
             subst (λ o. For (deed_with rule p content inputs requests devices tasks d sv o (other rule p content inputs requests devices tasks d sv n))) (sym e)
             (subst (λ b. For (cond b (Carries c.device) (other rule p content inputs requests devices tasks d sv n))) (sym (lt-ltb c.device (d + 1) less)) less)
@@ -423,7 +439,8 @@ module _ (rule : ReplacementRule) (p : Setup) (content : List ℕ) (inputs : Lis
         requests_end_in_time here line cycles wait is_level is_timeline (levels_are_enough devices tasks d wait (omega (arith, sv.there, sv.askings.count)) room) d t (omega arith) le
 
     -- where one comes, fewer wait than come in so many cycles
-    pub has_room_in : (wait t : ℕ) → IsRoom devices tasks d wait → t < cycles → come_before d t requests < come_before d (suc t) requests → asked_by d t < served_by d t + requests_in (asking_at devices d).every wait
+    pub has_room_in : (wait t : ℕ) → IsRoom devices tasks d wait → t < cycles → come_before d t requests < come_before d (suc t) requests →
+        asked_by d t < served_by d t + requests_in (asking_at devices d).every wait
     has_room_in wait t room lt comes =
         queues_have_room here line cycles wait is_level is_timeline (levels_are_enough devices tasks d wait (omega (arith, sv.there, sv.askings.count)) room) d t (omega arith) lt comes
 
@@ -434,8 +451,11 @@ module _ (rule : ReplacementRule) (p : Setup) (content : List ℕ) (inputs : Lis
   found_more j a (suc n) =
       let e : a + suc n ≡ suc (a + n) = omega arith in
       let m : (more : List Request) × (found rule p content inputs requests j (a + n) ≡ found rule p content inputs requests j a ++ more) = found_more j a n in
-      let next : List Request = asked_of j (coming_requests requests (run (a + n))) in
-      (m.0 ++ next, ap (found rule p content inputs requests j) e ∙ found_next rule p content inputs requests j (a + n) ∙ ap (λ xs. xs ++ next) m.1 ∙ append_assoc (found rule p content inputs requests j a) m.0 next)
+      let next : List Request = asked_of j (coming_requests requests (run (a + n))) in (
+        m.0 ++ next,
+        ap (found rule p content inputs requests j) e ∙ found_next rule p content inputs requests j (a + n) ∙ ap (λ xs. xs ++ next) m.1
+            ∙ append_assoc (found rule p content inputs requests j a) m.0 next,
+      )
 
 first_part : (xs ys front rest : List Request) → xs ++ ys ≡ front ++ rest → length front ≤ length xs → (later : List Request) × (xs ≡ front ++ later)
 first_part xs ys [] rest e le = (xs, refl)
@@ -447,8 +467,10 @@ first_part (x ∷ xs) ys (a ∷ front) rest e le =
     let f : (later : List Request) × (xs ≡ front ++ later) = first_part xs ys front rest tail (omega (arith, le)) in
     (f.0, ap (λ r. r ∷ xs) same ∙ ap (λ rs. a ∷ rs) f.1)
 
-still_served : (rule : ReplacementRule) (p : Setup) (content : List ℕ) (inputs : List (List ℕ)) (requests : List Request) (j a n : ℕ) → served rule p content inputs requests j a ≤ served rule p content inputs requests j (a + n)
-still_served rule p content inputs requests j a zero = let e : a + 0 ≡ a = omega arith in subst (λ t. served rule p content inputs requests j a ≤ served rule p content inputs requests j t) (sym e) (omega arith)
+still_served : (rule : ReplacementRule) (p : Setup) (content : List ℕ) (inputs : List (List ℕ)) (requests : List Request) (j a n : ℕ) →
+    served rule p content inputs requests j a ≤ served rule p content inputs requests j (a + n)
+still_served rule p content inputs requests j a zero = let e : a + 0 ≡ a = omega arith in
+    subst (λ t. served rule p content inputs requests j a ≤ served rule p content inputs requests j t) (sym e) (omega arith)
 still_served rule p content inputs requests j a (suc n) =
     let e : a + suc n ≡ suc (a + n) = omega arith in
     let was : served rule p content inputs requests j a ≤ served rule p content inputs requests j (a + n) = still_served rule p content inputs requests j a n in
@@ -460,14 +482,19 @@ requests_are_served rule p content inputs requests devices tasks d wait t n sv r
     let s : ℕ = t + wait in
     let e : s + (n - s) ≡ n = omega (arith, le) in
     let in_time : asked rule p content inputs requests d (suc t) ≤ served rule p content inputs requests d s = served_in_time rule p content inputs requests devices tasks d sv n on wait t room le in
-    let still : served rule p content inputs requests d s ≤ served rule p content inputs requests d n = subst (λ m. served rule p content inputs requests d s ≤ served rule p content inputs requests d m) e (still_served rule p content inputs requests d s (n - s)) in
+    let still : served rule p content inputs requests d s ≤ served rule p content inputs requests d n =
+    subst (λ m. served rule p content inputs requests d s ≤ served rule p content inputs requests d m) e
+    (still_served rule p content inputs requests d s (n - s)) in
     let some : 1 ≤ wait = room.0 in
     let f : suc t + (n - suc t) ≡ n = omega (arith, le, some) in
-    let m : (more : List Request) × (found rule p content inputs requests d (suc t + (n - suc t)) ≡ found rule p content inputs requests d (suc t) ++ more) = found_more rule p content inputs requests devices tasks d sv d (suc t) (n - suc t) in
+    let m : (more : List Request) ×
+    (found rule p content inputs requests d (suc t + (n - suc t)) ≡ found rule p content inputs requests d (suc t) ++ more) =
+    found_more rule p content inputs requests devices tasks d sv d (suc t) (n - suc t) in
     let st : MachineState = state rule p content inputs requests n in
     let held : held_of d st ≡ found rule p content inputs requests d (suc t) ++ m.0 = requests_held rule p content inputs requests n d ∙ ap (found rule p content inputs requests d) (sym f) ∙ m.1 in
     let grouped : transferred_of d st.log.transfers ++ (carried_of d st.gates.carried ++ queue_at st.gates d) ≡ found rule p content inputs requests d (suc t) ++ m.0 =
     sym (append_assoc (transferred_of d st.log.transfers) (carried_of d st.gates.carried) (queue_at st.gates d)) ∙ held in
     let l : (later : List Request) × (transferred_of d st.log.transfers ≡ found rule p content inputs requests d (suc t) ++ later) =
-    first_part (transferred_of d st.log.transfers) (carried_of d st.gates.carried ++ queue_at st.gates d) (found rule p content inputs requests d (suc t)) m.0 grouped (omega (arith, in_time, still)) in
+    first_part (transferred_of d st.log.transfers) (carried_of d st.gates.carried ++ queue_at st.gates d)
+    (found rule p content inputs requests d (suc t)) m.0 grouped (omega (arith, in_time, still)) in
     record { later = l.0; whole_is = l.1 }

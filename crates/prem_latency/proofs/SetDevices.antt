@@ -22,7 +22,8 @@ later_distance : (distances : List (Option ℕ)) (j : ℕ) → distance_at (drop
 later_distance [] j = refl
 later_distance (x ∷ xs) j = refl
 
-pub asking_is : (distances : List (Option ℕ)) (devices : List Device) (j : ℕ) (device : Device) → slice_get devices j ≡ Some device → asking_at (askings_of distances devices) j ≡ asking_of (distance_at distances j) device
+pub asking_is : (distances : List (Option ℕ)) (devices : List Device) (j : ℕ) (device : Device) → slice_get devices j ≡ Some device →
+    asking_at (askings_of distances devices) j ≡ asking_of (distance_at distances j) device
 asking_is distances [] j device e = cc
 asking_is distances (x ∷ devices) zero device e = let same : x ≡ device = cc in ap (asking_of (distance_at distances 0)) same
 asking_is distances (x ∷ devices) (suc j) device e = asking_is (drop 1 distances) devices j device e ∙ ap (λ o. asking_of o device) (later_distance distances j)
@@ -46,7 +47,8 @@ record_there (x ∷ devices) [] long j device e = absurd (omega (arith, long))
 record_there (x ∷ devices) (q ∷ places) long zero device e = (record { device = x; area = q.0 }, (refl, cc))
 record_there (x ∷ devices) (q ∷ places) long (suc j) device e = record_there devices places (omega (arith, long)) j device e
 
-pub cost_there : (devices : List Device) (places : List Extent) → length (device_records devices places) ≡ length devices → (j : ℕ) (device : Device) → slice_get devices j ≡ Some device → device_cost (device_records devices places) j ≡ device.cost
+pub cost_there : (devices : List Device) (places : List Extent) → length (device_records devices places) ≡ length devices →
+    (j : ℕ) (device : Device) → slice_get devices j ≡ Some device → device_cost (device_records devices places) j ≡ device.cost
 cost_there devices places long j device e =
     let r = record_there devices places long j device e in
     ap (λ (o : Option DeviceRecord). option_map_or (λ (d : DeviceRecord). d.device.cost) o 0) r.1.0 ∙ ap (λ (d : Device). d.cost) r.1.1
@@ -64,7 +66,8 @@ module _ (p : Setup) (requests : List Request) (j : ℕ) (device : Device) (cost
   keeps_one None some keeps = record { cost = inr (refl, keeps); every = omega arith; distant = subst (AreDistant 1) (sym keeps) tt }
   keeps_one (Some every) some keeps = record { cost = inl (sym cost); every = some every refl; distant = keeps }
 
-pub keep_askings : (p : Setup) (requests : List Request) (distances : List (Option ℕ)) (devices : List Device) (places : List Extent) → p.devices ≡ device_records devices places → length (device_records devices places) ≡ length devices → AreDistances distances →
+pub keep_askings : (p : Setup) (requests : List Request) (distances : List (Option ℕ)) (devices : List Device) (places : List Extent) →
+    p.devices ≡ device_records devices places → length (device_records devices places) ≡ length devices → AreDistances distances →
     ((j : ℕ) → KeepsDistance (distance_at distances j) (asked_of j requests)) → AreAskings p requests (askings_of distances devices)
 keep_askings p requests distances devices places same long some keeps =
     let count : length p.devices ≡ length devices = ap (λ (rs : List DeviceRecord). length rs) same ∙ long in

@@ -102,9 +102,11 @@ room = (omega arith, leb-true _ 1198 refl)
 -- ---- what the law gives
 
 sample_serves : (inputs : List (List ℕ)) (requests : List Request) → AreInputs setup inputs → KeepDistances setup distances requests →
-    ServesFound (rule_of sample.plant.policy) setup (compiled_at sample (places_in sample)).image.content inputs requests 0 1198 × ServesDevice (rule_of sample.plant.policy) setup (compiled_at sample (places_in sample)).image.content inputs requests 0 1198
+    ServesFound (rule_of sample.plant.policy) setup (compiled_at sample (places_in sample)).image.content inputs requests 0 1198
+    × ServesDevice (rule_of sample.plant.policy) setup (compiled_at sample (places_in sample)).image.content inputs requests 0 1198
 sample_serves inputs requests are keeps =
-    let s = sets_serve_devices sample (places_in sample) sample_values (default_places_are_lawful sample sample_values sample_breaks_nothing) (default_is_at sample sample_breaks_nothing) loads loads_tell distances some 0 5000 1198 net refl refl
+    let s = sets_serve_devices sample (places_in sample) sample_values (default_places_are_lawful sample sample_values sample_breaks_nothing)
+    (default_is_at sample sample_breaks_nothing) loads loads_tell distances some 0 5000 1198 net refl refl
     tasks waits_tell room inputs requests are keeps in
     (s.0, s.1 (leb-true _ 8 refl))
 
@@ -113,7 +115,9 @@ abbrev asked : List Request
 asked = put 0 0 0 5 ∷ put 5000 0 1 6 ∷ []
 
 one_device : length setup.devices ≡ 1
-one_device = records_all sample.plant sample.devices (coded_in sample) (places_in sample) (accepted_sets_are_laid_out sample (places_in sample) sample_values sample_breaks_nothing (default_places_are_lawful sample sample_values sample_breaks_nothing))
+one_device = records_all sample.plant sample.devices (coded_in sample) (places_in sample)
+    (accepted_sets_are_laid_out sample (places_in sample) sample_values sample_breaks_nothing
+    (default_places_are_lawful sample sample_values sample_breaks_nothing))
 
 its_device : (slice_index_or setup.devices 0 no_device).device ≡ net
 its_device = device_is sample.devices (drop (part_total (coded_in sample)) (places_in sample)) one_device 0 net refl
@@ -134,12 +138,18 @@ in_order (suc i) (suc (suc j)) d le below = absurd (omega (arith, below))
 sample_asks : KeepDistances setup distances asked
 sample_asks = record {
   trace = record {
-    each = All-cons (IsRequest setup.devices) (put 0 0 0 5) (put 5000 0 1 6 ∷ []) (one_request (put 0 0 0 5) refl (omega arith)) (All-cons (IsRequest setup.devices) (put 5000 0 1 6) [] (one_request (put 5000 0 1 6) refl (omega arith)) (All-nil (IsRequest setup.devices)));
+    each = All-cons (IsRequest setup.devices) (put 0 0 0 5) (put 5000 0 1 6 ∷ []) (one_request (put 0 0 0 5) refl (omega arith))
+        (All-cons (IsRequest setup.devices) (put 5000 0 1 6) [] (one_request (put 5000 0 1 6) refl (omega arith)) (All-nil (IsRequest setup.devices)));
     ordered = in_order;
   };
-  words = All-cons (λ (r : Request). IfSome r.put (λ value. value < 2 ^ 32)) (put 0 0 0 5) (put 5000 0 1 6 ∷ []) (omega arith) (All-cons (λ (r : Request). IfSome r.put (λ value. value < 2 ^ 32)) (put 5000 0 1 6) [] (omega arith) (All-nil (λ (r : Request). IfSome r.put (λ value. value < 2 ^ 32))));
+  words = All-cons (λ (r : Request). IfSome r.put (λ value. value < 2 ^ 32)) (put 0 0 0 5) (put 5000 0 1 6 ∷ []) (omega arith)
+      (All-cons (λ (r : Request). IfSome r.put (λ value. value < 2 ^ 32)) (put 5000 0 1 6) [] (omega arith)
+      (All-nil (λ (r : Request). IfSome r.put (λ value. value < 2 ^ 32))));
   each = keeps;
 } where
   keeps : (j : ℕ) → KeepsDistance (distance_at distances j) (asked_of j asked)
-  keeps zero = (All-cons (λ (q : Request). 0 + 5000 ≤ q.cycle) (put 5000 0 1 6) [] (omega arith) (All-nil (λ (q : Request). 0 + 5000 ≤ q.cycle)), (All-nil (λ (q : Request). 5000 + 5000 ≤ q.cycle), tt))
+  keeps zero = (
+    All-cons (λ (q : Request). 0 + 5000 ≤ q.cycle) (put 5000 0 1 6) [] (omega arith) (All-nil (λ (q : Request). 0 + 5000 ≤ q.cycle)),
+    (All-nil (λ (q : Request). 5000 + 5000 ≤ q.cycle), tt),
+  )
   keeps (suc j) = ap (λ (b : Bool). cond b (put 0 0 0 5 ∷ cond b (put 5000 0 1 6 ∷ []) []) (cond b (put 5000 0 1 6 ∷ []) [])) (ne_eqb 0 (suc j) (λ e. omega (arith, e)))

@@ -34,7 +34,8 @@ use Rattle.prem_latency.proofs.WeaveOpens.{shutting_tasks_wait}
 use Rattle.prem_latency.proofs.SetDevices.{asking_is, device_is, keep_askings}
 
 -- an image that is laid out has a record for each device
-pub records_all : (p : Plant) (devices : List Device) (tasks : List Coded) (places : List Extent) → IsLaidOut p devices tasks places → length (device_records devices (drop (part_total tasks) places)) ≡ length devices
+pub records_all : (p : Plant) (devices : List Device) (tasks : List Coded) (places : List Extent) → IsLaidOut p devices tasks places →
+    length (device_records devices (drop (part_total tasks) places)) ≡ length devices
 records_all p devices tasks places h =
     let laid = are_laid p devices tasks places h in
     records_long p.memory p.line 0 devices (drop (part_total tasks) places)
@@ -47,17 +48,27 @@ sets_serve_devices set places values lawful none loads told distances some d eve
     let passes : ℕ → ℕ = passes_of set.plant.policy in
     let same = as_stubs_make set.plant.policy set.plant.ways in
     let meant = tasks_are_meant set places g in
-    let joined = laid_out_images_join passes set.plant set.devices (coded_in set) places (promises_at set places) laid (meant_tasks_join passes set.plant set.devices (coded_in set) places (promises_at set places) laid same meant) in
+    let joined = laid_out_images_join passes set.plant set.devices (coded_in set) places (promises_at set places) laid
+    (meant_tasks_join passes set.plant set.devices (coded_in set) places (promises_at set places) laid same meant) in
     let long = records_all set.plant set.devices (coded_in set) places laid in
     let asks : asking_at (askings_of distances set.devices) d ≡ asking_of (Some every) device = asking_is distances set.devices d device there ∙ ap (λ o. asking_of o device) named in
     let less = slice_get_within set.devices d device there in
     let cost : 1 ≤ device.cost = (all_there IsDevice set.devices d device values.devices_are.each there).cost.0 in
-    let serves = joined_images_serve_devices (rule_of set.plant.policy) (order_rule_of set.plant.policy) passes _ _ _ _ (wcet_at set.plant (placed_by set places)) (stretch_at set.plant (placed_by set places))
-    (closed_at set.plant (top (askings_of distances set.devices) d) (placed_by set places)) (promises_at set places) _ loads (askings_of distances set.devices) tasks d wait (kind_policy set.plant.policy) joined
+    let serves = joined_images_serve_devices (rule_of set.plant.policy) (order_rule_of set.plant.policy) passes _ _ _ _
+    (wcet_at set.plant (placed_by set places)) (stretch_at set.plant (placed_by set places))
+    (closed_at set.plant (top (askings_of distances set.devices) d) (placed_by set places)) (promises_at set places) _ loads
+    (askings_of distances set.devices) tasks d wait (kind_policy set.plant.policy) joined
     (λ inputs are k lt. shutting_tasks_wait _ passes _ _ _ _ _ (top (askings_of distances set.devices) d) _ _
-    (meant_tasks_shut_by_wcet passes set.plant set.devices (coded_in set) places (promises_at set places) laid same meant (top (askings_of distances set.devices) d) inputs are k lt)) told waits (below _ _ less long)
+    (meant_tasks_shut_by_wcet passes set.plant set.devices (coded_in set) places (promises_at set places) laid same meant
+    (top (askings_of distances set.devices) d) inputs are k lt)) told waits (below _ _ less long)
     (subst (λ (a : Asking). 1 ≤ a.cost) (sym asks) cost) room inputs requests
-    (record { inputs_are = are; trace = keeps.trace; words = keeps.words; askings = keep_askings _ requests distances set.devices (drop (part_total (coded_in set)) places) refl long some keeps.each }) in
+    (record {
+      inputs_are = are;
+      trace = keeps.trace;
+      words = keeps.words;
+      askings =
+          keep_askings _ requests distances set.devices (drop (part_total (coded_in set)) places) refl long some keeps.each;
+    }) in
     let queue = ap (λ (e : Device). e.queue) (device_is set.devices (drop (part_total (coded_in set)) places) long d device there) in
     let period : (asking_at (askings_of distances set.devices) d).every ≡ every = ap (λ (a : Asking). a.every) asks in
     (serves.0, λ holds. serves.1 (fits _ _ _ _ (ap (λ e. requests_in e wait) period) queue holds))

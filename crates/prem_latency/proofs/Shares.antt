@@ -3,7 +3,8 @@ use Rattle.std.specs.Prelude.{All}
 use Rattle.std.proofs.Common.{◌≡◌, ℕ, suc, ◌+◌, ◌-◌, ◌*◌, ◌/◌, ◌<◌, ◌≤◌, ◌^◌, ap, sym, ◌∙◌, arith, max, min, List, [], ◌∷◌, take, ⊎_elim}
 use Rattle.std.proofs.lemmas.Bool.{cases_lt}
 use Rattle.std.proofs.lemmas.Nat.{mul-le}
-use Rattle.std.proofs.Math.Nat.{add-mul, mul_comm, mul_assoc, mul_left_comm, mul_right_comm, mul-mul-mul_comm, div-mul-le_self, le_of_mul-le-mul_right, div-le_of_le-mul, max-le, le-max_right, min-le_left}
+use Rattle.std.proofs.Math.Nat.{add-mul, mul_comm, mul_assoc, mul_left_comm, mul_right_comm, mul-mul-mul_comm, div-mul-le_self, le_of_mul-le-mul_right, div-le_of_le-mul, max-le}
+use Rattle.std.proofs.Math.Nat.{le-max_right, min-le_left}
 use Rattle.std.proofs.lemmas.List.Elements.{All-take}
 use Rattle.prem_latency.specs.Wait.{Asking, Closing, IsAsking, IsClosing, IsRoom, requests_in, jobs_in, transfers_in, closed_in, rest_behind}
 use Rattle.prem_latency.specs.Turns.{NoneIsBefore, share, shares_asked, shares_closed, debts, used, owed, cycles_for}
@@ -32,7 +33,9 @@ closed_share w c p r l n some le =
     let t : (l + r) * (c * w) ≤ n * p * (c * w) = mul-le (l + r) (c * w) (n * p) (c * w) le (omega arith) in
     let x : (q * w + s * l) * p ≡ q * p * w + s * p * l = add-mul (q * w) (s * l) p ∙ two (q * w * p) (s * l * p) (q * p * w) (s * p * l) (mul_right_comm q w p) (mul_right_comm s l p) in
     let y : n * p * (c * w) ≡ n * c * w * p = mul-mul-mul_comm n p c w ∙ ap (λ i. n * c * i) (mul_comm p w) ∙ sym (mul_assoc (n * c) w p) in
-    le_of_mul-le-mul_right {k = p} (through (q * p * w) (r * c * w) (s * p * l) (c * w * l) ((l + r) * (c * w)) (n * p * (c * w)) ((q * w + s * l) * p) (n * c * w * p) (l * (c * w)) (r * (c * w)) a b t x y (add-mul l r (c * w)) (mul_assoc r c w) (mul_comm (c * w) l)) (omega (arith, some)) where
+    le_of_mul-le-mul_right {k = p}
+    (through (q * p * w) (r * c * w) (s * p * l) (c * w * l) ((l + r) * (c * w)) (n * p * (c * w)) ((q * w + s * l) * p) (n * c * w * p)
+    (l * (c * w)) (r * (c * w)) a b t x y (add-mul l r (c * w)) (mul_assoc r c w) (mul_comm (c * w) l)) (omega (arith, some)) where
       two : (a b c d : ℕ) → a ≡ c → b ≡ d → a + b ≡ c + d
       two a b c d x y = omega (arith, x, y)
 
@@ -68,11 +71,13 @@ closed_shares (x ∷ xs) l one all =
 -- ---- where the search begins
 
 -- what is owed takes no more than what is free in some cycles that are enough
-owed_within : (devices : List Asking) (tasks : List Closing) (d l : ℕ) → All IsAsking devices → All IsClosing tasks → IsRoom devices tasks d l → owed devices tasks d * 2 ^ 64 + used devices tasks d * l ≤ l * 2 ^ 64
+owed_within : (devices : List Asking) (tasks : List Closing) (d l : ℕ) → All IsAsking devices → All IsClosing tasks → IsRoom devices tasks d l →
+    owed devices tasks d * 2 ^ 64 + used devices tasks d * l ≤ l * 2 ^ 64
 owed_within devices tasks d l asks closes room =
     let a : shares_asked (take (d + 1) devices) * l ≤ transfers_in l (take (d + 1) devices) * 2 ^ 64 = asked_shares (take (d + 1) devices) l (All-take IsAsking (d + 1) devices asks) in
     let b : debts tasks * 2 ^ 64 + shares_closed tasks * l ≤ closed_in l tasks * 2 ^ 64 = closed_shares tasks l room.0 closes in
-    sum (rest_behind devices d) (debts tasks) (used devices tasks d * l) (shares_asked (take (d + 1) devices) * l) (shares_closed tasks * l) (transfers_in l (take (d + 1) devices)) (closed_in l tasks) l (add-mul (shares_asked (take (d + 1) devices)) (shares_closed tasks) l) a b room.1 where
+    sum (rest_behind devices d) (debts tasks) (used devices tasks d * l) (shares_asked (take (d + 1) devices) * l) (shares_closed tasks * l)
+    (transfers_in l (take (d + 1) devices)) (closed_in l tasks) l (add-mul (shares_asked (take (d + 1) devices)) (shares_closed tasks) l) a b room.1 where
       sum : (r q s a b c d l : ℕ) → s ≡ a + b → a ≤ c * 2 ^ 64 → q * 2 ^ 64 + b ≤ d * 2 ^ 64 → r + c + d ≤ l → (r + q) * 2 ^ 64 + s ≤ l * 2 ^ 64
       sum r q s a b c d l e x y z = omega (arith, e, x, y, z)
 

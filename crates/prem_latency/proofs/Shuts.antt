@@ -82,7 +82,8 @@ module _ (s : Timeline) (k a : ℕ) where
   before_end m end zero h = omega arith
   before_end m end (suc n) h = by (before_end m end n (λ v lt. h v (omega (arith, lt)))) (is_shut k m (s.does (a + n))) refl where
     by : shut_in m n ≤ end - a → (b : Bool) → is_shut k m (s.does (a + n)) ≡ b → shut_in m n + one_if (is_shut k m (s.does (a + n))) ≤ end - a
-    by was true e = let lt : a + n < end = h n (omega arith) (shut_is k m (s.does (a + n)) e) in let f : shut_in m n ≤ n = few m n in let one : one_if (is_shut k m (s.does (a + n))) ≡ 1 = ap one_if e in omega (arith, lt, f, one)
+    by was true e = let lt : a + n < end = h n (omega arith) (shut_is k m (s.does (a + n)) e) in let f : shut_in m n ≤ n = few m n in
+        let one : one_if (is_shut k m (s.does (a + n))) ≡ 1 = ap one_if e in omega (arith, lt, f, one)
     by was false e = let none : one_if (is_shut k m (s.does (a + n))) ≡ 0 = ap one_if e in omega (arith, was, none)
 
   -- one whose cycles are none before this one
@@ -102,7 +103,8 @@ module _ (s : Timeline) (k a : ℕ) where
     none_of : (d : Deed) → s.does (a + n) ≡ d → is_of k d ≡ false → Goes
     none_of d e f =
         let z : one_if (is_of k (s.does (a + n))) ≡ 0 = ap (λ x. one_if (is_of k x)) e ∙ ap one_if f in
-        let g : sum_below count (λ i. shut_in (first + i) n) ≤ sum_below count (λ i. shut_in (first + i) (suc n)) = sum_le count (λ i. shut_in (first + i) n) (λ i. shut_in (first + i) (suc n)) (λ i lt. omega arith) in
+        let g : sum_below count (λ i. shut_in (first + i) n) ≤ sum_below count (λ i. shut_in (first + i) (suc n)) =
+        sum_le count (λ i. shut_in (first + i) n) (λ i. shut_in (first + i) (suc n)) (λ i lt. omega arith) in
         omega (arith, z, was, g)
 
     one_of : (m : ℕ) → s.does (a + n) ≡ Shut k m → Goes
@@ -134,14 +136,18 @@ module _ (s : Timeline) (k a : ℕ) where
 -- ---- the bound
 
 -- where each cycle of a job is near its release, as it has to be
-pub closes_most : (x : Level) (s : Timeline) (k a n : ℕ) → 1 ≤ x.period k → x.longest ≤ x.closed k → 1 ≤ n → ((v m : ℕ) → v < n → s.does (a + v) ≡ Shut k m → IsShut x k m (a + v)) → ((m : ℕ) → shut_in s k a m n ≤ x.closed k) → closes_in s k a n ≤ jobs_in (x.period k) (x.length k) n * x.closed k
+pub closes_most : (x : Level) (s : Timeline) (k a n : ℕ) → 1 ≤ x.period k → x.longest ≤ x.closed k → 1 ≤ n →
+    ((v m : ℕ) → v < n → s.does (a + v) ≡ Shut k m → IsShut x k m (a + v)) → ((m : ℕ) → shut_in s k a m n ≤ x.closed k) →
+    closes_in s k a n ≤ jobs_in (x.period k) (x.length k) n * x.closed k
 closes_most x s k a n some idle one hits each =
     let y : closes_in s k a n ≤ sum_below (jobs + 1) (λ i. shut_in s k a (first + i) n) = all_jobs s k a first (jobs + 1) n in_them in
     let e : jobs + 1 ≡ suc (suc (jobs - 1)) = omega arith in
-    let z : sum_below (suc (suc (jobs - 1))) (λ i. shut_in s k a (first + i) n) ≤ suc (jobs - 1) * c = sum_ends (jobs - 1) c (λ i. shut_in s k a (first + i) n) (λ i lt. each (first + i)) (ends (suc (jobs - 1)) (omega arith)) in
+    let z : sum_below (suc (suc (jobs - 1))) (λ i. shut_in s k a (first + i) n) ≤ suc (jobs - 1) * c =
+    sum_ends (jobs - 1) c (λ i. shut_in s k a (first + i) n) (λ i lt. each (first + i)) (ends (suc (jobs - 1)) (omega arith)) in
     let f : suc (jobs - 1) ≡ jobs = omega arith in
     let g : suc (jobs - 1) * c ≡ jobs * c = ap (λ i. i * c) f in
-    let w : sum_below (jobs + 1) (λ i. shut_in s k a (first + i) n) ≡ sum_below (suc (suc (jobs - 1))) (λ i. shut_in s k a (first + i) n) = ap (λ i. sum_below i (λ i. shut_in s k a (first + i) n)) e in
+    let w : sum_below (jobs + 1) (λ i. shut_in s k a (first + i) n) ≡ sum_below (suc (suc (jobs - 1))) (λ i. shut_in s k a (first + i) n) =
+    ap (λ i. sum_below i (λ i. shut_in s k a (first + i) n)) e in
     omega (arith, y, z, g, w) where
       period : ℕ
       period = x.period k
@@ -172,7 +178,9 @@ closes_most x s k a n some idle one hits each =
           let f : (m - first) + first ≡ m = omega (arith, low) in
           let d : ((m - first) + first) * x.period k ≡ (m - first) * x.period k + first * x.period k = add-mul (m - first) first (x.period k) in
           let g : ((m - first) + first) * x.period k ≡ m * x.period k = ap (λ i. i * x.period k) f in
-          let le : (m - first) * x.period k ≤ n - 1 + x.length k + x.period k = sum ((m - first) * x.period k) (first * x.period k) (m * x.period k) (((m - first) + first) * x.period k) a v n (x.period k) (x.length k) d g h.behind begins lt in
+          let le : (m - first) * x.period k ≤ n - 1 + x.length k + x.period k =
+          sum ((m - first) * x.period k) (first * x.period k) (m * x.period k) (((m - first) + first) * x.period k) a v n (x.period k)
+          (x.length k) d g h.behind begins lt in
           let high : m - first ≤ jobs = jobs_within (x.period k) (x.length k) n (m - first) some le in
           (low, omega (arith, high, low)) where
             sum : (i f m z a v n p l : ℕ) → z ≡ i + f → z ≡ m → m ≤ a + v + p → a ≤ f + l → v < n → i ≤ n - 1 + l + p
@@ -181,12 +189,16 @@ closes_most x s k a n some idle one hits each =
       ends : (last : ℕ) → last ≡ jobs → shut_in s k a (first + 0) n + shut_in s k a (first + last) n ≤ x.closed k
       ends last same =
           let p0 : shut_in s k a (first + 0) n ≤ first * x.period k + x.length k + 1 - a =
-          before_end s k a (first + 0) (first * x.period k + x.length k + 1) n (λ v lt e. let h : IsShut x k (first + 0) (a + v) = hits v (first + 0) lt e in let z : (first + 0) * x.period k ≡ first * x.period k = ap (λ i. i * x.period k) (right first) in omega (arith, z, h.within)) in
+          before_end s k a (first + 0) (first * x.period k + x.length k + 1) n
+          (λ v lt e. let h : IsShut x k (first + 0) (a + v) = hits v (first + 0) lt e in let z : (first + 0) * x.period k ≡ first * x.period k =
+          ap (λ i. i * x.period k) (right first) in omega (arith, z, h.within)) in
           let p1 : shut_in s k a (first + last) n ≤ a + n - ((first + last) * x.period k + 1 - x.longest) =
-          behind_start s k a (first + last) ((first + last) * x.period k + 1 - x.longest) n (λ v lt e. let h : IsShut x k (first + last) (a + v) = hits v (first + last) lt e in omega (arith, h.near)) in
+          behind_start s k a (first + last) ((first + last) * x.period k + 1 - x.longest) n
+          (λ v lt e. let h : IsShut x k (first + last) (a + v) = hits v (first + last) lt e in omega (arith, h.near)) in
           let d : (first + last) * x.period k ≡ first * x.period k + last * x.period k = add-mul first last (x.period k) in
           let g : last * x.period k ≡ jobs * x.period k = ap (λ i. i * x.period k) same in
-          sum (shut_in s k a (first + 0) n) (shut_in s k a (first + last) n) (first * x.period k) (last * x.period k) ((first + last) * x.period k) (jobs * x.period k) (x.length k) x.longest a n (x.closed k) p0 p1 d g covers (each (first + 0)) (each (first + last)) idle where
+          sum (shut_in s k a (first + 0) n) (shut_in s k a (first + last) n) (first * x.period k) (last * x.period k) ((first + last) * x.period k)
+          (jobs * x.period k) (x.length k) x.longest a n (x.closed k) p0 p1 d g covers (each (first + 0)) (each (first + last)) idle where
             right : (a : ℕ) → a + 0 ≡ a
             right a = omega arith
 

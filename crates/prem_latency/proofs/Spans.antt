@@ -24,7 +24,8 @@ use Rattle.prem_cycle.specs.declared.state.Interval.{Interval}
 use Rattle.prem_cycle.specs.declared.facts.EndedInterval.{EndedInterval}
 use Rattle.prem_cycle.specs.State.{Setup, Task, Work, CoreState, Counts, MachineState, start_of, task_in}
 use Rattle.prem_cycle.specs.Core.{paid_on_bus, with_debt, with_cost, is_paid, CoreMove, Passes, Issues, is_predictable, phase_in, stated_after, window_after, core_issue, core_turn}
-use Rattle.prem_cycle.specs.Cycle.{Arrivals, arrivals_at, bus_at, with_memory, with_clash, move_at, core_at, joined, ends_before, ended_interval, at_point, close_interval, settle, with_now, next_cycle, ticked, cycle_of, is_over}
+use Rattle.prem_cycle.specs.Cycle.{Arrivals, arrivals_at, bus_at, with_memory, with_clash, move_at, core_at, joined, ends_before, ended_interval, at_point, close_interval, settle}
+use Rattle.prem_cycle.specs.Cycle.{with_now, next_cycle, ticked, cycle_of, is_over}
 use Rattle.prem_cycle.specs.Run.{CycleStep, step_with, memory_of, cycles_of, steps_of}
 use Rattle.prem_cycle.proofs.CoreCases.{Continues, MoveCase, pays_on_bus, is_denied, pays_cost, waits, goes_on, switches, begins, chooses, chooses_now, begins_idle, has_finished, idles, move_cases}
 use Rattle.prem_cycle.proofs.Time.{run_of-now}
@@ -60,8 +61,11 @@ pub idle_time_keeps_closed : IdleTimeKeepsClosed
 idle_time_keeps_closed rule p content inputs requests longest n until periods on e closed =
     let now : (state rule p content inputs requests n).now ≡ n = run_of-now rule p content inputs requests n on in
     let h : Idles p periods (state rule p content inputs requests n).now until (state rule p content inputs requests n).sched (state rule p content inputs requests n).core.window =
-    (subst (InMode p periods (state rule p content inputs requests n).now (state rule p content inputs requests n).sched (state rule p content inputs requests n).core.window (state rule p content inputs requests n).core.debt) e (run_holds p periods rule content inputs requests n on).mode).0 in
-    let past : (state rule p content inputs requests n).core.window.close < (state rule p content inputs requests n).now + longest = passed (state rule p content inputs requests n).now longest (state rule p content inputs requests n).core.window h.start closed in
+    (subst (InMode p periods (state rule p content inputs requests n).now (state rule p content inputs requests n).sched
+    (state rule p content inputs requests n).core.window (state rule p content inputs requests n).core.debt) e
+    (run_holds p periods rule content inputs requests n on).mode).0 in
+    let past : (state rule p content inputs requests n).core.window.close < (state rule p content inputs requests n).now + longest =
+    passed (state rule p content inputs requests n).now longest (state rule p content inputs requests n).core.window h.start closed in
     (omega (arith, h.more, now), omega (arith, past, h.close, now)) where
       passed : (now longest : ℕ) (w : Window) → w.start ≤ now → not (fits now w longest) ≡ true → w.close < now + longest
       passed now longest w le out = by (leb (now + longest) w.close) refl where
@@ -96,7 +100,8 @@ module _ (longest opened : ℕ) where
   spans_on Job ph now first stated had w h = tt
 
   -- an instruction issues
-  spans_issue : (ph : Phase) (c : Change) (now first stated had : ℕ) (w : Window) → IsLawful ph c → had ≤ now - first → first ≤ now → ((l : ℕ) → c ≡ Execute l → now ≤ first + opened) → (ph ≡ Execution → InSpan now first stated had w) →
+  spans_issue : (ph : Phase) (c : Change) (now first stated had : ℕ) (w : Window) → IsLawful ph c → had ≤ now - first → first ≤ now →
+      ((l : ℕ) → c ≡ Execute l → now ≤ first + opened) → (ph ≡ Execution → InSpan now first stated had w) →
       Spans c (phase_after c ph) (now + 1) first (stated_after c stated) (had + counts longest true now w) (window_after c now first w)
   spans_issue ph Stay now first stated had w l few le soon h = λ e. span_on now first stated had w (h e)
   spans_issue ph Memory now first stated had w l few le soon h = tt
@@ -108,7 +113,9 @@ module _ (longest opened : ℕ) where
       (omega (arith, few, le, one, early), record { start = omega arith; close = omega arith })
 
   -- it ends
-  spans_end : (mark : Change) (i : Interval) (ph : Phase) (ds : List Did) (stated now had : ℕ) (w : Window) → 1 ≤ longest → i.predictable ≡ true → ends_before now i mark ≡ true → Issued mark ph stated ds i → (mark ≡ End → now ≤ i.first + i.stated) → had ≤ now - i.first → Spans mark ph now i.first i.stated had w → had ≤ min i.stated (opened + longest)
+  spans_end : (mark : Change) (i : Interval) (ph : Phase) (ds : List Did) (stated now had : ℕ) (w : Window) → 1 ≤ longest → i.predictable ≡ true →
+      ends_before now i mark ≡ true → Issued mark ph stated ds i → (mark ≡ End → now ≤ i.first + i.stated) → had ≤ now - i.first →
+      Spans mark ph now i.first i.stated had w → had ≤ min i.stated (opened + longest)
   spans_end Stay i ph ds stated now had w some pred over y late few h = absurd (let z : false ≡ true = over in cc)
   spans_end (Execute l) i ph ds stated now had w some pred over y late few h = absurd (let z : false ≡ true = over in cc)
   spans_end Memory i ph ds stated now had w some pred over y late few h = absurd (let z : false ≡ true = sym y.0 ∙ pred in cc)
@@ -121,18 +128,22 @@ module _ (longest opened : ℕ) where
 
 few_between : (states : ℕ → MachineState) (longest from n : ℕ) → closed_between states longest from n ≤ n
 few_between states longest from zero = omega arith
-few_between states longest from (suc n) = let was : closed_between states longest from n ≤ n = few_between states longest from n in let one : one_if (is_closed longest (states (from + n))) ≤ 1 = by (is_closed longest (states (from + n))) in omega (arith, was, one) where
-  by : (b : Bool) → one_if b ≤ 1
-  by true = omega arith
-  by false = omega arith
+few_between states longest from (suc n) = let was : closed_between states longest from n ≤ n = few_between states longest from n in
+    let one : one_if (is_closed longest (states (from + n))) ≤ 1 = by (is_closed longest (states (from + n))) in omega (arith, was, one) where
+      by : (b : Bool) → one_if b ≤ 1
+      by true = omega arith
+      by false = omega arith
 
-between_next : (states : ℕ → MachineState) (longest from n : ℕ) → from ≤ n → closed_between states longest from (n + 1 - from) ≡ closed_between states longest from (n - from) + one_if (is_closed longest (states n))
+between_next : (states : ℕ → MachineState) (longest from n : ℕ) → from ≤ n →
+    closed_between states longest from (n + 1 - from) ≡ closed_between states longest from (n - from) + one_if (is_closed longest (states n))
 between_next states longest from n le =
     let e : n + 1 - from ≡ suc (n - from) = omega (arith, le) in
     let f : from + (n - from) ≡ n = omega (arith, le) in
     ap (closed_between states longest from) e ∙ ap (λ m. closed_between states longest from (n - from) + one_if (is_closed longest (states m))) f
 
-module _ (rule : ReplacementRule) (order : OrderRule) (passes : ℕ → ℕ) (p : Setup) (content : List ℕ) (inputs : List (List ℕ)) (requests : List Request) (own : ℕ → ℕ → Bool) (runs : ℕ → TaskRun) (scripts : ℕ → Script) (policy : IsPolicy rule order passes) (keep : KeepScripts p passes runs scripts) (q : IsRunnable p content requests) (o : AreOwn p content inputs own runs)
+module _ (rule : ReplacementRule) (order : OrderRule) (passes : ℕ → ℕ) (p : Setup) (content : List ℕ) (inputs : List (List ℕ))
+    (requests : List Request) (own : ℕ → ℕ → Bool) (runs : ℕ → TaskRun) (scripts : ℕ → Script) (policy : IsPolicy rule order passes)
+    (keep : KeepScripts p passes runs scripts) (q : IsRunnable p content requests) (o : AreOwn p content inputs own runs)
     (longest opened : ℕ) (some : 1 ≤ longest) (opens : (k : ℕ) → k < length p.tasks → IsOpened p.plant (runs k) (scripts k) (λ i. opened)) where
   abbrev states : ℕ → MachineState
   states n = state rule p content inputs requests n
@@ -158,7 +169,9 @@ module _ (rule : ReplacementRule) (order : OrderRule) (passes : ℕ → ℕ) (p 
 
   abbrev Spanned : (now : ℕ) (a : ℕ → ℕ) → CoreState → Type 0
   Spanned now a c =
-      (k : ℕ) → c.mode ≡ Running k → (c.interval.first ≤ now) × (c.interval.predictable ≡ true → Spans longest opened c.mark (phase_at runs a k) now c.interval.first c.interval.stated (had_in c.interval.first now) c.window)
+      (k : ℕ) → c.mode ≡ Running k →
+      (c.interval.first ≤ now) × (c.interval.predictable ≡ true →
+      Spans longest opened c.mark (phase_at runs a k) now c.interval.first c.interval.stated (had_in c.interval.first now) c.window)
 
   abbrev MaySpan : (now : ℕ) (a : ℕ → ℕ) → ℕ → Interval → Window → Type 0
   MaySpan now a k i w = (i.first ≤ now) × (i.predictable ≡ true → phase_at runs a k ≡ Execution → InSpan longest opened now i.first i.stated (had_in i.first now) w)
@@ -178,8 +191,13 @@ module _ (rule : ReplacementRule) (order : OrderRule) (passes : ℕ → ℕ) (p 
 
     stays : (c' : CoreState) → c'.mode ≡ s.core.mode → c'.interval ≡ s.core.interval → c'.mark ≡ s.core.mark → c'.window ≡ s.core.window → Spanned (s.now + 1) a c'
     stays c' e f g w k run =
-        let r : (s.core.interval.first ≤ s.now) × (s.core.interval.predictable ≡ true → Spans longest opened s.core.mark (phase_at runs a k) s.now s.core.interval.first s.core.interval.stated (had_in s.core.interval.first s.now) s.core.window) = h k (sym e ∙ run) in
-        subst (λ (i : Interval). (i.first ≤ s.now + 1) × (i.predictable ≡ true → Spans longest opened c'.mark (phase_at runs a k) (s.now + 1) i.first i.stated (had_in i.first (s.now + 1)) c'.window)) (sym f) (
+        let r : (s.core.interval.first ≤ s.now)
+        × (s.core.interval.predictable ≡ true →
+        Spans longest opened s.core.mark (phase_at runs a k) s.now s.core.interval.first s.core.interval.stated
+        (had_in s.core.interval.first s.now) s.core.window) = h k (sym e ∙ run) in
+        subst (λ (i : Interval). (i.first ≤ s.now + 1)
+        × (i.predictable ≡ true → Spans longest opened c'.mark (phase_at runs a k) (s.now + 1) i.first i.stated (had_in i.first (s.now + 1))
+        c'.window)) (sym f) (
           omega (arith, r.0),
           λ pred.
               subst (λ m. Spans longest opened m (phase_at runs a k) (s.now + 1) s.core.interval.first s.core.interval.stated (had_in s.core.interval.first (s.now + 1)) c'.window) (sym g)
@@ -188,14 +206,17 @@ module _ (rule : ReplacementRule) (order : OrderRule) (passes : ℕ → ℕ) (p 
               (spans_on longest opened s.core.mark (phase_at runs a k) s.now s.core.interval.first s.core.interval.stated (had_in s.core.interval.first s.now) s.core.window (r.1 pred)))),
         )
 
-    spans_goes : (mark : Change) (ph : Phase) (first stated had : ℕ) (w : Window) → Continues mark → Spans longest opened mark ph s.now first stated had w → ph ≡ Execution → InSpan longest opened s.now first stated had w
+    spans_goes : (mark : Change) (ph : Phase) (first stated had : ℕ) (w : Window) → Continues mark →
+        Spans longest opened mark ph s.now first stated had w → ph ≡ Execution → InSpan longest opened s.now first stated had w
     spans_goes Stay ph first stated had w g r = r
     spans_goes (Execute l) ph first stated had w g r = r
     spans_goes Memory ph first stated had w g r = absurd g
     spans_goes End ph first stated had w g r = absurd g
     spans_goes Job ph first stated had w g r = absurd g
 
-    moves_span : (bus : Bool) (w : Work) (m : CoreMove) → MoveCase p s.now bus s.sched w s.core m → ((k : ℕ) → k < length p.tasks → phase_in w k ≡ phase_at runs a k) → ((k : ℕ) → phase_in w k ≡ Execution → s.core.mode ≡ Running k) → ((k : ℕ) (i : Interval) → m ≡ Issues k i → k < length p.tasks) → SpanMove s.now a s.core.window m
+    moves_span : (bus : Bool) (w : Work) (m : CoreMove) → MoveCase p s.now bus s.sched w s.core m →
+        ((k : ℕ) → k < length p.tasks → phase_in w k ≡ phase_at runs a k) → ((k : ℕ) → phase_in w k ≡ Execution → s.core.mode ≡ Running k) →
+        ((k : ℕ) (i : Interval) → m ≡ Issues k i → k < length p.tasks) → SpanMove s.now a s.core.window m
     moves_span bus w _ (pays_on_bus y x) same alone there = stays (with_debt s.core (paid_on_bus s.core.debt.transactions s.core.debt)) refl refl refl refl
     moves_span bus w _ (is_denied y x) same alone there = stays s.core refl refl refl refl
     moves_span bus w _ (pays_cost k cost y e x) same alone there = stays (with_cost s.core cost) refl refl refl refl
@@ -215,7 +236,10 @@ module _ (rule : ReplacementRule) (order : OrderRule) (passes : ℕ → ℕ) (p 
 
     -- ---- an instruction
 
-    turn_span : (m : CoreMove) (w : Work) (c : Counts) → Stands p own runs a w → Runs p own runs → Scheduled p runs a s.sched m → Moves order p.plant (length p.tasks) runs scripts a (lines_in w.cache) m → ClockMove order p.plant (length p.tasks) runs scripts s.now a (lines_in w.cache) m → SpanMove s.now a s.core.window m → Spanned (s.now + 1) (bump_move m a) (core_turn rule p s.now m w s.core c).core
+    turn_span : (m : CoreMove) (w : Work) (c : Counts) → Stands p own runs a w → Runs p own runs → Scheduled p runs a s.sched m →
+        Moves order p.plant (length p.tasks) runs scripts a (lines_in w.cache) m →
+        ClockMove order p.plant (length p.tasks) runs scripts s.now a (lines_in w.cache) m → SpanMove s.now a s.core.window m →
+        Spanned (s.now + 1) (bump_move m a) (core_turn rule p s.now m w s.core c).core
     turn_span (Passes c') w c st rs j r cl b = b
     turn_span (Issues k i) w c st rs u r cl b =
         let lt : k < length p.tasks = u.unfinished.bound in
@@ -225,26 +249,38 @@ module _ (rule : ReplacementRule) (order : OrderRule) (passes : ℕ → ℕ) (p 
         let d : Did = did_of t.pc t.phase x.instr x.effect in
         let ex : Executed (runs k) (plain_run (runs k) (a k)) d = executed (runs k) (plain_run (runs k) (a k)) d did in
         let l : IsLawful (phase_at runs a k) d.change = did_lawful (runs k) (plain_run (runs k) (a k)) d ex in
-        let next : phase_at runs (bump k a) k ≡ phase_after d.change (phase_at runs a k) = ap (λ v. v.task.phase) (bump_run order p.plant (length p.tasks) runs scripts a (lines_in w.cache) k) ∙ next_phase (runs k) (plain_run (runs k) (a k)) d ex in
+        let next : phase_at runs (bump k a) k ≡ phase_after d.change (phase_at runs a k) =
+        ap (λ v. v.task.phase) (bump_run order p.plant (length p.tasks) runs scripts a (lines_in w.cache) k)
+        ∙ next_phase (runs k) (plain_run (runs k) (a k)) d ex in
         let sets : length (lines_in w.cache) ≡ p.plant.sets = sets_are rule order passes p own runs scripts policy keep w st.kept in
         let plant : IsPlant p.plant = kept_plant p w.cache w.memory st.kept in
         let pos : 1 ≤ p.plant.sets = plant.sets.0 in
         let soon : (l : ℕ) → d.change ≡ Execute l → s.now ≤ i.first + opened =
         (λ v e. opened_by order p.plant s.now i.first opened (call_of (scripts k) (begun_at runs a k)) (begun_at runs a k).steps (lines_in w.cache) policy.once (omega (arith, pos, sets))
-        (subst (λ n. HaveRoom n p.plant.ways (call_of (scripts k) (begun_at runs a k)).members) (sym sets) ((keep k lt).room _)) (in_script p.plant passes (runs k) (scripts k) (keep k lt) (a k)).within
+        (subst (λ n. HaveRoom n p.plant.ways (call_of (scripts k) (begun_at runs a k)).members) (sym sets) ((keep k lt).room _))
+        (in_script p.plant passes (runs k) (scripts k) (keep k lt) (a k)).within
         ((opens k lt).calls (a k) v d did e) (cl (sym r.goes.kind ∙ ap is_predictable (subst (IsLawful (phase_at runs a k)) e l)))) in
         subst (λ e. Spanned (s.now + 1) (bump k a) (core_issue rule p s.now k i e w s.core c).core) (sym (x.behind rule policy.keeps))
         (λ j run. own_one k j i d run did next l soon r.goes b) where
-          own_one : (k j : ℕ) (i : Interval) (d : Did) → Running k ≡ Running j → plain_did (runs k) (plain_run (runs k) (a k)) ≡ Some d → phase_at runs (bump k a) k ≡ phase_after d.change (phase_at runs a k) → IsLawful (phase_at runs a k) d.change → ((l : ℕ) → d.change ≡ Execute l → s.now ≤ i.first + opened) → Goes (phase_at runs a k) (call_of (scripts k) (begun_at runs a k)).stated i → MaySpan s.now a k i s.core.window →
-              (i.first ≤ s.now + 1) × (i.predictable ≡ true → Spans longest opened d.change (phase_at runs (bump k a) j) (s.now + 1) i.first (stated_after d.change i.stated) (had_in i.first (s.now + 1)) (window_after d.change s.now i.first s.core.window))
+          own_one : (k j : ℕ) (i : Interval) (d : Did) → Running k ≡ Running j → plain_did (runs k) (plain_run (runs k) (a k)) ≡ Some d →
+              phase_at runs (bump k a) k ≡ phase_after d.change (phase_at runs a k) → IsLawful (phase_at runs a k) d.change →
+              ((l : ℕ) → d.change ≡ Execute l → s.now ≤ i.first + opened) →
+              Goes (phase_at runs a k) (call_of (scripts k) (begun_at runs a k)).stated i → MaySpan s.now a k i s.core.window →
+              (i.first ≤ s.now + 1) × (i.predictable ≡ true →
+              Spans longest opened d.change (phase_at runs (bump k a) j) (s.now + 1) i.first (stated_after d.change i.stated)
+              (had_in i.first (s.now + 1)) (window_after d.change s.now i.first s.core.window))
           own_one k j i d run did next l soon goes b =
               let same : k ≡ j = cc in (
                 omega (arith, b.0),
                 λ pred.
-                    subst (λ v. Spans longest opened d.change (phase_at runs (bump k a) v) (s.now + 1) i.first (stated_after d.change i.stated) (had_in i.first (s.now + 1)) (window_after d.change s.now i.first s.core.window)) same
-                    (subst (λ v. Spans longest opened d.change v (s.now + 1) i.first (stated_after d.change i.stated) (had_in i.first (s.now + 1)) (window_after d.change s.now i.first s.core.window)) (sym next)
-                    (subst (λ v. Spans longest opened d.change (phase_after d.change (phase_at runs a k)) (s.now + 1) i.first (stated_after d.change i.stated) v (window_after d.change s.now i.first s.core.window)) (sym (counted i.first b.0))
-                    (spans_issue longest opened (phase_at runs a k) d.change s.now i.first i.stated (had_in i.first s.now) s.core.window l (few_between states longest i.first (s.now - i.first)) b.0 soon (b.1 pred)))),
+                    subst (λ v. Spans longest opened d.change (phase_at runs (bump k a) v) (s.now + 1) i.first (stated_after d.change i.stated)
+                    (had_in i.first (s.now + 1)) (window_after d.change s.now i.first s.core.window)) same
+                    (subst (λ v. Spans longest opened d.change v (s.now + 1) i.first (stated_after d.change i.stated) (had_in i.first (s.now + 1))
+                    (window_after d.change s.now i.first s.core.window)) (sym next)
+                    (subst (λ v. Spans longest opened d.change (phase_after d.change (phase_at runs a k)) (s.now + 1) i.first
+                    (stated_after d.change i.stated) v (window_after d.change s.now i.first s.core.window)) (sym (counted i.first b.0))
+                    (spans_issue longest opened (phase_at runs a k) d.change s.now i.first i.stated (had_in i.first s.now) s.core.window l
+                    (few_between states longest i.first (s.now - i.first)) b.0 soon (b.1 pred)))),
               )
 
   -- ---- the end of a cycle
@@ -259,7 +295,10 @@ module _ (rule : ReplacementRule) (order : OrderRule) (passes : ℕ → ℕ) (p 
   none_runs : (now : ℕ) (a : ℕ → ℕ) (c : CoreState) → c.mode ≡ Point → Spanned now a c
   none_runs now a c e k run = absurd (let z : Point ≡ Running k = sym e ∙ run in cc)
 
-  settle_span : (a : ℕ → ℕ) (m : Mode) (s : MachineState) → s.core.mode ≡ m → Spanned s.now a s.core → All IsShort s.log.intervals → Resides order p.plant (length p.tasks) runs scripts a (lines_in s.work.cache) s.core.mode s.core.interval s.core.mark → Clock order p.plant (length p.tasks) runs scripts s.now a (lines_in s.work.cache) s.core.mode s.core.interval s.core.mark s.core.debt → Settled a (settle m s)
+  settle_span : (a : ℕ → ℕ) (m : Mode) (s : MachineState) → s.core.mode ≡ m → Spanned s.now a s.core → All IsShort s.log.intervals →
+      Resides order p.plant (length p.tasks) runs scripts a (lines_in s.work.cache) s.core.mode s.core.interval s.core.mark →
+      Clock order p.plant (length p.tasks) runs scripts s.now a (lines_in s.work.cache) s.core.mode s.core.interval s.core.mark s.core.debt →
+      Settled a (settle m s)
   settle_span a Point s e h all r c = record { spanned = h; short = all }
   settle_span a (Switching k left) s e h all r c = record { spanned = h; short = all }
   settle_span a (Running k) s e h all r c =
@@ -269,8 +308,12 @@ module _ (rule : ReplacementRule) (order : OrderRule) (passes : ℕ → ℕ) (p 
       record {
         spanned = none_runs s.now a (at_point s.core) refl;
         short = All-push IsShort s.log.intervals (ended_interval s.now k s.core.interval) all
-            (λ pred. spans_end longest opened s.core.mark s.core.interval (phase_at runs a k) (begun_at runs a k).steps (call_of (scripts k) (begun_at runs a k)).stated s.now (had_in s.core.interval.first s.now) s.core.window some pred parts.1 (r.runs_in k e).issued
-            (λ m. let y : s.now + owed_of s.core.debt ≤ s.core.interval.first + s.core.interval.stated = subst (λ x. InTime order p.plant x s.now (owed_of s.core.debt) s.core.interval (begun_at runs a k).steps (lines_in s.work.cache)) m (c.in_time k e pred) in omega (arith, y))
+            (λ pred. spans_end longest opened s.core.mark s.core.interval (phase_at runs a k) (begun_at runs a k).steps
+            (call_of (scripts k) (begun_at runs a k)).stated s.now (had_in s.core.interval.first s.now) s.core.window some pred parts.1
+            (r.runs_in k e).issued
+            (λ m. let y : s.now + owed_of s.core.debt ≤ s.core.interval.first + s.core.interval.stated =
+            subst (λ x. InTime order p.plant x s.now (owed_of s.core.debt) s.core.interval (begun_at runs a k).steps (lines_in s.work.cache)) m
+            (c.in_time k e pred) in omega (arith, y))
             (few_between states longest s.core.interval.first (s.now - s.core.interval.first)) ((h k e).1 pred));
       })
       (λ _. record { spanned = h; short = all })
@@ -279,7 +322,10 @@ module _ (rule : ReplacementRule) (order : OrderRule) (passes : ℕ → ℕ) (p 
       (λ _. record { spanned = h; short = all })
       (λ _. record { spanned = none_runs s.now a (at_point s.core) refl; short = all })
 
-  ticked_span : (a : ℕ → ℕ) (s : MachineState) → s.trapped ≡ None → Spanned (s.now + 1) a s.core → All IsShort s.log.intervals → Resides order p.plant (length p.tasks) runs scripts a (lines_in s.work.cache) s.core.mode s.core.interval s.core.mark → Clock order p.plant (length p.tasks) runs scripts (s.now + 1) a (lines_in s.work.cache) s.core.mode s.core.interval s.core.mark s.core.debt → Settled a (ticked s)
+  ticked_span : (a : ℕ → ℕ) (s : MachineState) → s.trapped ≡ None → Spanned (s.now + 1) a s.core → All IsShort s.log.intervals →
+      Resides order p.plant (length p.tasks) runs scripts a (lines_in s.work.cache) s.core.mode s.core.interval s.core.mark →
+      Clock order p.plant (length p.tasks) runs scripts (s.now + 1) a (lines_in s.work.cache) s.core.mode s.core.interval s.core.mark s.core.debt →
+      Settled a (ticked s)
   ticked_span a s u h all r c =
       subst (λ t. Settled a (cond (is_some t) s (next_cycle s))) (sym u)
       (settle_span a s.core.mode (with_now s (s.now + 1)) refl h all r c)
@@ -289,7 +335,8 @@ module _ (rule : ReplacementRule) (order : OrderRule) (passes : ℕ → ℕ) (p 
   issues_there : (a : ℕ → ℕ) (sched : List TaskJobs) (m : CoreMove) → Scheduled p runs a sched m → (k : ℕ) (i : Interval) → m ≡ Issues k i → k < length p.tasks
   issues_there a sched m h k i e = (subst (Scheduled p runs a sched) e h).unfinished.bound
 
-  cycle_span : (n : ℕ) (s : MachineState) (xs : List CycleStep) → states n ≡ s → s.now ≡ n → IsKnown (λ j. count_of j xs) s → IsKeeping (λ j. count_of j xs) s → IsLasting (λ j. count_of j xs) s → Spanned s.now (λ j. count_of j xs) s.core → All IsShort s.log.intervals →
+  cycle_span : (n : ℕ) (s : MachineState) (xs : List CycleStep) → states n ≡ s → s.now ≡ n → IsKnown (λ j. count_of j xs) s →
+      IsKeeping (λ j. count_of j xs) s → IsLasting (λ j. count_of j xs) s → Spanned s.now (λ j. count_of j xs) s.core → All IsShort s.log.intervals →
       Settled (λ j. count_of j (with_last (step_with rule p (bus_at (arrivals_at requests s).gates s) s) xs)) (cycle_of rule p requests s)
   cycle_span n s xs is now kn ke l h all =
       let a : ℕ → ℕ = λ j. count_of j xs in
@@ -308,7 +355,8 @@ module _ (rule : ReplacementRule) (order : OrderRule) (passes : ℕ → ℕ) (p 
       ke.resides.rests j lt none (ap is_predictable (sym (fa.phases.same j lt)) ∙ pred))
       l.goes_on l.clock in
       let ms : SpanMove s.now a s.core.window (move_at p b s) =
-      moves_span n a s is now h b.turn.core w (move_at p b s) (move_cases p s.now b.turn.core s.sched w s.core) fa.phases.same fa.phases.runs_alone (issues_there a s.sched (move_at p b s) fa.scheduled) in
+      moves_span n a s is now h b.turn.core w (move_at p b s) (move_cases p s.now b.turn.core s.sched w s.core) fa.phases.same fa.phases.runs_alone
+      (issues_there a s.sched (move_at p b s) fa.scheduled) in
       let c : Comes rule order passes p own runs scripts policy keep rs a ar b (move_at p b s) s = coming rule order passes p content inputs requests own runs scripts policy keep q o a s kn ke in
       let tb : Spanned (s.now + 1) (bump_move (move_at p b s) a) (core_at rule p b s).core = turn_span n a s is now h (move_at p b s) w cs fa.stands rs fa.scheduled fa.moves_to cm ms in
       subst (λ v. Settled v (cycle_of rule p requests s)) (λ x i. count_move rule p s.now w (move_at p b s) xs i c.issued x)

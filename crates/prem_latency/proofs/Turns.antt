@@ -41,7 +41,8 @@ same_jobs (x ∷ xs) a b all le h =
     let rest : All IsClosing xs = λ k d lt. all (suc k) d (omega (arith, lt)) in
     let one : jobs_in x.period x.length a ≤ jobs_in x.period x.length b = jobs_grow x.period x.length a b (all 0 no_closing (omega arith)).period le in
     let others : jobs_all a xs ≤ jobs_all b xs = jobs_all_grow xs a b rest le in
-    let here : jobs_in x.period x.length b * x.closed ≤ jobs_in x.period x.length a * x.closed = mul-le (jobs_in x.period x.length b) x.closed (jobs_in x.period x.length a) x.closed (omega (arith, h, others)) (omega arith) in
+    let here : jobs_in x.period x.length b * x.closed ≤ jobs_in x.period x.length a * x.closed =
+    mul-le (jobs_in x.period x.length b) x.closed (jobs_in x.period x.length a) x.closed (omega (arith, h, others)) (omega arith) in
     let more : closed_in b xs ≤ closed_in a xs = same_jobs xs a b rest le (omega (arith, h, one)) in
     omega (arith, here, more)
 
@@ -66,16 +67,17 @@ module _ (devices : List Asking) (tasks : List Closing) (d : ℕ) (asks : All Is
 
   -- where the bus has more to do, more requests or jobs are counted
   pub counted_more : (a b : ℕ) → a ≤ b → demand devices tasks d a < demand devices tasks d b → counted devices tasks d a < counted devices tasks d b
-  counted_more a b le lt = ⊎_elim (λ (h : counted devices tasks d a < counted devices tasks d b). h) (λ (h : counted devices tasks d b ≤ counted devices tasks d a). absurd (same h)) (cases_lt (counted devices tasks d a) (counted devices tasks d b)) where
-    same : counted devices tasks d b ≤ counted devices tasks d a → ⊥
-    same h =
-        let x : requests_all a ours ≤ requests_all b ours = requests_all_grow ours a b all_ask le in
-        let y : jobs_all a tasks ≤ jobs_all b tasks = jobs_all_grow tasks a b closes le in
-        let u : transfers_in b ours ≤ transfers_in a ours = same_requests ours a b all_ask le (omega (arith, h, y)) in
-        let v : closed_in b tasks ≤ closed_in a tasks = same_jobs tasks a b closes le (omega (arith, h, x)) in
-        more (rest_behind devices d) (transfers_in a ours) (transfers_in b ours) (closed_in a tasks) (closed_in b tasks) lt u v where
-          more : (r a b c d : ℕ) → r + a + c < r + b + d → b ≤ a → d ≤ c → ⊥
-          more r a b c d x y z = omega (arith, x, y, z)
+  counted_more a b le lt = ⊎_elim (λ (h : counted devices tasks d a < counted devices tasks d b). h)
+      (λ (h : counted devices tasks d b ≤ counted devices tasks d a). absurd (same h)) (cases_lt (counted devices tasks d a) (counted devices tasks d b)) where
+        same : counted devices tasks d b ≤ counted devices tasks d a → ⊥
+        same h =
+            let x : requests_all a ours ≤ requests_all b ours = requests_all_grow ours a b all_ask le in
+            let y : jobs_all a tasks ≤ jobs_all b tasks = jobs_all_grow tasks a b closes le in
+            let u : transfers_in b ours ≤ transfers_in a ours = same_requests ours a b all_ask le (omega (arith, h, y)) in
+            let v : closed_in b tasks ≤ closed_in a tasks = same_jobs tasks a b closes le (omega (arith, h, x)) in
+            more (rest_behind devices d) (transfers_in a ours) (transfers_in b ours) (closed_in a tasks) (closed_in b tasks) lt u v where
+              more : (r a b c d : ℕ) → r + a + c < r + b + d → b ≤ a → d ≤ c → ⊥
+              more r a b c d x y z = omega (arith, x, y, z)
 
   pub turned_first : (first cycles : ℕ) → cycles ≡ first → Turned devices tasks d first cycles 0
   turned_first first cycles e = record {
@@ -86,7 +88,8 @@ module _ (devices : List Asking) (tasks : List Closing) (d : ℕ) (asks : All Is
   pub turned_next : (first cycles turns next : ℕ) → next ≡ demand devices tasks d cycles → cycles < next → Turned devices tasks d first cycles turns → Turned devices tasks d first next (turns + 1)
   turned_next first cycles turns next e lt x = record {
     few = let a : counted devices tasks d cycles ≤ counted devices tasks d next = counted_grows cycles next (omega (arith, lt)) in omega (arith, a, so_many);
-    further = λ other le more. let b : counted devices tasks d cycles < counted devices tasks d other = counted_more cycles other (omega (arith, lt, le)) (omega (arith, e, more)) in omega (arith, b, so_many);
+    further = λ other le more. let b : counted devices tasks d cycles < counted devices tasks d other =
+        counted_more cycles other (omega (arith, lt, le)) (omega (arith, e, more)) in omega (arith, b, so_many);
   } where
     so_many : turns + counted devices tasks d first ≤ counted devices tasks d cycles
     so_many = x.further cycles (omega arith) (omega (arith, e, lt))

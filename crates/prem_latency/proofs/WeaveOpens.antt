@@ -44,7 +44,8 @@ section_call plant passes m h = record {
   running =
       All-append (λ (d : Did). (d.phase ≡ Execution) × GoesOrEnds d.change) m.body (m.last ∷ [])
       (λ k d lt. ((h.running k d lt).0, ends_free (get_or m.body k d).change (h.running k d lt).1))
-      (All-cons (λ (d : Did). (d.phase ≡ Execution) × GoesOrEnds d.change) m.last [] (h.lasts.0, subst GoesOrEnds (sym h.lasts.1) tt) (All-nil (λ (d : Did). (d.phase ≡ Execution) × GoesOrEnds d.change)));
+      (All-cons (λ (d : Did). (d.phase ≡ Execution) × GoesOrEnds d.change) m.last [] (h.lasts.0, subst GoesOrEnds (sym h.lasts.1) tt)
+      (All-nil (λ (d : Did). (d.phase ≡ Execution) × GoesOrEnds d.change)));
   within = h.within;
   covered = h.covered;
   fits = h.fits;
@@ -114,15 +115,19 @@ shutting_tasks_wait p passes own run most cycles longest top closed q h =
     record {
       charges = h.charges;
       opens = λ i. slice_index_or (counts_of (opening_of p.plant) h.charges.joins.weave) i 0;
-      opened = weave_opens p.plant passes (script_of (calls_of h.charges.joins.weave)) (λ i. slice_index_or (counts_of (opening_of p.plant) h.charges.joins.weave) i 0) none_begun h.charges.joins.weave is h.names
+      opened = weave_opens p.plant passes (script_of (calls_of h.charges.joins.weave))
+          (λ i. slice_index_or (counts_of (opening_of p.plant) h.charges.joins.weave) i 0) none_begun h.charges.joins.weave is h.names
           (record {
             calls_are = λ i lt. let e : 0 + i ≡ i = omega arith in ap (λ n. slice_index_or (calls_of h.charges.joins.weave) n no_call) e;
-            opens_in = λ i lt. let e : i ≡ 0 + i = omega arith in subst (λ n. slice_index_or (counts_of (opening_of p.plant) h.charges.joins.weave) i 0 ≤ slice_index_or (counts_of (opening_of p.plant) h.charges.joins.weave) n 0) e (omega arith);
+            opens_in = λ i lt. let e : i ≡ 0 + i = omega arith in
+                subst (λ n. slice_index_or (counts_of (opening_of p.plant) h.charges.joins.weave) i 0 ≤ slice_index_or
+                (counts_of (opening_of p.plant) h.charges.joins.weave) n 0) e (omega arith);
           });
       strand = h.strand;
       dids_are = h.dids_are;
       scopes = h.scopes;
       stretch = h.stretch;
-      closes = charged_less p.plant (script_by (counts_of (shut_of p.plant top) h.charges.joins.weave)) (script_of (shortened (λ i. slice_index_or (counts_of (opening_of p.plant) h.charges.joins.weave) i 0) top (calls_of h.charges.joins.weave)))
+      closes = charged_less p.plant (script_by (counts_of (shut_of p.plant top) h.charges.joins.weave))
+          (script_of (shortened (λ i. slice_index_or (counts_of (opening_of p.plant) h.charges.joins.weave) i 0) top (calls_of h.charges.joins.weave)))
           closed h.stretch 0 0 0 0 h.strand (short_less p.plant passes top h.charges.joins.weave is) (omega arith) h.closes;
     }

@@ -46,7 +46,8 @@ closed_charged plant short run charge (suc n) = closed_with plant short (begun_b
 
 -- no job is charged more
 pub record IsClosedBy (plant : Plant) (run : TaskRun) (short : ℕ → ℕ) (charge : Charges) (most : ℕ) : Type 0 where
-  pub jobs : (n : ℕ) (d : Did) → plain_did run (plain_run run n) ≡ Some d → closed_charged plant short run charge n + did_charge plant (short (begun_by run n).calls) d.phase d.change (charge n d) ≤ most
+  pub jobs : (n : ℕ) (d : Did) → plain_did run (plain_run run n) ≡ Some d →
+      closed_charged plant short run charge n + did_charge plant (short (begun_by run n).calls) d.phase d.change (charge n d) ≤ most
 
 -- ---- intervals
 
@@ -62,7 +63,8 @@ IsShortlyClosed states longest opened e = e.predictable ≡ true → closed_betw
 -- so is each that has ended in a run of tasks with scripts whose calls issue their `pm.exec` so many cycles behind the first one at most
 abbrev pub IntervalsKeepClosed : Type 0
 IntervalsKeepClosed =
-    (rule : ReplacementRule) (order : OrderRule) (passes : ℕ → ℕ) (p : Setup) (content : List ℕ) (inputs : List (List ℕ)) (requests : List Request) (own : ℕ → ℕ → Bool) (runs : ℕ → TaskRun) (scripts : ℕ → Script) (longest opened n : ℕ) →
+    (rule : ReplacementRule) (order : OrderRule) (passes : ℕ → ℕ) (p : Setup) (content : List ℕ) (inputs : List (List ℕ)) (requests : List Request)
+    (own : ℕ → ℕ → Bool) (runs : ℕ → TaskRun) (scripts : ℕ → Script) (longest opened n : ℕ) →
     IsPolicy rule order passes → IsRun p content requests → AreScripts p passes content inputs own runs scripts → 1 ≤ longest →
     ((k : ℕ) → k < length p.tasks → IsOpened p.plant (runs k) (scripts k) (λ i. opened)) →
     All (IsShortlyClosed (states_of rule p content inputs requests) longest opened) (states_of rule p content inputs requests n).log.intervals
@@ -79,7 +81,8 @@ IdleTimeKeepsClosed =
 -- then in no run does the core work for a job in more cycles in which the bus is closed
 abbrev pub JobsKeepClosedByCharges : Type 0
 JobsKeepClosedByCharges =
-    (rule : ReplacementRule) (order : OrderRule) (passes : ℕ → ℕ) (p : Setup) (content : List ℕ) (inputs : List (List ℕ)) (requests : List Request) (own : ℕ → ℕ → Bool) (runs : ℕ → TaskRun) (scripts : ℕ → Script) (scoping : Scoping) (opens : ℕ → ℕ) (longest k most job n : ℕ) →
+    (rule : ReplacementRule) (order : OrderRule) (passes : ℕ → ℕ) (p : Setup) (content : List ℕ) (inputs : List (List ℕ)) (requests : List Request)
+    (own : ℕ → ℕ → Bool) (runs : ℕ → TaskRun) (scripts : ℕ → Script) (scoping : Scoping) (opens : ℕ → ℕ) (longest k most job n : ℕ) →
     IsPolicy rule order passes → IsRun p content requests → AreScripts p passes content inputs own runs scripts → k < length p.tasks → 1 ≤ longest →
     IsScoped p.plant (runs k) scoping → IsOpened p.plant (runs k) (scripts k) opens → IsClosedBy p.plant (runs k) (short_of (scripts k) opens longest) (charges_by p.plant (runs k) scoping) most →
     closed_for (states_of rule p content inputs requests) longest k job n ≤ most

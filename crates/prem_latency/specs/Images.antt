@@ -46,7 +46,8 @@ pub record ServesDevice (rule : ReplacementRule) (p : Setup) (content : List ℕ
 -- finished before; and each that comes has been, and none is dropped, where the queue holds as many as come in so many cycles
 abbrev pub ChargedImagesServeDevices : Type 0
 ChargedImagesServeDevices =
-    (rule : ReplacementRule) (order : OrderRule) (passes : ℕ → ℕ) (p : Setup) (content : List ℕ) (promises : List (List ℕ) → ℕ → Promise) (limit : ℕ) (scopings : List (List ℕ) → ℕ → Scoping) (loads : List Load) (devices : List Asking) (tasks : List Closing) (d wait : ℕ) →
+    (rule : ReplacementRule) (order : OrderRule) (passes : ℕ → ℕ) (p : Setup) (content : List ℕ) (promises : List (List ℕ) → ℕ → Promise) (limit : ℕ)
+    (scopings : List (List ℕ) → ℕ → Scoping) (loads : List Load) (devices : List Asking) (tasks : List Closing) (d wait : ℕ) →
     IsPolicy rule order passes → (h : HasScripts passes p content promises limit) →
     ((inputs : List (List ℕ)) → AreInputs p inputs → AreLoads p (h.runs inputs) (h.scripts inputs) (scopings inputs) loads) →
     ((inputs : List (List ℕ)) → AreInputs p inputs → AreClosingsBy p (h.runs inputs) (h.scripts inputs) loads (top devices d) tasks) →

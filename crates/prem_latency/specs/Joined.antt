@@ -59,9 +59,12 @@ pub record TellsWaits (p : Setup) (loads : List Load) (closed : ℕ → ℕ) (to
 -- none is dropped, where the queue holds as many as come in so many cycles
 abbrev pub JoinedImagesServeDevices : Type 0
 JoinedImagesServeDevices =
-    (rule : ReplacementRule) (order : OrderRule) (passes : ℕ → ℕ) (p : Setup) (content : List ℕ) (own : ℕ → ℕ → Bool) (most : ℕ → JobLimits) (cycles longest closed : ℕ → ℕ) (promises : List (List ℕ) → ℕ → Promise) (limit : ℕ) (loads : List Load) (devices : List Asking) (tasks : List Closing) (d wait : ℕ) →
+    (rule : ReplacementRule) (order : OrderRule) (passes : ℕ → ℕ) (p : Setup) (content : List ℕ) (own : ℕ → ℕ → Bool) (most : ℕ → JobLimits)
+    (cycles longest closed : ℕ → ℕ) (promises : List (List ℕ) → ℕ → Promise) (limit : ℕ) (loads : List Load) (devices : List Asking)
+    (tasks : List Closing) (d wait : ℕ) →
     IsPolicy rule order passes → IsJoined passes p content own most promises limit →
-    ((inputs : List (List ℕ)) → AreInputs p inputs → (k : ℕ) → k < length p.tasks → TaskWaits p passes (own k) (run_in p content inputs k) (most k) (cycles k) (longest k) (top devices d) (closed k) (promises inputs k)) →
+    ((inputs : List (List ℕ)) → AreInputs p inputs → (k : ℕ) → k < length p.tasks →
+    TaskWaits p passes (own k) (run_in p content inputs k) (most k) (cycles k) (longest k) (top devices d) (closed k) (promises inputs k)) →
     TellsCharges p cycles longest loads → TellsWaits p loads closed (top devices d) tasks →
     d < length p.devices → 1 ≤ (asking_at devices d).cost → IsRoom devices tasks d wait →
     (inputs : List (List ℕ)) (requests : List Request) → IsGiven p devices inputs requests →

@@ -61,7 +61,8 @@ SetsServeDevices =
     (set : TaskSet) (places : List Extent) → HasValues set → AreLawfulFor set places → broken_at set places ≡ None →
     (loads : List Load) → TellsCharges (image_setup (compiled_at set places).image) (wcet_at set.plant (placed_by set places)) (stretch_at set.plant (placed_by set places)) loads →
     (distances : List (Option ℕ)) → AreDistances distances → (d every wait : ℕ) (device : Device) → slice_get set.devices d ≡ Some device → distance_at distances d ≡ Some every →
-    (tasks : List Closing) → TellsWaits (image_setup (compiled_at set places).image) loads (closed_at set.plant (top (askings_of distances set.devices) d) (placed_by set places)) (top (askings_of distances set.devices) d) tasks →
+    (tasks : List Closing) → TellsWaits (image_setup (compiled_at set places).image) loads
+    (closed_at set.plant (top (askings_of distances set.devices) d) (placed_by set places)) (top (askings_of distances set.devices) d) tasks →
     IsRoom (askings_of distances set.devices) tasks d wait →
     (inputs : List (List ℕ)) (requests : List Request) → AreInputs (image_setup (compiled_at set places).image) inputs → KeepDistances (image_setup (compiled_at set places).image) distances requests →
     ServesFound (rule_of set.plant.policy) (image_setup (compiled_at set places).image) (compiled_at set places).image.content inputs requests d wait

@@ -68,7 +68,8 @@ used_up devices tasks d = used devices tasks d + length (take (d + 1) devices) +
 
 -- where that leaves a part of the bus, so many cycles are enough
 abbrev pub RoomIsThere : Type 0
-RoomIsThere = (devices : List Asking) (tasks : List Closing) (d : ℕ) → All IsAsking devices → All IsClosing tasks → used_up devices tasks d < 2 ^ 64 → IsRoom devices tasks d (owed_once devices tasks d * 2 ^ 64 / (2 ^ 64 - used_up devices tasks d) + 1)
+RoomIsThere = (devices : List Asking) (tasks : List Closing) (d : ℕ) → All IsAsking devices → All IsClosing tasks → used_up devices tasks d < 2 ^ 64 →
+    IsRoom devices tasks d (owed_once devices tasks d * 2 ^ 64 / (2 ^ 64 - used_up devices tasks d) + 1)
 
 -- ---- how many turns it takes
 

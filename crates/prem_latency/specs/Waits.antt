@@ -43,7 +43,9 @@ pub record AreClosingsBy (p : Setup) (runs : ℕ → TaskRun) (scripts : ℕ →
   pub each : (k : ℕ) → k < length p.tasks → IsClosingBy p (runs k) (scripts k) loads longest k (closing_at tasks k)
 
 -- a run of tasks that keep to their scripts, with devices, loads and tasks of which this is said
-pub record ServesBy (rule : ReplacementRule) (order : OrderRule) (passes : ℕ → ℕ) (p : Setup) (content : List ℕ) (inputs : List (List ℕ)) (requests : List Request) (own : ℕ → ℕ → Bool) (runs : ℕ → TaskRun) (scripts : ℕ → Script) (scopings : ℕ → Scoping) (loads : List Load) (devices : List Asking) (tasks : List Closing) (d : ℕ) : Type 0 where
+pub record ServesBy (rule : ReplacementRule) (order : OrderRule) (passes : ℕ → ℕ) (p : Setup) (content : List ℕ) (inputs : List (List ℕ))
+    (requests : List Request) (own : ℕ → ℕ → Bool) (runs : ℕ → TaskRun) (scripts : ℕ → Script) (scopings : ℕ → Scoping) (loads : List Load)
+    (devices : List Asking) (tasks : List Closing) (d : ℕ) : Type 0 where
   pub policy : IsPolicy rule order passes
   pub run : IsRun p content requests
   pub are_scripts : AreScripts p passes content inputs own runs scripts
@@ -56,7 +58,9 @@ pub record ServesBy (rule : ReplacementRule) (order : OrderRule) (passes : ℕ �
 -- then each request of the device that has found room has been transferred so many cycles behind its cycle, unless the run has finished before
 abbrev pub ChargesServeInTime : Type 0
 ChargesServeInTime =
-    (rule : ReplacementRule) (order : OrderRule) (passes : ℕ → ℕ) (p : Setup) (content : List ℕ) (inputs : List (List ℕ)) (requests : List Request) (own : ℕ → ℕ → Bool) (runs : ℕ → TaskRun) (scripts : ℕ → Script) (scopings : ℕ → Scoping) (loads : List Load) (devices : List Asking) (tasks : List Closing) (d wait t n : ℕ) →
+    (rule : ReplacementRule) (order : OrderRule) (passes : ℕ → ℕ) (p : Setup) (content : List ℕ) (inputs : List (List ℕ)) (requests : List Request)
+    (own : ℕ → ℕ → Bool) (runs : ℕ → TaskRun) (scripts : ℕ → Script) (scopings : ℕ → Scoping) (loads : List Load) (devices : List Asking)
+    (tasks : List Closing) (d wait t n : ℕ) →
     ServesBy rule order passes p content inputs requests own runs scripts scopings loads devices tasks d → IsRoom devices tasks d wait →
     ((m : ℕ) → m < n → is_finished (states_of rule p content inputs requests m) ≡ false) → t + wait ≤ n →
     AreTransferred (found_of rule p content inputs requests d (suc t)) (transferred_of d (states_of rule p content inputs requests n).log.transfers)
@@ -64,7 +68,9 @@ ChargesServeInTime =
 -- and none is dropped where the queue of the device holds as many as come in so many cycles
 abbrev pub ChargesDropNone : Type 0
 ChargesDropNone =
-    (rule : ReplacementRule) (order : OrderRule) (passes : ℕ → ℕ) (p : Setup) (content : List ℕ) (inputs : List (List ℕ)) (requests : List Request) (own : ℕ → ℕ → Bool) (runs : ℕ → TaskRun) (scripts : ℕ → Script) (scopings : ℕ → Scoping) (loads : List Load) (devices : List Asking) (tasks : List Closing) (d wait n : ℕ) →
+    (rule : ReplacementRule) (order : OrderRule) (passes : ℕ → ℕ) (p : Setup) (content : List ℕ) (inputs : List (List ℕ)) (requests : List Request)
+    (own : ℕ → ℕ → Bool) (runs : ℕ → TaskRun) (scripts : ℕ → Script) (scopings : ℕ → Scoping) (loads : List Load) (devices : List Asking)
+    (tasks : List Closing) (d wait n : ℕ) →
     ServesBy rule order passes p content inputs requests own runs scripts scopings loads devices tasks d → IsRoom devices tasks d wait →
     requests_in (asking_at devices d).every wait ≤ (device_of p d).device.queue →
     slice_index (states_of rule p content inputs requests n).log.dropped d ≡ 0
@@ -72,7 +78,9 @@ ChargesDropNone =
 -- then each request of the device that comes has been transferred so many cycles behind its cycle, in order, unless the run has finished before
 abbrev pub ChargesServeEach : Type 0
 ChargesServeEach =
-    (rule : ReplacementRule) (order : OrderRule) (passes : ℕ → ℕ) (p : Setup) (content : List ℕ) (inputs : List (List ℕ)) (requests : List Request) (own : ℕ → ℕ → Bool) (runs : ℕ → TaskRun) (scripts : ℕ → Script) (scopings : ℕ → Scoping) (loads : List Load) (devices : List Asking) (tasks : List Closing) (d wait t n : ℕ) →
+    (rule : ReplacementRule) (order : OrderRule) (passes : ℕ → ℕ) (p : Setup) (content : List ℕ) (inputs : List (List ℕ)) (requests : List Request)
+    (own : ℕ → ℕ → Bool) (runs : ℕ → TaskRun) (scripts : ℕ → Script) (scopings : ℕ → Scoping) (loads : List Load) (devices : List Asking)
+    (tasks : List Closing) (d wait t n : ℕ) →
     ServesBy rule order passes p content inputs requests own runs scripts scopings loads devices tasks d → IsRoom devices tasks d wait →
     requests_in (asking_at devices d).every wait ≤ (device_of p d).device.queue →
     ((m : ℕ) → m < n → is_finished (states_of rule p content inputs requests m) ≡ false) → t + wait ≤ n →

@@ -69,7 +69,8 @@ stored = let t = after (2 ∷ 0 ∷ []) in record t { cache = store_of t.cache 1
 row_stored : entry_of stored.cache 2 ≡ Some (record { line = 2; dirty = true; bytes = 108 ∷ 109 ∷ 0x45 ∷ 0x23 ∷ [] })
 row_stored = refl
 
-row_view : (view_of stored.cache stored.memory 9 ∷ view_of stored.cache stored.memory 10 ∷ view_of stored.cache stored.memory 11 ∷ view_of stored.cache stored.memory 12 ∷ []) ≡ 109 ∷ 0x45 ∷ 0x23 ∷ 112 ∷ []
+row_view : (view_of stored.cache stored.memory 9 ∷ view_of stored.cache stored.memory 10 ∷ view_of stored.cache stored.memory 11 ∷ view_of
+    stored.cache stored.memory 12 ∷ []) ≡ 109 ∷ 0x45 ∷ 0x23 ∷ 112 ∷ []
 row_view = refl
 
 row_number : number_at (view_of stored.cache stored.memory) 8 4 ≡ 0x23456d6c

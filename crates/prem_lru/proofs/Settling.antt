@@ -34,7 +34,8 @@ touched_stays size room line es memory =
     (λ _. front_stays line (filled size line memory) es refl)
     (λ _. front_stays line (filled size line (written_back size (last_entry es) memory)) (take (length es - 1) es) refl))
 
-kind_stays : (kind : Replacement) (size room line : ℕ) (es : List Entry) (memory : List ℕ) → rule_of kind line (touch_set (rule_of kind) size room line es memory).entries ≡ (touch_set (rule_of kind) size room line es memory).entries
+kind_stays : (kind : Replacement) (size room line : ℕ) (es : List Entry) (memory : List ℕ) →
+    rule_of kind line (touch_set (rule_of kind) size room line es memory).entries ≡ (touch_set (rule_of kind) size room line es memory).entries
 kind_stays Lru size room line es memory = touched_stays size room line es memory
 kind_stays Fifo size room line es memory = refl
 
@@ -55,7 +56,8 @@ touch_settles kind c line memory h =
     }
 
 -- a touch of a settled line hits and changes nothing
-pub settled_touch : (rule : ReplacementRule) (c : CacheState) (line : ℕ) (memory : List ℕ) → IsSettled rule c line → touch_of rule c line memory ≡ record { cache = c; memory = memory; hit = true; back = false }
+pub settled_touch : (rule : ReplacementRule) (c : CacheState) (line : ℕ) (memory : List ℕ) → IsSettled rule c line →
+    touch_of rule c line memory ≡ record { cache = c; memory = memory; hit = true; back = false }
 settled_touch rule c line memory h =
     let es : List Entry = set_of c line in
     ap (λ b. touched_by c line (cond b (hit_in rule line es memory)

@@ -72,7 +72,8 @@ runs_then limit transfers a b c f none q =
 -- ---- at once, and one by one
 
 pub runs_gliding : (limit transfers : ℕ) (a b : Running) → b ≡ with_state a (cycles_of (rule_in a.setup) a.setup a.requests (b.state.now - a.state.now) a.state) →
-    AreSilent (rule_in a.setup) a.setup a.requests (b.state.now - a.state.now) a.state → a.state.now ≤ b.state.now → b.state.now ≤ limit → ended_so_far a.state < transfers → RunsSilently limit transfers a b
+    AreSilent (rule_in a.setup) a.setup a.requests (b.state.now - a.state.now) a.state → a.state.now ≤ b.state.now → b.state.now ≤ limit →
+    ended_so_far a.state < transfers → RunsSilently limit transfers a b
 runs_gliding limit transfers a b is silent from within few =
     record {
       cycles = b.state.now - a.state.now;

@@ -115,7 +115,8 @@ effect_hit c c' m m' t t' r line instr effect cost hits stores touches does cost
 
 -- with an effect that is the same on each view
 pub known_hit : (c c' : CacheState) (m m' : List ℕ) (t t' : Task) (r : TaskRecord) (line : ℕ) (effect : Effect) (cost hits stores : ℕ) (touches : List LineTouch) →
-    IsExecuted c.plant.target c.plant.memory (view_of c m) t cost effect.access (λ v. effect) → effect.change ≡ Stay → effect.input ≡ false → line ≡ t.pc / c.plant.line → lines_there c line effect.access →
+    IsExecuted c.plant.target c.plant.memory (view_of c m) t cost effect.access (λ v. effect) → effect.change ≡ Stay → effect.input ≡ false →
+    line ≡ t.pc / c.plant.line → lines_there c line effect.access →
     ((tasks : List Task) → issued_with (rule_of c.plant.policy) c.plant.line tasks effect.stored (t.pc / c.plant.line) (touch_of (rule_of c.plant.policy) c (t.pc / c.plant.line) m) effect.access
     ≡ record { work = record { tasks = tasks; cache = c'; memory = m' }; touches = touches }) →
     t' ≡ task_after r effect t → hits ≡ count_of effect.access → stores ≡ stores_in t.phase effect.stored →
@@ -181,5 +182,6 @@ comes_to p q view t pc word cost u same at aligned within reads costs outcome fi
     subst (λ (x : Plant). ComesTo x view t cost u) same come
 
 -- the lines of a load, by its address
-pub there_for : (c : CacheState) (line : ℕ) (l : DataLoad) (size : ℕ) → lines_there c line (Some (record { kind = LoadKind; address = l.address; size = size })) → lines_there c line (Some (load_access l))
+pub there_for : (c : CacheState) (line : ℕ) (l : DataLoad) (size : ℕ) →
+    lines_there c line (Some (record { kind = LoadKind; address = l.address; size = size })) → lines_there c line (Some (load_access l))
 there_for c line l size h = h

@@ -18,7 +18,8 @@ use Rattle.prem_lru.specs.CacheState.{touch_of, view_of}
 use Rattle.prem_gate.specs.declared.request.Request.{Request}
 use Rattle.prem_image.specs.declared.image.TaskRecord.{TaskRecord}
 use Rattle.prem_cycle.specs.State.{CoreState, Counts, MachineState, Setup, Task, first_task, no_record, record_of, rule_in, task_in}
-use Rattle.prem_cycle.specs.Issue.{Attempt, Executes, Issued, attempt_behind, attempt_in, attempt_of, attempt_seen, issued_with, owed_by, task_after, task_changed, task_moved, view_touched, with_store, with_touch, with_touches}
+use Rattle.prem_cycle.specs.Issue.{Attempt, Executes, Issued, attempt_behind, attempt_in, attempt_of, attempt_seen, issued_with, owed_by, task_after, task_changed, task_moved}
+use Rattle.prem_cycle.specs.Issue.{view_touched, with_store, with_touch, with_touches}
 use Rattle.prem_cycle.specs.Core.{CoreTurn, Issues, core_issue, core_issued, core_turn}
 use Rattle.prem_cycle.specs.Cycle.{is_full, log_size, output_count}
 use Rattle.prem_cycle.specs.Run.{cycles_of}

@@ -50,7 +50,8 @@ tasks_count (c ∷ cores) [] same = absurd (omega arith)
 tasks_count (c ∷ cores) (f ∷ facts) same = ap suc (tasks_count cores facts (omega arith))
 
 -- the words put out, by the tasks
-put_as : {P : Type 0} (p : Setting) (requests : List Request) (x : Parts P) → Stands p requests x → output_count (tasks_in x.work.cores.items (items_of x.facts.tasks)) ≡ put_out (items_of x.facts.tasks)
+put_as : {P : Type 0} (p : Setting) (requests : List Request) (x : Parts P) → Stands p requests x →
+    output_count (tasks_in x.work.cores.items (items_of x.facts.tasks)) ≡ put_out (items_of x.facts.tasks)
 put_as p requests x s = outputs_told x.work.cores.items (items_of x.facts.tasks) (cores_told p requests x s)
 
 steps_few : {P : Type 0} (p : Setting) (task : ℕ) (x : Parts P) (w : Works P) (ts : Sequence TaskFacts) (time hits stores : ℕ) → (l : Leaves p task x w ts time hits stores) →
@@ -61,7 +62,8 @@ steps_few p task x w ts time hits stores l =
     (omega (arith, far.0), far.1)
 
 -- each cycle puts at most one out
-pub onward_put : {P : Type 0} (p : Setting) (requests : List Request) (task : ℕ) (x : Parts P) (w : Works P) (ts : Sequence TaskFacts) (time hits stores : ℕ) → Stands p requests x → task < length x.work.cores.items →
+pub onward_put : {P : Type 0} (p : Setting) (requests : List Request) (task : ℕ) (x : Parts P) (w : Works P) (ts : Sequence TaskFacts)
+    (time hits stores : ℕ) → Stands p requests x → task < length x.work.cores.items →
     Leaves p task x w ts time hits stores → put_out (items_of ts) ≤ put_out (items_of x.facts.tasks) + time
 onward_put p requests task x w ts time hits stores s lt l =
     let work = work_in x.work (items_of x.facts.tasks) in
@@ -124,7 +126,8 @@ onward_stands p requests task x w ts time hits stores s l =
       rooms = rooms_kept requests x.facts (onward x w ts time hits stores).facts (record { outputs = l.rooms; intervals = refl; transfers = refl }) s.rooms;
     }
 
-pub onward_runs : {P : Type 0} (p : Setting) (requests : List Request) (task until : ℕ) (x : Parts P) (w : Works P) (ts : Sequence TaskFacts) (time hits stores : ℕ) → IsLone task until requests (state_of x) →
+pub onward_runs : {P : Type 0} (p : Setting) (requests : List Request) (task until : ℕ) (x : Parts P) (w : Works P) (ts : Sequence TaskFacts)
+    (time hits stores : ℕ) → IsLone task until requests (state_of x) →
     Stands p requests x → Runs x.now (4 * x.now) requests x → Leaves p task x w ts time hits stores → x.now + time ≤ until →
     Runs (x.now + time) (4 * (x.now + time)) requests (onward x w ts time hits stores)
 onward_runs p requests task until x w ts time hits stores h s r l le =

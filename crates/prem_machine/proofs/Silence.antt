@@ -49,7 +49,8 @@ cycles_behind rule p requests n m s later =
     let e : m ≡ n + (m - n) = omega (arith, later) in
     ap (λ i. cycles_of rule p requests i s) e ∙ cycles_of-add rule p requests n (m - n) s
 
-pub silent_then : (rule : ReplacementRule) (p : Setup) (requests : List Request) (n k : ℕ) (s : MachineState) → AreSilent rule p requests n s → AreSilent rule p requests k (cycles_of rule p requests n s) →
+pub silent_then : (rule : ReplacementRule) (p : Setup) (requests : List Request) (n k : ℕ) (s : MachineState) → AreSilent rule p requests n s →
+    AreSilent rule p requests k (cycles_of rule p requests n s) →
     AreSilent rule p requests (n + k) s
 silent_then rule p requests n k s a b =
     record {
@@ -226,7 +227,8 @@ owed_silent rule p requests task until s w n t d h from within full none =
 
 -- ---- a task's instruction that takes no input word
 
-no_word : (rule : ReplacementRule) (p : Setup) (now k : ℕ) (i : Interval) (w : Work) (a : Attempt) → lacks_word (task_in w k) a ≡ false → wants_word (step_by rule p now k i w (behind_touches rule p k w a)) ≡ None
+no_word : (rule : ReplacementRule) (p : Setup) (now k : ℕ) (i : Interval) (w : Work) (a : Attempt) → lacks_word (task_in w k) a ≡ false →
+    wants_word (step_by rule p now k i w (behind_touches rule p k w a)) ≡ None
 no_word rule p now k i w (Traps cause) h = refl
 no_word rule p now k i w (Executes instr e) h = ap (λ b. cond b (Some k) None) h
 

@@ -167,7 +167,8 @@ not_held [] begun cost is held = absurd (cc)
 not_held (n ∷ ns) true cost is held = absurd (cc)
 not_held (n ∷ ns) false cost is held = absurd (cc)
 
-pub missed_state : {P : Type 0} (p : Setting) (requests : List Request) (x : Parts P) (w : Works P) (f : Facts) (m : Moment) (c : CoreParts) (t : MachineState) (task until cost : ℕ) (touches : List LineTouch) →
+pub missed_state : {P : Type 0} (p : Setting) (requests : List Request) (x : Parts P) (w : Works P) (f : Facts) (m : Moment) (c : CoreParts)
+    (t : MachineState) (task until cost : ℕ) (touches : List LineTouch) →
     IsLone task until requests (state_of x) → Stands p requests x → x.trapped ≡ None → GoesOn p task x.work x.facts w f touches cost → IsKept x.work x.facts w f → x.now < until →
     core_with c.debt m ≡ core_issued x.now task x.moment.interval Stay cost (owed_by p.plant touches) (core_with x.core.debt x.moment) →
     t ≡ next_cycle (state_of (behind x w f x.now m c)) → put_out (items_of x.facts.tasks) + 2 ≤ log_size → length (items_of x.facts.intervals) < log_size →

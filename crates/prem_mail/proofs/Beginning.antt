@@ -46,7 +46,8 @@ tasks_counted [] inputs = refl
 tasks_counted (r ∷ rs) [] = ap suc (tasks_counted rs [])
 tasks_counted (r ∷ rs) (ws ∷ inputs) = ap suc (tasks_counted rs inputs)
 
-first_takes : (rs : List TaskRecord) (inputs : List (List ℕ)) (k : ℕ) → k < length inputs → length inputs ≡ length rs → TakesFrom (slice_index_or inputs k []) (slice_index_or (first_tasks rs inputs) k (first_task no_record []))
+first_takes : (rs : List TaskRecord) (inputs : List (List ℕ)) (k : ℕ) → k < length inputs → length inputs ≡ length rs →
+    TakesFrom (slice_index_or inputs k []) (slice_index_or (first_tasks rs inputs) k (first_task no_record []))
 first_takes rs [] k lt long = absurd (omega (arith, lt))
 first_takes [] (ws ∷ inputs) k lt long = absurd (omega (arith, long))
 first_takes (r ∷ rs) (ws ∷ inputs) zero lt long = record { used = omega arith; left = refl }
@@ -55,7 +56,8 @@ first_takes (r ∷ rs) (ws ∷ inputs) (suc k) lt long = first_takes rs inputs k
 fed : (tasks : ℕ) (lines : List ℕ) (feeds : List Feed) → All (IsFeed tasks lines) feeds → All (λ (f : Feed). f.task < tasks) feeds
 fed tasks lines feeds h k d lt = (h k d lt).task
 
-pub first_holds : (rule : ReplacementRule) (p : Setup) (content : List ℕ) (inputs : List (List ℕ)) (requests : List Request) (lines : List ℕ) (r : Running) (feeds given : List Feed) (words : Sequence (Sequence ℕ)) (lost : List ℕ) (count : ℕ) →
+pub first_holds : (rule : ReplacementRule) (p : Setup) (content : List ℕ) (inputs : List (List ℕ)) (requests : List Request) (lines : List ℕ)
+    (r : Running) (feeds given : List Feed) (words : Sequence (Sequence ℕ)) (lost : List ℕ) (count : ℕ) →
     r.state ≡ run_of rule p content inputs requests 0 → r.setup ≡ p → feeds ≡ given → All (IsFeed (length p.tasks) lines) given → lists_of words ≡ inputs → length inputs ≡ length p.tasks →
     All (λ list. inputs_size ≤ room_of list) (items_of words) → lost ≡ replicate count 0 → count ≡ length p.tasks → HoldsMail r feeds words lost
 first_holds rule p content inputs requests lines r feeds given words lost count is setup same each lists long rooms zeros counted =
@@ -74,6 +76,7 @@ first_holds rule p content inputs requests lines r feeds given words lost count 
           subst (λ (s : MachineState). TakesFrom (slice_index_or (lists_of words) k []) (slice_index_or s.work.tasks k (first_task no_record []))) (sym state)
           (subst (λ (ls : List (List ℕ)). TakesFrom (slice_index_or ls k []) (slice_index_or (first_tasks p.tasks inputs) k (first_task no_record []))) (sym lists)
           (first_takes p.tasks inputs k (omega (arith, lt, mapped, as_many)) long));
-      known = subst (λ n. All (λ (f : Feed). f.task < n) feeds) (sym tasks) (subst (λ (fs : List Feed). All (λ (f : Feed). f.task < length p.tasks) fs) (sym same) (fed (length p.tasks) lines given each));
+      known = subst (λ n. All (λ (f : Feed). f.task < n) feeds) (sym tasks)
+          (subst (λ (fs : List Feed). All (λ (f : Feed). f.task < length p.tasks) fs) (sym same) (fed (length p.tasks) lines given each));
       few = subst (λ (ns : List ℕ). All (λ n. n ≤ length r.state.log.transfers) ns) (sym zeros) (All-replicate (λ n. n ≤ length r.state.log.transfers) count 0 (omega arith));
     }

@@ -23,7 +23,8 @@ taken_long words t h =
     omega (arith, used, left)
 
 -- where the list has room, so has the machine
-pub room_for : (r : Running) (feeds : List Feed) (words : Sequence (Sequence ℕ)) (lost : List ℕ) (k : ℕ) → HoldsMail r feeds words lost → has_room k (lists_of words) ≡ true → has_room_for_word k r.state ≡ true
+pub room_for : (r : Running) (feeds : List Feed) (words : Sequence (Sequence ℕ)) (lost : List ℕ) (k : ℕ) → HoldsMail r feeds words lost →
+    has_room k (lists_of words) ≡ true → has_room_for_word k r.state ≡ true
 room_for r feeds words lost k h room =
     let there : k < length (lists_of words) = room_there k (lists_of words) room in
     let long : length (lists_of words) ≡ length (items_of words) = length-map (items_of words) items_of in
@@ -31,7 +32,8 @@ room_for r feeds words lost k h room =
     ap (λ n. nat_lt n inputs_size) (taken_long (slice_index_or (lists_of words) k []) (task_in r.state.work k) (h.taken k inside)) ∙ room_left k (lists_of words) room
 
 -- a run up to where it is stays
-pub stays_there : (r new : Running) (n : ℕ) → n ≡ r.state.now → new.state ≡ cycles_of (rule_in r.setup) r.setup r.requests (n - r.state.now) r.state → new.setup ≡ r.setup → new.requests ≡ r.requests → new ≡ r
+pub stays_there : (r new : Running) (n : ℕ) → n ≡ r.state.now → new.state ≡ cycles_of (rule_in r.setup) r.setup r.requests (n - r.state.now) r.state →
+    new.setup ≡ r.setup → new.requests ≡ r.requests → new ≡ r
 unfolding cycles_of
 stays_there r new n here state setup requests =
     let none : n - r.state.now ≡ 0 = omega (arith, here) in

@@ -47,7 +47,8 @@ issuer : (rule : ReplacementRule) (p : Setup) (now k i : ℕ) (v : Interval) (w 
 issuer rule p now k i v w (Traps cause) h = absurd (let x : None ≡ Some k = h in cc)
 issuer rule p now k i v w (Executes instr e) h = some_task (e.input && nat_le (length (task_in w i).left) 0) i k h
 
-finds_in : (rule : ReplacementRule) (p : Setup) (j now k : ℕ) (w : Work) (m : CoreMove) → k < length w.tasks → wants_word (step_in rule p now w m) ≡ Some k → past_of j (step_in rule p now (work_with k 0 w) m) ≡ false
+finds_in : (rule : ReplacementRule) (p : Setup) (j now k : ℕ) (w : Work) (m : CoreMove) → k < length w.tasks →
+    wants_word (step_in rule p now w m) ≡ Some k → past_of j (step_in rule p now (work_with k 0 w) m) ≡ false
 finds_in rule p j now k w (Passes c) lt h = absurd (let x : None ≡ Some k = h in cc)
 finds_in rule p j now k w (Issues i v) lt h =
     let same : i ≡ k = issuer rule p now k i v w (attempt_behind rule p i w) h in
@@ -57,7 +58,8 @@ finds_in rule p j now k w (Issues i v) lt h =
 -- ---- a cycle
 
 -- where a task wants a word and gets it, no task reads past the end in the coming cycle
-pub supplied_finds : (rule : ReplacementRule) (p : Setup) (requests : List Request) (s : MachineState) (k j : ℕ) → k < length s.work.tasks → wants_input_of rule p requests s ≡ Some k → past_of j (coming_step rule p requests (with_input k 0 s)) ≡ false
+pub supplied_finds : (rule : ReplacementRule) (p : Setup) (requests : List Request) (s : MachineState) (k j : ℕ) → k < length s.work.tasks →
+    wants_input_of rule p requests s ≡ Some k → past_of j (coming_step rule p requests (with_input k 0 s)) ≡ false
 supplied_finds rule p requests s k j lt h =
     let b : Turned = bus_at (arrivals_at requests s).gates s in
     ⊎_elim (λ (e : is_over s ≡ true). ap (past_of j) (coming_stays rule p requests (with_input k 0 s) (over_with k 0 s ∙ e)))

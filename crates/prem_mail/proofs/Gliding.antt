@@ -91,7 +91,8 @@ none_fed rule p requests (suc n) m wanted =
     ∙ receives_none (ended_between there.state next) (record { state = next; mail = m.mail })
 
 -- in either case, where the last value that is awaited may have come behind them
-either : (rule : ReplacementRule) (p : Setup) (requests : List Request) (feeds : List Feed) (n : ℕ) (m : Mailed) → ((k : ℕ) → k < n → wants_input_of rule p requests (cycles_of rule p requests k m.state) ≡ None) →
+either : (rule : ReplacementRule) (p : Setup) (requests : List Request) (feeds : List Feed) (n : ℕ) (m : Mailed) →
+    ((k : ℕ) → k < n → wants_input_of rule p requests (cycles_of rule p requests k m.state) ≡ None) →
     ((k : ℕ) → k < n → length (cycles_of rule p requests k m.state).log.transfers < awaited feeds (length m.state.log.transfers)) →
     mailed_by rule p requests feeds n m
     ≡ received_by feeds (ended_between m.state (cycles_of rule p requests n m.state)) (record { state = cycles_of rule p requests n m.state; mail = m.mail })

@@ -24,7 +24,8 @@ use Rattle.prem_mail.specs.Mailing.{Mailed, Mailing, supplied_to, received_by, c
 -- ---- why a run stops
 
 -- at now the last test is true, so why the run stops there is why it stops, unless that is the limit
-limited_by : (finished : Bool) (trapped : Option Trap) (full last : Bool) (stop : Stop) → stop_by finished trapped full true ≡ Some stop → stop_by finished trapped full last ≡ stop_unless_limit stop last
+limited_by : (finished : Bool) (trapped : Option Trap) (full last : Bool) (stop : Stop) → stop_by finished trapped full true ≡ Some stop →
+    stop_by finished trapped full last ≡ stop_unless_limit stop last
 limited_by true trapped full last stop e = let same : Finished ≡ stop = cc in ap (λ (x : Stop). stop_unless_limit x last) same
 limited_by false (Some t) full last stop e = let same : Trapped t.task t.pc t.cause ≡ stop = cc in ap (λ (x : Stop). stop_unless_limit x last) same
 limited_by false None true last stop e = let same : LogFull log_size ≡ stop = cc in ap (λ (x : Stop). stop_unless_limit x last) same

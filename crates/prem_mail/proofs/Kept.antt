@@ -1,6 +1,7 @@
 -- What a run in memory keeps.
 use Rattle.std.specs.Prelude.{is_some, slice_index, slice_index_or}
-use Rattle.std.proofs.Common.{◌≡◌, ℕ, zero, suc, ◌+◌, ◌<◌, ◌≤◌, true, false, List, [], ◌∷◌, ◌++◌, Option, None, Some, refl, ap, sym, ◌∙◌, subst, arith, ⊎_elim, length, drop, slice_set, length-append, length-set, All}
+use Rattle.std.proofs.Common.{◌≡◌, ℕ, zero, suc, ◌+◌, ◌<◌, ◌≤◌, true, false, List, [], ◌∷◌, ◌++◌, Option, None, Some, refl, ap, sym, ◌∙◌, subst, arith, ⊎_elim, length, drop}
+use Rattle.std.proofs.Common.{slice_set, length-append, length-set, All}
 use Rattle.std.proofs.lemmas.Bool.{cases_Bool, cases_eq}
 use Rattle.std.proofs.lemmas.List.{get_or-set_same, get_or-set_other, map-set, length-map}
 use Rattle.std.proofs.lemmas.List.Elements.{All-set}
@@ -45,7 +46,8 @@ word_comes words word t h =
 other_stays : (P : Task → Type 0) (tasks : List Task) (k j word : ℕ) → (j ≡ k → ⊥) → P (slice_index_or tasks j no_task) → P (slice_index_or (tasks_with k word tasks) j no_task)
 other_stays P tasks k j word other h = task_with P tasks k j word h (λ e. absurd (other e))
 
-pub brought_keeps : (r : Running) (feeds : List Feed) (words : Sequence (Sequence ℕ)) (lost : List ℕ) (k word : ℕ) (list : Sequence ℕ) → HoldsMail r feeds words lost → has_room k (lists_of words) ≡ true →
+pub brought_keeps : (r : Running) (feeds : List Feed) (words : Sequence (Sequence ℕ)) (lost : List ℕ) (k word : ℕ) (list : Sequence ℕ) →
+    HoldsMail r feeds words lost → has_room k (lists_of words) ≡ true →
     items_of list ≡ slice_index_or (lists_of words) k [] ++ word ∷ [] → inputs_size ≤ room_of list → HoldsMail (with_state r (with_input k word r.state)) feeds (with_item_at words k list) lost
 brought_keeps r feeds words lost k word list h room items big =
     let there : k < length (lists_of words) = room_there k (lists_of words) room in
@@ -60,12 +62,14 @@ brought_keeps r feeds words lost k word list h room items big =
       counts = h.counts;
       tasks = length-set r.state.work.tasks k (with_word word (task_in r.state.work k)) ∙ tasks;
       rooms = All-set (λ (l : Sequence ℕ). inputs_size ≤ room_of l) (items_of words) k list big h.rooms;
-      taken = λ j lt. ⊎_elim (λ (e : j ≡ k). here there in_tasks (h.taken k inside) new j e) (λ (other : j ≡ k → ⊥). there_too j (h.taken j (let x = length-set (items_of words) k list in omega (arith, lt, x))) new other) (cases_eq j k);
+      taken = λ j lt. ⊎_elim (λ (e : j ≡ k). here there in_tasks (h.taken k inside) new j e)
+          (λ (other : j ≡ k → ⊥). there_too j (h.taken j (let x = length-set (items_of words) k list in omega (arith, lt, x))) new other) (cases_eq j k);
       known = h.known;
       few = h.few;
     }
   where
-    here : k < length (lists_of words) → k < length r.state.work.tasks → TakesFrom (slice_index_or (lists_of words) k []) (task_in r.state.work k) → lists_of (with_item_at words k list) ≡ slice_set (lists_of words) k (items_of list) → (j : ℕ) → j ≡ k →
+    here : k < length (lists_of words) → k < length r.state.work.tasks → TakesFrom (slice_index_or (lists_of words) k []) (task_in r.state.work k) →
+        lists_of (with_item_at words k list) ≡ slice_set (lists_of words) k (items_of list) → (j : ℕ) → j ≡ k →
         TakesFrom (slice_index_or (lists_of (with_item_at words k list)) j []) (task_in (with_input k word r.state).work j)
     here there in_tasks takes new j e =
         let list_is : slice_index_or (lists_of (with_item_at words k list)) k [] ≡ slice_index_or (lists_of words) k [] ++ word ∷ [] =
@@ -75,7 +79,8 @@ brought_keeps r feeds words lost k word list h room items big =
         (subst (λ (l : List ℕ). TakesFrom l (task_in (with_input k word r.state).work k)) (sym list_is)
         (subst (λ (t : Task). TakesFrom (slice_index_or (lists_of words) k [] ++ word ∷ []) t) (sym task_is) (word_comes (slice_index_or (lists_of words) k []) word (task_in r.state.work k) takes)))
 
-    there_too : (j : ℕ) → TakesFrom (slice_index_or (lists_of words) j []) (task_in r.state.work j) → lists_of (with_item_at words k list) ≡ slice_set (lists_of words) k (items_of list) → (j ≡ k → ⊥) →
+    there_too : (j : ℕ) → TakesFrom (slice_index_or (lists_of words) j []) (task_in r.state.work j) →
+        lists_of (with_item_at words k list) ≡ slice_set (lists_of words) k (items_of list) → (j ≡ k → ⊥) →
         TakesFrom (slice_index_or (lists_of (with_item_at words k list)) j []) (task_in (with_input k word r.state).work j)
     there_too j takes new other =
         let list_is : slice_index_or (lists_of (with_item_at words k list)) j [] ≡ slice_index_or (lists_of words) j [] =
@@ -92,7 +97,9 @@ last_longer (Some x) xs = let e = length-append xs (x ∷ []) in omega (arith, e
 pub more_transfers : (rule : ReplacementRule) (p : Setup) (requests : List Request) (s : MachineState) → length s.log.transfers ≤ length (step_of rule p requests s).log.transfers
 more_transfers rule p requests s =
     let b : Turned = bus_at (arrivals_at requests s).gates s in
-    ⊎_elim (λ (e : is_over s ≡ true). (let x : length (step_of rule p requests s).log.transfers ≡ length s.log.transfers = ap (λ (u : MachineState). length u.log.transfers) (step_of-stays rule p requests s e) in omega (arith, x)))
+    ⊎_elim (λ (e : is_over s ≡ true).
+    (let x : length (step_of rule p requests s).log.transfers ≡ length s.log.transfers =
+    ap (λ (u : MachineState). length u.log.transfers) (step_of-stays rule p requests s e) in omega (arith, x)))
     (λ (e : is_over s ≡ false).
     (let x : length (step_of rule p requests s).log.transfers ≡ length (with_last b.turn.ended s.log.transfers) =
     ap (λ (u : MachineState). length u.log.transfers) (step_of-goes rule p requests s e)
@@ -104,7 +111,8 @@ more_transfers rule p requests s =
 few_more : (lost : List ℕ) (a b : ℕ) → a ≤ b → All (λ n. n ≤ a) lost → All (λ n. n ≤ b) lost
 few_more lost a b le h k d lt = let x = h k d lt in omega (arith, x, le)
 
-pub cycled_keeps : (r : Running) (feeds : List Feed) (words : Sequence (Sequence ℕ)) (lost : List ℕ) (s : MachineState) → s ≡ step_of (rule_in r.setup) r.setup r.requests r.state → HoldsMail r feeds words lost → HoldsMail (with_state r s) feeds words lost
+pub cycled_keeps : (r : Running) (feeds : List Feed) (words : Sequence (Sequence ℕ)) (lost : List ℕ) (s : MachineState) →
+    s ≡ step_of (rule_in r.setup) r.setup r.requests r.state → HoldsMail r feeds words lost → HoldsMail (with_state r s) feeds words lost
 cycled_keeps r feeds words lost s is h =
     subst (λ (u : MachineState). HoldsMail (with_state r u) feeds words lost) (sym is)
     (record {
@@ -114,12 +122,14 @@ cycled_keeps r feeds words lost s is h =
       rooms = h.rooms;
       taken = λ k lt. step_from (rule_in r.setup) r.setup r.requests (slice_index_or (lists_of words) k []) k r.state (h.taken k lt);
       known = h.known;
-      few = few_more lost (length r.state.log.transfers) (length (step_of (rule_in r.setup) r.setup r.requests r.state).log.transfers) (more_transfers (rule_in r.setup) r.setup r.requests r.state) h.few;
+      few = few_more lost (length r.state.log.transfers) (length (step_of (rule_in r.setup) r.setup r.requests r.state).log.transfers)
+          (more_transfers (rule_in r.setup) r.setup r.requests r.state) h.few;
     })
 
 -- ---- a value is lost
 
-lost_keeps : (r : Running) (feeds : List Feed) (words : Sequence (Sequence ℕ)) (lost : List ℕ) (k : ℕ) → HoldsMail r feeds words lost → k < length lost → All (λ n. n < length r.state.log.transfers) lost →
+lost_keeps : (r : Running) (feeds : List Feed) (words : Sequence (Sequence ℕ)) (lost : List ℕ) (k : ℕ) → HoldsMail r feeds words lost →
+    k < length lost → All (λ n. n < length r.state.log.transfers) lost →
     HoldsMail r feeds words (slice_set lost k (slice_index lost k + 1))
 lost_keeps r feeds words lost k h lt room =
     record {

@@ -2,7 +2,8 @@
 use Rattle.std.specs.Prelude.{◌==◌, ◌&&◌, ◌||◌, not, slice_index}
 use Rattle.std.specs.Option.{option_and_then}
 use Rattle.std.specs.Str.{bytes_eq}
-use Rattle.std.proofs.Common.{◌≡◌, ◌<◌, ◌+◌, ℕ, zero, suc, Bool, true, false, nat_lt, List, [], ◌∷◌, ◌++◌, length, map, get_or, slice_get, Option, None, Some, option_map, Result, Ok, Err, codes, refl, sym, ap, subst, ◌∙◌, arith, ◌⊎◌, inl, inr, length-append}
+use Rattle.std.proofs.Common.{◌≡◌, ◌<◌, ◌+◌, ℕ, zero, suc, Bool, true, false, nat_lt, List, [], ◌∷◌, ◌++◌, length, map, get_or, slice_get, Option, None, Some, option_map, Result}
+use Rattle.std.proofs.Common.{Ok, Err, codes, refl, sym, ap, subst, ◌∙◌, arith, ◌⊎◌, inl, inr, length-append}
 use Rattle.std.proofs.lemmas.Bool.{cases_Bool, ltb-true, eq-eqb}
 use Rattle.std.proofs.lemmas.List.{get_or-map}
 use Rattle.std.proofs.lemmas.List.Elements.{All-push}
@@ -57,9 +58,12 @@ record Behind (names : KnownNames) (have : List Feed) (f : Feed) : Type 0 where
   few : length have < feeds_size
 
 stated : (names : KnownNames) (have : List Feed) (t line : ℕ) (d : ℕ × ℕ) (f : Feed) → t < length names.tasks → Known names d →
-    (holds which.Slot (nat_lt line d.1) line >>= λ l. holds which.Twice (not (is_fed have d.0 l)) l >>= λ l. holds which.Limit (nat_lt (length have) feeds_size) (record { device = d.0; line = l; task = t })) ≡ Ok f → Behind names have f
+    (holds which.Slot (nat_lt line d.1) line >>= λ l. holds which.Twice (not (is_fed have d.0 l)) l >>= λ l. holds which.Limit
+    (nat_lt (length have) feeds_size) (record { device = d.0; line = l; task = t })) ≡ Ok f → Behind names have f
 stated names have t line d f inside k is =
-    bound (holds which.Slot (nat_lt line d.1) line) (λ l. holds which.Twice (not (is_fed have d.0 l)) l >>= λ l. holds which.Limit (nat_lt (length have) feeds_size) (record { device = d.0; line = l; task = t })) f is (λ l slot rest.
+    bound (holds which.Slot (nat_lt line d.1) line)
+    (λ l. holds which.Twice (not (is_fed have d.0 l)) l >>= λ l. holds which.Limit (nat_lt (length have) feeds_size)
+    (record { device = d.0; line = l; task = t })) f is (λ l slot rest.
     let s = held which.Slot (nat_lt line d.1) line l slot in
     bound (holds which.Twice (not (is_fed have d.0 l)) l) (λ l. holds which.Limit (nat_lt (length have) feeds_size) (record { device = d.0; line = l; task = t })) f rest (λ m twice more.
     let w = held which.Twice (not (is_fed have d.0 l)) l m twice in
@@ -84,11 +88,14 @@ feed_behind : (names : KnownNames) (have : List Feed) (words : FeedWords) (f : F
 unfolding feed_of
 feed_behind names have words f is =
     bound (wanted which.Task (task_of names words.task)) (λ t. wanted which.Device (device_of names words.device) >>= λ d. wanted which.Number (number_of words.line) >>= λ line.
-    holds which.Slot (nat_lt line d.1) line >>= λ l. holds which.Twice (not (is_fed have d.0 l)) l >>= λ l. holds which.Limit (nat_lt (length have) feeds_size) (record { device = d.0; line = l; task = t })) f is (λ t task rest1.
+    holds which.Slot (nat_lt line d.1) line >>= λ l. holds which.Twice (not (is_fed have d.0 l)) l >>= λ l. holds which.Limit
+    (nat_lt (length have) feeds_size) (record { device = d.0; line = l; task = t })) f is (λ t task rest1.
     bound (wanted which.Device (device_of names words.device)) (λ d. wanted which.Number (number_of words.line) >>= λ line.
-    holds which.Slot (nat_lt line d.1) line >>= λ l. holds which.Twice (not (is_fed have d.0 l)) l >>= λ l. holds which.Limit (nat_lt (length have) feeds_size) (record { device = d.0; line = l; task = t })) f rest1 (λ d device rest2.
+    holds which.Slot (nat_lt line d.1) line >>= λ l. holds which.Twice (not (is_fed have d.0 l)) l >>= λ l. holds which.Limit
+    (nat_lt (length have) feeds_size) (record { device = d.0; line = l; task = t })) f rest1 (λ d device rest2.
     bound (wanted which.Number (number_of words.line)) (λ line.
-    holds which.Slot (nat_lt line d.1) line >>= λ l. holds which.Twice (not (is_fed have d.0 l)) l >>= λ l. holds which.Limit (nat_lt (length have) feeds_size) (record { device = d.0; line = l; task = t })) f rest2 (λ line at_line rest3.
+    holds which.Slot (nat_lt line d.1) line >>= λ l. holds which.Twice (not (is_fed have d.0 l)) l >>= λ l. holds which.Limit
+    (nat_lt (length have) feeds_size) (record { device = d.0; line = l; task = t })) f rest2 (λ line at_line rest3.
     stated names have t line d f (position-Some (bytes_eq words.task) names.tasks t [] (found which.Task (task_of names words.task) t task)).0
     (known names words.device d (found which.Device (device_of names words.device) d device)) rest3)))
 
@@ -161,7 +168,8 @@ line_keeps names have next line is are =
     elim (cases_Bool (is_skipped line)) [
       | inl skipped ↦ subst (Are names) (same_Ok have next (rw skipped at is)) are
       | inr kept ↦ elim (cases_Bool (is_text line)) [
-        | inl text ↦ bound (wanted which.Word (first_of (words_of line))) (λ w. words_read names have w.0 w.1) next (rw (kept, text) at is) (λ w first rest. words_keep names have next w.0 w.1 rest are)
+        | inl text ↦ bound (wanted which.Word (first_of (words_of line))) (λ w. words_read names have w.0 w.1) next (rw (kept, text) at is)
+            (λ w first rest. words_keep names have next w.0 w.1 rest are)
         | inr other ↦ absurd (no_value which.Text next (rw (kept, other) at is))
       ]
     ]
@@ -172,11 +180,17 @@ lines_keep names n have last [] is are = subst (Are names) (same_Ok have last is
 lines_keep names n have last (line ∷ lines) is are =
     passes (line_read names have line) is (λ next read rest. lines_keep names (n + 1) next last lines rest (line_keeps names have next line read are))
   where
-    passes : {P : Type 0} (r : Result (List Feed) MailWhich) → at_line n r (λ next. lines_read names (n + 1) next lines) ≡ Ok last → ((next : List Feed) → r ≡ Ok next → lines_read names (n + 1) next lines ≡ Ok last → P) → P
+    passes : {P : Type 0} (r : Result (List Feed) MailWhich) → at_line n r (λ next. lines_read names (n + 1) next lines) ≡ Ok last →
+        ((next : List Feed) → r ≡ Ok next → lines_read names (n + 1) next lines ≡ Ok last → P) → P
     passes (Ok next) is go = go next refl is
     passes (Err w) is go = absurd (no_value (n, w) last is)
 
 -- the feeds of a mail file
 pub feeds_are_lawful : (bytes : List ℕ) (names : KnownNames) (feeds : List Feed) → feeds_of bytes names ≡ Ok feeds → AreFeeds (length names.tasks) (map (λ (d : List ℕ × ℕ). d.1) names.devices) feeds
 feeds_are_lawful bytes names feeds is =
-    lines_keep names 1 [] feeds (lines_of bytes) is (record { few = omega arith; each = λ k d lt. absurd (omega (arith, lt)); once = λ i j f g at_i at_j ed el. absurd (let x : None ≡ Some f = at_i in cc) })
+    lines_keep names 1 [] feeds (lines_of bytes) is
+    (record {
+      few = omega arith;
+      each = λ k d lt. absurd (omega (arith, lt));
+      once = λ i j f g at_i at_j ed el. absurd (let x : None ≡ Some f = at_i in cc);
+    })

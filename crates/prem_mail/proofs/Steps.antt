@@ -43,6 +43,7 @@ cycles_long rule p requests zero s = refl
 cycles_long rule p requests (suc n) s = step_long rule p requests (cycles_of rule p requests n s) ∙ cycles_long rule p requests n s
 
 -- a state of a run has as many as the machine
-pub run_long : (rule : ReplacementRule) (p : Setup) (content : List ℕ) (inputs : List (List ℕ)) (requests : List Request) (n : ℕ) → length (run_of rule p content inputs requests n).work.tasks ≡ length p.tasks
+pub run_long : (rule : ReplacementRule) (p : Setup) (content : List ℕ) (inputs : List (List ℕ)) (requests : List Request) (n : ℕ) →
+    length (run_of rule p content inputs requests n).work.tasks ≡ length p.tasks
 run_long rule p content inputs requests n =
     cycles_long rule p requests n (start_of p inputs (memory_of p content)) ∙ first_long p.tasks inputs

@@ -59,7 +59,9 @@ module _ (rule : ReplacementRule) (p : Setup) (requests : List Request) (feeds :
       let a = arrivals_at requests s in
       let b = bus_at a.gates s in
       let cycle = cycled_is m on in
-      let stopped = ap (λ (o : Option Trap). is_some o) (sym (cycle_trapped rule p a b s) ∙ ap (λ (x : MachineState). x.trapped) (sym cycle) ∙ sym (received_trapped feeds (ended m) (stepped rule p requests m))) ∙ some in
+      let stopped = ap (λ (o : Option Trap). is_some o)
+      (sym (cycle_trapped rule p a b s) ∙ ap (λ (x : MachineState). x.trapped) (sym cycle)
+      ∙ sym (received_trapped feeds (ended m) (stepped rule p requests m))) ∙ some in
       received_now feeds (ended m) (stepped rule p requests m)
       ∙ ap (λ (x : MachineState). x.now) cycle ∙ cycle_traps rule p a b s stopped ∙ supplied_now (wants_input_of rule p requests m.state) m
 

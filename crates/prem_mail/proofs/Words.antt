@@ -50,13 +50,15 @@ carries_right : (clash : Bool) (c : Carried) (s : GatesState) (memory : List ℕ
 carries_right clash c s memory h =
     cond_both (leb c.left 1) (ends clash c s memory) (goes_on clash c s memory) EndsRight (λ _. value_right (slot_of s c) c.request.put memory h) (λ _. tt)
 
-starts_right : (now : ℕ) (w : Window) (core : Bool) (start : Option Carried) (s : GatesState) (memory : List ℕ) → startable now w s ≡ start → HoldAll PutsWord s → EndsRight (starts core start s memory)
+starts_right : (now : ℕ) (w : Window) (core : Bool) (start : Option Carried) (s : GatesState) (memory : List ℕ) → startable now w s ≡ start →
+    HoldAll PutsWord s → EndsRight (starts core start s memory)
 starts_right now w core None s memory is h = tt
 starts_right now w core (Some c) s memory is h =
     let x : IsStart now w s.gates c = startable_is now w s c is in
     carries_right core c (taken c.device s) memory (head_all PutsWord (queue_at s c.device) c.request x.head (h.queues c.device))
 
-free_right : (now : ℕ) (w : Window) (core : CoreWant) (start : Option Carried) (s : GatesState) (memory : List ℕ) → startable now w s ≡ start → HoldAll PutsWord s → EndsRight (bus_free core start s memory)
+free_right : (now : ℕ) (w : Window) (core : CoreWant) (start : Option Carried) (s : GatesState) (memory : List ℕ) → startable now w s ≡ start →
+    HoldAll PutsWord s → EndsRight (bus_free core start s memory)
 free_right now w No start s memory is h = starts_right now w false start s memory is h
 free_right now w New start s memory is h = starts_right now w true start s memory is h
 free_right now w Held start s memory is h = tt
@@ -75,14 +77,16 @@ push_right : (o : Option Transfer) (xs : List Transfer) → IfSome o IsRight →
 push_right None xs x h = h
 push_right (Some t) xs x h = All-push IsRight xs t h x
 
-step_right : (rule : ReplacementRule) (p : Setup) (requests : List Request) (s : MachineState) → PutWords requests → HoldAll PutsWord s.gates → All IsRight s.log.transfers → All IsRight (step_of rule p requests s).log.transfers
+step_right : (rule : ReplacementRule) (p : Setup) (requests : List Request) (s : MachineState) → PutWords requests → HoldAll PutsWord s.gates →
+    All IsRight s.log.transfers → All IsRight (step_of rule p requests s).log.transfers
 step_right rule p requests s puts h right =
     let a : Arrivals = arrivals_at requests s in
     cond_both (is_over s) s (cycle_of rule p requests s) (λ (x : MachineState). All IsRight x.log.transfers) (λ _. right)
     (λ _. subst (All IsRight) (sym (cycle_transfers rule p a (bus_at a.gates s) s))
     (push_right (bus_at a.gates s).turn.ended s.log.transfers (turn_right s.now s.core.window (want_of s.core.debt) a.gates s.work.memory (arrivals_all PutsWord s.now requests _ puts h)) right))
 
-run_right : (rule : ReplacementRule) (p : Setup) (content : List ℕ) (inputs : List (List ℕ)) (requests : List Request) (n : ℕ) → PutWords requests → All IsRight (run_of rule p content inputs requests n).log.transfers
+run_right : (rule : ReplacementRule) (p : Setup) (content : List ℕ) (inputs : List (List ℕ)) (requests : List Request) (n : ℕ) → PutWords requests →
+    All IsRight (run_of rule p content inputs requests n).log.transfers
 unfolding cycles_of
 run_right rule p content inputs requests zero puts = All-nil IsRight
 run_right rule p content inputs requests (suc n) puts =

@@ -14,7 +14,8 @@ use Rattle.prem_mail.specs.declared.feed.Feed.{Feed}
 use Rattle.prem_mail.specs.Delivery.{delivered_in}
 
 -- the lists that are delivered within n cycles are lists of input words; the state of the run on them is then good, and from the limit on the run has finished
-pub record IsGoodRun (rule : ReplacementRule) (p : Setup) (content : List ℕ) (promises : List (List ℕ) → ℕ → Promise) (limit : ℕ) (lists : List (List ℕ)) (requests : List Request) (n : ℕ) : Type 0 where
+pub record IsGoodRun (rule : ReplacementRule) (p : Setup) (content : List ℕ) (promises : List (List ℕ) → ℕ → Promise) (limit : ℕ)
+    (lists : List (List ℕ)) (requests : List Request) (n : ℕ) : Type 0 where
   pub inputs : AreInputs p lists
   pub good : Good rule p content lists requests (promises lists) n
   pub finished : limit ≤ n → is_finished (run_of rule p content lists requests n) ≡ true

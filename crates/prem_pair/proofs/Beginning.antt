@@ -17,7 +17,8 @@ use Rattle.prem_pair.specs.Cycles.Pair.{PairState, pair_cycles, pair_run}
 use Rattle.prem_pair.specs.Sides.{Arrives}
 use Rattle.prem_pair.specs.BothOf.{GoOn, pair_of}
 
-pub goes_first : {P Q : Type 0} (image behind : Image) (run other : RunInput) (requests : List Request) (x : Parts P) (y : Parts Q) → requests ≡ items_of run.requests → StartsAs image run x → StartsAs behind other y →
+pub goes_first : {P Q : Type 0} (image behind : Image) (run other : RunInput) (requests : List Request) (x : Parts P) (y : Parts Q) →
+    requests ≡ items_of run.requests → StartsAs image run x → StartsAs behind other y →
     GoOn requests (record { first = x; second = y; holder = Nobody })
 goes_first image behind run other requests x y e s t =
     let r : Runs x.now (4 * x.now) (items_of run.requests) x = runs_first image run x s in
@@ -32,7 +33,8 @@ goes_first image behind run other requests x y e s t =
 
 pub pair_first : {P Q : Type 0} (image behind : Image) (run other : RunInput) (x : Parts P) (y : Parts Q) → StartsAs image run x → StartsAs behind other y →
     pair_of (record { first = x; second = y; holder = Nobody })
-    ≡ pair_run (rule_in (setup_of image)) (rule_in (setup_of behind)) (setup_of image) (setup_of behind) (items_of image.content) (items_of behind.content) (words_of run) (words_of other) (items_of run.requests) 0
+    ≡ pair_run (rule_in (setup_of image)) (rule_in (setup_of behind)) (setup_of image) (setup_of behind) (items_of image.content)
+    (items_of behind.content) (words_of run) (words_of other) (items_of run.requests) 0
 unfolding pair_cycles cycles_of
 pair_first image behind run other x y s t =
     let a : state_of x ≡ image_run (rule_in (setup_of image)) image run 0 = state_first image run x s in

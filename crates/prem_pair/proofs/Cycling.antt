@@ -21,7 +21,9 @@ use Rattle.prem_pair.specs.BothOf.{holder_in, bus_in}
 
 -- ---- the cores
 
-pub first_is : (p : Setup) (h : Holder) (a : Arrivals) (b : Turned) (s : PairState) (x y : MachineState) (holds had : Bool) → x ≡ bus_done a (bus_first h b s) s.first → holds ≡ is_first h → had ≡ (b.turn.core && is_first h) → y ≡ core_done p (move_had holds had p x.now x.sched x.work x.core) x → y ≡ first_acted (rule_in p) p h a b s
+pub first_is : (p : Setup) (h : Holder) (a : Arrivals) (b : Turned) (s : PairState) (x y : MachineState) (holds had : Bool) →
+    x ≡ bus_done a (bus_first h b s) s.first → holds ≡ is_first h → had ≡ (b.turn.core && is_first h) →
+    y ≡ core_done p (move_had holds had p x.now x.sched x.work x.core) x → y ≡ first_acted (rule_in p) p h a b s
 first_is p h a b s x y holds had ex eh ea ey =
     ey ∙ ap (λ (z : MachineState). core_done p (move_had holds had p z.now z.sched z.work z.core) z) ex
     ∙ ap (λ v. core_done p (move_had v had p s.first.now s.first.sched (bus_done a (bus_first h b s) s.first).work s.first.core) (bus_done a (bus_first h b s) s.first)) eh
@@ -30,12 +32,14 @@ first_is p h a b s x y holds had ex eh ea ey =
 no_more : (n : Counts) → n ≡ with_clash false n
 no_more n = let e : n.clashes ≡ n.clashes + 0 = omega arith in λ i. record n { clashes = e i }
 
-pub second_is : (p : Setup) (h : Holder) (b : Turned) (s : PairState) (x y : MachineState) (holds had : Bool) → x ≡ s.second → holds ≡ is_second h → had ≡ (b.turn.core && is_second h) → y ≡ core_done p (move_had holds had p x.now x.sched x.work x.core) x → y ≡ second_acted (rule_in p) p h b s
+pub second_is : (p : Setup) (h : Holder) (b : Turned) (s : PairState) (x y : MachineState) (holds had : Bool) → x ≡ s.second → holds ≡ is_second h →
+    had ≡ (b.turn.core && is_second h) → y ≡ core_done p (move_had holds had p x.now x.sched x.work x.core) x → y ≡ second_acted (rule_in p) p h b s
 second_is p h b s x y holds had ex eh ea ey =
     ey ∙ ap (λ (z : MachineState). core_done p (move_had holds had p z.now z.sched z.work z.core) z) ex
     ∙ ap (λ v. core_done p (move_had v had p s.second.now s.second.sched s.second.work s.second.core) s.second) eh
     ∙ ap (λ v. core_done p (move_had (is_second h) v p s.second.now s.second.sched s.second.work s.second.core) s.second) ea
-    ∙ ap (λ (n : Counts). core_done p (move_had (is_second h) (b.turn.core && is_second h) p s.second.now s.second.sched s.second.work s.second.core) (record s.second { log = record s.second.log { counts = n } })) (no_more s.second.log.counts)
+    ∙ ap (λ (n : Counts). core_done p (move_had (is_second h) (b.turn.core && is_second h) p s.second.now s.second.sched s.second.work s.second.core)
+    (record s.second { log = record s.second.log { counts = n } })) (no_more s.second.log.counts)
 
 -- ---- the cycle
 
@@ -64,8 +68,11 @@ module _ (p q : Setup) (requests : List Request) (s : PairState) where
       sym (ap (λ v. cond v (record { first = f; second = s.second; holder = h }) (second_done h b f g)) e1
       ∙ ap (λ v. cond v (record { first = ended_in_place f; second = g; holder = h }) all) e2)
 
-pub same_pair : (x x' y y' : MachineState) (h h' : Holder) (P : PairState → Type 0) → x ≡ x' → y ≡ y' → h ≡ h' → P (record { first = x'; second = y'; holder = h' }) → P (record { first = x; second = y; holder = h })
-same_pair x x' y y' h h' P ex ey eh r = subst (λ v. P (record { first = v; second = y; holder = h })) (sym ex) (subst (λ v. P (record { first = x'; second = v; holder = h })) (sym ey) (subst (λ v. P (record { first = x'; second = y'; holder = v })) (sym eh) r))
+pub same_pair : (x x' y y' : MachineState) (h h' : Holder) (P : PairState → Type 0) → x ≡ x' → y ≡ y' → h ≡ h' →
+    P (record { first = x'; second = y'; holder = h' }) → P (record { first = x; second = y; holder = h })
+same_pair x x' y y' h h' P ex ey eh r =
+    subst (λ v. P (record { first = v; second = y; holder = h })) (sym ex)
+    (subst (λ v. P (record { first = x'; second = v; holder = h })) (sym ey) (subst (λ v. P (record { first = x'; second = y'; holder = v })) (sym eh) r))
 
 -- ---- the token behind it
 
@@ -96,9 +103,11 @@ with_free : (core : CoreWant) (carried o : Option Carried) (s : GatesState) (mem
 with_free core (Some c) o s memory = carries_free (wants core) c s memory
 with_free core None o s memory = free_free core o s memory
 
-pub turn_free : (now : ℕ) (w : Window) (core : CoreWant) (s : GatesState) (memory : List ℕ) → is_some (bus_turn now w core s memory).turn.ended ≡ true → (bus_turn now w core s memory).gates.carried ≡ None
+pub turn_free : (now : ℕ) (w : Window) (core : CoreWant) (s : GatesState) (memory : List ℕ) →
+    is_some (bus_turn now w core s memory).turn.ended ≡ true → (bus_turn now w core s memory).gates.carried ≡ None
 turn_free now w core s memory = with_free core s.carried (startable now w s) s memory
 
 pub bus_frees : (requests : List Request) (s : PairState) → is_some (bus_in requests s).turn.ended ≡ true → (bus_in requests s).gates.carried ≡ None
 bus_frees requests s =
-    turn_free s.first.now (window_given s.first.now s.holder (holder_in requests s)) (want_with (holder_in requests s) (want_of s.first.core.debt) (want_of s.second.core.debt)) (arrivals_at requests s.first).gates s.first.work.memory
+    turn_free s.first.now (window_given s.first.now s.holder (holder_in requests s))
+    (want_with (holder_in requests s) (want_of s.first.core.debt) (want_of s.second.core.debt)) (arrivals_at requests s.first).gates s.first.work.memory

@@ -49,7 +49,8 @@ pub one_rests : (a b : Bool) → a ≡ false → (a && b) ≡ false
 one_rests true b e = absurd (cc)
 one_rests false b e = refl
 
-stop_from : (limit : ℕ) (s : PairState) (f g last : Bool) → both_finished s ≡ false → s.first.trapped ≡ None → s.second.trapped ≡ None → is_full s.first ≡ f → is_full s.second ≡ g → (s.first.now == limit) ≡ last → stop_by false None None f g last ≡ pair_stop_of limit s
+stop_from : (limit : ℕ) (s : PairState) (f g last : Bool) → both_finished s ≡ false → s.first.trapped ≡ None → s.second.trapped ≡ None →
+    is_full s.first ≡ f → is_full s.second ≡ g → (s.first.now == limit) ≡ last → stop_by false None None f g last ≡ pair_stop_of limit s
 stop_from limit s f g last a b c d e h =
     sym (ap (λ x. stop_by x s.first.trapped s.second.trapped (is_full s.first) (is_full s.second) (s.first.now == limit)) a
     ∙ ap (λ x. stop_by false x s.second.trapped (is_full s.first) (is_full s.second) (s.first.now == limit)) b
@@ -61,10 +62,12 @@ stop_from limit s f g last a b c d e h =
 pub stop_full : (limit : ℕ) (s : PairState) → both_finished s ≡ false → s.first.trapped ≡ None → s.second.trapped ≡ None → is_full s.first ≡ true → Some (LogFull 0 log_size) ≡ pair_stop_of limit s
 stop_full limit s a b c d = stop_from limit s true (is_full s.second) (s.first.now == limit) a b c d refl refl
 
-pub stop_other : (limit : ℕ) (s : PairState) → both_finished s ≡ false → s.first.trapped ≡ None → s.second.trapped ≡ None → is_full s.first ≡ false → is_full s.second ≡ true → Some (LogFull 1 log_size) ≡ pair_stop_of limit s
+pub stop_other : (limit : ℕ) (s : PairState) → both_finished s ≡ false → s.first.trapped ≡ None → s.second.trapped ≡ None → is_full s.first ≡ false →
+    is_full s.second ≡ true → Some (LogFull 1 log_size) ≡ pair_stop_of limit s
 stop_other limit s a b c d e = stop_from limit s false true (s.first.now == limit) a b c d e refl
 
-pub stop_else : (limit : ℕ) (s : PairState) → both_finished s ≡ false → s.first.trapped ≡ None → s.second.trapped ≡ None → is_full s.first ≡ false → is_full s.second ≡ false → then_some (s.first.now == limit) Limit ≡ pair_stop_of limit s
+pub stop_else : (limit : ℕ) (s : PairState) → both_finished s ≡ false → s.first.trapped ≡ None → s.second.trapped ≡ None → is_full s.first ≡ false →
+    is_full s.second ≡ false → then_some (s.first.now == limit) Limit ≡ pair_stop_of limit s
 stop_else limit s a b c d e = then_is (s.first.now == limit) ∙ stop_from limit s false false (s.first.now == limit) a b c d e refl
 
 over_trapped : (fin t f : Bool) → t ≡ true → (fin || t || f) ≡ true
@@ -94,7 +97,8 @@ pub record GoesTo (limit : ℕ) (from m : PairRunning) : Type 0 where
   pub first : m.first ≡ from.first
   pub second : m.second ≡ from.second
   pub requests : m.requests ≡ from.requests
-  pub left : pair_cycles (rule_in from.first) (rule_in from.second) from.first from.second from.requests (limit - m.state.first.now) m.state ≡ pair_cycles (rule_in from.first) (rule_in from.second) from.first from.second from.requests (limit - from.state.first.now) from.state
+  pub left : pair_cycles (rule_in from.first) (rule_in from.second) from.first from.second from.requests (limit - m.state.first.now) m.state
+      ≡ pair_cycles (rule_in from.first) (rule_in from.second) from.first from.second from.requests (limit - from.state.first.now) from.state
 
 abbrev going : Bool → ℕ
 going true = 0
@@ -116,12 +120,14 @@ pub within_next : (limit now now' : ℕ) (t : Bool) → now < limit → (t ≡ f
 within_next limit now now' false lt next stays = omega (arith, next refl)
 within_next limit now now' true lt next stays = omega (arith, stays refl)
 
-step_goes : (m : PairRunning) (s : PairState) → is_pair_over s ≡ false → pair_step (rule_in m.first) (rule_in m.second) m.first m.second m.requests s ≡ pair_cycle (rule_in m.first) (rule_in m.second) m.first m.second m.requests s
+step_goes : (m : PairRunning) (s : PairState) → is_pair_over s ≡ false →
+    pair_step (rule_in m.first) (rule_in m.second) m.first m.second m.requests s ≡ pair_cycle (rule_in m.first) (rule_in m.second) m.first m.second m.requests s
 step_goes m s e =
     let all : PairState = pair_cycle (rule_in m.first) (rule_in m.second) m.first m.second m.requests s in
     ap (λ v. cond v s all) e
 
-pub goes_to : (limit : ℕ) (from m : PairRunning) (s : PairState) → GoesTo limit from m → pair_stop_of limit m.state ≡ None → s ≡ pair_cycle (rule_in m.first) (rule_in m.second) m.first m.second m.requests m.state →
+pub goes_to : (limit : ℕ) (from m : PairRunning) (s : PairState) → GoesTo limit from m → pair_stop_of limit m.state ≡ None →
+    s ≡ pair_cycle (rule_in m.first) (rule_in m.second) m.first m.second m.requests m.state →
     (one_trapped s ≡ false → s.first.now ≡ m.state.first.now + 1) → (one_trapped s ≡ true → s.first.now ≡ m.state.first.now) → GoesTo limit from (with_state m s)
 unfolding pair_cycles
 goes_to limit from m s g none is next stays =
@@ -155,14 +161,17 @@ ends_at limit from m stop g some =
           ap (λ n. goes_from from n m.state) z ∙ g.left)
     ]
 
-left_smaller : (limit n n' : ℕ) (o o' t : Bool) → o ≡ false → (t ≡ true → o' ≡ true) → n < limit → (t ≡ false → n' ≡ n + 1) → (t ≡ true → n' ≡ n) → 2 * (limit - n') + going o' < 2 * (limit - n) + going o
+left_smaller : (limit n n' : ℕ) (o o' t : Bool) → o ≡ false → (t ≡ true → o' ≡ true) → n < limit → (t ≡ false → n' ≡ n + 1) → (t ≡ true → n' ≡ n) →
+    2 * (limit - n') + going o' < 2 * (limit - n) + going o
 left_smaller limit n n' true o' t e h lt next stays = absurd (cc)
 left_smaller limit n n' false true true e h lt next stays = omega (arith, stays refl)
 left_smaller limit n n' false false true e h lt next stays = absurd (let x : false ≡ true = h refl in cc)
 left_smaller limit n n' false true false e h lt next stays = omega (arith, lt, next refl)
 left_smaller limit n n' false false false e h lt next stays = omega (arith, lt, next refl)
 
-pub smaller : (limit : ℕ) (s s' : PairState) → s.first.now ≤ limit → pair_stop_of limit s ≡ None → (one_trapped s' ≡ false → s'.first.now ≡ s.first.now + 1) → (one_trapped s' ≡ true → s'.first.now ≡ s.first.now) → cycles_left limit s' < cycles_left limit s
+pub smaller : (limit : ℕ) (s s' : PairState) → s.first.now ≤ limit → pair_stop_of limit s ≡ None →
+    (one_trapped s' ≡ false → s'.first.now ≡ s.first.now + 1) → (one_trapped s' ≡ true → s'.first.now ≡ s.first.now) →
+    cycles_left limit s' < cycles_left limit s
 smaller limit s s' le none next stays =
     let on = goes_on limit s none in
     let last : (s.first.now == limit) ≡ false = on.1 in
@@ -196,7 +205,8 @@ passes_less limit at s t lt most now =
     omega (arith, lt, most, now, a)
 
 -- cycles that are taken, one that traps too
-takes_by : (limit : ℕ) (from m : PairRunning) (s : PairState) (t : Bool) → one_trapped s ≡ t → GoesTo limit from m → m.state.first.now ≤ s.first.now → s.first.now ≤ limit → (t ≡ true → s.first.now < limit) →
+takes_by : (limit : ℕ) (from m : PairRunning) (s : PairState) (t : Bool) → one_trapped s ≡ t → GoesTo limit from m → m.state.first.now ≤ s.first.now →
+    s.first.now ≤ limit → (t ≡ true → s.first.now < limit) →
     s ≡ pair_cycles (rule_in m.first) (rule_in m.second) m.first m.second m.requests (s.first.now - m.state.first.now + (if t then 1 else 0)) m.state → GoesTo limit from (with_state m s)
 takes_by limit from m s false e g le most early is =
     let z : s.first.now - m.state.first.now + 0 ≡ s.first.now - m.state.first.now = omega arith in
@@ -227,7 +237,8 @@ pub takes_to : (limit : ℕ) (from m : PairRunning) (s : PairState) → GoesTo l
     s ≡ pair_cycles (rule_in m.first) (rule_in m.second) m.first m.second m.requests (cycles_taken m.state s) m.state → GoesTo limit from (with_state m s)
 takes_to limit from m s g le most early is = takes_by limit from m s (one_trapped s) refl g le most early is
 
-takes_less_by : (limit : ℕ) (s t : PairState) (b : Bool) → one_trapped t ≡ b → is_pair_over s ≡ false → s.first.now ≤ t.first.now → t.first.now ≤ limit → 1 ≤ t.first.now - s.first.now + (if b then 1 else 0) →
+takes_less_by : (limit : ℕ) (s t : PairState) (b : Bool) → one_trapped t ≡ b → is_pair_over s ≡ false → s.first.now ≤ t.first.now →
+    t.first.now ≤ limit → 1 ≤ t.first.now - s.first.now + (if b then 1 else 0) →
     cycles_left limit t < cycles_left limit s
 takes_less_by limit s t false e on le most some = passes_less limit t.first.now s t (omega (arith, some)) most refl
 takes_less_by limit s t true e on le most some =

@@ -12,7 +12,9 @@ use Rattle.prem_pair.specs.declared.cycles.state.Holder.{Holder}
 use Rattle.prem_pair.specs.declared.cycles.state.Holder.TheVariants.{Nobody, First, Second, Gates}
 use Rattle.prem_pair.specs.Cycles.Token.{holder_with, empty_window, window_given, want_with, two_want, is_gates}
 
-pub same_bus : (now : ℕ) (before h h' : Holder) (w : Window) (v x y x' y' : CoreWant) (g g' : GatesState) (memory : List ℕ) → h ≡ h' → w ≡ window_given now before h → v ≡ want_with h x y → x ≡ x' → y ≡ y' → g ≡ g' → bus_turn now w v g memory ≡ bus_turn now (window_given now before h') (want_with h' x' y') g' memory
+pub same_bus : (now : ℕ) (before h h' : Holder) (w : Window) (v x y x' y' : CoreWant) (g g' : GatesState) (memory : List ℕ) → h ≡ h' →
+    w ≡ window_given now before h → v ≡ want_with h x y → x ≡ x' → y ≡ y' → g ≡ g' →
+    bus_turn now w v g memory ≡ bus_turn now (window_given now before h') (want_with h' x' y') g' memory
 same_bus now before h h' w v x y x' y' g g' memory eh ew ev ex ey eg =
     ap (λ z. bus_turn now z v g memory) ew ∙ ap (λ z. bus_turn now (window_given now before h) z g memory) ev
     ∙ ap (λ z. bus_turn now (window_given now before z) (want_with z x y) g memory) eh
@@ -20,7 +22,8 @@ same_bus now before h h' w v x y x' y' g g' memory eh ew ev ex ey eg =
     ∙ ap (λ z. bus_turn now (window_given now before h') (want_with h' x' z) g memory) ey
     ∙ ap (λ z. bus_turn now (window_given now before h') (want_with h' x' y') z memory) eg
 
-pub same_clash : (b r s t : Bool) (x y x' y' : CoreWant) (h h' : Holder) → b ≡ two_want r s t → r ≡ wants x → s ≡ wants y → t ≡ is_gates h → x ≡ x' → y ≡ y' → h ≡ h' → b ≡ two_want (wants x') (wants y') (is_gates h')
+pub same_clash : (b r s t : Bool) (x y x' y' : CoreWant) (h h' : Holder) → b ≡ two_want r s t → r ≡ wants x → s ≡ wants y → t ≡ is_gates h → x ≡ x' →
+    y ≡ y' → h ≡ h' → b ≡ two_want (wants x') (wants y') (is_gates h')
 same_clash b r s t x y x' y' h h' eb er es et ex ey eh =
     eb ∙ ap (λ z. two_want z s t) (er ∙ ap wants ex) ∙ ap (λ z. two_want (wants x') z t) (es ∙ ap wants ey) ∙ ap (λ z. two_want (wants x') (wants y') z) (et ∙ ap is_gates eh)
 
@@ -54,7 +57,8 @@ closed now core s memory none =
     ∙ ap (λ o. (bus_with core None o s memory).gates.carried) (none_startable now 0 s.gates) ∙ none_carried core s memory ∙ none
 
 -- nothing is carried behind a cycle in which the gates don't hold the token
-pub still_free : (now : ℕ) (before h : Holder) (a b x : Bool) (core : CoreWant) (s : GatesState) (memory : List ℕ) → h ≡ holder_with before a b x → h ≢ Gates → (before ≢ Gates → s.carried ≡ None) → (bus_turn now (window_given now before h) core s memory).gates.carried ≡ None
+pub still_free : (now : ℕ) (before h : Holder) (a b x : Bool) (core : CoreWant) (s : GatesState) (memory : List ℕ) → h ≡ holder_with before a b x →
+    h ≢ Gates → (before ≢ Gates → s.carried ≡ None) → (bus_turn now (window_given now before h) core s memory).gates.carried ≡ None
 still_free now Gates h a b x core s memory e ne free = absurd (ne e)
 still_free now First h a b x core s memory e ne free = closed now core s memory (free (λ y. cc))
 still_free now Second h a b x core s memory e ne free = closed now core s memory (free (λ y. cc))

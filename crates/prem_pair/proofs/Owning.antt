@@ -42,7 +42,8 @@ use Rattle.prem_pair.specs.MayStretch.{MayStretch}
 use Rattle.prem_pair.specs.Sides.{Arrives, Goes}
 use Rattle.prem_pair.proofs.CyclesLemmas.Own.{as_going, going_state, issue_own, pay_own}
 
-pub kept_goes : {P : Type 0} (x : Parts P) (w : Works P) (f : Facts) (m : Moment) (c : CoreParts) → All (λ j. 1 ≤ j.period) x.sched → Goes (4 * x.now) x → IsKept x.work x.facts w f → m.mode ≡ x.moment.mode →
+pub kept_goes : {P : Type 0} (x : Parts P) (w : Works P) (f : Facts) (m : Moment) (c : CoreParts) → All (λ j. 1 ≤ j.period) x.sched →
+    Goes (4 * x.now) x → IsKept x.work x.facts w f → m.mode ≡ x.moment.mode →
     m.interval.first ≡ x.moment.interval.first → Goes (4 * (x.now + 1)) (behind x w f (x.now + 1) m c)
 kept_goes x w f m c periods r k mode first =
     let M : Mode → Type 0 = λ d. ModeReady x.now x.sched d in
@@ -59,7 +60,8 @@ issued_state : {P : Type 0} (x : Parts P) (w : Works P) (f : Facts) (m : Moment)
 issued_state x w f m c task cost owed none k core =
     same_state (state_of (behind x w f (x.now + 1) m c)) (going_state (state_of x) task (work_in w (items_of f.tasks)) (counts_in f) (x.now + 1) owed (cost - 1)) refl refl refl core refl k.log none
 
-pub issues_own : {P : Type 0} (p : Setting) (holds : Bool) (x : Parts P) (w : Works P) (f : Facts) (m : Moment) (c : CoreParts) (task cost : ℕ) (touches : List LineTouch) (owed : List ℕ) → IsGoing task (state_of x) →
+pub issues_own : {P : Type 0} (p : Setting) (holds : Bool) (x : Parts P) (w : Works P) (f : Facts) (m : Moment) (c : CoreParts) (task cost : ℕ)
+    (touches : List LineTouch) (owed : List ℕ) → IsGoing task (state_of x) →
     x.core.debt.cost ≡ 0 → x.trapped ≡ None → is_full (state_of x) ≡ false → GoesOn p task x.work x.facts w f touches cost → owed_by p.plant touches ≡ owed → IsKept x.work x.facts w f →
     core_with c.debt m ≡ core_issued x.now task x.moment.interval Stay cost owed (core_with x.core.debt x.moment) →
     OwnCycle (rule_in (setup_in p)) (setup_in p) holds No (state_of x) (state_of (behind x w f (x.now + 1) m c))
@@ -70,7 +72,8 @@ issues_own p holds x w f m c task cost touches owed going paid none room goes is
     let start = going_state s task s.work s.log.counts s.now [] 0 in
     let work = work_in w (items_of f.tasks) in
     let full : is_full start ≡ false = sym (ap is_full from) ∙ room in
-    let turn = goes x.now x.moment.interval start.core ∙ ap (λ o. record { work = work; core = core_issued x.now task x.moment.interval Stay cost o start.core; counts = counts_in f; trapped = None }) is in
+    let turn = goes x.now x.moment.interval start.core
+    ∙ ap (λ o. record { work = work; core = core_issued x.now task x.moment.interval Stay cost o start.core; counts = counts_in f; trapped = None }) is in
     let own = issue_own (rule_in q) q holds s task s.work work s.log.counts (counts_in f) s.now cost owed full turn in
     subst (λ a. OwnCycle (rule_in q) q holds No a (state_of (behind x w f (x.now + 1) m c))) (sym from)
     (subst (OwnCycle (rule_in q) q holds No start) (sym (issued_state x w f m c task cost owed none k core)) own)
@@ -81,7 +84,8 @@ paid_alone d none =
     ap (λ ns. if wants (want_of (record d { transactions = ns })) then paid_on_bus d.transactions d else record d { cost = d.cost - 1 }) none
 
 -- behind a cycle of its cost
-pub pays_own : {P : Type 0} (p : Setting) (holds : Bool) (x : Parts P) (core : CoreParts) (task : ℕ) → core.debt ≡ paid_once x.core.debt → IsGoing task (state_of x) → 1 ≤ x.core.debt.cost → x.trapped ≡ None →
+pub pays_own : {P : Type 0} (p : Setting) (holds : Bool) (x : Parts P) (core : CoreParts) (task : ℕ) → core.debt ≡ paid_once x.core.debt →
+    IsGoing task (state_of x) → 1 ≤ x.core.debt.cost → x.trapped ≡ None →
     is_full (state_of x) ≡ false → OwnCycle (rule_in (setup_in p)) (setup_in p) holds No (state_of x) (state_of (behind x x.work x.facts (x.now + 1) x.moment core))
 pays_own p holds x core task pays going some none room =
     let s = state_of x in
@@ -120,7 +124,8 @@ hit_core x task cost going =
 pub rooms_left : {P : Type 0} (p : Setting) (requests : List Request) (x : Parts P) → Stands p requests x → is_full (state_of x) ≡ false →
     (put_out (items_of x.facts.tasks) < log_size) × (length (items_of x.facts.intervals) < log_size)
 rooms_left p requests x s room =
-    by (put_out (items_of x.facts.tasks)) (length (items_of x.facts.intervals)) (nat_le log_size (put_out (items_of x.facts.tasks))) refl (nat_le log_size (length (items_of x.facts.intervals))) refl (full_told p requests x s ∙ room)
+    by (put_out (items_of x.facts.tasks)) (length (items_of x.facts.intervals)) (nat_le log_size (put_out (items_of x.facts.tasks))) refl
+    (nat_le log_size (length (items_of x.facts.intervals))) refl (full_told p requests x s ∙ room)
   where
     by : (a b : ℕ) (u : Bool) → nat_le log_size a ≡ u → (v : Bool) → nat_le log_size b ≡ v → (u || v) ≡ false → (a < log_size) × (b < log_size)
     by a b true is v other e = absurd (cc)
@@ -143,7 +148,8 @@ pub record OwnSoFar {P : Type 0} (p : Setting) (requests : List Request) (task u
   pub room : put_out (items_of x.facts.tasks) + left ≤ log_size
   pub intervals : length (items_of x.facts.intervals) < log_size
 
-pub own_none : {P : Type 0} (p : Setting) (requests : List Request) (task until : ℕ) (x : Parts P) (left : ℕ) → Stands p requests x → Goes (4 * x.now) x → x.trapped ≡ None → IsGoing task (state_of x) → x.now ≤ until →
+pub own_none : {P : Type 0} (p : Setting) (requests : List Request) (task until : ℕ) (x : Parts P) (left : ℕ) → Stands p requests x →
+    Goes (4 * x.now) x → x.trapped ≡ None → IsGoing task (state_of x) → x.now ≤ until →
     put_out (items_of x.facts.tasks) + left ≤ log_size → length (items_of x.facts.intervals) < log_size → OwnSoFar p requests task until x x left
 own_none p requests task until x left stands goes none going le room intervals =
     let z : zero ≡ x.now - x.now = omega arith in
@@ -162,14 +168,17 @@ own_none p requests task until x left stands goes none going le room intervals =
     }
 
 pub own_more : {P : Type 0} (p : Setting) (holds : Bool) (from x y : Parts P) → OwnRun (rule_in (setup_in p)) (setup_in p) holds No (state_of from) (x.now - from.now) (state_of x) → from.now ≤ x.now →
-    OwnCycle (rule_in (setup_in p)) (setup_in p) holds No (state_of x) (state_of y) → y.now ≡ x.now + 1 → OwnRun (rule_in (setup_in p)) (setup_in p) holds No (state_of from) (y.now - from.now) (state_of y)
+    OwnCycle (rule_in (setup_in p)) (setup_in p) holds No (state_of x) (state_of y) → y.now ≡ x.now + 1 →
+    OwnRun (rule_in (setup_in p)) (setup_in p) holds No (state_of from) (y.now - from.now) (state_of y)
 own_more p holds from x y run le c next =
     let e : suc (x.now - from.now) ≡ y.now - from.now = omega (arith, le, next) in
     subst (λ k. OwnRun (rule_in (setup_in p)) (setup_in p) holds No (state_of from) k (state_of y)) e (one_more (x.now - from.now) (state_of x) (state_of y) run c)
 
 pub own_next : {P : Type 0} (p : Setting) (requests : List Request) (task until : ℕ) (from x y : Parts P) (left : ℕ) → OwnSoFar p requests task until from x left → 1 ≤ left → x.now < until →
-    ((holds : Bool) → OwnCycle (rule_in (setup_in p)) (setup_in p) holds No (state_of x) (state_of y)) → Stands p requests y → Goes (4 * y.now) y → ((t : ℕ) → Arrives t requests x → Arrives t requests y) → y.gates ≡ x.gates →
-    y.trapped ≡ None → IsGoing task (state_of y) → y.now ≡ x.now + 1 → put_out (items_of y.facts.tasks) ≤ put_out (items_of x.facts.tasks) + 1 → items_of y.facts.intervals ≡ items_of x.facts.intervals →
+    ((holds : Bool) → OwnCycle (rule_in (setup_in p)) (setup_in p) holds No (state_of x) (state_of y)) → Stands p requests y → Goes (4 * y.now) y →
+    ((t : ℕ) → Arrives t requests x → Arrives t requests y) → y.gates ≡ x.gates →
+    y.trapped ≡ None → IsGoing task (state_of y) → y.now ≡ x.now + 1 → put_out (items_of y.facts.tasks) ≤ put_out (items_of x.facts.tasks) + 1 →
+    items_of y.facts.intervals ≡ items_of x.facts.intervals →
     OwnSoFar p requests task until from y (left - 1)
 own_next p requests task until from x y left f some lt c stands goes arrives gates none going next put intervals =
     let same = ap length intervals in

@@ -55,7 +55,8 @@ pub steady_pair : {P Q : Type 0} (p q : Setting) (requests : List Request) (x : 
 steady_pair p q requests x stands on going =
     record { going = going; same_now = stands.same_now; free = on.free; periods = stands.first.periods; other_periods = stands.second.periods }
 
-pub goes_at : {P : Type 0} (x : Parts P) (m : Moment) (core : CoreParts) (at : ℕ) → All (λ j. 1 ≤ j.period) x.sched → x.now ≤ at → Goes (4 * x.now + (at - x.now)) x → ModeReady x.now x.sched m.mode → m.interval ≡ x.moment.interval →
+pub goes_at : {P : Type 0} (x : Parts P) (m : Moment) (core : CoreParts) (at : ℕ) → All (λ j. 1 ≤ j.period) x.sched → x.now ≤ at →
+    Goes (4 * x.now + (at - x.now)) x → ModeReady x.now x.sched m.mode → m.interval ≡ x.moment.interval →
     Goes (4 * at) (record x { now = at; moment = m; core = core })
 goes_at x m core at periods le r ready interval =
     let first = ap (λ (i : Interval). i.first) interval in
@@ -69,7 +70,8 @@ goes_at x m core at periods le r ready interval =
 abbrev with_gates : {P : Type 0} → Parts P → GatesState → ℕ → Parts P
 with_gates x g clashes = record x { gates = g; facts = record x.facts { clashes = clashes } }
 
-pub passed_stands : {P : Type 0} (p : Setting) (requests : List Request) (x : Parts P) (g : GatesState) (clashes : ℕ) → Stands p requests x → SameQueues x.gates g → Stands p requests (with_gates x g clashes)
+pub passed_stands : {P : Type 0} (p : Setting) (requests : List Request) (x : Parts P) (g : GatesState) (clashes : ℕ) → Stands p requests x →
+    SameQueues x.gates g → Stands p requests (with_gates x g clashes)
 passed_stands p requests x g clashes s same =
     let bytes = length x.work.memory in
     let L : List GateState → Type 0 = λ gs. All (λ r. HasLine gs r.device r.line) requests in
@@ -92,7 +94,8 @@ passed_stands p requests x g clashes s same =
       rooms = record { outputs = s.rooms.outputs; intervals = s.rooms.intervals; transfers = s.rooms.transfers };
     }
 
-pub passed_arrives : {P : Type 0} (requests : List Request) (x : Parts P) (g : GatesState) (clashes at : ℕ) → Arrives x.now requests x → SameQueues x.gates g → x.now ≤ at → NoneArrive (at - x.now) x.now requests →
+pub passed_arrives : {P : Type 0} (requests : List Request) (x : Parts P) (g : GatesState) (clashes at : ℕ) → Arrives x.now requests x →
+    SameQueues x.gates g → x.now ≤ at → NoneArrive (at - x.now) x.now requests →
     Arrives at requests (with_gates x g clashes)
 passed_arrives requests x g clashes at r same le none =
     record { arrived = arrived_after x.now at x.arrived requests r.arrived le none; few = r.few; pending = omega (arith, r.pending, same.pending_same) }

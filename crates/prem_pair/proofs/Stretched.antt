@@ -63,7 +63,8 @@ second_keeps Gates s e f = absurd (cc)
 
 -- ---- the cycles of both
 
-pub apart_first : (rule other : ReplacementRule) (p q : Setup) (requests : List Request) (n until task : ℕ) (s : PairState) (x : MachineState) → IsSteadyPair s → MayStretch until requests s → IsGoing task s.first →
+pub apart_first : (rule other : ReplacementRule) (p q : Setup) (requests : List Request) (n until task : ℕ) (s : PairState) (x : MachineState) →
+    IsSteadyPair s → MayStretch until requests s → IsGoing task s.first →
     n ≤ until - s.first.now → Within n (rest_with (is_second s.holder) s.second) → OwnRun rule p (is_first s.holder) No s.first n x →
     paired x (side_passed (is_second s.holder) n s.second) s.holder ≡ pair_cycles rule other p q requests n s
 apart_first rule other p q requests n until task s x steady may going le rests own =
@@ -82,7 +83,8 @@ apart_first rule other p q requests n until task s x steady may going le rests o
     let rest = rest_own other q (is_second s.holder) s.second steady.other_periods (untrapped s steady.going).1 (none_full s steady.going).1 (second_keeps s.holder s may.token) n rests in
     sym (own_runs rule other p q requests n s No w x (side_passed (is_second s.holder) n s.second) free own rest)
 
-pub apart_second : (rule other : ReplacementRule) (p q : Setup) (requests : List Request) (n until task : ℕ) (s : PairState) (x : MachineState) → IsSteadyPair s → MayStretch until requests s → IsGoing task s.second →
+pub apart_second : (rule other : ReplacementRule) (p q : Setup) (requests : List Request) (n until task : ℕ) (s : PairState) (x : MachineState) →
+    IsSteadyPair s → MayStretch until requests s → IsGoing task s.second →
     n ≤ until - s.first.now → Within n (rest_with (is_first s.holder) s.first) → OwnRun other q (is_second s.holder) No s.second n x →
     paired (side_passed (is_first s.holder) n s.first) x s.holder ≡ pair_cycles rule other p q requests n s
 apart_second rule other p q requests n until task s x steady may going le rests own =

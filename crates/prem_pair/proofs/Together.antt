@@ -91,7 +91,8 @@ both_cycle rule other p q requests s x y apart c d =
     ∙ ap (λ z. paired z (own_cycle other q (is_second h) s.second) h) c.next ∙ ap (λ z. paired x z h) d.next)
 
 -- behind a cycle of both they still don't touch each other
-pub may_still : (rule other : ReplacementRule) (p q : Setup) (until task other_task : ℕ) (requests : List Request) (s : PairState) (x y : MachineState) → MayStretch until requests s → s.first.now < until →
+pub may_still : (rule other : ReplacementRule) (p q : Setup) (until task other_task : ℕ) (requests : List Request) (s : PairState)
+    (x y : MachineState) → MayStretch until requests s → s.first.now < until →
     OwnCycle rule p (is_first s.holder) No s.first x → OwnCycle other q (is_second s.holder) No s.second y → IsGoing task x → IsGoing other_task y → MayStretch until requests (paired x y s.holder)
 may_still rule other p q until task other_task requests s x y may lt c d going going2 =
     let h = s.holder in
@@ -132,7 +133,8 @@ own_done q holds s none =
 
 -- ---- their parts
 
-pub arrives_next : {P : Type 0} (until : ℕ) (requests : List Request) (s : PairState) (x : Parts P) → Arrives x.now requests x → MayStretch until requests s → s.first.now ≡ x.now → x.now < until → Arrives (x.now + 1) requests x
+pub arrives_next : {P : Type 0} (until : ℕ) (requests : List Request) (s : PairState) (x : Parts P) → Arrives x.now requests x →
+    MayStretch until requests s → s.first.now ≡ x.now → x.now < until → Arrives (x.now + 1) requests x
 arrives_next until requests s x r may same lt =
     arrives_later requests x (x.now + 1) r (omega arith)
     (λ k d below m less is. may.arrivals k d below m (omega (arith, less, lt, same)) (let e : x.now + m ≡ s.first.now + m = omega (arith, same) in is ∙ e))
@@ -154,13 +156,15 @@ pub record BothSoFar {P Q : Type 0} (p q : Setting) (requests : List Request) (t
   pub intervals : length (items_of x.first.facts.intervals) < log_size
   pub other_intervals : length (items_of x.second.facts.intervals) < log_size
 
-pub so_far_goes : {P Q : Type 0} (p q : Setting) (requests : List Request) (task other until : ℕ) (from x : Both P Q) (left : ℕ) → BothSoFar p q requests task other until from x left → 1 ≤ left → is_pair_over (pair_of x) ≡ false
+pub so_far_goes : {P Q : Type 0} (p q : Setting) (requests : List Request) (task other until : ℕ) (from x : Both P Q) (left : ℕ) →
+    BothSoFar p q requests task other until from x left → 1 ≤ left → is_pair_over (pair_of x) ≡ false
 so_far_goes p q requests task other until from x left f some =
     goes_both task (pair_of x) f.going f.trapped (has_room p requests x.first f.stands.first (omega (arith, f.room, some)) f.intervals)
     (has_room q [] x.second f.stands.second (omega (arith, f.other_room, some)) f.other_intervals)
 
 -- behind more cycles
-pub taken_then : (rule other : ReplacementRule) (p q : Setup) (requests : List Request) (s t u : PairState) → t ≡ pair_cycles rule other p q requests (t.first.now - s.first.now) s → u ≡ pair_cycles rule other p q requests (cycles_taken t u) t →
+pub taken_then : (rule other : ReplacementRule) (p q : Setup) (requests : List Request) (s t u : PairState) →
+    t ≡ pair_cycles rule other p q requests (t.first.now - s.first.now) s → u ≡ pair_cycles rule other p q requests (cycles_taken t u) t →
     s.first.now ≤ t.first.now → t.first.now ≤ u.first.now → u ≡ pair_cycles rule other p q requests (cycles_taken s u) s
 taken_then rule other p q requests s t u first then_ le more =
     let e : t.first.now - s.first.now + cycles_taken t u ≡ cycles_taken s u = sums (one_trapped u) in

@@ -33,7 +33,8 @@ record AllRead (reads : Reads) (asked : PairAsked) (given : Reply) : Type 0 wher
   other_suits : SuitsSet two other
   goes : sets_reply asked one two input other ≡ given
 
-unread : {A : Type 0} → (readings : (A → Stage Reply) → Stage Reply) (reads : Reads) (next : A → Stage Reply) (given : Reply) → Stops readings reads → is_judged given.0 ≡ true → replied (readings next reads) ≡ given → ⊥
+unread : {A : Type 0} → (readings : (A → Stage Reply) → Stage Reply) (reads : Reads) (next : A → Stage Reply) (given : Reply) → Stops readings reads →
+    is_judged given.0 ≡ true → replied (readings next reads) ≡ given → ⊥
 unread readings reads next given stop judged is =
     let same : stop.reply ≡ given = sym (ap replied (stop.stops next)) ∙ is in
     let both : false ≡ true = sym stop.unjudged ∙ ap (λ (r : Reply). is_judged r.0) same ∙ judged in
@@ -54,7 +55,8 @@ module _ (asked : PairAsked) (given : Reply) (judged : is_judged given.0 ≡ tru
 
   all_read : replied (pair_stages asked reads) ≡ given → AllRead reads asked given
   all_read is = first (set_outcome asked.set reads) where
-    last : (a : Goes (reading_set_by Brief asked.set) reads (IsRight anything)) (b : Goes (reading_other asked.other_set) a.left (IsRight none_there)) (c : Goes (reading_run_by Brief a.value asked.run) b.left (SuitsSet a.value)) →
+    last : (a : Goes (reading_set_by Brief asked.set) reads (IsRight anything)) (b : Goes (reading_other asked.other_set) a.left (IsRight none_there))
+        (c : Goes (reading_run_by Brief a.value asked.run) b.left (SuitsSet a.value)) →
         replied (behind_input a.value b.value c.value c.left) ≡ given → Outcome (reading_run_by Brief b.value asked.other_run) c.left (SuitsSet b.value) → AllRead reads asked given
     last a b c there (inr stop) = absurd (unread (reading_run_by Brief b.value asked.other_run) c.left (behind_other a.value b.value c.value) given stop judged there)
     last a b c there (inl d) = record {
@@ -80,12 +82,14 @@ module _ (asked : PairAsked) (given : Reply) (judged : is_judged given.0 ≡ tru
       goes = ap replied (sym (d.gives (behind_other a.value b.value c.value))) ∙ there;
     }
 
-    third : (a : Goes (reading_set_by Brief asked.set) reads (IsRight anything)) (b : Goes (reading_other asked.other_set) a.left (IsRight none_there)) → replied (behind_two a.value b.value b.left) ≡ given →
+    third : (a : Goes (reading_set_by Brief asked.set) reads (IsRight anything))
+        (b : Goes (reading_other asked.other_set) a.left (IsRight none_there)) → replied (behind_two a.value b.value b.left) ≡ given →
         Outcome (reading_run_by Brief a.value asked.run) b.left (SuitsSet a.value) → AllRead reads asked given
     third a b there (inr stop) = absurd (unread (reading_run_by Brief a.value asked.run) b.left (behind_input a.value b.value) given stop judged there)
     third a b there (inl c) = last a b c (ap replied (sym (c.gives (behind_input a.value b.value))) ∙ there) (run_outcome b.value asked.other_run c.left)
 
-    second : (a : Goes (reading_set_by Brief asked.set) reads (IsRight anything)) → replied (behind_one a.value a.left) ≡ given → Outcome (reading_other asked.other_set) a.left (IsRight none_there) → AllRead reads asked given
+    second : (a : Goes (reading_set_by Brief asked.set) reads (IsRight anything)) → replied (behind_one a.value a.left) ≡ given →
+        Outcome (reading_other asked.other_set) a.left (IsRight none_there) → AllRead reads asked given
     second a there (inr stop) = absurd (unread (reading_other asked.other_set) a.left (behind_two a.value) given stop judged there)
     second a there (inl b) = third a b (ap replied (sym (b.gives (behind_two a.value))) ∙ there) (run_outcome a.value asked.run b.left)
 

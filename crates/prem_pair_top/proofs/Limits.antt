@@ -81,7 +81,11 @@ small_set set values e =
     let small : AllByRecursion IsSmall js = bounds_are_small p 0 0 (places_in set) set.tasks (programs_of set.tasks) (ranges_in set.tasks values.each) (two_kept set e) (eight_kept set e) in
     let total : total_of intervals_of (coded_in set) ≤ 262143 = few (total_of outputs_of (coded_in set)) (total_of intervals_of (coded_in set)) (keeps set e).logs in
     let work : work_of js ≤ total_of intervals_of (coded_in set) * 1099511627776 = work_few p (places_in set) (coded_in set) small in
-    record { released = releases_small p (placed_in set) small; due = subst (λ n. n ≤ 288229276640083968) (work_is_due p (placed_in set)) (most (work_of js) (total_of intervals_of (coded_in set)) total work) }
+    record {
+      released = releases_small p (placed_in set) small;
+      due =
+          subst (λ n. n ≤ 288229276640083968) (work_is_due p (placed_in set)) (most (work_of js) (total_of intervals_of (coded_in set)) total work);
+    }
   where
     most : (w n : ℕ) → n ≤ 262143 → w ≤ n * 1099511627776 → w ≤ 288229276640083968
     most w n few h = omega (arith, few, h)

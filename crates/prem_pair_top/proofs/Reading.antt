@@ -41,7 +41,8 @@ without_right : (name : List ℕ) (t : SetData) (devices : List Device) → t.de
 without_right name t [] are s is = let same : t ≡ s = cc in (same, sym (ap (λ (x : SetData). x.devices) same) ∙ are)
 without_right name t (d ∷ ds) are s is = absurd cc
 
-other_right : (name bytes : List ℕ) (r : Result SetData SetFail) → set_of_text bytes ≡ r → (s : SetData) → and_then (set_in_by Brief name r) (λ s. without name s s.devices) ≡ Ok s → IsRightFile none_there s
+other_right : (name bytes : List ℕ) (r : Result SetData SetFail) → set_of_text bytes ≡ r → (s : SetData) →
+    and_then (set_in_by Brief name r) (λ s. without name s s.devices) ≡ Ok s → IsRightFile none_there s
 other_right name bytes (Ok t) read s is =
     let right = without_right name t t.devices refl s is in
     (set_is_lawful bytes s (read ∙ ap Ok right.0), right.1)

@@ -21,7 +21,8 @@ use Rattle.prem_pair_top.specs.Running.{pair_at, pair_stop_at, told_text}
 
 abbrev run_from : (image behind : Image) (run other : RunInput) → ℕ → PairState
 run_from image behind run other n =
-    pair_run (rule_in (setup_of image)) (rule_in (setup_of behind)) (setup_of image) (setup_of behind) (items_of image.content) (items_of behind.content) (words_of run) (words_of other) (items_of run.requests) n
+    pair_run (rule_in (setup_of image)) (rule_in (setup_of behind)) (setup_of image) (setup_of behind) (items_of image.content)
+    (items_of behind.content) (words_of run) (words_of other) (items_of run.requests) n
 
 pub starts_at : (image behind : Image) (run other : RunInput) → (run_from image behind run other 0).first.now ≡ 0
 unfolding pair_cycles

@@ -1,6 +1,7 @@
 -- Two sets that break no rule are sound together.
 use Rattle.std.specs.Prelude.{drop, max}
-use Rattle.std.proofs.Common.{◌≡◌, ◌+◌, ◌-◌, ◌*◌, ◌≤◌, ◌⊎◌, ◌==◌, ◌||◌, ℕ, Bool, true, false, cond, List, [], ◌∷◌, map, None, Some, Option, unwrap_or, refl, ap, ◌∙◌, sym, arith, inl, inr, ⊎_elim, true≢false}
+use Rattle.std.proofs.Common.{◌≡◌, ◌+◌, ◌-◌, ◌*◌, ◌≤◌, ◌⊎◌, ◌==◌, ◌||◌, ℕ, Bool, true, false, cond, List, [], ◌∷◌, map, None, Some, Option, unwrap_or, refl, ap, ◌∙◌, sym, arith}
+use Rattle.std.proofs.Common.{inl, inr, ⊎_elim, true≢false}
 use Rattle.std.proofs.lemmas.Bool.{cases_Bool, false_from_ne_true}
 use Rattle.prem_plant.specs.declared.plant.Plant.{Plant}
 use Rattle.prem_plant.specs.declared.plant.Device.{Device}
@@ -40,7 +41,8 @@ use Rattle.prem_pair_top.specs.Sound.{AreSound, PairsOfSetsAreSound, EndsWell, G
 -- ---- scripts
 
 pub joined : (set : TaskSet) → HasValues set → broken set ≡ None →
-    IsJoined (passes_of set.plant.policy) (setup_in set) (compiled set).image.content (own_of (coded_in set) (places_in set)) (limits_at set.plant (placed_in set)) (promises_in set) (compiled set).limit
+    IsJoined (passes_of set.plant.policy) (setup_in set) (compiled set).image.content (own_of (coded_in set) (places_in set))
+    (limits_at set.plant (placed_in set)) (promises_in set) (compiled set).limit
 joined set values none =
     let kind = set.plant.policy in
     accepted_sets_join (passes_of kind) set (promises_in set) values none
@@ -85,7 +87,8 @@ gives_scripts set values none =
         are_scripts = are_scripts passes p content own most (promises_in set) (compiled set).limit h inputs i;
         keep = λ k lt. ((scripted passes p content own most (promises_in set) (compiled set).limit h inputs i).1 k lt).kept;
         within =
-            due_within (compiled set).limit (last_of p.tasks) (due_of p (scripted passes p content own most (promises_in set) (compiled set).limit h inputs i).0) (due_in (compiled set)) (counts_due set)
+            due_within (compiled set).limit (last_of p.tasks)
+            (due_of p (scripted passes p content own most (promises_in set) (compiled set).limit h inputs i).0) (due_in (compiled set)) (counts_due set)
             (limits passes p content own most (promises_in set) (compiled set).limit h inputs i);
       };
     }
@@ -157,7 +160,8 @@ tells_one : (n : ℕ) (s : PairState) → HasRoom s → (pair_stop_at n s ≡ Fi
 tells_one n s h =
     ⊎_elim (λ (f : both_finished s ≡ true). inl (tells_finished n s f)) (λ (f : both_finished s ≡ false). inr (tells_limit n s h f)) (cases_Bool (both_finished s))
 
-module _ (one two : TaskSet) (input other : RunText) (sound : AreSound one two) (suits : SuitsRun (setup_in one) input.words input.requests) (other_suits : SuitsRun (setup_in two) other.words other.requests) where
+module _ (one two : TaskSet) (input other : RunText) (sound : AreSound one two) (suits : SuitsRun (setup_in one) input.words input.requests)
+    (other_suits : SuitsRun (setup_in two) other.words other.requests) where
   abbrev limit : ℕ
   limit = limit_in (compiled one) (compiled two) input.requests
 

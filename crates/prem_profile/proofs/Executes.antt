@@ -21,7 +21,8 @@ use Rattle.prem_cycle.specs.declared.state.Trap.{Trap}
 use Rattle.prem_cycle.specs.State.{Setup, Task, Work, CoreState, Counts, MachineState, record_of, task_in}
 use Rattle.prem_cycle.specs.Issue.{Attempt, Traps, Executes, LineTouch, attempt_behind, issued_by, issued_with, one_if, task_after, with_store, with_touch, with_touches}
 use Rattle.prem_cycle.specs.Core.{CoreMove, Passes, Issues, begin_switch, core_issue, core_pay, core_turn, move_chosen, move_in, move_of, move_running, want_of}
-use Rattle.prem_cycle.specs.Cycle.{Arrivals, arrivals_at, at_point, bus_at, close_interval, core_at, cycle_of, cycle_with, is_over, joined, move_at, next_cycle, settle, step_of, with_clash, with_memory, with_now}
+use Rattle.prem_cycle.specs.Cycle.{Arrivals, arrivals_at, at_point, bus_at, close_interval, core_at, cycle_of, cycle_with, is_over, joined, move_at, next_cycle, settle, step_of}
+use Rattle.prem_cycle.specs.Cycle.{with_clash, with_memory, with_now}
 use Rattle.prem_cycle.specs.Run.{CycleStep, coming_step, step_by, step_in, step_with}
 use Rattle.prem_cycle.proofs.CycleParts.{cycle_goes, cycle_traps}
 use Rattle.prem_cycle.proofs.RunLaws.{step_of-goes, step_of-stays}

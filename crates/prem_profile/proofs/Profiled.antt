@@ -173,7 +173,9 @@ module _ (image : Image) (input : RunInput) (tasks : ℕ) (words : List ℕ) (ro
       let rule = rule_in p in
       let s = after image input at in
       let seen' : AreSeen rule p q (to - at) s =
-      subst (AreSeen rule p q (to - at)) w.state (subst (λ x. AreSeen rule p x (to - at) (state_of m)) w.requests (subst (λ x. AreSeen (rule_in x) x (requests_in m) (to - at) (state_of m)) w.setup seen)) in
+      subst (AreSeen rule p q (to - at)) w.state
+      (subst (λ x. AreSeen rule p x (to - at) (state_of m)) w.requests
+      (subst (λ x. AreSeen (rule_in x) x (requests_in m) (to - at) (state_of m)) w.setup seen)) in
       let T : Home → MachineState → MachineState → Type 0 = λ h x y. IsTurn rule p q (home_at image input at) (to - at) s (seen_home (seen_of h x) y) (seen_cost (seen_of h x) y) in
       subst (λ h. T h (state_of m) (state_of m')) (sym w.home_is)
       (subst (λ x. T (home_at image input at) x (state_of m')) (sym w.state)

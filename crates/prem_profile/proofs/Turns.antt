@@ -74,12 +74,14 @@ spent-add is_so rule p requests before m (suc n) s =
     let t = cycles_of rule p requests m s in
     let h = home_after rule p requests before m s in
     ap (λ k. spent is_so rule p requests before k s) e
-    ∙ ap (λ x. plus x (where_so (is_so (home_after rule p requests before (suc (m + n)) s)) (cycle_cost rule p requests (cycles_of rule p requests (m + n) s)))) (spent-add is_so rule p requests before m n s)
+    ∙ ap (λ x. plus x (where_so (is_so (home_after rule p requests before (suc (m + n)) s))
+    (cycle_cost rule p requests (cycles_of rule p requests (m + n) s)))) (spent-add is_so rule p requests before m n s)
     ∙ ap (λ x. plus (plus (spent is_so rule p requests before m s) (spent is_so rule p requests h n t)) (where_so (is_so x) (cycle_cost rule p requests (cycles_of rule p requests (m + n) s))))
     (ap (λ k. home_after rule p requests before k s) f ∙ home_after-add rule p requests before m (suc n) s)
     ∙ ap (λ u. plus (plus (spent is_so rule p requests before m s) (spent is_so rule p requests h n t)) (where_so (is_so (home_after rule p requests h (suc n) t)) (cycle_cost rule p requests u)))
     (cycles_of-add rule p requests m n s)
-    ∙ plus_assoc (spent is_so rule p requests before m s) (spent is_so rule p requests h n t) (where_so (is_so (home_after rule p requests h (suc n) t)) (cycle_cost rule p requests (cycles_of rule p requests n t)))
+    ∙ plus_assoc (spent is_so rule p requests before m s) (spent is_so rule p requests h n t)
+    (where_so (is_so (home_after rule p requests h (suc n) t)) (cycle_cost rule p requests (cycles_of rule p requests n t)))
 
 -- a turn behind others
 pub record Booked (is_so : Home → Bool) (rule : ReplacementRule) (p : Setup) (requests : List Request) (before : Home) (m n : ℕ) (s : MachineState) (home : Home) (cost : Cost) : Type 0 where

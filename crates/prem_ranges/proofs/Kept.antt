@@ -19,12 +19,15 @@ use Rattle.prem_syntax.specs.declared.tree.Ty.{Ty}
 use Rattle.prem_syntax.specs.declared.tree.Ty.TheVariants.{Void, Int as IntTy, Unsigned as UnsignedTy, Short, Ushort, Schar, Uchar}
 use Rattle.prem_syntax.specs.declared.tree.UnOp.TheVariants.{Neg, Flip, Not}
 use Rattle.prem_syntax.specs.Syntax.{LocalVariable, GlobalVariable}
-use Rattle.prem_syntax.specs.Resolved.{Term, Constant, Local, Scalar, Element, Unary, Binary, AndAlso, OrElse, Steps, Done, SetLocal, SetScalar, SetElement, Output, Input, If, For, While, Call, Routine, Resolved}
+use Rattle.prem_syntax.specs.Resolved.{Term, Constant, Local, Scalar, Element, Unary, Binary, AndAlso, OrElse, Steps, Done, SetLocal, SetScalar, SetElement, Output, Input, If, For}
+use Rattle.prem_syntax.specs.Resolved.{While, Call, Routine, Resolved}
 use Rattle.prem_syntax.specs.Resolve.{kind_of, promoted}
 use Rattle.prem_ranges.specs.Environment.{Known, any_again, with_range, assigned, Environment, range_at, at_local, loosened, joined}
 use Rattle.prem_ranges.specs.RangeOf.{type_range, range_of, cut, cut_if_some, opposite, is_same_kind, cut_by, refined}
-use Rattle.prem_ranges.specs.After.{assigns, in_counting, loop_end, turn_bound, body_range, range_behind, in_body, behind_loop, in_while, behind_call, after, bounds, known_parameter, known_local, declared, at_body, bounds_in}
-use Rattle.prem_ranges.specs.RangeBreaches.{in_term, in_range_of_int, in_turns, in_counting_loop, in_steps, in_arguments, in_scalar, in_element, parameters_of, in_locals, in_result, in_routine, in_routines, range_breaches, site_of}
+use Rattle.prem_ranges.specs.After.{assigns, in_counting, loop_end, turn_bound, body_range, range_behind, in_body, behind_loop, in_while, behind_call, after, bounds}
+use Rattle.prem_ranges.specs.After.{known_parameter, known_local, declared, at_body, bounds_in}
+use Rattle.prem_ranges.specs.RangeBreaches.{in_term, in_range_of_int, in_turns, in_counting_loop, in_steps, in_arguments, in_scalar, in_element, parameters_of, in_locals}
+use Rattle.prem_ranges.specs.RangeBreaches.{in_result, in_routine, in_routines, range_breaches, site_of}
 use Rattle.prem_ranges.specs.Sound.{kinds_of, Typed, TypedSteps, Ranged, none_ranged, next_ranged, TypedLocals, TypedRoutine, TypedProgram}
 use Rattle.prem_ranges.proofs.Basics.{none_left, none_right, unbroken as unbroken_is, is_at_most, is_above, is_not_below}
 use Rattle.prem_ranges.proofs.Environments.{kinds-at_local, kinds-loosened, kinds-joined, kind_known}
@@ -33,7 +36,8 @@ use Rattle.prem_ranges.proofs.Statements.{kinds-after, kinds-behind_call, kinds-
 
 -- ---- environments
 
-ranged_local : {env : Environment} → Ranged env → (k : ℕ) (change : Known → Known) → ((l : Known) → slice_get env k ≡ Some l → IsRange l.kind l.range → IsRange (change l).kind (change l).range) → Ranged (at_local k change env)
+ranged_local : {env : Environment} → Ranged env → (k : ℕ) (change : Known → Known) →
+    ((l : Known) → slice_get env k ≡ Some l → IsRange l.kind l.range → IsRange (change l).kind (change l).range) → Ranged (at_local k change env)
 ranged_local none_ranged k change keeps = none_ranged
 ranged_local (next_ranged {l = l} is rest) zero change keeps = next_ranged (keeps l refl is) rest
 ranged_local (next_ranged is rest) (suc k) change keeps = next_ranged is (ranged_local rest k change keeps)
@@ -85,7 +89,8 @@ term_kept gs env ranged (Local at k kind) typed = range_at_kept ranged k kind ty
 term_kept gs env ranged (Scalar at g ty) typed = type_kept ty
 term_kept gs env ranged (Element at g ty index) typed = type_kept ty
 term_kept gs env ranged (Unary at Neg e) typed = negate_kept (kind_of e) (converted (kind_of e) (range_of env e))
-term_kept gs env ranged (Unary at Flip e) typed = flip_kept (kind_of e) (converted (kind_of e) (range_of env e)) (converted_kept (kind_of e) (kind_of e) (range_of env e) (term_kept gs env ranged e typed))
+term_kept gs env ranged (Unary at Flip e) typed =
+    flip_kept (kind_of e) (converted (kind_of e) (range_of env e)) (converted_kept (kind_of e) (kind_of e) (range_of env e) (term_kept gs env ranged e typed))
 term_kept gs env ranged (Unary at Not e) typed = truths_kept Int
 term_kept gs env ranged (Binary at op kind left right) typed =
     range_kept op kind (converted kind (range_of env left)) (converted kind (range_of env right)) (converted_kept (kind_of left) kind (range_of env left) (term_kept gs env ranged left typed.2))
@@ -195,7 +200,8 @@ turn_bound_small low end step h = by (int_le end low.lo) refl
 
 -- ---- steps
 
-ranged_counting : (gs : List GlobalVariable) (env : Environment) (k : ℕ) (r : Span) (body : Steps) → slice_get (kinds_of env) k ≡ Some Int → Ranged env → IsRange Int r → Ranged (at_local k (with_range r) (in_counting k body env))
+ranged_counting : (gs : List GlobalVariable) (env : Environment) (k : ℕ) (r : Span) (body : Steps) → slice_get (kinds_of env) k ≡ Some Int →
+    Ranged env → IsRange Int r → Ranged (at_local k (with_range r) (in_counting k body env))
 ranged_counting gs env k r body is_int ranged is =
     let env' = in_counting k body env in
     let same : kinds_of env' ≡ kinds_of env = kinds-loosened (λ j. eqb k j || assigns j body) env in
@@ -217,18 +223,22 @@ pub record Kept (env : Environment) (steps : Steps) : Type 0 where
   pub ranged : Ranged (after env steps)
   pub small : AllSmall (bounds env steps)
 
-pub steps_kept : (p : Resolved) (n : ℕ) (steps : Steps) (around : ℕ) (env : Environment) → Ranged env → TypedSteps p n (kinds_of env) steps → in_steps (site_of p n) around env steps ≡ [] → Kept env steps
+pub steps_kept : (p : Resolved) (n : ℕ) (steps : Steps) (around : ℕ) (env : Environment) → Ranged env → TypedSteps p n (kinds_of env) steps →
+    in_steps (site_of p n) around env steps ≡ [] → Kept env steps
 steps_kept p n Done around env ranged typed unbroken = record { ranged = ranged; small = tt }
 steps_kept p n (SetLocal at k e rest) around env ranged typed unbroken =
     let env' = at_local k (assigned (range_of env e)) env in
     let ranged' : Ranged env' = ranged_local ranged k (assigned (range_of env e)) (λ l there is. converted_kept (kind_of e) l.kind (range_of env e) (term_kept p.globals env ranged e typed.0)) in
-    let h = steps_kept p n rest around env' ranged' (rw (kinds-at_local env k (assigned (range_of env e)) (λ l. refl)) typed.1) (none_right (in_term (site_of p n) env e) (in_steps (site_of p n) around env' rest) unbroken) in
+    let h = steps_kept p n rest around env' ranged' (rw (kinds-at_local env k (assigned (range_of env e)) (λ l. refl)) typed.1)
+    (none_right (in_term (site_of p n) env e) (in_steps (site_of p n) around env' rest) unbroken) in
     record { ranged = h.ranged; small = h.small }
 steps_kept p n (SetScalar at g ty e rest) around env ranged typed unbroken =
     let h = steps_kept p n rest around env ranged typed.2 (none_right (in_scalar (site_of p n) at g ++ in_term (site_of p n) env e) (in_steps (site_of p n) around env rest) unbroken) in
     record { ranged = h.ranged; small = h.small }
 steps_kept p n (SetElement at g ty index e rest) around env ranged typed unbroken =
-    let h = steps_kept p n rest around env ranged typed.3 (none_right (in_element (site_of p n) at g (range_of env index) ++ in_term (site_of p n) env index ++ in_term (site_of p n) env e) (in_steps (site_of p n) around env rest) unbroken) in
+    let h = steps_kept p n rest around env ranged typed.3
+    (none_right (in_element (site_of p n) at g (range_of env index) ++ in_term (site_of p n) env index ++ in_term (site_of p n) env e)
+    (in_steps (site_of p n) around env rest) unbroken) in
     record { ranged = h.ranged; small = h.small }
 steps_kept p n (Output at e rest) around env ranged typed unbroken =
     let h = steps_kept p n rest around env ranged typed.1 (none_right (in_term (site_of p n) env e) (in_steps (site_of p n) around env rest) unbroken) in
@@ -254,8 +264,14 @@ steps_kept p n (If at c taken other rest) around env ranged typed unbroken =
     let no_kinds : kinds_of b ≡ kinds_of env = kinds-after no_env other ∙ kinds-refined false env c in
     let same : kinds_of a ≡ kinds_of b = yes_kinds ∙ sym no_kinds in
     let rest_kinds : kinds_of (joined a b) ≡ kinds_of env = kinds-joined a b same ∙ yes_kinds in
-    let h = steps_kept p n rest around (joined a b) (ranged_joined one_kept.ranged two_kept.ranged same) (rw rest_kinds typed.3) (none_right (c_breaches ++ taken_breaches ++ other_breaches) rest_breaches unbroken) in
-    record { ranged = h.ranged; small = all_both (bounds yes_env taken ++ bounds no_env other) (bounds (joined a b) rest) (all_both (bounds yes_env taken) (bounds no_env other) one_kept.small two_kept.small) h.small }
+    let h = steps_kept p n rest around (joined a b) (ranged_joined one_kept.ranged two_kept.ranged same) (rw rest_kinds typed.3)
+    (none_right (c_breaches ++ taken_breaches ++ other_breaches) rest_breaches unbroken) in
+    record {
+      ranged = h.ranged;
+      small =
+          all_both (bounds yes_env taken ++ bounds no_env other) (bounds (joined a b) rest)
+          (all_both (bounds yes_env taken) (bounds no_env other) one_kept.small two_kept.small) h.small;
+    }
 steps_kept p n (For at k low closed high step turns body rest) around env ranged typed unbroken =
     let site = site_of p n in
     let end = loop_end env k closed high body in
@@ -272,9 +288,20 @@ steps_kept p n (For at k low closed high step turns body rest) around env ranged
     let three = none_left (loop_breaches ++ low_breaches ++ high_breaches) body_breaches four in
     let two = none_left (loop_breaches ++ low_breaches) high_breaches three in
     let range_unbroken = none_left (in_range_of_int at end step) (in_turns at (around * bound)) (none_left loop_breaches low_breaches two) in
-    let fits_loop : LoopFits r end step = record { is = rw typed.0.low_is_int at (term_kept p.globals env ranged low typed.1); ends = is_not_below _ _ (unbroken_is _ _ _ range_unbroken); some = typed.0.some } in
-    let body_h = steps_kept p n body (around * bound) body_env (ranged_counting p.globals env k (body_range r end) body typed.0.is_int ranged (body_kept r end step fits_loop)) (rw (kinds-in_body env k (body_range r end) body) typed.3) (none_right (loop_breaches ++ low_breaches ++ high_breaches) body_breaches four) in
-    let h = steps_kept p n rest around env' (ranged_counting p.globals env k (range_behind r end step) body typed.0.is_int ranged (behind_kept r end step fits_loop)) (rw (kinds-in_body env k (range_behind r end step) body) typed.4) (none_right (loop_breaches ++ low_breaches ++ high_breaches ++ body_breaches) rest_breaches unbroken) in
+    let fits_loop : LoopFits r end step =
+    record {
+      is = rw typed.0.low_is_int at (term_kept p.globals env ranged low typed.1);
+      ends =
+          is_not_below _ _ (unbroken_is _ _ _ range_unbroken);
+      some = typed.0.some;
+    } in
+    let body_h = steps_kept p n body (around * bound) body_env
+    (ranged_counting p.globals env k (body_range r end) body typed.0.is_int ranged (body_kept r end step fits_loop))
+    (rw (kinds-in_body env k (body_range r end) body) typed.3) (none_right (loop_breaches ++ low_breaches ++ high_breaches) body_breaches four) in
+    let h = steps_kept p n rest around env'
+    (ranged_counting p.globals env k (range_behind r end step) body typed.0.is_int ranged (behind_kept r end step fits_loop))
+    (rw (kinds-in_body env k (range_behind r end step) body) typed.4)
+    (none_right (loop_breaches ++ low_breaches ++ high_breaches ++ body_breaches) rest_breaches unbroken) in
     record { ranged = h.ranged; small = all_both (bound ∷ bounds body_env body) (bounds env' rest) (turn_bound_small r end step fits_loop, body_h.small) h.small }
 steps_kept p n (While at turns c body rest) around env ranged typed unbroken =
     let site = site_of p n in
@@ -320,13 +347,15 @@ routine_kept p n f typed unbroken =
     let ranged : Ranged (at_body f) = ranged_declared p.globals f.text.locals f.locals (map known_parameter f.text.params) typed.parameters typed.locals in
     (steps_kept p n f.body 1 (at_body f) ranged typed.body (none_right locals steps (none_left (locals ++ steps) (in_result site (after (at_body f) f.body) f.result) unbroken))).small
 
-routines_kept : (p : Resolved) (n : ℕ) (rest : List Routine) → ((k : ℕ) (f : Routine) → slice_get rest k ≡ Some f → TypedRoutine p (n + k) f) → in_routines p n rest ≡ [] → AllSmall (flat_map bounds_in rest)
+routines_kept : (p : Resolved) (n : ℕ) (rest : List Routine) → ((k : ℕ) (f : Routine) → slice_get rest k ≡ Some f → TypedRoutine p (n + k) f) →
+    in_routines p n rest ≡ [] → AllSmall (flat_map bounds_in rest)
 routines_kept p n [] typed unbroken = tt
 routines_kept p n (f ∷ rest) typed unbroken =
     let here : n + 0 ≡ n = omega arith in
     let first : TypedRoutine p n f = rw here at (typed 0 f refl) in
     all_both (bounds_in f) (flat_map bounds_in rest) (routine_kept p n f first (none_left (in_routine (site_of p n) f) (in_routines p (n + 1) rest) unbroken))
-    (routines_kept p (n + 1) rest (λ k g there. let next : n + 1 + k ≡ n + suc k = omega arith in rw next (typed (suc k) g there)) (none_right (in_routine (site_of p n) f) (in_routines p (n + 1) rest) unbroken))
+    (routines_kept p (n + 1) rest (λ k g there. let next : n + 1 + k ≡ n + suc k = omega arith in rw next (typed (suc k) g there))
+    (none_right (in_routine (site_of p n) f) (in_routines p (n + 1) rest) unbroken))
 
 small_at : (ns : List ℕ) → AllSmall ns → (k : ℕ) → slice_index ns k < 2 ^ 32
 small_at [] small k = omega arith

@@ -2,7 +2,8 @@
 use Rattle.std.specs.List.{list_all, AllByRecursion}
 use Rattle.std.specs.Str.Parse.{AllDigits}
 use Rattle.std.specs.Prelude.{codes, if◌then◌else◌}
-use Rattle.std.proofs.Common.{◌≡◌, ◌+◌, ◌<◌, ◌≤◌, ◌^◌, ℕ, zero, suc, ◌==◌, ◌&&◌, Bool, true, false, not, List, [], ◌∷◌, ◌++◌, map, take, slice_get, Option, Some, unwrap_or, decimal, refl, ap, ◌∙◌, sym, arith, append_assoc}
+use Rattle.std.proofs.Common.{◌≡◌, ◌+◌, ◌<◌, ◌≤◌, ◌^◌, ℕ, zero, suc, ◌==◌, ◌&&◌, Bool, true, false, not, List, [], ◌∷◌, ◌++◌, map, take, slice_get, Option, Some, unwrap_or}
+use Rattle.std.proofs.Common.{decimal, refl, ap, ◌∙◌, sym, arith, append_assoc}
 use Rattle.std.proofs.lemmas.Bool.{and_parts, not-true}
 use Rattle.std.proofs.lemmas.Bool.Decides.{nat_tests}
 use Rattle.std.proofs.lemmas.Fmt.{decimal_is_IsNumeral}
@@ -104,7 +105,8 @@ abbrev AllShort : List Load → ℕ → List ℕ → Type 0
 AllShort loads i [] = Unit {0}
 AllShort loads i (n ∷ ns) = AreShort loads i n × AllShort loads (i + 1) ns
 
-rows_are_lines : (loads : List Load) (i : ℕ) (names : List Text) (ns : List ℕ) (more : List (List ℕ)) → AllByRecursion IsName names → AllShort loads i ns → AllByRecursion IsLine more → AllByRecursion IsLine (rows_from loads i names ns ++ more)
+rows_are_lines : (loads : List Load) (i : ℕ) (names : List Text) (ns : List ℕ) (more : List (List ℕ)) → AllByRecursion IsName names →
+    AllShort loads i ns → AllByRecursion IsLine more → AllByRecursion IsLine (rows_from loads i names ns ++ more)
 rows_are_lines loads i [] ns more named short all = all
 rows_are_lines loads i (name ∷ names) [] more named short all = all
 rows_are_lines loads i (name ∷ names) (n ∷ ns) more named short all = (is_line loads i name n named.0 short.0, rows_are_lines loads (i + 1) names ns more named.1 short.1 all)
@@ -136,7 +138,8 @@ all_are : (ns : List ℕ) → all_within (map Within ns) ≡ true
 all_are [] = refl
 all_are (n ∷ ns) = all_are ns
 
-text_lines : (loads : List Load) (names : List Text) (ns : List ℕ) → AllByRecursion IsName names → AllShort loads 0 ns → lines_of (fit_text names loads (map Within ns)) ≡ rows_from loads 0 names ns ++ codes "fits" ∷ []
+text_lines : (loads : List Load) (names : List Text) (ns : List ℕ) → AllByRecursion IsName names → AllShort loads 0 ns →
+    lines_of (fit_text names loads (map Within ns)) ≡ rows_from loads 0 names ns ++ codes "fits" ∷ []
 text_lines loads names ns named short =
     let lines : List ℕ = lines_from loads 0 names (map Within ns) in
     let rows : List (List ℕ) = rows_from loads 0 names ns ++ codes "fits" ∷ [] in
@@ -158,7 +161,8 @@ short_of loads i n is within small = by (blocking loads i) (load_at loads i).cos
 all_found : (loads : List Load) (i count : ℕ) → ((j : ℕ) → (load_at loads j).period ≤ 4294967295) → all_within (found_from loads i count) ≡ true → AreWithin loads i (found_from loads i count)
 all_found loads i zero small all = record { lengths = []; are = refl; short = tt }
 all_found loads i (suc count) small all = by (busy_of loads i) (busy_found loads i) all (all_found loads (i + 1) count small) where
-  by : (b : Busy) → IsFound loads i b → all_within (b ∷ found_from loads (i + 1) count) ≡ true → (all_within (found_from loads (i + 1) count) ≡ true → AreWithin loads (i + 1) (found_from loads (i + 1) count)) →
+  by : (b : Busy) → IsFound loads i b → all_within (b ∷ found_from loads (i + 1) count) ≡ true →
+      (all_within (found_from loads (i + 1) count) ≡ true → AreWithin loads (i + 1) (found_from loads (i + 1) count)) →
       AreWithin loads i (b ∷ found_from loads (i + 1) count)
   by (Within n) is h rest =
       let more = rest h in
@@ -172,7 +176,8 @@ length_there (m ∷ ns) (suc k) n e = length_there ns k n e
 
 -- where all are within the periods the line of each tells its length
 pub line_tells : (loads : List Load) (names : List Text) (count : ℕ) → AllByRecursion IsName names → ((j : ℕ) → (load_at loads j).period ≤ 4294967295) → all_within (found_from loads 0 count) ≡ true →
-    (i : ℕ) (name : Text) (n : ℕ) → slice_get names i ≡ Some name → slice_get (found_from loads 0 count) i ≡ Some (Within n) → TellsLength (fit_text names loads (found_from loads 0 count)) loads i name n
+    (i : ℕ) (name : Text) (n : ℕ) → slice_get names i ≡ Some name → slice_get (found_from loads 0 count) i ≡ Some (Within n) →
+    TellsLength (fit_text names loads (found_from loads 0 count)) loads i name n
 line_tells loads names count named small all i name n a b =
     let w = all_found loads 0 count small all in
     let same : 0 + i ≡ i = omega arith in

@@ -39,7 +39,8 @@ some_cost : (p : Plant) (t : Placed) → 1 ≤ job_bound_of p t.plans t.table
 some_cost p t = omega arith
 
 -- loads of tasks in an image, with jobs and intervals within the bounds
-good_loads : (memory : ℕ) (p : Plant) (placed : List Placed) → AllByRecursion (IsTask memory) (map task_record placed) → AllByRecursion IsBound (bounds p placed) → AllByRecursion IsBound (longest_in p placed) → AllByRecursion IsLoad (loads_of p placed)
+good_loads : (memory : ℕ) (p : Plant) (placed : List Placed) → AllByRecursion (IsTask memory) (map task_record placed) →
+    AllByRecursion IsBound (bounds p placed) → AllByRecursion IsBound (longest_in p placed) → AllByRecursion IsLoad (loads_of p placed)
 good_loads memory p [] tasks jobs longest = tt
 good_loads memory p (t ∷ ts) tasks jobs longest = (
   record {
@@ -58,7 +59,8 @@ loads_long (t ∷ ts) [] longest ej en = absurd (omega (arith, ej))
 loads_long (t ∷ ts) (j ∷ js) [] ej en = absurd (omega (arith, en))
 loads_long (t ∷ ts) (j ∷ js) (n ∷ ns) ej en = ap suc (loads_long ts js ns (omega (arith, ej)) (omega (arith, en)))
 
-pub lent_long : (c : Compiled) (tasks : List TaskRecord) (jobs longest : List ℕ) (loads : List Load) → HasLoads c → tasks ≡ items_of c.image.tasks → jobs ≡ items_of c.jobs → longest ≡ items_of c.longest →
+pub lent_long : (c : Compiled) (tasks : List TaskRecord) (jobs longest : List ℕ) (loads : List Load) → HasLoads c → tasks ≡ items_of c.image.tasks →
+    jobs ≡ items_of c.jobs → longest ≡ items_of c.longest →
     loads ≡ loads_told tasks jobs longest → length loads ≡ length tasks
 lent_long c tasks jobs longest loads h et ej en el = ap length el ∙ loads_long tasks jobs longest (ap length ej ∙ h.jobs ∙ sym (ap length et)) (ap length en ∙ h.longest ∙ sym (ap length et))
 
@@ -85,7 +87,9 @@ module _ (set : TaskSet) (c : Compiled) (is : IsCompiled set c) where
   pub has_loads : HasLoads c
   has_loads =
       let image : IsImage c.image.plant (items_of c.image.tasks) (items_of c.image.devices) (items_of c.image.content) = c.image.lawful in
-      let tasks : AllByRecursion (IsTask c.image.plant.memory) (map task_record placed) = subst (AllByRecursion (IsTask c.image.plant.memory)) image_is (recursion_from_All (IsTask c.image.plant.memory) (items_of c.image.tasks) image.each_task) in
+      let tasks : AllByRecursion (IsTask c.image.plant.memory) (map task_record placed) =
+      subst (AllByRecursion (IsTask c.image.plant.memory)) image_is
+      (recursion_from_All (IsTask c.image.plant.memory) (items_of c.image.tasks) image.each_task) in
       let records : length (items_of c.image.tasks) ≡ length placed = ap length image_is ∙ length-map placed task_record in
       let facts : length (bounds set.plant placed) ≡ length placed = length-map (map (job_fact set.plant) placed) (λ (j : JobBound). j.bound) ∙ length-map placed (job_fact set.plant) in
       let longs : length (longest_in set.plant placed) ≡ length placed = length-map placed (λ (t : Placed). longest_of set.plant t.plans t.table) in
@@ -95,6 +99,7 @@ module _ (set : TaskSet) (c : Compiled) (is : IsCompiled set c) where
         loads =
             subst (All IsLoad) (sym loads_are)
             (All-from_recursion IsLoad (loads_in set)
-            (good_loads c.image.plant.memory set.plant placed tasks (subst (AllByRecursion IsBound) jobs_are is.bounds.small_jobs) (subst (AllByRecursion IsBound) is.bounds.longest is.bounds.small_longest)));
+            (good_loads c.image.plant.memory set.plant placed tasks (subst (AllByRecursion IsBound) jobs_are is.bounds.small_jobs)
+            (subst (AllByRecursion IsBound) is.bounds.longest is.bounds.small_longest)));
         count = image.task_count.1;
       }

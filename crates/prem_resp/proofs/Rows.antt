@@ -13,11 +13,13 @@ one_text : fit_text (codes "m" ∷ []) (load 1000 ∷ []) (Within 975 ∷ []) �
 unfolding digits
 one_text = refl
 
-two_text : fit_text (codes "a" ∷ codes "b" ∷ []) (load 10000 ∷ load 10000 ∷ []) (Within 1486 ∷ Within 1950 ∷ []) ≡ codes "task a cost 975 blocks 511 length 1486\ntask b cost 975 blocks 0 length 1950\nfits\n"
+two_text : fit_text (codes "a" ∷ codes "b" ∷ []) (load 10000 ∷ load 10000 ∷ []) (Within 1486 ∷ Within 1950 ∷ [])
+    ≡ codes "task a cost 975 blocks 511 length 1486\ntask b cost 975 blocks 0 length 1950\nfits\n"
 unfolding digits
 two_text = refl
 
-short_text : fit_text (codes "a" ∷ codes "b" ∷ []) (load 1486 ∷ load 10000 ∷ []) (Within 1486 ∷ Within 2925 ∷ []) ≡ codes "task a cost 975 blocks 511 length 1486\ntask b cost 975 blocks 0 length 2925\nfits\n"
+short_text : fit_text (codes "a" ∷ codes "b" ∷ []) (load 1486 ∷ load 10000 ∷ []) (Within 1486 ∷ Within 2925 ∷ [])
+    ≡ codes "task a cost 975 blocks 511 length 1486\ntask b cost 975 blocks 0 length 2925\nfits\n"
 unfolding digits
 short_text = refl
 

@@ -37,10 +37,12 @@ name_there [] i d lt = absurd (omega (arith, lt))
 name_there (t ∷ ts) zero d lt = refl
 name_there (t ∷ ts) (suc i) d lt = name_there ts i d (omega (arith, lt))
 
-pub task_line_tells : (set : TaskSet) → HasValues set → broken set ≡ None → all_within (found_in (loads_in set)) ≡ true → (i n : ℕ) → i < length (setup_in set).tasks → slice_get (found_in (loads_in set)) i ≡ Some (Within n) →
+pub task_line_tells : (set : TaskSet) → HasValues set → broken set ≡ None → all_within (found_in (loads_in set)) ≡ true → (i n : ℕ) →
+    i < length (setup_in set).tasks → slice_get (found_in (loads_in set)) i ≡ Some (Within n) →
     TellsLength (set_text set) (loads_in set) i (record_of (setup_in set) i).name n
 task_line_tells set values none all i n lt found =
     let laid = accepted_sets_are_laid_out set (places_in set) values none (default_places_are_lawful set values none) in
     let each = recursion_from_All HasCodedValues (coded_in set) laid.each in
-    line_tells (loads_in set) (names_of (compiled set).image.tasks) (length (loads_in set)) (are_named set.plant (places_in set) (coded_in set) each) (periods_small set.plant (places_in set) (coded_in set) each) all
+    line_tells (loads_in set) (names_of (compiled set).image.tasks) (length (loads_in set)) (are_named set.plant (places_in set) (coded_in set) each)
+    (periods_small set.plant (places_in set) (coded_in set) each) all
     i (record_of (setup_in set) i).name n (name_there (setup_in set).tasks i _ lt) found

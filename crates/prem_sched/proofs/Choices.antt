@@ -8,7 +8,8 @@ use Rattle.std.proofs.lemmas.Bool.{false_from_ne_true}
 use Rattle.std.proofs.lemmas.Bool.Decides.{nat_tests}
 use Rattle.prem_sched.specs.declared.sched.TaskJobs.{TaskJobs}
 use Rattle.prem_sched.specs.declared.sched.Choice.TheVariants.{Finished}
-use Rattle.prem_sched.specs.Schedule.{is_ready, has_jobs_left, next_release, earlier, least_release, rest, first_ready, run_or, choice, start_of, starts_of, no_task, task_at, becomes_ready, next_ready, Before, IsTask, IsReady, IsDone, NoneReady, IsChoice, IsSet}
+use Rattle.prem_sched.specs.Schedule.{is_ready, has_jobs_left, next_release, earlier, least_release, rest, first_ready, run_or, choice, start_of, starts_of, no_task, task_at}
+use Rattle.prem_sched.specs.Schedule.{becomes_ready, next_ready, Before, IsTask, IsReady, IsDone, NoneReady, IsChoice, IsSet}
 
 -- ---- one task
 

@@ -15,7 +15,8 @@ use Rattle.prem_sound.specs.Script.Conforms.{GoesOrDone}
 use Rattle.prem_asm.specs.Steps.{AllSteps}
 use Rattle.prem_sets_sound.specs.Weave.Weave.{Section, segment_of, section_dids, IsSection, Weave, ends, goes, calls, dids_of, calls_of, IsWeave}
 use Rattle.prem_sound.specs.Scopes.Scopes.{Scope, charge_of, single}
-use Rattle.prem_sound.specs.Scopes.Strands.{Strand, runs, dids_along, GoesTo, IsWithinInterval, IsStrand, change_behind, last_change, calls_begun, scope_due, begun_along, charges_along, EndsNoJob, StretchesWithin}
+use Rattle.prem_sound.specs.Scopes.Strands.{Strand, runs, dids_along, GoesTo, IsWithinInterval, IsStrand, change_behind, last_change, calls_begun, scope_due, begun_along}
+use Rattle.prem_sound.specs.Scopes.Strands.{charges_along, EndsNoJob, StretchesWithin}
 use Rattle.prem_sound.specs.Scopes.Strands as S
 use Rattle.prem_sound.proofs.ScopesLemmas.Alone.{singles_are_due}
 use Rattle.prem_wcet_laws.specs.Divided.{Division, alone, together, section, steps_of, lone_charge, scope_charge, StaysOn, AreLoose, IsCourse, path_of}
@@ -231,7 +232,9 @@ module _ (p : Plant) (passes : ℕ → ℕ) (s : Script) (counts : List Did → 
   from_less m n (Cuts ∷ es) le = omega (arith, le)
 
   first_fits : (stretch d : ℕ) (es : Path) (most : ℕ) {c : ℕ} → c ≤ d → longest_from stretch (Takes d ∷ es) ≤ most → stretch + c ≤ most
-  first_fits stretch d es most {c} le fits = further (stretch + c) (stretch + d) most (sum_less stretch c d le) (further (stretch + d) (longest_from (stretch + d) es) most (at_least (stretch + d) es) fits)
+  first_fits stretch d es most {c} le fits =
+      further (stretch + c) (stretch + d) most (sum_less stretch c d le)
+      (further (stretch + d) (longest_from (stretch + d) es) most (at_least (stretch + d) es) fits)
 
   -- a scope that goes on
   one_stretch : (most stretch : ℕ) (x : Scope) (n : ℕ) (es : Path) (w : Strand) (z : Scope) → last_change x.dids ≡ Stay → charge_of p x ≤ n → longest_from stretch (Takes n ∷ es) ≤ most →
@@ -243,12 +246,14 @@ module _ (p : Plant) (passes : ℕ → ℕ) (s : Script) (counts : List Did → 
   )
 
   -- a marked call between its first step and its return
-  call_stretches : (most stretch : ℕ) (x : Scope) (ds : List Did) (y : Scope) (es : Path) (w : Strand) (z : Scope) → last_change x.dids ≡ Memory → last_change y.dids ≡ Stay → charge_of p x ≤ job_weight p PmMem → charge_of p y ≤ job_weight p (Jalr 0 4 (pos 0)) →
+  call_stretches : (most stretch : ℕ) (x : Scope) (ds : List Did) (y : Scope) (es : Path) (w : Strand) (z : Scope) → last_change x.dids ≡ Memory →
+      last_change y.dids ≡ Stay → charge_of p x ≤ job_weight p PmMem → charge_of p y ≤ job_weight p (Jalr 0 4 (pos 0)) →
       longest_from stretch (Takes (job_weight p PmMem) ∷ Cuts ∷ Takes (job_weight p (Jalr 0 4 (pos 0))) ∷ es) ≤ most →
       ((st2 : ℕ) → longest_from st2 es ≤ most → StretchesWithin p most st2 (S.joined w (runs z S.ends))) → StretchesWithin p most stretch (runs x (S.calls ds (runs y (S.joined w (runs z S.ends)))))
   call_stretches most stretch x ds y es w z memory stays le more fits again =
       let rest = Takes (job_weight p (Jalr 0 4 (pos 0))) ∷ es in (
-        further _ (longest_from (stretch + job_weight p PmMem) (Cuts ∷ rest)) most (further _ (stretch + job_weight p PmMem) _ (sum_less stretch _ _ le) (at_least (stretch + job_weight p PmMem) (Cuts ∷ rest))) fits,
+        further _ (longest_from (stretch + job_weight p PmMem) (Cuts ∷ rest)) most
+            (further _ (stretch + job_weight p PmMem) _ (sum_less stretch _ _ le) (at_least (stretch + job_weight p PmMem) (Cuts ∷ rest))) fits,
         subst (λ c. StretchesWithin p most (within_stretch c (stretch + charge_of p x)) (runs y (S.joined w (runs z S.ends)))) (sym memory)
             (one_stretch most 0 y (job_weight p (Jalr 0 4 (pos 0))) es w z stays more (right_most (stretch + job_weight p PmMem) (longest_from 0 rest) most fits) again),
       ) where
@@ -261,8 +266,18 @@ module _ (p : Plant) (passes : ℕ → ℕ) (s : Script) (counts : List Did → 
   last_due : (d : Did) → due_of p d ≤ job_weight p (Jalr 0 4 (pos 0)) → charge_of p (single p d) ≤ job_weight p (Jalr 0 4 (pos 0))
   last_due d le = let e = (singles_are_due p d).1 in omega (arith, e, le)
 
-  strands : (v : Division) (w : Weave) (begun : ℕ) → IsWeave p passes w → IsCourse (is_marked (is_marked_call p counts)) p.line v → AreLoose v → dids_of w ≡ steps_of v → StateWithin s begun (counts_of counts w) → CourseStrand p s begun w v
-  strands D.ends ends begun h k st e c = record { strand = S.ends; dids_are = refl; is_strand = tt; no_job = tt; begun_is = omega arith; charged = omega arith; stretches = λ most stretch d last le fits. (first_fits stretch d [] most le fits, tt) }
+  strands : (v : Division) (w : Weave) (begun : ℕ) → IsWeave p passes w → IsCourse (is_marked (is_marked_call p counts)) p.line v → AreLoose v →
+      dids_of w ≡ steps_of v → StateWithin s begun (counts_of counts w) → CourseStrand p s begun w v
+  strands D.ends ends begun h k st e c =
+      record {
+        strand = S.ends;
+        dids_are = refl;
+        is_strand = tt;
+        no_job = tt;
+        begun_is = omega arith;
+        charged = omega arith;
+        stretches = λ most stretch d last le fits. (first_fits stretch d [] most le fits, tt);
+      }
   strands D.ends (goes x w) begun h k st e c = absurd (none_some x (dids_of w) (sym e))
   strands D.ends (calls m w) begun h k st e c = absurd (none_some m.begin (segment_of m ++ dids_of w) (sym e))
   strands (alone d_ rest) w begun h k st e c =
@@ -276,7 +291,8 @@ module _ (p : Plant) (passes : ℕ → ℕ) (s : Script) (counts : List Did → 
         no_job = ((λ j. stay_job (sym st.0 ∙ j)), r.no_job);
         begun_is = b.0 ∙ ap (λ (cs : List Call). begun + length cs) (sym t.calls_are);
         charged = b.1;
-        stretches = λ most stretch d z le fits. one_stretch most stretch (single p d_) (lone_charge p d_) (path_of p rest ++ Takes d ∷ []) r.strand z t.last (low_of ((singles_are_due p d_).1 ∙ lones_agree p d_)) fits (λ st2 low. r.stretches most st2 d z le low);
+        stretches = λ most stretch d z le fits. one_stretch most stretch (single p d_) (lone_charge p d_) (path_of p rest ++ Takes d ∷ [])
+            r.strand z t.last (low_of ((singles_are_due p d_).1 ∙ lones_agree p d_)) fits (λ st2 low. r.stretches most st2 d z le low);
       }
   strands (together lines steps rest) w begun h k st e c =
       let t = take p passes counts steps (steps_of rest) w h st.0 e in
@@ -290,7 +306,8 @@ module _ (p : Plant) (passes : ℕ → ℕ) (s : Script) (counts : List Did → 
         no_job = ((λ j. stay_job (sym t.last ∙ j)), r.no_job);
         begun_is = b.0 ∙ ap (λ (cs : List Call). begun + length cs) (sym t.calls_are);
         charged = b.1;
-        stretches = λ most stretch d z le fits. one_stretch most stretch x (scope_charge p lines steps) (path_of p rest ++ Takes d ∷ []) r.strand z t.last (low_of (scopes_agree p lines steps)) fits (λ st2 low. r.stretches most st2 d z le low);
+        stretches = λ most stretch d z le fits. one_stretch most stretch x (scope_charge p lines steps) (path_of p rest ++ Takes d ∷ [])
+            r.strand z t.last (low_of (scopes_agree p lines steps)) fits (λ st2 low. r.stretches most st2 d z le low);
       }
   strands (section [] weight rest) w begun h k st e c = absurd (false_true (and_parts (is_call []) (leb (call_due p counts []) weight && (first_within p [] && last_within p [])) k.0).0)
   strands (section (b ∷ ds) weight rest) ends begun h k st e c = absurd (none_some b (ds ++ steps_of rest) e)
@@ -329,9 +346,12 @@ module _ (p : Plant) (passes : ℕ → ℕ) (s : Script) (counts : List Did → 
           (segment_marked m h.0, (t.quiet, (singles_are_due p q.ret).0, r.is_strand)),
         );
         no_job = ((λ j. memory_job (sym memory ∙ j)), ((λ j. stay_job (sym q.stays ∙ j)), r.no_job));
-        begun_is = ap (λ n. begun_along n (runs (single p q.ret) r.strand)) count ∙ f.0 ∙ longer begun (length (calls_of t.rest)) (length (calls_of w)) (ap (λ (cs : List Call). length cs) (sym t.calls_are));
-        charged = within (scope_due p s begun (single p b)) (charges_along p s (begun + calls_begun b.change) (runs (single p q.ret) r.strand)) (due_of p b) (2 * p.switch) (counts (segment_of m)) (counts (up_to_end ds)) (due_of p q.ret) (due_of_last p ds)
-            (D.charge_of p rest) (call_due p counts (b ∷ ds)) weight first (subst (λ n. charges_along p s n (runs (single p q.ret) r.strand) ≤ due_of p q.ret + D.charge_of p rest) (sym count) f.1) inner_is ret_is refl
+        begun_is = ap (λ n. begun_along n (runs (single p q.ret) r.strand)) count ∙ f.0
+            ∙ longer begun (length (calls_of t.rest)) (length (calls_of w)) (ap (λ (cs : List Call). length cs) (sym t.calls_are));
+        charged = within (scope_due p s begun (single p b)) (charges_along p s (begun + calls_begun b.change) (runs (single p q.ret) r.strand))
+            (due_of p b) (2 * p.switch) (counts (segment_of m)) (counts (up_to_end ds)) (due_of p q.ret) (due_of_last p ds)
+            (D.charge_of p rest) (call_due p counts (b ∷ ds)) weight first
+            (subst (λ n. charges_along p s n (runs (single p q.ret) r.strand) ≤ due_of p q.ret + D.charge_of p rest) (sym count) f.1) inner_is ret_is refl
             (leb-true _ _ costs.0);
         stretches = λ most stretch d z le fits. call_stretches most stretch (single p b) (segment_of m) (single p q.ret) (path_of p rest ++ Takes d ∷ []) r.strand z memory t.last
             (first_due b (leb-true _ _ ruled.0)) (last_due q.ret (leb-true _ _ (sym (ap (last_within p) steps_are ∙ last_end p (section_dids m) q.ret) ∙ ruled.1))) fits
@@ -344,7 +364,8 @@ module _ (p : Plant) (passes : ℕ → ℕ) (s : Script) (counts : List Did → 
       longer : (n a b : ℕ) → a ≡ b → n + 1 + a ≡ n + suc b
       longer n a b e = omega (arith, e)
 
-      within : (first more due switches inner up ret last rest all weight : ℕ) → first ≤ due + (switches + inner) → more ≤ ret + rest → up ≡ inner → last ≡ ret → all ≡ due + (switches + up) + last → all ≤ weight → first + more ≤ weight + rest
+      within : (first more due switches inner up ret last rest all weight : ℕ) → first ≤ due + (switches + inner) → more ≤ ret + rest → up ≡ inner →
+          last ≡ ret → all ≡ due + (switches + up) + last → all ≤ weight → first + more ≤ weight + rest
       within first more due switches inner up ret last rest all weight a b c d e f = omega (arith, a, b, c, d, e, f)
 
 pub courses_are_strands : CoursesAreStrands

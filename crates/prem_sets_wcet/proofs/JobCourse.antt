@@ -1,7 +1,8 @@
 -- A call of `job` runs in scopes, lone steps and marked calls.
 use Rattle.std.specs.Prelude.{All, slice_index, slice_index_or, not, map, min, option_map}
 use Rattle.std.specs.List.{list_any}
-use Rattle.std.proofs.Common.{◌≡◌, ◌≢◌, ℕ, zero, suc, ◌+◌, ◌^◌, ◌<◌, ◌≤◌, inl, inr, refl, ap, ◌∙◌, sym, subst, arith, cond, eqb, eq-eqb, ltb, ltb-true, true, false, Bool, ◌||◌, List, [], ◌∷◌, append-nil, length, Some, slice_get}
+use Rattle.std.proofs.Common.{◌≡◌, ◌≢◌, ℕ, zero, suc, ◌+◌, ◌^◌, ◌<◌, ◌≤◌, inl, inr, refl, ap, ◌∙◌, sym, subst, arith, cond, eqb, eq-eqb, ltb, ltb-true, true, false, Bool, ◌||◌}
+use Rattle.std.proofs.Common.{List, [], ◌∷◌, append-nil, length, Some, slice_get}
 use Rattle.std.proofs.lemmas.Bool.{eqb-true, and_parts, and_from}
 use Rattle.std.proofs.lemmas.Option.{slice_get-map}
 use Rattle.prem_plant.specs.declared.plant.Plant.{Plant}
@@ -124,7 +125,8 @@ pub record Told (p : Plant) (passes : ℕ → ℕ) (t : Placed) (plans : List Pl
   pub there : slice_get plans n ≡ Some plan
   pub less : (at : ℕ) (trace : List Did) (c : StubSection p passes at (stub_at p t other) trace) → counts (segment_of c.section) ≤ plan.stated
 
-module _ (passes : ℕ → ℕ) (p : Plant) (devices : List Device) (tasks : List Coded) (places : List Extent) (k : ℕ) (t : Placed) (placed : IsPlacedTask p devices tasks places k t) (same : passes p.ways ≡ pass_count (stub_passes p))
+module _ (passes : ℕ → ℕ) (p : Plant) (devices : List Device) (tasks : List Coded) (places : List Extent) (k : ℕ) (t : Placed)
+    (placed : IsPlacedTask p devices tasks places k t) (same : passes p.ways ≡ pass_count (stub_passes p))
     (x : ProgramText) (keeps : KeepsTaskRules p x t) (some : 1 ≤ t.task.jobs) where
   abbrev s : Setting
   s = setting_of p (task_guard t) t
@@ -219,8 +221,10 @@ module _ (passes : ℕ → ℕ) (p : Plant) (devices : List Device) (tasks : Lis
       record {
         plan = r.0;
         there = planned;
-        stands = subst (λ (y : Confinement). StubStands p passes s y.guard y.codes own 0 (slice_index (content_of p places tasks)) (length (map (λ (q : Extent). q.0) t.at.places)) t.task.program.job (stub_at p t r.0)) (sym (ap (confinement_of t) planned))
-            (stub_stands passes p devices tasks places k t placed x keeps same (marked_before n t.task.program.routines) r.0 planned first own 0 (run.running (task_guard t) 0 none_ended) run.stack_small);
+        stands = subst (λ (y : Confinement). StubStands p passes s y.guard y.codes own 0 (slice_index (content_of p places tasks))
+            (length (map (λ (q : Extent). q.0) t.at.places)) t.task.program.job (stub_at p t r.0)) (sym (ap (confinement_of t) planned))
+            (stub_stands passes p devices tasks places k t placed x keeps same (marked_before n t.task.program.routines) r.0 planned first own 0
+            (run.running (task_guard t) 0 none_ended) run.stack_small);
         part_is = ap (λ f. (codes_in t).stub_part f) number_is;
         code_is = m.stub_is ∙ ap (λ (q : Plan). stub_code (stub_passes p) p.line (ranges_of t.at q) q.stated (1 + n)) plan_is;
         number_is = number_is;
@@ -261,7 +265,8 @@ module _ (passes : ℕ → ℕ) (p : Plant) (devices : List Device) (tasks : Lis
 
     abbrev Course : ℕ → Type 0
     Course f =
-        CallCourses p (is_marked (is_marked_call p counts)) (called_parted (scene job) f) s gs (job_frame t) Compatible (task_calls s t (parts.callee f)) (parts.link f) (parts.frame f) (every.depth f) (every.params f)
+        CallCourses p (is_marked (is_marked_call p counts)) (called_parted (scene job) f) s gs (job_frame t) Compatible
+        (task_calls s t (parts.callee f)) (parts.link f) (parts.frame f) (every.depth f) (every.params f)
         (λ words st. calls_below (limits_of x) P.routines job everywhere f words st)
 
     stub_course : (f : ℕ) → job_callable P f ≡ true → is_marked_at P.routines f ≡ true → Course f
@@ -280,14 +285,17 @@ module _ (passes : ℕ → ℕ) (p : Plant) (devices : List Device) (tasks : Lis
               let code_is : c.stub f ≡ stub_code (stub_at p t h.plan).kind p.line (stub_at p t h.plan).ranges (stub_at p t h.plan).stated (stub_at p t h.plan).part =
               h.code_is ∙ ap (λ n. stub_code (stub_passes p) p.line (ranges_of t.at h.plan) h.plan.stated (1 + n)) (sym h.number_is) in
               let stub_is : stub_run s c (confinement_in t f) job f u ≡
-              run (with_guard y.guard s) (code_calls (with_guard y.guard s) y.codes job) (s.places (stub_at p t h.plan).stub) (stub_code (stub_at p t h.plan).kind p.line (stub_at p t h.plan).ranges (stub_at p t h.plan).stated (stub_at p t h.plan).part) u =
+              run (with_guard y.guard s) (code_calls (with_guard y.guard s) y.codes job) (s.places (stub_at p t h.plan).stub)
+              (stub_code (stub_at p t h.plan).kind p.line (stub_at p t h.plan).ranges (stub_at p t h.plan).stated (stub_at p t h.plan).part) u =
               ap (λ q. run (with_guard y.guard s) (code_calls (with_guard y.guard s) y.codes job) (s.places q) (c.stub f) u) (sym h.part_is)
               ∙ ap (λ ps. run (with_guard y.guard s) (code_calls (with_guard y.guard s) y.codes job) (s.places (stub_at p t h.plan).stub) ps u) code_is in
               let goes = sym stub_is ∙ sym run_is ∙ b.goes in
               let section_ = stub_section p passes s y.guard y.codes own 0 _ _ job (stub_at p t h.plan) h.stands u b.to back b.trace match.phase_is match.words goes in
               let is_call : is_marked_call p counts b.trace (call_weight p told_of.plan.stated) ≡ true =
-              section_is_marked p passes counts (s.places (stub_at p t h.plan).stub) told_of.plan.stated (stub_at p t h.plan) b.trace section_ (told_of.less (s.places (stub_at p t h.plan).stub) b.trace section_) in
-              let count_of_call : called_parted (scene job) f ≡ marked_count p plans (marked_before f P.routines) = ap (λ b. cond b (marked_count p plans (marked_before f P.routines)) (fact_of (scene job) f).parted) marked in
+              section_is_marked p passes counts (s.places (stub_at p t h.plan).stub) told_of.plan.stated (stub_at p t h.plan) b.trace section_
+              (told_of.less (s.places (stub_at p t h.plan).stub) b.trace section_) in
+              let count_of_call : called_parted (scene job) f ≡ marked_count p plans (marked_before f P.routines) =
+              ap (λ b. cond b (marked_count p plans (marked_before f P.routines)) (fact_of (scene job) f).parted) marked in
               let weight_is : (called_parted (scene job) f).total ≡ call_weight p told_of.plan.stated =
               ap (λ (z : Count). z.total) count_of_call ∙ marked_is p plans (marked_before f P.routines) told_of.plan told_of.there in
               let sums_are : (called_parted (scene job) f).sums ≡ marked_sums_of p =
@@ -331,7 +339,8 @@ module _ (passes : ℕ → ℕ) (p : Plant) (devices : List Device) (tasks : Lis
     mixes =
         let frame = placed_frames_stand p devices tasks places k t placed x keeps in
         record {
-          works = frames_work scene p (below_range P t.at ∷ []) s gs parts cs Compatible c P.routines job scenes everywhere (limits_of x) (task_calls s t) job least_job (λ part u. same_below job least_job part u) (job_frame t) job_here.ground
+          works = frames_work scene p (below_range P t.at ∷ []) s gs parts cs Compatible c P.routines job scenes everywhere (limits_of x)
+              (task_calls s t) job least_job (λ part u. same_below job least_job part u) (job_frame t) job_here.ground
               (λ a le lt. subst (λ ranges. is_held ranges a ≡ true) (sym stack_is) (frame.frame a le lt)) frame.below;
           callees = means;
           quiet = quiet;
@@ -344,7 +353,9 @@ module _ (passes : ℕ → ℕ) (p : Plant) (devices : List Device) (tasks : Lis
 
 -- ---- with plans that tell
 
-module _ (plans_of_task : Plant → Placed → List Plan) (counts_of_task : Plant → Placed → List Did → ℕ) (told_all : (p : Plant) (passes : ℕ → ℕ) (t : Placed) (n : ℕ) (plan : Plan) → slice_get t.plans n ≡ Some plan → Told p passes t (plans_of_task p t) (counts_of_task p t) n plan) where
+module _ (plans_of_task : Plant → Placed → List Plan) (counts_of_task : Plant → Placed → List Did → ℕ)
+    (told_all : (p : Plant) (passes : ℕ → ℕ) (t : Placed) (n : ℕ) (plan : Plan) → slice_get t.plans n ≡ Some plan →
+    Told p passes t (plans_of_task p t) (counts_of_task p t) n plan) where
   jobs_course : JobsCourse counts_of_task plans_of_task
   jobs_course passes p devices tasks places k t placed same x keeps some f is st u back word after b two one al small means =
       let plans = plans_of_task p t in
@@ -368,11 +379,15 @@ module _ (plans_of_task : Plant → Placed → List Plan) (counts_of_task : Plan
       let top_small : (job_frame t).sp + frame_of j.routine < 2 ^ 32 = subst (λ n. n < 2 ^ 32) (sym j.top_is) j.small in
       subst (RunCourses p (is_marked (is_marked_call p counts)) (fact_of (known_scene p plans P t.at) job).parted) (sym called)
       (subst (λ n. RunCourses p (is_marked (is_marked_call p counts)) n (run s (task_calls s t) at (function_code (parts_of p.target P.routines) f) u)) (sym parted_is)
-      (functions_course (scene_in p plans P t.at job) s (globals_in p.target P) (parts_of p.target P.routines) (callees_in P (plain_callable P)) (callees_in P (job_callable P)) Compatible c P.routines job
-      ((scenes passes p devices tasks places k t placed same x keeps some plans counts told).stands job (omega arith)) everywhere (limits_of x) (task_calls s t) (job_frame t) (is_marked_call p counts) (mixes passes p devices tasks places k t placed same x keeps some plans counts told)
-      f at j.depth j.under (subst (Rattle.prem_code_laws.specs.GenLaws.Functions.FunctionFits (globals_in p.target P) (parts_of p.target P.routines) (callees_in P (job_callable P)) Compatible at j.depth j.under) same_routine j.fits)
+      (functions_course (scene_in p plans P t.at job) s (globals_in p.target P) (parts_of p.target P.routines) (callees_in P (plain_callable P))
+      (callees_in P (job_callable P)) Compatible c P.routines job
+      ((scenes passes p devices tasks places k t placed same x keeps some plans counts told).stands job (omega arith)) everywhere (limits_of x)
+      (task_calls s t) (job_frame t) (is_marked_call p counts) (mixes passes p devices tasks places k t placed same x keeps some plans counts told)
+      f at j.depth j.under (subst (Rattle.prem_code_laws.specs.GenLaws.Functions.FunctionFits (globals_in p.target P) (parts_of p.target P.routines)
+      (callees_in P (job_callable P)) Compatible at j.depth j.under) same_routine j.fits)
       (j.slots ∙ ap Rattle.prem_layout.specs.Template.Frames.slots_of same_routine) j.space
-      [] st u back word after (sym (ap (λ (r : Routine). length r.text.params) (sym same_routine) ∙ ap length j.alone)) (record { stands = λ i lt. absurd (omega (arith, lt)); word = λ i lt. absurd (omega (arith, lt)) })
+      [] st u back word after (sym (ap (λ (r : Routine). length r.text.params) (sym same_routine) ∙ ap length j.alone))
+      (record { stands = λ i lt. absurd (omega (arith, lt)); word = λ i lt. absurd (omega (arith, lt)) })
       b two (subst (λ (r : Routine). (job_frame t).sp + frame_of r < 2 ^ 32) same_routine top_small) one al small means))
 
 -- those of the task themselves, by the lengths that they state
@@ -394,7 +409,8 @@ shut_told top p passes t n plan e = record {
   less = λ at trace c.
       let states = section_states p passes c.section c.is_section in
       let stated = c.stated in
-      let own : AllIn (footprint_of p.line t.at plan) (lines_of_dids p.line (segment_of c.section)) = subst (λ ms. AllIn ms (lines_of_dids p.line (segment_of c.section))) c.members c.is_section.within in
+      let own : AllIn (footprint_of p.line t.at plan) (lines_of_dids p.line (segment_of c.section)) =
+      subst (λ ms. AllIn ms (lines_of_dids p.line (segment_of c.section))) c.members c.is_section.within in
       let opening = section_opening p passes c.section c.is_section (footprint_of p.line t.at plan) (weighted cost_of (λ part. 0) (opening_code p t.at plan)) own c.opens in
       shorter _ _ _ _ _ states stated opening;
 } where

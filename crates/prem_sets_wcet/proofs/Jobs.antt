@@ -18,7 +18,9 @@ course_jobs_are_charged p passes s counts cost most begun v w last others h k lo
     let rest : Strand = runs (single p last) u.strand in
     let alone : Strand = runs (single p last) ends in
     let due : scope_due p s (begun_along begun c.strand) (single p last) ≡ due_of p last + p.switch = over.2 in
-    let all : charges_along p s begun c.strand + scope_due p s (begun_along begun c.strand) (single p last) ≤ cost = fits (charges_along p s begun c.strand) (scope_due p s (begun_along begun c.strand) (single p last)) (D.charge_of p v) (due_of p last + p.switch) c.charged due paid in
+    let all : charges_along p s begun c.strand + scope_due p s (begun_along begun c.strand) (single p last) ≤ cost =
+    fits (charges_along p s begun c.strand) (scope_due p s (begun_along begun c.strand) (single p last)) (D.charge_of p v)
+    (due_of p last + p.switch) c.charged due paid in
     let stretches : StretchesWithin p most 0 (joined c.strand (runs (single p last) ends)) =
     c.stretches most 0 (due_of p last) (single p last) (let one = (singles_are_due p last).1 in omega (arith, one)) enough in
     let join = strands_join p c.strand (runs (single p last) u.strand) in

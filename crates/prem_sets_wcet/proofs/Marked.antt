@@ -32,9 +32,11 @@ section_is_call plant passes m ret h e =
     let body : goes_to_end ((m.body ++ m.last ∷ []) ++ ret ∷ []) ≡ true =
     ap goes_to_end (append_assoc m.body (m.last ∷ []) (ret ∷ [])) ∙ stays_lead m.body (m.last ∷ ret ∷ []) (λ k d lt. (h.running k d lt).1)
     ∙ ap (λ c. goes_by c (ret ∷ []) (goes_to_end (ret ∷ []))) h.lasts.1 ∙ ap (λ c. is_stay c) e in
-    let opened : goes_to_end (m.exec ∷ ((m.body ++ m.last ∷ []) ++ ret ∷ [])) ≡ true = ap (λ c. goes_by c ((m.body ++ m.last ∷ []) ++ ret ∷ []) (goes_to_end ((m.body ++ m.last ∷ []) ++ ret ∷ []))) h.opens.1 ∙ body in
+    let opened : goes_to_end (m.exec ∷ ((m.body ++ m.last ∷ []) ++ ret ∷ [])) ≡ true =
+    ap (λ c. goes_by c ((m.body ++ m.last ∷ []) ++ ret ∷ []) (goes_to_end ((m.body ++ m.last ∷ []) ++ ret ∷ []))) h.opens.1 ∙ body in
     let all : goes_to_end ((m.before ++ m.exec ∷ (m.body ++ m.last ∷ [])) ++ ret ∷ []) ≡ true =
-    ap goes_to_end (append_assoc m.before (m.exec ∷ (m.body ++ m.last ∷ [])) (ret ∷ [])) ∙ stays_lead m.before (m.exec ∷ ((m.body ++ m.last ∷ []) ++ ret ∷ [])) (λ k d lt. (h.fetching k d lt).1) ∙ opened in
+    ap goes_to_end (append_assoc m.before (m.exec ∷ (m.body ++ m.last ∷ [])) (ret ∷ []))
+    ∙ stays_lead m.before (m.exec ∷ ((m.body ++ m.last ∷ []) ++ ret ∷ [])) (λ k d lt. (h.fetching k d lt).1) ∙ opened in
     and_from _ _ begins all
 
 pub marked_is : (plant : Plant) (plans : List Plan) (k : ℕ) (plan : Plan) → slice_get plans k ≡ Some plan → marked_weights plant plans k ≡ call_weight plant plan.stated
@@ -54,17 +56,24 @@ last_end p (x ∷ []) r = refl
 last_end p (x ∷ y ∷ ys) r = last_end p (y ∷ ys) r
 
 -- where the interval counts no more than some length, the call counts no more than one that states it
-pub section_is_marked : (plant : Plant) (passes : ℕ → ℕ) (counts : List Did → ℕ) (at most : ℕ) (x : StubAt) (trace : List Did) (c : StubSection plant passes at x trace) → counts (segment_of c.section) ≤ most → is_marked_call plant counts trace (call_weight plant most) ≡ true
+pub section_is_marked : (plant : Plant) (passes : ℕ → ℕ) (counts : List Did → ℕ) (at most : ℕ) (x : StubAt) (trace : List Did)
+    (c : StubSection plant passes at x trace) → counts (segment_of c.section) ≤ most → is_marked_call plant counts trace (call_weight plant most) ≡ true
 section_is_marked plant passes counts at most x trace c le =
     let ret : Did = return_step c.ended in
     let call : is_call trace ≡ true = ap is_call c.trace_is ∙ section_is_call plant passes c.section ret c.is_section refl in
-    let starts : first_within plant trace ≡ true = ap (first_within plant) c.trace_is ∙ ap (λ (d : Did). leb (due_of plant d) (job_weight plant PmMem)) c.begins ∙ le-leb (due_of plant (memory_step at)) (job_weight plant PmMem) (omega arith) in
-    let returns_ : last_within plant trace ≡ true = ap (last_within plant) c.trace_is ∙ last_end plant (section_dids c.section) ret ∙ le-leb (due_of plant ret) (job_weight plant (Jalr 0 4 (pos 0))) (omega arith) in
+    let starts : first_within plant trace ≡ true = ap (first_within plant) c.trace_is
+    ∙ ap (λ (d : Did). leb (due_of plant d) (job_weight plant PmMem)) c.begins
+    ∙ le-leb (due_of plant (memory_step at)) (job_weight plant PmMem) (omega arith) in
+    let returns_ : last_within plant trace ≡ true = ap (last_within plant) c.trace_is ∙ last_end plant (section_dids c.section) ret
+    ∙ le-leb (due_of plant ret) (job_weight plant (Jalr 0 4 (pos 0))) (omega arith) in
     let first : due_of plant c.section.begin ≡ due_of plant (memory_step at) = ap (due_of plant) c.begins in
     let inner : counts (up_to_end (segment_of c.section ++ ret ∷ [])) ≡ counts (segment_of c.section) = ap counts (section_ends plant passes c.section c.is_section (ret ∷ [])) in
     let last : last_due plant (segment_of c.section ++ ret ∷ []) ≡ due_of plant ret = last_is plant (segment_of c.section) ret in
     let due : call_due plant counts trace ≡ call_due plant counts (section_dids c.section ++ ret ∷ []) = ap (call_due plant counts) c.trace_is in
-    and_from _ _ call (and_from _ _ (le-leb _ _ (within (call_due plant counts trace) (due_of plant c.section.begin) (counts (up_to_end (segment_of c.section ++ ret ∷ []))) (last_due plant (segment_of c.section ++ ret ∷ [])) (counts (segment_of c.section)) due first inner last le)) (and_from _ _ starts returns_))
+    and_from _ _ call (and_from _ _
+    (le-leb _ _ (within (call_due plant counts trace) (due_of plant c.section.begin) (counts (up_to_end (segment_of c.section ++ ret ∷ [])))
+    (last_due plant (segment_of c.section ++ ret ∷ [])) (counts (segment_of c.section)) due first inner last le)) (and_from _ _ starts returns_))
   where
-    within : (all first inner last counted : ℕ) → all ≡ first + (2 * plant.switch + inner) + last → first ≡ due_of plant (memory_step at) → inner ≡ counted → last ≡ due_of plant (return_step c.ended) → counted ≤ most → all ≤ call_weight plant most
+    within : (all first inner last counted : ℕ) → all ≡ first + (2 * plant.switch + inner) + last → first ≡ due_of plant (memory_step at) →
+        inner ≡ counted → last ≡ due_of plant (return_step c.ended) → counted ≤ most → all ≤ call_weight plant most
     within all first inner last counted a b c d e = omega (arith, a, b, c, d, e)

@@ -42,13 +42,15 @@ use Rattle.prem_sets_wcet.proofs.Openings.{exec_first}
 
 -- what stands behind the passes adds to their weight, and no call does that is before it
 module _ (w : Instr → ℕ) (f g : ℕ → ℕ) (line : ℕ) where
-  ranges_more : (ranges : List Extent) (rest other : Pieces) (e : ℕ) → weighted w f rest ≤ weighted w g other + e → weighted w f (ranges_code line ranges rest) ≤ weighted w g (ranges_code line ranges other) + e
+  ranges_more : (ranges : List Extent) (rest other : Pieces) (e : ℕ) → weighted w f rest ≤ weighted w g other + e →
+      weighted w f (ranges_code line ranges rest) ≤ weighted w g (ranges_code line ranges other) + e
   ranges_more [] rest other e le = le
   ranges_more (range ∷ ranges) rest other e le = sum _ _ _ _ e (ranges_more ranges rest other e le) where
     sum : (a x u v e : ℕ) → u ≤ v + e → a + (x + u) ≤ a + (x + v) + e
     sum a x u v e h = omega (arith, h)
 
-  passes_more : (passes : PassCount) (ranges : List Extent) (rest other : Pieces) (e : ℕ) → weighted w f rest ≤ weighted w g other + e → weighted w f (passes_code passes line ranges rest) ≤ weighted w g (passes_code passes line ranges other) + e
+  passes_more : (passes : PassCount) (ranges : List Extent) (rest other : Pieces) (e : ℕ) → weighted w f rest ≤ weighted w g other + e →
+      weighted w f (passes_code passes line ranges rest) ≤ weighted w g (passes_code passes line ranges other) + e
   passes_more once ranges rest other e le = ranges_more ranges rest other e le
   passes_more (times n) ranges rest other e le =
       let body = ranges_more ranges (straight (OpImm Add 7 7 (negsuc 0) ∷ []) no_pieces) (straight (OpImm Add 7 7 (negsuc 0) ∷ []) no_pieces) 0 (omega arith) in
@@ -66,7 +68,8 @@ cost_total [] = refl
 cost_total (d ∷ ds) = sum_by-cons (λ (x : Did). cost_of x.instr) d ds ∙ ap (λ z. cost_of d.instr + z) (cost_total ds)
 
 -- steps before a run that returns
-behind : (first : List Did) (o : Ending) (back : ℕ) (u : TaskState) (trace : List Did) → with_trace first o ≡ Returns back u trace → (rest : List Did) × ((o ≡ Returns back u rest) × (trace ≡ first ++ rest))
+behind : (first : List Did) (o : Ending) (back : ℕ) (u : TaskState) (trace : List Did) → with_trace first o ≡ Returns back u trace →
+    (rest : List Did) × ((o ≡ Returns back u rest) × (trace ≡ first ++ rest))
 behind first (Falls v more) back u trace e = absurd (falls e) where
   falls : Falls v (first ++ more) ≡ Returns back u trace → ⊥
   falls e = cc
@@ -92,8 +95,10 @@ record Opens (line at : ℕ) (passes : PassCount) (ranges : List Extent) (stated
   opens : exec.change ≡ Execute stated
   cost : cost_of_dids before ≤ weighted cost_of (λ part. 0) (passes_code passes line ranges (straight (address_code 5 stated) no_pieces))
 
-opens_so : (s : Setting) (c : Codes) (n line : ℕ) → Lines s line → (ranges : List Extent) → AllInMemory s ranges → (passes : PassCount) → pass_count passes < 2 ^ 32 → (stated part at : ℕ) → stated < 2 ^ 32 →
-    (t u : TaskState) (back : ℕ) (trace : List Did) → t.phase ≡ Compatible → AreWords t.registers → run s (code_calls s c n) at (stub_code passes line ranges stated part) t ≡ Returns back u trace → Opens line at passes ranges stated trace
+opens_so : (s : Setting) (c : Codes) (n line : ℕ) → Lines s line → (ranges : List Extent) → AllInMemory s ranges → (passes : PassCount) →
+    pass_count passes < 2 ^ 32 → (stated part at : ℕ) → stated < 2 ^ 32 →
+    (t u : TaskState) (back : ℕ) (trace : List Did) → t.phase ≡ Compatible → AreWords t.registers →
+    run s (code_calls s c n) at (stub_code passes line ranges stated part) t ≡ Returns back u trace → Opens line at passes ranges stated trace
 opens_so s c n line fit ranges inside passes count_small stated part at stated_small t u back trace ph ws goes =
     let rest = execute_code stated part in
     let long = 4 * (passes_words passes + 9 * length ranges) in
@@ -129,7 +134,8 @@ opens_so s c n line fit ranges inside passes count_small stated part at stated_s
       later = d.0;
       trace_is = a.1.1 ∙ ap (λ ds. memory_step at ∷ ds) (b.1.1 ∙ ap (λ ds. z.trace ++ ds) d.1.1 ∙ arranged z.trace x.length_steps (exec_step (at2 + 8) stated) d.0);
       stays = all_of (λ (y : Did). y.change ≡ Stay) (z.trace ++ x.length_steps)
-          (steps_join (λ (y : Did). y.change ≡ Stay) z.trace x.length_steps (steps_map (IsFetch line (IsLineOf line ranges) MemoryPhase) (λ (y : Did). y.change ≡ Stay) (λ y h. h.1.0) z.trace z.fetches)
+          (steps_join (λ (y : Did). y.change ≡ Stay) z.trace x.length_steps
+          (steps_map (IsFetch line (IsLineOf line ranges) MemoryPhase) (λ (y : Did). y.change ≡ Stay) (λ y h. h.1.0) z.trace z.fetches)
           (steps_map (IsFetch line (IsLineOf line ranges) MemoryPhase) (λ (y : Did). y.change ≡ Stay) (λ y h. h.1.0) x.length_steps x.fetches));
       opens = refl;
       cost = added z.trace x.length_steps (exec_step (at2 + 8) stated) _ _ (cost_of (PmExec 5)) refl within less;
@@ -162,16 +168,21 @@ pub record StubSection (plant : Plant) (passes : ℕ → ℕ) (at : ℕ) (x : St
 tail_of : (x y : Did) (xs ys : List Did) → x ∷ xs ≡ y ∷ ys → xs ≡ ys
 tail_of x y xs ys e = cc
 
-pub stub_section : (plant : Plant) (passes : ℕ → ℕ) (s : Setting) (h : Guard) (c : Codes) (own : TaskRun) (ended : ℕ) (bytes : ℕ → ℕ) (parts n : ℕ) (x : StubAt) → StubStands plant passes s h c own ended bytes parts n x →
+pub stub_section : (plant : Plant) (passes : ℕ → ℕ) (s : Setting) (h : Guard) (c : Codes) (own : TaskRun) (ended : ℕ) (bytes : ℕ → ℕ) (parts n : ℕ)
+    (x : StubAt) → StubStands plant passes s h c own ended bytes parts n x →
     (t u : TaskState) (back : ℕ) (trace : List Did) → t.phase ≡ Compatible → AreWords t.registers →
-    run (with_guard h s) (code_calls (with_guard h s) c n) (s.places x.stub) (stub_code x.kind plant.line x.ranges x.stated x.part) t ≡ Returns back u trace → StubSection plant passes (s.places x.stub) x trace
+    run (with_guard h s) (code_calls (with_guard h s) c n) (s.places x.stub) (stub_code x.kind plant.line x.ranges x.stated x.part) t
+    ≡ Returns back u trace → StubSection plant passes (s.places x.stub) x trace
 stub_section plant passes s h c own ended bytes parts n x stands t u back trace phase words goes =
-    let r = stubs_return (with_guard h s) (code_calls (with_guard h s) c n) plant.line stands.line_fits x.ranges stands.in_memory x.kind stands.few x.stated x.part (s.places x.stub) stands.small t u back trace phase words goes in
+    let r = stubs_return (with_guard h s) (code_calls (with_guard h s) c n)
+    plant.line stands.line_fits x.ranges stands.in_memory x.kind stands.few x.stated x.part (s.places x.stub)
+    stands.small t u back trace phase words goes in
     let w : StubSteps (code_calls (with_guard h s) c n x.part) (s.places x.stub) plant.line x.ranges (passes plant.ways) x.stated trace =
     subst (λ k. StubSteps (code_calls (with_guard h s) c n x.part) (s.places x.stub) plant.line x.ranges k x.stated trace) stands.count_is r.steps in
     let mark : Mark = record { stated = x.stated; before = []; after = [] } in
     let o = opens_so (with_guard h s) c n plant.line stands.line_fits x.ranges stands.in_memory x.kind stands.few x.stated x.part (s.places x.stub) stands.small t u back trace phase words goes in
-    let is = stubs_are_sections plant passes (with_guard h s) c x.ranges x.members n x.part (s.places x.stub) x.kind x.stated mark t u back trace stands.line_fits.positive stands.within goes stands.room w refl stands.cost in
+    let is = stubs_are_sections plant passes (with_guard h s) c x.ranges x.members n x.part (s.places x.stub)
+    x.kind x.stated mark t u back trace stands.line_fits.positive stands.within goes stands.room w refl stands.cost in
     let rest = w.body ++ end_step w.ended_at ∷ [] in
     let tails : o.before ++ o.exec ∷ o.later ≡ (w.before ++ exec_step w.opened_at x.stated ∷ rest) ++ return_step (w.ended_at + 4) ∷ [] = tail_of _ _ _ _ (sym o.trace_is ∙ w.trace_is) in
     let same : o.before ≡ w.before =

@@ -141,7 +141,8 @@ module _ (p : Plant) (passes : ℕ → ℕ) (m : Section) (h : IsSection p passe
       ∙ ap (λ zs. m.before ++ m.exec ∷ zs) body
 
   -- it opens within what stands before its `pm.exec` costs, with the lines of a list of which it touches no others
-  pub section_opening : (lines : List ℕ) (cost : ℕ) → AllIn lines (lines_of_dids p.line (segment_of m)) → cost_of_dids m.before ≤ cost → opening_of p (segment_of m) ≤ cost + length lines * (p.fill + p.back)
+  pub section_opening : (lines : List ℕ) (cost : ℕ) → AllIn lines (lines_of_dids p.line (segment_of m)) → cost_of_dids m.before ≤ cost →
+      opening_of p (segment_of m) ≤ cost + length lines * (p.fill + p.back)
   section_opening lines cost all le =
       let few = touched_few (lines_of_dids p.line (segment_of m)) lines all in
       let costs = mul-le (length (touched_by p (segment_of m))) (p.fill + p.back) (length lines) (p.fill + p.back) few (omega arith) in

@@ -42,7 +42,8 @@ module _ (p : Plant) (lines : List ℕ) where
     by : (o : Option Access) → cost_of d.instr + touch_cost p lines (d.pc / p.line) + access_cost p lines o ≡ cost_of d.instr + crowd_costs p lines (d.pc / p.line ∷ access_lines p.line o)
     by None = fetched (cost_of d.instr) (touch_cost p lines (d.pc / p.line)) (crowd_cost p (is_roomy p lines (d.pc / p.line))) (touches_agree (d.pc / p.line))
     by (Some a) =
-        accessed (cost_of d.instr) (touch_cost p lines (d.pc / p.line)) (crowd_cost p (is_roomy p lines (d.pc / p.line))) (touch_cost p lines (a.address / p.line)) (crowd_cost p (is_roomy p lines (a.address / p.line)))
+        accessed (cost_of d.instr) (touch_cost p lines (d.pc / p.line)) (crowd_cost p (is_roomy p lines (d.pc / p.line)))
+        (touch_cost p lines (a.address / p.line)) (crowd_cost p (is_roomy p lines (a.address / p.line)))
         (touches_agree (d.pc / p.line)) (touches_agree (a.address / p.line))
 
   sums_agree : (ds : List Did) → sum_by (λ (d : Did). charge_with p None lines d) ds ≡ total (step_charge p lines) ds

@@ -72,7 +72,10 @@ placed_quiet_jobs_divide passes p devices tasks places k t placed same x keeps s
     let no_cut : has_cut (scene_in p plans P t.at job) f.body ≡ false = ap (λ (y : Fact). y.cuts) (sym fact) ∙ quiet in
     let among : (n : ℕ) → IsAmong n (called_in f.body) → plain_callable P n ≡ true =
     λ n h. (
-    let callable : job_callable P n ≡ true = steps_callable gs parts (callees_in P (job_callable P)) Compatible _ _ f.body (subst (λ (r : Routine). Rattle.prem_code_laws.specs.GenLaws.Fits.StepsFit gs parts (callees_in P (job_callable P)) Compatible (Rattle.prem_layout.specs.Template.Frames.locals_of r) j.under r.body) same_routine j.fits.body) n h in
+    let callable : job_callable P n ≡ true =
+    steps_callable gs parts (callees_in P (job_callable P)) Compatible _ _ f.body
+    (subst (λ (r : Routine). Rattle.prem_code_laws.specs.GenLaws.Fits.StepsFit gs parts (callees_in P (job_callable P)) Compatible
+    (Rattle.prem_layout.specs.Template.Frames.locals_of r) j.under r.body) same_routine j.fits.body) n h in
     let cut : cuts (scene_in p plans P t.at job) n ≡ false = each_false (cuts (scene_in p plans P t.at job)) (called_in f.body) no_cut n h in
     and_from (ltb n job) (not (is_marked_at P.routines n)) callable (ap not (neither (is_marked_at P.routines n) _ cut))) in
     let le = code_within p devices tasks places k t placed x keeps job (function_code parts f) (table_code p devices tasks places k t placed x keeps job f is) in
@@ -86,7 +89,8 @@ placed_quiet_jobs_divide passes p devices tasks places k t placed same x keeps s
     let alone : 0 ≡ length f.text.params = sym (ap (λ (r : Routine). length r.text.params) (sym same_routine) ∙ ap length j.alone) in
     subst (RunDivides p (fact_of (known_scene p plans P t.at) job).least) (sym called)
     (quiet_jobs_divide p plans P t.at s gs parts (callees_in P (plain_callable P)) Compatible c (placed_tasks_stand p devices tasks places k t placed x keeps) (limits_of x) (task_calls s t)
-    (λ part v. same_below passes p devices tasks places k t placed same x keeps some job (omega arith) part v) f is (job_frame t) g.ground (placed_frames_stand p devices tasks places k t placed x keeps)
+    (λ part v. same_below passes p devices tasks places k t placed same x keeps some job (omega arith) part v) f is (job_frame t) g.ground
+    (placed_frames_stand p devices tasks places k t placed x keeps)
     _ _ fits g.slots g.space [] st u back word after alone (record { stands = λ i lt. absurd (omega (arith, lt)); word = λ i lt. absurd (omega (arith, lt)) }) b two top_small one al small means)
 
 pub placed_quiet_starts : PlacedQuietStarts
@@ -108,7 +112,10 @@ placed_quiet_starts passes p devices tasks places k t placed same x keeps some p
     let no_cut : has_cut (scene_in p plans P t.at job) f.body ≡ false = ap (λ (y : Fact). y.cuts) (sym fact) ∙ quiet in
     let among : (n : ℕ) → IsAmong n (called_in f.body) → plain_callable P n ≡ true =
     λ n h. (
-    let callable : job_callable P n ≡ true = steps_callable gs parts (callees_in P (job_callable P)) Compatible _ _ f.body (subst (λ (r : Routine). Rattle.prem_code_laws.specs.GenLaws.Fits.StepsFit gs parts (callees_in P (job_callable P)) Compatible (Rattle.prem_layout.specs.Template.Frames.locals_of r) j.under r.body) same_routine j.fits.body) n h in
+    let callable : job_callable P n ≡ true =
+    steps_callable gs parts (callees_in P (job_callable P)) Compatible _ _ f.body
+    (subst (λ (r : Routine). Rattle.prem_code_laws.specs.GenLaws.Fits.StepsFit gs parts (callees_in P (job_callable P)) Compatible
+    (Rattle.prem_layout.specs.Template.Frames.locals_of r) j.under r.body) same_routine j.fits.body) n h in
     let cut : cuts (scene_in p plans P t.at job) n ≡ false = each_false (cuts (scene_in p plans P t.at job)) (called_in f.body) no_cut n h in
     and_from (ltb n job) (not (is_marked_at P.routines n)) callable (ap not (neither (is_marked_at P.routines n) _ cut))) in
     let le = code_within p devices tasks places k t placed x keeps job (function_code parts f) (table_code p devices tasks places k t placed x keeps job f is) in
@@ -120,7 +127,9 @@ placed_quiet_starts passes p devices tasks places k t placed same x keeps some p
     ∙ ap (λ ps. run s (task_calls s t) at ps u) (code_is p devices tasks places k t placed x keeps job f is) in
     let top_small : (job_frame t).sp + frame_of f < 2 ^ 32 = subst (λ n. n < 2 ^ 32) (sym g.frame_is) g.small in
     let alone : 0 ≡ length f.text.params = sym (ap (λ (r : Routine). length r.text.params) (sym same_routine) ∙ ap length j.alone) in
-    subst (RunStarts p (lines_in (known_scene p plans P t.at) (place_at t.at start_part).0 (start_span P)) (charge (known_scene p plans P t.at) (place_at t.at start_part).0 (start_span P)) (place_at t.at start_part).0 at) (sym called)
+    subst (RunStarts p (lines_in (known_scene p plans P t.at) (place_at t.at start_part).0 (start_span P))
+    (charge (known_scene p plans P t.at) (place_at t.at start_part).0 (start_span P)) (place_at t.at start_part).0 at) (sym called)
     (quiet_starts_are_scopes p plans P t.at s gs parts (callees_in P (plain_callable P)) Compatible c (placed_tasks_stand p devices tasks places k t placed x keeps) (limits_of x) (task_calls s t)
-    (λ part v. same_below passes p devices tasks places k t placed same x keeps some job (omega arith) part v) f is (job_frame t) g.ground (placed_frames_stand p devices tasks places k t placed x keeps)
+    (λ part v. same_below passes p devices tasks places k t placed same x keeps some job (omega arith) part v) f is (job_frame t) g.ground
+    (placed_frames_stand p devices tasks places k t placed x keeps)
     _ _ fits g.slots g.space [] st u back word after alone (record { stands = λ i lt. absurd (omega (arith, lt)); word = λ i lt. absurd (omega (arith, lt)) }) b two top_small one al small means)

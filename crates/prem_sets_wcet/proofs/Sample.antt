@@ -25,7 +25,8 @@ use Rattle.prem_sets_wcet.specs.Sets.{wcet_at}
 use Rattle.prem_sets_wcet.proofs.Sets.{sets_go_by_wcet}
 
 -- no premise is left
-sample_goes_by_wcet : Sound (rule_of sample.plant.policy) (image_setup (compiled_at sample (places_in sample)).image) (compiled_at sample (places_in sample)).image.content (promises_at sample (places_in sample))
+sample_goes_by_wcet : Sound (rule_of sample.plant.policy) (image_setup (compiled_at sample (places_in sample)).image)
+    (compiled_at sample (places_in sample)).image.content (promises_at sample (places_in sample))
     (jobs_limit (image_setup (compiled_at sample (places_in sample)).image) (wcet_at sample.plant (placed_by sample (places_in sample))))
 sample_goes_by_wcet = sets_go_by_wcet sample (places_in sample) sample_values (default_places_are_lawful sample sample_values sample_breaks_nothing) (default_is_at sample sample_breaks_nothing)
 

@@ -37,7 +37,8 @@ use Rattle.prem_layout.specs.Image.{task_record}
 use Rattle.prem_sets_sound.proofs.AcceptedLemmas.Records.{have_code}
 use Rattle.prem_sets_sound.proofs.EachLemmas.Words.{all_there}
 
-module _ (passes : ℕ → ℕ) (p : Plant) (devices : List Device) (tasks : List Coded) (places : List Extent) (promises : List (List ℕ) → ℕ → Promise) (laid : IsLaidOut p devices tasks places) (same : passes p.ways ≡ pass_count (stub_passes p))
+module _ (passes : ℕ → ℕ) (p : Plant) (devices : List Device) (tasks : List Coded) (places : List Extent) (promises : List (List ℕ) → ℕ → Promise)
+    (laid : IsLaidOut p devices tasks places) (same : passes p.ways ≡ pass_count (stub_passes p))
     (meant : AreMeant p (placed_from p places tasks) promises) (inputs : List (List ℕ)) (are : AreInputs (setup_of p devices places tasks) inputs) where
   listed : {A : Type 0} (f : Placed → A) (none : A) (k : ℕ) (t : Placed) → slice_get (placed_from p places tasks) k ≡ Some t → slice_index_or (map f (placed_from p places tasks)) k none ≡ f t
   listed f none k t e = get_or_from_slice_get (map f (placed_from p places tasks)) k (f t) none (slice_get-map f (placed_from p places tasks) k ∙ ap (option_map f) e)
@@ -65,18 +66,25 @@ module _ (passes : ℕ → ℕ) (p : Plant) (devices : List Device) (tasks : Lis
   one_goes k t e lt =
       let m = meant k t e in
       let values = all_there HasCodedValues tasks k t.task laid.each (task_there p places tasks k t e) in
-      listed_so (TaskCharges (setup_of p devices places tasks) passes (own_of tasks places k) (run_in (setup_of p devices places tasks) (content_of p places tasks) inputs k)) k t e (promise_for m.text t (slice_index_or inputs k [])) (m.promise_is inputs)
+      listed_so (TaskCharges (setup_of p devices places tasks) passes (own_of tasks places k)
+      (run_in (setup_of p devices places tasks) (content_of p places tasks) inputs k)) k t e (promise_for m.text t (slice_index_or inputs k []))
+      (m.promise_is inputs)
       (tasks_go_by_wcet passes p devices tasks places k t (placed_so k t e) same m.text m.keeps values.jobs.0 inputs (are.words k [] lt))
 
   one_shuts : (top k : ℕ) (t : Placed) → slice_get (placed_from p places tasks) k ≡ Some t → k < length inputs →
-      stands_as (λ limits cycles longest q. TaskShuts (setup_of p devices places tasks) passes (own_of tasks places k) (run_in (setup_of p devices places tasks) (content_of p places tasks) inputs k) limits cycles longest top (closed_at p top (placed_from p places tasks) k) q) k
+      stands_as (λ limits cycles longest q. TaskShuts (setup_of p devices places tasks) passes (own_of tasks places k)
+      (run_in (setup_of p devices places tasks) (content_of p places tasks) inputs k) limits cycles longest top
+      (closed_at p top (placed_from p places tasks) k) q) k
   one_shuts top k t e lt =
       let m = meant k t e in
       let values = all_there HasCodedValues tasks k t.task laid.each (task_there p places tasks k t e) in
       let closed : closed_at p top (placed_from p places tasks) k ≡ task_closed p top t = listed (task_closed p top) 0 k t e in
-      subst (λ n. stands_as (λ limits cycles longest q. TaskShuts (setup_of p devices places tasks) passes (own_of tasks places k) (run_in (setup_of p devices places tasks) (content_of p places tasks) inputs k) limits cycles longest top n q) k) (sym closed)
-      (listed_so (λ limits cycles longest q. TaskShuts (setup_of p devices places tasks) passes (own_of tasks places k) (run_in (setup_of p devices places tasks) (content_of p places tasks) inputs k) limits cycles longest top (task_closed p top t) q) k t e
-      (promise_for m.text t (slice_index_or inputs k [])) (m.promise_is inputs) (tasks_shut_by_wcet passes p devices tasks places k t (placed_so k t e) same m.text m.keeps values.jobs.0 top inputs (are.words k [] lt)))
+      subst (λ n. stands_as (λ limits cycles longest q. TaskShuts (setup_of p devices places tasks) passes (own_of tasks places k)
+      (run_in (setup_of p devices places tasks) (content_of p places tasks) inputs k) limits cycles longest top n q) k) (sym closed)
+      (listed_so (λ limits cycles longest q. TaskShuts (setup_of p devices places tasks) passes (own_of tasks places k)
+      (run_in (setup_of p devices places tasks) (content_of p places tasks) inputs k) limits cycles longest top (task_closed p top t) q) k t e
+      (promise_for m.text t (slice_index_or inputs k [])) (m.promise_is inputs)
+      (tasks_shut_by_wcet passes p devices tasks places k t (placed_so k t e) same m.text m.keeps values.jobs.0 top inputs (are.words k [] lt)))
 
   -- one that is there
   there_so : (k : ℕ) → k < length (setup_of p devices places tasks).tasks → ((t : Placed) × (slice_get (placed_from p places tasks) k ≡ Some t)) × (k < length inputs)
@@ -111,6 +119,7 @@ sets_go_by_wcet set places values lawful none =
     let same = as_stubs_make set.plant.policy set.plant.ways in
     let meant = tasks_are_meant set places g in
     let policy = kind_policy set.plant.policy in
-    let joined = laid_out_images_join passes set.plant set.devices (coded_in set) places (promises_at set places) laid (meant_tasks_join passes set.plant set.devices (coded_in set) places (promises_at set places) laid same meant) in
+    let joined = laid_out_images_join passes set.plant set.devices (coded_in set) places (promises_at set places) laid
+    (meant_tasks_join passes set.plant set.devices (coded_in set) places (promises_at set places) laid same meant) in
     let each = meant_tasks_go_by_wcet passes set.plant set.devices (coded_in set) places (promises_at set places) laid same meant in
     joined_images_are_sound_by_charges rule order passes _ _ _ _ (wcet_at set.plant (placed_by set places)) (stretch_at set.plant (placed_by set places)) (promises_at set places) _ policy joined each

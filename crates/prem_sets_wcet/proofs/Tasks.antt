@@ -68,7 +68,8 @@ stated_more m n le ends h = tt
 stated_more m n le (goes d rest) h = stated_more m n le rest h
 stated_more m n le (calls z rest) h = (let here = h.0 in omega (arith, here, le), stated_more m n le rest h.1)
 
-module _ (passes : ℕ → ℕ) (p : Plant) (devices : List Device) (tasks : List Coded) (places : List Extent) (k : ℕ) (t : Placed) (placed : IsPlacedTask p devices tasks places k t) (same : passes p.ways ≡ pass_count (stub_passes p))
+module _ (passes : ℕ → ℕ) (p : Plant) (devices : List Device) (tasks : List Coded) (places : List Extent) (k : ℕ) (t : Placed)
+    (placed : IsPlacedTask p devices tasks places k t) (same : passes p.ways ≡ pass_count (stub_passes p))
     (x : ProgramText) (keeps : KeepsTaskRules p x t) (some : 1 ≤ t.task.jobs) (inputs : List (List ℕ)) where
   abbrev P : Resolved
   P = t.task.program
@@ -124,14 +125,18 @@ module _ (passes : ℕ → ℕ) (p : Plant) (devices : List Device) (tasks : Lis
     parted_course steps r =
         let c = call_here steps r in
         subst (RunCourses p (is_marked (is_marked_call p (counts p t))) (fact_of e t.task.program.job).parted) r.goes
-        (course passes p devices tasks places k t placed same x keeps some c.routine c.there r.source (linked 1 (s.places 0 + 4) r.task) (s.places 0 + 4) r.word r.after r.between c.two refl c.aligned c.small c.means)
+        (course passes p devices tasks places k t placed same x keeps some c.routine c.there r.source (linked 1 (s.places 0 + 4) r.task)
+        (s.places 0 + 4) r.word r.after r.between c.two refl c.aligned c.small c.means)
 
-    quiet_course : (fact_of e t.task.program.job).cuts ≡ false → CallsCourse p (counts p t) s (globals_in p.target t.task.program) (limits_of x) t.task.program own (job_calls s t) 0 part (quiet (fact_of e t.task.program.job).least)
+    quiet_course : (fact_of e t.task.program.job).cuts ≡ false →
+        CallsCourse p (counts p t) s (globals_in p.target t.task.program) (limits_of x) t.task.program own (job_calls s t) 0 part
+        (quiet (fact_of e t.task.program.job).least)
     quiet_course none steps r =
         let c = call_here steps r in
         course_of p (is_marked (is_marked_call p (counts p t))) _ _
         (subst (RunDivides p (fact_of e t.task.program.job).least) r.goes
-        (placed_quiet_jobs_divide passes p devices tasks places k t placed same x keeps some (plans p t) c.routine c.there r.source (linked 1 (s.places 0 + 4) r.task) (s.places 0 + 4) r.word r.after r.between c.two refl c.aligned c.small c.means none))
+        (placed_quiet_jobs_divide passes p devices tasks places k t placed same x keeps some (plans p t) c.routine c.there r.source
+        (linked 1 (s.places 0 + 4) r.task) (s.places 0 + 4) r.word r.after r.between c.two refl c.aligned c.small c.means none))
 
     abbrev one : ℕ
     one = charge e (s.places 0) (start_span t.task.program)
@@ -143,7 +148,8 @@ module _ (passes : ℕ → ℕ) (p : Plant) (devices : List Device) (tasks : Lis
     quiet_scope none steps r =
         let c = call_here steps r in
         subst (RunStarts p collection one (s.places 0) (s.places part)) r.goes
-        (placed_quiet_starts passes p devices tasks places k t placed same x keeps some (plans p t) c.routine c.there r.source (linked 1 (s.places 0 + 4) r.task) (s.places 0 + 4) r.word r.after r.between c.two refl c.aligned c.small c.means none)
+        (placed_quiet_starts passes p devices tasks places k t placed same x keeps some (plans p t) c.routine c.there r.source
+        (linked 1 (s.places 0 + 4) r.task) (s.places 0 + 4) r.word r.after r.between c.two refl c.aligned c.small c.means none)
 
     -- ---- all jobs
 
@@ -166,7 +172,9 @@ module _ (passes : ℕ → ℕ) (p : Plant) (devices : List Device) (tasks : Lis
     abbrev stretch : ℕ
     stretch = max (stretch_within e t.task.program) (greatest_stated t.plans)
 
-    pub jobs_strand : (weave : Weave) → JobsAlong p passes s (globals_in p.target t.task.program) (limits_of x) t.task.program own (job_calls s t) 0 part weave → (script : Script) → StateWithin script 0 (counts_of (counts p t) weave) →
+    pub jobs_strand : (weave : Weave) →
+        JobsAlong p passes s (globals_in p.target t.task.program) (limits_of x) t.task.program own (job_calls s t) 0 part weave → (script : Script) →
+        StateWithin script 0 (counts_of (counts p t) weave) →
         JobStrand p script taken stretch 0 (dids_of weave)
     jobs_strand weave along script states = by (fact_of e t.task.program.job).cuts refl where
       Goal : Type 0
@@ -174,9 +182,12 @@ module _ (passes : ℕ → ℕ) (p : Plant) (devices : List Device) (tasks : Lis
 
       marked : (fact_of e t.task.program.job).cuts ≡ true → Goal
       marked cut =
-          let cost : job_of e t.task.program ≡ own_start e + (fact_of e t.task.program.job).parted.total = ap (λ b. cond b (own_start e + (fact_of e t.task.program.job).parted.total) (min one (own_start e + (fact_of e t.task.program.job).least))) cut in
-          let longest : stretch_within e t.task.program ≡ stretch_with p (fact_of e t.task.program.job).parted = ap (λ b. cond b (stretch_with p (fact_of e t.task.program.job).parted) (job_of e t.task.program)) cut in
-          jobs_go_by_courses p passes script (counts p t) s (globals_in p.target t.task.program) (limits_of x) t.task.program own (job_calls s t) 0 part weave (fact_of e t.task.program.job).parted taken stretch along parted_course
+          let cost : job_of e t.task.program ≡ own_start e + (fact_of e t.task.program.job).parted.total =
+          ap (λ b. cond b (own_start e + (fact_of e t.task.program.job).parted.total) (min one (own_start e + (fact_of e t.task.program.job).least))) cut in
+          let longest : stretch_within e t.task.program ≡ stretch_with p (fact_of e t.task.program.job).parted =
+          ap (λ b. cond b (stretch_with p (fact_of e t.task.program.job).parted) (job_of e t.task.program)) cut in
+          jobs_go_by_courses p passes script (counts p t) s (globals_in p.target t.task.program) (limits_of x) t.task.program own (job_calls s t)
+          0 part weave (fact_of e t.task.program.job).parted taken stretch along parted_course
           (switched p.switch _ _ cost) (left_max _ _ _ (less longest)) states
 
       unmarked : (fact_of e t.task.program.job).cuts ≡ false → (b : Bool) → leb one (own_start e + (fact_of e t.task.program.job).least) ≡ b → Goal
@@ -185,7 +196,8 @@ module _ (passes : ℕ → ℕ) (p : Plant) (devices : List Device) (tasks : Lis
           let le : one ≤ own_start e + least = leb-true one (own_start e + least) is in
           let cost : job_of e t.task.program ≡ min one (own_start e + least) = ap (λ b. cond b (own_start e + (fact_of e t.task.program.job).parted.total) (min one (own_start e + least))) none in
           let longest : stretch_within e t.task.program ≡ job_of e t.task.program = ap (λ b. cond b (stretch_with p (fact_of e t.task.program.job).parted) (job_of e t.task.program)) none in
-          jobs_go_by_scopes p passes script s (globals_in p.target t.task.program) (limits_of x) t.task.program own (job_calls s t) 0 part weave collection one taken stretch (sym (run_starts p devices tasks places k t placed inputs).entry) along (quiet_scope none)
+          jobs_go_by_scopes p passes script s (globals_in p.target t.task.program) (limits_of x) t.task.program own (job_calls s t)
+          0 part weave collection one taken stretch (sym (run_starts p devices tasks places k t placed inputs).entry) along (quiet_scope none)
           (first_cost p.switch _ _ _ cost le) (left_max _ _ _ (first_stretch _ _ _ _ longest cost le)) where
             first_cost : (s a b j : ℕ) → j ≡ min a b → a ≤ b → s + a ≤ s + j
             first_cost s a b j e le = omega (arith, e, le)
@@ -197,7 +209,8 @@ module _ (passes : ℕ → ℕ) (p : Plant) (devices : List Device) (tasks : Lis
           let lt : own_start e + least < one = leb-false one (own_start e + least) is in
           let cost : job_of e t.task.program ≡ min one (own_start e + least) = ap (λ b. cond b (own_start e + (fact_of e t.task.program.job).parted.total) (min one (own_start e + least))) none in
           let longest : stretch_within e t.task.program ≡ job_of e t.task.program = ap (λ b. cond b (stretch_with p (fact_of e t.task.program.job).parted) (job_of e t.task.program)) none in
-          jobs_go_by_courses p passes script (counts p t) s (globals_in p.target t.task.program) (limits_of x) t.task.program own (job_calls s t) 0 part weave (quiet (fact_of e t.task.program.job).least) taken stretch along (quiet_course none)
+          jobs_go_by_courses p passes script (counts p t) s (globals_in p.target t.task.program) (limits_of x) t.task.program own (job_calls s t)
+          0 part weave (quiet (fact_of e t.task.program.job).least) taken stretch along (quiet_course none)
           (next_cost p.switch _ _ _ cost lt) (left_max _ _ _ (next_stretch _ _ _ _ _ (quiet_stretch (jump_weight (job_weight p)) (job_weight p PmDone) least) longest cost lt)) states where
             next_cost : (s a b j : ℕ) → j ≡ min a b → b < a → s + b ≤ s + j
             next_cost s a b j e lt = omega (arith, e, lt)
@@ -211,10 +224,13 @@ module _ (passes : ℕ → ℕ) (p : Plant) (devices : List Device) (tasks : Lis
 
 -- ---- as they state, and as they keep closed
 
-module _ (passes : ℕ → ℕ) (p : Plant) (devices : List Device) (tasks : List Coded) (places : List Extent) (k : ℕ) (t : Placed) (placed : IsPlacedTask p devices tasks places k t) (same : passes p.ways ≡ pass_count (stub_passes p))
+module _ (passes : ℕ → ℕ) (p : Plant) (devices : List Device) (tasks : List Coded) (places : List Extent) (k : ℕ) (t : Placed)
+    (placed : IsPlacedTask p devices tasks places k t) (same : passes p.ways ≡ pass_count (stub_passes p))
     (x : ProgramText) (keeps : KeepsTaskRules p x t) (some : 1 ≤ t.task.jobs) (inputs : List (List ℕ)) (words : All (λ word. word < 2 ^ 32) (slice_index_or inputs k [])) where
-  told : JobsTell (setup_of p devices places tasks) passes (own_of tasks places k) (run_in (setup_of p devices places tasks) (content_of p places tasks) inputs k) (task_limits p t) (task_longest p t) (greatest_stated t.plans)
-      (setting_of p (task_guard t) t) (globals_in p.target t.task.program) (limits_of x) t.task.program (job_calls (setting_of p (task_guard t) t) t) 0 ((codes_in t).code_part t.task.program.job) (promise_for x t (slice_index_or inputs k []))
+  told : JobsTell (setup_of p devices places tasks) passes (own_of tasks places k)
+      (run_in (setup_of p devices places tasks) (content_of p places tasks) inputs k) (task_limits p t) (task_longest p t) (greatest_stated t.plans)
+      (setting_of p (task_guard t) t) (globals_in p.target t.task.program) (limits_of x) t.task.program (job_calls (setting_of p (task_guard t) t) t)
+      0 ((codes_in t).code_part t.task.program.job) (promise_for x t (slice_index_or inputs k []))
   told = tasks_tell passes p devices tasks places k t placed same x keeps some inputs words
 
   right_max : (a b : ℕ) → b ≤ max a b
@@ -224,7 +240,8 @@ module _ (passes : ℕ → ℕ) (p : Plant) (devices : List Device) (tasks : Lis
   stated_strand script states =
       jobs_strand passes p devices tasks places k t placed same x keeps some inputs (λ p t. stated_of) (λ p t. t.plans) placed_jobs_course told.paces.joins.weave told.along script states
 
-  pub goes_by_wcet : TaskCharges (setup_of p devices places tasks) passes (own_of tasks places k) (run_in (setup_of p devices places tasks) (content_of p places tasks) inputs k) (task_limits p t) (task_wcet p t) (task_stretch p t)
+  pub goes_by_wcet : TaskCharges (setup_of p devices places tasks) passes (own_of tasks places k)
+      (run_in (setup_of p devices places tasks) (content_of p places tasks) inputs k) (task_limits p t) (task_wcet p t) (task_stretch p t)
       (promise_for x t (slice_index_or inputs k []))
   goes_by_wcet =
       let w = stated_strand (script_of (calls_of told.paces.joins.weave)) (stated_within p passes told.paces.joins.weave told.paces.joins.woven.weave) in
@@ -238,17 +255,22 @@ module _ (passes : ℕ → ℕ) (p : Plant) (devices : List Device) (tasks : Lis
       }
 
   -- with calls that name just the lines that they touch
-  pub shuts_by_wcet : (top : ℕ) → TaskShuts (setup_of p devices places tasks) passes (own_of tasks places k) (run_in (setup_of p devices places tasks) (content_of p places tasks) inputs k) (task_limits p t) (task_wcet p t) (task_stretch p t)
+  pub shuts_by_wcet : (top : ℕ) →
+      TaskShuts (setup_of p devices places tasks) passes (own_of tasks places k)
+      (run_in (setup_of p devices places tasks) (content_of p places tasks) inputs k) (task_limits p t) (task_wcet p t) (task_stretch p t)
       top (task_closed p top t) (promise_for x t (slice_index_or inputs k []))
   shuts_by_wcet top =
       let j = told.paces.joins in
       let is_weave : IsWeave p passes (trimmed p told.paces.joins.weave) = weave_trimmed p passes told.paces.joins.weave j.woven.weave in
       let dids : dids_of (trimmed p told.paces.joins.weave) ≡ dids_of told.paces.joins.weave = dids_trimmed p told.paces.joins.weave in
       let w = stated_strand (script_of (calls_of (trimmed p told.paces.joins.weave)))
-      (subst (StateWithin (script_of (calls_of (trimmed p told.paces.joins.weave))) 0) (counts_trimmed p stated_of told.paces.joins.weave) (stated_within p passes (trimmed p told.paces.joins.weave) is_weave)) in
-      let v = jobs_strand passes p devices tasks places k t placed same x keeps some inputs (λ p t. shut_of p top) (λ p t. map (shortened p t.at top) t.plans) (placed_jobs_shut top) told.paces.joins.weave told.along
+      (subst (StateWithin (script_of (calls_of (trimmed p told.paces.joins.weave))) 0) (counts_trimmed p stated_of told.paces.joins.weave)
+      (stated_within p passes (trimmed p told.paces.joins.weave) is_weave)) in
+      let v = jobs_strand passes p devices tasks places k t placed same x keeps some inputs (λ p t. shut_of p top)
+      (λ p t. map (shortened p t.at top) t.plans) (placed_jobs_shut top) told.paces.joins.weave told.along
       (script_by (counts_of (shut_of p top) (trimmed p told.paces.joins.weave)))
-      (subst (StateWithin (script_by (counts_of (shut_of p top) (trimmed p told.paces.joins.weave))) 0) (counts_trimmed p (shut_of p top) told.paces.joins.weave) (by_lengths (counts_of (shut_of p top) (trimmed p told.paces.joins.weave)))) in
+      (subst (StateWithin (script_by (counts_of (shut_of p top) (trimmed p told.paces.joins.weave))) 0)
+      (counts_trimmed p (shut_of p top) told.paces.joins.weave) (by_lengths (counts_of (shut_of p top) (trimmed p told.paces.joins.weave)))) in
       record {
         charges = record {
           joins = record {

@@ -23,9 +23,11 @@ module _ (p : Plant) (passes : ℕ → ℕ) where
   section_trimmed : (m : Section) → IsSection p passes m → IsSection p passes (trimmed_call p m)
   section_trimmed m h =
       let xs : List ℕ = lines_of_dids p.line (segment_of m) in
-      let split : lines_of_dids p.line (segment_of m) ≡ lines_of_dids p.line m.before ++ lines_of_dids p.line (m.exec ∷ (m.body ++ m.last ∷ [])) = lines_of_dids-append p.line m.before (m.exec ∷ (m.body ++ m.last ∷ [])) in
+      let split : lines_of_dids p.line (segment_of m) ≡ lines_of_dids p.line m.before ++ lines_of_dids p.line (m.exec ∷ (m.body ++ m.last ∷ [])) =
+      lines_of_dids-append p.line m.before (m.exec ∷ (m.body ++ m.last ∷ [])) in
       let own : AllIn (once (lines_of_dids p.line (segment_of m))) (lines_of_dids p.line m.before) =
-      left_in (once (lines_of_dids p.line (segment_of m))) (lines_of_dids p.line m.before) (lines_of_dids p.line (m.exec ∷ (m.body ++ m.last ∷ []))) (subst (AllIn (once (lines_of_dids p.line (segment_of m)))) split (once_all (lines_of_dids p.line (segment_of m)))) in
+      left_in (once (lines_of_dids p.line (segment_of m))) (lines_of_dids p.line m.before) (lines_of_dids p.line (m.exec ∷ (m.body ++ m.last ∷ [])))
+      (subst (AllIn (once (lines_of_dids p.line (segment_of m)))) split (once_all (lines_of_dids p.line (segment_of m)))) in
       let few = touched_few (lines_of_dids p.line (segment_of m)) m.call.members h.within in
       let less = mul-le (length (touched_by p (segment_of m))) (p.fill + p.back) (length m.call.members) (p.fill + p.back) few (omega arith) in
       record {
@@ -109,7 +111,8 @@ module _ (p : Plant) where
   are_trimmed (calls m rest) = (refl, are_trimmed rest)
 
 -- a run goes along it
-pub woven_trimmed : (p : Setup) (passes : ℕ → ℕ) (own : ℕ → Bool) (reads : Reading) (run : TaskRun) (due : ℕ) (w : Weave) (y : PlainState) → IsWoven p passes own reads run due w y → IsWoven p passes own reads run due (trimmed p.plant w) y
+pub woven_trimmed : (p : Setup) (passes : ℕ → ℕ) (own : ℕ → Bool) (reads : Reading) (run : TaskRun) (due : ℕ) (w : Weave) (y : PlainState) →
+    IsWoven p passes own reads run due w y → IsWoven p passes own reads run due (trimmed p.plant w) y
 woven_trimmed p passes own reads run due w y h = record {
   weave = weave_trimmed p.plant passes w h.weave;
   goes_along = goes_trimmed p.plant reads run (plain_start run) w y h.goes_along;

@@ -81,7 +81,8 @@ next_states s begun xs ys h i lt =
     let e : begun + (length xs + i) ≡ begun + length xs + i = omega arith in
     subst (λ j. (call_at s j).stated ≤ slice_index_or ys i 0) e (subst (λ m. (call_at s (begun + (length xs + i))).stated ≤ m) (next_counts xs ys i) (h (length xs + i) (omega (arith, lt, n))))
 
-module _ (p : Plant) (passes : ℕ → ℕ) (counts : List Did → ℕ) (s : Setting) (gs : Globals) (limits : Limits) (program : Resolved) (own : TaskRun) (calls : Calls) (start job : ℕ) (call : Count) (cost most : ℕ)
+module _ (p : Plant) (passes : ℕ → ℕ) (counts : List Did → ℕ) (s : Setting) (gs : Globals) (limits : Limits) (program : Resolved) (own : TaskRun)
+    (calls : Calls) (start job : ℕ) (call : Count) (cost most : ℕ)
     (course : CallsCourse p counts s gs limits program own calls start job call) (paid : cost_with p call ≤ cost) (long : stretch_with p call ≤ most) (script : Script) where
   abbrev OneJob : Weave → Type 0
   OneJob w = IsWeave p passes w × JobRun s gs limits program own calls start job (dids_of w)
@@ -90,12 +91,14 @@ module _ (p : Plant) (passes : ℕ → ℕ) (counts : List Did → ℕ) (s : Set
   done = done_step (own.entry + 4)
 
   -- with the jump
-  with_jump : (w : Weave) → JobRun s gs limits program own calls start job (dids_of w) → Courses p (is_marked (is_marked_call p counts)) (then_count (quiet (jump_weight (job_weight p))) call) (dids_of w)
+  with_jump : (w : Weave) → JobRun s gs limits program own calls start job (dids_of w) →
+      Courses p (is_marked (is_marked_call p counts)) (then_count (quiet (jump_weight (job_weight p))) call) (dids_of w)
   with_jump w r =
       let at = s.places start in
       let jump = control_divides p at (jump_to 1 at (s.places job)) r.task (jump_weight (job_weight p)) refl (omega arith) in
       subst (Courses p (is_marked (is_marked_call p counts)) (then_count (quiet (jump_weight (job_weight p))) call)) (sym r.steps_are)
-      (courses_join p (is_marked (is_marked_call p counts)) (quiet (jump_weight (job_weight p))) call (control at (jump_to 1 at (s.places job)) r.task) r.trace (course_of p (is_marked (is_marked_call p counts)) _ _ jump) (course (dids_of w) r))
+      (courses_join p (is_marked (is_marked_call p counts)) (quiet (jump_weight (job_weight p))) call
+      (control at (jump_to 1 at (s.places job)) r.task) r.trace (course_of p (is_marked (is_marked_call p counts)) _ _ jump) (course (dids_of w) r))
 
   done_less : due_of p done ≤ job_weight p PmDone
   done_less = omega arith
@@ -108,7 +111,8 @@ module _ (p : Plant) (passes : ℕ → ℕ) (counts : List Did → ℕ) (s : Set
   stretch_less es h =
       let j : Sums = taking (jump_weight (job_weight p)) in
       let d : ℕ = due_of p done in
-      let last : IsWithin (chained (taking d) (taking 0)) (taking (job_weight p PmDone)) = subst (λ z. IsWithin z (taking (job_weight p PmDone))) (sym (taken_none d)) (taking_within d (job_weight p PmDone) done_less) in
+      let last : IsWithin (chained (taking d) (taking 0)) (taking (job_weight p PmDone)) =
+      subst (λ z. IsWithin z (taking (job_weight p PmDone))) (sym (taken_none d)) (taking_within d (job_weight p PmDone) done_less) in
       let both : IsWithin (chained (sums_of_path es) (chained (taking d) (taking 0))) (chained (chained j call.sums) (taking (job_weight p PmDone))) =
       chained_within (sums_of_path es) (chained (taking d) (taking 0)) (chained j call.sums) (taking (job_weight p PmDone)) h last in
       let whole : IsWithin (sums_of_path (es ++ Takes d ∷ [])) (chained j (chained call.sums (taking (job_weight p PmDone)))) =
@@ -128,14 +132,16 @@ module _ (p : Plant) (passes : ℕ → ℕ) (counts : List Did → ℕ) (s : Set
       let c = with_jump w h.0.1 in
       let more = strands_of ws (begun + length (calls_of w)) h.1 later in
       subst (JobStrand p script cost most begun) (sym join.dids)
-      (course_jobs_are_charged p passes script counts cost most begun c.division w done (dids_of rest) h.0.0 c.keeps c.loose c.steps_are (first_states script begun (counts_of counts w) (counts_of counts rest) states) refl refl
+      (course_jobs_are_charged p passes script counts cost most begun c.division w done (dids_of rest) h.0.0 c.keeps c.loose c.steps_are
+      (first_states script begun (counts_of counts w) (counts_of counts rest) states) refl refl
       (total_less (charge_of p c.division) c.counted.total) (stretch_less (path_of p c.division) c.counted.sums) more)
 
 pub jobs_go_by_courses : JobsGoByCourses
 jobs_go_by_courses p passes script counts s gs limits program own calls start job weave call cost most along course paid long states =
     let done = done_step (own.entry + 4) in
     subst (JobStrand p script cost most 0) (ap dids_of (sym along.weave_is))
-    (strands_of p passes counts s gs limits program own calls start job call cost most course paid long script along.jobs 0 along.each (subst (λ w. StateWithin script 0 (counts_of counts w)) along.weave_is states))
+    (strands_of p passes counts s gs limits program own calls start job call cost most course paid long script along.jobs 0 along.each
+    (subst (λ w. StateWithin script 0 (counts_of counts w)) along.weave_is states))
 
 -- ---- without marked calls
 
@@ -152,7 +158,8 @@ no_dids ends e = refl
 no_dids (goes d rest) e = cc
 no_dids (Rattle.prem_sets_sound.specs.Weave.Weave.calls m rest) e = cc
 
-module _ (p : Plant) (passes : ℕ → ℕ) (s : Setting) (gs : Globals) (limits : Limits) (program : Resolved) (own : TaskRun) (calls : Calls) (start job : ℕ) (lines : List ℕ) (charge cost most : ℕ) (entry : s.places start ≡ own.entry)
+module _ (p : Plant) (passes : ℕ → ℕ) (s : Setting) (gs : Globals) (limits : Limits) (program : Resolved) (own : TaskRun) (calls : Calls)
+    (start job : ℕ) (lines : List ℕ) (charge cost most : ℕ) (entry : s.places start ≡ own.entry)
     (scope : CallsScope p s gs limits program own calls start job lines charge) (paid : p.switch + charge ≤ cost) (long : charge ≤ most) (script : Script) where
   abbrev One : Weave → Type 0
   One w = IsWeave p passes w × JobRun s gs limits program own calls start job (dids_of w)
@@ -182,7 +189,8 @@ module _ (p : Plant) (passes : ℕ → ℕ) (s : Setting) (gs : Globals) (limits
       let charge_is : charge_of_scope p x ≡ scope_charge p lines steps = scopes_agree p lines steps in
       let due : scope_due p script begun x ≡ charge_of_scope p x + p.switch = ap (λ c. charge_of_scope p x + change_due p (call_at script begun).stated c) last in
       let all : dids_of (joined w (goes finish rest)) ≡ steps ++ dids_of rest =
-      join.dids ∙ ap (λ ds. ds ++ finish ∷ dids_of rest) steps_are ∙ ap (λ d. (jump ∷ r.trace) ++ d ∷ dids_of rest) (sym finish_is) ∙ sym (append_assoc (jump ∷ r.trace) (done_step (s.places start + 4) ∷ []) (dids_of rest)) in
+      join.dids ∙ ap (λ ds. ds ++ finish ∷ dids_of rest) steps_are ∙ ap (λ d. (jump ∷ r.trace) ++ d ∷ dids_of rest) (sym finish_is)
+      ∙ sym (append_assoc (jump ∷ r.trace) (done_step (s.places start + 4) ∷ []) (dids_of rest)) in
       subst (JobStrand p script cost most begun) (sym all)
       (record {
         strand = S.runs x more.strand;

@@ -24,10 +24,12 @@ pub record CourseStrand (p : Plant) (s : Script) (begun : ℕ) (w : Weave) (v : 
   pub no_job : EndsNoJob strand
   pub begun_is : begun_along begun strand ≡ begun + length (calls_of w)
   pub charged : charges_along p s begun strand ≤ charge_of p v
-  pub stretches : (most stretch d : ℕ) (last : Scope) → scope_charge_of p last ≤ d → longest_from stretch (path_of p v ++ Takes d ∷ []) ≤ most → StretchesWithin p most stretch (joined strand (runs last ends))
+  pub stretches : (most stretch d : ℕ) (last : Scope) → scope_charge_of p last ≤ d → longest_from stretch (path_of p v ++ Takes d ∷ []) ≤ most →
+      StretchesWithin p most stretch (joined strand (runs last ends))
 
 -- a course along a weave, whose marked calls count by their steps at least what the script's calls state
 abbrev pub CoursesAreStrands : Type 0
 CoursesAreStrands =
-    (p : Plant) (passes : ℕ → ℕ) (s : Script) (counts : List Did → ℕ) (begun : ℕ) (v : Division) (w : Weave) → IsWeave p passes w → IsCourse (is_marked (is_marked_call p counts)) p.line v → AreLoose v →
+    (p : Plant) (passes : ℕ → ℕ) (s : Script) (counts : List Did → ℕ) (begun : ℕ) (v : Division) (w : Weave) → IsWeave p passes w →
+    IsCourse (is_marked (is_marked_call p counts)) p.line v → AreLoose v →
     dids_of w ≡ steps_of v → StateWithin s begun (counts_of counts w) → CourseStrand p s begun w v

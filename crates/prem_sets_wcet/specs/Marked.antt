@@ -105,7 +105,8 @@ is_marked_call p counts steps weight = is_call steps && (nat_le (call_due p coun
 -- which are charged at most the parted charge that is counted for `job` with such plans.
 abbrev pub JobsCourse : (counts : Plant → Placed → List Did → ℕ) (plans : Plant → Placed → List Plan) → Type 0
 JobsCourse counts plans =
-    (passes : ℕ → ℕ) (p : Plant) (devices : List Device) (tasks : List Coded) (places : List Extent) (k : ℕ) (t : Placed) → IsPlacedTask p devices tasks places k t → passes p.«ways» ≡ pass_count (stub_passes p) →
+    (passes : ℕ → ℕ) (p : Plant) (devices : List Device) (tasks : List Coded) (places : List Extent) (k : ℕ) (t : Placed) →
+    IsPlacedTask p devices tasks places k t → passes p.«ways» ≡ pass_count (stub_passes p) →
     (x : ProgramText) → KeepsTaskRules p x t → 1 ≤ t.task.jobs → (f : Routine) → slice_get t.task.program.routines t.task.program.job ≡ Some f →
     (st : ProgramState) (u : TaskState) (back word : ℕ) (after : ProgramState) → Between (setting_of p (task_guard t) t) (globals_in p.target t.task.program) Compatible st u →
     u.registers 2 ≡ (job_frame t).sp + frame_of f → u.registers 1 ≡ back → back % 4 ≡ 0 → back < 2 ^ 32 →

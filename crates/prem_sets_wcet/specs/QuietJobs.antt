@@ -31,7 +31,8 @@ use Rattle.prem_layout.specs.Footprint.{place_at}
 -- where no marked call is in it, it runs in scopes and lone steps that are charged at most its least charge
 abbrev pub PlacedQuietJobsDivide : Type 0
 PlacedQuietJobsDivide =
-    (passes : ℕ → ℕ) (p : Plant) (devices : List Device) (tasks : List Coded) (places : List Extent) (k : ℕ) (t : Placed) → IsPlacedTask p devices tasks places k t → passes p.«ways» ≡ pass_count (stub_passes p) →
+    (passes : ℕ → ℕ) (p : Plant) (devices : List Device) (tasks : List Coded) (places : List Extent) (k : ℕ) (t : Placed) →
+    IsPlacedTask p devices tasks places k t → passes p.«ways» ≡ pass_count (stub_passes p) →
     (x : ProgramText) → KeepsTaskRules p x t → 1 ≤ t.task.jobs → (plans : List Plan) (f : Routine) → slice_get t.task.program.routines t.task.program.job ≡ Some f →
     (st : ProgramState) (u : TaskState) (back word : ℕ) (after : ProgramState) → Between (setting_of p (task_guard t) t) (globals_in p.target t.task.program) Compatible st u →
     u.registers 2 ≡ (job_frame t).sp + frame_of f → u.registers 1 ≡ back → back % 4 ≡ 0 → back < 2 ^ 32 →
@@ -42,11 +43,14 @@ PlacedQuietJobsDivide =
 -- and it is one scope with the jump from the start and the job's end, for at most the charge of the start
 abbrev pub PlacedQuietStarts : Type 0
 PlacedQuietStarts =
-    (passes : ℕ → ℕ) (p : Plant) (devices : List Device) (tasks : List Coded) (places : List Extent) (k : ℕ) (t : Placed) → IsPlacedTask p devices tasks places k t → passes p.«ways» ≡ pass_count (stub_passes p) →
+    (passes : ℕ → ℕ) (p : Plant) (devices : List Device) (tasks : List Coded) (places : List Extent) (k : ℕ) (t : Placed) →
+    IsPlacedTask p devices tasks places k t → passes p.«ways» ≡ pass_count (stub_passes p) →
     (x : ProgramText) → KeepsTaskRules p x t → 1 ≤ t.task.jobs → (plans : List Plan) (f : Routine) → slice_get t.task.program.routines t.task.program.job ≡ Some f →
     (st : ProgramState) (u : TaskState) (back word : ℕ) (after : ProgramState) → Between (setting_of p (task_guard t) t) (globals_in p.target t.task.program) Compatible st u →
     u.registers 2 ≡ (job_frame t).sp + frame_of f → u.registers 1 ≡ back → back % 4 ≡ 0 → back < 2 ^ 32 →
     performed (calls_below (limits_of x) t.task.program.routines t.task.program.job) everywhere f [] st ≡ Ok (word, after) →
     (fact_of (known_scene p plans t.task.program t.at) t.task.program.job).cuts ≡ false →
-    RunStarts p (lines_in (known_scene p plans t.task.program t.at) (place_at t.at start_part).0 (start_span t.task.program)) (charge (known_scene p plans t.task.program t.at) (place_at t.at start_part).0 (start_span t.task.program))
-    (place_at t.at start_part).0 ((setting_of p (task_guard t) t).places ((codes_in t).code_part t.task.program.job)) (job_calls (setting_of p (task_guard t) t) t ((codes_in t).code_part t.task.program.job) u)
+    RunStarts p (lines_in (known_scene p plans t.task.program t.at) (place_at t.at start_part).0 (start_span t.task.program))
+    (charge (known_scene p plans t.task.program t.at) (place_at t.at start_part).0 (start_span t.task.program))
+    (place_at t.at start_part).0 ((setting_of p (task_guard t) t).places ((codes_in t).code_part t.task.program.job))
+    (job_calls (setting_of p (task_guard t) t) t ((codes_in t).code_part t.task.program.job) u)

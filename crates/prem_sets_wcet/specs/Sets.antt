@@ -31,9 +31,11 @@ stretch_at p placed k = slice_index_or (map (task_stretch p) placed) k 0
 -- at any lawful places tasks that keep the rules are charged no more
 abbrev pub MeantTasksGoByWcet : Type 0
 MeantTasksGoByWcet =
-    (passes : ℕ → ℕ) (p : Plant) (devices : List Device) (tasks : List Coded) (places : List Extent) (promises : List (List ℕ) → ℕ → Promise) → IsLaidOut p devices tasks places → passes p.«ways» ≡ pass_count (stub_passes p) →
+    (passes : ℕ → ℕ) (p : Plant) (devices : List Device) (tasks : List Coded) (places : List Extent) (promises : List (List ℕ) → ℕ → Promise) →
+    IsLaidOut p devices tasks places → passes p.«ways» ≡ pass_count (stub_passes p) →
     AreMeant p (placed_from p places tasks) promises → (inputs : List (List ℕ)) → AreInputs (setup_of p devices places tasks) inputs → (k : ℕ) → k < length (setup_of p devices places tasks).tasks →
-    TaskCharges (setup_of p devices places tasks) passes (own_of tasks places k) (run_in (setup_of p devices places tasks) (content_of p places tasks) inputs k) (limits_at p (placed_from p places tasks) k)
+    TaskCharges (setup_of p devices places tasks) passes (own_of tasks places k)
+    (run_in (setup_of p devices places tasks) (content_of p places tasks) inputs k) (limits_at p (placed_from p places tasks) k)
     (wcet_at p (placed_from p places tasks) k) (stretch_at p (placed_from p places tasks) k) (promises inputs k)
 
 -- what a job of it keeps closed at most to transfers of such a cost, without the idle time that its release ends
@@ -42,9 +44,12 @@ closed_at p top placed k = slice_index_or (map (task_closed p top) placed) k 0
 
 abbrev pub MeantTasksShutByWcet : Type 0
 MeantTasksShutByWcet =
-    (passes : ℕ → ℕ) (p : Plant) (devices : List Device) (tasks : List Coded) (places : List Extent) (promises : List (List ℕ) → ℕ → Promise) → IsLaidOut p devices tasks places → passes p.«ways» ≡ pass_count (stub_passes p) →
-    AreMeant p (placed_from p places tasks) promises → (top : ℕ) (inputs : List (List ℕ)) → AreInputs (setup_of p devices places tasks) inputs → (k : ℕ) → k < length (setup_of p devices places tasks).tasks →
-    TaskShuts (setup_of p devices places tasks) passes (own_of tasks places k) (run_in (setup_of p devices places tasks) (content_of p places tasks) inputs k) (limits_at p (placed_from p places tasks) k)
+    (passes : ℕ → ℕ) (p : Plant) (devices : List Device) (tasks : List Coded) (places : List Extent) (promises : List (List ℕ) → ℕ → Promise) →
+    IsLaidOut p devices tasks places → passes p.«ways» ≡ pass_count (stub_passes p) →
+    AreMeant p (placed_from p places tasks) promises → (top : ℕ) (inputs : List (List ℕ)) → AreInputs (setup_of p devices places tasks) inputs →
+    (k : ℕ) → k < length (setup_of p devices places tasks).tasks →
+    TaskShuts (setup_of p devices places tasks) passes (own_of tasks places k)
+    (run_in (setup_of p devices places tasks) (content_of p places tasks) inputs k) (limits_at p (placed_from p places tasks) k)
     (wcet_at p (placed_from p places tasks) k) (stretch_at p (placed_from p places tasks) k) top (closed_at p top (placed_from p places tasks) k) (promises inputs k)
 
 -- For all input words and all requests of devices the image of a set that breaks no rule is sound, and its run has finished by the last release

@@ -40,9 +40,11 @@ task_closed p top t = wcet_of p (map (shortened p t.at top) t.plans) t.task.prog
 -- at any lawful places, and for all input words
 abbrev pub TasksGoByWcet : Type 0
 TasksGoByWcet =
-    (passes : ℕ → ℕ) (p : Plant) (devices : List Device) (tasks : List Coded) (places : List Extent) (k : ℕ) (t : Placed) → IsPlacedTask p devices tasks places k t → passes p.«ways» ≡ pass_count (stub_passes p) →
+    (passes : ℕ → ℕ) (p : Plant) (devices : List Device) (tasks : List Coded) (places : List Extent) (k : ℕ) (t : Placed) →
+    IsPlacedTask p devices tasks places k t → passes p.«ways» ≡ pass_count (stub_passes p) →
     (x : ProgramText) → KeepsTaskRules p x t → 1 ≤ t.task.jobs → (inputs : List (List ℕ)) → All (λ word. word < 2 ^ 32) (slice_index_or inputs k []) →
-    TaskCharges (setup_of p devices places tasks) passes (own_of tasks places k) (run_in (setup_of p devices places tasks) (content_of p places tasks) inputs k) (task_limits p t) (task_wcet p t) (task_stretch p t)
+    TaskCharges (setup_of p devices places tasks) passes (own_of tasks places k)
+    (run_in (setup_of p devices places tasks) (content_of p places tasks) inputs k) (task_limits p t) (task_wcet p t) (task_stretch p t)
     (promise_for x t (slice_index_or inputs k []))
 
 -- ---- what they keep closed
@@ -64,7 +66,10 @@ pub record TaskShuts (p : Setup) (passes : ℕ → ℕ) (own : ℕ → Bool) (ru
 
 abbrev pub TasksShutByWcet : Type 0
 TasksShutByWcet =
-    (passes : ℕ → ℕ) (p : Plant) (devices : List Device) (tasks : List Coded) (places : List Extent) (k : ℕ) (t : Placed) → IsPlacedTask p devices tasks places k t → passes p.«ways» ≡ pass_count (stub_passes p) →
+    (passes : ℕ → ℕ) (p : Plant) (devices : List Device) (tasks : List Coded) (places : List Extent) (k : ℕ) (t : Placed) →
+    IsPlacedTask p devices tasks places k t → passes p.«ways» ≡ pass_count (stub_passes p) →
     (x : ProgramText) → KeepsTaskRules p x t → 1 ≤ t.task.jobs → (top : ℕ) (inputs : List (List ℕ)) → All (λ word. word < 2 ^ 32) (slice_index_or inputs k []) →
-    TaskShuts (setup_of p devices places tasks) passes (own_of tasks places k) (run_in (setup_of p devices places tasks) (content_of p places tasks) inputs k) (task_limits p t) (task_wcet p t) (task_stretch p t) top (task_closed p top t)
+    TaskShuts (setup_of p devices places tasks) passes (own_of tasks places k)
+    (run_in (setup_of p devices places tasks) (content_of p places tasks) inputs k) (task_limits p t) (task_wcet p t) (task_stretch p t) top
+    (task_closed p top t)
     (promise_for x t (slice_index_or inputs k []))

@@ -39,7 +39,8 @@ CallsCourse p counts s gs limits program own calls start job call =
 -- then the weave of these jobs is a strand that is charged so much for each of them, where marked calls count what a script's calls state
 abbrev pub JobsGoByCourses : Type 0
 JobsGoByCourses =
-    (p : Plant) (passes : ℕ → ℕ) (script : Script) (counts : List Did → ℕ) (s : Setting) (gs : Globals) (limits : Limits) (program : Resolved) (own : TaskRun) (calls : Calls) (start job : ℕ) (weave : Weave) (call : Count) (cost most : ℕ) →
+    (p : Plant) (passes : ℕ → ℕ) (script : Script) (counts : List Did → ℕ) (s : Setting) (gs : Globals) (limits : Limits) (program : Resolved)
+    (own : TaskRun) (calls : Calls) (start job : ℕ) (weave : Weave) (call : Count) (cost most : ℕ) →
     JobsAlong p passes s gs limits program own calls start job weave → CallsCourse p counts s gs limits program own calls start job call → cost_with p call ≤ cost → stretch_with p call ≤ most →
     StateWithin script 0 (counts_of counts weave) → JobStrand p script cost most 0 (dids_of weave)
 
@@ -49,11 +50,13 @@ JobsGoByCourses =
 abbrev pub CallsScope : Plant → Setting → Globals → Limits → Resolved → TaskRun → Calls → (start job : ℕ) → (lines : List ℕ) → (most : ℕ) → Type 0
 CallsScope p s gs limits program own calls start job lines most =
     (steps : List Did) (r : JobRun s gs limits program own calls start job steps) →
-    AllSteps (KeepsTo p.line lines) (start_steps (s.places start) (s.places job) r.trace) × (AllSteps StaysOn r.trace × (scope_charge p lines (start_steps (s.places start) (s.places job) r.trace) ≤ most))
+    AllSteps (KeepsTo p.line lines) (start_steps (s.places start) (s.places job) r.trace)
+    × (AllSteps StaysOn r.trace × (scope_charge p lines (start_steps (s.places start) (s.places job) r.trace) ≤ most))
 
 -- then the weave of these jobs is a strand of such scopes
 abbrev pub JobsGoByScopes : Type 0
 JobsGoByScopes =
-    (p : Plant) (passes : ℕ → ℕ) (script : Script) (s : Setting) (gs : Globals) (limits : Limits) (program : Resolved) (own : TaskRun) (calls : Calls) (start job : ℕ) (weave : Weave) (lines : List ℕ) (charge cost most : ℕ) → s.places start ≡ own.entry →
+    (p : Plant) (passes : ℕ → ℕ) (script : Script) (s : Setting) (gs : Globals) (limits : Limits) (program : Resolved) (own : TaskRun) (calls : Calls)
+    (start job : ℕ) (weave : Weave) (lines : List ℕ) (charge cost most : ℕ) → s.places start ≡ own.entry →
     JobsAlong p passes s gs limits program own calls start job weave → CallsScope p s gs limits program own calls start job lines charge → p.switch + charge ≤ cost → charge ≤ most →
     JobStrand p script cost most 0 (dids_of weave)

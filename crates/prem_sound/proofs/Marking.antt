@@ -43,7 +43,8 @@ one_by MemoryPhase h = refl
 one_by Execution h = refl
 
 -- in a predictable interval one call is open
-one_open : (mark : Change) (phase : Phase) (stated : ℕ) (ds : List Did) (i : Interval) (k : ℕ) → Issued mark phase stated ds i → i.predictable ≡ true → one_predictable phase + ending (Running k) mark k ≡ 1
+one_open : (mark : Change) (phase : Phase) (stated : ℕ) (ds : List Did) (i : Interval) (k : ℕ) → Issued mark phase stated ds i →
+    i.predictable ≡ true → one_predictable phase + ending (Running k) mark k ≡ 1
 one_open Stay phase stated ds i k x pred = omega (arith, one_by phase (x.kind ∙ pred), ending_same k Stay)
 one_open (Execute l) phase stated ds i k x pred = omega (arith, one_by phase (x.kind ∙ pred), ending_same k (Execute l))
 one_open Memory phase stated ds i k x pred = absurd (let z : false ≡ true = sym x.0 ∙ pred in cc)
@@ -51,11 +52,17 @@ one_open End phase stated ds i k x pred = omega (arith, ap one_predictable x.1, 
 one_open Job phase stated ds i k x pred = absurd (let z : false ≡ true = sym x.0 ∙ pred in cc)
 
 -- a move that may be none
-may_mark : (works : ℕ → Work) (k : ℕ) (q : Promise) (runs : ℕ → TaskRun) (at : ℕ → ℕ) (now : ℕ) (intervals : List EndedInterval) (p : Setup) (had : Bool) (sched : List TaskJobs) (w : Work) (c : CoreState) (m : CoreMove) → MayMove p now had sched w c m → ((j : ℕ) → j ≡ k → is_predictable (phase_in w j) ≡ true → (c.mode ≡ Running k → ⊥) → read_in q.reads (works now) ≡ (last_mark works k q runs at).before) → Marked works k q runs now at c.mode c.interval c.mark intervals → MarkMove works k q runs now at intervals m
+may_mark : (works : ℕ → Work) (k : ℕ) (q : Promise) (runs : ℕ → TaskRun) (at : ℕ → ℕ) (now : ℕ) (intervals : List EndedInterval) (p : Setup)
+    (had : Bool) (sched : List TaskJobs) (w : Work) (c : CoreState) (m : CoreMove) → MayMove p now had sched w c m →
+    ((j : ℕ) → j ≡ k → is_predictable (phase_in w j) ≡ true → (c.mode ≡ Running k → ⊥) →
+    read_in q.reads (works now) ≡ (last_mark works k q runs at).before) → Marked works k q runs now at c.mode c.interval c.mark intervals →
+    MarkMove works k q runs now at intervals m
 may_mark works k q runs at now intervals p had sched w c _ (does m x) b r = mark_moves works k q runs at now intervals p had sched w c m x b r
 may_mark works k q runs at now intervals p had sched w c _ (stands_still e) b r = r
 
-module _ (rule : ReplacementRule) (order : OrderRule) (passes : ℕ → ℕ) (p : Setup) (own : ℕ → ℕ → Bool) (runs : ℕ → TaskRun) (scripts : ℕ → Script) (policy : IsPolicy rule order passes) (keep : KeepScripts p passes runs scripts) (promises : ℕ → Promise) (kept : AreKept p own runs scripts promises) (works : ℕ → Work) where
+module _ (rule : ReplacementRule) (order : OrderRule) (passes : ℕ → ℕ) (p : Setup) (own : ℕ → ℕ → Bool) (runs : ℕ → TaskRun) (scripts : ℕ → Script)
+    (policy : IsPolicy rule order passes) (keep : KeepScripts p passes runs scripts) (promises : ℕ → Promise)
+    (kept : AreKept p own runs scripts promises) (works : ℕ → Work) where
   abbrev pub MarksAt : (ℕ → ℕ) → (now : ℕ) → Mode → Interval → Change → List EndedInterval → Type 0
   MarksAt at now mode i mark intervals = (k : ℕ) → k < length p.tasks → Marked works k (promises k) runs now at mode i mark intervals
 
@@ -68,7 +75,11 @@ module _ (rule : ReplacementRule) (order : OrderRule) (passes : ℕ → ℕ) (p 
 
   -- ---- the core's part
 
-  issue_marks : (at : ℕ → ℕ) (now j : ℕ) (i : Interval) (w : Work) (intervals : List EndedInterval) → Stands p own runs at w → j < length p.tasks → (x : Issuing p (own j) (runs j) (at j) j w) → plain_did (runs j) (plain_run (runs j) (at j)) ≡ Some (did_of (task_in w j).pc (task_in w j).phase x.instr x.effect) → MayIssueAt at w j i → ((k : ℕ) → k < length p.tasks → MayMark works k (promises k) runs now at j i intervals) → MarksAt (bump j at) now (Running j) (record i { stated = stated_after x.effect.change i.stated }) x.effect.change intervals
+  issue_marks : (at : ℕ → ℕ) (now j : ℕ) (i : Interval) (w : Work) (intervals : List EndedInterval) → Stands p own runs at w → j < length p.tasks →
+      (x : Issuing p (own j) (runs j) (at j) j w) →
+      plain_did (runs j) (plain_run (runs j) (at j)) ≡ Some (did_of (task_in w j).pc (task_in w j).phase x.instr x.effect) → MayIssueAt at w j i →
+      ((k : ℕ) → k < length p.tasks → MayMark works k (promises k) runs now at j i intervals) →
+      MarksAt (bump j at) now (Running j) (record i { stated = stated_after x.effect.change i.stated }) x.effect.change intervals
   issue_marks at now j i w intervals s lj x did may h k lt =
       let d : Did = did_of (task_in w j).pc (task_in w j).phase x.instr x.effect in
       let e : Executed (runs j) (plain_run (runs j) (at j)) d = executed (runs j) (plain_run (runs j) (at j)) d did in
@@ -81,11 +92,17 @@ module _ (rule : ReplacementRule) (order : OrderRule) (passes : ℕ → ℕ) (p 
       (λ (ne : k ≡ j → ⊥). other_marks works k (promises k) runs at now intervals j i x.effect.change ne (h k lt))
       (cases_eq k j)
 
-  turn_marks : (at : ℕ → ℕ) (now : ℕ) (sched : List TaskJobs) (m : CoreMove) (w : Work) (c : CoreState) (n : Counts) (intervals : List EndedInterval) → Stands p own runs at w → Runs p own runs → Scheduled p runs at sched m → Moves order p.plant (length p.tasks) runs scripts at (lines_in w.cache) m → ((k : ℕ) → k < length p.tasks → MarkMove works k (promises k) runs now at intervals m) → MarksAt (bump_move m at) now (core_turn rule p now m w c n).core.mode (core_turn rule p now m w c n).core.interval (core_turn rule p now m w c n).core.mark intervals
+  turn_marks : (at : ℕ → ℕ) (now : ℕ) (sched : List TaskJobs) (m : CoreMove) (w : Work) (c : CoreState) (n : Counts)
+      (intervals : List EndedInterval) → Stands p own runs at w → Runs p own runs → Scheduled p runs at sched m →
+      Moves order p.plant (length p.tasks) runs scripts at (lines_in w.cache) m →
+      ((k : ℕ) → k < length p.tasks → MarkMove works k (promises k) runs now at intervals m) →
+      MarksAt (bump_move m at) now (core_turn rule p now m w c n).core.mode (core_turn rule p now m w c n).core.interval
+      (core_turn rule p now m w c n).core.mark intervals
   turn_marks at now sched (Passes c') w c n intervals s rs j r h = h
   turn_marks at now sched (Issues k i) w c n intervals s rs j r h =
       let x : Issuing p (own k) (runs k) (at k) k w = issuing p own runs at w k rs s j.unfinished in
-      subst (λ a. MarksAt (bump k at) now (core_issue rule p now k i a w c n).core.mode (core_issue rule p now k i a w c n).core.interval (core_issue rule p now k i a w c n).core.mark intervals) (sym (x.behind rule policy.keeps))
+      subst (λ a. MarksAt (bump k at) now (core_issue rule p now k i a w c n).core.mode (core_issue rule p now k i a w c n).core.interval
+      (core_issue rule p now k i a w c n).core.mark intervals) (sym (x.behind rule policy.keeps))
       (issue_marks at now k i w intervals s j.unfinished.bound x (issuing_did p (own k) runs at k w j.unfinished (s.each k j.unfinished.bound) x) r h)
 
   -- ---- the end of a cycle
@@ -96,7 +113,9 @@ module _ (rule : ReplacementRule) (order : OrderRule) (passes : ℕ → ℕ) (p 
       record { logged = x.logged; each = x.each; begun = λ e. (let y : i.first ≤ now = x.begun e in omega arith); before = x.before; after = x.after }
 
   -- how a call's interval ends
-  made : (at : ℕ → ℕ) (s : MachineState) (k : ℕ) → k < length p.tasks → Stands p own runs at s.work → works s.now ≡ s.work → s.core.mode ≡ Running k → s.core.mark ≡ End → InInterval order p.plant (length p.tasks) runs scripts at (lines_in s.work.cache) k s.core.interval End → MarksIn at s → IsOfMark works (promises k).reads (mark_at (promises k).marks ((begun_at runs at k).calls - 1)) (ended_interval s.now k s.core.interval)
+  made : (at : ℕ → ℕ) (s : MachineState) (k : ℕ) → k < length p.tasks → Stands p own runs at s.work → works s.now ≡ s.work → s.core.mode ≡ Running k →
+      s.core.mark ≡ End → InInterval order p.plant (length p.tasks) runs scripts at (lines_in s.work.cache) k s.core.interval End → MarksIn at s →
+      IsOfMark works (promises k).reads (mark_at (promises k).marks ((begun_at runs at k).calls - 1)) (ended_interval s.now k s.core.interval)
   made at s k lt st here run last inside h =
       let pr : Promise = promises k in
       let sc : Script = scripts k in
@@ -118,7 +137,9 @@ module _ (rule : ReplacementRule) (order : OrderRule) (passes : ℕ → ℕ) (p 
             ∙ reads_as p own runs at s.work k sc pr st lt (kept k lt) ∙ x.after refl refl;
       }
 
-  settle_marks : (at : ℕ → ℕ) (m : Mode) (s : MachineState) → s.core.mode ≡ m → Stands p own runs at s.work → works s.now ≡ s.work → Resides order p.plant (length p.tasks) runs scripts at (lines_in s.work.cache) s.core.mode s.core.interval s.core.mark → MarksIn at s → MarksIn at (settle m s)
+  settle_marks : (at : ℕ → ℕ) (m : Mode) (s : MachineState) → s.core.mode ≡ m → Stands p own runs at s.work → works s.now ≡ s.work →
+      Resides order p.plant (length p.tasks) runs scripts at (lines_in s.work.cache) s.core.mode s.core.interval s.core.mark → MarksIn at s →
+      MarksIn at (settle m s)
   settle_marks at Point s e st here r h = h
   settle_marks at (Switching k left) s e st here r h = h
   settle_marks at (Running j) s e st here r h =
@@ -144,7 +165,9 @@ module _ (rule : ReplacementRule) (order : OrderRule) (passes : ℕ → ℕ) (p 
   ticked_work : (s : MachineState) → (ticked s).work ≡ s.work
   ticked_work s = cond_both (is_some s.trapped) s (next_cycle s) (λ (t : MachineState). t.work ≡ s.work) (λ _. refl) (λ _. next_work s)
 
-  ticked_marks : (at : ℕ → ℕ) (s : MachineState) → s.trapped ≡ None → Stands p own runs at s.work → works (s.now + 1) ≡ s.work → Resides order p.plant (length p.tasks) runs scripts at (lines_in s.work.cache) s.core.mode s.core.interval s.core.mark → MarksIn at s → MarksIn at (ticked s)
+  ticked_marks : (at : ℕ → ℕ) (s : MachineState) → s.trapped ≡ None → Stands p own runs at s.work → works (s.now + 1) ≡ s.work →
+      Resides order p.plant (length p.tasks) runs scripts at (lines_in s.work.cache) s.core.mode s.core.interval s.core.mark → MarksIn at s →
+      MarksIn at (ticked s)
   ticked_marks at s u st here r h =
       subst (λ t. MarksIn at (cond (is_some t) s (next_cycle s))) (sym u)
       (settle_marks at s.core.mode (with_now s (s.now + 1)) refl st here r (later at s.now s.core.mode s.core.interval s.core.mark s.log.intervals h))
@@ -152,7 +175,11 @@ module _ (rule : ReplacementRule) (order : OrderRule) (passes : ℕ → ℕ) (p 
   -- ---- a cycle
 
   -- behind the end of the cycle
-  pub core_marks : (rs : Runs p own runs) (at : ℕ → ℕ) (a : Arrivals) (b : Turned) (m : CoreMove) (s : MachineState) → KnownCore p own runs at s → Keeps rule order passes p own runs scripts policy keep at s → works s.now ≡ s.work → works (s.now + 1) ≡ (ticked (joined a b (turn_with rule p b m s) s)).work → MarksIn at s → Meets p own b m s → Faces rule order passes p own runs scripts policy keep rs at b m s → Comes rule order passes p own runs scripts policy keep rs at a b m s → MarksIn (bump_move m at) (ticked (joined a b (turn_with rule p b m s) s))
+  pub core_marks : (rs : Runs p own runs) (at : ℕ → ℕ) (a : Arrivals) (b : Turned) (m : CoreMove) (s : MachineState) → KnownCore p own runs at s →
+      Keeps rule order passes p own runs scripts policy keep at s → works s.now ≡ s.work →
+      works (s.now + 1) ≡ (ticked (joined a b (turn_with rule p b m s) s)).work → MarksIn at s → Meets p own b m s →
+      Faces rule order passes p own runs scripts policy keep rs at b m s → Comes rule order passes p own runs scripts policy keep rs at a b m s →
+      MarksIn (bump_move m at) (ticked (joined a b (turn_with rule p b m s) s))
   core_marks rs at a b m s kn h here next marks meets f c =
       let w : Work = with_memory b.memory s.work in
       let n : Counts = with_clash b.turn.clash s.log.counts in
@@ -181,7 +208,8 @@ module _ (rule : ReplacementRule) (order : OrderRule) (passes : ℕ → ℕ) (p 
 
   -- ---- what it gives
 
-  pub core_gives : (at : ℕ → ℕ) (s : MachineState) (k : ℕ) → k < length p.tasks → KnownCore p own runs at s → Keeps rule order passes p own runs scripts policy keep at s → MarksIn at s → GivesPromised works k (promises k) s
+  pub core_gives : (at : ℕ → ℕ) (s : MachineState) (k : ℕ) → k < length p.tasks → KnownCore p own runs at s →
+      Keeps rule order passes p own runs scripts policy keep at s → MarksIn at s → GivesPromised works k (promises k) s
   core_gives at s k lt kn h marks =
       let pr : Promise = promises k in
       let sc : Script = scripts k in
@@ -197,7 +225,9 @@ module _ (rule : ReplacementRule) (order : OrderRule) (passes : ℕ → ℕ) (p 
             h.resides.runs_in k e in
             let l : length (predictable_of k s.log.intervals) + one_predictable (phase_at runs at k) + ending (Running k) s.core.mark k ≡ (begun_at runs at k).calls =
             subst (λ mode. length (predictable_of k s.log.intervals) + one_predictable (phase_at runs at k) + ending mode s.core.mark k ≡ (begun_at runs at k).calls) e m.logged in
-            let one : one_predictable (phase_at runs at k) + ending (Running k) s.core.mark k ≡ 1 = one_open s.core.mark (phase_at runs at k) (call_of sc (begun_at runs at k)).stated (begun_at runs at k).steps s.core.interval k inside.issued pred in
+            let one : one_predictable (phase_at runs at k) + ending (Running k) s.core.mark k ≡ 1 =
+            one_open s.core.mark (phase_at runs at k) (call_of sc (begun_at runs at k)).stated
+            (begun_at runs at k).steps s.core.interval k inside.issued pred in
             let place : (begun_at runs at k).calls - 1 ≡ length (predictable_of k s.log.intervals) = omega (arith, l, one) in
             record {
               there = omega (arith, l, one, most, (keep k lt).calls_are, (kept k lt).count);

@@ -20,7 +20,8 @@ jobs_limit p cost = last_release p.tasks + sum_below (length p.tasks) (λ k. (re
 -- from the last release and all that the instructions of each task are charged on a run has finished
 abbrev pub ScriptsFinishByTotals : Type 0
 ScriptsFinishByTotals =
-    (rule : ReplacementRule) (order : OrderRule) (passes : ℕ → ℕ) (p : Setup) (content : List ℕ) (inputs : List (List ℕ)) (requests : List Request) (own : ℕ → ℕ → Bool) (runs : ℕ → TaskRun) (scripts : ℕ → Script) (scopings : ℕ → Scoping) (total : ℕ → ℕ) (n : ℕ) →
+    (rule : ReplacementRule) (order : OrderRule) (passes : ℕ → ℕ) (p : Setup) (content : List ℕ) (inputs : List (List ℕ)) (requests : List Request)
+    (own : ℕ → ℕ → Bool) (runs : ℕ → TaskRun) (scripts : ℕ → Script) (scopings : ℕ → Scoping) (total : ℕ → ℕ) (n : ℕ) →
     IsPolicy rule order passes → IsRun p content requests → AreScripts p passes content inputs own runs scripts → ((k : ℕ) → k < length p.tasks → IsScoped p.plant (runs k) (scopings k)) →
     ((k : ℕ) → k < length p.tasks → all_charged p.plant (scripts k) (runs k) (charges_by p.plant (runs k) (scopings k)) (scripts k).count ≤ total k) →
     last_release p.tasks + sum_below (length p.tasks) total ≤ n → is_finished (run_of rule p content inputs requests n) ≡ true
@@ -28,7 +29,8 @@ ScriptsFinishByTotals =
 -- and so, where each job is charged at most so much
 abbrev pub ScriptsFinishByJobs : Type 0
 ScriptsFinishByJobs =
-    (rule : ReplacementRule) (order : OrderRule) (passes : ℕ → ℕ) (p : Setup) (content : List ℕ) (inputs : List (List ℕ)) (requests : List Request) (own : ℕ → ℕ → Bool) (runs : ℕ → TaskRun) (scripts : ℕ → Script) (scopings : ℕ → Scoping) (cost longest : ℕ → ℕ) (n : ℕ) →
+    (rule : ReplacementRule) (order : OrderRule) (passes : ℕ → ℕ) (p : Setup) (content : List ℕ) (inputs : List (List ℕ)) (requests : List Request)
+    (own : ℕ → ℕ → Bool) (runs : ℕ → TaskRun) (scripts : ℕ → Script) (scopings : ℕ → Scoping) (cost longest : ℕ → ℕ) (n : ℕ) →
     IsPolicy rule order passes → IsRun p content requests → AreScripts p passes content inputs own runs scripts → ((k : ℕ) → k < length p.tasks → IsScoped p.plant (runs k) (scopings k)) →
     ((k : ℕ) → k < length p.tasks → IsCharged p.plant (runs k) (scripts k) (charges_by p.plant (runs k) (scopings k)) (cost k) (longest k)) →
     jobs_limit p cost ≤ n → is_finished (run_of rule p content inputs requests n) ≡ true

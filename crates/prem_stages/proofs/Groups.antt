@@ -45,13 +45,15 @@ map_count f [] = refl
 map_count f (x ∷ xs) = ap suc (map_count f xs)
 
 -- no more than there are tasks
-pub few_programs : {A : Type 0} (text_of : A → ProgramText) (all : List A) (tasks : List TaskTree) → map text_of all ≡ programs_of (map task_of tasks) → over_tasks text_rules (map task_of tasks) ≡ None → length tasks ≤ 16 →
+pub few_programs : {A : Type 0} (text_of : A → ProgramText) (all : List A) (tasks : List TaskTree) →
+    map text_of all ≡ programs_of (map task_of tasks) → over_tasks text_rules (map task_of tasks) ≡ None → length tasks ≤ 16 →
     length all ≤ 16
 few_programs text_of all tasks are read few =
     let same : length all ≡ length tasks = sym (map_count text_of all) ∙ ap length are ∙ as_many_programs (map task_of tasks) read ∙ map_count task_of tasks in
     omega (arith, same)
 
-pub few_read : {A : Type 0} {ts : List TaskText} (text_of : A → ProgramText) (all : List A) (tasks : List TaskTree) → map task_of tasks ≡ ts → map text_of all ≡ programs_of ts → over_tasks text_rules ts ≡ None →
+pub few_read : {A : Type 0} {ts : List TaskText} (text_of : A → ProgramText) (all : List A) (tasks : List TaskTree) → map task_of tasks ≡ ts →
+    map text_of all ≡ programs_of ts → over_tasks text_rules ts ≡ None →
     length tasks ≤ 16 → length all ≤ 16
 few_read text_of all tasks same are read few =
     few_programs text_of all tasks (are ∙ sym (ap programs_of same)) (ap (λ (ts : List TaskText). over_tasks text_rules ts) same ∙ read) few
@@ -134,7 +136,8 @@ behind_ranges set well =
 pub at_ranges : (set : TaskSet) (stop : Stop) (programs : List Checked) → AreFormed set programs → Stops stop (over_tasks range_rules (map checked_text programs)) → Stops stop (broken_early set)
 at_ranges set stop programs k s =
     let here : Stops stop (over_tasks range_rules (programs_of set.tasks)) = subst (λ (qs : List ProgramText). Stops stop (over_tasks range_rules qs)) k.programs_are s in
-    first_stops stop (over_tasks range_rules (programs_of set.tasks)) (four_in set) (broken_early set) here (sym (behind_programs set (record { texts = k.texts_are_read; programs = k.programs_are_formed })))
+    first_stops stop (over_tasks range_rules (programs_of set.tasks)) (four_in set) (broken_early set) here
+    (sym (behind_programs set (record { texts = k.texts_are_read; programs = k.programs_are_formed })))
 
 four_is : (set : TaskSet) → over_tasks text_rules set.tasks ≡ None → four_in set ≡ over_tasks uncoded (programs_of set.tasks)
 four_is set one = late_among set.plant.target 0 set.tasks (programs_of set.tasks) (as_many_programs set.tasks one)

@@ -32,7 +32,11 @@ too_many_globals = refl
 --   PREDICTABLE(491) REGION(g, 0, 0) void set(int x RANGE(0, 9)) { g = x; }
 --   void job(void) { set(7); out(g); }
 whole_program_text : ProgramText
-whole_program_text = global (at 1 5) IntTy (codes "g") None absent ∷ function (at 2 39) (Some (record { stated = 491; regions = (region (at 2 25) (codes "g") 0 0 ∷ []) })) VoidTy (codes "set") (parameter (at 2 47) IntTy (codes "x") (Some (pos 0, pos 9)) ∷ []) [] (statements ((assign (at 2 64) (codes "g") None (variable (at 2 68) (codes "x"))) ∷ [])) None ∷ plain (at 3 6) (codes "job") (statements ((call (at 3 18) None (codes "set") ((int 3 22 7) ∷ [])) ∷ (output (at 3 26) (variable (at 3 30) (codes "g"))) ∷ [])) ∷ []
+whole_program_text = global (at 1 5) IntTy (codes "g") None absent ∷ function (at 2 39)
+    (Some (record { stated = 491; regions = (region (at 2 25) (codes "g") 0 0 ∷ []) })) VoidTy (codes "set")
+    (parameter (at 2 47) IntTy (codes "x") (Some (pos 0, pos 9)) ∷ []) []
+    (statements ((assign (at 2 64) (codes "g") None (variable (at 2 68) (codes "x"))) ∷ [])) None ∷ plain (at 3 6) (codes "job")
+    (statements ((call (at 3 18) None (codes "set") ((int 3 22 7) ∷ [])) ∷ (output (at 3 26) (variable (at 3 30) (codes "g"))) ∷ [])) ∷ []
 
 whole_program : first_breach whole_program_text ≡ None
 unfolding whole_program_text first_breach
@@ -50,7 +54,8 @@ no_job = refl
 --   PREDICTABLE(0) void f(void) { }
 --   void job(void) { out(x); }
 stated_zero_text : ProgramText
-stated_zero_text = function (at 1 21) (Some (record { stated = 0; regions = [] })) VoidTy (codes "f") [] [] no_statements None ∷ plain (at 2 6) (codes "job") (statements ((output (at 2 18) (variable (at 2 22) (codes "x"))) ∷ [])) ∷ []
+stated_zero_text = function (at 1 21) (Some (record { stated = 0; regions = [] })) VoidTy (codes "f") [] [] no_statements None ∷ plain (at 2 6)
+    (codes "job") (statements ((output (at 2 18) (variable (at 2 22) (codes "x"))) ∷ [])) ∷ []
 
 stated_zero : first_breach stated_zero_text ≡ broken_whole (Limit Stated)
 unfolding stated_zero_text first_breach
@@ -75,7 +80,11 @@ length_past = refl
 --   void f(int a, int b, int c, int d, int e, int f, int g, int h, int i) { }
 --   void job(void) { }
 nine_parameters_text : ProgramText
-nine_parameters_text = function (at 1 6) None VoidTy (codes "f") (parameter (at 1 12) IntTy (codes "a") None ∷ parameter (at 1 19) IntTy (codes "b") None ∷ parameter (at 1 26) IntTy (codes "c") None ∷ parameter (at 1 33) IntTy (codes "d") None ∷ parameter (at 1 40) IntTy (codes "e") None ∷ parameter (at 1 47) IntTy (codes "f") None ∷ parameter (at 1 54) IntTy (codes "g") None ∷ parameter (at 1 61) IntTy (codes "h") None ∷ parameter (at 1 68) IntTy (codes "i") None ∷ []) [] no_statements None ∷ plain (at 2 6) (codes "job") no_statements ∷ []
+nine_parameters_text = function (at 1 6) None VoidTy (codes "f")
+    (parameter (at 1 12) IntTy (codes "a") None ∷ parameter (at 1 19) IntTy (codes "b") None ∷ parameter (at 1 26) IntTy (codes "c") None ∷ parameter
+    (at 1 33) IntTy (codes "d") None ∷ parameter (at 1 40) IntTy (codes "e") None ∷ parameter (at 1 47) IntTy (codes "f") None ∷ parameter (at 1 54)
+    IntTy (codes "g") None ∷ parameter (at 1 61) IntTy (codes "h") None ∷ parameter (at 1 68) IntTy (codes "i") None ∷ [])
+    [] no_statements None ∷ plain (at 2 6) (codes "job") no_statements ∷ []
 
 nine_parameters : first_breach nine_parameters_text ≡ broken_whole (Limit Parameters)
 unfolding nine_parameters_text first_breach
@@ -85,7 +94,20 @@ nine_parameters = refl
 --   PREDICTABLE(1) REGION(g, 0, 0) REGION(g, 0, 0) REGION(g, 0, 0) REGION(g, 0, 0) REGION(g, 0, 0) REGION(g, 0, 0) REGION(g, 0, 0) REGION(g, 0, 0) REGION(g, 0, 0) REGION(g, 0, 0) REGION(g, 0, 0) REGION(g, 0, 0) REGION(g, 0, 0) REGION(g, 0, 0) REGION(g, 0, 0) REGION(g, 0, 0) REGION(g, 0, 0) REGION(g, 0, 0) REGION(g, 0, 0) REGION(g, 0, 0) REGION(g, 0, 0) REGION(g, 0, 0) REGION(g, 0, 0) REGION(g, 0, 0) REGION(g, 0, 0) REGION(g, 0, 0) REGION(g, 0, 0) REGION(g, 0, 0) REGION(g, 0, 0) REGION(g, 0, 0) REGION(g, 0, 0) REGION(g, 0, 0) REGION(g, 0, 0) void f(void) { }
 --   void job(void) { }
 regions_past_text : ProgramText
-regions_past_text = global (at 1 5) IntTy (codes "g") None absent ∷ function (at 2 549) (Some (record { stated = 1; regions = (region (at 2 23) (codes "g") 0 0 ∷ region (at 2 39) (codes "g") 0 0 ∷ region (at 2 55) (codes "g") 0 0 ∷ region (at 2 71) (codes "g") 0 0 ∷ region (at 2 87) (codes "g") 0 0 ∷ region (at 2 103) (codes "g") 0 0 ∷ region (at 2 119) (codes "g") 0 0 ∷ region (at 2 135) (codes "g") 0 0 ∷ region (at 2 151) (codes "g") 0 0 ∷ region (at 2 167) (codes "g") 0 0 ∷ region (at 2 183) (codes "g") 0 0 ∷ region (at 2 199) (codes "g") 0 0 ∷ region (at 2 215) (codes "g") 0 0 ∷ region (at 2 231) (codes "g") 0 0 ∷ region (at 2 247) (codes "g") 0 0 ∷ region (at 2 263) (codes "g") 0 0 ∷ region (at 2 279) (codes "g") 0 0 ∷ region (at 2 295) (codes "g") 0 0 ∷ region (at 2 311) (codes "g") 0 0 ∷ region (at 2 327) (codes "g") 0 0 ∷ region (at 2 343) (codes "g") 0 0 ∷ region (at 2 359) (codes "g") 0 0 ∷ region (at 2 375) (codes "g") 0 0 ∷ region (at 2 391) (codes "g") 0 0 ∷ region (at 2 407) (codes "g") 0 0 ∷ region (at 2 423) (codes "g") 0 0 ∷ region (at 2 439) (codes "g") 0 0 ∷ region (at 2 455) (codes "g") 0 0 ∷ region (at 2 471) (codes "g") 0 0 ∷ region (at 2 487) (codes "g") 0 0 ∷ region (at 2 503) (codes "g") 0 0 ∷ region (at 2 519) (codes "g") 0 0 ∷ region (at 2 535) (codes "g") 0 0 ∷ []) })) VoidTy (codes "f") [] [] no_statements None ∷ plain (at 3 6) (codes "job") no_statements ∷ []
+regions_past_text = global (at 1 5) IntTy (codes "g") None absent ∷ function (at 2 549)
+    (Some (record {
+      stated = 1;
+      regions =
+          (region (at 2 23) (codes "g") 0 0 ∷ region (at 2 39) (codes "g") 0 0 ∷ region (at 2 55) (codes "g") 0 0 ∷ region (at 2 71) (codes "g")
+          0 0 ∷ region (at 2 87) (codes "g") 0 0 ∷ region (at 2 103) (codes "g") 0 0 ∷ region (at 2 119) (codes "g") 0 0 ∷ region (at 2 135) (codes "g")
+          0 0 ∷ region (at 2 151) (codes "g") 0 0 ∷ region (at 2 167) (codes "g") 0 0 ∷ region (at 2 183) (codes "g") 0 0 ∷ region (at 2 199) (codes "g")
+          0 0 ∷ region (at 2 215) (codes "g") 0 0 ∷ region (at 2 231) (codes "g") 0 0 ∷ region (at 2 247) (codes "g") 0 0 ∷ region (at 2 263) (codes "g")
+          0 0 ∷ region (at 2 279) (codes "g") 0 0 ∷ region (at 2 295) (codes "g") 0 0 ∷ region (at 2 311) (codes "g") 0 0 ∷ region (at 2 327) (codes "g")
+          0 0 ∷ region (at 2 343) (codes "g") 0 0 ∷ region (at 2 359) (codes "g") 0 0 ∷ region (at 2 375) (codes "g") 0 0 ∷ region (at 2 391) (codes "g")
+          0 0 ∷ region (at 2 407) (codes "g") 0 0 ∷ region (at 2 423) (codes "g") 0 0 ∷ region (at 2 439) (codes "g") 0 0 ∷ region (at 2 455) (codes "g")
+          0 0 ∷ region (at 2 471) (codes "g") 0 0 ∷ region (at 2 487) (codes "g") 0 0 ∷ region (at 2 503) (codes "g") 0 0 ∷ region (at 2 519) (codes "g")
+          0 0 ∷ region (at 2 535) (codes "g") 0 0 ∷ []);
+    })) VoidTy (codes "f") [] [] no_statements None ∷ plain (at 3 6) (codes "job") no_statements ∷ []
 
 regions_past : first_breach regions_past_text ≡ broken_whole (Limit Regions)
 unfolding regions_past_text first_breach
@@ -110,7 +132,8 @@ local_in_itself = refl
 
 --   void job(void) { int x = y; int y = 1; }
 local_in_earlier_text : ProgramText
-local_in_earlier_text = function (at 1 6) None VoidTy (codes "job") [] (local (at 1 22) IntTy (codes "x") (variable (at 1 26) (codes "y")) ∷ local (at 1 33) IntTy (codes "y") (int 1 37 1) ∷ []) no_statements None ∷ []
+local_in_earlier_text = function (at 1 6) None VoidTy (codes "job") []
+    (local (at 1 22) IntTy (codes "x") (variable (at 1 26) (codes "y")) ∷ local (at 1 33) IntTy (codes "y") (int 1 37 1) ∷ []) no_statements None ∷ []
 
 local_in_earlier : first_breach local_in_earlier_text ≡ broken 1 26 (Unknown (codes "y"))
 unfolding local_in_earlier_text first_breach
@@ -129,7 +152,8 @@ unknown_element = refl
 --   void job(void) { int x = 1;
 --     x = f(x); }
 unknown_callee_text : ProgramText
-unknown_callee_text = function (at 1 6) None VoidTy (codes "job") [] (local (at 1 22) IntTy (codes "x") (int 1 26 1) ∷ []) (statements ((call (at 2 3) (Some (codes "x")) (codes "f") ((variable (at 2 9) (codes "x")) ∷ [])) ∷ [])) None ∷ []
+unknown_callee_text = function (at 1 6) None VoidTy (codes "job") [] (local (at 1 22) IntTy (codes "x") (int 1 26 1) ∷ [])
+    (statements ((call (at 2 3) (Some (codes "x")) (codes "f") ((variable (at 2 9) (codes "x")) ∷ [])) ∷ [])) None ∷ []
 
 unknown_callee : first_breach unknown_callee_text ≡ broken 2 3 (Unknown (codes "f"))
 unfolding unknown_callee_text first_breach
@@ -148,7 +172,9 @@ unknown_target = refl
 --   void job(void) { int i = 0;
 --     for (i = u; j < 3; k++) { } }
 unknown_loop_name_text : ProgramText
-unknown_loop_name_text = function (at 1 6) None VoidTy (codes "job") [] (local (at 1 22) IntTy (codes "i") (int 1 26 0) ∷ []) (statements ((counting_for (at 2 3) (record { first = codes "i"; second = codes "j"; third = codes "k"; fourth = codes "k" }) (variable (at 2 12) (codes "u")) false (int 2 19 3) 1 (block (at 2 27) no_statements)) ∷ [])) None ∷ []
+unknown_loop_name_text = function (at 1 6) None VoidTy (codes "job") [] (local (at 1 22) IntTy (codes "i") (int 1 26 0) ∷ [])
+    (statements ((counting_for (at 2 3) (record { first = codes "i"; second = codes "j"; third = codes "k"; fourth = codes "k" })
+    (variable (at 2 12) (codes "u")) false (int 2 19 3) 1 (block (at 2 27) no_statements)) ∷ [])) None ∷ []
 
 unknown_loop_name : first_breach unknown_loop_name_text ≡ broken 2 3 (Unknown (codes "j"))
 unfolding unknown_loop_name_text first_breach
@@ -167,7 +193,8 @@ unknown_input = refl
 --   int g;
 --   void job(void) { }
 unknown_region_text : ProgramText
-unknown_region_text = function (at 1 37) (Some (record { stated = 9; regions = (region (at 1 23) (codes "g") 0 0 ∷ []) })) VoidTy (codes "f") [] [] no_statements None ∷ global (at 2 5) IntTy (codes "g") None absent ∷ plain (at 3 6) (codes "job") no_statements ∷ []
+unknown_region_text = function (at 1 37) (Some (record { stated = 9; regions = (region (at 1 23) (codes "g") 0 0 ∷ []) })) VoidTy (codes "f")
+    [] [] no_statements None ∷ global (at 2 5) IntTy (codes "g") None absent ∷ plain (at 3 6) (codes "job") no_statements ∷ []
 
 unknown_region : first_breach unknown_region_text ≡ broken 1 23 (Unknown (codes "g"))
 unfolding unknown_region_text first_breach
@@ -206,7 +233,8 @@ parameter_as_function = refl
 --   void f(int x) { int x = 1; }
 --   void job(void) { }
 local_as_parameter_text : ProgramText
-local_as_parameter_text = function (at 1 6) None VoidTy (codes "f") (parameter (at 1 12) IntTy (codes "x") None ∷ []) (local (at 1 21) IntTy (codes "x") (int 1 25 1) ∷ []) no_statements None ∷ plain (at 2 6) (codes "job") no_statements ∷ []
+local_as_parameter_text = function (at 1 6) None VoidTy (codes "f") (parameter (at 1 12) IntTy (codes "x") None ∷ [])
+    (local (at 1 21) IntTy (codes "x") (int 1 25 1) ∷ []) no_statements None ∷ plain (at 2 6) (codes "job") no_statements ∷ []
 
 local_as_parameter : first_breach local_as_parameter_text ≡ broken 1 21 (Twice (codes "x"))
 unfolding local_as_parameter_text first_breach
@@ -224,7 +252,9 @@ void_global = refl
 --   void f(int x, void y) { }
 --   void job(void) { }
 void_parameter_text : ProgramText
-void_parameter_text = function (at 1 6) None VoidTy (codes "f") (parameter (at 1 12) IntTy (codes "x") None ∷ parameter (at 1 20) VoidTy (codes "y") None ∷ []) [] no_statements None ∷ plain (at 2 6) (codes "job") no_statements ∷ []
+void_parameter_text = function (at 1 6) None VoidTy (codes "f")
+    (parameter (at 1 12) IntTy (codes "x") None ∷ parameter (at 1 20) VoidTy (codes "y") None ∷ []) [] no_statements None ∷ plain (at 2 6)
+    (codes "job") no_statements ∷ []
 
 void_parameter : first_breach void_parameter_text ≡ broken 1 20 (OfTypes Void)
 unfolding void_parameter_text first_breach
@@ -293,7 +323,8 @@ index_on_scalar = refl
 
 --   void job(void) { int x = 1; x[0] = 2; }
 index_on_local_text : ProgramText
-index_on_local_text = function (at 1 6) None VoidTy (codes "job") [] (local (at 1 22) IntTy (codes "x") (int 1 26 1) ∷ []) (statements ((assign (at 1 29) (codes "x") (Some (int 1 31 0)) (int 1 36 2)) ∷ [])) None ∷ []
+index_on_local_text = function (at 1 6) None VoidTy (codes "job") [] (local (at 1 22) IntTy (codes "x") (int 1 26 1) ∷ [])
+    (statements ((assign (at 1 29) (codes "x") (Some (int 1 31 0)) (int 1 36 2)) ∷ [])) None ∷ []
 
 index_on_local : first_breach index_on_local_text ≡ broken 1 29 (OfTypes Scalar)
 unfolding index_on_local_text first_breach
@@ -346,7 +377,8 @@ constant_for_array = refl
 --   void job(void) {
 --     f(); }
 argument_missing_text : ProgramText
-argument_missing_text = function (at 1 6) None VoidTy (codes "f") (parameter (at 1 12) IntTy (codes "x") None ∷ []) [] no_statements None ∷ plain (at 2 6) (codes "job") (statements ((call (at 3 3) None (codes "f") []) ∷ [])) ∷ []
+argument_missing_text = function (at 1 6) None VoidTy (codes "f") (parameter (at 1 12) IntTy (codes "x") None ∷ []) [] no_statements None ∷ plain
+    (at 2 6) (codes "job") (statements ((call (at 3 3) None (codes "f") []) ∷ [])) ∷ []
 
 argument_missing : first_breach argument_missing_text ≡ broken 3 3 (OfTypes CountRule)
 unfolding argument_missing_text first_breach
@@ -357,7 +389,8 @@ argument_missing = refl
 --   void job(void) {
 --     g = f(); }
 target_is_global_text : ProgramText
-target_is_global_text = global (at 1 5) IntTy (codes "g") None absent ∷ function (at 2 5) None IntTy (codes "f") [] [] no_statements (Some (int 2 22 1)) ∷ plain (at 3 6) (codes "job") (statements ((call (at 4 3) (Some (codes "g")) (codes "f") []) ∷ [])) ∷ []
+target_is_global_text = global (at 1 5) IntTy (codes "g") None absent ∷ function (at 2 5) None IntTy (codes "f") [] [] no_statements
+    (Some (int 2 22 1)) ∷ plain (at 3 6) (codes "job") (statements ((call (at 4 3) (Some (codes "g")) (codes "f") []) ∷ [])) ∷ []
 
 target_is_global : first_breach target_is_global_text ≡ broken 4 3 (OfTypes Target)
 unfolding target_is_global_text first_breach
@@ -388,7 +421,8 @@ input_to_array = refl
 --   void job(void) { int x = 1;
 --     x = f(); }
 target_of_void_text : ProgramText
-target_of_void_text = plain (at 1 6) (codes "f") no_statements ∷ function (at 2 6) None VoidTy (codes "job") [] (local (at 2 22) IntTy (codes "x") (int 2 26 1) ∷ []) (statements ((call (at 3 3) (Some (codes "x")) (codes "f") []) ∷ [])) None ∷ []
+target_of_void_text = plain (at 1 6) (codes "f") no_statements ∷ function (at 2 6) None VoidTy (codes "job") []
+    (local (at 2 22) IntTy (codes "x") (int 2 26 1) ∷ []) (statements ((call (at 3 3) (Some (codes "x")) (codes "f") []) ∷ [])) None ∷ []
 
 target_of_void : first_breach target_of_void_text ≡ broken 3 3 (OfTypes Target)
 unfolding target_of_void_text first_breach
@@ -442,7 +476,9 @@ marked_job = refl
 --   PREDICTABLE(9) REGION(a, 2, 1) void f(void) { }
 --   void job(void) { }
 region_reversed_text : ProgramText
-region_reversed_text = global (at 1 5) IntTy (codes "a") (Some 4) absent ∷ function (at 2 37) (Some (record { stated = 9; regions = (region (at 2 23) (codes "a") 2 1 ∷ []) })) VoidTy (codes "f") [] [] no_statements None ∷ plain (at 3 6) (codes "job") no_statements ∷ []
+region_reversed_text = global (at 1 5) IntTy (codes "a") (Some 4) absent ∷ function (at 2 37)
+    (Some (record { stated = 9; regions = (region (at 2 23) (codes "a") 2 1 ∷ []) })) VoidTy (codes "f") [] [] no_statements None ∷ plain (at 3 6)
+    (codes "job") no_statements ∷ []
 
 region_reversed : first_breach region_reversed_text ≡ broken 2 23 (OfTypes Region)
 unfolding region_reversed_text first_breach
@@ -452,7 +488,9 @@ region_reversed = refl
 --   PREDICTABLE(9) REGION(a, 0, 4) void f(void) { }
 --   void job(void) { }
 region_past_text : ProgramText
-region_past_text = global (at 1 5) IntTy (codes "a") (Some 4) absent ∷ function (at 2 37) (Some (record { stated = 9; regions = (region (at 2 23) (codes "a") 0 4 ∷ []) })) VoidTy (codes "f") [] [] no_statements None ∷ plain (at 3 6) (codes "job") no_statements ∷ []
+region_past_text = global (at 1 5) IntTy (codes "a") (Some 4) absent ∷ function (at 2 37)
+    (Some (record { stated = 9; regions = (region (at 2 23) (codes "a") 0 4 ∷ []) })) VoidTy (codes "f") [] [] no_statements None ∷ plain (at 3 6)
+    (codes "job") no_statements ∷ []
 
 region_past : first_breach region_past_text ≡ broken 2 23 (OfTypes Region)
 unfolding region_past_text first_breach
@@ -462,7 +500,9 @@ region_past = refl
 --   PREDICTABLE(9) REGION(g, 0, 1) void f(void) { }
 --   void job(void) { }
 region_of_scalar_text : ProgramText
-region_of_scalar_text = global (at 1 5) IntTy (codes "g") None absent ∷ function (at 2 37) (Some (record { stated = 9; regions = (region (at 2 23) (codes "g") 0 1 ∷ []) })) VoidTy (codes "f") [] [] no_statements None ∷ plain (at 3 6) (codes "job") no_statements ∷ []
+region_of_scalar_text = global (at 1 5) IntTy (codes "g") None absent ∷ function (at 2 37)
+    (Some (record { stated = 9; regions = (region (at 2 23) (codes "g") 0 1 ∷ []) })) VoidTy (codes "f") [] [] no_statements None ∷ plain (at 3 6)
+    (codes "job") no_statements ∷ []
 
 region_of_scalar : first_breach region_of_scalar_text ≡ broken 2 23 (OfTypes Region)
 unfolding region_of_scalar_text first_breach
@@ -471,7 +511,8 @@ region_of_scalar = refl
 --   void f(int x RANGE(1, 0)) { }
 --   void job(void) { }
 range_reversed_text : ProgramText
-range_reversed_text = function (at 1 6) None VoidTy (codes "f") (parameter (at 1 12) IntTy (codes "x") (Some (pos 1, pos 0)) ∷ []) [] no_statements None ∷ plain (at 2 6) (codes "job") no_statements ∷ []
+range_reversed_text = function (at 1 6) None VoidTy (codes "f") (parameter (at 1 12) IntTy (codes "x") (Some (pos 1, pos 0)) ∷ [])
+    [] no_statements None ∷ plain (at 2 6) (codes "job") no_statements ∷ []
 
 range_reversed : first_breach range_reversed_text ≡ broken 1 12 (OfTypes Range)
 unfolding range_reversed_text first_breach
@@ -480,7 +521,8 @@ range_reversed = refl
 --   void f(int x RANGE(0, 2147483648u)) { }
 --   void job(void) { }
 range_of_int_text : ProgramText
-range_of_int_text = function (at 1 6) None VoidTy (codes "f") (parameter (at 1 12) IntTy (codes "x") (Some (pos 0, pos 2147483648)) ∷ []) [] no_statements None ∷ plain (at 2 6) (codes "job") no_statements ∷ []
+range_of_int_text = function (at 1 6) None VoidTy (codes "f") (parameter (at 1 12) IntTy (codes "x") (Some (pos 0, pos 2147483648)) ∷ [])
+    [] no_statements None ∷ plain (at 2 6) (codes "job") no_statements ∷ []
 
 range_of_int : first_breach range_of_int_text ≡ broken 1 12 (OfTypes Range)
 unfolding range_of_int_text first_breach
@@ -489,7 +531,8 @@ range_of_int = refl
 --   void f(unsigned x RANGE(-1, 0)) { }
 --   void job(void) { }
 range_of_unsigned_text : ProgramText
-range_of_unsigned_text = function (at 1 6) None VoidTy (codes "f") (parameter (at 1 17) UnsignedTy (codes "x") (Some (negsuc 0, pos 0)) ∷ []) [] no_statements None ∷ plain (at 2 6) (codes "job") no_statements ∷ []
+range_of_unsigned_text = function (at 1 6) None VoidTy (codes "f") (parameter (at 1 17) UnsignedTy (codes "x") (Some (negsuc 0, pos 0)) ∷ [])
+    [] no_statements None ∷ plain (at 2 6) (codes "job") no_statements ∷ []
 
 range_of_unsigned : first_breach range_of_unsigned_text ≡ broken 1 17 (OfTypes Range)
 unfolding range_of_unsigned_text first_breach
@@ -498,7 +541,9 @@ range_of_unsigned = refl
 --   void f(int x RANGE(-2147483648u, 2147483647), unsigned y RANGE(0, 0xffffffff)) { }
 --   void job(void) { }
 range_fits_text : ProgramText
-range_fits_text = function (at 1 6) None VoidTy (codes "f") (parameter (at 1 12) IntTy (codes "x") (Some (negsuc 2147483647, pos 2147483647)) ∷ parameter (at 1 56) UnsignedTy (codes "y") (Some (pos 0, pos 4294967295)) ∷ []) [] no_statements None ∷ plain (at 2 6) (codes "job") no_statements ∷ []
+range_fits_text = function (at 1 6) None VoidTy (codes "f")
+    (parameter (at 1 12) IntTy (codes "x") (Some (negsuc 2147483647, pos 2147483647)) ∷ parameter (at 1 56) UnsignedTy (codes "y")
+    (Some (pos 0, pos 4294967295)) ∷ []) [] no_statements None ∷ plain (at 2 6) (codes "job") no_statements ∷ []
 
 range_fits : first_breach range_fits_text ≡ None
 unfolding range_fits_text first_breach
@@ -545,7 +590,12 @@ recursion = refl
 --   void h(void) { set(7); }
 --   void job(void) { h(); out(g); }
 marked_call_text : ProgramText
-marked_call_text = global (at 1 5) IntTy (codes "g") None absent ∷ function (at 2 39) (Some (record { stated = 491; regions = (region (at 2 25) (codes "g") 0 0 ∷ []) })) VoidTy (codes "set") (parameter (at 2 47) IntTy (codes "x") (Some (pos 0, pos 9)) ∷ []) [] (statements ((assign (at 2 64) (codes "g") None (variable (at 2 68) (codes "x"))) ∷ [])) None ∷ plain (at 3 6) (codes "h") (statements ((call (at 3 16) None (codes "set") ((int 3 20 7) ∷ [])) ∷ [])) ∷ plain (at 4 6) (codes "job") (statements ((call (at 4 18) None (codes "h") []) ∷ (output (at 4 23) (variable (at 4 27) (codes "g"))) ∷ [])) ∷ []
+marked_call_text = global (at 1 5) IntTy (codes "g") None absent ∷ function (at 2 39)
+    (Some (record { stated = 491; regions = (region (at 2 25) (codes "g") 0 0 ∷ []) })) VoidTy (codes "set")
+    (parameter (at 2 47) IntTy (codes "x") (Some (pos 0, pos 9)) ∷ []) []
+    (statements ((assign (at 2 64) (codes "g") None (variable (at 2 68) (codes "x"))) ∷ [])) None ∷ plain (at 3 6) (codes "h")
+    (statements ((call (at 3 16) None (codes "set") ((int 3 20 7) ∷ [])) ∷ [])) ∷ plain (at 4 6) (codes "job")
+    (statements ((call (at 4 18) None (codes "h") []) ∷ (output (at 4 23) (variable (at 4 27) (codes "g"))) ∷ [])) ∷ []
 
 marked_call : first_breach marked_call_text ≡ broken 3 16 MarkedCall
 unfolding marked_call_text first_breach
@@ -556,7 +606,9 @@ marked_call = refl
 --   PREDICTABLE(900) void f(void) { h(); }
 --   void job(void) { f(); }
 system_call_text : ProgramText
-system_call_text = plain (at 1 6) (codes "h") (statements ((output (at 1 16) (int 1 20 1)) ∷ [])) ∷ function (at 2 23) (Some (record { stated = 900; regions = [] })) VoidTy (codes "f") [] [] (statements ((call (at 2 33) None (codes "h") []) ∷ [])) None ∷ plain (at 3 6) (codes "job") (statements ((call (at 3 18) None (codes "f") []) ∷ [])) ∷ []
+system_call_text = plain (at 1 6) (codes "h") (statements ((output (at 1 16) (int 1 20 1)) ∷ [])) ∷ function (at 2 23)
+    (Some (record { stated = 900; regions = [] })) VoidTy (codes "f") [] [] (statements ((call (at 2 33) None (codes "h") []) ∷ [])) None ∷ plain
+    (at 3 6) (codes "job") (statements ((call (at 3 18) None (codes "f") []) ∷ [])) ∷ []
 
 system_call : first_breach system_call_text ≡ broken 1 16 SystemCall
 unfolding system_call_text first_breach
@@ -566,7 +618,9 @@ system_call = refl
 --     x = in(); }
 --   void job(void) { }
 system_input_text : ProgramText
-system_input_text = function (at 1 23) (Some (record { stated = 900; regions = [] })) VoidTy (codes "f") [] (local (at 1 37) IntTy (codes "x") (int 1 41 1) ∷ []) (statements ((input (at 2 3) (codes "x")) ∷ [])) None ∷ plain (at 3 6) (codes "job") no_statements ∷ []
+system_input_text = function (at 1 23) (Some (record { stated = 900; regions = [] })) VoidTy (codes "f") []
+    (local (at 1 37) IntTy (codes "x") (int 1 41 1) ∷ []) (statements ((input (at 2 3) (codes "x")) ∷ [])) None ∷ plain (at 3 6) (codes "job")
+    no_statements ∷ []
 
 system_input : first_breach system_input_text ≡ broken 2 3 SystemCall
 unfolding system_input_text first_breach
@@ -578,7 +632,9 @@ system_input = refl
 --   void k(void) { h(); }
 --   void job(void) { }
 system_call_backwards_text : ProgramText
-system_call_backwards_text = plain (at 1 6) (codes "h") (statements ((output (at 1 16) (int 1 20 1)) ∷ [])) ∷ function (at 2 23) (Some (record { stated = 900; regions = [] })) VoidTy (codes "f") [] [] (statements ((call (at 2 33) None (codes "k") []) ∷ [])) None ∷ plain (at 3 6) (codes "k") (statements ((call (at 3 16) None (codes "h") []) ∷ [])) ∷ plain (at 4 6) (codes "job") no_statements ∷ []
+system_call_backwards_text = plain (at 1 6) (codes "h") (statements ((output (at 1 16) (int 1 20 1)) ∷ [])) ∷ function (at 2 23)
+    (Some (record { stated = 900; regions = [] })) VoidTy (codes "f") [] [] (statements ((call (at 2 33) None (codes "k") []) ∷ [])) None ∷ plain
+    (at 3 6) (codes "k") (statements ((call (at 3 16) None (codes "h") []) ∷ [])) ∷ plain (at 4 6) (codes "job") no_statements ∷ []
 
 system_call_backwards : first_breach system_call_backwards_text ≡ broken 1 16 SystemCall
 unfolding system_call_backwards_text first_breach
@@ -588,7 +644,10 @@ system_call_backwards = refl
 --   PREDICTABLE(900) void f(void) { }
 --   void job(void) { f(); h(); }
 system_call_not_reached_text : ProgramText
-system_call_not_reached_text = plain (at 1 6) (codes "h") (statements ((output (at 1 16) (int 1 20 1)) ∷ [])) ∷ function (at 2 23) (Some (record { stated = 900; regions = [] })) VoidTy (codes "f") [] [] no_statements None ∷ plain (at 3 6) (codes "job") (statements ((call (at 3 18) None (codes "f") []) ∷ (call (at 3 23) None (codes "h") []) ∷ [])) ∷ []
+system_call_not_reached_text =
+    plain (at 1 6) (codes "h") (statements ((output (at 1 16) (int 1 20 1)) ∷ [])) ∷ function (at 2 23) (Some (record { stated = 900; regions = [] }))
+    VoidTy (codes "f") [] [] no_statements None ∷ plain (at 3 6) (codes "job")
+    (statements ((call (at 3 18) None (codes "f") []) ∷ (call (at 3 23) None (codes "h") []) ∷ [])) ∷ []
 
 system_call_not_reached : first_breach system_call_not_reached_text ≡ None
 unfolding system_call_not_reached_text first_breach
@@ -597,7 +656,10 @@ system_call_not_reached = refl
 --   void job(void) { int i = 0; int j = 0;
 --     for (i = 0; i < 3; j++) { } }
 loop_of_two_names_text : ProgramText
-loop_of_two_names_text = function (at 1 6) None VoidTy (codes "job") [] (local (at 1 22) IntTy (codes "i") (int 1 26 0) ∷ local (at 1 33) IntTy (codes "j") (int 1 37 0) ∷ []) (statements ((counting_for (at 2 3) (record { first = codes "i"; second = codes "i"; third = codes "j"; fourth = codes "j" }) (int 2 12 0) false (int 2 19 3) 1 (block (at 2 27) no_statements)) ∷ [])) None ∷ []
+loop_of_two_names_text = function (at 1 6) None VoidTy (codes "job") []
+    (local (at 1 22) IntTy (codes "i") (int 1 26 0) ∷ local (at 1 33) IntTy (codes "j") (int 1 37 0) ∷ [])
+    (statements ((counting_for (at 2 3) (record { first = codes "i"; second = codes "i"; third = codes "j"; fourth = codes "j" }) (int 2 12 0) false
+    (int 2 19 3) 1 (block (at 2 27) no_statements)) ∷ [])) None ∷ []
 
 loop_of_two_names : first_breach loop_of_two_names_text ≡ broken 2 3 LoopForm
 unfolding loop_of_two_names_text first_breach
@@ -607,7 +669,8 @@ loop_of_two_names = refl
 --   void job(void) {
 --     for (i = 0; i < 3; i++) { } }
 loop_over_global_text : ProgramText
-loop_over_global_text = global (at 1 5) IntTy (codes "i") None absent ∷ plain (at 2 6) (codes "job") (statements ((counting_for (at 3 3) (one_name (codes "i")) (int 3 12 0) false (int 3 19 3) 1 (block (at 3 27) no_statements)) ∷ [])) ∷ []
+loop_over_global_text = global (at 1 5) IntTy (codes "i") None absent ∷ plain (at 2 6) (codes "job")
+    (statements ((counting_for (at 3 3) (one_name (codes "i")) (int 3 12 0) false (int 3 19 3) 1 (block (at 3 27) no_statements)) ∷ [])) ∷ []
 
 loop_over_global : first_breach loop_over_global_text ≡ broken 3 3 LoopForm
 unfolding loop_over_global_text first_breach
@@ -616,7 +679,8 @@ loop_over_global = refl
 --   void job(void) { unsigned i = 0;
 --     for (i = 0; i < 3; i++) { } }
 loop_over_unsigned_text : ProgramText
-loop_over_unsigned_text = function (at 1 6) None VoidTy (codes "job") [] (local (at 1 27) UnsignedTy (codes "i") (int 1 31 0) ∷ []) (statements ((counting_for (at 2 3) (one_name (codes "i")) (int 2 12 0) false (int 2 19 3) 1 (block (at 2 27) no_statements)) ∷ [])) None ∷ []
+loop_over_unsigned_text = function (at 1 6) None VoidTy (codes "job") [] (local (at 1 27) UnsignedTy (codes "i") (int 1 31 0) ∷ [])
+    (statements ((counting_for (at 2 3) (one_name (codes "i")) (int 2 12 0) false (int 2 19 3) 1 (block (at 2 27) no_statements)) ∷ [])) None ∷ []
 
 loop_over_unsigned : first_breach loop_over_unsigned_text ≡ broken 2 3 LoopForm
 unfolding loop_over_unsigned_text first_breach
@@ -625,7 +689,10 @@ loop_over_unsigned = refl
 --   void job(void) { int i = 0;
 --     for (i = 0; i < 3; i++) { if (i) i = 1; } }
 loop_body_assigns_text : ProgramText
-loop_body_assigns_text = function (at 1 6) None VoidTy (codes "job") [] (local (at 1 22) IntTy (codes "i") (int 1 26 0) ∷ []) (statements ((counting_for (at 2 3) (one_name (codes "i")) (int 2 12 0) false (int 2 19 3) 1 (block (at 2 27) (statements ((if_then (at 2 29) (variable (at 2 33) (codes "i")) (assign (at 2 36) (codes "i") None (int 2 40 1))) ∷ [])))) ∷ [])) None ∷ []
+loop_body_assigns_text = function (at 1 6) None VoidTy (codes "job") [] (local (at 1 22) IntTy (codes "i") (int 1 26 0) ∷ [])
+    (statements ((counting_for (at 2 3) (one_name (codes "i")) (int 2 12 0) false (int 2 19 3) 1
+    (block (at 2 27) (statements ((if_then (at 2 29) (variable (at 2 33) (codes "i")) (assign (at 2 36) (codes "i") None (int 2 40 1))) ∷ []))))
+    ∷ [])) None ∷ []
 
 loop_body_assigns : first_breach loop_body_assigns_text ≡ broken 2 3 LoopForm
 unfolding loop_body_assigns_text first_breach
@@ -634,7 +701,9 @@ loop_body_assigns = refl
 --   void job(void) { int i = 0;
 --     for (i = 0; i < 3; i++) { { i = in(); } } }
 loop_body_reads_text : ProgramText
-loop_body_reads_text = function (at 1 6) None VoidTy (codes "job") [] (local (at 1 22) IntTy (codes "i") (int 1 26 0) ∷ []) (statements ((counting_for (at 2 3) (one_name (codes "i")) (int 2 12 0) false (int 2 19 3) 1 (block (at 2 27) (statements ((block (at 2 29) (statements ((input (at 2 31) (codes "i")) ∷ []))) ∷ [])))) ∷ [])) None ∷ []
+loop_body_reads_text = function (at 1 6) None VoidTy (codes "job") [] (local (at 1 22) IntTy (codes "i") (int 1 26 0) ∷ [])
+    (statements ((counting_for (at 2 3) (one_name (codes "i")) (int 2 12 0) false (int 2 19 3) 1
+    (block (at 2 27) (statements ((block (at 2 29) (statements ((input (at 2 31) (codes "i")) ∷ []))) ∷ [])))) ∷ [])) None ∷ []
 
 loop_body_reads : first_breach loop_body_reads_text ≡ broken 2 3 LoopForm
 unfolding loop_body_reads_text first_breach
@@ -644,7 +713,10 @@ loop_body_reads = refl
 --   void job(void) { int i = 0;
 --     for (i = 0; i < 3; i++) { i = f(); } }
 loop_body_calls_text : ProgramText
-loop_body_calls_text = function (at 1 5) None IntTy (codes "f") [] [] no_statements (Some (int 1 22 1)) ∷ function (at 2 6) None VoidTy (codes "job") [] (local (at 2 22) IntTy (codes "i") (int 2 26 0) ∷ []) (statements ((counting_for (at 3 3) (one_name (codes "i")) (int 3 12 0) false (int 3 19 3) 1 (block (at 3 27) (statements ((call (at 3 29) (Some (codes "i")) (codes "f") []) ∷ [])))) ∷ [])) None ∷ []
+loop_body_calls_text = function (at 1 5) None IntTy (codes "f") [] [] no_statements (Some (int 1 22 1)) ∷ function (at 2 6) None VoidTy (codes "job")
+    [] (local (at 2 22) IntTy (codes "i") (int 2 26 0) ∷ [])
+    (statements ((counting_for (at 3 3) (one_name (codes "i")) (int 3 12 0) false (int 3 19 3) 1
+    (block (at 3 27) (statements ((call (at 3 29) (Some (codes "i")) (codes "f") []) ∷ [])))) ∷ [])) None ∷ []
 
 loop_body_calls : first_breach loop_body_calls_text ≡ broken 3 3 LoopForm
 unfolding loop_body_calls_text first_breach
@@ -654,7 +726,9 @@ loop_body_calls = refl
 --     for (i = 0; i < 3; i++)
 --       for (i = 0; i < 3; i++) { } }
 loop_in_itself_text : ProgramText
-loop_in_itself_text = function (at 1 6) None VoidTy (codes "job") [] (local (at 1 22) IntTy (codes "i") (int 1 26 0) ∷ []) (statements ((counting_for (at 2 3) (one_name (codes "i")) (int 2 12 0) false (int 2 19 3) 1 (counting_for (at 3 5) (one_name (codes "i")) (int 3 14 0) false (int 3 21 3) 1 (block (at 3 29) no_statements))) ∷ [])) None ∷ []
+loop_in_itself_text = function (at 1 6) None VoidTy (codes "job") [] (local (at 1 22) IntTy (codes "i") (int 1 26 0) ∷ [])
+    (statements ((counting_for (at 2 3) (one_name (codes "i")) (int 2 12 0) false (int 2 19 3) 1
+    (counting_for (at 3 5) (one_name (codes "i")) (int 3 14 0) false (int 3 21 3) 1 (block (at 3 29) no_statements))) ∷ [])) None ∷ []
 
 loop_in_itself : first_breach loop_in_itself_text ≡ broken 2 3 LoopForm
 unfolding loop_in_itself_text first_breach
@@ -663,7 +737,8 @@ loop_in_itself = refl
 --   void job(void) { int i = 0;
 --     for (i = 0u; i < 3; i++) { } }
 loop_low_unsigned_text : ProgramText
-loop_low_unsigned_text = function (at 1 6) None VoidTy (codes "job") [] (local (at 1 22) IntTy (codes "i") (int 1 26 0) ∷ []) (statements ((counting_for (at 2 3) (one_name (codes "i")) (uint 2 12 0) false (int 2 20 3) 1 (block (at 2 28) no_statements)) ∷ [])) None ∷ []
+loop_low_unsigned_text = function (at 1 6) None VoidTy (codes "job") [] (local (at 1 22) IntTy (codes "i") (int 1 26 0) ∷ [])
+    (statements ((counting_for (at 2 3) (one_name (codes "i")) (uint 2 12 0) false (int 2 20 3) 1 (block (at 2 28) no_statements)) ∷ [])) None ∷ []
 
 loop_low_unsigned : first_breach loop_low_unsigned_text ≡ broken 2 3 LoopForm
 unfolding loop_low_unsigned_text first_breach
@@ -673,7 +748,10 @@ loop_low_unsigned = refl
 --   void job(void) { int i = 0;
 --     for (i = 0; i < n + 1; i++) { } }
 loop_high_unsigned_text : ProgramText
-loop_high_unsigned_text = global (at 1 10) UnsignedTy (codes "n") None absent ∷ function (at 2 6) None VoidTy (codes "job") [] (local (at 2 22) IntTy (codes "i") (int 2 26 0) ∷ []) (statements ((counting_for (at 3 3) (one_name (codes "i")) (int 3 12 0) false (binary (at 3 21) Add (variable (at 3 19) (codes "n")) (int 3 23 1)) 1 (block (at 3 31) no_statements)) ∷ [])) None ∷ []
+loop_high_unsigned_text = global (at 1 10) UnsignedTy (codes "n") None absent ∷ function (at 2 6) None VoidTy (codes "job") []
+    (local (at 2 22) IntTy (codes "i") (int 2 26 0) ∷ [])
+    (statements ((counting_for (at 3 3) (one_name (codes "i")) (int 3 12 0) false (binary (at 3 21) Add (variable (at 3 19) (codes "n")) (int 3 23 1))
+    1 (block (at 3 31) no_statements)) ∷ [])) None ∷ []
 
 loop_high_unsigned : first_breach loop_high_unsigned_text ≡ broken 3 3 LoopForm
 unfolding loop_high_unsigned_text first_breach
@@ -682,7 +760,8 @@ loop_high_unsigned = refl
 --   void job(void) { int i = 0;
 --     for (i = 0; i < 3; i += 0) { } }
 loop_step_zero_text : ProgramText
-loop_step_zero_text = function (at 1 6) None VoidTy (codes "job") [] (local (at 1 22) IntTy (codes "i") (int 1 26 0) ∷ []) (statements ((counting_for (at 2 3) (one_name (codes "i")) (int 2 12 0) false (int 2 19 3) 0 (block (at 2 30) no_statements)) ∷ [])) None ∷ []
+loop_step_zero_text = function (at 1 6) None VoidTy (codes "job") [] (local (at 1 22) IntTy (codes "i") (int 1 26 0) ∷ [])
+    (statements ((counting_for (at 2 3) (one_name (codes "i")) (int 2 12 0) false (int 2 19 3) 0 (block (at 2 30) no_statements)) ∷ [])) None ∷ []
 
 loop_step_zero : first_breach loop_step_zero_text ≡ broken 2 3 LoopForm
 unfolding loop_step_zero_text first_breach
@@ -691,7 +770,8 @@ loop_step_zero = refl
 --   void job(void) { int i = 0;
 --     for (i = 0; i < 3; i += 2048) { } }
 loop_step_past_text : ProgramText
-loop_step_past_text = function (at 1 6) None VoidTy (codes "job") [] (local (at 1 22) IntTy (codes "i") (int 1 26 0) ∷ []) (statements ((counting_for (at 2 3) (one_name (codes "i")) (int 2 12 0) false (int 2 19 3) 2048 (block (at 2 33) no_statements)) ∷ [])) None ∷ []
+loop_step_past_text = function (at 1 6) None VoidTy (codes "job") [] (local (at 1 22) IntTy (codes "i") (int 1 26 0) ∷ [])
+    (statements ((counting_for (at 2 3) (one_name (codes "i")) (int 2 12 0) false (int 2 19 3) 2048 (block (at 2 33) no_statements)) ∷ [])) None ∷ []
 
 loop_step_past : first_breach loop_step_past_text ≡ broken 2 3 LoopForm
 unfolding loop_step_past_text first_breach
@@ -700,7 +780,8 @@ loop_step_past = refl
 --   void job(void) { int i = 0;
 --     for (i = 0; i < 3; i += 2047) { } }
 loop_step_greatest_text : ProgramText
-loop_step_greatest_text = function (at 1 6) None VoidTy (codes "job") [] (local (at 1 22) IntTy (codes "i") (int 1 26 0) ∷ []) (statements ((counting_for (at 2 3) (one_name (codes "i")) (int 2 12 0) false (int 2 19 3) 2047 (block (at 2 33) no_statements)) ∷ [])) None ∷ []
+loop_step_greatest_text = function (at 1 6) None VoidTy (codes "job") [] (local (at 1 22) IntTy (codes "i") (int 1 26 0) ∷ [])
+    (statements ((counting_for (at 2 3) (one_name (codes "i")) (int 2 12 0) false (int 2 19 3) 2047 (block (at 2 33) no_statements)) ∷ [])) None ∷ []
 
 loop_step_greatest : first_breach loop_step_greatest_text ≡ None
 unfolding loop_step_greatest_text first_breach
@@ -728,7 +809,9 @@ bounded_past = refl
 --   void job(void) { int i = 0;
 --     for (i = u; i < 3; i++) { } }
 unknown_counts_as_int_text : ProgramText
-unknown_counts_as_int_text = function (at 1 6) None VoidTy (codes "job") [] (local (at 1 22) IntTy (codes "i") (int 1 26 0) ∷ []) (statements ((counting_for (at 2 3) (one_name (codes "i")) (variable (at 2 12) (codes "u")) false (int 2 19 3) 1 (block (at 2 27) no_statements)) ∷ [])) None ∷ []
+unknown_counts_as_int_text = function (at 1 6) None VoidTy (codes "job") [] (local (at 1 22) IntTy (codes "i") (int 1 26 0) ∷ [])
+    (statements ((counting_for (at 2 3) (one_name (codes "i")) (variable (at 2 12) (codes "u")) false (int 2 19 3) 1 (block (at 2 27) no_statements))
+    ∷ [])) None ∷ []
 
 unknown_counts_as_int : first_breach unknown_counts_as_int_text ≡ broken 2 12 (Unknown (codes "u"))
 unfolding unknown_counts_as_int_text first_breach
@@ -738,7 +821,10 @@ unknown_counts_as_int = refl
 --   void job(void) { int i = 0;
 --     for (i = 0; i < a; i++) { } }
 array_counts_as_int_text : ProgramText
-array_counts_as_int_text = global (at 1 10) UnsignedTy (codes "a") (Some 2) absent ∷ function (at 2 6) None VoidTy (codes "job") [] (local (at 2 22) IntTy (codes "i") (int 2 26 0) ∷ []) (statements ((counting_for (at 3 3) (one_name (codes "i")) (int 3 12 0) false (variable (at 3 19) (codes "a")) 1 (block (at 3 27) no_statements)) ∷ [])) None ∷ []
+array_counts_as_int_text = global (at 1 10) UnsignedTy (codes "a") (Some 2) absent ∷ function (at 2 6) None VoidTy (codes "job") []
+    (local (at 2 22) IntTy (codes "i") (int 2 26 0) ∷ [])
+    (statements ((counting_for (at 3 3) (one_name (codes "i")) (int 3 12 0) false (variable (at 3 19) (codes "a")) 1 (block (at 3 27) no_statements))
+    ∷ [])) None ∷ []
 
 array_counts_as_int : first_breach array_counts_as_int_text ≡ broken 3 19 (OfTypes Scalar)
 unfolding array_counts_as_int_text first_breach
@@ -748,7 +834,10 @@ array_counts_as_int = refl
 --   void job(void) { int i = 0;
 --     for (i = 0; i < 3; i++) { i[0] = 1; } }
 element_is_not_assigned_text : ProgramText
-element_is_not_assigned_text = function (at 1 6) None VoidTy (codes "job") [] (local (at 1 22) IntTy (codes "i") (int 1 26 0) ∷ []) (statements ((counting_for (at 2 3) (one_name (codes "i")) (int 2 12 0) false (int 2 19 3) 1 (block (at 2 27) (statements ((assign (at 2 29) (codes "i") (Some (int 2 31 0)) (int 2 36 1)) ∷ [])))) ∷ [])) None ∷ []
+element_is_not_assigned_text =
+    function (at 1 6) None VoidTy (codes "job") [] (local (at 1 22) IntTy (codes "i") (int 1 26 0) ∷ [])
+    (statements ((counting_for (at 2 3) (one_name (codes "i")) (int 2 12 0) false (int 2 19 3) 1
+    (block (at 2 27) (statements ((assign (at 2 29) (codes "i") (Some (int 2 31 0)) (int 2 36 1)) ∷ [])))) ∷ [])) None ∷ []
 
 element_is_not_assigned : first_breach element_is_not_assigned_text ≡ broken 2 29 (OfTypes Scalar)
 unfolding element_is_not_assigned_text first_breach
@@ -774,7 +863,10 @@ earlier_place_first = refl
 --     m(); }
 --   void job(void) { }
 rule_at_one_place_text : ProgramText
-rule_at_one_place_text = function (at 1 6) None VoidTy (codes "f") (parameter (at 1 12) IntTy (codes "x") None ∷ []) [] no_statements None ∷ function (at 2 21) (Some (record { stated = 9; regions = [] })) VoidTy (codes "m") [] [] no_statements None ∷ plain (at 3 6) (codes "h") (statements ((call (at 4 3) None (codes "f") []) ∷ (call (at 5 3) None (codes "m") ((int 5 5 1) ∷ [])) ∷ [])) ∷ plain (at 6 6) (codes "k") (statements ((call (at 7 3) None (codes "m") []) ∷ [])) ∷ plain (at 8 6) (codes "job") no_statements ∷ []
+rule_at_one_place_text = function (at 1 6) None VoidTy (codes "f") (parameter (at 1 12) IntTy (codes "x") None ∷ []) [] no_statements None ∷ function
+    (at 2 21) (Some (record { stated = 9; regions = [] })) VoidTy (codes "m") [] [] no_statements None ∷ plain (at 3 6) (codes "h")
+    (statements ((call (at 4 3) None (codes "f") []) ∷ (call (at 5 3) None (codes "m") ((int 5 5 1) ∷ [])) ∷ [])) ∷ plain (at 6 6) (codes "k")
+    (statements ((call (at 7 3) None (codes "m") []) ∷ [])) ∷ plain (at 8 6) (codes "job") no_statements ∷ []
 
 rule_at_one_place : first_breach rule_at_one_place_text ≡ broken 4 3 (OfTypes CountRule)
 unfolding rule_at_one_place_text first_breach
@@ -784,7 +876,8 @@ rule_at_one_place = refl
 --     f(); }
 --   void f(int x) { }
 types_before_order_text : ProgramText
-types_before_order_text = plain (at 1 6) (codes "job") (statements ((call (at 2 3) None (codes "f") []) ∷ [])) ∷ function (at 3 6) None VoidTy (codes "f") (parameter (at 3 12) IntTy (codes "x") None ∷ []) [] no_statements None ∷ []
+types_before_order_text = plain (at 1 6) (codes "job") (statements ((call (at 2 3) None (codes "f") []) ∷ [])) ∷ function (at 3 6) None VoidTy
+    (codes "f") (parameter (at 3 12) IntTy (codes "x") None ∷ []) [] no_statements None ∷ []
 
 types_before_order : first_breach types_before_order_text ≡ broken 2 3 (OfTypes CountRule)
 unfolding types_before_order_text first_breach

@@ -53,12 +53,14 @@ before_is a b = ap (λ k. less k (key_of b.at b.rank)) (key_is a.at a.rank) ∙ 
 passes : (a b c : Standing) → stands_before a b ≡ true → stands_before b c ≡ true → stands_before a c ≡ true
 passes a b c s t =
     before_is a c
-    ∙ rows_pass (kind_at a.at) (line_at a.at) (col_at a.at) a.rank (kind_at b.at) (line_at b.at) (col_at b.at) b.rank (kind_at c.at) (line_at c.at) (col_at c.at) c.rank (sym (before_is a b) ∙ s) (sym (before_is b c) ∙ t)
+    ∙ rows_pass (kind_at a.at) (line_at a.at) (col_at a.at) a.rank (kind_at b.at) (line_at b.at) (col_at b.at) b.rank (kind_at c.at) (line_at c.at)
+    (col_at c.at) c.rank (sym (before_is a b) ∙ s) (sym (before_is b c) ∙ t)
 
 stays : (a b c : Standing) → stands_before a b ≡ false → stands_before b c ≡ false → stands_before a c ≡ false
 stays a b c s t =
     before_is a c
-    ∙ rows_stay (kind_at a.at) (line_at a.at) (col_at a.at) a.rank (kind_at b.at) (line_at b.at) (col_at b.at) b.rank (kind_at c.at) (line_at c.at) (col_at c.at) c.rank (sym (before_is a b) ∙ s) (sym (before_is b c) ∙ t)
+    ∙ rows_stay (kind_at a.at) (line_at a.at) (col_at a.at) a.rank (kind_at b.at) (line_at b.at) (col_at b.at) b.rank (kind_at c.at) (line_at c.at)
+    (col_at c.at) c.rank (sym (before_is a b) ∙ s) (sym (before_is b c) ∙ t)
 
 choose : {B : Type 0} (a b c : Option B) (ba cb ca : Bool) → (cb ≡ true → ba ≡ true → ca ≡ true) → (cb ≡ false → ba ≡ false → ca ≡ false) →
     (if ba then (if cb then c else b) else (if ca then c else a)) ≡ (if cb then (if ca then c else a) else (if ba then b else a))

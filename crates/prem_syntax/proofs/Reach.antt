@@ -37,7 +37,8 @@ all_add (n ∷ ns) s c lt h =
 pub all_only : (ns : List ℕ) (s : List Bool) (k : ℕ) → is_in (with_all ns s) k ≡ true → (is_in s k ≡ true) ⊎ IsAmong k ns
 all_only [] s k e = inl e
 all_only (n ∷ ns) s k e =
-    ⊎_elim (λ (h : is_in (set s n true) k ≡ true). ⊎_elim (λ (a : is_in s k ≡ true). inl a) (λ (b : n ≡ k). inr (inl b)) (set_only s n k h)) (λ (i : IsAmong k ns). inr (inr i)) (all_only ns (set s n true) k e)
+    ⊎_elim (λ (h : is_in (set s n true) k ≡ true). ⊎_elim (λ (a : is_in s k ≡ true). inl a) (λ (b : n ≡ k). inr (inl b)) (set_only s n k h))
+    (λ (i : IsAmong k ns). inr (inr i)) (all_only ns (set s n true) k e)
 
 if_keep : (b : Bool) (ns : List ℕ) (s : List Bool) (k : ℕ) → is_in s k ≡ true → is_in (with_all_if b ns s) k ≡ true
 if_keep true ns s k e = all_keep ns s k e
@@ -67,7 +68,8 @@ below_only t zero s k before le e = e
 below_only t (suc n) s k before le e =
     step_only t n s k before (omega arith) (below_only t n (with_all_if (is_in s n) (slice_index_or t n []) s) k before (omega arith) e)
 
-below_closed : (t : List (List ℕ)) (n : ℕ) (s : List Bool) → CallsBefore t → n ≤ length s → (m c : ℕ) → m < n → is_in (with_callees_below t n s) m ≡ true → IsAmong c (slice_index_or t m []) → is_in (with_callees_below t n s) c ≡ true
+below_closed : (t : List (List ℕ)) (n : ℕ) (s : List Bool) → CallsBefore t → n ≤ length s → (m c : ℕ) → m < n →
+    is_in (with_callees_below t n s) m ≡ true → IsAmong c (slice_index_or t m []) → is_in (with_callees_below t n s) c ≡ true
 below_closed t zero s before le m c lt e i = absurd (omega arith)
 below_closed t (suc n) s before le m c lt e i =
     let next : List Bool = with_all_if (is_in s n) (slice_index_or t n []) s in
@@ -101,4 +103,6 @@ reach_is_closed t f lt before =
   where
     none_in : (count n : ℕ) → is_in (replicate count false) n ≡ true → ⊥
     none_in count n e =
-        ⊎_elim (λ (a : n < count). true≢false (sym e ∙ get_or-replicate count n false false a)) (λ (b : count ≤ n). true≢false (sym e ∙ get_or_past (replicate count false) n false (let l = length-replicate {A = Bool} count false in omega arith))) (cases_lt n count)
+        ⊎_elim (λ (a : n < count). true≢false (sym e ∙ get_or-replicate count n false false a))
+        (λ (b : count ≤ n). true≢false
+        (sym e ∙ get_or_past (replicate count false) n false (let l = length-replicate {A = Bool} count false in omega arith))) (cases_lt n count)

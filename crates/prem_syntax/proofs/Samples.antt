@@ -4,7 +4,8 @@ use Rattle.prem_word.specs.declared.kind.Kind.TheVariants.{Int, Unsigned}
 use Rattle.prem_syntax.specs.declared.tree.Place.{Place}
 use Rattle.prem_syntax.specs.declared.tree.Ty.{Ty}
 use Rattle.prem_syntax.specs.declared.tree.Ty.TheVariants.{Void}
-use Rattle.prem_syntax.specs.Syntax.{Text, Expression, literal, LoopNames, Statement, Statements, no_statements, next_statement, Parameter, LocalVariable, RegionText, MarkText, InitialValue, ItemText, global_item, function_item}
+use Rattle.prem_syntax.specs.Syntax.{Text, Expression, literal, LoopNames, Statement, Statements, no_statements, next_statement, Parameter, LocalVariable, RegionText, MarkText}
+use Rattle.prem_syntax.specs.Syntax.{InitialValue, ItemText, global_item, function_item}
 
 abbrev pub at : ℕ → ℕ → Place
 at line col = record { line = line; col = col }

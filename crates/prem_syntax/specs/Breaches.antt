@@ -1,5 +1,6 @@
 -- The breaches of a program's rules, in the order of the text.
-use Rattle.std.specs.Prelude.{ℕ, ◌+◌, ◌==◌, nat_lt, nat_le, ℤ, pos, neg_ℤ, int_lt, Bool, true, false, not, ◌&&◌, ◌||◌, List, [], ◌∷◌, ◌++◌, length, map, Option, None, Some, is_some, is_none, unwrap_or, codes}
+use Rattle.std.specs.Prelude.{ℕ, ◌+◌, ◌==◌, nat_lt, nat_le, ℤ, pos, neg_ℤ, int_lt, Bool, true, false, not, ◌&&◌, ◌||◌, List, [], ◌∷◌, ◌++◌, length, map, Option, None, Some}
+use Rattle.std.specs.Prelude.{is_some, is_none, unwrap_or, codes}
 use Rattle.std.specs.List.{list_any, flat_map}
 use Rattle.std.specs.Str.{bytes_eq}
 use Rattle.prem_word.specs.declared.kind.Kind.{Kind}
@@ -11,7 +12,9 @@ use Rattle.prem_syntax.specs.declared.rules.Count.TheVariants.{Functions, Global
 use Rattle.prem_syntax.specs.declared.rules.TypeRule.TheVariants.{Void, Narrow, Scalar, Initial, Count as CountRule, Target, Return, Marked, Region, Range, Job}
 use Rattle.prem_syntax.specs.declared.meaning.Meaning.{Meaning}
 use Rattle.prem_syntax.specs.declared.meaning.Meaning.TheVariants.{Nothing, Local as LocalName, Scalar as ScalarName, Array as ArrayName, Function as FunctionName}
-use Rattle.prem_syntax.specs.Syntax.{Text, Expression, literal, variable, element, unary, binary, LoopNames, Statement, block, if_then, if_else, bounded_while, counting_for, assign, output, input, call, Statements, no_statements, next_statement, Parameter, LocalVariable, RegionText, MarkText, InitialValue, absent, one, many, GlobalVariable, FunctionText, ItemText, global_item, function_item, ProgramText}
+use Rattle.prem_syntax.specs.Syntax.{Text, Expression, literal, variable, element, unary, binary, LoopNames, Statement, block, if_then, if_else, bounded_while, counting_for}
+use Rattle.prem_syntax.specs.Syntax.{assign, output, input, call, Statements, no_statements, next_statement, Parameter, LocalVariable, RegionText, MarkText, InitialValue, absent}
+use Rattle.prem_syntax.specs.Syntax.{one, many, GlobalVariable, FunctionText, ItemText, global_item, function_item, ProgramText}
 use Rattle.prem_syntax.specs.Resolve.{Scope, meaning_of, find_global, find_function, kind_of, resolve_term, declared, scope_at, scope_in, globals_of, functions_of}
 use Rattle.prem_syntax.specs.Reach.{is_in_set, reached_by}
 use Rattle.prem_syntax.specs.Rules.{Rule, Limit, NoJob, Unknown, Twice, OfTypes, CallOrder, MarkedCall, SystemCall, LoopForm, Breach}
@@ -267,7 +270,8 @@ regions_of (Some m) = m.regions
 -- what is said of a function at its name
 abbrev pub in_heading : List Text → FunctionText → List Breach
 in_heading earlier f =
-    if_at (has_name earlier f.name) f.at (Twice f.name) ++ if_at (is_narrow f.ty) f.at (OfTypes Narrow) ++ if_at ((is_void f.ty && is_some f.result) || (not (is_void f.ty) && is_none f.result)) f.at (OfTypes Return)
+    if_at (has_name earlier f.name) f.at (Twice f.name) ++ if_at (is_narrow f.ty) f.at (OfTypes Narrow)
+    ++ if_at ((is_void f.ty && is_some f.result) || (not (is_void f.ty) && is_none f.result)) f.at (OfTypes Return)
     ++ if_at (is_marked_text f && (not (is_void f.ty) || is_job_name f.name)) f.at (OfTypes Marked) ++ if_at (is_job_name f.name && not (is_void f.ty && length f.params == 0)) f.at (OfTypes Job)
 
 abbrev pub parameter_texts : List Parameter → List Text
@@ -322,7 +326,8 @@ is_length (Some n) = is_between 1 65536 n
 abbrev pub in_limits : List GlobalVariable → List FunctionText → List Breach
 in_limits gs fs =
     if_broken (nat_lt 256 (length fs)) None (Limit Functions) ++ if_broken (nat_lt 256 (length gs)) None (Limit Globals)
-    ++ if_broken (list_any (λ (f : FunctionText). nat_lt 8 (length f.params)) fs) None (Limit Parameters) ++ if_broken (list_any (λ (f : FunctionText). nat_lt 32 (length (regions_of f.mark))) fs) None (Limit Regions)
+    ++ if_broken (list_any (λ (f : FunctionText). nat_lt 8 (length f.params)) fs) None (Limit Parameters)
+    ++ if_broken (list_any (λ (f : FunctionText). nat_lt 32 (length (regions_of f.mark))) fs) None (Limit Regions)
     ++ if_broken (list_any (λ (g : GlobalVariable). not (is_length g.len)) gs) None (Limit Length) ++ if_broken (list_any (λ (f : FunctionText). not (is_stated f.mark)) fs) None (Limit Stated)
 
 abbrev pub breaches : ProgramText → List Breach

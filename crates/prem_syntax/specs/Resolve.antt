@@ -14,8 +14,11 @@ use Rattle.prem_syntax.specs.declared.tree.UnOp.{UnOp}
 use Rattle.prem_syntax.specs.declared.tree.UnOp.TheVariants.{Not}
 use Rattle.prem_syntax.specs.declared.meaning.Meaning.{Meaning}
 use Rattle.prem_syntax.specs.declared.meaning.Meaning.TheVariants.{Nothing, Local as LocalName, Scalar as ScalarName, Array as ArrayName, Function as FunctionName}
-use Rattle.prem_syntax.specs.Syntax.{Text, Expression, literal, variable, element, unary, binary, Statement, block, if_then, if_else, bounded_while, counting_for, assign, output, input, call, Statements, no_statements, next_statement, Parameter, LocalVariable, GlobalVariable, FunctionText, global_item, function_item, ProgramText}
-use Rattle.prem_syntax.specs.Resolved.{Term, Constant, Local, Scalar, Element, Unary, Binary, AndAlso, OrElse, operator, Steps, Done, SetLocal, SetScalar, SetElement, Output, Input, If, For, While, Call, Routine, Resolved}
+use Rattle.prem_syntax.specs.Syntax.{Text, Expression, literal, variable, element, unary, binary, Statement, block, if_then, if_else, bounded_while, counting_for, assign, output}
+use Rattle.prem_syntax.specs.Syntax.{input, call, Statements, no_statements, next_statement, Parameter, LocalVariable, GlobalVariable, FunctionText, global_item, function_item}
+use Rattle.prem_syntax.specs.Syntax.{ProgramText}
+use Rattle.prem_syntax.specs.Resolved.{Term, Constant, Local, Scalar, Element, Unary, Binary, AndAlso, OrElse, operator, Steps, Done, SetLocal, SetScalar, SetElement, Output}
+use Rattle.prem_syntax.specs.Resolved.{Input, If, For, While, Call, Routine, Resolved}
 
 -- what has a name at a place of a function
 pub record Scope : Type 0 where

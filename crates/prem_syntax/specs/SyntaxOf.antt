@@ -20,7 +20,9 @@ use Rattle.prem_syntax.specs.declared.tree.Item.{Item}
 use Rattle.prem_syntax.specs.declared.tree.Item.TheVariants.{Global as GlobalItem, Function as FunctionItem}
 use Rattle.prem_syntax.specs.declared.tree.Program.{Program}
 use Rattle.prem_syntax.specs.Name.{name_bytes}
-use Rattle.prem_syntax.specs.Syntax.{Expression, literal, variable, element, unary, binary, LoopNames, Statement, block, if_then, if_else, bounded_while, counting_for, assign, output, input, call, Statements, no_statements, next_statement, Parameter, LocalVariable, RegionText, MarkText, InitialValue, absent, one, many, GlobalVariable, FunctionText, ItemText, global_item, function_item, ProgramText}
+use Rattle.prem_syntax.specs.Syntax.{Expression, literal, variable, element, unary, binary, LoopNames, Statement, block, if_then, if_else, bounded_while, counting_for, assign}
+use Rattle.prem_syntax.specs.Syntax.{output, input, call, Statements, no_statements, next_statement, Parameter, LocalVariable, RegionText, MarkText, InitialValue, absent, one}
+use Rattle.prem_syntax.specs.Syntax.{many, GlobalVariable, FunctionText, ItemText, global_item, function_item, ProgramText}
 
 abbrev pub expression_of : Expr → Expression
 expression_of (Literal at value kind) = literal at value kind

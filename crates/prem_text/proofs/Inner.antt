@@ -2,10 +2,21 @@
 use Rattle.std.proofs.Common.{◌≡◌, Bool, true, false, List, [], ◌∷◌, ◌++◌, Option, None, Some, refl, not}
 use Rattle.std.proofs.lemmas.Bool.{and_parts, and_from}
 use Rattle.prem_text.specs.Lexing.Token.Lexeme.{Lexeme, name, number, word, mark, end_of_text, Seen}
-use Rattle.prem_text.specs.Grammar.Slots.{Slot, left_parenthesis, right_parenthesis, left_brace, right_brace, left_bracket, right_bracket, semicolon, comma, equal_sign, a_name, a_literal, the_else, the_range, the_predictable, the_region, the_void, the_return, the_end, fits, is_end}
+use Rattle.prem_text.specs.Grammar.Slots.{Slot, left_parenthesis, right_parenthesis, left_brace, right_brace, left_bracket, right_bracket, semicolon, comma, equal_sign, a_name}
+use Rattle.prem_text.specs.Grammar.Slots.{a_literal, the_else, the_range, the_predictable, the_region, the_void, the_return, the_end, fits, is_end}
 use Rattle.prem_text.specs.Grammar.Phrases.{Phrase, of_literal, of_name, of_element, of_bracket, of_prefix, of_infix, spelled, IsRow}
-use Rattle.prem_text.specs.Grammar.StatementPhrases.{StepForm, by_one_step, step_slots, Target, to_name, to_element, Direction, up, Parted, Arguments, no_arguments, arguments, StatementPhrase, StatementPhrases, of_block, of_if, of_else, of_for, of_while, of_output, of_call, of_input, of_call_to, of_assign, of_change, of_count, no_phrases, next_phrase, AreParted, AreArguments, IsStatement, AreStatements, parted_tokens, argument_tokens, target_tokens, written, all_written, change_sign, count_sign, if_head, for_head, for_bound, while_head, out_head, statement_tail, call_head, call_to_head, input_row}
-use Rattle.prem_text.specs.Grammar.ProgramPhrases.{TypeForm, void_type, type_slots, Declaration, IsDeclaration, declaration_tokens, ConstantPhrase, constant_slots, IsConstant, PartedConstant, InitialPhrase, no_initial, one_initial, many_initial, ArePartedConstants, IsInitial, constants_tokens, initial_tokens, IsLength, length_tokens, GlobalPhrase, IsGlobal, global_tokens, MarkPhrase, AreRegions, region_tokens, IsMark, mark_tokens, RangePhrase, IsRange, range_tokens, ParameterPhrase, IsParameter, parameter_tokens, PartedParameter, ParametersPhrase, of_void, of_parameters, ArePartedParameters, AreParameters, parted_parameter_tokens, parameters_tokens, LocalPhrase, AreLocals, local_tokens, ResultPhrase, IsResult, result_tokens, FunctionPhrase, IsFunction, function_tokens, ItemPhrase, of_global, of_function, IsItem, item_tokens, AreItems, items_tokens}
+use Rattle.prem_text.specs.Grammar.StatementPhrases.{StepForm, by_one_step, step_slots, Target, to_name, to_element, Direction, up, Parted, Arguments, no_arguments, arguments}
+use Rattle.prem_text.specs.Grammar.StatementPhrases.{StatementPhrase, StatementPhrases, of_block, of_if, of_else, of_for, of_while, of_output, of_call, of_input, of_call_to}
+use Rattle.prem_text.specs.Grammar.StatementPhrases.{of_assign, of_change, of_count, no_phrases, next_phrase, AreParted, AreArguments, IsStatement, AreStatements, parted_tokens}
+use Rattle.prem_text.specs.Grammar.StatementPhrases.{argument_tokens, target_tokens, written, all_written, change_sign, count_sign, if_head, for_head, for_bound, while_head}
+use Rattle.prem_text.specs.Grammar.StatementPhrases.{out_head, statement_tail, call_head, call_to_head, input_row}
+use Rattle.prem_text.specs.Grammar.ProgramPhrases.{TypeForm, void_type, type_slots, Declaration, IsDeclaration, declaration_tokens, ConstantPhrase, constant_slots, IsConstant}
+use Rattle.prem_text.specs.Grammar.ProgramPhrases.{PartedConstant, InitialPhrase, no_initial, one_initial, many_initial, ArePartedConstants, IsInitial, constants_tokens}
+use Rattle.prem_text.specs.Grammar.ProgramPhrases.{initial_tokens, IsLength, length_tokens, GlobalPhrase, IsGlobal, global_tokens, MarkPhrase, AreRegions, region_tokens, IsMark}
+use Rattle.prem_text.specs.Grammar.ProgramPhrases.{mark_tokens, RangePhrase, IsRange, range_tokens, ParameterPhrase, IsParameter, parameter_tokens, PartedParameter}
+use Rattle.prem_text.specs.Grammar.ProgramPhrases.{ParametersPhrase, of_void, of_parameters, ArePartedParameters, AreParameters, parted_parameter_tokens, parameters_tokens}
+use Rattle.prem_text.specs.Grammar.ProgramPhrases.{LocalPhrase, AreLocals, local_tokens, ResultPhrase, IsResult, result_tokens, FunctionPhrase, IsFunction, function_tokens}
+use Rattle.prem_text.specs.Grammar.ProgramPhrases.{ItemPhrase, of_global, of_function, IsItem, item_tokens, AreItems, items_tokens}
 use Rattle.prem_text.specs.Spelling.Spellings.{every}
 use Rattle.prem_text.proofs.SpellingLemmas.Bytes.{every_append}
 
@@ -90,17 +101,24 @@ count_inner _ = refl
 mutual
   statement : (s : StatementPhrase) → IsStatement s → Inner (written s)
   statement (of_block head inner tail) right = both _ _ (both _ _ (row (left_brace ∷ []) head refl right.0) (statements inner right.1)) (row (right_brace ∷ []) tail refl right.2)
-  statement (of_if head condition close taken) right = both _ _ (both _ _ (both _ _ (row if_head head refl right.0) (phrase condition)) (row (right_parenthesis ∷ []) close refl right.2)) (statement taken right.3)
+  statement (of_if head condition close taken) right =
+      both _ _ (both _ _ (both _ _ (row if_head head refl right.0) (phrase condition)) (row (right_parenthesis ∷ []) close refl right.2))
+      (statement taken right.3)
   statement (of_else head condition close taken middle other) right =
-      both _ _ (both _ _ (both _ _ (both _ _ (both _ _ (row if_head head refl right.0) (phrase condition)) (row (right_parenthesis ∷ []) close refl right.2)) (statement taken right.3)) (row (the_else ∷ []) middle refl right.5)) (statement other right.6)
+      both _ _ (both _ _ (both _ _ (both _ _ (both _ _ (row if_head head refl right.0) (phrase condition))
+      (row (right_parenthesis ∷ []) close refl right.2)) (statement taken right.3)) (row (the_else ∷ []) middle refl right.5)) (statement other right.6)
   statement (of_for head low bound high form step body) right =
-      both _ _ (both _ _ (both _ _ (both _ _ (both _ _ (row for_head head refl right.0) (phrase low)) (row for_bound bound refl right.2)) (phrase high)) (row (step_slots form) step (steps_inner form) right.4)) (statement body right.5)
-  statement (of_while head condition close body) right = both _ _ (both _ _ (both _ _ (row while_head head refl right.0) (phrase condition)) (row (right_parenthesis ∷ []) close refl right.2)) (statement body right.3)
+      both _ _ (both _ _ (both _ _ (both _ _ (both _ _ (row for_head head refl right.0) (phrase low)) (row for_bound bound refl right.2))
+      (phrase high)) (row (step_slots form) step (steps_inner form) right.4)) (statement body right.5)
+  statement (of_while head condition close body) right =
+      both _ _ (both _ _ (both _ _ (row while_head head refl right.0) (phrase condition)) (row (right_parenthesis ∷ []) close refl right.2))
+      (statement body right.3)
   statement (of_output head value tail) right = both _ _ (both _ _ (row out_head head refl right.0) (phrase value)) (row statement_tail tail refl right.2)
   statement (of_call head given tail) right = both _ _ (both _ _ (row call_head head refl right.0) (given_inner given right.1)) (row statement_tail tail refl right.2)
   statement (of_input r) right = row input_row r refl right
   statement (of_call_to head given tail) right = both _ _ (both _ _ (row call_to_head head refl right.0) (given_inner given right.1)) (row statement_tail tail refl right.2)
-  statement (of_assign target sign value tail) right = both _ _ (both _ _ (both _ _ (target_inner target) (row (equal_sign ∷ []) sign refl right.1)) (phrase value)) (row (semicolon ∷ []) tail refl right.3)
+  statement (of_assign target sign value tail) right =
+      both _ _ (both _ _ (both _ _ (target_inner target) (row (equal_sign ∷ []) sign refl right.1)) (phrase value)) (row (semicolon ∷ []) tail refl right.3)
   statement (of_change target direction sign value tail) right =
       both _ _ (both _ _ (both _ _ (target_inner target) (row (change_sign direction ∷ []) sign (change_inner direction) right.1)) (phrase value)) (row (semicolon ∷ []) tail refl right.3)
   statement (of_count target direction r) right = both _ _ (target_inner target) (row (semicolon_behind (count_sign direction)) r (count_inner direction) right.1)
@@ -153,7 +171,8 @@ marked (Some m) right = both _ _ (row (the_predictable ∷ left_parenthesis ∷ 
 ranged : (r : Option RangePhrase) → IsRange r → Inner (range_tokens r)
 ranged None right = nothing
 ranged (Some r) right =
-    both _ _ (both _ _ (both _ _ (both _ _ (row (the_range ∷ left_parenthesis ∷ []) r.head refl right.0) (constant r.low right.1)) (row (comma ∷ []) r.middle refl right.2)) (constant r.high right.3)) (row (right_parenthesis ∷ []) r.close refl right.4)
+    both _ _ (both _ _ (both _ _ (both _ _ (row (the_range ∷ left_parenthesis ∷ []) r.head refl right.0) (constant r.low right.1))
+    (row (comma ∷ []) r.middle refl right.2)) (constant r.high right.3)) (row (right_parenthesis ∷ []) r.close refl right.4)
 
 parameter : (p : ParameterPhrase) → IsParameter p → Inner (parameter_tokens p)
 parameter p right = both _ _ (declaration p.declaration right.0) (ranged p.range right.1)
@@ -169,7 +188,8 @@ parameters (of_parameters before last) right = both _ _ (parted_parameters befor
 locals : (ls : List LocalPhrase) → AreLocals ls → Inner (local_tokens ls)
 locals [] right = nothing
 locals (l ∷ rest) right =
-    both _ _ (both _ _ (both _ _ (both _ _ (declaration l.declaration right.0) (row (equal_sign ∷ []) l.sign refl right.1)) (phrase l.value)) (row (semicolon ∷ []) l.tail refl right.3)) (locals rest right.4)
+    both _ _ (both _ _ (both _ _ (both _ _ (declaration l.declaration right.0) (row (equal_sign ∷ []) l.sign refl right.1)) (phrase l.value))
+    (row (semicolon ∷ []) l.tail refl right.3)) (locals rest right.4)
 
 result : (r : Option ResultPhrase) → IsResult r → Inner (result_tokens r)
 result None right = nothing
@@ -177,7 +197,9 @@ result (Some r) right = both _ _ (both _ _ (row (the_return ∷ []) r.head refl 
 
 function : (f : FunctionPhrase) → IsFunction f → Inner (function_tokens f)
 function f right =
-    both _ _ (both _ _ (both _ _ (both _ _ (both _ _ (both _ _ (both _ _ (both _ _ (marked f.mark right.0) (declaration f.declaration right.1)) (row (left_parenthesis ∷ []) f.opening refl right.2)) (parameters f.params right.3))
+    both _ _ (both _ _ (both _ _ (both _ _
+    (both _ _ (both _ _ (both _ _ (both _ _ (marked f.mark right.0) (declaration f.declaration right.1))
+    (row (left_parenthesis ∷ []) f.opening refl right.2)) (parameters f.params right.3))
     (row (right_parenthesis ∷ left_brace ∷ []) f.begins refl right.4)) (locals f.locals right.5)) (statements f.body right.6)) (result f.result right.7)) (row (right_brace ∷ []) f.tail refl right.8)
 
 item : (i : ItemPhrase) → IsItem i → Inner (item_tokens i)

@@ -123,7 +123,8 @@ not_short text all col a s =
 
 all_lines : (text : List ℕ) (all : List Seen) → AreTokens text all → every has_line all ≡ true
 all_lines text all a =
-    ap (every has_line) a.is_all ∙ every_append has_line a.tokens ((end_of_text, place_behind text) ∷ []) (lines [] text a.tokens [] a.divides) (and_from (has_line (end_of_text, place_behind text)) true (behind_line text) refl)
+    ap (every has_line) a.is_all ∙ every_append has_line a.tokens ((end_of_text, place_behind text) ∷ []) (lines [] text a.tokens [] a.divides)
+    (and_from (has_line (end_of_text, place_behind text)) true (behind_line text) refl)
 
 -- ---- whole texts
 

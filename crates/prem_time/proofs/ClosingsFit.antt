@@ -49,7 +49,8 @@ closing_fits : (x : Load) (b : Busy) (closed cost : ℕ) → IsLoad x → IsShor
 closing_fits x (Within n) closed cost is short fits small few = record { period = is.period; length = omega (arith, short, fits); closed = omega (arith, small, few) }
 closing_fits x Past closed cost is short fits small few = record { period = is.period; length = omega (arith, short); closed = omega (arith, small, few) }
 
-all_closings : (loads : List Load) (found : List Busy) (times : List TimesText) (i cost : ℕ) → AllByRecursion IsLoad loads → AllByRecursion IsShort loads → AllFit loads found → AllByRecursion (IsClosedAt i) times → cost ≤ 100000 →
+all_closings : (loads : List Load) (found : List Busy) (times : List TimesText) (i cost : ℕ) → AllByRecursion IsLoad loads →
+    AllByRecursion IsShort loads → AllFit loads found → AllByRecursion (IsClosedAt i) times → cost ≤ 100000 →
     AllByRecursion IsClosing (closings_of loads found (closed_told times i) cost)
 all_closings [] found times i cost is short fits closed few = tt
 all_closings (x ∷ xs) [] times i cost is short fits closed few = tt
@@ -73,16 +74,20 @@ next_of (x ∷ xs) (suc k) z lt = let same : suc (k + 1) ≡ suc k + 1 = omega a
 abbrev pub closings_from : List Load → List Busy → List TaskTimes → (i cost k : ℕ) → List Closing
 closings_from loads found times i cost k = closings_of (drop k loads) (drop k found) (closed_told (map times_in (drop k times)) i) cost
 
-pub closings_step : (loads : List Load) (found : List Busy) (times : List TaskTimes) (i cost k : ℕ) (x : Load) (b : Busy) (t : TaskTimes) → k < length loads → length found ≡ length loads → length times ≡ length loads →
+pub closings_step : (loads : List Load) (found : List Busy) (times : List TaskTimes) (i cost k : ℕ) (x : Load) (b : Busy) (t : TaskTimes) →
+    k < length loads → length found ≡ length loads → length times ≡ length loads →
     t ≡ slice_index_or times k t →
-    closings_from loads found times i cost k ≡ closing_of (slice_index_or loads k x) (slice_index_or found k b) (slice_index_or (items_of t.closed) i 0) cost ∷ closings_from loads found times i cost (k + 1)
+    closings_from loads found times i cost k
+    ≡ closing_of (slice_index_or loads k x) (slice_index_or found k b) (slice_index_or (items_of t.closed) i 0)
+    cost ∷ closings_from loads found times i cost (k + 1)
 closings_step loads found times i cost k x b t lt ef et e =
     ap (λ (xs : List Load). closings_of xs (drop k found) (closed_told (map times_in (drop k times)) i) cost) (next_of loads k x lt)
     ∙ ap (λ (bs : List Busy). closings_of (slice_index_or loads k x ∷ drop (k + 1) loads) bs (closed_told (map times_in (drop k times)) i) cost) (next_of found k b (omega (arith, lt, ef)))
     ∙ ap (λ (ts : List TaskTimes). closings_of (slice_index_or loads k x ∷ drop (k + 1) loads) (slice_index_or found k b ∷ drop (k + 1) found) (closed_told (map times_in ts) i) cost)
     (next_of times k t (omega (arith, lt, et)) ∙ ap (λ (y : TaskTimes). y ∷ drop (k + 1) times) (sym e))
 
-pub closed_behind : (times : List TaskTimes) (i k : ℕ) (t : TaskTimes) → k < length times → AllByRecursion (IsClosedAt i) (map times_in (drop k times)) → AllByRecursion (IsClosedAt i) (map times_in (drop (k + 1) times))
+pub closed_behind : (times : List TaskTimes) (i k : ℕ) (t : TaskTimes) → k < length times →
+    AllByRecursion (IsClosedAt i) (map times_in (drop k times)) → AllByRecursion (IsClosedAt i) (map times_in (drop (k + 1) times))
 closed_behind times i k t lt h = (subst (λ (ts : List TaskTimes). AllByRecursion (IsClosedAt i) (map times_in ts)) (next_of times k t lt) h).1
 
 -- ---- as it is found in memory
@@ -97,7 +102,8 @@ module _ (loads : List Load) (found : List Busy) (times : List TimesText) (h : H
   pub closings_fit : (tasks : List Closing) (i cost : ℕ) → tasks ≡ closings_of loads found (closed_told times i) cost → AllByRecursion (IsClosedAt i) times → cost ≤ 100000 → All IsClosing tasks
   closings_fit tasks i cost e closed few =
       subst (λ (ts : List Closing). All IsClosing ts) (sym e)
-      (All-from_recursion IsClosing (closings_of loads found (closed_told times i) cost) (all_closings loads found times i cost (recursion_from_All IsLoad loads h.checked) h.short fits_all closed few))
+      (All-from_recursion IsClosing (closings_of loads found (closed_told times i) cost)
+      (all_closings loads found times i cost (recursion_from_All IsLoad loads h.checked) h.short fits_all closed few))
 
   pub closings_count : (tasks : List Closing) (i cost : ℕ) → tasks ≡ closings_of loads found (closed_told times i) cost → length tasks ≤ 16
   closings_count tasks i cost e =
@@ -112,5 +118,6 @@ pub wait_as_told : (askings : List Asking) (loads : List Load) (found : List Bus
     tasks ≡ closings_of loads found closed (top askings d) → IsFound askings tasks d most_cycles wait → wait ≡ wait_by askings loads found closed d
 wait_as_told askings loads found closed d tasks wait all e is =
     let meant : List Closing = closings_of loads found closed (top askings d) in
-    found_once askings meant d most_cycles wait (wait_of askings meant d most_cycles) (subst (λ (ts : List Closing). IsFound askings ts d most_cycles wait) e is) (wait_found askings meant d most_cycles)
+    found_once askings meant d most_cycles wait (wait_of askings meant d most_cycles)
+    (subst (λ (ts : List Closing). IsFound askings ts d most_cycles wait) e is) (wait_found askings meant d most_cycles)
     ∙ ap (λ b. cond b (wait_of askings meant d most_cycles) None) (sym all)

@@ -46,7 +46,8 @@ all_ask ds (x ∷ xs) are is = (is_asking (every_of ds x.name) x is.0 (λ every 
 
 -- ---- those that are named
 
-all_named : (ds : List Distance) (d total : ℕ) (devices : List Device) → AreDistances ds → d + length devices ≤ total → AllByRecursion (λ (n : Named). (n.number < total) × ((1 ≤ n.every) × (n.every ≤ 2 ^ 40))) (named_from ds d devices)
+all_named : (ds : List Distance) (d total : ℕ) (devices : List Device) → AreDistances ds → d + length devices ≤ total →
+    AllByRecursion (λ (n : Named). (n.number < total) × ((1 ≤ n.every) × (n.every ≤ 2 ^ 40))) (named_from ds d devices)
 all_named ds d total [] are le = tt
 all_named ds d total (x ∷ xs) are le = by (every_of ds x.name) refl (all_named ds (d + 1) total xs are (omega (arith, le))) where
   by : (o : Option ℕ) → every_of ds x.name ≡ o → AllByRecursion (λ (n : Named). (n.number < total) × ((1 ≤ n.every) × (n.every ≤ 2 ^ 40))) (named_from ds (d + 1) xs) →
@@ -54,7 +55,8 @@ all_named ds d total (x ∷ xs) are le = by (every_of ds x.name) refl (all_named
   by None e more = more
   by (Some every) e more = ((omega (arith, le), every_is ds x.name every are e), more)
 
-are_there : (askings : List Asking) (total : ℕ) (ns : List Named) → length askings ≡ total → AllByRecursion (λ (n : Named). (n.number < total) × ((1 ≤ n.every) × (n.every ≤ 2 ^ 40))) ns → AllByRecursion (IsNamed askings) ns
+are_there : (askings : List Asking) (total : ℕ) (ns : List Named) → length askings ≡ total →
+    AllByRecursion (λ (n : Named). (n.number < total) × ((1 ≤ n.every) × (n.every ≤ 2 ^ 40))) ns → AllByRecursion (IsNamed askings) ns
 are_there askings total [] e h = tt
 are_there askings total (n ∷ ns) e h = (record { there = (let x : n.number < total = h.0.0 in omega (arith, e, x)); some = h.0.1.0; most = h.0.1.1 }, are_there askings total ns e h.1)
 
@@ -62,9 +64,11 @@ pub are_named : (ds : List Distance) (devices : List Device) (b : Bus) → AreDi
 are_named ds devices b are lawful is =
     let long : length b.askings.items ≡ length devices = ap length is.askings ∙ askings_long ds devices in
     record {
-      askings = subst (λ (xs : List Asking). All IsAsking xs) (sym is.askings) (All-from_recursion IsAsking (askings_in ds devices) (all_ask ds devices are (recursion_from_All IsDevice devices lawful.each)));
+      askings = subst (λ (xs : List Asking). All IsAsking xs) (sym is.askings)
+          (All-from_recursion IsAsking (askings_in ds devices) (all_ask ds devices are (recursion_from_All IsDevice devices lawful.each)));
       few = (let few : length devices ≤ 8 = lawful.count in omega (arith, long, few));
-      named = subst (λ (ns : List Named). AllByRecursion (IsNamed b.askings.items) ns) (sym is.named) (are_there b.askings.items (length devices) (named_in ds devices) long (all_named ds 0 (length devices) devices are (omega arith)));
+      named = subst (λ (ns : List Named). AllByRecursion (IsNamed b.askings.items) ns) (sym is.named)
+          (are_there b.askings.items (length devices) (named_in ds devices) long (all_named ds 0 (length devices) devices are (omega arith)));
     }
 
 -- ---- what jobs keep closed to them
@@ -85,12 +89,17 @@ column p askings named (t ∷ ts) i n e =
 abbrev columns_are : Plant → List Asking → List TimesText → List Placed → ℕ → List Named → Type 0
 columns_are p askings times placed i ns = (j : ℕ) (n : Named) → slice_get ns j ≡ Some n → closed_told times (i + j) ≡ closed_to p (top askings n.number) placed
 
-told_from : (p : Plant) (devices : List Device) (askings : List Asking) (loads : List Load) (found : List Busy) (times : List TimesText) (placed : List Placed) (i : ℕ) (ns : List Named) → columns_are p askings times placed i ns →
-    devices_told devices ns (waits_told askings loads found times i ns) ≡ map (λ (n : Named). device_told devices n (wait_by askings loads found (closed_to p (top askings n.number) placed) n.number)) ns
+told_from : (p : Plant) (devices : List Device) (askings : List Asking) (loads : List Load) (found : List Busy) (times : List TimesText)
+    (placed : List Placed) (i : ℕ) (ns : List Named) → columns_are p askings times placed i ns →
+    devices_told devices ns (waits_told askings loads found times i ns)
+    ≡ map (λ (n : Named). device_told devices n (wait_by askings loads found (closed_to p (top askings n.number) placed) n.number)) ns
 told_from p devices askings loads found times placed i [] h = refl
 told_from p devices askings loads found times placed i (n ∷ ns) h =
-    let here : closed_told times i ≡ closed_to p (top askings n.number) placed = subst (λ k. closed_told times k ≡ closed_to p (top askings n.number) placed) (let e : i + 0 ≡ i = omega arith in e) (h 0 n refl) in
-    let more = told_from p devices askings loads found times placed (i + 1) ns (λ j m e. subst (λ k. closed_told times k ≡ closed_to p (top askings m.number) placed) (let s : i + suc j ≡ i + 1 + j = omega arith in s) (h (suc j) m e)) in
+    let here : closed_told times i ≡ closed_to p (top askings n.number) placed =
+    subst (λ k. closed_told times k ≡ closed_to p (top askings n.number) placed) (let e : i + 0 ≡ i = omega arith in e) (h 0 n refl) in
+    let more = told_from p devices askings loads found times placed (i + 1) ns
+    (λ j m e. subst (λ k. closed_told times k ≡ closed_to p (top askings m.number) placed) (let s : i + suc j ≡ i + 1 + j = omega arith in s)
+    (h (suc j) m e)) in
     ap (λ closed. device_told devices n (wait_by askings loads found closed n.number) ∷ devices_told devices ns (waits_told askings loads found times (i + 1) ns)) here
     ∙ ap (λ xs. device_told devices n (wait_by askings loads found (closed_to p (top askings n.number) placed) n.number) ∷ xs) more
 
@@ -99,11 +108,13 @@ pub devices_are : (p : Plant) (devices : List Device) (askings : List Asking) (n
     ≡ map (λ (n : Named). device_told devices n (wait_by askings loads found (closed_to p (top askings n.number) placed) n.number)) named
 devices_are p devices askings named loads found placed =
     told_from p devices askings loads found (map (times_of p (tops_of askings named)) placed) placed 0 named
-    (λ j n e. subst (λ k. closed_told (map (times_of p (tops_of askings named)) placed) k ≡ closed_to p (top askings n.number) placed) (let s : j ≡ 0 + j = omega arith in s) (column p askings named placed j n e))
+    (λ j n e. subst (λ k. closed_told (map (times_of p (tops_of askings named)) placed) k ≡ closed_to p (top askings n.number) placed)
+    (let s : j ≡ 0 + j = omega arith in s) (column p askings named placed j n e))
 
 -- ---- numbers for each of them
 
-pub has_closed : (p : Plant) (tops : List ℕ) (n : ℕ) (placed : List Placed) → length tops ≡ n → AllByRecursion AreSmall (map (times_of p tops) placed) → AllByRecursion (HasClosed n) (map (times_of p tops) placed)
+pub has_closed : (p : Plant) (tops : List ℕ) (n : ℕ) (placed : List Placed) → length tops ≡ n →
+    AllByRecursion AreSmall (map (times_of p tops) placed) → AllByRecursion (HasClosed n) (map (times_of p tops) placed)
 has_closed p tops n [] e small = tt
 has_closed p tops n (t ∷ ts) e small = (record { count = length-map tops (closed_by p t) ∙ e; small = small.0.closed }, has_closed p tops n ts e small.1)
 
@@ -127,7 +138,8 @@ short_wait askings loads found closed d = by (all_within found) where
       (wait_found askings (closings_of loads found closed (top askings d)) d most_cycles)
   by false = tt
 
-pub are_told : (devices : List Device) (askings : List Asking) (loads : List Load) (found : List Busy) (times : List TimesText) (i : ℕ) (ns : List Named) → length askings ≡ length devices → AllByRecursion (IsNamed askings) ns →
+pub are_told : (devices : List Device) (askings : List Asking) (loads : List Load) (found : List Busy) (times : List TimesText) (i : ℕ)
+    (ns : List Named) → length askings ≡ length devices → AllByRecursion (IsNamed askings) ns →
     AreTold devices ns (waits_told askings loads found times i ns)
 are_told devices askings loads found times i [] e h = tt
 are_told devices askings loads found times i (n ∷ ns) e h = (

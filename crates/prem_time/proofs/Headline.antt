@@ -1,6 +1,7 @@
 -- Every answer keeps what it promises.
 use Rattle.std.specs.Prelude.{◌&&◌}
-use Rattle.std.proofs.Common.{◌≡◌, ◌⊎◌, ℕ, zero, suc, ◌<◌, ◌≤◌, Bool, true, false, List, [], ◌∷◌, ◌++◌, length, map, Option, None, Some, slice_get, Result, Ok, Err, inl, inr, refl, ap, ◌∙◌, sym, subst, arith}
+use Rattle.std.proofs.Common.{◌≡◌, ◌⊎◌, ℕ, zero, suc, ◌<◌, ◌≤◌, Bool, true, false, List, [], ◌∷◌, ◌++◌, length, map, Option, None, Some, slice_get, Result, Ok, Err, inl, inr, refl}
+use Rattle.std.proofs.Common.{ap, ◌∙◌, sym, subst, arith}
 use Rattle.std.proofs.lemmas.Bool.{leb-true}
 use Rattle.std.proofs.lemmas.List.{length-map}
 use Rattle.prem_line.specs.Spelled.{ended}
@@ -100,7 +101,8 @@ record Judged (ds : List Distance) (set : TaskSet) (given : Reply) : Type 0 wher
   on_done : plain_status given.0 ≡ Done → IsToldSet ds set given
   on_refused : plain_status given.0 ≡ Refused → IsBrokenSet set given ⊎ IsUnknownSet ds set given
 
-known_by : (ds : List Distance) (set : TaskSet) (given : Reply) (unknown : Option (List ℕ)) → broken set ≡ None → unknown_in ds set.devices ≡ unknown → found_reply unknown (set_text ds set) ≡ given → Judged ds set given
+known_by : (ds : List Distance) (set : TaskSet) (given : Reply) (unknown : Option (List ℕ)) → broken set ≡ None →
+    unknown_in ds set.devices ≡ unknown → found_reply unknown (set_text ds set) ≡ given → Judged ds set given
 known_by ds set given None none is goes = record {
   on_done = λ done. record { unbroken = none; known = is; text_is = sym (ap (λ (x : Reply). x.1) goes) };
   on_refused = λ refused. let no : Done ≡ Refused = ap (λ (r : Reply). plain_status r.0) goes ∙ refused in absurd cc;
@@ -141,7 +143,9 @@ one_false false b e = inl refl
 
 held_one : (f : Named → DeviceTold) (ns : List Named) (i : ℕ) (n : Named) → all_held (map f ns) ≡ true → slice_get ns i ≡ Some n → is_held (f n).every (f n).queue (f n).wait ≡ true
 held_one f [] i n all e = absurd cc
-held_one f (m ∷ ms) zero n all e = let same : m ≡ n = cc in subst (λ (x : Named). is_held (f x).every (f x).queue (f x).wait ≡ true) same (both_true (is_held (f m).every (f m).queue (f m).wait) (all_held (map f ms)) all).0
+held_one f (m ∷ ms) zero n all e = let same : m ≡ n = cc in
+    subst (λ (x : Named). is_held (f x).every (f x).queue (f x).wait ≡ true) same
+    (both_true (is_held (f m).every (f m).queue (f m).wait) (all_held (map f ms)) all).0
 held_one f (m ∷ ms) (suc i) n all e = held_one f ms i n (both_true (is_held (f m).every (f m).queue (f m).wait) (all_held (map f ms)) all).1 e
 
 -- one that isn't held
@@ -154,7 +158,8 @@ record IsFull (f : Named → DeviceTold) (ns : List Named) : Type 0 where
 one_full : (f : Named → DeviceTold) (ns : List Named) → all_held (map f ns) ≡ false → IsFull f ns
 one_full f [] e = absurd cc
 one_full f (m ∷ ms) e = by (one_false (is_held (f m).every (f m).queue (f m).wait) (all_held (map f ms)) e) (λ h. one_full f ms h) where
-  by : (is_held (f m).every (f m).queue (f m).wait ≡ false) ⊎ ((is_held (f m).every (f m).queue (f m).wait ≡ true) × (all_held (map f ms) ≡ false)) → (all_held (map f ms) ≡ false → IsFull f ms) → IsFull f (m ∷ ms)
+  by : (is_held (f m).every (f m).queue (f m).wait ≡ false) ⊎ ((is_held (f m).every (f m).queue (f m).wait ≡ true) × (all_held (map f ms) ≡ false)) →
+      (all_held (map f ms) ≡ false → IsFull f ms) → IsFull f (m ∷ ms)
   by (inl late) rest = record { number = 0; device = m; there = refl; late = late }
   by (inr more) rest = let h = rest more.1 in record { number = suc h.number; device = h.device; there = h.there; late = h.late }
 
@@ -199,7 +204,8 @@ module _ (set : TaskSet) (ds : List Distance) (text : List ℕ) (values : HasVal
         named = at;
         wait_is = e;
         line = subst (λ o. HasLine (set_text ds set) (device_line (device_told set.devices n o))) e
-            (line_of_device (tolds_in set) (loads_in set) (found_in (loads_in set)) (devices_in set ds) (limit_in set) (all_fits ds set) i (device_in set ds n) (mapped_get (device_in set ds) (named_in ds set.devices) i n at));
+            (line_of_device (tolds_in set) (loads_in set) (found_in (loads_in set)) (devices_in set ds) (limit_in set) (all_fits ds set) i
+            (device_in set ds n) (mapped_get (device_in set ds) (named_in ds set.devices) i n at));
       })
 
   each_device : (i : ℕ) → i < length (named_in ds set.devices) → TellsDevice set ds text i
@@ -215,7 +221,8 @@ module _ (set : TaskSet) (ds : List Distance) (text : List ℕ) (values : HasVal
 
   -- where it says that all fits
   fits_all : SaysFits text → (all_within (found_in (loads_in set)) ≡ true) × (all_held (devices_in set ds) ≡ true)
-  fits_all says = both_true (all_within (found_in (loads_in set))) (all_held (devices_in set ds)) (says_true (front_text ds set) (all_fits ds set) (record { lines = says.lines; is = sym is ∙ says.is }))
+  fits_all says = both_true (all_within (found_in (loads_in set))) (all_held (devices_in set ds))
+      (says_true (front_text ds set) (all_fits ds set) (record { lines = says.lines; is = sym is ∙ says.is }))
 
   in_time : SaysFits text → (i : ℕ) → i < length (setup_in set).tasks → EndsAsTold set text i
   in_time says i lt =
@@ -229,16 +236,25 @@ module _ (set : TaskSet) (ds : List Distance) (text : List ℕ) (values : HasVal
       record { device = n.0; wait = h.wait; told = device_so i n.0 (Some h.wait) n.1 h.is; held = h.held; serves = sets_serve_named set ds values none are i n.0 n.1 h.wait h.is }
 
   late : SaysLate text → IsToldPast set text ⊎ IsToldLate set ds text
-  late says = by (one_false (all_within (found_in (loads_in set))) (all_held (devices_in set ds)) (says_false (front_text ds set) (all_fits ds set) (record { lines = says.lines; is = sym is ∙ says.is }))) where
-    by : (all_within (found_in (loads_in set)) ≡ false) ⊎ ((all_within (found_in (loads_in set)) ≡ true) × (all_held (devices_in set ds) ≡ false)) → IsToldPast set text ⊎ IsToldLate set ds text
-    by (inl past) = let x = late_sets_have_past set past in inl (record { task = x.task; there = x.there; told = told_so x.task Past x.there x.found; past = x.past })
-    by (inr full) =
-        let x = one_full (device_in set ds) (named_in ds set.devices) full.1 in
-        inr (record { number = x.number; device = x.device; wait = wait_in set ds x.device.number; told = device_so x.number x.device (wait_in set ds x.device.number) x.there refl; why = late_devices_have_cause set ds full.0 x.device x.late })
+  late says = by (one_false (all_within (found_in (loads_in set))) (all_held (devices_in set ds))
+      (says_false (front_text ds set) (all_fits ds set) (record { lines = says.lines; is = sym is ∙ says.is }))) where
+        by : (all_within (found_in (loads_in set)) ≡ false) ⊎ ((all_within (found_in (loads_in set)) ≡ true) × (all_held (devices_in set ds) ≡ false)) → IsToldPast set text ⊎ IsToldLate set ds text
+        by (inl past) = let x = late_sets_have_past set past in inl (record { task = x.task; there = x.there; told = told_so x.task Past x.there x.found; past = x.past })
+        by (inr full) =
+            let x = one_full (device_in set ds) (named_in ds set.devices) full.1 in
+            inr (record {
+              number = x.number;
+              device = x.device;
+              wait = wait_in set ds x.device.number;
+              told =
+                  device_so x.number x.device (wait_in set ds x.device.number) x.there refl;
+              why = late_devices_have_cause set ds full.0 x.device x.late;
+            })
 
 -- ---- the answers
 
-timely : (set : TaskSet) (reads : Reads) (asked : Asked) (text : List ℕ) → AreDistances asked.distances → IsRead reads asked.set set → broken set ≡ None → unknown_in asked.distances set.devices ≡ None → text ≡ set_text asked.distances set →
+timely : (set : TaskSet) (reads : Reads) (asked : Asked) (text : List ℕ) → AreDistances asked.distances → IsRead reads asked.set set →
+    broken set ≡ None → unknown_in asked.distances set.devices ≡ None → text ≡ set_text asked.distances set →
     IsTimely reads asked text
 timely set reads asked text are read none known is = record {
   set = set;
@@ -256,7 +272,8 @@ timely set reads asked text are read none known is = record {
   late = late set asked.distances text read.values none are is;
 }
 
-refused : (reads : Reads) (asked : Asked) (given : Reply) (r : SetRead reads asked given) → IsBrokenSet r.set given ⊎ IsUnknownSet asked.distances r.set given → IsFirstBroken reads asked given.1 ⊎ NamesNone reads asked given.1
+refused : (reads : Reads) (asked : Asked) (given : Reply) (r : SetRead reads asked given) →
+    IsBrokenSet r.set given ⊎ IsUnknownSet asked.distances r.set given → IsFirstBroken reads asked given.1 ⊎ NamesNone reads asked given.1
 refused reads asked given r (inl x) = inl (record { set = r.set; read = r.read; refusal = x.refusal; is_first = x.is_first; text_is = x.text_is })
 refused reads asked given r (inr x) = inr (record { set = r.set; read = r.read; unbroken = x.unbroken; name = x.name; unknown = x.unknown; text_is = x.text_is })
 

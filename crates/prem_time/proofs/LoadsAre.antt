@@ -34,7 +34,8 @@ use Rattle.prem_time.specs.declared.devices.Bus.{Bus}
 use Rattle.prem_time.specs.declared.devices.Named.{Named}
 use Rattle.prem_time.specs.Words.{Distance}
 use Rattle.prem_time.specs.Devices.{all_held, closed_to, device_in, device_told, devices_in, wait_by}
-use Rattle.prem_time.specs.Told.{AreNamed, AreTold, HasClosed, HasDevices, HasFound, HasJobs, HasLoads, IsBus, IsShort, devices_by, devices_told, limit_told, loads_by, loads_told, text_by, times_by, tolds_by, tolds_told, tops_of, waits_told, work_told}
+use Rattle.prem_time.specs.Told.{AreNamed, AreTold, HasClosed, HasDevices, HasFound, HasJobs, HasLoads, IsBus, IsShort, devices_by, devices_told, limit_told, loads_by, loads_told}
+use Rattle.prem_time.specs.Told.{text_by, times_by, tolds_by, tolds_told, tops_of, waits_told, work_told}
 use Rattle.prem_time.specs.Stages.{set_text}
 use Rattle.prem_time.proofs.DevicesAre.{are_told, askings_long, devices_are, has_closed}
 
@@ -64,7 +65,8 @@ pub lent_long : (t : Timed) (tasks : List TaskRecord) (times : List TaskTimes) (
 lent_long t tasks times loads h et en el = ap length el ∙ loads_long tasks (map times_in times) (length-map times times_in ∙ ap length en ∙ h.times ∙ sym (ap length et))
 
 -- what waits are found by
-pub lent_found : (t : Timed) (tasks : List TaskRecord) (times : List TaskTimes) (loads : List Load) (found : List Busy) → HasLoads t → tasks ≡ items_of t.compiled.image.tasks → times ≡ items_of t.tasks →
+pub lent_found : (t : Timed) (tasks : List TaskRecord) (times : List TaskTimes) (loads : List Load) (found : List Busy) → HasLoads t →
+    tasks ≡ items_of t.compiled.image.tasks → times ≡ items_of t.tasks →
     loads ≡ loads_told tasks (map times_in times) → found ≡ found_in loads → HasFound loads found (map times_in times)
 lent_found t tasks times loads found h et en el ef =
     let same : loads_by t ≡ loads = ap (λ ts. loads_told ts (times_by t)) (sym et) ∙ ap (λ (xs : List TaskTimes). loads_told tasks (map times_in xs)) (sym en) ∙ sym el in
@@ -74,19 +76,23 @@ lent_found t tasks times loads found h et en el ef =
     record {
       checked = subst (λ (xs : List Load). All IsLoad xs) same h.loads;
       short = subst (λ (xs : List Load). AllByRecursion IsShort xs) same h.short;
-      count = (let few : length (items_of t.compiled.image.tasks) ≤ 16 = h.count in let is : length tasks ≡ length (items_of t.compiled.image.tasks) = ap length et in omega (arith, few, is, few_loads));
+      count = (let few : length (items_of t.compiled.image.tasks) ≤ 16 = h.count in let is : length tasks ≡ length (items_of t.compiled.image.tasks) =
+          ap length et in omega (arith, few, is, few_loads));
       found_is = ef;
       long = mapped ∙ several ∙ sym few_loads;
     }
 
-pub lent_closed : (devices : List Device) (b : Bus) (t : Timed) (times : List TaskTimes) → HasDevices devices b t → times ≡ items_of t.tasks → AllByRecursion (HasClosed (length b.named.items)) (map times_in times)
+pub lent_closed : (devices : List Device) (b : Bus) (t : Timed) (times : List TaskTimes) → HasDevices devices b t → times ≡ items_of t.tasks →
+    AllByRecursion (HasClosed (length b.named.items)) (map times_in times)
 lent_closed devices b t times h en = subst (λ (xs : List TaskTimes). AllByRecursion (HasClosed (length b.named.items)) (map times_in xs)) (sym en) h.closed
 
-pub lent_told : (devices : List Device) (b : Bus) (t : Timed) (loads : List Load) (found : List Busy) (times : List TimesText) (named : List Named) (waits : List (Option ℕ)) → HasDevices devices b t → named ≡ b.named.items →
+pub lent_told : (devices : List Device) (b : Bus) (t : Timed) (loads : List Load) (found : List Busy) (times : List TimesText) (named : List Named)
+    (waits : List (Option ℕ)) → HasDevices devices b t → named ≡ b.named.items →
     waits ≡ waits_told b.askings.items loads found times 0 b.named.items → AreTold devices named waits
 lent_told devices b t loads found times named waits h en ew =
     subst (λ ws. AreTold devices named ws) (sym ew)
-    (subst (λ (ns : List Named). AreTold devices ns (waits_told b.askings.items loads found times 0 b.named.items)) (sym en) (are_told devices b.askings.items loads found times 0 b.named.items h.count h.named.named))
+    (subst (λ (ns : List Named). AreTold devices ns (waits_told b.askings.items loads found times 0 b.named.items)) (sym en)
+    (are_told devices b.askings.items loads found times 0 b.named.items h.count h.named.named))
 
 good_loads : (memory : ℕ) (tasks : List TaskRecord) (times : List TimesText) → AllByRecursion (IsTask memory) tasks → AllByRecursion AreSmall times → AllByRecursion IsLoad (loads_told tasks times)
 good_loads memory [] times h small = tt
@@ -161,12 +167,14 @@ module _ (set : TaskSet) (ds : List Distance) (b : Bus) (t : Timed) (bus : IsBus
       ap (λ loads. devices_told set.devices b.named.items (waits_told b.askings.items loads (found_in loads) (times_by t) 0 b.named.items)) loads_are
       ∙ ap (λ xs. devices_told set.devices b.named.items (waits_told b.askings.items (loads_in set) (found_in (loads_in set)) xs 0 b.named.items)) is.times
       ∙ devices_are set.plant set.devices b.askings.items b.named.items (loads_in set) (found_in (loads_in set)) placed
-      ∙ ap (λ askings. map (λ (n : Named). device_told set.devices n (wait_by askings (loads_in set) (found_in (loads_in set)) (closed_to set.plant (top askings n.number) placed) n.number)) b.named.items) bus.askings
+      ∙ ap (λ askings. map (λ (n : Named). device_told set.devices n
+      (wait_by askings (loads_in set) (found_in (loads_in set)) (closed_to set.plant (top askings n.number) placed) n.number)) b.named.items) bus.askings
       ∙ ap (λ named. map (device_in set ds) named) bus.named
 
   pub text_is : text_by set.devices b t ≡ set_text ds set
   text_is =
-      ap (λ ts. time_text ts (loads_by t) (found_in (loads_by t)) (devices_by set.devices b t) (limit_told (items_of t.compiled.image.tasks) (loads_by t)) (all_within (found_in (loads_by t)) && all_held (devices_by set.devices b t))) tolds_are
+      ap (λ ts. time_text ts (loads_by t) (found_in (loads_by t)) (devices_by set.devices b t)
+      (limit_told (items_of t.compiled.image.tasks) (loads_by t)) (all_within (found_in (loads_by t)) && all_held (devices_by set.devices b t))) tolds_are
       ∙ ap (λ n. time_text (tolds_in set) (loads_by t) (found_in (loads_by t)) (devices_by set.devices b t) n (all_within (found_in (loads_by t)) && all_held (devices_by set.devices b t))) limit_is
       ∙ ap (λ xs. time_text (tolds_in set) (loads_by t) (found_in (loads_by t)) xs (limit_in set) (all_within (found_in (loads_by t)) && all_held xs)) devices_same
       ∙ ap (λ ls. time_text (tolds_in set) ls (found_in ls) (devices_in set ds) (limit_in set) (all_within (found_in ls) && all_held (devices_in set ds))) loads_are
@@ -182,7 +190,8 @@ module _ (set : TaskSet) (ds : List Distance) (b : Bus) (t : Timed) (bus : IsBus
   pub has_loads : HasLoads t
   has_loads =
       let image : IsImage t.compiled.image.plant (items_of t.compiled.image.tasks) (items_of t.compiled.image.devices) (items_of t.compiled.image.content) = t.compiled.image.lawful in
-      let each : AllByRecursion (IsTask t.compiled.image.plant.memory) (items_of t.compiled.image.tasks) = recursion_from_All (IsTask t.compiled.image.plant.memory) (items_of t.compiled.image.tasks) image.each_task in
+      let each : AllByRecursion (IsTask t.compiled.image.plant.memory) (items_of t.compiled.image.tasks) =
+      recursion_from_All (IsTask t.compiled.image.plant.memory) (items_of t.compiled.image.tasks) image.each_task in
       let records : length (items_of t.compiled.image.tasks) ≡ length placed = ap length tasks_are ∙ length-map placed task_record in
       let facts : length (bounds set.plant placed) ≡ length placed = length-map (map (job_fact set.plant) placed) (λ (j : JobBound). j.bound) ∙ length-map placed (job_fact set.plant) in
       let mapped : length (times_by t) ≡ length (items_of t.tasks) = length-map (items_of t.tasks) times_in in

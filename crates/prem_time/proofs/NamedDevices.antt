@@ -45,7 +45,8 @@ behind_one ds x xs d n h = record {
 device_from : (ds : List Distance) (xs : List Device) (d i : ℕ) (n : Named) → slice_get (named_from ds d xs) i ≡ Some n → IsDeviceFrom ds xs d n
 device_from ds [] d i n e = absurd cc
 device_from ds (x ∷ xs) d i n e = by (every_of ds x.name) refl (λ j h. behind_one ds x xs d n (device_from ds xs (d + 1) j n h)) i e where
-  by : (o : Option ℕ) → every_of ds x.name ≡ o → ((j : ℕ) → slice_get (named_from ds (d + 1) xs) j ≡ Some n → IsDeviceFrom ds (x ∷ xs) d n) → (i : ℕ) → slice_get (named_before d o (named_from ds (d + 1) xs)) i ≡ Some n →
+  by : (o : Option ℕ) → every_of ds x.name ≡ o → ((j : ℕ) → slice_get (named_from ds (d + 1) xs) j ≡ Some n → IsDeviceFrom ds (x ∷ xs) d n) →
+      (i : ℕ) → slice_get (named_before d o (named_from ds (d + 1) xs)) i ≡ Some n →
       IsDeviceFrom ds (x ∷ xs) d n
   by None is more i h = more i h
   by (Some every) is more zero h =

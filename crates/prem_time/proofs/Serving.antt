@@ -39,7 +39,8 @@ use Rattle.prem_time.proofs.NamedDevices.{are_distances, device_is, device_of_na
 
 -- ---- what tasks keep from a device
 
-closings_long : (loads : List Load) (found : List Busy) (closed : List ℕ) (cost : ℕ) → length found ≡ length loads → length closed ≡ length loads → length (closings_of loads found closed cost) ≡ length loads
+closings_long : (loads : List Load) (found : List Busy) (closed : List ℕ) (cost : ℕ) → length found ≡ length loads → length closed ≡ length loads →
+    length (closings_of loads found closed cost) ≡ length loads
 closings_long [] found closed cost e f = refl
 closings_long (x ∷ xs) [] closed cost e f = absurd (omega (arith, e))
 closings_long (x ∷ xs) (b ∷ bs) [] cost e f = absurd (omega (arith, f))
@@ -119,7 +120,9 @@ sets_serve_named set ds values none are i n at wait is =
 
 pub late_devices_have_cause : LateDevicesHaveCause
 late_devices_have_cause set ds all n late =
-    by (wait_of (askings_in ds set.devices) (closings_in set ds n.number) n.number most_cycles) (wait_found (askings_in ds set.devices) (closings_in set ds n.number) n.number most_cycles) (ap (λ b. cond b (wait_of (askings_in ds set.devices) (closings_in set ds n.number) n.number most_cycles) None) all)
+    by (wait_of (askings_in ds set.devices) (closings_in set ds n.number) n.number most_cycles)
+    (wait_found (askings_in ds set.devices) (closings_in set ds n.number) n.number most_cycles)
+    (ap (λ b. cond b (wait_of (askings_in ds set.devices) (closings_in set ds n.number) n.number most_cycles) None) all)
   where
     by : (o : Option ℕ) → IsWaitFound (askings_in ds set.devices) (closings_in set ds n.number) n.number most_cycles o → wait_in set ds n.number ≡ o → WhyLate set ds n (wait_in set ds n.number)
     by None h e = subst (WhyLate set ds n) (sym e) (none_is_enough h)

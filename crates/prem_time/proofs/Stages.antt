@@ -35,7 +35,8 @@ pub told_is : (set : TaskSet) (ds : List Distance) (b : Bus) (t : Timed) (reply 
 told_is set ds b t reply bus is told = told ∙ ap (found_reply (unknown_in ds set.devices)) (text_is set ds b t bus is) ∙ ap (judged_reply ds set) (sym is.compiled.lawful)
 
 -- so it is with its devices as they are lent, and what they ask
-module _ (set : TaskSet) (ds : List Distance) (devices : List Device) (b : Bus) (tops : List ℕ) (t : Timed) (lent : devices ≡ set.devices) (bus : IsBus ds devices b) (are : tops ≡ tops_of b.askings.items b.named.items) (is : IsTimed set tops t) where
+module _ (set : TaskSet) (ds : List Distance) (devices : List Device) (b : Bus) (tops : List ℕ) (t : Timed) (lent : devices ≡ set.devices)
+    (bus : IsBus ds devices b) (are : tops ≡ tops_of b.askings.items b.named.items) (is : IsTimed set tops t) where
   own_bus : IsBus ds set.devices b
   own_bus = subst (λ (xs : List Device). IsBus ds xs b) lent bus
 
@@ -55,7 +56,8 @@ module _ (set : TaskSet) (ds : List Distance) (devices : List Device) (b : Bus) 
 pub refused_is : (ds : List Distance) (set : TaskSet) (refusal : Refusal Told) (reply : Reply) → broken set ≡ Some refusal → reply ≡ refused_reply set.tasks refusal → reply ≡ time_reply ds set
 refused_is ds set refusal reply is told = told ∙ ap (judged_reply ds set) (sym is)
 
-pub set_told : (told : Option Files) (asked : Asked) (set : TaskSet) (given : Result Reply Reply) → Passes told (reading_set asked.set) (Ok set) → given ≡ Ok (time_reply asked.distances set) → IsGiven told (time_stages asked) given
+pub set_told : (told : Option Files) (asked : Asked) (set : TaskSet) (given : Result Reply Reply) → Passes told (reading_set asked.set) (Ok set) →
+    given ≡ Ok (time_reply asked.distances set) → IsGiven told (time_stages asked) given
 set_told told asked set given passes is = passes (behind_set asked.distances) given (let (reads, (are, same)) = gives_at_once told given in (reads, (are, is)))
 
 pub no_set : (told : Option Files) (asked : Asked) (reply : Reply) → Passes told (reading_set asked.set) (Err reply) → IsGiven told (time_stages asked) (Err reply)

@@ -6,7 +6,8 @@ use Rattle.std.proofs.lemmas.Bool.{leb-true}
 use Rattle.prem_line.specs.Numbers.{number_of, up_to}
 use Rattle.prem_plant.specs.Label.{is_name}
 use Rattle.prem_answer.specs.Tool.{is_file}
-use Rattle.prem_time.specs.Words.{AreDistances, Asked, Distance, IsDistance, asked_of, back_of, distance_in, distances_behind, every_in, front_of, is_named, most_cycles, next, unless_zero, with_distance}
+use Rattle.prem_time.specs.Words.{AreDistances, Asked, Distance, IsDistance, asked_of, back_of, distance_in, distances_behind, every_in, front_of, is_named, most_cycles, next}
+use Rattle.prem_time.specs.Words.{unless_zero, with_distance}
 
 -- ---- a number of cycles
 

@@ -91,7 +91,8 @@ closings_in set ds d = closings_of (loads_in set) (found_in (loads_in set)) (clo
 
 -- for all input words, and all requests of devices that are as far apart as is said of them, where those that aren't named make none
 abbrev pub ForAllRequests : TaskSet → List Distance → (serves : List (List ℕ) → List Request → Type 0) → Type 0
-ForAllRequests set ds serves = (inputs : List (List ℕ)) (requests : List Request) → AreInputs (setup_in set) inputs → KeepDistances (setup_in set) (distances_of ds set.devices) requests → serves inputs requests
+ForAllRequests set ds serves = (inputs : List (List ℕ)) (requests : List Request) → AreInputs (setup_in set) inputs →
+    KeepDistances (setup_in set) (distances_of ds set.devices) requests → serves inputs requests
 
 -- So many cycles are how long the requests of a device that is named wait at most: the least number of cycles in which the bus may do what it has to do in
 -- as many. A request of the device that has found room has been transferred so many cycles behind its own, unless the run has finished before; and where

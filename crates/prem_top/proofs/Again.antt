@@ -24,7 +24,8 @@ use Rattle.prem_top.specs.Complete.{Succeeds, run_succeeds}
 use Rattle.prem_top.specs.Again.{IsRunWith, IsToldAgain}
 
 -- a run with a file that gives this
-run_again : (files : Files) (asked : MailAsked) (set : TaskSet) (bytes : List ℕ) (again : RunAsked) (g : Gathered) → lines_of_run bytes (names_of set) ≡ Ok g → IsRunWith files asked set bytes again → broken set ≡ None →
+run_again : (files : Files) (asked : MailAsked) (set : TaskSet) (bytes : List ℕ) (again : RunAsked) (g : Gathered) →
+    lines_of_run bytes (names_of set) ≡ Ok g → IsRunWith files asked set bytes again → broken set ≡ None →
     Succeeds files (run again) (Done, (run_reply (compiled set).image (run_text_of g) false (run_limit asked.cycles (compiled set).limit)).1)
 run_again files asked set bytes again g is asks none =
     let c = compiled set in
@@ -35,8 +36,10 @@ run_again files asked set bytes again g is asks none =
     subst (λ (reply : Reply). Succeeds files (run again) reply) same (run_succeeds asks.set_there there none)
 
 -- the text of a run with feeds, where what the run file gives is known
-pub told_again : (asked : MailAsked) (set : TaskSet) (bytes : List ℕ) (g : Gathered) (feeds : List Feed) (text : List ℕ) → HasValues set → broken set ≡ None → lines_of_run bytes (names_of set) ≡ Ok g →
-    text ≡ (mailed_reply asked.cycles (run_text_of g) feeds (compiled set)).1 → IsToldAgain asked set bytes g (delivered_at (compiled set).image (run_text_of g) feeds (run_limit asked.cycles (compiled set).limit)) text
+pub told_again : (asked : MailAsked) (set : TaskSet) (bytes : List ℕ) (g : Gathered) (feeds : List Feed) (text : List ℕ) → HasValues set →
+    broken set ≡ None → lines_of_run bytes (names_of set) ≡ Ok g →
+    text ≡ (mailed_reply asked.cycles (run_text_of g) feeds (compiled set)).1 →
+    IsToldAgain asked set bytes g (delivered_at (compiled set).image (run_text_of g) feeds (run_limit asked.cycles (compiled set).limit)) text
 told_again asked set bytes g feeds text values none formed told =
     let c = compiled set in
     let n = run_limit asked.cycles c.limit in

@@ -153,7 +153,8 @@ runs_keep reads asked given is = record {
         input = g.input;
         run_read = r;
         suits = suits;
-        ends = sound_reports_end (rule_of g.set.plant.policy) (setup_in g.set) (compiled g.set).image.content (promises_in g.set) (compiled g.set).limit g.input.words g.input.requests (run_limit asked.cycles (compiled g.set).limit) accepted_is.sound suits;
+        ends = sound_reports_end (rule_of g.set.plant.policy) (setup_in g.set) (compiled g.set).image.content (promises_in g.set)
+            (compiled g.set).limit g.input.words g.input.requests (run_limit asked.cycles (compiled g.set).limit) accepted_is.sound suits;
         text_is = told.1;
       };
   on_refused = λ refused.
@@ -187,7 +188,8 @@ one_goes reads file given answered is =
     record {
       bytes = g.bytes;
       read = g.read;
-      judged = judged_by (one_set g.bytes) (judged_reply one_tells (one_set g.bytes) no_input) (run_text (state_of (compiled (one_set g.bytes)))) given refl (λ r. refl) (broken (one_set g.bytes)) refl goes;
+      judged = judged_by (one_set g.bytes) (judged_reply one_tells (one_set g.bytes) no_input) (run_text (state_of (compiled (one_set g.bytes))))
+          given refl (λ r. refl) (broken (one_set g.bytes)) refl goes;
     }
 
 pub ones_keep : OnesKeep
@@ -212,7 +214,8 @@ ones_keep reads file given is = record {
 
 pub samples_keep : SamplesKeep
 samples_keep reads seed given is =
-    let judged = judged_by (sample_set seed) (judged_reply (sample_tells seed) (sample_set seed) (sample_run seed)) (sample_compiled seed (compiled (sample_set seed))).1 given refl (λ r. refl) (broken (sample_set seed)) refl is in
+    let judged = judged_by (sample_set seed) (judged_reply (sample_tells seed) (sample_set seed) (sample_run seed))
+    (sample_compiled seed (compiled (sample_set seed))).1 given refl (λ r. refl) (broken (sample_set seed)) refl is in
     record {
       on_done = λ done.
           let told = judged.on_done done in
@@ -257,7 +260,9 @@ record Mailed (reads : Reads) (asked : MailAsked) (given : Reply) : Type 0 where
 
 mailed : (reads : Reads) (asked : MailAsked) (given : Reply) → is_judged given.0 ≡ true → replied (mail_stages asked reads) ≡ given → Mailed reads asked given
 mailed reads asked given judged is =
-    let s = set_goes reads asked.of (λ set. reading_run set asked.run (λ input. reading_mail set asked.mail (λ feeds reads. Ok (set_reply (mail_tells asked.cycles feeds) set input)))) given judged is in
+    let s = set_goes reads asked.of
+    (λ set. reading_run set asked.run
+    (λ input. reading_mail set asked.mail (λ feeds reads. Ok (set_reply (mail_tells asked.cycles feeds) set input)))) given judged is in
     let r = run_goes_on reads s.set asked.run (λ input. reading_mail s.set asked.mail (λ feeds reads. Ok (set_reply (mail_tells asked.cycles feeds) s.set input))) given judged s.goes in
     let m = mail_goes reads s.set asked.mail (λ feeds. judged_reply (mail_tells asked.cycles feeds) s.set r.input (broken s.set)) given judged r.goes in
     record { set = s.set; read = s.read; input = r.input; run_read = r.read; feeds = m.feeds; mail_read = m.read; goes = m.goes }
@@ -278,7 +283,8 @@ mail_keeps reads asked given is = record {
       let fits : FitsRun (setup_in set) g.input.words g.input.requests =
       subst (λ (i : RunText). FitsRun (setup_in set) i.words i.requests) (sym r.input_is) (lawful_runs_fit set r.lines.words r.lines.requests told.0 (run_is_lawful r.bytes _ r.lines r.formed)) in
       let good : IsGoodRun (rule_of set.plant.policy) (setup_in set) c.image.content (promises_in set) c.limit (delivered_to asked c g.input g.feeds).lists g.input.requests n =
-      mailed_runs_are_good (rule_of set.plant.policy) (setup_in set) c.image.content (promises_in set) c.limit g.input.words g.input.requests g.feeds n accepted_is.sound suits.inputs_are fits suits.puts in
+      mailed_runs_are_good (rule_of set.plant.policy) (setup_in set) c.image.content (promises_in set)
+      c.limit g.input.words g.input.requests g.feeds n accepted_is.sound suits.inputs_are fits suits.puts in
       record {
         set = set;
         accepted = accepted_is;
@@ -295,7 +301,8 @@ mail_keeps reads asked given is = record {
       };
   on_refused = λ refused.
       let g = mailed reads asked given (refused_is_judged given.0 refused) is in
-      let judged = judged_by g.set (judged_reply (mail_tells asked.cycles g.feeds) g.set g.input) (mail_compiled asked.cycles g.input g.feeds (compiled g.set)).1 given refl (λ r. refl) (broken g.set) refl g.goes in
+      let judged = judged_by g.set (judged_reply (mail_tells asked.cycles g.feeds) g.set g.input)
+      (mail_compiled asked.cycles g.input g.feeds (compiled g.set)).1 given refl (λ r. refl) (broken g.set) refl g.goes in
       record { set = g.set; read = g.read; input = g.input; run_read = g.run_read; feeds = g.feeds; mail_read = g.mail_read; first = judged.on_refused refused };
 }
 
@@ -340,7 +347,12 @@ module _ (reads : Reads) (name : List ℕ) (set : TaskSet) (read : SetIsRead rea
   by_size places none found true is goes =
       not_colored (refused_reply set.tasks (memory_refusal (last_end places) set.plant.memory)).1 (sym goes) (full places none found (ltb-true set.plant.memory (last_end places) is) refl)
   by_size places none found false is goes =
-      by_places places none (record { plant = (sets_read_have_values reads name set read).plant_is; moved = found; within = ltb-false set.plant.memory (last_end places) is }) (broken_at set places) refl goes
+      by_places places none (record {
+        plant = (sets_read_have_values reads name set read).plant_is;
+        moved = found;
+        within =
+            ltb-false set.plant.memory (last_end places) is;
+      }) (broken_at set places) refl goes
 
   by_found : broken_early set ≡ None → (found : Result (List Extent) ℕ) → found_places set ≡ found → moved_reply set found ≡ given → Kept
   by_found none (Err n) is goes = not_colored (stuck_reply set n).1 (sym goes) (stuck n none is refl)

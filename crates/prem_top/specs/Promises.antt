@@ -135,8 +135,10 @@ pub record IsSoundMail (reads : Reads) (asked : MailAsked) (text : List ℕ) : T
   pub run_read : RunIsRead reads set asked.run input
   pub feeds : List Feed
   pub mail_read : MailIsRead reads set asked.mail feeds
-  pub good : IsGoodRun (rule_of set.plant.policy) (setup_in set) (compiled set).image.content (promises_in set) (compiled set).limit (delivered_to asked (compiled set) input feeds).lists input.requests (run_limit asked.cycles (compiled set).limit)
-  pub ends : EndsWell (compiled set).limit (run_limit asked.cycles (compiled set).limit) (state_at (compiled set).image (mailed_input input (delivered_to asked (compiled set) input feeds)) (run_limit asked.cycles (compiled set).limit))
+  pub good : IsGoodRun (rule_of set.plant.policy) (setup_in set) (compiled set).image.content (promises_in set) (compiled set).limit
+      (delivered_to asked (compiled set) input feeds).lists input.requests (run_limit asked.cycles (compiled set).limit)
+  pub ends : EndsWell (compiled set).limit (run_limit asked.cycles (compiled set).limit)
+      (state_at (compiled set).image (mailed_input input (delivered_to asked (compiled set) input feeds)) (run_limit asked.cycles (compiled set).limit))
   pub text_is : text ≡ (mailed_reply asked.cycles input feeds (compiled set)).1
   pub again : IsToldAgain asked set run_read.bytes run_read.lines (delivered_to asked (compiled set) input feeds) text
 

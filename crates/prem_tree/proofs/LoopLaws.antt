@@ -41,7 +41,8 @@ unfolding counting
 counting-done line zero test turn s is = rw is
 counting-done line (suc n) test turn s is = rw is
 
-pub counting-past : (line n : ℕ) (test : ProgramState → Outcome Bool) (turn : ProgramState → Outcome ProgramState) (s : ProgramState) → n ≡ 0 → test s ≡ Ok true → counting line n test turn s ≡ Err line
+pub counting-past : (line n : ℕ) (test : ProgramState → Outcome Bool) (turn : ProgramState → Outcome ProgramState) (s : ProgramState) → n ≡ 0 →
+    test s ≡ Ok true → counting line n test turn s ≡ Err line
 unfolding counting
 counting-past line n test turn s none is = rw none (rw is)
 

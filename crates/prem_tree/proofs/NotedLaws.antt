@@ -10,7 +10,8 @@ use Rattle.prem_syntax.specs.declared.tree.Mark.{Mark}
 use Rattle.prem_syntax.specs.SyntaxOf.{mark_of}
 use Rattle.prem_syntax.specs.Resolved.{Term, Steps, Done, Routine}
 use Rattle.prem_syntax.specs.Expressions.{Outcome, and_then, or_wrong, cell}
-use Rattle.prem_syntax.specs.Statements.{ProgramState, MarkedCall, Calls, choose, value, values, with_local, with_cell, store, stored, with_output, take_input, holds, loop_test, int_local, loop_step, counting, bounded, with_target, run, declare, result_of, with_mark, is_marked, leave, enter, with_new_local}
+use Rattle.prem_syntax.specs.Statements.{ProgramState, MarkedCall, Calls, choose, value, values, with_local, with_cell, store, stored, with_output, take_input, holds, loop_test}
+use Rattle.prem_syntax.specs.Statements.{int_local, loop_step, counting, bounded, with_target, run, declare, result_of, with_mark, is_marked, leave, enter, with_new_local}
 use Rattle.prem_syntax.specs.Source.{Limits, unlimited, everywhere, enter_if_there, this_or, calls_below, do_jobs}
 use Rattle.prem_tree.specs.declared.resolve.resolved.Step.{Step, Row_of-Step, end_of-Step, more_of-Step}
 use Rattle.prem_tree.specs.declared.resolve.resolved.Step.TheVariants.{Block', SetLocal, SetScalar, SetElement, Output, Input, If', For', While', Call}
@@ -71,17 +72,20 @@ target_outlined : (target : Option ℕ) (w : ℕ) (s : ProgramState) → outline
 target_outlined None w s = refl
 target_outlined (Some k) w s = refl
 
-choose_outlined : (go : Bool) (f g f' g' : ProgramState → Outcome ProgramState) (s : ProgramState) → ((t : ProgramState) → mapped outline (f t) ≡ f' (outline t)) → ((t : ProgramState) → mapped outline (g t) ≡ g' (outline t)) →
+choose_outlined : (go : Bool) (f g f' g' : ProgramState → Outcome ProgramState) (s : ProgramState) →
+    ((t : ProgramState) → mapped outline (f t) ≡ f' (outline t)) → ((t : ProgramState) → mapped outline (g t) ≡ g' (outline t)) →
     mapped outline (choose go f g s) ≡ choose go f' g' (outline s)
 choose_outlined true f g f' g' s hf hg = hf s
 choose_outlined false f g f' g' s hf hg = hg s
 
-counting_outlined : (line n : ℕ) (test : ProgramState → Outcome Bool) (turn turn' : ProgramState → Outcome ProgramState) (s : ProgramState) → ((t : ProgramState) → test t ≡ test (outline t)) → ((t : ProgramState) → mapped outline (turn t) ≡ turn' (outline t)) →
+counting_outlined : (line n : ℕ) (test : ProgramState → Outcome Bool) (turn turn' : ProgramState → Outcome ProgramState) (s : ProgramState) →
+    ((t : ProgramState) → test t ≡ test (outline t)) → ((t : ProgramState) → mapped outline (turn t) ≡ turn' (outline t)) →
     mapped outline (counting line n test turn s) ≡ counting line n test turn' (outline s)
 unfolding counting
 counting_outlined line zero test turn turn' s ht hn =
     rw (sym (ht s))
-    (behind outline (test s) (λ go. choose go (λ t. Err line) Ok s) (λ go. choose go (λ t. Err line) Ok (outline s)) (λ go. choose_outlined go (λ t. Err line) Ok (λ t. Err line) Ok s (λ t. refl) (λ t. refl)))
+    (behind outline (test s) (λ go. choose go (λ t. Err line) Ok s) (λ go. choose go (λ t. Err line) Ok (outline s))
+    (λ go. choose_outlined go (λ t. Err line) Ok (λ t. Err line) Ok s (λ t. refl) (λ t. refl)))
 counting_outlined line (suc n) test turn turn' s ht hn =
     let goes = λ (t : ProgramState). and_then (turn t) (counting line n test turn) in
     let goes' = λ (t : ProgramState). and_then (turn' t) (counting line n test turn') in
@@ -89,7 +93,8 @@ counting_outlined line (suc n) test turn turn' s ht hn =
     λ t. joined outline outline (turn t) (turn' (outline t)) (counting line n test turn) (counting line n test turn') (hn t) (λ u. counting_outlined line n test turn turn' u ht hn) in
     rw (sym (ht s)) (behind outline (test s) (λ go. choose go goes Ok s) (λ go. choose go goes' Ok (outline s)) (λ go. choose_outlined go goes Ok goes' Ok s same (λ t. refl)))
 
-bounded_outlined : (n : ℕ) (test : ProgramState → Outcome Bool) (turn turn' : ProgramState → Outcome ProgramState) (s : ProgramState) → ((t : ProgramState) → test t ≡ test (outline t)) → ((t : ProgramState) → mapped outline (turn t) ≡ turn' (outline t)) →
+bounded_outlined : (n : ℕ) (test : ProgramState → Outcome Bool) (turn turn' : ProgramState → Outcome ProgramState) (s : ProgramState) →
+    ((t : ProgramState) → test t ≡ test (outline t)) → ((t : ProgramState) → mapped outline (turn t) ≡ turn' (outline t)) →
     mapped outline (bounded n test turn s) ≡ bounded n test turn' (outline s)
 unfolding bounded
 bounded_outlined zero test turn turn' s ht hn = refl
@@ -105,11 +110,14 @@ assoc (Ok x) f g = refl
 assoc (Err line) f g = refl
 
 -- a counting loop behind its first value, and a call, before what agrees in outline
-for_run : (line : ℕ) (o : Outcome ℕ) (l n : ℕ) (test : ProgramState → Outcome Bool) (turn turn' f k : ProgramState → Outcome ProgramState) (s : ProgramState) → ((t : ProgramState) → test t ≡ test (outline t)) →
+for_run : (line : ℕ) (o : Outcome ℕ) (l n : ℕ) (test : ProgramState → Outcome Bool) (turn turn' f k : ProgramState → Outcome ProgramState)
+    (s : ProgramState) → ((t : ProgramState) → test t ≡ test (outline t)) →
     ((t : ProgramState) → mapped outline (turn t) ≡ turn' (outline t)) → ((t : ProgramState) → mapped outline (f t) ≡ k (outline t)) →
-    mapped outline (and_then o (λ w. and_then (counting line n test turn (with_local l w s)) f)) ≡ and_then (and_then (and_then o (λ w. Ok (with_local l w (outline s)))) (counting line n test turn')) k
+    mapped outline (and_then o (λ w. and_then (counting line n test turn (with_local l w s)) f))
+    ≡ and_then (and_then (and_then o (λ w. Ok (with_local l w (outline s)))) (counting line n test turn')) k
 for_run line (Ok w) l n test turn turn' f k s ht hn same =
-    joined outline outline (counting line n test turn (with_local l w s)) (counting line n test turn' (with_local l w (outline s))) f k (counting_outlined line n test turn turn' (with_local l w s) ht hn) same
+    joined outline outline (counting line n test turn (with_local l w s)) (counting line n test turn' (with_local l w (outline s))) f k
+    (counting_outlined line n test turn turn' (with_local l w s) ht hn) same
 for_run line (Err at) l n test turn turn' f k s ht hn same = refl
 
 call_run : (o o' : Outcome (ℕ × ProgramState)) (target : Option ℕ) (f k : ProgramState → Outcome ProgramState) → mapped called o ≡ o' → ((t : ProgramState) → mapped outline (f t) ≡ k (outline t)) →
@@ -124,7 +132,8 @@ pub record AgreeInOutline (calls : Calls) (noting : NotedCalls) : Type 0 where
 -- a step before others, whose run is k in outline
 mutual
   step_run : (calls : Calls) (noting : NotedCalls) → AgreeInOutline calls noting → (n : ℕ) (x : Step) (rest : Steps) (k : ProgramState → Outcome ProgramState) (s : ProgramState) →
-      ((t : ProgramState) → mapped outline (run everywhere calls rest t) ≡ k (outline t)) → mapped outline (run everywhere calls (step_before unlimited.turns n x rest) s) ≡ and_then (do_step noting x (outline s)) k
+      ((t : ProgramState) → mapped outline (run everywhere calls rest t) ≡ k (outline t)) →
+      mapped outline (run everywhere calls (step_before unlimited.turns n x rest) s) ≡ and_then (do_step noting x (outline s)) k
   step_run calls noting h n (Block' shape body) rest k s same = row_run calls noting h n body rest k s same
   step_run calls noting h n (SetLocal at l e) rest k s same =
       behind_both (value everywhere s (term_of e)) (λ w. run everywhere calls rest (with_local l w s)) (λ w. Ok (with_local l w (outline s))) k (λ w. same (with_local l w s))
@@ -141,12 +150,14 @@ mutual
   step_run calls noting h n (Input at l) rest k s same = same (take_input l s.inputs s) ∙ ap k (input_outlined l s.inputs s)
   step_run calls noting h n (If' at c p taken q other) rest k s same =
       behind_both (holds everywhere (term_of c) s)
-      (λ go. and_then (choose go (run everywhere calls (step_before unlimited.turns n taken Done)) (run everywhere calls (step_before unlimited.turns (n + loops_of taken) other Done)) s) (run everywhere calls rest))
+      (λ go. and_then (choose go (run everywhere calls (step_before unlimited.turns n taken Done))
+      (run everywhere calls (step_before unlimited.turns (n + loops_of taken) other Done)) s) (run everywhere calls rest))
       (λ go. choose go (do_step noting taken) (do_step noting other) (outline s)) k
       (λ go. joined outline outline
       (choose go (run everywhere calls (step_before unlimited.turns n taken Done)) (run everywhere calls (step_before unlimited.turns (n + loops_of taken) other Done)) s)
       (choose go (do_step noting taken) (do_step noting other) (outline s)) (run everywhere calls rest) k
-      (choose_outlined go (run everywhere calls (step_before unlimited.turns n taken Done)) (run everywhere calls (step_before unlimited.turns (n + loops_of taken) other Done)) (do_step noting taken) (do_step noting other) s
+      (choose_outlined go (run everywhere calls (step_before unlimited.turns n taken Done))
+      (run everywhere calls (step_before unlimited.turns (n + loops_of taken) other Done)) (do_step noting taken) (do_step noting other) s
       (λ t. step_run calls noting h n taken Done (λ u. Ok u) t (λ u. refl) ∙ and_then-ok (do_step noting taken (outline t)))
       (λ t. step_run calls noting h (n + loops_of taken) other Done (λ u. Ok u) t (λ u. refl) ∙ and_then-ok (do_step noting other (outline t))))
       same)
@@ -159,7 +170,8 @@ mutual
       (step_run calls noting h (n + 1) body Done (λ u. Ok u) t (λ u. refl) ∙ and_then-ok (do_step noting body (outline t))) (loop_step_outlined at.line l step) in
       for_run at.line (value everywhere s (term_of low)) l (unlimited.turns n) test turn turn' (run everywhere calls rest) k s (λ t. refl) turned same
   step_run calls noting h n (While' at turns c p body) rest k s same =
-      joined outline outline (bounded turns (holds everywhere (term_of c)) (run everywhere calls (step_before unlimited.turns n body Done)) s) (bounded turns (holds everywhere (term_of c)) (do_step noting body) (outline s))
+      joined outline outline (bounded turns (holds everywhere (term_of c)) (run everywhere calls (step_before unlimited.turns n body Done)) s)
+      (bounded turns (holds everywhere (term_of c)) (do_step noting body) (outline s))
       (run everywhere calls rest) k
       (bounded_outlined turns (holds everywhere (term_of c)) (run everywhere calls (step_before unlimited.turns n body Done)) (do_step noting body) s (λ t. refl)
       (λ t. step_run calls noting h n body Done (λ u. Ok u) t (λ u. refl) ∙ and_then-ok (do_step noting body (outline t))))
@@ -170,10 +182,12 @@ mutual
       (λ ws. call_run (calls everywhere f ws s) (noting f ws (outline s)) target (run everywhere calls rest) k (h.same f ws s) same)
 
   row_run : {m : _} (calls : Calls) (noting : NotedCalls) → AgreeInOutline calls noting → (n : ℕ) (row : Row_of-Step m) (rest : Steps) (k : ProgramState → Outcome ProgramState) (s : ProgramState) →
-      ((t : ProgramState) → mapped outline (run everywhere calls rest t) ≡ k (outline t)) → mapped outline (run everywhere calls (row_before unlimited.turns n row rest) s) ≡ and_then (do_row noting row (outline s)) k
+      ((t : ProgramState) → mapped outline (run everywhere calls rest t) ≡ k (outline t)) →
+      mapped outline (run everywhere calls (row_before unlimited.turns n row rest) s) ≡ and_then (do_row noting row (outline s)) k
   row_run calls noting h n end_of-Step rest k s same = same s
   row_run calls noting h n (more_of-Step first others) rest k s same =
-      step_run calls noting h n first (row_before unlimited.turns (n + loops_of first) others rest) (λ t. and_then (do_row noting others t) k) s (λ t. row_run calls noting h (n + loops_of first) others rest k t same)
+      step_run calls noting h n first (row_before unlimited.turns (n + loops_of first) others rest) (λ t. and_then (do_row noting others t) k) s
+      (λ t. row_run calls noting h (n + loops_of first) others rest k t same)
       ∙ sym (assoc (do_step noting first (outline s)) (do_row noting others) k)
 
 declare_outlined : (es : List Term) (s : ProgramState) → mapped outline (declare everywhere es s) ≡ declare everywhere es (outline s)
@@ -212,7 +226,8 @@ enter_run calls noting h r i n ws s =
     joined outline called (declare everywhere (map term_of (items_of r.locals)) (record s { locals = ws })) (declare everywhere (map term_of (items_of r.locals)) (record (outline s) { locals = ws }))
     (λ t. and_then (body t) back) (λ t. and_then (do_step noting r.body t) back')
     (declare_outlined (map term_of (items_of r.locals)) (record s { locals = ws }))
-    (λ t. joined outline called (body t) (do_step noting r.body (outline t)) back back' (step_run calls noting h i r.body Done (λ u. Ok u) t (λ u. refl) ∙ and_then-ok (do_step noting r.body (outline t))) ended)
+    (λ t. joined outline called (body t) (do_step noting r.body (outline t)) back back'
+    (step_run calls noting h i r.body Done (λ u. Ok u) t (λ u. refl) ∙ and_then-ok (do_step noting r.body (outline t))) ended)
 
 access_same : (b : Bool) (calls : Calls) (f : Routine) (n : ℕ) (ws : List ℕ) (s : ProgramState) → enter calls (cond b everywhere everywhere) f n ws s ≡ enter calls everywhere f n ws s
 access_same true calls f n ws s = refl
@@ -226,7 +241,8 @@ if_there_run calls noting h (r ∷ rs) i zero n ws s =
     ap (mapped called) (access_same (is_marked (routine_of unlimited.turns i r)) calls (routine_of unlimited.turns i r) n ws s) ∙ enter_run calls noting h r i n ws s
 if_there_run calls noting h (r ∷ rs) i (suc k) n ws s = if_there_run calls noting h rs (i + loops_of r.body) k n ws s
 
-chosen : (b : Bool) (this others : Calls) (f : ℕ) (ws : List ℕ) (s : ProgramState) (this' others' : Outcome (ℕ × ProgramState)) → mapped called (this everywhere f ws s) ≡ this' → mapped called (others everywhere f ws s) ≡ others' →
+chosen : (b : Bool) (this others : Calls) (f : ℕ) (ws : List ℕ) (s : ProgramState) (this' others' : Outcome (ℕ × ProgramState)) →
+    mapped called (this everywhere f ws s) ≡ this' → mapped called (others everywhere f ws s) ≡ others' →
     mapped called (this_or b this others everywhere f ws s) ≡ this_or_others b this' others'
 chosen true this others f ws s this' others' a b = a
 chosen false this others f ws s this' others' a b = b
@@ -245,7 +261,8 @@ calls_agree rs (suc n) =
       same = λ f ws s.
           chosen (eqb f n) (enter_if_there unlimited (calls_below unlimited routines n) (slice_get routines n) n) (calls_below unlimited routines n) f ws s
           (do_if_there (noted_calls rs n) (slice_get rs n) n ws (outline s)) (noted_calls rs n f ws (outline s))
-          (any_number unlimited (calls_below unlimited routines n) (slice_get routines n) n f ws s ∙ if_there_run (calls_below unlimited routines n) (noted_calls rs n) before rs 0 n n ws s) (before.same f ws s);
+          (any_number unlimited (calls_below unlimited routines n) (slice_get routines n) n f ws s
+          ∙ if_there_run (calls_below unlimited routines n) (noted_calls rs n) before rs 0 n n ws s) (before.same f ws s);
     }
 
 pub length-routines_of : (i : ℕ) (rs : List RoutineTree) → length (routines_of unlimited.turns i rs) ≡ length rs

@@ -91,7 +91,8 @@ ends m run s is outs marks globals used = record {
   used_is = used ∙ sym (ap (λ (t : ProgramState). t.used) is);
 }
 
-pub run_ends : (m : Interpreter) (run : SourceRun) (o : Outcome ProgramState) → mapped outline o ≡ Ok (state_of m []) → items_of run.outputs ≡ items_of m.outputs → items_of run.marks ≡ items_of m.marks →
+pub run_ends : (m : Interpreter) (run : SourceRun) (o : Outcome ProgramState) → mapped outline o ≡ Ok (state_of m []) →
+    items_of run.outputs ≡ items_of m.outputs → items_of run.marks ≡ items_of m.marks →
     map items_of (items_of run.globals) ≡ map (λ words. words.items) m.globals.items → run.used ≡ m.used → IsRun run o
 run_ends m run (Ok s) is outs marks globals used = ends m run s (let same : outline s ≡ state_of m [] = cc in same) outs marks globals used
 run_ends m run (Err line) is outs marks globals used = absurd (cc)

@@ -102,4 +102,5 @@ between all from at (suc n) x h =
     let e : at + suc n ≡ suc (at + n) = omega arith in
     let before = between all from at n x (λ m lt. h m (omega (arith, lt))) in
     subst (λ k. Between (last_of all from at) from at k x (moments_of all from k) (moments_of all from at) (last_of all from k)) (sym e)
-    (step_by all from at (at + n) x (last_of all from at) (moments_of all from at) (nat_le from (at + n)) (nat_lt (max from at) (at + n)) (early all from at) refl refl (omega arith) (h n (omega arith)) before)
+    (step_by all from at (at + n) x (last_of all from at) (moments_of all from at) (nat_le from (at + n)) (nat_lt (max from at) (at + n))
+    (early all from at) refl refl (omega arith) (h n (omega arith)) before)

@@ -3,7 +3,8 @@ use Rattle.std.specs.Prelude.{◌&&◌, ◌*◌, codes, decimal}
 use Rattle.std.specs.List.{list_all}
 use Rattle.std.proofs.Common.{◌≡◌, ◌≤◌, ◌+◌, ℕ, List, [], ◌∷◌, ◌++◌, Bool, true, false, cond, length, refl, ap, sym, ◌∙◌, subst, arith, append_assoc, append-nil}
 use Rattle.prem_wave.specs.Grammar.{Declares, IsIdentifier, Variable, none, comment, version, timescale, scope, upscope, variable, is_in_identifier}
-use Rattle.prem_wave.specs.Header.{bus_text, core_text, device_text, devices_bits, devices_text, header_end, header_text, is_in_name, line_end, name_byte, name_text, preamble, scope_end, scope_start, scope_text, signal_bits, task_text, tasks_bits, tasks_text, variable_text}
+use Rattle.prem_wave.specs.Header.{bus_text, core_text, device_text, devices_bits, devices_text, header_end, header_text, is_in_name, line_end, name_byte, name_text, preamble}
+use Rattle.prem_wave.specs.Header.{scope_end, scope_start, scope_text, signal_bits, task_text, tasks_bits, tasks_text, variable_text}
 use Rattle.prem_wave.proofs.Digits.{decimal_printed}
 
 -- ---- names
@@ -141,7 +142,10 @@ abbrev declared_text : (tasks devices : List (List ℕ)) → List ℕ
 declared_text tasks devices = preamble ++ (core_text ++ (tasks_text 2 tasks ++ (bus_text (2 + 2 * length tasks) ++ devices_text (2 + 2 * length tasks + 2) devices)))
 
 parts : (tasks devices : List (List ℕ)) →
-    Ext 0 0 ((numbered 0 64 ∷ numbered 1 1 ∷ []) ++ (variables_from 2 (tasks_bits tasks) ++ ((numbered (2 + 2 * length tasks) 64 ∷ numbered (2 + 2 * length tasks + 1) 1 ∷ []) ++ variables_from (2 + 2 * length tasks + 2) (devices_bits devices))))
+    Ext 0 0 ((numbered 0 64 ∷ numbered 1 1 ∷ [])
+    ++ (variables_from 2 (tasks_bits tasks)
+    ++ ((numbered (2 + 2 * length tasks) 64 ∷ numbered (2 + 2 * length tasks + 1) 1 ∷ [])
+    ++ variables_from (2 + 2 * length tasks + 2) (devices_bits devices))))
     (declared_text tasks devices)
 parts tasks devices =
     let k = 2 + 2 * length tasks in
@@ -150,7 +154,10 @@ parts tasks devices =
     (then_ext 0 0 0 (numbered k 64 ∷ numbered (k + 1) 1 ∷ []) (variables_from (k + 2) (devices_bits devices)) (bus_text k) (devices_text (k + 2) devices) (bus_part k) (devices_part (k + 2) devices))))
 
 variables_are : (tasks devices : List (List ℕ)) →
-    (numbered 0 64 ∷ numbered 1 1 ∷ []) ++ (variables_from 2 (tasks_bits tasks) ++ ((numbered (2 + 2 * length tasks) 64 ∷ numbered (2 + 2 * length tasks + 1) 1 ∷ []) ++ variables_from (2 + 2 * length tasks + 2) (devices_bits devices)))
+    (numbered 0 64 ∷ numbered 1 1 ∷ [])
+    ++ (variables_from 2 (tasks_bits tasks)
+    ++ ((numbered (2 + 2 * length tasks) 64 ∷ numbered (2 + 2 * length tasks + 1) 1 ∷ [])
+    ++ variables_from (2 + 2 * length tasks + 2) (devices_bits devices)))
     ≡ variables_from 0 (signal_bits tasks devices)
 variables_are tasks devices =
     let l = tasks_length tasks in

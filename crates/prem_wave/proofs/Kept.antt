@@ -28,7 +28,8 @@ use Rattle.prem_cycle.proofs.RunsLemmas.DullLemmas.Stretch.{fewer_rest, one_step
 use Rattle.prem_wave.specs.declared.bus.Before.{Before}
 use Rattle.prem_wave.specs.declared.doing.Doing.{Doing}
 use Rattle.prem_wave.specs.declared.doing.Doing.TheVariants.{Rests as Resting, Switches, Begins, Goes}
-use Rattle.prem_wave.specs.Signals.{before_of, bit, bus_after, bus_word, chosen, core_task, device_values, doing_in, doing_of, each, is_open, on_bus, switching, task_values, values_after, values_before, values_with}
+use Rattle.prem_wave.specs.Signals.{before_of, bit, bus_after, bus_word, chosen, core_task, device_values, doing_in, doing_of, each, is_open, on_bus, switching, task_values}
+use Rattle.prem_wave.specs.Signals.{values_after, values_before, values_with}
 use Rattle.prem_wave.specs.Waves.{AllSame, window_change}
 
 -- ---- the core
@@ -287,11 +288,15 @@ open_by now v w true b e f le before = shut (nat_lt v w.close) (nat_lt now w.clo
     shut x y true d h k = absurd (cc)
     shut x y false true h k = absurd (cc)
     shut x y false false h k = refl
-open_by now v w false true e f le before = both (nat_le w.start v) (nat_lt v w.close) (nat_le w.start now) (nat_lt now w.close) (grind (arith, nat_tests)) (grind (arith, nat_tests)) (grind (arith, nat_tests)) f
+open_by now v w false true e f le before =
+    both (nat_le w.start v) (nat_lt v w.close) (nat_le w.start now) (nat_lt now w.close) (grind (arith, nat_tests)) (grind (arith, nat_tests))
+    (grind (arith, nat_tests)) f
   where
     both : (a b c d : Bool) → a ≡ true → b ≡ true → c ≡ true → d ≡ true → (a && b) ≡ (c && d)
     both a b c d h j k l = ap₂ (λ x y. x && y) (h ∙ sym k) (j ∙ sym l)
-open_by now v w false false e f le before = both (nat_le w.start v) (nat_lt v w.close) (nat_le w.start now) (nat_lt now w.close) (grind (arith, nat_tests)) (grind (arith, nat_tests)) (grind (arith, nat_tests)) f
+open_by now v w false false e f le before =
+    both (nat_le w.start v) (nat_lt v w.close) (nat_le w.start now) (nat_lt now w.close) (grind (arith, nat_tests)) (grind (arith, nat_tests))
+    (grind (arith, nat_tests)) f
   where
     both : (a b c d : Bool) → a ≡ true → b ≡ false → c ≡ true → d ≡ false → (a && b) ≡ (c && d)
     both a b c d h j k l = ap₂ (λ x y. x && y) (h ∙ sym k) (j ∙ sym l)

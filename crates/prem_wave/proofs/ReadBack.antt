@@ -30,7 +30,8 @@ known_means None v e = absurd (cc)
 known_means (Some x) v e = ap (λ y. Some y) (same_means x v e)
 
 -- of a signal before these
-others_by : (k j : ℕ) (v : Option ℕ) (changes : List Change) (o : Option (Option ℕ)) (b : Bool) → k < j → told_by k changes o ≡ o → told_by k (cond b changes (record { signal = j; value = v } ∷ changes)) o ≡ o
+others_by : (k j : ℕ) (v : Option ℕ) (changes : List Change) (o : Option (Option ℕ)) (b : Bool) → k < j → told_by k changes o ≡ o →
+    told_by k (cond b changes (record { signal = j; value = v } ∷ changes)) o ≡ o
 others_by k j v changes o true lt h = h
 others_by k j v changes o false lt h =
     let other : (j == k) ≡ false = grind (arith, nat_tests) in

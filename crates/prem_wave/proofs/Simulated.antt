@@ -89,7 +89,9 @@ values_fit switch tasks devices s t =
     let b = before_of s in
     let ts = each (task_values switch s) (length tasks) in
     let ds = each (device_values (bus_after b t) t) (length devices) in
-    let tasks_fit : Fit (tasks_bits tasks) ts = fit_each (tasks_bits tasks) ts (tasks_wide tasks ∙ ap wide (sym (each_length (task_values switch s) 2 (length tasks) (λ k. refl) ∙ times_two (length tasks)))) in
+    let tasks_fit : Fit (tasks_bits tasks) ts =
+    fit_each (tasks_bits tasks) ts
+    (tasks_wide tasks ∙ ap wide (sym (each_length (task_values switch s) 2 (length tasks) (λ k. refl) ∙ times_two (length tasks)))) in
     let devices_fit : Fit (devices_bits devices) ds =
     fit_each (devices_bits devices) ds (devices_wide devices ∙ ap wide (sym (each_length (device_values (bus_after b t) t) 3 (length devices) (λ k. refl) ∙ times_three (length devices)))) in
     let bus_fit : Fit (64 ∷ 1 ∷ devices_bits devices) (values_after (length devices) b t) =

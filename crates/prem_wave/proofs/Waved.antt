@@ -1,6 +1,7 @@
 -- A run of which a dump is written turn by turn.
 use Rattle.std.specs.Prelude.{nat_lt, is_some, ◌||◌, ◌&&◌, ◌==◌}
-use Rattle.std.proofs.Common.{◌≡◌, ℕ, zero, suc, ◌+◌, ◌-◌, ◌<◌, ◌≤◌, Bool, true, false, cond, List, [], ◌++◌, Option, Some, None, length, refl, ap, ap₂, sym, ◌∙◌, subst, arith, append_assoc, append-nil}
+use Rattle.std.proofs.Common.{◌≡◌, ℕ, zero, suc, ◌+◌, ◌-◌, ◌<◌, ◌≤◌, Bool, true, false, cond, List, [], ◌++◌, Option, Some, None, length, refl, ap, ap₂, sym, ◌∙◌, subst, arith}
+use Rattle.std.proofs.Common.{append_assoc, append-nil}
 use Rattle.std.proofs.lemmas.Bool.Decides.{nat_tests}
 use Rattle.prem_list.specs.Sequence.{items_of}
 use Rattle.prem_lru.specs.Entries.{ReplacementRule}
@@ -182,7 +183,9 @@ module _ (image : Image) (input : RunInput) (from limit at : ℕ) (stop : Stop) 
       ∙ ap (λ x. cycles_of rule p x (to - at) (state_of m)) w.requests ∙ ap (λ x. cycles_of rule p q (to - at) x) w.state in
       let there : state_of m' ≡ after image input to = near ∙ sym (cycles_of-add rule p q at (to - at) (start image input)) ∙ ap (λ k. after image input k) whole in
       let same' : AllSame rule p q (to - at) s =
-      subst (AllSame rule p q (to - at)) w.state (subst (λ x. AllSame rule p x (to - at) (state_of m)) w.requests (subst (λ x. AllSame (rule_in x) x (requests_in m) (to - at) (state_of m)) w.setup same)) in
+      subst (AllSame rule p q (to - at)) w.state
+      (subst (λ x. AllSame rule p x (to - at) (state_of m)) w.requests
+      (subst (λ x. AllSame (rule_in x) x (requests_in m) (to - at) (state_of m)) w.setup same)) in
       let t = ticks rule p q (to - at) s in
       let s_now : s.now ≡ at = sym (ap (λ (x : MachineState). x.now) w.state) ∙ now in
       let near_now : (state_of m').now ≡ (cycles_of rule p q (to - at) s).now = ap (λ (x : MachineState). x.now) near in
@@ -225,7 +228,8 @@ whole_run : (image : Image) (input : RunInput) (n : ℕ) → after image input n
 unfolding cycles_of
 whole_run image input n = refl
 
-ends_by : (image : Image) (input : RunInput) (from limit at : ℕ) (stop : Stop) (m : Running) (header text : List ℕ) (last : List (Option ℕ)) → IsWaved image input from limit at stop m header text last →
+ends_by : (image : Image) (input : RunInput) (from limit at : ℕ) (stop : Stop) (m : Running) (header text : List ℕ) (last : List (Option ℕ)) →
+    IsWaved image input from limit at stop m header text last →
     (less goes : Bool) → nat_lt at limit ≡ less → goes_on stop ≡ goes → (less && goes) ≡ false → state_of m ≡ after image input limit
 ends_by image input from limit at stop m header text last w true true l g e = absurd (cc)
 ends_by image input from limit at stop m header text last w true false l g e =
@@ -242,6 +246,7 @@ ends_by image input from limit at stop m header text last w false goes l g e =
     let same : at ≡ limit = grind (arith, nat_tests) in
     w.state ∙ ap (after image input) same
 
-pub ended : (image : Image) (input : RunInput) (from limit at : ℕ) (stop : Stop) (m : Running) (header text : List ℕ) (last : List (Option ℕ)) → IsWaved image input from limit at stop m header text last →
+pub ended : (image : Image) (input : RunInput) (from limit at : ℕ) (stop : Stop) (m : Running) (header text : List ℕ) (last : List (Option ℕ)) →
+    IsWaved image input from limit at stop m header text last →
     (nat_lt at limit && goes_on stop) ≡ false → state_of m ≡ after image input limit
 ended image input from limit at stop m header text last w e = ends_by image input from limit at stop m header text last w (nat_lt at limit) (goes_on stop) refl refl e

@@ -16,7 +16,8 @@ use Rattle.prem_wcet_laws.specs.Least.{own, own_jump}
 use Rattle.prem_wcet_laws.specs.Parted.{cuts, by_cut, Edge, no_edge, bottom_of, called_parted, turn_count}
 use Rattle.prem_wcet.specs.Same.{AreSame}
 use Rattle.prem_wcet.specs.Alike.{AreAlike, FactsAlike}
-use Rattle.prem_wcet.specs.Outlines.{Outline, ended, plain, calling, choice, turning, cut_in, front_in, edge_in, landing_in, between, data_between, below_in, callees_of, passage_in, choice_parted, first_place, second_place, inner_place, closed_in, parted_in, least_in}
+use Rattle.prem_wcet.specs.Outlines.{Outline, ended, plain, calling, choice, turning, cut_in, front_in, edge_in, landing_in, between, data_between, below_in, callees_of}
+use Rattle.prem_wcet.specs.Outlines.{passage_in, choice_parted, first_place, second_place, inner_place, closed_in, parted_in, least_in}
 use Rattle.prem_wcet.proofs.SameRanges.{same_append, same_lines}
 use Rattle.prem_wcet.proofs.AlikeScopes.{Alike, alike_sum, alike_min, alike_max, alike_product, other_scene, code_same, data_same, with_same, least_alike}
 
@@ -83,9 +84,11 @@ module _ (e : Scene) (parts : Parts) (plans : List Plan) (stub : ℕ → ℕ) (f
       let s : Span = between before o last in
       let held = same_lines e.plant.line (data_between e before o last) (data_between v before o last) (between_same before o last) in
       let lines = same_lines e.plant.line (code_ranges e at s ++ data_between e before o last) (code_ranges v at s ++ data_between v before o last)
-      (same_append (code_ranges e at s) (code_ranges v at s) (data_between e before o last) (data_between v before o last) (code_same e parts plans stub facts same pieces at s) (between_same before o last)) in
+      (same_append (code_ranges e at s) (code_ranges v at s) (data_between e before o last) (data_between v before o last)
+      (code_same e parts plans stub facts same pieces at s) (between_same before o last)) in
       alike_min _ _ _ _
-      (ap clipped (with_same e parts plans stub facts same pieces at s (lines_of e.plant.line (code_ranges e at s ++ data_between e before o last)) (lines_of e.plant.line (data_between e before o last))
+      (ap clipped (with_same e parts plans stub facts same pieces at s (lines_of e.plant.line (code_ranges e at s ++ data_between e before o last))
+      (lines_of e.plant.line (data_between e before o last))
       ∙ (λ i. charge_with v at s (lines i) (held i))))
       (alike_sum (own e before.pieces + least_in e (at + size_of before.pieces) o) (own e before.pieces + least_in v (at + size_of before.pieces) o) (own e last.pieces) (own e last.pieces)
       (alike_sum (own e before.pieces) (own e before.pieces) _ _ refl (least_alike e parts plans stub facts same pieces (at + size_of before.pieces) o)) refl)
@@ -133,7 +136,8 @@ module _ (e : Scene) (parts : Parts) (plans : List Plan) (stub : ℕ → ℕ) (f
       by_cut_alike (choice code names condition skips taken other ended) _ _ _ _
       (then_alike _ _ _ _
       (then_alike _ _ _ _ (same_count (quiet (own e condition)))
-      (choice_alike skips _ _ _ _ (then_alike _ _ _ _ (opening_alike one no_edge no_edge taken) (closed_alike no_edge one taken)) (then_alike _ _ _ _ (opening_alike two no_edge no_edge other) (closed_alike no_edge two other))))
+      (choice_alike skips _ _ _ _ (then_alike _ _ _ _ (opening_alike one no_edge no_edge taken) (closed_alike no_edge one taken))
+      (then_alike _ _ _ _ (opening_alike two no_edge no_edge other) (closed_alike no_edge two other))))
       (then_alike _ _ _ _ (opening_alike there no_edge last rest) (closed_alike last there rest)))
       (closed_alike last there rest)
   closed_alike last at (turning code names first turns head before body behind rest) =

@@ -41,7 +41,8 @@ behind_pieces w functions places known [] = known
 behind_pieces w functions places known (ps ∷ pss) =
     behind_pieces w functions places (known ++ weighted_from w (part_weight functions (weight_at known) (λ k. 0)) (places (code_part (length known))) ps ∷ []) pss
 
-by_pieces : (w : PlaceWeight) (functions : ℕ) (places : ℕ → ℕ) (fs : List Fact) (known : List ℕ) → places_behind w functions places known fs ≡ behind_pieces w functions places known (map (λ (f : Fact). f.pieces) fs)
+by_pieces : (w : PlaceWeight) (functions : ℕ) (places : ℕ → ℕ) (fs : List Fact) (known : List ℕ) →
+    places_behind w functions places known fs ≡ behind_pieces w functions places known (map (λ (f : Fact). f.pieces) fs)
 by_pieces w functions places [] known = refl
 by_pieces w functions places (f ∷ fs) known =
     by_pieces w functions places fs (known ++ weighted_from w (part_weight functions (weight_at known) (λ k. 0)) (places (code_part (length known))) f.pieces ∷ [])
@@ -58,7 +59,8 @@ module _ (e : Scene) (parts : Parts) (plans : List Plan) (stub : ℕ → ℕ) (f
   v = other_scene e parts plans stub facts
 
   pub code_same : (at : ℕ) (s : Span) → AreSame (code_ranges e at s) (code_ranges v at s)
-  code_same at s = same_append ((at, at + size_of s.pieces) ∷ []) ((at, at + size_of s.pieces) ∷ []) _ _ (λ p. refl) (same_flat (λ f. (fact_of e f).code) (λ f. (fact_of v f).code) (λ f. (same f).code) s.callees)
+  code_same at s = same_append ((at, at + size_of s.pieces) ∷ []) ((at, at + size_of s.pieces) ∷ []) _ _ (λ p. refl)
+      (same_flat (λ f. (fact_of e f).code) (λ f. (fact_of v f).code) (λ f. (same f).code) s.callees)
 
   pub data_same : (s : Span) → AreSame (data_ranges e s) (data_ranges v s)
   data_same s =
@@ -95,7 +97,9 @@ module _ (e : Scene) (parts : Parts) (plans : List Plan) (stub : ℕ → ℕ) (f
   turns_alike : (turns h a b : ℕ) → Alike a b → Alike (own_turns e turns (nonzero 10) h a) (own_turns v turns (nonzero 10) h b)
   turns_alike turns h a b f =
       let w : ℕ = job_weight e.plant (branch_of (nonzero 10)) in
-      alike_sum (turns * (h + w + a + own_jump e)) (turns * (h + w + b + own_jump e)) _ _ (alike_product turns (h + w + a + own_jump e) (h + w + b + own_jump e) (alike_sum (h + w + a) (h + w + b) _ _ (alike_sum (h + w) (h + w) a b refl f) refl)) refl
+      alike_sum (turns * (h + w + a + own_jump e)) (turns * (h + w + b + own_jump e)) _ _
+      (alike_product turns (h + w + a + own_jump e) (h + w + b + own_jump e)
+      (alike_sum (h + w + a) (h + w + b) _ _ (alike_sum (h + w) (h + w) a b refl f) refl)) refl
 
   pub apart_alike : (at : ℕ) (o : Outline) → Alike (apart_in e at o) (apart_in v at o)
   apart_alike at ended = refl
@@ -113,7 +117,8 @@ module _ (e : Scene) (parts : Parts) (plans : List Plan) (stub : ℕ → ℕ) (f
       alike_sum _ _ _ _
       (alike_min _ _ _ _ (ap clipped (charge_same at (coded_span code (choice code names condition skips taken other ended))))
       (alike_sum (own e condition) (own e condition) _ _ refl
-      (choice_alike skips _ _ _ _ (alike_min _ _ _ _ (ap clipped (charge_same one (span_in taken))) (apart_alike one taken)) (alike_min _ _ _ _ (ap clipped (charge_same two (span_in other))) (apart_alike two other)))))
+      (choice_alike skips _ _ _ _ (alike_min _ _ _ _ (ap clipped (charge_same one (span_in taken))) (apart_alike one taken))
+      (alike_min _ _ _ _ (ap clipped (charge_same two (span_in other))) (apart_alike two other)))))
       (apart_alike (at + size_of code) rest)
   apart_alike at (turning code names first turns head before body behind rest) =
       let one : ℕ = inner_place at first head before in

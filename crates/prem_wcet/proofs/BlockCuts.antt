@@ -9,7 +9,8 @@ use Rattle.prem_asm.specs.Pieces.{Pieces}
 use Rattle.prem_asm.specs.PiecesOf.{pieces_of}
 use Rattle.prem_tree.specs.declared.resolve.resolved.Step.{Step, Block, Row_of-Step, end_of-Step, more_of-Step, items-the_row-Step, items_hidden-the_row-Step-0}
 use Rattle.prem_tree.specs.declared.resolve.resolved.Step.TheBlock.{hidden-the_row-Step-0}
-use Rattle.prem_wcet.specs.declared.outline.Part.{Part, Plain as plain_part, Calling as calling_part, Choice, Turning, Row_of-Part, end_of-Part, more_of-Part, items-the_row-Part, items_hidden-the_row-Part-0}
+use Rattle.prem_wcet.specs.declared.outline.Part.{Part, Plain as plain_part, Calling as calling_part, Choice, Turning, Row_of-Part, end_of-Part, more_of-Part, items-the_row-Part}
+use Rattle.prem_wcet.specs.declared.outline.Part.{items_hidden-the_row-Part-0}
 use Rattle.prem_wcet.specs.declared.outline.Part.TheBlock.{hidden-the_row-Part-0}
 use Rattle.prem_wcet.specs.declared.outline.Part.TheVariants.{Plain, Calling, Choice', Turning'}
 use Rattle.prem_wcet.specs.Outlines.{Outline, ended, plain, calling, choice, turning}
@@ -72,9 +73,12 @@ choice_put xs ys code names condition skips taken other is =
     (ap (λ p. choice (pieces_of code.now) (items_of names) (pieces_of condition.now) skips p (row_before (hidden-the_row-Part-0 other.all) ended) ended) (sequence_listed taken)
     ∙ ap (λ q. choice (pieces_of code.now) (items_of names) (pieces_of condition.now) skips (parts_of (items_of taken)) q ended) (sequence_listed other))
 
-pub turning_put : (xs ys : List Part) (code : Bor (List Piece)) (names : Sequence ℕ) (first : Bor (List Piece)) (turns : ℕ) (head before : Bor (List Piece)) (body : Sequence Part) (behind : Bor (List Piece)) →
+pub turning_put : (xs ys : List Part) (code : Bor (List Piece)) (names : Sequence ℕ) (first : Bor (List Piece)) (turns : ℕ)
+    (head before : Bor (List Piece)) (body : Sequence Part) (behind : Bor (List Piece)) →
     ys ≡ xs ++ Turning code names first turns head before body behind ∷ [] →
-    parts_of ys ≡ joined (parts_of xs) (turning (pieces_of code.now) (items_of names) (pieces_of first.now) turns (pieces_of head.now) (pieces_of before.now) (parts_of (items_of body)) (pieces_of behind.now) ended)
+    parts_of ys ≡ joined (parts_of xs)
+    (turning (pieces_of code.now) (items_of names) (pieces_of first.now) turns (pieces_of head.now) (pieces_of before.now)
+    (parts_of (items_of body)) (pieces_of behind.now) ended)
 turning_put xs ys code names first turns head before body behind is =
     part_put xs ys (Turning code names first turns head before body behind) _ is
     (ap (λ p. turning (pieces_of code.now) (items_of names) (pieces_of first.now) turns (pieces_of head.now) (pieces_of before.now) p (pieces_of behind.now) ended) (sequence_listed body))

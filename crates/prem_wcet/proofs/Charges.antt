@@ -31,7 +31,8 @@ facts_pieces (f ∷ fs) [] le = absurd (omega arith)
 facts_pieces (f ∷ fs) (s ∷ ss) le = ap (λ pss. pieces_of (items_of s) ∷ pss) (facts_pieces fs ss (omega arith))
 
 -- weights of functions that an array tells
-pub path_told : (s : SceneTree) (w : PlaceWeight) (array : List ℕ) → length s.facts.now ≤ length s.code.now → TellsKnown array w s.places.now (listed s.code.now) (length s.facts.now) → (at : ℕ) (ps : Pieces) →
+pub path_told : (s : SceneTree) (w : PlaceWeight) (array : List ℕ) → length s.facts.now ≤ length s.code.now →
+    TellsKnown array w s.places.now (listed s.code.now) (length s.facts.now) → (at : ℕ) (ps : Pieces) →
     clipped (weighted_from w (part_weight (length s.code.now) (weight_at array) (λ k. 0)) at ps) ≡ clipped (path_weight (scene_in s) w at (bare_span ps))
 path_told s w array le tells at ps =
     let places : ℕ → ℕ = λ part. (place_at s.places.now part).0 in
@@ -49,19 +50,23 @@ pub charge_sum : (s : SceneTree) (w v : PlaceWeight) (array lines held : List �
     clipped (fills + sum) ≡ clipped (charge_with (scene_in s) at (bare_span ps) lines held)
 charge_sum s w v array lines held at room fills sum ps le same is tells rooms filled summed =
     let path = path_told s w array le tells at ps in
-    let path2 : clipped (weighted_from v (part_weight (length s.code.now) (weight_at array) (λ k. 0)) at ps) ≡ clipped (path_weight (scene_in s) (scope_weight s.plant.now lines (list_all (is_roomy s.plant.now lines) held)) at (bare_span ps)) =
-    ap (λ u. clipped (weighted_from u (part_weight (length s.code.now) (weight_at array) (λ k. 0)) at ps)) (sym same) ∙ path ∙ ap (λ u. clipped (path_weight (scene_in s) u at (bare_span ps))) (same ∙ is) in
+    let path2 : clipped (weighted_from v (part_weight (length s.code.now) (weight_at array) (λ k. 0)) at ps)
+    ≡ clipped (path_weight (scene_in s) (scope_weight s.plant.now lines (list_all (is_roomy s.plant.now lines) held)) at (bare_span ps)) =
+    ap (λ u. clipped (weighted_from u (part_weight (length s.code.now) (weight_at array) (λ k. 0)) at ps)) (sym same) ∙ path
+    ∙ ap (λ u. clipped (path_weight (scene_in s) u at (bare_span ps))) (same ∙ is) in
     let first : fills ≡ length (roomy_lines s.plant.now lines) * line_cost s.plant.now = filled ∙ ap (λ k. k * line_cost s.plant.now) rooms in
     together fills sum _ _ _ first summed path2 where
       together : (a b c d e : ℕ) → a ≡ c → b ≡ clipped d → clipped d ≡ clipped e → clipped (a + b) ≡ clipped (c + e)
       together a b c d e f g h = omega (arith, f, g, h)
 
 -- the ranges of statements, each kept once
-pub charge_told : (e : Scene) (at : ℕ) (o : Outline) (code touched : List Extent) (ps : Pieces) → code ≡ with_code e (extent_of at (code_of o) ∷ []) o → touched ≡ with_touched e e.stack o → ps ≡ code_of o →
+pub charge_told : (e : Scene) (at : ℕ) (o : Outline) (code touched : List Extent) (ps : Pieces) →
+    code ≡ with_code e (extent_of at (code_of o) ∷ []) o → touched ≡ with_touched e e.stack o → ps ≡ code_of o →
     charge_with e at (bare_span ps) (lines_of e.plant.line (code ++ touched)) (lines_of e.plant.line touched) ≡ charge e at (span_in o)
 charge_told e at o code touched ps run touch is =
     let s : Span = span_in o in
-    let all = same_append (with_code e (extent_of at (code_of o) ∷ []) o) (code_ranges e at s) (with_touched e e.stack o) (data_ranges e s) (code_same e (extent_of at (code_of o) ∷ []) o) (touched_same e e.stack o) in
+    let all = same_append (with_code e (extent_of at (code_of o) ∷ []) o) (code_ranges e at s) (with_touched e e.stack o) (data_ranges e s)
+    (code_same e (extent_of at (code_of o) ∷ []) o) (touched_same e e.stack o) in
     (λ i. charge_with e at (bare_span (is i)) (lines_of e.plant.line (run i ++ touch i)) (lines_of e.plant.line (touch i)))
     ∙ (λ i. charge_with e at s
     (same_lines e.plant.line (with_code e (extent_of at (code_of o) ∷ []) o ++ with_touched e e.stack o) (code_ranges e at s ++ data_ranges e s) all i)
@@ -70,7 +75,8 @@ charge_told e at o code touched ps run touch is =
 -- those of a function
 pub function_told : (e : Scene) (at : ℕ) (ps qs : Pieces) (o : Outline) (before behind : List ℕ) (code touched : List Extent) → code ≡ with_code e (extent_of at ps ∷ []) o →
     touched ≡ with_names e (with_names e (with_touched e e.stack o) before) behind → qs ≡ ps →
-    charge_with e at (bare_span qs) (lines_of e.plant.line (code ++ touched)) (lines_of e.plant.line touched) ≡ charge e at (record { pieces = ps; globals = before ++ (names_of o ++ behind); callees = callees_of o })
+    charge_with e at (bare_span qs) (lines_of e.plant.line (code ++ touched)) (lines_of e.plant.line touched)
+    ≡ charge e at (record { pieces = ps; globals = before ++ (names_of o ++ behind); callees = callees_of o })
 function_told e at ps qs o before behind code touched run touch is =
     let s : Span = record { pieces = ps; globals = before ++ (names_of o ++ behind); callees = callees_of o } in
     let all : List Extent = with_names e (with_names e (with_touched e e.stack o) before) behind in

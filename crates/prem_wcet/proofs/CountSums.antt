@@ -53,13 +53,16 @@ choice_told j skips product taken other jump skip first second sides last r p s 
     (either_both first _ second _ (then_told taken taken skip (quiet (skips * j)) first f (alike_same taken) (quiet_told skip product (skips * j) s p))
     (then_told jump (quiet j) other other second h (alike_is jump (quiet j) q) (alike_same other))))
 
-pub turn_told : (turns h j start leave : ℕ) (body begin jump back turn out r : Count) → start ≡ clipped (h + j) → jump ≡ quiet j → AreAlike back (then_count body jump) → begin ≡ quiet start → AreAlike turn (then_count begin back) →
+pub turn_told : (turns h j start leave : ℕ) (body begin jump back turn out r : Count) → start ≡ clipped (h + j) → jump ≡ quiet j →
+    AreAlike back (then_count body jump) → begin ≡ quiet start → AreAlike turn (then_count begin back) →
     leave ≡ clipped (start + j) → out ≡ quiet leave → AreAlike r (turned_count turns turn out) →
     AreAlike r (turned_count turns (then_count (quiet (h + j)) (then_count body (quiet j))) (quiet (h + j + j)))
 turn_told turns h j start leave body begin jump back turn out r s q b g t l o e =
     let all : leave ≡ clipped (h + j + j) = omega (arith, s, l) in
     alike_chain r (turned_count turns turn out) _ e
-    (turned_both turns turn _ out _ (then_told begin (quiet (h + j)) back _ turn t (quiet_told begin start (h + j) g s) (then_told body body jump (quiet j) back b (alike_same body) (alike_is jump (quiet j) q)))
+    (turned_both turns turn _ out _
+    (then_told begin (quiet (h + j)) back _ turn t (quiet_told begin start (h + j) g s)
+    (then_told body body jump (quiet j) back b (alike_same body) (alike_is jump (quiet j) q)))
     (quiet_told out leave (h + j + j) o all))
 
 -- ---- what is told alike of parts is of what is made of them
@@ -71,11 +74,14 @@ pub choice_alike : (w p j : ℕ) (a b x y : Count) → AreAlike a x → AreAlike
     AreAlike (then_count (quiet w) (either_count (then_count a (quiet p)) (then_count (quiet j) b))) (then_count (quiet w) (either_count (then_count x (quiet p)) (then_count (quiet j) y)))
 choice_alike w p j a b x y f g =
     then_both (quiet w) (quiet w) (either_count (then_count a (quiet p)) (then_count (quiet j) b)) (either_count (then_count x (quiet p)) (then_count (quiet j) y)) (alike_same (quiet w))
-    (either_both (then_count a (quiet p)) (then_count x (quiet p)) (then_count (quiet j) b) (then_count (quiet j) y) (then_both a x (quiet p) (quiet p) f (alike_same (quiet p))) (then_both (quiet j) (quiet j) b y (alike_same (quiet j)) g))
+    (either_both (then_count a (quiet p)) (then_count x (quiet p)) (then_count (quiet j) b) (then_count (quiet j) y)
+    (then_both a x (quiet p) (quiet p) f (alike_same (quiet p))) (then_both (quiet j) (quiet j) b y (alike_same (quiet j)) g))
 
 pub turn_alike : (turns w j head h : ℕ) (body x : Count) → clipped head ≡ clipped h → AreAlike body x →
-    AreAlike (turned_count turns (then_count (quiet (head + w)) (then_count body (quiet j))) (quiet (head + w + j))) (turned_count turns (then_count (quiet (h + w)) (then_count x (quiet j))) (quiet (h + w + j)))
+    AreAlike (turned_count turns (then_count (quiet (head + w)) (then_count body (quiet j))) (quiet (head + w + j)))
+    (turned_count turns (then_count (quiet (h + w)) (then_count x (quiet j))) (quiet (h + w + j)))
 turn_alike turns w j head h body x e f =
     turned_both turns (then_count (quiet (head + w)) (then_count body (quiet j))) (then_count (quiet (h + w)) (then_count x (quiet j))) (quiet (head + w + j)) (quiet (h + w + j))
-    (then_both (quiet (head + w)) (quiet (h + w)) (then_count body (quiet j)) (then_count x (quiet j)) (quiet_alike (head + w) (h + w) (omega (arith, e))) (then_both body x (quiet j) (quiet j) f (alike_same (quiet j))))
+    (then_both (quiet (head + w)) (quiet (h + w)) (then_count body (quiet j)) (then_count x (quiet j))
+    (quiet_alike (head + w) (h + w) (omega (arith, e))) (then_both body x (quiet j) (quiet j) f (alike_same (quiet j))))
     (quiet_alike (head + w + j) (h + w + j) (omega (arith, e)))

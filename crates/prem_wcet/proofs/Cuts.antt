@@ -18,7 +18,8 @@ use Rattle.prem_wcet.proofs.BlockCuts.{joined_none, joined_append}
 use Rattle.prem_wcet.proofs.Slices.{slices_are, steps_behind}
 
 mutual
-  behind_before : (target : Target) (turns : ℕ → ℕ) (m : ℕ) (s : Step) (rest : Steps) (ps : Pieces) → behind_steps target (step_before turns m s rest) ps ≡ behind_steps target rest (behind_step target s ps)
+  behind_before : (target : Target) (turns : ℕ → ℕ) (m : ℕ) (s : Step) (rest : Steps) (ps : Pieces) →
+      behind_steps target (step_before turns m s rest) ps ≡ behind_steps target rest (behind_step target s ps)
   behind_before target turns m (Block' shape body) rest ps = behind_row_before target turns m body rest ps
   behind_before target turns m (SetLocal at k value) rest ps = refl
   behind_before target turns m (SetScalar at g ty value) rest ps = refl
@@ -30,7 +31,8 @@ mutual
   behind_before target turns m (While' at most condition p body) rest ps = refl
   behind_before target turns m (Call at to callee arguments) rest ps = refl
 
-  behind_row_before : {l : _} (target : Target) (turns : ℕ → ℕ) (m : ℕ) (row : Row_of-Step l) (rest : Steps) (ps : Pieces) → behind_steps target (row_before turns m row rest) ps ≡ behind_steps target rest (behind_row target row ps)
+  behind_row_before : {l : _} (target : Target) (turns : ℕ → ℕ) (m : ℕ) (row : Row_of-Step l) (rest : Steps) (ps : Pieces) →
+      behind_steps target (row_before turns m row rest) ps ≡ behind_steps target rest (behind_row target row ps)
   behind_row_before target turns m end_of-Step rest ps = refl
   behind_row_before target turns m (more_of-Step first others) rest ps =
       behind_before target turns m first (row_before turns (m + loops_of first) others rest) ps ∙ behind_row_before target turns (m + loops_of first) others rest (behind_step target first ps)
@@ -48,7 +50,8 @@ mutual
       let inside : Pieces = behind_term target (term_of condition) ps in
       let one = sliced_before target turns m taken Done (first_side inside) ∙ joined_none (cut_step target taken (first_side inside)) in
       let two = sliced_before target turns (m + loops_of taken) other Done (second_side inside) ∙ joined_none (cut_step target other (second_side inside)) in
-      λ i. choice (before_pieces ps (tail_of inside)) (globals_in_term (term_of condition)) (before_pieces ps inside) (skip_words (second_side inside)) (one i) (two i) (sliced target rest (tail_of inside))
+      λ i. choice (before_pieces ps (tail_of inside)) (globals_in_term (term_of condition)) (before_pieces ps inside)
+      (skip_words (second_side inside)) (one i) (two i) (sliced target rest (tail_of inside))
   sliced_before target turns m (For' at k low closed high step p body) rest ps =
       let there : Pieces = tail_of (behind_term target (term_of low) ps) in
       let one = sliced_before target turns (m + 1) body Done (body_in there) ∙ joined_none (cut_step target body (body_in there)) in
@@ -64,7 +67,8 @@ mutual
       let terms : List Term = map term_of (items_of arguments) in
       let jump : Pieces = behind_terms target terms ps in
       let last : Pieces = behind_target to (tail_of jump) in
-      λ i. calling (before_pieces ps last) (globals_in_terms terms) (before_pieces ps jump) (length-map (items_of arguments) term_of i) callee (before_pieces (tail_of jump) last) (sliced target rest last)
+      λ i. calling (before_pieces ps last) (globals_in_terms terms) (before_pieces ps jump) (length-map (items_of arguments) term_of i) callee
+      (before_pieces (tail_of jump) last) (sliced target rest last)
 
   sliced_row : {l : _} (target : Target) (turns : ℕ → ℕ) (m : ℕ) (row : Row_of-Step l) (rest : Steps) (ps : Pieces) →
       sliced target (row_before turns m row rest) ps ≡ joined (cut_row target row ps) (sliced target rest (behind_row target row ps))

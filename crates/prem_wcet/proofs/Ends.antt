@@ -19,7 +19,8 @@ default_is set tasks h none =
     ∙ ap (λ (x : Option (Refusal LateRule)). late_refusal x) (none_passes (refused_by None (memory_rules set.plant (places_in set))) (placed_broken set (places_in set)) none)
     ∙ sym (none_passes (broken_early set) (late_refusal (placed_broken set (places_in set))) h.early)
 
-pub timed_default : (set : TaskSet) (tops : List ℕ) (tasks : List CodedTask) (parts : List PartSize) (layout : List Extent) (result : Result Timed Stop) → HasCode set tasks → parts ≡ parts_in set → layout ≡ default_places parts →
+pub timed_default : (set : TaskSet) (tops : List ℕ) (tasks : List CodedTask) (parts : List PartSize) (layout : List Extent)
+    (result : Result Timed Stop) → HasCode set tasks → parts ≡ parts_in set → layout ≡ default_places parts →
     refused_by None (memory_rules set.plant (default_places parts)) ≡ None → EndsTimedAt set layout tops result → EndsTimed set tops result
 timed_default set tops tasks parts layout result h are laid none ends =
     let kept : refused_by None (memory_rules set.plant (places_in set)) ≡ None = ap (λ (ps : List PartSize). refused_by None (memory_rules set.plant (default_places ps))) (sym are) ∙ none in

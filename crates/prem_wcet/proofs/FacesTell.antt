@@ -38,7 +38,8 @@ false_true e = cc
 
 -- ---- a marked call counts by the plan of its number
 
-first_told : (p : Plant) (b : Bool) (frame : ℕ) (lengths : List ℕ) (plans rest : List Plan) (others : ℕ) → length lengths ≡ length plans → length plans ≡ cond b 1 0 + others → is_some (face_if b frame lengths).stated ≡ true →
+first_told : (p : Plant) (b : Bool) (frame : ℕ) (lengths : List ℕ) (plans rest : List Plan) (others : ℕ) → length lengths ≡ length plans →
+    length plans ≡ cond b 1 0 + others → is_some (face_if b frame lengths).stated ≡ true →
     marked_count p (plan_stating (face_if b frame lengths) ∷ rest) 0 ≡ marked_count p (with_lengths lengths plans) 0
 first_told p false frame lengths plans rest others long count is = absurd (false_true is)
 first_told p true frame [] [] rest others long count is = absurd (omega (arith, count))
@@ -62,11 +63,14 @@ later_told p true rs others (n ∷ ns) (q ∷ qs) f each long count is =
     let one : suc (marked_before f others) ≡ 1 + marked_before f others = omega arith in
     each ns qs (omega (arith, long)) (omega (arith, count)) is ∙ ap (marked_count p (with_lengths (n ∷ ns) (q ∷ qs))) one
 
-stated_told : (p : Plant) (turns : ℕ → ℕ) (loops : ℕ) (rs : List RoutineTree) (lengths : List ℕ) (plans : List Plan) (f : ℕ) → length lengths ≡ length plans → length plans ≡ count_marked (routines_of turns loops rs) →
-    is_some (face_at (faces_in rs lengths) f).stated ≡ true → marked_count p (map plan_stating (faces_in rs lengths)) f ≡ marked_count p (with_lengths lengths plans) (marked_before f (routines_of turns loops rs))
+stated_told : (p : Plant) (turns : ℕ → ℕ) (loops : ℕ) (rs : List RoutineTree) (lengths : List ℕ) (plans : List Plan) (f : ℕ) →
+    length lengths ≡ length plans → length plans ≡ count_marked (routines_of turns loops rs) →
+    is_some (face_at (faces_in rs lengths) f).stated ≡ true →
+    marked_count p (map plan_stating (faces_in rs lengths)) f ≡ marked_count p (with_lengths lengths plans) (marked_before f (routines_of turns loops rs))
 stated_told p turns loops [] lengths plans f long count is = absurd (false_true is)
 stated_told p turns loops (r ∷ rs) lengths plans zero long count is =
-    first_told p (has_mark r) (frame_of_tree r) lengths plans (map plan_stating (faces_in rs (lengths_behind (has_mark r) lengths))) (count_marked (routines_of turns (loops + loops_of r.body) rs)) long count is
+    first_told p (has_mark r) (frame_of_tree r) lengths plans (map plan_stating (faces_in rs (lengths_behind (has_mark r) lengths)))
+    (count_marked (routines_of turns (loops + loops_of r.body) rs)) long count is
 stated_told p turns loops (r ∷ rs) lengths plans (suc f) long count is =
     later_told p (has_mark r) rs (routines_of turns (loops + loops_of r.body) rs) lengths plans f (λ ms qs a b c. stated_told p turns (loops + loops_of r.body) rs ms qs f a b c) long count is
 

@@ -33,7 +33,8 @@ use Rattle.prem_wcet.proofs.SameRanges.{same_append, same_lines}
 -- ---- the start as one scope
 
 -- the ranges of the start, each once, with those of `job`
-pub start_told : (e : Scene) (at job : ℕ) (code touched : List Extent) (ps : Pieces) → code ≡ with_ranges (extent_of at (start_code job) ∷ []) (fact_of e job).code → touched ≡ with_ranges [] (fact_of e job).touched → ps ≡ start_code job →
+pub start_told : (e : Scene) (at job : ℕ) (code touched : List Extent) (ps : Pieces) →
+    code ≡ with_ranges (extent_of at (start_code job) ∷ []) (fact_of e job).code → touched ≡ with_ranges [] (fact_of e job).touched → ps ≡ start_code job →
     charge_with e at (bare_span ps) (lines_of e.plant.line (code ++ touched)) (lines_of e.plant.line touched) ≡ charge (at_start e) at (job_span job)
 start_told e at job code touched ps run touch is =
     let v : Scene = at_start e in
@@ -56,7 +57,8 @@ job_cut e job start total n cuts es et en =
     en ∙ (λ i. clipped (es i + et i))
     ∙ ap clipped (sym (ap (λ b. cond b (own_start e + (fact_of e job).parted.total) (min (charge e (e.places start_part) (job_span job)) (own_start e + (fact_of e job).least))) cuts))
 
-pub job_quiet : (e : Scene) (job start least whole part n : ℕ) → (fact_of e job).cuts ≡ false → start ≡ own_start e → least ≡ (fact_of e job).least → whole ≡ clipped (charge e (e.places start_part) (job_span job)) →
+pub job_quiet : (e : Scene) (job start least whole part n : ℕ) → (fact_of e job).cuts ≡ false → start ≡ own_start e → least ≡ (fact_of e job).least →
+    whole ≡ clipped (charge e (e.places start_part) (job_span job)) →
     part ≡ clipped (start + least) → n ≡ min whole part → n ≡ clipped (job_by e job)
 job_quiet e job start least whole part n cuts es el ew ep en =
     sum (charge e (e.places start_part) (job_span job)) (own_start e) (fact_of e job).least es el ew ep en
@@ -65,11 +67,13 @@ job_quiet e job start least whole part n cuts es el ew ep en =
     sum : (c o l : ℕ) → start ≡ o → least ≡ l → whole ≡ clipped c → part ≡ clipped (start + least) → n ≡ min whole part → n ≡ clipped (min c (o + l))
     sum c o l a b d f g = omega (arith, a, b, d, f, g)
 
-pub cut_told : (e : Scene) (job jump done n : ℕ) (first parted last inside whole : SumsTree) → jump ≡ own_jump e → done ≡ job_weight e.plant PmDone → sums_of first ≡ taking jump → sums_of last ≡ taking done → sums_of parted ≡ (fact_of e job).parted.sums →
+pub cut_told : (e : Scene) (job jump done n : ℕ) (first parted last inside whole : SumsTree) → jump ≡ own_jump e → done ≡ job_weight e.plant PmDone →
+    sums_of first ≡ taking jump → sums_of last ≡ taking done → sums_of parted ≡ (fact_of e job).parted.sums →
     AreTold inside (chained (sums_of parted) (sums_of last)) → AreTold whole (chained (sums_of first) (sums_of inside)) → n ≡ greatest (sums_of whole) → clipped n ≡ clipped (cut_stretch e job)
 cut_told e job jump done n first parted last inside whole ej ed ef el ep ei ew en =
     let behind = ei ∙ (λ i. clipped_sums (chained (ep i) (el i))) ∙ ap (λ k. clipped_sums (chained (fact_of e job).parted.sums (taking k))) ed in
-    let all = ew ∙ chained_alike (sums_of first) (sums_of inside) (taking (own_jump e)) (chained (fact_of e job).parted.sums (taking (job_weight e.plant PmDone))) (ap clipped_sums ef ∙ ap (λ k. clipped_sums (taking k)) ej) behind in
+    let all = ew ∙ chained_alike (sums_of first) (sums_of inside) (taking (own_jump e))
+    (chained (fact_of e job).parted.sums (taking (job_weight e.plant PmDone))) (ap clipped_sums ef ∙ ap (λ k. clipped_sums (taking k)) ej) behind in
     ap clipped en ∙ greatest_alike (sums_of whole) (chained (taking (own_jump e)) (chained (fact_of e job).parted.sums (taking (job_weight e.plant PmDone)))) all
 
 pub stretch_cut : (e : Scene) (job n : ℕ) → (fact_of e job).cuts ≡ true → clipped n ≡ clipped (cut_stretch e job) → clipped n ≡ clipped (stretch_by e job)
@@ -103,7 +107,9 @@ module _ (p : Plant) (plans : List Plan) (program : Resolved) (t : TaskPlaces) (
 
   pub job_alike : Alike (job_by e program.job) (job_of v program)
   job_alike = by (fact_of e program.job).cuts (fact_of v program.job).cuts (each program.job).cuts where
-    by : (a b : Bool) → a ≡ b → Alike (cond a (own_start e + (fact_of e program.job).parted.total) (min (charge e (e.places start_part) (job_span program.job)) (own_start e + (fact_of e program.job).least)))
+    by : (a b : Bool) → a ≡ b → Alike
+        (cond a (own_start e + (fact_of e program.job).parted.total)
+        (min (charge e (e.places start_part) (job_span program.job)) (own_start e + (fact_of e program.job).least)))
         (cond b (own_start v + (fact_of v program.job).parted.total) (min (charge v (v.places start_part) (start_span program)) (own_start v + (fact_of v program.job).least)))
     by true true same = alike_sum _ _ _ _ (ap clipped start_is) (each program.job).parted.total
     by false false same =
@@ -114,10 +120,12 @@ module _ (p : Plant) (plans : List Plan) (program : Resolved) (t : TaskPlaces) (
 
   pub stretch_alike : Alike (stretch_by e program.job) (stretch_within v program)
   stretch_alike = by (fact_of e program.job).cuts (fact_of v program.job).cuts (each program.job).cuts where
-    sums_alike : clipped_sums (chained (taking (own_jump e)) (chained (fact_of e program.job).parted.sums (taking (job_weight e.plant PmDone)))) ≡ clipped_sums (chained (taking (own_jump v)) (chained (fact_of v program.job).parted.sums (taking (job_weight p PmDone))))
+    sums_alike : clipped_sums (chained (taking (own_jump e)) (chained (fact_of e program.job).parted.sums (taking (job_weight e.plant PmDone))))
+        ≡ clipped_sums (chained (taking (own_jump v)) (chained (fact_of v program.job).parted.sums (taking (job_weight p PmDone))))
     sums_alike =
         chained_alike (taking (own_jump e)) _ (taking (own_jump v)) _ (ap (λ (q : Plant). clipped_sums (taking (own_jump (record v { plant = q })))) plant)
-        (chained_alike (fact_of e program.job).parted.sums (taking (job_weight e.plant PmDone)) (fact_of v program.job).parted.sums (taking (job_weight p PmDone)) (each program.job).parted.sums (ap (λ (q : Plant). clipped_sums (taking (job_weight q PmDone))) plant))
+        (chained_alike (fact_of e program.job).parted.sums (taking (job_weight e.plant PmDone)) (fact_of v program.job).parted.sums
+        (taking (job_weight p PmDone)) (each program.job).parted.sums (ap (λ (q : Plant). clipped_sums (taking (job_weight q PmDone))) plant))
 
     by : (a b : Bool) → a ≡ b → Alike (cond a (cut_stretch e program.job) (job_by e program.job)) (cond b (cut_stretch v program.job) (job_of v program))
     by true true same = greatest_alike _ _ sums_alike
@@ -127,7 +135,8 @@ module _ (p : Plant) (plans : List Plan) (program : Resolved) (t : TaskPlaces) (
 
 -- ---- both with the switch before it
 
-pub times_sum : (switch whole stretch most job long stated wcet longest : ℕ) → whole ≡ clipped job → clipped stretch ≡ clipped long → most ≡ max stretch stated → wcet ≡ clipped (switch + whole) → longest ≡ clipped (switch + most) →
+pub times_sum : (switch whole stretch most job long stated wcet longest : ℕ) → whole ≡ clipped job → clipped stretch ≡ clipped long →
+    most ≡ max stretch stated → wcet ≡ clipped (switch + whole) → longest ≡ clipped (switch + most) →
     (wcet ≡ clipped (switch + job)) × (longest ≡ clipped (switch + max long stated))
 times_sum switch whole stretch most job long stated wcet longest ej es em ew el = (omega (arith, ej, ew), omega (arith, es, em, el))
 

@@ -53,7 +53,8 @@ exact_most switch told long stated n alike is small = omega (arith, alike, is, s
 -- a longest stretch is small where the bound of the job is
 longest_small : (p : Plant) (plans : List Plan) (t : CodeTable) → p.switch ≤ 10000 → greatest_stated plans < 2 ^ 32 → job_bound_of p plans t ≤ 2 ^ 40 → longest_of p plans t ≤ 2 ^ 40
 longest_small p plans t switch stated bound =
-    ⊎_elim (λ (lt : 2 ^ 40 < longest_of p plans t). (let large = longest_less p plans t switch stated lt in absurd (omega (arith, large, bound)))) (λ (le : longest_of p plans t ≤ 2 ^ 40). le) (cases_lt (2 ^ 40) (longest_of p plans t))
+    ⊎_elim (λ (lt : 2 ^ 40 < longest_of p plans t). (let large = longest_less p plans t switch stated lt in absurd (omega (arith, large, bound))))
+    (λ (le : longest_of p plans t ≤ 2 ^ 40). le) (cases_lt (2 ^ 40) (longest_of p plans t))
 
 module _ (p : Plant) (t : PlacedTask) (lengths : List ℕ) (whole : StandsWhole p t) (plant : IsPlant p) (count : length lengths ≡ length (plans_of t))
     (bound : job_bound_of p (with_lengths lengths (plans_of t)) (table_of t.table) ≤ 2 ^ 40) (short : greatest_length lengths < 2 ^ 32) where
@@ -93,7 +94,8 @@ module _ (p : Plant) (t : PlacedTask) (lengths : List ℕ) (whole : StandsWhole 
   pub wcet_told : (told n : ℕ) → Alike told (job_of (known_scene p plans program t.places) program) → n ≡ clipped (p.switch + told) → n ≡ wcet_of p plans program t.places
   wcet_told told n alike is = exact p.switch told (job_of (known_scene p plans program t.places) program) n alike is wcet_small
 
-  pub longest_told : (told n : ℕ) → Alike told (stretch_within (known_scene p plans program t.places) program) → n ≡ clipped (p.switch + max told (greatest_length lengths)) → n ≡ longest_wcet_of p plans program t.places
+  pub longest_told : (told n : ℕ) → Alike told (stretch_within (known_scene p plans program t.places) program) →
+      n ≡ clipped (p.switch + max told (greatest_length lengths)) → n ≡ longest_wcet_of p plans program t.places
   longest_told told n alike is =
       let v = known_scene p plans program t.places in
       let small = longest_few in

@@ -40,7 +40,8 @@ row_more (z ∷ zs) (y ∷ ys) (suc n) x h lt alike = (h.0, row_more zs ys n x h
 pub rows_more : (xs ys : List Fact) (n : ℕ) (x : Fact) → AlikeRows xs (take n ys) → n < length ys → FactsAlike x (slice_index_or ys n no_fact) → AlikeRows (xs ++ x ∷ []) (take (n + 1) ys)
 rows_more xs ys n x h lt alike = let next : suc n ≡ n + 1 = omega arith in subst (λ k. AlikeRows (xs ++ x ∷ []) (take k ys)) next (row_more xs ys n x h lt alike)
 
-pub facts_more : (fs : List FactTree) (x : FactTree) (code : List (Sequence Piece)) → length fs < length code → facts_in (fs ++ x ∷ []) code ≡ facts_in fs code ++ fact_in x (get_or (listed code) (length fs) no_pieces) ∷ []
+pub facts_more : (fs : List FactTree) (x : FactTree) (code : List (Sequence Piece)) → length fs < length code →
+    facts_in (fs ++ x ∷ []) code ≡ facts_in fs code ++ fact_in x (get_or (listed code) (length fs) no_pieces) ∷ []
 facts_more [] x [] lt = absurd (omega (arith, lt))
 facts_more [] x (s ∷ ss) lt = refl
 facts_more (f ∷ fs) x [] lt = absurd (omega (arith, lt))

@@ -24,11 +24,13 @@ use Rattle.prem_wcet.proofs.PlaceWeights.{size_followed}
 
 pub own_told : (rule : Scale) (p : Plant) → rule.access ≡ 2 * line_cost p → rule.other ≡ line_cost p → ((part : ℕ) → calls_by rule part ≡ 0) → (ps : Pieces) →
     weighted (weight_by rule) (calls_by rule) ps ≡ weighted (job_weight p) (λ part. 0) ps
-own_told rule p access other calls ps = λ i. weighted (λ x. (ap (λ a. with_misses a rule.other x) access ∙ ap (λ o. with_misses (2 * line_cost p) o x) other ∙ job_weights_same p x) i) (λ part. calls part i) ps
+own_told rule p access other calls ps = λ i. weighted
+    (λ x. (ap (λ a. with_misses a rule.other x) access ∙ ap (λ o. with_misses (2 * line_cost p) o x) other ∙ job_weights_same p x) i) (λ part. calls part i) ps
 
 -- ---- sums
 
-pub choice_sum : (w j skips taken other product first second : ℕ) → product ≡ clipped (skips * j) → first ≡ clipped (taken + product) → second ≡ clipped (j + other) → clipped (w + max first second) ≡ clipped (w + max (taken + skips * j) (j + other))
+pub choice_sum : (w j skips taken other product first second : ℕ) → product ≡ clipped (skips * j) → first ≡ clipped (taken + product) →
+    second ≡ clipped (j + other) → clipped (w + max first second) ≡ clipped (w + max (taken + skips * j) (j + other))
 choice_sum w j skips taken other product first second p f s = omega (arith, p, f, s)
 
 pub turns_sum : (turns w j head body start turn all : ℕ) → w ≡ j → start ≡ clipped (head + j) → turn ≡ clipped (clipped (start + body) + j) → all ≡ clipped (turns * turn) →
@@ -100,7 +102,8 @@ same_item [] n p q h e f = absurd (omega arith)
 same_item (x ∷ xs) zero p q h e f = e ∙ sym f
 same_item (x ∷ xs) (suc n) p q h e f = same_item xs n p q (omega arith) e f
 
-one_more : (whole divided smaller next sum w d x y a : ℕ) → whole ≡ clipped w → divided ≡ clipped d → smaller ≡ min whole divided → next ≡ clipped (sum + smaller) → a ≡ min w d + y → x ≡ y → clipped (next + x) ≡ clipped (sum + a)
+one_more : (whole divided smaller next sum w d x y a : ℕ) → whole ≡ clipped w → divided ≡ clipped d → smaller ≡ min whole divided →
+    next ≡ clipped (sum + smaller) → a ≡ min w d + y → x ≡ y → clipped (next + x) ≡ clipped (sum + a)
 one_more whole divided smaller next sum w d x y a e f g h i j = omega arith
 
 pub apart_step : (e : Scene) (place sum whole divided smaller next stand : ℕ) (ps : List Part) (n : ℕ) (p q : Part) → n < length ps → p ≡ get_or ps n p → q ≡ get_or ps n q →
@@ -108,7 +111,8 @@ pub apart_step : (e : Scene) (place sum whole divided smaller next stand : ℕ) 
     stand ≡ place + size_of (part_code q) → clipped (next + apart_in e stand (parts_of (drop (n + 1) ps))) ≡ clipped (sum + apart_in e place (parts_of (drop n ps)))
 apart_step e place sum whole divided smaller next stand ps n p q lt isp isq one two three four five =
     let rest : Outline = parts_of (drop (n + 1) ps) in
-    one_more whole divided smaller next sum (charge e place (span_in (part_of p))) (divided_in e place (part_of p)) (apart_in e stand rest) (apart_in e (place + size_of (part_code p)) rest) (apart_in e place (parts_of (drop n ps)))
+    one_more whole divided smaller next sum (charge e place (span_in (part_of p))) (divided_in e place (part_of p)) (apart_in e stand rest)
+    (apart_in e (place + size_of (part_code p)) rest) (apart_in e place (parts_of (drop n ps)))
     (one ∙ ap (λ o. clipped (charge e place (span_in o))) (taken_one ps n p lt isp)) two three four
     (ap (apart_in e place) (drop_part ps n p lt isp) ∙ apart_before e place p rest)
     (ap (λ k. apart_in e k rest) (five ∙ ap (λ x. place + size_of (part_code x)) (same_item ps n q p lt isq isp)))
@@ -121,7 +125,8 @@ choice_parts w p j a b x y e f = omega arith
 both_told : (r o q big one two : ℕ) → r ≡ clipped (o + q) → o ≡ clipped one → q ≡ clipped big → clipped big ≡ clipped two → r ≡ clipped (one + two)
 both_told r o q big one two e f g h = omega arith
 
-pub choice_told : (e : Scene) (skips first second x y condition own_one result sides : ℕ) → first ≡ clipped x → second ≡ clipped y → result ≡ clipped (own_one + sides) → own_one ≡ clipped condition → sides ≡ clipped (choice_by e skips first second) →
+pub choice_told : (e : Scene) (skips first second x y condition own_one result sides : ℕ) → first ≡ clipped x → second ≡ clipped y →
+    result ≡ clipped (own_one + sides) → own_one ≡ clipped condition → sides ≡ clipped (choice_by e skips first second) →
     result ≡ clipped (condition + choice_by e skips x y)
 choice_told e skips first second x y condition own_one result sides f s r o c =
     both_told result own_one sides (choice_by e skips first second) condition (choice_by e skips x y) r o c
@@ -130,7 +135,8 @@ choice_told e skips first second x y condition own_one result sides f s r o c =
 turn_parts : (w j head body x h : ℕ) → head ≡ clipped h → clipped body ≡ clipped x → clipped (head + w + body + j) ≡ clipped (h + w + x + j)
 turn_parts w j head body x h e f = omega arith
 
-pub turns_told : (e : Scene) (turns head body h x first own_first all result : ℕ) → head ≡ clipped h → clipped body ≡ clipped x → all ≡ clipped (own_turns e turns (nonzero 10) head body) → own_first ≡ clipped first → result ≡ clipped (own_first + all) →
+pub turns_told : (e : Scene) (turns head body h x first own_first all result : ℕ) → head ≡ clipped h → clipped body ≡ clipped x →
+    all ≡ clipped (own_turns e turns (nonzero 10) head body) → own_first ≡ clipped first → result ≡ clipped (own_first + all) →
     result ≡ clipped (first + own_turns e turns (nonzero 10) h x)
 turns_told e turns head body h x first own_first all result f b a o r =
     let w : ℕ = job_weight e.plant (branch_of (nonzero 10)) in
@@ -139,12 +145,16 @@ turns_told e turns head body h x first own_first all result f b a o r =
     sym (clipped_times turns (head + w + body + j) (2 ^ 41)) ∙ ap (λ k. clipped (turns * k)) (turn_parts w j head body x h f b) ∙ clipped_times turns (h + w + x + j) (2 ^ 41) in
     both_told result own_first all (own_turns e turns (nonzero 10) head body) first (own_turns e turns (nonzero 10) h x) r o a
     (last (turns * (head + w + body + j)) (turns * (h + w + x + j)) product) where
-      last : (y z : ℕ) → clipped y ≡ clipped z → clipped (y + (head + job_weight e.plant (branch_of (nonzero 10)) + own_jump e)) ≡ clipped (z + (h + job_weight e.plant (branch_of (nonzero 10)) + own_jump e))
+      last : (y z : ℕ) → clipped y ≡ clipped z →
+          clipped (y + (head + job_weight e.plant (branch_of (nonzero 10)) + own_jump e))
+          ≡ clipped (z + (h + job_weight e.plant (branch_of (nonzero 10)) + own_jump e))
       last y z e' = omega (arith, e', f)
 
-pub body_told : (before inside behind one two b i c : ℕ) → before ≡ clipped b → inside ≡ clipped i → behind ≡ clipped c → one ≡ clipped (before + inside) → two ≡ clipped (one + behind) → clipped two ≡ clipped (b + i + c)
+pub body_told : (before inside behind one two b i c : ℕ) → before ≡ clipped b → inside ≡ clipped i → behind ≡ clipped c →
+    one ≡ clipped (before + inside) → two ≡ clipped (one + behind) → clipped two ≡ clipped (b + i + c)
 body_told before inside behind one two b i c e f g h k = omega arith
 
-pub function_sum : (whole entry leaving around inside divided least c a b l : ℕ) → whole ≡ clipped c → entry ≡ clipped a → leaving ≡ clipped b → around ≡ clipped (entry + leaving) → inside ≡ clipped l → divided ≡ clipped (around + inside) → least ≡ min whole divided →
+pub function_sum : (whole entry leaving around inside divided least c a b l : ℕ) → whole ≡ clipped c → entry ≡ clipped a → leaving ≡ clipped b →
+    around ≡ clipped (entry + leaving) → inside ≡ clipped l → divided ≡ clipped (around + inside) → least ≡ min whole divided →
     least ≡ clipped (min c (a + b + l))
 function_sum whole entry leaving around inside divided least c a b l e f g h i j k = omega arith

@@ -139,27 +139,34 @@ module _ (p : Plant) (t : PlacedTask) (whole : StandsWhole p t) where
     body_fits = function_fits v f o at is_function function_ends
 
     pub body_below : (s : Scene) (base : ℕ) (b : Bool) → s.stack ≡ stack_by t.places base b ∷ [] → BelowFits s (outline_in (items_of o.body))
-    body_below s base b stack = function_below v f s o is_function (room (bottom_of s.stack) (size_of (function_code v.parts f)) (subst (λ rs. bottom_of rs ≤ 2 ^ 24) (sym stack) (low b)) (ap size_of is_code)) where
-      low : (b : Bool) → (stack_by t.places base b).0 ≤ 2 ^ 24
-      low true = let h = whole.stack in omega (arith, h)
-      low false = whole.low
+    body_below s base b stack = function_below v f s o is_function
+        (room (bottom_of s.stack) (size_of (function_code v.parts f)) (subst (λ rs. bottom_of rs ≤ 2 ^ 24) (sym stack) (low b)) (ap size_of is_code)) where
+          low : (b : Bool) → (stack_by t.places base b).0 ≤ 2 ^ 24
+          low true = let h = whole.stack in omega (arith, h)
+          low false = whole.low
 
-      room : (x k : ℕ) → x ≤ 2 ^ 24 → size_of ps ≡ k → x + 4 + k < 2 ^ 32
-      room x k le e = omega (arith, le, e, near)
+          room : (x k : ℕ) → x ≤ 2 ^ 24 → size_of ps ≡ k → x + 4 + k < 2 ^ 32
+          room x k le e = omega (arith, le, e, near)
 
 -- the code of a number
-pub pieces_there : (t : PlacedTask) (n : ℕ) (codes : List (Sequence Piece)) (x : Sequence Piece) (pieces : List Piece) → n < length (items_of t.table.code) → codes ≡ items_of t.table.code → x ≡ get_or codes n x → pieces ≡ items_of x →
+pub pieces_there : (t : PlacedTask) (n : ℕ) (codes : List (Sequence Piece)) (x : Sequence Piece) (pieces : List Piece) →
+    n < length (items_of t.table.code) → codes ≡ items_of t.table.code → x ≡ get_or codes n x → pieces ≡ items_of x →
     pieces_of pieces ≡ get_or (listed (items_of t.table.code)) n no_pieces
 pieces_there t n codes x pieces lt are is items = ap pieces_of items ∙ sym (listed_item (items_of t.table.code) n x lt (is ∙ ap (λ xs. get_or xs n x) are))
 
 -- what is told of the next function, in the scene that memory has
-pub next_told : (p : Plant) (t : PlacedTask) (faces faces2 : List Face) (facts facts2 : List FactTree) (codes : List (Sequence Piece)) (stack : Extent) (n at : ℕ) (r : RoutineTree) (ps : Pieces) (o : OutlineTree) (fact : FactTree) →
-    n ≡ length facts → slice_get (routines_of t) n ≡ Some r → codes ≡ items_of t.table.code → faces2 ≡ faces → facts2 ≡ facts → stack ≡ stack_by t.places (face_at faces t.program.now.job).frame (length facts == t.program.now.job) →
-    at ≡ (place_at t.places (1 + n)).0 → ps ≡ get_or (listed (items_of t.table.code)) n no_pieces → IsOutline p.target r ps o → IsFact (memory_scene p t.places codes faces2 stack facts2) at ps o fact → IsNextFact p t faces facts fact
+pub next_told : (p : Plant) (t : PlacedTask) (faces faces2 : List Face) (facts facts2 : List FactTree) (codes : List (Sequence Piece))
+    (stack : Extent) (n at : ℕ) (r : RoutineTree) (ps : Pieces) (o : OutlineTree) (fact : FactTree) →
+    n ≡ length facts → slice_get (routines_of t) n ≡ Some r → codes ≡ items_of t.table.code → faces2 ≡ faces → facts2 ≡ facts →
+    stack ≡ stack_by t.places (face_at faces t.program.now.job).frame (length facts == t.program.now.job) →
+    at ≡ (place_at t.places (1 + n)).0 → ps ≡ get_or (listed (items_of t.table.code)) n no_pieces → IsOutline p.target r ps o →
+    IsFact (memory_scene p t.places codes faces2 stack facts2) at ps o fact → IsNextFact p t faces facts fact
 next_told p t faces faces2 facts facts2 codes stack n at r ps o fact count there code_is faces_are facts_are stack_is at_is ps_is cut told =
     let ps_same : ps ≡ get_or (listed (items_of t.table.code)) (length facts) no_pieces = ps_is ∙ ap (λ k. get_or (listed (items_of t.table.code)) k no_pieces) count in
     let at_same : at ≡ (place_at t.places (1 + length facts)).0 = at_is ∙ ap (λ k. (place_at t.places (1 + k)).0) count in
-    let scene_same : memory_scene p t.places codes faces2 stack facts2 ≡ memory_scene p t.places (items_of t.table.code) faces (stack_by t.places (face_at faces t.program.now.job).frame (length facts == t.program.now.job)) facts =
+    let scene_same : memory_scene p t.places codes faces2 stack facts2
+    ≡ memory_scene p t.places (items_of t.table.code) faces
+    (stack_by t.places (face_at faces t.program.now.job).frame (length facts == t.program.now.job)) facts =
     λ i. memory_scene p t.places (code_is i) (faces_are i) (stack_is i) (facts_are i) in
     record {
       routine = r;
@@ -189,17 +196,20 @@ module _ (p : Plant) (t : PlacedTask) (lengths : List ℕ) (whole : StandsWhole 
   all = task_facts p task_plans task_program t.places
 
   all_long : length all ≡ length task_code
-  all_long = behind_long (scene_of p task_plans task_program t.places) (stack_of task_program t.places) [] task_program.routines ∙ none (length task_program.routines) ∙ sym (code_count p t whole) where
-    none : (n : ℕ) → 0 + n ≡ n
-    none n = omega arith
+  all_long = behind_long (scene_of p task_plans task_program t.places) (stack_of task_program t.places) [] task_program.routines
+      ∙ none (length task_program.routines) ∙ sym (code_count p t whole) where
+        none : (n : ℕ) → 0 + n ≡ n
+        none n = omega arith
 
-  fact_there : (n : ℕ) (f : Routine) → slice_get task_program.routines n ≡ Some f → slice_index_or all n no_fact ≡ fact_at (task_scene p task_plans task_program t.places n) f (place_at t.places (1 + n)).0
+  fact_there : (n : ℕ) (f : Routine) → slice_get task_program.routines n ≡ Some f →
+      slice_index_or all n no_fact ≡ fact_at (task_scene p task_plans task_program t.places n) f (place_at t.places (1 + n)).0
   fact_there n f is =
       let base : Scene = scene_of p task_plans task_program t.places in
       let none : 0 + n ≡ n = omega arith in
       subst (λ k. IsFactAt base (stack_of task_program t.places) all k f) none (each_fact base (stack_of task_program t.places) task_program.routines [] n f is)
 
-  pub next_alike : (facts : List FactTree) (fact : FactTree) → AlikeRows (facts_in facts task_code) (take (length facts) all) → length facts < length task_code → IsNextFact p t (faces_in (routines_of t) lengths) facts fact →
+  pub next_alike : (facts : List FactTree) (fact : FactTree) → AlikeRows (facts_in facts task_code) (take (length facts) all) →
+      length facts < length task_code → IsNextFact p t (faces_in (routines_of t) lengths) facts fact →
       FactsAlike (fact_in fact (get_or (listed task_code) (length facts) no_pieces)) (slice_index_or all (length facts) no_fact)
   next_alike facts fact rows lt next =
       let n : ℕ = length facts in
@@ -209,7 +219,8 @@ module _ (p : Plant) (t : PlacedTask) (lengths : List ℕ) (whole : StandsWhole 
       let v : Scene = task_scene p task_plans task_program t.places n in
       let ps : Pieces = get_or (listed task_code) n no_pieces in
       let at : ℕ = (place_at t.places (1 + n)).0 in
-      let e : Scene = memory_scene p t.places task_code (faces_in (routines_of t) lengths) (stack_by t.places (face_at (faces_in (routines_of t) lengths) task_program.job).frame (n == task_program.job)) facts in
+      let e : Scene = memory_scene p t.places task_code (faces_in (routines_of t) lengths)
+      (stack_by t.places (face_at (faces_in (routines_of t) lengths) task_program.job).frame (n == task_program.job)) facts in
       let stands : StandsFor e v = stands_at p t lengths whole long n (n == task_program.job) facts refl (less n (length task_code) (length task_program.routines) lt (code_count p t whole)) rows in
       let function : IsFunction v f next.told.outline = functions_are_cut v (slice_index t.turns.now) one.loops r ps next.told.outline one.code_is next.told.cut in
       subst (FactsAlike (fact_in fact ps)) (sym (fact_there n f one.routine)) (fact_alike e v stands f at ps next.told.outline one.code_is function fact next.told.told)
@@ -218,14 +229,16 @@ module _ (p : Plant) (t : PlacedTask) (lengths : List ℕ) (whole : StandsWhole 
       less n c k lt e = omega (arith, lt, e)
 
   -- one more is known
-  pub known_more : (n : ℕ) (facts more : List FactTree) (fact : FactTree) (costs after : List ℕ) (cost : ℕ) → n < length task_code → AreKnownTo p task_plans task_program t.places task_code n facts costs → IsNextFact p t (faces_in (routines_of t) lengths) facts fact →
+  pub known_more : (n : ℕ) (facts more : List FactTree) (fact : FactTree) (costs after : List ℕ) (cost : ℕ) → n < length task_code →
+      AreKnownTo p task_plans task_program t.places task_code n facts costs → IsNextFact p t (faces_in (routines_of t) lengths) facts fact →
       cost ≡ next_cost_of t costs (length facts) → more ≡ facts ++ fact ∷ [] → after ≡ slice_set costs (length facts) cost → AreKnownTo p task_plans task_program t.places task_code (n + 1) more after
   known_more n facts more fact costs after cost lt known next is put set =
       let same : length facts ≡ n = known.long in
       let inside : length facts < length task_code = omega (arith, lt, same) in
       let few : length task_code ≤ 256 = whole.task.table.code in
       let rows : AlikeRows (facts_in facts task_code) (take (length facts) all) = subst (λ k. AlikeRows (facts_in facts task_code) (take k all)) (sym same) known.rows in
-      let next_rows = rows_more (facts_in facts task_code) all (length facts) (fact_in fact (get_or (listed task_code) (length facts) no_pieces)) rows (omega (arith, inside, all_long)) (next_alike facts fact rows inside next) in
+      let next_rows = rows_more (facts_in facts task_code) all (length facts) (fact_in fact (get_or (listed task_code) (length facts) no_pieces)) rows
+      (omega (arith, inside, all_long)) (next_alike facts fact rows inside next) in
       let count : length (listed task_code) ≡ length task_code = listed_long task_code in
       record {
         long = ap length put ∙ length-append facts (fact ∷ []) ∙ ap (λ k. k + 1) same;
@@ -233,9 +246,11 @@ module _ (p : Plant) (t : PlacedTask) (lengths : List ℕ) (whole : StandsWhole 
             (subst (λ k. AlikeRows (facts_in facts task_code ++ fact_in fact (get_or (listed task_code) (length facts) no_pieces) ∷ []) (take (k + 1) all)) same next_rows);
         told = subst (λ array. TellsKnown array (λ at. cost_of) t.places (listed task_code) (n + 1)) (sym set)
             (subst (λ k. TellsKnown (slice_set costs (length facts) cost) (λ at. cost_of) t.places (listed task_code) (k + 1)) same
-            (function_more (λ at. cost_of) (length (listed task_code)) (λ part. (place_at t.places part).0) (listed task_code) (get_or (listed task_code) (length facts) no_pieces) (length facts) cost costs
+            (function_more (λ at. cost_of) (length (listed task_code)) (λ part. (place_at t.places part).0) (listed task_code)
+            (get_or (listed task_code) (length facts) no_pieces) (length facts) cost costs
             (omega (arith, inside, count)) (omega (arith, inside, few)) refl (subst (TellsKnown costs (λ at. cost_of) t.places (listed task_code)) (sym same) known.told)
-            (is ∙ (λ i. clipped (weighted_from (λ at. cost_of) (part_weight (sym count i) (weight_at costs) (λ k. 0)) (place_at t.places (1 + length facts)).0 (get_or (listed task_code) (length facts) no_pieces))))));
+            (is ∙ (λ i. clipped (weighted_from (λ at. cost_of) (part_weight (sym count i) (weight_at costs) (λ k. 0))
+            (place_at t.places (1 + length facts)).0 (get_or (listed task_code) (length facts) no_pieces))))));
       }
 
   -- none are
@@ -243,7 +258,8 @@ module _ (p : Plant) (t : PlacedTask) (lengths : List ℕ) (whole : StandsWhole 
   known_none facts is = record { long = ap length is; rows = subst (λ xs. AlikeRows (facts_in xs task_code) (take 0 all)) (sym is) tt; told = none_told 256 }
 
   -- all are known
-  pub all_known : (n : ℕ) (facts : List FactTree) (costs : List ℕ) → n ≡ length task_code → AreKnownTo p task_plans task_program t.places task_code n facts costs → AreKnown p task_plans task_program t.places task_code facts costs
+  pub all_known : (n : ℕ) (facts : List FactTree) (costs : List ℕ) → n ≡ length task_code →
+      AreKnownTo p task_plans task_program t.places task_code n facts costs → AreKnown p task_plans task_program t.places task_code facts costs
   all_known n facts costs is known =
       let rows : AlikeRows (facts_in facts task_code) all = subst (AlikeRows (facts_in facts task_code)) (take_whole all n (omega (arith, all_long, is))) known.rows in
       record {
@@ -259,4 +275,14 @@ pub free_none : (p : Plant) (c : Crowd) → IsPlant p → IsCrowd p [] [] c → 
 free_none p c plant is =
     let free : Crowd = record c { alone = true } in
     free_is p [] [] free plant
-    (record { line = is.line; sets = is.sets; room = is.room; miss = is.miss; counts = is.counts; roomy = is.roomy; held = is.held; small = is.small; alone = λ e n. le-leb 0 p.«ways» (omega arith) }) refl
+    (record {
+      line = is.line;
+      sets = is.sets;
+      room = is.room;
+      miss = is.miss;
+      counts = is.counts;
+      roomy = is.roomy;
+      held = is.held;
+      small = is.small;
+      alone = λ e n. le-leb 0 p.«ways» (omega arith);
+    }) refl

@@ -37,7 +37,8 @@ is_it r x is = λ i. (eqb-true x.0 r.0 (and_parts _ _ is).0 i, eqb-true x.1 r.1 
 found : (p : Extent → Bool) (r : Extent) (rs : List Extent) → list_any (is_range r) rs ≡ true → list_any p rs ≡ list_any p rs || p r
 found p r [] is = absurd (false_true is)
 found p r (x ∷ xs) is = by_first (is_range r x) refl is (found p r xs) where
-  by_first : (b : Bool) → is_range r x ≡ b → (b || list_any (is_range r) xs) ≡ true → (list_any (is_range r) xs ≡ true → list_any p xs ≡ list_any p xs || p r) → p x || list_any p xs ≡ (p x || list_any p xs) || p r
+  by_first : (b : Bool) → is_range r x ≡ b → (b || list_any (is_range r) xs) ≡ true →
+      (list_any (is_range r) xs ≡ true → list_any p xs ≡ list_any p xs || p r) → p x || list_any p xs ≡ (p x || list_any p xs) || p r
   by_first true same e rest = ap (λ y. p y || list_any p xs) (is_it r x same) ∙ or_twice (p r) (list_any p xs) ∙ ap (λ y. (p y || list_any p xs) || p r) (sym (is_it r x same))
   by_first false same e rest = ap (λ b. p x || b) (rest e) ∙ sym (or_assoc (p x) (list_any p xs) (p r))
 
@@ -164,14 +165,16 @@ module _ (e : Scene) (p : Extent → Bool) where
       ∙ ap (λ b. b || (N (names_of other) || C (callees_of other))) (touched_any (with_names e rs names) taken ∙ ap (λ b. b || (N (names_of taken) || C (callees_of taken))) (names_any rs names)))
       ∙ sides (list_any p rs) (N names) (N (names_of taken)) (C (callees_of taken)) (N (names_of other)) (C (callees_of other)) (N (names_of rest)) (C (callees_of rest))
       ∙ (λ i. list_any p rs
-      || (sym (N_more names (names_of taken ++ (names_of other ++ names_of rest)) (N (names_of taken) || (N (names_of other) || N (names_of rest))) (N_more (names_of taken) (names_of other ++ names_of rest) (N (names_of other) || N (names_of rest)) (N_append (names_of other) (names_of rest)))) i
+      || (sym (N_more names (names_of taken ++ (names_of other ++ names_of rest)) (N (names_of taken) || (N (names_of other) || N (names_of rest)))
+      (N_more (names_of taken) (names_of other ++ names_of rest) (N (names_of other) || N (names_of rest)) (N_append (names_of other) (names_of rest)))) i
       || sym (C_more (callees_of taken) (callees_of other ++ callees_of rest) (C (callees_of other) || C (callees_of rest)) (C_append (callees_of other) (callees_of rest))) i))
   touched_any rs (turning code names first turns head before body behind rest) =
       touched_any (with_touched e (with_names e rs names) body) rest
       ∙ ap (λ b. b || (N (names_of rest) || C (callees_of rest))) (touched_any (with_names e rs names) body ∙ ap (λ b. b || (N (names_of body) || C (callees_of body))) (names_any rs names))
       ∙ inside (list_any p rs) (N names) (N (names_of body)) (C (callees_of body)) (N (names_of rest)) (C (callees_of rest))
       ∙ (λ i. list_any p rs
-      || (sym (N_more names (names_of body ++ names_of rest) (N (names_of body) || N (names_of rest)) (N_append (names_of body) (names_of rest))) i || sym (C_append (callees_of body) (callees_of rest)) i))
+      || (sym (N_more names (names_of body ++ names_of rest) (N (names_of body) || N (names_of rest)) (N_append (names_of body) (names_of rest)))
+      i || sym (C_append (callees_of body) (callees_of rest)) i))
 
 pub code_same : (e : Scene) (rs : List Extent) (o : Outline) → AreSame (with_code e rs o) (rs ++ flat_map (λ f. (fact_of e f).code) (callees_of o))
 code_same e rs o = λ p. code_any e p rs o ∙ sym (list_any-append p rs (flat_map (λ f. (fact_of e f).code) (callees_of o)))

@@ -46,7 +46,9 @@ bare_weight ps =
     let none : (k : ℕ) → Alike (weight_at (replicate 256 0) k) 0 = λ k. tells_alike 256 (replicate 256 0) (λ j. 0) (none_told 256) k in
     bare none
   where
-    bare : ((k : ℕ) → Alike (weight_at (replicate 256 0) k) 0) → clipped (weighted (with_misses 0 0) (part_weight 0 (weight_at (replicate 256 0)) (weight_at (replicate 256 0))) ps) ≡ clipped (weighted cost_of (λ part. 0) ps)
+    bare : ((k : ℕ) → Alike (weight_at (replicate 256 0) k) 0) →
+        clipped (weighted (with_misses 0 0) (part_weight 0 (weight_at (replicate 256 0)) (weight_at (replicate 256 0))) ps)
+        ≡ clipped (weighted cost_of (λ part. 0) ps)
     bare none =
         let calls : (p : ℕ) → Alike (part_weight 0 (weight_at (replicate 256 0)) (weight_at (replicate 256 0)) p) 0 =
         λ p. part_alike 0 (weight_at (replicate 256 0)) (λ k. 0) (weight_at (replicate 256 0)) (λ k. 0) none none p ∙ ap clipped (calls_none p) in
@@ -70,12 +72,14 @@ stub_cost p t plan = by (stub_passes p)
         let prefetch : Pieces = passes_code passes p.line (ranges_of t plan) no_pieces in
         let tail : Pieces = straight (address_code 5 plan.stated ++ PmExec 5 ∷ []) (call_to 1 (code_part plan.function) (straight (PmEnd ∷ []) no_pieces)) in
         let opened : C (passes_code passes p.line (ranges_of t plan) (straight (address_code 5 plan.stated) no_pieces)) ≡ C prefetch + C (straight (address_code 5 plan.stated) no_pieces) =
-        ap C (sym (passes_before passes p.line (ranges_of t plan) (straight (address_code 5 plan.stated) no_pieces))) ∙ weighted-followed cost_of (λ part. 0) prefetch (straight (address_code 5 plan.stated) no_pieces) in
+        ap C (sym (passes_before passes p.line (ranges_of t plan) (straight (address_code 5 plan.stated) no_pieces)))
+        ∙ weighted-followed cost_of (λ part. 0) prefetch (straight (address_code 5 plan.stated) no_pieces) in
         let whole : C (predictable_code passes p.line (ranges_of t plan) plan.stated (code_part plan.function)) ≡ C prefetch + C tail =
         ap C (sym (passes_before passes p.line (ranges_of t plan) tail)) ∙ weighted-followed cost_of (λ part. 0) prefetch tail in
         let around = weighted-followed cost_of (λ part. 0) (predictable_code passes p.line (ranges_of t plan) plan.stated (code_part plan.function)) (straight return_code no_pieces) in
         stub_sum (C (stub_of passes p.line t plan)) (C (passes_code passes p.line (ranges_of t plan) (straight (address_code 5 plan.stated) no_pieces))) (C prefetch)
-        (C (predictable_code passes p.line (ranges_of t plan) plan.stated (code_part plan.function))) (C (followed (predictable_code passes p.line (ranges_of t plan) plan.stated (code_part plan.function)) (straight return_code no_pieces)))
+        (C (predictable_code passes p.line (ranges_of t plan) plan.stated (code_part plan.function)))
+        (C (followed (predictable_code passes p.line (ranges_of t plan) plan.stated (code_part plan.function)) (straight return_code no_pieces)))
         around whole opened refl
 
 -- neither part passes what sums tell

@@ -31,7 +31,8 @@ code_is e n (If pl condition taken other rest) =
     let m : ℕ = n + counters_in taken + counters_in other in
     let one : Pieces = steps_code e.parts n taken in
     let two : Pieces = steps_code e.parts (n + counters_in taken) other in
-    followed_append (term_of e 10 condition) (either (nonzero 10) one two no_pieces) (code_of (outline_of e m rest)) ∙ ap (λ ps. followed (term_of e 10 condition) (either (nonzero 10) one two ps)) (code_is e m rest)
+    followed_append (term_of e 10 condition) (either (nonzero 10) one two no_pieces) (code_of (outline_of e m rest))
+    ∙ ap (λ ps. followed (term_of e 10 condition) (either (nonzero 10) one two ps)) (code_is e m rest)
 code_is e n (For pl k low closed high step turns body rest) =
     let m : ℕ = n + counters_in body in
     let inner : Pieces = followed (steps_code e.parts n body) (only (step_code k step)) in
@@ -42,8 +43,10 @@ code_is e n (While pl turns condition body rest) =
     let inner : Pieces = straight (count_code n) (steps_code e.parts (n + 1) body) in
     ap (λ ps. straight (constant 10 turns) (straight (store_slot n ∷ []) (repeat turns (turn_of e n condition) (nonzero 10) inner ps))) (code_is e m rest)
 code_is e n (Call pl target f arguments rest) =
-    followed_append (argument_code e.parts.target e.parts.global (e.parts.frame f) 0 arguments) (call_to (e.parts.link f) (e.parts.callee f) (target_code target no_pieces)) (code_of (outline_of e n rest))
-    ∙ ap (λ ps. followed (argument_code e.parts.target e.parts.global (e.parts.frame f) 0 arguments) (call_to (e.parts.link f) (e.parts.callee f) ps)) (target_then target (code_of (outline_of e n rest)))
+    followed_append (argument_code e.parts.target e.parts.global (e.parts.frame f) 0 arguments)
+    (call_to (e.parts.link f) (e.parts.callee f) (target_code target no_pieces)) (code_of (outline_of e n rest))
+    ∙ ap (λ ps. followed (argument_code e.parts.target e.parts.global (e.parts.frame f) 0 arguments) (call_to (e.parts.link f) (e.parts.callee f) ps))
+    (target_then target (code_of (outline_of e n rest)))
     ∙ ap (λ ps. followed (argument_code e.parts.target e.parts.global (e.parts.frame f) 0 arguments) (call_to (e.parts.link f) (e.parts.callee f) (target_code target ps))) (code_is e n rest)
   where
     target_then : (o : Option ℕ) (ps : Pieces) → followed (target_code o no_pieces) ps ≡ target_code o ps
@@ -58,7 +61,9 @@ names_are e n (SetElement pl g ty index value rest) = ap (λ gs. g ∷ ((globals
 names_are e n (Output pl value rest) = ap (λ gs. globals_in_term value ++ gs) (names_are e n rest)
 names_are e n (Input pl k rest) = names_are e n rest
 names_are e n (If pl condition taken other rest) =
-    ap (λ gs. globals_in_term condition ++ (gs ++ (names_of (outline_of e (n + counters_in taken) other) ++ names_of (outline_of e (n + counters_in taken + counters_in other) rest)))) (names_are e n taken)
+    ap (λ gs. globals_in_term condition
+    ++ (gs ++ (names_of (outline_of e (n + counters_in taken) other)
+    ++ names_of (outline_of e (n + counters_in taken + counters_in other) rest)))) (names_are e n taken)
     ∙ ap (λ gs. globals_in_term condition ++ (globals_in taken ++ (gs ++ names_of (outline_of e (n + counters_in taken + counters_in other) rest)))) (names_are e (n + counters_in taken) other)
     ∙ ap (λ gs. globals_in_term condition ++ (globals_in taken ++ (globals_in other ++ gs))) (names_are e (n + counters_in taken + counters_in other) rest)
 names_are e n (For pl k low closed high step turns body rest) =

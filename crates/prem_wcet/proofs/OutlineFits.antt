@@ -54,10 +54,13 @@ module _ (e : Scene) where
       let two : Pieces = steps_code e.parts m other in
       let all = words_first one (code_of (outline_of e (m + counters_in other) rest)) in
       let inner = words-followed (term_of e 10 condition) (either (nonzero 10) (steps_code e.parts n taken) two no_pieces) in (
-        fits n (first_place at (term_of e 10 condition)) taken (first (words (term_of e 10 condition)) (words (steps_code e.parts n taken)) (skip_words two) (words two) (words one) (W n taken) _ _ inner (words_are n taken) all le),
+        fits n (first_place at (term_of e 10 condition)) taken
+            (first (words (term_of e 10 condition)) (words (steps_code e.parts n taken)) (skip_words two) (words two) (words one)
+            (W n taken) _ _ inner (words_are n taken) all le),
         (
           fits m (second_place at (term_of e 10 condition) (outline_of e n taken) (skip_words two)) other
-              (second (words (term_of e 10 condition)) (words (steps_code e.parts n taken)) (skip_words two) (words two) (words one) (W n taken) (W m other) _ _ inner (words_are n taken) (words_are m other) all le),
+              (second (words (term_of e 10 condition)) (words (steps_code e.parts n taken)) (skip_words two) (words two) (words one) (W n taken)
+              (W m other) _ _ inner (words_are n taken) (words_are m other) all le),
           fits (m + counters_in other) (at + size_of one) rest (rest_fits at _ (words one) (W (m + counters_in other) rest) all le),
         ),
       )
@@ -76,11 +79,13 @@ module _ (e : Scene) where
       let inner = words-followed (term_of e 10 low) (straight (store_slot k ∷ []) (repeat turns (bound_code e k high) (bound_test closed) (followed code (only (step_code k step))) no_pieces)) in
       let turn = words-followed code (only (step_code k step)) in (
         fits n (inner_place at (first_code e k low) (bound_code e k high) no_pieces) body
-            (inside (words (term_of e 10 low)) (words (first_code e k low)) (words (bound_code e k high)) (words code) (words (followed code (only (step_code k step)))) (words one) (W n body) _ _ first inner turn (words_are n body) all le),
+            (inside (words (term_of e 10 low)) (words (first_code e k low)) (words (bound_code e k high)) (words code)
+            (words (followed code (only (step_code k step)))) (words one) (W n body) _ _ first inner turn (words_are n body) all le),
         fits m (at + size_of one) rest (rest_fits at _ (words one) (W m rest) all le),
       )
     where
-      inside : (l f h b t one w r all : ℕ) → f ≡ l + (1 + 0) → one ≡ l + (1 + (h + 3 + t + 0)) → t ≡ b + (3 + 0) → w ≡ b → all ≡ one + r → at + 4 * all < 2 ^ 32 → (at + 4 * f + 4 * h + 8 + 4 * 0) + 4 * w < 2 ^ 32
+      inside : (l f h b t one w r all : ℕ) → f ≡ l + (1 + 0) → one ≡ l + (1 + (h + 3 + t + 0)) → t ≡ b + (3 + 0) → w ≡ b → all ≡ one + r →
+          at + 4 * all < 2 ^ 32 → (at + 4 * f + 4 * h + 8 + 4 * 0) + 4 * w < 2 ^ 32
       inside l f h b t one w r all first inner turn same is le = omega (arith, first, inner, turn, same, is, le)
   fits n at (While pl turns condition body rest) le =
       let one : Pieces = steps_code e.parts n (While pl turns condition body Done) in
@@ -156,9 +161,11 @@ module _ (e v : Scene) where
       let two : Pieces = steps_code v.parts m other in
       let all = words_first one (code_of (outline_of v (m + counters_in other) rest)) in
       let inner = words-followed (term_of v 10 condition) (either (nonzero 10) (steps_code v.parts n taken) two no_pieces) in (
-        below n taken (side (words (term_of v 10 condition)) (words (steps_code v.parts n taken)) (skip_words two) (words two) (words one) (V n taken) (V (m + counters_in other) rest) _ inner (code_words n taken) all le),
+        below n taken (side (words (term_of v 10 condition)) (words (steps_code v.parts n taken)) (skip_words two) (words two) (words one) (V n taken)
+            (V (m + counters_in other) rest) _ inner (code_words n taken) all le),
         (
-          below m other (last (words (term_of v 10 condition)) (words (steps_code v.parts n taken)) (skip_words two) (words two) (words one) (V m other) (V (m + counters_in other) rest) _ inner (code_words m other) all le),
+          below m other (last (words (term_of v 10 condition)) (words (steps_code v.parts n taken)) (skip_words two) (words two) (words one)
+              (V m other) (V (m + counters_in other) rest) _ inner (code_words m other) all le),
           below (m + counters_in other) rest (later (bottom_of e.stack) _ (words one) (V (m + counters_in other) rest) all le),
         ),
       )
@@ -175,7 +182,8 @@ module _ (e v : Scene) where
       let code : Pieces = steps_code v.parts n body in
       let inner = words-followed (term_of v 10 low) (straight (store_slot k ∷ []) (repeat turns (bound_code v k high) (bound_test closed) (followed code (only (step_code k step))) no_pieces)) in
       let turn = words-followed code (only (step_code k step)) in (
-        below n body (inside (words (term_of v 10 low)) (words (bound_code v k high)) (words code) (words (followed code (only (step_code k step)))) (words one) (V n body) (V m rest) _ inner turn (code_words n body) all le),
+        below n body (inside (words (term_of v 10 low)) (words (bound_code v k high)) (words code) (words (followed code (only (step_code k step))))
+            (words one) (V n body) (V m rest) _ inner turn (code_words n body) all le),
         below m rest (later (bottom_of e.stack) _ (words one) (V m rest) all le),
       )
     where
@@ -185,7 +193,8 @@ module _ (e v : Scene) where
       let one : Pieces = steps_code v.parts n (While pl turns condition body Done) in
       let m : ℕ = n + 1 + counters_in body in
       let all = words_first one (code_of (outline_of v m rest)) in (
-        below (n + 1) body (inside (length (constant 10 turns)) (words (turn_of v n condition)) (words (steps_code v.parts (n + 1) body)) (V (n + 1) body) (V m rest) _ (code_words (n + 1) body) all le),
+        below (n + 1) body (inside (length (constant 10 turns)) (words (turn_of v n condition)) (words (steps_code v.parts (n + 1) body))
+            (V (n + 1) body) (V m rest) _ (code_words (n + 1) body) all le),
         below m rest (later (bottom_of e.stack) _ (words one) (V m rest) all le),
       )
     where
@@ -196,7 +205,8 @@ module _ (e v : Scene) where
       let args : Pieces = argument_code v.parts.target v.parts.global (v.parts.frame f) 0 arguments in
       let all = words_first one (code_of (outline_of v n rest)) in
       let inner = words-followed args (call_to (v.parts.link f) (v.parts.callee f) (target_code target no_pieces)) in (
-        room (bottom_of e.stack) (e.parts.frame f) (length arguments) (words args) (words (target_code target no_pieces)) (words one) (V n rest) _ (args_long v.parts.target v.parts.global (v.parts.frame f) 0 arguments) inner all le,
+        room (bottom_of e.stack) (e.parts.frame f) (length arguments) (words args) (words (target_code target no_pieces)) (words one) (V n rest) _
+            (args_long v.parts.target v.parts.global (v.parts.frame f) 0 arguments) inner all le,
         below n rest (later (bottom_of e.stack) _ (words one) (V n rest) all le),
       )
     where

@@ -21,7 +21,8 @@ plus_none n = omega arith
 pub none_plus : (n : ℕ) → 0 + n ≡ n
 none_plus n = omega arith
 
-pub second_is : (e : Scene) (n : ℕ) (at : ℕ) (condition : _) (skips : ℕ) (taken : Steps) → second_place at condition (outline_of e n taken) skips ≡ taken_place at condition + size_of (steps_code e.parts n taken) + 4 * skips
+pub second_is : (e : Scene) (n : ℕ) (at : ℕ) (condition : _) (skips : ℕ) (taken : Steps) →
+    second_place at condition (outline_of e n taken) skips ≡ taken_place at condition + size_of (steps_code e.parts n taken) + 4 * skips
 second_is e n at condition skips taken = ap (λ ps. taken_place at condition + size_of ps + 4 * skips) (code_is e n taken)
 
 pub apart_is : (e : Scene) (n at : ℕ) (steps : Steps) → apart_in e at (outline_of e n steps) ≡ apart e n at steps
@@ -69,7 +70,8 @@ apart_is e n at (While pl turns condition body rest) =
     let s : Steps = While pl turns condition body Done in
     let there : ℕ = body_place at (counter_code n turns) (turn_of e n condition) + 12 in
     let count : ℕ = own e (only (count_code n)) in
-    let inside : min (charge e there (span_in (outline_of e (n + 1) body))) (apart_in e there (outline_of e (n + 1) body)) ≡ min (charge e there (span_of e (n + 1) body)) (apart e (n + 1) there body) =
+    let inside : min (charge e there (span_in (outline_of e (n + 1) body))) (apart_in e there (outline_of e (n + 1) body))
+    ≡ min (charge e there (span_of e (n + 1) body)) (apart e (n + 1) there body) =
     λ i. min (charge e there (span_is e (n + 1) body i)) (apart_is e (n + 1) there body i) in
     let all = plus_none (count + min (charge e there (span_in (outline_of e (n + 1) body))) (apart_in e there (outline_of e (n + 1) body))) ∙ ap (λ x. count + x) inside in
     λ i.

@@ -11,8 +11,10 @@ use Rattle.prem_layout.specs.Stretch.Sums.{Sums, taking, chained, both, most}
 use Rattle.prem_wcet_laws.specs.Counts.{Count, quiet, then_count}
 use Rattle.prem_wcet_laws.specs.Scopes.{Scene, code_ranges, data_ranges, charge_with, globals_in_term, globals_in_terms}
 use Rattle.prem_wcet_laws.specs.Least.{own, own_jump, term_of, bound_code, first_code, counter_code, turn_of, taken_place, other_place, body_place, behind}
-use Rattle.prem_wcet_laws.specs.Parted.{Edge, no_edge, cuts, has_cut, by_cut, front, next_edge, passing, argument_ranges, bottom_of, passage_span, passage, opened, Begun, counted, begins, called_parted, choice_count, turn_count, landing, landing_place, parted}
-use Rattle.prem_wcet.specs.Outlines.{Outline, ended, plain, calling, choice, turning, cut_in, front_in, edge_in, below_in, passing_in, between, passage_in, choice_parted, call_parted, inner_place, second_place, closed_in, parted_in}
+use Rattle.prem_wcet_laws.specs.Parted.{Edge, no_edge, cuts, has_cut, by_cut, front, next_edge, passing, argument_ranges, bottom_of, passage_span, passage, opened, Begun, counted}
+use Rattle.prem_wcet_laws.specs.Parted.{begins, called_parted, choice_count, turn_count, landing, landing_place, parted}
+use Rattle.prem_wcet.specs.Outlines.{Outline, ended, plain, calling, choice, turning, cut_in, front_in, edge_in, below_in, passing_in, between, passage_in, choice_parted}
+use Rattle.prem_wcet.specs.Outlines.{call_parted, inner_place, second_place, closed_in, parted_in}
 use Rattle.prem_wcet.specs.Outlined.{outline_of, OutlinesCount}
 use Rattle.prem_wcet.proofs.OutlineCode.{code_is, names_are, callees_are}
 use Rattle.prem_wcet.proofs.OutlineLeast.{apart_is, least_is, plus_none, none_plus, second_is}
@@ -78,7 +80,8 @@ front_is e n (For pl k low closed high step turns body rest) =
     let s : Steps = For pl k low closed high step turns body Done in
     let put : Outline → Outline =
     turning (steps_code e.parts n s) (globals_in_term low ++ globals_in_term high) (first_code e k low) turns (bound_code e k high) no_pieces (outline_of e n body) (only (step_code k step)) in
-    (λ i. by_cut (cut_is e n s i) ended (put (front_is e (n + counters_in body) rest i))) ∙ sym (by_cut_over (outline_of e n) (has_cut e s) Done (For pl k low closed high step turns body (front e rest)))
+    (λ i. by_cut (cut_is e n s i) ended (put (front_is e (n + counters_in body) rest i)))
+    ∙ sym (by_cut_over (outline_of e n) (has_cut e s) Done (For pl k low closed high step turns body (front e rest)))
 front_is e n (While pl turns condition body rest) =
     let s : Steps = While pl turns condition body Done in
     let put : Outline → Outline =
@@ -188,13 +191,19 @@ begun_apart : (e : Scene) (b : Begun) (last : Edge) (n at : ℕ) (steps : Steps)
 begun_apart e b last n at Done = then_right (quiet (opened e b last n Done))
 begun_apart e b last n at (SetLocal pl k value rest) = ap (then_count (quiet (opened e b last n (SetLocal pl k value rest)))) (then_left (rest_of e last n at (SetLocal pl k value rest)))
 begun_apart e b last n at (SetScalar pl g ty value rest) = ap (then_count (quiet (opened e b last n (SetScalar pl g ty value rest)))) (then_left (rest_of e last n at (SetScalar pl g ty value rest)))
-begun_apart e b last n at (SetElement pl g ty index value rest) = ap (then_count (quiet (opened e b last n (SetElement pl g ty index value rest)))) (then_left (rest_of e last n at (SetElement pl g ty index value rest)))
+begun_apart e b last n at (SetElement pl g ty index value rest) =
+    ap (then_count (quiet (opened e b last n (SetElement pl g ty index value rest)))) (then_left (rest_of e last n at (SetElement pl g ty index value rest)))
 begun_apart e b last n at (Output pl value rest) = ap (then_count (quiet (opened e b last n (Output pl value rest)))) (then_left (rest_of e last n at (Output pl value rest)))
 begun_apart e b last n at (Input pl k rest) = ap (then_count (quiet (opened e b last n (Input pl k rest)))) (then_left (rest_of e last n at (Input pl k rest)))
-begun_apart e b last n at (If pl condition taken other rest) = ap (then_count (quiet (opened e b last n (If pl condition taken other rest)))) (then_left (rest_of e last n at (If pl condition taken other rest)))
-begun_apart e b last n at (For pl k low closed high step turns body rest) = ap (then_count (quiet (opened e b last n (For pl k low closed high step turns body rest)))) (then_left (rest_of e last n at (For pl k low closed high step turns body rest)))
-begun_apart e b last n at (While pl turns condition body rest) = ap (then_count (quiet (opened e b last n (While pl turns condition body rest)))) (then_left (rest_of e last n at (While pl turns condition body rest)))
-begun_apart e b last n at (Call pl target f arguments rest) = ap (then_count (quiet (opened e b last n (Call pl target f arguments rest)))) (then_left (rest_of e last n at (Call pl target f arguments rest)))
+begun_apart e b last n at (If pl condition taken other rest) =
+    ap (then_count (quiet (opened e b last n (If pl condition taken other rest)))) (then_left (rest_of e last n at (If pl condition taken other rest)))
+begun_apart e b last n at (For pl k low closed high step turns body rest) =
+    ap (then_count (quiet (opened e b last n (For pl k low closed high step turns body rest))))
+    (then_left (rest_of e last n at (For pl k low closed high step turns body rest)))
+begun_apart e b last n at (While pl turns condition body rest) =
+    ap (then_count (quiet (opened e b last n (While pl turns condition body rest)))) (then_left (rest_of e last n at (While pl turns condition body rest)))
+begun_apart e b last n at (Call pl target f arguments rest) =
+    ap (then_count (quiet (opened e b last n (Call pl target f arguments rest)))) (then_left (rest_of e last n at (Call pl target f arguments rest)))
 
 -- a passage that begins at a place, and what is behind it
 abbrev begun_in : (e : Scene) (edge last : Edge) (b at : ℕ) → Outline → Count
@@ -208,7 +217,8 @@ closed_is : (e : Scene) (last : Edge) (n at : ℕ) (steps : Steps) → closed_in
 closed_is e last n at Done = refl
 closed_is e last n at (SetLocal pl k value rest) = closed_is e last n (behind e n at (SetLocal pl k value Done)) rest ∙ sym (then_left (rest_of e last n at (SetLocal pl k value rest)))
 closed_is e last n at (SetScalar pl g ty value rest) = closed_is e last n (behind e n at (SetScalar pl g ty value Done)) rest ∙ sym (then_left (rest_of e last n at (SetScalar pl g ty value rest)))
-closed_is e last n at (SetElement pl g ty index value rest) = closed_is e last n (behind e n at (SetElement pl g ty index value Done)) rest ∙ sym (then_left (rest_of e last n at (SetElement pl g ty index value rest)))
+closed_is e last n at (SetElement pl g ty index value rest) = closed_is e last n (behind e n at (SetElement pl g ty index value Done)) rest
+    ∙ sym (then_left (rest_of e last n at (SetElement pl g ty index value rest)))
 closed_is e last n at (Output pl value rest) = closed_is e last n (behind e n at (Output pl value Done)) rest ∙ sym (then_left (rest_of e last n at (Output pl value rest)))
 closed_is e last n at (Input pl k rest) = closed_is e last n (behind e n at (Input pl k Done)) rest ∙ sym (then_left (rest_of e last n at (Input pl k rest)))
 closed_is e last n at (If pl condition taken other rest) =
@@ -234,9 +244,12 @@ closed_is e last n at (For pl k low closed high step turns body rest) =
     let inside =
     begun_from e no_edge no_edge n one one body (closed_is e no_edge n one body)
     ∙ ap (λ p. parted e (begins p no_edge) no_edge n p body) (plus_none (body_place at (first_code e k low) (bound_code e k high))) in
-    let turn = then_left (then_count (begun_in e no_edge no_edge one one (outline_of e n body)) (quiet (own e (only (step_code k step))))) ∙ ap (λ x. then_count x (quiet (own e (only (step_code k step))))) inside in
+    let turn = then_left (then_count (begun_in e no_edge no_edge one one (outline_of e n body)) (quiet (own e (only (step_code k step)))))
+    ∙ ap (λ x. then_count x (quiet (own e (only (step_code k step))))) inside in
     let left = begun_from e no_edge last m there there rest (closed_is e last m there rest) in
-    (λ i. by_cut (cut_is e n s i) (then_count (then_count (quiet (own e (first_code e k low))) (turn_count e turns (nonzero 10) (own e (bound_code e k high)) (turn i))) (left i)) (closed_is e last m there rest i))
+    (λ i. by_cut (cut_is e n s i) (then_count
+    (then_count (quiet (own e (first_code e k low))) (turn_count e turns (nonzero 10) (own e (bound_code e k high)) (turn i))) (left i))
+    (closed_is e last m there rest i))
     ∙ sym (then_left (rest_of e last n at (For pl k low closed high step turns body rest)))
 closed_is e last n at (While pl turns condition body rest) =
     let s : Steps = While pl turns condition body Done in
@@ -246,7 +259,9 @@ closed_is e last n at (While pl turns condition body rest) =
     let inside = begun_from e no_edge no_edge (n + 1) one one body (closed_is e no_edge (n + 1) one body) in
     let turn = ap (then_count (quiet (own e (only (count_code n))))) (then_right (begun_in e no_edge no_edge one one (outline_of e (n + 1) body)) ∙ inside) in
     let left = begun_from e no_edge last m there there rest (closed_is e last m there rest) in
-    (λ i. by_cut (cut_is e n s i) (then_count (then_count (quiet (own e (counter_code n turns))) (turn_count e turns (nonzero 10) (own e (turn_of e n condition)) (turn i))) (left i)) (closed_is e last m there rest i))
+    (λ i. by_cut (cut_is e n s i) (then_count
+    (then_count (quiet (own e (counter_code n turns))) (turn_count e turns (nonzero 10) (own e (turn_of e n condition)) (turn i))) (left i))
+    (closed_is e last m there rest i))
     ∙ sym (then_left (rest_of e last n at (While pl turns condition body rest)))
 closed_is e last n at (Call pl target f arguments rest) =
     let s : Steps = Call pl target f arguments Done in

@@ -92,7 +92,8 @@ pub is_turning : (p : Part) (code : _) (names : Sequence ℕ) (first : _) (turns
     part_of p ≡ turning (pieces_of code.now) (items_of names) (pieces_of first.now) turns (pieces_of head.now) (pieces_of before.now) (parts_of xs) (pieces_of behind.now) ended
 is_turning p code names first turns head before body behind xs is ex =
     ap part_of is
-    ∙ (λ i. turning (pieces_of code.now) (items_of names) (pieces_of first.now) turns (pieces_of head.now) (pieces_of before.now) ((sequence_listed body ∙ ap parts_of (sym ex)) i) (pieces_of behind.now) ended)
+    ∙ (λ i. turning (pieces_of code.now) (items_of names) (pieces_of first.now) turns (pieces_of head.now) (pieces_of before.now)
+    ((sequence_listed body ∙ ap parts_of (sym ex)) i) (pieces_of behind.now) ended)
 
 -- ---- marked calls within
 

@@ -32,11 +32,13 @@ size_before (Calling code names arguments count callee landing) rest = size_foll
 size_before (Choice' code names condition skips p taken q other) rest = size_followed (pieces_of code.now) (code_of rest)
 size_before (Turning' code names first turns head before p body behind) rest = size_followed (pieces_of code.now) (code_of rest)
 
-pub size_drop : (ps : List Part) (n : ℕ) (p : Part) → n < length ps → p ≡ get_or ps n p → size_of (code_of (parts_of (drop n ps))) ≡ size_of (part_code p) + size_of (code_of (parts_of (drop (n + 1) ps)))
+pub size_drop : (ps : List Part) (n : ℕ) (p : Part) → n < length ps → p ≡ get_or ps n p →
+    size_of (code_of (parts_of (drop n ps))) ≡ size_of (part_code p) + size_of (code_of (parts_of (drop (n + 1) ps)))
 size_drop ps n p h is = ap (λ o. size_of (code_of o)) (drop_part ps n p h is) ∙ size_before p (parts_of (drop (n + 1) ps))
 
 -- those from a number on fit where they stand
-pub fits_from : (ps : List Part) (n start place : ℕ) → n ≤ length ps → FitsAt start (parts_of ps) → place + size_of (code_of (parts_of (drop n ps))) ≡ start + size_of (code_of (parts_of ps)) → FitsAt place (parts_of (drop n ps))
+pub fits_from : (ps : List Part) (n start place : ℕ) → n ≤ length ps → FitsAt start (parts_of ps) →
+    place + size_of (code_of (parts_of (drop n ps))) ≡ start + size_of (code_of (parts_of ps)) → FitsAt place (parts_of (drop n ps))
 fits_from ps zero start place h f is =
     let same : place + size_of (code_of (parts_of ps)) ≡ start + size_of (code_of (parts_of ps)) = is in
     let here : start ≡ place = omega (arith, same) in
@@ -100,7 +102,8 @@ front_ends e last at (calling code names arguments count callee landing rest) f 
     let more = front_ends e last (at + size_of code) rest f.1 in
     let whole = size_followed code (code_of rest) in
     by_both (λ o l. size_of (code_of o) + size_of l.pieces ≤ size_of (code_of (calling code names arguments count callee landing rest)) + size_of last.pieces)
-    (cut_in e (calling code names arguments count callee landing ended)) ended (calling code names arguments count callee landing (front_in e rest)) (passing_in e names arguments count callee) (edge_in e last rest)
+    (cut_in e (calling code names arguments count callee landing ended)) ended (calling code names arguments count callee landing (front_in e rest))
+    (passing_in e names arguments count callee) (edge_in e last rest)
     (omega (arith, f.0, whole)) (omega (arith, more, whole, size_followed code (code_of (front_in e rest))))
 front_ends e last at (choice code names condition skips taken other rest) f =
     let more = front_ends e last (at + size_of code) rest f.1.1 in
@@ -139,7 +142,8 @@ drop_all [] = refl
 drop_all (x ∷ xs) = drop_all xs
 
 -- none of them
-pub closed_end : (e : Scene) (last : Edge) (ps : List Part) (start n place until : ℕ) (edge : Edge) (count : Count) → n ≡ length ps → until ≡ length ps → place ≡ start + size_of (code_of (parts_of ps)) → edge ≡ last →
+pub closed_end : (e : Scene) (last : Edge) (ps : List Part) (start n place until : ℕ) (edge : Edge) (count : Count) → n ≡ length ps →
+    until ≡ length ps → place ≡ start + size_of (code_of (parts_of ps)) → edge ≡ last →
     count ≡ quiet 0 → IsClosed e last ps start n place until edge count
 closed_end e last ps start n place until edge count isn isu isp ise isc =
     let none : drop n ps ≡ [] = ap (λ k. drop k ps) isn ∙ drop_all ps in
@@ -181,8 +185,10 @@ closed_before e last ps start m n place begin until edge count p ism h is cut at
     }
 
 -- one that has
-pub closed_at : (e : Scene) (last : Edge) (ps : List Part) (start m n place begin until : ℕ) (edge next : Edge) (count cut made : Count) (front : Outline) (p : Part) → m ≡ n + 1 → n < length ps → p ≡ get_or ps n p →
-    cut_in e (part_of p) ≡ true → begin + size_of (part_code p) ≡ place → next ≡ passing_edge e (part_of p) → AreAlike cut (cut_count_in e begin (part_of p)) → front ≡ parts_of (take (until - m) (drop m ps)) →
+pub closed_at : (e : Scene) (last : Edge) (ps : List Part) (start m n place begin until : ℕ) (edge next : Edge) (count cut made : Count)
+    (front : Outline) (p : Part) → m ≡ n + 1 → n < length ps → p ≡ get_or ps n p →
+    cut_in e (part_of p) ≡ true → begin + size_of (part_code p) ≡ place → next ≡ passing_edge e (part_of p) →
+    AreAlike cut (cut_count_in e begin (part_of p)) → front ≡ parts_of (take (until - m) (drop m ps)) →
     AreAlike made (then_count cut (then_count (quiet (passage_in e (landing_place begin (part_of p)) (landing_edge (part_of p)) front edge)) count)) →
     IsClosed e last ps start m place until edge count → IsClosed e last ps start n begin n next made
 closed_at e last ps start m n place begin until edge next count cut made front p ism h is iscut at isn alike isf told f =
@@ -204,7 +210,8 @@ closed_at e last ps start m n place begin until edge next count cut made front p
       behind = isn ∙ sym (ap (edge_in e last) here ∙ edge_cut e last p (parts_of rest) iscut);
       closed =
           alike_chain made (then_count (cut_count_in e begin (part_of p)) (then_count (quiet most) (closed_in e last place (parts_of rest)))) (closed_in e last begin (parts_of (drop n ps)))
-          (then_told cut (cut_count_in e begin (part_of p)) (then_count (quiet (passage_in e from first front edge)) count) (then_count (quiet most) (closed_in e last place (parts_of rest))) made told alike
+          (then_told cut (cut_count_in e begin (part_of p)) (then_count (quiet (passage_in e from first front edge)) count)
+          (then_count (quiet most) (closed_in e last place (parts_of rest))) made told alike
           (then_told (quiet (passage_in e from first front edge)) (quiet most) count (closed_in e last place (parts_of rest)) (then_count (quiet (passage_in e from first front edge)) count)
           (alike_same (then_count (quiet (passage_in e from first front edge)) count)) (alike_is (quiet (passage_in e from first front edge)) (quiet most) (ap quiet passes)) counts))
           (alike_is (then_count (cut_count_in e begin (part_of p)) (then_count (quiet most) (closed_in e last place (parts_of rest)))) (closed_in e last begin (parts_of (drop n ps)))
@@ -237,7 +244,8 @@ drop_small ps zero = (let same : size_of (code_of (parts_of ps)) ≤ size_of (co
 drop_small [] (suc n) = (let same : size_of (code_of (parts_of [])) ≤ size_of (code_of (parts_of [])) = omega arith in same)
 drop_small (x ∷ xs) (suc n) = let more = drop_small xs n in let size = size_before x (parts_of xs) in omega (arith, more, size)
 
-module _ (e : Scene) (last : Edge) (ps : List Part) (start m n place until : ℕ) (edge : Edge) (count : Count) (p : Part) (f : IsClosed e last ps start m place until edge count) (fits : FitsAt start (parts_of ps)) where
+module _ (e : Scene) (last : Edge) (ps : List Part) (start m n place until : ℕ) (edge : Edge) (count : Count) (p : Part)
+    (f : IsClosed e last ps start m place until edge count) (fits : FitsAt start (parts_of ps)) where
   pub part_room : m ≡ n + 1 → n < length ps → p ≡ get_or ps n p → size_of (part_code p) ≤ place
   part_room ism h is =
       let stand = f.stand in
@@ -340,11 +348,14 @@ pub cut_choice_told : (e : Scene) (skips w test : ℕ) (start sides first second
     AreAlike sides (choice_parted e skips first second) → AreAlike r (then_count start sides) → AreAlike r (then_count (quiet w) (choice_parted e skips x y))
 cut_choice_told e skips w test start sides first second x y r isw iss a b s t =
     then_told start (quiet w) sides (choice_parted e skips x y) r t (quiet_told start test w iss isw)
-    (alike_chain sides (choice_parted e skips first second) (choice_parted e skips x y) s (choice_alike (job_weight e.plant (branch_of (nonzero 10))) (skips * own_jump e) (own_jump e) first second x y a b))
+    (alike_chain sides (choice_parted e skips first second) (choice_parted e skips x y) s
+    (choice_alike (job_weight e.plant (branch_of (nonzero 10))) (skips * own_jump e) (own_jump e) first second x y a b))
 
 -- a loop
-pub cut_turns_told : (e : Scene) (turns h top f outside b start l last : ℕ) (inside leave closing begin turn all entry x r : Count) → AreAlike inside x → last ≡ clipped l → leave ≡ quiet last → AreAlike closing (then_count inside leave) →
-    start ≡ clipped b → begin ≡ quiet start → AreAlike turn (then_count begin closing) → top ≡ clipped h → AreAlike all (turn_count e turns (nonzero 10) top turn) → outside ≡ clipped f → entry ≡ quiet outside → AreAlike r (then_count entry all) →
+pub cut_turns_told : (e : Scene) (turns h top f outside b start l last : ℕ) (inside leave closing begin turn all entry x r : Count) →
+    AreAlike inside x → last ≡ clipped l → leave ≡ quiet last → AreAlike closing (then_count inside leave) →
+    start ≡ clipped b → begin ≡ quiet start → AreAlike turn (then_count begin closing) → top ≡ clipped h →
+    AreAlike all (turn_count e turns (nonzero 10) top turn) → outside ≡ clipped f → entry ≡ quiet outside → AreAlike r (then_count entry all) →
     AreAlike r (then_count (quiet f) (turn_count e turns (nonzero 10) h (then_count (quiet b) (then_count x (quiet l)))))
 cut_turns_told e turns h top f outside b start l last inside leave closing begin turn all entry x r isx isl isleave isended iss isb isturn ist isall iso isentry isr =
     let tail : AreAlike closing (then_count x (quiet l)) = then_told inside x leave (quiet l) closing isended isx (quiet_told leave last l isleave isl) in

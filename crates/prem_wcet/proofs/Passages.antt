@@ -73,18 +73,21 @@ between_kept e o b l first last bb ll = λ p.
 
 -- the charge of a passage as one scope
 pub passage_told : (e : Scene) (at end : ℕ) (o : Outline) (b l : Edge) (first last : Option Extent) (code touched : List Extent) → b.below ≡ below_of first → l.below ≡ below_of last →
-    end ≡ at + size_of (between b o l).pieces → code ≡ with_code e ((at, end) ∷ []) o → touched ≡ with_some (with_names e (with_some (with_names e (with_touched e e.stack o) b.globals) first) l.globals) last →
+    end ≡ at + size_of (between b o l).pieces → code ≡ with_code e ((at, end) ∷ []) o →
+    touched ≡ with_some (with_names e (with_some (with_names e (with_touched e e.stack o) b.globals) first) l.globals) last →
     charge_with e at (bare_span (between b o l).pieces) (lines_of e.plant.line (code ++ touched)) (lines_of e.plant.line touched)
     ≡ charge_with e at (between b o l) (lines_of e.plant.line (code_ranges e at (between b o l) ++ data_between e b o l)) (lines_of e.plant.line (data_between e b o l))
 passage_told e at end o b l first last code touched bb ll place run touch =
     let s : Span = between b o l in
     let kept : AreSame touched (data_between e b o l) = λ p. ap (list_any p) touch ∙ between_kept e o b l first last bb ll p in
     let ran : AreSame code (code_ranges e at s) = λ p. ap (list_any p) (run ∙ ap (λ k. with_code e ((at, k) ∷ []) o) place) ∙ code_same e (extent_of at s.pieces ∷ []) o p in
-    λ i. charge_with e at s (same_lines e.plant.line (code ++ touched) (code_ranges e at s ++ data_between e b o l) (same_append code (code_ranges e at s) touched (data_between e b o l) ran kept) i) (same_lines e.plant.line touched (data_between e b o l) kept i)
+    λ i. charge_with e at s (same_lines e.plant.line (code ++ touched) (code_ranges e at s ++ data_between e b o l)
+    (same_append code (code_ranges e at s) touched (data_between e b o l) ran kept) i) (same_lines e.plant.line touched (data_between e b o l) kept i)
 
 pub between_size : (b l : Edge) (o : Outline) → size_of (between b o l).pieces ≡ size_of b.pieces + (size_of (code_of o) + size_of l.pieces)
 between_size b l o = size_followed b.pieces (followed (code_of o) l.pieces) ∙ ap (λ n. size_of b.pieces + n) (size_followed (code_of o) l.pieces)
 
-pub passage_sum : (whole first inner last both divided r w f s b : ℕ) → whole ≡ clipped w → first ≡ clipped f → inner ≡ clipped s → last ≡ clipped b → both ≡ clipped (first + inner) → divided ≡ clipped (both + last) →
+pub passage_sum : (whole first inner last both divided r w f s b : ℕ) → whole ≡ clipped w → first ≡ clipped f → inner ≡ clipped s → last ≡ clipped b →
+    both ≡ clipped (first + inner) → divided ≡ clipped (both + last) →
     r ≡ min whole divided → r ≡ clipped (min w (f + s + b))
 passage_sum whole first inner last both divided r w f s b e1 e2 e3 e4 e5 e6 e7 = omega (arith, e1, e2, e3, e4, e5, e6, e7)

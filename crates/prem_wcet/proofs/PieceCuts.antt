@@ -46,7 +46,8 @@ first_is (suc n) (p ∷ ps) = ap (piece_before p) (first_is n ps) ∙ sym (first
 
 pub before_told : (ps last : List Piece) (n : ℕ) → n ≡ length ps - length last → pieces_of (take n ps) ≡ before_pieces (pieces_of ps) (pieces_of last)
 before_told ps last n is =
-    first_is n ps ∙ ap (λ k. first_pieces k (pieces_of ps)) is ∙ ap (λ k. first_pieces (k - length last) (pieces_of ps)) (sym (spine_is ps)) ∙ ap (λ k. first_pieces (spine (pieces_of ps) - k) (pieces_of ps)) (sym (spine_is last))
+    first_is n ps ∙ ap (λ k. first_pieces k (pieces_of ps)) is ∙ ap (λ k. first_pieces (k - length last) (pieces_of ps)) (sym (spine_is ps))
+    ∙ ap (λ k. first_pieces (spine (pieces_of ps) - k) (pieces_of ps)) (sym (spine_is last))
 
 -- ---- within the first piece
 

@@ -2,7 +2,8 @@
 use Rattle.std.specs.Prelude.{nat_lt}
 use Rattle.std.proofs.Common.{◌≡◌, ℕ, zero, suc, ◌+◌, ◌*◌, ◌<◌, Bool, true, false, cond, List, [], ◌∷◌, ◌++◌, refl, ap, sym, ◌∙◌, arith, length, take, get_or, slice_set, map}
 use Rattle.std.proofs.lemmas.List.{length-take, take_more}
-use Rattle.prem_asm.specs.Pieces.{Pieces, no_pieces, straight, address_of, either, repeat, call_to, followed, size_of, branch_of, skip_words, skip_at, other_at, either_end, test_at, back_at, repeat_end}
+use Rattle.prem_asm.specs.Pieces.{Pieces, no_pieces, straight, address_of, either, repeat, call_to, followed, size_of, branch_of, skip_words, skip_at, other_at, either_end}
+use Rattle.prem_asm.specs.Pieces.{test_at, back_at, repeat_end}
 use Rattle.prem_asm.proofs.Rows.{words-followed}
 use Rattle.prem_layout.specs.Parts.{code_part}
 use Rattle.prem_layout.specs.Bounds.{part_weight, weight_at}
@@ -92,7 +93,8 @@ at_last : (xs : List ℕ) (n x : ℕ) → length xs ≡ n → weight_at (xs ++ x
 at_last [] n x e = ap (λ k. weight_at (x ∷ []) k) (sym e)
 at_last (y ∷ ys) n x e = ap (λ k. weight_at (y ∷ (ys ++ x ∷ [])) k) (sym e) ∙ at_last ys (length ys) x refl
 
-pub part_alike : (functions : ℕ) (array known : List ℕ) → Tells 256 array (weight_at known) → (p : ℕ) → Alike (part_weight functions (weight_at array) (λ k. 0) p) (part_weight functions (weight_at known) (λ k. 0) p)
+pub part_alike : (functions : ℕ) (array known : List ℕ) → Tells 256 array (weight_at known) → (p : ℕ) →
+    Alike (part_weight functions (weight_at array) (λ k. 0) p) (part_weight functions (weight_at known) (λ k. 0) p)
 part_alike functions array known t zero = refl
 part_alike functions array known t (suc m) = by_test (nat_lt m functions) where
   by_test : (b : Bool) → Alike (cond b (weight_at array m) 0) (cond b (weight_at known m) 0)
@@ -120,7 +122,8 @@ function_more w functions places pss ps n value array inside lt is t e =
 -- ---- walks that go on
 
 -- behind the first pieces
-pub begun : (w : PlaceWeight) (c : ℕ → ℕ) (at sum end : ℕ) (ps qs : Pieces) → sum ≡ clipped (weighted_from w c at ps) → end ≡ at + size_of ps → clipped (sum + weighted_from w c end qs) ≡ clipped (weighted_from w c at (followed ps qs))
+pub begun : (w : PlaceWeight) (c : ℕ → ℕ) (at sum end : ℕ) (ps qs : Pieces) → sum ≡ clipped (weighted_from w c at ps) → end ≡ at + size_of ps →
+    clipped (sum + weighted_from w c end qs) ≡ clipped (weighted_from w c at (followed ps qs))
 begun w c at sum end ps qs is place = let f = from_followed w c at ps qs in let g = ap (λ k. weighted_from w c k qs) place in omega (arith, f, g, is)
 
 -- behind more

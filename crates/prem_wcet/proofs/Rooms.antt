@@ -1,5 +1,6 @@
 -- Lines that have room: what is counted in memory is what the definition counts.
-use Rattle.std.proofs.Common.{◌≡◌, ℕ, zero, suc, ◌+◌, ◌%◌, ◌/◌, ◌==◌, ◌<◌, ◌≤◌, ◌^◌, nat_eq, nat_le, Bool, ◌&&◌, true, false, cond, if◌then◌else◌, List, [], ◌∷◌, length, filter, slice_index, refl, ap, sym, ◌∙◌, arith}
+use Rattle.std.proofs.Common.{◌≡◌, ℕ, zero, suc, ◌+◌, ◌%◌, ◌/◌, ◌==◌, ◌<◌, ◌≤◌, ◌^◌, nat_eq, nat_le, Bool, ◌&&◌, true, false, cond, if◌then◌else◌, List, [], ◌∷◌, length, filter}
+use Rattle.std.proofs.Common.{slice_index, refl, ap, sym, ◌∙◌, arith}
 use Rattle.std.specs.List.{count_by, list_all}
 use Rattle.std.proofs.Math.Dec.{leb-zero}
 use Rattle.std.proofs.lemmas.Bool.{eqb-true}
@@ -57,8 +58,10 @@ none_twice : (n : ℕ) → n + 0 + 0 ≡ n
 none_twice n = omega arith
 
 -- its counts are those of its lines
-pub crowd_told : (p : Plant) (lines touched : List ℕ) (counts : List ℕ) (roomy : Bool) (miss held : ℕ) (alone : Bool) → IsPlant p → ((s : ℕ) → s < p.sets → slice_index counts s ≡ count_in p.sets lines s) →
-    roomy ≡ list_all (λ n. nat_le (slice_index counts (n % p.sets)) p.«ways») touched → miss ≡ line_cost p → held ≡ length (filter (λ n. nat_le (slice_index counts (n % p.sets)) p.«ways») lines) → length lines < 2 ^ 32 →
+pub crowd_told : (p : Plant) (lines touched : List ℕ) (counts : List ℕ) (roomy : Bool) (miss held : ℕ) (alone : Bool) → IsPlant p →
+    ((s : ℕ) → s < p.sets → slice_index counts s ≡ count_in p.sets lines s) →
+    roomy ≡ list_all (λ n. nat_le (slice_index counts (n % p.sets)) p.«ways») touched → miss ≡ line_cost p →
+    held ≡ length (filter (λ n. nat_le (slice_index counts (n % p.sets)) p.«ways») lines) → length lines < 2 ^ 32 →
     alone ≡ nat_eq held (length lines) →
     IsCrowd p lines touched (record { line = p.line; sets = p.sets; room = p.«ways»; counts = counts; roomy = roomy; miss = miss; held = held; alone = alone })
 crowd_told p lines touched counts roomy miss held alone plant are all cost kept short one =

@@ -44,7 +44,8 @@ use Rattle.prem_wcet.proofs.ScenesAlike.{StandsFor}
 
 -- ---- numbers
 
-pub scene_made : (p : Plant) (t : PlacedTask) (s : SceneTree) → StandsWhole p t → IsPlant p → IsRule p s.rule.now → s.plant.now ≡ p → s.places.now ≡ t.places → s.code.now ≡ items_of t.table.code → length s.facts.now ≤ length s.code.now →
+pub scene_made : (p : Plant) (t : PlacedTask) (s : SceneTree) → StandsWhole p t → IsPlant p → IsRule p s.rule.now → s.plant.now ≡ p →
+    s.places.now ≡ t.places → s.code.now ≡ items_of t.table.code → length s.facts.now ≤ length s.code.now →
     TellsKnown s.costs.now (λ at. cost_of) s.places.now (listed s.code.now) (length s.facts.now) → s.globals ≡ 1 + length (routines_of t) + length (items_of t.plans) → IsScene s
 scene_made p t s whole plant rule ep et ec known costs globals =
     let rule2 : IsRule s.plant.now s.rule.now = subst (λ q. IsRule q s.rule.now) (sym ep) rule in
@@ -56,7 +57,8 @@ scene_made p t s whole plant rule ep et ec known costs globals =
       other = rule2.other;
       bare = rule2.bare;
       ends = subst (λ c. (n : ℕ) → n < length (listed c) → (place_at s.places.now (1 + n)).0 + size_of (get_or (listed c) n no_pieces) < 2 ^ 32) (sym ec)
-          (subst (λ places. (n : ℕ) → n < length (listed (items_of t.table.code)) → (place_at places (1 + n)).0 + size_of (get_or (listed (items_of t.table.code)) n no_pieces) < 2 ^ 32) (sym et) ends);
+          (subst (λ places. (n : ℕ) → n < length (listed (items_of t.table.code)) →
+          (place_at places (1 + n)).0 + size_of (get_or (listed (items_of t.table.code)) n no_pieces) < 2 ^ 32) (sym et) ends);
       costs = costs;
       first_global = globals ∙ count ∙ ap (λ (places : TaskPlaces). 1 + places.functions + length places.marked) (sym et);
       parts = subst (λ (places : TaskPlaces). length places.places < 2 ^ 32) (sym et) whole.few;
@@ -98,7 +100,8 @@ module _ (p : Plant) (t : PlacedTask) (lengths : List ℕ) (whole : StandsWhole 
 
   -- with such facts, of which these are known
   pub stands_with : (facts : List FactTree) (stack : Extent) (known : List Fact) → ((f : ℕ) → FactsAlike (slice_index_or (facts_in facts code) f no_fact) (slice_index_or known f no_fact)) →
-      map (λ (f : Fact). f.pieces) (facts_in facts code) ≡ map (λ (f : Fact). f.pieces) known → StandsFor (memory_scene p t.places code faces stack facts) (record (scene_of p plans program t.places) { stack = stack ∷ []; facts = known })
+      map (λ (f : Fact). f.pieces) (facts_in facts code) ≡ map (λ (f : Fact). f.pieces) known →
+      StandsFor (memory_scene p t.places code faces stack facts) (record (scene_of p plans program t.places) { stack = stack ∷ []; facts = known })
   stands_with facts stack known each pieces =
       let e : Scene = memory_scene p t.places code faces stack facts in
       let base : Scene = scene_of p plans program t.places in
@@ -142,7 +145,8 @@ module _ (p : Plant) (t : PlacedTask) (lengths : List ℕ) (whole : StandsWhole 
 -- ---- the functions of a program in memory
 
 -- the one of this number stands behind so many loops
-pub routine_there : (turns : ℕ → ℕ) (loops : ℕ) (rs : List RoutineTree) (k : ℕ) (r : RoutineTree) → k < length rs → r ≡ get_or rs k r → (m : ℕ) × (slice_get (resolved_routines turns loops rs) k ≡ Some (routine_of turns m r))
+pub routine_there : (turns : ℕ → ℕ) (loops : ℕ) (rs : List RoutineTree) (k : ℕ) (r : RoutineTree) → k < length rs → r ≡ get_or rs k r →
+    (m : ℕ) × (slice_get (resolved_routines turns loops rs) k ≡ Some (routine_of turns m r))
 routine_there turns loops [] k r lt is = absurd (omega (arith, lt))
 routine_there turns loops (x ∷ xs) zero r lt is = (loops, ap (λ y. Some (routine_of turns loops y)) (sym is))
 routine_there turns loops (x ∷ xs) (suc k) r lt is = routine_there turns (loops + loops_of x.body) xs k r (omega (arith, lt)) is

@@ -39,7 +39,8 @@ weighted_more w f g le (either test taken other rest) =
     let a = weighted_more w f g le taken in
     let b = weighted_more w f g le other in
     let c = weighted_more w f g le rest in
-    sum (w (branch_of test)) (weighted w f taken) (weighted w g taken) (weighted w f other) (weighted w g other) (weighted w f rest) (weighted w g rest) (skip_words other * jump_weight w) (jump_weight w) a b c
+    sum (w (branch_of test)) (weighted w f taken) (weighted w g taken) (weighted w f other) (weighted w g other) (weighted w f rest)
+    (weighted w g rest) (skip_words other * jump_weight w) (jump_weight w) a b c
   where
     sum : (t x x' y y' z z' s j : ℕ) → x ≤ x' → y ≤ y' → z ≤ z' → t + max (x + s) (j + y) + z ≤ t + max (x' + s) (j + y') + z'
     sum t x x' y y' z z' s j a b c = omega (arith, a, b, c)
@@ -50,7 +51,8 @@ weighted_more w f g le (repeat turns head test body rest) =
     let t : ℕ = w (branch_of test) in
     let j : ℕ = jump_weight w in
     let m : turns * (weighted w f head + w (branch_of test) + weighted w f body + jump_weight w) ≤ turns * (weighted w g head + w (branch_of test) + weighted w g body + jump_weight w) =
-    mul-le turns (weighted w f head + w (branch_of test) + weighted w f body + jump_weight w) turns (weighted w g head + w (branch_of test) + weighted w g body + jump_weight w) (omega arith) (omega (arith, a, b)) in
+    mul-le turns (weighted w f head + w (branch_of test) + weighted w f body + jump_weight w) turns
+    (weighted w g head + w (branch_of test) + weighted w g body + jump_weight w) (omega arith) (omega (arith, a, b)) in
     sum (turns * (weighted w f head + w (branch_of test) + weighted w f body + jump_weight w)) (turns * (weighted w g head + w (branch_of test) + weighted w g body + jump_weight w))
     (weighted w f head) (weighted w g head) (weighted w f rest) (weighted w g rest) (w (branch_of test)) (jump_weight w) m a c
   where
@@ -83,7 +85,8 @@ part_less functions c d s t h k (suc n) = by (nat_lt n functions)
     by true = h n
     by false = k (n - functions)
 
-behind_less : (w : Instr → ℕ) (functions : ℕ) (s t : ℕ → ℕ) → ((k : ℕ) → s k ≤ t k) → (pss : List Pieces) (xs ys : List ℕ) → Less xs ys → Less (weights_behind w functions (λ known. s) xs pss) (weights_behind w functions (λ known. t) ys pss)
+behind_less : (w : Instr → ℕ) (functions : ℕ) (s t : ℕ → ℕ) → ((k : ℕ) → s k ≤ t k) → (pss : List Pieces) (xs ys : List ℕ) → Less xs ys →
+    Less (weights_behind w functions (λ known. s) xs pss) (weights_behind w functions (λ known. t) ys pss)
 behind_less w functions s t le [] xs ys h = h
 behind_less w functions s t le (ps ∷ pss) xs ys h =
     let x : ℕ = weighted w (part_weight functions (weight_at xs) s) ps in
@@ -103,6 +106,7 @@ pub bound_less : (p : Plant) (t : TaskPlaces) (top : ℕ) (plans : List Plan) (t
 bound_less p t top plans table =
     let short : List Plan = map (shortened p t top) plans in
     let weights = behind_less (job_weight p) (length table.code) (marked_weights p short) (marked_weights p plans) (marked_less p t top plans) table.code [] [] none in
-    let start = weighted_more (job_weight p) (part_weight (length table.code) (weight_at (job_weights p short table)) (marked_weights p short)) (part_weight (length table.code) (weight_at (job_weights p plans table)) (marked_weights p plans))
+    let start = weighted_more (job_weight p) (part_weight (length table.code) (weight_at (job_weights p short table)) (marked_weights p short))
+    (part_weight (length table.code) (weight_at (job_weights p plans table)) (marked_weights p plans))
     (part_less (length table.code) _ _ _ _ (less_at weights) (marked_less p t top plans)) (start_code table.job) in
     omega (arith, start)

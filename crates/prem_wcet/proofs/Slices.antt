@@ -19,7 +19,8 @@ use Rattle.prem_wcet_laws.specs.Scopes.{Scene, globals_in_term, globals_in_terms
 use Rattle.prem_wcet_laws.specs.Least.{term_of, bound_code, first_code, counter_code, turn_of}
 use Rattle.prem_wcet.specs.Outlines.{Outline, plain, calling, choice, turning, code_of}
 use Rattle.prem_wcet.specs.Outlined.{outline_of}
-use Rattle.prem_wcet.specs.Sliced.{tail_of, behind_pieces, spine, first_pieces, before_pieces, first_side, second_side, turns_in, head_in, body_in, operator_pieces, behind_term, behind_terms, behind_target, behind_steps, sliced, SlicesAreOutlines}
+use Rattle.prem_wcet.specs.Sliced.{tail_of, behind_pieces, spine, first_pieces, before_pieces, first_side, second_side, turns_in, head_in, body_in, operator_pieces, behind_term}
+use Rattle.prem_wcet.specs.Sliced.{behind_terms, behind_target, behind_steps, sliced, SlicesAreOutlines}
 use Rattle.prem_wcet.proofs.OutlineCode.{code_is}
 
 -- ---- what stands before others
@@ -88,14 +89,17 @@ term_behind target parts r (Binary at op kind left right) q =
     let code : Pieces = binary_code target op kind r (r + 1) in
     let second : Pieces = followed (term_code target parts (r + 1) right) code in
     ap (λ ps. behind_pieces (operator_pieces target op) (behind_term target right (behind_term target left ps))) (followed_append (term_code target parts r left) second q)
-    ∙ ap (λ ps. behind_pieces (operator_pieces target op) (behind_term target right ps)) (term_behind target parts r left (followed second q) ∙ followed_append (term_code target parts (r + 1) right) code q)
+    ∙ ap (λ ps. behind_pieces (operator_pieces target op) (behind_term target right ps))
+    (term_behind target parts r left (followed second q) ∙ followed_append (term_code target parts (r + 1) right) code q)
     ∙ ap (behind_pieces (operator_pieces target op)) (term_behind target parts (r + 1) right (followed code q))
     ∙ operator_behind target op kind r (r + 1) q
 term_behind target parts r (AndAlso at left right) q =
     let code : Pieces = either (nonzero r) (followed (term_code target parts r right) (only (truth_code r))) no_pieces no_pieces in
     ap (λ ps. tail_of (behind_term target left ps)) (followed_append (term_code target parts r left) code q) ∙ ap tail_of (term_behind target parts r left (followed code q))
 term_behind target parts r (OrElse at left right) q =
-    ap (λ ps. tail_of (behind_term target left ps)) (followed_append (term_code target parts r left) (either (nonzero r) (only (OpImm AddI r 0 (pos 1) ∷ [])) (followed (term_code target parts r right) (only (truth_code r))) no_pieces) q)
+    ap (λ ps. tail_of (behind_term target left ps))
+    (followed_append (term_code target parts r left)
+    (either (nonzero r) (only (OpImm AddI r 0 (pos 1) ∷ [])) (followed (term_code target parts r right) (only (truth_code r))) no_pieces) q)
     ∙ ap tail_of (term_behind target parts r left (either (nonzero r) (only (OpImm AddI r 0 (pos 1) ∷ [])) (followed (term_code target parts r right) (only (truth_code r))) q))
 
 pub terms_behind : (target : Target) (parts : ℕ → ℕ) (frame j : ℕ) (xs : List Term) (q : Pieces) → behind_terms target xs (followed (argument_code target parts frame j xs) q) ≡ q
@@ -136,7 +140,8 @@ module _ (e : Scene) where
   -- ---- behind statements
 
   -- what stands behind a statement
-  split_is : (n m : ℕ) (one all rest : Steps) → followed (steps_code e.parts n one) (code_of (outline_of e m rest)) ≡ steps_code e.parts n all → steps_code e.parts n all ≡ followed (steps_code e.parts n one) (steps_code e.parts m rest)
+  split_is : (n m : ℕ) (one all rest : Steps) → followed (steps_code e.parts n one) (code_of (outline_of e m rest)) ≡ steps_code e.parts n all →
+      steps_code e.parts n all ≡ followed (steps_code e.parts n one) (steps_code e.parts m rest)
   split_is n m one all rest is = sym is ∙ ap (followed (steps_code e.parts n one)) (code_is e m rest)
 
   pub steps_behind : (n : ℕ) (steps : Steps) (last : Pieces) → behind_steps e.parts.target steps (followed (steps_code e.parts n steps) last) ≡ last
@@ -181,22 +186,29 @@ module _ (e : Scene) where
   slices_are n Done last = refl
   slices_are n (SetLocal pl k value rest) last =
       let s : Steps = SetLocal pl k value Done in
-      let is = whole_is (steps_code e.parts n s) (steps_code e.parts n (SetLocal pl k value rest)) (steps_code e.parts n rest) last (split_is n n s (SetLocal pl k value rest) rest (code_is e n (SetLocal pl k value rest))) in
-      plain_is (globals_in_term value) rest (outline_of e n rest) _ (steps_code e.parts n s) (followed (steps_code e.parts n rest) last) _ is (ap tail_of (after_term 10 value _ last)) (slices_are n rest last)
+      let is = whole_is (steps_code e.parts n s) (steps_code e.parts n (SetLocal pl k value rest)) (steps_code e.parts n rest) last
+      (split_is n n s (SetLocal pl k value rest) rest (code_is e n (SetLocal pl k value rest))) in
+      plain_is (globals_in_term value) rest (outline_of e n rest) _ (steps_code e.parts n s) (followed (steps_code e.parts n rest) last) _ is
+      (ap tail_of (after_term 10 value _ last)) (slices_are n rest last)
   slices_are n (SetScalar pl g ty value rest) last =
       let s : Steps = SetScalar pl g ty value Done in
-      let is = whole_is (steps_code e.parts n s) (steps_code e.parts n (SetScalar pl g ty value rest)) (steps_code e.parts n rest) last (split_is n n s (SetScalar pl g ty value rest) rest (code_is e n (SetScalar pl g ty value rest))) in
-      plain_is (g ∷ globals_in_term value) rest (outline_of e n rest) _ (steps_code e.parts n s) (followed (steps_code e.parts n rest) last) _ is (ap (behind_pieces 2) (after_term 10 value _ last)) (slices_are n rest last)
+      let is = whole_is (steps_code e.parts n s) (steps_code e.parts n (SetScalar pl g ty value rest)) (steps_code e.parts n rest) last
+      (split_is n n s (SetScalar pl g ty value rest) rest (code_is e n (SetScalar pl g ty value rest))) in
+      plain_is (g ∷ globals_in_term value) rest (outline_of e n rest) _ (steps_code e.parts n s) (followed (steps_code e.parts n rest) last) _ is
+      (ap (behind_pieces 2) (after_term 10 value _ last)) (slices_are n rest last)
   slices_are n (SetElement pl g ty index value rest) last =
       let s : Steps = SetElement pl g ty index value Done in
-      let is = whole_is (steps_code e.parts n s) (steps_code e.parts n (SetElement pl g ty index value rest)) (steps_code e.parts n rest) last (split_is n n s (SetElement pl g ty index value rest) rest (code_is e n (SetElement pl g ty index value rest))) in
+      let is = whole_is (steps_code e.parts n s) (steps_code e.parts n (SetElement pl g ty index value rest)) (steps_code e.parts n rest) last
+      (split_is n n s (SetElement pl g ty index value rest) rest (code_is e n (SetElement pl g ty index value rest))) in
       plain_is (g ∷ (globals_in_term index ++ globals_in_term value)) rest (outline_of e n rest) _ (steps_code e.parts n s) (followed (steps_code e.parts n rest) last) _ is
       (ap (λ ps. behind_pieces 3 (behind_term e.parts.target index (behind_term e.parts.target value ps))) is ∙ element_behind n pl g ty index value (followed (steps_code e.parts n rest) last))
       (slices_are n rest last)
   slices_are n (Output pl value rest) last =
       let s : Steps = Output pl value Done in
-      let is = whole_is (steps_code e.parts n s) (steps_code e.parts n (Output pl value rest)) (steps_code e.parts n rest) last (split_is n n s (Output pl value rest) rest (code_is e n (Output pl value rest))) in
-      plain_is (globals_in_term value) rest (outline_of e n rest) _ (steps_code e.parts n s) (followed (steps_code e.parts n rest) last) _ is (ap tail_of (after_term 10 value _ last)) (slices_are n rest last)
+      let is = whole_is (steps_code e.parts n s) (steps_code e.parts n (Output pl value rest)) (steps_code e.parts n rest) last
+      (split_is n n s (Output pl value rest) rest (code_is e n (Output pl value rest))) in
+      plain_is (globals_in_term value) rest (outline_of e n rest) _ (steps_code e.parts n s) (followed (steps_code e.parts n rest) last) _ is
+      (ap tail_of (after_term 10 value _ last)) (slices_are n rest last)
   slices_are n (Input pl k rest) last =
       let s : Steps = Input pl k Done in
       plain_is [] rest (outline_of e n rest) _ (steps_code e.parts n s) (followed (steps_code e.parts n rest) last) _ refl refl (slices_are n rest last)
@@ -208,9 +220,11 @@ module _ (e : Scene) where
       let two : Pieces = steps_code e.parts m other in
       let left : Pieces = followed (steps_code e.parts l rest) last in
       let all : Pieces = followed (steps_code e.parts n (If pl condition taken other rest)) last in
-      let is = whole_is (steps_code e.parts n s) (steps_code e.parts n (If pl condition taken other rest)) (steps_code e.parts l rest) last (split_is n l s (If pl condition taken other rest) rest (code_is e n (If pl condition taken other rest))) in
+      let is = whole_is (steps_code e.parts n s) (steps_code e.parts n (If pl condition taken other rest)) (steps_code e.parts l rest) last
+      (split_is n l s (If pl condition taken other rest) rest (code_is e n (If pl condition taken other rest))) in
       let there : behind_term e.parts.target condition all ≡ either (nonzero 10) one two left = after_term 10 condition _ last in
-      ap (λ ps. choice (before_pieces all (tail_of ps)) (globals_in_term condition) (before_pieces all ps) (skip_words (second_side ps)) (sliced e.parts.target taken (first_side ps)) (sliced e.parts.target other (second_side ps)) (sliced e.parts.target rest (tail_of ps))) there
+      ap (λ ps. choice (before_pieces all (tail_of ps)) (globals_in_term condition) (before_pieces all ps) (skip_words (second_side ps))
+      (sliced e.parts.target taken (first_side ps)) (sliced e.parts.target other (second_side ps)) (sliced e.parts.target rest (tail_of ps))) there
       ∙ (λ i.
       choice (before_is all left (steps_code e.parts n s) is i) (globals_in_term condition)
       (before_is all (either (nonzero 10) one two left) (term_of e 10 condition) (followed_append (term_of e 10 condition) _ last) i) (skip_words two)
@@ -226,7 +240,8 @@ module _ (e : Scene) where
       let is = whole_is (steps_code e.parts n s) (steps_code e.parts n (For pl k low closed high step turns body rest)) (steps_code e.parts m rest) last
       (split_is n m s (For pl k low closed high step turns body rest) rest (code_is e n (For pl k low closed high step turns body rest))) in
       let there : behind_term e.parts.target low all ≡ straight (store_slot k ∷ []) loop = after_term 10 low _ last in
-      ap (λ ps. turning (before_pieces all (behind_pieces 2 ps)) (globals_in_term low ++ globals_in_term high) (before_pieces all (tail_of ps)) (turns_in (tail_of ps)) (head_in (tail_of ps)) (before_pieces (body_in (tail_of ps)) (body_in (tail_of ps)))
+      ap (λ ps. turning (before_pieces all (behind_pieces 2 ps)) (globals_in_term low ++ globals_in_term high) (before_pieces all (tail_of ps))
+      (turns_in (tail_of ps)) (head_in (tail_of ps)) (before_pieces (body_in (tail_of ps)) (body_in (tail_of ps)))
       (sliced e.parts.target body (body_in (tail_of ps))) (behind_steps e.parts.target body (body_in (tail_of ps))) (sliced e.parts.target rest (behind_pieces 2 ps))) there
       ∙ (λ i.
       turning (before_is all left (steps_code e.parts n s) is i) (globals_in_term low ++ globals_in_term high)
@@ -249,12 +264,15 @@ module _ (e : Scene) where
       let all : Pieces = followed (steps_code e.parts n (Call pl to f arguments rest)) last in
       let own : Pieces = argument_code e.parts.target e.parts.global (e.parts.frame f) 0 arguments in
       let jump : Pieces = call_to (e.parts.link f) (e.parts.callee f) (followed (target_code to no_pieces) left) in
-      let is = whole_is (steps_code e.parts n s) (steps_code e.parts n (Call pl to f arguments rest)) (steps_code e.parts n rest) last (split_is n n s (Call pl to f arguments rest) rest (code_is e n (Call pl to f arguments rest))) in
+      let is = whole_is (steps_code e.parts n s) (steps_code e.parts n (Call pl to f arguments rest)) (steps_code e.parts n rest) last
+      (split_is n n s (Call pl to f arguments rest) rest (code_is e n (Call pl to f arguments rest))) in
       let there : behind_terms e.parts.target arguments all ≡ jump = ap (behind_terms e.parts.target arguments) is ∙ call_behind n pl to f arguments left in
       let landed : behind_target to (followed (target_code to no_pieces) left) ≡ left = target_behind to left in
-      ap (λ ps. calling (before_pieces all (behind_target to (tail_of ps))) (globals_in_terms arguments) (before_pieces all ps) (length arguments) f (before_pieces (tail_of ps) (behind_target to (tail_of ps)))
+      ap (λ ps. calling (before_pieces all (behind_target to (tail_of ps))) (globals_in_terms arguments) (before_pieces all ps) (length arguments) f
+      (before_pieces (tail_of ps) (behind_target to (tail_of ps)))
       (sliced e.parts.target rest (behind_target to (tail_of ps)))) there
-      ∙ ap (λ ps. calling (before_pieces all ps) (globals_in_terms arguments) (before_pieces all jump) (length arguments) f (before_pieces (followed (target_code to no_pieces) left) ps) (sliced e.parts.target rest ps)) landed
+      ∙ ap (λ ps. calling (before_pieces all ps) (globals_in_terms arguments) (before_pieces all jump) (length arguments) f
+      (before_pieces (followed (target_code to no_pieces) left) ps) (sliced e.parts.target rest ps)) landed
       ∙ (λ i.
       calling (before_is all left (steps_code e.parts n s) is i) (globals_in_terms arguments) (before_is all jump own (is ∙ followed_append own _ left) i) (length arguments) f
       (before_is (followed (target_code to no_pieces) left) left (target_code to no_pieces) refl i) (slices_are n rest last i))

@@ -41,20 +41,24 @@ use Rattle.prem_wcet.proofs.Wholes.{tasks_whole}
 -- ---- stated lengths reach openings
 
 -- an opening is within the bound of its function, which is within its stated length
-enough : (p : Plant) (t : Placed) (lines k : ℕ) (plan : Plan) (stub : Pieces) → weight_listed cost_of (part_weight (length t.table.code) (weight_at (costs_of t.table)) (λ j. 0)) t.table.stubs k ≡ weighted cost_of (part_weight (length t.table.code) (weight_at (costs_of t.table)) (λ j. 0)) stub →
+enough : (p : Plant) (t : Placed) (lines k : ℕ) (plan : Plan) (stub : Pieces) →
+    weight_listed cost_of (part_weight (length t.table.code) (weight_at (costs_of t.table)) (λ j. 0)) t.table.stubs k
+    ≡ weighted cost_of (part_weight (length t.table.code) (weight_at (costs_of t.table)) (λ j. 0)) stub →
     stub ≡ stub_of (stub_passes p) p.line t.at plan → bound_of p t.table k (length (footprint_of p.line t.at plan)) ≤ plan.stated → opens_of p t.at plan ≤ plan.stated
 enough p t lines k plan stub listed es le =
     let c : ℕ → ℕ = part_weight (length t.table.code) (weight_at (costs_of t.table)) (λ j. 0) in
     let less : C stub ≤ weighted cost_of c stub = weighted_more cost_of (λ part. 0) c (λ part. omega arith) stub in
     let is : C stub ≡ C (opening_code p t.at plan) + 7 = ap C es ∙ stub_cost p t.at plan in
-    sum (stub_weight cost_of (length t.table.code) t.table.stubs (costs_of t.table) k) (weighted cost_of c stub) (C stub) (C (opening_code p t.at plan)) (length (footprint_of p.line t.at plan) * line_cost p) plan.stated listed less is le
+    sum (stub_weight cost_of (length t.table.code) t.table.stubs (costs_of t.table) k) (weighted cost_of c stub) (C stub)
+    (C (opening_code p t.at plan)) (length (footprint_of p.line t.at plan) * line_cost p) plan.stated listed less is le
   where
     sum : (s w x o m n : ℕ) → s ≡ w → x ≤ w → x ≡ o + 7 → s - 1 - 2 + m ≤ n → o + m ≤ n
     sum s w x o m n a b c d = omega (arith, a, b, c, d)
 
 -- those of the plans from number k on
 opened : (p : Plant) (t : Placed) (most : ℕ) (k : ℕ) (plans : List Plan) (stubs : List Pieces) → stubs ≡ map (stub_of (stub_passes p) p.line t.at) plans →
-    ((j : ℕ) → weight_listed cost_of (part_weight (length t.table.code) (weight_at (costs_of t.table)) (λ i. 0)) t.table.stubs (k + j) ≡ weight_listed cost_of (part_weight (length t.table.code) (weight_at (costs_of t.table)) (λ i. 0)) stubs j) →
+    ((j : ℕ) → weight_listed cost_of (part_weight (length t.table.code) (weight_at (costs_of t.table)) (λ i. 0)) t.table.stubs (k + j)
+    ≡ weight_listed cost_of (part_weight (length t.table.code) (weight_at (costs_of t.table)) (λ i. 0)) stubs j) →
     short_interval t.task.program.routines (interval_facts_from p t k plans) ≡ None → greatest_stated plans ≤ 2 ^ 40 → AllByRecursion IsOpening (map (opens_of p t.at) plans)
 opened p t most k [] stubs es listed nine small = tt
 opened p t most k (plan ∷ plans) [] es listed nine small = absurd cc
@@ -70,9 +74,11 @@ opened p t most k (plan ∷ plans) (stub ∷ stubs) es listed nine small =
     by (ltb fact.stated fact.bound) refl nine (λ le. enough p t 0 k plan stub here first le) (λ h. opened p t most (k + 1) plans stubs rest more h (omega (arith, small)))
   where
     by : (b : Bool) → ltb plan.stated (bound_of p t.table k (length (footprint_of p.line t.at plan))) ≡ b →
-        cond b (Some (Length (name_at t.task.program.routines plan.function) (bound_of p t.table k (length (footprint_of p.line t.at plan))) plan.stated)) (short_interval t.task.program.routines (interval_facts_from p t (k + 1) plans)) ≡ None →
+        cond b (Some (Length (name_at t.task.program.routines plan.function) (bound_of p t.table k (length (footprint_of p.line t.at plan)))
+        plan.stated)) (short_interval t.task.program.routines (interval_facts_from p t (k + 1) plans)) ≡ None →
         (bound_of p t.table k (length (footprint_of p.line t.at plan)) ≤ plan.stated → opens_of p t.at plan ≤ plan.stated) →
-        (short_interval t.task.program.routines (interval_facts_from p t (k + 1) plans) ≡ None → AllByRecursion IsOpening (map (opens_of p t.at) plans)) → AllByRecursion IsOpening (map (opens_of p t.at) (plan ∷ plans))
+        (short_interval t.task.program.routines (interval_facts_from p t (k + 1) plans) ≡ None →
+        AllByRecursion IsOpening (map (opens_of p t.at) plans)) → AllByRecursion IsOpening (map (opens_of p t.at) (plan ∷ plans))
     by true lt e one others = absurd cc
     by false lt e one others =
         let le = one (ltb-false plan.stated (bound_of p t.table k (length (footprint_of p.line t.at plan))) lt) in
@@ -89,10 +95,14 @@ timed_task p t whole bound longest nine =
       whole = whole;
       bound = bound;
       opens = opened p (placed_of t) 0 0 (plans_of t) (placed_of t).table.stubs stubs
-          (λ j. (let z : 0 + j ≡ j = omega arith in ap (weight_listed cost_of (part_weight (length (placed_of t).table.code) (weight_at (costs_of (placed_of t).table)) (λ i. 0)) (placed_of t).table.stubs) z)) nine (omega (arith, longest));
+          (λ j. (let z : 0 + j ≡ j = omega arith in
+          ap (weight_listed cost_of (part_weight (length (placed_of t).table.code) (weight_at (costs_of (placed_of t).table)) (λ i. 0))
+          (placed_of t).table.stubs) z)) nine (omega (arith, longest));
     }
 
-timed_all : (p : Plant) (ts : List PlacedTask) → AllByRecursion (StandsWhole p) ts → AllByRecursion (HasBound p) ts → AllByRecursion IsBound (longest_in p (map placed_of ts)) → AllByRecursion (λ t. length_rules p t ≡ None) (map placed_of ts) → AllByRecursion (IsTimedTask p) ts
+timed_all : (p : Plant) (ts : List PlacedTask) → AllByRecursion (StandsWhole p) ts → AllByRecursion (HasBound p) ts →
+    AllByRecursion IsBound (longest_in p (map placed_of ts)) → AllByRecursion (λ t. length_rules p t ≡ None) (map placed_of ts) →
+    AllByRecursion (IsTimedTask p) ts
 timed_all p [] a b c d = tt
 timed_all p (t ∷ ts) a b c d = (timed_task p t a.0 b.0 c.0 d.0, timed_all p ts a.1 b.1 c.1 d.1)
 
@@ -101,13 +111,17 @@ nine_kept set layout h =
     let p : Plant = set.plant in
     let placed : List Placed = placed_by set layout in
     let tasks : List Coded = coded_in set in
-    let six = both_none (over_tasks reach_rules placed) (or_else (over_tasks (conflict_rules p) placed) (or_else (over_tasks (bound_rules p) placed) (or_else (over_tasks (length_rules p) placed) (refused_by None (log_rules tasks))))) h in
-    let seven = both_none (over_tasks (conflict_rules p) placed) (or_else (over_tasks (bound_rules p) placed) (or_else (over_tasks (length_rules p) placed) (refused_by None (log_rules tasks)))) six.second in
+    let six = both_none (over_tasks reach_rules placed)
+    (or_else (over_tasks (conflict_rules p) placed)
+    (or_else (over_tasks (bound_rules p) placed) (or_else (over_tasks (length_rules p) placed) (refused_by None (log_rules tasks))))) h in
+    let seven = both_none (over_tasks (conflict_rules p) placed)
+    (or_else (over_tasks (bound_rules p) placed) (or_else (over_tasks (length_rules p) placed) (refused_by None (log_rules tasks)))) six.second in
     let eight = both_none (over_tasks (bound_rules p) placed) (or_else (over_tasks (length_rules p) placed) (refused_by None (log_rules tasks))) seven.second in
     let nine = both_none (over_tasks (length_rules p) placed) (refused_by None (log_rules tasks)) eight.second in
     none_among (length_rules p) 0 placed nine.first
 
-pub tasks_timed : (set : TaskSet) (parts : List PartSize) (layout : List Extent) (tasks : List PlacedTask) (c : Compiled) → IsPlant set.plant → HasPlaces set parts layout tasks → IsMadeAt set layout c → AllByRecursion (IsTimedTask set.plant) tasks
+pub tasks_timed : (set : TaskSet) (parts : List PartSize) (layout : List Extent) (tasks : List PlacedTask) (c : Compiled) → IsPlant set.plant →
+    HasPlaces set parts layout tasks → IsMadeAt set layout c → AllByRecursion (IsTimedTask set.plant) tasks
 tasks_timed set parts layout tasks c plant h made =
     let late : placed_broken set layout ≡ None = not_late (placed_broken set layout) (sym h.broken_is ∙ made.lawful) in
     let nine = subst (λ (ts : List Placed). AllByRecursion (λ t. length_rules set.plant t ≡ None) ts) (sym h.placed) (nine_kept set layout late) in

@@ -13,7 +13,8 @@ use Rattle.prem_wcet.specs.Times.{closed_by}
 use Rattle.prem_wcet.specs.Lengths.{with_lengths, lengths_within, stated_in, opens_in}
 use Rattle.prem_wcet.proofs.Shorter.{with_stated, with_within, within_long, bound_less}
 
-module _ (p : Plant) (t : PlacedTask) (stated opens : List ℕ) (top : ℕ) (lengths lent : List ℕ) (es : stated ≡ stated_in t) (eo : opens ≡ opens_in p t) (el : lengths ≡ lengths_within top opens stated) (ed : lent ≡ lengths) where
+module _ (p : Plant) (t : PlacedTask) (stated opens : List ℕ) (top : ℕ) (lengths lent : List ℕ) (es : stated ≡ stated_in t)
+    (eo : opens ≡ opens_in p t) (el : lengths ≡ lengths_within top opens stated) (ed : lent ≡ lengths) where
   lengths_are : lent ≡ lengths_within top (opens_in p t) (stated_in t)
   lengths_are = ed ∙ el ∙ ap (λ ns. lengths_within top ns stated) eo ∙ ap (λ ms. lengths_within top (opens_in p t) ms) es
 

@@ -34,7 +34,8 @@ pub turn : {A : Type 0} (xs front all : List A) (k : ℕ) (x : A) → k < length
 turn xs front all k x lt ef ea is =
     ea ∙ ap (λ ys. ys ++ x ∷ []) ef ∙ ap (λ y. take k xs ++ y ∷ []) (sym is) ∙ sym (take_more xs k x lt)
 
-pub within_at : (top : ℕ) (opens stated : List ℕ) (k d : ℕ) → k < length stated → length opens ≡ length stated → get_or (lengths_within top opens stated) k d ≡ min (get_or stated k 0) (get_or opens k 0 + top)
+pub within_at : (top : ℕ) (opens stated : List ℕ) (k d : ℕ) → k < length stated → length opens ≡ length stated →
+    get_or (lengths_within top opens stated) k d ≡ min (get_or stated k 0) (get_or opens k 0 + top)
 within_at top [] [] k d lt long = absurd (omega (arith, lt))
 within_at top [] (m ∷ ms) k d lt long = absurd (omega (arith, long))
 within_at top (n ∷ ns) [] k d lt long = absurd (omega (arith, lt))
@@ -73,7 +74,8 @@ map_at f (y ∷ ys) zero x d lt is = ap f (sym is)
 map_at f (y ∷ ys) (suc k) x d lt is = map_at f ys k x d (omega (arith, lt)) is
 
 -- the stub of a plan
-pub stub_at : (p : Plant) (t : PlacedTask) (k : ℕ) (plan : IntervalPlan) (stub : Sequence Piece) → IsPlacedTask p t → k < length (items_of t.plans) → plan ≡ get_or (items_of t.plans) k plan → k < length (items_of t.table.stubs) →
+pub stub_at : (p : Plant) (t : PlacedTask) (k : ℕ) (plan : IntervalPlan) (stub : Sequence Piece) → IsPlacedTask p t → k < length (items_of t.plans) →
+    plan ≡ get_or (items_of t.plans) k plan → k < length (items_of t.table.stubs) →
     stub ≡ get_or (items_of t.table.stubs) k stub → pieces_of (items_of stub) ≡ stub_of (stub_passes p) p.line t.places (plan_of plan)
 stub_at p t k plan stub is lt ep there es =
     let stubs : listed (items_of t.table.stubs) ≡ map (stub_of (stub_passes p) p.line t.places) (plans_of t) =
@@ -94,33 +96,40 @@ stubs_long p t is =
 -- ---- marked functions
 
 -- a plan that is lent
-pub plan_there : (t : PlacedTask) (k : ℕ) (plans : List IntervalPlan) (plan : IntervalPlan) → plans ≡ items_of t.plans → k < length plans → plan ≡ get_or plans k plan → plan_of plan ≡ get_or (plans_of t) k (plan_of plan)
+pub plan_there : (t : PlacedTask) (k : ℕ) (plans : List IntervalPlan) (plan : IntervalPlan) → plans ≡ items_of t.plans → k < length plans →
+    plan ≡ get_or plans k plan → plan_of plan ≡ get_or (plans_of t) k (plan_of plan)
 plan_there t k plans plan lent lt at =
     sym (map_at plan_of (items_of t.plans) k plan (plan_of plan) (omega (arith, lt, ap length lent)) (at ∙ ap (λ ps. get_or ps k plan) lent))
 
-pub plan_stands : (p : Plant) (t : PlacedTask) (k : ℕ) (plans : List IntervalPlan) (plan : IntervalPlan) → IsPlacedTask p t → plans ≡ items_of t.plans → k < length plans → plan ≡ get_or plans k plan → IsPlanAt t.places (plan_of plan)
+pub plan_stands : (p : Plant) (t : PlacedTask) (k : ℕ) (plans : List IntervalPlan) (plan : IntervalPlan) → IsPlacedTask p t →
+    plans ≡ items_of t.plans → k < length plans → plan ≡ get_or plans k plan → IsPlanAt t.places (plan_of plan)
 plan_stands p t k plans plan is lent lt at =
     all_at (IsPlanAt t.places) plan_of (items_of t.plans) k plan is.plans (omega (arith, lt, ap length lent)) (at ∙ ap (λ ps. get_or ps k plan) lent)
 
-pub plan_opens : (p : Plant) (t : PlacedTask) (k : ℕ) (plans : List IntervalPlan) (plan : IntervalPlan) → AllByRecursion IsOpening (opens_in p t) → plans ≡ items_of t.plans → k < length plans → plan ≡ get_or plans k plan → IsOpening (opens_of p t.places (plan_of plan))
+pub plan_opens : (p : Plant) (t : PlacedTask) (k : ℕ) (plans : List IntervalPlan) (plan : IntervalPlan) → AllByRecursion IsOpening (opens_in p t) →
+    plans ≡ items_of t.plans → k < length plans → plan ≡ get_or plans k plan → IsOpening (opens_of p t.places (plan_of plan))
 plan_opens p t k plans plan small lent lt at =
     all_at IsOpening (opens_of p t.places) (plans_of t) k (plan_of plan) small (omega (arith, lt, ap length lent, length-map (items_of t.plans) plan_of)) (plan_there t k plans plan lent lt at)
 
-pub opening_there : (p : Plant) (t : PlacedTask) (k n : ℕ) (plans : List IntervalPlan) (plan : IntervalPlan) → plans ≡ items_of t.plans → k < length plans → plan ≡ get_or plans k plan → n ≡ opens_of p t.places (plan_of plan) → get_or (opens_in p t) k n ≡ n
+pub opening_there : (p : Plant) (t : PlacedTask) (k n : ℕ) (plans : List IntervalPlan) (plan : IntervalPlan) → plans ≡ items_of t.plans →
+    k < length plans → plan ≡ get_or plans k plan → n ≡ opens_of p t.places (plan_of plan) → get_or (opens_in p t) k n ≡ n
 opening_there p t k n plans plan lent lt at en =
     map_at (opens_of p t.places) (plans_of t) k (plan_of plan) n (omega (arith, lt, ap length lent, length-map (items_of t.plans) plan_of)) (plan_there t k plans plan lent lt at) ∙ sym en
 
 pub opens_long : (p : Plant) (t : PlacedTask) → length (opens_in p t) ≡ length (items_of t.plans)
 opens_long p t = length-map (plans_of t) (opens_of p t.places) ∙ length-map (items_of t.plans) plan_of
 
-pub plan_at : (p : Plant) (t : PlacedTask) (k : ℕ) (plans : List IntervalPlan) (plan : IntervalPlan) → IsPlacedTask p t → plans ≡ items_of t.plans → k < length plans → plan ≡ get_or plans k plan → plan.function < length (routines_of t)
+pub plan_at : (p : Plant) (t : PlacedTask) (k : ℕ) (plans : List IntervalPlan) (plan : IntervalPlan) → IsPlacedTask p t → plans ≡ items_of t.plans →
+    k < length plans → plan ≡ get_or plans k plan → plan.function < length (routines_of t)
 plan_at p t k plans plan is lent lt at =
     all_at (λ (q : Plan). q.function < length (routines_of t)) plan_of plans k plan
     (subst (λ (ps : List IntervalPlan). AllByRecursion (λ (q : Plan). q.function < length (routines_of t)) (map plan_of ps)) (sym lent) (plans_within p t is)) lt at
 
 pub interval_there : (p : Plant) (t : PlacedTask) (k f : ℕ) (opens : List ℕ) (plans : List IntervalPlan) (plan : IntervalPlan) (routines : List Routine) (routine : Routine) (i : IntervalTime) →
-    IsPlacedTask p t → plans ≡ items_of t.plans → routines ≡ routines_of t → opens ≡ opens_in p t → k < length plans → plan ≡ get_or plans k plan → f ≡ plan.function → routine ≡ get_or routines f routine →
-    name_bytes i.name ≡ name_bytes routine.text.now.name → i.stated ≡ plan.stated → i.opens ≡ get_or opens k 0 → get_or (map (interval_text p (placed_of t)) (plans_of t)) k (interval_of i) ≡ interval_of i
+    IsPlacedTask p t → plans ≡ items_of t.plans → routines ≡ routines_of t → opens ≡ opens_in p t → k < length plans → plan ≡ get_or plans k plan →
+    f ≡ plan.function → routine ≡ get_or routines f routine →
+    name_bytes i.name ≡ name_bytes routine.text.now.name → i.stated ≡ plan.stated → i.opens ≡ get_or opens k 0 →
+    get_or (map (interval_text p (placed_of t)) (plans_of t)) k (interval_of i) ≡ interval_of i
 interval_there p t k f opens plans plan routines routine i is lent all eo lt at ef here en es ei =
     let x : Placed = placed_of t in
     let same : plan_of plan ≡ get_or (plans_of t) k (plan_of plan) = plan_there t k plans plan lent lt at in

@@ -36,7 +36,8 @@ pub size_drop : (ps : List Piece) (i : ℕ) (p : Piece) → i < length ps → p 
 size_drop ps i p h is = let e = words_drop ps i p h is in omega (arith, e)
 
 -- what the code of a loop sums
-pub repeat_told : (n h b j k l first inside branch back leave start through turn out all sum : ℕ) → first ≡ clipped h → inside ≡ clipped b → branch ≡ j → back ≡ k → leave ≡ l → start ≡ clipped (first + branch) →
+pub repeat_told : (n h b j k l first inside branch back leave start through turn out all sum : ℕ) → first ≡ clipped h → inside ≡ clipped b →
+    branch ≡ j → back ≡ k → leave ≡ l → start ≡ clipped (first + branch) →
     through ≡ clipped (start + inside) → turn ≡ clipped (through + back) → out ≡ clipped (start + leave) → all ≡ clipped (n * turn) → sum ≡ clipped (all + out) →
     sum ≡ clipped (n * (h + j + b + k) + (h + j + l) + 0)
 repeat_told n h b j k l first inside branch back leave start through turn out all sum f i e1 e2 e3 s t u o a e =

@@ -1,7 +1,8 @@
 -- The tasks of a set that breaks no rule stand whole.
 use Rattle.std.specs.Prelude.{slice_index, slice_index_or}
 use Rattle.std.specs.List.{AllByRecursion}
-use Rattle.std.proofs.Common.{◌≡◌, ℕ, zero, suc, ◌+◌, ◌<◌, ◌≤◌, ◌^◌, Bool, true, false, cond, ltb, ltb-false, List, [], ◌∷◌, ◌++◌, Option, None, Some, refl, ap, sym, ◌∙◌, subst, arith, length, map, take, drop, get_or, slice_get}
+use Rattle.std.proofs.Common.{◌≡◌, ℕ, zero, suc, ◌+◌, ◌<◌, ◌≤◌, ◌^◌, Bool, true, false, cond, ltb, ltb-false, List, [], ◌∷◌, ◌++◌, Option, None, Some, refl, ap, sym, ◌∙◌, subst}
+use Rattle.std.proofs.Common.{arith, length, map, take, drop, get_or, slice_get}
 use Rattle.std.proofs.lemmas.List.{length-map}
 use Rattle.prem_list.specs.Sequence.{items_of}
 use Rattle.prem_plant.specs.declared.plant.Plant.{Plant}
@@ -120,7 +121,8 @@ record WholePlaces (p : Plant) (x : Placed) : Type 0 where
   start : (place_at x.at 0).0 + 8 ≤ p.memory
   within : (n : ℕ) → EndsBy p.memory (place_at x.at n)
 
-whole_at : (p : Plant) (c : Coded) (places : List Extent) → IsCodeFor p.target c → TaskLies p c places → AllByRecursion (EndsBy p.memory) places → WholePlaces p (placed_at p c (task_places c.program places))
+whole_at : (p : Plant) (c : Coded) (places : List Extent) → IsCodeFor p.target c → TaskLies p c places → AllByRecursion (EndsBy p.memory) places →
+    WholePlaces p (placed_at p c (task_places c.program places))
 whole_at p c places code lies all =
     let sizes : List ℕ = map size_of c.code in
     let long : length c.code ≡ length c.program.routines = ap length code ∙ as_many_codes (parts_of p.target c.program.routines) c.program.routines in
@@ -151,7 +153,8 @@ whole_at p c places code lies all =
       within = λ n. within_at p.memory (take (part_count c.program) places) n (within_take p.memory (part_count c.program) places all);
     }
 
-whole_from : (p : Plant) (places : List Extent) (cs : List Coded) → AllByRecursion (IsCodeFor p.target) cs → TasksLie p cs places → AllByRecursion (EndsBy p.memory) places → AllByRecursion (WholePlaces p) (placed_from p places cs)
+whole_from : (p : Plant) (places : List Extent) (cs : List Coded) → AllByRecursion (IsCodeFor p.target) cs → TasksLie p cs places →
+    AllByRecursion (EndsBy p.memory) places → AllByRecursion (WholePlaces p) (placed_from p places cs)
 whole_from p places [] codes lie all = tt
 whole_from p places (c ∷ cs) codes lie all =
     let long : length c.code ≡ length c.program.routines = ap length codes.0 ∙ as_many_codes (parts_of p.target c.program.routines) c.program.routines in (
@@ -190,7 +193,9 @@ whole_task p t plant is stands w four =
       stack = omega (arith, within, small);
     }
 
-whole_all : (p : Plant) (ts : List PlacedTask) → IsPlant p → AllByRecursion (IsPlacedTask p) ts → AllByRecursion stands_in ts → AllByRecursion (WholePlaces p) (map placed_of ts) → AllByRecursion (λ (c : Coded). code_rules c.program ≡ None) (map coded_of ts) → AllByRecursion (StandsWhole p) ts
+whole_all : (p : Plant) (ts : List PlacedTask) → IsPlant p → AllByRecursion (IsPlacedTask p) ts → AllByRecursion stands_in ts →
+    AllByRecursion (WholePlaces p) (map placed_of ts) → AllByRecursion (λ (c : Coded). code_rules c.program ≡ None) (map coded_of ts) →
+    AllByRecursion (StandsWhole p) ts
 whole_all p [] plant a b c d = tt
 whole_all p (t ∷ ts) plant a b c d = (whole_task p t plant a.0 b.0 c.0 d.0, whole_all p ts plant a.1 b.1 c.1 d.1)
 
@@ -203,7 +208,8 @@ four_kept set h =
     let three = both_none (over_tasks range_rules ps) late two.second in
     none_among (λ (c : Coded). code_rules c.program) 0 (coded_in set) (not_late (code_broken set) three.second)
 
-pub tasks_whole : (set : TaskSet) (parts : List PartSize) (layout : List Extent) (tasks : List PlacedTask) (c : Compiled) → IsPlant set.plant → HasPlaces set parts layout tasks → IsMadeAt set layout c → AllByRecursion (StandsWhole set.plant) tasks
+pub tasks_whole : (set : TaskSet) (parts : List PartSize) (layout : List Extent) (tasks : List PlacedTask) (c : Compiled) → IsPlant set.plant →
+    HasPlaces set parts layout tasks → IsMadeAt set layout c → AllByRecursion (StandsWhole set.plant) tasks
 tasks_whole set parts layout tasks c plant h made =
     let p : Plant = set.plant in
     let apart : ArePlaces p.memory (set_parts_of p set.devices (coded_in set)) layout = subst (λ (ps : List PartSize). ArePlaces p.memory ps layout) h.parts_are h.apart in

@@ -32,4 +32,5 @@ pub record IsFunction (e : Scene) (f : Routine) (o : OutlineTree) : Type 0 where
 -- where it is cut out of the function's code
 abbrev pub FunctionsAreCut : Type 0
 FunctionsAreCut =
-    (e : Scene) (turns : ℕ → ℕ) (m : ℕ) (r : RoutineTree) (ps : Pieces) (o : OutlineTree) → ps ≡ function_code e.parts (routine_of turns m r) → IsOutline e.parts.target r ps o → IsFunction e (routine_of turns m r) o
+    (e : Scene) (turns : ℕ → ℕ) (m : ℕ) (r : RoutineTree) (ps : Pieces) (o : OutlineTree) → ps ≡ function_code e.parts (routine_of turns m r) →
+    IsOutline e.parts.target r ps o → IsFunction e (routine_of turns m r) o

@@ -6,7 +6,8 @@ use Rattle.prem_asm.specs.Pieces.{size_of}
 use Rattle.prem_layout.specs.Template.Terms.{nonzero}
 use Rattle.prem_wcet_laws.specs.Counts.{Count, quiet, then_count}
 use Rattle.prem_wcet_laws.specs.Least.{own}
-use Rattle.prem_wcet.specs.Outlines.{Outline, ended, plain, calling, choice, turning, between, data_between, passage_in, front_in, edge_in, closed_in, call_parted, choice_parted, landing_in, passing_in, first_place, second_place, inner_place, parted_in}
+use Rattle.prem_wcet.specs.Outlines.{Outline, ended, plain, calling, choice, turning, between, data_between, passage_in, front_in, edge_in, closed_in, call_parted, choice_parted}
+use Rattle.prem_wcet.specs.Outlines.{landing_in, passing_in, first_place, second_place, inner_place, parted_in}
 use Rattle.prem_plant.specs.Places.{Extent}
 use Rattle.prem_asm.specs.PiecesOf.{pieces_of}
 use Rattle.prem_wcet_laws.specs.Parted.{Edge, bottom_of, no_edge, turn_count}

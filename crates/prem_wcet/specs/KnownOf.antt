@@ -1,5 +1,6 @@
 -- What is known of the functions of a placed task, and what the task has to be.
-use Rattle.std.specs.Prelude.{◌≡◌, ◌≤◌, ◌<◌, ℕ, ◌+◌, ◌-◌, ◌*◌, ◌^◌, ◌==◌, Bool, true, false, if◌then◌else◌, List, [], ◌∷◌, length, map, drop, get_or, slice_index_or, take, slice_get, None, Some, is_some}
+use Rattle.std.specs.Prelude.{◌≡◌, ◌≤◌, ◌<◌, ℕ, ◌+◌, ◌-◌, ◌*◌, ◌^◌, ◌==◌, Bool, true, false, if◌then◌else◌, List, [], ◌∷◌, length, map, drop, get_or, slice_index_or, take}
+use Rattle.std.specs.Prelude.{slice_get, None, Some, is_some}
 use Rattle.std.specs.List.{AllByRecursion}
 use Rattle.prem_list.specs.declared.Sequence.{Sequence}
 use Rattle.prem_list.specs.Sequence.{items_of}
@@ -132,7 +133,8 @@ pub record IsNextFact (p : Plant) (t : PlacedTask) (faces : List Face) (facts : 
 -- and what it costs where all lines are found
 abbrev pub next_cost_of : PlacedTask → (costs : List ℕ) → (n : ℕ) → ℕ
 next_cost_of t costs n =
-    clipped (weighted_from (λ at. cost_of) (part_weight (length (items_of t.table.code)) (weight_at costs) (λ k. 0)) (place_at t.places (1 + n)).0 (get_or (listed (items_of t.table.code)) n no_pieces))
+    clipped (weighted_from (λ at. cost_of) (part_weight (length (items_of t.table.code)) (weight_at costs) (λ k. 0)) (place_at t.places (1 + n)).0
+    (get_or (listed (items_of t.table.code)) n no_pieces))
 
 -- the facts of a task's functions, and what they cost where all lines are found
 pub record AreKnown (p : Plant) (plans : List Plan) (program : Resolved) (t : TaskPlaces) (code : List (Sequence Piece)) (facts : List FactTree) (costs : List ℕ) : Type 0 where

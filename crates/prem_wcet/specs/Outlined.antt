@@ -29,7 +29,8 @@ outline_of e n (While pl turns condition body rest) =
     turning (steps_code e.parts n (While pl turns condition body Done)) (globals_in_term condition) (counter_code n turns) turns (turn_of e n condition) (only (count_code n))
     (outline_of e (n + 1) body) no_pieces (outline_of e (n + 1 + counters_in body) rest)
 outline_of e n (Call pl target f arguments rest) =
-    calling (steps_code e.parts n (Call pl target f arguments Done)) (globals_in_terms arguments) (argument_code e.parts.target e.parts.global (e.parts.frame f) 0 arguments) (length arguments) f (target_code target no_pieces)
+    calling (steps_code e.parts n (Call pl target f arguments Done)) (globals_in_terms arguments)
+    (argument_code e.parts.target e.parts.global (e.parts.frame f) 0 arguments) (length arguments) f (target_code target no_pieces)
     (outline_of e n rest)
 
 -- one by one, in all, and with marked calls

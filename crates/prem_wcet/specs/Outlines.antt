@@ -166,7 +166,8 @@ closed_in e last at (choice code names condition skips taken other rest) =
     (then_count (quiet (own e condition))
     (choice_parted e skips
     (then_count (quiet (passage_in e (first_place at condition) no_edge (front_in e taken) (edge_in e no_edge taken))) (closed_in e no_edge (first_place at condition) taken))
-    (then_count (quiet (passage_in e (second_place at condition taken skips) no_edge (front_in e other) (edge_in e no_edge other))) (closed_in e no_edge (second_place at condition taken skips) other))))
+    (then_count (quiet (passage_in e (second_place at condition taken skips) no_edge (front_in e other) (edge_in e no_edge other)))
+    (closed_in e no_edge (second_place at condition taken skips) other))))
     (then_count (quiet (passage_in e (at + size_of code) no_edge (front_in e rest) (edge_in e last rest))) (closed_in e last (at + size_of code) rest)))
     (closed_in e last (at + size_of code) rest)
 closed_in e last at (turning code names first turns head before body behind rest) =

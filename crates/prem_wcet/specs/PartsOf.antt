@@ -99,7 +99,8 @@ abbrev mutual
       (before_pieces (body_in (behind_pieces 2 ps)) (tail_of (body_in (behind_pieces 2 ps)))) (cut_step target body (tail_of (body_in (behind_pieces 2 ps))))
       (behind_step target body (tail_of (body_in (behind_pieces 2 ps)))) ended
   cut_step target (Call at to callee arguments) ps =
-      calling (before_pieces ps (behind_step target (Call at to callee arguments) ps)) (globals_in_terms (map term_of (items_of arguments))) (before_pieces ps (behind_terms target (map term_of (items_of arguments)) ps))
+      calling (before_pieces ps (behind_step target (Call at to callee arguments) ps)) (globals_in_terms (map term_of (items_of arguments)))
+      (before_pieces ps (behind_terms target (map term_of (items_of arguments)) ps))
       (length (items_of arguments)) callee
       (before_pieces (tail_of (behind_terms target (map term_of (items_of arguments)) ps)) (behind_step target (Call at to callee arguments) ps)) ended
 

@@ -135,7 +135,8 @@ sliced target (Output pl value rest) ps =
     plain (before_pieces ps (tail_of (behind_term target value ps))) (globals_in_term value) (sliced target rest (tail_of (behind_term target value ps)))
 sliced target (Input pl k rest) ps = plain (before_pieces ps (tail_of ps)) [] (sliced target rest (tail_of ps))
 sliced target (If pl condition taken other rest) ps =
-    choice (before_pieces ps (tail_of (behind_term target condition ps))) (globals_in_term condition) (before_pieces ps (behind_term target condition ps)) (skip_words (second_side (behind_term target condition ps)))
+    choice (before_pieces ps (tail_of (behind_term target condition ps))) (globals_in_term condition)
+    (before_pieces ps (behind_term target condition ps)) (skip_words (second_side (behind_term target condition ps)))
     (sliced target taken (first_side (behind_term target condition ps))) (sliced target other (second_side (behind_term target condition ps)))
     (sliced target rest (tail_of (behind_term target condition ps)))
 sliced target (For pl k low closed high step turns body rest) ps =
@@ -146,7 +147,8 @@ sliced target (For pl k low closed high step turns body rest) ps =
     (sliced target rest (behind_pieces 2 (behind_term target low ps)))
 sliced target (While pl turns condition body rest) ps =
     turning (before_pieces ps (behind_pieces 3 ps)) (globals_in_term condition) (before_pieces ps (behind_pieces 2 ps)) (turns_in (behind_pieces 2 ps)) (head_in (behind_pieces 2 ps))
-    (before_pieces (body_in (behind_pieces 2 ps)) (tail_of (body_in (behind_pieces 2 ps)))) (sliced target body (tail_of (body_in (behind_pieces 2 ps)))) (behind_steps target body (tail_of (body_in (behind_pieces 2 ps))))
+    (before_pieces (body_in (behind_pieces 2 ps)) (tail_of (body_in (behind_pieces 2 ps))))
+    (sliced target body (tail_of (body_in (behind_pieces 2 ps)))) (behind_steps target body (tail_of (body_in (behind_pieces 2 ps))))
     (sliced target rest (behind_pieces 3 ps))
 sliced target (Call pl to f arguments rest) ps =
     calling (before_pieces ps (behind_target to (tail_of (behind_terms target arguments ps)))) (globals_in_terms arguments) (before_pieces ps (behind_terms target arguments ps)) (length arguments) f

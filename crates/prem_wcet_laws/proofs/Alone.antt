@@ -20,7 +20,8 @@ use Rattle.prem_isa.specs.Plain.{TaskState, Did, next_input}
 use Rattle.prem_isa.proofs.Forms.{extended_done}
 use Rattle.prem_plant.specs.declared.plant.Plant.{Plant}
 use Rattle.prem_isa.specs.Decode.{cost_of}
-use Rattle.prem_asm.specs.Pieces.{Pieces, no_pieces, straight, address_of, either, repeat, call_to, code_of, weight, jump_weight, address_weight, branch_of, skip_words, other_at, either_end, test_at, repeat_end, weighted}
+use Rattle.prem_asm.specs.Pieces.{Pieces, no_pieces, straight, address_of, either, repeat, call_to, code_of, weight, jump_weight, address_weight, branch_of, skip_words, other_at}
+use Rattle.prem_asm.specs.Pieces.{either_end, test_at, repeat_end, weighted}
 use Rattle.prem_layout.specs.Bounds.{line_cost, job_weight}
 use Rattle.prem_asm.specs.Runs.{Guard, Setting, Calls, Ending, Falls, Returns, Stuck, stepped, outcome_at, control, run}
 use Rattle.prem_asm.specs.Steps.{AllSteps, Holds, Within, total, AllCode, Rules}
@@ -131,7 +132,8 @@ only_rules target size g = record {
   jump = λ at link z t h j. (((refl, refl), tt), tt);
 }
 
-accesses_hold : (s : Setting) (calls : Calls) (ps : Pieces) (at : ℕ) → EachPiece IsNative ps → EachCall (λ part. (t : TaskState) → Any t → Holds StepAccesses Any (calls part t)) ps → (t : TaskState) → Holds StepAccesses Any (run s calls at ps t)
+accesses_hold : (s : Setting) (calls : Calls) (ps : Pieces) (at : ℕ) → EachPiece IsNative ps →
+    EachCall (λ part. (t : TaskState) → Any t → Holds StepAccesses Any (calls part t)) ps → (t : TaskState) → Holds StepAccesses Any (run s calls at ps t)
 accesses_hold s calls ps at native parts t = every Each StepAccesses Any s calls (only_rules s.target s.size s.guard) ps at (pieces_good IsNative s.places ps at native) parts t tt
 
 -- ---- the rule's weights
@@ -183,21 +185,25 @@ const_code w (i ∷ is) at = ap (λ n. w i + n) (const_code w is (at + 4))
 
 const_weighted : (w : Instr → ℕ) (c : ℕ → ℕ) (ps : Pieces) (at : ℕ) → weighted_from (λ at. w) c at ps ≡ weighted w c ps
 const_weighted w c no_pieces at = refl
-const_weighted w c (straight code rest) at = ap (λ n. n + weighted_from (λ at. w) c (at + 4 * length code) rest) (const_code w code at) ∙ ap (λ n. weight w code + n) (const_weighted w c rest (at + 4 * length code))
+const_weighted w c (straight code rest) at = ap (λ n. n + weighted_from (λ at. w) c (at + 4 * length code) rest) (const_code w code at)
+    ∙ ap (λ n. weight w code + n) (const_weighted w c rest (at + 4 * length code))
 const_weighted w c (address_of rd part more rest) at = ap (λ n. address_weight w + n) (const_weighted w c rest (at + 8))
 const_weighted w c (either test taken other rest) at =
     let x = const_weighted w c taken (at + 8) in
     let y = const_weighted w c other (other_at at taken other) in
     let z = const_weighted w c rest (either_end at taken other) in
-    ap (λ n. w (branch_of test) + max (n + skip_words other * jump_weight w) (jump_weight w + weighted_from (λ at. w) c (other_at at taken other) other) + weighted_from (λ at. w) c (either_end at taken other) rest) x
+    ap (λ n. w (branch_of test) + max (n + skip_words other * jump_weight w)
+    (jump_weight w + weighted_from (λ at. w) c (other_at at taken other) other) + weighted_from (λ at. w) c (either_end at taken other) rest) x
     ∙ ap (λ n. w (branch_of test) + max (weighted w c taken + skip_words other * jump_weight w) (jump_weight w + n) + weighted_from (λ at. w) c (either_end at taken other) rest) y
     ∙ ap (λ n. w (branch_of test) + max (weighted w c taken + skip_words other * jump_weight w) (jump_weight w + weighted w c other) + n) z
 const_weighted w c (repeat turns head test body rest) at =
     let x = const_weighted w c head at in
     let y = const_weighted w c body (test_at at head + 8) in
     let z = const_weighted w c rest (repeat_end at head body) in
-    ap (λ n. turns * (n + w (branch_of test) + weighted_from (λ at. w) c (test_at at head + 8) body + jump_weight w) + (n + w (branch_of test) + jump_weight w) + weighted_from (λ at. w) c (repeat_end at head body) rest) x
-    ∙ ap (λ n. turns * (weighted w c head + w (branch_of test) + n + jump_weight w) + (weighted w c head + w (branch_of test) + jump_weight w) + weighted_from (λ at. w) c (repeat_end at head body) rest) y
+    ap (λ n. turns * (n + w (branch_of test) + weighted_from (λ at. w) c (test_at at head + 8) body + jump_weight w) +
+    (n + w (branch_of test) + jump_weight w) + weighted_from (λ at. w) c (repeat_end at head body) rest) x
+    ∙ ap (λ n. turns * (weighted w c head + w (branch_of test) + n + jump_weight w) + (weighted w c head + w (branch_of test) + jump_weight w)
+    + weighted_from (λ at. w) c (repeat_end at head body) rest) y
     ∙ ap (λ n. turns * (weighted w c head + w (branch_of test) + weighted w c body + jump_weight w) + (weighted w c head + w (branch_of test) + jump_weight w) + n) z
 const_weighted w c (call_to link part rest) at = ap (λ n. jump_weight w + c part + n) (const_weighted w c rest (at + 4))
 
@@ -220,7 +226,8 @@ all_stay : (ds : List Did) → AllSteps StepAccesses ds → AllSteps StaysOn ds
 all_stay [] h = tt
 all_stay (d ∷ ds) h = (h.0.1, all_stay ds h.1)
 
-pub own_divides : (p : Plant) (s : Setting) (calls : Calls) (ps : Pieces) → CallFree ps → EachPiece IsNative ps → (at : ℕ) (t : TaskState) → RunDivides p (weighted (job_weight p) (λ part. 0) ps) (run s calls at ps t)
+pub own_divides : (p : Plant) (s : Setting) (calls : Calls) (ps : Pieces) → CallFree ps → EachPiece IsNative ps → (at : ℕ) (t : TaskState) →
+    RunDivides p (weighted (job_weight p) (λ part. 0) ps) (run s calls at ps t)
 own_divides p s calls ps free native at t =
     by (run s calls at ps t) (accesses_hold s calls ps at native (free_any (λ part. (t : TaskState) → Any t → Holds StepAccesses Any (calls part t)) ps free) t)
     (subst (λ n. Within (weight_of (λ at. job_weight p)) n (run s calls at ps t)) (const_weighted (job_weight p) (λ part. 0) ps at)

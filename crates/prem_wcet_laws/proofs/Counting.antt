@@ -6,14 +6,15 @@ use Rattle.prem_layout.proofs.StretchLemmas.Order.{within_same, within_then, cha
 use Rattle.prem_wcet_laws.specs.Counts.{Count, quiet, then_count, either_count, turned_count, IsNoMore}
 
 pub none_behind : (x : Sums) → chained x (taking 0) ≡ x
-none_behind x = same_sums _ _ (zero_behind x.whole) (ap (most x.before) (no_both x.whole) ∙ most_none x.before) (ap (most (most x.between None)) (no_both x.behind) ∙ most_none (most x.between None) ∙ most_none x.between) (zero_behind x.behind) where
-  zero_behind : (a : Option ℕ) → both a (Some 0) ≡ a
-  zero_behind None = refl
-  zero_behind (Some a) = let e : a + 0 ≡ a = omega arith in ap (λ n. Some n) e
+none_behind x = same_sums _ _ (zero_behind x.whole) (ap (most x.before) (no_both x.whole) ∙ most_none x.before)
+    (ap (most (most x.between None)) (no_both x.behind) ∙ most_none (most x.between None) ∙ most_none x.between) (zero_behind x.behind) where
+      zero_behind : (a : Option ℕ) → both a (Some 0) ≡ a
+      zero_behind None = refl
+      zero_behind (Some a) = let e : a + 0 ≡ a = omega arith in ap (λ n. Some n) e
 
-  no_both : (a : Option ℕ) → both a None ≡ None
-  no_both None = refl
-  no_both (Some a) = refl
+      no_both : (a : Option ℕ) → both a None ≡ None
+      no_both None = refl
+      no_both (Some a) = refl
 
 -- ---- the order
 

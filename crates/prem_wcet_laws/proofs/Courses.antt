@@ -13,7 +13,8 @@ use Rattle.prem_layout.specs.Stretch.Sums.{chained, taking, sums_of_path}
 use Rattle.prem_layout.proofs.StretchLemmas.Algebra.{none_taken, taken}
 use Rattle.prem_layout.proofs.StretchLemmas.Exact.{path_joined}
 use Rattle.prem_wcet_laws.specs.Counts.{Count, quiet, then_count, turned_count, IsNoMore}
-use Rattle.prem_wcet_laws.specs.Divided.{Division, ends, alone, together, section, joined, steps_of, charge_of, path_of, count_of, lone_charge, scope_charge, IsDivision, IsCourse, Divides, RunDivides, Courses, RunCourses}
+use Rattle.prem_wcet_laws.specs.Divided.{Division, ends, alone, together, section, joined, steps_of, charge_of, path_of, count_of, lone_charge, scope_charge, IsDivision, IsCourse}
+use Rattle.prem_wcet_laws.specs.Divided.{Divides, RunDivides, Courses, RunCourses}
 use Rattle.prem_wcet_laws.proofs.Counting.{same_count, no_more_then, quiet_more, then_no_more, count_is, then_assoc, quiet_then, nothing_first, by_same, grows, turned_out, turned_next}
 use Rattle.prem_wcet_laws.proofs.Divide.{joined_steps, joined_charge, joined_loose}
 
@@ -53,7 +54,9 @@ module _ (p : Plant) (Marked : List Did → ℕ → Type 0) where
     keeps = is_course h.division h.keeps;
     steps_are = h.steps_are;
     loose = h.loose;
-    counted = no_more_then _ (quiet (charge_of p h.division)) (quiet m) (by_same (count_is (count_of p h.division) (quiet (charge_of p h.division)) refl (quiet_path h.division h.keeps))) (quiet_more (charge_of p h.division) m h.charged);
+    counted = no_more_then _ (quiet (charge_of p h.division)) (quiet m)
+        (by_same (count_is (count_of p h.division) (quiet (charge_of p h.division)) refl (quiet_path h.division h.keeps)))
+        (quiet_more (charge_of p h.division) m h.charged);
   }
 
   pub run_course : (m : ℕ) (o : Ending) → RunDivides p m o → RunCourses p Marked (quiet m) o
@@ -89,12 +92,14 @@ module _ (p : Plant) (Marked : List Did → ℕ → Type 0) where
   run_with m n steps Stuck h k = tt
 
   -- the run falls through, and what follows divides too
-  pub falls_then : (a b : Count) (o : Ending) (next : TaskState → Ending) (u : TaskState) (trace : List Did) → o ≡ Falls u trace → RunCourses p Marked a o → RunCourses p Marked b (next u) → RunCourses p Marked (then_count a b) (then_run o next)
+  pub falls_then : (a b : Count) (o : Ending) (next : TaskState → Ending) (u : TaskState) (trace : List Did) → o ≡ Falls u trace →
+      RunCourses p Marked a o → RunCourses p Marked b (next u) → RunCourses p Marked (then_count a b) (then_run o next)
   falls_then a b o next u trace goes h k =
       subst (λ x. RunCourses p Marked (then_count a b) (then_run x next)) (sym goes) (run_with a b trace (next u) (subst (RunCourses p Marked a) goes h) k)
 
   -- whatever it does, quiet steps follow
-  pub any_then : (a : Count) (n : ℕ) (o : Ending) (next : TaskState → Ending) → RunCourses p Marked a o → ((u : TaskState) → RunCourses p Marked (quiet n) (next u)) → RunCourses p Marked (then_count a (quiet n)) (then_run o next)
+  pub any_then : (a : Count) (n : ℕ) (o : Ending) (next : TaskState → Ending) → RunCourses p Marked a o →
+      ((u : TaskState) → RunCourses p Marked (quiet n) (next u)) → RunCourses p Marked (then_count a (quiet n)) (then_run o next)
   any_then a n (Falls u trace) next h k = run_with a (quiet n) trace (next u) h (k u)
   any_then a n (Returns back u trace) next h k = courses_more a (then_count a (quiet n)) trace (grows a n) h
   any_then a n Stuck next h k = tt
@@ -106,7 +111,8 @@ module _ (p : Plant) (Marked : List Did → ℕ → Type 0) where
   nothing_then a Stuck h = tt
 
   -- two pieces
-  pub seq : (s : Setting) (calls : Calls) (a b : Count) (whole first rest : Pieces) → whole ≡ followed first rest → (at : ℕ) (t u : TaskState) (trace : List Did) → run s calls at first t ≡ Falls u trace →
+  pub seq : (s : Setting) (calls : Calls) (a b : Count) (whole first rest : Pieces) → whole ≡ followed first rest →
+      (at : ℕ) (t u : TaskState) (trace : List Did) → run s calls at first t ≡ Falls u trace →
       RunCourses p Marked a (run s calls at first t) → RunCourses p Marked b (run s calls (at + size_of first) rest u) → RunCourses p Marked (then_count a b) (run s calls at whole t)
   seq s calls a b whole first rest is at t u trace goes h k =
       subst (λ q. RunCourses p Marked (then_count a b) (run s calls at q t)) (sym is)
@@ -139,7 +145,8 @@ module _ (p : Plant) (Marked : List Did → ℕ → Type 0) where
         sums h b j = omega arith
 
   turns_less : (h b j : ℕ) (y : Count) (r : ℕ) →
-      IsNoMore (then_count (quiet h) (then_count (quiet b) (then_count y (then_count (quiet j) (turned_count r (turn_of h b j y) (out_of h b j)))))) (turned_count (suc r) (turn_of h b j y) (out_of h b j))
+      IsNoMore (then_count (quiet h) (then_count (quiet b) (then_count y (then_count (quiet j) (turned_count r (turn_of h b j y) (out_of h b j))))))
+      (turned_count (suc r) (turn_of h b j y) (out_of h b j))
   turns_less h b j y r =
       let n = turned_count r (turn_of h b j y) (out_of h b j) in
       no_more_then _ (then_count (turn_of h b j y) n) _
@@ -148,7 +155,8 @@ module _ (p : Plant) (Marked : List Did → ℕ → Type 0) where
       (turned_next r (turn_of h b j y) (out_of h b j))
 
   pub turns_course : (h b : ℕ) (y : Count) (j : ℕ) (l : Loop) (I M : ℕ → TaskState → Type 0) →
-      ((r : ℕ) (t : TaskState) → I r t → Part (quiet h) (l.head t) (M r)) → ((t : TaskState) → Courses p Marked (quiet b) (l.enters t)) → ((t : TaskState) → Courses p Marked (then_count (quiet b) (quiet j)) (l.leaves t)) →
+      ((r : ℕ) (t : TaskState) → I r t → Part (quiet h) (l.head t) (M r)) → ((t : TaskState) → Courses p Marked (quiet b) (l.enters t)) →
+      ((t : TaskState) → Courses p Marked (then_count (quiet b) (quiet j)) (l.leaves t)) →
       ((r : ℕ) (u : TaskState) → M (suc r) u → l.test u ≡ true → Part y (l.body u) (I r)) → ((t : TaskState) → Courses p Marked (quiet j) (l.back t)) →
       (r : ℕ) (t : TaskState) → I r t → RunCourses p Marked (turned_count r (turn_of h b j y) (out_of h b j)) (run_turns r l t)
   unfolding run_turns
@@ -163,8 +171,11 @@ module _ (p : Plant) (Marked : List Did → ℕ → Type 0) where
       let x = heads (suc r) t i in
       let n = turned_count r (turn_of h b j y) (out_of h b j) in
       let all = turned_count (suc r) (turn_of h b j y) (out_of h b j) in
-      subst (λ o. RunCourses p Marked all (then_run o (λ t. choose (l.test t) (λ t. with_trace (l.enters t) (then_run (l.body t) (λ t. with_trace (l.back t) (run_turns r l t)))) (left_loop l) t))) (sym x.goes)
-      (choose_both (l.test x.to) (λ t. with_trace (l.enters t) (then_run (l.body t) (λ t. with_trace (l.back t) (run_turns r l t)))) (left_loop l) x.to (λ o. RunCourses p Marked all (with_trace x.trace o))
+      subst (λ o. RunCourses p Marked all
+      (then_run o (λ t. choose (l.test t) (λ t. with_trace (l.enters t) (then_run (l.body t) (λ t. with_trace (l.back t) (run_turns r l t))))
+      (left_loop l) t))) (sym x.goes)
+      (choose_both (l.test x.to) (λ t. with_trace (l.enters t) (then_run (l.body t) (λ t. with_trace (l.back t) (run_turns r l t)))) (left_loop l)
+      x.to (λ o. RunCourses p Marked all (with_trace x.trace o))
       (λ e. let z = bodies r x.to x.next e in
       run_more _ all (with_trace x.trace (with_trace (l.enters x.to) (then_run (l.body x.to) (λ t. with_trace (l.back t) (run_turns r l t))))) (turns_less h b j y r)
       (run_with (quiet h) (then_count (quiet b) (then_count y (then_count (quiet j) n))) x.trace _ x.courses
@@ -172,4 +183,5 @@ module _ (p : Plant) (Marked : List Did → ℕ → Type 0) where
       (subst (λ o. RunCourses p Marked (then_count y (then_count (quiet j) n)) (then_run o (λ t. with_trace (l.back t) (run_turns r l t)))) (sym z.goes)
       (run_with y (then_count (quiet j) n) z.trace _ z.courses
       (run_with (quiet j) n (l.back z.to) _ (back z.to) (turns_course h b y j l I M heads enters leaves bodies back r z.to z.next)))))))
-      (λ e. run_more _ all (with_trace x.trace (left_loop l x.to)) (leaves_less h b j y (suc r)) (run_with (quiet h) (then_count (quiet b) (quiet j)) x.trace (left_loop l x.to) x.courses (leaves x.to))))
+      (λ e. run_more _ all (with_trace x.trace (left_loop l x.to)) (leaves_less h b j y (suc r))
+      (run_with (quiet h) (then_count (quiet b) (quiet j)) x.trace (left_loop l x.to) x.courses (leaves x.to))))

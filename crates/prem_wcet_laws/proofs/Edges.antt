@@ -52,7 +52,9 @@ module _ (s : Setting) (calls : Calls) (gs : Globals) (may : Access) (k : Stack)
 
   -- stored from number j on, where these bytes may be written
   pub passing : (count frame : ℕ) (es : List Term) (j at : ℕ) (t : TaskState) (p : ProgramState) (ws : List ℕ) → Matches s gs k phase count p t → AllFit gs count es → values may p es ≡ Ok ws →
-      4 + 4 * (j + length es) ≤ frame → frame % 4 ≡ 0 → frame ≤ k.sp → ((a : ℕ) → k.sp - frame + 4 + 4 * j ≤ a → a < k.sp - frame + 4 + 4 * (j + length es) → s.guard.store a ≡ true) → Apart frame → Falling at (argument_code gs.target gs.part frame j es) t
+      4 + 4 * (j + length es) ≤ frame → frame % 4 ≡ 0 → frame ≤ k.sp →
+      ((a : ℕ) → k.sp - frame + 4 + 4 * j ≤ a → a < k.sp - frame + 4 + 4 * (j + length es) → s.guard.store a ≡ true) → Apart frame →
+      Falling at (argument_code gs.target gs.part frame j es) t
   passing count frame [] j at t p ws m fit is room al deep allowed apart = record { to = t; trace = []; goes = refl }
   passing count frame (e ∷ es) j at t p ws m fit is room al deep allowed apart =
       let x = then_ok (value may p e) _ ws is in
@@ -96,7 +98,8 @@ module _ (s : Setting) (calls : Calls) (gs : Globals) (may : Access) (k : Stack)
 
   -- ---- the result to its target
 
-  pub landing : (count at : ℕ) (target : Option ℕ) (t : TaskState) (p : ProgramState) → Matches s gs k phase count p t → count ≤ k.slots → ((i : ℕ) → target ≡ Some i → i < count) → Falling at (target_code target no_pieces) t
+  pub landing : (count at : ℕ) (target : Option ℕ) (t : TaskState) (p : ProgramState) → Matches s gs k phase count p t → count ≤ k.slots →
+      ((i : ℕ) → target ≡ Some i → i < count) → Falling at (target_code target no_pieces) t
   landing count at None t p m fits inside = record { to = t; trace = []; goes = refl }
   landing count at (Some i) t p m fits inside =
       let x = slot_falls s calls gs may k ground phase count i (i + 1) at i t p (t.registers 10) m (omega (arith, inside i refl)) refl in
@@ -114,8 +117,10 @@ module _ (s : Setting) (calls : Calls) (gs : Globals) (may : Access) (k : Stack)
   beside : (base i : ℕ) → AreApart (base + 4 + 4 * i) 4 base 4
   beside base i = grind arith
 
-  pub entered : (f : Routine) (at back : ℕ) (ws : List ℕ) (q p1 : ProgramState) (t : TaskState) → k.slots ≡ slots_of f → DeclaredFit gs (length f.text.params) f.locals → length ws ≡ length f.text.params → ArgumentsStand t.view k.sp ws →
-      Between s gs phase q t → t.registers 2 ≡ k.sp + frame_of f → k.sp + frame_of f < 2 ^ 32 → t.registers 1 ≡ back → back < 2 ^ 32 → declare may f.locals (record q { locals = ws }) ≡ Ok p1 → Entered at back f t p1
+  pub entered : (f : Routine) (at back : ℕ) (ws : List ℕ) (q p1 : ProgramState) (t : TaskState) → k.slots ≡ slots_of f →
+      DeclaredFit gs (length f.text.params) f.locals → length ws ≡ length f.text.params → ArgumentsStand t.view k.sp ws →
+      Between s gs phase q t → t.registers 2 ≡ k.sp + frame_of f → k.sp + frame_of f < 2 ^ 32 → t.registers 1 ≡ back → back < 2 ^ 32 →
+      declare may f.locals (record q { locals = ws }) ≡ Ok p1 → Entered at back f t p1
   entered f at back ws q p1 t slots_is fit len args b two top_small one back_small is =
       let frame = frame_of f in
       let r = rounded (4 + 4 * slots_of f) in
@@ -164,7 +169,8 @@ module _ (s : Setting) (calls : Calls) (gs : Globals) (may : Access) (k : Stack)
     pub trace : List Did
     pub goes : run s calls at (followed (result_code gs.target gs.part f.result) (only (closing (frame_of f)))) t ≡ Returns back to trace
 
-  pub left : (f : Routine) (at back w : ℕ) (t : TaskState) (p : ProgramState) → k.slots ≡ slots_of f → ResultFits gs (locals_of f) f.result → Matches s gs k phase (locals_of f) p t → result_of may f.result p ≡ Ok w →
+  pub left : (f : Routine) (at back w : ℕ) (t : TaskState) (p : ProgramState) → k.slots ≡ slots_of f → ResultFits gs (locals_of f) f.result →
+      Matches s gs k phase (locals_of f) p t → result_of may f.result p ≡ Ok w →
       number_at t.view k.sp 4 ≡ back → k.sp + frame_of f < 2 ^ 32 → back % 4 ≡ 0 → back < 2 ^ 32 → Left at back f t
   left f at back w t p slots_is fit m is home top_small back_al back_small =
       let frame = frame_of f in
@@ -187,5 +193,6 @@ module _ (s : Setting) (calls : Calls) (gs : Globals) (may : Access) (k : Stack)
       record {
         to = record d.to { registers = c.registers };
         trace = d.trace ++ c.trace;
-        goes = run-followed s calls (result_code gs.target gs.part f.result) (only (closing frame)) at t ∙ ap (λ o. then_run o (run s calls at1 (only (closing frame)))) d.goes ∙ ap (with_trace d.trace) c.goes;
+        goes = run-followed s calls (result_code gs.target gs.part f.result) (only (closing frame)) at t
+            ∙ ap (λ o. then_run o (run s calls at1 (only (closing frame)))) d.goes ∙ ap (with_trace d.trace) c.goes;
       }

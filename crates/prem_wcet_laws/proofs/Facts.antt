@@ -65,7 +65,8 @@ past (f ∷ fs) zero le = absurd (omega (arith, le))
 past (f ∷ fs) (suc n) le = past fs n (omega (arith, le))
 
 -- the part of a function's code
-code_weighs : (functions : ℕ) (stubs : ℕ → ℕ) (fs : List Fact) (ws : List ℕ) → AllLess fs ws → length fs ≤ functions → (n : ℕ) → IsLess (slice_index_or fs n no_fact) (part_weight functions (weight_at ws) stubs (code_part n))
+code_weighs : (functions : ℕ) (stubs : ℕ → ℕ) (fs : List Fact) (ws : List ℕ) → AllLess fs ws → length fs ≤ functions → (n : ℕ) →
+    IsLess (slice_index_or fs n no_fact) (part_weight functions (weight_at ws) stubs (code_part n))
 code_weighs functions stubs fs ws h le n =
     let e : suc n ≡ 1 + n = omega arith in
     subst (λ q. IsLess (slice_index_or fs n no_fact) (part_weight functions (weight_at ws) stubs q)) e (by (ltb n functions) refl) where
@@ -98,7 +99,8 @@ module _ (p : Plant) (plans : List Plan) (program : Resolved) (t : TaskPlaces) (
 
   parted_called : (known : List Fact) (ws : List ℕ) → AllLess known ws → length known ≤ functions → (f : ℕ) → (called_parted (scene known) f).total ≤ weights ws ((scene known).parts.callee f)
   parted_called known ws h le f = by (is_marked_at program.routines f) where
-    by : (b : Bool) → (cond b (marked_count p plans (marked_before f program.routines)) (slice_index_or known f no_fact).parted).total ≤ weights ws (cond b (stub_part program.routines f) (code_part f))
+    by : (b : Bool) → (cond b (marked_count p plans (marked_before f program.routines)) (slice_index_or known f no_fact).parted).total ≤ weights ws
+        (cond b (stub_part program.routines f) (code_part f))
     by true = less (stub_count (marked_before f program.routines) ws) where
       less : {a b : ℕ} → a ≡ b → b ≤ a
       less e = omega (arith, e)
@@ -130,12 +132,14 @@ module _ (p : Plant) (plans : List Plan) (program : Resolved) (t : TaskPlaces) (
         longer a b n all e more = omega (arith, e, more)
 
   pub job_less : (ws : List ℕ) → ws ≡ weights_behind (job_weight p) functions (λ known. stubs) [] (codes_of (parts_of p.target program.routines) program.routines) →
-      ((fact_of (known_scene p plans program t) program.job).least ≤ weights ws (code_part program.job)) × ((fact_of (known_scene p plans program t) program.job).parted.total ≤ weights ws (code_part program.job))
+      ((fact_of (known_scene p plans program t) program.job).least ≤ weights ws (code_part program.job))
+      × ((fact_of (known_scene p plans program t) program.job).parted.total ≤ weights ws (code_part program.job))
   job_less ws is =
       let known = facts_behind (scene_of p plans program t) (stack_of program t) [] program.routines in
       let h = behind_less program.routines [] [] tt (same count) in
       let one = code_weighs functions stubs known _ h (few (length known) (length program.routines) (facts_length program.routines []) count) program.job in
-      subst (λ ws. ((fact_of (known_scene p plans program t) program.job).least ≤ weights ws (code_part program.job)) × ((fact_of (known_scene p plans program t) program.job).parted.total ≤ weights ws (code_part program.job))) (sym is)
+      subst (λ ws. ((fact_of (known_scene p plans program t) program.job).least ≤ weights ws (code_part program.job))
+      × ((fact_of (known_scene p plans program t) program.job).parted.total ≤ weights ws (code_part program.job))) (sym is)
       (one.least, one.parted) where
         same : {a b : ℕ} → a ≡ b → 0 + b ≤ a
         same e = omega (arith, e)
@@ -156,7 +160,8 @@ wcet_is_within p plans program t stubs =
 
       by : (b : Bool) {x : ℕ} → (fact_of (known_scene p plans program t) program.job).least ≤ x → (fact_of (known_scene p plans program t) program.job).parted.total ≤ x →
           cond b (own_start (known_scene p plans program t) + (fact_of (known_scene p plans program t) program.job).parted.total)
-          (min (charge (known_scene p plans program t) ((known_scene p plans program t).places start_part) (start_span program)) (own_start (known_scene p plans program t) + (fact_of (known_scene p plans program t) program.job).least))
+          (min (charge (known_scene p plans program t) ((known_scene p plans program t).places start_part) (start_span program))
+          (own_start (known_scene p plans program t) + (fact_of (known_scene p plans program t) program.job).least))
           ≤ jump_weight (job_weight p) + x + ((job_weight p PmDone + 0) + 0)
       by true least parted = start_less _ _ _ _ parted
       by false least parted = right_of _ _ _ (start_less _ _ _ _ least)

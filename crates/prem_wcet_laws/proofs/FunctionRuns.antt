@@ -49,7 +49,8 @@ use Rattle.prem_wcet_laws.proofs.PlaceCost.{run_in}
 use Rattle.prem_wcet_laws.proofs.ScopeCosts.{scope_weighs}
 use Rattle.prem_wcet_laws.proofs.Divide.{divides_together, run_more}
 use Rattle.prem_wcet_laws.proofs.Sequence.{seq, lesser}
-use Rattle.prem_wcet_laws.proofs.OneScope.{steps_callable, covers, covered_has, task_fits, Reached, closed, ground_small, calls_keep, same_trans, calls_grow, confined_grows, line_kept, all_kept, scope_charged, called_weigh}
+use Rattle.prem_wcet_laws.proofs.OneScope.{steps_callable, covers, covered_has, task_fits, Reached, closed, ground_small, calls_keep, same_trans, calls_grow, confined_grows}
+use Rattle.prem_wcet_laws.proofs.OneScope.{line_kept, all_kept, scope_charged, called_weigh}
 use Rattle.prem_wcet_laws.proofs.LeastRuns.{Here, frame_alone, fit_alone, ground_alone, fell, own_run, least_divides}
 use Rattle.prem_wcet_laws.specs.Weights.{PlaceWeight}
 
@@ -62,7 +63,8 @@ pub record FunctionKept (e : Scene) (s : Setting) (calls : Calls) (f : Routine) 
   pub steps_in : AllSteps (IsIn (code_ranges e at (function_span e f)) (data_ranges e (function_span e f))) trace
   pub weighs : (w : PlaceWeight) → Weighs w → total (weight_of w) trace ≤ path_weight e w at (function_span e f)
 
-module _ (e : Scene) (s : Setting) (gs : Globals) (parts : Parts) (cs : Callees) (phase : Phase) (c : Codes) (routines : List Routine) (total_functions : ℕ) (st : Stands e s gs parts cs phase c routines total_functions)
+module _ (e : Scene) (s : Setting) (gs : Globals) (parts : Parts) (cs : Callees) (phase : Phase) (c : Codes) (routines : List Routine)
+    (total_functions : ℕ) (st : Stands e s gs parts cs phase c routines total_functions)
     (may : Access) (limits : Limits) (calls : Calls) (same_calls : (part : ℕ) (t : TaskState) → Same (code_calls s c total_functions part t) (calls part t)) where
   between_guard : (h : Guard) (q : ProgramState) (t : TaskState) → Between s gs phase q t → Between (record s { guard = h }) gs phase q t
   between_guard h q t b = record {
@@ -76,9 +78,11 @@ module _ (e : Scene) (s : Setting) (gs : Globals) (parts : Parts) (cs : Callees)
   }
 
   -- the code of a function keeps to its ranges
-  function_kept : (k : Stack) → Ground s gs may k → (f : Routine) (at depth under : ℕ) → FunctionFits gs parts cs phase at depth under f → ((g : ℕ) → IsAmong g (callees_in f.body) → g < total_functions) → k.slots ≡ slots_of f → k.low + under ≤ k.sp →
+  function_kept : (k : Stack) → Ground s gs may k → (f : Routine) (at depth under : ℕ) → FunctionFits gs parts cs phase at depth under f →
+      ((g : ℕ) → IsAmong g (callees_in f.body) → g < total_functions) → k.slots ≡ slots_of f → k.low + under ≤ k.sp →
       ((a : ℕ) → k.low ≤ a → a < k.top → is_held (data_ranges e (function_span e f)) a ≡ true) →
-      (ws : List ℕ) (q : ProgramState) (t : TaskState) (back word : ℕ) (after : ProgramState) → length ws ≡ length f.text.params → ArgumentsStand t.view k.sp ws → Between s gs phase q t → t.registers 2 ≡ k.sp + frame_of f → k.sp + frame_of f < 2 ^ 32 →
+      (ws : List ℕ) (q : ProgramState) (t : TaskState) (back word : ℕ) (after : ProgramState) → length ws ≡ length f.text.params →
+      ArgumentsStand t.view k.sp ws → Between s gs phase q t → t.registers 2 ≡ k.sp + frame_of f → k.sp + frame_of f < 2 ^ 32 →
       t.registers 1 ≡ back → back % 4 ≡ 0 → back < 2 ^ 32 → performed (calls_below limits routines total_functions) may f ws q ≡ Ok (word, after) →
       FunctionKept e s calls f at t
   function_kept k ground f at depth under fit known slots_is space stack ws q t back word after len args b two top_small one back_al back_small is =
@@ -98,19 +102,24 @@ module _ (e : Scene) (s : Setting) (gs : Globals) (parts : Parts) (cs : Callees)
       let source : performed (calls_below limits routines total_functions) (narrowed inside may) f ws q ≡ Ok (word, after) =
       performed_same inside may (calls_below limits routines total_functions) f ws q
       (λ g among. covered_has (e.global g) ranges (has_right (e.global g) e.stack _ (has_left (e.global g) (map e.global (globals_of f)) _ (has_mapped e.global g (globals_of f) among))))
-      (λ g among. calls_same inside limits routines (Reached e s gs parts cs phase c routines total_functions st code ranges) (closed e s gs parts cs phase c routines total_functions st code ranges) total_functions may g (reached g among))
+      (λ g among. calls_same inside limits routines (Reached e s gs parts cs phase c routines total_functions st code ranges)
+      (closed e s gs parts cs phase c routines total_functions st code ranges) total_functions may g (reached g among))
       ∙ is in
       let callees : CalleesAt sm gs (narrowed inside may) k inner parts cs phase (calls_below limits routines total_functions) =
-      λ g callable. at_frame sm gs (narrowed inside may) k phase (inner (parts.callee g)) (parts.link g) (parts.frame g) (cs.depth g) (cs.params g) (cs.returns g) (λ words q. calls_below limits routines total_functions (narrowed inside may) g words q)
-      (functions_run sm gs parts cs phase c limits routines st.all (narrowed inside may) (task_fits s (confined_to ranges s.guard) gs parts cs phase c routines st.all st.task) total_functions st.some g callable) in
-      let d = (frame_runs sm inner gs (narrowed inside may) parts cs phase (calls_below limits routines total_functions) k callees f at depth under fit (ground_small e s gs parts cs phase c routines total_functions st code ranges may k ground stack) slots_is space
+      λ g callable. at_frame sm gs (narrowed inside may) k phase (inner (parts.callee g)) (parts.link g) (parts.frame g) (cs.depth g) (cs.params g)
+      (cs.returns g) (λ words q. calls_below limits routines total_functions (narrowed inside may) g words q)
+      (functions_run sm gs parts cs phase c limits routines st.all (narrowed inside may)
+      (task_fits s (confined_to ranges s.guard) gs parts cs phase c routines st.all st.task) total_functions st.some g callable) in
+      let d = (frame_runs sm inner gs (narrowed inside may) parts cs phase (calls_below limits routines total_functions)
+      k callees f at depth under fit (ground_small e s gs parts cs phase c routines total_functions st code ranges may k ground stack) slots_is space
       ws q t back word after len args (between_guard (confined_to ranges s.guard) q t b) two top_small one back_al back_small source).back_to in
       let goes_small : run sm inner at (function_code e.parts f) t ≡ Returns back d.to d.trace = ap (λ q. run sm inner at q t) own_code ∙ d.goes in
       let grown : Same (run sm inner at (function_code e.parts f) t) (run s calls at (function_code e.parts f) t) =
       guard_grows sm s.guard (confined_grows ranges s.guard) inner calls
       (λ part u. same_trans _ _ _ (calls_grow s (confined_to ranges s.guard) (confined_grows ranges s.guard) c total_functions part u) (same_calls part u)) (function_code e.parts f) at t in
       let kept : Holds (IsIn code ranges) Any (run sm inner at (function_code e.parts f) t) =
-      keeps_in code ranges sm inner (confined_confines ranges s.guard) (function_code e.parts f) at (λ a ge lt. held_by (extent_of at (function_code e.parts f)) code a (inl refl) ge lt) (functions_take e.parts f)
+      keeps_in code ranges sm inner (confined_confines ranges s.guard) (function_code e.parts f) at
+      (λ a ge lt. held_by (extent_of at (function_code e.parts f)) code a (inl refl) ge lt) (functions_take e.parts f)
       (function_calls (λ part. (u : TaskState) → Any u → Holds (IsIn code ranges) Any (inner part u)) e.parts f
       (λ g among u j. let next = reached g among in
       subst (λ q. Holds (IsIn code ranges) Any (inner q u)) (sym (ap (λ (q : Parts). q.callee g) st.parts_are ∙ st.task.callees g next.callable))
@@ -129,9 +138,11 @@ module _ (e : Scene) (s : Setting) (gs : Globals) (parts : Parts) (cs : Callees)
             (run_in w weighs sm inner _ (called_weigh e s gs parts cs phase c routines total_functions st (confined_to ranges s.guard) w weighs) (function_code e.parts f) at t);
       }
 
-module _ (e : Scene) (s : Setting) (gs : Globals) (parts : Parts) (cs : Callees) (phase : Phase) (c : Codes) (routines : List Routine) (total_functions : ℕ) (st : Stands e s gs parts cs phase c routines total_functions)
+module _ (e : Scene) (s : Setting) (gs : Globals) (parts : Parts) (cs : Callees) (phase : Phase) (c : Codes) (routines : List Routine)
+    (total_functions : ℕ) (st : Stands e s gs parts cs phase c routines total_functions)
     (may : Access) (limits : Limits) (calls : Calls) (k : Stack) (works : Works e s gs parts cs phase c routines total_functions may limits calls k)
-    (f : Routine) (at depth under : ℕ) (fit : FunctionFits gs parts cs phase at depth under f) (known : (g : ℕ) → IsAmong g (callees_in f.body) → g < total_functions) (slots_is : k.slots ≡ slots_of f) (space : k.low + under ≤ k.sp)
+    (f : Routine) (at depth under : ℕ) (fit : FunctionFits gs parts cs phase at depth under f)
+    (known : (g : ℕ) → IsAmong g (callees_in f.body) → g < total_functions) (slots_is : k.slots ≡ slots_of f) (space : k.low + under ≤ k.sp)
     (ws : List ℕ) (q : ProgramState) (t : TaskState) (back word : ℕ) (after : ProgramState) (len : length ws ≡ length f.text.params) (args : ArgumentsStand t.view k.sp ws) (b : Between s gs phase q t)
     (two : t.registers 2 ≡ k.sp + frame_of f) (top_small : k.sp + frame_of f < 2 ^ 32) (one : t.registers 1 ≡ back) (back_al : back % 4 ≡ 0) (back_small : back < 2 ^ 32)
     (is : performed (calls_below limits routines total_functions) may f ws q ≡ Ok (word, after)) where
@@ -154,7 +165,8 @@ module _ (e : Scene) (s : Setting) (gs : Globals) (parts : Parts) (cs : Callees)
 
     calling : (g : ℕ) (fs : List ℕ) → callees_in f.body ≡ g ∷ fs → FunctionKept e s calls f at t
     calling g fs some =
-        function_kept e s gs parts cs phase c routines total_functions st may limits calls works.same_calls k works.ground f at depth under fit known slots_is space stack ws q t back word after len args b two top_small one back_al back_small is where
+        function_kept e s gs parts cs phase c routines total_functions st may limits calls works.same_calls k works.ground f at depth under fit known
+        slots_is space stack ws q t back word after len args b two top_small one back_al back_small is where
           among : IsAmong g (callees_in f.body)
           among = subst (IsAmong g) (sym some) (inl refl)
 
@@ -244,7 +256,9 @@ module _ (e : Scene) (s : Setting) (gs : Globals) (parts : Parts) (cs : Callees)
       let at_al : at % 4 ≡ 0 = fit.placed in
       let at1 = at + 8 in
       let d1 = declared s calls gs may k ground phase (locals_of f) (locals_of f) (slots_of f) (omega arith) (omega arith) f.locals (length f.text.params) at1 t1 p0 x.0 m0 fit.locals refl x.1.0 in
-      let goes1 : run s calls at1 dp t1 ≡ Falls d1.to d1.trace = subst (λ (q : Parts). run s calls at1 (declare_code q.target q.global (length f.text.params) f.locals) t1 ≡ Falls d1.to d1.trace) (sym st.parts_are) d1.goes in
+      let goes1 : run s calls at1 dp t1 ≡ Falls d1.to d1.trace =
+      subst (λ (q : Parts). run s calls at1 (declare_code q.target q.global (length f.text.params) f.locals) t1 ≡ Falls d1.to d1.trace)
+      (sym st.parts_are) d1.goes in
       let at2 = at1 + size_of dp in
       let here : Here e s gs parts cs phase c routines total_functions st may limits calls k works (locals_of f) under space (locals_of f) at2 f.body d1.to x.0 y.0 = record {
         slots = omega arith;
@@ -259,15 +273,22 @@ module _ (e : Scene) (s : Setting) (gs : Globals) (parts : Parts) (cs : Callees)
       let d2 = fell e s gs parts cs phase c routines total_functions st may limits calls k works (locals_of f) under space (locals_of f) at2 f.body d1.to x.0 y.0 here in
       let at3 = at2 + size_of bp in
       let d3 = resulted s calls gs may k ground phase (locals_of f) at3 f.result d2.to y.0 z.0 d2.matches fit.result z.1.0 in
-      let goes3 : run s calls at3 rp d2.to ≡ Falls d3.to d3.trace = subst (λ (q : Parts). run s calls at3 (result_code q.target q.global f.result) d2.to ≡ Falls d3.to d3.trace) (sym st.parts_are) d3.goes in
+      let goes3 : run s calls at3 rp d2.to ≡ Falls d3.to d3.trace =
+      subst (λ (q : Parts). run s calls at3 (result_code q.target q.global f.result) d2.to ≡ Falls d3.to d3.trace) (sym st.parts_are) d3.goes in
       let own_of = own_run e s gs parts cs phase c routines total_functions st may limits calls k works (locals_of f) under space in
       let body = least e (locals_of f) (body_at e f at) f.body in
-      run_more e.plant (own e (only (opening frame)) + (own e dp + (body + (own e rp + own e cp)))) _ (run s calls at (function_code e.parts f) t) (moved (own e (only (opening frame))) (own e dp) body (own e rp) (own e cp))
-      (seq e.plant s calls _ _ (function_code e.parts f) (only (opening frame)) (followed dp (followed bp (followed rp cp))) refl at t t1 (op.trace ++ []) (ap (λ o. then_run o (λ u. Falls u [])) op.goes) (own_of (only (opening frame)) tt (takes_opening frame) at t)
-      (seq e.plant s calls _ _ (followed dp (followed bp (followed rp cp))) dp (followed bp (followed rp cp)) refl at1 t1 d1.to d1.trace goes1 (own_of dp (declared_call (λ part. ⊥) e.parts.target e.parts.global (length f.text.params) f.locals) (takes_declared e.parts.target e.parts.global (length f.text.params) f.locals) at1 t1)
+      run_more e.plant (own e (only (opening frame)) + (own e dp + (body + (own e rp + own e cp)))) _ (run s calls at (function_code e.parts f) t)
+      (moved (own e (only (opening frame))) (own e dp) body (own e rp) (own e cp))
+      (seq e.plant s calls _ _ (function_code e.parts f) (only (opening frame)) (followed dp (followed bp (followed rp cp))) refl at t t1
+      (op.trace ++ []) (ap (λ o. then_run o (λ u. Falls u [])) op.goes) (own_of (only (opening frame)) tt (takes_opening frame) at t)
+      (seq e.plant s calls _ _ (followed dp (followed bp (followed rp cp))) dp (followed bp (followed rp cp)) refl at1 t1 d1.to d1.trace goes1
+      (own_of dp (declared_call (λ part. ⊥) e.parts.target e.parts.global (length f.text.params) f.locals)
+      (takes_declared e.parts.target e.parts.global (length f.text.params) f.locals) at1 t1)
       (seq e.plant s calls _ _ (followed bp (followed rp cp)) bp (followed rp cp) refl at2 d1.to d2.to d2.trace d2.goes
       (least_divides e s gs parts cs phase c routines total_functions st may limits calls k works (locals_of f) under space f.body (locals_of f) at2 d1.to x.0 y.0 here)
-      (seq e.plant s calls _ _ (followed rp cp) rp cp refl at3 d2.to d3.to d3.trace goes3 (own_of rp (result_calls (λ part. ⊥) e.parts.target e.parts.global f.result) (takes_result e.parts.target e.parts.global f.result) at3 d2.to) (own_of cp tt (takes_closing frame) (at3 + size_of rp) d3.to))))) where
+      (seq e.plant s calls _ _ (followed rp cp) rp cp refl at3 d2.to d3.to d3.trace goes3
+      (own_of rp (result_calls (λ part. ⊥) e.parts.target e.parts.global f.result) (takes_result e.parts.target e.parts.global f.result)
+      at3 d2.to) (own_of cp tt (takes_closing frame) (at3 + size_of rp) d3.to))))) where
         moved : (a b x y z : ℕ) → a + (b + (x + (y + z))) ≤ a + b + (y + z) + x
         moved a b x y z = omega arith
 
@@ -275,5 +296,7 @@ module _ (e : Scene) (s : Setting) (gs : Globals) (parts : Parts) (cs : Callees)
   function_divides = lesser e.plant _ _ _ as_scope by_parts
 
 pub functions_divide : FunctionsDivide
-functions_divide e s gs parts cs phase c routines total_functions st may limits calls k works f at depth under fit known slots_is space ws q t back word after len args b two top_small one back_al back_small is =
-    function_divides e s gs parts cs phase c routines total_functions st may limits calls k works f at depth under fit known slots_is space ws q t back word after len args b two top_small one back_al back_small is
+functions_divide e s gs parts cs phase c routines total_functions st may limits calls k works f at depth under fit known slots_is space ws q t back
+    word after len args b two top_small one back_al back_small is =
+    function_divides e s gs parts cs phase c routines total_functions st may limits calls k works f at depth under fit known slots_is space ws q t
+    back word after len args b two top_small one back_al back_small is

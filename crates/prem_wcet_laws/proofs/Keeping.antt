@@ -126,7 +126,8 @@ module _ (code ranges : List Extent) (g : Guard) (o : Confines ranges g) where
       (λ e. jumps_fine (Branch op rs1 rs2 offset) (plus at offset) 0 0) (λ e. sets_fine (Branch op rs1 rs2 offset) (at + 4) 0 0)
   act_fine target size at (Load op rd rs1 offset) t =
       let a = plus (t.registers rs1) offset in
-      accesses_fine (Load op rd rs1 offset) size a (load_size op) (loads (at + 4) op rd a (number_at t.view a (load_size op))) (load_fine op rd rs1 offset (at + 4) a (number_at t.view a (load_size op)))
+      accesses_fine (Load op rd rs1 offset) size a (load_size op) (loads (at + 4) op rd a (number_at t.view a (load_size op)))
+      (load_fine op rd rs1 offset (at + 4) a (number_at t.view a (load_size op)))
   act_fine target size at (Store op rs1 rs2 offset) t =
       let a = plus (t.registers rs1) offset in
       accesses_fine (Store op rs1 rs2 offset) size a (store_size op) (stores (at + 4) op a (t.registers rs2)) (store_fine op rs1 rs2 offset (at + 4) a (t.registers rs2))

@@ -1,7 +1,8 @@
 -- Lists of statements run in scopes that are charged no more than their least charge.
 use Rattle.std.specs.Prelude.{map, slice_index}
 use Rattle.std.specs.List.{flat_map}
-use Rattle.std.proofs.Common.{◌≡◌, ◌≢◌, ℕ, zero, suc, ◌+◌, ◌-◌, ◌*◌, ◌%◌, ◌^◌, ◌<◌, ◌≤◌, refl, ap, ◌∙◌, sym, subst, arith, cond, eqb, eq-eqb, not, true, false, Bool, List, [], ◌∷◌, ◌++◌, inl, inr, ◌⊎◌, length, max, Option, Ok}
+use Rattle.std.proofs.Common.{◌≡◌, ◌≢◌, ℕ, zero, suc, ◌+◌, ◌-◌, ◌*◌, ◌%◌, ◌^◌, ◌<◌, ◌≤◌, refl, ap, ◌∙◌, sym, subst, arith, cond, eqb, eq-eqb, not, true, false, Bool, List, [], ◌∷◌}
+use Rattle.std.proofs.Common.{◌++◌, inl, inr, ◌⊎◌, length, max, Option, Ok}
 use Rattle.prem_word.specs.Bytes.{number_at}
 use Rattle.prem_word.specs.Words.{value_in, truth}
 use Rattle.prem_word.specs.declared.kind.Kind.TheVariants.{Int}
@@ -11,11 +12,13 @@ use Rattle.prem_isa.specs.Plain.{TaskState, Did}
 use Rattle.prem_syntax.specs.declared.tree.Place.{Place}
 use Rattle.prem_syntax.specs.Resolved.{Term, Steps, Done, SetLocal, SetScalar, SetElement, Output, Input, If, For, While, Call, Routine}
 use Rattle.prem_syntax.specs.Expressions.{Outcome, Access, and_then, truth_of}
-use Rattle.prem_syntax.specs.Statements.{ProgramState, MarkedCall, value, values, with_local, with_output, take_input, store, choose, holds, in_bound, int_local, loop_test, loop_step, counting, bounded, with_target, run as run_source}
+use Rattle.prem_syntax.specs.Statements.{ProgramState, MarkedCall, value, values, with_local, with_output, take_input, store, choose, holds, in_bound, int_local, loop_test}
+use Rattle.prem_syntax.specs.Statements.{loop_step, counting, bounded, with_target, run as run_source}
 use Rattle.prem_syntax.specs.Source.{Limits, calls_below}
 use Rattle.prem_syntax.specs.Reach.{IsAmong, callees_in}
 use Rattle.prem_asm.specs.declared.piece.Test.{Test}
-use Rattle.prem_asm.specs.Pieces.{Pieces, no_pieces, straight, either, repeat, call_to, followed, words, size_of, branch_of, skip_words, skip_at, other_at, either_end, test_at, back_at, repeat_end, jump_to}
+use Rattle.prem_asm.specs.Pieces.{Pieces, no_pieces, straight, either, repeat, call_to, followed, words, size_of, branch_of, skip_words, skip_at, other_at, either_end, test_at}
+use Rattle.prem_asm.specs.Pieces.{back_at, repeat_end, jump_to}
 use Rattle.prem_asm.specs.Runs.{Setting, Calls, Ending, Falls, Returns, Stuck, with_trace, then_run, called, control, test_holds, taken_steps, other_steps, skip_steps, linked, run}
 use Rattle.prem_asm.specs.Steps.{Same}
 use Rattle.prem_asm.proofs.Shape.{choose_both}
@@ -47,7 +50,8 @@ use Rattle.prem_code_laws.proofs.GenLawsLemmas.Arrivals.{Gave, gave, silent}
 use Rattle.prem_code_laws.proofs.GenLawsLemmas.Parts.{widen, evaluated, still, changed, slot_falls}
 use Rattle.prem_code_laws.proofs.GenLawsLemmas.Steps.{steps_end}
 use Rattle.prem_wcet_laws.specs.Scopes.{Scene, fact_of, charge, data_ranges, span_of, globals_in}
-use Rattle.prem_wcet_laws.specs.Least.{own, own_jump, own_turns, own_choice, term_of, bound_code, first_code, counter_code, turn_of, taken_place, other_place, body_place, called_least, single, apart, least}
+use Rattle.prem_wcet_laws.specs.Least.{own, own_jump, own_turns, own_choice, term_of, bound_code, first_code, counter_code, turn_of, taken_place, other_place, body_place}
+use Rattle.prem_wcet_laws.specs.Least.{called_least, single, apart, least}
 use Rattle.prem_wcet_laws.specs.Divided.{Divides, RunDivides}
 use Rattle.prem_wcet_laws.specs.Keeping.{is_held}
 use Rattle.prem_wcet_laws.specs.ScopeLaws.{Stands, ScopeRun}
@@ -96,7 +100,8 @@ append_none : (xs ys : List ℕ) → xs ++ ys ≡ [] → (xs ≡ []) × (ys ≡ 
 append_none [] ys e = (refl, e)
 append_none (x ∷ xs) ys e = cc
 
-pub fit_alone : (gs : Globals) (parts : Parts) (cs : Callees) (phase : Phase) (count under : ℕ) (steps : Steps) → callees_in steps ≡ [] → StepsFit gs parts cs phase count under steps → StepsFit gs parts cs phase count 0 steps
+pub fit_alone : (gs : Globals) (parts : Parts) (cs : Callees) (phase : Phase) (count under : ℕ) (steps : Steps) → callees_in steps ≡ [] →
+    StepsFit gs parts cs phase count under steps → StepsFit gs parts cs phase count 0 steps
 fit_alone gs parts cs phase count under Done e fit = tt
 fit_alone gs parts cs phase count under (SetLocal at k value rest) e fit = (fit.0, (fit.1.0, fit_alone gs parts cs phase count under rest e fit.1.1))
 fit_alone gs parts cs phase count under (SetScalar at g ty value rest) e fit = (fit.0, (fit.1.0, fit_alone gs parts cs phase count under rest e fit.1.1))
@@ -205,7 +210,8 @@ module _ (e : Scene) (s : Setting) (gs : Globals) (parts : Parts) (cs : Callees)
   pub fell : (n at : ℕ) (steps : Steps) (t : TaskState) (st after : ProgramState) → Here n at steps t st after → Fell n (n + counters_in steps) (run s calls at (code n steps) t) t after
   fell n at steps t st after h =
       let own_code : code n steps ≡ steps_code (with_globals gs parts) n steps = ap (λ q. steps_code q n steps) st_.parts_are in
-      let d = steps_end s calls gs may k works.ground parts cs phase source callees_run count under space steps n at t st after h.slots h.room h.aligned (subst (λ q. at + size_of q < 2 ^ 32) own_code h.size) h.fit h.matches h.runs in
+      let d = steps_end s calls gs may k works.ground parts cs phase source callees_run count under space steps n at t st after h.slots h.room
+      h.aligned (subst (λ q. at + size_of q < 2 ^ 32) own_code h.size) h.fit h.matches h.runs in
       record { to = d.to; trace = d.trace; goes = ap (λ q. run s calls at q t) own_code ∙ d.goes; matches = d.matches; kept = d.kept }
 
   -- they are one scope
@@ -213,12 +219,14 @@ module _ (e : Scene) (s : Setting) (gs : Globals) (parts : Parts) (cs : Callees)
   scoped n at steps t st after h = by (callees_in steps) refl where
     alone : callees_in steps ≡ [] → ScopeRun e s calls n at steps t
     alone none =
-        steps_are_scopes e s gs parts cs phase c routines total st_ may (frame_alone k) limits calls (ground_alone s gs may k works.ground) works.same_calls count 0 (omega arith) steps n at t st after h.slots h.room h.aligned h.size
+        steps_are_scopes e s gs parts cs phase c routines total st_ may (frame_alone k) limits calls (ground_alone s gs may k works.ground)
+        works.same_calls count 0 (omega arith) steps n at t st after h.slots h.room h.aligned h.size
         (fit_alone gs parts cs phase count under steps none h.fit) h.known (λ a le lt. held_left e.stack _ a (works.frame a le lt)) (matches_alone s gs may k phase count st t h.matches) h.runs
 
     calling : (f : ℕ) (fs : List ℕ) → callees_in steps ≡ f ∷ fs → ScopeRun e s calls n at steps t
     calling f fs some =
-        steps_are_scopes e s gs parts cs phase c routines total st_ may k limits calls works.ground works.same_calls count under space steps n at t st after h.slots h.room h.aligned h.size h.fit h.known stack h.matches h.runs where
+        steps_are_scopes e s gs parts cs phase c routines total st_ may k limits calls works.ground works.same_calls count under space steps n at t st
+        after h.slots h.room h.aligned h.size h.fit h.known stack h.matches h.runs where
           below : (a : ℕ) → k.low ≤ a → a < k.sp → is_held (data_ranges e (span_of e n steps)) a ≡ true
           below a le lt =
               held_right e.stack _ a (held_right (map e.global (globals_in steps)) (flat_map (λ f. (fact_of e f).touched) (callees_in steps)) a
@@ -266,10 +274,20 @@ module _ (e : Scene) (s : Setting) (gs : Globals) (parts : Parts) (cs : Callees)
       record { slots = h.slots; room = room; aligned = h.aligned; size = shorter at (code n all) (code n first) (code n2 rest) is h.size; fit = fit; known = known; matches = h.matches; runs = runs }
 
   rest_here : (n at n2 : ℕ) (all first rest : Steps) → code n all ≡ followed (code n first) (code n2 rest) → (t u : TaskState) (st st1 after : ProgramState) → Here n at all t st after →
-      n ≤ n2 → n2 + counters_in rest ≤ k.slots → StepsFit gs parts cs phase count under rest → Known rest → run_source may source rest st1 ≡ Ok after → Matches s gs k phase count st1 u → Here n2 (at + size_of (code n first)) rest u st1 after
+      n ≤ n2 → n2 + counters_in rest ≤ k.slots → StepsFit gs parts cs phase count under rest → Known rest →
+      run_source may source rest st1 ≡ Ok after → Matches s gs k phase count st1 u → Here n2 (at + size_of (code n first)) rest u st1 after
   rest_here n at n2 all first rest is t u st st1 after h le room fit known runs m =
       let w : words (code n all) ≡ words (code n first) + words (code n2 rest) = ap words is ∙ words-followed (code n first) (code n2 rest) in
-      record { slots = further _ _ _ h.slots le; room = room; aligned = fourth at (words (code n first)) h.aligned; size = sum at _ _ _ w h.size; fit = fit; known = known; matches = m; runs = runs } where
+      record {
+        slots = further _ _ _ h.slots le;
+        room = room;
+        aligned = fourth at (words (code n first)) h.aligned;
+        size = sum at _ _ _ w h.size;
+        fit = fit;
+        known = known;
+        matches = m;
+        runs = runs;
+      } where
         further : (a b c : ℕ) → a ≤ b → b ≤ c → a ≤ c
         further a b c h k = omega (arith, h, k)
 
@@ -279,12 +297,14 @@ module _ (e : Scene) (s : Setting) (gs : Globals) (parts : Parts) (cs : Callees)
         sum : (a w b c : ℕ) → w ≡ b + c → a + 4 * w < 2 ^ 32 → a + 4 * b + 4 * c < 2 ^ 32
         sum a w b c e lt = omega (arith, e, lt)
 
-  join : (x y n at n2 : ℕ) (all first rest : Steps) → code n all ≡ followed (code n first) (code n2 rest) → (t : TaskState) (st st1 after : ProgramState) → Here n at all t st after → Here n at first t st st1 →
+  join : (x y n at n2 : ℕ) (all first rest : Steps) → code n all ≡ followed (code n first) (code n2 rest) →
+      (t : TaskState) (st st1 after : ProgramState) → Here n at all t st after → Here n at first t st st1 →
       n ≤ n2 → n2 + counters_in rest ≤ k.slots → StepsFit gs parts cs phase count under rest → Known rest → run_source may source rest st1 ≡ Ok after →
       Run x at (code n first) t → ((u : TaskState) → Here n2 (at + size_of (code n first)) rest u st1 after → Run y (at + size_of (code n first)) (code n2 rest) u) → Run (x + y) at (code n all) t
   join x y n at n2 all first rest is t st st1 after h one le room fit known runs run_first again =
       let f = fell n at first t st st1 one in
-      seq e.plant s calls x y (code n all) (code n first) (code n2 rest) is at t f.to f.trace f.goes run_first (again f.to (rest_here n at n2 all first rest is t f.to st st1 after h le room fit known runs f.matches))
+      seq e.plant s calls x y (code n all) (code n first) (code n2 rest) is at t f.to f.trace f.goes run_first
+      (again f.to (rest_here n at n2 all first rest is t f.to st st1 after h le room fit known runs f.matches))
 
   -- ---- code without calls
 
@@ -300,7 +320,8 @@ module _ (e : Scene) (s : Setting) (gs : Globals) (parts : Parts) (cs : Callees)
   pub own_run : (ps : Pieces) → CallFree ps → EachPiece IsNative ps → (at : ℕ) (t : TaskState) → Run (own e ps) at ps t
   own_run ps free native at t = own_divides e.plant s calls ps free native at t
 
-  gave_term : (x : Term) (r at : ℕ) (t : TaskState) (st : ProgramState) (w : ℕ) → 10 ≤ r → Matches s gs k phase count st t → Fits gs count r x → value may st x ≡ Ok w → Gave s calls at (term_of e r x) t r w
+  gave_term : (x : Term) (r at : ℕ) (t : TaskState) (st : ProgramState) (w : ℕ) → 10 ≤ r → Matches s gs k phase count st t → Fits gs count r x →
+      value may st x ≡ Ok w → Gave s calls at (term_of e r x) t r w
   gave_term x r at t st w ten m fit is =
       subst (λ (q : Parts). Gave s calls at (term_code q.target q.global r x) t r w) (sym st_.parts_are) (evaluated s calls gs may k works.ground phase count x r at t st w ten m fit is)
 
@@ -323,7 +344,8 @@ module _ (e : Scene) (s : Setting) (gs : Globals) (parts : Parts) (cs : Callees)
 
   -- ---- choices
 
-  choice_divides : (at : ℕ) (test : Test) (taken other : Pieces) (t : TaskState) (x y : ℕ) → (test_holds test t ≡ true → Run x (at + 8) taken t) → (test_holds test t ≡ false → Run y (other_at at taken other) other t) →
+  choice_divides : (at : ℕ) (test : Test) (taken other : Pieces) (t : TaskState) (x y : ℕ) → (test_holds test t ≡ true → Run x (at + 8) taken t) →
+      (test_holds test t ≡ false → Run y (other_at at taken other) other t) →
       Run (own_choice e test other x y) at (either test taken other no_pieces) t
   choice_divides at test taken other t x y on off =
       let b = job_weight e.plant (branch_of test) in
@@ -361,7 +383,8 @@ module _ (e : Scene) (s : Setting) (gs : Globals) (parts : Parts) (cs : Callees)
       let test_is : test_holds (nonzero 10) u ≡ b.0 = tested 10 u v.0 g.words g.value ∙ same_ok _ b.0 v.1.1 in
       let size : at + 4 * words (code n (If pl condition taken other Done)) < 2 ^ 32 = h.size in
       let aligned : at % 4 ≡ 0 = h.aligned in
-      seq e.plant s calls _ _ (code n (If pl condition taken other Done)) ps (either (nonzero 10) tk ot no_pieces) refl at t u g.trace g.goes (own_run ps (term_free 10 condition) (takes_ten e.parts.target e.parts.global condition) at t)
+      seq e.plant s calls _ _ (code n (If pl condition taken other Done)) ps (either (nonzero 10) tk ot no_pieces) refl at t u g.trace g.goes
+      (own_run ps (term_free 10 condition) (takes_ten e.parts.target e.parts.global condition) at t)
       (choice_divides at1 (nonzero 10) tk ot u x y
       (λ is. on u chosen.0 (record {
         slots = h.slots;
@@ -401,7 +424,8 @@ module _ (e : Scene) (s : Setting) (gs : Globals) (parts : Parts) (cs : Callees)
     value_is : value may now high ≡ Ok bound
     runs : counting line r (loop_test may i closed high) (λ q. and_then (run_source may source body q) (loop_step line i step)) now ≡ Ok fin
 
-  count_value : (line i : ℕ) (closed : Bool) (high : Term) (turn : ProgramState → Outcome ProgramState) (fin : ProgramState) (r : ℕ) (q : ProgramState) → counting line r (loop_test may i closed high) turn q ≡ Ok fin → (hv : ℕ) × (value may q high ≡ Ok hv)
+  count_value : (line i : ℕ) (closed : Bool) (high : Term) (turn : ProgramState → Outcome ProgramState) (fin : ProgramState) (r : ℕ)
+      (q : ProgramState) → counting line r (loop_test may i closed high) turn q ≡ Ok fin → (hv : ℕ) × (value may q high ≡ Ok hv)
   unfolding counting
   count_value line i closed high turn fin zero q is =
       let x = then_ok (loop_test may i closed high q) _ fin is in
@@ -412,17 +436,22 @@ module _ (e : Scene) (s : Setting) (gs : Globals) (parts : Parts) (cs : Callees)
       let y = then_ok (value may q high) _ x.0 x.1.0 in
       (y.0, y.1.0)
 
-  count_next : (line : ℕ) (test : ProgramState → Outcome Bool) (turn : ProgramState → Outcome ProgramState) (fin : ProgramState) (r : ℕ) (q : ProgramState) (b : Bool) → counting line (suc r) test turn q ≡ Ok fin → test q ≡ Ok b → b ≡ true →
+  count_next : (line : ℕ) (test : ProgramState → Outcome Bool) (turn : ProgramState → Outcome ProgramState) (fin : ProgramState) (r : ℕ)
+      (q : ProgramState) (b : Bool) → counting line (suc r) test turn q ≡ Ok fin → test q ≡ Ok b → b ≡ true →
       (q1 : ProgramState) × ((turn q ≡ Ok q1) × (counting line r test turn q1 ≡ Ok fin))
   unfolding counting
   count_next line test turn fin r q b is tests holding =
-      let e1 : choose b (λ t. and_then (turn t) (counting line r test turn)) Ok q ≡ Ok fin = sym (ap (λ o. and_then o (λ go. choose go (λ t. and_then (turn t) (counting line r test turn)) Ok q)) tests) ∙ is in
+      let e1 : choose b (λ t. and_then (turn t) (counting line r test turn)) Ok q ≡ Ok fin =
+      sym (ap (λ o. and_then o (λ go. choose go (λ t. and_then (turn t) (counting line r test turn)) Ok q)) tests) ∙ is in
       let e2 : and_then (turn q) (counting line r test turn) ≡ Ok fin = subst (λ b. choose b (λ t. and_then (turn t) (counting line r test turn)) Ok q ≡ Ok fin) holding e1 in
       then_ok (turn q) (counting line r test turn) fin e2
 
-  for_divides : (n at : ℕ) (pl : Place) (i : ℕ) (low : Term) (closed : Bool) (high : Term) (step turns : ℕ) (body : Steps) (t : TaskState) (st after : ProgramState) (x : ℕ) → Here n at (For pl i low closed high step turns body Done) t st after →
-      ((u : TaskState) (q q1 : ProgramState) → Here n (body_place at (first_code e i low) (bound_code e i high)) body u q q1 → Run x (body_place at (first_code e i low) (bound_code e i high)) (code n body) u) →
-      Run (own e (first_code e i low) + own_turns e turns (bound_test closed) (own e (bound_code e i high)) (x + own e (only (step_code i step)))) at (code n (For pl i low closed high step turns body Done)) t
+  for_divides : (n at : ℕ) (pl : Place) (i : ℕ) (low : Term) (closed : Bool) (high : Term) (step turns : ℕ) (body : Steps) (t : TaskState)
+      (st after : ProgramState) (x : ℕ) → Here n at (For pl i low closed high step turns body Done) t st after →
+      ((u : TaskState) (q q1 : ProgramState) → Here n (body_place at (first_code e i low) (bound_code e i high)) body u q q1 →
+      Run x (body_place at (first_code e i low) (bound_code e i high)) (code n body) u) →
+      Run (own e (first_code e i low) + own_turns e turns (bound_test closed) (own e (bound_code e i high)) (x + own e (only (step_code i step)))) at
+      (code n (For pl i low closed high step turns body Done)) t
   for_divides n at pl i low closed high step turns body t st after x h again =
       let v = then_ok (value may st low) _ after h.runs in
       let turn = λ (q : ProgramState). and_then (run_source may source body q) (loop_step pl.line i step) in
@@ -453,7 +482,8 @@ module _ (e : Scene) (s : Setting) (gs : Globals) (parts : Parts) (cs : Callees)
       } in
       let f = fell n at (SetLocal pl i low Done) t st (with_local i v.0 st) one in
       let l = loop_of s calls at1 head (bound_test closed) inner in
-      seq e.plant s calls _ _ (code n (For pl i low closed high step turns body Done)) first loop is at t f.to f.trace f.goes (own_run first (free_then (term_of e 10 low) _ (term_free 10 low) tt) (takes_first e.parts.target e.parts.global i low) at t)
+      seq e.plant s calls _ _ (code n (For pl i low closed high step turns body Done)) first loop is at t f.to f.trace f.goes
+      (own_run first (free_then (term_of e 10 low) _ (term_free 10 low) tt) (takes_first e.parts.target e.parts.global i low) at t)
       (nothing_then e.plant _ _
       (turns_divide e.plant (own e head) (job_weight e.plant (branch_of (bound_test closed))) (x + own e (only (step_code i step))) (own_jump e) l
       (Turn pl.line i step closed high body y.0) (Asked pl.line i step closed high body y.0)
@@ -470,7 +500,8 @@ module _ (e : Scene) (s : Setting) (gs : Globals) (parts : Parts) (cs : Callees)
       }))
       (λ u. branch_step (test_at at1 head) (bound_test closed) u) (λ u. other_step (test_at at1 head) (bound_test closed) (repeat_end at1 head inner) u)
       (λ r u asked holding. (let in_it : in_bound closed (int_local i asked.now) (value_in Int asked.bound) ≡ true =
-      sym (counted s calls gs may k works.ground phase count n (n + counters_in body) fits (omega arith) i h.fit.0 closed u (slice_index asked.now.locals i) asked.bound asked.ten asked.eleven) ∙ holding in
+      sym (counted s calls gs may k works.ground phase count n (n + counters_in body) fits (omega arith) i h.fit.0 closed u
+      (slice_index asked.now.locals i) asked.bound asked.ten asked.eleven) ∙ holding in
       let nx = count_next pl.line (loop_test may i closed high) turn y.0 r asked.now (in_bound closed (int_local i asked.now) (value_in Int asked.bound)) asked.runs
       (ap (λ o. and_then o (λ z. Ok (in_bound closed (int_local i asked.now) (value_in Int z)))) asked.value_is) in_it in
       let bd = then_ok (run_source may source body asked.now) (loop_step pl.line i step) nx.0 nx.1.0 in
@@ -492,10 +523,12 @@ module _ (e : Scene) (s : Setting) (gs : Globals) (parts : Parts) (cs : Callees)
         trace = g.trace ++ z.trace;
         goes = goes;
         divides = subst (RunDivides e.plant (x + own e (only (step_code i step)))) goes
-            (seq e.plant s calls _ _ inner (code n body) (only (step_code i step)) refl at2 u g.to g.trace g.goes (again u asked.now bd.0 here) (own_run (only (step_code i step)) tt (takes_step i step) (at2 + size_of (code n body)) g.to));
+            (seq e.plant s calls _ _ inner (code n body) (only (step_code i step)) refl at2 u g.to g.trace g.goes (again u asked.now bd.0 here)
+            (own_run (only (step_code i step)) tt (takes_step i step) (at2 + size_of (code n body)) g.to));
         next = record {
           now = nx.0;
-          matches = subst (λ q. Matches s gs k phase count q z.to) (step_ok s calls gs may k works.ground phase count n (n + counters_in body) fits (omega arith) i h.fit.0 pl.line step bd.0 nx.0 bd.1.1) z.matches;
+          matches = subst (λ q. Matches s gs k phase count q z.to)
+              (step_ok s calls gs may k works.ground phase count n (n + counters_in body) fits (omega arith) i h.fit.0 pl.line step bd.0 nx.0 bd.1.1) z.matches;
           runs = nx.1.1;
         };
       }))
@@ -531,13 +564,15 @@ module _ (e : Scene) (s : Setting) (gs : Globals) (parts : Parts) (cs : Callees)
       bounded (suc m) (holds may condition) (run_source may source body) q ≡ Ok fin → Further condition body fin q m
   unfolding bounded
   bounded_next condition body fin m q w val holding is =
-      let f = λ (o : Outcome ℕ). and_then (and_then o (λ c. Ok (not (eqb c 0)))) (λ go. choose go (λ t. and_then (run_source may source body t) (bounded m (holds may condition) (run_source may source body))) Ok q) in
+      let f = λ (o : Outcome ℕ). and_then (and_then o (λ c. Ok (not (eqb c 0))))
+      (λ go. choose go (λ t. and_then (run_source may source body t) (bounded m (holds may condition) (run_source may source body))) Ok q) in
       let e1 : choose (not (eqb w 0)) (λ t. and_then (run_source may source body t) (bounded m (holds may condition) (run_source may source body))) Ok q ≡ Ok fin = sym (ap f val) ∙ is in
       let e2 : and_then (run_source may source body q) (bounded m (holds may condition) (run_source may source body)) ≡ Ok fin =
       subst (λ b. choose b (λ t. and_then (run_source may source body t) (bounded m (holds may condition) (run_source may source body))) Ok q ≡ Ok fin) holding e1 in
       then_ok (run_source may source body q) (bounded m (holds may condition) (run_source may source body)) fin e2
 
-  bounded_value : (condition : Term) (body : Steps) (fin : ProgramState) (m : ℕ) (q : ProgramState) → bounded (suc m) (holds may condition) (run_source may source body) q ≡ Ok fin → (w : ℕ) × (value may q condition ≡ Ok w)
+  bounded_value : (condition : Term) (body : Steps) (fin : ProgramState) (m : ℕ) (q : ProgramState) →
+      bounded (suc m) (holds may condition) (run_source may source body) q ≡ Ok fin → (w : ℕ) × (value may q condition ≡ Ok w)
   unfolding bounded
   bounded_value condition body fin m q is =
       let x = then_ok (holds may condition q) _ fin is in
@@ -558,7 +593,9 @@ module _ (e : Scene) (s : Setting) (gs : Globals) (parts : Parts) (cs : Callees)
         to = record u { registers = registers };
         trace = trace;
         goes = here;
-        divides = subst (RunDivides e.plant (own e (turn_of e n condition))) here (own_run (turn_of e n condition) (joined (λ part. ⊥) (term_of e 10 condition) _ (term_free 10 condition) tt, tt, tt) (takes_turn e.parts.target e.parts.global n condition) at1 u);
+        divides = subst (RunDivides e.plant (own e (turn_of e n condition))) here
+            (own_run (turn_of e n condition) (joined (λ part. ⊥) (term_of e 10 condition) _ (term_free 10 condition) tt, tt, tt)
+            (takes_turn e.parts.target e.parts.global n condition) at1 u);
         next = record { now = left.now; matches = matches; counts = left.counts; small = left.small; next = next };
       }
 
@@ -572,7 +609,8 @@ module _ (e : Scene) (s : Setting) (gs : Globals) (parts : Parts) (cs : Callees)
   asks n condition body fin fit slots inside at1 (suc r) u left =
       let v = bounded_value condition body fin r left.now left.runs in
       let b = not (eqb v.0 0) in
-      let d = bound_headed s calls gs may k works.ground phase count n (suc n) n slots inside (omega arith) (omega arith) at1 condition u left.now (suc r) (truth b) left.matches left.counts left.small fit
+      let d = bound_headed s calls gs may k works.ground phase count n (suc n) n slots inside (omega arith) (omega arith) at1 condition u left.now
+      (suc r) (truth b) left.matches left.counts left.small fit
       (ap (λ b. cond b (ok_of 0) (truth_of (value may left.now condition))) (eqb-suc-zero r) ∙ ap truth_of v.1) in
       made n condition body fin at1 (suc r) u left d.registers d.trace d.goes d.matches
       (λ m is holding. let same : r ≡ m = one_less r m is in
@@ -582,7 +620,8 @@ module _ (e : Scene) (s : Setting) (gs : Globals) (parts : Parts) (cs : Callees)
         one_less r m is = omega (arith, is)
 
   while_divides : (n at : ℕ) (pl : Place) (turns : ℕ) (condition : Term) (body : Steps) (t : TaskState) (st after : ProgramState) (x : ℕ) → Here n at (While pl turns condition body Done) t st after →
-      ((u : TaskState) (q q1 : ProgramState) → Here (n + 1) (body_place at (counter_code n turns) (turn_of e n condition) + 12) body u q q1 → Run x (body_place at (counter_code n turns) (turn_of e n condition) + 12) (code (n + 1) body) u) →
+      ((u : TaskState) (q q1 : ProgramState) → Here (n + 1) (body_place at (counter_code n turns) (turn_of e n condition) + 12) body u q q1 →
+      Run x (body_place at (counter_code n turns) (turn_of e n condition) + 12) (code (n + 1) body) u) →
       Run (own e (counter_code n turns) + own_turns e turns (nonzero 10) (own e (turn_of e n condition)) (own e (only (count_code n)) + x)) at (code n (While pl turns condition body Done)) t
   while_divides n at pl turns condition body t st after x h again =
       let y = then_ok (bounded turns (holds may condition) (run_source may source body) st) (run_source may source Done) after h.runs in
@@ -600,7 +639,8 @@ module _ (e : Scene) (s : Setting) (gs : Globals) (parts : Parts) (cs : Callees)
       let room : n + (1 + counters_in body + 0) ≤ k.slots = h.room in
       let hi = n + 1 + counters_in body in
       let inside : n < k.slots = omega arith in
-      let g = gave s calls 10 at ps t turns (quiet_constant 10 (omega arith) turns, tt) (puts_give s silent at (constant 10 turns) t 10 turns (constant_puts t.registers 10 turns (omega arith) h.fit.0 h.matches.words)) in
+      let g = gave s calls 10 at ps t turns (quiet_constant 10 (omega arith) turns, tt)
+      (puts_give s silent at (constant 10 turns) t 10 turns (constant_puts t.registers 10 turns (omega arith) h.fit.0 h.matches.words)) in
       let t1 : TaskState = record t { registers = g.registers } in
       let m1 = still s calls gs may k works.ground phase count at ps t st 10 turns (omega arith) h.matches g in
       let z = slot_falls s calls gs may k works.ground phase count n hi (at + size_of ps) n t1 st turns m1 inside g.value in
@@ -635,7 +675,8 @@ module _ (e : Scene) (s : Setting) (gs : Globals) (parts : Parts) (cs : Callees)
         trace = d.trace ++ f.trace;
         goes = goes;
         divides = subst (RunDivides e.plant (own e (only (count_code n)) + x)) goes
-            (seq e.plant s calls _ _ inner (only (count_code n)) (code (n + 1) body) refl at2 u d.to d.trace d.goes (own_run (only (count_code n)) tt (takes_count n) at2 u) (again d.to decided.now nx.0 here));
+            (seq e.plant s calls _ _ inner (only (count_code n)) (code (n + 1) body) refl at2 u d.to d.trace d.goes
+            (own_run (only (count_code n)) tt (takes_count n) at2 u) (again d.to decided.now nx.0 here));
         next = record {
           now = nx.0;
           matches = f.matches;
@@ -646,7 +687,8 @@ module _ (e : Scene) (s : Setting) (gs : Globals) (parts : Parts) (cs : Callees)
       }))
       (λ u. jump_step 0 (back_at at1 head inner) at1 u)
       turns t2 (record { now = st; matches = m2; counts = word_back (slot_at k n) turns t.view h.fit.0; small = h.fit.0; runs = y.1.0 }))) where
-        counter_same : (view view' : ℕ → ℕ) (r : ℕ) → ((a : ℕ) → IsKept k count (suc n) (n + 1 + counters_in body) a → view' a ≡ view a) → number_at view (slot_at k n) 4 ≡ r → number_at view' (slot_at k n) 4 ≡ r
+        counter_same : (view view' : ℕ → ℕ) (r : ℕ) → ((a : ℕ) → IsKept k count (suc n) (n + 1 + counters_in body) a → view' a ≡ view a) →
+            number_at view (slot_at k n) 4 ≡ r → number_at view' (slot_at k n) 4 ≡ r
         counter_same view view' r kept is = number_same view' view 4 (slot_at k n) (λ b le lt. kept b (by b le lt)) ∙ is where
           slots : count ≤ n
           slots = h.slots
@@ -664,7 +706,8 @@ module _ (e : Scene) (s : Setting) (gs : Globals) (parts : Parts) (cs : Callees)
       (run_with e.plant a b trace (next u) (subst (RunDivides e.plant a) is h) k))
 
   call_divides : (n at : ℕ) (pl : Place) (target : Option ℕ) (f : ℕ) (arguments : List Term) (t : TaskState) (st after : ProgramState) → Here n at (Call pl target f arguments Done) t st after →
-      Run (own e (argument_code e.parts.target e.parts.global (e.parts.frame f) 0 arguments) + own_jump e + called_least e f + own e (target_code target no_pieces)) at (code n (Call pl target f arguments Done)) t
+      Run (own e (argument_code e.parts.target e.parts.global (e.parts.frame f) 0 arguments) + own_jump e + called_least e f + own e
+      (target_code target no_pieces)) at (code n (Call pl target f arguments Done)) t
   call_divides n at pl target f arguments t st after h =
       let vs = then_ok (values may st arguments) _ after h.runs in
       let r = then_ok (source may f vs.0 st) (λ r. run_source may source Done (with_target target r.0 r.1)) after vs.1.1 in
@@ -674,7 +717,8 @@ module _ (e : Scene) (s : Setting) (gs : Globals) (parts : Parts) (cs : Callees)
       let part = parts.callee f in
       let args = argument_code gs.target gs.part frame 0 arguments in
       let last = target_code target no_pieces in
-      let size : at + 4 * words (followed args (call_to link part last)) < 2 ^ 32 = subst (λ (q : Parts). at + 4 * words (steps_code q n (Call pl target f arguments Done)) < 2 ^ 32) st_.parts_are h.size in
+      let size : at + 4 * words (followed args (call_to link part last)) < 2 ^ 32 =
+      subst (λ (q : Parts). at + 4 * words (steps_code q n (Call pl target f arguments Done)) < 2 ^ 32) st_.parts_are h.size in
       let w1 = words-followed args (call_to link part last) in
       let aligned : at % 4 ≡ 0 = h.aligned in
       let floor : k.low ≤ k.sp = works.ground.floor in
@@ -689,7 +733,8 @@ module _ (e : Scene) (s : Setting) (gs : Globals) (parts : Parts) (cs : Callees)
       let t2 : TaskState = linked link ra t1 in
       let small : ra < 2 ^ 32 = omega (arith, size, w1) in
       let not_two : 2 ≢ link = λ e. fit.no_stack (sym e) in
-      let m2 = changed s calls gs may k works.ground phase count t1 st (with_register link ra t1.registers) q.matches (reg_words link ra t1.registers small q.matches.words) (reg_other link ra t1.registers 2 not_two ∙ q.matches.stack) in
+      let m2 = changed s calls gs may k works.ground phase count t1 st (with_register link ra t1.registers) q.matches
+      (reg_words link ra t1.registers small q.matches.words) (reg_other link ra t1.registers 2 not_two ∙ q.matches.stack) in
       let stand : ArgumentsStand t2.view (k.sp - frame) vs.0 = record {
         stands = λ i lt. (let z : 0 + i ≡ i = omega arith in subst (λ n. number_at t1.view (k.sp - frame + 4 + 4 * n) 4 ≡ slice_index vs.0 i) z (q.stands i lt));
         word = q.word;
@@ -704,7 +749,9 @@ module _ (e : Scene) (s : Setting) (gs : Globals) (parts : Parts) (cs : Callees)
       let j = own_jump e in
       let l = called_least e f in
       let z = own e last in
-      subst (λ (q : Parts). RunDivides e.plant (own e (argument_code q.target q.global (q.frame f) 0 arguments) + own_jump e + called_least e f + own e (target_code target no_pieces)) (run s calls at (steps_code q n (Call pl target f arguments Done)) t))
+      subst (λ (q : Parts). RunDivides e.plant
+      (own e (argument_code q.target q.global (q.frame f) 0 arguments) + own_jump e + called_least e f + own e (target_code target no_pieces))
+      (run s calls at (steps_code q n (Call pl target f arguments Done)) t))
       (sym st_.parts_are)
       (run_more e.plant (a + (j + (l + z))) _ (run s calls at (followed args (call_to link part last)) t) (moved a j l z)
       (seq e.plant s calls a (j + (l + z)) (followed args (call_to link part last)) args (call_to link part last) refl at t t1 q.trace q.goes
@@ -720,14 +767,16 @@ module _ (e : Scene) (s : Setting) (gs : Globals) (parts : Parts) (cs : Callees)
   divides Done n at t st after h = divides_none e.plant
   divides (SetLocal pl i ex rest) n at t st after h =
       let x = then_ok (value may st ex) _ after h.runs in
-      let one = first_here n at n (SetLocal pl i ex rest) (SetLocal pl i ex Done) rest (first_local e.parts n pl i ex rest) t st (with_local i x.0 st) after h (omega (arith, h.room)) (h.fit.0, (h.fit.1.0, tt)) (λ f is. absurd is)
+      let one = first_here n at n (SetLocal pl i ex rest) (SetLocal pl i ex Done) rest (first_local e.parts n pl i ex rest) t st (with_local i x.0 st)
+      after h (omega (arith, h.room)) (h.fit.0, (h.fit.1.0, tt)) (λ f is. absurd is)
       (ap (λ o. and_then o (λ w. Ok (with_local i w st))) x.1.0) in
       join _ _ n at n (SetLocal pl i ex rest) (SetLocal pl i ex Done) rest (first_local e.parts n pl i ex rest) t st (with_local i x.0 st) after h one (omega arith) h.room h.fit.1.1 h.known x.1.1
       (single_divides n at (SetLocal pl i ex Done) t st (with_local i x.0 st) (free_then (term_of e 10 ex) _ (term_free 10 ex) tt) one) (λ u here. divides rest n _ u (with_local i x.0 st) after here)
   divides (SetScalar pl g ty ex rest) n at t st after h =
       let x = then_ok (value may st ex) _ after h.runs in
       let y = then_ok (store may pl.line ty g 0 x.0 st) (run_source may source rest) after x.1.1 in
-      let one = first_here n at n (SetScalar pl g ty ex rest) (SetScalar pl g ty ex Done) rest (first_scalar e.parts n pl g ty ex rest) t st y.0 after h (omega (arith, h.room)) (h.fit.0, (h.fit.1.0, tt)) (λ f is. absurd is)
+      let one = first_here n at n (SetScalar pl g ty ex rest) (SetScalar pl g ty ex Done) rest (first_scalar e.parts n pl g ty ex rest)
+      t st y.0 after h (omega (arith, h.room)) (h.fit.0, (h.fit.1.0, tt)) (λ f is. absurd is)
       (ap (λ o. and_then o (λ w. and_then (store may pl.line ty g 0 w st) (λ q. Ok q))) x.1.0 ∙ ap (λ o. and_then o (λ q. Ok q)) y.1.0) in
       join _ _ n at n (SetScalar pl g ty ex rest) (SetScalar pl g ty ex Done) rest (first_scalar e.parts n pl g ty ex rest) t st y.0 after h one (omega arith) h.room h.fit.1.1 h.known y.1.1
       (single_divides n at (SetScalar pl g ty ex Done) t st y.0 (free_then (term_of e 10 ex) _ (term_free 10 ex) tt) one) (λ u here. divides rest n _ u y.0 after here)
@@ -735,30 +784,38 @@ module _ (e : Scene) (s : Setting) (gs : Globals) (parts : Parts) (cs : Callees)
       let x = then_ok (value may st ex) _ after h.runs in
       let j = then_ok (value may st index) _ after x.1.1 in
       let y = then_ok (store may pl.line ty g j.0 x.0 st) (run_source may source rest) after j.1.1 in
-      let one = first_here n at n (SetElement pl g ty index ex rest) (SetElement pl g ty index ex Done) rest (first_element e.parts n pl g ty index ex rest) t st y.0 after h (omega (arith, h.room)) (h.fit.0, (h.fit.1.0, (h.fit.1.1.0, tt))) (λ f is. absurd is)
+      let one = first_here n at n (SetElement pl g ty index ex rest) (SetElement pl g ty index ex Done) rest
+      (first_element e.parts n pl g ty index ex rest) t st y.0 after h (omega (arith, h.room)) (h.fit.0, (h.fit.1.0, (h.fit.1.1.0, tt))) (λ f is. absurd is)
       (ap (λ o. and_then o (λ w. and_then (value may st index) (λ j. and_then (store may pl.line ty g j w st) (λ q. Ok q)))) x.1.0
       ∙ ap (λ o. and_then o (λ j. and_then (store may pl.line ty g j x.0 st) (λ q. Ok q))) j.1.0 ∙ ap (λ o. and_then o (λ q. Ok q)) y.1.0) in
-      join _ _ n at n (SetElement pl g ty index ex rest) (SetElement pl g ty index ex Done) rest (first_element e.parts n pl g ty index ex rest) t st y.0 after h one (omega arith) h.room h.fit.1.1.1 h.known y.1.1
-      (single_divides n at (SetElement pl g ty index ex Done) t st y.0 (free_then (term_of e 10 ex) _ (term_free 10 ex) (free_then (term_of e 11 index) _ (term_free 11 index) tt)) one) (λ u here. divides rest n _ u y.0 after here)
+      join _ _ n at n (SetElement pl g ty index ex rest) (SetElement pl g ty index ex Done) rest (first_element e.parts n pl g ty index ex rest)
+      t st y.0 after h one (omega arith) h.room h.fit.1.1.1 h.known y.1.1
+      (single_divides n at (SetElement pl g ty index ex Done) t st y.0
+      (free_then (term_of e 10 ex) _ (term_free 10 ex) (free_then (term_of e 11 index) _ (term_free 11 index) tt)) one)
+      (λ u here. divides rest n _ u y.0 after here)
   divides (Output pl ex rest) n at t st after h =
       let x = then_ok (value may st ex) _ after h.runs in
-      let one = first_here n at n (Output pl ex rest) (Output pl ex Done) rest (first_output e.parts n pl ex rest) t st (with_output x.0 st) after h (omega (arith, h.room)) (h.fit.0, (h.fit.1.0, tt)) (λ f is. absurd is)
+      let one = first_here n at n (Output pl ex rest) (Output pl ex Done) rest (first_output e.parts n pl ex rest) t st (with_output x.0 st) after h
+      (omega (arith, h.room)) (h.fit.0, (h.fit.1.0, tt)) (λ f is. absurd is)
       (ap (λ o. and_then o (λ w. Ok (with_output w st))) x.1.0) in
       join _ _ n at n (Output pl ex rest) (Output pl ex Done) rest (first_output e.parts n pl ex rest) t st (with_output x.0 st) after h one (omega arith) h.room h.fit.1.1 h.known x.1.1
       (single_divides n at (Output pl ex Done) t st (with_output x.0 st) (free_then (term_of e 10 ex) _ (term_free 10 ex) tt) one) (λ u here. divides rest n _ u (with_output x.0 st) after here)
   divides (Input pl i rest) n at t st after h =
       let st1 = take_input i st.inputs st in
-      let one = first_here n at n (Input pl i rest) (Input pl i Done) rest (first_input e.parts n pl i rest) t st st1 after h (omega (arith, h.room)) (h.fit.0, (h.fit.1.0, tt)) (λ f is. absurd is) refl in
+      let one = first_here n at n (Input pl i rest) (Input pl i Done) rest (first_input e.parts n pl i rest) t st st1 after h (omega (arith, h.room))
+      (h.fit.0, (h.fit.1.0, tt)) (λ f is. absurd is) refl in
       join _ _ n at n (Input pl i rest) (Input pl i Done) rest (first_input e.parts n pl i rest) t st st1 after h one (omega arith) h.room h.fit.1.1 h.known h.runs
       (single_divides n at (Input pl i Done) t st st1 tt one) (λ u here. divides rest n _ u st1 after here)
   divides (If pl condition taken other rest) n at t st after h =
       let b = then_ok (holds may condition st) _ after h.runs in
       let y = then_ok (choose b.0 (run_source may source taken) (run_source may source other) st) (run_source may source rest) after b.1.1 in
       let first_known = λ (f : ℕ) (is : IsAmong f (callees_in taken ++ (callees_in other ++ []))). h.known f (among_choice (callees_in taken) (callees_in other) (callees_in rest) f is) in
-      let one = first_here n at (n + counters_in taken + counters_in other) (If pl condition taken other rest) (If pl condition taken other Done) rest (first_if e.parts n pl condition taken other rest) t st y.0 after h (omega (arith, h.room))
+      let one = first_here n at (n + counters_in taken + counters_in other) (If pl condition taken other rest) (If pl condition taken other Done) rest
+      (first_if e.parts n pl condition taken other rest) t st y.0 after h (omega (arith, h.room))
       (h.fit.0, (h.fit.1.0, (h.fit.1.1.0, tt))) first_known
       (ap (λ o. and_then o (λ c. and_then (choose c (run_source may source taken) (run_source may source other) st) (λ q. Ok q))) b.1.0 ∙ ap (λ o. and_then o (λ q. Ok q)) y.1.0) in
-      join _ _ n at (n + counters_in taken + counters_in other) (If pl condition taken other rest) (If pl condition taken other Done) rest (first_if e.parts n pl condition taken other rest) t st y.0 after h one (omega arith) (omega (arith, h.room))
+      join _ _ n at (n + counters_in taken + counters_in other) (If pl condition taken other rest) (If pl condition taken other Done) rest
+      (first_if e.parts n pl condition taken other rest) t st y.0 after h one (omega arith) (omega (arith, h.room))
       h.fit.1.1.1 (λ f is. h.known f (among_right f (callees_in taken) (callees_in other ++ callees_in rest) (among_right f (callees_in other) (callees_in rest) is))) y.1.1
       (lesser e.plant _ _ _ (scope_divides n at (If pl condition taken other Done) t st y.0 one)
       (if_divides n at pl condition taken other t st y.0 _ _ one
@@ -769,10 +826,12 @@ module _ (e : Scene) (s : Setting) (gs : Globals) (parts : Parts) (cs : Callees)
       let v = then_ok (value may st low) _ after h.runs in
       let turn = λ (q : ProgramState). and_then (run_source may source body q) (loop_step pl.line i step) in
       let y = then_ok (counting pl.line turns (loop_test may i closed high) turn (with_local i v.0 st)) (run_source may source rest) after v.1.1 in
-      let one = first_here n at (n + counters_in body) (For pl i low closed high step turns body rest) (For pl i low closed high step turns body Done) rest (first_for e.parts n pl i low closed high step turns body rest) t st y.0 after h (omega (arith, h.room))
+      let one = first_here n at (n + counters_in body) (For pl i low closed high step turns body rest) (For pl i low closed high step turns body Done)
+      rest (first_for e.parts n pl i low closed high step turns body rest) t st y.0 after h (omega (arith, h.room))
       (h.fit.0, (h.fit.1.0, (h.fit.1.1.0, (h.fit.1.1.1.0, (h.fit.1.1.1.1.0, tt))))) (λ f is. h.known f (among_loop (callees_in body) (callees_in rest) f is))
       (ap (λ o. and_then o (λ w. and_then (counting pl.line turns (loop_test may i closed high) turn (with_local i w st)) (λ q. Ok q))) v.1.0 ∙ ap (λ o. and_then o (λ q. Ok q)) y.1.0) in
-      join _ _ n at (n + counters_in body) (For pl i low closed high step turns body rest) (For pl i low closed high step turns body Done) rest (first_for e.parts n pl i low closed high step turns body rest) t st y.0 after h one (omega arith) (omega (arith, h.room))
+      join _ _ n at (n + counters_in body) (For pl i low closed high step turns body rest) (For pl i low closed high step turns body Done) rest
+      (first_for e.parts n pl i low closed high step turns body rest) t st y.0 after h one (omega arith) (omega (arith, h.room))
       h.fit.1.1.1.1.1 (λ f is. h.known f (among_right f (callees_in body) (callees_in rest) is)) y.1.1
       (lesser e.plant _ _ _ (scope_divides n at (For pl i low closed high step turns body Done) t st y.0 one)
       (for_divides n at pl i low closed high step turns body t st y.0 _ one
@@ -780,9 +839,11 @@ module _ (e : Scene) (s : Setting) (gs : Globals) (parts : Parts) (cs : Callees)
       (λ u here. divides rest (n + counters_in body) _ u y.0 after here)
   divides (While pl turns condition body rest) n at t st after h =
       let y = then_ok (bounded turns (holds may condition) (run_source may source body) st) (run_source may source rest) after h.runs in
-      let one = first_here n at (n + 1 + counters_in body) (While pl turns condition body rest) (While pl turns condition body Done) rest (first_while e.parts n pl turns condition body rest) t st y.0 after h (omega (arith, h.room))
+      let one = first_here n at (n + 1 + counters_in body) (While pl turns condition body rest) (While pl turns condition body Done) rest
+      (first_while e.parts n pl turns condition body rest) t st y.0 after h (omega (arith, h.room))
       (h.fit.0, (h.fit.1.0, (h.fit.1.1.0, tt))) (λ f is. h.known f (among_loop (callees_in body) (callees_in rest) f is)) (ap (λ o. and_then o (λ q. Ok q)) y.1.0) in
-      join _ _ n at (n + 1 + counters_in body) (While pl turns condition body rest) (While pl turns condition body Done) rest (first_while e.parts n pl turns condition body rest) t st y.0 after h one (omega arith) (omega (arith, h.room))
+      join _ _ n at (n + 1 + counters_in body) (While pl turns condition body rest) (While pl turns condition body Done) rest
+      (first_while e.parts n pl turns condition body rest) t st y.0 after h one (omega arith) (omega (arith, h.room))
       h.fit.1.1.1 (λ f is. h.known f (among_right f (callees_in body) (callees_in rest) is)) y.1.1
       (lesser e.plant _ _ _ (scope_divides n at (While pl turns condition body Done) t st y.0 one)
       (while_divides n at pl turns condition body t st y.0 _ one
@@ -792,9 +853,12 @@ module _ (e : Scene) (s : Setting) (gs : Globals) (parts : Parts) (cs : Callees)
       let vs = then_ok (values may st arguments) _ after h.runs in
       let r = then_ok (source may f vs.0 st) (λ r. run_source may source rest (with_target target r.0 r.1)) after vs.1.1 in
       let st1 = with_target target r.0.0 r.0.1 in
-      let one = first_here n at n (Call pl target f arguments rest) (Call pl target f arguments Done) rest (first_call e.parts n pl target f arguments rest) t st st1 after h (omega (arith, h.room)) (h.fit.0, tt) (λ g is. h.known g (among_call (callees_in rest) f g is))
+      let one = first_here n at n (Call pl target f arguments rest) (Call pl target f arguments Done) rest
+      (first_call e.parts n pl target f arguments rest) t st st1 after h (omega (arith, h.room)) (h.fit.0, tt)
+      (λ g is. h.known g (among_call (callees_in rest) f g is))
       (ap (λ o. and_then o (λ ws. and_then (source may f ws st) (λ r. Ok (with_target target r.0 r.1)))) vs.1.0 ∙ ap (λ o. and_then o (λ r. Ok (with_target target r.0 r.1))) r.1.0) in
-      join _ _ n at n (Call pl target f arguments rest) (Call pl target f arguments Done) rest (first_call e.parts n pl target f arguments rest) t st st1 after h one (omega arith) h.room h.fit.1 (λ g is. h.known g (inr is)) r.1.1
+      join _ _ n at n (Call pl target f arguments rest) (Call pl target f arguments Done) rest (first_call e.parts n pl target f arguments rest)
+      t st st1 after h one (omega arith) h.room h.fit.1 (λ g is. h.known g (inr is)) r.1.1
       (lesser e.plant _ _ _ (scope_divides n at (Call pl target f arguments Done) t st st1 one) (call_divides n at pl target f arguments t st st1 one))
       (λ u here. divides rest n _ u st1 after here)
 

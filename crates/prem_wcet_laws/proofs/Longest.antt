@@ -65,7 +65,8 @@ one_summed (f ∷ fs) (s ∷ ss) h zero = h.0
 one_summed (f ∷ fs) (s ∷ ss) h (suc n) = one_summed fs ss h.1 n
 
 -- the part of a function's code
-code_summed : (functions : ℕ) (stubs : ℕ → Sums) (fs : List Fact) (ss : List Sums) → AllSummed fs ss → length fs ≤ functions → (n : ℕ) → IsSummed (slice_index_or fs n no_fact) (part_sums functions (sums_at ss) stubs (code_part n))
+code_summed : (functions : ℕ) (stubs : ℕ → Sums) (fs : List Fact) (ss : List Sums) → AllSummed fs ss → length fs ≤ functions → (n : ℕ) →
+    IsSummed (slice_index_or fs n no_fact) (part_sums functions (sums_at ss) stubs (code_part n))
 code_summed functions stubs fs ss h le n =
     let e : suc n ≡ 1 + n = omega arith in
     subst (λ q. IsSummed (slice_index_or fs n no_fact) (part_sums functions (sums_at ss) stubs q)) e (by (ltb n functions) refl) where
@@ -92,13 +93,16 @@ module _ (p : Plant) (plans : List Plan) (program : Resolved) (t : TaskPlaces) (
 
   sums_called : (known : List Fact) (ss : List Sums) → AllSummed known ss → length known ≤ functions → (f : ℕ) → IsWithin (called_parted (scene known) f).sums (sums ss ((scene known).parts.callee f))
   sums_called known ss h le f = by (is_marked_at program.routines f) where
-    by : (b : Bool) → IsWithin (cond b (marked_count p plans (marked_before f program.routines)) (slice_index_or known f no_fact).parted).sums (sums ss (cond b (stub_part program.routines f) (code_part f)))
+    by : (b : Bool) → IsWithin (cond b (marked_count p plans (marked_before f program.routines)) (slice_index_or known f no_fact).parted).sums
+        (sums ss (cond b (stub_part program.routines f) (code_part f)))
     by true = subst (λ s. IsWithin (stubs (marked_before f program.routines)) s) (sym (stub_is (marked_before f program.routines) ss)) (within_same (stubs (marked_before f program.routines)))
     by false = (code_summed functions stubs known ss h le f).sums
 
-  least_called : (known : List Fact) (ss : List Sums) → AllSummed known ss → length known ≤ functions → (f : ℕ) → cuts (scene known) f ≡ false → IsWithin (taking (called_least (scene known) f)) (sums ss ((scene known).parts.callee f))
+  least_called : (known : List Fact) (ss : List Sums) → AllSummed known ss → length known ≤ functions → (f : ℕ) → cuts (scene known) f ≡ false →
+      IsWithin (taking (called_least (scene known) f)) (sums ss ((scene known).parts.callee f))
   least_called known ss h le f = by (is_marked_at program.routines f) where
-    by : (b : Bool) → (b || (slice_index_or known f no_fact).cuts) ≡ false → IsWithin (taking (cond b 0 (slice_index_or known f no_fact).least)) (sums ss (cond b (stub_part program.routines f) (code_part f)))
+    by : (b : Bool) → (b || (slice_index_or known f no_fact).cuts) ≡ false →
+        IsWithin (taking (cond b 0 (slice_index_or known f no_fact).least)) (sums ss (cond b (stub_part program.routines f) (code_part f)))
     by true is = cc
     by false is = (code_summed functions stubs known ss h le f).least is
 
@@ -174,7 +178,8 @@ longest_is_within p plans program t stubs =
           cond b
           (greatest (chained (taking (own_jump (known_scene p plans program t))) (chained (fact_of (known_scene p plans program t) program.job).parted.sums (taking (job_weight p PmDone)))))
           (cond b (own_start (known_scene p plans program t) + (fact_of (known_scene p plans program t) program.job).parted.total)
-          (min (charge (known_scene p plans program t) ((known_scene p plans program t).places start_part) (start_span program)) (own_start (known_scene p plans program t) + (fact_of (known_scene p plans program t) program.job).least)))
+          (min (charge (known_scene p plans program t) ((known_scene p plans program t).places start_part) (start_span program))
+          (own_start (known_scene p plans program t) + (fact_of (known_scene p plans program t) program.job).least)))
           ≤ n
       by true sums least is =
           within _ _ _

@@ -2,9 +2,11 @@
 use Rattle.std.proofs.Common.{◌≡◌, ℕ, zero, suc, refl, ap, ◌∙◌, subst, cond, eqb, not, true, false, Bool, ◌&&◌, List, [], ◌∷◌, ◌++◌, inl, inr, Some, None, Option, Ok}
 use Rattle.std.specs.Prelude.{slice_get}
 use Rattle.std.proofs.lemmas.Bool.{eqb-true}
-use Rattle.prem_syntax.specs.Resolved.{Term, Constant, Local, Scalar, Element, Unary, Binary, AndAlso, OrElse, Steps, Done, SetLocal, SetScalar, SetElement, Output, Input, If, For, While, Call, Routine}
+use Rattle.prem_syntax.specs.Resolved.{Term, Constant, Local, Scalar, Element, Unary, Binary, AndAlso, OrElse, Steps, Done, SetLocal, SetScalar, SetElement, Output, Input, If, For}
+use Rattle.prem_syntax.specs.Resolved.{While, Call, Routine}
 use Rattle.prem_syntax.specs.Expressions.{Outcome, Access, and_then, words_of, cell, or_wrong, operate, unary_word, truth_of, eval, eval_all}
-use Rattle.prem_syntax.specs.Statements.{ProgramState, Calls, value, with_local, with_output, with_cell, stored, take_input, store, choose, holds, loop_step, in_bound, int_local, counting, bounded, with_target, run, declare, with_new_local, result_of, leave, enter, is_marked}
+use Rattle.prem_syntax.specs.Statements.{ProgramState, Calls, value, with_local, with_output, with_cell, stored, take_input, store, choose, holds, loop_step, in_bound, int_local}
+use Rattle.prem_syntax.specs.Statements.{counting, bounded, with_target, run, declare, with_new_local, result_of, leave, enter, is_marked}
 use Rattle.prem_syntax.specs.Source.{Limits, enter_if_there, this_or, calls_below}
 use Rattle.prem_syntax.specs.Reach.{IsAmong, callees_in}
 use Rattle.prem_wcet_laws.specs.Scopes.{globals_in_term, globals_in, globals_in_terms, globals_in_result}
@@ -73,11 +75,13 @@ module _ (inside : ℕ → Bool) where
       choose_same true f g f' g' p h k = h
       choose_same false f g f' g' p h k = k
 
-      counting_same : (line n : ℕ) (test test' : ProgramState → Outcome Bool) (turn turn' : ProgramState → Outcome ProgramState) → ((p : ProgramState) → test p ≡ test' p) → ((p : ProgramState) → turn p ≡ turn' p) →
+      counting_same : (line n : ℕ) (test test' : ProgramState → Outcome Bool) (turn turn' : ProgramState → Outcome ProgramState) →
+          ((p : ProgramState) → test p ≡ test' p) → ((p : ProgramState) → turn p ≡ turn' p) →
           (p : ProgramState) → counting line n test turn p ≡ counting line n test' turn' p
       counting_same line n test test' turn turn' h k p = ap (λ f. counting line n f turn p) (λ i q. h q i) ∙ ap (λ f. counting line n test' f p) (λ i q. k q i)
 
-      bounded_same : (n : ℕ) (test test' : ProgramState → Outcome Bool) (turn turn' : ProgramState → Outcome ProgramState) → ((p : ProgramState) → test p ≡ test' p) → ((p : ProgramState) → turn p ≡ turn' p) →
+      bounded_same : (n : ℕ) (test test' : ProgramState → Outcome Bool) (turn turn' : ProgramState → Outcome ProgramState) →
+          ((p : ProgramState) → test p ≡ test' p) → ((p : ProgramState) → turn p ≡ turn' p) →
           (p : ProgramState) → bounded n test turn p ≡ bounded n test' turn' p
       bounded_same n test test' turn turn' h k p = ap (λ f. bounded n f turn p) (λ i q. h q i) ∙ ap (λ f. bounded n test' f p) (λ i q. k q i)
 
@@ -127,7 +131,9 @@ module _ (inside : ℕ → Bool) where
           then_same _ _ _ _ (value_same p low (left_of (globals_in_term low) (globals_in_term high) h0))
           (λ w. then_same _ _ _ _
           (counting_same at.line turns _ _ _ _
-          (λ q. ap (λ o. and_then o (λ z. Ok (in_bound closed (int_local k q) (Rattle.prem_word.specs.Words.value_in Rattle.prem_word.specs.declared.kind.Kind.TheVariants.Int z)))) (value_same q high (right_of (globals_in_term low) (globals_in_term high) h0)))
+          (λ q. ap (λ o. and_then o (λ z. Ok
+          (in_bound closed (int_local k q) (Rattle.prem_word.specs.Words.value_in Rattle.prem_word.specs.declared.kind.Kind.TheVariants.Int z))))
+          (value_same q high (right_of (globals_in_term low) (globals_in_term high) h0)))
           (λ q. ap (λ o. and_then o (loop_step at.line k step)) (run_same body q (left_of x z h1) (λ f is. c f (among_left f a d is)))) (with_local k w p))
           (λ r. run_same rest r (right_of x z h1) (λ f is. c f (among_right f a d is))))
       run_same (While at turns condition body rest) p h c =
@@ -176,18 +182,21 @@ module _ (inside : ℕ → Bool) where
 
   -- ---- functions by number
 
-  entered : (limits : Limits) (routines : List Routine) (Reached : ℕ → Type 0) → AreClosed inside routines Reached → (n : ℕ) (may : Access) → ((g : ℕ) → Reached g → CallsSame inside may (calls_below limits routines n) g) →
+  entered : (limits : Limits) (routines : List Routine) (Reached : ℕ → Type 0) → AreClosed inside routines Reached → (n : ℕ) (may : Access) →
+      ((g : ℕ) → Reached g → CallsSame inside may (calls_below limits routines n) g) →
       (o : Option Routine) → slice_get routines n ≡ o → Reached n → (f : ℕ) (ws : List ℕ) (p : ProgramState) →
       enter_if_there limits (calls_below limits routines n) o n (narrowed inside may) f ws p ≡ enter_if_there limits (calls_below limits routines n) o n may f ws p
   entered limits routines Reached closed n may again None is reached f ws p = refl
   entered limits routines Reached closed n may again (Some r) is reached f ws p = marked (is_marked r) where
-    marked : (b : Bool) → enter (calls_below limits routines n) (cond b (limits.inside n) (narrowed inside may)) r n ws p ≡ enter (calls_below limits routines n) (cond b (limits.inside n) may) r n ws p
+    marked : (b : Bool) → enter (calls_below limits routines n) (cond b (limits.inside n) (narrowed inside may)) r n ws p
+        ≡ enter (calls_below limits routines n) (cond b (limits.inside n) may) r n ws p
     marked true = refl
     marked false =
         let h = closed n r reached is in
         enter_same may (calls_below limits routines n) r n ws p h.0 (λ c is. again c (h.1 c is))
 
-  pub calls_same : (limits : Limits) (routines : List Routine) (Reached : ℕ → Type 0) → AreClosed inside routines Reached → (n : ℕ) (may : Access) (f : ℕ) → Reached f → CallsSame inside may (calls_below limits routines n) f
+  pub calls_same : (limits : Limits) (routines : List Routine) (Reached : ℕ → Type 0) → AreClosed inside routines Reached →
+      (n : ℕ) (may : Access) (f : ℕ) → Reached f → CallsSame inside may (calls_below limits routines n) f
   calls_same limits routines Reached closed zero may f there ws p = refl
   calls_same limits routines Reached closed (suc n) may f there ws p =
       by (eqb f n) refl (λ g is. calls_same limits routines Reached closed n may g is) where

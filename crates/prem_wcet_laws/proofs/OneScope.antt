@@ -1,7 +1,8 @@
 -- A list of statements runs as one scope.
 use Rattle.std.specs.Prelude.{slice_get, map}
 use Rattle.std.specs.List.{list_any, list_all}
-use Rattle.std.proofs.Common.{◌≡◌, ℕ, zero, suc, ◌+◌, ◌*◌, ◌^◌, ◌<◌, ◌≤◌, refl, ap, ◌∙◌, sym, subst, arith, eqb, leb, true, false, Bool, ◌&&◌, ◌||◌, List, [], ◌∷◌, ◌++◌, inl, inr, ◌⊎◌, length, Option, None, Some, Ok}
+use Rattle.std.proofs.Common.{◌≡◌, ℕ, zero, suc, ◌+◌, ◌*◌, ◌^◌, ◌<◌, ◌≤◌, refl, ap, ◌∙◌, sym, subst, arith, eqb, leb, true, false, Bool, ◌&&◌, ◌||◌, List, [], ◌∷◌, ◌++◌, inl, inr}
+use Rattle.std.proofs.Common.{◌⊎◌, length, Option, None, Some, Ok}
 use Rattle.std.proofs.lemmas.Bool.{and_parts, and_from, or_cases, or_right, leb-true, le-leb, eqb-true}
 use Rattle.prem_plant.specs.declared.plant.Plant.{Plant}
 use Rattle.prem_plant.specs.Places.{Extent}
@@ -43,7 +44,8 @@ use Rattle.prem_wcet_laws.proofs.ScopeCosts.{scope_weighs, steps_less, all_weigh
 
 -- ---- callees may be called
 
-pub steps_callable : (gs : Globals) (parts : Parts) (cs : Callees) (phase : Phase) (count under : ℕ) (steps : Steps) → StepsFit gs parts cs phase count under steps → (f : ℕ) → IsAmong f (callees_in steps) → cs.callable f ≡ true
+pub steps_callable : (gs : Globals) (parts : Parts) (cs : Callees) (phase : Phase) (count under : ℕ) (steps : Steps) →
+    StepsFit gs parts cs phase count under steps → (f : ℕ) → IsAmong f (callees_in steps) → cs.callable f ≡ true
 steps_callable gs parts cs phase count under steps fit f is = by steps fit is where
   among_cases : (xs ys : List ℕ) → IsAmong f (xs ++ ys) → IsAmong f xs ⊎ IsAmong f ys
   among_cases [] ys h = inr h
@@ -167,7 +169,8 @@ confined_grows ranges g = record { loads = λ a h. (and_parts (is_held ranges a)
 
 -- ---- the scope
 
-module _ (e : Scene) (s : Setting) (gs : Globals) (parts : Parts) (cs : Callees) (phase : Phase) (c : Codes) (routines : List Routine) (total_functions : ℕ) (st : Stands e s gs parts cs phase c routines total_functions)
+module _ (e : Scene) (s : Setting) (gs : Globals) (parts : Parts) (cs : Callees) (phase : Phase) (c : Codes) (routines : List Routine)
+    (total_functions : ℕ) (st : Stands e s gs parts cs phase c routines total_functions)
     (code ranges : List Extent) where
   abbrev small : Setting
   small = record s { guard = confined_to ranges s.guard }
@@ -273,11 +276,13 @@ scope_charged p line lines code ranges n ds h le = both (length (roomy_lines p l
   both a b c n le more = omega (arith, le, more)
 
 -- calls of functions weigh what is known of them
-pub called_weigh : (e : Scene) (s : Setting) (gs : Globals) (parts : Parts) (cs : Callees) (phase : Phase) (c : Codes) (routines : List Routine) (total_functions : ℕ) → Stands e s gs parts cs phase c routines total_functions →
+pub called_weigh : (e : Scene) (s : Setting) (gs : Globals) (parts : Parts) (cs : Callees) (phase : Phase) (c : Codes) (routines : List Routine)
+    (total_functions : ℕ) → Stands e s gs parts cs phase c routines total_functions →
     (h : Guard) (w : PlaceWeight) → Weighs w → (part : ℕ) (t : TaskState) →
     Within (weight_of w) (part_weight e.functions (weight_at (places_behind w e.functions e.places [] e.facts)) (λ k. 0) part) (code_calls (record s { guard = h }) c total_functions part t)
 called_weigh e s gs parts cs phase c routines total_functions st h w weighs part t =
-    subst (λ n. Within (weight_of w) (part_weight e.functions (weight_at (places_behind w e.functions e.places [] e.facts)) (λ k. 0) part) (code_calls (record s { guard = h }) c n part t)) (none _ _ st.known)
+    subst (λ n. Within (weight_of w) (part_weight e.functions (weight_at (places_behind w e.functions e.places [] e.facts)) (λ k. 0) part)
+    (code_calls (record s { guard = h }) c n part t)) (none _ _ st.known)
     (all_weigh w weighs (record s { guard = h }) c e.functions e.places st.places_are st.code_parts e.facts [] (few _ _ _ st.known st.functions)
     (λ i lt. st.pieces i (below i _ _ lt st.known) ∙ ap c.code (zero_first i)) (none_weigh w weighs (record s { guard = h }) c e.functions e.places st.places_are st.code_parts) part t) where
       none : (a b : ℕ) → a ≡ b → 0 + a ≡ b
@@ -311,19 +316,25 @@ steps_are_scopes e s gs parts cs phase c routines total_functions st may k limit
     let source : run_source (narrowed inside may) (calls_below limits routines total_functions) steps p ≡ Ok after =
     run_same inside may (calls_below limits routines total_functions) steps p
     (λ g among. covered_has (e.global g) ranges (has_right (e.global g) e.stack _ (has_left (e.global g) (map e.global (globals_in steps)) _ (has_mapped e.global g (globals_in steps) among))))
-    (λ f among. calls_same inside limits routines (Reached e s gs parts cs phase c routines total_functions st code ranges) (closed e s gs parts cs phase c routines total_functions st code ranges) total_functions may f (reached f among))
+    (λ f among. calls_same inside limits routines (Reached e s gs parts cs phase c routines total_functions st code ranges)
+    (closed e s gs parts cs phase c routines total_functions st code ranges) total_functions may f (reached f among))
     ∙ is in
     let callees : CalleesAt sm gs (narrowed inside may) k inner parts cs phase (calls_below limits routines total_functions) =
-    λ f callable. at_frame sm gs (narrowed inside may) k phase (inner (parts.callee f)) (parts.link f) (parts.frame f) (cs.depth f) (cs.params f) (cs.returns f) (λ words q. calls_below limits routines total_functions (narrowed inside may) f words q)
-    (functions_run sm gs parts cs phase c limits routines st.all (narrowed inside may) (task_fits s (confined_to ranges s.guard) gs parts cs phase c routines st.all st.task) total_functions st.some f callable) in
-    let d = steps_end sm inner gs (narrowed inside may) k (ground_small e s gs parts cs phase c routines total_functions st code ranges may k ground stack) parts cs phase (calls_below limits routines total_functions) callees count under space
+    λ f callable. at_frame sm gs (narrowed inside may) k phase (inner (parts.callee f)) (parts.link f) (parts.frame f) (cs.depth f) (cs.params f)
+    (cs.returns f) (λ words q. calls_below limits routines total_functions (narrowed inside may) f words q)
+    (functions_run sm gs parts cs phase c limits routines st.all (narrowed inside may)
+    (task_fits s (confined_to ranges s.guard) gs parts cs phase c routines st.all st.task) total_functions st.some f callable) in
+    let d = steps_end sm inner gs (narrowed inside may) k
+    (ground_small e s gs parts cs phase c routines total_functions st code ranges may k ground stack) parts cs phase
+    (calls_below limits routines total_functions) callees count under space
     steps n at t p after le room al (subst (λ q. at + size_of q < 2 ^ 32) own_code size) fit (matches_guard s (confined_to ranges s.guard) gs parts cs phase k count p t m) source in
     let goes_small : run sm inner at (steps_code e.parts n steps) t ≡ Falls d.to d.trace = ap (λ q. run sm inner at q t) own_code ∙ d.goes in
     let grown : Same (run sm inner at (steps_code e.parts n steps) t) (run s calls at (steps_code e.parts n steps) t) =
     guard_grows sm s.guard (confined_grows ranges s.guard) inner calls
     (λ part u. same_trans _ _ _ (calls_grow s (confined_to ranges s.guard) (confined_grows ranges s.guard) c total_functions part u) (same_calls part u)) (steps_code e.parts n steps) at t in
     let kept : Holds (IsIn code ranges) Any (run sm inner at (steps_code e.parts n steps) t) =
-    keeps_in code ranges sm inner (confined_confines ranges s.guard) (steps_code e.parts n steps) at (λ a ge lt. held_by (extent_of at (steps_code e.parts n steps)) code a (inl refl) ge lt) (takes_steps e.parts n steps)
+    keeps_in code ranges sm inner (confined_confines ranges s.guard) (steps_code e.parts n steps) at
+    (λ a ge lt. held_by (extent_of at (steps_code e.parts n steps)) code a (inl refl) ge lt) (takes_steps e.parts n steps)
     (steps_call (λ part. (u : TaskState) → Any u → Holds (IsIn code ranges) Any (inner part u)) e.parts n steps
     (λ f among u j. let next = reached f among in
     subst (λ q. Holds (IsIn code ranges) Any (inner q u)) (sym (ap (λ (q : Parts). q.callee f) st.parts_are ∙ st.task.callees f next.callable))

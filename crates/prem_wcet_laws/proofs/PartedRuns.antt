@@ -1,6 +1,7 @@
 -- Lists of statements with marked calls run in scopes and marked calls, charged no more than their parted charge.
 use Rattle.std.specs.Prelude.{slice_index, ◌||◌}
-use Rattle.std.proofs.Common.{◌≡◌, ◌≢◌, ℕ, zero, suc, ◌+◌, ◌-◌, ◌*◌, ◌%◌, ◌^◌, ◌<◌, ◌≤◌, refl, ap, ◌∙◌, sym, subst, arith, cond, eqb, eq-eqb, not, true, false, Bool, List, [], ◌∷◌, ◌++◌, append_assoc, inl, inr, length, max, Option, Ok, append-nil, Some, None}
+use Rattle.std.proofs.Common.{◌≡◌, ◌≢◌, ℕ, zero, suc, ◌+◌, ◌-◌, ◌*◌, ◌%◌, ◌^◌, ◌<◌, ◌≤◌, refl, ap, ◌∙◌, sym, subst, arith, cond, eqb, eq-eqb, not, true, false, Bool, List, [], ◌∷◌}
+use Rattle.std.proofs.Common.{◌++◌, append_assoc, inl, inr, length, max, Option, Ok, append-nil, Some, None}
 use Rattle.prem_word.specs.Bytes.{number_at}
 use Rattle.prem_word.specs.Words.{value_in, truth}
 use Rattle.prem_word.specs.declared.kind.Kind.TheVariants.{Int}
@@ -10,11 +11,13 @@ use Rattle.prem_isa.specs.Plain.{TaskState, Did}
 use Rattle.prem_syntax.specs.declared.tree.Place.{Place}
 use Rattle.prem_syntax.specs.Resolved.{Term, Steps, Done, SetLocal, SetScalar, SetElement, Output, Input, If, For, While, Call, Routine}
 use Rattle.prem_syntax.specs.Expressions.{Outcome, Access, and_then, truth_of}
-use Rattle.prem_syntax.specs.Statements.{ProgramState, MarkedCall, value, values, with_local, with_output, take_input, store, choose, holds, in_bound, int_local, loop_test, loop_step, counting, bounded, with_target, run as run_source}
+use Rattle.prem_syntax.specs.Statements.{ProgramState, MarkedCall, value, values, with_local, with_output, take_input, store, choose, holds, in_bound, int_local, loop_test}
+use Rattle.prem_syntax.specs.Statements.{loop_step, counting, bounded, with_target, run as run_source}
 use Rattle.prem_syntax.specs.Source.{Limits, calls_below}
 use Rattle.prem_syntax.specs.Reach.{IsAmong, callees_in}
 use Rattle.prem_asm.specs.declared.piece.Test.{Test}
-use Rattle.prem_asm.specs.Pieces.{Pieces, no_pieces, straight, either, repeat, call_to, followed, words, size_of, branch_of, skip_words, skip_at, other_at, either_end, test_at, back_at, repeat_end, jump_to}
+use Rattle.prem_asm.specs.Pieces.{Pieces, no_pieces, straight, either, repeat, call_to, followed, words, size_of, branch_of, skip_words, skip_at, other_at, either_end, test_at}
+use Rattle.prem_asm.specs.Pieces.{back_at, repeat_end, jump_to}
 use Rattle.prem_asm.specs.Runs.{Setting, Calls, Ending, Falls, Returns, Stuck, with_trace, then_run, called, control, test_holds, taken_steps, other_steps, skip_steps, linked, run}
 use Rattle.prem_asm.proofs.Shape.{choose_both}
 use Rattle.prem_asm.proofs.Rows.{words-followed}
@@ -47,7 +50,8 @@ use Rattle.prem_wcet_laws.specs.Scopes.{Scene}
 use Rattle.prem_wcet_laws.specs.Least.{own, own_jump, own_turns, own_choice, term_of, bound_code, first_code, counter_code, turn_of, taken_place, other_place, body_place, least}
 use Rattle.prem_wcet_laws.specs.Divided.{Divides, RunDivides, Courses, RunCourses}
 use Rattle.prem_wcet_laws.specs.ScopeLaws.{Stands}
-use Rattle.prem_wcet_laws.specs.Parted.{cuts, has_cut, front, by_cut, Edge, no_edge, passing, landing, next_edge, passage, Begun, counted, begins, opened, called_parted, choice_count, turn_count, landing_place, parted}
+use Rattle.prem_wcet_laws.specs.Parted.{cuts, has_cut, front, by_cut, Edge, no_edge, passing, landing, next_edge, passage, Begun, counted, begins, opened, called_parted}
+use Rattle.prem_wcet_laws.specs.Parted.{choice_count, turn_count, landing_place, parted}
 use Rattle.prem_wcet_laws.specs.PartedLaws.{Mixes, StepsCourse, is_marked}
 use Rattle.prem_wcet_laws.proofs.Shape.{followed-assoc, first_local, first_scalar, first_element, first_output, first_input, first_if, first_for, first_while, first_call}
 use Rattle.prem_wcet_laws.proofs.Calls.{joined, term_calls, arguments_call, target_calls}
@@ -67,8 +71,10 @@ use Rattle.std.proofs.lemmas.Bool.{and_parts}
 use Rattle.prem_wcet_laws.proofs.Takes.{takes_ten, takes_first, takes_bound, takes_step, takes_count, takes_counter, takes_turn, takes_arguments, takes_target}
 use Rattle.prem_wcet_laws.proofs.Passages.{Goes, HasTrace, with_traced, EdgeGoes, no_edge_goes, landing_goes, passing_goes, passage_divides}
 
-module _ (e : Scene) (s : Setting) (gs : Globals) (parts : Parts) (cs every : Callees) (phase : Phase) (c : Codes) (routines : List Routine) (total : ℕ) (st_ : Stands e s gs parts cs phase c routines total)
-    (may : Access) (limits : Limits) (calls : Calls) (k : Stack) (Marked : List Did → ℕ → Type 0) (mixed : Mixes e s gs parts cs every phase c routines total may limits calls k Marked) (count under : ℕ) (space : k.low + under ≤ k.sp) where
+module _ (e : Scene) (s : Setting) (gs : Globals) (parts : Parts) (cs every : Callees) (phase : Phase) (c : Codes) (routines : List Routine)
+    (total : ℕ) (st_ : Stands e s gs parts cs phase c routines total)
+    (may : Access) (limits : Limits) (calls : Calls) (k : Stack) (Marked : List Did → ℕ → Type 0)
+    (mixed : Mixes e s gs parts cs every phase c routines total may limits calls k Marked) (count under : ℕ) (space : k.low + under ≤ k.sp) where
   abbrev source : Rattle.prem_syntax.specs.Statements.Calls
   source = calls_below limits routines total
 
@@ -99,7 +105,8 @@ module _ (e : Scene) (s : Setting) (gs : Globals) (parts : Parts) (cs every : Ca
   pub fell : (n at : ℕ) (steps : Steps) (t : TaskState) (st after : ProgramState) → Here n at steps t st after → Fell n (n + counters_in steps) (run s calls at (code n steps) t) t after
   fell n at steps t st after h =
       let own_code : code n steps ≡ steps_code (with_globals gs parts) n steps = ap (λ q. steps_code q n steps) st_.parts_are in
-      let d = steps_end s calls gs may k mixed.works.ground parts every phase source mixed.callees count under space steps n at t st after h.slots h.room h.aligned (subst (λ q. at + size_of q < 2 ^ 32) own_code h.size) h.fit h.matches h.runs in
+      let d = steps_end s calls gs may k mixed.works.ground parts every phase source mixed.callees count under space steps n at t st after h.slots
+      h.room h.aligned (subst (λ q. at + size_of q < 2 ^ 32) own_code h.size) h.fit h.matches h.runs in
       record { to = d.to; trace = d.trace; goes = ap (λ q. run s calls at q t) own_code ∙ d.goes; matches = d.matches; kept = d.kept }
 
   -- ---- statements one behind another
@@ -113,7 +120,8 @@ module _ (e : Scene) (s : Setting) (gs : Globals) (parts : Parts) (cs every : Ca
       record { slots = h.slots; room = room; aligned = h.aligned; size = shorter at (code n all) (code n first) (code n2 rest) is h.size; fit = fit; matches = h.matches; runs = runs }
 
   rest_here : (n at n2 : ℕ) (all first rest : Steps) → code n all ≡ followed (code n first) (code n2 rest) → (t u : TaskState) (st st1 after : ProgramState) → Here n at all t st after →
-      n ≤ n2 → n2 + counters_in rest ≤ k.slots → StepsFit gs parts every phase count under rest → run_source may source rest st1 ≡ Ok after → Matches s gs k phase count st1 u → Here n2 (at + size_of (code n first)) rest u st1 after
+      n ≤ n2 → n2 + counters_in rest ≤ k.slots → StepsFit gs parts every phase count under rest → run_source may source rest st1 ≡ Ok after →
+      Matches s gs k phase count st1 u → Here n2 (at + size_of (code n first)) rest u st1 after
   rest_here n at n2 all first rest is t u st st1 after h le room fit runs m =
       let w : words (code n all) ≡ words (code n first) + words (code n2 rest) = ap words is ∙ words-followed (code n first) (code n2 rest) in
       record { slots = further _ _ _ h.slots le; room = room; aligned = fourth at (words (code n first)) h.aligned; size = sum at _ _ _ w h.size; fit = fit; matches = m; runs = runs } where
@@ -140,7 +148,8 @@ module _ (e : Scene) (s : Setting) (gs : Globals) (parts : Parts) (cs every : Ca
   pub own_run : (ps : Pieces) → CallFree ps → EachPiece IsNative ps → (at : ℕ) (t : TaskState) → Run (quiet (own e ps)) at ps t
   own_run ps free native at t = run_course e.plant Marked _ _ (own_divides e.plant s calls ps free native at t)
 
-  gave_term : (x : Term) (r at : ℕ) (t : TaskState) (st : ProgramState) (w : ℕ) → 10 ≤ r → Matches s gs k phase count st t → Fits gs count r x → value may st x ≡ Ok w → Gave s calls at (term_of e r x) t r w
+  gave_term : (x : Term) (r at : ℕ) (t : TaskState) (st : ProgramState) (w : ℕ) → 10 ≤ r → Matches s gs k phase count st t → Fits gs count r x →
+      value may st x ≡ Ok w → Gave s calls at (term_of e r x) t r w
   gave_term x r at t st w ten m fit is =
       subst (λ (q : Parts). Gave s calls at (term_code q.target q.global r x) t r w) (sym st_.parts_are) (evaluated s calls gs may k mixed.works.ground phase count x r at t st w ten m fit is)
 
@@ -163,7 +172,8 @@ module _ (e : Scene) (s : Setting) (gs : Globals) (parts : Parts) (cs every : Ca
 
   -- ---- choices
 
-  choice_divides : (at : ℕ) (test : Test) (taken other : Pieces) (t : TaskState) (x y : Count) → (test_holds test t ≡ true → Run x (at + 8) taken t) → (test_holds test t ≡ false → Run y (other_at at taken other) other t) →
+  choice_divides : (at : ℕ) (test : Test) (taken other : Pieces) (t : TaskState) (x y : Count) → (test_holds test t ≡ true → Run x (at + 8) taken t) →
+      (test_holds test t ≡ false → Run y (other_at at taken other) other t) →
       Run (choice_count e test other x y) at (either test taken other no_pieces) t
   choice_divides at test taken other t x y on off =
       let b = quiet (job_weight e.plant (branch_of test)) in
@@ -180,7 +190,9 @@ module _ (e : Scene) (s : Setting) (gs : Globals) (parts : Parts) (cs every : Ca
       (λ is. run_more e.plant Marked (then_count b (then_count x (quiet n))) _ _ (then_no_more b _ b _ (same_count b) (either_first _ (then_count x (quiet n)) (then_count j y) (same_count _)))
       (run_with e.plant Marked b (then_count x (quiet n)) (taken_steps at test t) _ (branch_step at test t)
       (any_then e.plant Marked x n (run s calls (at + 8) taken t) _ (on is) (λ u. skip_step (skip_words other) skip end u))))
-      (λ is. run_more e.plant Marked (then_count (then_count b j) y) _ _ (no_more_then _ (then_count b (then_count j y)) _ (by_same (then_assoc b j y)) (then_no_more b _ b _ (same_count b) (either_second _ (then_count x (quiet n)) (then_count j y) (same_count _))))
+      (λ is. run_more e.plant Marked (then_count (then_count b j) y) _ _
+      (no_more_then _ (then_count b (then_count j y)) _ (by_same (then_assoc b j y))
+      (then_no_more b _ b _ (same_count b) (either_second _ (then_count x (quiet n)) (then_count j y) (same_count _))))
       (run_with e.plant Marked (then_count b j) y (other_steps at test oth t) (run s calls oth other t) (other_step at test oth t) (off is))))
 
   if_divides : (n at : ℕ) (pl : _) (condition : Term) (taken other : Steps) (t : TaskState) (st after : ProgramState) (x y : Count) → Here n at (If pl condition taken other Done) t st after →
@@ -203,7 +215,8 @@ module _ (e : Scene) (s : Setting) (gs : Globals) (parts : Parts) (cs every : Ca
       let test_is : test_holds (nonzero 10) u ≡ b.0 = tested 10 u v.0 g.words g.value ∙ same_ok _ b.0 v.1.1 in
       let size : at + 4 * words (code n (If pl condition taken other Done)) < 2 ^ 32 = h.size in
       let aligned : at % 4 ≡ 0 = h.aligned in
-      seq e.plant Marked s calls _ _ (code n (If pl condition taken other Done)) ps (either (nonzero 10) tk ot no_pieces) refl at t u g.trace g.goes (own_run ps (term_free 10 condition) (takes_ten e.parts.target e.parts.global condition) at t)
+      seq e.plant Marked s calls _ _ (code n (If pl condition taken other Done)) ps (either (nonzero 10) tk ot no_pieces) refl at t u g.trace g.goes
+      (own_run ps (term_free 10 condition) (takes_ten e.parts.target e.parts.global condition) at t)
       (choice_divides at1 (nonzero 10) tk ot u x y
       (λ is. on u chosen.0 (record {
         slots = h.slots;
@@ -241,7 +254,8 @@ module _ (e : Scene) (s : Setting) (gs : Globals) (parts : Parts) (cs every : Ca
     value_is : value may now high ≡ Ok bound
     runs : counting line r (loop_test may i closed high) (λ q. and_then (run_source may source body q) (loop_step line i step)) now ≡ Ok fin
 
-  count_value : (line i : ℕ) (closed : Bool) (high : Term) (turn : ProgramState → Outcome ProgramState) (fin : ProgramState) (r : ℕ) (q : ProgramState) → counting line r (loop_test may i closed high) turn q ≡ Ok fin → (hv : ℕ) × (value may q high ≡ Ok hv)
+  count_value : (line i : ℕ) (closed : Bool) (high : Term) (turn : ProgramState → Outcome ProgramState) (fin : ProgramState) (r : ℕ)
+      (q : ProgramState) → counting line r (loop_test may i closed high) turn q ≡ Ok fin → (hv : ℕ) × (value may q high ≡ Ok hv)
   unfolding counting
   count_value line i closed high turn fin zero q is =
       let x = then_ok (loop_test may i closed high q) _ fin is in
@@ -252,17 +266,23 @@ module _ (e : Scene) (s : Setting) (gs : Globals) (parts : Parts) (cs every : Ca
       let y = then_ok (value may q high) _ x.0 x.1.0 in
       (y.0, y.1.0)
 
-  count_next : (line : ℕ) (test : ProgramState → Outcome Bool) (turn : ProgramState → Outcome ProgramState) (fin : ProgramState) (r : ℕ) (q : ProgramState) (b : Bool) → counting line (suc r) test turn q ≡ Ok fin → test q ≡ Ok b → b ≡ true →
+  count_next : (line : ℕ) (test : ProgramState → Outcome Bool) (turn : ProgramState → Outcome ProgramState) (fin : ProgramState) (r : ℕ)
+      (q : ProgramState) (b : Bool) → counting line (suc r) test turn q ≡ Ok fin → test q ≡ Ok b → b ≡ true →
       (q1 : ProgramState) × ((turn q ≡ Ok q1) × (counting line r test turn q1 ≡ Ok fin))
   unfolding counting
   count_next line test turn fin r q b is tests holding =
-      let e1 : choose b (λ t. and_then (turn t) (counting line r test turn)) Ok q ≡ Ok fin = sym (ap (λ o. and_then o (λ go. choose go (λ t. and_then (turn t) (counting line r test turn)) Ok q)) tests) ∙ is in
+      let e1 : choose b (λ t. and_then (turn t) (counting line r test turn)) Ok q ≡ Ok fin =
+      sym (ap (λ o. and_then o (λ go. choose go (λ t. and_then (turn t) (counting line r test turn)) Ok q)) tests) ∙ is in
       let e2 : and_then (turn q) (counting line r test turn) ≡ Ok fin = subst (λ b. choose b (λ t. and_then (turn t) (counting line r test turn)) Ok q ≡ Ok fin) holding e1 in
       then_ok (turn q) (counting line r test turn) fin e2
 
-  for_divides : (n at : ℕ) (pl : Place) (i : ℕ) (low : Term) (closed : Bool) (high : Term) (step turns : ℕ) (body : Steps) (t : TaskState) (st after : ProgramState) (x : Count) → Here n at (For pl i low closed high step turns body Done) t st after →
-      ((u : TaskState) (q q1 : ProgramState) → Here n (body_place at (first_code e i low) (bound_code e i high)) body u q q1 → Run x (body_place at (first_code e i low) (bound_code e i high)) (code n body) u) →
-      Run (then_count (quiet (own e (first_code e i low))) (turn_count e turns (bound_test closed) (own e (bound_code e i high)) (then_count x (quiet (own e (only (step_code i step))))))) at (code n (For pl i low closed high step turns body Done)) t
+  for_divides : (n at : ℕ) (pl : Place) (i : ℕ) (low : Term) (closed : Bool) (high : Term) (step turns : ℕ) (body : Steps) (t : TaskState)
+      (st after : ProgramState) (x : Count) → Here n at (For pl i low closed high step turns body Done) t st after →
+      ((u : TaskState) (q q1 : ProgramState) → Here n (body_place at (first_code e i low) (bound_code e i high)) body u q q1 →
+      Run x (body_place at (first_code e i low) (bound_code e i high)) (code n body) u) →
+      Run (then_count (quiet (own e (first_code e i low)))
+      (turn_count e turns (bound_test closed) (own e (bound_code e i high)) (then_count x (quiet (own e (only (step_code i step))))))) at
+      (code n (For pl i low closed high step turns body Done)) t
   for_divides n at pl i low closed high step turns body t st after x h again =
       let v = then_ok (value may st low) _ after h.runs in
       let turn = λ (q : ProgramState). and_then (run_source may source body q) (loop_step pl.line i step) in
@@ -292,7 +312,8 @@ module _ (e : Scene) (s : Setting) (gs : Globals) (parts : Parts) (cs every : Ca
       } in
       let f = fell n at (SetLocal pl i low Done) t st (with_local i v.0 st) one in
       let l = loop_of s calls at1 head (bound_test closed) inner in
-      seq e.plant Marked s calls _ _ (code n (For pl i low closed high step turns body Done)) first loop is at t f.to f.trace f.goes (own_run first (free_then (term_of e 10 low) _ (term_free 10 low) tt) (takes_first e.parts.target e.parts.global i low) at t)
+      seq e.plant Marked s calls _ _ (code n (For pl i low closed high step turns body Done)) first loop is at t f.to f.trace f.goes
+      (own_run first (free_then (term_of e 10 low) _ (term_free 10 low) tt) (takes_first e.parts.target e.parts.global i low) at t)
       (nothing_then e.plant Marked _ _
       (turns_course e.plant Marked (own e head) (job_weight e.plant (branch_of (bound_test closed))) (then_count x (quiet (own e (only (step_code i step))))) (own_jump e) l
       (Turn pl.line i step closed high body y.0) (Asked pl.line i step closed high body y.0)
@@ -309,7 +330,8 @@ module _ (e : Scene) (s : Setting) (gs : Globals) (parts : Parts) (cs every : Ca
       }))
       (λ u. branch_step (test_at at1 head) (bound_test closed) u) (λ u. other_step (test_at at1 head) (bound_test closed) (repeat_end at1 head inner) u)
       (λ r u asked holding. (let in_it : in_bound closed (int_local i asked.now) (value_in Int asked.bound) ≡ true =
-      sym (bound_tested s calls gs may k mixed.works.ground phase count n (n + counters_in body) fits (omega arith) i h.fit.0 closed u (slice_index asked.now.locals i) asked.bound asked.ten asked.eleven) ∙ holding in
+      sym (bound_tested s calls gs may k mixed.works.ground phase count n (n + counters_in body) fits (omega arith) i h.fit.0 closed u
+      (slice_index asked.now.locals i) asked.bound asked.ten asked.eleven) ∙ holding in
       let nx = count_next pl.line (loop_test may i closed high) turn y.0 r asked.now (in_bound closed (int_local i asked.now) (value_in Int asked.bound)) asked.runs
       (ap (λ o. and_then o (λ z. Ok (in_bound closed (int_local i asked.now) (value_in Int z)))) asked.value_is) in_it in
       let bd = then_ok (run_source may source body asked.now) (loop_step pl.line i step) nx.0 nx.1.0 in
@@ -330,10 +352,13 @@ module _ (e : Scene) (s : Setting) (gs : Globals) (parts : Parts) (cs every : Ca
         trace = g.trace ++ z.trace;
         goes = goes;
         courses = subst (RunCourses e.plant Marked (then_count x (quiet (own e (only (step_code i step)))))) goes
-            (seq e.plant Marked s calls _ _ inner (code n body) (only (step_code i step)) refl at2 u g.to g.trace g.goes (again u asked.now bd.0 here) (own_run (only (step_code i step)) tt (takes_step i step) (at2 + size_of (code n body)) g.to));
+            (seq e.plant Marked s calls _ _ inner (code n body) (only (step_code i step)) refl at2 u g.to g.trace g.goes (again u asked.now bd.0 here)
+            (own_run (only (step_code i step)) tt (takes_step i step) (at2 + size_of (code n body)) g.to));
         next = record {
           now = nx.0;
-          matches = subst (λ q. Matches s gs k phase count q z.to) (step_ok s calls gs may k mixed.works.ground phase count n (n + counters_in body) fits (omega arith) i h.fit.0 pl.line step bd.0 nx.0 bd.1.1) z.matches;
+          matches = subst (λ q. Matches s gs k phase count q z.to)
+              (step_ok s calls gs may k mixed.works.ground phase count n (n + counters_in body) fits (omega arith)
+              i h.fit.0 pl.line step bd.0 nx.0 bd.1.1) z.matches;
           runs = nx.1.1;
         };
       }))
@@ -369,13 +394,15 @@ module _ (e : Scene) (s : Setting) (gs : Globals) (parts : Parts) (cs every : Ca
       bounded (suc m) (holds may condition) (run_source may source body) q ≡ Ok fin → Further condition body fin q m
   unfolding bounded
   bounded_next condition body fin m q w val holding is =
-      let f = λ (o : Outcome ℕ). and_then (and_then o (λ c. Ok (not (eqb c 0)))) (λ go. choose go (λ t. and_then (run_source may source body t) (bounded m (holds may condition) (run_source may source body))) Ok q) in
+      let f = λ (o : Outcome ℕ). and_then (and_then o (λ c. Ok (not (eqb c 0))))
+      (λ go. choose go (λ t. and_then (run_source may source body t) (bounded m (holds may condition) (run_source may source body))) Ok q) in
       let e1 : choose (not (eqb w 0)) (λ t. and_then (run_source may source body t) (bounded m (holds may condition) (run_source may source body))) Ok q ≡ Ok fin = sym (ap f val) ∙ is in
       let e2 : and_then (run_source may source body q) (bounded m (holds may condition) (run_source may source body)) ≡ Ok fin =
       subst (λ b. choose b (λ t. and_then (run_source may source body t) (bounded m (holds may condition) (run_source may source body))) Ok q ≡ Ok fin) holding e1 in
       then_ok (run_source may source body q) (bounded m (holds may condition) (run_source may source body)) fin e2
 
-  bounded_value : (condition : Term) (body : Steps) (fin : ProgramState) (m : ℕ) (q : ProgramState) → bounded (suc m) (holds may condition) (run_source may source body) q ≡ Ok fin → (w : ℕ) × (value may q condition ≡ Ok w)
+  bounded_value : (condition : Term) (body : Steps) (fin : ProgramState) (m : ℕ) (q : ProgramState) →
+      bounded (suc m) (holds may condition) (run_source may source body) q ≡ Ok fin → (w : ℕ) × (value may q condition ≡ Ok w)
   unfolding bounded
   bounded_value condition body fin m q is =
       let x = then_ok (holds may condition q) _ fin is in
@@ -396,21 +423,25 @@ module _ (e : Scene) (s : Setting) (gs : Globals) (parts : Parts) (cs every : Ca
         to = record u { registers = registers };
         trace = trace;
         goes = here;
-        courses = subst (RunCourses e.plant Marked (quiet (own e (turn_of e n condition)))) here (own_run (turn_of e n condition) (joined (λ part. ⊥) (term_of e 10 condition) _ (term_free 10 condition) tt, tt, tt) (takes_turn e.parts.target e.parts.global n condition) at1 u);
+        courses = subst (RunCourses e.plant Marked (quiet (own e (turn_of e n condition)))) here
+            (own_run (turn_of e n condition) (joined (λ part. ⊥) (term_of e 10 condition) _ (term_free 10 condition) tt, tt, tt)
+            (takes_turn e.parts.target e.parts.global n condition) at1 u);
         next = record { now = left.now; matches = matches; counts = left.counts; small = left.small; next = next };
       }
 
   asks : (n : ℕ) (condition : Term) (body : Steps) (fin : ProgramState) → Fits gs count 10 condition → count ≤ n → n < k.slots → (at1 r : ℕ) (u : TaskState) → Left n condition body fin r u →
       Part e.plant Marked (quiet (own e (turn_of e n condition))) (run s calls at1 (turn_of e n condition) u) (Decided n condition body fin r)
   asks n condition body fin fit slots inside at1 zero u left =
-      let d = bound_headed s calls gs may k mixed.works.ground phase count n (suc n) n slots inside (omega arith) (omega arith) at1 condition u left.now 0 0 left.matches left.counts left.small fit refl in
+      let d = bound_headed s calls gs may k mixed.works.ground phase count n (suc n) n slots inside (omega arith) (omega arith)
+      at1 condition u left.now 0 0 left.matches left.counts left.small fit refl in
       made n condition body fin at1 zero u left d.registers d.trace d.goes d.matches (λ m is holding. absurd (never m is)) where
         never : (m : ℕ) → 0 ≡ suc m → ⊥
         never m is = omega (arith, is)
   asks n condition body fin fit slots inside at1 (suc r) u left =
       let v = bounded_value condition body fin r left.now left.runs in
       let b = not (eqb v.0 0) in
-      let d = bound_headed s calls gs may k mixed.works.ground phase count n (suc n) n slots inside (omega arith) (omega arith) at1 condition u left.now (suc r) (truth b) left.matches left.counts left.small fit
+      let d = bound_headed s calls gs may k mixed.works.ground phase count n (suc n) n slots inside (omega arith) (omega arith)
+      at1 condition u left.now (suc r) (truth b) left.matches left.counts left.small fit
       (ap (λ b. cond b (ok_of 0) (truth_of (value may left.now condition))) (eqb-suc-zero r) ∙ ap truth_of v.1) in
       made n condition body fin at1 (suc r) u left d.registers d.trace d.goes d.matches
       (λ m is holding. let same : r ≡ m = one_less r m is in
@@ -419,9 +450,13 @@ module _ (e : Scene) (s : Setting) (gs : Globals) (parts : Parts) (cs every : Ca
         one_less : (r m : ℕ) → suc r ≡ suc m → r ≡ m
         one_less r m is = omega (arith, is)
 
-  while_divides : (n at : ℕ) (pl : Place) (turns : ℕ) (condition : Term) (body : Steps) (t : TaskState) (st after : ProgramState) (x : Count) → Here n at (While pl turns condition body Done) t st after →
-      ((u : TaskState) (q q1 : ProgramState) → Here (n + 1) (body_place at (counter_code n turns) (turn_of e n condition) + 12) body u q q1 → Run x (body_place at (counter_code n turns) (turn_of e n condition) + 12) (code (n + 1) body) u) →
-      Run (then_count (quiet (own e (counter_code n turns))) (turn_count e turns (nonzero 10) (own e (turn_of e n condition)) (then_count (quiet (own e (only (count_code n)))) x))) at (code n (While pl turns condition body Done)) t
+  while_divides : (n at : ℕ) (pl : Place) (turns : ℕ) (condition : Term) (body : Steps) (t : TaskState) (st after : ProgramState) (x : Count) →
+      Here n at (While pl turns condition body Done) t st after →
+      ((u : TaskState) (q q1 : ProgramState) → Here (n + 1) (body_place at (counter_code n turns) (turn_of e n condition) + 12) body u q q1 →
+      Run x (body_place at (counter_code n turns) (turn_of e n condition) + 12) (code (n + 1) body) u) →
+      Run (then_count (quiet (own e (counter_code n turns)))
+      (turn_count e turns (nonzero 10) (own e (turn_of e n condition)) (then_count (quiet (own e (only (count_code n)))) x))) at
+      (code n (While pl turns condition body Done)) t
   while_divides n at pl turns condition body t st after x h again =
       let y = then_ok (bounded turns (holds may condition) (run_source may source body) st) (run_source may source Done) after h.runs in
       let first = counter_code n turns in
@@ -438,7 +473,8 @@ module _ (e : Scene) (s : Setting) (gs : Globals) (parts : Parts) (cs every : Ca
       let room : n + (1 + counters_in body + 0) ≤ k.slots = h.room in
       let hi = n + 1 + counters_in body in
       let inside : n < k.slots = omega arith in
-      let g = gave s calls 10 at ps t turns (quiet_constant 10 (omega arith) turns, tt) (puts_give s silent at (constant 10 turns) t 10 turns (constant_puts t.registers 10 turns (omega arith) h.fit.0 h.matches.words)) in
+      let g = gave s calls 10 at ps t turns (quiet_constant 10 (omega arith) turns, tt)
+      (puts_give s silent at (constant 10 turns) t 10 turns (constant_puts t.registers 10 turns (omega arith) h.fit.0 h.matches.words)) in
       let t1 : TaskState = record t { registers = g.registers } in
       let m1 = still s calls gs may k mixed.works.ground phase count at ps t st 10 turns (omega arith) h.matches g in
       let z = slot_falls s calls gs may k mixed.works.ground phase count n hi (at + size_of ps) n t1 st turns m1 inside g.value in
@@ -472,7 +508,8 @@ module _ (e : Scene) (s : Setting) (gs : Globals) (parts : Parts) (cs every : Ca
         trace = d.trace ++ f.trace;
         goes = goes;
         courses = subst (RunCourses e.plant Marked (then_count (quiet (own e (only (count_code n)))) x)) goes
-            (seq e.plant Marked s calls _ _ inner (only (count_code n)) (code (n + 1) body) refl at2 u d.to d.trace d.goes (own_run (only (count_code n)) tt (takes_count n) at2 u) (again d.to decided.now nx.0 here));
+            (seq e.plant Marked s calls _ _ inner (only (count_code n)) (code (n + 1) body) refl at2 u d.to d.trace d.goes
+            (own_run (only (count_code n)) tt (takes_count n) at2 u) (again d.to decided.now nx.0 here));
         next = record {
           now = nx.0;
           matches = f.matches;
@@ -483,7 +520,8 @@ module _ (e : Scene) (s : Setting) (gs : Globals) (parts : Parts) (cs every : Ca
       }))
       (λ u. jump_step 0 (back_at at1 head inner) at1 u)
       turns t2 (record { now = st; matches = m2; counts = word_back (slot_at k n) turns t.view h.fit.0; small = h.fit.0; runs = y.1.0 }))) where
-        counter_same : (view view' : ℕ → ℕ) (r : ℕ) → ((a : ℕ) → IsKept k count (suc n) (n + 1 + counters_in body) a → view' a ≡ view a) → number_at view (slot_at k n) 4 ≡ r → number_at view' (slot_at k n) 4 ≡ r
+        counter_same : (view view' : ℕ → ℕ) (r : ℕ) → ((a : ℕ) → IsKept k count (suc n) (n + 1 + counters_in body) a → view' a ≡ view a) →
+            number_at view (slot_at k n) 4 ≡ r → number_at view' (slot_at k n) 4 ≡ r
         counter_same view view' r kept is = number_same view' view 4 (slot_at k n) (λ b le lt. kept b (by b le lt)) ∙ is where
           slots : count ≤ n
           slots = h.slots
@@ -504,7 +542,9 @@ module _ (e : Scene) (s : Setting) (gs : Globals) (parts : Parts) (cs every : Ca
     goes : run s calls at (argument_code q.target q.global (q.frame f) 0 arguments) t ≡ Falls to trace
     back : TaskState
     middle : List Did
-    jumps : (rest : Pieces) → run s calls (at + size_of (argument_code q.target q.global (q.frame f) 0 arguments)) (call_to (q.link f) (q.callee f) rest) to ≡ with_trace middle (run s calls (at + size_of (argument_code q.target q.global (q.frame f) 0 arguments) + 4) rest back)
+    jumps : (rest : Pieces) → run s calls (at + size_of (argument_code q.target q.global (q.frame f) 0 arguments))
+        (call_to (q.link f) (q.callee f) rest) to
+        ≡ with_trace middle (run s calls (at + size_of (argument_code q.target q.global (q.frame f) 0 arguments) + 4) rest back)
     courses : Courses e.plant Marked (then_count (quiet (own_jump e)) (called_parted e f)) middle
     matches : Matches s gs k phase count after back
 
@@ -513,7 +553,8 @@ module _ (e : Scene) (s : Setting) (gs : Globals) (parts : Parts) (cs every : Ca
   with_twice xs ys (Returns back t trace) = ap (Returns back t) (sym (append_assoc xs ys trace))
   with_twice xs ys Stuck = refl
 
-  call_run : (n at : ℕ) (pl : Place) (target : Option ℕ) (f : ℕ) (arguments : List Term) (rest : Steps) (t : TaskState) (st after : ProgramState) → Here n at (Call pl target f arguments rest) t st after → cuts e f ≡ true →
+  call_run : (n at : ℕ) (pl : Place) (target : Option ℕ) (f : ℕ) (arguments : List Term) (rest : Steps) (t : TaskState) (st after : ProgramState) →
+      Here n at (Call pl target f arguments rest) t st after → cuts e f ≡ true →
       (vs : List ℕ) → values may st arguments ≡ Ok vs → (r : ℕ × ProgramState) → source may f vs st ≡ Ok r → CallRun e.parts at f arguments t r.1
   call_run n at pl target f arguments rest t st after h cut vs vs_is r r_is =
       let fit = h.fit.0 in
@@ -522,7 +563,8 @@ module _ (e : Scene) (s : Setting) (gs : Globals) (parts : Parts) (cs every : Ca
       let part = parts.callee f in
       let args = argument_code gs.target gs.part frame 0 arguments in
       let behind_call = target_code target (steps_code (with_globals gs parts) n rest) in
-      let size : at + 4 * words (followed args (call_to link part behind_call)) < 2 ^ 32 = subst (λ (q : Parts). at + 4 * words (steps_code q n (Call pl target f arguments rest)) < 2 ^ 32) st_.parts_are h.size in
+      let size : at + 4 * words (followed args (call_to link part behind_call)) < 2 ^ 32 =
+      subst (λ (q : Parts). at + 4 * words (steps_code q n (Call pl target f arguments rest)) < 2 ^ 32) st_.parts_are h.size in
       let w1 = words-followed args (call_to link part behind_call) in
       let aligned : at % 4 ≡ 0 = h.aligned in
       let floor : k.low ≤ k.sp = mixed.works.ground.floor in
@@ -537,7 +579,8 @@ module _ (e : Scene) (s : Setting) (gs : Globals) (parts : Parts) (cs every : Ca
       let t2 : TaskState = linked link ra t1 in
       let small : ra < 2 ^ 32 = omega (arith, size, w1) in
       let not_two : 2 ≢ link = λ e. fit.no_stack (sym e) in
-      let m2 = changed s calls gs may k mixed.works.ground phase count t1 st (with_register link ra t1.registers) q.matches (reg_words link ra t1.registers small q.matches.words) (reg_other link ra t1.registers 2 not_two ∙ q.matches.stack) in
+      let m2 = changed s calls gs may k mixed.works.ground phase count t1 st (with_register link ra t1.registers) q.matches
+      (reg_words link ra t1.registers small q.matches.words) (reg_other link ra t1.registers 2 not_two ∙ q.matches.stack) in
       let stand : ArgumentsStand t2.view (k.sp - frame) vs = record {
         stands = λ i lt. (let z : 0 + i ≡ i = omega arith in subst (λ n. number_at t1.view (k.sp - frame + 4 + 4 * n) 4 ≡ slice_index vs i) z (q.stands i lt));
         word = q.word;
@@ -559,7 +602,8 @@ module _ (e : Scene) (s : Setting) (gs : Globals) (parts : Parts) (cs every : Ca
         jumps = λ more.
             ap (λ o. with_trace jal (called ra o (run s calls ra more))) b.goes
             ∙ ap (λ z. with_trace jal (cond z (with_trace b.trace (run s calls ra more b.to)) Stuck)) (eq-eqb ra ra refl) ∙ with_twice jal b.trace (run s calls ra more b.to);
-        courses = courses_join e.plant Marked (quiet (own_jump e)) (called_parted e f) jal b.trace (jump_step link at1 (s.places part) t1) (subst (RunCourses e.plant Marked (called_parted e f)) b.goes d);
+        courses = courses_join e.plant Marked (quiet (own_jump e)) (called_parted e f) jal b.trace (jump_step link at1 (s.places part) t1)
+            (subst (RunCourses e.plant Marked (called_parted e f)) b.goes d);
         matches = b.matches;
       })
 
@@ -608,7 +652,8 @@ module _ (e : Scene) (s : Setting) (gs : Globals) (parts : Parts) (cs every : Ca
   fit_quiet (Call at target f arguments rest) none fit = (fit_call target f arguments (none_first _ _ none) fit.0, fit_quiet rest (none_second _ _ none) fit.1)
 
   -- they divide
-  quiet_divides : (n at : ℕ) (steps : Steps) (t : TaskState) (st after : ProgramState) → has_cut e steps ≡ false → Here n at steps t st after → RunDivides e.plant (least e n at steps) (run s calls at (code n steps) t)
+  quiet_divides : (n at : ℕ) (steps : Steps) (t : TaskState) (st after : ProgramState) → has_cut e steps ≡ false → Here n at steps t st after →
+      RunDivides e.plant (least e n at steps) (run s calls at (code n steps) t)
   quiet_divides n at steps t st after none h =
       steps_divide e s gs parts cs phase c routines total st_ may limits calls k mixed.works count under space steps n at t st after h.slots h.room h.aligned h.size (fit_quiet steps none h.fit)
       (λ f is. (mixed.quiet f (steps_callable gs parts every phase count under steps h.fit f is) (none_among (cuts e) (callees_in steps) f none is)).0) h.matches h.runs
@@ -682,7 +727,8 @@ module _ (e : Scene) (s : Setting) (gs : Globals) (parts : Parts) (cs every : Ca
       let at = from + size_of before.pieces in
       let fit = fit_quiet first z.none z.here.fit in
       let d : Divides e.plant (passage e n from before first edge) (trace ++ (z.front_trace ++ z.edge_steps)) =
-      passage_divides e s gs parts cs phase c routines total st_ may limits calls mixed.works.same_calls k mixed.works.ground mixed.works.frame mixed.works.below count under space n from before first edge
+      passage_divides e s gs parts cs phase c routines total st_ may limits calls mixed.works.same_calls k mixed.works.ground mixed.works.frame
+      mixed.works.below count under space n from before first edge
       t0 t z.front_to st z.mid trace z.front_trace z.edge_steps x goes z.here.slots z.here.room z.here.aligned z.here.size fit
       (λ f is. (mixed.quiet f (steps_callable gs parts every phase count under first z.here.fit f is) (none_among (cuts e) (callees_in first) f z.none is)).0)
       z.here.matches z.here.runs z.front_goes z.edge_goes z.edge_traced
@@ -740,7 +786,8 @@ module _ (e : Scene) (s : Setting) (gs : Globals) (parts : Parts) (cs every : Ca
       (fresh at no_edge t t [] (no_edge_goes s gs may k at t) refl no_edge n at steps st (nothing_behind at) z)
 
   -- a marked call is in the first statement
-  cut_tail : (n at n2 : ℕ) (all one rest : Steps) (last : Edge) (x : Count) → code n all ≡ followed (code n one) (code n2 rest) → (t : TaskState) (st st1 after : ProgramState) → Here n at all t st after → Here n at one t st st1 →
+  cut_tail : (n at n2 : ℕ) (all one rest : Steps) (last : Edge) (x : Count) → code n all ≡ followed (code n one) (code n2 rest) →
+      (t : TaskState) (st st1 after : ProgramState) → Here n at all t st after → Here n at one t st st1 →
       n ≤ n2 → n2 + counters_in rest ≤ k.slots → StepsFit gs parts every phase count under rest → run_source may source rest st1 ≡ Ok after → Run x at (code n one) t →
       ((u : TaskState) → Here n2 (at + size_of (code n one)) rest u st1 after → Home t u → Tail last n2 (at + size_of (code n one)) rest u st1) →
       Tailed Done no_edge last (then_count (quiet 0) (then_count x (parted e (begins (at + size_of (code n one)) no_edge) last n2 (at + size_of (code n one)) rest))) n at all t st
@@ -749,12 +796,15 @@ module _ (e : Scene) (s : Setting) (gs : Globals) (parts : Parts) (cs every : Ca
       let at1 = at + size_of (code n one) in
       let z = again f.to (rest_here n at n2 all one rest is t f.to st st1 after h le room fit runs f.matches) (λ a ge lt. f.kept a (inl (ge, lt))) in
       let y = fresh at1 no_edge f.to f.to [] (no_edge_goes s gs may k at1 f.to) refl last n2 at1 rest st1 (nothing_behind at1) z in
-      let parts_is : followed (code n all) last.pieces ≡ followed (code n one) (followed (code n2 rest) last.pieces) = ap (λ ps. followed ps last.pieces) is ∙ followed-assoc (code n one) (code n2 rest) last.pieces in
+      let parts_is : followed (code n all) last.pieces ≡ followed (code n one) (followed (code n2 rest) last.pieces) =
+      ap (λ ps. followed ps last.pieces) is ∙ followed-assoc (code n one) (code n2 rest) last.pieces in
       let o = run s calls at (followed (code n all) last.pieces) t in
       let all_run = seq e.plant Marked s calls x _ (followed (code n all) last.pieces) (code n one) (followed (code n2 rest) last.pieces) parts_is at t f.to f.trace f.goes run_one y in
       let steps = f.trace ++ (z.front_trace ++ (z.edge_steps ++ z.behind_trace)) in
       let traced : HasTrace o steps =
-      subst (λ o. HasTrace o steps) (sym (ap (λ ps. run s calls at ps t) parts_is ∙ run-followed s calls (code n one) (followed (code n2 rest) last.pieces) at t ∙ ap (λ o. then_run o (run s calls at1 (followed (code n2 rest) last.pieces))) f.goes))
+      subst (λ o. HasTrace o steps) (sym
+      (ap (λ ps. run s calls at ps t) parts_is ∙ run-followed s calls (code n one) (followed (code n2 rest) last.pieces) at t
+      ∙ ap (λ o. then_run o (run s calls at1 (followed (code n2 rest) last.pieces))) f.goes))
       (with_traced (run s calls at1 (followed (code n2 rest) last.pieces) f.to) _ f.trace z.whole) in
       record {
         mid = st;
@@ -774,11 +824,14 @@ module _ (e : Scene) (s : Setting) (gs : Globals) (parts : Parts) (cs every : Ca
       }
 
   -- none is in it
-  quiet_tail : (n at n2 : ℕ) (all one rest first : Steps) (edge last : Edge) (most : Count) → code n all ≡ followed (code n one) (code n2 rest) → code n first ≡ followed (code n one) (code n2 (front e rest)) → (t : TaskState) (st st1 after : ProgramState) → Here n at all t st after →
+  quiet_tail : (n at n2 : ℕ) (all one rest first : Steps) (edge last : Edge) (most : Count) → code n all ≡ followed (code n one) (code n2 rest) →
+      code n first ≡ followed (code n one) (code n2 (front e rest)) → (t : TaskState) (st st1 after : ProgramState) → Here n at all t st after →
       Here n at one t st st1 → n ≤ n2 → n2 + counters_in rest ≤ k.slots → StepsFit gs parts every phase count under rest → run_source may source rest st1 ≡ Ok after →
       ((u : TaskState) → Here n2 (at + size_of (code n one)) rest u st1 after → Home t u → Tailed (front e rest) edge last most n2 (at + size_of (code n one)) rest u st1) →
-      (counters_in (front e rest) ≤ counters_in rest → counters_in first ≤ counters_in all) → (StepsFit gs parts every phase count under (front e rest) → StepsFit gs parts every phase count under first) →
-      ((q : ProgramState) → run_source may source (front e rest) st1 ≡ Ok q → run_source may source first st ≡ Ok q) → (has_cut e (front e rest) ≡ false → has_cut e first ≡ false) → Tailed first edge last (then_count (quiet 0) most) n at all t st
+      (counters_in (front e rest) ≤ counters_in rest → counters_in first ≤ counters_in all) →
+      (StepsFit gs parts every phase count under (front e rest) → StepsFit gs parts every phase count under first) →
+      ((q : ProgramState) → run_source may source (front e rest) st1 ≡ Ok q → run_source may source first st ≡ Ok q) →
+      (has_cut e (front e rest) ≡ false → has_cut e first ≡ false) → Tailed first edge last (then_count (quiet 0) most) n at all t st
   quiet_tail n at n2 all one rest first edge last most is is_first t st st1 after h h1 le room fit runs again few fits means quiet_first =
       let f = fell n at one t st st1 h1 in
       let at1 = at + size_of (code n one) in
@@ -789,7 +842,8 @@ module _ (e : Scene) (s : Setting) (gs : Globals) (parts : Parts) (cs every : Ca
       let less : counters_in first ≤ counters_in all = few z.few in
       let joined_goes = goes_then s calls (code n one) (code n2 (front e rest)) at t f.to z.front_to f.trace z.front_trace f.goes z.front_goes in
       let place : at1 + size_of (code n2 (front e rest)) ≡ at + size_of (code n first) = placed at _ _ _ w1 in
-      let parts_is : followed (code n all) last.pieces ≡ followed (code n one) (followed (code n2 rest) last.pieces) = ap (λ ps. followed ps last.pieces) is ∙ followed-assoc (code n one) (code n2 rest) last.pieces in
+      let parts_is : followed (code n all) last.pieces ≡ followed (code n one) (followed (code n2 rest) last.pieces) =
+      ap (λ ps. followed ps last.pieces) is ∙ followed-assoc (code n one) (code n2 rest) last.pieces in
       record {
         mid = z.mid;
         none = quiet_first z.none;
@@ -812,7 +866,8 @@ module _ (e : Scene) (s : Setting) (gs : Globals) (parts : Parts) (cs every : Ca
         edge_traced = subst (λ a. HasTrace (run s calls a edge.pieces z.front_to) z.edge_steps) place z.edge_traced;
         behind_trace = z.behind_trace;
         whole = subst (λ o. HasTrace o ((f.trace ++ z.front_trace) ++ (z.edge_steps ++ z.behind_trace)))
-            (sym (ap (λ ps. run s calls at ps t) parts_is ∙ run-followed s calls (code n one) (followed (code n2 rest) last.pieces) at t ∙ ap (λ o. then_run o (run s calls at1 (followed (code n2 rest) last.pieces))) f.goes))
+            (sym (ap (λ ps. run s calls at ps t) parts_is ∙ run-followed s calls (code n one) (followed (code n2 rest) last.pieces) at t
+            ∙ ap (λ o. then_run o (run s calls at1 (followed (code n2 rest) last.pieces))) f.goes))
             (subst (HasTrace (with_trace f.trace (run s calls at1 (followed (code n2 rest) last.pieces) f.to))) (sym (append_assoc f.trace z.front_trace (z.edge_steps ++ z.behind_trace)))
             (with_traced (run s calls at1 (followed (code n2 rest) last.pieces) f.to) _ f.trace z.whole));
         courses = courses_more e.plant Marked most _ z.behind_trace (by_same (sym (nothing_first most))) z.courses;
@@ -821,7 +876,8 @@ module _ (e : Scene) (s : Setting) (gs : Globals) (parts : Parts) (cs every : Ca
         placed a b c d e = omega (arith, e)
 
   -- one or the other
-  pick : (b : Bool) (first : Steps) (edge_cut edge last : Edge) (x y : Count) (n at : ℕ) (steps : Steps) (t : TaskState) (st : ProgramState) → (b ≡ true → Tailed Done edge_cut last (then_count (quiet 0) x) n at steps t st) →
+  pick : (b : Bool) (first : Steps) (edge_cut edge last : Edge) (x y : Count) (n at : ℕ) (steps : Steps) (t : TaskState) (st : ProgramState) →
+      (b ≡ true → Tailed Done edge_cut last (then_count (quiet 0) x) n at steps t st) →
       (b ≡ false → Tailed first edge last (then_count (quiet 0) y) n at steps t st) → Tailed (by_cut b Done first) (by_cut b edge_cut edge) last (then_count (quiet 0) (by_cut b x y)) n at steps t st
   pick true first edge_cut edge last x y n at steps t st cut quiet_ = cut refl
   pick false first edge_cut edge last x y n at steps t st cut quiet_ = quiet_ refl
@@ -843,11 +899,16 @@ module _ (e : Scene) (s : Setting) (gs : Globals) (parts : Parts) (cs every : Ca
   target_followed None rest last = refl
   target_followed (Some i) rest last = refl
 
-  call_tail : (n at : ℕ) (pl : Place) (target : Option ℕ) (f : ℕ) (arguments : List Term) (rest : Steps) (last : Edge) (t : TaskState) (st after : ProgramState) → Here n at (Call pl target f arguments rest) t st after → cuts e f ≡ true →
-      (vs : List ℕ) → values may st arguments ≡ Ok vs → (r : ℕ × ProgramState) → source may f vs st ≡ Ok r → Here n at (Call pl target f arguments Done) t st (with_target target r.0 r.1) → run_source may source rest (with_target target r.0 r.1) ≡ Ok after →
-      ((u : TaskState) → Here n (at + size_of (code n (Call pl target f arguments Done))) rest u (with_target target r.0 r.1) after → Home t u → Tail last n (at + size_of (code n (Call pl target f arguments Done))) rest u (with_target target r.0 r.1)) →
+  call_tail : (n at : ℕ) (pl : Place) (target : Option ℕ) (f : ℕ) (arguments : List Term) (rest : Steps) (last : Edge) (t : TaskState)
+      (st after : ProgramState) → Here n at (Call pl target f arguments rest) t st after → cuts e f ≡ true →
+      (vs : List ℕ) → values may st arguments ≡ Ok vs → (r : ℕ × ProgramState) → source may f vs st ≡ Ok r →
+      Here n at (Call pl target f arguments Done) t st (with_target target r.0 r.1) → run_source may source rest (with_target target r.0 r.1) ≡ Ok after →
+      ((u : TaskState) → Here n (at + size_of (code n (Call pl target f arguments Done))) rest u (with_target target r.0 r.1) after → Home t u →
+      Tail last n (at + size_of (code n (Call pl target f arguments Done))) rest u (with_target target r.0 r.1)) →
       Tailed Done (passing e f arguments) last
-      (then_count (quiet 0) (then_count (then_count (quiet (own_jump e)) (called_parted e f)) (parted e (begins (landing_place e at f arguments) (landing target)) last n (at + size_of (code n (Call pl target f arguments Done))) rest))) n at (Call pl target f arguments rest) t st
+      (then_count (quiet 0) (then_count (then_count (quiet (own_jump e)) (called_parted e f))
+      (parted e (begins (landing_place e at f arguments) (landing target)) last n (at + size_of (code n (Call pl target f arguments Done)))
+      rest))) n at (Call pl target f arguments rest) t st
   call_tail n at pl target f arguments rest last t st after h cut vs vs_is r r_is h1 runs again =
       let st1 = with_target target r.0 r.1 in
       let fit = h.fit.0 in
@@ -867,7 +928,9 @@ module _ (e : Scene) (s : Setting) (gs : Globals) (parts : Parts) (cs every : Ca
       let l2 = with_falls x.middle (run s calls ra land x.back) fl.to l1.0 l1.1 in
       let w = words-followed args (call land) in
       let place : ra + size_of land ≡ behind_ = placed at (words args) (words land) (words one) w in
-      let z = again fl.to (rest_here n at n (Call pl target f arguments rest) (Call pl target f arguments Done) rest (first_call e.parts n pl target f arguments rest) t fl.to st st1 after h (omega arith) h.room h.fit.1 runs fl.matches) (λ a ge lt. fl.kept a (inl (ge, lt))) in
+      let z = again fl.to (rest_here n at n (Call pl target f arguments rest) (Call pl target f arguments Done) rest
+      (first_call e.parts n pl target f arguments rest) t fl.to st st1 after h (omega arith) h.room h.fit.1 runs fl.matches)
+      (λ a ge lt. fl.kept a (inl (ge, lt))) in
       let slots : count ≤ k.slots = below_slots n (counters_in rest) h.slots h.room in
       let lg = landing_goes s gs parts cs e st_.parts_are may k mixed.works.ground phase count ra target x.back r.1 x.matches slots (target_inside (every.returns f) target fit.target_fits) in
       let y = fresh ra (landing target) x.back fl.to l2.0 lg l2.1 last n behind_ rest st1 place z in
@@ -877,11 +940,15 @@ module _ (e : Scene) (s : Setting) (gs : Globals) (parts : Parts) (cs every : Ca
       let o = run s calls at (followed all last.pieces) t in
       let rest_steps = l2.0 ++ (z.front_trace ++ (z.edge_steps ++ z.behind_trace)) in
       let rest_traced : HasTrace rest_run rest_steps =
-      subst (λ o. HasTrace o rest_steps) (sym (run-followed s calls land (followed (code n rest) last.pieces) ra x.back ∙ ap (λ o. then_run o (run s calls (ra + size_of land) (followed (code n rest) last.pieces))) l2.1))
-      (subst (λ a. HasTrace (with_trace l2.0 (run s calls a (followed (code n rest) last.pieces) fl.to)) rest_steps) (sym place) (with_traced (run s calls behind_ (followed (code n rest) last.pieces) fl.to) _ l2.0 z.whole)) in
+      subst (λ o. HasTrace o rest_steps)
+      (sym (run-followed s calls land (followed (code n rest) last.pieces) ra x.back
+      ∙ ap (λ o. then_run o (run s calls (ra + size_of land) (followed (code n rest) last.pieces))) l2.1))
+      (subst (λ a. HasTrace (with_trace l2.0 (run s calls a (followed (code n rest) last.pieces) fl.to)) rest_steps) (sym place)
+      (with_traced (run s calls behind_ (followed (code n rest) last.pieces) fl.to) _ l2.0 z.whole)) in
       let whole_is : o ≡ with_trace x.trace (with_trace x.middle rest_run) =
       ap (λ ps. run s calls at ps t) parts_is ∙ run-followed s calls args (call (followed land (followed (code n rest) last.pieces))) at t
-      ∙ ap (λ o. then_run o (run s calls at1 (call (followed land (followed (code n rest) last.pieces))))) x.goes ∙ ap (with_trace x.trace) (x.jumps (followed land (followed (code n rest) last.pieces))) in
+      ∙ ap (λ o. then_run o (run s calls at1 (call (followed land (followed (code n rest) last.pieces))))) x.goes
+      ∙ ap (with_trace x.trace) (x.jumps (followed land (followed (code n rest) last.pieces))) in
       let same_frame : e.parts.frame f ≡ parts.frame f = ap (λ (q : Parts). q.frame f) st_.parts_are in
       let dep : parts.frame f ≤ every.depth f = fit.frame in
       let lim : every.depth f ≤ under = fit.deep in
@@ -894,7 +961,8 @@ module _ (e : Scene) (s : Setting) (gs : Globals) (parts : Parts) (cs every : Ca
         front_to = t;
         front_trace = [];
         front_goes = refl;
-        edge_goes = passing_goes s gs parts cs e st_.parts_are may k mixed.works.ground phase f count (at + size_of (code n Done)) arguments t st vs h.matches fit.arguments_fit vs_is fit.room fit.aligned (omega arith) mixed.bottom;
+        edge_goes = passing_goes s gs parts cs e st_.parts_are may k mixed.works.ground phase f count (at + size_of (code n Done))
+            arguments t st vs h.matches fit.arguments_fit vs_is fit.room fit.aligned (omega arith) mixed.bottom;
         edge_steps = x.trace;
         edge_traced = subst (λ a. HasTrace (run s calls a args t) x.trace) (sym (nothing_behind at)) (subst (λ o. HasTrace o x.trace) (sym x.goes) refl);
         behind_trace = x.middle ++ rest_steps;
@@ -913,13 +981,16 @@ module _ (e : Scene) (s : Setting) (gs : Globals) (parts : Parts) (cs every : Ca
   only_first false is = cc
 
   -- behind the first statement
-  lasts_on : (n at n2 : ℕ) (all one rest : Steps) → code n all ≡ followed (code n one) (code n2 rest) → (last : Edge) (t u : TaskState) (after : ProgramState) → Lasts last (at + size_of (code n all)) t after → Home t u → Lasts last (at + size_of (code n one) + size_of (code n2 rest)) u after
+  lasts_on : (n at n2 : ℕ) (all one rest : Steps) → code n all ≡ followed (code n one) (code n2 rest) →
+      (last : Edge) (t u : TaskState) (after : ProgramState) → Lasts last (at + size_of (code n all)) t after → Home t u →
+      Lasts last (at + size_of (code n one) + size_of (code n2 rest)) u after
   lasts_on n at n2 all one rest is last t u after lasts home v m kept =
       subst (λ a. EdgeGoes s gs may k last a v) (placed at _ _ _ (ap words is ∙ words-followed (code n one) (code n2 rest))) (lasts v m (λ a le lt. kept a le lt ∙ home a le lt)) where
         placed : (a b c d : ℕ) → b ≡ c + d → a + 4 * b ≡ a + 4 * c + 4 * d
         placed a b c d e = omega (arith, e)
 
-  pub tail : (steps : Steps) (n at : ℕ) (last : Edge) (t : TaskState) (st after : ProgramState) → Here n at steps t st after → Lasts last (at + size_of (code n steps)) t after → Tail last n at steps t st
+  pub tail : (steps : Steps) (n at : ℕ) (last : Edge) (t : TaskState) (st after : ProgramState) → Here n at steps t st after →
+      Lasts last (at + size_of (code n steps)) t after → Tail last n at steps t st
   tail Done n at last t st after h lasts =
       let same : st ≡ after = same_ok st after h.runs in
       let x = lasts t (subst (λ q. Matches s gs k phase count q t) same h.matches) (λ a le lt. refl) in
@@ -943,89 +1014,153 @@ module _ (e : Scene) (s : Setting) (gs : Globals) (parts : Parts) (cs every : Ca
   tail (SetLocal pl i ex rest) n at last t st after h lasts =
       let x = then_ok (value may st ex) _ after h.runs in
       let st1 = with_local i x.0 st in
-      let one = first_here n at n (SetLocal pl i ex rest) (SetLocal pl i ex Done) rest (first_local e.parts n pl i ex rest) t st st1 after h (omega (arith, h.room)) (h.fit.0, (h.fit.1.0, tt)) (ap (λ o. and_then o (λ w. Ok (with_local i w st))) x.1.0) in
-      quiet_tail n at n (SetLocal pl i ex rest) (SetLocal pl i ex Done) rest (SetLocal pl i ex (front e rest)) _ last _ (first_local e.parts n pl i ex rest) (first_local e.parts n pl i ex (front e rest)) t st st1 after h one (omega arith) h.room h.fit.1.1 x.1.1
-      (λ u here home. tail rest n _ last u st1 after here (lasts_on n at n (SetLocal pl i ex rest) (SetLocal pl i ex Done) rest (first_local e.parts n pl i ex rest) last t u after lasts home)) (λ few. few) (λ fit. (h.fit.0, (h.fit.1.0, fit)))
+      let one = first_here n at n (SetLocal pl i ex rest) (SetLocal pl i ex Done) rest (first_local e.parts n pl i ex rest) t st st1 after h
+      (omega (arith, h.room)) (h.fit.0, (h.fit.1.0, tt)) (ap (λ o. and_then o (λ w. Ok (with_local i w st))) x.1.0) in
+      quiet_tail n at n (SetLocal pl i ex rest) (SetLocal pl i ex Done) rest (SetLocal pl i ex (front e rest)) _ last _
+      (first_local e.parts n pl i ex rest) (first_local e.parts n pl i ex (front e rest)) t st st1 after h one (omega arith) h.room h.fit.1.1 x.1.1
+      (λ u here home. tail rest n _ last u st1 after here
+      (lasts_on n at n (SetLocal pl i ex rest) (SetLocal pl i ex Done) rest (first_local e.parts n pl i ex rest) last t u after lasts home))
+      (λ few. few) (λ fit. (h.fit.0, (h.fit.1.0, fit)))
       (λ q runs. ap (λ o. and_then o (λ w. run_source may source (front e rest) (with_local i w st))) x.1.0 ∙ runs) (λ none. none)
   tail (SetScalar pl g ty ex rest) n at last t st after h lasts =
       let x = then_ok (value may st ex) _ after h.runs in
       let y = then_ok (store may pl.line ty g 0 x.0 st) (run_source may source rest) after x.1.1 in
-      let one = first_here n at n (SetScalar pl g ty ex rest) (SetScalar pl g ty ex Done) rest (first_scalar e.parts n pl g ty ex rest) t st y.0 after h (omega (arith, h.room)) (h.fit.0, (h.fit.1.0, tt)) (ap (λ o. and_then o (λ w. and_then (store may pl.line ty g 0 w st) (λ q. Ok q))) x.1.0 ∙ ap (λ o. and_then o (λ q. Ok q)) y.1.0) in
-      quiet_tail n at n (SetScalar pl g ty ex rest) (SetScalar pl g ty ex Done) rest (SetScalar pl g ty ex (front e rest)) _ last _ (first_scalar e.parts n pl g ty ex rest) (first_scalar e.parts n pl g ty ex (front e rest)) t st y.0 after h one (omega arith) h.room h.fit.1.1 y.1.1
-      (λ u here home. tail rest n _ last u y.0 after here (lasts_on n at n (SetScalar pl g ty ex rest) (SetScalar pl g ty ex Done) rest (first_scalar e.parts n pl g ty ex rest) last t u after lasts home)) (λ few. few) (λ fit. (h.fit.0, (h.fit.1.0, fit)))
-      (λ q runs. ap (λ o. and_then o (λ w. and_then (store may pl.line ty g 0 w st) (run_source may source (front e rest)))) x.1.0 ∙ ap (λ o. and_then o (run_source may source (front e rest))) y.1.0 ∙ runs) (λ none. none)
+      let one = first_here n at n (SetScalar pl g ty ex rest) (SetScalar pl g ty ex Done) rest (first_scalar e.parts n pl g ty ex rest)
+      t st y.0 after h (omega (arith, h.room)) (h.fit.0, (h.fit.1.0, tt))
+      (ap (λ o. and_then o (λ w. and_then (store may pl.line ty g 0 w st) (λ q. Ok q))) x.1.0 ∙ ap (λ o. and_then o (λ q. Ok q)) y.1.0) in
+      quiet_tail n at n (SetScalar pl g ty ex rest) (SetScalar pl g ty ex Done) rest (SetScalar pl g ty ex (front e rest)) _ last _
+      (first_scalar e.parts n pl g ty ex rest) (first_scalar e.parts n pl g ty ex (front e rest)) t st y.0 after h one (omega arith) h.room h.fit.1.1 y.1.1
+      (λ u here home. tail rest n _ last u y.0 after here
+      (lasts_on n at n (SetScalar pl g ty ex rest) (SetScalar pl g ty ex Done) rest (first_scalar e.parts n pl g ty ex rest)
+      last t u after lasts home)) (λ few. few) (λ fit. (h.fit.0, (h.fit.1.0, fit)))
+      (λ q runs. ap (λ o. and_then o (λ w. and_then (store may pl.line ty g 0 w st) (run_source may source (front e rest)))) x.1.0
+      ∙ ap (λ o. and_then o (run_source may source (front e rest))) y.1.0 ∙ runs) (λ none. none)
   tail (SetElement pl g ty index ex rest) n at last t st after h lasts =
       let x = then_ok (value may st ex) _ after h.runs in
       let j = then_ok (value may st index) _ after x.1.1 in
       let y = then_ok (store may pl.line ty g j.0 x.0 st) (run_source may source rest) after j.1.1 in
-      let one = first_here n at n (SetElement pl g ty index ex rest) (SetElement pl g ty index ex Done) rest (first_element e.parts n pl g ty index ex rest) t st y.0 after h (omega (arith, h.room)) (h.fit.0, (h.fit.1.0, (h.fit.1.1.0, tt))) (ap (λ o. and_then o (λ w. and_then (value may st index) (λ j. and_then (store may pl.line ty g j w st) (λ q. Ok q)))) x.1.0 ∙ ap (λ o. and_then o (λ j. and_then (store may pl.line ty g j x.0 st) (λ q. Ok q))) j.1.0 ∙ ap (λ o. and_then o (λ q. Ok q)) y.1.0) in
-      quiet_tail n at n (SetElement pl g ty index ex rest) (SetElement pl g ty index ex Done) rest (SetElement pl g ty index ex (front e rest)) _ last _ (first_element e.parts n pl g ty index ex rest) (first_element e.parts n pl g ty index ex (front e rest)) t st y.0 after h one (omega arith) h.room h.fit.1.1.1 y.1.1
-      (λ u here home. tail rest n _ last u y.0 after here (lasts_on n at n (SetElement pl g ty index ex rest) (SetElement pl g ty index ex Done) rest (first_element e.parts n pl g ty index ex rest) last t u after lasts home)) (λ few. few) (λ fit. (h.fit.0, (h.fit.1.0, (h.fit.1.1.0, fit))))
-      (λ q runs. ap (λ o. and_then o (λ w. and_then (value may st index) (λ j. and_then (store may pl.line ty g j w st) (run_source may source (front e rest))))) x.1.0 ∙ ap (λ o. and_then o (λ j. and_then (store may pl.line ty g j x.0 st) (run_source may source (front e rest)))) j.1.0 ∙ ap (λ o. and_then o (run_source may source (front e rest))) y.1.0 ∙ runs) (λ none. none)
+      let one = first_here n at n (SetElement pl g ty index ex rest) (SetElement pl g ty index ex Done) rest
+      (first_element e.parts n pl g ty index ex rest) t st y.0 after h (omega (arith, h.room)) (h.fit.0, (h.fit.1.0, (h.fit.1.1.0, tt)))
+      (ap (λ o. and_then o (λ w. and_then (value may st index) (λ j. and_then (store may pl.line ty g j w st) (λ q. Ok q)))) x.1.0
+      ∙ ap (λ o. and_then o (λ j. and_then (store may pl.line ty g j x.0 st) (λ q. Ok q))) j.1.0 ∙ ap (λ o. and_then o (λ q. Ok q)) y.1.0) in
+      quiet_tail n at n (SetElement pl g ty index ex rest) (SetElement pl g ty index ex Done) rest
+      (SetElement pl g ty index ex (front e rest)) _ last _ (first_element e.parts n pl g ty index ex rest)
+      (first_element e.parts n pl g ty index ex (front e rest)) t st y.0 after h one (omega arith) h.room h.fit.1.1.1 y.1.1
+      (λ u here home. tail rest n _ last u y.0 after here
+      (lasts_on n at n (SetElement pl g ty index ex rest) (SetElement pl g ty index ex Done) rest (first_element e.parts n pl g ty index ex rest)
+      last t u after lasts home)) (λ few. few) (λ fit. (h.fit.0, (h.fit.1.0, (h.fit.1.1.0, fit))))
+      (λ q runs. ap (λ o. and_then o
+      (λ w. and_then (value may st index) (λ j. and_then (store may pl.line ty g j w st) (run_source may source (front e rest))))) x.1.0
+      ∙ ap (λ o. and_then o (λ j. and_then (store may pl.line ty g j x.0 st) (run_source may source (front e rest)))) j.1.0
+      ∙ ap (λ o. and_then o (run_source may source (front e rest))) y.1.0 ∙ runs) (λ none. none)
   tail (Output pl ex rest) n at last t st after h lasts =
       let x = then_ok (value may st ex) _ after h.runs in
-      let one = first_here n at n (Output pl ex rest) (Output pl ex Done) rest (first_output e.parts n pl ex rest) t st (with_output x.0 st) after h (omega (arith, h.room)) (h.fit.0, (h.fit.1.0, tt)) (ap (λ o. and_then o (λ w. Ok (with_output w st))) x.1.0) in
-      quiet_tail n at n (Output pl ex rest) (Output pl ex Done) rest (Output pl ex (front e rest)) _ last _ (first_output e.parts n pl ex rest) (first_output e.parts n pl ex (front e rest)) t st (with_output x.0 st) after h one (omega arith) h.room h.fit.1.1 x.1.1
-      (λ u here home. tail rest n _ last u (with_output x.0 st) after here (lasts_on n at n (Output pl ex rest) (Output pl ex Done) rest (first_output e.parts n pl ex rest) last t u after lasts home)) (λ few. few) (λ fit. (h.fit.0, (h.fit.1.0, fit)))
+      let one = first_here n at n (Output pl ex rest) (Output pl ex Done) rest (first_output e.parts n pl ex rest) t st (with_output x.0 st) after h
+      (omega (arith, h.room)) (h.fit.0, (h.fit.1.0, tt)) (ap (λ o. and_then o (λ w. Ok (with_output w st))) x.1.0) in
+      quiet_tail n at n (Output pl ex rest) (Output pl ex Done) rest (Output pl ex (front e rest)) _ last _ (first_output e.parts n pl ex rest)
+      (first_output e.parts n pl ex (front e rest)) t st (with_output x.0 st) after h one (omega arith) h.room h.fit.1.1 x.1.1
+      (λ u here home. tail rest n _ last u (with_output x.0 st) after here
+      (lasts_on n at n (Output pl ex rest) (Output pl ex Done) rest (first_output e.parts n pl ex rest) last t u after lasts home)) (λ few. few)
+      (λ fit. (h.fit.0, (h.fit.1.0, fit)))
       (λ q runs. ap (λ o. and_then o (λ w. run_source may source (front e rest) (with_output w st))) x.1.0 ∙ runs) (λ none. none)
   tail (Input pl i rest) n at last t st after h lasts =
-      let one = first_here n at n (Input pl i rest) (Input pl i Done) rest (first_input e.parts n pl i rest) t st (take_input i st.inputs st) after h (omega (arith, h.room)) (h.fit.0, (h.fit.1.0, tt)) refl in
-      quiet_tail n at n (Input pl i rest) (Input pl i Done) rest (Input pl i (front e rest)) _ last _ (first_input e.parts n pl i rest) (first_input e.parts n pl i (front e rest)) t st (take_input i st.inputs st) after h one (omega arith) h.room h.fit.1.1 h.runs
-      (λ u here home. tail rest n _ last u (take_input i st.inputs st) after here (lasts_on n at n (Input pl i rest) (Input pl i Done) rest (first_input e.parts n pl i rest) last t u after lasts home)) (λ few. few) (λ fit. (h.fit.0, (h.fit.1.0, fit)))
+      let one = first_here n at n (Input pl i rest) (Input pl i Done) rest (first_input e.parts n pl i rest) t st (take_input i st.inputs st) after h
+      (omega (arith, h.room)) (h.fit.0, (h.fit.1.0, tt)) refl in
+      quiet_tail n at n (Input pl i rest) (Input pl i Done) rest (Input pl i (front e rest)) _ last _ (first_input e.parts n pl i rest)
+      (first_input e.parts n pl i (front e rest)) t st (take_input i st.inputs st) after h one (omega arith) h.room h.fit.1.1 h.runs
+      (λ u here home. tail rest n _ last u (take_input i st.inputs st) after here
+      (lasts_on n at n (Input pl i rest) (Input pl i Done) rest (first_input e.parts n pl i rest) last t u after lasts home)) (λ few. few)
+      (λ fit. (h.fit.0, (h.fit.1.0, fit)))
       (λ q runs. runs) (λ none. none)
   tail (If pl condition taken other rest) n at last t st after h lasts =
       let b = then_ok (holds may condition st) _ after h.runs in
       let y = then_ok (choose b.0 (run_source may source taken) (run_source may source other) st) (run_source may source rest) after b.1.1 in
       let is = first_if e.parts n pl condition taken other rest in
       let n2 = n + counters_in taken + counters_in other in
-      let one = first_here n at n2 (If pl condition taken other rest) (If pl condition taken other Done) rest is t st y.0 after h (omega (arith, h.room)) (h.fit.0, (h.fit.1.0, (h.fit.1.1.0, tt))) (ap (λ o. and_then o (λ c. and_then (choose c (run_source may source taken) (run_source may source other) st) (λ q. Ok q))) b.1.0 ∙ ap (λ o. and_then o (λ q. Ok q)) y.1.0) in
+      let one = first_here n at n2 (If pl condition taken other rest) (If pl condition taken other Done) rest is t st y.0 after h
+      (omega (arith, h.room)) (h.fit.0, (h.fit.1.0, (h.fit.1.1.0, tt)))
+      (ap (λ o. and_then o (λ c. and_then (choose c (run_source may source taken) (run_source may source other) st) (λ q. Ok q))) b.1.0
+      ∙ ap (λ o. and_then o (λ q. Ok q)) y.1.0) in
       pick (has_cut e (If pl condition taken other Done)) (If pl condition taken other (front e rest)) no_edge _ last _ _ n at (If pl condition taken other rest) t st
       (λ cut. cut_tail n at n2 (If pl condition taken other rest) (If pl condition taken other Done) rest last _ is t st y.0 after h one (omega arith) (omega (arith, h.room)) h.fit.1.1.1 y.1.1
       (if_divides n at pl condition taken other t st y.0 _ _ one
       (λ u q here. inner_run n _ taken u st (tail taken n _ no_edge u st q here (λ v m home. no_edge_goes s gs may k _ v)))
       (λ u q here. inner_run (n + counters_in taken) _ other u st (tail other (n + counters_in taken) _ no_edge u st q here (λ v m home. no_edge_goes s gs may k _ v))))
       (λ u here home. tail rest n2 _ last u y.0 after here (lasts_on n at n2 (If pl condition taken other rest) (If pl condition taken other Done) rest is last t u after lasts home)))
-      (λ none. quiet_tail n at n2 (If pl condition taken other rest) (If pl condition taken other Done) rest (If pl condition taken other (front e rest)) _ last _ is (first_if e.parts n pl condition taken other (front e rest)) t st y.0 after h one (omega arith) (omega (arith, h.room)) h.fit.1.1.1 y.1.1
+      (λ none. quiet_tail n at n2 (If pl condition taken other rest) (If pl condition taken other Done) rest
+      (If pl condition taken other (front e rest)) _ last _ is (first_if e.parts n pl condition taken other (front e rest)) t st y.0 after h one
+      (omega arith) (omega (arith, h.room)) h.fit.1.1.1 y.1.1
       (λ u here home. tail rest n2 _ last u y.0 after here (lasts_on n at n2 (If pl condition taken other rest) (If pl condition taken other Done) rest is last t u after lasts home))
-      (λ few. omega (arith, few)) (λ fit. (h.fit.0, (h.fit.1.0, (h.fit.1.1.0, fit)))) (λ q runs. ap (λ o. and_then o (λ c. and_then (choose c (run_source may source taken) (run_source may source other) st) (run_source may source (front e rest)))) b.1.0 ∙ ap (λ o. and_then o (run_source may source (front e rest))) y.1.0 ∙ runs) (none_choice (cuts e) (callees_in taken) (callees_in other) (callees_in (front e rest)) none))
+      (λ few. omega (arith, few)) (λ fit. (h.fit.0, (h.fit.1.0, (h.fit.1.1.0, fit))))
+      (λ q runs. ap (λ o. and_then o
+      (λ c. and_then (choose c (run_source may source taken) (run_source may source other) st) (run_source may source (front e rest)))) b.1.0
+      ∙ ap (λ o. and_then o (run_source may source (front e rest))) y.1.0 ∙ runs)
+      (none_choice (cuts e) (callees_in taken) (callees_in other) (callees_in (front e rest)) none))
   tail (For pl i low closed high step turns body rest) n at last t st after h lasts =
       let v = then_ok (value may st low) _ after h.runs in
       let turn = λ (q : ProgramState). and_then (run_source may source body q) (loop_step pl.line i step) in
       let y = then_ok (counting pl.line turns (loop_test may i closed high) turn (with_local i v.0 st)) (run_source may source rest) after v.1.1 in
       let is = first_for e.parts n pl i low closed high step turns body rest in
       let n2 = n + counters_in body in
-      let one = first_here n at n2 (For pl i low closed high step turns body rest) (For pl i low closed high step turns body Done) rest is t st y.0 after h (omega (arith, h.room)) (h.fit.0, (h.fit.1.0, (h.fit.1.1.0, (h.fit.1.1.1.0, (h.fit.1.1.1.1.0, tt))))) (ap (λ o. and_then o (λ w. and_then (counting pl.line turns (loop_test may i closed high) turn (with_local i w st)) (λ q. Ok q))) v.1.0 ∙ ap (λ o. and_then o (λ q. Ok q)) y.1.0) in
-      pick (has_cut e (For pl i low closed high step turns body Done)) (For pl i low closed high step turns body (front e rest)) no_edge _ last _ _ n at (For pl i low closed high step turns body rest) t st
-      (λ cut. cut_tail n at n2 (For pl i low closed high step turns body rest) (For pl i low closed high step turns body Done) rest last _ is t st y.0 after h one (omega arith) (omega (arith, h.room)) h.fit.1.1.1.1.1 y.1.1
+      let one = first_here n at n2 (For pl i low closed high step turns body rest) (For pl i low closed high step turns body Done)
+      rest is t st y.0 after h (omega (arith, h.room)) (h.fit.0, (h.fit.1.0, (h.fit.1.1.0, (h.fit.1.1.1.0, (h.fit.1.1.1.1.0, tt)))))
+      (ap (λ o. and_then o (λ w. and_then (counting pl.line turns (loop_test may i closed high) turn (with_local i w st)) (λ q. Ok q))) v.1.0
+      ∙ ap (λ o. and_then o (λ q. Ok q)) y.1.0) in
+      pick (has_cut e (For pl i low closed high step turns body Done)) (For pl i low closed high step turns body (front e rest))
+      no_edge _ last _ _ n at (For pl i low closed high step turns body rest) t st
+      (λ cut. cut_tail n at n2 (For pl i low closed high step turns body rest) (For pl i low closed high step turns body Done)
+      rest last _ is t st y.0 after h one (omega arith) (omega (arith, h.room)) h.fit.1.1.1.1.1 y.1.1
       (for_divides n at pl i low closed high step turns body t st y.0 _ one (λ u q q1 here. inner_run n _ body u q (tail body n _ no_edge u q q1 here (λ v m home. no_edge_goes s gs may k _ v))))
-      (λ u here home. tail rest n2 _ last u y.0 after here (lasts_on n at n2 (For pl i low closed high step turns body rest) (For pl i low closed high step turns body Done) rest is last t u after lasts home)))
-      (λ none. quiet_tail n at n2 (For pl i low closed high step turns body rest) (For pl i low closed high step turns body Done) rest (For pl i low closed high step turns body (front e rest)) _ last _ is (first_for e.parts n pl i low closed high step turns body (front e rest)) t st y.0 after h one (omega arith) (omega (arith, h.room)) h.fit.1.1.1.1.1 y.1.1
-      (λ u here home. tail rest n2 _ last u y.0 after here (lasts_on n at n2 (For pl i low closed high step turns body rest) (For pl i low closed high step turns body Done) rest is last t u after lasts home))
-      (λ few. omega (arith, few)) (λ fit. (h.fit.0, (h.fit.1.0, (h.fit.1.1.0, (h.fit.1.1.1.0, (h.fit.1.1.1.1.0, fit)))))) (λ q runs. ap (λ o. and_then o (λ w. and_then (counting pl.line turns (loop_test may i closed high) turn (with_local i w st)) (run_source may source (front e rest)))) v.1.0 ∙ ap (λ o. and_then o (run_source may source (front e rest))) y.1.0 ∙ runs) (none_loop (cuts e) (callees_in body) (callees_in (front e rest)) none))
+      (λ u here home. tail rest n2 _ last u y.0 after here
+      (lasts_on n at n2 (For pl i low closed high step turns body rest) (For pl i low closed high step turns body Done) rest is last t u after lasts home)))
+      (λ none. quiet_tail n at n2 (For pl i low closed high step turns body rest) (For pl i low closed high step turns body Done) rest
+      (For pl i low closed high step turns body (front e rest)) _ last _ is
+      (first_for e.parts n pl i low closed high step turns body (front e rest)) t st y.0 after h one (omega arith) (omega (arith, h.room))
+      h.fit.1.1.1.1.1 y.1.1
+      (λ u here home. tail rest n2 _ last u y.0 after here
+      (lasts_on n at n2 (For pl i low closed high step turns body rest) (For pl i low closed high step turns body Done) rest is last t u after lasts home))
+      (λ few. omega (arith, few)) (λ fit. (h.fit.0, (h.fit.1.0, (h.fit.1.1.0, (h.fit.1.1.1.0, (h.fit.1.1.1.1.0, fit))))))
+      (λ q runs. ap (λ o. and_then o
+      (λ w. and_then (counting pl.line turns (loop_test may i closed high) turn (with_local i w st)) (run_source may source (front e rest))))
+      v.1.0 ∙ ap (λ o. and_then o (run_source may source (front e rest))) y.1.0 ∙ runs)
+      (none_loop (cuts e) (callees_in body) (callees_in (front e rest)) none))
   tail (While pl turns condition body rest) n at last t st after h lasts =
       let y = then_ok (bounded turns (holds may condition) (run_source may source body) st) (run_source may source rest) after h.runs in
       let is = first_while e.parts n pl turns condition body rest in
       let n2 = n + 1 + counters_in body in
-      let one = first_here n at n2 (While pl turns condition body rest) (While pl turns condition body Done) rest is t st y.0 after h (omega (arith, h.room)) (h.fit.0, (h.fit.1.0, (h.fit.1.1.0, tt))) (ap (λ o. and_then o (λ q. Ok q)) y.1.0) in
+      let one = first_here n at n2 (While pl turns condition body rest) (While pl turns condition body Done) rest is t st y.0 after h
+      (omega (arith, h.room)) (h.fit.0, (h.fit.1.0, (h.fit.1.1.0, tt))) (ap (λ o. and_then o (λ q. Ok q)) y.1.0) in
       pick (has_cut e (While pl turns condition body Done)) (While pl turns condition body (front e rest)) no_edge _ last _ _ n at (While pl turns condition body rest) t st
       (λ cut. cut_tail n at n2 (While pl turns condition body rest) (While pl turns condition body Done) rest last _ is t st y.0 after h one (omega arith) (omega (arith, h.room)) h.fit.1.1.1 y.1.1
       (while_divides n at pl turns condition body t st y.0 _ one (λ u q q1 here. inner_run (n + 1) _ body u q (tail body (n + 1) _ no_edge u q q1 here (λ v m home. no_edge_goes s gs may k _ v))))
       (λ u here home. tail rest n2 _ last u y.0 after here (lasts_on n at n2 (While pl turns condition body rest) (While pl turns condition body Done) rest is last t u after lasts home)))
-      (λ none. quiet_tail n at n2 (While pl turns condition body rest) (While pl turns condition body Done) rest (While pl turns condition body (front e rest)) _ last _ is (first_while e.parts n pl turns condition body (front e rest)) t st y.0 after h one (omega arith) (omega (arith, h.room)) h.fit.1.1.1 y.1.1
+      (λ none. quiet_tail n at n2 (While pl turns condition body rest) (While pl turns condition body Done) rest
+      (While pl turns condition body (front e rest)) _ last _ is (first_while e.parts n pl turns condition body (front e rest))
+      t st y.0 after h one (omega arith) (omega (arith, h.room)) h.fit.1.1.1 y.1.1
       (λ u here home. tail rest n2 _ last u y.0 after here (lasts_on n at n2 (While pl turns condition body rest) (While pl turns condition body Done) rest is last t u after lasts home))
-      (λ few. omega (arith, few)) (λ fit. (h.fit.0, (h.fit.1.0, (h.fit.1.1.0, fit)))) (λ q runs. ap (λ o. and_then o (run_source may source (front e rest))) y.1.0 ∙ runs) (none_loop (cuts e) (callees_in body) (callees_in (front e rest)) none))
+      (λ few. omega (arith, few)) (λ fit. (h.fit.0, (h.fit.1.0, (h.fit.1.1.0, fit))))
+      (λ q runs. ap (λ o. and_then o (run_source may source (front e rest))) y.1.0 ∙ runs)
+      (none_loop (cuts e) (callees_in body) (callees_in (front e rest)) none))
   tail (Call pl target f arguments rest) n at last t st after h lasts =
       let vs = then_ok (values may st arguments) _ after h.runs in
       let r = then_ok (source may f vs.0 st) (λ r. run_source may source rest (with_target target r.0 r.1)) after vs.1.1 in
       let st1 = with_target target r.0.0 r.0.1 in
       let is = first_call e.parts n pl target f arguments rest in
-      let one = first_here n at n (Call pl target f arguments rest) (Call pl target f arguments Done) rest is t st st1 after h (omega (arith, h.room)) (h.fit.0, tt) (ap (λ o. and_then o (λ ws. and_then (source may f ws st) (λ r. Ok (with_target target r.0 r.1)))) vs.1.0 ∙ ap (λ o. and_then o (λ r. Ok (with_target target r.0 r.1))) r.1.0) in
+      let one = first_here n at n (Call pl target f arguments rest) (Call pl target f arguments Done) rest is t st st1 after h (omega (arith, h.room))
+      (h.fit.0, tt) (ap (λ o. and_then o (λ ws. and_then (source may f ws st) (λ r. Ok (with_target target r.0 r.1)))) vs.1.0
+      ∙ ap (λ o. and_then o (λ r. Ok (with_target target r.0 r.1))) r.1.0) in
       pick (has_cut e (Call pl target f arguments Done)) (Call pl target f arguments (front e rest)) (passing e f arguments) _ last _ _ n at (Call pl target f arguments rest) t st
       (λ cut. call_tail n at pl target f arguments rest last t st after h (only_first _ cut) vs.0 vs.1.0 r.0 r.1.0 one r.1.1
       (λ u here home. tail rest n _ last u st1 after here (lasts_on n at n (Call pl target f arguments rest) (Call pl target f arguments Done) rest is last t u after lasts home)))
-      (λ none. quiet_tail n at n (Call pl target f arguments rest) (Call pl target f arguments Done) rest (Call pl target f arguments (front e rest)) _ last _ is (first_call e.parts n pl target f arguments (front e rest)) t st st1 after h one (omega arith) h.room h.fit.1 r.1.1
+      (λ none. quiet_tail n at n (Call pl target f arguments rest) (Call pl target f arguments Done) rest
+      (Call pl target f arguments (front e rest)) _ last _ is (first_call e.parts n pl target f arguments (front e rest)) t st st1 after h one
+      (omega arith) h.room h.fit.1 r.1.1
       (λ u here home. tail rest n _ last u st1 after here (lasts_on n at n (Call pl target f arguments rest) (Call pl target f arguments Done) rest is last t u after lasts home))
-      (λ few. few) (λ fit. (h.fit.0, fit)) (λ q runs. ap (λ o. and_then o (λ ws. and_then (source may f ws st) (λ r. run_source may source (front e rest) (with_target target r.0 r.1)))) vs.1.0 ∙ ap (λ o. and_then o (λ r. run_source may source (front e rest) (with_target target r.0 r.1))) r.1.0 ∙ runs) (λ more. none_loop (cuts e) (f ∷ []) (callees_in (front e rest)) none more))
+      (λ few. few) (λ fit. (h.fit.0, fit))
+      (λ q runs. ap (λ o. and_then o
+      (λ ws. and_then (source may f ws st) (λ r. run_source may source (front e rest) (with_target target r.0 r.1)))) vs.1.0
+      ∙ ap (λ o. and_then o (λ r. run_source may source (front e rest) (with_target target r.0 r.1))) r.1.0 ∙ runs)
+      (λ more. none_loop (cuts e) (f ∷ []) (callees_in (front e rest)) none more))
 
 pub steps_course : StepsCourse
 steps_course e s gs parts cs every phase c routines total st_ may limits calls k marked mixed count under space steps n at t st after slots room aligned size fit m is =

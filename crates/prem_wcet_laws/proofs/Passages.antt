@@ -1,7 +1,8 @@
 -- Passages between marked calls: as one scope, or by their parts.
 use Rattle.std.specs.Prelude.{◌&&◌, ◌||◌}
 use Rattle.std.specs.List.{list_all, flat_map}
-use Rattle.std.proofs.Common.{◌≡◌, ℕ, zero, suc, ◌+◌, ◌-◌, ◌*◌, ◌%◌, ◌^◌, ◌<◌, ◌≤◌, min, map, refl, ap, ◌∙◌, sym, subst, arith, true, false, Bool, leb, ltb, List, [], ◌∷◌, ◌++◌, append_assoc, length, Option, Some, None, Ok, ◌⊎◌, inl, inr, slice_get}
+use Rattle.std.proofs.Common.{◌≡◌, ℕ, zero, suc, ◌+◌, ◌-◌, ◌*◌, ◌%◌, ◌^◌, ◌<◌, ◌≤◌, min, map, refl, ap, ◌∙◌, sym, subst, arith, true, false, Bool, leb, ltb, List, [], ◌∷◌, ◌++◌}
+use Rattle.std.proofs.Common.{append_assoc, length, Option, Some, None, Ok, ◌⊎◌, inl, inr, slice_get}
 use Rattle.std.proofs.lemmas.Bool.{and_parts, and_from, leb-true, ltb-true}
 use Rattle.prem_word.specs.Bytes.{number_at, put_number}
 use Rattle.prem_plant.specs.Places.{Extent}
@@ -50,7 +51,8 @@ use Rattle.prem_wcet_laws.proofs.ScopeCosts.{scope_weighs}
 use Rattle.prem_wcet_laws.proofs.Divide.{divides_together, divides_join, divides_more}
 use Rattle.prem_wcet_laws.proofs.Sequence.{lesser}
 use Rattle.prem_wcet_laws.proofs.Alone.{CallFree, free_any, own_divides}
-use Rattle.prem_wcet_laws.proofs.OneScope.{steps_callable, covers, covered_has, task_fits, matches_guard, Reached, closed, ground_small, calls_keep, same_trans, calls_grow, confined_grows, line_kept, all_kept, scope_charged, called_weigh}
+use Rattle.prem_wcet_laws.proofs.OneScope.{steps_callable, covers, covered_has, task_fits, matches_guard, Reached, closed, ground_small, calls_keep, same_trans, calls_grow}
+use Rattle.prem_wcet_laws.proofs.OneScope.{confined_grows, line_kept, all_kept, scope_charged, called_weigh}
 use Rattle.prem_wcet_laws.proofs.LeastRuns.{frame_alone, fit_alone, ground_alone, matches_alone}
 use Rattle.prem_wcet_laws.proofs.Edges.{Falling, passing as passed, landing as landed, Entered, entered, Left, left}
 
@@ -103,13 +105,15 @@ module _ (s : Setting) (gs : Globals) (may : Access) (k : Stack) where
     pub free : CallFree edge.pieces
     pub native : EachPiece IsNative edge.pieces
     pub stored : (a : ℕ) → is_held edge.below a ≡ true → s.guard.store a ≡ true
-    pub goes : (h : Guard) (inside : ℕ → Bool) (calls : Calls) → Ground (record s { guard = h }) gs (narrowed inside may) (frame_alone k) → ((g : ℕ) → IsAmong g edge.globals → inside g ≡ true) → ((a : ℕ) → is_held edge.below a ≡ true → h.store a ≡ true) →
+    pub goes : (h : Guard) (inside : ℕ → Bool) (calls : Calls) → Ground (record s { guard = h }) gs (narrowed inside may) (frame_alone k) →
+        ((g : ℕ) → IsAmong g edge.globals → inside g ≡ true) → ((a : ℕ) → is_held edge.below a ≡ true → h.store a ≡ true) →
         Goes (run (record s { guard = h }) calls at edge.pieces t)
 
   pub no_edge_goes : (at : ℕ) (t : TaskState) → EdgeGoes no_edge at t
   no_edge_goes at t = record { free = tt; native = tt; stored = λ a h. cc; goes = λ h inside calls ground names below. tt }
 
-module _ (s : Setting) (gs : Globals) (parts : Parts) (cs : Callees) (e : Scene) (parts_are : e.parts ≡ with_globals gs parts) (may : Access) (k : Stack) (ground : Ground s gs may k) (phase : Phase) where
+module _ (s : Setting) (gs : Globals) (parts : Parts) (cs : Callees) (e : Scene) (parts_are : e.parts ≡ with_globals gs parts) (may : Access)
+    (k : Stack) (ground : Ground s gs may k) (phase : Phase) where
   -- a state that matches, under another guard and with no stack below the frame
   matches_small : (h : Guard) (count : ℕ) (p : ProgramState) (t : TaskState) → Matches s gs k phase count p t → Matches (record s { guard = h }) gs (frame_alone k) phase count p t
   matches_small h count p t m = matches_guard s h gs parts cs phase (frame_alone k) count p t (matches_alone s gs may k phase count p t m)
@@ -125,16 +129,20 @@ module _ (s : Setting) (gs : Globals) (parts : Parts) (cs : Callees) (e : Scene)
     inputs = b.inputs;
   }
 
-  pub landing_goes : (count at : ℕ) (target : Option ℕ) (t : TaskState) (p : ProgramState) → Matches s gs k phase count p t → count ≤ k.slots → ((i : ℕ) → target ≡ Some i → i < count) → EdgeGoes s gs may k (landing target) at t
+  pub landing_goes : (count at : ℕ) (target : Option ℕ) (t : TaskState) (p : ProgramState) → Matches s gs k phase count p t → count ≤ k.slots →
+      ((i : ℕ) → target ≡ Some i → i < count) → EdgeGoes s gs may k (landing target) at t
   landing_goes count at target t p m fits inside_ = record {
     free = target_calls (λ part. ⊥) target;
     native = takes_target target no_pieces tt;
     stored = λ a h. cc;
-    goes = λ h inside calls small names below. goes_by (landed (record s { guard = h }) calls gs (narrowed inside may) (frame_alone k) small phase count at target t p (matches_small h count p t m) fits inside_).goes tt;
+    goes = λ h inside calls small names below. goes_by
+        (landed (record s { guard = h }) calls gs (narrowed inside may) (frame_alone k) small phase count at target t p (matches_small h count p t m)
+        fits inside_).goes tt;
   }
 
   -- words below the frame are no globals
-  apart : (h : Guard) (frame : ℕ) → k.low + frame ≤ k.sp → (a w : ℕ) (view : ℕ → ℕ) (globals : List (List ℕ)) → k.sp - frame + 4 ≤ a → a + 4 ≤ k.sp → GlobalsStand (record s { guard = h }) gs globals view → GlobalsStand (record s { guard = h }) gs globals (put_number 4 a w view)
+  apart : (h : Guard) (frame : ℕ) → k.low + frame ≤ k.sp → (a w : ℕ) (view : ℕ → ℕ) (globals : List (List ℕ)) → k.sp - frame + 4 ≤ a → a + 4 ≤ k.sp →
+      GlobalsStand (record s { guard = h }) gs globals view → GlobalsStand (record s { guard = h }) gs globals (put_number 4 a w view)
   apart h frame low a w view globals le ge g =
       let room : k.sp + 4 + 4 * k.slots ≤ k.top = ground.room in
       let x = globals_stack s gs may k ground globals 4 a w view (omega arith) (omega arith) (record { shaped = g.shaped; stands = g.stands; word = g.word }) in
@@ -150,7 +158,8 @@ module _ (s : Setting) (gs : Globals) (parts : Parts) (cs : Callees) (e : Scene)
     by true is = let x = and_parts (leb r.0 a) (ltb a r.1) is in (leb-true r.0 a x.0, ltb-true a r.1 x.1)
     by false is = let none : (false || false) ≡ true = sym (ap (λ b. b || false) is) ∙ h in cc
 
-  argument_stored : (f : ℕ) (es : List Term) → 4 + 4 * length es ≤ parts.frame f → k.low + parts.frame f ≤ k.sp → (a : ℕ) → is_held (argument_ranges k.sp (parts.frame f) es) a ≡ true → s.guard.store a ≡ true
+  argument_stored : (f : ℕ) (es : List Term) → 4 + 4 * length es ≤ parts.frame f → k.low + parts.frame f ≤ k.sp → (a : ℕ) →
+      is_held (argument_ranges k.sp (parts.frame f) es) a ≡ true → s.guard.store a ≡ true
   argument_stored f [] room low a h = cc
   argument_stored f (x ∷ xs) room low a h =
       let z = held_one (k.sp - parts.frame f + 4, k.sp - parts.frame f + 4 + 4 * length (x ∷ xs)) a h in
@@ -163,8 +172,20 @@ module _ (s : Setting) (gs : Globals) (parts : Parts) (cs : Callees) (e : Scene)
   pub passing_goes : (f : ℕ) (count at : ℕ) (es : List Term) (t : TaskState) (p : ProgramState) (ws : List ℕ) → Matches s gs k phase count p t → AllFit gs count es → values may p es ≡ Ok ws →
       4 + 4 * length es ≤ parts.frame f → parts.frame f % 4 ≡ 0 → k.low + parts.frame f ≤ k.sp → bottom_of e.stack ≡ k.sp → EdgeGoes s gs may k (passing e f es) at t
   passing_goes f count at es t p ws m fit is room al low bottom =
-      subst (λ (q : Parts). EdgeGoes s gs may k (record { pieces = argument_code q.target q.global (q.frame f) 0 es; globals = globals_in_terms es; below = argument_ranges (bottom_of e.stack) (q.frame f) es }) at t) (sym parts_are)
-      (subst (λ n. EdgeGoes s gs may k (record { pieces = argument_code gs.target gs.part (parts.frame f) 0 es; globals = globals_in_terms es; below = argument_ranges n (parts.frame f) es }) at t) (sym bottom)
+      subst (λ (q : Parts). EdgeGoes s gs may k
+      (record {
+        pieces = argument_code q.target q.global (q.frame f) 0 es;
+        globals = globals_in_terms es;
+        below =
+            argument_ranges (bottom_of e.stack) (q.frame f) es;
+      }) at t) (sym parts_are)
+      (subst (λ n. EdgeGoes s gs may k
+      (record {
+        pieces = argument_code gs.target gs.part (parts.frame f) 0 es;
+        globals = globals_in_terms es;
+        below =
+            argument_ranges n (parts.frame f) es;
+      }) at t) (sym bottom)
       (record {
         free = arguments_call (λ part. ⊥) gs.target gs.part (parts.frame f) 0 es;
         stored = λ a h. argument_stored f es room low a h;
@@ -175,23 +196,38 @@ module _ (s : Setting) (gs : Globals) (parts : Parts) (cs : Callees) (e : Scene)
             (λ a le lt. below a (argument_held k.sp (parts.frame f) a es (omega (arith, le)) (omega (arith, lt)))) (apart h (parts.frame f) low)).goes tt;
       }))
 
-  pub entry_goes : (f : Routine) (at back : ℕ) (ws : List ℕ) (q p1 : ProgramState) (t : TaskState) → k.slots ≡ slots_of f → DeclaredFit gs (length f.text.params) f.locals → length ws ≡ length f.text.params → ArgumentsStand t.view k.sp ws →
-      Between s gs phase q t → t.registers 2 ≡ k.sp + frame_of f → k.sp + frame_of f < 2 ^ 32 → t.registers 1 ≡ back → back < 2 ^ 32 → declare may f.locals (record q { locals = ws }) ≡ Ok p1 → EdgeGoes s gs may k (entry e f) at t
+  pub entry_goes : (f : Routine) (at back : ℕ) (ws : List ℕ) (q p1 : ProgramState) (t : TaskState) → k.slots ≡ slots_of f →
+      DeclaredFit gs (length f.text.params) f.locals → length ws ≡ length f.text.params → ArgumentsStand t.view k.sp ws →
+      Between s gs phase q t → t.registers 2 ≡ k.sp + frame_of f → k.sp + frame_of f < 2 ^ 32 → t.registers 1 ≡ back → back < 2 ^ 32 →
+      declare may f.locals (record q { locals = ws }) ≡ Ok p1 → EdgeGoes s gs may k (entry e f) at t
   entry_goes f at back ws q p1 t slots_is fit len args b two top_small one back_small is =
-      subst (λ (q : Parts). EdgeGoes s gs may k (record { pieces = Rattle.prem_asm.specs.Pieces.straight (opening (frame_of f)) (declare_code q.target q.global (length f.text.params) f.locals); globals = globals_in_terms f.locals; below = [] }) at t) (sym parts_are)
+      subst (λ (q : Parts). EdgeGoes s gs may k
+      (record {
+        pieces = Rattle.prem_asm.specs.Pieces.straight (opening (frame_of f))
+            (declare_code q.target q.global (length f.text.params) f.locals);
+        globals = globals_in_terms f.locals;
+        below = [];
+      }) at t) (sym parts_are)
       (record {
         free = declared_call (λ part. ⊥) gs.target gs.part (length f.text.params) f.locals;
         stored = λ a h. cc;
         native = ((refl, (refl, tt)), takes_declared gs.target gs.part (length f.text.params) f.locals);
         goes = λ h inside calls small names below.
-            goes_by (entered (record s { guard = h }) calls gs (narrowed inside may) (frame_alone k) small phase f at back ws q p1 t slots_is fit len args (between_guard h q t b) two top_small one back_small
+            goes_by (entered (record s { guard = h }) calls gs (narrowed inside may) (frame_alone k)
+            small phase f at back ws q p1 t slots_is fit len args (between_guard h q t b) two top_small one back_small
             (declare_same inside may (λ a f ws p. Ok (0, p)) f.locals (record q { locals = ws }) names ∙ is)).goes tt;
       })
 
-  pub leaving_goes : (f : Routine) (at back w : ℕ) (t : TaskState) (p : ProgramState) → k.slots ≡ slots_of f → ResultFits gs (locals_of f) f.result → Matches s gs k phase (locals_of f) p t → result_of may f.result p ≡ Ok w →
+  pub leaving_goes : (f : Routine) (at back w : ℕ) (t : TaskState) (p : ProgramState) → k.slots ≡ slots_of f → ResultFits gs (locals_of f) f.result →
+      Matches s gs k phase (locals_of f) p t → result_of may f.result p ≡ Ok w →
       number_at t.view k.sp 4 ≡ back → k.sp + frame_of f < 2 ^ 32 → back % 4 ≡ 0 → back < 2 ^ 32 → EdgeGoes s gs may k (leaving e f) at t
   leaving_goes f at back w t p slots_is fit m is home top_small back_al back_small =
-      subst (λ (q : Parts). EdgeGoes s gs may k (record { pieces = followed (result_code q.target q.global f.result) (only (closing (frame_of f))); globals = globals_in_result f.result; below = [] }) at t) (sym parts_are)
+      subst (λ (q : Parts). EdgeGoes s gs may k
+      (record {
+        pieces = followed (result_code q.target q.global f.result) (only (closing (frame_of f)));
+        globals = globals_in_result f.result;
+        below = [];
+      }) at t) (sym parts_are)
       (record {
         free = calls_joined (λ part. ⊥) (result_code gs.target gs.part f.result) (only (closing (frame_of f))) (result_calls (λ part. ⊥) gs.target gs.part f.result) tt;
         stored = λ a h. cc;
@@ -241,17 +277,23 @@ module _ (e : Scene) (s : Setting) (gs : Globals) (parts : Parts) (cs : Callees)
   named g is =
       covered_has (e.global g) ranges
       (has_left (e.global g) (data_ranges e (passage_span e n before first last)) _
-      (has_right (e.global g) e.stack _ (has_left (e.global g) (map e.global (before.globals ++ (globals_in first ++ last.globals))) _ (has_mapped e.global g (before.globals ++ (globals_in first ++ last.globals)) is))))
+      (has_right (e.global g) e.stack _
+      (has_left (e.global g) (map e.global (before.globals ++ (globals_in first ++ last.globals))) _
+      (has_mapped e.global g (before.globals ++ (globals_in first ++ last.globals)) is))))
 
-  below_stored : (edge : Edge) (at : ℕ) (t : TaskState) → EdgeGoes s gs may k edge at t → ((a : ℕ) → is_held edge.below a ≡ true → is_held (before.below ++ last.below) a ≡ true) → (a : ℕ) → is_held edge.below a ≡ true → small.guard.store a ≡ true
+  below_stored : (edge : Edge) (at : ℕ) (t : TaskState) → EdgeGoes s gs may k edge at t →
+      ((a : ℕ) → is_held edge.below a ≡ true → is_held (before.below ++ last.below) a ≡ true) → (a : ℕ) → is_held edge.below a ≡ true →
+      small.guard.store a ≡ true
   below_stored edge at t x within a h = and_from (is_held ranges a) (s.guard.store a) (held_right (data_ranges e (passage_span e n before first last)) _ a (within a h)) (x.stored a h)
 
-  edge_agrees : (edge : Edge) (at : ℕ) (t : TaskState) → EdgeGoes s gs may k edge at t → ((g : ℕ) → IsAmong g edge.globals → inside g ≡ true) → ((a : ℕ) → is_held edge.below a ≡ true → is_held (before.below ++ last.below) a ≡ true) →
+  edge_agrees : (edge : Edge) (at : ℕ) (t : TaskState) → EdgeGoes s gs may k edge at t → ((g : ℕ) → IsAmong g edge.globals → inside g ≡ true) →
+      ((a : ℕ) → is_held edge.below a ≡ true → is_held (before.below ++ last.below) a ≡ true) →
       run s calls at edge.pieces t ≡ run small inner at edge.pieces t
   edge_agrees edge at t x names within =
       agree (run small inner at edge.pieces t) (run s calls at edge.pieces t) (grown edge.pieces at t) (x.goes small.guard inside inner alone_small names (below_stored edge at t x within))
 
-  reached : ((f : ℕ) → IsAmong f (callees_in first) → f < total) → StepsFit gs parts cs phase count under first → (f : ℕ) → IsAmong f (callees_in first) → Reached e s gs parts cs phase c routines total st_ code ranges f
+  reached : ((f : ℕ) → IsAmong f (callees_in first) → f < total) → StepsFit gs parts cs phase count under first → (f : ℕ) →
+      IsAmong f (callees_in first) → Reached e s gs parts cs phase c routines total st_ code ranges f
   reached known fit f among = record {
     less = known f among;
     callable = steps_callable gs parts cs phase count under first fit f among;
@@ -262,7 +304,8 @@ module _ (e : Scene) (s : Setting) (gs : Globals) (parts : Parts) (cs : Callees)
   }
 
   -- the statements
-  body_goes : (stk : Stack) → Ground s gs may stk → ((a : ℕ) → stk.low ≤ a → a < stk.top → is_held ranges a ≡ true) → (room : ℕ) → stk.low + room ≤ stk.sp → (at : ℕ) (t : TaskState) (p after : ProgramState) →
+  body_goes : (stk : Stack) → Ground s gs may stk → ((a : ℕ) → stk.low ≤ a → a < stk.top → is_held ranges a ≡ true) → (room : ℕ) →
+      stk.low + room ≤ stk.sp → (at : ℕ) (t : TaskState) (p after : ProgramState) →
       count ≤ n → n + counters_in first ≤ stk.slots → at % 4 ≡ 0 → at + size_of body < 2 ^ 32 → StepsFit gs parts cs phase count room first → ((f : ℕ) → IsAmong f (callees_in first) → f < total) →
       Matches s gs stk phase count p t → run_source may (calls_below limits routines total) first p ≡ Ok after → Goes (run small inner at body t)
   body_goes stk own_ground stack room space_ at t p after le slots al size fit known m is =
@@ -278,12 +321,17 @@ module _ (e : Scene) (s : Setting) (gs : Globals) (parts : Parts) (cs : Callees)
       let source : run_source (narrowed inside may) (calls_below limits routines total) first p ≡ Ok after =
       run_same inside may (calls_below limits routines total) first p
       (λ g among. named g (among_right g before.globals _ (among_left g (globals_in first) last.globals among)))
-      (λ f among. calls_same inside limits routines (Reached e s gs parts cs phase c routines total st_ code ranges) (closed e s gs parts cs phase c routines total st_ code ranges) total may f (reach f among))
+      (λ f among. calls_same inside limits routines (Reached e s gs parts cs phase c routines total st_ code ranges)
+      (closed e s gs parts cs phase c routines total st_ code ranges) total may f (reach f among))
       ∙ is in
       let callees : CalleesAt small gs (narrowed inside may) stk inner parts cs phase (calls_below limits routines total) =
-      λ f callable. at_frame small gs (narrowed inside may) stk phase (inner (parts.callee f)) (parts.link f) (parts.frame f) (cs.depth f) (cs.params f) (cs.returns f) (λ words q. calls_below limits routines total (narrowed inside may) f words q)
-      (functions_run small gs parts cs phase c limits routines st_.all (narrowed inside may) (task_fits s (confined_to ranges s.guard) gs parts cs phase c routines st_.all st_.task) total st_.some f callable) in
-      let d = steps_end small inner gs (narrowed inside may) stk (ground_small e s gs parts cs phase c routines total st_ code ranges may stk own_ground stack) parts cs phase (calls_below limits routines total) callees count room space_
+      λ f callable. at_frame small gs (narrowed inside may) stk phase (inner (parts.callee f)) (parts.link f) (parts.frame f) (cs.depth f)
+      (cs.params f) (cs.returns f) (λ words q. calls_below limits routines total (narrowed inside may) f words q)
+      (functions_run small gs parts cs phase c limits routines st_.all (narrowed inside may)
+      (task_fits s (confined_to ranges s.guard) gs parts cs phase c routines st_.all st_.task) total st_.some f callable) in
+      let d = steps_end small inner gs (narrowed inside may) stk
+      (ground_small e s gs parts cs phase c routines total st_ code ranges may stk own_ground stack) parts cs phase
+      (calls_below limits routines total) callees count room space_
       first n at t p after le slots al (subst (λ q. at + size_of q < 2 ^ 32) own_code size) fit (matches_guard s (confined_to ranges s.guard) gs parts cs phase stk count p t m) source in
       goes_by (ap (λ q. run small inner at q t) own_code ∙ d.goes) tt
 
@@ -313,15 +361,18 @@ module _ (e : Scene) (s : Setting) (gs : Globals) (parts : Parts) (cs : Callees)
 
     by : (xs : List ℕ) → callees_in first ≡ xs → Goes (run small inner at body t)
     by [] none =
-        body_goes (frame_alone k) (ground_alone s gs may k ground) (λ a low lt. frame_held a low lt) 0 (none_below k.sp) at t p after le slots al size (fit_alone gs parts cs phase count under first none fit) known (matches_alone s gs may k phase count p t m) is
+        body_goes (frame_alone k) (ground_alone s gs may k ground) (λ a low lt. frame_held a low lt) 0 (none_below k.sp) at t p after le slots al size
+        (fit_alone gs parts cs phase count under first none fit) known (matches_alone s gs may k phase count p t m) is
     by (f ∷ fs) some = body_goes k ground (λ a low lt. stack f fs some a low lt) under space at t p after le slots al size fit known m is
 
   abbrev Kept : ℕ → Type 0
   Kept part = (v : TaskState) → Any v → Holds (IsIn code ranges) Any (inner part v)
 
   -- together they are one scope
-  pub passage_scope : (t0 t u : TaskState) (p after : ProgramState) (trace_before trace_body trace_last : List Did) → EdgeGoes s gs may k before from t0 → run s calls from before.pieces t0 ≡ Falls t trace_before →
-      count ≤ n → n + counters_in first ≤ k.slots → (from + size_of before.pieces) % 4 ≡ 0 → from + size_of before.pieces + size_of body < 2 ^ 32 → StepsFit gs parts cs phase count under first → ((f : ℕ) → IsAmong f (callees_in first) → f < total) →
+  pub passage_scope : (t0 t u : TaskState) (p after : ProgramState) (trace_before trace_body trace_last : List Did) →
+      EdgeGoes s gs may k before from t0 → run s calls from before.pieces t0 ≡ Falls t trace_before →
+      count ≤ n → n + counters_in first ≤ k.slots → (from + size_of before.pieces) % 4 ≡ 0 → from + size_of before.pieces + size_of body < 2 ^ 32 →
+      StepsFit gs parts cs phase count under first → ((f : ℕ) → IsAmong f (callees_in first) → f < total) →
       Matches s gs k phase count p t → run_source may (calls_below limits routines total) first p ≡ Ok after → run s calls (from + size_of before.pieces) body t ≡ Falls u trace_body →
       EdgeGoes s gs may k last (from + size_of before.pieces + size_of body) u → HasTrace (run s calls (from + size_of before.pieces + size_of body) last.pieces u) trace_last →
       Divides e.plant (passage_charge e n from before first last) (trace_before ++ (trace_body ++ trace_last))
@@ -364,8 +415,10 @@ module _ (e : Scene) (s : Setting) (gs : Globals) (parts : Parts) (cs : Callees)
       (scope_charged e.plant st_.line lines code ranges (path_weight e w from (passage_span e n before first last)) _ steps_in (weight_within (weight_of w) _ _ _ traced heavy))
 
   -- or stand by their parts
-  pub passage_divides : (t0 t u : TaskState) (p after : ProgramState) (trace_before trace_body trace_last : List Did) → EdgeGoes s gs may k before from t0 → run s calls from before.pieces t0 ≡ Falls t trace_before →
-      count ≤ n → n + counters_in first ≤ k.slots → (from + size_of before.pieces) % 4 ≡ 0 → from + size_of before.pieces + size_of body < 2 ^ 32 → StepsFit gs parts cs phase count under first → ((f : ℕ) → IsAmong f (callees_in first) → f < total) →
+  pub passage_divides : (t0 t u : TaskState) (p after : ProgramState) (trace_before trace_body trace_last : List Did) →
+      EdgeGoes s gs may k before from t0 → run s calls from before.pieces t0 ≡ Falls t trace_before →
+      count ≤ n → n + counters_in first ≤ k.slots → (from + size_of before.pieces) % 4 ≡ 0 → from + size_of before.pieces + size_of body < 2 ^ 32 →
+      StepsFit gs parts cs phase count under first → ((f : ℕ) → IsAmong f (callees_in first) → f < total) →
       Matches s gs k phase count p t → run_source may (calls_below limits routines total) first p ≡ Ok after → run s calls (from + size_of before.pieces) body t ≡ Falls u trace_body →
       EdgeGoes s gs may k last (from + size_of before.pieces + size_of body) u → HasTrace (run s calls (from + size_of before.pieces + size_of body) last.pieces u) trace_last →
       Divides e.plant (least e n (from + size_of before.pieces) first) trace_body → Divides e.plant (passage e n from before first last) (trace_before ++ (trace_body ++ trace_last))

@@ -45,7 +45,8 @@ abbrev loop_text : ProgramText
 loop_text =
     global (at 1 5) IntTy (codes "a") (Some 64) absent
     ∷ function (at 2 6) None Void (codes "job") [] (local (at 2 22) IntTy (codes "i") (int 2 26 0) ∷ [])
-    (statements (counting_for (at 2 29) (one_name (codes "i")) (int 2 38 0) false (int 2 45 64) 1 (block (at 2 54) (statements (output (at 2 56) (element (at 2 60) (codes "a") (variable (at 2 62) (codes "i"))) ∷ []))) ∷ []))
+    (statements (counting_for (at 2 29) (one_name (codes "i")) (int 2 38 0) false (int 2 45 64) 1
+    (block (at 2 54) (statements (output (at 2 56) (element (at 2 60) (codes "a") (variable (at 2 62) (codes "i"))) ∷ []))) ∷ []))
     None
     ∷ []
 
@@ -65,7 +66,8 @@ loop_crowded = refl
 -- void job(void) { int y = 0; y = twice(7); out(y); }
 abbrev call_text : ProgramText
 call_text =
-    function (at 1 5) None IntTy (codes "twice") (parameter (at 1 15) IntTy (codes "x") None ∷ []) [] (statements []) (Some (binary (at 1 29) AddOp (variable (at 1 27) (codes "x")) (variable (at 1 31) (codes "x"))))
+    function (at 1 5) None IntTy (codes "twice") (parameter (at 1 15) IntTy (codes "x") None ∷ []) [] (statements [])
+    (Some (binary (at 1 29) AddOp (variable (at 1 27) (codes "x")) (variable (at 1 31) (codes "x"))))
     ∷ function (at 2 6) None Void (codes "job") [] (local (at 2 22) IntTy (codes "y") (int 2 26 0) ∷ [])
     (statements (call (at 2 29) (Some (codes "y")) (codes "twice") (int 2 39 7 ∷ []) ∷ output (at 2 43) (variable (at 2 47) (codes "y")) ∷ []))
     None

@@ -8,10 +8,12 @@ use Rattle.prem_layout.specs.Template.Frames.{counters_in, locals_of, frame_of}
 use Rattle.prem_layout.specs.Template.Steps.{store_slot, bound_test, step_code, count_code, argument_code, target_code, steps_code, closing, result_code, function_code}
 use Rattle.prem_layout.specs.Bounds.{job_weight}
 use Rattle.prem_wcet_laws.specs.Scopes.{Scene}
-use Rattle.prem_wcet_laws.specs.Least.{own, own_jump, own_turns, own_choice, term_of, bound_code, first_code, counter_code, turn_of, taken_place, other_place, body_place, behind, called_least, single, apart, least, declared, body_at, own_around, least_function}
+use Rattle.prem_wcet_laws.specs.Least.{own, own_jump, own_turns, own_choice, term_of, bound_code, first_code, counter_code, turn_of, taken_place, other_place, body_place, behind}
+use Rattle.prem_wcet_laws.specs.Least.{called_least, single, apart, least, declared, body_at, own_around, least_function}
 use Rattle.prem_wcet_laws.proofs.Shape.{first_local, first_scalar, first_element, first_output, first_input, first_if, first_for, first_while, first_call}
 use Rattle.prem_wcet_laws.proofs.Ordered.{right_of, both_less, turns_less, choice_less, weighted-followed, own_less}
-use Rattle.prem_wcet_laws.specs.Parted.{has_cut, by_cut, front, Edge, no_edge, entry, leaving, passing, landing, next_edge, passage, Begun, counted, begins, opened, called_parted, landing_place, parted, parted_function}
+use Rattle.prem_wcet_laws.specs.Parted.{has_cut, by_cut, front, Edge, no_edge, entry, leaving, passing, landing, next_edge, passage, Begun, counted, begins, opened, called_parted}
+use Rattle.prem_wcet_laws.specs.Parted.{landing_place, parted, parted_function}
 use Rattle.prem_wcet_laws.specs.Counts.{Count}
 
 -- ---- lists of statements
@@ -52,7 +54,8 @@ module _ (e : Scene) (calls : ℕ → ℕ) (known : (f : ℕ) → called_least e
       (choice_less (job_weight e.plant (branch_of (nonzero 10))) (skip_words (code (n + counters_in taken) other) * own_jump e) (own_jump e) _ _ _ _ le more))
 
   -- a loop behind some code
-  loop_code : (first : Pieces) (turns : ℕ) (head : Pieces) (test : Test) (body : Pieces) → W (followed first (repeat turns head test body no_pieces)) ≡ W first + own_turns e turns test (W head) (W body)
+  loop_code : (first : Pieces) (turns : ℕ) (head : Pieces) (test : Test) (body : Pieces) →
+      W (followed first (repeat turns head test body no_pieces)) ≡ W first + own_turns e turns test (W head) (W body)
   loop_code first turns head test body =
       weighted-followed (job_weight e.plant) calls first (repeat turns head test body no_pieces) ∙ nothing (W first) (own_turns e turns test (W head) (W body)) where
         nothing : (a b : ℕ) → a + (b + 0) ≡ a + b
@@ -65,16 +68,20 @@ module _ (e : Scene) (calls : ℕ → ℕ) (known : (f : ℕ) → called_least e
       (both_less _ _ _ _ (own_within first) (turns_less turns _ _ (job_weight e.plant (branch_of test)) _ _ (own_jump e) (own_within head) le))
 
   for_is : (n : ℕ) (pl : _) (k : ℕ) (low : _) (closed : _) (high : _) (step turns : ℕ) (body : Steps) →
-      code n (For pl k low closed high step turns body Done) ≡ followed (first_code e k low) (repeat turns (bound_code e k high) (bound_test closed) (followed (code n body) (only (step_code k step))) no_pieces)
+      code n (For pl k low closed high step turns body Done)
+      ≡ followed (first_code e k low) (repeat turns (bound_code e k high) (bound_test closed) (followed (code n body) (only (step_code k step))) no_pieces)
   for_is n pl k low closed high step turns body =
-      sym (Rattle.prem_wcet_laws.proofs.Shape.followed-assoc (term_of e 10 low) (only (store_slot k ∷ [])) (repeat turns (bound_code e k high) (bound_test closed) (followed (code n body) (only (step_code k step))) no_pieces))
+      sym (Rattle.prem_wcet_laws.proofs.Shape.followed-assoc (term_of e 10 low) (only (store_slot k ∷ []))
+      (repeat turns (bound_code e k high) (bound_test closed) (followed (code n body) (only (step_code k step))) no_pieces))
 
   pub for_less : (n : ℕ) (pl : _) (k : ℕ) (low : _) (closed : _) (high : _) (step turns : ℕ) (body : Steps) (x : ℕ) → x ≤ W (code n body) →
-      own e (first_code e k low) + own_turns e turns (bound_test closed) (own e (bound_code e k high)) (x + own e (only (step_code k step))) ≤ W (code n (For pl k low closed high step turns body Done))
+      own e (first_code e k low) + own_turns e turns (bound_test closed) (own e (bound_code e k high)) (x + own e (only (step_code k step))) ≤ W
+      (code n (For pl k low closed high step turns body Done))
   for_less n pl k low closed high step turns body x le =
       let inner = followed (code n body) (only (step_code k step)) in
       let more : x + own e (only (step_code k step)) ≤ W inner = first_then _ _ inner (code n body) (only (step_code k step)) refl le (own_within (only (step_code k step))) in
-      subst (λ z. own e (first_code e k low) + own_turns e turns (bound_test closed) (own e (bound_code e k high)) (x + own e (only (step_code k step))) ≤ W z) (sym (for_is n pl k low closed high step turns body))
+      subst (λ z. own e (first_code e k low) + own_turns e turns (bound_test closed) (own e (bound_code e k high))
+      (x + own e (only (step_code k step))) ≤ W z) (sym (for_is n pl k low closed high step turns body))
       (loop_less (first_code e k low) turns (bound_code e k high) (bound_test closed) inner (x + own e (only (step_code k step))) more)
 
   pub while_less : (n : ℕ) (pl : _) (turns : ℕ) (condition : _) (body : Steps) (x : ℕ) → x ≤ W (code (n + 1) body) →
@@ -146,7 +153,8 @@ module _ (e : Scene) (calls : ℕ → ℕ) (known : (f : ℕ) → called_least e
     begun_total b last n at (Call pl target f arguments rest) = spared _ _
 
     -- where a passage begins
-    pub fresh_of : (from : ℕ) (before last : Edge) (n at : ℕ) (steps : Steps) → Counts last n at steps → (parted e (begins from before) last n at steps).total ≤ W before.pieces + (W (code n steps) + W last.pieces)
+    pub fresh_of : (from : ℕ) (before last : Edge) (n at : ℕ) (steps : Steps) → Counts last n at steps →
+        (parted e (begins from before) last n at steps).total ≤ W before.pieces + (W (code n steps) + W last.pieces)
     fresh_of from before last n at steps h =
         let first = front e steps in
         let edge = next_edge e last steps in
@@ -156,17 +164,20 @@ module _ (e : Scene) (calls : ℕ → ℕ) (known : (f : ℕ) → called_least e
           sum : (f d all o b p r : ℕ) → all ≡ o + p → o ≤ b + f + d → f + d + p ≤ r → all ≤ b + r
           sum f d all o b p r is le more = omega (arith, is, le, more)
 
-    quiet_within : (last edge : ℕ) (p : ℕ) (whole one rest begin first : Pieces) → whole ≡ followed one rest → begin ≡ followed one first → W first + edge + p ≤ W rest + last → W begin + edge + (0 + p) ≤ W whole + last
+    quiet_within : (last edge : ℕ) (p : ℕ) (whole one rest begin first : Pieces) → whole ≡ followed one rest → begin ≡ followed one first →
+        W first + edge + p ≤ W rest + last → W begin + edge + (0 + p) ≤ W whole + last
     quiet_within last edge p whole one rest begin first is starts h =
         let all : W whole ≡ W one + W rest = ap W is ∙ weighted-followed (job_weight e.plant) calls one rest in
         let some : W begin ≡ W one + W first = ap W starts ∙ weighted-followed (job_weight e.plant) calls one first in
         omega (arith, all, some, h)
 
     -- a statement that may have a marked call in it
-    either_way : (b : Bool) (n : ℕ) (first : Steps) (cut_edge edge last : Edge) (whole one rest behind_ : Pieces) (x y : Count) → whole ≡ followed one rest → code n first ≡ followed one behind_ → W cut_edge.pieces + x.total ≤ W whole + W last.pieces →
+    either_way : (b : Bool) (n : ℕ) (first : Steps) (cut_edge edge last : Edge) (whole one rest behind_ : Pieces) (x y : Count) →
+        whole ≡ followed one rest → code n first ≡ followed one behind_ → W cut_edge.pieces + x.total ≤ W whole + W last.pieces →
         W behind_ + W edge.pieces + y.total ≤ W rest + W last.pieces → W (code n (by_cut b Done first)) + W (by_cut b cut_edge edge).pieces + (0 + (by_cut b x y).total) ≤ W whole + W last.pieces
     either_way true n first cut_edge edge last whole one rest behind_ x y is starts cut quiet_ = omega (arith, cut)
-    either_way false n first cut_edge edge last whole one rest behind_ x y is starts cut quiet_ = quiet_within (W last.pieces) (W edge.pieces) y.total whole one rest (code n first) behind_ is starts quiet_
+    either_way false n first cut_edge edge last whole one rest behind_ x y is starts cut quiet_ =
+        quiet_within (W last.pieces) (W edge.pieces) y.total whole one rest (code n first) behind_ is starts quiet_
 
     cut_then : (c p l : ℕ) (whole one rest : Pieces) → whole ≡ followed one rest → c ≤ W one → p ≤ 0 + (W rest + l) → 0 + (c + p) ≤ W whole + l
     cut_then c p l whole one rest is le more =
@@ -181,21 +192,38 @@ module _ (e : Scene) (calls : ℕ → ℕ) (known : (f : ℕ) → called_least e
 
     pub counts : (steps : Steps) (last : Edge) (n at : ℕ) → Counts last n at steps
     counts Done last n at = omega arith
-    counts (SetLocal pl k value rest) last n at = quiet_within _ _ _ (code n (SetLocal pl k value rest)) (code n (SetLocal pl k value Done)) (code n rest) (code n (SetLocal pl k value (front e rest))) (code n (front e rest)) (first_local e.parts n pl k value rest) (first_local e.parts n pl k value (front e rest)) (counts rest last n (behind e n at (SetLocal pl k value Done)))
-    counts (SetScalar pl g ty value rest) last n at = quiet_within _ _ _ (code n (SetScalar pl g ty value rest)) (code n (SetScalar pl g ty value Done)) (code n rest) (code n (SetScalar pl g ty value (front e rest))) (code n (front e rest)) (first_scalar e.parts n pl g ty value rest) (first_scalar e.parts n pl g ty value (front e rest)) (counts rest last n (behind e n at (SetScalar pl g ty value Done)))
-    counts (SetElement pl g ty index value rest) last n at = quiet_within _ _ _ (code n (SetElement pl g ty index value rest)) (code n (SetElement pl g ty index value Done)) (code n rest) (code n (SetElement pl g ty index value (front e rest))) (code n (front e rest)) (first_element e.parts n pl g ty index value rest) (first_element e.parts n pl g ty index value (front e rest)) (counts rest last n (behind e n at (SetElement pl g ty index value Done)))
-    counts (Output pl value rest) last n at = quiet_within _ _ _ (code n (Output pl value rest)) (code n (Output pl value Done)) (code n rest) (code n (Output pl value (front e rest))) (code n (front e rest)) (first_output e.parts n pl value rest) (first_output e.parts n pl value (front e rest)) (counts rest last n (behind e n at (Output pl value Done)))
-    counts (Input pl k rest) last n at = quiet_within _ _ _ (code n (Input pl k rest)) (code n (Input pl k Done)) (code n rest) (code n (Input pl k (front e rest))) (code n (front e rest)) (first_input e.parts n pl k rest) (first_input e.parts n pl k (front e rest)) (counts rest last n (behind e n at (Input pl k Done)))
+    counts (SetLocal pl k value rest) last n at =
+        quiet_within _ _ _ (code n (SetLocal pl k value rest)) (code n (SetLocal pl k value Done)) (code n rest)
+        (code n (SetLocal pl k value (front e rest))) (code n (front e rest)) (first_local e.parts n pl k value rest)
+        (first_local e.parts n pl k value (front e rest)) (counts rest last n (behind e n at (SetLocal pl k value Done)))
+    counts (SetScalar pl g ty value rest) last n at =
+        quiet_within _ _ _ (code n (SetScalar pl g ty value rest)) (code n (SetScalar pl g ty value Done)) (code n rest)
+        (code n (SetScalar pl g ty value (front e rest))) (code n (front e rest)) (first_scalar e.parts n pl g ty value rest)
+        (first_scalar e.parts n pl g ty value (front e rest)) (counts rest last n (behind e n at (SetScalar pl g ty value Done)))
+    counts (SetElement pl g ty index value rest) last n at =
+        quiet_within _ _ _ (code n (SetElement pl g ty index value rest)) (code n (SetElement pl g ty index value Done)) (code n rest)
+        (code n (SetElement pl g ty index value (front e rest))) (code n (front e rest)) (first_element e.parts n pl g ty index value rest)
+        (first_element e.parts n pl g ty index value (front e rest)) (counts rest last n (behind e n at (SetElement pl g ty index value Done)))
+    counts (Output pl value rest) last n at =
+        quiet_within _ _ _ (code n (Output pl value rest)) (code n (Output pl value Done)) (code n rest) (code n (Output pl value (front e rest)))
+        (code n (front e rest)) (first_output e.parts n pl value rest) (first_output e.parts n pl value (front e rest))
+        (counts rest last n (behind e n at (Output pl value Done)))
+    counts (Input pl k rest) last n at =
+        quiet_within _ _ _ (code n (Input pl k rest)) (code n (Input pl k Done)) (code n rest) (code n (Input pl k (front e rest)))
+        (code n (front e rest)) (first_input e.parts n pl k rest) (first_input e.parts n pl k (front e rest))
+        (counts rest last n (behind e n at (Input pl k Done)))
     counts (If pl condition taken other rest) last n at =
         let n2 = n + counters_in taken + counters_in other in
         let next = behind e n at (If pl condition taken other Done) in
         let c = counts rest last n2 next in
         let at1 = taken_place at (term_of e 10 condition) in
         let at2 = other_place at (term_of e 10 condition) (code n taken) (code (n + counters_in taken) other) in
-        either_way (has_cut e (If pl condition taken other Done)) n (If pl condition taken other (front e rest)) no_edge (next_edge e last rest) last (code n (If pl condition taken other rest)) (code n (If pl condition taken other Done)) (code n2 rest) (code n2 (front e rest)) _ _
+        either_way (has_cut e (If pl condition taken other Done)) n (If pl condition taken other (front e rest)) no_edge (next_edge e last rest) last
+        (code n (If pl condition taken other rest)) (code n (If pl condition taken other Done)) (code n2 rest) (code n2 (front e rest)) _ _
         (first_if e.parts n pl condition taken other rest) (first_if e.parts n pl condition taken other (front e rest))
         (cut_then _ _ (W last.pieces) (code n (If pl condition taken other rest)) (code n (If pl condition taken other Done)) (code n2 rest) (first_if e.parts n pl condition taken other rest)
-        (if_less n pl condition taken other _ _ (inner_less _ _ (fresh_of at1 no_edge no_edge n at1 taken (counts taken no_edge n at1))) (inner_less _ _ (fresh_of at2 no_edge no_edge (n + counters_in taken) at2 other (counts other no_edge (n + counters_in taken) at2))))
+        (if_less n pl condition taken other _ _ (inner_less _ _ (fresh_of at1 no_edge no_edge n at1 taken (counts taken no_edge n at1)))
+        (inner_less _ _ (fresh_of at2 no_edge no_edge (n + counters_in taken) at2 other (counts other no_edge (n + counters_in taken) at2))))
         (fresh_of next no_edge last n2 next rest c))
         c
     counts (For pl k low closed high step turns body rest) last n at =
@@ -203,10 +231,14 @@ module _ (e : Scene) (calls : ℕ → ℕ) (known : (f : ℕ) → called_least e
         let next = behind e n at (For pl k low closed high step turns body Done) in
         let c = counts rest last n2 next in
         let at1 = body_place at (first_code e k low) (bound_code e k high) in
-        either_way (has_cut e (For pl k low closed high step turns body Done)) n (For pl k low closed high step turns body (front e rest)) no_edge (next_edge e last rest) last (code n (For pl k low closed high step turns body rest)) (code n (For pl k low closed high step turns body Done)) (code n2 rest) (code n2 (front e rest)) _ _
+        either_way (has_cut e (For pl k low closed high step turns body Done)) n (For pl k low closed high step turns body (front e rest)) no_edge
+        (next_edge e last rest) last (code n (For pl k low closed high step turns body rest))
+        (code n (For pl k low closed high step turns body Done)) (code n2 rest) (code n2 (front e rest)) _ _
         (first_for e.parts n pl k low closed high step turns body rest) (first_for e.parts n pl k low closed high step turns body (front e rest))
-        (cut_then _ _ (W last.pieces) (code n (For pl k low closed high step turns body rest)) (code n (For pl k low closed high step turns body Done)) (code n2 rest) (first_for e.parts n pl k low closed high step turns body rest)
-        (subst (λ z. own e (first_code e k low) + z ≤ W (code n (For pl k low closed high step turns body Done))) (sym (turn_total turns (own e (bound_code e k high)) (job_weight e.plant (branch_of (bound_test closed))) _ (own_jump e)))
+        (cut_then _ _ (W last.pieces) (code n (For pl k low closed high step turns body rest))
+        (code n (For pl k low closed high step turns body Done)) (code n2 rest) (first_for e.parts n pl k low closed high step turns body rest)
+        (subst (λ z. own e (first_code e k low) + z ≤ W (code n (For pl k low closed high step turns body Done)))
+        (sym (turn_total turns (own e (bound_code e k high)) (job_weight e.plant (branch_of (bound_test closed))) _ (own_jump e)))
         (for_less n pl k low closed high step turns body _ (inner_less _ _ (fresh_of at1 no_edge no_edge n at1 body (counts body no_edge n at1)))))
         (fresh_of next no_edge last n2 next rest c))
         c
@@ -215,17 +247,21 @@ module _ (e : Scene) (calls : ℕ → ℕ) (known : (f : ℕ) → called_least e
         let next = behind e n at (While pl turns condition body Done) in
         let c = counts rest last n2 next in
         let at1 = body_place at (counter_code n turns) (turn_of e n condition) + 12 in
-        either_way (has_cut e (While pl turns condition body Done)) n (While pl turns condition body (front e rest)) no_edge (next_edge e last rest) last (code n (While pl turns condition body rest)) (code n (While pl turns condition body Done)) (code n2 rest) (code n2 (front e rest)) _ _
+        either_way (has_cut e (While pl turns condition body Done)) n (While pl turns condition body (front e rest)) no_edge (next_edge e last rest)
+        last (code n (While pl turns condition body rest)) (code n (While pl turns condition body Done)) (code n2 rest) (code n2 (front e rest)) _ _
         (first_while e.parts n pl turns condition body rest) (first_while e.parts n pl turns condition body (front e rest))
         (cut_then _ _ (W last.pieces) (code n (While pl turns condition body rest)) (code n (While pl turns condition body Done)) (code n2 rest) (first_while e.parts n pl turns condition body rest)
-        (subst (λ z. own e (counter_code n turns) + z ≤ W (code n (While pl turns condition body Done))) (sym (turn_total turns (own e (turn_of e n condition)) (job_weight e.plant (branch_of (nonzero 10))) _ (own_jump e)))
+        (subst (λ z. own e (counter_code n turns) + z ≤ W (code n (While pl turns condition body Done)))
+        (sym (turn_total turns (own e (turn_of e n condition)) (job_weight e.plant (branch_of (nonzero 10))) _ (own_jump e)))
         (while_less n pl turns condition body _ (inner_less _ _ (fresh_of at1 no_edge no_edge (n + 1) at1 body (counts body no_edge (n + 1) at1)))))
         (fresh_of next no_edge last n2 next rest c))
         c
     counts (Call pl target f arguments rest) last n at =
         let next = behind e n at (Call pl target f arguments Done) in
         let c = counts rest last n next in
-        either_way (has_cut e (Call pl target f arguments Done)) n (Call pl target f arguments (front e rest)) (passing e f arguments) (next_edge e last rest) last (code n (Call pl target f arguments rest)) (code n (Call pl target f arguments Done)) (code n rest) (code n (front e rest)) _ _
+        either_way (has_cut e (Call pl target f arguments Done)) n (Call pl target f arguments (front e rest)) (passing e f arguments)
+        (next_edge e last rest) last (code n (Call pl target f arguments rest)) (code n (Call pl target f arguments Done)) (code n rest)
+        (code n (front e rest)) _ _
         (first_call e.parts n pl target f arguments rest) (first_call e.parts n pl target f arguments (front e rest))
         (call_then n pl target f arguments rest (W last.pieces) _ (fresh_of (landing_place e at f arguments) (landing target) last n next rest c))
         c where

@@ -1,6 +1,7 @@
 -- The facts of a task's functions are scenes of its code.
 use Rattle.std.specs.Prelude.{slice_index_or, slice_get, take, map, unwrap_or, option_map}
-use Rattle.std.proofs.Common.{◌≡◌, ℕ, zero, suc, ◌+◌, ◌<◌, ◌≤◌, refl, ap, ◌∙◌, sym, subst, arith, cond, eq-eqb, true, false, List, [], ◌∷◌, ◌++◌, append_assoc, append-nil, length, length-append, inl, inr, Some}
+use Rattle.std.proofs.Common.{◌≡◌, ℕ, zero, suc, ◌+◌, ◌<◌, ◌≤◌, refl, ap, ◌∙◌, sym, subst, arith, cond, eq-eqb, true, false, List, [], ◌∷◌, ◌++◌, append_assoc, append-nil, length}
+use Rattle.std.proofs.Common.{length-append, inl, inr, Some}
 use Rattle.std.proofs.lemmas.List.{length-take-le}
 use Rattle.std.proofs.lemmas.Option.{slice_get_within}
 use Rattle.prem_plant.specs.declared.plant.Plant.{Plant}
@@ -133,7 +134,10 @@ module _ (p : Plant) (plans : List Plan) (program : Resolved) (t : TaskPlaces) w
         callee_code = λ g among x h. subst (λ (y : Fact). Rattle.prem_wcet_laws.specs.ScopeLaws.HasExtent x y.code) (sym same)
             (inr (has_flat (λ f'. (fact_of (scene f) f').code) g (callees_in r.body) x among (subst (λ (y : Fact). Rattle.prem_wcet_laws.specs.ScopeLaws.HasExtent x y.code) (callee g among) h)));
         callee_touched = λ g among x h. subst (λ (y : Fact). Rattle.prem_wcet_laws.specs.ScopeLaws.HasExtent x y.touched) (sym same)
-            (has_right x (scene f).stack _ (has_right x (map base.global (globals_of r)) _ (has_flat (λ f'. (fact_of (scene f) f').touched) g (callees_in r.body) x among (subst (λ (y : Fact). Rattle.prem_wcet_laws.specs.ScopeLaws.HasExtent x y.touched) (callee g among) h))));
+            (has_right x (scene f).stack _
+            (has_right x (map base.global (globals_of r)) _
+            (has_flat (λ f'. (fact_of (scene f) f').touched) g (callees_in r.body) x among
+            (subst (λ (y : Fact). Rattle.prem_wcet_laws.specs.ScopeLaws.HasExtent x y.touched) (callee g among) h))));
       }
 
   stack_below : (n : ℕ) → n < program.job → n ≤ length program.routines → (scene n).stack ≡ below_range program t ∷ []
@@ -172,13 +176,16 @@ scenes_stand p plans program t s gs parts cs phase c total h = record {
   below = λ n f a le lt callable held.
       let x = some_at program.routines f (omega (arith, lt, le, h.some, h.count)) in
       subst (λ (y : Fact). is_held y.touched a ≡ true) (sym (fact_is p plans program t n f x.0 lt x.1))
-      (held_left (scene_in p plans program t f).stack _ a (subst (λ ranges. is_held ranges a ≡ true) (sym (stack_below p plans program t f (omega (arith, lt, le, h.before_job)) (omega (arith, lt, le, h.some, h.count)))) held));
+      (held_left (scene_in p plans program t f).stack _ a
+      (subst (λ ranges. is_held ranges a ≡ true)
+      (sym (stack_below p plans program t f (omega (arith, lt, le, h.before_job)) (omega (arith, lt, le, h.some, h.count)))) held));
 }
 
 -- ---- a job without marked calls
 
 pub quiet_jobs_divide : QuietJobsDivide
-quiet_jobs_divide p plans program t s gs parts cs phase c h limits calls same f is k ground stack depth under fit slots_is space words st u back word after len args b two top_small one al small means =
+quiet_jobs_divide p plans program t s gs parts cs phase c h limits calls same f is k ground stack depth under fit slots_is space words st u back word
+    after len args b two top_small one al small means =
     let job = program.job in
     let scenes = scenes_stand p plans program t s gs parts cs phase c job h in
     let least_job : job ≤ job = omega arith in
@@ -191,9 +198,11 @@ quiet_jobs_divide p plans program t s gs parts cs phase c h limits calls same f 
     let place : (place_at t (code_part job)).0 ≡ at = h.places_are (code_part job) ∙ ap s.places (sym (h.code_parts job)) in
     let none : 0 + job ≡ job = omega arith in
     let fact : fact_of (known_scene p plans program t) job ≡ fact_at (scene_in p plans program t job) f (place_at t (code_part job)).0 =
-    subst (λ n. IsFact (scene_of p plans program t) (stack_of program t) (facts_in p plans program t) n f) none (each_fact (scene_of p plans program t) (stack_of program t) program.routines [] job f is) in
+    subst (λ n. IsFact (scene_of p plans program t) (stack_of program t) (facts_in p plans program t) n f) none
+    (each_fact (scene_of p plans program t) (stack_of program t) program.routines [] job f is) in
     let least_is : (fact_of (known_scene p plans program t) job).least ≡ least_function (scene_in p plans program t job) f at =
     ap (λ (y : Fact). y.least) fact ∙ ap (λ at. least_function (scene_in p plans program t job) f at) place in
     subst (λ n. RunDivides p n (run s calls at (function_code (parts_of p.target program.routines) f) u)) (sym least_is)
-    (functions_divide (scene_in p plans program t job) s gs parts cs phase c program.routines job (scenes.stands job least_job) everywhere limits calls k works f at depth under fit (h.before job f is) slots_is space
+    (functions_divide (scene_in p plans program t job) s gs parts cs phase c program.routines job (scenes.stands job least_job)
+    everywhere limits calls k works f at depth under fit (h.before job f is) slots_is space
     words st u back word after len args b two top_small one al small means)

@@ -1,7 +1,8 @@
 -- The start of a job without marked calls is one scope with its call and the job's end.
 use Rattle.std.specs.Prelude.{slice_get, slice_index_or}
 use Rattle.std.specs.List.{list_all, flat_map}
-use Rattle.std.proofs.Common.{◌≡◌, ℕ, zero, suc, ◌+◌, ◌*◌, ◌<◌, ◌≤◌, ◌/◌, refl, ap, ◌∙◌, sym, subst, arith, cond, eqb, eq-eqb, ltb, lt-ltb, List, [], ◌∷◌, ◌++◌, append_assoc, append-nil, length, take, map, Some, None, inl, true}
+use Rattle.std.proofs.Common.{◌≡◌, ℕ, zero, suc, ◌+◌, ◌*◌, ◌<◌, ◌≤◌, ◌/◌, refl, ap, ◌∙◌, sym, subst, arith, cond, eqb, eq-eqb, ltb, lt-ltb, List, [], ◌∷◌, ◌++◌, append_assoc}
+use Rattle.std.proofs.Common.{append-nil, length, take, map, Some, None, inl, true}
 use Rattle.std.proofs.lemmas.List.{length-append}
 use Rattle.std.proofs.lemmas.Option.{slice_get_within}
 use Rattle.prem_plant.specs.declared.plant.Plant.{Plant}
@@ -23,7 +24,8 @@ use Rattle.prem_layout.specs.Parts.{code_part, start_part}
 use Rattle.prem_layout.specs.Footprint.{TaskPlaces, place_at, lines_of}
 use Rattle.prem_layout.specs.Bounds.{line_cost, part_weight, weight_at, start_code}
 use Rattle.prem_wcet_laws.specs.Weights.{PlaceWeight, weighted_from, jump_from}
-use Rattle.prem_wcet_laws.specs.Scopes.{Fact, no_fact, Scene, fact_of, extent_of, code_ranges, data_ranges, data_lines, lines_in, charge, scope_weight, is_roomy, roomy_lines, path_weight, places_behind, function_span}
+use Rattle.prem_wcet_laws.specs.Scopes.{Fact, no_fact, Scene, fact_of, extent_of, code_ranges, data_ranges, data_lines, lines_in, charge, scope_weight, is_roomy, roomy_lines}
+use Rattle.prem_wcet_laws.specs.Scopes.{path_weight, places_behind, function_span}
 use Rattle.prem_wcet_laws.specs.Divided.{KeepsTo, StaysOn, Weighs, weight_of, step_charge, scope_charge, lines_of_step}
 use Rattle.prem_wcet_laws.specs.Keeping.{is_held, AccessIn, IsIn}
 use Rattle.prem_wcet_laws.specs.Wcet.{frame_range, below_range, stack_of, known_scene, scene_of, fact_at, start_span}
@@ -54,7 +56,8 @@ module _ (w : PlaceWeight) (functions : ℕ) (places : ℕ → ℕ) where
   at_seam (k ∷ ks) x more = at_seam ks x more
 
   weights_at : (fs : List Fact) (known : List ℕ) (j : ℕ) → j < length fs →
-      weight_at (places_behind w functions places known fs) (length known + j) ≡ weigh (places_behind w functions places known (take j fs)) (places (code_part (length known + j))) (slice_index_or fs j no_fact)
+      weight_at (places_behind w functions places known fs) (length known + j)
+      ≡ weigh (places_behind w functions places known (take j fs)) (places (code_part (length known + j))) (slice_index_or fs j no_fact)
   weights_at [] known j lt = absurd (omega (arith, lt))
   weights_at (f ∷ fs) known zero lt =
       let x = weigh known (places (code_part (length known))) f in
@@ -63,7 +66,8 @@ module _ (w : PlaceWeight) (functions : ℕ) (places : ℕ → ℕ) where
       subst (λ n. weight_at (places_behind w functions places known (f ∷ fs)) n ≡ weigh known (places (code_part n)) f) none (ap (λ ks. weight_at ks (length known)) h.1 ∙ at_seam known x h.0)
   weights_at (f ∷ fs) known (suc j) lt =
       let x = weigh known (places (code_part (length known))) f in
-      subst (λ n. weight_at (places_behind w functions places known (f ∷ fs)) n ≡ weigh (places_behind w functions places known (take (suc j) (f ∷ fs))) (places (code_part n)) (slice_index_or fs j no_fact))
+      subst (λ n. weight_at (places_behind w functions places known (f ∷ fs)) n
+      ≡ weigh (places_behind w functions places known (take (suc j) (f ∷ fs))) (places (code_part n)) (slice_index_or fs j no_fact))
       (longer (length known) (length (known ++ x ∷ [])) j (length-append known (x ∷ []))) (weights_at fs (known ++ x ∷ []) j (omega (arith, lt))) where
         longer : (a b j : ℕ) → b ≡ a + 1 → b + j ≡ a + suc j
         longer a b j e = omega (arith, e)
@@ -79,14 +83,16 @@ total_end f [] d = omega arith
 total_end f (x ∷ xs) d = omega (arith, total_end f xs d)
 
 -- steps in ranges are in more of them
-grow : (code more : List Extent) (ranges wide : List Extent) → ((a : ℕ) → is_held code a ≡ true → is_held more a ≡ true) → ((a : ℕ) → is_held ranges a ≡ true → is_held wide a ≡ true) → (d : Did) → IsIn code ranges d → IsIn more wide d
+grow : (code more : List Extent) (ranges wide : List Extent) → ((a : ℕ) → is_held code a ≡ true → is_held more a ≡ true) →
+    ((a : ℕ) → is_held ranges a ≡ true → is_held wide a ≡ true) → (d : Did) → IsIn code ranges d → IsIn more wide d
 grow code more ranges wide h k d x = record { fetched = h d.pc x.fetched; accessed = by d.access x.accessed; accesses = x.accesses; stays = x.stays } where
   by : (a : _) → AccessIn ranges a → AccessIn wide a
   by None z = tt
   by (Some a) z = k a.address z
 
 pub quiet_starts_are_scopes : QuietStartsAreScopes
-quiet_starts_are_scopes p plans program t s gs parts cs phase c h limits calls same f is k ground stack depth under fit slots_is space words st u back word after len args b two top_small one al small means =
+quiet_starts_are_scopes p plans program t s gs parts cs phase c h limits calls same f is k ground stack depth under fit slots_is space words st u back
+    word after len args b two top_small one al small means =
     let job = program.job in
     let scenes = scenes_stand p plans program t s gs parts cs phase c job h in
     let least_job : job ≤ job = omega arith in
@@ -101,8 +107,10 @@ quiet_starts_are_scopes p plans program t s gs parts cs phase c h limits calls s
     let place : (place_at t (code_part job)).0 ≡ at = h.places_are (code_part job) ∙ ap s.places (sym (h.code_parts job)) in
     let none : 0 + job ≡ job = omega arith in
     let fact : fact_of big job ≡ fact_at e f at =
-    subst (λ n. IsFact (scene_of p plans program t) (stack_of program t) (facts_in p plans program t) n f) none (each_fact (scene_of p plans program t) (stack_of program t) program.routines [] job f is) ∙ ap (fact_at e f) place in
-    let d = kept_here e s gs parts cs phase c program.routines job (scenes.stands job least_job) everywhere limits calls k works f at depth under fit (h.before job f is) slots_is space words st u back word after len args b two top_small one al small means in
+    subst (λ n. IsFact (scene_of p plans program t) (stack_of program t) (facts_in p plans program t) n f) none
+    (each_fact (scene_of p plans program t) (stack_of program t) program.routines [] job f is) ∙ ap (fact_at e f) place in
+    let d = kept_here e s gs parts cs phase c program.routines job (scenes.stands job least_job) everywhere limits calls k works f at depth under fit
+    (h.before job f is) slots_is space words st u back word after len args b two top_small one al small means in
     let start = (place_at t start_part).0 in
     let span = start_span program in
     let code = code_ranges big start span in
@@ -114,9 +122,17 @@ quiet_starts_are_scopes p plans program t s gs parts cs phase c h limits calls s
     let steps_in : AllSteps (IsIn code ranges) d.trace =
     all_kept (IsIn (code_ranges e at (function_span e f)) (data_ranges e (function_span e f))) (IsIn code ranges)
     (λ x z. grow (code_ranges e at (function_span e f)) code (data_ranges e (function_span e f)) ranges
-    (λ a held. held_right (extent_of start (start_code job) ∷ []) (flat_map (λ g. (fact_of big g).code) (job ∷ [])) a (held_left (fact_of big job).code [] a (subst (λ (y : Fact). is_held y.code a ≡ true) (sym fact) held)))
+    (λ a held. held_right (extent_of start (start_code job) ∷ []) (flat_map (λ g. (fact_of big g).code) (job ∷ [])) a
+    (held_left (fact_of big job).code [] a (subst (λ (y : Fact). is_held y.code a ≡ true) (sym fact) held)))
     (λ a held. held_left (fact_of big job).touched [] a (subst (λ (y : Fact). is_held y.touched a ≡ true) (sym fact) held)) x z) d.trace d.steps_in in
-    let jump_in : IsIn code ranges jump = record { fetched = held_by (extent_of start (start_code job)) code start (inl refl) (omega arith) (omega arith); accessed = tt; accesses = refl; stays = refl } in
+    let jump_in : IsIn code ranges jump =
+    record {
+      fetched = held_by (extent_of start (start_code job)) code start (inl refl) (omega arith) (omega arith);
+      accessed = tt;
+      accesses =
+          refl;
+      stays = refl;
+    } in
     let done_in : is_held code (start + 4) ≡ true = held_by (extent_of start (start_code job)) code (start + 4) (inl refl) (omega arith) (omega arith) in
     let done_kept : KeepsTo p.line lines (done_step (start + 4)) = (held_line p.line (start + 4) (code ++ ranges) h.line (held_left code ranges (start + 4) done_in), tt) in
     let few : job < length big.facts = let n = facts_length p plans program t in omega (arith, n, within) in
@@ -134,7 +150,11 @@ quiet_starts_are_scopes p plans program t s gs parts cs phase c h limits calls s
     let jump_less : step_charge p lines jump ≤ jump_from w start = omega arith in
     let done_less : step_charge p lines (done_step (start + 4)) ≤ w (start + 4) PmDone = omega arith in
     subst (RunStarts p lines (charge big start span) start at) (sym d.goes) (
-      (line_kept p.line code ranges jump h.line jump_in, all_end (KeepsTo p.line lines) d.trace (done_step (start + 4)) (all_kept (IsIn code ranges) (KeepsTo p.line lines) (λ x z. line_kept p.line code ranges x h.line z) d.trace steps_in) done_kept),
+      (
+        line_kept p.line code ranges jump h.line jump_in,
+        all_end (KeepsTo p.line lines) d.trace (done_step (start + 4))
+            (all_kept (IsIn code ranges) (KeepsTo p.line lines) (λ x z. line_kept p.line code ranges x h.line z) d.trace steps_in) done_kept,
+      ),
       (
         all_kept (IsIn code ranges) StaysOn (λ x z. z.stays) d.trace steps_in,
         sum (length (roomy_lines p lines) * line_cost p) _ _ _ _ _ _ _ _ _ (total_end (step_charge p lines) d.trace (done_step (start + 4))) trace_less call_less part_is jump_less done_less,

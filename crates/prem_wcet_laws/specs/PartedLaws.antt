@@ -26,13 +26,15 @@ use Rattle.prem_wcet_laws.specs.ScopeLaws.{Stands}
 use Rattle.prem_wcet_laws.specs.LeastLaws.{Works}
 
 -- calls from a frame run in scopes and marked calls that are charged at most so much
-pub record CallCourses (p : Plant) (Marked : List Did → ℕ → Type 0) (most : Count) (s : Setting) (gs : Globals) (k : Stack) (phase : Phase) (o : TaskState → Ending) (link frame depth params : ℕ) (call : List ℕ → ProgramState → Outcome (ℕ × ProgramState)) : Type 0 where
+pub record CallCourses (p : Plant) (Marked : List Did → ℕ → Type 0) (most : Count) (s : Setting) (gs : Globals) (k : Stack) (phase : Phase)
+    (o : TaskState → Ending) (link frame depth params : ℕ) (call : List ℕ → ProgramState → Outcome (ℕ × ProgramState)) : Type 0 where
   pub courses : (count : ℕ) (st : ProgramState) (words : List ℕ) (t : TaskState) (back word : ℕ) (after : ProgramState) →
       Matches s gs k phase count st t → t.registers link ≡ back → back % 4 ≡ 0 → back < 2 ^ 32 → k.low + depth ≤ k.sp → length words ≡ params → ArgumentsStand t.view (k.sp - frame) words →
       call words st ≡ Ok (word, after) → RunCourses p Marked most (o t)
 
 -- a frame that works, from which functions are called in which marked calls are, too
-pub record Mixes (e : Scene) (s : Setting) (gs : Globals) (parts : Parts) (cs every : Callees) (phase : Phase) (c : Codes) (routines : List Routine) (total : ℕ) (may : Access) (limits : Limits) (calls : Calls) (k : Stack) (Marked : List Did → ℕ → Type 0) : Type 0 where
+pub record Mixes (e : Scene) (s : Setting) (gs : Globals) (parts : Parts) (cs every : Callees) (phase : Phase) (c : Codes) (routines : List Routine)
+    (total : ℕ) (may : Access) (limits : Limits) (calls : Calls) (k : Stack) (Marked : List Did → ℕ → Type 0) : Type 0 where
   pub works : Works e s gs parts cs phase c routines total may limits calls k
   pub callees : CalleesAt s gs may k calls parts every phase (calls_below limits routines total)
   pub quiet : (f : ℕ) → every.callable f ≡ true → cuts e f ≡ false → (f < total) × (cs.callable f ≡ true)
@@ -41,7 +43,8 @@ pub record Mixes (e : Scene) (s : Setting) (gs : Globals) (parts : Parts) (cs ev
   pub returns : (f : ℕ) → every.returns f ≡ cs.returns f
   pub bottom : bottom_of e.stack ≡ k.sp
   pub courses : (f : ℕ) → every.callable f ≡ true → cuts e f ≡ true →
-      CallCourses e.plant Marked (called_parted e f) s gs k phase (calls (parts.callee f)) (parts.link f) (parts.frame f) (every.depth f) (every.params f) (λ words st. calls_below limits routines total may f words st)
+      CallCourses e.plant Marked (called_parted e f) s gs k phase (calls (parts.callee f)) (parts.link f) (parts.frame f) (every.depth f)
+      (every.params f) (λ words st. calls_below limits routines total may f words st)
 
 -- a marked call's steps and its weight, as they are told
 abbrev pub is_marked : (List Did → ℕ → Bool) → List Did → ℕ → Type 0

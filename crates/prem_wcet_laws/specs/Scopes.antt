@@ -5,7 +5,8 @@ use Rattle.prem_plant.specs.declared.plant.Plant.{Plant}
 use Rattle.prem_plant.specs.Places.{Extent}
 use Rattle.prem_isa.specs.declared.instr.Instr.TheVariants.{Load, Store}
 use Rattle.prem_isa.specs.Decode.{cost_of}
-use Rattle.prem_syntax.specs.Resolved.{Term, Constant, Local, Scalar, Element, Unary, Binary, AndAlso, OrElse, Steps, Done, SetLocal, SetScalar, SetElement, Output, Input, If, For, While, Call, Routine}
+use Rattle.prem_syntax.specs.Resolved.{Term, Constant, Local, Scalar, Element, Unary, Binary, AndAlso, OrElse, Steps, Done, SetLocal, SetScalar, SetElement, Output, Input, If, For}
+use Rattle.prem_syntax.specs.Resolved.{While, Call, Routine}
 use Rattle.prem_syntax.specs.Reach.{callees_in}
 use Rattle.prem_asm.specs.Pieces.{Pieces, no_pieces, size_of}
 use Rattle.prem_layout.specs.Template.Steps.{Parts, steps_code, function_code}

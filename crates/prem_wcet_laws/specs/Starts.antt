@@ -43,9 +43,11 @@ RunStarts p lines most start job Stuck = Unit {0}
 -- where `job` calls functions without a mark alone
 abbrev pub QuietStartsAreScopes : Type 0
 QuietStartsAreScopes =
-    (p : Plant) (plans : List Plan) (program : Resolved) (t : TaskPlaces) (s : Setting) (gs : Globals) (parts : Parts) (cs : Callees) (phase : Phase) (c : Codes) → TaskStands p program t s gs parts cs phase c program.job →
+    (p : Plant) (plans : List Plan) (program : Resolved) (t : TaskPlaces) (s : Setting) (gs : Globals) (parts : Parts) (cs : Callees) (phase : Phase)
+    (c : Codes) → TaskStands p program t s gs parts cs phase c program.job →
     (limits : Limits) (calls : Calls) → ((part : ℕ) (u : TaskState) → Same (code_calls s c program.job part u) (calls part u)) → (f : Routine) → slice_get program.routines program.job ≡ Some f →
-    (k : Stack) → Ground s gs everywhere k → FrameStands program t k → (depth under : ℕ) → FunctionFits gs parts cs phase (s.places (c.code_part program.job)) depth under f → k.slots ≡ slots_of f → k.low + under ≤ k.sp →
+    (k : Stack) → Ground s gs everywhere k → FrameStands program t k → (depth under : ℕ) →
+    FunctionFits gs parts cs phase (s.places (c.code_part program.job)) depth under f → k.slots ≡ slots_of f → k.low + under ≤ k.sp →
     (words : List ℕ) (st : ProgramState) (u : TaskState) (back word : ℕ) (after : ProgramState) → length words ≡ length f.text.params → ArgumentsStand u.view k.sp words →
     Between s gs phase st u → u.registers 2 ≡ k.sp + frame_of f → k.sp + frame_of f < 2 ^ 32 → u.registers 1 ≡ back → back % 4 ≡ 0 → back < 2 ^ 32 →
     performed (calls_below limits program.routines program.job) everywhere f words st ≡ Ok (word, after) →

@@ -8,7 +8,9 @@ use Rattle.prem_word.specs.declared.kind.Kind.{Kind}
 use Rattle.prem_word.specs.declared.kind.Kind.TheVariants.{Int, Unsigned}
 use Rattle.prem_word.specs.declared.kind.BinOp.{BinOp}
 use Rattle.prem_word.specs.declared.kind.BinOp.TheVariants.{Add, Sub, Mul, Div, Rem, Shl, Shr, Lt, Le, Gt, Ge, Eq, Ne, And, Xor, Or, AndAlso, OrElse}
-use Rattle.prem_word.specs.Ranges.{Span, from_to, IsRange, holds, encloses, whole, within, corners, truths, converted, join, quotient_in, magnitude, least_remainder, greatest_remainder, remainder_in, is_natural, and_in, bit_length, or_in, count_of, shifted_left_by, shifted_left_in, shifted_right_by, shifted_right_in, range_of_op, range_negate, range_flip}
+use Rattle.prem_word.specs.Ranges.{Span, from_to, IsRange, holds, encloses, whole, within, corners, truths, converted, join, quotient_in, magnitude, least_remainder}
+use Rattle.prem_word.specs.Ranges.{greatest_remainder, remainder_in, is_natural, and_in, bit_length, or_in, count_of, shifted_left_by, shifted_left_in, shifted_right_by}
+use Rattle.prem_word.specs.Ranges.{shifted_right_in, range_of_op, range_negate, range_flip}
 use Rattle.prem_word.specs.Words.{result_kind}
 use Rattle.prem_word.proofs.Monotone.{times_up, shr_up}
 use Rattle.prem_word.proofs.Corners.{≤ℤ_trans, around_ordered}
@@ -25,7 +27,8 @@ truths_kept Unsigned = record { ordered = omega (arith, ints); least = omega (ar
 pub within_kept : (k : Kind) (r : Span) → r.lo ≤ℤ r.hi → IsRange k (within k r)
 within_kept k r ordered = by (encloses (whole k) r) refl where
   by : (t : Bool) → encloses (whole k) r ≡ t → IsRange k (if t then r else whole k)
-  by true e = let parts = and_parts (int_le (whole k).lo r.lo) (int_le r.hi (whole k).hi) e in record { ordered = ordered; least = omega (arith, ints, parts.0); greatest = omega (arith, ints, parts.1) }
+  by true e = let parts = and_parts (int_le (whole k).lo r.lo) (int_le r.hi (whole k).hi) e in
+      record { ordered = ordered; least = omega (arith, ints, parts.0); greatest = omega (arith, ints, parts.1) }
   by false e = whole_kept k
 
 corners_kept : (k : Kind) (f : ℤ → ℤ → ℤ) (a b : Span) → IsRange k (within k (corners f a b))
@@ -85,7 +88,8 @@ up_to_greatest k r is e = naturals_kept k r.hi (let o = is.ordered in omega (ari
 
 and_kept : (k : Kind) (a b : Span) → IsRange k a → IsRange k b → IsRange k (and_in k a b)
 and_kept k a b is_a is_b = by (is_natural a) (is_natural b) refl refl where
-  by : (s t : Bool) → is_natural a ≡ s → is_natural b ≡ t → IsRange k (if s && t then from_to (pos 0) (int_min a.hi b.hi) else if s then from_to (pos 0) a.hi else if t then from_to (pos 0) b.hi else whole k)
+  by : (s t : Bool) → is_natural a ≡ s → is_natural b ≡ t →
+      IsRange k (if s && t then from_to (pos 0) (int_min a.hi b.hi) else if s then from_to (pos 0) a.hi else if t then from_to (pos 0) b.hi else whole k)
   by true true d e =
       let o = is_a.ordered in
       let p = is_b.ordered in
@@ -178,7 +182,8 @@ of_a_kind Unsigned r is = (let l = is.least in omega (arith, ints), is.greatest)
 
 pub converted_kept : (j k : Kind) (r : Span) → IsRange j r → IsRange k (converted k r)
 converted_kept j Int r is = by (int_lt r.hi (pos 2147483648)) (int_le (pos 2147483648) r.lo) refl refl where
-  by : (s t : Bool) → int_lt r.hi (pos 2147483648) ≡ s → int_le (pos 2147483648) r.lo ≡ t → IsRange Int (if s then r else if t then from_to (r.lo -ℤ pos 4294967296) (r.hi -ℤ pos 4294967296) else whole Int)
+  by : (s t : Bool) → int_lt r.hi (pos 2147483648) ≡ s → int_le (pos 2147483648) r.lo ≡ t →
+      IsRange Int (if s then r else if t then from_to (r.lo -ℤ pos 4294967296) (r.hi -ℤ pos 4294967296) else whole Int)
   by true t d e = record { ordered = is.ordered; least = (of_a_kind j r is).0; greatest = omega (arith, ints, d) }
   by false true d e =
       let o = is.ordered in

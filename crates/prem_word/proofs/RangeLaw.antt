@@ -29,7 +29,8 @@ truth_holds Unsigned false = record { low = omega (arith, ints); high = omega (a
 not_zero : (k : Kind) (w : ℕ) → w < 2 ^ 32 → 0 < w → value_in k w ≡ pos 0 → ⊥
 not_zero k w small some e = let is = natural_value k w small (omega (arith, ints, e)) in omega (arith, ints, e, is)
 
-pub range_holds : (op : BinOp) (k : Kind) (a b : Span) (v w : ℕ) → v < 2 ^ 32 → w < 2 ^ 32 → LiesIn a (value_in k v) → LiesIn b (value_in k w) → CanApply op w → LiesIn (range_of_op op k a b) (value_in (result_kind op k) (apply_op op k v w))
+pub range_holds : (op : BinOp) (k : Kind) (a b : Span) (v w : ℕ) → v < 2 ^ 32 → w < 2 ^ 32 → LiesIn a (value_in k v) → LiesIn b (value_in k w) →
+    CanApply op w → LiesIn (range_of_op op k a b) (value_in (result_kind op k) (apply_op op k v w))
 range_holds Add k a b v w small_v small_w in_a in_b can = sum_holds k a b (value_in k v) (value_in k w) in_a in_b
 range_holds Sub k a b v w small_v small_w in_a in_b can = difference_holds k a b (value_in k v) (value_in k w) in_a in_b
 range_holds Mul k a b v w small_v small_w in_a in_b can = product_holds k a b (value_in k v) (value_in k w) in_a in_b
@@ -90,7 +91,8 @@ converted_holds j Int r w small h = by (int_lt r.hi (pos 2147483648)) (int_le (p
   less Int e g = absurd (let low = g.low in let inside = word_in_whole Int w small in let top = inside.high in omega (arith, ints, e))
   less Unsigned e g = let low = g.low in let top = g.high in rw (int_value w small (omega (arith, ints, e))) (record { low = omega (arith, ints); high = omega (arith, ints) })
 
-  by : (s t : Bool) → int_lt r.hi (pos 2147483648) ≡ s → int_le (pos 2147483648) r.lo ≡ t → LiesIn (if s then r else if t then from_to (r.lo -ℤ pos 4294967296) (r.hi -ℤ pos 4294967296) else whole Int) (value_in Int w)
+  by : (s t : Bool) → int_lt r.hi (pos 2147483648) ≡ s → int_le (pos 2147483648) r.lo ≡ t →
+      LiesIn (if s then r else if t then from_to (r.lo -ℤ pos 4294967296) (r.hi -ℤ pos 4294967296) else whole Int) (value_in Int w)
   by true t d e = same j d h
   by false true d e = less j e h
   by false false d e = word_in_whole Int w small
@@ -170,7 +172,10 @@ meet_is a b = by (int_le (int_max a.lo b.lo) (int_min a.hi b.hi)) refl where
 
   by : (t : Bool) → int_le (int_max a.lo b.lo) (int_min a.hi b.hi) ≡ t → IsMeet a b (if t then Some both else None)
   by true e = λ z. (
-    λ h. let low = h.low in let top = h.high in (record { low = omega (arith, ints, clamps); high = omega (arith, ints, clamps) }, record { low = omega (arith, ints, clamps); high = omega (arith, ints, clamps) }),
+    λ h. let low = h.low in let top = h.high in (
+      record { low = omega (arith, ints, clamps); high = omega (arith, ints, clamps) },
+      record { low = omega (arith, ints, clamps); high = omega (arith, ints, clamps) },
+    ),
     λ h. let l = h.0.low in let t = h.0.high in let m = h.1.low in let u = h.1.high in record { low = omega (arith, ints, clamps); high = omega (arith, ints, clamps) },
   )
   by false e = λ z h g. let l = h.low in let t = h.high in let m = g.low in let u = g.high in omega (arith, ints, clamps, e)

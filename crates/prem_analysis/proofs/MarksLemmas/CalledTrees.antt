@@ -7,7 +7,8 @@ use Rattle.prem_syntax.specs.Resolved.{Steps, Done}
 use Rattle.prem_syntax.specs.Reach.{callees_in, callee_table}
 use Rattle.prem_tree.specs.declared.resolve.resolved.Step.{Step, Block, Row_of-Step, end_of-Step, more_of-Step, items-the_row-Step, items_hidden-the_row-Step-0}
 use Rattle.prem_tree.specs.declared.resolve.resolved.Step.TheBlock.{hidden-the_row-Step-0}
-use Rattle.prem_tree.specs.declared.resolve.resolved.Step.TheVariants.{Block', SetLocal as SetLocalTree, SetScalar as SetScalarTree, SetElement as SetElementTree, Output as OutputTree, Input as InputTree, If', For', While', Call as CallTree}
+use Rattle.prem_tree.specs.declared.resolve.resolved.Step.TheVariants.{Block', SetLocal as SetLocalTree, SetScalar as SetScalarTree, SetElement as SetElementTree}
+use Rattle.prem_tree.specs.declared.resolve.resolved.Step.TheVariants.{Output as OutputTree, Input as InputTree, If', For', While', Call as CallTree}
 use Rattle.prem_tree.specs.declared.resolve.resolved.Routine.{Routine as RoutineTree}
 use Rattle.prem_tree.specs.Resolve.ResolvedOf.{loops_of, step_before, row_before, routines_of}
 use Rattle.prem_analysis.specs.Marks.Called.{called, row_called, list_called}
@@ -35,7 +36,8 @@ mutual
   calls-row : {m : _} (t : ℕ → ℕ) (n : ℕ) (row : Row_of-Step m) (rest : Steps) → callees_in (row_before t n row rest) ≡ row_called row ++ callees_in rest
   calls-row t n end_of-Step rest = refl
   calls-row t n (more_of-Step first others) rest =
-      calls-before t n first (row_before t (n + loops_of first) others rest) ∙ ap (λ l. called first ++ l) (calls-row t (n + loops_of first) others rest) ∙ sym (append_assoc (called first) (row_called others) (callees_in rest))
+      calls-before t n first (row_before t (n + loops_of first) others rest)
+      ∙ ap (λ l. called first ++ l) (calls-row t (n + loops_of first) others rest) ∙ sym (append_assoc (called first) (row_called others) (callees_in rest))
 
 row_listed : {m : _} (row : Row_of-Step m) → row_called row ≡ list_called (items-the_row-Step m row)
 row_listed end_of-Step = refl
@@ -48,4 +50,5 @@ block_called body = row_listed (hidden-the_row-Step-0 body.all) ∙ ap list_call
 pub tables_same : (t : ℕ → ℕ) (n : ℕ) (rs : List RoutineTree) → map (λ (f : RoutineTree). called f.body) rs ≡ callee_table (routines_of t n rs)
 tables_same t n [] = refl
 tables_same t n (r ∷ rs) =
-    ap (λ cs. cs ∷ map (λ (f : RoutineTree). called f.body) rs) (sym (alone t n r.body (calls-before t n r.body Done))) ∙ ap (λ css. callees_in (step_before t n r.body Done) ∷ css) (tables_same t (n + loops_of r.body) rs)
+    ap (λ cs. cs ∷ map (λ (f : RoutineTree). called f.body) rs) (sym (alone t n r.body (calls-before t n r.body Done)))
+    ∙ ap (λ css. callees_in (step_before t n r.body Done) ∷ css) (tables_same t (n + loops_of r.body) rs)

@@ -1,7 +1,8 @@
 -- The marked functions in memory are those that watch over each function.
 use Rattle.std.specs.Borrow.{Bor}
 use Rattle.std.specs.Option.{option_map}
-use Rattle.std.proofs.Common.{◌≡◌, ℕ, zero, suc, ◌+◌, ◌<◌, ◌≤◌, Bool, true, false, cond, List, [], ◌∷◌, ◌++◌, length, map, drop, get_or, refl, ap, sym, ◌∙◌, arith, Option, Some, None, Result, Ok, Err, IfOk}
+use Rattle.std.proofs.Common.{◌≡◌, ℕ, zero, suc, ◌+◌, ◌<◌, ◌≤◌, Bool, true, false, cond, List, [], ◌∷◌, ◌++◌, length, map, drop, get_or, refl, ap, sym, ◌∙◌, arith, Option, Some}
+use Rattle.std.proofs.Common.{None, Result, Ok, Err, IfOk}
 use Rattle.std.proofs.lemmas.List.{append_assoc}
 use Rattle.prem_list.specs.Sequence.{items_of}
 use Rattle.prem_syntax.specs.declared.tree.Global.{Global}
@@ -38,12 +39,14 @@ watches_stand gs fs f n [] = refl
 watches_stand gs fs f n (m ∷ rest) = by m.text.mark (watches_stand gs fs f (n + 1) rest)
   where
     here : (mark : MarkText) (b : Bool) → watching f (entries_from gs (callee_table fs) (n + 1) rest) ≡ watches_from gs fs f (n + 1) rest →
-        cond b ((entry gs (callee_table fs) n mark).watch ∷ watching f (entries_from gs (callee_table fs) (n + 1) rest)) (watching f (entries_from gs (callee_table fs) (n + 1) rest)) ≡ watch_if b gs n (Some mark) ++ watches_from gs fs f (n + 1) rest
+        cond b ((entry gs (callee_table fs) n mark).watch ∷ watching f (entries_from gs (callee_table fs) (n + 1) rest))
+        (watching f (entries_from gs (callee_table fs) (n + 1) rest)) ≡ watch_if b gs n (Some mark) ++ watches_from gs fs f (n + 1) rest
     here mark true more = ap (λ ws. (entry gs (callee_table fs) n mark).watch ∷ ws) more
     here mark false more = more
 
     by : (mark : Option MarkText) → watching f (entries_from gs (callee_table fs) (n + 1) rest) ≡ watches_from gs fs f (n + 1) rest →
-        watching f (entry_if gs (callee_table fs) n mark ++ entries_from gs (callee_table fs) (n + 1) rest) ≡ watch_if (is_in (reach_set (callee_table fs) n) f) gs n mark ++ watches_from gs fs f (n + 1) rest
+        watching f (entry_if gs (callee_table fs) n mark ++ entries_from gs (callee_table fs) (n + 1) rest)
+        ≡ watch_if (is_in (reach_set (callee_table fs) n) f) gs n mark ++ watches_from gs fs f (n + 1) rest
     by None more = more
     by (Some mark) more = here mark (is_in (reach_set (callee_table fs) n) f) more
 
@@ -52,7 +55,9 @@ are_watched : (r : ResolvedTree) (ms : List Marked) (table : List (List ℕ)) �
 are_watched r ms table are is = record {
   each = λ f below.
       let p = resolved_of unlimited.turns r in
-      in_memory f ms ∙ ap (watching f) (is ∙ ap (λ t. entries_from p.globals t 0 p.routines) (are ∙ tables_same unlimited.turns 0 (items_of r.routines))) ∙ watches_stand p.globals p.routines f 0 p.routines;
+      in_memory f ms ∙ ap (watching f)
+      (is ∙ ap (λ t. entries_from p.globals t 0 p.routines) (are ∙ tables_same unlimited.turns 0 (items_of r.routines)))
+      ∙ watches_stand p.globals p.routines f 0 p.routines;
 }
 
 -- the entries from a function on, and behind it
@@ -63,7 +68,8 @@ entries_next gs table t n (q ∷ qs) zero r k below is =
     ap (λ (x : RoutineTree). entry_if gs table k (option_map mark_of x.text.now.mark) ++ entries_from gs table (k + 1) (routines_of t (n + loops_of q.body) qs)) (sym is)
 entries_next gs table t n (q ∷ qs) (suc i) r k below is = entries_next gs table t (n + loops_of q.body) qs i r k (omega arith) is
 
-pub none_left_over : (gs : List GlobalVariable) (table : List (List ℕ)) (t : ℕ → ℕ) (n : ℕ) (rs : List RoutineTree) (i k : ℕ) → length rs ≤ i → entries_from gs table k (drop i (routines_of t n rs)) ≡ []
+pub none_left_over : (gs : List GlobalVariable) (table : List (List ℕ)) (t : ℕ → ℕ) (n : ℕ) (rs : List RoutineTree) (i k : ℕ) → length rs ≤ i →
+    entries_from gs table k (drop i (routines_of t n rs)) ≡ []
 none_left_over gs table t n [] zero k past = refl
 none_left_over gs table t n [] (suc i) k past = refl
 none_left_over gs table t n (r ∷ rs) zero k past = absurd (omega arith)
@@ -77,11 +83,15 @@ one_more gs table t n rs i r old new below is more =
     let here = entry_if gs table i (option_map mark_of r.text.now.mark) in
     let next : i + 1 ≡ suc i = omega arith in
     let rest = entries_from gs table (i + 1) (drop (suc i) (routines_of t n rs)) in
-    ap (λ j. new ++ entries_from gs table (i + 1) (drop j (routines_of t n rs))) next ∙ ap (λ (x : List Entry). x ++ rest) more ∙ append_assoc old here rest ∙ ap (λ (x : List Entry). old ++ x) (sym (entries_next gs table t n rs i r i below is))
+    ap (λ j. new ++ entries_from gs table (i + 1) (drop j (routines_of t n rs))) next ∙ ap (λ (x : List Entry). x ++ rest) more
+    ∙ append_assoc old here rest ∙ ap (λ (x : List Entry). old ++ x) (sym (entries_next gs table t n rs i r i below is))
 
 -- what is made of the table of callees
-pub if_watched : {A E : Type 0} (listed : A → List Marked) (r : ResolvedTree) (table : List (List ℕ)) (gs : List (Bor Global)) (fs : List RoutineTree) (o : Result A E) → table ≡ map (λ (f : RoutineTree). called f.body) (items_of r.routines) →
-    gs ≡ r.globals.items → fs ≡ items_of r.routines → IfOk o (λ all. map entry_of (listed all) ≡ entries_from (map (λ g. global_of g.now) gs) table 0 (routines_of unlimited.turns 0 fs)) → IfOk o (λ all. AreWatched r (listed all))
+pub if_watched : {A E : Type 0} (listed : A → List Marked) (r : ResolvedTree) (table : List (List ℕ)) (gs : List (Bor Global)) (fs : List RoutineTree)
+    (o : Result A E) → table ≡ map (λ (f : RoutineTree). called f.body) (items_of r.routines) →
+    gs ≡ r.globals.items → fs ≡ items_of r.routines →
+    IfOk o (λ all. map entry_of (listed all) ≡ entries_from (map (λ g. global_of g.now) gs) table 0 (routines_of unlimited.turns 0 fs)) →
+    IfOk o (λ all. AreWatched r (listed all))
 if_watched listed r table gs fs (Ok all) are same_gs same_fs h =
     are_watched r (listed all) table are (h ∙ ap (λ (x : List (Bor Global)). entries_from (map (λ g. global_of g.now) x) table 0 (routines_of unlimited.turns 0 fs)) same_gs
     ∙ ap (λ (x : List RoutineTree). entries_from (map (λ g. global_of g.now) r.globals.items) table 0 (routines_of unlimited.turns 0 x)) same_fs)

@@ -19,7 +19,8 @@ greatest_of_kind Unsigned r is = is.greatest
 -- a range of both kinds together, converted to one
 converted_fits : (k : Kind) (r : Span) → r.lo ≤ℤ r.hi → negsuc 2147483647 ≤ℤ r.lo → r.hi ≤ℤ pos 4294967295 → IsRange k (converted k r)
 converted_fits Int r o l g = by (int_lt r.hi (pos 2147483648)) (int_le (pos 2147483648) r.lo) refl refl where
-  by : (s t : Bool) → int_lt r.hi (pos 2147483648) ≡ s → int_le (pos 2147483648) r.lo ≡ t → IsRange Int (if s then r else if t then from_to (r.lo -ℤ pos 4294967296) (r.hi -ℤ pos 4294967296) else whole Int)
+  by : (s t : Bool) → int_lt r.hi (pos 2147483648) ≡ s → int_le (pos 2147483648) r.lo ≡ t →
+      IsRange Int (if s then r else if t then from_to (r.lo -ℤ pos 4294967296) (r.hi -ℤ pos 4294967296) else whole Int)
   by true t d e = record { ordered = o; least = l; greatest = omega (arith, ints, d) }
   by false true d e = record { ordered = omega (arith, ints, o); least = omega (arith, ints, e); greatest = omega (arith, ints, g) }
   by false false d e = whole_kept Int

@@ -20,7 +20,8 @@ range_at_past [] k past = refl
 range_at_past (l ∷ ls) zero past = absurd (omega arith)
 range_at_past (l ∷ ls) (suc k) past = range_at_past ls k (omega arith)
 
-pub at_local_within : (ls : List KnownTree) (k : ℕ) (change : Known → Known) (x y : KnownTree) → k < length ls → x ≡ get_or ls k x → known_of y ≡ change (known_of x) → env_of (set ls k y) ≡ at_local k change (env_of ls)
+pub at_local_within : (ls : List KnownTree) (k : ℕ) (change : Known → Known) (x y : KnownTree) → k < length ls → x ≡ get_or ls k x →
+    known_of y ≡ change (known_of x) → env_of (set ls k y) ≡ at_local k change (env_of ls)
 at_local_within [] k change x y within is changed = absurd (omega arith)
 at_local_within (l ∷ ls) zero change x y within is changed = ap (λ (z : Known). z ∷ env_of ls) (changed ∙ ap (λ (z : KnownTree). change (known_of z)) is)
 at_local_within (l ∷ ls) (suc k) change x y within is changed = ap (λ zs. known_of l ∷ zs) (at_local_within ls k change x y (omega arith) is changed)

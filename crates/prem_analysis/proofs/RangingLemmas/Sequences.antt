@@ -7,7 +7,8 @@ use Rattle.prem_list.specs.Sequence.{items_of}
 use Rattle.prem_syntax.specs.Resolved.{Steps, Done}
 use Rattle.prem_tree.specs.declared.resolve.resolved.Step.{Step, Block, Row_of-Step, end_of-Step, more_of-Step, items-the_row-Step, items_hidden-the_row-Step-0}
 use Rattle.prem_tree.specs.declared.resolve.resolved.Step.TheBlock.{hidden-the_row-Step-0}
-use Rattle.prem_tree.specs.declared.resolve.resolved.Step.TheVariants.{Block', SetLocal as SetLocalTree, SetScalar as SetScalarTree, SetElement as SetElementTree, Output as OutputTree, Input as InputTree, If', For', While', Call as CallTree}
+use Rattle.prem_tree.specs.declared.resolve.resolved.Step.TheVariants.{Block', SetLocal as SetLocalTree, SetScalar as SetScalarTree, SetElement as SetElementTree}
+use Rattle.prem_tree.specs.declared.resolve.resolved.Step.TheVariants.{Output as OutputTree, Input as InputTree, If', For', While', Call as CallTree}
 use Rattle.prem_ranges.specs.Environment.{Known, Environment, any_again, at_local, loosened}
 use Rattle.prem_ranges.specs.After.{assigns, after, bounds}
 use Rattle.prem_ranges.specs.RangeRules.{first, first_of}
@@ -48,7 +49,8 @@ bounds-step env s rest = ap (bounds env) (one_by_one s rest) ∙ bounds-followed
 pub first-step : (site : Site) (around : ℕ) (env : Environment) (s : Step) (rest : Steps) →
     first_of (in_steps site around env (plain_before s rest)) ≡ first (first_of (in_steps site around env (plain s))) (first_of (in_steps site around (after env (plain s)) rest))
 first-step site around env s rest =
-    ap (λ steps. first_of (in_steps site around env steps)) (one_by_one s rest) ∙ ap first_of (in_steps-followed site around env (plain s) rest) ∙ first_of_append (in_steps site around env (plain s)) (in_steps site around (after env (plain s)) rest)
+    ap (λ steps. first_of (in_steps site around env steps)) (one_by_one s rest) ∙ ap first_of (in_steps-followed site around env (plain s) rest)
+    ∙ first_of_append (in_steps site around env (plain s)) (in_steps site around (after env (plain s)) rest)
 
 -- a block is the steps of its list
 row_listed : {m : _} (row : Row_of-Step m) → plain_row row Done ≡ plain_list (items-the_row-Step m row)
@@ -78,7 +80,8 @@ again false b l = refl
 
 pub loosened-both : (p q : ℕ → Bool) (env : Environment) → loosened (λ j. p j || q j) env ≡ loosened q (loosened p env)
 loosened-both p q [] = refl
-loosened-both p q (l ∷ ls) = ap (λ x. x ∷ loosened (λ k. p (suc k) || q (suc k)) ls) (again (p 0) (q 0) l) ∙ ap (λ e. cond (q 0) (any_again (cond (p 0) (any_again l) l)) (cond (p 0) (any_again l) l) ∷ e) (loosened-both (λ k. p (suc k)) (λ k. q (suc k)) ls)
+loosened-both p q (l ∷ ls) = ap (λ x. x ∷ loosened (λ k. p (suc k) || q (suc k)) ls) (again (p 0) (q 0) l)
+    ∙ ap (λ e. cond (q 0) (any_again (cond (p 0) (any_again l) l)) (cond (p 0) (any_again l) l) ∷ e) (loosened-both (λ k. p (suc k)) (λ k. q (suc k)) ls)
 
 zero_suc : (k : ℕ) → eqb 0 (suc k) ≡ false
 zero_suc k = grind (arith, nat_tests)
@@ -86,12 +89,16 @@ zero_suc k = grind (arith, nat_tests)
 pub loosened-one : (k : ℕ) (env : Environment) → loosened (λ j. eqb k j) env ≡ at_local k any_again env
 loosened-one k [] = refl
 loosened-one zero (l ∷ ls) = ap (λ e. any_again l ∷ e) (ap (λ (p : ℕ → Bool). loosened p ls) (λ i k. zero_suc k i) ∙ loosened-none ls)
-loosened-one (suc k) (l ∷ ls) = ap (λ e. cond (eqb (suc k) 0) (any_again l) l ∷ e) (ap (λ (p : ℕ → Bool). loosened p ls) (λ i j. suc_suc k j i) ∙ loosened-one k ls) ∙ (let no : eqb (suc k) 0 ≡ false = grind (arith, nat_tests) in rw no)
+loosened-one (suc k) (l ∷ ls) =
+    ap (λ e. cond (eqb (suc k) 0) (any_again l) l ∷ e) (ap (λ (p : ℕ → Bool). loosened p ls) (λ i j. suc_suc k j i) ∙ loosened-one k ls)
+    ∙ (let no : eqb (suc k) 0 ≡ false = grind (arith, nat_tests) in rw no)
 
 -- the locals that a step, and the steps behind it, assign
 loosened-step : (s : Step) (rest : Steps) (env : Environment) → loosened (λ j. assigns j (plain_before s rest)) env ≡ loosened (λ j. assigns j rest) (loosened (λ j. assigns j (plain s)) env)
 loosened-step s rest env =
-    ap (λ (steps : Steps). loosened (λ j. assigns j steps) env) (one_by_one s rest) ∙ ap (λ (p : ℕ → Bool). loosened p env) (λ i j. assigns-followed j (plain s) rest i) ∙ loosened-both (λ j. assigns j (plain s)) (λ j. assigns j rest) env
+    ap (λ (steps : Steps). loosened (λ j. assigns j steps) env) (one_by_one s rest)
+    ∙ ap (λ (p : ℕ → Bool). loosened p env) (λ i j. assigns-followed j (plain s) rest i)
+    ∙ loosened-both (λ j. assigns j (plain s)) (λ j. assigns j rest) env
 
 -- ---- an arm of the walk over what is assigned
 
@@ -109,7 +116,8 @@ pub no_arm : {s' : Step} (s : Step) (env : Environment) → s ≡ s' → ((j : �
 no_arm s env is same = sym (arm s (λ j. false) env is same ∙ loosened-none env)
 
 -- two tests, one after the other
-pub both_arm : {s' : Step} (s : Step) (p q : ℕ → Bool) (env : Environment) → s ≡ s' → ((j : ℕ) → assigns j (plain s') ≡ (p j || q j || false)) → loosened q (loosened p env) ≡ loosened (λ j. assigns j (plain s)) env
+pub both_arm : {s' : Step} (s : Step) (p q : ℕ → Bool) (env : Environment) → s ≡ s' → ((j : ℕ) → assigns j (plain s') ≡ (p j || q j || false)) →
+    loosened q (loosened p env) ≡ loosened (λ j. assigns j (plain s)) env
 both_arm s p q env is same = sym (arm s (λ j. p j || q j) env is (λ j. same j ∙ or_end (p j || q j)) ∙ loosened-both p q env)
 
 pub moved : (s s' : Step) (e e' : Environment) → s ≡ s' → e ≡ e' → loosened (λ j. assigns j (plain s)) e ≡ loosened (λ j. assigns j (plain s')) e'
@@ -120,4 +128,5 @@ pub more_loosened : (steps : List Step) (i : ℕ) (s : Step) (env env' : Environ
     loosened (λ j. assigns j (plain_list (drop (i + 1) steps))) env' ≡ loosened (λ j. assigns j (plain_list (drop i steps))) env
 more_loosened steps i s env env' inside is new =
     let all : drop i steps ≡ s ∷ drop (i + 1) steps = drop_more steps i s inside ∙ ap (λ x. x ∷ drop (i + 1) steps) (sym is) in
-    ap (λ v. loosened (λ j. assigns j (plain_list (drop (i + 1) steps))) v) new ∙ sym (loosened-step s (plain_list (drop (i + 1) steps)) env) ∙ ap (λ (l : List Step). loosened (λ j. assigns j (plain_list l)) env) (sym all)
+    ap (λ v. loosened (λ j. assigns j (plain_list (drop (i + 1) steps))) v) new ∙ sym (loosened-step s (plain_list (drop (i + 1) steps)) env)
+    ∙ ap (λ (l : List Step). loosened (λ j. assigns j (plain_list l)) env) (sym all)

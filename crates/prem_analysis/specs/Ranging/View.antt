@@ -9,7 +9,8 @@ use Rattle.prem_ranges.specs.RangeRules.{RangeRule, LoopBound, TooLarge, ZeroDiv
 use Rattle.prem_analysis.specs.declared.ranging.range.Range.{Range}
 use Rattle.prem_analysis.specs.declared.ranging.found.Known.{Known as KnownTree}
 use Rattle.prem_analysis.specs.declared.ranging.found.Rule.{Rule}
-use Rattle.prem_analysis.specs.declared.ranging.found.Rule.TheVariants.{LoopBound as LoopBoundTree, TooLarge as TooLargeTree, ZeroDivisor as ZeroDivisorTree, IndexOutside as IndexOutsideTree, RegionOutside as RegionOutsideTree, ArgRange as ArgRangeTree}
+use Rattle.prem_analysis.specs.declared.ranging.found.Rule.TheVariants.{LoopBound as LoopBoundTree, TooLarge as TooLargeTree, ZeroDivisor as ZeroDivisorTree}
+use Rattle.prem_analysis.specs.declared.ranging.found.Rule.TheVariants.{IndexOutside as IndexOutsideTree, RegionOutside as RegionOutsideTree, ArgRange as ArgRangeTree}
 use Rattle.prem_analysis.specs.declared.ranging.found.Broken.{Broken}
 use Rattle.prem_analysis.specs.declared.ranging.saves.Saved.{Saved as SavedTree}
 

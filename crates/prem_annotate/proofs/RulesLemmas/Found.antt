@@ -42,13 +42,15 @@ pub record Finding (gs : List GlobalVariable) (rs fs : List Routine) (n : ℕ) (
   pub found_is : found ≡ first_of (breaches_among gs rs n (drop n fs))
 
 -- a function with its row has its ranges
-with_row : (fs : List Routine) (m : ℕ) (f : Routine) (rows : List (List Slot)) (row : List Slot) → slice_get fs m ≡ Some f → rows ≡ slots_of (passed (calls_of_all (ranged_routines (m + 1) (drop (m + 1) fs)))) 0 fs →
+with_row : (fs : List Routine) (m : ℕ) (f : Routine) (rows : List (List Slot)) (row : List Slot) → slice_get fs m ≡ Some f →
+    rows ≡ slots_of (passed (calls_of_all (ranged_routines (m + 1) (drop (m + 1) fs)))) 0 fs →
     slice_get rows m ≡ Some row → routine_with row f ≡ ranged_routine (calls_of_all (ranged_routines (m + 1) (drop (m + 1) fs))) m f
 with_row fs m f rows row there are row_is =
     let calls = calls_of_all (ranged_routines (m + 1) (drop (m + 1) fs)) in
     let zero_m : 0 + m ≡ m = omega arith in
     let own : row ≡ slots_in (passed calls) m 0 f.text.params =
-    some_is row (slots_in (passed calls) m 0 f.text.params) (sym row_is ∙ ap (λ l. slice_get l m) are ∙ row_at (passed calls) 0 m fs f there ∙ ap (λ k. Some (slots_in (passed calls) k 0 f.text.params)) zero_m) in
+    some_is row (slots_in (passed calls) m 0 f.text.params)
+    (sym row_is ∙ ap (λ l. slice_get l m) are ∙ row_at (passed calls) 0 m fs f there ∙ ap (λ k. Some (slots_in (passed calls) k 0 f.text.params)) zero_m) in
     ap (λ (r : List Slot). with_parameters (with_slots r f.text.params) f) own ∙ ap (λ (ps : List Parameter). with_parameters ps f) (slots_range calls m 0 f.text.params)
 
 found_before : (gs : List GlobalVariable) (rs fs : List Routine) (m : ℕ) (f : Routine) (rows rows' : List (List Slot)) (row : List Slot) (before own found : Option RangeBreach) →
@@ -62,10 +64,12 @@ found_before gs rs fs m f rows rows' row before own found all there behind row_i
     let this : own ≡ first_of (in_routine site g) = own_is ∙ ap (λ (x : Routine). first_of (in_routine site x)) (with_row fs m f rows row there behind.rows_are row_is) in
     record {
       rows_are = step.rows_are;
-      found_is = found_is ∙ (λ i. first (this i) (behind.found_is i)) ∙ sym (first_of_append (in_routine site g) (flat_map (in_routine site) later)) ∙ ap (λ l. first_of (breaches_among gs rs m l)) (sym all);
+      found_is = found_is ∙ (λ i. first (this i) (behind.found_is i)) ∙ sym (first_of_append (in_routine site g) (flat_map (in_routine site) later))
+          ∙ ap (λ l. first_of (breaches_among gs rs m l)) (sym all);
     }
 
-pub found_next : (gs : List GlobalVariable) (rs : List Routine) (routines : List RoutineTree) (n : ℕ) (r : RoutineTree) (rows rows' : List (Vec SlotTree Global)) (row : Vec SlotTree Global) (o : OutlookTree) (before own found : Option RangeBreach) →
+pub found_next : (gs : List GlobalVariable) (rs : List Routine) (routines : List RoutineTree) (n : ℕ) (r : RoutineTree)
+    (rows rows' : List (Vec SlotTree Global)) (row : Vec SlotTree Global) (o : OutlookTree) (before own found : Option RangeBreach) →
     0 < n → n ≤ length routines → n ≤ length rows → r ≡ get_or routines (n - 1) r → row ≡ get_or rows (n - 1) row → Finding gs rs (map plain_routine routines) n (map row_of rows) before →
     outlook_of o ≡ outlook_with (row_of row) (plain_routine r) → map row_of rows' ≡ with_arguments (outlook_of o).sight.arguments (map row_of rows) →
     own ≡ first_of (in_routine (unwatched_site gs rs) (routine_with (row_of row) (plain_routine r))) → found ≡ first own before →
@@ -104,7 +108,8 @@ alike_breaches : {turn : ℕ → ℕ → Type 0} {fs gs : List Routine} (site : 
 alike_breaches site no_routines = refl
 alike_breaches site (next_routine same rest) = both_same _ _ _ _ (in_routine-alike same site site (same_site site)) (alike_breaches site rest)
 
-pub first_other_is : (r : ResolvedTree) (p : ProgramText) → IsResolved r p → IsWellFormed p → ProgramHasWords p → first_in (resolved_of unlimited.turns r) (map plain_routine (items_of r.routines)) ≡ first_other p
+pub first_other_is : (r : ResolvedTree) (p : ProgramText) → IsResolved r p → IsWellFormed p → ProgramHasWords p →
+    first_in (resolved_of unlimited.turns r) (map plain_routine (items_of r.routines)) ≡ first_other p
 unfolding first_other
 first_other_is r p is formed words =
     let all = resolved_of unlimited.turns r in

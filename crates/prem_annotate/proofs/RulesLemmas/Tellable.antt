@@ -11,13 +11,15 @@ use Rattle.prem_syntax.specs.Syntax.{Parameter, LocalVariable, GlobalVariable, P
 use Rattle.prem_syntax.specs.Literals.{ProgramHasWords}
 use Rattle.prem_syntax.specs.ProgramRules.{IsWellFormed}
 use Rattle.prem_syntax.specs.Source.{unlimited}
-use Rattle.prem_syntax.specs.Resolved.{Term, Constant, Local, Scalar, Element, Unary, Binary, AndAlso, OrElse, Steps, Done, SetLocal, SetScalar, SetElement, Output, Input, If, For, While, Call, Routine}
+use Rattle.prem_syntax.specs.Resolved.{Term, Constant, Local, Scalar, Element, Unary, Binary, AndAlso, OrElse, Steps, Done, SetLocal, SetScalar, SetElement, Output, Input, If, For}
+use Rattle.prem_syntax.specs.Resolved.{While, Call, Routine}
 use Rattle.prem_syntax.specs.Resolve.{promoted}
 use Rattle.prem_ranges.specs.Environment.{any_again, assigned, Environment, at_local, joined as joined_env}
 use Rattle.prem_ranges.specs.RangeOf.{range_of, refined}
 use Rattle.prem_ranges.specs.After.{loop_end, turn_bound, in_counting, in_body, behind_loop, in_while, behind_call, stated_or_whole, known_parameter, known_local, after, at_body}
 use Rattle.prem_ranges.specs.RangeRules.{RangeRule, LoopBound, TooLarge, ZeroDivisor, IndexOutside, ArgRange, RangeBreach, comes_before, first, first_of, if_at}
-use Rattle.prem_ranges.specs.RangeBreaches.{length_of, in_index, in_element, in_divisor, in_term, in_stated, in_argument, in_arguments, parameters_of, in_turns, in_range_of_int, in_counting_loop, in_steps, in_locals, in_result, in_routine}
+use Rattle.prem_ranges.specs.RangeBreaches.{length_of, in_index, in_element, in_divisor, in_term, in_stated, in_argument, in_arguments, parameters_of, in_turns, in_range_of_int}
+use Rattle.prem_ranges.specs.RangeBreaches.{in_counting_loop, in_steps, in_locals, in_result, in_routine}
 use Rattle.prem_ranges.specs.RangesKept.{resolved}
 use Rattle.prem_ranges.specs.Sound.{Ranged, none_ranged, next_ranged}
 use Rattle.prem_ranges.proofs.WellFormed.{well_formed_is_typed}
@@ -63,7 +65,8 @@ term_told gs rs env (Unary at op e) = term_told gs rs env e
 term_told gs rs env (Binary at op kind left right) =
     let site = unwatched_site gs rs in
     let r = converted kind (range_of env right) in
-    both (in_term site env left ++ in_divisor at op r) (in_term site env right) (both (in_term site env left) (in_divisor at op r) (term_told gs rs env left) (divisor_told at op r)) (term_told gs rs env right)
+    both (in_term site env left ++ in_divisor at op r) (in_term site env right)
+    (both (in_term site env left) (in_divisor at op r) (term_told gs rs env left) (divisor_told at op r)) (term_told gs rs env right)
 term_told gs rs env (AndAlso at left right) =
     let site = unwatched_site gs rs in
     both (in_term site env left) (in_term site (refined true env left) right) (term_told gs rs env left) (term_told gs rs (refined true env left) right)
@@ -77,7 +80,8 @@ stated_told : (at : Place) (r : Span) (kind : Kind) (range : Option (ℤ × ℤ)
 stated_told at r kind None is = tt
 stated_told at r kind (Some stated) is = if_told (not (encloses (from_to stated.0 stated.1) r)) at (ArgRange r (from_to stated.0 stated.1)) is.ordered
 
-arguments_told : (gs : List GlobalVariable) (rs : List Routine) (at : Place) (env : Environment) (es : List Term) (ps : List Parameter) → Ranged (map known_parameter ps) → AreTold (in_arguments at (unwatched_site gs rs) env es ps)
+arguments_told : (gs : List GlobalVariable) (rs : List Routine) (at : Place) (env : Environment) (es : List Term) (ps : List Parameter) →
+    Ranged (map known_parameter ps) → AreTold (in_arguments at (unwatched_site gs rs) env es ps)
 arguments_told gs rs at env [] ps ranged = tt
 arguments_told gs rs at env (e ∷ es) [] ranged =
     let site = unwatched_site gs rs in
@@ -116,7 +120,8 @@ steps_told gs rs ranged (SetElement at g ty index e rest) around env =
     let site = unwatched_site gs rs in
     let element = in_element site at g (range_of env index) in
     both (element ++ in_term site env index ++ in_term site env e) (in_steps site around env rest)
-    (both (element ++ in_term site env index) (in_term site env e) (both element (in_term site env index) (element_told gs rs at g (range_of env index)) (term_told gs rs env index)) (term_told gs rs env e))
+    (both (element ++ in_term site env index) (in_term site env e)
+    (both element (in_term site env index) (element_told gs rs at g (range_of env index)) (term_told gs rs env index)) (term_told gs rs env e))
     (steps_told gs rs ranged rest around env)
 steps_told gs rs ranged (Output at e rest) around env =
     let site = unwatched_site gs rs in
@@ -131,7 +136,8 @@ steps_told gs rs ranged (If at condition taken other rest) around env =
     let two = in_steps site around yes taken in
     let three = in_steps site around no_ other in
     both (one ++ two ++ three) (in_steps site around next rest)
-    (both (one ++ two) three (both one two (term_told gs rs env condition) (steps_told gs rs ranged taken around yes)) (steps_told gs rs ranged other around no_)) (steps_told gs rs ranged rest around next)
+    (both (one ++ two) three (both one two (term_told gs rs env condition) (steps_told gs rs ranged taken around yes))
+    (steps_told gs rs ranged other around no_)) (steps_told gs rs ranged rest around next)
 steps_told gs rs ranged (For at k low closed high step turns body rest) around env =
     let site = unwatched_site gs rs in
     let end = loop_end env k closed high body in
@@ -155,11 +161,14 @@ steps_told gs rs ranged (While at turns condition body rest) around env =
     let own = in_turns at product in
     let one = in_term site head condition in
     let two = in_steps site product inner body in
-    both (own ++ one ++ two) (in_steps site around head rest) (both (own ++ one) two (both own one (turns_told at product) (term_told gs rs head condition)) (steps_told gs rs ranged body product inner)) (steps_told gs rs ranged rest around head)
+    both (own ++ one ++ two) (in_steps site around head rest)
+    (both (own ++ one) two (both own one (turns_told at product) (term_told gs rs head condition)) (steps_told gs rs ranged body product inner))
+    (steps_told gs rs ranged rest around head)
 steps_told gs rs ranged (Call at target f arguments rest) around env =
     let site = unwatched_site gs rs in
     let next = behind_call target env in
-    both (in_arguments at site env arguments (parameters_of (slice_get rs f))) (in_steps site around next rest) (arguments_told gs rs at env arguments (parameters_of (slice_get rs f)) (callee_ranged rs ranged f)) (steps_told gs rs ranged rest around next)
+    both (in_arguments at site env arguments (parameters_of (slice_get rs f))) (in_steps site around next rest)
+    (arguments_told gs rs at env arguments (parameters_of (slice_get rs f)) (callee_ranged rs ranged f)) (steps_told gs rs ranged rest around next)
 
 -- ---- functions
 

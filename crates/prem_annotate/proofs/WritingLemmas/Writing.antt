@@ -38,7 +38,8 @@ orders_are (f ∷ fs) (n ∷ ns) = ap (λ l. function_orders f n.mark n.ranges +
 
 -- ---- the text of a program that is read
 
-pub text_is : (text : List ℕ) (p : ProgramText) (os : List Order) (ns : List Notes) (new : List ℕ) → reads text ≡ Ok p → os ≡ orders_from 0 (functions_of p) ns → new ≡ edited_text os text → new ≡ annotated_text ns text
+pub text_is : (text : List ℕ) (p : ProgramText) (os : List Order) (ns : List Notes) (new : List ℕ) → reads text ≡ Ok p →
+    os ≡ orders_from 0 (functions_of p) ns → new ≡ edited_text os text → new ≡ annotated_text ns text
 text_is text p os ns new read orders is =
     is ∙ ap (λ (l : List Order). edited_text l text) (orders ∙ orders_are (functions_of p) ns)
     ∙ sym (ap (λ (r : Result ProgramText FrontFail). elim r [ Ok q ↦ edited_text (all_orders (functions_of q) (map wanted ns)) text | Err fail ↦ text ]) read)

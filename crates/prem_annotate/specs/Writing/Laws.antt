@@ -21,7 +21,8 @@ TextsAreEdits =
 -- where that text has tokens, since it isn't too long, it is read as the annotated program, places aside
 abbrev pub TextsAreRead : Type 0
 TextsAreRead =
-    (lengths : ℕ → ℕ) (text : List ℕ) (p : ProgramText) → IsProgramText text p → CanBeSaid (texts_of (all_annotated lengths p)) → (ts : List Seen) → tokens_of (annotated_text (program_notes lengths p) text) ≡ Ok ts →
+    (lengths : ℕ → ℕ) (text : List ℕ) (p : ProgramText) → IsProgramText text p → CanBeSaid (texts_of (all_annotated lengths p)) → (ts : List Seen) →
+    tokens_of (annotated_text (program_notes lengths p) text) ≡ Ok ts →
     (more : ProgramText) × (reads (annotated_text (program_notes lengths p) text) ≡ Ok more) × (unplaced more ≡ unplaced (annotated lengths p))
 
 -- a text stays where its notes stand in it

@@ -16,7 +16,8 @@ abbrev region : List ℕ → RegionText
 region x = record { at = here; name = x; low = 0; high = 3 }
 
 -- a length, two regions in place of another one, and a RANGE; what stands beside them stays
-all_put : text_with ((Some (record { stated = 90; regions = region (codes "a") ∷ region (codes "b") ∷ [] }), Some (negsuc 4, pos 3000000000) ∷ []) ∷ []) (codes "int a[4]; PREDICTABLE( 1 ) REGION(b, 1, 2)/**/ void f(int x /* x */) { x = (1); }") ≡
+all_put : text_with ((Some (record { stated = 90; regions = region (codes "a") ∷ region (codes "b") ∷ [] }), Some (negsuc 4, pos 3000000000) ∷ [])
+    ∷ []) (codes "int a[4]; PREDICTABLE( 1 ) REGION(b, 1, 2)/**/ void f(int x /* x */) { x = (1); }") ≡
     codes "int a[4]; PREDICTABLE( 90 ) REGION(a, 0, 3) REGION(b, 0, 3)/**/ void f(int x RANGE(-5, 3000000000u) /* x */) { x = (1); }"
 unfolding digits constant_bytes tokens_of lex step start first_token reserved_word used_word is_unused longest_mark literal_word
 all_put = refl

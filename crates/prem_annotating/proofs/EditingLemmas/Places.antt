@@ -1,5 +1,6 @@
 -- Which bytes of a divided text begin its tokens: those at whose places these stand, since no two bytes have the same place.
-use Rattle.std.proofs.Common.{◌≡◌, ◌<◌, ◌⊎◌, inl, inr, ⊎_elim, ℕ, ◌+◌, ◌==◌, Bool, true, false, ◌&&◌, if◌then◌else◌, List, [], ◌∷◌, ◌++◌, refl, sym, ap, subst, ◌∙◌, arith, append_assoc, append-nil, Some, None}
+use Rattle.std.proofs.Common.{◌≡◌, ◌<◌, ◌⊎◌, inl, inr, ⊎_elim, ℕ, ◌+◌, ◌==◌, Bool, true, false, ◌&&◌, if◌then◌else◌, List, [], ◌∷◌, ◌++◌, refl, sym, ap, subst, ◌∙◌, arith}
+use Rattle.std.proofs.Common.{append_assoc, append-nil, Some, None}
 use Rattle.std.proofs.lemmas.Bool.Decides.{nat_tests}
 use Rattle.prem_syntax.specs.declared.tree.Place.{Place}
 use Rattle.prem_text.specs.Lexing.Token.Lexeme.{Lexeme, end_of_text, Seen}
@@ -46,7 +47,8 @@ later_all xs y [] = later_one xs y
 later_all xs y (z ∷ zs) =
     let rest : Later (place_behind ((xs ++ y ∷ []) ++ z ∷ zs)) (place_behind (xs ++ y ∷ [])) = later_all (xs ++ y ∷ []) z zs in
     let first : Later (place_behind (xs ++ y ∷ [])) (place_behind xs) = later_one xs y in
-    subst (λ l. Later (place_behind l) (place_behind xs)) (append_assoc xs (y ∷ []) (z ∷ zs)) (later_trans (place_behind ((xs ++ y ∷ []) ++ z ∷ zs)) (place_behind (xs ++ y ∷ [])) (place_behind xs) rest first)
+    subst (λ l. Later (place_behind l) (place_behind xs)) (append_assoc xs (y ∷ []) (z ∷ zs))
+    (later_trans (place_behind ((xs ++ y ∷ []) ++ z ∷ zs)) (place_behind (xs ++ y ∷ [])) (place_behind xs) rest first)
 
 numbers_differ : (a b c d : ℕ) → (b < a) ⊎ ((b ≡ a) × (d < c)) → ((a == b) && (c == d)) ≡ false
 numbers_differ a b c d later = ⊎_elim (λ (x : b < a). grind (arith, nat_tests)) (λ (x : (b ≡ a) × (d < c)). let y = x.1 in grind (arith, nat_tests)) later
@@ -145,10 +147,12 @@ pieces_placed before _ _ (token _ bytes text t ts _ is rest) =
     ap (λ (l : List Seen). (t, place_behind before) ∷ l) (pieces_placed (before ++ bytes) text ts rest ∙ ap (λ (l : List ℕ). ts ++ ended l) (append_assoc before bytes text))
 
 -- what the walk sees of a text
-pub edited_is : (os : List Order) (text : List ℕ) (ts : List Seen) (d : Divides [] text ts []) → edited os (ts ++ (end_of_text, place_behind text) ∷ []) text ≡ walked Elsewhere Copying os (marks_of (pieces_of [] text ts d).all)
+pub edited_is : (os : List Order) (text : List ℕ) (ts : List Seen) (d : Divides [] text ts []) →
+    edited os (ts ++ (end_of_text, place_behind text) ∷ []) text ≡ walked Elsewhere Copying os (marks_of (pieces_of [] text ts d).all)
 unfolding ended
 edited_is os text ts d =
     let pieces = pieces_of [] text ts d in
     let whole : marked (place_behind []) (ts ++ (end_of_text, place_behind text) ∷ []) text ≡ marks_of pieces.all =
-    ap (λ (l : List Seen). marked (place_behind []) l text) (sym (pieces_placed [] text ts d)) ∙ ap (λ (l : List ℕ). marked (place_behind []) (placed [] pieces.all) l) (sym pieces.text_is) ∙ pieces_marked [] pieces.all pieces.divided in
+    ap (λ (l : List Seen). marked (place_behind []) l text) (sym (pieces_placed [] text ts d))
+    ∙ ap (λ (l : List ℕ). marked (place_behind []) (placed [] pieces.all) l) (sym pieces.text_is) ∙ pieces_marked [] pieces.all pieces.divided in
     ap (λ (l : List Marked). walked Elsewhere Copying os l) whole

@@ -6,7 +6,11 @@ use Rattle.prem_text.specs.declared.lexing.token.token.Word.TheVariants as w
 use Rattle.prem_text.specs.Lexing.Token.Lexeme.{Lexeme, name, number, word, mark, end_of_text, Seen}
 use Rattle.prem_text.specs.Grammar.Slots.{Slot, fits, left_brace, right_brace, right_parenthesis, semicolon, comma, equal_sign, the_else}
 use Rattle.prem_text.specs.Grammar.Phrases.{Phrase, of_literal, of_name, of_element, of_bracket, of_prefix, of_infix, spelled, IsRow}
-use Rattle.prem_text.specs.Grammar.StatementPhrases.{StepForm, by_one_step, added_step, summed_step, step_slots, if_head, for_head, for_bound, while_head, out_head, statement_tail, call_head, call_to_head, input_row, Direction, up, down, change_sign, count_sign, Target, to_name, to_element, Parted, Arguments, no_arguments, arguments, StatementPhrase, StatementPhrases, of_block, of_if, of_else, of_for, of_while, of_output, of_call, of_input, of_call_to, of_assign, of_change, of_count, no_phrases, next_phrase, AreParted, AreArguments, IsStatement, AreStatements, parted_tokens, argument_tokens, target_tokens, written, all_written}
+use Rattle.prem_text.specs.Grammar.StatementPhrases.{StepForm, by_one_step, added_step, summed_step, step_slots, if_head, for_head, for_bound, while_head, out_head, statement_tail}
+use Rattle.prem_text.specs.Grammar.StatementPhrases.{call_head, call_to_head, input_row, Direction, up, down, change_sign, count_sign, Target, to_name, to_element, Parted}
+use Rattle.prem_text.specs.Grammar.StatementPhrases.{Arguments, no_arguments, arguments, StatementPhrase, StatementPhrases, of_block, of_if, of_else, of_for, of_while, of_output}
+use Rattle.prem_text.specs.Grammar.StatementPhrases.{of_call, of_input, of_call_to, of_assign, of_change, of_count, no_phrases, next_phrase, AreParted, AreArguments, IsStatement}
+use Rattle.prem_text.specs.Grammar.StatementPhrases.{AreStatements, parted_tokens, argument_tokens, target_tokens, written, all_written}
 use Rattle.prem_text.specs.Spelling.Spellings.{every}
 use Rattle.prem_annotating.proofs.EditingLemmas.Goes.{is_quiet, AreQuiet, quiet_join}
 
@@ -15,7 +19,9 @@ use Rattle.prem_annotating.proofs.EditingLemmas.Goes.{is_quiet, AreQuiet, quiet_
 -- a slot in which no type stands, and no mark of a function
 abbrev pub quiet_slot : Slot → Bool
 quiet_slot s =
-    not (fits s (word w.Void)) && (not (fits s (word w.Int)) && (not (fits s (word w.Short)) && (not (fits s (word w.Signed)) && (not (fits s (word w.Char)) && (not (fits s (word w.Unsigned)) && not (fits s (word w.Predictable)))))))
+    not (fits s (word w.Void)) && (not (fits s (word w.Int)) &&
+    (not (fits s (word w.Short)) &&
+    (not (fits s (word w.Signed)) && (not (fits s (word w.Char)) && (not (fits s (word w.Unsigned)) && not (fits s (word w.Predictable)))))))
 
 no_other : (x : Bool) → x ≡ true → not x ≡ true → ⊥
 no_other true a b = cc
@@ -24,13 +30,30 @@ no_other false a b = cc
 word_quiet : (s : Slot) (k : Word) → fits s (word k) ≡ true → quiet_slot s ≡ true → is_quiet (word k) ≡ true
 word_quiet s w.Void f q = absurd (no_other (fits s (word w.Void)) f (and_parts (not (fits s (word w.Void))) _ q).0)
 word_quiet s w.Int f q = absurd (no_other (fits s (word w.Int)) f (and_parts (not (fits s (word w.Int))) _ (and_parts (not (fits s (word w.Void))) _ q).1).0)
-word_quiet s w.Short f q = absurd (no_other (fits s (word w.Short)) f (and_parts (not (fits s (word w.Short))) _ (and_parts (not (fits s (word w.Int))) _ (and_parts (not (fits s (word w.Void))) _ q).1).1).0)
-word_quiet s w.Signed f q = absurd (no_other (fits s (word w.Signed)) f (and_parts (not (fits s (word w.Signed))) _ (and_parts (not (fits s (word w.Short))) _ (and_parts (not (fits s (word w.Int))) _ (and_parts (not (fits s (word w.Void))) _ q).1).1).1).0)
-word_quiet s w.Char f q = absurd (no_other (fits s (word w.Char)) f (and_parts (not (fits s (word w.Char))) _ (and_parts (not (fits s (word w.Signed))) _ (and_parts (not (fits s (word w.Short))) _ (and_parts (not (fits s (word w.Int))) _ (and_parts (not (fits s (word w.Void))) _ q).1).1).1).1).0)
+word_quiet s w.Short f q = absurd
+    (no_other (fits s (word w.Short)) f
+    (and_parts (not (fits s (word w.Short))) _ (and_parts (not (fits s (word w.Int))) _ (and_parts (not (fits s (word w.Void))) _ q).1).1).0)
+word_quiet s w.Signed f q = absurd
+    (no_other (fits s (word w.Signed)) f
+    (and_parts (not (fits s (word w.Signed))) _
+    (and_parts (not (fits s (word w.Short))) _ (and_parts (not (fits s (word w.Int))) _ (and_parts (not (fits s (word w.Void))) _ q).1).1).1).0)
+word_quiet s w.Char f q = absurd
+    (no_other (fits s (word w.Char)) f
+    (and_parts (not (fits s (word w.Char))) _
+    (and_parts (not (fits s (word w.Signed))) _
+    (and_parts (not (fits s (word w.Short))) _ (and_parts (not (fits s (word w.Int))) _ (and_parts (not (fits s (word w.Void))) _ q).1).1).1).1).0)
 word_quiet s w.Unsigned f q =
-    absurd (no_other (fits s (word w.Unsigned)) f (and_parts (not (fits s (word w.Unsigned))) _ (and_parts (not (fits s (word w.Char))) _ (and_parts (not (fits s (word w.Signed))) _ (and_parts (not (fits s (word w.Short))) _ (and_parts (not (fits s (word w.Int))) _ (and_parts (not (fits s (word w.Void))) _ q).1).1).1).1).1).0)
+    absurd (no_other (fits s (word w.Unsigned)) f
+    (and_parts (not (fits s (word w.Unsigned))) _
+    (and_parts (not (fits s (word w.Char))) _
+    (and_parts (not (fits s (word w.Signed))) _
+    (and_parts (not (fits s (word w.Short))) _ (and_parts (not (fits s (word w.Int))) _ (and_parts (not (fits s (word w.Void))) _ q).1).1).1).1).1).0)
 word_quiet s w.Predictable f q =
-    absurd (no_other (fits s (word w.Predictable)) f (and_parts (not (fits s (word w.Unsigned))) _ (and_parts (not (fits s (word w.Char))) _ (and_parts (not (fits s (word w.Signed))) _ (and_parts (not (fits s (word w.Short))) _ (and_parts (not (fits s (word w.Int))) _ (and_parts (not (fits s (word w.Void))) _ q).1).1).1).1).1).1)
+    absurd (no_other (fits s (word w.Predictable)) f
+    (and_parts (not (fits s (word w.Unsigned))) _
+    (and_parts (not (fits s (word w.Char))) _
+    (and_parts (not (fits s (word w.Signed))) _
+    (and_parts (not (fits s (word w.Short))) _ (and_parts (not (fits s (word w.Int))) _ (and_parts (not (fits s (word w.Void))) _ q).1).1).1).1).1).1)
 word_quiet s _ f q = refl
 
 slot_quiet : (s : Slot) (x : Lexeme) → fits s x ≡ true → quiet_slot s ≡ true → is_quiet x ≡ true
@@ -87,15 +110,20 @@ count_quiet down = refl
 
 mutual
   statement_quiet : (p : StatementPhrase) → IsStatement p → AreQuiet (written p)
-  statement_quiet (of_block head inner tail) h = quiet_join (head ++ all_written inner) tail (quiet_join head (all_written inner) (row_quiet (left_brace ∷ []) head refl h.0) (statements_quiet inner h.1)) (row_quiet (right_brace ∷ []) tail refl h.2)
+  statement_quiet (of_block head inner tail) h =
+      quiet_join (head ++ all_written inner) tail
+      (quiet_join head (all_written inner) (row_quiet (left_brace ∷ []) head refl h.0) (statements_quiet inner h.1))
+      (row_quiet (right_brace ∷ []) tail refl h.2)
   statement_quiet (of_if head condition close taken) h =
       quiet_join (head ++ spelled condition ++ close) (written taken)
-      (quiet_join (head ++ spelled condition) close (quiet_join head (spelled condition) (row_quiet if_head head refl h.0) (phrase_quiet condition)) (row_quiet (right_parenthesis ∷ []) close refl h.2)) (statement_quiet taken h.3)
+      (quiet_join (head ++ spelled condition) close (quiet_join head (spelled condition) (row_quiet if_head head refl h.0) (phrase_quiet condition))
+      (row_quiet (right_parenthesis ∷ []) close refl h.2)) (statement_quiet taken h.3)
   statement_quiet (of_else head condition close taken middle other) h =
       quiet_join (head ++ spelled condition ++ close ++ written taken ++ middle) (written other)
       (quiet_join (head ++ spelled condition ++ close ++ written taken) middle
       (quiet_join (head ++ spelled condition ++ close) (written taken)
-      (quiet_join (head ++ spelled condition) close (quiet_join head (spelled condition) (row_quiet if_head head refl h.0) (phrase_quiet condition)) (row_quiet (right_parenthesis ∷ []) close refl h.2)) (statement_quiet taken h.3))
+      (quiet_join (head ++ spelled condition) close (quiet_join head (spelled condition) (row_quiet if_head head refl h.0) (phrase_quiet condition))
+      (row_quiet (right_parenthesis ∷ []) close refl h.2)) (statement_quiet taken h.3))
       (row_quiet (the_else ∷ []) middle refl h.5)) (statement_quiet other h.6)
   statement_quiet (of_for head low bound high form step body) h =
       quiet_join (head ++ spelled low ++ bound ++ spelled high ++ step) (written body)
@@ -105,17 +133,29 @@ mutual
       (row_quiet (step_slots form) step (step_quiet form) h.4)) (statement_quiet body h.5)
   statement_quiet (of_while head condition close body) h =
       quiet_join (head ++ spelled condition ++ close) (written body)
-      (quiet_join (head ++ spelled condition) close (quiet_join head (spelled condition) (row_quiet while_head head refl h.0) (phrase_quiet condition)) (row_quiet (right_parenthesis ∷ []) close refl h.2)) (statement_quiet body h.3)
-  statement_quiet (of_output head value tail) h = quiet_join (head ++ spelled value) tail (quiet_join head (spelled value) (row_quiet out_head head refl h.0) (phrase_quiet value)) (row_quiet statement_tail tail refl h.2)
-  statement_quiet (of_call head given tail) h = quiet_join (head ++ argument_tokens given) tail (quiet_join head (argument_tokens given) (row_quiet call_head head refl h.0) (arguments_quiet given h.1)) (row_quiet statement_tail tail refl h.2)
+      (quiet_join (head ++ spelled condition) close
+      (quiet_join head (spelled condition) (row_quiet while_head head refl h.0) (phrase_quiet condition))
+      (row_quiet (right_parenthesis ∷ []) close refl h.2)) (statement_quiet body h.3)
+  statement_quiet (of_output head value tail) h =
+      quiet_join (head ++ spelled value) tail (quiet_join head (spelled value) (row_quiet out_head head refl h.0) (phrase_quiet value))
+      (row_quiet statement_tail tail refl h.2)
+  statement_quiet (of_call head given tail) h =
+      quiet_join (head ++ argument_tokens given) tail
+      (quiet_join head (argument_tokens given) (row_quiet call_head head refl h.0) (arguments_quiet given h.1)) (row_quiet statement_tail tail refl h.2)
   statement_quiet (of_input row) h = row_quiet input_row row refl h
-  statement_quiet (of_call_to head given tail) h = quiet_join (head ++ argument_tokens given) tail (quiet_join head (argument_tokens given) (row_quiet call_to_head head refl h.0) (arguments_quiet given h.1)) (row_quiet statement_tail tail refl h.2)
+  statement_quiet (of_call_to head given tail) h =
+      quiet_join (head ++ argument_tokens given) tail
+      (quiet_join head (argument_tokens given) (row_quiet call_to_head head refl h.0) (arguments_quiet given h.1)) (row_quiet statement_tail tail refl h.2)
   statement_quiet (of_assign target sign value tail) h =
-      quiet_join (target_tokens target ++ sign ++ spelled value) tail (quiet_join (target_tokens target ++ sign) (spelled value) (quiet_join (target_tokens target) sign (target_quiet target) (row_quiet (equal_sign ∷ []) sign refl h.1)) (phrase_quiet value))
+      quiet_join (target_tokens target ++ sign ++ spelled value) tail
+      (quiet_join (target_tokens target ++ sign) (spelled value)
+      (quiet_join (target_tokens target) sign (target_quiet target) (row_quiet (equal_sign ∷ []) sign refl h.1)) (phrase_quiet value))
       (row_quiet (semicolon ∷ []) tail refl h.3)
   statement_quiet (of_change target direction sign value tail) h =
       quiet_join (target_tokens target ++ sign ++ spelled value) tail
-      (quiet_join (target_tokens target ++ sign) (spelled value) (quiet_join (target_tokens target) sign (target_quiet target) (row_quiet (change_sign direction ∷ []) sign (change_quiet direction) h.1)) (phrase_quiet value)) (row_quiet (semicolon ∷ []) tail refl h.3)
+      (quiet_join (target_tokens target ++ sign) (spelled value)
+      (quiet_join (target_tokens target) sign (target_quiet target) (row_quiet (change_sign direction ∷ []) sign (change_quiet direction) h.1))
+      (phrase_quiet value)) (row_quiet (semicolon ∷ []) tail refl h.3)
   statement_quiet (of_count target direction row) h = quiet_join (target_tokens target) row (target_quiet target) (row_quiet (count_sign direction ∷ semicolon ∷ []) row (count_quiet direction) h.1)
 
   pub statements_quiet : (ps : StatementPhrases) → AreStatements ps → AreQuiet (all_written ps)

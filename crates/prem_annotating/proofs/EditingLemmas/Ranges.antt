@@ -23,7 +23,8 @@ from_start (p ∷ ps) [] = none_from 0 (p ∷ ps)
 from_start (p ∷ ps) (x ∷ xs) = ap (λ l. range_order p.range x ∷ l) (one_less 0 ps x xs ∙ from_start ps xs)
 
 -- a mark's orders and those of parameters are a function's
-pub orders_are : (os : List Order) (f : FunctionText) (mark : Option MarkText) (xs : List (Option (ℤ × ℤ))) → os ++ mark_orders f.mark mark ++ orders_from 0 f.params xs ≡ os ++ function_orders f mark xs
+pub orders_are : (os : List Order) (f : FunctionText) (mark : Option MarkText) (xs : List (Option (ℤ × ℤ))) →
+    os ++ mark_orders f.mark mark ++ orders_from 0 f.params xs ≡ os ++ function_orders f mark xs
 orders_are os f mark xs = append_assoc os (mark_orders f.mark mark) (orders_from 0 f.params xs) ∙ ap (λ l. os ++ (mark_orders f.mark mark ++ l)) (from_start f.params xs)
 
 -- ---- past the end of a list

@@ -7,9 +7,15 @@ use Rattle.prem_text.specs.declared.lexing.token.token.Mark.TheVariants as m
 use Rattle.prem_text.specs.declared.lexing.token.token.Word.{Word}
 use Rattle.prem_text.specs.declared.lexing.token.token.Word.TheVariants as w
 use Rattle.prem_text.specs.Lexing.Token.Lexeme.{Lexeme, name, word, mark, Seen}
-use Rattle.prem_text.specs.Grammar.Slots.{Slot, fits, left_parenthesis, right_parenthesis, left_brace, right_brace, left_bracket, right_bracket, semicolon, comma, equal_sign, minus_sign, a_name, a_literal, the_void, the_int, the_short, the_signed, the_char, the_unsigned, the_range, the_return, is_left_parenthesis, is_right_parenthesis, is_comma, is_name, is_range, is_void, is_int, is_short, is_signed, is_char, is_unsigned}
+use Rattle.prem_text.specs.Grammar.Slots.{Slot, fits, left_parenthesis, right_parenthesis, left_brace, right_brace, left_bracket, right_bracket, semicolon, comma, equal_sign}
+use Rattle.prem_text.specs.Grammar.Slots.{minus_sign, a_name, a_literal, the_void, the_int, the_short, the_signed, the_char, the_unsigned, the_range, the_return}
+use Rattle.prem_text.specs.Grammar.Slots.{is_left_parenthesis, is_right_parenthesis, is_comma, is_name, is_range, is_void, is_int, is_short, is_signed, is_char, is_unsigned}
 use Rattle.prem_text.specs.Grammar.Phrases.{IsRow, spelled}
-use Rattle.prem_text.specs.Grammar.ProgramPhrases.{TypeForm, void_type, int_type, short_type, signed_char_type, unsigned_type, unsigned_int_type, unsigned_short_type, unsigned_char_type, type_slots, Declaration, IsDeclaration, declaration_tokens, ConstantPhrase, constant_slots, IsConstant, PartedConstant, InitialPhrase, no_initial, one_initial, many_initial, ArePartedConstants, IsInitial, constants_tokens, initial_tokens, IsLength, length_tokens, GlobalPhrase, IsGlobal, global_tokens, RangePhrase, IsRange, range_tokens, LocalPhrase, AreLocals, local_tokens, ResultPhrase, IsResult, result_tokens}
+use Rattle.prem_text.specs.Grammar.ProgramPhrases.{TypeForm, void_type, int_type, short_type, signed_char_type, unsigned_type, unsigned_int_type, unsigned_short_type}
+use Rattle.prem_text.specs.Grammar.ProgramPhrases.{unsigned_char_type, type_slots, Declaration, IsDeclaration, declaration_tokens, ConstantPhrase, constant_slots, IsConstant}
+use Rattle.prem_text.specs.Grammar.ProgramPhrases.{PartedConstant, InitialPhrase, no_initial, one_initial, many_initial, ArePartedConstants, IsInitial, constants_tokens}
+use Rattle.prem_text.specs.Grammar.ProgramPhrases.{initial_tokens, IsLength, length_tokens, GlobalPhrase, IsGlobal, global_tokens, RangePhrase, IsRange, range_tokens, LocalPhrase}
+use Rattle.prem_text.specs.Grammar.ProgramPhrases.{AreLocals, local_tokens, ResultPhrase, IsResult, result_tokens}
 use Rattle.prem_text.specs.Spelling.Spellings.{every}
 use Rattle.prem_text.specs.Canonical.Law.{lexemes_of}
 use Rattle.prem_annotating.specs.declared.editing.walk.Spot.{Spot}
@@ -193,10 +199,15 @@ constants_quiet (c ∷ rest) h = quiet_join (c.0.row ++ c.1) (constants_tokens r
 initial_goes_on : (i : InitialPhrase) (tail : List Seen) → IsInitial i → IsRow (semicolon ∷ []) tail → GoesOn (initial_tokens i ++ tail)
 initial_goes_on no_initial tail h t = subst GoesOn (append-nil tail) (row_goes_on semicolon [] tail [] no_semicolon refl t tt)
 initial_goes_on (one_initial sign constant) tail h t =
-    subst GoesOn (sym (append_assoc sign constant.row tail)) (row_goes_on equal_sign [] sign (constant.row ++ tail) no_equal refl h.0 (quiet_join constant.row tail (constant_quiet constant h.1) (row_quiet (semicolon ∷ []) tail refl t)))
+    subst GoesOn (sym (append_assoc sign constant.row tail))
+    (row_goes_on equal_sign [] sign (constant.row ++ tail) no_equal refl h.0
+    (quiet_join constant.row tail (constant_quiet constant h.1) (row_quiet (semicolon ∷ []) tail refl t)))
 initial_goes_on (many_initial head before last close) tail h t =
     let inner = constants_tokens before ++ last.row ++ close ++ tail in
-    let q = quiet_join (constants_tokens before ++ last.row ++ close) tail (quiet_join (constants_tokens before ++ last.row) close (quiet_join (constants_tokens before) last.row (constants_quiet before h.1) (constant_quiet last h.2)) (row_quiet (right_brace ∷ []) close refl h.3)) (row_quiet (semicolon ∷ []) tail refl t) in
+    let q = quiet_join (constants_tokens before ++ last.row ++ close) tail
+    (quiet_join (constants_tokens before ++ last.row) close
+    (quiet_join (constants_tokens before) last.row (constants_quiet before h.1) (constant_quiet last h.2))
+    (row_quiet (right_brace ∷ []) close refl h.3)) (row_quiet (semicolon ∷ []) tail refl t) in
     subst GoesOn (regroup head (constants_tokens before) last.row close tail) (row_goes_on equal_sign (left_brace ∷ []) head inner no_equal refl h.0 q)
   where
     regroup : (a b c d e : List Seen) → a ++ (b ++ c ++ d ++ e) ≡ a ++ b ++ c ++ d ++ e
@@ -206,11 +217,16 @@ initial_quiet : (i : InitialPhrase) → IsInitial i → AreQuiet (initial_tokens
 initial_quiet no_initial h = tt
 initial_quiet (one_initial sign constant) h = quiet_join sign constant.row (row_quiet (equal_sign ∷ []) sign refl h.0) (constant_quiet constant h.1)
 initial_quiet (many_initial head before last close) h =
-    quiet_join (head ++ constants_tokens before ++ last.row) close (quiet_join (head ++ constants_tokens before) last.row (quiet_join head (constants_tokens before) (row_quiet (equal_sign ∷ left_brace ∷ []) head refl h.0) (constants_quiet before h.1)) (constant_quiet last h.2)) (row_quiet (right_brace ∷ []) close refl h.3)
+    quiet_join (head ++ constants_tokens before ++ last.row) close
+    (quiet_join (head ++ constants_tokens before) last.row
+    (quiet_join head (constants_tokens before) (row_quiet (equal_sign ∷ left_brace ∷ []) head refl h.0) (constants_quiet before h.1))
+    (constant_quiet last h.2)) (row_quiet (right_brace ∷ []) close refl h.3)
 
 length_goes_on : (len : Option (List Seen)) (i : InitialPhrase) (tail : List Seen) → IsLength len → IsInitial i → IsRow (semicolon ∷ []) tail → GoesOn (length_tokens len ++ (initial_tokens i ++ tail))
 length_goes_on None i tail l h t = initial_goes_on i tail h t
-length_goes_on (Some row) i tail l h t = row_goes_on left_bracket (a_literal ∷ right_bracket ∷ []) row (initial_tokens i ++ tail) no_bracket refl l (quiet_join (initial_tokens i) tail (initial_quiet i h) (row_quiet (semicolon ∷ []) tail refl t))
+length_goes_on (Some row) i tail l h t =
+    row_goes_on left_bracket (a_literal ∷ right_bracket ∷ []) row (initial_tokens i ++ tail) no_bracket refl l
+    (quiet_join (initial_tokens i) tail (initial_quiet i h) (row_quiet (semicolon ∷ []) tail refl t))
 
 pub global_stays : (g : GlobalPhrase) → IsGlobal g → Stays Elsewhere (lexemes_of (global_tokens g)) Elsewhere
 global_stays g h =
@@ -228,16 +244,20 @@ locals_stay [] h = refl
 locals_stay (l ∷ rest) h =
     let d = declaration_tokens l.declaration in
     let inner = l.sign ++ (spelled l.value ++ l.tail) in
-    let behind = behind_stays inner (row_goes_on equal_sign [] l.sign (spelled l.value ++ l.tail) no_equal refl h.1 (quiet_join (spelled l.value) l.tail (phrase_quiet l.value) (row_quiet (semicolon ∷ []) l.tail refl h.3))) in
+    let behind = behind_stays inner
+    (row_goes_on equal_sign [] l.sign (spelled l.value ++ l.tail) no_equal refl h.1
+    (quiet_join (spelled l.value) l.tail (phrase_quiet l.value) (row_quiet (semicolon ∷ []) l.tail refl h.3))) in
     let one = rows_join Elsewhere BehindName Elsewhere d inner (declaration_stays l.declaration h.0) behind in
-    subst (λ x. Stays Elsewhere (lexemes_of x) Elsewhere) (regroup d l.sign (spelled l.value) l.tail (local_tokens rest)) (rows_join Elsewhere Elsewhere Elsewhere (d ++ inner) (local_tokens rest) one (locals_stay rest h.4))
+    subst (λ x. Stays Elsewhere (lexemes_of x) Elsewhere) (regroup d l.sign (spelled l.value) l.tail (local_tokens rest))
+    (rows_join Elsewhere Elsewhere Elsewhere (d ++ inner) (local_tokens rest) one (locals_stay rest h.4))
   where
     regroup : (a b c d e : List Seen) → (a ++ (b ++ (c ++ d))) ++ e ≡ a ++ b ++ c ++ d ++ e
     regroup a b c d e = simp (append_assoc)
 
 pub result_quiet : (r : Option ResultPhrase) → IsResult r → AreQuiet (result_tokens r)
 result_quiet None h = tt
-result_quiet (Some r) h = quiet_join (r.head ++ spelled r.value) r.tail (quiet_join r.head (spelled r.value) (row_quiet (the_return ∷ []) r.head refl h.0) (phrase_quiet r.value)) (row_quiet (semicolon ∷ []) r.tail refl h.2)
+result_quiet (Some r) h = quiet_join (r.head ++ spelled r.value) r.tail
+    (quiet_join r.head (spelled r.value) (row_quiet (the_return ∷ []) r.head refl h.0) (phrase_quiet r.value)) (row_quiet (semicolon ∷ []) r.tail refl h.2)
 
 pub close_mark : (x : Lexeme) → is_right_parenthesis x ≡ true → x ≡ mark m.CloseParenthesis
 close_mark (mark m.CloseParenthesis) h = refl
@@ -333,5 +353,7 @@ unfolding inner_slot
 range_stays r h =
     rows_join InParameters InRange InParameters (r.head ++ r.low.row ++ r.middle ++ r.high.row) r.close
     (rows_join InParameters InRange InRange (r.head ++ r.low.row ++ r.middle) r.high.row
-    (rows_join InParameters InRange InRange (r.head ++ r.low.row) r.middle (rows_join InParameters InRange InRange r.head r.low.row (range_head r.head h.0) (constant_stays r.low h.1)) (inner_stays (comma ∷ []) r.middle refl h.2))
+    (rows_join InParameters InRange InRange (r.head ++ r.low.row) r.middle
+    (rows_join InParameters InRange InRange r.head r.low.row (range_head r.head h.0) (constant_stays r.low h.1))
+    (inner_stays (comma ∷ []) r.middle refl h.2))
     (constant_stays r.high h.3)) (range_close r.close h.4)

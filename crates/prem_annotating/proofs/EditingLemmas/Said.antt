@@ -12,7 +12,8 @@ constant_before : (z : ℤ) (ps : List Piece) → text_of (constant_pieces z ++ 
 unfolding constant_bytes
 constant_before z ps = by (int_lt z (pos 0))
   where
-    by : (b : Bool) → text_of (map said (if b then mark m.Minus ∷ number_lexeme (unsigned_abs z) ∷ [] else number_lexeme (unsigned_abs z) ∷ []) ++ ps) ≡ (if b then 45 ∷ length_bytes (unsigned_abs z) else length_bytes (unsigned_abs z)) ++ text_of ps
+    by : (b : Bool) → text_of (map said (if b then mark m.Minus ∷ number_lexeme (unsigned_abs z) ∷ [] else number_lexeme (unsigned_abs z) ∷ []) ++ ps)
+        ≡ (if b then 45 ∷ length_bytes (unsigned_abs z) else length_bytes (unsigned_abs z)) ++ text_of ps
     by true = refl
     by false = refl
 
@@ -21,10 +22,13 @@ range_said (low, high) =
     let close = mark_piece m.CloseParenthesis ∷ [] in
     let behind = mark_piece m.Comma ∷ blank ∷ constant_pieces high ++ close in
     let tail : text_of behind ≡ codes ", " ++ (constant_bytes high ++ codes ")") = ap (λ (l : List ℕ). codes ", " ++ l) (constant_before high close) in
-    let whole : range_bytes (low, high) ≡ codes " RANGE(" ++ (constant_bytes low ++ (codes ", " ++ (constant_bytes high ++ codes ")"))) = ap (λ (l : List ℕ). codes " RANGE(" ++ l) (grouped low high ∙ constant_before low behind ∙ ap (λ (l : List ℕ). constant_bytes low ++ l) tail) in
+    let whole : range_bytes (low, high) ≡ codes " RANGE(" ++ (constant_bytes low ++ (codes ", " ++ (constant_bytes high ++ codes ")"))) =
+    ap (λ (l : List ℕ). codes " RANGE(" ++ l) (grouped low high ∙ constant_before low behind ∙ ap (λ (l : List ℕ). constant_bytes low ++ l) tail) in
     regroup (codes " RANGE(") (constant_bytes low) (codes ", ") (constant_bytes high) (codes ")") ∙ sym whole
   where
-    grouped : (low high : ℤ) → text_of (constant_pieces low ++ (mark_piece m.Comma ∷ blank ∷ constant_pieces high ++ mark_piece m.CloseParenthesis ∷ [])) ≡ text_of (constant_pieces low ++ (mark_piece m.Comma ∷ blank ∷ (constant_pieces high ++ mark_piece m.CloseParenthesis ∷ [])))
+    grouped : (low high : ℤ) → text_of
+        (constant_pieces low ++ (mark_piece m.Comma ∷ blank ∷ constant_pieces high ++ mark_piece m.CloseParenthesis ∷ []))
+        ≡ text_of (constant_pieces low ++ (mark_piece m.Comma ∷ blank ∷ (constant_pieces high ++ mark_piece m.CloseParenthesis ∷ [])))
     grouped low high = refl
 
     regroup : (a b c d e : List ℕ) → a ++ b ++ c ++ d ++ e ≡ a ++ (b ++ (c ++ (d ++ e)))

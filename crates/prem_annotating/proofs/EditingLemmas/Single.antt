@@ -31,8 +31,10 @@ pub leave_goes : (s s1 : Spot) (os : List Order) (bytes : List ℕ) (t : Lexeme)
     Goes s (leave ∷ os) (a_token bytes t ∷ []) (a_token bytes t ∷ []) s1 os
 leave_goes s s1 os [] t mode is more h = let none = token_begun [] (text_of more) t h.0 in let parts : [] ≡ none.first ∷ none.more = none.parts in absurd cc
 leave_goes s s1 os (b ∷ bytes) t mode is more h =
-    let first : from s (leave ∷ os) (a_token (b ∷ bytes) t ∷ more) ≡ b ∷ walked s1 Copying os (plain bytes ++ marks_of more) = ap (λ (x : Step). after_step x (leave ∷ os) (plain bytes ++ marks_of more)) (is b) in
-    first ∙ ap (λ (l : List ℕ). b ∷ l) (copies s1 os bytes (marks_of more)) ∙ ap (λ (k : Mode). b ∷ bytes ++ walked s1 k os (marks_of more)) (sym mode) ∙ ap (λ (l : List ℕ). l ++ from s1 os more) (sym (append-nil (b ∷ bytes)))
+    let first : from s (leave ∷ os) (a_token (b ∷ bytes) t ∷ more) ≡ b ∷ walked s1 Copying os (plain bytes ++ marks_of more) =
+    ap (λ (x : Step). after_step x (leave ∷ os) (plain bytes ++ marks_of more)) (is b) in
+    first ∙ ap (λ (l : List ℕ). b ∷ l) (copies s1 os bytes (marks_of more))
+    ∙ ap (λ (k : Mode). b ∷ bytes ++ walked s1 k os (marks_of more)) (sym mode) ∙ ap (λ (l : List ℕ). l ++ from s1 os more) (sym (append-nil (b ∷ bytes)))
 
 -- ---- words of name bytes
 
@@ -57,15 +59,18 @@ name_word : (bytes : List ℕ) (x : Text) → Spells bytes (name x) → NameSpel
 name_word _ _ (as_name b rest letter all le none) = record { right = record { first = b; others = rest; parts = refl; all = all }; is = refl }
 
 -- a word that is skipped, with bytes in its place
-word_skipped : (s s1 : Spot) (os : List Order) (wanted new : List ℕ) (b : ℕ) (bytes : List ℕ) (t : Lexeme) (more : List Piece) → mode_of s1 ≡ Copying → every is_name_byte bytes ≡ true → goes_on (text_of more) ≡ false →
+word_skipped : (s s1 : Spot) (os : List Order) (wanted new : List ℕ) (b : ℕ) (bytes : List ℕ) (t : Lexeme) (more : List Piece) →
+    mode_of s1 ≡ Copying → every is_name_byte bytes ≡ true → goes_on (text_of more) ≡ false →
     at_token s (Some (put wanted)) t b ≡ step new s1 Skipping true → from s (put wanted ∷ os) (a_token (b ∷ bytes) t ∷ more) ≡ new ++ from s1 os more
 word_skipped s s1 os wanted new b bytes t more mode all off is =
-    let first : from s (put wanted ∷ os) (a_token (b ∷ bytes) t ∷ more) ≡ new ++ walked s1 Skipping os (plain bytes ++ marks_of more) = ap (λ (x : Step). after_step x (put wanted ∷ os) (plain bytes ++ marks_of more)) is in
+    let first : from s (put wanted ∷ os) (a_token (b ∷ bytes) t ∷ more) ≡ new ++ walked s1 Skipping os (plain bytes ++ marks_of more) =
+    ap (λ (x : Step). after_step x (put wanted ∷ os) (plain bytes ++ marks_of more)) is in
     first ∙ ap (λ (l : List ℕ). new ++ l) (skips s1 os bytes (marks_of more) all ∙ skip_ends s1 os more off) ∙ ap (λ (k : Mode). new ++ walked s1 k os (marks_of more)) (sym mode)
 
 -- ---- a name with a RANGE, and a literal in place of another one
 
-pub name_goes : (os : List Order) (bytes : List ℕ) (x : Text) (behind : List Piece) → Goes InParameters (put (text_of behind) ∷ os) (a_token bytes (name x) ∷ []) (a_token bytes (name x) ∷ behind) InParameters os
+pub name_goes : (os : List Order) (bytes : List ℕ) (x : Text) (behind : List Piece) →
+    Goes InParameters (put (text_of behind) ∷ os) (a_token bytes (name x) ∷ []) (a_token bytes (name x) ∷ behind) InParameters os
 name_goes os bytes x behind more h =
     let s = name_word bytes x h.0.spells in
     let parts : bytes ≡ s.right.first ∷ s.right.others = s.right.parts in
@@ -74,7 +79,8 @@ name_goes os bytes x behind more h =
     ∙ word_skipped InParameters InParameters os (text_of behind) (x ++ text_of behind) s.right.first s.right.others (name x) more refl s.right.all off refl
     ∙ ap (λ (l : List ℕ). l ++ text_of behind ++ from InParameters os more) (sym s.is)
 
-pub literal_goes : (os : List Order) (bytes wanted : List ℕ) (old n : ℕ) (kind kind' : Kind) → Goes InMark (put wanted ∷ os) (a_token bytes (number old kind) ∷ []) (a_token wanted (number n kind') ∷ []) InMark os
+pub literal_goes : (os : List Order) (bytes wanted : List ℕ) (old n : ℕ) (kind kind' : Kind) →
+    Goes InMark (put wanted ∷ os) (a_token bytes (number old kind) ∷ []) (a_token wanted (number n kind') ∷ []) InMark os
 literal_goes os bytes wanted old n kind kind' more h =
     let word' = literal_word bytes old kind h.0.spells in
     let parts : bytes ≡ word'.first ∷ word'.others = word'.parts in
@@ -112,13 +118,16 @@ among_on more o end_of_text b on = absurd cc
 drop_token : (k : ℕ) (os : List Order) (b : ℕ) (bytes : List ℕ) (t : Lexeme) (ms : List Marked) → closes t ≡ false →
     walked (AmongRegions k) Dropping os ((b, Some t) ∷ plain bytes ++ ms) ≡ walked (AmongRegions k) Dropping os ms
 drop_token k os b bytes t ms off =
-    let first : walked (AmongRegions k) Dropping os ((b, Some t) ∷ plain bytes ++ ms) ≡ walked (AmongRegions k) Dropping os (plain bytes ++ ms) = ap (λ (x : Step). after_step x os (plain bytes ++ ms)) (among_off k (first_order os) t b off) in
+    let first : walked (AmongRegions k) Dropping os ((b, Some t) ∷ plain bytes ++ ms) ≡ walked (AmongRegions k) Dropping os (plain bytes ++ ms) =
+    ap (λ (x : Step). after_step x os (plain bytes ++ ms)) (among_off k (first_order os) t b off) in
     first ∙ drops (AmongRegions k) os bytes ms
 
 drop_close : (k : ℕ) (os : List Order) (b : ℕ) (bytes : List ℕ) (t : Lexeme) (ms : List Marked) → closes t ≡ true →
     walked (AmongRegions (suc k)) Dropping os ((b, Some t) ∷ plain bytes ++ ms) ≡ walked (AmongRegions k) Dropping os ms
 drop_close k os b bytes t ms on =
-    let first : walked (AmongRegions (suc k)) Dropping os ((b, Some t) ∷ plain bytes ++ ms) ≡ walked (AmongRegions k) Dropping os (plain bytes ++ ms) = ap (λ (x : Step). after_step x os (plain bytes ++ ms)) (among_on (suc k) (first_order os) t b on) in
+    let first : walked (AmongRegions (suc k)) Dropping os ((b, Some t) ∷ plain bytes ++ ms)
+    ≡ walked (AmongRegions k) Dropping os (plain bytes ++ ms) =
+    ap (λ (x : Step). after_step x os (plain bytes ++ ms)) (among_on (suc k) (first_order os) t b on) in
     first ∙ drops (AmongRegions k) os bytes ms
 
 drop_last : (os : List Order) (b : ℕ) (t : Lexeme) (ms : List Marked) → closes t ≡ true → walked (AmongRegions 0) Dropping os ((b, Some t) ∷ ms) ≡ walked Elsewhere Copying os ms
@@ -141,7 +150,8 @@ closing_byte bytes (mark m.CloseParenthesis) s on single = single bytes s
 closing_byte bytes (mark _) s on single = absurd cc
 closing_byte bytes _ s on single = absurd cc
 
-pub gone_over : (single : (b : List ℕ) → Spells b (mark m.CloseParenthesis) → b ≡ 41 ∷ []) (k : ℕ) (os : List Order) (ps more : List Piece) → Left k (lexemes_in ps) → EndsInToken ps → AreDivided (ps ++ more) → from (AmongRegions k) os (ps ++ more) ≡ from Elsewhere os more
+pub gone_over : (single : (b : List ℕ) → Spells b (mark m.CloseParenthesis) → b ≡ 41 ∷ []) (k : ℕ) (os : List Order) (ps more : List Piece) →
+    Left k (lexemes_in ps) → EndsInToken ps → AreDivided (ps ++ more) → from (AmongRegions k) os (ps ++ more) ≡ from Elsewhere os more
 gone_over single k os [] more l ends h = absurd l
 gone_over single zero os (between b ∷ ps) more l ends h = drops (AmongRegions zero) os b (marks_of (ps ++ more)) ∙ gone_over single zero os ps more l (ends_tail (between b) ps ends) h.1
 gone_over single (suc k) os (between b ∷ ps) more l ends h = drops (AmongRegions (suc k)) os b (marks_of (ps ++ more)) ∙ gone_over single (suc k) os ps more l (ends_tail (between b) ps ends) h.1
@@ -153,10 +163,13 @@ gone_over single zero os (a_token (b ∷ bytes) t ∷ ps) more l ends h =
     let last : ps ≡ [] = nothing_left (a_token (b ∷ bytes) t) ps ends x.1 in
     ap (λ (l : List ℕ). walked (AmongRegions 0) Dropping os ((b, Some t) ∷ plain l ++ marks_of (ps ++ more))) alone
     ∙ ap (λ (l : List Piece). walked (AmongRegions 0) Dropping os ((b, Some t) ∷ marks_of (l ++ more))) last ∙ drop_last os b t (marks_of more) x.0)
-    (λ (x : (closes t ≡ false) × Left zero (lexemes_in ps)). drop_token 0 os b bytes t (marks_of (ps ++ more)) x.0 ∙ gone_over single zero os ps more x.1 (ends_tail (a_token (b ∷ bytes) t) ps ends) h.1) l
+    (λ (x : (closes t ≡ false) × Left zero (lexemes_in ps)). drop_token 0 os b bytes t (marks_of (ps ++ more)) x.0
+    ∙ gone_over single zero os ps more x.1 (ends_tail (a_token (b ∷ bytes) t) ps ends) h.1) l
 gone_over single (suc k) os (a_token (b ∷ bytes) t ∷ ps) more l ends h =
-    ⊎_elim (λ (x : (closes t ≡ true) × Left k (lexemes_in ps)). drop_close k os b bytes t (marks_of (ps ++ more)) x.0 ∙ gone_over single k os ps more x.1 (ends_tail (a_token (b ∷ bytes) t) ps ends) h.1)
-    (λ (x : (closes t ≡ false) × Left (suc k) (lexemes_in ps)). drop_token (suc k) os b bytes t (marks_of (ps ++ more)) x.0 ∙ gone_over single (suc k) os ps more x.1 (ends_tail (a_token (b ∷ bytes) t) ps ends) h.1) l
+    ⊎_elim (λ (x : (closes t ≡ true) × Left k (lexemes_in ps)). drop_close k os b bytes t (marks_of (ps ++ more)) x.0
+    ∙ gone_over single k os ps more x.1 (ends_tail (a_token (b ∷ bytes) t) ps ends) h.1)
+    (λ (x : (closes t ≡ false) × Left (suc k) (lexemes_in ps)). drop_token (suc k) os b bytes t (marks_of (ps ++ more)) x.0
+    ∙ gone_over single (suc k) os ps more x.1 (ends_tail (a_token (b ∷ bytes) t) ps ends) h.1) l
 
 -- ---- the tokens of regions
 
@@ -194,7 +207,8 @@ close_off s (number v k) none h = refl
 close_off s (word k) none h = refl
 close_off s end_of_text none h = refl
 
-row_left : (k : ℕ) (slots : List Slot) (row : List Seen) (ls : List Lexeme) → every no_close_slot slots ≡ true → IsRow (slots ++ right_parenthesis ∷ []) row → Behind k ls → Left k (lexemes_of row ++ ls)
+row_left : (k : ℕ) (slots : List Slot) (row : List Seen) (ls : List Lexeme) → every no_close_slot slots ≡ true →
+    IsRow (slots ++ right_parenthesis ∷ []) row → Behind k ls → Left k (lexemes_of row ++ ls)
 row_left k [] [] ls all h b = absurd h
 row_left k [] (t ∷ []) ls all h b = close_now k t.0 ls (close_on t.0 h.0) b
 row_left k [] (t ∷ u ∷ more) ls all h b = absurd h.1
@@ -214,7 +228,8 @@ trees_length [] = refl
 trees_length (r ∷ rs) = ap suc (trees_length rs)
 
 -- a `)` with regions behind it, in place of others
-pub regions_go : (single : (b : List ℕ) → Spells b (mark m.CloseParenthesis) → b ≡ 41 ∷ []) (os : List Order) (rows : List (List Seen)) (old new : List Piece) → AreRegions rows → EndsInToken old → lexemes_in old ≡ lexemes_of (region_tokens rows) →
+pub regions_go : (single : (b : List ℕ) → Spells b (mark m.CloseParenthesis) → b ≡ 41 ∷ []) (os : List Order) (rows : List (List Seen))
+    (old new : List Piece) → AreRegions rows → EndsInToken old → lexemes_in old ≡ lexemes_of (region_tokens rows) →
     Goes InMark (put_for (length rows) (text_of new) ∷ os) (mark_piece m.CloseParenthesis ∷ old) (mark_piece m.CloseParenthesis ∷ new) Elsewhere os
 regions_go single os [] old new right ends e more h =
     let none : old ≡ [] = nothing_left (mark_piece m.CloseParenthesis) old (λ front bytes is. closing front bytes is) e in

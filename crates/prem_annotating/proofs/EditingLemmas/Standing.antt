@@ -1,7 +1,8 @@
 -- How a walk in memory goes on.
 use Rattle.std.specs.Prelude.{slice_get, ◌==◌, if◌then◌else◌}
 use Rattle.std.specs.Option.{option_map}
-use Rattle.std.proofs.Common.{◌≡◌, ◌<◌, ◌≤◌, ℕ, zero, suc, ◌+◌, Bool, true, false, List, [], ◌∷◌, ◌++◌, length, get_or, drop, map, Option, None, Some, refl, sym, ap, ◌∙◌, arith, append_assoc, drop-cons, add-one}
+use Rattle.std.proofs.Common.{◌≡◌, ◌<◌, ◌≤◌, ℕ, zero, suc, ◌+◌, Bool, true, false, List, [], ◌∷◌, ◌++◌, length, get_or, drop, map, Option, None, Some, refl, sym, ap, ◌∙◌, arith}
+use Rattle.std.proofs.Common.{append_assoc, drop-cons, add-one}
 use Rattle.std.proofs.lemmas.List.{drop_all}
 use Rattle.prem_syntax.specs.declared.tree.Place.{Place}
 use Rattle.prem_text.specs.declared.lexing.token.token.Spotted.{Spotted}
@@ -50,12 +51,15 @@ rest_there false os n = let k : n ≡ n + 0 = omega arith in ap (λ m. drop m os
 abbrev over_lists : List Spotted → List OrderTree → Place → Standing → List ℕ → List ℕ
 over_lists tokens orders at s text = walked s.spot s.mode (drop s.order (map order_of orders)) (marked at (drop s.token (map seen_of tokens)) text)
 
-no_token : (ts : List Seen) (at : Place) (spot : Spot) (mode : Mode) (os : List Order) (b : ℕ) (rest : List ℕ) → begins at ts ≡ false → walked spot mode os (marked at ts (b ∷ rest)) ≡ (at_byte mode b).0 ++ walked spot (at_byte mode b).1 os (marked (behind at b) ts rest)
+no_token : (ts : List Seen) (at : Place) (spot : Spot) (mode : Mode) (os : List Order) (b : ℕ) (rest : List ℕ) → begins at ts ≡ false →
+    walked spot mode os (marked at ts (b ∷ rest)) ≡ (at_byte mode b).0 ++ walked spot (at_byte mode b).1 os (marked (behind at b) ts rest)
 no_token [] at spot mode os b rest is = refl
 no_token (t ∷ ts) at spot mode os b rest is = ap (λ (x : Bool). walked spot mode os ((b, first_if x (t ∷ ts)) ∷ marked (behind at b) (tokens_behind x (t ∷ ts)) rest)) is
 
 one_token : (t : Seen) (ts : List Seen) (at : Place) (spot : Spot) (mode : Mode) (os : List Order) (b : ℕ) (rest : List ℕ) → same_place t.1 at ≡ true →
-    walked spot mode os (marked at (t ∷ ts) (b ∷ rest)) ≡ (at_token spot (first_order os) t.0 b).bytes ++ walked (at_token spot (first_order os) t.0 b).behind.spot (at_token spot (first_order os) t.0 b).behind.mode (rest_if (at_token spot (first_order os) t.0 b).behind.done os) (marked (behind at b) ts rest)
+    walked spot mode os (marked at (t ∷ ts) (b ∷ rest)) ≡ (at_token spot (first_order os) t.0 b).bytes
+    ++ walked (at_token spot (first_order os) t.0 b).behind.spot (at_token spot (first_order os) t.0 b).behind.mode
+    (rest_if (at_token spot (first_order os) t.0 b).behind.done os) (marked (behind at b) ts rest)
 one_token t ts at spot mode os b rest is = ap (λ (x : Bool). walked spot mode os ((b, first_if x (t ∷ ts)) ∷ marked (behind at b) (tokens_behind x (t ∷ ts)) rest)) is
 
 -- a byte that no token begins with, and one that a token begins with, where the rest is known
@@ -65,7 +69,8 @@ passed : (tokens : List Spotted) (orders : List OrderTree) (at : Place) (s : Sta
 passed tokens orders at s b rest off later =
     ap (λ (l : List ℕ). (at_byte s.mode b).0 ++ l) later ∙ sym (no_token (drop s.token (map seen_of tokens)) at s.spot s.mode (drop s.order (map order_of orders)) b rest off)
 
-stepped : (tokens : List Spotted) (orders : List OrderTree) (at : Place) (s : Standing) (b : ℕ) (rest : List ℕ) (t : Spotted) (step : Step) → slice_get tokens s.token ≡ Some t → same_place t.at at ≡ true →
+stepped : (tokens : List Spotted) (orders : List OrderTree) (at : Place) (s : Standing) (b : ℕ) (rest : List ℕ) (t : Spotted) (step : Step) →
+    slice_get tokens s.token ≡ Some t → same_place t.at at ≡ true →
     at_token s.spot (first_order (drop s.order (map order_of orders))) (lexeme_of t.token) b ≡ step →
     over tokens orders (behind at b) (behind_token step s).1 rest ≡ over_lists tokens orders (behind at b) (behind_token step s).1 rest →
     (behind_token step s).0 ++ over tokens orders (behind at b) (behind_token step s).1 rest ≡ over_lists tokens orders at s (b ∷ rest)
@@ -76,7 +81,8 @@ stepped tokens orders at s b rest t step there same is later =
     let moved : over_lists tokens orders (behind at b) (behind_token step s).1 rest ≡ walked step.behind.spot step.behind.mode (rest_if step.behind.done os) (marked (behind at b) behind_ts rest) =
     ap (λ l. walked step.behind.spot step.behind.mode l (marked (behind at b) behind_ts rest)) (sym (rest_there step.behind.done (map order_of orders) s.order)) in
     ap (λ (l : List ℕ). step.bytes ++ l) (later ∙ moved)
-    ∙ sym (ap (λ (l : List Seen). walked s.spot s.mode os (marked at l (b ∷ rest))) (some_next seen_of tokens s.token t there) ∙ one ∙ ap (λ (x : Step). x.bytes ++ walked x.behind.spot x.behind.mode (rest_if x.behind.done os) (marked (behind at b) behind_ts rest)) is)
+    ∙ sym (ap (λ (l : List Seen). walked s.spot s.mode os (marked at l (b ∷ rest))) (some_next seen_of tokens s.token t there) ∙ one
+    ∙ ap (λ (x : Step). x.bytes ++ walked x.behind.spot x.behind.mode (rest_if x.behind.done os) (marked (behind at b) behind_ts rest)) is)
 
 begun : (tokens : List Spotted) (orders : List OrderTree) (at : Place) (s : Standing) (b : ℕ) (rest : List ℕ) (t : Spotted) → slice_get tokens s.token ≡ Some t →
     ((s' : Standing) → over tokens orders (behind at b) s' rest ≡ over_lists tokens orders (behind at b) s' rest) →
@@ -87,7 +93,8 @@ begun tokens orders at s b rest t there later true same =
 begun tokens orders at s b rest t there later false same =
     passed tokens orders at s b rest (ap (begins at) (some_next seen_of tokens s.token t there) ∙ same) (later (behind_byte (at_byte s.mode b) s).1)
 
-by_next : (tokens : List Spotted) (orders : List OrderTree) (at : Place) (s : Standing) (b : ℕ) (rest : List ℕ) → ((s' : Standing) → over tokens orders (behind at b) s' rest ≡ over_lists tokens orders (behind at b) s' rest) →
+by_next : (tokens : List Spotted) (orders : List OrderTree) (at : Place) (s : Standing) (b : ℕ) (rest : List ℕ) →
+    ((s' : Standing) → over tokens orders (behind at b) s' rest ≡ over_lists tokens orders (behind at b) s' rest) →
     (o : Option Spotted) → slice_get tokens s.token ≡ o → (by_token o at orders s b).0 ++ over tokens orders (behind at b) (by_token o at orders s b).1 rest ≡ over_lists tokens orders at s (b ∷ rest)
 by_next tokens orders at s b rest later None is = passed tokens orders at s b rest (ap (begins at) (none_next seen_of tokens s.token is)) (later (behind_byte (at_byte s.mode b) s).1)
 by_next tokens orders at s b rest later (Some t) is = begun tokens orders at s b rest t is later (same_place t.at at) refl
@@ -99,7 +106,8 @@ over_is tokens orders at s (b ∷ rest) = by_next tokens orders at s b rest (λ 
 -- ---- the loop over a text
 
 -- one byte of it
-pub over_next : (tokens : List Spotted) (orders : List OrderTree) (at : Place) (s : Standing) (i : ℕ) (text out out' whole : List ℕ) → i < length text → out' ≡ out ++ (advanced tokens orders at s (get_or text i 0)).0 →
+pub over_next : (tokens : List Spotted) (orders : List OrderTree) (at : Place) (s : Standing) (i : ℕ) (text out out' whole : List ℕ) →
+    i < length text → out' ≡ out ++ (advanced tokens orders at s (get_or text i 0)).0 →
     out ++ over tokens orders at s (drop i text) ≡ whole → out' ++ over tokens orders (behind at (get_or text i 0)) (advanced tokens orders at s (get_or text i 0)).1 (drop (i + 1) text) ≡ whole
 over_next tokens orders at s i text out out' whole inside is so_far =
     let b = get_or text i 0 in

@@ -16,8 +16,11 @@ use Rattle.prem_text.proofs.Whole.{text_read}
 use Rattle.prem_annotating.specs.declared.editing.walk.Spot.{Spot}
 use Rattle.prem_annotating.specs.declared.editing.walk.Spot.TheVariants.{Elsewhere, BehindType, BehindName, InMark, AmongRegions, InParameters, InRange}
 use Rattle.prem_annotating.specs.declared.editing.walk.Mode.TheVariants.{Copying}
-use Rattle.prem_annotating.specs.Editing.Walk.{Order, leave, put, put_for, Marked, Step, is_type, is_predictable, is_range, is_open, is_close, type_or, elsewhere, behind_type, behind_name, in_range, at_literal, at_close, at_name, kept, in_mark, in_parameters, at_token, first_order, rest_if, walked, begins, tokens_behind, marked, behind, edited}
-use Rattle.prem_annotating.specs.Editing.Orders.{length_bytes, regions_bytes, length_order, regions_order, mark_orders, range_order, range_orders, function_orders, Wanted, annotations, unplaced_wanted, all_orders, edited_text, text_with, StaysWhereSame}
+use Rattle.prem_annotating.specs.Editing.Walk.{Order, leave, put, put_for, Marked, Step, is_type, is_predictable, is_range, is_open, is_close, type_or, elsewhere, behind_type}
+use Rattle.prem_annotating.specs.Editing.Walk.{behind_name, in_range, at_literal, at_close, at_name, kept, in_mark, in_parameters, at_token, first_order, rest_if, walked, begins}
+use Rattle.prem_annotating.specs.Editing.Walk.{tokens_behind, marked, behind, edited}
+use Rattle.prem_annotating.specs.Editing.Orders.{length_bytes, regions_bytes, length_order, regions_order, mark_orders, range_order, range_orders, function_orders, Wanted}
+use Rattle.prem_annotating.specs.Editing.Orders.{annotations, unplaced_wanted, all_orders, edited_text, text_with, StaysWhereSame}
 use Rattle.prem_annotating.proofs.There.{same_regions_yes}
 
 -- ---- one step
@@ -190,5 +193,6 @@ all_same (f ∷ fs) (w ∷ ws) e =
 pub stays_where_same : StaysWhereSame
 stays_where_same text p ws is e =
     let program : reads text ≡ Ok p = text_read text p is in
-    let outer : text_with ws text ≡ edited_text (all_orders (functions_of p) ws) text = ap (λ (r : Result ProgramText FrontFail). elim r [ Ok q ↦ edited_text (all_orders (functions_of q) ws) text | Err fail ↦ text ]) program in
+    let outer : text_with ws text ≡ edited_text (all_orders (functions_of p) ws) text =
+    ap (λ (r : Result ProgramText FrontFail). elim r [ Ok q ↦ edited_text (all_orders (functions_of q) ws) text | Err fail ↦ text ]) program in
     outer ∙ left_text (all_orders (functions_of p) ws) text (all_same (functions_of p) ws e)

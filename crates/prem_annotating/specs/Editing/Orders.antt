@@ -1,5 +1,6 @@
 -- What differs between a program's annotations and those that are wanted, as orders.
-use Rattle.std.specs.Prelude.{ℕ, ◌+◌, ℤ, slice_index_or, pos, int_lt, unsigned_abs, codes, ◌==◌, Bool, true, false, ◌&&◌, if◌then◌else◌, List, [], ◌∷◌, ◌++◌, length, map, Option, None, Some, Ok, Err, ◌≡◌}
+use Rattle.std.specs.Prelude.{ℕ, ◌+◌, ℤ, slice_index_or, pos, int_lt, unsigned_abs, codes, ◌==◌, Bool, true, false, ◌&&◌, if◌then◌else◌, List, [], ◌∷◌, ◌++◌, length, map, Option}
+use Rattle.std.specs.Prelude.{None, Some, Ok, Err, ◌≡◌}
 use Rattle.std.specs.Option.{option_map}
 use Rattle.std.specs.Str.{bytes_eq}
 use Rattle.prem_syntax.specs.Syntax.{Parameter, RegionText, MarkText, FunctionText, ProgramText}
@@ -125,4 +126,5 @@ unplaced_wanted w = (option_map unplaced_mark w.0, w.1)
 
 -- a program's text stays where the annotations that are wanted stand, places aside
 abbrev pub StaysWhereSame : Type 0
-StaysWhereSame = (text : List ℕ) (p : ProgramText) (ws : List Wanted) → IsProgramText text p → map unplaced_wanted (map annotations (functions_of p)) ≡ map unplaced_wanted ws → text_with ws text ≡ text
+StaysWhereSame = (text : List ℕ) (p : ProgramText) (ws : List Wanted) → IsProgramText text p →
+    map unplaced_wanted (map annotations (functions_of p)) ≡ map unplaced_wanted ws → text_with ws text ≡ text

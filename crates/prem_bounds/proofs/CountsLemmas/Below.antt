@@ -1,7 +1,8 @@
 -- The table of counts tells those of the definition.
 use Rattle.std.specs.Prelude.{is_some}
 use Rattle.std.specs.Option.{option_map}
-use Rattle.std.proofs.Common.{◌≡◌, ℕ, zero, suc, ◌+◌, ◌*◌, ◌^◌, ◌≤◌, ◌<◌, max, min, cond, List, [], ◌∷◌, ◌++◌, Option, None, Some, refl, ap, sym, ◌∙◌, ⊎_elim, arith, length, drop, slice_index, slice_get, length-append}
+use Rattle.std.proofs.Common.{◌≡◌, ℕ, zero, suc, ◌+◌, ◌*◌, ◌^◌, ◌≤◌, ◌<◌, max, min, cond, List, [], ◌∷◌, ◌++◌, Option, None, Some, refl, ap, sym, ◌∙◌, ⊎_elim, arith, length, drop}
+use Rattle.std.proofs.Common.{slice_index, slice_get, length-append}
 use Rattle.std.proofs.lemmas.Bool.{cases_eq, cases_lt, eq-eqb, ne_eqb}
 use Rattle.std.proofs.lemmas.Nat.{mul-le}
 use Rattle.std.proofs.lemmas.List.{drop-drop}
@@ -88,7 +89,8 @@ one_more tally all n r known count is long h e f =
 abbrev Counts : Tally → ℕ → Type 0
 Counts tally mark = (turns : ℕ → ℕ) (m : ℕ) (r : RoutineTree) → tally.call (routine_of turns m r) ≡ mark_of mark r
 
-behind_is : (tally : Tally) (mark : ℕ) (turns : List ℕ) (all : List Routine) (m n : ℕ) (rs : List RoutineTree) (known : List ℕ) → Counts tally mark → drop n all ≡ routines_of (slice_index turns) m rs → length known ≡ n → Known tally all n known →
+behind_is : (tally : Tally) (mark : ℕ) (turns : List ℕ) (all : List Routine) (m n : ℕ) (rs : List RoutineTree) (known : List ℕ) → Counts tally mark →
+    drop n all ≡ routines_of (slice_index turns) m rs → length known ≡ n → Known tally all n known →
     Known tally all (n + length rs) (counts_behind tally.output mark known (drop m turns) rs)
 behind_is tally mark turns all m n [] known counts e long h f = let z : n ≡ n + 0 = omega arith in h f ∙ ap (λ k. clipped (most_below tally all k f)) z
 behind_is tally mark turns all m n (r ∷ rs) known counts e long h f =
@@ -101,7 +103,8 @@ behind_is tally mark turns all m n (r ∷ rs) known counts e long h f =
     let told : count ≡ clipped (tally.call plain + most_in tally.output (slice_index known) plain.body) = omega (arith, body, called) in
     let left : drop (loops_of r.body) (drop m turns) ≡ drop (m + loops_of r.body) turns = drop-drop (loops_of r.body) m turns in
     ap (λ ts. slice_index (counts_behind tally.output mark (known ++ count ∷ []) ts rs) f) left
-    ∙ behind_is tally mark turns all (m + loops_of r.body) (suc n) rs (known ++ count ∷ []) counts (rest_of_rest all n plain others e) (omega (arith, length-append known (count ∷ []), long)) (one_more tally all n plain known count (first_of_rest all n plain others e) long h told) f
+    ∙ behind_is tally mark turns all (m + loops_of r.body) (suc n) rs (known ++ count ∷ []) counts (rest_of_rest all n plain others e)
+    (omega (arith, length-append known (count ∷ []), long)) (one_more tally all n plain known count (first_of_rest all n plain others e) long h told) f
     ∙ ap (λ k. clipped (most_below tally all k f)) next
 
 routines_long : (turns : ℕ → ℕ) (m : ℕ) (rs : List RoutineTree) → length (routines_of turns m rs) ≡ length rs

@@ -18,7 +18,8 @@ row_most : {m : _} (output : ℕ) (calls : ℕ → ℕ) (turns : List ℕ) (row 
 row_most output calls turns end_of-Step = refl
 row_most output calls turns (more_of-Step first others) = ap (λ k. most_of_step output calls turns first + k) (row_most output calls (drop (loops_of first) turns) others)
 
-pub block_most : (output : ℕ) (calls : ℕ → ℕ) (turns : List ℕ) (s : Step) (body : Sequence Step) (items : List Step) → s ≡ Block body → items ≡ items_of body → most_of_list output calls turns items ≡ most_of_step output calls turns s
+pub block_most : (output : ℕ) (calls : ℕ → ℕ) (turns : List ℕ) (s : Step) (body : Sequence Step) (items : List Step) → s ≡ Block body →
+    items ≡ items_of body → most_of_list output calls turns items ≡ most_of_step output calls turns s
 block_most output calls turns s body items is e =
     ap (most_of_list output calls turns) e
     ∙ sym (ap (most_of_step output calls turns) is ∙ row_most output calls turns (hidden-the_row-Step-0 body.all) ∙ ap (most_of_list output calls turns) (items_hidden-the_row-Step-0 body.all))

@@ -14,4 +14,5 @@ clash_step p plans lines k plan line lp ll is none =
     let f : ℕ = (plan_of (get_or plans k plan)).function in
     let rest : Option Clash = first_clash p (map plan_of (drop (k + 1) plans)) (drop (k + 1) lines) in
     ap (λ o. or_else (clash_in f o) rest) (none ∙ ap (conflict_of p.sets p.«ways») is)
-    ∙ sym (at_drop_more (λ (ps : List IntervalPlan). first_clash p (map plan_of ps) (drop k lines)) plans k plan lp ∙ at_drop_more (λ (ls : List (List ℕ)). first_clash p (plan_of (get_or plans k plan) ∷ map plan_of (drop (k + 1) plans)) ls) lines k line ll)
+    ∙ sym (at_drop_more (λ (ps : List IntervalPlan). first_clash p (map plan_of ps) (drop k lines)) plans k plan lp
+    ∙ at_drop_more (λ (ls : List (List ℕ)). first_clash p (plan_of (get_or plans k plan) ∷ map plan_of (drop (k + 1) plans)) ls) lines k line ll)

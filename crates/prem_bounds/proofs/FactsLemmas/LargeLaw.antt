@@ -33,7 +33,8 @@ by_bound all n bound = by (nat_lt greatest_bound bound)
     by true = refl
     by false = refl
 
-by_mark : (all : List Routine) (n : ℕ) (b : Bool) (facts : List IntervalFact) → marked_bound b (name_at all n) facts ≡ option_map (λ m. BoundTooLarge (name_at all m)) (marked_large b n (map is_large facts))
+by_mark : (all : List Routine) (n : ℕ) (b : Bool) (facts : List IntervalFact) →
+    marked_bound b (name_at all n) facts ≡ option_map (λ m. BoundTooLarge (name_at all m)) (marked_large b n (map is_large facts))
 by_mark all n false facts = refl
 by_mark all n true [] = refl
 by_mark all n true (f ∷ fs) = by_bound all n f.bound

@@ -54,7 +54,8 @@ is_coded_task t is plans =
 
 -- ---- a set's tasks
 
-coded_is : (target : Target) (t : TaskText) (r : ResolvedTree) (turns : List ℕ) (code : Codes) (p : ProgramText) → resolved_of (slice_index turns) r ≡ bounded p → code_in code ≡ program_code target p → coded_with t r turns code ≡ coded_one target t (bounded p)
+coded_is : (target : Target) (t : TaskText) (r : ResolvedTree) (turns : List ℕ) (code : Codes) (p : ProgramText) →
+    resolved_of (slice_index turns) r ≡ bounded p → code_in code ≡ program_code target p → coded_with t r turns code ≡ coded_one target t (bounded p)
 coded_is target t r turns code p program is = λ i. record { name = t.name; period = t.period; jobs = t.jobs; program = program i; code = is i }
 
 -- tasks that may be coded, and what they are with their code
@@ -65,8 +66,10 @@ pub record Ready (tasks : List TaskText) (coded : List Coded) (programs : List R
   pub programs_count : length programs ≡ length codes
   pub turns_count : length turns ≡ length codes
 
-both_ready : (target : Target) (t : TaskText) (ts : List TaskText) (p : ProgramText) (ps : List ProgramText) (r : ResolvedTree) (rs : List ResolvedTree) (u : Vec ℕ Global) (us : List (Vec ℕ Global)) (c : Codes) (cs : List Codes) →
-    IsCodable r u.items c → resolved_of (slice_index u.items) r ≡ bounded p → code_in c ≡ program_code target p → Ready ts (coded_of target ts ps) rs us cs → Ready (t ∷ ts) (coded_of target (t ∷ ts) (p ∷ ps)) (r ∷ rs) (u ∷ us) (c ∷ cs)
+both_ready : (target : Target) (t : TaskText) (ts : List TaskText) (p : ProgramText) (ps : List ProgramText) (r : ResolvedTree)
+    (rs : List ResolvedTree) (u : Vec ℕ Global) (us : List (Vec ℕ Global)) (c : Codes) (cs : List Codes) →
+    IsCodable r u.items c → resolved_of (slice_index u.items) r ≡ bounded p → code_in c ≡ program_code target p →
+    Ready ts (coded_of target ts ps) rs us cs → Ready (t ∷ ts) (coded_of target (t ∷ ts) (p ∷ ps)) (r ∷ rs) (u ∷ us) (c ∷ cs)
 both_ready target t ts p ps r rs u us c cs is program code rest =
     let a = rest.tasks_count in
     let b = rest.programs_count in
@@ -79,7 +82,8 @@ both_ready target t ts p ps r rs u us c cs is program code rest =
       turns_count = omega (arith, d);
     }
 
-all_ready : (target : Target) (ts : List TaskText) (ps : List ProgramText) (rs : List ResolvedTree) (us : List (Vec ℕ Global)) (cs : List Codes) → length ps ≡ length ts → AreCodesOf ps (coded_of target ts ps) → map meant_by rs ≡ map text_by ps →
+all_ready : (target : Target) (ts : List TaskText) (ps : List ProgramText) (rs : List ResolvedTree) (us : List (Vec ℕ Global)) (cs : List Codes) →
+    length ps ≡ length ts → AreCodesOf ps (coded_of target ts ps) → map meant_by rs ≡ map text_by ps →
     map (λ (t : Vec ℕ Global). t.items) us ≡ map turn_bounds ps → map code_in cs ≡ map (λ (c : Coded). c.code) (coded_of target ts ps) → Ready ts (coded_of target ts ps) rs us cs
 all_ready target [] [] [] [] [] count codes er eu ec = record { each = tt; same = refl; tasks_count = refl; programs_count = refl; turns_count = refl }
 all_ready target [] [] (r ∷ rs) us cs count codes er eu ec = absurd cc
@@ -116,8 +120,11 @@ as_many_coded target [] ps = omega arith
 as_many_coded target (t ∷ ts) [] = omega arith
 as_many_coded target (t ∷ ts) (p ∷ ps) = let rest = as_many_coded target ts ps in omega (arith, rest)
 
-pub tasks_are : {E : Type 0} (set : TaskSet) (tasks : List TaskTree) (programs : List ResolvedTree) (turns : List (Vec ℕ Global)) (codes : List Codes) (result : Result (Vec CodedTask Global) E) → AreForSet set programs turns codes →
-    map task_of tasks ≡ set.tasks → length tasks ≤ 16 → IfOk result (λ all. map coded_task all.items ≡ all_coded (map task_of tasks) programs turns codes) → IfOk result (λ all. AllByRecursion IsCodedTask all.items) →
+pub tasks_are : {E : Type 0} (set : TaskSet) (tasks : List TaskTree) (programs : List ResolvedTree) (turns : List (Vec ℕ Global)) (codes : List Codes)
+    (result : Result (Vec CodedTask Global) E) → AreForSet set programs turns codes →
+    map task_of tasks ≡ set.tasks → length tasks ≤ 16 →
+    IfOk result (λ all. map coded_task all.items ≡ all_coded (map task_of tasks) programs turns codes) →
+    IfOk result (λ all. AllByRecursion IsCodedTask all.items) →
     IfOk result (λ all. AreTasksOf set all.items)
 tasks_are set tasks programs turns codes (Err e) h et few is each = tt
 tasks_are set tasks programs turns codes (Ok all) h et few is each =

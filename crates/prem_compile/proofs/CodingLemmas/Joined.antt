@@ -48,13 +48,18 @@ is_formed p e = by (meaning.first_breach p) e
 abbrev AreCoded : Target → List TaskText → List ProgramText → Type 0
 AreCoded target ts ps = AreCodesOf ps (coded_of target ts ps)
 
-codes_from : (target : Target) (n : ℕ) (ts : List TaskText) → first_among text_rules n ts ≡ None → first_among program_rules n (programs_of ts) ≡ None → first_among late_four n (coded_of target ts (programs_of ts)) ≡ None → AreCoded target ts (programs_of ts)
+codes_from : (target : Target) (n : ℕ) (ts : List TaskText) → first_among text_rules n ts ≡ None →
+    first_among program_rules n (programs_of ts) ≡ None → first_among late_four n (coded_of target ts (programs_of ts)) ≡ None →
+    AreCoded target ts (programs_of ts)
 codes_from target n [] one two four = tt
 codes_from target n (t ∷ ts) one two four = by (reads t.text) refl one two four (codes_from target (n + 1) ts)
   where
-    by : (read : Result ProgramText FrontFail) → reads t.text ≡ read → or_else (refused_by (Some n) (unread read)) (first_among text_rules (n + 1) ts) ≡ None → first_among program_rules n (program_before read (programs_of ts)) ≡ None →
+    by : (read : Result ProgramText FrontFail) → reads t.text ≡ read →
+        or_else (refused_by (Some n) (unread read)) (first_among text_rules (n + 1) ts) ≡ None →
+        first_among program_rules n (program_before read (programs_of ts)) ≡ None →
         first_among late_four n (coded_of target (t ∷ ts) (program_before read (programs_of ts))) ≡ None →
-        (first_among text_rules (n + 1) ts ≡ None → first_among program_rules (n + 1) (programs_of ts) ≡ None → first_among late_four (n + 1) (coded_of target ts (programs_of ts)) ≡ None → AreCoded target ts (programs_of ts)) →
+        (first_among text_rules (n + 1) ts ≡ None → first_among program_rules (n + 1) (programs_of ts) ≡ None →
+        first_among late_four (n + 1) (coded_of target ts (programs_of ts)) ≡ None → AreCoded target ts (programs_of ts)) →
         AreCoded target (t ∷ ts) (program_before read (programs_of ts))
     by (Err fail) is one two four more = absurd cc
     by (Ok p) is one two four more =
@@ -75,7 +80,9 @@ codes_from target n (t ∷ ts) one two four = by (reads t.text) refl one two fou
 -- no rule on code generation or before it is broken
 pub codes_when_early : (set : TaskSet) → broken_early set ≡ None → AreCodesOf (programs_of set.tasks) (coded_in set)
 codes_when_early set e =
-    let one = neither (over_tasks text_rules set.tasks) (or_else (over_tasks program_rules (programs_of set.tasks)) (or_else (over_tasks range_rules (programs_of set.tasks)) (late_refusal (code_broken set)))) e in
+    let one = neither (over_tasks text_rules set.tasks)
+    (or_else (over_tasks program_rules (programs_of set.tasks))
+    (or_else (over_tasks range_rules (programs_of set.tasks)) (late_refusal (code_broken set)))) e in
     let two = neither (over_tasks program_rules (programs_of set.tasks)) (or_else (over_tasks range_rules (programs_of set.tasks)) (late_refusal (code_broken set))) one.1 in
     let three = neither (over_tasks range_rules (programs_of set.tasks)) (late_refusal (code_broken set)) two.1 in
     codes_from set.plant.target 0 set.tasks one.0 two.0 (not_late (code_broken set) three.1)
@@ -95,6 +102,8 @@ are_for_set set c is = record {
 }
 
 -- lists that are lent are the same
-pub lent_for_set : (set : TaskSet) (c : Coded) (programs : List ResolvedTree) (turns : List (Vec ℕ Global)) → programs ≡ c.resolved.items → turns ≡ c.turns.items → IsCoded set c → AreForSet set programs turns c.codes.items
+pub lent_for_set : (set : TaskSet) (c : Coded) (programs : List ResolvedTree) (turns : List (Vec ℕ Global)) → programs ≡ c.resolved.items →
+    turns ≡ c.turns.items → IsCoded set c → AreForSet set programs turns c.codes.items
 lent_for_set set c programs turns ep et is =
-    subst (λ (us : List (Vec ℕ Global)). AreForSet set programs us c.codes.items) (sym et) (subst (λ (rs : List ResolvedTree). AreForSet set rs c.turns.items c.codes.items) (sym ep) (are_for_set set c is))
+    subst (λ (us : List (Vec ℕ Global)). AreForSet set programs us c.codes.items) (sym et)
+    (subst (λ (rs : List ResolvedTree). AreForSet set rs c.turns.items c.codes.items) (sym ep) (are_for_set set c is))

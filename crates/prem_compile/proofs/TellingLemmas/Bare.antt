@@ -82,7 +82,8 @@ module _ {A : Type 0} (f : A → Coded) (tasks : List A) (all lent : List NamedT
       subst (λ (cs : List Coded). All (IsThere devices cs) parts) (sym are_bare)
       (All-weaker (IsThere devices (map f tasks)) (IsThere devices (bare (map f tasks))) (λ (part : PartSize). bare_there devices (map f tasks) part.task part.kind) parts h)
 
-  pub names_told : {E : Type 0} (devices : List Device) (parts : List PartSize) (result : Result (Sequence Name) E) → IfOk result (λ names. map name_bytes (items_of names) ≡ map (part_name devices (map named_in lent)) parts) →
+  pub names_told : {E : Type 0} (devices : List Device) (parts : List PartSize) (result : Result (Sequence Name) E) →
+      IfOk result (λ names. map name_bytes (items_of names) ≡ map (part_name devices (map named_in lent)) parts) →
       IfOk result (λ names. map name_bytes (items_of names) ≡ map (part_name devices (map f tasks)) parts)
   names_told devices parts (Err e) h = tt
   names_told devices parts (Ok names) h = h ∙ ap (λ (cs : List Coded). map (part_name devices cs) parts) are_bare ∙ bare_parts devices (map f tasks) parts

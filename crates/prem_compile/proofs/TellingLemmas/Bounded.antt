@@ -12,7 +12,8 @@ use Rattle.prem_place.specs.declared.placed.PlacedTask.{PlacedTask}
 use Rattle.prem_tasks.specs.Compiled.{job_bounds}
 use Rattle.prem_compile.specs.Telling.Longest.{HasBound, longest_in}
 
-pub have_bounds : (p : Plant) (tasks : List PlacedTask) (jobs : List ℕ) → jobs ≡ map (λ (j : JobBound). j.bound) (job_bounds p (map placed_of tasks)) → AllByRecursion IsBound jobs → AllByRecursion (HasBound p) tasks
+pub have_bounds : (p : Plant) (tasks : List PlacedTask) (jobs : List ℕ) →
+    jobs ≡ map (λ (j : JobBound). j.bound) (job_bounds p (map placed_of tasks)) → AllByRecursion IsBound jobs → AllByRecursion (HasBound p) tasks
 have_bounds p tasks jobs is small = each tasks (subst (AllByRecursion IsBound) is small) where
   each : (ts : List PlacedTask) → AllByRecursion IsBound (map (λ (j : JobBound). j.bound) (job_bounds p (map placed_of ts))) → AllByRecursion (HasBound p) ts
   each [] h = tt
@@ -20,11 +21,13 @@ have_bounds p tasks jobs is small = each tasks (subst (AllByRecursion IsBound) i
 
 -- ---- one more task
 
-longest_more : (p : Plant) (ts : List PlacedTask) (t : PlacedTask) → longest_in p (map placed_of (ts ++ t ∷ [])) ≡ longest_in p (map placed_of ts) ++ longest_of p (placed_of t).plans (placed_of t).table ∷ []
+longest_more : (p : Plant) (ts : List PlacedTask) (t : PlacedTask) →
+    longest_in p (map placed_of (ts ++ t ∷ [])) ≡ longest_in p (map placed_of ts) ++ longest_of p (placed_of t).plans (placed_of t).table ∷ []
 longest_more p [] t = refl
 longest_more p (x ∷ xs) t = ap (λ ns. longest_of p (placed_of x).plans (placed_of x).table ∷ ns) (longest_more p xs t)
 
-pub task_told : (p : Plant) (ts : List PlacedTask) (k : ℕ) (t : PlacedTask) (n : ℕ) (front all : List ℕ) → k < length ts → t ≡ get_or ts k t → n ≡ longest_of p (placed_of t).plans (placed_of t).table →
+pub task_told : (p : Plant) (ts : List PlacedTask) (k : ℕ) (t : PlacedTask) (n : ℕ) (front all : List ℕ) → k < length ts → t ≡ get_or ts k t →
+    n ≡ longest_of p (placed_of t).plans (placed_of t).table →
     front ≡ longest_in p (map placed_of (take k ts)) → all ≡ front ++ n ∷ [] → all ≡ longest_in p (map placed_of (take (k + 1) ts))
 task_told p ts k t n front all lt is en ef ea =
     ea

@@ -16,7 +16,9 @@ listed : (p : Plant) (tasks : List PlacedTask) → bounds_in p tasks ≡ map (λ
 listed p [] = refl
 listed p (t ∷ ts) = ap (λ (bs : List ℕ). (job_fact p (placed_of t)).bound ∷ bs) (listed p ts)
 
-pub limit_is : (p : Plant) (tasks : List PlacedTask) (jobs : List ℕ) (n : ℕ) → jobs ≡ map (λ (j : JobBound). j.bound) (job_bounds p (map placed_of tasks)) → n ≡ limit_of (jobs_with tasks jobs) → n ≡ limit_of (job_bounds p (map placed_of tasks))
+pub limit_is : (p : Plant) (tasks : List PlacedTask) (jobs : List ℕ) (n : ℕ) →
+    jobs ≡ map (λ (j : JobBound). j.bound) (job_bounds p (map placed_of tasks)) → n ≡ limit_of (jobs_with tasks jobs) →
+    n ≡ limit_of (job_bounds p (map placed_of tasks))
 limit_is p tasks jobs n e is = is ∙ ap (λ (bs : List ℕ). limit_of (jobs_with tasks bs)) (e ∙ listed p tasks) ∙ ap limit_of (turns.jobs_are p tasks)
 
 counted : (p : Plant) (tasks : List PlacedTask) → length (bounds_in p tasks) ≡ length tasks

@@ -44,7 +44,8 @@ named_at (t ∷ ts) (suc n) kind d h = named_at ts n kind d h
 pub among_of : (tasks : List NamedTask) (n : ℕ) (kind : PartKind) (t : NamedTask) → IsAmong (map named_task tasks) n kind → t ≡ get_or tasks n t → IsIn (named_task t) kind
 among_of tasks n kind t h is = subst (λ (q : NamedTask). IsIn (named_task q) kind) (sym is) (among_at tasks n kind t h)
 
-pub named_of : (tasks : List NamedTask) (n : ℕ) (kind : PartKind) (t : NamedTask) → IsAmong (map named_task tasks) n kind → t ≡ get_or tasks n t → named_in t.name.now (named_task t).program kind ≡ names_in (map named_task tasks) n kind
+pub named_of : (tasks : List NamedTask) (n : ℕ) (kind : PartKind) (t : NamedTask) → IsAmong (map named_task tasks) n kind → t ≡ get_or tasks n t →
+    named_in t.name.now (named_task t).program kind ≡ names_in (map named_task tasks) n kind
 named_of tasks n kind t h is = ap (λ (q : NamedTask). named_in q.name.now (named_task q).program kind) is ∙ named_at tasks n kind t h
 
 -- ---- functions
@@ -55,14 +56,16 @@ routine_within turns rs items f n lt en ei =
     let same = ap (λ (xs : List Routine). length xs) ei in
     omega (arith, lt, long, en, same)
 
-pub routine_named : (turns : ℕ → ℕ) (rs items : List Routine) (f n : ℕ) (r : Routine) → f < length (plain_routines turns 0 rs) → n ≡ f → items ≡ rs → r ≡ get_or items n r → name_bytes r.text.now.name ≡ name_at (plain_routines turns 0 rs) f
+pub routine_named : (turns : ℕ → ℕ) (rs items : List Routine) (f n : ℕ) (r : Routine) → f < length (plain_routines turns 0 rs) → n ≡ f → items ≡ rs →
+    r ≡ get_or items n r → name_bytes r.text.now.name ≡ name_at (plain_routines turns 0 rs) f
 routine_named turns rs items f n r lt en ei is =
     let long = routines_long turns 0 rs in
     name_from turns 0 rs f r (omega (arith, lt, long)) (is ∙ ap (λ (xs : List Routine). get_or xs n r) ei ∙ ap (λ k. get_or rs k r) en)
 
 -- ---- globals
 
-pub global_at : (globals : List (Bor Global)) (g : ℕ) (d : Bor Global) → g < length globals → name_bytes (get_or globals g d).now.name ≡ global_name (map (λ (x : Bor Global). global_of x.now) globals) g
+pub global_at : (globals : List (Bor Global)) (g : ℕ) (d : Bor Global) → g < length globals →
+    name_bytes (get_or globals g d).now.name ≡ global_name (map (λ (x : Bor Global). global_of x.now) globals) g
 global_at [] g d lt = absurd (omega arith)
 global_at (x ∷ xs) zero d lt = refl
 global_at (x ∷ xs) (suc g) d lt = global_at xs g d (omega arith)

@@ -50,7 +50,8 @@ module _ (devices : List Device) (all : List Coded) where
   code_there task limit n [] has le = tt
   code_there task limit n (s ∷ ss) has le = (has n (omega arith), code_there task limit (n + 1) ss has (omega arith))
 
-  stubs_there : (passes : Passes) (task limit : ℕ) (plans : List Plan) → ((f : ℕ) → f < limit → IsAmong all task (Stub f)) → AllByRecursion (Below limit) plans → AllByRecursion There (stub_parts passes task plans)
+  stubs_there : (passes : Passes) (task limit : ℕ) (plans : List Plan) → ((f : ℕ) → f < limit → IsAmong all task (Stub f)) →
+      AllByRecursion (Below limit) plans → AllByRecursion There (stub_parts passes task plans)
   stubs_there passes task limit [] has below = tt
   stubs_there passes task limit (plan ∷ plans) has below = (has plan.function below.0, stubs_there passes task limit plans has below.1)
 
@@ -59,7 +60,8 @@ module _ (devices : List Device) (all : List Coded) where
   globals_there task limit n (g ∷ gs) has le = (has n (omega arith), globals_there task limit (n + 1) gs has (omega arith))
 
   -- of a task that is among all
-  task_there : (passes : Passes) (task : ℕ) (c : Coded) → ((kind : PartKind) → IsIn c kind → IsAmong all task kind) → HasCode c → AllByRecursion There (task_parts passes task (map size_of c.code) c.program)
+  task_there : (passes : Passes) (task : ℕ) (c : Coded) → ((kind : PartKind) → IsIn c kind → IsAmong all task kind) → HasCode c →
+      AllByRecursion There (task_parts passes task (map size_of c.code) c.program)
   task_there passes task c has code =
       let functions : ℕ = length c.program.routines in
       let globals : ℕ = length c.program.globals in
@@ -74,12 +76,14 @@ module _ (devices : List Device) (all : List Coded) where
       let all_stubs = joined There (stub_parts passes task (plans_of c.program)) behind_stubs stubs all_variables in
       (has Start tt, joined There (code_parts task 0 (map size_of c.code)) behind_code codes all_stubs)
 
-  tasks_there : (passes : Passes) (n : ℕ) (cs : List Coded) → ((k : ℕ) (kind : PartKind) → IsAmong cs k kind → IsAmong all (n + k) kind) → AllByRecursion HasCode cs → AllByRecursion There (parts_from passes n (map sized_of cs))
+  tasks_there : (passes : Passes) (n : ℕ) (cs : List Coded) → ((k : ℕ) (kind : PartKind) → IsAmong cs k kind → IsAmong all (n + k) kind) →
+      AllByRecursion HasCode cs → AllByRecursion There (parts_from passes n (map sized_of cs))
   tasks_there passes n [] has codes = tt
   tasks_there passes n (c ∷ cs) has codes =
       let first : (kind : PartKind) → IsIn c kind → IsAmong all n kind = λ kind h. subst (λ m. IsAmong all m kind) (omega arith) (has 0 kind h) in
       let behind : (k : ℕ) (kind : PartKind) → IsAmong cs k kind → IsAmong all (n + 1 + k) kind = λ k kind h. subst (λ m. IsAmong all m kind) (omega arith) (has (suc k) kind h) in
-      joined There (task_parts passes n (map size_of c.code) c.program) (parts_from passes (n + 1) (map sized_of cs)) (task_there passes n c first codes.0) (tasks_there passes (n + 1) cs behind codes.1)
+      joined There (task_parts passes n (map size_of c.code) c.program) (parts_from passes (n + 1) (map sized_of cs))
+      (task_there passes n c first codes.0) (tasks_there passes (n + 1) cs behind codes.1)
 
   areas_there : (line n : ℕ) (ds : List Device) → n + length ds ≤ length devices → AllByRecursion There (area_parts line n ds)
   areas_there line n [] le = tt
@@ -89,4 +93,5 @@ pub parts_there : PartsAreThere
 parts_there p devices tasks codes =
     let among : (k : ℕ) (kind : PartKind) → IsAmong tasks k kind → IsAmong tasks (0 + k) kind = λ k kind h. subst (λ m. IsAmong tasks m kind) (omega arith) h in
     all_from (IsThere devices tasks) (parts_of p devices tasks)
-    (joined (IsThere devices tasks) (parts_from (stub_passes p) 0 (map sized_of tasks)) (area_parts p.line 0 devices) (tasks_there devices tasks (stub_passes p) 0 tasks among codes) (areas_there devices tasks p.line 0 devices (omega arith)))
+    (joined (IsThere devices tasks) (parts_from (stub_passes p) 0 (map sized_of tasks)) (area_parts p.line 0 devices)
+    (tasks_there devices tasks (stub_passes p) 0 tasks among codes) (areas_there devices tasks p.line 0 devices (omega arith)))

@@ -10,7 +10,8 @@ use Rattle.prem_answer.specs.declared.answer.Telling.TheVariants.{Whole}
 use Rattle.prem_answer.specs.Stages.{Reply, Reads, Stage, IsFine}
 use Rattle.prem_answer.proofs.Reading.{form_fine, reading_fine_by}
 use Rattle.prem_exec.specs.Forms.{RunText, line_why, run_in_by}
-use Rattle.prem_exec.specs.Sources.Sources.{names_of, reading_run, reading_run_by, reading_set, reading_set_by, reading_sources, reading_tasks_by, run_limit, run_of_bytes_by, set_in_by, set_limit, set_of_bytes_by, set_why, set_with, source_limit, task_of_source}
+use Rattle.prem_exec.specs.Sources.Sources.{names_of, reading_run, reading_run_by, reading_set, reading_set_by, reading_sources, reading_tasks_by, run_limit, run_of_bytes_by}
+use Rattle.prem_exec.specs.Sources.Sources.{set_in_by, set_limit, set_of_bytes_by, set_why, set_with, source_limit, task_of_source}
 
 pub sets_fine : (how : Telling) (name : List ℕ) (read : Result SetData SetFail) → IsFine (λ x. Unit {0}) (set_in_by how name read)
 sets_fine how name (Ok set) = tt

@@ -93,7 +93,8 @@ RefusesForms make = (bytes : List ℕ) (reply : Reply) → make bytes ≡ Err re
 abbrev MakesRight : {A : Type 0} → (List ℕ → Result A Reply) → (A → Type 0) → Type 0
 MakesRight {A} make right = (bytes : List ℕ) (x : A) → make bytes ≡ Ok x → right x
 
-module _ {A : Type 0} (how : Telling) (limit : ℕ) (name : List ℕ) (make : List ℕ → Result A Reply) (right : A → Type 0) (formed : RefusesForms make) (makes : MakesRight make right) (reads : Reads) where
+module _ {A : Type 0} (how : Telling) (limit : ℕ) (name : List ℕ) (make : List ℕ → Result A Reply) (right : A → Type 0) (formed : RefusesForms make)
+    (makes : MakesRight make right) (reads : Reads) where
   abbrev goes_with : (A → Stage Reply) → Result (List ℕ) Reply → Result Reply Reply
   goes_with next r = and_then (and_then r make) (λ x. next x (later_reads reads))
 

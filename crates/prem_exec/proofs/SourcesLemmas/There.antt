@@ -8,7 +8,8 @@ use Rattle.prem_answer.specs.declared.answer.Telling.{Telling}
 use Rattle.prem_answer.specs.Stages.{Reply, Reads, Stage, AreReads, and_then, later_reads, reading_by, within_by}
 use Rattle.prem_answer.proofs.Reading.{short_file as within}
 use Rattle.prem_exec.specs.Forms.{RunText, run_in_by}
-use Rattle.prem_exec.specs.Sources.Sources.{reading_run_by, reading_set_by, reading_sources, reading_tasks_by, run_limit, run_of_bytes_by, set_in_by, set_limit, set_of_bytes_by, set_with, source_limit, task_of_source}
+use Rattle.prem_exec.specs.Sources.Sources.{reading_run_by, reading_set_by, reading_sources, reading_tasks_by, run_limit, run_of_bytes_by, set_in_by, set_limit, set_of_bytes_by}
+use Rattle.prem_exec.specs.Sources.Sources.{set_with, source_limit, task_of_source}
 use Rattle.prem_exec.specs.Sources.There.{IsThere, RunIsThere, SourcesAreThere, SetIsThere}
 
 -- ---- files

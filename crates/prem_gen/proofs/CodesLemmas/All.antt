@@ -62,7 +62,8 @@ fits_next p n f there none fits c below = by (nat_lt c n) refl where
 abbrev pub view : Sequence Piece → Pieces
 view code = pieces_of (items_of code)
 
-pub codes_next : (target : Target) (p : Resolved) (parts : Parts) (n : ℕ) (f : Routine) (old new : List (Sequence Piece)) (code : Sequence Piece) (all : List Pieces) → slice_get p.routines n ≡ Some f → parts ≡ parts_of target p.routines →
+pub codes_next : (target : Target) (p : Resolved) (parts : Parts) (n : ℕ) (f : Routine) (old new : List (Sequence Piece)) (code : Sequence Piece)
+    (all : List Pieces) → slice_get p.routines n ≡ Some f → parts ≡ parts_of target p.routines →
     view code ≡ code_at target p n → new ≡ old ++ code ∷ [] → map view old ++ codes_of parts (drop n p.routines) ≡ all → map view new ++ codes_of parts (drop (n + 1) p.routines) ≡ all
 codes_next target p parts n f old new code all there same is more before =
     let rest = codes_of parts (drop (n + 1) p.routines) in
@@ -85,7 +86,8 @@ exceeds_first e o rest h = record {
   by_depth = λ line is. ap (λ x. excess_or x rest) (h.by_depth line is);
 }
 
-pub exceeds_here : (p : Resolved) (n : ℕ) (f : Routine) (e : GenFail) (found : Option Excess) → slice_get p.routines n ≡ Some f → excess_among n (drop n p.routines) ≡ found → Exceeds e (excess_at p n) → Exceeds e found
+pub exceeds_here : (p : Resolved) (n : ℕ) (f : Routine) (e : GenFail) (found : Option Excess) → slice_get p.routines n ≡ Some f →
+    excess_among n (drop n p.routines) ≡ found → Exceeds e (excess_at p n) → Exceeds e found
 exceeds_here p n f e found there is h =
     let same : excess_or (excess_at p n) (excess_among (n + 1) (drop (n + 1) p.routines)) ≡ found =
     ap (λ o. excess_or (excess_if_there n o) (excess_among (n + 1) (drop (n + 1) p.routines))) there

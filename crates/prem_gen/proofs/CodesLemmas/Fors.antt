@@ -5,11 +5,14 @@ use Rattle.prem_list.specs.Sequence.{items_of}
 use Rattle.prem_syntax.specs.declared.tree.Place.{Place}
 use Rattle.prem_syntax.specs.declared.meaning.Meaning.{Meaning}
 use Rattle.prem_syntax.specs.declared.meaning.Meaning.TheVariants.{Nothing, Local as LocalName, Scalar as ScalarName, Array as ArrayName, Function as FunctionName}
-use Rattle.prem_syntax.specs.Syntax.{Statement, block, if_then, if_else, bounded_while, counting_for, assign, output, input, call, Statements, no_statements, next_statement, GlobalVariable, FunctionText, ProgramText, global_item, function_item}
-use Rattle.prem_syntax.specs.Resolve.{Scope, meaning_of, set_steps, input_steps, call_steps, target_of, number_named, loops_in, loops_within, scope_in, functions_of, resolve_term, resolve_statement, resolve_statements, resolve_items}
+use Rattle.prem_syntax.specs.Syntax.{Statement, block, if_then, if_else, bounded_while, counting_for, assign, output, input, call, Statements, no_statements, next_statement}
+use Rattle.prem_syntax.specs.Syntax.{GlobalVariable, FunctionText, ProgramText, global_item, function_item}
+use Rattle.prem_syntax.specs.Resolve.{Scope, meaning_of, set_steps, input_steps, call_steps, target_of, number_named, loops_in, loops_within, scope_in, functions_of, resolve_term}
+use Rattle.prem_syntax.specs.Resolve.{resolve_statement, resolve_statements, resolve_items}
 use Rattle.prem_syntax.specs.Resolved.{Term, Steps, Done, SetLocal, SetScalar, SetElement, Output, Input, If, For, While, Call, Routine, Resolved}
 use Rattle.prem_tree.specs.declared.resolve.resolved.Step.{Step, Row_of-Step, end_of-Step, more_of-Step}
-use Rattle.prem_tree.specs.declared.resolve.resolved.Step.TheVariants.{Block', SetLocal as SetLocalTree, SetScalar as SetScalarTree, SetElement as SetElementTree, Output as OutputTree, Input as InputTree, If', For', While', Call as CallTree}
+use Rattle.prem_tree.specs.declared.resolve.resolved.Step.TheVariants.{Block', SetLocal as SetLocalTree, SetScalar as SetScalarTree, SetElement as SetElementTree}
+use Rattle.prem_tree.specs.declared.resolve.resolved.Step.TheVariants.{Output as OutputTree, Input as InputTree, If', For', While', Call as CallTree}
 use Rattle.prem_tree.specs.declared.resolve.resolved.Routine.{Routine as RoutineTree}
 use Rattle.prem_tree.specs.declared.resolve.resolved.Resolved.{Resolved as ResolvedTree}
 use Rattle.prem_tree.specs.Resolve.ResolvedOf.{loops_of, row_loops, step_before, row_before, routines_of, all_loops, item_loops, IsResolved}

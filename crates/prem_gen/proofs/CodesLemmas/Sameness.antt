@@ -79,7 +79,8 @@ parts_by target first table = record {
 abbrev table_of : List RoutineTree → List Callee
 table_of rs = callees_from (1 + length rs) 0 rs
 
-function_same : (t : Target) (g : ℕ → ℕ) (p q : Parts) (f : Routine) → CallsSame (with_globals t g p) (with_globals t g q) f.body → function_code (with_globals t g p) f ≡ function_code (with_globals t g q) f
+function_same : (t : Target) (g : ℕ → ℕ) (p q : Parts) (f : Routine) → CallsSame (with_globals t g p) (with_globals t g q) f.body →
+    function_code (with_globals t g p) f ≡ function_code (with_globals t g q) f
 function_same t g p q f h =
     ap (λ body. straight (opening (frame_of f)) (followed (declare_code t g (length f.text.params) f.locals) (followed body (followed (result_code t g f.result) (only (closing (frame_of f)))))))
     (code_is_by_calls t g p q (locals_of f) f.body h)
@@ -112,7 +113,8 @@ pub routine_small : (turns : ℕ → ℕ) (rs : List RoutineTree) (m n : ℕ) (r
     EachCallee (λ c. frame_at (routines_of turns 0 rs) c ≤ greatest_frame) (routine_of turns m r).body → RoutineSmall (table_of rs) r
 routine_small turns rs m n r small h =
     trees_are_small (table_of rs) turns m n r small
-    (each_more _ _ (λ c fits. let t = (table_tells Rv32i turns 0 rs c).frame_is fits in let f : frame_at (routines_of turns 0 rs) c ≤ greatest_frame = fits in omega (arith, t, f)) (routine_of turns m r).body h)
+    (each_more _ _ (λ c fits. let t = (table_tells Rv32i turns 0 rs c).frame_is fits in let f : frame_at (routines_of turns 0 rs) c ≤ greatest_frame =
+    fits in omega (arith, t, f)) (routine_of turns m r).body h)
 
 pub well_formed_are_small : WellFormedAreSmall
 well_formed_are_small r p is formed turns n f there fits =

@@ -37,14 +37,16 @@ module _ (turns : ℕ → ℕ) (p : ResolvedTree) (n m : ℕ) (r : RoutineTree) 
       let number : 0 + all_loops (take n All) ≡ m = omega (arith, numbered) in
       routine_at turns 0 All n r inside at ∙ ap (λ k. Some (routine_of turns k r)) number
 
-  pub small_told : (table : List Callee) → table ≡ callees_from (1 + length All) 0 All → FunctionsSmall (resolved_of turns p) → CalleesFit (resolved_of turns p) n → frame_of Plain ≤ greatest_frame → RoutineSmall table r
+  pub small_told : (table : List Callee) → table ≡ callees_from (1 + length All) 0 All → FunctionsSmall (resolved_of turns p) →
+      CalleesFit (resolved_of turns p) n → frame_of Plain ≤ greatest_frame → RoutineSmall table r
   small_told table made small fits own =
       subst (λ t. RoutineSmall t r) (sym made) (routine_small turns All m n r (small n Plain there own) (fits Plain there own))
 
   pub excess_told : {A : Type 0} (result : Result A GenFail) → Refuses result (excess_of n Plain) → Refuses result (excess_at (resolved_of turns p) n)
   excess_told {A} result h = subst (λ o. Refuses {A = A} result (excess_if_there n o)) (sym there) h
 
-  pub code_told : (target : Target) (first : ℕ) (table : List Callee) (result : Result (Sequence Piece) GenFail) → first ≡ 1 + length xs + all_marks xs → table ≡ callees_from (1 + length All) 0 All → CalleesFit (resolved_of turns p) n →
+  pub code_told : (target : Target) (first : ℕ) (table : List Callee) (result : Result (Sequence Piece) GenFail) →
+      first ≡ 1 + length xs + all_marks xs → table ≡ callees_from (1 + length All) 0 All → CalleesFit (resolved_of turns p) n →
       IfOk result (λ pieces. pieces_of (items_of pieces) ≡ function_code (parts_by target first table) Plain) → Refuses result (excess_of n Plain) →
       IfOk result (λ pieces. pieces_of (items_of pieces) ≡ code_at target (resolved_of turns p) n)
   code_told target first table (Err e) counted made fits code none = tt

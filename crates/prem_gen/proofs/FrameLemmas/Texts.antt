@@ -6,7 +6,8 @@ use Rattle.prem_syntax.specs.declared.tree.Place.{Place}
 use Rattle.prem_syntax.specs.declared.meaning.Meaning.{Meaning}
 use Rattle.prem_syntax.specs.declared.meaning.Meaning.TheVariants.{Nothing, Local as LocalName, Scalar as ScalarName, Array as ArrayName, Function as FunctionName}
 use Rattle.prem_syntax.specs.Syntax.{Statement, block, if_then, if_else, bounded_while, counting_for, assign, output, input, call, Statements, no_statements, next_statement, LocalVariable}
-use Rattle.prem_syntax.specs.Resolve.{Scope, meaning_of, set_steps, input_steps, call_steps, target_of, number_named, loops_in, declared, scope_at, scope_in, resolve_term, resolve_statement, resolve_statements, resolve_locals}
+use Rattle.prem_syntax.specs.Resolve.{Scope, meaning_of, set_steps, input_steps, call_steps, target_of, number_named, loops_in, declared, scope_at, scope_in, resolve_term}
+use Rattle.prem_syntax.specs.Resolve.{resolve_statement, resolve_statements, resolve_locals}
 use Rattle.prem_syntax.specs.Resolved.{Term, Steps, Done}
 use Rattle.prem_layout.specs.Template.Frames.{counters_in}
 use Rattle.prem_gen.specs.Frame.Bounded.{bounded_in, bounded_among, FramesAreByText}
@@ -64,5 +65,7 @@ pub frames_are_by_text : FramesAreByText
 frames_are_by_text functions turns n globals f =
     let body : counters_in (resolve_statements (scope_in functions globals f) turns n f.body Done) ≡ bounded_among f.body + 0 = counters_among (scope_in functions globals f) turns n f.body Done in
     let locals : length (resolve_locals (scope_at functions globals f) f.locals) ≡ length f.locals = locals_resolved (scope_at functions globals f) f.locals in
-    let sum : length f.params + length (resolve_locals (scope_at functions globals f) f.locals) + counters_in (resolve_statements (scope_in functions globals f) turns n f.body Done) ≡ length f.params + length f.locals + bounded_among f.body = omega (arith, body, locals) in
+    let sum : length f.params + length (resolve_locals (scope_at functions globals f) f.locals) + counters_in
+    (resolve_statements (scope_in functions globals f) turns n f.body Done) ≡ length f.params + length f.locals + bounded_among f.body =
+    omega (arith, body, locals) in
     ap (λ s. next_multiple_of (4 + 4 * s) 16) sum

@@ -10,10 +10,12 @@ use Rattle.prem_syntax.specs.declared.tree.Ty.{Ty}
 use Rattle.prem_syntax.specs.declared.meaning.Meaning.{Meaning}
 use Rattle.prem_syntax.specs.declared.meaning.Meaning.TheVariants.{Nothing, Local as LocalName, Scalar as ScalarName, Array as ArrayName, Function as FunctionName}
 use Rattle.prem_syntax.specs.Syntax.{Text, Expression, literal, variable, element, unary, binary, GlobalVariable, FunctionText}
-use Rattle.prem_syntax.specs.Resolve.{Scope, find_named, find_local, find_global, find_function, global_meaning, first_meaning, meaning_of, variable_term, element_term, operand_kind, kind_of, resolve_term}
+use Rattle.prem_syntax.specs.Resolve.{Scope, find_named, find_local, find_global, find_function, global_meaning, first_meaning, meaning_of, variable_term, element_term}
+use Rattle.prem_syntax.specs.Resolve.{operand_kind, kind_of, resolve_term}
 use Rattle.prem_syntax.specs.Resolved.{Term, operator}
 use Rattle.prem_tree.specs.declared.resolve.resolved.Term.{Term as TermTree}
-use Rattle.prem_tree.specs.declared.resolve.resolved.Term.TheVariants.{Constant as ConstantTree, Local as LocalTree, Scalar as ScalarTree, Element' as ElementTree, Unary' as UnaryTree, Binary' as BinaryTree}
+use Rattle.prem_tree.specs.declared.resolve.resolved.Term.TheVariants.{Constant as ConstantTree, Local as LocalTree, Scalar as ScalarTree, Element' as ElementTree}
+use Rattle.prem_tree.specs.declared.resolve.resolved.Term.TheVariants.{Unary' as UnaryTree, Binary' as BinaryTree}
 use Rattle.prem_tree.specs.Resolve.ResolvedOf.{term_of}
 use Rattle.prem_gen.specs.Term.Numbers.{IsSmall, HasSmall}
 use Rattle.prem_gen.specs.Numbers.Small.{TermSmall, FewNames, ResolvedAreSmall}

@@ -10,12 +10,17 @@ use Rattle.prem_syntax.specs.declared.tree.Place.{Place}
 use Rattle.prem_syntax.specs.declared.meaning.Meaning.{Meaning}
 use Rattle.prem_syntax.specs.declared.meaning.Meaning.TheVariants.{Nothing, Local as LocalName, Scalar as ScalarName, Array as ArrayName, Function as FunctionName}
 use Rattle.prem_syntax.specs.declared.rules.TypeRule.TheVariants.{Target, Count as CountRule}
-use Rattle.prem_syntax.specs.Syntax.{Text, Expression, LoopNames, Statement, block, if_then, if_else, bounded_while, counting_for, assign, output, input, call, Statements, no_statements, next_statement, LocalVariable, Parameter, GlobalVariable, FunctionText, ProgramText, global_item, function_item}
-use Rattle.prem_syntax.specs.Resolve.{Scope, meaning_of, find_function, set_steps, input_steps, call_steps, loop_local, local_number, target_of, loops_in, loops_within, declared, scope_at, scope_in, parameter_names, local_names, resolve_term, resolve_statement, resolve_statements, resolve_locals, resolve_function, resolve_items, functions_of, globals_of}
+use Rattle.prem_syntax.specs.Syntax.{Text, Expression, LoopNames, Statement, block, if_then, if_else, bounded_while, counting_for, assign, output, input, call, Statements}
+use Rattle.prem_syntax.specs.Syntax.{no_statements, next_statement, LocalVariable, Parameter, GlobalVariable, FunctionText, ProgramText, global_item, function_item}
+use Rattle.prem_syntax.specs.Resolve.{Scope, meaning_of, find_function, set_steps, input_steps, call_steps, loop_local, local_number, target_of, loops_in, loops_within, declared}
+use Rattle.prem_syntax.specs.Resolve.{scope_at, scope_in, parameter_names, local_names, resolve_term, resolve_statement, resolve_statements, resolve_locals, resolve_function}
+use Rattle.prem_syntax.specs.Resolve.{resolve_items, functions_of, globals_of}
 use Rattle.prem_syntax.specs.Resolved.{Term, Steps, Done, Routine}
 use Rattle.prem_syntax.specs.Rules.{LoopForm, CallOrder, MarkedCall, OfTypes}
 use Rattle.prem_syntax.specs.Reach.{is_in_set}
-use Rattle.prem_syntax.specs.Breaches.{Around, around, if_at, is_between, is_int_local, same_name, assigns, is_int, is_loop, is_marked_text, is_void, in_expression, in_expressions, in_names, in_call_target, in_callee, in_option, in_statement, in_statements, in_regions, regions_of, in_heading, in_parameters, in_locals, parameter_texts, in_function, in_global, in_items, item_names, reached}
+use Rattle.prem_syntax.specs.Breaches.{Around, around, if_at, is_between, is_int_local, same_name, assigns, is_int, is_loop, is_marked_text, is_void, in_expression, in_expressions}
+use Rattle.prem_syntax.specs.Breaches.{in_names, in_call_target, in_callee, in_option, in_statement, in_statements, in_regions, regions_of, in_heading, in_parameters, in_locals}
+use Rattle.prem_syntax.specs.Breaches.{parameter_texts, in_function, in_global, in_items, item_names, reached}
 use Rattle.prem_syntax.specs.Resolve.{kind_of}
 use Rattle.prem_ranges.proofs.Named.{kept_rule_not}
 use Rattle.prem_ranges.proofs.Basics.{none_left, none_right}
@@ -30,7 +35,8 @@ use Rattle.prem_gen.proofs.NumbersLemmas.Numbers.{MeaningSmall, meaning_small, r
 
 -- ---- single steps
 
-set_small : (n : ℕ) (at : Place) (m : Meaning) (index : Option Term) (value : Term) (rest : Steps) → MeaningSmall m → ResultSmall index → TermSmall value → StepsSmall n rest → StepsSmall n (set_steps at m index value rest)
+set_small : (n : ℕ) (at : Place) (m : Meaning) (index : Option Term) (value : Term) (rest : Steps) → MeaningSmall m → ResultSmall index →
+    TermSmall value → StepsSmall n rest → StepsSmall n (set_steps at m index value rest)
 set_small n at (LocalName number ty) None value rest h i v r = ((h, v), r)
 set_small n at (ScalarName number ty) None value rest h i v r = ((h, v), r)
 set_small n at (ArrayName number ty len) None value rest h i v r = r
@@ -99,7 +105,8 @@ short_step scope names low high step body e =
 -- ---- statements
 
 mutual
-  statement_small : (a : Around) → FewNames a.scope → (turns : ℕ → ℕ) (n : ℕ) (s : Statement) (rest : Steps) → in_statement a s ≡ [] → StepsSmall a.number rest → StepsSmall a.number (resolve_statement a.scope turns n s rest)
+  statement_small : (a : Around) → FewNames a.scope → (turns : ℕ → ℕ) (n : ℕ) (s : Statement) (rest : Steps) → in_statement a s ≡ [] →
+      StepsSmall a.number rest → StepsSmall a.number (resolve_statement a.scope turns n s rest)
   statement_small a few turns n (block at body) rest e r = statements_small a few turns n body rest e r
   statement_small a few turns n (if_then at condition taken) rest e r =
       ((resolved_small a.scope few condition, (statement_small a few turns n taken Done (none_right (in_expression a.scope condition) (in_statement a taken) e) tt, tt)), r)
@@ -124,7 +131,9 @@ mutual
       let two = if_at (not (is_loop a.scope names low high step body)) at LoopForm in
       let three = in_expression a.scope low in
       let four = in_expression a.scope high in
-      let form = kept_rule_not (is_loop a.scope names low high step body) at LoopForm (none_right one two (none_left (one ++ two) three (none_left (one ++ two ++ three) four (none_left (one ++ two ++ three ++ four) (in_statement a body) e)))) in (
+      let form = kept_rule_not (is_loop a.scope names low high step body) at LoopForm
+      (none_right one two (none_left (one ++ two) three
+      (none_left (one ++ two ++ three) four (none_left (one ++ two ++ three ++ four) (in_statement a body) e)))) in (
         (
           loop_small (meaning_of a.scope names.first) (meaning_small a.scope few names.first),
           (
@@ -151,7 +160,8 @@ mutual
       call_small a at (target_of a.scope target) callee (is_some target) (length arguments) (find_function a.scope.functions callee) (map (resolve_term a.scope) arguments) rest
       (none_right one two (none_left (one ++ two) (in_expressions a.scope arguments) e)) (target_small a.scope few target) (all_small a.scope few arguments) r
 
-  statements_small : (a : Around) → FewNames a.scope → (turns : ℕ → ℕ) (n : ℕ) (ss : Statements) (rest : Steps) → in_statements a ss ≡ [] → StepsSmall a.number rest → StepsSmall a.number (resolve_statements a.scope turns n ss rest)
+  statements_small : (a : Around) → FewNames a.scope → (turns : ℕ → ℕ) (n : ℕ) (ss : Statements) (rest : Steps) → in_statements a ss ≡ [] →
+      StepsSmall a.number rest → StepsSmall a.number (resolve_statements a.scope turns n ss rest)
   statements_small a few turns n no_statements rest e r = r
   statements_small a few turns n (next_statement first others) rest e r =
       statement_small a few turns n first (resolve_statements a.scope turns (n + loops_in first) others rest) (none_left (in_statement a first) (in_statements a others) e)
@@ -177,8 +187,11 @@ function_small fs taken n within gs earlier turns m f below few e fits =
     let body = in_statements a f.body in
     let params : length (parameter_names f.params) ≡ length f.params = length-map f.params (λ (p : Parameter). (p.name, p.ty)) in
     let names : length (local_names f.locals) ≡ length f.locals = length-map f.locals (λ (l : LocalVariable). (l.name, l.ty)) in
-    let both : length (parameter_names f.params ++ local_names f.locals) ≡ length (parameter_names f.params) + length (local_names f.locals) = length-append (parameter_names f.params) (local_names f.locals) in
-    let slots : length f.params + length f.locals ≤ 2 ^ 15 = few_slots (length f.params) (length (resolve_locals first f.locals)) (length f.locals) (counters_in (resolve_function fs turns m gs f).body) (locals_resolved first f.locals) fits in
+    let both : length (parameter_names f.params ++ local_names f.locals) ≡ length (parameter_names f.params) + length (local_names f.locals) =
+    length-append (parameter_names f.params) (local_names f.locals) in
+    let slots : length f.params + length f.locals ≤ 2 ^ 15 =
+    few_slots (length f.params) (length (resolve_locals first f.locals)) (length f.locals) (counters_in (resolve_function fs turns m gs f).body)
+    (locals_resolved first f.locals) fits in
     let names_few : FewNames scope = record { few_locals = omega (arith, params, names, both, slots); few_globals = omega (arith, few) } in
     record {
       number_is = below;

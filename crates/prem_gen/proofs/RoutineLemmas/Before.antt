@@ -56,10 +56,12 @@ mutual
       ap (λ i. followed (term_code parts.target parts.global 10 (term_of value)) (scalar_store (parts.global g) ty (steps_code parts i rest))) (same n)
       ∙ sym (followed_append (term_code parts.target parts.global 10 (term_of value)) (scalar_store (parts.global g) ty no_pieces) (steps_code parts (n + 0) rest))
   code_before parts turns n m (SetElement at g ty index value) rest =
-      ap (λ i. followed (term_code parts.target parts.global 10 (term_of value)) (followed (term_code parts.target parts.global 11 (term_of index)) (element_store (parts.global g) ty (steps_code parts i rest)))) (same n)
+      ap (λ i. followed (term_code parts.target parts.global 10 (term_of value))
+      (followed (term_code parts.target parts.global 11 (term_of index)) (element_store (parts.global g) ty (steps_code parts i rest)))) (same n)
       ∙ ap (followed (term_code parts.target parts.global 10 (term_of value)))
       (sym (followed_append (term_code parts.target parts.global 11 (term_of index)) (element_store (parts.global g) ty no_pieces) (steps_code parts (n + 0) rest)))
-      ∙ sym (followed_append (term_code parts.target parts.global 10 (term_of value)) (followed (term_code parts.target parts.global 11 (term_of index)) (element_store (parts.global g) ty no_pieces)) (steps_code parts (n + 0) rest))
+      ∙ sym (followed_append (term_code parts.target parts.global 10 (term_of value))
+      (followed (term_code parts.target parts.global 11 (term_of index)) (element_store (parts.global g) ty no_pieces)) (steps_code parts (n + 0) rest))
   code_before parts turns n m (Output at value) rest =
       ap (λ i. followed (term_code parts.target parts.global 10 (term_of value)) (straight (PmOut 10 ∷ []) (steps_code parts i rest))) (same n)
       ∙ sym (followed_append (term_code parts.target parts.global 10 (term_of value)) (straight (PmOut 10 ∷ []) no_pieces) (steps_code parts (n + 0) rest))
@@ -68,24 +70,45 @@ mutual
       let one : counters_in (step_before turns m taken Done) ≡ whiles_of taken = counters_before turns m taken Done ∙ sym (same (whiles_of taken)) in
       let two : counters_in (step_before turns (m + loops_of taken) other Done) ≡ whiles_of other = counters_before turns (m + loops_of taken) other Done ∙ sym (same (whiles_of other)) in
       let c = term_code parts.target parts.global 10 (term_of condition) in
-      let last : n + counters_in (step_before turns m taken Done) + counters_in (step_before turns (m + loops_of taken) other Done) ≡ n + (whiles_of taken + whiles_of other) = omega (arith, one, two) in
-      let second : steps_code parts (n + counters_in (step_before turns m taken Done)) (step_before turns (m + loops_of taken) other Done) ≡ code_at parts turns (n + whiles_of taken) (m + loops_of taken) other =
-      ap (λ i. steps_code parts (n + i) (step_before turns (m + loops_of taken) other Done)) one ∙ (code_before parts turns (n + whiles_of taken) (m + loops_of taken) other Done ∙ followed_none (code_at parts turns (n + whiles_of taken) (m + loops_of taken) other)) in
-      ap (λ x. followed c (either (nonzero 10) x (steps_code parts (n + counters_in (step_before turns m taken Done)) (step_before turns (m + loops_of taken) other Done)) (steps_code parts (n + counters_in (step_before turns m taken Done) + counters_in (step_before turns (m + loops_of taken) other Done)) rest))) (code_before parts turns n m taken Done ∙ followed_none (code_at parts turns n m taken))
-      ∙ ap (λ x. followed c (either (nonzero 10) (code_at parts turns n m taken) x (steps_code parts (n + counters_in (step_before turns m taken Done) + counters_in (step_before turns (m + loops_of taken) other Done)) rest))) second
+      let last : n + counters_in (step_before turns m taken Done) + counters_in (step_before turns (m + loops_of taken) other Done)
+      ≡ n + (whiles_of taken + whiles_of other) = omega (arith, one, two) in
+      let second : steps_code parts (n + counters_in (step_before turns m taken Done)) (step_before turns (m + loops_of taken) other Done)
+      ≡ code_at parts turns (n + whiles_of taken) (m + loops_of taken) other =
+      ap (λ i. steps_code parts (n + i) (step_before turns (m + loops_of taken) other Done)) one
+      ∙ (code_before parts turns (n + whiles_of taken) (m + loops_of taken) other Done
+      ∙ followed_none (code_at parts turns (n + whiles_of taken) (m + loops_of taken) other)) in
+      ap (λ x. followed c (either (nonzero 10) x
+      (steps_code parts (n + counters_in (step_before turns m taken Done)) (step_before turns (m + loops_of taken) other Done))
+      (steps_code parts (n + counters_in (step_before turns m taken Done) + counters_in (step_before turns (m + loops_of taken) other Done))
+      rest))) (code_before parts turns n m taken Done ∙ followed_none (code_at parts turns n m taken))
+      ∙ ap (λ x. followed c (either (nonzero 10) (code_at parts turns n m taken) x
+      (steps_code parts (n + counters_in (step_before turns m taken Done) + counters_in (step_before turns (m + loops_of taken) other Done)) rest))) second
       ∙ ap (λ i. followed c (either (nonzero 10) (code_at parts turns n m taken) (code_at parts turns (n + whiles_of taken) (m + loops_of taken) other) (steps_code parts i rest))) last
-      ∙ sym (followed_append c (either (nonzero 10) (code_at parts turns n m taken) (code_at parts turns (n + whiles_of taken) (m + loops_of taken) other) no_pieces) (steps_code parts (n + (whiles_of taken + whiles_of other)) rest))
+      ∙ sym (followed_append c (either (nonzero 10) (code_at parts turns n m taken)
+      (code_at parts turns (n + whiles_of taken) (m + loops_of taken) other) no_pieces) (steps_code parts (n + (whiles_of taken + whiles_of other)) rest))
   code_before parts turns n m (For' at k low closed high step p body) rest =
       let one : counters_in (step_before turns (m + 1) body Done) ≡ whiles_of body = counters_before turns (m + 1) body Done ∙ sym (same (whiles_of body)) in
       let l = term_code parts.target parts.global 10 (term_of low) in
       let head = straight (load_slot k ∷ []) (term_code parts.target parts.global 11 (term_of high)) in
-      ap (λ x. followed l (straight (store_slot k ∷ []) (repeat (turns m) head (bound_test closed) (followed x (only (step_code k step))) (steps_code parts (n + counters_in (step_before turns (m + 1) body Done)) rest)))) (code_before parts turns n (m + 1) body Done ∙ followed_none (code_at parts turns n (m + 1) body))
-      ∙ ap (λ i. followed l (straight (store_slot k ∷ []) (repeat (turns m) head (bound_test closed) (followed (code_at parts turns n (m + 1) body) (only (step_code k step))) (steps_code parts (n + i) rest)))) one
-      ∙ sym (followed_append l (straight (store_slot k ∷ []) (repeat (turns m) head (bound_test closed) (followed (code_at parts turns n (m + 1) body) (only (step_code k step))) no_pieces)) (steps_code parts (n + whiles_of body) rest))
+      ap (λ x. followed l (straight (store_slot k ∷ [])
+      (repeat (turns m) head (bound_test closed) (followed x (only (step_code k step)))
+      (steps_code parts (n + counters_in (step_before turns (m + 1) body Done)) rest))))
+      (code_before parts turns n (m + 1) body Done ∙ followed_none (code_at parts turns n (m + 1) body))
+      ∙ ap (λ i. followed l (straight (store_slot k ∷ [])
+      (repeat (turns m) head (bound_test closed) (followed (code_at parts turns n (m + 1) body) (only (step_code k step)))
+      (steps_code parts (n + i) rest)))) one
+      ∙ sym (followed_append l (straight (store_slot k ∷ [])
+      (repeat (turns m) head (bound_test closed) (followed (code_at parts turns n (m + 1) body) (only (step_code k step))) no_pieces))
+      (steps_code parts (n + whiles_of body) rest))
   code_before parts turns n m (While' at most condition p body) rest =
       let last : n + 1 + counters_in (step_before turns m body Done) ≡ n + (1 + whiles_of body) = omega (arith, counters_before turns m body Done) in
-      ap (λ x. straight (constant 10 most) (straight (store_slot n ∷ []) (repeat most (turn_code parts.target parts.global n (term_of condition)) (nonzero 10) (straight (count_code n) x) (steps_code parts (n + 1 + counters_in (step_before turns m body Done)) rest)))) (code_before parts turns (n + 1) m body Done ∙ followed_none (code_at parts turns (n + 1) m body))
-      ∙ ap (λ i. straight (constant 10 most) (straight (store_slot n ∷ []) (repeat most (turn_code parts.target parts.global n (term_of condition)) (nonzero 10) (straight (count_code n) (code_at parts turns (n + 1) m body)) (steps_code parts i rest)))) last
+      ap (λ x. straight (constant 10 most)
+      (straight (store_slot n ∷ []) (repeat most (turn_code parts.target parts.global n (term_of condition)) (nonzero 10)
+      (straight (count_code n) x) (steps_code parts (n + 1 + counters_in (step_before turns m body Done)) rest))))
+      (code_before parts turns (n + 1) m body Done ∙ followed_none (code_at parts turns (n + 1) m body))
+      ∙ ap (λ i. straight (constant 10 most)
+      (straight (store_slot n ∷ []) (repeat most (turn_code parts.target parts.global n (term_of condition)) (nonzero 10)
+      (straight (count_code n) (code_at parts turns (n + 1) m body)) (steps_code parts i rest)))) last
   code_before parts turns n m (Call at target f arguments) rest =
       let a = argument_code parts.target parts.global (parts.frame f) 0 (map term_of (items_of arguments)) in
       ap (λ i. followed a (call_to (parts.link f) (parts.callee f) (target_code target (steps_code parts i rest)))) (same n)
@@ -100,7 +123,8 @@ mutual
       code_before parts turns n m first (row_before turns (m + loops_of first) others rest)
       ∙ ap (followed (code_at parts turns n m first)) (row_code_before parts turns (n + whiles_of first) (m + loops_of first) others rest)
       ∙ ap (λ i. followed (code_at parts turns n m first) (followed (row_code parts turns (n + whiles_of first) (m + loops_of first) others) (steps_code parts i rest))) sum
-      ∙ sym (followed_append (code_at parts turns n m first) (row_code parts turns (n + whiles_of first) (m + loops_of first) others) (steps_code parts (n + (whiles_of first + row_whiles others)) rest))
+      ∙ sym (followed_append (code_at parts turns n m first) (row_code parts turns (n + whiles_of first) (m + loops_of first) others)
+      (steps_code parts (n + (whiles_of first + row_whiles others)) rest))
 
 -- nothing behind it
 pub code_alone : (parts : Parts) (turns : ℕ → ℕ) (n m : ℕ) (s : Step) → steps_code parts n (step_before turns m s Done) ≡ code_at parts turns n m s

@@ -21,17 +21,28 @@ code_is_by_calls t g p q n (Output at value rest) h =
 code_is_by_calls t g p q n (Input at k rest) h = ap (straight (PmIn 10 ∷ store_slot k ∷ [])) (code_is_by_calls t g p q n rest h)
 code_is_by_calls t g p q n (If at condition taken other rest) h =
     let c = term_code t g 10 condition in
-    ap (λ x. followed c (either (nonzero 10) x (steps_code (with_globals t g p) (n + counters_in taken) other) (steps_code (with_globals t g p) (n + counters_in taken + counters_in other) rest))) (code_is_by_calls t g p q n taken h.0)
-    ∙ ap (λ x. followed c (either (nonzero 10) (steps_code (with_globals t g q) n taken) x (steps_code (with_globals t g p) (n + counters_in taken + counters_in other) rest))) (code_is_by_calls t g p q (n + counters_in taken) other h.1.0)
-    ∙ ap (λ x. followed c (either (nonzero 10) (steps_code (with_globals t g q) n taken) (steps_code (with_globals t g q) (n + counters_in taken) other) x)) (code_is_by_calls t g p q (n + counters_in taken + counters_in other) rest h.1.1)
+    ap (λ x. followed c (either (nonzero 10) x (steps_code (with_globals t g p) (n + counters_in taken) other)
+    (steps_code (with_globals t g p) (n + counters_in taken + counters_in other) rest))) (code_is_by_calls t g p q n taken h.0)
+    ∙ ap (λ x. followed c (either (nonzero 10) (steps_code (with_globals t g q) n taken) x
+    (steps_code (with_globals t g p) (n + counters_in taken + counters_in other) rest))) (code_is_by_calls t g p q (n + counters_in taken) other h.1.0)
+    ∙ ap (λ x. followed c (either (nonzero 10) (steps_code (with_globals t g q) n taken)
+    (steps_code (with_globals t g q) (n + counters_in taken) other) x)) (code_is_by_calls t g p q (n + counters_in taken + counters_in other) rest h.1.1)
 code_is_by_calls t g p q n (For at k low closed high step turns body rest) h =
     let l = term_code t g 10 low in
     let head = straight (load_slot k ∷ []) (term_code t g 11 high) in
-    ap (λ x. followed l (straight (store_slot k ∷ []) (repeat turns head (bound_test closed) (followed x (only (step_code k step))) (steps_code (with_globals t g p) (n + counters_in body) rest)))) (code_is_by_calls t g p q n body h.0)
-    ∙ ap (λ x. followed l (straight (store_slot k ∷ []) (repeat turns head (bound_test closed) (followed (steps_code (with_globals t g q) n body) (only (step_code k step))) x))) (code_is_by_calls t g p q (n + counters_in body) rest h.1)
+    ap (λ x. followed l (straight (store_slot k ∷ [])
+    (repeat turns head (bound_test closed) (followed x (only (step_code k step))) (steps_code (with_globals t g p) (n + counters_in body) rest))))
+    (code_is_by_calls t g p q n body h.0)
+    ∙ ap (λ x. followed l (straight (store_slot k ∷ [])
+    (repeat turns head (bound_test closed) (followed (steps_code (with_globals t g q) n body) (only (step_code k step))) x)))
+    (code_is_by_calls t g p q (n + counters_in body) rest h.1)
 code_is_by_calls t g p q n (While at turns condition body rest) h =
-    ap (λ x. straight (constant 10 turns) (straight (store_slot n ∷ []) (repeat turns (turn_code t g n condition) (nonzero 10) (straight (count_code n) x) (steps_code (with_globals t g p) (n + 1 + counters_in body) rest)))) (code_is_by_calls t g p q (n + 1) body h.0)
-    ∙ ap (λ x. straight (constant 10 turns) (straight (store_slot n ∷ []) (repeat turns (turn_code t g n condition) (nonzero 10) (straight (count_code n) (steps_code (with_globals t g q) (n + 1) body)) x))) (code_is_by_calls t g p q (n + 1 + counters_in body) rest h.1)
+    ap (λ x. straight (constant 10 turns)
+    (straight (store_slot n ∷ []) (repeat turns (turn_code t g n condition) (nonzero 10) (straight (count_code n) x)
+    (steps_code (with_globals t g p) (n + 1 + counters_in body) rest)))) (code_is_by_calls t g p q (n + 1) body h.0)
+    ∙ ap (λ x. straight (constant 10 turns)
+    (straight (store_slot n ∷ []) (repeat turns (turn_code t g n condition) (nonzero 10)
+    (straight (count_code n) (steps_code (with_globals t g q) (n + 1) body)) x))) (code_is_by_calls t g p q (n + 1 + counters_in body) rest h.1)
 code_is_by_calls t g p q n (Call at target f arguments rest) h =
     ap (λ k. followed (argument_code t g k 0 arguments) (call_to (p.link f) (p.callee f) (target_code target (steps_code (with_globals t g p) n rest)))) h.0.frame_is
     ∙ ap (λ k. followed (argument_code t g (q.frame f) 0 arguments) (call_to k (p.callee f) (target_code target (steps_code (with_globals t g p) n rest)))) h.0.link_is

@@ -152,7 +152,8 @@ greatest_among a b =
 -- behind a cut a stretch begins
 pub greatest_cut : (n : ℕ) (a : Sums) → greatest (chained (taking n) (chained cut a)) ≡ max n (greatest a)
 greatest_cut n a = by a.whole a.before a.between a.behind where
-  by : (w x y z : Option ℕ) → greatest (chained (taking n) (chained cut (record { whole = w; before = x; between = y; behind = z }))) ≡ max n (greatest (record { whole = w; before = x; between = y; behind = z }))
+  by : (w x y z : Option ℕ) → greatest (chained (taking n) (chained cut (record { whole = w; before = x; between = y; behind = z })))
+      ≡ max n (greatest (record { whole = w; before = x; between = y; behind = z }))
   by w x y z =
       sum (or_none w) (or_none x) (or_none y) (or_none z) (or_none (most (most y (both (Some 0) x)) None)) (or_none (most (most z (both (Some 0) w)) None))
       (ap or_none (most_none (most y (both (Some 0) x))) ∙ or_none_most y (both (Some 0) x) ∙ ap (λ o. max (or_none y) (or_none o)) (zero_both x))

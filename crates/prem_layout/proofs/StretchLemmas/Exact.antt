@@ -6,7 +6,8 @@ use Rattle.prem_asm.specs.Pieces.{Pieces, no_pieces, straight, address_of, eithe
 use Rattle.prem_layout.specs.Plans.{Plan}
 use Rattle.prem_layout.specs.Bounds.{CodeTable, job_weight, start_code}
 use Rattle.prem_layout.specs.Stretch.Paths.{Takes, Cuts, Path, each_behind, crossed, only, turning, paths_of, part_paths, paths_at, paths_behind, marked_paths, task_paths, longest_from, longest_among}
-use Rattle.prem_layout.specs.Stretch.Sums.{Sums, taking, no_sums, among, chained, greatest, sums_of_event, sums_of_path, sums_of_paths, turned, summed, part_sums, sums_at, sums_behind, marked_sums, job_sums, task_sums}
+use Rattle.prem_layout.specs.Stretch.Sums.{Sums, taking, no_sums, among, chained, greatest, sums_of_event, sums_of_path, sums_of_paths, turned, summed, part_sums, sums_at}
+use Rattle.prem_layout.specs.Stretch.Sums.{sums_behind, marked_sums, job_sums, task_sums}
 use Rattle.prem_layout.specs.Stretch.Laws.{SumsAreExact}
 use Rattle.prem_layout.proofs.StretchLemmas.Algebra.{among_none, among_assoc, chained_among, among_chained, chained_assoc, taken_none, none_taken, greatest_among, greatest_cut}
 
@@ -132,18 +133,22 @@ last_tells [] (t ∷ ss) x s h k = absurd h
 last_tells (y ∷ xs) [] x s h k = absurd h
 last_tells (y ∷ xs) (t ∷ ss) x s h k = (h.0, last_tells xs ss x s h.1 k)
 
-part_tells : (functions : ℕ) (code stubs : ℕ → List Path) (code' stubs' : ℕ → Sums) → ((n : ℕ) → Tells (code n) (code' n)) → ((n : ℕ) → Tells (stubs n) (stubs' n)) → (part : ℕ) → Tells (part_paths functions code stubs part) (part_sums functions code' stubs' part)
+part_tells : (functions : ℕ) (code stubs : ℕ → List Path) (code' stubs' : ℕ → Sums) → ((n : ℕ) → Tells (code n) (code' n)) →
+    ((n : ℕ) → Tells (stubs n) (stubs' n)) → (part : ℕ) → Tells (part_paths functions code stubs part) (part_sums functions code' stubs' part)
 part_tells functions code stubs code' stubs' h k zero = none_tells
 part_tells functions code stubs code' stubs' h k (suc n) = by (ltb n functions) where
   by : (b : Bool) → Tells (cond b (code n) (stubs (n - functions))) (cond b (code' n) (stubs' (n - functions)))
   by true = h n
   by false = k (n - functions)
 
-behind_tell : (w : Instr → ℕ) (functions : ℕ) (stubs : ℕ → List Path) (stubs' : ℕ → Sums) → ((n : ℕ) → Tells (stubs n) (stubs' n)) → (all : List Pieces) (xs : List (List Path)) (ss : List Sums) → AllTell xs ss → AllTell (paths_behind w functions stubs xs all) (sums_behind w functions stubs' ss all)
+behind_tell : (w : Instr → ℕ) (functions : ℕ) (stubs : ℕ → List Path) (stubs' : ℕ → Sums) → ((n : ℕ) → Tells (stubs n) (stubs' n)) →
+    (all : List Pieces) (xs : List (List Path)) (ss : List Sums) → AllTell xs ss →
+    AllTell (paths_behind w functions stubs xs all) (sums_behind w functions stubs' ss all)
 behind_tell w functions stubs stubs' k [] xs ss h = h
 behind_tell w functions stubs stubs' k (ps ∷ rest) xs ss h =
     behind_tell w functions stubs stubs' k rest _ _
-    (last_tells xs ss _ _ h (pieces_tell w (part_paths functions (paths_at xs) stubs) (part_sums functions (sums_at ss) stubs') (part_tells functions (paths_at xs) stubs (sums_at ss) stubs' (one_tells xs ss h) k) ps))
+    (last_tells xs ss _ _ h (pieces_tell w (part_paths functions (paths_at xs) stubs) (part_sums functions (sums_at ss) stubs')
+    (part_tells functions (paths_at xs) stubs (sums_at ss) stubs' (one_tells xs ss h) k) ps))
 
 task_tells : (p : Plant) (plans : List Plan) (t : CodeTable) → sums_of_paths (task_paths p plans t) ≡ task_sums p plans t
 task_tells p plans t =

@@ -91,7 +91,8 @@ greater : (a b c d w x y z : ℕ) → a ≤ w → b ≤ x → c ≤ y → d ≤ 
 greater a b c d w x y z h k l m = omega (arith, h, k, l, m)
 
 pub greatest_within : (a b : Sums) → IsWithin a b → greatest a ≤ greatest b
-greatest_within a b h = greater _ _ _ _ _ _ _ _ (less_or_none a.whole b.whole h.whole) (less_or_none a.before b.before h.before) (less_or_none a.between b.between h.between) (less_or_none a.behind b.behind h.behind)
+greatest_within a b h = greater _ _ _ _ _ _ _ _ (less_or_none a.whole b.whole h.whole) (less_or_none a.before b.before h.before)
+    (less_or_none a.between b.between h.between) (less_or_none a.behind b.behind h.behind)
 
 -- the greatest stretch of a path
 pub longest_within : (es : Path) (b : Sums) → IsWithin (sums_of_path es) b → longest_from 0 es ≤ greatest b

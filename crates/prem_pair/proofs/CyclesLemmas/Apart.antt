@@ -137,5 +137,6 @@ own_cycles rule other p q requests s apart one two stays =
     let first : SideGoes rule p (is_first h) (is_first h && is_held (want_of s.first.core.debt)) false s.first.gates s.first x = record { goes = one; next = refl } in
     let second : SideGoes other q (is_second h) (is_second h && is_held (want_of s.second.core.debt)) false s.second.gates s.second y = record { goes = two; next = refl } in
     let G : Bool → GatesState → Type 0 = λ clash g. SideGoes rule p (is_first h) (is_first h && is_held (want_of s.first.core.debt)) clash g s.first x in
-    calm_goes rule other p q requests s x y (apart_calm requests s apart) (subst (λ c. G c (turn_in s).gates) (sym (no_clash requests s apart)) (subst (G false) (sym (gates_stay requests s apart)) first))
+    calm_goes rule other p q requests s x y (apart_calm requests s apart)
+    (subst (λ c. G c (turn_in s).gates) (sym (no_clash requests s apart)) (subst (G false) (sym (gates_stay requests s apart)) first))
     second stays

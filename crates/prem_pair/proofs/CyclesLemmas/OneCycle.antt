@@ -15,7 +15,8 @@ use Rattle.prem_cycle.proofs.RunsLemmas.DullLemmas.Stretch.{none_arrives}
 use Rattle.prem_pair.specs.declared.cycles.state.Holder.{Holder}
 use Rattle.prem_pair.specs.declared.cycles.state.Holder.TheVariants.{Nobody, First, Second, Gates}
 use Rattle.prem_pair.specs.Cycles.Token.{asks, empty_window, given, holder_after, holder_with, is_first, is_second, some_wait, want_with, window_given}
-use Rattle.prem_pair.specs.Cycles.Pair.{PairState, acted, both_ticked, bus_first, bus_for, clashes, ended_in_place, first_acted, first_done, holder_at, no_arrivals, pair_cycle, pair_cycle_with, second_acted, second_done}
+use Rattle.prem_pair.specs.Cycles.Pair.{PairState, acted, both_ticked, bus_first, bus_for, clashes, ended_in_place, first_acted, first_done, holder_at, no_arrivals, pair_cycle}
+use Rattle.prem_pair.specs.Cycles.Pair.{pair_cycle_with, second_acted, second_done}
 use Rattle.prem_pair.specs.Cycles.Rest.{wanted}
 
 -- ---- the token

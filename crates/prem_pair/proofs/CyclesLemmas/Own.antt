@@ -54,7 +54,8 @@ own_kept rule p holds want s (suc n) x (one_more _ t _ run c) =
     }
 
 -- they follow each other
-pub own_then : (rule : ReplacementRule) (p : Setup) (holds : Bool) (want : CoreWant) (s t : MachineState) (m n : ℕ) (x : MachineState) → OwnRun rule p holds want s m t → OwnRun rule p holds want t n x →
+pub own_then : (rule : ReplacementRule) (p : Setup) (holds : Bool) (want : CoreWant) (s t : MachineState) (m n : ℕ) (x : MachineState) →
+    OwnRun rule p holds want s m t → OwnRun rule p holds want t n x →
     OwnRun rule p holds want s (m + n) x
 own_then rule p holds want s t m zero _ a no_cycle = let e : m ≡ m + 0 = omega arith in subst (λ k. OwnRun rule p holds want s k t) e a
 own_then rule p holds want s t m (suc n) x a (one_more _ u _ run c) =
@@ -81,7 +82,8 @@ fewer_apart m n requests v w s le h =
 renot : (b : Bool) → b ≡ false → not b ≡ true
 renot b e = ap not e
 
-pub stays_later : (h : Holder) (n : ℕ) (s : PairState) (x y : MachineState) → OwnKept (is_first h) n s.first x → OwnKept (is_second h) n s.second y → stays_with h s ≡ true → stays_with h (paired x y h) ≡ true
+pub stays_later : (h : Holder) (n : ℕ) (s : PairState) (x y : MachineState) → OwnKept (is_first h) n s.first x → OwnKept (is_second h) n s.second y →
+    stays_with h s ≡ true → stays_with h (paired x y h) ≡ true
 stays_later Nobody n s x y k l e =
     ap (λ v. not (v || asks y || some_wait x.gates.gates)) (k.asks_same refl)
     ∙ ap (λ v. not (asks s.first || v || some_wait x.gates.gates)) (l.asks_same refl)
@@ -101,7 +103,8 @@ goes_by fin full full' t u a b c d e =
     ap (λ v. v || (is_some t || is_some u) || (full || full')) a ∙ ap (λ v. false || (is_some v || is_some u) || (full || full')) b
     ∙ ap (λ v. false || (false || is_some v) || (full || full')) c ∙ ap (λ v. false || (false || false) || (v || full')) d ∙ e
 
-pub still_apart : (n : ℕ) (requests : List Request) (v w : CoreWant) (s : PairState) (t u : MachineState) → MayRunApart (suc n) requests v w s → OwnKept (is_first s.holder) n s.first t → OwnKept (is_second s.holder) n s.second u →
+pub still_apart : (n : ℕ) (requests : List Request) (v w : CoreWant) (s : PairState) (t u : MachineState) → MayRunApart (suc n) requests v w s →
+    OwnKept (is_first s.holder) n s.first t → OwnKept (is_second s.holder) n s.second u →
     want_of t.core.debt ≡ v → want_of u.core.debt ≡ w → AreApart requests (paired t u s.holder)
 still_apart n requests v w s t u may k l first second =
     let h = s.holder in
@@ -213,7 +216,8 @@ pays_part : (rule : ReplacementRule) (p : Setup) (holds : Bool) (s : MachineStat
 pays_part rule p true s task w n t cost = refl
 pays_part rule p false s task w n t cost = refl
 
-going_cycle : (rule : ReplacementRule) (p : Setup) (holds : Bool) (s : MachineState) (task : ℕ) (w w' : Work) (n n' : Counts) (t cost cost' : ℕ) (owed : List ℕ) → is_full (going_state s task w n t [] cost) ≡ false →
+going_cycle : (rule : ReplacementRule) (p : Setup) (holds : Bool) (s : MachineState) (task : ℕ) (w w' : Work) (n n' : Counts) (t cost cost' : ℕ)
+    (owed : List ℕ) → is_full (going_state s task w n t [] cost) ≡ false →
     own_part rule p holds (going_state s task w n t [] cost) ≡ going_state s task w' n' t owed cost' →
     OwnCycle rule p holds No (going_state s task w n t [] cost) (going_state s task w' n' (t + 1) owed cost')
 going_cycle rule p holds s task w w' n n' t cost cost' owed room part =
@@ -251,7 +255,8 @@ issue_part rule p false s task w w' n n' t cost owed turn =
     let x = going_state s task w n t [] 0 in
     ap (λ k. issued_to x (core_turn rule p t (Issues task s.core.interval) w x.core k)) (sym (unclashed n)) ∙ ap (issued_to x) turn
 
-pub issue_own : (rule : ReplacementRule) (p : Setup) (holds : Bool) (s : MachineState) (task : ℕ) (w w' : Work) (n n' : Counts) (t cost : ℕ) (owed : List ℕ) → is_full (going_state s task w n t [] 0) ≡ false →
+pub issue_own : (rule : ReplacementRule) (p : Setup) (holds : Bool) (s : MachineState) (task : ℕ) (w w' : Work) (n n' : Counts) (t cost : ℕ)
+    (owed : List ℕ) → is_full (going_state s task w n t [] 0) ≡ false →
     core_turn rule p t (Issues task s.core.interval) w (going_state s task w n t [] 0).core n
     ≡ record { work = w'; core = core_issued t task s.core.interval Stay cost owed (going_state s task w n t [] 0).core; counts = n'; trapped = None } →
     OwnCycle rule p holds No (going_state s task w n t [] 0) (going_state s task w' n' (t + 1) owed (cost - 1))

@@ -10,7 +10,8 @@ use Rattle.prem_cycle.specs.Cycle.{Arrivals, arrivals_at, with_now}
 use Rattle.prem_cycle.specs.Run.{memory_of}
 use Rattle.prem_cycle.proofs.CycleParts.{settle_keeps}
 use Rattle.prem_pair.specs.declared.cycles.state.Holder.{Holder}
-use Rattle.prem_pair.specs.Cycles.Pair.{PairState, both_finished, both_ticked, bus_for, ended_in_place, first_acted, holder_at, is_pair_over, one_full, one_trapped, pair_cycle, pair_cycles, pair_run, pair_start, pair_step, second_acted}
+use Rattle.prem_pair.specs.Cycles.Pair.{PairState, both_finished, both_ticked, bus_for, ended_in_place, first_acted, holder_at, is_pair_over, one_full, one_trapped, pair_cycle}
+use Rattle.prem_pair.specs.Cycles.Pair.{pair_cycles, pair_run, pair_start, pair_step, second_acted}
 use Rattle.prem_pair.proofs.CyclesLemmas.PairRuns.{pair_step-goes, pair_step-stays}
 
 -- a state that goes on has not trapped
@@ -44,7 +45,8 @@ done_now h b second first acted false true e f untrapped =
     trapped false b e h = let x : true ≡ false = sym e ∙ h in cc
 done_now h b second first acted false false e f untrapped = (settle_keeps first.core.mode (with_now first (first.now + 1))).now
 
-cycle_now : (rule other : ReplacementRule) (p q : Setup) (requests : List Request) (s : PairState) → one_trapped (pair_cycle rule other p q requests s) ≡ false → (pair_cycle rule other p q requests s).first.now ≡ s.first.now + 1
+cycle_now : (rule other : ReplacementRule) (p q : Setup) (requests : List Request) (s : PairState) →
+    one_trapped (pair_cycle rule other p q requests s) ≡ false → (pair_cycle rule other p q requests s).first.now ≡ s.first.now + 1
 cycle_now rule other p q requests s untrapped =
     let a : Arrivals = arrivals_at requests s.first in
     let h : Holder = holder_at a.gates s in
@@ -53,7 +55,8 @@ cycle_now rule other p q requests s untrapped =
     let second : MachineState = second_acted other q h b s in
     done_now h b s.second first second (is_some first.trapped) (is_some second.trapped) refl refl untrapped
 
-step_now : (rule other : ReplacementRule) (p q : Setup) (requests : List Request) (s : PairState) → is_pair_over (pair_step rule other p q requests s) ≡ false → (pair_step rule other p q requests s).first.now ≡ s.first.now + 1
+step_now : (rule other : ReplacementRule) (p q : Setup) (requests : List Request) (s : PairState) →
+    is_pair_over (pair_step rule other p q requests s) ≡ false → (pair_step rule other p q requests s).first.now ≡ s.first.now + 1
 step_now rule other p q requests s h =
     let goes : pair_step rule other p q requests s ≡ pair_cycle rule other p q requests s = pair_step-goes rule other p q requests s (goes_before rule other p q requests s h) in
     let next : PairState = pair_cycle rule other p q requests s in

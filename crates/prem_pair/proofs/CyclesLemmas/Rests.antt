@@ -223,7 +223,8 @@ module _ (rule other : ReplacementRule) (p q : Setup) (requests : List Request) 
       let G : Bool → Bool → GatesState → MachineState → Type 0 = λ had clash g x. SideGoes rule p (is_first h) had clash g t.first x in
       let had = ap (λ v. is_first h && is_held v) first_want in
       let one = side_goes rule p (is_first h) (is_first h && is_held (want_of s.first.core.debt)) (clashes h s) n so_far gates b.gates s.first none.0 steady.periods refl rests.first in
-      let two = subst (λ k. G (is_first h && is_held (want_of s.first.core.debt)) (clashes h s) b.gates (waited (is_first h) (suc n) b.gates k s.first)) (clash_more (clashes h s) s.first.log.counts.clashes n) one in
+      let two = subst (λ k. G (is_first h && is_held (want_of s.first.core.debt)) (clashes h s) b.gates
+      (waited (is_first h) (suc n) b.gates k s.first)) (clash_more (clashes h s) s.first.log.counts.clashes n) one in
       let three = subst (λ v. G v (clashes h s) b.gates first_after) (sym had) two in
       let four = subst (λ v. G (is_first h && is_held (want_of t.first.core.debt)) v b.gates first_after) (sym same_clashes) three in
       subst (λ (v : Turned). G (is_first h && is_held (want_of t.first.core.debt)) (clashes h t) v.gates first_after) same_turn four
@@ -233,7 +234,8 @@ module _ (rule other : ReplacementRule) (p q : Setup) (requests : List Request) 
       let G : Bool → MachineState → Type 0 = λ had x. SideGoes other q (is_second h) had false s.second.gates t.second x in
       let had = ap (λ v. is_second h && is_held v) second_want in
       let e : s.second.log.counts.clashes + 0 ≡ s.second.log.counts.clashes = omega arith in
-      let one = side_goes other q (is_second h) (is_second h && is_held (want_of s.second.core.debt)) false n s.second.log.counts.clashes s.second.gates s.second.gates s.second none.1 steady.other_periods refl rests.second in
+      let one = side_goes other q (is_second h) (is_second h && is_held (want_of s.second.core.debt))
+      false n s.second.log.counts.clashes s.second.gates s.second.gates s.second none.1 steady.other_periods refl rests.second in
       let two = subst (λ k. G (is_second h && is_held (want_of s.second.core.debt)) (waited (is_second h) (suc n) s.second.gates k s.second)) e one in
       subst (λ v. G v second_after) (sym had) two
 

@@ -34,7 +34,8 @@ runs_by : (u : ℕ) (sched : List TaskJobs) (k : ℕ) (o : Option ℕ) → first
 runs_by u sched k (Some j) e r = refl
 runs_by u sched k None e r = absurd (none_found u 0 sched e k r)
 
-run_by : (t u : ℕ) (sched : List TaskJobs) (o : Option ℕ) → All (λ j. 1 ≤ j.period) sched → t ≤ u → first_ready t 0 sched ≡ o → is_run (run_or o (rest (least_release t sched))) ≡ true → is_run (choice u sched) ≡ true
+run_by : (t u : ℕ) (sched : List TaskJobs) (o : Option ℕ) → All (λ j. 1 ≤ j.period) sched → t ≤ u → first_ready t 0 sched ≡ o →
+    is_run (run_or o (rest (least_release t sched))) ≡ true → is_run (choice u sched) ≡ true
 run_by t u sched (Some j) periods le e r =
     let f = first_found t 0 sched j e in
     runs_by u sched f.place (first_ready u 0 sched) refl (mode_after t u sched (Running f.place) periods le f.ready)
@@ -245,7 +246,8 @@ calm_move p had n w s periods e (alone is h) =
     ∙ move_next p s.now n had s.sched w s.core (e ∙ sym (unheld (want_of s.core.debt) is)) h ∙ ap Passes (sym (alone_same (suc n) s.core is))
 
 -- the core's part of one more cycle
-pub rest_move : (p : Setup) (holds had : Bool) (n : ℕ) (w : Work) (s : MachineState) → All (λ j. 1 ≤ j.period) s.sched → had ≡ (holds && is_held (want_of s.core.debt)) → Within (suc n) (rest_with holds s) →
+pub rest_move : (p : Setup) (holds had : Bool) (n : ℕ) (w : Work) (s : MachineState) → All (λ j. 1 ≤ j.period) s.sched →
+    had ≡ (holds && is_held (want_of s.core.debt)) → Within (suc n) (rest_with holds s) →
     move_had holds had p (s.now + n) s.sched w (core_passed_with holds n s.core) ≡ Passes (core_passed_with holds (suc n) s.core)
 rest_move p true had n w s periods e h = move_next p s.now n had s.sched w s.core e h
 rest_move p false had n w s periods e h = calm_move p had n w s periods e (calm (suc n) s h)

@@ -207,13 +207,15 @@ module _ (g k : Hosted) (requests : List Request) (d : HostsDevices g requests) 
   -- where they have it, a transfer has the bus
   got_from : (before : Holder) → is_gates before ≡ is_some arrived_now.gates.carried → is_gates (holder_with before (asks s.first) (asks s.second) (some_wait arrived_now.gates.gates)) ≡ true →
       transfers (bus_turn s.first.now (window_given s.first.now before (holder_with before (asks s.first) (asks s.second) (some_wait arrived_now.gates.gates)))
-      (want_with (holder_with before (asks s.first) (asks s.second) (some_wait arrived_now.gates.gates)) (want_of s.first.core.debt) (want_of s.second.core.debt)) arrived_now.gates s.first.work.memory) ≡ true
+      (want_with (holder_with before (asks s.first) (asks s.second) (some_wait arrived_now.gates.gates)) (want_of s.first.core.debt)
+      (want_of s.second.core.debt)) arrived_now.gates s.first.work.memory) ≡ true
   got_from First same e = absurd (let x : false ≡ true = e in cc)
   got_from Second same e = absurd (let x : false ≡ true = e in cc)
   got_from Gates same e = turn_goes_on s.first.now empty_window No arrived_now.gates s.first.work.memory (sym same)
   got_from Nobody same e = by (asks s.first) (asks s.second) (some_wait arrived_now.gates.gates) refl e where
     by : (x y z : Bool) → some_wait arrived_now.gates.gates ≡ z → is_gates (given x y z) ≡ true →
-        transfers (bus_turn s.first.now (window_got s.first.now (given x y z)) (want_with (given x y z) (want_of s.first.core.debt) (want_of s.second.core.debt)) arrived_now.gates s.first.work.memory) ≡ true
+        transfers (bus_turn s.first.now (window_got s.first.now (given x y z))
+        (want_with (given x y z) (want_of s.first.core.debt) (want_of s.second.core.debt)) arrived_now.gates s.first.work.memory) ≡ true
     by true y z w e = absurd (let v : false ≡ true = e in cc)
     by false true z w e = absurd (let v : false ≡ true = e in cc)
     by false false false w e = absurd (let v : false ≡ true = e in cc)

@@ -38,7 +38,8 @@ use Rattle.prem_pair.proofs.LawsLemmas.Holds.{PairHolds, cycle_holds}
 -- ---- a core with its scripts
 
 -- what is due is charged where each instruction is a scope by itself
-abbrev pub due_totals : (passes : ℕ → ℕ) (p : Setup) (content : List ℕ) (inputs : List (List ℕ)) (own : ℕ → ℕ → Bool) (runs : ℕ → TaskRun) (scripts : ℕ → Script) → AreScripts p passes content inputs own runs scripts → HasTotals p runs scripts
+abbrev pub due_totals : (passes : ℕ → ℕ) (p : Setup) (content : List ℕ) (inputs : List (List ℕ)) (own : ℕ → ℕ → Bool) (runs : ℕ → TaskRun)
+    (scripts : ℕ → Script) → AreScripts p passes content inputs own runs scripts → HasTotals p runs scripts
 due_totals passes p content inputs own runs scripts are = record {
   scopings = λ k. each_alone p.plant (runs k);
   scoped = λ k lt. alone_is_scoped p.plant (runs k);
@@ -46,7 +47,9 @@ due_totals passes p content inputs own runs scripts are = record {
   totals = λ k lt. omega (arith, all_same p.plant (runs k) (scripts k) (scripts k).count, (are.each k lt).dues);
 }
 
-abbrev pub host_of : (rule : ReplacementRule) (order : OrderRule) (passes : ℕ → ℕ) (p : Setup) (content : List ℕ) (inputs : List (List ℕ)) (requests : List Request) (own : ℕ → ℕ → Bool) (runs : ℕ → TaskRun) (scripts : ℕ → Script) → IsPolicy rule order passes → IsRun p content requests → AreScripts p passes content inputs own runs scripts → HasTotals p runs scripts → Hosted
+abbrev pub host_of : (rule : ReplacementRule) (order : OrderRule) (passes : ℕ → ℕ) (p : Setup) (content : List ℕ) (inputs : List (List ℕ))
+    (requests : List Request) (own : ℕ → ℕ → Bool) (runs : ℕ → TaskRun) (scripts : ℕ → Script) → IsPolicy rule order passes →
+    IsRun p content requests → AreScripts p passes content inputs own runs scripts → HasTotals p runs scripts → Hosted
 host_of rule order passes p content inputs requests own runs scripts policy run are t = record {
   rule = rule;
   order = order;
@@ -63,7 +66,10 @@ host_of rule order passes p content inputs requests own runs scripts policy run 
   charged = t;
 }
 
-host_starts : (rule : ReplacementRule) (order : OrderRule) (passes : ℕ → ℕ) (p : Setup) (content : List ℕ) (inputs : List (List ℕ)) (requests : List Request) (own : ℕ → ℕ → Bool) (runs : ℕ → TaskRun) (scripts : ℕ → Script) (policy : IsPolicy rule order passes) (run : IsRun p content requests) (are : AreScripts p passes content inputs own runs scripts) → (t : HasTotals p runs scripts) → CoreHolds (host_of rule order passes p content inputs requests own runs scripts policy run are t) 0 (λ k. 0) (start_of p inputs (memory_of p content))
+host_starts : (rule : ReplacementRule) (order : OrderRule) (passes : ℕ → ℕ) (p : Setup) (content : List ℕ) (inputs : List (List ℕ))
+    (requests : List Request) (own : ℕ → ℕ → Bool) (runs : ℕ → TaskRun) (scripts : ℕ → Script) (policy : IsPolicy rule order passes)
+    (run : IsRun p content requests) (are : AreScripts p passes content inputs own runs scripts) → (t : HasTotals p runs scripts) →
+    CoreHolds (host_of rule order passes p content inputs requests own runs scripts policy run are t) 0 (λ k. 0) (start_of p inputs (memory_of p content))
 host_starts rule order passes p content inputs requests own runs scripts policy run are t = record {
   known = record {
     position = (start_all p content inputs requests own runs run.runnable are.own_runs).position;
@@ -77,16 +83,20 @@ host_starts rule order passes p content inputs requests own runs scripts policy 
 
 -- ---- the gates at the start
 
-start_cost : (ds : List DeviceRecord) (d : ℕ) → d < length ds → (gate_at (gates_of (map (λ (x : DeviceRecord). x.device) ds) (map (λ (x : DeviceRecord). x.area) ds)) d).cost ≡ (get_or ds d no_device).device.cost
+start_cost : (ds : List DeviceRecord) (d : ℕ) → d < length ds →
+    (gate_at (gates_of (map (λ (x : DeviceRecord). x.device) ds) (map (λ (x : DeviceRecord). x.area) ds)) d).cost ≡ (get_or ds d no_device).device.cost
 start_cost [] d lt = absurd (omega (arith, lt))
 start_cost (x ∷ ds) zero lt = refl
 start_cost (x ∷ ds) (suc d) lt = start_cost ds d (omega (arith, lt))
 
-none_waits : (ds : List DeviceRecord) → sum_by (λ (g : GateState). sum_by (λ (r : Request). g.cost) g.queue) (gates_of (map (λ (x : DeviceRecord). x.device) ds) (map (λ (x : DeviceRecord). x.area) ds)) ≡ 0
+none_waits : (ds : List DeviceRecord) →
+    sum_by (λ (g : GateState). sum_by (λ (r : Request). g.cost) g.queue)
+    (gates_of (map (λ (x : DeviceRecord). x.device) ds) (map (λ (x : DeviceRecord). x.area) ds)) ≡ 0
 none_waits [] = refl
 none_waits (x ∷ ds) =
     sum_by-cons (λ (g : GateState). sum_by (λ (r : Request). g.cost) g.queue) (gate_of x.device x.area) (gates_of (map (λ (x : DeviceRecord). x.device) ds) (map (λ (x : DeviceRecord). x.area) ds))
-    ∙ (let e : sum_by (λ (g : GateState). sum_by (λ (r : Request). g.cost) g.queue) (gates_of (map (λ (x : DeviceRecord). x.device) ds) (map (λ (x : DeviceRecord). x.area) ds)) ≡ 0 = none_waits ds in omega (arith, e))
+    ∙ (let e : sum_by (λ (g : GateState). sum_by (λ (r : Request). g.cost) g.queue)
+    (gates_of (map (λ (x : DeviceRecord). x.device) ds) (map (λ (x : DeviceRecord). x.area) ds)) ≡ 0 = none_waits ds in omega (arith, e))
 
 start_gated : (p : Setup) (inputs : List (List ℕ)) (memory : List ℕ) → AreGates p (start_of p inputs memory).gates → Gated p (start_of p inputs memory).gates
 start_gated p inputs memory g = record { count = g.count; costs = λ d lt. start_cost p.devices d lt; some = tt }
@@ -112,8 +122,11 @@ one_not false b h e = absurd (let x : false ≡ true = e in cc)
 
 -- ---- runs
 
-module _ (rule other : ReplacementRule) (order order' : OrderRule) (passes passes' : ℕ → ℕ) (p q : Setup) (content behind : List ℕ) (inputs others : List (List ℕ)) (requests : List Request) (own own' : ℕ → ℕ → Bool) (runs runs' : ℕ → TaskRun) (scripts scripts' : ℕ → Script)
-    (policy : IsPolicy rule order passes) (policy' : IsPolicy other order' passes') (run : IsRun p content requests) (run' : IsRun q behind []) (are : AreScripts p passes content inputs own runs scripts) (are' : AreScripts q passes' behind others own' runs' scripts') (t : HasTotals p runs scripts) (t' : HasTotals q runs' scripts') where
+module _ (rule other : ReplacementRule) (order order' : OrderRule) (passes passes' : ℕ → ℕ) (p q : Setup) (content behind : List ℕ)
+    (inputs others : List (List ℕ)) (requests : List Request) (own own' : ℕ → ℕ → Bool) (runs runs' : ℕ → TaskRun) (scripts scripts' : ℕ → Script)
+    (policy : IsPolicy rule order passes) (policy' : IsPolicy other order' passes') (run : IsRun p content requests) (run' : IsRun q behind [])
+    (are : AreScripts p passes content inputs own runs scripts) (are' : AreScripts q passes' behind others own' runs' scripts')
+    (t : HasTotals p runs scripts) (t' : HasTotals q runs' scripts') where
   abbrev pub host : Hosted
   host = host_of rule order passes p content inputs requests own runs scripts policy run are t
 
@@ -134,7 +147,9 @@ module _ (rule other : ReplacementRule) (order order' : OrderRule) (passes passe
     };
   }
 
-  pub start_holds : (More : (ℕ → ℕ) → (ℕ → ℕ) → PairState → Type 0) → More (λ k. 0) (λ k. 0) (pair_start p q inputs others (memory_of p content) (memory_of q behind)) → PairHolds host guest requests More (pair_start p q inputs others (memory_of p content) (memory_of q behind))
+  pub start_holds : (More : (ℕ → ℕ) → (ℕ → ℕ) → PairState → Type 0) →
+      More (λ k. 0) (λ k. 0) (pair_start p q inputs others (memory_of p content) (memory_of q behind)) →
+      PairHolds host guest requests More (pair_start p q inputs others (memory_of p content) (memory_of q behind))
   start_holds More more =
       let gates : AreGates p (start_of p inputs (memory_of p content)).gates = (start_all p content inputs requests own runs run.runnable are.own_runs).gates in
       record {
@@ -180,20 +195,24 @@ module _ (rule other : ReplacementRule) (order order' : OrderRule) (passes passe
   before_by n go =
       let x : PairHolds host guest requests Nothing (after n) = run_holds n in
       let most : (after n).first.now ≤ x.off + total_of p t.total =
-      core_most rule order passes p own runs scripts policy are.each (λ k lt. (are.own_runs.runs_are k lt).jobs) run.periods t.scopings t.scoped t.total t.totals x.off x.at (after n).first x.first.known x.first.keeps x.first.lasts x.first.timed in
+      core_most rule order passes p own runs scripts policy are.each (λ k lt. (are.own_runs.runs_are k lt).jobs)
+      run.periods t.scopings t.scoped t.total t.totals x.off x.at (after n).first x.first.known x.first.keeps x.first.lasts x.first.timed in
       let most' : (after n).second.now ≤ x.off' + total_of q t'.total =
-      core_most other order' passes' q own' runs' scripts' policy' are'.each (λ k lt. (are'.own_runs.runs_are k lt).jobs) run'.periods t'.scopings t'.scoped t'.total t'.totals x.off' x.at' (after n).second x.second.known x.second.keeps x.second.lasts x.second.timed in
+      core_most other order' passes' q own' runs' scripts' policy' are'.each (λ k lt. (are'.own_runs.runs_are k lt).jobs)
+      run'.periods t'.scopings t'.scoped t'.total t'.totals x.off' x.at' (after n).second x.second.known x.second.keeps x.second.lasts x.second.timed in
       ⊎_elim (λ (f : is_finished (after n).first ≡ true).
       ⊎_elim (λ (y : (after n).second.now + 1 ≤ x.off' + total_of q t'.total).
       omega (arith, most, y, x.same_now, x.spans.time, x.spans.high, x.served, asked_most (after n).first.now p requests))
       (λ (y : (after n).second.now < last_release q.tasks). omega (arith, y, x.same_now))
-      (core_before other order' passes' q own' runs' scripts' policy' are'.each (λ k lt. (are'.own_runs.runs_are k lt).jobs) run'.periods t'.scopings t'.scoped t'.total t'.totals x.off' x.at' (after n).second x.second.known x.second.keeps x.second.lasts x.second.timed
+      (core_before other order' passes' q own' runs' scripts' policy' are'.each (λ k lt. (are'.own_runs.runs_are k lt).jobs)
+      run'.periods t'.scopings t'.scoped t'.total t'.totals x.off' x.at' (after n).second x.second.known x.second.keeps x.second.lasts x.second.timed
       (one_not (is_finished (after n).first) (is_finished (after n).second) go f)))
       (λ (f : is_finished (after n).first ≡ false).
       ⊎_elim (λ (y : (after n).first.now + 1 ≤ x.off + total_of p t.total).
       omega (arith, most', y, x.same_now, x.spans.time, x.spans.high, x.served, asked_most (after n).first.now p requests))
       (λ (y : (after n).first.now < last_release p.tasks). omega (arith, y))
-      (core_before rule order passes p own runs scripts policy are.each (λ k lt. (are.own_runs.runs_are k lt).jobs) run.periods t.scopings t.scoped t.total t.totals x.off x.at (after n).first x.first.known x.first.keeps x.first.lasts x.first.timed f))
+      (core_before rule order passes p own runs scripts policy are.each (λ k lt. (are.own_runs.runs_are k lt).jobs)
+      run.periods t.scopings t.scoped t.total t.totals x.off x.at (after n).first x.first.known x.first.keeps x.first.lasts x.first.timed f))
       (cases_Bool (is_finished (after n).first))
 
   none_trapped : (n : ℕ) → one_trapped (after n) ≡ false
@@ -205,8 +224,12 @@ module _ (rule other : ReplacementRule) (order order' : OrderRule) (passes passe
   none_full n =
       let x : PairHolds host guest requests Nothing (after n) = run_holds n in
       neither (is_full (after n).first) (is_full (after n).second)
-      (core_room rule order passes p own runs scripts policy are.each (λ k lt. (are.own_runs.runs_are k lt).jobs) run.periods t.scopings t.scoped t.total t.totals x.off x.at (after n).first x.first.known x.first.keeps x.first.lasts x.first.timed are.outputs are.intervals)
-      (core_room other order' passes' q own' runs' scripts' policy' are'.each (λ k lt. (are'.own_runs.runs_are k lt).jobs) run'.periods t'.scopings t'.scoped t'.total t'.totals x.off' x.at' (after n).second x.second.known x.second.keeps x.second.lasts x.second.timed are'.outputs are'.intervals)
+      (core_room rule order passes p own runs scripts policy are.each (λ k lt. (are.own_runs.runs_are k lt).jobs)
+      run.periods t.scopings t.scoped t.total t.totals x.off x.at
+      (after n).first x.first.known x.first.keeps x.first.lasts x.first.timed are.outputs are.intervals)
+      (core_room other order' passes' q own' runs' scripts' policy' are'.each (λ k lt. (are'.own_runs.runs_are k lt).jobs)
+      run'.periods t'.scopings t'.scoped t'.total t'.totals x.off' x.at'
+      (after n).second x.second.known x.second.keeps x.second.lasts x.second.timed are'.outputs are'.intervals)
 
   pub finishes : (n : ℕ) → limit ≤ n → both_finished (after n) ≡ true
   finishes n le =

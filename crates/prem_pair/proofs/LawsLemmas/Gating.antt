@@ -1,6 +1,7 @@
 -- The transfers of a run take no more cycles than the requests that have been asked.
 use Rattle.std.specs.Prelude.{slice_set, slice_get, is_some, All, ◌||◌, ◌&&◌, not, sum_by}
-use Rattle.std.proofs.Common.{◌≡◌, ℕ, zero, suc, ◌+◌, ◌<◌, ◌≤◌, refl, ap, ◌∙◌, sym, subst, arith, cond, eqb, leb, ltb, Some, None, Option, true, false, Bool, List, [], ◌∷◌, ◌++◌, length, drop, IfSome, ◌⊎◌, inl, inr, get_or, ⊎_elim}
+use Rattle.std.proofs.Common.{◌≡◌, ℕ, zero, suc, ◌+◌, ◌<◌, ◌≤◌, refl, ap, ◌∙◌, sym, subst, arith, cond, eqb, leb, ltb, Some, None, Option, true, false, Bool, List, [], ◌∷◌, ◌++◌}
+use Rattle.std.proofs.Common.{length, drop, IfSome, ◌⊎◌, inl, inr, get_or, ⊎_elim}
 use Rattle.std.proofs.lemmas.Bool.{cases_eq, cases_lt, cond_both, leb-false, le-leb, eq-eqb, ne_eqb, lt-ltb, le-ltb}
 use Rattle.std.proofs.lemmas.List.{get_or-set_same, get_or-set_other, length-set}
 use Rattle.std.proofs.lemmas.List.Elements.{All-head, All-tail}
@@ -11,7 +12,8 @@ use Rattle.prem_gate.specs.declared.bus.Carried.{Carried}
 use Rattle.prem_gate.specs.declared.bus.CoreWant.{CoreWant}
 use Rattle.prem_gate.specs.declared.bus.CoreWant.TheVariants.{No, New, Held}
 use Rattle.prem_gate.specs.Ranges.{IsStart}
-use Rattle.prem_gate.specs.Gates.{GateState, GatesState, Turned, gate_at, no_gate, with_queue, with_gates, is_full, queued, after_arrival, fits, start_of, first_of, startable_from, startable, taken, without_head, ends, goes_on, carries, wants, starts, bus_free, bus_with, bus_turn}
+use Rattle.prem_gate.specs.Gates.{GateState, GatesState, Turned, gate_at, no_gate, with_queue, with_gates, is_full, queued, after_arrival, fits, start_of, first_of, startable_from}
+use Rattle.prem_gate.specs.Gates.{startable, taken, without_head, ends, goes_on, carries, wants, starts, bus_free, bus_with, bus_turn}
 use Rattle.prem_gate.proofs.Places.{startable_is}
 use Rattle.prem_cycle.specs.State.{Setup}
 use Rattle.prem_cycle.specs.Inputs.{IsRequest}
@@ -122,11 +124,14 @@ one_asked : (x c : ℕ) (p : Setup) (r : Request) → cost_before (x + 1) p r �
 one_asked x c p r =
     ⊎_elim (λ (e : r.cycle ≡ x).
     let n : ℕ = cost_of_request p.devices r in
-    ap (λ b. cond b n 0) (lt-ltb r.cycle (x + 1) (omega (arith, e))) ∙ sym (ap (λ b. cond b n 0 + cond (eqb r.cycle x) n 0) (le-ltb r.cycle x (omega (arith, e))) ∙ ap (λ b. 0 + cond b n 0) (eq-eqb r.cycle x e) ∙ omega arith))
+    ap (λ b. cond b n 0) (lt-ltb r.cycle (x + 1) (omega (arith, e)))
+    ∙ sym (ap (λ b. cond b n 0 + cond (eqb r.cycle x) n 0) (le-ltb r.cycle x (omega (arith, e))) ∙ ap (λ b. 0 + cond b n 0) (eq-eqb r.cycle x e)
+    ∙ omega arith))
     (λ (ne : r.cycle ≡ x → ⊥).
     let n : ℕ = cost_of_request p.devices r in
     ⊎_elim (λ (lt : r.cycle < x).
-    ap (λ b. cond b n 0) (lt-ltb r.cycle (x + 1) (omega (arith, lt))) ∙ sym (ap (λ b. cond b n 0 + cond (eqb r.cycle x) n 0) (lt-ltb r.cycle x lt) ∙ ap (λ b. n + cond b n 0) (ne_eqb r.cycle x ne) ∙ omega arith))
+    ap (λ b. cond b n 0) (lt-ltb r.cycle (x + 1) (omega (arith, lt)))
+    ∙ sym (ap (λ b. cond b n 0 + cond (eqb r.cycle x) n 0) (lt-ltb r.cycle x lt) ∙ ap (λ b. n + cond b n 0) (ne_eqb r.cycle x ne) ∙ omega arith))
     (λ (ge : x ≤ r.cycle).
     let more : x + 1 ≤ r.cycle = ⊎_elim (λ (y : x < r.cycle). omega (arith, y)) (λ (y : r.cycle ≤ x). absurd (ne (omega (arith, y, ge)))) (cases_lt x r.cycle) in
     ap (λ b. cond b n 0) (le-ltb r.cycle (x + 1) more) ∙ sym (ap (λ b. cond b n 0 + cond (eqb r.cycle x) n 0) (le-ltb r.cycle x ge) ∙ ap (λ b. 0 + cond b n 0) (ne_eqb r.cycle x ne)))
@@ -165,7 +170,8 @@ arrival_load p r s lt h =
     cond_both (is_full g) s (with_gates s (slice_set s.gates r.device (queued r g))) (λ (x : GatesState). load x ≤ load s + cost_of_request p.devices r)
     (λ _. omega arith) (λ _. omega (arith, e, n, one, same))
 
-pub arrivals_load : (p : Setup) (now : ℕ) (requests : List Request) (a : Arrivals) → All (IsRequest p.devices) requests → Gated p a.gates → load (arrivals now requests a).gates ≤ load a.gates + asked_at now p requests
+pub arrivals_load : (p : Setup) (now : ℕ) (requests : List Request) (a : Arrivals) → All (IsRequest p.devices) requests → Gated p a.gates →
+    load (arrivals now requests a).gates ≤ load a.gates + asked_at now p requests
 arrivals_load p now [] a all h = omega arith
 arrivals_load p now (r ∷ requests) a all h =
     let rest : All (IsRequest p.devices) requests = All-tail (IsRequest p.devices) r requests all in
@@ -174,7 +180,8 @@ arrivals_load p now (r ∷ requests) a all h =
     cond_both (eqb r.cycle now) (arrivals now requests (arrived r a)) (arrivals now requests a) (λ (x : Arrivals). load x.gates ≤ load a.gates + asked_at now p (r ∷ requests))
     (λ yes.
     let c : cost_at now p r ≡ cost_of_request p.devices r = ap (λ b. cond b (cost_of_request p.devices r) 0) yes in
-    let x : load (arrivals now requests (arrived r a)).gates ≤ load (after_arrival r a.gates) + asked_at now p requests = arrivals_load p now requests (arrived r a) rest (arrival_gated p r a.gates h) in
+    let x : load (arrivals now requests (arrived r a)).gates ≤ load (after_arrival r a.gates) + asked_at now p requests =
+    arrivals_load p now requests (arrived r a) rest (arrival_gated p r a.gates h) in
     omega (arith, x, c, z, arrival_load p r a.gates here h))
     (λ _. omega (arith, z, arrivals_load p now requests a rest h))
 
@@ -183,7 +190,8 @@ arrivals_load p now (r ∷ requests) a all h =
 abbrev Lighter : GatesState → Turned → Type 0
 Lighter s t = load t.gates + one_if (transfers t) ≤ load s
 
-carries_load : (clash : Bool) (c : Carried) (s : GatesState) (memory : List ℕ) → 1 ≤ c.left → load (carries clash c s memory).gates + one_if (transfers (carries clash c s memory)) ≤ sum_by weigh s.gates + c.left
+carries_load : (clash : Bool) (c : Carried) (s : GatesState) (memory : List ℕ) → 1 ≤ c.left →
+    load (carries clash c s memory).gates + one_if (transfers (carries clash c s memory)) ≤ sum_by weigh s.gates + c.left
 carries_load clash c s memory some =
     cond_both (leb c.left 1) (ends clash c s memory) (goes_on clash c s memory) (λ (t : Turned). load t.gates + one_if (transfers t) ≤ sum_by weigh s.gates + c.left)
     (λ _. omega (arith, some)) (λ _. omega (arith, some))
@@ -192,7 +200,8 @@ headless : (n : ℕ) (q : List Request) (r : Request) → slice_get q 0 ≡ Some
 headless n [] r e = absurd (let x : None ≡ Some r = e in cc)
 headless n (x ∷ q) r e = sum_by-cons (λ (y : Request). n) x q
 
-starts_load : (p : Setup) (now : ℕ) (w : Window) (core : Bool) (o : Option Carried) (s : GatesState) (memory : List ℕ) → HaveCosts p → startable now w s ≡ o → s.carried ≡ None → Gated p s → Lighter s (starts core o s memory)
+starts_load : (p : Setup) (now : ℕ) (w : Window) (core : Bool) (o : Option Carried) (s : GatesState) (memory : List ℕ) → HaveCosts p →
+    startable now w s ≡ o → s.carried ≡ None → Gated p s → Lighter s (starts core o s memory)
 starts_load p now w core None s memory have is none h = ap_le (transfers_none s none) where
   transfers_none : (s : GatesState) → s.carried ≡ None → one_if (is_some s.carried) ≡ 0
   transfers_none s e = ap (λ (x : Option Carried). one_if (is_some x)) e
@@ -212,12 +221,14 @@ starts_load p now w core (Some c) s memory have is none h =
 stays_load : (s : GatesState) → s.carried ≡ None → load s + one_if (is_some s.carried) ≤ load s
 stays_load s e = let x : one_if (is_some s.carried) ≡ 0 = ap (λ (y : Option Carried). one_if (is_some y)) e in omega (arith, x)
 
-free_load : (p : Setup) (now : ℕ) (w : Window) (core : CoreWant) (o : Option Carried) (s : GatesState) (memory : List ℕ) → HaveCosts p → startable now w s ≡ o → s.carried ≡ None → Gated p s → Lighter s (bus_free core o s memory)
+free_load : (p : Setup) (now : ℕ) (w : Window) (core : CoreWant) (o : Option Carried) (s : GatesState) (memory : List ℕ) → HaveCosts p →
+    startable now w s ≡ o → s.carried ≡ None → Gated p s → Lighter s (bus_free core o s memory)
 free_load p now w No o s memory have is none h = starts_load p now w false o s memory have is none h
 free_load p now w New o s memory have is none h = starts_load p now w true o s memory have is none h
 free_load p now w Held o s memory have is none h = stays_load s none
 
-with_load : (p : Setup) (now : ℕ) (w : Window) (core : CoreWant) (carried : Option Carried) (s : GatesState) (memory : List ℕ) → HaveCosts p → s.carried ≡ carried → IfSome carried (λ c. 1 ≤ c.left) → Gated p s → Lighter s (bus_with core carried (startable now w s) s memory)
+with_load : (p : Setup) (now : ℕ) (w : Window) (core : CoreWant) (carried : Option Carried) (s : GatesState) (memory : List ℕ) → HaveCosts p →
+    s.carried ≡ carried → IfSome carried (λ c. 1 ≤ c.left) → Gated p s → Lighter s (bus_with core carried (startable now w s) s memory)
 with_load p now w core (Some c) s memory have is l h = let z : left_of s.carried ≡ c.left = ap left_of is in omega (arith, carries_load (wants core) c s memory l, z)
 with_load p now w core None s memory have is l h = free_load p now w core (startable now w s) s memory have refl is h
 
@@ -248,7 +259,8 @@ either_waits : (a b : Bool) → (a || b) ≡ true → (a ≡ true) ⊎ (b ≡ tr
 either_waits true b h = inl refl
 either_waits false b h = inr h
 
-startable_some : (now d : ℕ) (gates : List GateState) → some_wait gates ≡ true → All (λ (g : GateState). g.cost ≤ longest_transfer) gates → is_some (startable_from now (record { start = now; close = now + longest_transfer }) d gates) ≡ true
+startable_some : (now d : ℕ) (gates : List GateState) → some_wait gates ≡ true → All (λ (g : GateState). g.cost ≤ longest_transfer) gates →
+    is_some (startable_from now (record { start = now; close = now + longest_transfer }) d gates) ≡ true
 startable_some now d [] h all = absurd (let x : false ≡ true = h in cc)
 startable_some now d (g ∷ gates) h all =
     first_some (start_of now (record { start = now; close = now + longest_transfer }) d g.cost g.queue) (startable_from now (record { start = now; close = now + longest_transfer }) (d + 1) gates)
@@ -282,7 +294,8 @@ got_by (Some c) o s memory h = carries_transfers false c s memory
 got_by None o s memory h = starts_transfers o s memory h
 
 -- in the cycle in which they get it a transfer starts
-pub turn_got : (p : Setup) (now : ℕ) (s : GatesState) (memory : List ℕ) → HaveCosts p → Gated p s → some_wait s.gates ≡ true → transfers (bus_turn now (record { start = now; close = now + longest_transfer }) No s memory) ≡ true
+pub turn_got : (p : Setup) (now : ℕ) (s : GatesState) (memory : List ℕ) → HaveCosts p → Gated p s → some_wait s.gates ≡ true →
+    transfers (bus_turn now (record { start = now; close = now + longest_transfer }) No s memory) ≡ true
 turn_got p now s memory have h some =
     got_by s.carried (startable now (record { start = now; close = now + longest_transfer }) s) s memory (startable_some now 0 s.gates some (all_most p s have h))
 

@@ -41,31 +41,43 @@ use Rattle.prem_pair.proofs.CyclesLemmas.PairRuns.{pair_cycles-next, pair_step-g
 use Rattle.prem_pair.proofs.CyclesLemmas.PairTime.{pair_run-now}
 use Rattle.prem_pair.proofs.LawsLemmas.Hosted.{Hosted, CoreSteps}
 use Rattle.prem_pair.proofs.LawsLemmas.Facts.{HostsDevices}
-use Rattle.prem_pair.proofs.LawsLemmas.Holds.{PairHolds, holds_more, cycle_holds, next_is, ended, arriving, holder, bus, bus0, bus1, move0, move1, acted0, acted1, meets0, meets1, steps0, steps1, same_gates}
+use Rattle.prem_pair.proofs.LawsLemmas.Holds.{PairHolds, holds_more, cycle_holds, next_is, ended, arriving, holder, bus, bus0, bus1, move0, move1, acted0, acted1, meets0, meets1}
+use Rattle.prem_pair.proofs.LawsLemmas.Holds.{steps0, steps1, same_gates}
 use Rattle.prem_pair.proofs.LawsLemmas.Finishing.{due_totals, host, guest, devices, start_holds}
 
 -- ---- the words of the devices
 
-turned_words : (g : Hosted) (apart : AreApart (map (area_of g.setup.plant.line) g.setup.devices)) (requests : List Request) (d : HostsDevices g requests) (at : ℕ → ℕ) (now : ℕ) (sched : List TaskJobs) (m : CoreMove) (w : Work) (c : CoreState) (n : Counts) (transfers : List Transfer) → Stands g.setup g.own g.runs at w → Scheduled g.setup g.runs at sched m → AreWords g.setup w.cache w.memory transfers → AreWords g.setup (core_turn g.rule g.setup now m w c n).work.cache (core_turn g.rule g.setup now m w c n).work.memory transfers
+turned_words : (g : Hosted) (apart : AreApart (map (area_of g.setup.plant.line) g.setup.devices)) (requests : List Request)
+    (d : HostsDevices g requests) (at : ℕ → ℕ) (now : ℕ) (sched : List TaskJobs) (m : CoreMove) (w : Work) (c : CoreState) (n : Counts)
+    (transfers : List Transfer) → Stands g.setup g.own g.runs at w → Scheduled g.setup g.runs at sched m →
+    AreWords g.setup w.cache w.memory transfers →
+    AreWords g.setup (core_turn g.rule g.setup now m w c n).work.cache (core_turn g.rule g.setup now m w c n).work.memory transfers
 turned_words g apart requests d at now sched (Passes c') w c n transfers s m h = h
 turned_words g apart requests d at now sched (Issues k i) w c n transfers s m h =
     let lt : k < length g.setup.tasks = m.unfinished.bound in
     let x : Issuing g.setup (g.own k) (g.runs k) (at k) k w = issuing g.setup g.own g.runs at w k g.are_runs s m.unfinished in
     subst (λ a. AreWords g.setup (core_issue g.rule g.setup now k i a w c n).work.cache (core_issue g.rule g.setup now k i a w c n).work.memory transfers) (sym (x.behind g.rule g.policy.keeps))
-    (issue_words g.setup d.placed apart (g.own k) (slice_set w.tasks k (task_after (record_of g.setup k) x.effect (task_in w k))) x.effect.stored w (issued_by g.rule g.setup k x.effect w).work transfers s.kept
+    (issue_words g.setup d.placed apart (g.own k) (slice_set w.tasks k (task_after (record_of g.setup k) x.effect (task_in w k))) x.effect.stored w
+    (issued_by g.rule g.setup k x.effect w).work transfers s.kept
     (λ a y. d.free k a lt y) x.stays.stores (x.work g.rule g.policy.keeps) h)
 
 -- what the end of a cycle leaves
 ticked_transfers : (s : MachineState) → (ticked s).log.transfers ≡ s.log.transfers
-ticked_transfers s = cond_both (is_some s.trapped) s (next_cycle s) (λ (t : MachineState). t.log.transfers ≡ s.log.transfers) (λ _. refl) (λ _. (settle_keeps s.core.mode (with_now s (s.now + 1))).transfers)
+ticked_transfers s = cond_both (is_some s.trapped) s (next_cycle s) (λ (t : MachineState). t.log.transfers ≡ s.log.transfers) (λ _. refl)
+    (λ _. (settle_keeps s.core.mode (with_now s (s.now + 1))).transfers)
 
 ticked_work : (s : MachineState) → (ticked s).work ≡ s.work
 ticked_work s = cond_both (is_some s.trapped) s (next_cycle s) (λ (t : MachineState). t.work ≡ s.work) (λ _. refl) (λ _. (settle_keeps s.core.mode (with_now s (s.now + 1))).work)
 
 -- ---- a run
 
-module _ (rule other : ReplacementRule) (order order' : OrderRule) (passes passes' : ℕ → ℕ) (p q : Setup) (content behind : List ℕ) (inputs others : List (List ℕ)) (requests : List Request) (own own' : ℕ → ℕ → Bool) (runs runs' : ℕ → TaskRun) (scripts scripts' : ℕ → Script) (promises promises' : ℕ → Promise)
-    (policy : IsPolicy rule order passes) (policy' : IsPolicy other order' passes') (run : IsRun p content requests) (run' : IsRun q behind []) (none : q.devices ≡ []) (are : AreScripts p passes content inputs own runs scripts) (are' : AreScripts q passes' behind others own' runs' scripts') (kept : AreKept p own runs scripts promises) (kept' : AreKept q own' runs' scripts' promises') where
+module _ (rule other : ReplacementRule) (order order' : OrderRule) (passes passes' : ℕ → ℕ) (p q : Setup) (content behind : List ℕ)
+    (inputs others : List (List ℕ)) (requests : List Request) (own own' : ℕ → ℕ → Bool) (runs runs' : ℕ → TaskRun) (scripts scripts' : ℕ → Script)
+    (promises promises' : ℕ → Promise)
+    (policy : IsPolicy rule order passes) (policy' : IsPolicy other order' passes') (run : IsRun p content requests) (run' : IsRun q behind [])
+    (none : q.devices ≡ []) (are : AreScripts p passes content inputs own runs scripts)
+    (are' : AreScripts q passes' behind others own' runs' scripts') (kept : AreKept p own runs scripts promises)
+    (kept' : AreKept q own' runs' scripts' promises') where
   abbrev total : HasTotals p runs scripts
   total = due_totals passes p content inputs own runs scripts are
 
@@ -141,14 +153,19 @@ module _ (rule other : ReplacementRule) (order order' : OrderRule) (passes passe
     next_marks : MarksFirst (bump_move (move0 one two requests dev (Good n) s x) x.at) (ticked acted_first)
     next_marks =
         let st : CoreSteps one x.off x.at came (bus0 one two requests dev (Good n) s x) (move0 one two requests dev (Good n) s x) s.first = steps0 one two requests dev (Good n) s x in
-        core_marks rule order passes p own runs scripts policy are.each promises kept works one.are_runs x.at came (bus0 one two requests dev (Good n) s x) (move0 one two requests dev (Good n) s x) s.first x.first.known x.first.keeps
+        core_marks rule order passes p own runs scripts policy are.each promises kept works one.are_runs x.at came
+        (bus0 one two requests dev (Good n) s x) (move0 one two requests dev (Good n) s x) s.first x.first.known x.first.keeps
         (ap works here) (ap (λ m. works (m + 1)) here ∙ ap (λ (z : PairState). z.first.work) next_state) x.more.marks (meets0 one two requests dev (Good n) s x) st.faced st.came
 
     next_marks' : MarksSecond (bump_move (move1 one two requests dev (Good n) s x) x.at') (ticked acted_second)
     next_marks' =
-        let st : CoreSteps two x.off' x.at' (record { gates = s.second.gates; dropped = s.second.log.dropped }) (bus1 one two requests dev (Good n) s x) (move1 one two requests dev (Good n) s x) s.second = steps1 one two requests dev (Good n) s x in
-        core_marks other order' passes' q own' runs' scripts' policy' are'.each promises' kept' works' two.are_runs x.at' (record { gates = s.second.gates; dropped = s.second.log.dropped }) (bus1 one two requests dev (Good n) s x) (move1 one two requests dev (Good n) s x) s.second x.second.known x.second.keeps
-        (ap works' (x.same_now ∙ here)) (ap (λ m. works' (m + 1)) (x.same_now ∙ here) ∙ ap (λ (z : PairState). z.second.work) next_state) x.more.marks' (meets1 one two requests dev (Good n) s x) st.faced st.came
+        let st : CoreSteps two x.off' x.at' (record { gates = s.second.gates; dropped = s.second.log.dropped })
+        (bus1 one two requests dev (Good n) s x) (move1 one two requests dev (Good n) s x) s.second = steps1 one two requests dev (Good n) s x in
+        core_marks other order' passes' q own' runs' scripts' policy' are'.each promises' kept' works' two.are_runs x.at'
+        (record { gates = s.second.gates; dropped = s.second.log.dropped }) (bus1 one two requests dev (Good n) s x)
+        (move1 one two requests dev (Good n) s x) s.second x.second.known x.second.keeps
+        (ap works' (x.same_now ∙ here)) (ap (λ m. works' (m + 1)) (x.same_now ∙ here) ∙ ap (λ (z : PairState). z.second.work) next_state)
+        x.more.marks' (meets1 one two requests dev (Good n) s x) st.faced st.came
 
     next_transfers : (ticked acted_first).log.transfers ≡ with_last turned.turn.ended s.first.log.transfers
     next_transfers = ticked_transfers acted_first
@@ -159,7 +176,9 @@ module _ (rule other : ReplacementRule) (order order' : OrderRule) (passes passe
         let start : Arrivals = record { gates = s.first.gates; dropped = s.first.log.dropped } in
         ap (λ ts. held d ts (ticked acted_first).gates.carried (ticked acted_first).gates) next_transfers
         ∙ ap (λ (z : GatesState). held d (with_last turned.turn.ended s.first.log.transfers) z.carried z) (same_gates one two requests dev (Good n) s x)
-        ∙ turn_held d s.first.now (window_given s.first.now s.holder (holder one two requests dev (Good n) s x)) (want_with (holder one two requests dev (Good n) s x) (want_of s.first.core.debt) (want_of s.second.core.debt)) came.gates s.first.work.memory s.first.log.transfers
+        ∙ turn_held d s.first.now (window_given s.first.now s.holder (holder one two requests dev (Good n) s x))
+        (want_with (holder one two requests dev (Good n) s x) (want_of s.first.core.debt) (want_of s.second.core.debt))
+        came.gates s.first.work.memory s.first.log.transfers
         ∙ ap (λ o. held d s.first.log.transfers o came.gates) (arrivals_carried s.first.now requests start)
         ∙ ap (λ z. (transferred_of d s.first.log.transfers ++ carried_of d s.first.gates.carried) ++ z) (arrivals_queue s.first.now requests start d)
         ∙ sym (append_assoc (transferred_of d s.first.log.transfers ++ carried_of d s.first.gates.carried) (queue_at s.first.gates d) (asked_of d room))
@@ -169,7 +188,8 @@ module _ (rule other : ReplacementRule) (order order' : OrderRule) (passes passe
     next_puts : HoldAll PutsWord (ticked acted_first).gates
     next_puts =
         subst (HoldAll PutsWord) (sym (same_gates one two requests dev (Good n) s x))
-        (turn_all PutsWord s.first.now (window_given s.first.now s.holder (holder one two requests dev (Good n) s x)) (want_with (holder one two requests dev (Good n) s x) (want_of s.first.core.debt) (want_of s.second.core.debt)) came.gates s.first.work.memory
+        (turn_all PutsWord s.first.now (window_given s.first.now s.holder (holder one two requests dev (Good n) s x))
+        (want_with (holder one two requests dev (Good n) s x) (want_of s.first.core.debt) (want_of s.second.core.debt)) came.gates s.first.work.memory
         (arrivals_all PutsWord s.first.now requests (record { gates = s.first.gates; dropped = s.first.log.dropped }) run.words x.more.puts))
 
     next_words : AreWords p (ticked acted_first).work.cache (ticked acted_first).work.memory (ticked acted_first).log.transfers
@@ -177,12 +197,17 @@ module _ (rule other : ReplacementRule) (order order' : OrderRule) (passes passe
         let st : CoreSteps one x.off x.at came (bus0 one two requests dev (Good n) s x) (move0 one two requests dev (Good n) s x) s.first = steps0 one two requests dev (Good n) s x in
         let w : Work = with_memory turned.memory s.first.work in
         let t : AreWords p s.first.work.cache turned.memory (with_last turned.turn.ended s.first.log.transfers) =
-        turn_words p run.runnable.devices run.apart s.first.now (window_given s.first.now s.holder (holder one two requests dev (Good n) s x)) s.first.work.cache s.first.work.memory s.first.log.transfers (want_with (holder one two requests dev (Good n) s x) (want_of s.first.core.debt) (want_of s.second.core.debt)) came.gates x.first.known.position.stands.kept
+        turn_words p run.runnable.devices run.apart s.first.now (window_given s.first.now s.holder (holder one two requests dev (Good n) s x))
+        s.first.work.cache s.first.work.memory s.first.log.transfers
+        (want_with (holder one two requests dev (Good n) s x) (want_of s.first.core.debt) (want_of s.second.core.debt))
+        came.gates x.first.known.position.stands.kept
         (arrivals_gates p s.first.now requests (record { gates = s.first.gates; dropped = s.first.log.dropped }) run.runnable.asked x.gates)
         (arrivals_all PutsWord s.first.now requests (record { gates = s.first.gates; dropped = s.first.log.dropped }) run.words x.more.puts) x.more.words in
         subst (λ (v : Work). AreWords p v.cache v.memory (ticked acted_first).log.transfers) (sym (ticked_work acted_first))
         (subst (AreWords p acted_first.work.cache acted_first.work.memory) (sym next_transfers)
-        (turned_words one run.apart requests dev x.at s.first.now s.first.sched (move0 one two requests dev (Good n) s x) w s.first.core (with_clash (bus0 one two requests dev (Good n) s x).turn.clash s.first.log.counts) (with_last turned.turn.ended s.first.log.transfers) st.faced.stands st.faced.scheduled t))
+        (turned_words one run.apart requests dev x.at s.first.now s.first.sched (move0 one two requests dev (Good n) s x) w s.first.core
+        (with_clash (bus0 one two requests dev (Good n) s x).turn.clash s.first.log.counts) (with_last turned.turn.ended s.first.log.transfers)
+        st.faced.stands st.faced.scheduled t))
 
     more_next : Good (suc n) (bump_move (move0 one two requests dev (Good n) s x) x.at) (bump_move (move1 one two requests dev (Good n) s x) x.at') ends
     unfolding pair_queued
@@ -216,14 +241,15 @@ module _ (rule other : ReplacementRule) (order order' : OrderRule) (passes passe
 
   start_good : PairHolds one two requests (Good 0) begin
   unfolding pair_queued
-  start_good = start_holds rule other order order' passes passes' p q content behind inputs others requests own own' runs runs' scripts scripts' policy policy' run run' are are' total total' (Good 0) (record {
-    marks = start_marks rule order passes p own runs scripts policy are.each promises kept works inputs (memory_of p content);
-    marks' = start_marks other order' passes' q own' runs' scripts' policy' are'.each promises' kept' works' others (memory_of q behind);
-    held = λ d. start_held p inputs (memory_of p content) d;
-    puts = start_puts PutsWord p inputs (memory_of p content);
-    words = start_words rule p content inputs requests own runs policy.keeps run.runnable are.own_runs run.apart run.words run.zero;
-    none_there = refl;
-  })
+  start_good = start_holds rule other order order' passes passes' p q content behind inputs others requests own own' runs runs' scripts scripts'
+      policy policy' run run' are are' total total' (Good 0) (record {
+        marks = start_marks rule order passes p own runs scripts policy are.each promises kept works inputs (memory_of p content);
+        marks' = start_marks other order' passes' q own' runs' scripts' policy' are'.each promises' kept' works' others (memory_of q behind);
+        held = λ d. start_held p inputs (memory_of p content) d;
+        puts = start_puts PutsWord p inputs (memory_of p content);
+        words = start_words rule p content inputs requests own runs policy.keeps run.runnable are.own_runs run.apart run.words run.zero;
+        none_there = refl;
+      })
 
   run_good : (n : ℕ) → PairHolds one two requests (Good n) (then n)
   unfolding pair_cycles
@@ -261,5 +287,6 @@ module _ (rule other : ReplacementRule) (order order' : OrderRule) (passes passe
       }
 
 pub pairs_are_good : PairsAreGood
-pairs_are_good rule other order order' passes passes' p q content behind inputs others requests own own' runs runs' scripts scripts' promises promises' n policy policy' run run' none are are' kept kept' =
+pairs_are_good rule other order order' passes passes' p q content behind inputs others requests own own' runs runs' scripts scripts' promises
+    promises' n policy policy' run run' none are are' kept kept' =
     good rule other order order' passes passes' p q content behind inputs others requests own own' runs runs' scripts scripts' promises promises' policy policy' run run' none are are' kept kept' n

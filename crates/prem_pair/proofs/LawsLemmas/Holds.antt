@@ -26,9 +26,11 @@ use Rattle.prem_pair.specs.declared.cycles.state.Holder.TheVariants.{Nobody, Fir
 use Rattle.prem_pair.specs.Cycles.Token.{asks, some_wait, holder_with, is_first, is_second, is_gates, holder_after, window_given, want_with}
 use Rattle.prem_pair.specs.Cycles.Pair.{PairState, move_under, no_arrivals, both_ticked, second_done, first_done, ended_in_place, pair_cycle, both_finished}
 use Rattle.prem_pair.proofs.LawsLemmas.Hosted.{Hosted, CoreHolds, CoreSteps, core_steps}
-use Rattle.prem_pair.proofs.LawsLemmas.Tokens.{core_needs, StillHolds, LetMove, let_moves, held_still, let_still, first_after, second_after, gates_after, first_had, second_had, first_keeps, second_keeps}
+use Rattle.prem_pair.proofs.LawsLemmas.Tokens.{core_needs, StillHolds, LetMove, let_moves, held_still, let_still, first_after, second_after, gates_after, first_had, second_had}
+use Rattle.prem_pair.proofs.LawsLemmas.Tokens.{first_keeps, second_keeps}
 use Rattle.prem_pair.proofs.LawsLemmas.Gating.{transfers, turn_one, Gated, load, asked_before, asked_next, arrivals_load, turn_load, turn_gated}
-use Rattle.prem_pair.proofs.LawsLemmas.Facts.{not_true, both_true, quiet_now, finished_asks, finished_needs, HostsDevices, Tokened, arrived_now, holder_now, bus_now, gated_now, gates_transfer, turned_first, turned_second, move_first, move_second, gates_next, first_meets, second_meets}
+use Rattle.prem_pair.proofs.LawsLemmas.Facts.{not_true, both_true, quiet_now, finished_asks, finished_needs, HostsDevices, Tokened, arrived_now, holder_now, bus_now, gated_now}
+use Rattle.prem_pair.proofs.LawsLemmas.Facts.{gates_transfer, turned_first, turned_second, move_first, move_second, gates_next, first_meets, second_meets}
 
 -- ---- one core
 
@@ -47,7 +49,8 @@ module _ (g : Hosted) where
   abbrev pub RestsIn : Bool → ℕ → CoreMove → MachineState → Type 0
   RestsIn holds off m s = Rests (off_behind m off ≡ off) (s.now < last_release g.setup.tasks) holds s
 
-  core_rests : (holds : Bool) (off : ℕ) (at : ℕ → ℕ) (b : Turned) (s : MachineState) → CoreHolds g off at s → (wants (want_of s.core.debt) ≡ true → b.turn.core ≡ true) → RestsIn holds off (move_under holds g.setup b s) s
+  core_rests : (holds : Bool) (off : ℕ) (at : ℕ → ℕ) (b : Turned) (s : MachineState) → CoreHolds g off at s →
+      (wants (want_of s.core.debt) ≡ true → b.turn.core ≡ true) → RestsIn holds off (move_under holds g.setup b s) s
   core_rests holds off at b s h serves =
       cond_both (not holds && asks s) (Passes s.core) (move_at g.setup b s) (λ m. RestsIn holds off m s)
       (λ yes. it_waits (and_parts_not holds (asks s) yes).0 (and_parts_not holds (asks s) yes).1)
@@ -55,12 +58,15 @@ module _ (g : Hosted) where
       ⊎_elim (λ (f : is_finished s ≡ true). it_has_finished f)
       (λ (go : is_finished s ≡ false).
       ⊎_elim (λ (x : off_behind (move_at g.setup b s) off ≡ off). it_works x) (λ (x : s.now < last_release g.setup.tasks). it_idles x)
-      (core_off g.rule g.order g.passes g.setup g.own g.runs g.scripts g.policy g.keep g.jobs_are g.periods g.charged.scopings g.charged.scoped g.charged.total g.charged.totals off at b (move_at g.setup b s) s h.known h.timed
+      (core_off g.rule g.order g.passes g.setup g.own g.runs g.scripts g.policy g.keep g.jobs_are g.periods g.charged.scopings g.charged.scoped
+      g.charged.total g.charged.totals off at b (move_at g.setup b s) s h.known h.timed
       (move_cases g.setup s.now b.turn.core s.sched (with_memory b.memory s.work) s.core) serves go))
       (cases_Bool (is_finished s)))
 
   -- the token behind its part of a cycle
-  core_token : (holds : Bool) (off : ℕ) (at : ℕ → ℕ) (a : Arrivals) (b : Turned) (s : MachineState) → CoreHolds g off at s → CoreSteps g off at a b (move_under holds g.setup b s) s → (holds ≡ true → (core_needs s ≡ true) ⊎ (asks s ≡ true)) → (holds ≡ false → core_needs s ≡ false) → StillHolds holds (ticked (joined a b (turn_with g.rule g.setup b (move_under holds g.setup b s) s) s))
+  core_token : (holds : Bool) (off : ℕ) (at : ℕ → ℕ) (a : Arrivals) (b : Turned) (s : MachineState) → CoreHolds g off at s →
+      CoreSteps g off at a b (move_under holds g.setup b s) s → (holds ≡ true → (core_needs s ≡ true) ⊎ (asks s ≡ true)) →
+      (holds ≡ false → core_needs s ≡ false) → StillHolds holds (ticked (joined a b (turn_with g.rule g.setup b (move_under holds g.setup b s) s) s))
   core_token true off at a b s h st has none =
       held_still g a b (move_at g.setup b s) s st.turned (move_cases g.setup s.now b.turn.core s.sched (with_memory b.memory s.work) s.core) h.known.closes.runs (has refl)
   core_token false off at a b s h st has none =
@@ -70,7 +76,8 @@ module _ (g : Hosted) where
       (move_cases g.setup s.now b.turn.core s.sched (with_memory b.memory s.work) s.core) h.needs.executes (none refl) quiet))
 
   -- behind the end of the cycle
-  core_next : (off : ℕ) (at : ℕ → ℕ) (a : Arrivals) (b : Turned) (m : CoreMove) (s : MachineState) → CoreSteps g off at a b m s → ticked (joined a b (turn_with g.rule g.setup b m s) s) ≡ next_cycle (joined a b (turn_with g.rule g.setup b m s) s)
+  core_next : (off : ℕ) (at : ℕ → ℕ) (a : Arrivals) (b : Turned) (m : CoreMove) (s : MachineState) → CoreSteps g off at a b m s →
+      ticked (joined a b (turn_with g.rule g.setup b m s) s) ≡ next_cycle (joined a b (turn_with g.rule g.setup b m s) s)
   core_next off at a b m s st =
       let j : MachineState = joined a b (turn_with g.rule g.setup b m s) s in
       ap (λ o. cond (is_some o) j (next_cycle j)) st.came.position.untrapped
@@ -174,7 +181,8 @@ pub record PairHolds (g k : Hosted) (requests : List Request) (More : (ℕ → �
   pub more : More at at' s
 
 -- what else is known may change
-pub holds_more : (g k : Hosted) (requests : List Request) (More Other : (ℕ → ℕ) → (ℕ → ℕ) → PairState → Type 0) (s : PairState) → ((at at' : ℕ → ℕ) → More at at' s → Other at at' s) → PairHolds g k requests More s → PairHolds g k requests Other s
+pub holds_more : (g k : Hosted) (requests : List Request) (More Other : (ℕ → ℕ) → (ℕ → ℕ) → PairState → Type 0) (s : PairState) →
+    ((at at' : ℕ → ℕ) → More at at' s → Other at at' s) → PairHolds g k requests More s → PairHolds g k requests Other s
 holds_more g k requests More Other s f x = record {
   off = x.off;
   off' = x.off';
@@ -324,8 +332,10 @@ module _ (g k : Hosted) (requests : List Request) (d : HostsDevices g requests) 
   by_rests : both_finished s ≡ false → transfers bus ≡ false → RestsIn g (is_first holder) x.off move0 s.first → RestsIn k (is_second holder) x.off' move1 s.second → SpansNext
   by_rests go quiet (it_works e) r = spans_work s.first.now x.off x.off' x.gone last (off_behind move0 x.off) (off_behind move1 x.off') (transfers bus) e (off_more move1 x.off') x.spans
   by_rests go quiet (it_idles lt) r =
-      spans_idle s.first.now x.off x.off' x.gone last (off_behind move0 x.off) (off_behind move1 x.off') (transfers bus) (off_more move0 x.off) (off_more move1 x.off') (left_max s.first.now (last_release g.setup.tasks) (last_release k.setup.tasks) lt) x.spans
-  by_rests go quiet (it_has_finished f) (it_works e) = spans_rest s.first.now x.off x.off' x.gone last (off_behind move0 x.off) (off_behind move1 x.off') (transfers bus) (off_more move0 x.off) e x.spans
+      spans_idle s.first.now x.off x.off' x.gone last (off_behind move0 x.off) (off_behind move1 x.off') (transfers bus) (off_more move0 x.off)
+      (off_more move1 x.off') (left_max s.first.now (last_release g.setup.tasks) (last_release k.setup.tasks) lt) x.spans
+  by_rests go quiet (it_has_finished f) (it_works e) =
+      spans_rest s.first.now x.off x.off' x.gone last (off_behind move0 x.off) (off_behind move1 x.off') (transfers bus) (off_more move0 x.off) e x.spans
   by_rests go quiet (it_waits n w) (it_works e) = spans_rest s.first.now x.off x.off' x.gone last (off_behind move0 x.off) (off_behind move1 x.off') (transfers bus) (off_more move0 x.off) e x.spans
   by_rests go quiet (it_has_finished f) (it_idles lt) =
       spans_idle s.first.now x.off x.off' x.gone last (off_behind move0 x.off) (off_behind move1 x.off') (transfers bus) (off_more move0 x.off) (off_more move1 x.off')
@@ -346,7 +356,8 @@ module _ (g k : Hosted) (requests : List Request) (d : HostsDevices g requests) 
 
   spans_next : both_finished s ≡ false → SpansNext
   spans_next go =
-      ⊎_elim (λ (y : transfers bus ≡ true). spans_transfer s.first.now x.off x.off' x.gone last (off_behind move0 x.off) (off_behind move1 x.off') (transfers bus) (off_more move0 x.off) (off_more move1 x.off') y x.spans)
+      ⊎_elim (λ (y : transfers bus ≡ true). spans_transfer s.first.now x.off x.off' x.gone last (off_behind move0 x.off) (off_behind move1 x.off')
+      (transfers bus) (off_more move0 x.off) (off_more move1 x.off') y x.spans)
       (λ (y : transfers bus ≡ false).
       by_rests go y (core_rests g (is_first holder) x.off x.at bus0 s.first x.first meets0.serves) (core_rests k (is_second holder) x.off' x.at' bus1 s.second x.second meets1.serves))
       (cases_Bool (transfers bus))
@@ -357,12 +368,15 @@ module _ (g k : Hosted) (requests : List Request) (d : HostsDevices g requests) 
         arith,
         x.served,
         arrivals_load g.setup s.first.now requests (record { gates = s.first.gates; dropped = s.first.log.dropped }) d.asked x.gated,
-        turn_load g.setup s.first.now (window_given s.first.now s.holder holder) (want_with holder (want_of s.first.core.debt) (want_of s.second.core.debt)) arriving.gates s.first.work.memory d.costs (gated_now g k requests d s x.tokened x.gates x.gated),
+        turn_load g.setup s.first.now (window_given s.first.now s.holder holder)
+            (want_with holder (want_of s.first.core.debt) (want_of s.second.core.debt)) arriving.gates s.first.work.memory d.costs
+            (gated_now g k requests d s x.tokened x.gates x.gated),
         asked_next s.first.now g.setup requests,
       )
 
   -- all that is known holds again
-  pub cycle_holds : (Next : (ℕ → ℕ) → (ℕ → ℕ) → PairState → Type 0) → both_finished s ≡ false → Next (bump_move move0 x.at) (bump_move move1 x.at') ended → PairHolds g k requests Next (pair_cycle g.rule k.rule g.setup k.setup requests s)
+  pub cycle_holds : (Next : (ℕ → ℕ) → (ℕ → ℕ) → PairState → Type 0) → both_finished s ≡ false →
+      Next (bump_move move0 x.at) (bump_move move1 x.at') ended → PairHolds g k requests Next (pair_cycle g.rule k.rule g.setup k.setup requests s)
   cycle_holds Next go more = subst (PairHolds g k requests Next) (sym next_is) (record {
     off = off_behind move0 x.off;
     off' = off_behind move1 x.off';
@@ -372,7 +386,10 @@ module _ (g k : Hosted) (requests : List Request) (d : HostsDevices g requests) 
     second = steps1.holds;
     same_now = next_now1 ∙ ap (λ n. n + 1) x.same_now ∙ sym next_now0;
     gates = subst (AreGates g.setup) (sym same_gates) (gates_next g k requests d s x.tokened x.gates x.gated x.off x.off' x.at x.at' x.first x.second);
-    gated = subst (Gated g.setup) (sym same_gates) (turn_gated g.setup s.first.now (window_given s.first.now s.holder holder) (want_with holder (want_of s.first.core.debt) (want_of s.second.core.debt)) arriving.gates s.first.work.memory (gated_now g k requests d s x.tokened x.gates x.gated));
+    gated = subst (Gated g.setup) (sym same_gates)
+        (turn_gated g.setup s.first.now (window_given s.first.now s.holder holder)
+        (want_with holder (want_of s.first.core.debt) (want_of s.second.core.debt)) arriving.gates s.first.work.memory
+        (gated_now g k requests d s x.tokened x.gates x.gated));
     tokened = tokens_next;
     gone = x.gone + one_if (transfers bus);
     served = subst (λ n. x.gone + one_if (transfers bus) + load (ticked acted0).gates ≤ asked_before n g.setup requests) (sym next_now0)

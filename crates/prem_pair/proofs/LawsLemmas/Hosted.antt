@@ -82,7 +82,8 @@ module _ (g : Hosted) where
           known = core_known g.rule g.order g.passes g.setup g.own g.runs g.scripts g.policy g.keep g.are_runs at a b m s c;
           keeps = core_keeps g.rule g.order g.passes g.setup g.own g.runs g.scripts g.policy g.keep g.are_runs at a b m s c;
           lasts = core_lasts g.rule g.order g.passes g.setup g.own g.runs g.scripts g.policy g.keep g.are_runs at a b m s h.keeps h.lasts meets f c;
-          timed = core_timed g.rule g.order g.passes g.setup g.own g.runs g.scripts g.policy g.keep g.jobs_are g.periods g.charged.scopings g.charged.scoped g.charged.total g.charged.totals g.are_runs off at a b m s h.known h.keeps h.lasts h.timed meets f c;
+          timed = core_timed g.rule g.order g.passes g.setup g.own g.runs g.scripts g.policy g.keep g.jobs_are g.periods g.charged.scopings
+              g.charged.scoped g.charged.total g.charged.totals g.are_runs off at a b m s h.known h.keeps h.lasts h.timed meets f c;
           needs = ticked_needs (joined a b (turn_with g.rule g.setup b m s) s) t.needs;
         };
       }

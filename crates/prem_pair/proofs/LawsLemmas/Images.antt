@@ -21,7 +21,8 @@ no_puts i d lt = absurd (omega (arith, lt))
 within : (last due due' more more' rest n : ℕ) → due ≤ more → due' ≤ more' → last + (more + more') + rest ≤ n → last + (due + due') + rest ≤ n
 within last due due' more more' rest n a b h = omega (arith, a, b, h)
 
-pub image_run : (passes : ℕ → ℕ) (p : Setup) (content : List ℕ) (promises : List (List ℕ) → ℕ → Promise) (due : ℕ) (requests : List Request) → GivesScripts passes p content promises due → IsTrace p.devices requests → PutWords requests → IsRun p content requests
+pub image_run : (passes : ℕ → ℕ) (p : Setup) (content : List ℕ) (promises : List (List ℕ) → ℕ → Promise) (due : ℕ) (requests : List Request) →
+    GivesScripts passes p content promises due → IsTrace p.devices requests → PutWords requests → IsRun p content requests
 image_run passes p content promises due requests h t w = record {
   runnable = record { plant = h.image.plant; room = h.image.within; devices = h.image.each_device; asked = t.each };
   periods = λ k d lt. (h.image.each_task k d lt).period.0;
@@ -35,7 +36,8 @@ due_within : (limit last due more : ℕ) → limit ≡ last + more → last + du
 due_within limit last due more is h = omega (arith, is, h)
 
 -- an image with scripts for all lists of words gives them, where its limit counts what its jobs are due from the last release on
-scripts_given : (passes : ℕ → ℕ) (p : Setup) (content : List ℕ) (promises : List (List ℕ) → ℕ → Promise) (limit due : ℕ) → limit ≡ last_release p.tasks + due → HasScripts passes p content promises limit → GivesScripts passes p content promises due
+scripts_given : (passes : ℕ → ℕ) (p : Setup) (content : List ℕ) (promises : List (List ℕ) → ℕ → Promise) (limit due : ℕ) →
+    limit ≡ last_release p.tasks + due → HasScripts passes p content promises limit → GivesScripts passes p content promises due
 scripts_given passes p content promises limit due is h = record {
   image = h.image;
   zero = h.zero;
@@ -54,7 +56,8 @@ pairs_of_images rule other order order' passes passes' p q content behind promis
   good = λ inputs others requests n i j t w.
       let x : ScriptsFor passes p content inputs h.own (promises inputs) due = h.for_inputs inputs i in
       let y : ScriptsFor passes' q behind others k.own (promises' others) due' = k.for_inputs others j in
-      pairs_are_good rule other order order' passes passes' p q content behind inputs others requests h.own k.own x.runs y.runs x.scripts y.scripts (promises inputs) (promises' others) n policy policy'
+      pairs_are_good rule other order order' passes passes' p q content behind inputs others requests h.own k.own x.runs y.runs x.scripts y.scripts
+      (promises inputs) (promises' others) n policy policy'
       (image_run passes p content promises due requests h t w) (image_run passes' q behind promises' due' [] k (no_trace q) no_puts) none x.are_scripts y.are_scripts x.keep y.keep;
   finished = λ inputs others requests n i j t w le.
       let x : ScriptsFor passes p content inputs h.own (promises inputs) due = h.for_inputs inputs i in

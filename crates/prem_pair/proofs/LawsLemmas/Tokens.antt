@@ -61,7 +61,8 @@ abbrev HoldMove : (ℕ → Phase) → CoreMove → Type 0
 HoldMove phases (Passes c) = needs_in phases c.mark c.mode ≡ not (frees c)
 HoldMove phases (Issues k i) = phases k ≡ Execution → ⊥
 
-hold_moves : (phases : ℕ → Phase) (p : Setup) (now : ℕ) (had : Bool) (sched : List TaskJobs) (w : Work) (c : CoreState) (m : CoreMove) → MoveCase p now had sched w c m → ((k : ℕ) → phases k ≡ Execution → c.mode ≡ Running k) → HasOrAsks phases now sched c.mark c.mode → HoldMove phases m
+hold_moves : (phases : ℕ → Phase) (p : Setup) (now : ℕ) (had : Bool) (sched : List TaskJobs) (w : Work) (c : CoreState) (m : CoreMove) →
+    MoveCase p now had sched w c m → ((k : ℕ) → phases k ≡ Execution → c.mode ≡ Running k) → HasOrAsks phases now sched c.mark c.mode → HoldMove phases m
 hold_moves phases p now had sched w c _ (pays_on_bus q h) runs x = need_frees phases now sched c.mark c.mode x
 hold_moves phases p now had sched w c _ (is_denied q h) runs x = need_frees phases now sched c.mark c.mode x
 hold_moves phases p now had sched w c _ (pays_cost k cost q e h) runs x = need_frees phases now sched c.mark c.mode x
@@ -111,7 +112,9 @@ abbrev pub LetMove : (ℕ → Phase) → CoreMove → Type 0
 LetMove phases (Passes c) = needs_in phases c.mark c.mode ≡ false
 LetMove phases (Issues k i) = phases k ≡ Execution
 
-pub let_moves : (phases : ℕ → Phase) (p : Setup) (now : ℕ) (had : Bool) (sched : List TaskJobs) (w : Work) (c : CoreState) (m : CoreMove) → MoveCase p now had sched w c m → ((k : ℕ) → c.mode ≡ Running k → opens c.mark ≡ true → phases k ≡ Execution) → needs_in phases c.mark c.mode ≡ false → asks_in now sched c.mode ≡ false → LetMove phases m
+pub let_moves : (phases : ℕ → Phase) (p : Setup) (now : ℕ) (had : Bool) (sched : List TaskJobs) (w : Work) (c : CoreState) (m : CoreMove) →
+    MoveCase p now had sched w c m → ((k : ℕ) → c.mode ≡ Running k → opens c.mark ≡ true → phases k ≡ Execution) →
+    needs_in phases c.mark c.mode ≡ false → asks_in now sched c.mode ≡ false → LetMove phases m
 let_moves phases p now had sched w c _ (pays_on_bus q h) o n x = n
 let_moves phases p now had sched w c _ (is_denied q h) o n x = n
 let_moves phases p now had sched w c _ (pays_cost k cost q e h) o n x = n
@@ -138,14 +141,18 @@ module _ (g : Hosted) where
   abbrev IsTurned : CoreMove → (ℕ → Phase) → CoreTurn → Type 0
   IsTurned m phases t = TurnNeeds g.rule g.order g.passes g.setup g.own g.runs g.scripts g.policy g.keep g.are_runs m phases t
 
-  hold_turn : (now : ℕ) (m : CoreMove) (w : Work) (c : CoreState) (n : Counts) → IsTurned m (phase_in w) (core_turn g.rule g.setup now m w c n) → HoldMove (phase_in w) m → needs_in (phase_in (core_turn g.rule g.setup now m w c n).work) (core_turn g.rule g.setup now m w c n).core.mark (core_turn g.rule g.setup now m w c n).core.mode ≡ not (frees (core_turn g.rule g.setup now m w c n).core)
+  hold_turn : (now : ℕ) (m : CoreMove) (w : Work) (c : CoreState) (n : Counts) → IsTurned m (phase_in w) (core_turn g.rule g.setup now m w c n) →
+      HoldMove (phase_in w) m → needs_in (phase_in (core_turn g.rule g.setup now m w c n).work) (core_turn g.rule g.setup now m w c n).core.mark
+      (core_turn g.rule g.setup now m w c n).core.mode ≡ not (frees (core_turn g.rule g.setup now m w c n).core)
   hold_turn now (Passes c') w c n t h = h
   hold_turn now (Issues k i) w c n t h =
       let u : CoreTurn = core_turn g.rule g.setup now (Issues k i) w c n in
       subst (λ m. needs_in (phase_in u.work) u.core.mark m ≡ not (frees_in m u.core.mark)) (sym (t.issued k i refl).0)
       (issue_frees (phase_in w k) (phase_in u.work k) u.core.mark (t.issued k i refl).1 h)
 
-  let_turn : (now : ℕ) (m : CoreMove) (w : Work) (c : CoreState) (n : Counts) → IsTurned m (phase_in w) (core_turn g.rule g.setup now m w c n) → LetMove (phase_in w) m → needs_in (phase_in (core_turn g.rule g.setup now m w c n).work) (core_turn g.rule g.setup now m w c n).core.mark (core_turn g.rule g.setup now m w c n).core.mode ≡ false
+  let_turn : (now : ℕ) (m : CoreMove) (w : Work) (c : CoreState) (n : Counts) → IsTurned m (phase_in w) (core_turn g.rule g.setup now m w c n) →
+      LetMove (phase_in w) m → needs_in (phase_in (core_turn g.rule g.setup now m w c n).work) (core_turn g.rule g.setup now m w c n).core.mark
+      (core_turn g.rule g.setup now m w c n).core.mode ≡ false
   let_turn now (Passes c') w c n t h = h
   let_turn now (Issues k i) w c n t h =
       let u : CoreTurn = core_turn g.rule g.setup now (Issues k i) w c n in
@@ -174,14 +181,18 @@ module _ (g : Hosted) where
       cond_both (is_some s.trapped) s (next_cycle s) (StillHolds holds) (λ _. h) (λ _. settle_still holds s.core.mode (with_now s (s.now + 1)) refl h)
 
   -- a core that has the token or gets it
-  pub held_still : (a : Arrivals) (b : Turned) (m : CoreMove) (s : MachineState) → IsTurned m (phase_in s.work) (turn_with g.rule g.setup b m s) → MoveCase g.setup s.now b.turn.core s.sched (with_memory b.memory s.work) s.core m → ((k : ℕ) → phase_in s.work k ≡ Execution → s.core.mode ≡ Running k) → (core_needs s ≡ true) ⊎ (asks s ≡ true) → StillHolds true (ticked (joined a b (turn_with g.rule g.setup b m s) s))
+  pub held_still : (a : Arrivals) (b : Turned) (m : CoreMove) (s : MachineState) → IsTurned m (phase_in s.work) (turn_with g.rule g.setup b m s) →
+      MoveCase g.setup s.now b.turn.core s.sched (with_memory b.memory s.work) s.core m →
+      ((k : ℕ) → phase_in s.work k ≡ Execution → s.core.mode ≡ Running k) → (core_needs s ≡ true) ⊎ (asks s ≡ true) →
+      StillHolds true (ticked (joined a b (turn_with g.rule g.setup b m s) s))
   held_still a b m s t x runs h =
       ticked_still true (joined a b (turn_with g.rule g.setup b m s) s)
       (hold_turn s.now m (with_memory b.memory s.work) s.core (with_clash b.turn.clash s.log.counts) t
       (hold_moves (phase_in s.work) g.setup s.now b.turn.core s.sched (with_memory b.memory s.work) s.core m x runs h))
 
   -- a core that neither has it nor gets it
-  pub let_still : (a : Arrivals) (b : Turned) (m : CoreMove) (s : MachineState) → IsTurned m (phase_in s.work) (turn_with g.rule g.setup b m s) → LetMove (phase_in s.work) m → StillHolds false (ticked (joined a b (turn_with g.rule g.setup b m s) s))
+  pub let_still : (a : Arrivals) (b : Turned) (m : CoreMove) (s : MachineState) → IsTurned m (phase_in s.work) (turn_with g.rule g.setup b m s) →
+      LetMove (phase_in s.work) m → StillHolds false (ticked (joined a b (turn_with g.rule g.setup b m s) s))
   let_still a b m s t x =
       ticked_still false (joined a b (turn_with g.rule g.setup b m s) s)
       (let_turn s.now m (with_memory b.memory s.work) s.core (with_clash b.turn.clash s.log.counts) t x)

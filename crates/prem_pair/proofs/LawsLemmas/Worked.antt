@@ -14,7 +14,8 @@ use Rattle.prem_pair.proofs.LawsLemmas.Finishing.{pairs_finish, pairs_finish_by_
 -- both have finished by cycle 1950
 two_finish : (n : ℕ) → 1950 ≤ n → both_finished (pair_run to_front to_front setup setup (bytes_in marked) (bytes_in marked) [] [] [] n) ≡ true
 two_finish n le =
-    pairs_finish to_front to_front lru lru one_pass one_pass setup setup (bytes_in marked) (bytes_in marked) [] [] [] (λ k. below 304) (λ k. below 304) (λ k. run) (λ k. run) (λ k. script_of (length dids)) (λ k. script_of (length dids)) n
+    pairs_finish to_front to_front lru lru one_pass one_pass setup setup (bytes_in marked) (bytes_in marked) [] [] [] (λ k. below 304)
+    (λ k. below 304) (λ k. run) (λ k. run) (λ k. script_of (length dids)) (λ k. script_of (length dids)) n
     lru_policy lru_policy worked_is worked_is refl worked_scripts worked_scripts (omega (arith, le))
 
 -- and by cycle 1590, parted into scopes
@@ -23,5 +24,6 @@ worked_totals = record { scopings = λ k. scoping_of strand; scoped = λ k lt. w
 
 two_finish_by_charges : (n : ℕ) → 1590 ≤ n → both_finished (pair_run to_front to_front setup setup (bytes_in marked) (bytes_in marked) [] [] [] n) ≡ true
 two_finish_by_charges n le =
-    pairs_finish_by_totals to_front to_front lru lru one_pass one_pass setup setup (bytes_in marked) (bytes_in marked) [] [] [] (λ k. below 304) (λ k. below 304) (λ k. run) (λ k. run) (λ k. script) (λ k. script) n
+    pairs_finish_by_totals to_front to_front lru lru one_pass one_pass setup setup (bytes_in marked) (bytes_in marked) [] [] [] (λ k. below 304)
+    (λ k. below 304) (λ k. run) (λ k. run) (λ k. script) (λ k. script) n
     lru_policy lru_policy worked_is worked_is refl worked_scripts worked_scripts worked_totals worked_totals (omega (arith, le))

@@ -39,7 +39,8 @@ PairRoomIsFoundInOrder =
 -- ---- a state
 
 -- each core is as it is good where it is the only one; the devices are those of core 0
-pub record PairGood (rule other : ReplacementRule) (p q : Setup) (content behind : List ℕ) (inputs others : List (List ℕ)) (requests : List Request) (promises promises' : ℕ → Promise) (n : ℕ) : Type 0 where
+pub record PairGood (rule other : ReplacementRule) (p q : Setup) (content behind : List ℕ) (inputs others : List (List ℕ)) (requests : List Request)
+    (promises promises' : ℕ → Promise) (n : ℕ) : Type 0 where
   pub first :
       GoodState p promises (λ m. (pair_run rule other p q content behind inputs others requests m).first.work)
       (pair_queued rule other p q requests n (pair_start p q inputs others (memory_of p content) (memory_of q behind))) (pair_run rule other p q content behind inputs others requests n).first
@@ -85,7 +86,9 @@ total_of p total = sum_below (length p.tasks) total
 -- where the tasks of both cores have scripts, each state is good
 abbrev pub PairsAreGood : Type 0
 PairsAreGood =
-    (rule other : ReplacementRule) (order order' : OrderRule) (passes passes' : ℕ → ℕ) (p q : Setup) (content behind : List ℕ) (inputs others : List (List ℕ)) (requests : List Request) (own own' : ℕ → ℕ → Bool) (runs runs' : ℕ → TaskRun) (scripts scripts' : ℕ → Script) (promises promises' : ℕ → Promise) (n : ℕ) →
+    (rule other : ReplacementRule) (order order' : OrderRule) (passes passes' : ℕ → ℕ) (p q : Setup) (content behind : List ℕ)
+    (inputs others : List (List ℕ)) (requests : List Request) (own own' : ℕ → ℕ → Bool) (runs runs' : ℕ → TaskRun) (scripts scripts' : ℕ → Script)
+    (promises promises' : ℕ → Promise) (n : ℕ) →
     IsPolicy rule order passes → IsPolicy other order' passes' → IsRun p content requests → IsRun q behind [] → q.devices ≡ [] →
     AreScripts p passes content inputs own runs scripts → AreScripts q passes' behind others own' runs' scripts' → AreKept p own runs scripts promises → AreKept q own' runs' scripts' promises' →
     PairGood rule other p q content behind inputs others requests promises promises' n
@@ -93,7 +96,8 @@ PairsAreGood =
 -- and from the limit on it has finished
 abbrev pub PairsFinish : Type 0
 PairsFinish =
-    (rule other : ReplacementRule) (order order' : OrderRule) (passes passes' : ℕ → ℕ) (p q : Setup) (content behind : List ℕ) (inputs others : List (List ℕ)) (requests : List Request) (own own' : ℕ → ℕ → Bool) (runs runs' : ℕ → TaskRun) (scripts scripts' : ℕ → Script) (n : ℕ) →
+    (rule other : ReplacementRule) (order order' : OrderRule) (passes passes' : ℕ → ℕ) (p q : Setup) (content behind : List ℕ)
+    (inputs others : List (List ℕ)) (requests : List Request) (own own' : ℕ → ℕ → Bool) (runs runs' : ℕ → TaskRun) (scripts scripts' : ℕ → Script) (n : ℕ) →
     IsPolicy rule order passes → IsPolicy other order' passes' → IsRun p content requests → IsRun q behind [] → q.devices ≡ [] →
     AreScripts p passes content inputs own runs scripts → AreScripts q passes' behind others own' runs' scripts' →
     pair_limit p q (due_of p scripts) (due_of q scripts') requests ≤ n →
@@ -102,7 +106,8 @@ PairsFinish =
 -- and so from the limit of what the tasks of both are charged on, where their instructions are parted into scopes
 abbrev pub PairsFinishByTotals : Type 0
 PairsFinishByTotals =
-    (rule other : ReplacementRule) (order order' : OrderRule) (passes passes' : ℕ → ℕ) (p q : Setup) (content behind : List ℕ) (inputs others : List (List ℕ)) (requests : List Request) (own own' : ℕ → ℕ → Bool) (runs runs' : ℕ → TaskRun) (scripts scripts' : ℕ → Script) (n : ℕ) →
+    (rule other : ReplacementRule) (order order' : OrderRule) (passes passes' : ℕ → ℕ) (p q : Setup) (content behind : List ℕ)
+    (inputs others : List (List ℕ)) (requests : List Request) (own own' : ℕ → ℕ → Bool) (runs runs' : ℕ → TaskRun) (scripts scripts' : ℕ → Script) (n : ℕ) →
     IsPolicy rule order passes → IsPolicy other order' passes' → IsRun p content requests → IsRun q behind [] → q.devices ≡ [] →
     AreScripts p passes content inputs own runs scripts → AreScripts q passes' behind others own' runs' scripts' → (t : HasTotals p runs scripts) → (t' : HasTotals q runs' scripts') →
     pair_limit p q (total_of p t.total) (total_of q t'.total) requests ≤ n →

@@ -51,7 +51,8 @@ code_long places at (either test taken other rest) =
     let a = code_long places (at + 8) taken in
     let b = code_long places (other_at at taken other) other in
     let c = code_long places (either_end at taken other) rest in
-    let l = four_long (code_of places (at + 8) taken) (skip_code (skip_words other) (skip_at at taken) (either_end at taken other)) (code_of places (other_at at taken other) other) (code_of places (either_end at taken other) rest) in
+    let l = four_long (code_of places (at + 8) taken) (skip_code (skip_words other) (skip_at at taken) (either_end at taken other))
+    (code_of places (other_at at taken other) other) (code_of places (either_end at taken other) rest) in
     omega (arith, s, a, b, c, l)
 code_long places at (repeat turns head test body rest) =
     let a = code_long places at head in
@@ -118,7 +119,8 @@ deepest_whole depth h (SetElement at global ty index value rest) = deepest_whole
 deepest_whole depth h (Output at value rest) = deepest_whole depth h rest
 deepest_whole depth h (Input at number rest) = deepest_whole depth h rest
 deepest_whole depth h (If at condition taken other rest) =
-    max_whole (max (deepest depth taken) (deepest depth other)) (deepest depth rest) (max_whole (deepest depth taken) (deepest depth other) (deepest_whole depth h taken) (deepest_whole depth h other)) (deepest_whole depth h rest)
+    max_whole (max (deepest depth taken) (deepest depth other)) (deepest depth rest)
+    (max_whole (deepest depth taken) (deepest depth other) (deepest_whole depth h taken) (deepest_whole depth h other)) (deepest_whole depth h rest)
 deepest_whole depth h (For at number low closed high step turns body rest) = max_whole (deepest depth body) (deepest depth rest) (deepest_whole depth h body) (deepest_whole depth h rest)
 deepest_whole depth h (While at turns condition body rest) = max_whole (deepest depth body) (deepest depth rest) (deepest_whole depth h body) (deepest_whole depth h rest)
 deepest_whole depth h (Call at target callee arguments rest) = max_whole (depth callee) (deepest depth rest) (h callee) (deepest_whole depth h rest)
@@ -130,7 +132,8 @@ there_whole depth h (Some f) = sum_whole (frame_of f) (deepest depth f.body) (fr
 below_whole : (routines : List Routine) (n f : ℕ) → Whole (depth_below routines n f)
 below_whole routines zero f = refl
 below_whole routines (suc n) f =
-    if_whole (f == n) (depth_if_there (depth_below routines n) (slice_get routines n)) (depth_below routines n f) (there_whole (depth_below routines n) (below_whole routines n) (slice_get routines n)) (below_whole routines n f)
+    if_whole (f == n) (depth_if_there (depth_below routines n) (slice_get routines n)) (depth_below routines n f)
+    (there_whole (depth_below routines n) (below_whole routines n) (slice_get routines n)) (below_whole routines n f)
 
 marked_whole : (depth : ℕ → ℕ) → ((n : ℕ) → Whole (depth n)) → (n : ℕ) (fs : List Routine) → Whole (deepest_marked depth n fs)
 marked_whole depth h n [] = refl

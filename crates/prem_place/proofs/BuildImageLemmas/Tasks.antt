@@ -58,7 +58,8 @@ one_ends end t name n ps x s h =
     let w = h.within in
     omega (arith, long, s, e, w)
 
-blocks_end : (end : ℕ) (t : TaskPlaces) (n : ℕ) (names : List Text) (pss : List Pieces) (xs : List PartSize) → HasSizes pss xs → Stand end (place_at t) n xs → AllByRecursion (Ends end) (blocks_from t n names pss)
+blocks_end : (end : ℕ) (t : TaskPlaces) (n : ℕ) (names : List Text) (pss : List Pieces) (xs : List PartSize) → HasSizes pss xs →
+    Stand end (place_at t) n xs → AllByRecursion (Ends end) (blocks_from t n names pss)
 blocks_end end t n [] pss xs s h = tt
 blocks_end end t n (name ∷ names) [] xs s h = tt
 blocks_end end t n (name ∷ names) (ps ∷ pss) [] s h = absurd s
@@ -84,7 +85,8 @@ globals_end end t task n (g ∷ gs) h =
 sixteens : (a b c : ℕ) → a ≡ b + c → b % 16 ≡ 0 → c % 16 ≡ 0 → a % 16 ≡ 0
 sixteens a b c e x y = omega (arith, e, x, y)
 
-task_laid : (p : Plant) (task end : ℕ) (c : Coded) (places : List Extent) → HasCode c → Stand end (place_at (task_places c.program places)) 0 (task_parts (stub_passes p) task (map size_of c.code) c.program) →
+task_laid : (p : Plant) (task end : ℕ) (c : Coded) (places : List Extent) → HasCode c →
+    Stand end (place_at (task_places c.program places)) 0 (task_parts (stub_passes p) task (map size_of c.code) c.program) →
     IsLaid end (placed_at p c (task_places c.program places))
 task_laid p task end c places long h =
     let at = task_places c.program places in
@@ -108,7 +110,8 @@ task_laid p task end c places long h =
     let zs : 1 + length cs ≡ 1 + at.functions = omega (arith, lc) in
     let zg : 1 + length cs + length ss ≡ 1 + at.functions + length at.marked + 0 = omega (arith, lc, ls, lm) in
     let zk : 1 + length cs + length ss + length gs ≡ 1 + at.functions + length at.marked + length at.elements = omega (arith, lc, ls, lm, lg, le) in
-    let top : IsAt end (part task Stack (stack_size c.program) 16) (f (1 + at.functions + length at.marked + length at.elements)) = subst (λ k. IsAt end (part task Stack (stack_size c.program) 16) (f k)) zk h4.0 in
+    let top : IsAt end (part task Stack (stack_size c.program) 16) (f (1 + at.functions + length at.marked + length at.elements)) =
+    subst (λ k. IsAt end (part task Stack (stack_size c.program) 16) (f k)) zk h4.0 in
     let start_ends = first.ends in
     let start_within = first.within in
     record {
@@ -122,7 +125,8 @@ task_laid p task end c places long h =
             (blocks_from at 1 (map (λ (r : Routine). r.text.name) c.program.routines) c.code)
             (blocks_from at (1 + at.functions) (map (λ (plan : Plan). name_at c.program.routines plan.function) (plans_of c.program)) (map (stub_of (stub_passes p) p.line at) (plans_of c.program)))
             (blocks_end end at 1 (map (λ (r : Routine). r.text.name) c.program.routines) c.code cs (code_sized task 0 c.code) hc)
-            (blocks_end end at (1 + at.functions) (map (λ (plan : Plan). name_at c.program.routines plan.function) (plans_of c.program)) (map (stub_of (stub_passes p) p.line at) (plans_of c.program)) ss
+            (blocks_end end at (1 + at.functions) (map (λ (plan : Plan). name_at c.program.routines plan.function) (plans_of c.program))
+            (map (stub_of (stub_passes p) p.line at) (plans_of c.program)) ss
             (stubs_sized (stub_passes p) p.line task at (plans_of c.program)) (subst (λ k. Stand end f k ss) zs hs)),
       );
       globals = globals_end end at task 0 c.program.globals (subst (λ k. Stand end f k gs) zg hg);
@@ -130,7 +134,8 @@ task_laid p task end c places long h =
 
 -- ---- all tasks
 
-pub all_laid : (p : Plant) (memory end n first : ℕ) (whole : List Extent) (cs : List Coded) → AllByRecursion HasCode cs → Stand memory (place_in whole) first (parts_from (stub_passes p) n (map sized_of cs)) →
+pub all_laid : (p : Plant) (memory end n first : ℕ) (whole : List Extent) (cs : List Coded) → AllByRecursion HasCode cs →
+    Stand memory (place_in whole) first (parts_from (stub_passes p) n (map sized_of cs)) →
     ((i : ℕ) → i < first + part_total cs → (place_in whole i).1 ≤ end) → AllByRecursion (IsLaid end) (placed_from p (drop first whole) cs)
 all_laid p memory end n first whole [] code h within = tt
 all_laid p memory end n first whole (c ∷ cs) code h within =

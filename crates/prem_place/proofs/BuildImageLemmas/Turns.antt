@@ -15,7 +15,8 @@ use Rattle.prem_place.specs.declared.placed.PlacedTask.{PlacedTask}
 use Rattle.prem_place.specs.BuildImage.Built.{count_of, total_of}
 use Rattle.prem_place.proofs.BuildImageLemmas.Ground.{greatest_more}
 
-pub greatest_turn : (n greatest new : ℕ) (places : List Extent) (found : Option Extent) (q : Extent) → greatest ≡ greatest_end (take n places) → found ≡ slice_get places n → q ≡ unwrap_or found (0, 0) → new ≡ max greatest q.1 →
+pub greatest_turn : (n greatest new : ℕ) (places : List Extent) (found : Option Extent) (q : Extent) → greatest ≡ greatest_end (take n places) →
+    found ≡ slice_get places n → q ≡ unwrap_or found (0, 0) → new ≡ max greatest q.1 →
     new ≡ greatest_end (take (n + 1) places)
 greatest_turn n greatest new places found q e f here en =
     let same : q ≡ place_in places n = here ∙ ap (λ o. unwrap_or o no_place) f ∙ unwrap_or-slice_get places n no_place in
@@ -26,17 +27,20 @@ greatest_turn n greatest new places found q e f here en =
 rest_is : (tasks : List PlacedTask) (n : ℕ) (t : PlacedTask) → n < length tasks → t ≡ get_or tasks n t → total_of (drop n tasks) ≡ count_of t + total_of (drop (n + 1) tasks)
 rest_is tasks n t lt is = at_drop_more total_of tasks n t lt ∙ ap (λ (q : PlacedTask). count_of q + total_of (drop (n + 1) tasks)) (sym is)
 
-count_within : (tasks : List PlacedTask) (n total most : ℕ) (t : PlacedTask) → n < length tasks → t ≡ get_or tasks n t → total + total_of (drop n tasks) ≡ total_of tasks → total_of tasks ≤ most → total + count_of t ≤ most
+count_within : (tasks : List PlacedTask) (n total most : ℕ) (t : PlacedTask) → n < length tasks → t ≡ get_or tasks n t →
+    total + total_of (drop n tasks) ≡ total_of tasks → total_of tasks ≤ most → total + count_of t ≤ most
 count_within tasks n total most t lt is e le = let r = rest_is tasks n t lt is in omega (arith, r, e, le)
 
-count_turn : (tasks : List PlacedTask) (n total : ℕ) (t : PlacedTask) → n < length tasks → t ≡ get_or tasks n t → total + total_of (drop n tasks) ≡ total_of tasks → total + count_of t + total_of (drop (n + 1) tasks) ≡ total_of tasks
+count_turn : (tasks : List PlacedTask) (n total : ℕ) (t : PlacedTask) → n < length tasks → t ≡ get_or tasks n t →
+    total + total_of (drop n tasks) ≡ total_of tasks → total + count_of t + total_of (drop (n + 1) tasks) ≡ total_of tasks
 count_turn tasks n total t lt is e = let r = rest_is tasks n t lt is in omega (arith, r, e)
 
 push_rest : {A : Type 0} (xs : List A) (r : A) (rest : List A) → (xs ++ r ∷ []) ++ rest ≡ xs ++ (r ∷ rest)
 push_rest [] r rest = refl
 push_rest (x ∷ xs) r rest = ap (λ l. x ∷ l) (push_rest xs r rest)
 
-record_turn : (tasks : List PlacedTask) (n : ℕ) (t : PlacedTask) (old new whole : List TaskRecord) (r : TaskRecord) → n < length tasks → t ≡ get_or tasks n t → r ≡ task_record (placed_of t) → new ≡ old ++ r ∷ [] →
+record_turn : (tasks : List PlacedTask) (n : ℕ) (t : PlacedTask) (old new whole : List TaskRecord) (r : TaskRecord) → n < length tasks →
+    t ≡ get_or tasks n t → r ≡ task_record (placed_of t) → new ≡ old ++ r ∷ [] →
     old ++ map task_record (map placed_of (drop n tasks)) ≡ whole → new ++ map task_record (map placed_of (drop (n + 1) tasks)) ≡ whole
 record_turn tasks n t old new whole r lt is er en e =
     let rest = map task_record (map placed_of (drop (n + 1) tasks)) in
@@ -48,7 +52,8 @@ record_turn tasks n t old new whole r lt is er en e =
 abbrev area_record : Device → Extent → DeviceRecord
 area_record d q = record { device = d; area = q.0 }
 
-pub area_turn : (devices : List Device) (places : List Extent) (first n : ℕ) (d : Device) (found : Option Extent) (at : Extent) (old new whole : List DeviceRecord) (r : DeviceRecord) → length places ≡ first + length devices → n < length devices → d ≡ get_or devices n d →
+pub area_turn : (devices : List Device) (places : List Extent) (first n : ℕ) (d : Device) (found : Option Extent) (at : Extent)
+    (old new whole : List DeviceRecord) (r : DeviceRecord) → length places ≡ first + length devices → n < length devices → d ≡ get_or devices n d →
     found ≡ slice_get places (first + n) → at ≡ unwrap_or found (0, 0) → r ≡ record { device = d; area = at.0 } → new ≡ old ++ r ∷ [] →
     old ++ device_records (drop n devices) (drop (first + n) places) ≡ whole → new ++ device_records (drop (n + 1) devices) (drop (first + (n + 1)) places) ≡ whole
 area_turn devices places first n d found at old new whole r long lt is ef ea er en e =
@@ -58,7 +63,8 @@ area_turn devices places first n d found at old new whole r long lt is ef ea er 
     let z : first + n + 1 ≡ first + (n + 1) = omega arith in
     let behind : drop (first + n) places ≡ q ∷ drop (first + (n + 1)) places = drop_more places (first + n) no_place (omega (arith, long, lt)) ∙ ap (λ k. q ∷ drop k places) z in
     let devices_here : drop n devices ≡ d ∷ drop (n + 1) devices = drop_more devices n d lt ∙ ap (λ k. k ∷ drop (n + 1) devices) (sym is) in
-    let both : device_records (drop n devices) (drop (first + n) places) ≡ area_record d q ∷ rest = ap (λ ds. device_records ds (drop (first + n) places)) devices_here ∙ ap (λ ps. device_records (d ∷ drop (n + 1) devices) ps) behind in
+    let both : device_records (drop n devices) (drop (first + n) places) ≡ area_record d q ∷ rest =
+    ap (λ ds. device_records ds (drop (first + n) places)) devices_here ∙ ap (λ ps. device_records (d ∷ drop (n + 1) devices) ps) behind in
     ap (λ l. l ++ rest) en ∙ push_rest old r rest
     ∙ ap (λ k. old ++ (k ∷ rest)) (er ∙ ap (area_record d) here)
     ∙ ap (λ l. old ++ l) (sym both) ∙ e

@@ -75,7 +75,8 @@ blocks_by end (b ∷ bs) (g ∷ gs) e h =
     let ends = h.0 in
     (omega (arith, at, long, same, ends), blocks_by end bs gs tail h.1)
 
-pub all_fit : (end : ℕ) (tasks : List PlacedTask) (bss : List (List BlockFound)) → AllByRecursion HasRanges tasks → HaveBlocks tasks bss → AllByRecursion (IsLaid end) (map placed_of tasks) → AllFit end tasks bss
+pub all_fit : (end : ℕ) (tasks : List PlacedTask) (bss : List (List BlockFound)) → AllByRecursion HasRanges tasks → HaveBlocks tasks bss →
+    AllByRecursion (IsLaid end) (map placed_of tasks) → AllFit end tasks bss
 all_fit end [] bss r b h = tt
 all_fit end (t ∷ ts) [] r b h = b
 all_fit end (t ∷ ts) (bs ∷ bss) r b h =
@@ -83,7 +84,8 @@ all_fit end (t ∷ ts) (bs ∷ bss) r b h =
 
 -- ---- records of tasks
 
-each_task : (end memory : ℕ) (tasks : List PlacedTask) → end ≤ memory → AllByRecursion HasRanges tasks → AllByRecursion (IsLaid end) (map placed_of tasks) → AllByRecursion (IsTask memory) (map task_record (map placed_of tasks))
+each_task : (end memory : ℕ) (tasks : List PlacedTask) → end ≤ memory → AllByRecursion HasRanges tasks →
+    AllByRecursion (IsLaid end) (map placed_of tasks) → AllByRecursion (IsTask memory) (map task_record (map placed_of tasks))
 each_task end memory [] le r h = tt
 each_task end memory (t ∷ ts) le r h =
     let entry = h.0.entry_within in
@@ -119,23 +121,29 @@ counted : (p : Plant) (tasks : List PlacedTask) (bss : List (List BlockFound)) (
     length (parts_from (stub_passes p) 0 (map sized_of (map coded_of tasks))) ≡ part_total (map coded_of tasks)
 counted p tasks bss devices whole b = tasks_counted (stub_passes p) 0 (map coded_of tasks) (coded_all tasks b.each_task)
 
-pub ends_at : (p : Plant) (tasks : List PlacedTask) (bss : List (List BlockFound)) (devices : List Device) (whole : List Extent) → IsBuilt p tasks bss devices whole → EndsAt p tasks (greatest_end (take (part_total (map coded_of tasks)) whole))
+pub ends_at : (p : Plant) (tasks : List PlacedTask) (bss : List (List BlockFound)) (devices : List Device) (whole : List Extent) →
+    IsBuilt p tasks bss devices whole → EndsAt p tasks (greatest_end (take (part_total (map coded_of tasks)) whole))
 ends_at p tasks bss devices whole b =
     let cs = map coded_of tasks in
     let total = part_total cs in
     let end = greatest_end (take total whole) in
     let parts = parts_from (stub_passes p) 0 (map sized_of cs) in
     let long : length parts ≡ total = counted p tasks bss devices whole b in
-    let here : Stand p.memory (place_in whole) 0 parts = stand_left p.memory (place_in whole) 0 parts (area_parts p.line 0 devices) (all_stand p.memory (parts ++ area_parts p.line 0 devices) whole b.placed) in
+    let here : Stand p.memory (place_in whole) 0 parts =
+    stand_left p.memory (place_in whole) 0 parts (area_parts p.line 0 devices) (all_stand p.memory (parts ++ area_parts p.line 0 devices) whole b.placed) in
     record {
       laid = subst (AllByRecursion (IsLaid end)) (sym b.same) (all_laid p p.memory end 0 0 whole cs (coded_all tasks b.each_task) here (λ i lt. below_greatest total i whole (omega (arith, lt))));
-      within = greatest_within p.memory total whole (λ i lt. let z : 0 + i ≡ i = omega arith in subst (λ k. (place_in whole k).1 ≤ p.memory) z (stand_within p.memory (place_in whole) 0 parts here i (omega (arith, lt, long))));
+      within = greatest_within p.memory total whole
+          (λ i lt. let z : 0 + i ≡ i = omega arith in
+          subst (λ k. (place_in whole k).1 ≤ p.memory) z (stand_within p.memory (place_in whole) 0 parts here i (omega (arith, lt, long))));
     }
 
-pub first_is : (p : Plant) (tasks : List PlacedTask) (bss : List (List BlockFound)) (devices : List Device) (whole : List Extent) → IsBuilt p tasks bss devices whole → total_of tasks ≡ part_total (map coded_of tasks)
+pub first_is : (p : Plant) (tasks : List PlacedTask) (bss : List (List BlockFound)) (devices : List Device) (whole : List Extent) →
+    IsBuilt p tasks bss devices whole → total_of tasks ≡ part_total (map coded_of tasks)
 first_is p tasks bss devices whole b = total_is p whole tasks b.same
 
-pub places_long : (p : Plant) (tasks : List PlacedTask) (bss : List (List BlockFound)) (devices : List Device) (whole : List Extent) → IsBuilt p tasks bss devices whole → length whole ≡ total_of tasks + length devices
+pub places_long : (p : Plant) (tasks : List PlacedTask) (bss : List (List BlockFound)) (devices : List Device) (whole : List Extent) →
+    IsBuilt p tasks bss devices whole → length whole ≡ total_of tasks + length devices
 places_long p tasks bss devices whole b =
     let parts = parts_from (stub_passes p) 0 (map sized_of (map coded_of tasks)) in
     let a = first_is p tasks bss devices whole b in
@@ -148,16 +156,20 @@ total_few p tasks bss devices whole b =
     let few = b.few in
     omega (arith, long, few)
 
-end_is : (whole : List Extent) (tasks : List PlacedTask) (first end : ℕ) → total_of tasks ≡ part_total (map coded_of tasks) → first ≡ total_of tasks → end ≡ greatest_end (take first whole) → end ≡ greatest_end (take (part_total (map coded_of tasks)) whole)
+end_is : (whole : List Extent) (tasks : List PlacedTask) (first end : ℕ) → total_of tasks ≡ part_total (map coded_of tasks) → first ≡ total_of tasks →
+    end ≡ greatest_end (take first whole) → end ≡ greatest_end (take (part_total (map coded_of tasks)) whole)
 end_is whole tasks first end t ef ee = ee ∙ ap (λ n. greatest_end (take n whole)) (ef ∙ t)
 
-pub set_fits : (p : Plant) (tasks : List PlacedTask) (bss : List (List BlockFound)) (devices : List Device) (whole : List Extent) (first end : ℕ) → IsBuilt p tasks bss devices whole → first ≡ total_of tasks → end ≡ greatest_end (take first whole) →
+pub set_fits : (p : Plant) (tasks : List PlacedTask) (bss : List (List BlockFound)) (devices : List Device) (whole : List Extent) (first end : ℕ) →
+    IsBuilt p tasks bss devices whole → first ≡ total_of tasks → end ≡ greatest_end (take first whole) →
     AllFit end tasks bss
 set_fits p tasks bss devices whole first end b ef ee =
-    subst (λ e. AllFit e tasks bss) (sym (end_is whole tasks first end (first_is p tasks bss devices whole b) ef ee)) (all_fit _ tasks bss b.each_task b.coded (ends_at p tasks bss devices whole b).laid)
+    subst (λ e. AllFit e tasks bss) (sym (end_is whole tasks first end (first_is p tasks bss devices whole b) ef ee))
+    (all_fit _ tasks bss b.each_task b.coded (ends_at p tasks bss devices whole b).laid)
 
 records_lawful : (p : Plant) (tasks : List PlacedTask) (bss : List (List BlockFound)) (devices : List Device) (whole : List Extent) (content : List ℕ) → IsBuilt p tasks bss devices whole →
-    length content ≡ greatest_end (take (part_total (map coded_of tasks)) whole) → IsImage p (map task_record (map placed_of tasks)) (device_records devices (drop (part_total (map coded_of tasks)) whole)) content
+    length content ≡ greatest_end (take (part_total (map coded_of tasks)) whole) →
+    IsImage p (map task_record (map placed_of tasks)) (device_records devices (drop (part_total (map coded_of tasks)) whole)) content
 records_lawful p tasks bss devices whole content b long =
     let total = part_total (map coded_of tasks) in
     let parts = parts_from (stub_passes p) 0 (map sized_of (map coded_of tasks)) in
@@ -170,18 +182,22 @@ records_lawful p tasks bss devices whole content b long =
       device_count = subst (λ n. n ≤ 8) (sym (records_long p.memory p.line 0 devices (drop total whole) stand)) b.device_count;
       each_task = All-from_recursion (IsTask p.memory) (map task_record (map placed_of tasks)) (each_task _ p.memory tasks within b.each_task e.laid);
       task_names = subst AreDistinct (sym (names_same tasks)) b.named;
-      each_device = All-from_recursion (IsPlaced p.line p.memory) (device_records devices (drop total whole)) (each_placed p.memory p.line 0 devices (drop total whole) (recursion_from_All IsDevice devices b.each_device) stand);
+      each_device = All-from_recursion (IsPlaced p.line p.memory) (device_records devices (drop total whole))
+          (each_placed p.memory p.line 0 devices (drop total whole) (recursion_from_All IsDevice devices b.each_device) stand);
       device_names = subst AreDistinct (sym (areas_named p.memory p.line 0 devices (drop total whole) stand)) b.devices_named;
       apart = subst AreApart (sym (areas_same p.memory p.line 0 devices (drop total whole) stand)) (rest_apart p.memory total (parts ++ area_parts p.line 0 devices) whole b.placed);
       within = omega (arith, within, long);
     }
 
-areas_are : (devices : List Device) (whole : List Extent) (tasks : List PlacedTask) (first : ℕ) (areas : List DeviceRecord) → total_of tasks ≡ part_total (map coded_of tasks) → first ≡ total_of tasks → areas ≡ device_records devices (drop first whole) →
+areas_are : (devices : List Device) (whole : List Extent) (tasks : List PlacedTask) (first : ℕ) (areas : List DeviceRecord) →
+    total_of tasks ≡ part_total (map coded_of tasks) → first ≡ total_of tasks → areas ≡ device_records devices (drop first whole) →
     areas ≡ device_records devices (drop (part_total (map coded_of tasks)) whole)
 areas_are devices whole tasks first areas t ef ea = ea ∙ ap (λ n. device_records devices (drop n whole)) (ef ∙ t)
 
-pub is_lawful : (p : Plant) (tasks : List PlacedTask) (bss : List (List BlockFound)) (devices : List Device) (whole : List Extent) (first end : ℕ) (records : List TaskRecord) (areas : List DeviceRecord) (content : List ℕ) → IsBuilt p tasks bss devices whole →
-    first ≡ total_of tasks → end ≡ greatest_end (take first whole) → records ≡ map task_record (map placed_of tasks) → areas ≡ device_records devices (drop first whole) → length content ≡ end → IsImage p records areas content
+pub is_lawful : (p : Plant) (tasks : List PlacedTask) (bss : List (List BlockFound)) (devices : List Device) (whole : List Extent) (first end : ℕ)
+    (records : List TaskRecord) (areas : List DeviceRecord) (content : List ℕ) → IsBuilt p tasks bss devices whole →
+    first ≡ total_of tasks → end ≡ greatest_end (take first whole) → records ≡ map task_record (map placed_of tasks) →
+    areas ≡ device_records devices (drop first whole) → length content ≡ end → IsImage p records areas content
 is_lawful p tasks bss devices whole first end records areas content b ef ee er ea ec =
     let t = first_is p tasks bss devices whole b in
     subst (λ r. IsImage p r areas content) (sym er)
@@ -191,8 +207,10 @@ is_lawful p tasks bss devices whole first end records areas content b ef ee er e
 abbrev image_with : Plant → List TaskRecord → List DeviceRecord → List ℕ → ImageText
 image_with p records areas content = record { plant = p; tasks = records; devices = areas; content = content }
 
-pub image_is : (p : Plant) (tasks : List PlacedTask) (bss : List (List BlockFound)) (devices : List Device) (whole : List Extent) (first end : ℕ) (records : List TaskRecord) (areas : List DeviceRecord) (content : List ℕ) → IsBuilt p tasks bss devices whole →
-    first ≡ total_of tasks → end ≡ greatest_end (take first whole) → records ≡ map task_record (map placed_of tasks) → areas ≡ device_records devices (drop first whole) → content ≡ with_tasks (map placed_of tasks) (replicate end 0) →
+pub image_is : (p : Plant) (tasks : List PlacedTask) (bss : List (List BlockFound)) (devices : List Device) (whole : List Extent) (first end : ℕ)
+    (records : List TaskRecord) (areas : List DeviceRecord) (content : List ℕ) → IsBuilt p tasks bss devices whole →
+    first ≡ total_of tasks → end ≡ greatest_end (take first whole) → records ≡ map task_record (map placed_of tasks) →
+    areas ≡ device_records devices (drop first whole) → content ≡ with_tasks (map placed_of tasks) (replicate end 0) →
     record { plant = p; tasks = records; devices = areas; content = content } ≡ image_of p devices whole (map coded_of tasks)
 image_is p tasks bss devices whole first end records areas content b ef ee er ea ec =
     let t = first_is p tasks bss devices whole b in

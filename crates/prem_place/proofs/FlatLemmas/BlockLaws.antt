@@ -1,7 +1,8 @@
 -- The blocks of a task as its parts in their order, and the lowest jump out of reach by parts.
 use Rattle.std.specs.Prelude.{⊤, slice_index_or}
 use Rattle.std.specs.Option.{option_map}
-use Rattle.std.proofs.Common.{◌≡◌, ℕ, suc, ◌+◌, ◌*◌, ◌<◌, ◌≤◌, refl, ap, sym, ◌∙◌, subst, arith, cond, ltb, true, false, Bool, List, [], ◌∷◌, ◌++◌, length, map, Option, None, Some, ◌⊎◌, inl, inr, ⊎_elim}
+use Rattle.std.proofs.Common.{◌≡◌, ℕ, suc, ◌+◌, ◌*◌, ◌<◌, ◌≤◌, refl, ap, sym, ◌∙◌, subst, arith, cond, ltb, true, false, Bool, List, [], ◌∷◌, ◌++◌, length, map, Option, None, Some}
+use Rattle.std.proofs.Common.{◌⊎◌, inl, inr, ⊎_elim}
 use Rattle.std.proofs.lemmas.Bool.{lt-ltb, le-ltb}
 use Rattle.std.proofs.lemmas.List.{length-map, length-append, append_assoc}
 use Rattle.prem_isa.specs.declared.instr.Instr.{Instr}
@@ -101,11 +102,19 @@ module _ (places : ℕ → ℕ) (name : ℕ → Text) where
   rest_same part ps pss (Some j) (Some n) h = (h.0, (h.1.0, λ at end some apart. h.1.1 at end some apart.1))
 
   mine : (part : ℕ) (ps : Pieces) (pss : List Pieces) (a : ℕ) (n : Text) → name part ≡ n → places part ≤ a → a < places part + size_of ps → IsSame part (ps ∷ pss) (Some (a, n)) (Some part)
-  mine part ps pss a n named low high =
-      (sym named, (low, λ at end some apart. ⊎_elim (λ (behind : end ≤ places part). inl behind) (λ (before : places part + size_of ps ≤ at). inr (omega (arith, high, before))) (apart.0 some (omega (arith, low, high)))))
+  mine part ps pss a n named low high = (
+    sym named,
+    (
+      low,
+      λ at end some apart. ⊎_elim (λ (behind : end ≤ places part). inl behind)
+          (λ (before : places part + size_of ps ≤ at). inr (omega (arith, high, before))) (apart.0 some (omega (arith, low, high))),
+    ),
+  )
 
-  joined : (part : ℕ) (ps : Pieces) (pss : List Pieces) (o : Option ℕ) (n : Text) (jump : Option Jump) (far : Option ℕ) → name part ≡ n → ((a : ℕ) → o ≡ Some a → (places part ≤ a) × (a < places part + size_of ps)) →
-      LieApart places (places part) (places part + size_of ps) (part + 1) pss → IsSame (part + 1) pss jump far → IsSame part (ps ∷ pss) (lower_jump (jump_in n o) jump) (lower_part places (part_if part o None) far)
+  joined : (part : ℕ) (ps : Pieces) (pss : List Pieces) (o : Option ℕ) (n : Text) (jump : Option Jump) (far : Option ℕ) → name part ≡ n →
+      ((a : ℕ) → o ≡ Some a → (places part ≤ a) × (a < places part + size_of ps)) →
+      LieApart places (places part) (places part + size_of ps) (part + 1) pss → IsSame (part + 1) pss jump far →
+      IsSame part (ps ∷ pss) (lower_jump (jump_in n o) jump) (lower_part places (part_if part o None) far)
   joined part ps pss None n jump far named within apart rest = rest_same part ps pss jump far rest
   joined part ps pss (Some a) n None None named within apart rest = let w = within a refl in mine part ps pss a n named w.0 w.1
   joined part ps pss (Some a) n None (Some m) named within apart rest = absurd rest

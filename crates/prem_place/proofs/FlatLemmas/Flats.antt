@@ -57,15 +57,19 @@ module _ (places : ℕ → ℕ) (xs ys zs : List Pieces) (one : length xs ≡ 1)
   Joined = far_part places 0 (xs ++ (ys ++ zs))
 
   pub first_blamed : (e : FlatFail) → Blames (far_part places 0 xs) e → Blames Joined e
-  first_blamed e h = subst (λ (o : Option ℕ). Blames o e) (sym (far_joins places xs ys zs one)) (blamed_or (far_part places 0 xs) (or_part (far_part places 1 ys) (far_part places (1 + length ys) zs)) e h)
+  first_blamed e h = subst (λ (o : Option ℕ). Blames o e) (sym (far_joins places xs ys zs one))
+      (blamed_or (far_part places 0 xs) (or_part (far_part places 1 ys) (far_part places (1 + length ys) zs)) e h)
 
   pub second_blamed : (e : FlatFail) → far_part places 0 xs ≡ None → Blames (far_part places 1 ys) e → Blames Joined e
   second_blamed e none h =
-      let same : Joined ≡ or_part (far_part places 1 ys) (far_part places (1 + length ys) zs) = far_joins places xs ys zs one ∙ ap (λ (o : Option ℕ). or_part o (or_part (far_part places 1 ys) (far_part places (1 + length ys) zs))) none in
+      let same : Joined ≡ or_part (far_part places 1 ys) (far_part places (1 + length ys) zs) = far_joins places xs ys zs one
+      ∙ ap (λ (o : Option ℕ). or_part o (or_part (far_part places 1 ys) (far_part places (1 + length ys) zs))) none in
       subst (λ (o : Option ℕ). Blames o e) (sym same) (blamed_or (far_part places 1 ys) (far_part places (1 + length ys) zs) e h)
 
   rest_only : far_part places 0 xs ≡ None → far_part places 1 ys ≡ None → Joined ≡ far_part places (1 + length ys) zs
-  rest_only none none2 = far_joins places xs ys zs one ∙ ap (λ (o : Option ℕ). or_part o (or_part (far_part places 1 ys) (far_part places (1 + length ys) zs))) none ∙ ap (λ (o : Option ℕ). or_part o (far_part places (1 + length ys) zs)) none2
+  rest_only none none2 = far_joins places xs ys zs one
+      ∙ ap (λ (o : Option ℕ). or_part o (or_part (far_part places 1 ys) (far_part places (1 + length ys) zs))) none
+      ∙ ap (λ (o : Option ℕ). or_part o (far_part places (1 + length ys) zs)) none2
 
   pub third_blamed : (e : FlatFail) → far_part places 0 xs ≡ None → far_part places 1 ys ≡ None → Blames (far_part places (1 + length ys) zs) e → Blames Joined e
   third_blamed e none none2 h = subst (λ (o : Option ℕ). Blames o e) (sym (rest_only none none2)) h

@@ -22,7 +22,8 @@ pub record Begins (p : Plant) (l : List Extent) (tasks xs : List CodedTask) (all
   pub lies : TasksLie p (map coded_in xs) l
   pub count : 0 + 1024 * length xs ≤ 16384
 
-pub begins : (p : Plant) (l : List Extent) (tasks xs : List CodedTask) (all : List PlacedTask) → IsPlant p → AllByRecursion IsCodedTask tasks → length tasks ≤ 16 → AreAtPlaces p (map coded_in tasks) l → xs ≡ tasks → all ≡ [] → Begins p l tasks xs all
+pub begins : (p : Plant) (l : List Extent) (tasks xs : List CodedTask) (all : List PlacedTask) → IsPlant p → AllByRecursion IsCodedTask tasks →
+    length tasks ≤ 16 → AreAtPlaces p (map coded_in tasks) l → xs ≡ tasks → all ≡ [] → Begins p l tasks xs all
 begins p l tasks xs all plant coded few default e none =
     let long = ap length e in
     record {

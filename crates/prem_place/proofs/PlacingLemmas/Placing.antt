@@ -129,7 +129,8 @@ module _ (p : Plant) (task : CodedTask) (places : List Extent) (plant : IsPlant 
         }
 
 -- how many parts it has
-pub parts_counted : (t : PlacedTask) (functions plans globals : ℕ) → stands_in t → functions ≡ length (routines_of t) → plans ≡ length (items_of t.plans) → globals ≡ length t.program.now.globals.items →
+pub parts_counted : (t : PlacedTask) (functions plans globals : ℕ) → stands_in t → functions ≡ length (routines_of t) →
+    plans ≡ length (items_of t.plans) → globals ≡ length t.program.now.globals.items →
     2 + functions + plans + globals ≡ part_count (placed_of t).task.program
 parts_counted t functions plans globals s ef ep eg =
     let a = routines_long (slice_index t.turns.now) 0 (routines_of t) in

@@ -85,7 +85,8 @@ pub record Stood (p : Plant) (c : Coded) (places : List Extent) : Type 0 where
 abbrev made : Text → ℕ → ℕ → Resolved → List Pieces → Coded
 made name period jobs program code = record { name = name; period = period; jobs = jobs; program = program; code = code }
 
-made_stands : (target : Target) (p : Plant) (name : Text) (period jobs : ℕ) (text : ProgramText) (bounds : ℕ → ℕ) (places : List Extent) → IsPlant p → IsWellFormed text → excess (resolve bounds text) ≡ None →
+made_stands : (target : Target) (p : Plant) (name : Text) (period jobs : ℕ) (text : ProgramText) (bounds : ℕ → ℕ) (places : List Extent) → IsPlant p →
+    IsWellFormed text → excess (resolve bounds text) ≡ None →
     TaskLies p (made name period jobs (resolve bounds text) (codes_of (parts_of target (resolve bounds text).routines) (resolve bounds text).routines)) places →
     Stood p (made name period jobs (resolve bounds text) (codes_of (parts_of target (resolve bounds text).routines) (resolve bounds text).routines)) places
 made_stands target p name period jobs text bounds places plant formed none lies =
@@ -134,12 +135,14 @@ made_stands target p name period jobs text bounds places plant formed none lies 
       };
     }
 
-pub stood : (target : Target) (p : Plant) (c : Coded) (text : ProgramText) (bounds : ℕ → ℕ) (places : List Extent) → IsPlant p → c.program ≡ resolve bounds text → IsWellFormed text → excess c.program ≡ None →
+pub stood : (target : Target) (p : Plant) (c : Coded) (text : ProgramText) (bounds : ℕ → ℕ) (places : List Extent) → IsPlant p →
+    c.program ≡ resolve bounds text → IsWellFormed text → excess c.program ≡ None →
     c.code ≡ codes_of (parts_of target c.program.routines) c.program.routines → TaskLies p c places → Stood p c places
 stood target p c text bounds places plant same formed none code lies =
     let q : Resolved = resolve bounds text in
     let code' : c.code ≡ codes_of (parts_of target q.routines) q.routines = code ∙ ap (λ (r : Resolved). codes_of (parts_of target r.routines) r.routines) same in
-    let is : c ≡ made c.name c.period c.jobs q (codes_of (parts_of target q.routines) q.routines) = ap (λ (r : Resolved). made c.name c.period c.jobs r c.code) same ∙ ap (made c.name c.period c.jobs q) code' in
+    let is : c ≡ made c.name c.period c.jobs q (codes_of (parts_of target q.routines) q.routines) =
+    ap (λ (r : Resolved). made c.name c.period c.jobs r c.code) same ∙ ap (made c.name c.period c.jobs q) code' in
     let none' : excess q ≡ None = ap excess (sym same) ∙ none in
     subst (λ (d : Coded). Stood p d places) (sym is)
     (made_stands target p c.name c.period c.jobs text bounds places plant formed none' (subst (λ (d : Coded). TaskLies p d places) is lies))
@@ -159,7 +162,8 @@ first_lies p c cs places h =
       lie = subst (λ (xs : List PartSize). Lie p.memory xs places) (append_assoc mine more h.others) h.lie;
     }
 
-pub rest_lie : (p : Plant) (c : Coded) (cs : List Coded) (places : List Extent) → length c.code ≡ length c.program.routines → TasksLie p (c ∷ cs) places → TasksLie p cs (drop (part_count c.program) places)
+pub rest_lie : (p : Plant) (c : Coded) (cs : List Coded) (places : List Extent) → length c.code ≡ length c.program.routines →
+    TasksLie p (c ∷ cs) places → TasksLie p cs (drop (part_count c.program) places)
 unfolding first_lies
 rest_lie p c cs places long h =
     let t = first_lies p c cs places h in

@@ -117,11 +117,14 @@ there_at (q ∷ qs) (suc i) lt = there_at qs i (omega arith)
 -- two places that share no byte lie beside each other
 beside : (q r : Extent) → ((a : ℕ) → Holds q a → Holds r a → ⊥) → LieBeside q.0 q.1 r.0 r.1
 beside q r none some more =
-    ⊎_elim (λ (lt : r.0 < q.1). ⊎_elim (λ (low : q.0 < r.1). absurd (none (max q.0 r.0) (omega arith, omega (arith, some, lt)) (omega arith, omega (arith, low, more)))) (λ (ge : r.1 ≤ q.0). inr ge) (cases_lt q.0 r.1))
+    ⊎_elim (λ (lt : r.0 < q.1). ⊎_elim
+    (λ (low : q.0 < r.1). absurd (none (max q.0 r.0) (omega arith, omega (arith, some, lt)) (omega arith, omega (arith, low, more))))
+    (λ (ge : r.1 ≤ q.0). inr ge) (cases_lt q.0 r.1))
     (λ (ge : q.1 ≤ r.0). inl ge) (cases_lt r.0 q.1)
 
 -- the code of parts lies beside bytes with which their places share none
-code_beside : (f : ℕ → ℕ) (memory part : ℕ) (q : Extent) (pss : List Pieces) (xs : List PartSize) (places : List Extent) → HasSizes pss xs → EachLies memory xs places → Agrees f part (length pss) places →
+code_beside : (f : ℕ → ℕ) (memory part : ℕ) (q : Extent) (pss : List Pieces) (xs : List PartSize) (places : List Extent) → HasSizes pss xs →
+    EachLies memory xs places → Agrees f part (length pss) places →
     ((i a : ℕ) (r : Extent) → slice_get places i ≡ Some r → Holds q a → Holds r a → ⊥) → LieApart f q.0 q.1 part pss
 code_beside f memory part q [] xs places s h a none = tt
 code_beside f memory part q (ps ∷ pss) [] places s h a none = absurd s
@@ -147,7 +150,9 @@ code_apart f memory part (ps ∷ pss) (x ∷ xs) (q ∷ qs) s h d a =
     let ends : q.1 ≡ q.0 + x.size = h.0.ends in
     let end : f part + size_of ps ≡ q.1 = omega (arith, here, size, ends) in
     let next = agrees_next f part (length pss) q qs a in
-    let rest : LieApart f q.0 q.1 (part + 1) pss = code_beside f memory (part + 1) q pss xs qs s.1 h.1 next (λ i b r hr in_q in_r. let e : 0 ≡ suc i = d 0 (suc i) b q r refl hr in_q in_r in omega (arith, e)) in (
+    let rest : LieApart f q.0 q.1 (part + 1) pss =
+    code_beside f memory (part + 1) q pss xs qs s.1 h.1 next
+    (λ i b r hr in_q in_r. let e : 0 ≡ suc i = d 0 (suc i) b q r refl hr in_q in_r in omega (arith, e)) in (
       subst (λ high. LieApart f (f part) high (part + 1) pss) (sym end) (subst (λ low. LieApart f low q.1 (part + 1) pss) (sym here) rest),
       code_apart f memory (part + 1) pss xs qs s.1 h.1 (tail_disjoint q qs d) next,
     )

@@ -24,7 +24,9 @@ first_stands passes line memory task p code rest places long small lie =
     let there : length parts ≤ length places = lie_long memory parts places here in
     let taken : length t.places ≡ min (part_count p) (length places) = length-take (part_count p) places in
     let starts : length (starts_of t) ≡ length t.places = length-map t.places first_byte in
-    let address : (n : ℕ) → IsAddress memory (slice_index (starts_of t) n) = λ n. subst (λ k. IsAddress memory (slice_index (map first_byte (take k places)) n)) count (addresses memory parts places (parts_fours passes task sizes p) here n) in
+    let address : (n : ℕ) → IsAddress memory (slice_index (starts_of t) n) = λ n. subst
+    (λ k. IsAddress memory (slice_index (map first_byte (take k places)) n)) count
+    (addresses memory parts places (parts_fours passes task sizes p) here n) in
     let code_count : length (code_in p.job code stubs) ≤ part_count p =
     (let a : length (code ++ stubs) ≡ length code + length stubs = length-append code stubs in
     let b : length stubs ≡ length (plans_of p) = length-map (plans_of p) (stub_of passes line t) in

@@ -30,7 +30,8 @@ jobs_more tasks bounds n t b lt lb it ib =
     ∙ ap (λ (q : PlacedTask). job q (get_or bounds n b) ∷ jobs_with (drop (n + 1) tasks) (drop (n + 1) bounds)) (sym it)
     ∙ ap (λ c. job t c ∷ jobs_with (drop (n + 1) tasks) (drop (n + 1) bounds)) (sym ib)
 
-last_turn : (tasks : List PlacedTask) (bounds : List ℕ) (n : ℕ) (t : PlacedTask) (b last one new whole : ℕ) → n < length tasks → n < length bounds → t ≡ get_or tasks n t → b ≡ get_or bounds n b → one ≡ (t.jobs - 1) * t.period → new ≡ max last one →
+last_turn : (tasks : List PlacedTask) (bounds : List ℕ) (n : ℕ) (t : PlacedTask) (b last one new whole : ℕ) → n < length tasks → n < length bounds →
+    t ≡ get_or tasks n t → b ≡ get_or bounds n b → one ≡ (t.jobs - 1) * t.period → new ≡ max last one →
     max last (last_release (jobs_with (drop n tasks) (drop n bounds))) ≡ whole → max new (last_release (jobs_with (drop (n + 1) tasks) (drop (n + 1) bounds))) ≡ whole
 last_turn tasks bounds n t b last one new whole lt lb it ib eo en e =
     let split = ap last_release (jobs_more tasks bounds n t b lt lb it ib) in
@@ -39,7 +40,8 @@ last_turn tasks bounds n t b last one new whole lt lb it ib eo en e =
     by : (all rest product : ℕ) → all ≡ max product rest → one ≡ product → max last all ≡ whole → max new rest ≡ whole
     by all rest product s o e = omega (arith, s, o, e, en)
 
-work_turn : (tasks : List PlacedTask) (bounds : List ℕ) (n : ℕ) (t : PlacedTask) (b work one new whole : ℕ) → n < length tasks → n < length bounds → t ≡ get_or tasks n t → b ≡ get_or bounds n b → one ≡ t.jobs * b → new ≡ work + one →
+work_turn : (tasks : List PlacedTask) (bounds : List ℕ) (n : ℕ) (t : PlacedTask) (b work one new whole : ℕ) → n < length tasks → n < length bounds →
+    t ≡ get_or tasks n t → b ≡ get_or bounds n b → one ≡ t.jobs * b → new ≡ work + one →
     work + work_of (jobs_with (drop n tasks) (drop n bounds)) ≡ whole → new + work_of (jobs_with (drop (n + 1) tasks) (drop (n + 1) bounds)) ≡ whole
 work_turn tasks bounds n t b work one new whole lt lb it ib eo en e =
     let split = ap work_of (jobs_more tasks bounds n t b lt lb it ib) in
@@ -48,7 +50,8 @@ work_turn tasks bounds n t b work one new whole lt lb it ib eo en e =
     by : (all rest product : ℕ) → all ≡ product + rest → one ≡ product → work + all ≡ whole → new + rest ≡ whole
     by all rest product s o e = omega (arith, s, o, e, en)
 
-limit_end : (tasks : List PlacedTask) (bounds : List ℕ) (n last work : ℕ) → length tasks ≤ n → max last (last_release (jobs_with (drop n tasks) (drop n bounds))) ≡ last_release (jobs_with tasks bounds) →
+limit_end : (tasks : List PlacedTask) (bounds : List ℕ) (n last work : ℕ) → length tasks ≤ n →
+    max last (last_release (jobs_with (drop n tasks) (drop n bounds))) ≡ last_release (jobs_with tasks bounds) →
     work + work_of (jobs_with (drop n tasks) (drop n bounds)) ≡ work_of (jobs_with tasks bounds) → last + work ≡ limit_of (jobs_with tasks bounds)
 limit_end tasks bounds n last work le el ew =
     let l : last_release (jobs_with (drop n tasks) (drop n bounds)) ≡ 0 = at_drop_all (λ (ts : List PlacedTask). last_release (jobs_with ts (drop n bounds))) tasks n le in

@@ -15,8 +15,10 @@ sum_of : (sum one whole rest left : ℕ) → sum ≡ clipped (whole + one) → o
 sum_of sum one whole rest left e f = omega (arith, e, f)
 
 -- one more task
-pub total_turn : (count : Resolved → ℕ) (tasks : List PlacedTask) (i : ℕ) (t : PlacedTask) (sum new found product : ℕ) (whole : ℕ) → i < length tasks → t ≡ get_or tasks i t → found ≡ clipped (count (coded_of t).program) →
-    product ≡ clipped (t.jobs * found) → new ≡ clipped (sum + product) → clipped (sum + total_of count (map coded_of (drop i tasks))) ≡ whole → clipped (new + total_of count (map coded_of (drop (i + 1) tasks))) ≡ whole
+pub total_turn : (count : Resolved → ℕ) (tasks : List PlacedTask) (i : ℕ) (t : PlacedTask) (sum new found product : ℕ) (whole : ℕ) →
+    i < length tasks → t ≡ get_or tasks i t → found ≡ clipped (count (coded_of t).program) →
+    product ≡ clipped (t.jobs * found) → new ≡ clipped (sum + product) → clipped (sum + total_of count (map coded_of (drop i tasks))) ≡ whole →
+    clipped (new + total_of count (map coded_of (drop (i + 1) tasks))) ≡ whole
 total_turn count tasks i t sum new found product whole lt is ef ep en e =
     let left : ℕ = total_of count (map coded_of (drop (i + 1) tasks)) in
     let split : total_of count (map coded_of (drop i tasks)) ≡ t.jobs * count (coded_of t).program + left =
@@ -38,7 +40,8 @@ same_test found total e = ⊎_elim
     (λ (le : total ≤ 262143). le-ltb 262143 found (omega (arith, e, le)) ∙ sym (le-ltb 262143 total le))
     (cases_lt 262143 total)
 
-pub total_end : (count : Resolved → ℕ) (tasks : List PlacedTask) (i sum whole : ℕ) → length tasks ≤ i → sum ≤ 2 ^ 32 → clipped (sum + total_of count (map coded_of (drop i tasks))) ≡ clipped whole → sum ≡ clipped whole
+pub total_end : (count : Resolved → ℕ) (tasks : List PlacedTask) (i sum whole : ℕ) → length tasks ≤ i → sum ≤ 2 ^ 32 →
+    clipped (sum + total_of count (map coded_of (drop i tasks))) ≡ clipped whole → sum ≡ clipped whole
 total_end count tasks i sum whole le small e =
     let none : total_of count (map coded_of (drop i tasks)) ≡ 0 = at_drop_all (λ (ts : List PlacedTask). total_of count (map coded_of ts)) tasks i le in
     omega (arith, none, small, e)

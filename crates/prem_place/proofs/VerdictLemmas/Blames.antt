@@ -18,7 +18,8 @@ has_function tasks n f t lt is inside = record { task = omega (arith, lt, tasks_
 
 -- the first task that breaks a rule, with the name of its function
 pub blame_is : (check : Placed → Option LateRule) (tasks : List PlacedTask) (n : ℕ) (t : PlacedTask) (v : Verdict) (whole : Option (Refusal LateRule)) → n < length tasks → t ≡ get_or tasks n t →
-    check (placed_of t) ≡ Some (rule_of (name_at (coded_of t).program.routines (function_in v)) v) → first_among check n (map placed_of (drop n tasks)) ≡ whole → Some (refusal_of (map placed_of tasks) (record { task = n; verdict = v })) ≡ whole
+    check (placed_of t) ≡ Some (rule_of (name_at (coded_of t).program.routines (function_in v)) v) →
+    first_among check n (map placed_of (drop n tasks)) ≡ whole → Some (refusal_of (map placed_of tasks) (record { task = n; verdict = v })) ≡ whole
 blame_is check tasks n t v whole lt is broken e =
     ap (λ rs. Some (blamed n (name_at rs (function_in v)) v)) (routines_at tasks n t lt is)
     ∙ stops_at check tasks n t (rule_of (name_at (coded_of t).program.routines (function_in v)) v) whole lt is broken e

@@ -1,7 +1,8 @@
 -- The rules on bounds and lengths at one task.
 use Rattle.std.specs.Prelude.{◌==◌, ◌&&◌, nat_lt, is_err, OnOk, OnErr, IfOk, MatchResult}
 use Rattle.std.specs.List.{AllByRecursion}
-use Rattle.std.proofs.Common.{◌≡◌, ℕ, zero, suc, ◌+◌, ◌<◌, ◌≤◌, ◌^◌, Bool, true, false, cond, List, [], ◌∷◌, ◌++◌, Option, None, Some, Result, Ok, Err, refl, ap, sym, ◌∙◌, subst, arith, length, map, drop, get_or, option_map, filter, slice_index}
+use Rattle.std.proofs.Common.{◌≡◌, ℕ, zero, suc, ◌+◌, ◌<◌, ◌≤◌, ◌^◌, Bool, true, false, cond, List, [], ◌∷◌, ◌++◌, Option, None, Some, Result, Ok, Err, refl, ap, sym, ◌∙◌, subst}
+use Rattle.std.proofs.Common.{arith, length, map, drop, get_or, option_map, filter, slice_index}
 use Rattle.std.proofs.lemmas.Bool.{lt-ltb, le-ltb}
 use Rattle.std.proofs.lemmas.List.{at_drop_more}
 use Rattle.prem_plant.specs.declared.plant.Plant.{Plant}
@@ -45,7 +46,8 @@ eight_breaks p t f e = eight_is p t ∙ ap (option_map (λ m. BoundTooLarge (nam
 pub eight_keeps : (p : Plant) (t : PlacedTask) → large_in p (placed_of t) ≡ None → bound_rules p (placed_of t) ≡ None
 eight_keeps p t e = eight_is p t ∙ ap (option_map (λ m. BoundTooLarge (name_at (coded_of t).program.routines m))) e
 
-pub large_found : (p : Plant) (t : PlacedTask) (job : ℕ) (jl : Bool) (flags : List Bool) → job ≡ t.table.job → flags ≡ map is_large (interval_facts p (placed_of t)) → jl ≡ nat_lt greatest_bound (job_bound_of p (plans_of t) (table_of t.table)) →
+pub large_found : (p : Plant) (t : PlacedTask) (job : ℕ) (jl : Bool) (flags : List Bool) → job ≡ t.table.job →
+    flags ≡ map is_large (interval_facts p (placed_of t)) → jl ≡ nat_lt greatest_bound (job_bound_of p (plans_of t) (table_of t.table)) →
     first_large job jl 0 flags (map is_marked_tree (routines_of t)) ≡ large_in p (placed_of t)
 large_found p t job jl flags ej ef el =
     let large : Bool = nat_lt greatest_bound (job_bound_of p (plans_of t) (table_of t.table)) in
@@ -82,7 +84,8 @@ facts_long p t k (plan ∷ plans) = ap suc (facts_long p t (k + 1) plans)
 
 flags_long : (p : Plant) (t : PlacedTask) → IsPlacedTask p t → length (map is_large (interval_facts p (placed_of t))) ≡ mark_count (map is_marked (coded_of t).program.routines)
 flags_long p t h =
-    mapped_long is_large (interval_facts p (placed_of t)) ∙ facts_long p (placed_of t) 0 (plans_of t) ∙ ap length (plans_same p t h) ∙ plans_counted (coded_of t).program 0 (coded_of t).program.routines
+    mapped_long is_large (interval_facts p (placed_of t)) ∙ facts_long p (placed_of t) 0 (plans_of t) ∙ ap length (plans_same p t h)
+    ∙ plans_counted (coded_of t).program 0 (coded_of t).program.routines
 
 pub told_is : (p : Plant) (t : PlacedTask) (n : ℕ) (facts : List FactFound) (job : ℕ) → IsPlacedTask p t → map numbered facts ≡ map (with_task n) (filter is_small (interval_facts p (placed_of t))) →
     job ≡ job_bound_of p (plans_of t) (table_of t.table) → large_in p (placed_of t) ≡ None → map numbered facts ≡ map (with_task n) (interval_facts p (placed_of t))
@@ -109,7 +112,8 @@ facts_plain n (f ∷ fs) (g ∷ gs) e =
     let same : fact_of f ≡ g = ap (λ (x : ℕ × IntervalFact). x.1) first in
     ap (λ y. y ∷ map fact_of fs) same ∙ ap (λ l. g ∷ l) (facts_plain n fs gs more)
 
-pub told_at : (p : Plant) (tasks : List PlacedTask) (bounds : List TaskBounds) (m i : ℕ) (t : PlacedTask) (b : TaskBounds) → map bounds_of bounds ≡ told_from p m (map placed_of tasks) → i < length tasks → i < length bounds → t ≡ get_or tasks i t → b ≡ get_or bounds i b →
+pub told_at : (p : Plant) (tasks : List PlacedTask) (bounds : List TaskBounds) (m i : ℕ) (t : PlacedTask) (b : TaskBounds) →
+    map bounds_of bounds ≡ told_from p m (map placed_of tasks) → i < length tasks → i < length bounds → t ≡ get_or tasks i t → b ≡ get_or bounds i b →
     bounds_of b ≡ told_of p (m + i) (placed_of t)
 told_at p [] bounds m i t b e lt lb it ib = absurd (omega arith)
 told_at p (x ∷ xs) [] m i t b e lt lb it ib = absurd (omega arith)
@@ -134,7 +138,9 @@ facts_at p t n b e = facts_plain n b.facts.items (interval_facts p (placed_of t)
 nine_is : (p : Plant) (t : PlacedTask) (n : ℕ) (b : TaskBounds) (found : Option IntervalFact) → bounds_of b ≡ told_of p n (placed_of t) → found ≡ first_short (map fact_of b.facts.items) →
     length_rules p (placed_of t) ≡ option_map (λ (f : IntervalFact). Length (name_at (coded_of t).program.routines f.function) f.bound f.stated) found
 nine_is p t n b found e is =
-    short_is_first p (placed_of t) ∙ ap (λ o. option_map (λ (f : IntervalFact). Length (name_at (coded_of t).program.routines f.function) f.bound f.stated) o) (sym (is ∙ ap first_short (facts_at p t n b e)))
+    short_is_first p (placed_of t)
+    ∙ ap (λ o. option_map (λ (f : IntervalFact). Length (name_at (coded_of t).program.routines f.function) f.bound f.stated) o)
+    (sym (is ∙ ap first_short (facts_at p t n b e)))
 
 nine_breaks : (p : Plant) (t : PlacedTask) (n : ℕ) (b : TaskBounds) (f : FactFound) → bounds_of b ≡ told_of p n (placed_of t) → Some (fact_of f) ≡ first_short (map fact_of b.facts.items) →
     length_rules p (placed_of t) ≡ Some (Length (name_at (coded_of t).program.routines f.function) f.bound f.stated)
@@ -147,13 +153,15 @@ short_case : (b : Bool) (g f : IntervalFact) (rest : Option IntervalFact) (n : �
 short_case true g f rest n lt more e = let same : g ≡ f = cc in subst (λ (x : IntervalFact). x.function < n) same lt
 short_case false g f rest n lt more e = more e
 
-short_below : (p : Plant) (t : Placed) (n k : ℕ) (plans : List layout.Plan) (f : IntervalFact) → AllByRecursion (Below n) plans → first_short (interval_facts_from p t k plans) ≡ Some f → f.function < n
+short_below : (p : Plant) (t : Placed) (n k : ℕ) (plans : List layout.Plan) (f : IntervalFact) → AllByRecursion (Below n) plans →
+    first_short (interval_facts_from p t k plans) ≡ Some f → f.function < n
 short_below p t n k [] f h e = absurd cc
 short_below p t n k (plan ∷ plans) f h e =
     let g : IntervalFact = interval_fact p t k plan (footprint_of p.line t.at plan) in
     short_case (nat_lt g.stated g.bound) g f (first_short (interval_facts_from p t (k + 1) plans)) n h.0 (λ more. short_below p t n (k + 1) plans f h.1 more) e
 
-short_within : (p : Plant) (t : PlacedTask) (n : ℕ) (b : TaskBounds) (f : FactFound) → IsPlacedTask p t → bounds_of b ≡ told_of p n (placed_of t) → Some (fact_of f) ≡ first_short (map fact_of b.facts.items) → f.function < length (routines_of t)
+short_within : (p : Plant) (t : PlacedTask) (n : ℕ) (b : TaskBounds) (f : FactFound) → IsPlacedTask p t → bounds_of b ≡ told_of p n (placed_of t) →
+    Some (fact_of f) ≡ first_short (map fact_of b.facts.items) → f.function < length (routines_of t)
 short_within p t n b f h e is =
     short_below p (placed_of t) (length (routines_of t)) 0 (plans_of t) (fact_of f) (plans_within p t h) (sym (is ∙ ap first_short (facts_at p t n b e)))
 
@@ -162,7 +170,8 @@ short_within p t n b f h e is =
 abbrev made : List (ℕ × IntervalFact) → ℕ → BoundsTold
 made facts job = record { facts = facts; job = job }
 
-pub bounds_are : (p : Plant) (t : PlacedTask) (n : ℕ) (facts : List FactFound) (job : ℕ) → IsPlacedTask p t → map numbered facts ≡ map (with_task n) (filter is_small (interval_facts p (placed_of t))) →
+pub bounds_are : (p : Plant) (t : PlacedTask) (n : ℕ) (facts : List FactFound) (job : ℕ) → IsPlacedTask p t →
+    map numbered facts ≡ map (with_task n) (filter is_small (interval_facts p (placed_of t))) →
     job ≡ job_bound_of p (plans_of t) (table_of t.table) → large_in p (placed_of t) ≡ None → made (map numbered facts) job ≡ told_of p n (placed_of t)
 bounds_are p t n facts job h e ej none = ap (λ fs. made fs job) (told_is p t n facts job h e ej none) ∙ ap (made (map (with_task n) (interval_facts p (placed_of t)))) ej
 
@@ -194,7 +203,8 @@ push_bounds : (all : List TaskBounds) (b : TaskBounds) (more : List BoundsTold) 
 push_bounds [] b more = refl
 push_bounds (x ∷ xs) b more = ap (λ l. bounds_of x ∷ l) (push_bounds xs b more)
 
-pub told_turn : (p : Plant) (tasks : List PlacedTask) (n : ℕ) (t : PlacedTask) (all new : List TaskBounds) (b : TaskBounds) (whole : List BoundsTold) → n < length tasks → t ≡ get_or tasks n t → bounds_of b ≡ told_of p n (placed_of t) → new ≡ all ++ b ∷ [] →
+pub told_turn : (p : Plant) (tasks : List PlacedTask) (n : ℕ) (t : PlacedTask) (all new : List TaskBounds) (b : TaskBounds)
+    (whole : List BoundsTold) → n < length tasks → t ≡ get_or tasks n t → bounds_of b ≡ told_of p n (placed_of t) → new ≡ all ++ b ∷ [] →
     map bounds_of all ++ told_from p n (map placed_of (drop n tasks)) ≡ whole → map bounds_of new ++ told_from p (n + 1) (map placed_of (drop (n + 1) tasks)) ≡ whole
 told_turn p tasks n t all new b whole lt is eb en e =
     let more : List BoundsTold = told_from p (n + 1) (map placed_of (drop (n + 1) tasks)) in
@@ -209,12 +219,15 @@ item_there (x ∷ xs) (suc n) lt = item_there xs n (omega arith)
 
 -- ---- lengths at a task
 
-told_first : (p : Plant) (tasks : List PlacedTask) (bounds : List TaskBounds) (n : ℕ) (t : PlacedTask) (b : TaskBounds) → map bounds_of bounds ≡ told_from p 0 (map placed_of tasks) → n < length tasks → t ≡ get_or tasks n t → b ≡ get_or bounds n b → bounds_of b ≡ told_of p n (placed_of t)
+told_first : (p : Plant) (tasks : List PlacedTask) (bounds : List TaskBounds) (n : ℕ) (t : PlacedTask) (b : TaskBounds) →
+    map bounds_of bounds ≡ told_from p 0 (map placed_of tasks) → n < length tasks → t ≡ get_or tasks n t → b ≡ get_or bounds n b →
+    bounds_of b ≡ told_of p n (placed_of t)
 told_first p tasks bounds n t b e lt it ib =
     let z : 0 + n ≡ n = omega arith in
     told_at p tasks bounds 0 n t b e lt (omega (arith, lt, told_long p tasks bounds 0 e)) it ib ∙ ap (λ k. told_of p k (placed_of t)) z
 
-pub short_first : (p : Plant) (tasks : List PlacedTask) (bounds : List TaskBounds) (n : ℕ) (b : TaskBounds) (facts : List FactFound) (f : FactFound) (whole : Option (Refusal LateRule)) → n < length tasks → map bounds_of bounds ≡ told_from p 0 (map placed_of tasks) →
+pub short_first : (p : Plant) (tasks : List PlacedTask) (bounds : List TaskBounds) (n : ℕ) (b : TaskBounds) (facts : List FactFound) (f : FactFound)
+    (whole : Option (Refusal LateRule)) → n < length tasks → map bounds_of bounds ≡ told_from p 0 (map placed_of tasks) →
     b ≡ get_or bounds n b → facts ≡ b.facts.items → Some (fact_of f) ≡ first_short (map fact_of facts) → first_among (length_rules p) n (map placed_of (drop n tasks)) ≡ whole →
     Some (refusal_of (map placed_of tasks) (record { task = n; verdict = LengthOf f.function f.bound f.stated })) ≡ whole
 short_first p tasks bounds n b facts f whole lt e ib ef is h =
@@ -223,7 +236,8 @@ short_first p tasks bounds n b facts f whole lt e ib ef is h =
     let told : bounds_of b ≡ told_of p n (placed_of t) = told_first p tasks bounds n t b e lt there.1 ib in
     blame_is (length_rules p) tasks n t (LengthOf f.function f.bound f.stated) whole lt there.1 (nine_breaks p t n b f told (is ∙ ap (λ fs. first_short (map fact_of fs)) ef)) h
 
-pub short_there : (p : Plant) (tasks : List PlacedTask) (bounds : List TaskBounds) (n : ℕ) (b : TaskBounds) (facts : List FactFound) (f : FactFound) → AllByRecursion (IsPlacedTask p) tasks → n < length tasks → map bounds_of bounds ≡ told_from p 0 (map placed_of tasks) →
+pub short_there : (p : Plant) (tasks : List PlacedTask) (bounds : List TaskBounds) (n : ℕ) (b : TaskBounds) (facts : List FactFound) (f : FactFound) →
+    AllByRecursion (IsPlacedTask p) tasks → n < length tasks → map bounds_of bounds ≡ told_from p 0 (map placed_of tasks) →
     b ≡ get_or bounds n b → facts ≡ b.facts.items → Some (fact_of f) ≡ first_short (map fact_of facts) → HasFunction (map placed_of tasks) n f.function
 short_there p tasks bounds n b facts f all lt e ib ef is =
     let there = item_there tasks n lt in
@@ -231,8 +245,11 @@ short_there p tasks bounds n b facts f all lt e ib ef is =
     let told : bounds_of b ≡ told_of p n (placed_of t) = told_first p tasks bounds n t b e lt there.1 ib in
     has_function tasks n f.function t lt there.1 (short_within p t n b f (all_at (IsPlacedTask p) tasks n t all lt there.1) told (is ∙ ap (λ fs. first_short (map fact_of fs)) ef))
 
-pub short_passes : (p : Plant) (tasks : List PlacedTask) (bounds : List TaskBounds) (n : ℕ) (b : TaskBounds) (facts : List FactFound) (whole : Option (Refusal LateRule)) → n < length tasks → map bounds_of bounds ≡ told_from p 0 (map placed_of tasks) →
-    b ≡ get_or bounds n b → facts ≡ b.facts.items → None ≡ first_short (map fact_of facts) → first_among (length_rules p) n (map placed_of (drop n tasks)) ≡ whole → first_among (length_rules p) (n + 1) (map placed_of (drop (n + 1) tasks)) ≡ whole
+pub short_passes : (p : Plant) (tasks : List PlacedTask) (bounds : List TaskBounds) (n : ℕ) (b : TaskBounds) (facts : List FactFound)
+    (whole : Option (Refusal LateRule)) → n < length tasks → map bounds_of bounds ≡ told_from p 0 (map placed_of tasks) →
+    b ≡ get_or bounds n b → facts ≡ b.facts.items → None ≡ first_short (map fact_of facts) →
+    first_among (length_rules p) n (map placed_of (drop n tasks)) ≡ whole →
+    first_among (length_rules p) (n + 1) (map placed_of (drop (n + 1) tasks)) ≡ whole
 short_passes p tasks bounds n b facts whole lt e ib ef is h =
     let there = item_there tasks n lt in
     let t : PlacedTask = there.0 in

@@ -26,10 +26,12 @@ push_map : (facts : List FactFound) (f : FactFound) (more : List Told) → map n
 push_map [] f more = refl
 push_map (g ∷ gs) f more = ap (λ l. numbered g ∷ l) (push_map gs f more)
 
-kept : (n : ℕ) (x : IntervalFact) (rest more : List IntervalFact) → rest ≡ x ∷ more → is_large x ≡ false → map (with_task n) (filter is_small rest) ≡ with_task n x ∷ map (with_task n) (filter is_small more)
+kept : (n : ℕ) (x : IntervalFact) (rest more : List IntervalFact) → rest ≡ x ∷ more → is_large x ≡ false →
+    map (with_task n) (filter is_small rest) ≡ with_task n x ∷ map (with_task n) (filter is_small more)
 kept n x rest more er small = ap (λ r. map (with_task n) (filter is_small r)) er ∙ ap (λ b. map (with_task n) (cond (not b) (x ∷ filter is_small more) (filter is_small more))) small
 
-small_turn : (n : ℕ) (facts : List FactFound) (f : FactFound) (x : IntervalFact) (rest more : List IntervalFact) (whole : List Told) → rest ≡ x ∷ more → numbered f ≡ with_task n x → is_large x ≡ false →
+small_turn : (n : ℕ) (facts : List FactFound) (f : FactFound) (x : IntervalFact) (rest more : List IntervalFact) (whole : List Told) →
+    rest ≡ x ∷ more → numbered f ≡ with_task n x → is_large x ≡ false →
     map numbered facts ++ map (with_task n) (filter is_small rest) ≡ whole → map numbered (facts ++ f ∷ []) ++ map (with_task n) (filter is_small more) ≡ whole
 small_turn n facts f x rest more whole er en small e =
     push_map facts f (map (with_task n) (filter is_small more))
@@ -39,9 +41,12 @@ small_turn n facts f x rest more whole er en small e =
 large_turn : (n : ℕ) (facts : List FactFound) (x : IntervalFact) (rest more : List IntervalFact) (whole : List Told) → rest ≡ x ∷ more → is_large x ≡ true →
     map numbered facts ++ map (with_task n) (filter is_small rest) ≡ whole → map numbered facts ++ map (with_task n) (filter is_small more) ≡ whole
 large_turn n facts x rest more whole er large e =
-    ap (λ l. map numbered facts ++ l) (sym (ap (λ r. map (with_task n) (filter is_small r)) er ∙ ap (λ b. map (with_task n) (cond (not b) (x ∷ filter is_small more) (filter is_small more))) large)) ∙ e
+    ap (λ l. map numbered facts ++ l)
+    (sym (ap (λ r. map (with_task n) (filter is_small r)) er
+    ∙ ap (λ b. map (with_task n) (cond (not b) (x ∷ filter is_small more) (filter is_small more))) large)) ∙ e
 
-flag_turn : (flags : List Bool) (b : Bool) (x : IntervalFact) (rest more : List IntervalFact) (whole : List Bool) → rest ≡ x ∷ more → is_large x ≡ b → flags ++ map is_large rest ≡ whole → (flags ++ b ∷ []) ++ map is_large more ≡ whole
+flag_turn : (flags : List Bool) (b : Bool) (x : IntervalFact) (rest more : List IntervalFact) (whole : List Bool) → rest ≡ x ∷ more → is_large x ≡ b →
+    flags ++ map is_large rest ≡ whole → (flags ++ b ∷ []) ++ map is_large more ≡ whole
 flag_turn flags b x rest more whole er eb e =
     append_assoc flags (b ∷ []) (map is_large more) ∙ ap (λ c. flags ++ c ∷ map is_large more) (sym eb) ∙ ap (λ r. flags ++ map is_large r) (sym er) ∙ e
 
@@ -59,28 +64,33 @@ pub record At (p : Plant) (t : PlacedTask) (plans : List IntervalPlan) (k : ℕ)
   pub is : plan ≡ get_or plans k plan
   pub lines : line ≡ footprint_of p.line t.places (plan_of plan)
 
-same_fact : (p : Plant) (t : PlacedTask) (k : ℕ) (plan : IntervalPlan) (line : List ℕ) → line ≡ footprint_of p.line t.places (plan_of plan) → fact_with p (table_of t.table) k (plan_of plan) line ≡ fact_at p t k plan
+same_fact : (p : Plant) (t : PlacedTask) (k : ℕ) (plan : IntervalPlan) (line : List ℕ) → line ≡ footprint_of p.line t.places (plan_of plan) →
+    fact_with p (table_of t.table) k (plan_of plan) line ≡ fact_at p t k plan
 same_fact p t k plan line e = ap (λ l. fact_with p (table_of t.table) k (plan_of plan) l) e
 
 same_told : (n : ℕ) (f : FactFound) (x : IntervalFact) → f.task ≡ n → fact_of f ≡ x → numbered f ≡ with_task n x
 same_told n f x et ef = ap (λ m. with_task m (fact_of f)) et ∙ ap (with_task n) ef
 
-small_fact : (p : Plant) (t : PlacedTask) (plans : List IntervalPlan) (k : ℕ) (plan : IntervalPlan) (line : List ℕ) (n : ℕ) (facts : List FactFound) (f : FactFound) (whole : List Told) → At p t plans k plan line → f.task ≡ n →
+small_fact : (p : Plant) (t : PlacedTask) (plans : List IntervalPlan) (k : ℕ) (plan : IntervalPlan) (line : List ℕ) (n : ℕ) (facts : List FactFound)
+    (f : FactFound) (whole : List Told) → At p t plans k plan line → f.task ≡ n →
     fact_of f ≡ fact_with p (table_of t.table) k (plan_of plan) line → f.bound ≤ 2 ^ 40 → map numbered facts ++ map (with_task n) (filter is_small (rest_at p t plans k)) ≡ whole →
     map numbered (facts ++ f ∷ []) ++ map (with_task n) (filter is_small (rest_at p t plans (k + 1))) ≡ whole
 small_fact p t plans k plan line n facts f whole h et ef le e =
     let same : fact_of f ≡ fact_at p t k plan = ef ∙ same_fact p t k plan line h.lines in
     let small : is_large (fact_at p t k plan) ≡ false = sym (ap is_large same) ∙ small_is (fact_of f) le in
-    small_turn n facts f (fact_at p t k plan) (rest_at p t plans k) (rest_at p t plans (k + 1)) whole (facts_more p (placed_of t) plans k plan h.inside h.is) (same_told n f (fact_at p t k plan) et same) small e
+    small_turn n facts f (fact_at p t k plan) (rest_at p t plans k) (rest_at p t plans (k + 1)) whole
+    (facts_more p (placed_of t) plans k plan h.inside h.is) (same_told n f (fact_at p t k plan) et same) small e
 
 small_flag : (p : Plant) (t : PlacedTask) (plans : List IntervalPlan) (k : ℕ) (plan : IntervalPlan) (line : List ℕ) (f : FactFound) (flags whole : List Bool) → At p t plans k plan line →
-    fact_of f ≡ fact_with p (table_of t.table) k (plan_of plan) line → f.bound ≤ 2 ^ 40 → flags ++ map is_large (rest_at p t plans k) ≡ whole → (flags ++ false ∷ []) ++ map is_large (rest_at p t plans (k + 1)) ≡ whole
+    fact_of f ≡ fact_with p (table_of t.table) k (plan_of plan) line → f.bound ≤ 2 ^ 40 → flags ++ map is_large (rest_at p t plans k) ≡ whole →
+    (flags ++ false ∷ []) ++ map is_large (rest_at p t plans (k + 1)) ≡ whole
 small_flag p t plans k plan line f flags whole h ef le e =
     let same : fact_of f ≡ fact_at p t k plan = ef ∙ same_fact p t k plan line h.lines in
     let small : is_large (fact_at p t k plan) ≡ false = sym (ap is_large same) ∙ small_is (fact_of f) le in
     flag_turn flags false (fact_at p t k plan) (rest_at p t plans k) (rest_at p t plans (k + 1)) whole (facts_more p (placed_of t) plans k plan h.inside h.is) small e
 
-large_at : (p : Plant) (t : PlacedTask) (plans : List IntervalPlan) (k : ℕ) (plan : IntervalPlan) (line : List ℕ) → At p t plans k plan line → 2 ^ 40 < bound_of p (table_of t.table) k (length line) → is_large (fact_at p t k plan) ≡ true
+large_at : (p : Plant) (t : PlacedTask) (plans : List IntervalPlan) (k : ℕ) (plan : IntervalPlan) (line : List ℕ) → At p t plans k plan line →
+    2 ^ 40 < bound_of p (table_of t.table) k (length line) → is_large (fact_at p t k plan) ≡ true
 large_at p t plans k plan line h lt = sym (ap is_large (same_fact p t k plan line h.lines)) ∙ large_is (fact_with p (table_of t.table) k (plan_of plan) line) lt
 
 large_fact : (p : Plant) (t : PlacedTask) (plans : List IntervalPlan) (k : ℕ) (plan : IntervalPlan) (line : List ℕ) (n : ℕ) (facts : List FactFound) (whole : List Told) → At p t plans k plan line →
@@ -100,8 +110,10 @@ map_twice : (p : Plant) (t : PlacedTask) (plans : List IntervalPlan) → map (fo
 map_twice p t [] = refl
 map_twice p t (q ∷ qs) = ap (λ l. footprint_of p.line t.places (plan_of q) ∷ l) (map_twice p t qs)
 
-pub facts_turn : (p : Plant) (t : PlacedTask) (plans : List IntervalPlan) (k : ℕ) (plan : IntervalPlan) (line : List ℕ) (n : ℕ) (found : Option FactFound) (facts new : List FactFound) (whole : List Told) → At p t plans k plan line →
-    IfSome found (λ f. fact_of f ≡ fact_with p (table_of t.table) k (plan_of plan) line) → IfSome found (λ f. f.task ≡ n) → IfSome found (λ f. f.bound ≤ 2 ^ 40) → (IsNone found → 2 ^ 40 < bound_of p (table_of t.table) k (length line)) →
+pub facts_turn : (p : Plant) (t : PlacedTask) (plans : List IntervalPlan) (k : ℕ) (plan : IntervalPlan) (line : List ℕ) (n : ℕ)
+    (found : Option FactFound) (facts new : List FactFound) (whole : List Told) → At p t plans k plan line →
+    IfSome found (λ f. fact_of f ≡ fact_with p (table_of t.table) k (plan_of plan) line) → IfSome found (λ f. f.task ≡ n) →
+    IfSome found (λ f. f.bound ≤ 2 ^ 40) → (IsNone found → 2 ^ 40 < bound_of p (table_of t.table) k (length line)) →
     new ≡ facts ++ option_to_list found → map numbered facts ++ map (with_task n) (filter is_small (rest_at p t plans k)) ≡ whole →
     map numbered new ++ map (with_task n) (filter is_small (rest_at p t plans (k + 1))) ≡ whole
 facts_turn p t plans k plan line n (Some f) facts new whole h ef et le lt en e =
@@ -109,13 +121,16 @@ facts_turn p t plans k plan line n (Some f) facts new whole h ef et le lt en e =
 facts_turn p t plans k plan line n None facts new whole h ef et le lt en e =
     ap (λ fs. map numbered fs ++ map (with_task n) (filter is_small (rest_at p t plans (k + 1)))) (en ∙ append-nil facts) ∙ large_fact p t plans k plan line n facts whole h (lt refl) e
 
-pub flags_turn : (p : Plant) (t : PlacedTask) (plans : List IntervalPlan) (k : ℕ) (plan : IntervalPlan) (line : List ℕ) (found : Option FactFound) (flags new whole : List Bool) → At p t plans k plan line →
-    IfSome found (λ f. fact_of f ≡ fact_with p (table_of t.table) k (plan_of plan) line) → IfSome found (λ f. f.bound ≤ 2 ^ 40) → (IsNone found → 2 ^ 40 < bound_of p (table_of t.table) k (length line)) →
+pub flags_turn : (p : Plant) (t : PlacedTask) (plans : List IntervalPlan) (k : ℕ) (plan : IntervalPlan) (line : List ℕ) (found : Option FactFound)
+    (flags new whole : List Bool) → At p t plans k plan line →
+    IfSome found (λ f. fact_of f ≡ fact_with p (table_of t.table) k (plan_of plan) line) → IfSome found (λ f. f.bound ≤ 2 ^ 40) →
+    (IsNone found → 2 ^ 40 < bound_of p (table_of t.table) k (length line)) →
     new ≡ flags ++ is_none found ∷ [] → flags ++ map is_large (rest_at p t plans k) ≡ whole → new ++ map is_large (rest_at p t plans (k + 1)) ≡ whole
 flags_turn p t plans k plan line (Some f) flags new whole h ef le lt en e = ap (λ bs. bs ++ map is_large (rest_at p t plans (k + 1))) en ∙ small_flag p t plans k plan line f flags whole h ef le e
 flags_turn p t plans k plan line None flags new whole h ef le lt en e = ap (λ bs. bs ++ map is_large (rest_at p t plans (k + 1))) en ∙ large_flag p t plans k plan line flags whole h (lt refl) e
 
-pub at_plan : (p : Plant) (t : PlacedTask) (plans : List IntervalPlan) (lines : List (List ℕ)) (k : ℕ) (plan : IntervalPlan) (line : List ℕ) → lines ≡ lines_of p t → plans ≡ items_of t.plans → k < length plans → plan ≡ get_or plans k plan → line ≡ get_or lines k line →
+pub at_plan : (p : Plant) (t : PlacedTask) (plans : List IntervalPlan) (lines : List (List ℕ)) (k : ℕ) (plan : IntervalPlan) (line : List ℕ) →
+    lines ≡ lines_of p t → plans ≡ items_of t.plans → k < length plans → plan ≡ get_or plans k plan → line ≡ get_or lines k line →
     At p t plans k plan line
 at_plan p t plans lines k plan line el ep lt ip il =
     let mapped : lines ≡ map (λ q. footprint_of p.line t.places (plan_of q)) plans = el ∙ map_twice p t (items_of t.plans) ∙ ap (map (λ q. footprint_of p.line t.places (plan_of q))) (sym ep) in

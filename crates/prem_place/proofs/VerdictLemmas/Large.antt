@@ -29,7 +29,8 @@ none_if false n e = refl
 pub none_large : (job : ℕ) (large : Bool) (n : ℕ) (bs ms : List Bool) → length bs ≡ mark_count ms → first_large job large n bs ms ≡ None → NoneOf bs
 none_large job large n [] [] long e = tt
 none_large job large n (b ∷ bs) [] long e = absurd (omega (arith, long))
-none_large job large n bs (false ∷ ms) long e = none_large job large (n + 1) bs ms (omega (arith, long)) (second_none (cond ((n == job) && large) (Some n) None) (first_large job large (n + 1) bs ms) e)
+none_large job large n bs (false ∷ ms) long e =
+    none_large job large (n + 1) bs ms (omega (arith, long)) (second_none (cond ((n == job) && large) (Some n) None) (first_large job large (n + 1) bs ms) e)
 none_large job large n [] (true ∷ ms) long e = tt
 none_large job large n (b ∷ bs) (true ∷ ms) long e =
     let here = first_none (cond b (Some n) None) (or_else (cond ((n == job) && large) (Some n) None) (first_large job large (n + 1) bs ms)) e in

@@ -35,7 +35,9 @@ more_below n m plans e h = let P : ℕ → Type 0 = λ k. AllByRecursion (Below 
 pub plans_below : (p : Resolved) (n : ℕ) (fs : List Routine) → AllByRecursion (Below (n + length fs)) (plans_from p n fs)
 plans_below p n [] = tt
 plans_below p n (f ∷ fs) =
-    by f.text.mark (plans_from p (n + 1) fs) (let e : n + 1 + length fs ≡ n + suc (length fs) = omega arith in more_below (n + 1 + length fs) (n + suc (length fs)) (plans_from p (n + 1) fs) e (plans_below p (n + 1) fs))
+    by f.text.mark (plans_from p (n + 1) fs)
+    (let e : n + 1 + length fs ≡ n + suc (length fs) = omega arith in
+    more_below (n + 1 + length fs) (n + suc (length fs)) (plans_from p (n + 1) fs) e (plans_below p (n + 1) fs))
   where
     by : (mark : Option MarkText) (rest : List Plan) → AllByRecursion (Below (n + suc (length fs))) rest → AllByRecursion (Below (n + suc (length fs))) (plan_before p n mark rest)
     by None rest h = h

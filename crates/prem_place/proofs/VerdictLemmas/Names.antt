@@ -42,12 +42,14 @@ name_is tasks n f t r lt is inside at =
 
 -- ---- at numbers that are found in code
 
-pub item_within : (tasks : List PlacedTask) (task n f m : ℕ) (t : PlacedTask) (rs : List Routine) → HasFunction (map placed_of tasks) task f → n ≡ task → m ≡ f → t ≡ get_or tasks n t → rs ≡ routines_of t → m < length rs
+pub item_within : (tasks : List PlacedTask) (task n f m : ℕ) (t : PlacedTask) (rs : List Routine) → HasFunction (map placed_of tasks) task f →
+    n ≡ task → m ≡ f → t ≡ get_or tasks n t → rs ≡ routines_of t → m < length rs
 item_within tasks task n f m t rs h en em is er =
     let h' : HasFunction (map placed_of tasks) n f = subst (λ k. HasFunction (map placed_of tasks) k f) (sym en) h in
     omega (arith, em, ap length er, function_within tasks n f t h' (task_within tasks n f h') is)
 
-pub item_name : (tasks : List PlacedTask) (task n f m : ℕ) (t : PlacedTask) (rs : List Routine) (r : Routine) → HasFunction (map placed_of tasks) task f → n ≡ task → m ≡ f → t ≡ get_or tasks n t → rs ≡ routines_of t → r ≡ get_or rs m r →
+pub item_name : (tasks : List PlacedTask) (task n f m : ℕ) (t : PlacedTask) (rs : List Routine) (r : Routine) →
+    HasFunction (map placed_of tasks) task f → n ≡ task → m ≡ f → t ≡ get_or tasks n t → rs ≡ routines_of t → r ≡ get_or rs m r →
     name_bytes r.text.now.name ≡ name_in (map placed_of tasks) task f
 item_name tasks task n f m t rs r h en em is er at =
     let h' : HasFunction (map placed_of tasks) n f = subst (λ k. HasFunction (map placed_of tasks) k f) (sym en) h in

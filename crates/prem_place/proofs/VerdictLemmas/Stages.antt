@@ -14,13 +14,15 @@ step_is check tasks n t lt is =
     ∙ ap (λ (q : PlacedTask). or_else (refused_by (Some n) (check (placed_of q))) (first_among check (n + 1) (map placed_of (drop (n + 1) tasks)))) (sym is)
 
 -- a task that breaks the rule is the first
-pub stops_at : (check : Placed → Option LateRule) (tasks : List PlacedTask) (n : ℕ) (t : PlacedTask) (rule : LateRule) (whole : Option (Refusal LateRule)) → n < length tasks → t ≡ get_or tasks n t → check (placed_of t) ≡ Some rule →
+pub stops_at : (check : Placed → Option LateRule) (tasks : List PlacedTask) (n : ℕ) (t : PlacedTask) (rule : LateRule)
+    (whole : Option (Refusal LateRule)) → n < length tasks → t ≡ get_or tasks n t → check (placed_of t) ≡ Some rule →
     first_among check n (map placed_of (drop n tasks)) ≡ whole → Some (record { task = Some n; rule = rule }) ≡ whole
 stops_at check tasks n t rule whole lt is broken e =
     sym (step_is check tasks n t lt is ∙ ap (λ o. or_else (refused_by (Some n) o) (first_among check (n + 1) (map placed_of (drop (n + 1) tasks)))) broken) ∙ e
 
 -- a task that keeps the rule leaves those behind it
-pub passes_at : (check : Placed → Option LateRule) (tasks : List PlacedTask) (n : ℕ) (t : PlacedTask) (whole : Option (Refusal LateRule)) → n < length tasks → t ≡ get_or tasks n t → check (placed_of t) ≡ None →
+pub passes_at : (check : Placed → Option LateRule) (tasks : List PlacedTask) (n : ℕ) (t : PlacedTask) (whole : Option (Refusal LateRule)) →
+    n < length tasks → t ≡ get_or tasks n t → check (placed_of t) ≡ None →
     first_among check n (map placed_of (drop n tasks)) ≡ whole → first_among check (n + 1) (map placed_of (drop (n + 1) tasks)) ≡ whole
 passes_at check tasks n t whole lt is kept e =
     sym (step_is check tasks n t lt is ∙ ap (λ o. or_else (refused_by (Some n) o) (first_among check (n + 1) (map placed_of (drop (n + 1) tasks)))) kept) ∙ e
@@ -38,7 +40,8 @@ pub longs_same : {A B C : Type 0} (f : A → C) (g : B → C) (xs : List A) (ys 
 longs_same f g xs ys e = sym (mapped_long f xs) ∙ ap length e ∙ mapped_long g ys
 
 -- where lists are the same through functions, items with one number are
-pub both_at : {A B C : Type 0} (f : A → C) (g : B → C) (xs : List A) (ys : List B) (i : ℕ) (x : A) (y : B) → map f xs ≡ map g ys → i < length xs → i < length ys → x ≡ get_or xs i x → y ≡ get_or ys i y → f x ≡ g y
+pub both_at : {A B C : Type 0} (f : A → C) (g : B → C) (xs : List A) (ys : List B) (i : ℕ) (x : A) (y : B) → map f xs ≡ map g ys → i < length xs →
+    i < length ys → x ≡ get_or xs i x → y ≡ get_or ys i y → f x ≡ g y
 both_at f g [] ys i x y e lx ly ix iy = absurd (omega arith)
 both_at f g (a ∷ rest) [] i x y e lx ly ix iy = absurd (omega arith)
 both_at f g (a ∷ rest) (b ∷ bs) zero x y e lx ly ix iy = let h : f a ≡ g b = cc in ap f ix ∙ h ∙ ap g (sym iy)

@@ -51,7 +51,9 @@ clash_below n p (plan ∷ plans) (ns ∷ lines) c h e = by (conflict_of p.sets p
         subst (λ m. m < n) f h.0
 
 pub clash_within : (p : Plant) (t : PlacedTask) (lines : List (List ℕ)) (c : ClashFound) → IsPlacedTask p t → clash_of (Some c) ≡ first_clash p (plans_of t) lines → c.function < length (routines_of t)
-clash_within p t lines c h e = clash_below (length (routines_of t)) p (plans_of t) lines (record { function = c.function; conflict = record { set = c.conflict.set; lines = c.conflict.lines } }) (plans_within p t h) (sym e)
+clash_within p t lines c h e =
+    clash_below (length (routines_of t)) p (plans_of t) lines
+    (record { function = c.function; conflict = record { set = c.conflict.set; lines = c.conflict.lines } }) (plans_within p t h) (sym e)
 
 pub seven_breaks : (p : Plant) (t : PlacedTask) (lines : List (List ℕ)) (c : ClashFound) → lines ≡ lines_of p t → clash_of (Some c) ≡ first_clash p (plans_of t) lines → c.conflict.«ways» ≡ p.«ways» →
     conflict_rules p (placed_of t) ≡ Some (ConflictIn (name_at (coded_of t).program.routines c.function) c.conflict.set c.conflict.lines c.conflict.«ways»)
@@ -71,7 +73,8 @@ seven_keeps p t lines el e =
 
 -- the facts from one on
 pub facts_more : (p : Plant) (t : Placed) (plans : List IntervalPlan) (k : ℕ) (plan : IntervalPlan) → k < length plans → plan ≡ get_or plans k plan →
-    interval_facts_from p t k (map plan_of (drop k plans)) ≡ interval_fact p t k (plan_of plan) (footprint_of p.line t.at (plan_of plan)) ∷ interval_facts_from p t (k + 1) (map plan_of (drop (k + 1) plans))
+    interval_facts_from p t k (map plan_of (drop k plans))
+    ≡ interval_fact p t k (plan_of plan) (footprint_of p.line t.at (plan_of plan)) ∷ interval_facts_from p t (k + 1) (map plan_of (drop (k + 1) plans))
 facts_more p t plans k plan lt is =
     at_drop_more (λ (ps : List IntervalPlan). interval_facts_from p t k (map plan_of ps)) plans k plan lt
     ∙ ap (λ (q : IntervalPlan). interval_fact p t k (plan_of q) (footprint_of p.line t.at (plan_of q)) ∷ interval_facts_from p t (k + 1) (map plan_of (drop (k + 1) plans))) (sym is)
@@ -87,5 +90,6 @@ large_is f lt = lt-ltb (2 ^ 40) f.bound lt
 pub lines_long : (p : Plant) (t : PlacedTask) (plans : List IntervalPlan) → plans ≡ items_of t.plans → length (lines_of p t) ≡ length plans
 lines_long p t plans e = mapped_long (footprint_of p.line t.places) (plans_of t) ∙ mapped_long plan_of (items_of t.plans) ∙ ap length (sym e)
 
-pub clash_at : (p : Plant) (t : PlacedTask) (plans : List IntervalPlan) (lines : List (List ℕ)) (found : Option Clash) → plans ≡ items_of t.plans → found ≡ first_clash p (map plan_of plans) lines → found ≡ first_clash p (plans_of t) lines
+pub clash_at : (p : Plant) (t : PlacedTask) (plans : List IntervalPlan) (lines : List (List ℕ)) (found : Option Clash) → plans ≡ items_of t.plans →
+    found ≡ first_clash p (map plan_of plans) lines → found ≡ first_clash p (plans_of t) lines
 clash_at p t plans lines found e is = is ∙ ap (λ ps. first_clash p (map plan_of ps) lines) e

@@ -1,7 +1,8 @@
 -- The lowest jump out of reach of a standing task.
 use Rattle.std.specs.Prelude.{IfOk, MatchResult, nat_lt, slice_index, slice_index_or}
 use Rattle.std.specs.List.{AllByRecursion}
-use Rattle.std.proofs.Common.{◌≡◌, ℕ, Bool, true, false, cond, zero, suc, ◌+◌, ◌-◌, ◌<◌, ◌≤◌, List, [], ◌∷◌, ◌++◌, Option, None, Some, Result, Ok, Err, refl, ap, sym, ◌∙◌, subst, arith, length, map, get_or, option_map, length-append}
+use Rattle.std.proofs.Common.{◌≡◌, ℕ, Bool, true, false, cond, zero, suc, ◌+◌, ◌-◌, ◌<◌, ◌≤◌, List, [], ◌∷◌, ◌++◌, Option, None, Some, Result, Ok, Err, refl, ap, sym, ◌∙◌, subst}
+use Rattle.std.proofs.Common.{arith, length, map, get_or, option_map, length-append}
 use Rattle.std.proofs.lemmas.List.{length-map}
 use Rattle.prem_list.specs.Sequence.{items_of}
 use Rattle.prem_syntax.specs.Syntax.{Text, MarkText}
@@ -127,7 +128,8 @@ mapped_at f [] k plan lt is = absurd (omega arith)
 mapped_at f (x ∷ xs) zero plan lt is = ap f (sym is)
 mapped_at f (x ∷ xs) (suc k) plan lt is = mapped_at f xs k plan (omega arith) is
 
-stub_name : (t : Placed) (k : ℕ) (plan : Plan) → k < length t.plans → plan ≡ get_or t.plans k plan → slice_index_or (names_in t) (suc (length t.task.program.routines + k)) [] ≡ name_at t.task.program.routines plan.function
+stub_name : (t : Placed) (k : ℕ) (plan : Plan) → k < length t.plans → plan ≡ get_or t.plans k plan →
+    slice_index_or (names_in t) (suc (length t.task.program.routines + k)) [] ≡ name_at t.task.program.routines plan.function
 stub_name t k plan lt is =
     let names : List Text = map (λ (r : Routine). r.text.name) t.task.program.routines in
     let stubs : List Text = map (λ (q : Plan). name_at t.task.program.routines q.function) t.plans in
@@ -153,7 +155,9 @@ all_at limit (x ∷ xs) (suc k) plan h lt is = all_at limit xs k plan h.1 (omega
 stub_function : (t : Placed) (s : IsStanding t) (k : ℕ) (plan : Plan) → k < length t.plans → plan ≡ get_or t.plans k plan → plan.function < length t.task.program.routines
 stub_function t s k plan lt is =
     let q : Resolved = t.task.program in
-    all_at (length q.routines) t.plans k plan (subst (λ (ps : List Plan). AllByRecursion (Below (length q.routines)) ps) (sym s.plans) (plans_below q 0 q.routines (length q.routines) (omega arith))) lt is
+    all_at (length q.routines) t.plans k plan
+    (subst (λ (ps : List Plan). AllByRecursion (Below (length q.routines)) ps) (sym s.plans)
+    (plans_below q 0 q.routines (length q.routines) (omega arith))) lt is
 
 -- ---- the function of a part
 
@@ -182,7 +186,8 @@ pub record StubPart (t : Placed) (part f : ℕ) : Type 0 where
   pub name : name_at t.task.program.routines f ≡ slice_index_or (names_in t) part []
   pub function : f < length t.task.program.routines
 
-pub stub_at : (t : Placed) (s : IsStanding t) {A : Type 0} (of : A → Plan) (all : List A) (part k : ℕ) (x : A) → t.plans ≡ map of all → part ≡ suc (length t.task.program.routines + k) → part < length (names_in t) →
+pub stub_at : (t : Placed) (s : IsStanding t) {A : Type 0} (of : A → Plan) (all : List A) (part k : ℕ) (x : A) → t.plans ≡ map of all →
+    part ≡ suc (length t.task.program.routines + k) → part < length (names_in t) →
     x ≡ get_or all k x → StubPart t part (of x).function
 stub_at t s of all part k x ep e lt is =
     let below : k < length t.plans = parts_there t part k e lt in
@@ -204,12 +209,14 @@ words_then (Err x) f a b h e = tt
 pub stub_number : (t : PlacedTask) (part functions : ℕ) → functions ≡ length (routines_of t) → functions < part → part ≡ suc (length (placed_of t).task.program.routines + (part - 1 - functions))
 stub_number t part functions e lt = omega (arith, e, lt, plain_long t)
 
-pub plan_there : (t : PlacedTask) (part functions : ℕ) (all : List IntervalPlan) → functions ≡ length (routines_of t) → functions < part → part < length (names_in (placed_of t)) → all ≡ items_of t.plans → part - 1 - functions < length all
+pub plan_there : (t : PlacedTask) (part functions : ℕ) (all : List IntervalPlan) → functions ≡ length (routines_of t) → functions < part →
+    part < length (names_in (placed_of t)) → all ≡ items_of t.plans → part - 1 - functions < length all
 plan_there t part functions all e lt inside ea =
     let there = parts_there (placed_of t) part (part - 1 - functions) (stub_number t part functions e lt) inside in
     omega (arith, there, length-map (items_of t.plans) plan_in, ap length ea)
 
-pub stub_found : (t : PlacedTask) (s : IsStanding (placed_of t)) (part functions : ℕ) (all : List IntervalPlan) (x : IntervalPlan) → functions ≡ length (routines_of t) → functions < part → part < length (names_in (placed_of t)) →
+pub stub_found : (t : PlacedTask) (s : IsStanding (placed_of t)) (part functions : ℕ) (all : List IntervalPlan) (x : IntervalPlan) →
+    functions ≡ length (routines_of t) → functions < part → part < length (names_in (placed_of t)) →
     all ≡ items_of t.plans → x ≡ get_or all (part - 1 - functions) x → StubPart (placed_of t) part (get_or all (part - 1 - functions) x).function
 stub_found t s part functions all x e lt inside ea is =
     subst (λ (i : IntervalPlan). StubPart (placed_of t) part i.function) is

@@ -16,8 +16,11 @@ use Rattle.prem_place.proofs.VerdictLemmas.Names.{tasks_long, routines_at}
 use Rattle.prem_place.proofs.VerdictLemmas.Stages.{stops_at}
 
 -- a task with a jump out of reach is the first
-pub first_far : (tasks : List PlacedTask) (n f : ℕ) (t : PlacedTask) → n < length tasks → t ≡ get_or tasks n t → reach_rules (placed_of t) ≡ Some (Reach (name_at (placed_of t).task.program.routines f)) →
-    f < length (placed_of t).task.program.routines → first_among reach_rules n (map placed_of (drop n tasks)) ≡ over_tasks reach_rules (map placed_of tasks) → IsFirstFar (map placed_of tasks) (record { task = n; function = f })
+pub first_far : (tasks : List PlacedTask) (n f : ℕ) (t : PlacedTask) → n < length tasks → t ≡ get_or tasks n t →
+    reach_rules (placed_of t) ≡ Some (Reach (name_at (placed_of t).task.program.routines f)) →
+    f < length (placed_of t).task.program.routines →
+    first_among reach_rules n (map placed_of (drop n tasks)) ≡ over_tasks reach_rules (map placed_of tasks) →
+    IsFirstFar (map placed_of tasks) (record { task = n; function = f })
 first_far tasks n f t lt is broken inside rest =
     let routines : routines_in (map placed_of tasks) n ≡ (placed_of t).task.program.routines = routines_at tasks n t lt is in
     let named : reach_rules (placed_of t) ≡ Some (Reach (name_in (map placed_of tasks) n f)) = broken ∙ ap (λ rs. Some (Reach (name_at rs f))) (sym routines) in
@@ -27,10 +30,12 @@ first_far tasks n f t lt is broken inside rest =
     }
 
 -- the words of one more task
-pub more_words : {B : Type 0} (f : B → List Words) (tasks : List PlacedTask) (n : ℕ) (t : PlacedTask) (old new : List B) (b : B) (whole : List (List Words)) → n < length tasks → t ≡ get_or tasks n t → f b ≡ words_in t →
+pub more_words : {B : Type 0} (f : B → List Words) (tasks : List PlacedTask) (n : ℕ) (t : PlacedTask) (old new : List B) (b : B)
+    (whole : List (List Words)) → n < length tasks → t ≡ get_or tasks n t → f b ≡ words_in t →
     new ≡ old ++ b ∷ [] → map f old ++ map words_in (drop n tasks) ≡ whole → map f new ++ map words_in (drop (n + 1) tasks) ≡ whole
 more_words f tasks n t old new b whole lt is eb en e =
-    ap (λ bs. map f bs ++ map words_in (drop (n + 1) tasks)) en ∙ ap (λ ws. ws ++ map words_in (drop (n + 1) tasks)) (mapped old) ∙ append_assoc (map f old) (f b ∷ []) (map words_in (drop (n + 1) tasks))
+    ap (λ bs. map f bs ++ map words_in (drop (n + 1) tasks)) en ∙ ap (λ ws. ws ++ map words_in (drop (n + 1) tasks)) (mapped old)
+    ∙ append_assoc (map f old) (f b ∷ []) (map words_in (drop (n + 1) tasks))
     ∙ ap (λ w. map f old ++ (w ∷ map words_in (drop (n + 1) tasks))) (eb ∙ ap words_in is)
     ∙ ap (λ ws. map f old ++ ws) (sym (at_drop_more (λ (ts : List PlacedTask). map words_in ts) tasks n t lt)) ∙ e
   where

@@ -25,7 +25,8 @@ miss_misses room x order xs n =
     ∙ ap (λ o. x ∷ misses_of fifo room o xs) (miss_after room x order n)
 
 -- a member that isn't there comes in front of those that have come
-come_front : (room x : ℕ) (members seen order : List ℕ) → length members ≤ room → is_in x members ≡ true → is_in x order ≡ false → Front members seen order → Front members (x ∷ seen) (x ∷ take (room - 1) order)
+come_front : (room x : ℕ) (members seen order : List ℕ) → length members ≤ room → is_in x members ≡ true → is_in x order ≡ false →
+    Front members seen order → Front members (x ∷ seen) (x ∷ take (room - 1) order)
 come_front room x members seen order le h out f =
     let o : is_in x seen ≡ false =
     ⊎_elim (λ (t : is_in x seen ≡ true). let z : true ≡ false = sym (front_in x members seen order f t) ∙ out in cc) (λ (n : is_in x seen ≡ false). n) (cases_Bool (is_in x seen)) in
@@ -79,7 +80,8 @@ record Brings (members seen order after : List ℕ) : Type 0 where
   more : length seen < length seen'
 
 -- all of them hit, or else one comes in
-hits_or_brings : (room : ℕ) (members touches seen order : List ℕ) → length members ≤ room → AllIn members touches → Front members seen order → AllIn order touches ⊎ Brings members seen order (orders_after fifo room order touches)
+hits_or_brings : (room : ℕ) (members touches seen order : List ℕ) → length members ≤ room → AllIn members touches → Front members seen order →
+    AllIn order touches ⊎ Brings members seen order (orders_after fifo room order touches)
 hits_or_brings room members [] seen order le a f = inl tt
 hits_or_brings room members (x ∷ xs) seen order le a f =
     ⊎_elim (λ (t : is_in x order ≡ true).
@@ -120,7 +122,8 @@ all_seen members seen once within le =
     (cases_Bool (is_in x seen)))
 
 -- a pass for each member that has not come yet brings all in
-enough : (room : ℕ) (members : List ℕ) (parts : List (List ℕ)) (seen order : List ℕ) → length members ≤ room → ArePasses members parts → Front members seen order → length members ≤ length seen + length parts → AllIn (orders_after fifo room order (concat parts)) members
+enough : (room : ℕ) (members : List ℕ) (parts : List (List ℕ)) (seen order : List ℕ) → length members ≤ room → ArePasses members parts →
+    Front members seen order → length members ≤ length seen + length parts → AllIn (orders_after fifo room order (concat parts)) members
 enough room members [] seen order le p f many =
     let s : AllIn seen members = all_seen members seen f.once f.within (omega arith) in
     all_by order members (λ x h. front_in x members seen order f (in_all seen members x s h))

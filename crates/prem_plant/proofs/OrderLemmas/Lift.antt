@@ -6,7 +6,8 @@ use Rattle.std.proofs.lemmas.Bool.{cases_eq, cond_both, eq-eqb, ne_eqb}
 use Rattle.std.proofs.lemmas.List.{length-set, get_or-set_same, get_or-set_other, length-map}
 use Rattle.std.proofs.lemmas.List.Elements.{filter-append}
 use Rattle.std.proofs.lemmas.Nat.{mod_below}
-use Rattle.prem_plant.specs.Order.Order.{is_in, AllIn, AreOnce, OrderRule, order_after, orders_after, misses_of, ArePasses, MissesOnce, IsFullAfter, order_of, cache_after, caches_after, cache_misses, of_set, HaveRoom, CacheMissesOnce, AreThere, IsCacheFullAfter}
+use Rattle.prem_plant.specs.Order.Order.{is_in, AllIn, AreOnce, OrderRule, order_after, orders_after, misses_of, ArePasses, MissesOnce, IsFullAfter, order_of, cache_after}
+use Rattle.prem_plant.specs.Order.Order.{caches_after, cache_misses, of_set, HaveRoom, CacheMissesOnce, AreThere, IsCacheFullAfter}
 use Rattle.prem_plant.proofs.OrderLemmas.Members.{no_more, in_head, in_tail, in_other, in_all}
 
 -- ---- the part of a list that belongs to a set
@@ -69,7 +70,8 @@ pub length-caches_after : (rule : OrderRule) (room : ℕ) (xs : List ℕ) (order
 length-caches_after rule room [] orders = refl
 length-caches_after rule room (x ∷ xs) orders = length-caches_after rule room xs (cache_after rule room orders x) ∙ length-cache_after rule room orders x
 
-after_here : (rule : OrderRule) (room n i x : ℕ) (orders : List (List ℕ)) → length orders ≡ n → i < n → x % n ≡ i → get_or (cache_after rule room orders x) i [] ≡ order_after rule room (get_or orders i []) x
+after_here : (rule : OrderRule) (room n i x : ℕ) (orders : List (List ℕ)) → length orders ≡ n → i < n → x % n ≡ i →
+    get_or (cache_after rule room orders x) i [] ≡ order_after rule room (get_or orders i []) x
 after_here rule room n i x orders l lt e =
     let at : x % length orders ≡ i = ap (λ m. x % m) l ∙ e in
     ap (λ j. get_or (slice_set orders j (order_after rule room (get_or orders j []) x)) i []) at
@@ -79,7 +81,8 @@ after_there : (rule : OrderRule) (room n i x : ℕ) (orders : List (List ℕ)) �
 after_there rule room n i x orders l ne =
     get_or-set_other orders (x % length orders) i (order_after rule room (order_of orders x) x) [] (λ s. ne (ap (λ m. x % m) (sym l) ∙ sym s))
 
-order_by_set : (rule : OrderRule) (room n i : ℕ) (xs : List ℕ) (orders : List (List ℕ)) → length orders ≡ n → i < n → get_or (caches_after rule room orders xs) i [] ≡ orders_after rule room (get_or orders i []) (of_set n i xs)
+order_by_set : (rule : OrderRule) (room n i : ℕ) (xs : List ℕ) (orders : List (List ℕ)) → length orders ≡ n → i < n →
+    get_or (caches_after rule room orders xs) i [] ≡ orders_after rule room (get_or orders i []) (of_set n i xs)
 order_by_set rule room n i [] orders l lt = refl
 order_by_set rule room n i (x ∷ xs) orders l lt =
     let r : get_or (caches_after rule room (cache_after rule room orders x) xs) i [] ≡ orders_after rule room (get_or (cache_after rule room orders x) i []) (of_set n i xs) =
@@ -92,7 +95,8 @@ order_by_set rule room n i (x ∷ xs) orders l lt =
     ∙ ap (orders_after rule room (get_or orders i [])) (sym (of_there n i x xs ne)))
     (cases_eq (x % n) i)
 
-misses_by_set : (rule : OrderRule) (room n i : ℕ) (xs : List ℕ) (orders : List (List ℕ)) → length orders ≡ n → i < n → of_set n i (cache_misses rule room orders xs) ≡ misses_of rule room (get_or orders i []) (of_set n i xs)
+misses_by_set : (rule : OrderRule) (room n i : ℕ) (xs : List ℕ) (orders : List (List ℕ)) → length orders ≡ n → i < n →
+    of_set n i (cache_misses rule room orders xs) ≡ misses_of rule room (get_or orders i []) (of_set n i xs)
 misses_by_set rule room n i [] orders l lt = refl
 misses_by_set rule room n i (x ∷ xs) orders l lt =
     let orders' : List (List ℕ) = cache_after rule room orders x in
@@ -105,9 +109,13 @@ misses_by_set rule room n i (x ∷ xs) orders l lt =
     let rest : of_set n i m ≡ misses_of rule room (order_after rule room o x) (of_set n i xs) =
     r ∙ ap (λ q. misses_of rule room q (of_set n i xs)) (after_here rule room n i x orders l lt s) in
     ap (λ q. of_set n i (cond (is_in x q) m (x ∷ m))) at
-    ∙ cond_both (is_in x o) m (x ∷ m) (λ ys. of_set n i ys ≡ cond (is_in x o) (misses_of rule room (order_after rule room o x) (of_set n i xs)) (x ∷ misses_of rule room (order_after rule room o x) (of_set n i xs)))
+    ∙ cond_both (is_in x o) m (x ∷ m)
+    (λ ys. of_set n i ys ≡ cond (is_in x o) (misses_of rule room (order_after rule room o x) (of_set n i xs))
+    (x ∷ misses_of rule room (order_after rule room o x) (of_set n i xs)))
     (λ t. rest ∙ ap (λ b. cond b (misses_of rule room (order_after rule room o x) (of_set n i xs)) (x ∷ misses_of rule room (order_after rule room o x) (of_set n i xs))) (sym t))
-    (λ f. of_here n i x m s ∙ ap (λ zs. x ∷ zs) rest ∙ ap (λ b. cond b (misses_of rule room (order_after rule room o x) (of_set n i xs)) (x ∷ misses_of rule room (order_after rule room o x) (of_set n i xs))) (sym f))
+    (λ f. of_here n i x m s ∙ ap (λ zs. x ∷ zs) rest
+    ∙ ap (λ b. cond b (misses_of rule room (order_after rule room o x) (of_set n i xs))
+    (x ∷ misses_of rule room (order_after rule room o x) (of_set n i xs))) (sym f))
     ∙ ap (misses_of rule room o) (sym (of_here n i x xs s)))
     (λ (ne : x % n ≡ i → ⊥).
     cond_both (is_in x (order_of orders x)) m (x ∷ m) (λ ys. of_set n i ys ≡ of_set n i m) (λ _. refl) (λ _. of_there n i x m ne)
@@ -126,7 +134,8 @@ misses_in rule room c (x ∷ xs) orders h =
     cond_both (is_in x (order_of orders x)) m (x ∷ m) (AllIn c) (λ _. r) (λ _. (h.0, r))
 
 -- so there are no more misses than members
-pub few_misses : (rule : OrderRule) → CacheMissesOnce rule → (room : ℕ) (orders : List (List ℕ)) (members touches : List ℕ) → 0 < length orders → HaveRoom (length orders) room members → AllIn members touches → length (cache_misses rule room orders touches) ≤ length members
+pub few_misses : (rule : OrderRule) → CacheMissesOnce rule → (room : ℕ) (orders : List (List ℕ)) (members touches : List ℕ) → 0 < length orders →
+    HaveRoom (length orders) room members → AllIn members touches → length (cache_misses rule room orders touches) ≤ length members
 few_misses rule once room orders members touches pos fits a =
     no_more (cache_misses rule room orders touches) members (once room orders members touches pos fits a) (misses_in rule room members touches orders a)
 

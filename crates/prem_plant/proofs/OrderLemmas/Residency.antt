@@ -3,7 +3,8 @@ use Rattle.std.proofs.Common.{◌≡◌, ℕ, ◌-◌, ◌≤◌, refl, ap, ◌�
 use Rattle.std.proofs.lemmas.Bool.{cases_Bool, cases_eq, cond_both}
 use Rattle.std.proofs.lemmas.List.{append-nil}
 use Rattle.prem_plant.specs.Order.Order.{is_in, without, AllIn, AreOnce, lru, order_after, orders_after, misses_of, MissesOnce, IsFullAfter, one_pass}
-use Rattle.prem_plant.proofs.OrderLemmas.Members.{in_head, in_tail, in_other, apart_by, in_without, without-absent, once_without, all_in_without, no_more, in_all, all_by, all_in_through, in_append_left, without-append_in, without-append_out, take_past}
+use Rattle.prem_plant.proofs.OrderLemmas.Members.{in_head, in_tail, in_other, apart_by, in_without, without-absent, once_without, all_in_without, no_more, in_all, all_by}
+use Rattle.prem_plant.proofs.OrderLemmas.Members.{all_in_through, in_append_left, without-append_in, without-append_out, take_past}
 
 -- the lines that were touched stand in front
 pub record Front (members seen order : List ℕ) : Type 0 where
@@ -17,7 +18,8 @@ pub front_none : (members order : List ℕ) → Front members [] order
 front_none members order = record { rest = order; order_is = refl; once = tt; within = tt }
 
 -- a touch of a member moves it to the front of those that were touched
-touched_front : (room x : ℕ) (members seen order : List ℕ) → length members ≤ room → is_in x members ≡ true → Front members seen order → (rest : List ℕ) × (order_after lru room order x ≡ (x ∷ without x seen) ++ rest)
+touched_front : (room x : ℕ) (members seen order : List ℕ) → length members ≤ room → is_in x members ≡ true → Front members seen order →
+    (rest : List ℕ) × (order_after lru room order x ≡ (x ∷ without x seen) ++ rest)
 touched_front room x members seen order le h f =
     let goes : List ℕ → List ℕ = λ xs. order_after lru room xs x in
     ⊎_elim (λ (t : is_in x seen ≡ true). (
@@ -89,7 +91,8 @@ abbrev seen_after : List ℕ → List ℕ → List ℕ
 seen_after [] seen = seen
 seen_after (x ∷ xs) seen = seen_after xs (x ∷ without x seen)
 
-front_after : (room : ℕ) (members touches seen order : List ℕ) → length members ≤ room → AllIn members touches → Front members seen order → Front members (seen_after touches seen) (orders_after lru room order touches)
+front_after : (room : ℕ) (members touches seen order : List ℕ) → length members ≤ room → AllIn members touches → Front members seen order →
+    Front members (seen_after touches seen) (orders_after lru room order touches)
 front_after room members [] seen order le a f = f
 front_after room members (x ∷ xs) seen order le a f =
     front_after room members xs (x ∷ without x seen) (order_after lru room order x) le a.1 (front_touch room x members seen order le a.0 f)

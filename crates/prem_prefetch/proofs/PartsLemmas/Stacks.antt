@@ -31,7 +31,14 @@ module _ (known : List ℕ) (d : ℕ → ℕ) (told : (f : ℕ) → slice_index 
   steps_same (Output at value rest) = steps_same rest
   steps_same (Input at number rest) = steps_same rest
   steps_same (If at condition taken other rest) =
-      omega (arith, steps_same taken, steps_same other, steps_same rest, greatest_append known (callees_in taken) (callees_in other ++ callees_in rest), greatest_append known (callees_in other) (callees_in rest))
+      omega (
+        arith,
+        steps_same taken,
+        steps_same other,
+        steps_same rest,
+        greatest_append known (callees_in taken) (callees_in other ++ callees_in rest),
+        greatest_append known (callees_in other) (callees_in rest),
+      )
   steps_same (For at number low closed high step turns body rest) = omega (arith, steps_same body, steps_same rest, greatest_append known (callees_in body) (callees_in rest))
   steps_same (While at turns condition body rest) = omega (arith, steps_same body, steps_same rest, greatest_append known (callees_in body) (callees_in rest))
   steps_same (Call at target callee arguments rest) = omega (arith, told callee, steps_same rest)

@@ -59,7 +59,8 @@ many_stubs : (passes : Passes) (task : ℕ) (plans : List Plan) → length (stub
 many_stubs passes task [] = refl
 many_stubs passes task (plan ∷ plans) = ap suc (many_stubs passes task plans)
 
-many_with : (passes : Passes) (n : ℕ) (sizes : List ℕ) (plans : List Plan) (globals : List GlobalVariable) (stack : ℕ) → length (parts_with passes n sizes plans globals stack) ≡ 2 + length sizes + length plans + length globals
+many_with : (passes : Passes) (n : ℕ) (sizes : List ℕ) (plans : List Plan) (globals : List GlobalVariable) (stack : ℕ) →
+    length (parts_with passes n sizes plans globals stack) ≡ 2 + length sizes + length plans + length globals
 many_with passes n sizes plans globals stack =
     let codes : List PartSize = code_parts n 0 sizes in
     let stubs : List PartSize = stub_parts passes n plans in
@@ -96,7 +97,9 @@ task_may passes line n sizes plans globals stack = (
 tasks_may : (passes : Passes) (line n : ℕ) (ts : List SizedTask) → AllMay line (sized_from passes n ts)
 tasks_may passes line n [] = tt
 tasks_may passes line n (t ∷ ts) =
-    may_append line (sized_parts passes n t) _ (task_may passes line n (sizes_of t.code.now) (map plan_of t.plans.now) (globals_in t.program.now) (stack_in t.program.now)) (tasks_may passes line (n + 1) ts)
+    may_append line (sized_parts passes n t) _
+    (task_may passes line n (sizes_of t.code.now) (map plan_of t.plans.now) (globals_in t.program.now) (stack_in t.program.now))
+    (tasks_may passes line (n + 1) ts)
 
 pub parts_may_have_places : (p : Plant) (devices : List Device) (tasks : List SizedTask) → 1 ≤ p.line → AllByRecursion MayHaveParts tasks → length tasks ≤ 16 → length devices ≤ 8 →
     MayHavePlaces p.line (parts_in p devices tasks)

@@ -1,7 +1,8 @@
 -- What a well-formed program that keeps to the rules on frames has: small frames, short plans, code of so many functions.
 use Rattle.std.specs.Prelude.{slice_index_or}
 use Rattle.std.specs.List.{AllByRecursion}
-use Rattle.std.proofs.Common.{◌≡◌, ℕ, zero, suc, ◌+◌, ◌<◌, ◌≤◌, ◌^◌, Bool, true, false, cond, ltb, ltb-false, List, [], ◌∷◌, ◌++◌, length, map, set, replicate, refl, ap, sym, ◌∙◌, subst, arith, Option, None, Some}
+use Rattle.std.proofs.Common.{◌≡◌, ℕ, zero, suc, ◌+◌, ◌<◌, ◌≤◌, ◌^◌, Bool, true, false, cond, ltb, ltb-false, List, [], ◌∷◌, ◌++◌, length, map, set, replicate, refl, ap, sym, ◌∙◌}
+use Rattle.std.proofs.Common.{subst, arith, Option, None, Some}
 use Rattle.std.proofs.lemmas.List.{length-map, length-set, length-replicate}
 use Rattle.std.proofs.lemmas.List.Elements.{recursion_from_All}
 use Rattle.prem_list.specs.declared.Sequence.{Sequence}
@@ -103,7 +104,8 @@ short_reach t f =
 abbrev HasFewMarked : Routine → Type 0
 HasFewMarked f = HasFewRegions f.text
 
-few_marked : (fs : List FunctionText) (t : ℕ → ℕ) (n : ℕ) (gs : List GlobalVariable) (items : ProgramText) → AllByRecursion HasFewRegions (functions_of items) → AllByRecursion HasFewMarked (resolve_items fs t n gs items)
+few_marked : (fs : List FunctionText) (t : ℕ → ℕ) (n : ℕ) (gs : List GlobalVariable) (items : ProgramText) →
+    AllByRecursion HasFewRegions (functions_of items) → AllByRecursion HasFewMarked (resolve_items fs t n gs items)
 few_marked fs t n gs [] h = tt
 few_marked fs t n gs (global_item g ∷ items) h = few_marked fs t n (gs ++ g ∷ []) items h
 few_marked fs t n gs (function_item f ∷ items) h = (h.0, few_marked fs t (n + loops_within f.body) gs items h.1)

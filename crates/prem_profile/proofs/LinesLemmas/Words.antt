@@ -5,7 +5,8 @@ use Rattle.std.proofs.lemmas.List.{length-replicate}
 use Rattle.prem_word.specs.declared.kind.Kind.{Kind}
 use Rattle.prem_word.specs.declared.kind.Kind.TheVariants.{Int, Unsigned}
 use Rattle.prem_word.specs.declared.kind.BinOp.{BinOp}
-use Rattle.prem_word.specs.declared.kind.BinOp.TheVariants.{Add as Plus, Sub as Minus, Mul, Div, Rem, Shl, Shr, Lt, Le, Gt, Ge, Eq, Ne, And as BitAnd, Xor as BitXor, Or as BitOr, AndAlso as AndAlsoOp, OrElse as OrElseOp}
+use Rattle.prem_word.specs.declared.kind.BinOp.TheVariants.{Add as Plus, Sub as Minus, Mul, Div, Rem, Shl, Shr, Lt, Le, Gt, Ge, Eq, Ne, And as BitAnd, Xor as BitXor, Or as BitOr}
+use Rattle.prem_word.specs.declared.kind.BinOp.TheVariants.{AndAlso as AndAlsoOp, OrElse as OrElseOp}
 use Rattle.prem_plant.specs.declared.plant.Target.{Target}
 use Rattle.prem_plant.specs.declared.plant.Target.TheVariants.{Rv32i, Rv32im}
 use Rattle.prem_isa.specs.declared.instr.Instr.{Instr}
@@ -14,14 +15,18 @@ use Rattle.prem_isa.specs.declared.instr.AluOp.TheVariants.{Add}
 use Rattle.prem_syntax.specs.declared.tree.UnOp.{UnOp}
 use Rattle.prem_syntax.specs.declared.tree.UnOp.TheVariants.{Neg, Flip, Not}
 use Rattle.prem_syntax.specs.Syntax.{LocalVariable}
-use Rattle.prem_syntax.specs.Resolved.{Term, Constant, Local, Scalar, Element, Unary, Binary, AndAlso, OrElse, Steps, Done as NoSteps, SetLocal, SetScalar, SetElement, Output, Input, If, For, While, Call, Routine}
+use Rattle.prem_syntax.specs.Resolved.{Term, Constant, Local, Scalar, Element, Unary, Binary, AndAlso, OrElse, Steps, Done as NoSteps, SetLocal, SetScalar, SetElement, Output}
+use Rattle.prem_syntax.specs.Resolved.{Input, If, For, While, Call, Routine}
 use Rattle.prem_asm.specs.Pieces.{Pieces, no_pieces, straight, address_of, either, repeat, call_to, followed, skip_words, words, address_code, lower}
 use Rattle.prem_asm.proofs.Rows.{words-followed}
-use Rattle.prem_layout.specs.Template.Terms.{only, is_short, constant, scale, shift_of, nonzero, unary_code, multiply_code, quotient_code, remainder_code, by_target, binary_code, truth_code, element_code, term_code}
+use Rattle.prem_layout.specs.Template.Terms.{only, is_short, constant, scale, shift_of, nonzero, unary_code, multiply_code, quotient_code, remainder_code, by_target, binary_code}
+use Rattle.prem_layout.specs.Template.Terms.{truth_code, element_code, term_code}
 use Rattle.prem_layout.specs.Template.Frames.{counters_in, locals_of, frame_of}
 use Rattle.prem_layout.specs.Template.Limits.{first_place}
-use Rattle.prem_layout.specs.Template.Steps.{Parts, load_slot, store_slot, scalar_store, element_store, bound_test, step_code, turn_code, store_argument, argument_code, target_code, steps_code, closing, declare_code, result_code, function_code}
-use Rattle.prem_profile.specs.Lines.Table.{argument_lines, at_line, begins, constant_words, function_lines, jump_words, local_line, local_lines, locals_behind, result_lines, scale_words, steps_lines, target_words, term_lines}
+use Rattle.prem_layout.specs.Template.Steps.{Parts, load_slot, store_slot, scalar_store, element_store, bound_test, step_code, turn_code, store_argument, argument_code}
+use Rattle.prem_layout.specs.Template.Steps.{target_code, steps_code, closing, declare_code, result_code, function_code}
+use Rattle.prem_profile.specs.Lines.Table.{argument_lines, at_line, begins, constant_words, function_lines, jump_words, local_line, local_lines, locals_behind, result_lines}
+use Rattle.prem_profile.specs.Lines.Table.{scale_words, steps_lines, target_words, term_lines}
 use Rattle.prem_profile.specs.Lines.Laws.{LinesAreForWords}
 
 pub at_line_long : (line n : ℕ) → length (at_line line n) ≡ n
@@ -173,7 +178,8 @@ jump_is parts n NoSteps = refl
 jump_is parts n (SetLocal at k value rest) = sym (skip_followed (term_code parts.target parts.global 10 value) _ refl)
 jump_is parts n (SetScalar at g ty value rest) = sym (skip_followed (term_code parts.target parts.global 10 value) _ refl)
 jump_is parts n (SetElement at g ty index value rest) =
-    sym (skip_followed (term_code parts.target parts.global 10 value) _ (skip_followed (term_code parts.target parts.global 11 index) (element_store (parts.global g) ty (steps_code parts n rest)) refl))
+    sym (skip_followed (term_code parts.target parts.global 10 value) _
+    (skip_followed (term_code parts.target parts.global 11 index) (element_store (parts.global g) ty (steps_code parts n rest)) refl))
 jump_is parts n (Output at value rest) = sym (skip_followed (term_code parts.target parts.global 10 value) _ refl)
 jump_is parts n (Input at k rest) = refl
 jump_is parts n (If at condition taken other rest) = sym (skip_followed (term_code parts.target parts.global 10 condition) _ refl)

@@ -47,7 +47,8 @@ bind_stops level e old new behind inner whole is back from stops =
     ap (λ (all : List CodeOpen). (e, open_in bottom all)) back ∙ ap (λ (o : Open). (e, o)) (opened_last bottom new inner) ∙ sym stops
     ∙ bind_innermost level e old new inner whole is from
 
-pub bind_operator : (level : ℕ) (left e : Expression) (at : Place) (op : BinOp) (around : Open) → level ≤ level_of op → bind level e (right_of left at op around) ≡ bind level (binary at op left e) around
+pub bind_operator : (level : ℕ) (left e : Expression) (at : Place) (op : BinOp) (around : Open) → level ≤ level_of op →
+    bind level e (right_of left at op around) ≡ bind level (binary at op left e) around
 bind_operator level left e at op around within =
     let binds : nat_le level (level_of op) ≡ true = grind (arith, nat_tests, within) in
     ap (λ (b : Bool). if b then bind level (binary at op left e) around else (e, right_of left at op around)) binds

@@ -6,7 +6,9 @@ use Rattle.prem_syntax.specs.Name.{name_bytes}
 use Rattle.prem_syntax.specs.SyntaxOf.{expression_of, loop_names_of, statement_of}
 use Rattle.prem_text.specs.declared.lexing.token.token.Spotted.{Spotted}
 use Rattle.prem_text.specs.Lexing.Token.Lexeme.{seen_of}
-use Rattle.prem_text.specs.Grammar.Statement.{Around, in_body, in_block, in_taken, in_other, in_while, in_for, Header, Use, for_output, for_if, for_while, for_low, for_high, for_index, for_value, for_change, for_argument, Row, if_row, out_row, while_row, for_row, bound_row, sign_row, step_row, last_row, Point, between, may_else, filling, inside, on_name, on_element, Turn, on, leaves, wrong}
+use Rattle.prem_text.specs.Grammar.Statement.{Around, in_body, in_block, in_taken, in_other, in_while, in_for, Header, Use, for_output, for_if, for_while, for_low, for_high}
+use Rattle.prem_text.specs.Grammar.Statement.{for_index, for_value, for_change, for_argument, Row, if_row, out_row, while_row, for_row, bound_row, sign_row, step_row, last_row}
+use Rattle.prem_text.specs.Grammar.Statement.{Point, between, may_else, filling, inside, on_name, on_element, Turn, on, leaves, wrong}
 use Rattle.prem_reader.specs.Expression.StateOf.{state_of}
 use Rattle.prem_reader.specs.Statement.SlotOf.{slot_of}
 use Rattle.prem_reader.specs.declared.statement.point.Around.{Around as CodeAround}

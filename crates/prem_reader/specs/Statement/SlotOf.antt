@@ -1,5 +1,6 @@
 -- The slots of the grammar that the code's slots stand for.
-use Rattle.prem_text.specs.Grammar.Slots.{Slot, left_parenthesis, right_parenthesis, left_brace, right_brace, right_bracket, semicolon, comma, equal_sign, plus_sign, plus_plus, plus_equal, comparison, step_sign, a_name, a_literal, the_while}
+use Rattle.prem_text.specs.Grammar.Slots.{Slot, left_parenthesis, right_parenthesis, left_brace, right_brace, right_bracket, semicolon, comma, equal_sign, plus_sign, plus_plus}
+use Rattle.prem_text.specs.Grammar.Slots.{plus_equal, comparison, step_sign, a_name, a_literal, the_while}
 use Rattle.prem_reader.specs.declared.statement.slot.Slot.{Slot as CodeSlot}
 use Rattle.prem_reader.specs.declared.statement.slot.Slot.TheVariants as code
 

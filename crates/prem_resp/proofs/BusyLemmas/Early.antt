@@ -1,6 +1,7 @@
 -- No busy period is shorter than what the tasks before leave time for.
 use Rattle.std.specs.Prelude.{All}
-use Rattle.std.proofs.Common.{◌≡◌, ℕ, suc, ◌+◌, ◌-◌, ◌*◌, ◌/◌, ◌^◌, ◌≤◌, ◌<◌, nat_lt, Bool, true, false, Option, Some, None, refl, ap, ◌∙◌, sym, subst, arith, List, [], ◌∷◌, take, length, if◌then◌else◌}
+use Rattle.std.proofs.Common.{◌≡◌, ℕ, suc, ◌+◌, ◌-◌, ◌*◌, ◌/◌, ◌^◌, ◌≤◌, ◌<◌, nat_lt, Bool, true, false, Option, Some, None, refl, ap, ◌∙◌, sym, subst, arith, List, [], ◌∷◌, take}
+use Rattle.std.proofs.Common.{length, if◌then◌else◌}
 use Rattle.std.proofs.Math.Nat.{mul-add, mul_comm, div-mul-le_self, div-le_of_le-mul}
 use Rattle.std.proofs.lemmas.Nat.{mul-le}
 use Rattle.std.proofs.lemmas.Bool.{ltb-true, ltb-false}
@@ -62,9 +63,10 @@ module _ (loads : List Load) (i : ℕ) (all : All IsLoad loads) (there : i < len
 
   -- what a busy period leaves has room for the work
   roomy : (other : ℕ) → used ≤ 2 ^ 64 → IsBalanced loads i other → work * 2 ^ 64 ≤ (2 ^ 64 - used) * other
-  roomy other le balanced = sum (other * (2 ^ 64 - used)) ((2 ^ 64 - used) * other) (other * used) (interference other (take i loads)) other work (shared other le) (before other) balanced.1 (mul_comm other (2 ^ 64 - used)) where
-    sum : (a b c i o w : ℕ) → a + c ≡ o * 2 ^ 64 → c ≤ i * 2 ^ 64 → o ≡ w + i → a ≡ b → w * 2 ^ 64 ≤ b
-    sum a b c i o w h1 h2 h3 h4 = omega (arith, h1, h2, h3, h4)
+  roomy other le balanced = sum (other * (2 ^ 64 - used)) ((2 ^ 64 - used) * other) (other * used) (interference other (take i loads)) other work
+      (shared other le) (before other) balanced.1 (mul_comm other (2 ^ 64 - used)) where
+        sum : (a b c i o w : ℕ) → a + c ≡ o * 2 ^ 64 → c ≤ i * 2 ^ 64 → o ≡ w + i → a ≡ b → w * 2 ^ 64 ≤ b
+        sum a b c i o w h1 h2 h3 h4 = omega (arith, h1, h2, h3, h4)
 
   -- where the tasks before leave nothing, no busy period ends
   endless : (other : ℕ) → 2 ^ 64 ≤ used → IsBalanced loads i other → ⊥
@@ -81,7 +83,8 @@ module _ (loads : List Load) (i : ℕ) (all : All IsLoad loads) (there : i < len
   grows : used < 2 ^ 64 → work * 2 ^ 64 / (2 ^ 64 - used) ≤ demand loads i (work * 2 ^ 64 / (2 ^ 64 - used))
   grows lt =
       let first : ℕ = work * 2 ^ 64 / (2 ^ 64 - used) in
-      sum (first * (2 ^ 64 - used)) (first * used) (interference first (take i loads)) first work (demand loads i first) (shared first (omega (arith, lt))) (before first) (div-mul-le_self (work * 2 ^ 64) (2 ^ 64 - used)) refl where
+      sum (first * (2 ^ 64 - used)) (first * used) (interference first (take i loads)) first work (demand loads i first)
+      (shared first (omega (arith, lt))) (before first) (div-mul-le_self (work * 2 ^ 64) (2 ^ 64 - used)) refl where
         sum : (a c i o w d : ℕ) → a + c ≡ o * 2 ^ 64 → c ≤ i * 2 ^ 64 → a ≤ w * 2 ^ 64 → d ≡ w + i → o ≤ d
         sum a c i o w d h1 h2 h3 h4 = omega (arith, h1, h2, h3, h4)
 

@@ -17,7 +17,8 @@ interference_grows : (xs : List Load) (a b : ℕ) → All IsLoad xs → a ≤ b 
 interference_grows [] a b all le = omega arith
 interference_grows (x ∷ xs) a b all le =
     let some : 1 ≤ x.period = (all 0 no_load (omega arith)).period in
-    let here : releases_in x.period a * x.cost ≤ releases_in x.period b * x.cost = mul-le (releases_in x.period a) x.cost (releases_in x.period b) x.cost (releases_grow x.period a b some le) (omega arith) in
+    let here : releases_in x.period a * x.cost ≤ releases_in x.period b * x.cost =
+    mul-le (releases_in x.period a) x.cost (releases_in x.period b) x.cost (releases_grow x.period a b some le) (omega arith) in
     let more : interference a xs ≤ interference b xs = interference_grows xs a b (λ k d lt. all (suc k) d (omega (arith, lt))) le in
     omega (arith, here, more)
 

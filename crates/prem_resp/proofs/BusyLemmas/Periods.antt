@@ -48,7 +48,8 @@ module _ (x : Tasks) (s : Schedule) (h : IsSchedule x s) where
       let f : ℕ = s.ended k (suc t) in
       let was : got k a n + c * s.ended k a ≤ c * e + served s k e t = got_jobs k a n lt in
       let one : ℕ = one_if (is_task k (s.serves t)) in
-      let here : served s k e (suc t) ≡ served s k e t + one = ap (λ b. served s k e t + one_if (is_task k (s.serves t) && b)) (eq-eqb e e refl) ∙ ap (λ n. served s k e t + n) (both_one (is_task k (s.serves t))) in
+      let here : served s k e (suc t) ≡ served s k e t + one = ap (λ b. served s k e t + one_if (is_task k (s.serves t) && b)) (eq-eqb e e refl)
+      ∙ ap (λ n. served s k e t + n) (both_one (is_task k (s.serves t))) in
       subst (λ u. got k a n + one + c * s.ended k a ≤ c * s.ended k u + served s k (s.ended k u) u) (next a n)
       (⊎_elim (λ (same : e ≡ f).
       let z : c * e + served s k e (suc t) ≡ c * f + served s k f (suc t) = ap (λ m. c * m + served s k m (suc t)) same in
@@ -104,7 +105,8 @@ module _ (x : Tasks) (s : Schedule) (h : IsSchedule x s) where
       let more : c * (last + 1) ≡ c * last + c * 1 = mul-add c last 1 in
       let unit : c * 1 ≡ c = mul-one c in
       let full : served s k last (a + n) < c = h.unfinished k (a + n) lt (omega (arith, late)) in
-      sum (got k a n) (c * s.ended k a) (c * first) (c * last) (served s k last (a + n)) c (c * (last + 1)) (c * 1) (c * released_before x k (a + n)) (c * (first + releases_in (x.period k) n)) (c * releases_in (x.period k) n)
+      sum (got k a n) (c * s.ended k a) (c * first) (c * last) (served s k last (a + n)) c (c * (last + 1)) (c * 1) (c * released_before x k (a + n))
+      (c * (first + releases_in (x.period k) n)) (c * releases_in (x.period k) n)
       (got_jobs k a n lt) begun full more unit up m d where
         sum : (g a f e v c d u r q b : ℕ) → g + a ≤ e + v → f ≤ a → v < c → d ≡ e + u → u ≡ c → d ≤ r → r ≤ q → q ≡ f + b → g + 1 ≤ b
         sum g a f e v c d u r q b h1 h2 h3 h4 h5 h6 h7 h8 = omega (arith, h1, h2, h3, h4, h5, h6, h7, h8)

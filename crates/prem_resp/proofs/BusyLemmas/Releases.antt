@@ -40,7 +40,9 @@ releases_add period a b some =
     let y : b ≤ n * period = in_periods period b some in
     let e : (m + n + 1) * period ≡ (m + n) * period + period = (add-mul (m + n) 1 period ∙ one ((m + n) * period) period) in
     let f : (m + n) * period ≡ m * period + n * period = add-mul m n period in
-    let lt : releases_in period (a + b) < m + n + 1 = (div-lt_iff_lt-mul {k = period} {x = a + b + period - 1} {y = m + n + 1} some).1 (sum a b period (m * period) (n * period) ((m + n) * period) ((m + n + 1) * period) some x y f e) in
+    let lt : releases_in period (a + b) < m + n + 1 =
+    (div-lt_iff_lt-mul {k = period} {x = a + b + period - 1} {y = m + n + 1} some).1
+    (sum a b period (m * period) (n * period) ((m + n) * period) ((m + n + 1) * period) some x y f e) in
     omega (arith, lt) where
       one : (a p : ℕ) → a + 1 * p ≡ a + p
       one a p = omega arith

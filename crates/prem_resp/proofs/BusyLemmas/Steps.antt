@@ -17,7 +17,8 @@ below loads i zero other all balanced = omega arith
 below loads i (suc n) other all balanced = balanced_above loads i (stepped loads i n) other all balanced (below loads i n other all balanced)
 
 -- where they stay, that is the length
-pub found : (loads : List Load) (i n cycles : ℕ) → All IsLoad loads → stepped loads i n ≡ cycles → demand loads i cycles ≡ cycles → 1 ≤ cycles → cycles ≤ (load_at loads i).period → IsFound loads i (Within cycles)
+pub found : (loads : List Load) (i n cycles : ℕ) → All IsLoad loads → stepped loads i n ≡ cycles → demand loads i cycles ≡ cycles → 1 ≤ cycles →
+    cycles ≤ (load_at loads i).period → IsFound loads i (Within cycles)
 found loads i n cycles all at stay some le = (
   record {
     balanced = (some, let e : demand loads i cycles ≡ cycles = stay in omega (arith, e));

@@ -31,7 +31,8 @@ use Rattle.prem_sound.proofs.ResidentLemmas.Residents.{Issued, with_stated, phas
 use Rattle.prem_sound.proofs.CallRuns.{begins_call, calls_after}
 use Rattle.prem_sound.proofs.Lasts.{owed_of}
 use Rattle.prem_sound.proofs.Spends.{kept_by}
-use Rattle.prem_sound.specs.Scopes.Charged.{Scoping, within_scope, scope_with, scope_by, scope_at as lines_at, Charges, charges_by, own_charge, did_charge, job_with, job_charged, stretch_with, stretch_charged, IsCharged}
+use Rattle.prem_sound.specs.Scopes.Charged.{Scoping, within_scope, scope_with, scope_by, scope_at as lines_at, Charges, charges_by, own_charge, did_charge, job_with, job_charged}
+use Rattle.prem_sound.specs.Scopes.Charged.{stretch_with, stretch_charged, IsCharged}
 use Rattle.prem_sound.proofs.ScopesLemmas.ChargeRuns.{scope_by-next, job_charged-next, stretch_charged-next}
 use Rattle.prem_sound.proofs.ScopesLemmas.Credits.{Backed, backed_none}
 use Rattle.prem_resp.specs.Deadline.Timeline.{chosen_task, serves_in}
@@ -190,14 +191,16 @@ module _ (plant : Plant) (tasks : ℕ) (runs : ℕ → TaskRun) (scripts : ℕ �
     held_idle : (mode mode' : Mode) → ((j : ℕ) → IsOf j mode → ⊥) → AreHeld had at mode → AreHeld (more None had) at mode'
     held_idle mode mode' not h j lt out = omega (arith, more_none j had, h j lt (not j))
 
-    stretch_on : (mark : Change) (owed owed' credit first stretch longest : ℕ) → now + 1 + owed' ≤ now + owed → InStretch mark now owed credit first stretch longest → InStretch mark (now + 1) owed' credit first stretch longest
+    stretch_on : (mark : Change) (owed owed' credit first stretch longest : ℕ) → now + 1 + owed' ≤ now + owed →
+        InStretch mark now owed credit first stretch longest → InStretch mark (now + 1) owed' credit first stretch longest
     stretch_on Stay owed owed' credit first stretch longest le h = omega (arith, le, h)
     stretch_on (Execute stated) owed owed' credit first stretch longest le h = omega (arith, le, h)
     stretch_on Memory owed owed' credit first stretch longest le h = omega (arith, le, h)
     stretch_on End owed owed' credit first stretch longest le h = tt
     stretch_on Job owed owed' credit first stretch longest le h = omega (arith, le, h)
 
-    had_on : (b : Bool) (mark : Change) (owed owed' credit first stated h0 kept job cost : ℕ) → now + 1 + owed' ≤ now + owed → HasHad b mark now owed credit first stated h0 kept job cost → HasHad b mark (now + 1) owed' credit first stated (h0 + 1) kept job cost
+    had_on : (b : Bool) (mark : Change) (owed owed' credit first stated h0 kept job cost : ℕ) → now + 1 + owed' ≤ now + owed →
+        HasHad b mark now owed credit first stated h0 kept job cost → HasHad b mark (now + 1) owed' credit first stated (h0 + 1) kept job cost
     had_on false Stay owed owed' credit first stated h0 kept job cost le h = omega (arith, le, h)
     had_on false (Execute l) owed owed' credit first stated h0 kept job cost le h = omega (arith, le, h)
     had_on false Memory owed owed' credit first stated h0 kept job cost le h = omega (arith, le, h)
@@ -210,7 +213,8 @@ module _ (plant : Plant) (tasks : ℕ) (runs : ℕ → TaskRun) (scripts : ℕ �
     had_on true Job owed owed' credit first stated h0 kept job cost le h = tt
 
     -- it pays
-    pays : (k : ℕ) (i : Interval) (mark : Change) (debt debt' : Debt) → now + 1 + owed_of debt' ≤ now + owed_of debt → Booked now had at orders sched (Running k) i mark debt → Booked (now + 1) (more (Some k) had) at orders sched (Running k) i mark debt'
+    pays : (k : ℕ) (i : Interval) (mark : Change) (debt debt' : Debt) → now + 1 + owed_of debt' ≤ now + owed_of debt →
+        Booked now had at orders sched (Running k) i mark debt → Booked (now + 1) (more (Some k) had) at orders sched (Running k) i mark debt'
     pays k i mark debt debt' le h = record {
       current = record {
         since = later x s tasks now sched k h.current.since;
@@ -227,7 +231,9 @@ module _ (plant : Plant) (tasks : ℕ) (runs : ℕ → TaskRun) (scripts : ℕ �
     }
 
     -- it waits for its end
-    waits_on : (b : Bool) (i : Interval) (mark : Change) (owed credit first stated h0 kept job cost : ℕ) → Closes mark → (b ≡ false → mark ≡ End → ⊥) → ends_before now i mark ≡ false → HasHad b mark now owed credit first stated h0 kept job cost → HasHad b mark (now + 1) owed credit first stated (h0 + 1) kept job cost
+    waits_on : (b : Bool) (i : Interval) (mark : Change) (owed credit first stated h0 kept job cost : ℕ) → Closes mark →
+        (b ≡ false → mark ≡ End → ⊥) → ends_before now i mark ≡ false → HasHad b mark now owed credit first stated h0 kept job cost →
+        HasHad b mark (now + 1) owed credit first stated (h0 + 1) kept job cost
     waits_on b i Stay owed credit first stated h0 kept job cost y no_end e h = absurd y
     waits_on b i (Execute l) owed credit first stated h0 kept job cost y no_end e h = absurd y
     waits_on b i Memory owed credit first stated h0 kept job cost y no_end e h = absurd (let z : true ≡ false = e in cc)
@@ -235,14 +241,17 @@ module _ (plant : Plant) (tasks : ℕ) (runs : ℕ → TaskRun) (scripts : ℕ �
     waits_on false i End owed credit first stated h0 kept job cost y no_end e h = absurd (no_end refl refl)
     waits_on true i End owed credit first stated h0 kept job cost y no_end e h = omega (arith, h)
 
-    waits_stretch : (i : Interval) (mark : Change) (owed credit first stretch longest : ℕ) → Closes mark → (mark ≡ End → ⊥) → ends_before now i mark ≡ false → InStretch mark (now + 1) owed credit first stretch longest
+    waits_stretch : (i : Interval) (mark : Change) (owed credit first stretch longest : ℕ) → Closes mark → (mark ≡ End → ⊥) →
+        ends_before now i mark ≡ false → InStretch mark (now + 1) owed credit first stretch longest
     waits_stretch i Stay owed credit first stretch longest y no_end e = absurd y
     waits_stretch i (Execute l) owed credit first stretch longest y no_end e = absurd y
     waits_stretch i Memory owed credit first stretch longest y no_end e = absurd (let z : true ≡ false = e in cc)
     waits_stretch i Job owed credit first stretch longest y no_end e = absurd (let z : true ≡ false = e in cc)
     waits_stretch i End owed credit first stretch longest y no_end e = tt
 
-    waited : (k : ℕ) (i : Interval) (mark : Change) (debt : Debt) → Closes mark → (i.predictable ≡ false → mark ≡ End → ⊥) → ends_before now i mark ≡ false → Booked now had at orders sched (Running k) i mark debt → Booked (now + 1) (more (Some k) had) at orders sched (Running k) i mark debt
+    waited : (k : ℕ) (i : Interval) (mark : Change) (debt : Debt) → Closes mark → (i.predictable ≡ false → mark ≡ End → ⊥) →
+        ends_before now i mark ≡ false → Booked now had at orders sched (Running k) i mark debt →
+        Booked (now + 1) (more (Some k) had) at orders sched (Running k) i mark debt
     waited k i mark debt y no_end over h = record {
       current = record {
         since = later x s tasks now sched k h.current.since;
@@ -259,7 +268,8 @@ module _ (plant : Plant) (tasks : ℕ) (runs : ℕ → TaskRun) (scripts : ℕ �
     }
 
     -- it goes on
-    goes_had : (b : Bool) (mark : Change) (owed credit first stated h0 kept job cost : ℕ) → Continues mark → HasHad b mark now owed credit first stated h0 kept job cost → MayHave b now credit first h0 kept job
+    goes_had : (b : Bool) (mark : Change) (owed credit first stated h0 kept job cost : ℕ) → Continues mark →
+        HasHad b mark now owed credit first stated h0 kept job cost → MayHave b now credit first h0 kept job
     goes_had false Stay owed credit first stated h0 kept job cost g h = omega (arith, h)
     goes_had false (Execute l) owed credit first stated h0 kept job cost g h = omega (arith, h)
     goes_had true Stay owed credit first stated h0 kept job cost g h = h
@@ -292,7 +302,9 @@ module _ (plant : Plant) (tasks : ℕ) (runs : ℕ → TaskRun) (scripts : ℕ �
     begins_had false h0 kept job h = omega (arith, h)
     begins_had true h0 kept job h = omega (arith, h)
 
-    begun : (k : ℕ) (phase : Phase) (c : Since x s tasks (now + 1) sched k) → now ≤ c.chosen + plant.switch → had k + kept_at at k ≤ plant.switch + job_at at k → AreHeld had at (Running k) → AreFresh at Point → MayRun now had at orders sched k (new_interval now phase)
+    begun : (k : ℕ) (phase : Phase) (c : Since x s tasks (now + 1) sched k) → now ≤ c.chosen + plant.switch →
+        had k + kept_at at k ≤ plant.switch + job_at at k → AreHeld had at (Running k) → AreFresh at Point →
+        MayRun now had at orders sched k (new_interval now phase)
     begun k phase c le h held fresh = record {
       since = c;
       lasts = le;
@@ -315,14 +327,19 @@ module _ (plant : Plant) (tasks : ℕ) (runs : ℕ → TaskRun) (scripts : ℕ �
     BookedIn m c = Booked now had at orders sched m c.interval c.mark c.debt
 
     -- while a task runs
-    run_on : (k : ℕ) (c : CoreState) (debt : Debt) → c.mode ≡ Running k → now + 1 + owed_of debt ≤ now + owed_of c.debt → BookedIn c.mode c → Booked (now + 1) (more (serves_in now sched c.mode) had) at orders sched c.mode c.interval c.mark debt
+    run_on : (k : ℕ) (c : CoreState) (debt : Debt) → c.mode ≡ Running k → now + 1 + owed_of debt ≤ now + owed_of c.debt → BookedIn c.mode c →
+        Booked (now + 1) (more (serves_in now sched c.mode) had) at orders sched c.mode c.interval c.mark debt
     run_on k c debt e le h =
         subst (λ m. BookedIn m c → Booked (now + 1) (more (serves_in now sched m) had) at orders sched m c.interval c.mark debt) (sym e) (λ t. pays k c.interval c.mark c.debt debt le t) h
 
     serves_run : (k : ℕ) → choice now sched ≡ Run k → (m : Mode) → m ≡ Point → serves_in now sched m ≡ Some k
     serves_run k e m f = ap (serves_in now sched) f ∙ ap chosen_task e
 
-    pub moves_booked : (p : Setup) (bus : Bool) (w : Work) (c : CoreState) (m : CoreMove) → p.plant.switch ≡ plant.switch → MoveCase p now bus sched w c m → ArePositive c.debt.transactions → (wants (want_of c.debt) ≡ true → bus ≡ true) → ((k : ℕ) → c.mode ≡ Running k → (is_paid c.debt && ends_before now c.interval c.mark) ≡ false) → ((k : ℕ) → c.mode ≡ Running k → c.interval.predictable ≡ false → c.mark ≡ End → ⊥) → (c.mode ≡ Point → choice now sched ≡ Finished → ⊥) → Reads x s tasks now sched → BookedIn c.mode c → BookMove now (serves_in now sched c.mode) had at orders sched m
+    pub moves_booked : (p : Setup) (bus : Bool) (w : Work) (c : CoreState) (m : CoreMove) → p.plant.switch ≡ plant.switch →
+        MoveCase p now bus sched w c m → ArePositive c.debt.transactions → (wants (want_of c.debt) ≡ true → bus ≡ true) →
+        ((k : ℕ) → c.mode ≡ Running k → (is_paid c.debt && ends_before now c.interval c.mark) ≡ false) →
+        ((k : ℕ) → c.mode ≡ Running k → c.interval.predictable ≡ false → c.mark ≡ End → ⊥) → (c.mode ≡ Point → choice now sched ≡ Finished → ⊥) →
+        Reads x s tasks now sched → BookedIn c.mode c → BookMove now (serves_in now sched c.mode) had at orders sched m
     moves_booked p bus w c _ sw (pays_on_bus q h) pos serves on no_end unfinished reads r =
         let y : PaysOne c.debt (paid_on_bus c.debt.transactions c.debt) = pays_one c.debt pos q in
         let k : (k : ℕ) × (c.mode ≡ Running k) = owes_running c.mode c.interval c.mark c.debt r.current q in
@@ -384,7 +401,12 @@ module _ (plant : Plant) (tasks : ℕ) (runs : ℕ → TaskRun) (scripts : ℕ �
     moves_booked p bus w c _ sw (begins_idle until q e h) pos serves on no_end unfinished reads r =
         let t : BookedIn Point c = subst (λ m. BookedIn m c) e r in
         subst (λ o. Booked (now + 1) (more o had) at orders sched (Idle until) c.interval c.mark c.debt) (sym (ap (serves_in now sched) e ∙ ap chosen_task h))
-        (record { current = (idle_none now sched until reads.periods h, t.current); held = held_idle Point (Idle until) (λ j y. y) t.held; fresh = fresh_on Point (Idle until) (λ j _. point_runs j) t.fresh })
+        (record {
+          current = (idle_none now sched until reads.periods h, t.current);
+          held = held_idle Point (Idle until) (λ j y. y) t.held;
+          fresh =
+              fresh_on Point (Idle until) (λ j _. point_runs j) t.fresh;
+        })
     moves_booked p bus w c _ sw (has_finished q e h) pos serves on no_end unfinished reads r = absurd (unfinished e h)
     moves_booked p bus w c _ sw (idles until q e) pos serves on no_end unfinished reads r =
         subst (λ m. BookedIn m c → Booked (now + 1) (more (serves_in now sched m) had) at orders sched m c.interval c.mark c.debt) (sym e)
@@ -392,8 +414,12 @@ module _ (plant : Plant) (tasks : ℕ) (runs : ℕ → TaskRun) (scripts : ℕ �
 
     -- ---- an instruction
 
-    issued_had : (ph : Phase) (c : Change) (d : Did) (i : Interval) (owed credit spare charge h0 job cost stated next stated' : ℕ) → IsLawful ph c → d.change ≡ c → (ph ≡ Execution → i.stated ≡ stated) → (ph ≡ Compatible → owed + 1 + spare ≤ credit + charge) → job + did_charge plant next ph c charge ≤ cost → (c ≡ Memory → stated' ≡ next) → (begins_call c ≡ 0 → stated' ≡ stated) →
-        MayHave (is_predictable ph) now credit i.first h0 (kept_by plant.switch ph stated) job → HasHad (is_predictable ph) c (now + 1) owed spare i.first (with_stated c i).stated (h0 + 1) (kept_by plant.switch (phase_after c ph) stated') (within_job c (job + did_charge plant next ph c charge)) cost
+    issued_had : (ph : Phase) (c : Change) (d : Did) (i : Interval) (owed credit spare charge h0 job cost stated next stated' : ℕ) → IsLawful ph c →
+        d.change ≡ c → (ph ≡ Execution → i.stated ≡ stated) → (ph ≡ Compatible → owed + 1 + spare ≤ credit + charge) →
+        job + did_charge plant next ph c charge ≤ cost → (c ≡ Memory → stated' ≡ next) → (begins_call c ≡ 0 → stated' ≡ stated) →
+        MayHave (is_predictable ph) now credit i.first h0 (kept_by plant.switch ph stated) job →
+        HasHad (is_predictable ph) c (now + 1) owed spare i.first (with_stated c i).stated (h0 + 1)
+        (kept_by plant.switch (phase_after c ph) stated') (within_job c (job + did_charge plant next ph c charge)) cost
     issued_had Compatible Stay d i owed credit spare charge h0 job cost stated next stated' l ch st pay most km ks h =
         omega (arith, pay refl, h)
     issued_had Compatible Memory d i owed credit spare charge h0 job cost stated next stated' l ch st pay most km ks h =
@@ -413,7 +439,9 @@ module _ (plant : Plant) (tasks : ℕ) (runs : ℕ → TaskRun) (scripts : ℕ �
     issued_had Execution Memory d i owed credit spare charge h0 job cost stated next stated' l ch st pay most km ks h = absurd (let y : Execution ≡ Compatible = l in cc)
     issued_had Execution Job d i owed credit spare charge h0 job cost stated next stated' l ch st pay most km ks h = absurd (let y : Execution ≡ Compatible = l in cc)
 
-    issued_stretch : (ph : Phase) (c : Change) (d : Did) (owed credit spare charge first stretch longest : ℕ) → is_predictable ph ≡ false → IsLawful ph c → (ph ≡ Compatible → owed + 1 + spare ≤ credit + charge) → (ph ≡ Compatible → plant.switch + stretch + charge ≤ longest) → now + credit ≤ first + stretch → InStretch c (now + 1) owed spare first (within_stretch c (stretch + own_charge ph charge)) longest
+    issued_stretch : (ph : Phase) (c : Change) (d : Did) (owed credit spare charge first stretch longest : ℕ) → is_predictable ph ≡ false →
+        IsLawful ph c → (ph ≡ Compatible → owed + 1 + spare ≤ credit + charge) → (ph ≡ Compatible → plant.switch + stretch + charge ≤ longest) →
+        now + credit ≤ first + stretch → InStretch c (now + 1) owed spare first (within_stretch c (stretch + own_charge ph charge)) longest
     issued_stretch MemoryPhase c d owed credit spare charge first stretch longest none l pay most h = absurd (let y : true ≡ false = none in cc)
     issued_stretch Execution c d owed credit spare charge first stretch longest none l pay most h = absurd (let y : true ≡ false = none in cc)
     issued_stretch Compatible Stay d owed credit spare charge first stretch longest none l pay most h = omega (arith, pay refl, h)
@@ -454,7 +482,11 @@ module _ (plant : Plant) (tasks : ℕ) (runs : ℕ → TaskRun) (scripts : ℕ �
     scope_next k d e =
         ap (scope_by (runs k) (scopings k)) (bump_same k at) ∙ scope_by-next (runs k) (scopings k) (at k) ∙ ap (λ o. scope_with o (lines_at (runs k) (scopings k) (at k))) e
 
-    pub book_issues : (orders' : List (List ℕ)) (k : ℕ) (i : Interval) (d : Did) (debt : Debt) → k < tasks → plain_did (runs k) (plain_run (runs k) (at k)) ≡ Some d → MayIssue order plant tasks runs scripts at orders k i → IsCharged plant (runs k) (scripts k) (charges_by plant (runs k) (scopings k)) (x.cost k) (x.longest k) → (h : MayRun now had at orders sched k i) → Paid orders' k d (owed_of debt) h.credit (charges_by plant (runs k) (scopings k) (at k) d) → Booked (now + 1) (more (Some k) had) (bump k at) orders' sched (Running k) (with_stated d.change i) d.change debt
+    pub book_issues : (orders' : List (List ℕ)) (k : ℕ) (i : Interval) (d : Did) (debt : Debt) → k < tasks →
+        plain_did (runs k) (plain_run (runs k) (at k)) ≡ Some d → MayIssue order plant tasks runs scripts at orders k i →
+        IsCharged plant (runs k) (scripts k) (charges_by plant (runs k) (scopings k)) (x.cost k) (x.longest k) →
+        (h : MayRun now had at orders sched k i) → Paid orders' k d (owed_of debt) h.credit (charges_by plant (runs k) (scopings k) (at k) d) →
+        Booked (now + 1) (more (Some k) had) (bump k at) orders' sched (Running k) (with_stated d.change i) d.change debt
     book_issues orders' k i d debt lt e may charged h paid =
         let b : Begun = begun_at runs at k in
         let sc : Script = scripts k in
@@ -465,7 +497,8 @@ module _ (plant : Plant) (tasks : ℕ) (runs : ℕ → TaskRun) (scripts : ℕ �
         let ex : Executed (runs k) (plain_run (runs k) (at k)) d = executed (runs k) (plain_run (runs k) (at k)) d e in
         let same : d.phase ≡ ph = ap (λ (f : Did). f.phase) ex.did_is in
         let l : IsLawful ph c = did_lawful (runs k) (plain_run (runs k) (at k)) d ex in
-        let next : phase_at runs (bump k at) k ≡ phase_after c ph = ap (λ q. q.task.phase) (bump_run order plant tasks runs scripts at orders k) ∙ next_phase (runs k) (plain_run (runs k) (at k)) d ex in
+        let next : phase_at runs (bump k at) k ≡ phase_after c ph = ap (λ q. q.task.phase) (bump_run order plant tasks runs scripts at orders k)
+        ∙ next_phase (runs k) (plain_run (runs k) (at k)) d ex in
         let after : begun_at runs (bump k at) k ≡ begun_after c d b = bump_begun order plant tasks runs scripts at orders k d e in
         let calls : (begun_at runs (bump k at) k).calls ≡ b.calls + begins_call c = ap (λ (y : Begun). y.calls) after ∙ calls_after c d b in
         let following : ℕ = (call_at sc b.calls).stated in
@@ -485,12 +518,15 @@ module _ (plant : Plant) (tasks : ℕ) (runs : ℕ → TaskRun) (scripts : ℕ �
             over = λ y. scope_next k d e ∙ over_scope c (lines_at (runs k) (scopings k) (at k)) y;
             pace = λ none.
                 subst (λ m. InStretch c (now + 1) owed paid.spare i.first m (x.longest k)) (sym stretch)
-                (issued_stretch ph c d owed h.credit paid.spare n i.first (stretch_at at k) (x.longest k) (may.goes.kind ∙ none) l (λ y. paid.pays (same ∙ y)) (λ y. charged.stretches (at k) d e (same ∙ y)) (h.pace none));
+                (issued_stretch ph c d owed h.credit paid.spare n i.first (stretch_at at k) (x.longest k) (may.goes.kind ∙ none) l
+                (λ y. paid.pays (same ∙ y)) (λ y. charged.stretches (at k) d e (same ∙ y)) (h.pace none));
             has_had =
                 subst (λ q. HasHad q c (now + 1) owed paid.spare i.first (with_stated c i).stated (more (Some k) had k) (kept_at (bump k at) k) (job_at (bump k at) k) (x.cost k)) may.goes.kind
-                (subst (λ m. HasHad (is_predictable ph) c (now + 1) owed paid.spare i.first (with_stated c i).stated m (kept_at (bump k at) k) (job_at (bump k at) k) (x.cost k)) (sym (more_same k had))
+                (subst (λ m. HasHad (is_predictable ph) c (now + 1) owed paid.spare i.first (with_stated c i).stated m (kept_at (bump k at) k)
+                (job_at (bump k at) k) (x.cost k)) (sym (more_same k had))
                 (subst (λ m. HasHad (is_predictable ph) c (now + 1) owed paid.spare i.first (with_stated c i).stated (had k + 1) (kept_at (bump k at) k) m (x.cost k)) (sym job)
-                (subst (λ q. HasHad (is_predictable ph) c (now + 1) owed paid.spare i.first (with_stated c i).stated (had k + 1) (kept_by plant.switch q (stated_at (bump k at) k)) (within_job c (job_at at k + did_charge plant following ph c n)) (x.cost k)) (sym next)
+                (subst (λ q. HasHad (is_predictable ph) c (now + 1) owed paid.spare i.first (with_stated c i).stated (had k + 1)
+                (kept_by plant.switch q (stated_at (bump k at) k)) (within_job c (job_at at k + did_charge plant following ph c n)) (x.cost k)) (sym next)
                 (issued_had ph c d i owed h.credit paid.spare n (had k) (job_at at k) (x.cost k) (stated_at at k) following (stated_at (bump k at) k) l refl may.goes.opened (λ y. paid.pays (same ∙ y))
                 (subst (λ q. job_at at k + did_charge plant following q c n ≤ x.cost k) same (charged.jobs (at k) d e))
                 (λ m. next_call sc b (begun_at runs (bump k at) k) (calls ∙ ap (λ v. b.calls + v) (one_call c m)))
@@ -499,7 +535,8 @@ module _ (plant : Plant) (tasks : ℕ) (runs : ℕ → TaskRun) (scripts : ℕ �
           };
           held = λ j lj out.
               let y : had j + kept_at at j ≤ job_at at j = h.held j lj out in
-              let a : kept_at (bump k at) j ≡ kept_at at j = ap (λ m. kept_by plant.switch (plain_run (runs j) m).task.phase (call_of (scripts j) (begun_by (runs j) m)).stated) (bump_other k j at out) in
+              let a : kept_at (bump k at) j ≡ kept_at at j =
+              ap (λ m. kept_by plant.switch (plain_run (runs j) m).task.phase (call_of (scripts j) (begun_by (runs j) m)).stated) (bump_other k j at out) in
               let z : job_at (bump k at) j ≡ job_at at j = ap (job_charged plant (scripts j) (runs j) (charges_by plant (runs j) (scopings j))) (bump_other k j at out) in
               omega (arith, y, a, z, more_other k j had out);
           fresh = λ j lj out.
@@ -509,7 +546,10 @@ module _ (plant : Plant) (tasks : ℕ) (runs : ℕ → TaskRun) (scripts : ℕ �
 
     -- ---- what is over
 
-    own_ends : (b : Bool) (mark : Change) (owed credit h0 job cost stated : ℕ) (i : Interval) (phase : Phase) (ds : List Did) → i.predictable ≡ b → ends_before now i mark ≡ true → Issued mark phase stated ds i → (b ≡ true → mark ≡ End → now ≤ i.first + i.stated) → HasHad b mark now owed credit i.first i.stated h0 (kept_by plant.switch phase stated) job cost → left_of mark h0 + kept_by plant.switch phase stated ≤ job
+    own_ends : (b : Bool) (mark : Change) (owed credit h0 job cost stated : ℕ) (i : Interval) (phase : Phase) (ds : List Did) → i.predictable ≡ b →
+        ends_before now i mark ≡ true → Issued mark phase stated ds i → (b ≡ true → mark ≡ End → now ≤ i.first + i.stated) →
+        HasHad b mark now owed credit i.first i.stated h0 (kept_by plant.switch phase stated) job cost →
+        left_of mark h0 + kept_by plant.switch phase stated ≤ job
     own_ends b Stay owed credit h0 job cost stated i phase ds pred e y late h = absurd (let z : false ≡ true = e in cc)
     own_ends b (Execute t) owed credit h0 job cost stated i phase ds pred e y late h = absurd (let z : false ≡ true = e in cc)
     own_ends false Memory owed credit h0 job cost stated i phase ds pred e y late h = omega (arith, h)
@@ -526,14 +566,18 @@ module _ (plant : Plant) (tasks : ℕ) (runs : ℕ → TaskRun) (scripts : ℕ �
     closes_then i End e = tt
     closes_then i Job e = tt
 
-    pub book_ends : (k : ℕ) (i : Interval) (mark : Change) (debt : Debt) (sched' : List TaskJobs) → is_paid debt ≡ true → ends_before now i mark ≡ true → Issued mark (phase_at runs at k) (stated_at at k) (begun_at runs at k).steps i → (i.predictable ≡ true → mark ≡ End → now ≤ i.first + i.stated) → Booked now had at orders sched (Running k) i mark debt → Booked now (left_after mark k had) at orders sched' Point i mark debt
+    pub book_ends : (k : ℕ) (i : Interval) (mark : Change) (debt : Debt) (sched' : List TaskJobs) → is_paid debt ≡ true →
+        ends_before now i mark ≡ true → Issued mark (phase_at runs at k) (stated_at at k) (begun_at runs at k).steps i →
+        (i.predictable ≡ true → mark ≡ End → now ≤ i.first + i.stated) → Booked now had at orders sched (Running k) i mark debt →
+        Booked now (left_after mark k had) at orders sched' Point i mark debt
     book_ends k i mark debt sched' paid e y late h = record {
       current = paid_none debt paid;
       held = λ j lj out.
           ⊎_elim (λ (same : j ≡ k).
           subst (λ n. left_after mark k had n + kept_at at n ≤ job_at at n) (sym same)
           (let z : left_of mark (had k) + kept_at at k ≤ job_at at k =
-          own_ends i.predictable mark (owed_of debt) h.current.credit (had k) (job_at at k) (x.cost k) (stated_at at k) i (phase_at runs at k) (begun_at runs at k).steps refl e y late h.current.has_had in
+          own_ends i.predictable mark (owed_of debt) h.current.credit (had k) (job_at at k) (x.cost k) (stated_at at k) i (phase_at runs at k)
+          (begun_at runs at k).steps refl e y late h.current.has_had in
           omega (arith, z, left_same mark k had)))
           (λ (ne : j ≡ k → ⊥). let z : had j + kept_at at j ≤ job_at at j = h.held j lj ne in omega (arith, z, left_other mark k j had ne))
           (cases_eq j k);
@@ -543,5 +587,6 @@ module _ (plant : Plant) (tasks : ℕ) (runs : ℕ → TaskRun) (scripts : ℕ �
           (cases_eq j k);
     }
 
-    pub book_rests : (until : ℕ) (i : Interval) (mark : Change) (debt : Debt) (sched' : List TaskJobs) → Booked now had at orders sched (Idle until) i mark debt → Booked now had at orders sched' Point i mark debt
+    pub book_rests : (until : ℕ) (i : Interval) (mark : Change) (debt : Debt) (sched' : List TaskJobs) →
+        Booked now had at orders sched (Idle until) i mark debt → Booked now had at orders sched' Point i mark debt
     book_rests until i mark debt sched' h = record { current = h.current.1; held = h.held; fresh = λ j lj out. h.fresh j lj (idle_runs until j) }

@@ -15,7 +15,8 @@ first_by now sched k (Some j) l f e = let x : Run j ≡ Run k = e in let same : 
 first_by now sched k None None f e = absurd (let x : Finished ≡ Run k = e in cc)
 first_by now sched k None (Some u) f e = absurd (let x : Rest u ≡ Run k = e in cc)
 
-rest_by : (now : ℕ) (sched : List TaskJobs) (until : ℕ) (o l : Option ℕ) → first_ready now 0 sched ≡ o → least_release now sched ≡ l → run_or o (rest l) ≡ Rest until → (first_ready now 0 sched ≡ None) × (least_release now sched ≡ Some until)
+rest_by : (now : ℕ) (sched : List TaskJobs) (until : ℕ) (o l : Option ℕ) → first_ready now 0 sched ≡ o → least_release now sched ≡ l →
+    run_or o (rest l) ≡ Rest until → (first_ready now 0 sched ≡ None) × (least_release now sched ≡ Some until)
 rest_by now sched until (Some k) l f m e = absurd (let x : Run k ≡ Rest until = e in cc)
 rest_by now sched until None None f m e = absurd (let x : Finished ≡ Rest until = e in cc)
 rest_by now sched until None (Some u) f m e = let x : Rest u ≡ Rest until = e in let same : u ≡ until = cc in (f, m ∙ ap Some same)
@@ -48,11 +49,14 @@ pub record Reads (x : Tasks) (s : Schedule) (tasks now : ℕ) (sched : List Task
   pub released : (j v : ℕ) → j < tasks → released_at (task_at sched j) v ≡ released x j v
   pub periods : All (λ (t : TaskJobs). 1 ≤ t.period) sched
 
-pub ready_then : (x : Tasks) (s : Schedule) (tasks now v : ℕ) (sched : List TaskJobs) (j : ℕ) → Reads x s tasks now sched → j < tasks → (task_at sched j).ended < released x j v → is_ready v (task_at sched j) ≡ true
+pub ready_then : (x : Tasks) (s : Schedule) (tasks now v : ℕ) (sched : List TaskJobs) (j : ℕ) → Reads x s tasks now sched → j < tasks →
+    (task_at sched j).ended < released x j v → is_ready v (task_at sched j) ≡ true
 ready_then x s tasks now v sched j r lt h = lt-ltb (task_at sched j).ended (released_at (task_at sched j) v) (omega (arith, h, r.released j v lt))
 
-pub then_ready : (x : Tasks) (s : Schedule) (tasks now v : ℕ) (sched : List TaskJobs) (j : ℕ) → Reads x s tasks now sched → j < tasks → is_ready v (task_at sched j) ≡ true → (task_at sched j).ended < released x j v
-then_ready x s tasks now v sched j r lt h = let y : (task_at sched j).ended < released_at (task_at sched j) v = ltb-true (task_at sched j).ended (released_at (task_at sched j) v) h in omega (arith, y, r.released j v lt)
+pub then_ready : (x : Tasks) (s : Schedule) (tasks now v : ℕ) (sched : List TaskJobs) (j : ℕ) → Reads x s tasks now sched → j < tasks →
+    is_ready v (task_at sched j) ≡ true → (task_at sched j).ended < released x j v
+then_ready x s tasks now v sched j r lt h = let y : (task_at sched j).ended < released_at (task_at sched j) v =
+    ltb-true (task_at sched j).ended (released_at (task_at sched j) v) h in omega (arith, y, r.released j v lt)
 
 -- a task was chosen before this cycle, as the first ready one, and no job has ended since
 pub record Since (x : Tasks) (s : Schedule) (tasks now : ℕ) (sched : List TaskJobs) (k : ℕ) : Type 0 where
@@ -66,7 +70,8 @@ pub record Since (x : Tasks) (s : Schedule) (tasks now : ℕ) (sched : List Task
 abbrev pub later : (x : Tasks) (s : Schedule) (tasks now : ℕ) (sched : List TaskJobs) (k : ℕ) → Since x s tasks now sched k → Since x s tasks (now + 1) sched k
 later x s tasks now sched k h = record { there = h.there; chosen = h.chosen; before = omega (arith, h.before); ready = h.ready; first = h.first; same = h.same }
 
-abbrev chosen_at : (x : Tasks) (s : Schedule) (tasks now : ℕ) (sched : List TaskJobs) (k : ℕ) → Reads x s tasks now sched → (f : FirstReady now 0 sched k) → f.place ≡ k → Since x s tasks (now + 1) sched k
+abbrev chosen_at : (x : Tasks) (s : Schedule) (tasks now : ℕ) (sched : List TaskJobs) (k : ℕ) → Reads x s tasks now sched →
+    (f : FirstReady now 0 sched k) → f.place ≡ k → Since x s tasks (now + 1) sched k
 chosen_at x s tasks now sched k r f e =
     let lt : k < tasks = omega (arith, f.ready.0, e, r.count) in
     let ready : is_ready now (task_at sched k) ≡ true = subst (λ n. is_ready now (task_at sched n) ≡ true) e f.ready.1 in

@@ -1,6 +1,7 @@
 -- A run of tasks that keep to their scripts is a schedule that serves no task more than is due.
 use Rattle.std.specs.Prelude.{All, is_some, ◌&&◌}
-use Rattle.std.proofs.Common.{◌≡◌, ℕ, zero, suc, ◌+◌, ◌-◌, ◌*◌, ◌/◌, ◌<◌, ◌≤◌, min, refl, ap, ◌∙◌, sym, subst, arith, cond, eqb, true, false, Bool, Some, None, Option, List, length, ◌⊎◌, inl, inr, ⊎_elim}
+use Rattle.std.proofs.Common.{◌≡◌, ℕ, zero, suc, ◌+◌, ◌-◌, ◌*◌, ◌/◌, ◌<◌, ◌≤◌, min, refl, ap, ◌∙◌, sym, subst, arith, cond, eqb, true, false, Bool, Some, None, Option, List}
+use Rattle.std.proofs.Common.{length, ◌⊎◌, inl, inr, ⊎_elim}
 use Rattle.std.proofs.lemmas.Bool.{and_parts, cases_Bool, cases_eq, eq-eqb, eqb-true, ne_eqb}
 use Rattle.std.proofs.lemmas.List.{get_or_default}
 use Rattle.std.proofs.lemmas.List.Elements.{All-nil}
@@ -59,8 +60,12 @@ use Rattle.prem_resp.proofs.DeadlineLemmas.Choosing.{Reads, Since, chooses_since
 use Rattle.prem_resp.proofs.DeadlineLemmas.Accounts.{more, kept_at, job_at, stretch_at, InStretch, HasHad, InRun, InSwitch, Booked}
 use Rattle.prem_resp.proofs.DeadlineLemmas.BookedRuns.{tasks, timeline, at, had, start, some_period, CountsJob, Settled, cycle_booked}
 
-module _ (rule : ReplacementRule) (order : OrderRule) (passes : ℕ → ℕ) (p : Setup) (content : List ℕ) (inputs : List (List ℕ)) (requests : List Request) (own : ℕ → ℕ → Bool) (runs : ℕ → TaskRun) (scripts : ℕ → Script) (policy : IsPolicy rule order passes) (keep : KeepScripts p passes runs scripts) (q : IsRunnable p content requests) (o : AreOwn p content inputs own runs) (periods : All (λ (r : TaskRecord). 1 ≤ r.period) p.tasks) (scopings : ℕ → Scoping) (loads : List Load) (are : AreLoads p runs scripts scopings loads)
-    (outs : sum_below (length p.tasks) (λ k. length (plain_run (runs k) (scripts k).count).task.outputs) < log_size) (ints : sum_below (length p.tasks) (λ k. interval_count (runs k) (scripts k)) < log_size) where
+module _ (rule : ReplacementRule) (order : OrderRule) (passes : ℕ → ℕ) (p : Setup) (content : List ℕ) (inputs : List (List ℕ))
+    (requests : List Request) (own : ℕ → ℕ → Bool) (runs : ℕ → TaskRun) (scripts : ℕ → Script) (policy : IsPolicy rule order passes)
+    (keep : KeepScripts p passes runs scripts) (q : IsRunnable p content requests) (o : AreOwn p content inputs own runs)
+    (periods : All (λ (r : TaskRecord). 1 ≤ r.period) p.tasks) (scopings : ℕ → Scoping) (loads : List Load) (are : AreLoads p runs scripts scopings loads)
+    (outs : sum_below (length p.tasks) (λ k. length (plain_run (runs k) (scripts k).count).task.outputs) < log_size)
+    (ints : sum_below (length p.tasks) (λ k. interval_count (runs k) (scripts k)) < log_size) where
   abbrev all_tasks : Tasks
   all_tasks = tasks rule order passes p content inputs requests own runs scripts policy keep q o periods scopings loads are
 
@@ -150,14 +155,20 @@ module _ (rule : ReplacementRule) (order : OrderRule) (passes : ℕ → ℕ) (p 
   unfolding cycles_of
   over_stays n e = ap (λ b. cond b (states n) (cycle_of rule p requests (states n))) e
 
-  next_settled : (n : ℕ) → Through n → is_over (states n) ≡ false → Settled rule order passes p content inputs requests own runs scripts policy keep q o periods scopings loads are (more (line.serves n) (had_by n)) (states n).sched (issued (suc n)) ((states n).now + 1) (states (suc n))
+  next_settled : (n : ℕ) → Through n → is_over (states n) ≡ false →
+      Settled rule order passes p content inputs requests own runs scripts policy keep q o periods scopings loads are
+      (more (line.serves n) (had_by n)) (states n).sched (issued (suc n)) ((states n).now + 1) (states (suc n))
   unfolding cycles_of steps_of
   next_settled n t on =
       let s : MachineState = states n in
       let xs : List CycleStep = steps_of rule p requests n (start rule order passes p content inputs requests own runs scripts policy keep q o periods scopings loads are) in
       let none : Option CycleStep = None in
-      subst (λ b. Settled rule order passes p content inputs requests own runs scripts policy keep q o periods scopings loads are (more (serves_in s.now s.sched s.core.mode) (had_by n)) s.sched (λ k. count_of k (with_last (cond b none (step_with rule p (bus_at (arrivals_at requests s).gates s) s)) xs)) (s.now + 1) (cond b s (cycle_of rule p requests s))) (sym on)
-      (cycle_booked rule order passes p content inputs requests own runs scripts policy keep q o periods scopings loads are s xs (had_by n) (first_no (is_finished s) (is_some s.trapped) (is_full s) on) (knows n)
+      subst (λ b. Settled rule order passes p content inputs requests own runs scripts policy keep q o periods scopings loads are
+      (more (serves_in s.now s.sched s.core.mode) (had_by n)) s.sched
+      (λ k. count_of k (with_last (cond b none (step_with rule p (bus_at (arrivals_at requests s).gates s) s)) xs)) (s.now + 1)
+      (cond b s (cycle_of rule p requests s))) (sym on)
+      (cycle_booked rule order passes p content inputs requests own runs scripts policy keep q o periods scopings loads are s xs (had_by n)
+      (first_no (is_finished s) (is_some s.trapped) (is_full s) on) (knows n)
       (run_keeps rule order passes p content inputs requests own runs scripts policy keep q o n) (run_lasts rule order passes p content inputs requests own runs scripts policy keep q o n)
       (reads n on) (t.booked on) t.intervals)
 
@@ -167,7 +178,8 @@ module _ (rule : ReplacementRule) (order : OrderRule) (passes : ℕ → ℕ) (p 
 
   counts_settled : (n j : ℕ) → j < length p.tasks → (on : is_over (states n) ≡ false) → (t : Through n) → Counts n j
   counts_settled n j lt on t =
-      let c : Settled rule order passes p content inputs requests own runs scripts policy keep q o periods scopings loads are (more (line.serves n) (had_by n)) (states n).sched (issued (suc n)) ((states n).now + 1) (states (suc n)) = next_settled n t on in
+      let c : Settled rule order passes p content inputs requests own runs scripts policy keep q o periods scopings loads are
+      (more (line.serves n) (had_by n)) (states n).sched (issued (suc n)) ((states n).now + 1) (states (suc n)) = next_settled n t on in
       let e : (states n).now ≡ n = run_of-now rule p content inputs requests n on in
       let f : (states n).now + 1 ≡ suc n = omega (arith, e) in
       ⊎_elim (λ (same : ((task_at (states (suc n)).sched j).ended ≡ (task_at (states n).sched j).ended) × (c.left j ≡ more (line.serves n) (had_by n) j)). inl same.0)
@@ -199,17 +211,24 @@ module _ (rule : ReplacementRule) (order : OrderRule) (passes : ℕ → ℕ) (p 
       omega (arith, z)
 
   -- what is left of what each job has had
-  had_next : (n j : ℕ) → j < length p.tasks → (t : Through n) → (left : ℕ → ℕ) → CountsJob rule order passes p content inputs requests own runs scripts policy keep q o periods scopings loads are ((states n).now + 1) (states n).sched (states (suc n)).sched (more (line.serves n) (had_by n)) left j → had_by (suc n) j ≡ left j
+  had_next : (n j : ℕ) → j < length p.tasks → (t : Through n) → (left : ℕ → ℕ) →
+      CountsJob rule order passes p content inputs requests own runs scripts policy keep q o periods scopings loads are ((states n).now + 1)
+      (states n).sched (states (suc n)).sched (more (line.serves n) (had_by n)) left j → had_by (suc n) j ≡ left j
   had_next n j lt t left (inl same) =
       let e : line.ended j (suc n) ≡ line.ended j n = same.0 in
-      let z : one_if (is_task j (line.serves n) && (eqb (line.ended j n) (line.ended j n))) ≡ one_if (is_task j (line.serves n)) = and_true (is_task j (line.serves n)) _ (eq-eqb (line.ended j n) (line.ended j n) refl) in
+      let z : one_if (is_task j (line.serves n) && (eqb (line.ended j n) (line.ended j n))) ≡ one_if (is_task j (line.serves n)) =
+      and_true (is_task j (line.serves n)) _ (eq-eqb (line.ended j n) (line.ended j n) refl) in
       ap (λ m. served line j m (suc n)) e ∙ ap (λ m. served line j (line.ended j n) n + m) z ∙ sym same.1
   had_next n j lt t left (inr one) =
       let e : line.ended j (suc n) ≡ line.ended j n + 1 = one.0 in
       ap (λ m. served line j m (suc n)) e ∙ not_served n j (line.ended j n + 1) (λ x. omega (arith, x)) ∙ t.unserved j (line.ended j n + 1) lt (omega arith) ∙ sym one.1
 
   -- the accounts look at the tasks alone
-  current_same : (now : ℕ) (h h' : ℕ → ℕ) (a : ℕ → ℕ) (s : MachineState) (m : Mode) → ((j : ℕ) → j < length p.tasks → h' j ≡ h j) → Booked p.plant (length p.tasks) runs scripts order scopings all_tasks line now h a (lines_in s.work.cache) s.sched m s.core.interval s.core.mark s.core.debt → Booked p.plant (length p.tasks) runs scripts order scopings all_tasks line now h' a (lines_in s.work.cache) s.sched m s.core.interval s.core.mark s.core.debt
+  current_same : (now : ℕ) (h h' : ℕ → ℕ) (a : ℕ → ℕ) (s : MachineState) (m : Mode) → ((j : ℕ) → j < length p.tasks → h' j ≡ h j) →
+      Booked p.plant (length p.tasks) runs scripts order scopings all_tasks line now h a (lines_in s.work.cache)
+      s.sched m s.core.interval s.core.mark s.core.debt →
+      Booked p.plant (length p.tasks) runs scripts order scopings all_tasks line now h' a (lines_in s.work.cache)
+      s.sched m s.core.interval s.core.mark s.core.debt
   current_same now h h' a s Point e b = record { current = b.current; held = λ j lt out. omega (arith, e j lt, b.held j lt out); fresh = b.fresh }
   current_same now h h' a s (Switching k left) e b =
       let i : InSwitch p.plant (length p.tasks) runs scripts order scopings all_tasks line now h a s.sched k left = b.current.0 in
@@ -228,7 +247,10 @@ module _ (rule : ReplacementRule) (order : OrderRule) (passes : ℕ → ℕ) (p 
           backed = i.backed;
           over = i.over;
           pace = i.pace;
-          has_had = subst (λ n. HasHad p.plant (length p.tasks) runs scripts order scopings all_tasks line s.core.interval.predictable s.core.mark now (owed_of s.core.debt) i.credit s.core.interval.first s.core.interval.stated n (kept_at p.plant (length p.tasks) runs scripts order scopings all_tasks line a k) (job_at p.plant (length p.tasks) runs scripts order scopings all_tasks line a k) (all_tasks.cost k)) (sym (e k i.since.there)) i.has_had;
+          has_had = subst (λ n. HasHad p.plant (length p.tasks) runs scripts order scopings all_tasks line s.core.interval.predictable s.core.mark now
+              (owed_of s.core.debt) i.credit s.core.interval.first s.core.interval.stated n
+              (kept_at p.plant (length p.tasks) runs scripts order scopings all_tasks line a k)
+              (job_at p.plant (length p.tasks) runs scripts order scopings all_tasks line a k) (all_tasks.cost k)) (sym (e k i.since.there)) i.has_had;
         };
         held = λ j lt out. omega (arith, e j lt, b.held j lt out);
         fresh = b.fresh;
@@ -239,12 +261,14 @@ module _ (rule : ReplacementRule) (order : OrderRule) (passes : ℕ → ℕ) (p 
   next_booked n t on' =
       ⊎_elim (λ (over : is_over (states n) ≡ true). let x : false ≡ true = sym on' ∙ ap is_over (over_stays n over) ∙ over in absurd cc)
       (λ (on : is_over (states n) ≡ false).
-      let c : Settled rule order passes p content inputs requests own runs scripts policy keep q o periods scopings loads are (more (line.serves n) (had_by n)) (states n).sched (issued (suc n)) ((states n).now + 1) (states (suc n)) = next_settled n t on in
+      let c : Settled rule order passes p content inputs requests own runs scripts policy keep q o periods scopings loads are
+      (more (line.serves n) (had_by n)) (states n).sched (issued (suc n)) ((states n).now + 1) (states (suc n)) = next_settled n t on in
       current_same (states (suc n)).now c.left (had_by (suc n)) (issued (suc n)) (states (suc n)) (states (suc n)).core.mode (λ j lt. had_next n j lt t c.left (c.counts j lt)) c.booked)
       (cases_Bool (is_over (states n)))
 
   counted_next : (n j : ℕ) → j < length p.tasks → line.ended j n ≤ released_before all_tasks j n → Counts n j → line.ended j (suc n) ≤ released_before all_tasks j (suc n)
-  counted_next n j lt was (inl e) = let g : released_before all_tasks j n ≤ released_before all_tasks j (suc n) = released_grows all_tasks j n (suc n) (some j lt) (omega arith) in omega (arith, e, was, g)
+  counted_next n j lt was (inl e) = let g : released_before all_tasks j n ≤ released_before all_tasks j (suc n) =
+      released_grows all_tasks j n (suc n) (some j lt) (omega arith) in omega (arith, e, was, g)
   counted_next n j lt was (inr e) = omega (arith, e.0, e.1)
 
   next_intervals : (n : ℕ) → Through n → All (LastsWithin p.plant loads) (states (suc n)).log.intervals
@@ -280,7 +304,8 @@ module _ (rule : ReplacementRule) (order : OrderRule) (passes : ℕ → ℕ) (p 
   over_ended : (n j : ℕ) → is_over (states n) ≡ true → j < length p.tasks → all_tasks.jobs j ≤ line.ended j n
   over_ended n j over lt =
       let g : Schedules p runs (issued n) (states n).sched (states n).core.mode (states n).core.mark = schedules n in
-      let done : (task_at (states n).sched j).jobs ≤ (task_at (states n).sched j).ended = finished_done (states n).now (states n).sched (over_finishes n over).1 j no_task (omega (arith, lt, g.count)) in
+      let done : (task_at (states n).sched j).jobs ≤ (task_at (states n).sched j).ended =
+      finished_done (states n).now (states n).sched (over_finishes n over).1 j no_task (omega (arith, lt, g.count)) in
       omega (arith, done, g.jobs j lt, (o.runs_are j lt).jobs)
 
   -- ---- who is served
@@ -290,7 +315,8 @@ module _ (rule : ReplacementRule) (order : OrderRule) (passes : ℕ → ℕ) (p 
       let g : released_before all_tasks k (suc a) ≤ released_before all_tasks k (suc b) = released_grows all_tasks k (suc a) (suc b) (some k lt) (omega (arith, le)) in
       omega (arith, g, released_next all_tasks k a (some k lt), released_next all_tasks k b (some k lt))
 
-  from_since : (t k : ℕ) (c : Since all_tasks line (length p.tasks) (states t).now (states t).sched k) → (states t).now ≡ t → (states t).now ≤ c.chosen + all_tasks.longest k → IsServed all_tasks line k t
+  from_since : (t k : ℕ) (c : Since all_tasks line (length p.tasks) (states t).now (states t).sched k) → (states t).now ≡ t →
+      (states t).now ≤ c.chosen + all_tasks.longest k → IsServed all_tasks line k t
   from_since t k c e lasts = record {
     there = omega (arith, c.there, are.count);
     ready = omega (arith, c.ready, c.same k c.there, released_later k c.chosen t c.there (omega (arith, c.before, e)));
@@ -332,11 +358,14 @@ module _ (rule : ReplacementRule) (order : OrderRule) (passes : ℕ → ℕ) (p 
         let sets : length (lines_in (states t).work.cache) ≡ p.plant.sets = sets_are rule order passes p own runs scripts policy keep (states t).work kn.position.stands.kept in
         let is : IsPlant p.plant = kept_plant p (states t).work.cache (states t).work.memory kn.position.stands.kept in
         let pos : 1 ≤ p.plant.sets = is.sets.0 in
-        paced_fits order p.plant (states t).now (owed_of (states t).core.debt) (states t).core.interval.first c (begun_at runs (issued t) k).steps (lines_in (states t).work.cache) policy.once (omega (arith, pos, sets))
+        paced_fits order p.plant (states t).now (owed_of (states t).core.debt) (states t).core.interval.first c (begun_at runs (issued t) k).steps
+        (lines_in (states t).work.cache) policy.once (omega (arith, pos, sets))
         (subst (λ n. HaveRoom n p.plant.ways c.members) (sym sets) ((keep k lt).room _)) (in_script p.plant passes (runs k) (scripts k) (keep k lt) (issued t k)) y.1 y.0
 
     within : (b : Bool) (mark : Change) (credit : ℕ) → (states t).core.interval.predictable ≡ b → IsIn mark →
-        (b ≡ false → InStretch p.plant (length p.tasks) runs scripts order scopings all_tasks line mark (states t).now (owed_of (states t).core.debt) credit (states t).core.interval.first (stretch_at p.plant (length p.tasks) runs scripts order scopings all_tasks line (issued t) k) (all_tasks.longest k)) →
+        (b ≡ false → InStretch p.plant (length p.tasks) runs scripts order scopings all_tasks line mark (states t).now (owed_of (states t).core.debt)
+        credit (states t).core.interval.first (stretch_at p.plant (length p.tasks) runs scripts order scopings all_tasks line (issued t) k)
+        (all_tasks.longest k)) →
         (b ≡ true → IsInTime mark) → (states t).now + p.plant.switch ≤ (states t).core.interval.first + all_tasks.longest k
     within false Stay credit e x pace time = omega (arith, pace refl, stretch_most p.plant (scripts k) (runs k) charge (all_tasks.cost k) (all_tasks.longest k) some_cycle charged (issued t k))
     within false (Execute l) credit e x pace time = omega (arith, pace refl, stretch_most p.plant (scripts k) (runs k) charge (all_tasks.cost k) (all_tasks.longest k) some_cycle charged (issued t k))
@@ -345,7 +374,9 @@ module _ (rule : ReplacementRule) (order : OrderRule) (passes : ℕ → ℕ) (p 
     within false End credit e x pace time = absurd (let z : true ≡ false = sym x.0 ∙ e in cc)
     within true Stay credit e x pace time = omega (arith, fits (time refl), charged.calls ((begun_at runs (issued t) k).calls - 1))
     within true (Execute l) credit e x pace time = omega (arith, fits (time refl), charged.calls ((begun_at runs (issued t) k).calls - 1))
-    within true End credit e x pace time = let y : (states t).now + owed_of (states t).core.debt ≤ (states t).core.interval.first + (states t).core.interval.stated = time refl in omega (arith, y, x.2, charged.calls ((begun_at runs (issued t) k).calls - 1))
+    within true End credit e x pace time =
+        let y : (states t).now + owed_of (states t).core.debt ≤ (states t).core.interval.first + (states t).core.interval.stated = time refl in
+        omega (arith, y, x.2, charged.calls ((begun_at runs (issued t) k).calls - 1))
     within true Memory credit e x pace time = absurd (let z : false ≡ true = sym x.0 ∙ e in cc)
     within true Job credit e x pace time = absurd (let z : false ≡ true = sym x.0 ∙ e in cc)
 
@@ -362,19 +393,32 @@ module _ (rule : ReplacementRule) (order : OrderRule) (passes : ℕ → ℕ) (p 
     kept_of MemoryPhase stated e = refl
     kept_of Execution stated e = refl
 
-    owes : (mark : Change) → (is_paid (states t).core.debt && ends_before (states t).now (states t).core.interval mark) ≡ false → ends_before (states t).now (states t).core.interval mark ≡ true → 1 ≤ owed_of (states t).core.debt
+    owes : (mark : Change) → (is_paid (states t).core.debt && ends_before (states t).now (states t).core.interval mark) ≡ false →
+        ends_before (states t).now (states t).core.interval mark ≡ true → 1 ≤ owed_of (states t).core.debt
     owes mark on e =
-        ⊎_elim (λ (unpaid : is_paid (states t).core.debt ≡ false). unpaid_owes (states t).core.debt unpaid (run_lasts rule order passes p content inputs requests own runs scripts policy keep q o t).clock.positive)
+        ⊎_elim (λ (unpaid : is_paid (states t).core.debt ≡ false). unpaid_owes (states t).core.debt unpaid
+        (run_lasts rule order passes p content inputs requests own runs scripts policy keep q o t).clock.positive)
         (λ (out : ends_before (states t).now (states t).core.interval mark ≡ false). let x : true ≡ false = sym e ∙ out in absurd cc)
         (not_both (is_paid (states t).core.debt) (ends_before (states t).now (states t).core.interval mark) on)
 
-    goes_less : (h0 cost : ℕ) → (goes : Goes (phase_at runs (issued t) k) call_stated (states t).core.interval) → (states t).core.interval.predictable ≡ true → IsInTime Stay → job_at p.plant (length p.tasks) runs scripts order scopings all_tasks line (issued t) k + (1 + p.plant.switch) ≤ cost → h0 + (states t).core.interval.first + kept_at p.plant (length p.tasks) runs scripts order scopings all_tasks line (issued t) k ≤ p.plant.switch + job_at p.plant (length p.tasks) runs scripts order scopings all_tasks line (issued t) k + (states t).now → h0 < cost
+    goes_less : (h0 cost : ℕ) → (goes : Goes (phase_at runs (issued t) k) call_stated (states t).core.interval) →
+        (states t).core.interval.predictable ≡ true → IsInTime Stay →
+        job_at p.plant (length p.tasks) runs scripts order scopings all_tasks line (issued t) k + (1 + p.plant.switch) ≤ cost →
+        h0 + (states t).core.interval.first + kept_at p.plant (length p.tasks) runs scripts order scopings all_tasks line (issued t)
+        k ≤ p.plant.switch + job_at p.plant (length p.tasks) runs scripts order scopings all_tasks line (issued t) k + (states t).now → h0 < cost
     goes_less h0 cost goes e time le h =
-        let z : kept_at p.plant (length p.tasks) runs scripts order scopings all_tasks line (issued t) k ≡ call_stated + p.plant.switch = kept_of (phase_at runs (issued t) k) call_stated (goes.kind ∙ e) in
+        let z : kept_at p.plant (length p.tasks) runs scripts order scopings all_tasks line (issued t) k ≡ call_stated + p.plant.switch =
+        kept_of (phase_at runs (issued t) k) call_stated (goes.kind ∙ e) in
         omega (arith, fits time, z, le, h)
 
-    own_less : (h0 credit : ℕ) (b : Bool) (mark : Change) → (states t).core.interval.predictable ≡ b → IsIn mark → (is_paid (states t).core.debt && ends_before (states t).now (states t).core.interval mark) ≡ false → (b ≡ true → IsInTime mark) → (ends_job mark ≡ 0 → job_at p.plant (length p.tasks) runs scripts order scopings all_tasks line (issued t) k + (1 + p.plant.switch) ≤ all_tasks.cost k) →
-        HasHad p.plant (length p.tasks) runs scripts order scopings all_tasks line b mark (states t).now (owed_of (states t).core.debt) credit (states t).core.interval.first (states t).core.interval.stated h0 (kept_at p.plant (length p.tasks) runs scripts order scopings all_tasks line (issued t) k) (job_at p.plant (length p.tasks) runs scripts order scopings all_tasks line (issued t) k) (all_tasks.cost k) → h0 < all_tasks.cost k
+    own_less : (h0 credit : ℕ) (b : Bool) (mark : Change) → (states t).core.interval.predictable ≡ b → IsIn mark →
+        (is_paid (states t).core.debt && ends_before (states t).now (states t).core.interval mark) ≡ false → (b ≡ true → IsInTime mark) →
+        (ends_job mark ≡ 0 → job_at p.plant (length p.tasks) runs scripts order scopings all_tasks line (issued t) k + (1 + p.plant.switch)
+        ≤ all_tasks.cost k) →
+        HasHad p.plant (length p.tasks) runs scripts order scopings all_tasks line b mark (states t).now (owed_of (states t).core.debt) credit
+        (states t).core.interval.first (states t).core.interval.stated h0
+        (kept_at p.plant (length p.tasks) runs scripts order scopings all_tasks line (issued t) k)
+        (job_at p.plant (length p.tasks) runs scripts order scopings all_tasks line (issued t) k) (all_tasks.cost k) → h0 < all_tasks.cost k
     own_less h0 credit false Stay e x on time le h = omega (arith, le refl, h)
     own_less h0 credit false (Execute l) e x on time le h = omega (arith, le refl, h)
     own_less h0 credit false Memory e x on time le h = omega (arith, le refl, h)
@@ -382,12 +426,15 @@ module _ (rule : ReplacementRule) (order : OrderRule) (passes : ℕ → ℕ) (p 
     own_less h0 credit false End e x on time le h = absurd (let z : true ≡ false = sym x.0 ∙ e in cc)
     own_less h0 credit true Stay e x on time le h = goes_less h0 (all_tasks.cost k) x e (time refl) (le refl) h
     own_less h0 credit true (Execute l) e x on time le h = goes_less h0 (all_tasks.cost k) x e (time refl) (le refl) h
-    own_less h0 credit true End e x on time le h = let y : (states t).now + owed_of (states t).core.debt ≤ (states t).core.interval.first + (states t).core.interval.stated = time refl in omega (arith, y, le refl, h)
+    own_less h0 credit true End e x on time le h =
+        let y : (states t).now + owed_of (states t).core.debt ≤ (states t).core.interval.first + (states t).core.interval.stated = time refl in
+        omega (arith, y, le refl, h)
     own_less h0 credit true Memory e x on time le h = absurd (let z : false ≡ true = sym x.0 ∙ e in cc)
     own_less h0 credit true Job e x on time le h = absurd (let z : false ≡ true = sym x.0 ∙ e in cc)
 
   abbrev BookedIn : ℕ → Mode → Type 0
-  BookedIn t m = Booked p.plant (length p.tasks) runs scripts order scopings all_tasks line (states t).now (had_by t) (issued t) (lines_in (states t).work.cache) (states t).sched m (states t).core.interval (states t).core.mark (states t).core.debt
+  BookedIn t m = Booked p.plant (length p.tasks) runs scripts order scopings all_tasks line (states t).now (had_by t) (issued t)
+      (lines_in (states t).work.cache) (states t).sched m (states t).core.interval (states t).core.mark (states t).core.debt
 
   served_by : (t k : ℕ) → is_over (states t) ≡ false → (m : Mode) → (states t).core.mode ≡ m → BookedIn t m → serves_in (states t).now (states t).sched m ≡ Some k → IsServed all_tasks line k t
   served_by t k on Point e b h =
@@ -410,7 +457,8 @@ module _ (rule : ReplacementRule) (order : OrderRule) (passes : ℕ → ℕ) (p 
       (from_since t j i.since (run_of-now rule p content inputs requests t on) (omega (arith, i.lasts, (are.each j i.since.there).charged.calls 0)))
   served_by t k on (Running j) e b h =
       let same : j ≡ k = (let x : Some j ≡ Some k = h in cc) in
-      let i : InRun p.plant (length p.tasks) runs scripts order scopings all_tasks line (states t).now (had_by t) (issued t) (lines_in (states t).work.cache) (states t).sched j (states t).core.interval (states t).core.mark (states t).core.debt = b.current in
+      let i : InRun p.plant (length p.tasks) runs scripts order scopings all_tasks line (states t).now (had_by t) (issued t)
+      (lines_in (states t).work.cache) (states t).sched j (states t).core.interval (states t).core.mark (states t).core.debt = b.current in
       let l = run_lasts rule order passes p content inputs requests own runs scripts policy keep q o t in
       let ke = run_keeps rule order passes p content inputs requests own runs scripts policy keep q o t in
       subst (λ n. IsServed all_tasks line n t) same
@@ -426,7 +474,11 @@ module _ (rule : ReplacementRule) (order : OrderRule) (passes : ℕ → ℕ) (p 
       let b : BookedIn t (Running k) = subst (BookedIn t) run ((through t).booked on) in
       let l = run_lasts rule order passes p content inputs requests own runs scripts policy keep q o t in
       let ke = run_keeps rule order passes p content inputs requests own runs scripts policy keep q o t in
-      omega (arith, within t k b.current.since.there on (states t).core.interval.predictable (states t).core.mark b.current.credit refl (ke.resides.runs_in k run).issued b.current.pace (l.clock.in_time k run)))
+      omega (
+        arith,
+        within t k b.current.since.there on (states t).core.interval.predictable (states t).core.mark b.current.credit refl
+            (ke.resides.runs_in k run).issued b.current.pace (l.clock.in_time k run),
+      ))
       (cases_Bool (is_over (states t)))
 
   serves_means : (t k : ℕ) → line.serves t ≡ Some k → IsServed all_tasks line k t
@@ -444,20 +496,23 @@ module _ (rule : ReplacementRule) (order : OrderRule) (passes : ℕ → ℕ) (p 
       let y : line.ended k (states t).now < released all_tasks k (states t).now = subst (λ v. line.ended k v < released all_tasks k v) (sym now) ready in
       none k (omega (arith, lt, r.count), ready_then all_tasks line (length p.tasks) (states t).now (states t).now (states t).sched k r lt (omega (arith, y, r.ended k lt)))
 
-  rests_choice : (t : ℕ) → is_over (states t) ≡ false → (states t).core.mode ≡ Point → (c : Choice) → choice (states t).now (states t).sched ≡ c → chosen_task c ≡ None → NoneReady (states t).now (states t).sched
+  rests_choice : (t : ℕ) → is_over (states t) ≡ false → (states t).core.mode ≡ Point → (c : Choice) → choice (states t).now (states t).sched ≡ c →
+      chosen_task c ≡ None → NoneReady (states t).now (states t).sched
   rests_choice t on e (Run k) h none = absurd (let x : Some k ≡ None = none in cc)
   rests_choice t on e (Rest until) h none =
       let r : Reads all_tasks line (length p.tasks) (states t).now (states t).sched = reads t on in
       idle_none (states t).now (states t).sched until r.periods h (states t).now (rest_until (states t).now (states t).sched until r.periods h).0
   rests_choice t on e Finished h none = absurd (not_finished (states t) (first_no (is_finished (states t)) (is_some (states t).trapped) (is_full (states t)) on) e h)
 
-  rests_by : (t : ℕ) → is_over (states t) ≡ false → (m : Mode) → (states t).core.mode ≡ m → BookedIn t m → serves_in (states t).now (states t).sched m ≡ None → NoneReady (states t).now (states t).sched
+  rests_by : (t : ℕ) → is_over (states t) ≡ false → (m : Mode) → (states t).core.mode ≡ m → BookedIn t m →
+      serves_in (states t).now (states t).sched m ≡ None → NoneReady (states t).now (states t).sched
   rests_by t on Point e b h = rests_choice t on e (choice (states t).now (states t).sched) refl h
   rests_by t on (Switching j left) e b h = absurd (let x : Some j ≡ None = h in cc)
   rests_by t on (Running j) e b h = absurd (let x : Some j ≡ None = h in cc)
   rests_by t on (Idle until) e b h =
       let timed = run_timed rule order passes p content inputs requests own runs scripts policy keep q o periods scopings (λ k lt. (are.each k lt).scoped) total (λ k lt. omega arith) t in
-      let spent = subst (λ m. Spent p.plant (length p.tasks) runs scripts order scopings 0 (states t).now (last_release p.tasks) timed.off (issued t) (lines_in (states t).work.cache) m (states t).core.interval (states t).core.mark (states t).core.debt) e timed.timed.spent in
+      let spent = subst (λ m. Spent p.plant (length p.tasks) runs scripts order scopings 0 (states t).now (last_release p.tasks) timed.off (issued t)
+      (lines_in (states t).work.cache) m (states t).core.interval (states t).core.mark (states t).core.debt) e timed.timed.spent in
       b.current.0 (states t).now (let y : (states t).now < until + 0 = spent.time.2 in omega arith)
 
   rests_means : (t : ℕ) → line.serves t ≡ None → (k : ℕ) → k < length p.tasks → IsReady all_tasks line k t → ⊥
@@ -474,7 +529,9 @@ module _ (rule : ReplacementRule) (order : OrderRule) (passes : ℕ → ℕ) (p 
         let g : Schedules p runs (issued t) (states t).sched m (states t).core.mark = subst (λ m. Schedules p runs (issued t) (states t).sched m (states t).core.mark) e (schedules t) in
         omega (arith, g.ended k lt, none, less, (o.runs_are k lt).jobs)
 
-    held_less : (m : Mode) → (states t).core.mode ≡ m → uncounted m (states t).core.mark k ≡ 0 → had_by t k + kept_at p.plant (length p.tasks) runs scripts order scopings all_tasks line (issued t) k ≤ job_at p.plant (length p.tasks) runs scripts order scopings all_tasks line (issued t) k → had_by t k < all_tasks.cost k
+    held_less : (m : Mode) → (states t).core.mode ≡ m → uncounted m (states t).core.mark k ≡ 0 →
+        had_by t k + kept_at p.plant (length p.tasks) runs scripts order scopings all_tasks line (issued t) k ≤ job_at p.plant (length p.tasks)
+        runs scripts order scopings all_tasks line (issued t) k → had_by t k < all_tasks.cost k
     held_less m e none h = omega (arith, h, left t k lt on (unended m e none))
 
     had_less : (m : Mode) → (states t).core.mode ≡ m → BookedIn t m → had_by t k < all_tasks.cost k
@@ -489,8 +546,10 @@ module _ (rule : ReplacementRule) (order : OrderRule) (passes : ℕ → ℕ) (p 
         (cases_eq k j)
     had_less (Running j) e b =
         ⊎_elim (λ (same : k ≡ j).
-        let i : InRun p.plant (length p.tasks) runs scripts order scopings all_tasks line (states t).now (had_by t) (issued t) (lines_in (states t).work.cache) (states t).sched k (states t).core.interval (states t).core.mark (states t).core.debt =
-        subst (λ u. InRun p.plant (length p.tasks) runs scripts order scopings all_tasks line (states t).now (had_by t) (issued t) (lines_in (states t).work.cache) (states t).sched u (states t).core.interval (states t).core.mark (states t).core.debt) (sym same) b.current in
+        let i : InRun p.plant (length p.tasks) runs scripts order scopings all_tasks line (states t).now (had_by t) (issued t)
+        (lines_in (states t).work.cache) (states t).sched k (states t).core.interval (states t).core.mark (states t).core.debt =
+        subst (λ u. InRun p.plant (length p.tasks) runs scripts order scopings all_tasks line (states t).now (had_by t) (issued t)
+        (lines_in (states t).work.cache) (states t).sched u (states t).core.interval (states t).core.mark (states t).core.debt) (sym same) b.current in
         let run : (states t).core.mode ≡ Running k = e ∙ ap (λ u. Running u) (sym same) in
         let l = run_lasts rule order passes p content inputs requests own runs scripts policy keep q o t in
         let ke = run_keeps rule order passes p content inputs requests own runs scripts policy keep q o t in

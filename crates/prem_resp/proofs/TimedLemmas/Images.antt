@@ -20,7 +20,10 @@ use Rattle.prem_resp.specs.Timed.Timed.{TellsCharges, JoinedImagesGoByCharges, J
 
 -- loads that tell what the tasks are charged
 pub loads_join : (p : Setup) (runs : ℕ → TaskRun) (scripts : ℕ → Script) (scopings : ℕ → Scoping) (cycles longest : ℕ → ℕ) (loads : List Load) → TellsCharges p cycles longest loads →
-    ((k : ℕ) → k < length p.tasks → IsScoped p.plant (runs k) (scopings k) × IsCharged p.plant (runs k) (scripts k) (charges_by p.plant (runs k) (scopings k)) (cycles k) (p.plant.switch + longest k)) → AreLoads p runs scripts scopings loads
+    ((k : ℕ) → k < length p.tasks →
+    IsScoped p.plant (runs k) (scopings k)
+    × IsCharged p.plant (runs k) (scripts k) (charges_by p.plant (runs k) (scopings k)) (cycles k) (p.plant.switch + longest k)) →
+    AreLoads p runs scripts scopings loads
 loads_join p runs scripts scopings cycles longest loads told each = record {
   count = told.count;
   each = λ k lt. record {
@@ -32,8 +35,11 @@ loads_join p runs scripts scopings cycles longest loads told each = record {
   };
 }
 
-module _ (passes : ℕ → ℕ) (p : Setup) (content : List ℕ) (own : ℕ → ℕ → Bool) (most : ℕ → JobLimits) (cycles longest : ℕ → ℕ) (promises : List (List ℕ) → ℕ → Promise) (limit : ℕ) (h : IsJoined passes p content own most promises limit)
-    (each : (inputs : List (List ℕ)) → AreInputs p inputs → (k : ℕ) → k < length p.tasks → TaskCharges p passes (own k) (run_in p content inputs k) (most k) (cycles k) (longest k) (promises inputs k)) (inputs : List (List ℕ)) (i : AreInputs p inputs) where
+module _ (passes : ℕ → ℕ) (p : Setup) (content : List ℕ) (own : ℕ → ℕ → Bool) (most : ℕ → JobLimits) (cycles longest : ℕ → ℕ)
+    (promises : List (List ℕ) → ℕ → Promise) (limit : ℕ) (h : IsJoined passes p content own most promises limit)
+    (each : (inputs : List (List ℕ)) → AreInputs p inputs → (k : ℕ) → k < length p.tasks →
+    TaskCharges p passes (own k) (run_in p content inputs k) (most k) (cycles k) (longest k) (promises inputs k)) (inputs : List (List ℕ))
+    (i : AreInputs p inputs) where
   abbrev scripts : ℕ → Script
   scripts k = ((all_charged passes p content own most cycles longest promises limit h each inputs i).0 k).script
 
@@ -48,12 +54,20 @@ module _ (passes : ℕ → ℕ) (p : Setup) (content : List ℕ) (own : ℕ → 
 pub joined_images_go_by_charges : JoinedImagesGoByCharges
 joined_images_go_by_charges rule order passes p content own most cycles longest promises limit loads policy h each told = (
   λ inputs requests i t w k least lt balanced le job n left late.
-      scripts_meet_deadlines rule order passes p content inputs requests own (run_in p content inputs) (scripts passes p content own most cycles longest promises limit h each inputs i) (scopings passes p content own most cycles longest promises limit h each inputs i) loads k least policy
-      (runs passes p content own most promises limit h requests t w) (are_scripts passes p content own most cycles longest promises limit h each inputs i) (are_loads passes p content own most cycles longest promises limit h each inputs i loads told)
+      scripts_meet_deadlines rule order passes p content inputs requests own (run_in p content inputs)
+      (scripts passes p content own most cycles longest promises limit h each inputs i)
+      (scopings passes p content own most cycles longest promises limit h each inputs i) loads k least policy
+      (runs passes p content own most promises limit h requests t w)
+      (are_scripts passes p content own most cycles longest promises limit h each inputs i)
+      (are_loads passes p content own most cycles longest promises limit h each inputs i loads told)
       lt balanced le job n left late,
   λ inputs requests i t w n.
-      (scripts_keep_charges rule order passes p content inputs requests own (run_in p content inputs) (scripts passes p content own most cycles longest promises limit h each inputs i) (scopings passes p content own most cycles longest promises limit h each inputs i) loads n policy
-      (runs passes p content own most promises limit h requests t w) (are_scripts passes p content own most cycles longest promises limit h each inputs i) (are_loads passes p content own most cycles longest promises limit h each inputs i loads told)).0,
+      (scripts_keep_charges rule order passes p content inputs requests own (run_in p content inputs)
+      (scripts passes p content own most cycles longest promises limit h each inputs i)
+      (scopings passes p content own most cycles longest promises limit h each inputs i) loads n policy
+      (runs passes p content own most promises limit h requests t w)
+      (are_scripts passes p content own most cycles longest promises limit h each inputs i)
+      (are_loads passes p content own most cycles longest promises limit h each inputs i loads told)).0,
 )
 
 -- a task at its pace is charged what is due, where each of its instructions is a scope by itself

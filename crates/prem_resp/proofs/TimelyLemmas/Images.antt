@@ -32,7 +32,9 @@ laid_out_sets_meet_deadlines rule order passes p devices tasks places promises p
     let joined = laid_out_images_join passes p devices tasks places promises laid (λ inputs i k lt. (each inputs i k lt).joins) in
     let long : length (map task_record (placed_from p places tasks)) ≡ length (placed_from p places tasks) = length-map (placed_from p places tasks) task_record in
     let same : length (loads_of p (placed_from p places tasks)) ≡ length (placed_from p places tasks) = length-map (placed_from p places tasks) (load_of p) in
-    joined_images_meet_deadlines rule order passes (setup_of p devices places tasks) (content_of p places tasks) (own_of tasks places) (limits_at p (placed_from p places tasks)) (longest_at p (placed_from p places tasks)) promises _ (loads_of p (placed_from p places tasks)) policy joined each
+    joined_images_meet_deadlines rule order passes (setup_of p devices places tasks) (content_of p places tasks) (own_of tasks places)
+    (limits_at p (placed_from p places tasks)) (longest_at p (placed_from p places tasks)) promises _ (loads_of p (placed_from p places tasks))
+    policy joined each
     (record {
       count = same ∙ sym long;
       period = λ k lt.
@@ -42,11 +44,13 @@ laid_out_sets_meet_deadlines rule order passes p devices tasks places promises p
       cost = λ k lt.
           let lk : k < length (placed_from p places tasks) = less k _ _ lt long in
           let t : Placed = one_of (placed_from p places tasks) k lk in
-          ap (λ (x : Load). x.cost) (get_mapped (load_of p) (placed_from p places tasks) k t no_load lk) ∙ sym (ap (λ (x : JobLimits). x.cycles) (get_mapped (task_limits p) (placed_from p places tasks) k t no_limits lk));
+          ap (λ (x : Load). x.cost) (get_mapped (load_of p) (placed_from p places tasks) k t no_load lk)
+          ∙ sym (ap (λ (x : JobLimits). x.cycles) (get_mapped (task_limits p) (placed_from p places tasks) k t no_limits lk));
       longest_is = λ k lt.
           let lk : k < length (placed_from p places tasks) = less k _ _ lt long in
           let t : Placed = one_of (placed_from p places tasks) k lk in
-          ap (λ (x : Load). x.longest) (get_mapped (load_of p) (placed_from p places tasks) k t no_load lk) ∙ ap (λ n. p.switch + n) (sym (get_mapped (task_longest p) (placed_from p places tasks) k t 0 lk));
+          ap (λ (x : Load). x.longest) (get_mapped (load_of p) (placed_from p places tasks) k t no_load lk)
+          ∙ ap (λ n. p.switch + n) (sym (get_mapped (task_longest p) (placed_from p places tasks) k t 0 lk));
     }) where
       less : (k n m : ℕ) → k < n → n ≡ m → k < m
       less k n m lt e = omega (arith, lt, e)

@@ -32,25 +32,36 @@ use Rattle.prem_sets_sound.proofs.Sound.{task_there, there, accepted_tasks_are_m
 use Rattle.prem_resp.specs.Timely.Timely.{EachPaces, longest_at, SetsMeetDeadlines}
 use Rattle.prem_resp.proofs.TimelyLemmas.Images.{laid_out_sets_meet_deadlines}
 
-module _ (passes : ℕ → ℕ) (p : Plant) (devices : List Device) (tasks : List Coded) (places : List Extent) (promises : List (List ℕ) → ℕ → Promise) (laid : IsLaidOut p devices tasks places) (same : passes p.ways ≡ pass_count (stub_passes p))
+module _ (passes : ℕ → ℕ) (p : Plant) (devices : List Device) (tasks : List Coded) (places : List Extent) (promises : List (List ℕ) → ℕ → Promise)
+    (laid : IsLaidOut p devices tasks places) (same : passes p.ways ≡ pass_count (stub_passes p))
     (meant : AreMeant p (placed_from p places tasks) promises) (inputs : List (List ℕ)) (are : AreInputs (setup_of p devices places tasks) inputs) where
   one_paces : (k : ℕ) (t : Placed) → slice_get (placed_from p places tasks) k ≡ Some t → k < length inputs →
-      TaskPaces (setup_of p devices places tasks) passes (own_of tasks places k) (run_in (setup_of p devices places tasks) (content_of p places tasks) inputs k) (limits_at p (placed_from p places tasks) k) (longest_at p (placed_from p places tasks) k) (promises inputs k)
+      TaskPaces (setup_of p devices places tasks) passes (own_of tasks places k)
+      (run_in (setup_of p devices places tasks) (content_of p places tasks) inputs k) (limits_at p (placed_from p places tasks) k)
+      (longest_at p (placed_from p places tasks) k) (promises inputs k)
   one_paces k t e lt =
       let m = meant k t e in
       let values = all_there HasCodedValues tasks k t.task laid.each (task_there p places tasks k t e) in
       let placed : IsPlacedTask p devices tasks places k t = record { plant_is = laid.plant_is; coded = have_code tasks laid.each; lawful = laid.lawful; there = e } in
       let paces = tasks_pace passes p devices tasks places k t placed same m.text m.keeps values.jobs.0 inputs (are.words k [] lt) in
-      let listed : slice_get (map (task_limits p) (placed_from p places tasks)) k ≡ Some (task_limits p t) = slice_get-map (task_limits p) (placed_from p places tasks) k ∙ ap (option_map (task_limits p)) e in
+      let listed : slice_get (map (task_limits p) (placed_from p places tasks)) k ≡ Some (task_limits p t) =
+      slice_get-map (task_limits p) (placed_from p places tasks) k ∙ ap (option_map (task_limits p)) e in
       let limits : limits_at p (placed_from p places tasks) k ≡ task_limits p t = get_or_from_slice_get (map (task_limits p) (placed_from p places tasks)) k (task_limits p t) no_limits listed in
-      let long : slice_get (map (task_longest p) (placed_from p places tasks)) k ≡ Some (task_longest p t) = slice_get-map (task_longest p) (placed_from p places tasks) k ∙ ap (option_map (task_longest p)) e in
+      let long : slice_get (map (task_longest p) (placed_from p places tasks)) k ≡ Some (task_longest p t) =
+      slice_get-map (task_longest p) (placed_from p places tasks) k ∙ ap (option_map (task_longest p)) e in
       let longest : longest_at p (placed_from p places tasks) k ≡ task_longest p t = get_or_from_slice_get (map (task_longest p) (placed_from p places tasks)) k (task_longest p t) 0 long in
-      subst (λ (n : ℕ). TaskPaces (setup_of p devices places tasks) passes (own_of tasks places k) (run_in (setup_of p devices places tasks) (content_of p places tasks) inputs k) (limits_at p (placed_from p places tasks) k) n (promises inputs k)) (sym longest)
-      (subst (λ (q : JobLimits). TaskPaces (setup_of p devices places tasks) passes (own_of tasks places k) (run_in (setup_of p devices places tasks) (content_of p places tasks) inputs k) q (task_longest p t) (promises inputs k)) (sym limits)
-      (subst (λ (q : Promise). TaskPaces (setup_of p devices places tasks) passes (own_of tasks places k) (run_in (setup_of p devices places tasks) (content_of p places tasks) inputs k) (task_limits p t) (task_longest p t) q) (sym (m.promise_is inputs)) paces))
+      subst (λ (n : ℕ). TaskPaces (setup_of p devices places tasks) passes (own_of tasks places k)
+      (run_in (setup_of p devices places tasks) (content_of p places tasks) inputs k) (limits_at p (placed_from p places tasks) k) n
+      (promises inputs k)) (sym longest)
+      (subst (λ (q : JobLimits). TaskPaces (setup_of p devices places tasks) passes (own_of tasks places k)
+      (run_in (setup_of p devices places tasks) (content_of p places tasks) inputs k) q (task_longest p t) (promises inputs k)) (sym limits)
+      (subst (λ (q : Promise). TaskPaces (setup_of p devices places tasks) passes (own_of tasks places k)
+      (run_in (setup_of p devices places tasks) (content_of p places tasks) inputs k) (task_limits p t) (task_longest p t) q)
+      (sym (m.promise_is inputs)) paces))
 
 -- at any lawful places
-meant_tasks_pace : (passes : ℕ → ℕ) (p : Plant) (devices : List Device) (tasks : List Coded) (places : List Extent) (promises : List (List ℕ) → ℕ → Promise) → IsLaidOut p devices tasks places → passes p.ways ≡ pass_count (stub_passes p) →
+meant_tasks_pace : (passes : ℕ → ℕ) (p : Plant) (devices : List Device) (tasks : List Coded) (places : List Extent)
+    (promises : List (List ℕ) → ℕ → Promise) → IsLaidOut p devices tasks places → passes p.ways ≡ pass_count (stub_passes p) →
     AreMeant p (placed_from p places tasks) promises → EachPaces passes p devices tasks places promises
 meant_tasks_pace passes p devices tasks places promises laid same meant inputs are k lt =
     let long : length (map task_record (placed_from p places tasks)) ≡ length (placed_from p places tasks) = length-map (placed_from p places tasks) task_record in

@@ -55,7 +55,8 @@ RunsWithin plant loads s = (k : ℕ) → s.core.mode ≡ Running k → s.core.in
 -- the core has worked no more cycles for a job
 abbrev pub ScriptsKeepCharges : Type 0
 ScriptsKeepCharges =
-    (rule : ReplacementRule) (order : OrderRule) (passes : ℕ → ℕ) (p : Setup) (content : List ℕ) (inputs : List (List ℕ)) (requests : List Request) (own : ℕ → ℕ → Bool) (runs : ℕ → TaskRun) (scripts : ℕ → Script) (scopings : ℕ → Scoping) (loads : List Load) (n : ℕ) →
+    (rule : ReplacementRule) (order : OrderRule) (passes : ℕ → ℕ) (p : Setup) (content : List ℕ) (inputs : List (List ℕ)) (requests : List Request)
+    (own : ℕ → ℕ → Bool) (runs : ℕ → TaskRun) (scripts : ℕ → Script) (scopings : ℕ → Scoping) (loads : List Load) (n : ℕ) →
     IsPolicy rule order passes → IsRun p content requests → AreScripts p passes content inputs own runs scripts → AreLoads p runs scripts scopings loads →
     All (LastsWithin p.plant loads) (run_of rule p content inputs requests n).log.intervals × RunsWithin p.plant loads (run_of rule p content inputs requests n)
     × ((k job : ℕ) → k < length p.tasks → served (timeline_of rule p content inputs requests) k job n ≤ (load_at loads k).cost)
@@ -69,7 +70,8 @@ charged_limit p loads = jobs_limit p (λ k. (load_at loads k).cost)
 -- from the last release and what all jobs are charged on the run has finished
 abbrev pub ScriptsFinishByCharges : Type 0
 ScriptsFinishByCharges =
-    (rule : ReplacementRule) (order : OrderRule) (passes : ℕ → ℕ) (p : Setup) (content : List ℕ) (inputs : List (List ℕ)) (requests : List Request) (own : ℕ → ℕ → Bool) (runs : ℕ → TaskRun) (scripts : ℕ → Script) (scopings : ℕ → Scoping) (loads : List Load) (n : ℕ) →
+    (rule : ReplacementRule) (order : OrderRule) (passes : ℕ → ℕ) (p : Setup) (content : List ℕ) (inputs : List (List ℕ)) (requests : List Request)
+    (own : ℕ → ℕ → Bool) (runs : ℕ → TaskRun) (scripts : ℕ → Script) (scopings : ℕ → Scoping) (loads : List Load) (n : ℕ) →
     IsPolicy rule order passes → IsRun p content requests → AreScripts p passes content inputs own runs scripts → AreLoads p runs scripts scopings loads →
     charged_limit p loads ≤ n → is_finished (run_of rule p content inputs requests n) ≡ true
 
@@ -79,7 +81,8 @@ ScriptsFinishByCharges =
 -- behind its release
 abbrev pub ScriptsMeetDeadlines : Type 0
 ScriptsMeetDeadlines =
-    (rule : ReplacementRule) (order : OrderRule) (passes : ℕ → ℕ) (p : Setup) (content : List ℕ) (inputs : List (List ℕ)) (requests : List Request) (own : ℕ → ℕ → Bool) (runs : ℕ → TaskRun) (scripts : ℕ → Script) (scopings : ℕ → Scoping) (loads : List Load) (i cycles : ℕ) →
+    (rule : ReplacementRule) (order : OrderRule) (passes : ℕ → ℕ) (p : Setup) (content : List ℕ) (inputs : List (List ℕ)) (requests : List Request)
+    (own : ℕ → ℕ → Bool) (runs : ℕ → TaskRun) (scripts : ℕ → Script) (scopings : ℕ → Scoping) (loads : List Load) (i cycles : ℕ) →
     IsPolicy rule order passes → IsRun p content requests → AreScripts p passes content inputs own runs scripts → AreLoads p runs scripts scopings loads →
     i < length p.tasks → IsBalanced loads i cycles → cycles ≤ (record_of p i).period →
     (job n : ℕ) → job < (record_of p i).jobs → job * (record_of p i).period + cycles ≤ n → job < (task_at (run_of rule p content inputs requests n).sched i).ended

@@ -34,7 +34,8 @@ KeepsIntervals rule p content loads =
 -- the charges, meets its deadlines by them, and keeps its intervals
 abbrev pub ChargedImagesAreSound : Type 0
 ChargedImagesAreSound =
-    (rule : ReplacementRule) (order : OrderRule) (passes : ℕ → ℕ) (p : Setup) (content : List ℕ) (promises : List (List ℕ) → ℕ → Promise) (limit : ℕ) (loads : List Load) (scopings : List (List ℕ) → ℕ → Scoping) →
+    (rule : ReplacementRule) (order : OrderRule) (passes : ℕ → ℕ) (p : Setup) (content : List ℕ) (promises : List (List ℕ) → ℕ → Promise) (limit : ℕ)
+    (loads : List Load) (scopings : List (List ℕ) → ℕ → Scoping) →
     IsPolicy rule order passes → (h : HasScripts passes p content promises limit) →
     ((inputs : List (List ℕ)) → AreInputs p inputs → AreLoads p (h.runs inputs) (h.scripts inputs) (scopings inputs) loads) →
     Sound rule p content promises (charged_limit p loads) × MeetsDeadlines rule p content loads × KeepsIntervals rule p content loads

@@ -27,7 +27,8 @@ pub record TellsCharges (p : Setup) (cycles longest : ℕ → ℕ) (loads : List
 -- intervals
 abbrev pub JoinedImagesGoByCharges : Type 0
 JoinedImagesGoByCharges =
-    (rule : ReplacementRule) (order : OrderRule) (passes : ℕ → ℕ) (p : Setup) (content : List ℕ) (own : ℕ → ℕ → Bool) (most : ℕ → JobLimits) (cycles longest : ℕ → ℕ) (promises : List (List ℕ) → ℕ → Promise) (limit : ℕ) (loads : List Load) →
+    (rule : ReplacementRule) (order : OrderRule) (passes : ℕ → ℕ) (p : Setup) (content : List ℕ) (own : ℕ → ℕ → Bool) (most : ℕ → JobLimits)
+    (cycles longest : ℕ → ℕ) (promises : List (List ℕ) → ℕ → Promise) (limit : ℕ) (loads : List Load) →
     IsPolicy rule order passes → IsJoined passes p content own most promises limit →
     ((inputs : List (List ℕ)) → AreInputs p inputs → (k : ℕ) → k < length p.tasks → TaskCharges p passes (own k) (run_in p content inputs k) (most k) (cycles k) (longest k) (promises inputs k)) →
     TellsCharges p cycles longest loads → MeetsDeadlines rule p content loads × KeepsIntervals rule p content loads
@@ -37,7 +38,8 @@ JoinedImagesGoByCharges =
 -- an image whose tasks join, each at its pace, meets its deadlines by the bounds of the rules
 abbrev pub JoinedImagesMeetDeadlines : Type 0
 JoinedImagesMeetDeadlines =
-    (rule : ReplacementRule) (order : OrderRule) (passes : ℕ → ℕ) (p : Setup) (content : List ℕ) (own : ℕ → ℕ → Bool) (most : ℕ → JobLimits) (longest : ℕ → ℕ) (promises : List (List ℕ) → ℕ → Promise) (limit : ℕ) (loads : List Load) →
+    (rule : ReplacementRule) (order : OrderRule) (passes : ℕ → ℕ) (p : Setup) (content : List ℕ) (own : ℕ → ℕ → Bool) (most : ℕ → JobLimits)
+    (longest : ℕ → ℕ) (promises : List (List ℕ) → ℕ → Promise) (limit : ℕ) (loads : List Load) →
     IsPolicy rule order passes → IsJoined passes p content own most promises limit →
     ((inputs : List (List ℕ)) → AreInputs p inputs → (k : ℕ) → k < length p.tasks → TaskPaces p passes (own k) (run_in p content inputs k) (most k) (longest k) (promises inputs k)) →
     TellsCharges p (λ k. (most k).cycles) longest loads → MeetsDeadlines rule p content loads

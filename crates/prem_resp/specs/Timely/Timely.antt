@@ -40,7 +40,9 @@ longest_at p placed k = slice_index_or (map (task_longest p) placed) k 0
 abbrev pub EachPaces : (passes : ℕ → ℕ) → Plant → List Device → List Coded → List Extent → (promises : List (List ℕ) → ℕ → Promise) → Type 0
 EachPaces passes p devices tasks places promises =
     (inputs : List (List ℕ)) → AreInputs (setup_of p devices places tasks) inputs → (k : ℕ) → k < length (setup_of p devices places tasks).tasks →
-    TaskPaces (setup_of p devices places tasks) passes (own_of tasks places k) (run_in (setup_of p devices places tasks) (content_of p places tasks) inputs k) (limits_at p (placed_from p places tasks) k) (longest_at p (placed_from p places tasks) k) (promises inputs k)
+    TaskPaces (setup_of p devices places tasks) passes (own_of tasks places k)
+    (run_in (setup_of p devices places tasks) (content_of p places tasks) inputs k) (limits_at p (placed_from p places tasks) k)
+    (longest_at p (placed_from p places tasks) k) (promises inputs k)
 
 -- at any lawful places
 abbrev pub LaidOutSetsMeetDeadlines : Type 0

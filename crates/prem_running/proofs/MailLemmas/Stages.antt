@@ -61,4 +61,6 @@ module _ (asked : MailAsked) where
   pub mail_is_fine : (reads : Reads) → IsFine IsSettled (mail_stages asked reads)
   mail_is_fine reads =
       set_fine IsSettled asked.of behind_set
-      (λ set rest. run_fine IsSettled set asked.run (behind_run set) (λ input more. mail_fine IsSettled set asked.mail (behind_mail set input) (λ feeds last. judged_fine (mail_tells asked.cycles feeds) set input refl (broken set)) more) rest) reads
+      (λ set rest. run_fine IsSettled set asked.run (behind_run set)
+      (λ input more. mail_fine IsSettled set asked.mail (behind_mail set input)
+      (λ feeds last. judged_fine (mail_tells asked.cycles feeds) set input refl (broken set)) more) rest) reads

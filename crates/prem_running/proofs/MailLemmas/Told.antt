@@ -29,7 +29,8 @@ starts_at p content inputs m is = ap (λ (x : Mailed). x.state.now) is
 
 -- and goes on from there
 goes_on : (p : Setup) (content : List ℕ) (inputs : List (List ℕ)) (requests : List Request) (feeds : List Feed) (limit : ℕ) (m : Mailing) (new : Mailed) →
-    new ≡ mailed_by (rule_in m.setup) m.setup m.requests m.feeds (limit - m.mailed.state.now) m.mailed → m.setup ≡ p → m.requests ≡ requests → m.feeds ≡ feeds → m.mailed ≡ mailed_first p content inputs →
+    new ≡ mailed_by (rule_in m.setup) m.setup m.requests m.feeds (limit - m.mailed.state.now) m.mailed → m.setup ≡ p → m.requests ≡ requests →
+    m.feeds ≡ feeds → m.mailed ≡ mailed_first p content inputs →
     new ≡ mailed_run (rule_in p) p content inputs requests feeds limit
 goes_on p content inputs requests feeds limit m new is setup asked fed first =
     let whole : limit - m.mailed.state.now ≡ limit = let z = starts_at p content inputs m.mailed first in omega (arith, z) in

@@ -49,7 +49,8 @@ tells_one n s h = ⊎_elim (λ (f : is_finished s ≡ true). inl (tells_finished
 
 -- ---- runs of sound images
 
-module _ (rule : ReplacementRule) (p : Setup) (content : List ℕ) (promises : List (List ℕ) → ℕ → Promise) (limit : ℕ) (inputs : List (List ℕ)) (requests : List Request) (sound : Sound rule p content promises limit)
+module _ (rule : ReplacementRule) (p : Setup) (content : List ℕ) (promises : List (List ℕ) → ℕ → Promise) (limit : ℕ) (inputs : List (List ℕ))
+    (requests : List Request) (sound : Sound rule p content promises limit)
     (suits : SuitsRun p inputs requests) where
   abbrev state : ℕ → MachineState
   state n = run_of rule p content inputs requests n

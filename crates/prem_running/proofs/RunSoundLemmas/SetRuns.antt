@@ -37,4 +37,5 @@ set_runs_are_good set bytes g n values none is =
 
 pub set_reports_end : SetReportsEnd
 set_reports_end set bytes g n values none is =
-    sound_reports_end (rule_of set.plant.policy) (setup_in set) (compiled set).image.content (promises_in set) (compiled set).limit g.words g.requests n (sets_are_sound set values none) (inputs_are_lawful set bytes g none is)
+    sound_reports_end (rule_of set.plant.policy) (setup_in set) (compiled set).image.content (promises_in set)
+    (compiled set).limit g.words g.requests n (sets_are_sound set values none) (inputs_are_lawful set bytes g none is)

@@ -18,7 +18,8 @@ use Rattle.prem_layout.specs.Bounds.{job_bound_of, JobBound, last_release, work_
 use Rattle.prem_layout.specs.Facts.{IntervalFact, interval_facts}
 use Rattle.prem_layout.specs.Parts.{part_count}
 use Rattle.prem_layout.specs.Placed.{Coded, Placed, placed_at, placed_from, task_places}
-use Rattle.prem_layout.specs.Rules.{BoundTooLarge, or_else, refused_by, first_among, over_tasks, greatest_bound, if_large, marked_bound, facts_behind, large_bound, code_rules, memory_rules, reach_rules, conflict_rules, bound_rules, length_rules, log_rules}
+use Rattle.prem_layout.specs.Rules.{BoundTooLarge, or_else, refused_by, first_among, over_tasks, greatest_bound, if_large, marked_bound, facts_behind, large_bound, code_rules}
+use Rattle.prem_layout.specs.Rules.{memory_rules, reach_rules, conflict_rules, bound_rules, length_rules, log_rules}
 use Rattle.prem_layout.specs.Broken.{broken_late}
 use Rattle.prem_tasks.specs.declared.set.TaskText.{TaskText as TaskTree}
 use Rattle.prem_tasks.specs.declared.set.TaskSet.{TaskSet as SetTree}

@@ -1,6 +1,7 @@
 -- The values that run files give are words, and their last request's cycle is the last one read.
 use Rattle.std.specs.Str.{bytes_eq}
-use Rattle.std.proofs.Common.{All, ap, ◌∙◌, ◌≡◌, ◌<◌, ◌≤◌, ◌^◌, ◌-◌, ◌%◌, ◌+◌, ◌==◌, ℕ, nat_lt, nat_le, List, [], ◌∷◌, ◌++◌, length, get_or, set, Option, None, Some, IfSome, option_map, Result, Ok, Err, codes, refl, sym, subst, arith, inl, inr, ⊎_elim}
+use Rattle.std.proofs.Common.{All, ap, ◌∙◌, ◌≡◌, ◌<◌, ◌≤◌, ◌^◌, ◌-◌, ◌%◌, ◌+◌, ◌==◌, ℕ, nat_lt, nat_le, List, [], ◌∷◌, ◌++◌, length, get_or, set, Option, None, Some, IfSome}
+use Rattle.std.proofs.Common.{option_map, Result, Ok, Err, codes, refl, sym, subst, arith, inl, inr, ⊎_elim}
 use Rattle.std.proofs.lemmas.Bool.{cases_Bool, cases_lt}
 use Rattle.std.proofs.lemmas.List.{get_or_past}
 use Rattle.std.proofs.lemmas.List.Elements.{All-nil, All-push, All-set, All-replicate}
@@ -13,7 +14,8 @@ use Rattle.prem_gate.specs.declared.request.Request.{Request}
 use Rattle.prem_set.specs.declared.run.fail.Which.{Which}
 use Rattle.prem_set.specs.declared.run.fail.Which.TheVariants as which
 use Rattle.prem_set.specs.Run.Names.{KnownNames, task_of, device_of}
-use Rattle.prem_set.specs.Run.Run.{Gathered, RequestWords, taken, taken_for, inputs_of, request_words, put_of, request_of, with_request, with_words, in_words, req_words, words_read, line_read, lines_read, at_line, nothing_yet, run_of}
+use Rattle.prem_set.specs.Run.Run.{Gathered, RequestWords, taken, taken_for, inputs_of, request_words, put_of, request_of, with_request, with_words, in_words, req_words}
+use Rattle.prem_set.specs.Run.Run.{words_read, line_read, lines_read, at_line, nothing_yet, run_of}
 use Rattle.prem_set.proofs.RunLemmas.Lawful.{limited, run_is_lawful}
 use Rattle.prem_set.specs.Run.ReadBack.{AreWords, PutWords, last_from, RunsAreSpelledAgain}
 use Rattle.prem_set.proofs.RunLemmas.ReadingBack.{runs_are_read_back}
@@ -81,21 +83,29 @@ asked_words : (last count line cycle : ℕ) (d : ℕ × ℕ) (put : Option ℕ) 
     (holds which.Slot (nat_lt line d.1) line >>= λ l. holds which.Order (nat_le last cycle) cycle >>= λ c.
     holds which.Limit (nat_lt count 100000) (record { cycle = c; device = d.0; line = l; put = put })) ≡ Ok r → IsPut r.put
 asked_words last count line cycle d put r h is =
-    bound (holds which.Slot (nat_lt line d.1) line) (λ l. holds which.Order (nat_le last cycle) cycle >>= λ c. holds which.Limit (nat_lt count 100000) (record { cycle = c; device = d.0; line = l; put = put })) r is (λ l slot rest.
+    bound (holds which.Slot (nat_lt line d.1) line)
+    (λ l. holds which.Order (nat_le last cycle) cycle >>= λ c. holds which.Limit (nat_lt count 100000)
+    (record { cycle = c; device = d.0; line = l; put = put })) r is (λ l slot rest.
     bound (holds which.Order (nat_le last cycle) cycle) (λ c. holds which.Limit (nat_lt count 100000) (record { cycle = c; device = d.0; line = l; put = put })) r rest (λ c order more.
     subst (λ (x : Request). IsPut x.put) (held which.Limit (nat_lt count 100000) (record { cycle = c; device = d.0; line = l; put = put }) r more).1 h))
 
 request_puts : (names : KnownNames) (last count : ℕ) (words : RequestWords) (r : Request) → request_of names last count words ≡ Ok r → IsPut r.put
 unfolding request_of
 request_puts names last count words r is =
-    bound (wanted which.Device (device_of names words.device)) (λ d. wanted which.Number (up_to (2 ^ 50) (number_of words.cycle)) >>= λ cycle. wanted which.Number (number_of words.line) >>= λ line. put_of words.put >>= λ put.
-    holds which.Slot (nat_lt line d.1) line >>= λ l. holds which.Order (nat_le last cycle) cycle >>= λ c. holds which.Limit (nat_lt count 100000) (record { cycle = c; device = d.0; line = l; put = put })) r is (λ d device rest1.
+    bound (wanted which.Device (device_of names words.device))
+    (λ d. wanted which.Number (up_to (2 ^ 50) (number_of words.cycle)) >>= λ cycle. wanted which.Number (number_of words.line)
+    >>= λ line. put_of words.put >>= λ put.
+    holds which.Slot (nat_lt line d.1) line >>= λ l. holds which.Order (nat_le last cycle) cycle >>= λ c. holds which.Limit (nat_lt count 100000)
+    (record { cycle = c; device = d.0; line = l; put = put })) r is (λ d device rest1.
     bound (wanted which.Number (up_to (2 ^ 50) (number_of words.cycle))) (λ cycle. wanted which.Number (number_of words.line) >>= λ line. put_of words.put >>= λ put.
-    holds which.Slot (nat_lt line d.1) line >>= λ l. holds which.Order (nat_le last cycle) cycle >>= λ c. holds which.Limit (nat_lt count 100000) (record { cycle = c; device = d.0; line = l; put = put })) r rest1 (λ cycle at_cycle rest2.
+    holds which.Slot (nat_lt line d.1) line >>= λ l. holds which.Order (nat_le last cycle) cycle >>= λ c. holds which.Limit (nat_lt count 100000)
+    (record { cycle = c; device = d.0; line = l; put = put })) r rest1 (λ cycle at_cycle rest2.
     bound (wanted which.Number (number_of words.line)) (λ line. put_of words.put >>= λ put.
-    holds which.Slot (nat_lt line d.1) line >>= λ l. holds which.Order (nat_le last cycle) cycle >>= λ c. holds which.Limit (nat_lt count 100000) (record { cycle = c; device = d.0; line = l; put = put })) r rest2 (λ line at_line rest3.
+    holds which.Slot (nat_lt line d.1) line >>= λ l. holds which.Order (nat_le last cycle) cycle >>= λ c. holds which.Limit (nat_lt count 100000)
+    (record { cycle = c; device = d.0; line = l; put = put })) r rest2 (λ line at_line rest3.
     bound (put_of words.put) (λ put.
-    holds which.Slot (nat_lt line d.1) line >>= λ l. holds which.Order (nat_le last cycle) cycle >>= λ c. holds which.Limit (nat_lt count 100000) (record { cycle = c; device = d.0; line = l; put = put })) r rest3 (λ put at_put rest4.
+    holds which.Slot (nat_lt line d.1) line >>= λ l. holds which.Order (nat_le last cycle) cycle >>= λ c. holds which.Limit (nat_lt count 100000)
+    (record { cycle = c; device = d.0; line = l; put = put })) r rest3 (λ put at_put rest4.
     asked_words last count line cycle d put r (put_words words.put put at_put) rest4))))
 
 -- ---- lines

@@ -3,7 +3,8 @@ use Rattle.std.specs.List.{AllByRecursion, flat_map, position_or_len}
 use Rattle.std.specs.List.Sorted.{IsNonDecreasingBy}
 use Rattle.std.specs.Option.{option_and_then}
 use Rattle.std.specs.Str.{bytes_eq}
-use Rattle.std.proofs.Common.{◌≡◌, ◌≢◌, ◌<◌, ◌≤◌, ◌^◌, ℕ, suc, ◌+◌, nat_lt, Bool, if◌then◌else◌, true, false, List, [], ◌∷◌, ◌++◌, length, map, All, get_or, set, slice_get, replicate, Option, None, Some, IfSome, option_map, Result, Ok, codes, decimal, refl, ap, sym, subst, ◌∙◌, arith, inl, inr}
+use Rattle.std.proofs.Common.{◌≡◌, ◌≢◌, ◌<◌, ◌≤◌, ◌^◌, ℕ, suc, ◌+◌, nat_lt, Bool, if◌then◌else◌, true, false, List, [], ◌∷◌, ◌++◌, length, map, All, get_or, set, slice_get}
+use Rattle.std.proofs.Common.{replicate, Option, None, Some, IfSome, option_map, Result, Ok, codes, decimal, refl, ap, sym, subst, ◌∙◌, arith, inl, inr}
 use Rattle.std.proofs.lemmas.Bool.{cases_Bool, le-leb, lt-ltb}
 use Rattle.std.proofs.lemmas.List.{append_assoc, append-nil, length-append, length-map, get_or-map}
 use Rattle.std.proofs.lemmas.List.Elements.{recursion_from_All}
@@ -23,7 +24,8 @@ use Rattle.prem_set.specs.declared.run.fail.Which.{Which}
 use Rattle.prem_set.specs.declared.run.fail.Which.TheVariants as which
 use Rattle.prem_set.specs.Run.Names.{KnownNames, place_of, task_of, device_of}
 use Rattle.prem_set.specs.Run.Lawful.{IsKnown}
-use Rattle.prem_set.specs.Run.Run.{Gathered, LineRefusal, taken, taken_for, inputs_of, request_words, put_of, request_of, with_request, with_words, in_words, req_words, words_read, line_read, lines_read, nothing_yet, run_of}
+use Rattle.prem_set.specs.Run.Run.{Gathered, LineRefusal, taken, taken_for, inputs_of, request_words, put_of, request_of, with_request, with_words, in_words, req_words, words_read}
+use Rattle.prem_set.specs.Run.Run.{line_read, lines_read, nothing_yet, run_of}
 use Rattle.prem_set.specs.Run.Text.{word_text, list_line, lists_text, device_name, way_text, request_line, run_text}
 use Rattle.prem_set.specs.Run.ReadBack.{AreNames, AreWords, PutWords, last_from, RunsAreReadBack}
 use Rattle.prem_set.proofs.RunLemmas.SpelledLines.{IsPlain, plain_name, plain_decimal, plain_values, joined_is_line, joined_is_text, words_back, joined_numbers}
@@ -233,7 +235,8 @@ req_read names g r is later few = by r.put refl
         ap (λ o. wanted which.Number o >>= λ n. Ok (Some n)) (values_are_read_back v small) ∙ ap Ok (sym this) in
         ap (λ o. o >>= λ x. Ok (with_request g x)) (request_is names g.last (length g.requests) r (Some (decimal v)) is later few word)
 
-goes : (names : KnownNames) (n : ℕ) (g next : Gathered) (line : List ℕ) (lines : List (List ℕ)) → line_read names g line ≡ Ok next → lines_read names n g (line ∷ lines) ≡ lines_read names (n + 1) next lines
+goes : (names : KnownNames) (n : ℕ) (g next : Gathered) (line : List ℕ) (lines : List (List ℕ)) → line_read names g line ≡ Ok next →
+    lines_read names n g (line ∷ lines) ≡ lines_read names (n + 1) next lines
 unfolding lines_read
 goes names n g next line lines is = rw is refl
 
@@ -306,7 +309,8 @@ pub small_lists : (lists : List (List ℕ)) → AreWords lists → AreSmall list
 small_lists lists words =
     recursion_from_All (AllByRecursion (λ v. v < 2 ^ 32)) lists (λ k d within. recursion_from_All (λ v. v < 2 ^ 32) (get_or lists k d) (words k d within))
 
-file_is : (names : KnownNames) (words : List (List ℕ)) (requests : List Request) → AreNames names → length words ≡ length names.tasks → AreShort words → AreSmall words → AllByRecursion (IsAsked names) requests →
+file_is : (names : KnownNames) (words : List (List ℕ)) (requests : List Request) → AreNames names → length words ≡ length names.tasks →
+    AreShort words → AreSmall words → AllByRecursion (IsAsked names) requests →
     Rises 0 requests → length requests ≤ 100000 → run_of (run_text names words requests) names ≡ Ok (record { words = words; requests = requests; last = last_from 0 requests })
 file_is names words requests are count short small asks rise few =
     let tasks = recursion_from_All IsName names.tasks are.tasks in
@@ -316,7 +320,8 @@ file_is names words requests are count short small asks rise few =
     let back : lines_of (run_text names words requests) ≡ lines =
     ap lines_of text ∙ lines_are_read_back lines (in_are_lines names.tasks words (req_lines names requests) tasks small (req_are_lines names requests asks)) in
     ap (lines_read names 1 (nothing_yet names)) back
-    ∙ lists_read names [] names.tasks [] words (req_lines names requests) 1 (Ok (record { words = words; requests = requests; last = last_from 0 requests })) refl refl count are.distinct_tasks tasks short small
+    ∙ lists_read names [] names.tasks [] words (req_lines names requests) 1
+    (Ok (record { words = words; requests = requests; last = last_from 0 requests })) refl refl count are.distinct_tasks tasks short small
     (λ m. requests_read names words [] requests m 0 asks rise few)
 
 pub runs_are_read_back : RunsAreReadBack

@@ -81,13 +81,15 @@ marked_there (x ∷ fs) (suc n) e = marked_there fs n e
 stated_in : (q : Resolved) (n : ℕ) (fs : List Routine) (f : ℕ) → stated_at fs f ≤ greatest_stated (plans_from q n fs)
 stated_in q n [] f = omega arith
 stated_in q n (x ∷ fs) f = by x.text.mark refl f (λ k. stated_in q (n + 1) fs k) where
-  by : (o : Option MarkText) → x.text.mark ≡ o → (f : ℕ) → ((k : ℕ) → stated_at fs k ≤ greatest_stated (plans_from q (n + 1) fs)) → stated_at (x ∷ fs) f ≤ greatest_stated (plan_before q n o (plans_from q (n + 1) fs))
+  by : (o : Option MarkText) → x.text.mark ≡ o → (f : ℕ) → ((k : ℕ) → stated_at fs k ≤ greatest_stated (plans_from q (n + 1) fs)) →
+      stated_at (x ∷ fs) f ≤ greatest_stated (plan_before q n o (plans_from q (n + 1) fs))
   by None e zero behind = let z : stated_at (x ∷ fs) 0 ≡ 0 = ap (λ (o : Option MarkText). unwrap_or (option_map (λ (m : MarkText). m.stated) o) 0) e in omega (arith, z)
   by None e (suc f) behind = behind f
   by (Some m) e zero behind = let z : stated_at (x ∷ fs) 0 ≡ m.stated = ap (λ (o : Option MarkText). unwrap_or (option_map (λ (m : MarkText). m.stated) o) 0) e in omega (arith, z)
   by (Some m) e (suc f) behind = omega (arith, behind f)
 
-module _ (passes : ℕ → ℕ) (p : Plant) (devices : List Device) (tasks : List Coded) (places : List Extent) (k : ℕ) (t : Placed) (placed : IsPlacedTask p devices tasks places k t) (same : passes p.ways ≡ pass_count (stub_passes p)) (x : ProgramText) (keeps : KeepsTaskRules p x t)
+module _ (passes : ℕ → ℕ) (p : Plant) (devices : List Device) (tasks : List Coded) (places : List Extent) (k : ℕ) (t : Placed)
+    (placed : IsPlacedTask p devices tasks places k t) (same : passes p.ways ≡ pass_count (stub_passes p)) (x : ProgramText) (keeps : KeepsTaskRules p x t)
     (some : 1 ≤ t.task.jobs) (inputs : List (List ℕ)) (words : All (λ word. word < 2 ^ 32) (slice_index_or inputs k [])) where
   abbrev pub s : Setting
   s = setting_of p (task_guard t) t
@@ -142,7 +144,8 @@ module _ (passes : ℕ → ℕ) (p : Plant) (devices : List Device) (tasks : Lis
         stands = code_stands p devices tasks places k t placed x keeps n f.0 f.1;
         calm = functions_are_calm (parts_of p.target t.task.program.routines) f.0;
         takes = functions_take (parts_of p.target t.task.program.routines) f.0;
-        own_bytes = task_code_is_own p devices tasks places k t placed (1 + n) ps (part_listed p devices tasks places k t placed x keeps n ps (table_code p devices tasks places k t placed x keeps n f.0 f.1));
+        own_bytes = task_code_is_own p devices tasks places k t placed (1 + n) ps
+            (part_listed p devices tasks places k t placed x keeps n ps (table_code p devices tasks places k t placed x keeps n f.0 f.1));
       })
 
   -- a stub in memory, in a job, under a confinement
@@ -162,8 +165,10 @@ module _ (passes : ℕ → ℕ) (p : Plant) (devices : List Device) (tasks : Lis
       (subst (λ y. StubHere y ended r.plan.function) (sym (ap (confinement_of t) at)) (record {
         plan = r.plan;
         there = at;
-        here = confined_stands passes p devices tasks places k t placed x keeps same (marked_before n t.task.program.routines) r.plan r.planned first own ended (run.running (task_guard t) ended less) run.stack_small;
-        stated = stated_so passes p devices tasks places k t placed x keeps same (marked_before n t.task.program.routines) r.plan r.planned first own ended (run.running (task_guard t) ended less) run.stack_small;
+        here = confined_stands passes p devices tasks places k t placed x keeps same (marked_before n t.task.program.routines)
+            r.plan r.planned first own ended (run.running (task_guard t) ended less) run.stack_small;
+        stated = stated_so passes p devices tasks places k t placed x keeps same (marked_before n t.task.program.routines)
+            r.plan r.planned first own ended (run.running (task_guard t) ended less) run.stack_small;
       }))
 
   below : t.task.program.job < length t.task.program.routines
@@ -225,7 +230,8 @@ module _ (passes : ℕ → ℕ) (p : Plant) (devices : List Device) (tasks : Lis
 
   task_names : (f : ℕ) → stated_at t.task.program.routines f ≤ greatest_stated t.plans
   task_names f =
-      subst (λ (ps : List Plan). stated_at t.task.program.routines f ≤ greatest_stated ps) (sym (plans_are p places _ t (at_parts p devices tasks places k t placed))) (stated_in t.task.program 0 t.task.program.routines f)
+      subst (λ (ps : List Plan). stated_at t.task.program.routines f ≤ greatest_stated ps)
+      (sym (plans_are p places _ t (at_parts p devices tasks places k t placed))) (stated_in t.task.program 0 t.task.program.routines f)
 
   task_stands : TaskStands (setup_of p devices places tasks) (own_of tasks places k) passes p x t s own (λ g. (global_range t.at g).0)
   task_stands =
@@ -239,7 +245,8 @@ module _ (passes : ℕ → ℕ) (p : Plant) (devices : List Device) (tasks : Lis
         calls = λ ended less. subst (λ b. CallsStand (setup_of p devices places tasks) (own_of tasks places k) passes reads s own ended b t counted) (sym run.bytes) (calls_here ended less);
         mine = task_guard_is_own p devices tasks places k t placed;
         plain = plain_tasks_fit x t.task.program rules t.task.program.job (omega arith) s (codes_in t) (codes_stand p devices tasks places k t placed x keeps (plain_callable t.task.program));
-        stubs_fit = job_stubs_fit t.task.program t.task.program.job (omega arith) (let lt = below in omega (arith, lt)) s (plain_callable t.task.program) (codes_in t) (codes_stand p devices tasks places k t placed x keeps (plain_callable t.task.program));
+        stubs_fit = job_stubs_fit t.task.program t.task.program.job (omega arith) (let lt = below in omega (arith, lt)) s
+            (plain_callable t.task.program) (codes_in t) (codes_stand p devices tasks places k t placed x keeps (plain_callable t.task.program));
         stubs = stub_meant;
         job = job_stands;
         starts = subst (λ b. StartStands s own b counted 0 ((codes_in t).code_part t.task.program.job)) (sym run.bytes)
@@ -250,7 +257,8 @@ module _ (passes : ℕ → ℕ) (p : Plant) (devices : List Device) (tasks : Lis
         small = run.entry_small;
         bytes = λ a. subst (λ (b : ℕ → ℕ). b a < 256) (sym run.bytes) (one_there (content_of p places tasks) a (content_fits p devices tasks places all).1);
         inputs = words;
-        first = subst (λ b. GlobalsStand s (globals_in p.target t.task.program) (map initial_words t.task.program.globals) b) (sym run.bytes) (globals_stand_first p devices tasks places all k t placed.there (task_guard t));
+        first = subst (λ b. GlobalsStand s (globals_in p.target t.task.program) (map initial_words t.task.program.globals) b) (sym run.bytes)
+            (globals_stand_first p devices tasks places all k t placed.there (task_guard t));
         globals = globals_are_placed p devices tasks places all k t placed.there (task_guard t);
         own_globals = globals_are_own p devices tasks places all k t placed.there (own_of tasks places k) (λ g a lt h. places_are_own p tasks places k t placed.there _ a h);
         cost = weight_in p t.plans t.table ((codes_in t).code_part t.task.program.job);
@@ -302,14 +310,19 @@ module _ (passes : ℕ → ℕ) (p : Plant) (devices : List Device) (tasks : Lis
   unfolding task_stands
   named_is = refl
 
-  task_tells : JobsTell (setup_of p devices places tasks) passes (own_of tasks places k) own (task_limits p t) (task_longest p t) (greatest_stated t.plans) s (globals_in p.target t.task.program) (limits_of x) t.task.program (job_calls s t) 0 ((codes_in t).code_part t.task.program.job)
+  task_tells : JobsTell (setup_of p devices places tasks) passes (own_of tasks places k) own (task_limits p t) (task_longest p t)
+      (greatest_stated t.plans) s (globals_in p.target t.task.program) (limits_of x) t.task.program (job_calls s t) 0
+      ((codes_in t).code_part t.task.program.job)
       (promise_for x t (slice_index_or inputs k []))
   task_tells =
-      subst (λ n. JobsTell (setup_of p devices places tasks) passes (own_of tasks places k) own (task_limits p t) (task_longest p t) n s (globals_in p.target t.task.program) (limits_of x) t.task.program (job_calls s t) 0 ((codes_in t).code_part t.task.program.job)
+      subst (λ n. JobsTell (setup_of p devices places tasks) passes (own_of tasks places k) own (task_limits p t) (task_longest p t) n s
+      (globals_in p.target t.task.program) (limits_of x) t.task.program (job_calls s t) 0 ((codes_in t).code_part t.task.program.job)
       (promise_for x t (slice_index_or inputs k []))) named_is
-      (subst (λ n. JobsTell (setup_of p devices places tasks) passes (own_of tasks places k) own (task_limits p t) n task_stands.named s (globals_in p.target t.task.program) (limits_of x) t.task.program (job_calls s t) 0 ((codes_in t).code_part t.task.program.job)
+      (subst (λ n. JobsTell (setup_of p devices places tasks) passes (own_of tasks places k) own (task_limits p t) n task_stands.named s
+      (globals_in p.target t.task.program) (limits_of x) t.task.program (job_calls s t) 0 ((codes_in t).code_part t.task.program.job)
       (promise_for x t (slice_index_or inputs k []))) longest_is
-      (subst (JobsTell (setup_of p devices places tasks) passes (own_of tasks places k) own (task_limits p t) task_stands.longest task_stands.named s (globals_in p.target t.task.program) (limits_of x) t.task.program (job_calls s t) 0 ((codes_in t).code_part t.task.program.job))
+      (subst (JobsTell (setup_of p devices places tasks) passes (own_of tasks places k) own (task_limits p t) task_stands.longest task_stands.named s
+      (globals_in p.target t.task.program) (limits_of x) t.task.program (job_calls s t) 0 ((codes_in t).code_part t.task.program.job))
       (sym (ap (λ n. Rattle.prem_sets_sound.specs.Weave.Promise.Promised.promise_in (λ g. (global_range t.at g).0) x (slice_index_or inputs k []) n) (sym run.jobs)
       ∙ promise_is (setup_of p devices places tasks) (own_of tasks places k) passes p x t s own (λ g. (global_range t.at g).0) task_stands))
       (jobs_tell (setup_of p devices places tasks) (own_of tasks places k) passes p x t s own (λ g. (global_range t.at g).0) task_stands (task_limits p t) most_is refl refl)))

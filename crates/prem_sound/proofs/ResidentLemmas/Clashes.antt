@@ -60,7 +60,8 @@ shut_calm now w core s memory h closed =
     ∙ ap (λ o. (bus_with core None o s memory).turn.clash) still
     ∙ closed_calm core s memory
 
-pub turn_calm : (now : ℕ) (w : Window) (core : CoreWant) (s : GatesState) (memory : List ℕ) → CarriesInside now w s → (wants core ≡ true → w.close ≤ now) → (bus_turn now w core s memory).turn.clash ≡ false
+pub turn_calm : (now : ℕ) (w : Window) (core : CoreWant) (s : GatesState) (memory : List ℕ) → CarriesInside now w s →
+    (wants core ≡ true → w.close ≤ now) → (bus_turn now w core s memory).turn.clash ≡ false
 turn_calm now w No s memory h calm = idle_calm s.carried (startable now w s) s memory
 turn_calm now w New s memory h calm = shut_calm now w New s memory h (calm refl)
 turn_calm now w Held s memory h calm = shut_calm now w Held s memory h (calm refl)
@@ -73,7 +74,8 @@ closed_serves New s memory h = refl
 closed_serves Held s memory h = refl
 
 -- where it wants it only while the window is closed
-pub turn_serves : (now : ℕ) (w : Window) (core : CoreWant) (s : GatesState) (memory : List ℕ) → CarriesInside now w s → (wants core ≡ true → w.close ≤ now) → wants core ≡ true → (bus_turn now w core s memory).turn.core ≡ true
+pub turn_serves : (now : ℕ) (w : Window) (core : CoreWant) (s : GatesState) (memory : List ℕ) → CarriesInside now w s →
+    (wants core ≡ true → w.close ≤ now) → wants core ≡ true → (bus_turn now w core s memory).turn.core ≡ true
 turn_serves now w core s memory h calm want =
     let closed : w.close ≤ now = calm want in
     let none : s.carried ≡ None = none_inside now w s.carried closed h.carried in

@@ -73,14 +73,16 @@ no_store (Some a) (Some s) m h =
     let k : a.kind ≡ Loads = h in
     let x : Loads ≡ Stores = sym k ∙ ap (λ (b : Access). b.kind) m in absurd cc
 
-store_counts : (phase : Phase) (access : Option Access) (stored : Option Stored) (n : Counts) → AccessMatches access stored → StoresNothing phase access → NoFaults n → NoFaults (with_store phase stored n)
+store_counts : (phase : Phase) (access : Option Access) (stored : Option Stored) (n : Counts) → AccessMatches access stored →
+    StoresNothing phase access → NoFaults n → NoFaults (with_store phase stored n)
 store_counts Compatible access None n m h f = f
 store_counts Compatible access (Some s) n m h f = record { exec_misses = f.exec_misses; memory_stores = (let z : n.memory_stores ≡ 0 = f.memory_stores in omega arith); clashes = f.clashes }
 store_counts Execution access None n m h f = f
 store_counts Execution access (Some s) n m h f = record { exec_misses = f.exec_misses; memory_stores = (let z : n.memory_stores ≡ 0 = f.memory_stores in omega arith); clashes = f.clashes }
 store_counts MemoryPhase access stored n m h f = subst (λ o. NoFaults (with_store MemoryPhase o n)) (sym (no_store access stored m h)) f
 
-pub issue_counts : (phase : Phase) (e : Effect) (ts : List LineTouch) (n : Counts) → AccessMatches e.access e.stored → StoresNothing phase e.access → (is_execution phase ≡ true → missed_lines ts ≡ []) → NoFaults n → NoFaults (with_store phase e.stored (with_touches phase ts n))
+pub issue_counts : (phase : Phase) (e : Effect) (ts : List LineTouch) (n : Counts) → AccessMatches e.access e.stored → StoresNothing phase e.access →
+    (is_execution phase ≡ true → missed_lines ts ≡ []) → NoFaults n → NoFaults (with_store phase e.stored (with_touches phase ts n))
 issue_counts phase e ts n m s h f = store_counts phase e.access e.stored (with_touches phase ts n) m s (touches_counts phase ts n h f)
 
 -- ---- what is executed fits memory
@@ -97,7 +99,8 @@ fits_done size i instr (Done f) e h is =
     let same : f ≡ e = cc in
     subst (EffectFits size) same h
 
-fits_fetched : (target : Target) (size : ℕ) (view : ℕ → ℕ) (t : Task) (f : Result Instr Cause) (instr : Instr) (e : Effect) → ((a : ℕ) → view a < 256) → fetch size view t.pc ≡ f → attempt_fetched target size view t f ≡ Executes instr e → AttemptFits size t e
+fits_fetched : (target : Target) (size : ℕ) (view : ℕ → ℕ) (t : Task) (f : Result Instr Cause) (instr : Instr) (e : Effect) →
+    ((a : ℕ) → view a < 256) → fetch size view t.pc ≡ f → attempt_fetched target size view t f ≡ Executes instr e → AttemptFits size t e
 fits_fetched target size view t (Err cause) instr e bytes at is = absurd (let x : Traps cause ≡ Executes instr e = is in cc)
 fits_fetched target size view t (Ok i) instr e bytes at is =
     let f : Fits i × (t.pc + 4 ≤ size) = fetch_fits size view t.pc bytes i at in
@@ -107,5 +110,6 @@ fits_fetched target size view t (Ok i) instr e bytes at is =
           (act_fits target size view (slice_index t.registers) t.pc t.phase (next_input t.left) i f.0) is;
     }
 
-pub attempt_fits : (target : Target) (size : ℕ) (view : ℕ → ℕ) (t : Task) (instr : Instr) (e : Effect) → ((a : ℕ) → view a < 256) → attempt_in target size view t ≡ Executes instr e → AttemptFits size t e
+pub attempt_fits : (target : Target) (size : ℕ) (view : ℕ → ℕ) (t : Task) (instr : Instr) (e : Effect) → ((a : ℕ) → view a < 256) →
+    attempt_in target size view t ≡ Executes instr e → AttemptFits size t e
 attempt_fits target size view t instr e bytes is = fits_fetched target size view t (fetch size view t.pc) instr e bytes refl is

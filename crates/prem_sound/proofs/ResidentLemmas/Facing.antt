@@ -36,11 +36,15 @@ no_clash clash n e f = record {
 }
 
 -- the task that issues is one of them
-there_of : (order : OrderRule) (p : Setup) (runs : ℕ → TaskRun) (scripts : ℕ → Script) (at : ℕ → ℕ) (sched : List TaskJobs) (m : CoreMove) → Scheduled p runs at sched m → IsThere order p.plant (length p.tasks) runs scripts m
+there_of : (order : OrderRule) (p : Setup) (runs : ℕ → TaskRun) (scripts : ℕ → Script) (at : ℕ → ℕ) (sched : List TaskJobs) (m : CoreMove) →
+    Scheduled p runs at sched m → IsThere order p.plant (length p.tasks) runs scripts m
 there_of order p runs scripts at sched (Passes c) h = tt
 there_of order p runs scripts at sched (Issues k i) h = h.unfinished.bound
 
-may_reside : (order : OrderRule) (p : Setup) (runs : ℕ → TaskRun) (scripts : ℕ → Script) (at : ℕ → ℕ) (orders : List (List ℕ)) (now : ℕ) (had : Bool) (sched : List TaskJobs) (w : Work) (c : CoreState) (m : CoreMove) → MayMove p now had sched w c m → IsThere order p.plant (length p.tasks) runs scripts m → Phases order p.plant (length p.tasks) runs scripts at orders w c.mode → Resides order p.plant (length p.tasks) runs scripts at orders c.mode c.interval c.mark → Moves order p.plant (length p.tasks) runs scripts at orders m
+may_reside : (order : OrderRule) (p : Setup) (runs : ℕ → TaskRun) (scripts : ℕ → Script) (at : ℕ → ℕ) (orders : List (List ℕ)) (now : ℕ) (had : Bool)
+    (sched : List TaskJobs) (w : Work) (c : CoreState) (m : CoreMove) → MayMove p now had sched w c m →
+    IsThere order p.plant (length p.tasks) runs scripts m → Phases order p.plant (length p.tasks) runs scripts at orders w c.mode →
+    Resides order p.plant (length p.tasks) runs scripts at orders c.mode c.interval c.mark → Moves order p.plant (length p.tasks) runs scripts at orders m
 may_reside order p runs scripts at orders now had sched w c _ (does m x) l ph r = moves order p.plant (length p.tasks) runs scripts at orders p now had sched w c m x l ph r
 may_reside order p runs scripts at orders now had sched w c _ (stands_still e) l ph r = r
 
@@ -48,7 +52,8 @@ may_calm : (p : Setup) (now : ℕ) (had : Bool) (sched : List TaskJobs) (w : Wor
 may_calm p now had sched w c _ (does m x) calm = calm_moves p now had sched w c m x calm
 may_calm p now had sched w c _ (stands_still e) calm = calm
 
-may_close : (now : ℕ) (p : Setup) (had : Bool) (sched : List TaskJobs) (w : Work) (c : CoreState) (m : CoreMove) → MayMove p now had sched w c m → WindowCloses now (phase_in w) c.interval c.mark c.mode c.window → Windowed now (phase_in w) c.window m
+may_close : (now : ℕ) (p : Setup) (had : Bool) (sched : List TaskJobs) (w : Work) (c : CoreState) (m : CoreMove) → MayMove p now had sched w c m →
+    WindowCloses now (phase_in w) c.interval c.mark c.mode c.window → Windowed now (phase_in w) c.window m
 may_close now p had sched w c _ (does m x) s = windowed now (phase_in w) p had sched w c m x s
 may_close now p had sched w c _ (stands_still e) s = record { closes = s; stays = inl refl }
 
@@ -66,7 +71,8 @@ pub record KnownCore (p : Setup) (own : ℕ → ℕ → Bool) (runs : ℕ → Ta
   pub position : Position p own runs at s
   pub closes : CoreCloses s
 
-module _ (rule : ReplacementRule) (order : OrderRule) (passes : ℕ → ℕ) (p : Setup) (own : ℕ → ℕ → Bool) (runs : ℕ → TaskRun) (scripts : ℕ → Script) (policy : IsPolicy rule order passes) (keep : KeepScripts p passes runs scripts) (rs : Runs p own runs) where
+module _ (rule : ReplacementRule) (order : OrderRule) (passes : ℕ → ℕ) (p : Setup) (own : ℕ → ℕ → Bool) (runs : ℕ → TaskRun) (scripts : ℕ → Script)
+    (policy : IsPolicy rule order passes) (keep : KeepScripts p passes runs scripts) (rs : Runs p own runs) where
   abbrev KeepsAt : (ℕ → ℕ) → MachineState → Type 0
   KeepsAt at s = Keeps rule order passes p own runs scripts policy keep at s
 
@@ -121,7 +127,8 @@ module _ (rule : ReplacementRule) (order : OrderRule) (passes : ℕ → ℕ) (p 
       ticked_keeps rule order passes p own runs scripts policy keep (bump_move m at) (joined a b (turn_with rule p b m s) s) c.position.untrapped
       (record { resides = c.turn.resides; calm = c.turn.calm; counts = c.turn.counts })
 
-  pub core_known : (at : ℕ → ℕ) (a : Arrivals) (b : Turned) (m : CoreMove) (s : MachineState) → Comes at a b m s → KnownCore p own runs (bump_move m at) (ticked (joined a b (turn_with rule p b m s) s))
+  pub core_known : (at : ℕ → ℕ) (a : Arrivals) (b : Turned) (m : CoreMove) (s : MachineState) → Comes at a b m s →
+      KnownCore p own runs (bump_move m at) (ticked (joined a b (turn_with rule p b m s) s))
   core_known at a b m s c = record {
     position = ticked_position p own runs (bump_move m at) (joined a b (turn_with rule p b m s) s) c.position;
     closes = ticked_closes (joined a b (turn_with rule p b m s) s) c.closes;
@@ -129,7 +136,9 @@ module _ (rule : ReplacementRule) (order : OrderRule) (passes : ℕ → ℕ) (p 
 
 -- ---- the start
 
-pub start_faultless : (rule : ReplacementRule) (order : OrderRule) (passes : ℕ → ℕ) (p : Setup) (own : ℕ → ℕ → Bool) (runs : ℕ → TaskRun) (scripts : ℕ → Script) (policy : IsPolicy rule order passes) (keep : KeepScripts p passes runs scripts) (inputs : List (List ℕ)) (memory : List ℕ) → Keeps rule order passes p own runs scripts policy keep (λ k. 0) (start_of p inputs memory)
+pub start_faultless : (rule : ReplacementRule) (order : OrderRule) (passes : ℕ → ℕ) (p : Setup) (own : ℕ → ℕ → Bool) (runs : ℕ → TaskRun)
+    (scripts : ℕ → Script) (policy : IsPolicy rule order passes) (keep : KeepScripts p passes runs scripts) (inputs : List (List ℕ))
+    (memory : List ℕ) → Keeps rule order passes p own runs scripts policy keep (λ k. 0) (start_of p inputs memory)
 unfolding begun_by
 start_faultless rule order passes p own runs scripts policy keep inputs memory = record {
   resides = record { rests = λ j lt _ h. refl; runs_in = λ k e. absurd (let x : Point ≡ Running k = e in cc) };

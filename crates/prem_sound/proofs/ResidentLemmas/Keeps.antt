@@ -86,7 +86,8 @@ owes_none (t ∷ ts) cost e h = let x : t ∷ ts ≡ [] = e in cc
 abbrev pub KeepScripts : Setup → (ℕ → ℕ) → (ℕ → TaskRun) → (ℕ → Script) → Type 0
 KeepScripts p passes runs scripts = (k : ℕ) → k < length p.tasks → IsScript p.plant passes (runs k) (scripts k)
 
-module _ (rule : ReplacementRule) (order : OrderRule) (passes : ℕ → ℕ) (p : Setup) (own : ℕ → ℕ → Bool) (runs : ℕ → TaskRun) (scripts : ℕ → Script) (policy : IsPolicy rule order passes) (keep : KeepScripts p passes runs scripts) where
+module _ (rule : ReplacementRule) (order : OrderRule) (passes : ℕ → ℕ) (p : Setup) (own : ℕ → ℕ → Bool) (runs : ℕ → TaskRun) (scripts : ℕ → Script)
+    (policy : IsPolicy rule order passes) (keep : KeepScripts p passes runs scripts) where
   -- where the lines of the tasks are
   abbrev pub ResidesAt : (ℕ → ℕ) → CacheState → Mode → Interval → Change → Type 0
   ResidesAt at c mode i mark = Resides order p.plant (length p.tasks) runs scripts at (lines_in c) mode i mark
@@ -104,14 +105,23 @@ module _ (rule : ReplacementRule) (order : OrderRule) (passes : ℕ → ℕ) (p 
   sets_are w h = length-map w.cache.sets lines_of ∙ h.cache.count ∙ ap (λ (q : Plant). q.sets) h.plant
 
   -- the lines of an instruction of a task
-  issue_lines : (at : ℕ → ℕ) (k : ℕ) (w : Work) → Stands p own runs at w → Runs p own runs → k < length p.tasks → (x : Issuing p (own k) (runs k) (at k) k w) → TouchesLines order p.plant.ways w.cache (lines_of_did p.plant.line (did_of (task_in w k).pc (task_in w k).phase x.instr x.effect)) (issued_by rule p k x.effect w)
+  issue_lines : (at : ℕ → ℕ) (k : ℕ) (w : Work) → Stands p own runs at w → Runs p own runs → k < length p.tasks →
+      (x : Issuing p (own k) (runs k) (at k) k w) →
+      TouchesLines order p.plant.ways w.cache (lines_of_did p.plant.line (did_of (task_in w k).pc (task_in w k).phase x.instr x.effect))
+      (issued_by rule p k x.effect w)
   issue_lines at k w s rs lt x =
       let t : Task = task_in w k in
-      let fits : AttemptFits (runs k).size t x.effect = attempt_fits (runs k).target (runs k).size (plain_run (runs k) (at k)).task.view t x.instr x.effect (plain_fits (runs k) (rs.is k lt).fits (at k)).task.bytes x.alone in
+      let fits : AttemptFits (runs k).size t x.effect =
+      attempt_fits (runs k).target (runs k).size (plain_run (runs k) (at k)).task.view t x.instr x.effect
+      (plain_fits (runs k) (rs.is k lt).fits (at k)).task.bytes x.alone in
       issue_touches rule order policy.moves p k x.effect w policy.keeps s.kept (subst (λ m. t.pc + 4 ≤ m) (rs.is k lt).size fits.within)
 
   -- in an execution phase, and where one begins, none of them misses
-  pub issue_hits : (at : ℕ → ℕ) (k : ℕ) (i : Interval) (w : Work) → Stands p own runs at w → Runs p own runs → k < length p.tasks → (x : Issuing p (own k) (runs k) (at k) k w) → plain_did (runs k) (plain_run (runs k) (at k)) ≡ Some (did_of (task_in w k).pc (task_in w k).phase x.instr x.effect) → MayIssue order p.plant (length p.tasks) runs scripts at (lines_in w.cache) k i → MustHit (phase_in w k) x.effect.change → missed_lines (issued_by rule p k x.effect w).touches ≡ []
+  pub issue_hits : (at : ℕ → ℕ) (k : ℕ) (i : Interval) (w : Work) → Stands p own runs at w → Runs p own runs → k < length p.tasks →
+      (x : Issuing p (own k) (runs k) (at k) k w) →
+      plain_did (runs k) (plain_run (runs k) (at k)) ≡ Some (did_of (task_in w k).pc (task_in w k).phase x.instr x.effect) →
+      MayIssue order p.plant (length p.tasks) runs scripts at (lines_in w.cache) k i → MustHit (phase_in w k) x.effect.change →
+      missed_lines (issued_by rule p k x.effect w).touches ≡ []
   issue_hits at k i w s rs lt x did may must =
       let d : Did = did_of (task_in w k).pc (task_in w k).phase x.instr x.effect in
       let plant : IsPlant p.plant = kept_plant p w.cache w.memory s.kept in
@@ -120,13 +130,19 @@ module _ (rule : ReplacementRule) (order : OrderRule) (passes : ℕ → ℕ) (p 
       (subst (λ ph. MustHit ph x.effect.change) (same_phase at w k (s.each k lt)) must)
 
   -- an instruction of a task
-  issue_keeps : (at : ℕ → ℕ) (now k : ℕ) (i : Interval) (w : Work) (c : CoreState) (n : Counts) → Stands p own runs at w → Runs p own runs → k < length p.tasks → (x : Issuing p (own k) (runs k) (at k) k w) → plain_did (runs k) (plain_run (runs k) (at k)) ≡ Some (did_of (task_in w k).pc (task_in w k).phase x.instr x.effect) → MayIssue order p.plant (length p.tasks) runs scripts at (lines_in w.cache) k i → WindowIssue now (phase_in w) c.window k i → NoFaults n → TurnKeeps now (bump k at) (core_issue rule p now k i (Executes x.instr x.effect) w c n)
+  issue_keeps : (at : ℕ → ℕ) (now k : ℕ) (i : Interval) (w : Work) (c : CoreState) (n : Counts) → Stands p own runs at w → Runs p own runs →
+      k < length p.tasks → (x : Issuing p (own k) (runs k) (at k) k w) →
+      plain_did (runs k) (plain_run (runs k) (at k)) ≡ Some (did_of (task_in w k).pc (task_in w k).phase x.instr x.effect) →
+      MayIssue order p.plant (length p.tasks) runs scripts at (lines_in w.cache) k i → WindowIssue now (phase_in w) c.window k i → NoFaults n →
+      TurnKeeps now (bump k at) (core_issue rule p now k i (Executes x.instr x.effect) w c n)
   issue_keeps at now k i w c n s rs lt x did may window f =
       let t : Task = task_in w k in
       let e : Effect = x.effect in
       let d : Did = did_of t.pc t.phase x.instr e in
       let sc : IsScript p.plant passes (runs k) (scripts k) = keep k lt in
-      let fits : AttemptFits (runs k).size t e = attempt_fits (runs k).target (runs k).size (plain_run (runs k) (at k)).task.view t x.instr e (plain_fits (runs k) (rs.is k lt).fits (at k)).task.bytes x.alone in
+      let fits : AttemptFits (runs k).size t e =
+      attempt_fits (runs k).target (runs k).size (plain_run (runs k) (at k)).task.view t x.instr e
+      (plain_fits (runs k) (rs.is k lt).fits (at k)).task.bytes x.alone in
       let touches : TouchesLines order p.plant.ways w.cache (lines_of_did p.plant.line d) (issued_by rule p k e w) = issue_lines at k w s rs lt x in
       let hit : MustHit t.phase e.change → missed_lines (issued_by rule p k e w).touches ≡ [] = (λ m. issue_hits at k i w s rs lt x did may m) in
       record {
@@ -145,7 +161,9 @@ module _ (rule : ReplacementRule) (order : OrderRule) (passes : ℕ → ℕ) (p 
             (stores_in t.phase e.access (λ y. (sc.steps (at k) d did y).stores)) (λ y. hit (inl y)) f;
       }
 
-  pub turn_keeps : (at : ℕ → ℕ) (now : ℕ) (sched : List TaskJobs) (m : CoreMove) (w : Work) (c : CoreState) (n : Counts) → Stands p own runs at w → Runs p own runs → Scheduled p runs at sched m → Moves order p.plant (length p.tasks) runs scripts at (lines_in w.cache) m → CalmMove now m → Windowed now (phase_in w) c.window m → NoFaults n → TurnKeeps now (bump_move m at) (core_turn rule p now m w c n)
+  pub turn_keeps : (at : ℕ → ℕ) (now : ℕ) (sched : List TaskJobs) (m : CoreMove) (w : Work) (c : CoreState) (n : Counts) → Stands p own runs at w →
+      Runs p own runs → Scheduled p runs at sched m → Moves order p.plant (length p.tasks) runs scripts at (lines_in w.cache) m → CalmMove now m →
+      Windowed now (phase_in w) c.window m → NoFaults n → TurnKeeps now (bump_move m at) (core_turn rule p now m w c n)
   turn_keeps at now sched (Passes c') w c n s rs j r calm window f = record { resides = r; calm = calm; counts = f }
   turn_keeps at now sched (Issues k i) w c n s rs j r calm window f =
       let lt : k < length p.tasks = j.unfinished.bound in
@@ -176,7 +194,8 @@ module _ (rule : ReplacementRule) (order : OrderRule) (passes : ℕ → ℕ) (p 
   settle_keeps at (Idle until) s e h =
       cond_both (ltb s.now until) s (record s { core = at_point s.core }) (Keeps at) (λ _. h)
       (λ _. record {
-        resides = idle_ends order p.plant (length p.tasks) runs scripts at (lines_in s.work.cache) until s.core.interval s.core.mark (subst (λ m. ResidesAt at s.work.cache m s.core.interval s.core.mark) e h.resides);
+        resides = idle_ends order p.plant (length p.tasks) runs scripts at (lines_in s.work.cache) until s.core.interval s.core.mark
+            (subst (λ m. ResidesAt at s.work.cache m s.core.interval s.core.mark) e h.resides);
         calm = h.calm;
         counts = h.counts;
       })

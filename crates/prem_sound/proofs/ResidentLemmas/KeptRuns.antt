@@ -32,7 +32,9 @@ use Rattle.prem_sound.proofs.ResidentLemmas.Facing.{KnownCore, Meets, Comes, com
 pub costs_of : (p : Setup) → All (IsPlaced p.plant.line p.plant.memory) p.devices → HaveCosts p.devices
 costs_of p all k d lt = (all k d lt).device.cost.0
 
-module _ (rule : ReplacementRule) (order : OrderRule) (passes : ℕ → ℕ) (p : Setup) (content : List ℕ) (inputs : List (List ℕ)) (requests : List Request) (own : ℕ → ℕ → Bool) (runs : ℕ → TaskRun) (scripts : ℕ → Script) (policy : IsPolicy rule order passes) (keep : KeepScripts p passes runs scripts) (q : IsRunnable p content requests) (o : AreOwn p content inputs own runs) where
+module _ (rule : ReplacementRule) (order : OrderRule) (passes : ℕ → ℕ) (p : Setup) (content : List ℕ) (inputs : List (List ℕ))
+    (requests : List Request) (own : ℕ → ℕ → Bool) (runs : ℕ → TaskRun) (scripts : ℕ → Script) (policy : IsPolicy rule order passes)
+    (keep : KeepScripts p passes runs scripts) (q : IsRunnable p content requests) (o : AreOwn p content inputs own runs) where
   abbrev pub KeepsAt : (ℕ → ℕ) → MachineState → Type 0
   KeepsAt at s = Keeps rule order passes p own runs scripts policy keep at s
 
@@ -70,20 +72,23 @@ module _ (rule : ReplacementRule) (order : OrderRule) (passes : ℕ → ℕ) (p 
   pub coming : (at : ℕ → ℕ) (s : MachineState) → Known at s → KeepsAt at s → Comes rule order passes p own runs scripts policy keep own_runs at (arrivals_at requests s) (bus_in s) (move_next s) s
   coming at s k h = comes rule order passes p own runs scripts policy keep own_runs at (arrivals_at requests s) (bus_in s) (move_next s) s (known_core at s k) h (meets at s k h)
 
-  cycle_keeps : (s : MachineState) (xs : List CycleStep) → Known (λ k. count_of k xs) s → KeepsAt (λ k. count_of k xs) s → KeepsAt (λ k. count_of k (with_last (step_with rule p (bus_at (arrivals_at requests s).gates s) s) xs)) (cycle_of rule p requests s)
+  cycle_keeps : (s : MachineState) (xs : List CycleStep) → Known (λ k. count_of k xs) s → KeepsAt (λ k. count_of k xs) s →
+      KeepsAt (λ k. count_of k (with_last (step_with rule p (bus_at (arrivals_at requests s).gates s) s) xs)) (cycle_of rule p requests s)
   cycle_keeps s xs k h =
       let at : ℕ → ℕ = λ j. count_of j xs in
       let c : Comes rule order passes p own runs scripts policy keep own_runs at (arrivals_at requests s) (bus_in s) (move_next s) s = coming at s k h in
       subst (λ f. KeepsAt f (cycle_of rule p requests s)) (λ x j. count_move rule p s.now (with_memory (bus_in s).memory s.work) (move_next s) xs j c.issued x)
       (core_keeps rule order passes p own runs scripts policy keep own_runs at (arrivals_at requests s) (bus_in s) (move_next s) s c)
 
-  step_keeps : (s : MachineState) (xs : List CycleStep) → Known (λ k. count_of k xs) s → KeepsAt (λ k. count_of k xs) s → KeepsAt (λ k. count_of k (with_last (coming_step rule p requests s) xs)) (step_of rule p requests s)
+  step_keeps : (s : MachineState) (xs : List CycleStep) → Known (λ k. count_of k xs) s → KeepsAt (λ k. count_of k xs) s →
+      KeepsAt (λ k. count_of k (with_last (coming_step rule p requests s) xs)) (step_of rule p requests s)
   step_keeps s xs k h =
       let none : Option CycleStep = None in
       ⊎_elim (λ (e : is_over s ≡ true).
       subst (λ b. KeepsAt (λ k. count_of k (with_last (cond b none (step_with rule p (bus_at (arrivals_at requests s).gates s) s)) xs)) (cond b s (cycle_of rule p requests s))) (sym e) h)
       (λ (e : is_over s ≡ false).
-      subst (λ b. KeepsAt (λ k. count_of k (with_last (cond b none (step_with rule p (bus_at (arrivals_at requests s).gates s) s)) xs)) (cond b s (cycle_of rule p requests s))) (sym e) (cycle_keeps s xs k h))
+      subst (λ b. KeepsAt (λ k. count_of k (with_last (cond b none (step_with rule p (bus_at (arrivals_at requests s).gates s) s)) xs))
+      (cond b s (cycle_of rule p requests s))) (sym e) (cycle_keeps s xs k h))
       (cases_Bool (is_over s))
 
   abbrev pub start : MachineState

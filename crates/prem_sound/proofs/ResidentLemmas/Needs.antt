@@ -73,7 +73,8 @@ rests_so phases c c' q e none = record {
   executes = λ k x. absurd (none k x);
 }
 
-needs_moves : (phases : ℕ → Phase) (p : Setup) (now : ℕ) (had : Bool) (sched : List TaskJobs) (w : Work) (c : CoreState) (m : CoreMove) → MoveCase p now had sched w c m → Needs phases c → NeedsMove phases m
+needs_moves : (phases : ℕ → Phase) (p : Setup) (now : ℕ) (had : Bool) (sched : List TaskJobs) (w : Work) (c : CoreState) (m : CoreMove) →
+    MoveCase p now had sched w c m → Needs phases c → NeedsMove phases m
 needs_moves phases p now had sched w c _ (pays_on_bus q h) r = record { owes = λ _. r.owes q; executes = r.executes }
 needs_moves phases p now had sched w c _ (is_denied q h) r = r
 needs_moves phases p now had sched w c _ (pays_cost k cost q e h) r = record { owes = λ y. absurd (let x : false ≡ true = sym q ∙ y in cc); executes = r.executes }
@@ -92,7 +93,8 @@ needs_moves phases p now had sched w c _ (begins_idle until q e h) r = record {
   executes = λ j x. absurd (let y : Idle until ≡ Running j = x in cc);
 }
 
-may_need : (phases : ℕ → Phase) (p : Setup) (now : ℕ) (had : Bool) (sched : List TaskJobs) (w : Work) (c : CoreState) (m : CoreMove) → MayMove p now had sched w c m → Needs phases c → NeedsMove phases m
+may_need : (phases : ℕ → Phase) (p : Setup) (now : ℕ) (had : Bool) (sched : List TaskJobs) (w : Work) (c : CoreState) (m : CoreMove) →
+    MayMove p now had sched w c m → Needs phases c → NeedsMove phases m
 may_need phases p now had sched w c _ (does m x) r = needs_moves phases p now had sched w c m x r
 may_need phases p now had sched w c _ (stands_still e) r = r
 
@@ -120,9 +122,13 @@ pub record IssuesSo (ph next : Phase) (change : Change) : Type 0 where
   pub lawful : IsLawful ph change
   pub follows : next ≡ phase_after change ph
 
-module _ (rule : ReplacementRule) (order : OrderRule) (passes : ℕ → ℕ) (p : Setup) (own : ℕ → ℕ → Bool) (runs : ℕ → TaskRun) (scripts : ℕ → Script) (policy : IsPolicy rule order passes) (keep : KeepScripts p passes runs scripts) (rs : Runs p own runs) where
+module _ (rule : ReplacementRule) (order : OrderRule) (passes : ℕ → ℕ) (p : Setup) (own : ℕ → ℕ → Bool) (runs : ℕ → TaskRun) (scripts : ℕ → Script)
+    (policy : IsPolicy rule order passes) (keep : KeepScripts p passes runs scripts) (rs : Runs p own runs) where
   -- the phases around an instruction
-  issues_so : (at : ℕ → ℕ) (k : ℕ) (w w' : Work) → Stands p own runs at w → Stands p own runs (bump k at) w' → k < length p.tasks → (x : Issuing p (own k) (runs k) (at k) k w) → plain_did (runs k) (plain_run (runs k) (at k)) ≡ Some (did_of (task_in w k).pc (task_in w k).phase x.instr x.effect) → IssuesSo (phase_in w k) (phase_in w' k) x.effect.change
+  issues_so : (at : ℕ → ℕ) (k : ℕ) (w w' : Work) → Stands p own runs at w → Stands p own runs (bump k at) w' → k < length p.tasks →
+      (x : Issuing p (own k) (runs k) (at k) k w) →
+      plain_did (runs k) (plain_run (runs k) (at k)) ≡ Some (did_of (task_in w k).pc (task_in w k).phase x.instr x.effect) →
+      IssuesSo (phase_in w k) (phase_in w' k) x.effect.change
   issues_so at k w w' s s' lt x did =
       let d : Did = did_of (task_in w k).pc (task_in w k).phase x.instr x.effect in
       let e : Executed (runs k) (plain_run (runs k) (at k)) d = executed (runs k) (plain_run (runs k) (at k)) d did in
@@ -140,7 +146,10 @@ module _ (rule : ReplacementRule) (order : OrderRule) (passes : ℕ → ℕ) (p 
     pub needs : NeedsIn t.work t.core
     pub issued : (k : ℕ) (i : Interval) → m ≡ Issues k i → (t.core.mode ≡ Running k) × IssuesSo (phases k) (phase_in t.work k) t.core.mark
 
-  turn_needs : (at : ℕ → ℕ) (now : ℕ) (sched : List TaskJobs) (m : CoreMove) (w : Work) (c : CoreState) (n : Counts) → Stands p own runs at w → Stands p own runs (bump_move m at) (core_turn rule p now m w c n).work → Scheduled p runs at sched m → Moves order p.plant (length p.tasks) runs scripts at (lines_in w.cache) m → NeedsMove (phase_in w) m → TurnNeeds m (phase_in w) (core_turn rule p now m w c n)
+  turn_needs : (at : ℕ → ℕ) (now : ℕ) (sched : List TaskJobs) (m : CoreMove) (w : Work) (c : CoreState) (n : Counts) → Stands p own runs at w →
+      Stands p own runs (bump_move m at) (core_turn rule p now m w c n).work → Scheduled p runs at sched m →
+      Moves order p.plant (length p.tasks) runs scripts at (lines_in w.cache) m → NeedsMove (phase_in w) m →
+      TurnNeeds m (phase_in w) (core_turn rule p now m w c n)
   turn_needs at now sched (Passes c') w c n s s' j r h = record { needs = h; issued = λ k i e. absurd (let x : Passes c' ≡ Issues k i = e in cc) }
   turn_needs at now sched (Issues k i) w c n s s' j r h =
       let lt : k < length p.tasks = j.unfinished.bound in
@@ -153,7 +162,9 @@ module _ (rule : ReplacementRule) (order : OrderRule) (passes : ℕ → ℕ) (p 
         needs = record {
           owes = λ y.
               missing (phase_in w k) (phase_in (issued_by rule p k x.effect w).work k) x.effect.change so.lawful so.follows
-              (λ must. owes_none _ (cost_of x.instr - 1) (owed_none p.plant (issued_by rule p k x.effect w).touches (issue_hits rule order passes p own runs scripts policy keep at k i w s rs lt x did r must)) y);
+              (λ must. owes_none _ (cost_of x.instr - 1)
+              (owed_none p.plant (issued_by rule p k x.effect w).touches
+              (issue_hits rule order passes p own runs scripts policy keep at k i w s rs lt x did r must)) y);
           executes = λ q e o.
               let z : Running k ≡ Running q = e in
               let same : k ≡ q = cc in
@@ -166,7 +177,9 @@ module _ (rule : ReplacementRule) (order : OrderRule) (passes : ℕ → ℕ) (p 
       }) s'
 
   -- behind the core's part of a cycle
-  pub core_turns : (at : ℕ → ℕ) (a : Arrivals) (b : Turned) (m : CoreMove) (s : MachineState) → NeedsIn s.work s.core → Meets p own b m s → Faces rule order passes p own runs scripts policy keep rs at b m s → Comes rule order passes p own runs scripts policy keep rs at a b m s → TurnNeeds m (phase_in s.work) (turn_with rule p b m s)
+  pub core_turns : (at : ℕ → ℕ) (a : Arrivals) (b : Turned) (m : CoreMove) (s : MachineState) → NeedsIn s.work s.core → Meets p own b m s →
+      Faces rule order passes p own runs scripts policy keep rs at b m s → Comes rule order passes p own runs scripts policy keep rs at a b m s →
+      TurnNeeds m (phase_in s.work) (turn_with rule p b m s)
   core_turns at a b m s h meets f c =
       turn_needs at s.now s.sched m (with_memory b.memory s.work) s.core (with_clash b.turn.clash s.log.counts) f.stands c.position.stands f.scheduled f.moves_to
       (may_need (phase_in s.work) p s.now b.turn.core s.sched (with_memory b.memory s.work) s.core m meets.may h)
@@ -178,7 +191,8 @@ settle_needs Point s e h = h
 settle_needs (Switching k left) s e h = h
 settle_needs (Running k) s e h =
     cond_both (is_paid s.core.debt && ends_before s.now s.core.interval s.core.mark) (close_interval k s) s (λ (x : MachineState). NeedsIn x.work x.core)
-    (λ over. rests_so (phase_in s.work) s.core (at_point s.core) (wants_none s.core.debt (paid_none s.core.debt (and_parts (is_paid s.core.debt) (ends_before s.now s.core.interval s.core.mark) over).0)) refl
+    (λ over. rests_so (phase_in s.work) s.core (at_point s.core)
+    (wants_none s.core.debt (paid_none s.core.debt (and_parts (is_paid s.core.debt) (ends_before s.now s.core.interval s.core.mark) over).0)) refl
     (λ j x. let y : Point ≡ Running j = x in cc))
     (λ _. h)
 settle_needs (Idle until) s e h =

@@ -43,7 +43,9 @@ Issued Job phase stated ds i = (i.predictable ≡ false) × (phase ≡ Compatibl
 abbrev pub with_stated : Change → Interval → Interval
 with_stated c i = record i { stated = stated_after c i.stated }
 
-issued_by_change : (plant : Plant) (passes : ℕ → ℕ) (s : Script) (b : Begun) (d : Did) (phase : Phase) (c : Change) (i : Interval) → IsLawful phase c → (is_predictable phase ≡ true → Opens plant passes (call_of s b) b.steps c) → Goes phase (call_of s b).stated i → Issued c (phase_after c phase) (call_of s (begun_after c d b)).stated (begun_after c d b).steps (with_stated c i)
+issued_by_change : (plant : Plant) (passes : ℕ → ℕ) (s : Script) (b : Begun) (d : Did) (phase : Phase) (c : Change) (i : Interval) →
+    IsLawful phase c → (is_predictable phase ≡ true → Opens plant passes (call_of s b) b.steps c) → Goes phase (call_of s b).stated i →
+    Issued c (phase_after c phase) (call_of s (begun_after c d b)).stated (begun_after c d b).steps (with_stated c i)
 issued_by_change plant passes s b d phase Stay i l o g = record { kind = g.kind; opened = g.opened }
 issued_by_change plant passes s b d phase Memory i l o g = (sym g.kind ∙ ap is_predictable l, refl)
 issued_by_change plant passes s b d phase (Execute stated) i l o g =
@@ -128,7 +130,8 @@ module _ (order : OrderRule) (plant : Plant) (tasks : ℕ) (runs : ℕ → TaskR
     all_switch : (k left : ℕ) (i : Interval) (mark : Change) → Resides at orders (Switching k left) i mark → (j : ℕ) → j < tasks → IsFresh runs at j
     all_switch k left i mark h j lt = h.rests j lt (λ e. let x : Switching k left ≡ Running j = e in cc)
 
-    begins_at : (now k : ℕ) (phase : Phase) → phase ≡ phase_at runs at k → (phase ≡ Execution → ⊥) → k < tasks → ((j : ℕ) → j < tasks → IsFresh runs at j) → MayIssue at orders k (new_interval now phase)
+    begins_at : (now k : ℕ) (phase : Phase) → phase ≡ phase_at runs at k → (phase ≡ Execution → ⊥) → k < tasks →
+        ((j : ℕ) → j < tasks → IsFresh runs at j) → MayIssue at orders k (new_interval now phase)
     begins_at now k phase same none lt all = record {
       goes = record { kind = ap is_predictable (sym same); opened = λ e. absurd (none (same ∙ e)) };
       since = λ p.
@@ -164,7 +167,8 @@ module _ (order : OrderRule) (plant : Plant) (tasks : ℕ) (runs : ℕ → TaskR
     none_in_switch : (w : Work) (mode : Mode) (k left : ℕ) → Phases w mode → mode ≡ Switching k left → phase_in w k ≡ Execution → ⊥
     none_in_switch w mode k left h e x = let y : Switching k left ≡ Running k = sym e ∙ h.runs_alone k x in cc
 
-    pub moves : (p : Setup) (now : ℕ) (had : Bool) (sched : List TaskJobs) (w : Work) (c : CoreState) (m : CoreMove) → MoveCase p now had sched w c m → IsThere m → Phases w c.mode → Resides at orders c.mode c.interval c.mark → Moves at orders m
+    pub moves : (p : Setup) (now : ℕ) (had : Bool) (sched : List TaskJobs) (w : Work) (c : CoreState) (m : CoreMove) →
+        MoveCase p now had sched w c m → IsThere m → Phases w c.mode → Resides at orders c.mode c.interval c.mark → Moves at orders m
     moves p now had sched w c _ (pays_on_bus q h) l ph r = r
     moves p now had sched w c _ (is_denied q h) l ph r = r
     moves p now had sched w c _ (pays_cost k cost q e h) l ph r = r
@@ -191,7 +195,8 @@ module _ (order : OrderRule) (plant : Plant) (tasks : ℕ) (runs : ℕ → TaskR
 
     -- ---- what is over
 
-    ended_fresh : (now : ℕ) (i : Interval) (mark : Change) (phase : Phase) (stated : ℕ) (ds : List Did) → ends_before now i mark ≡ true → Issued mark phase stated ds i → is_predictable phase ≡ true → ds ≡ []
+    ended_fresh : (now : ℕ) (i : Interval) (mark : Change) (phase : Phase) (stated : ℕ) (ds : List Did) → ends_before now i mark ≡ true →
+        Issued mark phase stated ds i → is_predictable phase ≡ true → ds ≡ []
     ended_fresh now i Stay phase stated ds e h p = absurd (let x : false ≡ true = e in cc)
     ended_fresh now i (Execute l) phase stated ds e h p = absurd (let x : false ≡ true = e in cc)
     ended_fresh now i Memory phase stated ds e h p = h.1
@@ -214,7 +219,10 @@ module _ (order : OrderRule) (plant : Plant) (tasks : ℕ) (runs : ℕ → TaskR
 
     -- ---- an instruction
 
-    issue_since : (n : ℕ) (k : ℕ) (d : Did) (c : Change) (i : Interval) → d.phase ≡ phase_at runs at k → IsLawful (phase_at runs at k) c → Goes (phase_at runs at k) n i → IsSince at orders k i → i.predictable ≡ true → Since order plant.ways (caches_after order plant.ways orders (lines_of_did plant.line d)) (lines_of_dids plant.line (begun_after c d (begun_at runs at k)).steps)
+    issue_since : (n : ℕ) (k : ℕ) (d : Did) (c : Change) (i : Interval) → d.phase ≡ phase_at runs at k → IsLawful (phase_at runs at k) c →
+        Goes (phase_at runs at k) n i → IsSince at orders k i → i.predictable ≡ true →
+        Since order plant.ways (caches_after order plant.ways orders (lines_of_did plant.line d))
+        (lines_of_dids plant.line (begun_after c d (begun_at runs at k)).steps)
     issue_since n k d c i same l g s p =
         let ds : List Did = (begun_at runs at k).steps in
         let more : (begun_after c d (begun_at runs at k)).steps ≡ ds ++ d ∷ [] = steps_more (phase_at runs at k) c d (begun_at runs at k) same l (g.kind ∙ p) in
@@ -231,7 +239,9 @@ module _ (order : OrderRule) (plant : Plant) (tasks : ℕ) (runs : ℕ → TaskR
     fresh_other k j ne h = subst (λ n. is_predictable (plain_run (runs j) n).task.phase ≡ true → (begun_by (runs j) n).steps ≡ []) (sym (bump_other k j at ne)) h
 
     -- a task issues the next instruction of its run
-    pub issues : (passes : ℕ → ℕ) (k : ℕ) (i : Interval) (d : Did) → IsScript plant passes (runs k) (scripts k) → plain_did (runs k) (plain_run (runs k) (at k)) ≡ Some d → MayIssue at orders k i → Resides (bump k at) (caches_after order plant.ways orders (lines_of_did plant.line d)) (Running k) (with_stated d.change i) d.change
+    pub issues : (passes : ℕ → ℕ) (k : ℕ) (i : Interval) (d : Did) → IsScript plant passes (runs k) (scripts k) →
+        plain_did (runs k) (plain_run (runs k) (at k)) ≡ Some d → MayIssue at orders k i →
+        Resides (bump k at) (caches_after order plant.ways orders (lines_of_did plant.line d)) (Running k) (with_stated d.change i) d.change
     issues passes k i d sc e h =
         let b : Begun = begun_at runs at k in
         let ph : Phase = phase_at runs at k in
@@ -259,7 +269,10 @@ module _ (order : OrderRule) (plant : Plant) (tasks : ℕ) (runs : ℕ → TaskR
 
     -- ---- it hits
 
-    covered : (passes : ℕ → ℕ) (k : ℕ) (d : Did) (phase : Phase) (c : Change) → phase_at runs at k ≡ phase → d.change ≡ c → IsStep plant passes (call_of (scripts k) (begun_at runs at k)) (begun_at runs at k).steps d → Brought plant passes (call_of (scripts k) (begun_at runs at k)) (begun_at runs at k).steps phase → MustHit phase c → IsCovered (passes plant.ways) (call_of (scripts k) (begun_at runs at k)).members (lines_of_dids plant.line (begun_at runs at k).steps)
+    covered : (passes : ℕ → ℕ) (k : ℕ) (d : Did) (phase : Phase) (c : Change) → phase_at runs at k ≡ phase → d.change ≡ c →
+        IsStep plant passes (call_of (scripts k) (begun_at runs at k)) (begun_at runs at k).steps d →
+        Brought plant passes (call_of (scripts k) (begun_at runs at k)) (begun_at runs at k).steps phase → MustHit phase c →
+        IsCovered (passes plant.ways) (call_of (scripts k) (begun_at runs at k)).members (lines_of_dids plant.line (begun_at runs at k).steps)
     covered passes k d Execution c e f st br (inl m) = br
     covered passes k d Compatible c e f st br (inl m) = absurd (let x : false ≡ true = m in cc)
     covered passes k d MemoryPhase c e f st br (inl m) = absurd (let x : false ≡ true = m in cc)
@@ -280,7 +293,9 @@ module _ (order : OrderRule) (plant : Plant) (tasks : ℕ) (runs : ℕ → TaskR
     must_predict Compatible Job l (inr m) = absurd (let x : false ≡ true = m in cc)
 
     -- no line of it misses
-    pub hits : (passes : ℕ → ℕ) (k : ℕ) (i : Interval) (d : Did) → IsCacheFullAfter passes order → IsScript plant passes (runs k) (scripts k) → plain_did (runs k) (plain_run (runs k) (at k)) ≡ Some d → 0 < plant.sets → length orders ≡ plant.sets → MayIssue at orders k i → MustHit (phase_at runs at k) d.change → cache_misses order plant.ways orders (lines_of_did plant.line d) ≡ []
+    pub hits : (passes : ℕ → ℕ) (k : ℕ) (i : Interval) (d : Did) → IsCacheFullAfter passes order → IsScript plant passes (runs k) (scripts k) →
+        plain_did (runs k) (plain_run (runs k) (at k)) ≡ Some d → 0 < plant.sets → length orders ≡ plant.sets → MayIssue at orders k i →
+        MustHit (phase_at runs at k) d.change → cache_misses order plant.ways orders (lines_of_did plant.line d) ≡ []
     hits passes k i d full sc e pos count h m =
         let b : Begun = begun_at runs at k in
         let c : Call = call_of (scripts k) b in

@@ -44,7 +44,9 @@ touch_sets : (rule : ReplacementRule) (c : CacheState) (line : ℕ) (memory : Li
 touch_sets rule c line memory pos = subst (λ n. 0 < n) (sym (length-set c.sets _ _)) pos
 
 module _ (rule : ReplacementRule) (order : OrderRule) (m : MovesBy rule order) where
-  with_access : (size : ℕ) (c : CacheState) (line : ℕ) (memory : List ℕ) (tasks : List Task) (stored : Option Stored) (access : Option Access) → IsCache c → IsCache (touch_of rule c line memory).cache → TouchesLines order c.plant.ways c (line ∷ access_lines size access) (issued_with rule size tasks stored line (touch_of rule c line memory) access)
+  with_access : (size : ℕ) (c : CacheState) (line : ℕ) (memory : List ℕ) (tasks : List Task) (stored : Option Stored) (access : Option Access) →
+      IsCache c → IsCache (touch_of rule c line memory).cache →
+      TouchesLines order c.plant.ways c (line ∷ access_lines size access) (issued_with rule size tasks stored line (touch_of rule c line memory) access)
   with_access size c line memory tasks stored None h k =
       let t : Touched = touch_of rule c line memory in
       record {
@@ -67,7 +69,8 @@ module _ (rule : ReplacementRule) (order : OrderRule) (m : MovesBy rule order) w
       }
 
   -- an instruction that is fetched from memory
-  pub issue_touches : (p : Setup) (k : ℕ) (e : Effect) (w : Work) → IsRule rule → IsKept p w.cache w.memory → (task_in w k).pc + 4 ≤ p.plant.memory → TouchesLines order p.plant.ways w.cache ((task_in w k).pc / p.plant.line ∷ access_lines p.plant.line e.access) (issued_by rule p k e w)
+  pub issue_touches : (p : Setup) (k : ℕ) (e : Effect) (w : Work) → IsRule rule → IsKept p w.cache w.memory → (task_in w k).pc + 4 ≤ p.plant.memory →
+      TouchesLines order p.plant.ways w.cache ((task_in w k).pc / p.plant.line ∷ access_lines p.plant.line e.access) (issued_by rule p k e w)
   issue_touches p k e w r h within =
       let line : ℕ = (task_in w k).pc / p.plant.line in
       let inside : line < p.plant.memory / p.plant.line = line_in p.plant (task_in w k).pc (kept_plant p w.cache w.memory h) (omega arith) in

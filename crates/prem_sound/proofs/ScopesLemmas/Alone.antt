@@ -13,7 +13,8 @@ use Rattle.std.proofs.lemmas.List.Sums.{sum_by-cons}
 use Rattle.prem_sound.specs.Script.Script.{access_lines, lines_of_did, lines_of_dids, cost_of_dids, begun_by, change_due, did_due, Script, call_at, due_with, due_by}
 use Rattle.prem_sound.specs.Paced.Paced.{within_job, job_by, within_stretch, own_due, stretch_by, IsPaced}
 use Rattle.prem_sound.specs.Scopes.Lines.{line_cost, roomy_of, crowded_of}
-use Rattle.prem_sound.specs.Scopes.Charged.{lines_with, scope_by, IsScoped, charge_with, Charges, charges_by, own_charge, did_charge, job_with, job_charged, stretch_with, stretch_charged, charge_due, all_charged, alone_with, each_alone}
+use Rattle.prem_sound.specs.Scopes.Charged.{lines_with, scope_by, IsScoped, charge_with, Charges, charges_by, own_charge, did_charge, job_with, job_charged, stretch_with}
+use Rattle.prem_sound.specs.Scopes.Charged.{stretch_charged, charge_due, all_charged, alone_with, each_alone}
 use Rattle.prem_sound.specs.Scopes.Laws.{PacedRunsAreCharged, SinglesAreDue}
 use Rattle.prem_sound.proofs.ScopesLemmas.Misses.{both_parts}
 
@@ -42,7 +43,8 @@ module _ (plant : Plant) (run : TaskRun) where
   charge_is n d e = alone_charge_with plant (plain_did run (plain_run run n)) d (scope_by run (each_alone plant run) n) e
 
   lines_are : (n : ℕ) (d : Did) → plain_did run (plain_run run n) ≡ Some d → AllIn (lines_with (each_alone plant run n) (scope_by run (each_alone plant run) n)) (lines_of_did plant.line d)
-  lines_are n d e = subst (λ q. AllIn (lines_with (alone_with plant q) (scope_by run (each_alone plant run) n)) (lines_of_did plant.line d)) (sym e) (all_by (lines_of_did plant.line d) (lines_of_did plant.line d) (λ x h. h))
+  lines_are n d e = subst (λ q. AllIn (lines_with (alone_with plant q) (scope_by run (each_alone plant run) n)) (lines_of_did plant.line d)) (sym e)
+      (all_by (lines_of_did plant.line d) (lines_of_did plant.line d) (λ x h. h))
 
   did_is : (stated : ℕ) (ph : Phase) (d : Did) (n : ℕ) → n ≡ due_of plant d → did_charge plant stated ph d.change n ≡ did_due plant stated ph d
   did_is stated Compatible d n e = ap (λ m. m + change_due plant stated d.change) e
@@ -54,14 +56,16 @@ module _ (plant : Plant) (run : TaskRun) where
   own_is MemoryPhase d n e = refl
   own_is Execution d n e = refl
 
-  job_step : (s : Script) (n : ℕ) (o : Option Did) (job : ℕ) → plain_did run (plain_run run n) ≡ o → job_with plant s (begun_by run n) charge n o job ≡ Rattle.prem_sound.specs.Paced.Paced.job_with plant s (begun_by run n) o job
+  job_step : (s : Script) (n : ℕ) (o : Option Did) (job : ℕ) → plain_did run (plain_run run n) ≡ o →
+      job_with plant s (begun_by run n) charge n o job ≡ Rattle.prem_sound.specs.Paced.Paced.job_with plant s (begun_by run n) o job
   job_step s n None job e = refl
   job_step s n (Some d) job e = ap (λ m. within_job d.change (job + m)) (did_is (call_at s (begun_by run n).calls).stated d.phase d (charge n d) (charge_is n d e))
 
   job_same : (s : Script) (n : ℕ) → job_charged plant s run charge n ≡ job_by plant s run n
   unfolding job_charged job_by
   job_same s zero = refl
-  job_same s (suc n) = ap (λ m. job_with plant s (begun_by run n) charge n (plain_did run (plain_run run n)) m) (job_same s n) ∙ job_step s n (plain_did run (plain_run run n)) (job_by plant s run n) refl
+  job_same s (suc n) = ap (λ m. job_with plant s (begun_by run n) charge n (plain_did run (plain_run run n)) m) (job_same s n)
+      ∙ job_step s n (plain_did run (plain_run run n)) (job_by plant s run n) refl
 
   stretch_step : (n : ℕ) (o : Option Did) (stretch : ℕ) → plain_did run (plain_run run n) ≡ o → stretch_with charge n o stretch ≡ Rattle.prem_sound.specs.Paced.Paced.stretch_with plant o stretch
   stretch_step n None stretch e = refl
@@ -82,7 +86,8 @@ module _ (plant : Plant) (run : TaskRun) where
   all_same s zero = refl
   all_same s (suc n) =
       let a : all_charged plant s run charge n ≡ due_by plant s run n = all_same s n in
-      let b : charge_due plant s (begun_by run n) charge n (plain_did run (plain_run run n)) ≡ due_with plant s (begun_by run n) (plain_did run (plain_run run n)) = due_step s n (plain_did run (plain_run run n)) refl in
+      let b : charge_due plant s (begun_by run n) charge n (plain_did run (plain_run run n))
+      ≡ due_with plant s (begun_by run n) (plain_did run (plain_run run n)) = due_step s n (plain_did run (plain_run run n)) refl in
       omega (arith, a, b)
 
   pub alone_is_scoped : IsScoped plant run (each_alone plant run)
@@ -93,7 +98,9 @@ paced_runs_are_charged plant run s cost longest h = (
   alone_is_scoped plant run,
   record {
     jobs = λ n d e.
-        let a : did_charge plant (call_at s (begun_by run n).calls).stated d.phase d.change (charges_by plant run (each_alone plant run) n d) ≡ did_due plant (call_at s (begun_by run n).calls).stated d.phase d = did_is plant run (call_at s (begun_by run n).calls).stated d.phase d _ (charge_is plant run n d e) in
+        let a : did_charge plant (call_at s (begun_by run n).calls).stated d.phase d.change (charges_by plant run (each_alone plant run) n d)
+        ≡ did_due plant (call_at s (begun_by run n).calls).stated d.phase d =
+        did_is plant run (call_at s (begun_by run n).calls).stated d.phase d _ (charge_is plant run n d e) in
         omega (arith, h.jobs n d e, job_same plant run s n, a);
     stretches = λ n d e compatible. omega (arith, h.stretches n d e compatible, stretch_same plant run n, charge_is plant run n d e);
     calls = h.calls;

@@ -13,13 +13,15 @@ use Rattle.prem_sound.specs.Script.Script.{begun_by, change_due, Script, call_at
 use Rattle.prem_sound.specs.Paced.Paced.{within_job, within_stretch}
 use Rattle.prem_sound.proofs.ScriptLemmas.Begins.{Executed, executed, did_lawful, still_by}
 use Rattle.prem_sound.specs.Scopes.Lines.{line_cost, crowded_of}
-use Rattle.prem_sound.specs.Scopes.Charged.{Scoping, lines_with, scope_with, scope_by, lines_charged, charge_with, Charges, own_charge, did_charge, job_with, job_charged, stretch_with, stretch_charged, IsCharged, charge_due, all_charged}
+use Rattle.prem_sound.specs.Scopes.Charged.{Scoping, lines_with, scope_with, scope_by, lines_charged, charge_with, Charges, own_charge, did_charge, job_with, job_charged}
+use Rattle.prem_sound.specs.Scopes.Charged.{stretch_with, stretch_charged, IsCharged, charge_due, all_charged}
 
 pub scope_by-next : (run : TaskRun) (scoping : Scoping) (n : ℕ) → scope_by run scoping (n + 1) ≡ scope_with (plain_did run (plain_run run n)) (lines_with (scoping n) (scope_by run scoping n))
 unfolding scope_by
 scope_by-next run scoping n = let e : n + 1 ≡ suc n = omega arith in ap (scope_by run scoping) e
 
-pub job_charged-next : (plant : Plant) (s : Script) (run : TaskRun) (charge : Charges) (n : ℕ) → job_charged plant s run charge (n + 1) ≡ job_with plant s (begun_by run n) charge n (plain_did run (plain_run run n)) (job_charged plant s run charge n)
+pub job_charged-next : (plant : Plant) (s : Script) (run : TaskRun) (charge : Charges) (n : ℕ) →
+    job_charged plant s run charge (n + 1) ≡ job_with plant s (begun_by run n) charge n (plain_did run (plain_run run n)) (job_charged plant s run charge n)
 unfolding job_charged
 job_charged-next plant s run charge n = let e : n + 1 ≡ suc n = omega arith in ap (job_charged plant s run charge) e
 
@@ -27,7 +29,8 @@ pub stretch_charged-next : (run : TaskRun) (charge : Charges) (n : ℕ) → stre
 unfolding stretch_charged
 stretch_charged-next run charge n = let e : n + 1 ≡ suc n = omega arith in ap (stretch_charged run charge) e
 
-pub all_charged-next : (plant : Plant) (s : Script) (run : TaskRun) (charge : Charges) (n : ℕ) → all_charged plant s run charge (n + 1) ≡ all_charged plant s run charge n + charge_due plant s (begun_by run n) charge n (plain_did run (plain_run run n))
+pub all_charged-next : (plant : Plant) (s : Script) (run : TaskRun) (charge : Charges) (n : ℕ) →
+    all_charged plant s run charge (n + 1) ≡ all_charged plant s run charge n + charge_due plant s (begun_by run n) charge n (plain_did run (plain_run run n))
 unfolding all_charged
 all_charged-next plant s run charge n = let e : n + 1 ≡ suc n = omega arith in ap (all_charged plant s run charge) e
 
@@ -40,7 +43,8 @@ some_charge plant o lines d = sum (cost_of d.instr) ((lines_charged plant o + le
   sum c x h = omega (arith, h)
 
 -- a job's last instruction is due with a switch
-pub last_charge : (plant : Plant) (stated charge : ℕ) (d : Did) (phase : Phase) (c : Change) → IsLawful phase c → d.phase ≡ phase → d.change ≡ c → c ≡ Job → 1 ≤ charge → 1 + plant.switch ≤ did_charge plant stated d.phase d.change charge
+pub last_charge : (plant : Plant) (stated charge : ℕ) (d : Did) (phase : Phase) (c : Change) → IsLawful phase c → d.phase ≡ phase → d.change ≡ c →
+    c ≡ Job → 1 ≤ charge → 1 + plant.switch ≤ did_charge plant stated d.phase d.change charge
 last_charge plant stated charge d phase c l e f job some =
     let b : change_due plant stated d.change ≡ plant.switch = ap (change_due plant stated) (f ∙ job) in
     let ph : d.phase ≡ Compatible = e ∙ subst (IsLawful phase) job l in
@@ -84,7 +88,9 @@ module _ (plant : Plant) (s : Script) (run : TaskRun) (charge : Charges) (cost l
       let c : d.change ≡ x.effect.change = ap (λ (f : Did). f.change) x.did_is in
       ap (λ (q : PlainState). q.ended) x.next ∙ changed_ended x.effect.change (moved_by x.effect (plain_run run n)) (λ e. ne (c ∙ e))
 
-  left_with : (n : ℕ) (o : Option Did) → plain_did run (plain_run run n) ≡ o → ((plain_step run (plain_run run n)).ended ≡ (plain_run run n).ended → IsLeft (job_with plant s (begun_by run n) charge n o (job_charged plant s run charge n))) → IsLeft (job_charged plant s run charge n)
+  left_with : (n : ℕ) (o : Option Did) → plain_did run (plain_run run n) ≡ o →
+      ((plain_step run (plain_run run n)).ended ≡ (plain_run run n).ended →
+      IsLeft (job_with plant s (begun_by run n) charge n o (job_charged plant s run charge n))) → IsLeft (job_charged plant s run charge n)
   left_with n None did more = more (still_by (λ (t : PlainState). t.ended ≡ (plain_run run n).ended) run (plain_run run n) did refl (λ cause. refl))
   left_with n (Some d) did more = left_by n d d.change refl did (same_ended n d did) more
 
@@ -101,7 +107,8 @@ module _ (plant : Plant) (s : Script) (run : TaskRun) (charge : Charges) (cost l
   job_left n m lt ends = left_ahead m n lt (ends (n + m) (omega arith))
 
   -- a stretch is no longer than an interval
-  stretch_in : (ph : Phase) (c : Change) (stretch charge : ℕ) → (ph ≡ Compatible → plant.switch + stretch + charge ≤ longest) → plant.switch + stretch ≤ longest → plant.switch + within_stretch c (stretch + own_charge ph charge) ≤ longest
+  stretch_in : (ph : Phase) (c : Change) (stretch charge : ℕ) → (ph ≡ Compatible → plant.switch + stretch + charge ≤ longest) →
+      plant.switch + stretch ≤ longest → plant.switch + within_stretch c (stretch + own_charge ph charge) ≤ longest
   stretch_in Compatible Stay stretch d most h = omega (arith, most refl)
   stretch_in Compatible Memory stretch d most h = omega (arith, h)
   stretch_in Compatible (Execute stated) stretch d most h = omega (arith, most refl)
@@ -118,7 +125,8 @@ module _ (plant : Plant) (s : Script) (run : TaskRun) (charge : Charges) (cost l
   stretch_in Execution End stretch d most h = omega (arith, h)
   stretch_in Execution Job stretch d most h = omega (arith, h)
 
-  stretch_next : (n : ℕ) (o : Option Did) → plain_did run (plain_run run n) ≡ o → plant.switch + stretch_charged run charge n ≤ longest → plant.switch + stretch_with charge n o (stretch_charged run charge n) ≤ longest
+  stretch_next : (n : ℕ) (o : Option Did) → plain_did run (plain_run run n) ≡ o → plant.switch + stretch_charged run charge n ≤ longest →
+      plant.switch + stretch_with charge n o (stretch_charged run charge n) ≤ longest
   stretch_next n None e was = was
   stretch_next n (Some d) e was = stretch_in d.phase d.change (stretch_charged run charge n) (charge n d) (λ c. h.stretches n d e c) was
 

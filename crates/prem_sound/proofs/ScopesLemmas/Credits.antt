@@ -53,7 +53,9 @@ module _ (order : OrderRule) (plant : Plant) where
     pub pays : owed + 1 + spare ≤ credit + charge
 
   -- each touch of a scope that goes on is paid for by its credit, or is one of a crowded set
-  pub backed_more : (orders : List (List ℕ)) (lines ys : List ℕ) (credit owed cost : ℕ) (ts : List LineTouch) → CacheMissesOnce order → 0 < plant.sets → length orders ≡ plant.sets → AllIn lines ys → missed_lines ts ≡ cache_misses order plant.ways orders ys → owed ≡ total (owed_by plant ts) + (cost - 1) → 1 ≤ cost → Backed orders lines credit →
+  pub backed_more : (orders : List (List ℕ)) (lines ys : List ℕ) (credit owed cost : ℕ) (ts : List LineTouch) → CacheMissesOnce order →
+      0 < plant.sets → length orders ≡ plant.sets → AllIn lines ys → missed_lines ts ≡ cache_misses order plant.ways orders ys →
+      owed ≡ total (owed_by plant ts) + (cost - 1) → 1 ≤ cost → Backed orders lines credit →
       Pays (caches_after order plant.ways orders ys) lines owed credit (cost + length (crowded_of plant lines ys) * line_cost plant)
   backed_more orders lines ys credit owed cost ts once pos count within missed owed_is some h =
       let xs : List ℕ = h.touches in
@@ -95,12 +97,21 @@ module _ (order : OrderRule) (plant : Plant) where
             omega (arith, e, s, ce, le, a, b, d)
 
   -- and so is each of one that begins, of which its lines are charged
-  pub backed_with : (orders : List (List ℕ)) (o : Option (List ℕ)) (lines : List ℕ) (d : Did) (credit owed : ℕ) (ts : List LineTouch) → CacheMissesOnce order → 0 < plant.sets → length orders ≡ plant.sets → AllIn (lines_with o lines) (lines_of_did plant.line d) → missed_lines ts ≡ cache_misses order plant.ways orders (lines_of_did plant.line d) → owed ≡ total (owed_by plant ts) + (cost_of d.instr - 1) → Backed orders lines credit →
+  pub backed_with : (orders : List (List ℕ)) (o : Option (List ℕ)) (lines : List ℕ) (d : Did) (credit owed : ℕ) (ts : List LineTouch) →
+      CacheMissesOnce order → 0 < plant.sets → length orders ≡ plant.sets → AllIn (lines_with o lines) (lines_of_did plant.line d) →
+      missed_lines ts ≡ cache_misses order plant.ways orders (lines_of_did plant.line d) → owed ≡ total (owed_by plant ts) + (cost_of d.instr - 1) →
+      Backed orders lines credit →
       Pays (caches_after order plant.ways orders (lines_of_did plant.line d)) (lines_with o lines) owed credit (charge_with plant o (lines_with o lines) d)
   backed_with orders None lines d credit owed ts once pos count within missed owed_is h =
-      let y : Pays (caches_after order plant.ways orders (lines_of_did plant.line d)) lines owed credit (cost_of d.instr + length (crowded_of plant lines (lines_of_did plant.line d)) * line_cost plant) =
+      let y : Pays (caches_after order plant.ways orders (lines_of_did plant.line d)) lines owed credit
+      (cost_of d.instr + length (crowded_of plant lines (lines_of_did plant.line d)) * line_cost plant) =
       backed_more orders lines (lines_of_did plant.line d) credit owed (cost_of d.instr) ts once pos count within missed owed_is (cost_bounds d.instr).0 h in
-      record { spare = y.spare; backed = y.backed; pays = sum (owed + 1 + y.spare) (length (crowded_of plant lines (lines_of_did plant.line d))) (line_cost plant) (cost_of d.instr) credit y.pays } where
+      record {
+        spare = y.spare;
+        backed = y.backed;
+        pays =
+            sum (owed + 1 + y.spare) (length (crowded_of plant lines (lines_of_did plant.line d))) (line_cost plant) (cost_of d.instr) credit y.pays;
+      } where
         sum : (x c f cost credit : ℕ) → x ≤ credit + (cost + c * f) → x ≤ credit + (cost + (0 + c) * f)
         sum x c f cost credit le = let a : 0 + c ≡ c = omega arith in subst (λ m. x ≤ credit + (cost + m * f)) (sym a) le
   backed_with orders (Some others) lines d credit owed ts once pos count within missed owed_is h =
@@ -122,7 +133,9 @@ owed_sum (x ∷ xs) = let e : sum xs ≡ total xs = owed_sum xs in sum_by-cons (
 missed_count : (ts : List LineTouch) → length (missed_lines ts) ≡ length (filter (λ (t : LineTouch). not t.hit) ts)
 missed_count [] = refl
 missed_count (t ∷ ts) = by t.hit (missed_count ts) where
-  by : (b : Bool) → length (missed_lines ts) ≡ length (filter (λ (t : LineTouch). not t.hit) ts) → length (cond b (missed_lines ts) (t.line ∷ missed_lines ts)) ≡ length (cond (not b) (t ∷ filter (λ (t : LineTouch). not t.hit) ts) (filter (λ (t : LineTouch). not t.hit) ts))
+  by : (b : Bool) → length (missed_lines ts) ≡ length (filter (λ (t : LineTouch). not t.hit) ts) →
+      length (cond b (missed_lines ts) (t.line ∷ missed_lines ts))
+      ≡ length (cond (not b) (t ∷ filter (λ (t : LineTouch). not t.hit) ts) (filter (λ (t : LineTouch). not t.hit) ts))
   by true e = e
   by false e = omega (arith, e)
 

@@ -44,7 +44,9 @@ module _ (f : ℕ → Bool) where
   split_length (x ∷ xs) =
       let r : length (filter f xs) + length (filter (λ x. not (f x)) xs) ≡ length xs = split_length xs in
       by (f x) r where
-        by : (b : Bool) → length (filter f xs) + length (filter (λ x. not (f x)) xs) ≡ length xs → length (cond b (x ∷ filter f xs) (filter f xs)) + length (cond (not b) (x ∷ filter (λ x. not (f x)) xs) (filter (λ x. not (f x)) xs)) ≡ length (x ∷ xs)
+        by : (b : Bool) → length (filter f xs) + length (filter (λ x. not (f x)) xs) ≡ length xs →
+            length (cond b (x ∷ filter f xs) (filter f xs)) + length (cond (not b) (x ∷ filter (λ x. not (f x)) xs) (filter (λ x. not (f x)) xs))
+            ≡ length (x ∷ xs)
         by true r = omega (arith, r)
         by false r = omega (arith, r)
 
@@ -57,7 +59,9 @@ module _ (f : ℕ → Bool) where
       cond_both (is_in x (order_of orders x)) rest (x ∷ rest) (λ zs. length (filter f zs) ≤ length (filter f (x ∷ xs)))
       (λ _. cond_both (f x) (x ∷ filter f xs) (filter f xs) (λ zs. length (filter f rest) ≤ length zs) (λ _. omega (arith, r)) (λ _. r))
       (λ _. by (f x) r) where
-        by : (b : Bool) → length (filter f (cache_misses order room (cache_after order room orders x) xs)) ≤ length (filter f xs) → length (cond b (x ∷ filter f (cache_misses order room (cache_after order room orders x) xs)) (filter f (cache_misses order room (cache_after order room orders x) xs))) ≤ length (cond b (x ∷ filter f xs) (filter f xs))
+        by : (b : Bool) → length (filter f (cache_misses order room (cache_after order room orders x) xs)) ≤ length (filter f xs) →
+            length (cond b (x ∷ filter f (cache_misses order room (cache_after order room orders x) xs))
+            (filter f (cache_misses order room (cache_after order room orders x) xs))) ≤ length (cond b (x ∷ filter f xs) (filter f xs))
         by true r = omega (arith, r)
         by false r = r
 
@@ -151,7 +155,8 @@ module _ (g : ℕ → Bool) (n i : ℕ) where
       cond_both (pass x) (x ∷ filter pass xs) (filter pass xs) (λ zs. length (of_set n i zs) ≤ length (of_set n i (x ∷ xs)))
       (λ _. by (eqb (x % n) i) r)
       (λ _. cond_both (eqb (x % n) i) (x ∷ of_set n i xs) (of_set n i xs) (λ zs. length (of_set n i (filter pass xs)) ≤ length zs) (λ _. omega (arith, r)) (λ _. r)) where
-        by : (b : Bool) → length (of_set n i (filter pass xs)) ≤ length (of_set n i xs) → length (cond b (x ∷ of_set n i (filter pass xs)) (of_set n i (filter pass xs))) ≤ length (cond b (x ∷ of_set n i xs) (of_set n i xs))
+        by : (b : Bool) → length (of_set n i (filter pass xs)) ≤ length (of_set n i xs) →
+            length (cond b (x ∷ of_set n i (filter pass xs)) (of_set n i (filter pass xs))) ≤ length (cond b (x ∷ of_set n i xs) (of_set n i xs))
         by true r = omega (arith, r)
         by false r = r
 
@@ -178,7 +183,9 @@ roomy_fits plant lines i =
     (cases_Bool (is_roomy plant lines i))
 
 -- each line of a roomy set misses once at most
-pub few_roomy : (order : OrderRule) (plant : Plant) (orders : List (List ℕ)) (lines touches : List ℕ) → CacheMissesOnce order → 0 < plant.sets → length orders ≡ plant.sets → AllIn lines touches → length (roomy_of plant lines (cache_misses order plant.ways orders touches)) ≤ length (roomy_of plant lines lines)
+pub few_roomy : (order : OrderRule) (plant : Plant) (orders : List (List ℕ)) (lines touches : List ℕ) → CacheMissesOnce order → 0 < plant.sets →
+    length orders ≡ plant.sets → AllIn lines touches →
+    length (roomy_of plant lines (cache_misses order plant.ways orders touches)) ≤ length (roomy_of plant lines lines)
 few_roomy order plant orders lines touches once pos count within =
     let g : ℕ → Bool = is_roomy plant lines in
     let f : ℕ → Bool = λ x. is_roomy plant lines (x % plant.sets) in
@@ -190,7 +197,8 @@ few_roomy order plant orders lines touches once pos count within =
     omega (arith, ap length same, few)
 
 -- and each touch of a line of a crowded one
-pub few_crowded : (order : OrderRule) (plant : Plant) (orders : List (List ℕ)) (lines touches : List ℕ) → length (crowded_of plant lines (cache_misses order plant.ways orders touches)) ≤ length (crowded_of plant lines touches)
+pub few_crowded : (order : OrderRule) (plant : Plant) (orders : List (List ℕ)) (lines touches : List ℕ) →
+    length (crowded_of plant lines (cache_misses order plant.ways orders touches)) ≤ length (crowded_of plant lines touches)
 few_crowded order plant orders lines touches = few_pass (λ x. not (is_roomy plant lines (x % plant.sets))) order plant.ways orders touches
 
 pub both_parts : (plant : Plant) (lines xs : List ℕ) → length (roomy_of plant lines xs) + length (crowded_of plant lines xs) ≡ length xs

@@ -11,8 +11,10 @@ use Rattle.prem_cycle.specs.Runs.Position.Finish.{due_of}
 use Rattle.prem_sound.specs.Script.Script.{change_due, call_at, Script}
 use Rattle.prem_sound.specs.Paced.Paced.{within_stretch}
 use Rattle.prem_sound.specs.Scopes.Scopes.{Scope, KeepsToLines, charge_of, dids_of, charges_of, single}
-use Rattle.prem_sound.specs.Scopes.Strands.{Strand, ends, runs, calls, dids_along, GoesTo, IsWithinInterval, IsStrand, change_behind, last_change, calls_begun, scope_due, joined, begun_along, charges_along, EndsNoJob, StretchesWithin}
-use Rattle.prem_sound.specs.Scopes.Parted.{IsQuiet, strand_of, stretch_along, OneIsParted, EachIsParted, PartsJoin, PartsGrow, PartsAreStrands, CallsAreStrands, JobsEndDue, StrandsSumUp, StretchesShrink}
+use Rattle.prem_sound.specs.Scopes.Strands.{Strand, ends, runs, calls, dids_along, GoesTo, IsWithinInterval, IsStrand, change_behind, last_change, calls_begun, scope_due, joined}
+use Rattle.prem_sound.specs.Scopes.Strands.{begun_along, charges_along, EndsNoJob, StretchesWithin}
+use Rattle.prem_sound.specs.Scopes.Parted.{IsQuiet, strand_of, stretch_along, OneIsParted, EachIsParted, PartsJoin, PartsGrow, PartsAreStrands, CallsAreStrands, JobsEndDue}
+use Rattle.prem_sound.specs.Scopes.Parted.{StrandsSumUp, StretchesShrink}
 use Rattle.prem_sound.proofs.ScopesLemmas.Alone.{singles_are_due}
 
 -- ---- parts
@@ -122,7 +124,9 @@ module _ (plant : Plant) where
             let a : charges_along plant s (begun + calls_begun (last_change x.dids)) (strand_of xs) ≡ charges_of plant xs = r.charged s (begun + calls_begun (last_change x.dids)) in
             omega (arith, a, stay_due s begun x e);
         stretch = λ stretch.
-            let a : stretch_along plant (within_stretch (last_change x.dids) (stretch + charge_of plant x)) (strand_of xs) ≡ within_stretch (last_change x.dids) (stretch + charge_of plant x) + charges_of plant xs = r.stretch (within_stretch (last_change x.dids) (stretch + charge_of plant x)) in
+            let a : stretch_along plant (within_stretch (last_change x.dids) (stretch + charge_of plant x)) (strand_of xs)
+            ≡ within_stretch (last_change x.dids) (stretch + charge_of plant x) + charges_of plant xs =
+            r.stretch (within_stretch (last_change x.dids) (stretch + charge_of plant x)) in
             omega (arith, a, on (stretch + charge_of plant x));
         within = λ longest stretch le. (omega (arith, le), r.within longest (within_stretch (last_change x.dids) (stretch + charge_of plant x)) (omega (arith, on (stretch + charge_of plant x), le)));
       }
@@ -167,7 +171,10 @@ jobs_end_due plant s begun d ph ch =
 module _ (plant : Plant) (s : Script) where
   sum_charges : (w v : Strand) (begun : ℕ) → charges_along plant s begun (joined w v) ≡ charges_along plant s begun w + charges_along plant s (begun_along begun w) v
   sum_charges ends v begun = omega arith
-  sum_charges (runs x rest) v begun = let r : charges_along plant s (begun + calls_begun (last_change x.dids)) (joined rest v) ≡ charges_along plant s (begun + calls_begun (last_change x.dids)) rest + charges_along plant s (begun_along (begun + calls_begun (last_change x.dids)) rest) v = sum_charges rest v (begun + calls_begun (last_change x.dids)) in omega (arith, r)
+  sum_charges (runs x rest) v begun =
+      let r : charges_along plant s (begun + calls_begun (last_change x.dids)) (joined rest v)
+      ≡ charges_along plant s (begun + calls_begun (last_change x.dids)) rest + charges_along plant s
+      (begun_along (begun + calls_begun (last_change x.dids)) rest) v = sum_charges rest v (begun + calls_begun (last_change x.dids)) in omega (arith, r)
   sum_charges (calls ds rest) v begun = sum_charges rest v begun
 
   sum_begun : (w v : Strand) (begun : ℕ) → begun_along begun (joined w v) ≡ begun_along (begun_along begun w) v
@@ -180,7 +187,8 @@ module _ (plant : Plant) (s : Script) where
   both_free (runs x rest) v h g = (h.0, both_free rest v h.1 g)
   both_free (calls ds rest) v h g = both_free rest v h g
 
-  both_within : (w v : Strand) (longest stretch : ℕ) → StretchesWithin plant longest stretch w → StretchesWithin plant longest (stretch_along plant stretch w) v → StretchesWithin plant longest stretch (joined w v)
+  both_within : (w v : Strand) (longest stretch : ℕ) → StretchesWithin plant longest stretch w →
+      StretchesWithin plant longest (stretch_along plant stretch w) v → StretchesWithin plant longest stretch (joined w v)
   both_within ends v longest stretch h g = g
   both_within (runs x rest) v longest stretch h g = (h.0, both_within rest v longest (within_stretch (last_change x.dids) (stretch + charge_of plant x)) h.1 g)
   both_within (calls ds rest) v longest stretch h g = both_within rest v longest stretch h g
@@ -197,6 +205,10 @@ less_stretch Job a b le = omega arith
 
 pub stretches_shrink : StretchesShrink
 stretches_shrink plant longest less more ends le h = tt
-stretches_shrink plant longest less more (runs x rest) le h =
-    (omega (arith, le, h.0), stretches_shrink plant longest (within_stretch (last_change x.dids) (less + charge_of plant x)) (within_stretch (last_change x.dids) (more + charge_of plant x)) rest (less_stretch (last_change x.dids) (less + charge_of plant x) (more + charge_of plant x) (omega (arith, le))) h.1)
+stretches_shrink plant longest less more (runs x rest) le h = (
+  omega (arith, le, h.0),
+  stretches_shrink plant longest (within_stretch (last_change x.dids) (less + charge_of plant x))
+      (within_stretch (last_change x.dids) (more + charge_of plant x)) rest
+      (less_stretch (last_change x.dids) (less + charge_of plant x) (more + charge_of plant x) (omega (arith, le))) h.1,
+)
 stretches_shrink plant longest less more (calls ds rest) le h = stretches_shrink plant longest less more rest le h

@@ -1,6 +1,7 @@
 -- Strands one behind another, and what a scope's charge is made of.
 use Rattle.std.specs.Prelude.{sum_by, not}
-use Rattle.std.proofs.Common.{◌≡◌, ℕ, suc, ◌+◌, ◌*◌, ◌≤◌, refl, ap, ◌∙◌, sym, subst, arith, None, List, [], ◌∷◌, ◌++◌, append_assoc, length, slice_index_or, ◌%◌, ◌/◌, cond, true, false, Bool, Some, Option}
+use Rattle.std.proofs.Common.{◌≡◌, ℕ, suc, ◌+◌, ◌*◌, ◌≤◌, refl, ap, ◌∙◌, sym, subst, arith, None, List, [], ◌∷◌, ◌++◌, append_assoc, length, slice_index_or, ◌%◌, ◌/◌, cond, true}
+use Rattle.std.proofs.Common.{false, Bool, Some, Option}
 use Rattle.std.proofs.lemmas.List.{length-append}
 use Rattle.std.proofs.lemmas.List.Elements.{filter-append}
 use Rattle.std.proofs.lemmas.List.Sums.{sum_by-cons}
@@ -17,17 +18,21 @@ use Rattle.prem_sound.specs.Scopes.Lines.{line_cost, is_roomy, roomy_of, crowded
 use Rattle.prem_sound.specs.Scopes.Scopes.{Scope, charge_of}
 use Rattle.prem_sound.specs.Scopes.Charged.{charge_with, crowd_cost, access_cost}
 use Rattle.prem_sound.specs.Scopes.Laws.{ScopesSumUp, ChargesByAccess}
-use Rattle.prem_sound.specs.Scopes.Strands.{Strand, ends, runs, calls, dids_along, IsStrand, last_change, calls_begun, scope_due, ChargedFrom, joined, begun_along, charges_along, EndsNoJob, StretchesWithin, StrandsJoin, JobsAreCharged, ChargesLookAtCalls}
+use Rattle.prem_sound.specs.Scopes.Strands.{Strand, ends, runs, calls, dids_along, IsStrand, last_change, calls_begun, scope_due, ChargedFrom, joined, begun_along, charges_along}
+use Rattle.prem_sound.specs.Scopes.Strands.{EndsNoJob, StretchesWithin, StrandsJoin, JobsAreCharged, ChargesLookAtCalls}
 
 -- ---- a scope
 
 crowded-append : (plant : Plant) (lines xs ys : List ℕ) → length (crowded_of plant lines (xs ++ ys)) ≡ length (crowded_of plant lines xs) + length (crowded_of plant lines ys)
 crowded-append plant lines xs ys = ap length (filter-append _ xs ys) ∙ length-append (crowded_of plant lines xs) (crowded_of plant lines ys)
 
-dids_sum : (plant : Plant) (lines : List ℕ) (ds : List Did) → cost_of_dids ds + length (crowded_of plant lines (lines_of_dids plant.line ds)) * line_cost plant ≡ sum_by (λ (d : Did). charge_with plant None lines d) ds
+dids_sum : (plant : Plant) (lines : List ℕ) (ds : List Did) →
+    cost_of_dids ds + length (crowded_of plant lines (lines_of_dids plant.line ds)) * line_cost plant ≡ sum_by (λ (d : Did). charge_with plant None lines d) ds
 dids_sum plant lines [] = omega arith
 dids_sum plant lines (d ∷ ds) =
-    sum (cost_of_dids (d ∷ ds)) (cost_of d.instr) (cost_of_dids ds) (length (crowded_of plant lines (lines_of_dids plant.line (d ∷ ds)))) (length (crowded_of plant lines (lines_of_did plant.line d))) (length (crowded_of plant lines (lines_of_dids plant.line ds))) (line_cost plant) (sum_by (λ (d : Did). charge_with plant None lines d) ds)
+    sum (cost_of_dids (d ∷ ds)) (cost_of d.instr) (cost_of_dids ds) (length (crowded_of plant lines (lines_of_dids plant.line (d ∷ ds))))
+    (length (crowded_of plant lines (lines_of_did plant.line d))) (length (crowded_of plant lines (lines_of_dids plant.line ds)))
+    (line_cost plant) (sum_by (λ (d : Did). charge_with plant None lines d) ds)
     (sum_by-cons (λ (x : Did). cost_of x.instr) d ds) (crowded-append plant lines (lines_of_did plant.line d) (lines_of_dids plant.line ds)) (dids_sum plant lines ds)
     ∙ sym (sum_by-cons (λ (d : Did). charge_with plant None lines d) d ds) where
       sum : (t a b c x y f r : ℕ) → t ≡ a + b → c ≡ x + y → b + y * f ≡ r → t + c * f ≡ a + (0 + x) * f + r
@@ -36,12 +41,14 @@ dids_sum plant lines (d ∷ ds) =
           let z : (0 + x) * f ≡ x * f = (let q : 0 + x ≡ x = omega arith in ap (λ m. m * f) q) in
           omega (arith, e, k, h, z)
 
-crowded_one : (plant : Plant) (lines : List ℕ) (x : ℕ) (xs : List ℕ) → length (crowded_of plant lines (x ∷ xs)) * line_cost plant ≡ crowd_cost plant lines x + length (crowded_of plant lines xs) * line_cost plant
+crowded_one : (plant : Plant) (lines : List ℕ) (x : ℕ) (xs : List ℕ) →
+    length (crowded_of plant lines (x ∷ xs)) * line_cost plant ≡ crowd_cost plant lines x + length (crowded_of plant lines xs) * line_cost plant
 crowded_one plant lines x xs = by (is_roomy plant lines (x % plant.sets)) where
   more : (n f : ℕ) → suc n * f ≡ f + n * f
   more n f = omega arith
 
-  by : (b : Bool) → length (cond (not b) (x ∷ crowded_of plant lines xs) (crowded_of plant lines xs)) * line_cost plant ≡ cond b 0 (line_cost plant) + length (crowded_of plant lines xs) * line_cost plant
+  by : (b : Bool) → length (cond (not b) (x ∷ crowded_of plant lines xs) (crowded_of plant lines xs)) * line_cost plant
+      ≡ cond b 0 (line_cost plant) + length (crowded_of plant lines xs) * line_cost plant
   by true = omega arith
   by false = more (length (crowded_of plant lines xs)) (line_cost plant)
 
@@ -52,22 +59,29 @@ charges_by_access plant lines d = by d.access refl where
 
   by : (a : Option Access) → d.access ≡ a → charge_with plant None lines d ≡ cost_of d.instr + crowd_cost plant lines (d.pc / plant.line) + access_cost plant lines d.access
   by None e =
-      let first : length (crowded_of plant lines (lines_of_did plant.line d)) * line_cost plant ≡ crowd_cost plant lines (d.pc / plant.line) + length (crowded_of plant lines (access_lines plant.line d.access)) * line_cost plant =
+      let first : length (crowded_of plant lines (lines_of_did plant.line d)) * line_cost plant
+      ≡ crowd_cost plant lines (d.pc / plant.line) + length (crowded_of plant lines (access_lines plant.line d.access)) * line_cost plant =
       crowded_one plant lines (d.pc / plant.line) (access_lines plant.line d.access) in
-      let rest : length (crowded_of plant lines (access_lines plant.line d.access)) * line_cost plant ≡ 0 = ap (λ a. length (crowded_of plant lines (access_lines plant.line a)) * line_cost plant) e ∙ omega arith in
+      let rest : length (crowded_of plant lines (access_lines plant.line d.access)) * line_cost plant ≡ 0 =
+      ap (λ a. length (crowded_of plant lines (access_lines plant.line a)) * line_cost plant) e ∙ omega arith in
       let same : access_cost plant lines d.access ≡ 0 = ap (access_cost plant lines) e in
       omega (arith, zero_more (length (crowded_of plant lines (lines_of_did plant.line d))) (line_cost plant), first, rest, same)
   by (Some a) e =
-      let first : length (crowded_of plant lines (lines_of_did plant.line d)) * line_cost plant ≡ crowd_cost plant lines (d.pc / plant.line) + length (crowded_of plant lines (access_lines plant.line d.access)) * line_cost plant =
+      let first : length (crowded_of plant lines (lines_of_did plant.line d)) * line_cost plant
+      ≡ crowd_cost plant lines (d.pc / plant.line) + length (crowded_of plant lines (access_lines plant.line d.access)) * line_cost plant =
       crowded_one plant lines (d.pc / plant.line) (access_lines plant.line d.access) in
-      let one : length (crowded_of plant lines (a.address / plant.line ∷ [])) * line_cost plant ≡ crowd_cost plant lines (a.address / plant.line) + 0 * line_cost plant = crowded_one plant lines (a.address / plant.line) [] in
-      let rest : length (crowded_of plant lines (access_lines plant.line d.access)) * line_cost plant ≡ crowd_cost plant lines (a.address / plant.line) = ap (λ a. length (crowded_of plant lines (access_lines plant.line a)) * line_cost plant) e ∙ one ∙ omega arith in
+      let one : length (crowded_of plant lines (a.address / plant.line ∷ [])) * line_cost plant
+      ≡ crowd_cost plant lines (a.address / plant.line) + 0 * line_cost plant = crowded_one plant lines (a.address / plant.line) [] in
+      let rest : length (crowded_of plant lines (access_lines plant.line d.access)) * line_cost plant
+      ≡ crowd_cost plant lines (a.address / plant.line) =
+      ap (λ a. length (crowded_of plant lines (access_lines plant.line a)) * line_cost plant) e ∙ one ∙ omega arith in
       let same : access_cost plant lines d.access ≡ crowd_cost plant lines (a.address / plant.line) = ap (access_cost plant lines) e in
       omega (arith, zero_more (length (crowded_of plant lines (lines_of_did plant.line d))) (line_cost plant), first, rest, same)
 
 pub scopes_sum_up : ScopesSumUp
 scopes_sum_up plant s =
-    sum (cost_of_dids s.dids) (length (roomy_of plant s.lines s.lines)) (length (crowded_of plant s.lines (lines_of_dids plant.line s.dids))) (line_cost plant) (sum_by (λ (d : Did). charge_with plant None s.lines d) s.dids) (dids_sum plant s.lines s.dids) where
+    sum (cost_of_dids s.dids) (length (roomy_of plant s.lines s.lines)) (length (crowded_of plant s.lines (lines_of_dids plant.line s.dids)))
+    (line_cost plant) (sum_by (λ (d : Did). charge_with plant None s.lines d) s.dids) (dids_sum plant s.lines s.dids) where
       sum : (a r c f t : ℕ) → a + c * f ≡ t → a + (r + c) * f ≡ r * f + t
       sum a r c f t e = let k : (r + c) * f ≡ r * f + c * f = add-mul r c f in omega (arith, e, k)
 
@@ -96,7 +110,8 @@ module _ (plant : Plant) (s : Script) (cost most : ℕ) where
   no_job End n h = refl
   no_job Job n h = absurd (h refl)
 
-  ends_job : (x : Scope) (v : Strand) (begun job stretch : ℕ) → last_change x.dids ≡ Job → job + scope_due plant s begun x ≤ cost → stretch + charge_of plant x ≤ most → ChargedFrom plant s cost most begun 0 0 v → ChargedFrom plant s cost most begun job stretch (runs x v)
+  ends_job : (x : Scope) (v : Strand) (begun job stretch : ℕ) → last_change x.dids ≡ Job → job + scope_due plant s begun x ≤ cost →
+      stretch + charge_of plant x ≤ most → ChargedFrom plant s cost most begun 0 0 v → ChargedFrom plant s cost most begun job stretch (runs x v)
   ends_job x v begun job stretch e fits within h = (
     fits,
     within,
@@ -107,7 +122,9 @@ module _ (plant : Plant) (s : Script) (cost most : ℕ) where
     none : begun ≡ begun + calls_begun (last_change x.dids)
     none = let z : calls_begun (last_change x.dids) ≡ 0 = ap calls_begun e in omega (arith, z)
 
-  job_along : (w v : Strand) (last : Scope) (begun job stretch : ℕ) → EndsNoJob w → last_change last.dids ≡ Job → job + (charges_along plant s begun w + scope_due plant s (begun_along begun w) last) ≤ cost → StretchesWithin plant most stretch (joined w (runs last ends)) →
+  job_along : (w v : Strand) (last : Scope) (begun job stretch : ℕ) → EndsNoJob w → last_change last.dids ≡ Job →
+      job + (charges_along plant s begun w + scope_due plant s (begun_along begun w) last) ≤ cost →
+      StretchesWithin plant most stretch (joined w (runs last ends)) →
       ChargedFrom plant s cost most (begun_along begun w) 0 0 v → ChargedFrom plant s cost most begun job stretch (joined w (runs last v))
   job_along ends v last begun job stretch free e fits within h = ends_job last v begun job stretch e (omega (arith, fits)) within.0 h
   job_along (calls ds rest) v last begun job stretch free e fits within h = job_along rest v last begun job stretch free e fits within h
@@ -134,6 +151,9 @@ charges_look_at_calls plant s other cost most begun job stretch (runs x rest) e 
     let same : scope_due plant s begun x ≡ scope_due plant other begun x = same_due plant s other begun x e in (
       omega (arith, h.0, same),
       h.1,
-      subst (λ n. ChargedFrom plant other cost most (begun + calls_begun (last_change x.dids)) (within_job (last_change x.dids) (job + n)) (within_stretch (last_change x.dids) (stretch + charge_of plant x)) rest) same
-          (charges_look_at_calls plant s other cost most (begun + calls_begun (last_change x.dids)) (within_job (last_change x.dids) (job + scope_due plant s begun x)) (within_stretch (last_change x.dids) (stretch + charge_of plant x)) rest e h.2),
+      subst (λ n. ChargedFrom plant other cost most (begun + calls_begun (last_change x.dids)) (within_job (last_change x.dids) (job + n))
+          (within_stretch (last_change x.dids) (stretch + charge_of plant x)) rest) same
+          (charges_look_at_calls plant s other cost most (begun + calls_begun (last_change x.dids))
+          (within_job (last_change x.dids) (job + scope_due plant s begun x)) (within_stretch (last_change x.dids) (stretch + charge_of plant x))
+          rest e h.2),
     )

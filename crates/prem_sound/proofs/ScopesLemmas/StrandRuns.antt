@@ -25,8 +25,10 @@ use Rattle.prem_sound.proofs.CallRuns.{begins_call, calls_after, none_did}
 use Rattle.prem_sound.proofs.Ends.{not_running, behind_end}
 use Rattle.prem_sound.specs.Scopes.Lines.{line_cost, roomy_of, crowded_of}
 use Rattle.prem_sound.specs.Scopes.Scopes.{Scope, charge_of}
-use Rattle.prem_sound.specs.Scopes.Charged.{Scoping, lines_with, within_scope, scope_with, scope_by, scope_at, lines_charged, charge_with, Charges, charges_by, own_charge, did_charge, job_with, job_charged, stretch_with, stretch_charged}
-use Rattle.prem_sound.specs.Scopes.Strands.{Strand, ends, runs, calls, dids_along, none_begins, one_begins, begins_along, scoping_of, GoesTo, IsWithinInterval, IsStrand, last_change, calls_begun, scope_due, ChargedFrom, StrandsAreCharged}
+use Rattle.prem_sound.specs.Scopes.Charged.{Scoping, lines_with, within_scope, scope_with, scope_by, scope_at, lines_charged, charge_with, Charges, charges_by, own_charge}
+use Rattle.prem_sound.specs.Scopes.Charged.{did_charge, job_with, job_charged, stretch_with, stretch_charged}
+use Rattle.prem_sound.specs.Scopes.Strands.{Strand, ends, runs, calls, dids_along, none_begins, one_begins, begins_along, scoping_of, GoesTo, IsWithinInterval, IsStrand}
+use Rattle.prem_sound.specs.Scopes.Strands.{last_change, calls_begun, scope_due, ChargedFrom, StrandsAreCharged}
 use Rattle.prem_sound.proofs.ScopesLemmas.ChargeRuns.{scope_by-next, job_charged-next, stretch_charged-next}
 
 -- ---- a trace, instruction by instruction
@@ -52,7 +54,9 @@ module _ (run : TaskRun) where
       ∙ ap (λ xs. xs ++ plain_trace run (length ds) (plain_steps run 1 s)) (trace_one run s)
       ∙ ap (λ x. with_last (plain_did run s) [] ++ plain_trace run (length ds) x) (sym next) in
       by (plain_did run s) refl (list_goes ds (n + 1)) split where
-        by : (o : Option Did) → plain_did run (plain_run run n) ≡ o → (plain_trace run (length ds) (plain_run run (n + 1)) ≡ ds → ListGoes (n + 1) ds) → d ∷ ds ≡ with_last o [] ++ plain_trace run (length ds) (plain_run run (n + 1)) → ListGoes n (d ∷ ds)
+        by : (o : Option Did) → plain_did run (plain_run run n) ≡ o →
+            (plain_trace run (length ds) (plain_run run (n + 1)) ≡ ds → ListGoes (n + 1) ds) →
+            d ∷ ds ≡ with_last o [] ++ plain_trace run (length ds) (plain_run run (n + 1)) → ListGoes n (d ∷ ds)
         by (Some x) is more split =
             let same : d ≡ x = cc in
             let rest : ds ≡ plain_trace run (length ds) (plain_run run (n + 1)) = cc in
@@ -148,14 +152,18 @@ module _ (plant : Plant) (run : TaskRun) (s : Script) (scoping : Scoping) (cost 
 
   -- ---- one instruction
 
-  job_next : (n : ℕ) (d : Did) → plain_did run (plain_run run n) ≡ Some d → job_charged plant s run charge (n + 1) ≡ within_job d.change (job_charged plant s run charge n + did_charge plant (stated_at n) d.phase d.change (charge n d))
+  job_next : (n : ℕ) (d : Did) → plain_did run (plain_run run n) ≡ Some d →
+      job_charged plant s run charge (n + 1)
+      ≡ within_job d.change (job_charged plant s run charge n + did_charge plant (stated_at n) d.phase d.change (charge n d))
   job_next n d is = job_charged-next plant s run charge n ∙ ap (λ o. job_with plant s (begun_by run n) charge n o (job_charged plant s run charge n)) is
 
-  stretch_next : (n : ℕ) (d : Did) → plain_did run (plain_run run n) ≡ Some d → stretch_charged run charge (n + 1) ≡ within_stretch d.change (stretch_charged run charge n + own_charge d.phase (charge n d))
+  stretch_next : (n : ℕ) (d : Did) → plain_did run (plain_run run n) ≡ Some d →
+      stretch_charged run charge (n + 1) ≡ within_stretch d.change (stretch_charged run charge n + own_charge d.phase (charge n d))
   stretch_next n d is = stretch_charged-next run charge n ∙ ap (λ o. stretch_with charge n o (stretch_charged run charge n)) is
 
   begun_next : (n : ℕ) (d : Did) → plain_did run (plain_run run n) ≡ Some d → (begun_by run (n + 1)).calls ≡ (begun_by run n).calls + calls_begun d.change
-  begun_next n d is = ap (λ (b : Begun). b.calls) (begun_by-next run n ∙ ap (λ o. begun_with o (begun_by run n)) is) ∙ calls_after d.change d (begun_by run n) ∙ ap (λ c. (begun_by run n).calls + c) (same_count d.change)
+  begun_next n d is = ap (λ (b : Begun). b.calls) (begun_by-next run n ∙ ap (λ o. begun_with o (begun_by run n)) is)
+      ∙ calls_after d.change d (begun_by run n) ∙ ap (λ c. (begun_by run n).calls + c) (same_count d.change)
     where
       same_count : (c : Change) → begins_call c ≡ calls_begun c
       same_count Stay = refl
@@ -182,11 +190,14 @@ module _ (plant : Plant) (run : TaskRun) (s : Script) (scoping : Scoping) (cost 
   stretch_less Job a b le = omega arith
 
   -- one of a compatible interval, which is charged so much
-  step_goes : (n : ℕ) (d : Did) (begun job stretch value : ℕ) → plain_did run (plain_run run n) ≡ Some d → d.phase ≡ Compatible → charge n d ≡ value → AllIn (scope_at run scoping n) (lines_of_did plant.line d) → At n begun job stretch → job + (value + change_due plant (call_at s begun).stated d.change) ≤ cost → stretch + value ≤ most →
+  step_goes : (n : ℕ) (d : Did) (begun job stretch value : ℕ) → plain_did run (plain_run run n) ≡ Some d → d.phase ≡ Compatible → charge n d ≡ value →
+      AllIn (scope_at run scoping n) (lines_of_did plant.line d) → At n begun job stretch →
+      job + (value + change_due plant (call_at s begun).stated d.change) ≤ cost → stretch + value ≤ most →
       Walked n (n + 1) (begun + calls_begun d.change) (within_job d.change (job + (value + change_due plant (call_at s begun).stated d.change))) (within_stretch d.change (stretch + value))
   step_goes n d begun job stretch value is ph e within a fits_job fits_stretch =
       let due : did_charge plant (stated_at n) d.phase d.change (charge n d) ≡ value + change_due plant (call_at s begun).stated d.change =
-      ap (λ q. did_charge plant (stated_at n) q d.change (charge n d)) ph ∙ ap (λ q. q + change_due plant (stated_at n) d.change) e ∙ ap (λ q. value + change_due plant (call_at s q).stated d.change) a.calls_are in
+      ap (λ q. did_charge plant (stated_at n) q d.change (charge n d)) ph ∙ ap (λ q. q + change_due plant (stated_at n) d.change) e
+      ∙ ap (λ q. value + change_due plant (call_at s q).stated d.change) a.calls_are in
       let own : own_charge d.phase (charge n d) ≡ value = ap (λ q. own_charge q (charge n d)) ph ∙ e in
       record {
         bound = one_bound n d is (record {
@@ -196,7 +207,8 @@ module _ (plant : Plant) (run : TaskRun) (s : Script) (scoping : Scoping) (cost 
         });
         at = record {
           calls_are = begun_next n d is ∙ ap (λ q. q + calls_begun d.change) a.calls_are;
-          job_is = subst (λ q. q ≤ within_job d.change (job + (value + change_due plant (call_at s begun).stated d.change))) (sym (job_next n d is)) (job_less d.change _ _ (omega (arith, a.job_is, due)));
+          job_is = subst (λ q. q ≤ within_job d.change (job + (value + change_due plant (call_at s begun).stated d.change))) (sym (job_next n d is))
+              (job_less d.change _ _ (omega (arith, a.job_is, due)));
           stretch_is = subst (λ q. q ≤ within_stretch d.change (stretch + value)) (sym (stretch_next n d is)) (stretch_less d.change _ _ (omega (arith, a.stretch_is, own)));
         };
       }
@@ -217,7 +229,9 @@ module _ (plant : Plant) (run : TaskRun) (s : Script) (scoping : Scoping) (cost 
 
     charged_more : (o : Option (List ℕ)) (d : Did) (ds : List Did) → charged o (d ∷ ds) ≡ charge_with plant o lines d + charged None ds
     charged_more o d ds =
-        sum (cost_of_dids (d ∷ ds)) (cost_of d.instr) (cost_of_dids ds) (lines_charged plant o) (length (crowded_of plant lines (lines_of_dids plant.line (d ∷ ds)))) (length (crowded_of plant lines (lines_of_did plant.line d))) (length (crowded_of plant lines (lines_of_dids plant.line ds))) (line_cost plant)
+        sum (cost_of_dids (d ∷ ds)) (cost_of d.instr) (cost_of_dids ds) (lines_charged plant o)
+        (length (crowded_of plant lines (lines_of_dids plant.line (d ∷ ds)))) (length (crowded_of plant lines (lines_of_did plant.line d)))
+        (length (crowded_of plant lines (lines_of_dids plant.line ds))) (line_cost plant)
         (sum_by-cons (λ (x : Did). cost_of x.instr) d ds) (crowded-append plant lines (lines_of_did plant.line d) (lines_of_dids plant.line ds)) where
           sum : (t a b l c x y f : ℕ) → t ≡ a + b → c ≡ x + y → t + (l + c) * f ≡ a + (l + x) * f + (b + (0 + y) * f)
           sum t a b l c x y f e g =
@@ -235,14 +249,21 @@ module _ (plant : Plant) (run : TaskRun) (s : Script) (scoping : Scoping) (cost 
     goes_stay End e es g = absurd g
     goes_stay Job e es g = absurd (let z : e ∷ es ≡ [] = g in cc)
 
-    first_within : (n : ℕ) (o : Option (List ℕ)) (d : Did) (ds : List Did) → BeginsGo scoping n (o ∷ none_begins ds) → lines_with o (scope_by run scoping n) ≡ lines → AllIn lines (lines_of_dids plant.line (d ∷ ds)) → AllIn (scope_at run scoping n) (lines_of_did plant.line d)
+    first_within : (n : ℕ) (o : Option (List ℕ)) (d : Did) (ds : List Did) → BeginsGo scoping n (o ∷ none_begins ds) →
+        lines_with o (scope_by run scoping n) ≡ lines → AllIn lines (lines_of_dids plant.line (d ∷ ds)) →
+        AllIn (scope_at run scoping n) (lines_of_did plant.line d)
     first_within n o d ds b here all =
-        subst (λ q. AllIn q (lines_of_did plant.line d)) (sym (ap (λ q. lines_with q (scope_by run scoping n)) b.0 ∙ here)) (all_left lines (lines_of_did plant.line d) (lines_of_dids plant.line ds) all).0
+        subst (λ q. AllIn q (lines_of_did plant.line d)) (sym (ap (λ q. lines_with q (scope_by run scoping n)) b.0 ∙ here))
+        (all_left lines (lines_of_did plant.line d) (lines_of_dids plant.line ds) all).0
 
     -- those of a scope from one on
-    scope_goes : (ds : List Did) (d : Did) (n : ℕ) (o : Option (List ℕ)) (begun job stretch : ℕ) → ListGoes run n (d ∷ ds) → BeginsGo scoping n (o ∷ none_begins ds) → lines_with o (scope_by run scoping n) ≡ lines → IsWithinInterval (d ∷ ds) → AllIn lines (lines_of_dids plant.line (d ∷ ds)) → At n begun job stretch →
+    scope_goes : (ds : List Did) (d : Did) (n : ℕ) (o : Option (List ℕ)) (begun job stretch : ℕ) → ListGoes run n (d ∷ ds) →
+        BeginsGo scoping n (o ∷ none_begins ds) → lines_with o (scope_by run scoping n) ≡ lines → IsWithinInterval (d ∷ ds) →
+        AllIn lines (lines_of_dids plant.line (d ∷ ds)) → At n begun job stretch →
         job + (charged o (d ∷ ds) + change_due plant (call_at s begun).stated (last_change (d ∷ ds))) ≤ cost → stretch + charged o (d ∷ ds) ≤ most →
-        Walked n (n + length (d ∷ ds)) (begun + calls_begun (last_change (d ∷ ds))) (within_job (last_change (d ∷ ds)) (job + (charged o (d ∷ ds) + change_due plant (call_at s begun).stated (last_change (d ∷ ds))))) (within_stretch (last_change (d ∷ ds)) (stretch + charged o (d ∷ ds)))
+        Walked n (n + length (d ∷ ds)) (begun + calls_begun (last_change (d ∷ ds)))
+        (within_job (last_change (d ∷ ds)) (job + (charged o (d ∷ ds) + change_due plant (call_at s begun).stated (last_change (d ∷ ds)))))
+        (within_stretch (last_change (d ∷ ds)) (stretch + charged o (d ∷ ds)))
     scope_goes [] d n o begun job stretch g b here w all a fits_job fits_stretch =
         let is : charge n d ≡ charge_with plant o lines d = ap (λ q. charge_with plant q (lines_with q (scope_by run scoping n)) d) b.0 ∙ ap (λ q. charge_with plant o q d) here in
         let total : charged o (d ∷ []) ≡ charge_with plant o lines d + charged None [] = charged_more o d [] in
@@ -256,10 +277,12 @@ module _ (plant : Plant) (run : TaskRun) (s : Script) (scoping : Scoping) (cost 
         let lc : Change = last_change (e ∷ es) in
         let due : ℕ = change_due plant (call_at s begun).stated lc in
         let none : change_due plant (call_at s begun).stated d.change ≡ 0 = ap (change_due plant (call_at s begun).stated) stay in
-        let one : Walked n (n + 1) (begun + calls_begun d.change) (within_job d.change (job + (value + change_due plant (call_at s begun).stated d.change))) (within_stretch d.change (stretch + value)) =
+        let one : Walked n (n + 1) (begun + calls_begun d.change)
+        (within_job d.change (job + (value + change_due plant (call_at s begun).stated d.change))) (within_stretch d.change (stretch + value)) =
         step_goes n d begun job stretch value g.0 w.0 is (first_within n o d (e ∷ es) b here all) a (omega (arith, fits_job, total, none)) (omega (arith, fits_stretch, total)) in
         let count : calls_begun d.change ≡ 0 = ap calls_begun stay in
-        let jobs : within_job d.change (job + (value + change_due plant (call_at s begun).stated d.change)) ≡ job + value = ap (λ q. within_job q (job + (value + change_due plant (call_at s begun).stated d.change))) stay ∙ omega (arith, none) in
+        let jobs : within_job d.change (job + (value + change_due plant (call_at s begun).stated d.change)) ≡ job + value =
+        ap (λ q. within_job q (job + (value + change_due plant (call_at s begun).stated d.change))) stay ∙ omega (arith, none) in
         let stretches : within_stretch d.change (stretch + value) ≡ stretch + value = ap (λ q. within_stretch q (stretch + value)) stay in
         let next : At (n + 1) begun (job + value) (stretch + value) = record {
           calls_are = omega (arith, one.at.calls_are, count);
@@ -269,7 +292,8 @@ module _ (plant : Plant) (run : TaskRun) (s : Script) (scoping : Scoping) (cost 
         let stands : scope_at run scoping n ≡ lines = ap (λ q. lines_with q (scope_by run scoping n)) b.0 ∙ here in
         let on : scope_by run scoping (n + 1) ≡ lines = scope_next n d g.0 ∙ ap (λ q. within_scope q (scope_at run scoping n)) stay ∙ stands in
         let later : AllIn lines (lines_of_dids plant.line (e ∷ es)) = (all_left lines (lines_of_did plant.line d) (lines_of_dids plant.line (e ∷ es)) all).1 in
-        let more : Walked (n + 1) (n + 1 + length (e ∷ es)) (begun + calls_begun lc) (within_job lc (job + value + (charged None (e ∷ es) + due))) (within_stretch lc (stretch + value + charged None (e ∷ es))) =
+        let more : Walked (n + 1) (n + 1 + length (e ∷ es)) (begun + calls_begun lc) (within_job lc (job + value + (charged None (e ∷ es) + due)))
+        (within_stretch lc (stretch + value + charged None (e ∷ es))) =
         scope_goes es e (n + 1) None begun (job + value) (stretch + value) g.1 b.1 on w.2 later next (omega (arith, fits_job, total)) (omega (arith, fits_stretch, total)) in
         let at : n + 1 + length (e ∷ es) ≡ n + length (d ∷ (e ∷ es)) = omega arith in
         let job' : job + value + (charged None (e ∷ es) + due) ≡ job + (charged o (d ∷ (e ∷ es)) + due) = omega (arith, total) in
@@ -316,7 +340,8 @@ module _ (plant : Plant) (run : TaskRun) (s : Script) (scoping : Scoping) (cost 
   not_compatible : (ph : Phase) → is_predictable ph ≡ true → ph ≡ Compatible → ⊥
   not_compatible ph e c = let z : false ≡ true = sym (ap is_predictable c) ∙ e in cc
 
-  call_goes : (ds : List Did) (n begun job stretch : ℕ) → ListGoes run n ds → All (λ (d : Did). is_predictable d.phase ≡ true) ds → At n begun job stretch → job ≤ cost → Walked n (n + length ds) begun job stretch
+  call_goes : (ds : List Did) (n begun job stretch : ℕ) → ListGoes run n ds → All (λ (d : Did). is_predictable d.phase ≡ true) ds →
+      At n begun job stretch → job ≤ cost → Walked n (n + length ds) begun job stretch
   call_goes [] n begun job stretch g h a le = record { bound = none_bound n; at = (let e : n ≡ n + 0 = omega arith in subst (λ k. At k begun job stretch) e a) }
   call_goes (d ∷ ds) n begun job stretch g h a le =
       let p : is_predictable d.phase ≡ true = h 0 d (omega arith) in
@@ -331,9 +356,13 @@ module _ (plant : Plant) (run : TaskRun) (s : Script) (scoping : Scoping) (cost 
       } in
       let count : calls_begun d.change ≡ 0 = calm_calls d.phase d.change l p in
       let jobs : job_charged plant s run charge (n + 1) ≤ job_charged plant s run charge n =
-      subst (λ q. q ≤ job_charged plant s run charge n) (sym (job_next n d g.0 ∙ ap (λ q. within_job d.change (job_charged plant s run charge n + q)) z.0)) (calm_job d.change (job_charged plant s run charge n)) in
+      subst (λ q. q ≤ job_charged plant s run charge n)
+      (sym (job_next n d g.0 ∙ ap (λ q. within_job d.change (job_charged plant s run charge n + q)) z.0))
+      (calm_job d.change (job_charged plant s run charge n)) in
       let stretches : stretch_charged run charge (n + 1) ≤ stretch_charged run charge n =
-      subst (λ q. q ≤ stretch_charged run charge n) (sym (stretch_next n d g.0 ∙ ap (λ q. within_stretch d.change (stretch_charged run charge n + q)) z.1)) (calm_stretch d.change (stretch_charged run charge n)) in
+      subst (λ q. q ≤ stretch_charged run charge n)
+      (sym (stretch_next n d g.0 ∙ ap (λ q. within_stretch d.change (stretch_charged run charge n + q)) z.1))
+      (calm_stretch d.change (stretch_charged run charge n)) in
       let next : At (n + 1) begun job stretch = record {
         calls_are = omega (arith, begun_next n d g.0, count, a.calls_are);
         job_is = omega (arith, jobs, a.job_is);
@@ -345,30 +374,46 @@ module _ (plant : Plant) (run : TaskRun) (s : Script) (scoping : Scoping) (cost 
 
   -- ---- a strand
 
-  goes_scope : (x : Scope) (n begun job stretch : ℕ) → ListGoes run n x.dids → BeginsGo scoping n (one_begins x.lines x.dids) → IsWithinInterval x.dids → AllIn x.lines (lines_of_dids plant.line x.dids) → At n begun job stretch → job + scope_due plant s begun x ≤ cost → stretch + charge_of plant x ≤ most →
-      Walked n (n + length x.dids) (begun + calls_begun (last_change x.dids)) (within_job (last_change x.dids) (job + scope_due plant s begun x)) (within_stretch (last_change x.dids) (stretch + charge_of plant x))
+  goes_scope : (x : Scope) (n begun job stretch : ℕ) → ListGoes run n x.dids → BeginsGo scoping n (one_begins x.lines x.dids) →
+      IsWithinInterval x.dids → AllIn x.lines (lines_of_dids plant.line x.dids) → At n begun job stretch → job + scope_due plant s begun x ≤ cost →
+      stretch + charge_of plant x ≤ most →
+      Walked n (n + length x.dids) (begun + calls_begun (last_change x.dids)) (within_job (last_change x.dids) (job + scope_due plant s begun x))
+      (within_stretch (last_change x.dids) (stretch + charge_of plant x))
   goes_scope x n begun job stretch g b w all a fits_job fits_stretch = by x.dids refl g b w all fits_job fits_stretch where
     by : (ds : List Did) → x.dids ≡ ds → ListGoes run n ds → BeginsGo scoping n (one_begins x.lines ds) → IsWithinInterval ds → AllIn x.lines (lines_of_dids plant.line ds) →
-        job + (cost_of_dids ds + (length (roomy_of plant x.lines x.lines) + length (crowded_of plant x.lines (lines_of_dids plant.line ds))) * line_cost plant + change_due plant (call_at s begun).stated (last_change ds)) ≤ cost →
+        job + (cost_of_dids ds + (length (roomy_of plant x.lines x.lines) + length (crowded_of plant x.lines (lines_of_dids plant.line ds)))
+        * line_cost plant + change_due plant (call_at s begun).stated (last_change ds)) ≤ cost →
         stretch + (cost_of_dids ds + (length (roomy_of plant x.lines x.lines) + length (crowded_of plant x.lines (lines_of_dids plant.line ds))) * line_cost plant) ≤ most →
-        Walked n (n + length ds) (begun + calls_begun (last_change ds)) (within_job (last_change ds) (job + (cost_of_dids ds + (length (roomy_of plant x.lines x.lines) + length (crowded_of plant x.lines (lines_of_dids plant.line ds))) * line_cost plant + change_due plant (call_at s begun).stated (last_change ds)))) (within_stretch (last_change ds) (stretch + (cost_of_dids ds + (length (roomy_of plant x.lines x.lines) + length (crowded_of plant x.lines (lines_of_dids plant.line ds))) * line_cost plant)))
+        Walked n (n + length ds) (begun + calls_begun (last_change ds))
+        (within_job (last_change ds) (job +
+        (cost_of_dids ds + (length (roomy_of plant x.lines x.lines) + length (crowded_of plant x.lines (lines_of_dids plant.line ds)))
+        * line_cost plant + change_due plant (call_at s begun).stated (last_change ds))))
+        (within_stretch (last_change ds)
+        (stretch + (cost_of_dids ds + (length (roomy_of plant x.lines x.lines) + length (crowded_of plant x.lines (lines_of_dids plant.line ds)))
+        * line_cost plant)))
     by [] e g b w all fj fs = record {
       bound = none_bound n;
       at = record {
         calls_are = (let z : n ≡ n + 0 = omega arith in subst (λ k. (begun_by run k).calls ≡ begun + 0) z (omega (arith, a.calls_are)));
-        job_is = (let z : n ≡ n + 0 = omega arith in subst (λ k. job_charged plant s run charge k ≤ job + (cost_of_dids [] + (length (roomy_of plant x.lines x.lines) + 0) * line_cost plant + 0)) z (omega (arith, a.job_is)));
-        stretch_is = (let z : n ≡ n + 0 = omega arith in subst (λ k. stretch_charged run charge k ≤ stretch + (cost_of_dids [] + (length (roomy_of plant x.lines x.lines) + 0) * line_cost plant)) z (omega (arith, a.stretch_is)));
+        job_is = (let z : n ≡ n + 0 = omega arith in
+            subst (λ k. job_charged plant s run charge k ≤ job +
+            (cost_of_dids [] + (length (roomy_of plant x.lines x.lines) + 0) * line_cost plant + 0)) z (omega (arith, a.job_is)));
+        stretch_is = (let z : n ≡ n + 0 = omega arith in
+            subst (λ k. stretch_charged run charge k ≤ stretch + (cost_of_dids [] + (length (roomy_of plant x.lines x.lines) + 0) * line_cost plant))
+            z (omega (arith, a.stretch_is)));
       };
     }
     by (d ∷ ds) e g b w all fj fs = scope_goes x.lines ds d n (Some x.lines) begun job stretch g b refl w all a fj fs
 
-  along : (w : Strand) (n begun job stretch : ℕ) → ListGoes run n (dids_along w) → BeginsGo scoping n (begins_along w) → IsStrand plant w → At n begun job stretch → job ≤ cost → ChargedFrom plant s cost most begun job stretch w → AreBound n (n + length (dids_along w))
+  along : (w : Strand) (n begun job stretch : ℕ) → ListGoes run n (dids_along w) → BeginsGo scoping n (begins_along w) → IsStrand plant w →
+      At n begun job stretch → job ≤ cost → ChargedFrom plant s cost most begun job stretch w → AreBound n (n + length (dids_along w))
   along ends n begun job stretch g b h a le c = none_bound n
   along (runs x rest) n begun job stretch g b h a le c =
       let gs = list_split run x.dids (dids_along rest) n g in
       let bs = begins_split scoping (one_begins x.lines x.dids) (begins_along rest) n b in
       let k : ℕ = n + length x.dids in
-      let one : Walked n k (begun + calls_begun (last_change x.dids)) (within_job (last_change x.dids) (job + scope_due plant s begun x)) (within_stretch (last_change x.dids) (stretch + charge_of plant x)) =
+      let one : Walked n k (begun + calls_begun (last_change x.dids)) (within_job (last_change x.dids) (job + scope_due plant s begun x))
+      (within_stretch (last_change x.dids) (stretch + charge_of plant x)) =
       goes_scope x n begun job stretch gs.0 bs.0 h.0 h.1 a c.0 c.1 in
       let at : n + length (one_begins x.lines x.dids) ≡ k = ap (λ m. n + m) (one_length x.lines x.dids) in
       let more : AreBound k (k + length (dids_along rest)) =

@@ -92,17 +92,21 @@ abbrev pub charged_test : Plant → Script → (cost most begun job stretch : �
 charged_test p s cost most begun job stretch ends = true
 charged_test p s cost most begun job stretch (runs x rest) =
     leb (job + scope_due p s begun x) cost && (leb (stretch + charge_of p x) most
-    && charged_test p s cost most (begun + calls_begun (last_change x.dids)) (within_job (last_change x.dids) (job + scope_due p s begun x)) (within_stretch (last_change x.dids) (stretch + charge_of p x)) rest)
+    && charged_test p s cost most (begun + calls_begun (last_change x.dids)) (within_job (last_change x.dids) (job + scope_due p s begun x))
+    (within_stretch (last_change x.dids) (stretch + charge_of p x)) rest)
 charged_test p s cost most begun job stretch (calls ds rest) = charged_test p s cost most begun job stretch rest
 
 pub charged_by : (p : Plant) (s : Script) (cost most begun job stretch : ℕ) (w : Strand) → charged_test p s cost most begun job stretch w ≡ true → ChargedFrom p s cost most begun job stretch w
 charged_by p s cost most begun job stretch ends h = tt
 charged_by p s cost most begun job stretch (runs x rest) h =
-    let more : Bool = charged_test p s cost most (begun + calls_begun (last_change x.dids)) (within_job (last_change x.dids) (job + scope_due p s begun x)) (within_stretch (last_change x.dids) (stretch + charge_of p x)) rest in
-    let a : (leb (job + scope_due p s begun x) cost ≡ true) × ((leb (stretch + charge_of p x) most && more) ≡ true) = and_parts (leb (job + scope_due p s begun x) cost) (leb (stretch + charge_of p x) most && more) h in
+    let more : Bool = charged_test p s cost most (begun + calls_begun (last_change x.dids))
+    (within_job (last_change x.dids) (job + scope_due p s begun x)) (within_stretch (last_change x.dids) (stretch + charge_of p x)) rest in
+    let a : (leb (job + scope_due p s begun x) cost ≡ true) × ((leb (stretch + charge_of p x) most && more) ≡ true) =
+    and_parts (leb (job + scope_due p s begun x) cost) (leb (stretch + charge_of p x) most && more) h in
     let b : (leb (stretch + charge_of p x) most ≡ true) × (more ≡ true) = and_parts (leb (stretch + charge_of p x) most) more a.1 in (
       leb-true (job + scope_due p s begun x) cost a.0,
       leb-true (stretch + charge_of p x) most b.0,
-      charged_by p s cost most (begun + calls_begun (last_change x.dids)) (within_job (last_change x.dids) (job + scope_due p s begun x)) (within_stretch (last_change x.dids) (stretch + charge_of p x)) rest b.1,
+      charged_by p s cost most (begun + calls_begun (last_change x.dids)) (within_job (last_change x.dids) (job + scope_due p s begun x))
+          (within_stretch (last_change x.dids) (stretch + charge_of p x)) rest b.1,
     )
 charged_by p s cost most begun job stretch (calls ds rest) h = charged_by p s cost most begun job stretch rest h

@@ -55,7 +55,8 @@ module _ (plant : Plant) (s : Script) (run : TaskRun) (charge : Charges) (some :
       (cases_lt n m)
 
   -- the instruction that ends the last job is charged a switch
-  job_step : (n : ℕ) (o : Option Did) → plain_did run (plain_run run n) ≡ o → (plain_run run n).ended < run.jobs → run.jobs ≤ (plain_step run (plain_run run n)).ended → 1 + plant.switch ≤ charge_due plant s (begun_by run n) charge n o
+  job_step : (n : ℕ) (o : Option Did) → plain_did run (plain_run run n) ≡ o → (plain_run run n).ended < run.jobs →
+      run.jobs ≤ (plain_step run (plain_run run n)).ended → 1 + plant.switch ≤ charge_due plant s (begun_by run n) charge n o
   job_step n None e lt h =
       let st : PlainState = plain_run run n in
       let same : (plain_step run st).ended ≡ st.ended = still_by (λ (t : PlainState). t.ended ≡ st.ended) run st e refl (λ cause. refl) in
@@ -120,7 +121,9 @@ module _ (plant : Plant) (s : Script) (run : TaskRun) (charge : Charges) (cost l
   moved : (c : Change) (all job v : ℕ) (x y : PlainState) → y ≡ after_change run c x → x.ended < run.jobs → job + v ≤ cost → all ≤ x.ended * cost + job → Moved (all + v) (within_job c (job + v)) y
   moved Job all job v x y e lt fits le =
       let one : y.ended ≡ x.ended + 1 = ap (λ (q : PlainState). q.ended) e in
-      let product : y.ended * cost ≡ x.ended * cost + cost = ap (λ m. m * cost) one ∙ (let z : (x.ended + 1) * cost ≡ x.ended * cost + 1 * cost = add-mul x.ended 1 cost in let w : 1 * cost ≡ cost = omega arith in omega (arith, z, w)) in
+      let product : y.ended * cost ≡ x.ended * cost + cost = ap (λ m. m * cost) one
+      ∙ (let z : (x.ended + 1) * cost ≡ x.ended * cost + 1 * cost = add-mul x.ended 1 cost in let w : 1 * cost ≡ cost = omega arith in
+      omega (arith, z, w)) in
       record { most = omega (arith, product, fits, le); left = inr refl }
   moved Stay all job v x y e lt fits le = stays_in Stay (λ z. let q : Stay ≡ Job = z in cc) all job v x y e lt le where
     stays_in : (c : Change) → (c ≡ Job → ⊥) → (all job v : ℕ) (x y : PlainState) → y ≡ after_change run c x → x.ended < run.jobs → all ≤ x.ended * cost + job → Moved (all + v) (job + v) y
@@ -137,7 +140,9 @@ module _ (plant : Plant) (s : Script) (run : TaskRun) (charge : Charges) (cost l
       let same : y.ended ≡ x.ended = ap (λ (q : PlainState). q.ended) e in
       record { most = (let product : y.ended * cost ≡ x.ended * cost = ap (λ m. m * cost) same in omega (arith, product, le)); left = inl (omega (arith, same, lt)) }
 
-  next_jobs : (n : ℕ) (o : Option Did) → plain_did run (plain_run run n) ≡ o → Jobs n (plain_run run n) → Moved (all_charged plant s run charge n + charge_due plant s (begun_by run n) charge n o) (job_with plant s (begun_by run n) charge n o (job_charged plant s run charge n)) (plain_step run (plain_run run n))
+  next_jobs : (n : ℕ) (o : Option Did) → plain_did run (plain_run run n) ≡ o → Jobs n (plain_run run n) →
+      Moved (all_charged plant s run charge n + charge_due plant s (begun_by run n) charge n o)
+      (job_with plant s (begun_by run n) charge n o (job_charged plant s run charge n)) (plain_step run (plain_run run n))
   next_jobs n None e j =
       let x : PlainState = plain_run run n in
       let same : (plain_step run x).ended ≡ x.ended = still_by (λ (t : PlainState). t.ended ≡ x.ended) run x e refl (λ cause. refl) in
@@ -150,7 +155,8 @@ module _ (plant : Plant) (s : Script) (run : TaskRun) (charge : Charges) (cost l
       let ex : Executed run x d = executed run x d e in
       let c : d.change ≡ ex.effect.change = ap (λ (f : Did). f.change) ex.did_is in
       let v : ℕ = did_charge plant (call_at s (begun_by run n).calls).stated d.phase d.change (charge n d) in
-      moved d.change (all_charged plant s run charge n) (job_charged plant s run charge n) v (moved_by ex.effect x) (plain_step run x) (ex.next ∙ ap (λ q. after_change run q (moved_by ex.effect x)) (sym c)) (did_runs run x d e) (h.jobs n d e) j.most
+      moved d.change (all_charged plant s run charge n) (job_charged plant s run charge n) v (moved_by ex.effect x) (plain_step run x)
+      (ex.next ∙ ap (λ q. after_change run q (moved_by ex.effect x)) (sym c)) (did_runs run x d e) (h.jobs n d e) j.most
 
   first_jobs : Jobs 0 (plain_run run 0)
   unfolding all_charged job_charged plain_steps
@@ -160,7 +166,8 @@ module _ (plant : Plant) (s : Script) (run : TaskRun) (charge : Charges) (cost l
   unfolding all_charged job_charged plain_steps
   jobs_by zero = first_jobs
   jobs_by (suc n) =
-      let m : Moved (all_charged plant s run charge n + charge_due plant s (begun_by run n) charge n (plain_did run (plain_run run n))) (job_with plant s (begun_by run n) charge n (plain_did run (plain_run run n)) (job_charged plant s run charge n)) (plain_step run (plain_run run n)) =
+      let m : Moved (all_charged plant s run charge n + charge_due plant s (begun_by run n) charge n (plain_did run (plain_run run n)))
+      (job_with plant s (begun_by run n) charge n (plain_did run (plain_run run n)) (job_charged plant s run charge n)) (plain_step run (plain_run run n)) =
       next_jobs n (plain_did run (plain_run run n)) refl (jobs_by n) in
       record { most = m.most; left = m.left }
 

@@ -93,5 +93,6 @@ worked_total =
 -- its run has finished by cycle 795
 worked_finishes : (n : ℕ) → 795 ≤ n → is_finished (run_of to_front setup (bytes_in marked) [] [] n) ≡ true
 worked_finishes n le =
-    scripts_finish_by_jobs to_front lru one_pass setup (bytes_in marked) [] [] (λ k. below 304) (λ k. run) (λ k. script) (λ k. scoping_of strand) (λ k. 795) (λ k. 511) n lru_policy worked_is worked_scripts
+    scripts_finish_by_jobs to_front lru one_pass setup (bytes_in marked) [] [] (λ k. below 304) (λ k. run) (λ k. script) (λ k. scoping_of strand)
+    (λ k. 795) (λ k. 511) n lru_policy worked_is worked_scripts
     (λ k lt. worked_charged.0) (λ k lt. worked_charged.1) (omega (arith, le))

@@ -14,7 +14,8 @@ use Rattle.prem_isa.specs.declared.effect.Outcome.{Outcome}
 use Rattle.prem_isa.specs.declared.effect.Outcome.TheVariants.{Trap, Done}
 use Rattle.prem_isa.specs.Act.{fetch, phase_after}
 use Rattle.prem_isa.specs.Bounds.{OnDone, EffectLawful, IsLawful}
-use Rattle.prem_isa.specs.Plain.{TaskRun, PlainState, Did, did_of, did_with, did_fetched, next_input, trap_at, moved_by, after_change, after_outcome, outcome_of, is_running, plain_did, plain_step, plain_steps, plain_run}
+use Rattle.prem_isa.specs.Plain.{TaskRun, PlainState, Did, did_of, did_with, did_fetched, next_input, trap_at, moved_by, after_change, after_outcome, outcome_of, is_running}
+use Rattle.prem_isa.specs.Plain.{plain_did, plain_step, plain_steps, plain_run}
 use Rattle.prem_isa.proofs.ActLaws.{act_lawful}
 use Rattle.prem_cycle.specs.Core.{is_predictable}
 use Rattle.prem_sound.specs.Script.Script.{lines_of_did, lines_of_dids, Begun, steps_after, begun_after, begun_with, begun_by, Call, IsCovered, Opens, IsStep, Script, call_of, IsScript}
@@ -30,7 +31,8 @@ pub record Executed (run : TaskRun) (s : PlainState) (d : Did) : Type 0 where
   pub next : plain_step run s ≡ after_change run effect.change (moved_by effect s)
   pub lawful : EffectLawful s.task.phase effect
 
-executed_done : (run : TaskRun) (s : PlainState) (i : Instr) (o : Outcome) (d : Did) → plain_step run s ≡ after_outcome run o s → OnDone (EffectLawful s.task.phase) o → did_with s.pc s.task.phase i o ≡ Some d → Executed run s d
+executed_done : (run : TaskRun) (s : PlainState) (i : Instr) (o : Outcome) (d : Did) → plain_step run s ≡ after_outcome run o s →
+    OnDone (EffectLawful s.task.phase) o → did_with s.pc s.task.phase i o ≡ Some d → Executed run s d
 executed_done run s i (Trap cause) d next l e = absurd (let x : None ≡ Some d = e in cc)
 executed_done run s i (Done f) d next l e =
     let x : Some (did_of s.pc s.task.phase i f) ≡ Some d = e in
@@ -70,11 +72,13 @@ pub did_lawful : (run : TaskRun) (s : PlainState) (d : Did) → Executed run s d
 did_lawful run s d x = subst (λ (e : Did). IsLawful s.task.phase e.change) (sym x.did_is) x.lawful.change
 
 -- where nothing is executed it stays, or traps
-still_outcome : (P : PlainState → Type 0) (run : TaskRun) (s : PlainState) (i : Instr) (o : Outcome) → ((cause : Cause) → P (trap_at cause s)) → did_with s.pc s.task.phase i o ≡ None → P (after_outcome run o s)
+still_outcome : (P : PlainState → Type 0) (run : TaskRun) (s : PlainState) (i : Instr) (o : Outcome) → ((cause : Cause) → P (trap_at cause s)) →
+    did_with s.pc s.task.phase i o ≡ None → P (after_outcome run o s)
 still_outcome P run s i (Trap cause) t e = t cause
 still_outcome P run s i (Done f) t e = absurd (let x : Some (did_of s.pc s.task.phase i f) ≡ None = e in cc)
 
-still_fetched : (P : PlainState → Type 0) (run : TaskRun) (s : PlainState) (f : Result Instr Cause) → ((cause : Cause) → P (trap_at cause s)) → did_fetched run s f ≡ None → P (after_outcome run (outcome_of run s f) s)
+still_fetched : (P : PlainState → Type 0) (run : TaskRun) (s : PlainState) (f : Result Instr Cause) → ((cause : Cause) → P (trap_at cause s)) →
+    did_fetched run s f ≡ None → P (after_outcome run (outcome_of run s f) s)
 still_fetched P run s (Err cause) t e = t cause
 still_fetched P run s (Ok i) t e = still_outcome P run s i (outcome_of run s (Ok i)) t e
 
@@ -102,7 +106,8 @@ Brought plant passes c ds Compatible = Unit {0}
 Brought plant passes c ds MemoryPhase = Unit {0}
 Brought plant passes c ds Execution = IsCovered (passes plant.ways) c.members (lines_of_dids plant.line ds)
 
-covered_last : (plant : Plant) (count : ℕ) (members : List ℕ) (ds : List Did) (d : Did) → IsCovered count members (lines_of_dids plant.line ds) → AllIn members (lines_of_did plant.line d) → IsCovered count members (lines_of_dids plant.line (ds ++ d ∷ []))
+covered_last : (plant : Plant) (count : ℕ) (members : List ℕ) (ds : List Did) (d : Did) → IsCovered count members (lines_of_dids plant.line ds) →
+    AllIn members (lines_of_did plant.line d) → IsCovered count members (lines_of_dids plant.line (ds ++ d ∷ []))
 covered_last plant count members ds d c all =
     subst (IsCovered count members) (sym (lines_of_dids-last plant.line ds d)) (covered_more count members (lines_of_dids plant.line ds) (lines_of_did plant.line d) c all)
 
@@ -113,7 +118,9 @@ record Known (plant : Plant) (passes : ℕ → ℕ) (c : Call) (ds : List Did) (
   step : is_predictable phase ≡ true → IsStep plant passes c ds d
   was : Brought plant passes c ds phase
 
-brought_after : (plant : Plant) (passes : ℕ → ℕ) (s : Script) (b : Begun) (d : Did) (phase : Phase) (change : Change) → IsLawful phase change → Known plant passes (call_of s b) b.steps d phase change → Brought plant passes (call_of s (begun_after change d b)) (begun_after change d b).steps (phase_after change phase)
+brought_after : (plant : Plant) (passes : ℕ → ℕ) (s : Script) (b : Begun) (d : Did) (phase : Phase) (change : Change) → IsLawful phase change →
+    Known plant passes (call_of s b) b.steps d phase change →
+    Brought plant passes (call_of s (begun_after change d b)) (begun_after change d b).steps (phase_after change phase)
 brought_after plant passes s b d Compatible Stay l k = tt
 brought_after plant passes s b d MemoryPhase Stay l k = tt
 brought_after plant passes s b d Execution Stay l k =
@@ -129,7 +136,9 @@ brought_after plant passes s b d phase (Execute stated) l k =
     (covered_last plant (passes plant.ways) (call_of s b).members b.steps d
     (subst (Opens plant passes (call_of s b) b.steps) k.change_is st.opens).1 st.within)
 
-brought_next : (plant : Plant) (passes : ℕ → ℕ) (run : TaskRun) (s : Script) (n : ℕ) (o : Option Did) → IsScript plant passes run s → plain_did run (plain_run run n) ≡ o → Brought plant passes (call_of s (begun_by run n)) (begun_by run n).steps (plain_run run n).task.phase → Brought plant passes (call_of s (begun_with o (begun_by run n))) (begun_with o (begun_by run n)).steps (plain_step run (plain_run run n)).task.phase
+brought_next : (plant : Plant) (passes : ℕ → ℕ) (run : TaskRun) (s : Script) (n : ℕ) (o : Option Did) → IsScript plant passes run s →
+    plain_did run (plain_run run n) ≡ o → Brought plant passes (call_of s (begun_by run n)) (begun_by run n).steps (plain_run run n).task.phase →
+    Brought plant passes (call_of s (begun_with o (begun_by run n))) (begun_with o (begun_by run n)).steps (plain_step run (plain_run run n)).task.phase
 brought_next plant passes run s n None h e was =
     subst (Brought plant passes (call_of s (begun_by run n)) (begun_by run n).steps) (sym (still_phase run (plain_run run n) e)) was
 brought_next plant passes run s n (Some d) h e was =
@@ -143,7 +152,8 @@ brought_next plant passes run s n (Some d) h e was =
       was = was;
     }))
 
-pub brought_in : (plant : Plant) (passes : ℕ → ℕ) (run : TaskRun) (s : Script) → IsScript plant passes run s → (n : ℕ) → Brought plant passes (call_of s (begun_by run n)) (begun_by run n).steps (plain_run run n).task.phase
+pub brought_in : (plant : Plant) (passes : ℕ → ℕ) (run : TaskRun) (s : Script) → IsScript plant passes run s → (n : ℕ) →
+    Brought plant passes (call_of s (begun_by run n)) (begun_by run n).steps (plain_run run n).task.phase
 unfolding begun_by plain_steps
 brought_in plant passes run s h zero = tt
 brought_in plant passes run s h (suc n) = brought_next plant passes run s n (plain_did run (plain_run run n)) h refl (brought_in plant passes run s h n)

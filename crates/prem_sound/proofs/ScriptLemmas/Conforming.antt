@@ -1,6 +1,7 @@
 -- A run whose instructions conform has a script, and stays with its own bytes.
 use Rattle.std.specs.Prelude.{All, Result, Ok, Err, is_none, ◌&&◌}
-use Rattle.std.proofs.Common.{◌≡◌, ℕ, zero, suc, ◌+◌, ◌-◌, ◌%◌, ◌<◌, ◌≤◌, refl, ap, ◌∙◌, sym, subst, arith, cond, eqb, leb, ltb, true, false, Bool, Some, None, Option, List, [], ◌∷◌, ◌++◌, append_assoc, length, get_or, IfSome, ⊎_elim}
+use Rattle.std.proofs.Common.{◌≡◌, ℕ, zero, suc, ◌+◌, ◌-◌, ◌%◌, ◌<◌, ◌≤◌, refl, ap, ◌∙◌, sym, subst, arith, cond, eqb, leb, ltb, true, false, Bool, Some, None, Option, List, []}
+use Rattle.std.proofs.Common.{◌∷◌, ◌++◌, append_assoc, length, get_or, IfSome, ⊎_elim}
 use Rattle.std.proofs.lemmas.Bool.{cases_lt, cond_both, le-ltb}
 use Rattle.std.proofs.lemmas.List.{length-append}
 use Rattle.prem_word.specs.Bytes.{number_at}
@@ -52,7 +53,8 @@ due_behind-last plant s None xs b = omega arith
 due_behind-last plant s (Some d) [] b = omega arith
 due_behind-last plant s (Some d) (x ∷ xs) b =
     let a : ℕ = did_due plant (call_at s b.calls).stated x.phase x in
-    let r : due_behind plant s (begun_after x.change x b) (with_last (Some d) xs) ≡ due_behind plant s (begun_after x.change x b) xs + due_with plant s (begun_behind xs (begun_after x.change x b)) (Some d) =
+    let r : due_behind plant s (begun_after x.change x b) (with_last (Some d) xs)
+    ≡ due_behind plant s (begun_after x.change x b) xs + due_with plant s (begun_behind xs (begun_after x.change x b)) (Some d) =
     due_behind-last plant s (Some d) xs (begun_after x.change x b) in
     ap (λ z. a + z) r ∙ adds a (due_behind plant s (begun_after x.change x b) xs) (due_with plant s (begun_behind xs (begun_after x.change x b)) (Some d)) where
       adds : (a x y : ℕ) → a + (x + y) ≡ a + x + y
@@ -70,7 +72,8 @@ due_is plant s run (suc n) =
 
 -- ---- the instruction at a place of a list
 
-keeps_at : (plant : Plant) (passes : ℕ → ℕ) (s : Script) (b : Begun) (xs : List Did) (d : Did) (ys : List Did) → KeepsCalls plant passes s b (xs ++ d ∷ ys) → is_predictable d.phase ≡ true → IsStep plant passes (call_of s (begun_behind xs b)) (begun_behind xs b).steps d
+keeps_at : (plant : Plant) (passes : ℕ → ℕ) (s : Script) (b : Begun) (xs : List Did) (d : Did) (ys : List Did) →
+    KeepsCalls plant passes s b (xs ++ d ∷ ys) → is_predictable d.phase ≡ true → IsStep plant passes (call_of s (begun_behind xs b)) (begun_behind xs b).steps d
 keeps_at plant passes s b [] d ys h = h.0
 keeps_at plant passes s b (x ∷ xs) d ys h = keeps_at plant passes s (begun_after x.change x b) xs d ys h.1
 
@@ -162,14 +165,16 @@ module _ (run : TaskRun) (dids : List Did) (trace : plain_trace run (length dids
       let x : Place n d = place_of n d (below_end n d e) e in
       all_at P (plain_trace run n (plain_start run)) d x.rest (subst (All P) x.whole all)
 
-  each_step : (plant : Plant) (passes : ℕ → ℕ) (s : Script) → KeepsCalls plant passes s none_begun dids → (n : ℕ) (d : Did) → plain_did run (plain_run run n) ≡ Some d → is_predictable d.phase ≡ true → IsStep plant passes (call_of s (begun_by run n)) (begun_by run n).steps d
+  each_step : (plant : Plant) (passes : ℕ → ℕ) (s : Script) → KeepsCalls plant passes s none_begun dids → (n : ℕ) (d : Did) →
+      plain_did run (plain_run run n) ≡ Some d → is_predictable d.phase ≡ true → IsStep plant passes (call_of s (begun_by run n)) (begun_by run n).steps d
   each_step plant passes s keeps n d e p =
       let x : Place n d = place_of n d (below_end n d e) e in
       subst (λ b. IsStep plant passes (call_of s b) b.steps d) (sym (begun_is run n))
       (keeps_at plant passes s none_begun (plain_trace run n (plain_start run)) d x.rest (subst (KeepsCalls plant passes s none_begun) x.whole keeps) p)
 
   -- the marks of an instruction
-  each_mark : (reads : Reading) (marks : List Mark) → KeepsMarks reads marks run 0 none_begun dids → (n : ℕ) (d : Did) → plain_did run (plain_run run n) ≡ Some d → AtMark reads marks d.change (plain_run run (n + 1)).task.view (begun_by run n)
+  each_mark : (reads : Reading) (marks : List Mark) → KeepsMarks reads marks run 0 none_begun dids → (n : ℕ) (d : Did) →
+      plain_did run (plain_run run n) ≡ Some d → AtMark reads marks d.change (plain_run run (n + 1)).task.view (begun_by run n)
   each_mark reads marks keeps n d e =
       let lt : n < length dids = below_end n d e in
       let x : Place n d = place_of n d lt e in
@@ -182,7 +187,8 @@ module _ (run : TaskRun) (dids : List Did) (trace : plain_trace run (length dids
       let at : AtMark reads marks d.change (plain_run run (0 + length xs + 1)).task.view (begun_behind xs none_begun) =
       marks_at reads marks run 0 none_begun xs d x.rest (subst (KeepsMarks reads marks run 0 none_begun) x.whole keeps) in
       let same : 0 + length xs + 1 ≡ n + 1 = omega (arith, here) in
-      subst (AtMark reads marks d.change (plain_run run (n + 1)).task.view) (sym (begun_is run n)) (subst (λ m. AtMark reads marks d.change (plain_run run m).task.view (begun_behind xs none_begun)) same at)
+      subst (AtMark reads marks d.change (plain_run run (n + 1)).task.view) (sym (begun_is run n))
+      (subst (λ m. AtMark reads marks d.change (plain_run run m).task.view (begun_behind xs none_begun)) same at)
 
 -- ---- own bytes
 
@@ -193,10 +199,15 @@ accesses_done size address bytes f e h0 =
     (λ _ h. absurd (let x : Trap Align ≡ Done e = h in cc)) h0
 
 -- a load that takes nothing
-takes : (target : Target) (size : ℕ) (view registers : ℕ → ℕ) (pc : ℕ) (phase : Phase) (input : ℕ) (i : Instr) (e : Effect) → takes_nothing i ≡ true → act target size view registers pc phase input i ≡ Done e → (e.rd ≡ 0) × (e.stored ≡ None)
+takes : (target : Target) (size : ℕ) (view registers : ℕ → ℕ) (pc : ℕ) (phase : Phase) (input : ℕ) (i : Instr) (e : Effect) → takes_nothing i ≡ true →
+    act target size view registers pc phase input i ≡ Done e → (e.rd ≡ 0) × (e.stored ≡ None)
 takes target size view registers pc phase input (Load op zero rs1 offset) e t h =
     let address : ℕ = plus (registers rs1) offset in
-    let f : Effect = record (goes (pc + 4)) { value = word_into zero (loaded op (number_at view address (load_size op))); access = Some (record { kind = Loads; address = address; size = load_size op }) } in
+    let f : Effect = record (goes (pc + 4)) {
+      value = word_into zero (loaded op (number_at view address (load_size op)));
+      access =
+          Some (record { kind = Loads; address = address; size = load_size op });
+    } in
     let same : f ≡ e = accesses_done size address (load_size op) f e h in
     (ap (λ (g : Effect). g.rd) (sym same), ap (λ (g : Effect). g.stored) (sym same))
 takes target size view registers pc phase input (Load op (suc rd) rs1 offset) e t h = absurd (let x : false ≡ true = t in cc)
@@ -224,13 +235,15 @@ loads_by own zero access h = tt
 loads_by own (suc rd) None h = tt
 loads_by own (suc rd) (Some a) h = λ _. h
 
-stores_by : (own : ℕ → Bool) (access : Option Access) (stored : Option Stored) → AccessMatches access stored → IfSome access (λ a. AllOwn own a.address a.size) → IfSome stored (λ s. AllOwn own s.address s.size)
+stores_by : (own : ℕ → Bool) (access : Option Access) (stored : Option Stored) → AccessMatches access stored →
+    IfSome access (λ a. AllOwn own a.address a.size) → IfSome stored (λ s. AllOwn own s.address s.size)
 stores_by own None None m h = tt
 stores_by own None (Some s) m h = absurd m
 stores_by own (Some a) None m h = tt
 stores_by own (Some a) (Some s) m h = subst (λ (b : Access). AllOwn own b.address b.size) m h
 
-own_effect : (p : Setup) (own : ℕ → Bool) (pc : ℕ) (phase : Phase) (i : Instr) (e : Effect) (b : Bool) → takes_nothing i ≡ b → (b ≡ true → (e.rd ≡ 0) × (e.stored ≡ None)) → AccessMatches e.access e.stored → IsOwnDid p own (did_of pc phase i e) → IsOwn p own pc e
+own_effect : (p : Setup) (own : ℕ → Bool) (pc : ℕ) (phase : Phase) (i : Instr) (e : Effect) (b : Bool) → takes_nothing i ≡ b →
+    (b ≡ true → (e.rd ≡ 0) × (e.stored ≡ None)) → AccessMatches e.access e.stored → IsOwnDid p own (did_of pc phase i e) → IsOwn p own pc e
 own_effect p own pc phase i e true t none m h = record {
   fetched = h.fetched;
   loads = subst (λ rd. LoadsOwn own rd e.access) (sym (none refl).0) tt;
@@ -246,7 +259,9 @@ own_effect p own pc phase i e false t none m h = record {
   data_line = h.data_line;
 }
 
-own_done : (p : Setup) (own : ℕ → Bool) (target : Target) (size : ℕ) (view registers : ℕ → ℕ) (pc : ℕ) (phase : Phase) (input : ℕ) (i : Instr) (o : Outcome) (d : Did) → Fits i → act target size view registers pc phase input i ≡ o → did_with pc phase i o ≡ Some d → IsOwnDid p own d → IsOwnOutcome p own pc o
+own_done : (p : Setup) (own : ℕ → Bool) (target : Target) (size : ℕ) (view registers : ℕ → ℕ) (pc : ℕ) (phase : Phase) (input : ℕ) (i : Instr)
+    (o : Outcome) (d : Did) → Fits i → act target size view registers pc phase input i ≡ o → did_with pc phase i o ≡ Some d → IsOwnDid p own d →
+    IsOwnOutcome p own pc o
 own_done p own target size view registers pc phase input i (Trap cause) d fits is e h = absurd (let x : None ≡ Some d = e in cc)
 own_done p own target size view registers pc phase input i (Done f) d fits is e h =
     let x : Some (did_of pc phase i f) ≡ Some d = e in
@@ -254,10 +269,12 @@ own_done p own target size view registers pc phase input i (Done f) d fits is e 
     let k : EffectFits size f = subst (OnDone (EffectFits size)) is (act_fits target size view registers pc phase input i fits) in
     own_effect p own pc phase i f (takes_nothing i) refl (λ t. takes target size view registers pc phase input i f t is) k.matches (subst (IsOwnDid p own) (sym same) h)
 
-own_fetched : (p : Setup) (own : ℕ → Bool) (run : TaskRun) (s : PlainState) (f : Result Instr Cause) (d : Did) → ((a : ℕ) → s.task.view a < 256) → fetch run.size s.task.view s.pc ≡ f → did_fetched run s f ≡ Some d → IsOwnDid p own d → IsOwnOutcome p own s.pc (outcome_of run s f)
+own_fetched : (p : Setup) (own : ℕ → Bool) (run : TaskRun) (s : PlainState) (f : Result Instr Cause) (d : Did) → ((a : ℕ) → s.task.view a < 256) →
+    fetch run.size s.task.view s.pc ≡ f → did_fetched run s f ≡ Some d → IsOwnDid p own d → IsOwnOutcome p own s.pc (outcome_of run s f)
 own_fetched p own run s (Err cause) d bytes at e h = absurd (let x : None ≡ Some d = e in cc)
 own_fetched p own run s (Ok i) d bytes at e h =
-    own_done p own run.target run.size s.task.view s.task.registers s.pc s.task.phase (next_input s.task.left) i (outcome_of run s (Ok i)) d (fetch_fits run.size s.task.view s.pc bytes i at).0 refl e h
+    own_done p own run.target run.size s.task.view s.task.registers s.pc s.task.phase (next_input s.task.left) i (outcome_of run s (Ok i)) d
+    (fetch_fits run.size s.task.view s.pc bytes i at).0 refl e h
 
 -- ---- the law
 

@@ -15,7 +15,8 @@ use Rattle.prem_isa.specs.Plain.{TaskRun, Did, plain_run}
 use Rattle.prem_cycle.specs.Core.{is_predictable}
 use Rattle.prem_sound.specs.Script.Script.{lines_of_did, lines_of_dids, cost_of_dids, Begun, steps_after, begun_after, Call, call_at, call_of, Opens, StoresNothing, IsStep, Script, did_due}
 use Rattle.prem_sound.specs.Script.Scripts.{Reading, Mark}
-use Rattle.prem_sound.specs.Script.Conforms.{begun_behind, KeepsCalls, GoesOrDone, IsStretch, GoesOrEnds, PiecesJoin, StretchesKeep, MemoryBegins, CallsKeep, AtMark, KeepsMarks, NoMark, MarksJoin, MarksRest, due_behind, DuesJoin, CallsAreDueBefore}
+use Rattle.prem_sound.specs.Script.Conforms.{begun_behind, KeepsCalls, GoesOrDone, IsStretch, GoesOrEnds, PiecesJoin, StretchesKeep, MemoryBegins, CallsKeep, AtMark, KeepsMarks}
+use Rattle.prem_sound.specs.Script.Conforms.{NoMark, MarksJoin, MarksRest, due_behind, DuesJoin, CallsAreDueBefore}
 use Rattle.prem_sound.proofs.ScriptLemmas.Residency.{lines_of_dids-append}
 use Rattle.prem_sound.proofs.Paces.{cost-last}
 
@@ -62,7 +63,8 @@ abbrev AreInCall : Plant → (ℕ → ℕ) → Call → List Did → List Did �
 AreInCall plant passes c before [] = Unit {0}
 AreInCall plant passes c before (d ∷ ds) = InCall plant passes c before d × AreInCall plant passes c (before ++ d ∷ []) ds
 
-in_call-append : (plant : Plant) (passes : ℕ → ℕ) (c : Call) (before xs ys : List Did) → AreInCall plant passes c before xs → AreInCall plant passes c (before ++ xs) ys → AreInCall plant passes c before (xs ++ ys)
+in_call-append : (plant : Plant) (passes : ℕ → ℕ) (c : Call) (before xs ys : List Did) → AreInCall plant passes c before xs →
+    AreInCall plant passes c (before ++ xs) ys → AreInCall plant passes c before (xs ++ ys)
 in_call-append plant passes c before [] ys h k = subst (λ zs. AreInCall plant passes c zs ys) (append-nil before) k
 in_call-append plant passes c before (x ∷ xs) ys h k =
     (h.0, in_call-append plant passes c (before ++ x ∷ []) xs ys h.1 (subst (λ zs. AreInCall plant passes c zs ys) (sym (append_assoc before (x ∷ []) xs)) k))
@@ -72,19 +74,23 @@ steps_in Compatible d ds h = absurd (let x : false ≡ true = h in cc)
 steps_in MemoryPhase d ds h = refl
 steps_in Execution d ds h = refl
 
-more : (c : Change) (n : ℕ) (d : Did) (ds : List Did) → is_predictable d.phase ≡ true → (c ≡ Memory → ⊥) → begun_after c d (record { calls = n + 1; steps = ds }) ≡ record { calls = n + 1; steps = ds ++ d ∷ [] }
+more : (c : Change) (n : ℕ) (d : Did) (ds : List Did) → is_predictable d.phase ≡ true → (c ≡ Memory → ⊥) →
+    begun_after c d (record { calls = n + 1; steps = ds }) ≡ record { calls = n + 1; steps = ds ++ d ∷ [] }
 more Stay n d ds h ne = ap (λ zs. record { calls = n + 1; steps = zs }) (steps_in d.phase d ds h)
 more Memory n d ds h ne = absurd (ne refl)
 more (Execute stated) n d ds h ne = ap (λ zs. record { calls = n + 1; steps = zs }) (steps_in d.phase d ds h)
 more End n d ds h ne = ap (λ zs. record { calls = n + 1; steps = zs }) (steps_in d.phase d ds h)
 more Job n d ds h ne = ap (λ zs. record { calls = n + 1; steps = zs }) (steps_in d.phase d ds h)
 
-walk : (plant : Plant) (passes : ℕ → ℕ) (s : Script) (n : ℕ) (before ds : List Did) → AreInCall plant passes (call_at s n) before ds → KeepsCalls plant passes s (record { calls = n + 1; steps = before }) ds × (begun_behind ds (record { calls = n + 1; steps = before }) ≡ record { calls = n + 1; steps = before ++ ds })
+walk : (plant : Plant) (passes : ℕ → ℕ) (s : Script) (n : ℕ) (before ds : List Did) → AreInCall plant passes (call_at s n) before ds →
+    KeepsCalls plant passes s (record { calls = n + 1; steps = before }) ds
+    × (begun_behind ds (record { calls = n + 1; steps = before }) ≡ record { calls = n + 1; steps = before ++ ds })
 walk plant passes s n before [] h = (tt, ap (λ zs. record { calls = n + 1; steps = zs }) (sym (append-nil before)))
 walk plant passes s n before (d ∷ ds) h =
     let at : n + 1 - 1 ≡ n = omega arith in
     let next : begun_after d.change d (record { calls = n + 1; steps = before }) ≡ record { calls = n + 1; steps = before ++ d ∷ [] } = more d.change n d before h.0.predictable h.0.goes_on in
-    let r : KeepsCalls plant passes s (record { calls = n + 1; steps = before ++ d ∷ [] }) ds × (begun_behind ds (record { calls = n + 1; steps = before ++ d ∷ [] }) ≡ record { calls = n + 1; steps = (before ++ d ∷ []) ++ ds }) =
+    let r : KeepsCalls plant passes s (record { calls = n + 1; steps = before ++ d ∷ [] }) ds
+    × (begun_behind ds (record { calls = n + 1; steps = before ++ d ∷ [] }) ≡ record { calls = n + 1; steps = (before ++ d ∷ []) ++ ds }) =
     walk plant passes s n (before ++ d ∷ []) ds h.1 in (
       (λ p. subst (λ k. IsStep plant passes (call_at s k) before d) (sym at) h.0.step, subst (λ b. KeepsCalls plant passes s b ds) (sym next) r.0),
       ap (begun_behind ds) next ∙ r.1 ∙ ap (λ zs. record { calls = n + 1; steps = zs }) (append_assoc before (d ∷ []) ds),
@@ -109,7 +115,8 @@ all_in_right : (c xs ys : List ℕ) → AllIn c (xs ++ ys) → AllIn c ys
 all_in_right c [] ys h = h
 all_in_right c (x ∷ xs) ys h = all_in_right c xs ys h.1
 
-plain_steps_in : (plant : Plant) (passes : ℕ → ℕ) (c : Call) (before ds : List Did) → All Plain ds → AllIn c.members (lines_of_dids plant.line ds) → cost_of_dids before + cost_of_dids ds + length c.members * (plant.fill + plant.back) ≤ c.stated → AreInCall plant passes c before ds
+plain_steps_in : (plant : Plant) (passes : ℕ → ℕ) (c : Call) (before ds : List Did) → All Plain ds → AllIn c.members (lines_of_dids plant.line ds) →
+    cost_of_dids before + cost_of_dids ds + length c.members * (plant.fill + plant.back) ≤ c.stated → AreInCall plant passes c before ds
 plain_steps_in plant passes c before [] all lines fits = tt
 plain_steps_in plant passes c before (d ∷ ds) all lines fits =
     let h : Plain d = All-head Plain d ds all in
@@ -127,7 +134,8 @@ plain_steps_in plant passes c before (d ∷ ds) all lines fits =
         };
       },
       plain_steps_in plant passes c (before ++ d ∷ []) ds (All-tail Plain d ds all) (all_in_right c.members (lines_of_did plant.line d) (lines_of_dids plant.line ds) lines)
-          (next (cost_of_dids before) (cost_of d.instr) (cost_of_dids ds) (cost_of_dids (d ∷ ds)) (cost_of_dids (before ++ d ∷ [])) (length c.members * (plant.fill + plant.back)) c.stated sum last fits),
+          (next (cost_of_dids before) (cost_of d.instr) (cost_of_dids ds) (cost_of_dids (d ∷ ds)) (cost_of_dids (before ++ d ∷ []))
+          (length c.members * (plant.fill + plant.back)) c.stated sum last fits),
     ) where
       bound : (a x y z w t : ℕ) → z ≡ x + y → a + z + w ≤ t → a + x + w ≤ t
       bound a x y z w t e h = omega (arith, e, h)
@@ -140,14 +148,18 @@ calls_keep plant passes s n before exec rest h =
     let c : Call = call_at s n in
     let w : ℕ = length c.members * (plant.fill + plant.back) in
     let f : Did → ℕ = λ d. cost_of d.instr in
-    let lines : lines_of_dids plant.line (before ++ exec ∷ rest) ≡ lines_of_dids plant.line before ++ (lines_of_did plant.line exec ++ lines_of_dids plant.line rest) = lines_of_dids-append plant.line before (exec ∷ rest) in
+    let lines : lines_of_dids plant.line (before ++ exec ∷ rest) ≡ lines_of_dids plant.line before
+    ++ (lines_of_did plant.line exec ++ lines_of_dids plant.line rest) = lines_of_dids-append plant.line before (exec ∷ rest) in
     let within : AllIn c.members (lines_of_dids plant.line before ++ (lines_of_did plant.line exec ++ lines_of_dids plant.line rest)) = subst (AllIn c.members) lines h.within in
-    let behind : AllIn c.members (lines_of_did plant.line exec ++ lines_of_dids plant.line rest) = all_in_right c.members (lines_of_dids plant.line before) (lines_of_did plant.line exec ++ lines_of_dids plant.line rest) within in
+    let behind : AllIn c.members (lines_of_did plant.line exec ++ lines_of_dids plant.line rest) =
+    all_in_right c.members (lines_of_dids plant.line before) (lines_of_did plant.line exec ++ lines_of_dids plant.line rest) within in
     let sum : cost_of_dids (before ++ exec ∷ rest) ≡ cost_of_dids before + cost_of_dids (exec ∷ rest) = sum_by-append f before (exec ∷ rest) in
     let cons : cost_of_dids (exec ∷ rest) ≡ cost_of exec.instr + cost_of_dids rest = sum_by-cons f exec rest in
     let last : cost_of_dids (before ++ exec ∷ []) ≡ cost_of_dids before + cost_of exec.instr = cost-last before exec in
     let opening : AreInCall plant passes c [] before =
-    plain_steps_in plant passes c [] before (λ k d lt. let x : (get_or before k d).phase ≡ MemoryPhase = (h.fetching k d lt).0 in (ap is_predictable x, (h.fetching k d lt).1, stores_memory (get_or before k d) x (h.fetching k d lt).2))
+    plain_steps_in plant passes c [] before
+    (λ k d lt. let x : (get_or before k d).phase ≡ MemoryPhase = (h.fetching k d lt).0 in
+    (ap is_predictable x, (h.fetching k d lt).1, stores_memory (get_or before k d) x (h.fetching k d lt).2))
     (all_in_left c.members (lines_of_dids plant.line before) (lines_of_did plant.line exec ++ lines_of_dids plant.line rest) within) (omega (arith, sum, cons, h.fits)) in
     let exec_in : InCall plant passes c before exec = record {
       predictable = ap is_predictable h.opens.0;
@@ -160,7 +172,9 @@ calls_keep plant passes s n before exec rest h =
       };
     } in
     let running : AreInCall plant passes c (before ++ exec ∷ []) rest =
-    plain_steps_in plant passes c (before ++ exec ∷ []) rest (λ k d lt. let x : (get_or rest k d).phase ≡ Execution = (h.running k d lt).0 in (ap is_predictable x, (h.running k d lt).1, stores_execution (get_or rest k d) x))
+    plain_steps_in plant passes c (before ++ exec ∷ []) rest
+    (λ k d lt. let x : (get_or rest k d).phase ≡ Execution = (h.running k d lt).0 in
+    (ap is_predictable x, (h.running k d lt).1, stores_execution (get_or rest k d) x))
     (all_in_right c.members (lines_of_did plant.line exec) (lines_of_dids plant.line rest) behind) (omega (arith, sum, cons, last, h.fits)) in
     walk plant passes s n [] (before ++ exec ∷ rest) (in_call-append plant passes c [] before (exec ∷ rest) opening (exec_in, running)) where
       stores_memory : (d : Did) → d.phase ≡ MemoryPhase → IfSome d.access (λ a. a.kind ≡ Loads) → StoresNothing d.phase d.access
@@ -195,7 +209,8 @@ marks_rest reads marks run n b (d ∷ ds) all = (
 )
 
 -- at a place of the list
-pub marks_at : (reads : Reading) (marks : List Mark) (run : TaskRun) (n : ℕ) (b : Begun) (xs : List Did) (d : Did) (ys : List Did) → KeepsMarks reads marks run n b (xs ++ d ∷ ys) → AtMark reads marks d.change (plain_run run (n + length xs + 1)).task.view (begun_behind xs b)
+pub marks_at : (reads : Reading) (marks : List Mark) (run : TaskRun) (n : ℕ) (b : Begun) (xs : List Did) (d : Did) (ys : List Did) →
+    KeepsMarks reads marks run n b (xs ++ d ∷ ys) → AtMark reads marks d.change (plain_run run (n + length xs + 1)).task.view (begun_behind xs b)
 marks_at reads marks run n b [] d ys h = let e : n + 1 ≡ n + 0 + 1 = omega arith in subst (λ m. AtMark reads marks d.change (plain_run run m).task.view b) e h.0
 marks_at reads marks run n b (x ∷ xs) d ys h =
     let e : n + 1 + length xs + 1 ≡ n + suc (length xs) + 1 = omega arith in
@@ -206,7 +221,9 @@ marks_at reads marks run n b (x ∷ xs) d ys h =
 pub dues_join : DuesJoin
 dues_join plant s b [] ys = omega arith
 dues_join plant s b (x ∷ xs) ys =
-    let r : due_behind plant s (begun_after x.change x b) (xs ++ ys) ≡ due_behind plant s (begun_after x.change x b) xs + due_behind plant s (begun_behind xs (begun_after x.change x b)) ys = dues_join plant s (begun_after x.change x b) xs ys in
+    let r : due_behind plant s (begun_after x.change x b) (xs ++ ys)
+    ≡ due_behind plant s (begun_after x.change x b) xs + due_behind plant s (begun_behind xs (begun_after x.change x b)) ys =
+    dues_join plant s (begun_after x.change x b) xs ys in
     sum (did_due plant (call_at s b.calls).stated x.phase x) _ _ _ r where
       sum : (a t u v : ℕ) → t ≡ u + v → a + t ≡ a + u + v
       sum a t u v e = omega (arith, e)
@@ -220,4 +237,5 @@ pub calls_are_due_before : CallsAreDueBefore
 calls_are_due_before plant s b [] all = refl
 calls_are_due_before plant s b (d ∷ ds) all =
     ap (λ n. n + due_behind plant s (begun_after d.change d b) ds) (none_due plant (call_at s b.calls).stated d.phase d (All-head (λ (x : Did). is_predictable x.phase ≡ true) d ds all))
-    ∙ (let r : due_behind plant s (begun_after d.change d b) ds ≡ 0 = calls_are_due_before plant s (begun_after d.change d b) ds (All-tail (λ (x : Did). is_predictable x.phase ≡ true) d ds all) in omega (arith, r))
+    ∙ (let r : due_behind plant s (begun_after d.change d b) ds ≡ 0 =
+    calls_are_due_before plant s (begun_after d.change d b) ds (All-tail (λ (x : Did). is_predictable x.phase ≡ true) d ds all) in omega (arith, r))

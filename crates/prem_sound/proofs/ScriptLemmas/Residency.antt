@@ -9,7 +9,8 @@ use Rattle.prem_sound.specs.Script.Script.{lines_of_did, lines_of_dids, IsCovere
 
 -- ---- lists of touches
 
-pub caches_after-append : (order : OrderRule) (room : ℕ) (orders : List (List ℕ)) (xs ys : List ℕ) → caches_after order room orders (xs ++ ys) ≡ caches_after order room (caches_after order room orders xs) ys
+pub caches_after-append : (order : OrderRule) (room : ℕ) (orders : List (List ℕ)) (xs ys : List ℕ) →
+    caches_after order room orders (xs ++ ys) ≡ caches_after order room (caches_after order room orders xs) ys
 caches_after-append order room orders [] ys = refl
 caches_after-append order room orders (x ∷ xs) ys = caches_after-append order room (cache_after order room orders x) xs ys
 
@@ -17,7 +18,8 @@ miss_append : (b : Bool) (x : ℕ) (m m1 m2 : List ℕ) → m ≡ m1 ++ m2 → c
 miss_append true x m m1 m2 e = e
 miss_append false x m m1 m2 e = ap (λ zs. x ∷ zs) e
 
-pub cache_misses-append : (order : OrderRule) (room : ℕ) (orders : List (List ℕ)) (xs ys : List ℕ) → cache_misses order room orders (xs ++ ys) ≡ cache_misses order room orders xs ++ cache_misses order room (caches_after order room orders xs) ys
+pub cache_misses-append : (order : OrderRule) (room : ℕ) (orders : List (List ℕ)) (xs ys : List ℕ) →
+    cache_misses order room orders (xs ++ ys) ≡ cache_misses order room orders xs ++ cache_misses order room (caches_after order room orders xs) ys
 cache_misses-append order room orders [] ys = refl
 cache_misses-append order room orders (x ∷ xs) ys =
     let orders' : List (List ℕ) = cache_after order room orders x in
@@ -48,19 +50,23 @@ pub record Since (order : OrderRule) (room : ℕ) (orders : List (List ℕ)) (to
 pub since_none : (order : OrderRule) (room : ℕ) (orders : List (List ℕ)) → Since order room orders []
 since_none order room orders = record { first = orders; orders_are = refl }
 
-pub since_more : (order : OrderRule) (room : ℕ) (orders : List (List ℕ)) (touches more : List ℕ) → Since order room orders touches → Since order room (caches_after order room orders more) (touches ++ more)
+pub since_more : (order : OrderRule) (room : ℕ) (orders : List (List ℕ)) (touches more : List ℕ) → Since order room orders touches →
+    Since order room (caches_after order room orders more) (touches ++ more)
 since_more order room orders touches more s = record {
   first = s.first;
   orders_are = ap (λ o. caches_after order room o more) s.orders_are ∙ sym (caches_after-append order room s.first touches more);
 }
 
 -- when all members have been brought in, none misses
-pub covered_hits : (order : OrderRule) (passes : ℕ → ℕ) (room : ℕ) (orders : List (List ℕ)) (members touches more : List ℕ) → IsCacheFullAfter passes order → 0 < length orders → HaveRoom (length orders) room members → IsCovered (passes room) members touches → Since order room orders touches → AllIn members more → cache_misses order room orders more ≡ []
+pub covered_hits : (order : OrderRule) (passes : ℕ → ℕ) (room : ℕ) (orders : List (List ℕ)) (members touches more : List ℕ) →
+    IsCacheFullAfter passes order → 0 < length orders → HaveRoom (length orders) room members → IsCovered (passes room) members touches →
+    Since order room orders touches → AllIn members more → cache_misses order room orders more ≡ []
 covered_hits order passes room orders members touches more full pos fits c s all =
     let before : List (List ℕ) = caches_after order room s.first (concat c.parts) in
     let same : length s.first ≡ length orders = sym (length-caches_after order room touches s.first) ∙ ap length (sym s.orders_are) in
     let none : cache_misses order room before (c.later ++ more) ≡ [] =
-    (full room s.first members c.parts (c.later ++ more) (subst (λ n. 0 < n) (sym same) pos) (subst (λ n. HaveRoom n room members) (sym same) fits) c.count_is c.passes (all_append members c.later more c.within all)).1 in
+    (full room s.first members c.parts (c.later ++ more) (subst (λ n. 0 < n) (sym same) pos) (subst (λ n. HaveRoom n room members) (sym same) fits)
+    c.count_is c.passes (all_append members c.later more c.within all)).1 in
     let now : orders ≡ caches_after order room before c.later =
     s.orders_are ∙ ap (caches_after order room s.first) c.touches_are ∙ caches_after-append order room s.first (concat c.parts) c.later in
     ap (λ o. cache_misses order room o more) now

@@ -1,6 +1,7 @@
 -- Whether instructions conform, as a test that is computed.
 use Rattle.std.specs.Prelude.{All, ◌&&◌}
-use Rattle.std.proofs.Common.{◌≡◌, ℕ, ◌+◌, ◌*◌, ◌/◌, ◌%◌, ◌<◌, ◌≤◌, refl, ap, ◌∙◌, sym, subst, arith, cond, eqb, leb, true, false, Bool, Some, None, Option, List, [], ◌∷◌, ◌++◌, append-nil, length, IfSome, ⊎_elim}
+use Rattle.std.proofs.Common.{◌≡◌, ℕ, ◌+◌, ◌*◌, ◌/◌, ◌%◌, ◌<◌, ◌≤◌, refl, ap, ◌∙◌, sym, subst, arith, cond, eqb, leb, true, false, Bool, Some, None, Option, List, [], ◌∷◌, ◌++◌}
+use Rattle.std.proofs.Common.{append-nil, length, IfSome, ⊎_elim}
 use Rattle.std.proofs.lemmas.Bool.{and_parts, cases_eq, eqb-true, eq-eqb, ne_eqb, le-leb, leb-true}
 use Rattle.std.proofs.lemmas.List.Elements.{All-nil, All-cons}
 use Rattle.std.proofs.Math.Nat.{mod-eq_of_lt}
@@ -99,7 +100,8 @@ step_by plant c before d h =
     let total : ℕ = cost_of_dids before + cost_of d.instr + length c.members * (plant.fill + plant.back) in
     let x : (all_inside c.members (lines_of_did plant.line d) ≡ true) × ((stores_nothing d.phase d.access && (opens_well plant c before d.change && leb total c.stated)) ≡ true) =
     and_parts (all_inside c.members (lines_of_did plant.line d)) (stores_nothing d.phase d.access && (opens_well plant c before d.change && leb total c.stated)) h in
-    let y : (stores_nothing d.phase d.access ≡ true) × ((opens_well plant c before d.change && leb total c.stated) ≡ true) = and_parts (stores_nothing d.phase d.access) (opens_well plant c before d.change && leb total c.stated) x.1 in
+    let y : (stores_nothing d.phase d.access ≡ true) × ((opens_well plant c before d.change && leb total c.stated) ≡ true) =
+    and_parts (stores_nothing d.phase d.access) (opens_well plant c before d.change && leb total c.stated) x.1 in
     let z : (opens_well plant c before d.change ≡ true) × (leb total c.stated ≡ true) = and_parts (opens_well plant c before d.change) (leb total c.stated) y.1 in
     record {
       within = inside_all c.members (lines_of_did plant.line d) x.0;

@@ -97,7 +97,9 @@ coming_among n requests s now = by (is_over s) refl where
   by true e = none_among (asked_at n requests)
   by false e = subst (λ m. AreAmong (found_room s.now requests s.gates) (asked_at m requests)) (now e) (room_among s.now requests s.gates)
 
-queued_among : (rule : ReplacementRule) (p : Setup) (content : List ℕ) (inputs : List (List ℕ)) (requests : List Request) → IsNonDecreasingBy (λ (r : Request). r.cycle) requests → (n : ℕ) → AreAmong (queued_of rule p requests n (start_of p inputs (memory_of p content))) (asked_before n requests)
+queued_among : (rule : ReplacementRule) (p : Setup) (content : List ℕ) (inputs : List (List ℕ)) (requests : List Request) →
+    IsNonDecreasingBy (λ (r : Request). r.cycle) requests → (n : ℕ) →
+    AreAmong (queued_of rule p requests n (start_of p inputs (memory_of p content))) (asked_before n requests)
 unfolding cycles_of queued_of
 queued_among rule p content inputs requests h zero = none_among (asked_before 0 requests)
 queued_among rule p content inputs requests h (suc n) =

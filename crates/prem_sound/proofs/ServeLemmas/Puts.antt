@@ -10,7 +10,8 @@ use Rattle.prem_gate.specs.declared.bus.Window.{Window}
 use Rattle.prem_gate.specs.declared.bus.Carried.{Carried}
 use Rattle.prem_gate.specs.declared.bus.CoreWant.{CoreWant}
 use Rattle.prem_gate.specs.declared.bus.CoreWant.TheVariants.{No, New, Held}
-use Rattle.prem_gate.specs.Gates.{GateState, GatesState, Turned, gate_at, no_gate, with_queue, with_gates, is_full, queued, after_arrival, startable, taken, ends, goes_on, carries, wants, starts, bus_free, bus_with, bus_turn}
+use Rattle.prem_gate.specs.Gates.{GateState, GatesState, Turned, gate_at, no_gate, with_queue, with_gates, is_full, queued, after_arrival, startable, taken, ends, goes_on, carries}
+use Rattle.prem_gate.specs.Gates.{wants, starts, bus_free, bus_with, bus_turn}
 use Rattle.prem_gate.specs.Ranges.{IsStart}
 use Rattle.prem_gate.proofs.Places.{startable_is}
 use Rattle.prem_image.specs.declared.image.DeviceRecord.{DeviceRecord}
@@ -75,7 +76,8 @@ module _ (P : Request → Type 0) where
   free_all now w New start s memory is h = starts_all now w true start s memory is h
   free_all now w Held start s memory is h = h
 
-  with_all : (now : ℕ) (w : Window) (core : CoreWant) (carried : Option Carried) (s : GatesState) (memory : List ℕ) → IfSome carried (λ c. P c.request) → HoldAll s → HoldAll (bus_with core carried (startable now w s) s memory).gates
+  with_all : (now : ℕ) (w : Window) (core : CoreWant) (carried : Option Carried) (s : GatesState) (memory : List ℕ) →
+      IfSome carried (λ c. P c.request) → HoldAll s → HoldAll (bus_with core carried (startable now w s) s memory).gates
   with_all now w core (Some c) s memory x h = carries_all (wants core) c s memory x h
   with_all now w core None s memory x h = free_all now w core (startable now w s) s memory refl h
 

@@ -1,6 +1,7 @@
 -- A queued request is transferred in order, once, or still waits.
 use Rattle.std.specs.Prelude.{filter, slice_get, slice_set, is_some}
-use Rattle.std.proofs.Common.{◌≡◌, ◌≢◌, ℕ, zero, suc, ◌+◌, ◌<◌, ◌≤◌, refl, ap, ◌∙◌, sym, cond, eqb, leb, Some, None, Option, true, false, Bool, List, [], ◌∷◌, ◌++◌, append_assoc, append-nil, length, map, drop, ⊎_elim}
+use Rattle.std.proofs.Common.{◌≡◌, ◌≢◌, ℕ, zero, suc, ◌+◌, ◌<◌, ◌≤◌, refl, ap, ◌∙◌, sym, cond, eqb, leb, Some, None, Option, true, false, Bool, List, [], ◌∷◌, ◌++◌, append_assoc}
+use Rattle.std.proofs.Common.{append-nil, length, map, drop, ⊎_elim}
 use Rattle.std.proofs.lemmas.Bool.{cases_eq, cases_lt, cond_both, eq-eqb, ne_eqb}
 use Rattle.std.proofs.lemmas.List.{get_or-set_same, get_or-set_other, get_or_past, map-append}
 use Rattle.std.proofs.lemmas.List.Elements.{filter-append}
@@ -13,7 +14,8 @@ use Rattle.prem_gate.specs.declared.bus.Carried.{Carried}
 use Rattle.prem_gate.specs.declared.bus.Transfer.{Transfer}
 use Rattle.prem_gate.specs.declared.bus.CoreWant.{CoreWant}
 use Rattle.prem_gate.specs.declared.bus.CoreWant.TheVariants.{No, New, Held}
-use Rattle.prem_gate.specs.Gates.{GateState, GatesState, Turned, gate_at, no_gate, with_gates, is_full, queued, after_arrival, startable, without_head, taken, transfer_of, ends, goes_on, carries, wants, starts, bus_free, bus_with, bus_turn, gates_of}
+use Rattle.prem_gate.specs.Gates.{GateState, GatesState, Turned, gate_at, no_gate, with_gates, is_full, queued, after_arrival, startable, without_head, taken, transfer_of, ends}
+use Rattle.prem_gate.specs.Gates.{goes_on, carries, wants, starts, bus_free, bus_with, bus_turn, gates_of}
 use Rattle.prem_gate.specs.Ranges.{IsStart}
 use Rattle.prem_gate.proofs.Places.{startable_is}
 use Rattle.prem_image.specs.declared.image.DeviceRecord.{DeviceRecord}
@@ -45,7 +47,8 @@ asked_there r d ne = ap (λ b. cond b (r ∷ []) []) (ne_eqb r.device d (λ e. n
 
 arrival_queue : (r : Request) (s : GatesState) (d : ℕ) → queue_at (after_arrival r s) d ≡ queue_at s d ++ asked_of d (cond (is_full (gate_at s.gates r.device)) [] (r ∷ []))
 arrival_queue r s d = by (is_full (gate_at s.gates r.device)) refl where
-  by : (b : Bool) → is_full (gate_at s.gates r.device) ≡ b → queue_at (cond b s (with_gates s (slice_set s.gates r.device (queued r (gate_at s.gates r.device))))) d ≡ queue_at s d ++ asked_of d (cond b [] (r ∷ []))
+  by : (b : Bool) → is_full (gate_at s.gates r.device) ≡ b →
+      queue_at (cond b s (with_gates s (slice_set s.gates r.device (queued r (gate_at s.gates r.device))))) d ≡ queue_at s d ++ asked_of d (cond b [] (r ∷ []))
   by true e = sym (append-nil (queue_at s d))
   by false e =
       ⊎_elim (λ (same : d ≡ r.device).
@@ -63,7 +66,9 @@ more_asked false q r more d =
     append_assoc q (asked_of d (r ∷ [])) (asked_of d more)
     ∙ ap (λ ys. q ++ ys) (sym (filter-append (λ (x : Request). eqb x.device d) (r ∷ []) more))
 
-either_arrives : (b full : Bool) (x y : Arrivals) (q : List Request) (r : Request) (more others : List Request) (d : ℕ) → queue_at x.gates d ≡ q ++ asked_of d (cond full more (r ∷ more)) → queue_at y.gates d ≡ q ++ asked_of d others → queue_at (cond b x y).gates d ≡ q ++ asked_of d (cond b (cond full more (r ∷ more)) others)
+either_arrives : (b full : Bool) (x y : Arrivals) (q : List Request) (r : Request) (more others : List Request) (d : ℕ) →
+    queue_at x.gates d ≡ q ++ asked_of d (cond full more (r ∷ more)) → queue_at y.gates d ≡ q ++ asked_of d others →
+    queue_at (cond b x y).gates d ≡ q ++ asked_of d (cond b (cond full more (r ∷ more)) others)
 either_arrives true full x y q r more others d h k = h
 either_arrives false full x y q r more others d h k = k
 
@@ -82,7 +87,9 @@ arrivals_carried now [] a = refl
 arrivals_carried now (r ∷ requests) a =
     cond_both (eqb r.cycle now) (arrivals now requests (arrived r a)) (arrivals now requests a) (λ (x : Arrivals). x.gates.carried ≡ a.gates.carried)
     (λ _. arrivals_carried now requests (arrived r a)
-    ∙ cond_both (is_full (gate_at a.gates.gates r.device)) a.gates (with_gates a.gates (slice_set a.gates.gates r.device (queued r (gate_at a.gates.gates r.device)))) (λ (x : GatesState). x.carried ≡ a.gates.carried) (λ _. refl) (λ _. refl))
+    ∙ cond_both (is_full (gate_at a.gates.gates r.device)) a.gates
+    (with_gates a.gates (slice_set a.gates.gates r.device (queued r (gate_at a.gates.gates r.device))))
+    (λ (x : GatesState). x.carried ≡ a.gates.carried) (λ _. refl) (λ _. refl))
     (λ _. arrivals_carried now requests a)
 
 -- ---- the bus
@@ -105,11 +112,14 @@ one_transferred d s c memory = by (eqb c.device d) where
   by true = refl
   by false = refl
 
-carries_held : (d : ℕ) (clash : Bool) (c : Carried) (s : GatesState) (memory : List ℕ) (transfers : List Transfer) → held d (with_last (carries clash c s memory).turn.ended transfers) (carries clash c s memory).gates.carried (carries clash c s memory).gates ≡ held d transfers (Some c) s
+carries_held : (d : ℕ) (clash : Bool) (c : Carried) (s : GatesState) (memory : List ℕ) (transfers : List Transfer) →
+    held d (with_last (carries clash c s memory).turn.ended transfers) (carries clash c s memory).gates.carried (carries clash c s memory).gates
+    ≡ held d transfers (Some c) s
 carries_held d clash c s memory transfers =
     cond_both (leb c.left 1) (ends clash c s memory) (goes_on clash c s memory) (λ (t : Turned). held d (with_last t.turn.ended transfers) t.gates.carried t.gates ≡ held d transfers (Some c) s)
     (λ _. ap (λ ys. ys ++ queue_at s d)
-    (append-nil (transferred_of d (transfers ++ transfer_of s c memory ∷ [])) ∙ transferred-append d transfers (transfer_of s c memory ∷ []) ∙ ap (λ ys. transferred_of d transfers ++ ys) (one_transferred d s c memory)))
+    (append-nil (transferred_of d (transfers ++ transfer_of s c memory ∷ [])) ∙ transferred-append d transfers (transfer_of s c memory ∷ [])
+    ∙ ap (λ ys. transferred_of d transfers ++ ys) (one_transferred d s c memory)))
     (λ _. refl)
 
 pub head_of : (q : List Request) (r : Request) → slice_get q 0 ≡ Some r → q ≡ r ∷ drop 1 q
@@ -117,7 +127,8 @@ head_of [] r e = absurd (let x : None ≡ Some r = e in cc)
 head_of (x ∷ q) r e = let y : Some x ≡ Some r = e in let same : x ≡ r = cc in ap (λ z. z ∷ q) same
 
 -- a request leaves its queue to be carried
-taken_held : (d : ℕ) (c : Carried) (s : GatesState) (transfers : List Transfer) → c.device < length s.gates → slice_get (queue_at s c.device) 0 ≡ Some c.request → held d transfers (Some c) (taken c.device s) ≡ held d transfers None s
+taken_held : (d : ℕ) (c : Carried) (s : GatesState) (transfers : List Transfer) → c.device < length s.gates →
+    slice_get (queue_at s c.device) 0 ≡ Some c.request → held d transfers (Some c) (taken c.device s) ≡ held d transfers None s
 taken_held d c s transfers lt head =
     let g : GateState = without_head (gate_at s.gates c.device) in
     ⊎_elim (λ (same : d ≡ c.device).
@@ -135,18 +146,21 @@ taken_held d c s transfers lt head =
 abbrev HeldIn : ℕ → List Transfer → GatesState → Turned → Type 0
 HeldIn d transfers s t = held d (with_last t.turn.ended transfers) t.gates.carried t.gates ≡ held d transfers s.carried s
 
-starts_held : (d now : ℕ) (w : Window) (core : Bool) (start : Option Carried) (s : GatesState) (memory : List ℕ) (transfers : List Transfer) → startable now w s ≡ start → s.carried ≡ None → HeldIn d transfers s (starts core start s memory)
+starts_held : (d now : ℕ) (w : Window) (core : Bool) (start : Option Carried) (s : GatesState) (memory : List ℕ) (transfers : List Transfer) →
+    startable now w s ≡ start → s.carried ≡ None → HeldIn d transfers s (starts core start s memory)
 starts_held d now w core None s memory transfers is none = refl
 starts_held d now w core (Some c) s memory transfers is none =
     let h : IsStart now w s.gates c = startable_is now w s c is in
     carries_held d core c (taken c.device s) memory transfers ∙ taken_held d c s transfers h.there h.head ∙ ap (λ o. held d transfers o s) (sym none)
 
-free_held : (d now : ℕ) (w : Window) (core : CoreWant) (start : Option Carried) (s : GatesState) (memory : List ℕ) (transfers : List Transfer) → startable now w s ≡ start → s.carried ≡ None → HeldIn d transfers s (bus_free core start s memory)
+free_held : (d now : ℕ) (w : Window) (core : CoreWant) (start : Option Carried) (s : GatesState) (memory : List ℕ) (transfers : List Transfer) →
+    startable now w s ≡ start → s.carried ≡ None → HeldIn d transfers s (bus_free core start s memory)
 free_held d now w No start s memory transfers is none = starts_held d now w false start s memory transfers is none
 free_held d now w New start s memory transfers is none = starts_held d now w true start s memory transfers is none
 free_held d now w Held start s memory transfers is none = refl
 
-with_held : (d now : ℕ) (w : Window) (core : CoreWant) (carried : Option Carried) (s : GatesState) (memory : List ℕ) (transfers : List Transfer) → s.carried ≡ carried → HeldIn d transfers s (bus_with core carried (startable now w s) s memory)
+with_held : (d now : ℕ) (w : Window) (core : CoreWant) (carried : Option Carried) (s : GatesState) (memory : List ℕ) (transfers : List Transfer) →
+    s.carried ≡ carried → HeldIn d transfers s (bus_with core carried (startable now w s) s memory)
 with_held d now w core (Some c) s memory transfers is = carries_held d (wants core) c s memory transfers ∙ ap (λ o. held d transfers o s) (sym is)
 with_held d now w core None s memory transfers is = free_held d now w core (startable now w s) s memory transfers refl is
 
@@ -163,7 +177,8 @@ ticked_transfers false s = (settle_keeps s.core.mode (with_now s (s.now + 1))).t
 pub cycle_transfers : (rule : ReplacementRule) (p : Setup) (a : Arrivals) (b : Turned) (s : MachineState) → (cycle_with rule p a b s).log.transfers ≡ with_last b.turn.ended s.log.transfers
 cycle_transfers rule p a b s = ticked_transfers (is_some (core_at rule p b s).trapped) (joined a b (core_at rule p b s) s)
 
-cycle_held : (rule : ReplacementRule) (p : Setup) (requests : List Request) (d : ℕ) (s : MachineState) → held_of d (cycle_of rule p requests s) ≡ held_of d s ++ asked_of d (found_room s.now requests s.gates)
+cycle_held : (rule : ReplacementRule) (p : Setup) (requests : List Request) (d : ℕ) (s : MachineState) →
+    held_of d (cycle_of rule p requests s) ≡ held_of d s ++ asked_of d (found_room s.now requests s.gates)
 cycle_held rule p requests d s =
     let a : Arrivals = arrivals_at requests s in
     let b : Turned = bus_at a.gates s in
@@ -182,7 +197,8 @@ step_held rule p requests d s = by (is_over s) where
 
 -- ---- a run
 
-cycles_held : (rule : ReplacementRule) (p : Setup) (requests : List Request) (d : ℕ) (n : ℕ) (s : MachineState) → held_of d s ≡ [] → held_of d (cycles_of rule p requests n s) ≡ asked_of d (queued_of rule p requests n s)
+cycles_held : (rule : ReplacementRule) (p : Setup) (requests : List Request) (d : ℕ) (n : ℕ) (s : MachineState) → held_of d s ≡ [] →
+    held_of d (cycles_of rule p requests n s) ≡ asked_of d (queued_of rule p requests n s)
 unfolding cycles_of queued_of
 cycles_held rule p requests d zero s h = h
 cycles_held rule p requests d (suc n) s h =

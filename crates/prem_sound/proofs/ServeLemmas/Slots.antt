@@ -61,7 +61,8 @@ area_get : (p : Setup) (d : ℕ) → d < length p.devices → slice_get (map (ar
 area_get p d lt = slice_get-map (area_of p.plant.line) p.devices d ∙ ap (option_map (area_of p.plant.line)) (slice_get-get_or p.devices d no_device lt)
 
 -- in one line there is one of them
-pub slots_apart : (p : Setup) (d j e i : ℕ) → 16 ≤ p.plant.line → All (IsPlaced p.plant.line p.plant.memory) p.devices → AreApart (map (area_of p.plant.line) p.devices) → IsLine p d j → IsLine p e i → slot p d j / p.plant.line ≡ slot p e i / p.plant.line → (d ≡ e) × (j ≡ i)
+pub slots_apart : (p : Setup) (d j e i : ℕ) → 16 ≤ p.plant.line → All (IsPlaced p.plant.line p.plant.memory) p.devices →
+    AreApart (map (area_of p.plant.line) p.devices) → IsLine p d j → IsLine p e i → slot p d j / p.plant.line ≡ slot p e i / p.plant.line → (d ≡ e) × (j ≡ i)
 slots_apart p d j e i low placed apart l m same =
     let size : ℕ = p.plant.line in
     let a : ℕ = slot p d j in
@@ -71,8 +72,10 @@ slots_apart p d j e i low placed apart l m same =
     let ea : a ≡ a / size * size = omega (arith, div-add-mod' a size, fa.begins) in
     let eb : b ≡ b / size * size = omega (arith, div-add-mod' b size, fb.begins) in
     let ab : a ≡ b = ea ∙ ap (λ n. n * size) same ∙ sym eb in
-    let da : (device_of p d).area + j * size + size ≤ (device_of p d).area + (device_of p d).device.lines * size = slot_within (device_of p d).area j (device_of p d).device.lines size _ l.within (omega arith) in
-    let db : (device_of p e).area + i * size + size ≤ (device_of p e).area + (device_of p e).device.lines * size = slot_within (device_of p e).area i (device_of p e).device.lines size _ m.within (omega arith) in
+    let da : (device_of p d).area + j * size + size ≤ (device_of p d).area + (device_of p d).device.lines * size =
+    slot_within (device_of p d).area j (device_of p d).device.lines size _ l.within (omega arith) in
+    let db : (device_of p e).area + i * size + size ≤ (device_of p e).area + (device_of p e).device.lines * size =
+    slot_within (device_of p e).area i (device_of p e).device.lines size _ m.within (omega arith) in
     let one : d ≡ e =
     apart.disjoint d e a (area_of size (device_of p d)) (area_of size (device_of p e)) (area_get p d l.there) (area_get p e m.there)
     (omega arith, omega arith) (omega (arith, ab), omega (arith, ab, db)) in

@@ -35,8 +35,11 @@ use Rattle.prem_sound.proofs.ServeLemmas.Puts.{HoldAll, arrivals_all, cycles_all
 use Rattle.prem_sound.proofs.ServeLemmas.Slots.{slot}
 use Rattle.prem_sound.proofs.ServeLemmas.Words.{AreWords, PutsWord, turn_words, issue_words}
 
-module _ (rule : ReplacementRule) (p : Setup) (content : List ℕ) (inputs : List (List ℕ)) (requests : List Request) (own : ℕ → ℕ → Bool) (runs : ℕ → TaskRun) (r : IsRule rule) (q : IsRunnable p content requests) (o : AreOwn p content inputs own runs) (apart : AreApart (map (area_of p.plant.line) p.devices)) (puts : PutWords requests) where
-  moved_words : (at : ℕ → ℕ) (sched : List TaskJobs) (w : Work) (m : CoreMove) (transfers : List Transfer) → Stands p own runs at w → Scheduled p runs at sched m → AreWords p w.cache w.memory transfers → AreWords p (moved rule p m w).cache (moved rule p m w).memory transfers
+module _ (rule : ReplacementRule) (p : Setup) (content : List ℕ) (inputs : List (List ℕ)) (requests : List Request) (own : ℕ → ℕ → Bool)
+    (runs : ℕ → TaskRun) (r : IsRule rule) (q : IsRunnable p content requests) (o : AreOwn p content inputs own runs)
+    (apart : AreApart (map (area_of p.plant.line) p.devices)) (puts : PutWords requests) where
+  moved_words : (at : ℕ → ℕ) (sched : List TaskJobs) (w : Work) (m : CoreMove) (transfers : List Transfer) → Stands p own runs at w →
+      Scheduled p runs at sched m → AreWords p w.cache w.memory transfers → AreWords p (moved rule p m w).cache (moved rule p m w).memory transfers
   moved_words at sched w (Passes c) transfers s m h = h
   moved_words at sched w (Issues k i) transfers s m h =
       let lt : k < length p.tasks = m.unfinished.bound in

@@ -28,7 +28,8 @@ pub record IsFaultless (s : MachineState) : Type 0 where
 -- misses, none stores in a memory phase, and no cycle of the bus is wanted by the core and a gate both
 abbrev pub ScriptsMakeNoFault : Type 0
 ScriptsMakeNoFault =
-    (rule : ReplacementRule) (order : OrderRule) (passes : ℕ → ℕ) (p : Setup) (content : List ℕ) (inputs : List (List ℕ)) (requests : List Request) (own : ℕ → ℕ → Bool) (runs : ℕ → TaskRun) (scripts : ℕ → Script) (n : ℕ) →
+    (rule : ReplacementRule) (order : OrderRule) (passes : ℕ → ℕ) (p : Setup) (content : List ℕ) (inputs : List (List ℕ)) (requests : List Request)
+    (own : ℕ → ℕ → Bool) (runs : ℕ → TaskRun) (scripts : ℕ → Script) (n : ℕ) →
     IsPolicy rule order passes → IsRunnable p content requests → AreOwn p content inputs own runs → ((k : ℕ) → k < length p.tasks → IsScript p.plant passes (runs k) (scripts k)) →
     IsFaultless (run_of rule p content inputs requests n)
 

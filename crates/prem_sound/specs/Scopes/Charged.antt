@@ -118,7 +118,8 @@ all_charged plant s run charge (suc n) = all_charged plant s run charge n + char
 
 -- with these charges each job takes at most so many cycles; each stretch and each marked call, with the switch before it, at most so many
 pub record IsCharged (plant : Plant) (run : TaskRun) (s : Script) (charge : Charges) (cost longest : ℕ) : Type 0 where
-  pub jobs : (n : ℕ) (d : Did) → plain_did run (plain_run run n) ≡ Some d → job_charged plant s run charge n + did_charge plant (call_at s (begun_by run n).calls).stated d.phase d.change (charge n d) ≤ cost
+  pub jobs : (n : ℕ) (d : Did) → plain_did run (plain_run run n) ≡ Some d →
+      job_charged plant s run charge n + did_charge plant (call_at s (begun_by run n).calls).stated d.phase d.change (charge n d) ≤ cost
   pub stretches : (n : ℕ) (d : Did) → plain_did run (plain_run run n) ≡ Some d → d.phase ≡ Compatible → plant.switch + stretch_charged run charge n + charge n d ≤ longest
   pub calls : (i : ℕ) → plant.switch + (call_at s i).stated ≤ longest
 

@@ -49,7 +49,8 @@ SinglesAreDue = (plant : Plant) (d : Did) → KeepsToLines plant (single plant d
 -- a run whose jobs have ended is charged at most what they are
 abbrev pub ChargesSumUp : Type 0
 ChargesSumUp =
-    (plant : Plant) (run : TaskRun) (s : Script) (charge : Charges) (cost longest n : ℕ) → IsCharged plant run s charge cost longest → run.jobs ≤ (plain_run run n).ended → all_charged plant s run charge n ≤ run.jobs * cost
+    (plant : Plant) (run : TaskRun) (s : Script) (charge : Charges) (cost longest n : ℕ) → IsCharged plant run s charge cost longest →
+    run.jobs ≤ (plain_run run n).ended → all_charged plant s run charge n ≤ run.jobs * cost
 
 -- an instruction of a scope that goes on is charged its cost, and a fill and a write back for its fetch and for its data where their sets
 -- are crowded

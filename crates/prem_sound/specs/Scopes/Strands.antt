@@ -86,7 +86,8 @@ abbrev pub ChargedFrom : Plant → Script → (cost most : ℕ) → (begun job s
 ChargedFrom plant s cost most begun job stretch ends = Unit {0}
 ChargedFrom plant s cost most begun job stretch (runs x rest) =
     (job + scope_due plant s begun x ≤ cost) × (stretch + charge_of plant x ≤ most)
-    × ChargedFrom plant s cost most (begun + calls_begun (last_change x.dids)) (within_job (last_change x.dids) (job + scope_due plant s begun x)) (within_stretch (last_change x.dids) (stretch + charge_of plant x)) rest
+    × ChargedFrom plant s cost most (begun + calls_begun (last_change x.dids)) (within_job (last_change x.dids) (job + scope_due plant s begun x))
+    (within_stretch (last_change x.dids) (stretch + charge_of plant x)) rest
 ChargedFrom plant s cost most begun job stretch (calls ds rest) = ChargedFrom plant s cost most begun job stretch rest
 
 -- ---- one job behind another
@@ -146,4 +147,5 @@ StrandsAreCharged =
 -- of a script the charges look at its calls alone
 abbrev pub ChargesLookAtCalls : Type 0
 ChargesLookAtCalls =
-    (plant : Plant) (s other : Script) (cost most begun job stretch : ℕ) (w : Strand) → s.calls ≡ other.calls → ChargedFrom plant s cost most begun job stretch w → ChargedFrom plant other cost most begun job stretch w
+    (plant : Plant) (s other : Script) (cost most begun job stretch : ℕ) (w : Strand) → s.calls ≡ other.calls →
+    ChargedFrom plant s cost most begun job stretch w → ChargedFrom plant other cost most begun job stretch w

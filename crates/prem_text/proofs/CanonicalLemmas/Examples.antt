@@ -5,7 +5,8 @@ use Rattle.prem_word.specs.declared.kind.Kind.TheVariants.{Int, Unsigned}
 use Rattle.prem_word.specs.declared.kind.BinOp.TheVariants.{Add, Sub, Mul, Shl, Eq, And, OrElse, AndAlso, Lt}
 use Rattle.prem_syntax.specs.declared.tree.UnOp.TheVariants.{Neg, Not}
 use Rattle.prem_syntax.specs.declared.tree.Ty.TheVariants as ty
-use Rattle.prem_syntax.specs.Syntax.{Expression, literal, variable, element, unary, binary, Statement, block, if_then, if_else, bounded_while, counting_for, assign, output, input, call, Statements, no_statements, next_statement, absent, one, many, global_item, function_item, ProgramText}
+use Rattle.prem_syntax.specs.Syntax.{Expression, literal, variable, element, unary, binary, Statement, block, if_then, if_else, bounded_while, counting_for, assign, output, input}
+use Rattle.prem_syntax.specs.Syntax.{call, Statements, no_statements, next_statement, absent, one, many, global_item, function_item, ProgramText}
 use Rattle.prem_text.specs.Grammar.Reader.{nowhere}
 use Rattle.prem_text.specs.Canonical.Printed.{printed}
 
@@ -51,7 +52,8 @@ loosest : printed (outs (binary nowhere OrElse (binary nowhere AndAlso x x) (bin
 unfolding digits
 loosest = refl
 
-equality_in_and : printed (outs (binary nowhere And (binary nowhere Eq x (lit 0)) (binary nowhere Eq (binary nowhere And x (lit 1)) (lit 0)))) ≡ codes "void job ( void ) { out ( x == 0 & ( x & 1 ) == 0 ) ; }"
+equality_in_and : printed (outs (binary nowhere And (binary nowhere Eq x (lit 0)) (binary nowhere Eq (binary nowhere And x (lit 1)) (lit 0))))
+    ≡ codes "void job ( void ) { out ( x == 0 & ( x & 1 ) == 0 ) ; }"
 unfolding digits
 equality_in_and = refl
 
@@ -74,31 +76,44 @@ kinds = refl
 every_statement : printed (with_body (
     next_statement (block nowhere no_statements) (next_statement (assign nowhere (codes "x") None (lit 1))
     (next_statement (assign nowhere (codes "a") (Some x) (binary nowhere Add (element nowhere (codes "a") x) (lit 1))) (next_statement (input nowhere (codes "x"))
-    (next_statement (call nowhere None (codes "f") []) (next_statement (call nowhere (Some (codes "x")) (codes "f") (x ∷ lit 2 ∷ [])) no_statements))))))) ≡ codes "void job ( void ) { { } x = 1 ; a [ x ] = a [ x ] + 1 ; x = in ( ) ; f ( ) ; x = f ( x , 2 ) ; }"
+    (next_statement (call nowhere None (codes "f") [])
+    (next_statement (call nowhere (Some (codes "x")) (codes "f") (x ∷ lit 2 ∷ [])) no_statements)))))))
+    ≡ codes "void job ( void ) { { } x = 1 ; a [ x ] = a [ x ] + 1 ; x = in ( ) ; f ( ) ; x = f ( x , 2 ) ; }"
 unfolding digits
 every_statement = refl
 
 -- a bound of a loop is an expression of the level of shifts
 loops : printed (with_body (
     two (bounded_while nowhere 2147483648 (binary nowhere Lt x (lit 3)) (block nowhere no_statements))
-    (counting_for nowhere (record { first = codes "i"; second = codes "i"; third = codes "i"; fourth = codes "i" }) (binary nowhere OrElse x x) true (binary nowhere Lt x (lit 4)) 1 (block nowhere no_statements)))) ≡ codes "void job ( void ) { BOUNDED ( 2147483648u ) while ( x < 3 ) { } for ( i = x || x ; i <= ( x < 4 ) ; i = i + 1 ) { } }"
+    (counting_for nowhere (record { first = codes "i"; second = codes "i"; third = codes "i"; fourth = codes "i" }) (binary nowhere OrElse x x) true
+    (binary nowhere Lt x (lit 4)) 1 (block nowhere no_statements))))
+    ≡ codes "void job ( void ) { BOUNDED ( 2147483648u ) while ( x < 3 ) { } for ( i = x || x ; i <= ( x < 4 ) ; i = i + 1 ) { } }"
 unfolding digits
 loops = refl
 
-high_shift : printed (with_body (only (counting_for nowhere (record { first = codes "i"; second = codes "j"; third = codes "k"; fourth = codes "l" }) (lit 0) false (binary nowhere Shl x (lit 4)) 2147483647 (output nowhere x)))) ≡ codes "void job ( void ) { for ( i = 0 ; j < x << 4 ; k = l + 2147483647 ) out ( x ) ; }"
+high_shift : printed (with_body
+    (only (counting_for nowhere (record { first = codes "i"; second = codes "j"; third = codes "k"; fourth = codes "l" }) (lit 0) false
+    (binary nowhere Shl x (lit 4)) 2147483647 (output nowhere x)))) ≡ codes "void job ( void ) { for ( i = 0 ; j < x << 4 ; k = l + 2147483647 ) out ( x ) ; }"
 unfolding digits
 high_shift = refl
 
 -- an `else` belongs to the nearest `if`, and a block keeps it from an inner one
-nearest_if : printed (with_body (only (if_then nowhere x (if_else nowhere x (output nowhere (lit 1)) (output nowhere (lit 2)))))) ≡ codes "void job ( void ) { if ( x ) if ( x ) out ( 1 ) ; else out ( 2 ) ; }"
+nearest_if : printed (with_body (only (if_then nowhere x (if_else nowhere x (output nowhere (lit 1)) (output nowhere (lit 2))))))
+    ≡ codes "void job ( void ) { if ( x ) if ( x ) out ( 1 ) ; else out ( 2 ) ; }"
 unfolding digits
 nearest_if = refl
 
-outer_if : printed (with_body (only (if_else nowhere x (block nowhere (only (if_then nowhere x (output nowhere (lit 1))))) (output nowhere (lit 2))))) ≡ codes "void job ( void ) { if ( x ) { if ( x ) out ( 1 ) ; } else out ( 2 ) ; }"
+outer_if : printed (with_body (only (if_else nowhere x (block nowhere (only (if_then nowhere x (output nowhere (lit 1))))) (output nowhere (lit 2)))))
+    ≡ codes "void job ( void ) { if ( x ) { if ( x ) out ( 1 ) ; } else out ( 2 ) ; }"
 unfolding digits
 outer_if = refl
 
-globals : printed (global_item record { at = nowhere; ty = ty.Unsigned; name = codes "u"; len = None; initial = absent } ∷ global_item record { at = nowhere; ty = ty.Schar; name = codes "c"; len = Some 3; initial = many (pos 0 ∷ negsuc 0 ∷ pos 127 ∷ []) } ∷ global_item record { at = nowhere; ty = ty.Uchar; name = codes "d"; len = Some 4294967295; initial = absent } ∷ global_item record { at = nowhere; ty = ty.Ushort; name = codes "e"; len = None; initial = one (negsuc 2147483647) } ∷ global_item record { at = nowhere; ty = ty.Short; name = codes "g"; len = None; initial = one (pos 2147483647) } ∷ []) ≡ codes "unsigned u ; signed char c [ 3 ] = { 0 , - 1 , 127 } ; unsigned char d [ 4294967295u ] ; unsigned short e = - 2147483648u ; short g = 2147483647 ;"
+globals : printed (global_item record { at = nowhere; ty = ty.Unsigned; name = codes "u"; len = None; initial = absent } ∷ global_item
+    record { at = nowhere; ty = ty.Schar; name = codes "c"; len = Some 3; initial = many (pos 0 ∷ negsuc 0 ∷ pos 127 ∷ []) } ∷ global_item
+    record { at = nowhere; ty = ty.Uchar; name = codes "d"; len = Some 4294967295; initial = absent } ∷ global_item
+    record { at = nowhere; ty = ty.Ushort; name = codes "e"; len = None; initial = one (negsuc 2147483647) } ∷ global_item
+    record { at = nowhere; ty = ty.Short; name = codes "g"; len = None; initial = one (pos 2147483647) } ∷ [])
+    ≡ codes "unsigned u ; signed char c [ 3 ] = { 0 , - 1 , 127 } ; unsigned char d [ 4294967295u ] ; unsigned short e = - 2147483648u ; short g = 2147483647 ;"
 unfolding digits
 globals = refl
 

@@ -8,9 +8,18 @@ use Rattle.prem_text.specs.Lexing.Token.Lexeme.{name, mark, Seen}
 use Rattle.prem_text.specs.Grammar.Slots.{left_parenthesis, right_parenthesis, comma, a_name, a_literal, the_region, value_at}
 use Rattle.prem_text.specs.Grammar.Phrases.{spelled, tree, name_at}
 use Rattle.prem_text.specs.Grammar.StatementPhrases.{all_written}
-use Rattle.prem_text.specs.Grammar.ProgramPhrases.{TypeForm, void_type, type_of, Declaration, IsDeclaration, declaration_tokens, ConstantPhrase, constant_value, constant_tree, PartedConstant, InitialPhrase, no_initial, one_initial, many_initial, constants_tokens, constants_tree, initial_tokens, initial_tree, length_tokens, length_tree, GlobalPhrase, IsGlobal, global_tokens, global_tree, AreRegions, region_tokens, region_trees, MarkPhrase, IsMark, mark_tokens, mark_tree, RangePhrase, range_tokens, range_tree, ParameterPhrase, IsParameter, parameter_tokens, parameter_tree, PartedParameter, ParametersPhrase, of_void, of_parameters, is_void_form, ArePartedParameters, AreParameters, parted_parameter_tokens, parted_parameter_trees, parameters_tokens, parameters_tree, LocalPhrase, AreLocals, local_tokens, local_trees, ResultPhrase, result_tokens, result_tree, FunctionPhrase, IsFunction, function_tokens, function_tree, ItemPhrase, of_global, of_function, IsItem, item_tokens, item_tree, AreItems, items_tokens, items_tree}
+use Rattle.prem_text.specs.Grammar.ProgramPhrases.{TypeForm, void_type, type_of, Declaration, IsDeclaration, declaration_tokens, ConstantPhrase, constant_value, constant_tree}
+use Rattle.prem_text.specs.Grammar.ProgramPhrases.{PartedConstant, InitialPhrase, no_initial, one_initial, many_initial, constants_tokens, constants_tree, initial_tokens}
+use Rattle.prem_text.specs.Grammar.ProgramPhrases.{initial_tree, length_tokens, length_tree, GlobalPhrase, IsGlobal, global_tokens, global_tree, AreRegions, region_tokens}
+use Rattle.prem_text.specs.Grammar.ProgramPhrases.{region_trees, MarkPhrase, IsMark, mark_tokens, mark_tree, RangePhrase, range_tokens, range_tree, ParameterPhrase, IsParameter}
+use Rattle.prem_text.specs.Grammar.ProgramPhrases.{parameter_tokens, parameter_tree, PartedParameter, ParametersPhrase, of_void, of_parameters, is_void_form, ArePartedParameters}
+use Rattle.prem_text.specs.Grammar.ProgramPhrases.{AreParameters, parted_parameter_tokens, parted_parameter_trees, parameters_tokens, parameters_tree, LocalPhrase, AreLocals}
+use Rattle.prem_text.specs.Grammar.ProgramPhrases.{local_tokens, local_trees, ResultPhrase, result_tokens, result_tree, FunctionPhrase, IsFunction, function_tokens, function_tree}
+use Rattle.prem_text.specs.Grammar.ProgramPhrases.{ItemPhrase, of_global, of_function, IsItem, item_tokens, item_tree, AreItems, items_tokens, items_tree}
 use Rattle.prem_text.specs.Canonical.Unplaced.{unplaced_parameter, unplaced_item, unplaced}
-use Rattle.prem_text.specs.Canonical.Canonical.{constant_lexemes, expression_lexemes, statements_lexemes, type_lexemes, declaration_lexemes, length_lexemes, more_constants, constants_lexemes, initial_lexemes, global_lexemes, regions_lexemes, mark_lexemes, range_lexemes, parameter_lexemes, more_parameters, parameters_lexemes, locals_lexemes, result_lexemes, function_lexemes, item_lexemes, program_lexemes}
+use Rattle.prem_text.specs.Canonical.Canonical.{constant_lexemes, expression_lexemes, statements_lexemes, type_lexemes, declaration_lexemes, length_lexemes, more_constants}
+use Rattle.prem_text.specs.Canonical.Canonical.{constants_lexemes, initial_lexemes, global_lexemes, regions_lexemes, mark_lexemes, range_lexemes, parameter_lexemes}
+use Rattle.prem_text.specs.Canonical.Canonical.{more_parameters, parameters_lexemes, locals_lexemes, result_lexemes, function_lexemes, item_lexemes, program_lexemes}
 use Rattle.prem_text.proofs.CanonicalLemmas.Sayable.{AreSayable, both, AreSaid, front, back, name_said, value_bound, value_said, constant_said, abs_negated, Each, each_last}
 use Rattle.prem_text.proofs.CanonicalLemmas.StatementsSaid.{expression_said, all_shaped, all_statements_said}
 use Rattle.prem_text.proofs.CanonicalLemmas.Shaped.{is_void, BeginsShaped, IsShapedInitial, IsShapedItem, AreShapedItems}
@@ -54,7 +63,8 @@ initial_said (many_initial head before last close) s =
     let e = front (head ++ constants_tokens before ++ last.row) close s in
     let d = front (head ++ constants_tokens before) last.row e in
     let zs = constants_tree before ++ constant_tree last ∷ [] in
-    let all = each_last constant_lexemes (constants_tree before) (constant_tree last) (parted_constants_said before (back head (constants_tokens before) d)) (told_said last (back (head ++ constants_tokens before) last.row e)) in
+    let all = each_last constant_lexemes (constants_tree before) (constant_tree last)
+    (parted_constants_said before (back head (constants_tokens before) d)) (told_said last (back (head ++ constants_tokens before) last.row e)) in
     both (constants_lexemes zs) (mark m.CloseBrace ∷ []) (constants_said zs all) tt
 
 initial_shaped : (v : InitialPhrase) → IsShapedInitial (initial_tree v)
@@ -100,7 +110,8 @@ range_said (Some r) s =
     let low_is = constant_lexemes (constant_tree r.low) in
     let high_is = constant_lexemes (constant_tree r.high) in
     both (low_is ++ (mark m.Comma ∷ []) ++ high_is) (mark m.CloseParenthesis ∷ [])
-    (both (low_is ++ mark m.Comma ∷ []) high_is (both low_is (mark m.Comma ∷ []) (told_said r.low (back r.head r.low.row c)) tt) (told_said r.high (back (r.head ++ r.low.row ++ r.middle) r.high.row e))) tt
+    (both (low_is ++ mark m.Comma ∷ []) high_is (both low_is (mark m.Comma ∷ []) (told_said r.low (back r.head r.low.row c)) tt)
+    (told_said r.high (back (r.head ++ r.low.row ++ r.middle) r.high.row e))) tt
 
 parameter_said : (p : ParameterPhrase) → IsParameter p → AreSaid (parameter_tokens p) → AreSayable (parameter_lexemes (parameter_tree p))
 parameter_said p is s =
@@ -125,7 +136,8 @@ parameter_list_said (x ∷ rest) p = both (parameter_lexemes x) (more_parameters
 parameters_said : (ps : ParametersPhrase) → AreParameters ps → AreSaid (parameters_tokens ps) → AreSayable (parameters_lexemes (parameters_tree ps))
 parameters_said (of_void row) is s = tt
 parameters_said (of_parameters before last) is s =
-    parameter_list_said _ (each_last parameter_lexemes (parted_parameter_trees before) (parameter_tree last) (parted_parameters_said before is.0 (front (parted_parameter_tokens before) (parameter_tokens last) s))
+    parameter_list_said _ (each_last parameter_lexemes (parted_parameter_trees before) (parameter_tree last)
+    (parted_parameters_said before is.0 (front (parted_parameter_tokens before) (parameter_tokens last) s))
     (parameter_said last is.1 (back (parted_parameter_tokens before) (parameter_tokens last) s)))
 
 void_form : (form : TypeForm) → is_void (type_of form) ≡ is_void_form form
@@ -203,7 +215,8 @@ item_shaped (of_function f) is = (parameters_shaped f.params is.3, all_shaped f.
 pub items_said : (xs : List ItemPhrase) → AreItems xs → AreSaid (items_tokens xs) → AreSayable (program_lexemes (items_tree xs))
 items_said [] is s = tt
 items_said (x ∷ rest) is s =
-    both (item_lexemes (item_tree x)) (program_lexemes (items_tree rest)) (item_said x is.0 (front (item_tokens x) (items_tokens rest) s)) (items_said rest is.1 (back (item_tokens x) (items_tokens rest) s))
+    both (item_lexemes (item_tree x)) (program_lexemes (items_tree rest)) (item_said x is.0 (front (item_tokens x) (items_tokens rest) s))
+    (items_said rest is.1 (back (item_tokens x) (items_tokens rest) s))
 
 pub items_shaped : (xs : List ItemPhrase) → AreItems xs → AreShapedItems (unplaced (items_tree xs))
 items_shaped [] is = tt

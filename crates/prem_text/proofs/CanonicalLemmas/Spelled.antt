@@ -20,7 +20,8 @@ use Rattle.prem_text.specs.Lexing.Token.Lexeme.{Lexeme, name, number, word, mark
 use Rattle.prem_text.specs.Lexing.Spelling.{marks}
 use Rattle.prem_text.specs.Lexing.Literal.{digit_value}
 use Rattle.prem_text.specs.Lexing.Tokens.{is_digit}
-use Rattle.prem_text.specs.Spelling.Spellings.{StandsIn, at_front, further, every, value_in, Digits, just_zero, decimal as decimal_digits, as_int, as_suffixed, Reserved, used, without_use, Spells, as_word, as_literal, as_mark}
+use Rattle.prem_text.specs.Spelling.Spellings.{StandsIn, at_front, further, every, value_in, Digits, just_zero, decimal as decimal_digits, as_int, as_suffixed, Reserved, used}
+use Rattle.prem_text.specs.Spelling.Spellings.{without_use, Spells, as_word, as_literal, as_mark}
 use Rattle.prem_text.specs.Spelling.Spelled.{AreSpellings}
 use Rattle.prem_text.specs.Canonical.Printed.{word_bytes, mark_bytes, lexeme_bytes, spelling_of}
 use Rattle.prem_text.proofs.SpellingLemmas.Literals.{shifted}
@@ -79,27 +80,139 @@ mark_stands m.PlusPlus = further _ _ (further _ _ (further _ _ (further _ _ (fur
 mark_stands m.MinusMinus = further _ _ (further _ _ (further _ _ (further _ _ (further _ _ (further _ _ (further _ _ (further _ _ (further _ _ (at_front _)))))))))
 mark_stands m.PlusEqual = further _ _ (further _ _ (further _ _ (further _ _ (further _ _ (further _ _ (further _ _ (further _ _ (further _ _ (further _ _ (at_front _))))))))))
 mark_stands m.MinusEqual = further _ _ (further _ _ (further _ _ (further _ _ (further _ _ (further _ _ (further _ _ (further _ _ (further _ _ (further _ _ (further _ _ (at_front _)))))))))))
-mark_stands m.OpenParenthesis = further _ _ (further _ _ (further _ _ (further _ _ (further _ _ (further _ _ (further _ _ (further _ _ (further _ _ (further _ _ (further _ _ (further _ _ (at_front _))))))))))))
-mark_stands m.CloseParenthesis = further _ _ (further _ _ (further _ _ (further _ _ (further _ _ (further _ _ (further _ _ (further _ _ (further _ _ (further _ _ (further _ _ (further _ _ (further _ _ (at_front _)))))))))))))
-mark_stands m.OpenBrace = further _ _ (further _ _ (further _ _ (further _ _ (further _ _ (further _ _ (further _ _ (further _ _ (further _ _ (further _ _ (further _ _ (further _ _ (further _ _ (further _ _ (at_front _))))))))))))))
-mark_stands m.CloseBrace = further _ _ (further _ _ (further _ _ (further _ _ (further _ _ (further _ _ (further _ _ (further _ _ (further _ _ (further _ _ (further _ _ (further _ _ (further _ _ (further _ _ (further _ _ (at_front _)))))))))))))))
-mark_stands m.OpenBracket = further _ _ (further _ _ (further _ _ (further _ _ (further _ _ (further _ _ (further _ _ (further _ _ (further _ _ (further _ _ (further _ _ (further _ _ (further _ _ (further _ _ (further _ _ (further _ _ (at_front _))))))))))))))))
-mark_stands m.CloseBracket = further _ _ (further _ _ (further _ _ (further _ _ (further _ _ (further _ _ (further _ _ (further _ _ (further _ _ (further _ _ (further _ _ (further _ _ (further _ _ (further _ _ (further _ _ (further _ _ (further _ _ (at_front _)))))))))))))))))
-mark_stands m.Semicolon = further _ _ (further _ _ (further _ _ (further _ _ (further _ _ (further _ _ (further _ _ (further _ _ (further _ _ (further _ _ (further _ _ (further _ _ (further _ _ (further _ _ (further _ _ (further _ _ (further _ _ (further _ _ (at_front _))))))))))))))))))
-mark_stands m.Comma = further _ _ (further _ _ (further _ _ (further _ _ (further _ _ (further _ _ (further _ _ (further _ _ (further _ _ (further _ _ (further _ _ (further _ _ (further _ _ (further _ _ (further _ _ (further _ _ (further _ _ (further _ _ (further _ _ (at_front _)))))))))))))))))))
-mark_stands m.Equal = further _ _ (further _ _ (further _ _ (further _ _ (further _ _ (further _ _ (further _ _ (further _ _ (further _ _ (further _ _ (further _ _ (further _ _ (further _ _ (further _ _ (further _ _ (further _ _ (further _ _ (further _ _ (further _ _ (further _ _ (at_front _))))))))))))))))))))
-mark_stands m.Plus = further _ _ (further _ _ (further _ _ (further _ _ (further _ _ (further _ _ (further _ _ (further _ _ (further _ _ (further _ _ (further _ _ (further _ _ (further _ _ (further _ _ (further _ _ (further _ _ (further _ _ (further _ _ (further _ _ (further _ _ (further _ _ (at_front _)))))))))))))))))))))
-mark_stands m.Minus = further _ _ (further _ _ (further _ _ (further _ _ (further _ _ (further _ _ (further _ _ (further _ _ (further _ _ (further _ _ (further _ _ (further _ _ (further _ _ (further _ _ (further _ _ (further _ _ (further _ _ (further _ _ (further _ _ (further _ _ (further _ _ (further _ _ (at_front _))))))))))))))))))))))
-mark_stands m.Star = further _ _ (further _ _ (further _ _ (further _ _ (further _ _ (further _ _ (further _ _ (further _ _ (further _ _ (further _ _ (further _ _ (further _ _ (further _ _ (further _ _ (further _ _ (further _ _ (further _ _ (further _ _ (further _ _ (further _ _ (further _ _ (further _ _ (further _ _ (at_front _)))))))))))))))))))))))
-mark_stands m.Slash = further _ _ (further _ _ (further _ _ (further _ _ (further _ _ (further _ _ (further _ _ (further _ _ (further _ _ (further _ _ (further _ _ (further _ _ (further _ _ (further _ _ (further _ _ (further _ _ (further _ _ (further _ _ (further _ _ (further _ _ (further _ _ (further _ _ (further _ _ (further _ _ (at_front _))))))))))))))))))))))))
-mark_stands m.Percent = further _ _ (further _ _ (further _ _ (further _ _ (further _ _ (further _ _ (further _ _ (further _ _ (further _ _ (further _ _ (further _ _ (further _ _ (further _ _ (further _ _ (further _ _ (further _ _ (further _ _ (further _ _ (further _ _ (further _ _ (further _ _ (further _ _ (further _ _ (further _ _ (further _ _ (at_front _)))))))))))))))))))))))))
-mark_stands m.And = further _ _ (further _ _ (further _ _ (further _ _ (further _ _ (further _ _ (further _ _ (further _ _ (further _ _ (further _ _ (further _ _ (further _ _ (further _ _ (further _ _ (further _ _ (further _ _ (further _ _ (further _ _ (further _ _ (further _ _ (further _ _ (further _ _ (further _ _ (further _ _ (further _ _ (further _ _ (at_front _))))))))))))))))))))))))))
-mark_stands m.Or = further _ _ (further _ _ (further _ _ (further _ _ (further _ _ (further _ _ (further _ _ (further _ _ (further _ _ (further _ _ (further _ _ (further _ _ (further _ _ (further _ _ (further _ _ (further _ _ (further _ _ (further _ _ (further _ _ (further _ _ (further _ _ (further _ _ (further _ _ (further _ _ (further _ _ (further _ _ (further _ _ (at_front _)))))))))))))))))))))))))))
-mark_stands m.Caret = further _ _ (further _ _ (further _ _ (further _ _ (further _ _ (further _ _ (further _ _ (further _ _ (further _ _ (further _ _ (further _ _ (further _ _ (further _ _ (further _ _ (further _ _ (further _ _ (further _ _ (further _ _ (further _ _ (further _ _ (further _ _ (further _ _ (further _ _ (further _ _ (further _ _ (further _ _ (further _ _ (further _ _ (at_front _))))))))))))))))))))))))))))
-mark_stands m.Tilde = further _ _ (further _ _ (further _ _ (further _ _ (further _ _ (further _ _ (further _ _ (further _ _ (further _ _ (further _ _ (further _ _ (further _ _ (further _ _ (further _ _ (further _ _ (further _ _ (further _ _ (further _ _ (further _ _ (further _ _ (further _ _ (further _ _ (further _ _ (further _ _ (further _ _ (further _ _ (further _ _ (further _ _ (further _ _ (at_front _)))))))))))))))))))))))))))))
-mark_stands m.Bang = further _ _ (further _ _ (further _ _ (further _ _ (further _ _ (further _ _ (further _ _ (further _ _ (further _ _ (further _ _ (further _ _ (further _ _ (further _ _ (further _ _ (further _ _ (further _ _ (further _ _ (further _ _ (further _ _ (further _ _ (further _ _ (further _ _ (further _ _ (further _ _ (further _ _ (further _ _ (further _ _ (further _ _ (further _ _ (further _ _ (at_front _))))))))))))))))))))))))))))))
-mark_stands m.Less = further _ _ (further _ _ (further _ _ (further _ _ (further _ _ (further _ _ (further _ _ (further _ _ (further _ _ (further _ _ (further _ _ (further _ _ (further _ _ (further _ _ (further _ _ (further _ _ (further _ _ (further _ _ (further _ _ (further _ _ (further _ _ (further _ _ (further _ _ (further _ _ (further _ _ (further _ _ (further _ _ (further _ _ (further _ _ (further _ _ (further _ _ (at_front _)))))))))))))))))))))))))))))))
-mark_stands m.Greater = further _ _ (further _ _ (further _ _ (further _ _ (further _ _ (further _ _ (further _ _ (further _ _ (further _ _ (further _ _ (further _ _ (further _ _ (further _ _ (further _ _ (further _ _ (further _ _ (further _ _ (further _ _ (further _ _ (further _ _ (further _ _ (further _ _ (further _ _ (further _ _ (further _ _ (further _ _ (further _ _ (further _ _ (further _ _ (further _ _ (further _ _ (further _ _ (at_front _))))))))))))))))))))))))))))))))
+mark_stands m.OpenParenthesis =
+    further _ _ (further _ _ (further _ _
+    (further _ _ (further _ _ (further _ _ (further _ _ (further _ _ (further _ _ (further _ _ (further _ _ (further _ _ (at_front _))))))))))))
+mark_stands m.CloseParenthesis =
+    further _ _ (further _ _ (further _ _
+    (further _ _ (further _ _ (further _ _ (further _ _ (further _ _ (further _ _ (further _ _ (further _ _ (further _ _ (further _ _ (at_front _)))))))))))))
+mark_stands m.OpenBrace = further _ _
+    (further _ _ (further _ _ (further _ _
+    (further _ _ (further _ _ (further _ _ (further _ _ (further _ _ (further _ _ (further _ _ (further _ _ (further _ _ (further _ _ (at_front _))))))))))))))
+mark_stands m.CloseBrace = further _ _
+    (further _ _ (further _ _ (further _ _
+    (further _ _ (further _ _ (further _ _
+    (further _ _ (further _ _ (further _ _ (further _ _ (further _ _ (further _ _ (further _ _ (further _ _ (at_front _)))))))))))))))
+mark_stands m.OpenBracket = further _ _
+    (further _ _ (further _ _ (further _ _
+    (further _ _ (further _ _ (further _ _
+    (further _ _ (further _ _ (further _ _ (further _ _ (further _ _ (further _ _ (further _ _ (further _ _ (further _ _ (at_front _))))))))))))))))
+mark_stands m.CloseBracket = further _ _
+    (further _ _ (further _ _ (further _ _
+    (further _ _ (further _ _ (further _ _
+    (further _ _ (further _ _ (further _ _
+    (further _ _ (further _ _ (further _ _ (further _ _ (further _ _ (further _ _ (further _ _ (at_front _)))))))))))))))))
+mark_stands m.Semicolon = further _ _
+    (further _ _ (further _ _ (further _ _
+    (further _ _ (further _ _ (further _ _
+    (further _ _ (further _ _ (further _ _
+    (further _ _ (further _ _ (further _ _ (further _ _ (further _ _ (further _ _ (further _ _ (further _ _ (at_front _))))))))))))))))))
+mark_stands m.Comma = further _ _
+    (further _ _ (further _ _ (further _ _
+    (further _ _ (further _ _ (further _ _
+    (further _ _ (further _ _ (further _ _
+    (further _ _ (further _ _ (further _ _ (further _ _ (further _ _ (further _ _ (further _ _ (further _ _ (further _ _ (at_front _)))))))))))))))))))
+mark_stands m.Equal = further _ _
+    (further _ _ (further _ _ (further _ _
+    (further _ _ (further _ _ (further _ _
+    (further _ _ (further _ _ (further _ _
+    (further _ _ (further _ _ (further _ _
+    (further _ _ (further _ _ (further _ _ (further _ _ (further _ _ (further _ _ (further _ _ (at_front _))))))))))))))))))))
+mark_stands m.Plus = further _ _
+    (further _ _ (further _ _ (further _ _
+    (further _ _ (further _ _ (further _ _
+    (further _ _ (further _ _ (further _ _
+    (further _ _ (further _ _ (further _ _
+    (further _ _ (further _ _ (further _ _ (further _ _ (further _ _ (further _ _ (further _ _ (further _ _ (at_front _)))))))))))))))))))))
+mark_stands m.Minus = further _ _
+    (further _ _ (further _ _ (further _ _
+    (further _ _ (further _ _ (further _ _
+    (further _ _ (further _ _ (further _ _
+    (further _ _ (further _ _ (further _ _
+    (further _ _ (further _ _ (further _ _ (further _ _ (further _ _ (further _ _ (further _ _ (further _ _ (further _ _ (at_front _))))))))))))))))))))))
+mark_stands m.Star = further _ _
+    (further _ _ (further _ _ (further _ _
+    (further _ _ (further _ _ (further _ _
+    (further _ _ (further _ _ (further _ _
+    (further _ _ (further _ _ (further _ _
+    (further _ _ (further _ _ (further _ _
+    (further _ _ (further _ _ (further _ _ (further _ _ (further _ _ (further _ _ (further _ _ (at_front _)))))))))))))))))))))))
+mark_stands m.Slash = further _ _
+    (further _ _ (further _ _ (further _ _
+    (further _ _ (further _ _ (further _ _
+    (further _ _ (further _ _ (further _ _
+    (further _ _ (further _ _ (further _ _
+    (further _ _ (further _ _ (further _ _
+    (further _ _ (further _ _ (further _ _ (further _ _ (further _ _ (further _ _ (further _ _ (further _ _ (at_front _))))))))))))))))))))))))
+mark_stands m.Percent = further _ _
+    (further _ _ (further _ _ (further _ _
+    (further _ _ (further _ _ (further _ _
+    (further _ _ (further _ _ (further _ _
+    (further _ _ (further _ _ (further _ _
+    (further _ _ (further _ _ (further _ _
+    (further _ _ (further _ _ (further _ _ (further _ _ (further _ _ (further _ _ (further _ _ (further _ _ (further _ _ (at_front _)))))))))))))))))))))))))
+mark_stands m.And = further _ _
+    (further _ _ (further _ _ (further _ _
+    (further _ _ (further _ _ (further _ _
+    (further _ _ (further _ _ (further _ _
+    (further _ _ (further _ _ (further _ _
+    (further _ _ (further _ _ (further _ _
+    (further _ _ (further _ _ (further _ _
+    (further _ _ (further _ _ (further _ _ (further _ _ (further _ _ (further _ _ (further _ _ (at_front _))))))))))))))))))))))))))
+mark_stands m.Or = further _ _
+    (further _ _ (further _ _ (further _ _
+    (further _ _ (further _ _ (further _ _
+    (further _ _ (further _ _ (further _ _
+    (further _ _ (further _ _ (further _ _
+    (further _ _ (further _ _ (further _ _
+    (further _ _ (further _ _ (further _ _
+    (further _ _ (further _ _ (further _ _ (further _ _ (further _ _ (further _ _ (further _ _ (further _ _ (at_front _)))))))))))))))))))))))))))
+mark_stands m.Caret = further _ _
+    (further _ _ (further _ _ (further _ _
+    (further _ _ (further _ _ (further _ _
+    (further _ _ (further _ _ (further _ _
+    (further _ _ (further _ _ (further _ _
+    (further _ _ (further _ _ (further _ _
+    (further _ _ (further _ _ (further _ _
+    (further _ _ (further _ _ (further _ _ (further _ _ (further _ _ (further _ _ (further _ _ (further _ _ (further _ _ (at_front _))))))))))))))))))))))))))))
+mark_stands m.Tilde = further _ _
+    (further _ _ (further _ _ (further _ _
+    (further _ _ (further _ _ (further _ _
+    (further _ _ (further _ _ (further _ _
+    (further _ _ (further _ _ (further _ _
+    (further _ _ (further _ _ (further _ _
+    (further _ _ (further _ _ (further _ _
+    (further _ _ (further _ _ (further _ _
+    (further _ _ (further _ _ (further _ _ (further _ _ (further _ _ (further _ _ (further _ _ (at_front _)))))))))))))))))))))))))))))
+mark_stands m.Bang = further _ _
+    (further _ _ (further _ _ (further _ _
+    (further _ _ (further _ _ (further _ _
+    (further _ _ (further _ _ (further _ _
+    (further _ _ (further _ _ (further _ _
+    (further _ _ (further _ _ (further _ _
+    (further _ _ (further _ _ (further _ _
+    (further _ _ (further _ _ (further _ _
+    (further _ _ (further _ _ (further _ _ (further _ _ (further _ _ (further _ _ (further _ _ (further _ _ (at_front _))))))))))))))))))))))))))))))
+mark_stands m.Less = further _ _
+    (further _ _ (further _ _ (further _ _
+    (further _ _ (further _ _ (further _ _
+    (further _ _ (further _ _ (further _ _
+    (further _ _ (further _ _ (further _ _
+    (further _ _ (further _ _ (further _ _
+    (further _ _ (further _ _ (further _ _
+    (further _ _ (further _ _ (further _ _
+    (further _ _ (further _ _ (further _ _
+    (further _ _ (further _ _ (further _ _ (further _ _ (further _ _ (further _ _ (at_front _)))))))))))))))))))))))))))))))
+mark_stands m.Greater = further _ _
+    (further _ _ (further _ _ (further _ _
+    (further _ _ (further _ _ (further _ _
+    (further _ _ (further _ _ (further _ _
+    (further _ _ (further _ _ (further _ _
+    (further _ _ (further _ _ (further _ _
+    (further _ _ (further _ _ (further _ _
+    (further _ _ (further _ _ (further _ _
+    (further _ _ (further _ _ (further _ _
+    (further _ _ (further _ _ (further _ _ (further _ _ (further _ _ (further _ _ (further _ _ (at_front _))))))))))))))))))))))))))))))))
 
 word_reserved : (k : Word) → Reserved (word_bytes k) k
 word_reserved w.Void = used _ _ (at_front _)
@@ -113,12 +226,28 @@ word_reserved w.Else = used _ _ (further _ _ (further _ _ (further _ _ (further 
 word_reserved w.For = used _ _ (further _ _ (further _ _ (further _ _ (further _ _ (further _ _ (further _ _ (further _ _ (further _ _ (at_front _)))))))))
 word_reserved w.While = used _ _ (further _ _ (further _ _ (further _ _ (further _ _ (further _ _ (further _ _ (further _ _ (further _ _ (further _ _ (at_front _))))))))))
 word_reserved w.Return = used _ _ (further _ _ (further _ _ (further _ _ (further _ _ (further _ _ (further _ _ (further _ _ (further _ _ (further _ _ (further _ _ (at_front _)))))))))))
-word_reserved w.Predictable = used _ _ (further _ _ (further _ _ (further _ _ (further _ _ (further _ _ (further _ _ (further _ _ (further _ _ (further _ _ (further _ _ (further _ _ (at_front _))))))))))))
-word_reserved w.Region = used _ _ (further _ _ (further _ _ (further _ _ (further _ _ (further _ _ (further _ _ (further _ _ (further _ _ (further _ _ (further _ _ (further _ _ (further _ _ (at_front _)))))))))))))
-word_reserved w.Range = used _ _ (further _ _ (further _ _ (further _ _ (further _ _ (further _ _ (further _ _ (further _ _ (further _ _ (further _ _ (further _ _ (further _ _ (further _ _ (further _ _ (at_front _))))))))))))))
-word_reserved w.Bounded = used _ _ (further _ _ (further _ _ (further _ _ (further _ _ (further _ _ (further _ _ (further _ _ (further _ _ (further _ _ (further _ _ (further _ _ (further _ _ (further _ _ (further _ _ (at_front _)))))))))))))))
-word_reserved w.In = used _ _ (further _ _ (further _ _ (further _ _ (further _ _ (further _ _ (further _ _ (further _ _ (further _ _ (further _ _ (further _ _ (further _ _ (further _ _ (further _ _ (further _ _ (further _ _ (at_front _))))))))))))))))
-word_reserved w.Out = used _ _ (further _ _ (further _ _ (further _ _ (further _ _ (further _ _ (further _ _ (further _ _ (further _ _ (further _ _ (further _ _ (further _ _ (further _ _ (further _ _ (further _ _ (further _ _ (further _ _ (at_front _)))))))))))))))))
+word_reserved w.Predictable = used _ _
+    (further _ _ (further _ _ (further _ _
+    (further _ _ (further _ _ (further _ _ (further _ _ (further _ _ (further _ _ (further _ _ (further _ _ (at_front _))))))))))))
+word_reserved w.Region = used _ _
+    (further _ _ (further _ _ (further _ _
+    (further _ _ (further _ _ (further _ _ (further _ _ (further _ _ (further _ _ (further _ _ (further _ _ (further _ _ (at_front _)))))))))))))
+word_reserved w.Range = used _ _
+    (further _ _ (further _ _ (further _ _
+    (further _ _ (further _ _ (further _ _ (further _ _ (further _ _ (further _ _ (further _ _ (further _ _ (further _ _ (further _ _ (at_front _))))))))))))))
+word_reserved w.Bounded = used _ _
+    (further _ _ (further _ _ (further _ _
+    (further _ _ (further _ _ (further _ _
+    (further _ _ (further _ _ (further _ _ (further _ _ (further _ _ (further _ _ (further _ _ (further _ _ (at_front _)))))))))))))))
+word_reserved w.In = used _ _ (further _ _
+    (further _ _ (further _ _ (further _ _
+    (further _ _ (further _ _ (further _ _
+    (further _ _ (further _ _ (further _ _ (further _ _ (further _ _ (further _ _ (further _ _ (further _ _ (at_front _))))))))))))))))
+word_reserved w.Out = used _ _
+    (further _ _ (further _ _ (further _ _
+    (further _ _ (further _ _ (further _ _
+    (further _ _ (further _ _ (further _ _
+    (further _ _ (further _ _ (further _ _ (further _ _ (further _ _ (further _ _ (further _ _ (at_front _)))))))))))))))))
 word_reserved w.Unused = without_use _ (at_front _)
 
 number_spelled : (value : ℕ) (kind : Kind) → IsSayable (number value kind) → Spells (lexeme_bytes (number value kind)) (number value kind)

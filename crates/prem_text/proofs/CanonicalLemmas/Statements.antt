@@ -8,10 +8,15 @@ use Rattle.prem_text.specs.Lexing.Token.Lexeme.{name, word, mark, Seen}
 use Rattle.prem_text.specs.Grammar.Slots.{left_brace, right_brace, right_parenthesis, semicolon, comma, equal_sign, the_else, is_comparison, place_at}
 use Rattle.prem_text.specs.Grammar.Statement.{listed, is_at_most}
 use Rattle.prem_text.specs.Grammar.Phrases.{Phrase, spelled, tree, IsExpression, IsRow}
-use Rattle.prem_text.specs.Grammar.StatementPhrases.{summed_step, Target, to_name, to_element, Parted, Arguments, no_arguments, arguments, StatementPhrase, of_block, of_if, of_else, of_for, of_while, of_output, of_call, of_input, of_call_to, of_assign, StatementPhrases, no_phrases, next_phrase, if_head, for_head, for_bound, while_head, out_head, statement_tail, call_head, call_to_head, input_row, step_slots, ends_open, AreParted, AreArguments, IsTarget, IsStatement, AreStatements, parted_tokens, argument_tokens, target_tokens, written, all_written, parted_trees, argument_trees, target_text, target_index, meant, all_meant}
+use Rattle.prem_text.specs.Grammar.StatementPhrases.{summed_step, Target, to_name, to_element, Parted, Arguments, no_arguments, arguments, StatementPhrase, of_block, of_if}
+use Rattle.prem_text.specs.Grammar.StatementPhrases.{of_else, of_for, of_while, of_output, of_call, of_input, of_call_to, of_assign, StatementPhrases, no_phrases, next_phrase}
+use Rattle.prem_text.specs.Grammar.StatementPhrases.{if_head, for_head, for_bound, while_head, out_head, statement_tail, call_head, call_to_head, input_row, step_slots, ends_open}
+use Rattle.prem_text.specs.Grammar.StatementPhrases.{AreParted, AreArguments, IsTarget, IsStatement, AreStatements, parted_tokens, argument_tokens, target_tokens, written}
+use Rattle.prem_text.specs.Grammar.StatementPhrases.{all_written, parted_trees, argument_trees, target_text, target_index, meant, all_meant}
 use Rattle.prem_text.specs.Grammar.Reader.{nowhere}
 use Rattle.prem_text.specs.Canonical.Unplaced.{unplaced_expression, unplaced_statement, unplaced_statements}
-use Rattle.prem_text.specs.Canonical.Canonical.{expression_lexemes, more_arguments, argument_lexemes, target_lexemes, call_lexemes, comparison_sign, while_lexemes, for_lexemes, bound_lexemes, step_lexemes, tail_lexemes, if_lexemes, statement_lexemes, statements_lexemes}
+use Rattle.prem_text.specs.Canonical.Canonical.{expression_lexemes, more_arguments, argument_lexemes, target_lexemes, call_lexemes, comparison_sign, while_lexemes, for_lexemes}
+use Rattle.prem_text.specs.Canonical.Canonical.{bound_lexemes, step_lexemes, tail_lexemes, if_lexemes, statement_lexemes, statements_lexemes}
 use Rattle.prem_text.proofs.CanonicalLemmas.Parts.{Are, none, next, cut, glue, single, row, name_is, value_is, regroup}
 use Rattle.prem_text.proofs.CanonicalLemmas.Expressions.{Spelling, expression_spelling}
 use Rattle.prem_text.proofs.CanonicalLemmas.Shaped.{leaves_open, IsShaped, AreShaped}
@@ -203,11 +208,24 @@ mutual
       let s = said body f.back shaped f.behind in
       record {
         phrase = of_for b.front l.phrase c.back h.phrase summed_step e.back s.phrase;
-        right = (row for_head _ b.front b.before refl, (l.tight, l.binds), row for_bound _ c.back c.behind (compares closed), (h.tight, h.binds), row (step_slots summed_step) _ e.back e.behind refl, s.right);
+        right = (
+          row for_head _ b.front b.before refl,
+          (l.tight, l.binds),
+          row for_bound _ c.back c.behind (compares closed),
+          (h.tight, h.binds),
+          row (step_slots summed_step) _ e.back e.behind refl,
+          s.right,
+        );
         tokens = glue f (glue e (glue d (glue c (glue b refl l.tokens) refl) h.tokens) refl) s.tokens;
         opened = s.opened;
         same = λ i. counting_for nowhere
-            (record { first = name_is 2 for_is b.front b.before i; second = name_is 1 bound_is c.back c.behind i; third = name_is 1 step_is e.back e.behind i; fourth = name_is 3 step_is e.back e.behind i })
+            (record {
+              first = name_is 2 for_is b.front b.before i;
+              second = name_is 1 bound_is c.back c.behind i;
+              third =
+                  name_is 1 step_is e.back e.behind i;
+              fourth = name_is 3 step_is e.back e.behind i;
+            })
             (l.same i) (at_most_is names.second closed c.back c.behind i) (h.same i) (value_is 5 step_is e.back e.behind i) (s.same i);
       }
   said (assign at x index value) ts shaped are =

@@ -11,9 +11,15 @@ use Rattle.prem_text.specs.Grammar.Expression.{level_of}
 use Rattle.prem_text.specs.Grammar.Statement.{side, changed, listed, is_at_most}
 use Rattle.prem_text.specs.Grammar.Slots.{value_at, place_at}
 use Rattle.prem_text.specs.Grammar.Phrases.{Phrase, of_literal, of_name, of_element, of_bracket, of_prefix, of_infix, spelled, tree, IsRow, name_at}
-use Rattle.prem_text.specs.Grammar.StatementPhrases.{StepForm, by_one_step, added_step, summed_step, fourth_name, step_size, Target, to_name, to_element, Direction, Parted, Arguments, no_arguments, arguments, StatementPhrase, of_block, of_if, of_else, of_for, of_while, of_output, of_call, of_input, of_call_to, of_assign, of_change, of_count, StatementPhrases, no_phrases, next_phrase, for_head, for_bound, call_head, call_to_head, input_row, step_slots, ends_open, IsStatement, AreStatements, parted_tokens, argument_tokens, target_tokens, written, all_written, parted_trees, argument_trees, target_at, target_text, target_index, change_op, loop_names, meant, all_meant}
+use Rattle.prem_text.specs.Grammar.StatementPhrases.{StepForm, by_one_step, added_step, summed_step, fourth_name, step_size, Target, to_name, to_element, Direction, Parted}
+use Rattle.prem_text.specs.Grammar.StatementPhrases.{Arguments, no_arguments, arguments, StatementPhrase, of_block, of_if, of_else, of_for, of_while, of_output, of_call, of_input}
+use Rattle.prem_text.specs.Grammar.StatementPhrases.{of_call_to, of_assign, of_change, of_count, StatementPhrases, no_phrases, next_phrase, for_head, for_bound, call_head}
+use Rattle.prem_text.specs.Grammar.StatementPhrases.{call_to_head, input_row, step_slots, ends_open, IsStatement, AreStatements, parted_tokens, argument_tokens, target_tokens}
+use Rattle.prem_text.specs.Grammar.StatementPhrases.{written, all_written, parted_trees, argument_trees, target_at, target_text, target_index, change_op, loop_names, meant}
+use Rattle.prem_text.specs.Grammar.StatementPhrases.{all_meant}
 use Rattle.prem_text.specs.Canonical.Unplaced.{unplaced_statement, unplaced_statements}
-use Rattle.prem_text.specs.Canonical.Canonical.{number_lexeme, infix_sign, enclosed, expression_lexemes, more_arguments, argument_lexemes, target_lexemes, call_lexemes, while_lexemes, for_lexemes, bound_lexemes, step_lexemes, tail_lexemes, if_lexemes, statement_lexemes, statements_lexemes}
+use Rattle.prem_text.specs.Canonical.Canonical.{number_lexeme, infix_sign, enclosed, expression_lexemes, more_arguments, argument_lexemes, target_lexemes, call_lexemes}
+use Rattle.prem_text.specs.Canonical.Canonical.{while_lexemes, for_lexemes, bound_lexemes, step_lexemes, tail_lexemes, if_lexemes, statement_lexemes, statements_lexemes}
 use Rattle.prem_text.proofs.CanonicalLemmas.Sayable.{IsSayable, AreSayable, both, AreSaid, front, back, name_said, value_said, number_said, Each, each_last}
 use Rattle.prem_text.proofs.CanonicalLemmas.Shaped.{leaves_open, IsShaped, AreShaped}
 
@@ -26,7 +32,9 @@ enclosed_said true xs p = both xs (mark m.CloseParenthesis ∷ []) p tt
 binary_said : (least : ℕ) (at : Place) (op : BinOp) (left right : Expression) → ((k : ℕ) → AreSayable (expression_lexemes k left)) → ((k : ℕ) → AreSayable (expression_lexemes k right)) →
     AreSayable (expression_lexemes least (binary at op left right))
 binary_said least at op left right p q =
-    enclosed_said (nat_lt (level_of op) least) _ (both (expression_lexemes (level_of op) left) (mark (infix_sign op) ∷ expression_lexemes (level_of op + 1) right) (p (level_of op)) (q (level_of op + 1)))
+    enclosed_said (nat_lt (level_of op) least) _
+    (both (expression_lexemes (level_of op) left) (mark (infix_sign op) ∷ expression_lexemes (level_of op + 1) right) (p (level_of op))
+    (q (level_of op + 1)))
 
 pub expression_said : (p : Phrase) → AreSaid (spelled p) → (least : ℕ) → AreSayable (expression_lexemes least (tree p))
 expression_said (of_literal at value kind) s least = (s.0, tt)
@@ -57,7 +65,8 @@ list_said (e ∷ rest) p = both (expression_lexemes 1 e) (more_arguments rest) p
 arguments_said : (g : Arguments) → AreSaid (argument_tokens g) → AreSayable (argument_lexemes (argument_trees g))
 arguments_said no_arguments s = tt
 arguments_said (arguments before last) s =
-    list_said _ (each_last (expression_lexemes 1) (parted_trees before) (tree last) (parted_said before (front (parted_tokens before) (spelled last) s)) (expression_said last (back (parted_tokens before) (spelled last) s) 1))
+    list_said _ (each_last (expression_lexemes 1) (parted_trees before) (tree last)
+    (parted_said before (front (parted_tokens before) (spelled last) s)) (expression_said last (back (parted_tokens before) (spelled last) s) 1))
 
 target_said : (t : Target) → AreSaid (target_tokens t) → AreSayable (target_lexemes (target_text t) (target_index t))
 target_said (to_name at text) s = (s.0, tt)
@@ -97,7 +106,8 @@ assign_said x index e p q =
 changed_said : (t : Target) (direction : Direction) (at place : Place) (e : Expression) → AreSaid (target_tokens t) → ((least : ℕ) → AreSayable (expression_lexemes least e)) →
     AreSayable (statement_lexemes (changed at (target_text t) (target_index t) (change_op direction) place e))
 changed_said t direction at place e s p =
-    assign_said (target_text t) (target_index t) (binary place (change_op direction) (side at (target_text t) (target_index t)) e) (target_said t s) (binary_said 1 place (change_op direction) _ e (side_said t at s) p)
+    assign_said (target_text t) (target_index t) (binary place (change_op direction) (side at (target_text t) (target_index t)) e) (target_said t s)
+    (binary_said 1 place (change_op direction) _ e (side_said t at s) p)
 
 -- ---- statements
 
@@ -148,7 +158,8 @@ mutual
       let d = front (head ++ spelled condition ++ close ++ written taken) middle e in
       let h = front (head ++ spelled condition ++ close) (written taken) d in
       let c = back head (spelled condition) (front (head ++ spelled condition) close h) in
-      let first = both (if_lexemes (tree condition)) (statement_lexemes (meant taken)) (if_said condition c) (statement_said taken is.3 (back (head ++ spelled condition ++ close) (written taken) d)) in
+      let first = both (if_lexemes (tree condition)) (statement_lexemes (meant taken)) (if_said condition c)
+      (statement_said taken is.3 (back (head ++ spelled condition ++ close) (written taken) d)) in
       both (if_lexemes (tree condition) ++ statement_lexemes (meant taken) ++ word w.Else ∷ []) (statement_lexemes (meant other))
       (both (if_lexemes (tree condition) ++ statement_lexemes (meant taken)) (word w.Else ∷ []) first tt)
       (statement_said other is.6 (back (head ++ spelled condition ++ close ++ written taken ++ middle) (written other) s))
@@ -187,7 +198,9 @@ mutual
       let h = front (head ++ argument_tokens given) tail s in
       let call_is = call_lexemes None (name_at 0 head) in
       let es = argument_lexemes (argument_trees given) in
-      both (call_is ++ es) tail_lexemes (both call_is es (name_said 0 call_head head refl is.0 (front head (argument_tokens given) h), tt) (arguments_said given (back head (argument_tokens given) h))) tt
+      both (call_is ++ es) tail_lexemes
+      (both call_is es (name_said 0 call_head head refl is.0 (front head (argument_tokens given) h), tt)
+      (arguments_said given (back head (argument_tokens given) h))) tt
   statement_said (of_input row) is s = (name_said 0 input_row row refl is s, tt)
   statement_said (of_call_to head given tail) is s =
       let h = front (head ++ argument_tokens given) tail s in
@@ -199,7 +212,8 @@ mutual
   statement_said (of_assign target sign value tail) is s =
       let f = front (target_tokens target ++ sign ++ spelled value) tail s in
       let e = front (target_tokens target ++ sign) (spelled value) f in
-      assign_said (target_text target) (target_index target) (tree value) (target_said target (front (target_tokens target) sign e)) (expression_said value (back (target_tokens target ++ sign) (spelled value) f) 1)
+      assign_said (target_text target) (target_index target) (tree value) (target_said target (front (target_tokens target) sign e))
+      (expression_said value (back (target_tokens target ++ sign) (spelled value) f) 1)
   statement_said (of_change target direction sign value tail) is s =
       let f = front (target_tokens target ++ sign ++ spelled value) tail s in
       let e = front (target_tokens target ++ sign) (spelled value) f in
@@ -212,4 +226,5 @@ mutual
   pub all_statements_said : (ps : StatementPhrases) → AreStatements ps → AreSaid (all_written ps) → AreSayable (statements_lexemes (listed (all_meant ps)))
   all_statements_said no_phrases is s = tt
   all_statements_said (next_phrase first rest) is s =
-      both (statement_lexemes (meant first)) (statements_lexemes (listed (all_meant rest))) (statement_said first is.0 (front (written first) (all_written rest) s)) (all_statements_said rest is.1 (back (written first) (all_written rest) s))
+      both (statement_lexemes (meant first)) (statements_lexemes (listed (all_meant rest)))
+      (statement_said first is.0 (front (written first) (all_written rest) s)) (all_statements_said rest is.1 (back (written first) (all_written rest) s))

@@ -55,7 +55,9 @@ stands_after least [] s q pre h stands is =
     let same : s ≡ q = cc in subst (λ (x : State). StandsIn least x (pre ++ [])) same (subst (λ (l : List Seen). StandsIn least s l) (sym (append-nil pre)) stands)
 stands_after least (t ∷ ts) s q pre h stands is = by (move least s t) refl (move_fine least s pre t h stands) (λ next stands' is'. stands_after least ts next q (pre ++ t ∷ []) h stands' is')
   where
-    by : (x : Move) → move least s t ≡ x → Fine least pre t x → ((next : State) → StandsIn least next (pre ++ t ∷ []) → moves least next ts ≡ Some q → StandsIn least q (pre ++ t ∷ [] ++ ts)) → StandsIn least q (pre ++ t ∷ ts)
+    by : (x : Move) → move least s t ≡ x → Fine least pre t x →
+        ((next : State) → StandsIn least next (pre ++ t ∷ []) → moves least next ts ≡ Some q → StandsIn least q (pre ++ t ∷ [] ++ ts)) →
+        StandsIn least q (pre ++ t ∷ ts)
     by (goes next) step fine go_on =
         subst (λ (l : List Seen). StandsIn least q l) (append_assoc pre (t ∷ []) ts) (go_on next fine (sym (moves_step least s t ts ∙ ap (moves_by least ts) step) ∙ is))
     by (ends e) step fine go_on = let no_state : None ≡ Some q = sym (moves_step least s t ts ∙ ap (moves_by least ts) step) ∙ is in absurd cc
@@ -69,7 +71,8 @@ closer_ends least p (mark m.Comma) at end is same = same (mark m.Comma) at (refl
 closer_ends least p (mark _) at end is same = absurd cc
 closer_ends least p _ at end is same = absurd cc
 
-pub expressions_read : (least : ℕ) (p : Phrase) (t : Seen) → IsExpression least p → is_closer t.0 ≡ true → (s : State) × (moves least (wants bottom) (spelled p) ≡ Some s) × (move least s t ≡ ends (tree p))
+pub expressions_read : (least : ℕ) (p : Phrase) (t : Seen) → IsExpression least p → is_closer t.0 ≡ true →
+    (s : State) × (moves least (wants bottom) (spelled p) ≡ Some s) × (move least s t ≡ ends (tree p))
 expressions_read least p t short closes =
     let r = reads_phrase least p bottom short.1 short.0 in
     (r.end, moves_goes least (wants bottom) r.end (spelled p) r.goes, closer_ends least p t.0 t.1 r.end closes r.same)
@@ -88,10 +91,12 @@ expressions_begun least ts s h is =
     let w = begins_expression least s ts h (stands_after least ts (wants bottom) s [] h (wanting bottom [] at_bottom) is) in
     (w.rest, tree w.phrase, (w.phrase, w.levels, w.binds, w.spells, refl))
 
-pub expressions_end : (least : ℕ) (ts : List Seen) (s : State) (t : Seen) → moves least (wants bottom) ts ≡ Some s → move least s t ≡ stops → (rest : List Seen) (e : Expression) → Spells least (ts ++ t ∷ rest) e → ⊥
+pub expressions_end : (least : ℕ) (ts : List Seen) (s : State) (t : Seen) → moves least (wants bottom) ts ≡ Some s → move least s t ≡ stops →
+    (rest : List Seen) (e : Expression) → Spells least (ts ++ t ∷ rest) e → ⊥
 expressions_end least ts s t is step rest e q =
     let r = reads_phrase least q.0 bottom q.2 q.1 in
-    let whole : moves least (wants bottom) (ts ++ t ∷ rest) ≡ Some r.end = subst (λ (l : List Seen). moves least (wants bottom) l ≡ Some r.end) q.3 (moves_goes least (wants bottom) r.end (spelled q.0) r.goes) in
+    let whole : moves least (wants bottom) (ts ++ t ∷ rest) ≡ Some r.end =
+    subst (λ (l : List Seen). moves least (wants bottom) l ≡ Some r.end) q.3 (moves_goes least (wants bottom) r.end (spelled q.0) r.goes) in
     let stuck : None ≡ Some r.end = sym (moves_split least (wants bottom) ts (t ∷ rest) s is ∙ moves_step least s t rest ∙ ap (moves_by least rest) step) ∙ whole in
     absurd cc
 
@@ -143,7 +148,8 @@ point_after [] p q pre stands is =
     let same : p ≡ q = cc in subst (λ (x : Point). StandsAt x (pre ++ [])) same (subst (λ (l : List Seen). StandsAt p l) (sym (append-nil pre)) stands)
 point_after (t ∷ ts) p q pre stands is = by (turn p t) refl (turn_fine p pre t stands) (λ next stands' is'. point_after ts next q (pre ++ t ∷ []) stands' is')
   where
-    by : (x : Turn) → turn p t ≡ x → FineTurn pre (pre ++ t ∷ []) x → ((next : Point) → StandsAt next (pre ++ t ∷ []) → turns next ts ≡ Some q → StandsAt q (pre ++ t ∷ [] ++ ts)) → StandsAt q (pre ++ t ∷ ts)
+    by : (x : Turn) → turn p t ≡ x → FineTurn pre (pre ++ t ∷ []) x →
+        ((next : Point) → StandsAt next (pre ++ t ∷ []) → turns next ts ≡ Some q → StandsAt q (pre ++ t ∷ [] ++ ts)) → StandsAt q (pre ++ t ∷ ts)
     by (on next) step fine go_on = subst (λ (l : List Seen). StandsAt q l) (append_assoc pre (t ∷ []) ts) (go_on next fine (sym (turns_step p t ts ∙ ap (turns_by ts) step) ∙ is))
     by (leaves statements) step fine go_on = let no_point : None ≡ Some q = sym (turns_step p t ts ∙ ap (turns_by ts) step) ∙ is in absurd cc
     by wrong step fine go_on = let no_point : None ≡ Some q = sym (turns_step p t ts ∙ ap (turns_by ts) step) ∙ is in absurd cc
@@ -189,7 +195,8 @@ statements_sound ts p t statements is step = by (turn p t) step (turn_fine p ts 
 pub statements_begun : (ts : List Seen) (p : Point) → turns body_begins ts ≡ Some p → (rest : List Seen) × (ss : StatementPhrases) × AreStatements ss × (all_written ss ≡ ts ++ rest)
 statements_begun ts p is = let b = fill_point p ts (body_stands ts p is) in (b.more, b.phrases, b.right, b.spells)
 
-pub statements_end : (ts : List Seen) (p : Point) (t : Seen) → turns body_begins ts ≡ Some p → goes_on (turn p t) ≡ false → (rest : List Seen) (ss : StatementPhrases) → AreStatements ss → all_written ss ≡ ts ++ t ∷ rest → ⊥
+pub statements_end : (ts : List Seen) (p : Point) (t : Seen) → turns body_begins ts ≡ Some p → goes_on (turn p t) ≡ false →
+    (rest : List Seen) (ss : StatementPhrases) → AreStatements ss → all_written ss ≡ ts ++ t ∷ rest → ⊥
 statements_end ts p t is stuck rest ss right spells = by (turn p t) refl stuck
   where
     by : (x : Turn) → turn p t ≡ x → goes_on x ≡ false → ⊥

@@ -6,12 +6,19 @@ use Rattle.prem_syntax.specs.declared.tree.Place.{Place}
 use Rattle.prem_text.specs.declared.lexing.token.token.Mark.TheVariants as m
 use Rattle.prem_text.specs.declared.lexing.token.token.Word.TheVariants as w
 use Rattle.prem_text.specs.Lexing.Token.Lexeme.{Lexeme, name, number, word, mark, end_of_text, Seen}
-use Rattle.prem_text.specs.Grammar.Slots.{left_bracket, plus_sign, minus_sign, minus_minus, minus_equal, the_if, the_for, the_bounded, the_in, the_out, the_return, the_void, the_range, the_predictable, the_region, the_int, the_short, the_signed, the_char, the_unsigned, the_end, Slot, left_parenthesis, right_parenthesis, left_brace, right_brace, right_bracket, semicolon, comma, equal_sign, plus_plus, plus_equal, comparison, step_sign, a_name, a_literal, the_else, the_while, fits}
+use Rattle.prem_text.specs.Grammar.Slots.{left_bracket, plus_sign, minus_sign, minus_minus, minus_equal, the_if, the_for, the_bounded, the_in, the_out, the_return, the_void}
+use Rattle.prem_text.specs.Grammar.Slots.{the_range, the_predictable, the_region, the_int, the_short, the_signed, the_char, the_unsigned, the_end, Slot, left_parenthesis}
+use Rattle.prem_text.specs.Grammar.Slots.{right_parenthesis, left_brace, right_brace, right_bracket, semicolon, comma, equal_sign, plus_plus, plus_equal, comparison, step_sign}
+use Rattle.prem_text.specs.Grammar.Slots.{a_name, a_literal, the_else, the_while, fits}
 use Rattle.prem_text.specs.Grammar.Statement.{Around, Use, for_output, for_high, Row, Point, least_of, rest_of_step}
 use Rattle.prem_text.specs.Grammar.Phrases.{Phrase, of_literal, spelled, IsExpression, IsRow}
-use Rattle.prem_text.specs.Grammar.StatementPhrases.{by_one_step, step_slots, to_name, to_element, up, arguments, StatementPhrase, of_block, of_if, of_else, of_for, of_while, of_output, of_call, of_call_to, of_assign, of_change, of_count, StatementPhrases, no_phrases, for_head, for_bound, statement_tail, IsStatement, AreStatements, written, all_written}
+use Rattle.prem_text.specs.Grammar.StatementPhrases.{by_one_step, step_slots, to_name, to_element, up, arguments, StatementPhrase, of_block, of_if, of_else, of_for, of_while}
+use Rattle.prem_text.specs.Grammar.StatementPhrases.{of_output, of_call, of_call_to, of_assign, of_change, of_count, StatementPhrases, no_phrases, for_head, for_bound}
+use Rattle.prem_text.specs.Grammar.StatementPhrases.{statement_tail, IsStatement, AreStatements, written, all_written}
 use Rattle.prem_text.proofs.GrammarLemmas.Sound.{begins_expression}
-use Rattle.prem_text.proofs.GrammarLemmas.Stand.{Opened, body_opened, block_opened, taken_opened, other_opened, while_opened, for_opened, RowIs, if_is, out_is, while_is, for_is, bound_is, sign_is, step_is, last_is, UseIs, output_is, condition_is, turns_is, low_is, high_is, index_is, value_is, change_is, argument_is, argument_to_is, StandsAt, at_between, at_else, at_row, at_expression, at_name, at_element}
+use Rattle.prem_text.proofs.GrammarLemmas.Stand.{Opened, body_opened, block_opened, taken_opened, other_opened, while_opened, for_opened, RowIs, if_is, out_is, while_is, for_is}
+use Rattle.prem_text.proofs.GrammarLemmas.Stand.{bound_is, sign_is, step_is, last_is, UseIs, output_is, condition_is, turns_is, low_is, high_is, index_is, value_is, change_is}
+use Rattle.prem_text.proofs.GrammarLemmas.Stand.{argument_is, argument_to_is, StandsAt, at_between, at_else, at_row, at_expression, at_name, at_element}
 use Rattle.prem_text.proofs.GrammarLemmas.Stand.{with_phrase, with_written, with_right}
 use Rattle.prem_text.proofs.GrammarLemmas.Turns.{sign_fits}
 
@@ -100,7 +107,14 @@ empty_right = ((refl, tt), tt, (refl, tt))
 -- ---- what is open is closed
 
 fill_around : (around : Around) (pre : List Seen) (s : StatementPhrase) → Opened around pre → IsStatement s → Begins (pre ++ written s)
-fill_around _ _ s (body_opened ss all) right = record { more = []; phrases = with_phrase ss s; right = with_right ss s all right; spells = with_written ss s ∙ sym (append-nil (all_written ss ++ written s)) }
+fill_around _ _ s (body_opened ss all) right =
+    record {
+      more = [];
+      phrases = with_phrase ss s;
+      right = with_right ss s all right;
+      spells = with_written ss s
+          ∙ sym (append-nil (all_written ss ++ written s));
+    }
 fill_around _ _ s (block_opened head ss around pre row all opened) right =
     let close = samples (right_brace ∷ []) in
     let whole = fill_around around pre (of_block head (with_phrase ss s) (samples (right_brace ∷ []))) opened (row, with_right ss s all right, (refl, tt)) in
@@ -110,7 +124,8 @@ fill_around _ _ s (block_opened head ss around pre row all opened) right =
 fill_around _ _ s (taken_opened head p close around pre row short shut opened) right =
     begins_same (pre ++ written (of_if head p close s)) _ (simp append_assoc) (fill_around around pre (of_if head p close s) opened (row, short, shut, right))
 fill_around _ _ s (other_opened head p close taken middle around pre row short shut first before parts opened) right =
-    begins_same (pre ++ written (of_else head p close taken middle s)) _ (simp append_assoc) (fill_around around pre (of_else head p close taken middle s) opened (row, short, shut, first, before, parts, right))
+    begins_same (pre ++ written (of_else head p close taken middle s)) _ (simp append_assoc)
+    (fill_around around pre (of_else head p close taken middle s) opened (row, short, shut, first, before, parts, right))
 fill_around _ _ s (while_opened head p close around pre row short shut opened) right =
     begins_same (pre ++ written (of_while head p close s)) _ (simp append_assoc) (fill_around around pre (of_while head p close s) opened (row, short, shut, right))
 fill_around _ _ s (for_opened head p bound q form step around pre row low parts high steps opened) right =
@@ -126,12 +141,16 @@ fill_with around pre before rest s opened right is =
 abbrev pub one_step : List Seen
 one_step = samples (step_slots by_one_step)
 
-fill_sign : (head : List Seen) (p : Phrase) (bound : List Seen) (q : Phrase) (all : List Seen) (around : Around) (pre : List Seen) → IsRow for_head head → IsExpression 1 p → IsRow for_bound bound → IsExpression 8 q →
+fill_sign : (head : List Seen) (p : Phrase) (bound : List Seen) (q : Phrase) (all : List Seen) (around : Around) (pre : List Seen) →
+    IsRow for_head head → IsExpression 1 p → IsRow for_bound bound → IsExpression 8 q →
     IsRow (semicolon ∷ a_name ∷ step_sign ∷ []) all → Opened around pre → Begins (pre ++ (head ++ spelled p ++ bound ++ spelled q ++ all))
 fill_sign head p bound q (t ∷ u ∷ v ∷ []) around pre row low parts high signs opened =
     let more = samples ((rest_of_step (t ∷ u ∷ v ∷ [])).0 ∷ (rest_of_step (t ∷ u ∷ v ∷ [])).1) in
-    let f = sign_fits t u v (samples ((rest_of_step (t ∷ u ∷ v ∷ [])).0 ∷ (rest_of_step (t ∷ u ∷ v ∷ [])).1)) signs.0 signs.1.0 signs.1.1.0 (samples_fit ((rest_of_step (t ∷ u ∷ v ∷ [])).0 ∷ (rest_of_step (t ∷ u ∷ v ∷ [])).1)) in
-    fill_with around pre _ (samples ((rest_of_step (t ∷ u ∷ v ∷ [])).0 ∷ (rest_of_step (t ∷ u ∷ v ∷ [])).1) ++ written empty_block) (of_for head p bound q f.0 (t ∷ u ∷ v ∷ samples ((rest_of_step (t ∷ u ∷ v ∷ [])).0 ∷ (rest_of_step (t ∷ u ∷ v ∷ [])).1)) empty_block) opened (row, low, parts, high, f.1, empty_right) (simp append_assoc)
+    let f = sign_fits t u v (samples ((rest_of_step (t ∷ u ∷ v ∷ [])).0 ∷ (rest_of_step (t ∷ u ∷ v ∷ [])).1)) signs.0 signs.1.0 signs.1.1.0
+    (samples_fit ((rest_of_step (t ∷ u ∷ v ∷ [])).0 ∷ (rest_of_step (t ∷ u ∷ v ∷ [])).1)) in
+    fill_with around pre _ (samples ((rest_of_step (t ∷ u ∷ v ∷ [])).0 ∷ (rest_of_step (t ∷ u ∷ v ∷ [])).1) ++ written empty_block)
+    (of_for head p bound q f.0 (t ∷ u ∷ v ∷ samples ((rest_of_step (t ∷ u ∷ v ∷ [])).0 ∷ (rest_of_step (t ∷ u ∷ v ∷ [])).1)) empty_block) opened
+    (row, low, parts, high, f.1, empty_right) (simp append_assoc)
 fill_sign head p bound q (t ∷ u ∷ v ∷ x ∷ rest) around pre row low parts high signs opened = absurd signs.1.1.1
 fill_sign head p bound q (t ∷ u ∷ []) around pre row low parts high signs opened = absurd signs.1.1
 fill_sign head p bound q (t ∷ []) around pre row low parts high signs opened = absurd signs.1
@@ -139,36 +158,51 @@ fill_sign head p bound q [] around pre row low parts high signs opened = absurd 
 
 fill_row : (row : Row) (before all : List Seen) (around : Around) (pre : List Seen) → RowIs row before all → Opened around pre → Begins (pre ++ (before ++ all))
 fill_row _ _ _ around pre (if_is all row) opened =
-    fill_with around pre _ (spelled zero_phrase ++ samples (right_parenthesis ∷ []) ++ written empty_block) (of_if all zero_phrase (samples (right_parenthesis ∷ [])) empty_block) opened (row, zero_short 1 (omega arith), (refl, tt), empty_right) (simp append_assoc)
+    fill_with around pre _ (spelled zero_phrase ++ samples (right_parenthesis ∷ []) ++ written empty_block)
+    (of_if all zero_phrase (samples (right_parenthesis ∷ [])) empty_block) opened (row, zero_short 1 (omega arith), (refl, tt), empty_right)
+    (simp append_assoc)
 fill_row _ _ _ around pre (out_is all row) opened =
-    fill_with around pre _ (spelled zero_phrase ++ samples statement_tail) (of_output all zero_phrase (samples statement_tail)) opened (row, zero_short 1 (omega arith), (refl, (refl, tt))) (simp append_assoc)
+    fill_with around pre _ (spelled zero_phrase ++ samples statement_tail) (of_output all zero_phrase (samples statement_tail)) opened
+    (row, zero_short 1 (omega arith), (refl, (refl, tt))) (simp append_assoc)
 fill_row _ _ _ around pre (while_is all row) opened =
-    fill_with around pre _ (spelled zero_phrase ++ samples (right_parenthesis ∷ []) ++ written empty_block) (of_while all zero_phrase (samples (right_parenthesis ∷ [])) empty_block) opened (row, zero_short 1 (omega arith), (refl, tt), empty_right) (simp append_assoc)
+    fill_with around pre _ (spelled zero_phrase ++ samples (right_parenthesis ∷ []) ++ written empty_block)
+    (of_while all zero_phrase (samples (right_parenthesis ∷ [])) empty_block) opened (row, zero_short 1 (omega arith), (refl, tt), empty_right)
+    (simp append_assoc)
 fill_row _ _ _ around pre (for_is all row) opened =
-    fill_with around pre _ (spelled zero_phrase ++ samples for_bound ++ spelled zero_phrase ++ one_step ++ written empty_block) (of_for all zero_phrase (samples for_bound) zero_phrase by_one_step one_step empty_block) opened
+    fill_with around pre _ (spelled zero_phrase ++ samples for_bound ++ spelled zero_phrase ++ one_step ++ written empty_block)
+    (of_for all zero_phrase (samples for_bound) zero_phrase by_one_step one_step empty_block) opened
     (row, zero_short 1 (omega arith), samples_fit for_bound, zero_short 8 (omega arith), samples_fit (step_slots by_one_step), empty_right) (simp append_assoc)
 fill_row _ _ _ around pre (bound_is head p all row short parts) opened =
-    fill_with around pre _ (spelled zero_phrase ++ one_step ++ written empty_block) (of_for head p all zero_phrase by_one_step one_step empty_block) opened (row, short, parts, zero_short 8 (omega arith), samples_fit (step_slots by_one_step), empty_right) (simp append_assoc)
+    fill_with around pre _ (spelled zero_phrase ++ one_step ++ written empty_block) (of_for head p all zero_phrase by_one_step one_step empty_block)
+    opened (row, short, parts, zero_short 8 (omega arith), samples_fit (step_slots by_one_step), empty_right) (simp append_assoc)
 fill_row _ _ _ around pre (sign_is head p bound q all row low parts high signs) opened = fill_sign head p bound q all around pre row low parts high signs opened
 fill_row _ _ _ around pre (step_is head p bound q form all row low parts high steps) opened =
     fill_with around pre _ (written empty_block) (of_for head p bound q form all empty_block) opened (row, low, parts, high, steps, empty_right) (simp append_assoc)
 fill_row _ _ _ around pre (last_is s before all right closed is) opened = fill_with around pre _ [] s opened right (is ∙ sym (append-nil (before ++ all)))
 
 fill_use : (u : Use) (before : List Seen) (p : Phrase) (around : Around) (pre : List Seen) → UseIs u before → IsExpression (least_of u) p → Opened around pre → Begins (pre ++ (before ++ spelled p))
-fill_use _ _ p around pre (output_is head row) short opened = fill_with around pre _ (samples statement_tail) (of_output head p (samples statement_tail)) opened (row, short, samples_fit statement_tail) refl
+fill_use _ _ p around pre (output_is head row) short opened =
+    fill_with around pre _ (samples statement_tail) (of_output head p (samples statement_tail)) opened (row, short, samples_fit statement_tail) refl
 fill_use _ _ p around pre (condition_is head row) short opened =
-    fill_with around pre _ (samples (right_parenthesis ∷ []) ++ written empty_block) (of_if head p (samples (right_parenthesis ∷ [])) empty_block) opened (row, short, (refl, tt), empty_right) (simp append_assoc)
+    fill_with around pre _ (samples (right_parenthesis ∷ []) ++ written empty_block) (of_if head p (samples (right_parenthesis ∷ [])) empty_block)
+    opened (row, short, (refl, tt), empty_right) (simp append_assoc)
 fill_use _ _ p around pre (turns_is head row) short opened =
-    fill_with around pre _ (samples (right_parenthesis ∷ []) ++ written empty_block) (of_while head p (samples (right_parenthesis ∷ [])) empty_block) opened (row, short, (refl, tt), empty_right) (simp append_assoc)
+    fill_with around pre _ (samples (right_parenthesis ∷ []) ++ written empty_block) (of_while head p (samples (right_parenthesis ∷ [])) empty_block)
+    opened (row, short, (refl, tt), empty_right) (simp append_assoc)
 fill_use _ _ p around pre (low_is head row) short opened =
     fill_with around pre _ (samples for_bound ++ spelled zero_phrase ++ one_step ++ written empty_block) (of_for head p (samples for_bound) zero_phrase by_one_step one_step empty_block) opened
     (row, short, samples_fit for_bound, zero_short 8 (omega arith), samples_fit (step_slots by_one_step), empty_right) (simp append_assoc)
 fill_use _ _ q around pre (high_is head p bound row short parts) high opened =
-    fill_with around pre _ (one_step ++ written empty_block) (of_for head p bound q by_one_step one_step empty_block) opened (row, short, parts, high, samples_fit (step_slots by_one_step), empty_right) (simp append_assoc)
+    fill_with around pre _ (one_step ++ written empty_block) (of_for head p bound q by_one_step one_step empty_block) opened
+    (row, short, parts, high, samples_fit (step_slots by_one_step), empty_right) (simp append_assoc)
 fill_use _ _ p around pre (index_is at text a) short opened =
-    fill_with around pre _ (samples (right_bracket ∷ []) ++ samples (plus_plus ∷ semicolon ∷ [])) (of_count (to_element at text a p origin) up (samples (plus_plus ∷ semicolon ∷ []))) opened (short, (refl, (refl, tt))) (simp append_assoc)
-fill_use _ _ p around pre (value_is g sign is row) short opened = fill_with around pre _ (samples (semicolon ∷ [])) (of_assign g sign p (samples (semicolon ∷ []))) opened (is, row, short, (refl, tt)) (simp append_assoc)
-fill_use _ _ p around pre (change_is g direction sign is row) short opened = fill_with around pre _ (samples (semicolon ∷ [])) (of_change g direction sign p (samples (semicolon ∷ []))) opened (is, row, short, (refl, tt)) (simp append_assoc)
+    fill_with around pre _ (samples (right_bracket ∷ []) ++ samples (plus_plus ∷ semicolon ∷ []))
+    (of_count (to_element at text a p origin) up (samples (plus_plus ∷ semicolon ∷ []))) opened (short, (refl, (refl, tt))) (simp append_assoc)
+fill_use _ _ p around pre (value_is g sign is row) short opened =
+    fill_with around pre _ (samples (semicolon ∷ [])) (of_assign g sign p (samples (semicolon ∷ []))) opened (is, row, short, (refl, tt)) (simp append_assoc)
+fill_use _ _ p around pre (change_is g direction sign is row) short opened =
+    fill_with around pre _ (samples (semicolon ∷ [])) (of_change g direction sign p (samples (semicolon ∷ []))) opened (is, row, short, (refl, tt))
+    (simp append_assoc)
 fill_use _ _ p around pre (argument_is head before row all) short opened =
     fill_with around pre _ (samples statement_tail) (of_call head (arguments before p) (samples statement_tail)) opened (row, (all, short), samples_fit statement_tail) (simp append_assoc)
 fill_use _ _ p around pre (argument_to_is head before row all) short opened =

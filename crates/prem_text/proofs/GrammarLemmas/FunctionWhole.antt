@@ -9,11 +9,20 @@ use Rattle.prem_text.specs.declared.lexing.token.token.Word.TheVariants as w
 use Rattle.prem_text.specs.Lexing.Token.Lexeme.{Lexeme, name, number, word, mark, end_of_text, Seen}
 use Rattle.prem_text.specs.Grammar.Expression.{bottom, State, wants, has, Move, goes, ends, stops, move}
 use Rattle.prem_text.specs.Grammar.Statement.{in_body, Point, Turn, on, turn, listed}
-use Rattle.prem_text.specs.Grammar.Item.{no_type, an_item, a_parameter, a_local, range_low, range_high, Value, local_value, result_value, body_row, range_row, local_row, end_row, Stage, in_row, in_type, behind_item, before_constant, behind_constant, before_parameter, on_parameter, behind_parameter, before_local, in_statements, in_value, ItemStep, ahead, made, refused, type_begins, with_parameter, with_range, parameter_ends, with_body, with_result, body_ends, statement_step, begins_type, value_ends, step}
+use Rattle.prem_text.specs.Grammar.Item.{no_type, an_item, a_parameter, a_local, range_low, range_high, Value, local_value, result_value, body_row, range_row, local_row, end_row}
+use Rattle.prem_text.specs.Grammar.Item.{Stage, in_row, in_type, behind_item, before_constant, behind_constant, before_parameter, on_parameter, behind_parameter, before_local}
+use Rattle.prem_text.specs.Grammar.Item.{in_statements, in_value, ItemStep, ahead, made, refused, type_begins, with_parameter, with_range, parameter_ends, with_body, with_result}
+use Rattle.prem_text.specs.Grammar.Item.{body_ends, statement_step, begins_type, value_ends, step}
 use Rattle.prem_text.specs.Grammar.Phrases.{Phrase, spelled, tree, level, IsExpression, IsRow, name_at, quiet, counted}
 use Rattle.prem_text.specs.Grammar.StatementPhrases.{StatementPhrases, AreStatements, all_written, all_meant, all_past}
-use Rattle.prem_text.specs.Grammar.ProgramPhrases.{TypeForm, void_type, int_type, short_type, signed_char_type, unsigned_type, unsigned_int_type, unsigned_short_type, unsigned_char_type, type_of, Declaration, IsDeclaration, declaration_tokens, constant_tree, MarkPhrase, mark_tokens, mark_tree, RangePhrase, IsRange, range_tokens, range_tree, ParameterPhrase, IsParameter, parameter_tokens, parameter_tree, PartedParameter, ParametersPhrase, of_void, of_parameters, is_void_form, begins_void, ArePartedParameters, AreParameters, parted_parameter_tokens, parted_parameter_trees, parameters_tokens, parameters_tree, LocalPhrase, AreLocals, local_tokens, local_trees, local_past, ResultPhrase, IsResult, result_tokens, result_tree, result_past, FunctionPhrase, IsFunction, of_function, item_tokens, item_past}
-use Rattle.prem_text.specs.Grammar.Slots.{Slot, left_parenthesis, right_parenthesis, left_brace, right_brace, semicolon, comma, equal_sign, the_return, the_void, the_range, fits, place_at, is_right_brace, is_semicolon, is_void, is_range}
+use Rattle.prem_text.specs.Grammar.ProgramPhrases.{TypeForm, void_type, int_type, short_type, signed_char_type, unsigned_type, unsigned_int_type, unsigned_short_type}
+use Rattle.prem_text.specs.Grammar.ProgramPhrases.{unsigned_char_type, type_of, Declaration, IsDeclaration, declaration_tokens, constant_tree, MarkPhrase, mark_tokens, mark_tree}
+use Rattle.prem_text.specs.Grammar.ProgramPhrases.{RangePhrase, IsRange, range_tokens, range_tree, ParameterPhrase, IsParameter, parameter_tokens, parameter_tree, PartedParameter}
+use Rattle.prem_text.specs.Grammar.ProgramPhrases.{ParametersPhrase, of_void, of_parameters, is_void_form, begins_void, ArePartedParameters, AreParameters, parted_parameter_tokens}
+use Rattle.prem_text.specs.Grammar.ProgramPhrases.{parted_parameter_trees, parameters_tokens, parameters_tree, LocalPhrase, AreLocals, local_tokens, local_trees, local_past}
+use Rattle.prem_text.specs.Grammar.ProgramPhrases.{ResultPhrase, IsResult, result_tokens, result_tree, result_past, FunctionPhrase, IsFunction, of_function, item_tokens, item_past}
+use Rattle.prem_text.specs.Grammar.Slots.{Slot, left_parenthesis, right_parenthesis, left_brace, right_brace, semicolon, comma, equal_sign, the_return, the_void, the_range, fits}
+use Rattle.prem_text.specs.Grammar.Slots.{place_at, is_right_brace, is_semicolon, is_void, is_range}
 use Rattle.prem_text.specs.Grammar.Law.{body_begins}
 use Rattle.prem_text.specs.Grammar.Law.{ends_body}
 use Rattle.prem_text.proofs.GrammarLemmas.Steps.{Goes, done, more, Same}
@@ -25,7 +34,17 @@ use Rattle.prem_text.proofs.GrammarLemmas.Exact.{body_frame, body_left, no_else}
 use Rattle.prem_text.proofs.GrammarLemmas.ItemWhole.{before_item, mark_runs, item_type, type_at, no_comma_at, ItemRead}
 
 abbrev pub opened_function : Option MarkPhrase → Declaration → List Parameter → List LocalVariable → FunctionText
-opened_function p d params locals = record { at = place_at 0 d.name_row; mark = mark_tree p; ty = type_of d.form; name = name_at 0 d.name_row; params = params; locals = locals; body = no_statements; result = None }
+opened_function p d params locals =
+    record {
+      at = place_at 0 d.name_row;
+      mark = mark_tree p;
+      ty = type_of d.form;
+      name = name_at 0 d.name_row;
+      params = params;
+      locals = locals;
+      body = no_statements;
+      result = None;
+    }
 
 -- ---- parameters
 
@@ -46,10 +65,12 @@ bare_ends f p t h = rw h refl
 range_middle : (f : FunctionText) (p : Parameter) (value : ℤ) (t : Seen) → fits comma t.0 ≡ true → step (behind_constant (range_low f p) value) t ≡ ahead (before_constant (range_high f p value) false)
 range_middle f p value t h = rw h refl
 
-range_closes : (f : FunctionText) (p : Parameter) (low value : ℤ) (t : Seen) → fits right_parenthesis t.0 ≡ true → step (behind_constant (range_high f p low) value) t ≡ ahead (behind_parameter (with_parameter f (with_range p low value)))
+range_closes : (f : FunctionText) (p : Parameter) (low value : ℤ) (t : Seen) → fits right_parenthesis t.0 ≡ true →
+    step (behind_constant (range_high f p low) value) t ≡ ahead (behind_parameter (with_parameter f (with_range p low value)))
 range_closes f p low value t h = rw h refl
 
-parameter_read : (f : FunctionText) (d : Declaration) (r : Option RangePhrase) (s : Stage) → IsDeclaration d → IsRange r → ((t : Seen) → fits (first_word d.form) t.0 ≡ true → step s t ≡ type_begins (a_parameter f) t) → ParameterRead f d r s
+parameter_read : (f : FunctionText) (d : Declaration) (r : Option RangePhrase) (s : Stage) → IsDeclaration d → IsRange r →
+    ((t : Seen) → fits (first_word d.form) t.0 ≡ true → step s t ≡ type_begins (a_parameter f) t) → ParameterRead f d r s
 parameter_read f d None s is ranged begins = record {
   stage = on_parameter f (parameter_of d None);
   runs = quietly _ _ (declaration_tokens d) [] (runs_append (declaration_runs d (a_parameter f) s is begins) (rest _));
@@ -57,11 +78,17 @@ parameter_read f d None s is ranged begins = record {
 }
 parameter_read f d (Some r) s is ranged begins =
     let p = parameter_of d None in
-    let head = row_from (on_parameter f (parameter_of d None)) (range_row f (parameter_of d None)) the_range left_parenthesis [] r.head (before_constant (range_low f (parameter_of d None)) false) (λ t h. range_begins f (parameter_of d None) t h) ranged.0 refl refl in
+    let head = row_from (on_parameter f (parameter_of d None)) (range_row f (parameter_of d None)) the_range left_parenthesis [] r.head
+    (before_constant (range_low f (parameter_of d None)) false) (λ t h. range_begins f (parameter_of d None) t h) ranged.0 refl refl in
     let low = constant_runs (range_low f (parameter_of d None)) (before_constant (range_low f (parameter_of d None)) false) r.low.negative r.low.row ranged.1 (λ t h. refl) in
-    let middle = one_runs (behind_constant (range_low f (parameter_of d None)) (constant_tree r.low)) comma r.middle (before_constant (range_high f (parameter_of d None) (constant_tree r.low)) false) (λ t h. range_middle f (parameter_of d None) (constant_tree r.low) t h) ranged.2 refl in
-    let high = constant_runs (range_high f (parameter_of d None) (constant_tree r.low)) (before_constant (range_high f (parameter_of d None) (constant_tree r.low)) false) r.high.negative r.high.row ranged.3 (λ t h. refl) in
-    let close = one_runs (behind_constant (range_high f (parameter_of d None) (constant_tree r.low)) (constant_tree r.high)) right_parenthesis r.close (behind_parameter (with_parameter f (parameter_of d (Some r)))) (λ t h. range_closes f (parameter_of d None) (constant_tree r.low) (constant_tree r.high) t h) ranged.4 refl in
+    let middle = one_runs (behind_constant (range_low f (parameter_of d None)) (constant_tree r.low)) comma r.middle
+    (before_constant (range_high f (parameter_of d None) (constant_tree r.low)) false)
+    (λ t h. range_middle f (parameter_of d None) (constant_tree r.low) t h) ranged.2 refl in
+    let high = constant_runs (range_high f (parameter_of d None) (constant_tree r.low))
+    (before_constant (range_high f (parameter_of d None) (constant_tree r.low)) false) r.high.negative r.high.row ranged.3 (λ t h. refl) in
+    let close = one_runs (behind_constant (range_high f (parameter_of d None) (constant_tree r.low)) (constant_tree r.high)) right_parenthesis r.close
+    (behind_parameter (with_parameter f (parameter_of d (Some r))))
+    (λ t h. range_closes f (parameter_of d None) (constant_tree r.low) (constant_tree r.high) t h) ranged.4 refl in
     let first = quietly _ _ r.head r.low.row (runs_append head low) in
     let second = quietly _ _ (r.head ++ r.low.row) r.middle (runs_append first middle) in
     let third = quietly _ _ (r.head ++ r.low.row ++ r.middle) r.high.row (runs_append second high) in
@@ -90,8 +117,10 @@ no_range slot _ is h = refl
 comma_next : (f : FunctionText) (t : Seen) → fits comma t.0 ≡ true → parameter_ends f t ≡ ahead (in_type (a_parameter f) no_type)
 comma_next f t h = rw h refl
 
-parameters_read : (p : Option MarkPhrase) (d : Declaration) (acc : List Parameter) (s : Stage) (allowed : TypeForm → Type 0) (before : List PartedParameter) (last : ParameterPhrase) → ArePartedParameters before → IsParameter last →
-    First allowed before last → ((form : TypeForm) (t : Seen) → allowed form → fits (first_word form) t.0 ≡ true → step s t ≡ type_begins (a_parameter (opened_function p d acc [])) t) → ParametersRead p d acc s before last
+parameters_read : (p : Option MarkPhrase) (d : Declaration) (acc : List Parameter) (s : Stage) (allowed : TypeForm → Type 0)
+    (before : List PartedParameter) (last : ParameterPhrase) → ArePartedParameters before → IsParameter last →
+    First allowed before last → ((form : TypeForm) (t : Seen) → allowed form → fits (first_word form) t.0 ≡ true →
+    step s t ≡ type_begins (a_parameter (opened_function p d acc [])) t) → ParametersRead p d acc s before last
 parameters_read p d acc s allowed [] last all is ok begins =
     let r = parameter_read (opened_function p d acc []) last.declaration last.range s is.0 is.1 (λ t h. begins last.declaration.form t ok h) in
     record { stage = r.stage; runs = r.runs; same = r.same }
@@ -99,13 +128,18 @@ parameters_read p d acc s allowed (q ∷ before) last all is ok begins =
     let r = parameter_read (opened_function p d acc []) q.0.declaration q.0.range s all.0.0 all.0.1 (λ t h. begins q.0.declaration.form t ok h) in
     let parts = one_runs r.stage comma q.1 (in_type (a_parameter (opened_function p d (acc ++ parameter_tree q.0 ∷ []) [])) no_type)
     (λ t h. r.same t (no_range comma t.0 refl h) ∙ comma_next (opened_function p d (acc ++ parameter_tree q.0 ∷ []) []) t h) all.1 refl in
-    let later = parameters_read p d (acc ++ parameter_tree q.0 ∷ []) (in_type (a_parameter (opened_function p d (acc ++ parameter_tree q.0 ∷ []) [])) no_type) (λ form. Unit {0}) before last all.2 is (anyway before last) (λ form t ok h. refl) in
-    let same_tokens : (parameter_tokens q.0 ++ q.1) ++ (parted_parameter_tokens before ++ parameter_tokens last) ≡ parameter_tokens q.0 ++ q.1 ++ parted_parameter_tokens before ++ parameter_tokens last = simp append_assoc in
+    let later = parameters_read p d (acc ++ parameter_tree q.0 ∷ [])
+    (in_type (a_parameter (opened_function p d (acc ++ parameter_tree q.0 ∷ []) [])) no_type) (λ form. Unit {0}) before last all.2 is
+    (anyway before last) (λ form t ok h. refl) in
+    let same_tokens : (parameter_tokens q.0 ++ q.1) ++ (parted_parameter_tokens before ++ parameter_tokens last) ≡ parameter_tokens q.0 ++ q.1
+    ++ parted_parameter_tokens before ++ parameter_tokens last = simp append_assoc in
     record {
       stage = later.stage;
       runs = subst (λ (l : List Seen). Runs s l (quiet l) later.stage) same_tokens
-          (quietly _ _ (parameter_tokens q.0 ++ q.1) (parted_parameter_tokens before ++ parameter_tokens last) (runs_append (quietly _ _ (parameter_tokens q.0) q.1 (runs_append r.runs parts)) later.runs));
-      same = λ t h. later.same t h ∙ ap (λ (l : List Parameter). parameter_ends (opened_function p d l []) t) (append_assoc acc (parameter_tree q.0 ∷ []) (parted_parameter_trees before ++ parameter_tree last ∷ []));
+          (quietly _ _ (parameter_tokens q.0 ++ q.1) (parted_parameter_tokens before ++ parameter_tokens last)
+          (runs_append (quietly _ _ (parameter_tokens q.0) q.1 (runs_append r.runs parts)) later.runs));
+      same = λ t h. later.same t h ∙ ap (λ (l : List Parameter). parameter_ends (opened_function p d l []) t)
+          (append_assoc acc (parameter_tree q.0 ∷ []) (parted_parameter_trees before ++ parameter_tree last ∷ []));
     }
   where
     anyway : (before : List PartedParameter) (last : ParameterPhrase) → First (λ form. Unit {0}) before last
@@ -139,13 +173,15 @@ void_begins f t h = rw h refl
 
 -- from the first parameter to the brace of the body
 head_closes : (p : Option MarkPhrase) (d : Declaration) (params : ParametersPhrase) (begins : List Seen) → AreParameters params → IsRow (right_parenthesis ∷ left_brace ∷ []) begins →
-    Runs (before_parameter (opened_function p d [] [])) (parameters_tokens params ++ begins) (quiet (parameters_tokens params) ++ quiet begins) (before_local (opened_function p d (parameters_tree params) []))
+    Runs (before_parameter (opened_function p d [] [])) (parameters_tokens params ++ begins) (quiet (parameters_tokens params) ++ quiet begins)
+    (before_local (opened_function p d (parameters_tree params) []))
 head_closes p d (of_void []) begins is row = absurd is
 head_closes p d (of_void (t ∷ u ∷ ts)) begins is row = absurd is.1
 head_closes p d (of_void (t ∷ [])) begins is row =
     forth _ _ _ t _ false _ (void_begins (opened_function p d [] []) t is.0) refl (row_runs (body_row (opened_function p d [] [])) (t ∷ []) right_parenthesis (left_brace ∷ []) begins _ row refl refl)
 head_closes p d (of_parameters before last) begins is row =
-    let r = parameters_read p d [] (before_parameter (opened_function p d [] [])) (λ form. is_void_form form ≡ false) before last is.0 is.1 (first_free before last is.2) (λ form t v h. parameter_type (opened_function p d [] []) form t v h) in
+    let r = parameters_read p d [] (before_parameter (opened_function p d [] [])) (λ form. is_void_form form ≡ false) before last is.0 is.1
+    (first_free before last is.2) (λ form t v h. parameter_type (opened_function p d [] []) form t v h) in
     runs_append r.runs (row_from r.stage (body_row (opened_function p d (parted_parameter_trees before ++ parameter_tree last ∷ []) [])) right_parenthesis left_brace [] begins _
     (λ t h. r.same t (no_range right_parenthesis t.0 refl h) ∙ parameters_close (opened_function p d (parted_parameter_trees before ++ parameter_tree last ∷ []) []) t h) row refl refl)
 
@@ -184,7 +220,8 @@ pub record ValueRead (v : Value) (p : Phrase) : Type 0 where
   runs : Runs (in_value v (wants bottom) 257) (spelled p) (counted 1 (spelled p)) stage
   ends : (t : Seen) → fits semicolon t.0 ≡ true → step stage t ≡ value_ends v (tree p) t
 
-value_closes : (v : Value) (p : Phrase) (end : State) (room : ℕ) (x : Lexeme) (at : Place) → fits semicolon x ≡ true → Same 1 (level p) end (has (tree p) bottom) → step (in_value v end room) (x, at) ≡ value_ends v (tree p) (x, at)
+value_closes : (v : Value) (p : Phrase) (end : State) (room : ℕ) (x : Lexeme) (at : Place) → fits semicolon x ≡ true →
+    Same 1 (level p) end (has (tree p) bottom) → step (in_value v end room) (x, at) ≡ value_ends v (tree p) (x, at)
 value_closes v p end room (mark m.Semicolon) at h same = value_step v end room (mark m.Semicolon, at) _ (same (mark m.Semicolon) at (refl, tt))
 value_closes v p end room (mark _) at h same = absurd cc
 value_closes v p end room _ at h same = absurd cc
@@ -202,16 +239,21 @@ local_type f form t h = rw (type_at form t.0 h).3 refl
 
 locals_read : (p : Option MarkPhrase) (d : Declaration) (params : List Parameter) (acc : List LocalVariable) (locals : List LocalPhrase) → AreLocals locals →
     Runs (before_local (opened_function p d params acc)) (local_tokens locals) (local_past locals) (before_local (opened_function p d params (acc ++ local_trees locals)))
-locals_read p d params acc [] all = subst (λ (l : List LocalVariable). Runs (before_local (opened_function p d params acc)) [] [] (before_local (opened_function p d params l))) (sym (append-nil acc)) (rest _)
+locals_read p d params acc [] all =
+    subst (λ (l : List LocalVariable). Runs (before_local (opened_function p d params acc)) [] [] (before_local (opened_function p d params l)))
+    (sym (append-nil acc)) (rest _)
 locals_read p d params acc (l ∷ locals) all =
     let f = opened_function p d params acc in
     let v = local_value (opened_function p d params acc) (type_of l.declaration.form) (place_at 0 l.declaration.name_row) (name_at 0 l.declaration.name_row) in
     let found : LocalVariable = record { at = place_at 0 l.declaration.name_row; ty = type_of l.declaration.form; name = name_at 0 l.declaration.name_row; value = tree l.value } in
-    let begun = declaration_runs l.declaration (a_local (opened_function p d params acc)) (before_local (opened_function p d params acc)) all.0 (λ t h. local_type (opened_function p d params acc) l.declaration.form t h) in
-    let sign = row_runs (local_row (opened_function p d params acc) (type_of l.declaration.form) (place_at 0 l.declaration.name_row) (name_at 0 l.declaration.name_row)) [] equal_sign [] l.sign _ all.1 refl refl in
+    let begun = declaration_runs l.declaration (a_local (opened_function p d params acc)) (before_local (opened_function p d params acc)) all.0
+    (λ t h. local_type (opened_function p d params acc) l.declaration.form t h) in
+    let sign = row_runs (local_row (opened_function p d params acc) (type_of l.declaration.form) (place_at 0 l.declaration.name_row)
+    (name_at 0 l.declaration.name_row)) [] equal_sign [] l.sign _ all.1 refl refl in
     let r = value_read v l.value all.2 in
     let tail = one_runs r.stage semicolon l.tail (before_local (opened_function p d params (acc ++ found ∷ []))) r.ends all.3 refl in
-    let later = subst (λ (x : List LocalVariable). Runs (before_local (opened_function p d params (acc ++ found ∷ []))) (local_tokens locals) (local_past locals) (before_local (opened_function p d params x)))
+    let later = subst (λ (x : List LocalVariable). Runs (before_local (opened_function p d params (acc ++ found ∷ []))) (local_tokens locals)
+    (local_past locals) (before_local (opened_function p d params x)))
     (append_assoc acc (found ∷ []) (local_trees locals)) (locals_read p d params (acc ++ found ∷ []) locals all.4) in
     runs_append (runs_append (runs_append (runs_append begun sign) r.runs) tail) later
 
@@ -303,7 +345,8 @@ pub record Closed (f : FunctionText) (e : Expression) (s : Stage) (ts : List See
   runs : Runs s ts (quiet ts) stage
   ends : (t : Seen) → fits right_brace t.0 ≡ true → step stage t ≡ made (function_item (with_result f e))
 
-result_closes : (f : FunctionText) (e : Expression) (s : Stage) (ts : List Seen) → IsRow (semicolon ∷ []) ts → ((t : Seen) → fits semicolon t.0 ≡ true → step s t ≡ value_ends (result_value f) e t) → Closed f e s ts
+result_closes : (f : FunctionText) (e : Expression) (s : Stage) (ts : List Seen) → IsRow (semicolon ∷ []) ts →
+    ((t : Seen) → fits semicolon t.0 ≡ true → step s t ≡ value_ends (result_value f) e t) → Closed f e s ts
 result_closes f e s [] fit last = absurd fit
 result_closes f e s (t ∷ u ∷ ts) fit last = absurd fit.1
 result_closes f e s (t ∷ []) fit last = record {
@@ -312,7 +355,8 @@ result_closes f e s (t ∷ []) fit last = record {
   ends = λ u h. end_closes (with_result f e) (t ∷ []) u h;
 }
 
-result_read : (p : Option MarkPhrase) (d : Declaration) (params : List Parameter) (locals : List LocalVariable) (ss : StatementPhrases) (r : Option ResultPhrase) → AreStatements ss → IsResult r → ResultRead (opened_function p d params locals) ss r
+result_read : (p : Option MarkPhrase) (d : Declaration) (params : List Parameter) (locals : List LocalVariable) (ss : StatementPhrases)
+    (r : Option ResultPhrase) → AreStatements ss → IsResult r → ResultRead (opened_function p d params locals) ss r
 result_read p d params locals ss None right is =
     let b = body_read (opened_function p d params locals) ss right in
     record {
@@ -348,19 +392,28 @@ function_read f is = tail f.tail is.8 refl
     tail (t ∷ []) fit same =
         let marked_runs = mark_runs f.mark is.0 in
         let named = declaration_runs f.declaration (an_item (mark_tree f.mark)) (before_item f.mark) is.1 (λ t h. item_type f.mark f.declaration.form t h) in
-        let opened = one_runs (behind_item (mark_tree f.mark) (type_of f.declaration.form) (place_at 0 f.declaration.name_row) (name_at 0 f.declaration.name_row)) left_parenthesis f.opening _ (λ t h. parenthesis_begins f.mark f.declaration t h) is.2 refl in
+        let opened = one_runs (behind_item (mark_tree f.mark) (type_of f.declaration.form) (place_at 0 f.declaration.name_row)
+        (name_at 0 f.declaration.name_row)) left_parenthesis f.opening _ (λ t h. parenthesis_begins f.mark f.declaration t h) is.2 refl in
         let head = head_closes f.mark f.declaration f.params f.begins is.3 is.4 in
         let locals = locals_read f.mark f.declaration (parameters_tree f.params) [] f.locals is.5 in
         let ending = result_read f.mark f.declaration (parameters_tree f.params) (local_trees f.locals) f.body f.result is.6 is.7 in
-        let front = mark_tokens f.mark ++ declaration_tokens f.declaration ++ f.opening ++ (parameters_tokens f.params ++ f.begins) ++ local_tokens f.locals ++ (all_written f.body ++ result_tokens f.result) in
-        let spelled_so : item_tokens (of_function f) ≡ mark_tokens f.mark ++ declaration_tokens f.declaration ++ f.opening ++ (parameters_tokens f.params ++ f.begins) ++ local_tokens f.locals ++ (all_written f.body ++ result_tokens f.result) ++ t ∷ [] =
-        ap (λ (l : List Seen). mark_tokens f.mark ++ declaration_tokens f.declaration ++ f.opening ++ parameters_tokens f.params ++ f.begins ++ local_tokens f.locals ++ all_written f.body ++ result_tokens f.result ++ l) same ∙ simp append_assoc in
-        let limited_so : item_past (of_function f) ≡ quiet (mark_tokens f.mark) ++ quiet (declaration_tokens f.declaration) ++ quiet f.opening ++ (quiet (parameters_tokens f.params) ++ quiet f.begins) ++ local_past f.locals ++ (all_past 1 f.body ++ result_past f.result) ++ false ∷ [] =
-        ap (λ (l : List Seen). quiet (mark_tokens f.mark) ++ quiet (declaration_tokens f.declaration) ++ quiet f.opening ++ quiet (parameters_tokens f.params) ++ quiet f.begins ++ local_past f.locals ++ all_past 1 f.body ++ result_past f.result ++ quiet l) same ∙ simp append_assoc in
+        let front = mark_tokens f.mark ++ declaration_tokens f.declaration ++ f.opening ++ (parameters_tokens f.params ++ f.begins)
+        ++ local_tokens f.locals ++ (all_written f.body ++ result_tokens f.result) in
+        let spelled_so : item_tokens (of_function f) ≡ mark_tokens f.mark ++ declaration_tokens f.declaration ++ f.opening
+        ++ (parameters_tokens f.params ++ f.begins) ++ local_tokens f.locals ++ (all_written f.body ++ result_tokens f.result) ++ t ∷ [] =
+        ap (λ (l : List Seen). mark_tokens f.mark ++ declaration_tokens f.declaration ++ f.opening ++ parameters_tokens f.params ++ f.begins
+        ++ local_tokens f.locals ++ all_written f.body ++ result_tokens f.result ++ l) same ∙ simp append_assoc in
+        let limited_so : item_past (of_function f) ≡ quiet (mark_tokens f.mark) ++ quiet (declaration_tokens f.declaration) ++ quiet f.opening
+        ++ (quiet (parameters_tokens f.params) ++ quiet f.begins) ++ local_past f.locals ++ (all_past 1 f.body ++ result_past f.result) ++ false ∷ [] =
+        ap (λ (l : List Seen). quiet (mark_tokens f.mark) ++ quiet (declaration_tokens f.declaration) ++ quiet f.opening
+        ++ quiet (parameters_tokens f.params) ++ quiet f.begins ++ local_past f.locals ++ all_past 1 f.body ++ result_past f.result ++ quiet l)
+        same ∙ simp append_assoc in
         record {
-          front = mark_tokens f.mark ++ declaration_tokens f.declaration ++ f.opening ++ (parameters_tokens f.params ++ f.begins) ++ local_tokens f.locals ++ (all_written f.body ++ result_tokens f.result);
+          front = mark_tokens f.mark ++ declaration_tokens f.declaration ++ f.opening ++ (parameters_tokens f.params ++ f.begins)
+              ++ local_tokens f.locals ++ (all_written f.body ++ result_tokens f.result);
           last = t;
-          flags = quiet (mark_tokens f.mark) ++ quiet (declaration_tokens f.declaration) ++ quiet f.opening ++ (quiet (parameters_tokens f.params) ++ quiet f.begins) ++ local_past f.locals ++ (all_past 1 f.body ++ result_past f.result);
+          flags = quiet (mark_tokens f.mark) ++ quiet (declaration_tokens f.declaration) ++ quiet f.opening
+              ++ (quiet (parameters_tokens f.params) ++ quiet f.begins) ++ local_past f.locals ++ (all_past 1 f.body ++ result_past f.result);
           stage = ending.stage;
           tokens = spelled_so;
           limits = limited_so;

@@ -7,10 +7,14 @@ use Rattle.prem_syntax.specs.Syntax.{Text}
 use Rattle.prem_text.specs.declared.lexing.token.token.Mark.TheVariants as m
 use Rattle.prem_text.specs.declared.lexing.token.token.Word.TheVariants as w
 use Rattle.prem_text.specs.Lexing.Token.Lexeme.{Lexeme, name, number, word, mark, end_of_text, Seen}
-use Rattle.prem_text.specs.Grammar.Slots.{Slot, minus_sign, a_name, a_literal, the_void, the_int, the_short, the_signed, the_char, the_unsigned, fits, text_of, value_at, place_at, is_left_brace, is_name, is_literal}
-use Rattle.prem_text.specs.Grammar.Item.{Typing, no_type, after_signed, after_unsigned, a_type, type_in, Declared, an_item, a_parameter, a_local, Constant, ItemRow, Stage, in_row, in_type, before_constant, behind_constant, ahead, refused, declared, type_or_name, type_begins, constant_of, constant, row_ends, row_goes_on, step, is_too_deep}
+use Rattle.prem_text.specs.Grammar.Slots.{Slot, minus_sign, a_name, a_literal, the_void, the_int, the_short, the_signed, the_char, the_unsigned, fits, text_of, value_at, place_at}
+use Rattle.prem_text.specs.Grammar.Slots.{is_left_brace, is_name, is_literal}
+use Rattle.prem_text.specs.Grammar.Item.{Typing, no_type, after_signed, after_unsigned, a_type, type_in, Declared, an_item, a_parameter, a_local, Constant, ItemRow, Stage, in_row}
+use Rattle.prem_text.specs.Grammar.Item.{in_type, before_constant, behind_constant, ahead, refused, declared, type_or_name, type_begins, constant_of, constant, row_ends}
+use Rattle.prem_text.specs.Grammar.Item.{row_goes_on, step, is_too_deep}
 use Rattle.prem_text.specs.Grammar.Phrases.{IsRow, name_at, name_or_none, quiet}
-use Rattle.prem_text.specs.Grammar.ProgramPhrases.{TypeForm, void_type, int_type, short_type, signed_char_type, unsigned_type, unsigned_int_type, unsigned_short_type, unsigned_char_type, type_slots, type_of, Declaration, IsDeclaration, declaration_tokens, constant_slots, constant_value}
+use Rattle.prem_text.specs.Grammar.ProgramPhrases.{TypeForm, void_type, int_type, short_type, signed_char_type, unsigned_type, unsigned_int_type, unsigned_short_type}
+use Rattle.prem_text.specs.Grammar.ProgramPhrases.{unsigned_char_type, type_slots, type_of, Declaration, IsDeclaration, declaration_tokens, constant_slots, constant_value}
 
 -- a stage reads all of these tokens, and no item ends with one of them
 pub data Runs : Stage → List Seen → List Bool → Stage → Type 0 where
@@ -29,7 +33,8 @@ quiet_append (t ∷ ts) ys = ap (λ (l : List Bool). false ∷ l) (quiet_append 
 pub quietly : (s end : Stage) (xs ys : List Seen) → Runs s (xs ++ ys) (quiet xs ++ quiet ys) end → Runs s (xs ++ ys) (quiet (xs ++ ys)) end
 quietly s end xs ys r = subst (λ (l : List Bool). Runs s (xs ++ ys) l end) (sym (quiet_append xs ys)) r
 
-pub row_runs : (row : ItemRow) (got : List Seen) (wanted : Slot) (later : List Slot) (ts : List Seen) (end : Stage) → IsRow (wanted ∷ later) ts → row_ends row (got ++ ts) ≡ ahead end → is_too_deep end ≡ false →
+pub row_runs : (row : ItemRow) (got : List Seen) (wanted : Slot) (later : List Slot) (ts : List Seen) (end : Stage) → IsRow (wanted ∷ later) ts →
+    row_ends row (got ++ ts) ≡ ahead end → is_too_deep end ≡ false →
     Runs (in_row row got wanted later) ts (quiet ts) end
 row_runs row got wanted [] [] end fit is flag = absurd fit
 row_runs row got wanted [] (t ∷ u ∷ ts) end fit is flag = absurd fit.1
@@ -46,13 +51,16 @@ row_runs row got wanted (slot ∷ later) (t ∷ ts) end fit is flag =
     fitting row got t wanted later h = rw h refl
 
 -- a row that a stage begins
-pub row_from : (s : Stage) (row : ItemRow) (first wanted : Slot) (later : List Slot) (ts : List Seen) (end : Stage) → ((t : Seen) → fits first t.0 ≡ true → step s t ≡ ahead (in_row row (t ∷ []) wanted later)) →
+pub row_from : (s : Stage) (row : ItemRow) (first wanted : Slot) (later : List Slot) (ts : List Seen) (end : Stage) →
+    ((t : Seen) → fits first t.0 ≡ true → step s t ≡ ahead (in_row row (t ∷ []) wanted later)) →
     IsRow (first ∷ wanted ∷ later) ts → row_ends row ts ≡ ahead end → is_too_deep end ≡ false → Runs s ts (quiet ts) end
 row_from s row first wanted later [] end begins fit is flag = absurd fit
-row_from s row first wanted later (t ∷ ts) end begins fit is flag = forth _ (in_row row (t ∷ []) wanted later) _ t ts false _ (begins t fit.0) refl (row_runs row (t ∷ []) wanted later ts end fit.1 is flag)
+row_from s row first wanted later (t ∷ ts) end begins fit is flag =
+    forth _ (in_row row (t ∷ []) wanted later) _ t ts false _ (begins t fit.0) refl (row_runs row (t ∷ []) wanted later ts end fit.1 is flag)
 
 -- one token
-pub one_runs : (s : Stage) (slot : Slot) (ts : List Seen) (end : Stage) → ((t : Seen) → fits slot t.0 ≡ true → step s t ≡ ahead end) → IsRow (slot ∷ []) ts → is_too_deep end ≡ false → Runs s ts (quiet ts) end
+pub one_runs : (s : Stage) (slot : Slot) (ts : List Seen) (end : Stage) → ((t : Seen) → fits slot t.0 ≡ true → step s t ≡ ahead end) →
+    IsRow (slot ∷ []) ts → is_too_deep end ≡ false → Runs s ts (quiet ts) end
 one_runs s slot [] end is fit flag = absurd fit
 one_runs s slot (t ∷ u ∷ ts) end is fit flag = absurd fit.1
 one_runs s slot (t ∷ []) end is fit flag = forth _ end _ t [] false [] (is t fit.0) flag (rest end)
@@ -138,22 +146,30 @@ words_run short_type d s (t ∷ []) row begins = forth _ _ _ t [] false [] (begi
 words_run short_type d s (t ∷ u ∷ ts) row begins = absurd row.1
 words_run signed_char_type d s [] row begins = absurd row
 words_run signed_char_type d s (t ∷ []) row begins = absurd row.1
-words_run signed_char_type d s (t ∷ u ∷ []) row begins = forth _ (in_type d after_signed) _ t _ false _ (begins t row.0 ∙ signed_begins d t.0 t.1 row.0) refl (forth _ _ _ u [] false [] (after_signed_char d u.0 u.1 row.1.0) refl (rest _))
+words_run signed_char_type d s (t ∷ u ∷ []) row begins =
+    forth _ (in_type d after_signed) _ t _ false _ (begins t row.0 ∙ signed_begins d t.0 t.1 row.0) refl
+    (forth _ _ _ u [] false [] (after_signed_char d u.0 u.1 row.1.0) refl (rest _))
 words_run signed_char_type d s (t ∷ u ∷ v ∷ ts) row begins = absurd row.1.1
 words_run unsigned_type d s [] row begins = absurd row
 words_run unsigned_type d s (t ∷ []) row begins = forth _ _ _ t [] false [] (begins t row.0 ∙ unsigned_begins d t.0 t.1 row.0) refl (rest _)
 words_run unsigned_type d s (t ∷ u ∷ ts) row begins = absurd row.1
 words_run unsigned_int_type d s [] row begins = absurd row
 words_run unsigned_int_type d s (t ∷ []) row begins = absurd row.1
-words_run unsigned_int_type d s (t ∷ u ∷ []) row begins = forth _ (in_type d after_unsigned) _ t _ false _ (begins t row.0 ∙ unsigned_begins d t.0 t.1 row.0) refl (forth _ _ _ u [] false [] (after_unsigned_int d u.0 u.1 row.1.0) refl (rest _))
+words_run unsigned_int_type d s (t ∷ u ∷ []) row begins =
+    forth _ (in_type d after_unsigned) _ t _ false _ (begins t row.0 ∙ unsigned_begins d t.0 t.1 row.0) refl
+    (forth _ _ _ u [] false [] (after_unsigned_int d u.0 u.1 row.1.0) refl (rest _))
 words_run unsigned_int_type d s (t ∷ u ∷ v ∷ ts) row begins = absurd row.1.1
 words_run unsigned_short_type d s [] row begins = absurd row
 words_run unsigned_short_type d s (t ∷ []) row begins = absurd row.1
-words_run unsigned_short_type d s (t ∷ u ∷ []) row begins = forth _ (in_type d after_unsigned) _ t _ false _ (begins t row.0 ∙ unsigned_begins d t.0 t.1 row.0) refl (forth _ _ _ u [] false [] (after_unsigned_short d u.0 u.1 row.1.0) refl (rest _))
+words_run unsigned_short_type d s (t ∷ u ∷ []) row begins =
+    forth _ (in_type d after_unsigned) _ t _ false _ (begins t row.0 ∙ unsigned_begins d t.0 t.1 row.0) refl
+    (forth _ _ _ u [] false [] (after_unsigned_short d u.0 u.1 row.1.0) refl (rest _))
 words_run unsigned_short_type d s (t ∷ u ∷ v ∷ ts) row begins = absurd row.1.1
 words_run unsigned_char_type d s [] row begins = absurd row
 words_run unsigned_char_type d s (t ∷ []) row begins = absurd row.1
-words_run unsigned_char_type d s (t ∷ u ∷ []) row begins = forth _ (in_type d after_unsigned) _ t _ false _ (begins t row.0 ∙ unsigned_begins d t.0 t.1 row.0) refl (forth _ _ _ u [] false [] (after_unsigned_char d u.0 u.1 row.1.0) refl (rest _))
+words_run unsigned_char_type d s (t ∷ u ∷ []) row begins =
+    forth _ (in_type d after_unsigned) _ t _ false _ (begins t row.0 ∙ unsigned_begins d t.0 t.1 row.0) refl
+    (forth _ _ _ u [] false [] (after_unsigned_char d u.0 u.1 row.1.0) refl (rest _))
 words_run unsigned_char_type d s (t ∷ u ∷ v ∷ ts) row begins = absurd row.1.1
 
 type_known : (form : TypeForm) → type_in (typing_of form) ≡ Some (type_of form)
@@ -171,7 +187,8 @@ declared_quiet (an_item annotation) ty at x = refl
 declared_quiet (a_parameter f) ty at x = refl
 declared_quiet (a_local f) ty at x = refl
 
-name_declares : (d : Declared) (typing : Typing) (ty : Ty) (x : Lexeme) (at : Place) → type_in typing ≡ Some ty → is_name x ≡ true → type_or_name d typing at x ≡ ahead (declared d ty at (name_or_none (text_of x)))
+name_declares : (d : Declared) (typing : Typing) (ty : Ty) (x : Lexeme) (at : Place) → type_in typing ≡ Some ty → is_name x ≡ true →
+    type_or_name d typing at x ≡ ahead (declared d ty at (name_or_none (text_of x)))
 name_declares d typing ty (name x) at is h = ap (λ (o : Option Ty). elim o [ Some ty' ↦ ahead (declared d ty' at x) | None ↦ refused ]) is
 name_declares d typing ty (number v k) at is h = absurd cc
 name_declares d typing ty (word x) at is h = absurd cc
@@ -186,11 +203,13 @@ declaration_runs e d s is begins =
     names : (row : List Seen) → IsRow (a_name ∷ []) row → Runs (in_type d (typing_of e.form)) row (quiet row) (declared d (type_of e.form) (place_at 0 row) (name_at 0 row))
     names [] fit = absurd fit
     names (t ∷ u ∷ ts) fit = absurd fit.1
-    names (t ∷ []) fit = forth _ _ _ t [] false [] (name_declares d (typing_of e.form) (type_of e.form) t.0 t.1 (type_known e.form) fit.0) (declared_quiet d (type_of e.form) t.1 (name_or_none (text_of t.0))) (rest _)
+    names (t ∷ []) fit = forth _ _ _ t [] false [] (name_declares d (typing_of e.form) (type_of e.form) t.0 t.1 (type_known e.form) fit.0)
+        (declared_quiet d (type_of e.form) t.1 (name_or_none (text_of t.0))) (rest _)
 
 -- ---- constants
 
-pub literal_read : (c : Constant) (negative : Bool) (x : Lexeme) → is_literal x ≡ true → constant c negative x ≡ ahead (behind_constant c (constant_of negative (value_at 0 ((x, record { line = 0; col = 0 }) ∷ []))))
+pub literal_read : (c : Constant) (negative : Bool) (x : Lexeme) → is_literal x ≡ true →
+    constant c negative x ≡ ahead (behind_constant c (constant_of negative (value_at 0 ((x, record { line = 0; col = 0 }) ∷ []))))
 literal_read c negative (number v k) h = refl
 literal_read c negative (name x) h = absurd cc
 literal_read c negative (word x) h = absurd cc
@@ -216,4 +235,5 @@ constant_runs c s true [] fit begins = absurd fit
 constant_runs c s true (t ∷ []) fit begins = absurd fit.1
 constant_runs c s true (t ∷ u ∷ v ∷ ts) fit begins = absurd fit.1.1
 constant_runs c s true (t ∷ u ∷ []) fit begins =
-    forth _ (before_constant c true) _ t _ false _ (begins t (no_brace minus_sign t.0 refl fit.0) ∙ minus_read c t.0 fit.0) refl (forth _ _ _ u [] false [] (literal_read c true u.0 fit.1.0) refl (rest _))
+    forth _ (before_constant c true) _ t _ false _ (begins t (no_brace minus_sign t.0 refl fit.0) ∙ minus_read c t.0 fit.0) refl
+    (forth _ _ _ u [] false [] (literal_read c true u.0 fit.1.0) refl (rest _))

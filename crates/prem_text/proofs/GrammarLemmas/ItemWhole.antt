@@ -7,10 +7,18 @@ use Rattle.prem_syntax.specs.Syntax.{Text, RegionText, MarkText, InitialValue, a
 use Rattle.prem_text.specs.declared.lexing.token.token.Mark.TheVariants as m
 use Rattle.prem_text.specs.declared.lexing.token.token.Word.TheVariants as w
 use Rattle.prem_text.specs.Lexing.Token.Lexeme.{Lexeme, word, mark, Seen}
-use Rattle.prem_text.specs.Grammar.Item.{an_item, only_value, next_value, mark_row, region_row, length_row, global_row, Stage, outside, marked, in_row, behind_item, behind_global, before_initial, before_constant, behind_constant, ahead, made, refused, type_begins, scalar, with_initial, constant, begins_type, with_region, row_ends, step}
+use Rattle.prem_text.specs.Grammar.Item.{an_item, only_value, next_value, mark_row, region_row, length_row, global_row, Stage, outside, marked, in_row, behind_item, behind_global}
+use Rattle.prem_text.specs.Grammar.Item.{before_initial, before_constant, behind_constant, ahead, made, refused, type_begins, scalar, with_initial, constant, begins_type}
+use Rattle.prem_text.specs.Grammar.Item.{with_region, row_ends, step}
 use Rattle.prem_text.specs.Grammar.Phrases.{IsRow, name_at, quiet}
-use Rattle.prem_text.specs.Grammar.ProgramPhrases.{TypeForm, void_type, int_type, short_type, signed_char_type, unsigned_type, unsigned_int_type, unsigned_short_type, unsigned_char_type, type_of, Declaration, declaration_tokens, constant_tree, PartedConstant, InitialPhrase, no_initial, one_initial, many_initial, ArePartedConstants, IsInitial, constants_tokens, constants_tree, initial_tokens, initial_tree, IsLength, length_tokens, length_tree, GlobalPhrase, IsGlobal, MarkPhrase, AreRegions, region_tokens, region_trees, IsMark, mark_tokens, mark_tree, ItemPhrase, of_global, item_tokens, item_tree, item_past}
-use Rattle.prem_text.specs.Grammar.Slots.{Slot, left_parenthesis, right_parenthesis, left_brace, right_brace, left_bracket, right_bracket, semicolon, comma, equal_sign, a_name, a_literal, the_predictable, the_region, fits, value_at, place_at, is_left_parenthesis, is_left_bracket, is_left_brace, is_comma, is_equal, is_predictable, is_region, is_end}
+use Rattle.prem_text.specs.Grammar.ProgramPhrases.{TypeForm, void_type, int_type, short_type, signed_char_type, unsigned_type, unsigned_int_type, unsigned_short_type}
+use Rattle.prem_text.specs.Grammar.ProgramPhrases.{unsigned_char_type, type_of, Declaration, declaration_tokens, constant_tree, PartedConstant, InitialPhrase, no_initial}
+use Rattle.prem_text.specs.Grammar.ProgramPhrases.{one_initial, many_initial, ArePartedConstants, IsInitial, constants_tokens, constants_tree, initial_tokens, initial_tree}
+use Rattle.prem_text.specs.Grammar.ProgramPhrases.{IsLength, length_tokens, length_tree, GlobalPhrase, IsGlobal, MarkPhrase, AreRegions, region_tokens, region_trees, IsMark}
+use Rattle.prem_text.specs.Grammar.ProgramPhrases.{mark_tokens, mark_tree, ItemPhrase, of_global, item_tokens, item_tree, item_past}
+use Rattle.prem_text.specs.Grammar.Slots.{Slot, left_parenthesis, right_parenthesis, left_brace, right_brace, left_bracket, right_bracket, semicolon, comma, equal_sign, a_name}
+use Rattle.prem_text.specs.Grammar.Slots.{a_literal, the_predictable, the_region, fits, value_at, place_at, is_left_parenthesis, is_left_bracket, is_left_brace, is_comma, is_equal}
+use Rattle.prem_text.specs.Grammar.Slots.{is_predictable, is_region, is_end}
 use Rattle.prem_text.proofs.GrammarLemmas.Taken.{name_in_row}
 use Rattle.prem_text.proofs.GrammarLemmas.ItemTaken.{Runs, rest, forth, runs_append, quiet_append, quietly, row_from, one_runs, first_word, declaration_runs, constant_runs}
 
@@ -31,7 +39,10 @@ region_in row = record { at = place_at 2 row; name = name_at 2 row; low = value_
 
 pub region_ends : (annotation : MarkText) (row : List Seen) → IsRow region_slots row → row_ends (region_row annotation) row ≡ ahead (marked (with_region annotation (region_in row)))
 region_ends annotation row fit =
-    ap (λ (o : Option Text). elim o [ Some x ↦ ahead (marked (with_region annotation record { at = place_at 2 row; name = x; low = value_at 4 row; high = value_at 6 row })) | None ↦ refused ]) (name_in_row 2 region_slots row refl fit)
+    ap (λ (o : Option Text). elim o [
+      | Some x ↦ ahead (marked (with_region annotation record { at = place_at 2 row; name = x; low = value_at 4 row; high = value_at 6 row }))
+      | None ↦ refused
+    ]) (name_in_row 2 region_slots row refl fit)
 
 regions_run : (head : List Seen) (acc : List RegionText) (rows : List (List Seen)) → AreRegions rows →
     Runs (marked (mark_text head acc)) (region_tokens rows) (quiet (region_tokens rows)) (marked (mark_text head (acc ++ region_trees rows)))
@@ -57,7 +68,8 @@ pub mark_runs : (p : Option MarkPhrase) → IsMark p → Runs outside (mark_toke
 mark_runs None is = rest _
 mark_runs (Some p) is =
     quietly _ _ p.head (region_tokens p.regions)
-    (runs_append (row_from outside mark_row the_predictable left_parenthesis (a_literal ∷ right_parenthesis ∷ []) p.head (marked (mark_text p.head [])) (λ t h. predictable_begins t.0 t.1 h) is.0 refl refl)
+    (runs_append (row_from outside mark_row the_predictable left_parenthesis (a_literal ∷ right_parenthesis ∷ []) p.head
+    (marked (mark_text p.head [])) (λ t h. predictable_begins t.0 t.1 h) is.0 refl refl)
     (regions_run p.head [] p.regions is.1))
 
 -- the first word of a type is no other word that may stand there
@@ -99,7 +111,8 @@ pub record ItemRead (i : ItemPhrase) : Type 0 where
   pub runs : Runs outside front flags stage
   pub ends : step stage last ≡ made (item_tree i)
 
-bracket_begins : (ty : Ty) (at : Place) (x : Text) (t : Seen) → fits left_bracket t.0 ≡ true → is_left_parenthesis t.0 ≡ false → step (behind_item None ty at x) t ≡ ahead (in_row (length_row (scalar ty at x)) (t ∷ []) a_literal (right_bracket ∷ []))
+bracket_begins : (ty : Ty) (at : Place) (x : Text) (t : Seen) → fits left_bracket t.0 ≡ true → is_left_parenthesis t.0 ≡ false →
+    step (behind_item None ty at x) t ≡ ahead (in_row (length_row (scalar ty at x)) (t ∷ []) a_literal (right_bracket ∷ []))
 bracket_begins ty at x t h other = rw (other, h) refl
 
 no_parenthesis : (slot : Slot) (x : Lexeme) → fits slot (mark m.OpenParenthesis) ≡ false → fits slot x ≡ true → is_left_parenthesis x ≡ false
@@ -149,7 +162,8 @@ constants_run : (g : GlobalVariable) (acc : List ℤ) (before : List PartedConst
     Runs (before_constant (next_value g acc) false) (constants_tokens before) (quiet (constants_tokens before)) (before_constant (next_value g (acc ++ constants_tree before)) false)
 constants_run g acc [] all = subst (λ (l : List ℤ). Runs (before_constant (next_value g acc) false) [] [] (before_constant (next_value g l) false)) (sym (append-nil acc)) (rest _)
 constants_run g acc (c ∷ before) all =
-    let later = subst (λ (l : List ℤ). Runs (before_constant (next_value g (acc ++ constant_tree c.0 ∷ [])) false) (constants_tokens before) (quiet (constants_tokens before)) (before_constant (next_value g l) false))
+    let later = subst (λ (l : List ℤ). Runs (before_constant (next_value g (acc ++ constant_tree c.0 ∷ [])) false) (constants_tokens before)
+    (quiet (constants_tokens before)) (before_constant (next_value g l) false))
     (append_assoc acc (constant_tree c.0 ∷ []) (constants_tree before)) (constants_run g (acc ++ constant_tree c.0 ∷ []) before all.2) in
     let value = constant_runs (next_value g acc) (before_constant (next_value g acc) false) c.0.negative c.0.row all.0 (λ t h. refl) in
     let parts = one_runs (behind_constant (next_value g acc) (constant_tree c.0)) comma c.1 (before_constant (next_value g (acc ++ constant_tree c.0 ∷ [])) false) (λ t h. rw h refl) all.1 refl in
@@ -157,7 +171,8 @@ constants_run g acc (c ∷ before) all =
 
 pub record Valued (d : Declaration) (len : Option (List Seen)) (initial : InitialPhrase) : Type 0 where
   stage : Stage
-  runs : Runs (behind_item None (type_of d.form) (place_at 0 d.name_row) (name_at 0 d.name_row)) (length_tokens len ++ initial_tokens initial) (quiet (length_tokens len ++ initial_tokens initial)) stage
+  runs : Runs (behind_item None (type_of d.form) (place_at 0 d.name_row) (name_at 0 d.name_row)) (length_tokens len ++ initial_tokens initial)
+      (quiet (length_tokens len ++ initial_tokens initial)) stage
   closed : (t : Seen) → fits semicolon t.0 ≡ true → step stage t ≡ made (global_item (global_of d (length_tree len) (initial_tree initial)))
 
 value_closed : (g : GlobalVariable) (value : ℤ) (t : Seen) → fits semicolon t.0 ≡ true → step (behind_constant (only_value g) value) t ≡ made (global_item (with_initial g (one value)))
@@ -184,7 +199,8 @@ initial_read d len (one_initial sign k) sized is =
     let s = length_read d len sized in
     let g = global_of d (length_tree len) absent in
     let opened = one_runs s.stage equal_sign sign (before_initial (global_of d (length_tree len) absent)) s.equal is.0 refl in
-    let value = constant_runs (only_value (global_of d (length_tree len) absent)) (before_initial (global_of d (length_tree len) absent)) k.negative k.row is.1 (λ t h. single_begins (global_of d (length_tree len) absent) t h) in
+    let value = constant_runs (only_value (global_of d (length_tree len) absent)) (before_initial (global_of d (length_tree len) absent))
+    k.negative k.row is.1 (λ t h. single_begins (global_of d (length_tree len) absent) t h) in
     record {
       stage = behind_constant (only_value (global_of d (length_tree len) absent)) (constant_tree k);
       runs = quietly _ _ (length_tokens len) (sign ++ k.row) (runs_append s.runs (quietly _ _ sign k.row (runs_append opened value)));
@@ -199,10 +215,14 @@ initial_read d len (many_initial (a ∷ b ∷ []) before last (z ∷ [])) sized 
     let s = length_read d len sized in
     let g0 = global_of d (length_tree len) absent in
     let head : Runs s.stage (a ∷ b ∷ []) (false ∷ false ∷ []) (before_constant (next_value (global_of d (length_tree len) absent) []) false) =
-    forth _ (before_initial (global_of d (length_tree len) absent)) _ a _ false _ (s.equal a is.0.0) refl (forth _ _ _ b [] false [] (list_begins (global_of d (length_tree len) absent) b is.0.1.0) refl (rest _)) in
+    forth _ (before_initial (global_of d (length_tree len) absent)) _ a _ false _ (s.equal a is.0.0) refl
+    (forth _ _ _ b [] false [] (list_begins (global_of d (length_tree len) absent) b is.0.1.0) refl (rest _)) in
     let listed_all = constants_run (global_of d (length_tree len) absent) [] before is.1 in
-    let value = constant_runs (next_value (global_of d (length_tree len) absent) (constants_tree before)) (before_constant (next_value (global_of d (length_tree len) absent) (constants_tree before)) false) last.negative last.row is.2 (λ t h. refl) in
-    let ending : Runs (behind_constant (next_value (global_of d (length_tree len) absent) (constants_tree before)) (constant_tree last)) (z ∷ []) (false ∷ []) (in_row (global_row (with_initial (global_of d (length_tree len) absent) (many (constants_tree before ++ constant_tree last ∷ [])))) (z ∷ []) semicolon []) =
+    let value = constant_runs (next_value (global_of d (length_tree len) absent) (constants_tree before))
+    (before_constant (next_value (global_of d (length_tree len) absent) (constants_tree before)) false) last.negative last.row is.2 (λ t h. refl) in
+    let ending : Runs (behind_constant (next_value (global_of d (length_tree len) absent) (constants_tree before)) (constant_tree last)) (z ∷ [])
+    (false ∷ []) (in_row (global_row
+    (with_initial (global_of d (length_tree len) absent) (many (constants_tree before ++ constant_tree last ∷ [])))) (z ∷ []) semicolon []) =
     forth _ _ _ z [] false [] (brace_closes (global_of d (length_tree len) absent) (constants_tree before) (constant_tree last) z is.3.0) refl (rest _) in
     let first = quietly _ _ (a ∷ b ∷ []) (constants_tokens before) (runs_append head listed_all) in
     let second = quietly _ _ ((a ∷ b ∷ []) ++ constants_tokens before) last.row (runs_append first value) in

@@ -8,7 +8,9 @@ use Rattle.prem_text.specs.Lexing.Token.Lexeme.{Lexeme, mark, Seen}
 use Rattle.prem_text.specs.Grammar.Slots.{right_brace, value_at, place_at, is_else, is_right_brace}
 use Rattle.prem_text.specs.Grammar.Statement.{Around, in_block, in_taken, in_other, in_while, in_for, Point, between, may_else, on, ended, is_at_most, turn, listed}
 use Rattle.prem_text.specs.Grammar.Phrases.{tree, name_at, quiet, opening}
-use Rattle.prem_text.specs.Grammar.StatementPhrases.{step_size, argument_tokens, argument_past, StatementPhrase, of_block, of_if, of_else, of_for, of_while, of_output, of_call, of_input, of_call_to, of_assign, of_change, of_count, StatementPhrases, no_phrases, next_phrase, IsStatement, AreStatements, ends_open, written, all_written, meant, all_meant, loop_names, past, all_past}
+use Rattle.prem_text.specs.Grammar.StatementPhrases.{step_size, argument_tokens, argument_past, StatementPhrase, of_block, of_if, of_else, of_for, of_while, of_output, of_call}
+use Rattle.prem_text.specs.Grammar.StatementPhrases.{of_input, of_call_to, of_assign, of_change, of_count, StatementPhrases, no_phrases, next_phrase, IsStatement, AreStatements}
+use Rattle.prem_text.specs.Grammar.StatementPhrases.{ends_open, written, all_written, meant, all_meant, loop_names, past, all_past}
 use Rattle.prem_text.proofs.GrammarLemmas.Taken.{Turns, stay, go, turns_append, depth_of, ended_quiet, first_brace, nest_flag}
 use Rattle.prem_text.proofs.GrammarLemmas.TakenWhole.{output_reads, if_reads, while_reads, for_reads, arguments_read}
 use Rattle.prem_text.proofs.GrammarLemmas.TakenAll.{call_begins, call_to_begins, input_reads, assign_reads, change_reads, count_reads, settle_same, plain_append, plain_slot, plain_statement, agree}
@@ -58,7 +60,8 @@ mutual
       let all = reads_statements inner (λ before. in_block h.1 before around) (suc (depth_of around)) [] record { adds = λ s before t. refl; deep = λ before. refl } right.1 in
       let last = all.same t (plain_slot right_brace t.0 refl right.2.0) ∙ brace_ends h.1 (all_meant inner) around t.0 t.1 right.2.0 in
       plainly (of_block (h ∷ []) inner (t ∷ [])) around _
-      (turns_append (go _ (between (in_block h.1 [] around)) _ h _ _ _ (first_brace around h.0 h.1 right.0.0) (nest_flag around) all.turns) (go _ _ _ t [] false [] last (ended_quiet _ around) (stay _))) refl
+      (turns_append (go _ (between (in_block h.1 [] around)) _ h _ _ _ (first_brace around h.0 h.1 right.0.0) (nest_flag around) all.turns)
+      (go _ _ _ t [] false [] last (ended_quiet _ around) (stay _))) refl
   reads_statement (of_if head condition close taken) around right =
       let inner = reads_statement taken (in_taken (place_at 0 head) (tree condition) around) right.3 in
       record {
@@ -90,12 +93,16 @@ mutual
   reads_statement (of_output head value tail) around right = plainly (of_output head value tail) around _ (output_reads head value tail around right) refl
   reads_statement (of_call head given tail) around right =
       plainly (of_call head given tail) around _
-      (subst (λ (l : List Seen × List Bool). Turns (between around) l.0 l.1 (ended (meant (of_call head given tail)) around)) (pairs _ _ _ _ (sym (append_assoc head (argument_tokens given) tail)) (sym (append_assoc (opening (suc (depth_of around)) head) (argument_past given) (quiet tail))))
+      (subst (λ (l : List Seen × List Bool). Turns (between around) l.0 l.1 (ended (meant (of_call head given tail)) around))
+      (pairs _ _ _ _ (sym (append_assoc head (argument_tokens given) tail))
+      (sym (append_assoc (opening (suc (depth_of around)) head) (argument_past given) (quiet tail))))
       (turns_append (call_begins around head right.0) (arguments_read (place_at 0 head) None (name_at 0 head) given tail around right.1 right.2))) refl
   reads_statement (of_input row) around right = plainly (of_input row) around _ (input_reads around row right) refl
   reads_statement (of_call_to head given tail) around right =
       plainly (of_call_to head given tail) around _
-      (subst (λ (l : List Seen × List Bool). Turns (between around) l.0 l.1 (ended (meant (of_call_to head given tail)) around)) (pairs _ _ _ _ (sym (append_assoc head (argument_tokens given) tail)) (sym (append_assoc (opening (suc (depth_of around)) head) (argument_past given) (quiet tail))))
+      (subst (λ (l : List Seen × List Bool). Turns (between around) l.0 l.1 (ended (meant (of_call_to head given tail)) around))
+      (pairs _ _ _ _ (sym (append_assoc head (argument_tokens given) tail))
+      (sym (append_assoc (opening (suc (depth_of around)) head) (argument_past given) (quiet tail))))
       (turns_append (call_to_begins around head right.0) (arguments_read (place_at 0 head) (Some (name_at 0 head)) (name_at 2 head) given tail around right.1 right.2))) refl
   reads_statement (of_assign g sign value tail) around right = plainly (of_assign g sign value tail) around _ (assign_reads g sign value tail around right) refl
   reads_statement (of_change g direction sign value tail) around right = plainly (of_change g direction sign value tail) around _ (change_reads g direction sign value tail around right) refl

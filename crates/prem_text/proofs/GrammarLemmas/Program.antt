@@ -10,7 +10,8 @@ use Rattle.prem_text.specs.Grammar.Slots.{the_end, fits}
 use Rattle.prem_text.specs.Grammar.Item.{Stage, outside, finished, ItemStep, ahead, made, refused, step, is_too_deep}
 use Rattle.prem_text.specs.Grammar.Reader.{unless_deep, at_end, read_on, read}
 use Rattle.prem_text.specs.Grammar.Phrases.{IsRow, quiet}
-use Rattle.prem_text.specs.Grammar.ProgramPhrases.{ItemPhrase, of_global, of_function, IsItem, item_tokens, item_tree, item_past, AreItems, items_tokens, items_tree, items_past, ProgramPhrase, IsProgram, program_tokens, program_tree, program_past}
+use Rattle.prem_text.specs.Grammar.ProgramPhrases.{ItemPhrase, of_global, of_function, IsItem, item_tokens, item_tree, item_past, AreItems, items_tokens, items_tree, items_past}
+use Rattle.prem_text.specs.Grammar.ProgramPhrases.{ProgramPhrase, IsProgram, program_tokens, program_tree, program_past}
 use Rattle.prem_text.specs.Grammar.Law.{stages, depths, are_within}
 use Rattle.prem_text.proofs.GrammarLemmas.ItemTaken.{Runs, rest, forth}
 use Rattle.prem_text.proofs.GrammarLemmas.ItemWhole.{ItemRead, global_read}
@@ -60,7 +61,8 @@ read_step items s t ts x is = by (step s t) ∙ ap (read_by items t ts) is
 
 -- ---- programs of the grammar
 
-runs_stages : (items : List ItemText) (s end : Stage) (ts ys : List Seen) (bs : List Bool) → Runs s ts bs end → (stages items s (ts ++ ys) ≡ stages items end ys) × (depths s (ts ++ ys) ≡ bs ++ depths end ys)
+runs_stages : (items : List ItemText) (s end : Stage) (ts ys : List Seen) (bs : List Bool) → Runs s ts bs end →
+    (stages items s (ts ++ ys) ≡ stages items end ys) × (depths s (ts ++ ys) ≡ bs ++ depths end ys)
 runs_stages items s _ _ ys _ (rest _) = (refl, refl)
 runs_stages items s end _ ys _ (forth _ mid _ t ts b bs is flag later) =
     let r = runs_stages items mid end ts ys bs later in (
@@ -103,7 +105,9 @@ reached items s = (items, s)
 pub program_stages : (p : ProgramPhrase) → IsProgram p → (stages [] outside (program_tokens p) ≡ Some (reached (program_tree p) finished)) × (depths outside (program_tokens p) ≡ program_past p)
 program_stages p is = ending p.end is.1 (items_stages [] p.items p.end is.0)
   where
-    ending : (ts : List Seen) → IsRow (the_end ∷ []) ts → (stages [] outside (items_tokens p.items ++ ts) ≡ stages (items_tree p.items) outside ts) × (depths outside (items_tokens p.items ++ ts) ≡ items_past p.items ++ depths outside ts) →
+    ending : (ts : List Seen) → IsRow (the_end ∷ []) ts →
+        (stages [] outside (items_tokens p.items ++ ts) ≡ stages (items_tree p.items) outside ts)
+        × (depths outside (items_tokens p.items ++ ts) ≡ items_past p.items ++ depths outside ts) →
         (stages [] outside (items_tokens p.items ++ ts) ≡ Some (reached (items_tree p.items) finished)) × (depths outside (items_tokens p.items ++ ts) ≡ items_past p.items ++ quiet ts)
     ending [] fit both = absurd fit
     ending (t ∷ u ∷ ts) fit both = absurd fit.1
@@ -131,7 +135,9 @@ pub read_whole : (ts : List Seen) (items : List ItemText) (s : Stage) (q : Reach
 read_whole [] items s q is within = ap (λ (r : Reached). at_end r.0 r.1) (some_same items s q is)
 read_whole (t ∷ ts) items s q is within = by (step s t) refl (λ items' next is' inside. read_whole ts items' next q is' inside)
   where
-    by : (x : ItemStep) → step s t ≡ x → ((items' : List ItemText) (next : Stage) → stages items' next ts ≡ Some q → are_within (depths next ts) ≡ true → read_on items' next ts ≡ at_end q.0 q.1) → read_on items s (t ∷ ts) ≡ at_end q.0 q.1
+    by : (x : ItemStep) → step s t ≡ x →
+        ((items' : List ItemText) (next : Stage) → stages items' next ts ≡ Some q → are_within (depths next ts) ≡ true →
+        read_on items' next ts ≡ at_end q.0 q.1) → read_on items s (t ∷ ts) ≡ at_end q.0 q.1
     by (ahead next) is' go_on =
         let inside : are_within (is_too_deep next ∷ depths next ts) ≡ true = sym (ap are_within (depths_step s t ts (ahead next) is')) ∙ within in
         let both = first_within (is_too_deep next) (depths next ts) inside in
@@ -152,14 +158,17 @@ pub stages_split : (xs ys : List Seen) (items : List ItemText) (s : Stage) (q : 
 stages_split [] ys items s q is = ap (λ (r : Reached). stages r.0 r.1 ys) (some_same items s q is)
 stages_split (t ∷ ts) ys items s q is = by (step s t) refl (λ items' next is'. stages_split ts ys items' next q is')
   where
-    by : (x : ItemStep) → step s t ≡ x → ((items' : List ItemText) (next : Stage) → stages items' next ts ≡ Some q → stages items' next (ts ++ ys) ≡ stages q.0 q.1 ys) → stages items s (t ∷ (ts ++ ys)) ≡ stages q.0 q.1 ys
+    by : (x : ItemStep) → step s t ≡ x →
+        ((items' : List ItemText) (next : Stage) → stages items' next ts ≡ Some q → stages items' next (ts ++ ys) ≡ stages q.0 q.1 ys) →
+        stages items s (t ∷ (ts ++ ys)) ≡ stages q.0 q.1 ys
     by (ahead next) is' go_on = stages_step items s t (ts ++ ys) (ahead next) is' ∙ go_on items next (sym (stages_step items s t ts (ahead next) is') ∙ is)
     by (made item) is' go_on = stages_step items s t (ts ++ ys) (made item) is' ∙ go_on (items ++ item ∷ []) outside (sym (stages_step items s t ts (made item) is') ∙ is)
     by refused is' go_on = let none : None ≡ Some q = sym (stages_step items s t ts refused is') ∙ is in absurd cc
 
 -- ---- the first token past a limit
 
-deep_at : (good : List Seen) (items : List ItemText) (s : Stage) (t : Seen) (more later : List Seen) (bs : List Bool) → depths s (good ++ t ∷ more) ≡ quiet good ++ true ∷ bs → read_on items s (good ++ t ∷ later) ≡ too_deep t.1
+deep_at : (good : List Seen) (items : List ItemText) (s : Stage) (t : Seen) (more later : List Seen) (bs : List Bool) →
+    depths s (good ++ t ∷ more) ≡ quiet good ++ true ∷ bs → read_on items s (good ++ t ∷ later) ≡ too_deep t.1
 deep_at [] items s t more later bs is = by (step s t) refl
   where
     by : (x : ItemStep) → step s t ≡ x → read_on items s (t ∷ later) ≡ too_deep t.1
@@ -171,7 +180,9 @@ deep_at [] items s t more later bs is = by (step s t) refl
     by refused is' = let same : [] ≡ true ∷ bs = sym (depths_step s t more refused is') ∙ is in absurd cc
 deep_at (g ∷ good) items s t more later bs is = by (step s g) refl (λ items' next is'. deep_at good items' next t more later bs is')
   where
-    by : (x : ItemStep) → step s g ≡ x → ((items' : List ItemText) (next : Stage) → depths next (good ++ t ∷ more) ≡ quiet good ++ true ∷ bs → read_on items' next (good ++ t ∷ later) ≡ too_deep t.1) → read_on items s (g ∷ (good ++ t ∷ later)) ≡ too_deep t.1
+    by : (x : ItemStep) → step s g ≡ x →
+        ((items' : List ItemText) (next : Stage) → depths next (good ++ t ∷ more) ≡ quiet good ++ true ∷ bs →
+        read_on items' next (good ++ t ∷ later) ≡ too_deep t.1) → read_on items s (g ∷ (good ++ t ∷ later)) ≡ too_deep t.1
     by (ahead next) is' go_on =
         let same : is_too_deep next ∷ depths next (good ++ t ∷ more) ≡ false ∷ (quiet good ++ true ∷ bs) = sym (depths_step s g (good ++ t ∷ more) (ahead next) is') ∙ is in
         let flag : is_too_deep next ≡ false = cc in
@@ -183,6 +194,7 @@ deep_at (g ∷ good) items s t more later bs is = by (step s g) refl (λ items' 
         read_step items s g (good ++ t ∷ later) (made item) is' ∙ go_on (items ++ item ∷ []) outside others
     by refused is' go_on = let same : [] ≡ false ∷ (quiet good ++ true ∷ bs) = sym (depths_step s g (good ++ t ∷ more) refused is') ∙ is in absurd cc
 
-pub programs_deep : (p : ProgramPhrase) (good : List Seen) (t : Seen) (more later : List Seen) (bs : List Bool) → IsProgram p → program_tokens p ≡ good ++ t ∷ more → program_past p ≡ quiet good ++ true ∷ bs → read (good ++ t ∷ later) ≡ too_deep t.1
+pub programs_deep : (p : ProgramPhrase) (good : List Seen) (t : Seen) (more later : List Seen) (bs : List Bool) → IsProgram p →
+    program_tokens p ≡ good ++ t ∷ more → program_past p ≡ quiet good ++ true ∷ bs → read (good ++ t ∷ later) ≡ too_deep t.1
 programs_deep p good t more later bs is spells past =
     deep_at good [] outside t more later bs (subst (λ (l : List Seen). depths outside l ≡ quiet good ++ true ∷ bs) spells ((program_stages p is).1 ∙ past))

@@ -22,7 +22,9 @@ begins_far items s pre far = by (fill_stage s far.mid far.stage)
       more = b.more ++ samples (the_end ∷ []);
       phrase = record { items = far.phrases ++ b.phrase ∷ []; end = samples (the_end ∷ []) };
       right = (more_are_items far.phrases b.phrase far.right b.right, (refl, tt));
-      tokens = ap (λ (l : List Seen). l ++ samples (the_end ∷ [])) (more_item_tokens far.phrases b.phrase ∙ ap (λ (l : List Seen). items_tokens far.phrases ++ l) b.tokens ∙ sym (append_assoc (items_tokens far.phrases) far.mid b.more)
+      tokens = ap (λ (l : List Seen). l ++ samples (the_end ∷ []))
+          (more_item_tokens far.phrases b.phrase ∙ ap (λ (l : List Seen). items_tokens far.phrases ++ l) b.tokens
+          ∙ sym (append_assoc (items_tokens far.phrases) far.mid b.more)
           ∙ ap (λ (l : List Seen). l ++ b.more) far.tokens) ∙ append_assoc pre b.more (samples (the_end ∷ []));
     }
     by (inr row) = record { more = []; phrase = record { items = far.phrases; end = far.mid }; right = (far.right, row); tokens = far.tokens ∙ sym (append-nil pre) }
@@ -32,7 +34,8 @@ far_by : (items : List ItemText) (s : Stage) (pre : List Seen) (t : Seen) (ts : 
 far_by items s pre t ts q (ahead next) is far went go_on =
     subst (λ (l : List Seen). SoFar q.0 q.1 l) (append_assoc pre (t ∷ []) ts) (go_on items next (far_ahead items s next pre t far is) (sym (stages_step items s t ts (ahead next) is) ∙ went))
 far_by items s pre t ts q (made item) is far went go_on =
-    subst (λ (l : List Seen). SoFar q.0 q.1 l) (append_assoc pre (t ∷ []) ts) (go_on (items ++ item ∷ []) outside (far_made items item s pre t far is) (sym (stages_step items s t ts (made item) is) ∙ went))
+    subst (λ (l : List Seen). SoFar q.0 q.1 l) (append_assoc pre (t ∷ []) ts)
+    (go_on (items ++ item ∷ []) outside (far_made items item s pre t far is) (sym (stages_step items s t ts (made item) is) ∙ went))
 far_by items s pre t ts q refused is far went go_on = let none : None ≡ Some q = sym (stages_step items s t ts refused is) ∙ went in absurd cc
 
 far_on : (ts : List Seen) (items : List ItemText) (s : Stage) (pre : List Seen) (q : Reached) → SoFar items s pre → stages items s ts ≡ Some q → SoFar q.0 q.1 (pre ++ ts)

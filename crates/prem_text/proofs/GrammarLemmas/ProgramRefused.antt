@@ -19,7 +19,9 @@ depths_split : (xs ys : List Seen) (items : List ItemText) (s : Stage) (q : Reac
 depths_split [] ys items s q went = ap (λ (r : Reached). depths r.1 ys) (some_same items s q went)
 depths_split (t ∷ ts) ys items s q went = by (step s t) refl (λ more next went'. depths_split ts ys more next q went')
   where
-    by : (x : ItemStep) → step s t ≡ x → ((more : List ItemText) (next : Stage) → stages more next ts ≡ Some q → depths next (ts ++ ys) ≡ depths next ts ++ depths q.1 ys) → depths s (t ∷ (ts ++ ys)) ≡ depths s (t ∷ ts) ++ depths q.1 ys
+    by : (x : ItemStep) → step s t ≡ x →
+        ((more : List ItemText) (next : Stage) → stages more next ts ≡ Some q → depths next (ts ++ ys) ≡ depths next ts ++ depths q.1 ys) →
+        depths s (t ∷ (ts ++ ys)) ≡ depths s (t ∷ ts) ++ depths q.1 ys
     by (ahead next) is go_on =
         depths_step s t (ts ++ ys) (ahead next) is ∙ ap (λ (l : List Bool). is_too_deep next ∷ l) (go_on items next (sym (stages_step items s t ts (ahead next) is) ∙ went))
         ∙ ap (λ (l : List Bool). l ++ depths q.1 ys) (sym (depths_step s t ts (ahead next) is))
@@ -37,10 +39,12 @@ record Took (good : List Seen) (items : List ItemText) (s : Stage) : Type 0 wher
   went : stages [] outside good ≡ Some (reached items s)
   within : depths outside good ≡ quiet good
 
-took_more : (good : List Seen) (items more : List ItemText) (s next : Stage) (t : Seen) → Took good items s → stages items s (t ∷ []) ≡ Some (reached more next) → depths s (t ∷ []) ≡ false ∷ [] → Took (good ++ t ∷ []) more next
+took_more : (good : List Seen) (items more : List ItemText) (s next : Stage) (t : Seen) → Took good items s →
+    stages items s (t ∷ []) ≡ Some (reached more next) → depths s (t ∷ []) ≡ false ∷ [] → Took (good ++ t ∷ []) more next
 took_more good items more s next t h went within = record {
   went = stages_split good (t ∷ []) [] outside (reached items s) h.went ∙ went;
-  within = depths_split good (t ∷ []) [] outside (reached items s) h.went ∙ ap (λ (l : List Bool). l ++ depths s (t ∷ [])) h.within ∙ ap (λ (l : List Bool). quiet good ++ l) within ∙ sym (quiet_more good t);
+  within = depths_split good (t ∷ []) [] outside (reached items s) h.went ∙ ap (λ (l : List Bool). l ++ depths s (t ∷ [])) h.within
+      ∙ ap (λ (l : List Bool). quiet good ++ l) within ∙ sym (quiet_more good t);
 }
 
 took_ahead : (good : List Seen) (items : List ItemText) (s next : Stage) (t : Seen) → Took good items s → step s t ≡ ahead next → is_too_deep next ≡ false → Took (good ++ t ∷ []) items next
@@ -51,16 +55,19 @@ took_made : (good : List Seen) (items : List ItemText) (s : Stage) (item : ItemT
 took_made good items s item t h is = took_more good items (items ++ item ∷ []) s outside t h (stages_step items s t [] (made item) is) (depths_step s t [] (made item) is)
 
 -- the flags of a program that begins with them
-flags_behind : (good : List Seen) (items : List ItemText) (s : Stage) (p : ProgramPhrase) (more : List Seen) → Took good items s → IsProgram p → program_tokens p ≡ good ++ more → program_past p ≡ quiet good ++ depths s more
+flags_behind : (good : List Seen) (items : List ItemText) (s : Stage) (p : ProgramPhrase) (more : List Seen) → Took good items s → IsProgram p →
+    program_tokens p ≡ good ++ more → program_past p ≡ quiet good ++ depths s more
 flags_behind good items s p more h right tokens =
     sym (program_stages p right).1 ∙ ap (λ (l : List Seen). depths outside l) tokens ∙ depths_split good more [] outside (reached items s) h.went ∙ ap (λ (l : List Bool). l ++ depths s more) h.within
 
 -- ---- what is refused
 
-no_program_has : (items : List ItemText) (s : Stage) (good : List Seen) (t : Seen) → stages [] outside good ≡ Some (reached items s) → step s t ≡ refused → (more : List Seen) (p : ProgramPhrase) → IsProgram p → program_tokens p ≡ good ++ t ∷ more → ⊥
+no_program_has : (items : List ItemText) (s : Stage) (good : List Seen) (t : Seen) → stages [] outside good ≡ Some (reached items s) →
+    step s t ≡ refused → (more : List Seen) (p : ProgramPhrase) → IsProgram p → program_tokens p ≡ good ++ t ∷ more → ⊥
 no_program_has items s good t is stuck more p right spells =
     let r = program_stages p right in
-    let whole : stages [] outside (good ++ t ∷ more) ≡ Some (reached (program_tree p) finished) = subst (λ (l : List Seen). stages [] outside l ≡ Some (reached (program_tree p) finished)) spells r.0 in
+    let whole : stages [] outside (good ++ t ∷ more) ≡ Some (reached (program_tree p) finished) =
+    subst (λ (l : List Seen). stages [] outside l ≡ Some (reached (program_tree p) finished)) spells r.0 in
     let none : None ≡ Some (reached (program_tree p) finished) = sym (stages_split good (t ∷ more) [] outside (reached items s) is ∙ stages_step items s t more refused stuck) ∙ whole in
     absurd cc
 
@@ -80,7 +87,8 @@ unexpected_here good items s t ts h is =
       none = λ more p right spells. no_program_has items s good t h.went is more p right spells;
     }
 
-past_here : (good : List Seen) (items : List ItemText) (s next : Stage) (t : Seen) (ts : List Seen) → Took good items s → step s t ≡ ahead next → is_too_deep next ≡ true → IsPast (good ++ t ∷ ts) t.1.line
+past_here : (good : List Seen) (items : List ItemText) (s next : Stage) (t : Seen) (ts : List Seen) → Took good items s → step s t ≡ ahead next →
+    is_too_deep next ≡ true → IsPast (good ++ t ∷ ts) t.1.line
 past_here good items s next t ts h is flag =
     let b = begins_after (good ++ t ∷ []) items next (stages_split good (t ∷ []) [] outside (reached items s) h.went ∙ stages_step items s t [] (ahead next) is) in
     let tokens : program_tokens b.phrase ≡ good ++ t ∷ b.more = b.tokens ∙ append_assoc good (t ∷ []) b.more in
@@ -109,7 +117,8 @@ end_reason : (items : List ItemText) (s : Stage) (fail : FrontFail) (ts : List S
 end_reason items finished fail ts e = absurd cc
 end_reason items _ fail ts e = let same : Syntax 0 0 ≡ fail = cc in subst (λ (f : FrontFail). Reason f ts) same (λ lt. absurd (omega (arith, lt)))
 
-ahead_reason : (b : Bool) (good : List Seen) (items : List ItemText) (s next : Stage) (t : Seen) (ts : List Seen) (fail : FrontFail) → Took good items s → step s t ≡ ahead next → is_too_deep next ≡ b → unless_deep next t.1 (read_on items next ts) ≡ Err fail →
+ahead_reason : (b : Bool) (good : List Seen) (items : List ItemText) (s next : Stage) (t : Seen) (ts : List Seen) (fail : FrontFail) →
+    Took good items s → step s t ≡ ahead next → is_too_deep next ≡ b → unless_deep next t.1 (read_on items next ts) ≡ Err fail →
     ((more : List ItemText) (after : Stage) → Took (good ++ t ∷ []) more after → read_on more after ts ≡ Err fail → Reason fail ((good ++ t ∷ []) ++ ts)) → Reason fail (good ++ t ∷ ts)
 ahead_reason true good items s next t ts fail h is flag e go_on =
     let too : too_deep t.1 ≡ Err fail = sym (deep next t.1 (read_on items next ts) flag) ∙ e in
@@ -118,7 +127,8 @@ ahead_reason true good items s next t ts fail h is flag e go_on =
 ahead_reason false good items s next t ts fail h is flag e go_on =
     subst (λ (l : List Seen). Reason fail l) (append_assoc good (t ∷ []) ts) (go_on items next (took_ahead good items s next t h is flag) (sym (shallow next t.1 (read_on items next ts) flag) ∙ e))
 
-step_reason : (x : ItemStep) (good : List Seen) (items : List ItemText) (s : Stage) (t : Seen) (ts : List Seen) (fail : FrontFail) → Took good items s → step s t ≡ x → read_by items t ts x ≡ Err fail →
+step_reason : (x : ItemStep) (good : List Seen) (items : List ItemText) (s : Stage) (t : Seen) (ts : List Seen) (fail : FrontFail) →
+    Took good items s → step s t ≡ x → read_by items t ts x ≡ Err fail →
     ((more : List ItemText) (after : Stage) → Took (good ++ t ∷ []) more after → read_on more after ts ≡ Err fail → Reason fail ((good ++ t ∷ []) ++ ts)) → Reason fail (good ++ t ∷ ts)
 step_reason (ahead next) good items s t ts fail h is e go_on = ahead_reason (is_too_deep next) good items s next t ts fail h is refl e go_on
 step_reason (made item) good items s t ts fail h is e go_on =
@@ -144,11 +154,14 @@ record Passes (good : List Seen) (items : List ItemText) (s : Stage) : Type 0 wh
   went : stages items s good ≡ Some (reached made_items stage)
   reads : (ys : List Seen) → read_on items s (good ++ ys) ≡ read_on made_items stage ys
 
-passes : (good more : List Seen) (items : List ItemText) (s : Stage) (q : Reached) (later : List Bool) → stages items s (good ++ more) ≡ Some q → depths s (good ++ more) ≡ quiet good ++ later → Passes good items s
+passes : (good more : List Seen) (items : List ItemText) (s : Stage) (q : Reached) (later : List Bool) → stages items s (good ++ more) ≡ Some q →
+    depths s (good ++ more) ≡ quiet good ++ later → Passes good items s
 passes [] more items s q later went within = record { made_items = items; stage = s; went = refl; reads = λ ys. refl }
 passes (t ∷ ts) more items s q later went within = by (step s t) refl (λ items' next went' within'. passes ts more items' next q later went' within')
   where
-    by : (x : ItemStep) → step s t ≡ x → ((items' : List ItemText) (next : Stage) → stages items' next (ts ++ more) ≡ Some q → depths next (ts ++ more) ≡ quiet ts ++ later → Passes ts items' next) → Passes (t ∷ ts) items s
+    by : (x : ItemStep) → step s t ≡ x →
+        ((items' : List ItemText) (next : Stage) → stages items' next (ts ++ more) ≡ Some q → depths next (ts ++ more) ≡ quiet ts ++ later →
+        Passes ts items' next) → Passes (t ∷ ts) items s
     by (ahead next) is go_on =
         let same : is_too_deep next ∷ depths next (ts ++ more) ≡ false ∷ (quiet ts ++ later) = sym (depths_step s t (ts ++ more) (ahead next) is) ∙ within in
         let flag : is_too_deep next ≡ false = cc in
@@ -185,7 +198,8 @@ passed_good ts line col u =
     passes u.good u.begun.more [] outside (reached (program_tree u.begun.phrase) finished) u.later
     (ap (λ (l : List Seen). stages [] outside l) (sym u.begun.tokens) ∙ whole.0) (ap (λ (l : List Seen). depths outside l) (sym u.begun.tokens) ∙ whole.1 ∙ u.within)
 
-refused_next : (ts : List Seen) (line col : ℕ) (u : IsUnexpected ts line col) (p : Passes u.good [] outside) (x : ItemStep) → step p.stage u.token ≡ x → read_on p.made_items p.stage (u.token ∷ u.rest) ≡ Err (Syntax line col)
+refused_next : (ts : List Seen) (line col : ℕ) (u : IsUnexpected ts line col) (p : Passes u.good [] outside) (x : ItemStep) →
+    step p.stage u.token ≡ x → read_on p.made_items p.stage (u.token ∷ u.rest) ≡ Err (Syntax line col)
 refused_next ts line col u p (ahead next) is =
     absurd (no_more_has u.good p.made_items p.made_items p.stage next u.token p.went (stages_step p.made_items p.stage u.token [] (ahead next) is) u.none)
 refused_next ts line col u p (made item) is =

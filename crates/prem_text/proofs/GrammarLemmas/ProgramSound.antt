@@ -42,7 +42,8 @@ ends_spelled : (items items' : List ItemText) (s : Stage) (ts : List Seen) → S
 ends_spelled items items' finished ts far is = by far.mid far.stage far.tokens
   where
     by : (mid : List Seen) → StageIs finished mid → items_tokens far.phrases ++ mid ≡ ts → IsSpelled ts items'
-    by _ (is_finished t h) tokens = let same : items ≡ items' = cc in record { phrase = record { items = far.phrases; end = t ∷ [] }; right = (far.right, (h, tt)); tokens = tokens; tree_is = far.tree_is ∙ same }
+    by _ (is_finished t h) tokens = let same : items ≡ items' = cc in
+        record { phrase = record { items = far.phrases; end = t ∷ [] }; right = (far.right, (h, tt)); tokens = tokens; tree_is = far.tree_is ∙ same }
 ends_spelled items items' _ ts far is = absurd cc
 
 pub far_ahead : (items : List ItemText) (s next : Stage) (pre : List Seen) (t : Seen) → SoFar items s pre → step s t ≡ ahead next → SoFar items next (pre ++ t ∷ [])

@@ -11,7 +11,8 @@ use Rattle.prem_syntax.specs.Syntax.{Text, Expression, element}
 use Rattle.prem_text.specs.declared.lexing.token.token.Mark.{Mark}
 use Rattle.prem_text.specs.declared.lexing.token.token.Mark.TheVariants as m
 use Rattle.prem_text.specs.Lexing.Token.Lexeme.{Lexeme, name, number, word, mark, end_of_text, Seen}
-use Rattle.prem_text.specs.Grammar.Expression.{infix_of, prefix_of, level_of, Open, bottom, under, right_of, bracket, index_of, bind, State, wants, named, has, Move, goes, ends, stops, operand, operator, closing, behind, move}
+use Rattle.prem_text.specs.Grammar.Expression.{infix_of, prefix_of, level_of, Open, bottom, under, right_of, bracket, index_of, bind, State, wants, named, has, Move, goes, ends}
+use Rattle.prem_text.specs.Grammar.Expression.{stops, operand, operator, closing, behind, move}
 use Rattle.prem_text.specs.Grammar.Phrases.{Phrase, of_literal, of_name, of_element, of_bracket, of_prefix, of_infix, spelled, tree, level, Binds, Spells}
 use Rattle.prem_text.proofs.GrammarLemmas.Steps.{Loose, level_small}
 
@@ -127,7 +128,8 @@ bound_infix least k false left p at sign op around pre b is left_binds le left_l
 
 bound : (least k : ℕ) (around : Open) (pre : List Seen) (p : Phrase) → least ≤ 11 → k ≤ 10 → StandsOpen least around pre → Binds p → k ≤ level p → Loose least (level p) around →
     Bound least k (bind k (tree p) around) (pre ++ spelled p)
-bound least k _ _ p h small at_bottom binds tight loose = record { phrase = p; around = bottom; pre = []; is = refl; binds = binds; tight = tight; loose = loose; below = tt; before = at_bottom; spells = refl }
+bound least k _ _ p h small at_bottom binds tight loose =
+    record { phrase = p; around = bottom; pre = []; is = refl; binds = binds; tight = tight; loose = loose; below = tt; before = at_bottom; spells = refl }
 bound least k _ _ p h small (at_prefix at sign op around pre is before) binds tight loose =
     let rec = bound least k around pre (of_prefix at sign op p) h small before (is, loose, binds) (omega arith) (loose_tight least 11 around h (omega arith)) in
     record {
@@ -146,9 +148,31 @@ bound least k _ _ p h small (at_infix left at sign op around pre is left_binds l
     bound_infix least k (nat_le k (level_of op)) left p at sign op around pre refl is left_binds le left_loose before tight binds loose
     (λ fits. bound least k around pre (of_infix left at sign op p) h small before (is, le, loose, left_binds, binds) fits left_loose)
 bound least k _ _ p h small (at_bracket a around pre before) binds tight loose =
-    record { phrase = p; around = bracket around; pre = pre ++ (mark m.OpenParenthesis, a) ∷ []; is = refl; binds = binds; tight = tight; loose = tt; below = tt; before = at_bracket a around pre before; spells = refl }
+    record {
+      phrase = p;
+      around = bracket around;
+      pre = pre ++ (mark m.OpenParenthesis, a) ∷ [];
+      is = refl;
+      binds = binds;
+      tight = tight;
+      loose = tt;
+      below = tt;
+      before = at_bracket a around pre before;
+      spells = refl;
+    }
 bound least k _ _ p h small (at_index at text a around pre before) binds tight loose =
-    record { phrase = p; around = index_of at text around; pre = pre ++ (name text, at) ∷ (mark m.OpenBracket, a) ∷ []; is = refl; binds = binds; tight = tight; loose = tt; below = tt; before = at_index at text a around pre before; spells = refl }
+    record {
+      phrase = p;
+      around = index_of at text around;
+      pre = pre ++ (name text, at) ∷ (mark m.OpenBracket, a) ∷ [];
+      is = refl;
+      binds = binds;
+      tight = tight;
+      loose = tt;
+      below = tt;
+      before = at_index at text a around pre before;
+      spells = refl;
+    }
 
 -- what a move says of the tokens so far
 unfoldable pub Fine : ℕ → List Seen → Seen → Move → Type 0
@@ -171,7 +195,8 @@ operand_fine least around pre (mark m.Bang) at before = wanting (under at Not ar
 operand_fine least around pre (mark _) at before = tt
 operand_fine least around pre _ at before = tt
 
-bottom_fine : (least : ℕ) (b : Bool) (q : Phrase) (sign : Mark) (op : BinOp) (at : Place) → nat_lt (level_of op) least ≡ b → infix_of sign ≡ Some op → Binds q → level_of op ≤ level q → least ≤ level q →
+bottom_fine : (least : ℕ) (b : Bool) (q : Phrase) (sign : Mark) (op : BinOp) (at : Place) → nat_lt (level_of op) least ≡ b → infix_of sign ≡ Some op →
+    Binds q → level_of op ≤ level q → least ≤ level q →
     Fine least (spelled q) (mark sign, at) (operator least op at (tree q, bottom))
 unfolding Fine
 bottom_fine least true q sign op at b is binds tight levels = rw b (fine_ends least (spelled q) (mark sign, at) q binds levels refl)
@@ -217,14 +242,17 @@ behind_none least p around pre t at h binds is before =
     subst (λ (ts : List Seen). Fine least ts (t, at) (closing (bind 0 (tree p) around) t)) b.spells
     (subst (λ (r : Expression × Open). Fine least (b.pre ++ spelled b.phrase) (t, at) (closing r t)) (sym b.is) (closing_fine least b.phrase b.around b.pre t at b.binds b.loose b.before))
 
-behind_some : (least : ℕ) (p : Phrase) (around : Open) (pre : List Seen) (sign : Mark) (op : BinOp) (at : Place) → least ≤ 11 → infix_of sign ≡ Some op → Binds p → level p ≡ 12 → StandsOpen least around pre →
+behind_some : (least : ℕ) (p : Phrase) (around : Open) (pre : List Seen) (sign : Mark) (op : BinOp) (at : Place) → least ≤ 11 →
+    infix_of sign ≡ Some op → Binds p → level p ≡ 12 → StandsOpen least around pre →
     Fine least (pre ++ spelled p) (mark sign, at) (operator least op at (bind (level_of op) (tree p) around))
 behind_some least p around pre sign op at h is binds whole before =
     let b = bound least (level_of op) around pre p h (level_small op) before binds (omega (arith, level_small op)) (loose_tight least (level p) around h (omega arith)) in
     subst (λ (ts : List Seen). Fine least ts (mark sign, at) (operator least op at (bind (level_of op) (tree p) around))) b.spells
-    (subst (λ (r : Expression × Open). Fine least (b.pre ++ spelled b.phrase) (mark sign, at) (operator least op at r)) (sym b.is) (operator_fine least b.phrase sign op at b.around b.pre is b.binds b.tight b.loose b.below b.before))
+    (subst (λ (r : Expression × Open). Fine least (b.pre ++ spelled b.phrase) (mark sign, at) (operator least op at r)) (sym b.is)
+    (operator_fine least b.phrase sign op at b.around b.pre is b.binds b.tight b.loose b.below b.before))
 
-behind_mark : (least : ℕ) (p : Phrase) (around : Open) (pre : List Seen) (sign : Mark) (o : Option BinOp) (at : Place) → infix_of sign ≡ o → least ≤ 11 → Binds p → level p ≡ 12 → StandsOpen least around pre →
+behind_mark : (least : ℕ) (p : Phrase) (around : Open) (pre : List Seen) (sign : Mark) (o : Option BinOp) (at : Place) → infix_of sign ≡ o →
+    least ≤ 11 → Binds p → level p ≡ 12 → StandsOpen least around pre →
     Fine least (pre ++ spelled p) (mark sign, at) (behind least (tree p) around (mark sign) at)
 behind_mark least p around pre sign None at is h binds whole before = rw (behind, is) (behind_none least p around pre (mark sign) at h binds whole before)
 behind_mark least p around pre sign (Some op) at is h binds whole before = rw (behind, is) (behind_some least p around pre sign op at h is binds whole before)

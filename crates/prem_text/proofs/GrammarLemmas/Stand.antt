@@ -8,9 +8,14 @@ use Rattle.prem_text.specs.declared.lexing.token.token.Mark.TheVariants as m
 use Rattle.prem_text.specs.Lexing.Token.Lexeme.{name, mark, Seen}
 use Rattle.prem_text.specs.Grammar.Slots.{Slot, right_parenthesis, left_brace, semicolon, equal_sign, step_sign, a_name, the_else, value_at, place_at}
 use Rattle.prem_text.specs.Grammar.Expression.{State}
-use Rattle.prem_text.specs.Grammar.Statement.{Around, in_body, in_block, in_taken, in_other, in_while, in_for, Header, Use, for_output, for_if, for_while, for_low, for_high, for_index, for_value, for_change, for_argument, Row, if_row, out_row, while_row, for_row, bound_row, sign_row, step_row, last_row, Point, between, may_else, filling, inside, on_name, on_element, Turn, on, leaves, wrong, ended, settled, least_of, is_at_most}
+use Rattle.prem_text.specs.Grammar.Statement.{Around, in_body, in_block, in_taken, in_other, in_while, in_for, Header, Use, for_output, for_if, for_while, for_low, for_high}
+use Rattle.prem_text.specs.Grammar.Statement.{for_index, for_value, for_change, for_argument, Row, if_row, out_row, while_row, for_row, bound_row, sign_row, step_row, last_row}
+use Rattle.prem_text.specs.Grammar.Statement.{Point, between, may_else, filling, inside, on_name, on_element, Turn, on, leaves, wrong, ended, settled, least_of, is_at_most}
 use Rattle.prem_text.specs.Grammar.Phrases.{Phrase, spelled, tree, IsExpression, IsRow, name_at}
-use Rattle.prem_text.specs.Grammar.StatementPhrases.{StepForm, step_slots, step_size, Target, to_element, target_tokens, target_at, target_text, target_index, IsTarget, Direction, change_sign, change_op, Parted, AreParted, parted_tokens, parted_trees, StatementPhrase, of_if, of_else, of_for, of_while, StatementPhrases, no_phrases, next_phrase, if_head, for_head, for_bound, while_head, out_head, call_head, call_to_head, IsStatement, AreStatements, ends_open, written, all_written, meant, all_meant, loop_names}
+use Rattle.prem_text.specs.Grammar.StatementPhrases.{StepForm, step_slots, step_size, Target, to_element, target_tokens, target_at, target_text, target_index, IsTarget, Direction}
+use Rattle.prem_text.specs.Grammar.StatementPhrases.{change_sign, change_op, Parted, AreParted, parted_tokens, parted_trees, StatementPhrase, of_if, of_else, of_for, of_while}
+use Rattle.prem_text.specs.Grammar.StatementPhrases.{StatementPhrases, no_phrases, next_phrase, if_head, for_head, for_bound, while_head, out_head, call_head, call_to_head}
+use Rattle.prem_text.specs.Grammar.StatementPhrases.{IsStatement, AreStatements, ends_open, written, all_written, meant, all_meant, loop_names}
 use Rattle.prem_text.proofs.GrammarLemmas.Sound.{StandsIn}
 
 -- ---- one statement more
@@ -37,12 +42,14 @@ pub data Opened : Around → List Seen → Type 0 where
   body_opened : (ss : StatementPhrases) → AreStatements ss → Opened (in_body (all_meant ss)) (all_written ss)
   block_opened : (head : List Seen) (ss : StatementPhrases) (around : Around) (pre : List Seen) → IsRow (left_brace ∷ []) head → AreStatements ss → Opened around pre →
       Opened (in_block (place_at 0 head) (all_meant ss) around) (pre ++ head ++ all_written ss)
-  taken_opened : (head : List Seen) (p : Phrase) (close : List Seen) (around : Around) (pre : List Seen) → IsRow if_head head → IsExpression 1 p → IsRow (right_parenthesis ∷ []) close → Opened around pre →
+  taken_opened : (head : List Seen) (p : Phrase) (close : List Seen) (around : Around) (pre : List Seen) → IsRow if_head head → IsExpression 1 p →
+      IsRow (right_parenthesis ∷ []) close → Opened around pre →
       Opened (in_taken (place_at 0 head) (tree p) around) (pre ++ head ++ spelled p ++ close)
   other_opened : (head : List Seen) (p : Phrase) (close : List Seen) (taken : StatementPhrase) (middle : List Seen) (around : Around) (pre : List Seen) → IsRow if_head head → IsExpression 1 p →
       IsRow (right_parenthesis ∷ []) close → IsStatement taken → ends_open taken ≡ false → IsRow (the_else ∷ []) middle → Opened around pre →
       Opened (in_other (place_at 0 head) (tree p) (meant taken) around) (pre ++ head ++ spelled p ++ close ++ written taken ++ middle)
-  while_opened : (head : List Seen) (p : Phrase) (close : List Seen) (around : Around) (pre : List Seen) → IsRow while_head head → IsExpression 1 p → IsRow (right_parenthesis ∷ []) close → Opened around pre →
+  while_opened : (head : List Seen) (p : Phrase) (close : List Seen) (around : Around) (pre : List Seen) → IsRow while_head head → IsExpression 1 p →
+      IsRow (right_parenthesis ∷ []) close → Opened around pre →
       Opened (in_while (place_at 0 head) (value_at 2 head) (tree p) around) (pre ++ head ++ spelled p ++ close)
   for_opened : (head : List Seen) (p : Phrase) (bound : List Seen) (q : Phrase) (form : StepForm) (step : List Seen) (around : Around) (pre : List Seen) → IsRow for_head head → IsExpression 1 p →
       IsRow for_bound bound → IsExpression 8 q → IsRow (step_slots form) step → Opened around pre →
@@ -85,7 +92,8 @@ pub data UseIs : Use → List Seen → Type 0 where
 
 pub data StandsAt : Point → List Seen → Type 0 where
   at_between : (around : Around) (pre : List Seen) → Opened around pre → StandsAt (between around) pre
-  at_else : (head : List Seen) (p : Phrase) (close : List Seen) (taken : StatementPhrase) (around : Around) (pre : List Seen) → IsRow if_head head → IsExpression 1 p → IsRow (right_parenthesis ∷ []) close →
+  at_else : (head : List Seen) (p : Phrase) (close : List Seen) (taken : StatementPhrase) (around : Around) (pre : List Seen) → IsRow if_head head →
+      IsExpression 1 p → IsRow (right_parenthesis ∷ []) close →
       IsStatement taken → ends_open taken ≡ false → Opened around pre →
       StandsAt (may_else (place_at 0 head) (tree p) (meant taken) around) (pre ++ head ++ spelled p ++ close ++ written taken)
   at_row : (row : Row) (before got : List Seen) (wanted : Slot) (later : List Slot) (around : Around) (pre : List Seen) → Opened around pre →
@@ -116,13 +124,15 @@ one_more_body ss s all right =
     subst (λ (l : List Statement). Opened (in_body l) (all_written ss ++ written s)) (with_meant ss s)
     (subst (λ (ts : List Seen). Opened (in_body (all_meant (with_phrase ss s))) ts) (with_written ss s) (body_opened (with_phrase ss s) (with_right ss s all right)))
 
-one_more_block : (head : List Seen) (ss : StatementPhrases) (around : Around) (pre : List Seen) (s : StatementPhrase) → IsRow (left_brace ∷ []) head → AreStatements ss → Opened around pre → IsStatement s →
+one_more_block : (head : List Seen) (ss : StatementPhrases) (around : Around) (pre : List Seen) (s : StatementPhrase) → IsRow (left_brace ∷ []) head →
+    AreStatements ss → Opened around pre → IsStatement s →
     Opened (in_block (place_at 0 head) (all_meant ss ++ meant s ∷ []) around) ((pre ++ head ++ all_written ss) ++ written s)
 one_more_block head ss around pre s row all opened right =
     let same : pre ++ head ++ all_written (with_phrase ss s) ≡ (pre ++ head ++ all_written ss) ++ written s =
     ap (λ (l : List Seen). pre ++ head ++ l) (with_written ss s) ∙ simp append_assoc in
     subst (λ (l : List Statement). Opened (in_block (place_at 0 head) l around) ((pre ++ head ++ all_written ss) ++ written s)) (with_meant ss s)
-    (subst (λ (ts : List Seen). Opened (in_block (place_at 0 head) (all_meant (with_phrase ss s)) around) ts) same (block_opened head (with_phrase ss s) around pre row (with_right ss s all right) opened))
+    (subst (λ (ts : List Seen). Opened (in_block (place_at 0 head) (all_meant (with_phrase ss s)) around) ts) same
+    (block_opened head (with_phrase ss s) around pre row (with_right ss s all right) opened))
 
 pub ended_stands : (around : Around) (pre : List Seen) (s : StatementPhrase) → Opened around pre → IsStatement s → ends_open s ≡ false → StandsAt (ended (meant s) around) (pre ++ written s)
 ended_stands _ _ s (body_opened ss all) right closed = at_between _ _ (one_more_body ss s all right)
@@ -135,7 +145,8 @@ ended_stands _ _ s (other_opened head p close taken middle around pre row short 
 ended_stands _ _ s (while_opened head p close around pre row short shut opened) right closed =
     stands_same _ (pre ++ written (of_while head p close s)) _ (simp append_assoc) (ended_stands around pre (of_while head p close s) opened (row, short, shut, right) closed)
 ended_stands _ _ s (for_opened head p bound q form step around pre row low parts high steps opened) right closed =
-    stands_same _ (pre ++ written (of_for head p bound q form step s)) _ (simp append_assoc) (ended_stands around pre (of_for head p bound q form step s) opened (row, low, parts, high, steps, right) closed)
+    stands_same _ (pre ++ written (of_for head p bound q form step s)) _ (simp append_assoc)
+    (ended_stands around pre (of_for head p bound q form step s) opened (row, low, parts, high, steps, right) closed)
 
 pub opened_same : (around : Around) (xs ys : List Seen) → xs ≡ ys → Opened around xs → Opened around ys
 opened_same around xs ys same opened = subst (λ (ts : List Seen). Opened around ts) same opened
@@ -151,4 +162,5 @@ settled_opened _ _ s (other_opened head p close taken middle around pre row shor
 settled_opened _ _ s (while_opened head p close around pre row short shut opened) right =
     opened_same _ (pre ++ written (of_while head p close s)) _ (simp append_assoc) (settled_opened around pre (of_while head p close s) opened (row, short, shut, right))
 settled_opened _ _ s (for_opened head p bound q form step around pre row low parts high steps opened) right =
-    opened_same _ (pre ++ written (of_for head p bound q form step s)) _ (simp append_assoc) (settled_opened around pre (of_for head p bound q form step s) opened (row, low, parts, high, steps, right))
+    opened_same _ (pre ++ written (of_for head p bound q form step s)) _ (simp append_assoc)
+    (settled_opened around pre (of_for head p bound q form step s) opened (row, low, parts, high, steps, right))

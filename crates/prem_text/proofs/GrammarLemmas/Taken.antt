@@ -7,9 +7,12 @@ use Rattle.prem_syntax.specs.Syntax.{Text, Statement, if_else, bounded_while, co
 use Rattle.prem_text.specs.declared.lexing.token.token.Mark.TheVariants as m
 use Rattle.prem_text.specs.declared.lexing.token.token.Word.TheVariants as w
 use Rattle.prem_text.specs.Lexing.Token.Lexeme.{Lexeme, name, number, word, mark, end_of_text, Seen}
-use Rattle.prem_text.specs.Grammar.Slots.{Slot, left_parenthesis, right_parenthesis, semicolon, comma, equal_sign, a_name, a_literal, the_while, fits, text_of, text_at, place_at, is_left_parenthesis, is_comma, is_if, is_out, is_bounded, is_for, is_name, is_left_brace}
+use Rattle.prem_text.specs.Grammar.Slots.{Slot, left_parenthesis, right_parenthesis, semicolon, comma, equal_sign, a_name, a_literal, the_while, fits, text_of, text_at, place_at}
+use Rattle.prem_text.specs.Grammar.Slots.{is_left_parenthesis, is_comma, is_if, is_out, is_bounded, is_for, is_name, is_left_brace}
 use Rattle.prem_text.specs.Grammar.Expression.{bottom, State, wants, has, Move, goes, ends, stops, move}
-use Rattle.prem_text.specs.Grammar.Statement.{Around, in_body, in_block, in_taken, in_other, in_while, in_for, Use, for_low, Row, if_row, out_row, while_row, for_row, bound_row, sign_row, step_row, last_row, Point, between, filling, inside, on_name, Turn, on, wrong, ended, expression, least_of, begin, next, filled, when, used, turn, nests, begins_row, is_past, is_start, at_start, lone_name, called}
+use Rattle.prem_text.specs.Grammar.Statement.{Around, in_body, in_block, in_taken, in_other, in_while, in_for, Use, for_low, Row, if_row, out_row, while_row, for_row, bound_row}
+use Rattle.prem_text.specs.Grammar.Statement.{sign_row, step_row, last_row, Point, between, filling, inside, on_name, Turn, on, wrong, ended, expression, least_of, begin, next}
+use Rattle.prem_text.specs.Grammar.Statement.{filled, when, used, turn, nests, begins_row, is_past, is_start, at_start, lone_name, called}
 use Rattle.prem_text.specs.Grammar.Law.{is_closer}
 use Rattle.prem_text.specs.Grammar.Phrases.{Phrase, spelled, tree, level, IsExpression, IsRow, name_at, name_or_none, quiet, counted, opening}
 use Rattle.prem_text.specs.Grammar.StatementPhrases.{for_head}
@@ -179,11 +182,13 @@ row_reads row g got wanted (slot ∷ later) around (t ∷ ts) end fit is flag =
     go _ (filling row (g ∷ (got ++ t ∷ [])) slot later around) _ t ts false _ (when_fits wanted t _ fit.0) quiet_here (row_reads row g (got ++ t ∷ []) slot later around ts end fit.1 same flag)
 
 -- a row behind an expression, which begins with the token that ends it
-pub behind_expression : (u : Use) (p : Phrase) (around : Around) (end : State) (room : ℕ) (t : Seen) (more' : List Seen) (row : Row) (wanted : Slot) (later : List Slot) (next' : Point) → is_closer t.0 ≡ true →
+pub behind_expression : (u : Use) (p : Phrase) (around : Around) (end : State) (room : ℕ) (t : Seen) (more' : List Seen) (row : Row) (wanted : Slot)
+    (later : List Slot) (next' : Point) → is_closer t.0 ≡ true →
     Same (least_of u) (level p) end (has (tree p) bottom) → used u (tree p) around t ≡ on (filling row (t ∷ []) wanted later around) → begins_row row (t ∷ []) ≡ false → IsRow (wanted ∷ later) more' →
     filled row (t ∷ more') around ≡ on next' → is_past next' ≡ false → Turns (inside u end room around) (t ∷ more') (quiet (t ∷ more')) next'
 behind_expression u p around end room t more' row wanted later next' closes same is late fit whole flag =
-    go _ (filling row (t ∷ []) wanted later around) _ t more' false _ (closer_turn u p around t.0 t.1 end room closes same ∙ is) (rw late refl) (row_reads row t [] wanted later around more' next' fit whole flag)
+    go _ (filling row (t ∷ []) wanted later around) _ t more' false _ (closer_turn u p around t.0 t.1 end room closes same ∙ is) (rw late refl)
+    (row_reads row t [] wanted later around more' next' fit whole flag)
 
 -- one token behind an expression
 pub one_behind : (u : Use) (p : Phrase) (around : Around) (end : State) (room : ℕ) (t : Seen) (next' : Point) → is_closer t.0 ≡ true → Same (least_of u) (level p) end (has (tree p) bottom) →
@@ -226,7 +231,8 @@ first_out around (word w.Out) at h = refl
 first_out around (word _) at h = absurd cc
 first_out around _ at h = absurd cc
 
-pub first_bounded : (around : Around) (x : Lexeme) (at : Place) → is_bounded x ≡ true → next around (x, at) ≡ begin while_row (x, at) left_parenthesis (a_literal ∷ right_parenthesis ∷ the_while ∷ left_parenthesis ∷ []) around
+pub first_bounded : (around : Around) (x : Lexeme) (at : Place) → is_bounded x ≡ true →
+    next around (x, at) ≡ begin while_row (x, at) left_parenthesis (a_literal ∷ right_parenthesis ∷ the_while ∷ left_parenthesis ∷ []) around
 first_bounded around (word w.Bounded) at h = refl
 first_bounded around (word _) at h = absurd cc
 first_bounded around _ at h = absurd cc

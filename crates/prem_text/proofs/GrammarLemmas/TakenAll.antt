@@ -5,11 +5,16 @@ use Rattle.prem_syntax.specs.Syntax.{Text, Statement, if_else, bounded_while, co
 use Rattle.prem_text.specs.declared.lexing.token.token.Mark.TheVariants as m
 use Rattle.prem_text.specs.declared.lexing.token.token.Word.TheVariants as w
 use Rattle.prem_text.specs.Lexing.Token.Lexeme.{Lexeme, name, number, word, mark, end_of_text, Seen}
-use Rattle.prem_text.specs.Grammar.Slots.{Slot, left_parenthesis, right_parenthesis, left_brace, semicolon, equal_sign, a_name, a_literal, the_if, the_for, the_while, the_bounded, the_in, the_out, fits, text_of, place_at, is_left_parenthesis, is_else, is_in, is_name, is_equal}
+use Rattle.prem_text.specs.Grammar.Slots.{Slot, left_parenthesis, right_parenthesis, left_brace, semicolon, equal_sign, a_name, a_literal, the_if, the_for, the_while, the_bounded}
+use Rattle.prem_text.specs.Grammar.Slots.{the_in, the_out, fits, text_of, place_at, is_left_parenthesis, is_else, is_in, is_name, is_equal}
 use Rattle.prem_text.specs.Grammar.Expression.{bottom, wants, named}
-use Rattle.prem_text.specs.Grammar.Statement.{Around, in_body, in_block, in_taken, in_other, in_while, in_for, for_index, for_value, for_change, for_argument, last_row, Point, between, inside, on_name, on_element, on, ended, settled, begin, next, behind_name, turn, by_one}
+use Rattle.prem_text.specs.Grammar.Statement.{Around, in_body, in_block, in_taken, in_other, in_while, in_for, for_index, for_value, for_change, for_argument, last_row, Point}
+use Rattle.prem_text.specs.Grammar.Statement.{between, inside, on_name, on_element, on, ended, settled, begin, next, behind_name, turn, by_one}
 use Rattle.prem_text.specs.Grammar.Phrases.{Phrase, spelled, tree, IsRow, name_at, name_or_none, opening}
-use Rattle.prem_text.specs.Grammar.StatementPhrases.{Target, to_name, to_element, target_tokens, target_at, target_text, target_index, target_past, IsTarget, Direction, up, down, change_sign, change_op, count_sign, argument_tokens, StatementPhrase, of_block, of_if, of_else, of_for, of_while, of_output, of_call, of_input, of_call_to, of_assign, of_change, of_count, call_head, call_to_head, input_row, IsStatement, written, all_written, meant, past}
+use Rattle.prem_text.specs.Grammar.StatementPhrases.{Target, to_name, to_element, target_tokens, target_at, target_text, target_index, target_past, IsTarget, Direction, up, down}
+use Rattle.prem_text.specs.Grammar.StatementPhrases.{change_sign, change_op, count_sign, argument_tokens, StatementPhrase, of_block, of_if, of_else, of_for, of_while, of_output}
+use Rattle.prem_text.specs.Grammar.StatementPhrases.{of_call, of_input, of_call_to, of_assign, of_change, of_count, call_head, call_to_head, input_row, IsStatement, written}
+use Rattle.prem_text.specs.Grammar.StatementPhrases.{all_written, meant, past}
 use Rattle.prem_text.proofs.GrammarLemmas.Taken.{Turns, stay, go, turns_append, depth_of, ended_quiet, reads_inside, row_reads, one_behind, when_fits, first_name, nest_flag}
 use Rattle.prem_text.proofs.GrammarLemmas.TakenWhole.{semicolon_reads}
 
@@ -28,7 +33,8 @@ call_begins around (t ∷ v ∷ []) row =
     opens at x around t h = rw h refl
 
 -- `name =`
-equal_begins : (at : Place) (x : Text) (around : Around) (t : Lexeme) (from : Place) → is_equal t ≡ true → behind_name at x around (t, from) ≡ on (inside (for_value at x None) (wants bottom) 257 around)
+equal_begins : (at : Place) (x : Text) (around : Around) (t : Lexeme) (from : Place) → is_equal t ≡ true →
+    behind_name at x around (t, from) ≡ on (inside (for_value at x None) (wants bottom) 257 around)
 equal_begins at x around (mark m.Equal) from h = refl
 equal_begins at x around (mark _) from h = absurd cc
 equal_begins at x around _ from h = absurd cc
@@ -73,7 +79,8 @@ input_reads around (a ∷ b ∷ c ∷ ts) row =
     go _ (on_name a.1 (name_or_none (text_of a.0)) around) _ a _ _ _ (first_name around a.0 a.1 row.0) (nest_flag around)
     (go _ _ _ b _ false _ (equal_begins a.1 _ around b.0 b.1 row.1.0) refl
     (go _ _ _ c _ false _ (input_inside a.1 _ around c.0 c.1 row.1.1.0) refl
-    (row_reads (last_row (input a.1 (name_or_none (text_of a.0)))) c [] left_parenthesis (right_parenthesis ∷ semicolon ∷ []) around ts _ row.1.1.1 refl (ended_quiet (input a.1 (name_or_none (text_of a.0))) around))))
+    (row_reads (last_row (input a.1 (name_or_none (text_of a.0)))) c [] left_parenthesis (right_parenthesis ∷ semicolon ∷ [])
+    around ts _ row.1.1.1 refl (ended_quiet (input a.1 (name_or_none (text_of a.0))) around))))
 
 -- ---- assignments
 
@@ -143,7 +150,9 @@ pub count_reads : (g : Target) (direction : Direction) (row : List Seen) (around
 count_reads g direction [] around right = absurd right.1
 count_reads g direction (t ∷ ts) around right =
     turns_append (target_reads g around right.0)
-    (go _ _ _ t ts false _ (count_begins g direction around t.0 t.1 right.1.0) refl (row_reads (last_row (by_one (target_at g) (target_text g) (target_index g) (change_op direction) t.1)) t [] semicolon [] around ts _ right.1.1 refl (ended_quiet _ around)))
+    (go _ _ _ t ts false _ (count_begins g direction around t.0 t.1 right.1.0) refl
+    (row_reads (last_row (by_one (target_at g) (target_text g) (target_index g) (change_op direction) t.1))
+    t [] semicolon [] around ts _ right.1.1 refl (ended_quiet _ around)))
 
 -- ---- `else`
 
@@ -180,19 +189,32 @@ plain_target (to_element at text a index b) = refl
 pub plain_statement : (s : StatementPhrase) → IsStatement s → Plain (written s)
 plain_statement (of_block head inner tail) right = plain_append (head ++ all_written inner) tail (plain_append head (all_written inner) (plain_row left_brace [] head refl right.0))
 plain_statement (of_if head condition close taken) right =
-    plain_append (head ++ spelled condition ++ close) _ (plain_append (head ++ spelled condition) close (plain_append head (spelled condition) (plain_row the_if (left_parenthesis ∷ []) head refl right.0)))
+    plain_append (head ++ spelled condition ++ close) _
+    (plain_append (head ++ spelled condition) close (plain_append head (spelled condition) (plain_row the_if (left_parenthesis ∷ []) head refl right.0)))
 plain_statement (of_else head condition close taken middle other) right =
-    plain_append (head ++ spelled condition ++ close ++ written taken ++ middle) _ (plain_append (head ++ spelled condition ++ close ++ written taken) _ (plain_append (head ++ spelled condition ++ close) _ (plain_append (head ++ spelled condition) close (plain_append head (spelled condition) (plain_row the_if (left_parenthesis ∷ []) head refl right.0)))))
+    plain_append (head ++ spelled condition ++ close ++ written taken ++ middle) _
+    (plain_append (head ++ spelled condition ++ close ++ written taken) _
+    (plain_append (head ++ spelled condition ++ close) _
+    (plain_append (head ++ spelled condition) close (plain_append head (spelled condition) (plain_row the_if (left_parenthesis ∷ []) head refl right.0)))))
 plain_statement (of_for head low bound high form step body) right =
-    plain_append (head ++ spelled low ++ bound ++ spelled high ++ step) _ (plain_append (head ++ spelled low ++ bound ++ spelled high) _ (plain_append (head ++ spelled low ++ bound) _ (plain_append (head ++ spelled low) _ (plain_append head _ (plain_row the_for (left_parenthesis ∷ a_name ∷ equal_sign ∷ []) head refl right.0)))))
+    plain_append (head ++ spelled low ++ bound ++ spelled high ++ step) _
+    (plain_append (head ++ spelled low ++ bound ++ spelled high) _
+    (plain_append (head ++ spelled low ++ bound) _
+    (plain_append (head ++ spelled low) _ (plain_append head _ (plain_row the_for (left_parenthesis ∷ a_name ∷ equal_sign ∷ []) head refl right.0)))))
 plain_statement (of_while head condition close body) right =
-    plain_append (head ++ spelled condition ++ close) _ (plain_append (head ++ spelled condition) close (plain_append head (spelled condition) (plain_row the_bounded (left_parenthesis ∷ a_literal ∷ right_parenthesis ∷ the_while ∷ left_parenthesis ∷ []) head refl right.0)))
+    plain_append (head ++ spelled condition ++ close) _
+    (plain_append (head ++ spelled condition) close
+    (plain_append head (spelled condition)
+    (plain_row the_bounded (left_parenthesis ∷ a_literal ∷ right_parenthesis ∷ the_while ∷ left_parenthesis ∷ []) head refl right.0)))
 plain_statement (of_output head value tail) right = plain_append (head ++ spelled value) _ (plain_append head _ (plain_row the_out (left_parenthesis ∷ []) head refl right.0))
 plain_statement (of_call head given tail) right = plain_append (head ++ argument_tokens given) _ (plain_append head _ (plain_row a_name (left_parenthesis ∷ []) head refl right.0))
 plain_statement (of_input row) right = plain_row a_name (equal_sign ∷ the_in ∷ left_parenthesis ∷ right_parenthesis ∷ semicolon ∷ []) row refl right
-plain_statement (of_call_to head given tail) right = plain_append (head ++ argument_tokens given) _ (plain_append head _ (plain_row a_name (equal_sign ∷ a_name ∷ left_parenthesis ∷ []) head refl right.0))
-plain_statement (of_assign g sign value tail) right = plain_append (target_tokens g ++ sign ++ spelled value) _ (plain_append (target_tokens g ++ sign) _ (plain_append (target_tokens g) _ (plain_target g)))
-plain_statement (of_change g direction sign value tail) right = plain_append (target_tokens g ++ sign ++ spelled value) _ (plain_append (target_tokens g ++ sign) _ (plain_append (target_tokens g) _ (plain_target g)))
+plain_statement (of_call_to head given tail) right =
+    plain_append (head ++ argument_tokens given) _ (plain_append head _ (plain_row a_name (equal_sign ∷ a_name ∷ left_parenthesis ∷ []) head refl right.0))
+plain_statement (of_assign g sign value tail) right =
+    plain_append (target_tokens g ++ sign ++ spelled value) _ (plain_append (target_tokens g ++ sign) _ (plain_append (target_tokens g) _ (plain_target g)))
+plain_statement (of_change g direction sign value tail) right =
+    plain_append (target_tokens g ++ sign ++ spelled value) _ (plain_append (target_tokens g ++ sign) _ (plain_append (target_tokens g) _ (plain_target g)))
 plain_statement (of_count g direction row) right = plain_append (target_tokens g) _ (plain_target g)
 
 -- points that agree but for `else` read the same

@@ -5,15 +5,22 @@ use Rattle.prem_syntax.specs.declared.tree.Place.{Place}
 use Rattle.prem_syntax.specs.Syntax.{Text, Expression, Statement, output, call}
 use Rattle.prem_text.specs.declared.lexing.token.token.Mark.TheVariants as m
 use Rattle.prem_text.specs.Lexing.Token.Lexeme.{Lexeme, mark, Seen}
-use Rattle.prem_text.specs.Grammar.Slots.{left_parenthesis, right_parenthesis, semicolon, comma, equal_sign, comparison, step_sign, a_name, a_literal, the_if, the_for, the_while, the_bounded, the_out, fits, text_at, value_at, place_at, is_comma}
+use Rattle.prem_text.specs.Grammar.Slots.{left_parenthesis, right_parenthesis, semicolon, comma, equal_sign, comparison, step_sign, a_name, a_literal, the_if, the_for, the_while}
+use Rattle.prem_text.specs.Grammar.Slots.{the_bounded, the_out, fits, text_at, value_at, place_at, is_comma}
 use Rattle.prem_text.specs.Grammar.Expression.{bottom, State, wants, has}
-use Rattle.prem_text.specs.Grammar.Statement.{Around, in_taken, in_while, in_for, Use, for_output, for_if, for_while, for_low, for_high, for_argument, if_row, out_row, while_row, for_row, bound_row, sign_row, step_row, last_row, Point, between, filling, inside, on, wrong, ended, expression, least_of, finish, rest_of_step, fourth_in, looped, is_at_most, filled, used, turn, is_past}
+use Rattle.prem_text.specs.Grammar.Statement.{Around, in_taken, in_while, in_for, Use, for_output, for_if, for_while, for_low, for_high, for_argument, if_row, out_row, while_row}
+use Rattle.prem_text.specs.Grammar.Statement.{for_row, bound_row, sign_row, step_row, last_row, Point, between, filling, inside, on, wrong, ended, expression, least_of, finish}
+use Rattle.prem_text.specs.Grammar.Statement.{rest_of_step, fourth_in, looped, is_at_most, filled, used, turn, is_past}
 use Rattle.prem_text.specs.Grammar.Phrases.{Phrase, spelled, tree, level, IsExpression, IsRow, name_at, quiet, counted, opening}
-use Rattle.prem_text.specs.Grammar.StatementPhrases.{StepForm, by_one_step, added_step, summed_step, step_slots, step_size, fourth_name, Parted, AreParted, parted_tokens, parted_trees, parted_past, Arguments, no_arguments, arguments, AreArguments, argument_tokens, argument_trees, argument_past, of_output, if_head, for_head, for_bound, while_head, statement_tail, IsStatement, loop_names}
+use Rattle.prem_text.specs.Grammar.StatementPhrases.{StepForm, by_one_step, added_step, summed_step, step_slots, step_size, fourth_name, Parted, AreParted, parted_tokens}
+use Rattle.prem_text.specs.Grammar.StatementPhrases.{parted_trees, parted_past, Arguments, no_arguments, arguments, AreArguments, argument_tokens, argument_trees, argument_past}
+use Rattle.prem_text.specs.Grammar.StatementPhrases.{of_output, if_head, for_head, for_bound, while_head, statement_tail, IsStatement, loop_names}
 use Rattle.prem_text.proofs.GrammarLemmas.Steps.{Same}
 use Rattle.prem_text.proofs.GrammarLemmas.Stand.{header_of}
 use Rattle.prem_text.proofs.GrammarLemmas.Turns.{size_same}
-use Rattle.prem_text.proofs.GrammarLemmas.Taken.{Turns, stay, go, turns_append, depth_of, ended_quiet, reads_inside, row_reads, behind_expression, one_behind, name_in_row, parenthesis_closes, semicolon_closes, comma_closes, no_comma, when_fits, text_some, first_if, first_out, first_bounded, first_for, head_reads, for_begins}
+use Rattle.prem_text.proofs.GrammarLemmas.Taken.{Turns, stay, go, turns_append, depth_of, ended_quiet, reads_inside, row_reads, behind_expression, one_behind, name_in_row}
+use Rattle.prem_text.proofs.GrammarLemmas.Taken.{parenthesis_closes, semicolon_closes, comma_closes, no_comma, when_fits, text_some, first_if, first_out, first_bounded, first_for}
+use Rattle.prem_text.proofs.GrammarLemmas.Taken.{head_reads, for_begins}
 
 -- ---- tails and headers
 
@@ -26,7 +33,8 @@ tail_reads u p around end room (t ∷ more') s same is fit =
 
 -- `)` behind the expression of a header
 close_reads : (u : Use) (p : Phrase) (around : Around) (end : State) (room : ℕ) (close : List Seen) (next' : Point) → Same (least_of u) (level p) end (has (tree p) bottom) →
-    ((t : Seen) → fits right_parenthesis t.0 ≡ true → used u (tree p) around t ≡ on next') → is_past next' ≡ false → IsRow (right_parenthesis ∷ []) close → Turns (inside u end room around) close (quiet close) next'
+    ((t : Seen) → fits right_parenthesis t.0 ≡ true → used u (tree p) around t ≡ on next') → is_past next' ≡ false →
+    IsRow (right_parenthesis ∷ []) close → Turns (inside u end room around) close (quiet close) next'
 close_reads u p around end room [] next' same is flag fit = absurd fit
 close_reads u p around end room (t ∷ []) next' same is flag fit = one_behind u p around end room t next' (parenthesis_closes t.0 fit.0) same (is t fit.0) flag
 close_reads u p around end room (t ∷ v ∷ ts) next' same is flag fit = absurd fit.1
@@ -53,11 +61,14 @@ if_reads head p close around row short shut =
     (close_reads (for_if (place_at 0 head)) p around e.end e.room close (between (in_taken (place_at 0 head) (tree p) around)) e.same (λ t h. when_fits right_parenthesis t _ h) refl shut)
 
 pub while_reads : (head : List Seen) (p : Phrase) (close : List Seen) (around : Around) → IsRow while_head head → IsExpression 1 p → IsRow (right_parenthesis ∷ []) close →
-    Turns (between around) (head ++ spelled p ++ close) (opening (suc (depth_of around)) head ++ counted 1 (spelled p) ++ quiet close) (between (in_while (place_at 0 head) (value_at 2 head) (tree p) around))
+    Turns (between around) (head ++ spelled p ++ close) (opening (suc (depth_of around)) head ++ counted 1 (spelled p) ++ quiet close)
+    (between (in_while (place_at 0 head) (value_at 2 head) (tree p) around))
 while_reads head p close around row short shut =
     let e = reads_inside (for_while (place_at 0 head) (value_at 2 head)) p around short in
-    turns_append (turns_append (head_reads around while_row head the_bounded left_parenthesis (a_literal ∷ right_parenthesis ∷ the_while ∷ left_parenthesis ∷ []) _ row (first_bounded around) (λ t. refl) refl refl) e.turns)
-    (close_reads (for_while (place_at 0 head) (value_at 2 head)) p around e.end e.room close (between (in_while (place_at 0 head) (value_at 2 head) (tree p) around)) e.same (λ t h. when_fits right_parenthesis t _ h) refl shut)
+    turns_append (turns_append (head_reads around while_row head the_bounded left_parenthesis
+    (a_literal ∷ right_parenthesis ∷ the_while ∷ left_parenthesis ∷ []) _ row (first_bounded around) (λ t. refl) refl refl) e.turns)
+    (close_reads (for_while (place_at 0 head) (value_at 2 head)) p around e.end e.room close
+    (between (in_while (place_at 0 head) (value_at 2 head) (tree p) around)) e.same (λ t h. when_fits right_parenthesis t _ h) refl shut)
 
 -- ---- `for`
 
@@ -94,13 +105,15 @@ fourth_some summed_step (t ∷ []) row = absurd row.1
 fourth_some summed_step [] row = absurd row
 
 split_step : (form : StepForm) (all : List Seen) → IsRow (step_slots form) all → Split all
-split_step by_one_step (t ∷ u ∷ (mark m.PlusPlus, at) ∷ rest) row = record { t = t; u = u; v = (mark m.PlusPlus, at); rest = rest; is = refl; first = row.0; second = row.1.0; third = refl; fit = row.1.1.1 }
+split_step by_one_step (t ∷ u ∷ (mark m.PlusPlus, at) ∷ rest) row =
+    record { t = t; u = u; v = (mark m.PlusPlus, at); rest = rest; is = refl; first = row.0; second = row.1.0; third = refl; fit = row.1.1.1 }
 split_step by_one_step (t ∷ u ∷ (mark _, at) ∷ rest) row = absurd cc
 split_step by_one_step (t ∷ u ∷ (_, at) ∷ rest) row = absurd cc
 split_step by_one_step (t ∷ u ∷ []) row = absurd row.1.1
 split_step by_one_step (t ∷ []) row = absurd row.1
 split_step by_one_step [] row = absurd row
-split_step added_step (t ∷ u ∷ (mark m.PlusEqual, at) ∷ rest) row = record { t = t; u = u; v = (mark m.PlusEqual, at); rest = rest; is = refl; first = row.0; second = row.1.0; third = refl; fit = row.1.1.1 }
+split_step added_step (t ∷ u ∷ (mark m.PlusEqual, at) ∷ rest) row =
+    record { t = t; u = u; v = (mark m.PlusEqual, at); rest = rest; is = refl; first = row.0; second = row.1.0; third = refl; fit = row.1.1.1 }
 split_step added_step (t ∷ u ∷ (mark _, at) ∷ rest) row = absurd cc
 split_step added_step (t ∷ u ∷ (_, at) ∷ rest) row = absurd cc
 split_step added_step (t ∷ u ∷ []) row = absurd row.1.1
@@ -135,43 +148,59 @@ step_reads : (head : List Seen) (p : Phrase) (bound : List Seen) (q : Phrase) (a
     Turns (inside (for_high (place_at 0 head) (name_at 2 head) (tree p) (name_at 1 bound) (is_at_most bound)) end room around) all (quiet all) next'
 step_reads head p bound q around end room all next' same s whole flag =
     let use_ = for_high (place_at 0 head) (name_at 2 head) (tree p) (name_at 1 bound) (is_at_most bound) in
-    let signed : Turns (inside use_ end room around) (s.t ∷ s.u ∷ s.v ∷ []) (quiet (s.t ∷ s.u ∷ s.v ∷ [])) (filling (step_row (header_of head p bound q)) (s.t ∷ s.u ∷ s.v ∷ []) (rest_of_step (s.t ∷ s.u ∷ s.v ∷ [])).0 (rest_of_step (s.t ∷ s.u ∷ s.v ∷ [])).1 around) =
-    behind_expression use_ q around end room s.t (s.u ∷ s.v ∷ []) (sign_row (header_of head p bound q)) a_name (step_sign ∷ []) _ (semicolon_closes s.t.0 s.first) same (when_fits semicolon s.t _ s.first) refl (s.second, (s.third, tt)) refl refl in
-    let ending = row_reads (step_row (header_of head p bound q)) s.t (s.u ∷ s.v ∷ []) _ _ around s.rest next' s.fit (ap (λ (l : List Seen). filled (step_row (header_of head p bound q)) l around) (sym s.is) ∙ whole) flag in
+    let signed : Turns (inside use_ end room around) (s.t ∷ s.u ∷ s.v ∷ []) (quiet (s.t ∷ s.u ∷ s.v ∷ []))
+    (filling (step_row (header_of head p bound q)) (s.t ∷ s.u ∷ s.v ∷ []) (rest_of_step (s.t ∷ s.u ∷ s.v ∷ [])).0
+    (rest_of_step (s.t ∷ s.u ∷ s.v ∷ [])).1 around) =
+    behind_expression use_ q around end room s.t (s.u ∷ s.v ∷ []) (sign_row (header_of head p bound q)) a_name (step_sign ∷ []) _
+    (semicolon_closes s.t.0 s.first) same (when_fits semicolon s.t _ s.first) refl (s.second, (s.third, tt)) refl refl in
+    let ending = row_reads (step_row (header_of head p bound q)) s.t (s.u ∷ s.v ∷ []) _ _ around s.rest next' s.fit
+    (ap (λ (l : List Seen). filled (step_row (header_of head p bound q)) l around) (sym s.is) ∙ whole) flag in
     subst (λ (l : List Seen). Turns (inside use_ end room around) l (quiet l) next') (sym s.is) (turns_append signed ending)
 
 bound_reads : (head : List Seen) (p : Phrase) (around : Around) (end : State) (room : ℕ) (bound : List Seen) → Same 1 (level p) end (has (tree p) bottom) → IsRow for_bound bound →
-    Turns (inside (for_low (place_at 0 head) (name_at 2 head)) end room around) bound (quiet bound) (inside (for_high (place_at 0 head) (name_at 2 head) (tree p) (name_at 1 bound) (is_at_most bound)) (wants bottom) 257 around)
+    Turns (inside (for_low (place_at 0 head) (name_at 2 head)) end room around) bound (quiet bound)
+    (inside (for_high (place_at 0 head) (name_at 2 head) (tree p) (name_at 1 bound) (is_at_most bound)) (wants bottom) 257 around)
 bound_reads head p around end room [] same fit = absurd fit
 bound_reads head p around end room (t ∷ more') same fit =
-    behind_expression (for_low (place_at 0 head) (name_at 2 head)) p around end room t more' (bound_row (place_at 0 head) (name_at 2 head) (tree p)) a_name (comparison ∷ []) _ (semicolon_closes t.0 fit.0) same
+    behind_expression (for_low (place_at 0 head) (name_at 2 head)) p around end room t more' (bound_row (place_at 0 head) (name_at 2 head) (tree p))
+    a_name (comparison ∷ []) _ (semicolon_closes t.0 fit.0) same
     (when_fits semicolon t _ fit.0) refl fit.1
-    (ap (λ (o : Option Text). elim o [ Some second ↦ expression (for_high (place_at 0 head) (name_at 2 head) (tree p) second (is_at_most (t ∷ more'))) around | None ↦ wrong ]) (name_in_row 1 for_bound (t ∷ more') refl fit)) refl
+    (ap (λ (o : Option Text). elim o
+    [ Some second ↦ expression (for_high (place_at 0 head) (name_at 2 head) (tree p) second (is_at_most (t ∷ more'))) around | None ↦ wrong ])
+    (name_in_row 1 for_bound (t ∷ more') refl fit)) refl
 
-pub for_reads : (head : List Seen) (p : Phrase) (bound : List Seen) (q : Phrase) (form : StepForm) (step : List Seen) (around : Around) → IsRow for_head head → IsExpression 1 p → IsRow for_bound bound → IsExpression 8 q → IsRow (step_slots form) step →
+pub for_reads : (head : List Seen) (p : Phrase) (bound : List Seen) (q : Phrase) (form : StepForm) (step : List Seen) (around : Around) →
+    IsRow for_head head → IsExpression 1 p → IsRow for_bound bound → IsExpression 8 q → IsRow (step_slots form) step →
     Turns (between around) (head ++ spelled p ++ bound ++ spelled q ++ step) (opening (suc (depth_of around)) head ++ counted 1 (spelled p) ++ quiet bound ++ counted 1 (spelled q) ++ quiet step)
     (between (in_for (place_at 0 head) (loop_names head bound form step) (tree p) (is_at_most bound) (tree q) (step_size form step) around))
 for_reads head p bound q form step around row low parts high steps =
     let e = reads_inside (for_low (place_at 0 head) (name_at 2 head)) p around low in
     let f = reads_inside (for_high (place_at 0 head) (name_at 2 head) (tree p) (name_at 1 bound) (is_at_most bound)) q around high in
-    turns_append (turns_append (turns_append (turns_append (head_reads around for_row head the_for left_parenthesis (a_name ∷ equal_sign ∷ []) _ row (first_for around) (λ t. refl) (for_begins head around row) refl) e.turns)
-    (bound_reads head p around e.end e.room bound e.same parts)) f.turns) (step_reads head p bound q around f.end f.room step _ f.same (split_step form step steps) (step_ends head p bound q form step around steps) refl)
+    turns_append (turns_append (turns_append
+    (turns_append (head_reads around for_row head the_for left_parenthesis (a_name ∷ equal_sign ∷ []) _ row (first_for around) (λ t. refl)
+    (for_begins head around row) refl) e.turns)
+    (bound_reads head p around e.end e.room bound e.same parts)) f.turns)
+    (step_reads head p bound q around f.end f.room step _ f.same (split_step form step steps) (step_ends head p bound q form step around steps) refl)
 
 -- ---- calls
 
 -- expressions that `,` parts
 parted_reads : (from : Place) (target : Option Text) (callee : Text) (acc : List Expression) (before : List Parted) (around : Around) → AreParted before →
-    Turns (inside (for_argument from target callee acc) (wants bottom) 257 around) (parted_tokens before) (parted_past before) (inside (for_argument from target callee (acc ++ parted_trees before)) (wants bottom) 257 around)
+    Turns (inside (for_argument from target callee acc) (wants bottom) 257 around) (parted_tokens before) (parted_past before)
+    (inside (for_argument from target callee (acc ++ parted_trees before)) (wants bottom) 257 around)
 parted_reads from target callee acc [] around all =
-    subst (λ (l : List Expression). Turns (inside (for_argument from target callee acc) (wants bottom) 257 around) [] [] (inside (for_argument from target callee l) (wants bottom) 257 around)) (sym (append-nil acc)) (stay _)
+    subst (λ (l : List Expression). Turns (inside (for_argument from target callee acc) (wants bottom) 257 around) [] []
+    (inside (for_argument from target callee l) (wants bottom) 257 around)) (sym (append-nil acc)) (stay _)
 parted_reads from target callee acc (a ∷ rest) around all =
     let e = reads_inside (for_argument from target callee acc) a.0 around all.0 in
     let later = parted_reads from target callee (acc ++ tree a.0 ∷ []) rest around all.2 in
-    let moved = subst (λ (l : List Expression). Turns (inside (for_argument from target callee (acc ++ tree a.0 ∷ [])) (wants bottom) 257 around) (parted_tokens rest) (parted_past rest) (inside (for_argument from target callee l) (wants bottom) 257 around))
+    let moved = subst (λ (l : List Expression). Turns (inside (for_argument from target callee (acc ++ tree a.0 ∷ [])) (wants bottom) 257 around)
+    (parted_tokens rest) (parted_past rest) (inside (for_argument from target callee l) (wants bottom) 257 around))
     (append_assoc acc (tree a.0 ∷ []) (parted_trees rest)) later in
     turns_append (turns_append e.turns (comma_reads from target callee acc a.0 e.end e.room a.1 around e.same all.1)) moved
   where
-    comma_reads : (from : Place) (target : Option Text) (callee : Text) (acc : List Expression) (p : Phrase) (end : State) (room : ℕ) (parts : List Seen) (around : Around) → Same 1 (level p) end (has (tree p) bottom) → IsRow (comma ∷ []) parts →
+    comma_reads : (from : Place) (target : Option Text) (callee : Text) (acc : List Expression) (p : Phrase) (end : State) (room : ℕ)
+        (parts : List Seen) (around : Around) → Same 1 (level p) end (has (tree p) bottom) → IsRow (comma ∷ []) parts →
         Turns (inside (for_argument from target callee acc) end room around) parts (quiet parts) (inside (for_argument from target callee (acc ++ tree p ∷ [])) (wants bottom) 257 around)
     comma_reads from target callee acc p end room [] around same fit = absurd fit
     comma_reads from target callee acc p end room (t ∷ []) around same fit =
@@ -193,7 +222,8 @@ last_used : (from : Place) (target : Option Text) (callee : Text) (acc : List Ex
 last_used from target callee acc e around t h = rw (no_comma t.0 h) (when_fits right_parenthesis t _ h)
 
 pub arguments_read : (from : Place) (target : Option Text) (callee : Text) (given : Arguments) (tail : List Seen) (around : Around) → AreArguments given → IsRow statement_tail tail →
-    Turns (inside (for_argument from target callee []) (wants bottom) 257 around) (argument_tokens given ++ tail) (argument_past given ++ quiet tail) (ended (call from target callee (argument_trees given)) around)
+    Turns (inside (for_argument from target callee []) (wants bottom) 257 around) (argument_tokens given ++ tail) (argument_past given ++ quiet tail)
+    (ended (call from target callee (argument_trees given)) around)
 arguments_read from target callee no_arguments [] around all fit = absurd fit
 arguments_read from target callee no_arguments (t ∷ more') around all fit =
     go _ (filling (last_row (call from target callee [])) (t ∷ []) semicolon [] around) _ t more' false _ (nothing_used from target callee around t.0 t.1 fit.0) refl

@@ -7,13 +7,23 @@ use Rattle.prem_syntax.specs.Syntax.{Text, Expression, Statement, input}
 use Rattle.prem_text.specs.declared.lexing.token.token.Mark.TheVariants as m
 use Rattle.prem_text.specs.declared.lexing.token.token.Word.TheVariants as w
 use Rattle.prem_text.specs.Lexing.Token.Lexeme.{Lexeme, name, number, word, mark, end_of_text, Seen}
-use Rattle.prem_text.specs.Grammar.Slots.{Slot, left_parenthesis, right_parenthesis, semicolon, comma, equal_sign, comparison, step_sign, a_name, a_literal, the_while, fits, text_at, place_at, is_left_parenthesis, is_else, is_in, is_comma, is_right_brace}
+use Rattle.prem_text.specs.Grammar.Slots.{Slot, left_parenthesis, right_parenthesis, semicolon, comma, equal_sign, comparison, step_sign, a_name, a_literal, the_while, fits}
+use Rattle.prem_text.specs.Grammar.Slots.{text_at, place_at, is_left_parenthesis, is_else, is_in, is_comma, is_right_brace}
 use Rattle.prem_text.specs.Grammar.Expression.{bottom, State, wants, Move, goes, ends, stops, move}
-use Rattle.prem_text.specs.Grammar.Statement.{Around, in_for, Use, for_output, for_if, for_while, for_low, for_high, for_index, for_value, for_change, for_argument, Row, if_row, out_row, while_row, for_row, bound_row, sign_row, step_row, last_row, Point, between, filling, inside, on, wrong, expression, least_of, statement, begins_statement, without, next, else_or, rest_of_step, step_in, fourth_in, looped, is_at_most, filled, filled_or, change, behind_name, used, is_start, at_start, lone_name, called, turn}
+use Rattle.prem_text.specs.Grammar.Statement.{Around, in_for, Use, for_output, for_if, for_while, for_low, for_high, for_index, for_value, for_change, for_argument, Row, if_row}
+use Rattle.prem_text.specs.Grammar.Statement.{out_row, while_row, for_row, bound_row, sign_row, step_row, last_row, Point, between, filling, inside, on, wrong, expression}
+use Rattle.prem_text.specs.Grammar.Statement.{least_of, statement, begins_statement, without, next, else_or, rest_of_step, step_in, fourth_in, looped, is_at_most, filled}
+use Rattle.prem_text.specs.Grammar.Statement.{filled_or, change, behind_name, used, is_start, at_start, lone_name, called, turn}
 use Rattle.prem_text.specs.Grammar.Phrases.{Phrase, spelled, tree, IsExpression, IsRow, name_at, name_or_none}
-use Rattle.prem_text.specs.Grammar.StatementPhrases.{StepForm, by_one_step, added_step, summed_step, step_slots, step_size, fourth_name, Target, to_name, to_element, target_tokens, target_at, target_text, target_index, IsTarget, up, down, Parted, AreParted, parted_tokens, parted_trees, no_arguments, arguments, StatementPhrase, of_block, of_if, of_output, of_call, of_input, of_call_to, of_assign, of_change, of_count, no_phrases, if_head, for_head, for_bound, IsStatement, ends_open, written, meant}
+use Rattle.prem_text.specs.Grammar.StatementPhrases.{StepForm, by_one_step, added_step, summed_step, step_slots, step_size, fourth_name, Target, to_name, to_element, target_tokens}
+use Rattle.prem_text.specs.Grammar.StatementPhrases.{target_at, target_text, target_index, IsTarget, up, down, Parted, AreParted, parted_tokens, parted_trees, no_arguments}
+use Rattle.prem_text.specs.Grammar.StatementPhrases.{arguments, StatementPhrase, of_block, of_if, of_output, of_call, of_input, of_call_to, of_assign, of_change, of_count}
+use Rattle.prem_text.specs.Grammar.StatementPhrases.{no_phrases, if_head, for_head, for_bound, IsStatement, ends_open, written, meant}
 use Rattle.prem_text.proofs.GrammarLemmas.Sound.{at_bottom, at_prefix, at_infix, at_bracket, at_index, StandsIn, wanting, naming, having, Fine, move_fine}
-use Rattle.prem_text.proofs.GrammarLemmas.Stand.{Opened, body_opened, block_opened, taken_opened, other_opened, while_opened, for_opened, header_of, RowIs, if_is, out_is, while_is, for_is, bound_is, sign_is, step_is, last_is, UseIs, output_is, condition_is, turns_is, low_is, high_is, index_is, value_is, change_is, argument_is, argument_to_is, StandsAt, at_between, at_else, at_row, at_expression, at_name, at_element, FineTurn, stands_same, if_fine, ended_stands, opened_same, settled_opened}
+use Rattle.prem_text.proofs.GrammarLemmas.Stand.{Opened, body_opened, block_opened, taken_opened, other_opened, while_opened, for_opened, header_of, RowIs, if_is, out_is, while_is}
+use Rattle.prem_text.proofs.GrammarLemmas.Stand.{for_is, bound_is, sign_is, step_is, last_is, UseIs, output_is, condition_is, turns_is, low_is, high_is, index_is, value_is}
+use Rattle.prem_text.proofs.GrammarLemmas.Stand.{change_is, argument_is, argument_to_is, StandsAt, at_between, at_else, at_row, at_expression, at_name, at_element, FineTurn}
+use Rattle.prem_text.proofs.GrammarLemmas.Stand.{stands_same, if_fine, ended_stands, opened_same, settled_opened}
 
 begins : (least : ℕ) → StandsIn least (wants bottom) []
 begins least = wanting bottom [] at_bottom
@@ -25,12 +35,14 @@ expression_begins u before around pre opened is = stands_same _ (pre ++ before +
 -- ---- rows
 
 -- a row begins at the first token of a statement
-row_begins : (row : Row) (t : Seen) (wanted : Slot) (later : List Slot) (around : Around) (pre : List Seen) → Opened around pre → ((more : List Seen) → IsRow (wanted ∷ later) more → RowIs row [] (t ∷ more)) →
+row_begins : (row : Row) (t : Seen) (wanted : Slot) (later : List Slot) (around : Around) (pre : List Seen) → Opened around pre →
+    ((more : List Seen) → IsRow (wanted ∷ later) more → RowIs row [] (t ∷ more)) →
     StandsAt (filling row (t ∷ []) wanted later around) (pre ++ t ∷ [])
 row_begins row t wanted later around pre opened is = stands_same _ (pre ++ [] ++ t ∷ []) _ (simp append-nil) (at_row row [] (t ∷ []) wanted later around pre opened is)
 
 -- the rest of a statement that is known
-finish_stands : (s : (more : List Seen) → StatementPhrase) (meaning : Statement) (before : List Seen) (t : Seen) (wanted : Slot) (later : List Slot) (around : Around) (pre : List Seen) → Opened around pre →
+finish_stands : (s : (more : List Seen) → StatementPhrase) (meaning : Statement) (before : List Seen) (t : Seen) (wanted : Slot) (later : List Slot)
+    (around : Around) (pre : List Seen) → Opened around pre →
     ((more : List Seen) → meant (s more) ≡ meaning) →
     ((more : List Seen) → IsRow (wanted ∷ later) more → IsStatement (s more) × (ends_open (s more) ≡ false) × (written (s more) ≡ before ++ t ∷ more)) →
     StandsAt (filling (last_row meaning) (t ∷ []) wanted later around) (pre ++ before ++ t ∷ [])
@@ -44,7 +56,8 @@ for_filled all None around pre now is row opened = tt
 for_filled all (Some first) around pre now is row opened =
     expression_begins _ all around pre opened (subst (λ (x : Text). UseIs (for_low (place_at 0 all) x) all) (ap name_or_none is) (low_is all row))
 
-bound_filled : (head : List Seen) (p : Phrase) (all : List Seen) (o : Option Text) (around : Around) (pre now : List Seen) → text_at 1 all ≡ o → IsRow for_head head → IsExpression 1 p → IsRow for_bound all → Opened around pre →
+bound_filled : (head : List Seen) (p : Phrase) (all : List Seen) (o : Option Text) (around : Around) (pre now : List Seen) → text_at 1 all ≡ o →
+    IsRow for_head head → IsExpression 1 p → IsRow for_bound all → Opened around pre →
     FineTurn now (pre ++ (head ++ spelled p) ++ all) (elim o [ Some second ↦ expression (for_high (place_at 0 head) (name_at 2 head) (tree p) second (is_at_most all)) around | None ↦ wrong ])
 bound_filled head p all None around pre now is row short parts opened = tt
 bound_filled head p all (Some second) around pre now is row short parts opened =
@@ -75,9 +88,15 @@ step_filled head p bound q form all (Some third) (Some fourth) around pre now is
     let third_is : name_at 1 all ≡ third = ap name_or_none is in
     let fourth_is : fourth_name form all ≡ fourth = sym same ∙ ap name_or_none is' in
     let whole = for_opened head p bound q form all around pre row low parts high steps opened in
-    let named = subst (λ (x : Text). Opened (in_for (place_at 0 head) record { first = name_at 2 head; second = name_at 1 bound; third = x; fourth = fourth_name form all } (tree p) (is_at_most bound) (tree q) (step_size form all) around) (pre ++ head ++ spelled p ++ bound ++ spelled q ++ all)) third_is whole in
-    let both = subst (λ (x : Text). Opened (in_for (place_at 0 head) record { first = name_at 2 head; second = name_at 1 bound; third = third; fourth = x } (tree p) (is_at_most bound) (tree q) (step_size form all) around) (pre ++ head ++ spelled p ++ bound ++ spelled q ++ all)) fourth_is named in
-    let sized = subst (λ (n : ℕ). Opened (in_for (place_at 0 head) record { first = name_at 2 head; second = name_at 1 bound; third = third; fourth = fourth } (tree p) (is_at_most bound) (tree q) n around) (pre ++ head ++ spelled p ++ bound ++ spelled q ++ all)) (sym size) both in
+    let named = subst (λ (x : Text). Opened
+    (in_for (place_at 0 head) record { first = name_at 2 head; second = name_at 1 bound; third = x; fourth = fourth_name form all } (tree p)
+    (is_at_most bound) (tree q) (step_size form all) around) (pre ++ head ++ spelled p ++ bound ++ spelled q ++ all)) third_is whole in
+    let both = subst (λ (x : Text). Opened
+    (in_for (place_at 0 head) record { first = name_at 2 head; second = name_at 1 bound; third = third; fourth = x } (tree p) (is_at_most bound)
+    (tree q) (step_size form all) around) (pre ++ head ++ spelled p ++ bound ++ spelled q ++ all)) fourth_is named in
+    let sized = subst (λ (n : ℕ). Opened
+    (in_for (place_at 0 head) record { first = name_at 2 head; second = name_at 1 bound; third = third; fourth = fourth } (tree p)
+    (is_at_most bound) (tree q) n around) (pre ++ head ++ spelled p ++ bound ++ spelled q ++ all)) (sym size) both in
     stands_same _ (pre ++ head ++ spelled p ++ bound ++ spelled q ++ all) _ (simp append_assoc) (at_between _ _ sized)
 
 -- a step's row has the forms that its sign tells
@@ -121,7 +140,8 @@ size_same summed_step (t ∷ u ∷ []) row = absurd row.1.1
 size_same summed_step (t ∷ []) row = absurd row.1
 size_same summed_step [] row = absurd row
 
-sign_stands : (head : List Seen) (p : Phrase) (bound : List Seen) (q : Phrase) (all : List Seen) (around : Around) (pre : List Seen) → IsRow for_head head → IsExpression 1 p → IsRow for_bound bound → IsExpression 8 q →
+sign_stands : (head : List Seen) (p : Phrase) (bound : List Seen) (q : Phrase) (all : List Seen) (around : Around) (pre : List Seen) →
+    IsRow for_head head → IsExpression 1 p → IsRow for_bound bound → IsExpression 8 q →
     IsRow (semicolon ∷ a_name ∷ step_sign ∷ []) all → Opened around pre →
     StandsAt (filling (step_row (header_of head p bound q)) all (rest_of_step all).0 (rest_of_step all).1 around) (pre ++ (head ++ spelled p ++ bound ++ spelled q) ++ all)
 sign_stands head p bound q (t ∷ u ∷ v ∷ []) around pre row low parts high signs opened =
@@ -155,8 +175,10 @@ statement_fine around pre (mark _) at opened = tt
 statement_fine around pre (word w.If) at opened = row_begins if_row (word w.If, at) left_parenthesis [] around pre opened (λ more row. if_is ((word w.If, at) ∷ more) (refl, row))
 statement_fine around pre (word w.Out) at opened = row_begins out_row (word w.Out, at) left_parenthesis [] around pre opened (λ more row. out_is ((word w.Out, at) ∷ more) (refl, row))
 statement_fine around pre (word w.Bounded) at opened =
-    row_begins while_row (word w.Bounded, at) left_parenthesis (a_literal ∷ right_parenthesis ∷ the_while ∷ left_parenthesis ∷ []) around pre opened (λ more row. while_is ((word w.Bounded, at) ∷ more) (refl, row))
-statement_fine around pre (word w.For) at opened = row_begins for_row (word w.For, at) left_parenthesis (a_name ∷ equal_sign ∷ []) around pre opened (λ more row. for_is ((word w.For, at) ∷ more) (refl, row))
+    row_begins while_row (word w.Bounded, at) left_parenthesis (a_literal ∷ right_parenthesis ∷ the_while ∷ left_parenthesis ∷ []) around pre opened
+    (λ more row. while_is ((word w.Bounded, at) ∷ more) (refl, row))
+statement_fine around pre (word w.For) at opened =
+    row_begins for_row (word w.For, at) left_parenthesis (a_name ∷ equal_sign ∷ []) around pre opened (λ more row. for_is ((word w.For, at) ∷ more) (refl, row))
 statement_fine around pre (word _) at opened = tt
 statement_fine around pre (name x) at opened = at_name at x around pre opened
 statement_fine around pre (number v k) at opened = tt
@@ -185,11 +207,14 @@ change_fine g around pre x (mark m.Equal) at is opened =
 change_fine g around pre x (mark m.PlusEqual) at is opened =
     stands_same _ (pre ++ (target_tokens g ++ (mark m.PlusEqual, at) ∷ [])) _ (simp append_assoc) (expression_begins _ _ around pre opened (change_is g up ((mark m.PlusEqual, at) ∷ []) is (refl, tt)))
 change_fine g around pre x (mark m.MinusEqual) at is opened =
-    stands_same _ (pre ++ (target_tokens g ++ (mark m.MinusEqual, at) ∷ [])) _ (simp append_assoc) (expression_begins _ _ around pre opened (change_is g down ((mark m.MinusEqual, at) ∷ []) is (refl, tt)))
+    stands_same _ (pre ++ (target_tokens g ++ (mark m.MinusEqual, at) ∷ [])) _ (simp append_assoc)
+    (expression_begins _ _ around pre opened (change_is g down ((mark m.MinusEqual, at) ∷ []) is (refl, tt)))
 change_fine g around pre x (mark m.PlusPlus) at is opened =
-    finish_stands (λ more. of_count g up ((mark m.PlusPlus, at) ∷ more)) _ (target_tokens g) (mark m.PlusPlus, at) semicolon [] around pre opened (λ more. refl) (λ more row. ((is, (refl, row)), refl, refl))
+    finish_stands (λ more. of_count g up ((mark m.PlusPlus, at) ∷ more)) _ (target_tokens g) (mark m.PlusPlus, at) semicolon [] around pre opened
+    (λ more. refl) (λ more row. ((is, (refl, row)), refl, refl))
 change_fine g around pre x (mark m.MinusMinus) at is opened =
-    finish_stands (λ more. of_count g down ((mark m.MinusMinus, at) ∷ more)) _ (target_tokens g) (mark m.MinusMinus, at) semicolon [] around pre opened (λ more. refl) (λ more row. ((is, (refl, row)), refl, refl))
+    finish_stands (λ more. of_count g down ((mark m.MinusMinus, at) ∷ more)) _ (target_tokens g) (mark m.MinusMinus, at)
+    semicolon [] around pre opened (λ more. refl) (λ more row. ((is, (refl, row)), refl, refl))
 change_fine g around pre x (mark _) at is opened = tt
 change_fine g around pre x _ at is opened = tt
 
@@ -231,7 +256,8 @@ comma_stands : (target : Option Text) (from : Place) (callee : Text) (head : Lis
 comma_stands target from callee head before p t around pre opened is =
     let same : pre ++ (head ++ parted_tokens (before ++ parted_of p t ∷ [])) ≡ pre ++ (head ++ parted_tokens before) ++ spelled p ++ t ∷ [] =
     ap (λ (l : List Seen). pre ++ (head ++ l)) (more_tokens before p t) ∙ simp append_assoc in
-    subst (λ (l : List Expression). StandsAt (inside (for_argument from target callee l) (wants bottom) 257 around) (pre ++ (head ++ parted_tokens before) ++ spelled p ++ t ∷ [])) (more_trees before p t)
+    subst (λ (l : List Expression). StandsAt (inside (for_argument from target callee l) (wants bottom) 257 around)
+    (pre ++ (head ++ parted_tokens before) ++ spelled p ++ t ∷ [])) (more_trees before p t)
     (stands_same _ _ _ same (expression_begins _ _ around pre opened is))
 
 -- ---- expressions
@@ -258,18 +284,21 @@ used_fine _ _ p around pre x t (turns_is head row) short opened =
 used_fine _ _ p around pre x t (low_is head row) short opened =
     if_fine _ _ (fits semicolon t.0) _ wrong
     (λ h. stands_same _ (pre ++ (head ++ spelled p) ++ t ∷ []) _ (simp append_assoc)
-    (at_row (bound_row (place_at 0 head) (name_at 2 head) (tree p)) (head ++ spelled p) (t ∷ []) a_name (comparison ∷ []) around pre opened (λ more rest. bound_is head p (t ∷ more) row short (h, rest)))) (λ _. tt)
+    (at_row (bound_row (place_at 0 head) (name_at 2 head) (tree p)) (head ++ spelled p) (t ∷ []) a_name (comparison ∷ []) around pre opened
+    (λ more rest. bound_is head p (t ∷ more) row short (h, rest)))) (λ _. tt)
 used_fine _ _ q around pre x t (high_is head p bound row short parts) high opened =
     if_fine _ _ (fits semicolon t.0) _ wrong
     (λ h. stands_same _ (pre ++ (head ++ spelled p ++ bound ++ spelled q) ++ t ∷ []) _ (simp append_assoc)
-    (at_row (sign_row (header_of head p bound q)) (head ++ spelled p ++ bound ++ spelled q) (t ∷ []) a_name (step_sign ∷ []) around pre opened (λ more rest. sign_is head p bound q (t ∷ more) row short parts high (h, rest)))) (λ _. tt)
+    (at_row (sign_row (header_of head p bound q)) (head ++ spelled p ++ bound ++ spelled q) (t ∷ []) a_name (step_sign ∷ []) around pre opened
+    (λ more rest. sign_is head p bound q (t ∷ more) row short parts high (h, rest)))) (λ _. tt)
 used_fine _ _ p around pre x t (index_is at text a) short opened = index_used at text a p around pre x t.0 t.1 short opened
 used_fine _ _ p around pre x t (value_is g sign is row) short opened =
     if_fine _ _ (fits semicolon t.0) _ wrong
     (λ h. stands_same _ (pre ++ written (of_assign g sign p (t ∷ []))) _ (simp append_assoc) (ended_stands around pre (of_assign g sign p (t ∷ [])) opened (is, row, short, (h, tt)) refl)) (λ _. tt)
 used_fine _ _ p around pre x t (change_is g direction sign is row) short opened =
     if_fine _ _ (fits semicolon t.0) _ wrong
-    (λ h. stands_same _ (pre ++ written (of_change g direction sign p (t ∷ []))) _ (simp append_assoc) (ended_stands around pre (of_change g direction sign p (t ∷ [])) opened (is, row, short, (h, tt)) refl)) (λ _. tt)
+    (λ h. stands_same _ (pre ++ written (of_change g direction sign p (t ∷ []))) _ (simp append_assoc)
+    (ended_stands around pre (of_change g direction sign p (t ∷ [])) opened (is, row, short, (h, tt)) refl)) (λ _. tt)
 used_fine _ _ p around pre x t (argument_is head before row all) short opened =
     if_fine _ _ (is_comma t.0) _ _
     (λ h. comma_stands None (place_at 0 head) (name_at 0 head) head before p t around pre opened (argument_is head (before ++ parted_of p t ∷ []) row (more_parted before p t all short (h, tt))))
@@ -279,13 +308,15 @@ used_fine _ _ p around pre x t (argument_is head before row all) short opened =
     (λ more rest. ((row, (all, short), (h, rest)), refl, simp append_assoc)))) (λ _. tt))
 used_fine _ _ p around pre x t (argument_to_is head before row all) short opened =
     if_fine _ _ (is_comma t.0) _ _
-    (λ h. comma_stands (Some (name_at 0 head)) (place_at 0 head) (name_at 2 head) head before p t around pre opened (argument_to_is head (before ++ parted_of p t ∷ []) row (more_parted before p t all short (h, tt))))
+    (λ h. comma_stands (Some (name_at 0 head)) (place_at 0 head) (name_at 2 head) head before p t around pre opened
+    (argument_to_is head (before ++ parted_of p t ∷ []) row (more_parted before p t all short (h, tt))))
     (λ _. if_fine _ _ (fits right_parenthesis t.0) _ wrong
     (λ h. stands_same _ (pre ++ (head ++ parted_tokens before ++ spelled p) ++ t ∷ []) _ (simp append_assoc)
     (finish_stands (λ more. of_call_to head (arguments before p) (t ∷ more)) _ (head ++ parted_tokens before ++ spelled p) t semicolon [] around pre opened (λ more. refl)
     (λ more rest. ((row, (all, short), (h, rest)), refl, simp append_assoc)))) (λ _. tt))
 
-called_fine : (u : Use) (s : State) (before mid : List Seen) (around : Around) (pre x : List Seen) (t : Seen) → is_left_parenthesis t.0 ≡ true → UseIs u before → StandsIn (least_of u) s mid → Opened around pre →
+called_fine : (u : Use) (s : State) (before mid : List Seen) (around : Around) (pre x : List Seen) (t : Seen) → is_left_parenthesis t.0 ≡ true →
+    UseIs u before → StandsIn (least_of u) s mid → Opened around pre →
     FineTurn x (pre ++ before ++ mid ++ t ∷ []) (elim (lone_name s) [ Some callee ↦ called u callee around | None ↦ wrong ])
 called_fine u _ before _ around pre x t h is (wanting o mid stands) opened = tt
 called_fine u _ before _ around pre x t h is (having p o mid binds whole stands) opened = tt
@@ -312,7 +343,8 @@ called_fine _ _ _ _ around pre x t h (argument_to_is head given row all) (naming
 start_fine : (u : Use) (before : List Seen) (around : Around) (pre x : List Seen) (t : Seen) → UseIs u before → Opened around pre → FineTurn x (pre ++ before ++ t ∷ []) (at_start u around t)
 start_fine _ _ around pre x t (value_is (to_name from target) (s ∷ []) is row) opened =
     if_fine _ _ (is_in t.0) _ wrong
-    (λ h. finish_stands (λ more. of_input ((name target, from) ∷ s ∷ t ∷ more)) (input from target) ((name target, from) ∷ s ∷ []) t left_parenthesis (right_parenthesis ∷ semicolon ∷ []) around pre opened
+    (λ h. finish_stands (λ more. of_input ((name target, from) ∷ s ∷ t ∷ more)) (input from target) ((name target, from) ∷ s ∷ []) t left_parenthesis
+    (right_parenthesis ∷ semicolon ∷ []) around pre opened
     (λ more. refl) (λ more rest. ((refl, (row.0, (h, rest))), refl, refl))) (λ _. tt)
 start_fine _ _ around pre x t (value_is (to_name from target) (s ∷ s' ∷ rest) is row) opened = absurd row.1
 start_fine _ _ around pre x t (value_is (to_name from target) [] is row) opened = absurd row
@@ -347,7 +379,8 @@ stopped_fine u _ before _ around pre x t is (wanting _ _ (at_index a b c q mid s
 stopped_fine u _ before _ around pre x t is (naming at text o mid stands) opened = tt
 stopped_fine u _ before _ around pre x t is (having p o mid binds whole stands) opened = tt
 
-moved_fine : (u : Use) (s : State) (room : ℕ) (before mid : List Seen) (around : Around) (pre : List Seen) (t : Seen) (m : Move) → Fine (least_of u) mid t m → UseIs u before → StandsIn (least_of u) s mid → Opened around pre →
+moved_fine : (u : Use) (s : State) (room : ℕ) (before mid : List Seen) (around : Around) (pre : List Seen) (t : Seen) (m : Move) →
+    Fine (least_of u) mid t m → UseIs u before → StandsIn (least_of u) s mid → Opened around pre →
     FineTurn (pre ++ before ++ mid) (pre ++ before ++ mid ++ t ∷ []) (elim m [
       | goes s' ↦ on (inside u s' (room - 1) around)
       | ends e ↦ if is_left_parenthesis t.0 then elim (lone_name s) [ Some callee ↦ called u callee around | None ↦ wrong ] else used u e around t
@@ -377,7 +410,8 @@ least_small (for_argument at target callee before) = omega arith
 
 -- ---- a token
 
-else_fine : (head : List Seen) (p : Phrase) (close : List Seen) (taken : StatementPhrase) (around : Around) (pre : List Seen) (t : Seen) → IsRow if_head head → IsExpression 1 p → IsRow (right_parenthesis ∷ []) close →
+else_fine : (head : List Seen) (p : Phrase) (close : List Seen) (taken : StatementPhrase) (around : Around) (pre : List Seen) (t : Seen) →
+    IsRow if_head head → IsExpression 1 p → IsRow (right_parenthesis ∷ []) close →
     IsStatement taken → ends_open taken ≡ false → Opened around pre →
     FineTurn (pre ++ head ++ spelled p ++ close ++ written taken) (pre ++ head ++ spelled p ++ close ++ written taken ++ t ∷ []) (else_or (place_at 0 head) (tree p) (meant taken) around t)
 else_fine head p close taken around pre t row short shut first before opened =

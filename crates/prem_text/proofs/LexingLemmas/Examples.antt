@@ -40,14 +40,16 @@ unfolding tokens_of lex step start first_token reserved_word used_word is_unused
 literals = refl
 
 -- what no literal is, at its first byte
-no_literals : all_of (codes " 2147483648" ∷ codes " 4294967296u" ∷ codes " 0x100000000" ∷ codes " 08" ∷ codes " 00" ∷ codes " 0x" ∷ codes " 0xu" ∷ codes " 3uu" ∷ codes " 3a" ∷ codes " 1_" ∷ codes " 0b1" ∷ codes " 5L" ∷ []) ≡
+no_literals : all_of (codes " 2147483648" ∷ codes " 4294967296u" ∷ codes " 0x100000000" ∷ codes " 08" ∷ codes " 00" ∷ codes " 0x" ∷ codes " 0xu" ∷
+    codes " 3uu" ∷ codes " 3a" ∷ codes " 1_" ∷ codes " 0b1" ∷ codes " 5L" ∷ []) ≡
     replicate 12 (Err (Token 1 2))
 unfolding tokens_of lex step start first_token reserved_word used_word is_unused longest_mark literal_word
 no_literals = refl
 
 -- words: every keyword is reserved, and a longer or shorter word is a name
 words_and_names : all_of (codes "unsigned _Bool PREDICTABLE in inx _ voi" ∷ []) ≡ (Ok (
-    on 1 1 (word w.Unsigned) ∷ on 1 10 (word w.Unused) ∷ on 1 16 (word w.Predictable) ∷ on 1 28 (word w.In) ∷ on 1 31 (name (codes "inx")) ∷ on 1 35 (name (codes "_")) ∷ on 1 37 (name (codes "voi")) ∷ on 1 40 end_of_text ∷ []) ∷ [])
+    on 1 1 (word w.Unsigned) ∷ on 1 10 (word w.Unused) ∷ on 1 16 (word w.Predictable) ∷ on 1 28 (word w.In) ∷ on 1 31 (name (codes "inx")) ∷ on 1 35
+    (name (codes "_")) ∷ on 1 37 (name (codes "voi")) ∷ on 1 40 end_of_text ∷ []) ∷ [])
 unfolding tokens_of lex step start first_token reserved_word used_word is_unused longest_mark literal_word
 words_and_names = refl
 
@@ -57,7 +59,8 @@ unfolding tokens_of lex step start first_token reserved_word used_word is_unused
 long_names = refl
 
 -- comments: any byte inside, no nesting, and one that isn't closed
-comments : all_of ((codes "/*" ++ (128 ∷ 0 ∷ []) ++ codes "/**/;") ∷ (codes "//" ++ (255 ∷ 92 ∷ 10 ∷ []) ++ codes ";") ∷ codes "//" ∷ codes "/***/" ∷ codes "; /*/" ∷ codes "/* *" ∷ (codes "a/*" ++ (10 ∷ []) ++ codes "*") ∷ []) ≡ (
+comments : all_of ((codes "/*" ++ (128 ∷ 0 ∷ []) ++ codes "/**/;") ∷ (codes "//" ++ (255 ∷ 92 ∷ 10 ∷ []) ++ codes ";")
+    ∷ codes "//" ∷ codes "/***/" ∷ codes "; /*/" ∷ codes "/* *" ∷ (codes "a/*" ++ (10 ∷ []) ++ codes "*") ∷ []) ≡ (
     Ok (on 1 9 (mark m.Semicolon) ∷ on 1 10 end_of_text ∷ []) ∷
     Ok (on 2 1 (mark m.Semicolon) ∷ on 2 2 end_of_text ∷ []) ∷
     Ok (on 1 3 end_of_text ∷ []) ∷

@@ -4,7 +4,8 @@ use Rattle.prem_syntax.specs.Syntax.{ProgramText}
 use Rattle.prem_syntax.specs.Literals.{HasWordsIf, LocalsHaveWords, ProgramHasWords}
 use Rattle.prem_text.specs.Grammar.Phrases.{spelled}
 use Rattle.prem_text.specs.Grammar.StatementPhrases.{all_written}
-use Rattle.prem_text.specs.Grammar.ProgramPhrases.{declaration_tokens, mark_tokens, parameters_tokens, LocalPhrase, local_tokens, local_trees, ResultPhrase, result_tokens, result_tree, global_tokens, function_tokens, ItemPhrase, of_global, of_function, items_tokens, items_tree}
+use Rattle.prem_text.specs.Grammar.ProgramPhrases.{declaration_tokens, mark_tokens, parameters_tokens, LocalPhrase, local_tokens, local_trees, ResultPhrase, result_tokens}
+use Rattle.prem_text.specs.Grammar.ProgramPhrases.{result_tree, global_tokens, function_tokens, ItemPhrase, of_global, of_function, items_tokens, items_tree}
 use Rattle.prem_text.specs.Texts.{IsProgramText}
 use Rattle.prem_text.specs.ReadWords.Law.{ReadsHaveWords}
 use Rattle.prem_text.proofs.Whole.{text_sound}

@@ -1,6 +1,7 @@
 -- Every text is divided or refused, and the lexer does what its division says.
 use Rattle.std.specs.Prelude.{◌⊎◌}
-use Rattle.std.proofs.Common.{◌≡◌, ◌≤◌, ◌<◌, ℕ, zero, suc, ◌+◌, ◌-◌, Bool, true, false, List, [], ◌∷◌, ◌++◌, length, Option, None, Some, Result, Ok, Err, refl, sym, ap, subst, ◌∙◌, arith, ◌&&◌, ◌||◌, ◌==◌, not, nat_lt, append_assoc, append-nil, length-append, eqb-true, slice_index, inl, inr, lt-ltb, le-ltb, if◌then◌else◌}
+use Rattle.std.proofs.Common.{◌≡◌, ◌≤◌, ◌<◌, ℕ, zero, suc, ◌+◌, ◌-◌, Bool, true, false, List, [], ◌∷◌, ◌++◌, length, Option, None, Some, Result, Ok, Err, refl, sym, ap, subst, ◌∙◌}
+use Rattle.std.proofs.Common.{arith, ◌&&◌, ◌||◌, ◌==◌, not, nat_lt, append_assoc, append-nil, length-append, eqb-true, slice_index, inl, inr, lt-ltb, le-ltb, if◌then◌else◌}
 use Rattle.std.proofs.lemmas.Bool.{and_parts, and_from, or_right, or_from, cases_lt}
 use Rattle.prem_text.specs.declared.lexing.token.fail.FrontFail.{FrontFail}
 use Rattle.prem_text.specs.declared.lexing.token.fail.FrontFail.TheVariants.{NotText, Token, TooLong}
@@ -9,7 +10,8 @@ use Rattle.prem_text.specs.declared.lexing.lexer.Mode.TheVariants.{Skip}
 use Rattle.prem_text.specs.declared.lexing.lexer.Cursor.{Cursor}
 use Rattle.prem_text.specs.Lexing.Tokens.{is_blank, is_printable, first_token, begins_with, lex, with_front, tokens_of}
 use Rattle.prem_text.specs.Spelling.Spellings.{every}
-use Rattle.prem_text.specs.Spelling.Division.{is_feed, has_close, ends_line, Gap, a_blank, a_block, a_line, opens_comment, IsToken, place_behind, Divides, up_to, gap, token, AreTokens, Sticks, is_text, Refused, too_long, too_many, no_text, no_token}
+use Rattle.prem_text.specs.Spelling.Division.{is_feed, has_close, ends_line, Gap, a_blank, a_block, a_line, opens_comment, IsToken, place_behind, Divides, up_to, gap, token}
+use Rattle.prem_text.specs.Spelling.Division.{AreTokens, Sticks, is_text, Refused, too_long, too_many, no_text, no_token}
 use Rattle.prem_text.proofs.SpellingLemmas.Marks.{same_front}
 use Rattle.prem_text.proofs.SpellingLemmas.Front.{token_ready, token_taken}
 use Rattle.prem_text.proofs.SpellingLemmas.Steps.{cursor_behind, gap_passes, token_passes, token_refused, byte_refused, comment_refused}
@@ -59,7 +61,8 @@ gap_opens _ rest text e (a_line body _ all ends) = by_line (ap (begins_with 47 4
 clash : {A : Type 0} (b : Bool) → b ≡ true → b ≡ false → A
 clash b onto off = let e : true ≡ false = sym onto ∙ off in absurd cc
 
-opens_nothing : (text : List ℕ) → is_blank (slice_index text 0) ≡ false → begins_with 47 47 text ≡ false → (begins_with 47 42 text ≡ true → has_close (tail_of (tail_of text)) ≡ true → ⊥) → Opens text → ⊥
+opens_nothing : (text : List ℕ) → is_blank (slice_index text 0) ≡ false → begins_with 47 47 text ≡ false →
+    (begins_with 47 42 text ≡ true → has_close (tail_of (tail_of text)) ≡ true → ⊥) → Opens text → ⊥
 opens_nothing text blank line block (by_blank is) = clash (is_blank (slice_index text 0)) is blank
 opens_nothing text blank line block (by_line is) = clash (begins_with 47 47 text) is line
 opens_nothing text blank line block (by_block is there) = block is there
@@ -213,7 +216,8 @@ record Outcome (before text : List ℕ) : Type 0 where
   divides : Divides before text tokens rest
   end : End rest
 
-further : (before bytes text : List ℕ) → Outcome (before ++ bytes) text → (t : List Seen) → ((ts : List Seen) (rest : List ℕ) → Divides (before ++ bytes) text ts rest → Divides before (bytes ++ text) (t ++ ts) rest) → Outcome before (bytes ++ text)
+further : (before bytes text : List ℕ) → Outcome (before ++ bytes) text → (t : List Seen) →
+    ((ts : List Seen) (rest : List ℕ) → Divides (before ++ bytes) text ts rest → Divides before (bytes ++ text) (t ++ ts) rest) → Outcome before (bytes ++ text)
 further before bytes text o t on = record {
   mid = bytes ++ o.mid;
   rest = o.rest;

@@ -33,7 +33,8 @@ places_behind : places ≡ at 1 1 ∷ at 1 3 ∷ at 2 1 ∷ at 3 3 ∷ []
 places_behind = refl
 
 abbrev closes : List Bool
-closes = has_close (codes "a*b/") ∷ has_close (codes "/") ∷ has_close (codes "a**/") ∷ has_close (codes "*") ∷ opens_comment (codes "/") ∷ opens_comment (codes "//") ∷ opens_comment (codes "/*/") ∷ opens_comment (codes "/ /") ∷ []
+closes = has_close (codes "a*b/") ∷ has_close (codes "/") ∷ has_close (codes "a**/") ∷ has_close (codes "*") ∷ opens_comment (codes "/")
+    ∷ opens_comment (codes "//") ∷ opens_comment (codes "/*/") ∷ opens_comment (codes "/ /") ∷ []
 
 comments_close : closes ≡ false ∷ false ∷ true ∷ false ∷ false ∷ true ∷ true ∷ false ∷ []
 comments_close = refl
@@ -56,7 +57,8 @@ hexadecimal_e = sound _ _ refl
 
 abbrev kinds : List Seen
 kinds =
-    on 1 1 (number 3 Unsigned) ∷ on 1 4 (number 0 Int) ∷ on 1 6 (number 2147483647 Int) ∷ on 1 17 (number 2147483648 Unsigned) ∷ on 1 28 (number 2147483648 Unsigned) ∷ on 1 40 (number 4294967295 Unsigned) ∷ on 1 50 end_of_text ∷ []
+    on 1 1 (number 3 Unsigned) ∷ on 1 4 (number 0 Int) ∷ on 1 6 (number 2147483647 Int) ∷ on 1 17 (number 2147483648 Unsigned) ∷ on 1 28
+    (number 2147483648 Unsigned) ∷ on 1 40 (number 4294967295 Unsigned) ∷ on 1 50 end_of_text ∷ []
 
 literal_kinds : AreTokens (codes "3u 0 2147483647 0x80000000 2147483648u 0xFfffFFFF") kinds
 unfolding tokens_of lex step start first_token reserved_word used_word is_unused longest_mark literal_word
@@ -77,7 +79,8 @@ unfolding tokens_of lex step start first_token reserved_word used_word is_unused
 comment_to_the_end = sound _ _ refl
 
 abbrev shifts : List Seen
-shifts = on 1 1 (mark m.ShiftLeft) ∷ on 1 3 (mark m.Equal) ∷ on 1 5 (mark m.GreaterEqual) ∷ on 1 8 (mark m.ShiftRight) ∷ on 1 10 (mark m.GreaterEqual) ∷ on 1 13 (mark m.Slash) ∷ on 1 15 (mark m.Slash) ∷ on 1 16 end_of_text ∷ []
+shifts = on 1 1 (mark m.ShiftLeft) ∷ on 1 3 (mark m.Equal) ∷ on 1 5 (mark m.GreaterEqual) ∷ on 1 8 (mark m.ShiftRight) ∷ on 1 10 (mark m.GreaterEqual)
+    ∷ on 1 13 (mark m.Slash) ∷ on 1 15 (mark m.Slash) ∷ on 1 16 end_of_text ∷ []
 
 mark_rows : AreTokens (codes "<<= >= >>>= / /") shifts
 unfolding tokens_of lex step start first_token reserved_word used_word is_unused longest_mark literal_word

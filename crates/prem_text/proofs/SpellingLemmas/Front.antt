@@ -1,5 +1,6 @@
 -- The token at the front of a text.
-use Rattle.std.proofs.Common.{◌≡◌, ◌≤◌, ℕ, Bool, true, false, List, [], ◌∷◌, ◌++◌, length, Option, None, Some, refl, sym, ap, subst, ◌∙◌, nat_le, ◌&&◌, not, cond, slice_index, take_while, option_map, le-leb, leb-true, if◌then◌else◌}
+use Rattle.std.proofs.Common.{◌≡◌, ◌≤◌, ℕ, Bool, true, false, List, [], ◌∷◌, ◌++◌, length, Option, None, Some, refl, sym, ap, subst, ◌∙◌, nat_le, ◌&&◌, not, cond, slice_index}
+use Rattle.std.proofs.Common.{take_while, option_map, le-leb, leb-true, if◌then◌else◌}
 use Rattle.std.proofs.lemmas.Bool.{and_parts, and_from, not-true}
 use Rattle.std.proofs.lemmas.List.Sums.{take_while-cons}
 use Rattle.prem_word.specs.declared.kind.Kind.{Kind}
@@ -151,7 +152,8 @@ ready_by : (bytes rest : List ℕ) (t : Lexeme) → Spells bytes t → ((more la
 ready_by _ rest _ (as_name b more letter all le free) longest apart =
     let short : nat_le (length (b ∷ more)) 64 ≡ true = le-leb (length (b ∷ more)) 64 le in
     let none = unreserved (reserved_word (b ∷ more)) (b ∷ more) refl free in
-    let token = plain_token b more (letter_digit b letter) ∙ plain_is (b ∷ more) ∙ ap (plain_of (nat_le (length (b ∷ more)) 64) (b ∷ more)) none ∙ ap (λ (c : Bool). plain_of c (b ∷ more) None) short in
+    let token = plain_token b more (letter_digit b letter) ∙ plain_is (b ∷ more) ∙ ap (plain_of (nat_le (length (b ∷ more)) 64) (b ∷ more)) none
+    ∙ ap (λ (c : Bool). plain_of c (b ∷ more) None) short in
     word_ready b more rest (name (b ∷ more)) (letter_name b letter) all (apart refl) token
 ready_by _ rest _ (as_word bytes k r) longest apart = reserved_ready bytes rest k r (reserved_row bytes k r) (apart refl)
 ready_by _ rest _ (as_literal bytes n kind l) longest apart = literal_ready bytes rest n kind l (literal_row bytes n kind l) (apart refl)
@@ -206,7 +208,8 @@ name_by true None b more t letter all short r is =
     none_some k e = cc
 name_by false None b more t letter all short r is = absurd cc
 
-number_by : (o : Option (ℕ × Kind)) (b : ℕ) (more : List ℕ) (t : Lexeme) → is_digit b ≡ true → literal_word (b ∷ more) ≡ o → option_map (λ (x : ℕ × Kind). number x.0 x.1) o ≡ Some t → Spells (b ∷ more) t
+number_by : (o : Option (ℕ × Kind)) (b : ℕ) (more : List ℕ) (t : Lexeme) → is_digit b ≡ true → literal_word (b ∷ more) ≡ o →
+    option_map (λ (x : ℕ × Kind). number x.0 x.1) o ≡ Some t → Spells (b ∷ more) t
 number_by None b more t digit l is = absurd cc
 number_by (Some x) b more t digit l is = let e : number x.0 x.1 ≡ t = cc in subst (λ (u : Lexeme). Spells (b ∷ more) u) e (as_literal (b ∷ more) x.0 x.1 (literal_found b more x digit l))
 

@@ -1,5 +1,6 @@
 -- Literals: what is read is spelled so, and what is spelled so is read.
-use Rattle.std.proofs.Common.{◌≡◌, ◌≤◌, ◌<◌, ℕ, zero, suc, ◌+◌, ◌*◌, ◌^◌, Bool, true, false, List, [], ◌∷◌, ◌++◌, length, Option, None, Some, refl, sym, ap, subst, ◌∙◌, arith, nat_lt, ◌&&◌, ◌||◌, ◌==◌, slice_index, append-nil, add-mul, mul_assoc, add_assoc, mul-one, add-zero, option_and_then, if◌then◌else◌}
+use Rattle.std.proofs.Common.{◌≡◌, ◌≤◌, ◌<◌, ℕ, zero, suc, ◌+◌, ◌*◌, ◌^◌, Bool, true, false, List, [], ◌∷◌, ◌++◌, length, Option, None, Some, refl, sym, ap, subst, ◌∙◌, arith}
+use Rattle.std.proofs.Common.{nat_lt, ◌&&◌, ◌||◌, ◌==◌, slice_index, append-nil, add-mul, mul_assoc, add_assoc, mul-one, add-zero, option_and_then, if◌then◌else◌}
 use Rattle.std.proofs.lemmas.Bool.{and_parts, and_from}
 use Rattle.std.proofs.lemmas.Bool.Decides.{nat_tests}
 use native.Mathlib.Omega.{pow_step}
@@ -41,7 +42,8 @@ after_more base n (d ∷ ds) pos =
     let here = grows n base (digit_value d) pos in
     let rest = after_more base (n * base + digit_value d) ds pos in omega arith
 
-digits_step : (base n d : ℕ) (ds : List ℕ) → is_suffix d ≡ false → fits base d ≡ true → nat_lt (n * base + digit_value d) (2 ^ 32) ≡ true → digits base n (d ∷ ds) ≡ digits base (n * base + digit_value d) ds
+digits_step : (base n d : ℕ) (ds : List ℕ) → is_suffix d ≡ false → fits base d ≡ true → nat_lt (n * base + digit_value d) (2 ^ 32) ≡ true →
+    digits base n (d ∷ ds) ≡ digits base (n * base + digit_value d) ds
 digits_step base n d ds off is lt = rw (off, is, lt) refl
 
 digits_through : (base n : ℕ) (ds tail : List ℕ) → base ≤ 16 → 0 < base → every (fits base) ds ≡ true → after base n ds < 2 ^ 32 → digits base n (ds ++ tail) ≡ digits base (after base n ds) tail
@@ -174,7 +176,8 @@ zero_shape : (rest : List ℕ) (y : ℕ × Bool) (x : ℕ × Kind) → Found 0 0
 zero_shape _ _ x (found [] tail flag all lt shut) e = kind_sound false flag (48 ∷ []) tail 0 x just_zero lt shut e
 zero_shape _ _ x (found (c ∷ cs) tail flag all lt shut) e = let off : nat_lt (digit_value c) 0 ≡ true = (and_parts (fits 0 c) (every (fits 0) cs) all).0 in absurd (grind (arith, nat_tests))
 
-decimal_shape : (word : List ℕ) (y : ℕ × Bool) (x : ℕ × Kind) (d : ℕ) (ds : List ℕ) → Found 10 0 word y → word ≡ d ∷ ds → is_digit d ≡ true → (d == 48) ≡ false → with_kind false y ≡ Some x → Literal word x.0 x.1
+decimal_shape : (word : List ℕ) (y : ℕ × Bool) (x : ℕ × Kind) (d : ℕ) (ds : List ℕ) → Found 10 0 word y → word ≡ d ∷ ds → is_digit d ≡ true →
+    (d == 48) ≡ false → with_kind false y ≡ Some x → Literal word x.0 x.1
 decimal_shape _ _ x d ds (found [] tail flag all lt shut) same digit off e =
     let onto = suffix_digit d (tail_front tail flag d ds shut same) in
     let clash : true ≡ false = sym digit ∙ onto in absurd cc
@@ -192,7 +195,8 @@ hexadecimal_shape _ _ x sign d ds is_x (found [] tail flag all lt shut) same dig
     let clash : true ≡ false = sym (tail_front tail flag d ds shut same) ∙ off in absurd cc
 hexadecimal_shape _ _ x sign d ds is_x (found (c ∷ cs) tail flag all lt shut) same digit e =
     let value = value_after 16 (c ∷ cs) in
-    kind_sound true flag (48 ∷ sign ∷ c ∷ cs) tail (value_in 16 (c ∷ cs)) x (hexadecimal sign c cs is_x all) (subst (λ (k : ℕ). k < 2 ^ 32) value lt) shut (ap (λ (k : ℕ). with_kind true (k, flag)) (sym value) ∙ e)
+    kind_sound true flag (48 ∷ sign ∷ c ∷ cs) tail (value_in 16 (c ∷ cs)) x (hexadecimal sign c cs is_x all) (subst (λ (k : ℕ). k < 2 ^ 32) value lt)
+    shut (ap (λ (k : ℕ). with_kind true (k, flag)) (sym value) ∙ e)
 
 -- what digits are read as
 by_digits : (T : Type 0) (base : ℕ) (hex : Bool) (ds : List ℕ) (x : ℕ × Kind) → option_and_then (with_kind hex) (digits base 0 ds) ≡ Some x →
@@ -214,8 +218,11 @@ wrong_digit : (sign d : ℕ) (ds : List ℕ) → (sign == 120 || sign == 88) ≡
 unfolding literal_word
 wrong_digit sign d ds is off = rw (is, off) refl
 
-hexadecimal_by : (b : Bool) (sign d : ℕ) (ds : List ℕ) (x : ℕ × Kind) → is_hexadecimal d ≡ b → (sign == 120 || sign == 88) ≡ true → literal_word (48 ∷ sign ∷ d ∷ ds) ≡ Some x → Literal (48 ∷ sign ∷ d ∷ ds) x.0 x.1
-hexadecimal_by true sign d ds x hex is e = by_digits (Literal (48 ∷ sign ∷ d ∷ ds) x.0 x.1) 16 true (d ∷ ds) x (sym (hexadecimal_word sign d ds is hex) ∙ e) (λ y f k. hexadecimal_shape (d ∷ ds) y x sign d ds is f refl hex k)
+hexadecimal_by : (b : Bool) (sign d : ℕ) (ds : List ℕ) (x : ℕ × Kind) → is_hexadecimal d ≡ b → (sign == 120 || sign == 88) ≡ true →
+    literal_word (48 ∷ sign ∷ d ∷ ds) ≡ Some x → Literal (48 ∷ sign ∷ d ∷ ds) x.0 x.1
+hexadecimal_by true sign d ds x hex is e =
+    by_digits (Literal (48 ∷ sign ∷ d ∷ ds) x.0 x.1) 16 true (d ∷ ds) x (sym (hexadecimal_word sign d ds is hex) ∙ e)
+    (λ y f k. hexadecimal_shape (d ∷ ds) y x sign d ds is f refl hex k)
 hexadecimal_by false sign d ds x hex is e = let off : None ≡ Some x = sym (wrong_digit sign d ds is hex) ∙ e in absurd cc
 
 sign_by : (b : Bool) (sign : ℕ) (more : List ℕ) (x : ℕ × Kind) → (sign == 120 || sign == 88) ≡ b → literal_word (48 ∷ sign ∷ more) ≡ Some x → Literal (48 ∷ sign ∷ more) x.0 x.1

@@ -1,6 +1,7 @@
 -- Marks: the one that is read is the longest.
 use Rattle.std.specs.Prelude.{◌⊎◌}
-use Rattle.std.proofs.Common.{◌≡◌, ◌≤◌, ℕ, Bool, true, false, List, [], ◌∷◌, ◌++◌, length, Option, None, Some, refl, sym, ap, subst, ◌∙◌, arith, nat_le, ◌&&◌, ◌==◌, not, slice_index, eq-eqb, eqb-true, leb-true, inl, inr, if◌then◌else◌}
+use Rattle.std.proofs.Common.{◌≡◌, ◌≤◌, ℕ, Bool, true, false, List, [], ◌∷◌, ◌++◌, length, Option, None, Some, refl, sym, ap, subst, ◌∙◌, arith, nat_le, ◌&&◌, ◌==◌, not}
+use Rattle.std.proofs.Common.{slice_index, eq-eqb, eqb-true, leb-true, inl, inr, if◌then◌else◌}
 use Rattle.std.proofs.lemmas.Bool.{and_parts, and_from}
 use Rattle.std.proofs.lemmas.Bool.Decides.{nat_tests}
 use Rattle.prem_text.specs.declared.lexing.token.token.Mark.{Mark}
@@ -49,7 +50,8 @@ first_longest : (x y : List ℕ × Mark) (xs : List (List ℕ × Mark)) → ever
 first_longest x y xs all (inl e) = let same = ap (λ (z : List ℕ × Mark). length z.0) e in omega arith
 first_longest x y xs all (inr t) = leb-true (length y.0) (length x.0) (stands_every (λ (z : List ℕ × Mark). nat_le (length z.0) (length x.0)) y xs t all)
 
-later_longest : (x y : List ℕ × Mark) (xs : List (List ℕ × Mark)) (f g : ℕ) (m : Mark) (k : ℕ) → begins x.0 f g ≡ false → Longest xs f g m k → begins y.0 f g ≡ true → (x ≡ y) ⊎ StandsIn y xs → length y.0 ≤ k
+later_longest : (x y : List ℕ × Mark) (xs : List (List ℕ × Mark)) (f g : ℕ) (m : Mark) (k : ℕ) → begins x.0 f g ≡ false → Longest xs f g m k →
+    begins y.0 f g ≡ true → (x ≡ y) ⊎ StandsIn y xs → length y.0 ≤ k
 later_longest x y xs f g m k off l is (inl e) =
     let same = ap (λ (z : List ℕ × Mark). begins z.0 f g) e in
     let clash : true ≡ false = sym is ∙ sym same ∙ off in absurd cc

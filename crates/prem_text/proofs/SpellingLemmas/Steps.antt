@@ -1,5 +1,6 @@
 -- What the lexer does at a gap, at a token, and where neither begins.
-use Rattle.std.proofs.Common.{◌≡◌, ℕ, zero, suc, ◌+◌, ◌-◌, Bool, true, false, List, [], ◌∷◌, ◌++◌, length, None, Some, Result, Ok, Err, refl, sym, ap, subst, ◌∙◌, arith, ◌==◌, not, cond, reverse, take_while, count_by, append_assoc, append-nil, length-append, eqb-true, if◌then◌else◌}
+use Rattle.std.proofs.Common.{◌≡◌, ℕ, zero, suc, ◌+◌, ◌-◌, Bool, true, false, List, [], ◌∷◌, ◌++◌, length, None, Some, Result, Ok, Err, refl, sym, ap, subst, ◌∙◌, arith, ◌==◌, not}
+use Rattle.std.proofs.Common.{cond, reverse, take_while, count_by, append_assoc, append-nil, length-append, eqb-true, if◌then◌else◌}
 use Rattle.std.proofs.lemmas.Bool.{and_parts, or_parts, and_right}
 use Rattle.std.proofs.lemmas.List.{reverse-append}
 use Rattle.std.proofs.lemmas.List.Sums.{take_while-cons, sum_by-append, sum_by-cons}
@@ -180,7 +181,8 @@ into_line before rest room =
     ∙ lex_on Line Line (before ++ 47 ∷ []) room 47 rest (line_on (cursor_behind (before ++ 47 ∷ [])) 47 rest refl)
     ∙ moved Line room rest _ _ (append_assoc before (47 ∷ []) (47 ∷ []))
 
-pub gap_passes : (bytes text : List ℕ) → Gap bytes text → (before : List ℕ) (room : ℕ) → lex (Skip 0) (cursor_behind before) room (bytes ++ text) ≡ lex (Skip 0) (cursor_behind (before ++ bytes)) room text
+pub gap_passes : (bytes text : List ℕ) → Gap bytes text → (before : List ℕ) (room : ℕ) →
+    lex (Skip 0) (cursor_behind before) room (bytes ++ text) ≡ lex (Skip 0) (cursor_behind (before ++ bytes)) room text
 gap_passes _ text (a_blank b _ is) before room = lex_on (Skip 0) (Skip 0) before room b text (blank_step (cursor_behind before) b text is)
 gap_passes _ text (a_block body _ off) before room =
     into_block before ((body ++ 42 ∷ 47 ∷ []) ++ text) room
@@ -207,8 +209,11 @@ put_same : (t : Lexeme) (at : Cursor) (room : ℕ) (go other : ℕ → Result (L
 put_same t at zero go other same = refl
 put_same t at (suc room) go other same = ap (with_front ((t, place at) ∷ [])) (same room)
 
-ready_passes : (b : ℕ) (more text : List ℕ) (t : Lexeme) → is_blank b ≡ false → is_printable b ≡ true → opens_comment (b ∷ more ++ text) ≡ false → first_token (b ∷ more ++ text) ≡ Some (t, suc (length more)) →
-    (before : List ℕ) (room : ℕ) → lex (Skip 0) (cursor_behind before) room (b ∷ more ++ text) ≡ put (Some t) (cursor_behind before) room (λ left. lex (Skip 0) (cursor_behind (before ++ b ∷ more)) left text)
+ready_passes : (b : ℕ) (more text : List ℕ) (t : Lexeme) → is_blank b ≡ false → is_printable b ≡ true → opens_comment (b ∷ more ++ text) ≡ false →
+    first_token (b ∷ more ++ text) ≡ Some (t, suc (length more)) →
+    (before : List ℕ) (room : ℕ) →
+    lex (Skip 0) (cursor_behind before) room (b ∷ more ++ text)
+    ≡ put (Some t) (cursor_behind before) room (λ left. lex (Skip 0) (cursor_behind (before ++ b ∷ more)) left text)
 ready_passes b more text t blank printable off reads before room =
     lex_takes (Skip 0) (Skip (length more)) t (cursor_behind before) room b (more ++ text) (token_here (cursor_behind before) b (more ++ text) t (length more) blank off printable reads)
     ∙ put_same t (cursor_behind before) room _ _ (λ left.
@@ -227,7 +232,8 @@ token_passes bytes text t token before room =
 
 -- ---- refusals
 
-no_token_here : (at : Cursor) (b : ℕ) (rest : List ℕ) → is_blank b ≡ false → opens_comment (b ∷ rest) ≡ false → is_printable b ≡ true → first_token (b ∷ rest) ≡ None → step (Skip 0) at (b ∷ rest) ≡ no_token (place at)
+no_token_here : (at : Cursor) (b : ℕ) (rest : List ℕ) → is_blank b ≡ false → opens_comment (b ∷ rest) ≡ false → is_printable b ≡ true →
+    first_token (b ∷ rest) ≡ None → step (Skip 0) at (b ∷ rest) ≡ no_token (place at)
 unfolding step start
 no_token_here at b rest blank off printable reads =
     let parts = or_parts (begins_with 47 42 (b ∷ rest)) (begins_with 47 47 (b ∷ rest)) off in

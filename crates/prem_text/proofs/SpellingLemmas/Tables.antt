@@ -113,7 +113,8 @@ one_of_read : (xs : List (List ℕ)) (bytes : List ℕ) → StandsIn bytes xs �
 one_of_read [] bytes t = absurd (stands_none bytes t)
 one_of_read (x ∷ xs) bytes t = one_of_by x bytes xs (one_of_read xs bytes) (split bytes (x ∷ xs) t x xs refl)
 
-one_of_found_by : (b : Bool) (x bytes : List ℕ) (xs : List (List ℕ)) → bytes_eq bytes x ≡ b → (is_one_of xs bytes ≡ true → StandsIn bytes xs) → (b || is_one_of xs bytes) ≡ true → StandsIn bytes (x ∷ xs)
+one_of_found_by : (b : Bool) (x bytes : List ℕ) (xs : List (List ℕ)) → bytes_eq bytes x ≡ b → (is_one_of xs bytes ≡ true → StandsIn bytes xs) →
+    (b || is_one_of xs bytes) ≡ true → StandsIn bytes (x ∷ xs)
 one_of_found_by true x bytes xs e rec is = subst (λ (y : List ℕ). StandsIn bytes (y ∷ xs)) (same_bytes bytes x e) (at_front xs)
 one_of_found_by false x bytes xs e rec is = further x xs (rec is)
 

@@ -3,12 +3,15 @@ use Rattle.std.specs.Prelude.{ℕ, ◌-◌, ℤ, pos, neg_ℤ, Bool, true, false
 use Rattle.prem_syntax.specs.declared.tree.Place.{Place}
 use Rattle.prem_syntax.specs.declared.tree.Ty.{Ty}
 use Rattle.prem_syntax.specs.declared.tree.Ty.TheVariants.{Void, Int, Unsigned, Short, Ushort, Schar, Uchar}
-use Rattle.prem_syntax.specs.Syntax.{Text, Expression, no_statements, Statements, Parameter, LocalVariable, RegionText, MarkText, InitialValue, absent, one, many, GlobalVariable, FunctionText, ItemText, global_item, function_item}
+use Rattle.prem_syntax.specs.Syntax.{Text, Expression, no_statements, Statements, Parameter, LocalVariable, RegionText, MarkText, InitialValue, absent, one, many, GlobalVariable}
+use Rattle.prem_syntax.specs.Syntax.{FunctionText, ItemText, global_item, function_item}
 use Rattle.prem_text.specs.declared.lexing.token.token.Mark.TheVariants as m
 use Rattle.prem_text.specs.declared.lexing.token.token.Word.{Word}
 use Rattle.prem_text.specs.declared.lexing.token.token.Word.TheVariants as w
 use Rattle.prem_text.specs.Lexing.Token.Lexeme.{Lexeme, name, number, word, mark, Seen}
-use Rattle.prem_text.specs.Grammar.Slots.{Slot, left_parenthesis, right_parenthesis, left_brace, right_brace, right_bracket, semicolon, comma, equal_sign, a_name, a_literal, fits, text_at, value_at, place_at, is_left_parenthesis, is_right_parenthesis, is_left_bracket, is_left_brace, is_right_brace, is_comma, is_semicolon, is_equal, is_return, is_void, is_range, is_predictable, is_region, is_end}
+use Rattle.prem_text.specs.Grammar.Slots.{Slot, left_parenthesis, right_parenthesis, left_brace, right_brace, right_bracket, semicolon, comma, equal_sign, a_name, a_literal, fits}
+use Rattle.prem_text.specs.Grammar.Slots.{text_at, value_at, place_at, is_left_parenthesis, is_right_parenthesis, is_left_bracket, is_left_brace, is_right_brace, is_comma}
+use Rattle.prem_text.specs.Grammar.Slots.{is_semicolon, is_equal, is_return, is_void, is_range, is_predictable, is_region, is_end}
 use Rattle.prem_text.specs.Grammar.Expression.{bottom, State, wants, goes, ends, stops, move}
 use Rattle.prem_text.specs.Grammar.Statement.{listed, in_body, Point, between, Turn, on, leaves, wrong, turn, is_past}
 

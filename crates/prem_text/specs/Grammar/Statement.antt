@@ -4,11 +4,14 @@ use Rattle.prem_word.specs.declared.kind.Kind.TheVariants.{Int}
 use Rattle.prem_word.specs.declared.kind.BinOp.{BinOp}
 use Rattle.prem_word.specs.declared.kind.BinOp.TheVariants.{Add, Sub}
 use Rattle.prem_syntax.specs.declared.tree.Place.{Place}
-use Rattle.prem_syntax.specs.Syntax.{Text, Expression, literal, variable, element, binary, LoopNames, Statement, block, if_then, if_else, bounded_while, counting_for, assign, output, input, call, Statements, no_statements, next_statement}
+use Rattle.prem_syntax.specs.Syntax.{Text, Expression, literal, variable, element, binary, LoopNames, Statement, block, if_then, if_else, bounded_while, counting_for, assign}
+use Rattle.prem_syntax.specs.Syntax.{output, input, call, Statements, no_statements, next_statement}
 use Rattle.prem_text.specs.declared.lexing.token.token.Mark.TheVariants as m
 use Rattle.prem_text.specs.declared.lexing.token.token.Word.TheVariants as w
 use Rattle.prem_text.specs.Lexing.Token.Lexeme.{Lexeme, name, word, mark, Seen}
-use Rattle.prem_text.specs.Grammar.Slots.{Slot, left_parenthesis, right_parenthesis, right_bracket, semicolon, equal_sign, plus_sign, plus_plus, plus_equal, comparison, step_sign, a_name, a_literal, the_while, fits, text_at, value_at, place_at, slot_at, is_else, is_in, is_left_parenthesis, is_left_bracket, is_right_brace, is_comma, is_less_equal}
+use Rattle.prem_text.specs.Grammar.Slots.{Slot, left_parenthesis, right_parenthesis, right_bracket, semicolon, equal_sign, plus_sign, plus_plus, plus_equal, comparison, step_sign}
+use Rattle.prem_text.specs.Grammar.Slots.{a_name, a_literal, the_while, fits, text_at, value_at, place_at, slot_at, is_else, is_in, is_left_parenthesis, is_left_bracket}
+use Rattle.prem_text.specs.Grammar.Slots.{is_right_brace, is_comma, is_less_equal}
 use Rattle.prem_text.specs.Grammar.Expression.{bottom, State, wants, named, goes, ends, stops, move}
 
 abbrev pub listed : List Statement → Statements

@@ -1,5 +1,6 @@
 -- The tokens of a text, with their places.
-use Rattle.std.specs.Prelude.{ℕ, zero, suc, ◌+◌, ◌-◌, ◌==◌, Bool, ◌||◌, ◌&&◌, not, if◌then◌else◌, nat_lt, nat_le, List, [], ◌∷◌, length, ◌++◌, Option, None, Some, Result, Ok, Err, take_while, slice_index}
+use Rattle.std.specs.Prelude.{ℕ, zero, suc, ◌+◌, ◌-◌, ◌==◌, Bool, ◌||◌, ◌&&◌, not, if◌then◌else◌, nat_lt, nat_le, List, [], ◌∷◌, length, ◌++◌, Option, None, Some, Result, Ok, Err}
+use Rattle.std.specs.Prelude.{take_while, slice_index}
 use Rattle.std.specs.Option.{option_map}
 use Rattle.prem_syntax.specs.declared.tree.Place.{Place}
 use Rattle.prem_text.specs.declared.lexing.token.fail.FrontFail.{FrontFail}

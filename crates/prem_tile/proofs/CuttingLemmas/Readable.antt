@@ -3,13 +3,15 @@ use Rattle.std.specs.Prelude.{nat_lt, nat_le, ◌==◌, codes, decimal, pos}
 use Rattle.std.specs.Str.{bytes_eq}
 use Rattle.std.specs.Str.Parse.{AllDigits}
 use Rattle.std.specs.List.{list_any}
-use Rattle.std.proofs.Common.{◌≡◌, ℕ, zero, suc, ◌+◌, ◌^◌, ◌<◌, ◌≤◌, Bool, true, false, cond, not, ◌&&◌, ◌||◌, List, [], ◌∷◌, ◌++◌, length, map, refl, ap, sym, ◌∙◌, subst, arith, Option, None, Some, option_map, true≢false, ⊎_elim}
+use Rattle.std.proofs.Common.{◌≡◌, ℕ, zero, suc, ◌+◌, ◌^◌, ◌<◌, ◌≤◌, Bool, true, false, cond, not, ◌&&◌, ◌||◌, List, [], ◌∷◌, ◌++◌, length, map, refl, ap, sym, ◌∙◌, subst, arith}
+use Rattle.std.proofs.Common.{Option, None, Some, option_map, true≢false, ⊎_elim}
 use Rattle.std.proofs.lemmas.Bool.{and_from, and_parts}
 use Rattle.std.proofs.lemmas.Fmt.{decimal_is_IsNumeral}
 use Rattle.prem_word.specs.declared.kind.Kind.{Kind}
 use Rattle.prem_word.specs.declared.kind.Kind.TheVariants.{Int, Unsigned}
 use Rattle.prem_syntax.specs.declared.tree.Place.{Place}
-use Rattle.prem_syntax.specs.Syntax.{Text, Expression, literal, Statement, block, if_then, if_else, bounded_while, counting_for, assign, output, input, call, Statements, no_statements, next_statement, RegionText, MarkText, FunctionText, ItemText, global_item, function_item, ProgramText}
+use Rattle.prem_syntax.specs.Syntax.{Text, Expression, literal, Statement, block, if_then, if_else, bounded_while, counting_for, assign, output, input, call, Statements}
+use Rattle.prem_syntax.specs.Syntax.{no_statements, next_statement, RegionText, MarkText, FunctionText, ItemText, global_item, function_item, ProgramText}
 use Rattle.prem_text.specs.declared.lexing.token.token.Word.{Word}
 use Rattle.prem_text.specs.declared.lexing.token.token.Mark.TheVariants as m
 use Rattle.prem_text.specs.declared.lexing.token.token.Word.TheVariants as w
@@ -18,12 +20,15 @@ use Rattle.prem_text.specs.Lexing.Token.Lexeme.{Lexeme, name, number, word, mark
 use Rattle.prem_text.specs.Lexing.Tokens.{is_digit, is_name_byte}
 use Rattle.prem_text.specs.Spelling.Spellings.{StandsIn, at_front, further, every, Reserved, used, without_use, Spells, as_name, as_word, as_literal, as_mark}
 use Rattle.prem_text.specs.Canonical.Unplaced.{unplaced_statement, unplaced_statements, unplaced_item, unplaced}
-use Rattle.prem_text.specs.Canonical.Canonical.{number_lexeme, expression_lexemes, while_lexemes, for_lexemes, bound_lexemes, step_lexemes, if_lexemes, statement_lexemes, statements_lexemes, declaration_lexemes, regions_lexemes, mark_lexemes, parameters_lexemes, locals_lexemes, result_lexemes, function_lexemes, item_lexemes, program_lexemes, type_lexemes}
+use Rattle.prem_text.specs.Canonical.Canonical.{number_lexeme, expression_lexemes, while_lexemes, for_lexemes, bound_lexemes, step_lexemes, if_lexemes, statement_lexemes}
+use Rattle.prem_text.specs.Canonical.Canonical.{statements_lexemes, declaration_lexemes, regions_lexemes, mark_lexemes, parameters_lexemes, locals_lexemes, result_lexemes}
+use Rattle.prem_text.specs.Canonical.Canonical.{function_lexemes, item_lexemes, program_lexemes, type_lexemes}
 use Rattle.prem_text.proofs.CanonicalLemmas.Sayable.{IsSayable, AreSayable, both, number_said}
 use Rattle.prem_text.proofs.CanonicalLemmas.Shaped.{leaves_open, IsShaped, AreShaped, IsShapedItem, AreShapedItems}
 use Rattle.prem_text.proofs.CanonicalLemmas.Spelled.{in_digits}
 use Rattle.prem_tiling.specs.Shapes.Narrowed.{added_in}
-use Rattle.prem_tiling.specs.Shapes.Tiled.{Cut, tile_name, last_of, tile_loop, tile_region, tile_mark, tile_of, tiles_from, low_of, closed_of, high_of, calls_from, with_tiles, all_with_tiles, function_with_tiles, item_with_tiles, tiled}
+use Rattle.prem_tiling.specs.Shapes.Tiled.{Cut, tile_name, last_of, tile_loop, tile_region, tile_mark, tile_of, tiles_from, low_of, closed_of, high_of, calls_from, with_tiles}
+use Rattle.prem_tiling.specs.Shapes.Tiled.{all_with_tiles, function_with_tiles, item_with_tiles, tiled}
 use Rattle.prem_tiling.proofs.LawsLemmas.Shapes.{IsShape, low_end, high_end, statement_of}
 use Rattle.prem_tiling.proofs.LawsLemmas.Quiet.{IsWithin, narrowed_within}
 use Rattle.prem_tile.proofs.CuttingLemmas.Printable.{IsPrintable}
@@ -122,7 +127,9 @@ module _ (f : Text) (tiles : ℕ) (said : (t : ℕ) → t < tiles → Spells (ti
   calls_said at zero t ends = tt
   calls_said at (suc n) t ends = (said t (omega arith), calls_said at n (t + 1) (omega arith))
 
-  call_said : (at : Place) (target : Option Text) (callee : Text) (es : List Expression) (b : Bool) → AreSayable (statement_lexemes (call at target callee es)) → AreSayable (statement_lexemes (cond b (block at (calls_from at f 0 tiles)) (call at target callee es)))
+  call_said : (at : Place) (target : Option Text) (callee : Text) (es : List Expression) (b : Bool) →
+      AreSayable (statement_lexemes (call at target callee es)) →
+      AreSayable (statement_lexemes (cond b (block at (calls_from at f 0 tiles)) (call at target callee es)))
   call_said at target callee es true p = both (statements_lexemes (calls_from at f 0 tiles)) (mark m.CloseBrace ∷ []) (calls_said at tiles 0 (omega arith)) tt
   call_said at target callee es false p = p
 
@@ -134,11 +141,15 @@ module _ (f : Text) (tiles : ℕ) (said : (t : ℕ) → t < tiles → Spells (ti
         let if_ = if_lexemes condition in
         let else_ = word w.Else ∷ [] in
         let head = with_first (if_ ++ statement_lexemes taken ++ else_) (statement_lexemes other) (if_ ++ statement_lexemes (with_tiles f tiles taken) ++ else_)
-        (with_first (if_ ++ statement_lexemes taken) else_ (if_ ++ statement_lexemes (with_tiles f tiles taken)) (with_last if_ (statement_lexemes taken) (statement_lexemes (with_tiles f tiles taken)) (with_said taken))) p in
+        (with_first (if_ ++ statement_lexemes taken) else_ (if_ ++ statement_lexemes (with_tiles f tiles taken))
+        (with_last if_ (statement_lexemes taken) (statement_lexemes (with_tiles f tiles taken)) (with_said taken))) p in
         with_last (if_ ++ statement_lexemes (with_tiles f tiles taken) ++ else_) (statement_lexemes other) (statement_lexemes (with_tiles f tiles other)) (with_said other) head
-    with_said (bounded_while at turns condition body) p = with_last (while_lexemes turns ++ expression_lexemes 1 condition ++ mark m.CloseParenthesis ∷ []) (statement_lexemes body) (statement_lexemes (with_tiles f tiles body)) (with_said body) p
+    with_said (bounded_while at turns condition body) p =
+        with_last (while_lexemes turns ++ expression_lexemes 1 condition ++ mark m.CloseParenthesis ∷ []) (statement_lexemes body)
+        (statement_lexemes (with_tiles f tiles body)) (with_said body) p
     with_said (counting_for at names low closed high step body) p =
-        with_last (for_lexemes names.first ++ expression_lexemes 1 low ++ bound_lexemes names.second closed ++ expression_lexemes 8 high ++ step_lexemes names.third names.fourth step) (statement_lexemes body) (statement_lexemes (with_tiles f tiles body)) (with_said body) p
+        with_last (for_lexemes names.first ++ expression_lexemes 1 low ++ bound_lexemes names.second closed ++ expression_lexemes 8 high
+        ++ step_lexemes names.third names.fourth step) (statement_lexemes body) (statement_lexemes (with_tiles f tiles body)) (with_said body) p
     with_said (assign at x index value) p = p
     with_said (output at value) p = p
     with_said (input at x) p = p
@@ -147,7 +158,8 @@ module _ (f : Text) (tiles : ℕ) (said : (t : ℕ) → t < tiles → Spells (ti
     all_said : (ss : Statements) → AreSayable (statements_lexemes ss) → AreSayable (statements_lexemes (all_with_tiles f tiles ss))
     all_said no_statements p = p
     all_said (next_statement s ss) p =
-        both (statement_lexemes (with_tiles f tiles s)) (statements_lexemes (all_with_tiles f tiles ss)) (with_said s (say_front (statement_lexemes s) (statements_lexemes ss) p)) (all_said ss (say_back (statement_lexemes s) (statements_lexemes ss) p))
+        both (statement_lexemes (with_tiles f tiles s)) (statements_lexemes (all_with_tiles f tiles ss))
+        (with_said s (say_front (statement_lexemes s) (statements_lexemes ss) p)) (all_said ss (say_back (statement_lexemes s) (statements_lexemes ss) p))
 
 -- ---- shapes
 
@@ -170,7 +182,8 @@ calls_shaped : (f : Text) (at : Place) (n t : ℕ) → AreShaped (unplaced_state
 calls_shaped f at zero t = tt
 calls_shaped f at (suc n) t = (tt, calls_shaped f at n (t + 1))
 
-call_shaped : (f : Text) (n : ℕ) (at : Place) (target : Option Text) (callee : Text) (es : List Expression) (b : Bool) → IsShaped (unplaced_statement (cond b (block at (calls_from at f 0 n)) (call at target callee es)))
+call_shaped : (f : Text) (n : ℕ) (at : Place) (target : Option Text) (callee : Text) (es : List Expression) (b : Bool) →
+    IsShaped (unplaced_statement (cond b (block at (calls_from at f 0 n)) (call at target callee es)))
 call_shaped f n at target callee es true = calls_shaped f at n 0
 call_shaped f n at target callee es false = tt
 
@@ -198,9 +211,11 @@ before_body f =
     mark_lexemes f.mark ++ declaration_lexemes f.ty f.name ++ (mark m.OpenParenthesis ∷ []) ++ parameters_lexemes f.params
     ++ (mark m.CloseParenthesis ∷ mark m.OpenBrace ∷ []) ++ locals_lexemes f.locals
 
-function_said : (c : Cut) → ((t : ℕ) → t < c.tiles → Spells (tile_name c.function.name t) (name (tile_name c.function.name t))) → (f : FunctionText) → AreSayable (function_lexemes f) → AreSayable (function_lexemes (function_with_tiles c f))
+function_said : (c : Cut) → ((t : ℕ) → t < c.tiles → Spells (tile_name c.function.name t) (name (tile_name c.function.name t))) → (f : FunctionText) →
+    AreSayable (function_lexemes f) → AreSayable (function_lexemes (function_with_tiles c f))
 function_said c said f p =
-    with_first (before_body f ++ statements_lexemes f.body ++ result_lexemes f.result) (mark m.CloseBrace ∷ []) (before_body f ++ statements_lexemes (all_with_tiles c.function.name c.tiles f.body) ++ result_lexemes f.result)
+    with_first (before_body f ++ statements_lexemes f.body ++ result_lexemes f.result) (mark m.CloseBrace ∷ [])
+    (before_body f ++ statements_lexemes (all_with_tiles c.function.name c.tiles f.body) ++ result_lexemes f.result)
     (with_first (before_body f ++ statements_lexemes f.body) (result_lexemes f.result) (before_body f ++ statements_lexemes (all_with_tiles c.function.name c.tiles f.body))
     (with_last (before_body f) (statements_lexemes f.body) (statements_lexemes (all_with_tiles c.function.name c.tiles f.body)) (all_said c.function.name c.tiles said f.body))) p
 
@@ -228,8 +243,10 @@ module _ (c : Cut) (t : ℕ) where
   regions_said (r ∷ rs) p =
       let r' = tile_region c t r in
       let low = number_small r.low p.1.0 in
-      let high = number_small r.high p.1.1.0 in
-      (subst (λ x. Spells x (name x)) (sym (region_is r).name) p.0, (number_said r'.low (low_small r' r (region_is r) low high), (number_said r'.high (high_small r' r (region_is r) high), regions_said rs p.1.1.1)))
+      let high = number_small r.high p.1.1.0 in (
+        subst (λ x. Spells x (name x)) (sym (region_is r).name) p.0,
+        (number_said r'.low (low_small r' r (region_is r) low high), (number_said r'.high (high_small r' r (region_is r) high), regions_said rs p.1.1.1)),
+      )
 
   mark_said : c.stated ≤ 2147483647 → (k : Option MarkText) → AreSayable (mark_lexemes k) → AreSayable (mark_lexemes (option_map (tile_mark c t) k))
   mark_said small None p = p
@@ -255,14 +272,20 @@ module _ (c : Cut) (t : ℕ) where
       let lo' = expression_lexemes 1 (literal l.low.at (low_of c t) l.low.kind) in
       let hi' = expression_lexemes 8 (literal l.high.at (high_of c t) l.high.kind) in
       let bound' = bound_lexemes l.names.second (closed_of c t) in
-      both (head ++ lo' ++ bound' ++ hi' ++ step) body (both (head ++ lo' ++ bound' ++ hi') step (both (head ++ lo' ++ bound') hi' (both (head ++ lo') bound' (both head lo' (say_front head lo two) (literal_said 1 l.low.at (low_of c t) l.low.kind low)) (bound_said l.names.second l.closed (closed_of c t) (say_back (head ++ lo) bound three)))
+      both (head ++ lo' ++ bound' ++ hi' ++ step) body
+      (both (head ++ lo' ++ bound' ++ hi') step
+      (both (head ++ lo' ++ bound') hi'
+      (both (head ++ lo') bound' (both head lo' (say_front head lo two) (literal_said 1 l.low.at (low_of c t) l.low.kind low))
+      (bound_said l.names.second l.closed (closed_of c t) (say_back (head ++ lo) bound three)))
       (literal_said 8 l.high.at (high_of c t) l.high.kind high)) (say_back (head ++ lo ++ bound ++ hi) step five)) (say_back (head ++ lo ++ bound ++ hi ++ step) body p)
     where
       bound_said : (x : Text) (b b' : Bool) → AreSayable (bound_lexemes x b) → AreSayable (bound_lexemes x b')
       bound_said x b b' q = (q.0, tt)
 
   -- a tile, where the function is in a text
-  tile_function_said : IsShape c.function c.loop → c.stated ≤ 2147483647 → low_of c t ≤ 2147483647 → high_of c t ≤ 2147483647 → Spells (tile_name c.function.name t) (name (tile_name c.function.name t)) → AreSayable (function_lexemes c.function) → AreSayable (function_lexemes (tile_of c t))
+  tile_function_said : IsShape c.function c.loop → c.stated ≤ 2147483647 → low_of c t ≤ 2147483647 → high_of c t ≤ 2147483647 →
+      Spells (tile_name c.function.name t) (name (tile_name c.function.name t)) → AreSayable (function_lexemes c.function) →
+      AreSayable (function_lexemes (tile_of c t))
   tile_function_said shape small low high said p =
       let f = c.function in
       let types = type_lexemes f.ty in
@@ -287,7 +310,8 @@ module _ (c : Cut) (t : ℕ) where
       let own = subst (λ ss. AreSayable (statements_lexemes ss)) shape.body (say_back (before_body f) body front) in
       let new_head = both (marks' ++ declaration' ++ params ++ names ++ opening) locals
       (both (marks' ++ declaration' ++ params ++ names) opening (both (marks' ++ declaration' ++ params) names (both (marks' ++ declaration') params
-      (both marks' declaration' (mark_said small f.mark (say_front marks declaration to_declaration)) (both types (name (tile_name f.name t) ∷ []) (say_front types (name f.name ∷ []) (say_back marks declaration to_declaration)) (said, tt))) tt)
+      (both marks' declaration' (mark_said small f.mark (say_front marks declaration to_declaration))
+      (both types (name (tile_name f.name t) ∷ []) (say_front types (name f.name ∷ []) (say_back marks declaration to_declaration)) (said, tt))) tt)
       (say_back (marks ++ declaration ++ params) names to_names)) tt) (say_back (marks ++ declaration ++ params ++ names ++ opening) locals head) in
       both (before_body (tile_of c t) ++ body' ++ result) (mark m.CloseBrace ∷ [])
       (both (before_body (tile_of c t) ++ body') result (both (before_body (tile_of c t)) body' new_head
@@ -295,13 +319,16 @@ module _ (c : Cut) (t : ℕ) where
 
 -- ---- programs
 
-module _ (c : Cut) (shape : IsShape c.function c.loop) (small : c.stated ≤ 2147483647) (lows : (t : ℕ) → t < c.tiles → low_of c t ≤ 2147483647) (highs : (t : ℕ) → t < c.tiles → high_of c t ≤ 2147483647)
-    (said : (t : ℕ) → t < c.tiles → Spells (tile_name c.function.name t) (name (tile_name c.function.name t))) (own : AreSayable (function_lexemes c.function)) (own_shape : IsShapedItem (unplaced_item (function_item c.function))) where
+module _ (c : Cut) (shape : IsShape c.function c.loop) (small : c.stated ≤ 2147483647) (lows : (t : ℕ) → t < c.tiles → low_of c t ≤ 2147483647)
+    (highs : (t : ℕ) → t < c.tiles → high_of c t ≤ 2147483647)
+    (said : (t : ℕ) → t < c.tiles → Spells (tile_name c.function.name t) (name (tile_name c.function.name t)))
+    (own : AreSayable (function_lexemes c.function)) (own_shape : IsShapedItem (unplaced_item (function_item c.function))) where
   tiles_said : (n t : ℕ) → t + n ≡ c.tiles → (rest : ProgramText) → AreSayable (program_lexemes rest) → AreSayable (program_lexemes (tiles_from c t n ++ rest))
   tiles_said zero t ends rest p = p
   tiles_said (suc n) t ends rest p =
       let lt : t < c.tiles = omega arith in
-      both (function_lexemes (tile_of c t)) (program_lexemes (tiles_from c (t + 1) n ++ rest)) (tile_function_said c t shape small (lows t lt) (highs t lt) (said t lt) own) (tiles_said n (t + 1) (omega arith) rest p)
+      both (function_lexemes (tile_of c t)) (program_lexemes (tiles_from c (t + 1) n ++ rest))
+      (tile_function_said c t shape small (lows t lt) (highs t lt) (said t lt) own) (tiles_said n (t + 1) (omega arith) rest p)
 
   item_said : (i : ItemText) (rest : ProgramText) → AreSayable (item_lexemes i) → AreSayable (program_lexemes rest) → AreSayable (program_lexemes (item_with_tiles c i ++ rest))
   item_said (global_item g) rest p q = both (item_lexemes (global_item g)) (program_lexemes rest) p q
@@ -354,7 +381,9 @@ name_said f p =
     let params = mark m.OpenParenthesis ∷ [] in
     let names = parameters_lexemes f.params in
     let opening = mark m.CloseParenthesis ∷ mark m.OpenBrace ∷ [] in
-    let head = say_front (before_body f) (statements_lexemes f.body) (say_front (before_body f ++ statements_lexemes f.body) (result_lexemes f.result) (say_front (before_body f ++ statements_lexemes f.body ++ result_lexemes f.result) (mark m.CloseBrace ∷ []) p)) in
+    let head = say_front (before_body f) (statements_lexemes f.body)
+    (say_front (before_body f ++ statements_lexemes f.body) (result_lexemes f.result)
+    (say_front (before_body f ++ statements_lexemes f.body ++ result_lexemes f.result) (mark m.CloseBrace ∷ []) p)) in
     let to_names = say_front (marks ++ declaration ++ params ++ names) opening (say_front (marks ++ declaration ++ params ++ names ++ opening) (locals_lexemes f.locals) head) in
     let to_declaration = say_front (marks ++ declaration) params (say_front (marks ++ declaration ++ params) names to_names) in
     (say_back (type_lexemes f.ty) (name f.name ∷ []) (say_back marks declaration to_declaration)).0

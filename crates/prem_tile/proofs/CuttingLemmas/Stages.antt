@@ -25,7 +25,8 @@ module _ (past : Past) (c : Cut) (p : ProgramText) (asked : IsAsked p c) (can : 
   past_is : is_past past c (tiled c p) ≡ (nat_lt 256 (length (functions_of (tiled c p))) || long_names c || past (tiled c p))
   past_is = ap (λ b. b || long_names c || past (tiled c p)) (only_functions p c asked.formed can asked.some asked.stated)
 
-  pub ends_by : (functions names text : Bool) → nat_lt 256 (length (functions_of (tiled c p))) ≡ functions → long_names c ≡ names → past (tiled c p) ≡ text → unless_past past c p ≡ cond (functions || names || text) (Err limit) (Ok (tiled c p))
+  pub ends_by : (functions names text : Bool) → nat_lt 256 (length (functions_of (tiled c p))) ≡ functions → long_names c ≡ names →
+      past (tiled c p) ≡ text → unless_past past c p ≡ cond (functions || names || text) (Err limit) (Ok (tiled c p))
   ends_by functions names text e f g = ap (λ b. cond b (Err limit) (Ok (tiled c p))) (past_is ∙ (λ i. e i || f i || g i))
 
 -- a function is found by its own name
@@ -33,6 +34,7 @@ pub named_again : (fs : List FunctionText) (name : Text) (f : FunctionText) → 
 named_again fs name f is = ap (marked_named fs) (named_so fs name f is) ∙ is
 
 -- what is known of the program that was given
-pub kept_result : (past : Past) (p : ProgramText) (name : Text) (tiles stated : ℕ) (r : Result Program TileFail) → IsWellFormed p → 2 ≤ tiles → tiles ≤ 64 → Tells r (tile past p name tiles stated) → IfOk r (λ q. IsTiled p (program_of q) name tiles)
+pub kept_result : (past : Past) (p : ProgramText) (name : Text) (tiles stated : ℕ) (r : Result Program TileFail) → IsWellFormed p → 2 ≤ tiles →
+    tiles ≤ 64 → Tells r (tile past p name tiles stated) → IfOk r (λ q. IsTiled p (program_of q) name tiles)
 kept_result past p name tiles stated (Ok q) formed several few is = tile_kept past p name tiles stated (program_of q) formed several few is
 kept_result past p name tiles stated (Err fail) formed several few is = tt

@@ -33,7 +33,8 @@ use Rattle.prem_tile.specs.Cutting.Answer.{ends_at_limit, is_text_past, IsTiled,
 use Rattle.prem_tile.proofs.CuttingLemmas.Printable.{IsPrintable, read_printable, printable_read}
 use Rattle.prem_tile.proofs.CuttingLemmas.Readable.{tile_said, items_said, items_shaped, function_inside, name_said}
 
-pub tile_kept : (past : Past) (p : ProgramText) (function : Text) (tiles stated : ℕ) (q : ProgramText) → IsWellFormed p → 2 ≤ tiles → tiles ≤ 64 → tile past p function tiles stated ≡ Ok q → IsTiled p q function tiles
+pub tile_kept : (past : Past) (p : ProgramText) (function : Text) (tiles stated : ℕ) (q : ProgramText) → IsWellFormed p → 2 ≤ tiles → tiles ≤ 64 →
+    tile past p function tiles stated ≡ Ok q → IsTiled p q function tiles
 tile_kept past p function tiles stated q formed several few e =
     let t = tiling past p function tiles stated q several few e in
     let c = cut_by t.function tiles stated t.loop in
@@ -67,7 +68,8 @@ short_all past c q e =
     (neither_left (has_breach (in_limits (globals_of q) (functions_of q)) || list_any (λ (x : Text). nat_lt 64 (length x)) (tile_names c.function.name 0 c.tiles)) (past q) e)
 
 -- what a cut of a printable program gives can be printed
-cut_printable : (p : ProgramText) (c : Cut) → IsWellFormed p → CanCut p c → IsPrintable p → c.stated ≤ 2147483647 → list_any (λ (x : Text). nat_lt 64 (length x)) (tile_names c.function.name 0 c.tiles) ≡ false → IsPrintable (tiled c p)
+cut_printable : (p : ProgramText) (c : Cut) → IsWellFormed p → CanCut p c → IsPrintable p → c.stated ≤ 2147483647 →
+    list_any (λ (x : Text). nat_lt 64 (length x)) (tile_names c.function.name 0 c.tiles) ≡ false → IsPrintable (tiled c p)
 cut_printable p c formed can is small short = record {
   shaped = items_shaped c shape small lows highs said own.0 own.1 p is.shaped;
   sayable = items_said c shape small lows highs said own.0 own.1 p is.sayable;
@@ -94,7 +96,8 @@ cut_printable p c formed can is small short = record {
     said : (k : ℕ) → k < c.tiles → Spells (tile_name c.function.name k) (name (tile_name c.function.name k))
     said k lt = tile_said c.function.name k (name_said c.function own.0) (let f = can.few in omega arith) (short_names c.function.name c.tiles 0 k short (omega arith) (omega arith))
 
-printable_tiles : (past : Past) (p : ProgramText) (function : Text) (tiles stated : ℕ) (q : ProgramText) → IsPrintable p → IsWellFormed p → stated ≤ 2147483647 → Tiling past p function tiles stated q → IsPrintable q
+printable_tiles : (past : Past) (p : ProgramText) (function : Text) (tiles stated : ℕ) (q : ProgramText) → IsPrintable p → IsWellFormed p →
+    stated ≤ 2147483647 → Tiling past p function tiles stated q → IsPrintable q
 printable_tiles past p function tiles stated q is formed small t =
     let c = cut_by t.function tiles stated t.loop in
     subst IsPrintable (sym t.is) (cut_printable p c formed t.can is small (short_all past c q t.within))
@@ -102,7 +105,10 @@ printable_tiles past p function tiles stated q is formed small t =
 within_limits : (past : Past) (p : ProgramText) (function : Text) (tiles stated : ℕ) (q : ProgramText) → Tiling past p function tiles stated q → past q ≡ false
 within_limits past p function tiles stated q t = not_past past (cut_by t.function tiles stated t.loop) q t.within
 
-pub tile_read_back : (text : List ℕ) (p : ProgramText) (function : Text) (tiles stated : ℕ) (q : ProgramText) → reads text ≡ Ok p → IsWellFormed p → 2 ≤ tiles → tiles ≤ 64 → stated ≤ 2147483647 → tile is_text_past p function tiles stated ≡ Ok q → IsReadBack q
+pub tile_read_back : (text : List ℕ) (p : ProgramText) (function : Text) (tiles stated : ℕ) (q : ProgramText) → reads text ≡ Ok p → IsWellFormed p →
+    2 ≤ tiles → tiles ≤ 64 → stated ≤ 2147483647 → tile is_text_past p function tiles stated ≡ Ok q → IsReadBack q
 tile_read_back text p function tiles stated q read formed several few small e =
     let t = tiling is_text_past p function tiles stated q several few e in
-    read_again q (reads (printed q)) refl (printable_read q (printable_tiles is_text_past p function tiles stated q (read_printable text p read) formed small t)) (within_limits is_text_past p function tiles stated q t)
+    read_again q (reads (printed q)) refl
+    (printable_read q (printable_tiles is_text_past p function tiles stated q (read_printable text p read) formed small t))
+    (within_limits is_text_past p function tiles stated q t)

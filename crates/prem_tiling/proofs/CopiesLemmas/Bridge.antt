@@ -22,7 +22,8 @@ mutual
   calls_are_tiles name n (input at x) = refl
   calls_are_tiles name n (call at target callee arguments) = by (bytes_eq callee name)
     where
-      by : (b : Bool) → cond b (block at (calls_before at (tile_names name 0 n) no_statements)) (call at target callee arguments) ≡ cond b (block at (calls_from at name 0 n)) (call at target callee arguments)
+      by : (b : Bool) → cond b (block at (calls_before at (tile_names name 0 n) no_statements)) (call at target callee arguments)
+          ≡ cond b (block at (calls_from at name 0 n)) (call at target callee arguments)
       by true = ap (block at) (calls_same at name n 0)
       by false = refl
 

@@ -1,9 +1,11 @@
 -- Flags say which locals a statement assigns, and where a stale one is read.
 use Rattle.std.specs.Prelude.{slice_set}
-use Rattle.std.proofs.Common.{◌≡◌, ℕ, zero, suc, ◌<◌, ◌≤◌, Bool, true, false, cond, not, ◌&&◌, ◌||◌, List, [], ◌∷◌, length, set, replicate, refl, ap, sym, ◌∙◌, subst, arith, Option, None, Some, IfSome, eqb, ltb, ◌⊎◌, inl, inr, true≢false}
+use Rattle.std.proofs.Common.{◌≡◌, ℕ, zero, suc, ◌<◌, ◌≤◌, Bool, true, false, cond, not, ◌&&◌, ◌||◌, List, [], ◌∷◌, length, set, replicate, refl, ap, sym, ◌∙◌, subst, arith}
+use Rattle.std.proofs.Common.{Option, None, Some, IfSome, eqb, ltb, ◌⊎◌, inl, inr, true≢false}
 use Rattle.std.proofs.lemmas.List.{length-set, get_or-set_same, get_or-set_other, get_or_past, get_or-replicate, length-replicate}
 use Rattle.std.proofs.lemmas.Bool.{cases_lt, cases_eq, eqb-true, eq-eqb, ne_eqb, lt-ltb, le-ltb}
-use Rattle.prem_syntax.specs.Syntax.{Text, Expression, literal, variable, element, unary, binary, Statement, block, if_then, if_else, bounded_while, counting_for, assign, output, input, call, Statements, no_statements, next_statement}
+use Rattle.prem_syntax.specs.Syntax.{Text, Expression, literal, variable, element, unary, binary, Statement, block, if_then, if_else, bounded_while, counting_for, assign, output}
+use Rattle.prem_syntax.specs.Syntax.{input, call, Statements, no_statements, next_statement}
 use Rattle.prem_names.specs.Numbers.{number_of}
 use Rattle.prem_names.proofs.Firsts.{within_names}
 use Rattle.prem_tiling.specs.Shapes.Carried.{is_number, is_local_named, assigns, assign_within, LocalSet, first_line, is_stale, read_of, read_of_option, read_of_all, stale_first}
@@ -85,7 +87,8 @@ mutual
   length_assigned locals flags (if_then at condition taken) = length_assigned locals flags taken
   length_assigned locals flags (if_else at condition taken other) = length_assigned locals (assigned_flags locals flags taken) other ∙ length_assigned locals flags taken
   length_assigned locals flags (bounded_while at turns condition body) = length_assigned locals flags body
-  length_assigned locals flags (counting_for at names low closed high step body) = length_assigned locals (with_flag (number_of locals names.first) flags) body ∙ length_with (number_of locals names.first) flags
+  length_assigned locals flags (counting_for at names low closed high step body) =
+      length_assigned locals (with_flag (number_of locals names.first) flags) body ∙ length_with (number_of locals names.first) flags
   length_assigned locals flags (assign at name None value) = length_with (number_of locals name) flags
   length_assigned locals flags (assign at name (Some index) value) = refl
   length_assigned locals flags (output at value) = refl
@@ -106,7 +109,8 @@ mutual
       ∙ either_last (flag_at flags k) (assigns locals k taken) (assigns locals k other)
   assigned_is locals flags (bounded_while at turns condition body) k all = assigned_is locals flags body k all
   assigned_is locals flags (counting_for at names low closed high step body) k all =
-      assigned_is locals (with_flag (number_of locals names.first) flags) body k (all ∙ sym (length_with (number_of locals names.first) flags)) ∙ ap (λ b. b || assigns locals k body) (named_set locals flags names.first k all)
+      assigned_is locals (with_flag (number_of locals names.first) flags) body k (all ∙ sym (length_with (number_of locals names.first) flags))
+      ∙ ap (λ b. b || assigns locals k body) (named_set locals flags names.first k all)
       ∙ either_last (flag_at flags k) (is_local_named locals k names.first) (assigns locals k body)
   assigned_is locals flags (assign at name None value) k all = named_set locals flags name k all
   assigned_is locals flags (assign at name (Some index) value) k all = no_more (flag_at flags k)
@@ -115,10 +119,12 @@ mutual
   assigned_is locals flags (call at None callee arguments) k all = no_more (flag_at flags k)
   assigned_is locals flags (call at (Some name) callee arguments) k all = named_set locals flags name k all
 
-  all_assigned_is : (locals : List Text) (flags : List Bool) (ss : Statements) (k : ℕ) → All locals flags → flag_at (all_assigned_flags locals flags ss) k ≡ (flag_at flags k || assign_within locals k ss)
+  all_assigned_is : (locals : List Text) (flags : List Bool) (ss : Statements) (k : ℕ) → All locals flags →
+      flag_at (all_assigned_flags locals flags ss) k ≡ (flag_at flags k || assign_within locals k ss)
   all_assigned_is locals flags no_statements k all = no_more (flag_at flags k)
   all_assigned_is locals flags (next_statement first rest) k all =
-      all_assigned_is locals (assigned_flags locals flags first) rest k (all ∙ sym (length_assigned locals flags first)) ∙ ap (λ b. b || assign_within locals k rest) (assigned_is locals flags first k all)
+      all_assigned_is locals (assigned_flags locals flags first) rest k (all ∙ sym (length_assigned locals flags first))
+      ∙ ap (λ b. b || assign_within locals k rest) (assigned_is locals flags first k all)
       ∙ either_last (flag_at flags k) (assigns locals k first) (assign_within locals k rest)
 
 -- ---- the body of a loop

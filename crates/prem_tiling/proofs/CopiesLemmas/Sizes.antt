@@ -30,7 +30,8 @@ mutual
   uncalled_same name tiles (block at body) e = ap (block at) (all_uncalled_same name tiles body e)
   uncalled_same name tiles (if_then at condition taken) e = ap (if_then at condition) (uncalled_same name tiles taken e)
   uncalled_same name tiles (if_else at condition taken other) e =
-      λ i. if_else at condition (uncalled_same name tiles taken (neither_left (has_call taken) (has_call other) e) i) (uncalled_same name tiles other (neither_right (has_call taken) (has_call other) e) i)
+      λ i. if_else at condition (uncalled_same name tiles taken (neither_left (has_call taken) (has_call other) e) i)
+      (uncalled_same name tiles other (neither_right (has_call taken) (has_call other) e) i)
   uncalled_same name tiles (bounded_while at turns condition body) e = ap (bounded_while at turns condition) (uncalled_same name tiles body e)
   uncalled_same name tiles (counting_for at names low closed high step body) e = ap (counting_for at names low closed high step) (uncalled_same name tiles body e)
   uncalled_same name tiles (assign at x index value) e = refl

@@ -21,7 +21,8 @@ pub name_at : (names : List Name) (name : Text) (s n k : ℕ) (d : Name) → map
 name_at [] name s zero k d e lt = absurd (omega arith)
 name_at [] name s (suc n) k d e lt = cc
 name_at (x ∷ xs) name s zero k d e lt = absurd (omega arith)
-name_at (x ∷ xs) name s (suc n) zero d e lt = first_same (name_bytes x) (tile_name name s) (map name_bytes xs) (tile_names name (s + 1) n) e ∙ (let z : s ≡ s + 0 = omega arith in ap (tile_name name) z)
+name_at (x ∷ xs) name s (suc n) zero d e lt = first_same (name_bytes x) (tile_name name s) (map name_bytes xs) (tile_names name (s + 1) n) e
+    ∙ (let z : s ≡ s + 0 = omega arith in ap (tile_name name) z)
 name_at (x ∷ xs) name s (suc n) (suc k) d e lt =
     name_at xs name (s + 1) n k d (rest_same (name_bytes x) (tile_name name s) (map name_bytes xs) (tile_names name (s + 1) n) e) (omega arith)
     ∙ (let z : s + 1 + k ≡ s + suc k = omega arith in ap (tile_name name) z)

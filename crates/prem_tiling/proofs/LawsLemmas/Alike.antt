@@ -1,7 +1,8 @@
 -- A statement does the same where calls of a function are calls of its tiles, if the calls do.
 use Rattle.std.specs.Prelude.{ℤ, pos, ◌+ℤ◌, int_lt, ◌&&◌, nat_lt}
 use Rattle.std.specs.Str.{bytes_eq}
-use Rattle.std.proofs.Common.{◌≡◌, ℕ, zero, suc, ◌+◌, ◌<◌, Bool, true, false, cond, not, List, [], ◌∷◌, ◌++◌, length, map, refl, ap, sym, ◌∙◌, subst, arith, Option, None, Some, Ok, Err, eqb, true≢false, option_map, is_some}
+use Rattle.std.proofs.Common.{◌≡◌, ℕ, zero, suc, ◌+◌, ◌<◌, Bool, true, false, cond, not, List, [], ◌∷◌, ◌++◌, length, map, refl, ap, sym, ◌∙◌, subst, arith, Option, None, Some, Ok}
+use Rattle.std.proofs.Common.{Err, eqb, true≢false, option_map, is_some}
 use Rattle.std.proofs.lemmas.Bool.{eqb-true}
 use Rattle.prem_word.specs.declared.kind.Kind.TheVariants.{Int}
 use Rattle.prem_word.specs.Words.{value_in, word_of}
@@ -10,11 +11,14 @@ use Rattle.prem_syntax.specs.declared.tree.Ty.{Ty}
 use Rattle.prem_syntax.specs.declared.rules.TypeRule.TheVariants as rule
 use Rattle.prem_syntax.specs.declared.meaning.Meaning.{Meaning}
 use Rattle.prem_syntax.specs.declared.meaning.Meaning.TheVariants.{Nothing, Local as LocalName, Scalar as ScalarName, Array as ArrayName, Function as FunctionName}
-use Rattle.prem_syntax.specs.Syntax.{Text, Expression, Statement, block, if_then, if_else, bounded_while, counting_for, assign, output, input, call, Statements, no_statements, next_statement, FunctionText}
+use Rattle.prem_syntax.specs.Syntax.{Text, Expression, Statement, block, if_then, if_else, bounded_while, counting_for, assign, output, input, call, Statements, no_statements}
+use Rattle.prem_syntax.specs.Syntax.{next_statement, FunctionText}
 use Rattle.prem_syntax.specs.Resolved.{Term, Steps, Done, Call}
-use Rattle.prem_syntax.specs.Resolve.{Scope, meaning_of, find_function, resolve_term, loops_in, set_steps, input_steps, loop_local, number_named, target_of, call_steps, resolve_statement, resolve_statements}
+use Rattle.prem_syntax.specs.Resolve.{Scope, meaning_of, find_function, resolve_term, loops_in, set_steps, input_steps, loop_local, number_named, target_of, call_steps}
+use Rattle.prem_syntax.specs.Resolve.{resolve_statement, resolve_statements}
 use Rattle.prem_syntax.specs.Expressions.{Outcome, and_then, cell, or_wrong, eval, eval_all}
-use Rattle.prem_syntax.specs.Statements.{ProgramState, Calls, choose, value, values, with_local, stored, with_cell, store, with_output, take_input, holds, in_bound, int_local, loop_test, loop_step, counting, with_target, run}
+use Rattle.prem_syntax.specs.Statements.{ProgramState, Calls, choose, value, values, with_local, stored, with_cell, store, with_output, take_input, holds, in_bound, int_local}
+use Rattle.prem_syntax.specs.Statements.{loop_test, loop_step, counting, with_target, run}
 use Rattle.prem_syntax.specs.Source.{everywhere}
 use Rattle.prem_syntax.specs.Rules.{OfTypes, CallOrder, MarkedCall as MarkedCallRule, LoopForm}
 use Rattle.prem_syntax.specs.Breaches.{Around, if_at, is_between, is_loop, is_void, is_marked_text, in_expression, in_expressions, in_call_target, in_callee, in_names, in_statement, in_statements}
@@ -43,14 +47,16 @@ calls_all calls first (suc r) t s = and_then (calls everywhere (first + t) [] s)
 pub record CallsAlike (first tiles : ℕ) (calls calls' : Calls) : Type 0 where
   pub other : (g : ℕ) (ws : List ℕ) (u v : ProgramState) → (g ≡ first → ⊥) → Alike first tiles u v →
       Joint (λ (a b : ℕ × ProgramState). (a.0 ≡ b.0) × Alike first tiles a.1 b.1) (calls everywhere g ws u) (calls' everywhere (renumbered first tiles g) ws v)
-  pub function : (u v : ProgramState) → Alike first tiles u v → Joint (λ (a : ℕ × ProgramState) (b : ProgramState). Alike first tiles a.1 b) (calls everywhere first [] u) (calls_all calls' first tiles 0 v)
+  pub function : (u v : ProgramState) → Alike first tiles u v →
+      Joint (λ (a : ℕ × ProgramState) (b : ProgramState). Alike first tiles a.1 b) (calls everywhere first [] u) (calls_all calls' first tiles 0 v)
 
 -- the functions of a program and of the one with tiles, by name
 pub record Renamed (f : FunctionText) (tiles first : ℕ) (fs fs' : List FunctionText) : Type 0 where
   pub no_parameters : f.params ≡ []
   pub void : is_void f.ty ≡ true
   pub here : (callee : Text) → bytes_eq callee f.name ≡ true → find_function fs callee ≡ Some (first, f)
-  pub others : (callee : Text) (g : ℕ × FunctionText) → bytes_eq callee f.name ≡ false → find_function fs callee ≡ Some g → (g.0 ≡ first → ⊥) × (number_named fs' callee ≡ Some (renumbered first tiles g.0))
+  pub others : (callee : Text) (g : ℕ × FunctionText) → bytes_eq callee f.name ≡ false → find_function fs callee ≡ Some g →
+      (g.0 ≡ first → ⊥) × (number_named fs' callee ≡ Some (renumbered first tiles g.0))
   pub tiles_are : (t : ℕ) → t < tiles → number_named fs' (tile_name f.name t) ≡ Some (first + t)
 
 module _ {first tiles : ℕ} where
@@ -77,7 +83,8 @@ module _ {first tiles : ℕ} where
   target_alike None w a = a
   target_alike (Some k) w a = with_local_alike k w a
 
-module _ (around : Around) (f : FunctionText) (tiles first : ℕ) (fs' : List FunctionText) (renamed : Renamed f tiles first around.scope.functions fs') (turns : ℕ) (calls calls' : Calls) (alike : CallsAlike first tiles calls calls') where
+module _ (around : Around) (f : FunctionText) (tiles first : ℕ) (fs' : List FunctionText) (renamed : Renamed f tiles first around.scope.functions fs')
+    (turns : ℕ) (calls calls' : Calls) (alike : CallsAlike first tiles calls calls') where
   abbrev here : Scope
   here = around.scope
 
@@ -102,18 +109,22 @@ module _ (around : Around) (f : FunctionText) (tiles first : ℕ) (fs' : List Fu
   holds_alike : (u v : ProgramState) → B u v → (e : Expression) → holds everywhere (resolve_term here e) u ≡ holds everywhere (resolve_term there e) v
   holds_alike u v a e = ap (λ (r : Outcome ℕ). and_then r (λ c. Ok (not (eqb c 0)))) (value_alike u v a e)
 
-  set_alike : (Q : ProgramState → ProgramState → Type 0) (rest rest' : Steps) (at : Place) (m : Meaning) (index : Option Term) (e : Term) → Onward Q rest rest' → Onward Q (set_steps at m index e rest) (set_steps at m index e rest')
+  set_alike : (Q : ProgramState → ProgramState → Type 0) (rest rest' : Steps) (at : Place) (m : Meaning) (index : Option Term) (e : Term) →
+      Onward Q rest rest' → Onward Q (set_steps at m index e rest) (set_steps at m index e rest')
   set_alike Q rest rest' at (LocalName k ty) None e go = λ u v a.
       same_then (value everywhere u e) (value everywhere v e) (λ w. run everywhere calls rest (with_local k w u)) (λ w. run everywhere calls' rest' (with_local k w v)) (same_value u v a e)
       (λ w. go (with_local k w u) (with_local k w v) (with_local_alike k w a))
   set_alike Q rest rest' at (ScalarName g ty) None e go = λ u v a.
-      same_then (value everywhere u e) (value everywhere v e) (λ w. and_then (store everywhere at.line ty g 0 w u) (run everywhere calls rest)) (λ w. and_then (store everywhere at.line ty g 0 w v) (run everywhere calls' rest')) (same_value u v a e)
+      same_then (value everywhere u e) (value everywhere v e) (λ w. and_then (store everywhere at.line ty g 0 w u) (run everywhere calls rest))
+      (λ w. and_then (store everywhere at.line ty g 0 w v) (run everywhere calls' rest')) (same_value u v a e)
       (λ w. joint_then (run everywhere calls rest) (run everywhere calls' rest') (store_alike at.line ty g 0 w a) go)
   set_alike Q rest rest' at (ArrayName g ty n) (Some index) e go = λ u v a.
       same_then (value everywhere u e) (value everywhere v e)
       (λ w. and_then (value everywhere u index) (λ j. and_then (store everywhere at.line ty g j w u) (run everywhere calls rest)))
       (λ w. and_then (value everywhere v index) (λ j. and_then (store everywhere at.line ty g j w v) (run everywhere calls' rest'))) (same_value u v a e)
-      (λ w. same_then (value everywhere u index) (value everywhere v index) (λ j. and_then (store everywhere at.line ty g j w u) (run everywhere calls rest)) (λ j. and_then (store everywhere at.line ty g j w v) (run everywhere calls' rest')) (same_value u v a index)
+      (λ w. same_then (value everywhere u index) (value everywhere v index)
+      (λ j. and_then (store everywhere at.line ty g j w u) (run everywhere calls rest))
+      (λ j. and_then (store everywhere at.line ty g j w v) (run everywhere calls' rest')) (same_value u v a index)
       (λ j. joint_then (run everywhere calls rest) (run everywhere calls' rest') (store_alike at.line ty g j w a) go))
   set_alike Q rest rest' at (LocalName k ty) (Some index) e go = go
   set_alike Q rest rest' at (ScalarName g ty) (Some index) e go = go
@@ -145,10 +156,13 @@ module _ (around : Around) (f : FunctionText) (tiles first : ℕ) (fs' : List Fu
 
   no_arguments : (es : List Expression) → eqb (length f.params) (length es) ≡ true → es ≡ []
   no_arguments [] e = refl
-  no_arguments (e ∷ es) h = let none : length f.params ≡ 0 = ap length renamed.no_parameters in let same : length f.params ≡ suc (length es) = eqb-true (length f.params) (suc (length es)) h in absurd (omega arith)
+  no_arguments (e ∷ es) h = let none : length f.params ≡ 0 = ap length renamed.no_parameters in let same : length f.params ≡ suc (length es) =
+      eqb-true (length f.params) (suc (length es)) h in absurd (omega arith)
 
-  called : (Q : ProgramState → ProgramState → Type 0) (at : Place) (target : Option Text) (callee : Text) (es : List Expression) (rest rest' : Steps) (n : ℕ) → bytes_eq callee f.name ≡ true → in_callee at around callee (is_some target) (length es) (find_function around.scope.functions callee) ≡ [] →
-      Onward Q rest rest' → Onward Q (call_steps at (target_of here target) (number_named here.functions callee) (map (resolve_term here) es) rest) (resolve_statements there all n (calls_from at f.name 0 tiles) rest')
+  called : (Q : ProgramState → ProgramState → Type 0) (at : Place) (target : Option Text) (callee : Text) (es : List Expression) (rest rest' : Steps)
+      (n : ℕ) → bytes_eq callee f.name ≡ true → in_callee at around callee (is_some target) (length es) (find_function around.scope.functions callee) ≡ [] →
+      Onward Q rest rest' → Onward Q (call_steps at (target_of here target) (number_named here.functions callee) (map (resolve_term here) es) rest)
+      (resolve_statements there all n (calls_from at f.name 0 tiles) rest')
   called Q at target callee es rest rest' n named formed go u v a =
       let is = renamed.here callee named in
       let rules : in_callee at around callee (is_some target) (length es) (Some (first, f)) ≡ [] = ap (in_callee at around callee (is_some target) (length es)) (sym is) ∙ formed in
@@ -157,7 +171,8 @@ module _ (around : Around) (f : FunctionText) (tiles first : ℕ) (fs' : List Fu
       let void = if_at (is_some target && is_void f.ty) at (OfTypes rule.Target) in
       let count = if_at (not (eqb (length f.params) (length es))) at (OfTypes rule.Count) in
       let none_t = no_target target (kept_rule (is_some target && is_void f.ty) at (OfTypes rule.Target) (none_right (order ++ mark) void (none_left (order ++ mark ++ void) count rules))) in
-      let none_a = no_arguments es (not_false (eqb (length f.params) (length es)) (kept_rule (not (eqb (length f.params) (length es))) at (OfTypes rule.Count) (none_right (order ++ mark ++ void) count rules))) in
+      let none_a = no_arguments es (not_false (eqb (length f.params) (length es))
+      (kept_rule (not (eqb (length f.params) (length es))) at (OfTypes rule.Count) (none_right (order ++ mark ++ void) count rules))) in
       let steps : call_steps at (target_of here target) (number_named here.functions callee) (map (resolve_term here) es) rest ≡ Call at None first [] rest =
       λ i. call_steps at (target_of here (none_t i)) (option_map (λ (x : ℕ × FunctionText). x.0) (is i)) (map (resolve_term here) (none_a i)) rest in
       subst (λ s. Joint Q (run everywhere calls s u) (run everywhere calls' (resolve_statements there all n (calls_from at f.name 0 tiles) rest') v)) (sym steps)
@@ -168,23 +183,28 @@ module _ (around : Around) (f : FunctionText) (tiles first : ℕ) (fs' : List Fu
       not_false true e = refl
       not_false false e = absurd (true≢false e)
 
-  other_call : (Q : ProgramState → ProgramState → Type 0) (at : Place) (target : Option Text) (callee : Text) (es : List Expression) (rest rest' : Steps) → bytes_eq callee f.name ≡ false → (found : Option (ℕ × FunctionText)) → find_function around.scope.functions callee ≡ found →
+  other_call : (Q : ProgramState → ProgramState → Type 0) (at : Place) (target : Option Text) (callee : Text) (es : List Expression)
+      (rest rest' : Steps) → bytes_eq callee f.name ≡ false → (found : Option (ℕ × FunctionText)) → find_function around.scope.functions callee ≡ found →
       in_callee at around callee (is_some target) (length es) found ≡ [] → Onward Q rest rest' →
-      Onward Q (call_steps at (target_of here target) (number_named here.functions callee) (map (resolve_term here) es) rest) (call_steps at (target_of there target) (number_named fs' callee) (map (resolve_term there) es) rest')
+      Onward Q (call_steps at (target_of here target) (number_named here.functions callee) (map (resolve_term here) es) rest)
+      (call_steps at (target_of there target) (number_named fs' callee) (map (resolve_term there) es) rest')
   other_call Q at target callee es rest rest' named None is formed go = cc
   other_call Q at target callee es rest rest' named (Some g) is formed go = λ u v a.
       let others = renamed.others callee g named is in
       let terms = map (resolve_term here) es in
       let slot = target_of here target in
-      let steps : call_steps at slot (number_named here.functions callee) terms rest ≡ Call at slot g.0 terms rest = ap (λ o. call_steps at slot (option_map (λ (x : ℕ × FunctionText). x.0) o) terms rest) is in
+      let steps : call_steps at slot (number_named here.functions callee) terms rest ≡ Call at slot g.0 terms rest =
+      ap (λ o. call_steps at slot (option_map (λ (x : ℕ × FunctionText). x.0) o) terms rest) is in
       let steps' : call_steps at (target_of there target) (number_named fs' callee) (map (resolve_term there) es) rest' ≡ Call at slot (renumbered first tiles g.0) terms rest' =
       λ i. call_steps at (same_target fs' here target i) (others.1 i) (same_terms fs' here es i) rest' in
       subst (λ s. Joint Q (run everywhere calls s u) (run everywhere calls' (call_steps at (target_of there target) (number_named fs' callee) (map (resolve_term there) es) rest') v)) (sym steps)
       (subst (λ s. Joint Q (run everywhere calls (Call at slot g.0 terms rest) u) (run everywhere calls' s v)) (sym steps')
       (same_then (values everywhere u terms) (values everywhere v terms)
-      (λ ws. and_then (calls everywhere g.0 ws u) (λ x. run everywhere calls rest (with_target slot x.0 x.1))) (λ ws. and_then (calls' everywhere (renumbered first tiles g.0) ws v) (λ x. run everywhere calls' rest' (with_target slot x.0 x.1)))
+      (λ ws. and_then (calls everywhere g.0 ws u) (λ x. run everywhere calls rest (with_target slot x.0 x.1)))
+      (λ ws. and_then (calls' everywhere (renumbered first tiles g.0) ws v) (λ x. run everywhere calls' rest' (with_target slot x.0 x.1)))
       (ap (λ (b : ProgramState). eval_all everywhere b.globals b.locals terms) a.same)
-      (λ ws. joint_then (λ (x : ℕ × ProgramState). run everywhere calls rest (with_target slot x.0 x.1)) (λ (x : ℕ × ProgramState). run everywhere calls' rest' (with_target slot x.0 x.1)) (alike.other g.0 ws u v others.0 a)
+      (λ ws. joint_then (λ (x : ℕ × ProgramState). run everywhere calls rest (with_target slot x.0 x.1))
+      (λ (x : ℕ × ProgramState). run everywhere calls' rest' (with_target slot x.0 x.1)) (alike.other g.0 ws u v others.0 a)
       (λ x y b. go (with_target slot x.0 x.1) (with_target slot y.0 y.1) (subst (λ w. B (with_target slot x.0 x.1) (with_target slot w y.1)) b.0 (target_alike slot x.0 b.1))))))
 
   -- ---- statements
@@ -198,32 +218,44 @@ module _ (around : Around) (f : FunctionText) (tiles first : ℕ) (fs' : List Fu
       by true w = wrong line
       by false w = fine (with_local_alike k w a)
 
-  loop_test_alike : (k : ℕ) (closed : Bool) (high : Expression) (u v : ProgramState) → B u v → loop_test everywhere k closed (resolve_term here high) u ≡ loop_test everywhere k closed (resolve_term there high) v
+  loop_test_alike : (k : ℕ) (closed : Bool) (high : Expression) (u v : ProgramState) → B u v →
+      loop_test everywhere k closed (resolve_term here high) u ≡ loop_test everywhere k closed (resolve_term there high) v
   loop_test_alike k closed high u v a =
       let local_is : int_local k u ≡ int_local k v = ap (λ (b : ProgramState). int_local k b) a.same in
       let value_is = value_alike u v a high in
       λ i. and_then (value_is i) (λ h. Ok (in_bound closed (local_is i) (value_in Int h)))
 
-  choice_alike : (Q : ProgramState → ProgramState → Type 0) (condition : Expression) (taken taken' other other' rest rest' : Steps) → Onward B taken taken' → Onward B other other' → Onward Q rest rest' → (u v : ProgramState) → B u v →
+  choice_alike : (Q : ProgramState → ProgramState → Type 0) (condition : Expression) (taken taken' other other' rest rest' : Steps) →
+      Onward B taken taken' → Onward B other other' → Onward Q rest rest' → (u v : ProgramState) → B u v →
       Joint Q (and_then (holds everywhere (resolve_term here condition) u) (λ c. and_then (choose c (run everywhere calls taken) (run everywhere calls other) u) (run everywhere calls rest)))
       (and_then (holds everywhere (resolve_term there condition) v) (λ c. and_then (choose c (run everywhere calls' taken') (run everywhere calls' other') v) (run everywhere calls' rest')))
   choice_alike Q condition taken taken' other other' rest rest' one two go u v a =
       same_then (holds everywhere (resolve_term here condition) u) (holds everywhere (resolve_term there condition) v)
-      (λ c. and_then (choose c (run everywhere calls taken) (run everywhere calls other) u) (run everywhere calls rest)) (λ c. and_then (choose c (run everywhere calls' taken') (run everywhere calls' other') v) (run everywhere calls' rest')) (holds_alike u v a condition) by
+      (λ c. and_then (choose c (run everywhere calls taken) (run everywhere calls other) u) (run everywhere calls rest))
+      (λ c. and_then (choose c (run everywhere calls' taken') (run everywhere calls' other') v) (run everywhere calls' rest'))
+      (holds_alike u v a condition) by
     where
-      by : (c : Bool) → Joint Q (and_then (choose c (run everywhere calls taken) (run everywhere calls other) u) (run everywhere calls rest)) (and_then (choose c (run everywhere calls' taken') (run everywhere calls' other') v) (run everywhere calls' rest'))
+      by : (c : Bool) → Joint Q (and_then (choose c (run everywhere calls taken) (run everywhere calls other) u) (run everywhere calls rest))
+          (and_then (choose c (run everywhere calls' taken') (run everywhere calls' other') v) (run everywhere calls' rest'))
       by true = joint_then (run everywhere calls rest) (run everywhere calls' rest') (one u v a) go
       by false = joint_then (run everywhere calls rest) (run everywhere calls' rest') (two u v a) go
 
-  counting_alike : (Q : ProgramState → ProgramState → Type 0) (line k k' step : ℕ) (closed : Bool) (high : Expression) (body body' rest rest' : Steps) → k' ≡ k → Onward B body body' → Onward Q rest rest' → (w : ℕ) (u v : ProgramState) → B u v →
-      Joint Q (and_then (counting line turns (loop_test everywhere k closed (resolve_term here high)) (λ t. and_then (run everywhere calls body t) (loop_step line k step)) (with_local k w u)) (run everywhere calls rest))
-      (and_then (counting line turns (loop_test everywhere k' closed (resolve_term there high)) (λ t. and_then (run everywhere calls' body' t) (loop_step line k' step)) (with_local k' w v)) (run everywhere calls' rest'))
+  counting_alike : (Q : ProgramState → ProgramState → Type 0) (line k k' step : ℕ) (closed : Bool) (high : Expression)
+      (body body' rest rest' : Steps) → k' ≡ k → Onward B body body' → Onward Q rest rest' → (w : ℕ) (u v : ProgramState) → B u v →
+      Joint Q (and_then (counting line turns (loop_test everywhere k closed (resolve_term here high))
+      (λ t. and_then (run everywhere calls body t) (loop_step line k step)) (with_local k w u)) (run everywhere calls rest))
+      (and_then (counting line turns (loop_test everywhere k' closed (resolve_term there high))
+      (λ t. and_then (run everywhere calls' body' t) (loop_step line k' step)) (with_local k' w v)) (run everywhere calls' rest'))
   counting_alike Q line k k' step closed high body body' rest rest' same one go w u v a =
-      subst (λ j. Joint Q (and_then (counting line turns (loop_test everywhere k closed (resolve_term here high)) (λ t. and_then (run everywhere calls body t) (loop_step line k step)) (with_local k w u)) (run everywhere calls rest))
-      (and_then (counting line turns (loop_test everywhere j closed (resolve_term there high)) (λ t. and_then (run everywhere calls' body' t) (loop_step line j step)) (with_local j w v)) (run everywhere calls' rest'))) (sym same)
+      subst (λ j. Joint Q (and_then (counting line turns (loop_test everywhere k closed (resolve_term here high))
+      (λ t. and_then (run everywhere calls body t) (loop_step line k step)) (with_local k w u)) (run everywhere calls rest))
+      (and_then (counting line turns (loop_test everywhere j closed (resolve_term there high))
+      (λ t. and_then (run everywhere calls' body' t) (loop_step line j step)) (with_local j w v)) (run everywhere calls' rest'))) (sym same)
       (joint_then (run everywhere calls rest) (run everywhere calls' rest')
-      (counting_joint B (loop_test everywhere k closed (resolve_term here high)) (loop_test everywhere k closed (resolve_term there high)) (λ t. and_then (run everywhere calls body t) (loop_step line k step)) (λ t. and_then (run everywhere calls' body' t) (loop_step line k step))
-      (loop_test_alike k closed high) (λ x y b. joint_then (loop_step line k step) (loop_step line k step) (one x y b) (step_alike line k step)) line turns (with_local k w u) (with_local k w v) (with_local_alike k w a)) go)
+      (counting_joint B (loop_test everywhere k closed (resolve_term here high)) (loop_test everywhere k closed (resolve_term there high))
+      (λ t. and_then (run everywhere calls body t) (loop_step line k step)) (λ t. and_then (run everywhere calls' body' t) (loop_step line k step))
+      (loop_test_alike k closed high) (λ x y b. joint_then (loop_step line k step) (loop_step line k step) (one x y b) (step_alike line k step))
+      line turns (with_local k w u) (with_local k w v) (with_local_alike k w a)) go)
 
   input_step_alike : (Q : ProgramState → ProgramState → Type 0) (rest rest' : Steps) (at : Place) (m : Meaning) → Onward Q rest rest' → Onward Q (input_steps at m rest) (input_steps at m rest')
   input_step_alike Q rest rest' at (LocalName k ty) go = λ u v a. go (take_input k u.inputs u) (take_input k v.inputs v) (input_alike k a)
@@ -232,7 +264,8 @@ module _ (around : Around) (f : FunctionText) (tiles first : ℕ) (fs' : List Fu
   input_step_alike Q rest rest' at (FunctionName n) go = go
   input_step_alike Q rest rest' at Nothing go = go
 
-  call_alike : (Q : ProgramState → ProgramState → Type 0) (at : Place) (target : Option Text) (callee : Text) (es : List Expression) (rest rest' : Steps) (n : ℕ) (named : Bool) → bytes_eq callee f.name ≡ named →
+  call_alike : (Q : ProgramState → ProgramState → Type 0) (at : Place) (target : Option Text) (callee : Text) (es : List Expression)
+      (rest rest' : Steps) (n : ℕ) (named : Bool) → bytes_eq callee f.name ≡ named →
       in_callee at around callee (is_some target) (length es) (find_function around.scope.functions callee) ≡ [] → Onward Q rest rest' →
       Onward Q (call_steps at (target_of here target) (number_named here.functions callee) (map (resolve_term here) es) rest)
       (resolve_statement there all n (cond named (block at (calls_from at f.name 0 tiles)) (call at target callee es)) rest')
@@ -240,7 +273,8 @@ module _ (around : Around) (f : FunctionText) (tiles first : ℕ) (fs' : List Fu
   call_alike Q at target callee es rest rest' n false is formed go = other_call Q at target callee es rest rest' is (find_function around.scope.functions callee) refl formed go
 
   mutual
-    pub statement_alike : (Q : ProgramState → ProgramState → Type 0) (s : Statement) (n n' : ℕ) (rest rest' : Steps) → in_statement around s ≡ [] → Onward Q rest rest' → Onward Q (resolve_statement here all n s rest) (resolve_statement there all n' (with_tiles f.name tiles s) rest')
+    pub statement_alike : (Q : ProgramState → ProgramState → Type 0) (s : Statement) (n n' : ℕ) (rest rest' : Steps) → in_statement around s ≡ [] →
+        Onward Q rest rest' → Onward Q (resolve_statement here all n s rest) (resolve_statement there all n' (with_tiles f.name tiles s) rest')
     statement_alike Q (block at body) n n' rest rest' formed go = statements_alike Q body n n' rest rest' formed go
     statement_alike Q (if_then at condition taken) n n' rest rest' formed go =
         choice_alike Q condition (resolve_statement here all n taken Done) (resolve_statement there all n' (with_tiles f.name tiles taken) Done) Done Done rest rest'
@@ -250,7 +284,8 @@ module _ (around : Around) (f : FunctionText) (tiles first : ℕ) (fs' : List Fu
         choice_alike Q condition (resolve_statement here all n taken Done) (resolve_statement there all n' (with_tiles f.name tiles taken) Done)
         (resolve_statement here all (n + loops_in taken) other Done) (resolve_statement there all (n' + loops_in (with_tiles f.name tiles taken)) (with_tiles f.name tiles other) Done) rest rest'
         (statement_alike B taken n n' Done Done (none_right (in_expression here condition) (in_statement around taken) front) (λ u v a. fine a))
-        (statement_alike B other (n + loops_in taken) (n' + loops_in (with_tiles f.name tiles taken)) Done Done (none_right (in_expression here condition ++ in_statement around taken) (in_statement around other) formed) (λ u v a. fine a)) go
+        (statement_alike B other (n + loops_in taken) (n' + loops_in (with_tiles f.name tiles taken)) Done Done
+        (none_right (in_expression here condition ++ in_statement around taken) (in_statement around other) formed) (λ u v a. fine a)) go
     statement_alike Q (bounded_while at most condition body) n n' rest rest' formed go = λ u v a.
         let turn = resolve_statement here all n body Done in
         let turn' = resolve_statement there all n' (with_tiles f.name tiles body) Done in
@@ -265,28 +300,38 @@ module _ (around : Around) (f : FunctionText) (tiles first : ℕ) (fs' : List Fu
         let turn = resolve_statement here all (n + 1) body Done in
         let turn' = resolve_statement there all (n' + 1) (with_tiles f.name tiles body) Done in
         same_then (value everywhere u (resolve_term here low)) (value everywhere v (resolve_term there low))
-        (λ w. and_then (counting at.line turns (loop_test everywhere k closed (resolve_term here high)) (λ t. and_then (run everywhere calls turn t) (loop_step at.line k step)) (with_local k w u)) (run everywhere calls rest))
-        (λ w. and_then (counting at.line turns (loop_test everywhere k' closed (resolve_term there high)) (λ t. and_then (run everywhere calls' turn' t) (loop_step at.line k' step)) (with_local k' w v)) (run everywhere calls' rest'))
+        (λ w. and_then (counting at.line turns (loop_test everywhere k closed (resolve_term here high))
+        (λ t. and_then (run everywhere calls turn t) (loop_step at.line k step)) (with_local k w u)) (run everywhere calls rest))
+        (λ w. and_then (counting at.line turns (loop_test everywhere k' closed (resolve_term there high))
+        (λ t. and_then (run everywhere calls' turn' t) (loop_step at.line k' step)) (with_local k' w v)) (run everywhere calls' rest'))
         (value_alike u v a low)
         (λ w. counting_alike Q at.line k k' step closed high turn turn' rest rest' (same_variable fs' here names.first)
         (statement_alike B body (n + 1) (n' + 1) Done Done
-        (none_right (in_names at here names ++ if_at (not (is_loop here names low high step body)) at LoopForm ++ in_expression here low ++ in_expression here high) (in_statement around body) formed) (λ x y b. fine b)) go w u v a)
+        (none_right (in_names at here names ++ if_at (not (is_loop here names low high step body)) at LoopForm ++ in_expression here low
+        ++ in_expression here high) (in_statement around body) formed) (λ x y b. fine b)) go w u v a)
     statement_alike Q (assign at name index e) n n' rest rest' formed go = λ u v a.
-        subst (λ s. Joint Q (run everywhere calls (set_steps at (meaning_of here name) (option_map (resolve_term here) index) (resolve_term here e) rest) u) (run everywhere calls' s v)) (sym (same_set fs' here at name index e rest'))
+        subst (λ s. Joint Q (run everywhere calls
+        (set_steps at (meaning_of here name) (option_map (resolve_term here) index) (resolve_term here e) rest) u) (run everywhere calls' s v))
+        (sym (same_set fs' here at name index e rest'))
         (set_alike Q rest rest' at (meaning_of here name) (option_map (resolve_term here) index) (resolve_term here e) go u v a)
     statement_alike Q (output at e) n n' rest rest' formed go = λ u v a.
-        same_then (value everywhere u (resolve_term here e)) (value everywhere v (resolve_term there e)) (λ w. run everywhere calls rest (with_output w u)) (λ w. run everywhere calls' rest' (with_output w v))
+        same_then (value everywhere u (resolve_term here e)) (value everywhere v (resolve_term there e))
+        (λ w. run everywhere calls rest (with_output w u)) (λ w. run everywhere calls' rest' (with_output w v))
         (value_alike u v a e) (λ w. go (with_output w u) (with_output w v) (output_alike w a))
     statement_alike Q (input at name) n n' rest rest' formed go = λ u v a.
-        subst (λ s. Joint Q (run everywhere calls (input_steps at (meaning_of here name) rest) u) (run everywhere calls' s v)) (sym (same_input fs' here at name rest')) (input_step_alike Q rest rest' at (meaning_of here name) go u v a)
+        subst (λ s. Joint Q (run everywhere calls (input_steps at (meaning_of here name) rest) u) (run everywhere calls' s v))
+        (sym (same_input fs' here at name rest')) (input_step_alike Q rest rest' at (meaning_of here name) go u v a)
     statement_alike Q (call at target callee es) n n' rest rest' formed go =
         let goal = in_callee at around callee (is_some target) (length es) (find_function around.scope.functions callee) in
         call_alike Q at target callee es rest rest' n' (bytes_eq callee f.name) refl
         (none_right (in_call_target at here target) goal (none_left (in_call_target at here target ++ goal) (in_expressions here es) formed)) go
 
-    pub statements_alike : (Q : ProgramState → ProgramState → Type 0) (ss : Statements) (n n' : ℕ) (rest rest' : Steps) → in_statements around ss ≡ [] → Onward Q rest rest' → Onward Q (resolve_statements here all n ss rest) (resolve_statements there all n' (all_with_tiles f.name tiles ss) rest')
+    pub statements_alike : (Q : ProgramState → ProgramState → Type 0) (ss : Statements) (n n' : ℕ) (rest rest' : Steps) →
+        in_statements around ss ≡ [] → Onward Q rest rest' →
+        Onward Q (resolve_statements here all n ss rest) (resolve_statements there all n' (all_with_tiles f.name tiles ss) rest')
     statements_alike Q no_statements n n' rest rest' formed go = go
     statements_alike Q (next_statement s ss) n n' rest rest' formed go =
-        statement_alike Q s n n' (resolve_statements here all (n + loops_in s) ss rest) (resolve_statements there all (n' + loops_in (with_tiles f.name tiles s)) (all_with_tiles f.name tiles ss) rest')
+        statement_alike Q s n n' (resolve_statements here all (n + loops_in s) ss rest)
+        (resolve_statements there all (n' + loops_in (with_tiles f.name tiles s)) (all_with_tiles f.name tiles ss) rest')
         (none_left (in_statement around s) (in_statements around ss) formed)
         (statements_alike Q ss (n + loops_in s) (n' + loops_in (with_tiles f.name tiles s)) rest rest' (none_right (in_statement around s) (in_statements around ss) formed) go)

@@ -36,7 +36,8 @@ pub call_before : (rs : List Routine) (n g : ℕ) → (g ≡ n → ⊥) → (ws 
 call_before rs n g other ws s = ap (λ b. this_or b (enter_if_there unlimited (calls_below unlimited rs n) (slice_get rs n) n) (calls_below unlimited rs n) everywhere g ws s) (ne_eqb g n other)
 
 -- a number that is none of the last ones
-call_skips : (rs : List Routine) (a r g : ℕ) → (g < a) ⊎ (a + r ≤ g) → (ws : List ℕ) (s : ProgramState) → calls_below unlimited rs (a + r) everywhere g ws s ≡ calls_below unlimited rs a everywhere g ws s
+call_skips : (rs : List Routine) (a r g : ℕ) → (g < a) ⊎ (a + r ≤ g) → (ws : List ℕ) (s : ProgramState) →
+    calls_below unlimited rs (a + r) everywhere g ws s ≡ calls_below unlimited rs a everywhere g ws s
 call_skips rs a zero g h ws s = let e : a + 0 ≡ a = omega arith in ap (λ n. calls_below unlimited rs n everywhere g ws s) e
 call_skips rs a (suc r) g h ws s =
     let e : a + suc r ≡ suc (a + r) = omega arith in
@@ -50,7 +51,9 @@ call_among rs a r t q lt is ws s =
     let e : a + r ≡ suc (a + t) + (r - suc t) = omega arith in
     ap (λ n. calls_below unlimited rs n everywhere (a + t) ws s) e ∙ call_skips rs (suc (a + t)) (r - suc t) (a + t) (inl (omega arith)) ws s ∙ call_of rs (a + t) q is ws s
 
-calls_all_same : (c c' : Calls) (first m t : ℕ) (s : ProgramState) → ((j : ℕ) (s : ProgramState) → t ≤ j → j < t + m → c everywhere (first + j) [] s ≡ c' everywhere (first + j) [] s) → calls_all c first m t s ≡ calls_all c' first m t s
+calls_all_same : (c c' : Calls) (first m t : ℕ) (s : ProgramState) →
+    ((j : ℕ) (s : ProgramState) → t ≤ j → j < t + m → c everywhere (first + j) [] s ≡ c' everywhere (first + j) [] s) →
+    calls_all c first m t s ≡ calls_all c' first m t s
 calls_all_same c c' first zero t s same = refl
 calls_all_same c c' first (suc m) t s same =
     ap (λ o. and_then o (λ (x : ℕ × ProgramState). calls_all c first m (t + 1) x.1)) (same t s (omega arith) (omega arith))
@@ -84,7 +87,9 @@ renumbered_apart first tiles g n some other other_n apart same = by (cases_lt g 
     by (inl a) (inl b) = apart (sym (renumbered_below first tiles g (omega arith)) ∙ same ∙ renumbered_below first tiles n (omega arith))
     by (inl a) (inr b) = let x = renumbered_below first tiles g (omega arith) in let y = renumbered_above first tiles n (above_first first n other_n b) in omega arith
     by (inr a) (inl b) = let x = renumbered_below first tiles n (omega arith) in let y = renumbered_above first tiles g (above_first first g other a) in omega arith
-    by (inr a) (inr b) = let x = renumbered_above first tiles g (above_first first g other a) in let y = renumbered_above first tiles n (above_first first n other_n b) in let p = above_first first g other a in let q = above_first first n other_n b in apart (omega arith)
+    by (inr a) (inr b) = let x = renumbered_above first tiles g (above_first first g other a) in let y =
+        renumbered_above first tiles n (above_first first n other_n b) in let p = above_first first g other a in let q =
+        above_first first n other_n b in apart (omega arith)
 
 -- a renumbered function is no tile
 pub renumbered_no_tile : (first tiles g : ℕ) → (g ≡ first → ⊥) → (renumbered first tiles g < first) ⊎ (first + tiles ≤ renumbered first tiles g)
@@ -108,10 +113,14 @@ pub record AreCut (first tiles : ℕ) (ps qs : List Routine) : Type 0 where
   pub tile_is : (t : ℕ) → t < tiles → slice_get qs (first + t) ≡ Some (tile t)
   pub other : ℕ → Routine → Routine
   pub other_is : (g : ℕ) (r : Routine) → (g ≡ first → ⊥) → slice_get ps g ≡ Some r → slice_get qs (renumbered first tiles g) ≡ Some (other g r)
-  pub others_enter : (g : ℕ) (r : Routine) (calls calls' : Calls) (ws : List ℕ) (u v : ProgramState) → (g ≡ first → ⊥) → slice_get ps g ≡ Some r → CallsAlike first tiles calls calls' → Alike first tiles u v →
+  pub others_enter : (g : ℕ) (r : Routine) (calls calls' : Calls) (ws : List ℕ) (u v : ProgramState) → (g ≡ first → ⊥) → slice_get ps g ≡ Some r →
+      CallsAlike first tiles calls calls' → Alike first tiles u v →
       Joint (λ (a b : ℕ × ProgramState). (a.0 ≡ b.0) × Alike first tiles a.1 b.1) (enter calls everywhere r g ws u) (enter calls' everywhere (other g r) (renumbered first tiles g) ws v)
-  pub function_enters : (calls : Calls) (callees : ℕ → Calls) (calls' : Calls) → ((t : ℕ) → t < tiles → (s : ProgramState) → calls' everywhere (first + t) [] s ≡ enter (callees t) everywhere (tile t) (first + t) [] s) →
-      (u v : ProgramState) → Alike first tiles u v → Joint (λ (a : ℕ × ProgramState) (b : ProgramState). Alike first tiles a.1 b) (enter calls everywhere function first [] u) (calls_all calls' first tiles 0 v)
+  pub function_enters : (calls : Calls) (callees : ℕ → Calls) (calls' : Calls) →
+      ((t : ℕ) → t < tiles → (s : ProgramState) → calls' everywhere (first + t) [] s ≡ enter (callees t) everywhere (tile t) (first + t) [] s) →
+      (u v : ProgramState) → Alike first tiles u v →
+      Joint (λ (a : ℕ × ProgramState) (b : ProgramState). Alike first tiles a.1 b) (enter calls everywhere function first [] u)
+      (calls_all calls' first tiles 0 v)
 
 module _ (first tiles : ℕ) (ps qs : List Routine) (cut : AreCut first tiles ps qs) where
   abbrev C : ℕ → Type 0
@@ -132,9 +141,12 @@ module _ (first tiles : ℕ) (ps qs : List Routine) (cut : AreCut first tiles ps
       subst (λ m. CallsAlike first tiles (calls_below unlimited ps (suc n)) (calls_below unlimited qs m)) (sym (renumbered_suc first tiles n cut.some other)) (record {
         other = λ g ws u v unlike a. by g ws u v unlike a (cases_eq g n);
         function = λ u v a.
-            subst (λ o. Joint (λ (a : ℕ × ProgramState) (b : ProgramState). Alike first tiles a.1 b) o (calls_all (calls_below unlimited qs (suc m)) first tiles 0 v)) (sym (call_before ps n first (λ same. other (sym same)) [] u))
+            subst (λ o. Joint (λ (a : ℕ × ProgramState) (b : ProgramState). Alike first tiles a.1 b) o
+            (calls_all (calls_below unlimited qs (suc m)) first tiles 0 v)) (sym (call_before ps n first (λ same. other (sym same)) [] u))
             (subst (λ o. Joint (λ (a : ℕ × ProgramState) (b : ProgramState). Alike first tiles a.1 b) (calls_below unlimited ps n everywhere first [] u) o)
-            (sym (calls_all_same (calls_below unlimited qs (suc m)) (calls_below unlimited qs m) first tiles 0 v (λ j s low high. call_before qs m (first + j) (λ same. ⊎_elim (λ (lt : m < first). omega arith) (λ (le : first + tiles ≤ m). omega arith) (renumbered_no_tile first tiles n other)) [] s)))
+            (sym (calls_all_same (calls_below unlimited qs (suc m)) (calls_below unlimited qs m) first tiles 0 v
+            (λ j s low high. call_before qs m (first + j)
+            (λ same. ⊎_elim (λ (lt : m < first). omega arith) (λ (le : first + tiles ≤ m). omega arith) (renumbered_no_tile first tiles n other)) [] s)))
             (c.function u v a));
       })
     where
@@ -142,14 +154,20 @@ module _ (first tiles : ℕ) (ps qs : List Routine) (cut : AreCut first tiles ps
       m = renumbered first tiles n
 
       by : (g : ℕ) (ws : List ℕ) (u v : ProgramState) → (g ≡ first → ⊥) → Alike first tiles u v → (g ≡ n) ⊎ (g ≡ n → ⊥) →
-          Joint (λ (a b : ℕ × ProgramState). (a.0 ≡ b.0) × Alike first tiles a.1 b.1) (calls_below unlimited ps (suc n) everywhere g ws u) (calls_below unlimited qs (suc (renumbered first tiles n)) everywhere (renumbered first tiles g) ws v)
+          Joint (λ (a b : ℕ × ProgramState). (a.0 ≡ b.0) × Alike first tiles a.1 b.1) (calls_below unlimited ps (suc n) everywhere g ws u)
+          (calls_below unlimited qs (suc (renumbered first tiles n)) everywhere (renumbered first tiles g) ws v)
       by g ws u v unlike a (inl same) =
-          subst (λ k. Joint (λ (a b : ℕ × ProgramState). (a.0 ≡ b.0) × Alike first tiles a.1 b.1) (calls_below unlimited ps (suc n) everywhere k ws u) (calls_below unlimited qs (suc (renumbered first tiles n)) everywhere (renumbered first tiles k) ws v)) (sym same)
-          (subst (λ o. Joint (λ (a b : ℕ × ProgramState). (a.0 ≡ b.0) × Alike first tiles a.1 b.1) o (calls_below unlimited qs (suc (renumbered first tiles n)) everywhere (renumbered first tiles n) ws v)) (sym (call_of ps n r is ws u))
-          (subst (λ o. Joint (λ (a b : ℕ × ProgramState). (a.0 ≡ b.0) × Alike first tiles a.1 b.1) (enter (calls_below unlimited ps n) everywhere r n ws u) o) (sym (call_of qs (renumbered first tiles n) (cut.other n r) (cut.other_is n r other is) ws v))
+          subst (λ k. Joint (λ (a b : ℕ × ProgramState). (a.0 ≡ b.0) × Alike first tiles a.1 b.1) (calls_below unlimited ps (suc n) everywhere k ws u)
+          (calls_below unlimited qs (suc (renumbered first tiles n)) everywhere (renumbered first tiles k) ws v)) (sym same)
+          (subst (λ o. Joint (λ (a b : ℕ × ProgramState). (a.0 ≡ b.0) × Alike first tiles a.1 b.1) o
+          (calls_below unlimited qs (suc (renumbered first tiles n)) everywhere (renumbered first tiles n) ws v)) (sym (call_of ps n r is ws u))
+          (subst (λ o. Joint (λ (a b : ℕ × ProgramState). (a.0 ≡ b.0) × Alike first tiles a.1 b.1)
+          (enter (calls_below unlimited ps n) everywhere r n ws u) o)
+          (sym (call_of qs (renumbered first tiles n) (cut.other n r) (cut.other_is n r other is) ws v))
           (cut.others_enter n r (calls_below unlimited ps n) (calls_below unlimited qs (renumbered first tiles n)) ws u v other is c a)))
       by g ws u v unlike a (inr apart) =
-          subst (λ o. Joint (λ (a b : ℕ × ProgramState). (a.0 ≡ b.0) × Alike first tiles a.1 b.1) o (calls_below unlimited qs (suc (renumbered first tiles n)) everywhere (renumbered first tiles g) ws v)) (sym (call_before ps n g apart ws u))
+          subst (λ o. Joint (λ (a b : ℕ × ProgramState). (a.0 ≡ b.0) × Alike first tiles a.1 b.1) o
+          (calls_below unlimited qs (suc (renumbered first tiles n)) everywhere (renumbered first tiles g) ws v)) (sym (call_before ps n g apart ws u))
           (subst (λ o. Joint (λ (a b : ℕ × ProgramState). (a.0 ≡ b.0) × Alike first tiles a.1 b.1) (calls_below unlimited ps n everywhere g ws u) o)
           (sym (call_before qs (renumbered first tiles n) (renumbered first tiles g) (renumbered_apart first tiles g n cut.some unlike other apart) ws v)) (c.other g ws u v unlike a))
 
@@ -158,15 +176,19 @@ module _ (first tiles : ℕ) (ps qs : List Routine) (cut : AreCut first tiles ps
   cut_calls before =
       let above : renumbered first tiles (suc first) ≡ first + tiles = renumbered_above first tiles (suc first) (omega arith) ∙ (let e : suc first - 1 + tiles ≡ first + tiles = omega arith in e) in
       let here : renumbered first tiles first ≡ first = renumbered_below first tiles first (omega arith) in
-      let c : CallsAlike first tiles (calls_below unlimited ps first) (calls_below unlimited qs first) = subst (λ m. CallsAlike first tiles (calls_below unlimited ps first) (calls_below unlimited qs m)) here before in
+      let c : CallsAlike first tiles (calls_below unlimited ps first) (calls_below unlimited qs first) =
+      subst (λ m. CallsAlike first tiles (calls_below unlimited ps first) (calls_below unlimited qs m)) here before in
       subst (λ m. CallsAlike first tiles (calls_below unlimited ps (suc first)) (calls_below unlimited qs m)) (sym above) (record {
         other = λ g ws u v unlike a.
-            subst (λ o. Joint (λ (a b : ℕ × ProgramState). (a.0 ≡ b.0) × Alike first tiles a.1 b.1) o (calls_below unlimited qs (first + tiles) everywhere (renumbered first tiles g) ws v)) (sym (call_before ps first g unlike ws u))
+            subst (λ o. Joint (λ (a b : ℕ × ProgramState). (a.0 ≡ b.0) × Alike first tiles a.1 b.1) o
+            (calls_below unlimited qs (first + tiles) everywhere (renumbered first tiles g) ws v)) (sym (call_before ps first g unlike ws u))
             (subst (λ o. Joint (λ (a b : ℕ × ProgramState). (a.0 ≡ b.0) × Alike first tiles a.1 b.1) (calls_below unlimited ps first everywhere g ws u) o)
             (sym (call_skips qs first tiles (renumbered first tiles g) (renumbered_no_tile first tiles g unlike) ws v)) (c.other g ws u v unlike a));
         function = λ u v a.
-            subst (λ o. Joint (λ (a : ℕ × ProgramState) (b : ProgramState). Alike first tiles a.1 b) o (calls_all (calls_below unlimited qs (first + tiles)) first tiles 0 v)) (sym (call_of ps first cut.function cut.function_is [] u))
-            (cut.function_enters (calls_below unlimited ps first) (λ t. calls_below unlimited qs (first + t)) (calls_below unlimited qs (first + tiles)) (λ t lt s. call_among qs first tiles t (cut.tile t) lt (cut.tile_is t lt) [] s) u v a);
+            subst (λ o. Joint (λ (a : ℕ × ProgramState) (b : ProgramState). Alike first tiles a.1 b) o
+            (calls_all (calls_below unlimited qs (first + tiles)) first tiles 0 v)) (sym (call_of ps first cut.function cut.function_is [] u))
+            (cut.function_enters (calls_below unlimited ps first) (λ t. calls_below unlimited qs (first + t))
+            (calls_below unlimited qs (first + tiles)) (λ t lt s. call_among qs first tiles t (cut.tile t) lt (cut.tile_is t lt) [] s) u v a);
       })
 
   pub all_calls : (n : ℕ) → n ≤ length ps → C n

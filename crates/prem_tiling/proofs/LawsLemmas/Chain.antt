@@ -17,11 +17,13 @@ use Rattle.prem_tiling.proofs.LawsLemmas.Laps.{laps, laps_add, laps_joint, Cutta
 pub joint_here : {A B : Type 0} {P : A → B → Type 0} {x : A} {y : B} → Joint P (Ok x) (Ok y) → P x y
 joint_here (fine p) = p
 
-joint_right : {A B C : Type 0} {P : A → B → Type 0} {Q : A → C → Type 0} {o : Outcome A} {o' : Outcome B} (g : B → C) → Joint P o o' → ((x : A) (y : B) → P x y → Q x (g y)) → Joint Q o (and_then o' (λ y. Ok (g y)))
+joint_right : {A B C : Type 0} {P : A → B → Type 0} {Q : A → C → Type 0} {o : Outcome A} {o' : Outcome B} (g : B → C) → Joint P o o' →
+    ((x : A) (y : B) → P x y → Q x (g y)) → Joint Q o (and_then o' (λ y. Ok (g y)))
 joint_right g (fine p) more = fine (more _ _ p)
 joint_right g (wrong line) more = wrong line
 
-module _ (around : Around) (locals : List Text) (body : Statement) (k step low : ℕ) (base : List ℕ) (cuttable : Cuttable around locals body k step base) (turns : ℕ → ℕ) (n line : ℕ) (may : Access) (calls : Calls) (callees : ℕ → Calls) where
+module _ (around : Around) (locals : List Text) (body : Statement) (k step low : ℕ) (base : List ℕ)
+    (cuttable : Cuttable around locals body k step base) (turns : ℕ → ℕ) (n line : ℕ) (may : Access) (calls : Calls) (callees : ℕ → Calls) where
   -- a caller's state with new locals, the variable among them
   abbrev pub fresh : ProgramState → ℕ → ProgramState
   fresh s w = with_local k w (record s { locals = base })
@@ -56,14 +58,18 @@ module _ (around : Around) (locals : List Text) (body : Statement) (k step low :
       }
     where
       by : (i : ℕ) (b : Bool) → eqb k i ≡ b → stale_first locals body i ≡ false → slice_index u.locals i ≡ slice_index (set base k (low + step * j)) i
-      by i true is e = let same : k ≡ i = eqb-true k i is in let there = cuttable.there in subst (λ x. slice_index u.locals x ≡ slice_index (set base k (low + step * j)) x) same (mid.at ∙ sym (get_or-set_same base k (low + step * j) 0 there))
+      by i true is e = let same : k ≡ i = eqb-true k i is in let there = cuttable.there in
+          subst (λ x. slice_index u.locals x ≡ slice_index (set base k (low + step * j)) x) same
+          (mid.at ∙ sym (get_or-set_same base k (low + step * j) 0 there))
       by i false is e = mid.kept i (ap (λ b. b || stale_first locals body i) is ∙ e) ∙ sym (index-set_other base k i (low + step * j) is)
 
   -- behind so many turns of both
   turns_done : (t : ℕ) (ms : List MarkedCall) (caller : List ℕ) (j m : ℕ) (u s : ProgramState) → Mid ms caller j u s →
-      Joint (One t ms s.marks (j + m)) (laps m (turn_by around locals body k step low base cuttable turns n line may calls (callees t) calls) u) (laps m (turn_by around locals body k step low base cuttable turns n line may calls (callees t) (callees t)) (fresh s (low + step * j)))
+      Joint (One t ms s.marks (j + m)) (laps m (turn_by around locals body k step low base cuttable turns n line may calls (callees t) calls) u)
+      (laps m (turn_by around locals body k step low base cuttable turns n line may calls (callees t) (callees t)) (fresh s (low + step * j)))
   turns_done t ms caller j m u s mid =
-      laps_joint (One t ms s.marks) _ _ (turn_lap around locals body k step low base cuttable turns n line may calls (callees t) ms s.marks) m j u (fresh s (low + step * j)) (begins t ms caller j u s mid)
+      laps_joint (One t ms s.marks) _ _ (turn_lap around locals body k step low base cuttable turns n line may calls (callees t) ms s.marks) m j u
+      (fresh s (low + step * j)) (begins t ms caller j u s mid)
 
   -- ---- a call of one tile
 
@@ -88,7 +94,8 @@ module _ (around : Around) (locals : List Text) (body : Statement) (k step low :
     noted true m xs e = refl
     noted false m xs e = absurd (true≢false (sym e))
 
-    one_tile : (ms : List MarkedCall) (caller : List ℕ) (t : ℕ) (u s : ProgramState) → Mid ms caller (firsts t) u s → Joint (Next ms caller t s) (laps (firsts (t + 1) - firsts t) turn u) (tile_call t s)
+    one_tile : (ms : List MarkedCall) (caller : List ℕ) (t : ℕ) (u s : ProgramState) → Mid ms caller (firsts t) u s →
+        Joint (Next ms caller t s) (laps (firsts (t + 1) - firsts t) turn u) (tile_call t s)
     one_tile ms caller t u s mid =
         let m = firsts (t + 1) - firsts t in
         let more = rises t in
@@ -117,7 +124,8 @@ module _ (around : Around) (locals : List Text) (body : Statement) (k step low :
     rise_all t zero = let e : firsts (t + 0) ≡ firsts t = ap firsts (omega arith) in omega arith
     rise_all t (suc r) = let e : firsts (t + suc r) ≡ firsts (t + 1 + r) = ap firsts (omega arith) in let one = rises t in let rest = rise_all (t + 1) r in omega arith
 
-    pub all_tiles : (ms : List MarkedCall) (caller : List ℕ) (r t : ℕ) (u s : ProgramState) → Mid ms caller (firsts t) u s → Joint (Ended ms caller r t s) (laps (firsts (t + r) - firsts t) turn u) (tiles_run r t s)
+    pub all_tiles : (ms : List MarkedCall) (caller : List ℕ) (r t : ℕ) (u s : ProgramState) → Mid ms caller (firsts t) u s →
+        Joint (Ended ms caller r t s) (laps (firsts (t + r) - firsts t) turn u) (tiles_run r t s)
     all_tiles ms caller zero t u s mid =
         let here : t + 0 ≡ t = omega arith in
         let none : firsts (t + 0) - firsts t ≡ 0 = let e : firsts (t + 0) ≡ firsts t = ap firsts here in omega arith in
@@ -131,7 +139,8 @@ module _ (around : Around) (locals : List Text) (body : Statement) (k step low :
         let further : t + suc r ≡ t + 1 + r = omega arith in
         let count : firsts (t + suc r) - firsts t ≡ (firsts (t + 1) - firsts t) + (firsts (t + 1 + r) - firsts (t + 1)) =
         let e : firsts (t + suc r) ≡ firsts (t + 1 + r) = ap firsts further in let one = rises t in let rest = rise_all (t + 1) r in omega arith in
-        subst (λ o. Joint (Ended ms caller (suc r) t s) o (tiles_run (suc r) t s)) (sym (ap (λ m. laps m turn u) count ∙ laps_add (firsts (t + 1) - firsts t) (firsts (t + 1 + r) - firsts (t + 1)) turn u))
+        subst (λ o. Joint (Ended ms caller (suc r) t s) o (tiles_run (suc r) t s))
+        (sym (ap (λ m. laps m turn u) count ∙ laps_add (firsts (t + 1) - firsts t) (firsts (t + 1 + r) - firsts (t + 1)) turn u))
         (joint_then (laps (firsts (t + 1 + r) - firsts (t + 1)) turn) (tiles_run r (t + 1)) (one_tile ms caller t u s mid)
         (λ x y next. joint_mapped (all_tiles ms caller r (t + 1) x y next.mid) (λ a b end. with_first x y next a b end)))
       where
@@ -144,5 +153,11 @@ module _ (around : Around) (locals : List Text) (body : Statement) (k step low :
               mid = subst (λ j. Mid ms caller (firsts j) a b) further end.mid;
               tiles = first ∷ end.tiles;
               marks_are = end.marks_are ∙ ap (λ ms. ms ++ end.tiles) next.marks_are ∙ append_assoc s.marks (first ∷ []) end.tiles;
-              are = (refl, refl, (let mid_same = next.mid.same in subst (λ g. AreTiles (first_number + t + 1) r g a.globals end.tiles) (λ i. (sym mid_same i).globals) (subst (λ f. AreTiles f r y.globals a.globals end.tiles) number end.are)));
+              are = (
+                refl,
+                refl,
+                (let mid_same = next.mid.same in
+                    subst (λ g. AreTiles (first_number + t + 1) r g a.globals end.tiles) (λ i. (sym mid_same i).globals)
+                    (subst (λ f. AreTiles f r y.globals a.globals end.tiles) number end.are)),
+              );
             }

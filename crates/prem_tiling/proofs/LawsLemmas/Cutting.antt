@@ -49,9 +49,11 @@ then_done calls (Err line) g = refl
 -- the turns of such a routine
 abbrev pub loop_run : (at : Place) (k low high : ℕ) (closed : Bool) (step most : ℕ) (body : Steps) (base : List ℕ) (high_at : Place) (high_kind : Kind) → Calls → ProgramState → Outcome ProgramState
 loop_run at k low high closed step most body base high_at high_kind calls s =
-    counting at.line most (loop_test everywhere k closed (Constant high_at high high_kind)) (λ t. and_then (run everywhere calls body t) (loop_step at.line k step)) (with_local k low (record s { locals = base }))
+    counting at.line most (loop_test everywhere k closed (Constant high_at high high_kind))
+    (λ t. and_then (run everywhere calls body t) (loop_step at.line k step)) (with_local k low (record s { locals = base }))
 
-loop_entered : (r : Routine) (base : List ℕ) (at : Place) (k low high : ℕ) (closed : Bool) (step most : ℕ) (body : Steps) (is : IsLoopRoutine r base at k low high closed step most body) (calls : Calls) (g : ℕ) (s : ProgramState) →
+loop_entered : (r : Routine) (base : List ℕ) (at : Place) (k low high : ℕ) (closed : Bool) (step most : ℕ) (body : Steps)
+    (is : IsLoopRoutine r base at k low high closed step most body) (calls : Calls) (g : ℕ) (s : ProgramState) →
     enter calls everywhere r g [] s ≡ and_then (loop_run at k low high closed step most body base is.high_at is.high_kind calls s) (leaving r g s)
 loop_entered r base at k low high closed step most body is calls g s =
     ap (λ o. and_then o (λ t. and_then (run everywhere calls r.body t) (λ x. and_then (result_of everywhere r.result x) (λ w. Ok (w, leave r g s x))))) (is.locals_are s)
@@ -60,7 +62,8 @@ loop_entered r base at k low high closed step most body is calls g s =
 
 -- ---- its turns, counted
 
-module _ (around : Around) (locals : List Text) (body : Statement) (k step low : ℕ) (base : List ℕ) (cuttable : Cuttable around locals body k step base) (turns : ℕ → ℕ) (n line : ℕ) (calls : Calls) where
+module _ (around : Around) (locals : List Text) (body : Statement) (k step low : ℕ) (base : List ℕ)
+    (cuttable : Cuttable around locals body k step base) (turns : ℕ → ℕ) (n line : ℕ) (calls : Calls) where
   abbrev turn : ProgramState → Outcome ProgramState
   turn u = turn_by around locals body k step low base cuttable turns n line everywhere calls calls calls u
 
@@ -84,9 +87,11 @@ module _ (around : Around) (locals : List Text) (body : Statement) (k step low :
 
   piece_is_laps : (closed : Bool) (high : ℕ) (high_at : Place) (high_kind : Kind) (end : ℕ) → high ≤ 2147483647 → ((j : ℕ) → ltb (low + step * j) (bound_with closed high) ≡ ltb j end) →
       (first m most : ℕ) → first + m ≡ end → m ≤ most → low + step * first ≤ 2147483647 → (s : ProgramState) →
-      counting line most (loop_test everywhere k closed (Constant high_at high high_kind)) turn (with_local k (low + step * first) (record s { locals = base })) ≡ laps m turn (with_local k (low + step * first) (record s { locals = base }))
+      counting line most (loop_test everywhere k closed (Constant high_at high high_kind)) turn
+      (with_local k (low + step * first) (record s { locals = base })) ≡ laps m turn (with_local k (low + step * first) (record s { locals = base }))
   piece_is_laps closed high high_at high_kind end high_small tests first m most ends enough small s =
-      counting_laps (I s.marks) (loop_test everywhere k closed (Constant high_at high high_kind)) turn end tested turned line most m first (with_local k (low + step * first) (record s { locals = base })) enough ends (first_lap first s small)
+      counting_laps (I s.marks) (loop_test everywhere k closed (Constant high_at high high_kind)) turn end tested turned line most m first
+      (with_local k (low + step * first) (record s { locals = base })) enough ends (first_lap first s small)
     where
       tested : (j : ℕ) (u : ProgramState) → I s.marks j u → loop_test everywhere k closed (Constant high_at high high_kind) u ≡ Ok (ltb j end)
       tested j u i =
@@ -94,7 +99,9 @@ module _ (around : Around) (locals : List Text) (body : Statement) (k step low :
           ∙ ap Ok (in_bound_is closed (low + step * j) high ∙ tests j)
 
       turned : (j : ℕ) (u v : ProgramState) → I s.marks j u → turn u ≡ Ok v → I s.marks (j + 1) v
-      turned j u v i e = joint_here (subst (λ o. Joint (Lap around locals body k step low base cuttable turns n line everywhere calls calls s.marks s.marks (j + 1)) o o) e (turn_lap around locals body k step low base cuttable turns n line everywhere calls calls s.marks s.marks j u u i))
+      turned j u v i e = joint_here (subst
+          (λ o. Joint (Lap around locals body k step low base cuttable turns n line everywhere calls calls s.marks s.marks (j + 1)) o o) e
+          (turn_lap around locals body k step low base cuttable turns n line everywhere calls calls s.marks s.marks j u u i))
 
 -- ---- the function and its tiles
 
@@ -110,8 +117,11 @@ pub record IsCut (step low high : ℕ) (closed : Bool) (tiles turns most : ℕ) 
   pub tests : (j : ℕ) → ltb (low + step * j) (bound_with closed high) ≡ ltb j turns
   pub tile_tests : (t j : ℕ) → t < tiles → ltb (low + step * j) (bound_with (closes t) (highs t)) ≡ ltb j (firsts (t + 1))
 
-module _ (around : Around) (locals : List Text) (body : Statement) (k step low high : ℕ) (closed : Bool) (base : List ℕ) (cuttable : Cuttable around locals body k step base) (turns : ℕ → ℕ) (n : ℕ) (at : Place) (tiles count most first : ℕ) (firsts : ℕ → ℕ) (closes : ℕ → Bool) (highs : ℕ → ℕ)
-    (some : 0 < tiles) (cut : IsCut step low high closed tiles count most firsts closes highs) (calls : Calls) (callees : ℕ → Calls) (r : Routine) (routines : ℕ → Routine) (marked : is_marked r ≡ true) (all_marked : (t : ℕ) → is_marked (routines t) ≡ true) where
+module _ (around : Around) (locals : List Text) (body : Statement) (k step low high : ℕ) (closed : Bool) (base : List ℕ)
+    (cuttable : Cuttable around locals body k step base) (turns : ℕ → ℕ) (n : ℕ) (at : Place) (tiles count most first : ℕ) (firsts : ℕ → ℕ)
+    (closes : ℕ → Bool) (highs : ℕ → ℕ)
+    (some : 0 < tiles) (cut : IsCut step low high closed tiles count most firsts closes highs) (calls : Calls) (callees : ℕ → Calls) (r : Routine)
+    (routines : ℕ → Routine) (marked : is_marked r ≡ true) (all_marked : (t : ℕ) → is_marked (routines t) ≡ true) where
   abbrev steps : Steps
   steps = resolve_statement around.scope turns n body Done
 
@@ -133,7 +143,8 @@ module _ (around : Around) (locals : List Text) (body : Statement) (k step low h
       let all = below_all t lt in
       loop_entered (routines t) base at k (low + step * firsts t) (highs t) (closes t) step most steps is (callees t) (first + t) s
       ∙ ap (λ o. and_then o (leaving (routines t) (first + t) s))
-      (piece_is_laps around locals body k step low base cuttable turns n at.line (callees t) (closes t) (highs t) is.high_at is.high_kind (firsts (t + 1)) (cut.highs_small t lt) (λ j. cut.tile_tests t j lt) (firsts t) m most (omega arith) (omega arith) (cut.lows_small t lt) s)
+      (piece_is_laps around locals body k step low base cuttable turns n at.line (callees t) (closes t) (highs t) is.high_at is.high_kind
+      (firsts (t + 1)) (cut.highs_small t lt) (λ j. cut.tile_tests t j lt) (firsts t) m most (omega arith) (omega arith) (cut.lows_small t lt) s)
       ∙ split (laps m (one_turn (callees t)) begin) (routines t) (first + t)
     where
       rise_to : (t r : ℕ) → firsts t ≤ firsts (t + r)
@@ -141,7 +152,8 @@ module _ (around : Around) (locals : List Text) (body : Statement) (k step low h
       rise_to t (suc r) = let e : firsts (t + suc r) ≡ firsts (t + 1 + r) = ap firsts (omega arith) in let one = cut.rises t in let rest = rise_to (t + 1) r in omega arith
 
       below_all : (t : ℕ) → t < tiles → firsts (t + 1) ≤ most
-      below_all t lt = let e : firsts (t + 1 + (tiles - (t + 1))) ≡ firsts tiles = ap firsts (omega arith) in let up = rise_to (t + 1) (tiles - (t + 1)) in let last = cut.ends in let room = cut.enough in omega arith
+      below_all t lt = let e : firsts (t + 1 + (tiles - (t + 1))) ≡ firsts tiles = ap firsts (omega arith) in let up =
+          rise_to (t + 1) (tiles - (t + 1)) in let last = cut.ends in let room = cut.enough in omega arith
 
       split : (o : Outcome ProgramState) (q : Routine) (g : ℕ) → and_then o (leaving q g s) ≡ and_then (and_then o (λ v. Ok (leave q g s v))) paired
       split (Ok x) q g = refl
@@ -159,10 +171,13 @@ module _ (around : Around) (locals : List Text) (body : Statement) (k step low h
       ∙ ap (and_then (tile_at t s)) (λ i x. calls_are_tiles calls' one m (t + 1) (omega arith) x i)
 
   -- what a call of the function leaves, and what the calls of its tiles leave
-  ended_alike : (u v x y : ProgramState) → Alike first tiles u v → Ended around locals body k step low base cuttable turns n at.line everywhere calls callees first firsts cut.rises routines all_marked u.marks v.locals tiles 0 v x y → Alike first tiles (leave r first u x) y
+  ended_alike : (u v x y : ProgramState) → Alike first tiles u v →
+      Ended around locals body k step low base cuttable turns n at.line everywhere calls callees first firsts cut.rises routines all_marked u.marks
+      v.locals tiles 0 v x y → Alike first tiles (leave r first u x) y
   ended_alike u v x y a end = record {
     same = (let mid = end.mid in let caller : u.locals ≡ y.locals = ap (λ (b : ProgramState). b.locals) a.same ∙ sym mid.locals_are in λ i. record (mid.same i) { locals = caller i });
-    marks = subst (λ ms. MarksTiled first tiles ms y.marks) (sym noted) (subst (λ ns. MarksTiled first tiles (u.marks ++ mark ∷ []) ns) (sym (end.marks_are ∙ ap (λ ts. v.marks ++ ts) (sym (append-nil end.tiles))))
+    marks = subst (λ ms. MarksTiled first tiles ms y.marks) (sym noted)
+        (subst (λ ns. MarksTiled first tiles (u.marks ++ mark ∷ []) ns) (sym (end.marks_are ∙ ap (λ ts. v.marks ++ ts) (sym (append-nil end.tiles))))
         (marks_append a.marks (tile_marks mark end.tiles refl are no_marks)));
   }
     where
@@ -180,32 +195,49 @@ module _ (around : Around) (locals : List Text) (body : Statement) (k step low h
       are = let here : first + 0 ≡ first = omega arith in
           subst (λ g. AreTiles first tiles g x.globals end.tiles) (λ i. (sym a.same i).globals) (subst (λ k. AreTiles k tiles v.globals x.globals end.tiles) here end.are)
 
-  pub function_alike : IsLoopRoutine r base at k low high closed step most steps → ((t : ℕ) → t < tiles → IsLoopRoutine (routines t) base at k (low + step * firsts t) (highs t) (closes t) step most steps) →
+  pub function_alike : IsLoopRoutine r base at k low high closed step most steps →
+      ((t : ℕ) → t < tiles → IsLoopRoutine (routines t) base at k (low + step * firsts t) (highs t) (closes t) step most steps) →
       (calls' : Calls) → ((t : ℕ) → t < tiles → (s : ProgramState) → calls' everywhere (first + t) [] s ≡ enter (callees t) everywhere (routines t) (first + t) [] s) →
-      (u v : ProgramState) → Alike first tiles u v → Joint (λ (a : ℕ × ProgramState) (b : ProgramState). Alike first tiles a.1 b) (enter calls everywhere r first [] u) (calls_all calls' first tiles 0 v)
+      (u v : ProgramState) → Alike first tiles u v →
+      Joint (λ (a : ℕ × ProgramState) (b : ProgramState). Alike first tiles a.1 b) (enter calls everywhere r first [] u) (calls_all calls' first tiles 0 v)
   function_alike is are calls' enters u v a =
       let none : low + step * firsts 0 ≡ low = ap (λ j. low + step * j) cut.begins ∙ (let z = mul-zero step in omega arith) in
       let begin = with_local k low (record u { locals = base }) in
       let whole : loop_run at k low high closed step most steps base is.high_at is.high_kind calls u ≡ laps count (one_turn calls) begin =
-      subst (λ w. counting at.line most (loop_test everywhere k closed (Constant is.high_at high is.high_kind)) (one_turn calls) (with_local k w (record u { locals = base })) ≡ laps count (one_turn calls) (with_local k w (record u { locals = base }))) none
-      (subst (λ j. counting at.line most (loop_test everywhere k closed (Constant is.high_at high is.high_kind)) (one_turn calls) (with_local k (low + step * j) (record u { locals = base })) ≡ laps count (one_turn calls) (with_local k (low + step * j) (record u { locals = base }))) (sym cut.begins)
-      (piece_is_laps around locals body k step low base cuttable turns n at.line calls closed high is.high_at is.high_kind count cut.high_small cut.tests 0 count most (omega arith) cut.enough (let small = cut.lows_small 0 some in let e : low + step * 0 ≡ low + step * firsts 0 = ap (λ j. low + step * j) (sym cut.begins) in omega arith) u)) in
+      subst (λ w. counting at.line most (loop_test everywhere k closed (Constant is.high_at high is.high_kind)) (one_turn calls)
+      (with_local k w (record u { locals = base })) ≡ laps count (one_turn calls) (with_local k w (record u { locals = base }))) none
+      (subst (λ j. counting at.line most (loop_test everywhere k closed (Constant is.high_at high is.high_kind)) (one_turn calls)
+      (with_local k (low + step * j) (record u { locals = base }))
+      ≡ laps count (one_turn calls) (with_local k (low + step * j) (record u { locals = base }))) (sym cut.begins)
+      (piece_is_laps around locals body k step low base cuttable turns n at.line calls closed high is.high_at is.high_kind count cut.high_small
+      cut.tests 0 count most (omega arith) cut.enough
+      (let small = cut.lows_small 0 some in let e : low + step * 0 ≡ low + step * firsts 0 = ap (λ j. low + step * j) (sym cut.begins) in
+      omega arith) u)) in
       let all : 0 + tiles ≡ tiles = omega arith in
       let number : firsts (0 + tiles) - firsts 0 ≡ count = let e : firsts (0 + tiles) ≡ firsts tiles = ap firsts all in let ends = cut.ends in let begins = cut.begins in omega arith in
-      subst (λ o. Joint (λ (a : ℕ × ProgramState) (b : ProgramState). Alike first tiles a.1 b) o (calls_all calls' first tiles 0 v)) (sym (loop_entered r base at k low high closed step most steps is calls first u ∙ ap (λ o. and_then o (leaving r first u)) whole))
-      (subst (λ o. Joint (λ (a : ℕ × ProgramState) (b : ProgramState). Alike first tiles a.1 b) (and_then (laps count (one_turn calls) begin) (leaving r first u)) o) (sym (calls_are_tiles calls' (λ t lt s. enters t lt s ∙ tile_entered t lt (are t lt) s) tiles 0 all v))
-      (joint_left (leaving_state u) (subst (λ m. Joint (Ended around locals body k step low base cuttable turns n at.line everywhere calls callees first firsts cut.rises routines all_marked u.marks v.locals tiles 0 v) (laps m (one_turn calls) begin) (tiles_at tiles 0 v)) number
+      subst (λ o. Joint (λ (a : ℕ × ProgramState) (b : ProgramState). Alike first tiles a.1 b) o (calls_all calls' first tiles 0 v))
+      (sym (loop_entered r base at k low high closed step most steps is calls first u ∙ ap (λ o. and_then o (leaving r first u)) whole))
+      (subst (λ o. Joint (λ (a : ℕ × ProgramState) (b : ProgramState). Alike first tiles a.1 b)
+      (and_then (laps count (one_turn calls) begin) (leaving r first u)) o)
+      (sym (calls_are_tiles calls' (λ t lt s. enters t lt s ∙ tile_entered t lt (are t lt) s) tiles 0 all v))
+      (joint_left (leaving_state u) (subst
+      (λ m. Joint (Ended around locals body k step low base cuttable turns n at.line everywhere calls callees first firsts cut.rises routines
+      all_marked u.marks v.locals tiles 0 v) (laps m (one_turn calls) begin) (tiles_at tiles 0 v)) number
       (all_tiles around locals body k step low base cuttable turns n at.line everywhere calls callees first firsts cut.rises routines all_marked u.marks v.locals tiles 0 begin v (mid_first none)))
       (λ x y end. ended_alike u v x y a end)))
     where
       leaving_state : ProgramState → ProgramState → ℕ × ProgramState
       leaving_state s x = (0, leave r first s x)
 
-      joint_left : {P : ProgramState → ProgramState → Type 0} {o o' : Outcome ProgramState} (g : ProgramState → ℕ × ProgramState) → Joint P o o' → ((x y : ProgramState) → P x y → Alike first tiles (g x).1 y) → Joint (λ (a : ℕ × ProgramState) (b : ProgramState). Alike first tiles a.1 b) (and_then o (λ x. Ok (g x))) o'
+      joint_left : {P : ProgramState → ProgramState → Type 0} {o o' : Outcome ProgramState} (g : ProgramState → ℕ × ProgramState) → Joint P o o' →
+          ((x y : ProgramState) → P x y → Alike first tiles (g x).1 y) →
+          Joint (λ (a : ℕ × ProgramState) (b : ProgramState). Alike first tiles a.1 b) (and_then o (λ x. Ok (g x))) o'
       joint_left g (fine p) more = fine (more _ _ p)
       joint_left g (wrong line) more = wrong line
 
-      mid_first : low + step * firsts 0 ≡ low → Mid around locals body k step low base cuttable turns n at.line everywhere calls callees u.marks v.locals (firsts 0) (with_local k low (record u { locals = base })) v
+      mid_first : low + step * firsts 0 ≡ low →
+          Mid around locals body k step low base cuttable turns n at.line everywhere calls callees u.marks v.locals (firsts 0)
+          (with_local k low (record u { locals = base })) v
       mid_first none =
           let there = cuttable.there in
           record {

@@ -40,9 +40,11 @@ module _ {first tiles : ℕ} where
   noted_alike false g before before' after after' ms ns other e f are = are
   noted_alike true g before before' after after' ms ns other e f are =
       subst (λ x. MarksTiled first tiles (ms ++ mark_of g before after ∷ []) (ns ++ mark_of (renumbered first tiles g) x after' ∷ [])) e
-      (subst (λ x. MarksTiled first tiles (ms ++ mark_of g before after ∷ []) (ns ++ mark_of (renumbered first tiles g) before x ∷ [])) f (marks_append are (other_mark (mark_of g before after) other no_marks)))
+      (subst (λ x. MarksTiled first tiles (ms ++ mark_of g before after ∷ []) (ns ++ mark_of (renumbered first tiles g) before x ∷ [])) f
+      (marks_append are (other_mark (mark_of g before after) other no_marks)))
 
-  left_alike : (r r' : Routine) (g : ℕ) → is_marked r ≡ is_marked r' → (g ≡ first → ⊥) → (u v x y : ProgramState) → Alike first tiles u v → Alike first tiles x y → Alike first tiles (leave r g u x) (leave r' (renumbered first tiles g) v y)
+  left_alike : (r r' : Routine) (g : ℕ) → is_marked r ≡ is_marked r' → (g ≡ first → ⊥) → (u v x y : ProgramState) → Alike first tiles u v →
+      Alike first tiles x y → Alike first tiles (leave r g u x) (leave r' (renumbered first tiles g) v y)
   left_alike r r' g marked other u v x y a b = record {
     same = λ i. record (b.same i) { locals = (a.same i).locals };
     marks = subst (λ m. MarksTiled first tiles (leave r g u x).marks (with_mark m (mark_of (renumbered first tiles g) v.globals y.globals) y.marks)) marked
@@ -58,7 +60,8 @@ module _ {first tiles : ℕ} where
       (λ t. and_then (run everywhere calls' r'.body t) (λ x. and_then (result_of everywhere r'.result x) (λ w. Ok (w, leave r' (renumbered first tiles g) v x))))
       (subst (λ es. Joint (Alike first tiles) (declare everywhere r.locals (record u { locals = ws })) (declare everywhere es (record v { locals = ws }))) locals_are
       (declare_alike r.locals (record u { locals = ws }) (record v { locals = ws }) (record { same = λ i. record (a.same i) { locals = ws }; marks = a.marks })))
-      (λ p q b. joint_then (λ x. and_then (result_of everywhere r.result x) (λ w. Ok (w, leave r g u x))) (λ x. and_then (result_of everywhere r'.result x) (λ w. Ok (w, leave r' (renumbered first tiles g) v x)))
+      (λ p q b. joint_then (λ x. and_then (result_of everywhere r.result x) (λ w. Ok (w, leave r g u x)))
+      (λ x. and_then (result_of everywhere r'.result x) (λ w. Ok (w, leave r' (renumbered first tiles g) v x)))
       (body p q b)
       (λ x y d. same_then (result_of everywhere r.result x) (result_of everywhere r'.result y) (λ w. Ok (w, leave r g u x)) (λ w. Ok (w, leave r' (renumbered first tiles g) v y))
       (result_alike r.result x y d ∙ ap (λ e. result_of everywhere e y) result_is) (λ w. fine (refl, left_alike r r' g marked other u v x y a d))))

@@ -1,7 +1,8 @@
 -- The functions of a program and of the one with tiles, by name and with what stands at their numbers.
 use Rattle.std.specs.Prelude.{slice_get}
 use Rattle.std.specs.Str.{bytes_eq}
-use Rattle.std.proofs.Common.{◌≡◌, ℕ, zero, suc, ◌+◌, ◌-◌, ◌<◌, ◌≤◌, Bool, true, false, cond, List, [], ◌∷◌, ◌++◌, length, map, refl, ap, sym, ◌∙◌, arith, Option, None, Some, option_map, ◌⊎◌, inl, inr}
+use Rattle.std.proofs.Common.{◌≡◌, ℕ, zero, suc, ◌+◌, ◌-◌, ◌<◌, ◌≤◌, Bool, true, false, cond, List, [], ◌∷◌, ◌++◌, length, map, refl, ap, sym, ◌∙◌, arith, Option, None, Some}
+use Rattle.std.proofs.Common.{option_map, ◌⊎◌, inl, inr}
 use Rattle.std.proofs.lemmas.List.{length-map, length-append}
 use Rattle.std.proofs.lemmas.Bool.{cases_lt}
 use Rattle.prem_syntax.specs.Syntax.{Text, FunctionText}
@@ -27,8 +28,15 @@ found_at : (w : Text) (fs : List FunctionText) (n : ℕ) (g : ℕ × FunctionTex
 found_at w [] n g e = cc
 found_at w (f ∷ fs) n g e = by (bytes_eq f.name w) e (λ h. found_at w fs (n + 1) g h)
   where
-    by : (b : Bool) → cond b (Some (n, f)) (find_named (λ (f : FunctionText). f.name) w (n + 1) fs) ≡ Some g → (find_named (λ (f : FunctionText). f.name) w (n + 1) fs ≡ Some g → At fs (n + 1) g) → At (f ∷ fs) n g
-    by true h next = let same : (n, f) ≡ g = cc in record { k = 0; number = sym (ap (λ (x : ℕ × FunctionText). x.0) same) ∙ (let z : n ≡ n + 0 = omega arith in z); stands = ap (λ (x : ℕ × FunctionText). Some x.1) same }
+    by : (b : Bool) → cond b (Some (n, f)) (find_named (λ (f : FunctionText). f.name) w (n + 1) fs) ≡ Some g →
+        (find_named (λ (f : FunctionText). f.name) w (n + 1) fs ≡ Some g → At fs (n + 1) g) → At (f ∷ fs) n g
+    by true h next = let same : (n, f) ≡ g = cc in
+        record {
+          k = 0;
+          number = sym (ap (λ (x : ℕ × FunctionText). x.0) same) ∙ (let z : n ≡ n + 0 = omega arith in z);
+          stands =
+              ap (λ (x : ℕ × FunctionText). Some x.1) same;
+        }
     by false h next = let a = next h in record { k = suc a.k; number = a.number ∙ (let z : n + 1 + a.k ≡ n + suc a.k = omega arith in z); stands = a.stands }
 
 pub stands_at : (fs : List FunctionText) (w : Text) (g : ℕ × FunctionText) → find_function fs w ≡ Some g → slice_get fs g.0 ≡ Some g.1
@@ -63,7 +71,8 @@ tile_at c (suc n) s (suc k) lt = tile_at c n (s + 1) k (omega arith) ∙ (let z 
 
 -- ---- with tiles
 
-module _ (c : Cut) (before after fs fs' : List FunctionText) (are : fs ≡ before ++ c.function ∷ after) (tiled_are : fs' ≡ map (function_with_tiles c) before ++ (tile_functions c 0 c.tiles ++ map (function_with_tiles c) after)) where
+module _ (c : Cut) (before after fs fs' : List FunctionText) (are : fs ≡ before ++ c.function ∷ after)
+    (tiled_are : fs' ≡ map (function_with_tiles c) before ++ (tile_functions c 0 c.tiles ++ map (function_with_tiles c) after)) where
   abbrev first : ℕ
   first = length before
 
@@ -75,7 +84,9 @@ module _ (c : Cut) (before after fs fs' : List FunctionText) (are : fs ≡ befor
 
   tile_stands : (t : ℕ) → t < c.tiles → slice_get fs' (first + t) ≡ Some (tile_of c t)
   tile_stands t lt =
-      ap (λ xs. slice_get xs (first + t)) tiled_are ∙ (let z : first + t ≡ length (map T before) + t = (let k = new_front in omega arith) in ap (slice_get (map T before ++ (tile_functions c 0 c.tiles ++ map T after))) z)
+      ap (λ xs. slice_get xs (first + t)) tiled_are
+      ∙ (let z : first + t ≡ length (map T before) + t = (let k = new_front in omega arith) in
+      ap (slice_get (map T before ++ (tile_functions c 0 c.tiles ++ map T after))) z)
       ∙ get_right (map T before) (tile_functions c 0 c.tiles ++ map T after) t ∙ get_left (tile_functions c 0 c.tiles) (map T after) t (let k = tiles_count c 0 c.tiles in omega arith)
       ∙ tile_at c c.tiles 0 t lt ∙ (let z : 0 + t ≡ t = omega arith in ap (λ j. Some (tile_of c j)) z)
 
@@ -90,7 +101,8 @@ module _ (c : Cut) (before after fs fs' : List FunctionText) (are : fs ≡ befor
       let old : slice_get after j ≡ Some x = sym (get_right before (c.function ∷ after) (suc j)) ∙ ap (λ xs. slice_get xs (first + suc j)) (sym are) ∙ e in
       let z : first + (c.tiles + j) ≡ length (map T before) + (length (tile_functions c 0 c.tiles) + j) = (let k = new_front in let l = tiles_count c 0 c.tiles in omega arith) in
       ap (λ xs. slice_get xs (first + (c.tiles + j))) tiled_are ∙ ap (slice_get (map T before ++ (tile_functions c 0 c.tiles ++ map T after))) z
-      ∙ get_right (map T before) (tile_functions c 0 c.tiles ++ map T after) (length (tile_functions c 0 c.tiles) + j) ∙ get_right (tile_functions c 0 c.tiles) (map T after) j ∙ slice_map T after j x old
+      ∙ get_right (map T before) (tile_functions c 0 c.tiles ++ map T after) (length (tile_functions c 0 c.tiles) + j)
+      ∙ get_right (tile_functions c 0 c.tiles) (map T after) j ∙ slice_map T after j x old
 
   others_stand : (g : ℕ) (x : FunctionText) → (g ≡ first → ⊥) → slice_get fs g ≡ Some x → slice_get fs' (renumbered first c.tiles g) ≡ Some (T x)
   others_stand g x other e = by (cases_lt g first)
@@ -124,7 +136,9 @@ module _ (c : Cut) (before after fs fs' : List FunctionText) (are : fs ≡ befor
   origin j h e = by (cases_lt j first) (cases_lt j (first + c.tiles))
     where
       few : j < first + (c.tiles + length after)
-      few = let n = inside fs' j h e in let l = ap length tiled_are ∙ length-append (map T before) (tile_functions c 0 c.tiles ++ map T after) in let m = length-append (tile_functions c 0 c.tiles) (map T after) in let k = new_front in let i = tiles_count c 0 c.tiles in let o = length-map after T in omega arith
+      few = let n = inside fs' j h e in let l = ap length tiled_are ∙ length-append (map T before) (tile_functions c 0 c.tiles ++ map T after) in
+          let m = length-append (tile_functions c 0 c.tiles) (map T after) in let k = new_front in let i = tiles_count c 0 c.tiles in let o =
+          length-map after T in omega arith
 
       all : length fs ≡ first + suc (length after)
       all = ap length are ∙ length-append before (c.function ∷ after)
@@ -156,6 +170,7 @@ module _ (c : Cut) (before after fs fs' : List FunctionText) (are : fs ≡ befor
     void = names.void;
     marked = marked;
     here = names.here;
-    others = λ callee g other found. let o = names.others callee g other found in (o.0, found_there fs' callee (renumbered first c.tiles g.0) (T g.1) o.1 (others_stand g.0 g.1 o.0 (stands_at fs callee g found)));
+    others = λ callee g other found. let o = names.others callee g other found in
+        (o.0, found_there fs' callee (renumbered first c.tiles g.0) (T g.1) o.1 (others_stand g.0 g.1 o.0 (stands_at fs callee g found)));
     tiles_are = λ t lt. found_there fs' (tile_name c.function.name t) (first + t) (tile_of c t) (names.tiles_are t lt) (tile_stands t lt);
   }

@@ -7,7 +7,8 @@ pub data Joint {A B : Type 0} (P : A → B → Type 0) : Outcome A → Outcome B
   fine : {x : A} {y : B} → P x y → Joint P (Ok x) (Ok y)
   wrong : (line : ℕ) → Joint P (Err line) (Err line)
 
-pub joint_then : {A B C D : Type 0} {P : A → B → Type 0} {Q : C → D → Type 0} {o : Outcome A} {o' : Outcome B} (f : A → Outcome C) (f' : B → Outcome D) → Joint P o o' → ((x : A) (y : B) → P x y → Joint Q (f x) (f' y)) → Joint Q (and_then o f) (and_then o' f')
+pub joint_then : {A B C D : Type 0} {P : A → B → Type 0} {Q : C → D → Type 0} {o : Outcome A} {o' : Outcome B} (f : A → Outcome C)
+    (f' : B → Outcome D) → Joint P o o' → ((x : A) (y : B) → P x y → Joint Q (f x) (f' y)) → Joint Q (and_then o f) (and_then o' f')
 joint_then f f' (fine p) go = go _ _ p
 joint_then f f' (wrong line) go = wrong line
 
@@ -35,7 +36,8 @@ module _ (R : ProgramState → ProgramState → Type 0) (test test' : ProgramSta
       by true = wrong line
       by false = fine r
   counting_joint line (suc n) u v r =
-      same_then (test u) (test' v) (λ go. choose go (λ t. and_then (turn t) (counting line n test turn)) Ok u) (λ go. choose go (λ t. and_then (turn' t) (counting line n test' turn')) Ok v) (tests u v r) (by (λ x y. counting_joint line n x y))
+      same_then (test u) (test' v) (λ go. choose go (λ t. and_then (turn t) (counting line n test turn)) Ok u)
+      (λ go. choose go (λ t. and_then (turn' t) (counting line n test' turn')) Ok v) (tests u v r) (by (λ x y. counting_joint line n x y))
     where
       by : ((x y : ProgramState) → R x y → Joint R (counting line n test turn x) (counting line n test' turn' y)) → (go : Bool) →
           Joint R (choose go (λ t. and_then (turn t) (counting line n test turn)) Ok u) (choose go (λ t. and_then (turn' t) (counting line n test' turn')) Ok v)
@@ -46,7 +48,8 @@ module _ (R : ProgramState → ProgramState → Type 0) (test test' : ProgramSta
   unfolding bounded
   bounded_joint zero u v r = fine r
   bounded_joint (suc n) u v r =
-      same_then (test u) (test' v) (λ go. choose go (λ t. and_then (turn t) (bounded n test turn)) Ok u) (λ go. choose go (λ t. and_then (turn' t) (bounded n test' turn')) Ok v) (tests u v r) (by (λ x y. bounded_joint n x y))
+      same_then (test u) (test' v) (λ go. choose go (λ t. and_then (turn t) (bounded n test turn)) Ok u)
+      (λ go. choose go (λ t. and_then (turn' t) (bounded n test' turn')) Ok v) (tests u v r) (by (λ x y. bounded_joint n x y))
     where
       by : ((x y : ProgramState) → R x y → Joint R (bounded n test turn x) (bounded n test' turn' y)) → (go : Bool) →
           Joint R (choose go (λ t. and_then (turn t) (bounded n test turn)) Ok u) (choose go (λ t. and_then (turn' t) (bounded n test' turn')) Ok v)

@@ -75,7 +75,8 @@ pub record Cuttable (around : Around) (locals : List Text) (body : Statement) (k
   pub alone : assigns locals k body ≡ false
   pub there : k < length base
 
-module _ (around : Around) (locals : List Text) (body : Statement) (k step low : ℕ) (base : List ℕ) (cuttable : Cuttable around locals body k step base) (turns : ℕ → ℕ) (n line : ℕ) (may : Access) (calls calls' : Calls) where
+module _ (around : Around) (locals : List Text) (body : Statement) (k step low : ℕ) (base : List ℕ)
+    (cuttable : Cuttable around locals body k step base) (turns : ℕ → ℕ) (n line : ℕ) (may : Access) (calls calls' : Calls) where
   abbrev pub body_steps : Steps
   body_steps = resolve_statement around.scope turns n body Done
 
@@ -129,9 +130,11 @@ module _ (around : Around) (locals : List Text) (body : Statement) (k step low :
       let other : z ≡ (int_local k y +ℤ pos step) = ap (λ w. value_in Int w +ℤ pos step) (t.alike k (behind_less locals body own k cuttable.alone)) in
       subst (λ (b : ℤ). Joint (Lap ms ns (j + 1)) (stepped_to z x) (stepped_to b y)) other (by (int_lt (pos 2147483647) z) refl is)
     where
-      by : {z : ℤ} (b : Bool) → int_lt (pos 2147483647) z ≡ b → z ≡ pos (low + step * (j + 1)) → Joint (Lap ms ns (j + 1)) (cond b (Err line) (Ok (with_local k (word_of z) x))) (cond b (Err line) (Ok (with_local k (word_of z) y)))
+      by : {z : ℤ} (b : Bool) → int_lt (pos 2147483647) z ≡ b → z ≡ pos (low + step * (j + 1)) →
+          Joint (Lap ms ns (j + 1)) (cond b (Err line) (Ok (with_local k (word_of z) x))) (cond b (Err line) (Ok (with_local k (word_of z) y)))
       by true past is = wrong line
-      by {z} false past is = fine (next_lap ms ns j u v x y lap t z is (let most : pos (low + step * (j + 1)) ≤ℤ pos 2147483647 = subst (λ x. x ≤ℤ pos 2147483647) is (omega (arith, ints, past)) in omega (arith, ints)))
+      by {z} false past is = fine (next_lap ms ns j u v x y lap t z is
+          (let most : pos (low + step * (j + 1)) ≤ℤ pos 2147483647 = subst (λ x. x ≤ℤ pos 2147483647) is (omega (arith, ints, past)) in omega (arith, ints)))
 
   pub turn_lap : (ms ns : List MarkedCall) (j : ℕ) (u v : ProgramState) → Lap ms ns j u v → Joint (Lap ms ns (j + 1)) (turn_by calls u) (turn_by calls' v)
   turn_lap ms ns j u v lap =

@@ -1,19 +1,22 @@
 -- A program with tiles does what the program did.
 use Rattle.std.specs.Prelude.{slice_get, codes}
 use Rattle.std.specs.List.{list_any}
-use Rattle.std.proofs.Common.{◌≡◌, ℕ, zero, suc, ◌+◌, ◌-◌, ◌*◌, ◌/◌, ◌^◌, ◌<◌, ◌≤◌, Bool, true, false, cond, not, ◌||◌, List, [], ◌∷◌, ◌++◌, length, map, refl, ap, sym, ◌∙◌, subst, arith, Option, None, Some, option_map, unwrap_or, ltb, is_some, ⊎_elim, true≢false, IfSome}
+use Rattle.std.proofs.Common.{◌≡◌, ℕ, zero, suc, ◌+◌, ◌-◌, ◌*◌, ◌/◌, ◌^◌, ◌<◌, ◌≤◌, Bool, true, false, cond, not, ◌||◌, List, [], ◌∷◌, ◌++◌, length, map, refl, ap, sym, ◌∙◌, subst}
+use Rattle.std.proofs.Common.{arith, Option, None, Some, option_map, unwrap_or, ltb, is_some, ⊎_elim, true≢false, IfSome}
 use Rattle.std.proofs.lemmas.List.{length-map, length-append}
 use Rattle.std.proofs.lemmas.Bool.{cases_lt, lt-ltb, ltb-true, eqb-true, eq-eqb}
 use Rattle.std.proofs.Math.Nat.{mul-lt-mul_of_pos_right, mul_comm, div-lt_iff_lt-mul}
 use Rattle.prem_syntax.specs.Syntax.{Text, MarkText, LocalVariable, GlobalVariable, FunctionText, function_item, ProgramText}
 use Rattle.prem_syntax.specs.Resolved.{Constant, Steps, Done, For, Routine, Resolved}
-use Rattle.prem_syntax.specs.Resolve.{Scope, find_named, find_function, number_named, meaning_of, loop_local, resolve_term, resolve_statement, resolve_statements, parameter_names, local_names, scope_at, scope_in, resolve_function, resolve_items, resolve, globals_of, functions_of}
+use Rattle.prem_syntax.specs.Resolve.{Scope, find_named, find_function, number_named, meaning_of, loop_local, resolve_term, resolve_statement, resolve_statements, parameter_names}
+use Rattle.prem_syntax.specs.Resolve.{local_names, scope_at, scope_in, resolve_function, resolve_items, resolve, globals_of, functions_of}
 use Rattle.prem_syntax.specs.Expressions.{Outcome}
 use Rattle.prem_syntax.specs.Statements.{ProgramState, Calls, enter}
 use Rattle.prem_syntax.specs.Source.{calls_below, everywhere, unlimited, start, do_jobs, source, initial_words}
 use Rattle.prem_syntax.specs.Rules.{NoJob, LoopForm}
 use Rattle.prem_syntax.specs.Reach.{is_in_set}
-use Rattle.prem_syntax.specs.Breaches.{Around, around, if_at, if_broken, is_job_name, is_loop, in_names, in_expression, in_regions, regions_of, in_heading, in_parameters, in_locals, in_statement, in_statements, in_option, parameter_texts, in_function, in_items, item_names, in_limits, has_name, reached}
+use Rattle.prem_syntax.specs.Breaches.{Around, around, if_at, if_broken, is_job_name, is_loop, in_names, in_expression, in_regions, regions_of, in_heading, in_parameters}
+use Rattle.prem_syntax.specs.Breaches.{in_locals, in_statement, in_statements, in_option, parameter_texts, in_function, in_items, item_names, in_limits, has_name, reached}
 use Rattle.prem_syntax.specs.ProgramRules.{IsWellFormed}
 use Rattle.prem_names.specs.Numbers.{number_of}
 use Rattle.prem_names.proofs.Firsts.{within_names}
@@ -66,7 +69,8 @@ is_cut c most some low_small high_small several enough room = record {
     bound_small false = omega arith
 
     before_end : (t : ℕ) → t < c.tiles → first_turn c t < n
-    before_end t lt = let m : t * n < c.tiles * n = mul-lt-mul_of_pos_right lt (omega arith) in let e = mul_comm c.tiles n in (div-lt_iff_lt-mul (let s : 0 < c.tiles = omega arith in s)).1 (omega arith)
+    before_end t lt = let m : t * n < c.tiles * n = mul-lt-mul_of_pos_right lt (omega arith) in let e = mul_comm c.tiles n in
+        (div-lt_iff_lt-mul (let s : 0 < c.tiles = omega arith in s)).1 (omega arith)
 
     lows : (t : ℕ) → t < c.tiles → l.low.value + l.step * first_turn c t ≤ 2147483647
     lows t lt =
@@ -79,12 +83,15 @@ is_cut c most some low_small high_small several enough room = record {
       where
         by : (b : Bool) → is_last c t ≡ b → cond b l.high.value (l.low.value + l.step * first_turn c (t + 1)) ≤ 2147483647
         by true is = high_small
-        by false is = ⊎_elim (λ (before : t + 1 < c.tiles). lows (t + 1) before) (λ (at : c.tiles ≤ t + 1). absurd (let same : t + 1 ≡ c.tiles = omega arith in true≢false (sym (last same) ∙ is))) (cases_lt (t + 1) c.tiles)
+        by false is = ⊎_elim (λ (before : t + 1 < c.tiles). lows (t + 1) before)
+            (λ (at : c.tiles ≤ t + 1). absurd (let same : t + 1 ≡ c.tiles = omega arith in true≢false (sym (last same) ∙ is))) (cases_lt (t + 1) c.tiles)
           where
             last : t + 1 ≡ c.tiles → is_last c t ≡ true
             last e = eq-eqb (t + 1) c.tiles e
 
-    tests : (t j : ℕ) (b : Bool) → is_last c t ≡ b → ltb (l.low.value + l.step * j) (bound_with (cond b l.closed false) (cond b l.high.value (l.low.value + l.step * first_turn c (t + 1)))) ≡ ltb j (first_turn c (t + 1))
+    tests : (t j : ℕ) (b : Bool) → is_last c t ≡ b →
+        ltb (l.low.value + l.step * j) (bound_with (cond b l.closed false) (cond b l.high.value (l.low.value + l.step * first_turn c (t + 1))))
+        ≡ ltb j (first_turn c (t + 1))
     tests t j true is = turn_there l.low.value (bound_of l) l.step j some ∙ ap (ltb j) (sym (ap (λ k. k * n / c.tiles) (eqb-true (t + 1) c.tiles is) ∙ last_is_all n c.tiles (omega arith)))
     tests t j false is = turn_before l.low.value l.step j (first_turn c (t + 1)) some
 
@@ -164,7 +171,8 @@ module _ (c : Cut) (front back : ProgramText) (can : CanCut (front ++ function_i
   loop_formed : in_statement place (statement_of l) ≡ []
   loop_formed = standing.loop_formed c front back can.shape formed
 
-  before_body : in_names l.at scope l.names ++ if_at (not (is_loop scope l.names (low_end l) (high_end l) l.step l.body)) l.at LoopForm ++ in_expression scope (low_end l) ++ in_expression scope (high_end l) ≡ []
+  before_body : in_names l.at scope l.names ++ if_at (not (is_loop scope l.names (low_end l) (high_end l) l.step l.body)) l.at LoopForm
+      ++ in_expression scope (low_end l) ++ in_expression scope (high_end l) ≡ []
   before_body = standing.before_body c front back can.shape formed
 
   is_a_loop : IsLoop scope l.names (low_end l) (high_end l) l.step l.body
@@ -192,10 +200,13 @@ module _ (c : Cut) (front back : ProgramText) (can : CanCut (front ++ function_i
   cuttable = record {
     numbered = numbered;
     uncalled = shape.uncalled;
-    formed = none_right (in_names l.at scope l.names ++ if_at (not (is_loop scope l.names (low_end l) (high_end l) l.step l.body)) l.at LoopForm ++ in_expression scope (low_end l) ++ in_expression scope (high_end l)) (in_statement place l.body) loop_formed;
+    formed = none_right (in_names l.at scope l.names ++ if_at (not (is_loop scope l.names (low_end l) (high_end l) l.step l.body)) l.at LoopForm
+        ++ in_expression scope (low_end l) ++ in_expression scope (high_end l)) (in_statement place l.body) loop_formed;
     uncarried = can.uncarried;
     alone = left_alone locals l.names.first k k_there l.body is_a_loop.alone;
-    there = subst (λ n. k < n) (length-map f.locals (λ (v : LocalVariable). v.name) ∙ sym (length-map f.locals (λ (v : LocalVariable). constant_word v.value))) (subst (λ o. IfSome o (λ n. n < length locals)) k_there (within_names locals l.names.first));
+    there = subst (λ n. k < n) (length-map f.locals (λ (v : LocalVariable). v.name)
+        ∙ sym (length-map f.locals (λ (v : LocalVariable). constant_word v.value)))
+        (subst (λ o. IfSome o (λ n. n < length locals)) k_there (within_names locals l.names.first));
   }
 
   -- ---- the routines
@@ -238,17 +249,21 @@ module _ (c : Cut) (front back : ProgramText) (can : CanCut (front ++ function_i
       high_at = l.high.at;
       high_kind = l.high.kind;
       locals_are = λ s. constants_declared (scope_at fs' gs f) everywhere f.locals (record s { locals = [] }) shape.constants;
-      body_is = λ i. For l.at (same_variable fs' scope l.names.first i) (Constant l.low.at (low_of c t) l.low.kind) (closed_of c t) (Constant l.high.at (high_of c t) l.high.kind) l.step turns (same_statement fs' scope turns l.body 1 1 Done Done shape.uncalled refl i) Done;
+      body_is = λ i. For l.at (same_variable fs' scope l.names.first i) (Constant l.low.at (low_of c t) l.low.kind) (closed_of c t)
+          (Constant l.high.at (high_of c t) l.high.kind) l.step turns (same_statement fs' scope turns l.body 1 1 Done Done shape.uncalled refl i) Done;
       result_is = ap (option_map (resolve_term (with_functions fs' scope))) one.no_result;
     }
 
-    seg_of : (g : ℕ) (r : Routine) → (g ≡ first → ⊥) → slice_get ps g ≡ Some r → Seg c front back can.several can.few front_apart back_apart free shape.no_parameters one.void turns within taken r (slice_get qs (renumbered first c.tiles g))
+    seg_of : (g : ℕ) (r : Routine) → (g ≡ first → ⊥) → slice_get ps g ≡ Some r →
+        Seg c front back can.several can.few front_apart back_apart free shape.no_parameters one.void turns within taken r
+        (slice_get qs (renumbered first c.tiles g))
     seg_of = other_there c front back can.several can.few front_apart back_apart free shape.no_parameters one.void turns within taken (item_breaches p formed)
 
     other_of : ℕ → Routine → Routine
     other_of g r = unwrap_or (slice_get qs (renumbered first c.tiles g)) r
 
-    others : (g : ℕ) (r : Routine) (calls calls' : Calls) (ws : List ℕ) (u v : ProgramState) → (g ≡ first → ⊥) → slice_get ps g ≡ Some r → CallsAlike first c.tiles calls calls' → Alike first c.tiles u v →
+    others : (g : ℕ) (r : Routine) (calls calls' : Calls) (ws : List ℕ) (u v : ProgramState) → (g ≡ first → ⊥) → slice_get ps g ≡ Some r →
+        CallsAlike first c.tiles calls calls' → Alike first c.tiles u v →
         Joint (λ (a b : ℕ × ProgramState). (a.0 ≡ b.0) × Alike first c.tiles a.1 b.1) (enter calls everywhere r g ws u) (enter calls' everywhere (other_of g r) (renumbered first c.tiles g) ws v)
     unfolding other_of
     others g r calls calls' ws u v other is alike a =
@@ -263,8 +278,11 @@ module _ (c : Cut) (front back : ProgramText) (can : CanCut (front ++ function_i
         let lo = in_locals (taken ++ parameter_texts h.params) (scope_at fs s.globals h) h.locals in
         let st = in_statements around_it h.body in
         let body_formed : in_statements around_it h.body ≡ [] = none_right (rs ++ hd ++ pr ++ lo) st (none_left (rs ++ hd ++ pr ++ lo ++ st) (in_option hs h.result) s.formed) in
-        subst (λ x. Joint (λ (a b : ℕ × ProgramState). (a.0 ≡ b.0) × Alike first c.tiles a.1 b.1) (enter calls everywhere x g ws u) (enter calls' everywhere (other_of g r) (renumbered first c.tiles g) ws v)) (sym s.is)
-        (subst (λ x. Joint (λ (a b : ℕ × ProgramState). (a.0 ≡ b.0) × Alike first c.tiles a.1 b.1) (enter calls everywhere (resolve_function fs all 0 s.globals h) g ws u) (enter calls' everywhere x (renumbered first c.tiles g) ws v)) (sym (ap (λ o. unwrap_or o r) s.there))
+        subst (λ x. Joint (λ (a b : ℕ × ProgramState). (a.0 ≡ b.0) × Alike first c.tiles a.1 b.1) (enter calls everywhere x g ws u)
+        (enter calls' everywhere (other_of g r) (renumbered first c.tiles g) ws v)) (sym s.is)
+        (subst (λ x. Joint (λ (a b : ℕ × ProgramState). (a.0 ≡ b.0) × Alike first c.tiles a.1 b.1)
+        (enter calls everywhere (resolve_function fs all 0 s.globals h) g ws u) (enter calls' everywhere x (renumbered first c.tiles g) ws v))
+        (sym (ap (λ o. unwrap_or o r) s.there))
         (enter_alike calls calls' (resolve_function fs all 0 s.globals h) new g ws u v other refl (sym (same_locals fs' (scope_at fs s.globals h) h.locals)) (sym (same_option fs' hs h.result))
         (statements_alike around_it f c.tiles first fs' names turns calls calls' alike (Alike first c.tiles) h.body 0 0 Done Done body_formed (λ x y b. fine b)) a))
 
@@ -280,8 +298,10 @@ module _ (c : Cut) (front back : ProgramText) (can : CanCut (front ++ function_i
       other_is = λ g r no_ is. let s = seg_of g r no_ is in s.there ∙ ap Some (sym (ap (λ o. unwrap_or o r) s.there));
       others_enter = others;
       function_enters = λ calls callees calls' enters u v a.
-          function_alike place locals l.body k l.step l.low.value l.high.value l.closed base cuttable all 1 l.at c.tiles (turns_of l) turns first (first_turn c) (closed_of c) (high_of c) (let s = can.several in omega arith)
-          (is_cut c turns step_there shape.low_small shape.high_small can.several can.enough room) calls callees (resolve_function fs all 0 gs f) (λ t. resolve_function fs' all 0 gs (tile_of c t)) shape.marked mark_kept
+          function_alike place locals l.body k l.step l.low.value l.high.value l.closed base cuttable all 1 l.at c.tiles (turns_of l) turns first
+          (first_turn c) (closed_of c) (high_of c) (let s = can.several in omega arith)
+          (is_cut c turns step_there shape.low_small shape.high_small can.several can.enough room) calls callees (resolve_function fs all 0 gs f)
+          (λ t. resolve_function fs' all 0 gs (tile_of c t)) shape.marked mark_kept
           function_is_loop (λ t lt. tile_is_loop t) calls' enters u v a;
     }
 
@@ -289,7 +309,8 @@ module _ (c : Cut) (front back : ProgramText) (can : CanCut (front ++ function_i
 
   pub globals_tiled : globals_of q ≡ globals_of p
   globals_tiled =
-      ap globals_of (tiled_are c front back can.several can.few front_apart back_apart free shape.no_parameters one.void) ∙ globals_append (map (item_of c) front) (tiles_from c 0 c.tiles ++ map (item_of c) back)
+      ap globals_of (tiled_are c front back can.several can.few front_apart back_apart free shape.no_parameters one.void)
+      ∙ globals_append (map (item_of c) front) (tiles_from c 0 c.tiles ++ map (item_of c) back)
       ∙ (λ i. plain_globals c front i ++ globals_append (tiles_from c 0 c.tiles) (map (item_of c) back) i)
       ∙ (λ i. globals_of front ++ (globals_of_tiles c 0 c.tiles i ++ plain_globals c back i))
       ∙ sym (globals_append front (function_item f ∷ back))
@@ -297,18 +318,22 @@ module _ (c : Cut) (front back : ProgramText) (can : CanCut (front ++ function_i
   counted : (turns : ℕ) → length (resolve_items fs' (λ n. turns) 0 [] q) ≡ renumbered first c.tiles (length (resolve_items fs (λ n. turns) 0 [] p))
   counted turns =
       let after = functions_of back in
-      let old : length (resolve_items fs (λ n. turns) 0 [] p) ≡ first + suc (length after) = routines_count fs (λ n. turns) 0 [] p ∙ ap length (functions_are c front back can.several can.few front_apart back_apart free shape.no_parameters one.void) ∙ length-append (functions_of front) (f ∷ after) in
+      let old : length (resolve_items fs (λ n. turns) 0 [] p) ≡ first + suc (length after) = routines_count fs (λ n. turns) 0 [] p
+      ∙ ap length (functions_are c front back can.several can.few front_apart back_apart free shape.no_parameters one.void)
+      ∙ length-append (functions_of front) (f ∷ after) in
       let new : length (resolve_items fs' (λ n. turns) 0 [] q) ≡ first + (c.tiles + length after) =
       routines_count fs' (λ n. turns) 0 [] q ∙ ap length (functions_tiled c front back can.several can.few front_apart back_apart free shape.no_parameters one.void)
       ∙ length-append (map (function_with_tiles c) (functions_of front)) (tile_functions c 0 c.tiles ++ map (function_with_tiles c) after)
       ∙ (λ i. length-map (functions_of front) (function_with_tiles c) i + length-append (tile_functions c 0 c.tiles) (map (function_with_tiles c) after) i)
       ∙ (λ i. first + (tiles_count c 0 c.tiles i + length-map after (function_with_tiles c) i)) in
-      new ∙ (let z : first + (c.tiles + length after) ≡ first + suc (length after) - 1 + c.tiles = omega arith in z) ∙ sym (renumbered_above first c.tiles (first + suc (length after)) (omega arith)) ∙ ap (renumbered first c.tiles) (sym old)
+      new ∙ (let z : first + (c.tiles + length after) ≡ first + suc (length after) - 1 + c.tiles = omega arith in z)
+      ∙ sym (renumbered_above first c.tiles (first + suc (length after)) (omega arith)) ∙ ap (renumbered first c.tiles) (sym old)
 
   pub job_listed : list_any (λ (h : FunctionText). is_job_name h.name) fs ≡ true
   job_listed =
       let any = list_any (λ (h : FunctionText). is_job_name h.name) fs in
-      named_rule any (none_right (in_limits (globals_of p) fs) (if_broken (not any) None NoJob) (none_left (in_limits (globals_of p) fs ++ if_broken (not any) None NoJob) (in_items fs taken within 0 [] [] p) (all_breaches p formed)))
+      named_rule any (none_right (in_limits (globals_of p) fs) (if_broken (not any) None NoJob)
+      (none_left (in_limits (globals_of p) fs ++ if_broken (not any) None NoJob) (in_items fs taken within 0 [] [] p) (all_breaches p formed)))
     where
       named_rule : (b : Bool) → if_broken (not b) None NoJob ≡ [] → b ≡ true
       named_rule true e = refl
@@ -321,11 +346,14 @@ module _ (c : Cut) (front back : ProgramText) (can : CanCut (front ++ function_i
   job : Job
   job = by fs 0 job_listed
     where
-      by : (hs : List FunctionText) (n : ℕ) → list_any (λ (h : FunctionText). is_job_name h.name) hs ≡ true → (g : ℕ × FunctionText) × (find_named (λ (h : FunctionText). h.name) (codes "job") n hs ≡ Some g)
+      by : (hs : List FunctionText) (n : ℕ) → list_any (λ (h : FunctionText). is_job_name h.name) hs ≡ true →
+          (g : ℕ × FunctionText) × (find_named (λ (h : FunctionText). h.name) (codes "job") n hs ≡ Some g)
       by [] n e = absurd (true≢false (sym e))
       by (h ∷ hs) n e = on (is_job_name h.name) e (by hs (n + 1))
         where
-          on : (b : Bool) → (b || list_any (λ (h : FunctionText). is_job_name h.name) hs) ≡ true → (list_any (λ (h : FunctionText). is_job_name h.name) hs ≡ true → (g : ℕ × FunctionText) × (find_named (λ (h : FunctionText). h.name) (codes "job") (n + 1) hs ≡ Some g)) →
+          on : (b : Bool) → (b || list_any (λ (h : FunctionText). is_job_name h.name) hs) ≡ true →
+              (list_any (λ (h : FunctionText). is_job_name h.name) hs ≡ true →
+              (g : ℕ × FunctionText) × (find_named (λ (h : FunctionText). h.name) (codes "job") (n + 1) hs ≡ Some g)) →
               (g : ℕ × FunctionText) × (cond b (Some (n, h)) (find_named (λ (h : FunctionText). h.name) (codes "job") (n + 1) hs) ≡ Some g)
           on true k next = ((n, h), refl)
           on false k next = next k
@@ -345,9 +373,15 @@ module _ (c : Cut) (front back : ProgramText) (can : CanCut (front ++ function_i
       let there : Q.job ≡ renumbered first c.tiles g.0 = ap (λ o. unwrap_or o (length fs')) other.1 in
       let calls = all_calls first c.tiles P.routines Q.routines (are_cut (2 ^ 32) (omega arith)) (length P.routines) (omega arith) in
       joint_then (λ (r : ℕ × ProgramState). do_jobs unlimited P jobs r.1) (λ (r : ℕ × ProgramState). do_jobs unlimited Q jobs r.1)
-      (subst (λ n. Joint (λ (x y : ℕ × ProgramState). (x.0 ≡ y.0) × Alike first c.tiles x.1 y.1) (calls_below unlimited P.routines (length P.routines) everywhere P.job [] u) (calls_below unlimited Q.routines n everywhere Q.job [] v)) (sym (counted (2 ^ 32)))
-      (subst (λ j. Joint (λ (x y : ℕ × ProgramState). (x.0 ≡ y.0) × Alike first c.tiles x.1 y.1) (calls_below unlimited P.routines (length P.routines) everywhere P.job [] u) (calls_below unlimited Q.routines (renumbered first c.tiles (length P.routines)) everywhere j [] v)) (sym there)
-      (subst (λ j. Joint (λ (x y : ℕ × ProgramState). (x.0 ≡ y.0) × Alike first c.tiles x.1 y.1) (calls_below unlimited P.routines (length P.routines) everywhere j [] u) (calls_below unlimited Q.routines (renumbered first c.tiles (length P.routines)) everywhere (renumbered first c.tiles g.0) [] v)) (sym here)
+      (subst (λ n. Joint (λ (x y : ℕ × ProgramState). (x.0 ≡ y.0) × Alike first c.tiles x.1 y.1)
+      (calls_below unlimited P.routines (length P.routines) everywhere P.job [] u) (calls_below unlimited Q.routines n everywhere Q.job [] v))
+      (sym (counted (2 ^ 32)))
+      (subst (λ j. Joint (λ (x y : ℕ × ProgramState). (x.0 ≡ y.0) × Alike first c.tiles x.1 y.1)
+      (calls_below unlimited P.routines (length P.routines) everywhere P.job [] u)
+      (calls_below unlimited Q.routines (renumbered first c.tiles (length P.routines)) everywhere j [] v)) (sym there)
+      (subst (λ j. Joint (λ (x y : ℕ × ProgramState). (x.0 ≡ y.0) × Alike first c.tiles x.1 y.1)
+      (calls_below unlimited P.routines (length P.routines) everywhere j [] u)
+      (calls_below unlimited Q.routines (renumbered first c.tiles (length P.routines)) everywhere (renumbered first c.tiles g.0) [] v)) (sym here)
       (calls.other g.0 [] u v other.0 a))))
       (λ x y b. jobs_alike jobs x.1 y.1 b.1)
 
@@ -371,7 +405,8 @@ module _ (c : Cut) (front back : ProgramText) (can : CanCut (front ++ function_i
 
 -- ---- wherever the function stands
 
-pub tiles_same : (p : ProgramText) (c : Cut) → IsWellFormed p → CanCut p c → (n : ℕ) → number_named (functions_of p) c.function.name ≡ Some n → (inputs : List ℕ) (jobs : ℕ) → AreSame n c.tiles (source p inputs jobs) (source (tiled c p) inputs jobs)
+pub tiles_same : (p : ProgramText) (c : Cut) → IsWellFormed p → CanCut p c → (n : ℕ) → number_named (functions_of p) c.function.name ≡ Some n →
+    (inputs : List ℕ) (jobs : ℕ) → AreSame n c.tiles (source p inputs jobs) (source (tiled c p) inputs jobs)
 tiles_same p c formed can n is inputs jobs =
     let s = split_at p c.function.name c.function can.named in
     let whole = s.front ++ function_item c.function ∷ s.back in

@@ -1,7 +1,8 @@
 -- Of the limits of programs, one with tiles can only be past that on functions.
 use Rattle.std.specs.Prelude.{nat_lt, nat_le}
 use Rattle.std.specs.List.{list_any}
-use Rattle.std.proofs.Common.{◌≡◌, ℕ, zero, suc, ◌+◌, ◌≤◌, Bool, true, false, not, ◌||◌, List, [], ◌∷◌, ◌++◌, length, map, refl, ap, sym, ◌∙◌, subst, Option, None, Some, option_map, true≢false, is_some}
+use Rattle.std.proofs.Common.{◌≡◌, ℕ, zero, suc, ◌+◌, ◌≤◌, Bool, true, false, not, ◌||◌, List, [], ◌∷◌, ◌++◌, length, map, refl, ap, sym, ◌∙◌, subst, Option, None, Some}
+use Rattle.std.proofs.Common.{option_map, true≢false, is_some}
 use Rattle.std.proofs.lemmas.List.{length-map}
 use Rattle.std.proofs.lemmas.Bool.{and_from, le-leb}
 use Rattle.prem_syntax.specs.declared.rules.Count.TheVariants.{Functions, Globals, Parameters, Regions, Length, Stated}
@@ -55,17 +56,20 @@ module _ (c : Cut) (P : FunctionText → Bool) (same : (f : FunctionText) → P 
   any_tiles e t zero = refl
   any_tiles e t (suc n) = none_either (tiles e t) (any_tiles e (t + 1) n)
 
-  none_with_tiles : (before after : List FunctionText) → list_any P (before ++ c.function ∷ after) ≡ false → list_any P (map (function_with_tiles c) before ++ (tile_functions c 0 c.tiles ++ map (function_with_tiles c) after)) ≡ false
+  none_with_tiles : (before after : List FunctionText) → list_any P (before ++ c.function ∷ after) ≡ false →
+      list_any P (map (function_with_tiles c) before ++ (tile_functions c 0 c.tiles ++ map (function_with_tiles c) after)) ≡ false
   none_with_tiles before after e =
       let rest = any_right P before (c.function ∷ after) e in
       any_append P (map (function_with_tiles c) before) (tile_functions c 0 c.tiles ++ map (function_with_tiles c) after) (any_mapped before (any_left P before (c.function ∷ after) e))
-      (any_append P (tile_functions c 0 c.tiles) (map (function_with_tiles c) after) (any_tiles (neither_left (P c.function) (list_any P after) rest) 0 c.tiles) (any_mapped after (neither_right (P c.function) (list_any P after) rest)))
+      (any_append P (tile_functions c 0 c.tiles) (map (function_with_tiles c) after)
+      (any_tiles (neither_left (P c.function) (list_any P after) rest) 0 c.tiles) (any_mapped after (neither_right (P c.function) (list_any P after) rest)))
 
 one_breach : (b : Bool) (r : Rule) (a d e f g : List Breach) → a ≡ [] → d ≡ [] → e ≡ [] → f ≡ [] → g ≡ [] → has_breach (if_broken b None r ++ a ++ d ++ e ++ f ++ g) ≡ b
 one_breach true r a d e f g p q s t u = (λ i. has_breach (if_broken true None r ++ p i ++ q i ++ s i ++ t i ++ u i))
 one_breach false r a d e f g p q s t u = (λ i. has_breach (if_broken false None r ++ p i ++ q i ++ s i ++ t i ++ u i))
 
-module _ (c : Cut) (front back : ProgramText) (can : CanCut (front ++ function_item c.function ∷ back) c) (formed : IsWellFormed (front ++ function_item c.function ∷ back)) (some : 1 ≤ c.stated) (small : c.stated ≤ 2147483647) where
+module _ (c : Cut) (front back : ProgramText) (can : CanCut (front ++ function_item c.function ∷ back) c)
+    (formed : IsWellFormed (front ++ function_item c.function ∷ back)) (some : 1 ≤ c.stated) (small : c.stated ≤ 2147483647) where
   abbrev p : ProgramText
   p = front ++ function_item c.function ∷ back
 
@@ -88,10 +92,12 @@ module _ (c : Cut) (front back : ProgramText) (can : CanCut (front ++ function_i
   one = standing.one c front back can.shape formed
 
   old_are : fs ≡ functions_of front ++ c.function ∷ functions_of back
-  old_are = functions_are c front back can.several can.few (standing.front_apart c front back can.shape formed) (standing.back_apart c front back can.shape formed) (law.free c front back can formed) shape.no_parameters one.void
+  old_are = functions_are c front back can.several can.few (standing.front_apart c front back can.shape formed)
+      (standing.back_apart c front back can.shape formed) (law.free c front back can formed) shape.no_parameters one.void
 
   new_are : fs' ≡ map (function_with_tiles c) (functions_of front) ++ (tile_functions c 0 c.tiles ++ map (function_with_tiles c) (functions_of back))
-  new_are = functions_tiled c front back can.several can.few (standing.front_apart c front back can.shape formed) (standing.back_apart c front back can.shape formed) (law.free c front back can formed) shape.no_parameters one.void
+  new_are = functions_tiled c front back can.several can.few (standing.front_apart c front back can.shape formed)
+      (standing.back_apart c front back can.shape formed) (law.free c front back can formed) shape.no_parameters one.void
 
   globals_are : globals_of q ≡ gs
   globals_are = law.globals_tiled c front back can formed
@@ -140,7 +146,8 @@ module _ (c : Cut) (front back : ProgramText) (can : CanCut (front ++ function_i
   two : many_functions fs ++ many_globals gs ≡ []
   two = none_left (many_functions fs ++ many_globals gs) (parameters fs) three
 
-  none_new : (P : FunctionText → Bool) (r : Rule) → ((f : FunctionText) → P (function_with_tiles c f) ≡ P f) → (P c.function ≡ false → (t : ℕ) → P (tile_of c t) ≡ false) → if_broken (list_any P fs) None r ≡ [] → if_broken (list_any P fs') None r ≡ []
+  none_new : (P : FunctionText → Bool) (r : Rule) → ((f : FunctionText) → P (function_with_tiles c f) ≡ P f) →
+      (P c.function ≡ false → (t : ℕ) → P (tile_of c t) ≡ false) → if_broken (list_any P fs) None r ≡ [] → if_broken (list_any P fs') None r ≡ []
   none_new P r same tiles e =
       broken_none (list_any P fs') r (ap (list_any P) new_are ∙ none_with_tiles c P same tiles (functions_of front) (functions_of back) (ap (list_any P) (sym old_are) ∙ unbroken (list_any P fs) r e))
 
@@ -167,10 +174,12 @@ module _ (c : Cut) (front back : ProgramText) (can : CanCut (front ++ function_i
       (ap lengths globals_are ∙ none_right (many_functions fs ++ many_globals gs ++ parameters fs ++ regions fs) (lengths gs) five)
       (none_new Unstated (Limit Stated) (λ f. refl) (λ e t. new_stated t) (none_right (many_functions fs ++ many_globals gs ++ parameters fs ++ regions fs ++ lengths gs) (stated fs) old_limits))
 
-pub only_functions : (p : ProgramText) (c : Cut) → IsWellFormed p → CanCut p c → 1 ≤ c.stated → c.stated ≤ 2147483647 → has_breach (in_limits (globals_of (tiled c p)) (functions_of (tiled c p))) ≡ nat_lt 256 (length (functions_of (tiled c p)))
+pub only_functions : (p : ProgramText) (c : Cut) → IsWellFormed p → CanCut p c → 1 ≤ c.stated → c.stated ≤ 2147483647 →
+    has_breach (in_limits (globals_of (tiled c p)) (functions_of (tiled c p))) ≡ nat_lt 256 (length (functions_of (tiled c p)))
 only_functions p c formed can some small =
     let s = split_at p c.function.name c.function can.named in
     let whole = s.front ++ function_item c.function ∷ s.back in
     let can_cut : CanCut whole c = subst (λ x. CanCut x c) s.is can in
     let well : IsWellFormed whole = subst (λ x. IsWellFormed x) s.is formed in
-    subst (λ x. has_breach (in_limits (globals_of (tiled c x)) (functions_of (tiled c x))) ≡ nat_lt 256 (length (functions_of (tiled c x)))) (sym s.is) (functions_alone c s.front s.back can_cut well some small)
+    subst (λ x. has_breach (in_limits (globals_of (tiled c x)) (functions_of (tiled c x))) ≡ nat_lt 256 (length (functions_of (tiled c x))))
+    (sym s.is) (functions_alone c s.front s.back can_cut well some small)

@@ -1,12 +1,15 @@
 -- Programs in parts: the items before a function and those behind it.
 use Rattle.std.specs.Str.{bytes_eq}
-use Rattle.std.proofs.Common.{◌≡◌, ℕ, suc, ◌+◌, Bool, true, false, cond, ◌||◌, List, [], ◌∷◌, ◌++◌, length, map, refl, ap, sym, ◌∙◌, arith, Option, None, Some, option_map, true≢false, append_assoc, is_some}
+use Rattle.std.proofs.Common.{◌≡◌, ℕ, suc, ◌+◌, Bool, true, false, cond, ◌||◌, List, [], ◌∷◌, ◌++◌, length, map, refl, ap, sym, ◌∙◌, arith, Option, None, Some, option_map}
+use Rattle.std.proofs.Common.{true≢false, append_assoc, is_some}
 use Rattle.std.proofs.lemmas.List.{append-nil}
 use Rattle.std.proofs.lemmas.Bool.{and_parts}
 use Rattle.std.proofs.lemmas.Slice.Eq.{bytes_eq-Decides}
-use Rattle.prem_syntax.specs.Syntax.{Text, Statement, block, if_then, if_else, bounded_while, counting_for, assign, output, input, call, Statements, no_statements, next_statement, GlobalVariable, FunctionText, global_item, function_item, ProgramText}
+use Rattle.prem_syntax.specs.Syntax.{Text, Statement, block, if_then, if_else, bounded_while, counting_for, assign, output, input, call, Statements, no_statements, next_statement}
+use Rattle.prem_syntax.specs.Syntax.{GlobalVariable, FunctionText, global_item, function_item, ProgramText}
 use Rattle.prem_syntax.specs.Resolved.{Steps, Done, Output, If, For, While}
-use Rattle.prem_syntax.specs.Resolve.{Scope, find_named, number_named, meaning_of, resolve_term, loops_in, loops_within, loop_local, set_steps, input_steps, call_steps, target_of, resolve_statement, resolve_statements, scope_in, resolve_function, resolve_items, globals_of, functions_of}
+use Rattle.prem_syntax.specs.Resolve.{Scope, find_named, number_named, meaning_of, resolve_term, loops_in, loops_within, loop_local, set_steps, input_steps, call_steps, target_of}
+use Rattle.prem_syntax.specs.Resolve.{resolve_statement, resolve_statements, scope_in, resolve_function, resolve_items, globals_of, functions_of}
 use Rattle.prem_syntax.specs.Reach.{is_in_set}
 use Rattle.prem_syntax.specs.Breaches.{has_name, in_global, in_function, in_items, item_names}
 use Rattle.prem_names.specs.Numbers.{number_of}
@@ -36,7 +39,9 @@ number_append (x ∷ xs) ys w = by (bytes_eq x w) (number_of xs w) (number_of ys
     by false None (Some k) all e = ap (option_map suc) e ∙ ap Some (omega arith)
 
 -- the number of a function, counted from n on
-number_from : (n : ℕ) (fs : List FunctionText) (w : Text) → option_map (λ (f : ℕ × FunctionText). f.0) (find_named (λ (f : FunctionText). f.name) w n fs) ≡ option_map (λ k. n + k) (number_of (names_of_functions fs) w)
+number_from : (n : ℕ) (fs : List FunctionText) (w : Text) →
+    option_map (λ (f : ℕ × FunctionText). f.0) (find_named (λ (f : FunctionText). f.name) w n fs)
+    ≡ option_map (λ k. n + k) (number_of (names_of_functions fs) w)
 number_from n [] w = refl
 number_from n (f ∷ fs) w = by (bytes_eq f.name w) (number_of (names_of_functions fs) w) (find_named (λ (f : FunctionText). f.name) w (n + 1) fs) (number_from (n + 1) fs w)
   where
@@ -85,7 +90,8 @@ items_append fs turns n gs (global_item g ∷ xs) ys =
     items_append fs turns n (gs ++ g ∷ []) xs ys ∙ (λ i. resolve_items fs turns n (gs ++ g ∷ []) xs ++ resolve_items fs turns (n + loops_of xs) (append_assoc gs (g ∷ []) (globals_of xs) i) ys)
 items_append fs turns n gs (function_item f ∷ xs) ys =
     ap (λ rs. resolve_function fs turns n gs f ∷ rs) (items_append fs turns (n + loops_within f.body) gs xs ys
-    ∙ (let e : n + loops_within f.body + loops_of xs ≡ n + (loops_within f.body + loops_of xs) = omega arith in λ i. resolve_items fs turns (n + loops_within f.body) gs xs ++ resolve_items fs turns (e i) (gs ++ globals_of xs) ys))
+    ∙ (let e : n + loops_within f.body + loops_of xs ≡ n + (loops_within f.body + loops_of xs) =
+    omega arith in λ i. resolve_items fs turns (n + loops_within f.body) gs xs ++ resolve_items fs turns (e i) (gs ++ globals_of xs) ys))
 
 pub routines_count : (fs : List FunctionText) (turns : ℕ → ℕ) (n : ℕ) (gs : List GlobalVariable) (xs : ProgramText) → length (resolve_items fs turns n gs xs) ≡ length (functions_of xs)
 routines_count fs turns n gs [] = refl
@@ -94,7 +100,8 @@ routines_count fs turns n gs (function_item f ∷ xs) = ap suc (routines_count f
 
 -- where all loops have as many turns, their numbers don't matter
 mutual
-  pub any_number : (scope : Scope) (turns : ℕ) (s : Statement) (n m : ℕ) (rest rest' : Steps) → rest ≡ rest' → resolve_statement scope (λ k. turns) n s rest ≡ resolve_statement scope (λ k. turns) m s rest'
+  pub any_number : (scope : Scope) (turns : ℕ) (s : Statement) (n m : ℕ) (rest rest' : Steps) → rest ≡ rest' →
+      resolve_statement scope (λ k. turns) n s rest ≡ resolve_statement scope (λ k. turns) m s rest'
   any_number scope turns (block at body) n m rest rest' e = any_numbers scope turns body n m rest rest' e
   any_number scope turns (if_then at condition taken) n m rest rest' e = λ i. If at (resolve_term scope condition) (any_number scope turns taken n m Done Done refl i) Done (e i)
   any_number scope turns (if_else at condition taken other) n m rest rest' e =
@@ -107,7 +114,8 @@ mutual
   any_number scope turns (input at name) n m rest rest' e = ap (input_steps at (meaning_of scope name)) e
   any_number scope turns (call at target callee arguments) n m rest rest' e = ap (call_steps at (target_of scope target) (number_named scope.functions callee) (map (resolve_term scope) arguments)) e
 
-  any_numbers : (scope : Scope) (turns : ℕ) (ss : Statements) (n m : ℕ) (rest rest' : Steps) → rest ≡ rest' → resolve_statements scope (λ k. turns) n ss rest ≡ resolve_statements scope (λ k. turns) m ss rest'
+  any_numbers : (scope : Scope) (turns : ℕ) (ss : Statements) (n m : ℕ) (rest rest' : Steps) → rest ≡ rest' →
+      resolve_statements scope (λ k. turns) n ss rest ≡ resolve_statements scope (λ k. turns) m ss rest'
   any_numbers scope turns no_statements n m rest rest' e = e
   any_numbers scope turns (next_statement s ss) n m rest rest' e = any_number scope turns s n m _ _ (any_numbers scope turns ss (n + loops_in s) (m + loops_in s) rest rest' e)
 
@@ -122,15 +130,20 @@ function_any fs turns n m gs f = λ i. record {
 -- ---- rules in parts
 
 pub in_items_append : (fs : List FunctionText) (taken : List Text) (within : List Bool) (n : ℕ) (gs : List GlobalVariable) (earlier : List Text) (xs ys : ProgramText) →
-    in_items fs taken within n gs earlier (xs ++ ys) ≡ in_items fs taken within n gs earlier xs ++ in_items fs taken within (n + length (functions_of xs)) (gs ++ globals_of xs) (earlier ++ item_names xs) ys
+    in_items fs taken within n gs earlier (xs ++ ys) ≡ in_items fs taken within n gs earlier xs
+    ++ in_items fs taken within (n + length (functions_of xs)) (gs ++ globals_of xs) (earlier ++ item_names xs) ys
 in_items_append fs taken within n gs earlier [] ys = let e : n + 0 ≡ n = omega arith in λ i. in_items fs taken within (sym e i) (sym (append-nil gs) i) (sym (append-nil earlier) i) ys
 in_items_append fs taken within n gs earlier (global_item g ∷ xs) ys =
     ap (λ bs. in_global earlier g ++ bs) (in_items_append fs taken within n (gs ++ g ∷ []) (earlier ++ g.name ∷ []) xs ys
-    ∙ (λ i. in_items fs taken within n (gs ++ g ∷ []) (earlier ++ g.name ∷ []) xs ++ in_items fs taken within (n + length (functions_of xs)) (append_assoc gs (g ∷ []) (globals_of xs) i) (append_assoc earlier (g.name ∷ []) (item_names xs) i) ys))
+    ∙ (λ i. in_items fs taken within n (gs ++ g ∷ []) (earlier ++ g.name ∷ []) xs
+    ++ in_items fs taken within (n + length (functions_of xs)) (append_assoc gs (g ∷ []) (globals_of xs) i)
+    (append_assoc earlier (g.name ∷ []) (item_names xs) i) ys))
     ∙ sym (append_assoc (in_global earlier g) (in_items fs taken within n (gs ++ g ∷ []) (earlier ++ g.name ∷ []) xs) _)
 in_items_append fs taken within n gs earlier (function_item f ∷ xs) ys =
     ap (λ bs. in_function fs taken n (is_in_set within n) gs earlier f ++ bs) (in_items_append fs taken within (n + 1) gs (earlier ++ f.name ∷ []) xs ys
-    ∙ (let e : n + 1 + length (functions_of xs) ≡ n + suc (length (functions_of xs)) = omega arith in λ i. in_items fs taken within (n + 1) gs (earlier ++ f.name ∷ []) xs ++ in_items fs taken within (e i) (gs ++ globals_of xs) (append_assoc earlier (f.name ∷ []) (item_names xs) i) ys))
+    ∙ (let e : n + 1 + length (functions_of xs) ≡ n + suc (length (functions_of xs)) =
+    omega arith in λ i. in_items fs taken within (n + 1) gs (earlier ++ f.name ∷ []) xs
+    ++ in_items fs taken within (e i) (gs ++ globals_of xs) (append_assoc earlier (f.name ∷ []) (item_names xs) i) ys))
     ∙ sym (append_assoc (in_function fs taken n (is_in_set within n) gs earlier f) (in_items fs taken within (n + 1) gs (earlier ++ f.name ∷ []) xs) _)
 
 -- ---- where the function stands

@@ -2,7 +2,8 @@
 use Rattle.std.specs.Prelude.{pos, ◌+ℤ◌, int_lt}
 use Rattle.std.specs.Int.{div_ceil}
 use Rattle.std.proofs.Common.{◌≡◌, ℕ, zero, suc, ◌+◌, ◌-◌, ◌*◌, ◌/◌, ◌%◌, ◌<◌, ◌≤◌, min, Bool, true, false, cond, not, refl, ap, sym, ◌∙◌, arith, ltb, leb, ◌⊎◌, inl, inr, ⊎_elim}
-use Rattle.std.proofs.Math.Nat.{mul_comm, mul-suc, mul-le-mul_left, mul-le-mul_right, zero-mul, mul-lt-mul_of_pos_left, mod-lt, div-add-mod, le-mul_of_pos_right, le-div_iff_mul-le, div-mul-le_self, div-eq_of_lt, mul-div_cancel_left}
+use Rattle.std.proofs.Math.Nat.{mul_comm, mul-suc, mul-le-mul_left, mul-le-mul_right, zero-mul, mul-lt-mul_of_pos_left, mod-lt, div-add-mod, le-mul_of_pos_right, le-div_iff_mul-le}
+use Rattle.std.proofs.Math.Nat.{div-mul-le_self, div-eq_of_lt, mul-div_cancel_left}
 use Rattle.std.proofs.lemmas.Int.{ints}
 use Rattle.std.proofs.lemmas.Bool.{cases_lt, lt-ltb, le-ltb, ltb-true, leb-true, leb-false}
 use Rattle.prem_word.specs.declared.kind.Kind.TheVariants.{Int}
@@ -37,7 +38,8 @@ below d s j some = by (d % s) refl
 
 -- no more than what is shared out
 pub ceil_small : (d s : ℕ) → 0 < s → div_ceil d s ≤ d
-ceil_small d s some = ⊎_elim (λ (lt : d < div_ceil d s). let m = below d s d some lt in let n : d ≤ d * s = le-mul_of_pos_right d some in let e = mul_comm d s in absurd (omega arith)) (λ (le : div_ceil d s ≤ d). le) (cases_lt d (div_ceil d s))
+ceil_small d s some = ⊎_elim (λ (lt : d < div_ceil d s). let m = below d s d some lt in let n : d ≤ d * s = le-mul_of_pos_right d some in let e =
+    mul_comm d s in absurd (omega arith)) (λ (le : div_ceil d s ≤ d). le) (cases_lt d (div_ceil d s))
 
 -- a value of the variable is below the bound exactly in the turns of the loop
 pub turn_there : (low bound step j : ℕ) → 0 < step → ltb (low + step * j) bound ≡ ltb j (turns_between low bound step)
@@ -48,8 +50,11 @@ turn_there low bound step j some = by (leb bound low) refl
     by false is =
         let lt = leb-false bound low is in
         same_test (low + step * j) bound j (div_ceil (bound - low) step)
-        (λ here. ⊎_elim (λ (there : j < div_ceil (bound - low) step). there) (λ (past : div_ceil (bound - low) step ≤ j). let m : step * div_ceil (bound - low) step ≤ step * j = mul-le-mul_left step past in let a = above (bound - low) step some in absurd (omega arith)) (cases_lt j (div_ceil (bound - low) step)))
-        (λ past. ⊎_elim (λ (there : j < div_ceil (bound - low) step). let b = below (bound - low) step j some there in absurd (omega arith)) (λ (le : div_ceil (bound - low) step ≤ j). le) (cases_lt j (div_ceil (bound - low) step)))
+        (λ here. ⊎_elim (λ (there : j < div_ceil (bound - low) step). there)
+        (λ (past : div_ceil (bound - low) step ≤ j). let m : step * div_ceil (bound - low) step ≤ step * j = mul-le-mul_left step past in let a =
+        above (bound - low) step some in absurd (omega arith)) (cases_lt j (div_ceil (bound - low) step)))
+        (λ past. ⊎_elim (λ (there : j < div_ceil (bound - low) step). let b = below (bound - low) step j some there in absurd (omega arith))
+        (λ (le : div_ceil (bound - low) step ≤ j). le) (cases_lt j (div_ceil (bound - low) step)))
 
 -- so no loop has more turns than an int has values
 pub few_turns : (low bound step : ℕ) → 0 < step → turns_between low bound step ≤ bound
@@ -106,4 +111,5 @@ in_bound_is true x high = same (cases_lt high x)
     same (inr le) = (let test : int_lt (pos high) (pos x) ≡ false = grind (arith, ints) in ap not test) ∙ sym (lt-ltb x (high + 1) (omega arith))
 
 pub next_value : (low step j : ℕ) → (pos (low + step * j) +ℤ pos step) ≡ pos (low + step * (j + 1))
-next_value low step j = let one : j + 1 ≡ suc j = omega arith in let m : step * (j + 1) ≡ step * j + step = ap (λ x. step * x) one ∙ mul-suc step j in let sum : low + step * j + step ≡ low + step * (j + 1) = omega arith in ap pos sum
+next_value low step j = let one : j + 1 ≡ suc j = omega arith in let m : step * (j + 1) ≡ step * j + step = ap (λ x. step * x) one ∙ mul-suc step j in
+    let sum : low + step * j + step ≡ low + step * (j + 1) = omega arith in ap pos sum

@@ -1,7 +1,8 @@
 -- The functions of a program and of the one with tiles, by name and by number.
 use Rattle.std.specs.Prelude.{codes, decimal}
 use Rattle.std.specs.Str.{bytes_eq}
-use Rattle.std.proofs.Common.{◌≡◌, ℕ, zero, suc, ◌+◌, ◌^◌, ◌<◌, ◌≤◌, Bool, true, false, cond, ◌||◌, List, [], ◌∷◌, ◌++◌, length, map, refl, ap, sym, ◌∙◌, arith, None, Some, option_map, true≢false, append_assoc}
+use Rattle.std.proofs.Common.{◌≡◌, ℕ, zero, suc, ◌+◌, ◌^◌, ◌<◌, ◌≤◌, Bool, true, false, cond, ◌||◌, List, [], ◌∷◌, ◌++◌, length, map, refl, ap, sym, ◌∙◌, arith, None, Some}
+use Rattle.std.proofs.Common.{option_map, true≢false, append_assoc}
 use Rattle.std.proofs.lemmas.Fmt.{decimal_injective}
 use Rattle.std.proofs.lemmas.Slice.Eq.{bytes_eq-Decides}
 use Rattle.prem_syntax.specs.Syntax.{Text, GlobalVariable, FunctionText, ItemText, global_item, function_item, ProgramText}
@@ -49,7 +50,9 @@ same_name a = (bytes_eq-Decides a a).1 refl
 pub functions_unnamed : (xs : ProgramText) (w : Text) → has_name (item_names xs) w ≡ false → has_name (names_of_functions (functions_of xs)) w ≡ false
 functions_unnamed [] w e = refl
 functions_unnamed (global_item g ∷ xs) w e = functions_unnamed xs w (neither_right (bytes_eq g.name w) (has_name (item_names xs) w) e)
-functions_unnamed (function_item f ∷ xs) w e = none_either (neither_left (bytes_eq f.name w) (has_name (item_names xs) w) e) (functions_unnamed xs w (neither_right (bytes_eq f.name w) (has_name (item_names xs) w) e))
+functions_unnamed (function_item f ∷ xs) w e =
+    none_either (neither_left (bytes_eq f.name w) (has_name (item_names xs) w) e)
+    (functions_unnamed xs w (neither_right (bytes_eq f.name w) (has_name (item_names xs) w) e))
 
 pub used_not : (xs : ProgramText) (w : Text) → has_name (used_names xs) w ≡ false → has_name (names_of_functions (functions_of xs)) w ≡ false
 used_not [] w e = refl
@@ -61,22 +64,28 @@ used_not (function_item f ∷ xs) w e =
 
 -- ---- names that come once
 
-pub heading_of : (fs : List FunctionText) (taken : List Text) (n : ℕ) (within : Bool) (gs : List GlobalVariable) (earlier : List Text) (f : FunctionText) → in_function fs taken n within gs earlier f ≡ [] → in_heading earlier f ≡ []
+pub heading_of : (fs : List FunctionText) (taken : List Text) (n : ℕ) (within : Bool) (gs : List GlobalVariable) (earlier : List Text)
+    (f : FunctionText) → in_function fs taken n within gs earlier f ≡ [] → in_heading earlier f ≡ []
 heading_of fs taken n within gs earlier f e =
     none_right (in_regions (scope_at fs gs f) (regions_of f.mark)) (in_heading earlier f) (none_left _ _ (none_left _ _ (none_left _ _ (none_left _ _ e))))
 
 pub not_earlier : (earlier : List Text) (f : FunctionText) → in_heading earlier f ≡ [] → has_name earlier f.name ≡ false
 not_earlier earlier f e = kept_rule (has_name earlier f.name) f.at (Twice f.name) (none_left _ _ (none_left _ _ (none_left _ _ (none_left _ _ e))))
 
-pub later_apart : (fs : List FunctionText) (taken : List Text) (within : List Bool) (n : ℕ) (gs : List GlobalVariable) (earlier : List Text) (xs : ProgramText) (w : Text) → in_items fs taken within n gs earlier xs ≡ [] → has_name earlier w ≡ true →
+pub later_apart : (fs : List FunctionText) (taken : List Text) (within : List Bool) (n : ℕ) (gs : List GlobalVariable) (earlier : List Text)
+    (xs : ProgramText) (w : Text) → in_items fs taken within n gs earlier xs ≡ [] → has_name earlier w ≡ true →
     has_name (names_of_functions (functions_of xs)) w ≡ false
 later_apart fs taken within n gs earlier [] w e has = refl
 later_apart fs taken within n gs earlier (global_item g ∷ xs) w e has =
-    later_apart fs taken within n (gs ++ g ∷ []) (earlier ++ g.name ∷ []) xs w (none_right (in_global earlier g) (in_items fs taken within n (gs ++ g ∷ []) (earlier ++ g.name ∷ []) xs) e) (has_append earlier (g.name ∷ []) w ∙ ap (λ b. b || has_name (g.name ∷ []) w) has)
+    later_apart fs taken within n (gs ++ g ∷ []) (earlier ++ g.name ∷ []) xs w
+    (none_right (in_global earlier g) (in_items fs taken within n (gs ++ g ∷ []) (earlier ++ g.name ∷ []) xs) e)
+    (has_append earlier (g.name ∷ []) w ∙ ap (λ b. b || has_name (g.name ∷ []) w) has)
 later_apart fs taken within n gs earlier (function_item f ∷ xs) w e has =
     let here = none_left (in_function fs taken n (is_in_set within n) gs earlier f) (in_items fs taken within (n + 1) gs (earlier ++ f.name ∷ []) xs) e in
     none_either (by (bytes_eq f.name w) refl (not_earlier earlier f (heading_of fs taken n (is_in_set within n) gs earlier f here)))
-    (later_apart fs taken within (n + 1) gs (earlier ++ f.name ∷ []) xs w (none_right (in_function fs taken n (is_in_set within n) gs earlier f) (in_items fs taken within (n + 1) gs (earlier ++ f.name ∷ []) xs) e) (has_append earlier (f.name ∷ []) w ∙ ap (λ b. b || has_name (f.name ∷ []) w) has))
+    (later_apart fs taken within (n + 1) gs (earlier ++ f.name ∷ []) xs w
+    (none_right (in_function fs taken n (is_in_set within n) gs earlier f) (in_items fs taken within (n + 1) gs (earlier ++ f.name ∷ []) xs) e)
+    (has_append earlier (f.name ∷ []) w ∙ ap (λ b. b || has_name (f.name ∷ []) w) has))
   where
     by : (t : Bool) → bytes_eq f.name w ≡ t → has_name earlier f.name ≡ false → t ≡ false
     by true is no_ = absurd (true≢false (sym has ∙ ap (has_name earlier) (sym ((bytes_eq-Decides f.name w).0 is)) ∙ no_))

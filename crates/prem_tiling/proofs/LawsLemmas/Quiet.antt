@@ -6,7 +6,8 @@ use Rattle.std.proofs.lemmas.Int.{ints}
 use Rattle.std.proofs.lemmas.Bool.Decides.{nat_tests}
 use Rattle.prem_syntax.specs.declared.tree.Place.{Place}
 use Rattle.prem_syntax.specs.declared.rules.TypeRule.TheVariants as rule
-use Rattle.prem_syntax.specs.Syntax.{Text, Expression, Statement, block, if_then, if_else, bounded_while, counting_for, assign, output, input, call, Statements, no_statements, next_statement, RegionText, GlobalVariable, FunctionText}
+use Rattle.prem_syntax.specs.Syntax.{Text, Expression, Statement, block, if_then, if_else, bounded_while, counting_for, assign, output, input, call, Statements, no_statements}
+use Rattle.prem_syntax.specs.Syntax.{next_statement, RegionText, GlobalVariable, FunctionText}
 use Rattle.prem_syntax.specs.Resolve.{Scope, find_global, meaning_of}
 use Rattle.prem_syntax.specs.Rules.{SystemCall, LoopForm, OfTypes}
 use Rattle.prem_syntax.specs.Breaches.{Around, if_at, in_expression, in_option, in_assigned, in_target, in_names, is_between, is_loop, in_statement, in_statements, in_region, in_regions}
@@ -39,15 +40,20 @@ module _ (place there : Around) (fs' : List FunctionText) (scope_is : there.scop
     pub quiet : (s : Statement) → has_call s ≡ false → in_statement place s ≡ [] → in_statement there s ≡ []
     quiet (block at body) none e = all_quiet body none e
     quiet (if_then at condition taken) none e =
-        none_both (expression_quiet condition (none_left (in_expression place.scope condition) (in_statement place taken) e)) (quiet taken none (none_right (in_expression place.scope condition) (in_statement place taken) e))
+        none_both (expression_quiet condition (none_left (in_expression place.scope condition) (in_statement place taken) e))
+        (quiet taken none (none_right (in_expression place.scope condition) (in_statement place taken) e))
     quiet (if_else at condition taken other) none e =
         let front = none_left (in_expression place.scope condition ++ in_statement place taken) (in_statement place other) e in
-        none_both (none_both (expression_quiet condition (none_left (in_expression place.scope condition) (in_statement place taken) front)) (quiet taken (neither_left (has_call taken) (has_call other) none) (none_right (in_expression place.scope condition) (in_statement place taken) front)))
+        none_both (none_both (expression_quiet condition (none_left (in_expression place.scope condition) (in_statement place taken) front))
+        (quiet taken (neither_left (has_call taken) (has_call other) none)
+        (none_right (in_expression place.scope condition) (in_statement place taken) front)))
         (quiet other (neither_right (has_call taken) (has_call other) none) (none_right (in_expression place.scope condition ++ in_statement place taken) (in_statement place other) e))
     quiet (bounded_while at most condition body) none e =
         let form = if_at (not (is_between 1 1048576 most)) at LoopForm in
         let front = none_left (form ++ in_expression place.scope condition) (in_statement place body) e in
-        none_both (none_both (none_left form (in_expression place.scope condition) front) (expression_quiet condition (none_right form (in_expression place.scope condition) front))) (quiet body none (none_right (form ++ in_expression place.scope condition) (in_statement place body) e))
+        none_both (none_both (none_left form (in_expression place.scope condition) front)
+        (expression_quiet condition (none_right form (in_expression place.scope condition) front)))
+        (quiet body none (none_right (form ++ in_expression place.scope condition) (in_statement place body) e))
     quiet (counting_for at names low closed high step body) none e =
         let ns = in_names at place.scope names in
         let form = if_at (not (is_loop place.scope names low high step body)) at LoopForm in
@@ -57,25 +63,35 @@ module _ (place there : Around) (fs' : List FunctionText) (scope_is : there.scop
         let three = none_left (ns ++ form ++ lo) hi four in
         let is = kept_rule_not (is_loop place.scope names low high step body) at LoopForm (none_right ns form (none_left (ns ++ form) lo three)) in
         let parts = loop_parts place.scope names low high step body is in
-        none_both (none_both (none_both (none_both (sym (mine (λ s. in_names at s names)) ∙ names_formed fs' place.scope at names (same_of_parts place.scope names low high step body is) parts.variable)
-        (unbroken (not (is_loop there.scope names low high step body)) at LoopForm (ap not (sym (mine (λ s. is_loop s names low high step body)) ∙ form_kept fs' place.scope names low high step body body refl is))))
-        (expression_quiet low (none_right (ns ++ form) lo three))) (expression_quiet high (none_right (ns ++ form ++ lo) hi four))) (quiet body none (none_right (ns ++ form ++ lo ++ hi) (in_statement place body) e))
+        none_both (none_both (none_both
+        (none_both (sym (mine (λ s. in_names at s names))
+        ∙ names_formed fs' place.scope at names (same_of_parts place.scope names low high step body is) parts.variable)
+        (unbroken (not (is_loop there.scope names low high step body)) at LoopForm
+        (ap not (sym (mine (λ s. is_loop s names low high step body)) ∙ form_kept fs' place.scope names low high step body body refl is))))
+        (expression_quiet low (none_right (ns ++ form) lo three))) (expression_quiet high (none_right (ns ++ form ++ lo) hi four)))
+        (quiet body none (none_right (ns ++ form ++ lo ++ hi) (in_statement place body) e))
     quiet (assign at name index value) none e =
         let a = in_assigned at name (meaning_of place.scope name) index in
         let o = in_option place.scope index in
         let front = none_left (a ++ o) (in_expression place.scope value) e in
-        none_both (none_both (sym (mine (λ s. in_assigned at name (meaning_of s name) index)) ∙ assigned_formed fs' place.scope at name index (none_left a o front)) (sym (mine (λ s. in_option s index)) ∙ option_formed fs' place.scope index (none_right a o front)))
+        none_both (none_both (sym (mine (λ s. in_assigned at name (meaning_of s name) index))
+        ∙ assigned_formed fs' place.scope at name index (none_left a o front))
+        (sym (mine (λ s. in_option s index)) ∙ option_formed fs' place.scope index (none_right a o front)))
         (expression_quiet value (none_right (a ++ o) (in_expression place.scope value) e))
     quiet (output at value) none e =
-        none_both (system_quiet at (none_left (if_at place.is_within_marked at SystemCall) (in_expression place.scope value) e)) (expression_quiet value (none_right (if_at place.is_within_marked at SystemCall) (in_expression place.scope value) e))
+        none_both (system_quiet at (none_left (if_at place.is_within_marked at SystemCall) (in_expression place.scope value) e))
+        (expression_quiet value (none_right (if_at place.is_within_marked at SystemCall) (in_expression place.scope value) e))
     quiet (input at name) none e =
-        none_both (sym (mine (λ s. in_target at s name)) ∙ target_kept fs' place.scope at name (none_left (in_target at place.scope name) (if_at place.is_within_marked at SystemCall) e)) (system_quiet at (none_right (in_target at place.scope name) (if_at place.is_within_marked at SystemCall) e))
+        none_both (sym (mine (λ s. in_target at s name))
+        ∙ target_kept fs' place.scope at name (none_left (in_target at place.scope name) (if_at place.is_within_marked at SystemCall) e))
+        (system_quiet at (none_right (in_target at place.scope name) (if_at place.is_within_marked at SystemCall) e))
     quiet (call at target callee es) none e = absurd (true≢false none)
 
     all_quiet : (ss : Statements) → have_call ss ≡ false → in_statements place ss ≡ [] → in_statements there ss ≡ []
     all_quiet no_statements none e = refl
     all_quiet (next_statement s ss) none e =
-        none_both (quiet s (neither_left (has_call s) (have_call ss) none) (none_left (in_statement place s) (in_statements place ss) e)) (all_quiet ss (neither_right (has_call s) (have_call ss) none) (none_right (in_statement place s) (in_statements place ss) e))
+        none_both (quiet s (neither_left (has_call s) (have_call ss) none) (none_left (in_statement place s) (in_statements place ss) e))
+        (all_quiet ss (neither_right (has_call s) (have_call ss) none) (none_right (in_statement place s) (in_statements place ss) e))
 
 -- ---- regions
 
@@ -110,13 +126,17 @@ cut_within r from to some most = by (int_le from to) refl
     by false is = record { at = refl; name = refl; some = λ h. h; most = omega arith; least = inl refl }
 
 pub narrowed_within : (first last : ℤ) (r : RegionText) (a : Added) → IsWithin (narrowed first last r a) r
-narrowed_within first last r (within least most) = cut_within r (int_max (pos r.low) (first +ℤ least)) (int_min (pos r.high) (last +ℤ most)) (max_some r.low (first +ℤ least)) (min_most r.high (last +ℤ most))
+narrowed_within first last r (within least most) =
+    cut_within r (int_max (pos r.low) (first +ℤ least)) (int_min (pos r.high) (last +ℤ most)) (max_some r.low (first +ℤ least)) (min_most r.high (last +ℤ most))
 narrowed_within first last r nothing = record { at = refl; name = refl; some = λ h. h; most = omega arith; least = inl refl }
 narrowed_within first last r elsewhere = record { at = refl; name = refl; some = λ h. h; most = omega arith; least = inl refl }
 
 region_within : (r' r : RegionText) (g : Option (ℕ × GlobalVariable)) → IsWithin r' r → in_region r g ≡ [] → in_region r' g ≡ []
 region_within r' r None w e = cc
-region_within r' r (Some g) w e = unbroken (nat_lt r'.high r'.low || nat_le (unwrap_or g.1.len 1) r'.high) r'.at (OfTypes rule.Region) (none_either (w.some (neither_left (nat_lt r.high r.low) (nat_le (unwrap_or g.1.len 1) r.high) kept)) (less (neither_right (nat_lt r.high r.low) (nat_le (unwrap_or g.1.len 1) r.high) kept) w.most))
+region_within r' r (Some g) w e =
+    unbroken (nat_lt r'.high r'.low || nat_le (unwrap_or g.1.len 1) r'.high) r'.at (OfTypes rule.Region)
+    (none_either (w.some (neither_left (nat_lt r.high r.low) (nat_le (unwrap_or g.1.len 1) r.high) kept))
+    (less (neither_right (nat_lt r.high r.low) (nat_le (unwrap_or g.1.len 1) r.high) kept) w.most))
   where
     kept : (nat_lt r.high r.low || nat_le (unwrap_or g.1.len 1) r.high) ≡ false
     kept = kept_rule (nat_lt r.high r.low || nat_le (unwrap_or g.1.len 1) r.high) r.at (OfTypes rule.Region) e
@@ -130,10 +150,13 @@ region_within r' r (Some g) w e = unbroken (nat_lt r'.high r'.low || nat_le (unw
         less_at : (n k m : ℕ) → nat_le n m ≡ false → k ≤ m → nat_le n k ≡ false
         less_at n k m h le = grind (arith, nat_tests)
 
-pub regions_quiet : (c : Cut) (t : ℕ) (scope scope' : Scope) → ((name : Text) → find_global scope' name ≡ find_global scope name) → (rs : List RegionText) → in_regions scope rs ≡ [] → in_regions scope' (map (tile_region c t) rs) ≡ []
+pub regions_quiet : (c : Cut) (t : ℕ) (scope scope' : Scope) → ((name : Text) → find_global scope' name ≡ find_global scope name) →
+    (rs : List RegionText) → in_regions scope rs ≡ [] → in_regions scope' (map (tile_region c t) rs) ≡ []
 regions_quiet c t scope scope' same [] e = refl
 regions_quiet c t scope scope' same (r ∷ rs) e =
     let here = in_region r (find_global scope r.name) in
     let later = in_regions scope rs in
     let w : IsWithin (tile_region c t r) r = narrowed_within (pos (low_of c t)) (last_of c t) r (added_in c.loop.names.first r.name c.loop.body) in
-    none_both (ap (in_region (tile_region c t r)) (same (tile_region c t r).name ∙ ap (find_global scope) w.name) ∙ region_within (tile_region c t r) r (find_global scope r.name) w (none_left here later e)) (regions_quiet c t scope scope' same rs (none_right here later e))
+    none_both (ap (in_region (tile_region c t r)) (same (tile_region c t r).name ∙ ap (find_global scope) w.name)
+    ∙ region_within (tile_region c t r) r (find_global scope r.name) w (none_left here later e))
+    (regions_quiet c t scope scope' same rs (none_right here later e))

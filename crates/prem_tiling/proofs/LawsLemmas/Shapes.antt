@@ -1,7 +1,8 @@
 -- What a function has that has the shape.
 use Rattle.std.specs.Prelude.{nat_le}
 use Rattle.std.specs.Str.{bytes_eq}
-use Rattle.std.proofs.Common.{◌≡◌, ℕ, zero, suc, ◌≤◌, Bool, true, false, cond, ◌&&◌, ◌||◌, List, [], ◌∷◌, ◌++◌, map, refl, ap, sym, ◌∙◌, subst, arith, Option, None, Some, Ok, eqb, true≢false, option_map, is_some, append_assoc}
+use Rattle.std.proofs.Common.{◌≡◌, ℕ, zero, suc, ◌≤◌, Bool, true, false, cond, ◌&&◌, ◌||◌, List, [], ◌∷◌, ◌++◌, map, refl, ap, sym, ◌∙◌, subst, arith, Option, None, Some, Ok, eqb}
+use Rattle.std.proofs.Common.{true≢false, option_map, is_some, append_assoc}
 use Rattle.std.proofs.lemmas.List.{append-nil}
 use Rattle.std.proofs.lemmas.Bool.{and_parts, leb-true, eqb-true}
 use Rattle.std.proofs.lemmas.Slice.Eq.{bytes_eq-Decides}
@@ -9,8 +10,10 @@ use Rattle.prem_word.specs.declared.kind.Kind.TheVariants.{Int}
 use Rattle.prem_syntax.specs.declared.tree.Ty.{Ty}
 use Rattle.prem_syntax.specs.declared.tree.Ty.TheVariants.{Int as IntTy}
 use Rattle.prem_syntax.specs.declared.tree.UnOp.TheVariants.{Neg, Flip, Not}
-use Rattle.prem_syntax.specs.Syntax.{Text, Expression, literal, variable, element, unary, binary, Statement, block, if_then, if_else, bounded_while, counting_for, assign, output, input, call, Statements, no_statements, next_statement, Parameter, LocalVariable, GlobalVariable, FunctionText}
-use Rattle.prem_syntax.specs.Resolve.{Scope, find_named, find_local, find_global, find_function, global_meaning, first_meaning, meaning_of, local_number, declared, resolve_term, resolve_locals, local_names}
+use Rattle.prem_syntax.specs.Syntax.{Text, Expression, literal, variable, element, unary, binary, Statement, block, if_then, if_else, bounded_while, counting_for, assign, output}
+use Rattle.prem_syntax.specs.Syntax.{input, call, Statements, no_statements, next_statement, Parameter, LocalVariable, GlobalVariable, FunctionText}
+use Rattle.prem_syntax.specs.Resolve.{Scope, find_named, find_local, find_global, find_function, global_meaning, first_meaning, meaning_of, local_number, declared, resolve_term}
+use Rattle.prem_syntax.specs.Resolve.{resolve_locals, local_names}
 use Rattle.prem_syntax.specs.Expressions.{Access, and_then, eval, unary_word}
 use Rattle.prem_syntax.specs.Statements.{ProgramState, declare, with_new_local}
 use Rattle.prem_syntax.specs.Breaches.{assigns as assigns_name, assigns_within as assigns_name_within}
@@ -65,7 +68,8 @@ record IsOnly (s : Statement) (l : Loop) : Type 0 where
 loop_parts : (s : Statement) (l : Loop) → loop_of s ≡ Some l → IsOnly s l
 loop_parts (counting_for at names low closed high step body) l e = by (number_at low) refl (number_at high) refl e
   where
-    by : (a : Option Number) → number_at low ≡ a → (b : Option Number) → number_at high ≡ b → loop_between at names closed step body a b ≡ Some l → IsOnly (counting_for at names low closed high step body) l
+    by : (a : Option Number) → number_at low ≡ a → (b : Option Number) → number_at high ≡ b → loop_between at names closed step body a b ≡ Some l →
+        IsOnly (counting_for at names low closed high step body) l
     by (Some a) is (Some b) is_b h =
         let one = is_number_at low a is in
         let two = is_number_at high b is_b in
@@ -101,7 +105,8 @@ shape_parts f l e = by (is_some f.mark && no_parameters f.params && are_constant
     none [] h = refl
     none (p ∷ ps) h = absurd (true≢false (sym h))
 
-    with_loop : (b : Bool) (m : Loop) → has_call m.body ≡ b → only_loop f.body ≡ Some m → cond b None (Some m) ≡ Some l → (is_some f.mark && no_parameters f.params && are_constants f.locals) ≡ true → IsShape f l
+    with_loop : (b : Bool) (m : Loop) → has_call m.body ≡ b → only_loop f.body ≡ Some m → cond b None (Some m) ≡ Some l →
+        (is_some f.mark && no_parameters f.params && are_constants f.locals) ≡ true → IsShape f l
     with_loop true m calls is h tests = cc
     with_loop false m calls is h tests =
         let same : m ≡ l = cc in
@@ -136,7 +141,8 @@ are_numbered scope ls is = record { number = λ name. by name (number_of (names_
 
     local_here : (name : Text) (o : Option (ℕ × (Text × Ty))) → find_local scope name ≡ o → local_number (meaning_of scope name) ≡ option_map (λ (x : ℕ × (Text × Ty)). x.0) o
     local_here name (Some l) e = ap (λ o. local_number (first_meaning o (find_global scope name) (find_function scope.functions name))) e
-    local_here name None e = ap (λ o. local_number (first_meaning o (find_global scope name) (find_function scope.functions name))) e ∙ no_local (find_global scope name) (find_function scope.functions name)
+    local_here name None e = ap (λ o. local_number (first_meaning o (find_global scope name) (find_function scope.functions name))) e
+        ∙ no_local (find_global scope name) (find_function scope.functions name)
       where
         no_global : (g : ℕ × GlobalVariable) (len : Option ℕ) → local_number (global_meaning g.0 g.1.ty len) ≡ None
         no_global g None = refl
@@ -189,10 +195,13 @@ module _ (names : List Text) (variable : Text) (k : ℕ) (there : number_of name
     pub left_alone : (s : Statement) → assigns_name variable s ≡ false → assigns names k s ≡ false
     left_alone (block at body) e = all_left_alone body e
     left_alone (if_then at condition taken) e = left_alone taken e
-    left_alone (if_else at condition taken other) e = none_either (left_alone taken (neither_left (assigns_name variable taken) (assigns_name variable other) e)) (left_alone other (neither_right (assigns_name variable taken) (assigns_name variable other) e))
+    left_alone (if_else at condition taken other) e =
+        none_either (left_alone taken (neither_left (assigns_name variable taken) (assigns_name variable other) e))
+        (left_alone other (neither_right (assigns_name variable taken) (assigns_name variable other) e))
     left_alone (bounded_while at turns condition body) e = left_alone body e
     left_alone (counting_for at ns low closed high step body) e =
-        none_either (not_named ns.first (neither_left (bytes_eq ns.first variable) (assigns_name variable body) e)) (left_alone body (neither_right (bytes_eq ns.first variable) (assigns_name variable body) e))
+        none_either (not_named ns.first (neither_left (bytes_eq ns.first variable) (assigns_name variable body) e))
+        (left_alone body (neither_right (bytes_eq ns.first variable) (assigns_name variable body) e))
     left_alone (assign at name None value) e = not_named name e
     left_alone (assign at name (Some index) value) e = refl
     left_alone (output at value) e = refl
@@ -202,7 +211,9 @@ module _ (names : List Text) (variable : Text) (k : ℕ) (there : number_of name
 
     all_left_alone : (ss : Statements) → assigns_name_within variable ss ≡ false → assign_within names k ss ≡ false
     all_left_alone no_statements e = refl
-    all_left_alone (next_statement s ss) e = none_either (left_alone s (neither_left (assigns_name variable s) (assigns_name_within variable ss) e)) (all_left_alone ss (neither_right (assigns_name variable s) (assigns_name_within variable ss) e))
+    all_left_alone (next_statement s ss) e =
+        none_either (left_alone s (neither_left (assigns_name variable s) (assigns_name_within variable ss) e))
+        (all_left_alone ss (neither_right (assigns_name variable s) (assigns_name_within variable ss) e))
 
 -- ---- locals that begin with constants
 
@@ -227,7 +238,8 @@ constant_is scope may globals ls (variable at name) h = absurd (true≢false (sy
 constant_is scope may globals ls (element at name index) h = absurd (true≢false (sym h))
 constant_is scope may globals ls (binary at op left right) h = absurd (true≢false (sym h))
 
-pub constants_declared : (scope : Scope) (may : Access) (ls : List LocalVariable) (s : ProgramState) → are_constants ls ≡ true → declare may (resolve_locals scope ls) s ≡ Ok (record s { locals = s.locals ++ constant_words ls })
+pub constants_declared : (scope : Scope) (may : Access) (ls : List LocalVariable) (s : ProgramState) → are_constants ls ≡ true →
+    declare may (resolve_locals scope ls) s ≡ Ok (record s { locals = s.locals ++ constant_words ls })
 constants_declared scope may [] s h = ap (λ (x : List ℕ). Ok (record s { locals = x })) (sym (append-nil s.locals))
 constants_declared scope may (l ∷ ls) s h =
     let parts = and_parts (is_constant l.value) (are_constants ls) h in

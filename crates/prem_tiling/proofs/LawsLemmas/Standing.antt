@@ -1,13 +1,16 @@
 -- What the rules say of the function that is cut, and of its loop.
 use Rattle.std.specs.List.{list_any}
-use Rattle.std.proofs.Common.{◌≡◌, ℕ, ◌+◌, ◌<◌, Bool, true, false, not, ◌&&◌, ◌||◌, List, [], ◌∷◌, ◌++◌, length, refl, ap, sym, ◌∙◌, subst, Option, None, Some, eqb, leb, is_some, is_none, true≢false, IsTrue}
+use Rattle.std.proofs.Common.{◌≡◌, ℕ, ◌+◌, ◌<◌, Bool, true, false, not, ◌&&◌, ◌||◌, List, [], ◌∷◌, ◌++◌, length, refl, ap, sym, ◌∙◌, subst, Option, None, Some, eqb, leb, is_some}
+use Rattle.std.proofs.Common.{is_none, true≢false, IsTrue}
 use Rattle.std.proofs.lemmas.Bool.{and_parts, leb-true}
 use Rattle.prem_syntax.specs.declared.rules.TypeRule.TheVariants as rule
 use Rattle.prem_syntax.specs.Syntax.{Text, Expression, GlobalVariable, FunctionText, function_item, ProgramText}
 use Rattle.prem_syntax.specs.Resolve.{Scope, scope_at, scope_in, globals_of, functions_of}
 use Rattle.prem_syntax.specs.Rules.{Breach, NoJob, Twice, OfTypes, LoopForm}
 use Rattle.prem_syntax.specs.Reach.{is_in_set}
-use Rattle.prem_syntax.specs.Breaches.{Around, around, if_at, if_broken, is_job_name, is_marked_text, is_narrow, is_void, is_loop, in_names, in_expression, in_regions, regions_of, in_heading, in_parameters, in_locals, in_statement, in_statements, in_option, parameter_texts, in_function, in_items, item_names, in_limits, has_name, breaches, reached}
+use Rattle.prem_syntax.specs.Breaches.{Around, around, if_at, if_broken, is_job_name, is_marked_text, is_narrow, is_void, is_loop, in_names, in_expression, in_regions, regions_of}
+use Rattle.prem_syntax.specs.Breaches.{in_heading, in_parameters, in_locals, in_statement, in_statements, in_option, parameter_texts, in_function, in_items, item_names, in_limits}
+use Rattle.prem_syntax.specs.Breaches.{has_name, breaches, reached}
 use Rattle.prem_syntax.specs.ProgramRules.{first_breach, IsWellFormed}
 use Rattle.prem_tiling.specs.Shapes.Shape.{Loop, shape_of, marked_named}
 use Rattle.prem_tiling.specs.Shapes.Tiled.{Cut, tiled}
@@ -28,7 +31,9 @@ all_breaches p formed = none_broken (breaches p) (is_none_means (first_breach p)
 
 pub item_breaches : (p : ProgramText) → IsWellFormed p → in_items (functions_of p) (item_names p) (reached (functions_of p)) 0 [] [] p ≡ []
 item_breaches p formed =
-    none_right (in_limits (globals_of p) (functions_of p) ++ if_broken (not (list_any (λ (f : FunctionText). is_job_name f.name) (functions_of p))) None NoJob) (in_items (functions_of p) (item_names p) (reached (functions_of p)) 0 [] [] p) (all_breaches p formed)
+    none_right (in_limits (globals_of p) (functions_of p)
+    ++ if_broken (not (list_any (λ (f : FunctionText). is_job_name f.name) (functions_of p))) None NoJob)
+    (in_items (functions_of p) (item_names p) (reached (functions_of p)) 0 [] [] p) (all_breaches p formed)
 
 -- what the rules say of a marked function
 pub record IsMarkedOne (f : FunctionText) : Type 0 where
@@ -55,7 +60,8 @@ marked_one earlier f e marked = record { void = void; other = neither_right (not
     job = if_at (is_job_name f.name && not (is_void f.ty && eqb (length f.params) 0)) f.at (OfTypes rule.Job)
 
     mark_rule : (is_marked_text f && (not (is_void f.ty) || is_job_name f.name)) ≡ false
-    mark_rule = kept_rule (is_marked_text f && (not (is_void f.ty) || is_job_name f.name)) f.at (OfTypes rule.Marked) (none_right (twice ++ narrow ++ result) mark (none_left (twice ++ narrow ++ result ++ mark) job e))
+    mark_rule = kept_rule (is_marked_text f && (not (is_void f.ty) || is_job_name f.name)) f.at (OfTypes rule.Marked)
+        (none_right (twice ++ narrow ++ result) mark (none_left (twice ++ narrow ++ result ++ mark) job e))
 
     none : (not (is_void f.ty) || is_job_name f.name) ≡ false
     none = ap (λ b. b && (not (is_void f.ty) || is_job_name f.name)) (sym marked) ∙ mark_rule
@@ -64,7 +70,8 @@ marked_one earlier f e marked = record { void = void; other = neither_right (not
     void = not_false (is_void f.ty) (neither_left (not (is_void f.ty)) (is_job_name f.name) none)
 
     returns : ((is_void f.ty && is_some f.result) || (not (is_void f.ty) && is_none f.result)) ≡ false
-    returns = kept_rule ((is_void f.ty && is_some f.result) || (not (is_void f.ty) && is_none f.result)) f.at (OfTypes rule.Return) (none_right (twice ++ narrow) result (none_left (twice ++ narrow ++ result) mark (none_left (twice ++ narrow ++ result ++ mark) job e)))
+    returns = kept_rule ((is_void f.ty && is_some f.result) || (not (is_void f.ty) && is_none f.result)) f.at (OfTypes rule.Return)
+        (none_right (twice ++ narrow) result (none_left (twice ++ narrow ++ result) mark (none_left (twice ++ narrow ++ result ++ mark) job e)))
 
     by : (r : Option Expression) → ((is_void f.ty && is_some r) || (not (is_void f.ty) && is_none r)) ≡ false → r ≡ None
     by None h = refl
@@ -111,7 +118,8 @@ module _ (c : Cut) (front back : ProgramText) (shaped : shape_of c.function ≡ 
   earlier = [] ++ item_names front
 
   pub rest : in_items fs taken within (0 + first) gs earlier (function_item f ∷ back) ≡ []
-  rest = none_right (in_items fs taken within 0 [] [] front) (in_items fs taken within (0 + first) gs earlier (function_item f ∷ back)) (sym (in_items_append fs taken within 0 [] [] front (function_item f ∷ back)) ∙ item_breaches p formed)
+  rest = none_right (in_items fs taken within 0 [] [] front) (in_items fs taken within (0 + first) gs earlier (function_item f ∷ back))
+      (sym (in_items_append fs taken within 0 [] [] front (function_item f ∷ back)) ∙ item_breaches p formed)
 
   pub function_formed : in_function fs taken (0 + first) (is_in_set within (0 + first)) gs earlier f ≡ []
   function_formed = none_left (in_function fs taken (0 + first) (is_in_set within (0 + first)) gs earlier f) (in_items fs taken within (0 + first + 1) gs (earlier ++ f.name ∷ []) back) rest
@@ -124,7 +132,9 @@ module _ (c : Cut) (front back : ProgramText) (shaped : shape_of c.function ≡ 
 
   pub back_apart : has_name (names_of_functions (functions_of back)) f.name ≡ false
   back_apart =
-      later_apart fs taken within (0 + first + 1) gs (earlier ++ f.name ∷ []) back f.name (none_right (in_function fs taken (0 + first) (is_in_set within (0 + first)) gs earlier f) (in_items fs taken within (0 + first + 1) gs (earlier ++ f.name ∷ []) back) rest)
+      later_apart fs taken within (0 + first + 1) gs (earlier ++ f.name ∷ []) back f.name
+      (none_right (in_function fs taken (0 + first) (is_in_set within (0 + first)) gs earlier f)
+      (in_items fs taken within (0 + first + 1) gs (earlier ++ f.name ∷ []) back) rest)
       (has_append earlier (f.name ∷ []) f.name ∙ either_right (has_name earlier f.name) (has_name (f.name ∷ []) f.name) (ap (λ b. b || false) (same_name f.name)))
 
   pub shape : IsShape f l
@@ -153,14 +163,18 @@ module _ (c : Cut) (front back : ProgramText) (shaped : shape_of c.function ≡ 
   pub loop_formed : in_statement place (statement_of l) ≡ []
   loop_formed = none_left (in_statement place (statement_of l)) [] (ap (in_statements place) (sym shape.body) ∙ statements_formed)
 
-  pub before_body : in_names l.at scope l.names ++ if_at (not (is_loop scope l.names (low_end l) (high_end l) l.step l.body)) l.at LoopForm ++ in_expression scope (low_end l) ++ in_expression scope (high_end l) ≡ []
-  before_body = none_left (in_names l.at scope l.names ++ if_at (not (is_loop scope l.names (low_end l) (high_end l) l.step l.body)) l.at LoopForm ++ in_expression scope (low_end l) ++ in_expression scope (high_end l)) (in_statement place l.body) loop_formed
+  pub before_body : in_names l.at scope l.names ++ if_at (not (is_loop scope l.names (low_end l) (high_end l) l.step l.body)) l.at LoopForm
+      ++ in_expression scope (low_end l) ++ in_expression scope (high_end l) ≡ []
+  before_body = none_left (in_names l.at scope l.names ++ if_at (not (is_loop scope l.names (low_end l) (high_end l) l.step l.body)) l.at LoopForm
+      ++ in_expression scope (low_end l) ++ in_expression scope (high_end l)) (in_statement place l.body) loop_formed
 
   pub loop_is : is_loop scope l.names (low_end l) (high_end l) l.step l.body ≡ true
   loop_is =
       let ns = in_names l.at scope l.names in
       let form = if_at (not (is_loop scope l.names (low_end l) (high_end l) l.step l.body)) l.at LoopForm in
-      kept_rule_not (is_loop scope l.names (low_end l) (high_end l) l.step l.body) l.at LoopForm (none_right ns form (none_left (ns ++ form) (in_expression scope (low_end l)) (none_left (ns ++ form ++ in_expression scope (low_end l)) (in_expression scope (high_end l)) before_body)))
+      kept_rule_not (is_loop scope l.names (low_end l) (high_end l) l.step l.body) l.at LoopForm
+      (none_right ns form (none_left (ns ++ form) (in_expression scope (low_end l))
+      (none_left (ns ++ form ++ in_expression scope (low_end l)) (in_expression scope (high_end l)) before_body)))
 
   pub is_a_loop : IsLoop scope l.names (low_end l) (high_end l) l.step l.body
   is_a_loop = loop_parts scope l.names (low_end l) (high_end l) l.step l.body loop_is

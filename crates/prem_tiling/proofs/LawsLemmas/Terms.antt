@@ -5,9 +5,11 @@ use Rattle.prem_syntax.specs.declared.tree.Place.{Place}
 use Rattle.prem_syntax.specs.declared.tree.Ty.{Ty}
 use Rattle.prem_syntax.specs.declared.meaning.Meaning.{Meaning}
 use Rattle.prem_syntax.specs.declared.meaning.Meaning.TheVariants.{Nothing, Function as FunctionName}
-use Rattle.prem_syntax.specs.Syntax.{Text, Expression, literal, variable, element, unary, binary, Statement, block, if_then, if_else, bounded_while, counting_for, assign, output, input, call, Statements, no_statements, next_statement, LocalVariable, GlobalVariable, FunctionText}
+use Rattle.prem_syntax.specs.Syntax.{Text, Expression, literal, variable, element, unary, binary, Statement, block, if_then, if_else, bounded_while, counting_for, assign, output}
+use Rattle.prem_syntax.specs.Syntax.{input, call, Statements, no_statements, next_statement, LocalVariable, GlobalVariable, FunctionText}
 use Rattle.prem_syntax.specs.Resolved.{Term, Steps, Done, Unary, If, For, While, Output}
-use Rattle.prem_syntax.specs.Resolve.{Scope, find_local, find_global, find_function, first_meaning, meaning_of, variable_term, element_term, binary_term, resolve_term, loops_in, set_steps, input_steps, loop_local, local_number, target_of, resolve_statement, resolve_statements, declared, resolve_locals}
+use Rattle.prem_syntax.specs.Resolve.{Scope, find_local, find_global, find_function, first_meaning, meaning_of, variable_term, element_term, binary_term, resolve_term, loops_in}
+use Rattle.prem_syntax.specs.Resolve.{set_steps, input_steps, loop_local, local_number, target_of, resolve_statement, resolve_statements, declared, resolve_locals}
 use Rattle.prem_tiling.specs.Shapes.Shape.{has_call, have_call}
 use Rattle.prem_tiling.proofs.LawsLemmas.Tied.{neither_left, neither_right}
 
@@ -19,7 +21,8 @@ abbrev Found : Type 0 → Type 0
 Found A = Option (ℕ × A)
 
 -- what doesn't tell a function from nothing
-any_functions : {A : Type 0} (F : Meaning → A) → ((n : ℕ) → F (FunctionName n) ≡ F Nothing) → (l : Found (Text × Ty)) (g : Found GlobalVariable) (f f' : Found FunctionText) → F (first_meaning l g f) ≡ F (first_meaning l g f')
+any_functions : {A : Type 0} (F : Meaning → A) → ((n : ℕ) → F (FunctionName n) ≡ F Nothing) →
+    (l : Found (Text × Ty)) (g : Found GlobalVariable) (f f' : Found FunctionText) → F (first_meaning l g f) ≡ F (first_meaning l g f')
 any_functions F same (Some l) g f f' = refl
 any_functions F same None (Some g) f f' = refl
 any_functions F same None None None None = refl
@@ -28,7 +31,8 @@ any_functions F same None None (Some f) None = same f.0
 any_functions F same None None (Some f) (Some f') = same f.0 ∙ sym (same f'.0)
 
 module _ (fs : List FunctionText) where
-  pub same_meaning : {A : Type 0} (F : Meaning → A) → ((n : ℕ) → F (FunctionName n) ≡ F Nothing) → (scope : Scope) (name : Text) → F (meaning_of (with_functions fs scope) name) ≡ F (meaning_of scope name)
+  pub same_meaning : {A : Type 0} (F : Meaning → A) → ((n : ℕ) → F (FunctionName n) ≡ F Nothing) → (scope : Scope) (name : Text) →
+      F (meaning_of (with_functions fs scope) name) ≡ F (meaning_of scope name)
   same_meaning F same scope name = any_functions F same (find_local scope name) (find_global scope name) (find_function fs name) (find_function scope.functions name)
 
   pub same_term : (scope : Scope) (e : Expression) → resolve_term (with_functions fs scope) e ≡ resolve_term scope e
@@ -54,7 +58,8 @@ module _ (fs : List FunctionText) where
       set_steps at (meaning_of (with_functions fs scope) name) (option_map (resolve_term (with_functions fs scope)) index) (resolve_term (with_functions fs scope) value) rest
       ≡ set_steps at (meaning_of scope name) (option_map (resolve_term scope) index) (resolve_term scope value) rest
   same_set scope at name index value rest =
-      same_meaning (λ m. set_steps at m (option_map (resolve_term (with_functions fs scope)) index) (resolve_term (with_functions fs scope) value) rest) (λ n. set_nothing n (resolve_term (with_functions fs scope) value) (option_map (resolve_term (with_functions fs scope)) index)) scope name
+      same_meaning (λ m. set_steps at m (option_map (resolve_term (with_functions fs scope)) index) (resolve_term (with_functions fs scope) value)
+      rest) (λ n. set_nothing n (resolve_term (with_functions fs scope) value) (option_map (resolve_term (with_functions fs scope)) index)) scope name
       ∙ (λ i. set_steps at (meaning_of scope name) (same_option scope index i) (same_term scope value i) rest)
     where
       set_nothing : (n : ℕ) (e : Term) (index : Option Term) → set_steps at (FunctionName n) index e rest ≡ set_steps at Nothing index e rest
@@ -76,7 +81,8 @@ module _ (fs : List FunctionText) where
 
   -- a statement without calls, where all loops have as many turns
   mutual
-    pub same_statement : (scope : Scope) (turns : ℕ) (s : Statement) (n n' : ℕ) (rest rest' : Steps) → has_call s ≡ false → rest ≡ rest' → resolve_statement (with_functions fs scope) (λ k. turns) n s rest ≡ resolve_statement scope (λ k. turns) n' s rest'
+    pub same_statement : (scope : Scope) (turns : ℕ) (s : Statement) (n n' : ℕ) (rest rest' : Steps) → has_call s ≡ false → rest ≡ rest' →
+        resolve_statement (with_functions fs scope) (λ k. turns) n s rest ≡ resolve_statement scope (λ k. turns) n' s rest'
     same_statement scope turns (block at body) n n' rest rest' none e = same_statements scope turns body n n' rest rest' none e
     same_statement scope turns (if_then at condition taken) n n' rest rest' none e =
         λ i. If at (same_term scope condition i) (same_statement scope turns taken n n' Done Done none refl i) Done (e i)
@@ -86,14 +92,16 @@ module _ (fs : List FunctionText) where
     same_statement scope turns (bounded_while at most condition body) n n' rest rest' none e =
         λ i. While at most (same_term scope condition i) (same_statement scope turns body n n' Done Done none refl i) (e i)
     same_statement scope turns (counting_for at names low closed high step body) n n' rest rest' none e =
-        λ i. For at (same_variable scope names.first i) (same_term scope low i) closed (same_term scope high i) step turns (same_statement scope turns body (n + 1) (n' + 1) Done Done none refl i) (e i)
+        λ i. For at (same_variable scope names.first i) (same_term scope low i) closed (same_term scope high i) step turns
+        (same_statement scope turns body (n + 1) (n' + 1) Done Done none refl i) (e i)
     same_statement scope turns (assign at name index value) n n' rest rest' none e =
         same_set scope at name index value rest ∙ ap (set_steps at (meaning_of scope name) (option_map (resolve_term scope) index) (resolve_term scope value)) e
     same_statement scope turns (output at value) n n' rest rest' none e = λ i. Output at (same_term scope value i) (e i)
     same_statement scope turns (input at name) n n' rest rest' none e = same_input scope at name rest ∙ ap (input_steps at (meaning_of scope name)) e
     same_statement scope turns (call at target callee arguments) n n' rest rest' none e = absurd (true≢false none)
 
-    same_statements : (scope : Scope) (turns : ℕ) (ss : Statements) (n n' : ℕ) (rest rest' : Steps) → have_call ss ≡ false → rest ≡ rest' → resolve_statements (with_functions fs scope) (λ k. turns) n ss rest ≡ resolve_statements scope (λ k. turns) n' ss rest'
+    same_statements : (scope : Scope) (turns : ℕ) (ss : Statements) (n n' : ℕ) (rest rest' : Steps) → have_call ss ≡ false → rest ≡ rest' →
+        resolve_statements (with_functions fs scope) (λ k. turns) n ss rest ≡ resolve_statements scope (λ k. turns) n' ss rest'
     same_statements scope turns no_statements n n' rest rest' none e = e
     same_statements scope turns (next_statement first others) n n' rest rest' none e =
         same_statement scope turns first n n' _ _ (neither_left (has_call first) (have_call others) none)

@@ -1,6 +1,7 @@
 -- Two states that differ in stale locals and in their marks alone, and what evaluates alike in them.
 use Rattle.std.specs.Prelude.{slice_index}
-use Rattle.std.proofs.Common.{◌≡◌, ℕ, ◌+◌, ◌<◌, ◌≤◌, Bool, true, false, cond, not, ◌&&◌, ◌||◌, List, [], ◌∷◌, ◌++◌, length, set, refl, ap, sym, ◌∙◌, subst, arith, Option, None, Some, Ok, eqb, ◌⊎◌, inl, inr, true≢false}
+use Rattle.std.proofs.Common.{◌≡◌, ℕ, ◌+◌, ◌<◌, ◌≤◌, Bool, true, false, cond, not, ◌&&◌, ◌||◌, List, [], ◌∷◌, ◌++◌, length, set, refl, ap, sym, ◌∙◌, subst, arith, Option, None}
+use Rattle.std.proofs.Common.{Some, Ok, eqb, ◌⊎◌, inl, inr, true≢false}
 use Rattle.std.proofs.lemmas.List.{length-set, get_or-set_same, get_or-set_other, get_or_past}
 use Rattle.std.proofs.lemmas.Bool.{cases_lt, eq-eqb, eqb-true}
 use Rattle.prem_word.specs.declared.kind.BinOp.{BinOp}
@@ -85,7 +86,8 @@ module _ {base : List ℕ} {changed : LocalSet} {ms ns : List MarkedCall} where
   pub more_stale : {stale : LocalSet} (wider : LocalSet) {u v : ProgramState} → ((k : ℕ) → wider k ≡ false → stale k ≡ false) → Tied base changed ms ns stale u v → Tied base changed ms ns wider u v
   more_stale wider more t = record { same = t.same; left = t.left; right = t.right; long = t.long; size = t.size; alike = λ k e. t.alike k (more k e); kept = t.kept }
 
-  pub with_local_tied : {stale : LocalSet} (o : Option ℕ) (k w : ℕ) {u v : ProgramState} → o ≡ Some k → changed k ≡ true → Tied base changed ms ns stale u v → Tied base changed ms ns (without o stale) (with_local k w u) (with_local k w v)
+  pub with_local_tied : {stale : LocalSet} (o : Option ℕ) (k w : ℕ) {u v : ProgramState} → o ≡ Some k → changed k ≡ true →
+      Tied base changed ms ns stale u v → Tied base changed ms ns (without o stale) (with_local k w u) (with_local k w v)
   with_local_tied {stale = stale} o k w {u = u} {v = v} is moves t = subst (λ (x : Option ℕ). Tied base changed ms ns (without x stale) (with_local k w u) (with_local k w v)) (sym is) (record {
     same = t.same;
     left = t.left;
@@ -108,18 +110,28 @@ module _ {base : List ℕ} {changed : LocalSet} {ms ns : List MarkedCall} where
           by false other = refl
 
   pub output_tied : {stale : LocalSet} (w : ℕ) {u v : ProgramState} → Tied base changed ms ns stale u v → Tied base changed ms ns stale (with_output w u) (with_output w v)
-  output_tied w t = record { same = ap (λ (b : ProgramState). record b { outputs = b.outputs ++ w ∷ [] }) t.same; left = t.left; right = t.right; long = t.long; size = t.size; alike = t.alike; kept = t.kept }
+  output_tied w t = record {
+    same = ap (λ (b : ProgramState). record b { outputs = b.outputs ++ w ∷ [] }) t.same;
+    left = t.left;
+    right = t.right;
+    long = t.long;
+    size = t.size;
+    alike = t.alike;
+    kept = t.kept;
+  }
 
   cell_tied : {stale : LocalSet} (g j w : ℕ) {u v : ProgramState} → Tied base changed ms ns stale u v → Tied base changed ms ns stale (with_cell g j w u) (with_cell g j w v)
   cell_tied g j w t = record { same = ap (with_cell g j w) t.same; left = t.left; right = t.right; long = t.long; size = t.size; alike = t.alike; kept = t.kept }
 
-  pub store_tied : {stale : LocalSet} (may : Access) (line : ℕ) (ty : Ty) (g j w : ℕ) {u v : ProgramState} → Tied base changed ms ns stale u v → Joint (Tied base changed ms ns stale) (store may line ty g j w u) (store may line ty g j w v)
+  pub store_tied : {stale : LocalSet} (may : Access) (line : ℕ) (ty : Ty) (g j w : ℕ) {u v : ProgramState} → Tied base changed ms ns stale u v →
+      Joint (Tied base changed ms ns stale) (store may line ty g j w u) (store may line ty g j w v)
   store_tied may line ty g j w {u = u} {v = v} t =
       same_then (or_wrong line (cell may u.globals g j)) (or_wrong line (cell may v.globals g j)) (λ old. Ok (with_cell g j (stored ty w) u)) (λ old. Ok (with_cell g j (stored ty w) v))
       (ap (λ (b : ProgramState). or_wrong line (cell may b.globals g j)) t.same) (λ old. fine (cell_tied g j (stored ty w) t))
 
   -- the next input to a local
-  pub input_tied : {stale : LocalSet} (o : Option ℕ) (k : ℕ) {u v : ProgramState} → o ≡ Some k → changed k ≡ true → Tied base changed ms ns stale u v → Tied base changed ms ns (without o stale) (take_input k u.inputs u) (take_input k v.inputs v)
+  pub input_tied : {stale : LocalSet} (o : Option ℕ) (k : ℕ) {u v : ProgramState} → o ≡ Some k → changed k ≡ true →
+      Tied base changed ms ns stale u v → Tied base changed ms ns (without o stale) (take_input k u.inputs u) (take_input k v.inputs v)
   input_tied {stale = stale} o k {u = u} {v = v} is moves t =
       subst (λ (inputs : List ℕ). Tied base changed ms ns (without o stale) (take_input k u.inputs u) (take_input k inputs v)) (ap (λ (b : ProgramState). b.inputs) t.same) (by u.inputs)
     where
@@ -150,14 +162,16 @@ module _ (scope : Scope) (locals : List Text) (numbered : Numbered scope locals)
   variable_alike at (FunctionName f) o is fresh = refl
   variable_alike at Nothing o is fresh = refl
 
-  element_alike : (at : Place) (m : Meaning) (index : Term) → eval may globals ls index ≡ eval may globals ls' index → eval may globals ls (element_term at m index) ≡ eval may globals ls' (element_term at m index)
+  element_alike : (at : Place) (m : Meaning) (index : Term) → eval may globals ls index ≡ eval may globals ls' index →
+      eval may globals ls (element_term at m index) ≡ eval may globals ls' (element_term at m index)
   element_alike at (ArrayName g ty n) index e = ap (λ r. and_then r (λ j. or_wrong at.line (cell may globals g j))) e
   element_alike at (LocalName k ty) index e = refl
   element_alike at (ScalarName g ty) index e = refl
   element_alike at (FunctionName f) index e = refl
   element_alike at Nothing index e = refl
 
-  operator_alike : (at : Place) (op : BinOp) (kind : Kind) (l r : Term) → eval may globals ls l ≡ eval may globals ls' l → eval may globals ls r ≡ eval may globals ls' r → eval may globals ls (operator at op kind l r) ≡ eval may globals ls' (operator at op kind l r)
+  operator_alike : (at : Place) (op : BinOp) (kind : Kind) (l r : Term) → eval may globals ls l ≡ eval may globals ls' l →
+      eval may globals ls r ≡ eval may globals ls' r → eval may globals ls (operator at op kind l r) ≡ eval may globals ls' (operator at op kind l r)
   operator_alike at AndAlsoOp kind l r e f = λ i. and_then (e i) (λ a. cond (eqb a 0) (Ok 0) (truth_of (f i)))
   operator_alike at OrElseOp kind l r e f = λ i. and_then (e i) (λ a. cond (eqb a 0) (truth_of (f i)) (Ok 1))
   operator_alike at op kind l r e f = λ i. and_then (e i) (λ a. and_then (f i) (λ b. operate at.line op kind a b))
@@ -171,7 +185,9 @@ module _ (scope : Scope) (locals : List Text) (numbered : Numbered scope locals)
       operator_alike at op (operand_kind op (kind_of (resolve_term scope left)) (kind_of (resolve_term scope right))) (resolve_term scope left) (resolve_term scope right)
       (eval_alike left (no_line_left (read_of locals stale left) (read_of locals stale right) none)) (eval_alike right (no_line_right (read_of locals stale left) (read_of locals stale right) none))
 
-pub value_tied : (scope : Scope) (locals : List Text) → Numbered scope locals → {base : List ℕ} {changed : LocalSet} {ms ns : List MarkedCall} (stale : LocalSet) (may : Access) (u v : ProgramState) → Tied base changed ms ns stale u v → (e : Expression) → read_of locals stale e ≡ None →
+pub value_tied : (scope : Scope) (locals : List Text) → Numbered scope locals →
+    {base : List ℕ} {changed : LocalSet} {ms ns : List MarkedCall} (stale : LocalSet) (may : Access) (u v : ProgramState) →
+    Tied base changed ms ns stale u v → (e : Expression) → read_of locals stale e ≡ None →
     value may u (resolve_term scope e) ≡ value may v (resolve_term scope e)
 value_tied scope locals numbered stale may u v t e none =
     ap (λ (b : ProgramState). eval may b.globals u.locals (resolve_term scope e)) t.same ∙ eval_alike scope locals numbered stale may v.globals u.locals v.locals t.alike e none

@@ -34,8 +34,10 @@ no_breach (b ∷ bs) e = cc
 pub tiling : (past : Past) (p : ProgramText) (name : Text) (tiles stated : ℕ) (q : ProgramText) → 2 ≤ tiles → tiles ≤ 64 → tile past p name tiles stated ≡ Ok q → Tiling past p name tiles stated q
 tiling past p name tiles stated q several few e = by_function (marked_named (functions_of p) name) refl e
   where
-    made : (f : FunctionText) (l : Loop) → marked_named (functions_of p) name ≡ Some f → shape_of f ≡ Some l → carried_in (names_of f.locals) l.body ≡ None → tiles ≤ turns_of l → taken_from (used_names p) f.name 0 tiles ≡ None →
-        (b : Bool) → is_past past (cut_by f tiles stated l) (tiled (cut_by f tiles stated l) p) ≡ b → cond b (Err limit) (Ok (tiled (cut_by f tiles stated l) p)) ≡ Ok q → Tiling past p name tiles stated q
+    made : (f : FunctionText) (l : Loop) → marked_named (functions_of p) name ≡ Some f → shape_of f ≡ Some l →
+        carried_in (names_of f.locals) l.body ≡ None → tiles ≤ turns_of l → taken_from (used_names p) f.name 0 tiles ≡ None →
+        (b : Bool) → is_past past (cut_by f tiles stated l) (tiled (cut_by f tiles stated l) p) ≡ b →
+        cond b (Err limit) (Ok (tiled (cut_by f tiles stated l) p)) ≡ Ok q → Tiling past p name tiles stated q
     made f l is shaped uncarried enough untaken true past_is h = cc
     made f l is shaped uncarried enough untaken false past_is h =
         let same : tiled (cut_by f tiles stated l) p ≡ q = cc in
@@ -48,7 +50,8 @@ tiling past p name tiles stated q several few e = by_function (marked_named (fun
           is = sym same;
           named = so;
           within = ap (is_past past (cut_by f tiles stated l)) (sym same) ∙ past_is;
-          limits = subst (λ (x : ProgramText). in_limits (globals_of x) (functions_of x) ≡ []) same (no_breach bs (neither_left (has_breach bs) _ (neither_left _ (past (tiled (cut_by f tiles stated l) p)) past_is)));
+          limits = subst (λ (x : ProgramText). in_limits (globals_of x) (functions_of x) ≡ []) same
+              (no_breach bs (neither_left (has_breach bs) _ (neither_left _ (past (tiled (cut_by f tiles stated l) p)) past_is)));
         }
 
     by_names : (f : FunctionText) (l : Loop) → marked_named (functions_of p) name ≡ Some f → shape_of f ≡ Some l → carried_in (names_of f.locals) l.body ≡ None → tiles ≤ turns_of l →
@@ -57,11 +60,14 @@ tiling past p name tiles stated q several few e = by_function (marked_named (fun
     by_names f l is shaped uncarried enough (Some n) untaken h = cc
 
     by_turns : (f : FunctionText) (l : Loop) → marked_named (functions_of p) name ≡ Some f → shape_of f ≡ Some l → carried_in (names_of f.locals) l.body ≡ None →
-        (b : Bool) → ltb (turns_of l) tiles ≡ b → cond b (Err (turns (turns_of l))) (unless_taken past (cut_by f tiles stated l) p (taken_from (used_names p) f.name 0 tiles)) ≡ Ok q → Tiling past p name tiles stated q
+        (b : Bool) → ltb (turns_of l) tiles ≡ b →
+        cond b (Err (turns (turns_of l))) (unless_taken past (cut_by f tiles stated l) p (taken_from (used_names p) f.name 0 tiles)) ≡ Ok q →
+        Tiling past p name tiles stated q
     by_turns f l is shaped uncarried true few h = cc
     by_turns f l is shaped uncarried false few h = by_names f l is shaped uncarried (ltb-false (turns_of l) tiles few) (taken_from (used_names p) f.name 0 tiles) refl h
 
-    by_carry : (f : FunctionText) (l : Loop) → marked_named (functions_of p) name ≡ Some f → shape_of f ≡ Some l → (o : Option ℕ) → carried_in (names_of f.locals) l.body ≡ o → unless_carried past (cut_by f tiles stated l) p o ≡ Ok q → Tiling past p name tiles stated q
+    by_carry : (f : FunctionText) (l : Loop) → marked_named (functions_of p) name ≡ Some f → shape_of f ≡ Some l → (o : Option ℕ) →
+        carried_in (names_of f.locals) l.body ≡ o → unless_carried past (cut_by f tiles stated l) p o ≡ Ok q → Tiling past p name tiles stated q
     by_carry f l is shaped None uncarried h = by_turns f l is shaped uncarried (ltb (turns_of l) tiles) refl h
     by_carry f l is shaped (Some line) uncarried h = cc
 

@@ -17,9 +17,11 @@ use Rattle.prem_syntax.specs.Rules.{LoopForm}
 use Rattle.prem_syntax.specs.Breaches.{Around, if_at, is_between, is_loop, in_expression, in_names, in_statement, in_statements}
 use Rattle.prem_names.specs.Numbers.{number_of}
 use Rattle.prem_tiling.specs.Shapes.Shape.{has_call, have_call}
-use Rattle.prem_tiling.specs.Shapes.Carried.{is_number, is_local_named, assigns, assign_within, LocalSet, without, settled, settled_plain, behind, behind_all, first_line, read_of, read_of_option, read_in, read_within}
+use Rattle.prem_tiling.specs.Shapes.Carried.{is_number, is_local_named, assigns, assign_within, LocalSet, without, settled, settled_plain, behind, behind_all, first_line, read_of}
+use Rattle.prem_tiling.specs.Shapes.Carried.{read_of_option, read_in, read_within}
 use Rattle.prem_tiling.proofs.LawsLemmas.Joint.{Joint, fine, wrong, joint_then, same_then, counting_joint, bounded_joint}
-use Rattle.prem_tiling.proofs.LawsLemmas.Tied.{neither_left, neither_right, either_left, either_right, no_line_left, no_line_right, Numbered, Tied, more_stale, with_local_tied, output_tied, store_tied, input_tied, value_tied}
+use Rattle.prem_tiling.proofs.LawsLemmas.Tied.{neither_left, neither_right, either_left, either_right, no_line_left, no_line_right, Numbered, Tied, more_stale, with_local_tied}
+use Rattle.prem_tiling.proofs.LawsLemmas.Tied.{output_tied, store_tied, input_tied, value_tied}
 use Rattle.prem_tiling.proofs.LawsLemmas.Formed.{none_left, none_right, kept_rule_not, int_local_numbered, loop_parts}
 
 -- ---- nothing becomes stale
@@ -59,7 +61,8 @@ mutual
 pub number_named : (locals : List Text) (name : Text) (k : ℕ) → number_of locals name ≡ Some k → is_local_named locals k name ≡ true
 number_named locals name k e = ap (is_number k) e ∙ eq-eqb k k refl
 
-module _ (around : Around) (locals : List Text) (numbered : Numbered around.scope locals) (turns : ℕ → ℕ) (may : Access) (calls calls' : Calls) (base : List ℕ) (changed : LocalSet) (ms ns : List MarkedCall) where
+module _ (around : Around) (locals : List Text) (numbered : Numbered around.scope locals) (turns : ℕ → ℕ) (may : Access) (calls calls' : Calls)
+    (base : List ℕ) (changed : LocalSet) (ms ns : List MarkedCall) where
   -- a statement without calls that breaks no rule, reads nothing stale and assigns what changes alone
   pub record Turned (stale : LocalSet) (s : Statement) : Type 0 where
     pub alone : has_call s ≡ false
@@ -80,33 +83,40 @@ module _ (around : Around) (locals : List Text) (numbered : Numbered around.scop
   Onward Q steps stale = (u v : ProgramState) → T stale u v → Joint Q (run may calls steps u) (run may calls' steps v)
 
   set_tied : (Q : ProgramState → ProgramState → Type 0) (rest : Steps) (stale : LocalSet) (at : Place) (m : Meaning) (name : Text) (index : Option Expression) (e : Expression) →
-      local_number m ≡ number_of locals name → read_of_option locals stale index ≡ None → read_of locals stale e ≡ None → ((k : ℕ) → assigns locals k (assign at name index e) ≡ true → changed k ≡ true) →
+      local_number m ≡ number_of locals name → read_of_option locals stale index ≡ None → read_of locals stale e ≡ None →
+      ((k : ℕ) → assigns locals k (assign at name index e) ≡ true → changed k ≡ true) →
       Onward Q rest (settled_plain locals name index stale) → Onward Q (set_steps at m (option_map (resolve_term around.scope) index) (resolve_term around.scope e) rest) stale
   set_tied Q rest stale at (LocalName k ty) name None e is none_index none_value moves go u v t =
       same_then (value may u (resolve_term around.scope e)) (value may v (resolve_term around.scope e)) (λ w. run may calls rest (with_local k w u)) (λ w. run may calls' rest (with_local k w v))
       (value_tied around.scope locals numbered stale may u v t e none_value)
       (λ w. go (with_local k w u) (with_local k w v) (with_local_tied (number_of locals name) k w (sym is) (moves k (number_named locals name k (sym is))) t))
   set_tied Q rest stale at (ScalarName g ty) name None e is none_index none_value moves go u v t =
-      same_then (value may u (resolve_term around.scope e)) (value may v (resolve_term around.scope e)) (λ w. and_then (store may at.line ty g 0 w u) (run may calls rest)) (λ w. and_then (store may at.line ty g 0 w v) (run may calls' rest))
+      same_then (value may u (resolve_term around.scope e)) (value may v (resolve_term around.scope e))
+      (λ w. and_then (store may at.line ty g 0 w u) (run may calls rest)) (λ w. and_then (store may at.line ty g 0 w v) (run may calls' rest))
       (value_tied around.scope locals numbered stale may u v t e none_value)
-      (λ w. joint_then (run may calls rest) (run may calls' rest) (store_tied may at.line ty g 0 w t) (λ x y s. go x y (more_stale (without (number_of locals name) stale) (λ k h. ap (λ o. without o stale k) is ∙ h) s)))
+      (λ w. joint_then (run may calls rest) (run may calls' rest) (store_tied may at.line ty g 0 w t)
+      (λ x y s. go x y (more_stale (without (number_of locals name) stale) (λ k h. ap (λ o. without o stale k) is ∙ h) s)))
   set_tied Q rest stale at (ArrayName g ty n) name (Some index) e is none_index none_value moves go u v t =
       same_then (value may u (resolve_term around.scope e)) (value may v (resolve_term around.scope e))
       (λ w. and_then (value may u (resolve_term around.scope index)) (λ j. and_then (store may at.line ty g j w u) (run may calls rest)))
       (λ w. and_then (value may v (resolve_term around.scope index)) (λ j. and_then (store may at.line ty g j w v) (run may calls' rest)))
       (value_tied around.scope locals numbered stale may u v t e none_value)
-      (λ w. same_then (value may u (resolve_term around.scope index)) (value may v (resolve_term around.scope index)) (λ j. and_then (store may at.line ty g j w u) (run may calls rest)) (λ j. and_then (store may at.line ty g j w v) (run may calls' rest))
+      (λ w. same_then (value may u (resolve_term around.scope index)) (value may v (resolve_term around.scope index))
+      (λ j. and_then (store may at.line ty g j w u) (run may calls rest)) (λ j. and_then (store may at.line ty g j w v) (run may calls' rest))
       (value_tied around.scope locals numbered stale may u v t index none_index)
       (λ j. joint_then (run may calls rest) (run may calls' rest) (store_tied may at.line ty g j w t) go))
   set_tied Q rest stale at (LocalName k ty) name (Some index) e is none_index none_value moves go u v t = go u v t
   set_tied Q rest stale at (ScalarName g ty) name (Some index) e is none_index none_value moves go u v t = go u v t
   set_tied Q rest stale at (FunctionName f) name (Some index) e is none_index none_value moves go u v t = go u v t
   set_tied Q rest stale at Nothing name (Some index) e is none_index none_value moves go u v t = go u v t
-  set_tied Q rest stale at (ArrayName g ty n) name None e is none_index none_value moves go u v t = go u v (more_stale (without (number_of locals name) stale) (λ k h. ap (λ o. without o stale k) is ∙ h) t)
-  set_tied Q rest stale at (FunctionName f) name None e is none_index none_value moves go u v t = go u v (more_stale (without (number_of locals name) stale) (λ k h. ap (λ o. without o stale k) is ∙ h) t)
+  set_tied Q rest stale at (ArrayName g ty n) name None e is none_index none_value moves go u v t =
+      go u v (more_stale (without (number_of locals name) stale) (λ k h. ap (λ o. without o stale k) is ∙ h) t)
+  set_tied Q rest stale at (FunctionName f) name None e is none_index none_value moves go u v t =
+      go u v (more_stale (without (number_of locals name) stale) (λ k h. ap (λ o. without o stale k) is ∙ h) t)
   set_tied Q rest stale at Nothing name None e is none_index none_value moves go u v t = go u v (more_stale (without (number_of locals name) stale) (λ k h. ap (λ o. without o stale k) is ∙ h) t)
 
-  input_step_tied : (Q : ProgramState → ProgramState → Type 0) (rest : Steps) (stale : LocalSet) (at : Place) (m : Meaning) (name : Text) → local_number m ≡ number_of locals name → ((k : ℕ) → is_local_named locals k name ≡ true → changed k ≡ true) →
+  input_step_tied : (Q : ProgramState → ProgramState → Type 0) (rest : Steps) (stale : LocalSet) (at : Place) (m : Meaning) (name : Text) →
+      local_number m ≡ number_of locals name → ((k : ℕ) → is_local_named locals k name ≡ true → changed k ≡ true) →
       Onward Q rest (settled locals name stale) → Onward Q (input_steps at m rest) stale
   input_step_tied Q rest stale at (LocalName k ty) name is moves go u v t =
       go (take_input k u.inputs u) (take_input k v.inputs v) (input_tied (number_of locals name) k (sym is) (moves k (number_named locals name k (sym is))) t)
@@ -137,24 +147,29 @@ module _ (around : Around) (locals : List Text) (numbered : Numbered around.scop
       (λ c. and_then (choose c (run may calls taken) (run may calls other) u) (run may calls rest)) (λ c. and_then (choose c (run may calls' taken) (run may calls' other) v) (run may calls' rest))
       (ap (λ (r : Outcome ℕ). and_then r (λ c. Ok (not (eqb c 0)))) (value_tied around.scope locals numbered stale may u v t condition none)) by
     where
-      by : (c : Bool) → Joint Q (and_then (choose c (run may calls taken) (run may calls other) u) (run may calls rest)) (and_then (choose c (run may calls' taken) (run may calls' other) v) (run may calls' rest))
+      by : (c : Bool) → Joint Q (and_then (choose c (run may calls taken) (run may calls other) u) (run may calls rest))
+          (and_then (choose c (run may calls' taken) (run may calls' other) v) (run may calls' rest))
       by true = joint_then (run may calls rest) (run may calls' rest) (one u v t) go
       by false = joint_then (run may calls rest) (run may calls' rest) (two u v t) go
 
   -- turns of a counting loop, and what comes behind it
-  counting_tied : (Q : ProgramState → ProgramState → Type 0) (line k step most : ℕ) (closed : Bool) (high : Expression) (body rest : Steps) (stale : LocalSet) → stale k ≡ false → changed k ≡ true → read_of locals stale high ≡ None →
+  counting_tied : (Q : ProgramState → ProgramState → Type 0) (line k step most : ℕ) (closed : Bool) (high : Expression) (body rest : Steps)
+      (stale : LocalSet) → stale k ≡ false → changed k ≡ true → read_of locals stale high ≡ None →
       Onward (T stale) body stale → Onward Q rest stale → (u v : ProgramState) → T stale u v →
       Joint Q (and_then (counting line most (loop_test may k closed (resolve_term around.scope high)) (λ t. and_then (run may calls body t) (loop_step line k step)) u) (run may calls rest))
       (and_then (counting line most (loop_test may k closed (resolve_term around.scope high)) (λ t. and_then (run may calls' body t) (loop_step line k step)) v) (run may calls' rest))
   counting_tied Q line k step most closed high body rest stale fresh moves none one go u v t =
       joint_then (run may calls rest) (run may calls' rest)
-      (counting_joint (T stale) (loop_test may k closed (resolve_term around.scope high)) (loop_test may k closed (resolve_term around.scope high)) (λ t. and_then (run may calls body t) (loop_step line k step)) (λ t. and_then (run may calls' body t) (loop_step line k step))
-      (λ x y s. let value_is = value_tied around.scope locals numbered stale may x y s high none in let local_is = s.alike k fresh in λ i. and_then (value_is i) (λ h. Ok (in_bound closed (value_in Int (local_is i)) (value_in Int h))))
+      (counting_joint (T stale) (loop_test may k closed (resolve_term around.scope high)) (loop_test may k closed (resolve_term around.scope high))
+      (λ t. and_then (run may calls body t) (loop_step line k step)) (λ t. and_then (run may calls' body t) (loop_step line k step))
+      (λ x y s. let value_is = value_tied around.scope locals numbered stale may x y s high none in let local_is =
+      s.alike k fresh in λ i. and_then (value_is i) (λ h. Ok (in_bound closed (value_in Int (local_is i)) (value_in Int h))))
       (λ x y s. joint_then (loop_step line k step) (loop_step line k step) (one x y s) (λ a b r. step_tied line k step stale a b fresh moves r))
       line most u v t) go
 
   mutual
-    pub statement_tied : (Q : ProgramState → ProgramState → Type 0) (s : Statement) (n : ℕ) (rest : Steps) (stale : LocalSet) → Turned stale s → Onward Q rest (behind locals stale s) → Onward Q (resolve_statement around.scope turns n s rest) stale
+    pub statement_tied : (Q : ProgramState → ProgramState → Type 0) (s : Statement) (n : ℕ) (rest : Steps) (stale : LocalSet) → Turned stale s →
+        Onward Q rest (behind locals stale s) → Onward Q (resolve_statement around.scope turns n s rest) stale
     statement_tied Q (block at body) n rest stale h go = statements_tied Q body n rest stale (record { alone = h.alone; formed = h.formed; unread = h.unread; moves = h.moves }) go
     statement_tied Q (if_then at condition taken) n rest stale h go =
         let after = behind locals stale (if_then at condition taken) in
@@ -197,7 +212,8 @@ module _ (around : Around) (locals : List Text) (numbered : Numbered around.scop
         let turn = resolve_statement around.scope turns n body Done in
         joint_then (run may calls rest) (run may calls' rest)
         (bounded_joint (T stale) (holds may (resolve_term around.scope condition)) (holds may (resolve_term around.scope condition)) (run may calls turn) (run may calls' turn)
-        (λ x y s. ap (λ (r : Outcome ℕ). and_then r (λ c. Ok (not (eqb c 0)))) (value_tied around.scope locals numbered stale may x y s condition (no_line_left reads (read_in locals stale body) h.unread)))
+        (λ x y s. ap (λ (r : Outcome ℕ). and_then r (λ c. Ok (not (eqb c 0))))
+        (value_tied around.scope locals numbered stale may x y s condition (no_line_left reads (read_in locals stale body) h.unread)))
         (λ x y s. statement_tied (T stale) body n Done stale inner (λ a b r. fine (more_stale stale (behind_less locals body stale) r)) x y s)
         most u v t) go
     statement_tied Q (counting_for at names low closed high step body) n rest stale h go = λ u v t.
@@ -206,8 +222,10 @@ module _ (around : Around) (locals : List Text) (numbered : Numbered around.scop
         let next = settled locals names.first stale in
         let form = if_at (not (is_loop around.scope names low high step body)) at LoopForm in
         let front = none_left (in_names at around.scope names ++ form ++ in_expression around.scope low ++ in_expression around.scope high) (in_statement around body) h.formed in
-        let forms = none_left (in_names at around.scope names ++ form) (in_expression around.scope low) (none_left (in_names at around.scope names ++ form ++ in_expression around.scope low) (in_expression around.scope high) front) in
-        let is = loop_parts around.scope names low high step body (kept_rule_not (is_loop around.scope names low high step body) at LoopForm (none_right (in_names at around.scope names) form forms)) in
+        let forms = none_left (in_names at around.scope names ++ form) (in_expression around.scope low)
+        (none_left (in_names at around.scope names ++ form ++ in_expression around.scope low) (in_expression around.scope high) front) in
+        let is = loop_parts around.scope names low high step body
+        (kept_rule_not (is_loop around.scope names low high step body) at LoopForm (none_right (in_names at around.scope names) form forms)) in
         let numbered_k : number_of locals names.first ≡ Some k = sym (numbered.number names.first) ∙ int_local_numbered m is.variable in
         let moves : changed k ≡ true = h.moves k (either_left (is_local_named locals k names.first) (assigns locals k body) (number_named locals names.first k numbered_k)) in
         let fresh : next k ≡ false = ap (λ o. without o stale k) numbered_k ∙ ap (λ b. not b && stale k) (eq-eqb k k refl) in
@@ -220,8 +238,10 @@ module _ (around : Around) (locals : List Text) (numbered : Numbered around.scop
         } in
         let turn = resolve_statement around.scope turns (n + 1) body Done in
         same_then (value may u (resolve_term around.scope low)) (value may v (resolve_term around.scope low))
-        (λ w. and_then (counting at.line (turns n) (loop_test may k closed (resolve_term around.scope high)) (λ t. and_then (run may calls turn t) (loop_step at.line k step)) (with_local k w u)) (run may calls rest))
-        (λ w. and_then (counting at.line (turns n) (loop_test may k closed (resolve_term around.scope high)) (λ t. and_then (run may calls' turn t) (loop_step at.line k step)) (with_local k w v)) (run may calls' rest))
+        (λ w. and_then (counting at.line (turns n) (loop_test may k closed (resolve_term around.scope high))
+        (λ t. and_then (run may calls turn t) (loop_step at.line k step)) (with_local k w u)) (run may calls rest))
+        (λ w. and_then (counting at.line (turns n) (loop_test may k closed (resolve_term around.scope high))
+        (λ t. and_then (run may calls' turn t) (loop_step at.line k step)) (with_local k w v)) (run may calls' rest))
         (value_tied around.scope locals numbered stale may u v t low (no_line_left (read_of locals stale low) (first_line (read_of locals next high) (read_in locals next body)) h.unread))
         (λ w. counting_tied Q at.line k step (turns n) closed high turn rest next fresh moves (no_line_left (read_of locals next high) (read_in locals next body) inner)
         (statement_tied (T next) body (n + 1) Done next turned (λ a b r. fine (more_stale next (behind_less locals body next) r))) go
@@ -235,7 +255,8 @@ module _ (around : Around) (locals : List Text) (numbered : Numbered around.scop
     statement_tied Q (input at name) n rest stale h go = input_step_tied Q rest stale at (meaning_of around.scope name) name (numbered.number name) h.moves go
     statement_tied Q (call at target callee arguments) n rest stale h go = λ u v t. absurd (true≢false h.alone)
 
-    statements_tied : (Q : ProgramState → ProgramState → Type 0) (ss : Statements) (n : ℕ) (rest : Steps) (stale : LocalSet) → AllTurned stale ss → Onward Q rest (behind_all locals stale ss) → Onward Q (resolve_statements around.scope turns n ss rest) stale
+    statements_tied : (Q : ProgramState → ProgramState → Type 0) (ss : Statements) (n : ℕ) (rest : Steps) (stale : LocalSet) → AllTurned stale ss →
+        Onward Q rest (behind_all locals stale ss) → Onward Q (resolve_statements around.scope turns n ss rest) stale
     statements_tied Q no_statements n rest stale h go = go
     statements_tied Q (next_statement first others) n rest stale h go =
         statement_tied Q first n (resolve_statements around.scope turns (n + loops_in first) others rest) stale (record {

@@ -1,7 +1,8 @@
 -- A program with tiles does what the program did.
 use Rattle.std.specs.Prelude.{slice_get}
 use Rattle.std.specs.Str.{bytes_eq}
-use Rattle.std.proofs.Common.{◌≡◌, ℕ, zero, suc, ◌+◌, ◌-◌, ◌<◌, ◌≤◌, Bool, true, false, cond, ◌||◌, List, [], ◌∷◌, ◌++◌, length, map, refl, ap, sym, ◌∙◌, subst, arith, Option, None, Some, option_map, IfSome, ◌⊎◌, inl, inr, ⊎_elim, true≢false}
+use Rattle.std.proofs.Common.{◌≡◌, ℕ, zero, suc, ◌+◌, ◌-◌, ◌<◌, ◌≤◌, Bool, true, false, cond, ◌||◌, List, [], ◌∷◌, ◌++◌, length, map, refl, ap, sym, ◌∙◌, subst, arith, Option}
+use Rattle.std.proofs.Common.{None, Some, option_map, IfSome, ◌⊎◌, inl, inr, ⊎_elim, true≢false}
 use Rattle.std.proofs.lemmas.List.{append-nil, length-map}
 use Rattle.std.proofs.lemmas.Bool.{cases_lt}
 use Rattle.std.proofs.lemmas.Slice.Eq.{bytes_eq-Decides}
@@ -17,16 +18,21 @@ use Rattle.prem_tiling.specs.Laws.Runs.{renumbered}
 use Rattle.prem_tiling.proofs.LawsLemmas.Formed.{none_left, none_right}
 use Rattle.prem_tiling.proofs.LawsLemmas.Alike.{Renamed}
 use Rattle.prem_tiling.proofs.LawsLemmas.Calls.{renumbered_below, renumbered_above, above_first}
-use Rattle.prem_tiling.proofs.LawsLemmas.Lists.{names_of_functions, or_behind, number_append, number_is, number_none, loops_of, functions_append, items_append, routines_count, function_any, in_items_append}
-use Rattle.prem_tiling.proofs.LawsLemmas.Placed.{has_not_left, flipped, same_name, used_not, item_of, tiled_append, plain_part, tiles_there, plain_functions, plain_globals, plain_names, tile_functions, functions_of_tiles, globals_of_tiles, tiles_count, tile_number, no_tile}
+use Rattle.prem_tiling.proofs.LawsLemmas.Lists.{names_of_functions, or_behind, number_append, number_is, number_none, loops_of, functions_append, items_append, routines_count}
+use Rattle.prem_tiling.proofs.LawsLemmas.Lists.{function_any, in_items_append}
+use Rattle.prem_tiling.proofs.LawsLemmas.Placed.{has_not_left, flipped, same_name, used_not, item_of, tiled_append, plain_part, tiles_there, plain_functions, plain_globals}
+use Rattle.prem_tiling.proofs.LawsLemmas.Placed.{plain_names, tile_functions, functions_of_tiles, globals_of_tiles, tiles_count, tile_number, no_tile}
 
 -- ---- finding and slicing
 
-find_skip : (n : ℕ) (xs ys : List FunctionText) (w : Text) → has_name (names_of_functions xs) w ≡ false → find_named (λ (f : FunctionText). f.name) w n (xs ++ ys) ≡ find_named (λ (f : FunctionText). f.name) w (n + length xs) ys
+find_skip : (n : ℕ) (xs ys : List FunctionText) (w : Text) → has_name (names_of_functions xs) w ≡ false →
+    find_named (λ (f : FunctionText). f.name) w n (xs ++ ys) ≡ find_named (λ (f : FunctionText). f.name) w (n + length xs) ys
 find_skip n [] ys w e = let z : n ≡ n + 0 = omega arith in ap (λ k. find_named (λ (f : FunctionText). f.name) w k ys) z
 find_skip n (x ∷ xs) ys w e = by (bytes_eq x.name w) e (find_skip (n + 1) xs ys w)
   where
-    by : (b : Bool) → (b || has_name (names_of_functions xs) w) ≡ false → (has_name (names_of_functions xs) w ≡ false → find_named (λ (f : FunctionText). f.name) w (n + 1) (xs ++ ys) ≡ find_named (λ (f : FunctionText). f.name) w (n + 1 + length xs) ys) →
+    by : (b : Bool) → (b || has_name (names_of_functions xs) w) ≡ false →
+        (has_name (names_of_functions xs) w ≡ false →
+        find_named (λ (f : FunctionText). f.name) w (n + 1) (xs ++ ys) ≡ find_named (λ (f : FunctionText). f.name) w (n + 1 + length xs) ys) →
         cond b (Some (n, x)) (find_named (λ (f : FunctionText). f.name) w (n + 1) (xs ++ ys)) ≡ find_named (λ (f : FunctionText). f.name) w (n + suc (length xs)) ys
     by true h next = absurd (true≢false h)
     by false h next = next h ∙ (let z : n + 1 + length xs ≡ n + suc (length xs) = omega arith in ap (λ k. find_named (λ (f : FunctionText). f.name) w k ys) z)
@@ -52,7 +58,8 @@ free_of names name (suc n) s e t low high = by (has_name names (tile_name name s
     by : (b : Bool) → has_name names (tile_name name s) ≡ b → cond b (Some (tile_name name s)) (taken_from names name (s + 1) n) ≡ None →
         (taken_from names name (s + 1) n ≡ None → (t : ℕ) → s + 1 ≤ t → t < s + 1 + n → has_name names (tile_name name t) ≡ false) → has_name names (tile_name name t) ≡ false
     by true is h next = cc
-    by false is h next = ⊎_elim (λ (lt : s < t). next h t (omega arith) (omega arith)) (λ (le : t ≤ s). let same : s ≡ t = omega arith in ap (λ k. has_name names (tile_name name k)) (sym same) ∙ is) (cases_lt s t)
+    by false is h next = ⊎_elim (λ (lt : s < t). next h t (omega arith) (omega arith))
+        (λ (le : t ≤ s). let same : s ≡ t = omega arith in ap (λ k. has_name names (tile_name name k)) (sym same) ∙ is) (cases_lt s t)
 
 -- ---- the functions by name
 
@@ -115,7 +122,8 @@ module _ (c : Cut) (front back : ProgramText) (several : 2 ≤ c.tiles) (few : c
   tile_unused : (t : ℕ) → t < c.tiles → has_name old_names (tile_name c.function.name t) ≡ false
   tile_unused t lt = ap (λ ns. has_name ns (tile_name c.function.name t)) (sym names_are) ∙ used_not p (tile_name c.function.name t) (free t lt)
 
-  new_number : (w : Text) (a b o : Option ℕ) → number_of (names_of_functions before) w ≡ a → number_of (names_of_functions (tile_functions c 0 c.tiles)) w ≡ b → number_of (names_of_functions after) w ≡ o →
+  new_number : (w : Text) (a b o : Option ℕ) → number_of (names_of_functions before) w ≡ a →
+      number_of (names_of_functions (tile_functions c 0 c.tiles)) w ≡ b → number_of (names_of_functions after) w ≡ o →
       number_named (functions_of q) w ≡ or_behind a first (or_behind b c.tiles o)
   new_number w a b o e f g =
       number_is (functions_of q) w ∙ ap (λ ns. number_of ns w) names_tiled ∙ number_append (names_of_functions before) (names_of_functions (tile_functions c 0 c.tiles) ++ names_of_functions after) w
@@ -125,7 +133,9 @@ module _ (c : Cut) (front back : ProgramText) (several : 2 ≤ c.tiles) (few : c
   tiles_named : (t : ℕ) → t < c.tiles → number_named (functions_of q) (tile_name c.function.name t) ≡ Some (first + t)
   tiles_named t lt =
       let w = tile_name c.function.name t in
-      new_number w None (Some t) (number_of (names_of_functions after) w) (number_none (names_of_functions before) w (has_not_left (names_of_functions before) (c.function.name ∷ names_of_functions after) w (tile_unused t lt)))
+      new_number w None (Some t) (number_of (names_of_functions after) w)
+      (number_none (names_of_functions before) w
+      (has_not_left (names_of_functions before) (c.function.name ∷ names_of_functions after) w (tile_unused t lt)))
       (let z : 0 + t ≡ t = omega arith in ap (λ k. number_of (names_of_functions (tile_functions c 0 c.tiles)) (tile_name c.function.name k)) (sym z) ∙ tile_number c c.tiles 0 t (omega arith) lt) refl
 
   found_here : (callee : Text) → bytes_eq callee c.function.name ≡ true → find_function (functions_of p) callee ≡ Some (first, c.function)
@@ -136,7 +146,8 @@ module _ (c : Cut) (front back : ProgramText) (several : 2 ≤ c.tiles) (few : c
       ∙ ap (λ b. cond b (Some (0 + first, c.function)) (find_named (λ (f : FunctionText). f.name) callee (0 + first + 1) after)) (ap (bytes_eq c.function.name) same ∙ same_name c.function.name)
       ∙ (let z : 0 + first ≡ first = omega arith in ap (λ k. Some (k, c.function)) z)
 
-  others_named : (callee : Text) (g : ℕ × FunctionText) → bytes_eq callee c.function.name ≡ false → find_function (functions_of p) callee ≡ Some g → (g.0 ≡ first → ⊥) × (number_named (functions_of q) callee ≡ Some (renumbered first c.tiles g.0))
+  others_named : (callee : Text) (g : ℕ × FunctionText) → bytes_eq callee c.function.name ≡ false → find_function (functions_of p) callee ≡ Some g →
+      (g.0 ≡ first → ⊥) × (number_named (functions_of q) callee ≡ Some (renumbered first c.tiles g.0))
   others_named callee g other found = by (number_of (names_of_functions before) callee) refl (number_of (names_of_functions after) callee) refl
     where
       old : number_of old_names callee ≡ Some g.0
@@ -161,14 +172,18 @@ module _ (c : Cut) (front back : ProgramText) (several : 2 ≤ c.tiles) (few : c
               let h : None ≡ Some g.0 = sym none ∙ old in
               cc
 
-      by : (a : Option ℕ) → number_of (names_of_functions before) callee ≡ a → (o : Option ℕ) → number_of (names_of_functions after) callee ≡ o → (g.0 ≡ first → ⊥) × (number_named (functions_of q) callee ≡ Some (renumbered first c.tiles g.0))
+      by : (a : Option ℕ) → number_of (names_of_functions before) callee ≡ a → (o : Option ℕ) → number_of (names_of_functions after) callee ≡ o →
+          (g.0 ≡ first → ⊥) × (number_named (functions_of q) callee ≡ Some (renumbered first c.tiles g.0))
       by (Some k) e o f =
           let same : k ≡ g.0 = (let h = parts (Some k) o e f in cc) in
           let lt = small k e in
           ((λ at. omega arith), new_number callee (Some k) None o e no_tile_here f ∙ ap Some (same ∙ sym (renumbered_below first c.tiles g.0 (omega arith))))
       by None e (Some j) f =
-          let same : first + suc j ≡ g.0 = (let h = parts None (Some j) e f in cc) in
-          ((λ at. omega arith), new_number callee None None (Some j) e no_tile_here f ∙ ap Some ((let z : first + (c.tiles + j) ≡ g.0 - 1 + c.tiles = omega arith in z) ∙ sym (renumbered_above first c.tiles g.0 (omega arith))))
+          let same : first + suc j ≡ g.0 = (let h = parts None (Some j) e f in cc) in (
+            (λ at. omega arith),
+            new_number callee None None (Some j) e no_tile_here f
+                ∙ ap Some ((let z : first + (c.tiles + j) ≡ g.0 - 1 + c.tiles = omega arith in z) ∙ sym (renumbered_above first c.tiles g.0 (omega arith))),
+          )
       by None e None f = (let h = parts None None e f in cc)
 
   pub renamed : Renamed c.function c.tiles first (functions_of p) (functions_of q)
@@ -196,10 +211,13 @@ module _ (c : Cut) (front back : ProgramText) (several : 2 ≤ c.tiles) (few : c
       pub there : o ≡ Some (resolve_function fs' all 0 globals (function_with_tiles c text))
       pub formed : in_function fs taken number (is_in_set within number) globals earlier text ≡ []
 
-    segment : (xs : ProgramText) (n m k : ℕ) (gs : List GlobalVariable) (earlier : List Text) → in_items fs taken within k gs earlier xs ≡ [] → (i : ℕ) (r : Routine) → slice_get (resolve_items fs all n gs xs) i ≡ Some r →
+    segment : (xs : ProgramText) (n m k : ℕ) (gs : List GlobalVariable) (earlier : List Text) → in_items fs taken within k gs earlier xs ≡ [] →
+        (i : ℕ) (r : Routine) → slice_get (resolve_items fs all n gs xs) i ≡ Some r →
         Seg r (slice_get (resolve_items fs' all m gs (map (item_of c) xs)) i)
     segment [] n m k gs earlier e i r h = cc
-    segment (global_item g ∷ xs) n m k gs earlier e i r h = segment xs n m k (gs ++ g ∷ []) (earlier ++ g.name ∷ []) (none_right (in_global earlier g) (in_items fs taken within k (gs ++ g ∷ []) (earlier ++ g.name ∷ []) xs) e) i r h
+    segment (global_item g ∷ xs) n m k gs earlier e i r h =
+        segment xs n m k (gs ++ g ∷ []) (earlier ++ g.name ∷ [])
+        (none_right (in_global earlier g) (in_items fs taken within k (gs ++ g ∷ []) (earlier ++ g.name ∷ []) xs) e) i r h
     segment (function_item f ∷ xs) n m k gs earlier e zero r h = record {
       globals = gs;
       text = f;
@@ -262,14 +280,18 @@ module _ (c : Cut) (front back : ProgramText) (several : 2 ≤ c.tiles) (few : c
 
     pub function_there : slice_get ps first ≡ Some (resolve_function fs all 0 gs c.function)
     function_there =
-        ap (λ rs. slice_get rs first) ps_are ∙ (let z : first ≡ length old_front + 0 = (let k = count_old in omega arith) in ap (slice_get (old_front ++ resolve_function fs all (0 + loops_of front) gs c.function ∷ resolve_items fs all (0 + loops_of front + loops_within c.function.body) gs back)) z)
+        ap (λ rs. slice_get rs first) ps_are
+        ∙ (let z : first ≡ length old_front + 0 = (let k = count_old in omega arith) in
+        ap (slice_get (old_front ++ resolve_function fs all (0 + loops_of front) gs c.function ∷ resolve_items fs all
+        (0 + loops_of front + loops_within c.function.body) gs back)) z)
         ∙ get_right old_front (resolve_function fs all (0 + loops_of front) gs c.function ∷ resolve_items fs all (0 + loops_of front + loops_within c.function.body) gs back) 0
         ∙ ap Some (function_any fs turns (0 + loops_of front) 0 gs c.function)
 
     tile_slice : (n s k m : ℕ) → k < n → slice_get (resolve_items fs' all m gs (tiles_from c s n)) k ≡ Some (resolve_function fs' all 0 gs (tile_of c (s + k)))
     tile_slice zero s k m lt = absurd (omega arith)
     tile_slice (suc n) s zero m lt = ap Some (function_any fs' turns m 0 gs (tile_of c s)) ∙ (let z : s ≡ s + 0 = omega arith in ap (λ t. Some (resolve_function fs' all 0 gs (tile_of c t))) z)
-    tile_slice (suc n) s (suc k) m lt = tile_slice n (s + 1) k (m + loops_within (tile_of c s).body) (omega arith) ∙ (let z : s + 1 + k ≡ s + suc k = omega arith in ap (λ t. Some (resolve_function fs' all 0 gs (tile_of c t))) z)
+    tile_slice (suc n) s (suc k) m lt = tile_slice n (s + 1) k (m + loops_within (tile_of c s).body) (omega arith)
+        ∙ (let z : s + 1 + k ≡ s + suc k = omega arith in ap (λ t. Some (resolve_function fs' all 0 gs (tile_of c t))) z)
 
     pub tile_there : (t : ℕ) → t < c.tiles → slice_get qs (first + t) ≡ Some (resolve_function fs' all 0 gs (tile_of c t))
     tile_there t lt =
@@ -291,15 +313,20 @@ module _ (c : Cut) (front back : ProgramText) (several : 2 ≤ c.tiles) (few : c
 
         by : (g < first) ⊎ (first ≤ g) → Seg r (slice_get qs (renumbered first c.tiles g))
         by (inl lt) =
-            let in_front : slice_get old_front g ≡ Some r = sym (get_left old_front (resolve_function fs all (0 + loops_of front) gs c.function ∷ resolve_items fs all (0 + loops_of front + loops_within c.function.body) gs back) g (let k = count_old in omega arith)) ∙ old in
-            let s = segment front 0 0 0 [] [] (none_left (in_items fs taken within 0 [] [] front) (in_items fs taken within (0 + first) gs ([] ++ item_names front) (function_item c.function ∷ back)) split) g r in_front in
+            let in_front : slice_get old_front g ≡ Some r =
+            sym (get_left old_front (resolve_function fs all (0 + loops_of front) gs c.function ∷ resolve_items fs all
+            (0 + loops_of front + loops_within c.function.body) gs back) g (let k = count_old in omega arith)) ∙ old in
+            let s = segment front 0 0 0 [] []
+            (none_left (in_items fs taken within 0 [] [] front)
+            (in_items fs taken within (0 + first) gs ([] ++ item_names front) (function_item c.function ∷ back)) split) g r in_front in
             record {
               globals = s.globals;
               text = s.text;
               earlier = s.earlier;
               number = s.number;
               is = s.is;
-              there = (λ i. slice_get (qs_are i) (renumbered_below first c.tiles g (omega arith) i)) ∙ get_more new_front (new_tiles ++ new_back) g (resolve_function fs' all 0 s.globals (function_with_tiles c s.text)) s.there;
+              there = (λ i. slice_get (qs_are i) (renumbered_below first c.tiles g (omega arith) i))
+                  ∙ get_more new_front (new_tiles ++ new_back) g (resolve_function fs' all 0 s.globals (function_with_tiles c s.text)) s.there;
               formed = s.formed;
             }
         by (inr le) =
@@ -308,10 +335,13 @@ module _ (c : Cut) (front back : ProgramText) (several : 2 ≤ c.tiles) (few : c
             let place : g ≡ length old_front + suc j = (let k = count_old in omega arith) in
             let in_back : slice_get (resolve_items fs all (0 + loops_of front + loops_within c.function.body) gs back) j ≡ Some r =
             sym (get_right old_front (resolve_function fs all (0 + loops_of front) gs c.function ∷ resolve_items fs all (0 + loops_of front + loops_within c.function.body) gs back) (suc j))
-            ∙ ap (slice_get (old_front ++ resolve_function fs all (0 + loops_of front) gs c.function ∷ resolve_items fs all (0 + loops_of front + loops_within c.function.body) gs back)) (sym place) ∙ old in
+            ∙ ap (slice_get (old_front ++ resolve_function fs all (0 + loops_of front) gs c.function ∷ resolve_items fs all
+            (0 + loops_of front + loops_within c.function.body) gs back)) (sym place) ∙ old in
             let s = segment back (0 + loops_of front + loops_within c.function.body) behind (0 + first + 1) gs ([] ++ item_names front ++ c.function.name ∷ [])
-            (none_right (in_function fs taken (0 + first) (is_in_set within (0 + first)) gs ([] ++ item_names front) c.function) (in_items fs taken within (0 + first + 1) gs ([] ++ item_names front ++ c.function.name ∷ []) back) rest) j r in_back in
-            let number : renumbered first c.tiles g ≡ length new_front + (length new_tiles + j) = renumbered_above first c.tiles g above ∙ (let k = count_new in let l = count_new_tiles in omega arith) in
+            (none_right (in_function fs taken (0 + first) (is_in_set within (0 + first)) gs ([] ++ item_names front) c.function)
+            (in_items fs taken within (0 + first + 1) gs ([] ++ item_names front ++ c.function.name ∷ []) back) rest) j r in_back in
+            let number : renumbered first c.tiles g ≡ length new_front + (length new_tiles + j) = renumbered_above first c.tiles g above
+            ∙ (let k = count_new in let l = count_new_tiles in omega arith) in
             record {
               globals = s.globals;
               text = s.text;

@@ -6,7 +6,8 @@ use Rattle.prem_word.specs.declared.kind.Kind.TheVariants.{Int}
 use Rattle.prem_word.specs.declared.kind.BinOp.TheVariants.{Add, Sub}
 use Rattle.prem_syntax.specs.declared.tree.Place.{Place}
 use Rattle.prem_syntax.specs.declared.tree.Ty.TheVariants.{Void, Int as IntTy}
-use Rattle.prem_syntax.specs.Syntax.{Text, Expression, literal, variable, element, binary, Statement, block, if_then, if_else, bounded_while, counting_for, assign, output, call, no_statements, absent, LocalVariable, RegionText, FunctionText, ItemText, ProgramText}
+use Rattle.prem_syntax.specs.Syntax.{Text, Expression, literal, variable, element, binary, Statement, block, if_then, if_else, bounded_while, counting_for, assign, output, call}
+use Rattle.prem_syntax.specs.Syntax.{no_statements, absent, LocalVariable, RegionText, FunctionText, ItemText, ProgramText}
 use Rattle.prem_syntax.specs.Resolve.{functions_of}
 use Rattle.prem_syntax.proofs.Samples.{at, statements, one_name, local, region, global, function, plain}
 use Rattle.prem_tiling.specs.Shapes.Shape.{Loop, shape_of, turns_of, marked_named}
@@ -83,7 +84,17 @@ eight_loop = record {
 
 abbrev pub eight_cut : Cut
 eight_cut = record {
-  function = record { at = p; mark = Some (record { stated = 900; regions = region p (codes "a") 0 7 ∷ [] }); ty = Void; name = codes "f"; params = []; locals = ints (codes "i" ∷ []); body = statements (loop 0 false 8 1 (set_a i i ∷ []) ∷ []); result = None };
+  function = record {
+    at = p;
+    mark = Some (record { stated = 900; regions = region p (codes "a") 0 7 ∷ [] });
+    ty = Void;
+    name = codes "f";
+    params =
+        [];
+    locals = ints (codes "i" ∷ []);
+    body = statements (loop 0 false 8 1 (set_a i i ∷ []) ∷ []);
+    result = None;
+  };
   loop = eight_loop;
   tiles = 2;
   stated = 700;
@@ -151,7 +162,8 @@ sum_is_carried : carried (set (codes "s") (plus s i) ∷ set_a i s ∷ []) ≡ S
 sum_is_carried = refl
 
 --   s = 0; for (j = 0; j < 3; j++) { s = s + a[i + j]; } a[i] = s;
-inner_sum_is_not : carried (set (codes "s") (n 0) ∷ counting_for p (one_name (codes "j")) (n 0) false (n 3) 1 (set (codes "s") (plus s (a_at (plus i (variable p (codes "j")))))) ∷ set_a i s ∷ []) ≡ None
+inner_sum_is_not : carried (set (codes "s") (n 0) ∷ counting_for p (one_name (codes "j")) (n 0) false (n 3) 1
+    (set (codes "s") (plus s (a_at (plus i (variable p (codes "j")))))) ∷ set_a i s ∷ []) ≡ None
 inner_sum_is_not = refl
 
 --   if (i) { s = 2; } else { s = i; } a[i] = s;

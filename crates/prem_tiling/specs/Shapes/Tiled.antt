@@ -4,7 +4,8 @@ use Rattle.std.specs.Option.{option_map}
 use Rattle.std.specs.List.{flat_map}
 use Rattle.std.specs.Str.{bytes_eq}
 use Rattle.prem_syntax.specs.declared.tree.Place.{Place}
-use Rattle.prem_syntax.specs.Syntax.{Text, Expression, literal, Statement, block, if_then, if_else, bounded_while, counting_for, assign, output, input, call, Statements, no_statements, next_statement, RegionText, MarkText, FunctionText, ItemText, global_item, function_item, ProgramText}
+use Rattle.prem_syntax.specs.Syntax.{Text, Expression, literal, Statement, block, if_then, if_else, bounded_while, counting_for, assign, output, input, call, Statements}
+use Rattle.prem_syntax.specs.Syntax.{no_statements, next_statement, RegionText, MarkText, FunctionText, ItemText, global_item, function_item, ProgramText}
 use Rattle.prem_syntax.specs.Breaches.{has_name, parameter_texts}
 use Rattle.prem_tiling.specs.Shapes.Shape.{Number, Loop, turns_of}
 use Rattle.prem_tiling.specs.Shapes.Carried.{names_of}

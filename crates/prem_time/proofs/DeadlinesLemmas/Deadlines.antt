@@ -65,15 +65,21 @@ loads_tell p cycles longest =
 
 -- ---- what jobs are served
 
-module _ (rule : ReplacementRule) (order : OrderRule) (passes : ℕ → ℕ) (p : Setup) (content : List ℕ) (own : ℕ → ℕ → Bool) (most : ℕ → JobLimits) (cycles longest : ℕ → ℕ) (promises : List (List ℕ) → ℕ → Promise) (limit : ℕ) (loads : List Load)
+module _ (rule : ReplacementRule) (order : OrderRule) (passes : ℕ → ℕ) (p : Setup) (content : List ℕ) (own : ℕ → ℕ → Bool) (most : ℕ → JobLimits)
+    (cycles longest : ℕ → ℕ) (promises : List (List ℕ) → ℕ → Promise) (limit : ℕ) (loads : List Load)
     (policy : IsPolicy rule order passes) (h : IsJoined passes p content own most promises limit)
-    (each_ : (inputs : List (List ℕ)) → AreInputs p inputs → (k : ℕ) → k < length p.tasks → TaskCharges p passes (own k) (run_in p content inputs k) (most k) (cycles k) (longest k) (promises inputs k)) (told : TellsCharges p cycles longest loads) where
+    (each_ : (inputs : List (List ℕ)) → AreInputs p inputs → (k : ℕ) → k < length p.tasks →
+    TaskCharges p passes (own k) (run_in p content inputs k) (most k) (cycles k) (longest k) (promises inputs k))
+    (told : TellsCharges p cycles longest loads) where
   pub costs_kept : KeepsCosts rule p content loads
   costs_kept inputs requests i t w n k job lt =
       (scripts_keep_charges rule order passes p content inputs requests own (run_in p content inputs)
-      (λ k. ((all_charged passes p content own most cycles longest promises limit h each_ inputs i).0 k).script) (λ k. ((all_charged passes p content own most cycles longest promises limit h each_ inputs i).0 k).scoping) loads n policy
+      (λ k. ((all_charged passes p content own most cycles longest promises limit h each_ inputs i).0 k).script)
+      (λ k. ((all_charged passes p content own most cycles longest promises limit h each_ inputs i).0 k).scoping) loads n policy
       (runs passes p content own most promises limit h requests t w) (are_scripts passes p content own most cycles longest promises limit h each_ inputs i)
-      (loads_join p (run_in p content inputs) (λ k. ((all_charged passes p content own most cycles longest promises limit h each_ inputs i).0 k).script) (λ k. ((all_charged passes p content own most cycles longest promises limit h each_ inputs i).0 k).scoping) cycles longest loads told
+      (loads_join p (run_in p content inputs)
+      (λ k. ((all_charged passes p content own most cycles longest promises limit h each_ inputs i).0 k).script)
+      (λ k. ((all_charged passes p content own most cycles longest promises limit h each_ inputs i).0 k).scoping) cycles longest loads told
       (λ k lt. let c = (all_charged passes p content own most cycles longest promises limit h each_ inputs i).1 k lt in (c.scoped, c.charged)))).2 k job lt
 
 pub sets_meet_deadlines_by_wcet : SetsMeetDeadlinesByWcet
@@ -83,14 +89,17 @@ sets_meet_deadlines_by_wcet set places values lawful none loads told =
     let passes : ℕ → ℕ = passes_of set.plant.policy in
     let same = as_stubs_make set.plant.policy set.plant.ways in
     let meant = tasks_are_meant set places g in
-    let joined = laid_out_images_join passes set.plant set.devices (coded_in set) places (promises_at set places) laid (meant_tasks_join passes set.plant set.devices (coded_in set) places (promises_at set places) laid same meant) in
+    let joined = laid_out_images_join passes set.plant set.devices (coded_in set) places (promises_at set places) laid
+    (meant_tasks_join passes set.plant set.devices (coded_in set) places (promises_at set places) laid same meant) in
     let each_ = meant_tasks_go_by_wcet passes set.plant set.devices (coded_in set) places (promises_at set places) laid same meant in
-    let both = joined_images_go_by_charges (rule_of set.plant.policy) (order_rule_of set.plant.policy) passes _ _ _ _ (wcet_at set.plant (placed_by set places)) (stretch_at set.plant (placed_by set places)) (promises_at set places) _ loads
+    let both = joined_images_go_by_charges (rule_of set.plant.policy) (order_rule_of set.plant.policy) passes _ _ _ _
+    (wcet_at set.plant (placed_by set places)) (stretch_at set.plant (placed_by set places)) (promises_at set places) _ loads
     (kind_policy set.plant.policy) joined each_ told in (
       both.0,
       (
         both.1,
-        costs_kept (rule_of set.plant.policy) (order_rule_of set.plant.policy) passes _ _ _ _ (wcet_at set.plant (placed_by set places)) (stretch_at set.plant (placed_by set places)) (promises_at set places) _ loads
+        costs_kept (rule_of set.plant.policy) (order_rule_of set.plant.policy) passes _ _ _ _ (wcet_at set.plant (placed_by set places))
+            (stretch_at set.plant (placed_by set places)) (promises_at set places) _ loads
             (kind_policy set.plant.policy) joined each_ told,
       ),
     )

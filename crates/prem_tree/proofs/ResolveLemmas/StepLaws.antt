@@ -92,7 +92,8 @@ AreSteps_more scope stmts i stmt ss s inside is hs h =
     }
 
 -- a function in memory whose parts are resolved
-pub IsRoutine_made : (text : Bor Function) (locals : Sequence TermTree) (body : Sequence Step) (result : Option TermTree) (functions : List FunctionText) (globals : List GlobalVariable) (first inner : Scope) →
+pub IsRoutine_made : (text : Bor Function) (locals : Sequence TermTree) (body : Sequence Step) (result : Option TermTree)
+    (functions : List FunctionText) (globals : List GlobalVariable) (first inner : Scope) →
     first ≡ scope_at functions globals (function_of text.now) → inner ≡ scope_in functions globals (function_of text.now) →
     map term_of (items_of locals) ≡ resolve_locals first (function_of text.now).locals →
     AreSteps (items_of body) (λ turns n. resolve_statements inner turns n (function_of text.now).body) (loops_within (function_of text.now).body) →

@@ -7,9 +7,11 @@ use Rattle.prem_syntax.specs.SyntaxOf.{global_of, function_of}
 use Rattle.prem_syntax.specs.Resolve.{loops_within, resolve_function, resolve_items, resolve}
 use Rattle.prem_syntax.specs.Resolved.{Term, Constant, Local, Scalar, Element, Unary, operator, Steps, Done, SetLocal, SetScalar, SetElement, Output, Input, If, For, While, Call, Routine, Resolved}
 use Rattle.prem_tree.specs.declared.resolve.resolved.Term.{Term as TermTree}
-use Rattle.prem_tree.specs.declared.resolve.resolved.Term.TheVariants.{Constant as ConstantTree, Local as LocalTree, Scalar as ScalarTree, Element' as ElementTree, Unary' as UnaryTree, Binary' as BinaryTree}
+use Rattle.prem_tree.specs.declared.resolve.resolved.Term.TheVariants.{Constant as ConstantTree, Local as LocalTree, Scalar as ScalarTree, Element' as ElementTree}
+use Rattle.prem_tree.specs.declared.resolve.resolved.Term.TheVariants.{Unary' as UnaryTree, Binary' as BinaryTree}
 use Rattle.prem_tree.specs.declared.resolve.resolved.Step.{Step, Row_of-Step, end_of-Step, more_of-Step}
-use Rattle.prem_tree.specs.declared.resolve.resolved.Step.TheVariants.{Block', SetLocal as SetLocalTree, SetScalar as SetScalarTree, SetElement as SetElementTree, Output as OutputTree, Input as InputTree, If', For', While', Call as CallTree}
+use Rattle.prem_tree.specs.declared.resolve.resolved.Step.TheVariants.{Block', SetLocal as SetLocalTree, SetScalar as SetScalarTree, SetElement as SetElementTree}
+use Rattle.prem_tree.specs.declared.resolve.resolved.Step.TheVariants.{Output as OutputTree, Input as InputTree, If', For', While', Call as CallTree}
 use Rattle.prem_tree.specs.declared.resolve.resolved.Routine.{Routine as RoutineTree}
 use Rattle.prem_tree.specs.declared.resolve.resolved.Resolved.{Resolved as ResolvedTree}
 

@@ -15,7 +15,8 @@ use Rattle.prem_analysis.proofs.analysing.bounds_of.Goals as goal
 pub told-requires : goal.told-requires
 told-requires c =
     let p = program_of c.program-program.result.now in
-    told_named p (found_of c.in_ok-seen.seen.found) (breach_of c.in-Some.broken) c.program-program.ensures.well_formed c.have_words.ensures c.in_ok-seen.ensures.found (ap (λ (o : Option Broken). found_of o) c.in-Some.is)
+    told_named p (found_of c.in_ok-seen.seen.found) (breach_of c.in-Some.broken)
+    c.program-program.ensures.well_formed c.have_words.ensures c.in_ok-seen.ensures.found (ap (λ (o : Option Broken). found_of o) c.in-Some.is)
 
 pub returns-in-None : goal.returns-in-None
 returns-in-None c =

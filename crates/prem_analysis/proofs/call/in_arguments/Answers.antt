@@ -20,7 +20,9 @@ loop-i-preserved c =
     record {
       known = c.in_ok-in_term.ensures.env ∙ same;
       seen = ap (λ (x : Option RangeBreach). first x rest)
-          (c.earlier-found-in-loop-i.ensures ∙ ap (λ (x : Option RangeBreach). first x (found_of c.in_ok-in_term.field-0)) (c.earlier-found.ensures ∙ ap (first o) (c.in_given.ensures ∙ ap (λ v. first_of (in_given at v (term_of e) p)) same))
+          (c.earlier-found-in-loop-i.ensures
+          ∙ ap (λ (x : Option RangeBreach). first x (found_of c.in_ok-in_term.field-0))
+          (c.earlier-found.ensures ∙ ap (first o) (c.in_given.ensures ∙ ap (λ v. first_of (in_given at v (term_of e) p)) same))
           ∙ ap (first (first o (first_of (in_given at env (term_of e) p)))) (c.in_ok-in_term.ensures.found ∙ ap (λ v. first_of (in_term site v (term_of e))) same))
           ∙ next_argument at site env es ps i e o (omega arith) c.index-es-i.is ∙ c.loop-i.invariant.seen;
     }

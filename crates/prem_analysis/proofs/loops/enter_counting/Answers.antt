@@ -30,8 +30,12 @@ returns c =
     (c.turn_bound-bound.ensures ∙ ap (λ z. turn_bound first.lo z l.step) end) c.times-product.ensures c.in_ok-see_counting.ensures.env in
     record {
       around = h.product_is;
-      behind = behind_saved ks (saves_of c.in_ok-behind.behind.items) h (c.in_ok-behind.ensures.behind ∙ ap (λ z. saved_few (at_local l.number (with_range (range_behind first z l.step)) known) ks) end);
+      behind = behind_saved ks (saves_of c.in_ok-behind.behind.items) h
+          (c.in_ok-behind.ensures.behind ∙ ap (λ z. saved_few (at_local l.number (with_range (range_behind first z l.step)) known) ks) end);
       env = body_known (env_of c.enter_body.new.env.items) h (c.in_ok-behind.ensures.env ∙ ap (λ z. at_local l.number (with_range (body_range first z)) known) end);
-      seen = head_seen (site_of c.args.site.now) l.at (found_of c.in_counting_loop-own.result) (found_of c.in_ok-in_low.in_low) (env_of c.at_counting.new.env.items) (seen_of c.args.seen.now) (seen_of c.see_counting.new.seen)
-          h c.in_ok-see_counting.ensures.env (c.in_counting_loop-own.ensures ∙ ap (λ z. first_of (in_counting_loop l.at z l.step c.times-product.result)) end) c.in_ok-in_low.ensures.found c.in_ok-see_counting.ensures.seen;
+      seen = head_seen (site_of c.args.site.now) l.at (found_of c.in_counting_loop-own.result) (found_of c.in_ok-in_low.in_low)
+          (env_of c.at_counting.new.env.items) (seen_of c.args.seen.now) (seen_of c.see_counting.new.seen)
+          h c.in_ok-see_counting.ensures.env
+          (c.in_counting_loop-own.ensures ∙ ap (λ z. first_of (in_counting_loop l.at z l.step c.times-product.result)) end)
+          c.in_ok-in_low.ensures.found c.in_ok-see_counting.ensures.seen;
     }

@@ -16,7 +16,8 @@ use Rattle.prem_analysis.proofs.steps.+walking.Goals as goal
 pub walk-returns-in_ok-walk_all-in-Block-clause-env : goal.walk-returns-in_ok-walk_all-in-Block-clause-env
 walk-returns-in_ok-walk_all-in-Block-clause-env t c =
     let env = env_of c.args.env.now.items in
-    c.in_ok-walk_all-in-Block.ensures.env ∙ ap (λ (l : List Step). after env (plain_list l)) c.items.ensures ∙ sym (ap (after env) (block_is c.in-Block.body)) ∙ sym (ap (λ (x : Step). after env (plain x)) c.in-Block.is)
+    c.in_ok-walk_all-in-Block.ensures.env ∙ ap (λ (l : List Step). after env (plain_list l)) c.items.ensures
+    ∙ sym (ap (after env) (block_is c.in-Block.body)) ∙ sym (ap (λ (x : Step). after env (plain x)) c.in-Block.is)
 
 pub walk-returns-in_ok-walk_all-in-Block-clause-seen : goal.walk-returns-in_ok-walk_all-in-Block-clause-seen
 walk-returns-in_ok-walk_all-in-Block-clause-seen t c =
@@ -29,7 +30,8 @@ walk-returns-in_ok-walk-in-If-2 t c =
     let site = site_of c.args.site.now in let around = c.args.around in let env = env_of c.args.env.now.items in let s = seen_of c.args.seen.now in
     let condition = term_of c.in-If.condition in let taken = c.in-If.taken.value in let other = c.in-If.other.value in
     let inner = env_of c.enter_if.new.env.items in let behind_taken = env_of c.walk.new.env.items in let right = env_of c.enter_other.new.env.items in
-    let right_is = if_other_known env inner behind_taken right condition taken other c.deref.result.now c.deref-in-If.result.now c.deref-in-If-2.result.now (saves_of c.in_ok-arms-in-If.arms.before.items)
+    let right_is = if_other_known env inner behind_taken right condition taken other c.deref.result.now c.deref-in-If.result.now
+    c.deref-in-If-2.result.now (saves_of c.in_ok-arms-in-If.arms.before.items)
     c.in_ok-arms-in-If.ensures.before c.in_ok-arms-in-If.ensures.env c.in_ok-walk-in-If.ensures.env c.in_ok-behind-in-If.ensures.env c.deref.ensures c.deref-in-If.ensures c.deref-in-If-2.ensures in
     record {
       env = if_known env inner behind_taken right (env_of c.walk-in-If.new.env.items) (env_of c.at_either.new.env.items) c.in-If.at condition taken other
@@ -74,11 +76,13 @@ walk-returns-in_ok-walk-in-While t c =
           ∙ sym (ap (λ (x : Step). after env (plain x)) c.in-While.is);
       seen = while_arm site around c.in_ok-inner-in-While.inner.around env inner c.in-While.at c.in-While.turns condition
           c.deref-in-While.result.now c.deref-in-While-2.result.now c.in-While.body.value (seen_of c.enter_while.new.seen) (seen_of c.walk-in-While.new.seen) s
-          c.in_ok-inner-in-While.ensures.around c.in_ok-inner-in-While.ensures.env c.in_ok-inner-in-While.ensures.seen c.in_ok-walk-in-While.ensures.seen c.deref-in-While.ensures c.deref-in-While-2.ensures
+          c.in_ok-inner-in-While.ensures.around c.in_ok-inner-in-While.ensures.env c.in_ok-inner-in-While.ensures.seen
+          c.in_ok-walk-in-While.ensures.seen c.deref-in-While.ensures c.deref-in-While-2.ensures
           ∙ sym (ap (λ (x : Step). behind site around env (plain x) s) c.in-While.is);
     }
 
 pub walk_all-loop-s-preserved : goal.walk_all-loop-s-preserved
 walk_all-loop-s-preserved t c =
-    walked_on (site_of c.args.site.now) c.args.around c.args.steps.now c.loop-s.s-index c.s-item.result (env_of c.loop-s.env.items) (env_of c.walk.new.env.items) (env_of c.args.env.now.items) (seen_of c.loop-s.seen) (seen_of c.walk.new.seen) (seen_of c.args.seen.now)
+    walked_on (site_of c.args.site.now) c.args.around c.args.steps.now c.loop-s.s-index c.s-item.result (env_of c.loop-s.env.items)
+    (env_of c.walk.new.env.items) (env_of c.args.env.now.items) (seen_of c.loop-s.seen) (seen_of c.walk.new.seen) (seen_of c.args.seen.now)
     (omega arith) c.s-item.is c.loop-s.invariant c.in_ok-walk.ensures.env c.in_ok-walk.ensures.seen

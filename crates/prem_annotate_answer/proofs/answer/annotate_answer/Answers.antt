@@ -18,4 +18,5 @@ returns-clause-answer g c =
     let set = set_of c.in-Ok.set in
     let told : Option Files = g.S.Store.files c.args.store.now in
     let result = c.set_answer.result in
-    pass_goes told (reading_set c.args.name.now) (behind_set c.args.task.now) told set result refl c.in-Ok.ensures.set (given_at_once told (annotate_reply c.args.task.now set) result c.set_answer.ensures.answer)
+    pass_goes told (reading_set c.args.name.now) (behind_set c.args.task.now) told set result refl c.in-Ok.ensures.set
+    (given_at_once told (annotate_reply c.args.task.now set) result c.set_answer.ensures.answer)

@@ -8,6 +8,7 @@ use Rattle.prem_annotate_answer.proofs.lengths.all_lengthened.Given as goal
 abbrev pub invariant-loop-one : goal.invariant-loop-one
 invariant-loop-one l =
     record {
-      notes : map notes_in l.all.items ++ all_lengthened (length_told (map bounds_of l.bounds)) l.n (map notes_in (into_iter_items l.one-iterator)) ≡ all_lengthened (length_told (map bounds_of l.bounds)) 0 (map notes_in l.fn.notes.items);
+      notes : map notes_in l.all.items ++ all_lengthened (length_told (map bounds_of l.bounds)) l.n (map notes_in (into_iter_items l.one-iterator))
+          ≡ all_lengthened (length_told (map bounds_of l.bounds)) 0 (map notes_in l.fn.notes.items);
       count : l.n + length (into_iter_items l.one-iterator) ≡ length l.fn.notes.items;
     }

@@ -7,4 +7,5 @@ use Rattle.prem_annotate_answer.proofs.lengths.lengths_of.Goals as goal
 pub loop-n-preserved : goal.loop-n-preserved
 loop-n-preserved c =
     let facts = map numbered c.args.facts.now in
-    one_more facts c.loop-n.lengths.items c.push.new.self.items c.loop-n.n c.args.count c.length_in.result (lengths_from facts 0 c.args.count) c.loop-n-test.true c.loop-n.invariant c.in_ok-push.ensures.items c.length_in.ensures
+    one_more facts c.loop-n.lengths.items c.push.new.self.items c.loop-n.n c.args.count c.length_in.result (lengths_from facts 0 c.args.count)
+    c.loop-n-test.true c.loop-n.invariant c.in_ok-push.ensures.items c.length_in.ensures

@@ -28,11 +28,13 @@ returns-in_err-new c =
     let set = set_of c.args.set.now in
     let ranged = are_ranged set c.args.programs.now c.requires c.in_ok-other_rules.ensures in
     rw (p.1, p.2)
-    (stops_at_rules annotated_text set c.args.programs.now (set_of c.in_ok-first.first) (set_of c.in_ok-last.last) c.in_err-new.field-0.0 c.requires ranged c.in_ok-first.ensures c.in_ok-bounds.ensures.lawful c.in_ok-last.ensures c.in_err-new.ensures.ends)
+    (stops_at_rules annotated_text set c.args.programs.now (set_of c.in_ok-first.first) (set_of c.in_ok-last.last)
+    c.in_err-new.field-0.0 c.requires ranged c.in_ok-first.ensures c.in_ok-bounds.ensures.lawful c.in_ok-last.ensures c.in_err-new.ensures.ends)
 
 pub returns : goal.returns
 returns c =
     let set = set_of c.args.set.now in
     let ranged = are_ranged set c.args.programs.now c.requires c.in_ok-other_rules.ensures in
-    set_is_annotated annotated_text set c.args.programs.now (set_of c.in_ok-first.first) (set_of c.in_ok-last.last) (set_of c.in_ok-new.new) c.requires ranged c.in_ok-first.ensures c.in_ok-bounds.ensures.lawful c.in_ok-last.ensures
+    set_is_annotated annotated_text set c.args.programs.now (set_of c.in_ok-first.first) (set_of c.in_ok-last.last) (set_of c.in_ok-new.new)
+    c.requires ranged c.in_ok-first.ensures c.in_ok-bounds.ensures.lawful c.in_ok-last.ensures
     c.in_ok-new.ensures.same c.in_ok-new.ensures.ends

@@ -17,7 +17,8 @@ pub noted_set-requires-clause-noted : goal.noted_set-requires-clause-noted
 noted_set-requires-clause-noted c =
     let old = c.args.notes.items in
     let new = c.in_ok-lengthened.lengthened.items in
-    let same : length new ≡ length old = sym (length-map new notes_in) ∙ ap length c.in_ok-lengthened.ensures ∙ all_count (length_told (map bounds_of c.args.bounds.now)) 0 (map notes_in old) ∙ length-map old notes_in in
+    let same : length new ≡ length old = sym (length-map new notes_in) ∙ ap length c.in_ok-lengthened.ensures
+    ∙ all_count (length_told (map bounds_of c.args.bounds.now)) 0 (map notes_in old) ∙ length-map old notes_in in
     ap length c.deref.ensures.value ∙ same ∙ as_many_notes notes_in (set_of c.args.set.now) c.args.programs.now old c.requires.formed c.requires.notes
 
 pub returns : goal.returns
@@ -25,6 +26,7 @@ returns c =
     let set = set_of c.args.set.now in
     let told = map bounds_of c.args.bounds.now in
     let more = map notes_in c.deref.result.now in
-    let put : more ≡ all_lengthened (length_told told) 0 (map notes_in c.args.notes.items) = ap (λ (ns : List (Vec FunctionNotes Global)). map notes_in ns) c.deref.ensures.value ∙ c.in_ok-lengthened.ensures in
+    let put : more ≡ all_lengthened (length_told told) 0 (map notes_in c.args.notes.items) =
+    ap (λ (ns : List (Vec FunctionNotes Global)). map notes_in ns) c.deref.ensures.value ∙ c.in_ok-lengthened.ensures in
     c.in_ok-new.ensures
     ∙ noted_last annotated_text set c.args.programs.now (unlengthened annotated_text set) (map notes_in c.args.notes.items) more told c.requires.formed c.requires.notes refl c.requires.bounds put

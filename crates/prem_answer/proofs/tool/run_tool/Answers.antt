@@ -14,7 +14,8 @@ finish-requires-in-Err-Answered g c =
 
 pub returns-in-Ok-clause-answered : goal.returns-in-Ok-clause-answered
 returns-in-Ok-clause-answered g c =
-    given_is_answered g.T.Tool.meaning c.requires (map string_bytes c.args.words.now) (g.S.Store.files c.args.store.now) (Ok (reply_of c.in-Ok.answer)) _ _ _ c.in-Ok.ensures.answer c.finish.ensures.ends
+    given_is_answered g.T.Tool.meaning c.requires (map string_bytes c.args.words.now) (g.S.Store.files c.args.store.now)
+    (Ok (reply_of c.in-Ok.answer)) _ _ _ c.in-Ok.ensures.answer c.finish.ensures.ends
 
 pub returns-in-Err-Answered-clause-answered : goal.returns-in-Err-Answered-clause-answered
 returns-in-Err-Answered-clause-answered g c =

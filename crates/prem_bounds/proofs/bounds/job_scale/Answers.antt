@@ -23,8 +23,10 @@ loop-n-preserved c =
     let long : length (listed code) ≡ length code = listed_long code in
     let small : n < 256 = omega (arith, ap length c.items-code.ensures, c.requires.table.code) in
     subst (P (slice_set c.loop-n.functions n c.weight_in.result) (n + 1)) (sym long)
-    (job_step c.args.p.now plans (listed code) c.loop-n.functions c.marked_weights-stubs.result n c.weight_in.result (length code) c.from-miss.result (pieces_of c.items.result.now) c.from-miss.ensures (omega arith) small
+    (job_step c.args.p.now plans (listed code) c.loop-n.functions c.marked_weights-stubs.result n c.weight_in.result (length code) c.from-miss.result
+    (pieces_of c.items.result.now) c.from-miss.ensures (omega arith) small
     (subst (P c.loop-n.functions n) long c.loop-n.invariant) c.marked_weights-stubs.ensures c.weight_in.ensures item)
 
 pub returns-clause-functions : goal.returns-clause-functions
-returns-clause-functions c = job_all c.args.p.now (map plan_of c.args.plans.now) c.args.table.now c.items-code.result.now c.loop-n.functions c.loop-n.n c.items-code.ensures (omega arith) c.loop-n.invariant
+returns-clause-functions c = job_all c.args.p.now (map plan_of c.args.plans.now)
+    c.args.table.now c.items-code.result.now c.loop-n.functions c.loop-n.n c.items-code.ensures (omega arith) c.loop-n.invariant

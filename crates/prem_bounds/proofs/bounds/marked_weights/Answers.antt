@@ -13,5 +13,6 @@ loop-k-preserved c =
     let plans = c.args.plans.now in
     let k = c.loop-k.k in
     let item = c.index-plans-k.result in
-    marked_step c.args.p.now (map plan_of plans) k c.marked_weight.result c.loop-k.weights (plan_of item) (omega (arith, plans_long plans)) (omega arith) c.loop-k.invariant c.marked_weight.ensures.weight c.marked_weight.ensures.small
+    marked_step c.args.p.now (map plan_of plans) k c.marked_weight.result c.loop-k.weights (plan_of item) (omega (arith, plans_long plans))
+    (omega arith) c.loop-k.invariant c.marked_weight.ensures.weight c.marked_weight.ensures.small
     (plan_item plans k item (omega arith) c.index-plans-k.is)

@@ -20,7 +20,8 @@ returns-then-longest-clause-large c =
       marked = r.marked;
       functions = r.functions;
     } in
-    let told = longest_told c.args.p.now (map plan_of c.args.plans.now) (table_of c.args.code.now) c.reach_of-reach.result c.start_sums.result c.greatest-stretch.result c.greatest_stated-stated.result c.plus-longest.result reach
+    let told = longest_told c.args.p.now (map plan_of c.args.plans.now) (table_of c.args.code.now)
+    c.reach_of-reach.result c.start_sums.result c.greatest-stretch.result c.greatest_stated-stated.result c.plus-longest.result reach
     c.start_sums.ensures c.greatest-stretch.ensures c.greatest_stated-stated.ensures.stated (omega (arith, c.plus-longest.ensures, c.from.ensures, c.max.ensures)) in
     omega (arith, told, c.if-longest.true)
 
@@ -41,7 +42,8 @@ returns-else-longest-clause-longest c =
       marked = r.marked;
       functions = r.functions;
     } in
-    let told = longest_told c.args.p.now (map plan_of c.args.plans.now) (table_of c.args.code.now) c.reach_of-reach.result c.start_sums.result c.greatest-stretch.result c.greatest_stated-stated.result c.plus-longest.result reach
+    let told = longest_told c.args.p.now (map plan_of c.args.plans.now) (table_of c.args.code.now)
+    c.reach_of-reach.result c.start_sums.result c.greatest-stretch.result c.greatest_stated-stated.result c.plus-longest.result reach
     c.start_sums.ensures c.greatest-stretch.ensures c.greatest_stated-stated.ensures.stated (omega (arith, c.plus-longest.ensures, c.from.ensures, c.max.ensures)) in
     omega (arith, told, c.if-longest.false)
 

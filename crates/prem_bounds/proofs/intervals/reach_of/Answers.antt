@@ -31,4 +31,5 @@ loop-n-preserved c =
     (subst (P c.loop-n.functions n) count c.loop-n.invariant) c.sums_through.ensures item)
 
 pub returns-clause-functions : goal.returns-clause-functions
-returns-clause-functions c = job_all c.args.p.now (map plan_of c.args.plans.now) c.args.table.now c.items-code.result.now c.loop-n.functions c.loop-n.n c.items-code.ensures (omega arith) c.loop-n.invariant
+returns-clause-functions c = job_all c.args.p.now (map plan_of c.args.plans.now)
+    c.args.table.now c.items-code.result.now c.loop-n.functions c.loop-n.n c.items-code.ensures (omega arith) c.loop-n.invariant

@@ -19,4 +19,5 @@ returns-clause-answer g c =
     let set = set_of c.in-Ok.set in
     let told : Option Files = g.S.Store.files c.args.store.now in
     let result = c.compiled_answer.result in
-    pass_goes told (reading_set c.args.name.now) (behind_set c.args.sheet) told set result refl c.in-Ok.ensures.set (given_at_once told (compiled_reply c.args.sheet set) result c.compiled_answer.ensures.answer)
+    pass_goes told (reading_set c.args.name.now) (behind_set c.args.sheet) told set result refl c.in-Ok.ensures.set
+    (given_at_once told (compiled_reply c.args.sheet set) result c.compiled_answer.ensures.answer)

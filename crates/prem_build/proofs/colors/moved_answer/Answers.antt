@@ -27,7 +27,8 @@ pub returns-in-Ok-clause-answer : goal.returns-in-Ok-clause-answer
 returns-in-Ok-clause-answer c =
     let set = set_of c.args.set.now in
     comes_as reply_of (λ given. given ≡ Ok (placed_reply set c.in-Ok.layout)) (λ given. given ≡ Ok (moved_reply set (found_places set))) c.placed_answer.result
-    (λ given is. placed_is set c.args.parts.now c.requires c.items.result.now c.items-2.result.now c.plant.result.now c.items.ensures c.items-2.ensures c.plant.ensures.plant c.in-Ok.layout given c.plant.ensures.ranges c.in-Ok.ensures.places is)
+    (λ given is. placed_is set c.args.parts.now c.requires c.items.result.now c.items-2.result.now c.plant.result.now c.items.ensures
+    c.items-2.ensures c.plant.ensures.plant c.in-Ok.layout given c.plant.ensures.ranges c.in-Ok.ensures.places is)
     c.placed_answer.ensures.answer
 
 pub returns-in_ok-stuck-in-Err-NoOffset-clause-answer : goal.returns-in_ok-stuck-in-Err-NoOffset-clause-answer

@@ -32,7 +32,8 @@ loop-local-preserved c =
       found =
           ap (λ s. first new (first_of (in_locals (taken_of items s) s rest))) added
           ∙ ap (λ ts. first new (first_of (in_locals ts (declared scope (local_of l)) rest))) (taken_more items scope name l.ty)
-          ∙ next old new (in_declared taken l.at l.ty name ++ in_expression scope (local_of l).value) (in_locals (taken ++ name ∷ []) (declared scope (local_of l)) rest) (c.earlier-found.ensures ∙ ap (first old) c.in_local.ensures)
+          ∙ next old new (in_declared taken l.at l.ty name ++ in_expression scope (local_of l).value)
+          (in_locals (taken ++ name ∷ []) (declared scope (local_of l)) rest) (c.earlier-found.ensures ∙ ap (first old) c.in_local.ensures)
           ∙ ap (λ xs. first old (first_of (in_locals taken scope (map local_of xs)))) (sym left) ∙ c.loop-local.invariant.found;
       names =
           added ∙ ap (λ s. with_locals s ((name, l.ty) ∷ [])) c.loop-local.invariant.names

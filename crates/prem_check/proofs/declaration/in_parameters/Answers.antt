@@ -33,7 +33,8 @@ loop-param-preserved c =
       found =
           ap (λ s. first new (first_of (in_parameters (taken_of items s) rest))) added
           ∙ ap (λ ts. first new (first_of (in_parameters ts rest))) (taken_more items scope name p.ty)
-          ∙ next old new (in_declared taken p.at p.ty name ++ if_at (not (is_range p.ty p.range)) p.at (OfTypes Range)) (in_parameters (taken ++ name ∷ []) rest) (c.earlier-found.ensures ∙ ap (first old) c.in_parameter.ensures)
+          ∙ next old new (in_declared taken p.at p.ty name ++ if_at (not (is_range p.ty p.range)) p.at (OfTypes Range))
+          (in_parameters (taken ++ name ∷ []) rest) (c.earlier-found.ensures ∙ ap (first old) c.in_parameter.ensures)
           ∙ ap (λ xs. first old (first_of (in_parameters taken (map parameter_of xs)))) (sym left) ∙ c.loop-param.invariant.found;
       names =
           added ∙ ap (λ s. with_locals s ((name, p.ty) ∷ [])) c.loop-param.invariant.names

@@ -16,5 +16,6 @@ loop-e-preserved c =
     let e = c.e-item.result in
     let old = found_of c.loop-e.found in
     let left : drop i es ≡ e ∷ drop (i + 1) es = drop_more es i e (omega arith) ∙ ap (λ x. x ∷ drop (i + 1) es) (sym c.e-item.is) in
-    next old (found_of c.earlier-found.result) (in_expression scope (expression_of e)) (in_expressions scope (map expression_of (drop (i + 1) es))) (c.earlier-found.ensures ∙ ap (first old) c.in_expression.ensures)
+    next old (found_of c.earlier-found.result) (in_expression scope (expression_of e)) (in_expressions scope (map expression_of (drop (i + 1) es)))
+    (c.earlier-found.ensures ∙ ap (first old) c.in_expression.ensures)
     ∙ ap (λ xs. first old (first_of (in_expressions scope (map expression_of xs)))) (sym left) ∙ c.loop-e.invariant

@@ -25,7 +25,8 @@ returns-clause-found c =
     let none : Scope = record old { locals = [] } in
     let is_none : scope_of c.drop_locals.new.self ≡ none = c.drop_locals.ensures in
     let is_first : scope_of c.in_parameters.new.names ≡ at_first =
-    c.in_ok-params.ensures.names ∙ ap (λ s. with_locals s (parameter_names (map parameter_of c.items.result.now))) is_none ∙ ap (λ ps. with_locals none (parameter_names (map parameter_of ps))) c.items.ensures in
+    c.in_ok-params.ensures.names ∙ ap (λ s. with_locals s (parameter_names (map parameter_of c.items.result.now))) is_none
+    ∙ ap (λ ps. with_locals none (parameter_names (map parameter_of ps))) c.items.ensures in
     let is_inner : scope_of c.in_locals.new.names ≡ inner =
     c.in_ok-locals.ensures.names ∙ ap (λ s. with_locals s (local_names (map local_of c.items-2.result.now))) is_first
     ∙ ap (λ ls. with_locals at_first (local_names (map local_of ls))) c.items-2.ensures in

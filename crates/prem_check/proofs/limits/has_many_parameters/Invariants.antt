@@ -6,4 +6,5 @@ use Rattle.prem_check.proofs.limits.has_many_parameters.Given as goal
 
 abbrev pub invariant-loop-f : goal.invariant-loop-f
 invariant-loop-f l =
-    list_any (λ (f : FunctionText). nat_lt 8 (length f.params)) (map (λ f. function_of f.now) l.functions) ≡ list_any (λ (f : FunctionText). nat_lt 8 (length f.params)) (map (λ f. function_of f.now) (drop l.f-index l.functions))
+    list_any (λ (f : FunctionText). nat_lt 8 (length f.params)) (map (λ f. function_of f.now) l.functions)
+    ≡ list_any (λ (f : FunctionText). nat_lt 8 (length f.params)) (map (λ f. function_of f.now) (drop l.f-index l.functions))

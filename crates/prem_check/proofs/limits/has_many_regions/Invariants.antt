@@ -7,4 +7,5 @@ use Rattle.prem_check.proofs.limits.has_many_regions.Given as goal
 
 abbrev pub invariant-loop-f : goal.invariant-loop-f
 invariant-loop-f l =
-    list_any (λ (f : FunctionText). nat_lt 32 (length (regions_of f.mark))) (map (λ f. function_of f.now) l.functions) ≡ list_any (λ (f : FunctionText). nat_lt 32 (length (regions_of f.mark))) (map (λ f. function_of f.now) (drop l.f-index l.functions))
+    list_any (λ (f : FunctionText). nat_lt 32 (length (regions_of f.mark))) (map (λ f. function_of f.now) l.functions)
+    ≡ list_any (λ (f : FunctionText). nat_lt 32 (length (regions_of f.mark))) (map (λ f. function_of f.now) (drop l.f-index l.functions))

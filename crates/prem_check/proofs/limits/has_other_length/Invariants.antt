@@ -7,4 +7,5 @@ use Rattle.prem_check.proofs.limits.has_other_length.Given as goal
 
 abbrev pub invariant-loop-g : goal.invariant-loop-g
 invariant-loop-g l =
-    list_any (λ (g : GlobalVariable). not (is_length g.len)) (map (λ g. global_of g.now) l.globals) ≡ list_any (λ (g : GlobalVariable). not (is_length g.len)) (map (λ g. global_of g.now) (drop l.g-index l.globals))
+    list_any (λ (g : GlobalVariable). not (is_length g.len)) (map (λ g. global_of g.now) l.globals)
+    ≡ list_any (λ (g : GlobalVariable). not (is_length g.len)) (map (λ g. global_of g.now) (drop l.g-index l.globals))

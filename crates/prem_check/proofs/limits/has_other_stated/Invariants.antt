@@ -7,4 +7,5 @@ use Rattle.prem_check.proofs.limits.has_other_stated.Given as goal
 
 abbrev pub invariant-loop-f : goal.invariant-loop-f
 invariant-loop-f l =
-    list_any (λ (f : FunctionText). not (is_stated f.mark)) (map (λ f. function_of f.now) l.functions) ≡ list_any (λ (f : FunctionText). not (is_stated f.mark)) (map (λ f. function_of f.now) (drop l.f-index l.functions))
+    list_any (λ (f : FunctionText). not (is_stated f.mark)) (map (λ f. function_of f.now) l.functions)
+    ≡ list_any (λ (f : FunctionText). not (is_stated f.mark)) (map (λ f. function_of f.now) (drop l.f-index l.functions))

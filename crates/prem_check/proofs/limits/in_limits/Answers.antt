@@ -15,7 +15,8 @@ returns c =
     let fs = map (λ f. function_of f.now) c.args.functions.now in
     let gs = map (λ g. global_of g.now) c.args.globals.now in
     in_six (if_broken (nat_lt 256 (length fs)) None (Limit Functions)) (if_broken (nat_lt 256 (length gs)) None (Limit Globals))
-    (if_broken (list_any (λ (f : FunctionText). nat_lt 8 (length f.params)) fs) None (Limit Parameters)) (if_broken (list_any (λ (f : FunctionText). nat_lt 32 (length (regions_of f.mark))) fs) None (Limit Regions))
+    (if_broken (list_any (λ (f : FunctionText). nat_lt 8 (length f.params)) fs) None (Limit Parameters))
+    (if_broken (list_any (λ (f : FunctionText). nat_lt 32 (length (regions_of f.mark))) fs) None (Limit Regions))
     (if_broken (list_any (λ (g : GlobalVariable). not (is_length g.len)) gs) None (Limit Length)) (if_broken (list_any (λ (f : FunctionText). not (is_stated f.mark)) fs) None (Limit Stated))
     (found_of c.limit.result) (found_of c.limit-2.result) (found_of c.limit-parameters.result) (found_of c.limit-regions.result) (found_of c.limit-length.result) (found_of c.limit-stated.result)
     (found_of c.earlier-items.result) (found_of c.earlier.result) (found_of c.earlier-2.result) (found_of c.earlier-3.result) (found_of c.earlier-4.result)

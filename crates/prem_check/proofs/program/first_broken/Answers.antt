@@ -30,5 +30,6 @@ returns c =
     (c.in_limits-limit.ensures ∙ ap (λ x. first_of (in_limits x (map (λ f. function_of f.now) c.deref-2.result.now))) gs ∙ ap (λ x. first_of (in_limits (globals_of p) x)) fs)
     (sym c.is_some.ensures ∙ c.if-is_some.false)
     (c.no_job-job.ensures ∙ ap (λ x. first_of (without_job x)) (ap (map (λ f. function_of f.now)) c.deref-3.ensures.value ∙ all))
-    (c.in_ok-in_items.ensures ∙ ap (λ x. first_of (among_items x (map item_of c.items-items.result.now))) all ∙ ap (λ xs. first_of (among_items (functions_of p) (map item_of xs))) c.items-items.ensures)
+    (c.in_ok-in_items.ensures ∙ ap (λ x. first_of (among_items x (map item_of c.items-items.result.now))) all
+    ∙ ap (λ xs. first_of (among_items (functions_of p) (map item_of xs))) c.items-items.ensures)
     c.earlier.ensures

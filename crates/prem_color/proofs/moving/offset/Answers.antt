@@ -10,4 +10,5 @@ loop-o-preserved c =
     let k = c.args.cache in
     let rooms = map room_of c.args.rooms.now in
     let shares = map share_of c.args.shares.now in
-    sym (least_next (λ o. shares_fit k.line k.sets k.«ways» (c.args.base + o * k.line) rooms shares) c.loop-o.o k.sets c.loop-o-test.true (sym (c.in_ok-shares_fit.ensures) ∙ c.if-branch.false)) ∙ c.loop-o.invariant
+    sym (least_next (λ o. shares_fit k.line k.sets k.«ways» (c.args.base + o * k.line) rooms shares) c.loop-o.o k.sets c.loop-o-test.true
+    (sym (c.in_ok-shares_fit.ensures) ∙ c.if-branch.false)) ∙ c.loop-o.invariant

@@ -71,7 +71,9 @@ returns-clause-placing c = λ sizes lt is lies h.
     let found : c.in_ok-o.field-0 ≡ least_from (λ o. shares_fit k.line k.sets k.«ways» (base + o * k.line) (map room_of c.args.s.rooms.items) shares) 0 k.sets =
     c.in_ok-o.ensures.least ∙ ap rooms c.deref.ensures.value ∙ ap others c.deref-2.ensures.value in
     let took : map room_of c.take_all.new.rooms.items ≡ with_shares k.line k.sets k.«ways» (base + o * k.line) (map room_of c.args.s.rooms.items) shares =
-    c.in_ok-take_all.ensures.taken ∙ ap (λ (ss : List ShareInMemory). with_shares k.line k.sets k.«ways» (base + o * k.line) (map room_of c.args.s.rooms.items) (map share_of ss)) c.deref-3.ensures.value in
+    c.in_ok-take_all.ensures.taken
+    ∙ ap (λ (ss : List ShareInMemory). with_shares k.line k.sets k.«ways» (base + o * k.line) (map room_of c.args.s.rooms.items)
+    (map share_of ss)) c.deref-3.ensures.value in
     let next : Placing = record { places = c.push.new.self; at = base + o * k.line + c.from-2.result; rooms = c.take_all.new.rooms } in
     placed_next c.args.p.now ws sizes c.args.s c.args.part c.args.n k base shares i h c.in_ok-o.field-0 o next lt is lies found c.in-Some.is
     (ap (λ z. base + o * k.line + z) c.from-2.ensures) c.in_ok-push.ensures.items took

@@ -22,7 +22,8 @@ loop-share-preserved c =
     let ss : List ShareInMemory = drop (c.loop-share.share-index + 1) shares in
     let head : drop c.loop-share.share-index shares ≡ s ∷ ss =
     at_drop_more (λ (xs : List ShareInMemory). xs) shares c.loop-share.share-index s c.loop-share-test.true ∙ ap (λ (x : ShareInMemory). x ∷ ss) (sym c.share-item.is) in
-    let there : AllByRecursion (IsOf (length rooms)) (map share_of (s ∷ ss)) = subst (λ (xs : List ShareInMemory). AllByRecursion (IsOf (length rooms)) (map share_of xs)) head c.loop-share.invariant.there in
+    let there : AllByRecursion (IsOf (length rooms)) (map share_of (s ∷ ss)) =
+    subst (λ (xs : List ShareInMemory). AllByRecursion (IsOf (length rooms)) (map share_of xs)) head c.loop-share.invariant.there in
     let long = length-set rooms s.want next in
     record {
       long = long ∙ c.loop-share.invariant.long;

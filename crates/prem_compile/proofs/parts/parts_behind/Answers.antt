@@ -8,7 +8,9 @@ names_of_coded-requires-clause-tasks c =
 
 pub names_of_coded-requires-clause-parts : goal.names_of_coded-requires-clause-parts
 names_of_coded-requires-clause-parts c =
-    coded_there (set_of c.args.set.now) c.args.tasks.now c.requires.tasks_are c.devices-devices.result.now c.in_ok-sizes.sizes.items c.deref.result.now c.requires.codes_are c.devices-devices.ensures.devices c.in_ok-sizes.ensures.parts c.deref.ensures.value
+    coded_there (set_of c.args.set.now)
+    c.args.tasks.now c.requires.tasks_are c.devices-devices.result.now c.in_ok-sizes.sizes.items c.deref.result.now c.requires.codes_are
+    c.devices-devices.ensures.devices c.in_ok-sizes.ensures.parts c.deref.ensures.value
 
 pub wants_of-requires-clause-there : goal.wants_of-requires-clause-there
 wants_of-requires-clause-there c =
@@ -17,5 +19,6 @@ wants_of-requires-clause-there c =
 pub returns : goal.returns
 returns c =
     parts_told (set_of c.args.set.now) c.args.tasks.now c.requires.tasks_are c.devices-devices.result.now c.in_ok-sizes.sizes.items c.deref.result.now c.deref-2.result.now c.deref-3.result.now
-    (record { sizes = c.in_ok-listed.field-0; names = c.in_ok-names.names; wants = c.in_ok-wants.wants }) c.requires.codes_are c.devices-devices.ensures.devices c.in_ok-sizes.ensures.parts c.in_ok-sizes.ensures.may
+    (record { sizes = c.in_ok-listed.field-0; names = c.in_ok-names.names; wants = c.in_ok-wants.wants })
+    c.requires.codes_are c.devices-devices.ensures.devices c.in_ok-sizes.ensures.parts c.in_ok-sizes.ensures.may
     c.deref.ensures.value c.deref-2.ensures.value c.deref-3.ensures.value c.in_ok-listed.ensures c.in_ok-names.ensures c.in_ok-wants.ensures

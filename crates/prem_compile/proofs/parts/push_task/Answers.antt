@@ -17,4 +17,5 @@ push_wants-requires-clause-there c =
 
 pub returns : goal.returns
 returns c =
-    pushed c.args.task.now c.requires.task c.in_ok-shape.shape c.items.result.now c.in_ok-shape.ensures.shape c.items.ensures c.args.sizes.now c.args.n c.args.first (map want_of (items_of c.args.wants.now)) (map want_of (items_of c.push_wants.new.wants)) c.push_wants.result c.push_wants.ensures
+    pushed c.args.task.now c.requires.task c.in_ok-shape.shape c.items.result.now c.in_ok-shape.ensures.shape c.items.ensures c.args.sizes.now
+    c.args.n c.args.first (map want_of (items_of c.args.wants.now)) (map want_of (items_of c.push_wants.new.wants)) c.push_wants.result c.push_wants.ensures

@@ -24,8 +24,10 @@ use Rattle.prem_cycle.specs.declared.state.Mode.TheVariants.{Point, Switching, R
 use Rattle.prem_cycle.specs.declared.state.Interval.{Interval}
 use Rattle.prem_cycle.specs.State.{Setup, Work, Task, Debt, CoreState, Counts, MachineState, record_of, task_in}
 use Rattle.prem_cycle.specs.Issue.{Attempt, Traps, Executes, attempt_behind, LineTouch, one_if, with_touch, with_touches, with_store, issued_with, issued_by, task_after}
-use Rattle.prem_cycle.specs.Core.{is_empty, is_paid, want_of, with_cost, paid_on_bus, core_pay, CoreMove, Passes, Issues, begin_switch, begin_idle, move_chosen, move_running, move_in, phase_in, core_issue, core_turn}
-use Rattle.prem_cycle.specs.Cycle.{Arrivals, with_memory, with_clash, move_at, core_at, joined, settle, with_now, next_cycle, ticked, cycle_with, close_interval, at_point, ends_before, is_finish, is_finished, is_finished_in, is_full}
+use Rattle.prem_cycle.specs.Core.{is_empty, is_paid, want_of, with_cost, paid_on_bus, core_pay, CoreMove, Passes, Issues, begin_switch, begin_idle, move_chosen, move_running}
+use Rattle.prem_cycle.specs.Core.{move_in, phase_in, core_issue, core_turn}
+use Rattle.prem_cycle.specs.Cycle.{Arrivals, with_memory, with_clash, move_at, core_at, joined, settle, with_now, next_cycle, ticked, cycle_with, close_interval, at_point}
+use Rattle.prem_cycle.specs.Cycle.{ends_before, is_finish, is_finished, is_finished_in, is_full}
 use Rattle.prem_cycle.proofs.CycleParts.{cycle_trapped}
 use Rattle.prem_cycle.proofs.Time.{goes_untrapped}
 use Rattle.prem_cycle.specs.Runs.Dull.Dull.{transaction_left, switch_left, with_transaction, with_switch, OnlyCounts}
@@ -117,7 +119,9 @@ issue_shows rule p now k i (Traps cause) w c n none = absurd (cc)
 issue_shows rule p now k i (Executes instr e) w c n none =
     let issued = issued_by rule p k e w in
     let line = (task_in w k).pc / p.plant.line in
-    let some : 1 ≤ length issued.touches = some_touched rule p.plant.line (slice_set w.tasks k (task_after (record_of p k) e (task_in w k))) e.stored line (touch_of rule w.cache line w.memory) e.access in
+    let some : 1 ≤ length issued.touches =
+    some_touched rule p.plant.line (slice_set w.tasks k (task_after (record_of p k) e (task_in w k))) e.stored line
+    (touch_of rule w.cache line w.memory) e.access in
     let touches = touches_counted (phase_in w k) issued.touches n in
     let store = store_same (phase_in w k) e.stored (with_touches (phase_in w k) issued.touches n) in
     omega (arith, some, touches, store.0, store.1)
@@ -368,5 +372,6 @@ core_rests_by rule p requests a b s true is h has d =
     rw is (wanting_rests rule p a b s t m has)
 core_rests_by rule p requests a b s false is h has d =
     let t = cycle_with rule p a b s in
-    let m = moved_as rule p a b (move_at p b s) (move_in p s.now s.sched (with_memory b.memory s.work) s.core s.core.mode) s t (move_free p b s is) (moved_is rule p a b s (goes_untrapped s h.going) d) in
+    let m = moved_as rule p a b (move_at p b s) (move_in p s.now s.sched (with_memory b.memory s.work) s.core s.core.mode) s t (move_free p b s is)
+    (moved_is rule p a b s (goes_untrapped s h.going) d) in
     rw is (mode_rests rule p requests a b s t s.core.mode h refl (nothing_owed s.core.debt.begun s.core.debt.transactions is) d m)

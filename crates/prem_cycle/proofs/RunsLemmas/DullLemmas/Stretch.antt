@@ -21,7 +21,8 @@ use Rattle.prem_cycle.specs.declared.state.Trap.{Trap}
 use Rattle.prem_cycle.specs.State.{Setup, Work, CoreState, Log, MachineState}
 use Rattle.prem_cycle.specs.Issue.{one_if}
 use Rattle.prem_cycle.specs.Core.{want_of, with_cost, with_debt, CoreMove, Passes, core_turn}
-use Rattle.prem_cycle.specs.Cycle.{Arrivals, arrivals, arrivals_at, bus_at, with_memory, with_clash, move_at, joined, ticked, cycle_of, is_over, is_finish, is_finished, is_finished_in, is_full, step_of}
+use Rattle.prem_cycle.specs.Cycle.{Arrivals, arrivals, arrivals_at, bus_at, with_memory, with_clash, move_at, joined, ticked, cycle_of, is_over, is_finish, is_finished}
+use Rattle.prem_cycle.specs.Cycle.{is_finished_in, is_full, step_of}
 use Rattle.prem_cycle.specs.Run.{cycles_of}
 use Rattle.prem_cycle.proofs.Time.{goes_untrapped}
 use Rattle.prem_cycle.proofs.RunLaws.{step_of-goes}
@@ -286,7 +287,15 @@ counted_mode n c (Idle until) is = same_core c
 counted_by : (n : ℕ) (c : CoreState) (b : Bool) → passed_by b (suc n) c ≡ core_counted (passed_by b n c) (passed_by b (suc n) c)
 counted_by n c true =
     ap (λ ns. with_debt c (record c.debt { transactions = ns })) (sym (more_transaction n c.debt.begun c.debt.transactions))
-    ∙ ap (λ m. record c { mode = m; debt = record c.debt { transactions = with_transaction (transaction_left c.debt.begun (transactions_passed (suc n) c.debt.begun c.debt.transactions)) c.debt.begun (transactions_passed n c.debt.begun c.debt.transactions) } }) (sym (same_switch c.mode))
+    ∙ ap (λ m. record c {
+      mode = m;
+      debt =
+          record c.debt {
+            transactions =
+                with_transaction (transaction_left c.debt.begun (transactions_passed (suc n) c.debt.begun c.debt.transactions)) c.debt.begun
+                (transactions_passed n c.debt.begun c.debt.transactions);
+          };
+    }) (sym (same_switch c.mode))
 counted_by n c false = counted_mode n c c.mode refl
 
 -- what is left stays above 0

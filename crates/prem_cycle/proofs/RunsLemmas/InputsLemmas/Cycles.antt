@@ -12,7 +12,8 @@ use Rattle.prem_cycle.specs.declared.state.Mode.{Mode}
 use Rattle.prem_cycle.specs.declared.state.Mode.TheVariants.{Point, Switching, Running, Idle}
 use Rattle.prem_cycle.specs.State.{Setup, MachineState}
 use Rattle.prem_cycle.specs.Core.{is_paid, core_turn}
-use Rattle.prem_cycle.specs.Cycle.{Arrivals, arrivals_at, bus_at, with_memory, with_clash, move_at, core_at, joined, ends_before, close_interval, at_point, settle, with_now, next_cycle, ticked, cycle_with, is_finished, log_size, is_over, step_of}
+use Rattle.prem_cycle.specs.Cycle.{Arrivals, arrivals_at, bus_at, with_memory, with_clash, move_at, core_at, joined, ends_before, close_interval, at_point, settle, with_now}
+use Rattle.prem_cycle.specs.Cycle.{next_cycle, ticked, cycle_with, is_finished, log_size, is_over, step_of}
 use Rattle.prem_cycle.specs.FactsOf.{with_input}
 use Rattle.prem_cycle.specs.Run.{CycleStep, step_in, step_with, coming_step, cycles_of, steps_of}
 use Rattle.prem_cycle.proofs.RunLaws.{step_of-goes, step_of-stays}
@@ -50,19 +51,22 @@ ticked_with k word s =
 moves_with : (p : Setup) (k word : ℕ) (b : Turned) (s : MachineState) → move_at p b (with_input k word s) ≡ move_at p b s
 moves_with p k word b s = move_with p k word s.now b.turn.core s.sched (with_memory b.memory s.work) s.core
 
-core_with : (rule : ReplacementRule) (p : Setup) (k word : ℕ) (b : Turned) (s : MachineState) → past_of k (step_with rule p b s) ≡ false → core_at rule p b (with_input k word s) ≡ turn_with k word (core_at rule p b s)
+core_with : (rule : ReplacementRule) (p : Setup) (k word : ℕ) (b : Turned) (s : MachineState) → past_of k (step_with rule p b s) ≡ false →
+    core_at rule p b (with_input k word s) ≡ turn_with k word (core_at rule p b s)
 core_with rule p k word b s h =
     ap (λ m. core_turn rule p s.now m (work_with k word (with_memory b.memory s.work)) s.core (with_clash b.turn.clash s.log.counts))
     (moves_with p k word b s)
     ∙ turn_same rule p k word s.now (move_at p b s) (with_memory b.memory s.work) s.core (with_clash b.turn.clash s.log.counts) h
 
-cycle_same : (rule : ReplacementRule) (p : Setup) (k word : ℕ) (a : Arrivals) (b : Turned) (s : MachineState) → past_of k (step_with rule p b s) ≡ false → cycle_with rule p a b (with_input k word s) ≡ with_input k word (cycle_with rule p a b s)
+cycle_same : (rule : ReplacementRule) (p : Setup) (k word : ℕ) (a : Arrivals) (b : Turned) (s : MachineState) →
+    past_of k (step_with rule p b s) ≡ false → cycle_with rule p a b (with_input k word s) ≡ with_input k word (cycle_with rule p a b s)
 cycle_same rule p k word a b s h =
     ap (λ t. ticked (joined a b t s)) (core_with rule p k word b s h)
     ∙ ticked_with k word (joined a b (core_at rule p b s) s)
 
 -- the step that a cycle takes, if the state isn't over
-pub coming_goes : (rule : ReplacementRule) (p : Setup) (requests : List Request) (s : MachineState) → is_over s ≡ false → coming_step rule p requests s ≡ step_with rule p (bus_at (arrivals_at requests s).gates s) s
+pub coming_goes : (rule : ReplacementRule) (p : Setup) (requests : List Request) (s : MachineState) → is_over s ≡ false →
+    coming_step rule p requests s ≡ step_with rule p (bus_at (arrivals_at requests s).gates s) s
 coming_goes rule p requests s h =
     ap (λ b. cond b None (step_with rule p (bus_at (arrivals_at requests s).gates s) s)) h
 
@@ -71,7 +75,8 @@ coming_stays rule p requests s h =
     ap (λ b. cond b None (step_with rule p (bus_at (arrivals_at requests s).gates s) s)) h
 
 -- unless its instruction reads past the end of the task's list, a cycle leaves the word where it is
-step_same : (rule : ReplacementRule) (p : Setup) (requests : List Request) (s : MachineState) (k word : ℕ) → past_of k (coming_step rule p requests s) ≡ false → step_of rule p requests (with_input k word s) ≡ with_input k word (step_of rule p requests s)
+step_same : (rule : ReplacementRule) (p : Setup) (requests : List Request) (s : MachineState) (k word : ℕ) →
+    past_of k (coming_step rule p requests s) ≡ false → step_of rule p requests (with_input k word s) ≡ with_input k word (step_of rule p requests s)
 step_same rule p requests s k word h =
     ⊎_elim (λ (e : is_over s ≡ true).
     step_of-stays rule p requests (with_input k word s) (over_with k word s ∙ e)
@@ -83,7 +88,9 @@ step_same rule p requests s k word h =
     (cases_Bool (is_over s))
 
 -- and the same tasks read past the end in it
-coming_same : (rule : ReplacementRule) (p : Setup) (requests : List Request) (s : MachineState) (k word j : ℕ) → past_of k (coming_step rule p requests s) ≡ false → past_of j (coming_step rule p requests (with_input k word s)) ≡ past_of j (coming_step rule p requests s)
+coming_same : (rule : ReplacementRule) (p : Setup) (requests : List Request) (s : MachineState) (k word j : ℕ) →
+    past_of k (coming_step rule p requests s) ≡ false →
+    past_of j (coming_step rule p requests (with_input k word s)) ≡ past_of j (coming_step rule p requests s)
 coming_same rule p requests s k word j h =
     let b : Turned = bus_at (arrivals_at requests s).gates s in
     ⊎_elim (λ (e : is_over s ≡ true).
@@ -109,7 +116,9 @@ any-with_last k (Some step) steps =
     ∙ ap (λ b. list_any (is_past_end k) steps || b) (or_none (is_past_end k step))
 
 -- a task has read past the end within one cycle more
-pub has_read-next : (rule : ReplacementRule) (p : Setup) (requests : List Request) (n : ℕ) (s : MachineState) (k : ℕ) → has_read_past_end rule p requests (suc n) s k ≡ (has_read_past_end rule p requests n s k || past_of k (coming_step rule p requests (cycles_of rule p requests n s)))
+pub has_read-next : (rule : ReplacementRule) (p : Setup) (requests : List Request) (n : ℕ) (s : MachineState) (k : ℕ) →
+    has_read_past_end rule p requests (suc n) s k
+    ≡ (has_read_past_end rule p requests n s k || past_of k (coming_step rule p requests (cycles_of rule p requests n s)))
 unfolding steps_of
 has_read-next rule p requests n s k =
     any-with_last k (coming_step rule p requests (cycles_of rule p requests n s)) (steps_of rule p requests n s)
@@ -122,7 +131,8 @@ pub or_second : (a b : Bool) → (a || b) ≡ false → b ≡ false
 or_second true b h = absurd (let x : true ≡ false = h in cc)
 or_second false b h = h
 
-pub cycles_leave_the_word : (rule : ReplacementRule) (p : Setup) (requests : List Request) (n : ℕ) (s : MachineState) (k word : ℕ) → has_read_past_end rule p requests n s k ≡ false → cycles_of rule p requests n (with_input k word s) ≡ with_input k word (cycles_of rule p requests n s)
+pub cycles_leave_the_word : (rule : ReplacementRule) (p : Setup) (requests : List Request) (n : ℕ) (s : MachineState) (k word : ℕ) →
+    has_read_past_end rule p requests n s k ≡ false → cycles_of rule p requests n (with_input k word s) ≡ with_input k word (cycles_of rule p requests n s)
 unfolding cycles_of
 cycles_leave_the_word rule p requests zero s k word h = refl
 cycles_leave_the_word rule p requests (suc n) s k word h =
@@ -132,7 +142,8 @@ cycles_leave_the_word rule p requests (suc n) s k word h =
     ap (step_of rule p requests) (cycles_leave_the_word rule p requests n s k word (or_first _ _ both))
     ∙ step_same rule p requests u k word (or_second _ _ both)
 
-pub has_read_same : (rule : ReplacementRule) (p : Setup) (requests : List Request) (n : ℕ) (s : MachineState) (k word j : ℕ) → has_read_past_end rule p requests n s k ≡ false → has_read_past_end rule p requests n (with_input k word s) j ≡ has_read_past_end rule p requests n s j
+pub has_read_same : (rule : ReplacementRule) (p : Setup) (requests : List Request) (n : ℕ) (s : MachineState) (k word j : ℕ) →
+    has_read_past_end rule p requests n s k ≡ false → has_read_past_end rule p requests n (with_input k word s) j ≡ has_read_past_end rule p requests n s j
 unfolding steps_of
 has_read_same rule p requests zero s k word j h = refl
 has_read_same rule p requests (suc n) s k word j h =

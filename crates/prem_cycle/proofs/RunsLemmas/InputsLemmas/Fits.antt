@@ -14,7 +14,9 @@ use Rattle.prem_cycle.proofs.RunsLemmas.InputsLemmas.Taken.{room_is_of_the_list}
 one_more : (words : List ℕ) (word size : ℕ) → length words < size → length (words ++ word ∷ []) ≤ size
 one_more words word size lt = omega (arith, length-append words (word ∷ []))
 
-pub lists_stay_fit : (rule : ReplacementRule) (p : Setup) (content : List ℕ) (inputs : List (List ℕ)) (requests : List Request) (n k word : ℕ) → k < length p.tasks → FitsRun p inputs requests → has_room_for_word k (run_of rule p content inputs requests n) ≡ true → FitsRun p (with_word_for k word inputs) requests
+pub lists_stay_fit : (rule : ReplacementRule) (p : Setup) (content : List ℕ) (inputs : List (List ℕ)) (requests : List Request) (n k word : ℕ) →
+    k < length p.tasks → FitsRun p inputs requests → has_room_for_word k (run_of rule p content inputs requests n) ≡ true →
+    FitsRun p (with_word_for k word inputs) requests
 lists_stay_fit rule p content inputs requests n k word lt fits room =
     let words : List ℕ = slice_index_or inputs k [] in
     let less : length words < inputs_size =

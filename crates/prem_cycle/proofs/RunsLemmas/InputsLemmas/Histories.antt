@@ -14,7 +14,9 @@ use Rattle.prem_cycle.specs.Runs.Inputs.History.{History, Begins, Passes, Append
 use Rattle.prem_cycle.proofs.RunsLemmas.InputsLemmas.Runs.{inputs_extend, reads_stay}
 
 -- the reads past the end of m + n cycles
-has_read-add : (rule : ReplacementRule) (p : Setup) (requests : List Request) (m n : ℕ) (s : MachineState) (k : ℕ) → has_read_past_end rule p requests (m + n) s k ≡ (has_read_past_end rule p requests m s k || has_read_past_end rule p requests n (cycles_of rule p requests m s) k)
+has_read-add : (rule : ReplacementRule) (p : Setup) (requests : List Request) (m n : ℕ) (s : MachineState) (k : ℕ) →
+    has_read_past_end rule p requests (m + n) s k
+    ≡ (has_read_past_end rule p requests m s k || has_read_past_end rule p requests n (cycles_of rule p requests m s) k)
 has_read-add rule p requests m n s k =
     ap (list_any (is_past_end k)) (steps_of-add rule p requests m n s)
     ∙ list_any-append (is_past_end k) (steps_of rule p requests m s) (steps_of rule p requests n (cycles_of rule p requests m s))
@@ -25,7 +27,8 @@ pub record IsRun (rule : ReplacementRule) (p : Setup) (content : List ℕ) (inpu
   pub reads : (j : ℕ) → reads_past_end_in rule p requests h (start_of p inputs (memory_of p content)) j ≡ run_reads_past_end rule p content (inputs_in h inputs) requests (cycles_in h) j
   pub lists : length (inputs_in h inputs) ≡ length inputs
 
-history_is_run : (rule : ReplacementRule) (p : Setup) (content : List ℕ) (inputs : List (List ℕ)) (requests : List Request) (h : History) → IsTimely rule p requests (length inputs) h (start_of p inputs (memory_of p content)) → IsRun rule p content inputs requests h
+history_is_run : (rule : ReplacementRule) (p : Setup) (content : List ℕ) (inputs : List (List ℕ)) (requests : List Request) (h : History) →
+    IsTimely rule p requests (length inputs) h (start_of p inputs (memory_of p content)) → IsRun rule p content inputs requests h
 unfolding cycles_of steps_of
 history_is_run rule p content inputs requests Begins timely = record { state = refl; reads = λ j. refl; lists = refl }
 history_is_run rule p content inputs requests (Passes before n) timely =
@@ -56,6 +59,8 @@ history_is_run rule p content inputs requests (Appends before k word) timely =
           length-set (inputs_in before inputs) k (slice_index_or (inputs_in before inputs) k [] ++ word ∷ []) ∙ is.lists;
     }
 
-pub histories_are_runs : (rule : ReplacementRule) (p : Setup) (content : List ℕ) (inputs : List (List ℕ)) (requests : List Request) (h : History) → IsTimely rule p requests (length inputs) h (start_of p inputs (memory_of p content)) → state_in rule p requests h (start_of p inputs (memory_of p content)) ≡ run_of rule p content (inputs_in h inputs) requests (cycles_in h)
+pub histories_are_runs : (rule : ReplacementRule) (p : Setup) (content : List ℕ) (inputs : List (List ℕ)) (requests : List Request) (h : History) →
+    IsTimely rule p requests (length inputs) h (start_of p inputs (memory_of p content)) →
+    state_in rule p requests h (start_of p inputs (memory_of p content)) ≡ run_of rule p content (inputs_in h inputs) requests (cycles_in h)
 histories_are_runs rule p content inputs requests h timely =
     (history_is_run rule p content inputs requests h timely).state

@@ -30,22 +30,31 @@ start_with p inputs memory k word lt =
 
 -- ---- the run
 
-pub inputs_extend : (rule : ReplacementRule) (p : Setup) (content : List ℕ) (inputs : List (List ℕ)) (requests : List Request) (n k word : ℕ) → k < length inputs → run_reads_past_end rule p content inputs requests n k ≡ false → with_input k word (run_of rule p content inputs requests n) ≡ run_of rule p content (with_word_for k word inputs) requests n
+pub inputs_extend : (rule : ReplacementRule) (p : Setup) (content : List ℕ) (inputs : List (List ℕ)) (requests : List Request) (n k word : ℕ) →
+    k < length inputs → run_reads_past_end rule p content inputs requests n k ≡ false →
+    with_input k word (run_of rule p content inputs requests n) ≡ run_of rule p content (with_word_for k word inputs) requests n
 inputs_extend rule p content inputs requests n k word lt h =
     sym (cycles_leave_the_word rule p requests n (start_of p inputs (memory_of p content)) k word h)
     ∙ ap (cycles_of rule p requests n) (start_with p inputs (memory_of p content) k word lt)
 
 -- the same of a state that is told to be the run's
-pub state_extends : (rule : ReplacementRule) (p : Setup) (content : List ℕ) (inputs : List (List ℕ)) (requests : List Request) (s : MachineState) (n k word : ℕ) → k < length inputs → s ≡ run_of rule p content inputs requests n → run_reads_past_end rule p content inputs requests n k ≡ false → with_input k word s ≡ run_of rule p content (with_word_for k word inputs) requests n
+pub state_extends : (rule : ReplacementRule) (p : Setup) (content : List ℕ) (inputs : List (List ℕ)) (requests : List Request) (s : MachineState)
+    (n k word : ℕ) → k < length inputs → s ≡ run_of rule p content inputs requests n → run_reads_past_end rule p content inputs requests n k ≡ false →
+    with_input k word s ≡ run_of rule p content (with_word_for k word inputs) requests n
 state_extends rule p content inputs requests s n k word lt is h =
     ap (with_input k word) is ∙ inputs_extend rule p content inputs requests n k word lt h
 
-pub runs_go_on : (rule : ReplacementRule) (p : Setup) (content : List ℕ) (inputs : List (List ℕ)) (requests : List Request) (s : MachineState) (m j k word : ℕ) → k < length inputs → s ≡ run_of rule p content inputs requests m → run_reads_past_end rule p content inputs requests m k ≡ false → cycles_of rule p requests j (with_input k word s) ≡ run_of rule p content (with_word_for k word inputs) requests (m + j)
+pub runs_go_on : (rule : ReplacementRule) (p : Setup) (content : List ℕ) (inputs : List (List ℕ)) (requests : List Request) (s : MachineState)
+    (m j k word : ℕ) → k < length inputs → s ≡ run_of rule p content inputs requests m →
+    run_reads_past_end rule p content inputs requests m k ≡ false →
+    cycles_of rule p requests j (with_input k word s) ≡ run_of rule p content (with_word_for k word inputs) requests (m + j)
 runs_go_on rule p content inputs requests s m j k word lt is h =
     ap (cycles_of rule p requests j) (state_extends rule p content inputs requests s m k word lt is h)
     ∙ sym (cycles_of-add rule p requests m j (start_of p (with_word_for k word inputs) (memory_of p content)))
 
-pub reads_stay : (rule : ReplacementRule) (p : Setup) (content : List ℕ) (inputs : List (List ℕ)) (requests : List Request) (n k word j : ℕ) → k < length inputs → run_reads_past_end rule p content inputs requests n k ≡ false → run_reads_past_end rule p content (with_word_for k word inputs) requests n j ≡ run_reads_past_end rule p content inputs requests n j
+pub reads_stay : (rule : ReplacementRule) (p : Setup) (content : List ℕ) (inputs : List (List ℕ)) (requests : List Request) (n k word j : ℕ) →
+    k < length inputs → run_reads_past_end rule p content inputs requests n k ≡ false →
+    run_reads_past_end rule p content (with_word_for k word inputs) requests n j ≡ run_reads_past_end rule p content inputs requests n j
 reads_stay rule p content inputs requests n k word j lt h =
     ap (λ s. has_read_past_end rule p requests n s j) (sym (start_with p inputs (memory_of p content) k word lt))
     ∙ has_read_same rule p requests n (start_of p inputs (memory_of p content)) k word j h

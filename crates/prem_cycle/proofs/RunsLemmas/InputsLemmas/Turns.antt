@@ -20,8 +20,10 @@ use Rattle.prem_cycle.specs.declared.state.Mode.{Mode}
 use Rattle.prem_cycle.specs.declared.state.Mode.TheVariants.{Point, Switching, Running, Idle}
 use Rattle.prem_cycle.specs.declared.state.Interval.{Interval}
 use Rattle.prem_cycle.specs.State.{Setup, record_of, Task, Work, CoreState, Counts, task_in}
-use Rattle.prem_cycle.specs.Issue.{Attempt, Traps, Executes, attempt_in, attempt_of, view_touched, attempt_seen, behind_touches, attempt_behind, task_after, Issued, issued_with, issued_by, owed_by, with_store, with_touches}
-use Rattle.prem_cycle.specs.Core.{is_empty, want_of, core_pay, CoreMove, Passes, Issues, phase_in, new_interval, begin_switch, move_chosen, move_in, move_of, core_issued, CoreTurn, core_issue, core_turn}
+use Rattle.prem_cycle.specs.Issue.{Attempt, Traps, Executes, attempt_in, attempt_of, view_touched, attempt_seen, behind_touches, attempt_behind, task_after, Issued, issued_with}
+use Rattle.prem_cycle.specs.Issue.{issued_by, owed_by, with_store, with_touches}
+use Rattle.prem_cycle.specs.Core.{is_empty, want_of, core_pay, CoreMove, Passes, Issues, phase_in, new_interval, begin_switch, move_chosen, move_in, move_of, core_issued, CoreTurn}
+use Rattle.prem_cycle.specs.Core.{core_issue, core_turn}
 use Rattle.prem_cycle.specs.Run.{CycleStep, step_by, step_in}
 use Rattle.prem_cycle.specs.FactsOf.{with_word}
 use Rattle.prem_cycle.specs.Runs.Inputs.PastEnd.{is_past_end}
@@ -85,7 +87,8 @@ past_before rule p k w left (Traps cause) = refl
 past_before rule p k w left (Executes i e) = refl
 
 -- where memory reads as before the touches and behind them
-attempts_seen : (target : Target) (size : ℕ) (view : ℕ → ℕ) (seen : ℕ → Option Access → ℕ → ℕ) (w : Work) (k word j : ℕ) → (j ≡ k → takes_past (task_in w j).left (attempt_in target size view (task_in w j)) ≡ false) →
+attempts_seen : (target : Target) (size : ℕ) (view : ℕ → ℕ) (seen : ℕ → Option Access → ℕ → ℕ) (w : Work) (k word j : ℕ) →
+    (j ≡ k → takes_past (task_in w j).left (attempt_in target size view (task_in w j)) ≡ false) →
     attempt_seen target size (seen (task_in (work_with k word w) j).pc) (task_in (work_with k word w) j) (attempt_in target size view (task_in (work_with k word w) j))
     ≡ attempt_seen target size (seen (task_in w j).pc) (task_in w j) (attempt_in target size view (task_in w j))
 attempts_seen target size view seen w k word j h =
@@ -95,7 +98,8 @@ attempts_seen target size view seen w k word j h =
     ap (attempt_seen target size (seen t.pc) (with_word word t)) (attempt_with target size view t word (h e))
     ∙ seen_with target size view (seen t.pc) t word (h e))
 
-attempts_with : (rule : ReplacementRule) (p : Setup) (k word now j : ℕ) (i : Interval) (w : Work) → past_of k (step_by rule p now j i w (attempt_behind rule p j w)) ≡ false → attempt_behind rule p j (work_with k word w) ≡ attempt_behind rule p j w
+attempts_with : (rule : ReplacementRule) (p : Setup) (k word now j : ℕ) (i : Interval) (w : Work) →
+    past_of k (step_by rule p now j i w (attempt_behind rule p j w)) ≡ false → attempt_behind rule p j (work_with k word w) ≡ attempt_behind rule p j w
 attempts_with rule p k word now j i w h =
     attempts_seen p.plant.target p.plant.memory (view_of w.cache w.memory) (view_touched rule p.plant.line w.cache w.memory) w k word j
     (λ e. sym (past_before rule p j w (task_in w j).left (attempt_of p j w)) ∙ finds rule p k now j i w (attempt_behind rule p j w) h e)
@@ -105,11 +109,14 @@ attempts_with rule p k word now j i w h =
 abbrev issue_with : ℕ → ℕ → Issued → Issued
 issue_with k word i = record i { work = work_with k word i.work }
 
-lines_with : (rule : ReplacementRule) (k word size : ℕ) (tasks : List Task) (stored : Option Stored) (line : ℕ) (t : Touched) (access : Option Access) → issued_with rule size (tasks_with k word tasks) stored line t access ≡ issue_with k word (issued_with rule size tasks stored line t access)
+lines_with : (rule : ReplacementRule) (k word size : ℕ) (tasks : List Task) (stored : Option Stored) (line : ℕ) (t : Touched)
+    (access : Option Access) → issued_with rule size (tasks_with k word tasks) stored line t access
+    ≡ issue_with k word (issued_with rule size tasks stored line t access)
 lines_with rule k word size tasks stored line t None = refl
 lines_with rule k word size tasks stored line t (Some a) = refl
 
-issued_same : (rule : ReplacementRule) (p : Setup) (k word j : ℕ) (e : Effect) (w : Work) → (j ≡ k → (e.input && is_empty (task_in w j).left) ≡ false) → issued_by rule p j e (work_with k word w) ≡ issue_with k word (issued_by rule p j e w)
+issued_same : (rule : ReplacementRule) (p : Setup) (k word j : ℕ) (e : Effect) (w : Work) →
+    (j ≡ k → (e.input && is_empty (task_in w j).left) ≡ false) → issued_by rule p j e (work_with k word w) ≡ issue_with k word (issued_by rule p j e w)
 issued_same rule p k word j e w h =
     let size : ℕ = p.plant.line in
     let line : ℕ = (task_in w j).pc / size in
@@ -133,14 +140,17 @@ done_turn p now j i instr e c n issued phase =
       trapped = None;
     }
 
-issue_same : (rule : ReplacementRule) (p : Setup) (k word now j : ℕ) (i : Interval) (a : Attempt) (w : Work) (c : CoreState) (n : Counts) → (j ≡ k → takes_past (task_in w j).left a ≡ false) → core_issue rule p now j i a (work_with k word w) c n ≡ turn_with k word (core_issue rule p now j i a w c n)
+issue_same : (rule : ReplacementRule) (p : Setup) (k word now j : ℕ) (i : Interval) (a : Attempt) (w : Work) (c : CoreState) (n : Counts) →
+    (j ≡ k → takes_past (task_in w j).left a ≡ false) →
+    core_issue rule p now j i a (work_with k word w) c n ≡ turn_with k word (core_issue rule p now j i a w c n)
 issue_same rule p k word now j i (Traps cause) w c n h =
     ap (trap_turn (work_with k word w) c n j cause) (pc_with k word j w)
 issue_same rule p k word now j i (Executes instr e) w c n h =
     ap₂ (done_turn p now j i instr e c n) (issued_same rule p k word j e w h) (phase_with k word j w)
 
 -- the core's part gives the same, with the word behind the task's others
-pub turn_same : (rule : ReplacementRule) (p : Setup) (k word now : ℕ) (m : CoreMove) (w : Work) (c : CoreState) (n : Counts) → past_of k (step_in rule p now w m) ≡ false → core_turn rule p now m (work_with k word w) c n ≡ turn_with k word (core_turn rule p now m w c n)
+pub turn_same : (rule : ReplacementRule) (p : Setup) (k word now : ℕ) (m : CoreMove) (w : Work) (c : CoreState) (n : Counts) →
+    past_of k (step_in rule p now w m) ≡ false → core_turn rule p now m (work_with k word w) c n ≡ turn_with k word (core_turn rule p now m w c n)
 turn_same rule p k word now (Passes c') w c n h = refl
 turn_same rule p k word now (Issues j i) w c n h =
     ap (λ a. core_issue rule p now j i a (work_with k word w) c n) (attempts_with rule p k word now j i w h)
@@ -154,14 +164,16 @@ empty_with true false left word h = refl
 empty_with true true [] word h = absurd (let x : true ≡ false = h in cc)
 empty_with true true (x ∷ left) word h = refl
 
-step_past : (rule : ReplacementRule) (p : Setup) (k word l now j : ℕ) (i : Interval) (w : Work) (a : Attempt) → (j ≡ k → takes_past (task_in w j).left a ≡ false) → past_of l (step_by rule p now j i (work_with k word w) a) ≡ past_of l (step_by rule p now j i w a)
+step_past : (rule : ReplacementRule) (p : Setup) (k word l now j : ℕ) (i : Interval) (w : Work) (a : Attempt) →
+    (j ≡ k → takes_past (task_in w j).left a ≡ false) → past_of l (step_by rule p now j i (work_with k word w) a) ≡ past_of l (step_by rule p now j i w a)
 step_past rule p k word l now j i w (Traps cause) h = refl
 step_past rule p k word l now j i w (Executes instr e) h =
     task_with (λ t. ((j == l) && e.input && is_empty t.left) ≡ ((j == l) && e.input && is_empty (task_in w j).left)) w.tasks k j word refl
     (λ q. empty_with (j == l) e.input (task_in w j).left word (h q))
 
 -- the same ones, for every task
-pub past_same : (rule : ReplacementRule) (p : Setup) (k word l now : ℕ) (m : CoreMove) (w : Work) → past_of k (step_in rule p now w m) ≡ false → past_of l (step_in rule p now (work_with k word w) m) ≡ past_of l (step_in rule p now w m)
+pub past_same : (rule : ReplacementRule) (p : Setup) (k word l now : ℕ) (m : CoreMove) (w : Work) → past_of k (step_in rule p now w m) ≡ false →
+    past_of l (step_in rule p now (work_with k word w) m) ≡ past_of l (step_in rule p now w m)
 past_same rule p k word l now (Passes c) w h = refl
 past_same rule p k word l now (Issues j i) w h =
     ap (λ a. past_of l (step_by rule p now j i (work_with k word w) a)) (attempts_with rule p k word now j i w h)

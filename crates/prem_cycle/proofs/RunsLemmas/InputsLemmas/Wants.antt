@@ -58,7 +58,8 @@ not_past k (Some step) h =
 
 -- ---- any number of cycles
 
-none_wanted : (rule : ReplacementRule) (p : Setup) (requests : List Request) (n : ℕ) (s : MachineState) (k : ℕ) → has_read_past_end rule p requests n s k ≡ false → (m : ℕ) → m < n → wants_input_of rule p requests (cycles_of rule p requests m s) ≢ Some k
+none_wanted : (rule : ReplacementRule) (p : Setup) (requests : List Request) (n : ℕ) (s : MachineState) (k : ℕ) →
+    has_read_past_end rule p requests n s k ≡ false → (m : ℕ) → m < n → wants_input_of rule p requests (cycles_of rule p requests m s) ≢ Some k
 none_wanted rule p requests zero s k h m lt = absurd (omega arith)
 none_wanted rule p requests (suc n) s k h m lt =
     let both : (has_read_past_end rule p requests n s k || past_of k (coming_step rule p requests (cycles_of rule p requests n s))) ≡ false =
@@ -67,7 +68,8 @@ none_wanted rule p requests (suc n) s k h m lt =
     subst (λ i. wants_input_of rule p requests (cycles_of rule p requests i s) ≢ Some k) (sym e) (not_wanted k (coming_step rule p requests (cycles_of rule p requests n s)) (or_second _ _ both)))
     (λ (ne : m ≢ n). none_wanted rule p requests n s k (or_first _ _ both) m (omega arith)) (cases_eq m n)
 
-none_read : (rule : ReplacementRule) (p : Setup) (requests : List Request) (n : ℕ) (s : MachineState) (k : ℕ) → ((m : ℕ) → m < n → wants_input_of rule p requests (cycles_of rule p requests m s) ≢ Some k) → has_read_past_end rule p requests n s k ≡ false
+none_read : (rule : ReplacementRule) (p : Setup) (requests : List Request) (n : ℕ) (s : MachineState) (k : ℕ) →
+    ((m : ℕ) → m < n → wants_input_of rule p requests (cycles_of rule p requests m s) ≢ Some k) → has_read_past_end rule p requests n s k ≡ false
 unfolding steps_of
 none_read rule p requests zero s k h = refl
 none_read rule p requests (suc n) s k h =
@@ -75,6 +77,7 @@ none_read rule p requests (suc n) s k h =
     ∙ ap₂ (λ a b. a || b) (none_read rule p requests n s k (λ m lt. h m (omega arith)))
     (not_past k (coming_step rule p requests (cycles_of rule p requests n s)) (h n (omega arith)))
 
-pub reads_are_wanted : (rule : ReplacementRule) (p : Setup) (requests : List Request) (n : ℕ) (s : MachineState) (k : ℕ) → (has_read_past_end rule p requests n s k ≡ false) ↔ ((m : ℕ) → m < n → wants_input_of rule p requests (cycles_of rule p requests m s) ≢ Some k)
+pub reads_are_wanted : (rule : ReplacementRule) (p : Setup) (requests : List Request) (n : ℕ) (s : MachineState) (k : ℕ) →
+    (has_read_past_end rule p requests n s k ≡ false) ↔ ((m : ℕ) → m < n → wants_input_of rule p requests (cycles_of rule p requests m s) ≢ Some k)
 reads_are_wanted rule p requests n s k =
     (none_wanted rule p requests n s k, none_read rule p requests n s k)

@@ -42,7 +42,9 @@ same_access own view other (suc rd) None same loads = tt
 same_access own view other (suc rd) (Some a) same loads = λ e. same_bytes own view other a.address a.size same (loads e)
 
 -- the instruction that was fetched
-next_done : (p : Setup) (own : ℕ → Bool) (target : Target) (size : ℕ) (view : ℕ → ℕ) (t : Task) (i : Instr) (o : Outcome) → ((a : ℕ) → view a < 256) → fetch size view t.pc ≡ Ok i → act target size view (slice_index t.registers) t.pc t.phase (next_input t.left) i ≡ o → IsOwnOutcome p own t.pc o → Next p own target size view t
+next_done : (p : Setup) (own : ℕ → Bool) (target : Target) (size : ℕ) (view : ℕ → ℕ) (t : Task) (i : Instr) (o : Outcome) → ((a : ℕ) → view a < 256) →
+    fetch size view t.pc ≡ Ok i → act target size view (slice_index t.registers) t.pc t.phase (next_input t.left) i ≡ o → IsOwnOutcome p own t.pc o →
+    Next p own target size view t
 next_done p own target size view t i (Trap cause) bytes f d h = absurd h
 next_done p own target size view t i (Done e) bytes f d h =
     let is : Fits i × (t.pc + 4 ≤ size) = fetch_fits size view t.pc bytes i f in
@@ -61,18 +63,22 @@ next_done p own target size view t i (Done e) bytes f d h =
       stays = h;
     }
 
-next_fetched : (p : Setup) (own : ℕ → Bool) (run : TaskRun) (view : ℕ → ℕ) (t : Task) (ended : ℕ) (f : Result Instr Cause) → ((a : ℕ) → view a < 256) → fetch run.size view t.pc ≡ f → IsOwnOutcome p own t.pc (outcome_of run (plain_of t view ended) f) → Next p own run.target run.size view t
+next_fetched : (p : Setup) (own : ℕ → Bool) (run : TaskRun) (view : ℕ → ℕ) (t : Task) (ended : ℕ) (f : Result Instr Cause) →
+    ((a : ℕ) → view a < 256) → fetch run.size view t.pc ≡ f → IsOwnOutcome p own t.pc (outcome_of run (plain_of t view ended) f) →
+    Next p own run.target run.size view t
 next_fetched p own run view t ended (Err cause) bytes f h = absurd h
 next_fetched p own run view t ended (Ok i) bytes f h =
     next_done p own run.target run.size view t i (outcome_of run (plain_of t view ended) (Ok i)) bytes f refl h
 
 -- where its run on its own stays with its own bytes
-pub next_of : (p : Setup) (own : ℕ → Bool) (run : TaskRun) (view : ℕ → ℕ) (t : Task) (ended : ℕ) → ((a : ℕ) → view a < 256) → IsOwnOutcome p own t.pc (next_outcome run (plain_of t view ended)) → Next p own run.target run.size view t
+pub next_of : (p : Setup) (own : ℕ → Bool) (run : TaskRun) (view : ℕ → ℕ) (t : Task) (ended : ℕ) → ((a : ℕ) → view a < 256) →
+    IsOwnOutcome p own t.pc (next_outcome run (plain_of t view ended)) → Next p own run.target run.size view t
 next_of p own run view t ended bytes h = next_fetched p own run view t ended (fetch run.size view t.pc) bytes refl h
 
 -- ---- behind its touches
 
-seen_by : (target : Target) (size : ℕ) (view : ℕ → ℕ) (t : Task) (i j : Instr) (e : Effect) (o : Outcome) → act target size view (slice_index t.registers) t.pc t.phase (next_input t.left) j ≡ o → attempt_by j o ≡ Executes i e → effect_in target size view t i e ≡ e
+seen_by : (target : Target) (size : ℕ) (view : ℕ → ℕ) (t : Task) (i j : Instr) (e : Effect) (o : Outcome) →
+    act target size view (slice_index t.registers) t.pc t.phase (next_input t.left) j ≡ o → attempt_by j o ≡ Executes i e → effect_in target size view t i e ≡ e
 seen_by target size view t i j e (Trap cause) d h = absurd (let x : Traps cause ≡ Executes i e = h in cc)
 seen_by target size view t i j e (Done f) d h =
     let x : Executes j f ≡ Executes i e = h in
@@ -81,7 +87,8 @@ seen_by target size view t i j e (Done f) d h =
     let with_value : Outcome → Effect = λ o. record e { value = value_of e.value o } in
     ap with_value (ap (act target size view (slice_index t.registers) t.pc t.phase (next_input t.left)) (sym instr) ∙ d ∙ effect)
 
-seen_fetched : (target : Target) (size : ℕ) (view : ℕ → ℕ) (t : Task) (i : Instr) (e : Effect) (f : Result Instr Cause) → attempt_fetched target size view t f ≡ Executes i e → effect_in target size view t i e ≡ e
+seen_fetched : (target : Target) (size : ℕ) (view : ℕ → ℕ) (t : Task) (i : Instr) (e : Effect) (f : Result Instr Cause) →
+    attempt_fetched target size view t f ≡ Executes i e → effect_in target size view t i e ≡ e
 seen_fetched target size view t i e (Err cause) h = absurd (let x : Traps cause ≡ Executes i e = h in cc)
 seen_fetched target size view t i e (Ok j) h =
     seen_by target size view t i j e (act target size view (slice_index t.registers) t.pc t.phase (next_input t.left) j) refl h

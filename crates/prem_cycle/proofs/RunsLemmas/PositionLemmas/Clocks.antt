@@ -94,7 +94,9 @@ one_of [] h = absurd (omega arith)
 one_of (t ∷ []) h = refl
 one_of (t ∷ u ∷ ts) h = absurd (omega arith)
 
-rest_by : (now : ℕ) (t : TaskJobs) (until : ℕ) (ready left : Bool) → 1 ≤ t.period → is_ready now t ≡ ready → has_jobs_left t ≡ left → run_or (cond ready (Some 0) None) (rest (earlier (cond left (Some ((now / t.period + 1) * t.period)) None) None)) ≡ Rest until → (now < until) × (until ≤ (t.jobs - 1) * t.period)
+rest_by : (now : ℕ) (t : TaskJobs) (until : ℕ) (ready left : Bool) → 1 ≤ t.period → is_ready now t ≡ ready → has_jobs_left t ≡ left →
+    run_or (cond ready (Some 0) None) (rest (earlier (cond left (Some ((now / t.period + 1) * t.period)) None) None)) ≡ Rest until →
+    (now < until) × (until ≤ (t.jobs - 1) * t.period)
 rest_by now t until true left some r l e = absurd (let x : Run 0 ≡ Rest until = e in cc)
 rest_by now t until false false some r l e = absurd (let x : Finished ≡ Rest until = e in cc)
 rest_by now t until false true some r l e =
@@ -106,7 +108,8 @@ rest_by now t until false true some r l e =
     let within : (now / t.period + 1) * t.period ≤ (t.jobs - 1) * t.period = mul-le (now / t.period + 1) t.period (t.jobs - 1) t.period (omega arith) (omega arith) in
     (omega arith, omega arith)
 
-pub rest_is : (now : ℕ) (sched : List TaskJobs) (until : ℕ) → length sched ≡ 1 → 1 ≤ (task_at sched 0).period → choice now sched ≡ Rest until → (now < until) × (until ≤ ((task_at sched 0).jobs - 1) * (task_at sched 0).period)
+pub rest_is : (now : ℕ) (sched : List TaskJobs) (until : ℕ) → length sched ≡ 1 → 1 ≤ (task_at sched 0).period → choice now sched ≡ Rest until →
+    (now < until) × (until ≤ ((task_at sched 0).jobs - 1) * (task_at sched 0).period)
 rest_is now sched until one some e =
     let t : TaskJobs = task_at sched 0 in
     rest_by now t until (is_ready now t) (has_jobs_left t) some refl refl (ap (choice now) (sym (one_of sched one)) ∙ e)
@@ -134,7 +137,8 @@ module _ (last due now ended : ℕ) where
   marked_may End d h = h
   marked_may Job d h = tt
 
-  pays : (switch : ℕ) (mode : Mode) (mark : Change) (d : Debt) → wants (want_of d) ≡ true → Clocked switch last due now ended mode mark d → Clocking switch last due (now + 1) ended mode mark (paid_on_bus d.transactions d)
+  pays : (switch : ℕ) (mode : Mode) (mark : Change) (d : Debt) → wants (want_of d) ≡ true → Clocked switch last due now ended mode mark d →
+      Clocking switch last due (now + 1) ended mode mark (paid_on_bus d.transactions d)
   pays switch Point mark d q h = absurd (let x : false ≡ true = sym (wants_none d h.rests) ∙ q in cc)
   pays switch (Switching k left) mark d q h = absurd (let x : false ≡ true = sym (wants_none d h.rests) ∙ q in cc)
   pays switch (Idle until) mark d q h = absurd (let x : false ≡ true = sym (wants_none d h.rests.0) ∙ q in cc)
@@ -156,7 +160,10 @@ module _ (last due now ended : ℕ) where
   closes_not End d x h paid = h
   closes_not Job d x h paid = let y : true ≡ false = sym paid ∙ h in cc
 
-  pub move_clock : (p : Setup) (had : Bool) (sched : List TaskJobs) (w : Work) (c : CoreState) (m : CoreMove) → MoveCase p now had sched w c m → (wants (want_of c.debt) ≡ true → had ≡ true) → (c.mode ≡ Point → choice now sched ≡ Finished → ⊥) → ((until : ℕ) → choice now sched ≡ Rest until → (now < until) × (until ≤ last)) → Clocked p.plant.switch last due now ended c.mode c.mark c.debt → MoveClock p.plant.switch last due now ended m
+  pub move_clock : (p : Setup) (had : Bool) (sched : List TaskJobs) (w : Work) (c : CoreState) (m : CoreMove) → MoveCase p now had sched w c m →
+      (wants (want_of c.debt) ≡ true → had ≡ true) → (c.mode ≡ Point → choice now sched ≡ Finished → ⊥) →
+      ((until : ℕ) → choice now sched ≡ Rest until → (now < until) × (until ≤ last)) →
+      Clocked p.plant.switch last due now ended c.mode c.mark c.debt → MoveClock p.plant.switch last due now ended m
   move_clock p had sched w c _ (pays_on_bus q e) bus goes rest h = pays p.plant.switch c.mode c.mark c.debt q h
   move_clock p had sched w c _ (is_denied q e) bus goes rest h = absurd (let x : true ≡ false = sym (bus q) ∙ e in cc)
   move_clock p had sched w c _ (pays_cost k cost q e f) bus goes rest h =

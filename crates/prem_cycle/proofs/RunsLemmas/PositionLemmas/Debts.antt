@@ -53,7 +53,9 @@ owed_positive plant [] h = tt
 owed_positive plant (t ∷ touches) h = positive-append (owed_for plant t) (owed_by plant touches) (touch_positive plant t h) (owed_positive plant touches h)
 
 -- each access at most a fill and a write back
-pub owed_at_most : (rule : ReplacementRule) (plant : Plant) (size : ℕ) (tasks : List Task) (stored : Option Stored) (line : ℕ) (t : Touched) (access : Option Access) → total (owed_by plant (issued_with rule size tasks stored line t access).touches) ≤ (1 + data_accesses access) * (plant.fill + plant.back)
+pub owed_at_most : (rule : ReplacementRule) (plant : Plant) (size : ℕ) (tasks : List Task) (stored : Option Stored) (line : ℕ) (t : Touched)
+    (access : Option Access) → total (owed_by plant (issued_with rule size tasks stored line t access).touches) ≤ (1 + data_accesses access) *
+    (plant.fill + plant.back)
 owed_at_most rule plant size tasks stored line t None =
     let a : total (owed_for plant (line_touch line t)) ≤ plant.fill + plant.back = touch_owes plant (line_touch line t) in
     let e : total (owed_for plant (line_touch line t) ++ []) ≡ total (owed_for plant (line_touch line t)) + 0 = total-append (owed_for plant (line_touch line t)) [] in
@@ -62,7 +64,9 @@ owed_at_most rule plant size tasks stored line t (Some x) =
     let u : LineTouch = line_touch (x.address / size) (touch_of rule t.cache (x.address / size) t.memory) in
     let a : total (owed_for plant (line_touch line t)) ≤ plant.fill + plant.back = touch_owes plant (line_touch line t) in
     let b : total (owed_for plant u) ≤ plant.fill + plant.back = touch_owes plant u in
-    let e : total (owed_for plant (line_touch line t) ++ (owed_for plant u ++ [])) ≡ total (owed_for plant (line_touch line t)) + total (owed_for plant u ++ []) = total-append (owed_for plant (line_touch line t)) (owed_for plant u ++ []) in
+    let e : total (owed_for plant (line_touch line t) ++ (owed_for plant u ++ []))
+    ≡ total (owed_for plant (line_touch line t)) + total (owed_for plant u ++ []) =
+    total-append (owed_for plant (line_touch line t)) (owed_for plant u ++ []) in
     let f : total (owed_for plant u ++ []) ≡ total (owed_for plant u) + 0 = total-append (owed_for plant u) [] in
     omega arith
 

@@ -12,7 +12,8 @@ use Rattle.prem_isa.specs.declared.effect.Change.TheVariants.{Stay, Memory, Exec
 use Rattle.prem_isa.specs.declared.effect.Outcome.{Outcome}
 use Rattle.prem_isa.specs.declared.effect.Outcome.TheVariants.{Trap, Done}
 use Rattle.prem_isa.specs.Act.{fetch}
-use Rattle.prem_isa.specs.Plain.{TaskRun, PlainState, with_last, after_change, after_outcome, moved_by, is_running, outcome_of, plain_start, plain_step, plain_steps, plain_run, Did, plain_did, plain_trace}
+use Rattle.prem_isa.specs.Plain.{TaskRun, PlainState, with_last, after_change, after_outcome, moved_by, is_running, outcome_of, plain_start, plain_step, plain_steps, plain_run}
+use Rattle.prem_isa.specs.Plain.{Did, plain_did, plain_trace}
 use Rattle.prem_isa.specs.Decode.{cost_of, greatest_cost}
 use Rattle.prem_isa.proofs.PlainLaws.{did_cost, plain_steps-next, plain_trace-add}
 use Rattle.prem_cycle.specs.Runs.Position.Finish.{data_accesses, due_of}

@@ -35,7 +35,9 @@ use Rattle.prem_cycle.proofs.RunsLemmas.PositionLemmas.Settles.{Timed, run_timed
 
 -- ---- the switches that have begun are at most the jobs
 
-begun_most : (p : Setup) (runs : ℕ → TaskRun) (at : ℕ → ℕ) (sched : List TaskJobs) (now last : ℕ) (mode : Mode) (mark : Change) (d : Debt) → length p.tasks ≡ 1 → Schedules p runs at sched mode mark → Waiting now last mode mark d → (plain_run (runs 0) (at 0)).ended ≤ (runs 0).jobs → begun_in mode (task_at sched 0).ended ≤ (runs 0).jobs
+begun_most : (p : Setup) (runs : ℕ → TaskRun) (at : ℕ → ℕ) (sched : List TaskJobs) (now last : ℕ) (mode : Mode) (mark : Change) (d : Debt) →
+    length p.tasks ≡ 1 → Schedules p runs at sched mode mark → Waiting now last mode mark d → (plain_run (runs 0) (at 0)).ended ≤ (runs 0).jobs →
+    begun_in mode (task_at sched 0).ended ≤ (runs 0).jobs
 begun_most p runs at sched now last Point mark d one s w le = omega (arith, s.ended 0 (omega arith))
 begun_most p runs at sched now last (Idle until) mark d one s w le = omega (arith, s.ended 0 (omega arith))
 begun_most p runs at sched now last (Switching zero left) mark d one s w le = omega (arith, s.ended 0 (omega arith), s.going.left)
@@ -78,7 +80,8 @@ first_of_three false false false h x y = absurd (let z : false ≡ true = h in c
 
 -- ---- the law
 
-module _ (rule : ReplacementRule) (plant : Plant) (task : TaskRecord) (content words : List ℕ) (n : ℕ) (r : IsRule rule) (h : IsLone plant task content words) (ends : EndsIn (run_alone plant task content words) n) where
+module _ (rule : ReplacementRule) (plant : Plant) (task : TaskRecord) (content words : List ℕ) (n : ℕ) (r : IsRule rule)
+    (h : IsLone plant task content words) (ends : EndsIn (run_alone plant task content words) n) where
   abbrev p : Setup
   p = lone plant task
 
@@ -116,9 +119,11 @@ module _ (rule : ReplacementRule) (plant : Plant) (task : TaskRecord) (content w
       let t : Timed plant task content words n (at m 0) s = timed m in
       let b : begun_in s.core.mode (task_at s.sched 0).ended ≤ task.jobs =
       begun_most p runs (at m) s.sched s.now ((task.jobs - 1) * task.period) s.core.mode s.core.mark s.core.debt refl (all m).position.schedules t.clock.rests (ended_most m) in
-      let x : begun_in s.core.mode (task_at s.sched 0).ended * plant.switch ≤ task.jobs * plant.switch = mul-le (begun_in s.core.mode (task_at s.sched 0).ended) plant.switch task.jobs plant.switch b (omega arith) in
+      let x : begun_in s.core.mode (task_at s.sched 0).ended * plant.switch ≤ task.jobs * plant.switch =
+      mul-le (begun_in s.core.mode (task_at s.sched 0).ended) plant.switch task.jobs plant.switch b (omega arith) in
       let d : dues_of plant run (at m 0) ≤ dues_of plant run n = dues_grow plant run (at m 0) n t.within in
-      time_by s.now _ t.clock.idle (begun_in s.core.mode (task_at s.sched 0).ended * plant.switch) (dues_of plant run (at m 0)) ((task.jobs - 1) * task.period) (task.jobs * plant.switch) (dues_of plant run n) t.clock.time t.clock.high x d where
+      time_by s.now _ t.clock.idle (begun_in s.core.mode (task_at s.sched 0).ended * plant.switch) (dues_of plant run (at m 0))
+      ((task.jobs - 1) * task.period) (task.jobs * plant.switch) (dues_of plant run n) t.clock.time t.clock.high x d where
         time_by : (now owed idle begun due last jobs dues : ℕ) → now + owed ≤ idle + begun + due → idle ≤ last → begun ≤ jobs → due ≤ dues → now ≤ last + jobs + dues
         time_by now owed idle begun due last jobs dues a b c d = omega arith
 
@@ -189,7 +194,8 @@ finishes_one_job rule plant task content words n cycles r h one ends le =
     let z : (task.jobs - 1) * task.period ≡ 0 = ap (λ j. (j - 1) * task.period) one ∙ zero-times task.period in
     let s : task.jobs * plant.switch ≡ plant.switch = ap (λ j. j * plant.switch) one ∙ omega arith in
     finishes rule plant task content words n r h ends cycles
-    (one_by ((task.jobs - 1) * task.period) (task.jobs * plant.switch) (dues_of plant (run_alone plant task content words) n) plant.switch (n * (greatest_cost plant.target + 2 * (plant.fill + plant.back))) cycles z s d le) where
+    (one_by ((task.jobs - 1) * task.period) (task.jobs * plant.switch) (dues_of plant (run_alone plant task content words) n) plant.switch
+    (n * (greatest_cost plant.target + 2 * (plant.fill + plant.back))) cycles z s d le) where
       zero-times : (x : ℕ) → 0 * x ≡ 0
       zero-times x = omega arith
 

@@ -1,6 +1,7 @@
 -- The gates write to lines of their devices alone.
 use Rattle.std.specs.Prelude.{slice_set, All}
-use Rattle.std.proofs.Common.{◌≡◌, ℕ, suc, ◌+◌, ◌*◌, ◌/◌, ◌%◌, ◌<◌, ◌≤◌, refl, ap, ◌∙◌, sym, subst, arith, eqb, leb, Some, None, Option, true, false, Bool, List, [], ◌∷◌, ◌++◌, length, drop, IfSome, ⊎_elim}
+use Rattle.std.proofs.Common.{◌≡◌, ℕ, suc, ◌+◌, ◌*◌, ◌/◌, ◌%◌, ◌<◌, ◌≤◌, refl, ap, ◌∙◌, sym, subst, arith, eqb, leb, Some, None, Option, true, false, Bool, List, [], ◌∷◌, ◌++◌}
+use Rattle.std.proofs.Common.{length, drop, IfSome, ⊎_elim}
 use Rattle.std.proofs.lemmas.Bool.{cases_eq, cases_Bool, cond_both}
 use Rattle.std.proofs.lemmas.List.{get_or-set_same, get_or-set_other, length-set}
 use Rattle.std.proofs.lemmas.List.Elements.{All-push, All-head, All-tail}
@@ -17,7 +18,8 @@ use Rattle.prem_gate.specs.declared.bus.Window.{Window}
 use Rattle.prem_gate.specs.declared.bus.Carried.{Carried}
 use Rattle.prem_gate.specs.declared.bus.CoreWant.{CoreWant}
 use Rattle.prem_gate.specs.declared.bus.CoreWant.TheVariants.{No, New, Held}
-use Rattle.prem_gate.specs.Gates.{GateState, GatesState, Turned, gate_at, no_gate, with_queue, with_gates, with_carried, is_full, queued, after_arrival, fits, start_of, first_of, startable_from, startable, taken, slot_of, memory_after, one_less, ends, goes_on, carries, wants, starts, bus_free, bus_with, bus_turn}
+use Rattle.prem_gate.specs.Gates.{GateState, GatesState, Turned, gate_at, no_gate, with_queue, with_gates, with_carried, is_full, queued, after_arrival, fits, start_of, first_of}
+use Rattle.prem_gate.specs.Gates.{startable_from, startable, taken, slot_of, memory_after, one_less, ends, goes_on, carries, wants, starts, bus_free, bus_with, bus_turn}
 use Rattle.prem_image.specs.declared.image.DeviceRecord.{DeviceRecord}
 use Rattle.prem_image.specs.Records.{IsPlaced}
 use Rattle.prem_cycle.specs.State.{Setup, Work}
@@ -45,7 +47,8 @@ pub record AreGates (p : Setup) (s : GatesState) : Type 0 where
   pub carried : IfSome s.carried (λ c. IsLine p c.device c.request.line)
 
 -- another queue of one of them
-set_queue : (p : Setup) (s : GatesState) (d : ℕ) (q : List Request) → AreGates p s → All (λ (r : Request). r.line < (device_of p d).device.lines) q → AreGates p (with_gates s (slice_set s.gates d (with_queue (gate_at s.gates d) q)))
+set_queue : (p : Setup) (s : GatesState) (d : ℕ) (q : List Request) → AreGates p s → All (λ (r : Request). r.line < (device_of p d).device.lines) q →
+    AreGates p (with_gates s (slice_set s.gates d (with_queue (gate_at s.gates d) q)))
 set_queue p s d q h all =
     let g : GateState = with_queue (gate_at s.gates d) q in
     record {
@@ -107,17 +110,21 @@ carries_turns p clash c s memory l h =
     (λ _. record { gates = with_carried_gates p s (Some (one_less c)) (record { there = l.there; within = l.within }) h; memory_is = unwritten })
 
 -- what can start is a line that is there
-start_line : (p : Setup) (now : ℕ) (w : Window) (d cost : ℕ) (q : List Request) → d < length p.devices → All (λ (r : Request). r.line < (device_of p d).device.lines) q → IfSome (start_of now w d cost q) (λ c. IsLine p c.device c.request.line)
+start_line : (p : Setup) (now : ℕ) (w : Window) (d cost : ℕ) (q : List Request) → d < length p.devices →
+    All (λ (r : Request). r.line < (device_of p d).device.lines) q → IfSome (start_of now w d cost q) (λ c. IsLine p c.device c.request.line)
 start_line p now w d cost [] lt all = tt
 start_line p now w d cost (r ∷ q) lt all =
     cond_both (fits now w cost) (Some (record { left = cost; device = d; first = now; request = r })) None (λ o. IfSome o (λ c. IsLine p c.device c.request.line))
     (λ _. record { there = lt; within = All-head (λ (r : Request). r.line < (device_of p d).device.lines) r q all }) (λ _. tt)
 
-first_line : (p : Setup) (a b : Option Carried) → IfSome a (λ c. IsLine p c.device c.request.line) → IfSome b (λ c. IsLine p c.device c.request.line) → IfSome (first_of a b) (λ c. IsLine p c.device c.request.line)
+first_line : (p : Setup) (a b : Option Carried) → IfSome a (λ c. IsLine p c.device c.request.line) →
+    IfSome b (λ c. IsLine p c.device c.request.line) → IfSome (first_of a b) (λ c. IsLine p c.device c.request.line)
 first_line p None b x y = y
 first_line p (Some c) b x y = x
 
-startable_line : (p : Setup) (now : ℕ) (w : Window) (d : ℕ) (gates : List GateState) → ((i : ℕ) → i < length gates → (d + i < length p.devices) × IsGateOf p (d + i) (gate_at gates i)) → IfSome (startable_from now w d gates) (λ c. IsLine p c.device c.request.line)
+startable_line : (p : Setup) (now : ℕ) (w : Window) (d : ℕ) (gates : List GateState) →
+    ((i : ℕ) → i < length gates → (d + i < length p.devices) × IsGateOf p (d + i) (gate_at gates i)) →
+    IfSome (startable_from now w d gates) (λ c. IsLine p c.device c.request.line)
 startable_line p now w d [] h = tt
 startable_line p now w d (g ∷ gates) h =
     let z : d + 0 ≡ d = omega arith in
@@ -133,19 +140,23 @@ drop_all : (P : Request → Type 0) (q : List Request) → All P q → All P (dr
 drop_all P [] all = all
 drop_all P (r ∷ q) all = All-tail P r q all
 
-starts_turns : (p : Setup) (core : Bool) (o : Option Carried) (s : GatesState) (memory : List ℕ) → IfSome o (λ c. IsLine p c.device c.request.line) → AreGates p s → Turns p memory (starts core o s memory)
+starts_turns : (p : Setup) (core : Bool) (o : Option Carried) (s : GatesState) (memory : List ℕ) → IfSome o (λ c. IsLine p c.device c.request.line) →
+    AreGates p s → Turns p memory (starts core o s memory)
 starts_turns p core None s memory l h = record { gates = h; memory_is = unwritten }
 starts_turns p core (Some c) s memory l h =
     carries_turns p core c (taken c.device s) memory l
     (set_queue p s c.device (drop 1 (gate_at s.gates c.device).queue) h
     (drop_all (λ (r : Request). r.line < (device_of p c.device).device.lines) (gate_at s.gates c.device).queue (h.each c.device l.there).queue))
 
-free_turns : (p : Setup) (core : CoreWant) (o : Option Carried) (s : GatesState) (memory : List ℕ) → IfSome o (λ c. IsLine p c.device c.request.line) → AreGates p s → Turns p memory (bus_free core o s memory)
+free_turns : (p : Setup) (core : CoreWant) (o : Option Carried) (s : GatesState) (memory : List ℕ) →
+    IfSome o (λ c. IsLine p c.device c.request.line) → AreGates p s → Turns p memory (bus_free core o s memory)
 free_turns p No o s memory l h = starts_turns p false o s memory l h
 free_turns p New o s memory l h = starts_turns p true o s memory l h
 free_turns p Held o s memory l h = record { gates = h; memory_is = unwritten }
 
-with_turns : (p : Setup) (core : CoreWant) (carried o : Option Carried) (s : GatesState) (memory : List ℕ) → IfSome carried (λ c. IsLine p c.device c.request.line) → IfSome o (λ c. IsLine p c.device c.request.line) → AreGates p s → Turns p memory (bus_with core carried o s memory)
+with_turns : (p : Setup) (core : CoreWant) (carried o : Option Carried) (s : GatesState) (memory : List ℕ) →
+    IfSome carried (λ c. IsLine p c.device c.request.line) → IfSome o (λ c. IsLine p c.device c.request.line) → AreGates p s →
+    Turns p memory (bus_with core carried o s memory)
 with_turns p core (Some c) o s memory l m h = carries_turns p (wants core) c s memory l h
 with_turns p core None o s memory l m h = free_turns p core o s memory m h
 
@@ -159,7 +170,9 @@ bus_turns p now w core s memory h =
 -- ---- what it writes is no task's own
 
 -- the word of a line of a device
-word_keeps : (p : Setup) (own : ℕ → ℕ → Bool) (w : Work) (device line value : ℕ) → All (IsPlaced p.plant.line p.plant.memory) p.devices → ((k a : ℕ) → k < length p.tasks → own k a ≡ true → IsFree p (a / p.plant.line)) → IsKept p w.cache w.memory → IsLine p device line → BusKeeps p own w (spliced w.memory ((device_of p device).area + line * p.plant.line) (bytes_of 4 value))
+word_keeps : (p : Setup) (own : ℕ → ℕ → Bool) (w : Work) (device line value : ℕ) → All (IsPlaced p.plant.line p.plant.memory) p.devices →
+    ((k a : ℕ) → k < length p.tasks → own k a ≡ true → IsFree p (a / p.plant.line)) → IsKept p w.cache w.memory → IsLine p device line →
+    BusKeeps p own w (spliced w.memory ((device_of p device).area + line * p.plant.line) (bytes_of 4 value))
 word_keeps p own w device line value placed free h l =
     let size : ℕ = p.plant.line in
     let d : DeviceRecord = device_of p device in
@@ -201,6 +214,8 @@ word_keeps p own w device line value placed free h l =
       not_resident : (c : CacheState) (q : ℕ) → (is_resident c q ≡ true → ⊥) → is_resident c q ≡ false
       not_resident c q no_way = ⊎_elim (λ (t : is_resident c q ≡ true). absurd (no_way t)) (λ (f : is_resident c q ≡ false). f) (cases_Bool (is_resident c q))
 
-pub written_keeps : (p : Setup) (own : ℕ → ℕ → Bool) (w : Work) (memory : List ℕ) → All (IsPlaced p.plant.line p.plant.memory) p.devices → ((k a : ℕ) → k < length p.tasks → own k a ≡ true → IsFree p (a / p.plant.line)) → IsKept p w.cache w.memory → Written p w.memory memory → BusKeeps p own w memory
+pub written_keeps : (p : Setup) (own : ℕ → ℕ → Bool) (w : Work) (memory : List ℕ) → All (IsPlaced p.plant.line p.plant.memory) p.devices →
+    ((k a : ℕ) → k < length p.tasks → own k a ≡ true → IsFree p (a / p.plant.line)) → IsKept p w.cache w.memory → Written p w.memory memory →
+    BusKeeps p own w memory
 written_keeps p own w _ placed free h unwritten = record { view = λ k a lt o. refl; kept = h }
 written_keeps p own w _ placed free h (wrote device line value l) = word_keeps p own w device line value placed free h l

@@ -31,7 +31,8 @@ image_lone image input task words h =
     }
 
 -- its run is that of the task
-image_run_is : (rule : ReplacementRule) (image : Image) (input : RunInput) (task : TaskRecord) (words : List ℕ) (cycles : ℕ) → IsLoneImage image input task words → lone_run rule image.plant task (items_of image.content) words cycles ≡ image_run rule image input cycles
+image_run_is : (rule : ReplacementRule) (image : Image) (input : RunInput) (task : TaskRecord) (words : List ℕ) (cycles : ℕ) →
+    IsLoneImage image input task words → lone_run rule image.plant task (items_of image.content) words cycles ≡ image_run rule image input cycles
 image_run_is rule image input task words cycles h =
     let content : List ℕ = items_of image.content in
     let setup : List TaskRecord → List DeviceRecord → Setup = λ tasks devices. record { plant = image.plant; tasks = tasks; devices = devices } in

@@ -34,18 +34,22 @@ did_by : (pc : ℕ) (phase : Phase) (i j : Instr) (e : Effect) (o : Outcome) →
 did_by pc phase i j e (Trap cause) h = absurd (let x : Traps cause ≡ Executes i e = h in cc)
 did_by pc phase i j e (Done f) h = let x : Executes j f ≡ Executes i e = h in cc
 
-did_at : (run : TaskRun) (t : Task) (view : ℕ → ℕ) (ended : ℕ) (i : Instr) (e : Effect) (f : Result Instr Cause) → attempt_fetched run.target run.size view t f ≡ Executes i e → did_fetched run (plain_of t view ended) f ≡ Some (did_of t.pc t.phase i e)
+did_at : (run : TaskRun) (t : Task) (view : ℕ → ℕ) (ended : ℕ) (i : Instr) (e : Effect) (f : Result Instr Cause) →
+    attempt_fetched run.target run.size view t f ≡ Executes i e → did_fetched run (plain_of t view ended) f ≡ Some (did_of t.pc t.phase i e)
 did_at run t view ended i e (Err cause) h = absurd (let x : Traps cause ≡ Executes i e = h in cc)
 did_at run t view ended i e (Ok j) h =
     did_by t.pc t.phase i j e (act run.target run.size view (slice_index t.registers) t.pc t.phase (next_input t.left) j) h
 
-did_alone : (run : TaskRun) (t : Task) (view : ℕ → ℕ) (ended : ℕ) (i : Instr) (e : Effect) → is_running run (plain_of t view ended) ≡ true → attempt_in run.target run.size view t ≡ Executes i e → plain_did run (plain_of t view ended) ≡ Some (did_of t.pc t.phase i e)
+did_alone : (run : TaskRun) (t : Task) (view : ℕ → ℕ) (ended : ℕ) (i : Instr) (e : Effect) → is_running run (plain_of t view ended) ≡ true →
+    attempt_in run.target run.size view t ≡ Executes i e → plain_did run (plain_of t view ended) ≡ Some (did_of t.pc t.phase i e)
 did_alone run t view ended i e goes h =
     let none : Option Did = None in
     ap (λ b. cond b (did_fetched run (plain_of t view ended) (fetch run.size view t.pc)) none) goes ∙ did_at run t view ended i e (fetch run.size view t.pc) h
 
 -- the instruction that a task issues
-pub issuing_did : (p : Setup) (own : ℕ → Bool) (runs : ℕ → TaskRun) (at : ℕ → ℕ) (k : ℕ) (w : Work) → Unfinished p runs at k → IsAt (runs k) (at k) (task_in w k) → (i : Issuing p own (runs k) (at k) k w) → plain_did (runs k) (plain_run (runs k) (at k)) ≡ Some (did_of (task_in w k).pc (task_in w k).phase i.instr i.effect)
+pub issuing_did : (p : Setup) (own : ℕ → Bool) (runs : ℕ → TaskRun) (at : ℕ → ℕ) (k : ℕ) (w : Work) → Unfinished p runs at k →
+    IsAt (runs k) (at k) (task_in w k) → (i : Issuing p own (runs k) (at k) k w) →
+    plain_did (runs k) (plain_run (runs k) (at k)) ≡ Some (did_of (task_in w k).pc (task_in w k).phase i.instr i.effect)
 issuing_did p own runs at k w u h i =
     let t : Task = task_in w k in
     let s : PlainState = plain_run (runs k) (at k) in
@@ -54,8 +58,10 @@ issuing_did p own runs at k w u h i =
 
 -- ---- the coming instruction
 
-module _ (rule : ReplacementRule) (p : Setup) (content : List ℕ) (inputs : List (List ℕ)) (requests : List Request) (own : ℕ → ℕ → Bool) (runs : ℕ → TaskRun) (r : IsRule rule) (q : IsRunnable p content requests) (o : AreOwn p content inputs own runs) where
-  step_alone : (at : ℕ → ℕ) (now : ℕ) (sched : List TaskJobs) (w : Work) (m : CoreMove) (st : CycleStep) → Stands p own runs at w → Moves p runs at sched m → step_in rule p now w m ≡ Some st → IssuedAsAlone p runs at w st
+module _ (rule : ReplacementRule) (p : Setup) (content : List ℕ) (inputs : List (List ℕ)) (requests : List Request) (own : ℕ → ℕ → Bool)
+    (runs : ℕ → TaskRun) (r : IsRule rule) (q : IsRunnable p content requests) (o : AreOwn p content inputs own runs) where
+  step_alone : (at : ℕ → ℕ) (now : ℕ) (sched : List TaskJobs) (w : Work) (m : CoreMove) (st : CycleStep) → Stands p own runs at w →
+      Moves p runs at sched m → step_in rule p now w m ≡ Some st → IssuedAsAlone p runs at w st
   step_alone at now sched w (Passes c) st s m e = absurd (let x : None ≡ Some st = e in cc)
   step_alone at now sched w (Issues k i) st s m e =
       let u : Unfinished p runs at k = m.unfinished in
@@ -92,7 +98,8 @@ module _ (rule : ReplacementRule) (p : Setup) (content : List ℕ) (inputs : Lis
   over_none s st true o e = absurd (let x : None ≡ Some st = e in cc)
   over_none s st false o e = e
 
-  pub issues_alone : (n : ℕ) (st : CycleStep) → coming_step rule p requests (run_of rule p content inputs requests n) ≡ Some st → IssuedAsAlone p runs (issued_of rule p requests n (start_of p inputs (memory_of p content))) (run_of rule p content inputs requests n).work st
+  pub issues_alone : (n : ℕ) (st : CycleStep) → coming_step rule p requests (run_of rule p content inputs requests n) ≡ Some st →
+      IssuedAsAlone p runs (issued_of rule p requests n (start_of p inputs (memory_of p content))) (run_of rule p content inputs requests n).work st
   issues_alone n st e =
       let s : MachineState = run_of rule p content inputs requests n in
       coming_alone (issued_of rule p requests n (start_of p inputs (memory_of p content))) s st

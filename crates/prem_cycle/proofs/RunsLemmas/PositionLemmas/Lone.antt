@@ -1,6 +1,7 @@
 -- One task without devices: all of memory is its own.
 use Rattle.std.specs.Prelude.{All, ◌&&◌}
-use Rattle.std.proofs.Common.{◌≡◌, ℕ, zero, suc, ◌+◌, ◌-◌, ◌/◌, ◌<◌, ◌≤◌, refl, ap, ◌∙◌, sym, arith, cond, ltb, Some, None, Option, true, false, Bool, List, [], ◌∷◌, ◌++◌, length, get_or, replicate, IfSome, ⊎_elim, ◌⊎◌, inl, inr, is_none}
+use Rattle.std.proofs.Common.{◌≡◌, ℕ, zero, suc, ◌+◌, ◌-◌, ◌/◌, ◌<◌, ◌≤◌, refl, ap, ◌∙◌, sym, arith, cond, ltb, Some, None, Option, true, false, Bool, List, [], ◌∷◌, ◌++◌, length}
+use Rattle.std.proofs.Common.{get_or, replicate, IfSome, ⊎_elim, ◌⊎◌, inl, inr, is_none}
 use Rattle.std.proofs.lemmas.Bool.{cases_lt, le-ltb}
 use Rattle.std.proofs.lemmas.List.Elements.{All-nil}
 use Rattle.prem_plant.specs.declared.plant.Plant.{Plant}
@@ -120,7 +121,8 @@ alone_fits plant task content words h =
       inputs = h.inputs;
     }
 
-lone_is : (plant : Plant) (task : TaskRecord) (content words : List ℕ) (k : ℕ) → IsLone plant task content words → k < 1 → IsRunOf (lone plant task) (memory_of (lone plant task) content) (words ∷ []) whole k (run_alone plant task content words)
+lone_is : (plant : Plant) (task : TaskRecord) (content words : List ℕ) (k : ℕ) → IsLone plant task content words → k < 1 →
+    IsRunOf (lone plant task) (memory_of (lone plant task) content) (words ∷ []) whole k (run_alone plant task content words)
 lone_is plant task content words zero h lt = record {
   target = refl;
   size = refl;
@@ -141,7 +143,8 @@ lone_runnable plant task content words h = record {
   asked = All-nil (IsRequest []);
 }
 
-pub lone_own : (plant : Plant) (task : TaskRecord) (content words : List ℕ) → IsLone plant task content words → NeverTraps (run_alone plant task content words) → AreOwn (lone plant task) content (words ∷ []) all_whole (λ k. run_alone plant task content words)
+pub lone_own : (plant : Plant) (task : TaskRecord) (content words : List ℕ) → IsLone plant task content words →
+    NeverTraps (run_alone plant task content words) → AreOwn (lone plant task) content (words ∷ []) all_whole (λ k. run_alone plant task content words)
 lone_own plant task content words h never = record {
   runs_are = λ k lt. lone_is plant task content words k h lt;
   stay = λ k lt. never_own plant task (run_alone plant task content words) never;

@@ -24,6 +24,7 @@ abbrev pub turn_with : ReplacementRule → Setup → Turned → CoreMove → Mac
 turn_with rule p b m s = core_turn rule p s.now m (with_memory b.memory s.work) s.core (with_clash b.turn.clash s.log.counts)
 
 -- what it makes of the jobs
-pub may_schedule : (p : Setup) (runs : ℕ → TaskRun) (at : ℕ → ℕ) (sched : List TaskJobs) (now : ℕ) (had : Bool) (w : Work) (c : CoreState) (m : CoreMove) → MayMove p now had sched w c m → Schedules p runs at sched c.mode c.mark → Moves p runs at sched m
+pub may_schedule : (p : Setup) (runs : ℕ → TaskRun) (at : ℕ → ℕ) (sched : List TaskJobs) (now : ℕ) (had : Bool) (w : Work) (c : CoreState)
+    (m : CoreMove) → MayMove p now had sched w c m → Schedules p runs at sched c.mode c.mark → Moves p runs at sched m
 may_schedule p runs at sched now had w c _ (does m x) s = moves p runs at sched now had w c m x s
 may_schedule p runs at sched now had w c _ (stands_still e) s = s

@@ -11,7 +11,9 @@ use Rattle.prem_cycle.proofs.RunsLemmas.PositionLemmas.Runs.{AllAt, run_all}
 use Rattle.prem_cycle.proofs.RunsLemmas.PositionLemmas.Starts.{start_all}
 
 -- the whole of what is known of a state of a run
-pub run_stands : (rule : ReplacementRule) (p : Setup) (content : List ℕ) (inputs : List (List ℕ)) (requests : List Request) (own : ℕ → ℕ → Bool) (runs : ℕ → TaskRun) (n : ℕ) → IsRule rule → IsRunnable p content requests → AreOwn p content inputs own runs → AllAt p own runs (issued_of rule p requests n (start_of p inputs (memory_of p content))) (run_of rule p content inputs requests n)
+pub run_stands : (rule : ReplacementRule) (p : Setup) (content : List ℕ) (inputs : List (List ℕ)) (requests : List Request) (own : ℕ → ℕ → Bool)
+    (runs : ℕ → TaskRun) (n : ℕ) → IsRule rule → IsRunnable p content requests → AreOwn p content inputs own runs →
+    AllAt p own runs (issued_of rule p requests n (start_of p inputs (memory_of p content))) (run_of rule p content inputs requests n)
 run_stands rule p content inputs requests own runs n r q o =
     run_all rule p content inputs requests own runs r q o n (start_of p inputs (memory_of p content)) (start_all p content inputs requests own runs q o)
 

@@ -40,13 +40,15 @@ abbrev pub IsIssued : Setup → Work → CoreMove → Type 0
 IsIssued p w (Passes c) = Unit {0}
 IsIssued p w (Issues k i) = IsIssue p k w
 
-pub count_move : (rule : ReplacementRule) (p : Setup) (now : ℕ) (w : Work) (m : CoreMove) (xs : List CycleStep) (j : ℕ) → IsIssued p w m → bump_move m (λ i. count_of i xs) j ≡ count_of j (with_last (step_in rule p now w m) xs)
+pub count_move : (rule : ReplacementRule) (p : Setup) (now : ℕ) (w : Work) (m : CoreMove) (xs : List CycleStep) (j : ℕ) → IsIssued p w m →
+    bump_move m (λ i. count_of i xs) j ≡ count_of j (with_last (step_in rule p now w m) xs)
 count_move rule p now w (Passes c) xs j h = refl
 count_move rule p now w (Issues k i) xs j h =
     sym (ap (λ a. count_of j (with_last (step_by rule p now k i w (behind_touches rule p k w a)) xs)) h.issue.does ∙ count_more j _ xs)
 
 -- the move of a core issues such an instruction, or none
-pub issued_move : (p : Setup) (own : ℕ → ℕ → Bool) (runs : ℕ → TaskRun) (at : ℕ → ℕ) (sched : List TaskJobs) (w : Work) (m : CoreMove) → Runs p own runs → Stands p own runs at w → Moves p runs at sched m → IsIssued p w m
+pub issued_move : (p : Setup) (own : ℕ → ℕ → Bool) (runs : ℕ → TaskRun) (at : ℕ → ℕ) (sched : List TaskJobs) (w : Work) (m : CoreMove) →
+    Runs p own runs → Stands p own runs at w → Moves p runs at sched m → IsIssued p w m
 issued_move p own runs at sched w (Passes c) rs s m = tt
 issued_move p own runs at sched w (Issues k i) rs s m = record { own = own k; run = runs k; n = at k; issue = issuing p own runs at w k rs s m.unfinished }
 
@@ -56,7 +58,8 @@ pub record AllAt (p : Setup) (own : ℕ → ℕ → Bool) (runs : ℕ → TaskRu
   pub position : Position p own runs at s
   pub gates : AreGates p s.gates
 
-module _ (rule : ReplacementRule) (p : Setup) (content : List ℕ) (inputs : List (List ℕ)) (requests : List Request) (own : ℕ → ℕ → Bool) (runs : ℕ → TaskRun) (r : IsRule rule) (q : IsRunnable p content requests) (o : AreOwn p content inputs own runs) where
+module _ (rule : ReplacementRule) (p : Setup) (content : List ℕ) (inputs : List (List ℕ)) (requests : List Request) (own : ℕ → ℕ → Bool)
+    (runs : ℕ → TaskRun) (r : IsRule rule) (q : IsRunnable p content requests) (o : AreOwn p content inputs own runs) where
   pub runs_of : Runs p own runs
   runs_of = record {
     is = λ k lt. let x : IsRunOf p (memory_of p content) inputs (own k) k (runs k) = o.runs_are k lt in record { target = x.target; size = x.size; entry = x.entry; stack = x.stack; fits = x.fits };
@@ -74,7 +77,8 @@ module _ (rule : ReplacementRule) (p : Setup) (content : List ℕ) (inputs : Lis
   pub is_issued : (at : ℕ → ℕ) (sched : List TaskJobs) (w : Work) (m : CoreMove) → Stands p own runs at w → Moves p runs at sched m → IsIssued p w m
   is_issued at sched w m s j = issued_move p own runs at sched w m runs_of s j
 
-  cycle_all : (s : MachineState) (xs : List CycleStep) → AllAt p own runs (λ k. count_of k xs) s → AllAt p own runs (λ k. count_of k (with_last (step_with rule p (bus_at (arrivals_at requests s).gates s) s) xs)) (cycle_of rule p requests s)
+  cycle_all : (s : MachineState) (xs : List CycleStep) → AllAt p own runs (λ k. count_of k xs) s →
+      AllAt p own runs (λ k. count_of k (with_last (step_with rule p (bus_at (arrivals_at requests s).gates s) s) xs)) (cycle_of rule p requests s)
   cycle_all s xs h =
       let at : ℕ → ℕ = λ k. count_of k xs in
       let a : Arrivals = arrivals_at requests s in
@@ -91,13 +95,15 @@ module _ (rule : ReplacementRule) (p : Setup) (content : List ℕ) (inputs : Lis
         gates = subst (AreGates p) (sym (cycle_gates rule p a b s)) t.gates;
       }
 
-  step_all : (s : MachineState) (xs : List CycleStep) → AllAt p own runs (λ k. count_of k xs) s → AllAt p own runs (λ k. count_of k (with_last (coming_step rule p requests s) xs)) (step_of rule p requests s)
+  step_all : (s : MachineState) (xs : List CycleStep) → AllAt p own runs (λ k. count_of k xs) s →
+      AllAt p own runs (λ k. count_of k (with_last (coming_step rule p requests s) xs)) (step_of rule p requests s)
   step_all s xs h =
       let none : Option CycleStep = None in
       ⊎_elim (λ (e : is_over s ≡ true).
       subst (λ b. AllAt p own runs (λ k. count_of k (with_last (cond b none (step_with rule p (bus_at (arrivals_at requests s).gates s) s)) xs)) (cond b s (cycle_of rule p requests s))) (sym e) h)
       (λ (e : is_over s ≡ false).
-      subst (λ b. AllAt p own runs (λ k. count_of k (with_last (cond b none (step_with rule p (bus_at (arrivals_at requests s).gates s) s)) xs)) (cond b s (cycle_of rule p requests s))) (sym e) (cycle_all s xs h))
+      subst (λ b. AllAt p own runs (λ k. count_of k (with_last (cond b none (step_with rule p (bus_at (arrivals_at requests s).gates s) s)) xs))
+      (cond b s (cycle_of rule p requests s))) (sym e) (cycle_all s xs h))
       (cases_Bool (is_over s))
 
   pub run_all : (n : ℕ) (s : MachineState) → AllAt p own runs (λ k. 0) s → AllAt p own runs (issued_of rule p requests n s) (cycles_of rule p requests n s)

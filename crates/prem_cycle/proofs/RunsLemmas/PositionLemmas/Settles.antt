@@ -19,7 +19,8 @@ use Rattle.prem_cycle.specs.declared.state.Mode.TheVariants.{Point, Switching, R
 use Rattle.prem_cycle.specs.declared.state.Interval.{Interval}
 use Rattle.prem_cycle.specs.State.{Setup, Work, Debt, MachineState, start_of}
 use Rattle.prem_cycle.specs.Core.{want_of, is_paid, CoreMove, CoreTurn}
-use Rattle.prem_cycle.specs.Cycle.{Arrivals, arrivals_at, bus_at, with_memory, with_clash, move_at, core_at, joined, ends_before, sched_after, ended_interval, at_point, close_interval, settle, with_now, next_cycle, is_finish, is_finished_in, is_finished, is_full, is_over, cycle_of, step_of}
+use Rattle.prem_cycle.specs.Cycle.{Arrivals, arrivals_at, bus_at, with_memory, with_clash, move_at, core_at, joined, ends_before, sched_after, ended_interval, at_point}
+use Rattle.prem_cycle.specs.Cycle.{close_interval, settle, with_now, next_cycle, is_finish, is_finished_in, is_finished, is_full, is_over, cycle_of, step_of}
 use Rattle.prem_cycle.specs.Run.{CycleStep, step_with, coming_step, memory_of, cycles_of, steps_of}
 use Rattle.prem_cycle.proofs.CoreCases.{move_cases}
 use Rattle.prem_cycle.specs.Runs.Position.Issued.{count_of, issued_of, AreOwn, IsRunnable}
@@ -65,7 +66,8 @@ stays_marked now i (Execute stated) d h f = h
 stays_marked now i End d h f = h
 stays_marked now i Job d h f = unpaid (is_paid d) f
 
-one_more : (p : Setup) (runs : ℕ → TaskRun) (at : ℕ → ℕ) (now k : ℕ) (i : Interval) (c : Change) (sched : List TaskJobs) → length p.tasks ≡ 1 → length sched ≡ 1 → GoesOn p runs at k c → MayMark c → ends_before now i c ≡ true → (task_at (sched_after c k sched) 0).ended ≡ (task_at sched 0).ended + 1
+one_more : (p : Setup) (runs : ℕ → TaskRun) (at : ℕ → ℕ) (now k : ℕ) (i : Interval) (c : Change) (sched : List TaskJobs) → length p.tasks ≡ 1 →
+    length sched ≡ 1 → GoesOn p runs at k c → MayMark c → ends_before now i c ≡ true → (task_at (sched_after c k sched) 0).ended ≡ (task_at sched 0).ended + 1
 one_more p runs at now k i Stay sched one len g h e = absurd (let x : false ≡ true = e in cc)
 one_more p runs at now k i Memory sched one len g h e = absurd h
 one_more p runs at now k i (Execute stated) sched one len g h e = absurd h
@@ -84,10 +86,12 @@ module _ (plant : Plant) (task : TaskRecord) (content words : List ℕ) (n at : 
   due = dues_of plant (run_alone plant task content words) at
 
   -- nothing is over
-  goes_on : (now ended : ℕ) (mode : Mode) (mark : Change) (d : Debt) → Waiting now last mode mark d → Clocking plant.switch last due now ended mode mark d → Clocked plant.switch last due now ended mode mark d
+  goes_on : (now ended : ℕ) (mode : Mode) (mark : Change) (d : Debt) → Waiting now last mode mark d →
+      Clocking plant.switch last due now ended mode mark d → Clocked plant.switch last due now ended mode mark d
   goes_on now ended mode mark d w h = record { idle = h.idle; time = h.time; low = h.low; high = h.high; positive = h.positive; rests = w }
 
-  closed_clock : (now ended ended' k : ℕ) (mark : Change) (d : Debt) → ended' ≡ ended + 1 → is_paid d ≡ true → Clocking plant.switch last due now ended (Running k) mark d → Clocked plant.switch last due now ended' Point mark d
+  closed_clock : (now ended ended' k : ℕ) (mark : Change) (d : Debt) → ended' ≡ ended + 1 → is_paid d ≡ true →
+      Clocking plant.switch last due now ended (Running k) mark d → Clocked plant.switch last due now ended' Point mark d
   closed_clock now ended ended' k mark d e paid h =
       let more : ended' * plant.switch ≡ (ended + 1) * plant.switch = ap (λ x. x * plant.switch) e in
       record { idle = h.idle; time = omega (arith, h.time, more); low = h.low; high = h.high; positive = h.positive; rests = paid_none d paid }
@@ -95,27 +99,33 @@ module _ (plant : Plant) (task : TaskRecord) (content words : List ℕ) (n at : 
   idle_over : (now ended until : ℕ) (mark : Change) (d : Debt) → Clocking plant.switch last due now ended (Idle until) mark d → Clocked plant.switch last due now ended Point mark d
   idle_over now ended until mark d h = record { idle = h.idle; time = h.time; low = h.low; high = h.high; positive = h.positive; rests = h.rests.0 }
 
-  settle_timed : (ats : ℕ → ℕ) (runs : ℕ → TaskRun) (p : Setup) (m : Mode) (s : MachineState) → s.core.mode ≡ m → length p.tasks ≡ 1 → length s.sched ≡ 1 → Going p runs ats m s.core.mark → Ticking plant task content words n at s → Timed plant task content words n at (settle m s)
+  settle_timed : (ats : ℕ → ℕ) (runs : ℕ → TaskRun) (p : Setup) (m : Mode) (s : MachineState) → s.core.mode ≡ m → length p.tasks ≡ 1 →
+      length s.sched ≡ 1 → Going p runs ats m s.core.mark → Ticking plant task content words n at s → Timed plant task content words n at (settle m s)
   settle_timed ats runs p Point s e one len g h =
-      let c : Clocking plant.switch last due s.now (task_at s.sched 0).ended Point s.core.mark s.core.debt = subst (λ m. Clocking plant.switch last due s.now (task_at s.sched 0).ended m s.core.mark s.core.debt) e h.clock in
+      let c : Clocking plant.switch last due s.now (task_at s.sched 0).ended Point s.core.mark s.core.debt =
+      subst (λ m. Clocking plant.switch last due s.now (task_at s.sched 0).ended m s.core.mark s.core.debt) e h.clock in
       record {
-        clock = subst (λ m. Clocked plant.switch last due s.now (task_at s.sched 0).ended m s.core.mark s.core.debt) (sym e) (goes_on s.now (task_at s.sched 0).ended Point s.core.mark s.core.debt c.rests c);
+        clock = subst (λ m. Clocked plant.switch last due s.now (task_at s.sched 0).ended m s.core.mark s.core.debt) (sym e)
+            (goes_on s.now (task_at s.sched 0).ended Point s.core.mark s.core.debt c.rests c);
         carried = h.carried;
         gates = h.gates;
         log = h.log;
         within = h.within;
       }
   settle_timed ats runs p (Switching k left) s e one len g h =
-      let c : Clocking plant.switch last due s.now (task_at s.sched 0).ended (Switching k left) s.core.mark s.core.debt = subst (λ m. Clocking plant.switch last due s.now (task_at s.sched 0).ended m s.core.mark s.core.debt) e h.clock in
+      let c : Clocking plant.switch last due s.now (task_at s.sched 0).ended (Switching k left) s.core.mark s.core.debt =
+      subst (λ m. Clocking plant.switch last due s.now (task_at s.sched 0).ended m s.core.mark s.core.debt) e h.clock in
       record {
-        clock = subst (λ m. Clocked plant.switch last due s.now (task_at s.sched 0).ended m s.core.mark s.core.debt) (sym e) (goes_on s.now (task_at s.sched 0).ended (Switching k left) s.core.mark s.core.debt c.rests c);
+        clock = subst (λ m. Clocked plant.switch last due s.now (task_at s.sched 0).ended m s.core.mark s.core.debt) (sym e)
+            (goes_on s.now (task_at s.sched 0).ended (Switching k left) s.core.mark s.core.debt c.rests c);
         carried = h.carried;
         gates = h.gates;
         log = h.log;
         within = h.within;
       }
   settle_timed ats runs p (Running k) s e one len g h =
-      let c : Clocking plant.switch last due s.now (task_at s.sched 0).ended (Running k) s.core.mark s.core.debt = subst (λ m. Clocking plant.switch last due s.now (task_at s.sched 0).ended m s.core.mark s.core.debt) e h.clock in
+      let c : Clocking plant.switch last due s.now (task_at s.sched 0).ended (Running k) s.core.mark s.core.debt =
+      subst (λ m. Clocking plant.switch last due s.now (task_at s.sched 0).ended m s.core.mark s.core.debt) e h.clock in
       cond_both (is_paid s.core.debt && ends_before s.now s.core.interval s.core.mark) (close_interval k s) s (Timed plant task content words n at)
       (λ t.
       let both : (is_paid s.core.debt ≡ true) × (ends_before s.now s.core.interval s.core.mark ≡ true) = and_parts (is_paid s.core.debt) (ends_before s.now s.core.interval s.core.mark) t in
@@ -136,7 +146,8 @@ module _ (plant : Plant) (task : TaskRecord) (content words : List ℕ) (n at : 
         within = h.within;
       })
   settle_timed ats runs p (Idle until) s e one len g h =
-      let c : Clocking plant.switch last due s.now (task_at s.sched 0).ended (Idle until) s.core.mark s.core.debt = subst (λ m. Clocking plant.switch last due s.now (task_at s.sched 0).ended m s.core.mark s.core.debt) e h.clock in
+      let c : Clocking plant.switch last due s.now (task_at s.sched 0).ended (Idle until) s.core.mark s.core.debt =
+      subst (λ m. Clocking plant.switch last due s.now (task_at s.sched 0).ended m s.core.mark s.core.debt) e h.clock in
       cond_both (ltb s.now until) s (record s { core = at_point s.core }) (Timed plant task content words n at)
       (λ t. record {
         clock = subst (λ m. Clocked plant.switch last due s.now (task_at s.sched 0).ended m s.core.mark s.core.debt) (sym e)
@@ -156,7 +167,9 @@ module _ (plant : Plant) (task : TaskRecord) (content words : List ℕ) (n at : 
 
 -- ---- a cycle
 
-module _ (rule : ReplacementRule) (plant : Plant) (task : TaskRecord) (content words : List ℕ) (n : ℕ) (r : IsRule rule) (lone_is : IsLone plant task content words) (ends : EndsIn (run_alone plant task content words) n) (q : IsRunnable (lone plant task) content []) (o : AreOwn (lone plant task) content (words ∷ []) all_whole (λ k. run_alone plant task content words)) where
+module _ (rule : ReplacementRule) (plant : Plant) (task : TaskRecord) (content words : List ℕ) (n : ℕ) (r : IsRule rule)
+    (lone_is : IsLone plant task content words) (ends : EndsIn (run_alone plant task content words) n) (q : IsRunnable (lone plant task) content [])
+    (o : AreOwn (lone plant task) content (words ∷ []) all_whole (λ k. run_alone plant task content words)) where
   abbrev pub p : Setup
   p = lone plant task
 
@@ -172,7 +185,8 @@ module _ (rule : ReplacementRule) (plant : Plant) (task : TaskRecord) (content w
       let y : true ≡ false = sym (ap is_finish f) ∙ x in
       cc
 
-  releases : (at : ℕ → ℕ) (s : MachineState) → Schedules p runs at s.sched s.core.mode s.core.mark → (until : ℕ) → choice s.now s.sched ≡ Rest until → (s.now < until) × (until ≤ (task.jobs - 1) * task.period)
+  releases : (at : ℕ → ℕ) (s : MachineState) → Schedules p runs at s.sched s.core.mode s.core.mark → (until : ℕ) → choice s.now s.sched ≡ Rest until →
+      (s.now < until) × (until ≤ (task.jobs - 1) * task.period)
   releases at s h until e =
       let period : (task_at s.sched 0).period ≡ task.period = h.periods 0 (omega arith) in
       let jobs : (task_at s.sched 0).jobs ≡ task.jobs = h.jobs 0 (omega arith) in
@@ -180,7 +194,8 @@ module _ (rule : ReplacementRule) (plant : Plant) (task : TaskRecord) (content w
       let x : (s.now < until) × (until ≤ ((task_at s.sched 0).jobs - 1) * (task_at s.sched 0).period) = rest_is s.now s.sched until h.count (omega arith) e in
       (x.0, subst (λ a. until ≤ (a - 1) * task.period) jobs (subst (λ b. until ≤ ((task_at s.sched 0).jobs - 1) * b) period x.1))
 
-  cycle_timed : (at : ℕ → ℕ) (s : MachineState) → is_finished s ≡ false → AllAt p all_whole runs at s → Timed plant task content words n (at 0) s → Timed plant task content words n (bump_move (move_at p (bus_at s.gates s) s) at 0) (cycle_of rule p [] s)
+  cycle_timed : (at : ℕ → ℕ) (s : MachineState) → is_finished s ≡ false → AllAt p all_whole runs at s → Timed plant task content words n (at 0) s →
+      Timed plant task content words n (bump_move (move_at p (bus_at s.gates s) s) at 0) (cycle_of rule p [] s)
   cycle_timed at s goes h t =
       let a : Arrivals = arrivals_at [] s in
       let b : Turned = bus_at s.gates s in
@@ -195,7 +210,8 @@ module _ (rule : ReplacementRule) (plant : Plant) (task : TaskRecord) (content w
       (move_cases p s.now b.turn.core s.sched w s.core) (λ e. had ∙ e) (not_finished s goes) (releases at s h.position.schedules) t.clock in
       let turn : CoreTurn = core_at rule p b s in
       let times : TurnTimes rule plant task content words n (bump_move m at 0) s.now (task_at s.sched 0).ended turn =
-      turn_times rule plant task content words n at s.now (task_at s.sched 0).ended s.sched m w s.core (with_clash b.turn.clash s.log.counts) r lone_is.in_range ends all_runs stands mv t.within clock in
+      turn_times rule plant task content words n at s.now (task_at s.sched 0).ended s.sched m w s.core (with_clash b.turn.clash s.log.counts)
+      r lone_is.in_range ends all_runs stands mv t.within clock in
       let st : TurnStands p all_whole runs (bump_move m at) s.sched turn =
       turn_stands rule p all_whole runs at s.now s.sched m w s.core (with_clash b.turn.clash s.log.counts) r all_runs stands mv in
       let j : MachineState = joined a b turn s in
@@ -218,7 +234,9 @@ module _ (rule : ReplacementRule) (plant : Plant) (task : TaskRecord) (content w
     or_true false c h = let x : true ≡ false = h in cc
   or_first false b c h = refl
 
-  step_timed : (s : MachineState) (xs : List CycleStep) → AllAt p all_whole runs (λ k. count_of k xs) s → Timed plant task content words n (count_of 0 xs) s → Timed plant task content words n (count_of 0 (with_last (coming_step rule p [] s) xs)) (step_of rule p [] s)
+  step_timed : (s : MachineState) (xs : List CycleStep) → AllAt p all_whole runs (λ k. count_of k xs) s →
+      Timed plant task content words n (count_of 0 xs) s →
+      Timed plant task content words n (count_of 0 (with_last (coming_step rule p [] s) xs)) (step_of rule p [] s)
   step_timed s xs h t =
       let none : Option CycleStep = None in
       let at : ℕ → ℕ = λ k. count_of k xs in
@@ -237,7 +255,8 @@ module _ (rule : ReplacementRule) (plant : Plant) (task : TaskRecord) (content w
       (cycle_timed at s (or_first (is_finished s) (is_some s.trapped) (is_full s) e) h t)))
       (cases_Bool (is_over s))
 
-  pub run_timed : (m : ℕ) → Timed plant task content words n (issued_of rule p [] m (start_of p (words ∷ []) (memory_of p content)) 0) (cycles_of rule p [] m (start_of p (words ∷ []) (memory_of p content)))
+  pub run_timed : (m : ℕ) → Timed plant task content words n (issued_of rule p [] m (start_of p (words ∷ []) (memory_of p content)) 0)
+      (cycles_of rule p [] m (start_of p (words ∷ []) (memory_of p content)))
   unfolding cycles_of steps_of
   run_timed zero = record {
     clock = record { idle = 0; time = omega arith; low = omega arith; high = omega arith; positive = tt; rests = refl };

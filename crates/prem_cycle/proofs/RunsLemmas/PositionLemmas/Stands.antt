@@ -89,10 +89,14 @@ pub record Issuing (p : Setup) (own : ℕ → Bool) (run : TaskRun) (n : ℕ) (k
   pub does : attempt_of p k w ≡ Executes instr effect
   pub behind : (rule : ReplacementRule) → IsRule rule → attempt_behind rule p k w ≡ Executes instr effect
   pub alone : attempt_in run.target run.size (plain_run run n).task.view (task_in w k) ≡ Executes instr effect
-  pub next : plain_run run (n + 1) ≡ plain_of (task_after (record_of p k) effect (task_in w k)) (with_stored effect.stored (plain_run run n).task.view) (ended_after effect.change (plain_run run n).ended)
+  pub next : plain_run run (n + 1)
+      ≡ plain_of (task_after (record_of p k) effect (task_in w k)) (with_stored effect.stored (plain_run run n).task.view)
+      (ended_after effect.change (plain_run run n).ended)
   pub lawful : EffectLawful (task_in w k).phase effect
   pub stays : IsOwn p own (task_in w k).pc effect
-  pub work : (rule : ReplacementRule) → IsRule rule → Issue p (slice_set w.tasks k (task_after (record_of p k) effect (task_in w k))) effect.stored (view_of w.cache w.memory) (issued_by rule p k effect w).work
+  pub work : (rule : ReplacementRule) → IsRule rule →
+      Issue p (slice_set w.tasks k (task_after (record_of p k) effect (task_in w k))) effect.stored (view_of w.cache w.memory)
+      (issued_by rule p k effect w).work
 
 pub record IsRun (p : Setup) (k : ℕ) (run : TaskRun) : Type 0 where
   pub target : run.target ≡ p.plant.target
@@ -102,7 +106,9 @@ pub record IsRun (p : Setup) (k : ℕ) (run : TaskRun) : Type 0 where
   pub fits : RunFits run
 
 -- an instruction issues, and matches that of the task's run on its own
-pub issue_matches : (p : Setup) (own : ℕ → Bool) (run : TaskRun) (n k : ℕ) (w : Work) → IsRun p k run → IsOwnOutcome p own (plain_run run n).pc (next_outcome run (plain_run run n)) → is_running run (plain_run run n) ≡ true → IsAt run n (task_in w k) → AgreeOn own (plain_run run n).task.view (view_of w.cache w.memory) → IsKept p w.cache w.memory → Issuing p own run n k w
+pub issue_matches : (p : Setup) (own : ℕ → Bool) (run : TaskRun) (n k : ℕ) (w : Work) → IsRun p k run →
+    IsOwnOutcome p own (plain_run run n).pc (next_outcome run (plain_run run n)) → is_running run (plain_run run n) ≡ true →
+    IsAt run n (task_in w k) → AgreeOn own (plain_run run n).task.view (view_of w.cache w.memory) → IsKept p w.cache w.memory → Issuing p own run n k w
 issue_matches p own run n k w is stays goes here agree kept =
     let t : Task = task_in w k in
     let s : PlainState = plain_run run n in

@@ -148,7 +148,8 @@ start_gates p inputs memory = record {
 
 -- ---- the start
 
-module _ (p : Setup) (content : List ℕ) (inputs : List (List ℕ)) (requests : List Request) (own : ℕ → ℕ → Bool) (runs : ℕ → TaskRun) (q : IsRunnable p content requests) (o : AreOwn p content inputs own runs) where
+module _ (p : Setup) (content : List ℕ) (inputs : List (List ℕ)) (requests : List Request) (own : ℕ → ℕ → Bool) (runs : ℕ → TaskRun)
+    (q : IsRunnable p content requests) (o : AreOwn p content inputs own runs) where
   first_view : (k a : ℕ) → k < length p.tasks → own k a ≡ true → view_of (empty_cache p.plant) (memory_of p content) a ≡ (plain_run (runs k) 0).task.view a
   unfolding plain_steps
   first_view k a lt h = empty_view p.plant (memory_of p content) a ∙ (o.runs_are k lt).bytes a h

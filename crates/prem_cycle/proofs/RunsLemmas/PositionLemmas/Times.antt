@@ -112,7 +112,9 @@ module _ (rule : ReplacementRule) (plant : Plant) (task : TaskRecord) (content w
     pub clock : Clocking plant.switch last (dues_of plant run at) (now + 1) ended t.core.mode t.core.mark t.core.debt
     pub within : at ≤ n
 
-  issue_times : (at : ℕ → ℕ) (now ended : ℕ) (i : Interval) (w : Work) (c : CoreState) (counts : Counts) → IsRule rule → IsPlant plant → EndsIn run n → IsAt run (at 0) (task_in w 0) → Unfinished p runs at 0 → ReadyClock plant.switch last (dues_of plant run (at 0)) now ended → (x : Issuing p whole run (at 0) 0 w) → TurnTimes (at 0 + 1) now ended (core_turn rule p now (Issues 0 i) w c counts)
+  issue_times : (at : ℕ → ℕ) (now ended : ℕ) (i : Interval) (w : Work) (c : CoreState) (counts : Counts) → IsRule rule → IsPlant plant →
+      EndsIn run n → IsAt run (at 0) (task_in w 0) → Unfinished p runs at 0 → ReadyClock plant.switch last (dues_of plant run (at 0)) now ended →
+      (x : Issuing p whole run (at 0) 0 w) → TurnTimes (at 0 + 1) now ended (core_turn rule p now (Issues 0 i) w c counts)
   issue_times at now ended i w c counts r is ends here u g x =
       let le : at 0 + 1 ≤ n = issues_before at (task_in w 0) ends here u in
       let d : Did = did_of (task_in w 0).pc (task_in w 0).phase x.instr x.effect in
@@ -120,13 +122,15 @@ module _ (rule : ReplacementRule) (plant : Plant) (task : TaskRecord) (content w
       let due : dues_of plant run (at 0 + 1) ≡ dues_of plant run (at 0) + due_of plant d = dues_next plant run (at 0) d did in
       let touches : List LineTouch = (issued_by rule p 0 x.effect w).touches in
       let owes : total (owed_by plant touches) ≤ (1 + data_accesses x.effect.access) * (plant.fill + plant.back) =
-      owed_at_most rule plant plant.line (slice_set w.tasks 0 (task_after (record_of p 0) x.effect (task_in w 0))) x.effect.stored ((task_in w 0).pc / plant.line) (touch_of rule w.cache ((task_in w 0).pc / plant.line) w.memory) x.effect.access in
+      owed_at_most rule plant plant.line (slice_set w.tasks 0 (task_after (record_of p 0) x.effect (task_in w 0))) x.effect.stored
+      ((task_in w 0).pc / plant.line) (touch_of rule w.cache ((task_in w 0).pc / plant.line) w.memory) x.effect.access in
       let cost : 1 ≤ cost_of x.instr = (cost_bounds x.instr).0 in
       subst (λ a. TurnTimes (at 0 + 1) now ended (core_issue rule p now 0 i a w c counts)) (sym (x.behind rule r))
       (record {
         clock = record {
           idle = g.idle;
-          time = issue_time now ended g.idle (dues_of plant run (at 0)) (dues_of plant run (at 0 + 1)) (total (owed_by plant touches)) (cost_of x.instr) ((1 + data_accesses x.effect.access) * (plant.fill + plant.back)) plant.switch g.time due owes cost;
+          time = issue_time now ended g.idle (dues_of plant run (at 0)) (dues_of plant run (at 0 + 1)) (total (owed_by plant touches))
+              (cost_of x.instr) ((1 + data_accesses x.effect.access) * (plant.fill + plant.back)) plant.switch g.time due owes cost;
           low = omega (arith, g.low);
           high = g.high;
           positive = owed_positive plant touches is;
@@ -134,10 +138,13 @@ module _ (rule : ReplacementRule) (plant : Plant) (task : TaskRecord) (content w
         };
         within = le;
       }) where
-        issue_time : (now ended idle due due' owes cost most switch : ℕ) → now ≤ idle + (ended + 1) * switch + due → due' ≡ due + (cost + most) → owes ≤ most → 1 ≤ cost → now + 1 + (owes + (cost - 1)) ≤ idle + (ended + 1) * switch + due'
+        issue_time : (now ended idle due due' owes cost most switch : ℕ) → now ≤ idle + (ended + 1) * switch + due → due' ≡ due + (cost + most) →
+            owes ≤ most → 1 ≤ cost → now + 1 + (owes + (cost - 1)) ≤ idle + (ended + 1) * switch + due'
         issue_time now ended idle due due' owes cost most switch a b c d = omega arith
 
-  pub turn_times : (at : ℕ → ℕ) (now ended : ℕ) (sched : List TaskJobs) (m : CoreMove) (w : Work) (c : CoreState) (counts : Counts) → IsRule rule → IsPlant plant → EndsIn run n → Runs p all_whole runs → Stands p all_whole runs at w → Moves p runs at sched m → at 0 ≤ n → MoveClock plant.switch last (dues_of plant run (at 0)) now ended m → TurnTimes (bump_move m at 0) now ended (core_turn rule p now m w c counts)
+  pub turn_times : (at : ℕ → ℕ) (now ended : ℕ) (sched : List TaskJobs) (m : CoreMove) (w : Work) (c : CoreState) (counts : Counts) → IsRule rule →
+      IsPlant plant → EndsIn run n → Runs p all_whole runs → Stands p all_whole runs at w → Moves p runs at sched m → at 0 ≤ n →
+      MoveClock plant.switch last (dues_of plant run (at 0)) now ended m → TurnTimes (bump_move m at 0) now ended (core_turn rule p now m w c counts)
   turn_times at now ended sched (Passes c') w c counts r is ends rs s m le g = record { clock = g; within = le }
   turn_times at now ended sched (Issues zero i) w c counts r is ends rs s m le g =
       issue_times at now ended i w c counts r is ends (s.each 0 (omega arith)) m.unfinished g (issuing p all_whole runs at w 0 rs s m.unfinished)

@@ -25,7 +25,8 @@ use Rattle.prem_cycle.specs.Runs.Position.Own.{StaysOwn}
 use Rattle.prem_cycle.proofs.RunsLemmas.PositionLemmas.MayMoves.{turn_with}
 use Rattle.prem_cycle.proofs.RunsLemmas.PositionLemmas.Works.{IsKept, Issue, stored_same}
 use Rattle.prem_cycle.proofs.RunsLemmas.PositionLemmas.Stands.{stored_out, after_registers, bump, bump_same, bump_other, IsAt, Stands, Issuing, IsRun, issue_matches}
-use Rattle.prem_cycle.proofs.RunsLemmas.PositionLemmas.Schedules.{ends_job, ended_more, uncounted, uncounted_same, uncounted_other, Unfinished, GoesOn, Schedules, Ready, Moves, moves, closes, idle_ends}
+use Rattle.prem_cycle.proofs.RunsLemmas.PositionLemmas.Schedules.{ends_job, ended_more, uncounted, uncounted_same, uncounted_other, Unfinished, GoesOn, Schedules, Ready, Moves}
+use Rattle.prem_cycle.proofs.RunsLemmas.PositionLemmas.Schedules.{moves, closes, idle_ends}
 
 -- each task's run, and whose the bytes are
 pub record Runs (p : Setup) (own : ℕ → ℕ → Bool) (runs : ℕ → TaskRun) : Type 0 where
@@ -40,7 +41,8 @@ at_next run n t view ended e = ap (λ (q : PlainState). plain_of t q.task.view q
 
 module _ (p : Setup) (own : ℕ → ℕ → Bool) (runs : ℕ → TaskRun) (at : ℕ → ℕ) where
   -- the task that issues, and the others
-  issued_stands : (rule : ReplacementRule) (k : ℕ) (w : Work) → IsRule rule → Runs p own runs → Stands p own runs at w → k < length p.tasks → (i : Issuing p (own k) (runs k) (at k) k w) → Stands p own runs (bump k at) (issued_by rule p k i.effect w).work
+  issued_stands : (rule : ReplacementRule) (k : ℕ) (w : Work) → IsRule rule → Runs p own runs → Stands p own runs at w → k < length p.tasks →
+      (i : Issuing p (own k) (runs k) (at k) k w) → Stands p own runs (bump k at) (issued_by rule p k i.effect w).work
   issued_stands rule k w r rs s lt i =
       let t : Task = task_after (record_of p k) i.effect (task_in w k) in
       let w' : Work = (issued_by rule p k i.effect w).work in
@@ -117,18 +119,22 @@ pub record TurnStands (p : Setup) (own : ℕ → ℕ → Bool) (runs : ℕ → T
   pub schedules : Schedules p runs at sched t.core.mode t.core.mark
   pub untrapped : t.trapped ≡ None
 
-pub running_is : (p : Setup) (own : ℕ → Bool) (runs : ℕ → TaskRun) (at : ℕ → ℕ) (k : ℕ) (t : Task) → IsAt (runs k) (at k) t → Unfinished p runs at k → is_running (runs k) (plain_run (runs k) (at k)) ≡ true
+pub running_is : (p : Setup) (own : ℕ → Bool) (runs : ℕ → TaskRun) (at : ℕ → ℕ) (k : ℕ) (t : Task) → IsAt (runs k) (at k) t → Unfinished p runs at k →
+    is_running (runs k) (plain_run (runs k) (at k)) ≡ true
 running_is p own runs at k t h u =
     let e : is_running (runs k) (plain_of t (plain_run (runs k) (at k)).task.view (plain_run (runs k) (at k)).ended) ≡ ltb (plain_run (runs k) (at k)).ended (runs k).jobs = refl in
     ap (is_running (runs k)) (sym h.same) ∙ e ∙ lt-ltb (plain_run (runs k) (at k)).ended (runs k).jobs u.left
 
-pub issuing : (p : Setup) (own : ℕ → ℕ → Bool) (runs : ℕ → TaskRun) (at : ℕ → ℕ) (w : Work) (k : ℕ) → Runs p own runs → Stands p own runs at w → Unfinished p runs at k → Issuing p (own k) (runs k) (at k) k w
+pub issuing : (p : Setup) (own : ℕ → ℕ → Bool) (runs : ℕ → TaskRun) (at : ℕ → ℕ) (w : Work) (k : ℕ) → Runs p own runs → Stands p own runs at w →
+    Unfinished p runs at k → Issuing p (own k) (runs k) (at k) k w
 issuing p own runs at w k rs s u =
     let lt : k < length p.tasks = u.bound in
     let goes : is_running (runs k) (plain_run (runs k) (at k)) ≡ true = running_is p (own k) runs at k (task_in w k) (s.each k lt) u in
     issue_matches p (own k) (runs k) (at k) k w (rs.is k lt) (rs.stay k lt (at k) goes) goes (s.each k lt) (λ a o. sym (s.view k a lt o)) s.kept
 
-pub turn_stands : (rule : ReplacementRule) (p : Setup) (own : ℕ → ℕ → Bool) (runs : ℕ → TaskRun) (at : ℕ → ℕ) (now : ℕ) (sched : List TaskJobs) (m : CoreMove) (w : Work) (c : CoreState) (n : Counts) → IsRule rule → Runs p own runs → Stands p own runs at w → Moves p runs at sched m → TurnStands p own runs (bump_move m at) sched (core_turn rule p now m w c n)
+pub turn_stands : (rule : ReplacementRule) (p : Setup) (own : ℕ → ℕ → Bool) (runs : ℕ → TaskRun) (at : ℕ → ℕ) (now : ℕ) (sched : List TaskJobs)
+    (m : CoreMove) (w : Work) (c : CoreState) (n : Counts) → IsRule rule → Runs p own runs → Stands p own runs at w → Moves p runs at sched m →
+    TurnStands p own runs (bump_move m at) sched (core_turn rule p now m w c n)
 turn_stands rule p own runs at now sched (Passes c') w c n r rs s m = record { stands = s; schedules = m; untrapped = refl }
 turn_stands rule p own runs at now sched (Issues k i) w c n r rs s m =
     let x : Issuing p (own k) (runs k) (at k) k w = issuing p own runs at w k rs s m.unfinished in
@@ -177,7 +183,8 @@ pub record BusKeeps (p : Setup) (own : ℕ → ℕ → Bool) (w : Work) (memory 
   pub view : (k a : ℕ) → k < length p.tasks → own k a ≡ true → view_of w.cache memory a ≡ view_of w.cache w.memory a
   pub kept : IsKept p w.cache memory
 
-pub bus_stands : (p : Setup) (own : ℕ → ℕ → Bool) (runs : ℕ → TaskRun) (at : ℕ → ℕ) (w : Work) (memory : List ℕ) → BusKeeps p own w memory → Stands p own runs at w → Stands p own runs at (with_memory memory w)
+pub bus_stands : (p : Setup) (own : ℕ → ℕ → Bool) (runs : ℕ → TaskRun) (at : ℕ → ℕ) (w : Work) (memory : List ℕ) → BusKeeps p own w memory →
+    Stands p own runs at w → Stands p own runs at (with_memory memory w)
 bus_stands p own runs at w memory b s =
     record {
       count = s.count;
@@ -187,7 +194,9 @@ bus_stands p own runs at w memory b s =
     }
 
 -- behind the core's part of a cycle, whatever it does, and whatever the bus does that leaves own bytes
-pub moved_position : (rule : ReplacementRule) (p : Setup) (own : ℕ → ℕ → Bool) (runs : ℕ → TaskRun) (at : ℕ → ℕ) (a : Arrivals) (b : Turned) (m : CoreMove) (s : MachineState) → IsRule rule → Runs p own runs → BusKeeps p own s.work b.memory → Moves p runs at s.sched m → Position p own runs at s → Position p own runs (bump_move m at) (joined a b (turn_with rule p b m s) s)
+pub moved_position : (rule : ReplacementRule) (p : Setup) (own : ℕ → ℕ → Bool) (runs : ℕ → TaskRun) (at : ℕ → ℕ) (a : Arrivals) (b : Turned)
+    (m : CoreMove) (s : MachineState) → IsRule rule → Runs p own runs → BusKeeps p own s.work b.memory → Moves p runs at s.sched m →
+    Position p own runs at s → Position p own runs (bump_move m at) (joined a b (turn_with rule p b m s) s)
 moved_position rule p own runs at a b m s r rs k j h =
     let w : Work = with_memory b.memory s.work in
     let t : TurnStands p own runs (bump_move m at) s.sched (turn_with rule p b m s) =
@@ -195,7 +204,9 @@ moved_position rule p own runs at a b m s r rs k j h =
     (bus_stands p own runs at s.work b.memory k h.stands) j in
     record { stands = t.stands; schedules = t.schedules; untrapped = t.untrapped }
 
-pub cycle_position : (rule : ReplacementRule) (p : Setup) (own : ℕ → ℕ → Bool) (runs : ℕ → TaskRun) (at : ℕ → ℕ) (a : Arrivals) (b : Turned) (s : MachineState) → IsRule rule → Runs p own runs → BusKeeps p own s.work b.memory → Position p own runs at s → Position p own runs (bump_move (move_at p b s) at) (cycle_with rule p a b s)
+pub cycle_position : (rule : ReplacementRule) (p : Setup) (own : ℕ → ℕ → Bool) (runs : ℕ → TaskRun) (at : ℕ → ℕ) (a : Arrivals) (b : Turned)
+    (s : MachineState) → IsRule rule → Runs p own runs → BusKeeps p own s.work b.memory → Position p own runs at s →
+    Position p own runs (bump_move (move_at p b s) at) (cycle_with rule p a b s)
 cycle_position rule p own runs at a b s r rs k h =
     ticked_position p own runs (bump_move (move_at p b s) at) (joined a b (core_at rule p b s) s)
     (moved_position rule p own runs at a b (move_at p b s) s r rs k

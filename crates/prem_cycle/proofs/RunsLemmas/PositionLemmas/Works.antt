@@ -54,7 +54,8 @@ pub record Touch (rule : ReplacementRule) (p : Setup) (c : CacheState) (line : �
   pub view : (a : ℕ) → view_of (touch_of rule c line memory).cache (touch_of rule c line memory).memory a ≡ view_of c memory a
   pub resident : is_resident (touch_of rule c line memory).cache line ≡ true
 
-pub touched : (rule : ReplacementRule) (p : Setup) (c : CacheState) (line : ℕ) (memory : List ℕ) → IsRule rule → IsKept p c memory → line < p.plant.memory / p.plant.line → IsFree p line → Touch rule p c line memory
+pub touched : (rule : ReplacementRule) (p : Setup) (c : CacheState) (line : ℕ) (memory : List ℕ) → IsRule rule → IsKept p c memory →
+    line < p.plant.memory / p.plant.line → IsFree p line → Touch rule p c line memory
 touched rule p c line memory r h lt free =
     let size : length memory ≡ c.plant.memory = h.size ∙ ap (λ (q : Plant). q.memory) (sym h.plant) in
     record {
@@ -82,7 +83,8 @@ pub record Store (p : Setup) (c : CacheState) (memory : List ℕ) (stored : Opti
   pub kept : IsKept p (stored_in stored c) memory
   pub view : (a : ℕ) → view_of (stored_in stored c) memory a ≡ with_stored stored (view_of c memory) a
 
-store_at : (p : Setup) (c : CacheState) (memory : List ℕ) (s : Stored) (o : Option Entry) → IsKept p c memory → entry_of c (s.address / c.plant.line) ≡ o → is_some o ≡ true → s.address % c.plant.line + s.size ≤ c.plant.line → Store p c memory (Some s)
+store_at : (p : Setup) (c : CacheState) (memory : List ℕ) (s : Stored) (o : Option Entry) → IsKept p c memory →
+    entry_of c (s.address / c.plant.line) ≡ o → is_some o ≡ true → s.address % c.plant.line + s.size ≤ c.plant.line → Store p c memory (Some s)
 store_at p c memory s None h f is le = absurd (let x : false ≡ true = is in cc)
 store_at p c memory s (Some e) h f is le =
     record {
@@ -123,7 +125,10 @@ pub record Issue (p : Setup) (tasks : List Task) (stored : Option Stored) (view 
   pub tasks_are : w.tasks ≡ tasks
 
 -- the line of the fetch has been touched
-access_facts : (rule : ReplacementRule) (p : Setup) (tasks : List Task) (stored : Option Stored) (line : ℕ) (t : Touched) (access : Option Access) → IsRule rule → IsKept p t.cache t.memory → AccessMatches access stored → IfSome access (λ a. IsPlaced p.plant.memory a.address a.size) → IfSome access (λ a. IsFree p (a.address / p.plant.line)) → Issue p tasks stored (view_of t.cache t.memory) (issued_with rule p.plant.line tasks stored line t access).work
+access_facts : (rule : ReplacementRule) (p : Setup) (tasks : List Task) (stored : Option Stored) (line : ℕ) (t : Touched) (access : Option Access) →
+    IsRule rule → IsKept p t.cache t.memory → AccessMatches access stored → IfSome access (λ a. IsPlaced p.plant.memory a.address a.size) →
+    IfSome access (λ a. IsFree p (a.address / p.plant.line)) →
+    Issue p tasks stored (view_of t.cache t.memory) (issued_with rule p.plant.line tasks stored line t access).work
 access_facts rule p tasks None line t None r h m within free = record { kept = h; sees = λ a. refl; tasks_are = refl }
 access_facts rule p tasks (Some s) line t None r h m within free = absurd m
 access_facts rule p tasks None line t (Some x) r h m within free =
@@ -150,7 +155,10 @@ access_facts rule p tasks (Some s) line t (Some x) r h m within free =
       tasks_are = refl;
     }
 
-pub issue_facts : (rule : ReplacementRule) (p : Setup) (k : ℕ) (e : Effect) (w : Work) → IsRule rule → IsKept p w.cache w.memory → EffectFits p.plant.memory e → (task_in w k).pc + 4 ≤ p.plant.memory → IsFree p ((task_in w k).pc / p.plant.line) → IfSome e.access (λ a. IsFree p (a.address / p.plant.line)) → Issue p (slice_set w.tasks k (task_after (record_of p k) e (task_in w k))) e.stored (view_of w.cache w.memory) (issued_by rule p k e w).work
+pub issue_facts : (rule : ReplacementRule) (p : Setup) (k : ℕ) (e : Effect) (w : Work) → IsRule rule → IsKept p w.cache w.memory →
+    EffectFits p.plant.memory e → (task_in w k).pc + 4 ≤ p.plant.memory → IsFree p ((task_in w k).pc / p.plant.line) →
+    IfSome e.access (λ a. IsFree p (a.address / p.plant.line)) →
+    Issue p (slice_set w.tasks k (task_after (record_of p k) e (task_in w k))) e.stored (view_of w.cache w.memory) (issued_by rule p k e w).work
 issue_facts rule p k e w r h fits within fetch_free data_free =
     let line : ℕ = (task_in w k).pc / p.plant.line in
     let d : Touch rule p w.cache line w.memory =
@@ -166,7 +174,9 @@ issue_facts rule p k e w r h fits within fetch_free data_free =
 
 -- ---- what the core sees behind the touches
 
-access_view : (rule : ReplacementRule) (p : Setup) (t : Touched) (access : Option Access) → IsRule rule → IsKept p t.cache t.memory → IfSome access (λ a. IsPlaced p.plant.memory a.address a.size) → IfSome access (λ a. IsFree p (a.address / p.plant.line)) → (a : ℕ) → view_of (touched_with rule p.plant.line t access).cache (touched_with rule p.plant.line t access).memory a ≡ view_of t.cache t.memory a
+access_view : (rule : ReplacementRule) (p : Setup) (t : Touched) (access : Option Access) → IsRule rule → IsKept p t.cache t.memory →
+    IfSome access (λ a. IsPlaced p.plant.memory a.address a.size) → IfSome access (λ a. IsFree p (a.address / p.plant.line)) → (a : ℕ) →
+    view_of (touched_with rule p.plant.line t access).cache (touched_with rule p.plant.line t access).memory a ≡ view_of t.cache t.memory a
 access_view rule p t None r h within free a = refl
 access_view rule p t (Some x) r h within free a =
     let some : 0 < x.size = size_positive x.size within.sized in
@@ -176,7 +186,10 @@ access_view rule p t (Some x) r h within free a =
     d.view a
 
 -- the same as before them
-pub behind_view : (rule : ReplacementRule) (p : Setup) (k : ℕ) (access : Option Access) (w : Work) → IsRule rule → IsKept p w.cache w.memory → IfSome access (λ a. IsPlaced p.plant.memory a.address a.size) → (task_in w k).pc + 4 ≤ p.plant.memory → IsFree p ((task_in w k).pc / p.plant.line) → IfSome access (λ a. IsFree p (a.address / p.plant.line)) → (a : ℕ) → view_behind rule p k w access a ≡ view_of w.cache w.memory a
+pub behind_view : (rule : ReplacementRule) (p : Setup) (k : ℕ) (access : Option Access) (w : Work) → IsRule rule → IsKept p w.cache w.memory →
+    IfSome access (λ a. IsPlaced p.plant.memory a.address a.size) → (task_in w k).pc + 4 ≤ p.plant.memory →
+    IsFree p ((task_in w k).pc / p.plant.line) → IfSome access (λ a. IsFree p (a.address / p.plant.line)) → (a : ℕ) →
+    view_behind rule p k w access a ≡ view_of w.cache w.memory a
 behind_view rule p k access w r h placed within fetch_free data_free a =
     let line : ℕ = (task_in w k).pc / p.plant.line in
     let d : Touch rule p w.cache line w.memory =

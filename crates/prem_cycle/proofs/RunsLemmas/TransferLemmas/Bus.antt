@@ -8,7 +8,8 @@ use Rattle.prem_gate.specs.declared.bus.Window.{Window}
 use Rattle.prem_gate.specs.declared.bus.Carried.{Carried}
 use Rattle.prem_gate.specs.declared.bus.CoreWant.{CoreWant}
 use Rattle.prem_gate.specs.declared.bus.CoreWant.TheVariants.{No, New, Held}
-use Rattle.prem_gate.specs.Gates.{GateState, GatesState, Turned, gate_at, with_queue, with_gates, is_full, queued, after_arrival, startable, taken, ends, goes_on, carries, wants, starts, bus_free, bus_with, bus_turn}
+use Rattle.prem_gate.specs.Gates.{GateState, GatesState, Turned, gate_at, with_queue, with_gates, is_full, queued, after_arrival, startable, taken, ends, goes_on, carries, wants}
+use Rattle.prem_gate.specs.Gates.{starts, bus_free, bus_with, bus_turn}
 use Rattle.prem_gate.specs.Ranges.{IsStart}
 use Rattle.prem_gate.proofs.Places.{startable_is}
 use Rattle.prem_image.specs.declared.image.DeviceRecord.{DeviceRecord}
@@ -78,7 +79,8 @@ module _ (devices : List DeviceRecord) where
 
   -- ---- the bus
 
-  carries_keep : (now : ℕ) (clash : Bool) (c : Carried) (s : GatesState) (memory : List ℕ) → IsOnItsWay devices now c → costs_of s.gates ≡ costs_in devices → TurnKeeps devices now (carries clash c s memory)
+  carries_keep : (now : ℕ) (clash : Bool) (c : Carried) (s : GatesState) (memory : List ℕ) → IsOnItsWay devices now c →
+      costs_of s.gates ≡ costs_in devices → TurnKeeps devices now (carries clash c s memory)
   carries_keep now clash c s memory l costs =
       cond_both (leb c.left 1) (ends clash c s memory) (goes_on clash c s memory) (TurnKeeps devices now)
       (λ last. record {
@@ -112,7 +114,8 @@ module _ (devices : List DeviceRecord) where
   free_keeps now w New start s memory all is none costs = starts_keep now w true start s memory all is none costs
   free_keeps now w Held start s memory all is none costs = stays now true _ s memory none costs
 
-  with_keeps : (now : ℕ) (w : Window) (core : CoreWant) (carried : Option Carried) (s : GatesState) (memory : List ℕ) → HaveCosts devices → s.carried ≡ carried → IfSome carried (IsOnItsWay devices now) →
+  with_keeps : (now : ℕ) (w : Window) (core : CoreWant) (carried : Option Carried) (s : GatesState) (memory : List ℕ) → HaveCosts devices →
+      s.carried ≡ carried → IfSome carried (IsOnItsWay devices now) →
       costs_of s.gates ≡ costs_in devices → TurnKeeps devices now (bus_with core carried (startable now w s) s memory)
   with_keeps now w core (Some c) s memory all is l costs = carries_keep now (wants core) c s memory l costs
   with_keeps now w core None s memory all is l costs = free_keeps now w core (startable now w s) s memory all refl is costs

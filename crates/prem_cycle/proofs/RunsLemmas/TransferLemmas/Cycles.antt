@@ -10,7 +10,8 @@ use Rattle.prem_cycle.specs.declared.state.Mode.{Mode}
 use Rattle.prem_cycle.specs.declared.state.Mode.TheVariants.{Point, Switching, Running, Idle}
 use Rattle.prem_cycle.specs.State.{Setup, MachineState, start_of}
 use Rattle.prem_cycle.specs.Core.{is_paid, want_of}
-use Rattle.prem_cycle.specs.Cycle.{Arrivals, arrivals_at, bus_at, core_at, joined, ends_before, at_point, close_interval, settle, with_now, next_cycle, ticked, cycle_of, is_finished, is_full, is_over, step_of}
+use Rattle.prem_cycle.specs.Cycle.{Arrivals, arrivals_at, bus_at, core_at, joined, ends_before, at_point, close_interval, settle, with_now, next_cycle, ticked, cycle_of}
+use Rattle.prem_cycle.specs.Cycle.{is_finished, is_full, is_over, step_of}
 use Rattle.prem_cycle.specs.Run.{memory_of, cycles_of, run_of}
 use Rattle.prem_cycle.specs.Runs.Window.Windows.{HaveCosts}
 use Rattle.prem_cycle.specs.Runs.Transfer.Lengths.{IsOnItsWay, EndsInTime, TransfersTakeTheirCycles, TransfersAreOnTheirWay}
@@ -64,12 +65,14 @@ ticked_keeps devices old s h = by (is_some s.trapped) refl
         record {
           keeps = record {
             costs = ap (λ g. costs_of g.gates) t.gates ∙ h.gates.costs;
-            carried = λ none. subst (λ g. IfSome g.carried (IsOnItsWay devices (next_cycle s).now)) (sym t.gates) (subst (λ n. IfSome s.gates.carried (IsOnItsWay devices n)) (sym t.now) h.gates.carried);
+            carried = λ none. subst (λ g. IfSome g.carried (IsOnItsWay devices (next_cycle s).now)) (sym t.gates)
+                (subst (λ n. IfSome s.gates.carried (IsOnItsWay devices n)) (sym t.now) h.gates.carried);
           };
           ended = record { ended = h.ended.ended; log = t.transfers ∙ h.ended.log; time = h.ended.time };
         }
 
-cycle_keeps : (devices : List DeviceRecord) (rule : ReplacementRule) (p : Setup) (requests : List Request) (s : MachineState) → HaveCosts devices → s.trapped ≡ None → Keeps devices s → Went devices s (cycle_of rule p requests s)
+cycle_keeps : (devices : List DeviceRecord) (rule : ReplacementRule) (p : Setup) (requests : List Request) (s : MachineState) → HaveCosts devices →
+    s.trapped ≡ None → Keeps devices s → Went devices s (cycle_of rule p requests s)
 cycle_keeps devices rule p requests s all none h =
     let a : Arrivals = arrivals_at requests s in
     let b : Turned = bus_at a.gates s in
@@ -97,12 +100,14 @@ none_is (Some x) is = absurd (let y : ◌≡◌ {A = Bool} true false = is in cc
 goes_on : (s : MachineState) → is_over s ≡ false → s.trapped ≡ None
 goes_on s is = none_is s.trapped (or_false (is_finished s) (is_some s.trapped) (or_false (is_finished s || is_some s.trapped) (is_full s) is).0).1
 
-step_keeps : (devices : List DeviceRecord) (rule : ReplacementRule) (p : Setup) (requests : List Request) (s : MachineState) → HaveCosts devices → Keeps devices s → Went devices s (step_of rule p requests s)
+step_keeps : (devices : List DeviceRecord) (rule : ReplacementRule) (p : Setup) (requests : List Request) (s : MachineState) → HaveCosts devices →
+    Keeps devices s → Went devices s (step_of rule p requests s)
 step_keeps devices rule p requests s all h =
     cond_both (is_over s) s (cycle_of rule p requests s) (Went devices s) (λ _. stays devices s h)
     (λ on. cycle_keeps devices rule p requests s all (goes_on s on) h)
 
-cycles_keep : (devices : List DeviceRecord) (rule : ReplacementRule) (p : Setup) (requests : List Request) (n : ℕ) (s : MachineState) → HaveCosts devices → Keeps devices s → Keeps devices (cycles_of rule p requests n s)
+cycles_keep : (devices : List DeviceRecord) (rule : ReplacementRule) (p : Setup) (requests : List Request) (n : ℕ) (s : MachineState) →
+    HaveCosts devices → Keeps devices s → Keeps devices (cycles_of rule p requests n s)
 unfolding cycles_of
 cycles_keep devices rule p requests zero s all h = h
 cycles_keep devices rule p requests (suc n) s all h =
@@ -115,7 +120,8 @@ start_costs (d ∷ devices) = ap (λ t. d.device.cost ∷ t) (start_costs device
 start_keeps : (p : Setup) (inputs : List (List ℕ)) (memory : List ℕ) → Keeps p.devices (start_of p inputs memory)
 start_keeps p inputs memory = record { costs = start_costs p.devices; carried = λ none. tt }
 
-run_keeps : (rule : ReplacementRule) (p : Setup) (content : List ℕ) (inputs : List (List ℕ)) (requests : List Request) (n : ℕ) → HaveCosts p.devices → Keeps p.devices (run_of rule p content inputs requests n)
+run_keeps : (rule : ReplacementRule) (p : Setup) (content : List ℕ) (inputs : List (List ℕ)) (requests : List Request) (n : ℕ) → HaveCosts p.devices →
+    Keeps p.devices (run_of rule p content inputs requests n)
 run_keeps rule p content inputs requests n all =
     cycles_keep p.devices rule p requests n (start_of p inputs (memory_of p content)) all (start_keeps p inputs (memory_of p content))
 

@@ -9,7 +9,8 @@ use Rattle.prem_gate.specs.declared.bus.Window.{Window}
 use Rattle.prem_gate.specs.declared.bus.Carried.{Carried}
 use Rattle.prem_gate.specs.declared.bus.CoreWant.{CoreWant}
 use Rattle.prem_gate.specs.declared.bus.CoreWant.TheVariants.{No, New, Held}
-use Rattle.prem_gate.specs.Gates.{GateState, GatesState, Turned, gate_at, no_gate, with_queue, with_gates, is_full, queued, after_arrival, startable, taken, ends, goes_on, carries, wants, starts, bus_free, bus_with, bus_turn}
+use Rattle.prem_gate.specs.Gates.{GateState, GatesState, Turned, gate_at, no_gate, with_queue, with_gates, is_full, queued, after_arrival, startable, taken, ends, goes_on, carries}
+use Rattle.prem_gate.specs.Gates.{wants, starts, bus_free, bus_with, bus_turn}
 use Rattle.prem_gate.specs.Ranges.{IsStart}
 use Rattle.prem_gate.proofs.Places.{startable_is}
 use Rattle.prem_cycle.specs.Cycle.{Arrivals, arrived, arrivals}
@@ -51,7 +52,8 @@ arrivals_inside now w t (r ∷ requests) a h =
 -- ---- the bus
 
 -- a transfer that has the bus is nearer to its end behind the cycle
-carries_inside : (now : ℕ) (w : Window) (clash : Bool) (c : Carried) (s : GatesState) (memory : List ℕ) → LiesInside now w c → Costs s.gates → CarriesInside (now + 1) w (carries clash c s memory).gates
+carries_inside : (now : ℕ) (w : Window) (clash : Bool) (c : Carried) (s : GatesState) (memory : List ℕ) → LiesInside now w c → Costs s.gates →
+    CarriesInside (now + 1) w (carries clash c s memory).gates
 carries_inside now w clash c s memory l all =
     cond_both (leb c.left 1) (ends clash c s memory) (goes_on clash c s memory) (λ (t : Turned). CarriesInside (now + 1) w t.gates)
     (λ _. record { carried = tt; costs = all })
@@ -64,7 +66,8 @@ stays_inside : (now : ℕ) (w : Window) (s : GatesState) → s.carried ≡ None 
 stays_inside now w s none all = record { carried = subst (λ (o : Option Carried). IfSome o (LiesInside (now + 1) w)) (sym none) tt; costs = all }
 
 -- a transfer that starts lies inside the window
-starts_inside : (now : ℕ) (w : Window) (core : Bool) (start : Option Carried) (s : GatesState) (memory : List ℕ) → startable now w s ≡ start → s.carried ≡ None → Costs s.gates → CarriesInside (now + 1) w (starts core start s memory).gates
+starts_inside : (now : ℕ) (w : Window) (core : Bool) (start : Option Carried) (s : GatesState) (memory : List ℕ) → startable now w s ≡ start →
+    s.carried ≡ None → Costs s.gates → CarriesInside (now + 1) w (starts core start s memory).gates
 starts_inside now w core None s memory is none all = stays_inside now w s none all
 starts_inside now w core (Some c) s memory is none all =
     let h : IsStart now w s.gates c = startable_is now w s c is in
@@ -76,12 +79,14 @@ starts_inside now w core (Some c) s memory is none all =
     (record { some = omega arith; after_start = omega arith; before_close = h.before_close })
     (set_costs s c.device (drop 1 (gate_at s.gates c.device).queue) all)
 
-free_inside : (now : ℕ) (w : Window) (core : CoreWant) (start : Option Carried) (s : GatesState) (memory : List ℕ) → startable now w s ≡ start → s.carried ≡ None → Costs s.gates → CarriesInside (now + 1) w (bus_free core start s memory).gates
+free_inside : (now : ℕ) (w : Window) (core : CoreWant) (start : Option Carried) (s : GatesState) (memory : List ℕ) → startable now w s ≡ start →
+    s.carried ≡ None → Costs s.gates → CarriesInside (now + 1) w (bus_free core start s memory).gates
 free_inside now w No start s memory is none all = starts_inside now w false start s memory is none all
 free_inside now w New start s memory is none all = starts_inside now w true start s memory is none all
 free_inside now w Held start s memory is none all = stays_inside now w s none all
 
-with_inside : (now : ℕ) (w : Window) (core : CoreWant) (carried : Option Carried) (s : GatesState) (memory : List ℕ) → s.carried ≡ carried → IfSome carried (LiesInside now w) → Costs s.gates → CarriesInside (now + 1) w (bus_with core carried (startable now w s) s memory).gates
+with_inside : (now : ℕ) (w : Window) (core : CoreWant) (carried : Option Carried) (s : GatesState) (memory : List ℕ) → s.carried ≡ carried →
+    IfSome carried (LiesInside now w) → Costs s.gates → CarriesInside (now + 1) w (bus_with core carried (startable now w s) s memory).gates
 with_inside now w core (Some c) s memory is l all = carries_inside now w (wants core) c s memory l all
 with_inside now w core None s memory is l all = free_inside now w core (startable now w s) s memory refl is all
 

@@ -1,6 +1,7 @@
 -- A cycle keeps that windows hold, and so does a run.
 use Rattle.std.specs.Prelude.{All, slice_set, is_some, ◌&&◌}
-use Rattle.std.proofs.Common.{◌≡◌, ℕ, zero, suc, ◌+◌, ◌<◌, ◌≤◌, refl, ap, ◌∙◌, sym, subst, arith, cond, ltb, Some, None, Option, true, false, Bool, List, [], ◌∷◌, length, get_or, IfSome, map, ◌⊎◌, ⊎_elim}
+use Rattle.std.proofs.Common.{◌≡◌, ℕ, zero, suc, ◌+◌, ◌<◌, ◌≤◌, refl, ap, ◌∙◌, sym, subst, arith, cond, ltb, Some, None, Option, true, false, Bool, List, [], ◌∷◌, length, get_or}
+use Rattle.std.proofs.Common.{IfSome, map, ◌⊎◌, ⊎_elim}
 use Rattle.std.proofs.lemmas.Bool.{and_parts, cases_eq, cases_lt, cond_both, leb-true, ltb-false}
 use Rattle.std.proofs.lemmas.List.{get_or-set_same, get_or-set_other, set_past}
 use Rattle.prem_plant.specs.declared.plant.Device.{Device}
@@ -21,11 +22,13 @@ use Rattle.prem_cycle.specs.declared.state.Interval.{Interval}
 use Rattle.prem_cycle.specs.State.{Setup, Task, MachineState, no_record, first_task, first_tasks, start_of}
 use Rattle.prem_cycle.specs.Issue.{is_execution}
 use Rattle.prem_cycle.specs.Core.{CoreMove, Issues, is_paid, phase_in, want_of}
-use Rattle.prem_cycle.specs.Cycle.{Arrivals, arrivals_at, bus_at, with_memory, with_clash, move_at, core_at, joined, ends_before, at_point, close_interval, settle, with_now, next_cycle, ticked, cycle_of, is_over, step_of}
+use Rattle.prem_cycle.specs.Cycle.{Arrivals, arrivals_at, bus_at, with_memory, with_clash, move_at, core_at, joined, ends_before, at_point, close_interval, settle, with_now}
+use Rattle.prem_cycle.specs.Cycle.{next_cycle, ticked, cycle_of, is_over, step_of}
 use Rattle.prem_cycle.specs.FactsOf.{with_word, with_input}
 use Rattle.prem_cycle.specs.Run.{memory_of, cycles_of}
 use Rattle.prem_cycle.proofs.CoreCases.{move_cases}
-use Rattle.prem_cycle.specs.Runs.Window.Windows.{closing_in, closing_at, is_last, WindowCloses, LiesInside, CarriesInside, WindowsHold, IsQuiet, HaveCosts, RunsKeepWindows, CyclesKeepWindows, InputsKeepWindows, QuietOutsideExecution}
+use Rattle.prem_cycle.specs.Runs.Window.Windows.{closing_in, closing_at, is_last, WindowCloses, LiesInside, CarriesInside, WindowsHold, IsQuiet, HaveCosts, RunsKeepWindows}
+use Rattle.prem_cycle.specs.Runs.Window.Windows.{CyclesKeepWindows, InputsKeepWindows, QuietOutsideExecution}
 use Rattle.prem_cycle.proofs.RunsLemmas.WindowLemmas.Bus.{arrivals_inside, turn_inside, turn_quiet}
 use Rattle.prem_cycle.proofs.RunsLemmas.WindowLemmas.Moves.{MayIssue, Moves, moves, TurnCloses, turn_closes}
 
@@ -81,7 +84,8 @@ last_ended now i Job e = refl
 last_ended now i End e = refl
 
 -- no task is in its execution phase behind it
-closes_ended : (now k : ℕ) (phases : ℕ → Phase) (i : Interval) (mark : Change) (w : Window) → ends_before now i mark ≡ true → WindowCloses now phases i mark (Running k) w → WindowCloses now phases i mark Point w
+closes_ended : (now k : ℕ) (phases : ℕ → Phase) (i : Interval) (mark : Change) (w : Window) → ends_before now i mark ≡ true →
+    WindowCloses now phases i mark (Running k) w → WindowCloses now phases i mark Point w
 closes_ended now k phases i mark w e h =
     let none : (j : ℕ) → phases j ≡ Execution → ⊥ =
     λ j x. let y : false ≡ true = sym (h.goes_on j x) ∙ last_ended now i mark e in cc in
@@ -145,7 +149,8 @@ ticked_holds s h = record {
 }
 
 -- another window opens only where nothing is carried
-gates_stay : (now : ℕ) (w w' : Window) (s : GatesState) (memory : List ℕ) (b : Turned) → (w.close ≤ now → IsQuiet s memory b) → CarriesInside (now + 1) w b.gates → (w' ≡ w) ⊎ (w.close ≤ now) → CarriesInside (now + 1) w' b.gates
+gates_stay : (now : ℕ) (w w' : Window) (s : GatesState) (memory : List ℕ) (b : Turned) → (w.close ≤ now → IsQuiet s memory b) →
+    CarriesInside (now + 1) w b.gates → (w' ≡ w) ⊎ (w.close ≤ now) → CarriesInside (now + 1) w' b.gates
 gates_stay now w w' s memory b quiet h stays =
     ⊎_elim (λ (same : w' ≡ w). subst (λ x. CarriesInside (now + 1) x b.gates) (sym same) h)
     (λ (closed : w.close ≤ now).

@@ -28,7 +28,8 @@ use Rattle.prem_cycle.specs.declared.state.Mode.{Mode}
 use Rattle.prem_cycle.specs.declared.state.Mode.TheVariants.{Point, Switching, Running, Idle}
 use Rattle.prem_cycle.specs.declared.state.Interval.{Interval}
 use Rattle.prem_cycle.specs.State.{Setup, record_of, no_record, first_task, Task, Work, CoreState, Counts, task_in}
-use Rattle.prem_cycle.specs.Issue.{Attempt, Traps, Executes, attempt_by, attempt_fetched, attempt_of, view_behind, effect_in, behind_touches, task_moved, task_after, issued_by, issued_with, is_execution}
+use Rattle.prem_cycle.specs.Issue.{Attempt, Traps, Executes, attempt_by, attempt_fetched, attempt_of, view_behind, effect_in, behind_touches, task_moved, task_after, issued_by}
+use Rattle.prem_cycle.specs.Issue.{issued_with, is_execution}
 use Rattle.prem_cycle.specs.Core.{CoreMove, Passes, Issues, phase_in, new_interval, stated_after, window_after, core_issue, CoreTurn, core_turn}
 use Rattle.prem_cycle.proofs.CoreCases.{Continues, MoveCase, pays_on_bus, is_denied, pays_cost, waits, goes_on, switches, begins, chooses, chooses_now, begins_idle, has_finished, idles}
 use Rattle.prem_cycle.specs.Runs.Window.Windows.{closing_in, closing_at, is_last, WindowCloses}
@@ -43,7 +44,8 @@ done_lawful phase i instr (Done d) e h is =
     let same : d ≡ e = cc in
     subst (EffectLawful phase) same h
 
-fetched_lawful : (target : Target) (size : ℕ) (view : ℕ → ℕ) (t : Task) (f : Result Instr Cause) (instr : Instr) (e : Effect) → attempt_fetched target size view t f ≡ Executes instr e → EffectLawful t.phase e
+fetched_lawful : (target : Target) (size : ℕ) (view : ℕ → ℕ) (t : Task) (f : Result Instr Cause) (instr : Instr) (e : Effect) →
+    attempt_fetched target size view t f ≡ Executes instr e → EffectLawful t.phase e
 fetched_lawful target size view t (Err cause) instr e is = absurd (let x : Traps cause ≡ Executes instr e = is in cc)
 fetched_lawful target size view t (Ok i) instr e is =
     done_lawful t.phase i instr (act target size view (slice_index t.registers) t.pc t.phase (next_input t.left) i) e
@@ -56,7 +58,8 @@ attempt_lawful p k w instr e is =
 
 -- ---- the phases behind it
 
-tasks_issued : (rule : ReplacementRule) (size : ℕ) (tasks : List Task) (stored : Option Stored) (line : ℕ) (f : Touched) (a : Option Access) → (issued_with rule size tasks stored line f a).work.tasks ≡ tasks
+tasks_issued : (rule : ReplacementRule) (size : ℕ) (tasks : List Task) (stored : Option Stored) (line : ℕ) (f : Touched) (a : Option Access) →
+    (issued_with rule size tasks stored line f a).work.tasks ≡ tasks
 tasks_issued rule size tasks stored line f None = refl
 tasks_issued rule size tasks stored line f (Some a) = refl
 
@@ -184,7 +187,8 @@ module _ (now : ℕ) (phases : ℕ → Phase) where
     by Job g l = absurd g
 
   -- what the core's move makes of it
-  pub moves : (p : Setup) (had : Bool) (sched : List TaskJobs) (w : Work) (c : CoreState) (m : CoreMove) → MoveCase p now had sched w c m → WindowCloses now phases c.interval c.mark c.mode c.window → Moves now phases c.window m
+  pub moves : (p : Setup) (had : Bool) (sched : List TaskJobs) (w : Work) (c : CoreState) (m : CoreMove) → MoveCase p now had sched w c m →
+      WindowCloses now phases c.interval c.mark c.mode c.window → Moves now phases c.window m
   moves p had sched w c _ (pays_on_bus q h) s = record { closes = s; stays = inl refl }
   moves p had sched w c _ (is_denied q h) s = record { closes = s; stays = inl refl }
   moves p had sched w c _ (pays_cost k cost q e h) s = record { closes = s; stays = inl refl }
@@ -219,7 +223,8 @@ pub record TurnCloses (now : ℕ) (window : Window) (t : CoreTurn) : Type 0 wher
   pub closes : WindowCloses now (phase_in t.work) t.core.interval t.core.mark t.core.mode t.core.window
   pub stays : (t.core.window ≡ window) ⊎ (window.close ≤ now)
 
-issue_closes : (rule : ReplacementRule) (p : Setup) (now k : ℕ) (i : Interval) (a : Attempt) (w : Work) (c : CoreState) (n : Counts) → attempt_of p k w ≡ a → WindowCloses now (phase_in w) c.interval c.mark c.mode c.window → MayIssue now (phase_in w) c.window k i →
+issue_closes : (rule : ReplacementRule) (p : Setup) (now k : ℕ) (i : Interval) (a : Attempt) (w : Work) (c : CoreState) (n : Counts) →
+    attempt_of p k w ≡ a → WindowCloses now (phase_in w) c.interval c.mark c.mode c.window → MayIssue now (phase_in w) c.window k i →
     TurnCloses now c.window (core_issue rule p now k i (behind_touches rule p k w a) w c n)
 issue_closes rule p now k i (Traps cause) w c n is s h = record { closes = s; stays = inl refl }
 issue_closes rule p now k i (Executes instr f) w c n is s h =
@@ -239,7 +244,8 @@ issue_closes rule p now k i (Executes instr f) w c n is s h =
       stays = window_next now i c.window e.change (phase_in w k) l h.by_then;
     }
 
-pub turn_closes : (rule : ReplacementRule) (p : Setup) (now : ℕ) (m : CoreMove) (w : Work) (c : CoreState) (n : Counts) → WindowCloses now (phase_in w) c.interval c.mark c.mode c.window → Moves now (phase_in w) c.window m →
+pub turn_closes : (rule : ReplacementRule) (p : Setup) (now : ℕ) (m : CoreMove) (w : Work) (c : CoreState) (n : Counts) →
+    WindowCloses now (phase_in w) c.interval c.mark c.mode c.window → Moves now (phase_in w) c.window m →
     TurnCloses now c.window (core_turn rule p now m w c n)
 turn_closes rule p now (Passes c') w c n s h = record { closes = h.closes; stays = h.stays }
 turn_closes rule p now (Issues k i) w c n s h = issue_closes rule p now k i (attempt_of p k w) w c n refl s h

@@ -24,7 +24,8 @@ use Rattle.prem_cycle.proofs.RunsLemmas.WindowLemmas.Cycles.{quiet_outside}
 
 -- ---- by the step
 
-by_attempt : (rule : ReplacementRule) (p : Setup) (now k : ℕ) (i : Interval) (w : Work) (a : Attempt) → wants_word (step_by rule p now k i w (behind_touches rule p k w a)) ≡ cond (lacks_word (task_in w k) a) (Some k) None
+by_attempt : (rule : ReplacementRule) (p : Setup) (now k : ℕ) (i : Interval) (w : Work) (a : Attempt) →
+    wants_word (step_by rule p now k i w (behind_touches rule p k w a)) ≡ cond (lacks_word (task_in w k) a) (Some k) None
 by_attempt rule p now k i w (Traps cause) = refl
 by_attempt rule p now k i w (Executes instr e) = refl
 
@@ -45,7 +46,8 @@ none_by p k w (Traps cause) is in_execution = refl
 none_by p k w (Executes instr e) is in_execution =
     no_input (phase_in w k) e.input (nat_le (length (task_in w k).left) 0) (attempt_lawful p k w instr e is).input in_execution
 
-same_memory : (p : Setup) (w : Work) (memory : List ℕ) (m : CoreMove) → ((k : ℕ) (i : Interval) → m ≡ Issues k i → is_execution (phase_in w k) ≡ false → memory ≡ w.memory) → wants_in p (with_memory memory w) m ≡ wants_in p w m
+same_memory : (p : Setup) (w : Work) (memory : List ℕ) (m : CoreMove) →
+    ((k : ℕ) (i : Interval) → m ≡ Issues k i → is_execution (phase_in w k) ≡ false → memory ≡ w.memory) → wants_in p (with_memory memory w) m ≡ wants_in p w m
 same_memory p w memory (Passes c) h = refl
 same_memory p w memory (Issues k i) h =
     ⊎_elim (λ (yes : is_execution (phase_in w k) ≡ true).
@@ -73,7 +75,8 @@ same_paid : (p : Setup) (w : Work) (b : Bool) (c d : CoreState) (m n : CoreMove)
 same_paid p w true c d m n e = refl
 same_paid p w false c d m n e = ap (wants_in p w) e
 
-same_move : (p : Setup) (now : ℕ) (had : Bool) (sched : List TaskJobs) (w : Work) (memory : List ℕ) (c : CoreState) → wants_in p w (move_of p now had sched (with_memory memory w) c) ≡ wants_in p w (move_of p now false sched w c)
+same_move : (p : Setup) (now : ℕ) (had : Bool) (sched : List TaskJobs) (w : Work) (memory : List ℕ) (c : CoreState) →
+    wants_in p w (move_of p now had sched (with_memory memory w) c) ≡ wants_in p w (move_of p now false sched w c)
 same_move p now had sched w memory c =
     same_paid p w (wants (want_of c.debt)) (core_pay had c) (core_pay false c) _ _ (same_in p now sched w memory c c.mode)
 

@@ -12,7 +12,8 @@ loop-cycles-init c = record {
   least = λ other room.
       let le : first_cycles c.args.devices.now c.args.tasks.now c.args.d ≤ other = none_is_before c.args.devices.now c.args.tasks.now c.args.d other c.requires.devices c.requires.tasks room in
       omega (arith, le, c.first_cycles-cycles.ensures.cycles);
-  turned = turned_first c.args.devices.now c.args.tasks.now c.args.d c.requires.devices c.requires.tasks (first_cycles c.args.devices.now c.args.tasks.now c.args.d) c.first_cycles-cycles.result c.first_cycles-cycles.ensures.cycles;
+  turned = turned_first c.args.devices.now c.args.tasks.now c.args.d c.requires.devices c.requires.tasks
+      (first_cycles c.args.devices.now c.args.tasks.now c.args.d) c.first_cycles-cycles.result c.first_cycles-cycles.ensures.cycles;
   few = omega arith;
   small = omega arith;
 }
@@ -24,10 +25,17 @@ loop-cycles-preserved c = record {
       let more : demand c.args.devices.now c.args.tasks.now c.args.d c.loop-cycles.cycles ≤ other =
       room_above c.args.devices.now c.args.tasks.now c.args.d c.requires.devices c.requires.tasks c.loop-cycles.cycles other room (c.loop-cycles.invariant.least other room) in
       omega (arith, more, c.demand-next.ensures);
-  turned = turned_next c.args.devices.now c.args.tasks.now c.args.d c.requires.devices c.requires.tasks (first_cycles c.args.devices.now c.args.tasks.now c.args.d) c.loop-cycles.cycles c.loop-cycles.turns c.demand-next.result c.demand-next.ensures (omega (arith, c.if-next-cycles.false)) c.loop-cycles.invariant.turned;
-  few = turned_within c.args.devices.now c.args.tasks.now c.args.d c.requires.devices c.requires.tasks (first_cycles c.args.devices.now c.args.tasks.now c.args.d) c.loop-cycles.cycles c.loop-cycles.turns c.args.most (omega (arith, c.loop-cycles-test.true, c.from.ensures)) c.loop-cycles.invariant.turned;
+  turned = turned_next c.args.devices.now c.args.tasks.now c.args.d c.requires.devices c.requires.tasks
+      (first_cycles c.args.devices.now c.args.tasks.now c.args.d) c.loop-cycles.cycles c.loop-cycles.turns c.demand-next.result c.demand-next.ensures
+      (omega (arith, c.if-next-cycles.false)) c.loop-cycles.invariant.turned;
+  few = turned_within c.args.devices.now c.args.tasks.now c.args.d c.requires.devices c.requires.tasks
+      (first_cycles c.args.devices.now c.args.tasks.now c.args.d) c.loop-cycles.cycles c.loop-cycles.turns c.args.most
+      (omega (arith, c.loop-cycles-test.true, c.from.ensures)) c.loop-cycles.invariant.turned;
   small = omega (arith, c.if-next-cycles.false, c.loop-cycles.invariant.small);
 }
 
 pub returns-then-next-cycles-clause-few : goal.returns-then-next-cycles-clause-few
-returns-then-next-cycles-clause-few c = turned_within c.args.devices.now c.args.tasks.now c.args.d c.requires.devices c.requires.tasks (first_cycles c.args.devices.now c.args.tasks.now c.args.d) c.loop-cycles.cycles c.loop-cycles.turns c.loop-cycles.cycles (omega arith) c.loop-cycles.invariant.turned
+returns-then-next-cycles-clause-few c =
+    turned_within c.args.devices.now c.args.tasks.now c.args.d c.requires.devices c.requires.tasks
+    (first_cycles c.args.devices.now c.args.tasks.now c.args.d) c.loop-cycles.cycles c.loop-cycles.turns c.loop-cycles.cycles (omega arith)
+    c.loop-cycles.invariant.turned

@@ -34,7 +34,8 @@ returns g c =
     let failed : SetFails fail (set_of bytes) = subst (λ bs. SetFails fail (set_of bs)) c.deref.ensures.value c.in-Err-read_set.ensures.exact in
     record {
       set = made_ok _ set_limit name (stated_in name) bytes _ c.in-Ok.ensures.read
-          (stated_refused name bytes (set_of bytes) fail _ other failed (c.in_ok-form_answer-in-Err-read_set.ensures ∙ ap (λ bs. (Refused, form_text name bs fail)) c.deref-in-Err-read_set.ensures.value));
+          (stated_refused name bytes (set_of bytes) fail _ other failed
+          (c.in_ok-form_answer-in-Err-read_set.ensures ∙ ap (λ bs. (Refused, form_text name bs fail)) c.deref-in-Err-read_set.ensures.value));
       lawful = tt;
       fault = search rules;
       later = search rules;

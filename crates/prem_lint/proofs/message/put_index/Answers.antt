@@ -17,7 +17,8 @@ returns c =
     let s5 = joined c.put_array.new.text.items (codes " has elements 0 to ") r6 c.put_bytes-3.new.text.items c.put_last.new.text.items c.in_ok-put_bytes-3.ensures e in
     let s4 = joined c.put_bytes-2.new.text.items (array c.args.rest.now) r5 c.put_array.new.text.items c.put_last.new.text.items c.in_ok-put_array.ensures s5 in
     let s3 = joined c.put_past_last.new.text.items (codes ", and ") r4 c.put_bytes-2.new.text.items c.put_last.new.text.items c.in_ok-put_bytes-2.ensures s4 in
-    let s2 = joined c.put_bytes.new.text.items (signed_decimal (past (pos (c.args.len - 1)) (span_of c.args.r))) r3 c.put_past_last.new.text.items c.put_last.new.text.items c.in_ok-put_past_last.ensures s3 in
+    let s2 = joined c.put_bytes.new.text.items (signed_decimal (past (pos (c.args.len - 1)) (span_of c.args.r)))
+    r3 c.put_past_last.new.text.items c.put_last.new.text.items c.in_ok-put_past_last.ensures s3 in
     let s1 = joined c.put_element.new.text.items (codes ": the index can be ") r2 c.put_bytes.new.text.items c.put_last.new.text.items c.in_ok-put_bytes.ensures s2 in
     let s0 = joined c.args.text.now.items (element c.args.rest.now) r1 c.put_element.new.text.items c.put_last.new.text.items c.in_ok-put_element.ensures s1 in
     s0)

@@ -79,7 +79,9 @@ returns-clause-core g c = c.issue.ensures.core ∙ ap (λ (t : CoreTurn). t.core
 pub returns-clause-log : goal.returns-clause-log
 returns-clause-log g c =
     c.issue.ensures.log ∙ ap (λ (t : CoreTurn). with_counts t.counts (log_in c.issue_plain.new.facts)) (turn_stays g c)
-    ∙ ap (λ (f : Facts). with_counts (turn_of_issue c.args.setting.now c.args.now c.args.task c.args.interval (core_with c.args.core.now.debt c.args.moment.now) c.args.work.now c.args.facts.now).counts (log_in f)) (same g c).1
+    ∙ ap (λ (f : Facts). with_counts
+    (turn_of_issue c.args.setting.now c.args.now c.args.task c.args.interval (core_with c.args.core.now.debt c.args.moment.now)
+    c.args.work.now c.args.facts.now).counts (log_in f)) (same g c).1
 
 pub returns-clause-trapped : goal.returns-clause-trapped
 returns-clause-trapped g c = c.issue.ensures.trapped ∙ ap (λ (t : CoreTurn). t.trapped) (turn_stays g c)

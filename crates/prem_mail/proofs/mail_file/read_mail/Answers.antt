@@ -22,4 +22,5 @@ returns-clause-exact c =
 pub returns-clause-lawful : goal.returns-clause-lawful
 returns-clause-lawful c =
     let none : length c.loop-rest.rest.now ≡ 0 = grind (arith, nat_tests, c.is_empty.ensures, c.loop-rest-test.false) in
-    feeds_are_lawful c.args.bytes.now c.args.names.now c.loop-rest.feeds.items (done c.args.names.now c.args.bytes.now c.loop-rest.n c.loop-rest.feeds.items c.loop-rest.rest.now c.loop-rest.invariant none)
+    feeds_are_lawful c.args.bytes.now c.args.names.now c.loop-rest.feeds.items
+    (done c.args.names.now c.args.bytes.now c.loop-rest.n c.loop-rest.feeds.items c.loop-rest.rest.now c.loop-rest.invariant none)

@@ -15,7 +15,9 @@ loop-k-preserved c =
     let xs = c.loop-k.next.items in
     let rest = map (λ ks. ks.items) (drop (k + 1) table) in
     let left : drop k table ≡ row ∷ drop (k + 1) table = drop_more table k row (omega arith) ∙ ap (λ x. x ∷ drop (k + 1) table) (sym c.index-table-k.is) in
-    ap (with_new rest before set (k + 1) 0) (with_items_is c.loop-k.next c.follow.new.set (search (rules, places)) ∙ c.follow.ensures ∙ (λ i. followed (c.is_new.ensures i) (c.deref.ensures.value i) (c.deref_mut.ensures.value i)))
+    ap (with_new rest before set (k + 1) 0)
+    (with_items_is c.loop-k.next c.follow.new.set (search (rules, places)) ∙ c.follow.ensures
+    ∙ (λ i. followed (c.is_new.ensures i) (c.deref.ensures.value i) (c.deref_mut.ensures.value i)))
     ∙ row_followed row.items rest before set k xs ∙ ap (λ t. with_new (map (λ ks. ks.items) t) before set k 0 xs) (sym left) ∙ c.loop-k.invariant
 
 pub returns : goal.returns

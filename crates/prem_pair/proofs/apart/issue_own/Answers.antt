@@ -53,4 +53,5 @@ pub returns-clause-goes : goal.returns-clause-goes
 returns-clause-goes g c =
     let x = c.args.parts.now in
     let new = c.issue_plain.new in
-    kept_goes x new.work new.facts c.issued-parts.result c.owe-2.new.self c.requires.stands.periods c.requires.goes c.in-Some.ensures.kept (c.issued-parts.ensures.mode ∙ sym c.requires.going.mode) c.issued-parts.ensures.interval
+    kept_goes x new.work new.facts c.issued-parts.result c.owe-2.new.self c.requires.stands.periods c.requires.goes c.in-Some.ensures.kept
+    (c.issued-parts.ensures.mode ∙ sym c.requires.going.mode) c.issued-parts.ensures.interval

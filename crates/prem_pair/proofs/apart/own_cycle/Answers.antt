@@ -11,7 +11,8 @@ returns-clause-own g c = λ holds.
     let x = c.args.parts.now in
     let r = c.requires in
     let some : 1 ≤ x.core.debt.cost = omega (arith, c.if-cost-eq0.false, c.cost.ensures) in
-    pays_own c.args.setting.now holds x c.pay.new.self c.args.task (ap (λ (k : CoreParts). k.debt) c.pay.ensures.core) r.going some r.trapped (has_room c.args.setting.now c.args.requests.now x r.stands r.room r.intervals)
+    pays_own c.args.setting.now holds x c.pay.new.self c.args.task (ap (λ (k : CoreParts). k.debt) c.pay.ensures.core) r.going some r.trapped
+    (has_room c.args.setting.now c.args.requests.now x r.stands r.room r.intervals)
 
 pub returns-clause-goes : goal.returns-clause-goes
 returns-clause-goes g c =

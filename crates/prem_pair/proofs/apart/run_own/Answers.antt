@@ -42,7 +42,8 @@ cycles-preserved g c =
     let f = c.cycles.invariant.0 in
     let e = c.own_cycle.ensures in
     let more = c.in-Some.is ∙ ap Some c.if-not-more.false in (
-      own_next c.args.setting.now c.args.requests.now c.args.task c.args.until c.args.parts.now c.cycles.parts c.own_cycle.new.parts c.cycles.left f (omega (arith, c.cycles-test.true)) c.if-parts-until.true
+      own_next c.args.setting.now c.args.requests.now c.args.task c.args.until c.args.parts.now c.cycles.parts c.own_cycle.new.parts c.cycles.left f
+          (omega (arith, c.cycles-test.true)) c.if-parts-until.true
           c.in-Some.ensures.own e.stands e.goes e.arrives e.gates e.trapped (e.more more) c.in-Some.ensures.now e.put e.intervals,
       e.near,
     )

@@ -11,6 +11,8 @@ returns-clause-goes g c =
     let r = c.requires in
     let G : Parts g.row.P.Denot → Type 0 = λ x. Goes (4 * c.args.at) (record x { now = c.args.at }) in
     elim c.if-holds.branch [
-      | then-holds w ↦ subst G (sym w.parts-is) (goes_at old w.pass.new.self w.pass.new.core c.args.at r.stands.periods r.from r.goes (w.pass.ensures.mode old.now old.sched r.goes.ready) w.pass.ensures.interval)
+      | then-holds w ↦ subst G (sym w.parts-is)
+          (goes_at old w.pass.new.self w.pass.new.core c.args.at r.stands.periods r.from r.goes (w.pass.ensures.mode old.now old.sched r.goes.ready)
+          w.pass.ensures.interval)
       | else-holds+else-not-wants_bus w ↦ subst G (sym w.parts-is) (goes_at old old.moment old.core c.args.at r.stands.periods r.from r.goes r.goes.ready refl)
     ]

@@ -29,5 +29,6 @@ pub returns-in-Ok-compile-clause-answer : goal.returns-in-Ok-compile-clause-answ
 returns-in-Ok-compile-clause-answer c =
     let x = c.args.sets.now in
     ap Ok
-    (both_told (pair_asked c.args.asked.now) (set_of x.one.now) (set_of x.two.now) (input_of x.input.now) (input_of x.other.now) c.in-Ok.one c.in-Ok-compile.two (reply_of c.in_ok-told-in-Ok-compile.field-0)
+    (both_told (pair_asked c.args.asked.now) (set_of x.one.now) (set_of x.two.now) (input_of x.input.now) (input_of x.other.now)
+    c.in-Ok.one c.in-Ok-compile.two (reply_of c.in_ok-told-in-Ok-compile.field-0)
     c.in-Ok.ensures c.in-Ok-compile.ensures c.in_ok-told-in-Ok-compile.ensures)

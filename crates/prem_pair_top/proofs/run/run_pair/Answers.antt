@@ -12,7 +12,8 @@ run_to-stop-requires-clause-now g c =
 pub returns-clause-state : goal.returns-clause-state
 returns-clause-state g c =
     let x = c.args.given.now in
-    whole_run x.one.now x.two.now x.input.now x.other.now c.args.limit c.in_ok-pair.pair c.run_to-stop.new.self.state c.in_ok-pair.ensures.first c.in_ok-pair.ensures.second c.in_ok-pair.ensures.requests c.in_ok-pair.ensures.state
+    whole_run x.one.now x.two.now x.input.now x.other.now c.args.limit c.in_ok-pair.pair c.run_to-stop.new.self.state c.in_ok-pair.ensures.first
+    c.in_ok-pair.ensures.second c.in_ok-pair.ensures.requests c.in_ok-pair.ensures.state
     c.run_to-stop.ensures.state
 
 pub returns-clause-stop : goal.returns-clause-stop

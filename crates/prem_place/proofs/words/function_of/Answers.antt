@@ -5,7 +5,8 @@ use Rattle.prem_place.proofs.WordsLemmas.Jumps.{code_at, plan_there, stub_found}
 use Rattle.prem_place.proofs.words.function_of.Goals as goal
 
 pub bounds-items-part : goal.bounds-items-part
-bounds-items-part c = plan_there c.args.t.now c.args.part (length c.items-functions.result.now) c.items.result.now (ap length c.items-functions.ensures) c.if-part-functions.false c.requires.there c.items.ensures
+bounds-items-part c = plan_there c.args.t.now c.args.part (length c.items-functions.result.now) c.items.result.now
+    (ap length c.items-functions.ensures) c.if-part-functions.false c.requires.there c.items.ensures
 
 pub bounds-items-part-else-part-functions : goal.bounds-items-part-else-part-functions
 bounds-items-part-else-part-functions c =
@@ -25,8 +26,10 @@ returns-then-part-functions-clause-function c =
 
 pub returns-else-part-functions-clause-name : goal.returns-else-part-functions-clause-name
 returns-else-part-functions-clause-name c =
-    (stub_found c.args.t.now c.requires.stands c.args.part (length c.items-functions.result.now) c.items.result.now c.index-items-part.result (ap length c.items-functions.ensures) c.if-part-functions.false c.requires.there c.items.ensures c.index-items-part.is).name
+    (stub_found c.args.t.now c.requires.stands c.args.part (length c.items-functions.result.now) c.items.result.now c.index-items-part.result
+    (ap length c.items-functions.ensures) c.if-part-functions.false c.requires.there c.items.ensures c.index-items-part.is).name
 
 pub returns-else-part-functions-clause-function : goal.returns-else-part-functions-clause-function
 returns-else-part-functions-clause-function c =
-    (stub_found c.args.t.now c.requires.stands c.args.part (length c.items-functions.result.now) c.items.result.now c.index-items-part.result (ap length c.items-functions.ensures) c.if-part-functions.false c.requires.there c.items.ensures c.index-items-part.is).function
+    (stub_found c.args.t.now c.requires.stands c.args.part (length c.items-functions.result.now) c.items.result.now c.index-items-part.result
+    (ap length c.items-functions.ensures) c.if-part-functions.false c.requires.there c.items.ensures c.index-items-part.is).function

@@ -10,7 +10,8 @@ use Rattle.prem_place.proofs.words.words_of_all.Goals as goal
 pub returns-in-Err-Far-clause-ends : goal.returns-in-Err-Far-clause-ends
 returns-in-Err-Far-clause-ends c =
     let named = rw c.in-Err-Far.field-0-is at c.function_of.ensures.name in
-    first_part c.args.tasks.now c.loop-n.n c.function_of.result c.in-Err-Far.part c.index-tasks-n.result c.index-tasks-n-in-Err-Far.result c.in-Err-Far.field-0 c.loop-n-test.true c.index-tasks-n.is c.index-tasks-n-in-Err-Far.is
+    first_part c.args.tasks.now c.loop-n.n c.function_of.result c.in-Err-Far.part c.index-tasks-n.result c.index-tasks-n-in-Err-Far.result
+    c.in-Err-Far.field-0 c.loop-n-test.true c.index-tasks-n.is c.index-tasks-n-in-Err-Far.is
     c.in-Err-Far.field-0-is c.in-Err-Far.ensures.far named c.function_of.ensures.function c.loop-n.invariant.rest
 
 pub loop-n-preserved : goal.loop-n-preserved
@@ -19,6 +20,8 @@ loop-n-preserved c =
     let lt = c.loop-n-test.true in
     record {
       rest = passes_at reach_rules tasks c.loop-n.n c.index-tasks-n.result (over_tasks reach_rules (map placed_of tasks)) lt c.index-tasks-n.is c.in-Ok.ensures.far c.loop-n.invariant.rest;
-      words = more_words (λ blocks. map block_of blocks.items) tasks c.loop-n.n c.index-tasks-n.result c.loop-n.all.items c.push.new.self.items c.in-Ok.blocks (map words_in tasks) lt c.index-tasks-n.is c.in-Ok.ensures.words
+      words = more_words (λ blocks. map block_of blocks.items)
+          tasks c.loop-n.n c.index-tasks-n.result c.loop-n.all.items c.push.new.self.items c.in-Ok.blocks (map words_in tasks)
+          lt c.index-tasks-n.is c.in-Ok.ensures.words
           c.in_ok-push-in-Ok.ensures.items c.loop-n.invariant.words;
     }

@@ -29,7 +29,8 @@ stated_most most (calls m rest) p (suc i) = stated_most most rest p.1 i
 
 -- ---- one task
 
-module _ (p : Setup) (passes : ℕ → ℕ) (own : ℕ → Bool) (run : TaskRun) (most : JobLimits) (cycles longest : ℕ) (q : Promise) (fits : RunFits run) (t : TaskCharges p passes own run most cycles longest q) where
+module _ (p : Setup) (passes : ℕ → ℕ) (own : ℕ → Bool) (run : TaskRun) (most : JobLimits) (cycles longest : ℕ) (q : Promise) (fits : RunFits run)
+    (t : TaskCharges p passes own run most cycles longest q) where
   pub conforms : Conforms p passes own run (calls_of t.joins.weave) (run.jobs * most.cycles) (dids_of t.joins.weave)
   conforms = woven_runs_conform p passes own q.reads run (run.jobs * most.cycles) t.joins.weave t.joins.ending t.joins.woven
 
@@ -57,8 +58,10 @@ module _ (p : Setup) (passes : ℕ → ℕ) (own : ℕ → Bool) (run : TaskRun)
 
 -- ---- all of them
 
-module _ (passes : ℕ → ℕ) (p : Setup) (content : List ℕ) (own : ℕ → ℕ → Bool) (most : ℕ → JobLimits) (cycles longest : ℕ → ℕ) (promises : List (List ℕ) → ℕ → Promise) (limit : ℕ) (h : IsJoined passes p content own most promises limit)
-    (each : (inputs : List (List ℕ)) → AreInputs p inputs → (k : ℕ) → k < length p.tasks → TaskCharges p passes (own k) (run_in p content inputs k) (most k) (cycles k) (longest k) (promises inputs k)) where
+module _ (passes : ℕ → ℕ) (p : Setup) (content : List ℕ) (own : ℕ → ℕ → Bool) (most : ℕ → JobLimits) (cycles longest : ℕ → ℕ)
+    (promises : List (List ℕ) → ℕ → Promise) (limit : ℕ) (h : IsJoined passes p content own most promises limit)
+    (each : (inputs : List (List ℕ)) → AreInputs p inputs → (k : ℕ) → k < length p.tasks →
+    TaskCharges p passes (own k) (run_in p content inputs k) (most k) (cycles k) (longest k) (promises inputs k)) where
   pub record Told : Type 0 where
     pub script : Script
     pub scoping : Scoping
@@ -86,12 +89,15 @@ module _ (passes : ℕ → ℕ) (p : Setup) (content : List ℕ) (own : ℕ → 
 pub joined_images_are_sound_by_charges : JoinedImagesAreSoundByCharges
 joined_images_are_sound_by_charges rule order passes p content own most cycles longest promises limit policy h each = record {
   good = λ inputs requests n i t w.
-      scripts_are_good rule order passes p content inputs requests own (run_in p content inputs) (λ k. ((all_charged passes p content own most cycles longest promises limit h each inputs i).0 k).script) (promises inputs) n policy
+      scripts_are_good rule order passes p content inputs requests own (run_in p content inputs)
+      (λ k. ((all_charged passes p content own most cycles longest promises limit h each inputs i).0 k).script) (promises inputs) n policy
       (runs passes p content own most promises limit h requests t w) (are_scripts passes p content own most cycles longest promises limit h each inputs i)
       (λ k lt. ((all_charged passes p content own most cycles longest promises limit h each inputs i).1 k lt).scripted.kept);
   finished = λ inputs requests n i t w le.
-      scripts_finish_by_jobs rule order passes p content inputs requests own (run_in p content inputs) (λ k. ((all_charged passes p content own most cycles longest promises limit h each inputs i).0 k).script)
+      scripts_finish_by_jobs rule order passes p content inputs requests own (run_in p content inputs)
+      (λ k. ((all_charged passes p content own most cycles longest promises limit h each inputs i).0 k).script)
       (λ k. ((all_charged passes p content own most cycles longest promises limit h each inputs i).0 k).scoping) cycles (λ k. p.plant.switch + longest k) n policy
       (runs passes p content own most promises limit h requests t w) (are_scripts passes p content own most cycles longest promises limit h each inputs i)
-      (λ k lt. ((all_charged passes p content own most cycles longest promises limit h each inputs i).1 k lt).scoped) (λ k lt. ((all_charged passes p content own most cycles longest promises limit h each inputs i).1 k lt).charged) le;
+      (λ k lt. ((all_charged passes p content own most cycles longest promises limit h each inputs i).1 k lt).scoped)
+      (λ k lt. ((all_charged passes p content own most cycles longest promises limit h each inputs i).1 k lt).charged) le;
 }

@@ -69,7 +69,8 @@ module _ (plant : Plant) where
     none_begun End g = absurd g
     none_begun Job g = refl
 
-    charged_from : (w : Weave) (begun job stretch : ℕ) → IsWeave plant passes w → Aligned begun w → PacedFrom plant cost most job stretch w → ChargedFrom plant s cost most begun job stretch (singles w)
+    charged_from : (w : Weave) (begun job stretch : ℕ) → IsWeave plant passes w → Aligned begun w → PacedFrom plant cost most job stretch w →
+        ChargedFrom plant s cost most begun job stretch (singles w)
     charged_from ends begun job stretch h a p = tt
     charged_from (goes d rest) begun job stretch h a p =
         let is : charge_of plant (single plant d) ≡ due_of plant d = (singles_are_due plant d).1 in
@@ -78,9 +79,11 @@ module _ (plant : Plant) where
         let count : begun + calls_begun d.change ≡ begun = let z : calls_begun d.change ≡ 0 = none_begun d.change h.0.goes_on in omega (arith, z) in (
           omega (arith, p.0, due),
           omega (arith, p.1, is),
-          subst (λ n. ChargedFrom plant s cost most n (within_job d.change (job + scope_due plant s begun (single plant d))) (within_stretch d.change (stretch + charge_of plant (single plant d))) (singles rest)) (sym count)
+          subst (λ n. ChargedFrom plant s cost most n (within_job d.change (job + scope_due plant s begun (single plant d)))
+              (within_stretch d.change (stretch + charge_of plant (single plant d))) (singles rest)) (sym count)
               (subst (λ n. ChargedFrom plant s cost most begun (within_job d.change (job + n)) (within_stretch d.change (stretch + charge_of plant (single plant d))) (singles rest)) (sym due)
-              (subst (λ n. ChargedFrom plant s cost most begun (within_job d.change (job + (due_of plant d + change_due plant 0 d.change))) (within_stretch d.change (stretch + n)) (singles rest)) (sym is)
+              (subst (λ n. ChargedFrom plant s cost most begun (within_job d.change (job + (due_of plant d + change_due plant 0 d.change)))
+              (within_stretch d.change (stretch + n)) (singles rest)) (sym is)
               (charged_from rest begun _ _ h.1 a p.2))),
         )
     charged_from (calls m rest) begun job stretch h a p =
@@ -98,7 +101,8 @@ module _ (plant : Plant) where
         let align : Aligned (begun + 1) rest = (λ i lt. let e : begun + 1 + i ≡ begun + suc i = omega arith in ap (call_at s) e ∙ a (suc i) (omega (arith, lt))) in (
           omega (arith, p.0, due),
           omega (arith, p.1, is),
-          subst (λ n. ChargedFrom plant s cost most n (within_job d.change (job + scope_due plant s begun (single plant d))) (within_stretch d.change (stretch + charge_of plant (single plant d))) (singles rest)) (sym count)
+          subst (λ n. ChargedFrom plant s cost most n (within_job d.change (job + scope_due plant s begun (single plant d)))
+              (within_stretch d.change (stretch + charge_of plant (single plant d))) (singles rest)) (sym count)
               (subst (λ n. ChargedFrom plant s cost most (begun + 1) n (within_stretch d.change (stretch + charge_of plant (single plant d))) (singles rest)) (sym job')
               (subst (λ n. ChargedFrom plant s cost most (begun + 1) (job + (due_of plant d + (2 * plant.switch + m.call.stated))) n (singles rest)) (sym stretch')
               (charged_from rest (begun + 1) _ _ h.1 align p.2))),
@@ -110,7 +114,8 @@ paced_tasks_are_charged p passes own run most longest q t = record {
   strand = singles p.plant t.joins.weave;
   dids_are = singles_dids p.plant t.joins.weave;
   scopes = singles_strand p.plant passes t.joins.weave t.joins.woven.weave;
-  charged = charged_from p.plant passes (script_of (calls_of t.joins.weave)) most.cycles longest t.joins.weave 0 0 0 t.joins.woven.weave (λ i lt. let e : 0 + i ≡ i = omega arith in ap (call_at (script_of (calls_of t.joins.weave))) e) t.paced;
+  charged = charged_from p.plant passes (script_of (calls_of t.joins.weave)) most.cycles longest t.joins.weave 0 0 0 t.joins.woven.weave
+      (λ i lt. let e : 0 + i ≡ i = omega arith in ap (call_at (script_of (calls_of t.joins.weave))) e) t.paced;
   stated = t.stated;
 }
 

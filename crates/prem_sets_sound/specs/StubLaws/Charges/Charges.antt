@@ -36,7 +36,8 @@ pub record TaskCharges (p : Setup) (passes : ℕ → ℕ) (own : ℕ → Bool) (
 -- such an image is sound up to the limit of the charges, whatever the limit of its joins is
 abbrev pub JoinedImagesAreSoundByCharges : Type 0
 JoinedImagesAreSoundByCharges =
-    (rule : ReplacementRule) (order : OrderRule) (passes : ℕ → ℕ) (p : Setup) (content : List ℕ) (own : ℕ → ℕ → Bool) (most : ℕ → JobLimits) (cycles longest : ℕ → ℕ) (promises : List (List ℕ) → ℕ → Promise) (limit : ℕ) →
+    (rule : ReplacementRule) (order : OrderRule) (passes : ℕ → ℕ) (p : Setup) (content : List ℕ) (own : ℕ → ℕ → Bool) (most : ℕ → JobLimits)
+    (cycles longest : ℕ → ℕ) (promises : List (List ℕ) → ℕ → Promise) (limit : ℕ) →
     IsPolicy rule order passes → IsJoined passes p content own most promises limit →
     ((inputs : List (List ℕ)) → AreInputs p inputs → (k : ℕ) → k < length p.tasks → TaskCharges p passes (own k) (run_in p content inputs k) (most k) (cycles k) (longest k) (promises inputs k)) →
     Sound rule p content promises (jobs_limit p cycles)

@@ -42,11 +42,18 @@ loop-n-preserved c =
     ∙ ap (depths_of (map frame_of (items_of r.routines))) (calls c.deref-2.result.now c.deref-2.ensures.value) in
     let et : items c.deref-in-loop-n-2.result.now ≡ (known_of r).table = calls c.deref-in-loop-n-2.result.now c.deref-in-loop-n-2.ensures.value in
     let eb : c.value_at-base.result ≡ (known_of r).base = c.value_at-base.ensures ∙ ap (λ ns. slice_index ns r.job) (frames c.deref-3.result.now c.deref-3.ensures.value) in
-    let eg : map (λ (g : Bor GlobalTree). global_of g.now) c.deref-in-loop-n-3.result.now ≡ (known_of r).globals = ap (map (λ (g : Bor GlobalTree). global_of g.now)) c.deref-in-loop-n-3.ensures.value in
+    let eg : map (λ (g : Bor GlobalTree). global_of g.now) c.deref-in-loop-n-3.result.now ≡ (known_of r).globals =
+    ap (map (λ (g : Bor GlobalTree). global_of g.now)) c.deref-in-loop-n-3.ensures.value in
     let same = known_same _ _ _ _ _ _ _ _ ed et eb eg in
     let old = map plan_of (items_of c.loop-n.plans) in
-    let k : Known = record { depths = c.deref-in-loop-n.result.now; table = items c.deref-in-loop-n-2.result.now; base = c.value_at-base.result; globals = map (λ (g : Bor GlobalTree). global_of g.now) c.deref-in-loop-n-3.result.now } in
-    let told : map plan_of (items_of c.push_plan.new.plans) ≡ map plan_of (items_of c.loop-n.plans) ++ plan_if k n (function_of (get_or fs n c.index-fs-n.result).text.now).mark [] = c.in_ok-push_plan.ensures in
+    let k : Known = record {
+      depths = c.deref-in-loop-n.result.now;
+      table = items c.deref-in-loop-n-2.result.now;
+      base = c.value_at-base.result;
+      globals = map (λ (g : Bor GlobalTree). global_of g.now) c.deref-in-loop-n-3.result.now;
+    } in
+    let told : map plan_of (items_of c.push_plan.new.plans) ≡ map plan_of (items_of c.loop-n.plans)
+    ++ plan_if k n (function_of (get_or fs n c.index-fs-n.result).text.now).mark [] = c.in_ok-push_plan.ensures in
     plans_step (known_of r) n fs c.index-fs-n.result old (map plan_of (items_of c.push_plan.new.plans)) (omega arith)
     (told ∙ ap (λ k. old ++ plan_if k n (function_of (get_or fs n c.index-fs-n.result).text.now).mark []) same)
     ∙ c.loop-n.invariant

@@ -25,12 +25,14 @@ pub returns-in_err-codes : goal.returns-in_err-codes
 returns-in_err-codes c =
     let p = err_from_is_err_and c.from_residual-in_err-codes.result c.from_residual-in_err-codes.ensures.1 in
     let set = set_of c.args.set.now in
-    rw (p.1, p.2) (at_code set c.in_err-codes.field-0.0 (map checked_text c.args.programs.now) c.requires.programs_are (kept_well set c.args.programs.now c.requires c.in_ok-turns.ensures.ends) c.in_err-codes.ensures.ends)
+    rw (p.1, p.2) (at_code set c.in_err-codes.field-0.0 (map checked_text c.args.programs.now) c.requires.programs_are
+    (kept_well set c.args.programs.now c.requires c.in_ok-turns.ensures.ends) c.in_err-codes.ensures.ends)
 
 pub returns : goal.returns
 returns c =
     let set = set_of c.args.set.now in
     let texts = map checked_text c.args.programs.now in
     let coded = c.in_ok-codes.ensures.codes ∙ ap (λ (p : Plant). map (program_code p.target) texts) c.plant.ensures.plant in
-    set_is_coded set (record { resolved = c.in_ok-resolved.resolved; turns = c.in_ok-turns.turns; codes = c.in_ok-codes.codes }) texts (kept_well set c.args.programs.now c.requires c.in_ok-turns.ensures.ends) c.requires.programs_are c.in_ok-codes.ensures.ends
+    set_is_coded set (record { resolved = c.in_ok-resolved.resolved; turns = c.in_ok-turns.turns; codes = c.in_ok-codes.codes }) texts
+    (kept_well set c.args.programs.now c.requires c.in_ok-turns.ensures.ends) c.requires.programs_are c.in_ok-codes.ensures.ends
     c.in_ok-resolved.ensures c.in_ok-turns.ensures.turns coded

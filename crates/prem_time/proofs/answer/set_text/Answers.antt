@@ -8,7 +8,8 @@ use Rattle.prem_time.proofs.answer.set_text.Goals as goal
 pub busy_periods-requires-clause-count : goal.busy_periods-requires-clause-count
 busy_periods-requires-clause-count c =
     let long : length c.deref.result.now ≡ length c.items-tasks.result.now =
-    lent_long c.args.timed.now c.items-tasks.result.now c.items-times.result.now c.deref.result.now c.requires.loads c.items-tasks.ensures c.items-times.ensures (c.deref.ensures.value ∙ c.in_ok-loads.ensures) in
+    lent_long c.args.timed.now c.items-tasks.result.now c.items-times.result.now c.deref.result.now c.requires.loads c.items-tasks.ensures
+    c.items-times.ensures (c.deref.ensures.value ∙ c.in_ok-loads.ensures) in
     let tasks = ap length c.items-tasks.ensures in
     omega (arith, long, tasks, c.requires.loads.count)
 
@@ -19,18 +20,21 @@ waits_of-requires-clause-found c =
 
 pub all_held-fits-requires : goal.all_held-fits-requires
 all_held-fits-requires c =
-    lent_told c.args.devices.now c.args.bus.now c.args.timed.now c.deref-2.result.now c.deref-3.result.now (map times_in c.items-times.result.now) c.deref-then-all_within.result.now c.deref-then-all_within-2.result.now
+    lent_told c.args.devices.now c.args.bus.now c.args.timed.now c.deref-2.result.now c.deref-3.result.now (map times_in c.items-times.result.now)
+    c.deref-then-all_within.result.now c.deref-then-all_within-2.result.now
     c.requires.devices c.deref-then-all_within.ensures.value (c.deref-then-all_within-2.ensures.value ∙ c.in_ok-waits.ensures)
 
 pub tasks_text-requires-clause-loads : goal.tasks_text-requires-clause-loads
 tasks_text-requires-clause-loads c =
-    lent_long c.args.timed.now c.items-tasks.result.now c.items-times.result.now c.deref-5.result.now c.requires.loads c.items-tasks.ensures c.items-times.ensures (c.deref-5.ensures.value ∙ c.in_ok-loads.ensures)
+    lent_long c.args.timed.now c.items-tasks.result.now c.items-times.result.now c.deref-5.result.now c.requires.loads c.items-tasks.ensures
+    c.items-times.ensures (c.deref-5.ensures.value ∙ c.in_ok-loads.ensures)
 
 pub tasks_text-requires-clause-found : goal.tasks_text-requires-clause-found
 tasks_text-requires-clause-found c =
     ap length (c.deref-6.ensures.value ∙ c.in_ok-found.ensures)
     ∙ found_long c.deref.result.now 0 (length c.deref.result.now)
-    ∙ lent_long c.args.timed.now c.items-tasks.result.now c.items-times.result.now c.deref.result.now c.requires.loads c.items-tasks.ensures c.items-times.ensures (c.deref.ensures.value ∙ c.in_ok-loads.ensures)
+    ∙ lent_long c.args.timed.now c.items-tasks.result.now c.items-times.result.now c.deref.result.now c.requires.loads c.items-tasks.ensures
+    c.items-times.ensures (c.deref.ensures.value ∙ c.in_ok-loads.ensures)
 
 pub push_devices-requires : goal.push_devices-requires
 push_devices-requires c =
@@ -39,4 +43,5 @@ push_devices-requires c =
 
 pub limit_of-requires-clause-long : goal.limit_of-requires-clause-long
 limit_of-requires-clause-long c =
-    lent_long c.args.timed.now c.items-tasks.result.now c.items-times.result.now c.deref-9.result.now c.requires.loads c.items-tasks.ensures c.items-times.ensures (c.deref-9.ensures.value ∙ c.in_ok-loads.ensures)
+    lent_long c.args.timed.now c.items-tasks.result.now c.items-times.result.now c.deref-9.result.now c.requires.loads c.items-tasks.ensures
+    c.items-times.ensures (c.deref-9.ensures.value ∙ c.in_ok-loads.ensures)

@@ -11,12 +11,14 @@ tops_of-requires c = are_named (distances_in c.args.distances.now) c.devices-dev
 
 pub promises_by-requires-clause-loads : goal.promises_by-requires-clause-loads
 promises_by-requires-clause-loads c =
-    told_loads (set_of c.args.set.now) (distances_in c.args.distances.now) c.devices-devices.result.now c.in_ok-bus.bus c.deref.result.now c.in-Ok.timed c.devices-devices.ensures.devices c.in_ok-bus.ensures
+    told_loads (set_of c.args.set.now) (distances_in c.args.distances.now)
+    c.devices-devices.result.now c.in_ok-bus.bus c.deref.result.now c.in-Ok.timed c.devices-devices.ensures.devices c.in_ok-bus.ensures
     (c.deref.ensures.value ∙ c.in_ok-tops.ensures) c.in-Ok.ensures
 
 pub promises_by-requires-clause-devices : goal.promises_by-requires-clause-devices
 promises_by-requires-clause-devices c =
-    told_devices (set_of c.args.set.now) (distances_in c.args.distances.now) c.devices-devices.result.now c.in_ok-bus.bus c.deref.result.now c.in-Ok.timed c.devices-devices.ensures.devices c.in_ok-bus.ensures
+    told_devices (set_of c.args.set.now) (distances_in c.args.distances.now)
+    c.devices-devices.result.now c.in_ok-bus.bus c.deref.result.now c.in-Ok.timed c.devices-devices.ensures.devices c.in_ok-bus.ensures
     (c.deref.ensures.value ∙ c.in_ok-tops.ensures) c.in-Ok.ensures c.requires.distances c.devices-devices.ensures.ranges
 
 pub returns-in-Ok-clause-promises : goal.returns-in-Ok-clause-promises

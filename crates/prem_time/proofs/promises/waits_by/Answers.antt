@@ -6,7 +6,8 @@ use Rattle.prem_time.proofs.promises.waits_by.Goals as goal
 pub busy_periods-requires-clause-count : goal.busy_periods-requires-clause-count
 busy_periods-requires-clause-count c =
     let long : length c.deref.result.now ≡ length c.items-tasks.result.now =
-    lent_long c.args.timed.now c.items-tasks.result.now c.items-times.result.now c.deref.result.now c.requires.loads c.items-tasks.ensures c.items-times.ensures (c.deref.ensures.value ∙ c.in_ok-loads.ensures) in
+    lent_long c.args.timed.now c.items-tasks.result.now c.items-times.result.now c.deref.result.now c.requires.loads c.items-tasks.ensures
+    c.items-times.ensures (c.deref.ensures.value ∙ c.in_ok-loads.ensures) in
     let tasks = ap length c.items-tasks.ensures in
     omega (arith, long, tasks, c.requires.loads.count)
 

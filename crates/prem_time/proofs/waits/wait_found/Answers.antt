@@ -10,7 +10,8 @@ closings_of-requires-clause-found c = as_many_found c.args.loads.now c.args.foun
 
 pub wait_length-requires-clause-tasks : goal.wait_length-requires-clause-tasks
 wait_length-requires-clause-tasks c =
-    closings_fit c.args.loads.now c.args.found.now (map times_in c.args.times.now) c.requires.found c.deref.result.now c.args.i c.top.result (c.deref.ensures.value ∙ c.in_ok-tasks.ensures) c.requires.closed c.top.ensures.small
+    closings_fit c.args.loads.now c.args.found.now (map times_in c.args.times.now) c.requires.found c.deref.result.now c.args.i c.top.result
+    (c.deref.ensures.value ∙ c.in_ok-tasks.ensures) c.requires.closed c.top.ensures.small
 
 pub wait_length-requires-clause-task_count : goal.wait_length-requires-clause-task_count
 wait_length-requires-clause-task_count c =
@@ -19,4 +20,6 @@ wait_length-requires-clause-task_count c =
 pub returns : goal.returns
 returns c =
     wait_as_told c.args.askings.now c.args.loads.now c.args.found.now (closed_told (map times_in c.args.times.now) c.args.i) c.args.number c.deref.result.now c.wait_length.result c.requires.all
-    (c.deref.ensures.value ∙ c.in_ok-tasks.ensures ∙ ap (λ (n : ℕ). closings_of c.args.loads.now c.args.found.now (closed_told (map times_in c.args.times.now) c.args.i) n) c.top.ensures.top) c.wait_length.ensures
+    (c.deref.ensures.value ∙ c.in_ok-tasks.ensures
+    ∙ ap (λ (n : ℕ). closings_of c.args.loads.now c.args.found.now (closed_told (map times_in c.args.times.now) c.args.i) n) c.top.ensures.top)
+    c.wait_length.ensures

@@ -23,7 +23,8 @@ turns-init g c =
     c.in_ok-declarations.ensures ∙ ap₂ (λ a b. header_text (task_names a) (device_names b)) c.items.ensures c.items-2.ensures in
     subst (λ (t : List ℕ). IsWaved image input c.args.from c.args.limit 0 c.run_to-stop.result c.run_to-stop.new.self header t c.new-2.result.items) (sym text_is)
     (subst (λ (l : List (Option ℕ)). IsWaved image input c.args.from c.args.limit 0 c.run_to-stop.result c.run_to-stop.new.self header header l) (sym c.new-2.ensures.items)
-    (first_waved image input c.args.from c.args.limit c.run_to-stop.result c.in_ok-machine.machine c.run_to-stop.new.self header new.setup new.requests new.state run.state run.setup run.requests run.stop))
+    (first_waved image input c.args.from c.args.limit c.run_to-stop.result c.in_ok-machine.machine c.run_to-stop.new.self header new.setup
+    new.requests new.state run.state run.setup run.requests run.stop))
 
 pub go_on-requires-clause-now : goal.go_on-requires-clause-now
 go_on-requires-clause-now g c =
@@ -54,7 +55,8 @@ returns g c =
     let header = header_text (task_names (items_of image.tasks)) (device_names (items_of image.devices)) in
     let values = values_at image input in
     let w = c.turns.invariant in
-    let over = ended image input c.args.from c.args.limit c.turns.at c.turns.stop c.turns.machine header c.turns.dump.text.items c.turns.dump.last.items w (sym c.has_turn.ensures ∙ c.turns-test.false) in
+    let over = ended image input c.args.from c.args.limit c.turns.at c.turns.stop c.turns.machine header c.turns.dump.text.items
+    c.turns.dump.last.items w (sym c.has_turn.ensures ∙ c.turns-test.false) in
     c.in_ok-push_end.ensures ∙ ap₂ (λ t n. t ++ time_text n) w.text_is c.now.ensures
     ∙ append_assoc header (moments_text (moments_of values c.args.from c.turns.machine.state.now)) (time_text c.turns.machine.state.now)
     ∙ ap (λ (s : MachineState). header ++ (moments_text (moments_of values c.args.from s.now) ++ time_text s.now)) over

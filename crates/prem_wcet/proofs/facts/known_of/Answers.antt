@@ -22,8 +22,10 @@ loop-n-preserved c =
       inside = omega (arith, lt);
       faces = c.in_ok-known.ensures.faces ∙ c.loop-n.invariant.faces;
       known =
-          known_more c.args.p.now t c.args.lengths.now c.requires.task c.requires.count n facts c.in_ok-known.known.facts.items c.in_ok-fact.fact c.loop-n.known.costs c.in_ok-known.known.costs c.next_cost-cost.result lt c.loop-n.invariant.known
-          (subst (λ faces. IsNextFact c.args.p.now t faces facts c.in_ok-fact.fact) c.loop-n.invariant.faces c.in_ok-fact.ensures) c.next_cost-cost.ensures c.in_ok-known.ensures.facts c.in_ok-known.ensures.costs;
+          known_more c.args.p.now t c.args.lengths.now c.requires.task c.requires.count n facts c.in_ok-known.known.facts.items c.in_ok-fact.fact
+          c.loop-n.known.costs c.in_ok-known.known.costs c.next_cost-cost.result lt c.loop-n.invariant.known
+          (subst (λ faces. IsNextFact c.args.p.now t faces facts c.in_ok-fact.fact) c.loop-n.invariant.faces c.in_ok-fact.ensures)
+          c.next_cost-cost.ensures c.in_ok-known.ensures.facts c.in_ok-known.ensures.costs;
     }
 
 pub returns-clause-known : goal.returns-clause-known

@@ -19,8 +19,10 @@ fact_of-requires-clause-place c =
     let n_is : n ≡ length c.args.known.now.facts.items = c.len-n.ensures ∙ c.args.known.now.facts.ok.0 in
     let lt : n < length (items_of t.table.code) = omega (arith, n_is, c.requires.there) in
     let r = c.index-routines-n.result in
-    code_ends c.args.p.now t c.requires.task n r c.in_ok-outline.outline (pieces_of c.items-pieces.result.now) c.place.result.0 lt (c.index-routines-n.is ∙ ap (λ xs. get_or xs n r) c.items-routines.ensures)
-    (pieces_there t n c.items-code.result.now c.index-code-n.result c.items-pieces.result.now lt c.items-code.ensures c.index-code-n.is c.items-pieces.ensures) (λ i. (c.place.ensures i).0) c.in_ok-outline.ensures
+    code_ends c.args.p.now t c.requires.task n r c.in_ok-outline.outline (pieces_of c.items-pieces.result.now) c.place.result.0 lt
+    (c.index-routines-n.is ∙ ap (λ xs. get_or xs n r) c.items-routines.ensures)
+    (pieces_there t n c.items-code.result.now c.index-code-n.result c.items-pieces.result.now lt c.items-code.ensures c.index-code-n.is
+    c.items-pieces.ensures) (λ i. (c.place.ensures i).0) c.in_ok-outline.ensures
 
 pub fact_of-requires-clause-ends : goal.fact_of-requires-clause-ends
 fact_of-requires-clause-ends c =
@@ -29,8 +31,10 @@ fact_of-requires-clause-ends c =
     let n_is : n ≡ length c.args.known.now.facts.items = c.len-n.ensures ∙ c.args.known.now.facts.ok.0 in
     let lt : n < length (items_of t.table.code) = omega (arith, n_is, c.requires.there) in
     let r = c.index-routines-n.result in
-    all_ends c.args.p.now t c.requires.task n r c.in_ok-outline.outline (pieces_of c.items-pieces.result.now) c.place.result.0 lt (c.index-routines-n.is ∙ ap (λ xs. get_or xs n r) c.items-routines.ensures)
-    (pieces_there t n c.items-code.result.now c.index-code-n.result c.items-pieces.result.now lt c.items-code.ensures c.index-code-n.is c.items-pieces.ensures) (λ i. (c.place.ensures i).0) c.in_ok-outline.ensures
+    all_ends c.args.p.now t c.requires.task n r c.in_ok-outline.outline (pieces_of c.items-pieces.result.now) c.place.result.0 lt
+    (c.index-routines-n.is ∙ ap (λ xs. get_or xs n r) c.items-routines.ensures)
+    (pieces_there t n c.items-code.result.now c.index-code-n.result c.items-pieces.result.now lt c.items-code.ensures c.index-code-n.is
+    c.items-pieces.ensures) (λ i. (c.place.ensures i).0) c.in_ok-outline.ensures
 
 pub fact_of-requires-clause-fits : goal.fact_of-requires-clause-fits
 fact_of-requires-clause-fits c =
@@ -39,8 +43,10 @@ fact_of-requires-clause-fits c =
     let n_is : n ≡ length c.args.known.now.facts.items = c.len-n.ensures ∙ c.args.known.now.facts.ok.0 in
     let lt : n < length (items_of t.table.code) = omega (arith, n_is, c.requires.there) in
     let r = c.index-routines-n.result in
-    body_fits c.args.p.now t c.requires.task n r c.in_ok-outline.outline (pieces_of c.items-pieces.result.now) c.place.result.0 lt (c.index-routines-n.is ∙ ap (λ xs. get_or xs n r) c.items-routines.ensures)
-    (pieces_there t n c.items-code.result.now c.index-code-n.result c.items-pieces.result.now lt c.items-code.ensures c.index-code-n.is c.items-pieces.ensures) (λ i. (c.place.ensures i).0) c.in_ok-outline.ensures
+    body_fits c.args.p.now t c.requires.task n r c.in_ok-outline.outline (pieces_of c.items-pieces.result.now) c.place.result.0 lt
+    (c.index-routines-n.is ∙ ap (λ xs. get_or xs n r) c.items-routines.ensures)
+    (pieces_there t n c.items-code.result.now c.index-code-n.result c.items-pieces.result.now lt c.items-code.ensures c.index-code-n.is
+    c.items-pieces.ensures) (λ i. (c.place.ensures i).0) c.in_ok-outline.ensures
 
 pub fact_of-requires-clause-below : goal.fact_of-requires-clause-below
 fact_of-requires-clause-below c =
@@ -49,9 +55,12 @@ fact_of-requires-clause-below c =
     let n_is : n ≡ length c.args.known.now.facts.items = c.len-n.ensures ∙ c.args.known.now.facts.ok.0 in
     let lt : n < length (items_of t.table.code) = omega (arith, n_is, c.requires.there) in
     let r = c.index-routines-n.result in
-    body_below c.args.p.now t c.requires.task n r c.in_ok-outline.outline (pieces_of c.items-pieces.result.now) c.place.result.0 lt (c.index-routines-n.is ∙ ap (λ xs. get_or xs n r) c.items-routines.ensures)
-    (pieces_there t n c.items-code.result.now c.index-code-n.result c.items-pieces.result.now lt c.items-code.ensures c.index-code-n.is c.items-pieces.ensures) (λ i. (c.place.ensures i).0) c.in_ok-outline.ensures
-    (memory_scene c.args.p.now t.places c.items-code.result.now c.deref-2.result.now c.stack_of.result c.deref-3.result.now) c.frame_at-base.result (n == t.program.now.job) (ap (λ x. x ∷ []) c.stack_of.ensures)
+    body_below c.args.p.now t c.requires.task n r c.in_ok-outline.outline (pieces_of c.items-pieces.result.now) c.place.result.0 lt
+    (c.index-routines-n.is ∙ ap (λ xs. get_or xs n r) c.items-routines.ensures)
+    (pieces_there t n c.items-code.result.now c.index-code-n.result c.items-pieces.result.now lt c.items-code.ensures c.index-code-n.is
+    c.items-pieces.ensures) (λ i. (c.place.ensures i).0) c.in_ok-outline.ensures
+    (memory_scene c.args.p.now t.places c.items-code.result.now c.deref-2.result.now c.stack_of.result c.deref-3.result.now) c.frame_at-base.result
+    (n == t.program.now.job) (ap (λ x. x ∷ []) c.stack_of.ensures)
 
 pub returns : goal.returns
 returns c =
@@ -64,8 +73,10 @@ returns c =
     let r = c.index-routines-n.result in
     let base_is : c.frame_at-base.result ≡ (face_at faces job).frame = c.frame_at-base.ensures ∙ ap (λ fs. (face_at fs job).frame) c.deref.ensures.value in
     if_more c.fact_of.result
-    (λ fact told. next_told c.args.p.now t faces c.deref-2.result.now c.args.known.now.facts.items c.deref-3.result.now c.items-code.result.now c.stack_of.result n c.place.result.0 r (pieces_of c.items-pieces.result.now) c.in_ok-outline.outline fact
-    n_is (item_there (items_of t.program.now.routines) n r (omega (arith, lt, routines_count c.args.p.now t c.requires.task)) (c.index-routines-n.is ∙ ap (λ xs. get_or xs n r) c.items-routines.ensures))
+    (λ fact told. next_told c.args.p.now t faces c.deref-2.result.now c.args.known.now.facts.items c.deref-3.result.now c.items-code.result.now
+    c.stack_of.result n c.place.result.0 r (pieces_of c.items-pieces.result.now) c.in_ok-outline.outline fact
+    n_is (item_there (items_of t.program.now.routines) n r (omega (arith, lt, routines_count c.args.p.now t c.requires.task))
+    (c.index-routines-n.is ∙ ap (λ xs. get_or xs n r) c.items-routines.ensures))
     c.items-code.ensures c.deref-2.ensures.value c.deref-3.ensures.value (c.stack_of.ensures ∙ (λ i. stack_by t.places (base_is i) (n_is i == job))) (λ i. (c.place.ensures i).0)
     (pieces_there t n c.items-code.result.now c.index-code-n.result c.items-pieces.result.now lt c.items-code.ensures c.index-code-n.is c.items-pieces.ensures) c.in_ok-outline.ensures told)
     c.fact_of.ensures

@@ -44,7 +44,9 @@ apart-loop-n-preserved t c =
     let d = drop_part ps n q (omega (arith, c.loop-n-test.true)) c.index-parts-n-in-loop-n.is in
     record {
       rest =
-          apart_step (scene_in c.args.scene.now) c.loop-n.place c.loop-n.sum c.in_ok-whole.whole c.in_ok-divided.divided c.min.result c.plus-sum.result c.behind-place.result ps n c.index-parts-n.result q
+          apart_step (scene_in c.args.scene.now)
+          c.loop-n.place c.loop-n.sum c.in_ok-whole.whole c.in_ok-divided.divided c.min.result c.plus-sum.result c.behind-place.result ps n
+          c.index-parts-n.result q
           (omega (arith, c.loop-n-test.true)) c.index-parts-n.is c.index-parts-n-in-loop-n.is c.in_ok-whole.ensures c.in_ok-divided.ensures c.min.ensures c.plus-sum.ensures c.behind-place.ensures
           ∙ c.loop-n.invariant.rest;
       small = omega (arith, c.plus-sum.ensures);
@@ -63,30 +65,35 @@ by_choice-returns t c =
     let e = scene_in c.args.scene.now in
     let one = first_place c.args.at (pieces_of c.args.condition.now) in
     let two = second_place c.args.at (pieces_of c.args.condition.now) (parts_of c.args.taken.now) c.args.skips in
-    choice_told e c.args.skips c.in_ok-first.first c.in_ok-second.second (least_in e one (parts_of c.args.taken.now)) (least_in e two (parts_of c.args.other.now)) (own e (pieces_of c.args.condition.now)) c.own.result c.plus.result c.own_choice.result
+    choice_told e c.args.skips c.in_ok-first.first c.in_ok-second.second (least_in e one (parts_of c.args.taken.now))
+    (least_in e two (parts_of c.args.other.now)) (own e (pieces_of c.args.condition.now)) c.own.result c.plus.result c.own_choice.result
     (c.in_ok-first.ensures ∙ ap (λ k. clipped (least_in e k (parts_of c.args.taken.now))) c.first_place.ensures)
     (c.in_ok-second.ensures ∙ ap (λ k. clipped (least_in e k (parts_of c.args.other.now))) c.second_place.ensures) c.plus.ensures c.own.ensures c.own_choice.ensures
 
 pub by_parts-by_choice-requires : goal.by_parts-by_choice-requires
 by_parts-by_choice-requires t c =
-    let is = is_choice c.args.part.now c.in-Choice.code c.in-Choice.names c.in-Choice.condition c.in-Choice.skips c.in-Choice.taken c.in-Choice.other c.items.result.now c.items-in-Choice.result.now c.in-Choice.is c.items.ensures c.items-in-Choice.ensures in
+    let is = is_choice c.args.part.now c.in-Choice.code c.in-Choice.names c.in-Choice.condition c.in-Choice.skips c.in-Choice.taken c.in-Choice.other
+    c.items.result.now c.items-in-Choice.result.now c.in-Choice.is c.items.ensures c.items-in-Choice.ensures in
     let fits = subst (FitsAt c.args.at) is c.requires.fits in
     (omega (arith, c.decreases, ap count is), (c.requires.scene, (fits.0, fits.1.0)))
 
 pub by_parts-by_turns-requires : goal.by_parts-by_turns-requires
 by_parts-by_turns-requires t c =
-    let is = is_turning c.args.part.now c.in-Turning.code c.in-Turning.names c.in-Turning.first c.in-Turning.turns c.in-Turning.head c.in-Turning.before c.in-Turning.body c.in-Turning.behind c.items-in-Turning.result.now c.in-Turning.is c.items-in-Turning.ensures in
+    let is = is_turning c.args.part.now c.in-Turning.code c.in-Turning.names c.in-Turning.first c.in-Turning.turns c.in-Turning.head
+    c.in-Turning.before c.in-Turning.body c.in-Turning.behind c.items-in-Turning.result.now c.in-Turning.is c.items-in-Turning.ensures in
     let fits = subst (FitsAt c.args.at) is c.requires.fits in
     (omega (arith, c.decreases, ap count is), (c.requires.scene, fits.0))
 
 pub by_parts-returns-in-Choice : goal.by_parts-returns-in-Choice
 by_parts-returns-in-Choice t c =
-    let is = is_choice c.args.part.now c.in-Choice.code c.in-Choice.names c.in-Choice.condition c.in-Choice.skips c.in-Choice.taken c.in-Choice.other c.items.result.now c.items-in-Choice.result.now c.in-Choice.is c.items.ensures c.items-in-Choice.ensures in
+    let is = is_choice c.args.part.now c.in-Choice.code c.in-Choice.names c.in-Choice.condition c.in-Choice.skips c.in-Choice.taken c.in-Choice.other
+    c.items.result.now c.items-in-Choice.result.now c.in-Choice.is c.items.ensures c.items-in-Choice.ensures in
     if_more c.by_choice.result (λ n told. told ∙ ap clipped (sym (ap (divided_in (scene_in c.args.scene.now) c.args.at) is))) c.by_choice.ensures
 
 pub by_parts-returns-in-Turning : goal.by_parts-returns-in-Turning
 by_parts-returns-in-Turning t c =
-    let is = is_turning c.args.part.now c.in-Turning.code c.in-Turning.names c.in-Turning.first c.in-Turning.turns c.in-Turning.head c.in-Turning.before c.in-Turning.body c.in-Turning.behind c.items-in-Turning.result.now c.in-Turning.is c.items-in-Turning.ensures in
+    let is = is_turning c.args.part.now c.in-Turning.code c.in-Turning.names c.in-Turning.first c.in-Turning.turns c.in-Turning.head
+    c.in-Turning.before c.in-Turning.body c.in-Turning.behind c.items-in-Turning.result.now c.in-Turning.is c.items-in-Turning.ensures in
     if_more c.by_turns.result (λ n told. told ∙ ap clipped (sym (ap (divided_in (scene_in c.args.scene.now) c.args.at) is))) c.by_turns.ensures
 
 pub by_turns-inner_place-requires : goal.by_turns-inner_place-requires
@@ -100,7 +107,8 @@ by_turns-returns t c =
     let body = parts_of c.args.body.now in
     let start = own e (pieces_of c.args.before.now) in
     let last = own e (pieces_of c.args.behind.now) in
-    turns_told e c.args.turns c.own-top.result c.plus-turn.result (own e (pieces_of c.args.head.now)) (start + least_in e place body + last) (own e (pieces_of c.args.first.now)) c.own-entry.result c.own_turns-all.result c.plus.result
+    turns_told e c.args.turns c.own-top.result c.plus-turn.result (own e (pieces_of c.args.head.now)) (start + least_in e place body + last)
+    (own e (pieces_of c.args.first.now)) c.own-entry.result c.own_turns-all.result c.plus.result
     c.own-top.ensures
     (body_told c.own-start.result c.in_ok-inside.inside c.own-last.result c.plus-most.result c.plus-turn.result start (least_in e place body) last
     c.own-start.ensures (c.in_ok-inside.ensures ∙ ap (λ k. clipped (least_in e k body)) c.inner_place.ensures) c.own-last.ensures c.plus-most.ensures c.plus-turn.ensures)

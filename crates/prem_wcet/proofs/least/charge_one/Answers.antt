@@ -11,4 +11,6 @@ pub returns : goal.returns
 returns c =
     let e = scene_in c.args.scene.now in
     let n = c.args.n in
-    if_more c.charge.result (λ k told. told ∙ ap (λ m. clipped (charge e c.args.at (span_in (parts_of (take m (drop n c.args.parts.now)))))) (let one : n + 1 - n ≡ 1 = omega arith in one)) c.charge.ensures
+    if_more c.charge.result (λ k told. told
+    ∙ ap (λ m. clipped (charge e c.args.at (span_in (parts_of (take m (drop n c.args.parts.now))))))
+    (let one : n + 1 - n ≡ 1 = omega arith in one)) c.charge.ensures

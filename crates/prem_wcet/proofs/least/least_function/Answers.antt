@@ -20,6 +20,7 @@ returns c =
     let e = scene_in c.args.scene.now in
     let o = c.args.outline.now in
     function_sum c.in_ok-whole.whole c.own-entry.result c.own-leaving.result c.plus-around.result c.in_ok-inside.inside c.plus-divided.result c.min.result
-    (charge e c.args.at (function_span_in (pieces_of c.args.code.now) o)) (own e (pieces_of o.entry.now)) (own e (pieces_of o.leaving.now)) (least_in e (c.args.at + size_of (pieces_of o.entry.now)) (parts_of (items_of o.body)))
+    (charge e c.args.at (function_span_in (pieces_of c.args.code.now) o)) (own e (pieces_of o.entry.now)) (own e (pieces_of o.leaving.now))
+    (least_in e (c.args.at + size_of (pieces_of o.entry.now)) (parts_of (items_of o.body)))
     c.in_ok-whole.ensures c.own-entry.ensures c.own-leaving.ensures c.plus-around.ensures
     (c.in_ok-inside.ensures ∙ (λ i. clipped (least_in e (c.behind_code.ensures i) (parts_of (c.items.ensures i))))) c.plus-divided.ensures c.min.ensures

@@ -5,7 +5,9 @@ use Rattle.prem_wcet.proofs.Turns.{plan_stands, plan_opens, opening_there, opens
 use Rattle.prem_wcet.proofs.opens.opens.Goals as goal
 
 pub opening_of-requires-clause-plan : goal.opening_of-requires-clause-plan
-opening_of-requires-clause-plan c = plan_stands c.args.p.now c.args.t.now c.loop-k.k c.items-plans.result.now c.index-plans-k.result c.requires.task c.items-plans.ensures c.loop-k-test.true c.index-plans-k.is
+opening_of-requires-clause-plan c =
+    plan_stands c.args.p.now c.args.t.now c.loop-k.k c.items-plans.result.now c.index-plans-k.result c.requires.task c.items-plans.ensures
+    c.loop-k-test.true c.index-plans-k.is
 
 pub opening_of-requires-clause-stub : goal.opening_of-requires-clause-stub
 opening_of-requires-clause-stub c =
@@ -17,10 +19,14 @@ opening_of-requires-clause-stub c =
     let lent = ap length c.items-plans.ensures in
     let long = stubs_long c.args.p.now t c.requires.task in
     ap pieces_of c.items.ensures
-    ∙ stub_at c.args.p.now t k plan stub c.requires.task (omega (arith, lt, lent)) (c.index-plans-k.is ∙ ap (λ ps. get_or ps k plan) c.items-plans.ensures) (omega (arith, lt, lent, long)) (c.index-stubs-k.is ∙ ap (λ ss. get_or ss k stub) c.items-stubs.ensures)
+    ∙ stub_at c.args.p.now t k plan stub c.requires.task (omega (arith, lt, lent))
+    (c.index-plans-k.is ∙ ap (λ ps. get_or ps k plan) c.items-plans.ensures) (omega (arith, lt, lent, long))
+    (c.index-stubs-k.is ∙ ap (λ ss. get_or ss k stub) c.items-stubs.ensures)
 
 pub opening_of-requires-clause-small : goal.opening_of-requires-clause-small
-opening_of-requires-clause-small c = plan_opens c.args.p.now c.args.t.now c.loop-k.k c.items-plans.result.now c.index-plans-k.result c.requires.small c.items-plans.ensures c.loop-k-test.true c.index-plans-k.is
+opening_of-requires-clause-small c =
+    plan_opens c.args.p.now c.args.t.now c.loop-k.k c.items-plans.result.now c.index-plans-k.result c.requires.small c.items-plans.ensures
+    c.loop-k-test.true c.index-plans-k.is
 
 pub loop-k-preserved : goal.loop-k-preserved
 loop-k-preserved c =

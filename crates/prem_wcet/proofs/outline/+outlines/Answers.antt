@@ -11,7 +11,9 @@ put_step-returns-in-Block t c =
 pub put_steps-loop-step-preserved : goal.put_steps-loop-step-preserved
 put_steps-loop-step-preserved t c =
     cut_put c.args.target c.args.steps.now c.loop-step.step-index c.step-item.result (pieces_of c.loop-step.rest.now) (pieces_of c.behind_step-rest.result.now) (parts_of (items_of c.loop-step.parts))
-    (parts_of (items_of c.put_step.new.parts)) (joined (parts_of (items_of c.args.parts.now)) (cut_list c.args.target c.args.steps.now (pieces_of c.args.code.now))) c.loop-step-test.true c.step-item.is
+    (parts_of (items_of c.put_step.new.parts))
+    (joined (parts_of (items_of c.args.parts.now)) (cut_list c.args.target c.args.steps.now (pieces_of c.args.code.now)))
+    c.loop-step-test.true c.step-item.is
     c.in_ok-put_step.ensures c.behind_step-rest.ensures c.loop-step.invariant
 
 pub put_steps-returns : goal.put_steps-returns

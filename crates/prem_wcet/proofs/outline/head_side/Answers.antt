@@ -5,4 +5,6 @@ use Rattle.prem_wcet.specs.Sliced.{head_in}
 use Rattle.prem_wcet.proofs.outline.head_side.Goals as goal
 
 pub returns-in-Repeat : goal.returns-in-Repeat
-returns-in-Repeat c = sym (ap head_in (is_repeat c.args.piece.now c.in-Repeat.turns c.in-Repeat.head c.in-Repeat.test c.in-Repeat.body c.items.result.now (items_of c.in-Repeat.body) c.in-Repeat.is c.items.ensures refl))
+returns-in-Repeat c = sym (ap head_in
+    (is_repeat c.args.piece.now c.in-Repeat.turns c.in-Repeat.head c.in-Repeat.test c.in-Repeat.body c.items.result.now (items_of c.in-Repeat.body)
+    c.in-Repeat.is c.items.ensures refl))

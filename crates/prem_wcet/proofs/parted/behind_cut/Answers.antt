@@ -13,7 +13,8 @@ returns c =
     let e = scene_in c.args.scene.now in
     let p = part_of c.args.part.now in
     let from = landing_place c.args.at p in
-    behind_told (passage_in e from (landing_edge p) (parts_of c.args.front.now) (edge_of c.args.edge.now)) c.in_ok-most.most (count_in c.quiet-next.result) (count_in c.then_count-tail.result) (count_in c.args.cut) (count_in c.args.rest)
+    behind_told (passage_in e from (landing_edge p) (parts_of c.args.front.now) (edge_of c.args.edge.now)) c.in_ok-most.most
+    (count_in c.quiet-next.result) (count_in c.then_count-tail.result) (count_in c.args.cut) (count_in c.args.rest)
     (count_in c.then_count.result)
     (c.in_ok-most.ensures ∙ (λ i. clipped (passage_in e (c.landing_place-from.ensures i) (c.landing-first.ensures i) (parts_of c.args.front.now) (edge_of c.args.edge.now))))
     c.quiet-next.ensures c.then_count-tail.ensures c.then_count.ensures

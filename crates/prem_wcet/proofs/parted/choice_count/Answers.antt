@@ -12,5 +12,6 @@ returns c =
     let j = own_jump (scene_in c.args.scene.now) in
     let is = c.own_jump-jump.ensures.jump in
     choice_told j c.args.skips c.times-over.result (count_in c.args.taken) (count_in c.args.other) (count_in c.quiet-back.result) (count_in c.quiet-skip.result) (count_in c.then_count-first.result)
-    (count_in c.then_count-second.result) (count_in c.either_count-sides.result) (count_in c.quiet-back.result) (count_in c.then_count.result) (c.times-over.ensures ∙ ap (λ k. clipped (c.args.skips * k)) is) c.quiet-skip.ensures
+    (count_in c.then_count-second.result) (count_in c.either_count-sides.result) (count_in c.quiet-back.result) (count_in c.then_count.result)
+    (c.times-over.ensures ∙ ap (λ k. clipped (c.args.skips * k)) is) c.quiet-skip.ensures
     c.then_count-first.ensures (c.quiet-back.ensures ∙ ap quiet is) c.then_count-second.ensures c.either_count-sides.ensures (c.quiet-back.ensures ∙ ap quiet is) c.then_count.ensures

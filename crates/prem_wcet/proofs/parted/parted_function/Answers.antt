@@ -24,5 +24,6 @@ returns c =
     let o = c.args.outline.now in
     if_more c.parted.result
     (λ n told. subst (AreAlike (count_in n))
-    (λ i. parted_in e c.args.at (record { pieces = pieces_of o.entry.now; globals = c.items.ensures i; below = [] }) (record { pieces = pieces_of o.leaving.now; globals = c.items-2.ensures i; below = [] }) (parts_of (c.items-3.ensures i))) told)
+    (λ i. parted_in e c.args.at (record { pieces = pieces_of o.entry.now; globals = c.items.ensures i; below = [] })
+    (record { pieces = pieces_of o.leaving.now; globals = c.items-2.ensures i; below = [] }) (parts_of (c.items-3.ensures i))) told)
     c.parted.ensures

@@ -25,5 +25,6 @@ returns c =
     let l = edge_of c.args.last.now in
     let o = parts_of c.args.parts.now in
     passage_sum c.in_ok-whole.whole c.own-first.result c.in_ok-statements.statements c.own-behind.result c.plus.result c.plus-divided.result c.min.result (whole_in e c.args.at b o l) (own e b.pieces)
-    (least_in e (c.args.at + size_of b.pieces) o) (own e l.pieces) c.in_ok-whole.ensures c.own-first.ensures (c.in_ok-statements.ensures ∙ ap (λ n. clipped (least_in e (c.args.at + n) o)) c.size.ensures) c.own-behind.ensures
+    (least_in e (c.args.at + size_of b.pieces) o) (own e l.pieces) c.in_ok-whole.ensures c.own-first.ensures
+    (c.in_ok-statements.ensures ∙ ap (λ n. clipped (least_in e (c.args.at + n) o)) c.size.ensures) c.own-behind.ensures
     c.plus.ensures c.plus-divided.ensures c.min.ensures

@@ -20,7 +20,8 @@ pub overflow_add-end : goal.overflow_add-end
 overflow_add-end c = let d = between_size (edge_of c.args.before.now) (edge_of c.args.last.now) (parts_of c.args.parts.now) in omega (arith, c.requires.place, d, c.size-first.ensures)
 
 pub overflow_add-end-2 : goal.overflow_add-end-2
-overflow_add-end-2 c = let d = between_size (edge_of c.args.before.now) (edge_of c.args.last.now) (parts_of c.args.parts.now) in omega (arith, c.requires.place, d, c.size-first.ensures, c.parts_size-inner.ensures)
+overflow_add-end-2 c = let d = between_size (edge_of c.args.before.now) (edge_of c.args.last.now) (parts_of c.args.parts.now) in
+    omega (arith, c.requires.place, d, c.size-first.ensures, c.parts_size-inner.ensures)
 
 pub size-requires : goal.size-requires
 size-requires c = let d = between_size (edge_of c.args.before.now) (edge_of c.args.last.now) (parts_of c.args.parts.now) in omega (arith, c.requires.place, d)
@@ -29,7 +30,8 @@ pub overflow_cast-end : goal.overflow_cast-end
 overflow_cast-end c = let d = between_size (edge_of c.args.before.now) (edge_of c.args.last.now) (parts_of c.args.parts.now) in omega (arith, c.requires.place, d, c.size.ensures)
 
 pub overflow_add-end-3 : goal.overflow_add-end-3
-overflow_add-end-3 c = let d = between_size (edge_of c.args.before.now) (edge_of c.args.last.now) (parts_of c.args.parts.now) in omega (arith, c.requires.place, d, c.size-first.ensures, c.parts_size-inner.ensures, c.size.ensures)
+overflow_add-end-3 c = let d = between_size (edge_of c.args.before.now) (edge_of c.args.last.now) (parts_of c.args.parts.now) in
+    omega (arith, c.requires.place, d, c.size-first.ensures, c.parts_size-inner.ensures, c.size.ensures)
 
 pub returns : goal.returns
 returns c =

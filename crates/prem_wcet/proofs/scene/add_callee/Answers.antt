@@ -12,14 +12,17 @@ returns-in_ok-add_ranges-in-Some-clause-code c =
     on_always c.add_ranges-in-Some.result
     (c.in_ok-add_ranges-in-Some.ensures
     ∙ ap (with_ranges c.args.ranges.now.code.items)
-    (c.deref.ensures.value ∙ fact_there (λ (x : Fact). x.code) (λ (x : FactTree). x.code.items) (λ x ps. refl) c.args.scene.now.facts.now c.args.scene.now.code.now c.args.f c.in-Some.fact.now c.requires.known l.3.0 l.1))
+    (c.deref.ensures.value ∙ fact_there (λ (x : Fact). x.code) (λ (x : FactTree). x.code.items) (λ x ps. refl)
+    c.args.scene.now.facts.now c.args.scene.now.code.now c.args.f c.in-Some.fact.now c.requires.known l.3.0 l.1))
 
 pub returns-in_ok-add_ranges-in-Some-clause-touched : goal.returns-in_ok-add_ranges-in-Some-clause-touched
 returns-in_ok-add_ranges-in-Some-clause-touched c =
     let l = c.in-Some.ensures.lookup in
     on_more c.add_ranges-in-Some.result
     (λ e. e ∙ ap (with_ranges c.args.ranges.now.touched.items)
-    (c.deref-in-Some.ensures.value ∙ fact_there (λ (x : Fact). x.touched) (λ (x : FactTree). x.touched.items) (λ x ps. refl) c.args.scene.now.facts.now c.args.scene.now.code.now c.args.f c.in-Some.fact.now c.requires.known l.3.0 l.1))
+    (c.deref-in-Some.ensures.value
+    ∙ fact_there (λ (x : Fact). x.touched) (λ (x : FactTree). x.touched.items) (λ x ps. refl)
+    c.args.scene.now.facts.now c.args.scene.now.code.now c.args.f c.in-Some.fact.now c.requires.known l.3.0 l.1))
     c.add_ranges-in-Some.ensures
 
 pub returns-in-None-clause-code : goal.returns-in-None-clause-code

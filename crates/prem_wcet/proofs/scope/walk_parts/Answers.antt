@@ -19,7 +19,8 @@ pub loop-part-init : goal.loop-part-init
 loop-part-init c =
     let qs = followed (code_of (parts_of c.args.parts.now)) (pieces_of c.args.last.now) in
     record {
-      rest = begun (weight_by c.args.scale.now) (calls_by c.args.scale.now) c.args.at c.walk-all.result.sum c.walk-all.result.end (pieces_of c.args.before.now) qs c.walk-all.ensures.sum c.walk-all.ensures.end;
+      rest = begun (weight_by c.args.scale.now) (calls_by c.args.scale.now) c.args.at c.walk-all.result.sum c.walk-all.result.end
+          (pieces_of c.args.before.now) qs c.walk-all.ensures.sum c.walk-all.ensures.end;
       place = omega (arith, c.walk-all.ensures.end, size_followed (pieces_of c.args.before.now) qs);
     }
 
@@ -47,7 +48,8 @@ loop-part-preserved c =
     let k = calls_by c.args.scale.now in
     record {
       rest =
-          gone w k c.loop-part.all.sum c.loop-part.all.end c.walk_on-all.result.sum c.walk_on-all.result.end (pieces_of c.code.result.now) (followed rest last) c.walk_on-all.ensures.sum c.walk_on-all.ensures.end
+          gone w k c.loop-part.all.sum c.loop-part.all.end c.walk_on-all.result.sum c.walk_on-all.result.end (pieces_of c.code.result.now)
+          (followed rest last) c.walk_on-all.ensures.sum c.walk_on-all.ensures.end
           ∙ ap (λ ps. clipped (c.loop-part.all.sum + weighted_from w k c.loop-part.all.end ps)) (ap (λ q. followed q (followed rest last)) c.code.ensures ∙ sym whole) ∙ c.loop-part.invariant.rest;
       place = omega (arith, c.loop-part.invariant.place, c.walk_on-all.ensures.end, long, e);
     }

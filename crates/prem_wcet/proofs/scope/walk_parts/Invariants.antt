@@ -14,5 +14,6 @@ invariant-loop-part l =
     record {
       rest : clipped (l.all.sum + weighted_from (weight_by l.scale) (calls_by l.scale) l.all.end (followed (code_of (parts_of (drop l.part-index l.parts))) (pieces_of l.last))) ≡
           clipped (weighted_from (weight_by l.scale) (calls_by l.scale) l.at (followed (pieces_of l.before) (followed (code_of (parts_of l.parts)) (pieces_of l.last))));
-      place : l.all.end + size_of (followed (code_of (parts_of (drop l.part-index l.parts))) (pieces_of l.last)) ≡ l.at + size_of (followed (pieces_of l.before) (followed (code_of (parts_of l.parts)) (pieces_of l.last)));
+      place : l.all.end + size_of (followed (code_of (parts_of (drop l.part-index l.parts))) (pieces_of l.last))
+          ≡ l.at + size_of (followed (pieces_of l.before) (followed (code_of (parts_of l.parts)) (pieces_of l.last)));
     }

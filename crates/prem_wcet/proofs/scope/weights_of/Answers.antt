@@ -20,7 +20,8 @@ loop-n-preserved c =
     let n = c.loop-n.n in
     let long : length (listed code) ≡ length code = listed_long code in
     let item = listed_item code n c.index-code-n.result (omega (arith, c.loop-n-test.true, c.requires.known)) c.index-code-n.is ∙ ap pieces_of (sym c.items.ensures) in
-    function_more (place_weight c.args.crowd.now) (length (listed code)) (λ part. (place_at c.args.places.now part).0) (listed code) (pieces_of c.items.result.now) n c.walk.result.sum c.loop-n.functions
+    function_more (place_weight c.args.crowd.now) (length (listed code)) (λ part. (place_at c.args.places.now part).0) (listed code)
+    (pieces_of c.items.result.now) n c.walk.result.sum c.loop-n.functions
     (omega (arith, c.loop-n-test.true, c.requires.known, long)) (omega (arith, c.loop-n-test.true, c.requires.known, c.requires.few)) item c.loop-n.invariant
     (c.walk.ensures.sum
     ∙ (λ i. clipped (weighted_from (place_weight c.args.crowd.now) (part_weight (sym long i) (weight_at c.loop-n.functions) (λ k. 0)) ((c.place.ensures i).0) (pieces_of c.items.result.now))))

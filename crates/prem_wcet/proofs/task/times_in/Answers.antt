@@ -4,12 +4,14 @@ use Rattle.prem_wcet.proofs.task.times_in.Goals as goal
 
 pub returns-clause-wcet : goal.returns-clause-wcet
 returns-clause-wcet c =
-    wcet_is c.args.p.now c.args.t.now c.args.lengths.now c.requires.whole c.requires.plant c.requires.count c.requires.bound c.in_ok-times.ensures.short c.items.result.now c.deref.result.now c.deref-2.result.now c.in_ok-known.known.facts.items
+    wcet_is c.args.p.now c.args.t.now c.args.lengths.now c.requires.whole c.requires.plant c.requires.count c.requires.bound
+    c.in_ok-times.ensures.short c.items.result.now c.deref.result.now c.deref-2.result.now c.in_ok-known.known.facts.items
     c.in_ok-known.known.costs c.items.ensures c.deref-2.ensures.value c.in_ok-known.ensures.known c.in_ok-times.times.wcet c.in_ok-times.ensures.wcet
 
 pub returns-clause-longest : goal.returns-clause-longest
 returns-clause-longest c =
-    longest_is c.args.p.now c.args.t.now c.args.lengths.now c.requires.whole c.requires.plant c.requires.count c.requires.bound c.in_ok-times.ensures.short c.items.result.now c.deref.result.now c.deref-2.result.now c.in_ok-known.known.facts.items
+    longest_is c.args.p.now c.args.t.now c.args.lengths.now c.requires.whole c.requires.plant c.requires.count c.requires.bound
+    c.in_ok-times.ensures.short c.items.result.now c.deref.result.now c.deref-2.result.now c.in_ok-known.known.facts.items
     c.in_ok-known.known.costs c.items.ensures c.deref-2.ensures.value c.in_ok-known.ensures.known c.in_ok-times.times.longest c.in_ok-times.ensures.longest
 
 pub returns-clause-small : goal.returns-clause-small

@@ -22,4 +22,5 @@ returns c =
     let none : refused_by None (memory_rules set.plant (default_places c.in_ok-parts.parts.items)) ≡ None =
     ap (λ (ps : List PartSize). refused_by None (memory_rules set.plant (default_places ps))) (sym lent)
     ∙ ap (λ (q : Plant). refused_by None (memory_rules q (default_places c.deref-2.result.now))) (sym c.plant-plant.ensures.plant) ∙ c.in_ok-layout.ensures.ends in
-    timed_default set c.args.tops.now c.args.tasks.items c.in_ok-parts.parts.items c.in_ok-layout.layout c.behind_layout.result c.requires c.in_ok-parts.ensures.parts (c.in_ok-layout.ensures.places ∙ ap default_places lent) none c.behind_layout.ensures
+    timed_default set c.args.tops.now c.args.tasks.items c.in_ok-parts.parts.items c.in_ok-layout.layout c.behind_layout.result c.requires
+    c.in_ok-parts.ensures.parts (c.in_ok-layout.ensures.places ∙ ap default_places lent) none c.behind_layout.ensures

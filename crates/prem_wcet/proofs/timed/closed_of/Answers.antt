@@ -17,5 +17,6 @@ loop-top-preserved c =
       closed =
           put_behind old (items_of c.push.new.self) (map f (drop (k + 1) tops)) (map f tops) (f (get_or tops k 0)) pushed
           (ap (λ xs. old ++ map f xs) (sym (drop_next 0 tops k c.loop-top-test.true)) ∙ c.loop-top.invariant.closed);
-      small = subst (λ (xs : List ℕ). AllByRecursion (λ n. n ≤ 2 ^ 40) xs) (sym c.in_ok-push.ensures.ok) (all_end (λ n. n ≤ 2 ^ 40) old c.in_ok-closed.closed c.loop-top.invariant.small c.in_ok-closed.ensures.small);
+      small = subst (λ (xs : List ℕ). AllByRecursion (λ n. n ≤ 2 ^ 40) xs) (sym c.in_ok-push.ensures.ok)
+          (all_end (λ n. n ≤ 2 ^ 40) old c.in_ok-closed.closed c.loop-top.invariant.small c.in_ok-closed.ensures.small);
     }

@@ -21,6 +21,7 @@ returns c =
     let there = c.requires.there in
     let lent = ap length c.items-plans.ensures in
     interval_there c.args.p.now c.args.t.now c.args.k c.from-f.result c.args.opens.now c.items-plans.result.now c.index-plans-k.result c.items-routines.result.now c.index-routines-f.result
-    (record { name = c.in_ok-name.name; stated = c.index-plans-k.result.stated; opens = get_or c.args.opens.now c.args.k 0 }) c.requires.task c.items-plans.ensures c.items-routines.ensures c.requires.opens
+    (record { name = c.in_ok-name.name; stated = c.index-plans-k.result.stated; opens = get_or c.args.opens.now c.args.k 0 })
+    c.requires.task c.items-plans.ensures c.items-routines.ensures c.requires.opens
     (omega (arith, there, lent)) c.index-plans-k.is c.from-f.ensures c.index-routines-f.is
     (c.in_ok-name.ensures ∙ ap (λ (r : Routine). name_bytes r.text.now.name) (sym c.index-routines-f.is)) refl refl

@@ -22,5 +22,6 @@ loop-task-preserved c =
           (pushed ∙ ap (λ y. map times_in old ++ y ∷ []) c.in_ok-times.ensures.times)
           (ap (λ (x : PlacedTask). map times_in old ++ (f (placed_of x) ∷ map f (map placed_of (drop (k + 1) tasks)))) c.task-item.is
           ∙ ap (λ (xs : List PlacedTask). map times_in old ++ map f (map placed_of xs)) (sym (drop_next t tasks k c.loop-task-test.true)) ∙ c.loop-task.invariant.times);
-      small = subst (λ (xs : List TimesText). AllByRecursion AreSmall xs) (sym pushed) (all_end AreSmall (map times_in old) (times_in c.in_ok-times.times) c.loop-task.invariant.small c.in_ok-times.ensures.small);
+      small = subst (λ (xs : List TimesText). AllByRecursion AreSmall xs) (sym pushed)
+          (all_end AreSmall (map times_in old) (times_in c.in_ok-times.times) c.loop-task.invariant.small c.in_ok-times.ensures.small);
     }

@@ -11,32 +11,38 @@ use Rattle.prem_wcet.proofs.walk.+walks.Goals as goal
 
 pub walk_piece-walk_either-requires : goal.walk_piece-walk_either-requires
 walk_piece-walk_either-requires t c =
-    let is = is_either c.args.piece.now c.in-Either.test c.in-Either.taken c.in-Either.other c.items-in-Either.result.now c.items-in-Either-2.result.now c.in-Either.is c.items-in-Either.ensures c.items-in-Either-2.ensures in
+    let is = is_either c.args.piece.now c.in-Either.test c.in-Either.taken c.in-Either.other c.items-in-Either.result.now
+    c.items-in-Either-2.result.now c.in-Either.is c.items-in-Either.ensures c.items-in-Either-2.ensures in
     (omega (arith, c.decreases, ap count is), (c.requires.cache, omega (arith, c.requires.place, ap size_of is)))
 
 pub walk_piece-walk_repeat-requires : goal.walk_piece-walk_repeat-requires
 walk_piece-walk_repeat-requires t c =
-    let is = is_repeat c.args.piece.now c.in-Repeat.turns c.in-Repeat.head c.in-Repeat.test c.in-Repeat.body c.items-in-Repeat.result.now c.items-in-Repeat-2.result.now c.in-Repeat.is c.items-in-Repeat.ensures c.items-in-Repeat-2.ensures in
+    let is = is_repeat c.args.piece.now c.in-Repeat.turns c.in-Repeat.head c.in-Repeat.test c.in-Repeat.body c.items-in-Repeat.result.now
+    c.items-in-Repeat-2.result.now c.in-Repeat.is c.items-in-Repeat.ensures c.items-in-Repeat-2.ensures in
     (omega (arith, c.decreases, ap count is), (c.requires.cache, omega (arith, c.requires.place, ap size_of is)))
 
 pub walk_piece-returns-in-Either-clause-sum : goal.walk_piece-returns-in-Either-clause-sum
 walk_piece-returns-in-Either-clause-sum t c =
-    let is = is_either c.args.piece.now c.in-Either.test c.in-Either.taken c.in-Either.other c.items-in-Either.result.now c.items-in-Either-2.result.now c.in-Either.is c.items-in-Either.ensures c.items-in-Either-2.ensures in
+    let is = is_either c.args.piece.now c.in-Either.test c.in-Either.taken c.in-Either.other c.items-in-Either.result.now
+    c.items-in-Either-2.result.now c.in-Either.is c.items-in-Either.ensures c.items-in-Either-2.ensures in
     c.walk_either.ensures.sum ∙ ap (λ ps. clipped (weighted_from (weight_by c.args.scale.now) (calls_by c.args.scale.now) c.args.at ps)) (sym is)
 
 pub walk_piece-returns-in-Either-clause-end : goal.walk_piece-returns-in-Either-clause-end
 walk_piece-returns-in-Either-clause-end t c =
-    let is = is_either c.args.piece.now c.in-Either.test c.in-Either.taken c.in-Either.other c.items-in-Either.result.now c.items-in-Either-2.result.now c.in-Either.is c.items-in-Either.ensures c.items-in-Either-2.ensures in
+    let is = is_either c.args.piece.now c.in-Either.test c.in-Either.taken c.in-Either.other c.items-in-Either.result.now
+    c.items-in-Either-2.result.now c.in-Either.is c.items-in-Either.ensures c.items-in-Either-2.ensures in
     omega (arith, c.walk_either.ensures.end, ap size_of is)
 
 pub walk_piece-returns-in-Repeat-clause-sum : goal.walk_piece-returns-in-Repeat-clause-sum
 walk_piece-returns-in-Repeat-clause-sum t c =
-    let is = is_repeat c.args.piece.now c.in-Repeat.turns c.in-Repeat.head c.in-Repeat.test c.in-Repeat.body c.items-in-Repeat.result.now c.items-in-Repeat-2.result.now c.in-Repeat.is c.items-in-Repeat.ensures c.items-in-Repeat-2.ensures in
+    let is = is_repeat c.args.piece.now c.in-Repeat.turns c.in-Repeat.head c.in-Repeat.test c.in-Repeat.body c.items-in-Repeat.result.now
+    c.items-in-Repeat-2.result.now c.in-Repeat.is c.items-in-Repeat.ensures c.items-in-Repeat-2.ensures in
     c.walk_repeat.ensures.sum ∙ ap (λ ps. clipped (weighted_from (weight_by c.args.scale.now) (calls_by c.args.scale.now) c.args.at ps)) (sym is)
 
 pub walk_piece-returns-in-Repeat-clause-end : goal.walk_piece-returns-in-Repeat-clause-end
 walk_piece-returns-in-Repeat-clause-end t c =
-    let is = is_repeat c.args.piece.now c.in-Repeat.turns c.in-Repeat.head c.in-Repeat.test c.in-Repeat.body c.items-in-Repeat.result.now c.items-in-Repeat-2.result.now c.in-Repeat.is c.items-in-Repeat.ensures c.items-in-Repeat-2.ensures in
+    let is = is_repeat c.args.piece.now c.in-Repeat.turns c.in-Repeat.head c.in-Repeat.test c.in-Repeat.body c.items-in-Repeat.result.now
+    c.items-in-Repeat-2.result.now c.in-Repeat.is c.items-in-Repeat.ensures c.items-in-Repeat-2.ensures in
     omega (arith, c.walk_repeat.ensures.end, ap size_of is)
 
 pub walk-walk_piece-next-requires : goal.walk-walk_piece-next-requires
@@ -70,4 +76,5 @@ walk_repeat-returns-clause-sum t c =
     (c.walk-inside.ensures.sum ∙ ap (λ k. clipped (weighted_from (weight_by s) (calls_by s) (k + 8) (pieces_of c.args.body.now))) there)
     (c.jump_at-branch.ensures.weight ∙ ap (λ k. 2 + fetch_by s.crowd.now k) there)
     (c.jump_at-back.ensures.weight ∙ ap (λ k. 2 + fetch_by s.crowd.now k) (c.walk-inside.ensures.end ∙ ap (λ k. k + 8 + size_of (pieces_of c.args.body.now)) there))
-    (c.jump_at-leave.ensures.weight ∙ ap (λ k. 2 + fetch_by s.crowd.now (k + 4)) there) c.plus-start.ensures c.plus-through.ensures c.plus-turn.ensures c.plus-out.ensures c.times-all.ensures c.plus.ensures
+    (c.jump_at-leave.ensures.weight ∙ ap (λ k. 2 + fetch_by s.crowd.now (k + 4)) there)
+    c.plus-start.ensures c.plus-through.ensures c.plus-turn.ensures c.plus-out.ensures c.times-all.ensures c.plus.ensures

@@ -23,7 +23,8 @@ decreases-walk l = 3 * count (pieces_of l.pieces.now) + 1
 abbrev pub invariant-walk-loop-piece : goal.invariant-walk-loop-piece
 invariant-walk-loop-piece l =
     record {
-      rest : clipped (l.sum + weighted_from (weight_by l.scale) (calls_by l.scale) l.end (pieces_of (drop l.piece-index l.pieces))) ≡ clipped (weighted_from (weight_by l.scale) (calls_by l.scale) l.at (pieces_of l.pieces));
+      rest : clipped (l.sum + weighted_from (weight_by l.scale) (calls_by l.scale) l.end (pieces_of (drop l.piece-index l.pieces)))
+          ≡ clipped (weighted_from (weight_by l.scale) (calls_by l.scale) l.at (pieces_of l.pieces));
       small : l.sum ≤ 2 ^ 41;
       place : l.end + size_of (pieces_of (drop l.piece-index l.pieces)) ≡ l.at + size_of (pieces_of l.pieces);
     }

@@ -12,7 +12,8 @@ pub loop-n-preserved : goal.loop-n-preserved
 loop-n-preserved c =
     let gs = map (λ g. global_of g.now) c.args.globals.now in
     let table = map (λ cs. cs.items) c.args.table.now in
-    one_more gs table unlimited.turns 0 c.args.routines.now c.loop-n.n c.index-routines-n.result (map entry_of c.loop-n.all.items) (map entry_of c.add_marked.new.all.items) (omega arith) c.index-routines-n.is
+    one_more gs table unlimited.turns 0 c.args.routines.now c.loop-n.n c.index-routines-n.result (map entry_of c.loop-n.all.items)
+    (map entry_of c.add_marked.new.all.items) (omega arith) c.index-routines-n.is
     (c.in_ok-add_marked.ensures ∙ ap (λ (f : Routine). map entry_of c.loop-n.all.items ++ entry_if gs table c.loop-n.n (option_map mark_of f.text.now.mark)) (sym c.index-routines-n.is))
     ∙ c.loop-n.invariant
 

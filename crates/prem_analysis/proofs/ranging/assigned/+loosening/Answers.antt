@@ -37,7 +37,8 @@ loosen_assigned-returns-in-If t c =
     let taken = c.in-If.taken.value in
     let other = c.in-If.other.value in
     c.loosen_assigned-in-If.ensures
-    ∙ moved c.deref-in-If.result.now other (env_of c.loosen_assigned.new.env) (loosened (λ j. assigns j (plain taken)) env) c.deref-in-If.ensures (c.loosen_assigned.ensures ∙ moved c.deref.result.now taken env env c.deref.ensures refl)
+    ∙ moved c.deref-in-If.result.now other (env_of c.loosen_assigned.new.env) (loosened (λ j. assigns j (plain taken)) env) c.deref-in-If.ensures
+    (c.loosen_assigned.ensures ∙ moved c.deref.result.now taken env env c.deref.ensures refl)
     ∙ both_arm c.args.step.now (λ j. assigns j (plain taken)) (λ j. assigns j (plain other)) env c.in-If.is (λ j. refl)
 
 pub loosen_assigned-returns-in-For : goal.loosen_assigned-returns-in-For

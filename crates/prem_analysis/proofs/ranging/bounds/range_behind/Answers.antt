@@ -17,11 +17,15 @@ pub returns-then-is_within_int : goal.returns-then-is_within_int
 returns-then-is_within_int c =
     let value = c.max-hi.ensures.value in let e = c.from.ensures in
     let least = c.requires.least in let greatest = c.requires.greatest in
-    within_yes (from_to (to_z w64 (of_z w64 c.args.low.lo)) (to_z w64 (of_z w64 c.max-hi.result))) (from_to c.args.low.lo (int_max c.args.low.hi (c.args.end -ℤ pos 1 +ℤ pos c.args.step))) (ends _ _ _ _ (omega (arith, ints)) (omega (arith, ints, clamps, value, e))) (sym c.is_within_int.ensures ∙ c.if-is_within_int.true)
+    within_yes (from_to (to_z w64 (of_z w64 c.args.low.lo)) (to_z w64 (of_z w64 c.max-hi.result)))
+    (from_to c.args.low.lo (int_max c.args.low.hi (c.args.end -ℤ pos 1 +ℤ pos c.args.step)))
+    (ends _ _ _ _ (omega (arith, ints)) (omega (arith, ints, clamps, value, e))) (sym c.is_within_int.ensures ∙ c.if-is_within_int.true)
 
 pub returns : goal.returns
 returns c =
     let value = c.max-hi.ensures.value in let e = c.from.ensures in
     let least = c.requires.least in let greatest = c.requires.greatest in
     c.whole_range.ensures
-    ∙ within_no (from_to (to_z w64 (of_z w64 c.args.low.lo)) (to_z w64 (of_z w64 c.max-hi.result))) (from_to c.args.low.lo (int_max c.args.low.hi (c.args.end -ℤ pos 1 +ℤ pos c.args.step))) (ends _ _ _ _ (omega (arith, ints)) (omega (arith, ints, clamps, value, e))) (sym c.is_within_int.ensures ∙ c.if-is_within_int.false)
+    ∙ within_no (from_to (to_z w64 (of_z w64 c.args.low.lo)) (to_z w64 (of_z w64 c.max-hi.result)))
+    (from_to c.args.low.lo (int_max c.args.low.hi (c.args.end -ℤ pos 1 +ℤ pos c.args.step)))
+    (ends _ _ _ _ (omega (arith, ints)) (omega (arith, ints, clamps, value, e))) (sym c.is_within_int.ensures ∙ c.if-is_within_int.false)

@@ -5,4 +5,5 @@ use Rattle.prem_annotate.specs.Ranges.Slots.{slot_of, with_slots}
 use Rattle.prem_annotate.proofs.ranges.outlook.ranges.Given as goal
 
 abbrev pub invariant-loop-i : goal.invariant-loop-i
-invariant-loop-i l = l.all.items ++ map (λ (p : Parameter). p.range) (with_slots (map slot_of (drop l.i l.row)) (map parameter_of (drop l.i l.ps))) ≡ map (λ (p : Parameter). p.range) (with_slots (map slot_of l.row) (map parameter_of l.ps))
+invariant-loop-i l = l.all.items ++ map (λ (p : Parameter). p.range) (with_slots (map slot_of (drop l.i l.row)) (map parameter_of (drop l.i l.ps)))
+    ≡ map (λ (p : Parameter). p.range) (with_slots (map slot_of l.row) (map parameter_of l.ps))

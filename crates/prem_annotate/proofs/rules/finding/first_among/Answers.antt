@@ -20,7 +20,12 @@ use Rattle.prem_annotate.proofs.RulesLemmas.Found.{none_found, found_next, same_
 use Rattle.prem_annotate.proofs.rules.finding.first_among.Goals as goal
 
 pub loop-n-init : goal.loop-n-init
-loop-n-init c = record { found = none_found (map (λ g. global_of g.now) c.args.globals.now) (routines_of unlimited.turns 0 c.args.routines.now) c.args.routines.now c.in_ok-rows.rows.items c.in_ok-rows.ensures; within = omega arith }
+loop-n-init c = record {
+  found =
+      none_found (map (λ g. global_of g.now) c.args.globals.now) (routines_of unlimited.turns 0 c.args.routines.now)
+      c.args.routines.now c.in_ok-rows.rows.items c.in_ok-rows.ensures;
+  within = omega arith;
+}
 
 pub index-requires : goal.index-requires
 index-requires c =

@@ -28,8 +28,10 @@ returns c =
     (c.range_of-first.ensures ∙ ap (λ (ls : List Known). range_of (env_of ls) low) c.deref.ensures.value) c.in_ok-look.ensures.env c.at_counting.ensures
     (c.range_of.ensures ∙ ap (λ (ls : List Known). range_of (env_of ls) high) c.deref-2.ensures.value) c.end_of-end.ensures.end refl refl c.in_ok-look-2.ensures.env in
     record {
-      behind = behind_saved ks (saves_of c.in_ok-behind.behind.items) h (c.in_ok-behind.ensures.behind ∙ ap (λ z. saved_few (at_local l.number (with_range (range_behind first z l.step)) known) ks) end);
+      behind = behind_saved ks (saves_of c.in_ok-behind.behind.items) h
+          (c.in_ok-behind.ensures.behind ∙ ap (λ z. saved_few (at_local l.number (with_range (range_behind first z l.step)) known) ks) end);
       env = body_known (env_of c.enter_body.new.env.items) h (c.in_ok-behind.ensures.env ∙ ap (λ z. at_local l.number (with_range (body_range first z)) known) end);
-      sight = head_sight (env_of c.args.env.now.items) (env_of c.look.new.env.items) (env_of c.at_counting.new.env.items) l.number low high (plain l.body.now) (sight_of c.args.sight.now) (sight_of c.look.new.sight) (sight_of c.look-2.new.sight)
+      sight = head_sight (env_of c.args.env.now.items) (env_of c.look.new.env.items) (env_of c.at_counting.new.env.items) l.number low high
+          (plain l.body.now) (sight_of c.args.sight.now) (sight_of c.look.new.sight) (sight_of c.look-2.new.sight)
           c.in_ok-look.ensures.env c.at_counting.ensures c.in_ok-look.ensures.sight c.in_ok-look-2.ensures.sight;
     }

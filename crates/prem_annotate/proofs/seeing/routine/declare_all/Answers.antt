@@ -10,15 +10,20 @@ use Rattle.prem_annotate.proofs.seeing.routine.declare_all.Goals as goal
 
 pub loop-i-preserved : goal.loop-i-preserved
 loop-i-preserved c =
-    declared_next c.args.ls.now c.args.es.now c.loop-i.i c.index-ls-i.result c.index-es-i.result (env_of c.loop-i.env.items) (env_of c.declare.new.env.items) (env_of c.args.env.now.items) (sight_of c.loop-i.sight) (sight_of c.declare.new.sight) (sight_of c.args.sight.now)
+    declared_next c.args.ls.now c.args.es.now c.loop-i.i c.index-ls-i.result c.index-es-i.result (env_of c.loop-i.env.items)
+    (env_of c.declare.new.env.items) (env_of c.args.env.now.items) (sight_of c.loop-i.sight) (sight_of c.declare.new.sight) (sight_of c.args.sight.now)
     (omega arith) (omega arith) c.index-ls-i.is c.index-es-i.is c.loop-i.invariant c.in_ok-declare.ensures.env c.in_ok-declare.ensures.sight
 
 pub returns-clause-env : goal.returns-clause-env
 returns-clause-env c =
-    (no_terms (map local_of c.args.ls.now) (map local_of (drop c.loop-i.i c.args.ls.now)) (map term_of c.args.es.now) (map term_of (drop c.loop-i.i c.args.es.now)) (env_of c.loop-i.env.items) (env_of c.args.env.now.items) (sight_of c.loop-i.sight) (sight_of c.args.sight.now)
+    (no_terms (map local_of c.args.ls.now) (map local_of (drop c.loop-i.i c.args.ls.now)) (map term_of c.args.es.now)
+    (map term_of (drop c.loop-i.i c.args.es.now)) (env_of c.loop-i.env.items) (env_of c.args.env.now.items) (sight_of c.loop-i.sight)
+    (sight_of c.args.sight.now)
     (ap (λ (l : List Term). map term_of l) (drop_all c.loop-i.i c.args.es.now (omega arith))) c.loop-i.invariant).0
 
 pub returns-clause-sight : goal.returns-clause-sight
 returns-clause-sight c =
-    (no_terms (map local_of c.args.ls.now) (map local_of (drop c.loop-i.i c.args.ls.now)) (map term_of c.args.es.now) (map term_of (drop c.loop-i.i c.args.es.now)) (env_of c.loop-i.env.items) (env_of c.args.env.now.items) (sight_of c.loop-i.sight) (sight_of c.args.sight.now)
+    (no_terms (map local_of c.args.ls.now) (map local_of (drop c.loop-i.i c.args.ls.now)) (map term_of c.args.es.now)
+    (map term_of (drop c.loop-i.i c.args.es.now)) (env_of c.loop-i.env.items) (env_of c.args.env.now.items) (sight_of c.loop-i.sight)
+    (sight_of c.args.sight.now)
     (ap (λ (l : List Term). map term_of l) (drop_all c.loop-i.i c.args.es.now (omega arith))) c.loop-i.invariant).1

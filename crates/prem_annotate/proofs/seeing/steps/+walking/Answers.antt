@@ -17,7 +17,8 @@ use Rattle.prem_annotate.proofs.seeing.steps.+walking.Goals as goal
 pub walk-returns-in_ok-walk_all-in-Block-clause-env : goal.walk-returns-in_ok-walk_all-in-Block-clause-env
 walk-returns-in_ok-walk_all-in-Block-clause-env t c =
     let env = env_of c.args.env.now.items in
-    c.in_ok-walk_all-in-Block.ensures.env ∙ ap (λ (l : List Step). after env (plain_list l)) c.items.ensures ∙ sym (ap (after env) (block_is c.in-Block.body)) ∙ sym (ap (λ (x : Step). after env (plain x)) c.in-Block.is)
+    c.in_ok-walk_all-in-Block.ensures.env ∙ ap (λ (l : List Step). after env (plain_list l)) c.items.ensures
+    ∙ sym (ap (after env) (block_is c.in-Block.body)) ∙ sym (ap (λ (x : Step). after env (plain x)) c.in-Block.is)
 
 pub walk-returns-in_ok-walk_all-in-Block-clause-sight : goal.walk-returns-in_ok-walk_all-in-Block-clause-sight
 walk-returns-in_ok-walk_all-in-Block-clause-sight t c =
@@ -30,7 +31,8 @@ walk-returns-in_ok-walk-in-If-2 t c =
     let env = env_of c.args.env.now.items in let s = sight_of c.args.sight.now in
     let condition = term_of c.in-If.condition in let taken = c.in-If.taken.value in let other = c.in-If.other.value in
     let inner = env_of c.enter_if.new.env.items in let behind_taken = env_of c.walk.new.env.items in let right = env_of c.enter_other.new.env.items in
-    let right_is = if_other_known env inner behind_taken right condition taken other c.deref.result.now c.deref-in-If.result.now c.deref-in-If-2.result.now (saves_of c.in_ok-arms-in-If.arms.before.items)
+    let right_is = if_other_known env inner behind_taken right condition taken other c.deref.result.now c.deref-in-If.result.now
+    c.deref-in-If-2.result.now (saves_of c.in_ok-arms-in-If.arms.before.items)
     c.in_ok-arms-in-If.ensures.before c.in_ok-arms-in-If.ensures.env c.in_ok-walk-in-If.ensures.env c.in_ok-behind-in-If.ensures.env c.deref.ensures c.deref-in-If.ensures c.deref-in-If-2.ensures in
     record {
       env = if_known env inner behind_taken right (env_of c.walk-in-If.new.env.items) (env_of c.at_either.new.env.items) c.in-If.at condition taken other
@@ -81,5 +83,6 @@ walk-returns-in_ok-walk-in-While t c =
 
 pub walk_all-loop-s-preserved : goal.walk_all-loop-s-preserved
 walk_all-loop-s-preserved t c =
-    walked_on c.args.steps.now c.loop-s.s-index c.s-item.result (env_of c.loop-s.env.items) (env_of c.walk.new.env.items) (env_of c.args.env.now.items) (sight_of c.loop-s.sight) (sight_of c.walk.new.sight) (sight_of c.args.sight.now)
+    walked_on c.args.steps.now c.loop-s.s-index c.s-item.result (env_of c.loop-s.env.items) (env_of c.walk.new.env.items)
+    (env_of c.args.env.now.items) (sight_of c.loop-s.sight) (sight_of c.walk.new.sight) (sight_of c.args.sight.now)
     (omega arith) c.s-item.is c.loop-s.invariant c.in_ok-walk.ensures.env c.in_ok-walk.ensures.sight

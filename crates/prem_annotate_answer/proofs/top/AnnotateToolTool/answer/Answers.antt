@@ -6,4 +6,5 @@ use Rattle.prem_annotate_answer.proofs.top.AnnotateToolTool.answer.Goals as goal
 
 pub returns-in-None-clause-answer : goal.returns-in-None-clause-answer
 returns-in-None-clause-answer g c =
-    usage_given (g.S.Store.files c.args.store.now) annotate_tool.usage annotate_tool.stages (annotate_tool.asked_of (map string_bytes c.args.words.now)) c.usage.result (c.in-None.ensures.none refl) c.usage.ensures.usage
+    usage_given (g.S.Store.files c.args.store.now) annotate_tool.usage annotate_tool.stages
+    (annotate_tool.asked_of (map string_bytes c.args.words.now)) c.usage.result (c.in-None.ensures.none refl) c.usage.ensures.usage

@@ -15,7 +15,8 @@ returns-in_default-with_run c =
     let f = next_found c.args.cache.line c.loop-first.at c.args.ranges.now c.next_run.result (c.in-Some.first, c.in-Some.end) c.next_run.ensures c.in-Some.is in
     let line = c.args.cache.line in
     sym (ap (option_map (room_behind (max c.args.self.now.at (last_line_end line c.args.ranges.now))))
-    (sym c.loop-first.invariant ∙ runs_full line c.args.cache.sets c.args.cache.«ways» c.args.ranges.now c.loop-first.at (c.in-Some.first, c.in-Some.end) c.loop-first.counts f (sym c.with_run.ensures ∙ c.in_default-with_run.is)))
+    (sym c.loop-first.invariant ∙ runs_full line c.args.cache.sets c.args.cache.«ways» c.args.ranges.now c.loop-first.at
+    (c.in-Some.first, c.in-Some.end) c.loop-first.counts f (sym c.with_run.ensures ∙ c.in_default-with_run.is)))
 
 pub loop-first-smaller : goal.loop-first-smaller
 loop-first-smaller c =
@@ -25,7 +26,8 @@ loop-first-smaller c =
 pub loop-first-preserved : goal.loop-first-preserved
 loop-first-preserved c =
     let f = next_found c.args.cache.line c.loop-first.at c.args.ranges.now c.next_run.result (c.in-Some.first, c.in-Some.end) c.next_run.ensures c.in-Some.is in
-    sym (runs_go c.args.cache.line c.args.cache.sets c.args.cache.«ways» c.args.ranges.now c.loop-first.at (c.in-Some.first, c.in-Some.end) c.loop-first.counts c.in-Some-with_run.next f (sym c.with_run.ensures ∙ c.in-Some-with_run.is))
+    sym (runs_go c.args.cache.line c.args.cache.sets c.args.cache.«ways» c.args.ranges.now c.loop-first.at (c.in-Some.first, c.in-Some.end)
+    c.loop-first.counts c.in-Some-with_run.next f (sym c.with_run.ensures ∙ c.in-Some-with_run.is))
     ∙ c.loop-first.invariant
 
 pub returns : goal.returns

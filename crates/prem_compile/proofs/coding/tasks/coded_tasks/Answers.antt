@@ -19,4 +19,6 @@ code_tasks-requires-clause-each c = (ready (set_of c.args.set.now) c.args.progra
 
 pub returns : goal.returns
 returns c =
-    tasks_are (set_of c.args.set.now) c.tasks.result.now c.args.programs.now c.args.turns.now c.args.codes.items c.code_tasks.result c.requires c.tasks.ensures.tasks c.tasks.ensures.ranges.count.1 c.code_tasks.ensures.same c.code_tasks.ensures.coded
+    tasks_are (set_of c.args.set.now)
+    c.tasks.result.now c.args.programs.now c.args.turns.now c.args.codes.items c.code_tasks.result c.requires c.tasks.ensures.tasks
+    c.tasks.ensures.ranges.count.1 c.code_tasks.ensures.same c.code_tasks.ensures.coded

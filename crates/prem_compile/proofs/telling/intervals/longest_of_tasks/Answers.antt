@@ -9,7 +9,8 @@ longest_of_task-requires-clause-bound c =
 pub loop-task-preserved : goal.loop-task-preserved
 loop-task-preserved c = record {
   told =
-      task_told c.args.p.now c.args.tasks.now c.loop-task.task-index c.task-item.result c.longest_of_task.result (items_of c.loop-task.all) (items_of c.push.new.self) c.loop-task-test.true c.task-item.is
+      task_told c.args.p.now c.args.tasks.now c.loop-task.task-index c.task-item.result c.longest_of_task.result (items_of c.loop-task.all)
+      (items_of c.push.new.self) c.loop-task-test.true c.task-item.is
       c.longest_of_task.ensures.longest c.loop-task.invariant.told c.in_ok-push.ensures.ok;
   small = small_more (items_of c.loop-task.all) (items_of c.push.new.self) c.longest_of_task.result c.loop-task.invariant.small c.longest_of_task.ensures.small c.in_ok-push.ensures.ok;
 }

@@ -20,4 +20,5 @@ returns c =
     let t = c.args.task.now in
     name_then c.copy_name.result _ _ c.copy_name.ensures
     (ap (λ r. name_bytes r.text.now.name) (sym c.index-items-from.is)
-    ∙ routine_named (slice_index t.turns.now) (items_of t.program.now.routines) c.items.result.now c.args.f c.from.result c.index-items-from.result c.requires c.from.ensures c.items.ensures c.index-items-from.is)
+    ∙ routine_named (slice_index t.turns.now) (items_of t.program.now.routines)
+    c.items.result.now c.args.f c.from.result c.index-items-from.result c.requires c.from.ensures c.items.ensures c.index-items-from.is)

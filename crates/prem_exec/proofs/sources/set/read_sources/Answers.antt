@@ -24,7 +24,8 @@ returns-in-Err-clause-set g c =
     let s = set_view c.args.file in
     let front = items_of c.new.result in
     let entries = c.items.result.now in
-    halt_passes {X = Sequence TaskTree} {Y = List TaskText} {V = SetTree} {W = TaskSet} view set_of (Passes told (reading_behind how (map task_of front) entries)) (Passes told (reading_sources how s)) c.in-Err.halt
+    halt_passes {X = Sequence TaskTree} {Y = List TaskText} {V = SetTree} {W = TaskSet} view set_of
+    (Passes told (reading_behind how (map task_of front) entries)) (Passes told (reading_sources how s)) c.in-Err.halt
     (λ reply passes. sources_unread how told s reply (all_pass how told s front entries (Err reply) c.new.ensures c.items.ensures passes)) c.in-Err.ensures.tasks
 
 pub set_with-requires : goal.set_with-requires

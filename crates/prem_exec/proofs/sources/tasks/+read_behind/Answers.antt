@@ -23,7 +23,8 @@ returns-in-Err-clause-tasks g t c =
     let rest = c.in-Some.rest.now in
     let front = map task_of (items_of c.args.front) in
     let stops : Comes view (Passes told (reading_behind how front (e ∷ rest))) (Err c.in-Err.halt) =
-    halt_passes {X = TaskTree} {Y = TaskText} {V = Sequence TaskTree} {W = List TaskText} task_of view (IsReadAsBy how told source_limit e.source (task_of_source e)) (Passes told (reading_behind how front (e ∷ rest))) c.in-Err.halt
+    halt_passes {X = TaskTree} {Y = TaskText} {V = Sequence TaskTree} {W = List TaskText} task_of view
+    (IsReadAsBy how told source_limit e.source (task_of_source e)) (Passes told (reading_behind how front (e ∷ rest))) c.in-Err.halt
     (λ reply read. no_task_behind how told front e rest reply read) c.in-Err.ensures.task in
     subst (λ es. Comes view (Passes told (reading_behind how front es)) (Err c.in-Err.halt)) (sym c.in-Some.ensures.some) stops
 
@@ -32,5 +33,6 @@ returns-in_ok-push-in-Some-clause-tasks g t c =
     let how = c.args.telling in
     let told : Option Files = g.S.Store.files c.args.store.now in
     let later : Option Files = g.S.Store.files c.read_task.new.store in
-    next_passes {X = Sequence TaskTree} view how told later (items_of c.args.front) (items_of c.push.new.self) c.in-Some.entry.now c.in-Some.rest.now c.args.entries.now c.in-Ok.task c.read_behind.result
+    next_passes {X = Sequence TaskTree} view how told later (items_of c.args.front) (items_of c.push.new.self)
+    c.in-Some.entry.now c.in-Some.rest.now c.args.entries.now c.in-Ok.task c.read_behind.result
     c.in-Ok.ensures.same c.in-Some.ensures.some c.in_ok-push-in-Some.ensures.ok c.in-Ok.ensures.task c.read_behind.ensures.tasks

@@ -22,10 +22,14 @@ code_of-requires-clause-turns c =
 
 pub returns-clause-code : goal.returns-clause-code
 returns-clause-code c =
-    code_told (slice_index c.args.turns.now) c.args.r.now c.args.f c.args.turn c.index-routines-f.result c.items-routines.result.now c.items-routines.ensures c.requires.there c.index-routines-f.is c.requires.turn
+    code_told (slice_index c.args.turns.now)
+    c.args.r.now c.args.f c.args.turn c.index-routines-f.result c.items-routines.result.now c.items-routines.ensures c.requires.there
+    c.index-routines-f.is c.requires.turn
     c.args.target c.first_global.result c.args.table.now c.code_of.result c.first_global.ensures.value c.requires.table c.requires.callees c.code_of.ensures.pieces c.code_of.ensures.excess
 
 pub returns-clause-excess : goal.returns-clause-excess
 returns-clause-excess c =
-    excess_told (slice_index c.args.turns.now) c.args.r.now c.args.f c.args.turn c.index-routines-f.result c.items-routines.result.now c.items-routines.ensures c.requires.there c.index-routines-f.is c.requires.turn
+    excess_told (slice_index c.args.turns.now)
+    c.args.r.now c.args.f c.args.turn c.index-routines-f.result c.items-routines.result.now c.items-routines.ensures c.requires.there
+    c.index-routines-f.is c.requires.turn
     c.code_of.result c.code_of.ensures.excess

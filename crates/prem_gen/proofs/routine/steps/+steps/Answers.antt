@@ -23,7 +23,8 @@ put_step-put_steps-requires t c =
 
 pub put_step-returns-in-Block-clause-pieces : goal.put_step-returns-in-Block-clause-pieces
 put_step-returns-in-Block-clause-pieces t c =
-    rw (block_code (parts_in c.args.task.now) (turns_in c.args.task.now) c.args.numbers.now.counter c.args.numbers.now.turn c.args.step.now c.in-Block.body c.items.result.now c.in-Block.is c.items.ensures)
+    rw (block_code (parts_in c.args.task.now) (turns_in c.args.task.now)
+    c.args.numbers.now.counter c.args.numbers.now.turn c.args.step.now c.in-Block.body c.items.result.now c.in-Block.is c.items.ensures)
     c.put_steps.ensures.pieces
 
 pub put_step-returns-in-Block-clause-counter : goal.put_step-returns-in-Block-clause-counter

@@ -18,7 +18,8 @@ load-number-requires-clause-within g c =
 -- the touch hits, and leaves the cache whole
 touched : (g : _) (c : goal.After-load-number g)
     → IsWhole g.P.Policy.kind_of c.self.inside.plant c.self.inside.shift (g.P.Policy.orders c.hit.new.self) c.self.inside.slots
-    × (touch_of (rule_of c.self.inside.plant.policy) (cache_state c.self.inside.plant (g.P.Policy.orders c.self.inside.policy) c.self.inside.slots) (c.args.address / c.self.inside.plant.line) c.args.mem.now
+    × (touch_of (rule_of c.self.inside.plant.policy) (cache_state c.self.inside.plant (g.P.Policy.orders c.self.inside.policy) c.self.inside.slots)
+    (c.args.address / c.self.inside.plant.line) c.args.mem.now
     ≡ record { cache = cache_state c.self.inside.plant (g.P.Policy.orders c.hit.new.self) c.self.inside.slots; memory = c.args.mem.now; hit = true; back = false })
 touched g c =
     let x = c.self.inside in
@@ -47,7 +48,8 @@ returns-in-Some-clause-number g c =
     let line = c.args.address / x.plant.line in
     let w = c.in-Some.way in
     let slot : c.set_of-set.result * x.plant.«ways» + w ≡ slot_of x.plant line w = slot_at x.plant line c.line_at-line.result c.set_of-set.result w c.line_at-line.ensures c.set_of-set.ensures in
-    load_is g.P.Policy.kind_of x.plant x.shift (g.P.Policy.orders c.hit.new.self) x.slots (touched g c).0 c.args.address c.args.size c.args.mem.now w c.load-number.result (omega (arith, c.ranges.address.fits))
+    load_is g.P.Policy.kind_of x.plant x.shift (g.P.Policy.orders c.hit.new.self) x.slots
+    (touched g c).0 c.args.address c.args.size c.args.mem.now w c.load-number.result (omega (arith, c.ranges.address.fits))
     c.requires.size c.requires.aligned (way_at x.plant at line c.line_at-line.result c.set_of-set.result w c.line_at-line.ensures c.set_of-set.ensures c.in-Some.ensures)
     (c.load-number.ensures.number ∙ ap (λ k. number_at (slice_index (at k).bytes) c.place_at-at.result c.args.size) slot
     ∙ ap (λ k. number_at (slice_index (at (slot_of x.plant line w)).bytes) k c.args.size) c.place_at-at.ensures)

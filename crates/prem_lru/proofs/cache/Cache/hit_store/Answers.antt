@@ -18,7 +18,8 @@ store-requires-clause-within g c =
 -- the touch hits, and leaves the cache whole
 touched : (g : _) (c : goal.After-store g)
     → IsWhole g.P.Policy.kind_of c.self.inside.plant c.self.inside.shift (g.P.Policy.orders c.hit.new.self) c.self.inside.slots
-    × (touch_of (rule_of c.self.inside.plant.policy) (cache_state c.self.inside.plant (g.P.Policy.orders c.self.inside.policy) c.self.inside.slots) (c.args.address / c.self.inside.plant.line) c.args.mem.now
+    × (touch_of (rule_of c.self.inside.plant.policy) (cache_state c.self.inside.plant (g.P.Policy.orders c.self.inside.policy) c.self.inside.slots)
+    (c.args.address / c.self.inside.plant.line) c.args.mem.now
     ≡ record { cache = cache_state c.self.inside.plant (g.P.Policy.orders c.hit.new.self) c.self.inside.slots; memory = c.args.mem.now; hit = true; back = false })
 touched g c =
     let x = c.self.inside in

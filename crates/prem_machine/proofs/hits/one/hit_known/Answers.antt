@@ -20,7 +20,8 @@ hits g c =
     let core = c.args.core.now in
     let touched = c.touch_known-touches in
     let t = with_outputs (items_of c.args.outputs.now) core in
-    let I : List Task → ℕ → Issued = λ tasks at. issued_with (rule_of x.plant.policy) x.plant.line tasks e.stored (at / x.plant.line) (touch_of (rule_of x.plant.policy) x (at / x.plant.line) c.args.mem.now) e.access in
+    let I : List Task → ℕ → Issued = λ tasks at. issued_with (rule_of x.plant.policy) x.plant.line tasks e.stored (at / x.plant.line)
+    (touch_of (rule_of x.plant.policy) x (at / x.plant.line) c.args.mem.now) e.access in
     known_hit x touched.new.cache c.args.mem.now touched.new.mem t (with_outputs (items_of c.advance.new.outputs) c.advance.new.self) c.args.task.now c.line_of-line.result e
     c.args.cost c.count_of.result c.stores_in.result touched.result
     (with_any_outputs x.plant.target x.plant.memory (view_of x c.args.mem.now) core (items_of c.args.outputs.now) c.args.cost e.access (λ v. e) c.requires.does)

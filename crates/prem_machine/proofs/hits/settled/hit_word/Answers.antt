@@ -73,7 +73,8 @@ store_on-requires-clause-does g c =
     let come : ComesTo x.plant view core c.cost_at-in-Some-stores.result u =
     word_comes x.plant q view core c.pc-pc.result c.args.word c.cost_at-in-Some-stores.result u c.plant-plant.ensures.same c.pc-pc.ensures.same c.pc-pc.ensures.aligned c.requires.place c.requires.word
     c.cost_at-in-Some-stores.ensures.cost (λ v input. c.in-Some-stores.ensures.outcome q.target v core.phase input) c.in-Some-stores.ensures.fit in
-    known_does x.plant view core c.cost_at-in-Some-stores.result u (storing m.address m.size m.value (c.pc-pc.result + 4)) come (λ v input. ap (λ n. Done (storing m.address m.size m.value (n + 4))) c.pc-pc.ensures.same)
+    known_does x.plant view core c.cost_at-in-Some-stores.result u (storing m.address m.size m.value (c.pc-pc.result + 4)) come
+    (λ v input. ap (λ n. Done (storing m.address m.size m.value (n + 4))) c.pc-pc.ensures.same)
 
 pub go_on-requires-in-Some-puts-clause-does : goal.go_on-requires-in-Some-puts-clause-does
 go_on-requires-in-Some-puts-clause-does g c =

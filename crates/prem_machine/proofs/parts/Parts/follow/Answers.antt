@@ -82,7 +82,8 @@ returns-clause-state g c =
     let le = within g c in
     let cycles : ℕ → MachineState = λ n. cycles_of (rule_in (setup_in p)) (setup_in p) c.args.requests.now n (state_of x) in
     let t : done.time ≡ x.now + done.time - x.now = omega arith in
-    onward_state p c.args.requests.now c.args.lone.task c.args.lone.until x c.follow_in-followed.new.work (tasks g c) done.time done.hits done.stores c.requires.lone c.requires.stands c.requires.trapped (here g c)
+    onward_state p c.args.requests.now c.args.lone.task c.args.lone.until x c.follow_in-followed.new.work (tasks g c)
+    done.time done.hits done.stores c.requires.lone c.requires.stands c.requires.trapped (here g c)
     (leaves g c) le.0 (omega (arith, le.1, c.requires.room)) c.requires.intervals ∙ ap cycles t
 
 pub returns-clause-stands : goal.returns-clause-stands
@@ -104,7 +105,8 @@ returns-clause-lone g c =
 pub returns-clause-room : goal.returns-clause-room
 returns-clause-room g c =
     let done = c.follow_in-followed.result in
-    let put = onward_put c.args.setting.now c.args.requests.now c.args.lone.task c.args.self.now c.follow_in-followed.new.work (tasks g c) done.time done.hits done.stores c.requires.stands (here g c) (leaves g c) in
+    let put = onward_put c.args.setting.now c.args.requests.now c.args.lone.task c.args.self.now c.follow_in-followed.new.work (tasks g c)
+    done.time done.hits done.stores c.requires.stands (here g c) (leaves g c) in
     omega (arith, put, (within g c).1, c.requires.room)
 
 pub returns-then-room-le21-clause-silent : goal.returns-then-room-le21-clause-silent
@@ -120,5 +122,6 @@ returns-clause-silent g c =
     let le = within g c in
     let S : ℕ → Type 0 = λ n. AreSilent (rule_in (setup_in p)) (setup_in p) c.args.requests.now n (state_of x) in
     let t : done.time ≡ x.now + done.time - x.now = omega arith in
-    subst S t (onward_silent p c.args.requests.now c.args.lone.task c.args.lone.until x c.follow_in-followed.new.work (tasks g c) done.time done.hits done.stores c.requires.lone c.requires.stands c.requires.trapped
+    subst S t (onward_silent p c.args.requests.now c.args.lone.task c.args.lone.until x c.follow_in-followed.new.work (tasks g c)
+    done.time done.hits done.stores c.requires.lone c.requires.stands c.requires.trapped
     (here g c) (leaves g c) le.0 (omega (arith, le.1, c.requires.room)) c.requires.intervals)

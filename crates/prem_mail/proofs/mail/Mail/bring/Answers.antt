@@ -63,7 +63,14 @@ returns g c =
     let k = c.from.result in
     let lists : lists_of (with_item_at m.words k c.put.new.self) ≡ slice_set (lists_of m.words) k (slice_index_or (lists_of m.words) k [] ++ c.args.word ∷ []) =
     map-set items_of (items_of m.words) k c.put.new.self ∙ ap (slice_set (lists_of m.words) k) (list_has g c) in
-    let with_machine : Running → List (List ℕ) → Mailing = λ q ls. record { setup = q.setup; requests = q.requests; feeds = m.feeds.items; mailed = record { state = q.state; mail = record { lists = ls; lost = m.lost.items } } } in
+    let with_machine : Running → List (List ℕ) →
+    Mailing = λ q ls. record {
+      setup = q.setup;
+      requests = q.requests;
+      feeds = m.feeds.items;
+      mailed =
+          record { state = q.state; mail = record { lists = ls; lost = m.lost.items } };
+    } in
     ap (λ (q : Running). with_machine q (lists_of (with_item_at m.words k c.put.new.self))) (has_word g c)
     ∙ ap (with_machine (with_state r (with_input k c.args.word r.state))) lists
     ∙ ap (λ i. with_mailed (mailing_of m) (with_mail i c.args.word (mailing_of m).mailed)) c.from.ensures

@@ -15,13 +15,17 @@ pub invariant_of-result : goal.invariant_of-result
 invariant_of-result g c =
     let image = c.args.image.now in
     let run = c.args.run.now in
-    first_holds (rule_in (setup_of image)) (setup_of image) (items_of image.content) (words_of run) (items_of run.requests) (map (λ d. d.device.lines) (items_of image.devices)) c.in_ok-machine.machine c.in_ok-feeds.feeds.items c.args.feeds.now
-    c.in_ok-words.words c.in_ok-lost.lost.items (length c.items.result.now) c.in_ok-machine.ensures.state c.in_ok-machine.ensures.setup c.in_ok-feeds.ensures c.requires.feeds.each c.in_ok-words.ensures.lists c.requires.fits.tasks
+    first_holds (rule_in (setup_of image)) (setup_of image) (items_of image.content) (words_of run) (items_of run.requests)
+    (map (λ d. d.device.lines) (items_of image.devices)) c.in_ok-machine.machine c.in_ok-feeds.feeds.items c.args.feeds.now
+    c.in_ok-words.words c.in_ok-lost.lost.items (length c.items.result.now)
+    c.in_ok-machine.ensures.state c.in_ok-machine.ensures.setup c.in_ok-feeds.ensures c.requires.feeds.each c.in_ok-words.ensures.lists
+    c.requires.fits.tasks
     c.in_ok-words.ensures.rooms c.in_ok-lost.ensures (ap length c.items.ensures)
 
 pub returns-clause-first : goal.returns-clause-first
 returns-clause-first g c =
     let image = c.args.image.now in
     let run = c.args.run.now in
-    first_mailed (rule_in (setup_of image)) (setup_of image) (items_of image.content) (words_of run) (lists_of c.in_ok-words.words) (items_of run.requests) c.in_ok-machine.machine.state c.in_ok-lost.lost.items (length c.items.result.now)
+    first_mailed (rule_in (setup_of image)) (setup_of image) (items_of image.content) (words_of run) (lists_of c.in_ok-words.words)
+    (items_of run.requests) c.in_ok-machine.machine.state c.in_ok-lost.lost.items (length c.items.result.now)
     c.in_ok-machine.ensures.state c.in_ok-words.ensures.lists c.in_ok-lost.ensures (ap length c.items.ensures)

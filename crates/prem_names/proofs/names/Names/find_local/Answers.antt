@@ -13,11 +13,16 @@ returns-in-Some c =
     let spelling = name_bytes c.args.name.now in
     let it = c.index.result.now in
     let here : get_or all c.in-Some.number it ≡ it = search rules in
-    let found = number_found local_of (λ (l : Text × Ty). l.0) spelling it all c.in-Some.number (sym (c.in-Some.ensures.number ∙ ap (number_of c.self.inside.local_index) c.bytes.ensures.bytes ∙ ap (λ names. number_of names spelling) c.self.invariant.locals_are)) in
+    let found = number_found local_of (λ (l : Text × Ty). l.0) spelling it all c.in-Some.number
+    (sym (c.in-Some.ensures.number ∙ ap (number_of c.self.inside.local_index) c.bytes.ensures.bytes
+    ∙ ap (λ names. number_of names spelling) c.self.invariant.locals_are)) in
     rw (← c.self.view_is) (ap (option_map local_found) (ap (λ x. Some (c.in-Some.number, local_of x)) (sym here) ∙ sym found))
 
 pub returns-in-None : goal.returns-in-None
 returns-in-None c =
     let all = c.self.inside.locals.items in
     let spelling = name_bytes c.args.name.now in
-    rw (← c.self.view_is) (ap (option_map local_found) (sym (number_missing local_of (λ (l : Text × Ty). l.0) spelling all (sym (c.in-None.ensures.number ∙ ap (number_of c.self.inside.local_index) c.bytes.ensures.bytes ∙ ap (λ names. number_of names spelling) c.self.invariant.locals_are)))))
+    rw (← c.self.view_is) (ap (option_map local_found)
+    (sym (number_missing local_of (λ (l : Text × Ty). l.0) spelling all
+    (sym (c.in-None.ensures.number ∙ ap (number_of c.self.inside.local_index) c.bytes.ensures.bytes
+    ∙ ap (λ names. number_of names spelling) c.self.invariant.locals_are)))))

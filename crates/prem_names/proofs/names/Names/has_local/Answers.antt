@@ -15,4 +15,5 @@ mapped (l ∷ ls) = ap (λ ts. name_bytes l.0.now ∷ ts) (mapped ls)
 pub returns : goal.returns
 returns c =
     rw (← c.self.view_is)
-    (c.has.ensures ∙ ap (λ names. has_name names c.bytes.result.now) (c.self.invariant.locals_are ∙ mapped c.self.inside.locals.items) ∙ ap (has_name (map (λ (l : Text × Ty). l.0) (map local_of c.self.inside.locals.items))) c.bytes.ensures.bytes)
+    (c.has.ensures ∙ ap (λ names. has_name names c.bytes.result.now) (c.self.invariant.locals_are ∙ mapped c.self.inside.locals.items)
+    ∙ ap (has_name (map (λ (l : Text × Ty). l.0) (map local_of c.self.inside.locals.items))) c.bytes.ensures.bytes)

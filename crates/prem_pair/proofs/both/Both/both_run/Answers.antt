@@ -49,14 +49,16 @@ cycles-init g c =
 
 pub both_step-requires-clause-over : goal.both_step-requires-clause-over
 both_step-requires-clause-over g c =
-    so_far_goes c.args.first.now c.args.second.now c.args.requests.now c.args.task c.args.other c.args.until c.args.self.now c.cycles.self c.cycles.left c.cycles.invariant.0 (omega (arith, c.cycles-test.true))
+    so_far_goes c.args.first.now c.args.second.now c.args.requests.now c.args.task c.args.other c.args.until c.args.self.now c.cycles.self
+    c.cycles.left c.cycles.invariant.0 (omega (arith, c.cycles-test.true))
 
 pub returns-then-not-both_step-clause-state : goal.returns-then-not-both_step-clause-state
 returns-then-not-both_step-clause-state g c =
     let p = setup_in c.args.first.now in
     let q = setup_in c.args.second.now in
     let f = c.cycles.invariant.0 in
-    taken_then (rule_in p) (rule_in q) p q c.args.requests.now (pair_of c.args.self.now) (pair_of c.cycles.self) (pair_of c.both_step.new.self) f.state c.both_step.ensures.state f.begun c.both_step.ensures.from
+    taken_then (rule_in p) (rule_in q) p q c.args.requests.now (pair_of c.args.self.now) (pair_of c.cycles.self) (pair_of c.both_step.new.self)
+    f.state c.both_step.ensures.state f.begun c.both_step.ensures.from
 
 pub cycles-preserved : goal.cycles-preserved
 cycles-preserved g c =

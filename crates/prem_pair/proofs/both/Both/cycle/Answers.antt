@@ -40,7 +40,8 @@ returns-then-is_some-2-clause-state g c =
     (had2 ∙ ap (λ v. v && c.is_second-holds.result) turn ∙ ap (λ v. b.turn.core && v) holds2) c.act-2.ensures.state in
     let none = ap (λ (x : MachineState). is_some x.trapped) (sym f) ∙ sym c.is_some.ensures ∙ c.if-is_some.false in
     let some = ap (λ (x : MachineState). is_some x.trapped) (sym g) ∙ sym c.is_some-2.ensures ∙ c.if-is_some-2.true in
-    same_pair (state_of c.end_in_place.new.parts) (ended_in_place (first_acted (rule_in p) p h (arrivals_at rs s.first) b s)) (state_of c.act-2.new.parts) (second_acted (rule_in q) q h b s) c.meet-turn.new.self.holder h
+    same_pair (state_of c.end_in_place.new.parts) (ended_in_place (first_acted (rule_in p) p h (arrivals_at rs s.first) b s))
+    (state_of c.act-2.new.parts) (second_acted (rule_in q) q h b s) c.meet-turn.new.self.holder h
     (λ x. x ≡ pair_cycle (rule_in p) (rule_in q) p q rs s) (c.end_in_place.ensures.state ∙ ap ended_in_place f) g c.meet-turn.ensures.holder
     (cycle_traps p q rs s none some)
 
@@ -77,7 +78,8 @@ returns-clause-state g c =
     ∙ ap (λ (x : MachineState). holder_after h x.core (state_of c.tick-2.new.parts).core c.is_some-3.result) one
     ∙ ap (λ (x : MachineState). holder_after h (next_cycle (first_acted (rule_in p) p h (arrivals_at rs s.first) b s)).core x.core c.is_some-3.result) two
     ∙ ap (λ v. holder_after h (next_cycle (first_acted (rule_in p) p h (arrivals_at rs s.first) b s)).core (next_cycle (second_acted (rule_in q) q h b s)).core v) ended in
-    same_pair (state_of c.tick.new.parts) (next_cycle (first_acted (rule_in p) p h (arrivals_at rs s.first) b s)) (state_of c.tick-2.new.parts) (next_cycle (second_acted (rule_in q) q h b s)) c.holder_after-self.result
+    same_pair (state_of c.tick.new.parts) (next_cycle (first_acted (rule_in p) p h (arrivals_at rs s.first) b s)) (state_of c.tick-2.new.parts)
+    (next_cycle (second_acted (rule_in q) q h b s)) c.holder_after-self.result
     (holder_after h (next_cycle (first_acted (rule_in p) p h (arrivals_at rs s.first) b s)).core (next_cycle (second_acted (rule_in q) q h b s)).core (is_some b.turn.ended))
     (λ x. x ≡ pair_cycle (rule_in p) (rule_in q) p q rs s) one two holder (cycle_goes p q rs s none none2)
 

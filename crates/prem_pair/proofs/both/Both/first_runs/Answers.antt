@@ -32,7 +32,8 @@ returns-clause-state g c =
     let second = c.pass_with.ensures.state ∙ ap (λ b. side_passed b (at - x.second.now) s.second) c.is_second-holds.ensures ∙ ap (λ k. side_passed (is_second x.holder) k s.second) same in
     ap (λ (v : MachineState). paired (state_of c.run_own.new.parts) v x.holder) second
     ∙ apart_first (rule_in p) (rule_in q) p q c.args.requests.now n c.args.until c.args.task s (state_of c.run_own.new.parts)
-    (steady_pair c.args.first.now c.args.second.now c.args.requests.now x r.stands r.goes r.over) r.may r.going (omega (arith, c.run_own.ensures.within, bound, most)) rests (c.run_own.ensures.own (is_first x.holder))
+    (steady_pair c.args.first.now c.args.second.now c.args.requests.now x r.stands r.goes r.over) r.may r.going
+    (omega (arith, c.run_own.ensures.within, bound, most)) rests (c.run_own.ensures.own (is_first x.holder))
 
 pub returns-clause-goes : goal.returns-clause-goes
 returns-clause-goes g c =

@@ -47,7 +47,9 @@ returns-clause-turn g c =
     let holder : c.holder_now-holder.result ≡ holder_in c.args.requests.now s =
     c.holder_now-holder.ensures ∙ ap (λ (g : GatesState). holder_with old.holder (asks s.first) (asks s.second) (some_wait g.gates)) gates in
     c.bus_cycle-turn.ensures.turn
-    ∙ ap (λ (t : Turned). t.turn) (same_bus old.first.now old.holder c.holder_now-holder.result (holder_in c.args.requests.now s) c.window_given.result c.want_with.result c.wants-first.result c.wants-second.result _ _ c.deliver-self.new.gates _ old.first.work.memory holder c.window_given.ensures c.want_with.ensures c.wants-first.ensures c.wants-second.ensures gates)
+    ∙ ap (λ (t : Turned). t.turn) (same_bus old.first.now old.holder c.holder_now-holder.result (holder_in c.args.requests.now s)
+    c.window_given.result c.want_with.result c.wants-first.result c.wants-second.result _ _ c.deliver-self.new.gates _ old.first.work.memory
+    holder c.window_given.ensures c.want_with.ensures c.wants-first.ensures c.wants-second.ensures gates)
 
 pub returns-clause-free : goal.returns-clause-free
 returns-clause-free g c = λ ne.
@@ -55,7 +57,8 @@ returns-clause-free g c = λ ne.
     let s = pair_of old in
     ap (λ (g : GatesState). g.carried) c.bus_cycle-turn.ensures.gates
     ∙ ap (λ w. (bus_turn old.first.now w c.want_with.result c.deliver-self.new.gates old.first.work.memory).gates.carried) c.window_given.ensures
-    ∙ still_free old.first.now old.holder c.holder_now-holder.result (asks s.first) (asks s.second) (some_wait c.deliver-self.new.gates.gates) c.want_with.result c.deliver-self.new.gates old.first.work.memory c.holder_now-holder.ensures ne
+    ∙ still_free old.first.now old.holder c.holder_now-holder.result (asks s.first) (asks s.second) (some_wait c.deliver-self.new.gates.gates)
+    c.want_with.result c.deliver-self.new.gates old.first.work.memory c.holder_now-holder.ensures ne
     (λ nb. c.deliver-self.ensures.carried ∙ c.requires.free nb)
 
 pub returns-clause-arrives : goal.returns-clause-arrives
@@ -129,14 +132,18 @@ returns-clause-first g c =
     let gates = ap (λ (a : Arrivals). a.gates) arrive in
     let holder : c.holder_now-holder.result ≡ holder_in c.args.requests.now s =
     c.holder_now-holder.ensures ∙ ap (λ (g : GatesState). holder_with old.holder (asks s.first) (asks s.second) (some_wait g.gates)) gates in
-    let bus = same_bus old.first.now old.holder c.holder_now-holder.result (holder_in c.args.requests.now s) c.window_given.result c.want_with.result c.wants-first.result c.wants-second.result _ _ c.deliver-self.new.gates _ old.first.work.memory holder c.window_given.ensures c.want_with.ensures c.wants-first.ensures c.wants-second.ensures gates in
-    let clash = same_clash c.two_want-clash.result c.is_wanted.result c.is_wanted-2.result c.is_gates.result c.wants-first.result c.wants-second.result _ _ c.holder_now-holder.result (holder_in c.args.requests.now s)
+    let bus = same_bus old.first.now old.holder c.holder_now-holder.result (holder_in c.args.requests.now s)
+    c.window_given.result c.want_with.result c.wants-first.result c.wants-second.result _ _ c.deliver-self.new.gates _ old.first.work.memory
+    holder c.window_given.ensures c.want_with.ensures c.wants-first.ensures c.wants-second.ensures gates in
+    let clash = same_clash c.two_want-clash.result c.is_wanted.result c.is_wanted-2.result c.is_gates.result c.wants-first.result
+    c.wants-second.result _ _ c.holder_now-holder.result (holder_in c.args.requests.now s)
     c.two_want-clash.ensures c.is_wanted.ensures c.is_wanted-2.ensures c.is_gates.ensures c.wants-first.ensures c.wants-second.ensures holder in
     let first : length c.deliver-self.new.devices ≡ old.first.facts.devices.all.len =
     c.deliver-self.auto.devices ∙ ap length c.items_mut.ensures.value ∙ sym old.first.facts.devices.all.ok.0 in
     let again : length c.tell_waiting.new.devices ≡ served.facts.devices.all.len =
     c.tell_waiting.auto.devices ∙ ap length c.items_mut-2.ensures.value ∙ sym served.facts.devices.all.ok.0 in
-    let told = with_items_is served.facts.devices.all c.tell_waiting.new.devices again ∙ c.tell_waiting.ensures ∙ ap (λ (ds : List DeviceFacts). devices_reported c.bus_cycle-turn.new.self 0 (dropped_in ds)) c.items_mut-2.ensures.value in
+    let told = with_items_is served.facts.devices.all c.tell_waiting.new.devices again ∙ c.tell_waiting.ensures
+    ∙ ap (λ (ds : List DeviceFacts). devices_reported c.bus_cycle-turn.new.self 0 (dropped_in ds)) c.items_mut-2.ensures.value in
     let delivered : items_of served.facts.devices ≡ c.deliver-self.new.devices = c.log_turn.ensures.devices ∙ with_items_is old.first.facts.devices.all c.deliver-self.new.devices first in
     let log = c.log_turn.ensures.log in
     let target = bus_done (arrivals_at c.args.requests.now s.first) (bus_first (holder_in c.args.requests.now s) (bus_in c.args.requests.now s) s) s.first in

@@ -8,7 +8,8 @@ abbrev pub invariant-loop-pieces : goal.invariant-loop-pieces
 invariant-loop-pieces l =
     record {
       at : l.part ≡ l.first + l.pieces-index;
-      lowest : lower_part (slice_index l.starts) l.lowest (lowest_far (slice_index l.starts) l.part (listed (drop l.pieces-index l.all))) ≡ lower_part (slice_index l.starts) l.fn.found (lowest_far (slice_index l.starts) l.first (listed l.all));
+      lowest : lower_part (slice_index l.starts) l.lowest (lowest_far (slice_index l.starts) l.part (listed (drop l.pieces-index l.all)))
+          ≡ lower_part (slice_index l.starts) l.fn.found (lowest_far (slice_index l.starts) l.first (listed l.all));
       fit : AllByRecursion (PiecesFit (length l.starts) (slice_index l.starts)) (listed (drop l.pieces-index l.all));
       within : EndWithin (slice_index l.starts) l.part (listed (drop l.pieces-index l.all));
     }

@@ -9,7 +9,8 @@ abbrev pub invariant-loop-pieces : goal.invariant-loop-pieces
 invariant-loop-pieces l =
     record {
       at : l.part ≡ l.first + l.pieces-index;
-      words : map block_of l.blocks.items ++ words_from (slice_index l.starts) l.part (listed (drop l.pieces-index l.all)) ≡ map block_of l.initial.blocks.items ++ words_from (slice_index l.starts) l.first (listed l.all);
+      words : map block_of l.blocks.items ++ words_from (slice_index l.starts) l.part (listed (drop l.pieces-index l.all))
+          ≡ map block_of l.initial.blocks.items ++ words_from (slice_index l.starts) l.first (listed l.all);
       far : far_part (slice_index l.starts) l.part (listed (drop l.pieces-index l.all)) ≡ far_part (slice_index l.starts) l.first (listed l.all);
       fit : AllByRecursion (PiecesFit (length l.starts) (slice_index l.starts)) (listed (drop l.pieces-index l.all));
       within : EndWithin (slice_index l.starts) l.part (listed (drop l.pieces-index l.all));

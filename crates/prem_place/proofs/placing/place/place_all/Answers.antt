@@ -5,13 +5,15 @@ use Rattle.prem_place.proofs.placing.place.place_all.Goals as goal
 
 pub loop-task-init : goal.loop-task-init
 loop-task-init c =
-    let b = begins c.args.p.now c.args.l.now c.args.tasks.items (into_iter_items c.into_iter-task-iterator.result) c.new-all.result.items c.requires.plant c.requires.tasks c.requires.count c.requires.places
+    let b = begins c.args.p.now c.args.l.now c.args.tasks.items (into_iter_items c.into_iter-task-iterator.result)
+    c.new-all.result.items c.requires.plant c.requires.tasks c.requires.count c.requires.places
     c.into_iter-task-iterator.ensures.into_iter_gives.0 c.new-all.ensures.items in
     record { same = b.same; placed = b.placed; stands = b.stands; coded = b.coded; lies = b.lies; count = b.count }
 
 pub place_task-requires-clause-lies : goal.place_task-requires-clause-lies
 place_task-requires-clause-lies c =
-    next_lies c.args.p.now (drop c.loop-task.first c.args.l.now) (into_iter_items c.loop-task.task-iterator) (into_iter_items c.next.new.self) c.in-Some.task c.in-Some.ensures.steps.0 c.loop-task.invariant.lies
+    next_lies c.args.p.now (drop c.loop-task.first c.args.l.now) (into_iter_items c.loop-task.task-iterator) (into_iter_items c.next.new.self)
+    c.in-Some.task c.in-Some.ensures.steps.0 c.loop-task.invariant.lies
 
 pub loop-task-preserved : goal.loop-task-preserved
 loop-task-preserved c =

@@ -21,12 +21,18 @@ overflow_cast-job c =
 
 pub returns-clause-same : goal.returns-clause-same
 returns-clause-same c =
-    placed_is c.args.p.now c.args.task (drop c.args.first c.args.l.now) c.requires.plant c.requires.task c.requires.lies c.in_ok-places.places c.items.result.now c.in_ok-stubs.stubs c.in_ok-places.ensures c.items.ensures c.in_ok-stubs.ensures
+    placed_is c.args.p.now c.args.task (drop c.args.first c.args.l.now)
+    c.requires.plant c.requires.task c.requires.lies c.in_ok-places.places c.items.result.now c.in_ok-stubs.stubs c.in_ok-places.ensures
+    c.items.ensures c.in_ok-stubs.ensures
 
 pub returns-clause-placed : goal.returns-clause-placed
 returns-clause-placed c =
-    placed_task c.args.p.now c.args.task (drop c.args.first c.args.l.now) c.requires.plant c.requires.task c.requires.lies c.in_ok-places.places c.items.result.now c.in_ok-stubs.stubs c.in_ok-places.ensures c.items.ensures c.in_ok-stubs.ensures
+    placed_task c.args.p.now c.args.task (drop c.args.first c.args.l.now)
+    c.requires.plant c.requires.task c.requires.lies c.in_ok-places.places c.items.result.now c.in_ok-stubs.stubs c.in_ok-places.ensures
+    c.items.ensures c.in_ok-stubs.ensures
 
 pub returns-clause-stands : goal.returns-clause-stands
 returns-clause-stands c =
-    stands_is c.args.p.now c.args.task (drop c.args.first c.args.l.now) c.requires.plant c.requires.task c.requires.lies c.in_ok-places.places c.items.result.now c.in_ok-stubs.stubs c.in_ok-places.ensures c.items.ensures c.in_ok-stubs.ensures
+    stands_is c.args.p.now c.args.task (drop c.args.first c.args.l.now)
+    c.requires.plant c.requires.task c.requires.lies c.in_ok-places.places c.items.result.now c.in_ok-stubs.stubs c.in_ok-places.ensures
+    c.items.ensures c.in_ok-stubs.ensures

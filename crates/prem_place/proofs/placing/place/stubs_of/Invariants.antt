@@ -11,6 +11,7 @@ use Rattle.prem_place.proofs.placing.place.stubs_of.Given as goal
 abbrev pub invariant-loop-plan : goal.invariant-loop-plan
 invariant-loop-plan l =
     record {
-      rest : listed (items_of l.stubs) ++ map (stub_of (stub_passes l.p) l.p.line l.places) (map plan_of (drop l.plan-index l.plans)) ≡ map (stub_of (stub_passes l.p) l.p.line l.places) (map plan_of l.plans);
+      rest : listed (items_of l.stubs) ++ map (stub_of (stub_passes l.p) l.p.line l.places) (map plan_of (drop l.plan-index l.plans))
+          ≡ map (stub_of (stub_passes l.p) l.p.line l.places) (map plan_of l.plans);
       within : AllByRecursion (IsPlanAt l.places) (map plan_of (drop l.plan-index l.plans));
     }

@@ -8,10 +8,13 @@ use Rattle.prem_place.proofs.totals.logs.all_intervals.Goals as goal
 pub loop-task-preserved : goal.loop-task-preserved
 loop-task-preserved c =
     record {
-      rest = total_turn intervals_of c.args.tasks.now c.loop-task.task-index c.task-item.result c.loop-task.sum c.plus-sum.result c.plus-count.result c.times-in-loop-task.result _ c.loop-task-test.true c.task-item.is
-          (intervals_are (coded_of c.task-item.result).program c.in_ok-calls.calls c.times.result c.plus-count.result c.in_ok-calls.ensures c.times.ensures c.plus-count.ensures) c.times-in-loop-task.ensures c.plus-sum.ensures c.loop-task.invariant.rest;
+      rest = total_turn intervals_of c.args.tasks.now c.loop-task.task-index c.task-item.result c.loop-task.sum c.plus-sum.result c.plus-count.result
+          c.times-in-loop-task.result _ c.loop-task-test.true c.task-item.is
+          (intervals_are (coded_of c.task-item.result).program c.in_ok-calls.calls c.times.result c.plus-count.result c.in_ok-calls.ensures
+          c.times.ensures c.plus-count.ensures) c.times-in-loop-task.ensures c.plus-sum.ensures c.loop-task.invariant.rest;
       small = clipped_small c.plus-sum.result _ c.plus-sum.ensures;
     }
 
 pub returns : goal.returns
-returns c = total_end intervals_of c.args.tasks.now c.loop-task.task-index c.loop-task.sum (total_of intervals_of (map coded_of c.args.tasks.now)) c.loop-task-test.false c.loop-task.invariant.small c.loop-task.invariant.rest
+returns c = total_end intervals_of c.args.tasks.now c.loop-task.task-index c.loop-task.sum (total_of intervals_of (map coded_of c.args.tasks.now))
+    c.loop-task-test.false c.loop-task.invariant.small c.loop-task.invariant.rest

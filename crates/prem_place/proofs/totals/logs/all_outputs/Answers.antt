@@ -8,9 +8,11 @@ use Rattle.prem_place.proofs.totals.logs.all_outputs.Goals as goal
 pub loop-task-preserved : goal.loop-task-preserved
 loop-task-preserved c =
     record {
-      rest = total_turn outputs_of c.args.tasks.now c.loop-task.task-index c.task-item.result c.loop-task.sum c.plus-sum.result c.in_ok-count.count c.times.result _ c.loop-task-test.true c.task-item.is c.in_ok-count.ensures c.times.ensures c.plus-sum.ensures c.loop-task.invariant.rest;
+      rest = total_turn outputs_of c.args.tasks.now c.loop-task.task-index c.task-item.result c.loop-task.sum c.plus-sum.result c.in_ok-count.count
+          c.times.result _ c.loop-task-test.true c.task-item.is c.in_ok-count.ensures c.times.ensures c.plus-sum.ensures c.loop-task.invariant.rest;
       small = clipped_small c.plus-sum.result _ c.plus-sum.ensures;
     }
 
 pub returns : goal.returns
-returns c = total_end outputs_of c.args.tasks.now c.loop-task.task-index c.loop-task.sum (total_of outputs_of (map coded_of c.args.tasks.now)) c.loop-task-test.false c.loop-task.invariant.small c.loop-task.invariant.rest
+returns c = total_end outputs_of c.args.tasks.now c.loop-task.task-index c.loop-task.sum (total_of outputs_of (map coded_of c.args.tasks.now))
+    c.loop-task-test.false c.loop-task.invariant.small c.loop-task.invariant.rest

@@ -42,5 +42,8 @@ returns c =
     let found : c.first_large-first.result ≡ large_in p (placed_of t) =
     c.first_large-first.ensures ∙ ap (λ rs. first_large c.from.result c.is_err.result 0 c.deref.result.now (map is_marked_tree rs)) c.items-routines.ensures
     ∙ large_found p t c.from.result c.is_err.result c.deref.result.now c.from.ensures (c.deref.ensures.value ∙ c.in_ok-found.ensures.large) large in
-    let none : large_in p (placed_of t) ≡ None = sym found ∙ c.in_default.is in
-    (bounds_are p t c.args.task c.in_ok-found.found.facts.items c.in-Ok.job c.requires.task c.in_ok-found.ensures.facts (ok_bound c.job_bound-job.result c.in-Ok.job _ c.in-Ok.is c.job_bound-job.ensures.bound ∙ bound) none, none)
+    let none : large_in p (placed_of t) ≡ None = sym found ∙ c.in_default.is in (
+      bounds_are p t c.args.task c.in_ok-found.found.facts.items c.in-Ok.job c.requires.task c.in_ok-found.ensures.facts
+          (ok_bound c.job_bound-job.result c.in-Ok.job _ c.in-Ok.is c.job_bound-job.ensures.bound ∙ bound) none,
+      none,
+    )

@@ -17,7 +17,8 @@ first_clash-requires-clause-long c =
     let lt = c.loop-n-test.true in
     let long = longs_same (λ v. v.items) (lines_of p) c.args.lines.now c.args.tasks.now c.requires.lines in
     let line : c.deref.result.now ≡ lines_of p t =
-    c.deref.ensures.value ∙ both_at (λ v. v.items) (lines_of p) c.args.lines.now c.args.tasks.now c.loop-n.n c.index-lines-n.result t c.requires.lines (omega (arith, lt, long)) lt c.index-lines-n.is c.index-tasks-n.is in
+    c.deref.ensures.value ∙ both_at (λ v. v.items) (lines_of p) c.args.lines.now c.args.tasks.now c.loop-n.n c.index-lines-n.result t c.requires.lines
+    (omega (arith, lt, long)) lt c.index-lines-n.is c.index-tasks-n.is in
     let plans : c.items.result.now ≡ items_of t.plans = c.items.ensures ∙ ap (λ q. items_of q.plans) (sym c.index-tasks-n.is) in
     ap length line ∙ lines_long p t c.items.result.now plans
 
@@ -28,10 +29,13 @@ returns-in-Some-clause-first c =
     let lt = c.loop-n-test.true in
     let long = longs_same (λ v. v.items) (lines_of p) c.args.lines.now c.args.tasks.now c.requires.lines in
     let line : c.deref.result.now ≡ lines_of p t =
-    c.deref.ensures.value ∙ both_at (λ v. v.items) (lines_of p) c.args.lines.now c.args.tasks.now c.loop-n.n c.index-lines-n.result t c.requires.lines (omega (arith, lt, long)) lt c.index-lines-n.is c.index-tasks-n.is in
+    c.deref.ensures.value ∙ both_at (λ v. v.items) (lines_of p) c.args.lines.now c.args.tasks.now c.loop-n.n c.index-lines-n.result t c.requires.lines
+    (omega (arith, lt, long)) lt c.index-lines-n.is c.index-tasks-n.is in
     let plans : c.items.result.now ≡ items_of t.plans = c.items.ensures ∙ ap (λ q. items_of q.plans) (sym c.index-tasks-n.is) in
     blame_is (conflict_rules p) c.args.tasks.now c.loop-n.n t (Conflict c.in-Some.clash) (over_tasks (conflict_rules p) (map placed_of c.args.tasks.now)) lt c.index-tasks-n.is
-    (seven_breaks p t c.deref.result.now c.in-Some.clash line (clash_at p t c.items.result.now c.deref.result.now (clash_of (Some c.in-Some.clash)) plans c.in-Some.ensures.clash) c.in-Some.ensures.ways) c.loop-n.invariant
+    (seven_breaks p t c.deref.result.now c.in-Some.clash line
+    (clash_at p t c.items.result.now c.deref.result.now (clash_of (Some c.in-Some.clash)) plans c.in-Some.ensures.clash) c.in-Some.ensures.ways)
+    c.loop-n.invariant
 
 pub returns-in-Some-clause-there : goal.returns-in-Some-clause-there
 returns-in-Some-clause-there c =
@@ -50,7 +54,8 @@ loop-n-preserved c =
     let lt = c.loop-n-test.true in
     let long = longs_same (λ v. v.items) (lines_of p) c.args.lines.now c.args.tasks.now c.requires.lines in
     let line : c.deref.result.now ≡ lines_of p t =
-    c.deref.ensures.value ∙ both_at (λ v. v.items) (lines_of p) c.args.lines.now c.args.tasks.now c.loop-n.n c.index-lines-n.result t c.requires.lines (omega (arith, lt, long)) lt c.index-lines-n.is c.index-tasks-n.is in
+    c.deref.ensures.value ∙ both_at (λ v. v.items) (lines_of p) c.args.lines.now c.args.tasks.now c.loop-n.n c.index-lines-n.result t c.requires.lines
+    (omega (arith, lt, long)) lt c.index-lines-n.is c.index-tasks-n.is in
     let plans : c.items.result.now ≡ items_of t.plans = c.items.ensures ∙ ap (λ q. items_of q.plans) (sym c.index-tasks-n.is) in
     passes_at (conflict_rules p) c.args.tasks.now c.loop-n.n t (over_tasks (conflict_rules p) (map placed_of c.args.tasks.now)) lt c.index-tasks-n.is
     (seven_keeps p t c.deref.result.now line (clash_at p t c.items.result.now c.deref.result.now None plans c.in_default.ensures.clash)) c.loop-n.invariant

@@ -9,14 +9,19 @@ bounds-bounds-n c = omega (arith, c.loop-n-test.true, told_long c.args.p.now c.a
 
 pub returns-in-Some-clause-first : goal.returns-in-Some-clause-first
 returns-in-Some-clause-first c =
-    short_first c.args.p.now c.args.tasks.now c.args.bounds.now c.loop-n.n c.index-bounds-n.result c.deref.result.now c.in-Some.fact (over_tasks (length_rules c.args.p.now) (map placed_of c.args.tasks.now)) c.loop-n-test.true c.requires.bounds c.index-bounds-n.is (c.deref.ensures.value ∙ ap (λ b. b.facts.items) (sym c.index-bounds-n.is))
+    short_first c.args.p.now c.args.tasks.now c.args.bounds.now c.loop-n.n c.index-bounds-n.result c.deref.result.now c.in-Some.fact
+    (over_tasks (length_rules c.args.p.now) (map placed_of c.args.tasks.now)) c.loop-n-test.true c.requires.bounds c.index-bounds-n.is
+    (c.deref.ensures.value ∙ ap (λ b. b.facts.items) (sym c.index-bounds-n.is))
     c.in-Some.ensures c.loop-n.invariant
 
 pub returns-in-Some-clause-there : goal.returns-in-Some-clause-there
 returns-in-Some-clause-there c =
-    short_there c.args.p.now c.args.tasks.now c.args.bounds.now c.loop-n.n c.index-bounds-n.result c.deref.result.now c.in-Some.fact c.requires.tasks c.loop-n-test.true c.requires.bounds c.index-bounds-n.is (c.deref.ensures.value ∙ ap (λ b. b.facts.items) (sym c.index-bounds-n.is)) c.in-Some.ensures
+    short_there c.args.p.now c.args.tasks.now c.args.bounds.now c.loop-n.n c.index-bounds-n.result c.deref.result.now c.in-Some.fact c.requires.tasks
+    c.loop-n-test.true c.requires.bounds c.index-bounds-n.is (c.deref.ensures.value ∙ ap (λ b. b.facts.items) (sym c.index-bounds-n.is)) c.in-Some.ensures
 
 pub loop-n-preserved : goal.loop-n-preserved
 loop-n-preserved c =
-    short_passes c.args.p.now c.args.tasks.now c.args.bounds.now c.loop-n.n c.index-bounds-n.result c.deref.result.now (over_tasks (length_rules c.args.p.now) (map placed_of c.args.tasks.now)) c.loop-n-test.true c.requires.bounds c.index-bounds-n.is (c.deref.ensures.value ∙ ap (λ b. b.facts.items) (sym c.index-bounds-n.is)) c.in_default.ensures
+    short_passes c.args.p.now c.args.tasks.now c.args.bounds.now c.loop-n.n c.index-bounds-n.result c.deref.result.now
+    (over_tasks (length_rules c.args.p.now) (map placed_of c.args.tasks.now)) c.loop-n-test.true c.requires.bounds c.index-bounds-n.is
+    (c.deref.ensures.value ∙ ap (λ b. b.facts.items) (sym c.index-bounds-n.is)) c.in_default.ensures
     c.loop-n.invariant

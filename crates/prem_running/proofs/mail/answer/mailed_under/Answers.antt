@@ -14,5 +14,7 @@ run_to-stop-requires-clause-now g c =
 pub returns : goal.returns
 returns g c =
     let made = c.in_ok-mail.ensures in
-    let fed = is_mailed c.args.image.now c.args.input.now c.args.feeds.now c.args.limit c.in_ok-mail.mail (mailed_in c.run_to-stop.new.self) c.requires.fits c.run_to-stop.ensures.mailed made.setup made.requests made.feeds made.first in
-    mailed_is c.args.image.now c.args.input.now c.args.feeds.now c.args.limit (mailed_in c.run_to-stop.new.self) c.run_to-stop.result c.in_ok-text.text.items fed c.run_to-stop.ensures.stop c.in_ok-text.ensures
+    let fed = is_mailed c.args.image.now c.args.input.now c.args.feeds.now c.args.limit c.in_ok-mail.mail (mailed_in c.run_to-stop.new.self)
+    c.requires.fits c.run_to-stop.ensures.mailed made.setup made.requests made.feeds made.first in
+    mailed_is c.args.image.now c.args.input.now c.args.feeds.now c.args.limit (mailed_in c.run_to-stop.new.self)
+    c.run_to-stop.result c.in_ok-text.text.items fed c.run_to-stop.ensures.stop c.in_ok-text.ensures

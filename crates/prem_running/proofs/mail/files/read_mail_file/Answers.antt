@@ -26,7 +26,8 @@ returns-in-Ok-read_mail-clause-feeds g c =
     let set = set_of c.args.set.now in
     let bytes = c.in-Ok.bytes.items in
     let feeds = c.in-Ok-read_mail.feeds in
-    let read = ap (λ (known : KnownNames). feeds_of bytes known) (sym c.in_ok-names.ensures) ∙ ap (λ bs. feeds_of bs c.in_ok-names.names) (sym c.deref.ensures.value) ∙ c.in-Ok-read_mail.ensures.exact in
+    let read = ap (λ (known : KnownNames). feeds_of bytes known) (sym c.in_ok-names.ensures)
+    ∙ ap (λ bs. feeds_of bs c.in_ok-names.names) (sym c.deref.ensures.value) ∙ c.in-Ok-read_mail.ensures.exact in
     made_ok _ mail_limit name (feeds_of_bytes set name) bytes _ c.in-Ok.ensures.read (mail_formed name (feeds_of bytes (names_of set)) feeds.items read)
 
 pub returns-in-Err-Line-clause-feeds : goal.returns-in-Err-Line-clause-feeds

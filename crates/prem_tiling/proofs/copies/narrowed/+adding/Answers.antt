@@ -11,7 +11,8 @@ use Rattle.prem_tiling.proofs.copies.narrowed.+adding.Goals as goal
 
 pub added_in-returns-in-Block : goal.added_in-returns-in-Block
 added_in-returns-in-Block t c =
-    c.added_within.ensures ∙ ap (added_in (name_bytes c.args.i.now) (name_bytes c.args.g.now)) (sym (block_is c.args.stmt.now c.in-Block.at c.in-Block.body c.items.result.now c.in-Block.is c.items.ensures))
+    c.added_within.ensures ∙ ap (added_in (name_bytes c.args.i.now) (name_bytes c.args.g.now))
+    (sym (block_is c.args.stmt.now c.in-Block.at c.in-Block.body c.items.result.now c.in-Block.is c.items.ensures))
 
 pub added_within-stmts-preserved : goal.added_within-stmts-preserved
 added_within-stmts-preserved t c =

@@ -22,6 +22,7 @@ tiles-preserved c =
     let few : length (name_bytes c.in-Some.name) ≤ 64 = subst (λ (k : ℕ). k ≤ 64) c.in-Some.name.text.ok.0 c.in-Some.name.within in
     let short : nat_lt 64 (length (tile_name n t)) ≡ false = le-ltb 64 (length (tile_name n t)) (subst (λ (x : Text). length x ≤ 64) text_is few) in (
       ap (λ (xs : List Name). map name_bytes xs ++ rest) c.in_ok-push-in-Some.ensures.ok ∙ map_push name_bytes (items_of c.tiles.names) c.in-Some.name rest
-          ∙ ap (λ (x : Text). map name_bytes (items_of c.tiles.names) ++ x ∷ rest) text_is ∙ ap (λ (m : ℕ). map name_bytes (items_of c.tiles.names) ++ tile_names n t m) (sym more) ∙ c.tiles.invariant.0,
+          ∙ ap (λ (x : Text). map name_bytes (items_of c.tiles.names) ++ x ∷ rest) text_is
+          ∙ ap (λ (m : ℕ). map name_bytes (items_of c.tiles.names) ++ tile_names n t m) (sym more) ∙ c.tiles.invariant.0,
       c.tiles.invariant.1 ∙ ap (λ (m : ℕ). list_any (λ (x : Text). nat_lt 64 (length x)) (tile_names n t m)) more ∙ ap (λ b. b || list_any (λ (x : Text). nat_lt 64 (length x)) rest) short,
     )

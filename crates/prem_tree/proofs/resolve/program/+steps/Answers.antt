@@ -14,7 +14,8 @@ resolve_stmt-returns-in_ok-resolve_stmts-in-Block t c =
     let items = c.items.result.now in
     let is : statement_of c.args.stmt.now ≡ block c.in-Block.at (statements_of items) =
     ap statement_of c.in-Block.is ∙ statement_of-Block c.in-Block.at c.in-Block.body ∙ ap (λ xs. block c.in-Block.at (statements_of xs)) (sym c.items.ensures) in
-    rw is (IsStep_block c.in_ok-resolve_stmts-in-Block.field-0 (λ turns n. resolve_statements scope turns n (statements_of items)) (loops_within (statements_of items)) c.in_ok-resolve_stmts-in-Block.ensures)
+    rw is (IsStep_block c.in_ok-resolve_stmts-in-Block.field-0 (λ turns n. resolve_statements scope turns n (statements_of items))
+    (loops_within (statements_of items)) c.in_ok-resolve_stmts-in-Block.ensures)
 
 pub resolve_stmts-loop-stmt-preserved : goal.resolve_stmts-loop-stmt-preserved
 resolve_stmts-loop-stmt-preserved t c =

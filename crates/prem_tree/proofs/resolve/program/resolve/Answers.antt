@@ -25,7 +25,8 @@ returns c =
     let b : AreBehind (scope_of c.loop-item.names) (items_of c.loop-item.routines) (functions_of p) p = rw all at c.loop-item.invariant in
     let number : c.number_of_function.result ≡ number_named (functions_of p) (codes "job") = c.number_of_function.ensures ∙ ap (λ fs. number_named fs (codes "job")) b.functions_are in
     let count : c.len-count.result ≡ length (functions_of p) =
-    c.len-count.ensures ∙ functions.ok.0 ∙ sym (length-map functions.items (λ f. function_of f.now)) ∙ ap length (c.in_ok-functions.ensures ∙ ap (λ xs. functions_of (map item_of xs)) c.items.ensures) in
+    c.len-count.ensures ∙ functions.ok.0 ∙ sym (length-map functions.items (λ f. function_of f.now))
+    ∙ ap length (c.in_ok-functions.ensures ∙ ap (λ xs. functions_of (map item_of xs)) c.items.ensures) in
     let job : c.unwrap_or-job.result ≡ unwrap_or (number_named (functions_of p) (codes "job")) (length (functions_of p)) = c.unwrap_or-job.ensures ∙ (λ i. unwrap_or (number i) (count i)) in
     let globals = c.into_globals.ensures ∙ b.globals_are in
     record { same = λ turns i. record { globals = globals i; routines = b.routines_are.same turns 0 i; job = job i } }

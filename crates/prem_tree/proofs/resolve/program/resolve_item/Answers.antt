@@ -10,7 +10,9 @@ returns-in_ok-add_global-in-Global c = λ fs items h.
     let old = scope_of c.args.names.now in
     let new = scope_of c.add_global.new.self in
     let added : new ≡ with_global old (global_of c.in-Global.g) = c.in_ok-add_global-in-Global.ensures in
-    rw (ap item_of c.in-Global.is) (AreBehind_global old new (items_of c.args.routines.now) (items_of c.args.routines.now) fs items (global_of c.in-Global.g) (ap (λ s. s.functions) added) (ap (λ s. s.globals) added) refl h)
+    rw (ap item_of c.in-Global.is)
+    (AreBehind_global old new (items_of c.args.routines.now) (items_of c.args.routines.now) fs items (global_of c.in-Global.g)
+    (ap (λ s. s.functions) added) (ap (λ s. s.globals) added) refl h)
 
 pub returns-in_ok-push-in-Function : goal.returns-in_ok-push-in-Function
 returns-in_ok-push-in-Function c = λ fs items h.

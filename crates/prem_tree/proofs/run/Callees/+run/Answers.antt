@@ -9,7 +9,8 @@ use Rattle.prem_tree.specs.Resolve.ResolvedOf.{term_of}
 use Rattle.prem_tree.specs.State.Interpreter.{state_of}
 use Rattle.prem_tree.specs.StepMeaning.{do_step, do_list, do_counting, do_if_there, noted_calls}
 use Rattle.prem_tree.proofs.StateLemmas.Cells.{slice_get-at, slice_get_past}
-use Rattle.prem_tree.proofs.LoopLaws.{wrong_at, bounded-none, bounded-more, counting-wrong, counting-done, counting-past, counting-turn, noted_calls-none, noted_calls-below, do_step-Block, do_list_more}
+use Rattle.prem_tree.proofs.LoopLaws.{wrong_at, bounded-none, bounded-more, counting-wrong, counting-done, counting-past, counting-turn, noted_calls-none, noted_calls-below}
+use Rattle.prem_tree.proofs.LoopLaws.{do_step-Block, do_list_more}
 use Rattle.prem_tree.proofs.Weights.{weight, list_weight, weight-Block, weight-at, body_weight-at, left_of-call}
 use Rattle.prem_tree.proofs.run.Callees.+run.Goals as goal
 
@@ -65,7 +66,8 @@ run_call-returns-in_err-declare t c = λ ls.
     let rs = c.args.self.now.routines.now in
     let s = state_of c.args.interpreter.now ls in
     rw (noted_calls-below rs c.args.self.now.below c.args.callee c.args.arguments.items s (omega arith)
-    ∙ ap (λ o. do_if_there (noted_calls rs c.args.callee) o c.args.callee c.args.arguments.items s) (slice_get-at rs c.args.callee c.in-Some.routine.now c.in-Some.ensures.lookup.3.0 c.in-Some.ensures.lookup.1))
+    ∙ ap (λ o. do_if_there (noted_calls rs c.args.callee) o c.args.callee c.args.arguments.items s)
+    (slice_get-at rs c.args.callee c.in-Some.routine.now c.in-Some.ensures.lookup.3.0 c.in-Some.ensures.lookup.1))
     (search rules)
 
 pub run_call-run_step-requires : goal.run_call-run_step-requires
@@ -79,7 +81,8 @@ run_call-returns-in_err-run_step t c = λ ls.
     let rs = c.args.self.now.routines.now in
     let s = state_of c.args.interpreter.now ls in
     rw (noted_calls-below rs c.args.self.now.below c.args.callee c.args.arguments.items s (omega arith)
-    ∙ ap (λ o. do_if_there (noted_calls rs c.args.callee) o c.args.callee c.args.arguments.items s) (slice_get-at rs c.args.callee c.in-Some.routine.now c.in-Some.ensures.lookup.3.0 c.in-Some.ensures.lookup.1))
+    ∙ ap (λ o. do_if_there (noted_calls rs c.args.callee) o c.args.callee c.args.arguments.items s)
+    (slice_get-at rs c.args.callee c.in-Some.routine.now c.in-Some.ensures.lookup.3.0 c.in-Some.ensures.lookup.1))
     (search rules)
 
 pub run_call-returns-in_err-w : goal.run_call-returns-in_err-w
@@ -87,7 +90,8 @@ run_call-returns-in_err-w t c = λ ls.
     let rs = c.args.self.now.routines.now in
     let s = state_of c.args.interpreter.now ls in
     rw (noted_calls-below rs c.args.self.now.below c.args.callee c.args.arguments.items s (omega arith)
-    ∙ ap (λ o. do_if_there (noted_calls rs c.args.callee) o c.args.callee c.args.arguments.items s) (slice_get-at rs c.args.callee c.in-Some.routine.now c.in-Some.ensures.lookup.3.0 c.in-Some.ensures.lookup.1))
+    ∙ ap (λ o. do_if_there (noted_calls rs c.args.callee) o c.args.callee c.args.arguments.items s)
+    (slice_get-at rs c.args.callee c.in-Some.routine.now c.in-Some.ensures.lookup.3.0 c.in-Some.ensures.lookup.1))
     (search rules)
 
 pub run_call-returns : goal.run_call-returns
@@ -96,7 +100,8 @@ run_call-returns t c = λ ls.
     let s = state_of c.args.interpreter.now ls in
     let at_end = c.in_ok-note.ensures ls in
     rw (noted_calls-below rs c.args.self.now.below c.args.callee c.args.arguments.items s (omega arith)
-    ∙ ap (λ o. do_if_there (noted_calls rs c.args.callee) o c.args.callee c.args.arguments.items s) (slice_get-at rs c.args.callee c.in-Some.routine.now c.in-Some.ensures.lookup.3.0 c.in-Some.ensures.lookup.1))
+    ∙ ap (λ o. do_if_there (noted_calls rs c.args.callee) o c.args.callee c.args.arguments.items s)
+    (slice_get-at rs c.args.callee c.in-Some.routine.now c.in-Some.ensures.lookup.3.0 c.in-Some.ensures.lookup.1))
     (first_of (search rules, grind (arith, common_steps)))
 
 pub run_counting-returns-in_err-holds : goal.run_counting-returns-in_err-holds
@@ -192,4 +197,5 @@ run_steps-loop-step-preserved t c =
     let calls = noted_calls c.args.self.now.routines.now c.args.self.now.below in
     let s = state_of c.loop-step.interpreter c.loop-step.locals.items in
     let rest = do_list calls (drop (c.loop-step.step-index + 1) c.args.steps.now) in
-    sym (ap (λ o. and_then o rest) c.in_ok-run_step.ensures) ∙ sym (do_list_more calls c.args.steps.now c.loop-step.step-index c.step-item.result s (omega arith) c.step-item.is) ∙ c.loop-step.invariant
+    sym (ap (λ o. and_then o rest) c.in_ok-run_step.ensures)
+    ∙ sym (do_list_more calls c.args.steps.now c.loop-step.step-index c.step-item.result s (omega arith) c.step-item.is) ∙ c.loop-step.invariant

@@ -32,8 +32,10 @@ invariant-run_steps-loop-step l =
 
 abbrev pub invariant-run_counting-turns : goal.invariant-run_counting-turns
 invariant-run_counting-turns l =
-    do_counting l.left l.counter.line l.counter.number l.counter.closed (term_of l.counter.high.now) l.counter.step (do_step (noted_calls l.self.routines.now l.self.below) l.body) (state_of l.interpreter l.locals.items)
-    ≡ do_counting l.turns l.counter.line l.counter.number l.counter.closed (term_of l.counter.high.now) l.counter.step (do_step (noted_calls l.self.routines.now l.self.below) l.body) (state_of l.fn.interpreter l.fn.locals.items)
+    do_counting l.left l.counter.line l.counter.number l.counter.closed (term_of l.counter.high.now) l.counter.step
+    (do_step (noted_calls l.self.routines.now l.self.below) l.body) (state_of l.interpreter l.locals.items)
+    ≡ do_counting l.turns l.counter.line l.counter.number l.counter.closed (term_of l.counter.high.now) l.counter.step
+    (do_step (noted_calls l.self.routines.now l.self.below) l.body) (state_of l.fn.interpreter l.fn.locals.items)
 
 abbrev pub decreases-run_counting-turns : goal.decreases-run_counting-turns
 decreases-run_counting-turns l = l.left

@@ -46,7 +46,8 @@ returns-in-Bracket c =
     let rest = c.pop.new.self.items in
     let level = c.args.level in
     bind_stops level (expression_of c.loop-inner.value) c.loop-inner.self.all.items rest c.push_reserved-in-Bracket.new.self.items code.Bracket
-    (bind level (expression_of c.args.value) (open_of c.args.self.now)) (c.in-Some.ensures.items ∙ ap (λ o. rest ++ o ∷ []) c.in-Bracket.is) c.push_reserved-in-Bracket.ensures.items c.loop-inner.invariant.whole refl
+    (bind level (expression_of c.args.value) (open_of c.args.self.now)) (c.in-Some.ensures.items ∙ ap (λ o. rest ++ o ∷ []) c.in-Bracket.is)
+    c.push_reserved-in-Bracket.ensures.items c.loop-inner.invariant.whole refl
 
 pub returns-in-IndexOf : goal.returns-in-IndexOf
 returns-in-IndexOf c =
@@ -54,4 +55,5 @@ returns-in-IndexOf c =
     let rest = c.pop.new.self.items in
     let level = c.args.level in
     bind_stops level (expression_of c.loop-inner.value) c.loop-inner.self.all.items rest c.push_reserved-in-IndexOf.new.self.items (code.IndexOf p.at p.name)
-    (bind level (expression_of c.args.value) (open_of c.args.self.now)) (c.in-Some.ensures.items ∙ ap (λ o. rest ++ o ∷ []) p.is) c.push_reserved-in-IndexOf.ensures.items c.loop-inner.invariant.whole refl
+    (bind level (expression_of c.args.value) (open_of c.args.self.now)) (c.in-Some.ensures.items ∙ ap (λ o. rest ++ o ∷ []) p.is)
+    c.push_reserved-in-IndexOf.ensures.items c.loop-inner.invariant.whole refl

@@ -16,10 +16,14 @@ mailed_under-requires-in-Fifo-clause-feeds c = feeds_fit (set_of c.args.set.now)
 
 pub returns-in-Lru : goal.returns-in-Lru
 returns-in-Lru c =
-    subst (λ (n : ℕ). IfOk c.mailed_under.result (λ a. reply_of a ≡ mailed_reply (image_text c.args.compiled.now.image) (input_of c.args.input.now) c.args.self.now.feeds.now n)) c.run_limit-limit.ensures.limit
+    subst (λ (n : ℕ). IfOk c.mailed_under.result
+    (λ a. reply_of a ≡ mailed_reply (image_text c.args.compiled.now.image) (input_of c.args.input.now) c.args.self.now.feeds.now n))
+    c.run_limit-limit.ensures.limit
     c.mailed_under.ensures
 
 pub returns-in-Fifo : goal.returns-in-Fifo
 returns-in-Fifo c =
-    subst (λ (n : ℕ). IfOk c.mailed_under-in-Fifo.result (λ a. reply_of a ≡ mailed_reply (image_text c.args.compiled.now.image) (input_of c.args.input.now) c.args.self.now.feeds.now n)) c.run_limit-limit.ensures.limit
+    subst (λ (n : ℕ). IfOk c.mailed_under-in-Fifo.result
+    (λ a. reply_of a ≡ mailed_reply (image_text c.args.compiled.now.image) (input_of c.args.input.now) c.args.self.now.feeds.now n))
+    c.run_limit-limit.ensures.limit
     c.mailed_under-in-Fifo.ensures

@@ -16,4 +16,5 @@ returns c = λ ls.
     let there = slice_get-at words.items c.args.j c.in-Some-get_mut.word.now j_inside c.in-Some-get_mut.ensures.value in
     store_at c.args.line c.args.g c.args.j c.args.w c.in-Some-get_mut.word.now c.args.ty (state_of c.args.self.now ls) words.items
     (map (λ ws. ws.items) (slice_set globals.items c.args.g (with_item words c.args.j c.stored.result))) here there
-    (map-set (λ ws. ws.items) globals.items c.args.g (with_item words c.args.j c.stored.result) ∙ ap (λ w. slice_set (map (λ ws. ws.items) globals.items) c.args.g (slice_set words.items c.args.j w)) c.stored.ensures)
+    (map-set (λ ws. ws.items) globals.items c.args.g (with_item words c.args.j c.stored.result)
+    ∙ ap (λ w. slice_set (map (λ ws. ws.items) globals.items) c.args.g (slice_set words.items c.args.j w)) c.stored.ensures)

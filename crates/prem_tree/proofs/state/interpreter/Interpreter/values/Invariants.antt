@@ -8,4 +8,5 @@ use Rattle.prem_tree.proofs.state.interpreter.Interpreter.values.Given as goal
 
 abbrev pub invariant-loop-term : goal.invariant-loop-term
 invariant-loop-term l =
-    values everywhere (state_of l.self l.locals) (map term_of l.terms) ≡ and_then (values everywhere (state_of l.self l.locals) (map term_of (drop l.term-index l.terms))) (λ ws. Ok (l.words.items ++ ws))
+    values everywhere (state_of l.self l.locals) (map term_of l.terms)
+    ≡ and_then (values everywhere (state_of l.self l.locals) (map term_of (drop l.term-index l.terms))) (λ ws. Ok (l.words.items ++ ws))
