@@ -5,6 +5,8 @@
                               files cite and the line lacks; with --fix the lines are mended
     crates.py twice [LEAST]   definitions and lemmas that stand twice, alike but for their names, of LEAST characters (120) and more: the
                               lower crate first, and whether the other one can cite it
+    crates.py modules [--fix] which lines of docs/ARCHITECTURE.md on crates and modules aren't the first paragraph of their sources, and the
+                              crates that have no line; with --fix the lines are written anew
     crates.py programs        what a program of the list tools/programs lacks: its crates, its script, its stored run, its place in the
                               documents, or one of its commands in completions and manual; and scripts that the list lacks
 """
@@ -12,6 +14,7 @@ import collections
 import os
 import re
 import sys
+import textwrap
 
 TOP = os.path.dirname(os.path.dirname(os.path.abspath(__file__)))
 KIT = {"byteorder", "clap", "indexmap", "thiserror", "toml"}
@@ -127,12 +130,64 @@ def programs():
             print(f"{name}: isn't in tools/programs")
 
 
+ITEM = re.compile(r"^( *)- `(\w+)`: ")
+
+
+def first_paragraph(path):
+    """The first paragraph of a source's doc comment as the words behind a name, or none where it has no such comment."""
+    told = re.match(r"//! ([^\n]*(?:\n//! [^\n]*)*)", read(path) or "")
+    if told:
+        text = " ".join(told.group(1).replace("\n//! ", " ").split())
+        is_name = re.match(r"[A-Z]\w*[A-Z0-9]", text)
+        return text if is_name else text[:1].lower() + text[1:]
+    return None
+
+
+def source_of(names):
+    """The first source of a crate, or of a module inside it."""
+    crate, *modules = names
+    if modules:
+        return f"crates/{crate}/src/{'/'.join(modules)}.rt"
+    return next((it for it in (f"crates/{crate}/src/lib.rt", f"crates/{crate}/src/main.rt") if read(it)), "")
+
+
+def wrapped(head, text, most=120):
+    """A line of a list, broken at blanks, as it stands in documents."""
+    lines = textwrap.wrap(head + text, most, subsequent_indent=" " * (len(head) - len(head.lstrip()) + 2), break_on_hyphens=False)
+    return "\n".join(lines)
+
+
+def modules(is_fixed):
+    path = "docs/ARCHITECTURE.md"
+    before, heading, rest = read(path).partition("## Crates and their modules\n")
+    listed, bar, behind = rest.partition("\n## ")
+    names, written = [], []
+    for item in re.split(r"\n(?= *- `|\n|#)", listed):
+        head = ITEM.match(item)
+        if head:
+            names = [*names[: len(head.group(1)) // 2], head.group(2)]
+            told, stands = first_paragraph(source_of(names)), " ".join(item[head.end() :].split())
+            told = told and told.removeprefix(f"{names[-1]}: ")
+            if told and told != stands:
+                print(f"{'::'.join(names)}: {told}")
+                item = wrapped(head.group(0), told)
+        written.append(item)
+    for crate in lines_of_crates()[1]:
+        if f"\n- `{crate}`: " not in listed:
+            print(f"{crate}: has no line")
+    if is_fixed:
+        with open(f"{TOP}/{path}", "w", encoding="utf-8") as it:
+            it.write(before + heading + "\n".join(written) + bar + behind)
+
+
 if __name__ == "__main__":
     words = sys.argv[1:]
     if words[:1] == ["cited"]:
         cited("--fix" in words)
     elif words[:1] == ["twice"]:
         twice(int(words[1]) if len(words) > 1 else 120)
+    elif words[:1] == ["modules"]:
+        modules("--fix" in words)
     elif words[:1] == ["programs"]:
         programs()
     else:
