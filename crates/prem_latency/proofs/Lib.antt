@@ -11,6 +11,7 @@ mod Rows
 mod Begins
 mod Steps
 mod Scheduled
+pub mod GoesOn
 mod Traces
 mod Counts
 mod Blames
@@ -31,4 +32,4 @@ mod JoinedTasks
 mod WeaveOpens
 pub mod SetDevices
 pub mod SetWaits
-mod SetSample
+pub mod SetSample

@@ -506,7 +506,7 @@ module _ (p : Setup) (periods : All (λ (r : TaskRecord). 1 ≤ r.period) p.task
     start_count [] = refl
     start_count (r ∷ rs) = ap suc (start_count rs)
 
-    first_holds : Holds (run 0)
+    pub first_holds : Holds (run 0)
     unfolding cycles_of
     first_holds = record {
       tasks = record {
@@ -525,7 +525,7 @@ module _ (p : Setup) (periods : All (λ (r : TaskRecord). 1 ≤ r.period) p.task
       by true b = refl
       by false b = ap (λ t. t || b) e
 
-    next_settles : (n : ℕ) → (on : is_over (run n) ≡ false) → (h : Holds (run n)) → Next rule requests (run n) on h (run (suc n))
+    pub next_settles : (n : ℕ) → (on : is_over (run n) ≡ false) → (h : Holds (run n)) → Next rule requests (run n) on h (run (suc n))
     next_settles n on h = subst (Next rule requests (run n) on h) (sym (goes_is rule p content inputs requests n on)) (cycle_settles rule requests (run n) on h)
 
     pub run_holds : (n : ℕ) → is_over (run n) ≡ false → Holds (run n)
@@ -550,6 +550,10 @@ module _ (p : Setup) (periods : All (λ (r : TaskRecord). 1 ≤ r.period) p.task
         (let x : true ≡ false = sym (trapped_over (run (suc n)) t.0) ∙ on in cc))
         (λ (s : Settled (serves_of (run n)) (run n).sched (run (suc n))). s.rest)
         (next_settles n before (run_holds n before))
+
+    pub first_ended : (k : ℕ) → (task_at (run 0).sched k).ended ≡ 0
+    unfolding cycles_of
+    first_ended k = ap (λ (t : TaskJobs). t.ended) (start_at p.tasks k)
 
     -- no idle time is chosen at the start
     pub first_rests : (until : ℕ) → choice (run 0).now (run 0).sched ≡ Rest until → ⊥

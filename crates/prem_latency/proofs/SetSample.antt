@@ -37,7 +37,7 @@ use Rattle.prem_latency.specs.Sets.{distance_at, askings_of, AreDistances, Keeps
 use Rattle.prem_latency.proofs.SetDevices.{device_is}
 use Rattle.prem_latency.proofs.SetWaits.{records_all, sets_serve_devices}
 
-abbrev setup : Setup
+abbrev pub setup : Setup
 setup = image_setup (compiled_at sample (places_in sample)).image
 
 abbrev placed : List Placed
@@ -52,7 +52,7 @@ loads = record { period = 20000; cost = 2370; longest = 2020 } ∷ record { peri
 abbrev tasks : List Closing
 tasks = record { period = 20000; length = 2485; closed = 963 } ∷ record { period = 50000; length = 2485; closed = 175 } ∷ []
 
-two_tasks : length setup.tasks ≡ 2
+pub two_tasks : length setup.tasks ≡ 2
 two_tasks = length-map placed task_record ∙ sym (length-map placed (task_wcet default_plant)) ∙ ap length sample_wcets
 
 -- ---- what is told of them
@@ -111,7 +111,7 @@ sample_serves inputs requests are keeps =
     (s.0, s.1 (leb-true _ 8 refl))
 
 -- such requests
-abbrev asked : List Request
+abbrev pub asked : List Request
 asked = put 0 0 0 5 ∷ put 5000 0 1 6 ∷ []
 
 one_device : length setup.devices ≡ 1
@@ -135,7 +135,7 @@ in_order (suc zero) (suc zero) d le below = omega arith
 in_order (suc (suc i)) (suc zero) d le below = absurd (omega (arith, le))
 in_order (suc i) (suc (suc j)) d le below = absurd (omega (arith, below))
 
-sample_asks : KeepDistances setup distances asked
+pub sample_asks : KeepDistances setup distances asked
 sample_asks = record {
   trace = record {
     each = All-cons (IsRequest setup.devices) (put 0 0 0 5) (put 5000 0 1 6 ∷ []) (one_request (put 0 0 0 5) refl (omega arith))

@@ -12,5 +12,5 @@ pub mod Stages
 pub mod PromisesAre
 pub mod Tool
 mod Sample
-mod WaitSample
+pub mod WaitSample
 mod Worked

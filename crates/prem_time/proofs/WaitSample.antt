@@ -20,7 +20,7 @@ use Rattle.prem_time.specs.Fits.{ServesInTime}
 use Rattle.prem_time.proofs.Sample.{loads, sample_found, sample_loads}
 use Rattle.prem_time.proofs.Serving.{sets_serve_named}
 
-abbrev distances : List Distance
+abbrev pub distances : List Distance
 distances = record { device = codes "net"; every = 5000 } ∷ []
 
 abbrev net_named : Named
@@ -45,7 +45,7 @@ wait_there : wait_of asks closes 0 most_cycles ≡ Some 1198
 wait_there = found_once asks closes 0 most_cycles (wait_of asks closes 0 most_cycles) (Some 1198) (wait_found asks closes 0 most_cycles)
     (wait_is asks closes 0 all_ask all_close 1 1198 refl (omega arith) (omega arith), omega arith)
 
-sample_wait : wait_in sample distances 0 ≡ Some 1198
+pub sample_wait : wait_in sample distances 0 ≡ Some 1198
 sample_wait =
     ap (λ (found : List Busy). wait_by asks (loads_in sample) found (closed_to sample.plant 60 (placed_in sample)) 0) sample_found
     ∙ ap (λ (ls : List Load). wait_by asks ls (Within 2485 ∷ Within 2485 ∷ []) (closed_to sample.plant 60 (placed_in sample)) 0) sample_loads
