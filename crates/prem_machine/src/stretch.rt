@@ -98,8 +98,8 @@ impl<P: Policy> Parts<P> {
             self.facts.tasks.items_mut(),
         );
         self.now += followed.time;
-        self.facts.hits += followed.hits;
-        self.facts.memory_stores += followed.stores;
+        self.facts.hits += followed.hits as u64;
+        self.facts.memory_stores += followed.stores as u64;
         left - followed.time as usize
     }
 

@@ -1,5 +1,5 @@
 // What instructions that hit have come to.
-ghost use Rattle.std.specs.Prelude.{◌≡◌, ◌+◌, ◌^◌, ◌<◌};
+ghost use Rattle.std.specs.Prelude.{◌≡◌, ◌+◌, ◌^◌, ◌<◌, ◌≤◌};
 ghost use Rattle.prem_machine.specs.Hits.{stores_in};
 
 use prem_isa::{Phase, Stored};
@@ -8,8 +8,8 @@ use prem_isa::{Phase, Stored};
 #[derive(Clone, Copy, PartialEq, Eq, Debug)]
 pub(crate) struct Followed {
     pub time: u64,
-    pub hits: u64,
-    pub stores: u64,
+    pub hits: u32,
+    pub stores: u32,
 }
 
 impl Followed {
@@ -17,15 +17,16 @@ impl Followed {
     #[inline(always)]
     pub fn add(&mut self, cost: u32, hits: u32, stores: u32)
         requires time { self.old.time < 2 ^ 63 }
-        requires hits { self.old.hits < 2 ^ 63 }
-        requires stores { self.old.stores < 2 ^ 63 }
+        requires few { (hits ≤ 2) × (stores ≤ 1) }
+        requires hits { self.old.hits < 2 ^ 31 }
+        requires stores { self.old.stores < 2 ^ 31 }
         ensures time { self.new.time ≡ self.old.time + cost }
         ensures hits { self.new.hits ≡ self.old.hits + hits }
         ensures stores { self.new.stores ≡ self.old.stores + stores }
     {
         self.time += u64::from(cost);
-        self.hits += u64::from(hits);
-        self.stores += u64::from(stores);
+        self.hits += hits;
+        self.stores += stores;
     }
 }
 

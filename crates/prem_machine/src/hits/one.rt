@@ -1,5 +1,5 @@
 // One instruction that hits and goes on.
-ghost use Rattle.std.specs.Prelude.{◌≡◌, ◌+◌, ◌*◌, ◌^◌, ◌/◌, ◌%◌, ◌<◌, ◌≤◌, false, true, length, IfNone, IfSome, Some};
+ghost use Rattle.std.specs.Prelude.{◌≡◌, ◌+◌, ◌^◌, ◌/◌, ◌%◌, ◌<◌, ◌≤◌, false, true, length, IfNone, IfSome, Some};
 ghost use Rattle.prem_list.specs.Sequence.{items_of, room_of};
 ghost use Rattle.prem_isa.specs.declared.effect.Change.TheVariants.{Stay};
 ghost use Rattle.prem_isa.specs.Alu.{load_size};
@@ -12,7 +12,6 @@ ghost use Rattle.prem_machine.specs.Issue.Near.{IsNear};
 ghost use Rattle.prem_machine.specs.Issue.Tasks.{with_outputs};
 
 use crate::hits::followed::{Followed, stores_in};
-use crate::hits::settled::hit_settled;
 use crate::issue::{Near, TaskCore, cost_at, touch_known, touch_load};
 use crate::plain::{moving, putting, storing};
 use prem_image::TaskRecord;
@@ -150,9 +149,10 @@ pub(crate) fn hit_load<P: Policy>(
 }
 
 /// The next instruction of a task, where it hits and goes on in its interval, and takes no input word, is executed. Of any
-/// other one, and where it traps, nothing changes.
+/// other one, and where it traps, nothing changes. `slot` is one to look for its line first.
 #[inline(always)]
 fn hit_next<P: Policy>(
+    slot: usize,
     task: &TaskRecord,
     core: &mut TaskCore,
     cache: &mut Cache<P>,
@@ -178,9 +178,7 @@ fn hit_next<P: Policy>(
     if u64::from(pc) + 4 > u64::from(plant.memory) {
         return None;
     }
-    let line = cache.line_of(pc);
-    near.find(cache, line);
-    let word = cache.peek_near(mem, near.slot, pc, 4);
+    let word = cache.peek_near(mem, slot, pc, 4);
     let behind = pc + 4;
     if let Some(m) = core.moves(plant.target, plant.memory, word) {
         let effect = moving(m.rd, m.value, m.next);
@@ -201,8 +199,10 @@ fn hit_next<P: Policy>(
 }
 
 /// As `hit_next`, with nothing known of the line of the last fetch.
+#[cold]
 #[inline(never)]
 fn hit_far<P: Policy>(
+    slot: usize,
     task: &TaskRecord,
     core: &mut TaskCore,
     cache: &mut Cache<P>,
@@ -222,12 +222,13 @@ fn hit_far<P: Policy>(
 {
     let _plant = cache.plant();
     let mut near = Near::none();
-    hit_next(task, core, cache, mem, &mut near, outputs)
+    hit_next(slot, task, core, cache, mem, &mut near, outputs)
 }
 
 /// As `hit_far`, and counted.
 #[inline(always)]
-fn hit_unsettled<P: Policy>(
+pub(crate) fn hit_unsettled<P: Policy>(
+    slot: usize,
     task: &TaskRecord,
     core: &mut TaskCore,
     cache: &mut Cache<P>,
@@ -238,7 +239,7 @@ fn hit_unsettled<P: Policy>(
     requires entry { task.now.entry % 4 ≡ 0 }
     requires memory { length mem.old ≡ cache.old.plant.memory }
     requires room { length (items_of outputs.old) < room_of outputs.old }
-    requires sum { (sum.old.time < 2 ^ 62) × ((sum.old.hits < 2 ^ 63) × (sum.old.stores < 2 ^ 63)) }
+    requires sum { (sum.old.time < 2 ^ 62) × ((sum.old.hits < 2 ^ 31) × (sum.old.stores < 2 ^ 31)) }
     ensures step { result ≡ true → IsStep cache.old.plant mem.old
         (spot_at (with_outputs (items_of outputs.old) core.old) cache.old sum.old.time sum.old.hits sum.old.stores)
         (spot_at (with_outputs (items_of outputs.new) core.new) cache.new sum.new.time sum.new.hits sum.new.stores) }
@@ -247,41 +248,9 @@ fn hit_unsettled<P: Policy>(
     ensures plant { cache.new.plant ≡ cache.old.plant }
     ensures room { room_of outputs.new ≡ room_of outputs.old }
 {
-    let Some(hit) = hit_far(task, core, cache, mem, outputs) else {
+    let Some(hit) = hit_far(slot, task, core, cache, mem, outputs) else {
         return false;
     };
     sum.add(hit.cost, hit.hits, hit.stores);
     true
-}
-
-/// The next instruction of a task, where it hits and goes on in its interval, and takes no input word, is executed, and counted. Of any
-/// other one, and where it traps, nothing changes. `near` is a slot to look for its line first.
-#[inline(always)]
-pub(crate) fn hit_one<P: Policy>(
-    task: &TaskRecord,
-    core: &mut TaskCore,
-    cache: &mut Cache<P>,
-    mem: &mut Memory,
-    near: &mut usize,
-    outputs: &mut Sequence<u32>,
-    sum: &mut Followed,
-) -> bool
-    requires entry { task.now.entry % 4 ≡ 0 }
-    requires memory { length mem.old ≡ cache.old.plant.memory }
-    requires near { near.old < cache.old.plant.sets * cache.old.plant.«ways» }
-    requires room { length (items_of outputs.old) < room_of outputs.old }
-    requires sum { (sum.old.time < 2 ^ 62) × ((sum.old.hits < 2 ^ 63) × (sum.old.stores < 2 ^ 63)) }
-    ensures step { result ≡ true → IsStep cache.old.plant mem.old
-        (spot_at (with_outputs (items_of outputs.old) core.old) cache.old sum.old.time sum.old.hits sum.old.stores)
-        (spot_at (with_outputs (items_of outputs.new) core.new) cache.new sum.new.time sum.new.hits sum.new.stores) }
-    ensures none { result ≡ false → (core.new ≡ core.old) × ((cache.new ≡ cache.old) × ((outputs.new ≡ outputs.old) × (sum.new ≡ sum.old))) }
-    ensures memory { mem.new ≡ mem.old }
-    ensures near { near.new < cache.old.plant.sets * cache.old.plant.«ways» }
-    ensures plant { cache.new.plant ≡ cache.old.plant }
-    ensures room { room_of outputs.new ≡ room_of outputs.old }
-{
-    if hit_settled(task, core, cache, mem, near, outputs, sum) {
-        return true;
-    }
-    hit_unsettled(task, core, cache, mem, outputs, sum)
 }

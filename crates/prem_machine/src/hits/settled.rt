@@ -18,6 +18,7 @@ use prem_image::TaskRecord;
 use prem_isa::{DataLoad, Effect, Stored};
 use prem_list::Sequence;
 use prem_lru::{Cache, Memory, Policy};
+use prem_plant::Plant;
 
 /// A task executes an instruction of this cost and effect, which accesses nothing, from a line whose touch changes nothing.
 #[inline(always)]
@@ -42,7 +43,7 @@ fn go_on<P: Policy>(
     requires takes_none { effect.input ≡ false }
     requires cost { (1 ≤ cost) × (cost ≤ 20) }
     requires room { length (items_of outputs.old) < room_of outputs.old }
-    requires sum { (sum.old.time < 2 ^ 62) × ((sum.old.hits < 2 ^ 63) × (sum.old.stores < 2 ^ 63)) }
+    requires sum { (sum.old.time < 2 ^ 62) × ((sum.old.hits < 2 ^ 31) × (sum.old.stores < 2 ^ 31)) }
     ensures step { IsStep cache.now.plant mem.now
         (spot_at (with_outputs (items_of outputs.old) core.old) cache.now sum.old.time sum.old.hits sum.old.stores)
         (spot_at (with_outputs (items_of outputs.new) core.new) cache.now sum.new.time sum.new.hits sum.new.stores) }
@@ -87,7 +88,7 @@ fn load_on<P: Policy>(
     requires next { load.next % 4 ≡ 0 }
     requires cost { (1 ≤ cost) × (cost ≤ 20) }
     requires room { length (items_of outputs.old) < room_of outputs.old }
-    requires sum { (sum.old.time < 2 ^ 62) × ((sum.old.hits < 2 ^ 63) × (sum.old.stores < 2 ^ 63)) }
+    requires sum { (sum.old.time < 2 ^ 62) × ((sum.old.hits < 2 ^ 31) × (sum.old.stores < 2 ^ 31)) }
     ensures step { result ≡ true → IsStep cache.old.plant mem.now
         (spot_at (with_outputs (items_of outputs.old) core.old) cache.old sum.old.time sum.old.hits sum.old.stores)
         (spot_at (with_outputs (items_of outputs.new) core.new) cache.new sum.new.time sum.new.hits sum.new.stores) }
@@ -125,7 +126,7 @@ fn store_on<P: Policy>(
     requires next { next % 4 ≡ 0 }
     requires cost { (1 ≤ cost) × (cost ≤ 20) }
     requires room { length (items_of outputs.old) < room_of outputs.old }
-    requires sum { (sum.old.time < 2 ^ 62) × ((sum.old.hits < 2 ^ 63) × (sum.old.stores < 2 ^ 63)) }
+    requires sum { (sum.old.time < 2 ^ 62) × ((sum.old.hits < 2 ^ 31) × (sum.old.stores < 2 ^ 31)) }
     ensures step { result ≡ true → IsStep cache.old.plant mem.now
         (spot_at (with_outputs (items_of outputs.old) core.old) cache.old sum.old.time sum.old.hits sum.old.stores)
         (spot_at (with_outputs (items_of outputs.new) core.new) cache.new sum.new.time sum.new.hits sum.new.stores) }
@@ -144,9 +145,10 @@ fn store_on<P: Policy>(
 }
 
 /// A word that stands at a task's place, on a line whose touch changes nothing, is executed, where its instruction hits and goes on and
-/// takes no input word. Where it doesn't, nothing changes.
+/// takes no input word. Where it doesn't, nothing changes. `plant` is a copy of the cache's, which needn't be read anew in each turn.
 #[inline(always)]
 fn hit_word<P: Policy>(
+    plant: &Plant,
     word: u32,
     task: &TaskRecord,
     core: &mut TaskCore,
@@ -156,12 +158,13 @@ fn hit_word<P: Policy>(
     sum: &mut Followed,
 ) -> bool
     requires entry { task.now.entry % 4 ≡ 0 }
+    requires plant { plant.now ≡ cache.old.plant }
     requires memory { length mem.now ≡ cache.old.plant.memory }
     requires word { word ≡ number_at (view_of cache.old mem.now) core.old.pc 4 }
     requires place { core.old.pc + 4 ≤ cache.old.plant.memory }
     requires finds { Finds cache.old (core.old.pc / cache.old.plant.line) mem.now cache.old }
     requires room { length (items_of outputs.old) < room_of outputs.old }
-    requires sum { (sum.old.time < 2 ^ 62) × ((sum.old.hits < 2 ^ 63) × (sum.old.stores < 2 ^ 63)) }
+    requires sum { (sum.old.time < 2 ^ 62) × ((sum.old.hits < 2 ^ 31) × (sum.old.stores < 2 ^ 31)) }
     ensures step { result ≡ true → IsStep cache.old.plant mem.now
         (spot_at (with_outputs (items_of outputs.old) core.old) cache.old sum.old.time sum.old.hits sum.old.stores)
         (spot_at (with_outputs (items_of outputs.new) core.new) cache.new sum.new.time sum.new.hits sum.new.stores) }
@@ -169,7 +172,7 @@ fn hit_word<P: Policy>(
     ensures plant { cache.new.plant ≡ cache.old.plant }
     ensures room { room_of outputs.new ≡ room_of outputs.old }
 {
-    let plant = cache.plant();
+    let _plant = cache.plant();
     let pc = core.pc();
     let behind = pc + 4;
     if let Some(m) = core.moves(plant.target, plant.memory, word) {
@@ -205,6 +208,7 @@ fn hit_word<P: Policy>(
 /// Where it doesn't, nothing changes. `near` is a slot to look for its line first.
 #[inline(always)]
 pub(crate) fn hit_settled<P: Policy>(
+    plant: &Plant,
     task: &TaskRecord,
     core: &mut TaskCore,
     cache: &mut Cache<P>,
@@ -214,10 +218,11 @@ pub(crate) fn hit_settled<P: Policy>(
     sum: &mut Followed,
 ) -> bool
     requires entry { task.now.entry % 4 ≡ 0 }
+    requires plant { plant.now ≡ cache.old.plant }
     requires memory { length mem.now ≡ cache.old.plant.memory }
     requires near { near.old < cache.old.plant.sets * cache.old.plant.«ways» }
     requires room { length (items_of outputs.old) < room_of outputs.old }
-    requires sum { (sum.old.time < 2 ^ 62) × ((sum.old.hits < 2 ^ 63) × (sum.old.stores < 2 ^ 63)) }
+    requires sum { (sum.old.time < 2 ^ 62) × ((sum.old.hits < 2 ^ 31) × (sum.old.stores < 2 ^ 31)) }
     ensures step { result ≡ true → IsStep cache.old.plant mem.now
         (spot_at (with_outputs (items_of outputs.old) core.old) cache.old sum.old.time sum.old.hits sum.old.stores)
         (spot_at (with_outputs (items_of outputs.new) core.new) cache.new sum.new.time sum.new.hits sum.new.stores) }
@@ -230,5 +235,5 @@ pub(crate) fn hit_settled<P: Policy>(
     let Some(word) = cache.word_settled(near, pc) else {
         return false;
     };
-    hit_word(word, task, core, cache, mem, outputs, sum)
+    hit_word(plant, word, task, core, cache, mem, outputs, sum)
 }

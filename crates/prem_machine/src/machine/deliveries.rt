@@ -1,7 +1,7 @@
 // Runs up to where a word may come to a task.
 use crate::machine::Machine;
 use crate::wanted;
-use prem_cycle::Stop;
+use prem_cycle::{Stop, Turn};
 use prem_lru::Policy;
 use prem_plant::TaskId;
 
@@ -17,9 +17,9 @@ pub enum Halt {
 }
 
 impl<P: Policy> Machine<P> {
-    ghost use Rattle.std.specs.Prelude.{◌≡◌, ◌-◌, ◌<◌, ◌≤◌, ◌^◌, true, false};
+    ghost use Rattle.std.specs.Prelude.{◌≡◌, ◌+◌, ◌-◌, ◌<◌, ◌≤◌, ◌^◌, IsSome, None, true, false};
     ghost use Rattle.prem_cycle.specs.State.{rule_in};
-    ghost use Rattle.prem_cycle.specs.Cycle.{is_over};
+    ghost use Rattle.prem_cycle.specs.Cycle.{cycle_of, is_over};
     ghost use Rattle.prem_cycle.specs.Run.{cycles_of, wants_input_of};
     ghost use Rattle.prem_machine.specs.States.{requests_in, setup_in, state_of, with_state};
     ghost use Rattle.prem_machine.specs.Silent.{AreSilent, ended_so_far};
@@ -49,8 +49,20 @@ impl<P: Policy> Machine<P> {
             if let Some(task) = self.lacking() {
                 return Halt::Wants(task);
             }
-            self.cycle();
+            self.one_cycle();
         }
+    }
+
+    /// As `cycle`, by a copy of its own.
+    fn one_cycle(&mut self) -> Turn
+        requires now { (state_of self.old).now < 2 ^ 61 }
+        requires going { is_over (state_of self.old) ≡ false }
+        ensures new { self.new ≡ with_state self.old
+            (cycle_of (rule_in (setup_in self.old)) (setup_in self.old) (requests_in self.old) (state_of self.old)) }
+        ensures goes_on { (state_of self.new).trapped ≡ None → (state_of self.new).now ≡ (state_of self.old).now + 1 }
+        ensures stops { IsSome (state_of self.new).trapped → (state_of self.new).now ≡ (state_of self.old).now }
+    {
+        self.parts.cycle::<true>(&self.setting, &self.requests)
     }
 
     /// The transfers that have ended so far.

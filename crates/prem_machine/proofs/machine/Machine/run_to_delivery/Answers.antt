@@ -30,7 +30,7 @@ pub cycles-preserved : goal.cycles-preserved
 cycles-preserved g c =
     let m = c.cycles.self in
     let old = c.glide.new.self in
-    let e = c.cycle.ensures in
+    let e = c.one_cycle.ensures in
     let kept : m ≡ old = sym (c.glide.ensures.kept c.if-glide.false) in
     let N : Running → Type 0 = λ r. stop_of c.args.limit r.state ≡ None in
     let R : Running → Type 0 = λ r. RunsSilently c.args.limit c.args.transfers c.args.self.now r in
@@ -39,8 +39,8 @@ cycles-preserved g c =
     let few : E m = grind (arith, nat_tests) in
     let runs : R old = subst R kept c.cycles.invariant in
     let on = goes_on c.args.limit old.state none in
-    runs_then c.args.limit c.args.transfers c.args.self.now old c.cycle.new.self runs (goes_untrapped old.state on.0)
-    (runs_one c.args.limit c.args.transfers old c.cycle.new.self e.new on.0 (within_limit c.args.limit c.args.transfers c.args.self.now old runs none) e.goes_on e.stops
+    runs_then c.args.limit c.args.transfers c.args.self.now old c.one_cycle.new.self runs (goes_untrapped old.state on.0)
+    (runs_one c.args.limit c.args.transfers old c.one_cycle.new.self e.new on.0 (within_limit c.args.limit c.args.transfers c.args.self.now old runs none) e.goes_on e.stops
     (sym c.lacking.ensures ∙ c.in_default-lacking.is) (subst E kept few))
 
 pub cycles-smaller : goal.cycles-smaller
@@ -50,7 +50,7 @@ cycles-smaller g c =
     let kept : m ≡ old = sym (c.glide.ensures.kept c.if-glide.false) in
     let N : Running → Type 0 = λ r. stop_of c.args.limit r.state ≡ None in
     let R : Running → Type 0 = λ r. RunsSilently c.args.limit c.args.transfers c.args.self.now r in
-    let L : Running → Type 0 = λ r. cycles_left c.args.limit c.cycle.new.self.state < cycles_left c.args.limit r.state in
+    let L : Running → Type 0 = λ r. cycles_left c.args.limit c.one_cycle.new.self.state < cycles_left c.args.limit r.state in
     let none : N old = subst N kept (sym c.stop.ensures ∙ c.in_default.is) in
     let runs : R old = subst R kept c.cycles.invariant in
-    subst L (sym kept) (goes_less c.args.limit old.state c.cycle.new.self.state none (omega (arith, runs.passed, runs.within)) c.cycle.ensures.goes_on c.cycle.ensures.stops)
+    subst L (sym kept) (goes_less c.args.limit old.state c.one_cycle.new.self.state none (omega (arith, runs.passed, runs.within)) c.one_cycle.ensures.goes_on c.one_cycle.ensures.stops)
