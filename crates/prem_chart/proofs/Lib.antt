@@ -7,6 +7,7 @@ pub mod Traces
 pub mod Charted
 pub mod Far
 pub mod Kept
+mod Sample
 pub mod AnyNamed
 pub mod Asking
 pub mod Tool
