@@ -16,5 +16,6 @@ mod Lengthening
 mod Stages
 mod Annotated
 mod Kept
+mod Sample
 mod Promise
 mod Tool
