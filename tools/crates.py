@@ -92,6 +92,21 @@ def read(path):
         return None
 
 
+def lacks_of_page(word, has_commands):
+    """The parts that a program's page lacks; where it has commands, each of them has its own example and texts."""
+    page = re.search(rf"^\| `\./{word}` \|.*\| `(\S+)` \|$", read("README.md") or "", re.M)
+    text = read(page.group(1)) if page else None
+    if text is None:
+        yield "a page in README.md's list of programs"
+    else:
+        parts = ["Usage", "Statuses", "What is proved"] + ["Example", "Texts"] * (not has_commands)
+        for it in parts:
+            if not re.search(rf"^#+ {it}$", text, re.M):
+                yield f"the part \"{it}\" in {page.group(1)}"
+        if f"usage: {word} " not in text:
+            yield f"its usage line in {page.group(1)}"
+
+
 def lacks(word, crate, answers, named):
     """What a program lacks, line by line."""
     for it in (crate, answers):
@@ -107,6 +122,7 @@ def lacks(word, crate, answers, named):
     if f"`./{word}`" not in (read("README.md") or "") and f"./{word} " not in (read("README.md") or ""):
         yield f"./{word} in README.md"
     usage = re.search(rf'"usage: {word} (.*)\\n"', read(f"crates/{answers}/src/top.rt") or "")
+    yield from lacks_of_page(word, bool(usage and " | " in usage.group(1)))
     if not usage:
         yield f"a usage line in crates/{answers}/src/top.rt"
     elif " | " in usage.group(1):
