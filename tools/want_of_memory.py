@@ -1,12 +1,13 @@
 #!/usr/bin/env python3
 """Lets each call for memory of the built programs fail once, one call a run.
 
-    want_of_memory.py [PROGRAM] [--most N]
+    want_of_memory.py [PROGRAM | FOLDER] [--most N]
 
 For each command below its program runs with its n-th call for memory failing, for n = 1, 2, .. until no call fails. Each such run has to
 end with status 6, with nothing on standard output and no signal. The table that is printed is that of docs/HOSTILE.md. With PROGRAM,
-which is another build of prem, only the commands of prem are tried; without it each program is proved and built first, if need be
-(build.py). With --most N only N of the calls are tried, spread over all.
+which is another build of prem, only the commands of prem are tried, and with FOLDER those of the programs that lie there, by the words by
+which people call them; without either each program is proved and built first, if need be (build.py). With --most N only N of the calls
+are tried, spread over all.
 """
 import os
 import subprocess
@@ -38,8 +39,11 @@ FILES = {
     "stuck.toml": "[plant]\nsets = 8\nways = 1\n" + SET,
     "short.toml": SET.replace("m.c", "short.c"),
     "late.toml": SET.replace("m.c", "late.c"),
+    "bare.toml": SET.replace("m.c", "bare.c"),
+    "bare.c": "int g;\nPREDICTABLE(1) void set(int x) { g = x; }\nvoid job(void) { set(7); out(g); }\n",
     "short.c": MARKED.replace("491", "490"),
     "d.run": "# words and requests\nin m 1 2 3\nreq 30 dma put 0 1\nreq 30 dma get 0\n",
+    "f.run": "req 30 dma put 0 1\nreq 900 dma get 0\n",
     "lan.run": "req 30 lan get 0\n",
     "d.mail": "feed dma 0 m\n",
     "tiled.c": TILED,
@@ -95,6 +99,29 @@ s.toml conflict.toml e.run e.run
 sd.toml d.run --from 100 --to 500
 sd.toml lan.run
 conflict.toml e.run
+sd.toml f.run --every dma=500
+sd.toml d.run --every dma=500
+sd.toml d.run --every x=5
+""",
+    "prem_time_cli": """s.toml
+sd.toml dma=500
+sd.toml dma=1
+sd.toml x=5
+conflict.toml
+colour.toml
+fir.toml
+""",
+    "prem_wave_cli": """sd.toml d.run
+sd.toml d.run --from 100 --to 500
+sd.toml lan.run
+conflict.toml e.run
+""",
+    "prem_annotate_cli": """s.toml m
+bare.toml m
+late.toml m
+conflict.toml m
+colour.toml m
+s.toml x
 """,
 }
 CALLED = {it: it.removesuffix("_cli") for it in COMMANDS}
@@ -104,6 +131,13 @@ def build(crate):
     """The path of the built program."""
     subprocess.run([sys.executable, f"{TOOLS}/build.py", crate], check=True)
     return f"{TOP}/crates/{crate}/out/{crate}"
+
+
+def named(path):
+    """The programs that a path names: that of prem, or those of a folder."""
+    if os.path.isfile(path):
+        return {"prem_cli": os.path.abspath(path)}
+    return {it: os.path.abspath(f"{path}/{word}") for it, word in CALLED.items() if os.path.isfile(f"{path}/{word}")}
 
 
 def made(folder, program):
@@ -157,7 +191,7 @@ def main():
         at = words.index("--most")
         most = int(words[at + 1])
         del words[at : at + 2]
-    programs = {"prem_cli": os.path.abspath(words[0])} if words else {it: build(it) for it in COMMANDS if os.path.isdir(f"{TOP}/crates/{it}")}
+    programs = named(words[0]) if words else {it: build(it) for it in COMMANDS if os.path.isdir(f"{TOP}/crates/{it}")}
     runs = bad = 0
     with tempfile.TemporaryDirectory() as folder:
         subprocess.run(["cc", "-shared", "-fPIC", "-O2", "-o", f"{folder}/fail_alloc.so", f"{TOOLS}/fail_alloc.c"], check=True)
