@@ -15,7 +15,7 @@ HEAD = b"".join(n.to_bytes(4, "little") for n in (256, 1024, 16, 1, 1, 0, 1 << 2
 TASK = b"\x01m" + b"".join(n.to_bytes(4, "little") for n in (1000, 1, 0, 1 << 24))
 SET = b'[plant]\nmemory = 16777216\n[[task]]\nname = "m"\nsource = "f"\nperiod = 4000000000\njobs = 1\n'
 DEVICE = b'[[device]]\nname = "d"\nqueue = 1024\ncost = 1\nlines = 1\n'
-IDLE = SET.replace(b'"f"', b'"idle.c"').replace(b"4000000000", b"1000000").replace(b"jobs = 1", b"jobs = 2") + DEVICE
+IDLE = SET.partition(b"16777216\n")[2].replace(b'"f"', b'"idle.c"').replace(b"4000000000", b"1000000").replace(b"jobs = 1", b"jobs = 2") + DEVICE
 
 
 def image(content):
@@ -44,8 +44,9 @@ def calls(count):
 
 def functions(count):
     """Functions with a parameter, each of which calls the one before it twice."""
-    parts = [b"int h[64]; int f0(int x) { return h[x]; }\n"]
-    parts += [b"int f%d(int x) { int y = 0; y = f%d(x); x = f%d(x); return x + y; }\n" % (n, n - 1, n - 1) for n in range(1, count)]
+    parts = [b"int h[64]; int f0(int x RANGE(0, 9)) { return h[x]; }\n"]
+    call = b"int f%d(int x RANGE(0, 9)) { int y = 0; int z = 0; y = f%d(x); z = f%d(x); return y + z; }\n"
+    parts += [call % (n, n - 1, n - 1) for n in range(1, count)]
     return b"".join(parts) + b"void job(void) { int y = 0; y = f%d(5); out(y); }\n" % (count - 1)
 
 
@@ -85,19 +86,19 @@ CASES = [  # the program, what, the greatest count, the words, the file as a fun
     ("prem", "n bytes of content", 16777216, "exec f e", lambda n: image(b" " * n)),
     ("prem", "n bytes behind the content", 16842688, "exec f e", lambda n: image(b"") + b" " * n),
     ("prem", "an endless loop of n cycles", 1000000, "exec i e --cycles {n}", lambda n: b""),
-    ("prem_time", "a job of n loops", 6000, "s", loops),
-    ("prem_time", "a job of n nested choices", 62, "s", nested),
-    ("prem_time", "a job of n marked calls", 30000, "s", calls),
-    ("prem_time", "n functions, each calling the one before it twice", 32, "s", functions),
-    ("prem_annotate", "a job of n loops", 6000, "s m", loops),
-    ("prem_annotate", "a job of n marked calls", 8000, "s m", lambda n: bare(calls(n))),
-    ("prem_annotate", "n functions, each calling the one before it twice", 32, "s m", functions),
-    ("prem_annotate", "n marked functions that reach 32 globals", 200, "s m", marked),
-    ("prem_annotate", "a comment of n bytes behind the job", 1000000, "s m", lambda n: job(b"out(1);") + b"/*" + b"*" * n + b"*/"),
-    ("prem_chart", "n requests", 100000, "idle f", requests),
-    ("prem_chart", "n requests, with --every", 100000, "idle f --every d=10", requests),
-    ("prem_wave", "n requests", 50000, "idle f", requests),
-    ("prem_wave", "a run of n jobs", 60000, "jobs e", lambda n: b""),
+    ("prem_time", "a job of n loops", 1500, "s", loops),
+    ("prem_time", "a job of n nested choices", 30, "s", nested),
+    ("prem_time", "a job of n marked calls", 6000, "s", calls),
+    ("prem_time", "n functions, each calling the one before it twice", 24, "s", functions),
+    ("prem_annotate", "a job of n loops", 1500, "s m", loops),
+    ("prem_annotate", "a job of n marked calls", 2000, "s m", lambda n: bare(calls(n))),
+    ("prem_annotate", "n functions, each calling the one before it twice", 24, "s m", lambda n: bare(functions(n))),
+    ("prem_annotate", "n marked functions that reach 32 globals", 50, "s m", marked),
+    ("prem_annotate", "a comment of n bytes behind the job", 200000, "s m", lambda n: job(b"out(1);") + b"/*" + b"*" * n + b"*/"),
+    ("prem_chart", "n requests", 10000, "idle f", requests),
+    ("prem_chart", "n requests, with --every", 10000, "idle f --every d=10", requests),
+    ("prem_wave", "n requests", 10000, "idle f", requests),
+    ("prem_wave", "a run of n jobs", 10000, "jobs e", lambda n: b""),
 ]
 
 

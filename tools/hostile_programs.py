@@ -173,8 +173,7 @@ class Asked:
             os.close(reader)
             status, _ = self.run(self.word, words, stdout=writer)
             os.close(writer)
-            # (the signal SIGPIPE ends a program whose reader has gone, where nobody asked for another answer)
-            self.note("sinks", status in (silent, -13), words, "unread", status)
+            self.note("sinks", status == silent, words, "unread", status)
 
     def answers_alike(self, what, told):
         """Whether the answer is that of prem, where that refuses, and one of the program's own where not."""
