@@ -4,3 +4,7 @@ pub mod Turns
 pub mod Booking
 pub mod Profiled
 pub mod Tasks
+pub mod Reading
+pub mod Adding
+pub mod RowsAdd
+pub mod Setting

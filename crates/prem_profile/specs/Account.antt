@@ -33,6 +33,11 @@ abbrev pub each_row : (ℕ → Cost) → (row count : ℕ) → List Cost
 each_row cost row zero = []
 each_row cost row (suc n) = cost row ∷ each_row cost (suc row) n
 
+-- all of them together
+abbrev pub costs_sum : List Cost → Cost
+costs_sum [] = no_cost
+costs_sum (c ∷ costs) = plus c (costs_sum costs)
+
 -- ---- how it is kept
 
 -- another cost is booked in a row, if it is there

@@ -4,3 +4,7 @@ pub mod Totals
 pub mod Issuer
 pub mod Turn
 pub mod Account
+pub mod Strips
+pub mod Grammar
+pub mod Callgrind
+pub mod Entries

@@ -1,3 +1,6 @@
 pub mod Table
 pub mod Memory
 pub mod Laws
+pub mod Marks
+pub mod Tasks
+pub mod Told

@@ -12,16 +12,17 @@ use prem_plant::TaskId;
 #[derive(Drop)]
 pub struct RowTable {
     /// How many tasks there are.
-    pub tasks: u16,
+    pub tasks: usize,
     /// The row of each word of memory; 0 for those behind the last.
     pub words: Vec<usize>,
 }
 
 /// The row of switches to a task.
-pub fn switch_row(tasks: u16, k: TaskId) -> usize
+pub fn switch_row(tasks: usize, k: TaskId) -> usize
     ensures { result ≡ switch_row tasks k }
 {
-    if k < tasks { 2 + usize::from(k) } else { 0 }
+    let k = usize::from(k);
+    if k < tasks { 2 + k } else { 0 }
 }
 
 /// The row of the word at an address.

@@ -1,17 +1,19 @@
-//! Where the cycles of a run go, by lines of the sources.
+//! Where the cycles of a run go, by lines of the sources, and the text of that in callgrind's format.
 //!
 //! - `lines`: the line table: for each word of a task's code the line of the source to which it belongs.
 #![tactic(auto)]
 
 mod account;
+mod callgrind;
 mod cost;
 mod home;
 mod laws;
 pub mod lines;
+mod strip;
 mod tracing;
 
 pub use account::{Account, RowTable};
 pub use cost::Cost;
 pub use home::Home;
-pub use laws::totals_are_reported;
+pub use laws::{lines_add_up, profiles_are_read, rows_add_up, totals_are_reported};
 pub use tracing::profile;
