@@ -9,9 +9,9 @@ Of each set below examples/ that `prem check` accepts:
   none: what differs is shown;
 - stripped, without any RANGE and REGION and with PREDICTABLE(1), each task's text is written, and the set of these texts has to be accepted;
 - the texts that were written are written once more, and have to stay.
-Of each set that is drawn, and accepted with the greatest lengths and its own ranges and regions, all is taken out. Where each task's text is written
-then, the set of these texts has to be accepted, to stay when it is written once more, and to have the lines of `prem source` that the drawn one has.
-What is refused in place of a text is counted by its rule.
+Of each set that is drawn all annotations are taken out. Where each task's text is written then, the set of these texts has to be accepted, to stay
+when it is written once more, to put out what the drawn one does in gcc's builds (world_host.py), and to have the lines of `prem source` that the
+drawn one has, where that one is accepted. What is refused in place of a text is counted by its rule.
 Status 1: one of these isn't so.
 """
 import collections
@@ -22,12 +22,14 @@ import sys
 import tempfile
 
 import ask
+import world_host
 import worlds
 
 TOP = os.path.dirname(os.path.dirname(os.path.abspath(__file__)))
 RANGE = re.compile(r"\s*\bRANGE\s*\([^)]*\)")
 REGION = re.compile(r"\s*\bREGION\s*\([^)]*\)")
 LENGTH = re.compile(r"\bPREDICTABLE\s*\([^)]*\)")
+BATCH = 50
 TASK = re.compile(r'^name = "([^"]*)"\nsource = "([^"]*)"$', re.M)
 
 
@@ -85,57 +87,91 @@ def found_sets():
             yield name, read(path), {task: read(f"{folder}/{source}") for task, source in tasks}
 
 
-def of_drawn(prem, annotate, seed, rules):
-    """What is wrong with the annotations of the set of this seed, if anything is; what it comes to is counted among the rules."""
-    with tempfile.TemporaryDirectory(prefix="prem-annotate-") as folder:
-        world = worlds.World(seed)
-        files, tasks, run = world.files(), [it["name"] for it in world.tasks], f"{world.name}.run"
-        for name, text in files.items():
-            write(f"{folder}/{name}", text)
-        status, meant = ask.run(prem, ["source", f"{world.name}.toml", run], folder)
-        rules["drawn"] += 1
+class Drawn:
+    """A set that is drawn, in a folder as it is, and in another one without annotations."""
+
+    def __init__(self, world, programs, folders):
+        self.world, (self.prem, self.annotate), (self.drawn, self.bare) = world, programs, folders
+        self.set, self.counts, self.is_accepted = f"{world.name}.toml", collections.Counter(drawn=1), False
+        for folder in folders:
+            for name, text in world.files().items():
+                write(f"{folder}/{name}", text)
+        self.put([bare(world.source(it)) for it in world.tasks])
+
+    def put(self, texts):
+        for task, text in zip(self.world.tasks, texts):
+            write(f"{self.bare}/{task['source']}", text)
+
+    def source(self, folder):
+        return ask.run(self.prem, ["source", self.set, f"{self.world.name}.run"], folder)
+
+    def texts(self):
+        """The texts of the tasks, or the first refusal."""
+        told = [ask.run(self.annotate, [self.set, it["name"]], self.bare) for it in self.world.tasks]
+        refusals = [text.decode() for status, text in told if status != 0]
+        return ([text.decode() for _, text in told], None) if not refusals else ([], refusals[0])
+
+    def wrong(self):
+        """What is wrong with its annotations, if anything is."""
+        status, meant = self.source(self.drawn)
         if status != 0 and not meant.startswith(b"refused"):
             return f"source {status}"
-        is_meant = status == 0
-        for task in world.tasks:
-            write(f"{folder}/{task['source']}", bare(world.source(task)))
-        for round_ in ("first", "again"):
-            told = [ask.run(annotate, [f"{world.name}.toml", it], folder) for it in tasks]
-            if any(it[0] != 0 for it in told):
-                why = next(text.decode() for status, text in told if status != 0)
-                rules["refused " + (why.split() + ["", "", ""])[2]] += 1
-                return f"{round_}: {why}" if round_ == "again" else None
-            texts = [text for _, text in told]
-            if round_ == "again" and texts != before:
-                return "changes when it is written once more"
-            before = texts
-            for task, text in zip(world.tasks, texts):
-                write(f"{folder}/{task['source']}", text.decode())
-        status, text = ask.run(prem, ["check", f"{world.name}.toml"], folder)
-        if status != 0:
+        texts, refusal = self.texts()
+        if refusal is not None:
+            self.counts["refused " + (refusal.split() + ["", "", ""])[2]] += 1
+            return None
+        self.put(texts)
+        if self.texts() != (texts, None):
+            return "changes when it is written once more"
+        is_taken, text = ask.run(self.prem, ["check", self.set], self.bare)
+        if is_taken != 0:
             return f"not accepted: {text}"
-        rules["accepted"] += 1
-        if is_meant:
-            rules["compared"] += 1
-            if ask.run(prem, ["source", f"{world.name}.toml", run], folder) != (0, meant):
+        self.counts["accepted"] += 1
+        self.is_accepted = True
+        if status == 0:
+            self.counts["compared by source"] += 1
+            if self.source(self.bare) != (0, meant):
                 return "means something else"
-    return None
+        return None
 
 
-def drawn(prem, annotate, first, count):
-    rules, bad = collections.Counter(), 0
-    for seed in range(first, first + count):
-        why = of_drawn(prem, annotate, seed, rules)
-        if why:
-            bad += 1
-            print(f"seed {seed}: {why}")
-    print(", ".join(f"{key} {number}" for key, number in rules.items()) + f"; {bad} wrong")
+def by_gcc(sets, folders):
+    """Those of the sets whose drawn sources and whose written ones gcc's builds don't put out the same of."""
+    differ, hosts = [], [world_host.Host(it) for it in folders]
+    for level in range(3):
+        some = [it for it in sets if world_host.level_of(it.world) == level]
+        built = [host.build([it.world for it in some]) if some else [] for host in hosts]
+        for it, *places in zip(some, *built):
+            first, second = (host.outputs(it.world, place) for host, place in zip(hosts, places))
+            it.counts["compared by gcc"] += 1
+            if first != second:
+                differ.append(it)
+    return differ
+
+
+def drawn(programs, first, count):
+    counts, bad = collections.Counter(), 0
+    for start in range(first, first + count, BATCH):
+        with tempfile.TemporaryDirectory(prefix="prem-annotate-") as folder:
+            folders = [f"{folder}/drawn", f"{folder}/bare"]
+            for it in folders:
+                os.mkdir(it)
+            sets = [Drawn(worlds.World(seed), programs, folders) for seed in range(start, min(start + BATCH, first + count))]
+            found = [(it, it.wrong()) for it in sets]
+            found += [(it, "gcc's builds put out something else") for it in by_gcc([it for it in sets if it.is_accepted], folders)]
+        for it in sets:
+            counts.update(it.counts)
+        for it, why in found:
+            if why:
+                bad += 1
+                print(f"{it.world.name}: {why}")
+        print(", ".join(f"{key} {number}" for key, number in counts.items()) + f"; {bad} wrong", flush=True)
     return bad > 0
 
 
 def main(words):
     if len(words) == 5 and words[2] == "--seeds":
-        return drawn(words[0], words[1], int(words[3]), int(words[4]))
+        return drawn([os.path.abspath(it) for it in words[:2]], int(words[3]), int(words[4]))
     prem, annotate = words or (None, None)
     bad = 0
     with tempfile.TemporaryDirectory(prefix="prem-annotate-") as folder:
