@@ -215,7 +215,8 @@ class Qemu:
 
 
 def told_by_qemu(said, images):
-    """The outputs by image, of which the tasks are told, from what the process has written: a task's number and a word, or -1 and -1 before an image."""
+    """The outputs by image, of which the tasks are known, from what the process has written: a task's number and a word, or -1 twice before
+    an image."""
     if len(said) % 8:
         raise ValueError("what qemu's process wrote is cut")
     found, whole = [], struct.unpack(f"<{len(said) // 4}I", said)
