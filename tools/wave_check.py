@@ -70,11 +70,12 @@ def plain(name):
 class Before:
     """What is seen of a machine before a cycle."""
 
-    def __init__(self, machine):
+    def __init__(self, machine, calls):
         self.now, self.mode, self.phase = machine.now, machine.mode, getattr(machine, "phase", None)
         self.ended, self.next_phase = list(machine.ended), list(machine.next_phase)
         self.window, self.wants = machine.window, bool(machine.transactions)
-        self.misses, self.transfers = machine.misses, len(machine.transfers)
+        self.misses, self.backs = machine.misses, machine.writebacks
+        self.transfers, self.intervals, self.calls = len(machine.transfers), len(machine.intervals), list(calls)
         self.released = [machine.released(task) for task in range(len(machine.tasks))]
 
 
@@ -109,9 +110,11 @@ def told(before, after):
     for task, it in enumerate(after.tasks):
         yield f"task_{plain(it['name'])}.state", state_of(task, before, after)
         yield f"task_{plain(it['name'])}.job", before.ended[task]
+        yield f"task_{plain(it['name'])}.call", before.calls[task]
     has, line, direction = on_bus(before, after)
     yield "bus.holder", "device" if has is not None else "core" if before.wants else "free"
     yield "bus.miss", int(after.misses > before.misses)
+    yield "bus.back", int(after.writebacks > before.backs)
     for device, it in enumerate(after.devices):
         yield f"device_{plain(it['name'])}.queue", len(after.queues[device])
         yield f"device_{plain(it['name'])}.line", line if device == has else None
@@ -120,11 +123,14 @@ def told(before, after):
 
 def modelled(machine, limit):
     """The values of all signals, cycle by cycle up to this one, by the model."""
+    calls = [0] * len(machine.tasks)  # the marked calls of each task that have ended
     while machine.now < limit and any(done < it["jobs"] for done, it in zip(machine.ended, machine.tasks)):
-        before = Before(machine)
+        before = Before(machine, calls)
         machine.cycle()
         if machine.trap:
             return
+        for task, kind, _, _ in machine.intervals[before.intervals :]:
+            calls[task] += kind == "predictable"
         yield before.now, dict(told(before, machine))
 
 

@@ -45,6 +45,13 @@ unfolding last_of
 early all from zero le = refl
 early all from (suc n) le = let no : nat_le from n ≡ false = grind (arith, nat_tests) in ap (λ c. cond c (all n) []) no
 
+pub none_told : (all : ℕ → List (Option ℕ)) (from at : ℕ) → at ≤ from → moments_of all from at ≡ []
+unfolding moments_of
+none_told all from zero le = refl
+none_told all from (suc n) le =
+    let no : nat_le from n ≡ false = grind (arith, nat_tests) in
+    ap₂ (λ xs c. xs ++ cond c (moment_at n (changes_from (last_of all from n) 0 (all n))) []) (none_told all from n (omega (arith, le))) no
+
 -- by whether the new cycle is told, and whether one before it is
 step_by : (all : ℕ → List (Option ℕ)) (from at b : ℕ) (x last : List (Option ℕ)) (before : List Moment) (told was : Bool) → (at ≤ from → last ≡ []) →
     nat_le from b ≡ told → nat_lt (max from at) b ≡ was → at ≤ b → all b ≡ x →

@@ -1,7 +1,7 @@
 -- The declarations of a dump keep to the grammar.
 use Rattle.std.specs.Prelude.{◌&&◌, ◌*◌, codes, decimal}
 use Rattle.std.specs.List.{list_all}
-use Rattle.std.proofs.Common.{◌≡◌, ◌≤◌, ◌+◌, ℕ, List, [], ◌∷◌, ◌++◌, Bool, true, false, cond, length, refl, ap, sym, ◌∙◌, subst, arith, append_assoc, append-nil}
+use Rattle.std.proofs.Common.{◌≡◌, ◌≤◌, ◌+◌, ℕ, List, [], ◌∷◌, ◌++◌, Bool, true, false, cond, length, refl, ap, ap₂, sym, ◌∙◌, subst, arith, append_assoc, append-nil}
 use Rattle.prem_wave.specs.Grammar.{Declares, IsIdentifier, Variable, none, comment, version, timescale, scope, upscope, variable, is_in_identifier}
 use Rattle.prem_wave.specs.Header.{bus_text, core_text, device_text, devices_bits, devices_text, header_end, header_text, is_in_name, line_end, name_byte, name_text, preamble}
 use Rattle.prem_wave.specs.Header.{scope_end, scope_start, scope_text, signal_bits, task_text, tasks_bits, tasks_text, variable_text}
@@ -77,17 +77,19 @@ core_part =
     then_ext 0 1 0 [] _ _ _ core_ext (then_ext 1 1 0 (numbered 0 64 ∷ []) _ _ _ (variable_ext 1 64 0 (codes "task") (omega arith) (refl, refl))
     (then_ext 1 1 0 (numbered 1 1 ∷ []) [] _ _ (variable_ext 1 1 1 (codes "window") (omega arith) (refl, refl)) end_ext))
 
-bus_part : (k : ℕ) → Ext 0 0 (numbered k 64 ∷ numbered (k + 1) 1 ∷ []) (bus_text k)
+bus_part : (k : ℕ) → Ext 0 0 (numbered k 64 ∷ numbered (k + 1) 1 ∷ numbered (k + 2) 1 ∷ []) (bus_text k)
 unfolding bus_text
 bus_part k =
     then_ext 0 1 0 [] _ _ _ bus_scope (then_ext 1 1 0 (numbered k 64 ∷ []) _ _ _ (variable_ext 1 64 k (codes "holder") (omega arith) (refl, refl))
-    (then_ext 1 1 0 (numbered (k + 1) 1 ∷ []) [] _ _ (variable_ext 1 1 (k + 1) (codes "miss") (omega arith) (refl, refl)) end_ext))
+    (then_ext 1 1 0 (numbered (k + 1) 1 ∷ []) _ _ _ (variable_ext 1 1 (k + 1) (codes "miss") (omega arith) (refl, refl))
+    (then_ext 1 1 0 (numbered (k + 2) 1 ∷ []) [] _ _ (variable_ext 1 1 (k + 2) (codes "back") (omega arith) (refl, refl)) end_ext)))
 
-task_part : (k : ℕ) (name : List ℕ) → Ext 0 0 (numbered k 64 ∷ numbered (k + 1) 64 ∷ []) (task_text k name)
+task_part : (k : ℕ) (name : List ℕ) → Ext 0 0 (numbered k 64 ∷ numbered (k + 1) 64 ∷ numbered (k + 2) 64 ∷ []) (task_text k name)
 unfolding task_text
 task_part k name =
     then_ext 0 1 0 [] _ _ _ (task_scope name) (then_ext 1 1 0 (numbered k 64 ∷ []) _ _ _ (variable_ext 1 64 k (codes "state") (omega arith) (refl, refl))
-    (then_ext 1 1 0 (numbered (k + 1) 64 ∷ []) [] _ _ (variable_ext 1 64 (k + 1) (codes "job") (omega arith) (refl, refl)) end_ext))
+    (then_ext 1 1 0 (numbered (k + 1) 64 ∷ []) _ _ _ (variable_ext 1 64 (k + 1) (codes "job") (omega arith) (refl, refl))
+    (then_ext 1 1 0 (numbered (k + 2) 64 ∷ []) [] _ _ (variable_ext 1 64 (k + 2) (codes "call") (omega arith) (refl, refl)) end_ext)))
 
 device_part : (k : ℕ) (name : List ℕ) → Ext 0 0 (numbered k 64 ∷ numbered (k + 1) 64 ∷ numbered (k + 2) 64 ∷ []) (device_text k name)
 unfolding device_text
@@ -107,9 +109,11 @@ none_ext variables text d = subst (λ v. Declares 0 v (text ++ [])) (sym (append
 tasks_part : (k : ℕ) (names : List (List ℕ)) → Ext 0 0 (variables_from k (tasks_bits names)) (tasks_text k names)
 tasks_part k [] = none_ext
 tasks_part k (name ∷ names) =
-    let e : k + 2 ≡ (k + 1) + 1 = omega arith in
-    then_ext 0 0 0 (numbered k 64 ∷ numbered (k + 1) 64 ∷ []) (variables_from ((k + 1) + 1) (tasks_bits names)) (task_text k name) (tasks_text (k + 2) names) (task_part k name)
-    (subst (λ n. Ext 0 0 (variables_from n (tasks_bits names)) (tasks_text (k + 2) names)) e (tasks_part (k + 2) names))
+    let two : k + 2 ≡ (k + 1) + 1 = omega arith in
+    let three : k + 3 ≡ ((k + 1) + 1) + 1 = omega arith in
+    then_ext 0 0 0 (numbered k 64 ∷ numbered (k + 1) 64 ∷ numbered ((k + 1) + 1) 64 ∷ []) (variables_from (((k + 1) + 1) + 1) (tasks_bits names)) (task_text k name) (tasks_text (k + 3) names)
+    (subst (λ n. Ext 0 0 (numbered k 64 ∷ numbered (k + 1) 64 ∷ numbered n 64 ∷ []) (task_text k name)) two (task_part k name))
+    (subst (λ n. Ext 0 0 (variables_from n (tasks_bits names)) (tasks_text (k + 3) names)) three (tasks_part (k + 3) names))
 
 devices_part : (k : ℕ) (names : List (List ℕ)) → Ext 0 0 (variables_from k (devices_bits names)) (devices_text k names)
 devices_part k [] = none_ext
@@ -128,7 +132,7 @@ preamble_part =
     ∙ append_assoc text (codes "$comment Words are bytes: show them as ASCII. $end\n") (codes "$version prem_wave $end\n$timescale 1 ns $end\n"))
     (timescale (version (codes "prem_wave") refl (comment (codes "Words are bytes: show them as ASCII.") refl d))))
 
-tasks_length : (names : List (List ℕ)) → length (tasks_bits names) ≡ 2 * length names
+tasks_length : (names : List (List ℕ)) → length (tasks_bits names) ≡ 3 * length names
 tasks_length [] = refl
 tasks_length (name ∷ names) = let h = tasks_length names in omega (arith, h)
 
@@ -139,35 +143,37 @@ variables_append k (x ∷ xs) ys =
     ap (λ v. numbered k x ∷ v) (variables_append (k + 1) xs ys ∙ ap (λ n. variables_from (k + 1) xs ++ variables_from n ys) e)
 
 abbrev declared_text : (tasks devices : List (List ℕ)) → List ℕ
-declared_text tasks devices = preamble ++ (core_text ++ (tasks_text 2 tasks ++ (bus_text (2 + 2 * length tasks) ++ devices_text (2 + 2 * length tasks + 2) devices)))
+declared_text tasks devices = preamble ++ (core_text ++ (tasks_text 2 tasks ++ (bus_text (2 + 3 * length tasks) ++ devices_text (2 + 3 * length tasks + 3) devices)))
 
 parts : (tasks devices : List (List ℕ)) →
     Ext 0 0 ((numbered 0 64 ∷ numbered 1 1 ∷ [])
     ++ (variables_from 2 (tasks_bits tasks)
-    ++ ((numbered (2 + 2 * length tasks) 64 ∷ numbered (2 + 2 * length tasks + 1) 1 ∷ [])
-    ++ variables_from (2 + 2 * length tasks + 2) (devices_bits devices))))
+    ++ ((numbered (2 + 3 * length tasks) 64 ∷ numbered (2 + 3 * length tasks + 1) 1 ∷ numbered (2 + 3 * length tasks + 2) 1 ∷ [])
+    ++ variables_from (2 + 3 * length tasks + 3) (devices_bits devices))))
     (declared_text tasks devices)
 parts tasks devices =
-    let k = 2 + 2 * length tasks in
+    let k = 2 + 3 * length tasks in
     then_ext 0 0 0 [] _ preamble _ preamble_part (then_ext 0 0 0 (numbered 0 64 ∷ numbered 1 1 ∷ []) _ core_text _ core_part
     (then_ext 0 0 0 (variables_from 2 (tasks_bits tasks)) _ (tasks_text 2 tasks) _ (tasks_part 2 tasks)
-    (then_ext 0 0 0 (numbered k 64 ∷ numbered (k + 1) 1 ∷ []) (variables_from (k + 2) (devices_bits devices)) (bus_text k) (devices_text (k + 2) devices) (bus_part k) (devices_part (k + 2) devices))))
+    (then_ext 0 0 0 (numbered k 64 ∷ numbered (k + 1) 1 ∷ numbered (k + 2) 1 ∷ []) (variables_from (k + 3) (devices_bits devices)) (bus_text k) (devices_text (k + 3) devices)
+    (bus_part k) (devices_part (k + 3) devices))))
 
 variables_are : (tasks devices : List (List ℕ)) →
     (numbered 0 64 ∷ numbered 1 1 ∷ [])
     ++ (variables_from 2 (tasks_bits tasks)
-    ++ ((numbered (2 + 2 * length tasks) 64 ∷ numbered (2 + 2 * length tasks + 1) 1 ∷ [])
-    ++ variables_from (2 + 2 * length tasks + 2) (devices_bits devices)))
+    ++ ((numbered (2 + 3 * length tasks) 64 ∷ numbered (2 + 3 * length tasks + 1) 1 ∷ numbered (2 + 3 * length tasks + 2) 1 ∷ [])
+    ++ variables_from (2 + 3 * length tasks + 3) (devices_bits devices)))
     ≡ variables_from 0 (signal_bits tasks devices)
 variables_are tasks devices =
     let l = tasks_length tasks in
-    let e : 2 + 2 * length tasks ≡ 2 + length (tasks_bits tasks) = omega (arith, l) in
-    let two : 2 + 2 * length tasks + 2 ≡ ((2 + 2 * length tasks) + 1) + 1 = omega arith in
-    let k = 2 + 2 * length tasks in
+    let k = 2 + 3 * length tasks in
+    let e : k ≡ 2 + length (tasks_bits tasks) = omega (arith, l) in
+    let two : k + 2 ≡ (k + 1) + 1 = omega arith in
+    let three : k + 3 ≡ ((k + 1) + 1) + 1 = omega arith in
     ap (λ v. numbered 0 64 ∷ numbered 1 1 ∷ v)
-    (ap (λ n. variables_from 2 (tasks_bits tasks) ++ (numbered k 64 ∷ numbered (k + 1) 1 ∷ variables_from n (devices_bits devices))) two
-    ∙ ap (λ n. variables_from 2 (tasks_bits tasks) ++ variables_from n (64 ∷ 1 ∷ devices_bits devices)) e
-    ∙ sym (variables_append 2 (tasks_bits tasks) (64 ∷ 1 ∷ devices_bits devices)))
+    (ap₂ (λ m n. variables_from 2 (tasks_bits tasks) ++ (numbered k 64 ∷ numbered (k + 1) 1 ∷ numbered m 1 ∷ variables_from n (devices_bits devices))) two three
+    ∙ ap (λ n. variables_from 2 (tasks_bits tasks) ++ variables_from n (64 ∷ 1 ∷ 1 ∷ devices_bits devices)) e
+    ∙ sym (variables_append 2 (tasks_bits tasks) (64 ∷ 1 ∷ 1 ∷ devices_bits devices)))
 
 pub declares : (tasks devices : List (List ℕ)) → Declares 0 (variables_from 0 (signal_bits tasks devices)) (declared_text tasks devices)
 declares tasks devices = subst (λ v. Declares 0 v (declared_text tasks devices)) (variables_are tasks devices) (parts tasks devices [] [] none)
@@ -175,9 +181,9 @@ declares tasks devices = subst (λ v. Declares 0 v (declared_text tasks devices)
 pub header_is : (tasks devices : List (List ℕ)) → header_text tasks devices ≡ declared_text tasks devices ++ codes "$enddefinitions $end\n"
 unfolding header_end
 header_is tasks devices =
-    let k = 2 + 2 * length tasks in
+    let k = 2 + 3 * length tasks in
     let e = header_end in
-    sym (append_assoc preamble (core_text ++ (tasks_text 2 tasks ++ (bus_text k ++ devices_text (k + 2) devices))) e
-    ∙ ap (λ x. preamble ++ x) (append_assoc core_text (tasks_text 2 tasks ++ (bus_text k ++ devices_text (k + 2) devices)) e
-    ∙ ap (λ x. core_text ++ x) (append_assoc (tasks_text 2 tasks) (bus_text k ++ devices_text (k + 2) devices) e
-    ∙ ap (λ x. tasks_text 2 tasks ++ x) (append_assoc (bus_text k) (devices_text (k + 2) devices) e))))
+    sym (append_assoc preamble (core_text ++ (tasks_text 2 tasks ++ (bus_text k ++ devices_text (k + 3) devices))) e
+    ∙ ap (λ x. preamble ++ x) (append_assoc core_text (tasks_text 2 tasks ++ (bus_text k ++ devices_text (k + 3) devices)) e
+    ∙ ap (λ x. core_text ++ x) (append_assoc (tasks_text 2 tasks) (bus_text k ++ devices_text (k + 3) devices) e
+    ∙ ap (λ x. tasks_text 2 tasks ++ x) (append_assoc (bus_text k) (devices_text (k + 3) devices) e))))

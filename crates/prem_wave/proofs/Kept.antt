@@ -28,7 +28,7 @@ use Rattle.prem_cycle.proofs.RunsLemmas.DullLemmas.Stretch.{fewer_rest, one_step
 use Rattle.prem_wave.specs.declared.bus.Before.{Before}
 use Rattle.prem_wave.specs.declared.doing.Doing.{Doing}
 use Rattle.prem_wave.specs.declared.doing.Doing.TheVariants.{Rests as Resting, Switches, Begins, Goes}
-use Rattle.prem_wave.specs.Signals.{before_of, bit, bus_after, bus_word, chosen, core_task, device_values, doing_in, doing_of, each, is_open, on_bus, switching, task_values}
+use Rattle.prem_wave.specs.Signals.{before_of, bit, bus_after, bus_word, calls_of, chosen, core_task, device_values, doing_in, doing_of, each, is_open, on_bus, switching, task_values}
 use Rattle.prem_wave.specs.Signals.{values_after, values_before, values_with}
 use Rattle.prem_wave.specs.Waves.{AllSame, window_change}
 
@@ -157,7 +157,9 @@ record Same (m : ℕ) (s u : MachineState) : Type 0 where
   wants : wants (want_of u.core.debt) ≡ wants (want_of s.core.debt)
   gates : SameGates s u
   transfers : u.log.transfers ≡ s.log.transfers
+  intervals : u.log.intervals ≡ s.log.intervals
   misses : u.log.counts.misses ≡ s.log.counts.misses
+  backs : u.log.counts.writebacks ≡ s.log.counts.writebacks
 
 pub record IsStill (rule : ReplacementRule) (p : Setup) (requests : List Request) (n : ℕ) (s : MachineState) : Type 0 where
   pub dull : AreDull rule p requests n s
@@ -175,7 +177,9 @@ same rule p requests n m s le h =
       wants = ap (λ (x : MachineState). wants (want_of x.core.debt)) is ∙ ap wants (want_passed m s.core);
       gates = gates_kept rule p requests n m s le h.dull;
       transfers = ap (λ (x : MachineState). x.log.transfers) is;
+      intervals = ap (λ (x : MachineState). x.log.intervals) is;
       misses = ap (λ (x : MachineState). x.log.counts.misses) is;
+      backs = ap (λ (x : MachineState). x.log.counts.writebacks) is;
     }
 
 -- ---- what depends on the time
@@ -224,6 +228,7 @@ task_same switch m s u k h t =
     let phase = ap (λ w. phase_in w k) h.work in
     let ready = ap (λ x. is_ready u.now (task_at x k)) h.sched ∙ t.ready k in
     let ended = ap (λ x. (task_at x k).ended) h.sched in
+    let call = ap (calls_of k) h.intervals in
     cc
 
 before_same : (switch tasks m : ℕ) (s u : MachineState) → Same m s u → SameTime s u.now → values_before switch tasks u ≡ values_before switch tasks s
@@ -237,9 +242,10 @@ before_same switch tasks m s u h t =
 seen_same : (m : ℕ) (s u : MachineState) → Same m s u → before_of u ≡ before_of s
 seen_same m s u h =
     let misses = h.misses in
+    let backs = h.backs in
     let transfers = ap length h.transfers in
     let want = h.wants in
-    λ i. record { misses = misses i; transfers = transfers i; wants = want i }
+    λ i. record { misses = misses i; backs = backs i; transfers = transfers i; wants = want i }
 
 bus_same : (b : Before) (m : ℕ) (s u : MachineState) → Same m s u → bus_after b u ≡ bus_after b s
 bus_same b m s u h = ap (λ x. on_bus u.gates.carried (slice_get x b.transfers)) h.transfers ∙ h.gates.on (slice_get s.log.transfers b.transfers)
@@ -254,9 +260,11 @@ after_same : (devices m : ℕ) (b : Before) (s u : MachineState) → Same m s u 
 after_same devices m b s u h =
     let bus = ap (λ o. Some (bus_word o b.wants)) (bus_same b m s u h) in
     let miss = ap (λ n. Some (bit (nat_lt b.misses n))) h.misses in
+    let back = ap (λ n. Some (bit (nat_lt b.backs n))) h.backs in
+    let line = Some (bit (nat_lt b.backs u.log.counts.writebacks)) in
     let each' = each_same (device_values (bus_after b u) u) (device_values (bus_after b s) s) devices (λ d. device_same b m s u d h) in
-    ap₂ (λ x y. (x ∷ y ∷ []) ++ each (device_values (bus_after b u) u) devices) bus miss
-    ∙ ap (λ x. (Some (bus_word (bus_after b s) b.wants) ∷ Some (bit (nat_lt b.misses s.log.counts.misses)) ∷ []) ++ x) each'
+    ap₂ (λ x y. (x ∷ y ∷ line ∷ []) ++ each (device_values (bus_after b u) u) devices) bus miss
+    ∙ ap₂ (λ z x. (Some (bus_word (bus_after b s) b.wants) ∷ Some (bit (nat_lt b.misses s.log.counts.misses)) ∷ z ∷ []) ++ x) back each'
 
 -- the values in a cycle among still ones are those of all of them together
 cycle_same : (rule : ReplacementRule) (p : Setup) (requests : List Request) (switch tasks devices n m : ℕ) (s : MachineState) → m < n → IsStill rule p requests n s →

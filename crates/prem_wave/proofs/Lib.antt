@@ -1,6 +1,7 @@
 pub mod Moments
 pub mod Phases
 pub mod Kept
+pub mod Counting
 pub mod Between
 pub mod ReadBack
 pub mod Digits

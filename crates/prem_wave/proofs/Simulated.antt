@@ -44,11 +44,11 @@ fit_wide : (values : List (Option ℕ)) → Fit (wide (length values)) values
 fit_wide [] = tt
 fit_wide (v ∷ values) = (wide_value v, fit_wide values)
 
-tasks_wide : (names : List (List ℕ)) → tasks_bits names ≡ wide (2 * length names)
+tasks_wide : (names : List (List ℕ)) → tasks_bits names ≡ wide (3 * length names)
 tasks_wide [] = refl
 tasks_wide (name ∷ names) =
-    let e : suc (suc (2 * length names)) ≡ 2 * length (name ∷ names) = omega arith in
-    ap (λ bits. 64 ∷ 64 ∷ bits) (tasks_wide names) ∙ ap wide e
+    let e : suc (suc (suc (3 * length names))) ≡ 3 * length (name ∷ names) = omega arith in
+    ap (λ bits. 64 ∷ 64 ∷ 64 ∷ bits) (tasks_wide names) ∙ ap wide e
 
 devices_wide : (names : List (List ℕ)) → devices_bits names ≡ wide (3 * length names)
 devices_wide [] = refl
@@ -64,10 +64,6 @@ length_append (x ∷ xs) ys = let h = length_append xs ys in omega (arith, h)
 abbrev times : ℕ → ℕ → ℕ
 times size zero = 0
 times size (suc n) = times size n + size
-
-times_two : (n : ℕ) → times 2 n ≡ 2 * n
-times_two zero = omega arith
-times_two (suc n) = let h = times_two n in omega (arith, h)
 
 times_three : (n : ℕ) → times 3 n ≡ 3 * n
 times_three zero = omega arith
@@ -91,15 +87,15 @@ values_fit switch tasks devices s t =
     let ds = each (device_values (bus_after b t) t) (length devices) in
     let tasks_fit : Fit (tasks_bits tasks) ts =
     fit_each (tasks_bits tasks) ts
-    (tasks_wide tasks ∙ ap wide (sym (each_length (task_values switch s) 2 (length tasks) (λ k. refl) ∙ times_two (length tasks)))) in
+    (tasks_wide tasks ∙ ap wide (sym (each_length (task_values switch s) 3 (length tasks) (λ k. refl) ∙ times_three (length tasks)))) in
     let devices_fit : Fit (devices_bits devices) ds =
     fit_each (devices_bits devices) ds (devices_wide devices ∙ ap wide (sym (each_length (device_values (bus_after b t) t) 3 (length devices) (λ k. refl) ∙ times_three (length devices)))) in
-    let bus_fit : Fit (64 ∷ 1 ∷ devices_bits devices) (values_after (length devices) b t) =
-    (wide_value (Some (bus_word (bus_after b t) b.wants)), (bit_value (nat_lt b.misses t.log.counts.misses), devices_fit)) in (
+    let bus_fit : Fit (64 ∷ 1 ∷ 1 ∷ devices_bits devices) (values_after (length devices) b t) =
+    (wide_value (Some (bus_word (bus_after b t) b.wants)), (bit_value (nat_lt b.misses t.log.counts.misses), (bit_value (nat_lt b.backs t.log.counts.writebacks), devices_fit))) in (
       wide_value (core_task (doing_of switch s)),
       (
         bit_value (is_open s.now s.core.window),
-        fit_append (tasks_bits tasks) (64 ∷ 1 ∷ devices_bits devices) ts (values_after (length devices) b t) tasks_fit bus_fit,
+        fit_append (tasks_bits tasks) (64 ∷ 1 ∷ 1 ∷ devices_bits devices) ts (values_after (length devices) b t) tasks_fit bus_fit,
       ),
     )
 

@@ -1,5 +1,5 @@
 -- A run of which a dump is written turn by turn.
-use Rattle.std.specs.Prelude.{nat_lt, is_some, ◌||◌, ◌&&◌, ◌==◌}
+use Rattle.std.specs.Prelude.{min, nat_lt, is_some, ◌||◌, ◌&&◌, ◌==◌}
 use Rattle.std.proofs.Common.{◌≡◌, ℕ, zero, suc, ◌+◌, ◌-◌, ◌<◌, ◌≤◌, Bool, true, false, cond, List, [], ◌++◌, Option, Some, None, length, refl, ap, ap₂, sym, ◌∙◌, subst, arith}
 use Rattle.std.proofs.Common.{append_assoc, append-nil}
 use Rattle.std.proofs.lemmas.Bool.Decides.{nat_tests}
@@ -23,7 +23,7 @@ use Rattle.prem_machine.specs.States.{Running, requests_in, setup_in, state_of}
 use Rattle.prem_wave.specs.Dump.{last_of, moments_of, moments_text}
 use Rattle.prem_wave.specs.Signals.{values_of, values_with}
 use Rattle.prem_wave.specs.Waves.{AllSame, goes_on, last_between, moments_between, run_values}
-use Rattle.prem_wave.proofs.Between.{between}
+use Rattle.prem_wave.proofs.Between.{between, early as none_last, none_told}
 use Rattle.prem_wave.proofs.Simulated.{flat_append}
 
 -- ---- where a run comes to its limit
@@ -122,23 +122,32 @@ pub first_now : (image : Image) (input : RunInput) → (start image input).now �
 unfolding cycles_of
 first_now image input = refl
 
-pub first_waved : (image : Image) (input : RunInput) (from limit : ℕ) (stop : Stop) (m m' : Running) (header : List ℕ) →
-    setup_in m ≡ setup_of image → requests_in m ≡ items_of input.requests → state_of m ≡ start image input →
-    state_of m' ≡ cycles_of (rule_in (setup_in m)) (setup_in m) (requests_in m) (0 - (state_of m).now) (state_of m) → setup_in m' ≡ setup_in m → requests_in m' ≡ requests_in m →
-    Some stop ≡ stop_of 0 (state_of m') → IsWaved image input from limit 0 stop m' header header []
-unfolding cycles_of moments_of last_of
-first_waved image input from limit stop m m' header setup requests state goes setup' requests' stopped =
-    let none : 0 - (state_of m).now ≡ 0 = omega arith in
-    let there : state_of m' ≡ start image input = goes ∙ ap (λ n. cycles_of (rule_in (setup_in m)) (setup_in m) (requests_in m) n (state_of m)) none ∙ state in
-    let now : (state_of m').now ≡ 0 = ap (λ (x : MachineState). x.now) there ∙ first_now image input in
+-- it has come to the first cycle that is told, or to the limit if that is before it
+pub first_waved : (image : Image) (input : RunInput) (from limit at : ℕ) (stop : Stop) (m m' : Running) (header : List ℕ) →
+    at ≡ min from limit → setup_in m ≡ setup_of image → requests_in m ≡ items_of input.requests → state_of m ≡ start image input →
+    state_of m' ≡ cycles_of (rule_in (setup_in m)) (setup_in m) (requests_in m) (at - (state_of m).now) (state_of m) → setup_in m' ≡ setup_in m → requests_in m' ≡ requests_in m →
+    Some stop ≡ stop_of at (state_of m') → IsWaved image input from limit at stop m' header header []
+first_waved image input from limit at stop m m' header is setup requests state goes setup' requests' stopped =
+    let p = setup_of image in
+    let q = items_of input.requests in
+    let rule = rule_in p in
+    let now : (state_of m).now ≡ 0 = ap (λ (x : MachineState). x.now) state ∙ first_now image input in
+    let all : at - (state_of m).now ≡ at = omega (arith, now) in
+    let there : state_of m' ≡ after image input at =
+    goes ∙ ap (λ n. cycles_of (rule_in (setup_in m)) (setup_in m) (requests_in m) n (state_of m)) all
+    ∙ ap (λ x. cycles_of (rule_in x) x (requests_in m) at (state_of m)) setup ∙ ap (λ x. cycles_of rule p x at (state_of m)) requests ∙ ap (λ x. cycles_of rule p q at x) state in
+    let t = ticks rule p q at (start image input) in
+    let first = first_now image input in
+    let then = ap (λ (x : MachineState). x.now) there in
+    let early : (state_of m').now ≤ from = omega (arith, t.within, first, then, is) in
     record {
-      within = omega arith;
+      within = omega (arith, is);
       setup = setup' ∙ setup;
       requests = requests' ∙ requests;
       state = there;
       stopped = stopped;
-      text_is = sym (append-nil header) ∙ ap (λ n. header ++ moments_text (moments_of (values_at image input) from n)) (sym now);
-      last_is = ap (λ n. last_of (values_at image input) from n) (sym now);
+      text_is = sym (append-nil header) ∙ ap (λ ms. header ++ moments_text ms) (sym (none_told (values_at image input) from (state_of m').now early));
+      last_is = sym (none_last (values_at image input) from (state_of m').now early);
     }
 
 -- ---- a turn

@@ -45,15 +45,19 @@ core_text = scope_text (codes "core") [] ++ (variable_text 64 0 (codes "task") +
 
 -- of a task whose first signal is k
 unfoldable pub task_text : ℕ → List ℕ → List ℕ
-task_text k name = scope_text (codes "task_") name ++ (variable_text 64 k (codes "state") ++ (variable_text 64 (k + 1) (codes "job") ++ scope_end))
+task_text k name =
+    scope_text (codes "task_") name
+    ++ (variable_text 64 k (codes "state") ++ (variable_text 64 (k + 1) (codes "job") ++ (variable_text 64 (k + 2) (codes "call") ++ scope_end)))
 
 -- of tasks, where the first one's first signal is k
 abbrev pub tasks_text : ℕ → List (List ℕ) → List ℕ
 tasks_text k [] = []
-tasks_text k (name ∷ names) = task_text k name ++ tasks_text (k + 2) names
+tasks_text k (name ∷ names) = task_text k name ++ tasks_text (k + 3) names
 
 unfoldable pub bus_text : ℕ → List ℕ
-bus_text k = scope_text (codes "bus") [] ++ (variable_text 64 k (codes "holder") ++ (variable_text 1 (k + 1) (codes "miss") ++ scope_end))
+bus_text k =
+    scope_text (codes "bus") []
+    ++ (variable_text 64 k (codes "holder") ++ (variable_text 1 (k + 1) (codes "miss") ++ (variable_text 1 (k + 2) (codes "back") ++ scope_end)))
 
 unfoldable pub device_text : ℕ → List ℕ → List ℕ
 device_text k name =
@@ -70,17 +74,17 @@ header_end = codes "$enddefinitions $end\n"
 -- of tasks and devices with these names
 abbrev pub header_text : (tasks devices : List (List ℕ)) → List ℕ
 header_text tasks devices =
-    preamble ++ (core_text ++ (tasks_text 2 tasks ++ (bus_text (2 + 2 * length tasks) ++ (devices_text (2 + 2 * length tasks + 2) devices ++ header_end))))
+    preamble ++ (core_text ++ (tasks_text 2 tasks ++ (bus_text (2 + 3 * length tasks) ++ (devices_text (2 + 3 * length tasks + 3) devices ++ header_end))))
 
 -- ---- how many bits each signal has
 
 abbrev pub tasks_bits : List (List ℕ) → List ℕ
 tasks_bits [] = []
-tasks_bits (name ∷ names) = 64 ∷ 64 ∷ tasks_bits names
+tasks_bits (name ∷ names) = 64 ∷ 64 ∷ 64 ∷ tasks_bits names
 
 abbrev pub devices_bits : List (List ℕ) → List ℕ
 devices_bits [] = []
 devices_bits (name ∷ names) = 64 ∷ 64 ∷ 64 ∷ devices_bits names
 
 abbrev pub signal_bits : (tasks devices : List (List ℕ)) → List ℕ
-signal_bits tasks devices = (64 ∷ 1 ∷ []) ++ (tasks_bits tasks ++ ((64 ∷ 1 ∷ []) ++ devices_bits devices))
+signal_bits tasks devices = (64 ∷ 1 ∷ []) ++ (tasks_bits tasks ++ ((64 ∷ 1 ∷ 1 ∷ []) ++ devices_bits devices))

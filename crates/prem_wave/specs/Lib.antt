@@ -4,6 +4,7 @@ pub mod Header
 pub mod Names
 pub mod Grammar
 pub mod Signals
+pub mod Calls
 pub mod Waves
 pub mod ReadBack
 pub mod Laws

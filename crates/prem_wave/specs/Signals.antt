@@ -16,6 +16,7 @@ use Rattle.prem_gate.specs.Gates.{gate_at, wants}
 use Rattle.prem_cycle.specs.declared.state.Mode.{Mode}
 use Rattle.prem_cycle.specs.declared.state.Mode.TheVariants.{Point, Switching, Running, Idle}
 use Rattle.prem_cycle.specs.declared.state.Interval.{Interval}
+use Rattle.prem_cycle.specs.declared.facts.EndedInterval.{EndedInterval}
 use Rattle.prem_cycle.specs.State.{Setup, MachineState}
 use Rattle.prem_cycle.specs.Core.{is_paid, phase_in, want_of}
 use Rattle.prem_wave.specs.declared.words.TheConstants.{CORE, COMPATIBLE, DEVICE, DONE, EXECUTION, FREE, GET, MEMORY, PUT, RELEASED, SWITCH, WAIT}
@@ -94,11 +95,20 @@ task_word (Switches j) i mark paid phase ready k = if j == k then SWITCH else aw
 task_word (Begins j) i mark paid phase ready k = if j == k then phase_word phase else away_word ready
 task_word (Goes j) i mark paid phase ready k = if j == k then interval_word i mark paid phase else away_word ready
 
--- what task k does, and the number of its job: that of those that have ended
-abbrev pub task_values : ℕ → MachineState → ℕ → List (Option ℕ)
-task_values switch s k =
+-- how many marked calls of task k are among intervals: its predictable ones
+abbrev pub calls_of : ℕ → List EndedInterval → ℕ
+calls_of k [] = 0
+calls_of k (i ∷ intervals) = if i.predictable && i.task == k then suc (calls_of k intervals) else calls_of k intervals
+
+-- what task k does, the number of its job, which is that of those that have ended, and the number of its marked call
+abbrev pub task_values_with : ℕ → MachineState → (call : ℕ) → ℕ → List (Option ℕ)
+task_values_with switch s call k =
     Some (task_word (doing_of switch s) s.core.interval s.core.mark (is_paid s.core.debt) (phase_in s.work k) (is_ready s.now (task_at s.sched k)) k)
-    ∷ Some (task_at s.sched k).ended ∷ []
+    ∷ Some (task_at s.sched k).ended ∷ Some call ∷ []
+
+-- the number of a marked call in all of the run is that of those that have ended
+abbrev pub task_values : ℕ → MachineState → ℕ → List (Option ℕ)
+task_values switch s k = task_values_with switch s (calls_of k s.log.intervals) k
 
 -- ---- the window and the bus
 
@@ -123,7 +133,13 @@ on_bus None ended = ended_on ended
 
 -- what the state before a cycle gives to what is seen behind it
 abbrev pub before_of : MachineState → Before
-before_of s = record { misses = s.log.counts.misses; transfers = length s.log.transfers; wants = wants (want_of s.core.debt) }
+before_of s =
+    record {
+      misses = s.log.counts.misses;
+      backs = s.log.counts.writebacks;
+      transfers = length s.log.transfers;
+      wants = wants (want_of s.core.debt);
+    }
 
 abbrev pub bus_after : Before → MachineState → Option OnBus
 bus_after b t = on_bus t.gates.carried (slice_get t.log.transfers b.transfers)
@@ -160,7 +176,9 @@ values_before switch tasks s =
 -- those that the state behind it shows: of the bus and the cache, and of each of so many devices
 abbrev pub values_after : (devices : ℕ) → Before → MachineState → List (Option ℕ)
 values_after devices b t =
-    (Some (bus_word (bus_after b t) b.wants) ∷ Some (bit (nat_lt b.misses t.log.counts.misses)) ∷ []) ++ each (device_values (bus_after b t) t) devices
+    (Some (bus_word (bus_after b t) b.wants)
+    ∷ Some (bit (nat_lt b.misses t.log.counts.misses)) ∷ Some (bit (nat_lt b.backs t.log.counts.writebacks)) ∷ [])
+    ++ each (device_values (bus_after b t) t) devices
 
 -- the values in the cycle between two states
 abbrev pub values_with : (switch tasks devices : ℕ) → MachineState → MachineState → List (Option ℕ)

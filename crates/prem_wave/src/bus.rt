@@ -23,6 +23,8 @@ pub struct OnBus {
 pub struct Before {
     /// The misses so far.
     pub misses: u64,
+    /// The lines written back so far.
+    pub backs: u64,
     /// The number of transfers that have ended.
     pub transfers: usize,
     /// Whether the core wants the bus.
@@ -35,6 +37,7 @@ pub fn before_of<P: Policy>(parts: &Parts<P>) -> Before
 {
     Before {
         misses: parts.facts.misses,
+        backs: parts.facts.writebacks,
         transfers: parts.facts.transfers.items().len(),
         wants: parts.core.wants_bus(),
     }
@@ -160,6 +163,7 @@ fn push_after<P: Policy>(
     let on = bus_after(parts, before);
     values.push(Some(bus_word(on, before.wants)))?;
     values.push(Some(bit(before.misses < parts.facts.misses)))?;
+    values.push(Some(bit(before.backs < parts.facts.writebacks)))?;
     push_devices(values, parts, on, devices)
 }
 

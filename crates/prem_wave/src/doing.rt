@@ -1,10 +1,12 @@
 // What the core and the tasks do in a cycle, by the machine before it.
-ghost use Rattle.std.specs.Prelude.{◌≡◌, ◌++◌, IfOk, OnOk, length};
+ghost use Rattle.std.specs.Prelude.{◌≡◌, ◌++◌, IfOk, OnOk, length, slice_index};
 ghost use Rattle.prem_sched.specs.Schedule.{is_ready, task_at};
 ghost use Rattle.prem_cycle.specs.Core.{is_paid, phase_in};
 ghost use Rattle.prem_machine.specs.Parts.{state_of};
-ghost use Rattle.prem_wave.specs.Signals.{away_word, bit, chosen, core_task, doing_of, each, interval_word, is_open, phase_word, predictable_word, switching, task_values, task_word, values_before};
+ghost use Rattle.prem_wave.specs.Signals.{away_word, bit, chosen, core_task, doing_of, each, interval_word, is_open, phase_word, predictable_word, switching, task_values_with, task_word, values_before};
+ghost use Rattle.prem_wave.specs.Calls.{AreCounted};
 
+use crate::calls::calls_at;
 use crate::words::{COMPATIBLE, DONE, EXECUTION, MEMORY, RELEASED, SWITCH, WAIT};
 use prem_cycle::{Interval, Mode};
 use prem_gate::Window;
@@ -164,14 +166,15 @@ fn phase_of<P: Policy>(parts: &Parts<P>, k: TaskId) -> Phase
     parts.work.cores[k].phase()
 }
 
-/// Puts what a task does, and the number of its job, behind values.
+/// Puts what a task does, and the numbers of its job and of its marked call, behind values.
 fn push_task<P: Policy>(
     values: &mut Vec<Option<u64>>,
     parts: &Parts<P>,
+    calls: &[u64],
     switch: u32,
     k: TaskId,
 ) -> Result<(), AllocError>
-    ensures { OnOk result (values.new.items ≡ values.old.items ++ task_values switch (state_of parts.entry.now) k) }
+    ensures { OnOk result (values.new.items ≡ values.old.items ++ task_values_with switch (state_of parts.entry.now) (slice_index calls.now k) k) }
 {
     let word = task_word(
         doing_of(parts, switch),
@@ -184,6 +187,7 @@ fn push_task<P: Policy>(
     );
     values.push(Some(word))?;
     values.push(Some(u64::from(parts.sched.ended(k))))?;
+    values.push(Some(calls_at(calls, k)))?;
     Ok(())
 }
 
@@ -191,13 +195,14 @@ fn push_task<P: Policy>(
 fn push_tasks<P: Policy>(
     values: &mut Vec<Option<u64>>,
     parts: &Parts<P>,
+    calls: &[u64],
     switch: u32,
     tasks: u16,
 ) -> Result<(), AllocError>
-    ensures { OnOk result (values.new.items ≡ values.old.items ++ each (task_values switch (state_of parts.entry.now)) tasks) }
+    ensures { OnOk result (values.new.items ≡ values.old.items ++ each (λ k. task_values_with switch (state_of parts.entry.now) (slice_index calls.now k) k) tasks) }
 {
     'tasks: for k in 0..tasks {
-        push_task(values, parts, switch, k)?;
+        push_task(values, parts, calls, switch, k)?;
     }
     Ok(())
 }
@@ -216,18 +221,21 @@ pub fn bit(b: bool) -> u64
     if b { 1 } else { 0 }
 }
 
-/// The values that the machine shows before a cycle, with so many tasks and where a switch takes so many cycles.
+/// The values that the machine shows before a cycle, with so many tasks and where a switch takes so many cycles. The marked calls of the tasks
+/// have been counted.
 pub fn values_before<P: Policy>(
     alloc: Global,
     parts: &Parts<P>,
+    calls: &[u64],
     switch: u32,
     tasks: u16,
 ) -> Result<Vec<Option<u64>>, AllocError>
+    requires { AreCounted tasks (state_of parts.now).log.intervals calls.now }
     ensures { IfOk result (λ values. values.items ≡ values_before switch tasks (state_of parts.entry.now)) }
 {
     let mut values = Vec::new(alloc);
     values.push(core_task(doing_of(parts, switch)))?;
     values.push(Some(bit(is_open(parts.now, parts.moment.window))))?;
-    push_tasks(&mut values, parts, switch, tasks)?;
+    push_tasks(&mut values, parts, calls, switch, tasks)?;
     Ok(values)
 }

@@ -131,6 +131,7 @@ fn push_task(alloc: Global, text: &mut Vec<u8>, first: usize, name: &str) -> Res
     push_scope(text, "task_", name)?;
     push_variable(alloc, text, 64, first, "state")?;
     push_variable(alloc, text, 64, first + 1, "job")?;
+    push_variable(alloc, text, 64, first + 2, "call")?;
     push_scope_end(text)
 }
 
@@ -148,7 +149,7 @@ fn push_tasks(
     let mut signal = first;
     'tasks: for task in tasks {
         push_task(alloc, text, signal, task.name.text())?;
-        signal += 2;
+        signal += 3;
     }
     Ok(())
 }
@@ -162,6 +163,7 @@ fn push_bus(alloc: Global, text: &mut Vec<u8>, first: usize) -> Result<(), Alloc
     push_scope(text, "bus", "")?;
     push_variable(alloc, text, 64, first, "holder")?;
     push_variable(alloc, text, 1, first + 1, "miss")?;
+    push_variable(alloc, text, 1, first + 2, "back")?;
     push_scope_end(text)
 }
 
@@ -213,12 +215,12 @@ pub fn declarations(
     ensures { IfOk result (λ text. text.items ≡ header_text (task_names tasks.now) (device_names devices.now)) }
 {
     let mut text = Vec::new(alloc);
-    let bus = 2 + 2 * tasks.len();
+    let bus = 2 + 3 * tasks.len();
     push_preamble(&mut text)?;
     push_core(alloc, &mut text)?;
     push_tasks(alloc, &mut text, 2, tasks)?;
     push_bus(alloc, &mut text, bus)?;
-    push_devices(alloc, &mut text, bus + 2, devices)?;
+    push_devices(alloc, &mut text, bus + 3, devices)?;
     push_header_end(&mut text)?;
     Ok(text)
 }

@@ -4,6 +4,7 @@
 
 mod answer;
 mod bus;
+mod calls;
 mod changes;
 mod doing;
 mod header;

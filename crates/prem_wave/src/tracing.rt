@@ -1,5 +1,5 @@
 // The run of an image, of which a dump is written as it goes.
-ghost use Rattle.std.specs.Prelude.{◌≡◌, ℕ, ◌≤◌, ◌<◌, ◌-◌, ◌^◌, ◌++◌, ◌&&◌, nat_lt, max, suc, unwrap_or, length, IfOk, OnOk, Some, true, false};
+ghost use Rattle.std.specs.Prelude.{◌≡◌, ℕ, ◌≤◌, ◌<◌, ◌-◌, ◌^◌, ◌++◌, ◌&&◌, nat_lt, max, suc, unwrap_or, length, drop, IfOk, OnOk, Some, true, false};
 ghost use Rattle.prem_list.specs.Sequence.{items_of};
 ghost use Rattle.prem_sched.specs.Schedule.{is_ready, task_at};
 ghost use Rattle.prem_cycle.specs.State.{rule_in};
@@ -9,11 +9,13 @@ ghost use Rattle.prem_cycle.specs.FactsOf.{stop_of};
 ghost use Rattle.prem_cycle.specs.Inputs.{FitsRun, image_run, setup_of, words_of};
 ghost use Rattle.prem_machine.specs.States.{requests_in, setup_in, state_of};
 ghost use Rattle.prem_machine.specs.Parts.{state_of as parts_state};
+ghost use Rattle.prem_wave.specs.Calls.{AreCounted, all_counted};
 ghost use Rattle.prem_wave.specs.Dump.{moments_text, time_text};
 ghost use Rattle.prem_wave.specs.Signals.{before_of, values_after, values_before, values_with};
 ghost use Rattle.prem_wave.specs.Waves.{AllSame, goes_on, last_between, moments_between, wave_text, window_change};
 
 use crate::bus::{Before, before_of, values_after};
+use crate::calls::{count_intervals, no_calls};
 use crate::changes::{push_moment, push_time};
 use crate::doing::values_before;
 use crate::header::declarations;
@@ -33,11 +35,12 @@ pub struct Sizes {
     pub devices: u16,
 }
 
-/// The text of a dump so far, and the values in the last cycle of it.
+/// The text of a dump so far, the values in the last cycle of it, and how many marked calls of each task have ended.
 #[derive(Drop)]
 pub struct Dump {
     pub text: Vec<u8>,
     pub last: Vec<Option<u64>>,
+    pub calls: Vec<u64>,
 }
 
 /// Puts what is told of the cycles from `at` up to `now`, which all have these values, behind a dump that begins in cycle `from`.
@@ -51,6 +54,7 @@ fn note(
 ) -> Result<(), AllocError>
     ensures text { OnOk result (dump.new.text.items ≡ dump.old.text.items ++ moments_text (moments_between dump.old.last.items from at now values.items)) }
     ensures last { OnOk result (dump.new.last.items ≡ last_between dump.old.last.items from at now values.items) }
+    ensures calls { OnOk result (dump.new.calls.items ≡ dump.old.calls.items) }
 {
     let first = from.max(at);
     if first < now {
@@ -108,16 +112,18 @@ fn seen_before<P: Policy>(machine: &Machine<P>) -> Before
     before_of(machine.parts())
 }
 
-/// The values that a machine shows before a cycle.
+/// The values that a machine shows before a cycle, where the marked calls so far have been counted.
 fn shown_before<P: Policy>(
     alloc: Global,
     machine: &Machine<P>,
+    calls: &[u64],
     switch: u32,
     tasks: u16,
 ) -> Result<Vec<Option<u64>>, AllocError>
+    requires { AreCounted tasks (state_of machine.now).log.intervals calls.now }
     ensures { IfOk result (λ values. values.items ≡ values_before switch tasks (state_of machine.now)) }
 {
-    values_before(alloc, machine.parts(), switch, tasks)
+    values_before(alloc, machine.parts(), calls, switch, tasks)
 }
 
 /// The values that a machine shows behind a cycle.
@@ -130,6 +136,25 @@ fn shown_after<P: Policy>(
     ensures { IfOk result (λ values. values.items ≡ values_after devices before (state_of machine.now)) }
 {
     values_after(alloc, machine.parts(), before, devices)
+}
+
+/// The number of intervals that have ended.
+fn ended_count<P: Policy>(machine: &Machine<P>) -> usize
+    ensures { result ≡ length (state_of machine.now).log.intervals }
+{
+    machine.facts().intervals.items().len()
+}
+
+/// Counts the marked calls that have ended behind so many intervals.
+fn count_calls<P: Policy>(machine: &Machine<P>, calls: &mut Vec<u64>, before: usize)
+    requires { before ≤ length (state_of machine.now).log.intervals }
+    ensures counted { calls.new.items ≡ all_counted (drop before (state_of machine.now).log.intervals) calls.old.items }
+    ensures few { length (state_of machine.now).log.intervals ≤ 2 ^ 64 - 1 }
+{
+    let intervals = machine.facts().intervals.items();
+    if before < intervals.len() {
+        count_intervals(calls, &intervals[before..]);
+    }
 }
 
 /// Goes on up to a cycle, and writes what is told of the way.
@@ -145,6 +170,7 @@ fn go_on<P: Policy>(
 ) -> Result<Stop, AllocError>
     requires now { (state_of machine.old).now ≤ to }
     requires limit { to ≤ 2 ^ 61 }
+    requires counted { AreCounted sizes.tasks (state_of machine.old).log.intervals dump.old.calls.items }
     ensures state { OnOk result (state_of machine.new ≡ cycles_of (rule_in (setup_in machine.old)) (setup_in machine.old) (requests_in machine.old)
         (to - (state_of machine.old).now) (state_of machine.old)) }
     ensures setup { OnOk result (setup_in machine.new ≡ setup_in machine.old) }
@@ -154,14 +180,17 @@ fn go_on<P: Policy>(
         (values_with sizes.switch sizes.tasks sizes.devices (state_of machine.old) (state_of machine.new)))) }
     ensures last { OnOk result (dump.new.last.items ≡ last_between dump.old.last.items from (state_of machine.old).now (state_of machine.new).now
         (values_with sizes.switch sizes.tasks sizes.devices (state_of machine.old) (state_of machine.new))) }
+    ensures counted { OnOk result (AreCounted sizes.tasks (state_of machine.new).log.intervals dump.new.calls.items) }
 {
     let at = machine.now();
     let before = seen_before(machine);
-    let mut values = shown_before(alloc, machine, sizes.switch, sizes.tasks)?;
+    let ended = ended_count(machine);
+    let mut values = shown_before(alloc, machine, &dump.calls, sizes.switch, sizes.tasks)?;
     let stop = machine.run_to(to);
     let after = shown_after(alloc, machine, before, sizes.devices)?;
     values.extend_from_slice(&after)?;
     note(alloc, dump, from, at, machine.now(), values)?;
+    count_calls(machine, &mut dump.calls, ended);
     Ok(stop)
 }
 
@@ -206,8 +235,8 @@ fn push_end(alloc: Global, text: &mut Vec<u8>, now: u64) -> Result<(), AllocErro
 
 /// The dump of the run of an image up to a limit, from a cycle on. It fails only for want of memory.
 ///
-/// In each of its cycles each signal has the value that the states of the machine before and behind that cycle give it. Cycles in which
-/// no signal changes are passed over at once.
+/// In each of its cycles each signal has the value that the states of the machine before and behind that cycle give it. The machine runs up
+/// to the first one, and then cycles in which no signal changes are passed over at once.
 ///
 /// Conditions: the image's policy is of this kind, the run fits the image, and the limit is at most 2^61.
 pub fn wave<P: Policy>(
@@ -228,9 +257,11 @@ pub fn wave<P: Policy>(
     let mut dump = Dump {
         text: declarations(alloc, image.tasks.items(), image.devices.items())?,
         last: Vec::new(alloc),
+        calls: no_calls(alloc, sizes.tasks)?,
     };
-    let mut at = 0u64;
+    let mut at = from.min(limit);
     let mut stop = machine.run_to(at);
+    count_calls(&machine, &mut dump.calls, 0);
     'turns: while has_turn(at, limit, stop) {
         let end = turn_end(&machine, at, limit);
         stop = go_on(alloc, &mut machine, &mut dump, sizes, from, end)?;

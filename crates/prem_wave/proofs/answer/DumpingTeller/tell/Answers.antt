@@ -12,8 +12,8 @@ abbrev done : List ℕ → Reply
 done text = (Done, text)
 
 pub returns : goal.returns
-returns c =
-    ap done c.in_ok-image_wave.ensures
+returns g c =
+    ap done c.in_ok-wave.ensures
     ∙ ap (λ n. done (image_wave n (image_text c.args.compiled.now.image) (input_of c.args.input.now) c.run_limit-limit.result)) c.unwrap_or-from.ensures
     ∙ ap (λ n. done (image_wave (unwrap_or (chart_asked c.args.self.now.asked.now).from_cycle 0) (image_text c.args.compiled.now.image) (input_of c.args.input.now) n))
     c.run_limit-limit.ensures.limit
