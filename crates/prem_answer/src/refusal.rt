@@ -3,5 +3,5 @@ mod reply;
 mod rule;
 mod text;
 
-pub use reply::{breaker, refused};
+pub use reply::{breaker, refused, uncompiled};
 pub use rule::rule_text;

@@ -9,9 +9,9 @@ ghost use Rattle.prem_build.specs.Build.{compiled_reply, sheet_stages, sheet_tex
 
 use crate::sheet::Sheet;
 use crate::tables::{check_text, list_text};
-use prem_answer::refusal::refused;
+use prem_answer::refusal::uncompiled;
 use prem_answer::{Answer, Halt, Status};
-use prem_compile::{CompileFail, Compiled, TaskSet, compile};
+use prem_compile::{Compiled, TaskSet, compile};
 use prem_exec::sources::read_task_set;
 use prem_imagefile::write_image;
 use prem_io::Store;
@@ -44,8 +44,7 @@ fn compiled_answer(alloc: Global, sheet: Sheet, set: &TaskSet) -> Result<Answer,
 {
     match compile(alloc, set) {
         Ok(compiled) => Ok(told(alloc, sheet, &compiled)?),
-        Err(CompileFail::Refused(refusal)) => Ok(refused(alloc, set.tasks(), &refusal)?),
-        Err(CompileFail::OutOfMemory) => Err(Halt::OutOfMemory),
+        Err(fail) => uncompiled(alloc, set, fail),
     }
 }
 

@@ -15,12 +15,10 @@ ghost use Rattle.prem_answer.specs.Refusal.Texts.{refused_reply};
 ghost use Rattle.prem_answer.specs.Stages.{Comes, IsGiven, reply_of};
 ghost use Rattle.prem_build.specs.Colors.{color_reply, color_stages, found_places, kind_word, memory_refusal, moved_reply, placed_reply, stuck_line};
 
-use prem_answer::refusal::{breaker, refused};
+use prem_answer::refusal::{breaker, refused, uncompiled};
 use prem_answer::{Answer, Halt, Status};
 use prem_color::{ColorFail, color};
-use prem_compile::{
-    CompileFail, Compiled, Parts, Refusal, Rule, TaskSet, TaskText, compile_at, parts_of,
-};
+use prem_compile::{Compiled, Parts, Refusal, Rule, TaskSet, TaskText, compile_at, parts_of};
 use prem_exec::sources::read_task_set;
 use prem_imagefile::write_image;
 use prem_io::Store;
@@ -125,8 +123,7 @@ fn placed_answer(alloc: Global, set: &TaskSet, layout: &Layout) -> Result<Answer
 {
     match compile_at(alloc, set, layout) {
         Ok(compiled) => Ok(told(alloc, &compiled)?),
-        Err(CompileFail::Refused(refusal)) => Ok(refused(alloc, set.tasks(), &refusal)?),
-        Err(CompileFail::OutOfMemory) => Err(Halt::OutOfMemory),
+        Err(fail) => uncompiled(alloc, set, fail),
     }
 }
 
@@ -152,8 +149,7 @@ fn set_answer(alloc: Global, set: &TaskSet) -> Result<Answer, Halt>
 {
     match parts_of(alloc, set) {
         Ok(parts) => moved_answer(alloc, set, &parts),
-        Err(CompileFail::Refused(refusal)) => Ok(refused(alloc, set.tasks(), &refusal)?),
-        Err(CompileFail::OutOfMemory) => Err(Halt::OutOfMemory),
+        Err(fail) => uncompiled(alloc, set, fail),
     }
 }
 

@@ -22,7 +22,7 @@ use Rattle.prem_sets_sound.specs.Meant.{promises_in}
 use Rattle.prem_sets_sound.specs.Sound.{IsSoundSet}
 use Rattle.prem_sets_sound.proofs.AcceptedLemmas.Sample.{sample, sample_values, sample_breaks_nothing}
 use Rattle.prem_sets_sound.proofs.Sound.{sets_are_sound}
-use Rattle.prem_sets_wcet.proofs.Sample.{sample_periods}
+use Rattle.prem_latency.proofs.WcetLemmas.Sample.{sample_periods}
 use Rattle.prem_latency.specs.Images.{ServesDevice}
 use Rattle.prem_latency.specs.Requests.{AreTransferred, states_of}
 use Rattle.prem_latency.proofs.GoesOn.{goes_on}

@@ -33,8 +33,8 @@ use prem_compile::{Compiled, TaskSet};
 use prem_gate::{Request, RunInput};
 use prem_image::Image;
 use prem_io::Store;
-use prem_lru::{Fifo, Lru, Policy};
-use prem_plant::{Device, Replacement};
+use prem_lru::Policy;
+use prem_plant::Device;
 use prem_running::{Teller, run_limit, tell_files};
 use prem_time::{Distance, Promise, promises_of, unknown_in};
 use std::alloc::{AllocError, Global};
@@ -52,7 +52,7 @@ fn view_of(from: Option<u64>, to: Option<u64>, cycles: u64) -> View
     View { first, behind }
 }
 
-/// The picture of the run of an image of this policy up to a cycle.
+/// The picture of the run of an image up to a cycle. Its machine is that of this policy.
 fn chart_under<P: Policy>(
     alloc: Global,
     asked: &ChartWords,
@@ -82,26 +82,6 @@ fn chart_under<P: Policy>(
         input.requests.items(),
         promises,
     )
-}
-
-/// The picture of the run of an image up to a cycle. The machine is that of the image's policy.
-fn image_chart(
-    alloc: Global,
-    asked: &ChartWords,
-    image: &Image,
-    input: &RunInput,
-    promises: &[Promise],
-    limit: u64,
-) -> Result<Vec<u8>, AllocError>
-    requires fits { FitsRun (setup_of image.now) (words_of input.now) (items_of input.now.requests) }
-    requires promises { length promises.now ≤ 8 }
-    requires limit { limit ≤ 2 ^ 61 }
-    ensures { IfOk result (λ text. text.items ≡ image_chart (chart_asked asked.now) (image_text image.now) (input_of input.now) promises.now limit) }
-{
-    match image.plant.policy {
-        Replacement::Lru => chart_under::<Lru>(alloc, asked, image, input, promises, limit),
-        Replacement::Fifo => chart_under::<Fifo>(alloc, asked, image, input, promises, limit),
-    }
 }
 
 /// What is promised to the devices that are named.
@@ -149,13 +129,14 @@ fn stray(alloc: Global, name: &[u8]) -> Result<Answer, AllocError>
 }
 
 /// The picture of the run of a compiled set, with what is promised.
-fn drawn(
+fn drawn<P: Policy>(
     alloc: Global,
     asked: &Asked,
     set: &TaskSet,
     input: &RunInput,
     compiled: &Compiled,
 ) -> Result<Answer, AllocError>
+    requires policy { compiled.now.image.plant.policy ≡ P.kind_of }
     requires distances { AreDistances (distances_in asked.now.distances.items) }
     requires compiled { IsCompiled (set_of set.now) compiled.now }
     requires fits { FitsRun (setup_of compiled.now.image) (words_of input.now) (items_of input.now.requests) }
@@ -168,7 +149,7 @@ fn drawn(
 {
     let limit = run_limit(None, compiled.limit);
     let promises = promised(alloc, set, &asked.distances)?;
-    let text = image_chart(
+    let text = chart_under::<P>(
         alloc,
         &asked.chart,
         &compiled.image,
@@ -183,7 +164,7 @@ fn drawn(
 }
 
 /// The answer to a compiled set: a device that it hasn't got, requests that don't keep their distance, or the picture.
-fn told(
+fn told<P: Policy>(
     alloc: Global,
     asked: &Asked,
     distances: &[Distance],
@@ -193,6 +174,7 @@ fn told(
     input: &RunInput,
     compiled: &Compiled,
 ) -> Result<Answer, AllocError>
+    requires policy { compiled.now.image.plant.policy ≡ P.kind_of }
     requires distances { AreDistances (distances_in asked.now.distances.items) }
     requires compiled { IsCompiled (set_of set.now) compiled.now }
     requires fits { FitsRun (setup_of compiled.now.image) (words_of input.now) (items_of input.now.requests) }
@@ -205,7 +187,7 @@ fn told(
         Some(name) => unknown(alloc, name),
         None => match stray_in(distances, devices, requests) {
             Some(name) => stray(alloc, name),
-            None => drawn(alloc, asked, set, input, compiled),
+            None => drawn::<P>(alloc, asked, set, input, compiled),
         },
     }
 }
@@ -221,14 +203,14 @@ impl Teller for Drawing<'_> {
 
     ghost suits = { λ drawing _. AreDistances (distances_in drawing.asked.now.distances.items) };
 
-    fn tell(
+    fn tell<P: Policy>(
         &self,
         alloc: Global,
         set: &TaskSet,
         input: &RunInput,
         compiled: &Compiled,
     ) -> Result<Answer, AllocError> {
-        told(
+        told::<P>(
             alloc,
             self.asked,
             &self.asked.distances,

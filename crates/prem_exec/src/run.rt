@@ -45,8 +45,8 @@ pub fn run_image<P: Policy>(
     Ok((machine, stop))
 }
 
-/// What is told of the run of an image of this policy up to a cycle.
-fn answer_under<P: Policy>(
+/// What is told of the run of an image of this policy up to a cycle, with its intervals and transfers where `times` says so.
+pub fn answer_under<P: Policy>(
     alloc: Global,
     image: &Image,
     input: &RunInput,
@@ -74,8 +74,7 @@ fn answer_under<P: Policy>(
     })
 }
 
-/// What is told of the run of an image up to a cycle, with its intervals and transfers where `times` says so. The
-/// machine is that of the image's policy.
+/// What is told of the run of an image up to a cycle. The machine is that of the image's policy.
 pub fn run_answer(
     alloc: Global,
     image: &Image,

@@ -9,14 +9,14 @@ use Rattle.prem_tasks.specs.Compiled.{CompiledText, compiled}
 use Rattle.prem_compile.specs.declared.compiled.Compiled.{Compiled}
 use Rattle.prem_compile.specs.CompiledOf.{IsCompiled, compiled_of}
 use Rattle.prem_set.specs.Run.Lawful.{IsLawfulRun}
-use Rattle.prem_answer.specs.declared.status.Status.TheVariants.{Done}
+use Rattle.prem_answer.specs.declared.status.Status.TheVariants.{Done, Refused}
 use Rattle.prem_answer.specs.Stages.{Reply}
 use Rattle.prem_exec.specs.Forms.{RunText}
 use Rattle.prem_exec.specs.Sources.Sources.{names_of}
 use Rattle.prem_running.proofs.Runs.{input_fits}
 use Rattle.prem_pair_top.specs.Words.{PairAsked}
 use Rattle.prem_pair_top.specs.Running.{CountsDue}
-use Rattle.prem_pair_top.specs.Stages.{compiled_text, judged_reply, sets_reply}
+use Rattle.prem_pair_top.specs.Stages.{compiled_text, judged_reply, refused_text, sets_reply}
 use Rattle.prem_pair_top.proofs.Sets.{counts_due, no_devices}
 use Rattle.prem_pair_top.proofs.Runs.{no_requests}
 
@@ -28,6 +28,10 @@ asks_nothing set c input is lawful none =
 -- its limit counts what its jobs are due
 pub compiled_counts_due : (set : TaskSet) (c : Compiled) → IsCompiled set c → CountsDue (compiled_of c)
 compiled_counts_due set c is = subst CountsDue (sym is.compiled) (counts_due set)
+
+-- what a core's set is refused by
+abbrev pub refused_on : ℕ → TaskSet → Refusal Told → Reply
+refused_on core set rule = (Refused, refused_text core set.tasks rule)
 
 -- ---- the answer to both
 

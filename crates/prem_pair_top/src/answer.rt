@@ -1,14 +1,13 @@
 // The sets of both cores and their run files are read, compiled and run.
-ghost use Rattle.std.specs.Prelude.{◌≡◌, ◌≤◌, ◌^◌, [], IfOk, IsErrOf, Ok, map};
+ghost use Rattle.std.specs.Prelude.{◌≡◌, ◌≤◌, ◌^◌, [], IfOk, IsErrOf, Ok};
 ghost use Rattle.prem_list.specs.Sequence.{items_of};
 ghost use Rattle.prem_io.specs.Counts.{Rose};
 ghost use Rattle.prem_cycle.specs.Inputs.{FitsRun, setup_of, words_of};
-ghost use Rattle.prem_tasks.specs.SetOf.{set_of, task_of};
-ghost use Rattle.prem_tasks.specs.Told.{refusal_of};
+ghost use Rattle.prem_tasks.specs.SetOf.{set_of};
 ghost use Rattle.prem_compile.specs.CompiledOf.{compiled_of};
 ghost use Rattle.prem_set.specs.Run.Lawful.{IsLawfulRun};
 ghost use Rattle.prem_answer.specs.Stages.{Comes, IsGiven, reply_of};
-ghost use Rattle.prem_answer.specs.Refusal.Texts.{breaker};
+ghost use Rattle.prem_answer.specs.Refusal.Uncompiled.{Refuses};
 ghost use Rattle.prem_exec.specs.Sources.Sources.{input_of, names_of};
 ghost use Rattle.prem_pair_top.specs.Words.{pair_asked};
 ghost use Rattle.prem_pair_top.specs.Running.{CountsDue};
@@ -24,7 +23,6 @@ use prem_compile::{CompileFail, Compiled, TaskSet, compile};
 use prem_exec::sources::{read_run_file_by, read_task_set_by};
 use prem_gate::RunInput;
 use prem_io::Store;
-use prem_tasks::{Refusal, TaskText};
 use std::alloc::{AllocError, Global};
 
 /// The sets of both cores, and what their runs are given.
@@ -37,19 +35,20 @@ struct Sets<'a> {
 }
 
 /// `refused CORE TASK`, with a star where the set as a whole breaks the rule.
-fn refused(
-    alloc: Global,
-    core: u8,
-    tasks: &[TaskText],
-    refusal: &Refusal,
-) -> Result<Answer, AllocError>
-    ensures { IfOk result (λ a. reply_of a ≡ (Status.Refused, refused_text core (map task_of tasks.now) (refusal_of refusal.now))) }
+fn uncompiled(alloc: Global, core: u8, set: &TaskSet, fail: CompileFail) -> Result<Answer, Halt>
+    ensures answer { Refuses (λ rule. (Status.Refused, refused_text core (set_of set.now).tasks rule)) fail result }
+    ensures unread { IsErrOf result Halt.ReadFault → ⊥ }
 {
-    let name = breaker(tasks, refusal.task);
-    Ok(Answer {
-        status: Status::Refused,
-        text: format!(in alloc; "refused {core} {name}\n")?.into_bytes(),
-    })
+    match fail {
+        CompileFail::Refused(refusal) => {
+            let name = breaker(set.tasks(), refusal.task);
+            Ok(Answer {
+                status: Status::Refused,
+                text: format!(in alloc; "refused {core} {name}\n")?.into_bytes(),
+            })
+        }
+        CompileFail::OutOfMemory => Err(Halt::OutOfMemory),
+    }
 }
 
 /// The answer to two sets that break no rule: their run is told.
@@ -92,15 +91,11 @@ fn sets_answer(alloc: Global, asked: &PairWords<'_>, sets: &Sets<'_>) -> Result<
 {
     let one = match compile(alloc, sets.one) {
         Ok(one) => one,
-        Err(CompileFail::Refused(refusal)) => {
-            return Ok(refused(alloc, 0, sets.one.tasks(), &refusal)?);
-        }
-        Err(CompileFail::OutOfMemory) => return Err(Halt::OutOfMemory),
+        Err(fail) => return uncompiled(alloc, 0, sets.one, fail),
     };
     match compile(alloc, sets.two) {
         Ok(two) => Ok(told(alloc, asked, sets, &one, &two)?),
-        Err(CompileFail::Refused(refusal)) => Ok(refused(alloc, 1, sets.two.tasks(), &refusal)?),
-        Err(CompileFail::OutOfMemory) => Err(Halt::OutOfMemory),
+        Err(fail) => uncompiled(alloc, 1, sets.two, fail),
     }
 }
 

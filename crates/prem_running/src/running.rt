@@ -9,8 +9,10 @@ use crate::teller::{Teller, tell_files};
 use prem_answer::{Answer, Halt, Status};
 use prem_command::RunWords;
 use prem_compile::{Compiled, TaskSet};
+use prem_exec::answer_under;
 use prem_gate::RunInput;
 use prem_io::Store;
+use prem_lru::Policy;
 use std::alloc::{AllocError, Global};
 
 /// The last cycle of any machine.
@@ -27,7 +29,7 @@ pub fn run_limit(cycles: Option<u64>, limit: u64) -> u64
 impl Teller for RunWords<'_> {
     ghost told = { λ asked. run_tells (run_asked asked) };
 
-    fn tell(
+    fn tell<P: Policy>(
         &self,
         alloc: Global,
         _set: &TaskSet,
@@ -35,7 +37,7 @@ impl Teller for RunWords<'_> {
         compiled: &Compiled,
     ) -> Result<Answer, AllocError> {
         let limit = run_limit(self.cycles, compiled.limit);
-        let answer = prem_exec::run_answer(alloc, &compiled.image, input, self.intervals, limit)?;
+        let answer = answer_under::<P>(alloc, &compiled.image, input, self.intervals, limit)?;
         Ok(Answer {
             status: Status::Done,
             text: answer.text,

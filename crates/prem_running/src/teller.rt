@@ -11,12 +11,14 @@ ghost use Rattle.prem_answer.specs.Stages.{Comes, IsGiven, reply_of};
 ghost use Rattle.prem_exec.specs.Sources.Sources.{input_of, names_of};
 ghost use Rattle.prem_running.specs.Tellings.{Tells, set_reply, told_stages};
 
-use prem_answer::refusal::refused;
+use prem_answer::refusal::uncompiled;
 use prem_answer::{Answer, Halt};
-use prem_compile::{CompileFail, Compiled, TaskSet, compile};
+use prem_compile::{Compiled, TaskSet, compile};
 use prem_exec::sources::{read_run_file, read_task_set};
 use prem_gate::RunInput;
 use prem_io::Store;
+use prem_lru::{Fifo, Lru, Policy};
+use prem_plant::Replacement;
 use std::alloc::{AllocError, Global};
 
 /// What tells something of a set that breaks no rule, and of what its run is given.
@@ -27,19 +29,40 @@ pub trait Teller {
     /// Of which sets it can tell that.
     ghost suits: { Self → SetText → Type 0 } = { λ _ _. ⊤ };
 
-    /// The answer to a set that breaks no rule.
-    fn tell(
+    /// The answer to a set that breaks no rule. Its machine is that of this policy.
+    fn tell<P: Policy>(
         &self,
         alloc: Global,
         set: &TaskSet,
         input: &RunInput,
         compiled: &Compiled,
     ) -> Result<Answer, AllocError>
+        requires policy { compiled.now.image.plant.policy ≡ P.kind_of }
         requires compiled { IsCompiled (set_of set.now) compiled.now }
         requires fits { FitsRun (setup_of compiled.now.image) (words_of input.now) (items_of input.now.requests) }
         requires limit { compiled.now.limit ≤ 2 ^ 61 }
         requires suits { suits self.now (set_of set.now) }
         ensures { IfOk result (λ a. reply_of a ≡ told self.now (set_of set.now) (input_of input.now) (compiled_of compiled.now)) };
+}
+
+/// The answer to a set that breaks no rule. The machine is that of its image's policy.
+fn tell_compiled<T: Teller>(
+    alloc: Global,
+    teller: &T,
+    set: &TaskSet,
+    input: &RunInput,
+    compiled: &Compiled,
+) -> Result<Answer, AllocError>
+    requires compiled { IsCompiled (set_of set.now) compiled.now }
+    requires fits { FitsRun (setup_of compiled.now.image) (words_of input.now) (items_of input.now.requests) }
+    requires limit { compiled.now.limit ≤ 2 ^ 61 }
+    requires suits { T.suits teller.now (set_of set.now) }
+    ensures { IfOk result (λ a. reply_of a ≡ T.told teller.now (set_of set.now) (input_of input.now) (compiled_of compiled.now)) }
+{
+    match compiled.image.plant.policy {
+        Replacement::Lru => teller.tell::<Lru>(alloc, set, input, compiled),
+        Replacement::Fifo => teller.tell::<Fifo>(alloc, set, input, compiled),
+    }
 }
 
 /// The answer to a set with its run file: it is compiled and told, or the first rule that it breaks is.
@@ -55,9 +78,8 @@ pub fn tell_set<T: Teller>(
     ensures unread { IsErrOf result Halt.ReadFault → ⊥ }
 {
     match compile(alloc, set) {
-        Ok(compiled) => Ok(teller.tell(alloc, set, input, &compiled)?),
-        Err(CompileFail::Refused(refusal)) => Ok(refused(alloc, set.tasks(), &refusal)?),
-        Err(CompileFail::OutOfMemory) => Err(Halt::OutOfMemory),
+        Ok(compiled) => Ok(tell_compiled(alloc, teller, set, input, &compiled)?),
+        Err(fail) => uncompiled(alloc, set, fail),
     }
 }
 

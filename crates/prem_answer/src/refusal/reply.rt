@@ -1,14 +1,15 @@
 // The answer to a set that breaks a rule.
-ghost use Rattle.std.specs.Prelude.{◌≡◌, IfOk, map};
-ghost use Rattle.prem_tasks.specs.SetOf.{task_of};
+ghost use Rattle.std.specs.Prelude.{◌≡◌, IfOk, IsErrOf, map};
+ghost use Rattle.prem_tasks.specs.SetOf.{set_of, task_of};
 ghost use Rattle.prem_tasks.specs.Told.{refusal_of};
 ghost use Rattle.prem_answer.specs.Stages.{reply_of};
 ghost use Rattle.prem_answer.specs.Refusal.Texts.{breaker, refusal_line, refused_reply};
+ghost use Rattle.prem_answer.specs.Refusal.Uncompiled.{Refuses};
 
 use crate::refusal::rule::rule_text;
-use crate::{Answer, Status};
+use crate::{Answer, Halt, Status};
 use prem_plant::TaskId;
-use prem_tasks::{Refusal, TaskText};
+use prem_tasks::{CompileFail, Refusal, TaskSet, TaskText};
 use std::alloc::{AllocError, Global};
 
 /// The name of the task that breaks a rule, and a star where the set as a whole does.
@@ -43,4 +44,15 @@ pub fn refused(alloc: Global, tasks: &[TaskText], refusal: &Refusal) -> Result<A
         status: Status::Refused,
         text: refusal_line(alloc, tasks, refusal)?,
     })
+}
+
+/// The answer to a set that isn't compiled: the first rule that it breaks is told.
+pub fn uncompiled(alloc: Global, set: &TaskSet, fail: CompileFail) -> Result<Answer, Halt>
+    ensures answer { Refuses (refused_reply (set_of set.now).tasks) fail result }
+    ensures unread { IsErrOf result Halt.ReadFault → ⊥ }
+{
+    match fail {
+        CompileFail::Refused(refusal) => Ok(refused(alloc, set.tasks(), &refusal)?),
+        CompileFail::OutOfMemory => Err(Halt::OutOfMemory),
+    }
 }

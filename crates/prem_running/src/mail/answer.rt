@@ -1,14 +1,11 @@
 // A set is read with its run file and its mail file, compiled and run.
-ghost use Rattle.std.specs.Prelude.{◌≡◌, ◌≤◌, ◌^◌, IfOk, IsErrOf, length, map};
-ghost use Rattle.prem_list.specs.Sequence.{items_of};
+ghost use Rattle.std.specs.Prelude.{◌≡◌, ◌≤◌, IsErrOf, length, map};
 ghost use Rattle.prem_io.specs.Counts.{Rose};
-ghost use Rattle.prem_image.specs.Text.{image_text};
-ghost use Rattle.prem_cycle.specs.Inputs.{FitsRun, setup_of, words_of};
 ghost use Rattle.prem_command.specs.Words.{mail_asked};
 ghost use Rattle.prem_mail.specs.Feeds.{AreFeeds};
 ghost use Rattle.prem_answer.specs.Stages.{Comes, IsGiven, reply_of};
-ghost use Rattle.prem_exec.specs.Sources.Sources.{input_of, names_of};
-ghost use Rattle.prem_running.specs.Mail.Mail.{mailed_reply, mail_stages, mail_tells};
+ghost use Rattle.prem_exec.specs.Sources.Sources.{names_of};
+ghost use Rattle.prem_running.specs.Mail.Mail.{mail_stages, mail_tells};
 
 use crate::mail::files::read_mail_file;
 use crate::mail::text::mailed_text;
@@ -19,35 +16,10 @@ use prem_command::MailWords;
 use prem_compile::{Compiled, TaskSet};
 use prem_exec::sources::{read_run_file, read_task_set};
 use prem_gate::RunInput;
-use prem_image::Image;
 use prem_io::Store;
-use prem_lru::{Fifo, Lru, Policy};
+use prem_lru::Policy;
 use prem_mail::{Feed, Mail};
-use prem_plant::Replacement;
 use std::alloc::{AllocError, Global};
-
-/// What is told of the run of an image of this policy up to a cycle.
-fn mailed_under<P: Policy>(
-    alloc: Global,
-    image: &Image,
-    input: &RunInput,
-    feeds: &[Feed],
-    limit: u64,
-) -> Result<Answer, AllocError>
-    requires policy { image.now.plant.policy ≡ P.kind_of }
-    requires fits { FitsRun (setup_of image.now) (words_of input.now) (items_of input.now.requests) }
-    requires feeds { AreFeeds (length (items_of image.now.tasks)) (map (λ d. d.device.lines) (items_of image.now.devices)) feeds.now }
-    requires limit { limit ≤ 2 ^ 61 }
-    ensures { IfOk result (λ a. reply_of a ≡ mailed_reply (image_text image.now) (input_of input.now) feeds.now limit) }
-{
-    let mut mail = Mail::<P>::new(alloc, image, input, feeds)?;
-    let stop = mail.run_to(limit);
-    let text = mailed_text(alloc, image, &mail, stop)?;
-    Ok(Answer {
-        status: Status::Done,
-        text,
-    })
-}
 
 /// What runs sets whose devices feed their tasks so.
 #[derive(Drop)]
@@ -61,19 +33,20 @@ impl Teller for Mailer<'_> {
 
     ghost suits = { λ mailer set. AreFeeds (length (names_of set).tasks) (map (λ d. d.1) (names_of set).devices) mailer.feeds.now };
 
-    fn tell(
+    fn tell<P: Policy>(
         &self,
         alloc: Global,
         set: &TaskSet,
         input: &RunInput,
         compiled: &Compiled,
     ) -> Result<Answer, AllocError> {
-        let image = &compiled.image;
         let limit = run_limit(self.cycles, compiled.limit);
-        match image.plant.policy {
-            Replacement::Lru => mailed_under::<Lru>(alloc, image, input, self.feeds, limit),
-            Replacement::Fifo => mailed_under::<Fifo>(alloc, image, input, self.feeds, limit),
-        }
+        let mut mail = Mail::<P>::new(alloc, &compiled.image, input, self.feeds)?;
+        let stop = mail.run_to(limit);
+        Ok(Answer {
+            status: Status::Done,
+            text: mailed_text(alloc, &compiled.image, &mail, stop)?,
+        })
     }
 }
 

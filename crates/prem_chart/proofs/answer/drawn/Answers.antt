@@ -15,7 +15,7 @@ abbrev done : List ℕ → Reply
 done text = (Done, text)
 
 pub returns : goal.returns
-returns c =
+returns g c =
     let chart = chart_asked c.args.asked.now.chart in
     let image = image_text c.args.compiled.now.image in
     let input = input_of c.args.input.now in

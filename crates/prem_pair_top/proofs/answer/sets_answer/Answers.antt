@@ -1,11 +1,14 @@
 use Rattle.std.specs.Prelude.{Ok}
-use Rattle.std.proofs.Common.{ap}
+use Rattle.std.proofs.Common.{ap, refl}
+use Rattle.prem_tasks.specs.Broken.{broken}
 use Rattle.prem_tasks.specs.SetOf.{set_of}
 use Rattle.prem_answer.specs.Stages.{reply_of}
+use Rattle.prem_answer.proofs.Refused.{refused_comes}
 use Rattle.prem_exec.specs.Sources.Sources.{input_of}
 use Rattle.prem_running.proofs.Runs.{input_fits}
 use Rattle.prem_pair_top.specs.Words.{pair_asked}
-use Rattle.prem_pair_top.proofs.CompiledSets.{asks_nothing, both_told, compiled_counts_due}
+use Rattle.prem_pair_top.specs.Stages.{judged_reply}
+use Rattle.prem_pair_top.proofs.CompiledSets.{asks_nothing, both_told, compiled_counts_due, refused_on}
 use Rattle.prem_pair_top.proofs.answer.sets_answer.Goals as goal
 
 pub told-requires-clause-one : goal.told-requires-clause-one
@@ -32,3 +35,11 @@ returns-in-Ok-compile-clause-answer c =
     (both_told (pair_asked c.args.asked.now) (set_of x.one.now) (set_of x.two.now) (input_of x.input.now) (input_of x.other.now)
     c.in-Ok.one c.in-Ok-compile.two (reply_of c.in_ok-told-in-Ok-compile.field-0)
     c.in-Ok.ensures c.in-Ok-compile.ensures c.in_ok-told-in-Ok-compile.ensures)
+
+pub returns-in-Err-clause-answer : goal.returns-in-Err-clause-answer
+returns-in-Err-clause-answer c =
+    let x = c.args.sets.now in
+    let two = set_of x.two.now in
+    let judged = judged_reply (pair_asked c.args.asked.now) (set_of x.one.now) two (input_of x.input.now) (input_of x.other.now) in
+    refused_comes (refused_on 0 (set_of x.one.now)) (λ first. judged first (broken two)) (broken (set_of x.one.now)) c.in-Err.fail c.uncompiled.result (λ rule. refl)
+    c.in-Err.ensures c.uncompiled.ensures.answer

@@ -12,7 +12,7 @@ use Rattle.prem_chart.proofs.Asking.{reply_same}
 use Rattle.prem_chart.proofs.answer.DrawingTeller.tell.Goals as goal
 
 pub returns : goal.returns
-returns c =
+returns g c =
     let asked = c.args.self.now.asked.now in
     let set = set_of c.args.set.now in
     let compiled = compiled_of c.args.compiled.now in

@@ -10,6 +10,6 @@ abbrev done : Reply → Reply
 done reply = (Done, reply.1)
 
 pub returns : goal.returns
-returns c =
+returns g c =
     ap done c.in_ok-answer.ensures
     ∙ ap (λ n. done (run_reply (image_text c.args.compiled.now.image) (input_of c.args.input.now) c.args.self.now.intervals n)) c.run_limit-limit.ensures.limit
