@@ -1,10 +1,11 @@
-// Answers of the response test and of the times of sets, over the same files in memory and an outside that fails at calls.
+// Answers of the response test, of the times of sets and of profiles, over the same files in memory and an outside that fails at calls.
 //
 // Each line of the file is one as those of commands.
 
 use crate::commands::{asked_in, files};
 use crate::sources::on_one_line;
 use prem_io::{MemorySink, MemoryStore};
+use prem_profile::profiles;
 use prem_resp::fit;
 use prem_time::time;
 use std::rt::Files;
@@ -15,6 +16,7 @@ use std::{fs, io};
 pub enum Program {
     Response,
     Times,
+    Profile,
 }
 
 /// Tells the answer to a line. The sink takes four bytes in a call.
@@ -28,15 +30,26 @@ fn tell_line(
     let mut store = MemoryStore::new(files(rt)?, vec![in alloc; asked.read_fault]?);
     let mut sink = MemorySink::new(alloc, 100_000, 4, vec![in alloc; asked.write_fault]?)?;
     let status = match program {
-        Program::Response => fit(alloc, &asked.words, &mut store, &mut sink),
-        Program::Times => time(alloc, &asked.words, &mut store, &mut sink),
+        Program::Response => {
+            let status = fit(alloc, &asked.words, &mut store, &mut sink);
+            format!(in alloc; "{status:?}")?
+        }
+        Program::Times => {
+            let status = time(alloc, &asked.words, &mut store, &mut sink);
+            format!(in alloc; "{status:?}")?
+        }
+        Program::Profile => {
+            let status = profiles(alloc, &asked.words, &mut store, &mut sink);
+            format!(in alloc; "{status:?}")?
+        }
     };
     let written = on_one_line(alloc, sink.bytes())?;
     let word = match program {
         Program::Response => "response",
         Program::Times => "times",
+        Program::Profile => "profile",
     };
-    println!(rt; "{word}: {line} => {status:?} {written}")
+    println!(rt; "{word}: {line} => {status} {written}")
 }
 
 /// Tells the answers to the lines of a file.

@@ -1,6 +1,6 @@
 //! Answers of the programs over stores and sinks in memory: to sources, at limits, to commands whose outside may fail, of
-//! two cores, of the response test, of the times of sets, of texts with annotations, and in plain words; and behind these, answers
-//! to hostile use.
+//! two cores, of the response test, of the times of sets, of profiles of runs, of texts with annotations, and in plain words; and
+//! behind these, answers to hostile use.
 //!
 //! Each answer is a line, with a `$` for each end of a line of what is written. `stdout` has the lines as they were
 //! worked out by hand.
@@ -27,6 +27,7 @@ fn main(rt: HostRuntime) -> io::Result<()> {
     pairs::tell(&rt, "pairs.txt")?;
     fits::tell(&rt, Program::Response, "fits.txt")?;
     fits::tell(&rt, Program::Times, "times.txt")?;
+    fits::tell(&rt, Program::Profile, "profiles.txt")?;
     annotations::tell(&rt, "annotations.txt")?;
     commands::tell_steady(&rt)?;
     lints::tell(&rt)?;

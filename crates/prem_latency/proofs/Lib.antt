@@ -1,3 +1,4 @@
+pub mod WcetLemmas
 mod Divides
 mod Shuts
 mod Periods

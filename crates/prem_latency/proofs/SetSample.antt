@@ -22,9 +22,9 @@ use Rattle.prem_tasks.specs.At.{placed_by, compiled_at}
 use Rattle.prem_sets_sound.proofs.AcceptedLemmas.Sample.{net, sample, sample_values, sample_breaks_nothing}
 use Rattle.prem_sets_sound.proofs.AcceptedLemmas.Whole.{default_places_are_lawful, accepted_sets_are_laid_out}
 use Rattle.prem_sets_sound.proofs.PlacesSoundLemmas.At.{default_is_at}
-use Rattle.prem_sets_wcet.specs.Tasks.{task_wcet}
-use Rattle.prem_sets_wcet.specs.Sets.{wcet_at, stretch_at, closed_at}
-use Rattle.prem_sets_wcet.proofs.Sample.{sample_periods, sample_wcets, sample_stretches, sample_closed}
+use Rattle.prem_latency.specs.Wcet.Tasks.{task_wcet}
+use Rattle.prem_latency.specs.Wcet.Sets.{wcet_at, stretch_at, closed_at}
+use Rattle.prem_latency.proofs.WcetLemmas.Sample.{sample_periods, sample_wcets, sample_stretches, sample_closed}
 use Rattle.prem_resp.specs.declared.busy.load.Load.{Load}
 use Rattle.prem_resp.specs.Busy.Busy.{load_at}
 use Rattle.prem_resp.specs.Timed.Timed.{TellsCharges}

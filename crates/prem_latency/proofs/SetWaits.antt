@@ -23,8 +23,8 @@ use Rattle.prem_sets_sound.proofs.AcceptedLemmas.Whole.{laid_out_images_join}
 use Rattle.prem_sets_sound.proofs.AcceptedLemmas.Records.{are_laid}
 use Rattle.prem_sets_sound.proofs.StubLawsLemmas.OwnLemmas.Owned.{parts_long}
 use Rattle.prem_sets_sound.proofs.EachLemmas.Words.{all_there}
-use Rattle.prem_sets_wcet.specs.Sets.{wcet_at, stretch_at, closed_at}
-use Rattle.prem_sets_wcet.proofs.Sets.{meant_tasks_shut_by_wcet}
+use Rattle.prem_latency.specs.Wcet.Sets.{wcet_at, stretch_at, closed_at}
+use Rattle.prem_latency.proofs.WcetLemmas.Sets.{meant_tasks_shut_by_wcet}
 use Rattle.prem_latency.specs.declared.wait.Asking.{Asking}
 use Rattle.prem_latency.specs.Wait.{top, requests_in}
 use Rattle.prem_latency.specs.Timeline.{asking_at}

@@ -15,9 +15,9 @@ use Rattle.prem_sound.proofs.ScriptLemmas.Pieces.{stretches_keep, calls_keep}
 use Rattle.prem_sets_sound.specs.Weave.Weave.{Section, segment_of, IsSection, Weave, ends, goes, calls, dids_of, calls_of, IsWeave}
 use Rattle.prem_sets_sound.specs.StubLaws.Join.Joined.{JobLimits}
 use Rattle.prem_sets_sound.specs.StubLaws.Charges.Charges.{script_of}
-use Rattle.prem_sets_wcet.specs.Openings.{before_exec, touched_by, opening_of, shut_of, counts_of, AreTrimmed}
-use Rattle.prem_sets_wcet.specs.Tasks.{script_by, TaskShuts}
-use Rattle.prem_sets_wcet.proofs.Openings.{section_before, section_states}
+use Rattle.prem_latency.specs.Wcet.Openings.{before_exec, touched_by, opening_of, shut_of, counts_of, AreTrimmed}
+use Rattle.prem_latency.specs.Wcet.Tasks.{script_by, TaskShuts}
+use Rattle.prem_latency.proofs.WcetLemmas.Openings.{section_before, section_states}
 use Rattle.prem_latency.specs.Opened.{OpensAlong}
 use Rattle.prem_latency.specs.Joined.{shortened, TaskWaits}
 use Rattle.prem_latency.proofs.Openings.{openings_join}

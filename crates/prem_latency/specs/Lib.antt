@@ -1,3 +1,4 @@
+pub mod Wcet
 pub mod Wait
 pub mod Turns
 pub mod Timeline

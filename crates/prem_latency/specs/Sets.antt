@@ -13,7 +13,7 @@ use Rattle.prem_tasks.specs.At.{placed_by, broken_at, compiled_at, AreLawfulFor}
 use Rattle.prem_sets_sound.specs.Accepted.Accepted.{HasValues}
 use Rattle.prem_resp.specs.declared.busy.load.Load.{Load}
 use Rattle.prem_resp.specs.Timed.Timed.{TellsCharges}
-use Rattle.prem_sets_wcet.specs.Sets.{wcet_at, stretch_at, closed_at}
+use Rattle.prem_latency.specs.Wcet.Sets.{wcet_at, stretch_at, closed_at}
 use Rattle.prem_latency.specs.declared.wait.Asking.{Asking}
 use Rattle.prem_latency.specs.declared.wait.Closing.{Closing}
 use Rattle.prem_latency.specs.Wait.{requests_in, top, IsRoom}

@@ -8,3 +8,8 @@ pub mod Reading
 pub mod Adding
 pub mod RowsAdd
 pub mod Setting
+pub mod Tabled
+pub mod Parted
+pub mod Summed
+pub mod Few
+pub mod Tool

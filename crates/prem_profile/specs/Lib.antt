@@ -8,3 +8,7 @@ pub mod Strips
 pub mod Grammar
 pub mod Callgrind
 pub mod Entries
+pub mod Sets
+pub mod SetsTold
+pub mod Words
+pub mod Answer

@@ -1,6 +1,7 @@
 // What holds of all profiles.
 ghost use Rattle.prem_profile.specs.Totals.{TotalsAreReported};
 ghost use Rattle.prem_profile.specs.Entries.{LinesAddUp, ProfilesAreRead, RowsAddUp};
+ghost use Rattle.prem_profile.specs.Answer.{ProfilesAddUp};
 
 /// All that is spent in a run comes to what its report tells: the instructions that it executes, the cycles that pass, the misses, and the
 /// lines that are written back.
@@ -25,4 +26,10 @@ pub fn profiles_are_read()
 #[tactic(auto, using(crate::proofs::Adding::lines_add_up))]
 pub fn lines_add_up()
     ensures { LinesAddUp }
+{}
+
+/// The profile of a run keeps to the grammar, and its lines add up to the numbers of the run's report.
+#[tactic(auto, using(crate::proofs::Summed::profiles_add_up))]
+pub fn profiles_add_up()
+    ensures { ProfilesAddUp }
 {}

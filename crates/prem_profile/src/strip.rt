@@ -3,7 +3,6 @@ ghost use Rattle.std.specs.Prelude.{◌≡◌, ◌+◌, ◌/◌, ◌++◌, lengt
 ghost use Rattle.prem_profile.specs.Spent.{no_cost};
 ghost use Rattle.prem_profile.specs.Strips.{set_rows, strip_of, strip_rows, strip_words};
 
-use crate::account::RowTable;
 use crate::cost::{Cost, no_cost};
 use std::alloc::{AllocError, Global};
 

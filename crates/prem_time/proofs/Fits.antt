@@ -13,9 +13,9 @@ use Rattle.prem_sets_sound.specs.Accepted.Accepted.{setup_in}
 use Rattle.prem_sets_sound.proofs.Sound.{there}
 use Rattle.prem_sets_sound.proofs.AcceptedLemmas.Whole.{default_places_are_lawful}
 use Rattle.prem_sets_sound.proofs.PlacesSoundLemmas.At.{default_is_at}
-use Rattle.prem_sets_wcet.specs.Tasks.{task_stretch, task_wcet}
-use Rattle.prem_sets_wcet.specs.Sets.{stretch_at, wcet_at}
-use Rattle.prem_sets_wcet.proofs.Sets.{sets_go_by_wcet}
+use Rattle.prem_latency.specs.Wcet.Tasks.{task_stretch, task_wcet}
+use Rattle.prem_latency.specs.Wcet.Sets.{stretch_at, wcet_at}
+use Rattle.prem_latency.proofs.WcetLemmas.Sets.{sets_go_by_wcet}
 use Rattle.prem_resp.specs.declared.busy.load.Load.{Load}
 use Rattle.prem_resp.specs.declared.busy.length.Busy.{Busy}
 use Rattle.prem_resp.specs.declared.busy.length.Busy.TheVariants.{Within, Past}

@@ -12,7 +12,7 @@ use Rattle.prem_tasks.specs.Compiled.{compiled, placed_in, places_in}
 use Rattle.prem_sets_sound.specs.Accepted.Accepted.{HasValues, setup_in}
 use Rattle.prem_sets_sound.proofs.AcceptedLemmas.Whole.{default_places_are_lawful}
 use Rattle.prem_sets_sound.proofs.PlacesSoundLemmas.At.{default_is_at}
-use Rattle.prem_sets_wcet.specs.Sets.{closed_at}
+use Rattle.prem_latency.specs.Wcet.Sets.{closed_at}
 use Rattle.prem_resp.specs.declared.busy.load.Load.{Load}
 use Rattle.prem_resp.specs.declared.busy.length.Busy.{Busy}
 use Rattle.prem_resp.specs.declared.busy.length.Busy.TheVariants.{Within, Past}

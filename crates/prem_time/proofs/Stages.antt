@@ -11,7 +11,6 @@ use Rattle.prem_wcet.specs.declared.timed.Timed.{Timed}
 use Rattle.prem_answer.specs.declared.status.Status.TheVariants as status
 use Rattle.prem_answer.specs.Stages.{Reply, Reads, IsFine, IsGiven}
 use Rattle.prem_answer.specs.Tool.{IsSettled}
-use Rattle.prem_answer.specs.Refusal.Texts.{refused_reply}
 use Rattle.prem_answer.proofs.Reading.{gives_at_once}
 use Rattle.prem_exec.specs.Sources.Sources.{Passes, reading_set}
 use Rattle.prem_exec.proofs.SourcesLemmas.Fine.{set_fine}
@@ -51,10 +50,6 @@ module _ (set : TaskSet) (ds : List Distance) (devices : List Device) (b : Bus) 
 
   pub told_reply : (reply : Reply) → reply ≡ found_reply (unknown_in ds devices) (text_by devices b t) → reply ≡ time_reply ds set
   told_reply reply told = told_is set ds b t reply own_bus own_times (told ∙ ap (λ (xs : List Device). found_reply (unknown_in ds xs) (text_by xs b t)) lent)
-
--- one that breaks a rule
-pub refused_is : (ds : List Distance) (set : TaskSet) (refusal : Refusal Told) (reply : Reply) → broken set ≡ Some refusal → reply ≡ refused_reply set.tasks refusal → reply ≡ time_reply ds set
-refused_is ds set refusal reply is told = told ∙ ap (judged_reply ds set) (sym is)
 
 pub set_told : (told : Option Files) (asked : Asked) (set : TaskSet) (given : Result Reply Reply) → Passes told (reading_set asked.set) (Ok set) →
     given ≡ Ok (time_reply asked.distances set) → IsGiven told (time_stages asked) given

@@ -16,9 +16,9 @@ use crate::lines::{all_held, push_devices, push_end, tasks_text};
 use crate::loads::loads_of;
 use crate::waits::waits_of;
 use crate::words::{Asked, Distance};
-use prem_answer::refusal::refused;
+use prem_answer::refusal::uncompiled;
 use prem_answer::{Answer, Halt, Status};
-use prem_compile::{CompileFail, TaskSet};
+use prem_compile::TaskSet;
 use prem_exec::sources::read_task_set;
 use prem_io::Store;
 use prem_plant::Device;
@@ -94,7 +94,6 @@ fn named_answer(
 }
 
 /// The answer to a set: it is compiled and told, or the first rule that it breaks is, or a device that it hasn't got.
-#[tactic(auto, using(crate::proofs::Stages::refused_is))]
 fn set_answer(alloc: Global, set: &TaskSet, distances: &[Distance]) -> Result<Answer, Halt>
     requires { AreDistances (distances_in distances.now) }
     ensures answer { Comes reply_of (λ given. given ≡ Ok (time_reply (distances_in distances.now) (set_of set.now))) result }
@@ -105,8 +104,7 @@ fn set_answer(alloc: Global, set: &TaskSet, distances: &[Distance]) -> Result<An
     let tops = tops_of(alloc, &bus)?;
     match time_set(alloc, set, &tops) {
         Ok(timed) => Ok(named_answer(alloc, distances, devices, &bus, &timed)?),
-        Err(CompileFail::Refused(refusal)) => Ok(refused(alloc, set.tasks(), &refusal)?),
-        Err(CompileFail::OutOfMemory) => Err(Halt::OutOfMemory),
+        Err(fail) => uncompiled(alloc, set, fail),
     }
 }
 

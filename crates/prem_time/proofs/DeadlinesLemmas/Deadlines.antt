@@ -27,8 +27,8 @@ use Rattle.prem_resp.specs.Busy.Busy.{load_at}
 use Rattle.prem_resp.specs.Timed.Timed.{TellsCharges}
 use Rattle.prem_resp.proofs.DeadlineLemmas.Timelines.{scripts_keep_charges}
 use Rattle.prem_resp.proofs.TimedLemmas.Images.{loads_join, joined_images_go_by_charges}
-use Rattle.prem_sets_wcet.specs.Sets.{wcet_at, stretch_at}
-use Rattle.prem_sets_wcet.proofs.Sets.{meant_tasks_go_by_wcet}
+use Rattle.prem_latency.specs.Wcet.Sets.{wcet_at, stretch_at}
+use Rattle.prem_latency.proofs.WcetLemmas.Sets.{meant_tasks_go_by_wcet}
 use Rattle.prem_time.specs.Deadlines.Deadlines.{KeepsCosts, loads_from, LoadsTell, SetsMeetDeadlinesByWcet}
 
 -- ---- loads

@@ -19,7 +19,7 @@ use Rattle.prem_resp.specs.Busy.Schedule.{served}
 use Rattle.prem_resp.specs.Deadline.Timeline.{timeline_of}
 use Rattle.prem_resp.specs.Deadline.Images.{MeetsDeadlines, KeepsIntervals}
 use Rattle.prem_resp.specs.Timed.Timed.{TellsCharges}
-use Rattle.prem_sets_wcet.specs.Sets.{wcet_at, stretch_at}
+use Rattle.prem_latency.specs.Wcet.Sets.{wcet_at, stretch_at}
 
 -- for all input words, requests of devices, and numbers of cycles: the core has worked for each job of a task at most what the task's load
 -- tells, with its switches and waits

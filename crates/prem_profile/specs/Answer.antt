@@ -1,0 +1,107 @@
+-- The answer to `SET RUN [--cycles N]`: the profile of the run of a compiled set, or the first rule that the set breaks.
+use Rattle.std.specs.Prelude.{◌≡◌, ⊤, ℕ, ◌+◌, ◌/◌, List, length, map, None, Ok, codes}
+use Rattle.prem_io.specs.Files.{Files}
+use Rattle.prem_lru.specs.Rules.{rule_of}
+use Rattle.prem_image.specs.Text.{ImageText}
+use Rattle.prem_cycle.specs.Inputs.{image_setup}
+use Rattle.prem_tasks.specs.Broken.{TaskSet, broken}
+use Rattle.prem_tasks.specs.Compiled.{compiled}
+use Rattle.prem_set.specs.declared.task.TaskEntry.{TaskEntry}
+use Rattle.prem_set.specs.SetFile.{SetData}
+use Rattle.prem_answer.specs.declared.status.Status.TheVariants.{Done}
+use Rattle.prem_answer.specs.declared.answer.Telling.TheVariants.{Whole}
+use Rattle.prem_answer.specs.Stages.{Reply, Stage, reading_by}
+use Rattle.prem_answer.specs.Tool.{ToolMeaning}
+use Rattle.prem_exec.specs.Forms.{RunText}
+use Rattle.prem_exec.specs.Exec.{state_at}
+use Rattle.prem_exec.specs.Sources.Sources.{reading_run, reading_sources, set_limit, set_of_bytes_by}
+use Rattle.prem_exec.specs.Sources.There.{RunIsThere, SetIsThere}
+use Rattle.prem_running.specs.Tellings.{Tells, set_reply}
+use Rattle.prem_running.specs.Running.{run_limit}
+use Rattle.prem_profile.specs.declared.cost.Cost.{Cost}
+use Rattle.prem_profile.specs.declared.callgrind.Source.{Source}
+use Rattle.prem_profile.specs.declared.home.Home.TheVariants.{Rest}
+use Rattle.prem_profile.specs.Spent.{spent_in_all}
+use Rattle.prem_profile.specs.Account.{each_row, row_cost}
+use Rattle.prem_profile.specs.Strips.{Strip, first_row, rows_of, strip_words}
+use Rattle.prem_profile.specs.Sets.{set_lines, strips_of}
+use Rattle.prem_profile.specs.Totals.{IsTotal}
+use Rattle.prem_profile.specs.Grammar.{Entry, IsProfile}
+use Rattle.prem_profile.specs.Callgrind.{profile_text}
+use Rattle.prem_profile.specs.Entries.{entries_sum}
+use Rattle.prem_profile.specs.Words.{ProfileAsked, RunAsked, asked_of, of_run}
+
+-- ---- the profile
+
+-- of the run of an image up to a limit, whose words of code are these strips
+abbrev pub image_profile : List Source → List Strip → ImageText → RunText → (limit : ℕ) → List ℕ
+image_profile sources strips i input limit =
+    let tasks = length sources in
+    let words = rows_of tasks (length i.content / 4) strips in
+    profile_text sources strips (spent_in_all (rule_of i.plant.policy) (image_setup i) input.requests Rest limit (state_at i input 0))
+    (each_row (row_cost tasks words (rule_of i.plant.policy) (image_setup i) input.requests limit (state_at i input 0)) 0 (first_row tasks + strip_words strips))
+
+-- ---- the answer
+
+-- the tasks of a set's file, as a profile tells them
+abbrev pub sources_of : List TaskEntry → List Source
+sources_of tasks = map (λ (t : TaskEntry). record { name = t.name; file = t.source }) tasks
+
+-- to a compiled set: its run up to the cycle that the words tell, else to the limit of the set
+abbrev pub profile_tells : List Source → RunAsked → Tells
+profile_tells sources asked set input c = (Done, image_profile sources (strips_of (set_lines set) c) c.image input (run_limit asked.cycles c.limit))
+
+-- the set's file and its sources are read, then the run file
+abbrev pub behind_run : List Source → RunAsked → TaskSet → RunText → Stage Reply
+behind_run sources asked set input reads = Ok (set_reply (profile_tells sources asked) set input)
+
+abbrev pub behind_set : List Source → RunAsked → TaskSet → Stage Reply
+behind_set sources asked set = reading_run set asked.run (behind_run sources asked set)
+
+abbrev pub behind_file : RunAsked → SetData → Stage Reply
+behind_file asked s = reading_sources Whole s (behind_set (sources_of s.tasks) asked)
+
+abbrev pub run_stages : RunAsked → Stage Reply
+run_stages asked = reading_by Whole set_limit asked.set (set_of_bytes_by Whole asked.set) (behind_file asked)
+
+abbrev pub profile_stages : ProfileAsked → Stage Reply
+profile_stages (of_run asked) = run_stages asked
+
+-- ---- the program
+
+-- the set and its run file are there and in form, and the set breaks no rule
+pub record RunSucceeds (files : Files) (asked : RunAsked) (reply : Reply) : Type 0 where
+  pub set : TaskSet
+  pub input : RunText
+  pub there : SetIsThere files asked.set set
+  pub run_there : RunIsThere files set asked.run input
+  pub unbroken : broken set ≡ None
+  pub reply_is : reply ≡ profile_tells (sources_of there.stated.tasks) asked set input (compiled set)
+
+abbrev pub Succeeds : Files → ProfileAsked → Reply → Type 0
+Succeeds files (of_run asked) reply = RunSucceeds files asked reply
+
+abbrev pub profile_tool : ToolMeaning
+profile_tool = record {
+  Asked = ProfileAsked;
+  asked_of = asked_of;
+  usage = codes "usage: prem_profile SET RUN [--cycles N]\n";
+  stages = profile_stages;
+  keeps = λ asked reads given. ⊤;
+  succeeds = Succeeds;
+}
+
+-- ---- what holds of all profiles
+
+-- a text is a profile by the grammar, whose lines add up to what is spent in so many cycles of a run, which is what the run's report tells
+pub record IsSummed (text : List ℕ) (i : ImageText) (input : RunText) (limit : ℕ) : Type 0 where
+  pub entries : List Entry
+  pub total : Cost
+  pub read : IsProfile text entries total
+  pub sum : entries_sum entries ≡ total
+  pub reported : IsTotal (rule_of i.plant.policy) (image_setup i) i.content input.words input.requests limit total
+
+abbrev pub ProfilesAddUp : Type 0
+ProfilesAddUp =
+    (sources : List Source) (strips : List Strip) (i : ImageText) (input : RunText) (limit : ℕ) →
+    IsSummed (image_profile sources strips i input limit) i input limit

@@ -1,8 +1,0 @@
-use Rattle.prem_sets_wcet.proofs.Walk.{jobs_go_by_courses, jobs_go_by_scopes}
-use Rattle.prem_sets_wcet.proofs.jobs_go.Goals as goal
-
-pub returns-clause-courses : goal.returns-clause-courses
-returns-clause-courses c = jobs_go_by_courses
-
-pub returns-clause-scopes : goal.returns-clause-scopes
-returns-clause-scopes c = jobs_go_by_scopes
