@@ -8,8 +8,7 @@ use Rattle.prem_ranges.specs.RangesKept.{resolved}
 use Rattle.prem_layout.specs.Rules.{refused_by}
 use Rattle.prem_tasks.specs.Broken.{range_told}
 use Rattle.prem_tasks.specs.Told.{Told, of_ranges}
-use Rattle.prem_tasks.specs.Stops.{Stops}
-use Rattle.prem_tasks.specs.declared.stop.Stop.{Stop}
+use Rattle.prem_tasks.specs.Stops.{Stop, Stops}
 use Rattle.prem_stages.proofs.Passing.{told_stops}
 use Rattle.prem_annotating.specs.Annotated.{first_other}
 use Rattle.prem_annotate.specs.Rules.First.{Tellable}

@@ -8,8 +8,7 @@ use Rattle.prem_text.specs.Texts.{reads}
 use Rattle.prem_layout.specs.Rules.{or_else, over_tasks}
 use Rattle.prem_place.specs.Verdict.Told.{BoundsTold}
 use Rattle.prem_tasks.specs.Broken.{TaskText, TaskSet, text_rules, program_rules, programs_of, broken}
-use Rattle.prem_tasks.specs.Stops.{Stops}
-use Rattle.prem_tasks.specs.declared.stop.Stop.{Stop}
+use Rattle.prem_tasks.specs.Stops.{Stop, Stops}
 use Rattle.prem_stages.specs.Stages.{checked_text}
 use Rattle.prem_stages.specs.Coded.{AreFormed}
 use Rattle.prem_stages.proofs.Passing.{same_stop, first_stops, none_passes}

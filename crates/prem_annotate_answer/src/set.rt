@@ -1,9 +1,8 @@
 // The annotations of a set.
-ghost use Rattle.std.specs.Prelude.{◌≡◌, IfOk, MatchResult, Some, map};
+ghost use Rattle.std.specs.Prelude.{◌≡◌, IfOk, MatchResult, map};
 ghost use Rattle.prem_tasks.specs.Broken.{broken};
 ghost use Rattle.prem_tasks.specs.SetOf.{set_of};
 ghost use Rattle.prem_tasks.specs.Stops.{Ends, Stops};
-ghost use Rattle.prem_tasks.specs.Told.{refusal_of};
 ghost use Rattle.prem_place.specs.Verdict.Told.{bounds_of};
 ghost use Rattle.prem_stages.specs.Coded.{AreFormed};
 ghost use Rattle.prem_stages.specs.Stages.{checked_text};
@@ -18,31 +17,20 @@ use crate::lengths::all_lengthened;
 use crate::noted::noted_set;
 use crate::others::other_rules;
 use prem_annotate::notes::FunctionNotes;
-use prem_compile::{CompileFail, bounds_of_set, compile};
+use prem_compile::{bounds_of_set, compile_stages};
 use prem_place::verdict::TaskBounds;
-use prem_tasks::{Refusal, Stop, TaskSet};
+use prem_tasks::{Stop, TaskSet};
 use prem_tree::Checked;
 use std::alloc::{AllocError, Global};
-
-/// The stop that tells a broken rule.
-fn stopped(alloc: Global, refusal: Refusal) -> Stop
-    ensures { Stops result (Some (refusal_of refusal)) }
-{
-    match Box::new(alloc, refusal) {
-        Ok(refusal) => Stop::Refused(refusal),
-        Err(_) => Stop::OutOfMemory,
-    }
-}
 
 /// A set that breaks no rule goes on; of one that breaks any the first is told.
 fn judged(alloc: Global, set: TaskSet) -> Result<TaskSet, Stop>
     ensures ends { Ends result (broken (set_of set)) }
     ensures same { IfOk result (λ new. set_of new ≡ set_of set) }
 {
-    match compile(alloc, &set) {
+    match compile_stages(alloc, &set) {
         Ok(_) => Ok(set),
-        Err(CompileFail::Refused(refusal)) => Err(stopped(alloc, refusal)),
-        Err(CompileFail::OutOfMemory) => Err(Stop::OutOfMemory),
+        Err(stop) => Err(stop),
     }
 }
 

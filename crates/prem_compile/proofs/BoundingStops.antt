@@ -15,8 +15,7 @@ use Rattle.prem_tasks.specs.Broken.{TaskSet, late_refusal}
 use Rattle.prem_tasks.specs.Told.{Told}
 use Rattle.prem_tasks.specs.Compiled.{parts_in, places_in}
 use Rattle.prem_tasks.specs.At.{broken_early}
-use Rattle.prem_tasks.specs.Stops.{Stops}
-use Rattle.prem_tasks.specs.declared.stop.Stop.{Stop}
+use Rattle.prem_tasks.specs.Stops.{Stop, Stops}
 use Rattle.prem_stages.proofs.Passing.{first_stops, none_passes, same_stop}
 use Rattle.prem_stages.proofs.Groups.{late_or}
 use Rattle.prem_compile.specs.Joined.{HasCode, HasPlaces}

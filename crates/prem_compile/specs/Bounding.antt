@@ -11,8 +11,7 @@ use Rattle.prem_tasks.specs.Broken.{TaskSet, late_refusal}
 use Rattle.prem_tasks.specs.Compiled.{places_in, placed_in}
 use Rattle.prem_tasks.specs.At.{broken_early, placed_by}
 use Rattle.prem_tasks.specs.Told.{Told}
-use Rattle.prem_tasks.specs.Stops.{Stops}
-use Rattle.prem_tasks.specs.declared.stop.Stop.{Stop}
+use Rattle.prem_tasks.specs.Stops.{Stop, Stops}
 
 -- ---- the rules up to bounds
 

@@ -11,8 +11,7 @@ use Rattle.prem_tasks.specs.Broken.{TaskSet}
 use Rattle.prem_tasks.specs.Compiled.{coded_in, parts_in, part_name}
 use Rattle.prem_tasks.specs.At.{broken_early}
 use Rattle.prem_tasks.specs.Told.{refusal_of}
-use Rattle.prem_tasks.specs.Stops.{Stops}
-use Rattle.prem_tasks.specs.declared.stop.Stop.{Stop}
+use Rattle.prem_tasks.specs.Stops.{Stop, Stops}
 use Rattle.prem_tasks.specs.declared.fail.CompileFail.{CompileFail}
 use Rattle.prem_tasks.specs.declared.fail.CompileFail.TheVariants.{Refused, OutOfMemory}
 use Rattle.prem_compile.specs.declared.parts.Parts.{Parts}

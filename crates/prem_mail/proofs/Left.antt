@@ -2,9 +2,9 @@
 use Rattle.std.proofs.Common.{◌≡◌, ◌≤◌, ◌<◌, ◌+◌, ℕ, List, [], ◌∷◌, length, Ok, Err, refl, sym, ap, ◌∙◌, arith}
 use Rattle.std.proofs.lemmas.List.{nil_from_length}
 use Rattle.prem_line.specs.Lines.{lines_of}
-use Rattle.prem_set.specs.declared.failing.Failing.{Failing}
-use Rattle.prem_set.specs.declared.failing.Failing.TheVariants.{OutOfMemory, Refused}
-use Rattle.prem_set.specs.Failing.{Fails}
+use Rattle.prem_line.specs.declared.failing.Failing.{Failing}
+use Rattle.prem_line.specs.declared.failing.Failing.TheVariants.{OutOfMemory, Refused}
+use Rattle.prem_line.specs.Failing.{Fails}
 use Rattle.prem_set.specs.Run.Names.{KnownNames}
 use Rattle.prem_mail.specs.declared.feed.Feed.{Feed}
 use Rattle.prem_mail.specs.declared.fail.MailWhich.{MailWhich}

@@ -14,8 +14,9 @@ pub use crate::content::Block;
 use crate::flat::{FlatFail, flatten_parts};
 use crate::placed::PlacedTask;
 use crate::placing::part_count;
+use prem_line::Failing;
 use prem_plant::{FnId, TaskId};
-use std::alloc::{AllocError, AllocFailed, Global};
+use std::alloc::{AllocError, Global};
 
 /// The first jump out of reach: its task, and the function whose code or stub has it. The start of a task counts as its `job`.
 #[derive(Clone, Copy, Debug, PartialEq, Eq)]
@@ -24,35 +25,8 @@ pub struct FarJump {
     pub function: FnId,
 }
 
-/// Why tasks have no words.
-#[derive(Clone, Copy, Debug, PartialEq, Eq)]
-pub enum WordsFail {
-    /// A jump is out of reach.
-    Far(FarJump),
-    OutOfMemory,
-}
-
-impl From<AllocError> for WordsFail {
-    ghost use Rattle.std.specs.Prelude.{◌≡◌};
-    ghost use Rattle.prem_place.specs.declared.words.WordsFail.TheVariants.{OutOfMemory};
-
-    ghost from_gives = { λ _ e. e ≡ OutOfMemory };
-
-    fn from(_error: AllocError) -> WordsFail {
-        WordsFail::OutOfMemory
-    }
-}
-
-impl<T: Drop> From<AllocFailed<T>> for WordsFail {
-    ghost use Rattle.std.specs.Prelude.{◌≡◌};
-    ghost use Rattle.prem_place.specs.declared.words.WordsFail.TheVariants.{OutOfMemory};
-
-    ghost from_gives = { λ _ e. e ≡ OutOfMemory };
-
-    fn from(_error: AllocFailed<T>) -> WordsFail {
-        WordsFail::OutOfMemory
-    }
-}
+/// Why tasks have no words: a jump is out of reach, or there was no memory.
+pub type WordsFail = Failing<FarJump>;
 
 /// The addresses of a task's parts.
 fn starts(alloc: Global, t: &PlacedTask) -> Result<Vec<u32>, AllocError>
@@ -113,8 +87,8 @@ pub fn words_of_all(alloc: Global, tasks: &[PlacedTask]) -> Result<Vec<Vec<Block
     for n in 0..tasks.len() {
         match task_words(alloc, &tasks[n]) {
             Ok(blocks) => all.push(blocks)?,
-            Err(FlatFail::Far(part)) => {
-                return Err(WordsFail::Far(FarJump {
+            Err(FlatFail::Refused(part)) => {
+                return Err(WordsFail::Refused(FarJump {
                     task: n as u16,
                     function: function_of(&tasks[n], part),
                 }));

@@ -17,8 +17,7 @@ use Rattle.prem_tasks.specs.SetOf.{task_of}
 use Rattle.prem_tasks.specs.declared.set.TaskText.{TaskText as TaskTree}
 use Rattle.prem_tasks.specs.Compiled.{coded_in, places_in}
 use Rattle.prem_tasks.specs.At.{code_broken, broken_early}
-use Rattle.prem_tasks.specs.Stops.{Stops}
-use Rattle.prem_tasks.specs.declared.stop.Stop.{Stop}
+use Rattle.prem_tasks.specs.Stops.{Stop, Stops}
 use Rattle.prem_stages.specs.Stages.{checked_text, uncoded}
 use Rattle.prem_stages.specs.Code.{code_in, program_code}
 use Rattle.prem_stages.specs.Resolving.{meant_by, text_by}

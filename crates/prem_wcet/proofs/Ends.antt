@@ -7,7 +7,7 @@ use Rattle.prem_place.specs.declared.placing.coded.CodedTask.{CodedTask}
 use Rattle.prem_tasks.specs.Broken.{TaskSet, late_refusal, broken}
 use Rattle.prem_tasks.specs.Compiled.{parts_in, places_in}
 use Rattle.prem_tasks.specs.At.{broken_at, broken_early, placed_broken}
-use Rattle.prem_tasks.specs.declared.stop.Stop.{Stop}
+use Rattle.prem_tasks.specs.Stops.{Stop}
 use Rattle.prem_stages.proofs.Passing.{none_passes, same_stop}
 use Rattle.prem_compile.specs.Joined.{HasCode}
 use Rattle.prem_wcet.specs.TimedOf.{EndsTimed, EndsTimedAt}

@@ -7,8 +7,7 @@ use Rattle.prem_syntax.specs.Name.{name_bytes}
 use Rattle.prem_tasks.specs.Broken.{TaskSet, broken}
 use Rattle.prem_tasks.specs.Compiled.{placed_in}
 use Rattle.prem_tasks.specs.At.{broken_at, placed_by}
-use Rattle.prem_tasks.specs.Stops.{Stops}
-use Rattle.prem_tasks.specs.declared.stop.Stop.{Stop}
+use Rattle.prem_tasks.specs.Stops.{Stop, Stops}
 use Rattle.prem_tasks.specs.declared.fail.CompileFail.{CompileFail}
 use Rattle.prem_compile.specs.CompiledOf.{IsCompiled, IsRefused}
 use Rattle.prem_compile.specs.Joined.{IsMade, IsMadeAt}

@@ -4,8 +4,7 @@ use Rattle.prem_plant.specs.declared.plant.Plant.{Plant}
 use Rattle.prem_layout.specs.Placed.{Coded, Placed}
 use Rattle.prem_layout.specs.Rules.{LateRule, Refusal, or_else, refused_by, over_tasks, conflict_rules, bound_rules, length_rules, log_rules}
 use Rattle.prem_tasks.specs.Broken.{late_refusal}
-use Rattle.prem_tasks.specs.Stops.{Stops}
-use Rattle.prem_tasks.specs.declared.stop.Stop.{Stop}
+use Rattle.prem_tasks.specs.Stops.{Stop, Stops}
 
 -- a stage ends well exactly where no such rule is broken, but for want of memory
 abbrev pub EndsLate : {A : Type 0} → Result A Stop → Option (Refusal LateRule) → Type 0

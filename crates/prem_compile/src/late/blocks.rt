@@ -23,7 +23,7 @@ pub fn blocks_of(alloc: Global, tasks: &[PlacedTask]) -> Result<Vec<Vec<Block>>,
 {
     match words_of_all(alloc, tasks) {
         Ok(all) => Ok(all),
-        Err(WordsFail::Far(jump)) => Err(unreached(alloc, tasks, jump)),
+        Err(WordsFail::Refused(jump)) => Err(unreached(alloc, tasks, jump)),
         Err(WordsFail::OutOfMemory) => Err(Stop::OutOfMemory),
     }
 }

@@ -54,7 +54,7 @@ fn bounds(
 {
     match bounds_of_all(alloc, tasks, lines, p) {
         Ok(all) => Ok(all),
-        Err(VerdictFail::Broken(blame)) => Err(blamed(alloc, tasks, blame)),
+        Err(VerdictFail::Refused(blame)) => Err(blamed(alloc, tasks, blame)),
         Err(VerdictFail::OutOfMemory) => Err(Stop::OutOfMemory),
     }
 }

@@ -5,6 +5,7 @@ use Rattle.std.proofs.Common.{◌≡◌, ℕ, ◌+◌, ◌<◌, ◌≤◌, refl,
 use Rattle.std.proofs.lemmas.List.{length-map}
 use Rattle.std.proofs.lemmas.Bool.{lt-ltb, le-ltb}
 use Rattle.prem_list.specs.Sequence.{items_of}
+use Rattle.prem_line.specs.declared.failing.Failing.TheVariants as term
 use Rattle.prem_syntax.specs.declared.tree.Place.{Place}
 use Rattle.prem_syntax.specs.SyntaxOf.{parameter_of}
 use Rattle.prem_syntax.specs.Resolved.{Done}
@@ -15,9 +16,7 @@ use Rattle.prem_layout.specs.Template.Terms.{only}
 use Rattle.prem_layout.specs.Template.Frames.{frame_of}
 use Rattle.prem_layout.specs.Template.Steps.{Parts, opening, closing, declare_code, steps_code, result_code, function_code}
 use Rattle.prem_layout.specs.Template.Limits.{first_of, too_deep_among, too_deep_result, too_deep_function, frame, depth, greatest_frame, deep_excess, excess_of}
-use Rattle.prem_gen.specs.declared.term.fail.TermFail.{TermFail}
-use Rattle.prem_gen.specs.declared.term.fail.TermFail.TheVariants.{Deep, OutOfMemory as NoMemory}
-use Rattle.prem_gen.specs.Term.Deep.{TooDeep}
+use Rattle.prem_gen.specs.Term.Deep.{TermFail, TooDeep}
 use Rattle.prem_gen.specs.declared.term.fail.GenFail.{GenFail}
 use Rattle.prem_gen.specs.declared.term.fail.GenFail.TheVariants.{Frame, Depth, OutOfMemory}
 use Rattle.prem_gen.specs.Term.Excess.{Exceeds, gen_fail}
@@ -80,11 +79,11 @@ kind_in (Depth line) = 1
 kind_in OutOfMemory = 2
 
 pub deep_is_excess : (e : TermFail) (found : Option Place) → TooDeep e found → Exceeds (gen_fail e) (deep_excess found)
-deep_is_excess (Deep at) found h = record {
+deep_is_excess (term.Refused at) found h = record {
   by_frame = λ f is. absurd (let k = ap kind_in is in omega (arith, k));
   by_depth = λ line is. ap deep_excess (h.at_place at refl) ∙ ap (λ k. Some (depth k)) (ap line_in is);
 }
-deep_is_excess NoMemory found h = record {
+deep_is_excess term.OutOfMemory found h = record {
   by_frame = λ f is. absurd (let k = ap kind_in is in omega (arith, k));
   by_depth = λ line is. absurd (let k = ap kind_in is in omega (arith, k));
 }

@@ -1,15 +1,15 @@
 -- What a result tells of why a function has no code.
 use Rattle.std.specs.Prelude.{◌≡◌, ℕ, nat_lt, if◌then◌else◌, Option, Some, None, Result, MatchResult}
+use Rattle.prem_line.specs.declared.failing.Failing.TheVariants as term
 use Rattle.prem_syntax.specs.Resolved.{Term}
 use Rattle.prem_layout.specs.Template.Limits.{Excess, frame, depth, greatest_frame, deep_excess, too_deep}
-use Rattle.prem_gen.specs.declared.term.fail.TermFail.{TermFail}
-use Rattle.prem_gen.specs.declared.term.fail.TermFail.TheVariants.{Deep, OutOfMemory as NoMemory}
 use Rattle.prem_gen.specs.declared.term.fail.GenFail.{GenFail}
 use Rattle.prem_gen.specs.declared.term.fail.GenFail.TheVariants.{Frame, Depth, OutOfMemory}
+use Rattle.prem_gen.specs.Term.Deep.{TermFail}
 
 abbrev pub gen_fail : TermFail → GenFail
-gen_fail (Deep at) = Depth at.line
-gen_fail NoMemory = OutOfMemory
+gen_fail (term.Refused at) = Depth at.line
+gen_fail term.OutOfMemory = OutOfMemory
 
 -- want of memory tells nothing
 pub record Exceeds (e : GenFail) (found : Option Excess) : Type 0 where

@@ -168,7 +168,7 @@ pub fn put_set_element(
     ensures deep { Finds result (first_of (too_deep 11 (term_of index.now)) (too_deep 10 (term_of value.now))) }
 {
     if let Some(at) = too_deep(index, 11) {
-        return Err(TermFail::Deep { at });
+        return Err(TermFail::Refused(at));
     }
     put_term(value, task.alloc, task.target, task.first, pieces, 10)?;
     put_term(index, task.alloc, task.target, task.first, pieces, 11)?;

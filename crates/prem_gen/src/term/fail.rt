@@ -2,39 +2,13 @@
 ghost use Rattle.std.specs.Prelude.{◌≡◌};
 ghost use Rattle.prem_gen.specs.Term.Excess.{gen_fail};
 
+use prem_line::Failing;
 use prem_syntax::Place;
 use prem_word::FnId;
-use std::alloc::{AllocError, AllocFailed};
+use std::alloc::AllocError;
 
-/// Why an expression or a function has no code.
-#[derive(Clone, Copy, Debug)]
-pub enum TermFail {
-    /// The expression at this place would be evaluated into x22.
-    Deep { at: Place },
-    OutOfMemory,
-}
-
-impl From<AllocError> for TermFail {
-    ghost use Rattle.std.specs.Prelude.{◌≡◌};
-    ghost use Rattle.prem_gen.specs.declared.term.fail.TermFail.TheVariants.{OutOfMemory};
-
-    ghost from_gives = { λ _ e. e ≡ OutOfMemory };
-
-    fn from(_error: AllocError) -> TermFail {
-        TermFail::OutOfMemory
-    }
-}
-
-impl<T: Drop> From<AllocFailed<T>> for TermFail {
-    ghost use Rattle.std.specs.Prelude.{◌≡◌};
-    ghost use Rattle.prem_gen.specs.declared.term.fail.TermFail.TheVariants.{OutOfMemory};
-
-    ghost from_gives = { λ _ e. e ≡ OutOfMemory };
-
-    fn from(_error: AllocFailed<T>) -> TermFail {
-        TermFail::OutOfMemory
-    }
-}
+/// Why an expression has no code: the one at this place would be evaluated into x22, or there was no memory.
+pub type TermFail = Failing<Place>;
 
 /// Why a function, or an expression in one, has no code.
 #[derive(Clone, Copy, Debug, PartialEq, Eq)]
@@ -62,7 +36,7 @@ pub fn gen_fail(e: TermFail) -> GenFail
     ensures { result ≡ gen_fail e }
 {
     match e {
-        TermFail::Deep { at } => GenFail::Depth { line: at.line },
+        TermFail::Refused(at) => GenFail::Depth { line: at.line },
         TermFail::OutOfMemory => GenFail::OutOfMemory,
     }
 }

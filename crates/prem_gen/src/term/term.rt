@@ -115,9 +115,7 @@ pub fn put_term(
     ensures deep { Finds result (too_deep r (term_of term.now)) }
 {
     if r >= 22 {
-        return Err(TermFail::Deep {
-            at: first_place(term),
-        });
+        return Err(TermFail::Refused(first_place(term)));
     }
     match term {
         Term::Constant { word, .. } => put_constant(alloc, pieces, r, *word)?,

@@ -5,12 +5,12 @@ use Rattle.std.proofs.lemmas.Bool.Decides.{nat_tests}
 use Rattle.std.proofs.lemmas.List.{length-map}
 use Rattle.prem_list.specs.declared.Sequence.{Sequence}
 use Rattle.prem_list.specs.Sequence.{items_of}
+use Rattle.prem_line.specs.declared.failing.Failing.{Failing}
+use Rattle.prem_line.specs.declared.failing.Failing.TheVariants.{Refused, OutOfMemory}
 use Rattle.prem_asm.specs.declared.piece.Piece.{Piece}
 use Rattle.prem_asm.specs.PiecesOf.{pieces_of}
 use Rattle.prem_asm.specs.Pieces.{Pieces}
 use Rattle.prem_place.specs.Content.Blocks.{Words}
-use Rattle.prem_place.specs.declared.flat.flat.FlatFail.{FlatFail}
-use Rattle.prem_place.specs.declared.flat.flat.FlatFail.TheVariants.{Far, OutOfMemory}
 use Rattle.prem_place.specs.Flat.Flat.{far_in, part_if, far_part, lower_part, lowest_far, words_at, words_from, Blames, listed}
 
 abbrev pub or_part : Option ℕ → Option ℕ → Option ℕ
@@ -47,20 +47,20 @@ words_join places xs ys zs one =
     words_behind places 0 xs (ys ++ zs) ∙ ap (λ n. words_from places 0 xs ++ words_from places n (ys ++ zs)) z ∙ ap (λ ws. words_from places 0 xs ++ ws) (words_behind places 1 ys zs)
     ∙ sym (append_assoc (words_from places 0 xs) (words_from places 1 ys) (words_from places (1 + length ys) zs))
 
-blamed_or : (a b : Option ℕ) (e : FlatFail) → Blames a e → Blames (or_part a b) e
+blamed_or : (a b : Option ℕ) (e : Failing ℕ) → Blames a e → Blames (or_part a b) e
 blamed_or a b OutOfMemory h = tt
-blamed_or None b (Far part) h = cc
-blamed_or (Some x) b (Far part) h = h
+blamed_or None b (Refused part) h = cc
+blamed_or (Some x) b (Refused part) h = h
 
 module _ (places : ℕ → ℕ) (xs ys zs : List Pieces) (one : length xs ≡ 1) where
   abbrev pub Joined : Option ℕ
   Joined = far_part places 0 (xs ++ (ys ++ zs))
 
-  pub first_blamed : (e : FlatFail) → Blames (far_part places 0 xs) e → Blames Joined e
+  pub first_blamed : (e : Failing ℕ) → Blames (far_part places 0 xs) e → Blames Joined e
   first_blamed e h = subst (λ (o : Option ℕ). Blames o e) (sym (far_joins places xs ys zs one))
       (blamed_or (far_part places 0 xs) (or_part (far_part places 1 ys) (far_part places (1 + length ys) zs)) e h)
 
-  pub second_blamed : (e : FlatFail) → far_part places 0 xs ≡ None → Blames (far_part places 1 ys) e → Blames Joined e
+  pub second_blamed : (e : Failing ℕ) → far_part places 0 xs ≡ None → Blames (far_part places 1 ys) e → Blames Joined e
   second_blamed e none h =
       let same : Joined ≡ or_part (far_part places 1 ys) (far_part places (1 + length ys) zs) = far_joins places xs ys zs one
       ∙ ap (λ (o : Option ℕ). or_part o (or_part (far_part places 1 ys) (far_part places (1 + length ys) zs))) none in
@@ -71,7 +71,7 @@ module _ (places : ℕ → ℕ) (xs ys zs : List Pieces) (one : length xs ≡ 1)
       ∙ ap (λ (o : Option ℕ). or_part o (or_part (far_part places 1 ys) (far_part places (1 + length ys) zs))) none
       ∙ ap (λ (o : Option ℕ). or_part o (far_part places (1 + length ys) zs)) none2
 
-  pub third_blamed : (e : FlatFail) → far_part places 0 xs ≡ None → far_part places 1 ys ≡ None → Blames (far_part places (1 + length ys) zs) e → Blames Joined e
+  pub third_blamed : (e : Failing ℕ) → far_part places 0 xs ≡ None → far_part places 1 ys ≡ None → Blames (far_part places (1 + length ys) zs) e → Blames Joined e
   third_blamed e none none2 h = subst (λ (o : Option ℕ). Blames o e) (sym (rest_only none none2)) h
 
   pub none_far : far_part places 0 xs ≡ None → far_part places 1 ys ≡ None → far_part places (1 + length ys) zs ≡ None → Joined ≡ None

@@ -5,6 +5,8 @@ use Rattle.std.proofs.Common.{◌≡◌, ℕ, Bool, true, false, cond, zero, suc
 use Rattle.std.proofs.Common.{arith, length, map, get_or, option_map, length-append}
 use Rattle.std.proofs.lemmas.List.{length-map}
 use Rattle.prem_list.specs.Sequence.{items_of}
+use Rattle.prem_line.specs.declared.failing.Failing.{Failing}
+use Rattle.prem_line.specs.declared.failing.Failing.TheVariants.{Refused, OutOfMemory}
 use Rattle.prem_syntax.specs.Syntax.{Text, MarkText}
 use Rattle.prem_syntax.specs.Resolved.{Routine, Resolved}
 use Rattle.prem_asm.specs.Pieces.{Pieces}
@@ -18,8 +20,6 @@ use Rattle.prem_place.specs.declared.placed.PlacedTask.{PlacedTask}
 use Rattle.prem_place.specs.Content.Blocks.{Words}
 use Rattle.prem_place.specs.Flat.Flat.{far_in, part_if, lower_part, lowest_far, words_from, Blames}
 use Rattle.prem_place.specs.Flat.Blocks.{start_at, code_parts, parts_in, names_in, words_of}
-use Rattle.prem_place.specs.declared.flat.flat.FlatFail.{FlatFail}
-use Rattle.prem_place.specs.declared.flat.flat.FlatFail.TheVariants.{Far, OutOfMemory}
 use Rattle.prem_place.specs.Stand.Lying.{starts_of}
 use Rattle.prem_place.specs.Placing.Standing.{IsStanding}
 use Rattle.prem_place.specs.Words.Far.{IsFarIn}
@@ -77,13 +77,13 @@ module _ (t : Placed) (s : IsStanding t) where
       let stubs = s.parts.stubs in
       omega (arith, a, b, c, d, code, stubs)
 
-  blamed_is : (e : FlatFail) → Blames far e → IsFarIn t e
+  blamed_is : (e : Failing ℕ) → Blames far e → IsFarIn t e
   blamed_is OutOfMemory h = tt
-  blamed_is (Far part) h =
+  blamed_is (Refused part) h =
       let lt = lowest_below (start_at t.at) 0 (parts_in t) part h in
       record { first = six_is ∙ ap told h; there = omega (arith, lt, names_long) }
 
-  pub six_ends : {A : Type 0} (found : Option ℕ) (r : Result A FlatFail) → found ≡ far → MatchResult r (λ _. found ≡ None) (Blames found) → MatchResult r (λ _. reach_rules t ≡ None) (IsFarIn t)
+  pub six_ends : {A : Type 0} (found : Option ℕ) (r : Result A (Failing ℕ)) → found ≡ far → MatchResult r (λ _. found ≡ None) (Blames found) → MatchResult r (λ _. reach_rules t ≡ None) (IsFarIn t)
   six_ends found (Ok a) e h = six_is ∙ ap told (sym e ∙ h)
   six_ends found (Err x) e h = blamed_is x (subst (λ (o : Option ℕ). Blames o x) e h)
 
@@ -200,7 +200,7 @@ stub_at t s of all part k x ep e lt is =
 
 -- ---- results that are given on
 
-pub words_then : {A : Type 0} (r : Result A FlatFail) (f : A → List Words) (a b : List Words) → IfOk r (λ x. f x ≡ a) → a ≡ b → IfOk r (λ x. f x ≡ b)
+pub words_then : {A : Type 0} (r : Result A (Failing ℕ)) (f : A → List Words) (a b : List Words) → IfOk r (λ x. f x ≡ a) → a ≡ b → IfOk r (λ x. f x ≡ b)
 words_then (Ok x) f a b h e = h ∙ e
 words_then (Err x) f a b h e = tt
 

@@ -2,6 +2,8 @@
 use Rattle.std.specs.Prelude.{slice_index_or}
 use Rattle.std.proofs.Common.{◌≡◌, ℕ, zero, suc, ◌+◌, ◌<◌, List, [], ◌∷◌, ◌++◌, Some, refl, ap, sym, ◌∙◌, subst, arith, length, map, drop, get_or, append_assoc}
 use Rattle.std.proofs.lemmas.List.{at_drop_more}
+use Rattle.prem_line.specs.declared.failing.Failing.{Failing}
+use Rattle.prem_line.specs.declared.failing.Failing.TheVariants.{Refused}
 use Rattle.prem_layout.specs.Placed.{name_at}
 use Rattle.prem_layout.specs.Rules.{Reach, first_among, reach_rules, over_tasks}
 use Rattle.prem_place.specs.Content.Blocks.{Words}
@@ -9,8 +11,6 @@ use Rattle.prem_place.specs.Placed.PlacedOf.{placed_of}
 use Rattle.prem_place.specs.declared.placed.PlacedTask.{PlacedTask}
 use Rattle.prem_place.specs.Verdict.Told.{routines_in, name_in}
 use Rattle.prem_place.specs.Flat.Blocks.{names_in}
-use Rattle.prem_place.specs.declared.flat.flat.FlatFail.{FlatFail}
-use Rattle.prem_place.specs.declared.flat.flat.FlatFail.TheVariants.{Far}
 use Rattle.prem_place.specs.Words.Far.{FarPart, IsFarIn, IsFirstFar, words_in}
 use Rattle.prem_place.proofs.VerdictLemmas.Names.{tasks_long, routines_at}
 use Rattle.prem_place.proofs.VerdictLemmas.Stages.{stops_at}
@@ -49,7 +49,7 @@ same_item (x ∷ xs) zero a b lt ia ib = ia ∙ sym ib
 same_item (x ∷ xs) (suc n) a b lt ia ib = same_item xs n a b (omega arith) ia ib
 
 -- where a part of a task is told as far, and a function has its name
-pub first_part : (tasks : List PlacedTask) (n f part : ℕ) (a b : PlacedTask) (e : FlatFail) → n < length tasks → a ≡ get_or tasks n a → b ≡ get_or tasks n b → e ≡ Far part → IsFarIn (placed_of a) e →
+pub first_part : (tasks : List PlacedTask) (n f part : ℕ) (a b : PlacedTask) (e : Failing ℕ) → n < length tasks → a ≡ get_or tasks n a → b ≡ get_or tasks n b → e ≡ Refused part → IsFarIn (placed_of a) e →
     name_at (placed_of b).task.program.routines f ≡ slice_index_or (names_in (placed_of b)) part [] → f < length (placed_of b).task.program.routines →
     first_among reach_rules n (map placed_of (drop n tasks)) ≡ over_tasks reach_rules (map placed_of tasks) → IsFirstFar (map placed_of tasks) (record { task = n; function = f })
 first_part tasks n f part a b e lt ia ib is far named inside rest =

@@ -3,14 +3,14 @@ use Rattle.std.specs.Prelude.{◌≡◌, ℕ, ◌+◌, ◌^◌, ◌≤◌, ⊤, 
 use Rattle.std.specs.List.{AllByRecursion}
 use Rattle.prem_list.specs.declared.Sequence.{Sequence}
 use Rattle.prem_list.specs.Sequence.{items_of}
+use Rattle.prem_line.specs.declared.failing.Failing.{Failing}
+use Rattle.prem_line.specs.declared.failing.Failing.TheVariants.{Refused, OutOfMemory}
 use Rattle.prem_isa.specs.Decode.{word_of}
 use Rattle.prem_asm.specs.Fit.{PiecesFit}
 use Rattle.prem_asm.specs.declared.piece.Piece.{Piece}
 use Rattle.prem_asm.specs.Pieces.{Pieces, size_of, code_of, first_far}
 use Rattle.prem_asm.specs.PiecesOf.{pieces_of}
 use Rattle.prem_place.specs.Content.Blocks.{Words}
-use Rattle.prem_place.specs.declared.flat.flat.FlatFail.{FlatFail}
-use Rattle.prem_place.specs.declared.flat.flat.FlatFail.TheVariants.{Far, OutOfMemory}
 
 abbrev pub listed : List (Sequence Piece) → List Pieces
 listed all = map (λ s. pieces_of (items_of s)) all
@@ -62,6 +62,6 @@ pub record AreFit (starts : List ℕ) (first code stubs : List Pieces) : Type 0 
   pub stubs_within : EndWithin (slice_index starts) (1 + length code) stubs
 
 -- want of memory tells nothing
-abbrev pub Blames : Option ℕ → FlatFail → Type 0
-Blames found (Far part) = found ≡ Some part
+abbrev pub Blames : Option ℕ → Failing ℕ → Type 0
+Blames found (Refused part) = found ≡ Some part
 Blames found OutOfMemory = ⊤

@@ -1,5 +1,7 @@
 -- What is told of placed tasks, and of the rules that they break.
 use Rattle.std.specs.Prelude.{◌≡◌, ℕ, zero, suc, ◌+◌, ◌<◌, nat_lt, not, Bool, List, [], ◌∷◌, length, map, option_map, Option, None, Some, Result, MatchResult}
+use Rattle.prem_line.specs.declared.failing.Failing.{Failing}
+use Rattle.prem_line.specs.declared.failing.Failing.TheVariants.{Refused, OutOfMemory}
 use Rattle.prem_plant.specs.declared.plant.Plant.{Plant}
 use Rattle.prem_syntax.specs.Syntax.{Text}
 use Rattle.prem_syntax.specs.Resolved.{Routine}
@@ -13,8 +15,6 @@ use Rattle.prem_bounds.specs.Facts.Large.{first_large}
 use Rattle.prem_bounds.specs.Facts.Laws.{is_large}
 use Rattle.prem_bounds.specs.declared.facts.facts.IntervalFact.{IntervalFact as FactFound}
 use Rattle.prem_place.specs.declared.verdict.told.TaskBounds.{TaskBounds}
-use Rattle.prem_place.specs.declared.verdict.told.VerdictFail.{VerdictFail}
-use Rattle.prem_place.specs.declared.verdict.told.VerdictFail.TheVariants.{Broken, OutOfMemory}
 use Rattle.prem_place.specs.declared.verdict.verdict.Blame.{Blame}
 use Rattle.prem_place.specs.declared.verdict.verdict.Verdict.{Verdict}
 use Rattle.prem_place.specs.declared.verdict.verdict.Verdict.TheVariants as v
@@ -58,12 +58,12 @@ HasBlamed ts None = Unit {0}
 HasBlamed ts (Some b) = HasFunction ts b.task (function_in b.verdict)
 
 -- the first task that breaks a rule is told; that memory is out tells nothing
-abbrev pub IsBroken : (Placed → Option LateRule) → List Placed → VerdictFail → Type 0
-IsBroken check ts (Broken b) = (over_tasks check ts ≡ Some (refusal_of ts b)) × HasFunction ts b.task (function_in b.verdict)
+abbrev pub IsBroken : (Placed → Option LateRule) → List Placed → Failing Blame → Type 0
+IsBroken check ts (Refused b) = (over_tasks check ts ≡ Some (refusal_of ts b)) × HasFunction ts b.task (function_in b.verdict)
 IsBroken check ts OutOfMemory = Unit {0}
 
 -- nothing is refused exactly where it ends well, but for want of memory
-abbrev pub Ends : {A : Type 0} → (Placed → Option LateRule) → List Placed → Result A VerdictFail → Type 0
+abbrev pub Ends : {A : Type 0} → (Placed → Option LateRule) → List Placed → Result A (Failing Blame) → Type 0
 Ends check ts result = MatchResult result (λ _. over_tasks check ts ≡ None) (IsBroken check ts)
 
 -- ---- bounds

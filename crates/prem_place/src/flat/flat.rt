@@ -12,39 +12,14 @@ ghost use Rattle.prem_place.specs.Flat.Flat.{listed, far_in, part_if, lower_part
 
 use crate::content::Block;
 use prem_asm::{AsmFail, Instr, Piece, flatten, put_call, put_code};
+use prem_line::Failing;
 use prem_list::Sequence;
 use prem_plant::FnId;
-use std::alloc::{AllocError, AllocFailed, Global};
+use std::alloc::{AllocError, Global};
 
-/// Why parts have no words.
-#[derive(Debug, PartialEq, Eq, Drop)]
-pub enum FlatFail {
-    /// The code of the part with this number, among those of its task, has a jump out of reach.
-    Far(usize),
-    OutOfMemory,
-}
-
-impl From<AllocError> for FlatFail {
-    ghost use Rattle.std.specs.Prelude.{◌≡◌};
-    ghost use Rattle.prem_place.specs.declared.flat.flat.FlatFail.TheVariants.{OutOfMemory};
-
-    ghost from_gives = { λ _ e. e ≡ OutOfMemory };
-
-    fn from(_error: AllocError) -> FlatFail {
-        FlatFail::OutOfMemory
-    }
-}
-
-impl<T: Drop> From<AllocFailed<T>> for FlatFail {
-    ghost use Rattle.std.specs.Prelude.{◌≡◌};
-    ghost use Rattle.prem_place.specs.declared.flat.flat.FlatFail.TheVariants.{OutOfMemory};
-
-    ghost from_gives = { λ _ e. e ≡ OutOfMemory };
-
-    fn from(_error: AllocFailed<T>) -> FlatFail {
-        FlatFail::OutOfMemory
-    }
-}
+/// Why parts have no words: the code of the part with this number, among those of its task, has a jump out of reach, or there was no
+/// memory.
+pub type FlatFail = Failing<usize>;
 
 /// The words of one part at its place.
 fn block(alloc: Global, pieces: &[Piece], part: usize, starts: &[u32]) -> Result<Block, FlatFail>
@@ -58,7 +33,7 @@ fn block(alloc: Global, pieces: &[Piece], part: usize, starts: &[u32]) -> Result
     let at = starts[part];
     match flatten(alloc, pieces, at, starts) {
         Ok(words) => Ok(Block { at, words }),
-        Err(AsmFail::Reach) => Err(FlatFail::Far(part)),
+        Err(AsmFail::Reach) => Err(FlatFail::Refused(part)),
         Err(AsmFail::OutOfMemory) => Err(FlatFail::OutOfMemory),
     }
 }
@@ -169,7 +144,7 @@ fn far(
 {
     match block(alloc, pieces, part, starts) {
         Ok(_) => Ok(None),
-        Err(FlatFail::Far(part)) => Ok(Some(part)),
+        Err(FlatFail::Refused(part)) => Ok(Some(part)),
         Err(FlatFail::OutOfMemory) => Err(AllocError),
     }
 }
@@ -237,7 +212,7 @@ fn blamed(
     ensures { Blames (lowest_far (slice_index starts.now) 0 (listed first.now ++ (listed code.now ++ listed stubs.now))) result }
 {
     match lowest_of_all(alloc, first, code, stubs, starts) {
-        Ok(Some(part)) => FlatFail::Far(part),
+        Ok(Some(part)) => FlatFail::Refused(part),
         Ok(None) => unreachable!(),
         Err(_) => FlatFail::OutOfMemory,
     }
@@ -245,7 +220,7 @@ fn blamed(
 
 /// The words of a task's start, functions and stubs, which are its first parts; part n starts at the n-th of the addresses.
 ///
-/// `Far` comes exactly where a jump is out of reach, with the part that starts lowest, of those that have one.
+/// It is refused exactly where a jump is out of reach, with the part that starts lowest, of those that have one.
 #[tactic(auto, using(crate::proofs::FlatLemmas::Flats::lowest_none))]
 pub fn flatten_parts(
     alloc: Global,
@@ -264,7 +239,7 @@ pub fn flatten_parts(
     let first = start(alloc, job)?;
     match put_all(alloc, first.items(), code, stubs, starts) {
         Ok(blocks) => Ok(blocks),
-        Err(FlatFail::Far(_)) => Err(blamed(alloc, first.items(), code, stubs, starts)),
+        Err(FlatFail::Refused(_)) => Err(blamed(alloc, first.items(), code, stubs, starts)),
         Err(FlatFail::OutOfMemory) => Err(FlatFail::OutOfMemory),
     }
 }

@@ -121,7 +121,7 @@ pub fn bounds_of_all(
         match task_bounds(alloc, n as u16, &tasks[n], &lines[n], p)? {
             Ok(bounds) => all.push(bounds)?,
             Err(f) => {
-                return Err(VerdictFail::Broken(Blame {
+                return Err(VerdictFail::Refused(Blame {
                     task: n as u16,
                     verdict: Verdict::BoundTooLarge(f),
                 }));

@@ -3,7 +3,7 @@ ghost use Rattle.std.specs.Prelude.{◌≤◌, ◌^◌};
 
 use crate::verdict::verdict::Blame;
 use prem_bounds::facts::IntervalFact;
-use std::alloc::{AllocError, AllocFailed};
+use prem_line::Failing;
 
 /// What is told of a task: of its marked functions in the order of the text, and the greatest number of cycles that a job
 /// takes.
@@ -14,31 +14,5 @@ pub struct TaskBounds {
     ghost small: { job ≤ 2 ^ 40 },
 }
 
-/// Why bounds aren't told: one is too large, or memory ran out.
-#[derive(Clone, Copy, Debug, PartialEq, Eq)]
-pub enum VerdictFail {
-    Broken(Blame),
-    OutOfMemory,
-}
-
-impl From<AllocError> for VerdictFail {
-    ghost use Rattle.std.specs.Prelude.{◌≡◌};
-    ghost use Rattle.prem_place.specs.declared.verdict.told.VerdictFail.TheVariants.{OutOfMemory};
-
-    ghost from_gives = { λ _ e. e ≡ OutOfMemory };
-
-    fn from(_error: AllocError) -> VerdictFail {
-        VerdictFail::OutOfMemory
-    }
-}
-
-impl<T: Drop> From<AllocFailed<T>> for VerdictFail {
-    ghost use Rattle.std.specs.Prelude.{◌≡◌};
-    ghost use Rattle.prem_place.specs.declared.verdict.told.VerdictFail.TheVariants.{OutOfMemory};
-
-    ghost from_gives = { λ _ e. e ≡ OutOfMemory };
-
-    fn from(_error: AllocFailed<T>) -> VerdictFail {
-        VerdictFail::OutOfMemory
-    }
-}
+/// Why bounds aren't told: one is too large, or there was no memory.
+pub type VerdictFail = Failing<Blame>;

@@ -7,12 +7,12 @@ use Rattle.prem_place.proofs.VerdictLemmas.Stages.{passes_at}
 use Rattle.prem_place.proofs.WordsLemmas.Turns.{first_part, more_words}
 use Rattle.prem_place.proofs.words.words_of_all.Goals as goal
 
-pub returns-in-Err-Far-clause-ends : goal.returns-in-Err-Far-clause-ends
-returns-in-Err-Far-clause-ends c =
-    let named = rw c.in-Err-Far.field-0-is at c.function_of.ensures.name in
-    first_part c.args.tasks.now c.loop-n.n c.function_of.result c.in-Err-Far.part c.index-tasks-n.result c.index-tasks-n-in-Err-Far.result
-    c.in-Err-Far.field-0 c.loop-n-test.true c.index-tasks-n.is c.index-tasks-n-in-Err-Far.is
-    c.in-Err-Far.field-0-is c.in-Err-Far.ensures.far named c.function_of.ensures.function c.loop-n.invariant.rest
+pub returns-in-Err-Refused-clause-ends : goal.returns-in-Err-Refused-clause-ends
+returns-in-Err-Refused-clause-ends c =
+    let named = rw c.in-Err-Refused.field-0-is at c.function_of.ensures.name in
+    first_part c.args.tasks.now c.loop-n.n c.function_of.result c.in-Err-Refused.part c.index-tasks-n.result c.index-tasks-n-in-Err-Refused.result
+    c.in-Err-Refused.field-0 c.loop-n-test.true c.index-tasks-n.is c.index-tasks-n-in-Err-Refused.is
+    c.in-Err-Refused.field-0-is c.in-Err-Refused.ensures.far named c.function_of.ensures.function c.loop-n.invariant.rest
 
 pub loop-n-preserved : goal.loop-n-preserved
 loop-n-preserved c =

@@ -1,7 +1,7 @@
 -- What the answer of a reader says that may refuse, and want memory.
 use Rattle.std.specs.Prelude.{◌≡◌, Result, Ok, Err}
-use Rattle.prem_set.specs.declared.failing.Failing.{Failing}
-use Rattle.prem_set.specs.declared.failing.Failing.TheVariants.{Refused, OutOfMemory}
+use Rattle.prem_line.specs.declared.failing.Failing.{Failing}
+use Rattle.prem_line.specs.declared.failing.Failing.TheVariants.{Refused, OutOfMemory}
 
 -- what is read is refused for the same reason, unless memory ran out
 abbrev pub Fails : {Y R : Type 0} → Failing R → Result Y R → Type 0

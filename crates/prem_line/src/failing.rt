@@ -1,7 +1,7 @@
-// Why a part of a file isn't read: it is refused, or there was no memory.
+// Why something isn't made: it is refused, or there was no memory.
 use std::alloc::{AllocError, AllocFailed};
 
-/// Why a part of a file isn't read.
+/// Why something isn't made.
 #[derive(Debug, Drop)]
 pub enum Failing<R> {
     /// It is refused, for this reason.
@@ -12,7 +12,7 @@ pub enum Failing<R> {
 
 impl<R> From<AllocError> for Failing<R> {
     ghost use Rattle.std.specs.Prelude.{◌≡◌};
-    ghost use Rattle.prem_set.specs.declared.failing.Failing.TheVariants.{OutOfMemory};
+    ghost use Rattle.prem_line.specs.declared.failing.Failing.TheVariants.{OutOfMemory};
 
     ghost from_gives = { λ _ e. e ≡ OutOfMemory };
 
@@ -23,7 +23,7 @@ impl<R> From<AllocError> for Failing<R> {
 
 impl<T: Drop, R> From<AllocFailed<T>> for Failing<R> {
     ghost use Rattle.std.specs.Prelude.{◌≡◌};
-    ghost use Rattle.prem_set.specs.declared.failing.Failing.TheVariants.{OutOfMemory};
+    ghost use Rattle.prem_line.specs.declared.failing.Failing.TheVariants.{OutOfMemory};
 
     ghost from_gives = { λ _ e. e ≡ OutOfMemory };
 
