@@ -7,6 +7,8 @@
                               lower crate first, and whether the other one can cite it
     crates.py modules [--fix] which lines of docs/ARCHITECTURE.md on crates and modules aren't the first paragraph of their sources, and the
                               crates that have no line; with --fix the lines are written anew
+    crates.py preludes NAME.. has the files of these crates name what they cite of other crates through their own specs/Prelude and
+                              proofs/Prelude, as far as that makes them shorter, and drops what no file names any more
     crates.py programs        what a program of the list tools/programs lacks: its crates, its script, its stored run, its place in the
                               documents, or one of its commands in completions and manual; and scripts that the list lacks
 """
@@ -196,6 +198,107 @@ def modules(is_fixed):
             it.write(before + heading + "\n".join(written) + bar + behind)
 
 
+IMPORT = re.compile(r"^use ([^{]+)\.\{(.*)\}\s*$")
+EXPORT = re.compile(r"^(?:unfoldable )?pub use ([^{]+)\.\{(.*)\}\s*$", re.M)
+WIDEST = 190
+
+
+def imports(head, names):
+    """The lines that import names of a module, none of them over the widest."""
+    lines = []
+    for it in names:
+        if lines and len(lines[-1]) + len(it) + 3 <= WIDEST:
+            lines[-1] += f", {it}"
+        else:
+            lines.append(head + ".{" + it)
+    return [it + "}" for it in lines]
+
+
+def names_in(text):
+    return [it.strip() for it in text.split(",") if it.strip()]
+
+
+def told_apart(path, prelude, known):
+    """A file's lines without its imports, where the first of these stood, and what it imports, by module."""
+    with open(path, encoding="utf-8") as it:
+        lines = it.read().split("\n")
+    found, kept, at = {}, [], None
+    for line in lines:
+        line_of = IMPORT.match(line)
+        if not line_of:
+            kept.append(line)
+            continue
+        at = len(kept) if at is None else at
+        for name in names_in(line_of.group(2)):
+            module = known[name.split(" as ")[0].strip()] if line_of.group(1) == prelude else line_of.group(1)
+            if name not in found.setdefault(module, []):
+                found[module].append(name)
+    return kept, at, {it: found[it] for it in sorted(found)}
+
+
+def is_foreign(module, crate, folder):
+    own = f"Rattle.{crate}."
+    if module.startswith(own):
+        return folder == "proofs" and module.startswith(own + "specs.") and module != own + "specs.Prelude"
+    return module.startswith(("Rattle.", "denote."))
+
+
+def prelude_of(crate, folder):
+    """Writes the prelude of a crate's definitions or proofs, and the imports of the files that name it."""
+    base, prelude = f"{TOP}/crates/{crate}/{folder}", f"Rattle.{crate}.{folder}.Prelude"
+    known, files, uses, modules, opened = {}, {}, collections.Counter(), collections.Counter(), set()
+    for module, names in EXPORT.findall(read(f"crates/{crate}/{folder}/Prelude.antt") or ""):
+        known |= {it: module for it in names_in(names)}
+    for at, _, names in os.walk(base):
+        for name in names:
+            if name.endswith(".antt") and name not in ("Lib.antt", "Prelude.antt"):
+                files[f"{at}/{name}"] = kept, _, found = told_apart(f"{at}/{name}", prelude, known)
+                opened |= {word for it in kept if "unfolding" in it for word in re.findall(r"[^\s(),]+", it.split("unfolding")[1])}
+                for module in found:
+                    if is_foreign(module, crate, folder):
+                        modules[module] += 1
+                        uses.update((it.split(" as ")[0], module) for it in found[module])
+    best, told, shorter = {}, collections.defaultdict(set), {}
+    for (name, module), _ in sorted(uses.items(), key=lambda it: (-it[1], it[0])):
+        if modules[module] > 1:
+            best.setdefault(name, module)
+    for path, (kept, at, found) in files.items():
+        rest = {it: [name for name in found[it] if not is_foreign(it, crate, folder) or best.get(name.split(" as ")[0]) != it] for it in found}
+        shared = [(it, name) for it in found for name in found[it] if name not in rest[it]]
+        plain = [line for it in found for line in imports(f"use {it}", found[it])]
+        joined = imports(f"use {prelude}", [name for _, name in shared]) + [line for it in rest for line in imports(f"use {it}", rest[it])]
+        if len(joined) < len(plain):
+            shorter[path] = joined
+            for module, name in shared:
+                told[module].add(name.split(" as ")[0])
+        files[path] = kept, at, plain
+    lines = [f"-- What the files of this crate's {folder} name of other modules, so that each imports it from one place."]
+    for module in sorted(told):
+        unfolded = told[module] & opened
+        lines += imports(f"pub use {module}", sorted(told[module] - unfolded)) + imports(f"unfoldable pub use {module}", sorted(unfolded))
+    is_worth = len(lines) < sum(len(files[it][2]) - len(shorter[it]) for it in shorter)
+    for path, (kept, at, plain) in files.items():
+        if at is not None:
+            with open(path, "w", encoding="utf-8") as it:
+                it.write("\n".join([*kept[:at], *(shorter.get(path, plain) if is_worth else plain), *kept[at:]]))
+    lib = (read(f"crates/{crate}/{folder}/Lib.antt") or "").replace("pub mod Prelude\n", "")
+    if is_worth:
+        with open(f"{base}/Prelude.antt", "w", encoding="utf-8") as it:
+            it.write("\n".join(lines) + "\n")
+        with open(f"{base}/Lib.antt", "w", encoding="utf-8") as it:
+            it.write("pub mod Prelude\n" + lib)
+    elif known:
+        os.remove(f"{base}/Prelude.antt")
+        with open(f"{base}/Lib.antt", "w", encoding="utf-8") as it:
+            it.write(lib)
+
+
+def preludes(names):
+    for crate in names:
+        prelude_of(crate, "specs")
+        prelude_of(crate, "proofs")
+
+
 if __name__ == "__main__":
     words = sys.argv[1:]
     if words[:1] == ["cited"]:
@@ -204,6 +307,8 @@ if __name__ == "__main__":
         twice(int(words[1]) if len(words) > 1 else 120)
     elif words[:1] == ["modules"]:
         modules("--fix" in words)
+    elif words[:1] == ["preludes"]:
+        preludes(words[1:])
     elif words[:1] == ["programs"]:
         programs()
     else:

@@ -1,23 +1,9 @@
 -- Arguments, one after the other.
-use Rattle.std.specs.Prelude.{slice_get}
-use Rattle.std.specs.Option.{option_map}
-use Rattle.std.specs.Prelude.{Some, None}
-use Rattle.std.proofs.Common.{◌≡◌, ℕ, zero, suc, ◌+◌, ◌<◌, ◌≤◌, List, [], ◌∷◌, ◌++◌, map, drop, length, get_or, Option, refl, ap, sym, ◌∙◌, arith}
-use Rattle.std.proofs.lemmas.List.{drop_more}
-use Rattle.prem_list.specs.Sequence.{items_of}
-use Rattle.prem_syntax.specs.declared.tree.Place.{Place}
-use Rattle.prem_syntax.specs.declared.tree.Param.{Param}
-use Rattle.prem_syntax.specs.SyntaxOf.{parameter_of}
-use Rattle.prem_syntax.specs.Resolved.{Term}
+use Rattle.prem_analysis.proofs.Prelude.{in_given, items_of, first_assoc, first_of_append, Environment, Site, in_term, in_arguments, parameters_of, RangeBreach, first, first_of, Term}
+use Rattle.prem_analysis.proofs.Prelude.{parameter_of, Param, Place, term_of, loops_of, routines_of, Routine as RoutineTree, ◌≡◌, ℕ, zero, suc, ◌+◌, ◌<◌, ◌≤◌, List, [], ◌∷◌, ◌++◌, map, drop}
+use Rattle.prem_analysis.proofs.Prelude.{length, get_or, Option, refl, ap, sym, ◌∙◌, arith, drop_more, option_map, slice_get}
 use Rattle.prem_tree.specs.declared.resolve.resolved.Term.{Term as TermTree}
-use Rattle.prem_tree.specs.Resolve.ResolvedOf.{term_of}
-use Rattle.prem_tree.specs.declared.resolve.resolved.Routine.{Routine as RoutineTree}
-use Rattle.prem_tree.specs.Resolve.ResolvedOf.{loops_of, routines_of}
-use Rattle.prem_ranges.specs.Environment.{Environment}
-use Rattle.prem_ranges.specs.RangeRules.{RangeBreach, first, first_of}
-use Rattle.prem_ranges.specs.RangeBreaches.{Site, in_term, in_arguments, parameters_of}
-use Rattle.prem_ranges.proofs.FirstBreach.{first_assoc, first_of_append}
-use Rattle.prem_analysis.specs.Arms.{in_given}
+use Rattle.std.specs.Prelude.{Some, None}
 
 -- the parameters from a number on
 given_at : (at : Place) (site : Site) (env : Environment) (t : Term) (ts : List Term) (ps : List Param) (i : ℕ) →

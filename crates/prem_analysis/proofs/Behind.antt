@@ -1,32 +1,15 @@
 -- What is seen behind steps, from what is seen behind their parts.
-use Rattle.std.specs.Prelude.{ℤ}
-use Rattle.std.proofs.Common.{◌≡◌, ℕ, ◌+◌, ◌*◌, ◌^◌, List, [], ◌∷◌, ◌++◌, Option, None, refl, ap, sym, ◌∙◌, drop, length, get_or, ◌<◌, ◌≤◌, arith, Bool, true, false, nat_lt}
-use Rattle.std.proofs.lemmas.List.{append-nil, append_assoc, drop_more, drop_all}
-use Rattle.std.proofs.Common.{zero, suc, map, subst}
-use Rattle.prem_word.specs.Ranges.{IsRange}
-use Rattle.prem_syntax.specs.declared.tree.Param.{Param}
-use Rattle.prem_syntax.specs.declared.tree.Local.{Local}
-use Rattle.prem_syntax.specs.Syntax.{LocalVariable}
-use Rattle.prem_syntax.specs.SyntaxOf.{parameter_of, local_of}
-use Rattle.prem_syntax.specs.declared.tree.Place.{Place}
-use Rattle.prem_syntax.specs.Resolve.{promoted}
-use Rattle.prem_syntax.specs.Resolved.{Term, Routine, Steps, Done, If, For, While}
-use Rattle.prem_tree.specs.declared.resolve.resolved.Term.{Term as TermTree}
-use Rattle.prem_tree.specs.Resolve.ResolvedOf.{term_of}
-use Rattle.prem_tree.specs.declared.resolve.resolved.Step.{Step}
-use Rattle.prem_ranges.specs.Sound.{Ranged, next_ranged}
-use Rattle.prem_ranges.specs.Environment.{Environment}
-use Rattle.prem_ranges.specs.RangeOf.{refined}
-use Rattle.prem_ranges.specs.After.{loop_end, in_counting, in_body, in_while, after, bounds, stated_or_whole, known_parameter, known_local, declared, at_body}
-use Rattle.prem_ranges.specs.RangeRules.{RangeBreach, first, first_of}
-use Rattle.prem_ranges.specs.RangeBreaches.{Site, in_term, in_range_of_int, in_turns, in_counting_loop, in_steps, in_locals, in_result}
-use Rattle.prem_ranges.proofs.FirstBreach.{first_none, first_assoc, first_of_append}
-use Rattle.prem_ranges.proofs.Capped.{capped as capped_same, in_steps-sized}
-use Rattle.prem_analysis.specs.Functions.{behind_routine}
-use Rattle.prem_analysis.specs.Ranging.Plain.{plain_before, plain, plain_list}
-use Rattle.prem_analysis.specs.Seen.{Seen, noted, behind, looked}
-use Rattle.prem_analysis.specs.Arms.{capped, at_term, at_counting, at_while, bound_of}
+use Rattle.prem_analysis.proofs.Prelude.{capped, at_term, at_counting, at_while, bound_of, behind_routine, plain_before, plain, plain_list, Seen, noted, behind, looked, first_none}
+use Rattle.prem_analysis.proofs.Prelude.{first_assoc, first_of_append, loop_end, in_counting, in_body, in_while, after, bounds, stated_or_whole, known_parameter, known_local, declared}
+use Rattle.prem_analysis.proofs.Prelude.{at_body, Environment, Site, in_term, in_range_of_int, in_turns, in_counting_loop, in_steps, in_locals, in_result, refined, RangeBreach, first}
+use Rattle.prem_analysis.proofs.Prelude.{first_of, Ranged, next_ranged, promoted, Term, Steps, Done, If, For, While, LocalVariable, parameter_of, local_of, Local, Param, Place, term_of}
+use Rattle.prem_analysis.proofs.Prelude.{Step, IsRange, ◌≡◌, ℕ, ◌+◌, ◌*◌, ◌^◌, List, [], ◌∷◌, ◌++◌, Option, None, refl, ap, sym, ◌∙◌, drop, length, get_or, ◌<◌, arith, Bool, true, false}
+use Rattle.prem_analysis.proofs.Prelude.{zero, suc, map, subst, append-nil, append_assoc, drop_more, ℤ}
 use Rattle.prem_analysis.proofs.RangingLemmas.Sequences.{after-step, bounds-step, first-step}
+use Rattle.prem_ranges.proofs.Capped.{capped as capped_same, in_steps-sized}
+use Rattle.prem_syntax.specs.Resolved.{Routine}
+use Rattle.prem_tree.specs.declared.resolve.resolved.Term.{Term as TermTree}
+use Rattle.std.proofs.Common.{nat_lt}
 
 abbrev pub seen : List ℕ → Option RangeBreach → Seen
 seen bs o = record { bounds = bs; found = o }
@@ -49,10 +32,6 @@ looked_two a b s = same_seen _ _ _ _ (sym (append-nil s.bounds)) (more s.found a
 
 pub looked_three : (a b c : List RangeBreach) (s : Seen) → noted (first_of c) (noted (first_of b) (noted (first_of a) s)) ≡ looked (a ++ b ++ c) s
 looked_three a b c s = same_seen _ _ _ _ (sym (append-nil s.bounds)) (ap (λ o. first o (first_of c)) (more s.found a b) ∙ more s.found (a ++ b) c ∙ ended s.found (a ++ b ++ c))
-
--- steps, one behind the other
-pub behind_none : (site : Site) (around : ℕ) (env : Environment) (s : Seen) → s ≡ behind site around env Done s
-behind_none site around env s = same_seen _ _ _ _ (sym (append-nil s.bounds)) (sym (first_none s.found))
 
 pub behind_step : (site : Site) (around : ℕ) (env : Environment) (step : Step) (rest : Steps) (s : Seen) →
     behind site around (after env (plain step)) rest (behind site around env (plain step) s) ≡ behind site around env (plain_before step rest) s
@@ -124,14 +103,6 @@ walked_on site around steps i step env env' env0 s s' s0 inside is w new_env new
           ∙ ap (λ (l : List Step). behind site around env (plain_list l) s) (sym all) ∙ w.seen_is;
     }
 
-walked_env : (site : Site) (around : ℕ) (steps : List Step) (i : ℕ) (env env0 : Environment) (s s0 : Seen) → length steps ≤ i →
-    Walking site around steps (drop i steps) env env0 s s0 → env ≡ after env0 (plain_list steps)
-walked_env site around steps i env env0 s s0 past w = ap (λ (l : List Step). after env (plain_list l)) (sym (drop_all i steps past)) ∙ w.known
-
-walked_seen : (site : Site) (around : ℕ) (steps : List Step) (i : ℕ) (env env0 : Environment) (s s0 : Seen) → length steps ≤ i →
-    Walking site around steps (drop i steps) env env0 s s0 → s ≡ behind site around env0 (plain_list steps) s0
-walked_seen site around steps i env env0 s s0 past w = behind_none site around env s ∙ ap (λ (l : List Step). behind site around env (plain_list l) s) (sym (drop_all i steps past)) ∙ w.seen_is
-
 -- ---- an arm of the walk, from what its calls give
 
 pub if_arm : (site : Site) (around : ℕ) (env right inner : Environment) (at : Place) (c : Term) (taken other t o : Step) (s1 s2 s3 s : Seen) →
@@ -199,13 +170,6 @@ pub no_terms : (site : Site) (all ls : List LocalVariable) (all_es es : List Ter
 no_terms site all ls all_es es env env0 s s0 none d = (
   sym (ap (declared env ls) none ∙ declared_none env ls) ∙ d.known,
   noted_none s ∙ sym (ap (λ l. noted (first_of l) s) (ap (in_locals site env ls) none ∙ locals_none site env ls)) ∙ d.seen_is,
-)
-
-pub no_locals : (site : Site) (all ls : List LocalVariable) (all_es es : List Term) (env env0 : Environment) (s s0 : Seen) → ls ≡ [] → Declaring site all ls all_es es env env0 s s0 →
-    (env ≡ declared env0 all all_es) × (s ≡ noted (first_of (in_locals site env0 all all_es)) s0)
-no_locals site all ls all_es es env env0 s s0 none d = (
-  sym (ap (λ l. declared env l es) none) ∙ d.known,
-  noted_none s ∙ sym (ap (λ l. noted (first_of (in_locals site env l es)) s) none) ∙ d.seen_is,
 )
 
 pub behind_function : (site : Site) (f : Routine) (s : Seen) →

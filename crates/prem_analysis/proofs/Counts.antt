@@ -1,25 +1,14 @@
 -- A well-formed program has few functions and globals, so the numbers that its first breach names are small.
-use Rattle.std.specs.Prelude.{nat_lt, not}
-use Rattle.std.specs.List.{list_any}
-use Rattle.std.proofs.Common.{◌≡◌, ℕ, suc, ◌+◌, ◌≤◌, Bool, true, false, List, [], ◌∷◌, ◌++◌, length, refl, ap, sym, ◌∙◌, arith, Option, None, Some, subst}
-use Rattle.std.proofs.lemmas.Bool.Decides.{nat_tests}
-use Rattle.prem_syntax.specs.declared.rules.Count.TheVariants.{Functions, Globals, Parameters, Regions, Length, Stated}
-use Rattle.prem_syntax.specs.Syntax.{GlobalVariable, FunctionText, global_item, function_item, ProgramText}
-use Rattle.prem_syntax.specs.Literals.{ProgramHasWords}
-use Rattle.prem_syntax.specs.Resolve.{loops_within, functions_of, globals_of, resolve_items}
-use Rattle.prem_syntax.specs.Source.{unlimited}
-use Rattle.prem_syntax.specs.Rules.{Rule, Limit, NoJob}
-use Rattle.prem_syntax.specs.Breaches.{if_broken, is_job_name, regions_of, is_stated, is_length, item_names, reached, in_items, in_limits, breaches}
-use Rattle.prem_syntax.specs.ProgramRules.{first_breach, IsWellFormed}
-use Rattle.prem_ranges.specs.RangeRules.{RangeRule, LoopBound, TooLarge, ZeroDivisor, IndexOutside, RegionOutside, ArgRange, RangeBreach, first_of}
-use Rattle.prem_ranges.specs.RangeBreaches.{range_breaches}
-use Rattle.prem_ranges.specs.RangesKept.{resolved, first_range_breach}
+use Rattle.prem_analysis.proofs.Prelude.{Named, is_none_tells, well_formed_is_typed, range_breaches, RangeRule, LoopBound, TooLarge, ZeroDivisor, IndexOutside, RegionOutside, ArgRange}
+use Rattle.prem_analysis.proofs.Prelude.{RangeBreach, first_of, resolved, first_range_breach, ProgramHasWords, first_breach, IsWellFormed, loops_within, functions_of, globals_of}
+use Rattle.prem_analysis.proofs.Prelude.{resolve_items, unlimited, GlobalVariable, FunctionText, global_item, function_item, ProgramText, ◌≡◌, ℕ, suc, ◌+◌, ◌≤◌, Bool, true, false, List, []}
+use Rattle.prem_analysis.proofs.Prelude.{◌∷◌, ◌++◌, length, refl, ap, sym, ◌∙◌, arith, Option, None, Some, subst, nat_tests, list_any, nat_lt, not}
+use Rattle.prem_analysis.proofs.Naming.{NamedIf, program_named}
 use Rattle.prem_ranges.proofs.Basics.{none_left, none_right}
 use Rattle.prem_ranges.proofs.Named.{none_broken}
-use Rattle.prem_ranges.proofs.WellFormed.{well_formed_is_typed}
-use Rattle.prem_ranges.proofs.AnalysisSound.{is_none_tells}
-use Rattle.prem_analysis.specs.Named.{Named}
-use Rattle.prem_analysis.proofs.Naming.{NamedIf, program_named}
+use Rattle.prem_syntax.specs.Breaches.{if_broken, is_job_name, regions_of, is_stated, is_length, item_names, reached, in_items, in_limits, breaches}
+use Rattle.prem_syntax.specs.Rules.{Rule, Limit, NoJob}
+use Rattle.prem_syntax.specs.declared.rules.Count.TheVariants.{Functions, Globals, Parameters, Regions, Length, Stated}
 
 not_broken : (b : Bool) (at : _) (rule : Rule) → if_broken b at rule ≡ [] → b ≡ false
 not_broken true at rule e = cc

@@ -1,17 +1,7 @@
 -- The head of a counting loop, from what its calls give.
-use Rattle.std.specs.Prelude.{ℤ}
-use Rattle.std.proofs.Common.{◌≡◌, ℕ, Bool, List, Option, ap, sym, ◌∙◌}
-use Rattle.prem_word.specs.Ranges.{Span}
-use Rattle.prem_syntax.specs.declared.tree.Place.{Place}
-use Rattle.prem_syntax.specs.Resolved.{Term, Steps}
-use Rattle.prem_ranges.specs.Environment.{with_range, Environment, at_local}
-use Rattle.prem_ranges.specs.RangeOf.{range_of}
-use Rattle.prem_ranges.specs.After.{end_of, turn_bound, loop_end, in_counting, body_range, range_behind, in_body, behind_loop}
-use Rattle.prem_ranges.specs.RangeRules.{RangeBreach, first_of}
-use Rattle.prem_ranges.specs.RangeBreaches.{Site, in_term, in_counting_loop}
-use Rattle.prem_ranges.specs.Saves.Saves.{Saved, saved_few}
-use Rattle.prem_analysis.specs.Seen.{Seen, noted, counted}
-use Rattle.prem_analysis.specs.Arms.{capped, at_term, at_counting, bound_of}
+use Rattle.prem_analysis.proofs.Prelude.{capped, at_term, at_counting, bound_of, Seen, noted, counted, end_of, turn_bound, loop_end, in_counting, body_range, range_behind, in_body}
+use Rattle.prem_analysis.proofs.Prelude.{behind_loop, with_range, Environment, at_local, Site, in_term, in_counting_loop, range_of, RangeBreach, first_of, Saved, saved_few, Term, Steps}
+use Rattle.prem_analysis.proofs.Prelude.{Place, Span, ◌≡◌, ℕ, Bool, List, Option, ap, sym, ◌∙◌, ℤ}
 
 -- the numbers of a loop's head are the defined ones
 pub record Head (env : Environment) (k : ℕ) (low : Term) (closed : Bool) (high : Term) (step : ℕ) (body : Steps) (around : ℕ) (known : Environment)

@@ -1,20 +1,8 @@
 -- What is known behind `if`s and loops that are walked over in place.
-use Rattle.std.proofs.Common.{◌≡◌, ℕ, Bool, true, false, eqb, List, [], ◌∷◌, ◌++◌, length, refl, ap, sym, ◌∙◌, zero, suc}
-use Rattle.std.proofs.lemmas.Bool.{or_parts}
-use Rattle.prem_word.specs.Ranges.{Span}
-use Rattle.prem_syntax.specs.declared.tree.Place.{Place}
-use Rattle.prem_syntax.specs.Resolved.{Term, Done, If, For, While}
-use Rattle.prem_tree.specs.declared.resolve.resolved.Step.{Step}
-use Rattle.prem_ranges.specs.Environment.{with_range, Environment, at_local}
-use Rattle.prem_ranges.specs.RangeOf.{range_of, refined}
-use Rattle.prem_ranges.specs.After.{in_counting, in_while, loop_end, body_range, range_behind, in_body, behind_loop, after}
-use Rattle.prem_ranges.specs.Saves.Saves.{named, few_or_all, Saved, saved, saved_few, restored, merged}
-use Rattle.prem_ranges.proofs.SavesLemmas.Locals.{among, among-append}
-use Rattle.prem_ranges.proofs.SavesLemmas.Back.{HasNamed, HasAssigned, restored_few, differs_at, differs_where, differs_after, back_from_taken, merged_arms}
-use Rattle.prem_analysis.specs.declared.ranging.found.Known.{Known as KnownTree}
-use Rattle.prem_analysis.specs.Ranging.View.{env_of}
-use Rattle.prem_analysis.specs.Ranging.Plain.{plain}
-use Rattle.prem_analysis.specs.Ranging.Targets.{targets}
+use Rattle.prem_analysis.proofs.Prelude.{plain, targets, env_of, Known as KnownTree, HasNamed, HasAssigned, restored_few, differs_at, differs_where, differs_after, back_from_taken}
+use Rattle.prem_analysis.proofs.Prelude.{merged_arms, among, among-append, in_counting, in_while, loop_end, body_range, range_behind, in_body, behind_loop, after, with_range, Environment}
+use Rattle.prem_analysis.proofs.Prelude.{at_local, range_of, refined, named, few_or_all, Saved, saved, saved_few, restored, merged, Term, Done, If, For, While, Place, Step, Span, ◌≡◌, ℕ}
+use Rattle.prem_analysis.proofs.Prelude.{Bool, true, false, eqb, List, [], ◌∷◌, ◌++◌, length, refl, ap, sym, ◌∙◌, zero, suc, or_parts}
 use Rattle.prem_analysis.proofs.RangingLemmas.Targeted.{has_targets}
 
 -- ---- locals that differ

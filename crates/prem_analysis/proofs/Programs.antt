@@ -1,41 +1,16 @@
 -- What is seen of all functions is what the rules on ranges say of the program.
-use Rattle.std.specs.List.{flat_map}
-use Rattle.std.specs.Prelude.{slice_get}
-use Rattle.std.proofs.Common.{◌≡◌, ℕ, zero, suc, ◌+◌, ◌<◌, List, [], ◌∷◌, ◌++◌, map, length, refl, ap, sym, ◌∙◌, arith, None, Some}
-use Rattle.std.proofs.lemmas.List.{append-nil, append_assoc}
-use Rattle.std.proofs.Common.{subst}
-use Rattle.prem_list.specs.Sequence.{items_of}
-use Rattle.prem_syntax.specs.Syntax.{FunctionText, ProgramText}
-use Rattle.prem_syntax.specs.SyntaxOf.{function_of}
-use Rattle.prem_syntax.specs.Literals.{ProgramHasWords}
-use Rattle.prem_syntax.specs.ProgramRules.{IsWellFormed}
-use Rattle.prem_syntax.specs.Source.{unlimited}
-use Rattle.prem_syntax.specs.Resolved.{Routine, Resolved}
-use Rattle.prem_tree.specs.declared.resolve.resolved.Routine.{Routine as RoutineTree}
-use Rattle.prem_tree.specs.Resolve.ResolvedOf.{loops_of, routine_of, routines_of}
-use Rattle.prem_tree.specs.Resolve.ResolvedOf.{IsResolved}
-use Rattle.prem_tree.specs.declared.resolve.resolved.Resolved.{Resolved as ResolvedTree}
-use Rattle.prem_tree.specs.Resolve.ResolvedOf.{resolved_of}
-use Rattle.prem_ranges.specs.After.{known_parameter}
-use Rattle.prem_ranges.specs.Sound.{Ranged}
-use Rattle.prem_ranges.specs.RangesKept.{first_range_breach, turn_bounds}
-use Rattle.prem_ranges.specs.Regions.{Watch}
-use Rattle.prem_ranges.specs.RangeBreaches.{range_breaches}
-use Rattle.prem_ranges.specs.After.{bounds_in}
-use Rattle.prem_ranges.specs.RangeRules.{first, first_of}
-use Rattle.prem_ranges.specs.RangeBreaches.{Site, site_of, in_routine, in_routines}
-use Rattle.prem_ranges.specs.Sound.{AlikeRoutine, alike_done}
-use Rattle.prem_ranges.proofs.WellFormed.{well_formed_is_typed}
-use Rattle.prem_ranges.proofs.Alike.{SameSite, in_routine-alike, bounds_in-alike}
-use Rattle.prem_ranges.proofs.FirstBreach.{first_none, first_assoc, first_of_append}
-use Rattle.prem_analysis.specs.Functions.{AllRanged}
-use Rattle.prem_analysis.specs.declared.ranging.site.Marked.{Marked}
-use Rattle.prem_analysis.specs.Functions.{site_at}
-use Rattle.prem_analysis.specs.Ranging.SiteOf.{AreWatched}
-use Rattle.prem_analysis.specs.Seen.{Seen}
-use Rattle.prem_analysis.specs.Functions.{plain_routine, behind_routine, behind_routines}
-use Rattle.prem_analysis.proofs.RangingLemmas.PlainSteps.{plain-alike}
+use Rattle.prem_analysis.proofs.Prelude.{AllRanged, site_at, plain_routine, behind_routine, behind_routines, AreWatched, Seen, Marked, items_of, first_none, first_assoc, first_of_append}
+use Rattle.prem_analysis.proofs.Prelude.{well_formed_is_typed, known_parameter, bounds_in, range_breaches, Site, in_routine, in_routines, first, first_of, first_range_breach, turn_bounds}
+use Rattle.prem_analysis.proofs.Prelude.{Watch, Ranged, AlikeRoutine, alike_done, ProgramHasWords, IsWellFormed, Resolved, unlimited, FunctionText, ProgramText, function_of, loops_of}
+use Rattle.prem_analysis.proofs.Prelude.{routine_of, routines_of, IsResolved, resolved_of, Routine as RoutineTree, ◌≡◌, ℕ, zero, suc, ◌+◌, ◌<◌, List, [], ◌∷◌, ◌++◌, map, length, refl, ap}
+use Rattle.prem_analysis.proofs.Prelude.{sym, ◌∙◌, arith, None, Some, subst, append-nil, append_assoc, slice_get}
 use Rattle.prem_analysis.proofs.Behind.{seen, same_seen}
+use Rattle.prem_analysis.proofs.RangingLemmas.PlainSteps.{plain-alike}
+use Rattle.prem_ranges.proofs.Alike.{SameSite, in_routine-alike, bounds_in-alike}
+use Rattle.prem_ranges.specs.RangeBreaches.{site_of}
+use Rattle.prem_syntax.specs.Resolved.{Routine}
+use Rattle.prem_tree.specs.declared.resolve.resolved.Resolved.{Resolved as ResolvedTree}
+use Rattle.std.specs.List.{flat_map}
 
 -- a function with no turns is the function with any turns, but for these
 routine-alike : (t : ℕ → ℕ) (n : ℕ) (r : RoutineTree) → AlikeRoutine (λ _ _. ℕ) (plain_routine r) (routine_of t n r)

@@ -1,14 +1,7 @@
 -- What an analysed program stands for.
-use Rattle.std.specs.Prelude.{◌≡◌, ℕ, List, Ok}
-use Rattle.prem_syntax.specs.Syntax.{ProgramText}
-use Rattle.prem_syntax.specs.SyntaxOf.{program_of}
-use Rattle.prem_syntax.specs.Statements.{ProgramState}
-use Rattle.prem_syntax.specs.Source.{source_within, source}
-use Rattle.prem_tree.specs.declared.checked.Checked.{Checked}
-use Rattle.prem_tree.specs.Checked.{checked_program}
-use Rattle.prem_ranges.specs.RangesKept.{limits_of}
-use Rattle.prem_ranges.specs.Sound.{AreWords}
+use Rattle.prem_analysis.specs.Prelude.{limits_of, AreWords, source_within, source, ProgramText, program_of, checked_program, Checked, ◌≡◌, ℕ, List, Ok}
 use Rattle.prem_analysis.specs.declared.analysed.Analysed.{Analysed}
+use Rattle.prem_syntax.specs.Statements.{ProgramState}
 
 abbrev pub analysed_checked : Analysed → Checked
 analysed_checked a = a.checked

@@ -1,15 +1,9 @@
 -- What the walk does with each kind of step, part by part.
-use Rattle.std.specs.Prelude.{ℕ, ◌+◌, ◌*◌, ◌^◌, min, ℤ, Bool}
-use Rattle.std.specs.Prelude.{List, [], Option, None, Some}
-use Rattle.prem_syntax.specs.declared.tree.Place.{Place}
-use Rattle.prem_syntax.specs.Syntax.{Parameter}
-use Rattle.prem_syntax.specs.Resolved.{Term, Steps}
-use Rattle.prem_ranges.specs.Environment.{Environment}
-use Rattle.prem_ranges.specs.RangeOf.{range_of}
-use Rattle.prem_ranges.specs.After.{turn_bound, loop_end, in_counting, in_while}
-use Rattle.prem_ranges.specs.RangeRules.{RangeBreach, first_of}
-use Rattle.prem_ranges.specs.RangeBreaches.{Site, in_argument, in_term, in_turns, in_counting_loop}
+use Rattle.prem_analysis.specs.Prelude.{turn_bound, loop_end, in_counting, in_while, Environment, Site, in_argument, in_term, in_turns, in_counting_loop, RangeBreach, first_of, Term, Steps}
+use Rattle.prem_analysis.specs.Prelude.{Parameter, ℕ, ◌+◌, ◌*◌, ◌^◌, min, ℤ, Bool, List, [], Option, None, Some}
 use Rattle.prem_analysis.specs.Seen.{Seen, noted, counted}
+use Rattle.prem_ranges.specs.RangeOf.{range_of}
+use Rattle.prem_syntax.specs.declared.tree.Place.{Place}
 
 -- the product of turn bounds, counted up to one past the greatest that is allowed
 abbrev pub capped : ℕ → ℕ → ℕ

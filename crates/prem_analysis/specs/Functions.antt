@@ -1,22 +1,13 @@
 -- What is seen of functions.
-use Rattle.std.specs.Prelude.{◌≡◌, ℕ, ◌+◌, List, [], ◌∷◌, ◌++◌, map, slice_get, Some}
-use Rattle.std.specs.Borrow.{Bor}
-use Rattle.std.specs.Option.{option_map}
-use Rattle.prem_list.specs.Sequence.{items_of}
-use Rattle.prem_syntax.specs.SyntaxOf.{global_of, function_of}
-use Rattle.prem_syntax.specs.declared.tree.Global.{Global}
-use Rattle.prem_syntax.specs.Source.{unlimited}
-use Rattle.prem_syntax.specs.Resolved.{Routine}
-use Rattle.prem_tree.specs.declared.resolve.resolved.Routine.{Routine as RoutineTree}
-use Rattle.prem_tree.specs.Resolve.ResolvedOf.{term_of, routines_of}
-use Rattle.prem_ranges.specs.After.{bounds_in, known_parameter}
-use Rattle.prem_ranges.specs.Sound.{Ranged}
-use Rattle.prem_ranges.specs.RangeRules.{first, first_of}
-use Rattle.prem_ranges.specs.RangeBreaches.{Site, in_routine}
-use Rattle.prem_analysis.specs.declared.ranging.site.Marked.{Marked}
-use Rattle.prem_analysis.specs.Ranging.SiteOf.{watches_at}
+use Rattle.prem_analysis.specs.Prelude.{items_of, bounds_in, known_parameter, Site, in_routine, first, first_of, Ranged, Routine, unlimited, global_of, function_of, term_of, routines_of}
+use Rattle.prem_analysis.specs.Prelude.{option_map, ◌≡◌, ℕ, ◌+◌, List, [], ◌∷◌, ◌++◌, map, slice_get, Some}
 use Rattle.prem_analysis.specs.Ranging.Plain.{plain}
+use Rattle.prem_analysis.specs.Ranging.SiteOf.{watches_at}
 use Rattle.prem_analysis.specs.Seen.{Seen}
+use Rattle.prem_analysis.specs.declared.ranging.site.Marked.{Marked}
+use Rattle.prem_syntax.specs.declared.tree.Global.{Global}
+use Rattle.prem_tree.specs.declared.resolve.resolved.Routine.{Routine as RoutineTree}
+use Rattle.std.specs.Borrow.{Bor}
 
 -- a function in memory, with no turns
 abbrev pub plain_routine : RoutineTree → Routine

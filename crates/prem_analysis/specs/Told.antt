@@ -1,17 +1,10 @@
 -- What is told of the first broken rule on ranges.
-use Rattle.std.specs.Prelude.{◌≡◌, ◌<◌, ◌^◌, ℕ, All, List, Option, None, Some, Result, Ok, Err, Vec}
-use Rattle.std.specs.Global.{Global}
-use Rattle.std.specs.Option.{option_map}
-use Rattle.prem_word.specs.Ranges.{span_of}
-use Rattle.prem_syntax.specs.Syntax.{ProgramText}
-use Rattle.prem_syntax.specs.SyntaxOf.{program_of}
-use Rattle.prem_tree.specs.declared.checked.Checked.{Checked}
-use Rattle.prem_tree.specs.Checked.{checked_program}
-use Rattle.prem_ranges.specs.RangeRules.{RangeRule, LoopBound, TooLarge, ZeroDivisor, IndexOutside, RegionOutside, ArgRange, RangeBreach}
-use Rattle.prem_ranges.specs.RangesKept.{first_range_breach, turn_bounds, StaysInRange}
-use Rattle.prem_analysis.specs.declared.analysed.Analysed.{Analysed}
+use Rattle.prem_analysis.specs.Prelude.{RangeRule, LoopBound, TooLarge, ZeroDivisor, IndexOutside, RegionOutside, ArgRange, RangeBreach, first_range_breach, turn_bounds, StaysInRange}
+use Rattle.prem_analysis.specs.Prelude.{ProgramText, program_of, checked_program, Checked, span_of, option_map, ◌≡◌, ◌<◌, ◌^◌, ℕ, All, List, Option, None, Some, Result, Ok, Err, Vec}
 use Rattle.prem_analysis.specs.Analysed.{analysed_checked}
+use Rattle.prem_analysis.specs.declared.analysed.Analysed.{Analysed}
 use Rattle.prem_analysis.specs.declared.fail.RangeFail.{RangeFail}
+use Rattle.std.specs.Global.{Global}
 use Rattle.prem_analysis.specs.declared.fail.RangeFail.TheVariants as f
 
 -- a rule with its ranges and names, and the line where it is broken

@@ -1,4 +1,4 @@
-// What is known of locals, in a vector: each of these changes it as its namesake does a slice.
+//! What is known of locals, in a vector: each of these changes it as its namesake does a slice.
 ghost use Rattle.std.specs.Prelude.{◌≡◌};
 ghost use Rattle.prem_tree.specs.Resolve.ResolvedOf.{term_of};
 ghost use Rattle.prem_ranges.specs.Environment.{at_local, with_range, assigned, any_again};

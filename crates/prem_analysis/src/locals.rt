@@ -1,4 +1,4 @@
-// The locals that differ in a part of a function, by number; or all of them, where that is fewer.
+//! The locals that differ in a part of a function, by number; or all of them, where that is fewer.
 ghost use Rattle.std.specs.Prelude.{◌≡◌, ◌++◌, ◌∷◌, length, IfOk};
 ghost use Rattle.prem_tree.specs.Resolve.ResolvedOf.{term_of};
 ghost use Rattle.prem_ranges.specs.Saves.Saves.{named, few_or_all};

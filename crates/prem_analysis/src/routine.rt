@@ -86,7 +86,7 @@ fn declare(
 }
 
 /// Locals with their initialisers, in order.
-fn declare_all(
+pub fn declare_all(
     alloc: Global,
     site: &Site,
     env: &mut Vec<Known>,
@@ -106,7 +106,8 @@ fn declare_all(
     Ok(())
 }
 
-fn see_result(
+/// A function's result is looked at, if it has one.
+pub fn see_result(
     alloc: Global,
     site: &Site,
     env: &mut Vec<Known>,

@@ -1,22 +1,10 @@
 -- An arm of the walk, a loop's head and a function, from what their calls give.
-use Rattle.std.proofs.Common.{◌≡◌, ℕ, ◌+◌, ◌<◌, Bool, true, false, List, [], ◌∷◌, ◌++◌, length, map, drop, get_or, refl, ap, sym, ◌∙◌, subst}
-use Rattle.std.proofs.lemmas.List.{append-nil, append_assoc, drop_more}
-use Rattle.prem_syntax.specs.declared.tree.Place.{Place}
-use Rattle.prem_syntax.specs.declared.tree.Local.{Local}
-use Rattle.prem_syntax.specs.Syntax.{LocalVariable}
-use Rattle.prem_syntax.specs.SyntaxOf.{local_of}
-use Rattle.prem_syntax.specs.Resolved.{Term, Steps, Done, If, For, While, Routine}
-use Rattle.prem_tree.specs.declared.resolve.resolved.Term.{Term as TermTree}
-use Rattle.prem_tree.specs.declared.resolve.resolved.Step.{Step}
-use Rattle.prem_tree.specs.Resolve.ResolvedOf.{term_of}
-use Rattle.prem_ranges.specs.Environment.{Environment}
-use Rattle.prem_ranges.specs.RangeOf.{refined}
-use Rattle.prem_ranges.specs.After.{loop_end, in_counting, in_body, in_while, known_local, declared, after}
-use Rattle.prem_annotating.specs.Seen.{touched_by, touched_in, touched_by_locals, touched_by_result, calls_in}
-use Rattle.prem_analysis.specs.Ranging.Plain.{plain}
-use Rattle.prem_annotate.specs.Seeing.Sight.{Sight, touched}
-use Rattle.prem_annotate.specs.Seeing.Walk.{passed, behind, begun, seen_with}
+use Rattle.prem_annotate.proofs.Prelude.{plain, Sight, touched, passed, behind, begun, seen_with, touched_by, touched_in, touched_by_locals, touched_by_result, calls_in, loop_end}
+use Rattle.prem_annotate.proofs.Prelude.{in_counting, in_body, in_while, known_local, declared, after, Environment, refined, Term, Steps, Done, If, For, While, Routine, LocalVariable}
+use Rattle.prem_annotate.proofs.Prelude.{local_of, Local, Place, term_of, Step, ◌≡◌, ℕ, ◌+◌, ◌<◌, Bool, true, false, List, [], ◌∷◌, ◌++◌, length, map, drop, get_or, refl, ap, sym, ◌∙◌}
+use Rattle.prem_annotate.proofs.Prelude.{subst, append-nil, append_assoc, drop_more}
 use Rattle.prem_annotate.proofs.Sights.{sight, same_sight, touched_none, touched_more, passed-append}
+use Rattle.prem_tree.specs.declared.resolve.resolved.Term.{Term as TermTree}
 
 -- ---- lists behind others
 
@@ -134,13 +122,6 @@ pub no_terms : (all ls : List LocalVariable) (all_es es : List Term) (env env0 :
 no_terms all ls all_es es env env0 s s0 none d = (
   sym (ap (declared env ls) none ∙ declared_none env ls) ∙ d.known,
   touched_none s ∙ sym (ap (λ l. touched l s) (ap (touched_by_locals env ls) none ∙ locals_none env ls)) ∙ d.sight_is,
-)
-
-pub no_locals : (all ls : List LocalVariable) (all_es es : List Term) (env env0 : Environment) (s s0 : Sight) → ls ≡ [] → Declaring all ls all_es es env env0 s s0 →
-    (env ≡ declared env0 all all_es) × (s ≡ touched (touched_by_locals env0 all all_es) s0)
-no_locals all ls all_es es env env0 s s0 none d = (
-  sym (ap (λ l. declared env l es) none) ∙ d.known,
-  touched_none s ∙ sym (ap (λ l. touched (touched_by_locals env l es) s) none) ∙ d.sight_is,
 )
 
 pub routine_arm : (env0 : Environment) (f : Routine) (ls : List LocalVariable) (es : List Term) (e1 e2 : Environment) (s0 s1 s2 s3 : Sight) →

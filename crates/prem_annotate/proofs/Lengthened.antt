@@ -1,14 +1,7 @@
 -- Annotations with greater lengths are those of the program with these lengths.
-use Rattle.std.specs.Prelude.{max}
-use Rattle.std.specs.Option.{option_map}
-use Rattle.std.proofs.Common.{◌≡◌, ℕ, ◌+◌, List, [], ◌∷◌, map, refl, arith, Option, None, Some}
-use Rattle.prem_syntax.specs.Syntax.{RegionText, MarkText, GlobalVariable}
-use Rattle.prem_syntax.specs.Resolved.{Routine}
-use Rattle.prem_ranges.specs.RangesKept.{resolved}
-use Rattle.prem_annotating.specs.Reached.{regions_reached}
-use Rattle.prem_annotating.specs.Annotated.{annotated_mark, marked_routines, texts_of, all_ranged}
-use Rattle.prem_annotate.specs.Ranges.Outlook.{ranges_of}
-use Rattle.prem_annotate.specs.Notes.{notes, no_lengths, lengthened_mark, lengthened, LengthsArePut}
+use Rattle.prem_annotate.proofs.Prelude.{notes, no_lengths, lengthened_mark, lengthened, LengthsArePut, ranges_of, annotated_mark, marked_routines, texts_of, regions_reached, resolved}
+use Rattle.prem_annotate.proofs.Prelude.{Routine, RegionText, MarkText, GlobalVariable, ◌≡◌, ℕ, ◌+◌, List, [], ◌∷◌, map, refl, arith, Option, None, Some, option_map, max}
+use Rattle.prem_annotating.specs.Annotated.{all_ranged}
 
 greater_twice : (a b : ℕ) → max (max a 0) b ≡ max a b
 greater_twice a b = grind arith

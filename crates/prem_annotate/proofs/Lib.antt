@@ -1,3 +1,4 @@
+pub mod Prelude
 pub mod Sights
 pub mod Arms
 pub mod Slots

@@ -1,31 +1,15 @@
 -- The annotations by what is found of functions are those of the annotated program.
-use Rattle.std.specs.Prelude.{max}
-use Rattle.std.specs.Option.{option_map}
-use Rattle.std.proofs.Common.{◌≡◌, ℕ, ◌+◌, ◌≤◌, List, [], ◌∷◌, ◌++◌, length, map, drop, refl, ap, sym, ◌∙◌, arith}
-use Rattle.std.proofs.lemmas.List.{append-nil, drop_all}
-use Rattle.prem_list.specs.Sequence.{items_of}
-use Rattle.prem_syntax.specs.Syntax.{GlobalVariable, FunctionText, ProgramText}
-use Rattle.prem_syntax.specs.SyntaxOf.{function_of}
-use Rattle.prem_syntax.specs.Resolved.{Routine}
-use Rattle.prem_syntax.specs.Reach.{callees_in, callee_table}
-use Rattle.prem_syntax.specs.Source.{unlimited}
-use Rattle.prem_tree.specs.declared.resolve.resolved.Routine.{Routine as RoutineTree}
-use Rattle.prem_tree.specs.declared.resolve.resolved.Resolved.{Resolved as ResolvedTree}
-use Rattle.prem_tree.specs.Resolve.ResolvedOf.{loops_of, routine_of, routines_of, resolved_of, IsResolved}
-use Rattle.prem_ranges.specs.Sound.{alike_done, AlikeRoutine, AlikeRoutines, no_routines, next_routine}
-use Rattle.prem_analysis.specs.Marks.Called.{called}
-use Rattle.prem_analysis.specs.Functions.{plain_routine}
+use Rattle.prem_annotate.proofs.Prelude.{plain_routine, called, Notes, notes, no_lengths, mark_found, all_notes_found, resolved_notes, ranges_of, outlook_of, outlook, Outlook}
+use Rattle.prem_annotate.proofs.Prelude.{annotated_mark, marked_routines, texts_of, ranged_routine, ranged_routines, regions_reached, calls_of_all, items_of, alike_done, AlikeRoutine}
+use Rattle.prem_annotate.proofs.Prelude.{AlikeRoutines, no_routines, next_routine, callees_in, callee_table, Routine, unlimited, GlobalVariable, FunctionText, function_of, loops_of}
+use Rattle.prem_annotate.proofs.Prelude.{routine_of, routines_of, resolved_of, Resolved as ResolvedTree, ◌≡◌, ℕ, ◌+◌, ◌≤◌, List, [], ◌∷◌, ◌++◌, length, map, drop, refl, ap, sym, ◌∙◌, arith}
+use Rattle.prem_annotate.proofs.Prelude.{append-nil, drop_all, option_map, max}
 use Rattle.prem_analysis.proofs.MarksLemmas.CalledTrees.{tables_same}
 use Rattle.prem_analysis.proofs.RangingLemmas.PlainSteps.{plain-alike}
-use Rattle.prem_annotating.specs.Seen.{calls_of_all}
-use Rattle.prem_annotating.specs.Inferred.{ranged_routine, ranged_routines}
-use Rattle.prem_annotating.specs.Reached.{regions_reached}
-use Rattle.prem_annotating.specs.Annotated.{annotated_mark, marked_routines, texts_of}
-use Rattle.prem_annotate.specs.declared.ranges.outlook.Outlook.{Outlook as OutlookTree}
-use Rattle.prem_annotate.specs.Ranges.Outlook.{Outlook, ranges_of, outlook_of, outlook}
-use Rattle.prem_annotate.specs.Notes.{Notes, notes, no_lengths, mark_found, all_notes_found, resolved_notes, program_notes}
 use Rattle.prem_annotate.proofs.Reaching.{regions_are}
 use Rattle.prem_annotate.proofs.Turned.{all_ranged_same, outlooks_same}
+use Rattle.prem_annotate.specs.declared.ranges.outlook.Outlook.{Outlook as OutlookTree}
+use Rattle.prem_tree.specs.declared.resolve.resolved.Routine.{Routine as RoutineTree}
 
 greater_than_none : (n : ℕ) → n ≡ max n 0
 greater_than_none n = grind arith
@@ -66,9 +50,6 @@ resolved_noted r gs table os all gs_are table_is os_are is =
     let callees : table ≡ callee_table G = table_is ∙ tables_same unlimited.turns 0 rs ∙ table_ranged 0 R in
     is ∙ (λ i. all_notes_found (gs_are i) (callees i) (outlooks i) 0 (texts_same unlimited.turns 0 rs i) (outlooks i))
     ∙ notes_are (resolved_of unlimited.turns r).globals G 0 R
-
-pub program_noted : (r : ResolvedTree) (p : ProgramText) (all : List Notes) → IsResolved r p → all ≡ resolved_notes (resolved_of unlimited.turns r) → all ≡ program_notes no_lengths p
-program_noted r p all is noted = noted ∙ ap resolved_notes (is.same unlimited.turns)
 
 -- ---- lists in memory: what is left gives the whole
 

@@ -1,27 +1,15 @@
 -- What is found of functions, from the last to the first.
-use mathlib.Core.List.{reverse}
-use Rattle.std.specs.Prelude.{slice_get, ◌-◌, Vec}
-use Rattle.std.specs.Global.{Global}
-use Rattle.std.proofs.Common.{◌≡◌, ℕ, zero, suc, ◌+◌, ◌<◌, ◌≤◌, drop, subst, List, [], ◌∷◌, ◌++◌, length, map, get_or, refl, ap, sym, ◌∙◌, arith, Some}
-use Rattle.std.proofs.lemmas.List.{append-nil, append_assoc, drop_more, drop_all, length-map, reverse-append}
-use Rattle.prem_syntax.specs.declared.tree.Param.{Param}
-use Rattle.prem_syntax.specs.Syntax.{Parameter}
-use Rattle.prem_syntax.specs.SyntaxOf.{parameter_of, function_of}
-use Rattle.prem_syntax.specs.Resolved.{Routine}
-use Rattle.prem_tree.specs.declared.resolve.resolved.Routine.{Routine as RoutineTree}
-use Rattle.prem_ranges.specs.After.{known_parameter}
-use Rattle.prem_ranges.specs.Sound.{Ranged}
-use Rattle.prem_analysis.specs.Functions.{plain_routine, AllRanged}
-use Rattle.prem_annotating.specs.Seen.{calls_of, calls_of_all}
-use Rattle.prem_annotating.specs.Inferred.{with_parameters, ranged_routine, ranged_routines}
-use Rattle.prem_annotate.specs.Seeing.Walk.{passed}
-use Rattle.prem_annotate.specs.declared.ranges.slots.Slot.{Slot as SlotTree}
-use Rattle.prem_annotate.specs.declared.ranges.outlook.Outlook.{Outlook as OutlookTree}
-use Rattle.prem_annotate.specs.Seeing.Sight.{Argument}
-use Rattle.prem_annotate.specs.Ranges.Slots.{Slot, slot_of, row_of, with_arguments, with_slot, with_slots, empty_row}
-use Rattle.prem_annotate.specs.Ranges.Outlook.{Outlook, outlook_of, outlook, outlook_with}
+use Rattle.prem_annotate.proofs.Prelude.{plain_routine, AllRanged, outlook_of, outlook, outlook_with, Outlook, slot_of, row_of, with_arguments, with_slot, with_slots, empty_row, passed}
+use Rattle.prem_annotate.proofs.Prelude.{Slot as SlotTree, with_parameters, ranged_routine, ranged_routines, calls_of, calls_of_all, known_parameter, Ranged, Routine, Parameter}
+use Rattle.prem_annotate.proofs.Prelude.{parameter_of, function_of, Param, ◌≡◌, ℕ, zero, suc, ◌+◌, ◌<◌, ◌≤◌, drop, subst, List, [], ◌∷◌, ◌++◌, length, map, get_or, refl, ap, sym, ◌∙◌, arith}
+use Rattle.prem_annotate.proofs.Prelude.{Some, append-nil, append_assoc, drop_more, drop_all, length-map, reverse-append, Global, slice_get, ◌-◌, Vec}
 use Rattle.prem_annotate.proofs.Sights.{passed-append}
 use Rattle.prem_annotate.proofs.Slots.{slots_in, slots_of, arguments_added, no_rows, row_at, slots_range, slots_long}
+use Rattle.prem_annotate.specs.Ranges.Slots.{Slot}
+use Rattle.prem_annotate.specs.Seeing.Sight.{Argument}
+use Rattle.prem_annotate.specs.declared.ranges.outlook.Outlook.{Outlook as OutlookTree}
+use Rattle.prem_tree.specs.declared.resolve.resolved.Routine.{Routine as RoutineTree}
+use mathlib.Core.List.{reverse}
 
 -- the functions from number n on are looked at
 pub record Inferring (fs : List Routine) (n : ℕ) (rows : List (List Slot)) (found : List Outlook) : Type 0 where
@@ -119,11 +107,6 @@ slots_next g row ps i s p done done' whole in_row in_ps is_s is_p left new =
 no_parameters : (ss : List Slot) → with_slots ss [] ≡ []
 no_parameters [] = refl
 no_parameters (s ∷ ss) = refl
-
-pub row_ends : {B : Type 0} (g : Parameter → B) (row : List SlotTree) (ps : List Param) (i : ℕ) (done whole : List B) → length row ≤ i →
-    done ++ map g (with_slots (map slot_of (drop i row)) (map parameter_of (drop i ps))) ≡ whole → done ≡ whole
-row_ends g row ps i done whole past left =
-    sym (ap (λ (l : List SlotTree). done ++ map g (with_slots (map slot_of l) (map parameter_of (drop i ps)))) (drop_all i row past) ∙ append-nil done) ∙ left
 
 pub parameters_end : {B : Type 0} (g : Parameter → B) (row : List SlotTree) (ps : List Param) (i : ℕ) (done whole : List B) → length ps ≤ i →
     done ++ map g (with_slots (map slot_of (drop i row)) (map parameter_of (drop i ps))) ≡ whole → done ≡ whole

@@ -1,26 +1,10 @@
 -- Regions by what is found of functions are those that are reached.
-use Rattle.std.specs.Prelude.{◌==◌, ◌-◌}
-use Rattle.std.specs.List.{flat_map}
-use Rattle.std.proofs.Common.{◌≡◌, ℕ, zero, suc, ◌+◌, ◌<◌, ◌≤◌, get_or, drop, Bool, true, false, cond, List, [], ◌∷◌, ◌++◌, length, map, refl, ap, sym, ◌∙◌, arith, Option, None}
-use Rattle.std.proofs.lemmas.Bool.Decides.{nat_tests}
-use Rattle.std.proofs.lemmas.List.{append-nil, append_assoc, drop_all}
-use Rattle.prem_word.specs.Ranges.{Span}
-use Rattle.prem_syntax.specs.declared.tree.Place.{Place}
-use Rattle.prem_syntax.specs.Syntax.{RegionText, GlobalVariable}
-use Rattle.prem_syntax.specs.Resolved.{Routine}
-use Rattle.prem_syntax.specs.Reach.{is_in, callee_table, reach_set}
-use Rattle.prem_annotating.specs.Seen.{Touch, touches_of}
-use Rattle.prem_annotating.specs.Inferred.{join_all}
-use Rattle.prem_annotating.specs.Reached.{elements_of, elements_if, elements_in, region_of, regions_from, regions_reached}
-use Rattle.prem_annotate.specs.declared.seeing.sight.Touch.{Touch as TouchTree}
-use Rattle.prem_annotate.specs.declared.ranges.outlook.Outlook.{Outlook as OutlookTree}
-use Rattle.prem_annotate.specs.Seeing.Sight.{touch_of}
-use Rattle.prem_annotate.specs.Ranges.Slots.{at_number}
-use Rattle.prem_annotate.specs.Ranges.Outlook.{outlook_of, outlook}
+use Rattle.prem_annotate.proofs.Prelude.{outlook, at_number, elements_of as elements_in_memory, widened, with_touch, with_touches, with_touches_if, with_members, regions_around, no_elements}
+use Rattle.prem_annotate.proofs.Prelude.{regions_found, join_all, elements_if, elements_in, regions_from, regions_reached, touches_of, Touch, is_in, callee_table, reach_set, Routine}
+use Rattle.prem_annotate.proofs.Prelude.{RegionText, GlobalVariable, Place, Span, ◌≡◌, ℕ, zero, suc, ◌+◌, ◌<◌, ◌≤◌, drop, Bool, true, false, cond, List, [], ◌∷◌, ◌++◌, length, map, refl, ap}
+use Rattle.prem_annotate.proofs.Prelude.{sym, ◌∙◌, arith, Option, None, nat_tests, append-nil, append_assoc, drop_all, flat_map, ◌==◌}
 use Rattle.prem_analysis.specs.declared.ranging.range.Range.{Range}
-use Rattle.prem_annotate.specs.Regions.Elements.{elements_of as elements_in_memory, widened, with_touch, with_touches, with_touches_if, with_members}
-use Rattle.prem_annotate.specs.Regions.Found.{regions_around, no_elements, regions_found}
-use Rattle.prem_annotate.proofs.Slots.{drop_before}
+use Rattle.prem_annotating.specs.Reached.{elements_of, region_of}
 
 -- for each global the least range around some
 abbrev joins : (ℕ → List Span) → ℕ → List GlobalVariable → List (Option Span)
@@ -81,22 +65,6 @@ pub regions_are : (at : Place) (gs : List GlobalVariable) (fs : List Routine) (n
 regions_are at gs fs n =
     let set = reach_set (callee_table fs) n in
     ap (regions_around at gs) (members_joined set 0 fs gs) ∙ regions_joined at fs set 0 gs
-
--- ---- lists in memory, from the last one to the first
-
-pub touches_before : (ts : List TouchTree) (n : ℕ) (t : TouchTree) (all all' start : List (Option Span)) → 0 < n → n ≤ length ts → t ≡ get_or ts (n - 1) t →
-    all ≡ with_touches (map touch_of (drop n ts)) start → all' ≡ with_touch (touch_of t) all → all' ≡ with_touches (map touch_of (drop (n - 1) ts)) start
-touches_before ts n t all all' start some within is old new =
-    new ∙ ap (with_touch (touch_of t)) old ∙ ap (λ (l : List TouchTree). with_touches (map touch_of l) start) (sym (drop_before ts n t some within is))
-
-pub members_before : (set : List Bool) (os : List OutlookTree) (n : ℕ) (o : OutlookTree) (all all' start : List (Option Span)) → 0 < n → n ≤ length os → o ≡ get_or os (n - 1) o →
-    all ≡ with_members set n (map outlook_of (drop n os)) start → all' ≡ with_touches_if (is_in set (n - 1)) (outlook_of o).sight.touches all →
-    all' ≡ with_members set (n - 1) (map outlook_of (drop (n - 1) os)) start
-members_before set os n o all all' start some within is old new =
-    let e : n ≡ n - 1 + 1 = omega arith in
-    new ∙ ap (with_touches_if (is_in set (n - 1)) (outlook_of o).sight.touches) old
-    ∙ ap (λ k. with_touches_if (is_in set (n - 1)) (outlook_of o).sight.touches (with_members set k (map outlook_of (drop n os)) start)) e
-    ∙ ap (λ (l : List OutlookTree). with_members set (n - 1) (map outlook_of l) start) (sym (drop_before os n o some within is))
 
 -- ---- where nothing is left
 

@@ -1,28 +1,17 @@
 -- What is seen of expressions, and of steps one behind the other.
-use Rattle.std.specs.Prelude.{pos}
-use Rattle.std.proofs.Common.{◌≡◌, ℕ, ◌+◌, ◌<◌, ◌≤◌, Bool, true, false, List, [], ◌∷◌, ◌++◌, length, map, drop, get_or, refl, ap, sym, ◌∙◌, subst, None, Some}
-use Rattle.std.proofs.lemmas.List.{append-nil, append_assoc, drop_more, drop_all}
-use Rattle.prem_word.specs.declared.kind.Kind.{Kind}
-use Rattle.prem_word.specs.Ranges.{exactly}
-use Rattle.prem_word.specs.declared.kind.BinOp.{BinOp}
-use Rattle.prem_word.specs.declared.kind.BinOp.TheVariants.{AndAlso as AndAlsoOp, OrElse as OrElseOp}
-use Rattle.prem_syntax.specs.declared.tree.Place.{Place}
-use Rattle.prem_syntax.specs.Resolved.{Term, operator, Steps, Done, SetLocal, SetScalar, SetElement, Output, Input, If, For, While, Call}
-use Rattle.prem_tree.specs.declared.resolve.resolved.Term.{Term as TermTree}
-use Rattle.prem_tree.specs.declared.resolve.resolved.Step.{Step, Row_of-Step, end_of-Step, more_of-Step}
-use Rattle.prem_tree.specs.declared.resolve.resolved.Step.TheVariants.{Block', SetLocal as SetLocalTree, SetScalar as SetScalarTree, SetElement as SetElementTree}
-use Rattle.prem_tree.specs.declared.resolve.resolved.Step.TheVariants.{Output as OutputTree, Input as InputTree, If', For', While', Call as CallTree}
-use Rattle.prem_tree.specs.Resolve.ResolvedOf.{term_of}
-use Rattle.prem_ranges.specs.Environment.{Environment, at_local, any_again, assigned, joined}
-use Rattle.prem_ranges.specs.RangeOf.{range_of, refined}
-use Rattle.prem_ranges.specs.After.{loop_end, in_counting, in_body, behind_loop, in_while, behind_call, after}
-use Rattle.prem_ranges.specs.Sequence.{followed}
-use Rattle.prem_annotating.specs.Seen.{Touch, touch, touched_by, touched_by_all, touched_in, KnownCall, known_call, calls_in}
+use Rattle.prem_annotate.proofs.Prelude.{after-step, plain_before, plain_row, plain, plain_list, argument, Sight, touched, both, arguments_from, passed, behind, looked, touch, touched_by}
+use Rattle.prem_annotate.proofs.Prelude.{touched_by_all, touched_in, KnownCall, known_call, calls_in, Touch, loop_end, in_counting, in_body, behind_loop, in_while, behind_call, after}
+use Rattle.prem_annotate.proofs.Prelude.{Environment, at_local, any_again, assigned, joined, range_of, refined, Term, operator, Steps, Done, SetLocal, SetScalar, SetElement, Output, Input}
+use Rattle.prem_annotate.proofs.Prelude.{If, For, While, Call, Place, term_of, Step, Row_of-Step, end_of-Step, more_of-Step, exactly, BinOp, Kind, ◌≡◌, ℕ, ◌+◌, ◌<◌, ◌≤◌, Bool, true, false}
+use Rattle.prem_annotate.proofs.Prelude.{List, [], ◌∷◌, ◌++◌, length, map, drop, get_or, refl, ap, sym, ◌∙◌, subst, None, Some, append-nil, append_assoc, drop_more, drop_all, pos}
 use Rattle.prem_analysis.specs.Ranging.Shortcut.{shortcut_of}
-use Rattle.prem_analysis.specs.Ranging.Plain.{plain_before, plain_row, plain, plain_list}
-use Rattle.prem_analysis.proofs.RangingLemmas.Sequences.{after-step}
-use Rattle.prem_annotate.specs.Seeing.Sight.{Argument, argument, Sight, touched, both}
-use Rattle.prem_annotate.specs.Seeing.Walk.{arguments_from, passed, behind, looked, called}
+use Rattle.prem_annotate.specs.Seeing.Sight.{Argument}
+use Rattle.prem_annotate.specs.Seeing.Walk.{called}
+use Rattle.prem_ranges.specs.Sequence.{followed}
+use Rattle.prem_tree.specs.declared.resolve.resolved.Step.TheVariants.{Block', SetLocal as SetLocalTree, SetScalar as SetScalarTree, SetElement as SetElementTree, Output as OutputTree}
+use Rattle.prem_tree.specs.declared.resolve.resolved.Step.TheVariants.{Input as InputTree, If', For', While', Call as CallTree}
+use Rattle.prem_tree.specs.declared.resolve.resolved.Term.{Term as TermTree}
+use Rattle.prem_word.specs.declared.kind.BinOp.TheVariants.{AndAlso as AndAlsoOp, OrElse as OrElseOp}
 
 abbrev pub sight : List Touch → List Argument → Sight
 sight ts as_ = record { touches = ts; arguments = as_ }
@@ -160,9 +149,6 @@ pub passed-append : (xs ys : List KnownCall) → passed (xs ++ ys) ≡ passed xs
 passed-append [] ys = refl
 passed-append (c ∷ cs) ys = append_behind (arguments_from c.callee 0 c.known c.arguments) _ _ _ (passed-append cs ys)
 
-pub behind_none : (env : Environment) (s : Sight) → s ≡ behind env Done s
-behind_none env s = same_sight _ _ _ _ (sym (append-nil s.touches)) (sym (append-nil s.arguments))
-
 pub behind_step : (env : Environment) (step : Step) (rest : Steps) (s : Sight) → behind (after env (plain step)) rest (behind env (plain step) s) ≡ behind env (plain_before step rest) s
 behind_step env step rest s =
     let touches : touched_in env (plain_before step rest) ≡ touched_in env (plain step) ++ touched_in (after env (plain step)) rest =
@@ -187,9 +173,3 @@ walked_on steps i step env env' env0 s s' s0 inside is w new_env new_sight =
       sight_is = ap (λ e. behind e rest s') new_env ∙ ap (behind (after env (plain step)) rest) new_sight ∙ behind_step env step rest s
           ∙ ap (λ (l : List Step). behind env (plain_list l) s) (sym all) ∙ w.sight_is;
     }
-
-pub walked_env : (steps : List Step) (i : ℕ) (env env0 : Environment) (s s0 : Sight) → length steps ≤ i → Walking steps (drop i steps) env env0 s s0 → env ≡ after env0 (plain_list steps)
-walked_env steps i env env0 s s0 past w = ap (λ (l : List Step). after env (plain_list l)) (sym (drop_all i steps past)) ∙ w.known
-
-pub walked_sight : (steps : List Step) (i : ℕ) (env env0 : Environment) (s s0 : Sight) → length steps ≤ i → Walking steps (drop i steps) env env0 s s0 → s ≡ behind env0 (plain_list steps) s0
-walked_sight steps i env env0 s s0 past w = behind_none env s ∙ ap (λ (l : List Step). behind env (plain_list l) s) (sym (drop_all i steps past)) ∙ w.sight_is

@@ -1,21 +1,11 @@
 -- The slots of parameters are the joins of what calls give them.
-use Rattle.std.specs.Prelude.{◌==◌, ◌&&◌, ◌-◌, slice_get}
-use Rattle.std.proofs.Common.{◌≡◌, ℕ, zero, suc, ◌+◌, ◌<◌, ◌≤◌, Bool, true, false, cond, List, [], ◌∷◌, ◌++◌, length, map, drop, get_or, set, refl, ap, sym, ◌∙◌, arith, Some}
-use Rattle.std.proofs.lemmas.Bool.Decides.{nat_tests}
-use Rattle.std.proofs.lemmas.List.{drop_more}
-use Rattle.prem_word.specs.declared.kind.Kind.{Kind}
-use Rattle.prem_word.specs.Ranges.{Span, converted}
-use Rattle.prem_syntax.specs.Syntax.{Parameter}
-use Rattle.prem_syntax.specs.Resolved.{Term, Routine}
-use Rattle.prem_syntax.specs.Resolve.{promoted}
-use Rattle.prem_ranges.specs.Environment.{Environment}
-use Rattle.prem_ranges.specs.RangeOf.{range_of}
-use Rattle.prem_annotating.specs.Seen.{KnownCall}
-use Rattle.prem_annotating.specs.Inferred.{join_all, argument_at, given_by, given as given_in, if_narrower, stated_or, ranged_parameters}
-use Rattle.prem_annotate.specs.declared.seeing.sight.Argument.{Argument as ArgumentTree}
-use Rattle.prem_annotate.specs.Seeing.Sight.{Argument, argument, argument_of}
-use Rattle.prem_annotate.specs.Seeing.Walk.{arguments_from, passed}
-use Rattle.prem_annotate.specs.Ranges.Slots.{Slot, slot, given, at_number, with_argument, with_arguments, empty_slot, empty_row, with_slots}
+use Rattle.prem_annotate.proofs.Prelude.{slot, given, at_number, with_argument, with_arguments, empty_slot, empty_row, with_slots, argument, argument_of, arguments_from, passed}
+use Rattle.prem_annotate.proofs.Prelude.{Argument as ArgumentTree, join_all, argument_at, given_by, if_narrower, stated_or, ranged_parameters, KnownCall, Environment, range_of, promoted}
+use Rattle.prem_annotate.proofs.Prelude.{Term, Routine, Parameter, Span, converted, Kind, ◌≡◌, ℕ, zero, suc, ◌+◌, ◌<◌, ◌≤◌, Bool, true, false, cond, List, [], ◌∷◌, ◌++◌, length, map, drop}
+use Rattle.prem_annotate.proofs.Prelude.{get_or, set, refl, ap, sym, ◌∙◌, arith, Some, nat_tests, drop_more, ◌==◌, ◌&&◌, ◌-◌, slice_get}
+use Rattle.prem_annotate.specs.Ranges.Slots.{Slot}
+use Rattle.prem_annotate.specs.Seeing.Sight.{Argument}
+use Rattle.prem_annotating.specs.Inferred.{given as given_in}
 
 -- ---- what arguments give a parameter
 

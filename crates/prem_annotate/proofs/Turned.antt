@@ -1,19 +1,10 @@
 -- What is seen of functions, and so what calls give their parameters, doesn't rest on the turns of their loops.
-use Rattle.std.specs.Prelude.{◌||◌, pos}
-use Rattle.std.proofs.Common.{◌≡◌, ℕ, ◌+◌, Bool, true, false, List, ◌∷◌, ◌++◌, map, refl, ap, ◌∙◌, eqb}
-use Rattle.prem_word.specs.Ranges.{exactly}
-use Rattle.prem_syntax.specs.Syntax.{FunctionText}
-use Rattle.prem_syntax.specs.Resolved.{Term, Steps, Routine}
-use Rattle.prem_ranges.specs.Environment.{Environment, any_again, with_range, assigned, at_local, joined, loosened}
-use Rattle.prem_ranges.specs.RangeOf.{range_of, refined}
-use Rattle.prem_ranges.specs.After.{is_target, assigns, end_of, loop_end, body_range, range_behind, in_body, behind_loop, in_while, behind_call, after, known_parameter, declared, at_body}
-use Rattle.prem_ranges.specs.Sound.{Alike, alike_done, alike_local, alike_scalar, alike_element, alike_output, alike_input, alike_if, alike_for, alike_while, alike_call}
-use Rattle.prem_ranges.specs.Sound.{AlikeRoutine, AlikeRoutines, no_routines, next_routine}
-use Rattle.prem_ranges.proofs.Alike.{both_same}
-use Rattle.prem_annotating.specs.Seen.{touch, touched_by, touched_by_all, touched_in, touched_by_locals, touched_by_result, touches_of, KnownCall, known_call, calls_in, calls_of, calls_of_all}
-use Rattle.prem_annotating.specs.Inferred.{ranged_parameters, ranged_routine, ranged_routines}
-use Rattle.prem_annotate.specs.Seeing.Walk.{passed}
-use Rattle.prem_annotate.specs.Ranges.Outlook.{Outlook, ranges_of, outlook}
+use Rattle.prem_annotate.proofs.Prelude.{ranges_of, outlook, Outlook, passed, ranged_parameters, ranged_routine, ranged_routines, touch, touched_by, touched_by_all, touched_in}
+use Rattle.prem_annotate.proofs.Prelude.{touched_by_locals, touched_by_result, touches_of, KnownCall, known_call, calls_in, calls_of, calls_of_all, both_same, is_target, assigns, end_of}
+use Rattle.prem_annotate.proofs.Prelude.{loop_end, body_range, range_behind, in_body, behind_loop, in_while, behind_call, after, known_parameter, declared, at_body, Environment, any_again}
+use Rattle.prem_annotate.proofs.Prelude.{with_range, assigned, at_local, joined, loosened, range_of, refined, Alike, alike_done, alike_local, alike_scalar, alike_element, alike_output}
+use Rattle.prem_annotate.proofs.Prelude.{alike_input, alike_if, alike_for, alike_while, alike_call, AlikeRoutine, AlikeRoutines, no_routines, next_routine, Term, Steps, Routine}
+use Rattle.prem_annotate.proofs.Prelude.{FunctionText, exactly, ◌≡◌, ℕ, ◌+◌, Bool, true, false, List, ◌∷◌, ◌++◌, map, refl, ap, ◌∙◌, eqb, ◌||◌, pos}
 
 -- ---- what is known
 

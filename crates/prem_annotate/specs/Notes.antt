@@ -1,15 +1,10 @@
 -- The annotations of functions: the RANGEs of parameters, and the marks of those that are marked.
-use Rattle.std.specs.Prelude.{◌≡◌, ℕ, ◌+◌, ℤ, max, slice_index_or, List, [], ◌∷◌, map, Option}
-use Rattle.std.specs.Option.{option_map}
-use Rattle.prem_syntax.specs.declared.tree.Place.{Place}
-use Rattle.prem_syntax.specs.Syntax.{MarkText, GlobalVariable, FunctionText, ProgramText}
-use Rattle.prem_syntax.specs.SyntaxOf.{mark_of}
-use Rattle.prem_syntax.specs.Resolved.{Resolved}
-use Rattle.prem_annotating.specs.Inferred.{ranged_routines}
-use Rattle.prem_annotating.specs.Annotated.{marked_routines, texts_of, all_annotated}
+use Rattle.prem_annotate.specs.Prelude.{marked_routines, texts_of, all_annotated, ranged_routines, Resolved, MarkText, GlobalVariable, FunctionText, ProgramText, Place, option_map, ◌≡◌, ℕ}
+use Rattle.prem_annotate.specs.Prelude.{◌+◌, ℤ, max, slice_index_or, List, [], ◌∷◌, map, Option}
 use Rattle.prem_annotate.specs.Ranges.Outlook.{Outlook, ranges_of}
 use Rattle.prem_annotate.specs.Regions.Found.{regions_found}
 use Rattle.prem_annotate.specs.declared.notes.FunctionNotes.{FunctionNotes}
+use Rattle.prem_syntax.specs.SyntaxOf.{mark_of}
 
 pub record Notes : Type 0 where
   pub ranges : List (Option (ℤ × ℤ))

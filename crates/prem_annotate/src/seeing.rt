@@ -1,8 +1,6 @@
 //! The walk over a function that gives what it accesses, and what it passes to others.
 mod entering;
 mod expression;
-mod knowing;
-mod locals;
 mod routine;
 mod sight;
 mod simple;

@@ -1,57 +1,34 @@
 -- Each text of a program has one with its annotations, by edits at annotations alone.
-use Rattle.std.specs.Option.{option_map}
-use Rattle.std.proofs.Common.{◌≡◌, ℕ, ℤ, suc, ◌+◌, true, List, [], ◌∷◌, ◌++◌, length, map, refl, sym, ap, subst, ◌∙◌, arith, Option, None, Some, Result, Ok, Err}
-use Rattle.std.proofs.lemmas.List.{append_assoc, append-nil, append_cancel_right}
-use Rattle.prem_syntax.specs.Syntax.{Text, Parameter, MarkText, GlobalVariable, FunctionText, global_item, function_item, ProgramText}
-use Rattle.prem_syntax.specs.Resolved.{Routine}
-use Rattle.prem_syntax.specs.Resolve.{promoted, resolve_items, functions_of, loops_within}
-use Rattle.prem_syntax.specs.Source.{unlimited}
-use Rattle.prem_ranges.specs.RangesKept.{resolved}
-use Rattle.prem_text.specs.Lexing.Token.Lexeme.{Lexeme, name, end_of_text, Seen}
-use Rattle.prem_text.specs.Grammar.Slots.{a_name, right_brace, the_end, is_end}
-use Rattle.prem_text.specs.Grammar.Phrases.{IsRow}
-use Rattle.prem_text.specs.Grammar.ProgramPhrases.{void_type, type_of, Declaration, IsDeclaration, declaration_tokens, MarkPhrase, IsMark, mark_tokens, mark_tree, RangePhrase}
-use Rattle.prem_text.specs.Grammar.ProgramPhrases.{IsRange, range_tokens, range_tree, ParameterPhrase, IsParameter, parameter_tokens, parameter_tree, PartedParameter}
-use Rattle.prem_text.specs.Grammar.ProgramPhrases.{ParametersPhrase, of_void, of_parameters, begins_void, ArePartedParameters, AreParameters, parted_parameter_tokens}
-use Rattle.prem_text.specs.Grammar.ProgramPhrases.{parted_parameter_trees, parameters_tokens, parameters_tree, local_tokens, result_tokens, FunctionPhrase, IsFunction}
-use Rattle.prem_text.specs.Grammar.ProgramPhrases.{function_tokens, function_tree, ItemPhrase, of_global, of_function, AreItems, items_tokens, items_tree, global_tokens}
-use Rattle.prem_text.specs.Grammar.StatementPhrases.{all_written}
-use Rattle.prem_text.specs.declared.lexing.token.fail.FrontFail.{FrontFail}
-use Rattle.prem_text.specs.Lexing.Tokens.{tokens_of}
-use Rattle.prem_text.specs.Texts.{reads, IsProgramText}
-use Rattle.prem_text.specs.Canonical.Canonical.{range_lexemes}
-use Rattle.prem_text.specs.Canonical.Law.{lexemes_of}
-use Rattle.prem_text.specs.Canonical.Unplaced.{unplaced_parameter, unplaced_mark}
-use Rattle.prem_annotating.specs.Lists.{Each}
-use Rattle.prem_annotating.specs.Seen.{KnownCall, calls_of_all}
-use Rattle.prem_annotating.specs.Inferred.{stated_or, inferred, ranged_parameter, ranged_parameters, ranged_routines}
-use Rattle.prem_annotating.specs.Reached.{regions_reached}
-use Rattle.prem_annotating.specs.Annotated.{annotated_mark, marked_routines, texts_of, all_ranged, all_annotated}
-use Rattle.prem_annotating.specs.Pieces.{Piece, a_token, text_of, lexemes_in, AreDivided, AreGaps, range_pieces, IsConstant, EndsInToken, Edited}
-use Rattle.prem_annotating.specs.Phrases.{range_phrase, AnnotatedFunction, AnnotatedItems, no_items, a_global, a_function, IsSaidRange, IsSaidMark, CanBeSaid}
-use Rattle.prem_annotating.specs.Phrases.{AnnotatedTextsAreThere, TextsAreAnnotated}
+use Rattle.prem_annotating.proofs.Prelude.{annotated_mark, marked_routines, texts_of, all_ranged, all_annotated, range_bytes, range_order, range_orders, mark_orders, function_orders, Wanted}
+use Rattle.prem_annotating.proofs.Prelude.{annotations, all_orders, edited_text, text_with, Order, leave, put, mode_of, edited, stated_or, inferred, ranged_parameter, ranged_parameters}
+use Rattle.prem_annotating.proofs.Prelude.{ranged_routines, Each, range_phrase, AnnotatedFunction, AnnotatedItems, no_items, a_global, a_function, IsSaidRange, IsSaidMark, CanBeSaid}
+use Rattle.prem_annotating.proofs.Prelude.{AnnotatedTextsAreThere, TextsAreAnnotated, Piece, a_token, text_of, lexemes_in, AreDivided, AreGaps, range_pieces, EndsInToken, Edited, with_range}
+use Rattle.prem_annotating.proofs.Prelude.{regions_reached, KnownCall, calls_of_all, Copying, Spot, Elsewhere, BehindName, InParameters, resolved, promoted, resolve_items, functions_of}
+use Rattle.prem_annotating.proofs.Prelude.{loops_within, Routine, unlimited, Text, Parameter, MarkText, GlobalVariable, FunctionText, global_item, function_item, ProgramText, complete}
+use Rattle.prem_annotating.proofs.Prelude.{text_read, range_lexemes, lexemes_of, unplaced_parameter, unplaced_mark, IsRow, void_type, type_of, Declaration, IsDeclaration, declaration_tokens}
+use Rattle.prem_annotating.proofs.Prelude.{MarkPhrase, IsMark, mark_tokens, mark_tree, RangePhrase, IsRange, range_tokens, range_tree, ParameterPhrase, IsParameter, parameter_tokens}
+use Rattle.prem_annotating.proofs.Prelude.{parameter_tree, PartedParameter, ParametersPhrase, of_void, of_parameters, begins_void, ArePartedParameters, AreParameters}
+use Rattle.prem_annotating.proofs.Prelude.{parted_parameter_tokens, parted_parameter_trees, parameters_tokens, parameters_tree, local_tokens, result_tokens, FunctionPhrase, IsFunction}
+use Rattle.prem_annotating.proofs.Prelude.{function_tokens, function_tree, ItemPhrase, of_global, of_function, AreItems, items_tokens, items_tree, global_tokens, a_name, right_brace}
+use Rattle.prem_annotating.proofs.Prelude.{the_end, is_end, all_written, Lexeme, name, end_of_text, Seen, tokens_of, reads, IsProgramText, FrontFail, ◌≡◌, ℕ, suc, ◌+◌, true, List, [], ◌∷◌}
+use Rattle.prem_annotating.proofs.Prelude.{◌++◌, length, map, refl, sym, ap, subst, ◌∙◌, arith, Option, None, Some, Result, Ok, Err, append_cancel_right, option_map}
 use Rattle.prem_annotating.proofs.Calls.{each_left, each_right}
-use Rattle.prem_annotating.proofs.Pieces.{pieces_of}
-use Rattle.prem_annotating.proofs.Inserted.{lexemes_append, range_says}
-use Rattle.prem_annotating.proofs.Edits.{edited_divide, range_right, range_is, range_lexed, lexemes_join}
-use Rattle.prem_annotating.proofs.Phrases.{read_as_annotated, lexemes_end}
-use Rattle.prem_text.proofs.SpellingLemmas.Exact.{complete}
-use Rattle.prem_text.proofs.Whole.{text_read}
-use Rattle.prem_annotating.specs.declared.editing.walk.Spot.{Spot}
-use Rattle.prem_annotating.specs.declared.editing.walk.Spot.TheVariants.{Elsewhere, BehindName, InParameters}
-use Rattle.prem_annotating.specs.declared.editing.walk.Mode.TheVariants.{Copying}
-use Rattle.prem_annotating.specs.Editing.Walk.{Order, leave, put, mode_of, edited}
-use Rattle.prem_annotating.specs.Editing.Orders.{range_bytes, range_order, range_orders, mark_orders, function_orders, Wanted, annotations, all_orders, edited_text, text_with}
-use Rattle.prem_annotating.proofs.EditingLemmas.Places.{edited_is}
 use Rattle.prem_annotating.proofs.EditingLemmas.Goes.{Goes, Stays, from, goes_both, stays_go, quiet_stays}
+use Rattle.prem_annotating.proofs.EditingLemmas.Places.{edited_is}
 use Rattle.prem_annotating.proofs.EditingLemmas.Quiet.{row_quiet, statements_quiet}
-use Rattle.prem_annotating.proofs.EditingLemmas.Rows.{rows_join, Types, types_of_row, types_in_parameters, name_of, declaration_stays, global_stays, locals_stay, result_quiet}
-use Rattle.prem_annotating.proofs.EditingLemmas.Rows.{begins_stay, opening_stays, comma_stays, range_stays}
+use Rattle.prem_annotating.proofs.EditingLemmas.Rows.{rows_join, Types, types_of_row, types_in_parameters, name_of, declaration_stays, global_stays, locals_stay, result_quiet, begins_stay}
+use Rattle.prem_annotating.proofs.EditingLemmas.Rows.{opening_stays, comma_stays, range_stays}
 use Rattle.prem_annotating.proofs.EditingLemmas.Said.{range_said}
 use Rattle.prem_annotating.proofs.EditingLemmas.Single.{leave_goes, name_goes}
-use Rattle.prem_annotating.proofs.There.{gaps_go, piece_cut, first_token, gap_lexemes, AreSpelled, divided_spelled, spelled_left, spelled_right, edited_itself, edited_append}
-use Rattle.prem_annotating.proofs.There.{kept_front, EditedTo, new_mark_of}
-use Rattle.prem_annotating.specs.Pieces.{with_range}
+use Rattle.prem_annotating.proofs.Edits.{edited_divide, range_right, range_is, range_lexed, lexemes_join}
+use Rattle.prem_annotating.proofs.Inserted.{lexemes_append, range_says}
+use Rattle.prem_annotating.proofs.Phrases.{read_as_annotated, lexemes_end}
+use Rattle.prem_annotating.proofs.Pieces.{pieces_of}
+use Rattle.prem_annotating.proofs.There.{gaps_go, piece_cut, first_token, gap_lexemes, AreSpelled, divided_spelled, spelled_left, spelled_right, edited_itself, edited_append, kept_front}
+use Rattle.prem_annotating.proofs.There.{EditedTo, new_mark_of}
+use Rattle.prem_annotating.specs.Pieces.{IsConstant}
+use Rattle.std.proofs.Common.{ℤ}
+use Rattle.std.proofs.lemmas.List.{append_assoc, append-nil}
 
 -- pieces that stay
 itself : (s s' : Spot) (os : List Order) (ps : List Piece) (ls : List Lexeme) → lexemes_in ps ≡ ls → mode_of s ≡ Copying → Stays s ls s' → EditedTo s os ps ls s' os

@@ -1,38 +1,21 @@
 -- All ranges of parameters lie in their kinds: those that stood, and those that are new.
-use Rattle.std.specs.Prelude.{ℤ, cond, slice_get}
-use Rattle.std.proofs.Common.{◌≡◌, ℕ, zero, suc, ◌+◌, ◌*◌, Bool, true, false, List, [], ◌∷◌, ◌++◌, map, refl, ap, sym, ◌∙◌, subst, arith, Option, None, Some, eqb}
-use Rattle.std.proofs.lemmas.List.{map-append}
-use Rattle.prem_word.specs.declared.kind.Kind.{Kind}
-use Rattle.prem_word.specs.Ranges.{Span, from_to, IsRange}
-use Rattle.prem_word.proofs.Kept.{whole_kept, join_kept, converted_kept}
-use Rattle.prem_syntax.specs.declared.tree.Ty.{Ty}
-use Rattle.prem_syntax.specs.Syntax.{Text, Parameter, LocalVariable, GlobalVariable}
-use Rattle.prem_syntax.specs.Resolved.{Term, Steps, Done, SetLocal, SetScalar, SetElement, Output, Input, If, For, While, Call, Routine, Resolved}
-use Rattle.prem_syntax.specs.Resolve.{kind_of, promoted, parameter_names}
-use Rattle.prem_syntax.specs.Source.{unlimited}
-use Rattle.prem_ranges.specs.Environment.{Known, any_again, assigned, Environment, at_local, joined}
-use Rattle.prem_ranges.specs.RangeOf.{range_of, refined}
-use Rattle.prem_ranges.specs.After.{assigns, loop_end, turn_bound, in_counting, body_range, range_behind, in_body, behind_loop, in_while, behind_call, after, stated_or_whole}
-use Rattle.prem_ranges.specs.After.{known_parameter, known_local, declared, at_body}
-use Rattle.prem_ranges.specs.RangeBreaches.{Site, in_term, in_range_of_int, in_turns, in_counting_loop, in_steps, in_arguments, in_scalar, in_element, parameters_of, in_locals, in_result, in_routine}
-use Rattle.prem_ranges.specs.RangesKept.{resolved}
-use Rattle.prem_ranges.specs.Sound.{kinds_of, AllTyped, TypedSteps, TypedLocals, TypedRoutine, Ranged, none_ranged, next_ranged}
-use Rattle.prem_ranges.proofs.Basics.{none_left, none_right, unbroken, is_not_below, none_first}
-use Rattle.prem_ranges.proofs.Environments.{kinds-at_local, kinds-loosened, kinds-joined}
-use Rattle.prem_ranges.proofs.Expressions.{kinds-refined}
-use Rattle.prem_ranges.proofs.Statements.{kinds-after, kinds-behind_call, kinds-in_body}
-use Rattle.prem_annotating.proofs.RangesKept.{ranged_local, ranged_any, ranged_loosened, ranged_joined, term_kept, ranged_refined, LoopFits, body_kept, behind_kept}
-use Rattle.prem_annotating.proofs.RangesKept.{ranged_counting, ranged_call, ranged_declared}
-use Rattle.prem_ranges.proofs.WellFormed.{well_formed_is_typed}
-use Rattle.prem_annotating.specs.Lists.{Each}
-use Rattle.prem_annotating.specs.Seen.{KnownCall, calls_in, calls_of, calls_of_all}
-use Rattle.prem_annotating.specs.Inferred.{join_with, join_all, argument_at, given_by, given, inferred, stated_or, ranged_parameter, ranged_parameters, ranged_routine, ranged_routines}
-use Rattle.prem_annotating.specs.Annotated.{all_ranged, annotated, other_breaches, first_other}
-use Rattle.prem_annotating.specs.Laws.{RangesFit}
+use Rattle.prem_annotating.proofs.Prelude.{all_ranged, annotated, other_breaches, first_other, join_with, join_all, argument_at, given_by, given, inferred, stated_or, ranged_parameter}
+use Rattle.prem_annotating.proofs.Prelude.{ranged_parameters, ranged_routine, ranged_routines, RangesFit, Each, KnownCall, calls_in, calls_of, calls_of_all, none_left, none_right, unbroken}
+use Rattle.prem_annotating.proofs.Prelude.{is_not_below, none_first, kinds-at_local, kinds-loosened, kinds-joined, kinds-refined, ranged_local, ranged_any, ranged_loosened, ranged_joined}
+use Rattle.prem_annotating.proofs.Prelude.{term_kept, ranged_refined, LoopFits, body_kept, behind_kept, ranged_counting, ranged_call, ranged_declared, kinds-after, kinds-behind_call}
+use Rattle.prem_annotating.proofs.Prelude.{kinds-in_body, well_formed_is_typed, assigns, loop_end, turn_bound, in_counting, body_range, range_behind, in_body, behind_loop, in_while}
+use Rattle.prem_annotating.proofs.Prelude.{behind_call, after, stated_or_whole, known_parameter, known_local, declared, at_body, Known, any_again, assigned, Environment, at_local, joined}
+use Rattle.prem_annotating.proofs.Prelude.{Site, in_term, in_range_of_int, in_turns, in_counting_loop, in_steps, in_arguments, in_scalar, in_element, parameters_of, in_locals, in_result}
+use Rattle.prem_annotating.proofs.Prelude.{in_routine, range_of, refined, resolved, kinds_of, AllTyped, TypedSteps, TypedLocals, TypedRoutine, Ranged, none_ranged, next_ranged, kind_of}
+use Rattle.prem_annotating.proofs.Prelude.{promoted, parameter_names, Term, Steps, Done, SetLocal, SetScalar, SetElement, Output, Input, If, For, While, Call, Routine, Resolved, unlimited}
+use Rattle.prem_annotating.proofs.Prelude.{Text, Parameter, LocalVariable, GlobalVariable, Ty, whole_kept, join_kept, converted_kept, Span, from_to, Kind, ◌≡◌, ℕ, zero, suc, ◌+◌, ◌*◌, Bool}
+use Rattle.prem_annotating.proofs.Prelude.{true, false, List, [], ◌∷◌, ◌++◌, map, refl, ap, sym, ◌∙◌, subst, arith, Option, None, Some, eqb, map-append, ℤ, slice_get}
 use Rattle.prem_annotating.proofs.Lists.{each_append}
-use Rattle.prem_annotating.proofs.Transformed.{routine_ranged, resolved_annotated}
 use Rattle.prem_annotating.proofs.Ranges.{parameters_marked, narrower_is}
 use Rattle.prem_annotating.proofs.Regions.{bare_site, unwatched, others_at}
+use Rattle.prem_annotating.proofs.Transformed.{routine_ranged, resolved_annotated}
+use Rattle.prem_word.specs.Ranges.{IsRange}
+use Rattle.std.specs.Prelude.{cond}
 
 -- ---- arguments in a walk
 

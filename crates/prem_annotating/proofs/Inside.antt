@@ -1,50 +1,25 @@
 -- Each region of the annotated program is one of a global.
-use Rattle.std.specs.Prelude.{ℤ, pos, ◌-ℤ◌, ◌≤ℤ◌, int_le, ◌||◌, ◌==◌, slice_get, unwrap_or}
-use Rattle.std.proofs.Common.{◌≡◌, ℕ, ◌+◌, ◌*◌, ◌<◌, ◌≤◌, Bool, true, false, List, [], ◌∷◌, ◌++◌, map, refl, ap, sym, ◌∙◌, subst, arith, Option, None, Some}
-use Rattle.std.proofs.lemmas.Int.{ints, clamps}
-use Rattle.std.proofs.lemmas.Bool.{and_parts}
-use Rattle.std.proofs.lemmas.List.{map-append}
-use Rattle.prem_word.specs.declared.kind.Kind.{Kind}
-use Rattle.prem_word.specs.Ranges.{Span, from_to, exactly, encloses, IsRange, converted}
-use Rattle.prem_word.proofs.Kept.{converted_kept}
-use Rattle.prem_syntax.specs.declared.tree.Place.{Place}
-use Rattle.prem_syntax.specs.declared.tree.Ty.{Ty}
-use Rattle.prem_syntax.specs.Syntax.{Text, Parameter, LocalVariable, GlobalVariable, ProgramText}
-use Rattle.prem_syntax.specs.Literals.{ProgramHasWords}
-use Rattle.prem_syntax.specs.Resolved.{Term, Constant, Local, Scalar, Element, Unary, Binary, AndAlso, OrElse, Steps, Done, SetLocal, SetScalar, SetElement, Output, Input, If, For}
-use Rattle.prem_syntax.specs.Resolved.{While, Call, Routine, Resolved}
-use Rattle.prem_syntax.specs.Resolve.{kind_of, promoted}
-use Rattle.prem_syntax.specs.Reach.{callee_table, reach_set}
-use Rattle.prem_syntax.specs.Source.{unlimited}
-use Rattle.prem_syntax.specs.ProgramRules.{IsWellFormed}
-use Rattle.prem_ranges.specs.Environment.{Known, any_again, assigned, Environment, at_local, joined}
-use Rattle.prem_ranges.specs.RangeOf.{range_of, refined}
-use Rattle.prem_ranges.specs.After.{assigns, loop_end, turn_bound, in_counting, body_range, range_behind, in_body, behind_loop, in_while, behind_call, after, known_parameter}
-use Rattle.prem_ranges.specs.After.{known_local, declared, at_body}
-use Rattle.prem_ranges.specs.RangeBreaches.{Site, length_of, in_watches, in_index, in_divisor, in_argument, in_term, in_range_of_int, in_turns, in_counting_loop, in_steps}
-use Rattle.prem_ranges.specs.RangeBreaches.{in_arguments, in_scalar, in_element, parameters_of, in_locals, in_result, in_routine}
-use Rattle.prem_ranges.specs.RangeRules.{IndexOutside}
-use Rattle.prem_ranges.specs.RangesKept.{resolved}
-use Rattle.prem_ranges.specs.Sound.{kinds_of, Typed, TypedResult, AllTyped, TypedSteps, TypedLocals, TypedRoutine, Ranged}
-use Rattle.prem_ranges.proofs.Basics.{none_left, none_right, unbroken, unbroken_not, is_at_most, is_not_below, none_first}
-use Rattle.prem_ranges.proofs.Environments.{kinds-at_local, kinds-loosened, kinds-joined}
-use Rattle.prem_ranges.proofs.Expressions.{kinds-refined}
-use Rattle.prem_ranges.proofs.Statements.{kinds-after, kinds-behind_call, kinds-in_body}
-use Rattle.prem_annotating.proofs.RangesKept.{ranged_local, ranged_any, ranged_loosened, ranged_joined, term_kept, ranged_refined, LoopFits, body_kept, behind_kept}
-use Rattle.prem_annotating.proofs.RangesKept.{ranged_counting, ranged_call, ranged_declared}
-use Rattle.prem_ranges.proofs.WellFormed.{well_formed_is_typed}
-use Rattle.prem_annotating.specs.Lists.{Each}
-use Rattle.prem_annotating.specs.Seen.{Touch, touch, touched_by, touched_by_all, touched_in, touched_by_locals, touched_by_result, touches_of}
-use Rattle.prem_annotating.specs.Reached.{elements_in, element_number}
-use Rattle.prem_annotating.specs.Annotated.{all_ranged, other_breaches, first_other}
-use Rattle.prem_annotating.specs.Laws.{RegionsFit}
-use Rattle.prem_annotating.proofs.Lists.{each_append, each_at, joined_encloses, joined_meets}
+use Rattle.prem_annotating.proofs.Prelude.{all_ranged, other_breaches, first_other, RegionsFit, Each, elements_in, element_number, Touch, touch, touched_by, touched_by_all, touched_in}
+use Rattle.prem_annotating.proofs.Prelude.{touched_by_locals, touched_by_result, touches_of, none_left, none_right, unbroken, unbroken_not, is_at_most, is_not_below, none_first}
+use Rattle.prem_annotating.proofs.Prelude.{kinds-at_local, kinds-loosened, kinds-joined, kinds-refined, ranged_local, ranged_any, ranged_loosened, ranged_joined, term_kept, ranged_refined}
+use Rattle.prem_annotating.proofs.Prelude.{LoopFits, body_kept, behind_kept, ranged_counting, ranged_call, ranged_declared, kinds-after, kinds-behind_call, kinds-in_body}
+use Rattle.prem_annotating.proofs.Prelude.{well_formed_is_typed, assigns, loop_end, turn_bound, in_counting, body_range, range_behind, in_body, behind_loop, in_while, behind_call, after}
+use Rattle.prem_annotating.proofs.Prelude.{known_parameter, known_local, declared, at_body, Known, any_again, assigned, Environment, at_local, joined, Site, length_of, in_watches, in_index}
+use Rattle.prem_annotating.proofs.Prelude.{in_divisor, in_argument, in_term, in_range_of_int, in_turns, in_counting_loop, in_steps, in_arguments, in_scalar, in_element, parameters_of}
+use Rattle.prem_annotating.proofs.Prelude.{in_locals, in_result, in_routine, range_of, refined, IndexOutside, resolved, kinds_of, Typed, TypedResult, AllTyped, TypedSteps, TypedLocals}
+use Rattle.prem_annotating.proofs.Prelude.{TypedRoutine, Ranged, ProgramHasWords, IsWellFormed, callee_table, reach_set, kind_of, promoted, Term, Constant, Local, Scalar, Element, Unary}
+use Rattle.prem_annotating.proofs.Prelude.{Binary, AndAlso, OrElse, Steps, Done, SetLocal, SetScalar, SetElement, Output, Input, If, For, While, Call, Routine, Resolved, unlimited, Text}
+use Rattle.prem_annotating.proofs.Prelude.{Parameter, LocalVariable, GlobalVariable, ProgramText, Place, Ty, converted_kept, Span, from_to, exactly, encloses, converted, Kind, ◌≡◌, ℕ, ◌+◌}
+use Rattle.prem_annotating.proofs.Prelude.{◌*◌, ◌<◌, ◌≤◌, Bool, true, false, List, [], ◌∷◌, ◌++◌, map, refl, ap, sym, ◌∙◌, subst, arith, Option, None, Some, and_parts, ints, clamps}
+use Rattle.prem_annotating.proofs.Prelude.{map-append, ℤ, pos, ◌-ℤ◌, ◌≤ℤ◌, int_le, ◌||◌, ◌==◌, slice_get, unwrap_or}
+use Rattle.prem_annotating.proofs.Fits.{walked, kinds_parameters, kinds_declared, AllFit, all_fit, fit_at}
 use Rattle.prem_annotating.proofs.Kept.{Kept, kept_at}
-use Rattle.prem_annotating.proofs.Transformed.{all_ranged_kept}
+use Rattle.prem_annotating.proofs.Least.{Source, source_back, source_natural, one_region, standing_of}
+use Rattle.prem_annotating.proofs.Lists.{each_append, each_at, joined_encloses, joined_meets}
 use Rattle.prem_annotating.proofs.Ranges.{origin}
 use Rattle.prem_annotating.proofs.Regions.{found_by_name, bare_site, unwatched, others_at}
-use Rattle.prem_annotating.proofs.Fits.{walked, kinds_parameters, kinds_declared, AllFit, all_fit, fit_at}
-use Rattle.prem_annotating.proofs.Least.{Source, source_back, source_natural, one_region, standing_of}
+use Rattle.prem_annotating.proofs.Transformed.{all_ranged_kept}
+use Rattle.prem_word.specs.Ranges.{IsRange}
 
 -- ---- accesses
 

@@ -1,3 +1,4 @@
+pub mod Prelude
 pub mod Rows
 pub mod Names
 pub mod Kept
@@ -19,7 +20,6 @@ pub mod Edits
 pub mod EditingLemmas
 pub mod There
 pub mod Annotates
-pub mod RangesKept
 pub mod Fits
 pub mod Inside
 pub mod Said

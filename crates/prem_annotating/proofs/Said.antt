@@ -1,42 +1,22 @@
 -- What a program needs can be said: its numbers are those of literals, and its names those of globals.
-use Rattle.std.specs.Prelude.{ℤ, pos, negsuc, max, ◌≤ℤ◌, unsigned_abs, slice_get, unwrap_or}
-use Rattle.std.specs.Option.{option_map}
-use Rattle.std.proofs.Common.{◌≡◌, ℕ, zero, suc, ◌+◌, ◌≤◌, List, [], ◌∷◌, ◌++◌, refl, ap, sym, ◌∙◌, subst, arith, Option, None, Some}
-use Rattle.std.proofs.lemmas.Int.{ints}
-use Rattle.prem_word.specs.declared.kind.Kind.{Kind}
-use Rattle.prem_word.specs.declared.kind.Kind.TheVariants.{Int, Unsigned}
-use Rattle.prem_word.specs.Ranges.{from_to, IsRange}
-use Rattle.prem_syntax.specs.Syntax.{Text, Parameter, RegionText, MarkText, GlobalVariable, FunctionText, ProgramText, global_item, function_item}
-use Rattle.prem_syntax.specs.Literals.{ProgramHasWords}
-use Rattle.prem_syntax.specs.ProgramRules.{IsWellFormed}
-use Rattle.prem_syntax.specs.Resolved.{Routine, Resolved}
-use Rattle.prem_syntax.specs.Resolve.{promoted, globals_of, functions_of}
-use Rattle.prem_syntax.specs.Source.{unlimited}
-use Rattle.prem_text.specs.Lexing.Token.Lexeme.{Lexeme, name, number, word, mark, end_of_text}
-use Rattle.prem_text.specs.declared.lexing.token.token.Mark.TheVariants as m
-use Rattle.prem_text.specs.Grammar.ProgramPhrases.{items_tokens}
-use Rattle.prem_text.specs.Canonical.Canonical.{kind_for, type_lexemes, declaration_lexemes, length_lexemes, initial_lexemes, global_lexemes, mark_lexemes, parameters_lexemes}
-use Rattle.prem_text.specs.Canonical.Canonical.{locals_lexemes, statements_lexemes, result_lexemes, function_lexemes, program_lexemes}
-use Rattle.prem_text.specs.Spelling.Spellings.{Spells}
-use Rattle.prem_text.specs.Texts.{IsProgramText}
-use Rattle.prem_text.proofs.CanonicalLemmas.Sayable.{IsSayable, AreSayable, AreSaid, front as said_front, tokens_said}
-use Rattle.prem_text.proofs.CanonicalLemmas.ItemsSaid.{items_said}
-use Rattle.prem_text.proofs.ReadWordsLemmas.ProgramWords.{reads_have_words}
-use Rattle.prem_text.proofs.Whole.{text_read}
-use Rattle.prem_ranges.specs.RangesKept.{resolved}
-use Rattle.prem_ranges.specs.RangeBreaches.{parameters_of}
-use Rattle.prem_annotating.specs.Lists.{Each}
-use Rattle.prem_annotating.specs.Inferred.{ranged_routines}
-use Rattle.prem_annotating.specs.Annotated.{annotated_mark, texts_of, all_ranged, all_annotated, annotated, first_other}
-use Rattle.prem_annotating.specs.Laws.{functions_in, IsOfGlobal}
-use Rattle.prem_annotating.specs.Pieces.{AreRegionWords}
-use Rattle.prem_annotating.specs.Phrases.{IsSaidRange, IsSaidMark, CanBeSaid}
-use Rattle.prem_annotating.specs.Said.{AnnotationsCanBeSaid}
-use Rattle.prem_annotating.proofs.Transformed.{resolved_annotated}
-use Rattle.prem_annotating.proofs.Regions.{marked_from}
+use Rattle.prem_annotating.proofs.Prelude.{annotated_mark, texts_of, all_ranged, all_annotated, annotated, first_other, ranged_routines, functions_in, IsOfGlobal, Each, IsSaidRange}
+use Rattle.prem_annotating.proofs.Prelude.{IsSaidMark, CanBeSaid, AreRegionWords, parameters_of, resolved, ProgramHasWords, IsWellFormed, promoted, globals_of, functions_of, Routine}
+use Rattle.prem_annotating.proofs.Prelude.{Resolved, unlimited, Text, Parameter, RegionText, MarkText, GlobalVariable, FunctionText, ProgramText, global_item, function_item, IsSayable}
+use Rattle.prem_annotating.proofs.Prelude.{AreSayable, AreSaid, front as said_front, tokens_said, text_read, kind_for, type_lexemes, declaration_lexemes, length_lexemes, initial_lexemes}
+use Rattle.prem_annotating.proofs.Prelude.{global_lexemes, mark_lexemes, parameters_lexemes, locals_lexemes, statements_lexemes, result_lexemes, function_lexemes, program_lexemes}
+use Rattle.prem_annotating.proofs.Prelude.{items_tokens, Lexeme, name, number, word, mark, end_of_text, Spells, IsProgramText, from_to, Kind, Int, Unsigned, ◌≡◌, ℕ, zero, suc, ◌+◌, ◌≤◌}
+use Rattle.prem_annotating.proofs.Prelude.{List, [], ◌∷◌, ◌++◌, refl, ap, sym, ◌∙◌, subst, arith, Option, None, Some, ints, option_map, ℤ, pos, negsuc, max, ◌≤ℤ◌, unsigned_abs, slice_get}
+use Rattle.prem_annotating.proofs.Prelude.{unwrap_or}
 use Rattle.prem_annotating.proofs.Annotates.{texts_resolved}
 use Rattle.prem_annotating.proofs.Fits.{ranges_fit}
 use Rattle.prem_annotating.proofs.Inside.{regions_fit}
+use Rattle.prem_annotating.proofs.Regions.{marked_from}
+use Rattle.prem_annotating.proofs.Transformed.{resolved_annotated}
+use Rattle.prem_annotating.specs.Said.{AnnotationsCanBeSaid}
+use Rattle.prem_text.proofs.CanonicalLemmas.ItemsSaid.{items_said}
+use Rattle.prem_text.proofs.ReadWordsLemmas.ProgramWords.{reads_have_words}
+use Rattle.prem_word.specs.Ranges.{IsRange}
+use Rattle.prem_text.specs.declared.lexing.token.token.Mark.TheVariants as m
 
 -- ---- tokens that can be said
 

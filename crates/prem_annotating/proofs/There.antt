@@ -1,43 +1,22 @@
 -- The edits of a text: at each function's mark and parameters, where something differs.
-use Rattle.std.specs.Prelude.{cond, ◌==◌, ◌&&◌, length, if◌then◌else◌}
-use Rattle.std.specs.Option.{option_map}
-use Rattle.std.specs.Str.{bytes_eq}
-use Rattle.std.proofs.Common.{◌≡◌, ◌≤◌, ℕ, Bool, true, false, List, [], ◌∷◌, ◌++◌, map, refl, sym, ap, subst, ◌∙◌, arith, Some}
-use Rattle.std.proofs.lemmas.List.{append_assoc, append-nil}
-use Rattle.std.proofs.lemmas.Bool.{and_parts}
-use Rattle.std.proofs.lemmas.Bool.Decides.{nat_tests}
-use Rattle.std.proofs.lemmas.Slice.Eq.{bytes_eq-Decides}
-use Rattle.prem_word.specs.declared.kind.Kind.{Kind}
-use Rattle.prem_syntax.specs.Syntax.{RegionText, MarkText}
-use Rattle.prem_text.specs.declared.lexing.token.token.Mark.{Mark}
-use Rattle.prem_text.specs.declared.lexing.token.token.Mark.TheVariants as m
-use Rattle.prem_text.specs.declared.lexing.token.token.Word.TheVariants as w
-use Rattle.prem_text.specs.Lexing.Token.Lexeme.{Lexeme, number, word, mark, Seen}
-use Rattle.prem_text.specs.Lexing.Spelling.{marks}
-use Rattle.prem_text.specs.Grammar.Slots.{Slot, left_parenthesis, right_parenthesis, a_name, a_literal, comma, the_region, the_predictable, value_of, value_at, is_predictable}
-use Rattle.prem_text.specs.Grammar.Slots.{is_left_parenthesis, is_right_parenthesis, is_literal}
-use Rattle.prem_text.specs.Grammar.Reader.{nowhere}
-use Rattle.prem_text.specs.Grammar.Phrases.{IsRow}
-use Rattle.prem_text.specs.Grammar.ProgramPhrases.{MarkPhrase, AreRegions, region_tokens, region_trees, IsMark, mark_tokens, mark_tree}
-use Rattle.prem_text.specs.Spelling.Spellings.{StandsIn, every, Spells, as_mark}
-use Rattle.prem_text.specs.Canonical.Canonical.{number_lexeme, kind_for}
-use Rattle.prem_text.specs.Canonical.Printed.{lexeme_bytes}
-use Rattle.prem_text.specs.Canonical.Law.{lexemes_of}
-use Rattle.prem_text.specs.Canonical.Unplaced.{unplaced_region, unplaced_mark}
-use Rattle.prem_text.proofs.SpellingLemmas.Tables.{stands_every, same_bytes}
-use Rattle.prem_annotating.specs.Pieces.{Piece, between, a_token, text_of, lexemes_in, AreDivided, said, mark_piece, range_pieces, regions_pieces, AreRegionWords, AreGaps}
-use Rattle.prem_annotating.specs.Pieces.{EndsInToken, Edited, all_edited, kept_piece, with_range, with_regions, with_length}
-use Rattle.prem_annotating.specs.Phrases.{region_row}
-use Rattle.prem_annotating.specs.declared.editing.walk.Spot.{Spot}
-use Rattle.prem_annotating.specs.declared.editing.walk.Spot.TheVariants.{Elsewhere, InMark}
-use Rattle.prem_annotating.specs.declared.editing.walk.Mode.TheVariants.{Copying}
-use Rattle.prem_annotating.specs.Editing.Walk.{Order, leave, put, put_for, mode_of}
-use Rattle.prem_annotating.specs.Editing.Orders.{same_region, same_regions, length_order, regions_order}
-use Rattle.prem_annotating.proofs.Inserted.{regions_say}
-use Rattle.prem_annotating.proofs.Edits.{regions_right, regions_are, regions_lexed}
+use Rattle.prem_annotating.proofs.Prelude.{same_region, same_regions, length_order, regions_order, Order, leave, put, put_for, mode_of, region_row, Piece, between, a_token, text_of}
+use Rattle.prem_annotating.proofs.Prelude.{lexemes_in, AreDivided, said, mark_piece, range_pieces, regions_pieces, AreRegionWords, AreGaps, EndsInToken, Edited, all_edited, kept_piece}
+use Rattle.prem_annotating.proofs.Prelude.{with_range, with_regions, with_length, Copying, Spot, Elsewhere, InMark, RegionText, MarkText, stands_every, same_bytes, number_lexeme, kind_for}
+use Rattle.prem_annotating.proofs.Prelude.{lexemes_of, lexeme_bytes, unplaced_region, unplaced_mark, IsRow, MarkPhrase, AreRegions, region_tokens, region_trees, IsMark, mark_tokens}
+use Rattle.prem_annotating.proofs.Prelude.{mark_tree, nowhere, Slot, left_parenthesis, right_parenthesis, a_name, a_literal, comma, the_region, the_predictable, value_of, value_at}
+use Rattle.prem_annotating.proofs.Prelude.{is_left_parenthesis, is_right_parenthesis, is_literal, marks, Lexeme, number, word, mark, Seen, StandsIn, every, Spells, as_mark, Mark, Kind, ◌≡◌}
+use Rattle.prem_annotating.proofs.Prelude.{◌≤◌, ℕ, Bool, true, false, List, [], ◌∷◌, ◌++◌, map, refl, sym, ap, subst, ◌∙◌, arith, Some, and_parts, nat_tests, bytes_eq-Decides, option_map}
+use Rattle.prem_annotating.proofs.Prelude.{◌==◌, ◌&&◌, if◌then◌else◌, bytes_eq}
 use Rattle.prem_annotating.proofs.EditingLemmas.Goes.{Goes, Stays, goes_both, stays_go, AreQuiet, quiet_join, quiet_stays}
 use Rattle.prem_annotating.proofs.EditingLemmas.Quiet.{row_quiet}
 use Rattle.prem_annotating.proofs.EditingLemmas.Single.{leave_goes, literal_goes, regions_go, trees_length}
+use Rattle.prem_annotating.proofs.Edits.{regions_right, regions_are, regions_lexed}
+use Rattle.prem_annotating.proofs.Inserted.{regions_say}
+use Rattle.prem_text.specs.Grammar.Slots.{is_predictable}
+use Rattle.std.proofs.lemmas.List.{append_assoc, append-nil}
+use Rattle.std.specs.Prelude.{cond, length}
+use Rattle.prem_text.specs.declared.lexing.token.token.Mark.TheVariants as m
+use Rattle.prem_text.specs.declared.lexing.token.token.Word.TheVariants as w
 
 -- ---- pieces cut where tokens are
 

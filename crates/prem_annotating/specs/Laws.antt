@@ -1,21 +1,13 @@
 -- What annotating promises.
-use Rattle.std.specs.Prelude.{◌≡◌, ℕ, zero, suc, ◌<◌, ◌≤◌, ◌⊎◌, ℤ, true, List, [], ◌∷◌, slice_get, unwrap_or, Option, None, Some}
-use Rattle.std.specs.List.{filter, flat_map}
-use Rattle.std.specs.Option.{option_map}
-use Rattle.prem_word.specs.Ranges.{Span, from_to, encloses, IsRange}
-use Rattle.prem_syntax.specs.Syntax.{Parameter, RegionText, MarkText, GlobalVariable, ProgramText}
-use Rattle.prem_syntax.specs.Literals.{ProgramHasWords}
-use Rattle.prem_syntax.specs.Resolved.{Routine}
-use Rattle.prem_syntax.specs.Resolve.{promoted, globals_of}
-use Rattle.prem_syntax.specs.Source.{source}
-use Rattle.prem_syntax.specs.ProgramRules.{IsWellFormed}
-use Rattle.prem_ranges.specs.RangesKept.{resolved, StaysInRange}
-use Rattle.prem_ranges.specs.RangeRules.{RangeBreach}
-use Rattle.prem_ranges.specs.RangeBreaches.{parameters_of, in_routine, range_breaches}
+use Rattle.prem_annotating.specs.Prelude.{parameters_of, in_routine, range_breaches, RangeBreach, resolved, StaysInRange, IsWellFormed, promoted, globals_of, Routine, Parameter, RegionText}
+use Rattle.prem_annotating.specs.Prelude.{MarkText, GlobalVariable, ProgramText, Span, from_to, encloses, IsRange, filter, flat_map, option_map, ◌≡◌, ℕ, zero, suc, ◌<◌, ◌≤◌, ◌⊎◌, ℤ, true}
+use Rattle.prem_annotating.specs.Prelude.{List, [], ◌∷◌, slice_get, unwrap_or, Option, None, Some}
+use Rattle.prem_annotating.specs.Annotated.{with_mark, with_routines, all_ranged, annotated, is_region_rule, other_breaches, first_other}
+use Rattle.prem_annotating.specs.Inferred.{given, ranged_parameter}
 use Rattle.prem_annotating.specs.Lists.{Among}
 use Rattle.prem_annotating.specs.Seen.{calls_of_all}
-use Rattle.prem_annotating.specs.Inferred.{given, ranged_parameter}
-use Rattle.prem_annotating.specs.Annotated.{with_mark, with_routines, all_ranged, annotated, is_region_rule, other_breaches, first_other}
+use Rattle.prem_syntax.specs.Literals.{ProgramHasWords}
+use Rattle.prem_syntax.specs.Source.{source}
 
 -- ---- the same meaning
 

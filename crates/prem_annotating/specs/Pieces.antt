@@ -1,18 +1,10 @@
 -- A text as its pieces, and pieces put in place of others.
-use Rattle.std.specs.Prelude.{◌≡◌, ℕ, ◌≤◌, ⊤, ℤ, unsigned_abs, List, [], ◌∷◌, ◌++◌, map, codes, Some}
-use Rattle.prem_word.specs.declared.kind.Kind.{Kind}
-use Rattle.prem_syntax.specs.Syntax.{RegionText}
-use Rattle.prem_text.specs.declared.lexing.token.token.Mark.{Mark}
+use Rattle.prem_annotating.specs.Prelude.{RegionText, number_lexeme, constant_lexemes, range_lexemes, regions_lexemes, lexemes_of, lexeme_bytes, unplaced_region, AreRegions, region_tokens}
+use Rattle.prem_annotating.specs.Prelude.{region_trees, Lexeme, name, number, word, mark, Seen, Gap, IsToken, Divides, Mark, Kind, ◌≡◌, ℕ, ◌≤◌, ⊤, ℤ, unsigned_abs, List, [], ◌∷◌, ◌++◌, map}
+use Rattle.prem_annotating.specs.Prelude.{codes, Some}
+use Rattle.prem_text.specs.Spelling.Spellings.{Spells}
 use Rattle.prem_text.specs.declared.lexing.token.token.Mark.TheVariants as m
 use Rattle.prem_text.specs.declared.lexing.token.token.Word.TheVariants as w
-use Rattle.prem_text.specs.Lexing.Token.Lexeme.{Lexeme, name, number, word, mark, Seen}
-use Rattle.prem_text.specs.Grammar.ProgramPhrases.{AreRegions, region_tokens, region_trees}
-use Rattle.prem_text.specs.Spelling.Spellings.{Spells}
-use Rattle.prem_text.specs.Spelling.Division.{Gap, IsToken, Divides}
-use Rattle.prem_text.specs.Canonical.Canonical.{number_lexeme, constant_lexemes, range_lexemes, regions_lexemes}
-use Rattle.prem_text.specs.Canonical.Law.{lexemes_of}
-use Rattle.prem_text.specs.Canonical.Printed.{lexeme_bytes}
-use Rattle.prem_text.specs.Canonical.Unplaced.{unplaced_region}
 
 -- bytes between tokens, or a token
 pub data Piece : Type 0 where

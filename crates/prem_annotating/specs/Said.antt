@@ -1,8 +1,5 @@
 -- That a text can say the annotations of its program.
-use Rattle.std.specs.Prelude.{◌≡◌, ℕ, ◌≤◌, List, None}
-use Rattle.prem_syntax.specs.Syntax.{ProgramText}
-use Rattle.prem_syntax.specs.ProgramRules.{IsWellFormed}
-use Rattle.prem_text.specs.Texts.{IsProgramText}
+use Rattle.prem_annotating.specs.Prelude.{IsWellFormed, ProgramText, IsProgramText, ◌≡◌, ℕ, ◌≤◌, List, None}
 use Rattle.prem_annotating.specs.Annotated.{texts_of, all_annotated, first_other}
 use Rattle.prem_annotating.specs.Phrases.{CanBeSaid}
 

@@ -1,17 +1,14 @@
 -- Sums that are told up to 2 ^ 41 give sums that are told so.
 use Rattle.std.specs.Prelude.{nat_lt}
-use Rattle.std.proofs.Common.{◌≡◌, ℕ, zero, suc, ◌+◌, ◌-◌, ◌*◌, ◌<◌, max, refl, ap, ◌∙◌, sym, arith, cond, Bool, true, false, Option, Some, None, List, [], ◌∷◌, length, drop, get_or}
+use Rattle.std.proofs.Common.{◌≡◌, ℕ, zero, suc, ◌+◌, ◌-◌, ◌*◌, ◌<◌, max, refl, ap, ◌∙◌, sym, arith, cond, Bool, true, false, Option, Some, None, List, length, drop, get_or}
 use Rattle.prem_list.specs.Sequence.{items_of}
 use Rattle.prem_isa.specs.declared.instr.Instr.{Instr}
-use Rattle.prem_isa.specs.declared.instr.Instr.TheVariants.{PmDone}
 use Rattle.prem_asm.specs.declared.piece.Test.{Test}
 use Rattle.prem_asm.specs.declared.piece.Piece.{Piece}
 use Rattle.prem_asm.specs.declared.piece.Piece.TheVariants.{Straight, Address, Either', Repeat', CallTo}
 use Rattle.prem_asm.specs.Pieces.{Pieces, no_pieces, straight, address_of, either, repeat, call_to, weight, jump_weight, address_weight, skip_words, branch_of}
 use Rattle.prem_asm.specs.PiecesOf.{piece_before, row_before, pieces_of, piece_of}
 use Rattle.prem_asm.proofs.PieceWords.{drop_piece}
-use Rattle.prem_layout.specs.Parts.{code_part}
-use Rattle.prem_layout.specs.Bounds.{start_code}
 use Rattle.prem_layout.specs.Stretch.Sums.{most, both, or_none, Sums, taking, among, chained, greatest, turned, summed, part_sums}
 use Rattle.prem_layout.proofs.StretchLemmas.Algebra.{same_sums, most_none, chained_assoc}
 use Rattle.prem_bounds.specs.Scale.{clipped}
@@ -216,30 +213,6 @@ module _ (w : Instr → ℕ) (calls : ℕ → Sums) where
       (et ∙ chained_alike start inside h (chained b (chained k j)) es (ei ∙ chained_alike branch back b (chained k j) (ap clipped_sums eb) (ek ∙ chained_alike inner jump k j en (ap clipped_sums ej))))
       (eo ∙ chained_alike start last h (taking (w (branch_of test) + jump_weight w)) es (ap clipped_sums el ∙ taking_alike way (w (branch_of test) + jump_weight w) way_is))
       ∙ ap clipped_sums (sym (chained_none (turned turns x y)))
-
-  straight_told : (code : List Instr) (n : ℕ) (r : Sums) → r ≡ taking n → n ≡ clipped (weight w code) → Same r (summed w calls (straight code no_pieces))
-  straight_told code n r er e =
-      let way : clipped n ≡ clipped (weight w code) = omega (arith, e) in
-      ap clipped_sums er ∙ taking_alike n (weight w code) way ∙ ap clipped_sums (sym (chained_none (taking (weight w code))))
-
-  address_told : (rd part more n : ℕ) (r : Sums) → r ≡ taking n → n ≡ address_weight w → Same r (summed w calls (address_of rd part more no_pieces))
-  address_told rd part more n r er e = ap clipped_sums (er ∙ ap taking e) ∙ ap clipped_sums (sym (chained_none (taking (address_weight w))))
-
-  call_told : (link part : ℕ) (r jump called : Sums) → Same r (chained jump called) → jump ≡ taking (jump_weight w) → called ≡ calls part → Same r (summed w calls (call_to link part no_pieces))
-  call_told link part r jump called er ej ec =
-      er ∙ ap (λ s. clipped_sums (chained s called)) ej ∙ ap (λ s. clipped_sums (chained (taking (jump_weight w)) s)) (ec ∙ sym (chained_none (calls part)))
-
-  -- the start of a task
-  start_told : (job : ℕ) (r call last : Sums) (way : ℕ) → Same r (chained call last) →
-      Same call (summed w calls (call_to 0 (code_part job) no_pieces)) → last ≡ taking way → way ≡ w PmDone → Same r (summed w calls (start_code job))
-  start_told job r call last way er ec el ew =
-      let j : Sums = taking (jump_weight w) in
-      let c : Sums = calls (code_part job) in
-      let done : Sums = taking (weight w (PmDone ∷ [])) in
-      let way_is : way ≡ weight w (PmDone ∷ []) = omega (arith, ew) in
-      er
-      ∙ chained_alike call last (chained j (chained c (taking 0))) done ec (ap clipped_sums (el ∙ ap taking way_is))
-      ∙ ap clipped_sums (chained_assoc j (chained c (taking 0)) done ∙ ap (λ s. chained j (chained s done)) (chained_none c) ∙ ap (λ s. chained j (chained c s)) (sym (chained_none done)))
 
   -- one more piece behind what is summed
   pub piece_more : (ps : List Piece) (i : ℕ) (p : Piece) (sums one more : Sums) → i < length ps → p ≡ get_or ps i p → Same more (chained sums one) → Same one (summed w calls (piece_of p)) →

@@ -76,9 +76,6 @@ keeps_option f each (Some x) = each x
 keeps_each : {A : Type 0} (f : ℕ → A → List ℕ) → ((k : ℕ) (x : A) → Keeps (f k x)) → (xs : List A) → Keeps (each_text f xs)
 keeps_each f each xs = keeps_turns _ (λ k. keeps_option (f k) (each k) (slice_get xs k)) (length xs)
 
-keeps_escaped : (bytes : List ℕ) → Keeps (escaped bytes)
-keeps_escaped bytes tag around = escaped_taken (tag ∷ around) bytes
-
 -- ---- shapes
 
 abbrev titled : List Name → List Name

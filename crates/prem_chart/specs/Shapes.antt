@@ -4,7 +4,6 @@ use Rattle.prem_gate.specs.declared.bus.Transfer.{Transfer}
 use Rattle.prem_image.specs.declared.image.TaskRecord.{TaskRecord}
 use Rattle.prem_image.specs.declared.image.DeviceRecord.{DeviceRecord}
 use Rattle.prem_cycle.specs.declared.facts.EndedInterval.{EndedInterval}
-use Rattle.prem_cycle.specs.FactsOf.{Report}
 use Rattle.prem_cycle.specs.Runs.Transfer.Lengths.{device_cost}
 use Rattle.prem_report.specs.Report.{task_name, device_name, kind_word, direction_word}
 use Rattle.prem_chart.specs.declared.view.Look.{Look}
@@ -66,8 +65,3 @@ has_transfer s devices t = is_inside s.view t.first (behind_transfer devices t)
 
 abbrev pub transfer_shapes : Sheet → List DeviceRecord → List Transfer → List Shape
 transfer_shapes s devices transfers = map (transfer_shape s devices) (filter (has_transfer s devices) transfers)
-
--- ---- the run
-
-abbrev pub shapes_of : Sheet → List TaskRecord → List DeviceRecord → Report → List Shape
-shapes_of s tasks devices r = interval_shapes s tasks r.intervals ++ transfer_shapes s devices r.transfers

@@ -39,10 +39,6 @@ line_room sets «ways» n end counts lt less =
     ∙ ap (λ b. option_and_then (λ next. with_lines sets «ways» (numbers_from (n + 1) (end - (n + 1))) next)
     (cond b (Some (slice_set counts (n % sets) (slice_index counts (n % sets) + 1))) None)) (lt-ltb (slice_index counts (n % sets)) «ways» less)
 
--- no line of an empty run
-pub no_line : (sets «ways» n end : ℕ) (counts : List ℕ) → end ≤ n → with_lines sets «ways» (numbers_from n (end - n)) counts ≡ Some counts
-no_line sets «ways» n end counts le = let e : end - n ≡ 0 = omega (arith, le) in ap (λ k. with_lines sets «ways» (numbers_from n k) counts) e
-
 -- the next run, and the lines behind it
 pub behind_run : (line : ℕ) (ranges : List Extent) (at : ℕ) (run : Run) → Found at (is_touched line ranges) run →
     lines_behind line ranges at ≡ numbers_from run.0 (run.1 - run.0) ++ lines_behind line ranges run.1

@@ -29,8 +29,3 @@ pub least_next : (test : ℕ → Bool) (n end : ℕ) → n < end → test n ≡ 
 least_next test n end lt e =
     let z : end - n ≡ suc (end - (n + 1)) = omega (arith, lt) in
     ap (least_from test n) z ∙ ap (λ b. cond b (Some n) (least_from test (n + 1) (end - (n + 1)))) e
-
-least_here : (test : ℕ → Bool) (n end : ℕ) → n < end → test n ≡ true → least_from test n (end - n) ≡ Some n
-least_here test n end lt e =
-    let z : end - n ≡ suc (end - (n + 1)) = omega (arith, lt) in
-    ap (least_from test n) z ∙ ap (λ b. cond b (Some n) (least_from test (n + 1) (end - (n + 1)))) e

@@ -1,17 +1,6 @@
 -- The images of the worked runs: contents as words, and what stands beside them.
-use Rattle.std.specs.Prelude.{Some, None, codes, replicate, slice_set}
-use Rattle.std.proofs.Common.{ℕ, ◌/◌, List, [], ◌∷◌, ◌++◌}
-use Rattle.prem_plant.specs.declared.plant.Replacement.TheVariants.{Lru}
-use Rattle.prem_plant.specs.declared.plant.Target.TheVariants.{Rv32i}
-use Rattle.prem_plant.specs.declared.plant.Plant.{Plant}
-use Rattle.prem_plant.specs.declared.plant.Replacement.TheVariants.{Lru}
-use Rattle.prem_plant.specs.declared.plant.Target.TheVariants.{Rv32i}
-use Rattle.prem_lru.specs.Splice.{bytes_of}
-use Rattle.prem_gate.specs.declared.request.Request.{Request}
-use Rattle.prem_image.specs.declared.image.TaskRecord.{TaskRecord}
-use Rattle.prem_image.specs.declared.image.DeviceRecord.{DeviceRecord}
-use Rattle.prem_cycle.specs.State.{Setup, MachineState, rule_in}
-use Rattle.prem_cycle.specs.Run.{run_of}
+use Rattle.prem_cycle.proofs.Prelude.{run_of, Setup, MachineState, rule_in, Request, DeviceRecord, TaskRecord, bytes_of, Plant, Lru, Rv32i, ℕ, ◌/◌, List, [], ◌∷◌, ◌++◌, codes, slice_set}
+use Rattle.std.specs.Prelude.{Some, None, replicate}
 
 -- ---- contents
 

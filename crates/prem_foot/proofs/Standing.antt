@@ -1,5 +1,5 @@
 -- Plans of a well-formed program may be looked at with the places of its parts.
-use Rattle.std.specs.Prelude.{nat_lt, nat_le, not, is_some, is_none, IsTrue, ◌||◌, slice_get, slice_index_or, unwrap_or}
+use Rattle.std.specs.Prelude.{nat_lt, nat_le, not, is_some, ◌||◌, slice_get, slice_index_or, unwrap_or}
 use Rattle.std.specs.Int.{next_multiple_of}
 use Rattle.std.specs.List.{AllByRecursion, list_any}
 use Rattle.std.specs.Str.{bytes_eq}
@@ -274,10 +274,6 @@ each_stands : (p : Resolved) (places : List Extent) (sizes : List ℕ) (passes :
 each_stands p places sizes passes task memory most [] long small stand room fits = tt
 each_stands p places sizes passes task memory most (plan ∷ plans) long small stand room fits =
     (plan_stands p places sizes passes task memory most plan long small stand room fits.0, each_stands p places sizes passes task memory most plans long small stand room fits.1)
-
-is_none_means : {A : Type 0} (o : Option A) → IsTrue (is_none o) → o ≡ None
-is_none_means None h = refl
-is_none_means (Some a) h = absurd cc
 
 pub plans_stand : PlansStand
 plans_stand passes memory task text turns sizes places formed small long stand =

@@ -1,17 +1,7 @@
 -- The definitions at small values, computed: two sets of two lines of four bytes, over 40 bytes of memory.
-use Rattle.std.specs.List.{range_with_len}
-use Rattle.std.proofs.Common.{◌≡◌, ℕ, List, [], ◌∷◌, true, false, Some, refl, take, drop}
-use Rattle.prem_word.specs.Bytes.{number_at}
-use Rattle.prem_plant.specs.declared.plant.Replacement.TheVariants.{Lru}
+use Rattle.prem_lru.proofs.Prelude.{Touched, empty_cache, entry_of, set_of, view_of, touch_of, store_of, to_front, lines_of, lines_in, rule_of, IsSettled, Plant, Lru, Fifo, number_at, ◌≡◌}
+use Rattle.prem_lru.proofs.Prelude.{ℕ, List, [], ◌∷◌, true, false, Some, refl, take, drop, range_with_len}
 use Rattle.prem_plant.specs.declared.plant.Target.TheVariants.{Rv32i}
-use Rattle.prem_plant.specs.declared.plant.Plant.{Plant}
-use Rattle.prem_plant.specs.declared.plant.Replacement.TheVariants.{Lru, Fifo}
-use Rattle.prem_plant.specs.declared.plant.Target.TheVariants.{Rv32i}
-use Rattle.prem_lru.specs.Entries.{to_front}
-use Rattle.prem_lru.specs.CacheState.{Touched, empty_cache, entry_of, set_of, view_of, touch_of, store_of}
-use Rattle.prem_lru.specs.Settled.{IsSettled}
-use Rattle.prem_lru.specs.Rules.{rule_of}
-use Rattle.prem_lru.specs.Order.{lines_of, lines_in}
 
 abbrev plant : Plant
 plant = record { line = 4; sets = 2; ways = 2; fill = 10; back = 10; switch = 20; memory = 40; policy = Lru; target = Rv32i }

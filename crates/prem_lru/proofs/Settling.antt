@@ -1,18 +1,11 @@
 -- A line that was just touched is settled: its next touch hits and changes nothing.
-use Rattle.std.specs.Prelude.{slice_set}
-use Rattle.std.proofs.Common.{◌≡◌, ◌≢◌, ℕ, ◌-◌, ◌%◌, ◌<◌, refl, ap, ◌∙◌, sym, subst, cond, ltb, Some, true, false, List, [], ◌∷◌, length, take, get_or}
-use Rattle.std.proofs.lemmas.Bool.{cond_both, eq-eqb}
-use Rattle.std.proofs.lemmas.Nat.{mod_below}
-use Rattle.std.proofs.lemmas.List.{get_or-set_same, get_or-set_other, length-set, set-get_or}
-use Rattle.prem_plant.specs.declared.plant.Replacement.{Replacement}
-use Rattle.prem_plant.specs.declared.plant.Replacement.TheVariants.{Lru, Fifo}
-use Rattle.prem_lru.specs.Entries.{Entry, ReplacementRule, SetTouch, find_line, has_line, without_line, filled, written_back, last_entry, hit_in, brought_in, replaced, touch_set, to_front}
-use Rattle.prem_lru.specs.CacheState.{CacheState, set_of, with_set, touched_by, touch_of, IsCache}
-use Rattle.prem_lru.specs.Rules.{rule_of}
-use Rattle.prem_lru.specs.Settled.{IsSettled}
+use Rattle.prem_lru.proofs.Prelude.{CacheState, set_of, with_set, touched_by, touch_of, IsCache, Entry, ReplacementRule, SetTouch, find_line, has_line, without_line, filled, written_back}
+use Rattle.prem_lru.proofs.Prelude.{last_entry, hit_in, brought_in, replaced, touch_set, to_front, rule_of, IsSettled, Replacement, Lru, Fifo, ◌≡◌, ◌≢◌, ℕ, ◌-◌, ◌%◌, ◌<◌, refl, ap, ◌∙◌, sym}
+use Rattle.prem_lru.proofs.Prelude.{subst, cond, ltb, Some, true, false, List, [], ◌∷◌, length, take, get_or, cond_both, eq-eqb, get_or-set_same, get_or-set_other, length-set, set-get_or}
+use Rattle.prem_lru.proofs.Prelude.{mod_below, slice_set}
 use Rattle.prem_lru.proofs.Lookup.{some_of, found_line, find_head, to_front_is}
-use Rattle.prem_lru.proofs.Touches.{some_sets, touch_resident}
 use Rattle.prem_lru.proofs.RuleKinds.{kind_rule}
+use Rattle.prem_lru.proofs.Touches.{some_sets, touch_resident}
 
 -- ---- one set
 

@@ -1,7 +1,7 @@
 -- Lines whose next touch changes nothing.
-use Rattle.std.specs.Prelude.{◌≡◌, ℕ, true}
-use Rattle.prem_lru.specs.Entries.{ReplacementRule}
 use Rattle.prem_lru.specs.CacheState.{CacheState, set_of, is_resident}
+use Rattle.prem_lru.specs.Entries.{ReplacementRule}
+use Rattle.std.specs.Prelude.{◌≡◌, ℕ, true}
 
 -- the line is resident, and a hit of it leaves its set as it stands
 pub record IsSettled (rule : ReplacementRule) (c : CacheState) (line : ℕ) : Type 0 where

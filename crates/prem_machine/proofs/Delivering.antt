@@ -1,17 +1,6 @@
 -- Runs up to where a word may come to a task.
-use Rattle.std.specs.Prelude.{◌==◌, is_some}
-use Rattle.std.proofs.Common.{◌≡◌, ℕ, ◌+◌, ◌-◌, ◌≤◌, ◌<◌, false, None, Some, Option, true, refl, ap, sym, ◌∙◌, subst, arith, ⊎_elim}
-use Rattle.std.proofs.lemmas.Bool.{cases_lt}
-use Rattle.std.proofs.lemmas.Bool.Decides.{nat_tests}
-use Rattle.prem_cycle.specs.declared.state.Trap.{Trap}
-use Rattle.prem_cycle.specs.State.{rule_in}
-use Rattle.prem_cycle.specs.Cycle.{cycle_of, is_over}
-use Rattle.prem_cycle.specs.FactsOf.{stop_of}
-use Rattle.prem_cycle.specs.Run.{cycles_of, wants_input_of}
-use Rattle.prem_cycle.proofs.RunLaws.{cycles_of-add, step_of-goes}
-use Rattle.prem_machine.specs.States.{Running, with_state}
-use Rattle.prem_machine.specs.Silent.{AreSilent, ended_so_far}
-use Rattle.prem_machine.specs.Deliveries.{RunsSilently}
+use Rattle.prem_machine.proofs.Prelude.{cycles_of-add, step_of-goes, cycle_of, is_over, stop_of, cycles_of, wants_input_of, rule_in, Trap, RunsSilently, AreSilent, ended_so_far, Running}
+use Rattle.prem_machine.proofs.Prelude.{with_state, ◌≡◌, ℕ, ◌+◌, ◌-◌, ◌≤◌, ◌<◌, false, None, Some, Option, true, refl, ap, sym, ◌∙◌, subst, arith, ⊎_elim, cases_lt, nat_tests, ◌==◌, is_some}
 use Rattle.prem_machine.proofs.Going.{goes_on}
 use Rattle.prem_machine.proofs.Silence.{cycles_behind}
 

@@ -1,37 +1,15 @@
 -- An instruction that finds all its lines leaves memory as it is, and all its touches hit.
-use Rattle.std.specs.Prelude.{◌/◌, ◌%◌, nat_lt, is_some, false, slice_index, slice_index_or, IfSome}
-use Rattle.std.proofs.Common.{◌≡◌, ℕ, ◌+◌, ◌≤◌, ◌<◌, ◌-◌, true, false, List, [], ◌∷◌, Option, None, Some, length, map, take, refl, ap, sym, ◌∙◌, subst, cond, arith}
-use Rattle.prem_isa.specs.declared.effect.Access.{Access}
+use Rattle.prem_machine.proofs.Prelude.{Executes, Issued, LineTouch, attempt_in, attempt_seen, issued_with, stored_in, task_after, view_touched, Task, TaskRecord, EffectFits, cost_of}
+use Rattle.prem_machine.proofs.Prelude.{decode_of, fields_of, next_input, UpshotFits, act_of, told_by, Access, Stay, DataLoad, Effect, Done, Stored, Instr, Upshot, Loads, kind_rule}
+use Rattle.prem_machine.proofs.Prelude.{entry_same, CacheState, Touched, is_resident, set_of, touch_of, touched_by, view_of, with_set, Entry, ReplacementRule, brought_in, find_line, hit_in}
+use Rattle.prem_machine.proofs.Prelude.{last_entry, replaced, IsRule, rule_of, ComesTo, IsHit, count_of, hit_of, lines_of, lines_there, stores_in, CanIssue, IsExecuted, cost_at, load_access}
+use Rattle.prem_machine.proofs.Prelude.{load_effect, Plant, number_at, ◌≡◌, ℕ, ◌+◌, ◌≤◌, ◌<◌, ◌-◌, true, false, List, [], ◌∷◌, Option, None, Some, length, map, take, refl, ap, sym, ◌∙◌}
+use Rattle.prem_machine.proofs.Prelude.{subst, cond, arith, nat_lt, is_some, slice_index, slice_index_or, IfSome}
 use Rattle.prem_isa.specs.declared.effect.AccessKind.TheVariants.{Loads as LoadKind}
-use Rattle.prem_isa.specs.declared.effect.Change.TheVariants.{Stay}
-use Rattle.prem_plant.specs.declared.plant.Plant.{Plant}
-use Rattle.prem_isa.specs.declared.instr.Instr.{Instr}
-use Rattle.prem_isa.specs.declared.effect.DataLoad.{DataLoad}
-use Rattle.prem_isa.specs.declared.effect.Effect.{Effect}
-use Rattle.prem_isa.specs.declared.effect.Outcome.TheVariants.{Done}
-use Rattle.prem_isa.specs.declared.step.Upshot.{Upshot}
-use Rattle.prem_isa.specs.declared.step.Upshot.TheVariants.{Loads}
-use Rattle.prem_isa.specs.Bounds.{EffectFits}
-use Rattle.prem_isa.specs.Decode.{cost_of, decode_of}
-use Rattle.prem_isa.specs.Plain.{next_input}
-use Rattle.prem_isa.specs.Fields.{fields_of}
-use Rattle.prem_isa.specs.Step.{UpshotFits, act_of, told_by}
-use Rattle.prem_word.specs.Bytes.{number_at}
-use Rattle.prem_isa.specs.declared.effect.Stored.{Stored}
-use Rattle.prem_lru.specs.Entries.{Entry, ReplacementRule, brought_in, find_line, hit_in, last_entry, replaced}
-use Rattle.prem_lru.specs.CacheState.{CacheState, Touched, is_resident, set_of, touch_of, touched_by, view_of, with_set}
-use Rattle.prem_lru.specs.Rules.{IsRule, rule_of}
-use Rattle.prem_lru.proofs.RuleKinds.{kind_rule}
-use Rattle.prem_lru.proofs.Touches.{entry_same}
-use Rattle.prem_cycle.specs.State.{Task}
-use Rattle.prem_image.specs.declared.image.TaskRecord.{TaskRecord}
-use Rattle.prem_cycle.specs.Issue.{Executes, Issued, LineTouch, attempt_in, attempt_seen, issued_with, stored_in, task_after, view_touched}
-use Rattle.prem_machine.specs.Hits.{ComesTo, IsHit, count_of, hit_of, lines_of, lines_there, stores_in}
-use Rattle.prem_machine.specs.Issue.Attempts.{CanIssue}
-use Rattle.prem_machine.specs.Issue.Coming.{IsExecuted, cost_at, load_access, load_effect}
+use Rattle.prem_machine.proofs.Hitting.{stays_moved}
 use Rattle.prem_machine.proofs.IssueLemmas.Costs.{Costs, word_costs}
 use Rattle.prem_machine.proofs.IssueLemmas.Executed.{executed, goes_aligned}
-use Rattle.prem_machine.proofs.Hitting.{stays_moved}
+use Rattle.std.specs.Prelude.{◌/◌, ◌%◌, false}
 
 -- a line that is found
 pub found_touch : (rule : ReplacementRule) (c : CacheState) (line : ℕ) (memory : List ℕ) → is_resident c line ≡ true →

@@ -1,39 +1,18 @@
 -- Instructions that hit, one behind the other, are cycles of the machine.
-use Rattle.std.specs.Prelude.{◌/◌, slice_set}
-use Rattle.std.proofs.Common.{◌≡◌, ℕ, zero, suc, ◌+◌, ◌≤◌, ◌<◌, Bool, false, List, [], ◌∷◌, None, Some, Option, length, map, get_or, refl, ap, sym, ◌∙◌, subst, arith}
-use Rattle.std.proofs.lemmas.List.{get_or-set_same, set-get_or, set-set}
-use Rattle.std.proofs.lemmas.List.Sums.{sum_by-set}
-use Rattle.prem_plant.specs.declared.plant.Plant.{Plant}
-use Rattle.prem_isa.specs.declared.instr.Instr.{Instr}
-use Rattle.prem_isa.specs.declared.instr.Instr.TheVariants.{Lui, Auipc, Jal, Jalr, Branch, Load, Store, OpImm, Op, MulDiv, Fence, Ecall, Ebreak, PmMem, PmExec, PmEnd, PmDone, PmIn, PmOut}
+use Rattle.prem_machine.proofs.Prelude.{cycles_of-add, CoreTurn, Issues, core_issue, core_issued, core_turn, is_full, log_size, output_count, Attempt, Executes, Issued, attempt_behind}
+use Rattle.prem_machine.proofs.Prelude.{attempt_in, attempt_of, attempt_seen, issued_with, owed_by, task_after, task_changed, task_moved, view_touched, with_store, with_touch, with_touches}
+use Rattle.prem_machine.proofs.Prelude.{cycles_of, lacks_word, CoreState, Counts, MachineState, Setup, Task, first_task, no_record, record_of, rule_in, task_in, Request, TaskRecord, cost_of}
+use Rattle.prem_machine.proofs.Prelude.{Change, Stay, Effect, Phase, Stored, Instr, Lui, Auipc, Jal, Jalr, Branch, Load, Store, OpImm, Op, MulDiv, Fence, Ecall, Ebreak, PmMem, PmExec, PmEnd}
+use Rattle.prem_machine.proofs.Prelude.{PmDone, PmIn, PmOut, touch_of, view_of, rule_of, HitsAreCycles, IsNext, Leads, here, then_hits, Spot, counts_at, hit_of, spot_in, stores_in, work_at}
+use Rattle.prem_machine.proofs.Prelude.{bus_cycles, AreSilent, IsLone, Plant, ◌≡◌, ℕ, zero, suc, ◌+◌, ◌≤◌, ◌<◌, Bool, false, List, [], ◌∷◌, None, Some, Option, length, map, get_or, refl, ap}
+use Rattle.prem_machine.proofs.Prelude.{sym, ◌∙◌, subst, arith, get_or-set_same, set-get_or, set-set, sum_by-set, slice_set}
 use Rattle.prem_isa.specs.declared.instr.MulDivOp.{MulDivOp}
-use Rattle.prem_isa.specs.declared.instr.MulDivOp.TheVariants as ops
-use Rattle.prem_isa.specs.declared.effect.Change.{Change}
-use Rattle.prem_isa.specs.declared.effect.Change.TheVariants.{Stay}
-use Rattle.prem_isa.specs.declared.effect.Effect.{Effect}
-use Rattle.prem_isa.specs.declared.effect.Phase.{Phase}
-use Rattle.prem_isa.specs.declared.effect.Stored.{Stored}
-use Rattle.prem_isa.specs.Decode.{cost_of}
-use Rattle.prem_lru.specs.CacheState.{touch_of, view_of}
-use Rattle.prem_gate.specs.declared.request.Request.{Request}
-use Rattle.prem_image.specs.declared.image.TaskRecord.{TaskRecord}
-use Rattle.prem_cycle.specs.State.{CoreState, Counts, MachineState, Setup, Task, first_task, no_record, record_of, rule_in, task_in}
-use Rattle.prem_cycle.specs.Issue.{Attempt, Executes, Issued, attempt_behind, attempt_in, attempt_of, attempt_seen, issued_with, owed_by, task_after, task_changed, task_moved}
-use Rattle.prem_cycle.specs.Issue.{view_touched, with_store, with_touch, with_touches}
-use Rattle.prem_cycle.specs.Core.{CoreTurn, Issues, core_issue, core_issued, core_turn}
-use Rattle.prem_cycle.specs.Cycle.{is_full, log_size, output_count}
-use Rattle.prem_cycle.specs.Run.{cycles_of}
-use Rattle.prem_cycle.proofs.RunLaws.{cycles_of-add}
-use Rattle.prem_machine.specs.Owed.{bus_cycles}
-use Rattle.prem_machine.specs.Stretch.{IsLone}
-use Rattle.prem_cycle.specs.Runs.Window.Wants.{lacks_word}
-use Rattle.prem_lru.specs.Rules.{rule_of}
-use Rattle.prem_machine.specs.Silent.{AreSilent}
-use Rattle.prem_machine.proofs.Silence.{lone_silent, seen_lacks, silent_none, silent_then}
-use Rattle.prem_machine.specs.Hits.{HitsAreCycles, IsNext, Leads, here, then_hits, Spot, counts_at, hit_of, spot_in, stores_in, work_at}
 use Rattle.prem_machine.proofs.Lonely.{as_lone, lone_cycles, lone_state}
 use Rattle.prem_machine.proofs.Plainly.{put_more}
+use Rattle.prem_machine.proofs.Silence.{lone_silent, seen_lacks, silent_none, silent_then}
 use Rattle.prem_machine.proofs.Stretching.{not_full}
+use Rattle.std.specs.Prelude.{◌/◌}
+use Rattle.prem_isa.specs.declared.instr.MulDivOp.TheVariants as ops
 
 -- ---- one of them
 

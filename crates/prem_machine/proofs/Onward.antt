@@ -1,25 +1,9 @@
 -- What instructions that hit make of the machine's parts.
-use Rattle.std.proofs.Common.{◌≡◌, ℕ, zero, suc, ◌+◌, ◌*◌, ◌≤◌, ◌<◌, List, [], ◌∷◌, None, All, length, map, get_or, refl, ap, sym, ◌∙◌, subst, arith}
-use Rattle.std.proofs.lemmas.List.Sums.{sum_by-cons}
-use Rattle.prem_machine.proofs.Arriving.{all_unmap}
-use Rattle.prem_list.specs.Sequence.{items_of, room_of}
-use Rattle.prem_list.specs.declared.Sequence.{Sequence}
-use Rattle.prem_gate.specs.declared.request.Request.{Request}
-use Rattle.prem_gate.specs.Ranges.{LiesIn}
-use Rattle.prem_cycle.specs.declared.facts.TaskFacts.{TaskFacts}
-use Rattle.prem_cycle.specs.State.{Task, first_task, no_record, rule_in, task_in}
-use Rattle.prem_cycle.specs.Cycle.{log_size, output_count}
-use Rattle.prem_cycle.specs.Run.{cycles_of}
-use Rattle.prem_machine.specs.declared.parts.Parts.{Parts}
-use Rattle.prem_machine.specs.declared.work.Setting.{Setting}
-use Rattle.prem_machine.specs.declared.work.Works.{Works}
-use Rattle.prem_machine.specs.Hits.{LeadsTo, spot_at, state_at}
-use Rattle.prem_machine.specs.Log.{ended_in, put_out}
-use Rattle.prem_machine.specs.Parts.{HasRooms, Runs, Stands, state_of}
-use Rattle.prem_machine.specs.Stretch.{IsLone}
-use Rattle.prem_machine.specs.Work.{setup_in, tasks_in, work_in}
+use Rattle.prem_machine.proofs.Prelude.{log_size, output_count, cycles_of, Task, first_task, no_record, rule_in, task_in, TaskFacts, LiesIn, Request, items_of, room_of, Sequence, LeadsTo}
+use Rattle.prem_machine.proofs.Prelude.{spot_at, state_at, ended_in, put_out, HasRooms, Runs, Stands, state_of, AreSilent, IsLone, setup_in, tasks_in, work_in, Parts, Setting, Works, ◌≡◌, ℕ}
+use Rattle.prem_machine.proofs.Prelude.{zero, suc, ◌+◌, ◌*◌, ◌≤◌, ◌<◌, List, [], ◌∷◌, None, All, length, map, get_or, refl, ap, sym, ◌∙◌, subst, arith, sum_by-cons}
 use Rattle.prem_machine.proofs.Advancing.{rooms_kept, same_state}
-use Rattle.prem_machine.specs.Silent.{AreSilent}
+use Rattle.prem_machine.proofs.Arriving.{all_unmap}
 use Rattle.prem_machine.proofs.Hitting.{hits_are_cycles, leads_far, leads_silent, put_there}
 use Rattle.prem_machine.proofs.Resting.{arrived_after, mode_after}
 use Rattle.prem_machine.proofs.Telling.{cores_told, outputs_told}

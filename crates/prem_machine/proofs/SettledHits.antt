@@ -1,29 +1,11 @@
 -- An instruction from a line whose touch finds it and changes nothing.
-use Rattle.std.specs.Prelude.{◌/◌, ◌%◌, false, true, slice_index}
-use Rattle.std.proofs.Common.{◌≡◌, ◌+◌, ◌≤◌, ℕ, Bool, arith, List, [], ◌∷◌, Option, None, Some, refl, ap, sym, ◌∙◌}
-use Rattle.prem_word.specs.Bytes.{number_at}
-use Rattle.prem_isa.specs.Alu.{load_size}
-use Rattle.prem_isa.specs.declared.instr.Instr.{Instr}
-use Rattle.prem_isa.specs.declared.effect.Access.{Access}
-use Rattle.prem_isa.specs.declared.effect.Change.TheVariants.{Stay}
-use Rattle.prem_isa.specs.declared.effect.DataLoad.{DataLoad}
-use Rattle.prem_isa.specs.declared.effect.Effect.{Effect}
-use Rattle.prem_isa.specs.declared.effect.Phase.{Phase}
-use Rattle.prem_isa.specs.declared.effect.Stored.{Stored}
-use Rattle.prem_isa.specs.Decode.{cost_of, decode_of}
-use Rattle.prem_isa.specs.Fields.{fields_of}
-use Rattle.prem_isa.specs.Step.{UpshotFits, act_of, told_by}
-use Rattle.prem_isa.specs.declared.step.Upshot.{Upshot}
-use Rattle.prem_plant.specs.declared.plant.Plant.{Plant}
-use Rattle.prem_image.specs.declared.image.TaskRecord.{TaskRecord}
-use Rattle.prem_lru.specs.CacheState.{CacheState, Touched, touch_of, view_of}
-use Rattle.prem_lru.specs.Rules.{rule_of}
-use Rattle.prem_cycle.specs.State.{Task}
-use Rattle.prem_cycle.specs.Issue.{Executes, Issued, attempt_in, attempt_seen, is_memory, issued_with, one_if, stored_in, task_after, touched_with, view_touched}
-use Rattle.prem_machine.specs.Hits.{ComesTo, Finds, IsHit, hit_of, stores_in}
-use Rattle.prem_machine.specs.Issue.Coming.{IsExecuted, cost_at, load_access, load_effect}
+use Rattle.prem_machine.proofs.Prelude.{Executes, Issued, attempt_in, attempt_seen, is_memory, issued_with, one_if, stored_in, task_after, touched_with, view_touched, Task, TaskRecord}
+use Rattle.prem_machine.proofs.Prelude.{load_size, cost_of, decode_of, fields_of, UpshotFits, act_of, told_by, Access, Stay, DataLoad, Effect, Phase, Stored, Instr, Upshot, CacheState}
+use Rattle.prem_machine.proofs.Prelude.{Touched, touch_of, view_of, rule_of, ComesTo, Finds, IsHit, hit_of, stores_in, IsExecuted, cost_at, load_access, load_effect, Plant, number_at, ◌≡◌}
+use Rattle.prem_machine.proofs.Prelude.{◌+◌, ◌≤◌, ℕ, Bool, arith, List, [], ◌∷◌, Option, None, Some, refl, ap, sym, ◌∙◌, slice_index}
 use Rattle.prem_machine.proofs.Finding.{comes_to}
 use Rattle.prem_machine.proofs.Hitting.{stays_moved}
+use Rattle.std.specs.Prelude.{◌/◌, ◌%◌, false, true}
 
 pub word_comes : (p q : Plant) (view : ℕ → ℕ) (t : Task) (pc word cost : ℕ) (u : Upshot) → q ≡ p → pc ≡ t.pc → pc % 4 ≡ 0 → t.pc + 4 ≤ p.memory → word ≡ number_at view t.pc 4 →
     cost ≡ cost_at (fields_of word) →

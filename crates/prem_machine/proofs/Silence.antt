@@ -1,36 +1,12 @@
 -- In which cycles nothing comes to a task.
-use Rattle.std.specs.Prelude.{nat_le, ◌&&◌}
-use Rattle.std.proofs.Common.{◌≡◌, ℕ, zero, suc, ◌+◌, ◌-◌, ◌≤◌, ◌<◌, Bool, true, false, cond, List, [], ◌∷◌, None, Some, Option, length, refl, ap, sym, ◌∙◌, subst, arith, ⊎_elim}
-use Rattle.std.proofs.lemmas.Bool.{cases_lt}
-use Rattle.std.proofs.lemmas.Bool.Decides.{nat_tests}
-use Rattle.prem_plant.specs.declared.plant.Target.{Target}
-use Rattle.prem_sched.specs.declared.sched.TaskJobs.{TaskJobs}
-use Rattle.prem_isa.specs.declared.instr.Instr.{Instr}
-use Rattle.prem_isa.specs.declared.effect.Access.{Access}
-use Rattle.prem_isa.specs.declared.effect.Effect.{Effect}
-use Rattle.prem_isa.specs.declared.effect.Change.{Change}
-use Rattle.prem_isa.specs.declared.effect.Change.TheVariants.{Stay, Memory, Execute, End, Job}
-use Rattle.prem_lru.specs.Entries.{ReplacementRule}
-use Rattle.prem_gate.specs.declared.request.Request.{Request}
-use Rattle.prem_gate.specs.Gates.{Turned, bus_turn, wants}
-use Rattle.prem_cycle.specs.declared.state.Mode.{Mode}
-use Rattle.prem_cycle.specs.declared.state.Mode.TheVariants.{Point, Switching, Running, Idle}
-use Rattle.prem_cycle.specs.declared.state.Interval.{Interval}
-use Rattle.prem_cycle.specs.State.{Setup, Task, Work, Debt, CoreState, Counts, MachineState, task_in}
-use Rattle.prem_cycle.specs.Issue.{Attempt, Traps, Executes, attempt_of, attempt_seen, behind_touches}
-use Rattle.prem_cycle.specs.Core.{CoreMove, Passes, Issues, begin_switch, core_issued, core_turn, move_in, move_running, paid_on_bus, want_of}
-use Rattle.prem_cycle.specs.Cycle.{Arrivals, arrivals_at, bus_at, cycle_of, is_full, is_over, move_at, step_of, with_memory}
-use Rattle.prem_cycle.specs.Run.{CycleStep, cycles_of, step_by, step_in, step_with, wants_input_of, wants_word}
-use Rattle.prem_cycle.proofs.RunLaws.{cycles_of-add, step_of-goes}
-use Rattle.prem_cycle.specs.Runs.Dull.Dull.{AreDull, IsDull}
-use Rattle.prem_cycle.specs.Runs.Dull.Issuing.{idle_turn}
-use Rattle.prem_cycle.specs.Runs.Dull.Rest.{IsSteady, Within, core_rest, mode_rest, passed, running_rest}
-use Rattle.prem_cycle.specs.Runs.Window.Wants.{lacks_word}
-use Rattle.prem_cycle.proofs.RunsLemmas.DullLemmas.Dull.{dull_rest}
-use Rattle.prem_cycle.proofs.RunsLemmas.DullLemmas.Stretch.{fewer_rest, none_arrives, one_step, steady_later}
-use Rattle.prem_machine.specs.Owed.{bus_cycles, cycles_owed}
-use Rattle.prem_machine.specs.Silent.{AreSilent, ended_so_far}
-use Rattle.prem_machine.specs.Stretch.{IsLone}
+use Rattle.prem_machine.proofs.Prelude.{cycles_of-add, step_of-goes, dull_rest, fewer_rest, none_arrives, one_step, steady_later, CoreMove, Passes, Issues, begin_switch, core_issued}
+use Rattle.prem_machine.proofs.Prelude.{core_turn, move_in, move_running, paid_on_bus, want_of, Arrivals, arrivals_at, bus_at, cycle_of, is_full, is_over, move_at, step_of, with_memory}
+use Rattle.prem_machine.proofs.Prelude.{Attempt, Traps, Executes, attempt_of, attempt_seen, behind_touches, CycleStep, cycles_of, step_by, step_in, step_with, wants_input_of, wants_word}
+use Rattle.prem_machine.proofs.Prelude.{AreDull, IsDull, idle_turn, IsSteady, Within, core_rest, mode_rest, passed, running_rest, lacks_word, Setup, Task, Work, Debt, CoreState, Counts}
+use Rattle.prem_machine.proofs.Prelude.{MachineState, task_in, Interval, Mode, Point, Switching, Idle, Turned, bus_turn, wants, Request, Access, Change, Stay, Memory, Execute, End, Job}
+use Rattle.prem_machine.proofs.Prelude.{Effect, Instr, ReplacementRule, bus_cycles, cycles_owed, AreSilent, ended_so_far, IsLone, Target, TaskJobs, ◌≡◌, ℕ, zero, suc, ◌+◌, ◌-◌, ◌≤◌, ◌<◌}
+use Rattle.prem_machine.proofs.Prelude.{Bool, true, false, cond, List, [], ◌∷◌, None, Some, Option, length, refl, ap, sym, ◌∙◌, subst, arith, ⊎_elim, cases_lt, nat_tests, nat_le, ◌&&◌}
+use Rattle.prem_cycle.specs.declared.state.Mode.TheVariants.{Running}
 use Rattle.prem_machine.proofs.Lonely.{as_lone, issues, lone_state, not_over, owed_state, pays, pays_on_bus}
 
 -- ---- silent cycles one behind the other

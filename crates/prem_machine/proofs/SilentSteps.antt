@@ -1,38 +1,9 @@
 -- The cycles of instructions that take no input word.
-use Rattle.std.proofs.Common.{◌≡◌, ℕ, ◌+◌, ◌*◌, ◌≤◌, ◌<◌, false, List, Option, None, length, refl, ap, sym, ◌∙◌, subst, arith}
-use Rattle.prem_list.specs.Sequence.{items_of}
-use Rattle.prem_plant.specs.declared.plant.Plant.{Plant}
-use Rattle.prem_isa.specs.declared.effect.Access.{Access}
-use Rattle.prem_isa.specs.declared.effect.Effect.{Effect}
-use Rattle.prem_isa.specs.declared.effect.Outcome.TheVariants.{Done}
-use Rattle.prem_isa.specs.declared.step.Upshot.{Upshot}
-use Rattle.prem_isa.specs.Plain.{next_input}
-use Rattle.prem_isa.specs.Step.{told_by}
-use Rattle.prem_lru.specs.CacheState.{view_of}
-use Rattle.prem_gate.specs.declared.request.Request.{Request}
-use Rattle.prem_cycle.specs.declared.facts.Facts.{Facts}
-use Rattle.prem_cycle.specs.declared.state.Mode.{Mode}
-use Rattle.prem_cycle.specs.Issue.{LineTouch, attempt_in, attempt_of, owed_by}
-use Rattle.prem_cycle.specs.Cycle.{is_full, log_size, next_cycle, with_now}
-use Rattle.prem_cycle.specs.Run.{cycles_of}
-use Rattle.prem_cycle.specs.State.{Log, MachineState, rule_in, task_in}
-use Rattle.prem_cycle.specs.Runs.Window.Wants.{lacks_word}
+use Rattle.prem_machine.proofs.Prelude.{is_full, log_size, next_cycle, with_now, LineTouch, attempt_in, attempt_of, owed_by, cycles_of, lacks_word, Log, MachineState, rule_in, task_in}
+use Rattle.prem_machine.proofs.Prelude.{Facts, Mode, Request, next_input, told_by, Access, Effect, Done, Upshot, items_of, view_of, CoreParts, counts_in, put_out, ModeReady, bus_cycles}
+use Rattle.prem_machine.proofs.Prelude.{Runs, Stands, state_of, GoesOn, IsComing, IsKept, AreSilent, ended_so_far, IsLone, attempt_at, core_in, setup_in, work_in, Moment, Parts, Setting}
+use Rattle.prem_machine.proofs.Prelude.{Works, Plant, ◌≡◌, ℕ, ◌+◌, ◌*◌, ◌≤◌, ◌<◌, false, List, Option, None, length, refl, ap, sym, ◌∙◌, subst, arith}
 use Rattle.prem_cycle.proofs.CycleParts.{settle_keeps}
-use Rattle.prem_machine.specs.declared.moment.Moment.{Moment}
-use Rattle.prem_machine.specs.declared.parts.Parts.{Parts}
-use Rattle.prem_machine.specs.declared.work.Setting.{Setting}
-use Rattle.prem_machine.specs.declared.work.Works.{Works}
-use Rattle.prem_machine.specs.Issue.Cores.{CoreParts}
-use Rattle.prem_machine.specs.Issue.Counting.{counts_in}
-use Rattle.prem_machine.specs.Log.{put_out}
-use Rattle.prem_machine.specs.Moment.{ModeReady}
-use Rattle.prem_machine.specs.Owed.{bus_cycles}
-use Rattle.prem_machine.specs.Parts.{Runs, Stands, state_of}
-use Rattle.prem_machine.specs.Plain.{GoesOn, IsComing, IsKept}
-use Rattle.prem_machine.specs.Silent.{AreSilent, ended_so_far}
-use Rattle.prem_machine.specs.Stretch.{IsLone}
-use Rattle.prem_machine.specs.Wanted.{attempt_at, core_in}
-use Rattle.prem_machine.specs.Work.{setup_in, work_in}
 use Rattle.prem_machine.proofs.IssueLemmas.Executed.{executed}
 use Rattle.prem_machine.proofs.Silence.{issue_silent, lone_silent, one_is, seen_lacks}
 use Rattle.prem_machine.proofs.Stretching.{as_state, behind, goes_lone, has_room, kept_stands, turn_of}

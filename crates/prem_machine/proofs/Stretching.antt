@@ -1,44 +1,14 @@
 -- What one instruction that issues alone makes of the machine's parts.
-use Rattle.std.specs.Prelude.{nat_le, is_some, ◌||◌}
-use Rattle.std.proofs.Common.{◌≡◌, ℕ, ◌+◌, ◌*◌, ◌-◌, ◌≤◌, ◌<◌, Bool, true, false, List, [], ◌∷◌, None, All, length, refl, ap, sym, ◌∙◌, subst, arith}
-use Rattle.std.proofs.lemmas.Bool.Decides.{nat_tests}
-use Rattle.prem_list.specs.Sequence.{items_of, room_of}
-use Rattle.prem_isa.specs.declared.effect.Change.TheVariants.{Stay}
-use Rattle.prem_lru.specs.Entries.{ReplacementRule}
-use Rattle.prem_gate.specs.declared.request.Request.{Request}
-use Rattle.prem_gate.specs.declared.bus.CoreWant.TheVariants.{Held}
-use Rattle.prem_gate.specs.Ranges.{LiesIn}
-use Rattle.prem_cycle.specs.declared.state.Mode.{Mode}
-use Rattle.prem_cycle.specs.declared.facts.DeviceFacts.{DeviceFacts}
-use Rattle.prem_cycle.specs.declared.facts.Facts.{Facts}
-use Rattle.prem_cycle.specs.FactsOf.{devices_reported}
-use Rattle.prem_cycle.specs.Issue.{LineTouch, owed_by}
-use Rattle.prem_cycle.specs.Core.{CoreTurn, Issues, core_issued, core_turn, is_paid, want_of}
-use Rattle.prem_cycle.specs.Cycle.{is_finished, is_full, is_over, log_size, next_cycle, ticked}
-use Rattle.prem_cycle.specs.Run.{cycles_of}
-use Rattle.prem_cycle.specs.State.{Counts, Log, MachineState, Setup, rule_in}
-use Rattle.prem_cycle.proofs.RunLaws.{cycles_of-add, step_of-goes}
-use Rattle.prem_cycle.proofs.Time.{goes_untrapped}
-use Rattle.prem_cycle.specs.Runs.Dull.Issuing.{IssuesAlone, continues, issue_joined}
-use Rattle.prem_cycle.proofs.RunsLemmas.DullLemmas.Alone.{issues_alone}
-use Rattle.prem_machine.specs.declared.moment.Moment.{Moment}
-use Rattle.prem_machine.specs.declared.parts.Parts.{Parts}
-use Rattle.prem_machine.specs.declared.work.Setting.{Setting}
-use Rattle.prem_machine.specs.declared.work.Works.{Works}
-use Rattle.prem_machine.specs.Issue.Cores.{CoreParts}
-use Rattle.prem_machine.specs.Issue.Counting.{counts_in}
-use Rattle.prem_machine.specs.Log.{dropped_in, log_in, put_out}
-use Rattle.prem_machine.specs.Moment.{ModeReady, core_with}
-use Rattle.prem_machine.specs.Owed.{bus_cycles}
-use Rattle.prem_machine.specs.Parts.{Runs, Stands, state_of}
-use Rattle.prem_machine.specs.Plain.{GoesOn, IsKept}
-use Rattle.prem_machine.specs.Silent.{AreSilent}
-use Rattle.prem_machine.specs.Stretch.{IsLone}
-use Rattle.prem_machine.specs.Work.{setup_in, with_counts, work_in}
+use Rattle.prem_machine.proofs.Prelude.{cycles_of-add, step_of-goes, issues_alone, goes_untrapped, CoreTurn, Issues, core_issued, core_turn, is_paid, want_of, is_finished, is_full, is_over}
+use Rattle.prem_machine.proofs.Prelude.{log_size, next_cycle, ticked, devices_reported, LineTouch, owed_by, cycles_of, IssuesAlone, continues, issue_joined, Counts, Log, MachineState, Setup}
+use Rattle.prem_machine.proofs.Prelude.{rule_in, DeviceFacts, Facts, Mode, LiesIn, Held, Request, Stay, items_of, room_of, ReplacementRule, CoreParts, counts_in, dropped_in, log_in, put_out}
+use Rattle.prem_machine.proofs.Prelude.{ModeReady, core_with, bus_cycles, Runs, Stands, state_of, GoesOn, IsKept, AreSilent, IsLone, setup_in, with_counts, work_in, Moment, Parts, Setting}
+use Rattle.prem_machine.proofs.Prelude.{Works, ◌≡◌, ℕ, ◌+◌, ◌*◌, ◌-◌, ◌≤◌, ◌<◌, Bool, true, false, List, [], ◌∷◌, None, All, length, refl, ap, sym, ◌∙◌, subst, arith, nat_tests, nat_le}
+use Rattle.prem_machine.proofs.Prelude.{is_some, ◌||◌}
 use Rattle.prem_machine.proofs.Advancing.{few_kept, rooms_kept, rooms_left, same_state, ticked_went}
 use Rattle.prem_machine.proofs.Lonely.{as_lone, lone_cycles, lone_state}
-use Rattle.prem_machine.proofs.Silence.{silent_none, silent_then}
 use Rattle.prem_machine.proofs.Resting.{arrived_after, counts_more, mode_after, unclashed}
+use Rattle.prem_machine.proofs.Silence.{silent_none, silent_then}
 use Rattle.prem_machine.proofs.Telling.{cores_told, full_told}
 
 -- the parts with other work and facts, at another time, in another moment, where another core owes

@@ -1,10 +1,7 @@
 -- Runs up to where a word may come to a task.
-use Rattle.std.specs.Prelude.{◌≡◌, ℕ, ◌+◌, ◌≤◌, ◌<◌, None, Some}
-use Rattle.prem_cycle.specs.State.{rule_in}
-use Rattle.prem_cycle.specs.FactsOf.{stop_of}
-use Rattle.prem_cycle.specs.Run.{cycles_of, wants_input_of}
-use Rattle.prem_machine.specs.States.{Running, with_state}
+use Rattle.prem_machine.specs.Prelude.{stop_of, cycles_of, wants_input_of, rule_in, ◌≡◌, ℕ, ◌+◌, ◌≤◌, ◌<◌, None, Some}
 use Rattle.prem_machine.specs.Silent.{ended_so_far}
+use Rattle.prem_machine.specs.States.{Running, with_state}
 use Rattle.prem_machine.specs.declared.machine.deliveries.Halt.{Halt}
 use Rattle.prem_machine.specs.declared.machine.deliveries.Halt.TheVariants.{Stops, Wants, Ended}
 

@@ -1,23 +1,9 @@
 -- Instructions of one task that hit and go on in their interval, one behind the other. Time is in cycles.
-use Rattle.std.specs.Prelude.{◌≡◌, ℕ, suc, ◌+◌, ◌/◌, ◌%◌, ◌<◌, ◌≤◌, true, false, List, [], ◌∷◌, Option, None, Some, IfSome, length, map, slice_index, slice_set}
-use Rattle.prem_word.specs.Bytes.{number_at}
-use Rattle.prem_plant.specs.declared.plant.Plant.{Plant}
-use Rattle.prem_isa.specs.declared.instr.Instr.{Instr}
-use Rattle.prem_isa.specs.declared.effect.Access.{Access}
-use Rattle.prem_isa.specs.declared.effect.Change.TheVariants.{Stay}
-use Rattle.prem_isa.specs.declared.effect.Effect.{Effect}
-use Rattle.prem_isa.specs.declared.effect.Phase.{Phase}
+use Rattle.prem_machine.specs.Prelude.{log_size, output_count, Executes, LineTouch, attempt_in, attempt_seen, is_memory, issued_with, one_if, task_moved, view_touched, cycles_of, Counts}
+use Rattle.prem_machine.specs.Prelude.{MachineState, Setup, Task, Work, rule_in, task_in, Request, cost_of, decode_of, UpshotFits, act_of, told_by, Access, Stay, Effect, Phase, Instr}
+use Rattle.prem_machine.specs.Prelude.{Upshot, CacheState, is_resident, touch_of, view_of, rule_of, Plant, number_at, ◌≡◌, ℕ, suc, ◌+◌, ◌/◌, ◌%◌, ◌<◌, ◌≤◌, true, false, List, [], ◌∷◌}
+use Rattle.prem_machine.specs.Prelude.{Option, None, Some, IfSome, length, map, slice_index, slice_set}
 use Rattle.prem_isa.specs.declared.effect.Stored.{Stored}
-use Rattle.prem_isa.specs.declared.step.Upshot.{Upshot}
-use Rattle.prem_isa.specs.Decode.{cost_of, decode_of}
-use Rattle.prem_isa.specs.Step.{UpshotFits, act_of, told_by}
-use Rattle.prem_lru.specs.Rules.{rule_of}
-use Rattle.prem_lru.specs.CacheState.{CacheState, is_resident, touch_of, view_of}
-use Rattle.prem_gate.specs.declared.request.Request.{Request}
-use Rattle.prem_cycle.specs.State.{Counts, MachineState, Setup, Task, Work, rule_in, task_in}
-use Rattle.prem_cycle.specs.Issue.{Executes, LineTouch, attempt_in, attempt_seen, is_memory, issued_with, one_if, task_moved, view_touched}
-use Rattle.prem_cycle.specs.Cycle.{log_size, output_count}
-use Rattle.prem_cycle.specs.Run.{cycles_of}
 use Rattle.prem_machine.specs.Stretch.{IsLone}
 
 -- ---- one of them

@@ -1,9 +1,5 @@
 -- Cycles in which nothing comes to a task: no `pm.in` issues with its input words used up, and no transfer ends.
-use Rattle.std.specs.Prelude.{◌≡◌, ℕ, ◌≤◌, ◌<◌, List, None, length}
-use Rattle.prem_lru.specs.Entries.{ReplacementRule}
-use Rattle.prem_gate.specs.declared.request.Request.{Request}
-use Rattle.prem_cycle.specs.State.{Setup, MachineState}
-use Rattle.prem_cycle.specs.Run.{cycles_of, wants_input_of}
+use Rattle.prem_machine.specs.Prelude.{cycles_of, wants_input_of, Setup, MachineState, Request, ReplacementRule, ◌≡◌, ℕ, ◌≤◌, ◌<◌, List, None, length}
 
 -- the transfers that have ended so far
 abbrev pub ended_so_far : MachineState → ℕ

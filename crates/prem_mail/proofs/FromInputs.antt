@@ -1,20 +1,11 @@
 -- Lemmas of prem_inputs that it doesn't export: how a cycle takes input words, and steps that aren't past the end.
 use Rattle.std.specs.Prelude.{◌&&◌, nat_le}
-use Rattle.std.proofs.Common.{◌≡◌, ◌≢◌, ℕ, ◌≤◌, refl, ◌∙◌, sym, ⊎_elim, true, false, Option, Some, None, List, drop, length}
+use Rattle.std.proofs.Common.{◌≡◌, ◌≢◌, ℕ, refl, ◌∙◌, sym, ⊎_elim, true, false, Option, Some, None, length}
 use Rattle.std.proofs.lemmas.Bool.{cases_Bool}
 use Rattle.prem_cycle.specs.Run.{CycleStep, wants_word}
 use Rattle.prem_cycle.specs.Runs.Inputs.PastEnd.{is_past_end}
 use Rattle.prem_cycle.proofs.RunsLemmas.InputsLemmas.Turns.{past_of}
 use Rattle.prem_cycle.proofs.RunsLemmas.InputsLemmas.Wants.{past_is, wants}
-
--- ---- one effect
-
--- what is taken, and what is left, of some words
-record Split (words left : List ℕ) (used : ℕ) : Type 0 where
-  pub within : used ≤ length words
-  pub rest : left ≡ drop used words
-
--- ---- a cycle
 
 -- ---- steps that are not past the end
 

@@ -84,10 +84,6 @@ pub record GoesTo (limit : ℕ) (from m : Mailing) : Type 0 where
   pub feeds : m.feeds ≡ from.feeds
   pub left : cycles from (limit - m.mailed.state.now) m.mailed ≡ cycles from (limit - from.mailed.state.now) from.mailed
 
-abbrev going : Bool → ℕ
-going true = 0
-going false = 1
-
 next_trapped : (limit k : ℕ) (from : Mailing) (m : Mailed) (t : Option Trap) → m.state.trapped ≡ t → (t ≡ None → limit - m.state.now ≡ k) → cycles from (limit - m.state.now) m ≡ cycles from k m
 next_trapped limit k from m None e h = ap (λ n. cycles from n m) (h refl)
 next_trapped limit k from m (Some t) e h =

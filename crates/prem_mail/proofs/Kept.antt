@@ -1,6 +1,6 @@
 -- What a run in memory keeps.
-use Rattle.std.specs.Prelude.{is_some, slice_index, slice_index_or}
-use Rattle.std.proofs.Common.{◌≡◌, ℕ, zero, suc, ◌+◌, ◌<◌, ◌≤◌, true, false, List, [], ◌∷◌, ◌++◌, Option, None, Some, refl, ap, sym, ◌∙◌, subst, arith, ⊎_elim, length, drop}
+use Rattle.std.specs.Prelude.{is_some, slice_index_or}
+use Rattle.std.proofs.Common.{◌≡◌, ℕ, zero, suc, ◌<◌, ◌≤◌, true, false, List, [], ◌∷◌, ◌++◌, Option, None, Some, refl, ap, sym, ◌∙◌, subst, arith, ⊎_elim, length, drop}
 use Rattle.std.proofs.Common.{slice_set, length-append, length-set, All}
 use Rattle.std.proofs.lemmas.Bool.{cases_Bool, cases_eq}
 use Rattle.std.proofs.lemmas.List.{get_or-set_same, get_or-set_other, map-set, length-map}
@@ -125,19 +125,3 @@ cycled_keeps r feeds words lost s is h =
       few = few_more lost (length r.state.log.transfers) (length (step_of (rule_in r.setup) r.setup r.requests r.state).log.transfers)
           (more_transfers (rule_in r.setup) r.setup r.requests r.state) h.few;
     })
-
--- ---- a value is lost
-
-lost_keeps : (r : Running) (feeds : List Feed) (words : Sequence (Sequence ℕ)) (lost : List ℕ) (k : ℕ) → HoldsMail r feeds words lost →
-    k < length lost → All (λ n. n < length r.state.log.transfers) lost →
-    HoldsMail r feeds words (slice_set lost k (slice_index lost k + 1))
-lost_keeps r feeds words lost k h lt room =
-    record {
-      count = h.count;
-      counts = length-set lost k (slice_index lost k + 1) ∙ h.counts;
-      tasks = h.tasks;
-      rooms = h.rooms;
-      taken = h.taken;
-      known = h.known;
-      few = All-set (λ n. n ≤ length r.state.log.transfers) lost k (slice_index lost k + 1) (let x = room k 0 lt in omega (arith, x)) h.few;
-    }

@@ -1,14 +1,10 @@
 -- Runs in which devices feed tasks: the input words that are delivered within some cycles.
 use Rattle.std.specs.Prelude.{ℕ, zero, suc, ◌+◌, ◌&&◌, nat_lt, Bool, if◌then◌else◌, List, [], ◌∷◌, length, map, Option, None, Some, is_some, slice_get, slice_index, slice_index_or, slice_set}
-use Rattle.prem_list.specs.Sequence.{items_of}
 use Rattle.prem_lru.specs.Entries.{ReplacementRule}
 use Rattle.prem_gate.specs.declared.request.Request.{Request}
 use Rattle.prem_gate.specs.declared.bus.Transfer.{Transfer}
-use Rattle.prem_gate.specs.declared.request.RunInput.{RunInput}
-use Rattle.prem_image.specs.declared.image.Image.{Image}
 use Rattle.prem_cycle.specs.State.{Setup, MachineState}
 use Rattle.prem_cycle.specs.FactsOf.{inputs_size}
-use Rattle.prem_cycle.specs.Inputs.{setup_of, words_of}
 use Rattle.prem_cycle.specs.Run.{run_of, wants_input_of}
 use Rattle.prem_cycle.specs.Runs.Inputs.Extended.{with_word_for}
 use Rattle.prem_mail.specs.declared.feed.Feed.{Feed}
@@ -77,8 +73,3 @@ unfoldable pub delivered_in : ReplacementRule → Setup → (content : List ℕ)
 delivered_in rule p content inputs requests feeds zero = at_first p inputs
 delivered_in rule p content inputs requests feeds (suc n) =
     with_cycle rule p requests feeds (λ lists. run_of rule p content lists requests) n (delivered_in rule p content inputs requests feeds n)
-
--- to the tasks of an image
-abbrev pub delivered : ReplacementRule → Image → RunInput → List Feed → ℕ → Delivery
-delivered rule image run feeds n =
-    delivered_in rule (setup_of image) (items_of image.content) (words_of run) (items_of run.requests) feeds n

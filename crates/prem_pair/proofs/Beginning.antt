@@ -1,21 +1,10 @@
 -- Two cores before their first cycle.
-use Rattle.std.proofs.Common.{◌≡◌, ◌*◌, List, ap, sym, ◌∙◌, subst}
-use Rattle.prem_list.specs.Sequence.{items_of}
-use Rattle.prem_gate.specs.declared.request.Request.{Request}
+use Rattle.prem_pair.proofs.Prelude.{image_run, setup_of, words_of, cycles_of, rule_in, MachineState, GatesState, Request, items_of, runs_first, state_first, state_of, Parts, GoOn, pair_of}
+use Rattle.prem_pair.proofs.Prelude.{PairState, pair_cycles, pair_run, Arrives, Nobody, ◌≡◌, ◌*◌, List, ap, sym, ◌∙◌, subst}
 use Rattle.prem_gate.specs.declared.request.RunInput.{RunInput}
-use Rattle.prem_gate.specs.Gates.{GatesState}
 use Rattle.prem_image.specs.declared.image.Image.{Image}
-use Rattle.prem_cycle.specs.State.{rule_in, MachineState}
-use Rattle.prem_cycle.specs.Inputs.{image_run, setup_of, words_of}
-use Rattle.prem_cycle.specs.Run.{cycles_of}
-use Rattle.prem_machine.specs.declared.parts.Parts.{Parts}
-use Rattle.prem_machine.specs.Parts.{Runs, state_of}
+use Rattle.prem_machine.specs.Parts.{Runs}
 use Rattle.prem_machine.specs.Start.{StartsAs}
-use Rattle.prem_machine.proofs.Starting.{runs_first, state_first}
-use Rattle.prem_pair.specs.declared.cycles.state.Holder.TheVariants.{Nobody}
-use Rattle.prem_pair.specs.Cycles.Pair.{PairState, pair_cycles, pair_run}
-use Rattle.prem_pair.specs.Sides.{Arrives}
-use Rattle.prem_pair.specs.BothOf.{GoOn, pair_of}
 
 pub goes_first : {P Q : Type 0} (image behind : Image) (run other : RunInput) (requests : List Request) (x : Parts P) (y : Parts Q) →
     requests ≡ items_of run.requests → StartsAs image run x → StartsAs behind other y →

@@ -1,23 +1,9 @@
 -- How the parts of a cycle make up the cycle of two cores.
-use Rattle.std.specs.Prelude.{◌&&◌, is_some}
-use Rattle.std.proofs.Common.{◌≡◌, ◌≢◌, ℕ, ◌+◌, refl, ap, ◌∙◌, sym, arith, cond, leb, Some, None, Option, true, false, Bool, List, subst}
-use Rattle.std.proofs.lemmas.Bool.{cond_both}
-use Rattle.prem_gate.specs.declared.request.Request.{Request}
-use Rattle.prem_gate.specs.declared.bus.Window.{Window}
-use Rattle.prem_gate.specs.declared.bus.Carried.{Carried}
-use Rattle.prem_gate.specs.declared.bus.CoreWant.{CoreWant}
-use Rattle.prem_gate.specs.declared.bus.CoreWant.TheVariants.{No, New, Held}
-use Rattle.prem_gate.specs.Gates.{GatesState, Turned, startable, taken, ends, goes_on, carries, starts, bus_free, bus_with, bus_turn, wants}
-use Rattle.prem_cycle.specs.State.{Setup, rule_in, Counts, MachineState}
-use Rattle.prem_cycle.specs.Cycle.{Arrivals, arrivals_at, with_clash}
-use Rattle.prem_cycle.specs.State.{CoreState}
-use Rattle.prem_cycle.specs.Core.{want_of}
-use Rattle.prem_pair.specs.declared.cycles.state.Holder.{Holder}
-use Rattle.prem_pair.specs.declared.cycles.state.Holder.TheVariants.{Nobody, First, Second, Gates}
-use Rattle.prem_pair.specs.Cycles.Token.{holder_after, is_first, is_second, window_given, want_with}
-use Rattle.prem_pair.specs.Cycles.Pair.{PairState, bus_first, first_acted, second_acted, ended_in_place, both_ticked, second_done, pair_cycle}
-use Rattle.prem_pair.specs.Sides.{bus_done, core_done, move_had}
-use Rattle.prem_pair.specs.BothOf.{holder_in, bus_in}
+use Rattle.prem_pair.proofs.Prelude.{want_of, Arrivals, arrivals_at, with_clash, Setup, rule_in, Counts, MachineState, CoreState, GatesState, Turned, startable, taken, ends, goes_on}
+use Rattle.prem_pair.proofs.Prelude.{carries, starts, bus_free, bus_with, bus_turn, wants, Carried, CoreWant, No, New, Held, Window, Request, holder_in, bus_in, PairState, bus_first}
+use Rattle.prem_pair.proofs.Prelude.{first_acted, second_acted, ended_in_place, both_ticked, second_done, pair_cycle, holder_after, is_first, is_second, window_given, want_with, bus_done}
+use Rattle.prem_pair.proofs.Prelude.{core_done, move_had, Holder, Nobody, First, Second, Gates, ◌≡◌, ◌≢◌, ℕ, ◌+◌, refl, ap, ◌∙◌, sym, arith, cond, leb, Some, None, Option, true, false, Bool}
+use Rattle.prem_pair.proofs.Prelude.{List, subst, cond_both, ◌&&◌, is_some}
 
 -- ---- the cores
 

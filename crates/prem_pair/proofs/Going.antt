@@ -1,18 +1,10 @@
 -- A run of two cores that goes on until it stops.
-use Rattle.std.specs.Prelude.{◌==◌, ◌||◌, ◌&&◌, is_some, if◌then◌else◌}
-use Rattle.std.specs.Bool.{then_some}
-use Rattle.std.proofs.Common.{◌≡◌, ℕ, ◌+◌, ◌*◌, ◌-◌, ◌<◌, ◌≤◌, Bool, true, false, cond, Option, Some, None, refl, ap, sym, ◌∙◌, arith, ◌⊎◌, inl, inr}
-use Rattle.std.proofs.lemmas.Bool.Decides.{nat_tests}
-use Rattle.prem_cycle.specs.State.{rule_in}
-use Rattle.prem_cycle.specs.declared.state.Trap.{Trap}
-use Rattle.prem_cycle.specs.Cycle.{is_full, log_size}
+use Rattle.prem_pair.proofs.Prelude.{is_full, log_size, rule_in, Trap, PairState, both_finished, full_stop, is_pair_over, one_trapped, pair_cycle, pair_cycles, pair_step, pair_stop_of}
+use Rattle.prem_pair.proofs.Prelude.{trap_stop, cycles_taken, PairRunning, with_state, PairStop, Finished, LogFull, Limit, ◌≡◌, ℕ, ◌+◌, ◌*◌, ◌-◌, ◌<◌, ◌≤◌, Bool, true, false, cond, Option}
+use Rattle.prem_pair.proofs.Prelude.{Some, None, refl, ap, sym, ◌∙◌, arith, ◌⊎◌, inl, inr, nat_tests, ◌==◌, ◌||◌, ◌&&◌, is_some, if◌then◌else◌}
 use Rattle.prem_machine.proofs.Going.{going_most}
-use Rattle.prem_pair.specs.declared.cycles.state.PairStop.{PairStop}
-use Rattle.prem_pair.specs.declared.cycles.state.PairStop.TheVariants.{Finished, LogFull, Limit}
-use Rattle.prem_pair.specs.Cycles.Pair.{PairState, both_finished, full_stop, is_pair_over, one_trapped, pair_cycle, pair_cycles, pair_step, pair_stop_of, trap_stop}
-use Rattle.prem_pair.specs.MayStretch.{cycles_taken}
-use Rattle.prem_pair.specs.States.{PairRunning, with_state}
 use Rattle.prem_pair.proofs.CyclesLemmas.PairRuns.{pair_cycles-add, pair_cycles-over}
+use Rattle.std.specs.Bool.{then_some}
 
 abbrev stop_by : Bool → (t u : Option Trap) → (f g last : Bool) → Option PairStop
 stop_by fin t u f g last = cond fin (Some Finished) (trap_stop 0 t (trap_stop 1 u (full_stop 0 f (full_stop 1 g (cond last (Some Limit) None)))))
@@ -249,17 +241,6 @@ takes_less_by limit s t true e on le most some =
 
 pub takes_less : (limit : ℕ) (s t : PairState) → is_pair_over s ≡ false → s.first.now ≤ t.first.now → t.first.now ≤ limit → 1 ≤ cycles_taken s t → cycles_left limit t < cycles_left limit s
 takes_less limit s t on le most some = takes_less_by limit s t (one_trapped t) refl on le most some
-
--- whether some are taken
-pub later_takes : (s t : PairState) → s.first.now < t.first.now → 1 ≤ cycles_taken s t
-later_takes s t lt = omega (arith, lt)
-
-trap_by : (b : Bool) (n : ℕ) → b ≡ true → 1 ≤ n + (if b then 1 else 0)
-trap_by true n e = omega arith
-trap_by false n e = absurd (cc)
-
-pub trap_takes : (s t : PairState) → one_trapped t ≡ true → 1 ≤ cycles_taken s t
-trap_takes s t e = trap_by (one_trapped t) (t.first.now - s.first.now) e
 
 none_by_test : (b : Bool) (n : ℕ) → b ≡ false → n ≡ 0 → n + (if b then 1 else 0) ≡ 0
 none_by_test true n e z = absurd (cc)

@@ -1,3 +1,4 @@
+pub mod Prelude
 pub mod Meeting
 pub mod Cycling
 pub mod Going

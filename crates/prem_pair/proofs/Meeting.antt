@@ -1,16 +1,7 @@
 -- What arrivals, the token and the bus come to.
-use Rattle.std.specs.Prelude.{◌&&◌}
-use Rattle.std.proofs.Common.{◌≡◌, ◌≢◌, ℕ, zero, suc, ◌+◌, refl, ap, ◌∙◌, arith, cond, leb, Some, None, Option, true, false, Bool, List, [], ◌∷◌}
-use Rattle.std.proofs.lemmas.Bool.{lt-leb}
-use Rattle.prem_gate.specs.declared.request.Request.{Request}
-use Rattle.prem_gate.specs.declared.bus.Window.{Window}
-use Rattle.prem_gate.specs.declared.bus.Carried.{Carried}
-use Rattle.prem_gate.specs.declared.bus.CoreWant.{CoreWant}
-use Rattle.prem_gate.specs.declared.bus.CoreWant.TheVariants.{No, New, Held}
-use Rattle.prem_gate.specs.Gates.{GateState, GatesState, fits, start_of, first_of, startable_from, startable, bus_with, bus_turn, wants}
-use Rattle.prem_pair.specs.declared.cycles.state.Holder.{Holder}
-use Rattle.prem_pair.specs.declared.cycles.state.Holder.TheVariants.{Nobody, First, Second, Gates}
-use Rattle.prem_pair.specs.Cycles.Token.{holder_with, empty_window, window_given, want_with, two_want, is_gates}
+use Rattle.prem_pair.proofs.Prelude.{GateState, GatesState, fits, start_of, first_of, startable_from, startable, bus_with, bus_turn, wants, Carried, CoreWant, No, New, Held, Window, Request}
+use Rattle.prem_pair.proofs.Prelude.{holder_with, empty_window, window_given, want_with, two_want, is_gates, Holder, Nobody, First, Second, Gates, ◌≡◌, ◌≢◌, ℕ, zero, suc, ◌+◌, refl, ap, ◌∙◌}
+use Rattle.prem_pair.proofs.Prelude.{arith, cond, leb, Some, None, Option, true, false, Bool, List, [], ◌∷◌, lt-leb, ◌&&◌}
 
 pub same_bus : (now : ℕ) (before h h' : Holder) (w : Window) (v x y x' y' : CoreWant) (g g' : GatesState) (memory : List ℕ) → h ≡ h' →
     w ≡ window_given now before h → v ≡ want_with h x y → x ≡ x' → y ≡ y' → g ≡ g' →

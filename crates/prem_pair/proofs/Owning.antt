@@ -1,45 +1,11 @@
 -- A core's parts behind a cycle of its own.
-use Rattle.std.specs.Prelude.{nat_le, ◌||◌, ◌&&◌, if◌then◌else◌}
-use Rattle.std.proofs.Common.{◌≡◌, ◌≢◌, ℕ, zero, suc, ◌+◌, ◌-◌, ◌*◌, ◌≤◌, ◌<◌, Bool, true, false, List, [], None, refl, ap, sym, ◌∙◌, subst, arith, All, length}
-use Rattle.std.proofs.lemmas.Bool.Decides.{nat_tests}
-use Rattle.prem_list.specs.Sequence.{items_of}
-use Rattle.prem_gate.specs.declared.request.Request.{Request}
-use Rattle.prem_gate.specs.declared.bus.CoreWant.{CoreWant}
-use Rattle.prem_gate.specs.declared.bus.CoreWant.TheVariants.{No, New, Held}
-use Rattle.prem_gate.specs.Gates.{wants}
-use Rattle.prem_gate.specs.Stretch.{is_new}
-use Rattle.prem_cycle.specs.Core.{paid_on_bus, want_of}
-use Rattle.prem_isa.specs.declared.effect.Change.TheVariants.{Stay}
+use Rattle.prem_pair.proofs.Prelude.{paid_on_bus, want_of, core_issued, is_full, log_size, LineTouch, owed_by, Debt, no_debt, rule_in, Mode, wants, is_new, CoreWant, No, New, Held, Request}
+use Rattle.prem_pair.proofs.Prelude.{Stay, items_of, same_state, counts_more, mode_after, behind, full_told, CoreParts, paid_once, counts_in, put_out, ModeReady, core_with, Stands, state_of}
+use Rattle.prem_pair.proofs.Prelude.{IsNextArrival, GoesOn, IsKept, setup_in, work_in, Moment, Parts, Setting, IsGoing, OwnCycle, OwnRun, no_cycle, one_more, PairState, clashes, stays_with}
+use Rattle.prem_pair.proofs.Prelude.{wanted, is_gates, two_want, MayStretch, Arrives, Goes, Holder, Nobody, First, Second, Gates, ◌≡◌, ◌≢◌, ℕ, zero, suc, ◌+◌, ◌-◌, ◌*◌, ◌≤◌, ◌<◌, Bool, true}
+use Rattle.prem_pair.proofs.Prelude.{false, List, [], None, refl, ap, sym, ◌∙◌, subst, arith, All, length, nat_tests, nat_le, ◌||◌, ◌&&◌, if◌then◌else◌}
 use Rattle.prem_cycle.specs.declared.facts.Facts.{Facts}
-use Rattle.prem_cycle.specs.declared.state.Mode.{Mode}
-use Rattle.prem_cycle.specs.Issue.{LineTouch, owed_by}
-use Rattle.prem_cycle.specs.Core.{core_issued}
-use Rattle.prem_cycle.specs.Cycle.{is_full, log_size}
-use Rattle.prem_cycle.specs.State.{Debt, no_debt, rule_in}
-use Rattle.prem_machine.specs.declared.moment.Moment.{Moment}
-use Rattle.prem_machine.specs.declared.parts.Parts.{Parts}
-use Rattle.prem_machine.specs.declared.work.Setting.{Setting}
 use Rattle.prem_machine.specs.declared.work.Works.{Works}
-use Rattle.prem_machine.specs.Log.{put_out}
-use Rattle.prem_machine.specs.Issue.Cores.{CoreParts, paid_once}
-use Rattle.prem_machine.specs.Moment.{ModeReady, core_with}
-use Rattle.prem_machine.specs.Parts.{Stands, state_of}
-use Rattle.prem_machine.specs.Plain.{GoesOn, IsKept}
-use Rattle.prem_machine.specs.Work.{setup_in, work_in}
-use Rattle.prem_machine.proofs.Advancing.{same_state}
-use Rattle.prem_machine.proofs.Resting.{counts_more, mode_after}
-use Rattle.prem_machine.proofs.Stretching.{behind}
-use Rattle.prem_machine.specs.Passing.{IsNextArrival}
-use Rattle.prem_machine.proofs.Telling.{full_told}
-use Rattle.prem_machine.specs.Issue.Counting.{counts_in}
-use Rattle.prem_pair.specs.declared.cycles.state.Holder.{Holder}
-use Rattle.prem_pair.specs.declared.cycles.state.Holder.TheVariants.{Nobody, First, Second, Gates}
-use Rattle.prem_pair.specs.Cycles.Token.{is_gates, two_want}
-use Rattle.prem_pair.specs.Cycles.Pair.{PairState, clashes}
-use Rattle.prem_pair.specs.Cycles.Rest.{stays_with, wanted}
-use Rattle.prem_pair.specs.Cycles.Own.{IsGoing, OwnCycle, OwnRun, no_cycle, one_more}
-use Rattle.prem_pair.specs.MayStretch.{MayStretch}
-use Rattle.prem_pair.specs.Sides.{Arrives, Goes}
 use Rattle.prem_pair.proofs.CyclesLemmas.Own.{as_going, going_state, issue_own, pay_own}
 
 pub kept_goes : {P : Type 0} (x : Parts P) (w : Works P) (f : Facts) (m : Moment) (c : CoreParts) → All (λ j. 1 ≤ j.period) x.sched →

@@ -1,28 +1,9 @@
 -- How far two cores rest, and what their parts keep where cycles are passed over.
-use Rattle.std.proofs.Common.{◌≡◌, ℕ, ◌+◌, ◌-◌, ◌*◌, ◌≤◌, true, false, List, ap, sym, ◌∙◌, subst, arith, All, length}
-use Rattle.prem_list.specs.Sequence.{items_of}
-use Rattle.prem_gate.specs.declared.request.Request.{Request}
-use Rattle.prem_gate.specs.Gates.{GateState, GatesState}
-use Rattle.prem_gate.specs.Ranges.{HasLine, LiesIn}
-use Rattle.prem_gate.specs.Stretch.{IsNextChange}
+use Rattle.prem_pair.proofs.Prelude.{NoneArrive, GateState, GatesState, HasLine, LiesIn, IsNextChange, Request, items_of, SameQueues, arrived_after, counts_more, mode_after, core_within}
+use Rattle.prem_pair.proofs.Prelude.{less_arrive, behind_within, behind_from, CoreParts, counts_in, dropped_in, ModeReady, Stands, IsNextArrival, cycle_behind, Moment, Parts, Setting}
+use Rattle.prem_pair.proofs.Prelude.{AreBoth, GoOn, pair_of, PairState, is_pair_over, IsSteadyPair, PairRests, rest_with, stays_with, wanted, empty_window, is_first, is_second, Arrives}
+use Rattle.prem_pair.proofs.Prelude.{Goes, Both, ◌≡◌, ℕ, ◌+◌, ◌-◌, ◌*◌, ◌≤◌, true, false, List, ap, sym, ◌∙◌, subst, arith, All, length}
 use Rattle.prem_cycle.specs.declared.state.Interval.{Interval}
-use Rattle.prem_cycle.specs.Runs.Dull.Rest.{NoneArrive}
-use Rattle.prem_machine.specs.Issue.Cores.{CoreParts}
-use Rattle.prem_machine.specs.declared.work.Setting.{Setting}
-use Rattle.prem_machine.specs.declared.moment.Moment.{Moment}
-use Rattle.prem_machine.specs.declared.parts.Parts.{Parts}
-use Rattle.prem_machine.specs.Log.{dropped_in}
-use Rattle.prem_machine.specs.Moment.{ModeReady}
-use Rattle.prem_machine.specs.Parts.{Stands}
-use Rattle.prem_machine.proofs.Resting.{SameQueues, arrived_after, counts_more, mode_after, core_within, less_arrive, behind_within, behind_from}
-use Rattle.prem_machine.specs.Passing.{IsNextArrival, cycle_behind}
-use Rattle.prem_machine.specs.Issue.Counting.{counts_in}
-use Rattle.prem_pair.specs.declared.both.Both.{Both}
-use Rattle.prem_pair.specs.Cycles.Token.{empty_window, is_first, is_second}
-use Rattle.prem_pair.specs.Cycles.Pair.{PairState, is_pair_over}
-use Rattle.prem_pair.specs.Cycles.Rest.{IsSteadyPair, PairRests, rest_with, stays_with, wanted}
-use Rattle.prem_pair.specs.Sides.{Arrives, Goes}
-use Rattle.prem_pair.specs.BothOf.{AreBoth, GoOn, pair_of}
 
 -- ---- how far both rest
 

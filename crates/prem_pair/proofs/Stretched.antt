@@ -1,26 +1,11 @@
 -- One core that runs while the other rests.
-use Rattle.std.specs.Prelude.{◌&&◌, ◌||◌}
-use Rattle.std.proofs.Common.{◌≡◌, ℕ, zero, ◌-◌, ◌≤◌, Bool, true, false, List, refl, ap, sym, ◌∙◌, arith}
-use Rattle.prem_lru.specs.Entries.{ReplacementRule}
-use Rattle.prem_gate.specs.declared.request.Request.{Request}
-use Rattle.prem_gate.specs.declared.bus.CoreWant.TheVariants.{No}
-use Rattle.prem_gate.specs.Gates.{wants}
-use Rattle.prem_cycle.specs.State.{Debt, Setup, MachineState}
-use Rattle.prem_cycle.specs.Core.{want_of}
-use Rattle.prem_cycle.specs.Cycle.{is_finished, is_finished_in, is_full}
-use Rattle.prem_cycle.specs.Runs.Dull.Rest.{Within}
-use Rattle.prem_cycle.proofs.RunsLemmas.DullLemmas.Steps.{not_ended}
-use Rattle.prem_machine.proofs.Resting.{less_arrive}
-use Rattle.prem_pair.specs.declared.cycles.state.Holder.{Holder}
-use Rattle.prem_pair.specs.declared.cycles.state.Holder.TheVariants.{Nobody, First, Second, Gates}
-use Rattle.prem_pair.specs.Cycles.Token.{frees, is_first, is_second, want_with}
-use Rattle.prem_pair.specs.Cycles.Pair.{PairState, both_finished, is_pair_over, one_trapped, pair_cycles}
-use Rattle.prem_pair.specs.Cycles.Rest.{IsSteadyPair, rest_with, side_passed, stays_with}
-use Rattle.prem_pair.specs.Cycles.Own.{IsGoing, MayRunApart, OwnRun}
-use Rattle.prem_pair.specs.MayStretch.{MayStretch}
+use Rattle.prem_pair.proofs.Prelude.{not_ended, want_of, is_finished, is_finished_in, is_full, Within, Debt, Setup, MachineState, wants, No, Request, ReplacementRule, less_arrive, IsGoing}
+use Rattle.prem_pair.proofs.Prelude.{MayRunApart, OwnRun, PairState, both_finished, is_pair_over, one_trapped, pair_cycles, IsSteadyPair, rest_with, side_passed, stays_with, frees, is_first}
+use Rattle.prem_pair.proofs.Prelude.{is_second, want_with, MayStretch, Holder, Nobody, First, Second, Gates, ◌≡◌, ℕ, zero, ◌-◌, ◌≤◌, Bool, true, false, List, refl, ap, sym, ◌∙◌, arith, ◌&&◌}
+use Rattle.prem_pair.proofs.Prelude.{◌||◌}
 use Rattle.prem_pair.proofs.CyclesLemmas.OneCycle.{paired}
-use Rattle.prem_pair.proofs.CyclesLemmas.Rests.{unnot, untrapped}
 use Rattle.prem_pair.proofs.CyclesLemmas.Own.{own_runs, rest_own}
+use Rattle.prem_pair.proofs.CyclesLemmas.Rests.{unnot, untrapped}
 use Rattle.prem_pair.proofs.Going.{one_rests}
 
 pub none_taken : (rule other : ReplacementRule) (p q : Setup) (requests : List Request) (n : ℕ) (s : PairState) → s ≡ pair_cycles rule other p q requests (n - n) s

@@ -1,39 +1,16 @@
 -- Two cores that run side by side.
-use Rattle.std.specs.Prelude.{◌&&◌, ◌||◌, if◌then◌else◌}
-use Rattle.std.proofs.Common.{◌≡◌, ◌≢◌, ℕ, suc, ◌+◌, ◌-◌, ◌≤◌, ◌<◌, Bool, true, false, List, [], None, refl, ap, sym, ◌∙◌, arith, length}
-use Rattle.prem_list.specs.Sequence.{items_of}
-use Rattle.prem_lru.specs.Entries.{ReplacementRule}
-use Rattle.prem_gate.specs.declared.request.Request.{Request}
-use Rattle.prem_gate.specs.declared.bus.CoreWant.TheVariants.{No, New}
-use Rattle.prem_gate.specs.Gates.{is_held, wants}
-use Rattle.prem_cycle.specs.State.{Counts, Setup, MachineState, rule_in}
-use Rattle.prem_cycle.specs.Core.{want_of}
-use Rattle.prem_cycle.specs.Cycle.{is_finished, is_full, log_size}
-use Rattle.prem_machine.specs.declared.parts.Parts.{Parts}
-use Rattle.prem_machine.specs.declared.work.Setting.{Setting}
-use Rattle.prem_machine.specs.Log.{put_out}
-use Rattle.prem_machine.specs.Parts.{state_of}
-use Rattle.prem_machine.specs.Work.{setup_in}
-use Rattle.prem_machine.proofs.Resting.{unclashed}
-use Rattle.prem_machine.proofs.Stretching.{has_room}
-use Rattle.prem_pair.specs.declared.both.Both.{Both}
-use Rattle.prem_pair.specs.declared.cycles.state.Holder.{Holder}
-use Rattle.prem_pair.specs.declared.cycles.state.Holder.TheVariants.{Nobody, First, Second, Gates}
-use Rattle.prem_pair.specs.Cycles.Token.{holder_after, is_first, is_second, want_with}
-use Rattle.prem_pair.specs.Cycles.Pair.{PairState, both_finished, is_pair_over, one_trapped, pair_cycle, pair_cycles}
-use Rattle.prem_pair.specs.Cycles.Rest.{wanted}
-use Rattle.prem_pair.specs.Cycles.Apart.{AreApart, own_cycle, own_part}
-use Rattle.prem_pair.specs.Cycles.Own.{IsGoing, OwnCycle}
-use Rattle.prem_pair.specs.MayStretch.{MayStretch, cycles_taken}
-use Rattle.prem_pair.specs.Sides.{Arrives, core_done, move_had}
-use Rattle.prem_pair.specs.BothOf.{AreBoth, GoOn, pair_of}
-use Rattle.prem_pair.proofs.CyclesLemmas.PairRuns.{pair_cycles-add, pair_step-goes}
+use Rattle.prem_pair.proofs.Prelude.{want_of, is_finished, is_full, log_size, Counts, Setup, MachineState, rule_in, is_held, wants, No, New, Request, items_of, ReplacementRule, unclashed}
+use Rattle.prem_pair.proofs.Prelude.{has_room, put_out, state_of, setup_in, Parts, Setting, AreBoth, GoOn, pair_of, AreApart, own_cycle, own_part, IsGoing, OwnCycle, PairState}
+use Rattle.prem_pair.proofs.Prelude.{both_finished, is_pair_over, one_trapped, pair_cycle, pair_cycles, wanted, holder_after, is_first, is_second, want_with, MayStretch, cycles_taken}
+use Rattle.prem_pair.proofs.Prelude.{Arrives, core_done, move_had, Both, Holder, Nobody, First, Second, Gates, ◌≡◌, ◌≢◌, ℕ, suc, ◌+◌, ◌-◌, ◌≤◌, ◌<◌, Bool, true, false, List, [], None, refl}
+use Rattle.prem_pair.proofs.Prelude.{ap, sym, ◌∙◌, arith, length, ◌&&◌, ◌||◌, if◌then◌else◌}
+use Rattle.prem_pair.proofs.CyclesLemmas.Apart.{own_cycles}
 use Rattle.prem_pair.proofs.CyclesLemmas.OneCycle.{paired}
 use Rattle.prem_pair.proofs.CyclesLemmas.Own.{holder_same, own_kept, own_one, stays_later}
-use Rattle.prem_pair.proofs.CyclesLemmas.Apart.{own_cycles}
+use Rattle.prem_pair.proofs.CyclesLemmas.PairRuns.{pair_cycles-add, pair_step-goes}
+use Rattle.prem_pair.proofs.Going.{one_rests}
 use Rattle.prem_pair.proofs.Passes.{arrives_later}
 use Rattle.prem_pair.proofs.Stretched.{going_unfinished, going_wants, none_taken}
-use Rattle.prem_pair.proofs.Going.{one_rests}
 
 -- ---- how many cycles are taken
 

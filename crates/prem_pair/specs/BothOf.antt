@@ -1,15 +1,11 @@
 -- Both cores' parts as the state of a run.
-use Rattle.std.specs.Prelude.{◌≡◌, ◌≢◌, ◌*◌, None, List, []}
-use Rattle.prem_gate.specs.declared.request.Request.{Request}
-use Rattle.prem_gate.specs.Gates.{Turned}
-use Rattle.prem_cycle.specs.Cycle.{arrivals_at}
+use Rattle.prem_pair.specs.Prelude.{arrivals_at, Turned, Request, Stands, state_of, ◌≡◌, ◌≢◌, ◌*◌, None, List, []}
 use Rattle.prem_machine.specs.declared.work.Setting.{Setting}
-use Rattle.prem_machine.specs.Parts.{Stands, state_of}
+use Rattle.prem_pair.specs.Cycles.Pair.{PairState, holder_at, bus_for}
+use Rattle.prem_pair.specs.Sides.{Goes, Arrives}
+use Rattle.prem_pair.specs.declared.both.Both.{Both}
 use Rattle.prem_pair.specs.declared.cycles.state.Holder.{Holder}
 use Rattle.prem_pair.specs.declared.cycles.state.Holder.TheVariants.{Gates}
-use Rattle.prem_pair.specs.Cycles.Pair.{PairState, holder_at, bus_for}
-use Rattle.prem_pair.specs.declared.both.Both.{Both}
-use Rattle.prem_pair.specs.Sides.{Goes, Arrives}
 
 abbrev pub pair_of : {P Q : Type 0} → Both P Q → PairState
 pair_of x = record { first = state_of x.first; second = state_of x.second; holder = x.holder }

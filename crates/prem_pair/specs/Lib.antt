@@ -1,3 +1,4 @@
+pub mod Prelude
 pub mod Sides
 pub mod States
 pub mod PairFields

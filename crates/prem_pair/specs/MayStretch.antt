@@ -1,13 +1,8 @@
 -- Up to when two cores don't touch each other. Time is in cycles.
-use Rattle.std.specs.Prelude.{◌≡◌, ◌≢◌, ℕ, ◌+◌, ◌-◌, ◌≤◌, ◌&&◌, true, false, List, if◌then◌else◌}
-use Rattle.prem_gate.specs.declared.request.Request.{Request}
-use Rattle.prem_gate.specs.declared.bus.CoreWant.TheVariants.{New}
-use Rattle.prem_gate.specs.Gates.{wants}
-use Rattle.prem_cycle.specs.Core.{want_of}
-use Rattle.prem_cycle.specs.Runs.Dull.Rest.{NoneArrive}
-use Rattle.prem_pair.specs.declared.cycles.state.Holder.TheVariants.{Gates}
+use Rattle.prem_pair.specs.Prelude.{want_of, NoneArrive, wants, New, Request, ◌≡◌, ◌≢◌, ℕ, ◌+◌, ◌-◌, ◌≤◌, ◌&&◌, true, false, List, if◌then◌else◌}
 use Rattle.prem_pair.specs.Cycles.Pair.{PairState, one_trapped}
 use Rattle.prem_pair.specs.Cycles.Rest.{stays_with, wanted}
+use Rattle.prem_pair.specs.declared.cycles.state.Holder.TheVariants.{Gates}
 
 -- up to this cycle no request arrives; the token stays where it is, and not with the gates, no transaction begins, and at most one core
 -- owes one

@@ -1,11 +1,10 @@
 -- The fields of a run of two cores, and what they keep.
-use Rattle.std.specs.Prelude.{◌≡◌, ◌^◌, ◌≤◌, [], false}
-use Rattle.prem_machine.specs.Parts.{IsSetting}
+use Rattle.prem_pair.specs.Prelude.{IsSetting, ◌≡◌, ◌^◌, ◌≤◌, [], false}
 use Rattle.prem_machine.specs.Work.{setup_in}
-use Rattle.prem_pair.specs.Cycles.Pair.{one_trapped}
-use Rattle.prem_pair.specs.declared.pair.Pair.TheInside.{Inside}
 use Rattle.prem_pair.specs.BothOf.{AreBoth, GoOn, pair_of}
+use Rattle.prem_pair.specs.Cycles.Pair.{one_trapped}
 use Rattle.prem_pair.specs.States.{PairRunning}
+use Rattle.prem_pair.specs.declared.pair.Pair.TheInside.{Inside}
 
 abbrev pub running_of : {P Q : Type 0} → Inside P Q → PairRunning
 running_of m = record { first = setup_in m.first; second = setup_in m.second; requests = m.requests.items; state = pair_of m.both }

@@ -1,18 +1,12 @@
 -- A core's parts in a cycle of two cores: what the bus leaves, and what the core does.
-use Rattle.std.specs.Prelude.{ℕ, ◌+◌, ◌≤◌, ◌&&◌, not, Bool, All, List, length, if◌then◌else◌}
+use Rattle.prem_pair.specs.Prelude.{CoreMove, Passes, core_turn, move_of, Arrivals, with_memory, with_clash, Setup, rule_in, Work, CoreState, MachineState, Turned, Request, with_last}
+use Rattle.prem_pair.specs.Prelude.{TaskJobs, ℕ, ◌+◌, ◌≤◌, ◌&&◌, not, Bool, All, List, length, if◌then◌else◌}
 use Rattle.prem_list.specs.Sequence.{items_of}
-use Rattle.prem_sched.specs.declared.sched.TaskJobs.{TaskJobs}
-use Rattle.prem_isa.specs.Plain.{with_last}
-use Rattle.prem_gate.specs.declared.request.Request.{Request}
-use Rattle.prem_gate.specs.Gates.{Turned}
-use Rattle.prem_cycle.specs.State.{Setup, rule_in, Work, CoreState, MachineState}
-use Rattle.prem_cycle.specs.Core.{CoreMove, Passes, core_turn, move_of}
-use Rattle.prem_cycle.specs.Cycle.{Arrivals, with_memory, with_clash}
-use Rattle.prem_machine.specs.declared.parts.Parts.{Parts}
+use Rattle.prem_machine.specs.Issue.Counting.{counts_in}
 use Rattle.prem_machine.specs.Log.{CountsWithin}
 use Rattle.prem_machine.specs.Moment.{ModeReady}
 use Rattle.prem_machine.specs.Requests.{HaveArrived, pending}
-use Rattle.prem_machine.specs.Issue.Counting.{counts_in}
+use Rattle.prem_machine.specs.declared.parts.Parts.{Parts}
 use Rattle.prem_pair.specs.Cycles.Token.{asks_in}
 
 -- behind arrivals and the bus

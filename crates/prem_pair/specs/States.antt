@@ -1,7 +1,5 @@
 -- A run of two cores as contracts see it.
-use Rattle.std.specs.Prelude.{ℕ, zero, suc, List, Option, Some, None}
-use Rattle.prem_gate.specs.declared.request.Request.{Request}
-use Rattle.prem_cycle.specs.State.{Setup, MachineState}
+use Rattle.prem_pair.specs.Prelude.{Setup, MachineState, Request, ℕ, zero, suc, List, Option, Some, None}
 use Rattle.prem_pair.specs.Cycles.Pair.{PairState}
 
 -- what the run never changes on each core, the requests of its devices, and its state

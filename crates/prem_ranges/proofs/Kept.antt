@@ -1,59 +1,41 @@
 -- All ranges lie in their kinds, and so no loop has more turns than there are ints.
-use Rattle.std.specs.Prelude.{⊤, ℤ, pos, negsuc, ◌+ℤ◌, ◌-ℤ◌, ◌≤ℤ◌, int_le, unsigned_abs, ◌||◌, slice_get, slice_index, unwrap_or}
-use Rattle.std.specs.Int.{int_max}
-use Rattle.std.specs.List.{flat_map}
-use Rattle.std.proofs.Common.{◌≡◌, ℕ, zero, suc, ◌+◌, ◌-◌, ◌*◌, ◌/◌, ◌^◌, ◌<◌, ◌≤◌, Bool, true, false, cond, List, [], ◌∷◌, ◌++◌, map, refl, sym, ◌∙◌, arith, Option, None, Some, eqb, ⊎_elim}
-use Rattle.std.proofs.lemmas.Int.{ints, clamps}
-use Rattle.std.proofs.lemmas.List.{map-append}
-use Rattle.std.proofs.lemmas.Bool.{cases_lt}
-use Rattle.std.proofs.Math.Nat.{mul-le-mul_left, mul-le-mul_right}
-use Rattle.prem_word.specs.declared.kind.Kind.{Kind}
-use Rattle.prem_word.specs.declared.kind.Kind.TheVariants.{Int, Unsigned}
-use Rattle.prem_word.specs.declared.kind.BinOp.{BinOp}
-use Rattle.prem_word.specs.declared.kind.BinOp.TheVariants.{Lt, Le, Gt, Ge, Eq}
-use Rattle.prem_word.specs.Words.{value_in}
-use Rattle.prem_word.specs.Ranges.{Span, from_to, exactly, LiesIn, IsRange, whole, unless_empty, converted}
-use Rattle.prem_word.proofs.Corners.{word_in_whole}
-use Rattle.prem_word.proofs.Kept.{whole_kept, within_kept, truths_kept, range_kept, negate_kept, flip_kept, join_kept, converted_kept}
-use Rattle.prem_syntax.specs.declared.tree.Ty.{Ty}
-use Rattle.prem_syntax.specs.declared.tree.Ty.TheVariants.{Void, Int as IntTy, Unsigned as UnsignedTy, Short, Ushort, Schar, Uchar}
-use Rattle.prem_syntax.specs.declared.tree.UnOp.TheVariants.{Neg, Flip, Not}
-use Rattle.prem_syntax.specs.Syntax.{LocalVariable, GlobalVariable}
-use Rattle.prem_syntax.specs.Resolved.{Term, Constant, Local, Scalar, Element, Unary, Binary, AndAlso, OrElse, Steps, Done, SetLocal, SetScalar, SetElement, Output, Input, If, For}
-use Rattle.prem_syntax.specs.Resolved.{While, Call, Routine, Resolved}
-use Rattle.prem_syntax.specs.Resolve.{kind_of, promoted}
-use Rattle.prem_ranges.specs.Environment.{Known, any_again, with_range, assigned, Environment, range_at, at_local, loosened, joined}
-use Rattle.prem_ranges.specs.RangeOf.{type_range, range_of, cut, cut_if_some, opposite, is_same_kind, cut_by, refined}
-use Rattle.prem_ranges.specs.After.{assigns, in_counting, loop_end, turn_bound, body_range, range_behind, in_body, behind_loop, in_while, behind_call, after, bounds}
-use Rattle.prem_ranges.specs.After.{known_parameter, known_local, declared, at_body, bounds_in}
-use Rattle.prem_ranges.specs.RangeBreaches.{in_term, in_range_of_int, in_turns, in_counting_loop, in_steps, in_arguments, in_scalar, in_element, parameters_of, in_locals}
-use Rattle.prem_ranges.specs.RangeBreaches.{in_result, in_routine, in_routines, range_breaches, site_of}
-use Rattle.prem_ranges.specs.Sound.{kinds_of, Typed, TypedSteps, Ranged, none_ranged, next_ranged, TypedLocals, TypedRoutine, TypedProgram}
+use Rattle.prem_ranges.proofs.Prelude.{assigns, in_counting, loop_end, turn_bound, body_range, range_behind, in_body, behind_loop, in_while, behind_call, after, bounds, known_parameter}
+use Rattle.prem_ranges.proofs.Prelude.{known_local, declared, at_body, bounds_in, Known, any_again, with_range, assigned, Environment, range_at, at_local, loosened, joined, in_term}
+use Rattle.prem_ranges.proofs.Prelude.{in_range_of_int, in_turns, in_counting_loop, in_steps, in_arguments, in_scalar, in_element, parameters_of, in_locals, in_result, in_routine}
+use Rattle.prem_ranges.proofs.Prelude.{in_routines, range_breaches, site_of, type_range, range_of, cut, cut_if_some, opposite, is_same_kind, cut_by, refined, kinds_of, Typed, TypedSteps}
+use Rattle.prem_ranges.proofs.Prelude.{Ranged, none_ranged, next_ranged, TypedLocals, TypedRoutine, TypedProgram, kind_of, promoted, Term, Constant, Local, Scalar, Element, Unary, Binary}
+use Rattle.prem_ranges.proofs.Prelude.{AndAlso, OrElse, Steps, Done, SetLocal, SetScalar, SetElement, Output, Input, If, For, While, Call, Routine, Resolved, LocalVariable, GlobalVariable}
+use Rattle.prem_ranges.proofs.Prelude.{Ty, Void, Short, Ushort, Schar, Uchar, Neg, Flip, Not, word_in_whole, whole_kept, within_kept, truths_kept, range_kept, negate_kept, flip_kept}
+use Rattle.prem_ranges.proofs.Prelude.{join_kept, converted_kept, Span, from_to, exactly, LiesIn, IsRange, whole, unless_empty, converted, value_in, BinOp, Lt, Le, Gt, Ge, Eq, Kind, Int}
+use Rattle.prem_ranges.proofs.Prelude.{Unsigned, ◌≡◌, ℕ, zero, suc, ◌+◌, ◌-◌, ◌*◌, ◌/◌, ◌^◌, ◌<◌, ◌≤◌, Bool, true, false, cond, List, [], ◌∷◌, ◌++◌, map, refl, sym, ◌∙◌, arith, Option, None}
+use Rattle.prem_ranges.proofs.Prelude.{Some, eqb, ⊎_elim, mul-le-mul_left, mul-le-mul_right, cases_lt, ints, clamps, map-append, int_max, flat_map, ⊤, ℤ, pos, negsuc, ◌+ℤ◌, ◌-ℤ◌, ◌≤ℤ◌}
+use Rattle.prem_ranges.proofs.Prelude.{int_le, unsigned_abs, ◌||◌, slice_get, slice_index, unwrap_or}
 use Rattle.prem_ranges.proofs.Basics.{none_left, none_right, unbroken as unbroken_is, is_at_most, is_above, is_not_below}
 use Rattle.prem_ranges.proofs.Environments.{kinds-at_local, kinds-loosened, kinds-joined, kind_known}
 use Rattle.prem_ranges.proofs.Expressions.{kinds-refined}
 use Rattle.prem_ranges.proofs.Statements.{kinds-after, kinds-behind_call, kinds-in_body}
+use Rattle.prem_syntax.specs.declared.tree.Ty.TheVariants.{Int as IntTy, Unsigned as UnsignedTy}
 
 -- ---- environments
 
-ranged_local : {env : Environment} → Ranged env → (k : ℕ) (change : Known → Known) →
+pub ranged_local : {env : Environment} → Ranged env → (k : ℕ) (change : Known → Known) →
     ((l : Known) → slice_get env k ≡ Some l → IsRange l.kind l.range → IsRange (change l).kind (change l).range) → Ranged (at_local k change env)
 ranged_local none_ranged k change keeps = none_ranged
 ranged_local (next_ranged {l = l} is rest) zero change keeps = next_ranged (keeps l refl is) rest
 ranged_local (next_ranged is rest) (suc k) change keeps = next_ranged is (ranged_local rest k change keeps)
 
-ranged_any : {env : Environment} → Ranged env → (k : ℕ) → Ranged (at_local k any_again env)
+pub ranged_any : {env : Environment} → Ranged env → (k : ℕ) → Ranged (at_local k any_again env)
 ranged_any ranged k = ranged_local ranged k any_again (λ l there is. whole_kept l.kind)
 
 loosened_range : (b : Bool) (l : Known) → IsRange l.kind l.range → IsRange (cond b (any_again l) l).kind (cond b (any_again l) l).range
 loosened_range true l is = whole_kept l.kind
 loosened_range false l is = is
 
-ranged_loosened : {env : Environment} → Ranged env → (picked : ℕ → Bool) → Ranged (loosened picked env)
+pub ranged_loosened : {env : Environment} → Ranged env → (picked : ℕ → Bool) → Ranged (loosened picked env)
 ranged_loosened none_ranged picked = none_ranged
 ranged_loosened (next_ranged {l = l} is rest) picked = next_ranged (loosened_range (picked 0) l is) (ranged_loosened rest (λ k. picked (suc k)))
 
-ranged_joined : {one two : Environment} → Ranged one → Ranged two → kinds_of one ≡ kinds_of two → Ranged (joined one two)
+pub ranged_joined : {one two : Environment} → Ranged one → Ranged two → kinds_of one ≡ kinds_of two → Ranged (joined one two)
 ranged_joined none_ranged second same = none_ranged
 ranged_joined (next_ranged is rest) none_ranged same = none_ranged
 ranged_joined (next_ranged {l = l} {ls = ls} is rest) (next_ranged {l = m} {ls = ms} is' rest') same =
@@ -83,7 +65,7 @@ type_kept Uchar = fits Int (pos 0) (pos 255) (omega (arith, ints)) (omega (arith
 exactly_kept : (k : Kind) (z : ℤ) → LiesIn (whole k) z → IsRange k (exactly z)
 exactly_kept k z h = record { ordered = omega (arith, ints); least = h.low; greatest = h.high }
 
-term_kept : (gs : List GlobalVariable) (env : Environment) → Ranged env → (e : Term) → Typed gs (kinds_of env) e → IsRange (kind_of e) (range_of env e)
+pub term_kept : (gs : List GlobalVariable) (env : Environment) → Ranged env → (e : Term) → Typed gs (kinds_of env) e → IsRange (kind_of e) (range_of env e)
 term_kept gs env ranged (Constant at word kind) typed = exactly_kept kind (value_in kind word) (word_in_whole kind word typed)
 term_kept gs env ranged (Local at k kind) typed = range_at_kept ranged k kind typed
 term_kept gs env ranged (Scalar at g ty) typed = type_kept ty
@@ -132,7 +114,7 @@ ranged_cut op (Binary at bop k e e') right r env ranged = ranged
 ranged_cut op (AndAlso at e e') right r env ranged = ranged
 ranged_cut op (OrElse at e e') right r env ranged = ranged
 
-ranged_refined : (b : Bool) (env : Environment) (e : Term) → Ranged env → Ranged (refined b env e)
+pub ranged_refined : (b : Bool) (env : Environment) (e : Term) → Ranged env → Ranged (refined b env e)
 ranged_refined true env (AndAlso at left right) ranged = ranged_refined true (refined true env left) right (ranged_refined true env left ranged)
 ranged_refined false env (AndAlso at left right) ranged = ranged
 ranged_refined true env (OrElse at left right) ranged = ranged
@@ -157,17 +139,17 @@ ranged_refined false env (Element at g ty index) ranged = ranged
 -- ---- loops
 
 -- a loop whose variable can't pass the greatest int
-record LoopFits (low : Span) (end : ℤ) (step : ℕ) : Type 0 where
+pub record LoopFits (low : Span) (end : ℤ) (step : ℕ) : Type 0 where
   pub is : IsRange Int low
   pub ends : (end -ℤ pos 1 +ℤ pos step) ≤ℤ pos 2147483647
   pub some : 0 < step
 
-body_kept : (low : Span) (end : ℤ) (step : ℕ) → LoopFits low end step → IsRange Int (body_range low end)
+pub body_kept : (low : Span) (end : ℤ) (step : ℕ) → LoopFits low end step → IsRange Int (body_range low end)
 body_kept low end step h =
     let e = h.ends in let s = h.some in let a = h.is.ordered in let b = h.is.least in let c = h.is.greatest in
     record { ordered = omega (arith, ints, clamps); least = b; greatest = omega (arith, ints, clamps) }
 
-behind_kept : (low : Span) (end : ℤ) (step : ℕ) → LoopFits low end step → IsRange Int (range_behind low end step)
+pub behind_kept : (low : Span) (end : ℤ) (step : ℕ) → LoopFits low end step → IsRange Int (range_behind low end step)
 behind_kept low end step h = within_kept Int (from_to low.lo (int_max low.hi (end -ℤ pos 1 +ℤ pos step))) (let a = h.is.ordered in omega (arith, ints, clamps))
 
 too_many : (m n r d step : ℕ) → n ≤ r → n ≡ m + step → d ≤ m → r ≤ d + (step - 1) → 0 < step → ⊥
@@ -200,14 +182,14 @@ turn_bound_small low end step h = by (int_le end low.lo) refl
 
 -- ---- steps
 
-ranged_counting : (gs : List GlobalVariable) (env : Environment) (k : ℕ) (r : Span) (body : Steps) → slice_get (kinds_of env) k ≡ Some Int →
+pub ranged_counting : (gs : List GlobalVariable) (env : Environment) (k : ℕ) (r : Span) (body : Steps) → slice_get (kinds_of env) k ≡ Some Int →
     Ranged env → IsRange Int r → Ranged (at_local k (with_range r) (in_counting k body env))
 ranged_counting gs env k r body is_int ranged is =
     let env' = in_counting k body env in
     let same : kinds_of env' ≡ kinds_of env = kinds-loosened (λ j. eqb k j || assigns j body) env in
     ranged_local (ranged_loosened ranged (λ j. eqb k j || assigns j body)) k (with_range r) (λ l there old. let kind : l.kind ≡ Int = kind_known env' k l Int there (rw same is_int) in rw kind is)
 
-ranged_call : (target : Option ℕ) (env : Environment) → Ranged env → Ranged (behind_call target env)
+pub ranged_call : (target : Option ℕ) (env : Environment) → Ranged env → Ranged (behind_call target env)
 ranged_call None env ranged = ranged
 ranged_call (Some k) env ranged = ranged_any ranged k
 
@@ -330,7 +312,7 @@ ranged_more : {env : Environment} → Ranged env → (l : Known) → IsRange l.k
 ranged_more none_ranged l is = next_ranged is none_ranged
 ranged_more (next_ranged first rest) l is = next_ranged first (ranged_more rest l is)
 
-ranged_declared : (gs : List GlobalVariable) (ls : List LocalVariable) (es : List Term) (env : Environment) → Ranged env → TypedLocals gs (kinds_of env) ls es → Ranged (declared env ls es)
+pub ranged_declared : (gs : List GlobalVariable) (ls : List LocalVariable) (es : List Term) (env : Environment) → Ranged env → TypedLocals gs (kinds_of env) ls es → Ranged (declared env ls es)
 ranged_declared gs [] [] env ranged typed = ranged
 ranged_declared gs [] (e ∷ es) env ranged typed = absurd typed
 ranged_declared gs (l ∷ ls) [] env ranged typed = absurd typed

@@ -58,14 +58,6 @@ done_at : (t : ℕ) (task : TaskJobs) (b : Bool) → has_jobs_left task ≡ b �
 done_at t task false is none = grind (arith, nat_tests)
 done_at t task true is none = let e = sym (left_is_release t task is) ∙ none in cc
 
--- ---- the earlier of two times
-
-pub earlier_assoc : (a b c : Option ℕ) → earlier (earlier a b) c ≡ earlier a (earlier b c)
-earlier_assoc None b c = refl
-earlier_assoc (Some x) None c = refl
-earlier_assoc (Some x) (Some y) None = refl
-earlier_assoc (Some x) (Some y) (Some z) = ap Some (omega arith)
-
 before_both : (v : ℕ) (a b : Option ℕ) → Before v a → Before v b → Before v (earlier a b)
 before_both v None b p q = q
 before_both v (Some x) None p q = p

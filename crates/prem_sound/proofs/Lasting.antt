@@ -1,40 +1,17 @@
 -- A cycle of a core whose tasks keep to their scripts: each predictable interval that has ended has lasted as long as it stated.
-use Rattle.std.specs.Prelude.{All, is_some, ◌&&◌}
-use Rattle.std.proofs.Common.{◌≡◌, ℕ, ◌+◌, ◌-◌, ◌<◌, ◌≤◌, refl, ap, ◌∙◌, sym, subst, cond, ltb, true, false, Bool, Some, None, Option, List, length, ◌∷◌, arith, []}
-use Rattle.std.proofs.lemmas.Bool.{and_parts, cond_both}
-use Rattle.std.proofs.lemmas.List.Elements.{All-nil, All-push}
-use Rattle.prem_plant.specs.Order.Order.{OrderRule}
-use Rattle.prem_sched.specs.declared.sched.TaskJobs.{TaskJobs}
-use Rattle.prem_isa.specs.Decode.{cost_of}
-use Rattle.prem_isa.specs.Plain.{TaskRun, Did, did_of, plain_did, plain_run}
-use Rattle.prem_isa.specs.declared.effect.Phase.{Phase}
-use Rattle.prem_isa.specs.declared.effect.Stored.{Stored}
-use Rattle.prem_isa.proofs.PlainLaws.{plain_fits}
-use Rattle.prem_lru.specs.Entries.{ReplacementRule}
-use Rattle.prem_lru.specs.Order.{lines_in}
-use Rattle.prem_gate.specs.Gates.{Turned, wants}
-use Rattle.prem_cycle.specs.declared.state.Interval.{Interval}
-use Rattle.prem_cycle.specs.declared.state.Mode.{Mode}
-use Rattle.prem_cycle.specs.declared.state.Mode.TheVariants.{Point, Switching, Running, Idle}
-use Rattle.prem_cycle.specs.State.{Setup, Work, CoreState, Counts, MachineState, start_of, task_in}
-use Rattle.prem_cycle.specs.Issue.{issued_by, owed_by, Attempt, Traps, Executes, LineTouch, attempt_behind, one_if, with_touch, with_touches, with_store}
-use Rattle.prem_cycle.specs.Core.{phase_in, want_of, is_paid, CoreMove, Passes, Issues, is_predictable, new_interval, stated_after, core_issue, core_turn}
-use Rattle.prem_cycle.specs.Cycle.{Arrivals, with_memory, with_clash, joined, ends_before, ended_interval, at_point, close_interval, settle, with_now, next_cycle, ticked}
-use Rattle.prem_cycle.proofs.RunsLemmas.PositionLemmas.Works.{kept_plant}
-use Rattle.prem_cycle.proofs.RunsLemmas.PositionLemmas.Stands.{bump, Stands, Issuing}
-use Rattle.prem_cycle.proofs.RunsLemmas.PositionLemmas.Schedules.{Moves as Scheduled}
-use Rattle.prem_cycle.proofs.RunsLemmas.PositionLemmas.MayMoves.{MayMove, does, stands_still, turn_with}
-use Rattle.prem_cycle.proofs.RunsLemmas.PositionLemmas.Turns.{Runs, bump_move, issuing}
-use Rattle.prem_cycle.proofs.RunsLemmas.PositionLemmas.Issues.{issuing_did}
-use Rattle.prem_sound.specs.Script.Script.{lines_of_did, call_of, Script}
-use Rattle.prem_sound.specs.Good.{LastsAsStated}
-use Rattle.prem_sound.specs.Resident.Faultless.{IsPolicy}
+use Rattle.prem_sound.proofs.Prelude.{issuing_did, MayMove, does, stands_still, turn_with, Moves as Scheduled, bump, Stands, Issuing, Runs, bump_move, issuing, kept_plant, phase_in, want_of}
+use Rattle.prem_sound.proofs.Prelude.{is_paid, CoreMove, Passes, Issues, is_predictable, new_interval, stated_after, core_issue, core_turn, Arrivals, with_memory, with_clash, joined}
+use Rattle.prem_sound.proofs.Prelude.{ends_before, ended_interval, at_point, close_interval, settle, with_now, next_cycle, ticked, issued_by, owed_by, Attempt, Traps, Executes, LineTouch}
+use Rattle.prem_sound.proofs.Prelude.{attempt_behind, one_if, with_touch, with_touches, with_store, Setup, Work, CoreState, Counts, MachineState, start_of, task_in, Interval, Mode, Point}
+use Rattle.prem_sound.proofs.Prelude.{Switching, Running, Idle, Turned, wants, plain_fits, cost_of, TaskRun, Did, did_of, plain_did, plain_run, Phase, Stored, ReplacementRule, lines_in}
+use Rattle.prem_sound.proofs.Prelude.{OrderRule, TaskJobs, LastsAsStated, IsPolicy, lines_of_did, call_of, Script, ◌≡◌, ℕ, ◌+◌, ◌-◌, ◌<◌, ◌≤◌, refl, ap, ◌∙◌, sym, subst, cond, ltb, true}
+use Rattle.prem_sound.proofs.Prelude.{false, Bool, Some, None, Option, List, length, ◌∷◌, arith, [], and_parts, cond_both, All-nil, All-push, All, is_some, ◌&&◌}
+use Rattle.prem_sound.proofs.Lasts.{Clock, GoesOn, ClockMove, clock_moves, clock_issues, lasted, never_over}
+use Rattle.prem_sound.proofs.ResidentLemmas.Counted.{AttemptFits, attempt_fits}
+use Rattle.prem_sound.proofs.ResidentLemmas.Facing.{Meets, Faces, Comes}
+use Rattle.prem_sound.proofs.ResidentLemmas.Keeps.{sets_are, KeepScripts, Keeps}
 use Rattle.prem_sound.proofs.ResidentLemmas.Residents.{phase_at, begun_at, Resides, Moves}
 use Rattle.prem_sound.proofs.ResidentLemmas.Touches.{TouchesLines, issue_touches}
-use Rattle.prem_sound.proofs.ResidentLemmas.Counted.{AttemptFits, attempt_fits}
-use Rattle.prem_sound.proofs.ResidentLemmas.Keeps.{sets_are, KeepScripts, Keeps}
-use Rattle.prem_sound.proofs.ResidentLemmas.Facing.{Meets, Faces, Comes}
-use Rattle.prem_sound.proofs.Lasts.{Clock, GoesOn, ClockMove, clock_moves, clock_issues, lasted, never_over}
 
 -- ---- overruns
 

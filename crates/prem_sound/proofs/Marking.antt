@@ -1,41 +1,19 @@
 -- A cycle of a core whose tasks keep to their scripts: its predictable intervals are those of the marked calls that are promised.
-use Rattle.std.specs.Prelude.{is_some, ◌&&◌}
-use Rattle.std.proofs.Common.{◌≡◌, ℕ, ◌+◌, ◌-◌, ◌<◌, ◌≤◌, refl, ap, ◌∙◌, sym, subst, arith, cond, ltb, true, false, Bool, Some, None, List, length, ⊎_elim}
-use Rattle.std.proofs.lemmas.Bool.{and_parts, cases_eq, cond_both}
-use Rattle.prem_plant.specs.Order.Order.{OrderRule}
-use Rattle.prem_sched.specs.declared.sched.TaskJobs.{TaskJobs}
-use Rattle.prem_isa.specs.declared.effect.Change.{Change}
-use Rattle.prem_isa.specs.declared.effect.Change.TheVariants.{End, Stay, Memory, Execute, Job}
-use Rattle.prem_isa.specs.Plain.{TaskRun, Did, did_of, plain_did, plain_steps, plain_run}
-use Rattle.prem_isa.specs.declared.effect.Phase.TheVariants.{Compatible, Memory as MemoryPhase, Execution}
-use Rattle.prem_isa.specs.declared.effect.Phase.{Phase}
-use Rattle.prem_lru.specs.Entries.{ReplacementRule}
-use Rattle.prem_lru.specs.Order.{lines_in}
-use Rattle.prem_gate.specs.Gates.{Turned}
-use Rattle.prem_cycle.specs.declared.state.Mode.{Mode}
-use Rattle.prem_cycle.specs.declared.state.Mode.TheVariants.{Point, Switching, Running, Idle}
-use Rattle.prem_cycle.specs.declared.state.Interval.{Interval}
-use Rattle.prem_cycle.specs.declared.facts.EndedInterval.{EndedInterval}
-use Rattle.prem_cycle.specs.State.{Setup, Work, CoreState, Counts, MachineState, start_of, task_in}
-use Rattle.prem_cycle.specs.Core.{is_paid, CoreMove, Passes, Issues, is_predictable, phase_in, stated_after, core_issue, core_turn}
-use Rattle.prem_cycle.specs.Cycle.{Arrivals, with_memory, with_clash, joined, ends_before, ended_interval, at_point, close_interval, settle, with_now, next_cycle, ticked}
-use Rattle.prem_cycle.proofs.CycleParts.{settle_keeps as settles}
-use Rattle.prem_cycle.proofs.RunsLemmas.PositionLemmas.Stands.{bump, Stands, Issuing}
-use Rattle.prem_cycle.proofs.RunsLemmas.PositionLemmas.Schedules.{Moves as Scheduled}
-use Rattle.prem_cycle.proofs.RunsLemmas.PositionLemmas.MayMoves.{MayMove, does, stands_still, turn_with}
-use Rattle.prem_cycle.proofs.RunsLemmas.PositionLemmas.Turns.{Runs, bump_move, issuing}
-use Rattle.prem_cycle.proofs.RunsLemmas.PositionLemmas.Issues.{issuing_did}
-use Rattle.prem_sound.specs.Script.Script.{begun_by, call_of, Script}
-use Rattle.prem_sound.specs.Script.Scripts.{Promise, mark_at, AreKept}
-use Rattle.prem_sound.specs.Good.{predictable_of, read_in, IsOfMark, GivesPromised}
-use Rattle.prem_sound.specs.Resident.Faultless.{IsPolicy}
-use Rattle.prem_sound.proofs.ScriptLemmas.Begins.{Executed, executed, next_phase, did_lawful}
-use Rattle.prem_sound.proofs.ResidentLemmas.Residents.{phase_at, begun_at, InInterval, Resides, MayIssue, Moves, bump_run, bump_begun, Issued}
-use Rattle.prem_sound.proofs.ResidentLemmas.Keeps.{KeepScripts, Keeps}
-use Rattle.prem_sound.proofs.ResidentLemmas.Facing.{KnownCore, Meets, Faces, Comes}
-use Rattle.prem_sound.proofs.Ends.{Gives, reads_as, gives, finished_ended}
+use Rattle.prem_sound.proofs.Prelude.{settle_keeps as settles, issuing_did, MayMove, does, stands_still, turn_with, Moves as Scheduled, bump, Stands, Issuing, Runs, bump_move, issuing}
+use Rattle.prem_sound.proofs.Prelude.{is_paid, CoreMove, Passes, Issues, is_predictable, phase_in, stated_after, core_issue, core_turn, Arrivals, with_memory, with_clash, joined}
+use Rattle.prem_sound.proofs.Prelude.{ends_before, ended_interval, at_point, close_interval, settle, with_now, next_cycle, ticked, Setup, Work, CoreState, Counts, MachineState, start_of}
+use Rattle.prem_sound.proofs.Prelude.{task_in, EndedInterval, Interval, Mode, Point, Switching, Running, Idle, Turned, TaskRun, Did, did_of, plain_did, plain_steps, plain_run, Change, End}
+use Rattle.prem_sound.proofs.Prelude.{Stay, Memory, Execute, Job, Phase, Compatible, Execution, ReplacementRule, lines_in, OrderRule, TaskJobs, predictable_of, read_in, IsOfMark}
+use Rattle.prem_sound.proofs.Prelude.{GivesPromised, IsPolicy, begun_by, call_of, Script, Promise, mark_at, AreKept, ◌≡◌, ℕ, ◌+◌, ◌-◌, ◌<◌, ◌≤◌, refl, ap, ◌∙◌, sym, subst, arith, cond, ltb}
+use Rattle.prem_sound.proofs.Prelude.{true, false, Bool, Some, None, List, length, ⊎_elim, and_parts, cases_eq, cond_both, is_some, ◌&&◌}
+use Rattle.prem_isa.specs.declared.effect.Phase.TheVariants.{Memory as MemoryPhase}
 use Rattle.prem_sound.proofs.CallRuns.{same_begun, calls_most, end_compatible, fresh_before}
+use Rattle.prem_sound.proofs.Ends.{Gives, reads_as, gives, finished_ended}
 use Rattle.prem_sound.proofs.Marks.{one_predictable, ending, ending_same, rests, last_mark, Marked, MayMark, MarkMove, mark_moves, other_marks, own_marks, mark_ends}
+use Rattle.prem_sound.proofs.ResidentLemmas.Facing.{KnownCore, Meets, Faces, Comes}
+use Rattle.prem_sound.proofs.ResidentLemmas.Keeps.{KeepScripts, Keeps}
+use Rattle.prem_sound.proofs.ResidentLemmas.Residents.{phase_at, begun_at, InInterval, Resides, MayIssue, Moves, bump_run, bump_begun, Issued}
+use Rattle.prem_sound.proofs.ScriptLemmas.Begins.{Executed, executed, next_phase, did_lawful}
 
 one_by : (phase : Phase) → is_predictable phase ≡ true → one_predictable phase ≡ 1
 one_by Compatible h = absurd (let z : false ≡ true = h in cc)

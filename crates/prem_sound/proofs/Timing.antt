@@ -1,65 +1,36 @@
 -- A cycle of a core whose tasks keep to their scripts: what has passed is at most the cycles in which it hasn't worked, and
 -- what is due for the instructions that have issued.
-use Rattle.std.specs.Prelude.{All, is_some, ◌&&◌, ◌||◌}
-use Rattle.std.proofs.Common.{◌≡◌, ℕ, zero, suc, ◌+◌, ◌-◌, ◌*◌, ◌<◌, ◌≤◌, refl, ap, ◌∙◌, sym, subst, arith, cond, leb, ltb, true, false, Bool, Some, None, List, [], ◌∷◌, length}
-use Rattle.std.proofs.Common.{get_or, ◌⊎◌, inl, inr, ⊎_elim}
-use Rattle.std.proofs.lemmas.Bool.{and_parts, cond_both, leb-false, lt-leb, ltb-true}
-use Rattle.std.proofs.lemmas.List.{length-append}
-use Rattle.prem_plant.specs.declared.plant.Plant.{Plant}
-use Rattle.prem_plant.specs.Ranges.{IsPlant}
-use Rattle.prem_plant.specs.Order.Order.{OrderRule, HaveRoom, caches_after, cache_misses}
-use Rattle.prem_sched.specs.declared.sched.TaskJobs.{TaskJobs}
-use Rattle.prem_sched.specs.declared.sched.Choice.TheVariants.{Idle as Rest, Finished}
-use Rattle.prem_sched.specs.Schedule.{choice, no_task, task_at, IsDone}
-use Rattle.prem_sched.proofs.Choices.{choice_done}
-use Rattle.prem_isa.specs.declared.effect.Phase.{Phase}
-use Rattle.prem_isa.specs.declared.effect.Phase.TheVariants.{Compatible, Memory as MemoryPhase, Execution}
-use Rattle.prem_isa.specs.declared.effect.Change.{Change}
-use Rattle.prem_isa.specs.declared.effect.Change.TheVariants.{Stay, Memory, Execute, End, Job}
-use Rattle.prem_isa.specs.Decode.{cost_of}
-use Rattle.prem_isa.specs.Plain.{TaskRun, PlainState, Did, did_of, plain_did, plain_steps, plain_run}
-use Rattle.prem_isa.proofs.PlainLaws.{plain_fits}
-use Rattle.prem_lru.specs.Entries.{ReplacementRule}
-use Rattle.prem_lru.specs.Order.{lines_in}
-use Rattle.prem_gate.specs.Gates.{Turned, wants}
-use Rattle.prem_image.specs.declared.image.TaskRecord.{TaskRecord}
-use Rattle.prem_cycle.specs.declared.state.Mode.{Mode}
-use Rattle.prem_cycle.specs.declared.state.Mode.TheVariants.{Point, Switching, Running, Idle}
-use Rattle.prem_cycle.specs.State.{Setup, no_record, record_of, first_task, Task, Work, Debt, CoreState, Counts, MachineState, start_of, task_in}
-use Rattle.prem_cycle.specs.Issue.{Executes, LineTouch, issued_by, owed_by}
-use Rattle.prem_cycle.specs.Core.{want_of, is_paid, CoreMove, Passes, Issues, is_predictable, core_issue, core_turn}
-use Rattle.prem_cycle.specs.Cycle.{Arrivals, with_memory, with_clash, joined, ends_before, ended_interval, at_point, close_interval, settle, with_now, next_cycle, ticked}
-use Rattle.prem_cycle.specs.Cycle.{is_finish, is_finished_in, is_finished, output_count, log_size, is_full}
-use Rattle.prem_cycle.proofs.CoreCases.{MoveCase}
-use Rattle.prem_cycle.proofs.RunsLemmas.PositionLemmas.Works.{kept_plant}
-use Rattle.prem_cycle.proofs.RunsLemmas.PositionLemmas.Stands.{bump, Stands, Issuing}
-use Rattle.prem_cycle.proofs.RunsLemmas.PositionLemmas.Schedules.{GoesOn, Schedules, Moves as Scheduled}
-use Rattle.prem_cycle.proofs.RunsLemmas.PositionLemmas.MayMoves.{MayMove, does, stands_still, turn_with}
-use Rattle.prem_cycle.proofs.RunsLemmas.PositionLemmas.Turns.{Runs, bump_move, issuing}
-use Rattle.prem_cycle.proofs.RunsLemmas.PositionLemmas.Issues.{issuing_did}
-use Rattle.prem_cycle.proofs.RunsLemmas.PositionLemmas.Debts.{total, ArePositive, paid_is}
-use Rattle.prem_sound.specs.Script.Script.{lines_of_did, begun_by, Call, call_of, Script}
-use Rattle.prem_sound.specs.Script.Scripts.{sum_below, last_release, interval_count}
-use Rattle.prem_sound.specs.Resident.Faultless.{IsPolicy}
-use Rattle.prem_sound.proofs.ResidentLemmas.Residents.{Goes, Issued, phase_at, begun_at, Resides, Moves}
-use Rattle.prem_sound.proofs.ResidentLemmas.Keeps.{sets_are, KeepScripts, Keeps}
-use Rattle.prem_sound.proofs.ResidentLemmas.Facing.{KnownCore, Meets, Faces, Comes}
+use Rattle.prem_sound.proofs.Prelude.{MoveCase, total, ArePositive, paid_is, issuing_did, MayMove, does, stands_still, turn_with, GoesOn, Schedules, Moves as Scheduled, bump, Stands}
+use Rattle.prem_sound.proofs.Prelude.{Issuing, Runs, bump_move, issuing, kept_plant, want_of, is_paid, CoreMove, Passes, Issues, is_predictable, core_issue, core_turn, Arrivals, with_memory}
+use Rattle.prem_sound.proofs.Prelude.{with_clash, joined, ends_before, ended_interval, at_point, close_interval, settle, with_now, next_cycle, ticked, is_finish, is_finished_in, is_finished}
+use Rattle.prem_sound.proofs.Prelude.{output_count, log_size, Executes, LineTouch, issued_by, owed_by, Setup, no_record, record_of, first_task, Task, Work, Debt, CoreState, Counts}
+use Rattle.prem_sound.proofs.Prelude.{MachineState, start_of, task_in, Mode, Point, Switching, Running, Idle, Turned, wants, TaskRecord, plain_fits, cost_of, TaskRun, PlainState, Did}
+use Rattle.prem_sound.proofs.Prelude.{did_of, plain_did, plain_steps, plain_run, Change, Stay, Memory, Execute, End, Job, Phase, Compatible, Execution, ReplacementRule, lines_in, OrderRule}
+use Rattle.prem_sound.proofs.Prelude.{HaveRoom, caches_after, cache_misses, IsPlant, Plant, choice_done, choice, no_task, task_at, IsDone, Finished, TaskJobs, IsPolicy, Scoping}
+use Rattle.prem_sound.proofs.Prelude.{within_scope, scope_by, scope_at as lines_at, IsScoped, charges_by, all_charged, lines_of_did, begun_by, Call, call_of, Script, sum_below, last_release}
+use Rattle.prem_sound.proofs.Prelude.{interval_count, ◌≡◌, ℕ, zero, suc, ◌+◌, ◌-◌, ◌*◌, ◌<◌, ◌≤◌, refl, ap, ◌∙◌, sym, subst, arith, cond, leb, ltb, true, false, Bool, Some, None, List, []}
+use Rattle.prem_sound.proofs.Prelude.{◌∷◌, length, get_or, ◌⊎◌, inl, inr, ⊎_elim, and_parts, cond_both, leb-false, lt-leb, ltb-true, length-append, All, is_some, ◌&&◌, ◌||◌}
+use Rattle.prem_cycle.specs.Cycle.{is_full}
+use Rattle.prem_isa.specs.declared.effect.Phase.TheVariants.{Memory as MemoryPhase}
+use Rattle.prem_sched.specs.declared.sched.Choice.TheVariants.{Idle as Rest}
 use Rattle.prem_sound.proofs.CallRuns.{calls_most}
-use Rattle.prem_sound.proofs.Paces.{in_script, Paced, paced_fits}
-use Rattle.prem_sound.proofs.Lasts.{owed_of, InTime, Clock}
-use Rattle.prem_sound.proofs.Lasting.{Lasts, core_clock}
-use Rattle.prem_sound.proofs.Sums.{sum_le, sum_less, sum_part, all_or_one, sum_list}
 use Rattle.prem_sound.proofs.Ends.{ended_most, outputs_most}
-use Rattle.prem_sound.proofs.ResidentLemmas.Touches.{missed_lines, TouchesLines, issue_touches}
+use Rattle.prem_sound.proofs.Lasting.{Lasts, core_clock}
+use Rattle.prem_sound.proofs.Lasts.{owed_of, InTime, Clock}
+use Rattle.prem_sound.proofs.Logs.{AreEnded, EndedMove, ended_moves, ended_issues, ended_ends, ends_at, called_at}
+use Rattle.prem_sound.proofs.Paces.{in_script, Paced, paced_fits}
 use Rattle.prem_sound.proofs.ResidentLemmas.Counted.{AttemptFits, attempt_fits}
-use Rattle.prem_sound.specs.Scopes.Charged.{Scoping, within_scope, scope_by, scope_at as lines_at, IsScoped, charges_by, all_charged}
+use Rattle.prem_sound.proofs.ResidentLemmas.Facing.{KnownCore, Meets, Faces, Comes}
+use Rattle.prem_sound.proofs.ResidentLemmas.Keeps.{sets_are, KeepScripts, Keeps}
+use Rattle.prem_sound.proofs.ResidentLemmas.Residents.{Goes, Issued, phase_at, begun_at, Resides, Moves}
+use Rattle.prem_sound.proofs.ResidentLemmas.Touches.{missed_lines, TouchesLines, issue_touches}
+use Rattle.prem_sound.proofs.Rests.{Released, rest_until, release_last}
 use Rattle.prem_sound.proofs.ScopesLemmas.ChargeRuns.{some_charge}
 use Rattle.prem_sound.proofs.ScopesLemmas.Credits.{Backed, backed_none, Pays, backed_with}
 use Rattle.prem_sound.proofs.ScopesLemmas.Totals.{charged_most, charged_left}
-use Rattle.prem_sound.proofs.Spends.{kept_by, behind, until_end, off_behind, due_at, kept_at, stated_at, all_due, all_kept, RunTime, TimeIn, Spent, IsTask, SpendMove, point_on}
-use Rattle.prem_sound.proofs.Spends.{spend_moves, off_before, Paid, scope_next, spend_issues, spend_ends, spend_rests}
-use Rattle.prem_sound.proofs.Rests.{Released, rest_until, release_last}
-use Rattle.prem_sound.proofs.Logs.{AreEnded, EndedMove, ended_moves, ended_issues, ended_ends, ends_at, called_at}
+use Rattle.prem_sound.proofs.Spends.{kept_by, behind, until_end, off_behind, due_at, kept_at, stated_at, all_due, all_kept, RunTime, TimeIn, Spent, IsTask, SpendMove, point_on, spend_moves}
+use Rattle.prem_sound.proofs.Spends.{off_before, Paid, scope_next, spend_issues, spend_ends, spend_rests}
+use Rattle.prem_sound.proofs.Sums.{sum_le, sum_less, sum_part, all_or_one, sum_list}
 
 -- ---- small facts
 

@@ -1,17 +1,10 @@
 -- By when a run of tasks with scripts has finished, where their instructions are parted into scopes.
-use Rattle.std.specs.Prelude.{◌≡◌, ℕ, ◌+◌, ◌*◌, ◌<◌, ◌≤◌, Bool, true, List, length}
-use Rattle.prem_plant.specs.Order.Order.{OrderRule}
-use Rattle.prem_isa.specs.Plain.{TaskRun}
-use Rattle.prem_lru.specs.Entries.{ReplacementRule}
-use Rattle.prem_gate.specs.declared.request.Request.{Request}
-use Rattle.prem_cycle.specs.State.{Setup, record_of}
-use Rattle.prem_cycle.specs.Cycle.{is_finished}
-use Rattle.prem_cycle.specs.Run.{run_of}
+use Rattle.prem_sound.specs.Prelude.{is_finished, run_of, Setup, record_of, Request, TaskRun, ReplacementRule, OrderRule, ◌≡◌, ℕ, ◌+◌, ◌*◌, ◌<◌, ◌≤◌, Bool, true, List, length}
+use Rattle.prem_sound.specs.Resident.Faultless.{IsPolicy}
+use Rattle.prem_sound.specs.Scopes.Charged.{Scoping, IsScoped, charges_by, all_charged, IsCharged}
 use Rattle.prem_sound.specs.Script.Script.{Script}
 use Rattle.prem_sound.specs.Script.Scripts.{sum_below, last_release, AreScripts}
-use Rattle.prem_sound.specs.Resident.Faultless.{IsPolicy}
 use Rattle.prem_sound.specs.Sound.{IsRun}
-use Rattle.prem_sound.specs.Scopes.Charged.{Scoping, IsScoped, charges_by, all_charged, IsCharged}
 
 -- the last release, and what the jobs of all tasks are charged, each of a task so much
 abbrev pub jobs_limit : Setup → (cost : ℕ → ℕ) → ℕ

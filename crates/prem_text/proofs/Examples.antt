@@ -1,13 +1,9 @@
 -- Small texts that are programs, and some that are none.
-use Rattle.std.proofs.Common.{[], ◌∷◌, ◌++◌, None, codes, refl, replicate}
-use Rattle.prem_syntax.specs.declared.tree.Ty.TheVariants as ty
-use Rattle.prem_syntax.specs.Syntax.{ProgramText, absent, global_item, function_item, no_statements}
-use Rattle.prem_text.specs.declared.lexing.token.fail.FrontFail.TheVariants.{Token, Syntax, TooDeep}
-use Rattle.prem_text.specs.Lexing.Spelling.{used_word, is_unused, reserved_word, longest_mark}
-use Rattle.prem_text.specs.Lexing.Literal.{literal_word}
-use Rattle.prem_text.specs.Lexing.Tokens.{first_token, start, step, lex, tokens_of}
-use Rattle.prem_text.specs.Texts.{IsProgramText, IsNoProgram}
+use Rattle.prem_text.proofs.Prelude.{ProgramText, absent, global_item, function_item, no_statements, literal_word, used_word, is_unused, reserved_word, longest_mark, first_token, start, lex}
+use Rattle.prem_text.proofs.Prelude.{tokens_of, IsProgramText, IsNoProgram, Token, Syntax, TooDeep, [], ◌∷◌, ◌++◌, None, codes, refl, replicate}
 use Rattle.prem_text.proofs.Whole.{text_sound, text_refused}
+use Rattle.prem_text.specs.Lexing.Tokens.{step}
+use Rattle.prem_syntax.specs.declared.tree.Ty.TheVariants as ty
 
 abbrev items : ProgramText
 items =

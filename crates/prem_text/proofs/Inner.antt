@@ -1,23 +1,17 @@
 -- No item of the grammar has the end of the text among its tokens.
-use Rattle.std.proofs.Common.{◌≡◌, Bool, true, false, List, [], ◌∷◌, ◌++◌, Option, None, Some, refl, not}
-use Rattle.std.proofs.lemmas.Bool.{and_parts, and_from}
-use Rattle.prem_text.specs.Lexing.Token.Lexeme.{Lexeme, name, number, word, mark, end_of_text, Seen}
-use Rattle.prem_text.specs.Grammar.Slots.{Slot, left_parenthesis, right_parenthesis, left_brace, right_brace, left_bracket, right_bracket, semicolon, comma, equal_sign, a_name}
-use Rattle.prem_text.specs.Grammar.Slots.{a_literal, the_else, the_range, the_predictable, the_region, the_void, the_return, the_end, fits, is_end}
-use Rattle.prem_text.specs.Grammar.Phrases.{Phrase, of_literal, of_name, of_element, of_bracket, of_prefix, of_infix, spelled, IsRow}
-use Rattle.prem_text.specs.Grammar.StatementPhrases.{StepForm, by_one_step, step_slots, Target, to_name, to_element, Direction, up, Parted, Arguments, no_arguments, arguments}
-use Rattle.prem_text.specs.Grammar.StatementPhrases.{StatementPhrase, StatementPhrases, of_block, of_if, of_else, of_for, of_while, of_output, of_call, of_input, of_call_to}
-use Rattle.prem_text.specs.Grammar.StatementPhrases.{of_assign, of_change, of_count, no_phrases, next_phrase, AreParted, AreArguments, IsStatement, AreStatements, parted_tokens}
-use Rattle.prem_text.specs.Grammar.StatementPhrases.{argument_tokens, target_tokens, written, all_written, change_sign, count_sign, if_head, for_head, for_bound, while_head}
-use Rattle.prem_text.specs.Grammar.StatementPhrases.{out_head, statement_tail, call_head, call_to_head, input_row}
-use Rattle.prem_text.specs.Grammar.ProgramPhrases.{TypeForm, void_type, type_slots, Declaration, IsDeclaration, declaration_tokens, ConstantPhrase, constant_slots, IsConstant}
-use Rattle.prem_text.specs.Grammar.ProgramPhrases.{PartedConstant, InitialPhrase, no_initial, one_initial, many_initial, ArePartedConstants, IsInitial, constants_tokens}
-use Rattle.prem_text.specs.Grammar.ProgramPhrases.{initial_tokens, IsLength, length_tokens, GlobalPhrase, IsGlobal, global_tokens, MarkPhrase, AreRegions, region_tokens, IsMark}
-use Rattle.prem_text.specs.Grammar.ProgramPhrases.{mark_tokens, RangePhrase, IsRange, range_tokens, ParameterPhrase, IsParameter, parameter_tokens, PartedParameter}
-use Rattle.prem_text.specs.Grammar.ProgramPhrases.{ParametersPhrase, of_void, of_parameters, ArePartedParameters, AreParameters, parted_parameter_tokens, parameters_tokens}
-use Rattle.prem_text.specs.Grammar.ProgramPhrases.{LocalPhrase, AreLocals, local_tokens, ResultPhrase, IsResult, result_tokens, FunctionPhrase, IsFunction, function_tokens}
-use Rattle.prem_text.specs.Grammar.ProgramPhrases.{ItemPhrase, of_global, of_function, IsItem, item_tokens, AreItems, items_tokens}
-use Rattle.prem_text.specs.Spelling.Spellings.{every}
+use Rattle.prem_text.proofs.Prelude.{Phrase, of_literal, of_name, of_element, of_bracket, of_prefix, of_infix, spelled, IsRow, TypeForm, void_type, type_slots, Declaration, IsDeclaration}
+use Rattle.prem_text.proofs.Prelude.{declaration_tokens, ConstantPhrase, constant_slots, IsConstant, PartedConstant, InitialPhrase, no_initial, one_initial, many_initial, ArePartedConstants}
+use Rattle.prem_text.proofs.Prelude.{IsInitial, constants_tokens, initial_tokens, IsLength, length_tokens, GlobalPhrase, IsGlobal, global_tokens, MarkPhrase, AreRegions, region_tokens}
+use Rattle.prem_text.proofs.Prelude.{IsMark, mark_tokens, RangePhrase, IsRange, range_tokens, ParameterPhrase, IsParameter, parameter_tokens, PartedParameter, ParametersPhrase, of_void}
+use Rattle.prem_text.proofs.Prelude.{of_parameters, ArePartedParameters, AreParameters, parted_parameter_tokens, parameters_tokens, LocalPhrase, AreLocals, local_tokens, ResultPhrase}
+use Rattle.prem_text.proofs.Prelude.{IsResult, result_tokens, FunctionPhrase, IsFunction, function_tokens, ItemPhrase, of_global, of_function, IsItem, item_tokens, AreItems, items_tokens}
+use Rattle.prem_text.proofs.Prelude.{Slot, left_parenthesis, right_parenthesis, left_brace, right_brace, left_bracket, right_bracket, semicolon, comma, equal_sign, a_name, a_literal}
+use Rattle.prem_text.proofs.Prelude.{the_else, the_range, the_predictable, the_region, the_void, the_return, the_end, fits, is_end, StepForm, by_one_step, step_slots, Target, to_name}
+use Rattle.prem_text.proofs.Prelude.{to_element, Direction, up, Parted, Arguments, no_arguments, arguments, StatementPhrase, StatementPhrases, of_block, of_if, of_else, of_for, of_while}
+use Rattle.prem_text.proofs.Prelude.{of_output, of_call, of_input, of_call_to, of_assign, of_change, of_count, no_phrases, next_phrase, AreParted, AreArguments, IsStatement, AreStatements}
+use Rattle.prem_text.proofs.Prelude.{parted_tokens, argument_tokens, target_tokens, written, all_written, change_sign, count_sign, if_head, for_head, for_bound, while_head, out_head}
+use Rattle.prem_text.proofs.Prelude.{statement_tail, call_head, call_to_head, input_row, Lexeme, name, number, word, mark, end_of_text, Seen, every, ◌≡◌, Bool, true, false, List, [], ◌∷◌}
+use Rattle.prem_text.proofs.Prelude.{◌++◌, Option, None, Some, refl, not, and_parts, and_from}
 use Rattle.prem_text.proofs.SpellingLemmas.Bytes.{every_append}
 
 abbrev pub is_inner : Seen → Bool

@@ -1,3 +1,4 @@
+pub mod Prelude
 pub mod LexingLemmas
 pub mod Inner
 pub mod Whole

@@ -1,29 +1,17 @@
 -- Reading a text gives what the text is, or why it is none.
-use Rattle.std.proofs.Common.{◌≡◌, ℕ, zero, suc, ◌+◌, Bool, true, false, List, [], ◌∷◌, ◌++◌, Some, Result, Ok, Err, refl, sym, ap, ◌∙◌, arith, nat_lt, append_assoc, lt-ltb}
-use Rattle.std.proofs.lemmas.Bool.{and_parts, and_from}
-use Rattle.std.proofs.lemmas.Bool.Decides.{nat_tests}
-use Rattle.prem_syntax.specs.Syntax.{ItemText, ProgramText}
-use Rattle.prem_text.specs.declared.lexing.token.fail.FrontFail.{FrontFail}
-use Rattle.prem_text.specs.declared.lexing.token.fail.FrontFail.TheVariants.{NotText, Token, Syntax, TooLong, TooDeep, OutOfMemory}
-use Rattle.prem_text.specs.Lexing.Token.Reading.{◌>>=◌, too_deep}
-use Rattle.prem_text.specs.Lexing.Token.Lexeme.{end_of_text, Seen}
-use Rattle.prem_text.specs.Lexing.Tokens.{tokens_of}
-use Rattle.prem_text.specs.Grammar.Slots.{the_end}
-use Rattle.prem_text.specs.Grammar.Item.{Stage, outside, finished, ItemStep, ahead, made, refused, step, is_too_deep}
-use Rattle.prem_text.specs.Grammar.Reader.{unless_deep, at_end, read_on, read}
-use Rattle.prem_text.specs.Grammar.Phrases.{IsRow}
-use Rattle.prem_text.specs.Grammar.ProgramPhrases.{items_tokens, program_tokens, program_tree}
-use Rattle.prem_text.specs.Grammar.Law.{stages, Begins}
-use Rattle.prem_text.specs.Spelling.Spellings.{every}
-use Rattle.prem_text.specs.Spelling.Division.{place_behind, Divides, up_to, gap, token, AreTokens}
-use Rattle.prem_text.specs.Texts.{IsProgramText, IsNoProgram, not_divided, unexpected, past}
+use Rattle.prem_text.proofs.Prelude.{ItemText, ProgramText, Stage, outside, finished, ItemStep, ahead, made, refused, step, is_too_deep, stages, Begins, IsRow, items_tokens, program_tokens}
+use Rattle.prem_text.proofs.Prelude.{program_tree, unless_deep, at_end, read_on, read, the_end, end_of_text, Seen, ◌>>=◌, too_deep, tokens_of, place_behind, Divides, up_to, gap, token}
+use Rattle.prem_text.proofs.Prelude.{AreTokens, every, IsProgramText, IsNoProgram, not_divided, unexpected, FrontFail, NotText, Token, Syntax, TooLong, TooDeep, OutOfMemory, ◌≡◌, ℕ, zero}
+use Rattle.prem_text.proofs.Prelude.{suc, ◌+◌, Bool, true, false, List, [], ◌∷◌, ◌++◌, Some, Result, Ok, Err, refl, sym, ap, ◌∙◌, arith, nat_lt, append_assoc, lt-ltb, and_parts, and_from}
+use Rattle.prem_text.proofs.Prelude.{nat_tests}
 use Rattle.prem_text.proofs.GrammarLemmas.Program.{Reached, reached, read_by, stages_step, read_step, shallow, deep, program_stages, programs_read}
-use Rattle.prem_text.proofs.GrammarLemmas.ProgramSound.{programs_sound}
 use Rattle.prem_text.proofs.GrammarLemmas.ProgramBegun.{begins_after}
 use Rattle.prem_text.proofs.GrammarLemmas.ProgramRefused.{refused_for, unexpected_refused, past_refused}
+use Rattle.prem_text.proofs.GrammarLemmas.ProgramSound.{programs_sound}
+use Rattle.prem_text.proofs.Inner.{is_inner, items}
 use Rattle.prem_text.proofs.SpellingLemmas.Bytes.{every_append}
 use Rattle.prem_text.proofs.SpellingLemmas.Exact.{sound, complete, refusals_sound, refusals_complete}
-use Rattle.prem_text.proofs.Inner.{is_inner, items}
+use Rattle.prem_text.specs.Texts.{past}
 
 -- ---- lines count from 1
 

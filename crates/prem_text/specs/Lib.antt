@@ -1,3 +1,4 @@
+pub mod Prelude
 pub mod Lexing
 pub mod Texts
 pub mod Spelling

@@ -1,15 +1,14 @@
 -- Which texts are programs, and why another is none.
-use Rattle.std.specs.Prelude.{◌≡◌, ℕ, true, List, Result}
-use Rattle.prem_syntax.specs.Syntax.{ProgramText}
+use Rattle.prem_text.specs.Prelude.{ProgramText, ◌≡◌, ℕ, true, List, Result}
+use Rattle.prem_text.specs.Grammar.Law.{are_within, IsUnexpected, IsPast}
+use Rattle.prem_text.specs.Grammar.ProgramPhrases.{ProgramPhrase, IsProgram, program_tokens, program_tree, program_past}
+use Rattle.prem_text.specs.Grammar.Reader.{read}
+use Rattle.prem_text.specs.Lexing.Token.Lexeme.{Seen}
+use Rattle.prem_text.specs.Lexing.Token.Reading.{◌>>=◌}
+use Rattle.prem_text.specs.Lexing.Tokens.{tokens_of}
+use Rattle.prem_text.specs.Spelling.Division.{AreTokens, Refused}
 use Rattle.prem_text.specs.declared.lexing.token.fail.FrontFail.{FrontFail}
 use Rattle.prem_text.specs.declared.lexing.token.fail.FrontFail.TheVariants.{Syntax, TooDeep}
-use Rattle.prem_text.specs.Lexing.Token.Reading.{◌>>=◌}
-use Rattle.prem_text.specs.Lexing.Token.Lexeme.{Seen}
-use Rattle.prem_text.specs.Lexing.Tokens.{tokens_of}
-use Rattle.prem_text.specs.Grammar.Reader.{read}
-use Rattle.prem_text.specs.Grammar.ProgramPhrases.{ProgramPhrase, IsProgram, program_tokens, program_tree, program_past}
-use Rattle.prem_text.specs.Grammar.Law.{are_within, IsUnexpected, IsPast}
-use Rattle.prem_text.specs.Spelling.Division.{AreTokens, Refused}
 
 -- what is read of a text, or its first refusal: the tokens of the whole text come first, then the grammar
 abbrev pub reads : List ℕ → Result ProgramText FrontFail

@@ -1,3 +1,4 @@
+pub mod Prelude
 pub mod LawsLemmas
 pub mod ShapesLemmas
 pub mod CopiesLemmas

@@ -1,5 +1,5 @@
 -- What is told in memory of the devices that words name is what is told of those of the set.
-use Rattle.std.specs.Prelude.{All, IfSome, drop, slice_index_or}
+use Rattle.std.specs.Prelude.{All, IfSome, slice_index_or}
 use Rattle.std.specs.List.{AllByRecursion}
 use Rattle.std.proofs.Common.{◌≡◌, ℕ, zero, suc, ◌+◌, ◌<◌, ◌≤◌, ◌^◌, refl, ap, ◌∙◌, sym, subst, arith, cond, Bool, true, false, List, [], ◌∷◌, length, map, Option, None, Some, slice_get}
 use Rattle.std.proofs.lemmas.List.{length-map}
@@ -17,14 +17,14 @@ use Rattle.prem_resp.specs.Lines.{all_within}
 use Rattle.prem_latency.specs.declared.wait.Asking.{Asking}
 use Rattle.prem_latency.specs.declared.wait.Closing.{Closing}
 use Rattle.prem_latency.specs.Wait.{IsAsking, IsFound, top, wait_of}
-use Rattle.prem_latency.specs.Sets.{asking_of, askings_of}
+use Rattle.prem_latency.specs.Sets.{asking_of}
 use Rattle.prem_latency.proofs.Found.{wait_found}
 use Rattle.prem_time.specs.declared.devices.Bus.{Bus}
 use Rattle.prem_time.specs.declared.devices.Named.{Named}
 use Rattle.prem_time.specs.Words.{AreDistances, Distance, most_cycles}
-use Rattle.prem_time.specs.Devices.{DeviceTold, askings_in, closed_to, closings_of, device_told, distances_of, every_of, named_before, named_from, named_in, wait_by}
-use Rattle.prem_time.specs.Told.{AreNamed, AreTold, HasClosed, IsBus, IsClosedAt, IsNamed, IsSpan, closed_told, devices_told, tops_of, waits_told}
-use Rattle.prem_time.proofs.NamedDevices.{every_is, get_within, mapped_there}
+use Rattle.prem_time.specs.Devices.{askings_in, closed_to, closings_of, device_told, every_of, named_before, named_from, named_in, wait_by}
+use Rattle.prem_time.specs.Told.{AreNamed, AreTold, HasClosed, IsBus, IsNamed, closed_told, devices_told, tops_of, waits_told}
+use Rattle.prem_time.proofs.NamedDevices.{every_is}
 
 -- ---- what devices ask
 
@@ -117,12 +117,6 @@ pub has_closed : (p : Plant) (tops : List ℕ) (n : ℕ) (placed : List Placed) 
     AllByRecursion AreSmall (map (times_of p tops) placed) → AllByRecursion (HasClosed n) (map (times_of p tops) placed)
 has_closed p tops n [] e small = tt
 has_closed p tops n (t ∷ ts) e small = (record { count = length-map tops (closed_by p t) ∙ e; small = small.0.closed }, has_closed p tops n ts e small.1)
-
-pub closed_at : (n i : ℕ) (times : List TimesText) → i < n → AllByRecursion (HasClosed n) times → AllByRecursion (IsClosedAt i) times
-closed_at n i [] lt h = tt
-closed_at n i (x ∷ xs) lt h =
-    let there : i < length x.closed = (let count : length x.closed ≡ n = h.0.count in omega (arith, lt, count)) in
-    (record { there = there; small = h.0.small i 0 there }, closed_at n i xs lt h.1)
 
 -- ---- what is written of them
 

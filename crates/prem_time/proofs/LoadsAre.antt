@@ -82,10 +82,6 @@ lent_found t tasks times loads found h et en el ef =
       long = mapped ∙ several ∙ sym few_loads;
     }
 
-pub lent_closed : (devices : List Device) (b : Bus) (t : Timed) (times : List TaskTimes) → HasDevices devices b t → times ≡ items_of t.tasks →
-    AllByRecursion (HasClosed (length b.named.items)) (map times_in times)
-lent_closed devices b t times h en = subst (λ (xs : List TaskTimes). AllByRecursion (HasClosed (length b.named.items)) (map times_in xs)) (sym en) h.closed
-
 pub lent_told : (devices : List Device) (b : Bus) (t : Timed) (loads : List Load) (found : List Busy) (times : List TimesText) (named : List Named)
     (waits : List (Option ℕ)) → HasDevices devices b t → named ≡ b.named.items →
     waits ≡ waits_told b.askings.items loads found times 0 b.named.items → AreTold devices named waits

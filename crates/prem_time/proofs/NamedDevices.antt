@@ -1,12 +1,12 @@
 -- The devices that words name are those of the set, with the distances that the words tell.
 use Rattle.std.specs.Prelude.{slice_index_or}
 use Rattle.std.specs.Str.{bytes_eq}
-use Rattle.std.proofs.Common.{◌≡◌, ℕ, zero, suc, ◌+◌, ◌<◌, ◌≤◌, ◌^◌, refl, ap, ◌∙◌, sym, subst, arith, cond, Bool, true, false, List, [], ◌∷◌, length, map, Option, None, Some, slice_get}
+use Rattle.std.proofs.Common.{◌≡◌, ℕ, zero, suc, ◌+◌, ◌≤◌, ◌^◌, refl, ap, ◌∙◌, subst, arith, cond, Bool, true, false, List, [], ◌∷◌, map, Option, None, Some, slice_get}
 use Rattle.prem_plant.specs.declared.plant.Device.{Device}
 use Rattle.prem_latency.specs.Sets.{distance_at}
 use Rattle.prem_latency.specs.Sets as waits
 use Rattle.prem_time.specs.declared.devices.Named.{Named}
-use Rattle.prem_time.specs.Words.{AreDistances, Distance, IsDistance}
+use Rattle.prem_time.specs.Words.{AreDistances, Distance}
 use Rattle.prem_time.specs.Devices.{device_at, distances_of, every_of, named_before, named_from, named_in, no_device}
 
 -- ---- what is told of a name
@@ -71,11 +71,6 @@ pub item_there : {A : Type 0} (xs : List A) (j : ℕ) (x z : A) → slice_get xs
 item_there [] j x z e = absurd cc
 item_there (y ∷ ys) zero x z e = cc
 item_there (y ∷ ys) (suc j) x z e = item_there ys j x z e
-
-pub get_within : {A : Type 0} (xs : List A) (j : ℕ) (x : A) → slice_get xs j ≡ Some x → j < length xs
-get_within [] j x e = absurd cc
-get_within (y ∷ ys) zero x e = omega arith
-get_within (y ∷ ys) (suc j) x e = let h : j < length ys = get_within ys j x e in omega (arith, h)
 
 pub distance_is : (ds : List Distance) (devices : List Device) (number every : ℕ) → IsDeviceOf ds devices number every → distance_at (distances_of ds devices) number ≡ Some every
 distance_is ds devices number every h = mapped_there (λ (x : Device). every_of ds x.name) devices number h.device None h.there ∙ h.told

@@ -8,7 +8,6 @@ use Rattle.prem_tasks.specs.Told.{Told}
 use Rattle.prem_tasks.specs.Broken.{TaskSet, broken}
 use Rattle.prem_wcet.specs.TimedOf.{IsTimed}
 use Rattle.prem_wcet.specs.declared.timed.Timed.{Timed}
-use Rattle.prem_answer.specs.declared.status.Status.TheVariants as status
 use Rattle.prem_answer.specs.Stages.{Reply, Reads, IsFine, IsGiven}
 use Rattle.prem_answer.specs.Tool.{IsSettled}
 use Rattle.prem_answer.proofs.Reading.{gives_at_once}
@@ -22,11 +21,6 @@ use Rattle.prem_time.specs.Told.{HasDevices, HasLoads, IsBus, text_by, tops_of}
 use Rattle.prem_time.proofs.Headline.{behind_set}
 use Rattle.prem_time.proofs.DevicesAre.{are_named}
 use Rattle.prem_time.proofs.LoadsAre.{has_devices, has_loads, text_is}
-
--- ---- a set
-
-abbrev done : List ℕ → Reply
-done text = (status.Done, text)
 
 -- one that breaks no rule
 pub told_is : (set : TaskSet) (ds : List Distance) (b : Bus) (t : Timed) (reply : Reply) → IsBus ds set.devices b → IsTimed set (tops_of b.askings.items b.named.items) t →

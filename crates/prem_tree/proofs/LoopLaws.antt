@@ -1,6 +1,6 @@
 -- Loops turn by turn, and calls by number.
 use Rattle.std.specs.Prelude.{slice_get}
-use Rattle.std.proofs.Common.{◌≡◌, ℕ, zero, suc, ◌-◌, ◌<◌, ◌≤◌, Bool, true, false, eqb, List, refl, ap, sym, ◌∙◌, arith, get_or, length, drop, ◌+◌, [], Ok, Err}
+use Rattle.std.proofs.Common.{◌≡◌, ℕ, zero, suc, ◌-◌, ◌<◌, ◌≤◌, Bool, true, false, eqb, List, refl, ap, sym, ◌∙◌, arith, get_or, length, drop, ◌+◌, Ok, Err}
 use Rattle.std.proofs.lemmas.List.{at_drop_more}
 use Rattle.prem_list.specs.declared.Sequence.{Sequence}
 use Rattle.prem_list.specs.Sequence.{items_of}
@@ -11,7 +11,7 @@ use Rattle.prem_tree.specs.declared.resolve.resolved.Step.{Step, Block, Row_of-S
 use Rattle.prem_tree.specs.declared.resolve.resolved.Step.TheBlock.{hidden-the_row-Step-0}
 use Rattle.prem_tree.specs.declared.resolve.resolved.Routine.{Routine}
 use Rattle.prem_tree.specs.State.Interpreter.{GoesWrong}
-use Rattle.prem_tree.specs.StepMeaning.{NotedCalls, do_step, do_row, do_list, do_if_there, noted_calls, noted_jobs}
+use Rattle.prem_tree.specs.StepMeaning.{NotedCalls, do_step, do_row, do_list, do_if_there, noted_calls}
 
 -- functions that agree, behind an outcome
 and_then-same : {A B : Type 0} (o : Outcome A) (f g : A → Outcome B) → ((x : A) → f x ≡ g x) → and_then o f ≡ and_then o g
@@ -80,7 +80,3 @@ pub do_list_more : (calls : NotedCalls) (steps : List Step) (i : ℕ) (x : Step)
     do_list calls (drop i steps) s ≡ and_then (do_step calls x s) (do_list calls (drop (i + 1) steps))
 do_list_more calls steps i x s inside is =
     at_drop_more (λ xs. do_list calls xs s) steps i x inside ∙ ap (λ y. and_then (do_step calls y s) (do_list calls (drop (i + 1) steps))) (sym is)
-
-noted_jobs-more : (rs : List Routine) (job n : ℕ) (s : ProgramState) → 0 < n → noted_jobs rs job n s ≡ and_then (noted_calls rs (length rs) job [] s) (λ r. noted_jobs rs job (n - 1) r.1)
-noted_jobs-more rs job zero s some = absurd (omega arith)
-noted_jobs-more rs job (suc n) s some = let less : suc n - 1 ≡ n = omega arith in rw less

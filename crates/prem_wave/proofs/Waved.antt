@@ -159,10 +159,6 @@ second false b e = absurd (cc)
 pub turn_goes : (at limit : ℕ) (stop : Stop) (has : Bool) → has ≡ (nat_lt at limit && goes_on stop) → has ≡ true → goes_on stop ≡ true
 turn_goes at limit stop has is there = second (nat_lt at limit) (goes_on stop) (sym is ∙ there)
 
--- what the values of a turn are by the numbers of signals
-abbrev seen : ℕ → ℕ → ℕ → MachineState → MachineState → List (Option ℕ)
-seen switch tasks devices s t = values_with switch tasks devices s t
-
 module _ (image : Image) (input : RunInput) (from limit at : ℕ) (stop : Stop) (m : Running) (header text : List ℕ) (last : List (Option ℕ))
     (w : IsWaved image input from limit at stop m header text last) where
   pub here : goes_on stop ≡ true → AtLimit at (state_of m)
@@ -230,12 +226,6 @@ module _ (image : Image) (input : RunInput) (from limit at : ℕ) (stop : Stop) 
             ∙ ap (λ k. last_between (last_of all from at) from k (state_of m').now x) now
             ∙ ap (λ k. last_between (last_of all from at) from at k x) (sym end) ∙ sym b.last_is ∙ ap (last_of all from) end;
       }
-
--- ---- the end
-
-whole_run : (image : Image) (input : RunInput) (n : ℕ) → after image input n ≡ image_run (rule_in (setup_of image)) image input n
-unfolding cycles_of
-whole_run image input n = refl
 
 ends_by : (image : Image) (input : RunInput) (from limit at : ℕ) (stop : Stop) (m : Running) (header text : List ℕ) (last : List (Option ℕ)) →
     IsWaved image input from limit at stop m header text last →

@@ -37,14 +37,6 @@ block_cut target ps s body xs is ex =
 pub steps_drop : (ss : List Step) (i : ℕ) (s : Step) → i < length ss → s ≡ get_or ss i s → drop i ss ≡ s ∷ drop (i + 1) ss
 steps_drop ss i s h is = drop_more ss i s h ∙ ap (λ x. x ∷ drop (i + 1) ss) (sym is)
 
--- ---- parts
-
-part_joined : (p : Part) (rest : Outline) → part_before p rest ≡ joined (part_before p ended) rest
-part_joined (Plain code names) rest = refl
-part_joined (Calling code names arguments count callee landing) rest = refl
-part_joined (Choice' code names condition skips p taken q other) rest = refl
-part_joined (Turning' code names first turns head before p body behind) rest = refl
-
 parts_joined : (xs ys : List Part) → parts_of (xs ++ ys) ≡ joined (parts_of xs) (parts_of ys)
 parts_joined [] ys = refl
 parts_joined (x ∷ xs) ys = ap (part_before x) (parts_joined xs ys) ∙ before_joined x (parts_of xs) (parts_of ys) where

@@ -50,23 +50,6 @@ start_told e at job code touched ps run touch is =
     (same_lines e.plant.line (with_ranges own f.code ++ with_ranges [] f.touched) (code_ranges v at s ++ data_ranges v s) all i)
     (same_lines e.plant.line (with_ranges [] f.touched) (data_ranges v s) held i))
 
--- ---- in memory
-
-pub job_cut : (e : Scene) (job start total n : ℕ) → (fact_of e job).cuts ≡ true → start ≡ own_start e → total ≡ (fact_of e job).parted.total → n ≡ clipped (start + total) → n ≡ clipped (job_by e job)
-job_cut e job start total n cuts es et en =
-    en ∙ (λ i. clipped (es i + et i))
-    ∙ ap clipped (sym (ap (λ b. cond b (own_start e + (fact_of e job).parted.total) (min (charge e (e.places start_part) (job_span job)) (own_start e + (fact_of e job).least))) cuts))
-
-pub job_quiet : (e : Scene) (job start least whole part n : ℕ) → (fact_of e job).cuts ≡ false → start ≡ own_start e → least ≡ (fact_of e job).least →
-    whole ≡ clipped (charge e (e.places start_part) (job_span job)) →
-    part ≡ clipped (start + least) → n ≡ min whole part → n ≡ clipped (job_by e job)
-job_quiet e job start least whole part n cuts es el ew ep en =
-    sum (charge e (e.places start_part) (job_span job)) (own_start e) (fact_of e job).least es el ew ep en
-    ∙ ap clipped (sym (ap (λ b. cond b (own_start e + (fact_of e job).parted.total) (min (charge e (e.places start_part) (job_span job)) (own_start e + (fact_of e job).least))) cuts))
-  where
-    sum : (c o l : ℕ) → start ≡ o → least ≡ l → whole ≡ clipped c → part ≡ clipped (start + least) → n ≡ min whole part → n ≡ clipped (min c (o + l))
-    sum c o l a b d f g = omega (arith, a, b, d, f, g)
-
 pub cut_told : (e : Scene) (job jump done n : ℕ) (first parted last inside whole : SumsTree) → jump ≡ own_jump e → done ≡ job_weight e.plant PmDone →
     sums_of first ≡ taking jump → sums_of last ≡ taking done → sums_of parted ≡ (fact_of e job).parted.sums →
     AreTold inside (chained (sums_of parted) (sums_of last)) → AreTold whole (chained (sums_of first) (sums_of inside)) → n ≡ greatest (sums_of whole) → clipped n ≡ clipped (cut_stretch e job)
@@ -75,15 +58,6 @@ cut_told e job jump done n first parted last inside whole ej ed ef el ep ei ew e
     let all = ew ∙ chained_alike (sums_of first) (sums_of inside) (taking (own_jump e))
     (chained (fact_of e job).parted.sums (taking (job_weight e.plant PmDone))) (ap clipped_sums ef ∙ ap (λ k. clipped_sums (taking k)) ej) behind in
     ap clipped en ∙ greatest_alike (sums_of whole) (chained (taking (own_jump e)) (chained (fact_of e job).parted.sums (taking (job_weight e.plant PmDone)))) all
-
-pub stretch_cut : (e : Scene) (job n : ℕ) → (fact_of e job).cuts ≡ true → clipped n ≡ clipped (cut_stretch e job) → clipped n ≡ clipped (stretch_by e job)
-stretch_cut e job n cuts told = told ∙ ap clipped (sym (ap (λ b. cond b (cut_stretch e job) (job_by e job)) cuts))
-
-pub stretch_quiet : (e : Scene) (job n : ℕ) → (fact_of e job).cuts ≡ false → n ≡ clipped (job_by e job) → clipped n ≡ clipped (stretch_by e job)
-stretch_quiet e job n cuts told = twice (job_by e job) told ∙ ap clipped (sym (ap (λ b. cond b (cut_stretch e job) (job_by e job)) cuts))
-  where
-    twice : (k : ℕ) → n ≡ clipped k → clipped n ≡ clipped k
-    twice k e = omega (arith, e)
 
 -- ---- where the facts in memory are told
 
@@ -132,13 +106,6 @@ module _ (p : Plant) (plans : List Plan) (program : Resolved) (t : TaskPlaces) (
     by false false same = job_alike
     by true false same = absurd cc
     by false true same = absurd cc
-
--- ---- both with the switch before it
-
-pub times_sum : (switch whole stretch most job long stated wcet longest : ℕ) → whole ≡ clipped job → clipped stretch ≡ clipped long →
-    most ≡ max stretch stated → wcet ≡ clipped (switch + whole) → longest ≡ clipped (switch + most) →
-    (wcet ≡ clipped (switch + job)) × (longest ≡ clipped (switch + max long stated))
-times_sum switch whole stretch most job long stated wcet longest ej es em ew el = (omega (arith, ej, ew), omega (arith, es, em, el))
 
 pub stated_are : (ns : List ℕ) (plans : List Plan) → length ns ≡ length plans → greatest_stated (with_lengths ns plans) ≡ greatest_length ns
 stated_are [] [] e = refl

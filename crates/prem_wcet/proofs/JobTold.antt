@@ -1,5 +1,5 @@
 -- What is told of a job is what it takes.
-use Rattle.std.proofs.Common.{◌≡◌, ℕ, ◌+◌, ◌<◌, ◌≤◌, ◌^◌, min, max, Bool, true, false, cond, List, length, map, slice_index_or, refl, ap, sym, ◌∙◌, subst, arith, ⊎_elim}
+use Rattle.std.proofs.Common.{◌≡◌, ℕ, ◌+◌, ◌<◌, ◌≤◌, ◌^◌, max, List, length, map, slice_index_or, refl, ap, sym, ◌∙◌, subst, arith, ⊎_elim}
 use Rattle.std.proofs.lemmas.Bool.{cases_lt}
 use Rattle.prem_list.specs.declared.Sequence.{Sequence}
 use Rattle.prem_list.specs.Sequence.{items_of}
@@ -9,7 +9,6 @@ use Rattle.prem_plant.specs.Ranges.{IsPlant}
 use Rattle.prem_asm.specs.Pieces.{Pieces}
 use Rattle.prem_syntax.specs.Resolved.{Resolved}
 use Rattle.prem_layout.specs.Plans.{Plan}
-use Rattle.prem_layout.specs.Parts.{start_part}
 use Rattle.prem_layout.specs.Bounds.{CodeTable, job_bound_of}
 use Rattle.prem_layout.specs.Placed.{Placed}
 use Rattle.prem_layout.specs.Stretch.Paths.{greatest_stated, longest_of}
@@ -18,9 +17,9 @@ use Rattle.prem_bounds.specs.TableOf.{listed, table_of}
 use Rattle.prem_bounds.proofs.Under.{longest_less}
 use Rattle.prem_place.specs.Placed.PlacedOf.{coded_of, plans_of}
 use Rattle.prem_place.specs.declared.placed.PlacedTask.{PlacedTask}
-use Rattle.prem_wcet_laws.specs.Scopes.{Fact, no_fact, Scene, fact_of, charge}
+use Rattle.prem_wcet_laws.specs.Scopes.{Fact, no_fact, Scene, fact_of}
 use Rattle.prem_wcet_laws.specs.Laws.{table_of as code_table}
-use Rattle.prem_wcet_laws.specs.Wcet.{own_start, known_scene, start_span, job_of, wcet_of, stretch_within, longest_wcet_of}
+use Rattle.prem_wcet_laws.specs.Wcet.{known_scene, job_of, wcet_of, stretch_within, longest_wcet_of}
 use Rattle.prem_wcet_laws.proofs.Facts.{wcet_is_within}
 use Rattle.prem_wcet_laws.proofs.Longest.{longest_is_within}
 use Rattle.prem_wcet.specs.Alike.{FactsAlike}
@@ -33,15 +32,6 @@ use Rattle.prem_wcet.specs.Lengths.{with_lengths}
 use Rattle.prem_wcet.proofs.AlikeScopes.{Alike}
 use Rattle.prem_wcet.proofs.JobSums.{job_alike, stretch_alike, stated_are}
 use Rattle.prem_wcet.proofs.SceneFits.{code_count}
-
--- the start counts something
-job_some : (e : Scene) (program : Resolved) → 1 ≤ job_of e program
-job_some e program = by (fact_of e program.job).cuts where
-  by : (b : Bool) → 1 ≤ cond b (own_start e + (fact_of e program.job).parted.total) (min (charge e (e.places start_part) (start_span program)) (own_start e + (fact_of e program.job).least))
-  by true = omega arith
-  by false =
-      let some : 1 ≤ charge e (e.places start_part) (start_span program) = omega arith in
-      omega (arith, some)
 
 -- what instructions weigh is at most what is told of it
 exact : (switch told job n : ℕ) → Alike told job → n ≡ clipped (switch + told) → switch + job ≤ 2 ^ 40 → n ≡ switch + job
@@ -87,9 +77,6 @@ module _ (p : Plant) (t : PlacedTask) (lengths : List ℕ) (whole : StandsWhole 
       let le = longest_is_within p plans program t.places stubs in
       let small = longest_small p plans (code_table p program stubs) plant.switch (omega (arith, stated, short)) bounded in
       omega (arith, le, small)
-
-  pub wcet_some : 1 ≤ wcet_of p plans program t.places
-  wcet_some = let some = job_some (known_scene p plans program t.places) program in omega (arith, some)
 
   pub wcet_told : (told n : ℕ) → Alike told (job_of (known_scene p plans program t.places) program) → n ≡ clipped (p.switch + told) → n ≡ wcet_of p plans program t.places
   wcet_told told n alike is = exact p.switch told (job_of (known_scene p plans program t.places) program) n alike is wcet_small

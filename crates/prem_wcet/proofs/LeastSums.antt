@@ -1,14 +1,11 @@
 -- Sums of least charges as they are told.
 use Rattle.std.proofs.Common.{◌≡◌, ℕ, zero, suc, ◌+◌, ◌*◌, ◌<◌, ◌^◌, min, max, List, [], ◌∷◌, refl, ap, sym, ◌∙◌, arith, length, drop, take, get_or}
-use Rattle.prem_plant.specs.declared.plant.Plant.{Plant}
-use Rattle.prem_asm.specs.Pieces.{Pieces, size_of, weighted, branch_of}
+use Rattle.prem_asm.specs.Pieces.{size_of, branch_of}
 use Rattle.prem_asm.specs.PiecesOf.{pieces_of}
 use Rattle.prem_asm.proofs.Rows.{followed_none}
-use Rattle.prem_layout.specs.Bounds.{job_weight, line_cost}
+use Rattle.prem_layout.specs.Bounds.{job_weight}
 use Rattle.prem_layout.specs.Template.Terms.{nonzero}
-use Rattle.prem_bounds.specs.declared.scale.Scale.{Scale}
-use Rattle.prem_bounds.specs.Scale.{clipped, with_misses, weight_by, calls_by}
-use Rattle.prem_bounds.proofs.Calls.{job_weights_same}
+use Rattle.prem_bounds.specs.Scale.{clipped}
 use Rattle.prem_bounds.proofs.Sums.{clipped_times}
 use Rattle.prem_wcet_laws.specs.Scopes.{Scene, charge}
 use Rattle.prem_wcet_laws.specs.Least.{own_jump, own_turns}
@@ -19,29 +16,6 @@ use Rattle.prem_wcet.specs.PartsOf.{part_before, part_of, parts_of, part_code}
 use Rattle.prem_wcet.specs.Fitting.{FitsAt, divided_in}
 use Rattle.prem_wcet.proofs.PartRows.{drop_part}
 use Rattle.prem_wcet.proofs.PlaceWeights.{size_followed}
-
--- ---- the rule's weights
-
-pub own_told : (rule : Scale) (p : Plant) → rule.access ≡ 2 * line_cost p → rule.other ≡ line_cost p → ((part : ℕ) → calls_by rule part ≡ 0) → (ps : Pieces) →
-    weighted (weight_by rule) (calls_by rule) ps ≡ weighted (job_weight p) (λ part. 0) ps
-own_told rule p access other calls ps = λ i. weighted
-    (λ x. (ap (λ a. with_misses a rule.other x) access ∙ ap (λ o. with_misses (2 * line_cost p) o x) other ∙ job_weights_same p x) i) (λ part. calls part i) ps
-
--- ---- sums
-
-pub choice_sum : (w j skips taken other product first second : ℕ) → product ≡ clipped (skips * j) → first ≡ clipped (taken + product) →
-    second ≡ clipped (j + other) → clipped (w + max first second) ≡ clipped (w + max (taken + skips * j) (j + other))
-choice_sum w j skips taken other product first second p f s = omega (arith, p, f, s)
-
-pub turns_sum : (turns w j head body start turn all : ℕ) → w ≡ j → start ≡ clipped (head + j) → turn ≡ clipped (clipped (start + body) + j) → all ≡ clipped (turns * turn) →
-    clipped (all + clipped (start + j)) ≡ clipped (turns * (head + w + body + j) + (head + w + j))
-turns_sum turns w j head body start turn all is s t a =
-    let whole : ℕ = head + w + body + j in
-    let one : clipped turn ≡ clipped whole = omega (arith, is, s, t) in
-    let product : clipped (turns * turn) ≡ clipped (turns * whole) = sym (clipped_times turns turn (2 ^ 41)) ∙ ap (λ k. clipped (turns * k)) one ∙ clipped_times turns whole (2 ^ 41) in
-    last all (turns * turn) (turns * whole) start a product where
-      last : (x y z b : ℕ) → x ≡ clipped y → clipped y ≡ clipped z → clipped (x + clipped (start + j)) ≡ clipped (z + (head + w + j))
-      last x y z b e f = omega (arith, e, f, s, is)
 
 -- ---- the first statement
 

@@ -1,5 +1,5 @@
 -- Statements with marked calls, counted from the last one on.
-use Rattle.std.proofs.Common.{◌≡◌, ℕ, zero, suc, ◌+◌, ◌-◌, ◌*◌, ◌<◌, ◌≤◌, ◌^◌, Bool, true, false, List, [], ◌∷◌, refl, ap, sym, subst, ◌∙◌, arith, length, drop, take, get_or}
+use Rattle.std.proofs.Common.{◌≡◌, ℕ, zero, suc, ◌+◌, ◌-◌, ◌*◌, ◌<◌, ◌≤◌, ◌^◌, Bool, true, false, List, [], ◌∷◌, ap, sym, subst, ◌∙◌, arith, length, drop, take, get_or}
 use Rattle.std.proofs.lemmas.List.{drop_more}
 use Rattle.prem_asm.specs.Pieces.{branch_of, size_of}
 use Rattle.prem_asm.specs.PiecesOf.{pieces_of}
@@ -136,25 +136,6 @@ pub record IsClosed (e : Scene) (last : Edge) (ps : List Part) (start n place un
   pub front : parts_of (take (until - n) (drop n ps)) ≡ front_in e (parts_of (drop n ps))
   pub behind : edge ≡ edge_in e last (parts_of (drop n ps))
   pub closed : AreAlike count (closed_in e last place (parts_of (drop n ps)))
-
-drop_all : {A : Type 0} (xs : List A) → drop (length xs) xs ≡ []
-drop_all [] = refl
-drop_all (x ∷ xs) = drop_all xs
-
--- none of them
-pub closed_end : (e : Scene) (last : Edge) (ps : List Part) (start n place until : ℕ) (edge : Edge) (count : Count) → n ≡ length ps →
-    until ≡ length ps → place ≡ start + size_of (code_of (parts_of ps)) → edge ≡ last →
-    count ≡ quiet 0 → IsClosed e last ps start n place until edge count
-closed_end e last ps start n place until edge count isn isu isp ise isc =
-    let none : drop n ps ≡ [] = ap (λ k. drop k ps) isn ∙ drop_all ps in
-    record {
-      low = omega (arith, isn, isu);
-      high = omega (arith, isu);
-      stand = (let size = ap (λ xs. size_of (code_of (parts_of xs))) none in omega (arith, isp, size));
-      front = (let nothing : until - n ≡ 0 = omega (arith, isn, isu) in ap (λ k. parts_of (take k (drop n ps))) nothing ∙ ap (λ xs. front_in e (parts_of xs)) (sym none));
-      behind = ise ∙ ap (λ xs. edge_in e last (parts_of xs)) (sym none);
-      closed = alike_is count (closed_in e last place (parts_of (drop n ps))) (isc ∙ ap (λ xs. closed_in e last place (parts_of xs)) (sym none));
-    }
 
 -- the list from one of them on
 taken_more : (ps : List Part) (n k : ℕ) (p : Part) → n < length ps → p ≡ get_or ps n p → parts_of (take (suc k) (drop n ps)) ≡ part_before p (parts_of (take k (drop (n + 1) ps)))
@@ -338,10 +319,6 @@ pub behind_told : (most : ℕ) (told : ℕ) (next tail cut rest r : Count) → t
     AreAlike r (then_count cut (then_count (quiet most) rest))
 behind_told most told next tail cut rest r ist isn t e =
     then_told cut cut tail (then_count (quiet most) rest) r e (alike_same cut) (then_told next (quiet most) rest rest tail t (quiet_told next told most isn ist) (alike_same rest))
-
--- a call
-pub call_told : (j : ℕ) (jump : ℕ) (over called r c : Count) → jump ≡ j → over ≡ quiet jump → called ≡ c → AreAlike r (then_count over called) → AreAlike r (then_count (quiet j) c)
-call_told j jump over called r c isj iso isc e = then_told over (quiet j) called c r e (alike_is over (quiet j) (iso ∙ ap quiet isj)) (alike_is called c isc)
 
 -- a choice
 pub cut_choice_told : (e : Scene) (skips w test : ℕ) (start sides first second x y r : Count) → test ≡ clipped w → start ≡ quiet test → AreAlike first x → AreAlike second y →

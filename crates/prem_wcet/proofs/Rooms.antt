@@ -15,7 +15,7 @@ use Rattle.prem_layout.specs.Footprint.{count_in}
 use Rattle.prem_layout.specs.Bounds.{line_cost}
 use Rattle.prem_wcet_laws.specs.Scopes.{crowd_cost, is_roomy, roomy_lines, scope_weight}
 use Rattle.prem_wcet.specs.declared.crowd.Crowd.{Crowd}
-use Rattle.prem_wcet.specs.Crowds.{IsCache, IsCrowd, access_by, fetch_by, has_room, place_weight}
+use Rattle.prem_wcet.specs.Crowds.{IsCrowd, access_by, fetch_by, has_room, place_weight}
 
 count_cons : (p : ℕ → Bool) (x : ℕ) (xs : List ℕ) (b : Bool) → p x ≡ b → count_by p (x ∷ xs) ≡ cond b 1 0 + count_by p xs
 count_cons p x xs b is = sum_by-cons (λ n. cond (p n) 1 0) x xs ∙ ap (λ c. cond c 1 0 + count_by p xs) is
@@ -80,14 +80,6 @@ crowd_told p lines touched counts roomy miss held alone plant are all cost kept 
     }
 
 module _ (p : Plant) (lines touched : List ℕ) (c : Crowd) (plant : IsPlant p) (is : IsCrowd p lines touched c) where
-  pub crowd_cache : IsCache c
-  crowd_cache = record {
-    line = omega (arith, is.line, plant.line.0);
-    some = omega (arith, is.sets, plant.sets.0);
-    most = omega (arith, is.sets, plant.sets.1);
-    miss = omega (arith, is.miss, plant.fill.1, plant.back.1);
-  }
-
   pub room_is : (n : ℕ) → has_room c n ≡ is_roomy p lines n
   room_is n =
       ap (λ k. nat_le (slice_index c.counts (n % k)) c.room) is.sets

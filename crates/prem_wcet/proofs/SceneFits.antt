@@ -1,27 +1,21 @@
 -- Scenes of a placed task in memory have its numbers, and stand for the definitions'.
 use Rattle.std.specs.Prelude.{slice_index, slice_index_or, slice_get, take}
-use Rattle.std.proofs.Common.{◌≡◌, ℕ, zero, suc, ◌+◌, ◌<◌, ◌≤◌, ◌^◌, ◌==◌, Bool, List, [], ◌∷◌, length, map, get_or, refl, ap, sym, subst, ◌∙◌, arith, Some}
-use Rattle.std.proofs.lemmas.List.{length-map}
+use Rattle.std.proofs.Common.{◌≡◌, ℕ, zero, suc, ◌+◌, ◌<◌, ◌≤◌, ◌==◌, Bool, List, [], ◌∷◌, length, map, get_or, refl, ap, sym, subst, ◌∙◌, arith, Some}
 use Rattle.prem_list.specs.declared.Sequence.{Sequence}
 use Rattle.prem_list.specs.Sequence.{items_of}
 use Rattle.prem_plant.specs.declared.plant.Plant.{Plant}
 use Rattle.prem_plant.specs.Places.{Extent}
-use Rattle.prem_plant.specs.Ranges.{IsPlant}
-use Rattle.prem_isa.specs.Decode.{cost_of}
 use Rattle.prem_syntax.specs.Resolved.{Routine, Resolved}
 use Rattle.prem_tree.specs.declared.resolve.resolved.Routine.{Routine as RoutineTree}
 use Rattle.prem_tree.specs.Resolve.ResolvedOf.{loops_of, routine_of, routines_of as resolved_routines}
 use Rattle.prem_asm.specs.declared.piece.Piece.{Piece}
-use Rattle.prem_asm.specs.Pieces.{no_pieces, size_of}
+use Rattle.prem_asm.specs.Pieces.{no_pieces}
 use Rattle.prem_layout.specs.Template.Frames.{frame_at}
 use Rattle.prem_layout.specs.Template.Steps.{Parts, function_code}
 use Rattle.prem_layout.specs.Template.Parts.{parts_of, codes_of}
 use Rattle.prem_layout.specs.Plans.{Plan, plans_of as program_plans}
 use Rattle.prem_layout.specs.Placed.{Placed}
-use Rattle.prem_layout.specs.Footprint.{TaskPlaces, place_at}
 use Rattle.prem_layout.proofs.TaskParts.{plans_counted}
-use Rattle.prem_split.specs.PlanOf.{plan_of}
-use Rattle.prem_bounds.specs.TableOf.{listed}
 use Rattle.prem_bounds.proofs.Steps.{listed_long}
 use Rattle.prem_place.specs.Placed.PlacedOf.{coded_of, plans_of, routines_of}
 use Rattle.prem_place.specs.declared.placed.PlacedTask.{PlacedTask}
@@ -31,47 +25,14 @@ use Rattle.prem_wcet_laws.specs.Scenes.{facts_in as task_facts, scene_in as task
 use Rattle.prem_wcet_laws.proofs.Facts.{codes_length}
 use Rattle.prem_wcet_laws.proofs.Scenes.{taken_length}
 use Rattle.prem_wcet.specs.Alike.{FactsAlike}
-use Rattle.prem_wcet.specs.Known.{TellsKnown}
-use Rattle.prem_wcet.specs.KnownOf.{AlikeRows, IsRule, StandsWhole, TellFaces, faces_in, memory_scene, stack_by}
+use Rattle.prem_wcet.specs.KnownOf.{AlikeRows, StandsWhole, TellFaces, faces_in, memory_scene, stack_by}
 use Rattle.prem_wcet.specs.Lengths.{with_lengths}
-use Rattle.prem_wcet.specs.SceneOf.{IsScene, face_at, facts_in}
+use Rattle.prem_wcet.specs.SceneOf.{face_at, facts_in}
 use Rattle.prem_wcet.specs.declared.scene.Face.{Face}
 use Rattle.prem_wcet.specs.declared.scene.Fact.{Fact as FactTree}
-use Rattle.prem_wcet.specs.declared.scene.Scene.{Scene as SceneTree}
 use Rattle.prem_wcet.proofs.FacesTell.{faces_tell}
 use Rattle.prem_wcet.proofs.KnownRows.{rows_each, rows_pieces}
 use Rattle.prem_wcet.proofs.ScenesAlike.{StandsFor}
-
--- ---- numbers
-
-pub scene_made : (p : Plant) (t : PlacedTask) (s : SceneTree) → StandsWhole p t → IsPlant p → IsRule p s.rule.now → s.plant.now ≡ p →
-    s.places.now ≡ t.places → s.code.now ≡ items_of t.table.code → length s.facts.now ≤ length s.code.now →
-    TellsKnown s.costs.now (λ at. cost_of) s.places.now (listed s.code.now) (length s.facts.now) → s.globals ≡ 1 + length (routines_of t) + length (items_of t.plans) → IsScene s
-scene_made p t s whole plant rule ep et ec known costs globals =
-    let rule2 : IsRule s.plant.now s.rule.now = subst (λ q. IsRule q s.rule.now) (sym ep) rule in
-    record {
-      plant = subst IsPlant (sym ep) plant;
-      few = subst (λ c. length c ≤ 256) (sym ec) whole.task.table.code;
-      known = known;
-      access = rule2.access;
-      other = rule2.other;
-      bare = rule2.bare;
-      ends = subst (λ c. (n : ℕ) → n < length (listed c) → (place_at s.places.now (1 + n)).0 + size_of (get_or (listed c) n no_pieces) < 2 ^ 32) (sym ec)
-          (subst (λ places. (n : ℕ) → n < length (listed (items_of t.table.code)) →
-          (place_at places (1 + n)).0 + size_of (get_or (listed (items_of t.table.code)) n no_pieces) < 2 ^ 32) (sym et) ends);
-      costs = costs;
-      first_global = globals ∙ count ∙ ap (λ (places : TaskPlaces). 1 + places.functions + length places.marked) (sym et);
-      parts = subst (λ (places : TaskPlaces). length places.places < 2 ^ 32) (sym et) whole.few;
-    }
-  where
-    below : (a : ℕ) → a ≤ 2 ^ 24 → a < 2 ^ 32
-    below a le = omega (arith, le)
-
-    ends : (n : ℕ) → n < length (listed (items_of t.table.code)) → (place_at t.places (1 + n)).0 + size_of (get_or (listed (items_of t.table.code)) n no_pieces) < 2 ^ 32
-    ends n lt = below _ (whole.ends n (omega (arith, lt, listed_long (items_of t.table.code))))
-
-    count : 1 + length (routines_of t) + length (items_of t.plans) ≡ 1 + t.places.functions + length t.places.marked
-    count = λ i. 1 + sym whole.functions i + (sym (length-map (items_of t.plans) plan_of) ∙ sym whole.marked) i
 
 -- there is code for each function
 pub code_count : (p : Plant) (t : PlacedTask) → StandsWhole p t → length (items_of t.table.code) ≡ length (coded_of t).program.routines

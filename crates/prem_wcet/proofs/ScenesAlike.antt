@@ -47,17 +47,11 @@ pub alike_trans : (a b c : Count) → AreAlike a b → AreAlike b c → AreAlike
 alike_trans a b c f g = record { total = f.total ∙ g.total; sums = f.sums ∙ g.sums }
 
 module _ (e v : Scene) (s : StandsFor e v) where
-  abbrev w : Scene
-  w = other_scene e v.parts v.plans v.stub v.facts
-
   pub charges : (at : ℕ) (x : Span) → charge e at x ≡ charge v at x
   charges at x = charge_same e v.parts v.plans v.stub v.facts s.each s.pieces at x ∙ ap (λ z. charge z at x) s.same
 
   pub leasts : (at : ℕ) (o : Outline) → Alike (least_in e at o) (least_in v at o)
   leasts at o = least_alike e v.parts v.plans v.stub v.facts s.each s.pieces at o ∙ ap (λ z. clipped (least_in z at o)) s.same
-
-  pub plants : e.plant ≡ v.plant
-  plants = ap (λ (z : Scene). z.plant) s.same
 
   pub owns : (ps : Pieces) → own e ps ≡ own v ps
   owns ps = ap (λ z. own z ps) s.same

@@ -1,43 +1,23 @@
 -- Loads and stores alone access bytes, and what own code is charged where it stands alone.
-use Rattle.std.proofs.Common.{◌≡◌, ℕ, ◌+◌, ◌*◌, ◌/◌, ◌%◌, ◌≤◌, refl, ap, ◌∙◌, sym, subst, arith, cond, eqb, leb, List, [], ◌∷◌, length, max, Some, None, Option, false}
-use Rattle.std.proofs.lemmas.Bool.{cond_both}
-use Rattle.prem_word.specs.Bytes.{number_at}
-use Rattle.prem_plant.specs.declared.plant.Target.{Target}
-use Rattle.prem_isa.specs.declared.instr.Instr.{Instr}
-use Rattle.prem_isa.specs.declared.instr.Instr.TheVariants.{Lui, Auipc, Jal, Jalr, Branch, Load, Store, OpImm, Op, MulDiv, Fence, Ecall, Ebreak, PmMem, PmExec, PmEnd, PmDone, PmIn, PmOut}
+use Rattle.prem_wcet_laws.proofs.Prelude.{pieces_good, stepped_by, Pieces, no_pieces, straight, address_of, either, repeat, call_to, weight, jump_weight, address_weight, branch_of}
+use Rattle.prem_wcet_laws.proofs.Prelude.{skip_words, other_at, either_end, test_at, repeat_end, weighted, EachPiece, Guard, Setting, Calls, Ending, Falls, Returns, Stuck, stepped}
+use Rattle.prem_wcet_laws.proofs.Prelude.{outcome_at, control, run, AllSteps, Holds, Within, total, Rules, extended_done, sets, jumps, accesses, loads, stores, changes, takes, puts}
+use Rattle.prem_wcet_laws.proofs.Prelude.{in_phase, plus, load_size, store_size, multiply_divide, OnDone, cost_of, TaskState, Did, next_input, Align, Outside, Stay, Memory, Execute, End}
+use Rattle.prem_wcet_laws.proofs.Prelude.{Job, Effect, Outcome, Trap, Phase, Compatible, Execution, Instr, Lui, Auipc, Jal, Jalr, Branch, Load, Store, OpImm, Op, MulDiv, Fence, Ecall}
+use Rattle.prem_wcet_laws.proofs.Prelude.{Ebreak, PmMem, PmExec, PmEnd, PmDone, PmIn, PmOut, line_cost, job_weight, Plant, Target, StaysOn, Weighs, weight_of, access_lines, lone_charge}
+use Rattle.prem_wcet_laws.proofs.Prelude.{Divides, RunDivides, Accesses, is_foreign, IsNative, weight_from, weighted_from, number_at, ◌≡◌, ℕ, ◌+◌, ◌*◌, ◌/◌, ◌%◌, ◌≤◌, refl, ap, ◌∙◌, sym}
+use Rattle.prem_wcet_laws.proofs.Prelude.{subst, arith, cond, eqb, leb, List, [], ◌∷◌, length, max, Some, None, Option, false, cond_both}
+use Rattle.prem_isa.specs.Alu.{holds}
 use Rattle.prem_isa.specs.declared.effect.Access.{Access}
-use Rattle.prem_isa.specs.declared.effect.Cause.TheVariants.{Align, Outside}
-use Rattle.prem_isa.specs.declared.effect.Change.TheVariants.{Stay, Memory, Execute, End, Job}
-use Rattle.prem_isa.specs.declared.effect.Phase.{Phase}
-use Rattle.prem_isa.specs.declared.effect.Phase.TheVariants.{Compatible, Memory as MemoryPhase, Execution}
-use Rattle.prem_isa.specs.declared.effect.Effect.{Effect}
-use Rattle.prem_isa.specs.declared.effect.Outcome.{Outcome}
-use Rattle.prem_isa.specs.declared.effect.Outcome.TheVariants.{Trap, Done}
-use Rattle.prem_isa.specs.Alu.{plus, holds, load_size, store_size, multiply_divide}
-use Rattle.prem_isa.specs.Act.{sets, jumps, accesses, loads, stores, changes, takes, puts, in_phase}
-use Rattle.prem_isa.specs.Bounds.{OnDone}
-use Rattle.prem_isa.specs.Plain.{TaskState, Did, next_input}
-use Rattle.prem_isa.proofs.Forms.{extended_done}
-use Rattle.prem_plant.specs.declared.plant.Plant.{Plant}
-use Rattle.prem_isa.specs.Decode.{cost_of}
-use Rattle.prem_asm.specs.Pieces.{Pieces, no_pieces, straight, address_of, either, repeat, call_to, code_of, weight, jump_weight, address_weight, branch_of, skip_words, other_at}
-use Rattle.prem_asm.specs.Pieces.{either_end, test_at, repeat_end, weighted}
-use Rattle.prem_layout.specs.Bounds.{line_cost, job_weight}
-use Rattle.prem_asm.specs.Runs.{Guard, Setting, Calls, Ending, Falls, Returns, Stuck, stepped, outcome_at, control, run}
-use Rattle.prem_asm.specs.Steps.{AllSteps, Holds, Within, total, AllCode, Rules}
-use Rattle.prem_asm.proofs.Shape.{stepped_by}
-use Rattle.prem_wcet_laws.specs.Weights.{weight_from, weighted_from}
-use Rattle.prem_wcet_laws.specs.Divided.{StaysOn, Weighs, weight_of, access_lines, lone_charge, Divides, RunDivides}
-use Rattle.prem_wcet_laws.specs.Keeping.{Accesses, is_foreign, IsNative}
+use Rattle.prem_isa.specs.declared.effect.Outcome.TheVariants.{Done}
+use Rattle.prem_isa.specs.declared.effect.Phase.TheVariants.{Memory as MemoryPhase}
 use Rattle.prem_wcet_laws.proofs.Calls.{EachCall}
+use Rattle.prem_wcet_laws.proofs.Divide.{divides_alone}
 use Rattle.prem_wcet_laws.proofs.EveryCalled.{every}
 use Rattle.prem_wcet_laws.proofs.PlaceCost.{run_in_each}
 use Rattle.prem_wcet_laws.proofs.ScopeCosts.{total_less}
-use Rattle.prem_wcet_laws.proofs.Divide.{divides_alone}
-use Rattle.prem_asm.proofs.Quiet.{pieces_good}
-use Rattle.prem_asm.specs.Quiet.{EachPiece}
 
-none_access : (i : Instr) → Accesses i None
+pub none_access : (i : Instr) → Accesses i None
 none_access (Lui rd imm) = refl
 none_access (Auipc rd imm) = refl
 none_access (Jal rd offset) = refl

@@ -1,22 +1,13 @@
 -- Courses of runs, with marked calls, go together as divisions do.
-use Rattle.std.proofs.Common.{◌≡◌, ℕ, zero, suc, ◌+◌, ◌*◌, ◌≤◌, refl, ap, ◌∙◌, sym, subst, arith, true, pos, List, [], ◌∷◌, ◌++◌, append-nil}
-use Rattle.prem_plant.specs.declared.plant.Plant.{Plant}
-use Rattle.prem_isa.specs.declared.instr.Instr.TheVariants.{Jalr, PmMem}
-use Rattle.prem_isa.specs.Plain.{TaskState, Did}
-use Rattle.prem_asm.specs.Pieces.{Pieces, followed, size_of}
-use Rattle.prem_asm.specs.Runs.{Setting, Calls, Ending, Falls, Returns, Stuck, with_trace, then_run, choose, Loop, left_loop, run_turns, run}
-use Rattle.prem_asm.proofs.Shape.{choose_both}
-use Rattle.prem_asm.proofs.Follow.{run-followed}
-use Rattle.prem_layout.specs.Bounds.{job_weight}
-use Rattle.prem_layout.specs.Stretch.Paths.{Path, Takes, Cuts}
-use Rattle.prem_layout.specs.Stretch.Sums.{chained, taking, sums_of_path}
-use Rattle.prem_layout.proofs.StretchLemmas.Algebra.{none_taken, taken}
-use Rattle.prem_layout.proofs.StretchLemmas.Exact.{path_joined}
-use Rattle.prem_wcet_laws.specs.Counts.{Count, quiet, then_count, turned_count, IsNoMore}
-use Rattle.prem_wcet_laws.specs.Divided.{Division, ends, alone, together, section, joined, steps_of, charge_of, path_of, count_of, lone_charge, scope_charge, IsDivision, IsCourse}
-use Rattle.prem_wcet_laws.specs.Divided.{Divides, RunDivides, Courses, RunCourses}
-use Rattle.prem_wcet_laws.proofs.Counting.{same_count, no_more_then, quiet_more, then_no_more, count_is, then_assoc, quiet_then, nothing_first, by_same, grows, turned_out, turned_next}
+use Rattle.prem_wcet_laws.proofs.Prelude.{run-followed, choose_both, Pieces, followed, size_of, Setting, Calls, Ending, Falls, Returns, Stuck, with_trace, then_run, Loop, left_loop}
+use Rattle.prem_wcet_laws.proofs.Prelude.{run_turns, run, TaskState, Did, Jalr, PmMem, taken, path_joined, job_weight, Takes, Cuts, chained, taking, sums_of_path, Plant, Count, quiet}
+use Rattle.prem_wcet_laws.proofs.Prelude.{then_count, turned_count, IsNoMore, Division, ends, alone, together, section, joined, steps_of, charge_of, path_of, count_of, lone_charge}
+use Rattle.prem_wcet_laws.proofs.Prelude.{scope_charge, IsDivision, IsCourse, Divides, RunDivides, Courses, RunCourses, ◌≡◌, ℕ, zero, suc, ◌+◌, refl, ap, ◌∙◌, sym, subst, arith, true, List}
+use Rattle.prem_wcet_laws.proofs.Prelude.{[], ◌∷◌, ◌++◌, append-nil}
+use Rattle.prem_asm.specs.Runs.{choose}
+use Rattle.prem_wcet_laws.proofs.Counting.{same_count, no_more_then, quiet_more, then_no_more, count_is, then_assoc, quiet_then, by_same, grows, turned_out, turned_next}
 use Rattle.prem_wcet_laws.proofs.Divide.{joined_steps, joined_charge, joined_loose}
+use Rattle.std.proofs.Common.{pos}
 
 module _ (p : Plant) (Marked : List Did → ℕ → Type 0) where
   course_keeps : (x y : Division) → IsCourse Marked p.line x → IsCourse Marked p.line y → IsCourse Marked p.line (joined x y)

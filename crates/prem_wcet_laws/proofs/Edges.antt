@@ -1,33 +1,12 @@
 -- What the code at the edges of passages does: the frame and the locals, the arguments, the target, the result and the return.
-use Rattle.std.specs.Prelude.{slice_index}
-use Rattle.std.proofs.Common.{◌≡◌, ℕ, zero, suc, ◌+◌, ◌-◌, ◌*◌, ◌%◌, ◌^◌, ◌<◌, ◌≤◌, refl, ap, ◌∙◌, sym, subst, arith, true, Bool, ◌&&◌, List, [], ◌∷◌, ◌++◌, length, Option, Some, None, Ok, inl}
-use Rattle.prem_word.specs.Bytes.{number_at, put_number}
-use Rattle.prem_isa.specs.declared.instr.LoadOp.TheVariants.{Lw}
-use Rattle.prem_isa.specs.declared.instr.StoreOp.TheVariants.{Sw}
-use Rattle.prem_isa.specs.declared.effect.Phase.{Phase}
-use Rattle.prem_isa.specs.Plain.{TaskState, Did}
-use Rattle.prem_syntax.specs.Resolved.{Term, Routine}
-use Rattle.prem_syntax.specs.Expressions.{Access, Outcome}
-use Rattle.prem_syntax.specs.Statements.{ProgramState, value, values, declare, result_of}
-use Rattle.prem_asm.specs.Pieces.{Pieces, no_pieces, straight, followed, size_of}
-use Rattle.prem_asm.specs.Runs.{Setting, Calls, Falls, Returns, with_trace, then_run, all_of, run}
-use Rattle.prem_asm.proofs.Follow.{run-followed}
-use Rattle.prem_layout.specs.Template.Terms.{only, term_code}
-use Rattle.prem_layout.specs.Template.Frames.{locals_of, slots_of, frame_of}
-use Rattle.prem_layout.specs.Template.Steps.{argument_slot, store_argument, argument_code, target_code, declare_code, result_code, store_slot, opening, closing}
-use Rattle.prem_code_laws.specs.ExprLaws.Relation.{Globals, GlobalsStand, Stack, Ground, AreApart}
-use Rattle.prem_code_laws.specs.GenLaws.Fits.{AllFit}
-use Rattle.prem_code_laws.specs.GenLaws.Functions.{DeclaredFit, ResultFits}
-use Rattle.prem_code_laws.specs.GenLaws.Jobs.{Between}
-use Rattle.prem_code_laws.specs.GenLaws.Matches.{Matches, slot_at, ArgumentsStand}
-use Rattle.prem_code_laws.proofs.ExprLawsLemmas.Runs.{goes_then, before, after}
-use Rattle.prem_code_laws.proofs.ExprLawsLemmas.Loads.{Readable}
-use Rattle.prem_code_laws.proofs.ExprLawsLemmas.Cells.{all_between}
-use Rattle.prem_code_laws.proofs.ExprLawsLemmas.Terms.{then_ok, same_ok}
-use Rattle.prem_code_laws.proofs.GenLawsLemmas.Memory.{number_same, number_apart, word_back, store_falls, globals_stack, locals_apart}
-use Rattle.prem_code_laws.proofs.GenLawsLemmas.Parts.{evaluated, still, value_word, slot_falls}
-use Rattle.prem_code_laws.proofs.GenLawsLemmas.Frames.{declared, Opened, opened, closed}
-use Rattle.prem_code_laws.proofs.GenLawsLemmas.Functions.{rounded, resulted}
+use Rattle.prem_wcet_laws.proofs.Prelude.{run-followed, Pieces, no_pieces, straight, followed, size_of, Setting, Calls, Falls, Returns, with_trace, then_run, all_of, run, all_between}
+use Rattle.prem_wcet_laws.proofs.Prelude.{Readable, goes_then, before, after, then_ok, Opened, closed, rounded, resulted, number_same, number_apart, word_back, store_falls, globals_stack}
+use Rattle.prem_wcet_laws.proofs.Prelude.{locals_apart, evaluated, still, slot_falls, Globals, GlobalsStand, Stack, Ground, AreApart, AllFit, DeclaredFit, ResultFits, Between, Matches}
+use Rattle.prem_wcet_laws.proofs.Prelude.{slot_at, ArgumentsStand, TaskState, Did, Phase, Lw, Sw, locals_of, slots_of, frame_of, argument_slot, store_argument, argument_code, target_code}
+use Rattle.prem_wcet_laws.proofs.Prelude.{declare_code, result_code, store_slot, opening, closing, only, term_code, Access, Term, Routine, ProgramState, value, values, declare, result_of}
+use Rattle.prem_wcet_laws.proofs.Prelude.{number_at, put_number, ◌≡◌, ℕ, zero, suc, ◌+◌, ◌-◌, ◌*◌, ◌%◌, ◌^◌, ◌<◌, ◌≤◌, refl, ap, ◌∙◌, subst, arith, true, Bool, ◌&&◌, List, [], ◌∷◌, ◌++◌}
+use Rattle.prem_wcet_laws.proofs.Prelude.{length, Option, Some, None, Ok, inl}
+use Rattle.prem_code_laws.proofs.GenLawsLemmas.Frames.{declared, opened}
 
 module _ (s : Setting) (calls : Calls) (gs : Globals) (may : Access) (k : Stack) (ground : Ground s gs may k) (phase : Phase) where
   -- ---- arguments

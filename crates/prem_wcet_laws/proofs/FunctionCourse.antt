@@ -1,34 +1,12 @@
 -- Functions with marked calls run in scopes and marked calls, charged no more than their parted charge.
-use Rattle.std.proofs.Common.{◌≡◌, ℕ, ◌+◌, ◌*◌, ◌%◌, ◌^◌, ◌<◌, ◌≤◌, refl, ap, ◌∙◌, sym, subst, arith, List, length, Ok}
-use Rattle.prem_isa.specs.declared.effect.Phase.{Phase}
-use Rattle.prem_isa.specs.Plain.{TaskState, Did}
-use Rattle.prem_syntax.specs.Resolved.{Routine}
-use Rattle.prem_syntax.specs.Expressions.{Access}
-use Rattle.prem_syntax.specs.Statements.{ProgramState, declare, result_of, run as run_source}
-use Rattle.prem_syntax.specs.Source.{Limits, calls_below}
-use Rattle.prem_asm.specs.Pieces.{Pieces, straight, followed, words, size_of}
-use Rattle.prem_asm.specs.Runs.{Setting, Calls, Falls, run}
-use Rattle.prem_asm.proofs.Rows.{words-followed}
-use Rattle.prem_layout.specs.Template.Terms.{only}
-use Rattle.prem_layout.specs.Template.Frames.{counters_in, locals_of, slots_of, frame_of}
-use Rattle.prem_layout.specs.Template.Steps.{Parts, opening, closing, declare_code, result_code, steps_code, function_code}
-use Rattle.prem_code_laws.specs.ExprLaws.Relation.{Globals, Stack}
-use Rattle.prem_code_laws.specs.GenLaws.Fits.{Callees}
-use Rattle.prem_code_laws.specs.GenLaws.Functions.{FunctionFits, performed}
-use Rattle.prem_code_laws.specs.GenLaws.Jobs.{Between}
-use Rattle.prem_code_laws.specs.GenLaws.Matches.{ArgumentsStand}
-use Rattle.prem_code_laws.specs.GenLaws.Table.{Codes}
-use Rattle.prem_code_laws.proofs.ExprLawsLemmas.Terms.{then_ok}
-use Rattle.prem_code_laws.proofs.GenLawsLemmas.Memory.{number_same}
-use Rattle.prem_wcet_laws.specs.Scopes.{Scene}
-use Rattle.prem_wcet_laws.specs.Least.{declared as declared_code}
-use Rattle.prem_wcet_laws.specs.Parted.{entry, leaving, parted_function}
-use Rattle.prem_wcet_laws.specs.Divided.{RunCourses}
-use Rattle.prem_wcet_laws.specs.ScopeLaws.{Stands}
-use Rattle.prem_wcet_laws.specs.PartedLaws.{Mixes, FunctionsCourse, is_marked}
-use Rattle.prem_wcet_laws.proofs.Edges.{Entered, entered}
-use Rattle.prem_wcet_laws.proofs.Passages.{entry_goes, leaving_goes}
+use Rattle.prem_wcet_laws.proofs.Prelude.{words-followed, straight, followed, words, size_of, Falls, run, then_ok, number_same, locals_of, slots_of, frame_of, Parts, opening, closing}
+use Rattle.prem_wcet_laws.proofs.Prelude.{declare_code, result_code, steps_code, function_code, only, calls_below, ProgramState, declare, result_of, declared as declared_code, entry}
+use Rattle.prem_wcet_laws.proofs.Prelude.{leaving, FunctionsCourse, ◌≡◌, ℕ, ◌+◌, ◌*◌, ◌%◌, ◌^◌, ◌<◌, refl, ◌∙◌, sym, subst, arith, length}
+use Rattle.prem_syntax.specs.Statements.{run as run_source}
+use Rattle.prem_wcet_laws.proofs.Edges.{entered}
 use Rattle.prem_wcet_laws.proofs.PartedRuns.{Here, tail, fresh}
+use Rattle.prem_wcet_laws.proofs.Passages.{entry_goes, leaving_goes}
+use Rattle.prem_wcet_laws.specs.PartedLaws.{is_marked}
 
 pub functions_course : FunctionsCourse
 functions_course e s gs parts cs every phase c routines total_functions st may limits calls k marked mixed f at depth under fit slots_is space ws q t

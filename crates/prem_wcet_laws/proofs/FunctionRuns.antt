@@ -1,58 +1,29 @@
 -- Functions run in scopes that are charged no more than their least charge.
-use Rattle.std.specs.Prelude.{map}
-use Rattle.std.specs.List.{list_all, flat_map}
-use Rattle.std.proofs.Common.{◌≡◌, ℕ, ◌+◌, ◌-◌, ◌*◌, ◌%◌, ◌^◌, ◌<◌, ◌≤◌, refl, ap, ◌∙◌, sym, subst, arith, true, List, [], ◌∷◌, ◌++◌, inl, inr, ◌⊎◌, length, Ok}
-use Rattle.prem_word.specs.Bytes.{put_number}
-use Rattle.prem_isa.specs.declared.effect.Phase.{Phase}
-use Rattle.prem_isa.specs.Plain.{TaskState, Did}
-use Rattle.prem_syntax.specs.Resolved.{Routine}
-use Rattle.prem_syntax.specs.Expressions.{Access}
-use Rattle.prem_syntax.specs.Statements.{ProgramState, declare, result_of, run as run_source}
-use Rattle.prem_syntax.specs.Source.{Limits, calls_below}
-use Rattle.prem_syntax.specs.Reach.{IsAmong, callees_in}
-use Rattle.prem_asm.specs.Pieces.{Pieces, followed, size_of}
-use Rattle.prem_asm.specs.Runs.{Guard, Setting, Calls, Falls, Returns, then_run, run}
-use Rattle.prem_asm.specs.Steps.{AllSteps, Holds, Same, Within, total}
-use Rattle.prem_asm.proofs.Grow.{guard_grows}
-use Rattle.prem_asm.proofs.Rows.{words-followed}
-use Rattle.prem_layout.specs.Template.Terms.{only}
-use Rattle.prem_layout.specs.Template.Frames.{locals_of, slots_of, frame_of}
-use Rattle.prem_layout.specs.Template.Steps.{Parts, opening, closing, declare_code, result_code, steps_code, function_code}
-use Rattle.prem_code_laws.specs.ExprLaws.Relation.{Globals, Stack, Ground, AreApart}
-use Rattle.prem_code_laws.specs.GenLaws.Fits.{Callees}
-use Rattle.prem_code_laws.specs.GenLaws.Functions.{FunctionFits, performed}
-use Rattle.prem_code_laws.specs.GenLaws.Jobs.{Between}
-use Rattle.prem_code_laws.specs.GenLaws.Matches.{Matches, ArgumentsStand, at_frame}
-use Rattle.prem_code_laws.specs.GenLaws.Laws.{with_globals, CalleesAt}
-use Rattle.prem_code_laws.specs.GenLaws.Table.{Codes, code_calls}
-use Rattle.prem_code_laws.proofs.ExprLawsLemmas.Cells.{all_between}
-use Rattle.prem_code_laws.proofs.ExprLawsLemmas.Terms.{then_ok}
-use Rattle.prem_code_laws.proofs.GenLawsLemmas.Memory.{number_apart, globals_stack}
-use Rattle.prem_code_laws.proofs.GenLawsLemmas.Frames.{declared, Opened, opened}
-use Rattle.prem_code_laws.proofs.GenLawsLemmas.Functions.{rounded, resulted}
+use Rattle.prem_wcet_laws.proofs.Prelude.{guard_grows, words-followed, Pieces, followed, size_of, Guard, Setting, Calls, Falls, Returns, then_run, run, AllSteps, Holds, Same, Within, total}
+use Rattle.prem_wcet_laws.proofs.Prelude.{each_closing, each_declared, each_function, each_opening, each_result, all_between, then_ok, Opened, rounded, resulted, number_apart, globals_stack}
+use Rattle.prem_wcet_laws.proofs.Prelude.{functions_run, Globals, Stack, Ground, AreApart, Callees, FunctionFits, performed, Between, with_globals, CalleesAt, Matches, ArgumentsStand}
+use Rattle.prem_wcet_laws.proofs.Prelude.{at_frame, Codes, code_calls, TaskState, Did, Phase, locals_of, slots_of, frame_of, Parts, opening, closing, declare_code, result_code, steps_code}
+use Rattle.prem_wcet_laws.proofs.Prelude.{function_code, only, Access, IsAmong, callees_in, Routine, Limits, calls_below, ProgramState, declare, result_of, KeepsTo, weight_of, RunDivides}
+use Rattle.prem_wcet_laws.proofs.Prelude.{StaysOn, Weighs, is_held, confined_to, IsIn, IsNative, own, own_around, declared as declared_code, body_at, least, least_function, Works, narrowed}
+use Rattle.prem_wcet_laws.proofs.Prelude.{globals_of, Stands, Scene, fact_of, extent_of, is_roomy, scope_weight, code_ranges, data_ranges, data_lines, lines_in, path_weight, charge}
+use Rattle.prem_wcet_laws.proofs.Prelude.{function_span, PlaceWeight, put_number, ◌≡◌, ℕ, ◌+◌, ◌-◌, ◌*◌, ◌%◌, ◌^◌, ◌<◌, ◌≤◌, refl, ap, ◌∙◌, sym, subst, arith, true, List, [], ◌∷◌, ◌++◌, inl}
+use Rattle.prem_wcet_laws.proofs.Prelude.{inr, ◌⊎◌, length, Ok, list_all, flat_map, map}
+use Rattle.prem_code_laws.proofs.GenLawsLemmas.Frames.{declared, opened}
 use Rattle.prem_code_laws.proofs.GenLawsLemmas.Jobs.{frame_runs}
-use Rattle.prem_code_laws.proofs.GenLawsLemmas.Table.{functions_run}
-use Rattle.prem_wcet_laws.specs.Scopes.{Scene, fact_of, extent_of, is_roomy, scope_weight, code_ranges, data_ranges, data_lines, lines_in, path_weight, charge, function_span}
-use Rattle.prem_wcet_laws.specs.Least.{own, own_around, declared as declared_code, body_at, least, least_function}
-use Rattle.prem_wcet_laws.specs.Divided.{KeepsTo, weight_of, RunDivides, StaysOn, Weighs}
-use Rattle.prem_wcet_laws.specs.Named.{narrowed, globals_of}
-use Rattle.prem_wcet_laws.specs.Keeping.{is_held, confined_to, IsIn}
-use Rattle.prem_wcet_laws.specs.ScopeLaws.{Stands}
-use Rattle.prem_wcet_laws.specs.LeastLaws.{Works}
-use Rattle.prem_wcet_laws.specs.FunctionLaws.{FunctionsDivide}
+use Rattle.prem_syntax.specs.Statements.{run as run_source}
 use Rattle.prem_wcet_laws.proofs.Calls.{function_calls, declared_call, result_calls}
-use Rattle.prem_wcet_laws.proofs.Named.{performed_same, calls_same}
-use Rattle.prem_wcet_laws.proofs.Takes.{functions_take, takes_opening, takes_closing, takes_declared, takes_result}
-use Rattle.prem_wcet_laws.proofs.Keeping.{Any, confined_confines, keeps_in}
+use Rattle.prem_wcet_laws.proofs.Divide.{divides_together, run_more}
 use Rattle.prem_wcet_laws.proofs.Held.{has_left, has_right, has_mapped, has_flat, held_by, held_left, held_right}
+use Rattle.prem_wcet_laws.proofs.Keeping.{Any, confined_confines, keeps_in}
+use Rattle.prem_wcet_laws.proofs.LeastRuns.{Here, frame_alone, fit_alone, ground_alone, fell, own_run, least_divides}
+use Rattle.prem_wcet_laws.proofs.Named.{performed_same, calls_same}
+use Rattle.prem_wcet_laws.proofs.OneScope.{steps_callable, covers, covered_has, task_fits, Reached, closed, ground_small, calls_keep, same_trans, calls_grow, confined_grows, line_kept}
+use Rattle.prem_wcet_laws.proofs.OneScope.{all_kept, scope_charged, called_weigh}
 use Rattle.prem_wcet_laws.proofs.PlaceCost.{run_in}
 use Rattle.prem_wcet_laws.proofs.ScopeCosts.{scope_weighs}
-use Rattle.prem_wcet_laws.proofs.Divide.{divides_together, run_more}
 use Rattle.prem_wcet_laws.proofs.Sequence.{seq, lesser}
-use Rattle.prem_wcet_laws.proofs.OneScope.{steps_callable, covers, covered_has, task_fits, Reached, closed, ground_small, calls_keep, same_trans, calls_grow, confined_grows}
-use Rattle.prem_wcet_laws.proofs.OneScope.{line_kept, all_kept, scope_charged, called_weigh}
-use Rattle.prem_wcet_laws.proofs.LeastRuns.{Here, frame_alone, fit_alone, ground_alone, fell, own_run, least_divides}
-use Rattle.prem_wcet_laws.specs.Weights.{PlaceWeight}
+use Rattle.prem_wcet_laws.proofs.Takes.{emits_native}
+use Rattle.prem_wcet_laws.specs.FunctionLaws.{FunctionsDivide}
 
 -- a call of a function keeps to its ranges, and weighs no more than its code
 pub record FunctionKept (e : Scene) (s : Setting) (calls : Calls) (f : Routine) (at : ℕ) (t : TaskState) : Type 0 where
@@ -119,7 +90,7 @@ module _ (e : Scene) (s : Setting) (gs : Globals) (parts : Parts) (cs : Callees)
       (λ part u. same_trans _ _ _ (calls_grow s (confined_to ranges s.guard) (confined_grows ranges s.guard) c total_functions part u) (same_calls part u)) (function_code e.parts f) at t in
       let kept : Holds (IsIn code ranges) Any (run sm inner at (function_code e.parts f) t) =
       keeps_in code ranges sm inner (confined_confines ranges s.guard) (function_code e.parts f) at
-      (λ a ge lt. held_by (extent_of at (function_code e.parts f)) code a (inl refl) ge lt) (functions_take e.parts f)
+      (λ a ge lt. held_by (extent_of at (function_code e.parts f)) code a (inl refl) ge lt) (each_function IsNative emits_native refl e.parts f)
       (function_calls (λ part. (u : TaskState) → Any u → Holds (IsIn code ranges) Any (inner part u)) e.parts f
       (λ g among u j. let next = reached g among in
       subst (λ q. Holds (IsIn code ranges) Any (inner q u)) (sym (ap (λ (q : Parts). q.callee g) st.parts_are ∙ st.task.callees g next.callable))
@@ -280,15 +251,15 @@ module _ (e : Scene) (s : Setting) (gs : Globals) (parts : Parts) (cs : Callees)
       run_more e.plant (own e (only (opening frame)) + (own e dp + (body + (own e rp + own e cp)))) _ (run s calls at (function_code e.parts f) t)
       (moved (own e (only (opening frame))) (own e dp) body (own e rp) (own e cp))
       (seq e.plant s calls _ _ (function_code e.parts f) (only (opening frame)) (followed dp (followed bp (followed rp cp))) refl at t t1
-      (op.trace ++ []) (ap (λ o. then_run o (λ u. Falls u [])) op.goes) (own_of (only (opening frame)) tt (takes_opening frame) at t)
+      (op.trace ++ []) (ap (λ o. then_run o (λ u. Falls u [])) op.goes) (own_of (only (opening frame)) tt (each_opening IsNative emits_native frame) at t)
       (seq e.plant s calls _ _ (followed dp (followed bp (followed rp cp))) dp (followed bp (followed rp cp)) refl at1 t1 d1.to d1.trace goes1
       (own_of dp (declared_call (λ part. ⊥) e.parts.target e.parts.global (length f.text.params) f.locals)
-      (takes_declared e.parts.target e.parts.global (length f.text.params) f.locals) at1 t1)
+      (each_declared IsNative emits_native e.parts.target e.parts.global (length f.text.params) f.locals) at1 t1)
       (seq e.plant s calls _ _ (followed bp (followed rp cp)) bp (followed rp cp) refl at2 d1.to d2.to d2.trace d2.goes
       (least_divides e s gs parts cs phase c routines total_functions st may limits calls k works (locals_of f) under space f.body (locals_of f) at2 d1.to x.0 y.0 here)
       (seq e.plant s calls _ _ (followed rp cp) rp cp refl at3 d2.to d3.to d3.trace goes3
-      (own_of rp (result_calls (λ part. ⊥) e.parts.target e.parts.global f.result) (takes_result e.parts.target e.parts.global f.result)
-      at3 d2.to) (own_of cp tt (takes_closing frame) (at3 + size_of rp) d3.to))))) where
+      (own_of rp (result_calls (λ part. ⊥) e.parts.target e.parts.global f.result) (each_result IsNative emits_native e.parts.target e.parts.global f.result)
+      at3 d2.to) (own_of cp tt (each_closing IsNative emits_native refl frame) (at3 + size_of rp) d3.to))))) where
         moved : (a b x y z : ℕ) → a + (b + (x + (y + z))) ≤ a + b + (y + z) + x
         moved a b x y z = omega arith
 

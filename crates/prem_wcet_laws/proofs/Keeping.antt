@@ -1,34 +1,16 @@
 -- Runs under a guard that allows such ranges alone.
-use Rattle.std.proofs.Common.{◌≡◌, ℕ, zero, suc, ◌+◌, ◌*◌, ◌/◌, ◌%◌, ◌<◌, ◌≤◌, refl, arith, cond, eqb, leb, true, false, Bool, List, [], ◌∷◌, length, None}
-use Rattle.std.proofs.lemmas.Bool.{cond_both, and_parts}
-use Rattle.prem_word.specs.Bytes.{number_at}
-use Rattle.prem_plant.specs.Places.{Extent}
-use Rattle.prem_plant.specs.declared.plant.Target.{Target}
-use Rattle.prem_isa.specs.declared.instr.Instr.{Instr}
-use Rattle.prem_isa.specs.declared.instr.Instr.TheVariants.{Lui, Auipc, Jal, Jalr, Branch, Load, Store, OpImm, Op, MulDiv, Fence, Ecall, Ebreak, PmMem, PmExec, PmEnd, PmDone, PmIn, PmOut}
+use Rattle.prem_wcet_laws.proofs.Prelude.{pieces_good, code-length, stepped_by, Pieces, code_of, EachPiece, Guard, Setting, Calls, all_of, allowed, stepped, outcome_at, run, Holds, AllCode}
+use Rattle.prem_wcet_laws.proofs.Prelude.{Rules, extended_done, sets, jumps, accesses, loads, stores, changes, takes, puts, in_phase, plus, load_size, store_size, OnDone, TaskState}
+use Rattle.prem_wcet_laws.proofs.Prelude.{next_input, Align, Outside, Stay, Memory, Execute, End, Job, Effect, Outcome, Trap, Phase, Compatible, Execution, Instr, Lui, Auipc, Jal, Jalr}
+use Rattle.prem_wcet_laws.proofs.Prelude.{Branch, Load, Store, OpImm, Op, MulDiv, Fence, Ecall, Ebreak, PmMem, PmExec, PmEnd, PmDone, PmIn, PmOut, Lb, Lh, Lw, Lbu, Lhu, Sb, Sh, Sw, Extent}
+use Rattle.prem_wcet_laws.proofs.Prelude.{Target, is_held, confined_to, is_foreign, IsNative, AccessIn, Accesses, IsIn, StandIn, number_at, ◌≡◌, ℕ, zero, suc, ◌+◌, ◌*◌, ◌/◌, ◌%◌, ◌<◌, ◌≤◌}
+use Rattle.prem_wcet_laws.proofs.Prelude.{refl, arith, cond, eqb, leb, true, false, Bool, List, [], ◌∷◌, length, cond_both, and_parts}
+use Rattle.prem_isa.specs.Alu.{holds}
+use Rattle.prem_isa.specs.declared.effect.Outcome.TheVariants.{Done}
+use Rattle.prem_isa.specs.declared.effect.Phase.TheVariants.{Memory as MemoryPhase}
 use Rattle.prem_isa.specs.declared.instr.LoadOp.{LoadOp}
-use Rattle.prem_isa.specs.declared.instr.LoadOp.TheVariants.{Lb, Lh, Lw, Lbu, Lhu}
 use Rattle.prem_isa.specs.declared.instr.StoreOp.{StoreOp}
-use Rattle.prem_isa.specs.declared.instr.StoreOp.TheVariants.{Sb, Sh, Sw}
-use Rattle.prem_isa.specs.declared.effect.Cause.TheVariants.{Align, Outside}
-use Rattle.prem_isa.specs.declared.effect.Change.TheVariants.{Stay, Memory, Execute, End, Job}
-use Rattle.prem_isa.specs.declared.effect.Phase.{Phase}
-use Rattle.prem_isa.specs.declared.effect.Phase.TheVariants.{Compatible, Memory as MemoryPhase, Execution}
-use Rattle.prem_isa.specs.declared.effect.Effect.{Effect}
-use Rattle.prem_isa.specs.declared.effect.Outcome.{Outcome}
-use Rattle.prem_isa.specs.declared.effect.Outcome.TheVariants.{Trap, Done}
-use Rattle.prem_isa.specs.Alu.{plus, holds, load_size, store_size}
-use Rattle.prem_isa.specs.Act.{sets, jumps, accesses, loads, stores, changes, takes, puts, in_phase}
-use Rattle.prem_isa.specs.Bounds.{OnDone}
-use Rattle.prem_isa.specs.Plain.{TaskState, next_input}
-use Rattle.prem_isa.proofs.Forms.{extended_done}
-use Rattle.prem_asm.specs.Pieces.{Pieces, code_of}
-use Rattle.prem_asm.specs.Quiet.{EachPiece}
-use Rattle.prem_asm.specs.Runs.{Guard, Setting, Calls, all_of, allowed, stepped, outcome_at, run}
-use Rattle.prem_asm.specs.Steps.{Holds, AllCode, Rules}
-use Rattle.prem_asm.proofs.Shape.{code-length, stepped_by}
-use Rattle.prem_asm.proofs.Quiet.{pieces_good}
-use Rattle.prem_wcet_laws.specs.Keeping.{is_held, confined_to, is_foreign, IsNative, AccessIn, Accesses, IsIn, StandIn}
+use Rattle.prem_wcet_laws.proofs.Alone.{none_access}
 use Rattle.prem_wcet_laws.proofs.Calls.{EachCall}
 use Rattle.prem_wcet_laws.proofs.EveryCalled.{every}
 
@@ -53,27 +35,6 @@ module _ (code ranges : List Extent) (g : Guard) (o : Confines ranges g) where
     inside : allowed g e ≡ true → is_foreign i ≡ false → AccessIn ranges e.access
     only : Accesses i e.access
     stays : is_foreign i ≡ false → e.change ≡ Stay
-
-  none_access : (i : Instr) → Accesses i None
-  none_access (Lui rd imm) = refl
-  none_access (Auipc rd imm) = refl
-  none_access (Jal rd offset) = refl
-  none_access (Jalr rd rs1 offset) = refl
-  none_access (Branch op rs1 rs2 offset) = refl
-  none_access (Load op rd rs1 offset) = tt
-  none_access (Store op rs1 rs2 offset) = tt
-  none_access (OpImm op rd rs1 imm) = refl
-  none_access (Op op rd rs1 rs2) = refl
-  none_access (MulDiv op rd rs1 rs2) = refl
-  none_access (Fence high rd) = refl
-  none_access Ecall = refl
-  none_access Ebreak = refl
-  none_access PmMem = refl
-  none_access (PmExec rs1) = refl
-  none_access PmEnd = refl
-  none_access PmDone = refl
-  none_access (PmIn rd) = refl
-  none_access (PmOut rs1) = refl
 
   sets_fine : (i : Instr) (next rd value : ℕ) → OnDone (Fine i) (sets next rd value)
   sets_fine i next rd value = record { inside = λ a t. tt; only = none_access i; stays = λ h. refl }

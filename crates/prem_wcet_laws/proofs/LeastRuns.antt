@@ -1,71 +1,31 @@
 -- Lists of statements run in scopes that are charged no more than their least charge.
-use Rattle.std.specs.Prelude.{map, slice_index}
-use Rattle.std.specs.List.{flat_map}
-use Rattle.std.proofs.Common.{◌≡◌, ◌≢◌, ℕ, zero, suc, ◌+◌, ◌-◌, ◌*◌, ◌%◌, ◌^◌, ◌<◌, ◌≤◌, refl, ap, ◌∙◌, sym, subst, arith, cond, eqb, eq-eqb, not, true, false, Bool, List, [], ◌∷◌}
-use Rattle.std.proofs.Common.{◌++◌, inl, inr, ◌⊎◌, length, max, Option, Ok}
-use Rattle.prem_word.specs.Bytes.{number_at}
-use Rattle.prem_word.specs.Words.{value_in, truth}
-use Rattle.prem_word.specs.declared.kind.Kind.TheVariants.{Int}
-use Rattle.prem_isa.specs.declared.effect.Phase.{Phase}
-use Rattle.prem_isa.specs.Act.{with_register}
-use Rattle.prem_isa.specs.Plain.{TaskState, Did}
-use Rattle.prem_syntax.specs.declared.tree.Place.{Place}
-use Rattle.prem_syntax.specs.Resolved.{Term, Steps, Done, SetLocal, SetScalar, SetElement, Output, Input, If, For, While, Call, Routine}
-use Rattle.prem_syntax.specs.Expressions.{Outcome, Access, and_then, truth_of}
-use Rattle.prem_syntax.specs.Statements.{ProgramState, MarkedCall, value, values, with_local, with_output, take_input, store, choose, holds, in_bound, int_local, loop_test}
-use Rattle.prem_syntax.specs.Statements.{loop_step, counting, bounded, with_target, run as run_source}
-use Rattle.prem_syntax.specs.Source.{Limits, calls_below}
-use Rattle.prem_syntax.specs.Reach.{IsAmong, callees_in}
-use Rattle.prem_asm.specs.declared.piece.Test.{Test}
-use Rattle.prem_asm.specs.Pieces.{Pieces, no_pieces, straight, either, repeat, call_to, followed, words, size_of, branch_of, skip_words, skip_at, other_at, either_end, test_at}
-use Rattle.prem_asm.specs.Pieces.{back_at, repeat_end, jump_to}
-use Rattle.prem_asm.specs.Runs.{Setting, Calls, Ending, Falls, Returns, Stuck, with_trace, then_run, called, control, test_holds, taken_steps, other_steps, skip_steps, linked, run}
-use Rattle.prem_asm.specs.Steps.{Same}
-use Rattle.prem_asm.proofs.Shape.{choose_both}
-use Rattle.prem_asm.proofs.Rows.{words-followed}
-use Rattle.prem_layout.specs.Template.Terms.{only, constant, nonzero, term_code}
-use Rattle.prem_layout.specs.Template.Frames.{counters_in}
-use Rattle.prem_layout.specs.Template.Steps.{Parts, load_slot, store_slot, bound_test, step_code, count_code, turn_code, argument_code, target_code, steps_code}
-use Rattle.prem_layout.specs.Bounds.{job_weight}
-use Rattle.prem_code_laws.specs.ExprLaws.Relation.{Globals, Stack, Ground}
-use Rattle.prem_code_laws.specs.GenLaws.Fits.{Fits, Callees, StepsFit}
-use Rattle.prem_code_laws.specs.GenLaws.Matches.{Matches, slot_at, IsKept, ArgumentsStand, at_frame}
-use Rattle.prem_code_laws.specs.GenLaws.Laws.{with_globals, CalleesAt}
-use Rattle.prem_code_laws.specs.GenLaws.Table.{Codes, code_calls}
-use Rattle.prem_code_laws.proofs.ExprLawsLemmas.Puts.{reg_same, reg_other, reg_words}
-use Rattle.prem_code_laws.proofs.ExprLawsLemmas.Reach.{tested}
-use Rattle.prem_code_laws.proofs.ExprLawsLemmas.Terms.{then_ok, same_ok, ok_of}
-use Rattle.prem_code_laws.proofs.ExprLawsLemmas.Runs.{loop_of, goes_then, before, after as after_none}
-use Rattle.std.proofs.Math.Dec.{eqb-suc-zero}
-use Rattle.prem_word.specs.Bytes.{put_number}
-use Rattle.prem_code_laws.proofs.ExprLawsLemmas.Puts.{constant_puts}
-use Rattle.prem_code_laws.proofs.ExprLawsLemmas.Loads.{puts_give}
-use Rattle.prem_code_laws.proofs.GenLawsLemmas.Memory.{number_same, word_back}
-use Rattle.prem_code_laws.proofs.GenLawsLemmas.Quiet.{quiet_constant}
-use Rattle.prem_code_laws.proofs.GenLawsLemmas.Bounded.{counter_matches, lowered, headed as bound_headed}
-use Rattle.prem_code_laws.proofs.GenLawsLemmas.CallCode.{passed, values_length}
-use Rattle.prem_code_laws.proofs.GenLawsLemmas.Counting.{headed, stepped, step_ok, tested as counted}
-use Rattle.prem_code_laws.proofs.GenLawsLemmas.Table.{functions_run}
-use Rattle.prem_code_laws.proofs.GenLawsLemmas.Arrivals.{Gave, gave, silent}
-use Rattle.prem_code_laws.proofs.GenLawsLemmas.Parts.{widen, evaluated, still, changed, slot_falls}
-use Rattle.prem_code_laws.proofs.GenLawsLemmas.Steps.{steps_end}
-use Rattle.prem_wcet_laws.specs.Scopes.{Scene, fact_of, charge, data_ranges, span_of, globals_in}
-use Rattle.prem_wcet_laws.specs.Least.{own, own_jump, own_turns, own_choice, term_of, bound_code, first_code, counter_code, turn_of, taken_place, other_place, body_place}
-use Rattle.prem_wcet_laws.specs.Least.{called_least, single, apart, least}
-use Rattle.prem_wcet_laws.specs.Divided.{Divides, RunDivides}
-use Rattle.prem_wcet_laws.specs.Keeping.{is_held}
-use Rattle.prem_wcet_laws.specs.ScopeLaws.{Stands, ScopeRun}
-use Rattle.prem_wcet_laws.specs.LeastLaws.{Works, StepsDivide}
-use Rattle.prem_wcet_laws.proofs.Shape.{followed-assoc, first_local, first_scalar, first_element, first_output, first_input, first_if, first_for, first_while, first_call}
+use Rattle.prem_wcet_laws.proofs.Prelude.{words-followed, choose_both, Pieces, no_pieces, straight, either, repeat, call_to, followed, words, size_of, branch_of, skip_words, skip_at}
+use Rattle.prem_wcet_laws.proofs.Prelude.{other_at, either_end, test_at, back_at, repeat_end, jump_to, EachPiece, Setting, Calls, Ending, Falls, Returns, Stuck, with_trace, then_run, called}
+use Rattle.prem_wcet_laws.proofs.Prelude.{control, test_holds, taken_steps, other_steps, skip_steps, linked, run, Same, Test, each_arguments, each_bound, each_count, each_counter}
+use Rattle.prem_wcet_laws.proofs.Prelude.{each_first, each_step, each_steps, each_target, each_ten, each_turn, puts_give, reg_same, reg_other, reg_words, constant_puts, tested, loop_of}
+use Rattle.prem_wcet_laws.proofs.Prelude.{goes_then, before, after as after_none, then_ok, same_ok, ok_of, Gave, gave, silent, counter_matches, lowered, headed as bound_headed, passed}
+use Rattle.prem_wcet_laws.proofs.Prelude.{values_length, step_ok, number_same, word_back, widen, evaluated, still, changed, slot_falls, quiet_constant, steps_end, functions_run, Globals}
+use Rattle.prem_wcet_laws.proofs.Prelude.{Stack, Ground, Fits, Callees, StepsFit, with_globals, CalleesAt, Matches, slot_at, IsKept, ArgumentsStand, at_frame, Codes, code_calls}
+use Rattle.prem_wcet_laws.proofs.Prelude.{with_register, TaskState, Did, Phase, job_weight, counters_in, Parts, load_slot, store_slot, bound_test, step_code, count_code, turn_code}
+use Rattle.prem_wcet_laws.proofs.Prelude.{argument_code, target_code, steps_code, only, constant, nonzero, term_code, Access, and_then, truth_of, IsAmong, callees_in, Term, Steps, Done}
+use Rattle.prem_wcet_laws.proofs.Prelude.{SetLocal, SetScalar, SetElement, Output, Input, If, For, While, Call, Routine, Limits, calls_below, ProgramState, value, values, with_local}
+use Rattle.prem_wcet_laws.proofs.Prelude.{with_output, take_input, store, choose, holds, in_bound, int_local, loop_test, loop_step, counting, bounded, with_target, Place, Divides}
+use Rattle.prem_wcet_laws.proofs.Prelude.{RunDivides, is_held, IsNative, own, own_jump, own_turns, own_choice, term_of, bound_code, first_code, counter_code, turn_of, taken_place}
+use Rattle.prem_wcet_laws.proofs.Prelude.{other_place, body_place, called_least, single, apart, least, Works, StepsDivide, Stands, ScopeRun, Scene, fact_of, charge, data_ranges, span_of}
+use Rattle.prem_wcet_laws.proofs.Prelude.{globals_in, number_at, put_number, value_in, truth, Int, ◌≡◌, ◌≢◌, ℕ, zero, suc, ◌+◌, ◌-◌, ◌*◌, ◌%◌, ◌^◌, ◌<◌, ◌≤◌, refl, ap, ◌∙◌, sym, subst}
+use Rattle.prem_wcet_laws.proofs.Prelude.{arith, cond, eqb, eq-eqb, not, true, false, Bool, List, [], ◌∷◌, ◌++◌, inl, inr, ◌⊎◌, length, max, Option, Ok, eqb-suc-zero, flat_map, map}
+use Rattle.prem_wcet_laws.proofs.Prelude.{slice_index}
+use Rattle.prem_code_laws.proofs.GenLawsLemmas.Counting.{headed, stepped, tested as counted}
+use Rattle.prem_syntax.specs.Expressions.{Outcome}
+use Rattle.prem_syntax.specs.Statements.{run as run_source}
+use Rattle.prem_wcet_laws.proofs.Alone.{CallFree, own_divides, control_divides}
 use Rattle.prem_wcet_laws.proofs.Calls.{among_left, among_right, joined, term_calls, arguments_call, target_calls}
 use Rattle.prem_wcet_laws.proofs.Divide.{divides_join, divides_more, divides_none, divides_together, run_more, run_with}
-use Rattle.prem_wcet_laws.proofs.Alone.{CallFree, own_divides, control_divides}
-use Rattle.prem_wcet_laws.proofs.Sequence.{any_then, nothing_then, seq, lesser, Part, turns_divide}
 use Rattle.prem_wcet_laws.proofs.Held.{held_left, held_right}
 use Rattle.prem_wcet_laws.proofs.OneScope.{steps_callable, steps_are_scopes}
-use Rattle.prem_wcet_laws.proofs.Takes.{takes_ten, takes_first, takes_bound, takes_step, takes_count, takes_counter, takes_turn, takes_arguments, takes_target, takes_steps}
-use Rattle.prem_wcet_laws.specs.Keeping.{IsNative}
-use Rattle.prem_asm.specs.Quiet.{EachPiece}
+use Rattle.prem_wcet_laws.proofs.Sequence.{any_then, nothing_then, seq, lesser, Part, turns_divide}
+use Rattle.prem_wcet_laws.proofs.Shape.{followed-assoc, first_local, first_scalar, first_element, first_output, first_input, first_if, first_for, first_while, first_call}
+use Rattle.prem_wcet_laws.proofs.Takes.{emits_native}
 
 -- ---- members of the lists of callees
 
@@ -255,13 +215,10 @@ module _ (e : Scene) (s : Setting) (gs : Globals) (parts : Parts) (cs : Callees)
   -- a statement that has no others inside
   single_divides : (n at : ℕ) (steps : Steps) (t : TaskState) (st after : ProgramState) → CallFree (code n steps) → Here n at steps t st after → Run (single e n at steps) at (code n steps) t
   single_divides n at steps t st after free h =
-      lesser e.plant _ _ (run s calls at (code n steps) t) (scope_divides n at steps t st after h) (own_divides e.plant s calls (code n steps) free (takes_steps e.parts n steps) at t)
+      lesser e.plant _ _ (run s calls at (code n steps) t) (scope_divides n at steps t st after h) (own_divides e.plant s calls (code n steps) free (each_steps IsNative emits_native e.parts n steps) at t)
 
   abbrev Known : Steps → Type 0
   Known steps = (f : ℕ) → IsAmong f (callees_in steps) → f < total
-
-  nothing_known : Known Done
-  nothing_known f is = absurd is
 
   -- ---- statements one behind another
 
@@ -313,9 +270,6 @@ module _ (e : Scene) (s : Setting) (gs : Globals) (parts : Parts) (cs : Callees)
 
   pub free_then : (a b : Pieces) → CallFree a → CallFree b → CallFree (followed a b)
   free_then a b h k = joined (λ part. ⊥) a b h k
-
-  pub straight_free : (is : List _) → CallFree (only is)
-  straight_free is = tt
 
   pub own_run : (ps : Pieces) → CallFree ps → EachPiece IsNative ps → (at : ℕ) (t : TaskState) → Run (own e ps) at ps t
   own_run ps free native at t = own_divides e.plant s calls ps free native at t
@@ -384,7 +338,7 @@ module _ (e : Scene) (s : Setting) (gs : Globals) (parts : Parts) (cs : Callees)
       let size : at + 4 * words (code n (If pl condition taken other Done)) < 2 ^ 32 = h.size in
       let aligned : at % 4 ≡ 0 = h.aligned in
       seq e.plant s calls _ _ (code n (If pl condition taken other Done)) ps (either (nonzero 10) tk ot no_pieces) refl at t u g.trace g.goes
-      (own_run ps (term_free 10 condition) (takes_ten e.parts.target e.parts.global condition) at t)
+      (own_run ps (term_free 10 condition) (each_ten IsNative emits_native e.parts.target e.parts.global condition) at t)
       (choice_divides at1 (nonzero 10) tk ot u x y
       (λ is. on u chosen.0 (record {
         slots = h.slots;
@@ -483,7 +437,7 @@ module _ (e : Scene) (s : Setting) (gs : Globals) (parts : Parts) (cs : Callees)
       let f = fell n at (SetLocal pl i low Done) t st (with_local i v.0 st) one in
       let l = loop_of s calls at1 head (bound_test closed) inner in
       seq e.plant s calls _ _ (code n (For pl i low closed high step turns body Done)) first loop is at t f.to f.trace f.goes
-      (own_run first (free_then (term_of e 10 low) _ (term_free 10 low) tt) (takes_first e.parts.target e.parts.global i low) at t)
+      (own_run first (free_then (term_of e 10 low) _ (term_free 10 low) tt) (each_first IsNative emits_native e.parts.target e.parts.global i low) at t)
       (nothing_then e.plant _ _
       (turns_divide e.plant (own e head) (job_weight e.plant (branch_of (bound_test closed))) (x + own e (only (step_code i step))) (own_jump e) l
       (Turn pl.line i step closed high body y.0) (Asked pl.line i step closed high body y.0)
@@ -495,7 +449,7 @@ module _ (e : Scene) (s : Setting) (gs : Globals) (parts : Parts) (cs : Callees)
         to = record u { registers = d.registers };
         trace = d.trace;
         goes = goes;
-        divides = subst (RunDivides e.plant (own e head)) goes (own_run head (term_free 11 high) (takes_bound e.parts.target e.parts.global i high) at1 u);
+        divides = subst (RunDivides e.plant (own e head)) goes (own_run head (term_free 11 high) (each_bound IsNative emits_native e.parts.target e.parts.global i high) at1 u);
         next = record { now = turn_here.now; bound = hv.0; matches = d.matches; ten = d.ten; eleven = d.eleven; value_is = hv.1; runs = turn_here.runs };
       }))
       (λ u. branch_step (test_at at1 head) (bound_test closed) u) (λ u. other_step (test_at at1 head) (bound_test closed) (repeat_end at1 head inner) u)
@@ -524,7 +478,7 @@ module _ (e : Scene) (s : Setting) (gs : Globals) (parts : Parts) (cs : Callees)
         goes = goes;
         divides = subst (RunDivides e.plant (x + own e (only (step_code i step)))) goes
             (seq e.plant s calls _ _ inner (code n body) (only (step_code i step)) refl at2 u g.to g.trace g.goes (again u asked.now bd.0 here)
-            (own_run (only (step_code i step)) tt (takes_step i step) (at2 + size_of (code n body)) g.to));
+            (own_run (only (step_code i step)) tt (each_step IsNative emits_native i step) (at2 + size_of (code n body)) g.to));
         next = record {
           now = nx.0;
           matches = subst (λ q. Matches s gs k phase count q z.to)
@@ -579,9 +533,6 @@ module _ (e : Scene) (s : Setting) (gs : Globals) (parts : Parts) (cs : Callees)
       let y = then_ok (value may q condition) _ x.0 x.1.0 in
       (y.0, y.1.0)
 
-  less_one : (r m n : ℕ) → r ≡ suc m → n ≡ r → n ≡ suc m
-  less_one r m n e f = f ∙ e
-
   made : (n : ℕ) (condition : Term) (body : Steps) (fin : ProgramState) (at1 r : ℕ) (u : TaskState) (left : Left n condition body fin r u) (registers : ℕ → ℕ) (trace : List Did) →
       run s calls at1 (turn_code gs.target gs.part n condition) u ≡ Falls (record u { registers = registers }) trace → Matches s gs k phase count left.now (record u { registers = registers }) →
       ((m : ℕ) → r ≡ suc m → test_holds (nonzero 10) (record u { registers = registers }) ≡ true → Further condition body fin left.now m) →
@@ -595,7 +546,7 @@ module _ (e : Scene) (s : Setting) (gs : Globals) (parts : Parts) (cs : Callees)
         goes = here;
         divides = subst (RunDivides e.plant (own e (turn_of e n condition))) here
             (own_run (turn_of e n condition) (joined (λ part. ⊥) (term_of e 10 condition) _ (term_free 10 condition) tt, tt, tt)
-            (takes_turn e.parts.target e.parts.global n condition) at1 u);
+            (each_turn IsNative emits_native e.parts.target e.parts.global n condition) at1 u);
         next = record { now = left.now; matches = matches; counts = left.counts; small = left.small; next = next };
       }
 
@@ -650,7 +601,7 @@ module _ (e : Scene) (s : Setting) (gs : Globals) (parts : Parts) (cs : Callees)
       goes_then s calls ps (only (store_slot n ∷ [])) at t t1 t2 g.trace (z.0 ++ []) g.goes
       (before s calls (at + size_of ps) (store_slot n) [] no_pieces t1 t2 t2 z.0 [] z.1 (after_none s calls (at + size_of ps + 4) no_pieces t2 t2 [] refl)) in
       let l = loop_of s calls at1 head (nonzero 10) inner in
-      seq e.plant s calls _ _ (code n (While pl turns condition body Done)) first loop refl at t t2 (g.trace ++ (z.0 ++ [])) goes_first (own_run first tt (takes_counter n turns) at t)
+      seq e.plant s calls _ _ (code n (While pl turns condition body Done)) first loop refl at t t2 (g.trace ++ (z.0 ++ [])) goes_first (own_run first tt (each_counter IsNative emits_native n turns) at t)
       (nothing_then e.plant _ _
       (turns_divide e.plant (own e head) (job_weight e.plant (branch_of (nonzero 10))) (own e (only (count_code n)) + x) (own_jump e) l
       (Left n condition body y.0) (Decided n condition body y.0)
@@ -676,7 +627,7 @@ module _ (e : Scene) (s : Setting) (gs : Globals) (parts : Parts) (cs : Callees)
         goes = goes;
         divides = subst (RunDivides e.plant (own e (only (count_code n)) + x)) goes
             (seq e.plant s calls _ _ inner (only (count_code n)) (code (n + 1) body) refl at2 u d.to d.trace d.goes
-            (own_run (only (count_code n)) tt (takes_count n) at2 u) (again d.to decided.now nx.0 here));
+            (own_run (only (count_code n)) tt (each_count IsNative emits_native n) at2 u) (again d.to decided.now nx.0 here));
         next = record {
           now = nx.0;
           matches = f.matches;
@@ -755,9 +706,9 @@ module _ (e : Scene) (s : Setting) (gs : Globals) (parts : Parts) (cs : Callees)
       (sym st_.parts_are)
       (run_more e.plant (a + (j + (l + z))) _ (run s calls at (followed args (call_to link part last)) t) (moved a j l z)
       (seq e.plant s calls a (j + (l + z)) (followed args (call_to link part last)) args (call_to link part last) refl at t t1 q.trace q.goes
-      (own_run args (arguments_call (λ part. ⊥) gs.target gs.part frame 0 arguments) (takes_arguments gs.target gs.part frame 0 arguments) at t)
+      (own_run args (arguments_call (λ part. ⊥) gs.target gs.part frame 0 arguments) (each_arguments IsNative emits_native gs.target gs.part frame 0 arguments) at t)
       (run_with e.plant j (l + z) (control at1 (jump_to link at1 (s.places part)) t1) _ (jump_step link at1 (s.places part) t1)
-      (called_divides l z ra (calls part t2) (run s calls ra last) b.to b.trace b.goes d (own_run last (target_calls (λ part. ⊥) target) (takes_target target no_pieces tt) ra b.to))))) where
+      (called_divides l z ra (calls part t2) (run s calls ra last) b.to b.trace b.goes d (own_run last (target_calls (λ part. ⊥) target) (each_target IsNative emits_native target no_pieces tt) ra b.to))))) where
         moved : (a j l z : ℕ) → a + (j + (l + z)) ≤ a + j + l + z
         moved a j l z = omega arith
 

@@ -1,3 +1,4 @@
+pub mod Prelude
 pub mod Shape
 pub mod Ordered
 pub mod Counting

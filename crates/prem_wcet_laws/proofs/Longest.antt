@@ -1,30 +1,14 @@
 -- The longest stretch counts no more than by the rule.
-use Rattle.std.proofs.Common.{◌≡◌, ℕ, zero, suc, ◌+◌, ◌-◌, ◌≤◌, max, min, arith, subst, sym, refl, ap, ◌∙◌, cond, ltb, ◌||◌, true, false, Bool, List, [], ◌∷◌, ◌++◌, length, length-append}
-use Rattle.std.specs.Prelude.{slice_index_or}
-use Rattle.std.proofs.lemmas.Bool.{ltb-false, le-ltb}
-use Rattle.prem_plant.specs.declared.plant.Plant.{Plant}
-use Rattle.prem_isa.specs.declared.instr.Instr.TheVariants.{PmDone}
-use Rattle.prem_asm.specs.Pieces.{jump_weight}
-use Rattle.prem_syntax.specs.Resolved.{Routine, Resolved}
-use Rattle.prem_layout.specs.Template.Parts.{parts_of, codes_of, is_marked_at, marked_before, stub_part}
-use Rattle.prem_layout.specs.Plans.{Plan}
-use Rattle.prem_layout.specs.Parts.{code_part, start_part}
-use Rattle.prem_layout.specs.Footprint.{TaskPlaces}
-use Rattle.prem_layout.specs.Bounds.{job_weight}
-use Rattle.prem_layout.specs.Stretch.Sums.{Sums, taking, no_sums, chained, greatest, part_sums, sums_at, sums_behind, marked_sums, job_sums, IsWithin}
-use Rattle.prem_layout.specs.Stretch.Paths.{stretch_of, greatest_stated}
-use Rattle.prem_layout.proofs.StretchLemmas.Order.{within_same, chained_within, taking_within, greatest_within}
-use Rattle.prem_layout.proofs.StretchLemmas.Exact.{sums_are_exact}
-use Rattle.prem_wcet_laws.specs.Scopes.{Fact, no_fact, Scene, fact_of, charge}
-use Rattle.prem_wcet_laws.specs.Least.{called_least, own_jump}
-use Rattle.prem_wcet_laws.specs.Parted.{cuts, called_parted}
-use Rattle.prem_wcet_laws.specs.Wcet.{scene_of, stack_of, fact_at, at_function, facts_behind, known_scene, own_start, start_span}
-use Rattle.prem_wcet_laws.specs.Laws.{table_of, LongestIsWithin}
-use Rattle.prem_wcet_laws.proofs.Ordered.{right_of}
+use Rattle.prem_wcet_laws.proofs.Prelude.{jump_weight, PmDone, sums_are_exact, within_same, chained_within, taking_within, greatest_within, job_weight, TaskPlaces, code_part, start_part}
+use Rattle.prem_wcet_laws.proofs.Prelude.{Plan, stretch_of, greatest_stated, Sums, taking, no_sums, chained, greatest, part_sums, sums_at, sums_behind, marked_sums, job_sums, IsWithin}
+use Rattle.prem_wcet_laws.proofs.Prelude.{parts_of, codes_of, is_marked_at, marked_before, stub_part, Plant, Routine, Resolved, marked_count, table_of, LongestIsWithin, called_least}
+use Rattle.prem_wcet_laws.proofs.Prelude.{own_jump, cuts, called_parted, Fact, no_fact, Scene, fact_of, charge, scene_of, stack_of, fact_at, at_function, facts_behind, known_scene}
+use Rattle.prem_wcet_laws.proofs.Prelude.{own_start, start_span, ◌≡◌, ℕ, zero, suc, ◌+◌, ◌-◌, ◌≤◌, max, min, arith, subst, sym, refl, ap, ◌∙◌, cond, ltb, ◌||◌, true, false, Bool, List, []}
+use Rattle.prem_wcet_laws.proofs.Prelude.{◌∷◌, ◌++◌, length, length-append, ltb-false, le-ltb, slice_index_or}
 use Rattle.prem_wcet_laws.proofs.Facts.{codes_length, past}
-use Rattle.prem_wcet_laws.proofs.Within.{taken_both, taken_less}
+use Rattle.prem_wcet_laws.proofs.Ordered.{right_of}
 use Rattle.prem_wcet_laws.proofs.Split.{function_taken, function_sums}
-use Rattle.prem_wcet_laws.specs.Counts.{marked_count}
+use Rattle.prem_wcet_laws.proofs.Within.{taken_both, taken_less}
 
 none_within : (x : Sums) → IsWithin no_sums x
 none_within x = record { whole = tt; before = tt; between = tt; behind = tt }

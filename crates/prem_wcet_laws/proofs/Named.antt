@@ -1,18 +1,13 @@
 -- The globals that code names are all that it accesses.
-use Rattle.std.proofs.Common.{◌≡◌, ℕ, zero, suc, refl, ap, ◌∙◌, subst, cond, eqb, not, true, false, Bool, ◌&&◌, List, [], ◌∷◌, ◌++◌, inl, inr, Some, None, Option, Ok}
-use Rattle.std.specs.Prelude.{slice_get}
-use Rattle.std.proofs.lemmas.Bool.{eqb-true}
-use Rattle.prem_syntax.specs.Resolved.{Term, Constant, Local, Scalar, Element, Unary, Binary, AndAlso, OrElse, Steps, Done, SetLocal, SetScalar, SetElement, Output, Input, If, For}
-use Rattle.prem_syntax.specs.Resolved.{While, Call, Routine}
-use Rattle.prem_syntax.specs.Expressions.{Outcome, Access, and_then, words_of, cell, or_wrong, operate, unary_word, truth_of, eval, eval_all}
-use Rattle.prem_syntax.specs.Statements.{ProgramState, Calls, value, with_local, with_output, with_cell, stored, take_input, store, choose, holds, loop_step, in_bound, int_local}
-use Rattle.prem_syntax.specs.Statements.{counting, bounded, with_target, run, declare, with_new_local, result_of, leave, enter, is_marked}
-use Rattle.prem_syntax.specs.Source.{Limits, enter_if_there, this_or, calls_below}
-use Rattle.prem_syntax.specs.Reach.{IsAmong, callees_in}
-use Rattle.prem_wcet_laws.specs.Scopes.{globals_in_term, globals_in, globals_in_terms, globals_in_result}
-use Rattle.prem_code_laws.specs.GenLaws.Functions.{performed}
+use Rattle.prem_wcet_laws.proofs.Prelude.{performed, Access, and_then, words_of, cell, or_wrong, operate, unary_word, truth_of, eval, eval_all, IsAmong, callees_in, Term, Constant, Local}
+use Rattle.prem_wcet_laws.proofs.Prelude.{Scalar, Element, Unary, Binary, AndAlso, OrElse, Steps, Done, SetLocal, SetScalar, SetElement, Output, Input, If, For, While, Call, Routine, Limits}
+use Rattle.prem_wcet_laws.proofs.Prelude.{enter_if_there, this_or, calls_below, ProgramState, value, with_local, with_output, with_cell, stored, take_input, store, choose, holds, loop_step}
+use Rattle.prem_wcet_laws.proofs.Prelude.{in_bound, int_local, counting, bounded, with_target, declare, with_new_local, result_of, leave, enter, is_marked, narrowed, AreInside, CallsSame}
+use Rattle.prem_wcet_laws.proofs.Prelude.{globals_of, AreClosed, StepsNameAll, FunctionsNameAll, globals_in_term, globals_in, globals_in_terms, globals_in_result, ◌≡◌, ℕ, zero, suc, refl}
+use Rattle.prem_wcet_laws.proofs.Prelude.{ap, ◌∙◌, subst, cond, eqb, not, true, false, Bool, ◌&&◌, List, [], ◌∷◌, ◌++◌, inl, inr, Some, None, Option, Ok, eqb-true, slice_get}
+use Rattle.prem_syntax.specs.Expressions.{Outcome}
+use Rattle.prem_syntax.specs.Statements.{Calls, run}
 use Rattle.prem_wcet_laws.proofs.Calls.{among_left, among_right}
-use Rattle.prem_wcet_laws.specs.Named.{narrowed, AreInside, CallsSame, globals_of, AreClosed, StepsNameAll, FunctionsNameAll}
 
 module _ (inside : ℕ → Bool) where
   abbrev All : List ℕ → Type 0

@@ -1,7 +1,5 @@
 -- Lists of callees without a marked call.
-use Rattle.std.proofs.Common.{◌≡◌, ℕ, sym, ◌∙◌, refl, ap, false, true, Bool, ◌||◌, List, [], ◌∷◌, ◌++◌}
-use Rattle.std.specs.List.{list_any}
-use Rattle.std.proofs.lemmas.List.Folds.{list_any-append}
+use Rattle.prem_wcet_laws.proofs.Prelude.{◌≡◌, ℕ, sym, ◌∙◌, refl, ap, false, true, Bool, ◌||◌, List, [], ◌∷◌, ◌++◌, list_any-append, list_any}
 
 pub none_first : (a b : Bool) → (a || b) ≡ false → a ≡ false
 none_first true b h = cc

@@ -1,46 +1,21 @@
 -- A list of statements runs as one scope.
-use Rattle.std.specs.Prelude.{slice_get, map}
-use Rattle.std.specs.List.{list_any, list_all}
-use Rattle.std.proofs.Common.{◌≡◌, ℕ, zero, suc, ◌+◌, ◌*◌, ◌^◌, ◌<◌, ◌≤◌, refl, ap, ◌∙◌, sym, subst, arith, eqb, leb, true, false, Bool, ◌&&◌, ◌||◌, List, [], ◌∷◌, ◌++◌, inl, inr}
-use Rattle.std.proofs.Common.{◌⊎◌, length, Option, None, Some, Ok}
-use Rattle.std.proofs.lemmas.Bool.{and_parts, and_from, or_cases, or_right, leb-true, le-leb, eqb-true}
-use Rattle.prem_plant.specs.declared.plant.Plant.{Plant}
-use Rattle.prem_plant.specs.Places.{Extent}
-use Rattle.prem_isa.specs.declared.effect.Phase.{Phase}
-use Rattle.prem_isa.specs.Plain.{TaskState, Did}
-use Rattle.prem_syntax.specs.Resolved.{Steps, Done, SetLocal, SetScalar, SetElement, Output, Input, If, For, While, Call, Routine}
-use Rattle.prem_syntax.specs.Expressions.{Access}
-use Rattle.prem_syntax.specs.Statements.{ProgramState, run as run_source}
-use Rattle.prem_syntax.specs.Source.{calls_below}
-use Rattle.prem_syntax.specs.Reach.{IsAmong, callees_in}
-use Rattle.prem_asm.specs.Pieces.{size_of}
-use Rattle.prem_asm.specs.Runs.{Guard, Setting, Calls, Ending, Falls, Returns, Stuck, all_of, run}
-use Rattle.prem_asm.specs.Steps.{AllSteps, Holds, Same, Grows, Within, total}
-use Rattle.prem_asm.proofs.Grow.{guard_grows}
-use Rattle.prem_layout.specs.Template.Steps.{Parts, steps_code, function_code}
-use Rattle.prem_layout.specs.Parts.{code_part}
-use Rattle.prem_layout.specs.Footprint.{lines_of}
-use Rattle.prem_layout.specs.Bounds.{line_cost, part_weight, weight_at}
-use Rattle.prem_code_laws.specs.ExprLaws.Relation.{Globals, Stack, Ground}
-use Rattle.prem_code_laws.specs.GenLaws.Fits.{Callees, StepsFit}
-use Rattle.prem_code_laws.specs.GenLaws.Matches.{Matches, at_frame}
-use Rattle.prem_code_laws.specs.GenLaws.Laws.{with_globals, CalleesAt}
-use Rattle.prem_code_laws.specs.GenLaws.Table.{Codes, one_of, code_calls, TaskFits}
-use Rattle.prem_code_laws.proofs.GenLawsLemmas.Table.{functions_run}
-use Rattle.prem_code_laws.proofs.GenLawsLemmas.Steps.{steps_end}
-use Rattle.prem_wcet_laws.specs.Scopes.{Scene, fact_of, extent_of, is_roomy, roomy_lines, scope_weight, places_behind, code_ranges, data_ranges, data_lines, lines_in, path_weight, span_of, globals_in}
-use Rattle.prem_wcet_laws.specs.Weights.{PlaceWeight}
-use Rattle.prem_wcet_laws.specs.Divided.{Weighs, KeepsTo, weight_of, step_charge, scope_charge, StaysOn}
-use Rattle.prem_wcet_laws.specs.Named.{narrowed, AreClosed}
-use Rattle.prem_wcet_laws.specs.Keeping.{is_held, confined_to, AccessIn, IsIn}
-use Rattle.prem_wcet_laws.specs.ScopeLaws.{HasExtent, AreOf, Stands, StepsAreScopes}
+use Rattle.prem_wcet_laws.proofs.Prelude.{guard_grows, size_of, Guard, Setting, Calls, Ending, Falls, Returns, Stuck, all_of, run, AllSteps, Holds, Same, Grows, Within, total, each_function}
+use Rattle.prem_wcet_laws.proofs.Prelude.{each_steps, steps_end, functions_run, Globals, Stack, Ground, Callees, StepsFit, with_globals, CalleesAt, Matches, at_frame, Codes, one_of}
+use Rattle.prem_wcet_laws.proofs.Prelude.{code_calls, TaskFits, TaskState, Did, Phase, line_cost, part_weight, weight_at, lines_of, code_part, Parts, steps_code, function_code, Extent}
+use Rattle.prem_wcet_laws.proofs.Prelude.{Plant, Access, IsAmong, callees_in, Steps, Done, SetLocal, SetScalar, SetElement, Output, Input, If, For, While, Call, Routine, calls_below}
+use Rattle.prem_wcet_laws.proofs.Prelude.{ProgramState, Weighs, KeepsTo, weight_of, scope_charge, StaysOn, is_held, confined_to, AccessIn, IsIn, IsNative, narrowed, AreClosed, HasExtent}
+use Rattle.prem_wcet_laws.proofs.Prelude.{AreOf, Stands, StepsAreScopes, Scene, fact_of, extent_of, is_roomy, roomy_lines, scope_weight, places_behind, code_ranges, data_ranges, data_lines}
+use Rattle.prem_wcet_laws.proofs.Prelude.{lines_in, path_weight, span_of, globals_in, PlaceWeight, ◌≡◌, ℕ, zero, suc, ◌+◌, ◌*◌, ◌^◌, ◌<◌, ◌≤◌, refl, ap, ◌∙◌, sym, subst, arith, eqb, leb}
+use Rattle.prem_wcet_laws.proofs.Prelude.{true, false, Bool, ◌&&◌, ◌||◌, List, [], ◌∷◌, ◌++◌, inl, inr, ◌⊎◌, length, Option, None, Some, Ok, and_parts, and_from, or_cases, or_right}
+use Rattle.prem_wcet_laws.proofs.Prelude.{leb-true, le-leb, eqb-true, list_any, list_all, slice_get, map}
+use Rattle.prem_syntax.specs.Statements.{run as run_source}
 use Rattle.prem_wcet_laws.proofs.Calls.{steps_call, function_calls}
-use Rattle.prem_wcet_laws.proofs.Named.{run_same, calls_same}
-use Rattle.prem_wcet_laws.proofs.Takes.{takes_steps, functions_take}
-use Rattle.prem_wcet_laws.proofs.Keeping.{Any, confined_confines, keeps_in}
 use Rattle.prem_wcet_laws.proofs.Held.{has_left, has_right, has_mapped, has_flat, held_by, held_left, held_right, held_line}
+use Rattle.prem_wcet_laws.proofs.Keeping.{Any, confined_confines, keeps_in}
+use Rattle.prem_wcet_laws.proofs.Named.{run_same, calls_same}
 use Rattle.prem_wcet_laws.proofs.PlaceCost.{run_in}
 use Rattle.prem_wcet_laws.proofs.ScopeCosts.{scope_weighs, steps_less, all_weigh, none_weigh}
+use Rattle.prem_wcet_laws.proofs.Takes.{emits_native}
 
 -- ---- callees may be called
 
@@ -240,7 +215,7 @@ module _ (e : Scene) (s : Setting) (gs : Globals) (parts : Parts) (cs : Callees)
             subst (λ q. Holds (IsIn code ranges) Any (run small (code_calls small c n) q (c.code n) t)) place
             (subst (λ q. Holds (IsIn code ranges) Any (run small (code_calls small c n) (e.places (code_part n)) q t)) (sym own)
             (keeps_in code ranges small (code_calls small c n) (confined_confines ranges s.guard) (function_code e.parts r.0) (e.places (code_part n))
-            (λ a ge lt. held_by extent code a (reached.code_in extent stands.code) ge lt) (functions_take e.parts r.0)
+            (λ a ge lt. held_by extent code a (reached.code_in extent stands.code) ge lt) (each_function IsNative emits_native refl e.parts r.0)
             (function_calls (λ part. (u : TaskState) → Any u → Holds (IsIn code ranges) Any (code_calls small c n part u)) e.parts r.0
             (λ x among u j. let next = reached_next n r.0 reached r.1 x among in
             subst (λ q. Holds (IsIn code ranges) Any (code_calls small c n q u)) (sym (called_by x next.callable)) (again x next u)))
@@ -334,7 +309,7 @@ steps_are_scopes e s gs parts cs phase c routines total_functions st may k limit
     (λ part u. same_trans _ _ _ (calls_grow s (confined_to ranges s.guard) (confined_grows ranges s.guard) c total_functions part u) (same_calls part u)) (steps_code e.parts n steps) at t in
     let kept : Holds (IsIn code ranges) Any (run sm inner at (steps_code e.parts n steps) t) =
     keeps_in code ranges sm inner (confined_confines ranges s.guard) (steps_code e.parts n steps) at
-    (λ a ge lt. held_by (extent_of at (steps_code e.parts n steps)) code a (inl refl) ge lt) (takes_steps e.parts n steps)
+    (λ a ge lt. held_by (extent_of at (steps_code e.parts n steps)) code a (inl refl) ge lt) (each_steps IsNative emits_native e.parts n steps)
     (steps_call (λ part. (u : TaskState) → Any u → Holds (IsIn code ranges) Any (inner part u)) e.parts n steps
     (λ f among u j. let next = reached f among in
     subst (λ q. Holds (IsIn code ranges) Any (inner q u)) (sym (ap (λ (q : Parts). q.callee f) st.parts_are ∙ st.task.callees f next.callable))

@@ -1,75 +1,35 @@
 -- Lists of statements with marked calls run in scopes and marked calls, charged no more than their parted charge.
-use Rattle.std.specs.Prelude.{slice_index, ◌||◌}
-use Rattle.std.proofs.Common.{◌≡◌, ◌≢◌, ℕ, zero, suc, ◌+◌, ◌-◌, ◌*◌, ◌%◌, ◌^◌, ◌<◌, ◌≤◌, refl, ap, ◌∙◌, sym, subst, arith, cond, eqb, eq-eqb, not, true, false, Bool, List, [], ◌∷◌}
-use Rattle.std.proofs.Common.{◌++◌, append_assoc, inl, inr, length, max, Option, Ok, append-nil, Some, None}
-use Rattle.prem_word.specs.Bytes.{number_at}
-use Rattle.prem_word.specs.Words.{value_in, truth}
-use Rattle.prem_word.specs.declared.kind.Kind.TheVariants.{Int}
-use Rattle.prem_isa.specs.declared.effect.Phase.{Phase}
-use Rattle.prem_isa.specs.Act.{with_register}
-use Rattle.prem_isa.specs.Plain.{TaskState, Did}
-use Rattle.prem_syntax.specs.declared.tree.Place.{Place}
-use Rattle.prem_syntax.specs.Resolved.{Term, Steps, Done, SetLocal, SetScalar, SetElement, Output, Input, If, For, While, Call, Routine}
-use Rattle.prem_syntax.specs.Expressions.{Outcome, Access, and_then, truth_of}
-use Rattle.prem_syntax.specs.Statements.{ProgramState, MarkedCall, value, values, with_local, with_output, take_input, store, choose, holds, in_bound, int_local, loop_test}
-use Rattle.prem_syntax.specs.Statements.{loop_step, counting, bounded, with_target, run as run_source}
-use Rattle.prem_syntax.specs.Source.{Limits, calls_below}
-use Rattle.prem_syntax.specs.Reach.{IsAmong, callees_in}
-use Rattle.prem_asm.specs.declared.piece.Test.{Test}
-use Rattle.prem_asm.specs.Pieces.{Pieces, no_pieces, straight, either, repeat, call_to, followed, words, size_of, branch_of, skip_words, skip_at, other_at, either_end, test_at}
-use Rattle.prem_asm.specs.Pieces.{back_at, repeat_end, jump_to}
-use Rattle.prem_asm.specs.Runs.{Setting, Calls, Ending, Falls, Returns, Stuck, with_trace, then_run, called, control, test_holds, taken_steps, other_steps, skip_steps, linked, run}
-use Rattle.prem_asm.proofs.Shape.{choose_both}
-use Rattle.prem_asm.proofs.Rows.{words-followed}
-use Rattle.prem_layout.specs.Template.Terms.{only, constant, nonzero, term_code}
-use Rattle.prem_layout.specs.Template.Frames.{counters_in}
-use Rattle.prem_layout.specs.Template.Steps.{Parts, load_slot, store_slot, bound_test, step_code, count_code, turn_code, argument_code, target_code, steps_code}
-use Rattle.prem_layout.specs.Bounds.{job_weight}
-use Rattle.prem_code_laws.specs.ExprLaws.Relation.{Globals, Stack, Ground}
-use Rattle.prem_code_laws.specs.GenLaws.Fits.{Fits, TargetFits, Callees, CallFits, StepsFit}
-use Rattle.prem_code_laws.specs.GenLaws.Matches.{Matches, slot_at, IsKept, ArgumentsStand}
-use Rattle.prem_code_laws.specs.GenLaws.Laws.{with_globals}
-use Rattle.prem_code_laws.specs.GenLaws.Table.{Codes}
-use Rattle.prem_code_laws.proofs.ExprLawsLemmas.Puts.{reg_same, reg_other, reg_words}
-use Rattle.prem_code_laws.proofs.ExprLawsLemmas.Reach.{tested}
-use Rattle.prem_code_laws.proofs.ExprLawsLemmas.Terms.{then_ok, same_ok, ok_of}
-use Rattle.prem_code_laws.proofs.ExprLawsLemmas.Runs.{loop_of, goes_then, before, after as after_none}
-use Rattle.std.proofs.Math.Dec.{eqb-suc-zero}
-use Rattle.prem_word.specs.Bytes.{put_number}
-use Rattle.prem_code_laws.proofs.ExprLawsLemmas.Puts.{constant_puts}
-use Rattle.prem_code_laws.proofs.ExprLawsLemmas.Loads.{puts_give}
-use Rattle.prem_code_laws.proofs.GenLawsLemmas.Memory.{number_same, word_back}
-use Rattle.prem_code_laws.proofs.GenLawsLemmas.Quiet.{quiet_constant}
-use Rattle.prem_code_laws.proofs.GenLawsLemmas.Bounded.{counter_matches, lowered, headed as bound_headed}
-use Rattle.prem_code_laws.proofs.GenLawsLemmas.CallCode.{passed, values_length}
-use Rattle.prem_code_laws.proofs.GenLawsLemmas.Counting.{headed, stepped, step_ok, tested as bound_tested}
-use Rattle.prem_code_laws.proofs.GenLawsLemmas.Arrivals.{Gave, gave, silent}
-use Rattle.prem_code_laws.proofs.GenLawsLemmas.Parts.{widen, evaluated, still, changed, slot_falls}
-use Rattle.prem_code_laws.proofs.GenLawsLemmas.Steps.{steps_end}
-use Rattle.prem_wcet_laws.specs.Scopes.{Scene}
-use Rattle.prem_wcet_laws.specs.Least.{own, own_jump, own_turns, own_choice, term_of, bound_code, first_code, counter_code, turn_of, taken_place, other_place, body_place, least}
-use Rattle.prem_wcet_laws.specs.Divided.{Divides, RunDivides, Courses, RunCourses}
-use Rattle.prem_wcet_laws.specs.ScopeLaws.{Stands}
-use Rattle.prem_wcet_laws.specs.Parted.{cuts, has_cut, front, by_cut, Edge, no_edge, passing, landing, next_edge, passage, Begun, counted, begins, opened, called_parted}
-use Rattle.prem_wcet_laws.specs.Parted.{choice_count, turn_count, landing_place, parted}
-use Rattle.prem_wcet_laws.specs.PartedLaws.{Mixes, StepsCourse, is_marked}
-use Rattle.prem_wcet_laws.proofs.Shape.{followed-assoc, first_local, first_scalar, first_element, first_output, first_input, first_if, first_for, first_while, first_call}
-use Rattle.prem_wcet_laws.proofs.Calls.{joined, term_calls, arguments_call, target_calls}
-use Rattle.prem_wcet_laws.proofs.Courses.{course_of, run_course, courses_join, courses_more, courses_none, run_more, run_with, any_then, nothing_then, seq, Part, turns_course}
+use Rattle.prem_wcet_laws.proofs.Prelude.{run-followed, words-followed, choose_both, Pieces, no_pieces, straight, either, repeat, call_to, followed, words, size_of, branch_of, skip_words}
+use Rattle.prem_wcet_laws.proofs.Prelude.{skip_at, other_at, either_end, test_at, back_at, repeat_end, jump_to, EachPiece, Setting, Calls, Ending, Falls, Returns, Stuck, with_trace}
+use Rattle.prem_wcet_laws.proofs.Prelude.{then_run, called, control, test_holds, taken_steps, other_steps, skip_steps, linked, run, Test, each_bound, each_count, each_counter, each_first}
+use Rattle.prem_wcet_laws.proofs.Prelude.{each_step, each_ten, each_turn, puts_give, reg_same, reg_other, reg_words, constant_puts, tested, loop_of, goes_then, before, after as after_none}
+use Rattle.prem_wcet_laws.proofs.Prelude.{then_ok, same_ok, ok_of, Gave, gave, silent, counter_matches, lowered, headed as bound_headed, passed, values_length, step_ok, number_same}
+use Rattle.prem_wcet_laws.proofs.Prelude.{word_back, widen, evaluated, still, changed, slot_falls, quiet_constant, steps_end, Globals, Stack, Ground, Fits, TargetFits, Callees, CallFits}
+use Rattle.prem_wcet_laws.proofs.Prelude.{StepsFit, with_globals, Matches, slot_at, IsKept, ArgumentsStand, Codes, with_register, TaskState, Did, Phase, job_weight, counters_in, Parts}
+use Rattle.prem_wcet_laws.proofs.Prelude.{load_slot, store_slot, bound_test, step_code, count_code, turn_code, argument_code, target_code, steps_code, only, constant, nonzero, term_code}
+use Rattle.prem_wcet_laws.proofs.Prelude.{Access, and_then, truth_of, IsAmong, callees_in, Term, Steps, Done, SetLocal, SetScalar, SetElement, Output, Input, If, For, While, Call, Routine}
+use Rattle.prem_wcet_laws.proofs.Prelude.{Limits, calls_below, ProgramState, value, values, with_local, with_output, take_input, store, choose, holds, in_bound, int_local, loop_test}
+use Rattle.prem_wcet_laws.proofs.Prelude.{loop_step, counting, bounded, with_target, Place, Count, quiet, then_count, IsNoMore, Divides, RunDivides, Courses, RunCourses, IsNative, own}
+use Rattle.prem_wcet_laws.proofs.Prelude.{own_jump, term_of, bound_code, first_code, counter_code, turn_of, taken_place, other_place, body_place, least, narrowed, cuts, has_cut, front}
+use Rattle.prem_wcet_laws.proofs.Prelude.{by_cut, Edge, no_edge, passing, landing, next_edge, passage, Begun, counted, begins, opened, called_parted, choice_count, turn_count, landing_place}
+use Rattle.prem_wcet_laws.proofs.Prelude.{parted, Mixes, StepsCourse, Stands, Scene, number_at, put_number, value_in, truth, Int, ◌≡◌, ◌≢◌, ℕ, zero, suc, ◌+◌, ◌-◌, ◌*◌, ◌%◌, ◌^◌, ◌<◌, ◌≤◌}
+use Rattle.prem_wcet_laws.proofs.Prelude.{refl, ap, ◌∙◌, sym, subst, arith, cond, eqb, eq-eqb, not, true, false, Bool, List, [], ◌∷◌, ◌++◌, append_assoc, inl, inr, length, Option, Ok}
+use Rattle.prem_wcet_laws.proofs.Prelude.{append-nil, Some, None, eqb-suc-zero, and_parts, list_any, slice_index}
+use Rattle.prem_code_laws.proofs.GenLawsLemmas.Counting.{headed, stepped, tested as bound_tested}
+use Rattle.prem_syntax.specs.Expressions.{Outcome}
+use Rattle.prem_syntax.specs.Statements.{run as run_source}
 use Rattle.prem_wcet_laws.proofs.Alone.{CallFree, own_divides, control_divides}
-use Rattle.prem_wcet_laws.proofs.LeastRuns.{steps_divide, frame_alone, ground_alone}
-use Rattle.prem_wcet_laws.proofs.OneScope.{steps_callable}
-use Rattle.prem_wcet_laws.proofs.NoCuts.{none_first, none_second, none_left, none_right, none_loop, none_choice}
-use Rattle.std.specs.List.{list_any}
-use Rattle.prem_wcet_laws.specs.Counts.{Count, quiet, then_count, IsNoMore}
+use Rattle.prem_wcet_laws.proofs.Calls.{joined, term_calls}
 use Rattle.prem_wcet_laws.proofs.Counting.{same_count, no_more_then, quiet_more, then_no_more, either_first, either_second, then_assoc, nothing_first, nothing_last, by_same}
-use Rattle.prem_wcet_laws.specs.Named.{narrowed}
-use Rattle.prem_wcet_laws.specs.Keeping.{IsNative}
-use Rattle.prem_asm.specs.Quiet.{EachPiece}
-use Rattle.prem_asm.proofs.Follow.{run-followed}
-use Rattle.std.proofs.lemmas.Bool.{and_parts}
-use Rattle.prem_wcet_laws.proofs.Takes.{takes_ten, takes_first, takes_bound, takes_step, takes_count, takes_counter, takes_turn, takes_arguments, takes_target}
+use Rattle.prem_wcet_laws.proofs.Courses.{course_of, run_course, courses_join, courses_more, courses_none, run_more, run_with, any_then, nothing_then, seq, Part, turns_course}
+use Rattle.prem_wcet_laws.proofs.LeastRuns.{steps_divide, frame_alone, ground_alone}
+use Rattle.prem_wcet_laws.proofs.NoCuts.{none_first, none_second, none_left, none_right, none_loop, none_choice}
+use Rattle.prem_wcet_laws.proofs.OneScope.{steps_callable}
 use Rattle.prem_wcet_laws.proofs.Passages.{Goes, HasTrace, with_traced, EdgeGoes, no_edge_goes, landing_goes, passing_goes, passage_divides}
+use Rattle.prem_wcet_laws.proofs.Shape.{followed-assoc, first_local, first_scalar, first_element, first_output, first_input, first_if, first_for, first_while, first_call}
+use Rattle.prem_wcet_laws.proofs.Takes.{emits_native}
+use Rattle.prem_wcet_laws.specs.PartedLaws.{is_marked}
+use Rattle.std.specs.Prelude.{◌||◌}
 
 module _ (e : Scene) (s : Setting) (gs : Globals) (parts : Parts) (cs every : Callees) (phase : Phase) (c : Codes) (routines : List Routine)
     (total : ℕ) (st_ : Stands e s gs parts cs phase c routines total)
@@ -142,9 +102,6 @@ module _ (e : Scene) (s : Setting) (gs : Globals) (parts : Parts) (cs every : Ca
   pub free_then : (a b : Pieces) → CallFree a → CallFree b → CallFree (followed a b)
   free_then a b h k = joined (λ part. ⊥) a b h k
 
-  pub straight_free : (is : List _) → CallFree (only is)
-  straight_free is = tt
-
   pub own_run : (ps : Pieces) → CallFree ps → EachPiece IsNative ps → (at : ℕ) (t : TaskState) → Run (quiet (own e ps)) at ps t
   own_run ps free native at t = run_course e.plant Marked _ _ (own_divides e.plant s calls ps free native at t)
 
@@ -216,7 +173,7 @@ module _ (e : Scene) (s : Setting) (gs : Globals) (parts : Parts) (cs every : Ca
       let size : at + 4 * words (code n (If pl condition taken other Done)) < 2 ^ 32 = h.size in
       let aligned : at % 4 ≡ 0 = h.aligned in
       seq e.plant Marked s calls _ _ (code n (If pl condition taken other Done)) ps (either (nonzero 10) tk ot no_pieces) refl at t u g.trace g.goes
-      (own_run ps (term_free 10 condition) (takes_ten e.parts.target e.parts.global condition) at t)
+      (own_run ps (term_free 10 condition) (each_ten IsNative emits_native e.parts.target e.parts.global condition) at t)
       (choice_divides at1 (nonzero 10) tk ot u x y
       (λ is. on u chosen.0 (record {
         slots = h.slots;
@@ -313,7 +270,7 @@ module _ (e : Scene) (s : Setting) (gs : Globals) (parts : Parts) (cs every : Ca
       let f = fell n at (SetLocal pl i low Done) t st (with_local i v.0 st) one in
       let l = loop_of s calls at1 head (bound_test closed) inner in
       seq e.plant Marked s calls _ _ (code n (For pl i low closed high step turns body Done)) first loop is at t f.to f.trace f.goes
-      (own_run first (free_then (term_of e 10 low) _ (term_free 10 low) tt) (takes_first e.parts.target e.parts.global i low) at t)
+      (own_run first (free_then (term_of e 10 low) _ (term_free 10 low) tt) (each_first IsNative emits_native e.parts.target e.parts.global i low) at t)
       (nothing_then e.plant Marked _ _
       (turns_course e.plant Marked (own e head) (job_weight e.plant (branch_of (bound_test closed))) (then_count x (quiet (own e (only (step_code i step))))) (own_jump e) l
       (Turn pl.line i step closed high body y.0) (Asked pl.line i step closed high body y.0)
@@ -325,7 +282,7 @@ module _ (e : Scene) (s : Setting) (gs : Globals) (parts : Parts) (cs every : Ca
         to = record u { registers = d.registers };
         trace = d.trace;
         goes = goes;
-        courses = subst (RunCourses e.plant Marked (quiet (own e head))) goes (own_run head (term_free 11 high) (takes_bound e.parts.target e.parts.global i high) at1 u);
+        courses = subst (RunCourses e.plant Marked (quiet (own e head))) goes (own_run head (term_free 11 high) (each_bound IsNative emits_native e.parts.target e.parts.global i high) at1 u);
         next = record { now = turn_here.now; bound = hv.0; matches = d.matches; ten = d.ten; eleven = d.eleven; value_is = hv.1; runs = turn_here.runs };
       }))
       (λ u. branch_step (test_at at1 head) (bound_test closed) u) (λ u. other_step (test_at at1 head) (bound_test closed) (repeat_end at1 head inner) u)
@@ -353,7 +310,7 @@ module _ (e : Scene) (s : Setting) (gs : Globals) (parts : Parts) (cs every : Ca
         goes = goes;
         courses = subst (RunCourses e.plant Marked (then_count x (quiet (own e (only (step_code i step)))))) goes
             (seq e.plant Marked s calls _ _ inner (code n body) (only (step_code i step)) refl at2 u g.to g.trace g.goes (again u asked.now bd.0 here)
-            (own_run (only (step_code i step)) tt (takes_step i step) (at2 + size_of (code n body)) g.to));
+            (own_run (only (step_code i step)) tt (each_step IsNative emits_native i step) (at2 + size_of (code n body)) g.to));
         next = record {
           now = nx.0;
           matches = subst (λ q. Matches s gs k phase count q z.to)
@@ -409,9 +366,6 @@ module _ (e : Scene) (s : Setting) (gs : Globals) (parts : Parts) (cs every : Ca
       let y = then_ok (value may q condition) _ x.0 x.1.0 in
       (y.0, y.1.0)
 
-  less_one : (r m n : ℕ) → r ≡ suc m → n ≡ r → n ≡ suc m
-  less_one r m n e f = f ∙ e
-
   made : (n : ℕ) (condition : Term) (body : Steps) (fin : ProgramState) (at1 r : ℕ) (u : TaskState) (left : Left n condition body fin r u) (registers : ℕ → ℕ) (trace : List Did) →
       run s calls at1 (turn_code gs.target gs.part n condition) u ≡ Falls (record u { registers = registers }) trace → Matches s gs k phase count left.now (record u { registers = registers }) →
       ((m : ℕ) → r ≡ suc m → test_holds (nonzero 10) (record u { registers = registers }) ≡ true → Further condition body fin left.now m) →
@@ -425,7 +379,7 @@ module _ (e : Scene) (s : Setting) (gs : Globals) (parts : Parts) (cs every : Ca
         goes = here;
         courses = subst (RunCourses e.plant Marked (quiet (own e (turn_of e n condition)))) here
             (own_run (turn_of e n condition) (joined (λ part. ⊥) (term_of e 10 condition) _ (term_free 10 condition) tt, tt, tt)
-            (takes_turn e.parts.target e.parts.global n condition) at1 u);
+            (each_turn IsNative emits_native e.parts.target e.parts.global n condition) at1 u);
         next = record { now = left.now; matches = matches; counts = left.counts; small = left.small; next = next };
       }
 
@@ -484,7 +438,7 @@ module _ (e : Scene) (s : Setting) (gs : Globals) (parts : Parts) (cs every : Ca
       goes_then s calls ps (only (store_slot n ∷ [])) at t t1 t2 g.trace (z.0 ++ []) g.goes
       (before s calls (at + size_of ps) (store_slot n) [] no_pieces t1 t2 t2 z.0 [] z.1 (after_none s calls (at + size_of ps + 4) no_pieces t2 t2 [] refl)) in
       let l = loop_of s calls at1 head (nonzero 10) inner in
-      seq e.plant Marked s calls _ _ (code n (While pl turns condition body Done)) first loop refl at t t2 (g.trace ++ (z.0 ++ [])) goes_first (own_run first tt (takes_counter n turns) at t)
+      seq e.plant Marked s calls _ _ (code n (While pl turns condition body Done)) first loop refl at t t2 (g.trace ++ (z.0 ++ [])) goes_first (own_run first tt (each_counter IsNative emits_native n turns) at t)
       (nothing_then e.plant Marked _ _
       (turns_course e.plant Marked (own e head) (job_weight e.plant (branch_of (nonzero 10))) (then_count (quiet (own e (only (count_code n)))) x) (own_jump e) l
       (Left n condition body y.0) (Decided n condition body y.0)
@@ -509,7 +463,7 @@ module _ (e : Scene) (s : Setting) (gs : Globals) (parts : Parts) (cs every : Ca
         goes = goes;
         courses = subst (RunCourses e.plant Marked (then_count (quiet (own e (only (count_code n)))) x)) goes
             (seq e.plant Marked s calls _ _ inner (only (count_code n)) (code (n + 1) body) refl at2 u d.to d.trace d.goes
-            (own_run (only (count_code n)) tt (takes_count n) at2 u) (again d.to decided.now nx.0 here));
+            (own_run (only (count_code n)) tt (each_count IsNative emits_native n) at2 u) (again d.to decided.now nx.0 here));
         next = record {
           now = nx.0;
           matches = f.matches;

@@ -1,60 +1,33 @@
 -- Passages between marked calls: as one scope, or by their parts.
-use Rattle.std.specs.Prelude.{◌&&◌, ◌||◌}
-use Rattle.std.specs.List.{list_all, flat_map}
-use Rattle.std.proofs.Common.{◌≡◌, ℕ, zero, suc, ◌+◌, ◌-◌, ◌*◌, ◌%◌, ◌^◌, ◌<◌, ◌≤◌, min, map, refl, ap, ◌∙◌, sym, subst, arith, true, false, Bool, leb, ltb, List, [], ◌∷◌, ◌++◌}
-use Rattle.std.proofs.Common.{append_assoc, length, Option, Some, None, Ok, ◌⊎◌, inl, inr, slice_get}
-use Rattle.std.proofs.lemmas.Bool.{and_parts, and_from, leb-true, ltb-true}
-use Rattle.prem_word.specs.Bytes.{number_at, put_number}
-use Rattle.prem_plant.specs.Places.{Extent}
-use Rattle.prem_isa.specs.declared.effect.Phase.{Phase}
-use Rattle.prem_isa.specs.Plain.{TaskState, Did}
-use Rattle.prem_syntax.specs.Resolved.{Term, Steps, Routine}
-use Rattle.prem_syntax.specs.Expressions.{Access, Outcome}
-use Rattle.prem_syntax.specs.Statements.{ProgramState, values, declare, result_of, run as run_source}
-use Rattle.prem_syntax.specs.Source.{Limits, calls_below}
-use Rattle.prem_syntax.specs.Reach.{IsAmong, callees_in}
-use Rattle.prem_asm.specs.Pieces.{Pieces, no_pieces, followed, size_of}
-use Rattle.prem_asm.specs.Quiet.{EachPiece}
-use Rattle.prem_asm.specs.Runs.{Guard, Setting, Calls, Ending, Falls, Returns, Stuck, with_trace, then_run, run}
-use Rattle.prem_asm.specs.Steps.{AllSteps, Holds, Same, Within, total as total_of}
-use Rattle.prem_asm.proofs.Follow.{run-followed}
-use Rattle.prem_asm.proofs.Grow.{guard_grows}
-use Rattle.prem_layout.specs.Template.Terms.{only}
-use Rattle.prem_layout.specs.Template.Frames.{counters_in, locals_of, slots_of, frame_of}
-use Rattle.prem_layout.specs.Template.Steps.{Parts, steps_code, argument_code, declare_code, result_code, opening, closing}
-use Rattle.prem_layout.specs.Footprint.{lines_of}
-use Rattle.prem_layout.specs.Bounds.{part_weight, weight_at}
-use Rattle.prem_code_laws.specs.ExprLaws.Relation.{Globals, GlobalsStand, Stack, Ground}
-use Rattle.prem_code_laws.specs.GenLaws.Fits.{AllFit, Callees, StepsFit}
-use Rattle.prem_code_laws.specs.GenLaws.Functions.{FunctionFits, DeclaredFit, ResultFits}
-use Rattle.prem_code_laws.specs.GenLaws.Jobs.{Between}
-use Rattle.prem_code_laws.specs.GenLaws.Matches.{Matches, ArgumentsStand, at_frame}
-use Rattle.prem_code_laws.specs.GenLaws.Laws.{with_globals, CalleesAt}
-use Rattle.prem_code_laws.specs.GenLaws.Table.{Codes, code_calls}
-use Rattle.prem_code_laws.proofs.GenLawsLemmas.Memory.{globals_stack}
-use Rattle.prem_code_laws.proofs.GenLawsLemmas.Steps.{steps_end}
-use Rattle.prem_code_laws.proofs.GenLawsLemmas.Table.{functions_run}
-use Rattle.prem_wcet_laws.specs.Scopes.{Scene, fact_of, code_ranges, data_ranges, extent_of, path_weight, places_behind, scope_weight, is_roomy, globals_in, globals_in_terms, globals_in_result}
-use Rattle.prem_wcet_laws.specs.Least.{own, least, declared}
-use Rattle.prem_wcet_laws.specs.Parted.{Edge, no_edge, entry, leaving, landing, passing, bottom_of, argument_ranges, passage_span, passage_data, passage_charge, passage_apart, passage}
-use Rattle.prem_wcet_laws.specs.Divided.{StaysOn, KeepsTo, Divides, RunDivides, weight_of}
-use Rattle.prem_wcet_laws.specs.Named.{narrowed}
-use Rattle.prem_wcet_laws.specs.Keeping.{is_held, confined_to, IsNative, IsIn, StandIn}
-use Rattle.prem_wcet_laws.specs.ScopeLaws.{Stands}
-use Rattle.prem_wcet_laws.proofs.Calls.{EachCall, among_left, among_right, joined as calls_joined, arguments_call, target_calls, declared_call, result_calls, steps_call}
-use Rattle.prem_wcet_laws.proofs.Named.{all_same, declare_same, result_same, run_same, calls_same}
-use Rattle.prem_wcet_laws.proofs.Takes.{joined as native_joined, takes_arguments, takes_target, takes_opening, takes_closing, takes_declared, takes_result, takes_steps}
-use Rattle.prem_wcet_laws.proofs.Keeping.{Any, confined_confines, keeps_in}
+use Rattle.prem_wcet_laws.proofs.Prelude.{run-followed, guard_grows, Pieces, no_pieces, followed, size_of, EachPiece, Guard, Setting, Calls, Ending, Falls, Returns, Stuck, with_trace}
+use Rattle.prem_wcet_laws.proofs.Prelude.{then_run, run, AllSteps, Holds, Same, Within, total as total_of, each_arguments, each_closing, each_declared, each_result, each_steps, each_target}
+use Rattle.prem_wcet_laws.proofs.Prelude.{globals_stack, steps_end, functions_run, Globals, GlobalsStand, Stack, Ground, AllFit, Callees, StepsFit, DeclaredFit, ResultFits, Between}
+use Rattle.prem_wcet_laws.proofs.Prelude.{with_globals, CalleesAt, Matches, ArgumentsStand, at_frame, Codes, code_calls, TaskState, Did, Phase, lines_of, counters_in, locals_of, slots_of}
+use Rattle.prem_wcet_laws.proofs.Prelude.{frame_of, Parts, steps_code, argument_code, declare_code, result_code, opening, closing, only, Extent, Access, IsAmong, callees_in, Term, Steps}
+use Rattle.prem_wcet_laws.proofs.Prelude.{Routine, Limits, calls_below, ProgramState, values, declare, result_of, StaysOn, KeepsTo, Divides, RunDivides, weight_of, is_held, confined_to}
+use Rattle.prem_wcet_laws.proofs.Prelude.{IsNative, IsIn, own, least, narrowed, Edge, no_edge, entry, leaving, landing, passing, bottom_of, argument_ranges, passage_span, passage_data}
+use Rattle.prem_wcet_laws.proofs.Prelude.{passage_charge, passage_apart, passage, Stands, Scene, fact_of, code_ranges, data_ranges, extent_of, path_weight, scope_weight, is_roomy}
+use Rattle.prem_wcet_laws.proofs.Prelude.{globals_in, globals_in_terms, globals_in_result, number_at, put_number, ◌≡◌, ℕ, suc, ◌+◌, ◌-◌, ◌*◌, ◌%◌, ◌^◌, ◌<◌, ◌≤◌, refl, ap, ◌∙◌, sym, subst}
+use Rattle.prem_wcet_laws.proofs.Prelude.{arith, true, false, Bool, leb, ltb, List, [], ◌∷◌, ◌++◌, length, Option, Some, Ok, ◌⊎◌, inl, inr, and_parts, and_from, leb-true, ltb-true, list_all}
+use Rattle.prem_wcet_laws.proofs.Prelude.{flat_map}
+use Rattle.prem_code_laws.proofs.Emitted.{joined as native_joined}
+use Rattle.prem_syntax.specs.Statements.{run as run_source}
+use Rattle.prem_wcet_laws.proofs.Alone.{CallFree, free_any, own_divides}
+use Rattle.prem_wcet_laws.proofs.Calls.{among_left, among_right, joined as calls_joined, arguments_call, target_calls, declared_call, result_calls, steps_call}
+use Rattle.prem_wcet_laws.proofs.Divide.{divides_together, divides_join, divides_more}
+use Rattle.prem_wcet_laws.proofs.Edges.{passing as passed, landing as landed, entered, left}
 use Rattle.prem_wcet_laws.proofs.Held.{has_left, has_right, has_mapped, has_flat, held_by, held_left, held_right}
+use Rattle.prem_wcet_laws.proofs.Keeping.{Any, confined_confines, keeps_in}
+use Rattle.prem_wcet_laws.proofs.LeastRuns.{frame_alone, fit_alone, ground_alone, matches_alone}
+use Rattle.prem_wcet_laws.proofs.Named.{all_same, declare_same, result_same, run_same, calls_same}
+use Rattle.prem_wcet_laws.proofs.OneScope.{steps_callable, covers, covered_has, task_fits, matches_guard, Reached, closed, ground_small, calls_keep, same_trans, calls_grow, confined_grows}
+use Rattle.prem_wcet_laws.proofs.OneScope.{line_kept, all_kept, scope_charged, called_weigh}
 use Rattle.prem_wcet_laws.proofs.PlaceCost.{run_in}
 use Rattle.prem_wcet_laws.proofs.ScopeCosts.{scope_weighs}
-use Rattle.prem_wcet_laws.proofs.Divide.{divides_together, divides_join, divides_more}
 use Rattle.prem_wcet_laws.proofs.Sequence.{lesser}
-use Rattle.prem_wcet_laws.proofs.Alone.{CallFree, free_any, own_divides}
-use Rattle.prem_wcet_laws.proofs.OneScope.{steps_callable, covers, covered_has, task_fits, matches_guard, Reached, closed, ground_small, calls_keep, same_trans, calls_grow}
-use Rattle.prem_wcet_laws.proofs.OneScope.{confined_grows, line_kept, all_kept, scope_charged, called_weigh}
-use Rattle.prem_wcet_laws.proofs.LeastRuns.{frame_alone, fit_alone, ground_alone, matches_alone}
-use Rattle.prem_wcet_laws.proofs.Edges.{Falling, passing as passed, landing as landed, Entered, entered, Left, left}
+use Rattle.prem_wcet_laws.proofs.Takes.{emits_native}
+use Rattle.std.proofs.Common.{map}
+use Rattle.std.specs.Prelude.{◌&&◌, ◌||◌}
 
 -- ---- runs that aren't stuck
 
@@ -76,11 +49,6 @@ abbrev pub HasTrace : Ending → List Did → Type 0
 HasTrace (Falls t trace) steps = trace ≡ steps
 HasTrace (Returns back t trace) steps = trace ≡ steps
 HasTrace Stuck steps = ⊥
-
-pub traced_goes : (o : Ending) (steps : List Did) → HasTrace o steps → Goes o
-traced_goes (Falls t trace) steps h = tt
-traced_goes (Returns back t trace) steps h = tt
-traced_goes Stuck steps h = h
 
 pub with_traced : (o : Ending) (steps first : List Did) → HasTrace o steps → HasTrace (with_trace first o) (first ++ steps)
 with_traced (Falls t trace) steps first h = ap (λ z. first ++ z) h
@@ -133,7 +101,7 @@ module _ (s : Setting) (gs : Globals) (parts : Parts) (cs : Callees) (e : Scene)
       ((i : ℕ) → target ≡ Some i → i < count) → EdgeGoes s gs may k (landing target) at t
   landing_goes count at target t p m fits inside_ = record {
     free = target_calls (λ part. ⊥) target;
-    native = takes_target target no_pieces tt;
+    native = each_target IsNative emits_native target no_pieces tt;
     stored = λ a h. cc;
     goes = λ h inside calls small names below. goes_by
         (landed (record s { guard = h }) calls gs (narrowed inside may) (frame_alone k) small phase count at target t p (matches_small h count p t m)
@@ -189,7 +157,7 @@ module _ (s : Setting) (gs : Globals) (parts : Parts) (cs : Callees) (e : Scene)
       (record {
         free = arguments_call (λ part. ⊥) gs.target gs.part (parts.frame f) 0 es;
         stored = λ a h. argument_stored f es room low a h;
-        native = takes_arguments gs.target gs.part (parts.frame f) 0 es;
+        native = each_arguments IsNative emits_native gs.target gs.part (parts.frame f) 0 es;
         goes = λ h inside calls small names below.
             goes_by (passed (record s { guard = h }) calls gs (narrowed inside may) (frame_alone k) small phase count (parts.frame f) es 0 at t p ws (matches_small h count p t m) fit
             (all_same inside may p.globals p.locals es names ∙ is) (omega arith) al (omega arith)
@@ -211,7 +179,7 @@ module _ (s : Setting) (gs : Globals) (parts : Parts) (cs : Callees) (e : Scene)
       (record {
         free = declared_call (λ part. ⊥) gs.target gs.part (length f.text.params) f.locals;
         stored = λ a h. cc;
-        native = ((refl, (refl, tt)), takes_declared gs.target gs.part (length f.text.params) f.locals);
+        native = ((refl, (refl, tt)), each_declared IsNative emits_native gs.target gs.part (length f.text.params) f.locals);
         goes = λ h inside calls small names below.
             goes_by (entered (record s { guard = h }) calls gs (narrowed inside may) (frame_alone k)
             small phase f at back ws q p1 t slots_is fit len args (between_guard h q t b) two top_small one back_small
@@ -231,7 +199,7 @@ module _ (s : Setting) (gs : Globals) (parts : Parts) (cs : Callees) (e : Scene)
       (record {
         free = calls_joined (λ part. ⊥) (result_code gs.target gs.part f.result) (only (closing (frame_of f))) (result_calls (λ part. ⊥) gs.target gs.part f.result) tt;
         stored = λ a h. cc;
-        native = native_joined (result_code gs.target gs.part f.result) (only (closing (frame_of f))) (takes_result gs.target gs.part f.result) (takes_closing (frame_of f));
+        native = native_joined IsNative (result_code gs.target gs.part f.result) (only (closing (frame_of f))) (each_result IsNative emits_native gs.target gs.part f.result) (each_closing IsNative emits_native refl (frame_of f));
         goes = λ h inside calls small names below.
             goes_by (left (record s { guard = h }) calls gs (narrowed inside may) (frame_alone k) small phase f at back w t p slots_is fit (matches_small h (locals_of f) p t m)
             (result_same inside may (λ a f ws p. Ok (0, p)) f.result p names ∙ is) home top_small back_al back_small).goes tt;
@@ -395,7 +363,7 @@ module _ (e : Scene) (s : Setting) (gs : Globals) (parts : Parts) (cs : Callees)
       subst (λ z. HasTrace z (trace_before ++ (trace_body ++ trace_last))) (sym whole_is) (with_traced _ _ trace_before (with_traced o trace_last trace_body goes_last)) in
       let kept : Holds (IsIn code ranges) Any (run small inner from whole t0) =
       keeps_in code ranges small inner (confined_confines ranges s.guard) whole from (λ a ge lt. held_by (extent_of from whole) code a (inl refl) ge lt)
-      (native_joined before.pieces (followed body last.pieces) x.native (native_joined body last.pieces (takes_steps e.parts n first) y.native))
+      (native_joined IsNative before.pieces (followed body last.pieces) x.native (native_joined IsNative body last.pieces (each_steps IsNative emits_native e.parts n first) y.native))
       (calls_joined Kept before.pieces (followed body last.pieces) (free_any Kept before.pieces x.free)
       (calls_joined Kept body last.pieces
       (steps_call Kept e.parts n first

@@ -1,18 +1,15 @@
 -- Worked programs: what their jobs take at most, computed.
-use Rattle.std.specs.Prelude.{codes, false}
-use Rattle.std.proofs.Common.{◌≡◌, refl, ℕ, List, [], ◌∷◌, None, Some, map}
-use Rattle.prem_word.specs.declared.kind.BinOp.TheVariants.{Add as AddOp}
-use Rattle.prem_plant.specs.declared.plant.Plant.{Plant}
-use Rattle.prem_plant.specs.Ranges.{default_plant as plant}
-use Rattle.prem_syntax.specs.declared.tree.Ty.TheVariants.{Void, Int as IntTy}
-use Rattle.prem_syntax.specs.Syntax.{ProgramText, variable, element, binary, block, counting_for, output, call, absent}
-use Rattle.prem_syntax.proofs.Samples.{at, int, statements, one_name, parameter, local, global, function}
-use Rattle.prem_layout.specs.Placed.{Coded}
-use Rattle.prem_layout.specs.Facts.{job_fact}
-use Rattle.prem_layout.specs.Stretch.Sums.{turned}
+use Rattle.prem_wcet_laws.proofs.Prelude.{turned, Plant, wcet_of, longest_wcet_of, Add as AddOp, ◌≡◌, refl, ℕ, List, [], ◌∷◌, None, Some, codes}
 use Rattle.prem_layout.proofs.Samples.{m_text, m_turns, fir_text, fir_turns, calls_text, calls_turns}
 use Rattle.prem_layout.proofs.Tasks.{coded, placed}
-use Rattle.prem_wcet_laws.specs.Wcet.{wcet_of, longest_wcet_of}
+use Rattle.prem_layout.specs.Facts.{job_fact}
+use Rattle.prem_layout.specs.Placed.{Coded}
+use Rattle.prem_plant.specs.Ranges.{default_plant as plant}
+use Rattle.prem_syntax.proofs.Samples.{at, int, statements, one_name, parameter, local, global, function}
+use Rattle.prem_syntax.specs.Syntax.{ProgramText, variable, element, binary, block, counting_for, output, call, absent}
+use Rattle.prem_syntax.specs.declared.tree.Ty.TheVariants.{Void, Int as IntTy}
+use Rattle.std.proofs.Common.{map}
+use Rattle.std.specs.Prelude.{false}
 
 abbrev rules : Plant → List Coded → List ℕ
 rules p tasks = map (λ t. (job_fact p t).bound) (placed p tasks)

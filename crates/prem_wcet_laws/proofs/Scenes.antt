@@ -1,33 +1,13 @@
 -- The facts of a task's functions are scenes of its code.
-use Rattle.std.specs.Prelude.{slice_index_or, slice_get, take, map, unwrap_or, option_map}
-use Rattle.std.proofs.Common.{◌≡◌, ℕ, zero, suc, ◌+◌, ◌<◌, ◌≤◌, refl, ap, ◌∙◌, sym, subst, arith, cond, eq-eqb, true, false, List, [], ◌∷◌, ◌++◌, append_assoc, append-nil, length}
-use Rattle.std.proofs.Common.{length-append, inl, inr, Some}
-use Rattle.std.proofs.lemmas.List.{length-take-le}
-use Rattle.std.proofs.lemmas.Option.{slice_get_within}
-use Rattle.prem_plant.specs.declared.plant.Plant.{Plant}
-use Rattle.prem_plant.specs.Places.{Extent}
-use Rattle.prem_syntax.specs.Resolved.{Routine, Resolved}
-use Rattle.prem_syntax.specs.Statements.{is_marked}
-use Rattle.prem_syntax.specs.Reach.{IsAmong, callees_in}
-use Rattle.prem_syntax.specs.Source.{everywhere}
-use Rattle.prem_asm.specs.Runs.{run}
-use Rattle.prem_layout.specs.Template.Steps.{function_code}
-use Rattle.prem_layout.specs.Template.Parts.{parts_of, is_marked_at}
-use Rattle.prem_layout.specs.Plans.{Plan}
-use Rattle.prem_layout.specs.Parts.{code_part}
-use Rattle.prem_layout.specs.Footprint.{TaskPlaces, place_at}
-use Rattle.prem_code_laws.proofs.GenLawsLemmas.Table.{differs}
-use Rattle.prem_wcet_laws.specs.Scopes.{Fact, no_fact, Scene, fact_of, extent_of}
-use Rattle.prem_wcet_laws.specs.Least.{least_function}
-use Rattle.prem_wcet_laws.specs.Wcet.{frame_range, below_range, stack_of, known_scene, scene_of, fact_at, at_function, facts_behind}
-use Rattle.prem_wcet_laws.specs.Named.{globals_of}
-use Rattle.prem_wcet_laws.specs.Keeping.{is_held}
-use Rattle.prem_wcet_laws.specs.ScopeLaws.{FactStands, Stands}
-use Rattle.prem_wcet_laws.specs.Scenes.{facts_in, scene_in, ScenesStand, QuietJobsDivide}
-use Rattle.prem_wcet_laws.specs.Divided.{RunDivides}
-use Rattle.prem_wcet_laws.proofs.FunctionRuns.{functions_divide}
+use Rattle.prem_wcet_laws.proofs.Prelude.{run, differs, TaskPlaces, place_at, code_part, Plan, parts_of, is_marked_at, function_code, Extent, Plant, IsAmong, callees_in, Routine, Resolved}
+use Rattle.prem_wcet_laws.proofs.Prelude.{everywhere, is_marked, RunDivides, is_held, least_function, globals_of, facts_in, scene_in, ScenesStand, QuietJobsDivide, FactStands, Fact, no_fact}
+use Rattle.prem_wcet_laws.proofs.Prelude.{Scene, fact_of, extent_of, frame_range, below_range, stack_of, known_scene, scene_of, fact_at, at_function, facts_behind, ◌≡◌, ℕ, zero, suc, ◌+◌}
+use Rattle.prem_wcet_laws.proofs.Prelude.{◌<◌, ◌≤◌, refl, ap, ◌∙◌, sym, subst, arith, cond, eq-eqb, true, false, List, [], ◌∷◌, ◌++◌, append_assoc, append-nil, length, length-append, inl}
+use Rattle.prem_wcet_laws.proofs.Prelude.{inr, Some, length-take-le, slice_get_within, slice_index_or, slice_get, map, unwrap_or, option_map}
 use Rattle.prem_wcet_laws.proofs.CallRuns.{frames_work}
+use Rattle.prem_wcet_laws.proofs.FunctionRuns.{functions_divide}
 use Rattle.prem_wcet_laws.proofs.Held.{has_left, has_right, has_mapped, has_flat, held_left}
+use Rattle.std.specs.Prelude.{take}
 
 -- ---- lists of facts
 

@@ -1,30 +1,18 @@
 -- The four sums of parted statements are within those of their code.
-use Rattle.std.proofs.Common.{◌≡◌, ℕ, ◌+◌, ◌*◌, ◌≤◌, min, arith, subst, sym, refl, ap, ◌∙◌, true, false, Bool, ◌||◌, List, [], ◌∷◌, ◌++◌, length, Option, Some, None}
-use Rattle.std.specs.List.{list_any}
-use Rattle.std.proofs.lemmas.List.Folds.{list_any-append}
-use Rattle.prem_asm.specs.declared.piece.Test.{Test}
-use Rattle.prem_asm.specs.Pieces.{Pieces, no_pieces, straight, either, repeat, call_to, followed, branch_of, skip_words, size_of}
-use Rattle.prem_syntax.specs.Resolved.{Term, Steps, Done, SetLocal, SetScalar, SetElement, Output, Input, If, For, While, Call, Routine}
-use Rattle.prem_syntax.specs.Reach.{callees_in}
-use Rattle.prem_layout.specs.Template.Terms.{only, nonzero}
-use Rattle.prem_layout.specs.Template.Frames.{counters_in, locals_of, frame_of}
-use Rattle.prem_layout.specs.Template.Steps.{store_slot, bound_test, step_code, count_code, argument_code, target_code, steps_code, opening, closing, result_code, function_code}
-use Rattle.prem_layout.specs.Bounds.{job_weight}
-use Rattle.prem_layout.specs.Stretch.Sums.{most, both, Sums, taking, chained, turned, summed, IsWithin, among}
-use Rattle.prem_layout.proofs.StretchLemmas.Algebra.{same_sums, most_none, chained_assoc, none_taken}
-use Rattle.prem_layout.proofs.StretchLemmas.Order.{within_same, within_then, chained_within, taking_within}
-use Rattle.prem_wcet_laws.specs.Scopes.{Scene}
-use Rattle.prem_wcet_laws.specs.Parted.{cuts, has_cut, front, by_cut, Edge, no_edge, entry, leaving, passing, landing, next_edge, passage_apart, Begun, counted, begins, opened}
-use Rattle.prem_wcet_laws.specs.Parted.{called_parted, landing_place, parted, parted_function}
-use Rattle.prem_wcet_laws.specs.Least.{own, own_jump, own_turns, own_choice, term_of, bound_code, first_code, counter_code, turn_of, taken_place, other_place, body_place, behind}
-use Rattle.prem_wcet_laws.specs.Least.{called_least, single, apart, least, declared, body_at, own_before, own_behind, least_function}
-use Rattle.prem_wcet_laws.proofs.Shape.{followed-assoc, first_local, first_scalar, first_element, first_output, first_input, first_if, first_for, first_while, first_call}
-use Rattle.prem_wcet_laws.proofs.Ordered.{right_of}
+use Rattle.prem_wcet_laws.proofs.Prelude.{Pieces, no_pieces, straight, either, repeat, call_to, followed, branch_of, skip_words, size_of, Test, chained_assoc, none_taken, within_same}
+use Rattle.prem_wcet_laws.proofs.Prelude.{within_then, chained_within, job_weight, Sums, taking, chained, turned, summed, IsWithin, among, counters_in, locals_of, frame_of, store_slot}
+use Rattle.prem_wcet_laws.proofs.Prelude.{bound_test, step_code, count_code, argument_code, target_code, steps_code, opening, closing, result_code, function_code, only, nonzero, callees_in}
+use Rattle.prem_wcet_laws.proofs.Prelude.{Term, Steps, Done, SetLocal, SetScalar, SetElement, Output, Input, If, For, While, Call, Routine, Count, own, own_jump, own_turns, own_choice}
+use Rattle.prem_wcet_laws.proofs.Prelude.{term_of, bound_code, first_code, counter_code, turn_of, taken_place, other_place, body_place, behind, called_least, single, apart, least, declared}
+use Rattle.prem_wcet_laws.proofs.Prelude.{body_at, own_before, own_behind, least_function, cuts, has_cut, front, by_cut, Edge, no_edge, entry, leaving, passing, landing, next_edge}
+use Rattle.prem_wcet_laws.proofs.Prelude.{passage_apart, Begun, counted, begins, opened, called_parted, landing_place, parted, parted_function, Scene, ◌≡◌, ℕ, ◌+◌, ◌*◌, ◌≤◌, min, arith}
+use Rattle.prem_wcet_laws.proofs.Prelude.{subst, sym, refl, ap, ◌∙◌, true, false, Bool, List, [], ◌∷◌, ◌++◌, length}
 use Rattle.prem_wcet_laws.proofs.Calls.{EachCall, term_calls, arguments_call, target_calls, declared_call, result_calls, joined}
-use Rattle.prem_wcet_laws.proofs.Within.{among_within, turned_within, taken_both, taken_less, taken_choice, taken_loop, summed-followed, taken_pieces}
-use Rattle.prem_wcet_laws.proofs.NoCuts.{none_first, none_second, none_left, none_right, none_loop, none_choice}
 use Rattle.prem_wcet_laws.proofs.Counting.{none_behind}
-use Rattle.prem_wcet_laws.specs.Counts.{Count}
+use Rattle.prem_wcet_laws.proofs.NoCuts.{none_first, none_second, none_left, none_right, none_loop, none_choice}
+use Rattle.prem_wcet_laws.proofs.Ordered.{right_of}
+use Rattle.prem_wcet_laws.proofs.Shape.{followed-assoc, first_local, first_scalar, first_element, first_output, first_input, first_if, first_for, first_while, first_call}
+use Rattle.prem_wcet_laws.proofs.Within.{among_within, turned_within, taken_both, taken_less, taken_choice, taken_loop, summed-followed, taken_pieces}
 
 -- of a choice, and of a loop
 abbrev choice_sums : Scene → Test → (other_code : Pieces) → (taken other : Sums) → Sums

@@ -1,42 +1,20 @@
 -- The start of a job without marked calls is one scope with its call and the job's end.
-use Rattle.std.specs.Prelude.{slice_get, slice_index_or}
-use Rattle.std.specs.List.{list_all, flat_map}
-use Rattle.std.proofs.Common.{◌≡◌, ℕ, zero, suc, ◌+◌, ◌*◌, ◌<◌, ◌≤◌, ◌/◌, refl, ap, ◌∙◌, sym, subst, arith, cond, eqb, eq-eqb, ltb, lt-ltb, List, [], ◌∷◌, ◌++◌, append_assoc}
-use Rattle.std.proofs.Common.{append-nil, length, take, map, Some, None, inl, true}
-use Rattle.std.proofs.lemmas.List.{length-append}
-use Rattle.std.proofs.lemmas.Option.{slice_get_within}
-use Rattle.prem_plant.specs.declared.plant.Plant.{Plant}
-use Rattle.prem_plant.specs.Places.{Extent}
-use Rattle.prem_isa.specs.declared.instr.Instr.TheVariants.{PmDone}
-use Rattle.prem_isa.specs.declared.effect.Phase.TheVariants.{Compatible}
-use Rattle.prem_isa.specs.declared.effect.Change.TheVariants.{Stay}
-use Rattle.prem_isa.specs.Plain.{TaskState, Did}
-use Rattle.prem_syntax.specs.Resolved.{Routine, Resolved}
-use Rattle.prem_syntax.specs.Source.{everywhere}
-use Rattle.prem_asm.specs.Pieces.{jump_to, size_of}
-use Rattle.prem_asm.specs.Runs.{Returns, run}
+use Rattle.prem_wcet_laws.proofs.Prelude.{jump_to, AllSteps, total, Did, Stay, Compatible, PmDone, line_cost, part_weight, weight_at, start_code, place_at, code_part, start_part, Extent}
+use Rattle.prem_wcet_laws.proofs.Prelude.{everywhere, KeepsTo, StaysOn, weight_of, step_charge, is_held, AccessIn, IsIn, facts_in, scene_in, Fact, no_fact, fact_of, extent_of, code_ranges}
+use Rattle.prem_wcet_laws.proofs.Prelude.{data_ranges, data_lines, lines_in, charge, scope_weight, is_roomy, roomy_lines, path_weight, places_behind, function_span, frame_range, below_range}
+use Rattle.prem_wcet_laws.proofs.Prelude.{stack_of, known_scene, scene_of, fact_at, start_span, PlaceWeight, weighted_from, jump_from, ◌≡◌, ℕ, zero, suc, ◌+◌, ◌*◌, ◌<◌, ◌≤◌, refl, ap, ◌∙◌}
+use Rattle.prem_wcet_laws.proofs.Prelude.{sym, subst, arith, cond, eq-eqb, List, [], ◌∷◌, ◌++◌, append_assoc, append-nil, length, take, Some, None, inl, true, slice_get_within, list_all}
+use Rattle.prem_wcet_laws.proofs.Prelude.{flat_map, slice_index_or}
 use Rattle.prem_asm.specs.OwnRun.{done_step}
-use Rattle.prem_asm.specs.Steps.{AllSteps, total}
-use Rattle.prem_layout.specs.Template.Steps.{function_code}
-use Rattle.prem_layout.specs.Template.Parts.{parts_of}
-use Rattle.prem_layout.specs.Plans.{Plan}
-use Rattle.prem_layout.specs.Parts.{code_part, start_part}
-use Rattle.prem_layout.specs.Footprint.{TaskPlaces, place_at, lines_of}
-use Rattle.prem_layout.specs.Bounds.{line_cost, part_weight, weight_at, start_code}
-use Rattle.prem_wcet_laws.specs.Weights.{PlaceWeight, weighted_from, jump_from}
-use Rattle.prem_wcet_laws.specs.Scopes.{Fact, no_fact, Scene, fact_of, extent_of, code_ranges, data_ranges, data_lines, lines_in, charge, scope_weight, is_roomy, roomy_lines}
-use Rattle.prem_wcet_laws.specs.Scopes.{path_weight, places_behind, function_span}
-use Rattle.prem_wcet_laws.specs.Divided.{KeepsTo, StaysOn, Weighs, weight_of, step_charge, scope_charge, lines_of_step}
-use Rattle.prem_wcet_laws.specs.Keeping.{is_held, AccessIn, IsIn}
-use Rattle.prem_wcet_laws.specs.Wcet.{frame_range, below_range, stack_of, known_scene, scene_of, fact_at, start_span}
-use Rattle.prem_wcet_laws.specs.Scenes.{facts_in, scene_in}
-use Rattle.prem_wcet_laws.specs.Starts.{start_steps, RunStarts, QuietStartsAreScopes}
-use Rattle.prem_wcet_laws.proofs.Held.{held_by, held_left, held_right, held_line}
-use Rattle.prem_wcet_laws.proofs.ScopeCosts.{scope_weighs, steps_less}
-use Rattle.prem_wcet_laws.proofs.OneScope.{line_kept, all_kept}
-use Rattle.prem_wcet_laws.proofs.FunctionRuns.{FunctionKept, kept_here}
 use Rattle.prem_wcet_laws.proofs.CallRuns.{frames_work}
+use Rattle.prem_wcet_laws.proofs.FunctionRuns.{kept_here}
+use Rattle.prem_wcet_laws.proofs.Held.{held_by, held_left, held_right, held_line}
+use Rattle.prem_wcet_laws.proofs.OneScope.{line_kept, all_kept}
 use Rattle.prem_wcet_laws.proofs.Scenes.{IsFact, each_fact, taken_length, facts_length, scenes_stand}
+use Rattle.prem_wcet_laws.proofs.ScopeCosts.{scope_weighs, steps_less}
+use Rattle.prem_wcet_laws.specs.Starts.{RunStarts, QuietStartsAreScopes}
+use Rattle.std.proofs.Common.{lt-ltb}
+use Rattle.std.proofs.lemmas.List.{length-append}
 
 -- ---- weights of functions that are known
 

@@ -1,9 +1,5 @@
 -- What the paths of code count at most: in all, and in the four sums between marked calls.
-use Rattle.std.specs.Prelude.{◌≤◌, ℕ, ◌+◌, ◌*◌, max, List}
-use Rattle.prem_plant.specs.declared.plant.Plant.{Plant}
-use Rattle.prem_layout.specs.Plans.{Plan}
-use Rattle.prem_layout.specs.Bounds.{marked_weights}
-use Rattle.prem_layout.specs.Stretch.Sums.{Sums, no_sums, taking, among, chained, turned, marked_sums, IsWithin}
+use Rattle.prem_wcet_laws.specs.Prelude.{marked_weights, Plan, Sums, no_sums, taking, among, chained, turned, marked_sums, IsWithin, Plant, ◌≤◌, ℕ, ◌+◌, ◌*◌, max, List}
 
 pub record Count : Type 0 where
   pub total : ℕ

@@ -1,22 +1,11 @@
 -- A run's instructions part into scopes, one behind another, and such that stand alone.
-use Rattle.std.specs.Prelude.{◌≡◌, ◌≤◌, ℕ, ℤ, pos, ◌+◌, ◌*◌, ◌/◌, List, [], ◌∷◌, ◌++◌, length, Option, None, Some}
-use Rattle.prem_plant.specs.declared.plant.Plant.{Plant}
-use Rattle.prem_isa.specs.declared.instr.Instr.TheVariants.{Lui, Jal, Jalr, OpImm, PmMem}
-use Rattle.prem_isa.specs.declared.instr.AluOp.TheVariants.{Add}
+use Rattle.prem_wcet_laws.specs.Prelude.{Pieces, Setting, Calls, Ending, Falls, Returns, Stuck, run, total, Within, AllSteps, cost_of, TaskState, Did, Stay, Add, Lui, Jal, Jalr, OpImm}
+use Rattle.prem_wcet_laws.specs.Prelude.{PmMem, line_cost, job_weight, Path, Takes, Cuts, sums_of_path, Plant, IsAmong, ◌≡◌, ◌≤◌, ℕ, ℤ, pos, ◌+◌, ◌*◌, ◌/◌, List, [], ◌∷◌, ◌++◌, length}
+use Rattle.prem_wcet_laws.specs.Prelude.{Option, None, Some}
 use Rattle.prem_isa.specs.declared.effect.Access.{Access}
-use Rattle.prem_isa.specs.declared.effect.Change.TheVariants.{Stay}
-use Rattle.prem_isa.specs.Decode.{cost_of}
-use Rattle.prem_isa.specs.Plain.{TaskState, Did}
-use Rattle.prem_syntax.specs.Reach.{IsAmong}
-use Rattle.prem_asm.specs.Pieces.{Pieces}
-use Rattle.prem_asm.specs.Runs.{Setting, Calls, Ending, Falls, Returns, Stuck, run}
-use Rattle.prem_asm.specs.Steps.{total, Within, AllSteps}
-use Rattle.prem_layout.specs.Bounds.{line_cost, job_weight}
-use Rattle.prem_layout.specs.Stretch.Paths.{Path, Takes, Cuts}
-use Rattle.prem_layout.specs.Stretch.Sums.{sums_of_path}
 use Rattle.prem_wcet_laws.specs.Counts.{Count, IsNoMore}
-use Rattle.prem_wcet_laws.specs.Weights.{PlaceWeight, weighted_from}
 use Rattle.prem_wcet_laws.specs.Scopes.{is_roomy, roomy_lines, crowd_cost}
+use Rattle.prem_wcet_laws.specs.Weights.{PlaceWeight, weighted_from}
 
 -- ---- weights of steps
 

@@ -1,13 +1,7 @@
 -- When a marked call's interval opens the bus, and plans with shorter lengths.
-use Rattle.std.specs.Prelude.{ℕ, ◌+◌, ◌*◌, min, List, map, length}
-use Rattle.prem_plant.specs.declared.plant.Plant.{Plant}
-use Rattle.prem_isa.specs.Decode.{cost_of}
-use Rattle.prem_asm.specs.Pieces.{Pieces, no_pieces, straight, address_code, weighted}
-use Rattle.prem_layout.specs.Parts.{stub_passes}
+use Rattle.prem_wcet_laws.specs.Prelude.{Pieces, no_pieces, straight, address_code, weighted, cost_of, line_cost, TaskPlaces, ranges_of, footprint_of, stub_passes, Plan, Plant, ℕ, ◌+◌, ◌*◌}
+use Rattle.prem_wcet_laws.specs.Prelude.{min, length}
 use Rattle.prem_layout.specs.Stubs.{passes_code}
-use Rattle.prem_layout.specs.Footprint.{TaskPlaces, ranges_of, footprint_of}
-use Rattle.prem_layout.specs.Plans.{Plan}
-use Rattle.prem_layout.specs.Bounds.{line_cost}
 
 -- what stands between a stub's `pm.mem` and its `pm.exec`
 abbrev pub opening_code : Plant → TaskPlaces → Plan → Pieces

@@ -1,29 +1,14 @@
 -- Lists of statements with marked calls run in scopes and marked calls, which together are charged no more than their parted charge.
-use Rattle.std.specs.Prelude.{◌≡◌, ◌<◌, ◌≤◌, ℕ, ◌+◌, ◌-◌, ◌%◌, ◌^◌, Bool, true, false, List, length, Ok}
-use Rattle.prem_plant.specs.declared.plant.Plant.{Plant}
-use Rattle.prem_isa.specs.declared.effect.Phase.{Phase}
-use Rattle.prem_isa.specs.Plain.{TaskState, Did}
-use Rattle.prem_syntax.specs.Resolved.{Steps, Routine}
-use Rattle.prem_syntax.specs.Expressions.{Outcome, Access}
-use Rattle.prem_syntax.specs.Statements.{ProgramState, run as run_source}
-use Rattle.prem_syntax.specs.Source.{Limits, calls_below}
-use Rattle.prem_asm.specs.Pieces.{size_of}
-use Rattle.prem_asm.specs.Runs.{Setting, Calls, Ending, run}
-use Rattle.prem_layout.specs.Template.Frames.{counters_in, slots_of, frame_of}
-use Rattle.prem_layout.specs.Template.Steps.{Parts, steps_code, function_code}
-use Rattle.prem_code_laws.specs.ExprLaws.Relation.{Globals, Stack, Ground}
-use Rattle.prem_code_laws.specs.GenLaws.Fits.{Callees, StepsFit}
-use Rattle.prem_code_laws.specs.GenLaws.Functions.{FunctionFits, performed}
-use Rattle.prem_code_laws.specs.GenLaws.Jobs.{Between}
-use Rattle.prem_code_laws.specs.GenLaws.Matches.{Matches, ArgumentsStand}
-use Rattle.prem_code_laws.specs.GenLaws.Laws.{CalleesAt}
-use Rattle.prem_code_laws.specs.GenLaws.Table.{Codes}
-use Rattle.prem_wcet_laws.specs.Scopes.{Scene}
+use Rattle.prem_wcet_laws.specs.Prelude.{size_of, Setting, Calls, Ending, run, Globals, Stack, Callees, StepsFit, FunctionFits, performed, Between, CalleesAt, Matches, ArgumentsStand, Codes}
+use Rattle.prem_wcet_laws.specs.Prelude.{TaskState, Did, Phase, counters_in, slots_of, frame_of, Parts, steps_code, function_code, Plant, Outcome, Access, Steps, Routine, Limits}
+use Rattle.prem_wcet_laws.specs.Prelude.{calls_below, ProgramState, ◌≡◌, ◌<◌, ◌≤◌, ℕ, ◌+◌, ◌-◌, ◌%◌, ◌^◌, Bool, true, false, List, length, Ok}
+use Rattle.prem_syntax.specs.Statements.{run as run_source}
 use Rattle.prem_wcet_laws.specs.Counts.{Count}
-use Rattle.prem_wcet_laws.specs.Parted.{cuts, bottom_of, no_edge, begins, called_parted, parted, parted_function}
 use Rattle.prem_wcet_laws.specs.Divided.{RunCourses}
-use Rattle.prem_wcet_laws.specs.ScopeLaws.{Stands}
 use Rattle.prem_wcet_laws.specs.LeastLaws.{Works}
+use Rattle.prem_wcet_laws.specs.Parted.{cuts, bottom_of, no_edge, begins, called_parted, parted, parted_function}
+use Rattle.prem_wcet_laws.specs.ScopeLaws.{Stands}
+use Rattle.prem_wcet_laws.specs.Scopes.{Scene}
 
 -- calls from a frame run in scopes and marked calls that are charged at most so much
 pub record CallCourses (p : Plant) (Marked : List Did → ℕ → Type 0) (most : Count) (s : Setting) (gs : Globals) (k : Stack) (phase : Phase)

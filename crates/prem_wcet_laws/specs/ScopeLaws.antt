@@ -1,28 +1,12 @@
 -- A list of statements runs as one scope.
-use Rattle.std.specs.Prelude.{◌≡◌, ◌⊎◌, ◌<◌, ◌≤◌, ℕ, ◌+◌, ◌%◌, ◌^◌, true, List, [], ◌∷◌, length, slice_get, Some, Ok}
-use Rattle.prem_plant.specs.Places.{Extent}
-use Rattle.prem_isa.specs.declared.effect.Phase.{Phase}
-use Rattle.prem_isa.specs.Plain.{TaskState, Did}
-use Rattle.prem_syntax.specs.Resolved.{Steps, Routine}
-use Rattle.prem_syntax.specs.Expressions.{Access}
-use Rattle.prem_syntax.specs.Statements.{ProgramState, run as run_source}
-use Rattle.prem_syntax.specs.Source.{Limits, calls_below}
-use Rattle.prem_syntax.specs.Reach.{IsAmong, callees_in}
-use Rattle.prem_asm.specs.Pieces.{size_of}
-use Rattle.prem_asm.specs.Runs.{Setting, Calls, Falls, run}
-use Rattle.prem_asm.specs.Steps.{AllSteps, Same}
-use Rattle.prem_layout.specs.Template.Frames.{counters_in}
-use Rattle.prem_layout.specs.Template.Steps.{Parts, steps_code, function_code}
-use Rattle.prem_layout.specs.Parts.{code_part}
-use Rattle.prem_code_laws.specs.ExprLaws.Relation.{Globals, Stack, Ground, element_size, element_at}
-use Rattle.prem_code_laws.specs.GenLaws.Fits.{Callees, StepsFit}
-use Rattle.prem_code_laws.specs.GenLaws.Matches.{Matches}
-use Rattle.prem_code_laws.specs.GenLaws.Laws.{with_globals}
-use Rattle.prem_code_laws.specs.GenLaws.Table.{Codes, code_calls, TaskFits}
-use Rattle.prem_wcet_laws.specs.Scopes.{Scene, fact_of, extent_of, data_ranges, lines_in, charge, span_of}
+use Rattle.prem_wcet_laws.specs.Prelude.{size_of, Setting, Calls, Falls, run, AllSteps, Same, Globals, Stack, Ground, element_size, element_at, Callees, StepsFit, with_globals, Matches}
+use Rattle.prem_wcet_laws.specs.Prelude.{Codes, code_calls, TaskFits, TaskState, Did, Phase, code_part, counters_in, Parts, steps_code, function_code, Extent, Access, IsAmong, callees_in}
+use Rattle.prem_wcet_laws.specs.Prelude.{Steps, Routine, Limits, calls_below, ProgramState, ◌≡◌, ◌⊎◌, ◌<◌, ◌≤◌, ℕ, ◌+◌, ◌%◌, ◌^◌, true, List, [], ◌∷◌, length, slice_get, Some, Ok}
+use Rattle.prem_syntax.specs.Statements.{run as run_source}
 use Rattle.prem_wcet_laws.specs.Divided.{KeepsTo, scope_charge, StaysOn}
-use Rattle.prem_wcet_laws.specs.Named.{globals_of}
 use Rattle.prem_wcet_laws.specs.Keeping.{is_held}
+use Rattle.prem_wcet_laws.specs.Named.{globals_of}
+use Rattle.prem_wcet_laws.specs.Scopes.{Scene, fact_of, extent_of, data_ranges, lines_in, charge, span_of}
 
 abbrev pub HasExtent : Extent → List Extent → Type 0
 HasExtent x [] = ⊥

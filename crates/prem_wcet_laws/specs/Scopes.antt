@@ -1,19 +1,8 @@
 -- Scopes: code that runs within one compatible interval, with the collection of the lines that it may touch, and its charge.
-use Rattle.std.specs.Prelude.{ℕ, ◌+◌, ◌*◌, ◌/◌, ◌%◌, nat_le, Bool, true, Option, None, Some, if◌then◌else◌, List, [], ◌∷◌, ◌++◌, length, map, filter, slice_index_or}
-use Rattle.std.specs.List.{list_all, flat_map}
-use Rattle.prem_plant.specs.declared.plant.Plant.{Plant}
-use Rattle.prem_plant.specs.Places.{Extent}
-use Rattle.prem_isa.specs.declared.instr.Instr.TheVariants.{Load, Store}
-use Rattle.prem_isa.specs.Decode.{cost_of}
-use Rattle.prem_syntax.specs.Resolved.{Term, Constant, Local, Scalar, Element, Unary, Binary, AndAlso, OrElse, Steps, Done, SetLocal, SetScalar, SetElement, Output, Input, If, For}
-use Rattle.prem_syntax.specs.Resolved.{While, Call, Routine}
-use Rattle.prem_syntax.specs.Reach.{callees_in}
-use Rattle.prem_asm.specs.Pieces.{Pieces, no_pieces, size_of}
-use Rattle.prem_layout.specs.Template.Steps.{Parts, steps_code, function_code}
-use Rattle.prem_layout.specs.Footprint.{lines_of, count_in}
-use Rattle.prem_layout.specs.Bounds.{line_cost, part_weight, weight_at}
-use Rattle.prem_layout.specs.Parts.{code_part}
-use Rattle.prem_layout.specs.Plans.{Plan}
+use Rattle.prem_wcet_laws.specs.Prelude.{Pieces, no_pieces, size_of, cost_of, Load, Store, line_cost, part_weight, weight_at, lines_of, count_in, code_part, Plan, Parts, steps_code}
+use Rattle.prem_wcet_laws.specs.Prelude.{function_code, Extent, Plant, callees_in, Term, Constant, Local, Scalar, Element, Unary, Binary, AndAlso, OrElse, Steps, Done, SetLocal, SetScalar}
+use Rattle.prem_wcet_laws.specs.Prelude.{SetElement, Output, Input, If, For, While, Call, Routine, list_all, flat_map, ℕ, ◌+◌, ◌*◌, ◌/◌, ◌%◌, nat_le, Bool, true, Option, None, Some}
+use Rattle.prem_wcet_laws.specs.Prelude.{if◌then◌else◌, List, [], ◌∷◌, ◌++◌, length, map, filter, slice_index_or}
 use Rattle.prem_wcet_laws.specs.Counts.{Count, no_count}
 use Rattle.prem_wcet_laws.specs.Weights.{PlaceWeight, weighted_from}
 

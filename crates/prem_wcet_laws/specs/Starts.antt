@@ -1,33 +1,14 @@
 -- The start of a job without marked calls, its call, and the job's end as one scope.
-use Rattle.std.specs.Prelude.{◌≡◌, ◌<◌, ◌≤◌, ℕ, ◌+◌, ◌%◌, ◌^◌, None, Ok, List, [], ◌∷◌, ◌++◌, length, slice_get, Some}
-use Rattle.prem_plant.specs.declared.plant.Plant.{Plant}
-use Rattle.prem_isa.specs.declared.effect.Phase.{Phase}
-use Rattle.prem_isa.specs.declared.effect.Phase.TheVariants.{Compatible}
-use Rattle.prem_isa.specs.declared.effect.Change.TheVariants.{Stay}
-use Rattle.prem_isa.specs.Plain.{TaskState, Did}
-use Rattle.prem_syntax.specs.Resolved.{Routine, Resolved}
-use Rattle.prem_syntax.specs.Statements.{ProgramState}
-use Rattle.prem_syntax.specs.Source.{Limits, calls_below, everywhere}
-use Rattle.prem_asm.specs.Pieces.{jump_to}
-use Rattle.prem_asm.specs.Runs.{Setting, Calls, Ending, Falls, Returns, Stuck, run}
+use Rattle.prem_wcet_laws.specs.Prelude.{jump_to, Setting, Calls, Ending, Falls, Returns, Stuck, run, Same, AllSteps, Globals, Stack, Ground, Callees, FunctionFits, performed, Between}
+use Rattle.prem_wcet_laws.specs.Prelude.{ArgumentsStand, Codes, code_calls, TaskState, Did, Stay, Phase, TaskPlaces, place_at, start_part, Plan, slots_of, frame_of, parts_of, Parts}
+use Rattle.prem_wcet_laws.specs.Prelude.{function_code, Plant, Routine, Resolved, Limits, calls_below, everywhere, ProgramState, ◌≡◌, ◌<◌, ◌≤◌, ℕ, ◌+◌, ◌%◌, ◌^◌, None, Ok, List, [], ◌∷◌}
+use Rattle.prem_wcet_laws.specs.Prelude.{◌++◌, length, slice_get, Some}
 use Rattle.prem_asm.specs.OwnRun.{done_step}
-use Rattle.prem_asm.specs.Steps.{Same, AllSteps}
-use Rattle.prem_layout.specs.Template.Frames.{slots_of, frame_of}
-use Rattle.prem_layout.specs.Template.Steps.{Parts, function_code}
-use Rattle.prem_layout.specs.Template.Parts.{parts_of}
-use Rattle.prem_layout.specs.Plans.{Plan}
-use Rattle.prem_layout.specs.Parts.{start_part}
-use Rattle.prem_layout.specs.Footprint.{TaskPlaces, place_at}
-use Rattle.prem_code_laws.specs.ExprLaws.Relation.{Globals, Stack, Ground}
-use Rattle.prem_code_laws.specs.GenLaws.Fits.{Callees}
-use Rattle.prem_code_laws.specs.GenLaws.Functions.{FunctionFits, performed}
-use Rattle.prem_code_laws.specs.GenLaws.Jobs.{Between}
-use Rattle.prem_code_laws.specs.GenLaws.Matches.{ArgumentsStand}
-use Rattle.prem_code_laws.specs.GenLaws.Table.{Codes, code_calls}
-use Rattle.prem_wcet_laws.specs.Scopes.{lines_in, charge}
+use Rattle.prem_isa.specs.declared.effect.Phase.TheVariants.{Compatible}
 use Rattle.prem_wcet_laws.specs.Divided.{KeepsTo, StaysOn, scope_charge}
-use Rattle.prem_wcet_laws.specs.Wcet.{known_scene, start_span}
 use Rattle.prem_wcet_laws.specs.Scenes.{TaskStands, FrameStands}
+use Rattle.prem_wcet_laws.specs.Scopes.{lines_in, charge}
+use Rattle.prem_wcet_laws.specs.Wcet.{known_scene, start_span}
 
 -- the jump from the start to `job`, the steps of its call, and the job's end
 abbrev pub start_steps : (start job : ℕ) → List Did → List Did

@@ -1,6 +1,6 @@
 -- Sets of functions, step by step.
-use Rattle.std.proofs.Common.{◌≡◌, ℕ, zero, suc, ◌-◌, ◌<◌, Bool, true, List, [], ◌∷◌, ap, sym, ◌∙◌, arith, length, map, get_or, slice_index_or}
 use Rattle.prem_syntax.specs.Reach.{with_all, with_all_if, is_in, with_callees_below}
+use Rattle.std.proofs.Common.{◌≡◌, ℕ, zero, suc, ◌-◌, ◌<◌, Bool, true, List, [], ◌∷◌, ap, sym, ◌∙◌, arith, length, map, get_or, slice_index_or}
 
 pub item_at : {A B : Type 0} (f : A → B) (xs : List A) (k : ℕ) (x : A) (d : B) → k < length xs → x ≡ get_or xs k x → get_or (map f xs) k d ≡ f x
 item_at f [] k x d lt is = absurd (omega arith)

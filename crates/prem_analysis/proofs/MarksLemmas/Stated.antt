@@ -1,13 +1,6 @@
 -- The areas that regions state, one by one.
-use Rattle.std.specs.Borrow.{Bor}
-use Rattle.std.proofs.Common.{◌≡◌, List, ◌∷◌, ◌++◌, map, ap, ◌∙◌, flat_map}
-use Rattle.std.proofs.lemmas.List.{append_assoc}
-use Rattle.prem_syntax.specs.declared.tree.Global.{Global}
-use Rattle.prem_syntax.specs.declared.tree.Region.{Region}
-use Rattle.prem_syntax.specs.Syntax.{RegionText, GlobalVariable}
-use Rattle.prem_syntax.specs.SyntaxOf.{global_of, region_of}
-use Rattle.prem_syntax.specs.Resolve.{find_named}
-use Rattle.prem_ranges.specs.Regions.{Area, area_of}
+use Rattle.prem_analysis.proofs.Prelude.{Area, find_named, RegionText, GlobalVariable, global_of, region_of, Global, Region, ◌≡◌, List, ◌∷◌, ◌++◌, map, ap, ◌∙◌, flat_map, append_assoc, Bor}
+use Rattle.prem_ranges.specs.Regions.{area_of}
 
 -- the area of a region among globals
 abbrev pub stated : List (Bor Global) → RegionText → List Area

@@ -1,25 +1,11 @@
 -- The marked functions in memory are those that watch over each function.
-use Rattle.std.specs.Borrow.{Bor}
-use Rattle.std.specs.Option.{option_map}
-use Rattle.std.proofs.Common.{◌≡◌, ℕ, zero, suc, ◌+◌, ◌<◌, ◌≤◌, Bool, true, false, cond, List, [], ◌∷◌, ◌++◌, length, map, drop, get_or, refl, ap, sym, ◌∙◌, arith, Option, Some}
-use Rattle.std.proofs.Common.{None, Result, Ok, Err, IfOk}
-use Rattle.std.proofs.lemmas.List.{append_assoc}
-use Rattle.prem_list.specs.Sequence.{items_of}
-use Rattle.prem_syntax.specs.declared.tree.Global.{Global}
-use Rattle.prem_syntax.specs.Syntax.{MarkText, GlobalVariable}
-use Rattle.prem_syntax.specs.SyntaxOf.{global_of, mark_of}
-use Rattle.prem_syntax.specs.Source.{unlimited}
-use Rattle.prem_syntax.specs.Resolved.{Routine}
-use Rattle.prem_syntax.specs.Reach.{is_in, reach_set, callee_table}
-use Rattle.prem_tree.specs.declared.resolve.resolved.Routine.{Routine as RoutineTree}
-use Rattle.prem_tree.specs.declared.resolve.resolved.Resolved.{Resolved as ResolvedTree}
-use Rattle.prem_tree.specs.Resolve.ResolvedOf.{loops_of, routines_of, resolved_of}
-use Rattle.prem_ranges.specs.Regions.{Watch, watch_if, watches_from}
-use Rattle.prem_analysis.specs.declared.ranging.site.Marked.{Marked}
-use Rattle.prem_analysis.specs.Ranging.SiteOf.{watch_of, watch_where, watches_at, AreWatched}
-use Rattle.prem_analysis.specs.Marks.Called.{called}
-use Rattle.prem_analysis.specs.Marks.Entries.{Entry, entry_of, entry, entry_if, entries_from}
+use Rattle.prem_analysis.proofs.Prelude.{called, Entry, entry_of, entry, entry_if, entries_from, watch_of, watch_where, watches_at, AreWatched, Marked, items_of, Watch, watch_if}
+use Rattle.prem_analysis.proofs.Prelude.{watches_from, is_in, reach_set, callee_table, unlimited, MarkText, GlobalVariable, global_of, mark_of, Global, loops_of, routines_of, resolved_of}
+use Rattle.prem_analysis.proofs.Prelude.{Routine as RoutineTree, ◌≡◌, ℕ, zero, suc, ◌+◌, ◌<◌, ◌≤◌, Bool, true, false, cond, List, [], ◌∷◌, ◌++◌, length, map, drop, get_or, refl, ap, sym}
+use Rattle.prem_analysis.proofs.Prelude.{◌∙◌, arith, Option, Some, None, Result, Ok, Err, IfOk, append_assoc, Bor, option_map}
 use Rattle.prem_analysis.proofs.MarksLemmas.CalledTrees.{tables_same}
+use Rattle.prem_syntax.specs.Resolved.{Routine}
+use Rattle.prem_tree.specs.declared.resolve.resolved.Resolved.{Resolved as ResolvedTree}
 
 -- the entries that watch over function f
 abbrev watching : ℕ → List Entry → List Watch

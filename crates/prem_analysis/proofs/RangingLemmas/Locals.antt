@@ -1,14 +1,7 @@
 -- Locals of a vector are those of the environment that it stands for.
-use Rattle.std.specs.Prelude.{ℤ, pos, negsuc, ◌≤ℤ◌, int_le}
-use Rattle.std.proofs.Common.{◌≡◌, Bool, true, false, cond, ℕ, zero, suc, ◌<◌, ◌≤◌, List, [], ◌∷◌, length, get_or, set, refl, ap, ◌∙◌, arith, sym}
-use Rattle.std.proofs.lemmas.Int.{ints}
-use Rattle.std.proofs.lemmas.Bool.{and_parts}
-use Rattle.prem_word.specs.declared.kind.Kind.TheVariants.{Int}
-use Rattle.prem_word.specs.Ranges.{Span, from_to, whole, within, encloses}
-use Rattle.prem_ranges.specs.Environment.{Known, any_of, range_at, at_local}
-use Rattle.prem_ranges.specs.Saves.Saves.{known_at}
-use Rattle.prem_analysis.specs.declared.ranging.found.Known.{Known as KnownTree}
-use Rattle.prem_analysis.specs.Ranging.View.{span_of, known_of, env_of}
+use Rattle.prem_analysis.proofs.Prelude.{span_of, known_of, env_of, Known as KnownTree, any_of, range_at, at_local, known_at, Span, from_to, whole, within, encloses, Int, ◌≡◌, Bool, true}
+use Rattle.prem_analysis.proofs.Prelude.{false, cond, ℕ, zero, suc, ◌<◌, ◌≤◌, List, [], ◌∷◌, length, get_or, set, refl, ap, ◌∙◌, arith, sym, and_parts, ints, ℤ, pos, negsuc, ◌≤ℤ◌, int_le}
+use Rattle.prem_ranges.specs.Environment.{Known}
 
 pub range_at_within : (ls : List KnownTree) (k : ℕ) (x : KnownTree) → k < length ls → span_of (get_or ls k x).range ≡ range_at (env_of ls) k
 range_at_within [] k x within = absurd (omega arith)

@@ -1,17 +1,8 @@
 -- The first breach of an operator is that of its parts.
-use Rattle.std.proofs.Common.{◌≡◌, Bool, true, false, ◌++◌, refl, ap, ◌∙◌, None, Some}
-use Rattle.prem_word.specs.declared.kind.Kind.{Kind}
-use Rattle.prem_word.specs.declared.kind.BinOp.{BinOp}
-use Rattle.prem_word.specs.declared.kind.BinOp.TheVariants.{AndAlso as AndAlsoOp, OrElse as OrElseOp}
-use Rattle.prem_word.specs.Ranges.{truths, converted, range_of_op}
-use Rattle.prem_syntax.specs.declared.tree.Place.{Place}
-use Rattle.prem_syntax.specs.Resolved.{Term, operator}
-use Rattle.prem_ranges.specs.Environment.{Environment}
-use Rattle.prem_ranges.specs.RangeOf.{range_of, refined}
-use Rattle.prem_ranges.specs.RangeRules.{first, first_of}
-use Rattle.prem_ranges.specs.RangeBreaches.{Site, in_divisor, in_term}
-use Rattle.prem_ranges.proofs.FirstBreach.{first_of_append}
+use Rattle.prem_analysis.proofs.Prelude.{first_of_append, Environment, Site, in_divisor, in_term, range_of, refined, first, first_of, Term, operator, Place, truths, converted, range_of_op}
+use Rattle.prem_analysis.proofs.Prelude.{BinOp, Kind, ◌≡◌, Bool, true, false, ◌++◌, refl, ap, ◌∙◌, None, Some}
 use Rattle.prem_analysis.specs.Ranging.Shortcut.{shortcut_of}
+use Rattle.prem_word.specs.declared.kind.BinOp.TheVariants.{AndAlso as AndAlsoOp, OrElse as OrElseOp}
 
 pub first_of_some : (site : Site) (env : Environment) (at : Place) (op : BinOp) (k : Kind) (l r : Term) (b : Bool) → shortcut_of op ≡ Some b →
     first_of (in_term site env (operator at op k l r)) ≡ first (first_of (in_term site env l)) (first_of (in_term site (refined b env l) r))

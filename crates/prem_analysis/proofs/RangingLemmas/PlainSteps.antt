@@ -1,14 +1,9 @@
 -- A tree's steps with no turns are its steps with any turns, but for these.
+use Rattle.prem_analysis.proofs.Prelude.{plain_before, plain_row, items_of, Alike, alike_done, alike_local, alike_scalar, alike_element, alike_output, alike_input, alike_if, alike_for}
+use Rattle.prem_analysis.proofs.Prelude.{alike_while, alike_call, Steps, term_of, loops_of, step_before, row_before, Step, Row_of-Step, end_of-Step, more_of-Step, Block'}
+use Rattle.prem_analysis.proofs.Prelude.{SetLocal as SetLocalTree, SetScalar as SetScalarTree, SetElement as SetElementTree, Output as OutputTree, Input as InputTree, If', For', While'}
+use Rattle.prem_analysis.proofs.Prelude.{Call as CallTree, ℕ, ◌+◌}
 use Rattle.std.specs.Prelude.{map}
-use Rattle.std.proofs.Common.{ℕ, ◌+◌}
-use Rattle.prem_list.specs.Sequence.{items_of}
-use Rattle.prem_syntax.specs.Resolved.{Steps}
-use Rattle.prem_tree.specs.declared.resolve.resolved.Step.{Step, Row_of-Step, end_of-Step, more_of-Step}
-use Rattle.prem_tree.specs.declared.resolve.resolved.Step.TheVariants.{Block', SetLocal as SetLocalTree, SetScalar as SetScalarTree, SetElement as SetElementTree}
-use Rattle.prem_tree.specs.declared.resolve.resolved.Step.TheVariants.{Output as OutputTree, Input as InputTree, If', For', While', Call as CallTree}
-use Rattle.prem_tree.specs.Resolve.ResolvedOf.{term_of, loops_of, step_before, row_before}
-use Rattle.prem_ranges.specs.Sound.{Alike, alike_done, alike_local, alike_scalar, alike_element, alike_output, alike_input, alike_if, alike_for, alike_while, alike_call}
-use Rattle.prem_analysis.specs.Ranging.Plain.{plain_before, plain_row}
 
 mutual
   pub plain-alike : (t : ℕ → ℕ) (n : ℕ) (s : Step) {a b : Steps} → Alike (λ _ _. ℕ) a b → Alike (λ _ _. ℕ) (plain_before s a) (step_before t n s b)

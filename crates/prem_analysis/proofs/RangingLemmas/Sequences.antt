@@ -1,24 +1,12 @@
 -- Steps in memory, one behind the other.
-use Rattle.std.proofs.Common.{◌≡◌, ℕ, zero, suc, ◌+◌, ◌<◌, Bool, true, false, cond, eqb, ◌||◌, List, [], ◌∷◌, ◌++◌, length, get_or, drop, refl, ap, sym, ◌∙◌, arith}
-use Rattle.std.proofs.lemmas.List.{drop_more}
-use Rattle.std.proofs.lemmas.Bool.Decides.{nat_tests}
-use Rattle.prem_list.specs.declared.Sequence.{Sequence}
-use Rattle.prem_list.specs.Sequence.{items_of}
-use Rattle.prem_syntax.specs.Resolved.{Steps, Done}
-use Rattle.prem_tree.specs.declared.resolve.resolved.Step.{Step, Block, Row_of-Step, end_of-Step, more_of-Step, items-the_row-Step, items_hidden-the_row-Step-0}
-use Rattle.prem_tree.specs.declared.resolve.resolved.Step.TheBlock.{hidden-the_row-Step-0}
-use Rattle.prem_tree.specs.declared.resolve.resolved.Step.TheVariants.{Block', SetLocal as SetLocalTree, SetScalar as SetScalarTree, SetElement as SetElementTree}
-use Rattle.prem_tree.specs.declared.resolve.resolved.Step.TheVariants.{Output as OutputTree, Input as InputTree, If', For', While', Call as CallTree}
-use Rattle.prem_ranges.specs.Environment.{Known, Environment, any_again, at_local, loosened}
-use Rattle.prem_ranges.specs.After.{assigns, after, bounds}
-use Rattle.prem_ranges.specs.RangeRules.{first, first_of}
-use Rattle.prem_ranges.specs.RangeBreaches.{Site, in_steps}
-use Rattle.prem_ranges.specs.Sequence.{followed}
+use Rattle.prem_analysis.proofs.Prelude.{plain_before, plain_row, plain, plain_list, targets, row_targets, list_targets, items_of, Sequence, first_of_append, suc_suc, assigns, after, bounds}
+use Rattle.prem_analysis.proofs.Prelude.{Environment, any_again, at_local, loosened, Site, in_steps, first, first_of, Steps, Done, Step, Block, Row_of-Step, end_of-Step, more_of-Step}
+use Rattle.prem_analysis.proofs.Prelude.{items-the_row-Step, items_hidden-the_row-Step-0, hidden-the_row-Step-0, Block', SetLocal as SetLocalTree, SetScalar as SetScalarTree}
+use Rattle.prem_analysis.proofs.Prelude.{SetElement as SetElementTree, Output as OutputTree, Input as InputTree, If', For', While', Call as CallTree, ◌≡◌, ℕ, zero, suc, ◌+◌, ◌<◌, Bool, true}
+use Rattle.prem_analysis.proofs.Prelude.{false, cond, eqb, ◌||◌, List, [], ◌∷◌, ◌++◌, length, get_or, drop, refl, ap, sym, ◌∙◌, arith, nat_tests, drop_more}
 use Rattle.prem_ranges.proofs.Followed.{after-followed, bounds-followed, in_steps-followed, assigns-followed}
-use Rattle.prem_ranges.proofs.FirstBreach.{first_of_append}
-use Rattle.prem_ranges.proofs.SavesLemmas.Locals.{suc_suc}
-use Rattle.prem_analysis.specs.Ranging.Plain.{plain_before, plain_row, plain, plain_list}
-use Rattle.prem_analysis.specs.Ranging.Targets.{targets, row_targets, list_targets}
+use Rattle.prem_ranges.specs.Environment.{Known}
+use Rattle.prem_ranges.specs.Sequence.{followed}
 
 mutual
   plain-followed : (s : Step) (a b : Steps) → plain_before s (followed a b) ≡ followed (plain_before s a) b

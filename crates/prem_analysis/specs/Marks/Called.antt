@@ -1,7 +1,5 @@
 -- The functions that a tree in memory calls.
-use Rattle.std.specs.Prelude.{ℕ, List, [], ◌∷◌, ◌++◌}
-use Rattle.prem_tree.specs.declared.resolve.resolved.Step.{Step, Row_of-Step, end_of-Step, more_of-Step}
-use Rattle.prem_tree.specs.declared.resolve.resolved.Step.TheVariants.{Block', SetLocal, SetScalar, SetElement, Output, Input, If', For', While', Call}
+use Rattle.prem_analysis.specs.Prelude.{Step, Row_of-Step, end_of-Step, more_of-Step, Block', SetLocal, SetScalar, SetElement, Output, Input, If', For', While', Call, ℕ, List, [], ◌∷◌, ◌++◌}
 
 abbrev mutual
   pub called : Step → List ℕ

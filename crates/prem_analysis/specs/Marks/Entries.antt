@@ -1,11 +1,7 @@
 -- The marked functions of a program, each with its areas and with what it reaches.
-use Rattle.std.specs.Prelude.{ℕ, ◌+◌, Bool, List, [], ◌∷◌, ◌++◌, Option, None, Some}
-use Rattle.prem_syntax.specs.Syntax.{MarkText, GlobalVariable}
-use Rattle.prem_syntax.specs.Resolved.{Routine}
-use Rattle.prem_syntax.specs.Reach.{reach_set}
-use Rattle.prem_ranges.specs.Regions.{Watch, areas_of}
-use Rattle.prem_analysis.specs.declared.ranging.site.Marked.{Marked}
+use Rattle.prem_analysis.specs.Prelude.{Watch, areas_of, reach_set, Routine, MarkText, GlobalVariable, ℕ, ◌+◌, Bool, List, [], ◌∷◌, ◌++◌, Option, None, Some}
 use Rattle.prem_analysis.specs.Ranging.SiteOf.{watch_of}
+use Rattle.prem_analysis.specs.declared.ranging.site.Marked.{Marked}
 
 -- its areas, and the set of what it reaches
 pub record Entry : Type 0 where

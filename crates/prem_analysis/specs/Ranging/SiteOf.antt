@@ -1,16 +1,10 @@
 -- What a function stands among, as it lies in memory.
-use Rattle.std.specs.Prelude.{◌≡◌, ℕ, ◌<◌, Bool, true, false, List, [], ◌∷◌, length, map}
-use Rattle.prem_list.specs.Sequence.{items_of}
-use Rattle.prem_syntax.specs.SyntaxOf.{global_of}
-use Rattle.prem_syntax.specs.Source.{unlimited}
-use Rattle.prem_syntax.specs.Reach.{is_in}
-use Rattle.prem_tree.specs.declared.resolve.resolved.Resolved.{Resolved}
-use Rattle.prem_tree.specs.Resolve.ResolvedOf.{routines_of, resolved_of}
-use Rattle.prem_ranges.specs.Regions.{Area, Watch, watches_of}
-use Rattle.prem_ranges.specs.RangeBreaches.{Site}
+use Rattle.prem_analysis.specs.Prelude.{items_of, Site, Area, Watch, watches_of, is_in, unlimited, global_of, routines_of, resolved_of, ◌≡◌, ℕ, ◌<◌, Bool, true, false, List, [], ◌∷◌, length}
+use Rattle.prem_analysis.specs.Prelude.{map}
 use Rattle.prem_analysis.specs.declared.ranging.site.Area.{Area as AreaTree}
 use Rattle.prem_analysis.specs.declared.ranging.site.Marked.{Marked}
 use Rattle.prem_analysis.specs.declared.ranging.site.Site.{Site as SiteTree}
+use Rattle.prem_tree.specs.declared.resolve.resolved.Resolved.{Resolved}
 
 abbrev pub area_of : AreaTree → Area
 area_of a = record { global = a.global; low = a.low; high = a.high }

@@ -1,18 +1,15 @@
 -- What ranges and environments in memory stand for.
-use Rattle.std.specs.Prelude.{List, map, Option}
-use Rattle.std.specs.Option.{option_map}
-use Rattle.prem_word.specs.Ranges.{Span, from_to}
-use Rattle.prem_word.specs.declared.range.Range.{Range as Row}
-use Rattle.prem_ranges.specs.Environment.{Known, Environment}
-use Rattle.prem_ranges.specs.Saves.Saves.{Saved}
-use Rattle.prem_ranges.specs.RangeRules.{RangeRule, LoopBound, TooLarge, ZeroDivisor, IndexOutside, RegionOutside, ArgRange, RangeBreach}
-use Rattle.prem_analysis.specs.declared.ranging.range.Range.{Range}
+use Rattle.prem_analysis.specs.Prelude.{Known, Environment, RangeRule, LoopBound, TooLarge, ZeroDivisor, IndexOutside, RegionOutside, ArgRange, RangeBreach, Span, from_to, option_map, List}
+use Rattle.prem_analysis.specs.Prelude.{map, Option}
+use Rattle.prem_analysis.specs.declared.ranging.found.Broken.{Broken}
 use Rattle.prem_analysis.specs.declared.ranging.found.Known.{Known as KnownTree}
 use Rattle.prem_analysis.specs.declared.ranging.found.Rule.{Rule}
 use Rattle.prem_analysis.specs.declared.ranging.found.Rule.TheVariants.{LoopBound as LoopBoundTree, TooLarge as TooLargeTree, ZeroDivisor as ZeroDivisorTree}
 use Rattle.prem_analysis.specs.declared.ranging.found.Rule.TheVariants.{IndexOutside as IndexOutsideTree, RegionOutside as RegionOutsideTree, ArgRange as ArgRangeTree}
-use Rattle.prem_analysis.specs.declared.ranging.found.Broken.{Broken}
+use Rattle.prem_analysis.specs.declared.ranging.range.Range.{Range}
 use Rattle.prem_analysis.specs.declared.ranging.saves.Saved.{Saved as SavedTree}
+use Rattle.prem_ranges.specs.Saves.Saves.{Saved}
+use Rattle.prem_word.specs.declared.range.Range.{Range as Row}
 
 abbrev pub span_of : Range → Span
 span_of r = from_to r.lo r.hi

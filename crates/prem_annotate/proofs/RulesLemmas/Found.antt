@@ -1,38 +1,19 @@
 -- The first rule that functions break, found from the last to the first, is the one that is defined.
-use Rattle.std.specs.Prelude.{slice_get, ◌-◌, Vec}
-use Rattle.std.specs.Global.{Global}
-use Rattle.std.specs.List.{flat_map}
-use Rattle.std.proofs.Common.{◌≡◌, ℕ, zero, suc, ◌+◌, ◌<◌, ◌≤◌, drop, subst, List, [], ◌∷◌, length, map, get_or, refl, ap, sym, ◌∙◌, arith, Option, None, Some}
-use Rattle.std.proofs.lemmas.List.{drop_all, length-map}
-use Rattle.prem_list.specs.Sequence.{items_of}
-use Rattle.prem_syntax.specs.Syntax.{Parameter, GlobalVariable, ProgramText}
-use Rattle.prem_syntax.specs.Literals.{ProgramHasWords}
-use Rattle.prem_syntax.specs.ProgramRules.{IsWellFormed}
-use Rattle.prem_syntax.specs.Source.{unlimited}
-use Rattle.prem_syntax.specs.Resolved.{Routine, Resolved}
-use Rattle.prem_tree.specs.declared.resolve.resolved.Routine.{Routine as RoutineTree}
-use Rattle.prem_tree.specs.declared.resolve.resolved.Resolved.{Resolved as ResolvedTree}
-use Rattle.prem_tree.specs.Resolve.ResolvedOf.{IsResolved, resolved_of}
-use Rattle.prem_ranges.specs.RangeRules.{RangeBreach, first, first_of}
-use Rattle.prem_ranges.specs.RangeBreaches.{Site, in_routine}
-use Rattle.prem_ranges.specs.Sound.{AlikeRoutines, no_routines, next_routine}
-use Rattle.prem_ranges.proofs.Alike.{SameSite, both_same, in_routine-alike}
-use Rattle.prem_ranges.proofs.FirstBreach.{first_of_append}
-use Rattle.prem_analysis.specs.Functions.{plain_routine}
-use Rattle.prem_annotating.specs.Seen.{calls_of_all}
-use Rattle.prem_annotating.specs.Inferred.{with_parameters, ranged_routine, ranged_routines}
-use Rattle.prem_annotating.specs.Annotated.{first_other}
-use Rattle.prem_annotating.proofs.Calls.{new_ranges_hold}
-use Rattle.prem_annotate.specs.Seeing.Walk.{passed}
-use Rattle.prem_annotate.specs.declared.ranges.slots.Slot.{Slot as SlotTree}
-use Rattle.prem_annotate.specs.declared.ranges.outlook.Outlook.{Outlook as OutlookTree}
-use Rattle.prem_annotate.specs.Ranges.Slots.{Slot, row_of, with_arguments, with_slots, empty_row}
-use Rattle.prem_annotate.specs.Ranges.Outlook.{outlook_of, outlook, outlook_with}
-use Rattle.prem_annotate.specs.Rules.First.{routine_with, unwatched_site, breaches_among, first_in}
-use Rattle.prem_annotate.proofs.Slots.{slots_in, slots_of, no_rows, row_at, slots_range}
-use Rattle.prem_annotate.proofs.Outlooks.{some_is, looked_before, mapped_drop, mapped_get}
+use Rattle.prem_annotate.proofs.Prelude.{plain_routine, outlook_of, outlook, outlook_with, row_of, with_arguments, with_slots, empty_row, routine_with, unwatched_site, breaches_among}
+use Rattle.prem_annotate.proofs.Prelude.{first_in, passed, Slot as SlotTree, new_ranges_hold, first_other, with_parameters, ranged_routine, ranged_routines, calls_of_all, items_of, SameSite}
+use Rattle.prem_annotate.proofs.Prelude.{both_same, in_routine-alike, Site, in_routine, RangeBreach, first, first_of, AlikeRoutines, no_routines, next_routine, ProgramHasWords, IsWellFormed}
+use Rattle.prem_annotate.proofs.Prelude.{Routine, unlimited, Parameter, GlobalVariable, ProgramText, IsResolved, resolved_of, Resolved as ResolvedTree, ◌≡◌, ℕ, zero, suc, ◌+◌, ◌<◌, ◌≤◌}
+use Rattle.prem_annotate.proofs.Prelude.{drop, subst, List, [], ◌∷◌, length, map, get_or, refl, ap, sym, ◌∙◌, arith, Option, None, Some, drop_all, length-map, Global, flat_map, slice_get}
+use Rattle.prem_annotate.proofs.Prelude.{◌-◌, Vec}
 use Rattle.prem_annotate.proofs.Noted.{plain_routines}
+use Rattle.prem_annotate.proofs.Outlooks.{some_is, looked_before, mapped_drop, mapped_get}
+use Rattle.prem_annotate.proofs.Slots.{slots_in, slots_of, no_rows, row_at, slots_range}
 use Rattle.prem_annotate.proofs.Turned.{all_ranged_same}
+use Rattle.prem_annotate.specs.Ranges.Slots.{Slot}
+use Rattle.prem_annotate.specs.declared.ranges.outlook.Outlook.{Outlook as OutlookTree}
+use Rattle.prem_ranges.proofs.FirstBreach.{first_of_append}
+use Rattle.prem_syntax.specs.Resolved.{Resolved}
+use Rattle.prem_tree.specs.declared.resolve.resolved.Routine.{Routine as RoutineTree}
 
 -- ---- from the last function to the first
 

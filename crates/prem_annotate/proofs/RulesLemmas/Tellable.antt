@@ -1,33 +1,18 @@
 -- What is told of breaches where no marked function watches has no names, and a stated range holds a number.
-use Rattle.std.specs.Prelude.{ℤ, pos, ◌+ℤ◌, ◌-ℤ◌, int_lt, not, nat_lt, slice_get}
-use Rattle.std.specs.List.{flat_map}
-use Rattle.std.proofs.Common.{◌≡◌, ℕ, ◌+◌, ◌*◌, ◌^◌, Bool, true, false, cond, List, [], ◌∷◌, ◌++◌, map, refl, sym, subst, Option, None, Some}
-use Rattle.prem_word.specs.declared.kind.Kind.{Kind}
-use Rattle.prem_word.specs.declared.kind.BinOp.{BinOp}
-use Rattle.prem_word.specs.declared.kind.BinOp.TheVariants.{Div, Rem}
-use Rattle.prem_word.specs.Ranges.{Span, from_to, holds, IsRange, encloses, converted}
-use Rattle.prem_syntax.specs.declared.tree.Place.{Place}
-use Rattle.prem_syntax.specs.Syntax.{Parameter, LocalVariable, GlobalVariable, ProgramText}
-use Rattle.prem_syntax.specs.Literals.{ProgramHasWords}
-use Rattle.prem_syntax.specs.ProgramRules.{IsWellFormed}
-use Rattle.prem_syntax.specs.Source.{unlimited}
-use Rattle.prem_syntax.specs.Resolved.{Term, Constant, Local, Scalar, Element, Unary, Binary, AndAlso, OrElse, Steps, Done, SetLocal, SetScalar, SetElement, Output, Input, If, For}
-use Rattle.prem_syntax.specs.Resolved.{While, Call, Routine}
-use Rattle.prem_syntax.specs.Resolve.{promoted}
-use Rattle.prem_ranges.specs.Environment.{any_again, assigned, Environment, at_local, joined as joined_env}
-use Rattle.prem_ranges.specs.RangeOf.{range_of, refined}
-use Rattle.prem_ranges.specs.After.{loop_end, turn_bound, in_counting, in_body, behind_loop, in_while, behind_call, stated_or_whole, known_parameter, known_local, after, at_body}
-use Rattle.prem_ranges.specs.RangeRules.{RangeRule, LoopBound, TooLarge, ZeroDivisor, IndexOutside, ArgRange, RangeBreach, comes_before, first, first_of, if_at}
-use Rattle.prem_ranges.specs.RangeBreaches.{length_of, in_index, in_element, in_divisor, in_term, in_stated, in_argument, in_arguments, parameters_of, in_turns, in_range_of_int}
-use Rattle.prem_ranges.specs.RangeBreaches.{in_counting_loop, in_steps, in_locals, in_result, in_routine}
-use Rattle.prem_ranges.specs.RangesKept.{resolved}
-use Rattle.prem_ranges.specs.Sound.{Ranged, none_ranged, next_ranged}
-use Rattle.prem_ranges.proofs.WellFormed.{well_formed_is_typed}
-use Rattle.prem_annotating.specs.Lists.{Each}
-use Rattle.prem_annotating.specs.Annotated.{all_ranged, first_other}
+use Rattle.prem_annotate.proofs.Prelude.{unwatched_site, Tellable, TellableIf, new_ranges_hold, first_other, loop_end, turn_bound, in_counting, in_body, behind_loop, in_while, behind_call}
+use Rattle.prem_annotate.proofs.Prelude.{stated_or_whole, known_parameter, known_local, after, at_body, any_again, assigned, Environment, at_local, joined as joined_env, length_of, in_index}
+use Rattle.prem_annotate.proofs.Prelude.{in_element, in_divisor, in_term, in_stated, in_argument, in_arguments, parameters_of, in_turns, in_range_of_int, in_counting_loop, in_steps}
+use Rattle.prem_annotate.proofs.Prelude.{in_locals, in_result, in_routine, range_of, refined, RangeRule, LoopBound, TooLarge, ZeroDivisor, IndexOutside, ArgRange, RangeBreach, comes_before}
+use Rattle.prem_annotate.proofs.Prelude.{first, first_of, if_at, resolved, Ranged, none_ranged, next_ranged, ProgramHasWords, IsWellFormed, promoted, Term, Constant, Scalar, Element, Unary}
+use Rattle.prem_annotate.proofs.Prelude.{Binary, AndAlso, OrElse, Steps, Done, SetLocal, SetScalar, SetElement, Output, Input, If, For, While, Call, Routine, unlimited, Parameter}
+use Rattle.prem_annotate.proofs.Prelude.{LocalVariable, GlobalVariable, ProgramText, Place, Span, from_to, holds, IsRange, encloses, converted, BinOp, Div, Rem, Kind, ◌≡◌, ℕ, ◌+◌, ◌*◌, ◌^◌}
+use Rattle.prem_annotate.proofs.Prelude.{Bool, true, false, cond, List, [], ◌∷◌, ◌++◌, map, refl, sym, subst, Option, None, Some, flat_map, ℤ, pos, ◌+ℤ◌, ◌-ℤ◌, int_lt, not, nat_lt}
+use Rattle.prem_annotate.proofs.Prelude.{slice_get}
 use Rattle.prem_annotating.proofs.Lists.{each_append}
-use Rattle.prem_annotating.proofs.Calls.{new_ranges_hold}
-use Rattle.prem_annotate.specs.Rules.First.{unwatched_site, Tellable, TellableIf}
+use Rattle.prem_annotating.specs.Annotated.{all_ranged}
+use Rattle.prem_annotating.specs.Lists.{Each}
+use Rattle.prem_ranges.proofs.WellFormed.{well_formed_is_typed}
+use Rattle.prem_syntax.specs.Resolved.{Local}
 
 abbrev IsTold : RangeBreach → Type 0
 IsTold b = Tellable b.rule

@@ -1,25 +1,19 @@
 -- Texts with notes are texts with annotations.
-use Rattle.std.specs.Prelude.{slice_get}
-use Rattle.std.proofs.lemmas.List.{length-map}
-use Rattle.std.proofs.Common.{◌≡◌, ◌≤◌, subst, length, ℕ, zero, suc, ◌+◌, List, [], ◌∷◌, ◌++◌, map, refl, sym, ap, ◌∙◌, arith, Option, None, Some, Ok, Err, Result}
-use Rattle.prem_syntax.specs.Syntax.{FunctionText, ProgramText}
-use Rattle.prem_syntax.specs.Resolve.{functions_of}
-use Rattle.prem_text.specs.declared.lexing.token.fail.FrontFail.{FrontFail}
+use Rattle.prem_annotate.proofs.Prelude.{Notes, notes, wanted, annotated_text, orders_at, orders_from, texts_of, all_annotated, Wanted, annotations, unplaced_wanted, function_orders}
+use Rattle.prem_annotate.proofs.Prelude.{all_orders, edited_text, text_with, functions_of, FunctionText, ProgramText, ◌≡◌, ◌≤◌, subst, length, ℕ, suc, ◌+◌, List, [], ◌∷◌, ◌++◌, map, refl}
+use Rattle.prem_annotate.proofs.Prelude.{sym, ap, ◌∙◌, arith, None, Ok, Err, Result, length-map}
+use Rattle.prem_annotate.specs.Writing.Laws.{TextsAreEdits, TextsAreRead, TextsStay}
+use Rattle.prem_annotating.proofs.Annotates.{texts_are_there, texts_are_annotated}
+use Rattle.prem_annotating.proofs.EditingLemmas.Unchanged.{stays_where_same}
+use Rattle.prem_annotating.proofs.Edits.{edited_divide}
+use Rattle.prem_annotating.proofs.Pieces.{divided_pieces}
+use Rattle.prem_annotating.specs.Editing.Walk.{Order}
+use Rattle.prem_annotating.specs.Pieces.{text_of, lexemes_in}
+use Rattle.prem_text.proofs.SpellingLemmas.Exact.{sound, unique}
 use Rattle.prem_text.specs.Lexing.Token.Lexeme.{Seen}
 use Rattle.prem_text.specs.Lexing.Tokens.{tokens_of}
 use Rattle.prem_text.specs.Texts.{reads}
-use Rattle.prem_text.proofs.SpellingLemmas.Exact.{sound, unique}
-use Rattle.prem_annotating.specs.Editing.Walk.{Order}
-use Rattle.prem_annotating.specs.Editing.Orders.{Wanted, annotations, unplaced_wanted, function_orders, all_orders, edited_text, text_with}
-use Rattle.prem_annotating.proofs.Annotates.{texts_are_there, texts_are_annotated}
-use Rattle.prem_annotating.specs.Pieces.{text_of, lexemes_in}
-use Rattle.prem_annotating.proofs.Pieces.{divided_pieces}
-use Rattle.prem_annotating.proofs.Edits.{edited_divide}
-use Rattle.prem_annotating.proofs.EditingLemmas.Unchanged.{stays_where_same}
-use Rattle.prem_annotating.specs.Annotated.{texts_of, all_annotated}
-use Rattle.prem_annotate.specs.Notes.{Notes, notes, program_notes}
-use Rattle.prem_annotate.specs.Writing.Text.{wanted, annotated_text, orders_with, orders_at, orders_from}
-use Rattle.prem_annotate.specs.Writing.Laws.{TextsAreEdits, TextsAreRead, TextsStay}
+use Rattle.prem_text.specs.declared.lexing.token.fail.FrontFail.{FrontFail}
 
 -- ---- orders
 

@@ -1,12 +1,8 @@
 -- What is found of a function: the ranges of its parameters, and what is seen of it.
-use Rattle.std.specs.Prelude.{ℤ, List, map, Option}
-use Rattle.prem_syntax.specs.Syntax.{Parameter}
-use Rattle.prem_syntax.specs.Resolved.{Routine}
-use Rattle.prem_annotating.specs.Seen.{touches_of, calls_of}
-use Rattle.prem_annotating.specs.Inferred.{with_parameters}
+use Rattle.prem_annotate.specs.Prelude.{with_parameters, touches_of, calls_of, Routine, Parameter, ℤ, List, map, Option}
+use Rattle.prem_annotate.specs.Ranges.Slots.{Slot, with_slots}
 use Rattle.prem_annotate.specs.Seeing.Sight.{Sight, sight_of}
 use Rattle.prem_annotate.specs.Seeing.Walk.{passed}
-use Rattle.prem_annotate.specs.Ranges.Slots.{Slot, with_slots}
 use Rattle.prem_annotate.specs.declared.ranges.outlook.Outlook.{Outlook as OutlookTree}
 
 pub record Outlook : Type 0 where

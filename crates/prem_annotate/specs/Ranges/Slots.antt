@@ -1,16 +1,10 @@
 -- What calls give the parameters of all functions.
-use Rattle.std.specs.Prelude.{ℕ, zero, suc, List, [], ◌∷◌, map, Option, None, Some, Vec}
-use Rattle.std.specs.Global.{Global}
-use Rattle.std.specs.Option.{option_map}
-use Rattle.prem_word.specs.declared.kind.Kind.{Kind}
-use Rattle.prem_word.specs.Ranges.{Span, converted}
-use Rattle.prem_syntax.specs.Syntax.{Parameter}
-use Rattle.prem_syntax.specs.Resolved.{Routine}
-use Rattle.prem_syntax.specs.Resolve.{promoted}
-use Rattle.prem_annotating.specs.Inferred.{join_with, if_narrower, stated_or}
-use Rattle.prem_analysis.specs.Ranging.View.{span_of}
+use Rattle.prem_annotate.specs.Prelude.{span_of, join_with, if_narrower, stated_or, promoted, Routine, Parameter, Span, converted, option_map, ℕ, zero, suc, List, [], ◌∷◌, map, Option, None}
+use Rattle.prem_annotate.specs.Prelude.{Some, Vec}
 use Rattle.prem_annotate.specs.Seeing.Sight.{Argument}
 use Rattle.prem_annotate.specs.declared.ranges.slots.Slot.{Slot as SlotTree}
+use Rattle.prem_word.specs.declared.kind.Kind.{Kind}
+use Rattle.std.specs.Global.{Global}
 
 -- ---- slots
 

@@ -1,14 +1,8 @@
 -- The elements of globals that functions access: for each global the least range around them.
-use Rattle.std.specs.Prelude.{ℕ, ◌+◌, Bool, true, false, List, [], ◌∷◌, map, Option, Some}
-use Rattle.std.specs.Option.{option_map}
-use Rattle.prem_word.specs.Ranges.{Span}
-use Rattle.prem_syntax.specs.Reach.{is_in}
-use Rattle.prem_annotating.specs.Seen.{Touch}
-use Rattle.prem_annotating.specs.Inferred.{join_with}
+use Rattle.prem_annotate.specs.Prelude.{span_of, join_with, Touch, is_in, Span, option_map, ℕ, ◌+◌, Bool, true, false, List, [], ◌∷◌, map, Option, Some}
 use Rattle.prem_analysis.specs.declared.ranging.range.Range.{Range}
-use Rattle.prem_analysis.specs.Ranging.View.{span_of}
-use Rattle.prem_annotate.specs.Ranges.Slots.{at_number}
 use Rattle.prem_annotate.specs.Ranges.Outlook.{Outlook}
+use Rattle.prem_annotate.specs.Ranges.Slots.{at_number}
 
 -- in memory
 abbrev pub elements_of : List (Option Range) → List (Option Span)

@@ -1,12 +1,8 @@
 -- The regions of a marked function, by what is found of all functions.
-use Rattle.std.specs.Prelude.{ℕ, List, [], ◌∷◌, ◌++◌, map, Option, None}
-use Rattle.prem_word.specs.Ranges.{Span}
-use Rattle.prem_syntax.specs.declared.tree.Place.{Place}
-use Rattle.prem_syntax.specs.Syntax.{RegionText, GlobalVariable}
-use Rattle.prem_syntax.specs.Reach.{reach_set}
-use Rattle.prem_annotating.specs.Reached.{region_of}
+use Rattle.prem_annotate.specs.Prelude.{reach_set, RegionText, GlobalVariable, Place, Span, ℕ, List, [], ◌∷◌, ◌++◌, map, Option, None}
 use Rattle.prem_annotate.specs.Ranges.Outlook.{Outlook}
 use Rattle.prem_annotate.specs.Regions.Elements.{with_members}
+use Rattle.prem_annotating.specs.Reached.{region_of}
 
 -- one region for each global that is accessed, around these elements
 abbrev pub regions_around : Place → List GlobalVariable → List (Option Span) → List RegionText

@@ -1,12 +1,9 @@
 -- The first rule on ranges but for regions that functions with their new ranges break.
-use Rattle.std.specs.Prelude.{ℕ, ⊤, ◌≤ℤ◌, List, [], Option, None, Some}
-use Rattle.std.specs.List.{flat_map}
-use Rattle.prem_syntax.specs.Syntax.{GlobalVariable}
-use Rattle.prem_syntax.specs.Resolved.{Routine, Resolved}
-use Rattle.prem_ranges.specs.RangeRules.{RangeRule, RegionOutside, ArgRange, RangeBreach, first_of}
-use Rattle.prem_ranges.specs.RangeBreaches.{Site, in_routine}
-use Rattle.prem_annotating.specs.Inferred.{with_parameters, ranged_routines}
+use Rattle.prem_annotate.specs.Prelude.{with_parameters, ranged_routines, Routine, Resolved, GlobalVariable, ℕ, ⊤, ◌≤ℤ◌, List, [], Option, None, Some}
 use Rattle.prem_annotate.specs.Ranges.Slots.{Slot, with_slots}
+use Rattle.prem_ranges.specs.RangeBreaches.{Site, in_routine}
+use Rattle.prem_ranges.specs.RangeRules.{RangeRule, RegionOutside, ArgRange, RangeBreach, first_of}
+use Rattle.std.specs.List.{flat_map}
 
 -- a function whose parameters are given so much
 abbrev pub routine_with : List Slot → Routine → Routine

@@ -1,11 +1,8 @@
 -- What a walk has seen, as it lies in memory: accesses of globals, and arguments of calls.
-use Rattle.std.specs.Prelude.{ℕ, List, ◌++◌, map}
-use Rattle.prem_word.specs.Ranges.{Span}
-use Rattle.prem_annotating.specs.Seen.{Touch, touch}
-use Rattle.prem_analysis.specs.Ranging.View.{span_of}
-use Rattle.prem_annotate.specs.declared.seeing.sight.Touch.{Touch as TouchTree}
+use Rattle.prem_annotate.specs.Prelude.{span_of, Touch, touch, Span, ℕ, List, ◌++◌, map}
 use Rattle.prem_annotate.specs.declared.seeing.sight.Argument.{Argument as ArgumentTree}
 use Rattle.prem_annotate.specs.declared.seeing.sight.Sight.{Sight as SightTree}
+use Rattle.prem_annotate.specs.declared.seeing.sight.Touch.{Touch as TouchTree}
 
 abbrev pub touch_of : TouchTree → Touch
 touch_of t = touch t.at t.global (span_of t.elements)

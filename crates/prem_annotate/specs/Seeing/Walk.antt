@@ -1,11 +1,9 @@
 -- What a walk sees of steps and of functions.
-use Rattle.std.specs.Prelude.{ℕ, ◌+◌, List, [], ◌∷◌, ◌++◌}
-use Rattle.prem_syntax.specs.Resolved.{Term, Steps, Routine}
+use Rattle.prem_annotate.specs.Prelude.{Touch, touched_by_locals, touched_in, touched_by_result, KnownCall, calls_in, Term, Steps, Routine, ℕ, ◌+◌, List, [], ◌∷◌, ◌++◌}
+use Rattle.prem_annotate.specs.Seeing.Sight.{Argument, argument, Sight}
+use Rattle.prem_ranges.specs.After.{after, declared}
 use Rattle.prem_ranges.specs.Environment.{Environment}
 use Rattle.prem_ranges.specs.RangeOf.{range_of}
-use Rattle.prem_ranges.specs.After.{after, declared}
-use Rattle.prem_annotating.specs.Seen.{Touch, touched_by_locals, touched_in, touched_by_result, KnownCall, calls_in}
-use Rattle.prem_annotate.specs.Seeing.Sight.{Argument, argument, Sight}
 
 -- ---- arguments
 

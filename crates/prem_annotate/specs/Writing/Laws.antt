@@ -1,16 +1,13 @@
 -- What a text with notes is.
-use Rattle.std.specs.Prelude.{◌≡◌, ℕ, List, map, Ok}
-use Rattle.prem_syntax.specs.Syntax.{ProgramText}
-use Rattle.prem_syntax.specs.Resolve.{functions_of}
+use Rattle.prem_annotate.specs.Prelude.{texts_of, all_annotated, annotated, functions_of, ProgramText, ◌≡◌, ℕ, List, map, Ok}
+use Rattle.prem_annotate.specs.Notes.{notes, program_notes}
+use Rattle.prem_annotate.specs.Writing.Text.{annotated_text}
+use Rattle.prem_annotating.specs.Phrases.{CanBeSaid, AnnotatedText}
+use Rattle.prem_annotating.specs.Pieces.{text_of}
+use Rattle.prem_text.specs.Canonical.Unplaced.{unplaced}
 use Rattle.prem_text.specs.Lexing.Token.Lexeme.{Seen}
 use Rattle.prem_text.specs.Lexing.Tokens.{tokens_of}
 use Rattle.prem_text.specs.Texts.{reads, IsProgramText}
-use Rattle.prem_text.specs.Canonical.Unplaced.{unplaced}
-use Rattle.prem_annotating.specs.Annotated.{texts_of, all_annotated, annotated}
-use Rattle.prem_annotating.specs.Pieces.{text_of}
-use Rattle.prem_annotating.specs.Phrases.{CanBeSaid, AnnotatedText}
-use Rattle.prem_annotate.specs.Notes.{Notes, notes, program_notes}
-use Rattle.prem_annotate.specs.Writing.Text.{annotated_text}
 
 -- the text with a program's notes is that of pieces with edits at annotations alone, which have the tokens of the annotated program
 abbrev pub TextsAreEdits : Type 0

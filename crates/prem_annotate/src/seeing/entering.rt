@@ -12,9 +12,9 @@ ghost use Rattle.prem_annotating.specs.Seen.{touched_by};
 ghost use Rattle.prem_annotate.specs.Seeing.Sight.{sight_of, touched};
 
 use crate::seeing::expression::look;
-use crate::seeing::knowing::{at_condition, at_counting, at_range, at_while, put_back};
-use crate::seeing::locals::{locals_of_counting, locals_of_if, locals_of_while};
 use crate::seeing::sight::Sight;
+use prem_analysis::known::{at_condition, at_counting, at_range, at_while, put_back};
+use prem_analysis::locals::{locals_of_counting, locals_of_if, locals_of_while};
 use prem_analysis::ranging::{
     Known, Range, Saved, body_range, end_of, range_behind, range_of, save,
 };

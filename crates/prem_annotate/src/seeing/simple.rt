@@ -11,8 +11,8 @@ ghost use Rattle.prem_annotate.specs.Seeing.Sight.{argument, sight_of, both};
 ghost use Rattle.prem_annotate.specs.Seeing.Walk.{arguments_from, looked, called};
 
 use crate::seeing::expression::look;
-use crate::seeing::knowing::{at_return, at_value};
 use crate::seeing::sight::Sight;
+use prem_analysis::known::{at_return, at_value};
 use prem_analysis::ranging::{Known, Range, range_of};
 use prem_syntax::Place;
 use prem_tree::resolve::Term;

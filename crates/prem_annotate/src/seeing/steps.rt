@@ -7,9 +7,9 @@ ghost use Rattle.prem_annotate.specs.Seeing.Sight.{sight_of};
 ghost use Rattle.prem_annotate.specs.Seeing.Walk.{behind};
 
 use crate::seeing::entering::{Counting, enter_counting, enter_if, enter_other, enter_while};
-use crate::seeing::knowing::{at_either, at_input, put_back};
 use crate::seeing::sight::Sight;
 use crate::seeing::simple::{call, output, set_element, set_local, set_scalar};
+use prem_analysis::known::{at_either, at_input, put_back};
 use prem_analysis::ranging::Known;
 use prem_tree::resolve::Step;
 use std::alloc::{AllocError, Global};

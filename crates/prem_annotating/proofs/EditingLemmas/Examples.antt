@@ -1,13 +1,9 @@
 -- Small texts with annotations put in, computed by the checker.
-use Rattle.std.specs.Prelude.{codes, pos, negsuc}
-use Rattle.std.specs.Fmt.{digits}
-use Rattle.std.proofs.Common.{◌≡◌, ℕ, List, [], ◌∷◌, Some, refl}
-use Rattle.prem_syntax.specs.declared.tree.Place.{Place}
-use Rattle.prem_syntax.specs.Syntax.{RegionText}
-use Rattle.prem_text.specs.Lexing.Spelling.{used_word, is_unused, reserved_word, longest_mark}
+use Rattle.prem_annotating.proofs.Prelude.{constant_bytes, text_with, RegionText, Place, used_word, is_unused, reserved_word, longest_mark, first_token, lex, tokens_of, ◌≡◌, ℕ, List, []}
+use Rattle.prem_annotating.proofs.Prelude.{◌∷◌, Some, refl, codes, pos, negsuc}
 use Rattle.prem_text.specs.Lexing.Literal.{literal_word}
-use Rattle.prem_text.specs.Lexing.Tokens.{first_token, start, step, lex, tokens_of}
-use Rattle.prem_annotating.specs.Editing.Orders.{constant_bytes, text_with}
+use Rattle.prem_text.specs.Lexing.Tokens.{start, step}
+use Rattle.std.specs.Fmt.{digits}
 
 abbrev here : Place
 here = record { line = 1; col = 1 }

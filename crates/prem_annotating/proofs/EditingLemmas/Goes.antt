@@ -1,20 +1,10 @@
 -- How the walk goes over pieces.
-use Rattle.std.specs.Prelude.{if◌then◌else◌}
-use Rattle.std.proofs.Common.{◌≡◌, ℕ, Bool, true, false, not, ◌&&◌, List, [], ◌∷◌, ◌++◌, refl, sym, ap, subst, ◌∙◌, append_assoc, Option, Some}
-use Rattle.std.proofs.lemmas.Bool.{and_parts}
-use Rattle.prem_text.specs.Lexing.Token.Lexeme.{Lexeme, name, number, word, mark, end_of_text, Seen}
-use Rattle.prem_text.specs.Lexing.Tokens.{is_name_byte}
-use Rattle.prem_text.specs.Spelling.Spellings.{every}
-use Rattle.prem_text.specs.Spelling.Division.{goes_on}
-use Rattle.prem_text.specs.Canonical.Law.{lexemes_of}
-use Rattle.prem_annotating.specs.Pieces.{Piece, between, a_token, text_of, lexemes_in, AreDivided}
-use Rattle.prem_annotating.specs.declared.editing.walk.Spot.{Spot}
-use Rattle.prem_annotating.specs.declared.editing.walk.Spot.TheVariants.{Elsewhere, BehindType, InMark}
-use Rattle.prem_annotating.specs.declared.editing.walk.Mode.{Mode}
-use Rattle.prem_annotating.specs.declared.editing.walk.Mode.TheVariants.{Copying, Dropping, Skipping}
-use Rattle.prem_annotating.specs.Editing.Walk.{Order, Marked, Step, kept, at_token, skipped, first_order, rest_if, walked, mode_of, is_type, is_predictable, type_or, elsewhere}
-use Rattle.prem_annotating.specs.Editing.Marks.{plain, marks_of}
+use Rattle.prem_annotating.proofs.Prelude.{plain, marks_of, Order, Marked, Step, kept, at_token, skipped, first_order, rest_if, walked, mode_of, is_type, is_predictable, type_or, elsewhere}
+use Rattle.prem_annotating.proofs.Prelude.{Piece, between, a_token, text_of, lexemes_in, AreDivided, Mode, Copying, Dropping, Skipping, Spot, Elsewhere, BehindType, InMark, lexemes_of}
+use Rattle.prem_annotating.proofs.Prelude.{Lexeme, name, number, word, mark, end_of_text, Seen, is_name_byte, goes_on, every, ◌≡◌, ℕ, Bool, true, false, List, [], ◌∷◌, ◌++◌, refl, sym, ap}
+use Rattle.prem_annotating.proofs.Prelude.{subst, ◌∙◌, append_assoc, Option, Some, and_parts, if◌then◌else◌}
 use Rattle.prem_annotating.proofs.Pieces.{token_begun}
+use Rattle.std.proofs.Common.{not, ◌&&◌}
 
 -- what a step and the bytes behind it give
 abbrev pub after_step : Step → List Order → List Marked → List ℕ
@@ -72,9 +62,6 @@ goes_both s s1 s2 o o1 o2 a b na nb one two more h =
     let h' : AreDivided (a ++ (b ++ more)) = subst AreDivided (append_assoc a b more) h in
     ap (λ (l : List Piece). from s o l) (append_assoc a b more) ∙ one (b ++ more) h' ∙ ap (λ (l : List ℕ). text_of na ++ l) (two more (divided_right a (b ++ more) h'))
     ∙ sym (append_assoc (text_of na) (text_of nb) (from s2 o2 more)) ∙ ap (λ (l : List ℕ). l ++ from s2 o2 more) (sym (text_join na nb))
-
-pub goes_nothing : (s : Spot) (o : List Order) → Goes s o [] [] s o
-goes_nothing s o more h = refl
 
 -- ---- tokens that stay, with no order for them
 

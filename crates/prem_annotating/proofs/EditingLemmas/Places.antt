@@ -1,18 +1,10 @@
 -- Which bytes of a divided text begin its tokens: those at whose places these stand, since no two bytes have the same place.
-use Rattle.std.proofs.Common.{◌≡◌, ◌<◌, ◌⊎◌, inl, inr, ⊎_elim, ℕ, ◌+◌, ◌==◌, Bool, true, false, ◌&&◌, if◌then◌else◌, List, [], ◌∷◌, ◌++◌, refl, sym, ap, subst, ◌∙◌, arith}
-use Rattle.std.proofs.Common.{append_assoc, append-nil, Some, None}
-use Rattle.std.proofs.lemmas.Bool.Decides.{nat_tests}
-use Rattle.prem_syntax.specs.declared.tree.Place.{Place}
-use Rattle.prem_text.specs.Lexing.Token.Lexeme.{Lexeme, end_of_text, Seen}
-use Rattle.prem_text.specs.Lexing.Tokens.{place}
-use Rattle.prem_text.specs.Spelling.Division.{place_behind, Divides, up_to, gap, token}
-use Rattle.prem_text.proofs.SpellingLemmas.Steps.{behind_is}
-use Rattle.prem_annotating.specs.Pieces.{Piece, between, a_token, text_of, AreDivided}
-use Rattle.prem_annotating.specs.Editing.Walk.{Marked, Order, behind, same_place, first_if, tokens_behind, marked, edited, walked}
-use Rattle.prem_annotating.specs.declared.editing.walk.Spot.TheVariants.{Elsewhere}
-use Rattle.prem_annotating.specs.declared.editing.walk.Mode.TheVariants.{Copying}
-use Rattle.prem_annotating.specs.Editing.Marks.{plain, marks_of, placed}
+use Rattle.prem_annotating.proofs.Prelude.{plain, marks_of, placed, Marked, Order, behind, same_place, first_if, tokens_behind, marked, edited, walked, Piece, between, a_token, text_of}
+use Rattle.prem_annotating.proofs.Prelude.{AreDivided, Copying, Elsewhere, Place, Lexeme, end_of_text, Seen, place, place_behind, Divides, up_to, gap, token, ◌≡◌, ◌<◌, ◌⊎◌, inl, inr, ⊎_elim}
+use Rattle.prem_annotating.proofs.Prelude.{ℕ, ◌+◌, Bool, true, false, List, [], ◌∷◌, ◌++◌, refl, sym, ap, subst, ◌∙◌, arith, append_assoc, append-nil, Some, None, nat_tests}
 use Rattle.prem_annotating.proofs.Pieces.{token_begun, pieces_of}
+use Rattle.prem_text.proofs.SpellingLemmas.Steps.{behind_is}
+use Rattle.std.proofs.Common.{◌==◌, ◌&&◌, if◌then◌else◌}
 
 -- ---- no two places are the same
 

@@ -1,29 +1,15 @@
 -- The walk over single tokens that have an order, and over regions that go.
-use Rattle.std.specs.Prelude.{if◌then◌else◌}
-use Rattle.std.proofs.Common.{◌≡◌, ◌⊎◌, inl, inr, ⊎_elim, ℕ, zero, suc, Bool, true, false, not, List, [], ◌∷◌, ◌++◌, length, refl, sym, ap, subst, ◌∙◌, append-nil, Option, Some}
-use Rattle.std.proofs.lemmas.Bool.{and_parts}
-use Rattle.prem_word.specs.declared.kind.Kind.{Kind}
-use Rattle.prem_syntax.specs.Syntax.{Text}
-use Rattle.prem_text.specs.declared.lexing.token.token.Mark.TheVariants as m
-use Rattle.prem_text.specs.Lexing.Token.Lexeme.{Lexeme, name, number, word, mark, end_of_text, Seen}
-use Rattle.prem_text.specs.Lexing.Tokens.{is_digit, is_name_byte}
-use Rattle.prem_text.specs.Grammar.Slots.{Slot, fits, left_parenthesis, right_parenthesis, a_name, comma, a_literal, the_region}
-use Rattle.prem_text.specs.Grammar.Phrases.{IsRow}
-use Rattle.prem_text.specs.Grammar.ProgramPhrases.{AreRegions, region_tokens, region_trees}
-use Rattle.prem_text.specs.Spelling.Spellings.{every, Spells, as_name, as_literal}
-use Rattle.prem_text.specs.Spelling.Division.{goes_on}
-use Rattle.prem_text.specs.Canonical.Law.{lexemes_of}
-use Rattle.prem_text.proofs.SpellingLemmas.Literals.{is_number_row, literal_row}
-use Rattle.prem_annotating.specs.Pieces.{Piece, between, a_token, text_of, lexemes_in, AreDivided, mark_piece, EndsInToken}
-use Rattle.prem_annotating.specs.declared.editing.walk.Spot.{Spot}
-use Rattle.prem_annotating.specs.declared.editing.walk.Spot.TheVariants.{Elsewhere, InMark, AmongRegions, InParameters}
-use Rattle.prem_annotating.specs.declared.editing.walk.Mode.{Mode}
-use Rattle.prem_annotating.specs.declared.editing.walk.Mode.TheVariants.{Copying, Dropping, Skipping}
-use Rattle.prem_annotating.specs.Editing.Walk.{Order, leave, put, put_for, Marked, Step, step, gone, is_close, at_token, first_order, walked, mode_of, behind_close}
-use Rattle.prem_annotating.specs.Editing.Marks.{plain, marks_of}
+use Rattle.prem_annotating.proofs.Prelude.{plain, marks_of, Order, leave, put, put_for, Marked, Step, step, gone, is_close, at_token, first_order, walked, mode_of, behind_close, Piece}
+use Rattle.prem_annotating.proofs.Prelude.{between, a_token, text_of, lexemes_in, AreDivided, mark_piece, EndsInToken, Mode, Copying, Dropping, Skipping, Spot, Elsewhere, InMark}
+use Rattle.prem_annotating.proofs.Prelude.{AmongRegions, InParameters, Text, is_number_row, literal_row, lexemes_of, IsRow, AreRegions, region_tokens, region_trees, Slot, fits}
+use Rattle.prem_annotating.proofs.Prelude.{left_parenthesis, right_parenthesis, a_name, comma, a_literal, the_region, Lexeme, name, number, word, mark, end_of_text, Seen, is_digit}
+use Rattle.prem_annotating.proofs.Prelude.{is_name_byte, goes_on, every, Spells, as_name, as_literal, Kind, ◌≡◌, ◌⊎◌, inl, inr, ⊎_elim, ℕ, zero, suc, Bool, true, false, List, [], ◌∷◌, ◌++◌}
+use Rattle.prem_annotating.proofs.Prelude.{length, refl, sym, ap, subst, ◌∙◌, append-nil, Option, Some, and_parts, if◌then◌else◌}
+use Rattle.prem_annotating.proofs.EditingLemmas.Goes.{after_step, copies, drops, skips, skip_ends, from, Goes}
 use Rattle.prem_annotating.proofs.Edits.{lexemes_join}
 use Rattle.prem_annotating.proofs.Pieces.{token_begun}
-use Rattle.prem_annotating.proofs.EditingLemmas.Goes.{after_step, copies, drops, skips, skip_ends, from, Goes}
+use Rattle.std.proofs.Common.{not}
+use Rattle.prem_text.specs.declared.lexing.token.token.Mark.TheVariants as m
 
 -- ---- a token with an order to leave it
 

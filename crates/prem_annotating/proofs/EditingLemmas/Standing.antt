@@ -1,19 +1,11 @@
 -- How a walk in memory goes on.
-use Rattle.std.specs.Prelude.{slice_get, ◌==◌, if◌then◌else◌}
-use Rattle.std.specs.Option.{option_map}
-use Rattle.std.proofs.Common.{◌≡◌, ◌<◌, ◌≤◌, ℕ, zero, suc, ◌+◌, Bool, true, false, List, [], ◌∷◌, ◌++◌, length, get_or, drop, map, Option, None, Some, refl, sym, ap, ◌∙◌, arith}
-use Rattle.std.proofs.Common.{append_assoc, drop-cons, add-one}
-use Rattle.std.proofs.lemmas.List.{drop_all}
-use Rattle.prem_syntax.specs.declared.tree.Place.{Place}
-use Rattle.prem_text.specs.declared.lexing.token.token.Spotted.{Spotted}
-use Rattle.prem_text.specs.Lexing.Token.Lexeme.{Seen, seen_of, lexeme_of}
-use Rattle.prem_annotating.specs.declared.editing.walk.Spot.{Spot}
-use Rattle.prem_annotating.specs.declared.editing.walk.Mode.{Mode}
+use Rattle.prem_annotating.proofs.Prelude.{order_of, one_if, behind_token, behind_byte, if_begun, by_token, advanced, over, Order, Step, at_token, at_byte, begins, same_place, first_order}
+use Rattle.prem_annotating.proofs.Prelude.{rest_if, first_if, tokens_behind, marked, walked, behind, Mode, Spot, Place, Seen, seen_of, lexeme_of, ◌≡◌, ◌<◌, ◌≤◌, ℕ, zero, suc, ◌+◌, Bool}
+use Rattle.prem_annotating.proofs.Prelude.{true, false, List, [], ◌∷◌, ◌++◌, length, get_or, drop, map, Option, None, Some, refl, sym, ap, ◌∙◌, arith, append_assoc, drop-cons, add-one}
+use Rattle.prem_annotating.proofs.Prelude.{drop_all, option_map, slice_get, ◌==◌, if◌then◌else◌}
 use Rattle.prem_annotating.specs.declared.editing.walk.Order.{Order as OrderTree}
 use Rattle.prem_annotating.specs.declared.editing.whole.Standing.{Standing}
-use Rattle.prem_annotating.specs.Editing.Walk.{Order, Step, at_token, at_byte, begins, same_place, first_order, rest_if, first_if, tokens_behind, marked, walked, behind}
-use Rattle.prem_annotating.specs.Editing.Orders.{order_of}
-use Rattle.prem_annotating.specs.Editing.Standing.{one_if, behind_token, behind_byte, if_begun, by_token, advanced, over}
+use Rattle.prem_text.specs.declared.lexing.token.token.Spotted.{Spotted}
 
 -- ---- what comes next in a list
 

@@ -1,27 +1,13 @@
 -- A text stays where nothing differs.
-use Rattle.std.specs.Prelude.{◌==◌, if◌then◌else◌}
-use Rattle.std.specs.Option.{option_map}
-use Rattle.std.proofs.Common.{◌≡◌, ℕ, ℤ, Bool, true, false, List, [], ◌∷◌, ◌++◌, length, map, Option, None, Some, Result, Ok, Err, refl, sym, ap, subst, ◌∙◌, arith}
-use Rattle.std.proofs.lemmas.Bool.Decides.{nat_tests}
-use Rattle.prem_syntax.specs.declared.tree.Place.{Place}
-use Rattle.prem_syntax.specs.Syntax.{Parameter, RegionText, MarkText, FunctionText, ProgramText}
-use Rattle.prem_syntax.specs.Resolve.{functions_of}
-use Rattle.prem_text.specs.declared.lexing.token.fail.FrontFail.{FrontFail}
-use Rattle.prem_text.specs.declared.lexing.token.token.Word.{Word}
-use Rattle.prem_text.specs.Lexing.Token.Lexeme.{Lexeme, name, number, word, mark, end_of_text, Seen}
-use Rattle.prem_text.specs.Lexing.Tokens.{tokens_of}
-use Rattle.prem_text.specs.Texts.{reads}
-use Rattle.prem_text.specs.Canonical.Unplaced.{unplaced_region, unplaced_mark}
-use Rattle.prem_text.proofs.Whole.{text_read}
-use Rattle.prem_annotating.specs.declared.editing.walk.Spot.{Spot}
-use Rattle.prem_annotating.specs.declared.editing.walk.Spot.TheVariants.{Elsewhere, BehindType, BehindName, InMark, AmongRegions, InParameters, InRange}
-use Rattle.prem_annotating.specs.declared.editing.walk.Mode.TheVariants.{Copying}
-use Rattle.prem_annotating.specs.Editing.Walk.{Order, leave, put, put_for, Marked, Step, is_type, is_predictable, is_range, is_open, is_close, type_or, elsewhere, behind_type}
-use Rattle.prem_annotating.specs.Editing.Walk.{behind_name, in_range, at_literal, at_close, at_name, kept, in_mark, in_parameters, at_token, first_order, rest_if, walked, begins}
-use Rattle.prem_annotating.specs.Editing.Walk.{tokens_behind, marked, behind, edited}
-use Rattle.prem_annotating.specs.Editing.Orders.{length_bytes, regions_bytes, length_order, regions_order, mark_orders, range_order, range_orders, function_orders, Wanted}
-use Rattle.prem_annotating.specs.Editing.Orders.{annotations, unplaced_wanted, all_orders, edited_text, text_with, StaysWhereSame}
+use Rattle.prem_annotating.proofs.Prelude.{length_bytes, regions_bytes, length_order, regions_order, mark_orders, range_order, range_orders, function_orders, Wanted, annotations}
+use Rattle.prem_annotating.proofs.Prelude.{unplaced_wanted, all_orders, edited_text, text_with, StaysWhereSame, Order, leave, put, put_for, Marked, Step, is_type, is_predictable, is_range}
+use Rattle.prem_annotating.proofs.Prelude.{is_open, is_close, type_or, elsewhere, behind_type, behind_name, in_range, at_literal, at_close, at_name, kept, in_mark, in_parameters, at_token}
+use Rattle.prem_annotating.proofs.Prelude.{first_order, rest_if, walked, begins, tokens_behind, marked, behind, edited, Copying, Spot, Elsewhere, BehindType, BehindName, InMark}
+use Rattle.prem_annotating.proofs.Prelude.{AmongRegions, InParameters, InRange, functions_of, Parameter, RegionText, MarkText, FunctionText, ProgramText, Place, text_read, unplaced_region}
+use Rattle.prem_annotating.proofs.Prelude.{unplaced_mark, Lexeme, name, number, word, mark, end_of_text, Seen, tokens_of, reads, FrontFail, Word, ◌≡◌, ℕ, Bool, true, false, List, [], ◌∷◌}
+use Rattle.prem_annotating.proofs.Prelude.{◌++◌, length, map, Option, None, Some, Result, Ok, Err, refl, sym, ap, subst, ◌∙◌, arith, nat_tests, option_map, ◌==◌, if◌then◌else◌}
 use Rattle.prem_annotating.proofs.There.{same_regions_yes}
+use Rattle.std.proofs.Common.{ℤ}
 
 -- ---- one step
 

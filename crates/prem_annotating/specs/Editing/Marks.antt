@@ -1,9 +1,7 @@
 -- The bytes of pieces, with the tokens that begin with them.
-use Rattle.std.specs.Prelude.{ℕ, List, [], ◌∷◌, ◌++◌, map, None, Some}
-use Rattle.prem_text.specs.Lexing.Token.Lexeme.{Lexeme, end_of_text, Seen}
-use Rattle.prem_text.specs.Spelling.Division.{place_behind}
-use Rattle.prem_annotating.specs.Pieces.{Piece, between, a_token}
+use Rattle.prem_annotating.specs.Prelude.{Lexeme, end_of_text, Seen, place_behind, ℕ, List, [], ◌∷◌, ◌++◌, map, None, Some}
 use Rattle.prem_annotating.specs.Editing.Walk.{Marked}
+use Rattle.prem_annotating.specs.Pieces.{Piece, between, a_token}
 
 abbrev pub plain : List ℕ → List Marked
 plain bytes = map (λ (b : ℕ). (b, None)) bytes

@@ -1,19 +1,12 @@
 -- What differs between a program's annotations and those that are wanted, as orders.
-use Rattle.std.specs.Prelude.{ℕ, ◌+◌, ℤ, slice_index_or, pos, int_lt, unsigned_abs, codes, ◌==◌, Bool, true, false, ◌&&◌, if◌then◌else◌, List, [], ◌∷◌, ◌++◌, length, map, Option}
-use Rattle.std.specs.Prelude.{None, Some, Ok, Err, ◌≡◌}
-use Rattle.std.specs.Option.{option_map}
-use Rattle.std.specs.Str.{bytes_eq}
-use Rattle.prem_syntax.specs.Syntax.{Parameter, RegionText, MarkText, FunctionText, ProgramText}
-use Rattle.prem_syntax.specs.Resolve.{functions_of}
-use Rattle.prem_text.specs.Lexing.Tokens.{tokens_of}
-use Rattle.prem_text.specs.Texts.{reads, IsProgramText}
-use Rattle.prem_text.specs.Canonical.Canonical.{number_lexeme}
-use Rattle.prem_text.specs.Canonical.Printed.{lexeme_bytes}
-use Rattle.prem_text.specs.Canonical.Unplaced.{unplaced_mark}
-use Rattle.prem_annotating.specs.declared.editing.walk.Order.{Order as OrderTree}
-use Rattle.prem_annotating.specs.declared.editing.walk.Order.TheVariants as code
-use Rattle.prem_annotating.specs.Pieces.{text_of, range_pieces, regions_pieces}
+use Rattle.prem_annotating.specs.Prelude.{functions_of, Parameter, RegionText, MarkText, FunctionText, ProgramText, number_lexeme, lexeme_bytes, unplaced_mark, tokens_of, reads}
+use Rattle.prem_annotating.specs.Prelude.{IsProgramText, option_map, ℕ, ◌+◌, ℤ, slice_index_or, pos, int_lt, unsigned_abs, codes, ◌==◌, Bool, true, false, ◌&&◌, if◌then◌else◌, List, [], ◌∷◌}
+use Rattle.prem_annotating.specs.Prelude.{◌++◌, length, map, Option, None, Some, Ok, Err, ◌≡◌}
 use Rattle.prem_annotating.specs.Editing.Walk.{Order, leave, put, put_for, edited}
+use Rattle.prem_annotating.specs.Pieces.{text_of, range_pieces, regions_pieces}
+use Rattle.prem_annotating.specs.declared.editing.walk.Order.{Order as OrderTree}
+use Rattle.std.specs.Str.{bytes_eq}
+use Rattle.prem_annotating.specs.declared.editing.walk.Order.TheVariants as code
 
 -- an order in memory
 abbrev pub order_of : OrderTree → Order

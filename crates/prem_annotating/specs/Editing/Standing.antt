@@ -1,14 +1,11 @@
 -- A walk in memory, which goes by the numbers of the next token and the next order.
-use Rattle.std.specs.Prelude.{ℕ, ◌+◌, Bool, true, false, List, [], ◌∷◌, ◌++◌, slice_get, Option, None, Some}
-use Rattle.std.specs.Option.{option_map}
-use Rattle.prem_syntax.specs.declared.tree.Place.{Place}
-use Rattle.prem_text.specs.declared.lexing.token.token.Spotted.{Spotted}
-use Rattle.prem_text.specs.Lexing.Token.Lexeme.{lexeme_of}
+use Rattle.prem_annotating.specs.Prelude.{Place, lexeme_of, option_map, ℕ, ◌+◌, Bool, true, false, List, [], ◌∷◌, ◌++◌, slice_get, Option, None, Some}
+use Rattle.prem_annotating.specs.Editing.Orders.{order_of}
+use Rattle.prem_annotating.specs.Editing.Walk.{Step, at_token, at_byte, same_place, behind}
 use Rattle.prem_annotating.specs.declared.editing.walk.Mode.{Mode}
 use Rattle.prem_annotating.specs.declared.editing.walk.Order.{Order as OrderTree}
 use Rattle.prem_annotating.specs.declared.editing.whole.Standing.{Standing}
-use Rattle.prem_annotating.specs.Editing.Walk.{Step, at_token, at_byte, same_place, behind}
-use Rattle.prem_annotating.specs.Editing.Orders.{order_of}
+use Rattle.prem_text.specs.declared.lexing.token.token.Spotted.{Spotted}
 
 abbrev pub one_if : Bool → ℕ
 one_if true = 1

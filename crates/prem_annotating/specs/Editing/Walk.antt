@@ -1,18 +1,14 @@
 -- A walk over the bytes of a text, some of which begin its tokens, that puts annotations in their places.
-use Rattle.std.specs.Prelude.{ℕ, zero, suc, ◌+◌, ◌==◌, Bool, true, false, ◌&&◌, if◌then◌else◌, List, [], ◌∷◌, ◌++◌, drop, Option, None, Some}
-use Rattle.prem_syntax.specs.declared.tree.Place.{Place}
-use Rattle.prem_syntax.specs.Syntax.{Text}
-use Rattle.prem_text.specs.declared.lexing.token.token.Mark.{Mark}
-use Rattle.prem_text.specs.declared.lexing.token.token.Mark.TheVariants as m
-use Rattle.prem_text.specs.declared.lexing.token.token.Word.{Word}
-use Rattle.prem_text.specs.declared.lexing.token.token.Word.TheVariants as w
-use Rattle.prem_text.specs.Lexing.Token.Lexeme.{Lexeme, name, number, word, mark, Seen}
-use Rattle.prem_text.specs.Lexing.Tokens.{is_name_byte}
-use Rattle.prem_annotating.specs.declared.editing.walk.Spot.{Spot}
-use Rattle.prem_annotating.specs.declared.editing.walk.Spot.TheVariants.{Elsewhere, BehindType, BehindName, InMark, AmongRegions, InParameters, InRange}
+use Rattle.prem_annotating.specs.Prelude.{Text, Place, Lexeme, name, number, word, mark, Seen, is_name_byte, Mark, ℕ, zero, suc, ◌+◌, ◌==◌, Bool, true, false, ◌&&◌, if◌then◌else◌, List, []}
+use Rattle.prem_annotating.specs.Prelude.{◌∷◌, ◌++◌, drop, Option, None, Some}
 use Rattle.prem_annotating.specs.declared.editing.walk.Behind.{Behind}
 use Rattle.prem_annotating.specs.declared.editing.walk.Mode.{Mode}
 use Rattle.prem_annotating.specs.declared.editing.walk.Mode.TheVariants.{Copying, Dropping, Skipping}
+use Rattle.prem_annotating.specs.declared.editing.walk.Spot.{Spot}
+use Rattle.prem_annotating.specs.declared.editing.walk.Spot.TheVariants.{Elsewhere, BehindType, BehindName, InMark, AmongRegions, InParameters, InRange}
+use Rattle.prem_text.specs.declared.lexing.token.token.Word.{Word}
+use Rattle.prem_text.specs.declared.lexing.token.token.Mark.TheVariants as m
+use Rattle.prem_text.specs.declared.lexing.token.token.Word.TheVariants as w
 
 -- what is done at one place for annotations: in the order of the text these places are the literal of a mark, its `)`, and the name of each parameter
 pub data Order : Type 0 where

@@ -1,8 +1,7 @@
 -- What the parts of a set's tasks are by.
 use Rattle.std.specs.Prelude.{slice_index, slice_index_or}
 use Rattle.std.specs.List.{AllByRecursion}
-use Rattle.std.proofs.Common.{◌≡◌, ◌≤◌, List, [], ◌∷◌, Result, Ok, Err, IfOk, Vec, Global, length, map, drop, ap, sym, ◌∙◌, subst, arith}
-use Rattle.std.proofs.lemmas.List.{length-map}
+use Rattle.std.proofs.Common.{◌≡◌, List, [], ◌∷◌, Result, Ok, Err, IfOk, Vec, Global, map, drop, ap, ◌∙◌, subst}
 use Rattle.prem_plant.specs.declared.plant.Plant.{Plant}
 use Rattle.prem_plant.specs.declared.plant.Device.{Device}
 use Rattle.prem_plant.specs.declared.layout.PartSize.{PartSize}
@@ -42,12 +41,6 @@ module _ (set : TaskSet) (all : List SizedTask) (tasks : List CodedTask) (h : Ar
 
   pub may_have_parts : AreCodesOf (programs_of set.tasks) (coded_in set) → AllByRecursion MayHaveParts all
   may_have_parts codes = sets_may_have_parts all (coded_in set) (programs_of set.tasks) all_sized codes
-
-  few_sized : length all ≤ 16
-  few_sized =
-      let long : length all ≡ length tasks = sym (length-map all sized_of) ∙ ap length same ∙ length-map tasks size_of_task in
-      let few = h.count in
-      omega (arith, long, few)
 
   pub parts_are : parts_in set.plant set.devices all ≡ parts_of_set set
   parts_are = parts_are_exact set.plant set.devices all (coded_in set) all_sized

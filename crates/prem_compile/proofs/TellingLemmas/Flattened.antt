@@ -1,11 +1,9 @@
 -- What is told of all tasks, from what is told of each.
-use Rattle.std.specs.List.{AllByRecursion}
-use Rattle.std.proofs.Common.{◌≡◌, ℕ, ◌+◌, ◌^◌, ◌≤◌, List, [], ◌∷◌, ◌++◌, refl, ap, subst, sym, ◌∙◌, arith, length, map, append-nil}
+use Rattle.std.proofs.Common.{◌≡◌, ℕ, ◌+◌, List, [], ◌∷◌, ◌++◌, refl, ap, sym, ◌∙◌, arith, length, map, append-nil}
 use Rattle.prem_plant.specs.declared.plant.Plant.{Plant}
 use Rattle.prem_layout.specs.Bounds.{JobBound}
 use Rattle.prem_layout.specs.Facts.{interval_facts, job_fact}
 use Rattle.prem_layout.specs.Placed.{Placed}
-use Rattle.prem_place.specs.Totals.Limits.{IsBound}
 use Rattle.prem_place.specs.Verdict.Told.{BoundsTold, bounds_of, with_task, told_from}
 use Rattle.prem_place.specs.declared.verdict.told.TaskBounds.{TaskBounds}
 use Rattle.prem_tasks.specs.Compiled.{TaskFact, facts_from, job_bounds}
@@ -31,14 +29,6 @@ facts_are p placed bs facts e is = is ∙ ap flat e ∙ facts_told p 0 placed
 
 pub jobs_are : (p : Plant) (placed : List Placed) (bs : List BoundsTold) (jobs : List ℕ) → bs ≡ told_from p 0 placed → jobs ≡ jobs_of bs → jobs ≡ map (λ (j : JobBound). j.bound) (job_bounds p placed)
 jobs_are p placed bs jobs e is = is ∙ ap jobs_of e ∙ jobs_told p 0 placed
-
--- one more bound
-bound_more : (jobs more : List ℕ) (job : ℕ) → AllByRecursion IsBound jobs → job ≤ 2 ^ 40 → more ≡ jobs ++ job ∷ [] → AllByRecursion IsBound more
-bound_more jobs more job h small e = subst (λ (js : List ℕ). AllByRecursion IsBound js) (sym e) (behind jobs h)
-  where
-    behind : (js : List ℕ) → AllByRecursion IsBound js → AllByRecursion IsBound (js ++ job ∷ [])
-    behind [] h = (small, tt)
-    behind (j ∷ js) h = (h.0, behind js h.1)
 
 -- ---- where nothing is left
 

@@ -1,5 +1,5 @@
 -- The bounds of the jobs of placed tasks.
-use Rattle.std.proofs.Common.{◌≡◌, ℕ, suc, List, [], ◌∷◌, refl, ap, ◌∙◌, length, map}
+use Rattle.std.proofs.Common.{◌≡◌, ℕ, List, [], ◌∷◌, refl, ap, ◌∙◌, map}
 use Rattle.prem_plant.specs.declared.plant.Plant.{Plant}
 use Rattle.prem_layout.specs.Bounds.{JobBound, limit_of}
 use Rattle.prem_layout.specs.Facts.{job_fact}
@@ -20,11 +20,3 @@ pub limit_is : (p : Plant) (tasks : List PlacedTask) (jobs : List ℕ) (n : ℕ)
     jobs ≡ map (λ (j : JobBound). j.bound) (job_bounds p (map placed_of tasks)) → n ≡ limit_of (jobs_with tasks jobs) →
     n ≡ limit_of (job_bounds p (map placed_of tasks))
 limit_is p tasks jobs n e is = is ∙ ap (λ (bs : List ℕ). limit_of (jobs_with tasks bs)) (e ∙ listed p tasks) ∙ ap limit_of (turns.jobs_are p tasks)
-
-counted : (p : Plant) (tasks : List PlacedTask) → length (bounds_in p tasks) ≡ length tasks
-counted p [] = refl
-counted p (t ∷ ts) = ap suc (counted p ts)
-
--- each task has one
-bounds_long : (p : Plant) (tasks : List PlacedTask) (jobs : List ℕ) → jobs ≡ map (λ (j : JobBound). j.bound) (job_bounds p (map placed_of tasks)) → length jobs ≡ length tasks
-bounds_long p tasks jobs e = ap length e ∙ counted p tasks

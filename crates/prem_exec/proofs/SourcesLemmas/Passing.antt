@@ -1,6 +1,6 @@
 -- Readings that give something to whatever comes next.
 use Rattle.std.proofs.Common.{◌≡◌, ◌≢◌, ℕ, List, [], ◌∷◌, ◌++◌, Option, Result, Ok, Err, refl, ap, ◌∙◌, sym, subst, map}
-use Rattle.std.proofs.lemmas.List.{append_assoc, append-nil}
+use Rattle.std.proofs.lemmas.List.{append_assoc}
 use Rattle.prem_io.specs.Files.{Files}
 use Rattle.prem_gate.specs.declared.request.RunInput.{RunInput}
 use Rattle.prem_tasks.specs.declared.set.TaskText.{TaskText as TaskTree}
@@ -34,11 +34,6 @@ comes_as view holds also (Err OutOfMemory) pass h = tt
 
 stops : (told : Option Files) (stage : Stage Reply) (reply : Reply) (answer : Result Reply Reply) → IsGiven told stage (Err reply) → answer ≡ Err reply → IsGiven told stage answer
 stops told stage reply answer given is = subst (λ a. IsGiven told stage a) (sym is) given
-
--- ---- the sources of tasks
-
-pub none_behind : (how : Telling) (told : Option Files) (front : List TaskText) → Passes told (reading_behind how front []) (Ok front)
-none_behind how told front next answer leads = subst (λ ts. IsGiven told (next ts) answer) (sym (append-nil front)) leads
 
 task_behind : (how : Telling) (told : Option Files) (front : List TaskText) (e : TaskEntry) (es : List TaskEntry) (task : TaskText) (given : Result (List TaskText) Reply) →
     IsReadAsBy how told source_limit e.source (task_of_source e) (Ok task) → Passes told (reading_behind how (front ++ task ∷ []) es) given →

@@ -153,11 +153,6 @@ last_end : (c : Change) (xs : List Did) (d : Did) → change_behind c (xs ++ d �
 last_end c [] d = refl
 last_end c (x ∷ xs) d = last_end x.change xs d
 
-no_dids : (w : Weave) → dids_of w ≡ [] → calls_of w ≡ []
-no_dids ends e = refl
-no_dids (goes d rest) e = cc
-no_dids (Rattle.prem_sets_sound.specs.Weave.Weave.calls m rest) e = cc
-
 module _ (p : Plant) (passes : ℕ → ℕ) (s : Setting) (gs : Globals) (limits : Limits) (program : Resolved) (own : TaskRun) (calls : Calls)
     (start job : ℕ) (lines : List ℕ) (charge cost most : ℕ) (entry : s.places start ≡ own.entry)
     (scope : CallsScope p s gs limits program own calls start job lines charge) (paid : p.switch + charge ≤ cost) (long : charge ≤ most) (script : Script) where

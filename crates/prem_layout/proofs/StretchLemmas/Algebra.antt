@@ -1,6 +1,5 @@
 -- How sums go together.
-use Rattle.std.proofs.Common.{◌≡◌, ℕ, suc, ◌+◌, max, refl, ap, ◌∙◌, sym, arith, Some, None, Option}
-use Rattle.prem_layout.specs.Stretch.Sums.{most, both, or_none, Sums, taking, cut, no_sums, among, chained, greatest}
+use Rattle.prem_layout.proofs.Prelude.{most, both, or_none, Sums, taking, cut, no_sums, among, chained, greatest, ◌≡◌, ℕ, suc, ◌+◌, max, refl, ap, ◌∙◌, sym, arith, Some, None, Option}
 
 -- ---- sums that may not be there, as numbers: one more than the sum, or 0
 
@@ -22,10 +21,6 @@ code_most (Some a) (Some b) = omega arith
 pub most_none : (a : Option ℕ) → most a None ≡ a
 most_none None = refl
 most_none (Some a) = refl
-
-both_none : (a : Option ℕ) → both a None ≡ None
-both_none None = refl
-both_none (Some a) = refl
 
 both_assoc : (a b c : Option ℕ) → both (both a b) c ≡ both a (both b c)
 both_assoc None b c = refl

@@ -1,13 +1,8 @@
 -- Worked sets: the greatest stretches of their tasks, path by path, and their longest intervals, computed.
-use Rattle.std.specs.Prelude.{codes}
-use Rattle.std.proofs.Common.{◌≡◌, refl, ℕ, List, [], ◌∷◌, map, length}
-use Rattle.prem_plant.specs.declared.plant.Plant.{Plant}
-use Rattle.prem_plant.specs.Ranges.{default_plant as plant}
-use Rattle.prem_layout.specs.Placed.{Coded, Placed}
-use Rattle.prem_layout.specs.Stretch.Paths.{turning, task_paths, stretch_of, longest_of}
+use Rattle.prem_layout.proofs.Prelude.{Coded, Placed, turning, task_paths, stretch_of, longest_of, default_plant as plant, Plant, ◌≡◌, refl, ℕ, List, [], ◌∷◌, map, length, codes}
+use Rattle.prem_layout.proofs.Rows.{two_tasks}
 use Rattle.prem_layout.proofs.Samples.{m_text, m_turns}
 use Rattle.prem_layout.proofs.Tasks.{coded, placed}
-use Rattle.prem_layout.proofs.Rows.{two_tasks}
 
 abbrev stretches : Plant → List Coded → List ℕ
 stretches p tasks = map (λ (t : Placed). stretch_of p t.plans t.table) (placed p tasks)

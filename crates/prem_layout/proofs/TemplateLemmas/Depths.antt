@@ -1,9 +1,8 @@
 -- The registers that a term needs.
-use Rattle.std.proofs.Common.{◌≡◌, ℕ, ◌+◌, ◌<◌, refl, cond, ltb, true, false, Bool, Option, None, Some}
-use Rattle.std.proofs.lemmas.Bool.{ltb-true}
+use Rattle.prem_layout.proofs.Prelude.{first_of, first_place, too_deep, Term, Constant, Local, Scalar, Element, Unary, Binary, ◌≡◌, ℕ, ◌+◌, ◌<◌, refl, cond, ltb, true, false, Bool, Option}
+use Rattle.prem_layout.proofs.Prelude.{None, Some, ltb-true}
+use Rattle.prem_syntax.specs.Resolved.{AndAlso, OrElse}
 use Rattle.prem_syntax.specs.declared.tree.Place.{Place}
-use Rattle.prem_syntax.specs.Resolved.{Term, Constant, Local, Scalar, Element, Unary, Binary, AndAlso, OrElse}
-use Rattle.prem_layout.specs.Template.Limits.{first_of, first_place, too_deep}
 
 pub first_none : (a b : Option Place) → first_of a b ≡ None → (a ≡ None) × (b ≡ None)
 first_none None b e = (refl, e)

@@ -1,29 +1,19 @@
 -- The instructions of operators have words, whatever stands in their registers.
-use Rattle.std.specs.Prelude.{ℤ, pos, negsuc}
-use Rattle.std.proofs.Common.{◌≡◌, ℕ, ◌+◌, ◌-◌, ◌*◌, ◌%◌, ◌^◌, ◌<◌, ◌≤◌, arith, cond, ltb, true, false, Bool, List, [], ◌∷◌, ◌++◌, All}
-use Rattle.std.proofs.lemmas.Bool.{cond_both, ltb-true, ltb-false}
-use Rattle.std.proofs.lemmas.List.Elements.{All-nil, All-cons}
-use Rattle.prem_word.specs.declared.kind.Kind.{Kind}
-use Rattle.prem_word.specs.declared.kind.Kind.TheVariants.{Int, Unsigned}
-use Rattle.prem_word.specs.declared.kind.BinOp.{BinOp}
-use Rattle.prem_word.specs.declared.kind.BinOp.TheVariants.{Add as Plus, Sub as Minus, Mul, Div, Rem, Shl, Shr, Lt, Le, Gt, Ge, Eq, Ne, And as BitAnd, Xor as BitXor, Or as BitOr}
-use Rattle.prem_word.specs.declared.kind.BinOp.TheVariants.{AndAlso as AndAlsoOp, OrElse as OrElseOp}
-use Rattle.prem_plant.specs.declared.plant.Target.{Target}
-use Rattle.prem_plant.specs.declared.plant.Target.TheVariants.{Rv32i, Rv32im}
-use Rattle.prem_isa.specs.declared.instr.Instr.{Instr}
-use Rattle.prem_isa.specs.declared.instr.Instr.TheVariants.{OpImm, Op}
-use Rattle.prem_isa.specs.declared.instr.AluOp.TheVariants.{Add, Sub, Xor}
-use Rattle.prem_isa.specs.Fields.{InBits}
-use Rattle.prem_isa.specs.Decode.{Fits as InstrFits}
-use Rattle.prem_syntax.specs.declared.tree.Ty.{Ty}
-use Rattle.prem_syntax.specs.declared.tree.Ty.TheVariants.{Void, Int as IntTy, Unsigned as UnsignedTy, Short, Ushort, Schar, Uchar}
-use Rattle.prem_syntax.specs.declared.tree.UnOp.{UnOp}
-use Rattle.prem_syntax.specs.declared.tree.UnOp.TheVariants.{Neg, Flip, Not}
-use Rattle.prem_asm.specs.Pieces.{Pieces, no_pieces, straight, address_of, either, repeat, call_to, followed, address_code, upper, lower}
+use Rattle.prem_layout.proofs.Prelude.{Pieces, no_pieces, straight, address_of, either, repeat, call_to, followed, address_code, upper, lower, Fits as InstrFits, Instr, OpImm, Op, Target}
+use Rattle.prem_layout.proofs.Prelude.{Rv32i, Rv32im, Void, Int as IntTy, Unsigned as UnsignedTy, Short, Ushort, Schar, Uchar, Neg, Flip, Not, Add as Plus, Sub as Minus, Mul, Div, Rem, Shl}
+use Rattle.prem_layout.proofs.Prelude.{Shr, Lt, Le, Gt, Ge, Eq, Ne, And as BitAnd, Xor as BitXor, Or as BitOr, AndAlso as AndAlsoOp, OrElse as OrElseOp, ◌≡◌, ℕ, ◌+◌, ◌-◌, ◌*◌, ◌%◌, ◌^◌, ◌<◌}
+use Rattle.prem_layout.proofs.Prelude.{◌≤◌, arith, cond, ltb, true, false, Bool, List, [], ◌∷◌, ◌++◌, All, cond_both, ltb-true, ltb-false, All-nil, All-cons, ℤ, pos, negsuc}
 use Rattle.prem_asm.specs.Fit.{TestFits, PiecesFit}
 use Rattle.prem_asm.specs.Quiet.{EachInstr}
+use Rattle.prem_isa.specs.Fields.{InBits}
+use Rattle.prem_isa.specs.declared.instr.AluOp.TheVariants.{Add, Sub, Xor}
 use Rattle.prem_layout.specs.Template.Terms.{is_short, constant, slot, scale, shift_of, unary_code, less, shift_right, multiply_code, divide_turn, divide_code, unsigned_operands}
 use Rattle.prem_layout.specs.Template.Terms.{signed_operands, quotient_code, remainder_code, by_target, binary_code}
+use Rattle.prem_syntax.specs.declared.tree.Ty.{Ty}
+use Rattle.prem_syntax.specs.declared.tree.UnOp.{UnOp}
+use Rattle.prem_word.specs.declared.kind.BinOp.{BinOp}
+use Rattle.prem_word.specs.declared.kind.Kind.{Kind}
+use Rattle.prem_word.specs.declared.kind.Kind.TheVariants.{Int, Unsigned}
 
 -- the same condition, with what holds of each instruction as a product
 abbrev pub Fitting : (parts : ℕ) (places : ℕ → ℕ) → Pieces → Type 0

@@ -1,14 +1,8 @@
 -- What isn't compiled, computed; each program stands above its tree in the language's own text.
-use Rattle.std.specs.Prelude.{codes, replicate, slice_index}
-use Rattle.std.proofs.Common.{◌≡◌, refl, ℕ, [], ◌∷◌, None, Some}
-use Rattle.prem_word.specs.declared.kind.BinOp.TheVariants.{Add, And}
+use Rattle.prem_layout.proofs.Prelude.{depth, frame, excess, excess_of, at, int, statements, global, function, resolve, Routine, Resolved, Constant, Done as NoSteps, binary, assign, output}
+use Rattle.prem_layout.proofs.Prelude.{absent, no_statements, ProgramText, Void, Int as IntTy, Add, And, ◌≡◌, refl, ℕ, [], ◌∷◌, None, Some, codes, slice_index}
 use Rattle.prem_word.specs.declared.kind.Kind.TheVariants.{Int}
-use Rattle.prem_syntax.specs.declared.tree.Ty.TheVariants.{Void, Int as IntTy}
-use Rattle.prem_syntax.specs.Syntax.{binary, assign, output, absent, no_statements, ProgramText}
-use Rattle.prem_syntax.specs.Resolved.{Routine, Resolved, Constant, Done as NoSteps}
-use Rattle.prem_syntax.specs.Resolve.{resolve}
-use Rattle.prem_syntax.proofs.Samples.{at, int, statements, global, function}
-use Rattle.prem_layout.specs.Template.Limits.{depth, frame, excess, excess_of}
+use Rattle.std.specs.Prelude.{replicate}
 
 -- a program without counting loops
 abbrev program : ProgramText → Resolved

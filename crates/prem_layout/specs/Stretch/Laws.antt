@@ -1,8 +1,7 @@
 -- What the laws of this crate say.
-use Rattle.std.specs.Prelude.{◌≡◌, List}
-use Rattle.prem_plant.specs.declared.plant.Plant.{Plant}
-use Rattle.prem_layout.specs.Plans.{Plan}
+use Rattle.prem_layout.specs.Prelude.{Plant, ◌≡◌, List}
 use Rattle.prem_layout.specs.Bounds.{CodeTable}
+use Rattle.prem_layout.specs.Plans.{Plan}
 use Rattle.prem_layout.specs.Stretch.Paths.{stretch_of}
 use Rattle.prem_layout.specs.Stretch.Sums.{greatest, task_sums}
 

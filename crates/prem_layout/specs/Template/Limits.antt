@@ -1,9 +1,8 @@
 -- What keeps a program from being compiled: an expression that needs too many registers, or a frame that is too big.
-use Rattle.std.specs.Prelude.{ℕ, ◌+◌, nat_lt, List, [], ◌∷◌, Option, None, Some, if◌then◌else◌}
-use Rattle.prem_syntax.specs.declared.tree.Place.{Place}
-use Rattle.prem_syntax.specs.Resolved.{Term, Constant, Local, Scalar, Element, Unary, Binary, AndAlso, OrElse, Steps, Done, SetLocal, SetScalar, SetElement, Output, Input, If, For}
-use Rattle.prem_syntax.specs.Resolved.{While, Call, Routine, Resolved}
+use Rattle.prem_layout.specs.Prelude.{Term, Constant, Local, Scalar, Element, Unary, Binary, AndAlso, OrElse, Steps, Done, SetLocal, SetScalar, SetElement, Output, Input, If, For, While}
+use Rattle.prem_layout.specs.Prelude.{Call, Routine, Resolved, ℕ, ◌+◌, nat_lt, List, [], ◌∷◌, Option, None, Some, if◌then◌else◌}
 use Rattle.prem_layout.specs.Template.Frames.{frame_of}
+use Rattle.prem_syntax.specs.declared.tree.Place.{Place}
 
 -- ---- the first expression, by its place, that would be evaluated into x22
 

@@ -1,10 +1,6 @@
 -- The numbers of a task's parts among themselves: the start, the code of each function, the stub of each marked one, the
 -- globals, the stack; and the code of its functions.
-use Rattle.std.specs.Prelude.{ℕ, zero, suc, ◌+◌, Bool, false, if◌then◌else◌, List, [], ◌∷◌, length, slice_get, unwrap_or, option_map}
-use Rattle.prem_plant.specs.declared.plant.Target.{Target}
-use Rattle.prem_syntax.specs.Resolved.{Routine, Resolved}
-use Rattle.prem_syntax.specs.Statements.{is_marked}
-use Rattle.prem_asm.specs.Pieces.{Pieces}
+use Rattle.prem_layout.specs.Prelude.{Pieces, Target, Routine, is_marked, ℕ, zero, suc, ◌+◌, Bool, false, if◌then◌else◌, List, [], ◌∷◌, length, slice_get, unwrap_or, option_map}
 use Rattle.prem_layout.specs.Template.Frames.{frame_at}
 use Rattle.prem_layout.specs.Template.Steps.{Parts, function_code}
 
@@ -29,9 +25,6 @@ stub_part routines f = 1 + length routines + marked_before f routines
 
 abbrev pub global_part : List Routine → ℕ → ℕ
 global_part routines g = 1 + length routines + marked_count routines + g
-
-abbrev pub stack_part : Resolved → ℕ
-stack_part p = global_part p.routines (length p.globals)
 
 abbrev pub parts_of : Target → List Routine → Parts
 parts_of target routines = record {

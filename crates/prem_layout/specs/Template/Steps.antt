@@ -1,20 +1,11 @@
 -- The code of statements and functions.
-use Rattle.std.specs.Prelude.{ℕ, ℤ, pos, negsuc, ◌+◌, ◌-◌, ◌*◌, Bool, true, false, List, [], ◌∷◌, length, Option, None, Some}
-use Rattle.prem_plant.specs.declared.plant.Target.{Target}
-use Rattle.prem_isa.specs.declared.instr.Instr.{Instr}
-use Rattle.prem_isa.specs.declared.instr.Instr.TheVariants.{Jalr, Load, Store, OpImm, Op, PmDone, PmIn, PmOut}
-use Rattle.prem_isa.specs.declared.instr.AluOp.TheVariants.{Add}
-use Rattle.prem_isa.specs.declared.instr.BranchOp.TheVariants.{Blt, Bge}
-use Rattle.prem_isa.specs.declared.instr.LoadOp.TheVariants.{Lw}
+use Rattle.prem_layout.specs.Prelude.{Pieces, no_pieces, straight, address_of, either, repeat, call_to, followed, Test, Add, Blt, Bge, Instr, Jalr, Load, Store, OpImm, Op, PmIn, PmOut, Lw}
+use Rattle.prem_layout.specs.Prelude.{Target, Term, Steps, Done as NoSteps, SetLocal, SetScalar, SetElement, Output, Input, If, For, While, Call, Routine, Ty, Short, Ushort, Schar, Uchar, ℕ}
+use Rattle.prem_layout.specs.Prelude.{ℤ, pos, negsuc, ◌+◌, ◌-◌, ◌*◌, Bool, true, false, List, [], ◌∷◌, length, Option, None, Some}
 use Rattle.prem_isa.specs.declared.instr.StoreOp.{StoreOp}
 use Rattle.prem_isa.specs.declared.instr.StoreOp.TheVariants.{Sb, Sh, Sw}
-use Rattle.prem_syntax.specs.declared.tree.Ty.{Ty}
-use Rattle.prem_syntax.specs.declared.tree.Ty.TheVariants.{Short, Ushort, Schar, Uchar}
-use Rattle.prem_syntax.specs.Resolved.{Term, Steps, Done as NoSteps, SetLocal, SetScalar, SetElement, Output, Input, If, For, While, Call, Routine}
-use Rattle.prem_asm.specs.Pieces.{Pieces, no_pieces, straight, address_of, either, repeat, call_to, followed}
-use Rattle.prem_asm.specs.declared.piece.Test.{Test}
-use Rattle.prem_layout.specs.Template.Terms.{only, constant, slot, shift_of, scale, nonzero, truth_code, term_code}
 use Rattle.prem_layout.specs.Template.Frames.{counters_in, locals_of, frame_of}
+use Rattle.prem_layout.specs.Template.Terms.{only, constant, slot, shift_of, scale, nonzero, truth_code, term_code}
 
 -- what code has to know of its task
 pub record Parts : Type 0 where
@@ -141,7 +132,3 @@ function_code parts f =
     (followed (declare_code parts.target parts.global (length f.text.params) f.locals)
     (followed (steps_code parts (locals_of f) f.body)
     (followed (result_code parts.target parts.global f.result) (only (closing (frame_of f))))))
-
--- `job` is called, and the job done
-abbrev pub start_code : ℕ → Pieces
-start_code part = call_to 1 part (only (PmDone ∷ []))

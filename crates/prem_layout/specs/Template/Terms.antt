@@ -1,28 +1,19 @@
 -- The code of expressions: the value of a term comes into a register r, by means of those behind it up to x21, and of
 -- x5 to x7 and x28 to x31.
-use Rattle.std.specs.Prelude.{ℕ, ℤ, pos, negsuc, zero, suc, ◌+◌, ◌-◌, ◌*◌, ◌^◌, ◌||◌, nat_lt, nat_le, Bool, List, [], ◌∷◌, if◌then◌else◌}
-use Rattle.prem_word.specs.declared.kind.Kind.{Kind}
-use Rattle.prem_word.specs.declared.kind.Kind.TheVariants.{Int, Unsigned}
+use Rattle.prem_layout.specs.Prelude.{Pieces, no_pieces, straight, address_of, either, repeat, followed, lower, address_code, Test, Add, Sub, Sll, Slt, Sltu, Xor, Srl, Sra, Or, And, Bne}
+use Rattle.prem_layout.specs.Prelude.{Instr, Load, OpImm, Op, MulDiv, Lb, Lh, Lw, Lbu, Lhu, Target, Term, Constant, Local, Scalar, Element, Unary, Binary, AndAlso, OrElse, Ty, Short, Ushort}
+use Rattle.prem_layout.specs.Prelude.{Schar, Uchar, ℕ, ℤ, pos, negsuc, zero, suc, ◌+◌, ◌-◌, ◌*◌, ◌^◌, ◌||◌, nat_lt, nat_le, Bool, List, [], ◌∷◌, if◌then◌else◌}
+use Rattle.prem_isa.specs.declared.instr.LoadOp.{LoadOp}
+use Rattle.prem_isa.specs.declared.instr.MulDivOp.{MulDivOp}
+use Rattle.prem_isa.specs.declared.instr.MulDivOp.TheVariants.{Mul as MulWord, Div as DivInt, Divu, Rem as RemInt, Remu}
+use Rattle.prem_plant.specs.declared.plant.Target.TheVariants.{Rv32i, Rv32im}
+use Rattle.prem_syntax.specs.declared.tree.UnOp.{UnOp}
+use Rattle.prem_syntax.specs.declared.tree.UnOp.TheVariants.{Neg, Flip, Not}
 use Rattle.prem_word.specs.declared.kind.BinOp.{BinOp}
 use Rattle.prem_word.specs.declared.kind.BinOp.TheVariants.{Add as Plus, Sub as Minus, Mul, Div, Rem, Shl, Shr, Lt, Le, Gt, Ge, Eq, Ne, And as BitAnd, Xor as BitXor, Or as BitOr}
 use Rattle.prem_word.specs.declared.kind.BinOp.TheVariants.{AndAlso as AndAlsoOp, OrElse as OrElseOp}
-use Rattle.prem_plant.specs.declared.plant.Target.{Target}
-use Rattle.prem_plant.specs.declared.plant.Target.TheVariants.{Rv32i, Rv32im}
-use Rattle.prem_isa.specs.declared.instr.Instr.{Instr}
-use Rattle.prem_isa.specs.declared.instr.Instr.TheVariants.{Load, OpImm, Op, MulDiv}
-use Rattle.prem_isa.specs.declared.instr.AluOp.TheVariants.{Add, Sub, Sll, Slt, Sltu, Xor, Srl, Sra, Or, And}
-use Rattle.prem_isa.specs.declared.instr.MulDivOp.{MulDivOp}
-use Rattle.prem_isa.specs.declared.instr.MulDivOp.TheVariants.{Mul as MulWord, Div as DivInt, Divu, Rem as RemInt, Remu}
-use Rattle.prem_isa.specs.declared.instr.BranchOp.TheVariants.{Bne}
-use Rattle.prem_isa.specs.declared.instr.LoadOp.{LoadOp}
-use Rattle.prem_isa.specs.declared.instr.LoadOp.TheVariants.{Lb, Lh, Lw, Lbu, Lhu}
-use Rattle.prem_syntax.specs.declared.tree.Ty.{Ty}
-use Rattle.prem_syntax.specs.declared.tree.Ty.TheVariants.{Short, Ushort, Schar, Uchar}
-use Rattle.prem_syntax.specs.declared.tree.UnOp.{UnOp}
-use Rattle.prem_syntax.specs.declared.tree.UnOp.TheVariants.{Neg, Flip, Not}
-use Rattle.prem_syntax.specs.Resolved.{Term, Constant, Local, Scalar, Element, Unary, Binary, AndAlso, OrElse}
-use Rattle.prem_asm.specs.Pieces.{Pieces, no_pieces, straight, address_of, either, repeat, followed, lower, address_code}
-use Rattle.prem_asm.specs.declared.piece.Test.{Test}
+use Rattle.prem_word.specs.declared.kind.Kind.{Kind}
+use Rattle.prem_word.specs.declared.kind.Kind.TheVariants.{Int, Unsigned}
 
 -- instructions alone
 abbrev pub only : List Instr → Pieces

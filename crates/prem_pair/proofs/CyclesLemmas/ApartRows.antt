@@ -1,17 +1,6 @@
 -- Two cores that don't touch each other, computed.
-use Rattle.std.proofs.Common.{◌≡◌, ℕ, true, false, [], refl, sym, ◌∙◌, arith}
-use Rattle.prem_gate.specs.declared.bus.CoreWant.{CoreWant}
-use Rattle.prem_gate.specs.declared.bus.CoreWant.TheVariants.{No, Held}
-use Rattle.prem_cycle.specs.State.{MachineState, rule_in}
-use Rattle.prem_cycle.specs.Core.{want_of}
-use Rattle.prem_cycle.specs.declared.state.Mode.{Mode}
-use Rattle.prem_cycle.specs.declared.state.Mode.TheVariants.{Point, Running}
-use Rattle.prem_cycle.proofs.Images.{marked}
-use Rattle.prem_pair.specs.declared.cycles.state.Holder.{Holder}
-use Rattle.prem_pair.specs.declared.cycles.state.Holder.TheVariants.{First}
-use Rattle.prem_pair.specs.Cycles.Token.{holder_after}
-use Rattle.prem_pair.specs.Cycles.Pair.{PairState, pair_cycle, pair_cycles}
-use Rattle.prem_pair.specs.Cycles.Apart.{AreApart, own_cycle}
+use Rattle.prem_pair.proofs.Prelude.{marked, want_of, MachineState, rule_in, Mode, Point, Running, CoreWant, No, Held, AreApart, own_cycle, PairState, pair_cycle, pair_cycles, holder_after}
+use Rattle.prem_pair.proofs.Prelude.{Holder, First, ◌≡◌, ℕ, true, false, [], refl, sym, ◌∙◌, arith}
 use Rattle.prem_pair.proofs.CyclesLemmas.Apart.{own_cycles}
 use Rattle.prem_pair.proofs.CyclesLemmas.Rows.{pair, same_set}
 

@@ -1,23 +1,8 @@
 -- A cycle of two cores in which no request arrives, the token stays, and the bus starts and ends nothing.
-use Rattle.std.specs.Prelude.{◌&&◌, is_some}
-use Rattle.std.proofs.Common.{◌≡◌, ◌≢◌, ℕ, Bool, false, cond, List, Option, None, refl, ap, ◌∙◌, All}
-use Rattle.prem_lru.specs.Entries.{ReplacementRule}
-use Rattle.prem_gate.specs.declared.request.Request.{Request}
-use Rattle.prem_gate.specs.declared.bus.CoreWant.{CoreWant}
-use Rattle.prem_gate.specs.declared.bus.CoreWant.TheVariants.{No, New, Held}
-use Rattle.prem_gate.specs.declared.bus.Transfer.{Transfer}
-use Rattle.prem_gate.specs.Gates.{GatesState, Turned, bus_turn, is_held}
-use Rattle.prem_gate.specs.Stretch.{OnlyGoesOn}
-use Rattle.prem_cycle.specs.State.{Setup, MachineState}
-use Rattle.prem_cycle.specs.Core.{want_of}
-use Rattle.prem_cycle.specs.Cycle.{Arrivals, next_cycle}
-use Rattle.prem_cycle.proofs.RunsLemmas.DullLemmas.Stretch.{none_arrives}
-use Rattle.prem_pair.specs.declared.cycles.state.Holder.{Holder}
-use Rattle.prem_pair.specs.declared.cycles.state.Holder.TheVariants.{Nobody, First, Second, Gates}
-use Rattle.prem_pair.specs.Cycles.Token.{asks, empty_window, given, holder_after, holder_with, is_first, is_second, some_wait, want_with, window_given}
-use Rattle.prem_pair.specs.Cycles.Pair.{PairState, acted, both_ticked, bus_first, bus_for, clashes, ended_in_place, first_acted, first_done, holder_at, no_arrivals, pair_cycle}
-use Rattle.prem_pair.specs.Cycles.Pair.{pair_cycle_with, second_acted, second_done}
-use Rattle.prem_pair.specs.Cycles.Rest.{wanted}
+use Rattle.prem_pair.proofs.Prelude.{none_arrives, want_of, Arrivals, next_cycle, Setup, MachineState, GatesState, Turned, bus_turn, is_held, OnlyGoesOn, CoreWant, No, New, Held, Transfer}
+use Rattle.prem_pair.proofs.Prelude.{Request, ReplacementRule, PairState, acted, both_ticked, bus_first, bus_for, clashes, ended_in_place, first_acted, first_done, holder_at, no_arrivals}
+use Rattle.prem_pair.proofs.Prelude.{pair_cycle, pair_cycle_with, second_acted, second_done, wanted, asks, empty_window, given, holder_after, holder_with, is_first, is_second, some_wait}
+use Rattle.prem_pair.proofs.Prelude.{want_with, window_given, Holder, Nobody, First, Second, Gates, ◌≡◌, ◌≢◌, ℕ, Bool, false, cond, List, Option, None, refl, ap, ◌∙◌, All, ◌&&◌, is_some}
 
 -- ---- the token
 

@@ -1,35 +1,16 @@
 -- Two cores whose cycles are their own: the cycles of one may be done before those of the other.
-use Rattle.std.specs.Prelude.{◌&&◌, ◌||◌, not, is_some}
-use Rattle.std.proofs.Common.{◌≡◌, ◌≢◌, ℕ, zero, suc, ◌+◌, ◌-◌, ◌≤◌, Bool, true, false, cond, List, [], Option, Some, None, refl, ap, sym, ◌∙◌, subst, arith, All}
-use Rattle.prem_isa.specs.declared.effect.Change.{Change}
-use Rattle.prem_isa.specs.declared.effect.Change.TheVariants.{Stay}
-use Rattle.prem_lru.specs.Entries.{ReplacementRule}
-use Rattle.prem_gate.specs.declared.request.Request.{Request}
-use Rattle.prem_gate.specs.declared.bus.CoreWant.{CoreWant}
-use Rattle.prem_gate.specs.declared.bus.CoreWant.TheVariants.{No}
-use Rattle.prem_gate.specs.Gates.{is_held, wants}
-use Rattle.prem_gate.proofs.Quiet.{no_core}
-use Rattle.prem_cycle.specs.declared.state.Mode.{Mode}
-use Rattle.prem_cycle.specs.declared.state.Mode.TheVariants.{Running}
-use Rattle.prem_cycle.specs.State.{Setup, Work, Counts, MachineState}
-use Rattle.prem_cycle.specs.Core.{CoreTurn, Issues, core_issued, core_turn, is_paid, want_of}
-use Rattle.prem_cycle.specs.declared.state.Trap.{Trap}
-use Rattle.prem_cycle.specs.Cycle.{is_finished, is_full, joined, next_cycle, with_clash}
+use Rattle.prem_pair.proofs.Prelude.{CoreTurn, Issues, core_issued, core_turn, is_paid, want_of, is_finished, is_full, joined, next_cycle, with_clash, Within, Setup, Work, Counts}
+use Rattle.prem_pair.proofs.Prelude.{MachineState, Mode, Running, Trap, no_core, is_held, wants, CoreWant, No, Request, Change, Stay, ReplacementRule, unclashed, AreApart, own_cycle}
+use Rattle.prem_pair.proofs.Prelude.{own_part, IsGoing, MayRunApart, OwnCycle, OwnRun, no_cycle, one_more, PairState, both_finished, is_pair_over, no_arrivals, pair_cycles, pair_step}
+use Rattle.prem_pair.proofs.Prelude.{rest_with, side_passed, stays_with, wanted, asks, frees, holder_after, is_first, is_second, some_wait, want_with, Holder, Nobody, First, Second, Gates}
+use Rattle.prem_pair.proofs.Prelude.{◌≡◌, ◌≢◌, ℕ, zero, suc, ◌+◌, ◌-◌, ◌≤◌, Bool, true, false, cond, List, [], Option, Some, None, refl, ap, sym, ◌∙◌, subst, arith, All, ◌&&◌, ◌||◌, not}
+use Rattle.prem_pair.proofs.Prelude.{is_some}
 use Rattle.prem_cycle.specs.Runs.Dull.Issuing.{idle_turn}
-use Rattle.prem_cycle.specs.Runs.Dull.Rest.{Within}
-use Rattle.prem_machine.proofs.Resting.{unclashed}
-use Rattle.prem_pair.specs.declared.cycles.state.Holder.{Holder}
-use Rattle.prem_pair.specs.declared.cycles.state.Holder.TheVariants.{Nobody, First, Second, Gates}
-use Rattle.prem_pair.specs.Cycles.Token.{asks, frees, holder_after, is_first, is_second, some_wait, want_with}
-use Rattle.prem_pair.specs.Cycles.Pair.{PairState, both_finished, is_pair_over, no_arrivals, pair_cycles, pair_step}
-use Rattle.prem_pair.specs.Cycles.Rest.{rest_with, side_passed, stays_with, wanted}
-use Rattle.prem_pair.specs.Cycles.Apart.{AreApart, own_cycle, own_part}
-use Rattle.prem_pair.specs.Cycles.Own.{IsGoing, MayRunApart, OwnCycle, OwnRun, no_cycle, one_more}
-use Rattle.prem_pair.proofs.CyclesLemmas.PairRuns.{pair_step-goes}
-use Rattle.prem_pair.proofs.CyclesLemmas.OneCycle.{SideGoes, paired}
-use Rattle.prem_pair.proofs.CyclesLemmas.Waiting.{asks_kept, finished_kept, frees_kept, want_kept}
-use Rattle.prem_pair.proofs.CyclesLemmas.Rests.{side_goes, unnot, waited, zero_side}
 use Rattle.prem_pair.proofs.CyclesLemmas.Apart.{own_cycles}
+use Rattle.prem_pair.proofs.CyclesLemmas.OneCycle.{SideGoes, paired}
+use Rattle.prem_pair.proofs.CyclesLemmas.PairRuns.{pair_step-goes}
+use Rattle.prem_pair.proofs.CyclesLemmas.Rests.{side_goes, unnot, waited, zero_side}
+use Rattle.prem_pair.proofs.CyclesLemmas.Waiting.{asks_kept, finished_kept, frees_kept, want_kept}
 
 -- ---- what such cycles keep
 
@@ -52,15 +33,6 @@ own_kept rule p holds want s (suc n) x (one_more _ t _ run c) =
       time = omega (arith, c.time, k.time);
       gates = c.gates ∙ k.gates;
     }
-
--- they follow each other
-pub own_then : (rule : ReplacementRule) (p : Setup) (holds : Bool) (want : CoreWant) (s t : MachineState) (m n : ℕ) (x : MachineState) →
-    OwnRun rule p holds want s m t → OwnRun rule p holds want t n x →
-    OwnRun rule p holds want s (m + n) x
-own_then rule p holds want s t m zero _ a no_cycle = let e : m ≡ m + 0 = omega arith in subst (λ k. OwnRun rule p holds want s k t) e a
-own_then rule p holds want s t m (suc n) x a (one_more _ u _ run c) =
-    let e : suc (m + n) ≡ m + suc n = omega arith in
-    subst (λ k. OwnRun rule p holds want s k x) e (one_more (m + n) u x (own_then rule p holds want s t m n u a run) c)
 
 pub own_one : (rule : ReplacementRule) (p : Setup) (holds : Bool) (want : CoreWant) (s x : MachineState) → OwnCycle rule p holds want s x → OwnRun rule p holds want s 1 x
 own_one rule p holds want s x c = one_more 0 s x no_cycle c

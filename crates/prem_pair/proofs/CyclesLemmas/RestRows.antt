@@ -1,19 +1,9 @@
 -- Two cores that rest, computed.
-use Rattle.std.specs.Prelude.{slice_index_or}
-use Rattle.std.proofs.Common.{◌≡◌, ℕ, zero, suc, ◌<◌, ◌≤◌, [], refl, arith}
-use Rattle.prem_sched.specs.declared.sched.TaskJobs.{TaskJobs}
-use Rattle.prem_gate.proofs.Quiet.{next_none}
-use Rattle.prem_cycle.specs.State.{rule_in}
-use Rattle.prem_cycle.specs.declared.state.Mode.{Mode}
-use Rattle.prem_cycle.specs.declared.state.Mode.TheVariants.{Point, Switching}
-use Rattle.prem_pair.specs.declared.cycles.state.Holder.{Holder}
-use Rattle.prem_pair.specs.declared.cycles.state.Holder.TheVariants.{First}
-use Rattle.prem_pair.specs.Cycles.Token.{empty_window}
-use Rattle.prem_pair.specs.Cycles.Pair.{PairState, pair_cycles}
-use Rattle.prem_pair.specs.Cycles.Rest.{IsSteadyPair, PairRests, pair_passed}
+use Rattle.prem_pair.proofs.Prelude.{rule_in, Mode, Point, Switching, next_none, PairState, pair_cycles, IsSteadyPair, PairRests, pair_passed, empty_window, Holder, First, TaskJobs, ◌≡◌, ℕ}
+use Rattle.prem_pair.proofs.Prelude.{zero, suc, ◌<◌, ◌≤◌, [], refl, arith, slice_index_or}
+use Rattle.prem_pair.proofs.CyclesLemmas.ApartRows.{behind}
 use Rattle.prem_pair.proofs.CyclesLemmas.Rests.{pair_one_step}
 use Rattle.prem_pair.proofs.CyclesLemmas.Rows.{same_set}
-use Rattle.prem_pair.proofs.CyclesLemmas.ApartRows.{behind}
 
 one_period : (k : ℕ) (d : TaskJobs) → k < 1 → 1 ≤ (slice_index_or (behind 1).first.sched k d).period
 unfolding pair_cycles

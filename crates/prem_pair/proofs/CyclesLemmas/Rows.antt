@@ -1,21 +1,12 @@
 -- Two cores, computed: a wrong number anywhere is refused.
-use Rattle.std.proofs.Common.{◌≡◌, ℕ, List, [], ◌∷◌, refl, Option, Some}
-use Rattle.prem_plant.specs.declared.plant.Replacement.TheVariants.{Lru, Fifo}
-use Rattle.prem_isa.specs.declared.effect.Cause.TheVariants.{Decode}
-use Rattle.prem_gate.specs.declared.request.Request.{Request}
-use Rattle.prem_gate.specs.declared.bus.Transfer.{Transfer}
-use Rattle.prem_cycle.specs.declared.facts.EndedInterval.{EndedInterval}
-use Rattle.prem_cycle.specs.declared.facts.DeviceFacts.{DeviceFacts}
-use Rattle.prem_cycle.specs.State.{Setup, Counts, rule_in}
-use Rattle.prem_cycle.specs.FactsOf.{Report, report_of}
-use Rattle.prem_cycle.proofs.Images.{bytes_in, marked, without_prefetch, alone, device, put}
-use Rattle.prem_cycle.proofs.Told.{task_told, compatible, predictable, counted, carried, gate}
+use Rattle.prem_pair.proofs.Prelude.{bytes_in, marked, without_prefetch, alone, device, put, Report, report_of, Setup, Counts, rule_in, DeviceFacts, Transfer, Request, PairState}
+use Rattle.prem_pair.proofs.Prelude.{pair_cycles, pair_run, pair_stop_of, Holder, Nobody, Second, PairStop, Finished, Limit, ◌≡◌, ℕ, List, [], ◌∷◌, refl, Option, Some}
 use Rattle.prem_cycle.proofs.RowsPolicies.{back_and_forth, two_lines}
-use Rattle.prem_pair.specs.declared.cycles.state.Holder.{Holder}
-use Rattle.prem_pair.specs.declared.cycles.state.Holder.TheVariants.{Nobody, Second}
-use Rattle.prem_pair.specs.declared.cycles.state.PairStop.{PairStop}
-use Rattle.prem_pair.specs.declared.cycles.state.PairStop.TheVariants.{Finished, Trap, Limit}
-use Rattle.prem_pair.specs.Cycles.Pair.{PairState, pair_cycles, pair_run, pair_stop_of}
+use Rattle.prem_cycle.proofs.Told.{task_told, compatible, predictable, counted, carried, gate}
+use Rattle.prem_cycle.specs.declared.facts.EndedInterval.{EndedInterval}
+use Rattle.prem_isa.specs.declared.effect.Cause.TheVariants.{Decode}
+use Rattle.prem_pair.specs.declared.cycles.state.PairStop.TheVariants.{Trap}
+use Rattle.prem_plant.specs.declared.plant.Replacement.TheVariants.{Lru, Fifo}
 
 -- n cycles of a run on these words, without input words
 abbrev pub pair : Setup → Setup → (first second : List ℕ) → List Request → ℕ → PairState

@@ -1,41 +1,20 @@
 -- What a cycle of two cores has for each of them: who holds the token has the bus, and no two want it.
-use Rattle.std.specs.Prelude.{All, is_some, ◌&&◌, ◌||◌, not}
-use Rattle.std.proofs.Common.{◌≡◌, ℕ, zero, suc, ◌/◌, ◌<◌, ◌≤◌, refl, ap, ◌∙◌, sym, subst, arith, Some, None, Option, true, false, Bool, List, [], ◌∷◌, length, get_or, IfSome, ⊎_elim}
-use Rattle.std.proofs.lemmas.Bool.{cases_Bool, cond_both}
-use Rattle.prem_sched.specs.declared.sched.TaskJobs.{TaskJobs}
-use Rattle.prem_sched.specs.declared.sched.Choice.{Choice}
-use Rattle.prem_sched.specs.declared.sched.Choice.TheVariants.{Run, Idle as Rest, Finished}
-use Rattle.prem_sched.specs.Schedule.{choice}
-use Rattle.prem_gate.specs.declared.request.Request.{Request}
-use Rattle.prem_gate.specs.declared.bus.Carried.{Carried}
-use Rattle.prem_gate.specs.declared.bus.CoreWant.{CoreWant}
-use Rattle.prem_gate.specs.declared.bus.CoreWant.TheVariants.{No}
-use Rattle.prem_gate.specs.Gates.{GateState, Turned, no_gate, wants, bus_turn}
-use Rattle.prem_image.specs.Records.{IsPlaced}
-use Rattle.prem_cycle.specs.declared.state.Mode.{Mode}
-use Rattle.prem_cycle.specs.declared.state.Mode.TheVariants.{Point, Switching, Running, Idle}
-use Rattle.prem_cycle.specs.State.{Setup, MachineState}
-use Rattle.prem_cycle.specs.Inputs.{IsRequest}
-use Rattle.prem_cycle.specs.Core.{want_of, CoreMove, Passes, phase_in}
-use Rattle.prem_cycle.specs.Cycle.{Arrivals, arrivals_at, with_memory, move_at, is_finish, is_finished_in, is_finished}
-use Rattle.prem_cycle.proofs.CoreCases.{move_cases}
-use Rattle.prem_cycle.specs.Runs.Position.Own.{IsFree}
-use Rattle.prem_cycle.specs.Runs.Window.Windows.{LiesInside, CarriesInside, IsQuiet}
-use Rattle.prem_cycle.proofs.RunsLemmas.PositionLemmas.MayMoves.{does, stands_still, MayMoveIn}
-use Rattle.prem_cycle.proofs.RunsLemmas.PositionLemmas.Gated.{AreGates, arrivals_gates, Turns, bus_turns, written_keeps}
-use Rattle.prem_cycle.proofs.RunsLemmas.WindowLemmas.Bus.{turn_quiet}
+use Rattle.prem_pair.proofs.Prelude.{move_cases, AreGates, arrivals_gates, Turns, bus_turns, written_keeps, does, stands_still, MayMoveIn, want_of, CoreMove, Passes, phase_in, Arrivals}
+use Rattle.prem_pair.proofs.Prelude.{arrivals_at, with_memory, move_at, is_finish, is_finished_in, is_finished, IsRequest, IsFree, Setup, MachineState, Mode, Point, Switching, Running, Idle}
+use Rattle.prem_pair.proofs.Prelude.{GateState, Turned, no_gate, wants, bus_turn, Carried, CoreWant, No, Request, IsPlaced, PairState, move_under, holder_at, bus_for, clashes, bus_first}
+use Rattle.prem_pair.proofs.Prelude.{bus_second, is_run, asks_in, asks, some_wait, given, holder_with, is_first, is_second, empty_window, window_got, window_given, want_with, is_gates}
+use Rattle.prem_pair.proofs.Prelude.{two_want, Holder, Nobody, First, Second, Gates, choice, Run, TaskJobs, Meets, needs_in, arrivals_carried, ◌≡◌, ℕ, zero, suc, ◌/◌, ◌<◌, ◌≤◌, refl, ap}
+use Rattle.prem_pair.proofs.Prelude.{◌∙◌, sym, subst, arith, Some, None, Option, true, false, Bool, List, [], ◌∷◌, length, get_or, IfSome, cond_both, is_some, ◌&&◌, not}
 use Rattle.prem_cycle.proofs.RunsLemmas.InputsLemmas.Wants.{and_second}
-use Rattle.prem_sound.proofs.ResidentLemmas.Clashes.{turn_serves}
-use Rattle.prem_sound.proofs.ResidentLemmas.Facing.{Meets}
-use Rattle.prem_sound.proofs.ResidentLemmas.Needs.{needs_in}
-use Rattle.prem_sound.proofs.ServeLemmas.Queues.{arrivals_carried}
-use Rattle.prem_pair.specs.declared.cycles.state.Holder.{Holder}
-use Rattle.prem_pair.specs.declared.cycles.state.Holder.TheVariants.{Nobody, First, Second, Gates}
-use Rattle.prem_pair.specs.Cycles.Token.{is_run, asks_in, asks, some_wait, given, holder_with, is_first, is_second, empty_window, window_got, window_given, want_with, is_gates, two_want}
-use Rattle.prem_pair.specs.Cycles.Pair.{PairState, move_under, holder_at, bus_for, clashes, bus_first, bus_second}
+use Rattle.prem_cycle.proofs.RunsLemmas.WindowLemmas.Bus.{turn_quiet}
+use Rattle.prem_cycle.specs.Runs.Window.Windows.{LiesInside, CarriesInside, IsQuiet}
+use Rattle.prem_pair.proofs.LawsLemmas.Gating.{transfers, Gated, HaveCosts, arrivals_gated, turn_goes_on, turn_got}
 use Rattle.prem_pair.proofs.LawsLemmas.Hosted.{Hosted, CoreHolds}
 use Rattle.prem_pair.proofs.LawsLemmas.Tokens.{core_needs, first_keeps, second_keeps, gates_keep}
-use Rattle.prem_pair.proofs.LawsLemmas.Gating.{transfers, Gated, HaveCosts, arrivals_gated, turn_goes_on, turn_got}
+use Rattle.prem_sched.specs.declared.sched.Choice.{Choice}
+use Rattle.prem_sched.specs.declared.sched.Choice.TheVariants.{Idle as Rest, Finished}
+use Rattle.prem_sound.proofs.ResidentLemmas.Clashes.{turn_serves}
+use Rattle.std.specs.Prelude.{All}
 
 -- ---- small facts
 
@@ -195,14 +174,6 @@ module _ (g k : Hosted) (requests : List Request) (d : HostsDevices g requests) 
   quiet_now e =
       subst (IsQuiet arrived_now.gates s.first.work.memory) (sym (bus_closed e))
       (turn_quiet s.first.now empty_window want_now arrived_now.gates s.first.work.memory (omega arith) (inside e))
-
-  no_transfer : is_gates holder_now ≡ false → transfers bus_now ≡ false
-  no_transfer e =
-      let q : IsQuiet arrived_now.gates s.first.work.memory bus_now = quiet_now e in
-      ap (λ o. is_some o || is_some bus_now.gates.carried) q.ends_none ∙ ap (λ (o : Option Carried). is_some o) q.after
-
-  transfers_gates : transfers bus_now ≡ true → is_gates holder_now ≡ true
-  transfers_gates e = ⊎_elim (λ (x : is_gates holder_now ≡ true). x) (λ (x : is_gates holder_now ≡ false). let y : true ≡ false = sym e ∙ no_transfer x in absurd cc) (cases_Bool (is_gates holder_now))
 
   -- where they have it, a transfer has the bus
   got_from : (before : Holder) → is_gates before ≡ is_some arrived_now.gates.carried → is_gates (holder_with before (asks s.first) (asks s.second) (some_wait arrived_now.gates.gates)) ≡ true →

@@ -1,39 +1,21 @@
 -- Two cores whose tasks keep to their scripts have finished by their limit.
-use Rattle.std.specs.Prelude.{is_some, ◌&&◌, ◌||◌, max, sum_by}
-use Rattle.std.proofs.Common.{◌≡◌, ℕ, zero, suc, ◌+◌, ◌<◌, ◌≤◌, refl, ap, ◌∙◌, sym, arith, true, false, Bool, List, [], ◌∷◌, length, map, get_or, ⊎_elim}
-use Rattle.std.proofs.lemmas.Bool.{cases_Bool, cond_both}
-use Rattle.std.proofs.lemmas.List.Sums.{sum_by-cons}
-use Rattle.prem_plant.specs.Order.Order.{OrderRule}
-use Rattle.prem_isa.specs.Plain.{TaskRun}
-use Rattle.prem_lru.specs.Entries.{ReplacementRule}
-use Rattle.prem_gate.specs.declared.request.Request.{Request}
-use Rattle.prem_gate.specs.Gates.{GateState, gate_at, gate_of, gates_of}
-use Rattle.prem_image.specs.declared.image.DeviceRecord.{DeviceRecord}
-use Rattle.prem_cycle.specs.State.{Setup, start_of}
-use Rattle.prem_cycle.specs.Inputs.{no_device}
-use Rattle.prem_cycle.specs.Run.{memory_of}
-use Rattle.prem_cycle.specs.Cycle.{is_finished, is_full}
-use Rattle.prem_cycle.proofs.RunsLemmas.PositionLemmas.Gated.{AreGates}
+use Rattle.prem_pair.proofs.Prelude.{AreGates, is_finished, is_full, no_device, memory_of, Setup, GateState, gate_at, gate_of, gates_of, Request, TaskRun, ReplacementRule, PairState}
+use Rattle.prem_pair.proofs.Prelude.{pair_cycle, both_finished, one_trapped, one_full, is_pair_over, pair_step, pair_cycles, pair_start, pair_run, pair_limit, HasTotals, total_of}
+use Rattle.prem_pair.proofs.Prelude.{PairsFinish, PairsFinishByTotals, OrderRule, start_lasts, start_faultless, start_needs, first_no, start_timed, core_most, core_before, core_room}
+use Rattle.prem_pair.proofs.Prelude.{IsPolicy, Script, last_release, AreScripts, IsRun, ◌≡◌, ℕ, zero, suc, ◌+◌, ◌<◌, ◌≤◌, refl, ap, ◌∙◌, arith, true, false, Bool, List, [], ◌∷◌, length, map}
+use Rattle.prem_pair.proofs.Prelude.{get_or, ⊎_elim, cases_Bool, cond_both, sum_by-cons, is_some, ◌&&◌, ◌||◌, sum_by}
 use Rattle.prem_cycle.proofs.RunsLemmas.PositionLemmas.Runs.{runs_of}
 use Rattle.prem_cycle.proofs.RunsLemmas.PositionLemmas.Starts.{start_all}
 use Rattle.prem_cycle.proofs.RunsLemmas.WindowLemmas.Cycles.{start_closes}
-use Rattle.prem_sound.specs.Script.Script.{Script}
-use Rattle.prem_sound.specs.Script.Scripts.{last_release, AreScripts}
-use Rattle.prem_sound.specs.Resident.Faultless.{IsPolicy}
-use Rattle.prem_sound.specs.Scopes.Charged.{each_alone}
-use Rattle.prem_sound.specs.Sound.{IsRun}
-use Rattle.prem_sound.proofs.ResidentLemmas.Facing.{start_faultless}
-use Rattle.prem_sound.proofs.ResidentLemmas.Needs.{start_needs}
-use Rattle.prem_sound.proofs.Lasting.{start_lasts}
-use Rattle.prem_sound.proofs.ScopesLemmas.Alone.{all_same, alone_is_scoped}
-use Rattle.prem_sound.proofs.Timing.{first_no, start_timed, core_most, core_before, core_room}
-use Rattle.prem_pair.specs.Cycles.Pair.{PairState, pair_cycle, both_finished, one_trapped, one_full, is_pair_over, pair_step, pair_cycles, pair_start, pair_run}
-use Rattle.prem_pair.specs.Laws.PairSound.{pair_limit, HasTotals, total_of, PairsFinish, PairsFinishByTotals}
+use Rattle.prem_cycle.specs.State.{start_of}
+use Rattle.prem_image.specs.declared.image.DeviceRecord.{DeviceRecord}
 use Rattle.prem_pair.proofs.CyclesLemmas.PairTime.{pair_run-now}
-use Rattle.prem_pair.proofs.LawsLemmas.Hosted.{Hosted, CoreHolds}
-use Rattle.prem_pair.proofs.LawsLemmas.Gating.{Gated, load, asked_most}
 use Rattle.prem_pair.proofs.LawsLemmas.Facts.{HostsDevices}
+use Rattle.prem_pair.proofs.LawsLemmas.Gating.{Gated, load, asked_most}
 use Rattle.prem_pair.proofs.LawsLemmas.Holds.{PairHolds, cycle_holds}
+use Rattle.prem_pair.proofs.LawsLemmas.Hosted.{Hosted, CoreHolds}
+use Rattle.prem_sound.proofs.ScopesLemmas.Alone.{all_same, alone_is_scoped}
+use Rattle.prem_sound.specs.Scopes.Charged.{each_alone}
 
 -- ---- a core with its scripts
 
@@ -182,11 +164,6 @@ module _ (rule other : ReplacementRule) (order order' : OrderRule) (passes passe
   unfolding pair_cycles
   run_holds zero = start_holds Nothing tt
   run_holds (suc n) = step_holds (after n) (run_holds n)
-
-  -- ---- before the limit
-
-  abbrev last : ℕ
-  last = max (last_release p.tasks) (last_release q.tasks)
 
   abbrev limit : ℕ
   limit = pair_limit p q (total_of p t.total) (total_of q t'.total) requests

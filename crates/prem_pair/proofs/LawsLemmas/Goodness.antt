@@ -1,49 +1,25 @@
 -- Every state of a run of two cores whose tasks keep to their scripts is good.
-use Rattle.std.specs.Prelude.{is_some, ◌==◌, slice_set}
-use Rattle.std.proofs.Common.{◌≡◌, ℕ, zero, suc, ◌+◌, ◌<◌, refl, ap, ◌∙◌, sym, subst, arith, cond, true, false, Bool, List, [], ◌++◌, length, map}
-use Rattle.std.proofs.lemmas.Bool.{cond_both}
-use Rattle.std.proofs.lemmas.List.{append-nil, append_assoc}
-use Rattle.std.proofs.lemmas.List.Elements.{filter-append}
-use Rattle.prem_plant.specs.Places.{AreApart}
-use Rattle.prem_plant.specs.Order.Order.{OrderRule}
-use Rattle.prem_sched.specs.declared.sched.TaskJobs.{TaskJobs}
-use Rattle.prem_isa.specs.Plain.{TaskRun, with_last}
-use Rattle.prem_lru.specs.Entries.{ReplacementRule}
-use Rattle.prem_gate.specs.declared.request.Request.{Request}
-use Rattle.prem_gate.specs.declared.bus.Transfer.{Transfer}
-use Rattle.prem_gate.specs.Gates.{GatesState, Turned}
-use Rattle.prem_image.specs.Records.{area_of}
-use Rattle.prem_cycle.specs.State.{Setup, record_of, Work, CoreState, Counts, MachineState, task_in}
-use Rattle.prem_cycle.specs.Issue.{issued_by, task_after}
-use Rattle.prem_cycle.specs.Core.{CoreMove, Passes, Issues, want_of, core_issue, core_turn}
-use Rattle.prem_cycle.specs.Cycle.{Arrivals, with_memory, with_clash, with_now, next_cycle, ticked}
-use Rattle.prem_cycle.specs.Run.{memory_of}
-use Rattle.prem_cycle.proofs.CycleParts.{settle_keeps}
-use Rattle.prem_cycle.proofs.RunsLemmas.PositionLemmas.Stands.{Stands, Issuing}
+use Rattle.prem_pair.proofs.Prelude.{settle_keeps, arrivals_gates, bump_move, issuing, CoreMove, Passes, Issues, want_of, core_issue, core_turn, Arrivals, with_memory, with_clash, with_now}
+use Rattle.prem_pair.proofs.Prelude.{next_cycle, ticked, issued_by, task_after, memory_of, Setup, record_of, Work, CoreState, Counts, MachineState, task_in, GatesState, Turned, Transfer}
+use Rattle.prem_pair.proofs.Prelude.{Request, area_of, TaskRun, with_last, ReplacementRule, PairState, pair_cycle, both_finished, one_trapped, one_full, is_pair_over, pair_step, pair_cycles}
+use Rattle.prem_pair.proofs.Prelude.{pair_start, pair_run, window_given, want_with, pair_queued, PairGood, HasTotals, PairsAreGood, OrderRule, TaskJobs, queue_at, held, turn_held}
+use Rattle.prem_pair.proofs.Prelude.{arrivals_queue, arrivals_carried, start_held, first_no, IsPolicy, Script, Promise, AreScripts, AreKept, found_room, asked_of, transferred_of, carried_of}
+use Rattle.prem_pair.proofs.Prelude.{held_of, GetsLastPuts, IsRun, ◌≡◌, ℕ, zero, suc, ◌+◌, ◌<◌, refl, ap, ◌∙◌, sym, subst, arith, cond, true, false, Bool, List, [], ◌++◌, length, map}
+use Rattle.prem_pair.proofs.Prelude.{cond_both, append-nil, append_assoc, filter-append, is_some, ◌==◌, slice_set}
 use Rattle.prem_cycle.proofs.RunsLemmas.PositionLemmas.Schedules.{Moves as Scheduled}
-use Rattle.prem_cycle.proofs.RunsLemmas.PositionLemmas.Turns.{bump_move, issuing}
-use Rattle.prem_cycle.proofs.RunsLemmas.PositionLemmas.Gated.{arrivals_gates}
-use Rattle.prem_sound.specs.Script.Script.{Script}
-use Rattle.prem_sound.specs.Script.Scripts.{Promise, AreScripts, AreKept}
-use Rattle.prem_sound.specs.Resident.Faultless.{IsPolicy}
-use Rattle.prem_sound.specs.Serve.Requests.{found_room, asked_of, transferred_of, carried_of, held_of, GetsLastPuts}
-use Rattle.prem_sound.specs.Sound.{IsRun}
-use Rattle.prem_sound.proofs.ServeLemmas.Queues.{queue_at, held, turn_held, arrivals_queue, arrivals_carried, start_held}
-use Rattle.prem_sound.proofs.ServeLemmas.Puts.{HoldAll, arrivals_all, turn_all, start_all as start_puts}
-use Rattle.prem_sound.proofs.ServeLemmas.Words.{AreWords, PutsWord, turn_words, issue_words}
-use Rattle.prem_sound.proofs.ServeLemmas.WordRuns.{start_words, no_gets}
-use Rattle.prem_sound.proofs.Marking.{MarksIn, core_marks, start_marks, core_gives}
-use Rattle.prem_sound.proofs.Timing.{first_no}
-use Rattle.prem_pair.specs.Cycles.Token.{window_given, want_with}
-use Rattle.prem_pair.specs.Cycles.Pair.{PairState, pair_cycle, both_finished, one_trapped, one_full, is_pair_over, pair_step, pair_cycles, pair_start, pair_run}
-use Rattle.prem_pair.specs.Laws.PairSound.{pair_queued, PairGood, HasTotals, PairsAreGood}
+use Rattle.prem_cycle.proofs.RunsLemmas.PositionLemmas.Stands.{Stands, Issuing}
 use Rattle.prem_pair.proofs.CyclesLemmas.PairRuns.{pair_cycles-next, pair_step-goes}
 use Rattle.prem_pair.proofs.CyclesLemmas.PairTime.{pair_run-now}
-use Rattle.prem_pair.proofs.LawsLemmas.Hosted.{Hosted, CoreSteps}
 use Rattle.prem_pair.proofs.LawsLemmas.Facts.{HostsDevices}
-use Rattle.prem_pair.proofs.LawsLemmas.Holds.{PairHolds, holds_more, cycle_holds, next_is, ended, arriving, holder, bus, bus0, bus1, move0, move1, acted0, acted1, meets0, meets1}
-use Rattle.prem_pair.proofs.LawsLemmas.Holds.{steps0, steps1, same_gates}
 use Rattle.prem_pair.proofs.LawsLemmas.Finishing.{due_totals, host, guest, devices, start_holds}
+use Rattle.prem_pair.proofs.LawsLemmas.Holds.{PairHolds, holds_more, cycle_holds, next_is, ended, arriving, holder, bus, bus0, bus1, move0, move1, acted0, acted1, meets0, meets1, steps0}
+use Rattle.prem_pair.proofs.LawsLemmas.Holds.{steps1, same_gates}
+use Rattle.prem_pair.proofs.LawsLemmas.Hosted.{Hosted, CoreSteps}
+use Rattle.prem_plant.specs.Places.{AreApart}
+use Rattle.prem_sound.proofs.Marking.{MarksIn, core_marks, start_marks, core_gives}
+use Rattle.prem_sound.proofs.ServeLemmas.Puts.{HoldAll, arrivals_all, turn_all, start_all as start_puts}
+use Rattle.prem_sound.proofs.ServeLemmas.WordRuns.{start_words, no_gets}
+use Rattle.prem_sound.proofs.ServeLemmas.Words.{AreWords, PutsWord, turn_words, issue_words}
 
 -- ---- the words of the devices
 

@@ -1,36 +1,17 @@
 -- Over a run of two cores all that is known of each core holds, and time is spent by a core that works, by a transfer, or before the
 -- last release.
-use Rattle.std.specs.Prelude.{is_some, ◌&&◌, not, max}
-use Rattle.std.proofs.Common.{◌≡◌, ℕ, ◌+◌, ◌<◌, ◌≤◌, refl, ap, ◌∙◌, sym, subst, arith, cond, Option, true, false, Bool, List, ◌⊎◌, inl, inr, ⊎_elim}
-use Rattle.std.proofs.lemmas.Bool.{cases_Bool, cond_both}
-use Rattle.prem_gate.specs.declared.request.Request.{Request}
-use Rattle.prem_gate.specs.declared.bus.Carried.{Carried}
-use Rattle.prem_gate.specs.Gates.{GatesState, Turned, wants}
-use Rattle.prem_cycle.specs.declared.state.Mode.{Mode}
-use Rattle.prem_cycle.specs.declared.state.Mode.TheVariants.{Point, Switching, Running, Idle}
-use Rattle.prem_cycle.specs.State.{MachineState}
-use Rattle.prem_cycle.specs.Issue.{one_if}
-use Rattle.prem_cycle.specs.Core.{want_of, CoreMove, Passes, Issues, phase_in}
-use Rattle.prem_cycle.specs.Cycle.{Arrivals, with_memory, move_at, joined, with_now, next_cycle, ticked, is_finished}
-use Rattle.prem_cycle.proofs.CoreCases.{move_cases}
-use Rattle.prem_cycle.proofs.CycleParts.{settle_keeps}
-use Rattle.prem_cycle.proofs.RunsLemmas.PositionLemmas.MayMoves.{turn_with}
-use Rattle.prem_cycle.proofs.RunsLemmas.PositionLemmas.Turns.{bump_move}
-use Rattle.prem_cycle.proofs.RunsLemmas.PositionLemmas.Gated.{AreGates}
-use Rattle.prem_sound.specs.Script.Scripts.{last_release}
-use Rattle.prem_sound.proofs.ResidentLemmas.Facing.{Meets}
-use Rattle.prem_sound.proofs.Spends.{off_after, off_behind}
-use Rattle.prem_sound.proofs.Timing.{core_off}
-use Rattle.prem_pair.specs.declared.cycles.state.Holder.{Holder}
-use Rattle.prem_pair.specs.declared.cycles.state.Holder.TheVariants.{Nobody, First, Second, Gates}
-use Rattle.prem_pair.specs.Cycles.Token.{asks, some_wait, holder_with, is_first, is_second, is_gates, holder_after, window_given, want_with}
-use Rattle.prem_pair.specs.Cycles.Pair.{PairState, move_under, no_arrivals, both_ticked, second_done, first_done, ended_in_place, pair_cycle, both_finished}
-use Rattle.prem_pair.proofs.LawsLemmas.Hosted.{Hosted, CoreHolds, CoreSteps, core_steps}
-use Rattle.prem_pair.proofs.LawsLemmas.Tokens.{core_needs, StillHolds, LetMove, let_moves, held_still, let_still, first_after, second_after, gates_after, first_had, second_had}
-use Rattle.prem_pair.proofs.LawsLemmas.Tokens.{first_keeps, second_keeps}
-use Rattle.prem_pair.proofs.LawsLemmas.Gating.{transfers, turn_one, Gated, load, asked_before, asked_next, arrivals_load, turn_load, turn_gated}
+use Rattle.prem_pair.proofs.Prelude.{move_cases, settle_keeps, AreGates, turn_with, bump_move, want_of, CoreMove, Passes, Issues, phase_in, Arrivals, with_memory, move_at, joined, with_now}
+use Rattle.prem_pair.proofs.Prelude.{next_cycle, ticked, is_finished, one_if, MachineState, Mode, Point, Switching, Running, Idle, GatesState, Turned, wants, Carried, Request, PairState}
+use Rattle.prem_pair.proofs.Prelude.{move_under, no_arrivals, both_ticked, second_done, first_done, ended_in_place, pair_cycle, both_finished, asks, some_wait, holder_with, is_first}
+use Rattle.prem_pair.proofs.Prelude.{is_second, is_gates, holder_after, window_given, want_with, Holder, Nobody, First, Second, Gates, Meets, off_after, off_behind, core_off, last_release}
+use Rattle.prem_pair.proofs.Prelude.{◌≡◌, ℕ, ◌+◌, ◌<◌, ◌≤◌, refl, ap, ◌∙◌, sym, subst, arith, cond, Option, true, false, Bool, List, ◌⊎◌, inl, inr, ⊎_elim, cases_Bool, cond_both, is_some}
+use Rattle.prem_pair.proofs.Prelude.{◌&&◌, not, max}
 use Rattle.prem_pair.proofs.LawsLemmas.Facts.{not_true, both_true, quiet_now, finished_asks, finished_needs, HostsDevices, Tokened, arrived_now, holder_now, bus_now, gated_now}
 use Rattle.prem_pair.proofs.LawsLemmas.Facts.{gates_transfer, turned_first, turned_second, move_first, move_second, gates_next, first_meets, second_meets}
+use Rattle.prem_pair.proofs.LawsLemmas.Gating.{transfers, turn_one, Gated, load, asked_before, asked_next, arrivals_load, turn_load, turn_gated}
+use Rattle.prem_pair.proofs.LawsLemmas.Hosted.{Hosted, CoreHolds, CoreSteps, core_steps}
+use Rattle.prem_pair.proofs.LawsLemmas.Tokens.{core_needs, StillHolds, LetMove, let_moves, held_still, let_still, first_after, second_after, gates_after, first_had, second_had, first_keeps}
+use Rattle.prem_pair.proofs.LawsLemmas.Tokens.{second_keeps}
 
 -- ---- one core
 
@@ -154,12 +135,6 @@ first_holds Gates a b w e f = inr refl
 first_holds Nobody true b w e f = inl refl
 first_holds Nobody false true w e f = absurd (let x : true ≡ false = e in cc)
 first_holds Nobody false false w e f = absurd (let x : false ≡ true = f in cc)
-
-not_both : (h : Holder) → is_first h ≡ true → is_second h ≡ true → ⊥
-not_both Nobody e f = let x : false ≡ true = e in cc
-not_both First e f = let x : false ≡ true = f in cc
-not_both Second e f = let x : false ≡ true = e in cc
-not_both Gates e f = let x : false ≡ true = e in cc
 
 -- ---- both
 

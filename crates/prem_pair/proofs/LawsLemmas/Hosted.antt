@@ -1,26 +1,11 @@
 -- A core with its tasks, their bytes and scripts: what is known of it in a state, and that a cycle keeps this, whatever the bus does
 -- that serves it, and however long it is kept waiting at scheduling points.
-use Rattle.std.specs.Prelude.{All}
-use Rattle.std.proofs.Common.{◌≡◌, ℕ, ◌<◌, ◌≤◌, Bool, length}
-use Rattle.prem_plant.specs.Order.Order.{OrderRule}
-use Rattle.prem_isa.specs.Plain.{TaskRun}
-use Rattle.prem_lru.specs.Entries.{ReplacementRule}
-use Rattle.prem_gate.specs.Gates.{Turned}
+use Rattle.prem_pair.proofs.Prelude.{turn_with, Runs, bump_move, CoreMove, phase_in, Arrivals, joined, ticked, Setup, record_of, MachineState, Turned, TaskRun, ReplacementRule, HasTotals}
+use Rattle.prem_pair.proofs.Prelude.{OrderRule, Lasts, core_lasts, KnownCore, Meets, Faces, Comes, faces, comes, core_keeps, core_known, NeedsIn, TurnNeeds, core_turns, ticked_needs}
+use Rattle.prem_pair.proofs.Prelude.{off_behind, Timed, core_timed, IsPolicy, Script, ◌≡◌, ℕ, ◌<◌, ◌≤◌, Bool, length}
 use Rattle.prem_image.specs.declared.image.TaskRecord.{TaskRecord}
-use Rattle.prem_cycle.specs.State.{Setup, record_of, MachineState}
-use Rattle.prem_cycle.specs.Core.{CoreMove, phase_in}
-use Rattle.prem_cycle.specs.Cycle.{Arrivals, joined, ticked}
-use Rattle.prem_cycle.proofs.RunsLemmas.PositionLemmas.MayMoves.{turn_with}
-use Rattle.prem_cycle.proofs.RunsLemmas.PositionLemmas.Turns.{Runs, bump_move}
-use Rattle.prem_sound.specs.Script.Script.{Script}
-use Rattle.prem_sound.specs.Resident.Faultless.{IsPolicy}
 use Rattle.prem_sound.proofs.ResidentLemmas.Keeps.{KeepScripts, Keeps}
-use Rattle.prem_sound.proofs.ResidentLemmas.Facing.{KnownCore, Meets, Faces, Comes, faces, comes, core_keeps, core_known}
-use Rattle.prem_sound.proofs.ResidentLemmas.Needs.{NeedsIn, TurnNeeds, core_turns, ticked_needs}
-use Rattle.prem_sound.proofs.Lasting.{Lasts, core_lasts}
-use Rattle.prem_sound.proofs.Spends.{off_behind}
-use Rattle.prem_sound.proofs.Timing.{Timed, core_timed}
-use Rattle.prem_pair.specs.Laws.PairSound.{HasTotals}
+use Rattle.std.specs.Prelude.{All}
 
 pub record Hosted : Type 0 where
   pub rule : ReplacementRule

@@ -1,14 +1,6 @@
 -- Two images whose tasks have scripts for all input words are sound together.
-use Rattle.std.specs.Prelude.{max}
-use Rattle.std.proofs.Common.{◌≡◌, ℕ, ◌+◌, ◌≤◌, arith, List, []}
-use Rattle.std.proofs.lemmas.List.Elements.{All-nil}
-use Rattle.prem_gate.specs.declared.request.Request.{Request}
-use Rattle.prem_cycle.specs.State.{Setup}
-use Rattle.prem_cycle.specs.Inputs.{IsTrace, IsRequest}
-use Rattle.prem_sound.specs.Script.Scripts.{Promise, last_release}
-use Rattle.prem_sound.specs.Serve.Requests.{PutWords}
-use Rattle.prem_sound.specs.Sound.{IsRun, HasScripts}
-use Rattle.prem_pair.specs.Laws.PairSound.{last_request, all_costs, due_of, ScriptsFor, GivesScripts, PairsOfImagesAreSound}
+use Rattle.prem_pair.proofs.Prelude.{IsTrace, IsRequest, Setup, Request, last_request, all_costs, due_of, ScriptsFor, GivesScripts, PairsOfImagesAreSound, Promise, last_release, PutWords}
+use Rattle.prem_pair.proofs.Prelude.{IsRun, HasScripts, ◌≡◌, ℕ, ◌+◌, ◌≤◌, arith, List, [], All-nil, max}
 use Rattle.prem_pair.proofs.LawsLemmas.Finishing.{pairs_finish}
 use Rattle.prem_pair.proofs.LawsLemmas.Goodness.{pairs_are_good}
 

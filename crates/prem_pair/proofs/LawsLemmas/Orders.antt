@@ -1,15 +1,8 @@
 -- The requests of a run of two cores that find room are some of those that were asked, in order.
-use Rattle.std.specs.List.Sorted.{IsNonDecreasingBy}
-use Rattle.std.proofs.Common.{◌≡◌, ℕ, zero, suc, ◌+◌, refl, sym, subst, arith, cond, true, false, Bool, List, [], ◌++◌}
-use Rattle.prem_lru.specs.Entries.{ReplacementRule}
-use Rattle.prem_gate.specs.declared.request.Request.{Request}
-use Rattle.prem_cycle.specs.State.{Setup}
-use Rattle.prem_cycle.specs.Run.{memory_of}
-use Rattle.prem_sound.specs.Serve.Requests.{found_room, AreAmong, asked_before}
-use Rattle.prem_sound.proofs.ServeLemmas.Orders.{among_append, none_among, asked_at, room_among, before_next}
-use Rattle.prem_pair.specs.Cycles.Pair.{PairState, is_pair_over, pair_cycles, pair_run, pair_start}
-use Rattle.prem_pair.specs.Laws.PairSound.{pair_coming, pair_queued, PairRoomIsFoundInOrder}
+use Rattle.prem_pair.proofs.Prelude.{memory_of, Request, PairState, is_pair_over, pair_cycles, pair_run, pair_start, pair_coming, pair_queued, PairRoomIsFoundInOrder, found_room, AreAmong}
+use Rattle.prem_pair.proofs.Prelude.{asked_before, ◌≡◌, ℕ, zero, suc, ◌+◌, refl, sym, subst, arith, cond, true, false, Bool, List, [], ◌++◌}
 use Rattle.prem_pair.proofs.CyclesLemmas.PairTime.{pair_run-now}
+use Rattle.prem_sound.proofs.ServeLemmas.Orders.{among_append, none_among, asked_at, room_among, before_next}
 
 coming_among : (n : ℕ) (requests : List Request) (s : PairState) → (is_pair_over s ≡ false → s.first.now ≡ n) → AreAmong (pair_coming requests s) (asked_at n requests)
 coming_among n requests s now = by (is_pair_over s) refl where

@@ -1,27 +1,15 @@
 -- A core holds the token just where it needs the bus.
-use Rattle.std.specs.Prelude.{◌&&◌, not, is_some}
-use Rattle.std.proofs.Common.{◌≡◌, ℕ, zero, ◌+◌, ◌∙◌, refl, ap, sym, subst, ltb, true, false, Bool, List, ◌⊎◌, inl, inr}
-use Rattle.std.proofs.lemmas.Bool.{cond_both}
-use Rattle.prem_sched.specs.declared.sched.TaskJobs.{TaskJobs}
+use Rattle.prem_pair.proofs.Prelude.{MoveCase, pays_on_bus, is_denied, pays_cost, waits, switches, begins, chooses, chooses_now, begins_idle, has_finished, idles, Continues, turn_with}
+use Rattle.prem_pair.proofs.Prelude.{is_paid, CoreMove, Passes, Issues, phase_in, CoreTurn, core_turn, Arrivals, with_memory, with_clash, joined, ends_before, at_point, close_interval}
+use Rattle.prem_pair.proofs.Prelude.{settle, with_now, next_cycle, ticked, is_execution, Setup, Work, CoreState, Counts, MachineState, Mode, Point, Switching, Running, Idle, Turned, Change}
+use Rattle.prem_pair.proofs.Prelude.{Stay, Memory, Execute, End, Job, is_run, asks_in, asks, holder_with, is_first, is_second, is_gates, is_execute, frees_in, frees, holder_after, Holder}
+use Rattle.prem_pair.proofs.Prelude.{Nobody, First, Second, Gates, TaskJobs, may_miss, needs_in, IssuesSo, TurnNeeds, ◌≡◌, ℕ, zero, ◌+◌, ◌∙◌, refl, ap, sym, subst, ltb, true, false, Bool}
+use Rattle.prem_pair.proofs.Prelude.{List, ◌⊎◌, inl, inr, cond_both, ◌&&◌, not, is_some}
+use Rattle.prem_cycle.proofs.CoreCases.{goes_on}
 use Rattle.prem_isa.specs.declared.effect.Phase.{Phase}
 use Rattle.prem_isa.specs.declared.effect.Phase.TheVariants.{Compatible, Memory as MemoryPhase, Execution}
-use Rattle.prem_isa.specs.declared.effect.Change.{Change}
-use Rattle.prem_isa.specs.declared.effect.Change.TheVariants.{Stay, Memory, Execute, End, Job}
-use Rattle.prem_gate.specs.Gates.{Turned}
-use Rattle.prem_cycle.specs.declared.state.Mode.{Mode}
-use Rattle.prem_cycle.specs.declared.state.Mode.TheVariants.{Point, Switching, Running, Idle}
-use Rattle.prem_cycle.specs.State.{Setup, Work, CoreState, Counts, MachineState}
-use Rattle.prem_cycle.specs.Issue.{is_execution}
-use Rattle.prem_cycle.specs.Core.{is_paid, CoreMove, Passes, Issues, phase_in, CoreTurn, core_turn}
-use Rattle.prem_cycle.specs.Cycle.{Arrivals, with_memory, with_clash, joined, ends_before, at_point, close_interval, settle, with_now, next_cycle, ticked}
-use Rattle.prem_cycle.proofs.CoreCases.{MoveCase, pays_on_bus, is_denied, pays_cost, waits, goes_on, switches, begins, chooses, chooses_now, begins_idle, has_finished, idles, Continues}
-use Rattle.prem_cycle.proofs.RunsLemmas.PositionLemmas.MayMoves.{turn_with}
-use Rattle.prem_sound.proofs.ResidentLemmas.Residents.{opens}
-use Rattle.prem_sound.proofs.ResidentLemmas.Needs.{may_miss, needs_in, IssuesSo, TurnNeeds}
-use Rattle.prem_pair.specs.declared.cycles.state.Holder.{Holder}
-use Rattle.prem_pair.specs.declared.cycles.state.Holder.TheVariants.{Nobody, First, Second, Gates}
-use Rattle.prem_pair.specs.Cycles.Token.{is_run, asks_in, asks, holder_with, is_first, is_second, is_gates, is_execute, frees_in, frees, holder_after}
 use Rattle.prem_pair.proofs.LawsLemmas.Hosted.{Hosted}
+use Rattle.prem_sound.proofs.ResidentLemmas.Residents.{opens}
 
 abbrev pub core_needs : MachineState → Bool
 core_needs s = needs_in (phase_in s.work) s.core.mark s.core.mode

@@ -1,15 +1,10 @@
 -- The marked function that is worked out, on both cores: it meets what the laws ask for.
-use Rattle.std.proofs.Common.{◌≡◌, ℕ, ◌≤◌, refl, arith, true, [], length}
-use Rattle.prem_plant.specs.Order.Order.{lru, one_pass}
-use Rattle.prem_lru.specs.Entries.{to_front}
-use Rattle.prem_cycle.proofs.Images.{bytes_in, marked}
-use Rattle.prem_sound.specs.Scopes.Strands.{scoping_of}
+use Rattle.prem_pair.proofs.Prelude.{bytes_in, marked, to_front, both_finished, pair_run, HasTotals, lru, one_pass, ◌≡◌, ℕ, ◌≤◌, refl, arith, true, [], length}
+use Rattle.prem_pair.proofs.LawsLemmas.Finishing.{pairs_finish, pairs_finish_by_totals}
+use Rattle.prem_sound.proofs.ScopesLemmas.Worked.{script, strand, worked_charged, worked_total}
 use Rattle.prem_sound.proofs.ScriptLemmas.Tests.{below}
 use Rattle.prem_sound.proofs.Worked.{setup, run, script_of, dids, worked_scripts, lru_policy, worked_is}
-use Rattle.prem_sound.proofs.ScopesLemmas.Worked.{script, strand, worked_charged, worked_total}
-use Rattle.prem_pair.specs.Cycles.Pair.{both_finished, pair_run}
-use Rattle.prem_pair.specs.Laws.PairSound.{HasTotals}
-use Rattle.prem_pair.proofs.LawsLemmas.Finishing.{pairs_finish, pairs_finish_by_totals}
+use Rattle.prem_sound.specs.Scopes.Strands.{scoping_of}
 
 -- both have finished by cycle 1950
 two_finish : (n : ℕ) → 1950 ≤ n → both_finished (pair_run to_front to_front setup setup (bytes_in marked) (bytes_in marked) [] [] [] n) ≡ true

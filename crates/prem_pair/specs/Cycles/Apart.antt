@@ -1,16 +1,10 @@
 -- Cycles in which two cores don't touch each other. Time is in cycles.
-use Rattle.std.specs.Prelude.{◌≡◌, ◌≢◌, ◌&&◌, is_some, Bool, true, false, List, None, All}
-use Rattle.prem_lru.specs.Entries.{ReplacementRule}
-use Rattle.prem_gate.specs.declared.request.Request.{Request}
-use Rattle.prem_gate.specs.declared.bus.CoreWant.TheVariants.{New}
-use Rattle.prem_gate.specs.Gates.{Turned, is_held, wants}
-use Rattle.prem_cycle.specs.State.{Setup, MachineState}
-use Rattle.prem_cycle.specs.Core.{want_of}
-use Rattle.prem_cycle.specs.Cycle.{next_cycle}
-use Rattle.prem_pair.specs.declared.cycles.state.Holder.TheVariants.{Gates}
-use Rattle.prem_pair.specs.Cycles.Token.{holder_after, is_first, is_second}
+use Rattle.prem_pair.specs.Prelude.{want_of, next_cycle, Setup, MachineState, Turned, is_held, wants, New, Request, ReplacementRule, ◌≡◌, ◌≢◌, ◌&&◌, is_some, Bool, true, false, List, None}
+use Rattle.prem_pair.specs.Prelude.{All}
 use Rattle.prem_pair.specs.Cycles.Pair.{PairState, acted, no_arrivals, pair_cycle}
 use Rattle.prem_pair.specs.Cycles.Rest.{stays_with, wanted}
+use Rattle.prem_pair.specs.Cycles.Token.{holder_after, is_first, is_second}
+use Rattle.prem_pair.specs.declared.cycles.state.Holder.TheVariants.{Gates}
 
 -- the bus, where it goes on with what this core has begun or has nothing to do
 abbrev pub own_turn : (holds : Bool) → MachineState → Turned

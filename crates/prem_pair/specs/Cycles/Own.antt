@@ -1,21 +1,11 @@
 -- Runs of a core of which each cycle is its own. Time is in cycles.
-use Rattle.std.specs.Prelude.{◌≡◌, ◌≢◌, ℕ, zero, suc, ◌+◌, ◌&&◌, is_some, Bool, true, false, List, [], None}
-use Rattle.prem_lru.specs.Entries.{ReplacementRule}
-use Rattle.prem_isa.specs.declared.effect.Change.TheVariants.{Stay}
-use Rattle.prem_gate.specs.declared.request.Request.{Request}
-use Rattle.prem_gate.specs.declared.bus.CoreWant.{CoreWant}
-use Rattle.prem_gate.specs.declared.bus.CoreWant.TheVariants.{New}
-use Rattle.prem_gate.specs.Gates.{wants}
-use Rattle.prem_cycle.specs.declared.state.Mode.TheVariants.{Running}
-use Rattle.prem_cycle.specs.State.{Setup, MachineState}
-use Rattle.prem_cycle.specs.Core.{want_of}
-use Rattle.prem_cycle.specs.Cycle.{is_finished, is_full}
-use Rattle.prem_cycle.specs.Runs.Dull.Rest.{NoneArrive}
-use Rattle.prem_pair.specs.declared.cycles.state.Holder.TheVariants.{Gates}
-use Rattle.prem_pair.specs.Cycles.Token.{asks, frees, want_with}
+use Rattle.prem_pair.specs.Prelude.{want_of, is_finished, is_full, NoneArrive, Setup, MachineState, Running, wants, CoreWant, New, Request, Stay, ReplacementRule, ◌≡◌, ◌≢◌, ℕ, zero, suc}
+use Rattle.prem_pair.specs.Prelude.{◌+◌, ◌&&◌, is_some, Bool, true, false, List, [], None}
+use Rattle.prem_pair.specs.Cycles.Apart.{own_cycle, own_part}
 use Rattle.prem_pair.specs.Cycles.Pair.{PairState, both_finished}
 use Rattle.prem_pair.specs.Cycles.Rest.{stays_with}
-use Rattle.prem_pair.specs.Cycles.Apart.{own_cycle, own_part}
+use Rattle.prem_pair.specs.Cycles.Token.{asks, frees, want_with}
+use Rattle.prem_pair.specs.declared.cycles.state.Holder.TheVariants.{Gates}
 
 -- from one state of a core to the next by a cycle of its own, in which it wants this of the bus, doesn't trap, doesn't free a token that
 -- it holds, and asks for none that it didn't ask for

@@ -1,20 +1,11 @@
 -- How long two cores rest, and what so many cycles of rest come to. Time is in cycles.
-use Rattle.std.specs.Prelude.{◌≡◌, ◌≢◌, ℕ, ◌+◌, ◌-◌, ◌≤◌, ◌||◌, not, Bool, true, false, List, Option, Some, None, All, if◌then◌else◌}
-use Rattle.prem_lru.specs.Entries.{ReplacementRule}
-use Rattle.prem_gate.specs.declared.request.Request.{Request}
-use Rattle.prem_gate.specs.declared.bus.CoreWant.{CoreWant}
-use Rattle.prem_gate.specs.Gates.{GatesState, wants}
+use Rattle.prem_pair.specs.Prelude.{want_of, is_finished, NoneArrive, Within, core_passed, core_rest, Setup, CoreState, MachineState, Mode, Point, Switching, Running, Idle, GatesState}
+use Rattle.prem_pair.specs.Prelude.{wants, CoreWant, Request, ReplacementRule, ◌≡◌, ◌≢◌, ℕ, ◌+◌, ◌-◌, ◌≤◌, ◌||◌, not, Bool, true, false, List, Option, Some, None, All, if◌then◌else◌}
 use Rattle.prem_gate.specs.Stretch.{AreQuiet, BusRun, bus_run}
-use Rattle.prem_cycle.specs.declared.state.Mode.{Mode}
-use Rattle.prem_cycle.specs.declared.state.Mode.TheVariants.{Point, Switching, Running, Idle}
-use Rattle.prem_cycle.specs.State.{Setup, CoreState, MachineState}
-use Rattle.prem_cycle.specs.Core.{want_of}
-use Rattle.prem_cycle.specs.Cycle.{is_finished}
-use Rattle.prem_cycle.specs.Runs.Dull.Rest.{NoneArrive, Within, core_passed, core_rest}
+use Rattle.prem_pair.specs.Cycles.Pair.{PairState, clashes, is_pair_over, pair_cycles}
+use Rattle.prem_pair.specs.Cycles.Token.{asks, empty_window, frees, is_first, is_second, some_wait, want_with}
 use Rattle.prem_pair.specs.declared.cycles.state.Holder.{Holder}
 use Rattle.prem_pair.specs.declared.cycles.state.Holder.TheVariants.{Nobody, First, Second, Gates}
-use Rattle.prem_pair.specs.Cycles.Token.{asks, empty_window, frees, is_first, is_second, some_wait, want_with}
-use Rattle.prem_pair.specs.Cycles.Pair.{PairState, clashes, is_pair_over, pair_cycles}
 
 -- ---- a core that holds the token or doesn't
 

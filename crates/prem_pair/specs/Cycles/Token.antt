@@ -1,21 +1,13 @@
 -- The memory token: who asks for it, who gets it, and when it is free again. Time is in cycles.
-use Rattle.std.specs.Prelude.{ℕ, ◌+◌, ◌&&◌, ◌||◌, not, Bool, true, false, List, [], ◌∷◌, if◌then◌else◌}
-use Rattle.prem_sched.specs.declared.sched.TaskJobs.{TaskJobs}
-use Rattle.prem_sched.specs.declared.sched.Choice.{Choice}
-use Rattle.prem_sched.specs.declared.sched.Choice.TheVariants.{Run, Idle as Rest, Finished}
-use Rattle.prem_sched.specs.Schedule.{choice}
-use Rattle.prem_isa.specs.declared.effect.Change.{Change}
-use Rattle.prem_isa.specs.declared.effect.Change.TheVariants.{Stay, Memory, Execute, End, Job}
+use Rattle.prem_pair.specs.Prelude.{is_empty, CoreState, MachineState, Mode, Point, Switching, Running, Idle, GateState, CoreWant, No, Stay, Memory, Execute, End, Job, TaskJobs, ℕ, ◌+◌}
+use Rattle.prem_pair.specs.Prelude.{◌&&◌, ◌||◌, not, Bool, true, false, List, [], ◌∷◌, if◌then◌else◌}
 use Rattle.prem_gate.specs.declared.bus.Window.{Window}
-use Rattle.prem_gate.specs.declared.bus.CoreWant.{CoreWant}
-use Rattle.prem_gate.specs.declared.bus.CoreWant.TheVariants.{No}
-use Rattle.prem_gate.specs.Gates.{GateState}
-use Rattle.prem_cycle.specs.declared.state.Mode.{Mode}
-use Rattle.prem_cycle.specs.declared.state.Mode.TheVariants.{Point, Switching, Running, Idle}
-use Rattle.prem_cycle.specs.State.{CoreState, MachineState}
-use Rattle.prem_cycle.specs.Core.{is_empty}
+use Rattle.prem_isa.specs.declared.effect.Change.{Change}
 use Rattle.prem_pair.specs.declared.cycles.state.Holder.{Holder}
 use Rattle.prem_pair.specs.declared.cycles.state.Holder.TheVariants.{Nobody, First, Second, Gates}
+use Rattle.prem_sched.specs.Schedule.{choice}
+use Rattle.prem_sched.specs.declared.sched.Choice.{Choice}
+use Rattle.prem_sched.specs.declared.sched.Choice.TheVariants.{Run, Idle as Rest, Finished}
 
 -- ---- who asks
 

@@ -1,23 +1,19 @@
 -- What is good of a run of two cores, and by when it has finished.
-use Rattle.std.specs.Prelude.{◌≡◌, ℕ, zero, suc, ◌+◌, ◌<◌, ◌≤◌, max, Bool, true, List, [], ◌∷◌, ◌++◌, if◌then◌else◌, slice_index_or, sum_by, length}
-use Rattle.std.specs.List.Sorted.{IsNonDecreasingBy}
-use Rattle.prem_plant.specs.Order.Order.{OrderRule}
-use Rattle.prem_isa.specs.Plain.{TaskRun}
-use Rattle.prem_lru.specs.Entries.{ReplacementRule}
-use Rattle.prem_gate.specs.declared.request.Request.{Request}
-use Rattle.prem_image.specs.declared.image.DeviceRecord.{DeviceRecord}
-use Rattle.prem_image.specs.Records.{IsImage}
-use Rattle.prem_cycle.specs.State.{Setup}
+use Rattle.prem_pair.specs.Prelude.{memory_of, Setup, Request, TaskRun, ReplacementRule, ◌≡◌, ℕ, zero, suc, ◌+◌, ◌<◌, ◌≤◌, max, Bool, true, List, [], ◌∷◌, ◌++◌, if◌then◌else◌}
+use Rattle.prem_pair.specs.Prelude.{slice_index_or, sum_by, length}
 use Rattle.prem_cycle.specs.Inputs.{no_device, IsTrace}
-use Rattle.prem_cycle.specs.Run.{memory_of}
-use Rattle.prem_sound.specs.Script.Script.{Script}
-use Rattle.prem_sound.specs.Script.Scripts.{Promise, last_release, sum_below, AreScripts, AreKept}
+use Rattle.prem_image.specs.Records.{IsImage}
+use Rattle.prem_image.specs.declared.image.DeviceRecord.{DeviceRecord}
+use Rattle.prem_pair.specs.Cycles.Pair.{PairState, both_finished, is_pair_over, pair_cycles, pair_start, pair_run}
+use Rattle.prem_plant.specs.Order.Order.{OrderRule}
+use Rattle.prem_sound.specs.Good.{GoodState}
 use Rattle.prem_sound.specs.Resident.Faultless.{IsPolicy}
 use Rattle.prem_sound.specs.Scopes.Charged.{Scoping, IsScoped, charges_by, all_charged}
+use Rattle.prem_sound.specs.Script.Script.{Script}
+use Rattle.prem_sound.specs.Script.Scripts.{Promise, last_release, sum_below, AreScripts, AreKept}
 use Rattle.prem_sound.specs.Serve.Requests.{found_room, AreAmong, asked_before, PutWords, AreasAreZero}
-use Rattle.prem_sound.specs.Good.{GoodState}
 use Rattle.prem_sound.specs.Sound.{IsRun, AreInputs}
-use Rattle.prem_pair.specs.Cycles.Pair.{PairState, both_finished, is_pair_over, pair_cycles, pair_start, pair_run}
+use Rattle.std.specs.List.Sorted.{IsNonDecreasingBy}
 
 -- ---- the requests that find room
 

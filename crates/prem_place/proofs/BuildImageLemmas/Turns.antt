@@ -1,18 +1,14 @@
 -- One more task, device or part.
 use Rattle.std.specs.Prelude.{max, unwrap_or}
-use Rattle.std.proofs.Common.{◌≡◌, ℕ, ◌+◌, ◌<◌, ◌≤◌, refl, ap, sym, ◌∙◌, arith, List, [], ◌∷◌, ◌++◌, length, map, take, drop, get_or, Option, slice_get}
-use Rattle.std.proofs.lemmas.List.{at_drop_more, drop_more}
+use Rattle.std.proofs.Common.{◌≡◌, ℕ, ◌+◌, ◌<◌, refl, ap, sym, ◌∙◌, arith, List, [], ◌∷◌, ◌++◌, length, take, drop, get_or, Option, slice_get}
+use Rattle.std.proofs.lemmas.List.{drop_more}
 use Rattle.std.proofs.lemmas.Option.{unwrap_or-slice_get}
 use Rattle.prem_plant.specs.declared.plant.Device.{Device}
 use Rattle.prem_plant.specs.Places.{Extent}
-use Rattle.prem_image.specs.declared.image.TaskRecord.{TaskRecord}
 use Rattle.prem_image.specs.declared.image.DeviceRecord.{DeviceRecord}
 use Rattle.prem_layout.specs.Footprint.{no_place}
-use Rattle.prem_layout.specs.Image.{greatest_end, task_record, device_records}
+use Rattle.prem_layout.specs.Image.{greatest_end, device_records}
 use Rattle.prem_layout.proofs.TaskParts.{place_in}
-use Rattle.prem_place.specs.Placed.PlacedOf.{placed_of}
-use Rattle.prem_place.specs.declared.placed.PlacedTask.{PlacedTask}
-use Rattle.prem_place.specs.BuildImage.Built.{count_of, total_of}
 use Rattle.prem_place.proofs.BuildImageLemmas.Ground.{greatest_more}
 
 pub greatest_turn : (n greatest new : ℕ) (places : List Extent) (found : Option Extent) (q : Extent) → greatest ≡ greatest_end (take n places) →
@@ -24,30 +20,9 @@ greatest_turn n greatest new places found q e f here en =
     ∙ ap (λ (k : Extent). max (greatest_end (take n places)) k.1) same
     ∙ sym (greatest_more n places)
 
-rest_is : (tasks : List PlacedTask) (n : ℕ) (t : PlacedTask) → n < length tasks → t ≡ get_or tasks n t → total_of (drop n tasks) ≡ count_of t + total_of (drop (n + 1) tasks)
-rest_is tasks n t lt is = at_drop_more total_of tasks n t lt ∙ ap (λ (q : PlacedTask). count_of q + total_of (drop (n + 1) tasks)) (sym is)
-
-count_within : (tasks : List PlacedTask) (n total most : ℕ) (t : PlacedTask) → n < length tasks → t ≡ get_or tasks n t →
-    total + total_of (drop n tasks) ≡ total_of tasks → total_of tasks ≤ most → total + count_of t ≤ most
-count_within tasks n total most t lt is e le = let r = rest_is tasks n t lt is in omega (arith, r, e, le)
-
-count_turn : (tasks : List PlacedTask) (n total : ℕ) (t : PlacedTask) → n < length tasks → t ≡ get_or tasks n t →
-    total + total_of (drop n tasks) ≡ total_of tasks → total + count_of t + total_of (drop (n + 1) tasks) ≡ total_of tasks
-count_turn tasks n total t lt is e = let r = rest_is tasks n t lt is in omega (arith, r, e)
-
 push_rest : {A : Type 0} (xs : List A) (r : A) (rest : List A) → (xs ++ r ∷ []) ++ rest ≡ xs ++ (r ∷ rest)
 push_rest [] r rest = refl
 push_rest (x ∷ xs) r rest = ap (λ l. x ∷ l) (push_rest xs r rest)
-
-record_turn : (tasks : List PlacedTask) (n : ℕ) (t : PlacedTask) (old new whole : List TaskRecord) (r : TaskRecord) → n < length tasks →
-    t ≡ get_or tasks n t → r ≡ task_record (placed_of t) → new ≡ old ++ r ∷ [] →
-    old ++ map task_record (map placed_of (drop n tasks)) ≡ whole → new ++ map task_record (map placed_of (drop (n + 1) tasks)) ≡ whole
-record_turn tasks n t old new whole r lt is er en e =
-    let rest = map task_record (map placed_of (drop (n + 1) tasks)) in
-    ap (λ l. l ++ rest) en ∙ push_rest old r rest
-    ∙ ap (λ q. old ++ (q ∷ rest)) er
-    ∙ ap (λ (q : PlacedTask). old ++ (task_record (placed_of q) ∷ rest)) is
-    ∙ ap (λ l. old ++ l) (sym (at_drop_more (λ (ts : List PlacedTask). map task_record (map placed_of ts)) tasks n t lt)) ∙ e
 
 abbrev area_record : Device → Extent → DeviceRecord
 area_record d q = record { device = d; area = q.0 }

@@ -109,11 +109,6 @@ agrees_here f part count q qs h = let z : part ≡ part + 0 = omega arith in ap 
 agrees_next : (f : ℕ → ℕ) (part count : ℕ) (q : Extent) (qs : List Extent) → Agrees f part (suc count) (q ∷ qs) → Agrees f (part + 1) count qs
 agrees_next f part count q qs h i lt = let z : part + 1 + i ≡ part + suc i = omega arith in ap f z ∙ h (suc i) (omega arith)
 
-there_at : (places : List Extent) (i : ℕ) → i < length places → slice_get places i ≡ Some (slice_index_or places i no_place)
-there_at [] i lt = absurd (omega arith)
-there_at (q ∷ qs) zero lt = refl
-there_at (q ∷ qs) (suc i) lt = there_at qs i (omega arith)
-
 -- two places that share no byte lie beside each other
 beside : (q r : Extent) → ((a : ℕ) → Holds q a → Holds r a → ⊥) → LieBeside q.0 q.1 r.0 r.1
 beside q r none some more =

@@ -1,7 +1,5 @@
 -- Totals over tasks, which are told up to a limit.
-use Rattle.std.specs.Prelude.{nat_lt}
-use Rattle.std.proofs.Common.{◌≡◌, ℕ, ◌+◌, ◌*◌, ◌<◌, ◌≤◌, ◌^◌, List, ap, sym, ◌∙◌, ⊎_elim, arith, length, map, drop, get_or}
-use Rattle.std.proofs.lemmas.Bool.{cases_lt, lt-ltb, le-ltb}
+use Rattle.std.proofs.Common.{◌≡◌, ℕ, ◌+◌, ◌*◌, ◌<◌, ◌≤◌, ◌^◌, List, ap, sym, ◌∙◌, arith, length, map, drop, get_or}
 use Rattle.std.proofs.lemmas.List.{at_drop_more, at_drop_all}
 use Rattle.prem_syntax.specs.Resolved.{Resolved}
 use Rattle.prem_layout.specs.Counts.{marked_calls_of, intervals_of}
@@ -32,13 +30,6 @@ intervals_are p calls twice count ec et e = by (marked_calls_of p) ec
   where
     by : (m : ℕ) → calls ≡ clipped m → count ≡ clipped (1 + 2 * m)
     by m ec = omega (arith, ec, et, e)
-
--- the limit of a log is below that of what is told
-pub same_test : (found total : ℕ) → found ≡ clipped total → nat_lt 262143 found ≡ nat_lt 262143 total
-same_test found total e = ⊎_elim
-    (λ (lt : 262143 < total). lt-ltb 262143 found (omega (arith, e, lt)) ∙ sym (lt-ltb 262143 total lt))
-    (λ (le : total ≤ 262143). le-ltb 262143 found (omega (arith, e, le)) ∙ sym (le-ltb 262143 total le))
-    (cases_lt 262143 total)
 
 pub total_end : (count : Resolved → ℕ) (tasks : List PlacedTask) (i sum whole : ℕ) → length tasks ≤ i → sum ≤ 2 ^ 32 →
     clipped (sum + total_of count (map coded_of (drop i tasks))) ≡ clipped whole → sum ≡ clipped whole

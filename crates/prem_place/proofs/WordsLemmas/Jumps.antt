@@ -159,11 +159,6 @@ stub_function t s k plan lt is =
     (subst (λ (ps : List Plan). AllByRecursion (Below (length q.routines)) ps) (sym s.plans)
     (plans_below q 0 q.routines (length q.routines) (omega arith))) lt is
 
--- ---- the function of a part
-
-pub job_at : (t : Placed) (s : IsStanding t) (part : ℕ) → part ≡ 0 → name_at t.task.program.routines t.table.job ≡ slice_index_or (names_in t) part []
-job_at t s part e = s.named ∙ sym (ap (λ n. slice_index_or (names_in t) n []) e)
-
 pub code_at : (t : Placed) (part k : ℕ) → part ≡ suc k → part ≤ length t.task.program.routines → name_at t.task.program.routines k ≡ slice_index_or (names_in t) part []
 code_at t part k e le = sym (ap (λ n. slice_index_or (names_in t) n []) e ∙ code_name t k (omega (arith, e, le)))
 

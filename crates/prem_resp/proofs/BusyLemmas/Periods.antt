@@ -10,12 +10,6 @@ use Rattle.prem_resp.specs.Busy.Schedule.{Tasks, released, released_before, Sche
 use Rattle.prem_resp.proofs.BusyLemmas.Totals.{sum_le, sum_less, all_or_one}
 use Rattle.prem_resp.proofs.BusyLemmas.Releases.{released_next, released_grows, none_at_first, released_add, one_in_period, job_released}
 
--- ---- small facts
-
-one_most : (b : Bool) → one_if b ≤ 1
-one_most true = omega arith
-one_most false = omega arith
-
 both_one : (b : Bool) → one_if (b && true) ≡ one_if b
 both_one true = refl
 both_one false = refl

@@ -29,7 +29,7 @@ use Rattle.prem_cycle.specs.Issue.{Executes, LineTouch, issued_by, owed_by}
 use Rattle.prem_cycle.specs.Core.{is_paid, CoreMove, Passes, Issues, is_predictable, core_issue, core_turn}
 use Rattle.prem_cycle.specs.Cycle.{Arrivals, arrivals_at, bus_at, with_memory, with_clash, move_at, core_at, joined, ends_before, ended_interval, sched_after, at_point}
 use Rattle.prem_cycle.specs.Cycle.{close_interval, settle, with_now, next_cycle, ticked, cycle_of, is_finished}
-use Rattle.prem_cycle.specs.Run.{CycleStep, step_with, memory_of, run_of}
+use Rattle.prem_cycle.specs.Run.{CycleStep, step_with, memory_of}
 use Rattle.prem_cycle.proofs.CoreCases.{move_cases}
 use Rattle.prem_cycle.specs.Runs.Position.Issued.{count_of, issued_of, AreOwn, IsRunnable}
 use Rattle.prem_cycle.proofs.RunsLemmas.PositionLemmas.Stands.{bump, Stands, Issuing}
@@ -77,9 +77,6 @@ module _ (rule : ReplacementRule) (order : OrderRule) (passes : ℕ → ℕ) (p 
 
   abbrev pub tasks : Tasks
   tasks = tasks_of loads (λ k. (record_of p k).jobs)
-
-  abbrev pub state : ℕ → MachineState
-  state n = run_of rule p content inputs requests n
 
   abbrev pub timeline : Schedule
   timeline = timeline_of rule p content inputs requests

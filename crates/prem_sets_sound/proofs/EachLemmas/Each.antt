@@ -1,70 +1,33 @@
 -- Each placed task that keeps the rules joins.
-use Rattle.std.specs.Prelude.{All, slice_index, slice_index_or, unwrap_or, option_map}
-use Rattle.std.proofs.Common.{◌≡◌, ℕ, zero, suc, ◌+◌, ◌%◌, ◌^◌, ◌<◌, ◌≤◌, refl, ap, ◌∙◌, sym, subst, arith, true, List, [], ◌∷◌, length, map, None, Some, Option, slice_get, max}
-use Rattle.prem_plant.specs.declared.plant.Plant.{Plant}
-use Rattle.prem_plant.specs.declared.plant.Device.{Device}
-use Rattle.prem_plant.specs.Places.{Extent}
-use Rattle.prem_isa.specs.Plain.{TaskRun}
-use Rattle.prem_cycle.specs.Alone.{run_in}
-use Rattle.prem_sound.specs.Script.Scripts.{Reading}
-use Rattle.prem_syntax.specs.Syntax.{ProgramText, MarkText}
-use Rattle.prem_syntax.specs.Resolved.{Routine, Resolved}
-use Rattle.prem_syntax.specs.Source.{initial_words}
-use Rattle.prem_syntax.specs.Statements.{is_marked}
-use Rattle.prem_ranges.specs.RangesKept.{limits_of}
-use Rattle.prem_asm.specs.Pieces.{call_to, no_pieces}
-use Rattle.prem_asm.specs.Runs.{Setting}
-use Rattle.prem_layout.specs.Template.Frames.{depth_of, deepest}
-use Rattle.prem_layout.specs.Template.Parts.{parts_of, is_marked_at, marked_before}
-use Rattle.prem_layout.specs.Template.Steps.{function_code}
-use Rattle.prem_layout.specs.Parts.{pass_count, stub_passes}
-use Rattle.prem_layout.specs.Plans.{Plan, plan_before, plans_from}
-use Rattle.prem_layout.specs.Bounds.{start_code, job_bound_of}
-use Rattle.prem_layout.specs.Footprint.{place_at, global_range}
-use Rattle.prem_layout.specs.Placed.{Coded, Placed}
-use Rattle.prem_layout.specs.Stretch.Paths.{stretch_of, greatest_stated}
-use Rattle.prem_code_laws.specs.ExprLaws.Relation.{GlobalsStand}
-use Rattle.prem_code_laws.specs.GenLaws.Table.{IsStub}
-use Rattle.prem_code_laws.specs.GenLaws.Whole.{StartStands}
-use Rattle.prem_sets_sound.specs.Weave.Promise.Promised.{read_globals, stated_at}
-use Rattle.prem_sets_sound.specs.StubLaws.Own.Owned.{own_of, setup_of}
-use Rattle.prem_sets_sound.specs.StubLaws.OwnSteps.OwnSteps.{AreOwnAt}
-use Rattle.prem_sets_sound.specs.StubLaws.Initial.Initial.{content_of}
-use Rattle.prem_sets_sound.specs.StubLaws.Initial.Standing.{setting_of, globals_in}
-use Rattle.prem_sets_sound.specs.StubLaws.StubFits.Within.{codes_in}
-use Rattle.prem_sets_sound.specs.StubLaws.JobWeave.Calm.{CalmStands}
-use Rattle.prem_sets_sound.specs.StubLaws.JobWeave.Confined.{Confinement, ConfinedStands}
-use Rattle.prem_sets_sound.specs.StubLaws.Dues.Dues.{PlacedStands, weight_in}
-use Rattle.prem_sets_sound.specs.StubLaws.Strides.Strided.{ReturnsLast, sums_in}
-use Rattle.prem_sets_sound.specs.StubLaws.Join.Joined.{TaskJoins}
-use Rattle.prem_sets_sound.proofs.StubLawsLemmas.OwnStepsLemmas.Takes.{functions_take}
+use Rattle.prem_sets_sound.proofs.Prelude.{call_to, no_pieces, Setting, GlobalsStand, IsStub, StartStands, run_in, TaskRun, start_code, job_bound_of, place_at, global_range, pass_count}
+use Rattle.prem_sets_sound.proofs.Prelude.{stub_passes, Coded, Placed, Plan, plan_before, plans_from, stretch_of, greatest_stated, depth_of, deepest, parts_of, is_marked_at, marked_before}
+use Rattle.prem_sets_sound.proofs.Prelude.{function_code, Extent, Device, Plant, limits_of, confinement_of, plan_at, confinement_in, job_calls, promise_for, TasksJoin, TaskPaces}
+use Rattle.prem_sets_sound.proofs.Prelude.{task_longest, TasksPace, JobsTell, TasksTell, PlacedStands, weight_in, content_of, setting_of, globals_in, CalmStands, Confinement, ConfinedStands}
+use Rattle.prem_sets_sound.proofs.Prelude.{TaskJoins, own_of, setup_of, AreOwnAt, ReturnsLast, sums_in, codes_in, IsPlacedTask, HasParts, RunStands, plain_callable, task_guard}
+use Rattle.prem_sets_sound.proofs.Prelude.{KeepsTaskRules, task_limits, read_globals, stated_at, Reading, Routine, Resolved, initial_words, is_marked, ProgramText, MarkText, ◌≡◌, ℕ, zero}
+use Rattle.prem_sets_sound.proofs.Prelude.{suc, ◌+◌, ◌%◌, ◌^◌, ◌<◌, ◌≤◌, refl, ap, ◌∙◌, sym, subst, arith, true, List, [], ◌∷◌, length, map, None, Some, Option, slice_get, max, All}
+use Rattle.prem_sets_sound.proofs.Prelude.{slice_index, slice_index_or, unwrap_or}
+use Rattle.prem_sets_sound.proofs.EachLemmas.Filled.{plan_there, routine_at, program_keeps, code_is, table_code, code_within, small_memory, codes_stand, part_listed}
+use Rattle.prem_sets_sound.proofs.EachLemmas.Joins.{TaskStands, joins, promise_is, paces, jobs_tell}
+use Rattle.prem_sets_sound.proofs.EachLemmas.Lands.{CallsStand}
+use Rattle.prem_sets_sound.proofs.EachLemmas.Means.{StubMeans, JobStands}
+use Rattle.prem_sets_sound.proofs.EachLemmas.Stubs.{planned_at, stub_means, confined_stands, stated_so}
+use Rattle.prem_sets_sound.proofs.EachLemmas.Words.{job_fits, code_stands, job_is, start_stands}
+use Rattle.prem_sets_sound.proofs.StubLawsLemmas.DuesLemmas.Table.{placed_jobs_are_bounded}
 use Rattle.prem_sets_sound.proofs.StubLawsLemmas.InitialLemmas.Values.{globals_stand_first}
 use Rattle.prem_sets_sound.proofs.StubLawsLemmas.InitialLemmas.Whole.{content_fits}
 use Rattle.prem_sets_sound.proofs.StubLawsLemmas.JobWeaveLemmas.Calm.{functions_are_calm}
-use Rattle.prem_sets_sound.proofs.StubLawsLemmas.DuesLemmas.Table.{placed_jobs_are_bounded}
+use Rattle.prem_sets_sound.proofs.StubLawsLemmas.OwnStepsLemmas.Takes.{functions_take}
 use Rattle.prem_sets_sound.proofs.StubLawsLemmas.StridesLemmas.Last.{functions_return_last}
 use Rattle.prem_sets_sound.proofs.StubLawsLemmas.StridesLemmas.Table.{placed_jobs_are_strided}
-use Rattle.prem_sets_sound.specs.TaskLaws.TaskFrame.Kept.{KeepsTaskRules}
-use Rattle.prem_sets_sound.specs.TaskLaws.TaskFrame.Limits.{task_limits}
-use Rattle.prem_sets_sound.specs.TaskLaws.TaskFrame.Frames.{task_guard}
-use Rattle.prem_sets_sound.specs.TaskLaws.TaskFrame.Callees.{plain_callable}
-use Rattle.prem_sets_sound.specs.TaskLaws.TaskBytes.Parts.{IsPlacedTask, HasParts}
-use Rattle.prem_sets_sound.specs.TaskLaws.TaskBytes.Start.{RunStands}
-use Rattle.prem_sets_sound.proofs.TaskLawsLemmas.TaskGroundLemmas.Stands.{jobs_stand}
-use Rattle.prem_sets_sound.proofs.TaskLawsLemmas.TaskGroundLemmas.Elements.{globals_are_placed, globals_are_own, places_are_own}
 use Rattle.prem_sets_sound.proofs.TaskLawsLemmas.ProgramFitsLemmas.Functions.{plain_tasks_fit}
 use Rattle.prem_sets_sound.proofs.TaskLawsLemmas.ProgramFitsLemmas.Stubs.{job_stubs_fit}
-use Rattle.prem_sets_sound.proofs.TaskLawsLemmas.TaskBytesLemmas.Parts.{parts_of_task, at_parts, laid, plans_are}
 use Rattle.prem_sets_sound.proofs.TaskLawsLemmas.TaskBytesLemmas.Guards.{task_guard_is_own, task_code_is_own}
+use Rattle.prem_sets_sound.proofs.TaskLawsLemmas.TaskBytesLemmas.Parts.{parts_of_task, at_parts, laid, plans_are}
 use Rattle.prem_sets_sound.proofs.TaskLawsLemmas.TaskBytesLemmas.Start.{run_starts}
-use Rattle.prem_sets_sound.specs.Each.Called.{confinement_of, plan_at, confinement_in, job_calls}
-use Rattle.prem_sets_sound.specs.Each.Joins.{promise_for, TasksJoin, TaskPaces, task_longest, TasksPace, JobsTell, TasksTell}
-use Rattle.prem_sets_sound.proofs.EachLemmas.Means.{StubMeans, JobStands}
-use Rattle.prem_sets_sound.proofs.EachLemmas.Lands.{CallsStand}
-use Rattle.prem_sets_sound.proofs.EachLemmas.Joins.{TaskStands, joins, promise_is, paces, jobs_tell}
-use Rattle.prem_sets_sound.proofs.EachLemmas.Filled.{plan_there, routine_at, program_keeps, code_is, table_code, code_within, small_memory, codes_stand, part_listed}
-use Rattle.prem_sets_sound.proofs.EachLemmas.Words.{job_fits, code_stands, job_is, start_stands}
-use Rattle.prem_sets_sound.proofs.EachLemmas.Stubs.{planned_at, stub_means, confined_stands, stated_so}
+use Rattle.prem_sets_sound.proofs.TaskLawsLemmas.TaskGroundLemmas.Elements.{globals_are_placed, globals_are_own, places_are_own}
+use Rattle.prem_sets_sound.proofs.TaskLawsLemmas.TaskGroundLemmas.Stands.{jobs_stand}
+use Rattle.std.specs.Prelude.{option_map}
 
 one_there : (xs : List ℕ) (a : ℕ) → All (λ byte. byte < 256) xs → slice_index xs a < 256
 one_there [] a h = omega arith

@@ -1,9 +1,6 @@
 -- What is due for the job and the stretch in which a task's run on its own stands.
-use Rattle.std.proofs.Common.{◌≡◌, ℕ, suc, ◌+◌, ap, arith}
-use Rattle.prem_plant.specs.declared.plant.Plant.{Plant}
-use Rattle.prem_isa.specs.Plain.{TaskRun, plain_did, plain_run}
-use Rattle.prem_sound.specs.Script.Script.{begun_by, Script}
-use Rattle.prem_sound.specs.Paced.Paced.{job_with, job_by, stretch_with, stretch_by}
+use Rattle.prem_sound.proofs.Prelude.{TaskRun, plain_did, plain_run, Plant, job_by, stretch_by, begun_by, Script, ◌≡◌, ℕ, suc, ◌+◌, ap, arith}
+use Rattle.prem_sound.specs.Paced.Paced.{job_with, stretch_with}
 
 pub job_by-next : (plant : Plant) (s : Script) (run : TaskRun) (n : ℕ) → job_by plant s run (n + 1) ≡ job_with plant s (begun_by run n) (plain_did run (plain_run run n)) (job_by plant s run n)
 unfolding job_by

@@ -1,17 +1,8 @@
 -- Where the core wants the bus only while the window is closed, core and gate never want one cycle both.
-use Rattle.std.specs.Prelude.{All}
-use Rattle.std.proofs.Common.{◌≡◌, ℕ, ◌+◌, ◌<◌, ◌≤◌, refl, ap, ◌∙◌, arith, leb, Some, None, Option, true, false, Bool, List, length, ⊎_elim}
-use Rattle.std.proofs.lemmas.Bool.{cases_lt, cond_both}
-use Rattle.std.proofs.lemmas.List.{get_or_past}
-use Rattle.prem_gate.specs.declared.bus.Window.{Window}
-use Rattle.prem_gate.specs.declared.bus.Carried.{Carried}
-use Rattle.prem_gate.specs.declared.bus.CoreWant.{CoreWant}
-use Rattle.prem_gate.specs.declared.bus.CoreWant.TheVariants.{No, New, Held}
-use Rattle.prem_gate.specs.Gates.{GateState, GatesState, Turned, gate_at, no_gate, startable, taken, ends, goes_on, carries, wants, starts, bus_with, bus_turn}
-use Rattle.prem_gate.specs.Ranges.{IsStart}
-use Rattle.prem_gate.proofs.Places.{startable_is}
-use Rattle.prem_cycle.specs.Runs.Window.Windows.{CarriesInside}
-use Rattle.prem_cycle.proofs.RunsLemmas.WindowLemmas.Bus.{none_inside}
+use Rattle.prem_sound.proofs.Prelude.{none_inside, CarriesInside, startable_is, GateState, GatesState, Turned, gate_at, no_gate, startable, taken, carries, wants, starts, bus_with, bus_turn}
+use Rattle.prem_sound.proofs.Prelude.{IsStart, Carried, CoreWant, No, New, Held, Window, ◌≡◌, ℕ, ◌+◌, ◌<◌, ◌≤◌, refl, ap, ◌∙◌, arith, leb, Some, None, Option, true, false, Bool, List}
+use Rattle.prem_sound.proofs.Prelude.{length, ⊎_elim, cases_lt, cond_both, get_or_past, All}
+use Rattle.prem_gate.specs.Gates.{ends, goes_on}
 
 -- ---- a closed window
 

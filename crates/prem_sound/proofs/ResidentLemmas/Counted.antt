@@ -1,27 +1,9 @@
 -- What an instruction adds to the counts, and what it makes the core owe.
-use Rattle.std.specs.Prelude.{not, ◌&&◌, Result, Ok, Err, slice_index}
-use Rattle.std.proofs.Common.{◌≡◌, ℕ, ◌+◌, ◌<◌, ◌≤◌, refl, ap, ◌∙◌, sym, subst, arith, cond, Some, None, Option, true, false, Bool, List, [], ◌∷◌, ◌++◌}
-use Rattle.prem_plant.specs.declared.plant.Target.{Target}
-use Rattle.prem_plant.specs.declared.plant.Plant.{Plant}
-use Rattle.prem_isa.specs.declared.instr.Instr.{Instr}
-use Rattle.prem_isa.specs.declared.effect.Phase.{Phase}
-use Rattle.prem_isa.specs.declared.effect.Phase.TheVariants.{Compatible, Memory as MemoryPhase, Execution}
-use Rattle.prem_isa.specs.declared.effect.Cause.{Cause}
-use Rattle.prem_isa.specs.declared.effect.AccessKind.TheVariants.{Loads, Stores}
-use Rattle.prem_isa.specs.declared.effect.Access.{Access}
-use Rattle.prem_isa.specs.declared.effect.Stored.{Stored}
-use Rattle.prem_isa.specs.declared.effect.Effect.{Effect}
-use Rattle.prem_isa.specs.declared.effect.Outcome.{Outcome}
-use Rattle.prem_isa.specs.declared.effect.Outcome.TheVariants.{Trap, Done}
-use Rattle.prem_isa.specs.Decode.{Fits}
-use Rattle.prem_isa.specs.Act.{act, fetch}
-use Rattle.prem_isa.specs.Bounds.{OnDone, EffectFits, AccessMatches}
-use Rattle.prem_isa.specs.Plain.{next_input}
-use Rattle.prem_isa.proofs.ActLaws.{act_fits}
-use Rattle.prem_isa.proofs.PlainLaws.{fetch_fits}
-use Rattle.prem_cycle.specs.State.{Task, Counts}
-use Rattle.prem_cycle.specs.Issue.{Traps, Executes, attempt_by, attempt_fetched, attempt_in, LineTouch, owed_by, one_if, is_execution, with_touch, with_touches, with_store}
-use Rattle.prem_sound.specs.Script.Script.{StoresNothing}
+use Rattle.prem_sound.proofs.Prelude.{Traps, Executes, attempt_by, attempt_fetched, attempt_in, LineTouch, owed_by, one_if, is_execution, with_touch, with_touches, with_store, Task, Counts}
+use Rattle.prem_sound.proofs.Prelude.{act_fits, fetch_fits, act, fetch, OnDone, EffectFits, AccessMatches, Fits, next_input, Access, Loads, Stores, Cause, Effect, Outcome, Trap, Done, Phase}
+use Rattle.prem_sound.proofs.Prelude.{Compatible, Execution, Stored, Instr, Plant, Target, StoresNothing, ◌≡◌, ℕ, ◌+◌, ◌<◌, ◌≤◌, refl, ap, ◌∙◌, sym, subst, arith, cond, Some, None, Option}
+use Rattle.prem_sound.proofs.Prelude.{true, false, Bool, List, [], ◌∷◌, ◌++◌, not, ◌&&◌, Result, Ok, Err, slice_index}
+use Rattle.prem_isa.specs.declared.effect.Phase.TheVariants.{Memory as MemoryPhase}
 use Rattle.prem_sound.proofs.ResidentLemmas.Touches.{missed_lines}
 
 -- ---- faults

@@ -1,30 +1,14 @@
 -- A core's part of a cycle, whatever the bus does that serves it and leaves its tasks' bytes: its own move, or none at a
 -- scheduling point.
-use Rattle.std.proofs.Common.{◌≡◌, ℕ, ◌+◌, refl, ap, ◌∙◌, arith, true, false, Bool, List, length, inl}
-use Rattle.prem_plant.specs.Order.Order.{OrderRule}
-use Rattle.prem_sched.specs.declared.sched.TaskJobs.{TaskJobs}
-use Rattle.prem_isa.specs.Plain.{TaskRun}
-use Rattle.prem_lru.specs.Entries.{ReplacementRule}
-use Rattle.prem_lru.specs.Order.{lines_in}
-use Rattle.prem_gate.specs.Gates.{Turned, wants}
-use Rattle.prem_cycle.specs.declared.state.Mode.TheVariants.{Point, Running}
-use Rattle.prem_cycle.specs.State.{Setup, Work, CoreState, Counts, MachineState, start_of}
-use Rattle.prem_cycle.specs.Issue.{one_if}
-use Rattle.prem_cycle.specs.Core.{want_of, CoreMove, Passes, Issues, phase_in}
-use Rattle.prem_cycle.specs.Cycle.{Arrivals, with_memory, with_clash, joined, ticked}
-use Rattle.prem_cycle.specs.Runs.Window.Windows.{WindowCloses}
-use Rattle.prem_cycle.proofs.RunsLemmas.PositionLemmas.Stands.{Stands}
-use Rattle.prem_cycle.proofs.RunsLemmas.PositionLemmas.Schedules.{Moves as Scheduled}
-use Rattle.prem_cycle.proofs.RunsLemmas.PositionLemmas.MayMoves.{MayMove, does, stands_still, MayMoveIn, turn_with, may_schedule}
-use Rattle.prem_cycle.proofs.RunsLemmas.PositionLemmas.Turns.{Runs, bump_move, BusKeeps, bus_stands, Position, moved_position, ticked_position}
-use Rattle.prem_cycle.proofs.RunsLemmas.PositionLemmas.Runs.{IsIssued, issued_move}
-use Rattle.prem_cycle.proofs.RunsLemmas.WindowLemmas.Moves.{Moves as Windowed, moves as windowed, TurnCloses, turn_closes}
-use Rattle.prem_cycle.proofs.RunsLemmas.WindowLemmas.Cycles.{CoreCloses, ticked_closes}
-use Rattle.prem_sound.specs.Script.Script.{begun_by, Script}
-use Rattle.prem_sound.specs.Resident.Faultless.{IsPolicy}
-use Rattle.prem_sound.proofs.ResidentLemmas.Residents.{IsThere, Phases, Resides, Moves, moves}
+use Rattle.prem_sound.proofs.Prelude.{MayMove, does, stands_still, MayMoveIn, turn_with, may_schedule, IsIssued, issued_move, Moves as Scheduled, Stands, Runs, bump_move, BusKeeps}
+use Rattle.prem_sound.proofs.Prelude.{bus_stands, Position, moved_position, ticked_position, CoreCloses, ticked_closes, TurnCloses, turn_closes, want_of, CoreMove, Passes, Issues, phase_in}
+use Rattle.prem_sound.proofs.Prelude.{Arrivals, with_memory, with_clash, joined, ticked, one_if, WindowCloses, Setup, Work, CoreState, Counts, MachineState, start_of, Point, Running, Turned}
+use Rattle.prem_sound.proofs.Prelude.{wants, TaskRun, ReplacementRule, lines_in, OrderRule, TaskJobs, IsPolicy, begun_by, Script, ◌≡◌, ℕ, ◌+◌, refl, ap, ◌∙◌, arith, true, false, Bool, List}
+use Rattle.prem_sound.proofs.Prelude.{length, inl}
+use Rattle.prem_cycle.proofs.RunsLemmas.WindowLemmas.Moves.{Moves as Windowed, moves as windowed}
 use Rattle.prem_sound.proofs.ResidentLemmas.Counted.{NoFaults}
 use Rattle.prem_sound.proofs.ResidentLemmas.Keeps.{IsCalm, CalmMove, calm_moves, same_phase, KeepScripts, TurnKeeps, turn_keeps, Keeps, ticked_keeps}
+use Rattle.prem_sound.proofs.ResidentLemmas.Residents.{IsThere, Phases, Resides, Moves, moves}
 
 -- ---- moves that may be none
 

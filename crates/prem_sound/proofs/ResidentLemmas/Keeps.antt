@@ -1,45 +1,17 @@
 -- A cycle of a run whose tasks keep to their scripts: nothing misses in an execution phase, and nothing clashes.
-use Rattle.std.specs.Prelude.{◌&&◌, is_some}
-use Rattle.std.proofs.Common.{◌≡◌, ℕ, ◌+◌, ◌-◌, ◌<◌, ◌≤◌, refl, ap, ◌∙◌, sym, subst, arith, cond, ltb, Some, None, Option, true, false, Bool, List, [], ◌∷◌, length, inl, inr, ⊎_elim}
-use Rattle.std.proofs.lemmas.Bool.{and_parts, cases_Bool, cond_both}
-use Rattle.std.proofs.lemmas.List.{length-map}
-use Rattle.prem_plant.specs.declared.plant.Plant.{Plant}
-use Rattle.prem_plant.specs.Ranges.{IsPlant}
-use Rattle.prem_plant.specs.Order.Order.{OrderRule}
-use Rattle.prem_sched.specs.declared.sched.TaskJobs.{TaskJobs}
-use Rattle.prem_isa.specs.declared.effect.Phase.{Phase}
-use Rattle.prem_isa.specs.declared.effect.Phase.TheVariants.{Compatible, Memory as MemoryPhase, Execution}
-use Rattle.prem_isa.specs.declared.effect.Change.{Change}
-use Rattle.prem_isa.specs.declared.effect.Change.TheVariants.{Stay, Memory, Execute, End, Job}
-use Rattle.prem_isa.specs.declared.effect.Access.{Access}
-use Rattle.prem_isa.specs.declared.effect.Effect.{Effect}
-use Rattle.prem_isa.specs.Decode.{cost_of}
-use Rattle.prem_isa.specs.Plain.{TaskRun, PlainState, Did, did_of, plain_did, plain_run}
-use Rattle.prem_isa.proofs.PlainLaws.{plain_fits}
-use Rattle.prem_lru.specs.Entries.{ReplacementRule}
-use Rattle.prem_lru.specs.CacheState.{CacheState}
-use Rattle.prem_lru.specs.Order.{lines_in, lines_of}
-use Rattle.prem_gate.specs.declared.bus.Window.{Window}
-use Rattle.prem_gate.specs.Gates.{wants}
-use Rattle.prem_cycle.specs.declared.state.Mode.{Mode}
-use Rattle.prem_cycle.specs.declared.state.Mode.TheVariants.{Point, Switching, Running, Idle}
-use Rattle.prem_cycle.specs.declared.state.Interval.{Interval}
-use Rattle.prem_cycle.specs.State.{Setup, Task, Work, CoreState, Counts, MachineState, task_in}
-use Rattle.prem_cycle.specs.Issue.{Executes, issued_by, is_execution}
-use Rattle.prem_cycle.specs.Core.{want_of, is_paid, CoreMove, Passes, Issues, is_predictable, phase_in, window_after, CoreTurn, core_issue, core_turn}
-use Rattle.prem_cycle.specs.Cycle.{ends_before, at_point, close_interval, settle, with_now, next_cycle, ticked}
-use Rattle.prem_cycle.proofs.CoreCases.{MoveCase, pays_on_bus, is_denied, pays_cost, waits, goes_on, switches, begins, chooses, chooses_now, begins_idle, has_finished, idles}
-use Rattle.prem_cycle.proofs.RunsLemmas.PositionLemmas.Works.{IsKept, kept_plant}
-use Rattle.prem_cycle.proofs.RunsLemmas.PositionLemmas.Stands.{bump, IsAt, Stands, Issuing}
-use Rattle.prem_cycle.proofs.RunsLemmas.PositionLemmas.Schedules.{Moves as Scheduled}
-use Rattle.prem_cycle.proofs.RunsLemmas.PositionLemmas.Turns.{Runs, bump_move, issuing}
-use Rattle.prem_cycle.proofs.RunsLemmas.PositionLemmas.Issues.{issuing_did}
-use Rattle.prem_cycle.proofs.RunsLemmas.WindowLemmas.Moves.{MayIssue as WindowIssue, Moves as Windowed}
-use Rattle.prem_sound.specs.Script.Script.{lines_of_did, StoresNothing, Script, IsScript}
-use Rattle.prem_sound.specs.Resident.Faultless.{IsPolicy}
-use Rattle.prem_sound.proofs.ResidentLemmas.Touches.{missed_lines, TouchesLines, issue_touches}
-use Rattle.prem_sound.proofs.ResidentLemmas.Residents.{opens, MustHit, with_stated, phase_at, Resides, MayIssue, Moves, issues, hits, ends, idle_ends}
+use Rattle.prem_sound.proofs.Prelude.{MoveCase, pays_on_bus, is_denied, pays_cost, waits, goes_on, switches, begins, chooses, chooses_now, begins_idle, has_finished, idles, issuing_did}
+use Rattle.prem_sound.proofs.Prelude.{Moves as Scheduled, bump, IsAt, Stands, Issuing, Runs, bump_move, issuing, IsKept, kept_plant, MayIssue as WindowIssue, want_of, is_paid, CoreMove}
+use Rattle.prem_sound.proofs.Prelude.{Passes, Issues, is_predictable, phase_in, window_after, CoreTurn, core_issue, core_turn, ends_before, at_point, close_interval, settle, with_now}
+use Rattle.prem_sound.proofs.Prelude.{next_cycle, ticked, Executes, issued_by, is_execution, Setup, Task, Work, CoreState, Counts, MachineState, task_in, Interval, Mode, Point, Switching}
+use Rattle.prem_sound.proofs.Prelude.{Running, Idle, wants, Window, plain_fits, cost_of, TaskRun, PlainState, Did, did_of, plain_did, plain_run, Access, Change, Stay, Memory, Execute, End}
+use Rattle.prem_sound.proofs.Prelude.{Job, Effect, Phase, Compatible, Execution, CacheState, ReplacementRule, lines_in, lines_of, OrderRule, IsPlant, Plant, TaskJobs, IsPolicy, lines_of_did}
+use Rattle.prem_sound.proofs.Prelude.{StoresNothing, Script, IsScript, ◌≡◌, ℕ, ◌+◌, ◌-◌, ◌<◌, ◌≤◌, refl, ap, ◌∙◌, sym, subst, arith, cond, ltb, Some, None, Option, true, false, Bool, List}
+use Rattle.prem_sound.proofs.Prelude.{[], ◌∷◌, length, inl, inr, ⊎_elim, and_parts, cases_Bool, cond_both, length-map, ◌&&◌, is_some}
+use Rattle.prem_cycle.proofs.RunsLemmas.WindowLemmas.Moves.{Moves as Windowed}
+use Rattle.prem_isa.specs.declared.effect.Phase.TheVariants.{Memory as MemoryPhase}
 use Rattle.prem_sound.proofs.ResidentLemmas.Counted.{NoFaults, owed_none, issue_counts, AttemptFits, attempt_fits}
+use Rattle.prem_sound.proofs.ResidentLemmas.Residents.{opens, MustHit, with_stated, phase_at, Resides, MayIssue, Moves, issues, hits, ends, idle_ends}
+use Rattle.prem_sound.proofs.ResidentLemmas.Touches.{missed_lines, TouchesLines, issue_touches}
 
 -- ---- the core's part of a cycle
 

@@ -1,32 +1,13 @@
 -- Every state of a run whose tasks keep to their scripts.
-use Rattle.std.specs.Prelude.{All}
-use Rattle.std.proofs.Common.{◌≡◌, ℕ, zero, suc, sym, subst, cond, None, Option, true, false, Bool, List, ⊎_elim}
-use Rattle.std.proofs.lemmas.Bool.{cases_Bool}
-use Rattle.prem_plant.specs.Order.Order.{OrderRule}
-use Rattle.prem_isa.specs.Plain.{TaskRun, with_last}
-use Rattle.prem_lru.specs.Entries.{ReplacementRule}
-use Rattle.prem_gate.specs.declared.request.Request.{Request}
-use Rattle.prem_gate.specs.Gates.{Turned}
-use Rattle.prem_image.specs.Records.{IsPlaced}
-use Rattle.prem_cycle.specs.State.{Setup, MachineState, start_of}
-use Rattle.prem_cycle.specs.Core.{want_of, CoreMove}
-use Rattle.prem_cycle.specs.Cycle.{Arrivals, arrivals_at, bus_at, with_memory, move_at, cycle_of, is_over, step_of}
-use Rattle.prem_cycle.specs.Run.{CycleStep, step_with, coming_step, cycles_of, steps_of, memory_of, run_of}
-use Rattle.prem_cycle.proofs.CoreCases.{move_cases}
-use Rattle.prem_cycle.specs.Runs.Position.Issued.{count_of, issued_of, AreOwn, IsRunnable}
-use Rattle.prem_cycle.specs.Runs.Window.Windows.{CarriesInside, WindowsHold, HaveCosts}
-use Rattle.prem_cycle.proofs.RunsLemmas.PositionLemmas.MayMoves.{does}
-use Rattle.prem_cycle.proofs.RunsLemmas.PositionLemmas.Turns.{Runs}
-use Rattle.prem_cycle.proofs.RunsLemmas.PositionLemmas.Runs.{AllAt, count_move, runs_of, keeps_of}
-use Rattle.prem_cycle.proofs.RunsLemmas.PositionLemmas.Positions.{run_stands}
-use Rattle.prem_cycle.proofs.RunsLemmas.WindowLemmas.Bus.{arrivals_inside}
-use Rattle.prem_cycle.proofs.RunsLemmas.WindowLemmas.Cycles.{run_holds}
-use Rattle.prem_sound.specs.Script.Script.{Script}
-use Rattle.prem_sound.specs.Resident.Faultless.{IsPolicy, ScriptsMakeNoFault}
+use Rattle.prem_sound.proofs.Prelude.{move_cases, does, run_stands, AllAt, count_move, runs_of, keeps_of, Runs, arrivals_inside, run_holds, want_of, CoreMove, Arrivals, arrivals_at, bus_at}
+use Rattle.prem_sound.proofs.Prelude.{with_memory, move_at, cycle_of, is_over, step_of, CycleStep, step_with, coming_step, cycles_of, steps_of, memory_of, run_of, count_of, issued_of}
+use Rattle.prem_sound.proofs.Prelude.{AreOwn, IsRunnable, CarriesInside, WindowsHold, HaveCosts, Setup, MachineState, start_of, Turned, Request, IsPlaced, TaskRun, with_last}
+use Rattle.prem_sound.proofs.Prelude.{ReplacementRule, OrderRule, IsPolicy, ScriptsMakeNoFault, Script, ◌≡◌, ℕ, zero, suc, sym, subst, cond, None, Option, true, false, Bool, List, ⊎_elim}
+use Rattle.prem_sound.proofs.Prelude.{cases_Bool, All}
 use Rattle.prem_sound.proofs.ResidentLemmas.Clashes.{turn_calm, turn_serves}
 use Rattle.prem_sound.proofs.ResidentLemmas.Counted.{NoFaults}
-use Rattle.prem_sound.proofs.ResidentLemmas.Keeps.{KeepScripts, Keeps}
 use Rattle.prem_sound.proofs.ResidentLemmas.Facing.{KnownCore, Meets, Comes, comes, core_keeps, start_faultless}
+use Rattle.prem_sound.proofs.ResidentLemmas.Keeps.{KeepScripts, Keeps}
 
 -- the devices' transfers take some time
 pub costs_of : (p : Setup) → All (IsPlaced p.plant.line p.plant.memory) p.devices → HaveCosts p.devices

@@ -1,41 +1,17 @@
 -- When a core needs the bus: in a switch, and in an interval before its `pm.exec`. In each other part it owes no transaction.
-use Rattle.std.specs.Prelude.{◌&&◌, not, is_some}
-use Rattle.std.proofs.Common.{◌≡◌, ℕ, ◌+◌, ◌-◌, ◌<◌, refl, ap, ◌∙◌, sym, subst, ltb, Some, true, false, Bool, List, length, inl, inr}
-use Rattle.std.proofs.lemmas.Bool.{and_parts, cond_both}
-use Rattle.prem_plant.specs.Order.Order.{OrderRule}
-use Rattle.prem_sched.specs.declared.sched.TaskJobs.{TaskJobs}
-use Rattle.prem_isa.specs.declared.effect.Phase.{Phase}
-use Rattle.prem_isa.specs.declared.effect.Phase.TheVariants.{Compatible, Memory as MemoryPhase, Execution}
-use Rattle.prem_isa.specs.declared.effect.Change.{Change}
-use Rattle.prem_isa.specs.declared.effect.Change.TheVariants.{Stay, Memory, Execute, End, Job}
-use Rattle.prem_isa.specs.Act.{phase_after}
-use Rattle.prem_isa.specs.Bounds.{IsLawful}
-use Rattle.prem_isa.specs.Decode.{cost_of}
-use Rattle.prem_isa.specs.Plain.{TaskRun, Did, did_of, plain_did, plain_run}
-use Rattle.prem_lru.specs.Entries.{ReplacementRule}
-use Rattle.prem_lru.specs.Order.{lines_in}
-use Rattle.prem_gate.specs.Gates.{Turned, wants}
-use Rattle.prem_cycle.specs.declared.state.Mode.{Mode}
-use Rattle.prem_cycle.specs.declared.state.Mode.TheVariants.{Point, Switching, Running, Idle}
-use Rattle.prem_cycle.specs.declared.state.Interval.{Interval}
-use Rattle.prem_cycle.specs.State.{Setup, Work, CoreState, Counts, MachineState, start_of, task_in}
-use Rattle.prem_cycle.specs.Issue.{issued_by, is_execution}
-use Rattle.prem_cycle.specs.Core.{want_of, is_paid, CoreMove, Passes, Issues, phase_in, CoreTurn, core_issue, core_turn}
-use Rattle.prem_cycle.specs.Cycle.{Arrivals, with_memory, with_clash, ends_before, at_point, close_interval, settle, with_now, next_cycle, ticked}
-use Rattle.prem_cycle.proofs.CoreCases.{MoveCase, pays_on_bus, is_denied, pays_cost, waits, goes_on, switches, begins, chooses, chooses_now, begins_idle, has_finished, idles}
-use Rattle.prem_cycle.proofs.RunsLemmas.PositionLemmas.Debts.{wants_none, paid_none}
-use Rattle.prem_cycle.proofs.RunsLemmas.PositionLemmas.Stands.{bump, Stands, Issuing}
-use Rattle.prem_cycle.proofs.RunsLemmas.PositionLemmas.Schedules.{Moves as Scheduled}
-use Rattle.prem_cycle.proofs.RunsLemmas.PositionLemmas.MayMoves.{MayMove, does, stands_still, turn_with}
-use Rattle.prem_cycle.proofs.RunsLemmas.PositionLemmas.Turns.{Runs, bump_move, issuing}
-use Rattle.prem_cycle.proofs.RunsLemmas.PositionLemmas.Issues.{issuing_did}
-use Rattle.prem_sound.specs.Script.Script.{Script}
-use Rattle.prem_sound.specs.Resident.Faultless.{IsPolicy}
-use Rattle.prem_sound.proofs.ScriptLemmas.Begins.{Executed, executed, next_phase, did_lawful}
-use Rattle.prem_sound.proofs.ResidentLemmas.Residents.{opens, MustHit, phase_at, Moves, bump_run}
+use Rattle.prem_sound.proofs.Prelude.{MoveCase, pays_on_bus, is_denied, pays_cost, waits, goes_on, switches, begins, chooses, chooses_now, begins_idle, has_finished, idles, wants_none}
+use Rattle.prem_sound.proofs.Prelude.{paid_none, issuing_did, MayMove, does, stands_still, turn_with, Moves as Scheduled, bump, Stands, Issuing, Runs, bump_move, issuing, want_of, is_paid}
+use Rattle.prem_sound.proofs.Prelude.{CoreMove, Passes, Issues, phase_in, CoreTurn, core_issue, core_turn, Arrivals, with_memory, with_clash, ends_before, at_point, close_interval, settle}
+use Rattle.prem_sound.proofs.Prelude.{with_now, next_cycle, ticked, issued_by, is_execution, Setup, Work, CoreState, Counts, MachineState, start_of, task_in, Interval, Mode, Point}
+use Rattle.prem_sound.proofs.Prelude.{Switching, Running, Idle, Turned, wants, phase_after, IsLawful, cost_of, TaskRun, Did, did_of, plain_did, plain_run, Change, Stay, Memory, Execute, End}
+use Rattle.prem_sound.proofs.Prelude.{Job, Phase, Compatible, Execution, ReplacementRule, lines_in, OrderRule, TaskJobs, IsPolicy, Script, ◌≡◌, ℕ, ◌+◌, ◌-◌, ◌<◌, refl, ap, ◌∙◌, sym, subst}
+use Rattle.prem_sound.proofs.Prelude.{ltb, Some, true, false, Bool, List, length, inl, inr, and_parts, cond_both, ◌&&◌, not, is_some}
+use Rattle.prem_isa.specs.declared.effect.Phase.TheVariants.{Memory as MemoryPhase}
 use Rattle.prem_sound.proofs.ResidentLemmas.Counted.{owed_none}
-use Rattle.prem_sound.proofs.ResidentLemmas.Keeps.{owes_none, same_phase, KeepScripts, issue_hits}
 use Rattle.prem_sound.proofs.ResidentLemmas.Facing.{Meets, Faces, Comes}
+use Rattle.prem_sound.proofs.ResidentLemmas.Keeps.{owes_none, same_phase, KeepScripts, issue_hits}
+use Rattle.prem_sound.proofs.ResidentLemmas.Residents.{opens, MustHit, phase_at, Moves, bump_run}
+use Rattle.prem_sound.proofs.ScriptLemmas.Begins.{Executed, executed, next_phase, did_lawful}
 
 -- ---- the parts that need it
 

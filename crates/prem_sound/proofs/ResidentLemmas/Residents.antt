@@ -1,29 +1,13 @@
 -- While a task is in a predictable interval, its lines stand as the interval's touches leave them.
-use Rattle.std.proofs.Common.{◌≡◌, ◌≢◌, ℕ, zero, suc, ◌<◌, refl, ap, ◌∙◌, sym, subst, true, false, Bool, Some, List, [], ◌∷◌, ◌++◌, length, ◌⊎◌, inl, inr, ⊎_elim}
-use Rattle.std.proofs.lemmas.Bool.{cases_eq}
-use Rattle.prem_plant.specs.declared.plant.Plant.{Plant}
-use Rattle.prem_plant.specs.Order.Order.{OrderRule, HaveRoom, IsCacheFullAfter, caches_after, cache_misses}
-use Rattle.prem_sched.specs.declared.sched.TaskJobs.{TaskJobs}
-use Rattle.prem_isa.specs.declared.effect.Phase.{Phase}
-use Rattle.prem_isa.specs.declared.effect.Phase.TheVariants.{Compatible, Memory as MemoryPhase, Execution}
-use Rattle.prem_isa.specs.declared.effect.Change.{Change}
-use Rattle.prem_isa.specs.declared.effect.Change.TheVariants.{Stay, Memory, Execute, End, Job}
-use Rattle.prem_isa.specs.Act.{phase_after}
-use Rattle.prem_isa.specs.Bounds.{IsLawful}
-use Rattle.prem_isa.specs.Plain.{TaskRun, Did, plain_did, plain_step, plain_run}
-use Rattle.prem_isa.proofs.PlainLaws.{plain_steps-next}
-use Rattle.prem_cycle.specs.declared.state.Mode.{Mode}
-use Rattle.prem_cycle.specs.declared.state.Mode.TheVariants.{Point, Switching, Running, Idle}
-use Rattle.prem_cycle.specs.declared.state.Interval.{Interval}
-use Rattle.prem_cycle.specs.State.{Setup, Work, CoreState}
-use Rattle.prem_cycle.specs.Core.{CoreMove, Passes, Issues, is_predictable, new_interval, phase_in, stated_after}
-use Rattle.prem_cycle.specs.Issue.{is_execution}
-use Rattle.prem_cycle.specs.Cycle.{ends_before}
-use Rattle.prem_cycle.proofs.CoreCases.{Continues, MoveCase, pays_on_bus, is_denied, pays_cost, waits, goes_on, switches, begins, chooses, chooses_now, begins_idle, has_finished, idles}
-use Rattle.prem_cycle.proofs.RunsLemmas.PositionLemmas.Stands.{bump, bump_same, bump_other}
-use Rattle.prem_sound.specs.Script.Script.{lines_of_did, lines_of_dids, Begun, steps_after, begun_after, begun_with, begun_by, Call, IsCovered, Opens, IsStep, Script, call_of, IsScript}
-use Rattle.prem_sound.proofs.ScriptLemmas.Residency.{lines_of_dids-last, Since, since_none, since_more, covered_hits}
+use Rattle.prem_sound.proofs.Prelude.{Continues, MoveCase, pays_on_bus, is_denied, pays_cost, waits, goes_on, switches, begins, chooses, chooses_now, begins_idle, has_finished, idles, bump}
+use Rattle.prem_sound.proofs.Prelude.{bump_same, bump_other, CoreMove, Passes, Issues, is_predictable, new_interval, phase_in, stated_after, ends_before, is_execution, Setup, Work}
+use Rattle.prem_sound.proofs.Prelude.{CoreState, Interval, Mode, Point, Switching, Running, Idle, plain_steps-next, phase_after, IsLawful, TaskRun, Did, plain_did, plain_step, plain_run}
+use Rattle.prem_sound.proofs.Prelude.{Change, Stay, Memory, Execute, End, Job, Phase, Compatible, Execution, OrderRule, HaveRoom, IsCacheFullAfter, caches_after, cache_misses, Plant}
+use Rattle.prem_sound.proofs.Prelude.{TaskJobs, lines_of_did, lines_of_dids, Begun, steps_after, begun_after, begun_with, begun_by, Call, IsCovered, Opens, IsStep, Script, call_of, IsScript}
+use Rattle.prem_sound.proofs.Prelude.{◌≡◌, ◌≢◌, ℕ, zero, suc, ◌<◌, refl, ap, ◌∙◌, sym, subst, true, false, Bool, Some, List, [], ◌∷◌, ◌++◌, length, ◌⊎◌, inl, inr, ⊎_elim, cases_eq}
+use Rattle.prem_isa.specs.declared.effect.Phase.TheVariants.{Memory as MemoryPhase}
 use Rattle.prem_sound.proofs.ScriptLemmas.Begins.{Executed, executed, next_phase, did_lawful, begun_by-next, Brought, brought_in}
+use Rattle.prem_sound.proofs.ScriptLemmas.Residency.{lines_of_dids-last, Since, since_none, since_more, covered_hits}
 
 -- ---- an interval
 

@@ -1,24 +1,8 @@
 -- The touches of an instruction: which of them miss, and how the lines stand behind them.
-use Rattle.std.specs.Prelude.{slice_set}
-use Rattle.std.proofs.Common.{◌≡◌, ℕ, ◌+◌, ◌/◌, ◌<◌, ◌≤◌, refl, ap, ◌∙◌, sym, subst, arith, cond, Some, None, Option, List, [], ◌∷◌, length}
-use Rattle.std.proofs.lemmas.List.{length-set}
-use Rattle.prem_plant.specs.declared.plant.Plant.{Plant}
-use Rattle.prem_plant.specs.Order.Order.{is_in, OrderRule, order_of, cache_after, caches_after, cache_misses}
-use Rattle.prem_isa.specs.declared.effect.Access.{Access}
-use Rattle.prem_isa.specs.declared.effect.Stored.{Stored}
-use Rattle.prem_isa.specs.declared.effect.Effect.{Effect}
-use Rattle.prem_lru.specs.Entries.{ReplacementRule, write_line}
-use Rattle.prem_lru.specs.CacheState.{CacheState, Touched, set_of, touch_of, IsCache}
-use Rattle.prem_lru.specs.Rules.{IsRule, MovesBy}
-use Rattle.prem_lru.specs.Order.{lines_in}
-use Rattle.prem_lru.specs.Splice.{bytes_of}
-use Rattle.prem_lru.proofs.Touches.{some_sets}
-use Rattle.prem_lru.proofs.Shapes.{touch_kept, touch_hit, is_in-order, lines_in-touch, lines_in-same}
-use Rattle.prem_lru.proofs.Stores.{lines-write_line}
-use Rattle.prem_cycle.specs.State.{Setup, record_of, Task, Work, task_in}
-use Rattle.prem_cycle.specs.Issue.{LineTouch, stored_in, Issued, issued_with, issued_by, task_after}
-use Rattle.prem_cycle.proofs.RunsLemmas.PositionLemmas.Works.{IsKept, kept_plant, line_in}
-use Rattle.prem_sound.specs.Script.Script.{access_lines}
+use Rattle.prem_sound.proofs.Prelude.{IsKept, kept_plant, line_in, LineTouch, stored_in, Issued, issued_with, issued_by, task_after, Setup, record_of, Task, Work, task_in, Access, Effect}
+use Rattle.prem_sound.proofs.Prelude.{Stored, touch_kept, touch_hit, is_in-order, lines_in-touch, lines_in-same, lines-write_line, some_sets, CacheState, Touched, set_of, touch_of, IsCache}
+use Rattle.prem_sound.proofs.Prelude.{ReplacementRule, write_line, lines_in, IsRule, MovesBy, bytes_of, is_in, OrderRule, order_of, cache_after, caches_after, cache_misses, Plant}
+use Rattle.prem_sound.proofs.Prelude.{access_lines, ◌≡◌, ℕ, ◌+◌, ◌/◌, ◌<◌, ◌≤◌, refl, ap, ◌∙◌, sym, subst, arith, cond, Some, None, Option, List, [], ◌∷◌, length, length-set, slice_set}
 
 -- the lines of those that miss
 abbrev pub missed_lines : List LineTouch → List ℕ

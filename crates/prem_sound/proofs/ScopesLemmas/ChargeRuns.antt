@@ -1,20 +1,11 @@
 -- What the job and the stretch in which a task's run on its own stands are charged.
-use Rattle.std.proofs.Common.{◌≡◌, ℕ, zero, suc, ◌+◌, ◌*◌, ◌<◌, ◌≤◌, refl, ap, ◌∙◌, sym, subst, arith, Some, None, Option, List, length}
-use Rattle.prem_plant.specs.declared.plant.Plant.{Plant}
-use Rattle.prem_isa.specs.declared.effect.Phase.{Phase}
-use Rattle.prem_isa.specs.declared.effect.Phase.TheVariants.{Compatible, Memory as MemoryPhase, Execution}
-use Rattle.prem_isa.specs.declared.effect.Change.{Change}
-use Rattle.prem_isa.specs.declared.effect.Change.TheVariants.{Stay, Memory, Execute, End, Job}
-use Rattle.prem_isa.specs.Bounds.{IsLawful}
-use Rattle.prem_isa.specs.Decode.{cost_of}
-use Rattle.prem_isa.specs.Plain.{TaskRun, PlainState, Did, moved_by, after_change, plain_did, plain_step, plain_steps, plain_run}
-use Rattle.prem_isa.proofs.ActLaws.{cost_bounds}
-use Rattle.prem_sound.specs.Script.Script.{begun_by, change_due, Script, call_at, lines_of_did}
-use Rattle.prem_sound.specs.Paced.Paced.{within_job, within_stretch}
+use Rattle.prem_sound.proofs.Prelude.{cost_bounds, IsLawful, cost_of, TaskRun, PlainState, Did, moved_by, after_change, plain_did, plain_step, plain_steps, plain_run, Change, Stay, Memory}
+use Rattle.prem_sound.proofs.Prelude.{Execute, End, Job, Phase, Compatible, Execution, Plant, within_job, within_stretch, Scoping, lines_with, scope_with, scope_by, lines_charged}
+use Rattle.prem_sound.proofs.Prelude.{charge_with, Charges, own_charge, did_charge, job_with, job_charged, stretch_with, stretch_charged, IsCharged, charge_due, all_charged, line_cost}
+use Rattle.prem_sound.proofs.Prelude.{crowded_of, begun_by, change_due, Script, call_at, lines_of_did, ◌≡◌, ℕ, zero, suc, ◌+◌, ◌*◌, ◌<◌, ◌≤◌, refl, ap, ◌∙◌, sym, subst, arith, Some, None}
+use Rattle.prem_sound.proofs.Prelude.{Option, List, length}
+use Rattle.prem_isa.specs.declared.effect.Phase.TheVariants.{Memory as MemoryPhase}
 use Rattle.prem_sound.proofs.ScriptLemmas.Begins.{Executed, executed, did_lawful, still_by}
-use Rattle.prem_sound.specs.Scopes.Lines.{line_cost, crowded_of}
-use Rattle.prem_sound.specs.Scopes.Charged.{Scoping, lines_with, scope_with, scope_by, lines_charged, charge_with, Charges, own_charge, did_charge, job_with, job_charged}
-use Rattle.prem_sound.specs.Scopes.Charged.{stretch_with, stretch_charged, IsCharged, charge_due, all_charged}
 
 pub scope_by-next : (run : TaskRun) (scoping : Scoping) (n : ℕ) → scope_by run scoping (n + 1) ≡ scope_with (plain_did run (plain_run run n)) (lines_with (scoping n) (scope_by run scoping n))
 unfolding scope_by

@@ -1,28 +1,12 @@
 -- A scope's credit: the lines of its roomy sets that haven't missed since it began are paid for.
-use Rattle.std.specs.Prelude.{not, sum, filter}
-use Rattle.std.proofs.Common.{◌≡◌, ℕ, ◌+◌, ◌-◌, ◌*◌, ◌<◌, ◌≤◌, refl, ap, ◌∙◌, sym, subst, arith, cond, true, false, Bool, Some, None, Option, List, [], ◌∷◌, ◌++◌, length}
-use Rattle.std.proofs.lemmas.List.{length-append}
-use Rattle.std.proofs.lemmas.List.Elements.{filter-append}
-use Rattle.std.proofs.lemmas.List.Sums.{sum_by-cons}
-use Rattle.std.proofs.lemmas.Nat.{mul-le}
-use Rattle.std.proofs.Math.Nat.{add-mul}
-use Rattle.prem_plant.specs.declared.plant.Plant.{Plant}
-use Rattle.prem_plant.specs.Order.Order.{AllIn, OrderRule, caches_after, cache_misses, CacheMissesOnce}
-use Rattle.prem_plant.proofs.OrderLemmas.Lift.{length-caches_after}
-use Rattle.prem_plant.proofs.OrderLemmas.Earliest.{all_append}
-use Rattle.prem_isa.specs.Decode.{cost_of}
-use Rattle.prem_isa.specs.Plain.{Did}
-use Rattle.prem_isa.proofs.ActLaws.{cost_bounds}
-use Rattle.prem_cycle.specs.Issue.{LineTouch, owed_by}
-use Rattle.prem_cycle.proofs.RunsLemmas.PositionLemmas.Debts.{total}
-use Rattle.prem_sound.specs.Script.Script.{lines_of_did}
-use Rattle.prem_sound.proofs.ScriptLemmas.Residency.{caches_after-append, cache_misses-append}
-use Rattle.prem_sound.proofs.ResidentLemmas.Touches.{missed_lines}
+use Rattle.prem_sound.proofs.Prelude.{total, LineTouch, owed_by, cost_bounds, cost_of, Did, all_append, length-caches_after, AllIn, OrderRule, caches_after, cache_misses, CacheMissesOnce}
+use Rattle.prem_sound.proofs.Prelude.{Plant, lines_with, charge_with, MissesOweLittle, line_cost, roomy_of, crowded_of, lines_of_did, ◌≡◌, ℕ, ◌+◌, ◌-◌, ◌*◌, ◌<◌, ◌≤◌, refl, ap, ◌∙◌, sym}
+use Rattle.prem_sound.proofs.Prelude.{subst, arith, cond, true, false, Bool, Some, None, Option, List, [], ◌∷◌, ◌++◌, length, add-mul, length-append, filter-append, sum_by-cons, mul-le, not}
+use Rattle.prem_sound.proofs.Prelude.{sum, filter}
 use Rattle.prem_sound.proofs.Paces.{owed_misses}
-use Rattle.prem_sound.specs.Scopes.Lines.{line_cost, roomy_of, crowded_of}
-use Rattle.prem_sound.specs.Scopes.Charged.{lines_with, charge_with}
-use Rattle.prem_sound.specs.Scopes.Laws.{MissesOweLittle}
+use Rattle.prem_sound.proofs.ResidentLemmas.Touches.{missed_lines}
 use Rattle.prem_sound.proofs.ScopesLemmas.Misses.{few_roomy, few_crowded, both_parts}
+use Rattle.prem_sound.proofs.ScriptLemmas.Residency.{caches_after-append, cache_misses-append}
 
 -- ---- credits
 

@@ -1,18 +1,8 @@
 -- In the roomy sets of a collection each of its lines misses once at most, and in the crowded ones each touch.
-use Rattle.std.specs.Prelude.{not, slice_set, filter}
-use Rattle.std.proofs.Common.{◌≡◌, ℕ, ◌+◌, ◌%◌, ◌<◌, ◌≤◌, refl, ap, ◌∙◌, sym, subst, arith, cond, eqb, true, false, Bool, List, [], ◌∷◌, length, get_or, ⊎_elim}
-use Rattle.std.proofs.lemmas.Bool.{cases_eq, cases_Bool, cond_both, eq-eqb, ne_eqb, leb-true}
-use Rattle.std.proofs.lemmas.List.{length-set, get_or-set_same, get_or-set_other}
-use Rattle.std.proofs.lemmas.Nat.{mod_below}
-use Rattle.prem_plant.specs.declared.plant.Plant.{Plant}
-use Rattle.prem_plant.specs.Order.Order.{is_in, AllIn, OrderRule, order_after, order_of, cache_after, cache_misses, of_set, HaveRoom, CacheMissesOnce}
-use Rattle.prem_plant.proofs.OrderLemmas.Members.{in_other, in_head, in_tail}
-use Rattle.prem_plant.specs.Order.Rules.{order_rule_of}
-use Rattle.prem_plant.proofs.OrderLemmas.Lift.{few_misses}
-use Rattle.prem_plant.proofs.OrderLemmas.RuleLaws.{kind_cache_once}
-use Rattle.prem_sound.specs.Script.Script.{lines_of_dids}
-use Rattle.prem_sound.specs.Scopes.Lines.{is_roomy, roomy_of, crowded_of}
-use Rattle.prem_sound.specs.Scopes.Laws.{ScopesMissLittle, KindsMissLittle}
+use Rattle.prem_sound.proofs.Prelude.{few_misses, in_other, in_head, in_tail, kind_cache_once, is_in, AllIn, OrderRule, order_after, order_of, cache_after, cache_misses, of_set, HaveRoom}
+use Rattle.prem_sound.proofs.Prelude.{CacheMissesOnce, order_rule_of, Plant, ScopesMissLittle, KindsMissLittle, is_roomy, roomy_of, crowded_of, lines_of_dids, ◌≡◌, ℕ, ◌+◌, ◌%◌, ◌<◌, ◌≤◌}
+use Rattle.prem_sound.proofs.Prelude.{refl, ap, ◌∙◌, sym, subst, arith, cond, eqb, true, false, Bool, List, [], ◌∷◌, length, get_or, ⊎_elim, cases_eq, cases_Bool, cond_both, ne_eqb}
+use Rattle.prem_sound.proofs.Prelude.{leb-true, length-set, get_or-set_same, get_or-set_other, mod_below, not, slice_set, filter}
 
 -- ---- lists that are filtered
 
@@ -140,9 +130,6 @@ module _ (g : ℕ → Bool) (order : OrderRule) (room n : ℕ) (pos : 0 < n) whe
 module _ (g : ℕ → Bool) (n i : ℕ) where
   abbrev pass : ℕ → Bool
   pass x = g (x % n)
-
-  of_here : (x : ℕ) (xs : List ℕ) → x % n ≡ i → of_set n i (x ∷ xs) ≡ x ∷ of_set n i xs
-  of_here x xs e = ap (λ b. cond b (x ∷ of_set n i xs) (of_set n i xs)) (eq-eqb (x % n) i e)
 
   of_there : (x : ℕ) (xs : List ℕ) → (x % n ≡ i → ⊥) → of_set n i (x ∷ xs) ≡ of_set n i xs
   of_there x xs ne = ap (λ b. cond b (x ∷ of_set n i xs) (of_set n i xs)) (ne_eqb (x % n) i ne)

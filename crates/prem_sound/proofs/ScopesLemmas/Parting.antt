@@ -1,21 +1,12 @@
 -- Instructions parted into scopes, and the strands that they give.
-use Rattle.std.specs.Prelude.{All, sum_by}
-use Rattle.std.proofs.Common.{◌≡◌, ℕ, suc, ◌+◌, ◌*◌, ◌≤◌, refl, ap, ◌∙◌, sym, subst, arith, List, [], ◌∷◌, ◌++◌, append_assoc, append-nil}
-use Rattle.std.proofs.lemmas.List.Elements.{All-nil, All-cons, All-append}
-use Rattle.std.proofs.lemmas.List.Sums.{sum_by-cons}
-use Rattle.prem_plant.specs.declared.plant.Plant.{Plant}
-use Rattle.prem_isa.specs.declared.effect.Change.{Change}
-use Rattle.prem_isa.specs.declared.effect.Change.TheVariants.{Stay, Memory, Execute, End, Job}
-use Rattle.prem_isa.specs.Plain.{Did}
-use Rattle.prem_cycle.specs.Runs.Position.Finish.{due_of}
-use Rattle.prem_sound.specs.Script.Script.{change_due, call_at, Script}
-use Rattle.prem_sound.specs.Paced.Paced.{within_stretch}
-use Rattle.prem_sound.specs.Scopes.Scopes.{Scope, KeepsToLines, charge_of, dids_of, charges_of, single}
-use Rattle.prem_sound.specs.Scopes.Strands.{Strand, ends, runs, calls, dids_along, GoesTo, IsWithinInterval, IsStrand, change_behind, last_change, calls_begun, scope_due, joined}
-use Rattle.prem_sound.specs.Scopes.Strands.{begun_along, charges_along, EndsNoJob, StretchesWithin}
-use Rattle.prem_sound.specs.Scopes.Parted.{IsQuiet, strand_of, stretch_along, OneIsParted, EachIsParted, PartsJoin, PartsGrow, PartsAreStrands, CallsAreStrands, JobsEndDue}
-use Rattle.prem_sound.specs.Scopes.Parted.{StrandsSumUp, StretchesShrink}
+use Rattle.prem_sound.proofs.Prelude.{due_of, Did, Change, Stay, Memory, Execute, End, Job, Plant, within_stretch, Scope, KeepsToLines, charge_of, dids_of, charges_of, single, Strand, ends}
+use Rattle.prem_sound.proofs.Prelude.{runs, calls, dids_along, GoesTo, IsWithinInterval, IsStrand, change_behind, last_change, calls_begun, scope_due, begun_along, charges_along, EndsNoJob}
+use Rattle.prem_sound.proofs.Prelude.{StretchesWithin, change_due, call_at, Script, ◌≡◌, ℕ, suc, ◌+◌, ◌*◌, ◌≤◌, refl, ap, ◌∙◌, sym, subst, arith, List, [], ◌∷◌, ◌++◌, append_assoc}
+use Rattle.prem_sound.proofs.Prelude.{append-nil, All-nil, All-cons, All-append, sum_by-cons, All, sum_by}
 use Rattle.prem_sound.proofs.ScopesLemmas.Alone.{singles_are_due}
+use Rattle.prem_sound.specs.Scopes.Parted.{IsQuiet, strand_of, stretch_along, OneIsParted, EachIsParted, PartsJoin, PartsGrow, PartsAreStrands, CallsAreStrands, JobsEndDue, StrandsSumUp}
+use Rattle.prem_sound.specs.Scopes.Parted.{StretchesShrink}
+use Rattle.prem_sound.specs.Scopes.Strands.{joined}
 
 -- ---- parts
 

@@ -1,10 +1,6 @@
 -- Collections in a small cache of four sets with two ways, and what touches of them miss.
-use Rattle.std.proofs.Common.{◌≡◌, ℕ, refl, true, false, List, [], ◌∷◌, length, replicate}
-use Rattle.prem_plant.specs.declared.plant.Plant.{Plant}
-use Rattle.prem_plant.specs.declared.plant.Replacement.TheVariants.{Lru}
+use Rattle.prem_sound.proofs.Prelude.{lru, fifo, cache_misses, Plant, Lru, is_roomy, roomy_of, crowded_of, most_misses, ◌≡◌, ℕ, refl, true, false, List, [], ◌∷◌, length, replicate}
 use Rattle.prem_plant.specs.declared.plant.Target.TheVariants.{Rv32i}
-use Rattle.prem_plant.specs.Order.Order.{lru, fifo, cache_misses}
-use Rattle.prem_sound.specs.Scopes.Lines.{is_roomy, roomy_of, crowded_of, most_misses}
 
 abbrev small : Plant
 small = record { line = 16; sets = 4; ways = 2; fill = 10; back = 10; switch = 20; memory = 4096; policy = Lru; target = Rv32i }

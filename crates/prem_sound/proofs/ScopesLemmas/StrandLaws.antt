@@ -1,25 +1,11 @@
 -- Strands one behind another, and what a scope's charge is made of.
-use Rattle.std.specs.Prelude.{sum_by, not}
-use Rattle.std.proofs.Common.{◌≡◌, ℕ, suc, ◌+◌, ◌*◌, ◌≤◌, refl, ap, ◌∙◌, sym, subst, arith, None, List, [], ◌∷◌, ◌++◌, append_assoc, length, slice_index_or, ◌%◌, ◌/◌, cond, true}
-use Rattle.std.proofs.Common.{false, Bool, Some, Option}
-use Rattle.std.proofs.lemmas.List.{length-append}
-use Rattle.std.proofs.lemmas.List.Elements.{filter-append}
-use Rattle.std.proofs.lemmas.List.Sums.{sum_by-cons}
-use Rattle.std.proofs.Math.Nat.{add-mul}
-use Rattle.prem_plant.specs.declared.plant.Plant.{Plant}
-use Rattle.prem_isa.specs.declared.effect.Change.{Change}
-use Rattle.prem_isa.specs.declared.effect.Change.TheVariants.{Stay, Memory, Execute, End, Job}
-use Rattle.prem_isa.specs.Decode.{cost_of}
-use Rattle.prem_isa.specs.Plain.{Did}
-use Rattle.prem_sound.specs.Script.Script.{access_lines, lines_of_did, lines_of_dids, cost_of_dids, change_due, Call, no_call, Script}
-use Rattle.prem_sound.specs.Paced.Paced.{within_job, within_stretch}
-use Rattle.prem_isa.specs.declared.effect.Access.{Access}
-use Rattle.prem_sound.specs.Scopes.Lines.{line_cost, is_roomy, roomy_of, crowded_of}
-use Rattle.prem_sound.specs.Scopes.Scopes.{Scope, charge_of}
-use Rattle.prem_sound.specs.Scopes.Charged.{charge_with, crowd_cost, access_cost}
-use Rattle.prem_sound.specs.Scopes.Laws.{ScopesSumUp, ChargesByAccess}
-use Rattle.prem_sound.specs.Scopes.Strands.{Strand, ends, runs, calls, dids_along, IsStrand, last_change, calls_begun, scope_due, ChargedFrom, joined, begun_along, charges_along}
-use Rattle.prem_sound.specs.Scopes.Strands.{EndsNoJob, StretchesWithin, StrandsJoin, JobsAreCharged, ChargesLookAtCalls}
+use Rattle.prem_sound.proofs.Prelude.{cost_of, Did, Access, Change, Stay, Memory, Execute, End, Job, Plant, within_job, within_stretch, charge_with, crowd_cost, access_cost, ScopesSumUp}
+use Rattle.prem_sound.proofs.Prelude.{ChargesByAccess, line_cost, is_roomy, roomy_of, crowded_of, Scope, charge_of, Strand, ends, runs, calls, dids_along, IsStrand, last_change, calls_begun}
+use Rattle.prem_sound.proofs.Prelude.{scope_due, ChargedFrom, begun_along, charges_along, EndsNoJob, StretchesWithin, StrandsJoin, JobsAreCharged, ChargesLookAtCalls, access_lines}
+use Rattle.prem_sound.proofs.Prelude.{lines_of_did, lines_of_dids, cost_of_dids, change_due, Call, no_call, Script, ◌≡◌, ℕ, suc, ◌+◌, ◌*◌, ◌≤◌, refl, ap, ◌∙◌, sym, subst, arith, None, List}
+use Rattle.prem_sound.proofs.Prelude.{[], ◌∷◌, ◌++◌, append_assoc, length, slice_index_or, ◌%◌, ◌/◌, cond, true, false, Bool, Some, Option, add-mul, length-append, filter-append}
+use Rattle.prem_sound.proofs.Prelude.{sum_by-cons, sum_by, not}
+use Rattle.prem_sound.specs.Scopes.Strands.{joined}
 
 -- ---- a scope
 

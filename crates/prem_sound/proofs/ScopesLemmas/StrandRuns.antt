@@ -1,35 +1,18 @@
 -- A run along a strand is scoped and charged as the strand is.
-use Rattle.std.specs.Prelude.{All}
-use Rattle.std.proofs.Common.{◌≡◌, ℕ, suc, ◌+◌, ◌*◌, ◌<◌, ◌≤◌, refl, ap, ◌∙◌, sym, subst, arith, true, false, Some, None, Option, List, [], ◌∷◌, ◌++◌, length, slice_index_or, ⊎_elim}
-use Rattle.std.proofs.lemmas.Bool.{cases_lt}
-use Rattle.std.proofs.lemmas.List.{length-append}
-use Rattle.std.proofs.lemmas.List.Elements.{filter-append}
-use Rattle.std.proofs.lemmas.List.Sums.{sum_by-cons}
-use Rattle.std.proofs.Math.Nat.{add-mul}
-use Rattle.prem_plant.specs.declared.plant.Plant.{Plant}
-use Rattle.prem_plant.specs.Order.Order.{AllIn}
-use Rattle.prem_isa.specs.declared.effect.Phase.{Phase}
-use Rattle.prem_isa.specs.declared.effect.Phase.TheVariants.{Compatible, Memory as MemoryPhase, Execution}
-use Rattle.prem_isa.specs.declared.effect.Change.{Change}
-use Rattle.prem_isa.specs.declared.effect.Change.TheVariants.{Stay, Memory, Execute, End, Job}
-use Rattle.prem_isa.specs.Bounds.{IsLawful}
-use Rattle.prem_isa.specs.Decode.{cost_of}
-use Rattle.prem_isa.specs.Plain.{TaskRun, PlainState, Did, is_running, plain_did, plain_start, plain_steps, plain_run, plain_trace, with_last}
-use Rattle.prem_isa.proofs.PlainLaws.{plain_run-add, plain_trace-add}
-use Rattle.prem_cycle.specs.Core.{is_predictable}
-use Rattle.prem_sound.specs.Script.Script.{lines_of_did, lines_of_dids, cost_of_dids, Begun, begun_with, begun_by, change_due, call_at, Script}
-use Rattle.prem_sound.specs.Paced.Paced.{within_job, within_stretch}
-use Rattle.prem_sound.proofs.ScriptLemmas.Begins.{Executed, executed, did_lawful, begun_by-next}
-use Rattle.prem_sound.proofs.ScriptLemmas.Conforming.{trace_short}
+use Rattle.prem_sound.proofs.Prelude.{is_predictable, plain_run-add, plain_trace-add, IsLawful, cost_of, TaskRun, PlainState, Did, is_running, plain_did, plain_start, plain_steps, plain_run}
+use Rattle.prem_sound.proofs.Prelude.{plain_trace, with_last, Change, Stay, Memory, Execute, End, Job, Phase, Compatible, Execution, AllIn, Plant, within_job, within_stretch, Scoping}
+use Rattle.prem_sound.proofs.Prelude.{lines_with, within_scope, scope_with, scope_by, scope_at, lines_charged, charge_with, Charges, charges_by, own_charge, did_charge, job_with}
+use Rattle.prem_sound.proofs.Prelude.{job_charged, stretch_with, stretch_charged, line_cost, roomy_of, crowded_of, Scope, charge_of, Strand, ends, runs, calls, dids_along, none_begins}
+use Rattle.prem_sound.proofs.Prelude.{one_begins, begins_along, scoping_of, GoesTo, IsWithinInterval, IsStrand, last_change, calls_begun, scope_due, ChargedFrom, StrandsAreCharged}
+use Rattle.prem_sound.proofs.Prelude.{lines_of_did, lines_of_dids, cost_of_dids, Begun, begun_with, begun_by, change_due, call_at, Script, ◌≡◌, ℕ, suc, ◌+◌, ◌*◌, ◌<◌, ◌≤◌, refl, ap, ◌∙◌}
+use Rattle.prem_sound.proofs.Prelude.{sym, subst, arith, true, false, Some, None, Option, List, [], ◌∷◌, ◌++◌, length, slice_index_or, ⊎_elim, add-mul, cases_lt, length-append}
+use Rattle.prem_sound.proofs.Prelude.{filter-append, sum_by-cons, All}
+use Rattle.prem_isa.specs.declared.effect.Phase.TheVariants.{Memory as MemoryPhase}
 use Rattle.prem_sound.proofs.CallRuns.{begins_call, calls_after, none_did}
 use Rattle.prem_sound.proofs.Ends.{not_running, behind_end}
-use Rattle.prem_sound.specs.Scopes.Lines.{line_cost, roomy_of, crowded_of}
-use Rattle.prem_sound.specs.Scopes.Scopes.{Scope, charge_of}
-use Rattle.prem_sound.specs.Scopes.Charged.{Scoping, lines_with, within_scope, scope_with, scope_by, scope_at, lines_charged, charge_with, Charges, charges_by, own_charge}
-use Rattle.prem_sound.specs.Scopes.Charged.{did_charge, job_with, job_charged, stretch_with, stretch_charged}
-use Rattle.prem_sound.specs.Scopes.Strands.{Strand, ends, runs, calls, dids_along, none_begins, one_begins, begins_along, scoping_of, GoesTo, IsWithinInterval, IsStrand}
-use Rattle.prem_sound.specs.Scopes.Strands.{last_change, calls_begun, scope_due, ChargedFrom, StrandsAreCharged}
 use Rattle.prem_sound.proofs.ScopesLemmas.ChargeRuns.{scope_by-next, job_charged-next, stretch_charged-next}
+use Rattle.prem_sound.proofs.ScriptLemmas.Begins.{Executed, executed, did_lawful, begun_by-next}
+use Rattle.prem_sound.proofs.ScriptLemmas.Conforming.{trace_short}
 
 -- ---- a trace, instruction by instruction
 

@@ -1,20 +1,8 @@
 -- Conditions on strands as tests that are computed.
-use Rattle.std.specs.Prelude.{All, ◌&&◌}
-use Rattle.std.proofs.Common.{◌≡◌, ℕ, ◌+◌, leb, refl, true, false, Bool, List, [], ◌∷◌}
-use Rattle.std.proofs.lemmas.Bool.{and_parts, leb-true}
-use Rattle.std.proofs.lemmas.List.Elements.{All-nil, All-cons}
-use Rattle.prem_plant.specs.declared.plant.Plant.{Plant}
-use Rattle.prem_plant.specs.Order.Order.{is_in, AllIn}
-use Rattle.prem_isa.specs.declared.effect.Phase.{Phase}
-use Rattle.prem_isa.specs.declared.effect.Phase.TheVariants.{Compatible, Memory as MemoryPhase, Execution}
-use Rattle.prem_isa.specs.declared.effect.Change.{Change}
-use Rattle.prem_isa.specs.declared.effect.Change.TheVariants.{Stay, Memory, Execute, End, Job}
-use Rattle.prem_isa.specs.Plain.{Did}
-use Rattle.prem_cycle.specs.Core.{is_predictable}
-use Rattle.prem_sound.specs.Script.Script.{lines_of_dids, Script}
-use Rattle.prem_sound.specs.Paced.Paced.{within_job, within_stretch}
-use Rattle.prem_sound.specs.Scopes.Scopes.{charge_of}
-use Rattle.prem_sound.specs.Scopes.Strands.{Strand, ends, runs, calls, GoesTo, IsWithinInterval, IsStrand, last_change, calls_begun, scope_due, ChargedFrom}
+use Rattle.prem_sound.proofs.Prelude.{is_predictable, Did, Change, Stay, Memory, Execute, End, Job, Phase, Compatible, Execution, is_in, AllIn, Plant, within_job, within_stretch, charge_of}
+use Rattle.prem_sound.proofs.Prelude.{Strand, ends, runs, calls, GoesTo, IsWithinInterval, IsStrand, last_change, calls_begun, scope_due, ChargedFrom, lines_of_dids, Script, ◌≡◌, ℕ, ◌+◌}
+use Rattle.prem_sound.proofs.Prelude.{leb, refl, true, false, Bool, List, [], ◌∷◌, and_parts, leb-true, All-nil, All-cons, All, ◌&&◌}
+use Rattle.prem_isa.specs.declared.effect.Phase.TheVariants.{Memory as MemoryPhase}
 
 abbrev all_inside : List ℕ → List ℕ → Bool
 all_inside c [] = true

@@ -1,20 +1,12 @@
 -- What a task's run on its own is charged in all, instruction by instruction.
-use Rattle.std.specs.Prelude.{is_none}
-use Rattle.std.proofs.Common.{◌≡◌, ℕ, zero, suc, ◌+◌, ◌-◌, ◌*◌, ◌<◌, ◌≤◌, refl, ap, ◌∙◌, sym, subst, arith, ltb, true, false, Some, None, Option, ◌⊎◌, inl, inr, ⊎_elim}
-use Rattle.std.proofs.lemmas.Bool.{and_parts, cases_Bool, cases_lt, ltb-true}
-use Rattle.std.proofs.Math.Nat.{add-mul}
-use Rattle.prem_plant.specs.declared.plant.Plant.{Plant}
-use Rattle.prem_isa.specs.declared.effect.Change.{Change}
-use Rattle.prem_isa.specs.declared.effect.Change.TheVariants.{Stay, Memory, Execute, End, Job}
-use Rattle.prem_isa.specs.Plain.{TaskRun, PlainState, Did, moved_by, after_change, is_running, plain_did, plain_step, plain_steps, plain_run}
-use Rattle.prem_sound.specs.Script.Script.{begun_by, Script, call_at}
-use Rattle.prem_sound.proofs.ScriptLemmas.Begins.{Executed, executed, did_lawful, still_by}
-use Rattle.prem_sound.proofs.Ends.{not_running, behind_end, ended_most}
+use Rattle.prem_sound.proofs.Prelude.{TaskRun, PlainState, Did, moved_by, after_change, is_running, plain_did, plain_step, plain_steps, plain_run, Change, Stay, Memory, Execute, End, Job}
+use Rattle.prem_sound.proofs.Prelude.{Plant, within_job, Charges, did_charge, job_with, job_charged, charge_due, all_charged, IsCharged, ChargesSumUp, begun_by, Script, call_at, ◌≡◌, ℕ}
+use Rattle.prem_sound.proofs.Prelude.{zero, suc, ◌+◌, ◌-◌, ◌*◌, ◌<◌, ◌≤◌, refl, ap, ◌∙◌, sym, subst, arith, ltb, true, false, Some, None, Option, ◌⊎◌, inl, inr, ⊎_elim, add-mul, and_parts}
+use Rattle.prem_sound.proofs.Prelude.{cases_Bool, cases_lt, ltb-true, is_none}
 use Rattle.prem_sound.proofs.CallRuns.{ended_before, none_did}
-use Rattle.prem_sound.specs.Paced.Paced.{within_job}
-use Rattle.prem_sound.specs.Scopes.Charged.{Charges, did_charge, job_with, job_charged, charge_due, all_charged, IsCharged}
-use Rattle.prem_sound.specs.Scopes.Laws.{ChargesSumUp}
+use Rattle.prem_sound.proofs.Ends.{not_running, behind_end, ended_most}
 use Rattle.prem_sound.proofs.ScopesLemmas.ChargeRuns.{last_charge}
+use Rattle.prem_sound.proofs.ScriptLemmas.Begins.{Executed, executed, did_lawful, still_by}
 
 module _ (plant : Plant) (s : Script) (run : TaskRun) (charge : Charges) (some : (n : ℕ) (d : Did) → 1 ≤ charge n d) where
   abbrev all : ℕ → ℕ

@@ -1,22 +1,13 @@
 -- The worked image of a marked call, parted into scopes: its job takes 795 cycles at most, where its accesses alone give 975.
-use Rattle.std.proofs.Common.{◌≡◌, ℕ, zero, suc, ◌+◌, ◌*◌, ◌≤◌, refl, ap, ◌∙◌, sym, subst, arith, true, [], ◌∷◌, ◌++◌, append-nil, length, take, drop}
-use Rattle.std.proofs.lemmas.List.{take-append-drop}
-use Rattle.prem_plant.specs.Order.Order.{lru, one_pass}
-use Rattle.prem_isa.specs.Plain.{plain_start, plain_run, plain_steps, plain_trace}
-use Rattle.prem_lru.specs.Entries.{to_front}
-use Rattle.prem_cycle.specs.Cycle.{is_finished}
-use Rattle.prem_cycle.specs.Run.{run_of}
-use Rattle.prem_cycle.proofs.Images.{bytes_in, marked, plant}
-use Rattle.prem_sound.specs.Script.Script.{Script, call_at}
+use Rattle.prem_sound.proofs.Prelude.{bytes_in, marked, plant, is_finished, run_of, plain_start, plain_run, plain_steps, plain_trace, to_front, lru, one_pass, IsScoped, charges_by}
+use Rattle.prem_sound.proofs.Prelude.{all_charged, IsCharged, Scope, charge_of, Strand, ends, runs, calls, dids_along, scoping_of, ChargedFrom, Script, call_at, ◌≡◌, ℕ, zero, suc, ◌+◌, ◌*◌}
+use Rattle.prem_sound.proofs.Prelude.{◌≤◌, refl, ap, ◌∙◌, sym, subst, arith, true, [], ◌∷◌, ◌++◌, append-nil, length, take, drop, take-append-drop}
+use Rattle.prem_sound.proofs.Finishing.{scripts_finish_by_jobs}
+use Rattle.prem_sound.proofs.ScopesLemmas.StrandRuns.{strands_are_charged}
+use Rattle.prem_sound.proofs.ScopesLemmas.Tests.{strand_test, strand_by, charged_test, charged_by}
+use Rattle.prem_sound.proofs.ScopesLemmas.Totals.{charges_sum_up}
 use Rattle.prem_sound.proofs.ScriptLemmas.Tests.{below}
 use Rattle.prem_sound.proofs.Worked.{setup, run, dids, script_of, worked_scripts, lru_policy, worked_is}
-use Rattle.prem_sound.specs.Scopes.Scopes.{Scope, charge_of}
-use Rattle.prem_sound.specs.Scopes.Charged.{IsScoped, charges_by, all_charged, IsCharged}
-use Rattle.prem_sound.specs.Scopes.Strands.{Strand, ends, runs, calls, dids_along, scoping_of, ChargedFrom}
-use Rattle.prem_sound.proofs.ScopesLemmas.Tests.{strand_test, strand_by, charged_test, charged_by}
-use Rattle.prem_sound.proofs.ScopesLemmas.StrandRuns.{strands_are_charged}
-use Rattle.prem_sound.proofs.Finishing.{scripts_finish_by_jobs}
-use Rattle.prem_sound.proofs.ScopesLemmas.Totals.{charges_sum_up}
 
 -- ---- the scopes
 

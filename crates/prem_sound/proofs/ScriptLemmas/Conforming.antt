@@ -1,37 +1,15 @@
 -- A run whose instructions conform has a script, and stays with its own bytes.
-use Rattle.std.specs.Prelude.{All, Result, Ok, Err, is_none, ◌&&◌}
-use Rattle.std.proofs.Common.{◌≡◌, ℕ, zero, suc, ◌+◌, ◌-◌, ◌%◌, ◌<◌, ◌≤◌, refl, ap, ◌∙◌, sym, subst, arith, cond, eqb, leb, ltb, true, false, Bool, Some, None, Option, List, []}
-use Rattle.std.proofs.Common.{◌∷◌, ◌++◌, append_assoc, length, get_or, IfSome, ⊎_elim}
-use Rattle.std.proofs.lemmas.Bool.{cases_lt, cond_both, le-ltb}
-use Rattle.std.proofs.lemmas.List.{length-append}
-use Rattle.prem_word.specs.Bytes.{number_at}
-use Rattle.prem_plant.specs.declared.plant.Target.{Target}
-use Rattle.prem_plant.specs.declared.plant.Plant.{Plant}
-use Rattle.prem_plant.specs.Order.Order.{HaveRoom}
-use Rattle.prem_isa.specs.declared.instr.Instr.{Instr}
-use Rattle.prem_isa.specs.declared.instr.Instr.TheVariants.{Lui, Auipc, Jal, Jalr, Branch, Load, Store, OpImm, Op, MulDiv, Fence, Ecall, Ebreak, PmMem, PmExec, PmEnd, PmDone, PmIn, PmOut}
-use Rattle.prem_isa.specs.declared.effect.Phase.{Phase}
-use Rattle.prem_isa.specs.declared.effect.Cause.{Cause}
-use Rattle.prem_isa.specs.declared.effect.Cause.TheVariants.{Align, Outside}
-use Rattle.prem_isa.specs.declared.effect.AccessKind.TheVariants.{Loads}
-use Rattle.prem_isa.specs.declared.effect.Access.{Access}
-use Rattle.prem_isa.specs.declared.effect.Stored.{Stored}
-use Rattle.prem_isa.specs.declared.effect.Effect.{Effect}
-use Rattle.prem_isa.specs.declared.effect.Outcome.{Outcome}
-use Rattle.prem_isa.specs.declared.effect.Outcome.TheVariants.{Trap, Done}
-use Rattle.prem_isa.specs.Decode.{Fits}
-use Rattle.prem_isa.specs.Act.{act, fetch, accesses, goes, word_into}
+use Rattle.prem_sound.proofs.Prelude.{is_predictable, AllOwn, LoadsOwn, IsOwn, IsOwnOutcome, Setup, act_fits, plain_fits, fetch_fits, plain_run-add, plain_trace-add, plain_stays, act, fetch}
+use Rattle.prem_sound.proofs.Prelude.{accesses, goes, word_into, OnDone, EffectFits, AccessMatches, Fits, TaskRun, PlainState, Did, did_of, did_with, did_fetched, next_input, with_last}
+use Rattle.prem_sound.proofs.Prelude.{outcome_of, is_running, plain_did, plain_start, plain_steps, plain_run, plain_trace, Access, Loads, Cause, Effect, Outcome, Trap, Done, Phase, Stored}
+use Rattle.prem_sound.proofs.Prelude.{Instr, HaveRoom, Plant, Target, takes_nothing, IsOwnDid, begun_behind, KeepsCalls, due_behind, ConformingRunsHaveScripts, AtMark, KeepsMarks}
+use Rattle.prem_sound.proofs.Prelude.{ConformingRunsKeepPromises, Begun, none_begun, begun_after, begun_with, begun_by, Call, no_call, call_at, call_of, IsStep, did_due, Script, due_with}
+use Rattle.prem_sound.proofs.Prelude.{due_by, Reading, Mark, number_at, ◌≡◌, ℕ, zero, suc, ◌+◌, ◌-◌, ◌%◌, ◌<◌, ◌≤◌, refl, ap, ◌∙◌, sym, subst, arith, cond, eqb, leb, ltb, true, false, Bool}
+use Rattle.prem_sound.proofs.Prelude.{Some, None, Option, List, [], ◌∷◌, ◌++◌, append_assoc, length, get_or, IfSome, ⊎_elim, cases_lt, cond_both, le-ltb, length-append, All, Result, Ok, Err}
+use Rattle.prem_sound.proofs.Prelude.{is_none, ◌&&◌}
 use Rattle.prem_isa.specs.Alu.{plus, load_size, loaded}
-use Rattle.prem_isa.specs.Bounds.{OnDone, EffectFits, AccessMatches}
-use Rattle.prem_isa.specs.Plain.{TaskRun, PlainState, Did, did_of, did_with, did_fetched, next_input, with_last, outcome_of, is_running, plain_did, plain_start, plain_steps, plain_run, plain_trace}
-use Rattle.prem_isa.proofs.ActLaws.{act_fits}
-use Rattle.prem_isa.proofs.PlainLaws.{plain_fits, fetch_fits, plain_run-add, plain_trace-add, plain_stays}
-use Rattle.prem_cycle.specs.State.{Setup}
-use Rattle.prem_cycle.specs.Core.{is_predictable}
-use Rattle.prem_cycle.specs.Runs.Position.Own.{AllOwn, LoadsOwn, IsOwn, IsOwnOutcome}
-use Rattle.prem_sound.specs.Script.Script.{Begun, none_begun, begun_after, begun_with, begun_by, Call, no_call, call_at, call_of, IsStep, did_due, Script, due_with, due_by}
-use Rattle.prem_sound.specs.Script.Conforms.{takes_nothing, IsOwnDid, begun_behind, KeepsCalls, due_behind, ConformingRunsHaveScripts, AtMark, KeepsMarks, ConformingRunsKeepPromises}
-use Rattle.prem_sound.specs.Script.Scripts.{Reading, Mark}
+use Rattle.prem_isa.specs.declared.effect.Cause.TheVariants.{Align, Outside}
+use Rattle.prem_isa.specs.declared.instr.Instr.TheVariants.{Lui, Auipc, Jal, Jalr, Branch, Load, Store, OpImm, Op, MulDiv, Fence, Ecall, Ebreak, PmMem, PmExec, PmEnd, PmDone, PmIn, PmOut}
 use Rattle.prem_sound.proofs.ScriptLemmas.Pieces.{marks_at}
 
 -- ---- by number and by list

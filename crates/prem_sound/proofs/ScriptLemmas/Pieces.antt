@@ -1,24 +1,12 @@
 -- The pieces of a run keep its calls.
-use Rattle.std.specs.Prelude.{All}
-use Rattle.std.proofs.Common.{◌≡◌, ℕ, ◌+◌, ◌-◌, ◌*◌, ◌≤◌, refl, ap, ◌∙◌, sym, subst, arith, true, false, None, List, [], ◌∷◌, ◌++◌, append_assoc, append-nil, length, get_or, IfSome, suc}
-use Rattle.std.proofs.lemmas.List.Sums.{sum_by-append, sum_by-cons}
-use Rattle.std.proofs.lemmas.List.Elements.{All-head, All-tail}
-use Rattle.prem_plant.specs.declared.plant.Plant.{Plant}
-use Rattle.prem_plant.specs.Order.Order.{AllIn}
-use Rattle.prem_isa.specs.declared.effect.Phase.{Phase}
-use Rattle.prem_isa.specs.declared.effect.Phase.TheVariants.{Compatible, Memory as MemoryPhase, Execution}
-use Rattle.prem_isa.specs.declared.effect.Change.{Change}
-use Rattle.prem_isa.specs.declared.effect.Change.TheVariants.{Stay, Memory, Execute, End, Job}
-use Rattle.prem_isa.specs.declared.effect.AccessKind.TheVariants.{Loads}
-use Rattle.prem_isa.specs.Decode.{cost_of}
-use Rattle.prem_isa.specs.Plain.{TaskRun, Did, plain_run}
-use Rattle.prem_cycle.specs.Core.{is_predictable}
-use Rattle.prem_sound.specs.Script.Script.{lines_of_did, lines_of_dids, cost_of_dids, Begun, steps_after, begun_after, Call, call_at, call_of, Opens, StoresNothing, IsStep, Script, did_due}
-use Rattle.prem_sound.specs.Script.Scripts.{Reading, Mark}
-use Rattle.prem_sound.specs.Script.Conforms.{begun_behind, KeepsCalls, GoesOrDone, IsStretch, GoesOrEnds, PiecesJoin, StretchesKeep, MemoryBegins, CallsKeep, AtMark, KeepsMarks}
-use Rattle.prem_sound.specs.Script.Conforms.{NoMark, MarksJoin, MarksRest, due_behind, DuesJoin, CallsAreDueBefore}
-use Rattle.prem_sound.proofs.ScriptLemmas.Residency.{lines_of_dids-append}
+use Rattle.prem_sound.proofs.Prelude.{is_predictable, cost_of, TaskRun, Did, plain_run, Loads, Change, Stay, Memory, Execute, End, Job, Phase, Compatible, Execution, AllIn, Plant}
+use Rattle.prem_sound.proofs.Prelude.{begun_behind, KeepsCalls, GoesOrDone, IsStretch, GoesOrEnds, PiecesJoin, StretchesKeep, MemoryBegins, CallsKeep, AtMark, KeepsMarks, NoMark, MarksJoin}
+use Rattle.prem_sound.proofs.Prelude.{MarksRest, due_behind, DuesJoin, CallsAreDueBefore, lines_of_did, lines_of_dids, cost_of_dids, Begun, steps_after, begun_after, Call, call_at, call_of}
+use Rattle.prem_sound.proofs.Prelude.{Opens, StoresNothing, IsStep, Script, did_due, Reading, Mark, ◌≡◌, ℕ, ◌+◌, ◌-◌, ◌*◌, ◌≤◌, refl, ap, ◌∙◌, sym, subst, arith, true, false, None, List, []}
+use Rattle.prem_sound.proofs.Prelude.{◌∷◌, ◌++◌, append_assoc, append-nil, length, get_or, IfSome, suc, All-head, All-tail, sum_by-append, sum_by-cons, All}
+use Rattle.prem_isa.specs.declared.effect.Phase.TheVariants.{Memory as MemoryPhase}
 use Rattle.prem_sound.proofs.Paces.{cost-last}
+use Rattle.prem_sound.proofs.ScriptLemmas.Residency.{lines_of_dids-append}
 
 pub pieces_join : PiecesJoin
 pieces_join plant passes s b [] ys h k = k

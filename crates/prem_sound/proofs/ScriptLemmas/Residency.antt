@@ -1,11 +1,8 @@
 -- Lines that were touched one after another since some moment, whatever the cache held before it.
+use Rattle.prem_sound.proofs.Prelude.{Did, all_append, length-caches_after, is_in, AllIn, OrderRule, order_of, cache_after, caches_after, cache_misses, HaveRoom, IsCacheFullAfter}
+use Rattle.prem_sound.proofs.Prelude.{lines_of_did, lines_of_dids, IsCovered, ◌≡◌, ℕ, ◌<◌, refl, ap, ◌∙◌, sym, subst, cond, true, false, Bool, List, [], ◌∷◌, ◌++◌, append_assoc, append-nil}
+use Rattle.prem_sound.proofs.Prelude.{length}
 use Rattle.std.specs.List.{concat}
-use Rattle.std.proofs.Common.{◌≡◌, ℕ, ◌<◌, refl, ap, ◌∙◌, sym, subst, cond, true, false, Bool, List, [], ◌∷◌, ◌++◌, append_assoc, append-nil, length}
-use Rattle.prem_plant.specs.Order.Order.{is_in, AllIn, OrderRule, order_of, cache_after, caches_after, cache_misses, HaveRoom, IsCacheFullAfter}
-use Rattle.prem_plant.proofs.OrderLemmas.Lift.{length-caches_after}
-use Rattle.prem_plant.proofs.OrderLemmas.Earliest.{all_append}
-use Rattle.prem_isa.specs.Plain.{Did}
-use Rattle.prem_sound.specs.Script.Script.{lines_of_did, lines_of_dids, IsCovered}
 
 -- ---- lists of touches
 

@@ -1,27 +1,11 @@
 -- Whether instructions conform, as a test that is computed.
-use Rattle.std.specs.Prelude.{All, ◌&&◌}
-use Rattle.std.proofs.Common.{◌≡◌, ℕ, ◌+◌, ◌*◌, ◌/◌, ◌%◌, ◌<◌, ◌≤◌, refl, ap, ◌∙◌, sym, subst, arith, cond, eqb, leb, true, false, Bool, Some, None, Option, List, [], ◌∷◌, ◌++◌}
-use Rattle.std.proofs.Common.{append-nil, length, IfSome, ⊎_elim}
-use Rattle.std.proofs.lemmas.Bool.{and_parts, cases_eq, eqb-true, eq-eqb, ne_eqb, le-leb, leb-true}
-use Rattle.std.proofs.lemmas.List.Elements.{All-nil, All-cons}
-use Rattle.std.proofs.Math.Nat.{mod-eq_of_lt}
-use Rattle.prem_plant.specs.declared.plant.Plant.{Plant}
-use Rattle.prem_plant.specs.Order.Order.{is_in, AllIn, AreOnce, of_set, one_pass, HaveRoom}
-use Rattle.prem_plant.proofs.OrderLemmas.Members.{in_head, in_other}
-use Rattle.prem_isa.specs.declared.effect.Phase.{Phase}
-use Rattle.prem_isa.specs.declared.effect.Phase.TheVariants.{Compatible, Memory as MemoryPhase, Execution}
-use Rattle.prem_isa.specs.declared.effect.Change.{Change}
-use Rattle.prem_isa.specs.declared.effect.Change.TheVariants.{Stay, Memory, Execute, End, Job}
+use Rattle.prem_sound.proofs.Prelude.{is_predictable, AllOwn, IsFree, Setup, cost_of, Did, Access, Loads, Stores, Change, Stay, Memory, Execute, End, Job, Phase, Compatible, Execution}
+use Rattle.prem_sound.proofs.Prelude.{in_head, in_other, is_in, AllIn, AreOnce, of_set, one_pass, HaveRoom, Plant, IsOwnDid, KeepsCalls, lines_of_did, lines_of_dids, cost_of_dids, Begun}
+use Rattle.prem_sound.proofs.Prelude.{begun_after, Call, call_of, IsCovered, Opens, StoresNothing, IsStep, Script, ◌≡◌, ℕ, ◌+◌, ◌*◌, ◌/◌, ◌%◌, ◌<◌, ◌≤◌, refl, ap, ◌∙◌, sym, subst, arith}
+use Rattle.prem_sound.proofs.Prelude.{cond, eqb, leb, true, false, Bool, Some, None, Option, List, [], ◌∷◌, ◌++◌, append-nil, length, IfSome, ⊎_elim, mod-eq_of_lt, and_parts, cases_eq}
+use Rattle.prem_sound.proofs.Prelude.{eqb-true, eq-eqb, ne_eqb, le-leb, leb-true, All-nil, All-cons, All, ◌&&◌}
 use Rattle.prem_isa.specs.declared.effect.AccessKind.{AccessKind}
-use Rattle.prem_isa.specs.declared.effect.AccessKind.TheVariants.{Loads, Stores}
-use Rattle.prem_isa.specs.declared.effect.Access.{Access}
-use Rattle.prem_isa.specs.Decode.{cost_of}
-use Rattle.prem_isa.specs.Plain.{Did}
-use Rattle.prem_cycle.specs.State.{Setup}
-use Rattle.prem_cycle.specs.Core.{is_predictable}
-use Rattle.prem_cycle.specs.Runs.Position.Own.{AllOwn, IsFree}
-use Rattle.prem_sound.specs.Script.Script.{lines_of_did, lines_of_dids, cost_of_dids, Begun, begun_after, Call, call_of, IsCovered, Opens, StoresNothing, IsStep, Script}
-use Rattle.prem_sound.specs.Script.Conforms.{IsOwnDid, KeepsCalls}
+use Rattle.prem_isa.specs.declared.effect.Phase.TheVariants.{Memory as MemoryPhase}
 
 -- ---- members
 

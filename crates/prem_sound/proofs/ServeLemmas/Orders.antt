@@ -1,16 +1,9 @@
 -- The requests that find room are some of those that were asked, in order.
-use Rattle.std.specs.Prelude.{filter}
+use Rattle.prem_sound.proofs.Prelude.{run_of-now, is_over, cycles_of, memory_of, run_of, Setup, MachineState, start_of, GatesState, gate_at, is_full, after_arrival, Request, ReplacementRule}
+use Rattle.prem_sound.proofs.Prelude.{found_room, coming_requests, queued_of, AreAmong, among_none, among_skip, among_take, asked_before, RoomIsFoundInOrder, ◌≡◌, ℕ, zero, suc, ◌+◌, ◌<◌}
+use Rattle.prem_sound.proofs.Prelude.{◌≤◌, refl, ap, ◌∙◌, sym, subst, arith, cond, eqb, true, false, Bool, List, [], ◌∷◌, ◌++◌, length, get_or, ⊎_elim, cases_eq, cases_lt, eq-eqb, ne_eqb}
+use Rattle.prem_sound.proofs.Prelude.{lt-ltb, le-ltb, filter}
 use Rattle.std.specs.List.Sorted.{IsNonDecreasingBy}
-use Rattle.std.proofs.Common.{◌≡◌, ℕ, zero, suc, ◌+◌, ◌<◌, ◌≤◌, refl, ap, ◌∙◌, sym, subst, arith, cond, eqb, true, false, Bool, List, [], ◌∷◌, ◌++◌, length, get_or, ⊎_elim}
-use Rattle.std.proofs.lemmas.Bool.{cases_eq, cases_lt, eq-eqb, ne_eqb, lt-ltb, le-ltb}
-use Rattle.prem_lru.specs.Entries.{ReplacementRule}
-use Rattle.prem_gate.specs.declared.request.Request.{Request}
-use Rattle.prem_gate.specs.Gates.{GatesState, gate_at, is_full, after_arrival}
-use Rattle.prem_cycle.specs.State.{Setup, MachineState, start_of}
-use Rattle.prem_cycle.specs.Cycle.{is_over}
-use Rattle.prem_cycle.specs.Run.{cycles_of, memory_of, run_of}
-use Rattle.prem_cycle.proofs.Time.{run_of-now}
-use Rattle.prem_sound.specs.Serve.Requests.{found_room, coming_requests, queued_of, AreAmong, among_none, among_skip, among_take, asked_before, RoomIsFoundInOrder}
 
 pub among_append : (xs ys us vs : List Request) → AreAmong xs ys → AreAmong us vs → AreAmong (xs ++ us) (ys ++ vs)
 among_append _ _ us vs among_none k = k

@@ -1,30 +1,13 @@
 -- A queued request is transferred in order, once, or still waits.
-use Rattle.std.specs.Prelude.{filter, slice_get, slice_set, is_some}
-use Rattle.std.proofs.Common.{◌≡◌, ◌≢◌, ℕ, zero, suc, ◌+◌, ◌<◌, ◌≤◌, refl, ap, ◌∙◌, sym, cond, eqb, leb, Some, None, Option, true, false, Bool, List, [], ◌∷◌, ◌++◌, append_assoc}
-use Rattle.std.proofs.Common.{append-nil, length, map, drop, ⊎_elim}
-use Rattle.std.proofs.lemmas.Bool.{cases_eq, cases_lt, cond_both, eq-eqb, ne_eqb}
-use Rattle.std.proofs.lemmas.List.{get_or-set_same, get_or-set_other, get_or_past, map-append}
-use Rattle.std.proofs.lemmas.List.Elements.{filter-append}
+use Rattle.prem_sound.proofs.Prelude.{settle_keeps, cycle_gates, want_of, Arrivals, arrived, arrivals, arrivals_at, bus_at, core_at, joined, with_now, next_cycle, cycle_with, cycle_of}
+use Rattle.prem_sound.proofs.Prelude.{is_over, step_of, cycles_of, memory_of, Setup, MachineState, start_of, startable_is, GateState, GatesState, Turned, gate_at, no_gate, with_gates}
+use Rattle.prem_sound.proofs.Prelude.{is_full, queued, after_arrival, startable, without_head, taken, transfer_of, carries, wants, starts, bus_free, bus_with, bus_turn, gates_of, IsStart}
+use Rattle.prem_sound.proofs.Prelude.{Carried, CoreWant, No, New, Held, Transfer, Window, Request, DeviceRecord, with_last, ReplacementRule, found_room, coming_requests, queued_of, asked_of}
+use Rattle.prem_sound.proofs.Prelude.{transferred_of, carried_of, held_of, RequestsAreHeld, ◌≡◌, ◌≢◌, ℕ, zero, suc, ◌+◌, ◌<◌, ◌≤◌, refl, ap, ◌∙◌, sym, cond, eqb, leb, Some, None, Option}
+use Rattle.prem_sound.proofs.Prelude.{true, false, Bool, List, [], ◌∷◌, ◌++◌, append_assoc, append-nil, length, map, drop, ⊎_elim, cases_eq, cases_lt, cond_both, eq-eqb, ne_eqb}
+use Rattle.prem_sound.proofs.Prelude.{get_or-set_same, get_or-set_other, get_or_past, map-append, filter-append, filter, slice_get, slice_set, is_some}
+use Rattle.prem_gate.specs.Gates.{ends, goes_on}
 use Rattle.prem_plant.specs.declared.plant.Device.{Device}
-use Rattle.prem_isa.specs.Plain.{with_last}
-use Rattle.prem_lru.specs.Entries.{ReplacementRule}
-use Rattle.prem_gate.specs.declared.request.Request.{Request}
-use Rattle.prem_gate.specs.declared.bus.Window.{Window}
-use Rattle.prem_gate.specs.declared.bus.Carried.{Carried}
-use Rattle.prem_gate.specs.declared.bus.Transfer.{Transfer}
-use Rattle.prem_gate.specs.declared.bus.CoreWant.{CoreWant}
-use Rattle.prem_gate.specs.declared.bus.CoreWant.TheVariants.{No, New, Held}
-use Rattle.prem_gate.specs.Gates.{GateState, GatesState, Turned, gate_at, no_gate, with_gates, is_full, queued, after_arrival, startable, without_head, taken, transfer_of, ends}
-use Rattle.prem_gate.specs.Gates.{goes_on, carries, wants, starts, bus_free, bus_with, bus_turn, gates_of}
-use Rattle.prem_gate.specs.Ranges.{IsStart}
-use Rattle.prem_gate.proofs.Places.{startable_is}
-use Rattle.prem_image.specs.declared.image.DeviceRecord.{DeviceRecord}
-use Rattle.prem_cycle.specs.State.{Setup, MachineState, start_of}
-use Rattle.prem_cycle.specs.Core.{want_of}
-use Rattle.prem_cycle.specs.Cycle.{Arrivals, arrived, arrivals, arrivals_at, bus_at, core_at, joined, with_now, next_cycle, cycle_with, cycle_of, is_over, step_of}
-use Rattle.prem_cycle.specs.Run.{cycles_of, memory_of}
-use Rattle.prem_cycle.proofs.CycleParts.{settle_keeps, cycle_gates}
-use Rattle.prem_sound.specs.Serve.Requests.{found_room, coming_requests, queued_of, asked_of, transferred_of, carried_of, held_of, RequestsAreHeld}
 
 -- ---- arrivals
 

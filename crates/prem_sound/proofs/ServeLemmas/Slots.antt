@@ -1,20 +1,7 @@
 -- The first words of the devices' lines in memory: apart from each other, and under no resident line.
-use Rattle.std.specs.Prelude.{All, slice_get, slice_index, option_map}
-use Rattle.std.proofs.Common.{◌≡◌, ℕ, ◌+◌, ◌*◌, ◌/◌, ◌%◌, ◌<◌, ◌≤◌, ap, ◌∙◌, sym, subst, arith, Some, true, false, List, length, map, ⊎_elim}
-use Rattle.std.proofs.lemmas.Bool.{cases_Bool}
-use Rattle.std.proofs.lemmas.Option.{slice_get-map, slice_get-get_or}
-use Rattle.std.proofs.lemmas.Nat.{mod-mul-add, div-mul-add, div-add-mod', mul-le}
-use Rattle.prem_word.specs.Bytes.{number_at}
-use Rattle.prem_plant.specs.declared.plant.Plant.{Plant}
-use Rattle.prem_plant.specs.Places.{AreApart}
-use Rattle.prem_lru.specs.CacheState.{CacheState, is_resident, view_of}
-use Rattle.prem_lru.proofs.Stores.{absent_view}
-use Rattle.prem_image.specs.Records.{area_of, IsPlaced}
-use Rattle.prem_cycle.specs.State.{Setup}
-use Rattle.prem_cycle.specs.Inputs.{no_device}
-use Rattle.prem_cycle.specs.Runs.Position.Own.{device_of}
-use Rattle.prem_cycle.proofs.RunsLemmas.PositionLemmas.Works.{IsKept, kept_plant}
-use Rattle.prem_cycle.proofs.RunsLemmas.PositionLemmas.Gated.{IsLine}
+use Rattle.prem_sound.proofs.Prelude.{IsLine, IsKept, kept_plant, no_device, device_of, Setup, area_of, IsPlaced, absent_view, CacheState, is_resident, view_of, AreApart, Plant, number_at}
+use Rattle.prem_sound.proofs.Prelude.{◌≡◌, ℕ, ◌+◌, ◌*◌, ◌/◌, ◌%◌, ◌<◌, ◌≤◌, ap, ◌∙◌, sym, subst, arith, Some, true, false, List, length, map, ⊎_elim, cases_Bool, mod-mul-add, div-mul-add}
+use Rattle.prem_sound.proofs.Prelude.{div-add-mod', mul-le, slice_get-map, slice_get-get_or, All, slice_get, slice_index, option_map}
 
 -- the first byte of a line of a device
 abbrev pub slot : Setup → ℕ → ℕ → ℕ

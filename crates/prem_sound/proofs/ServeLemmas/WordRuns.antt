@@ -1,37 +1,13 @@
 -- Over a run each word that a get has is that of the last put before it.
-use Rattle.std.specs.Prelude.{slice_index, slice_set}
-use Rattle.std.proofs.Common.{◌≡◌, ℕ, zero, suc, ◌+◌, ◌<◌, ◌∙◌, sym, subst, Bool, List, [], ◌∷◌, ◌++◌, length, map}
-use Rattle.std.proofs.lemmas.Bool.{cond_both}
-use Rattle.prem_word.specs.Bytes.{number_at}
-use Rattle.prem_word.proofs.Bytes.{number_at-agrees}
-use Rattle.prem_plant.specs.Places.{AreApart}
-use Rattle.prem_sched.specs.declared.sched.TaskJobs.{TaskJobs}
-use Rattle.prem_isa.specs.Plain.{TaskRun, with_last}
-use Rattle.prem_lru.specs.Entries.{ReplacementRule}
-use Rattle.prem_lru.specs.CacheState.{empty_cache, view_of}
-use Rattle.prem_lru.specs.Rules.{IsRule}
-use Rattle.prem_gate.specs.declared.request.Request.{Request}
-use Rattle.prem_gate.specs.declared.bus.Transfer.{Transfer}
-use Rattle.prem_gate.specs.Gates.{Turned}
-use Rattle.prem_image.specs.Records.{area_of}
-use Rattle.prem_cycle.specs.State.{Setup, record_of, Work, MachineState, task_in, start_of}
-use Rattle.prem_cycle.specs.Issue.{task_after, issued_by}
-use Rattle.prem_cycle.specs.Core.{want_of, attempted, moved, CoreMove, Passes, Issues}
-use Rattle.prem_cycle.specs.Cycle.{Arrivals, arrivals_at, bus_at, with_memory, move_at, cycle_with, cycle_of, is_over, step_of}
-use Rattle.prem_cycle.specs.Run.{cycles_of, memory_of, run_of}
-use Rattle.prem_cycle.proofs.CoreCases.{move_cases}
-use Rattle.prem_cycle.proofs.CycleParts.{cycle_work}
-use Rattle.prem_cycle.specs.Runs.Position.Issued.{issued_of, AreOwn, IsRunnable}
-use Rattle.prem_cycle.proofs.RunsLemmas.PositionLemmas.Stands.{Stands, Issuing}
-use Rattle.prem_cycle.proofs.RunsLemmas.PositionLemmas.Schedules.{Moves as Scheduled, moves as scheduled}
-use Rattle.prem_cycle.proofs.RunsLemmas.PositionLemmas.Turns.{issuing, bus_stands}
-use Rattle.prem_cycle.proofs.RunsLemmas.PositionLemmas.Gated.{arrivals_gates}
+use Rattle.prem_sound.proofs.Prelude.{move_cases, cycle_work, arrivals_gates, run_stands, AllAt, runs_of, keeps_of, Moves as Scheduled, moves as scheduled, Stands, Issuing, issuing}
+use Rattle.prem_sound.proofs.Prelude.{bus_stands, want_of, attempted, moved, CoreMove, Passes, Issues, Arrivals, arrivals_at, bus_at, with_memory, move_at, cycle_with, cycle_of, is_over}
+use Rattle.prem_sound.proofs.Prelude.{step_of, task_after, issued_by, cycles_of, memory_of, run_of, issued_of, AreOwn, IsRunnable, Setup, record_of, Work, MachineState, task_in, start_of}
+use Rattle.prem_sound.proofs.Prelude.{Turned, Transfer, Request, area_of, TaskRun, with_last, empty_cache, view_of, ReplacementRule, IsRule, AreApart, TaskJobs, GetsLastPuts, PutWords}
+use Rattle.prem_sound.proofs.Prelude.{AreasAreZero, WordsAreLastPuts, number_at-agrees, number_at, ◌≡◌, ℕ, zero, suc, ◌+◌, ◌<◌, ◌∙◌, sym, subst, Bool, List, [], ◌∷◌, ◌++◌, length, map}
+use Rattle.prem_sound.proofs.Prelude.{cond_both, slice_index, slice_set}
 use Rattle.prem_cycle.proofs.RunsLemmas.PositionLemmas.Starts.{empty_view}
-use Rattle.prem_cycle.proofs.RunsLemmas.PositionLemmas.Runs.{AllAt, runs_of, keeps_of}
-use Rattle.prem_cycle.proofs.RunsLemmas.PositionLemmas.Positions.{run_stands}
-use Rattle.prem_sound.specs.Serve.Requests.{GetsLastPuts, PutWords, AreasAreZero, WordsAreLastPuts}
-use Rattle.prem_sound.proofs.ServeLemmas.Queues.{cycle_transfers}
 use Rattle.prem_sound.proofs.ServeLemmas.Puts.{HoldAll, arrivals_all, cycles_all, start_all}
+use Rattle.prem_sound.proofs.ServeLemmas.Queues.{cycle_transfers}
 use Rattle.prem_sound.proofs.ServeLemmas.Slots.{slot}
 use Rattle.prem_sound.proofs.ServeLemmas.Words.{AreWords, PutsWord, turn_words, issue_words}
 

@@ -1,37 +1,14 @@
 -- The word at a line of a device is that of the last put there.
-use Rattle.std.specs.Prelude.{All, slice_index, ◌&&◌}
-use Rattle.std.proofs.Common.{◌≡◌, ℕ, ◌+◌, ◌*◌, ◌/◌, ◌^◌, ◌<◌, ◌≤◌, refl, ap, ◌∙◌, sym, subst, arith, eqb, leb, Some, None, Option, true, false, Bool, List, [], ◌∷◌, ◌++◌, length}
-use Rattle.std.proofs.Common.{map, IfSome, ◌⊎◌, inl, inr, ⊎_elim}
-use Rattle.std.proofs.lemmas.Bool.{cases_eq, cond_both, eq-eqb, ne_eqb}
-use Rattle.std.proofs.lemmas.List.{get_or-set_same}
-use Rattle.prem_word.specs.Bytes.{number_at, put_number}
-use Rattle.prem_word.proofs.Bytes.{number_at-agrees, number_at-put_number}
-use Rattle.prem_plant.specs.Places.{AreApart}
-use Rattle.prem_isa.specs.declared.effect.Stored.{Stored}
-use Rattle.prem_isa.specs.Plain.{with_last}
-use Rattle.prem_lru.specs.Splice.{bytes_of, spliced}
-use Rattle.prem_lru.specs.CacheState.{CacheState, view_of}
+use Rattle.prem_sound.proofs.Prelude.{IsLine, AreGates, stored_out, IsKept, kept_plant, Issue, AllOwn, device_of, IsFree, Setup, Task, Work, startable_is, GateState, GatesState, Turned}
+use Rattle.prem_sound.proofs.Prelude.{gate_at, no_gate, startable, without_head, taken, slot_of, memory_after, value_of, transfer_of, carries, wants, starts, bus_free, bus_with, bus_turn}
+use Rattle.prem_sound.proofs.Prelude.{IsStart, Carried, CoreWant, No, New, Held, Transfer, Window, Request, area_of, IsPlaced, with_last, Stored, apart_bytes, CacheState, view_of, bytes_of}
+use Rattle.prem_sound.proofs.Prelude.{spliced, AreApart, word_by, word_after, GetsLastPuts, number_at-agrees, number_at-put_number, number_at, put_number, ◌≡◌, ℕ, ◌+◌, ◌*◌, ◌/◌, ◌^◌, ◌<◌}
+use Rattle.prem_sound.proofs.Prelude.{◌≤◌, refl, ap, ◌∙◌, sym, subst, arith, eqb, leb, Some, None, Option, true, false, Bool, List, [], ◌∷◌, ◌++◌, length, map, IfSome, ◌⊎◌, inl, inr, ⊎_elim}
+use Rattle.prem_sound.proofs.Prelude.{cases_eq, cond_both, eq-eqb, ne_eqb, get_or-set_same, All, slice_index, ◌&&◌}
+use Rattle.prem_gate.specs.Gates.{ends, goes_on}
 use Rattle.prem_lru.proofs.Words.{word_view}
-use Rattle.prem_lru.proofs.Stores.{apart_bytes}
-use Rattle.prem_gate.specs.declared.request.Request.{Request}
-use Rattle.prem_gate.specs.declared.bus.Window.{Window}
-use Rattle.prem_gate.specs.declared.bus.Carried.{Carried}
-use Rattle.prem_gate.specs.declared.bus.Transfer.{Transfer}
-use Rattle.prem_gate.specs.declared.bus.CoreWant.{CoreWant}
-use Rattle.prem_gate.specs.declared.bus.CoreWant.TheVariants.{No, New, Held}
-use Rattle.prem_gate.specs.Gates.{GateState, GatesState, Turned, gate_at, no_gate, startable, without_head, taken, slot_of, memory_after, value_of, transfer_of, ends, goes_on}
-use Rattle.prem_gate.specs.Gates.{carries, wants, starts, bus_free, bus_with, bus_turn}
-use Rattle.prem_gate.specs.Ranges.{IsStart}
-use Rattle.prem_gate.proofs.Places.{startable_is}
-use Rattle.prem_image.specs.Records.{area_of, IsPlaced}
-use Rattle.prem_cycle.specs.State.{Setup, Task, Work}
-use Rattle.prem_cycle.specs.Runs.Position.Own.{AllOwn, device_of, IsFree}
-use Rattle.prem_cycle.proofs.RunsLemmas.PositionLemmas.Works.{IsKept, kept_plant, Issue}
-use Rattle.prem_cycle.proofs.RunsLemmas.PositionLemmas.Stands.{stored_out}
-use Rattle.prem_cycle.proofs.RunsLemmas.PositionLemmas.Gated.{IsLine, AreGates}
-use Rattle.prem_sound.specs.Serve.Requests.{word_by, word_after, GetsLastPuts}
-use Rattle.prem_sound.proofs.ServeLemmas.Queues.{queue_at}
 use Rattle.prem_sound.proofs.ServeLemmas.Puts.{HoldAll, head_all}
+use Rattle.prem_sound.proofs.ServeLemmas.Queues.{queue_at}
 use Rattle.prem_sound.proofs.ServeLemmas.Slots.{slot, SlotFits, slot_fits, slot_line, slots_apart, SlotOut, slot_out, slot_seen}
 
 -- ---- one more transfer

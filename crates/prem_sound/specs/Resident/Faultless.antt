@@ -1,14 +1,6 @@
 -- Where tasks do what their scripts say, nothing in a run is a fault.
-use Rattle.std.specs.Prelude.{◌≡◌, ℕ, ◌<◌, Bool, List, length}
-use Rattle.prem_plant.specs.Order.Order.{OrderRule, CacheMissesOnce, IsCacheFullAfter}
-use Rattle.prem_plant.specs.Order.Rules.{passes_of}
-use Rattle.prem_isa.specs.Plain.{TaskRun}
-use Rattle.prem_lru.specs.Entries.{ReplacementRule}
-use Rattle.prem_lru.specs.Rules.{IsRule, MovesBy}
-use Rattle.prem_gate.specs.declared.request.Request.{Request}
-use Rattle.prem_cycle.specs.State.{Setup, MachineState, rule_in}
-use Rattle.prem_cycle.specs.Run.{run_of}
-use Rattle.prem_cycle.specs.Runs.Position.Issued.{AreOwn, IsRunnable}
+use Rattle.prem_sound.specs.Prelude.{run_of, AreOwn, IsRunnable, Setup, MachineState, rule_in, Request, TaskRun, ReplacementRule, IsRule, MovesBy, OrderRule, CacheMissesOnce}
+use Rattle.prem_sound.specs.Prelude.{IsCacheFullAfter, passes_of, ◌≡◌, ℕ, ◌<◌, Bool, List, length}
 use Rattle.prem_sound.specs.Script.Script.{Script, IsScript}
 
 -- a rule of replacement whose lines move by an order of their own: each line misses once, and so many passes bring all in

@@ -1,17 +1,10 @@
 -- The scopes of a task's run on its own, and what its jobs and stretches take at most with them.
-use Rattle.std.specs.Prelude.{◌≡◌, ℕ, zero, suc, ◌+◌, ◌*◌, ◌/◌, ◌%◌, ◌≤◌, List, [], Option, Some, None, length, if◌then◌else◌}
-use Rattle.prem_plant.specs.declared.plant.Plant.{Plant}
-use Rattle.prem_plant.specs.Order.Order.{AllIn}
-use Rattle.prem_isa.specs.declared.effect.Phase.{Phase}
-use Rattle.prem_isa.specs.declared.effect.Phase.TheVariants.{Compatible, Memory as MemoryPhase, Execution}
-use Rattle.prem_isa.specs.declared.effect.Change.{Change}
-use Rattle.prem_isa.specs.declared.effect.Change.TheVariants.{Stay, Memory, Execute, End, Job}
-use Rattle.prem_isa.specs.declared.effect.Access.{Access}
-use Rattle.prem_isa.specs.Decode.{cost_of}
-use Rattle.prem_isa.specs.Plain.{TaskRun, Did, plain_did, plain_run}
-use Rattle.prem_sound.specs.Script.Script.{lines_of_did, Begun, begun_by, change_due, Script, call_at}
+use Rattle.prem_sound.specs.Prelude.{cost_of, TaskRun, Did, plain_did, plain_run, Access, Change, Stay, Memory, Execute, End, Job, Phase, Compatible, Execution, AllIn, Plant, ◌≡◌, ℕ, zero}
+use Rattle.prem_sound.specs.Prelude.{suc, ◌+◌, ◌*◌, ◌/◌, ◌%◌, ◌≤◌, List, [], Option, Some, None, length, if◌then◌else◌}
+use Rattle.prem_isa.specs.declared.effect.Phase.TheVariants.{Memory as MemoryPhase}
 use Rattle.prem_sound.specs.Paced.Paced.{within_job, within_stretch}
 use Rattle.prem_sound.specs.Scopes.Lines.{line_cost, is_roomy, roomy_of, crowded_of}
+use Rattle.prem_sound.specs.Script.Script.{lines_of_did, Begun, begun_by, change_due, Script, call_at}
 
 -- ---- the scopes of a run
 

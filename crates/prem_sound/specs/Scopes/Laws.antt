@@ -1,18 +1,13 @@
 -- What is known of scopes: how often they miss, and what they are charged.
-use Rattle.std.specs.Prelude.{◌≡◌, ℕ, ◌+◌, ◌*◌, ◌/◌, ◌<◌, ◌≤◌, not, None, List, length, filter, sum, sum_by}
-use Rattle.prem_plant.specs.declared.plant.Plant.{Plant}
-use Rattle.prem_plant.specs.declared.plant.Replacement.{Replacement}
-use Rattle.prem_plant.specs.Order.Order.{AllIn, OrderRule, CacheMissesOnce, cache_misses}
-use Rattle.prem_plant.specs.Order.Rules.{order_rule_of}
-use Rattle.prem_isa.specs.Decode.{cost_of}
-use Rattle.prem_isa.specs.Plain.{TaskRun, Did, plain_run}
+use Rattle.prem_sound.specs.Prelude.{due_of, cost_of, TaskRun, Did, plain_run, AllIn, OrderRule, CacheMissesOnce, cache_misses, order_rule_of, Plant, ◌≡◌, ℕ, ◌+◌, ◌*◌, ◌/◌, ◌<◌, ◌≤◌, not}
+use Rattle.prem_sound.specs.Prelude.{None, List, length, filter, sum, sum_by}
 use Rattle.prem_cycle.specs.Issue.{LineTouch, owed_by}
-use Rattle.prem_cycle.specs.Runs.Position.Finish.{due_of}
-use Rattle.prem_sound.specs.Script.Script.{lines_of_dids, Script}
+use Rattle.prem_plant.specs.declared.plant.Replacement.{Replacement}
 use Rattle.prem_sound.specs.Paced.Paced.{IsPaced}
+use Rattle.prem_sound.specs.Scopes.Charged.{IsScoped, charge_with, crowd_cost, access_cost, Charges, charges_by, all_charged, IsCharged, each_alone}
 use Rattle.prem_sound.specs.Scopes.Lines.{line_cost, roomy_of, most_misses}
 use Rattle.prem_sound.specs.Scopes.Scopes.{Scope, KeepsToLines, charge_of, single}
-use Rattle.prem_sound.specs.Scopes.Charged.{IsScoped, charge_with, crowd_cost, access_cost, Charges, charges_by, all_charged, IsCharged, each_alone}
+use Rattle.prem_sound.specs.Script.Script.{lines_of_dids, Script}
 
 -- from any state of a cache, for each rule under which lines that have room miss once: touches of a collection miss at most once for
 -- each of its lines in a roomy set, and for each touch in a crowded one

@@ -1,16 +1,9 @@
 -- Instructions without marked calls, parted into scopes that are charged at most so much: what code has to show, part by part.
-use Rattle.std.specs.Prelude.{◌≡◌, ℕ, ◌+◌, ◌*◌, ◌≤◌, true, All, List, [], ◌∷◌, ◌++◌, sum_by}
-use Rattle.prem_plant.specs.declared.plant.Plant.{Plant}
-use Rattle.prem_plant.specs.Order.Order.{AllIn}
-use Rattle.prem_isa.specs.declared.effect.Phase.TheVariants.{Compatible}
-use Rattle.prem_isa.specs.declared.effect.Change.TheVariants.{Stay, Memory, Job}
-use Rattle.prem_isa.specs.Plain.{Did}
-use Rattle.prem_cycle.specs.Runs.Position.Finish.{due_of}
-use Rattle.prem_cycle.specs.Core.{is_predictable}
-use Rattle.prem_sound.specs.Script.Script.{lines_of_dids, call_at, Script}
+use Rattle.prem_sound.specs.Prelude.{is_predictable, due_of, Did, Stay, Memory, Job, Compatible, AllIn, Plant, ◌≡◌, ℕ, ◌+◌, ◌*◌, ◌≤◌, true, All, List, [], ◌∷◌, ◌++◌, sum_by}
 use Rattle.prem_sound.specs.Paced.Paced.{within_stretch}
 use Rattle.prem_sound.specs.Scopes.Scopes.{Scope, KeepsToLines, charge_of, dids_of, charges_of, single}
 use Rattle.prem_sound.specs.Scopes.Strands.{Strand, ends, runs, calls, dids_along, IsStrand, last_change, scope_due, joined, begun_along, charges_along, EndsNoJob, StretchesWithin}
+use Rattle.prem_sound.specs.Script.Script.{lines_of_dids, call_at, Script}
 
 -- some instructions are those of some scopes, one after another, each of which keeps to its lines, and which are charged at most so much
 pub record IsParted (plant : Plant) (dids : List Did) (most : ℕ) : Type 0 where

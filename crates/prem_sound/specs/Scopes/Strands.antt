@@ -1,15 +1,10 @@
 -- A run parted into scopes and marked calls, one after another, and what they take at most.
-use Rattle.std.specs.Prelude.{◌≡◌, ℕ, ◌+◌, ◌≤◌, true, List, [], ◌∷◌, ◌++◌, Option, Some, None, All, length, slice_index_or}
-use Rattle.prem_plant.specs.declared.plant.Plant.{Plant}
-use Rattle.prem_isa.specs.declared.effect.Phase.TheVariants.{Compatible}
-use Rattle.prem_isa.specs.declared.effect.Change.{Change}
-use Rattle.prem_isa.specs.declared.effect.Change.TheVariants.{Stay, Memory, Execute, End, Job}
-use Rattle.prem_isa.specs.Plain.{TaskRun, Did, plain_start, plain_run, plain_trace}
-use Rattle.prem_cycle.specs.Core.{is_predictable}
-use Rattle.prem_sound.specs.Script.Script.{change_due, Script, call_at}
+use Rattle.prem_sound.specs.Prelude.{is_predictable, TaskRun, Did, plain_start, plain_run, plain_trace, Change, Stay, Memory, Execute, End, Job, Compatible, Plant, ◌≡◌, ℕ, ◌+◌, ◌≤◌, true}
+use Rattle.prem_sound.specs.Prelude.{List, [], ◌∷◌, ◌++◌, Option, Some, None, All, length, slice_index_or}
 use Rattle.prem_sound.specs.Paced.Paced.{within_job, within_stretch}
-use Rattle.prem_sound.specs.Scopes.Scopes.{Scope, KeepsToLines, charge_of}
 use Rattle.prem_sound.specs.Scopes.Charged.{Scoping, IsScoped, charges_by, IsCharged}
+use Rattle.prem_sound.specs.Scopes.Scopes.{Scope, KeepsToLines, charge_of}
+use Rattle.prem_sound.specs.Script.Script.{change_due, Script, call_at}
 
 -- scopes, and the instructions of marked calls behind their `pm.mem`, which ends the scope in which it stands
 pub data Strand : Type 0 where

@@ -1,19 +1,12 @@
 -- What the code of a task has to show: a list of all instructions that its run executes, and that they conform to its calls.
-use Rattle.std.specs.Prelude.{◌≡◌, ℕ, zero, suc, ◌+◌, ◌*◌, ◌/◌, ◌≤◌, Bool, true, false, List, [], ◌∷◌, ◌++◌, None, All, IfSome, length, slice_index_or, ◌-◌, ◌<◌}
-use Rattle.prem_plant.specs.declared.plant.Plant.{Plant}
-use Rattle.prem_plant.specs.Order.Order.{AllIn, HaveRoom}
+use Rattle.prem_sound.specs.Prelude.{is_predictable, IsFree, AllOwn, StaysOwn, Setup, TaskRun, Did, plain_start, plain_run, plain_trace, RunFits, Loads, Change, Stay, Memory, Execute, End}
+use Rattle.prem_sound.specs.Prelude.{Job, Compatible, Execution, AllIn, HaveRoom, Plant, ◌≡◌, ℕ, zero, suc, ◌+◌, ◌*◌, ◌/◌, ◌≤◌, Bool, true, false, List, [], ◌∷◌, ◌++◌, None, All, IfSome}
+use Rattle.prem_sound.specs.Prelude.{length, slice_index_or, ◌-◌, ◌<◌}
+use Rattle.prem_isa.specs.declared.effect.Phase.TheVariants.{Memory as MemoryPhase}
 use Rattle.prem_isa.specs.declared.instr.Instr.{Instr}
 use Rattle.prem_isa.specs.declared.instr.Instr.TheVariants.{Load}
-use Rattle.prem_isa.specs.declared.effect.Phase.TheVariants.{Compatible, Memory as MemoryPhase, Execution}
-use Rattle.prem_isa.specs.declared.effect.Change.{Change}
-use Rattle.prem_isa.specs.declared.effect.Change.TheVariants.{Stay, Memory, Execute, End, Job}
-use Rattle.prem_isa.specs.declared.effect.AccessKind.TheVariants.{Loads}
-use Rattle.prem_isa.specs.Plain.{TaskRun, Did, plain_start, plain_run, plain_trace, RunFits}
-use Rattle.prem_cycle.specs.State.{Setup}
-use Rattle.prem_cycle.specs.Core.{is_predictable}
-use Rattle.prem_cycle.specs.Runs.Position.Own.{IsFree, AllOwn, StaysOwn}
-use Rattle.prem_sound.specs.Script.Scripts.{Reading, Mark, mark_at, Promise, ReadsOwn, IsKept}
 use Rattle.prem_sound.specs.Script.Script.{lines_of_dids, cost_of_dids, Begun, none_begun, begun_after, Call, no_call, call_at, call_of, IsCovered, IsStep, did_due, Script, IsScript}
+use Rattle.prem_sound.specs.Script.Scripts.{Reading, Mark, mark_at, Promise, ReadsOwn, IsKept}
 
 -- ---- own bytes
 

@@ -1,18 +1,9 @@
 -- The predictable intervals of a task's run on its own: which lines they touch, what they cost, and when all is brought in.
-use Rattle.std.specs.Prelude.{◌≡◌, ℕ, zero, suc, ◌+◌, ◌-◌, ◌*◌, ◌/◌, ◌≤◌, true, List, [], ◌∷◌, ◌++◌, Option, Some, None, IfSome, length, sum_by, slice_index_or}
+use Rattle.prem_sound.specs.Prelude.{is_predictable, due_of, cost_of, TaskRun, Did, plain_did, plain_run, Access, Loads, Change, Stay, Memory, Execute, End, Job, Phase, Compatible}
+use Rattle.prem_sound.specs.Prelude.{Execution, AllIn, ArePasses, HaveRoom, Plant, ◌≡◌, ℕ, zero, suc, ◌+◌, ◌-◌, ◌*◌, ◌/◌, ◌≤◌, true, List, [], ◌∷◌, ◌++◌, Option, Some, None, IfSome, length}
+use Rattle.prem_sound.specs.Prelude.{sum_by, slice_index_or}
+use Rattle.prem_isa.specs.declared.effect.Phase.TheVariants.{Memory as MemoryPhase}
 use Rattle.std.specs.List.{concat}
-use Rattle.prem_plant.specs.declared.plant.Plant.{Plant}
-use Rattle.prem_plant.specs.Order.Order.{AllIn, ArePasses, HaveRoom}
-use Rattle.prem_isa.specs.declared.effect.Phase.{Phase}
-use Rattle.prem_isa.specs.declared.effect.Phase.TheVariants.{Compatible, Memory as MemoryPhase, Execution}
-use Rattle.prem_isa.specs.declared.effect.Change.{Change}
-use Rattle.prem_isa.specs.declared.effect.Change.TheVariants.{Stay, Memory, Execute, End, Job}
-use Rattle.prem_isa.specs.declared.effect.AccessKind.TheVariants.{Loads}
-use Rattle.prem_isa.specs.declared.effect.Access.{Access}
-use Rattle.prem_isa.specs.Decode.{cost_of}
-use Rattle.prem_isa.specs.Plain.{TaskRun, Did, plain_did, plain_run}
-use Rattle.prem_cycle.specs.Core.{is_predictable}
-use Rattle.prem_cycle.specs.Runs.Position.Finish.{due_of}
 
 -- ---- the lines of instructions
 

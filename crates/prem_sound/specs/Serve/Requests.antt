@@ -1,21 +1,11 @@
 -- The requests of devices that find room in their queues, and the words that transfers put and get.
-use Rattle.std.specs.Prelude.{◌≡◌, ℕ, zero, suc, ◌+◌, ◌*◌, ◌^◌, ◌<◌, ◌==◌, ◌&&◌, All, Bool, true, false, List, [], ◌∷◌, ◌++◌, Option, Some, None, IfSome, length, map, filter}
-use Rattle.std.specs.Prelude.{if◌then◌else◌, slice_index, nat_lt}
-use Rattle.std.specs.List.Sorted.{IsNonDecreasingBy}
-use Rattle.prem_plant.specs.Places.{AreApart}
-use Rattle.prem_isa.specs.Plain.{TaskRun}
-use Rattle.prem_lru.specs.Entries.{ReplacementRule}
-use Rattle.prem_lru.specs.Rules.{IsRule}
-use Rattle.prem_gate.specs.declared.request.Request.{Request}
+use Rattle.prem_sound.specs.Prelude.{is_over, cycles_of, memory_of, run_of, AreOwn, IsRunnable, device_of, Setup, MachineState, start_of, Request, area_of, TaskRun, ReplacementRule, IsRule}
+use Rattle.prem_sound.specs.Prelude.{AreApart, ◌≡◌, ℕ, zero, suc, ◌+◌, ◌*◌, ◌^◌, ◌<◌, ◌==◌, ◌&&◌, All, Bool, true, false, List, [], ◌∷◌, ◌++◌, Option, Some, None, IfSome, length, map}
+use Rattle.prem_sound.specs.Prelude.{filter, if◌then◌else◌, slice_index, nat_lt}
+use Rattle.prem_gate.specs.Gates.{GatesState, gate_at, is_full, after_arrival}
 use Rattle.prem_gate.specs.declared.bus.Carried.{Carried}
 use Rattle.prem_gate.specs.declared.bus.Transfer.{Transfer}
-use Rattle.prem_gate.specs.Gates.{GatesState, gate_at, is_full, after_arrival}
-use Rattle.prem_image.specs.Records.{area_of}
-use Rattle.prem_cycle.specs.State.{Setup, MachineState, start_of}
-use Rattle.prem_cycle.specs.Cycle.{is_over}
-use Rattle.prem_cycle.specs.Run.{cycles_of, memory_of, run_of}
-use Rattle.prem_cycle.specs.Runs.Position.Own.{device_of}
-use Rattle.prem_cycle.specs.Runs.Position.Issued.{AreOwn, IsRunnable}
+use Rattle.std.specs.List.Sorted.{IsNonDecreasingBy}
 
 -- ---- the requests that find room
 

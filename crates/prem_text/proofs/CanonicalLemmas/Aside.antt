@@ -1,19 +1,13 @@
 -- Trees that are the same, places aside, have the same canonical tokens.
-use Rattle.std.specs.Option.{option_map}
-use Rattle.std.proofs.Common.{◌≡◌, ℕ, ◌+◌, nat_lt, List, [], ◌∷◌, ◌++◌, Option, None, Some, refl, map}
-use Rattle.prem_syntax.specs.Syntax.{Text, Expression, literal, variable, element, unary, binary, Statement, block, if_then, if_else, bounded_while, counting_for, assign, output}
-use Rattle.prem_syntax.specs.Syntax.{input, call, Statements, no_statements, next_statement, Parameter, LocalVariable, RegionText, MarkText, ItemText, global_item, function_item}
-use Rattle.prem_syntax.specs.Syntax.{ProgramText}
+use Rattle.prem_text.proofs.Prelude.{Text, Expression, literal, variable, element, unary, binary, Statement, block, if_then, if_else, bounded_while, counting_for, assign, output, input}
+use Rattle.prem_text.proofs.Prelude.{call, Statements, no_statements, next_statement, Parameter, LocalVariable, RegionText, MarkText, ItemText, global_item, function_item, ProgramText}
+use Rattle.prem_text.proofs.Prelude.{infix_sign, prefix_sign, enclosed, expression_lexemes, more_arguments, argument_lexemes, target_lexemes, call_lexemes, while_lexemes, for_lexemes}
+use Rattle.prem_text.proofs.Prelude.{bound_lexemes, step_lexemes, tail_lexemes, if_lexemes, statement_lexemes, statements_lexemes, number_lexeme, declaration_lexemes, region_lexemes}
+use Rattle.prem_text.proofs.Prelude.{regions_lexemes, mark_lexemes, parameter_lexemes, more_parameters, parameters_lexemes, locals_lexemes, result_lexemes, item_lexemes, program_lexemes}
+use Rattle.prem_text.proofs.Prelude.{unplaced_expression, unplaced_statement, unplaced_statements, unplaced_parameter, unplaced_local, unplaced_region, unplaced_mark, unplaced_item}
+use Rattle.prem_text.proofs.Prelude.{unplaced, level_of, name, word, mark, ◌≡◌, ℕ, ◌+◌, nat_lt, List, [], ◌∷◌, ◌++◌, Option, None, Some, refl, map, option_map}
 use Rattle.prem_text.specs.declared.lexing.token.token.Mark.TheVariants as m
 use Rattle.prem_text.specs.declared.lexing.token.token.Word.TheVariants as w
-use Rattle.prem_text.specs.Lexing.Token.Lexeme.{name, word, mark}
-use Rattle.prem_text.specs.Grammar.Expression.{level_of}
-use Rattle.prem_text.specs.Canonical.Unplaced.{unplaced_expression, unplaced_statement, unplaced_statements, unplaced_parameter, unplaced_local, unplaced_region, unplaced_mark}
-use Rattle.prem_text.specs.Canonical.Unplaced.{unplaced_item, unplaced}
-use Rattle.prem_text.specs.Canonical.Canonical.{infix_sign, prefix_sign, enclosed, expression_lexemes, more_arguments, argument_lexemes, target_lexemes, call_lexemes}
-use Rattle.prem_text.specs.Canonical.Canonical.{while_lexemes, for_lexemes, bound_lexemes, step_lexemes, tail_lexemes, if_lexemes, statement_lexemes, statements_lexemes}
-use Rattle.prem_text.specs.Canonical.Canonical.{number_lexeme, declaration_lexemes, region_lexemes, regions_lexemes, mark_lexemes, parameter_lexemes, more_parameters}
-use Rattle.prem_text.specs.Canonical.Canonical.{parameters_lexemes, locals_lexemes, result_lexemes, item_lexemes, program_lexemes}
 
 pub expression_aside : (e : Expression) (least : ℕ) → expression_lexemes least (unplaced_expression e) ≡ expression_lexemes least e
 expression_aside (literal at value kind) least = refl

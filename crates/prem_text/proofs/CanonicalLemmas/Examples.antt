@@ -1,14 +1,9 @@
 -- Trees with their canonical spellings.
+use Rattle.prem_text.proofs.Prelude.{Expression, literal, variable, element, unary, binary, Statement, block, if_then, if_else, bounded_while, counting_for, assign, output, input, call}
+use Rattle.prem_text.proofs.Prelude.{Statements, no_statements, next_statement, absent, one, many, global_item, function_item, ProgramText, Neg, Not, printed, nowhere, Add, Sub, Mul, Shl}
+use Rattle.prem_text.proofs.Prelude.{Eq, And, OrElse, AndAlso, Lt, Int, Unsigned, ◌≡◌, ℕ, pos, negsuc, true, false, [], ◌∷◌, None, Some, codes, refl}
 use Rattle.std.specs.Fmt.{digits}
-use Rattle.std.proofs.Common.{◌≡◌, ℕ, pos, negsuc, true, false, [], ◌∷◌, None, Some, codes, refl}
-use Rattle.prem_word.specs.declared.kind.Kind.TheVariants.{Int, Unsigned}
-use Rattle.prem_word.specs.declared.kind.BinOp.TheVariants.{Add, Sub, Mul, Shl, Eq, And, OrElse, AndAlso, Lt}
-use Rattle.prem_syntax.specs.declared.tree.UnOp.TheVariants.{Neg, Not}
 use Rattle.prem_syntax.specs.declared.tree.Ty.TheVariants as ty
-use Rattle.prem_syntax.specs.Syntax.{Expression, literal, variable, element, unary, binary, Statement, block, if_then, if_else, bounded_while, counting_for, assign, output, input}
-use Rattle.prem_syntax.specs.Syntax.{call, Statements, no_statements, next_statement, absent, one, many, global_item, function_item, ProgramText}
-use Rattle.prem_text.specs.Grammar.Reader.{nowhere}
-use Rattle.prem_text.specs.Canonical.Printed.{printed}
 
 abbrev pub lit : ℕ → Expression
 lit n = literal nowhere n Int

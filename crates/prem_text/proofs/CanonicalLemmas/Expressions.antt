@@ -1,22 +1,10 @@
 -- An expression has a phrase whose tokens are its canonical ones.
-use Rattle.std.proofs.Common.{◌≡◌, ◌≤◌, ◌+◌, ℕ, Bool, true, false, List, [], ◌∷◌, ◌++◌, Some, refl, ap, arith, nat_lt}
-use Rattle.std.proofs.lemmas.Bool.Decides.{nat_tests}
-use Rattle.prem_word.specs.declared.kind.BinOp.{BinOp}
-use Rattle.prem_word.specs.declared.kind.BinOp.TheVariants.{Add}
-use Rattle.prem_syntax.specs.declared.tree.Place.{Place}
-use Rattle.prem_syntax.specs.declared.tree.UnOp.{UnOp}
-use Rattle.prem_syntax.specs.declared.tree.UnOp.TheVariants.{Neg}
-use Rattle.prem_syntax.specs.Syntax.{Expression, literal, variable, element, unary, binary}
-use Rattle.prem_text.specs.declared.lexing.token.token.Mark.TheVariants as m
-use Rattle.prem_text.specs.Lexing.Token.Lexeme.{Lexeme, name, mark, Seen}
-use Rattle.prem_text.specs.Grammar.Expression.{infix_of, prefix_of, level_of}
-use Rattle.prem_text.specs.Grammar.Slots.{place_at}
-use Rattle.prem_text.specs.Grammar.Phrases.{Phrase, of_literal, of_name, of_element, of_bracket, of_prefix, of_infix, spelled, tree, level, Binds}
-use Rattle.prem_text.specs.Grammar.Reader.{nowhere}
-use Rattle.prem_text.specs.Canonical.Unplaced.{unplaced_expression}
-use Rattle.prem_text.specs.Canonical.Canonical.{infix_sign, prefix_sign, enclosed, expression_lexemes}
-use Rattle.prem_text.proofs.GrammarLemmas.Steps.{level_small}
+use Rattle.prem_text.proofs.Prelude.{Expression, literal, variable, element, unary, binary, Place, UnOp, Neg, infix_sign, prefix_sign, enclosed, expression_lexemes, unplaced_expression}
+use Rattle.prem_text.proofs.Prelude.{infix_of, prefix_of, level_of, Phrase, of_literal, of_name, of_element, of_bracket, of_prefix, of_infix, spelled, tree, level, Binds, nowhere, place_at}
+use Rattle.prem_text.proofs.Prelude.{Lexeme, name, mark, Seen, BinOp, Add, ◌≡◌, ◌≤◌, ◌+◌, ℕ, Bool, true, false, List, [], ◌∷◌, ◌++◌, Some, refl, ap, arith, nat_lt, nat_tests}
 use Rattle.prem_text.proofs.CanonicalLemmas.Parts.{Are, none, next, cut, glue, single}
+use Rattle.prem_text.proofs.GrammarLemmas.Steps.{level_small}
+use Rattle.prem_text.specs.declared.lexing.token.token.Mark.TheVariants as m
 
 infix_back : (op : BinOp) → infix_of (infix_sign op) ≡ Some op
 infix_back Add = refl

@@ -1,24 +1,13 @@
 -- The canonical tokens of an expression have the fewest parentheses.
-use Rattle.std.proofs.Common.{◌≡◌, ◌≤◌, ◌+◌, ℕ, nat_lt, Bool, true, false, List, [], ◌∷◌, ◌++◌, Some, refl, ap, sym, subst, ◌∙◌, arith, map}
-use Rattle.std.proofs.lemmas.Bool.Decides.{nat_tests}
-use Rattle.prem_word.specs.declared.kind.BinOp.{BinOp}
-use Rattle.prem_word.specs.declared.kind.BinOp.TheVariants.{Add, Sub, Mul, Div, Rem, Shl, Shr, Lt, Le, Gt, Ge, Eq, Ne, And, Xor, Or, AndAlso, OrElse}
-use Rattle.prem_syntax.specs.declared.tree.UnOp.{UnOp}
-use Rattle.prem_syntax.specs.declared.tree.UnOp.TheVariants.{Neg, Flip, Not}
-use Rattle.prem_syntax.specs.Syntax.{Expression, literal, variable, element, unary, binary}
-use Rattle.prem_text.specs.declared.lexing.token.token.Mark.{Mark}
-use Rattle.prem_text.specs.declared.lexing.token.token.Mark.TheVariants as m
-use Rattle.prem_text.specs.Lexing.Token.Lexeme.{Lexeme, name, mark, Seen}
-use Rattle.prem_text.specs.Grammar.Expression.{infix_of, prefix_of, level_of}
-use Rattle.prem_text.specs.Grammar.Phrases.{Phrase, of_literal, of_name, of_element, of_bracket, of_prefix, of_infix, spelled, tree, level, Binds, IsExpression}
-use Rattle.prem_text.specs.Grammar.Reader.{nowhere}
-use Rattle.prem_text.specs.Canonical.Unplaced.{unplaced_expression}
-use Rattle.prem_text.specs.Canonical.Canonical.{infix_sign, prefix_sign, enclosed, expression_lexemes}
-use Rattle.prem_text.specs.Canonical.Law.{lexemes_of, parentheses, HasFewest}
-use Rattle.prem_text.proofs.GrammarLemmas.Steps.{level_some}
-use Rattle.prem_text.proofs.CanonicalLemmas.Parts.{Are, none, next}
+use Rattle.prem_text.proofs.Prelude.{Expression, literal, variable, element, unary, binary, UnOp, Neg, Flip, Not, infix_sign, prefix_sign, enclosed, expression_lexemes, lexemes_of}
+use Rattle.prem_text.proofs.Prelude.{parentheses, HasFewest, unplaced_expression, infix_of, prefix_of, level_of, Phrase, of_literal, of_name, of_element, of_bracket, of_prefix, of_infix}
+use Rattle.prem_text.proofs.Prelude.{spelled, tree, level, Binds, IsExpression, nowhere, Lexeme, name, mark, Seen, Mark, BinOp, Add, Sub, Mul, Div, Rem, Shl, Shr, Lt, Le, Gt, Ge, Eq, Ne}
+use Rattle.prem_text.proofs.Prelude.{And, Xor, Or, AndAlso, OrElse, ◌≡◌, ◌≤◌, ◌+◌, ℕ, nat_lt, Bool, true, false, List, [], ◌∷◌, ◌++◌, Some, refl, ap, sym, subst, ◌∙◌, arith, map, nat_tests}
 use Rattle.prem_text.proofs.CanonicalLemmas.Aside.{expression_aside}
 use Rattle.prem_text.proofs.CanonicalLemmas.Expressions.{expression_spelling}
+use Rattle.prem_text.proofs.CanonicalLemmas.Parts.{Are, none, next}
+use Rattle.prem_text.proofs.GrammarLemmas.Steps.{level_some}
+use Rattle.prem_text.specs.declared.lexing.token.token.Mark.TheVariants as m
 
 -- ---- lists
 

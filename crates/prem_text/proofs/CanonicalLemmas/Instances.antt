@@ -1,23 +1,14 @@
 -- Where the laws' premises hold.
-use Rattle.std.proofs.Common.{◌≤◌, ℕ, [], ◌∷◌, None, codes, refl, arith}
-use Rattle.prem_word.specs.declared.kind.Kind.TheVariants.{Int}
-use Rattle.prem_word.specs.declared.kind.BinOp.TheVariants.{Add, Sub}
-use Rattle.prem_syntax.specs.declared.tree.Place.{Place}
-use Rattle.prem_syntax.specs.declared.tree.Ty.TheVariants as ty
-use Rattle.prem_syntax.specs.Syntax.{literal, binary, output, no_statements, next_statement, function_item, ProgramText}
-use Rattle.prem_text.specs.declared.lexing.token.token.Mark.TheVariants as m
-use Rattle.prem_text.specs.Lexing.Spelling.{used_word, is_unused, reserved_word, longest_mark}
-use Rattle.prem_text.specs.Lexing.Literal.{literal_word}
-use Rattle.prem_text.specs.Lexing.Tokens.{first_token, start, step, lex, tokens_of}
-use Rattle.prem_text.specs.Grammar.Phrases.{Phrase, of_literal, of_bracket, of_infix}
-use Rattle.prem_text.specs.Grammar.Reader.{nowhere}
-use Rattle.prem_text.specs.Texts.{reads}
-use Rattle.prem_text.specs.Canonical.Printed.{printed}
-use Rattle.prem_text.specs.Canonical.Law.{IsOfText, IsTextOf, ReadBack}
-use Rattle.prem_text.proofs.Whole.{text_sound}
+use Rattle.prem_text.proofs.Prelude.{literal, binary, output, no_statements, next_statement, function_item, ProgramText, Place, IsOfText, IsTextOf, ReadBack, printed, Phrase, of_literal}
+use Rattle.prem_text.proofs.Prelude.{of_bracket, of_infix, nowhere, literal_word, used_word, is_unused, reserved_word, longest_mark, first_token, start, lex, tokens_of, reads, Add, Sub, Int}
+use Rattle.prem_text.proofs.Prelude.{◌≤◌, ℕ, [], ◌∷◌, None, codes, refl, arith}
 use Rattle.prem_text.proofs.CanonicalLemmas.Examples.{lit, outs}
-use Rattle.prem_text.proofs.CanonicalLemmas.Read.{canonical_divided, canonical_read}
 use Rattle.prem_text.proofs.CanonicalLemmas.Fewest.{fewest_parentheses}
+use Rattle.prem_text.proofs.CanonicalLemmas.Read.{canonical_divided, canonical_read}
+use Rattle.prem_text.proofs.Whole.{text_sound}
+use Rattle.prem_text.specs.Lexing.Tokens.{step}
+use Rattle.prem_syntax.specs.declared.tree.Ty.TheVariants as ty
+use Rattle.prem_text.specs.declared.lexing.token.token.Mark.TheVariants as m
 
 -- ---- a program
 

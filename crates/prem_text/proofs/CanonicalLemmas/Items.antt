@@ -1,37 +1,28 @@
 -- A program has a phrase whose tokens are its canonical ones.
-use Rattle.std.specs.Option.{option_map}
-use Rattle.std.proofs.Common.{◌≡◌, ℕ, ℤ, pos, negsuc, neg_ℤ, int_lt, unsigned_abs, nat_lt, Bool, true, false, if◌then◌else◌, List, [], ◌∷◌, ◌++◌, Option, None, Some, refl, ap, sym}
-use Rattle.std.proofs.Common.{◌∙◌, arith, append-nil, append_assoc, map}
-use Rattle.std.proofs.lemmas.Bool.Decides.{nat_tests}
-use Rattle.prem_syntax.specs.declared.tree.Ty.{Ty}
-use Rattle.prem_syntax.specs.declared.tree.Ty.TheVariants as ty
-use Rattle.prem_syntax.specs.Syntax.{Text, Expression, Parameter, LocalVariable, RegionText, MarkText, InitialValue, absent, one, many, GlobalVariable, FunctionText, ItemText}
-use Rattle.prem_syntax.specs.Syntax.{global_item, function_item, ProgramText}
-use Rattle.prem_text.specs.declared.lexing.token.token.Mark.TheVariants as m
-use Rattle.prem_text.specs.declared.lexing.token.token.Word.TheVariants as w
-use Rattle.prem_text.specs.Lexing.Token.Lexeme.{name, word, mark, end_of_text, Seen}
-use Rattle.prem_text.specs.Grammar.Slots.{left_parenthesis, right_parenthesis, left_brace, right_brace, left_bracket, right_bracket, semicolon, comma, equal_sign, a_name}
-use Rattle.prem_text.specs.Grammar.Slots.{a_literal, the_return, the_void, the_range, the_predictable, the_region, the_end}
-use Rattle.prem_text.specs.Grammar.Phrases.{name_at}
-use Rattle.prem_text.specs.Grammar.ProgramPhrases.{TypeForm, void_type, int_type, short_type, signed_char_type, unsigned_type, unsigned_short_type, unsigned_char_type, type_slots}
-use Rattle.prem_text.specs.Grammar.ProgramPhrases.{type_of, Declaration, IsDeclaration, declaration_tokens, ConstantPhrase, constant_slots, IsConstant, constant_tree}
-use Rattle.prem_text.specs.Grammar.ProgramPhrases.{PartedConstant, InitialPhrase, no_initial, one_initial, many_initial, ArePartedConstants, IsInitial, constants_tokens}
-use Rattle.prem_text.specs.Grammar.ProgramPhrases.{constants_tree, initial_tokens, initial_tree, IsLength, length_tokens, length_tree, GlobalPhrase, IsGlobal, global_tokens}
-use Rattle.prem_text.specs.Grammar.ProgramPhrases.{global_tree, MarkPhrase, AreRegions, region_tokens, region_trees, IsMark, mark_tokens, mark_tree, RangePhrase, IsRange}
-use Rattle.prem_text.specs.Grammar.ProgramPhrases.{range_tokens, range_tree, ParameterPhrase, IsParameter, parameter_tokens, parameter_tree, PartedParameter, ParametersPhrase}
-use Rattle.prem_text.specs.Grammar.ProgramPhrases.{of_void, of_parameters, is_void_form, begins_void, ArePartedParameters, AreParameters, parted_parameter_tokens}
-use Rattle.prem_text.specs.Grammar.ProgramPhrases.{parted_parameter_trees, parameters_tokens, parameters_tree, LocalPhrase, AreLocals, local_tokens, local_trees, ResultPhrase}
-use Rattle.prem_text.specs.Grammar.ProgramPhrases.{IsResult, result_tokens, result_tree, FunctionPhrase, IsFunction, function_tokens, function_tree, ItemPhrase, of_global}
-use Rattle.prem_text.specs.Grammar.ProgramPhrases.{of_function, IsItem, item_tokens, item_tree, AreItems, items_tokens, items_tree, ProgramPhrase, IsProgram, program_tokens}
-use Rattle.prem_text.specs.Grammar.ProgramPhrases.{program_tree}
-use Rattle.prem_text.specs.Grammar.Reader.{nowhere}
-use Rattle.prem_text.specs.Canonical.Unplaced.{unplaced_expression, unplaced_parameter, unplaced_local, unplaced_region, unplaced_mark, unplaced_global, unplaced_function, unplaced_item, unplaced}
-use Rattle.prem_text.specs.Canonical.Canonical.{number_lexeme, constant_lexemes, expression_lexemes, statements_lexemes, type_lexemes, declaration_lexemes, length_lexemes}
-use Rattle.prem_text.specs.Canonical.Canonical.{more_constants, initial_lexemes, global_lexemes, region_lexemes, regions_lexemes, mark_lexemes, range_lexemes, parameter_lexemes}
-use Rattle.prem_text.specs.Canonical.Canonical.{more_parameters, parameters_lexemes, local_lexemes, locals_lexemes, result_lexemes, function_lexemes, item_lexemes, program_lexemes}
+use Rattle.prem_text.proofs.Prelude.{Text, Expression, Parameter, LocalVariable, RegionText, MarkText, InitialValue, absent, one, many, GlobalVariable, FunctionText, ItemText, global_item}
+use Rattle.prem_text.proofs.Prelude.{function_item, ProgramText, Ty, number_lexeme, constant_lexemes, expression_lexemes, statements_lexemes, type_lexemes, declaration_lexemes}
+use Rattle.prem_text.proofs.Prelude.{length_lexemes, more_constants, initial_lexemes, global_lexemes, region_lexemes, regions_lexemes, mark_lexemes, range_lexemes, parameter_lexemes}
+use Rattle.prem_text.proofs.Prelude.{more_parameters, parameters_lexemes, local_lexemes, locals_lexemes, result_lexemes, function_lexemes, item_lexemes, program_lexemes, unplaced_expression}
+use Rattle.prem_text.proofs.Prelude.{unplaced_parameter, unplaced_local, unplaced_region, unplaced_mark, unplaced_global, unplaced_function, unplaced_item, unplaced, name_at, TypeForm}
+use Rattle.prem_text.proofs.Prelude.{void_type, int_type, short_type, signed_char_type, unsigned_type, unsigned_short_type, unsigned_char_type, type_slots, type_of, Declaration}
+use Rattle.prem_text.proofs.Prelude.{IsDeclaration, declaration_tokens, ConstantPhrase, constant_slots, IsConstant, constant_tree, PartedConstant, InitialPhrase, no_initial, one_initial}
+use Rattle.prem_text.proofs.Prelude.{many_initial, ArePartedConstants, IsInitial, constants_tokens, constants_tree, initial_tokens, initial_tree, IsLength, length_tokens, length_tree}
+use Rattle.prem_text.proofs.Prelude.{GlobalPhrase, IsGlobal, global_tokens, global_tree, MarkPhrase, AreRegions, region_tokens, region_trees, IsMark, mark_tokens, mark_tree, RangePhrase}
+use Rattle.prem_text.proofs.Prelude.{IsRange, range_tokens, range_tree, ParameterPhrase, IsParameter, parameter_tokens, parameter_tree, PartedParameter, ParametersPhrase, of_void}
+use Rattle.prem_text.proofs.Prelude.{of_parameters, is_void_form, begins_void, ArePartedParameters, AreParameters, parted_parameter_tokens, parted_parameter_trees, parameters_tokens}
+use Rattle.prem_text.proofs.Prelude.{parameters_tree, LocalPhrase, AreLocals, local_tokens, local_trees, ResultPhrase, IsResult, result_tokens, result_tree, FunctionPhrase, IsFunction}
+use Rattle.prem_text.proofs.Prelude.{function_tokens, function_tree, ItemPhrase, of_global, of_function, IsItem, item_tokens, item_tree, AreItems, items_tokens, items_tree, ProgramPhrase}
+use Rattle.prem_text.proofs.Prelude.{IsProgram, program_tokens, program_tree, nowhere, left_parenthesis, right_parenthesis, left_brace, right_brace, left_bracket, right_bracket, semicolon}
+use Rattle.prem_text.proofs.Prelude.{comma, equal_sign, a_name, a_literal, the_return, the_void, the_range, the_predictable, the_region, the_end, name, word, mark, end_of_text, Seen, ◌≡◌, ℕ}
+use Rattle.prem_text.proofs.Prelude.{ℤ, pos, negsuc, neg_ℤ, int_lt, unsigned_abs, nat_lt, Bool, true, false, if◌then◌else◌, List, [], ◌∷◌, ◌++◌, Option, None, Some, refl, ap, sym, ◌∙◌}
+use Rattle.prem_text.proofs.Prelude.{arith, append_assoc, map, nat_tests, option_map}
 use Rattle.prem_text.proofs.CanonicalLemmas.Parts.{Are, none, cut, glue, all_fit, row, name_is, value_is, regroup}
 use Rattle.prem_text.proofs.CanonicalLemmas.Shaped.{is_void, BeginsShaped, IsShapedInitial, IsShapedItem, AreShapedItems}
 use Rattle.prem_text.proofs.CanonicalLemmas.Statements.{whole, all_said}
+use Rattle.std.proofs.Common.{append-nil}
+use Rattle.prem_syntax.specs.declared.tree.Ty.TheVariants as ty
+use Rattle.prem_text.specs.declared.lexing.token.token.Mark.TheVariants as m
+use Rattle.prem_text.specs.declared.lexing.token.token.Word.TheVariants as w
 
 -- ---- types
 

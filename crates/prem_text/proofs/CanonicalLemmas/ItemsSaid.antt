@@ -1,28 +1,21 @@
 -- The canonical tokens of a text's tree can be spelled, and it has the shape that they need.
-use Rattle.std.proofs.Common.{◌≡◌, ◌≤◌, ℕ, ℤ, unsigned_abs, Bool, true, false, List, [], ◌∷◌, ◌++◌, Option, None, Some, refl, sym, subst, ◌∙◌, map}
-use Rattle.prem_syntax.specs.declared.tree.Ty.{Ty}
-use Rattle.prem_syntax.specs.declared.tree.Ty.TheVariants as ty
-use Rattle.prem_syntax.specs.Syntax.{Parameter}
-use Rattle.prem_text.specs.declared.lexing.token.token.Mark.TheVariants as m
-use Rattle.prem_text.specs.Lexing.Token.Lexeme.{name, mark, Seen}
-use Rattle.prem_text.specs.Grammar.Slots.{left_parenthesis, right_parenthesis, comma, a_name, a_literal, the_region, value_at}
-use Rattle.prem_text.specs.Grammar.Phrases.{spelled, tree, name_at}
-use Rattle.prem_text.specs.Grammar.StatementPhrases.{all_written}
-use Rattle.prem_text.specs.Grammar.ProgramPhrases.{TypeForm, void_type, type_of, Declaration, IsDeclaration, declaration_tokens, ConstantPhrase, constant_value, constant_tree}
-use Rattle.prem_text.specs.Grammar.ProgramPhrases.{PartedConstant, InitialPhrase, no_initial, one_initial, many_initial, constants_tokens, constants_tree, initial_tokens}
-use Rattle.prem_text.specs.Grammar.ProgramPhrases.{initial_tree, length_tokens, length_tree, GlobalPhrase, IsGlobal, global_tokens, global_tree, AreRegions, region_tokens}
-use Rattle.prem_text.specs.Grammar.ProgramPhrases.{region_trees, MarkPhrase, IsMark, mark_tokens, mark_tree, RangePhrase, range_tokens, range_tree, ParameterPhrase, IsParameter}
-use Rattle.prem_text.specs.Grammar.ProgramPhrases.{parameter_tokens, parameter_tree, PartedParameter, ParametersPhrase, of_void, of_parameters, is_void_form, ArePartedParameters}
-use Rattle.prem_text.specs.Grammar.ProgramPhrases.{AreParameters, parted_parameter_tokens, parted_parameter_trees, parameters_tokens, parameters_tree, LocalPhrase, AreLocals}
-use Rattle.prem_text.specs.Grammar.ProgramPhrases.{local_tokens, local_trees, ResultPhrase, result_tokens, result_tree, FunctionPhrase, IsFunction, function_tokens, function_tree}
-use Rattle.prem_text.specs.Grammar.ProgramPhrases.{ItemPhrase, of_global, of_function, IsItem, item_tokens, item_tree, AreItems, items_tokens, items_tree}
-use Rattle.prem_text.specs.Canonical.Unplaced.{unplaced_parameter, unplaced_item, unplaced}
-use Rattle.prem_text.specs.Canonical.Canonical.{constant_lexemes, expression_lexemes, statements_lexemes, type_lexemes, declaration_lexemes, length_lexemes, more_constants}
-use Rattle.prem_text.specs.Canonical.Canonical.{constants_lexemes, initial_lexemes, global_lexemes, regions_lexemes, mark_lexemes, range_lexemes, parameter_lexemes}
-use Rattle.prem_text.specs.Canonical.Canonical.{more_parameters, parameters_lexemes, locals_lexemes, result_lexemes, function_lexemes, item_lexemes, program_lexemes}
+use Rattle.prem_text.proofs.Prelude.{Parameter, Ty, constant_lexemes, expression_lexemes, statements_lexemes, type_lexemes, declaration_lexemes, length_lexemes, more_constants}
+use Rattle.prem_text.proofs.Prelude.{constants_lexemes, initial_lexemes, global_lexemes, regions_lexemes, mark_lexemes, range_lexemes, parameter_lexemes, more_parameters, parameters_lexemes}
+use Rattle.prem_text.proofs.Prelude.{locals_lexemes, result_lexemes, function_lexemes, item_lexemes, program_lexemes, unplaced_parameter, unplaced_item, unplaced, spelled, tree, name_at}
+use Rattle.prem_text.proofs.Prelude.{TypeForm, void_type, type_of, Declaration, IsDeclaration, declaration_tokens, ConstantPhrase, constant_value, constant_tree, PartedConstant}
+use Rattle.prem_text.proofs.Prelude.{InitialPhrase, no_initial, one_initial, many_initial, constants_tokens, constants_tree, initial_tokens, initial_tree, length_tokens, length_tree}
+use Rattle.prem_text.proofs.Prelude.{GlobalPhrase, IsGlobal, global_tokens, global_tree, AreRegions, region_tokens, region_trees, MarkPhrase, IsMark, mark_tokens, mark_tree, RangePhrase}
+use Rattle.prem_text.proofs.Prelude.{range_tokens, range_tree, ParameterPhrase, IsParameter, parameter_tokens, parameter_tree, PartedParameter, ParametersPhrase, of_void, of_parameters}
+use Rattle.prem_text.proofs.Prelude.{is_void_form, ArePartedParameters, AreParameters, parted_parameter_tokens, parted_parameter_trees, parameters_tokens, parameters_tree, LocalPhrase}
+use Rattle.prem_text.proofs.Prelude.{AreLocals, local_tokens, local_trees, ResultPhrase, result_tokens, result_tree, FunctionPhrase, IsFunction, function_tokens, function_tree, ItemPhrase}
+use Rattle.prem_text.proofs.Prelude.{of_global, of_function, IsItem, item_tokens, item_tree, AreItems, items_tokens, items_tree, left_parenthesis, right_parenthesis, comma, a_name}
+use Rattle.prem_text.proofs.Prelude.{a_literal, the_region, value_at, all_written, name, mark, Seen, ◌≡◌, ◌≤◌, ℕ, ℤ, unsigned_abs, Bool, true, false, List, [], ◌∷◌, ◌++◌, Option, None, Some}
+use Rattle.prem_text.proofs.Prelude.{refl, sym, subst, ◌∙◌, map}
 use Rattle.prem_text.proofs.CanonicalLemmas.Sayable.{AreSayable, both, AreSaid, front, back, name_said, value_bound, value_said, constant_said, abs_negated, Each, each_last}
-use Rattle.prem_text.proofs.CanonicalLemmas.StatementsSaid.{expression_said, all_shaped, all_statements_said}
 use Rattle.prem_text.proofs.CanonicalLemmas.Shaped.{is_void, BeginsShaped, IsShapedInitial, IsShapedItem, AreShapedItems}
+use Rattle.prem_text.proofs.CanonicalLemmas.StatementsSaid.{expression_said, all_shaped, all_statements_said}
+use Rattle.prem_syntax.specs.declared.tree.Ty.TheVariants as ty
+use Rattle.prem_text.specs.declared.lexing.token.token.Mark.TheVariants as m
 
 -- ---- types and constants
 

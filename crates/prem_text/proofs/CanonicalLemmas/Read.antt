@@ -1,32 +1,22 @@
 -- The canonical spelling of a text's tree is read back.
-use Rattle.std.proofs.lemmas.Bool.Decides.{nat_tests}
-use Rattle.std.proofs.Common.{◌≡◌, ◌≤◌, ◌<◌, nat_lt, Bool, true, false, arith, ℕ, suc, List, [], ◌∷◌, ◌++◌, length, Result, Ok, Err, refl, ap, sym, subst, ◌∙◌, map}
-use Rattle.prem_syntax.specs.Syntax.{ProgramText}
-use Rattle.prem_text.specs.declared.lexing.token.fail.FrontFail.{FrontFail}
-use Rattle.prem_text.specs.declared.lexing.token.fail.FrontFail.TheVariants.{TooLong}
-use Rattle.prem_text.specs.Lexing.Token.Lexeme.{Lexeme, end_of_text, Seen}
-use Rattle.prem_text.specs.Lexing.Tokens.{tokens_of}
-use Rattle.prem_text.specs.Spelling.Spelled.{AreSpellings, placed}
-use Rattle.prem_text.specs.Spelling.Division.{Divides, AreTokens, too_long, too_many, place_behind}
-use Rattle.prem_text.specs.Grammar.Item.{outside, finished}
-use Rattle.prem_text.specs.Grammar.ProgramPhrases.{ProgramPhrase, IsProgram, program_tokens, program_tree}
-use Rattle.prem_text.specs.Grammar.Law.{stages}
-use Rattle.prem_text.specs.Texts.{reads, IsNoProgram, not_divided, unexpected, past}
-use Rattle.prem_text.specs.Canonical.Unplaced.{unplaced}
-use Rattle.prem_text.specs.Canonical.Canonical.{program_lexemes}
-use Rattle.prem_text.specs.Canonical.Printed.{lexeme_bytes, spelling_of, printed}
-use Rattle.prem_text.specs.Canonical.Law.{IsOfText, lexemes_of, AreCanonical, IsSpelled, IsTextOf, Fits, IsTooLong, too_many_bytes, too_many_tokens, ReadBack, gives_back, is_too_long, is_too_deep}
+use Rattle.prem_text.proofs.Prelude.{ProgramText, program_lexemes, IsOfText, lexemes_of, AreCanonical, IsSpelled, IsTextOf, Fits, IsTooLong, too_many_bytes, too_many_tokens, ReadBack}
+use Rattle.prem_text.proofs.Prelude.{gives_back, is_too_long, lexeme_bytes, spelling_of, printed, unplaced, outside, finished, stages, ProgramPhrase, IsProgram, program_tokens, program_tree}
+use Rattle.prem_text.proofs.Prelude.{Lexeme, end_of_text, Seen, tokens_of, Divides, AreTokens, too_long, too_many, place_behind, AreSpellings, placed, reads, IsNoProgram, not_divided}
+use Rattle.prem_text.proofs.Prelude.{unexpected, FrontFail, TooLong, ◌≡◌, ◌≤◌, ◌<◌, nat_lt, Bool, true, false, arith, ℕ, suc, List, [], ◌∷◌, ◌++◌, length, Result, Ok, Err, refl, ap, sym}
+use Rattle.prem_text.proofs.Prelude.{subst, ◌∙◌, map, nat_tests}
+use Rattle.prem_text.proofs.CanonicalLemmas.Aside.{program_aside}
+use Rattle.prem_text.proofs.CanonicalLemmas.Items.{program_said}
+use Rattle.prem_text.proofs.CanonicalLemmas.ItemsSaid.{items_said, items_shaped}
+use Rattle.prem_text.proofs.CanonicalLemmas.Parts.{Are, are_own}
+use Rattle.prem_text.proofs.CanonicalLemmas.Sayable.{AreSayable, AreSaid, front, tokens_said}
+use Rattle.prem_text.proofs.CanonicalLemmas.Shaped.{AreShapedItems}
+use Rattle.prem_text.proofs.CanonicalLemmas.Spelled.{are_spellings}
+use Rattle.prem_text.proofs.GrammarLemmas.Program.{Reached, reached, some_same, program_stages}
 use Rattle.prem_text.proofs.SpellingLemmas.Exact.{complete, refusals_complete}
 use Rattle.prem_text.proofs.SpellingLemmas.Joined.{divided, placed_length}
-use Rattle.prem_text.proofs.GrammarLemmas.Program.{Reached, reached, some_same, program_stages}
 use Rattle.prem_text.proofs.Whole.{text_sound, text_refused, no_program_refused}
-use Rattle.prem_text.proofs.CanonicalLemmas.Parts.{Are, are_own}
-use Rattle.prem_text.proofs.CanonicalLemmas.Shaped.{AreShapedItems}
-use Rattle.prem_text.proofs.CanonicalLemmas.Items.{program_said}
-use Rattle.prem_text.proofs.CanonicalLemmas.Sayable.{AreSayable, AreSaid, front, tokens_said}
-use Rattle.prem_text.proofs.CanonicalLemmas.ItemsSaid.{items_said, items_shaped}
-use Rattle.prem_text.proofs.CanonicalLemmas.Aside.{program_aside}
-use Rattle.prem_text.proofs.CanonicalLemmas.Spelled.{are_spellings}
+use Rattle.prem_text.specs.Canonical.Law.{is_too_deep}
+use Rattle.prem_text.specs.Texts.{past}
 
 -- ---- how many tokens there are
 

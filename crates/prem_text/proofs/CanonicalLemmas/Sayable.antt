@@ -1,13 +1,8 @@
 -- Tokens of a text can be spelled, and so can the canonical ones of its tree.
-use Rattle.std.proofs.Common.{◌≡◌, ◌≤◌, ℕ, ℤ, pos, neg_ℤ, zero, suc, nat_lt, int_lt, unsigned_abs, Bool, true, false, if◌then◌else◌, List, [], ◌∷◌, ◌++◌, Some, refl, sym, subst, arith}
-use Rattle.std.proofs.lemmas.Bool.Decides.{nat_tests}
-use Rattle.prem_word.specs.declared.kind.Kind.TheVariants.{Int, Unsigned}
-use Rattle.prem_text.specs.Lexing.Token.Lexeme.{Lexeme, name, number, word, mark, end_of_text, Seen}
-use Rattle.prem_text.specs.Spelling.Spellings.{Spells, as_name, as_word, as_literal, as_mark, Literal, as_int, as_large, as_suffixed}
-use Rattle.prem_text.specs.Spelling.Division.{Divides, up_to, gap, token, AreTokens}
-use Rattle.prem_text.specs.Grammar.Slots.{Slot, a_name, is_name, fits, text_of, value_of, value_at}
-use Rattle.prem_text.specs.Grammar.Phrases.{IsRow, name_or_none, name_at}
-use Rattle.prem_text.specs.Canonical.Canonical.{number_lexeme, constant_lexemes}
+use Rattle.prem_text.proofs.Prelude.{number_lexeme, constant_lexemes, IsRow, name_or_none, name_at, Slot, a_name, is_name, fits, text_of, value_of, value_at, Lexeme, name, number, word}
+use Rattle.prem_text.proofs.Prelude.{mark, end_of_text, Seen, Divides, up_to, gap, token, AreTokens, Spells, as_name, as_word, as_literal, as_mark, Literal, as_int, as_large, as_suffixed}
+use Rattle.prem_text.proofs.Prelude.{Int, Unsigned, ◌≡◌, ◌≤◌, ℕ, ℤ, pos, neg_ℤ, zero, suc, nat_lt, int_lt, unsigned_abs, Bool, true, false, if◌then◌else◌, List, [], ◌∷◌, ◌++◌, Some, refl}
+use Rattle.prem_text.proofs.Prelude.{sym, subst, arith, nat_tests}
 use Rattle.prem_text.proofs.GrammarLemmas.Taken.{nth}
 
 -- ---- lexemes

@@ -1,9 +1,7 @@
 -- What the tree of a text is like, its tokens aside.
-use Rattle.std.proofs.Common.{◌≡◌, Bool, true, false, List, [], ◌∷◌}
-use Rattle.prem_syntax.specs.declared.tree.Ty.{Ty}
+use Rattle.prem_text.proofs.Prelude.{Statement, block, if_then, if_else, bounded_while, counting_for, Statements, no_statements, next_statement, Parameter, InitialValue, many, ItemText}
+use Rattle.prem_text.proofs.Prelude.{global_item, function_item, ProgramText, Ty, ◌≡◌, Bool, true, false, List, [], ◌∷◌}
 use Rattle.prem_syntax.specs.declared.tree.Ty.TheVariants as ty
-use Rattle.prem_syntax.specs.Syntax.{Statement, block, if_then, if_else, bounded_while, counting_for, Statements, no_statements, next_statement, Parameter, InitialValue, many}
-use Rattle.prem_syntax.specs.Syntax.{ItemText, global_item, function_item, ProgramText}
 
 -- an `else` behind a statement would belong to it
 abbrev pub leaves_open : Statement → Bool

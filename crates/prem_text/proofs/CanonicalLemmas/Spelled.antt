@@ -1,31 +1,21 @@
 -- Lexemes are spelled by their bytes.
-use Rattle.std.specs.Fmt.{decimal}
-use Rattle.std.specs.Char.{digit_value as digit_of}
-use Rattle.std.specs.Str.Parse.{AllDigits, digits_value, digits_value_after}
-use Rattle.std.proofs.Common.{◌≡◌, ◌≤◌, ◌<◌, ℕ, zero, suc, ◌+◌, ◌*◌, ◌^◌, ◌==◌, true, false, List, [], ◌∷◌, length, get_or, refl, ap, sym, subst, ◌∙◌, arith, add-zero, mul-one, map}
-use Rattle.std.proofs.lemmas.Bool.{and_from}
-use Rattle.std.proofs.lemmas.Bool.Decides.{nat_tests}
+use Rattle.prem_text.proofs.Prelude.{word_bytes, mark_bytes, lexeme_bytes, spelling_of, digit_value, marks, Lexeme, name, number, word, mark, end_of_text, is_digit, AreSpellings, StandsIn}
+use Rattle.prem_text.proofs.Prelude.{at_front, further, every, value_in, Digits, just_zero, decimal as decimal_digits, as_int, as_suffixed, Reserved, without_use, Spells, as_word}
+use Rattle.prem_text.proofs.Prelude.{as_literal, as_mark, Mark, Word, Kind, Int, Unsigned, ◌≡◌, ◌≤◌, ◌<◌, ℕ, zero, suc, ◌+◌, ◌*◌, ◌^◌, ◌==◌, true, false, List, [], ◌∷◌, length, get_or, refl}
+use Rattle.prem_text.proofs.Prelude.{ap, sym, subst, ◌∙◌, arith, add-zero, mul-one, map, and_from, nat_tests}
+use Rattle.prem_text.proofs.CanonicalLemmas.Sayable.{AreSayable, IsSayable}
+use Rattle.prem_text.proofs.SpellingLemmas.Literals.{shifted}
+use Rattle.prem_text.specs.Spelling.Spellings.{used}
 use Rattle.std.proofs.lemmas.Fmt.{decimal_is_IsNumeral, decimal_digit, first_decimal}
 use Rattle.std.proofs.lemmas.Str.{digit_value_digit}
 use Rattle.std.proofs.lemmas.Str.Parse.{digit_from_value}
-use native.Mathlib.Omega.{pow_step}
+use Rattle.std.specs.Char.{digit_value as digit_of}
+use Rattle.std.specs.Fmt.{decimal}
+use Rattle.std.specs.Str.Parse.{AllDigits, digits_value, digits_value_after}
 use native.Mathlib.Nat.{pow-zero}
-use Rattle.prem_word.specs.declared.kind.Kind.{Kind}
-use Rattle.prem_word.specs.declared.kind.Kind.TheVariants.{Int, Unsigned}
-use Rattle.prem_text.specs.declared.lexing.token.token.Word.{Word}
+use native.Mathlib.Omega.{pow_step}
 use Rattle.prem_text.specs.declared.lexing.token.token.Word.TheVariants as w
-use Rattle.prem_text.specs.declared.lexing.token.token.Mark.{Mark}
 use Rattle.prem_text.specs.declared.lexing.token.token.Mark.TheVariants as m
-use Rattle.prem_text.specs.Lexing.Token.Lexeme.{Lexeme, name, number, word, mark, end_of_text}
-use Rattle.prem_text.specs.Lexing.Spelling.{marks}
-use Rattle.prem_text.specs.Lexing.Literal.{digit_value}
-use Rattle.prem_text.specs.Lexing.Tokens.{is_digit}
-use Rattle.prem_text.specs.Spelling.Spellings.{StandsIn, at_front, further, every, value_in, Digits, just_zero, decimal as decimal_digits, as_int, as_suffixed, Reserved, used}
-use Rattle.prem_text.specs.Spelling.Spellings.{without_use, Spells, as_word, as_literal, as_mark}
-use Rattle.prem_text.specs.Spelling.Spelled.{AreSpellings}
-use Rattle.prem_text.specs.Canonical.Printed.{word_bytes, mark_bytes, lexeme_bytes, spelling_of}
-use Rattle.prem_text.proofs.SpellingLemmas.Literals.{shifted}
-use Rattle.prem_text.proofs.CanonicalLemmas.Sayable.{AreSayable, IsSayable}
 
 -- ---- digits
 

@@ -1,25 +1,20 @@
 -- A statement has a phrase whose tokens are its canonical ones.
-use Rattle.std.specs.Option.{option_map}
-use Rattle.std.proofs.Common.{◌≡◌, Bool, true, false, List, [], ◌∷◌, ◌++◌, Option, None, Some, refl, ap, sym, ◌∙◌, arith, append-nil, map, ◌&&◌}
-use Rattle.prem_syntax.specs.Syntax.{Text, Expression, Statement, block, if_then, if_else, bounded_while, counting_for, assign, output, input, call, Statements, no_statements, next_statement}
+use Rattle.prem_text.proofs.Prelude.{Text, Expression, Statement, block, if_then, if_else, bounded_while, counting_for, assign, output, input, call, Statements, no_statements}
+use Rattle.prem_text.proofs.Prelude.{next_statement, expression_lexemes, more_arguments, argument_lexemes, target_lexemes, call_lexemes, comparison_sign, while_lexemes, for_lexemes}
+use Rattle.prem_text.proofs.Prelude.{bound_lexemes, step_lexemes, tail_lexemes, if_lexemes, statement_lexemes, statements_lexemes, unplaced_expression, unplaced_statement}
+use Rattle.prem_text.proofs.Prelude.{unplaced_statements, Phrase, spelled, tree, IsExpression, IsRow, nowhere, left_brace, right_brace, right_parenthesis, semicolon, comma, equal_sign}
+use Rattle.prem_text.proofs.Prelude.{the_else, is_comparison, place_at, listed, is_at_most, summed_step, Target, to_name, to_element, Parted, Arguments, no_arguments, arguments}
+use Rattle.prem_text.proofs.Prelude.{StatementPhrase, of_block, of_if, of_else, of_for, of_while, of_output, of_call, of_input, of_call_to, of_assign, StatementPhrases, no_phrases}
+use Rattle.prem_text.proofs.Prelude.{next_phrase, if_head, for_head, for_bound, while_head, out_head, statement_tail, call_head, call_to_head, input_row, step_slots, ends_open, AreParted}
+use Rattle.prem_text.proofs.Prelude.{AreArguments, IsTarget, IsStatement, AreStatements, parted_tokens, argument_tokens, target_tokens, written, all_written, parted_trees, argument_trees}
+use Rattle.prem_text.proofs.Prelude.{target_text, target_index, meant, all_meant, name, word, mark, Seen, ◌≡◌, Bool, true, false, List, [], ◌∷◌, ◌++◌, Option, None, Some, refl, ap, sym, ◌∙◌}
+use Rattle.prem_text.proofs.Prelude.{arith, map, ◌&&◌, option_map}
+use Rattle.prem_text.proofs.CanonicalLemmas.Expressions.{Spelling, expression_spelling}
+use Rattle.prem_text.proofs.CanonicalLemmas.Parts.{Are, none, next, cut, glue, single, row, name_is, value_is, regroup}
+use Rattle.prem_text.proofs.CanonicalLemmas.Shaped.{leaves_open, IsShaped, AreShaped}
+use Rattle.std.proofs.Common.{append-nil}
 use Rattle.prem_text.specs.declared.lexing.token.token.Mark.TheVariants as m
 use Rattle.prem_text.specs.declared.lexing.token.token.Word.TheVariants as w
-use Rattle.prem_text.specs.Lexing.Token.Lexeme.{name, word, mark, Seen}
-use Rattle.prem_text.specs.Grammar.Slots.{left_brace, right_brace, right_parenthesis, semicolon, comma, equal_sign, the_else, is_comparison, place_at}
-use Rattle.prem_text.specs.Grammar.Statement.{listed, is_at_most}
-use Rattle.prem_text.specs.Grammar.Phrases.{Phrase, spelled, tree, IsExpression, IsRow}
-use Rattle.prem_text.specs.Grammar.StatementPhrases.{summed_step, Target, to_name, to_element, Parted, Arguments, no_arguments, arguments, StatementPhrase, of_block, of_if}
-use Rattle.prem_text.specs.Grammar.StatementPhrases.{of_else, of_for, of_while, of_output, of_call, of_input, of_call_to, of_assign, StatementPhrases, no_phrases, next_phrase}
-use Rattle.prem_text.specs.Grammar.StatementPhrases.{if_head, for_head, for_bound, while_head, out_head, statement_tail, call_head, call_to_head, input_row, step_slots, ends_open}
-use Rattle.prem_text.specs.Grammar.StatementPhrases.{AreParted, AreArguments, IsTarget, IsStatement, AreStatements, parted_tokens, argument_tokens, target_tokens, written}
-use Rattle.prem_text.specs.Grammar.StatementPhrases.{all_written, parted_trees, argument_trees, target_text, target_index, meant, all_meant}
-use Rattle.prem_text.specs.Grammar.Reader.{nowhere}
-use Rattle.prem_text.specs.Canonical.Unplaced.{unplaced_expression, unplaced_statement, unplaced_statements}
-use Rattle.prem_text.specs.Canonical.Canonical.{expression_lexemes, more_arguments, argument_lexemes, target_lexemes, call_lexemes, comparison_sign, while_lexemes, for_lexemes}
-use Rattle.prem_text.specs.Canonical.Canonical.{bound_lexemes, step_lexemes, tail_lexemes, if_lexemes, statement_lexemes, statements_lexemes}
-use Rattle.prem_text.proofs.CanonicalLemmas.Parts.{Are, none, next, cut, glue, single, row, name_is, value_is, regroup}
-use Rattle.prem_text.proofs.CanonicalLemmas.Expressions.{Spelling, expression_spelling}
-use Rattle.prem_text.proofs.CanonicalLemmas.Shaped.{leaves_open, IsShaped, AreShaped}
 
 -- `expr` of the grammar
 pub whole : (e : Expression) (ts : List Seen) → Are (expression_lexemes 1 e) ts → Spelling 1 e ts

@@ -1,16 +1,10 @@
 -- What the grammar spells is read.
-use Rattle.std.proofs.Common.{◌≡◌, ◌≤◌, ℕ, List, Option, None, Some, true, false, refl, ap, ◌∙◌, arith, nat_le, nat_lt}
-use Rattle.std.proofs.lemmas.Bool.Decides.{nat_tests}
-use Rattle.prem_word.specs.declared.kind.BinOp.{BinOp}
-use Rattle.prem_syntax.specs.declared.tree.Place.{Place}
-use Rattle.prem_syntax.specs.declared.tree.UnOp.{UnOp}
-use Rattle.prem_syntax.specs.Syntax.{Text, Expression, literal, variable, element, unary, binary}
-use Rattle.prem_text.specs.declared.lexing.token.token.Mark.{Mark}
-use Rattle.prem_text.specs.declared.lexing.token.token.Mark.TheVariants as m
-use Rattle.prem_text.specs.Lexing.Token.Lexeme.{Lexeme, name, number, word, mark, end_of_text, Seen}
-use Rattle.prem_text.specs.Grammar.Expression.{infix_of, level_of, Open, bottom, under, right_of, bracket, index_of, bind, State, wants, named, has, goes, operand, operator, closing, behind, move}
-use Rattle.prem_text.specs.Grammar.Phrases.{Phrase, of_literal, of_name, of_element, of_bracket, of_prefix, of_infix, spelled, tree, level, Binds}
+use Rattle.prem_text.proofs.Prelude.{Text, Expression, literal, variable, element, unary, binary, Place, UnOp, infix_of, level_of, Open, bottom, under, right_of, bracket, index_of, bind}
+use Rattle.prem_text.proofs.Prelude.{State, wants, named, has, goes, operand, operator, closing, behind, move, Phrase, of_literal, of_name, of_element, of_bracket, of_prefix, of_infix}
+use Rattle.prem_text.proofs.Prelude.{spelled, tree, level, Binds, Lexeme, name, number, word, mark, end_of_text, Seen, Mark, BinOp, ◌≡◌, ◌≤◌, ℕ, List, Option, None, Some, true, false, refl}
+use Rattle.prem_text.proofs.Prelude.{ap, ◌∙◌, arith, nat_le, nat_lt, nat_tests}
 use Rattle.prem_text.proofs.GrammarLemmas.Steps.{Goes, done, more, goes_append, Loose, AtMost, Waits, Same, level_small, waits_more, waits_sign, prefix_moves, bind_stays}
+use Rattle.prem_text.specs.declared.lexing.token.token.Mark.TheVariants as m
 
 loose_more : (least k l : ℕ) (around : Open) → k ≤ l → Loose least k around → Loose least l around
 loose_more least k l bottom le loose = omega arith

@@ -1,25 +1,20 @@
 -- The readers of expressions and of statements against the grammar.
-use Rattle.std.proofs.Common.{◌≡◌, ◌≤◌, ℕ, List, [], ◌∷◌, ◌++◌, Option, None, Some, Bool, true, false, refl, ap, sym, subst, ◌∙◌, append_assoc}
-use Rattle.std.proofs.lemmas.List.{append-nil}
-use Rattle.prem_syntax.specs.declared.tree.Place.{Place}
-use Rattle.prem_syntax.specs.Syntax.{Expression, Statement}
-use Rattle.prem_text.specs.declared.lexing.token.token.Mark.TheVariants as m
-use Rattle.prem_text.specs.declared.lexing.token.token.Word.TheVariants as w
-use Rattle.prem_text.specs.Lexing.Token.Lexeme.{Lexeme, word, mark, Seen}
-use Rattle.prem_text.specs.Grammar.Slots.{is_else}
-use Rattle.prem_text.specs.Grammar.Expression.{bottom, State, wants, has, Move, goes, ends, stops, move}
-use Rattle.prem_text.specs.Grammar.Statement.{in_body, Point, between, Turn, on, leaves, wrong, turn, is_past}
-use Rattle.prem_text.specs.Grammar.Law.{moves, is_closer, body_begins, turns, goes_on, limits, ends_body}
-use Rattle.prem_text.specs.Grammar.Phrases.{Phrase, spelled, tree, level, IsExpression, Spells}
-use Rattle.prem_text.specs.Grammar.StatementPhrases.{StatementPhrases, no_phrases, AreStatements, all_written, all_meant, all_past}
-use Rattle.prem_text.proofs.GrammarLemmas.Steps.{Goes, done, more, Same}
+use Rattle.prem_text.proofs.Prelude.{Expression, Statement, Place, bottom, State, wants, has, Move, goes, ends, stops, move, moves, is_closer, body_begins, turns, limits, ends_body, Phrase}
+use Rattle.prem_text.proofs.Prelude.{spelled, tree, level, IsExpression, is_else, in_body, Point, between, Turn, on, leaves, wrong, turn, is_past, StatementPhrases, no_phrases}
+use Rattle.prem_text.proofs.Prelude.{AreStatements, all_written, all_meant, all_past, Lexeme, word, mark, Seen, ◌≡◌, ◌≤◌, ℕ, List, [], ◌∷◌, ◌++◌, Option, None, Some, Bool, true, false, refl}
+use Rattle.prem_text.proofs.Prelude.{ap, sym, subst, ◌∙◌, append_assoc, append-nil}
 use Rattle.prem_text.proofs.GrammarLemmas.Complete.{reads_phrase}
+use Rattle.prem_text.proofs.GrammarLemmas.Fill.{fill_point}
+use Rattle.prem_text.proofs.GrammarLemmas.Nested.{Frame, reads_statements}
 use Rattle.prem_text.proofs.GrammarLemmas.Sound.{StandsIn, wanting, at_bottom, Fine, move_fine, begins_expression}
 use Rattle.prem_text.proofs.GrammarLemmas.Stand.{body_opened, StandsAt, at_between, FineTurn}
-use Rattle.prem_text.proofs.GrammarLemmas.Turns.{turn_fine}
+use Rattle.prem_text.proofs.GrammarLemmas.Steps.{Goes, done, more, Same}
 use Rattle.prem_text.proofs.GrammarLemmas.Taken.{Turns, stay, go}
-use Rattle.prem_text.proofs.GrammarLemmas.Nested.{Frame, reads_statements}
-use Rattle.prem_text.proofs.GrammarLemmas.Fill.{fill_point}
+use Rattle.prem_text.proofs.GrammarLemmas.Turns.{turn_fine}
+use Rattle.prem_text.specs.Grammar.Law.{goes_on}
+use Rattle.prem_text.specs.Grammar.Phrases.{Spells}
+use Rattle.prem_text.specs.declared.lexing.token.token.Mark.TheVariants as m
+use Rattle.prem_text.specs.declared.lexing.token.token.Word.TheVariants as w
 
 -- ---- expressions
 

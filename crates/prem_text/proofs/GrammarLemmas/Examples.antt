@@ -1,18 +1,11 @@
 -- Token lists that are read, with their trees, places and refusals by hand.
+use Rattle.prem_text.proofs.Prelude.{Text, literal, variable, element, unary, binary, block, if_then, if_else, bounded_while, counting_for, assign, output, input, call, Statements}
+use Rattle.prem_text.proofs.Prelude.{no_statements, next_statement, absent, one, many, FunctionText, global_item, function_item, ProgramText, Place, Neg, read, Lexeme, name, number, word}
+use Rattle.prem_text.proofs.Prelude.{mark, end_of_text, Seen, no_program, too_deep, FrontFail, Add, Sub, Mul, Shl, Eq, And, Int, Unsigned}
 use Rattle.std.specs.Prelude.{◌≡◌, ℕ, ◌+◌, pos, neg_ℤ, Bool, true, false, List, [], ◌∷◌, ◌++◌, replicate, None, Some, Result, Ok, Err, refl}
-use Rattle.prem_word.specs.declared.kind.Kind.TheVariants.{Int, Unsigned}
-use Rattle.prem_word.specs.declared.kind.BinOp.TheVariants.{Add, Sub, Mul, Shl, Eq, And}
-use Rattle.prem_syntax.specs.declared.tree.Place.{Place}
-use Rattle.prem_syntax.specs.declared.tree.UnOp.TheVariants.{Neg}
 use Rattle.prem_syntax.specs.declared.tree.Ty.TheVariants as ty
-use Rattle.prem_syntax.specs.Syntax.{Text, literal, variable, element, unary, binary, block, if_then, if_else, bounded_while, counting_for, assign, output, input, call, Statements}
-use Rattle.prem_syntax.specs.Syntax.{no_statements, next_statement, absent, one, many, FunctionText, global_item, function_item, ProgramText}
-use Rattle.prem_text.specs.declared.lexing.token.fail.FrontFail.{FrontFail}
 use Rattle.prem_text.specs.declared.lexing.token.token.Mark.TheVariants as m
 use Rattle.prem_text.specs.declared.lexing.token.token.Word.TheVariants as w
-use Rattle.prem_text.specs.Lexing.Token.Lexeme.{Lexeme, name, number, word, mark, end_of_text, Seen}
-use Rattle.prem_text.specs.Lexing.Token.Reading.{no_program, too_deep}
-use Rattle.prem_text.specs.Grammar.Reader.{read}
 
 abbrev the_x : Text
 the_x = 120 ∷ []

@@ -1,37 +1,28 @@
 -- Functions are read as the grammar says.
+use Rattle.prem_text.proofs.Prelude.{Expression, no_statements, Parameter, LocalVariable, FunctionText, function_item, Place, bottom, State, wants, has, Move, goes, ends, stops, move}
+use Rattle.prem_text.proofs.Prelude.{no_type, an_item, a_parameter, a_local, range_low, range_high, Value, local_value, result_value, body_row, range_row, local_row, end_row, Stage, in_row}
+use Rattle.prem_text.proofs.Prelude.{in_type, behind_item, before_constant, behind_constant, before_parameter, on_parameter, behind_parameter, before_local, in_statements, in_value}
+use Rattle.prem_text.proofs.Prelude.{ItemStep, ahead, made, refused, type_begins, with_parameter, with_range, parameter_ends, with_body, with_result, body_ends, statement_step, begins_type}
+use Rattle.prem_text.proofs.Prelude.{value_ends, step, body_begins, ends_body, Phrase, spelled, tree, level, IsExpression, IsRow, name_at, quiet, counted, TypeForm, void_type, int_type}
+use Rattle.prem_text.proofs.Prelude.{short_type, signed_char_type, unsigned_type, unsigned_int_type, unsigned_short_type, unsigned_char_type, type_of, Declaration, IsDeclaration}
+use Rattle.prem_text.proofs.Prelude.{declaration_tokens, constant_tree, MarkPhrase, mark_tokens, mark_tree, RangePhrase, IsRange, range_tokens, range_tree, ParameterPhrase, IsParameter}
+use Rattle.prem_text.proofs.Prelude.{parameter_tokens, parameter_tree, PartedParameter, ParametersPhrase, of_void, of_parameters, is_void_form, begins_void, ArePartedParameters}
+use Rattle.prem_text.proofs.Prelude.{AreParameters, parted_parameter_tokens, parted_parameter_trees, parameters_tokens, parameters_tree, LocalPhrase, AreLocals, local_tokens, local_trees}
+use Rattle.prem_text.proofs.Prelude.{local_past, ResultPhrase, IsResult, result_tokens, result_tree, result_past, FunctionPhrase, IsFunction, of_function, item_tokens, item_past, Slot}
+use Rattle.prem_text.proofs.Prelude.{left_parenthesis, right_parenthesis, left_brace, right_brace, semicolon, comma, equal_sign, the_return, the_void, the_range, fits, place_at}
+use Rattle.prem_text.proofs.Prelude.{is_right_brace, is_semicolon, is_void, is_range, in_body, Point, Turn, on, turn, listed, StatementPhrases, AreStatements, all_written, all_meant}
+use Rattle.prem_text.proofs.Prelude.{all_past, Lexeme, name, number, word, mark, end_of_text, Seen, ◌≡◌, ◌+◌, ◌-◌, ℕ, ℤ, List, [], ◌∷◌, ◌++◌, Option, None, Some, Bool, true, false, refl, ap}
+use Rattle.prem_text.proofs.Prelude.{sym, subst, ◌∙◌, append_assoc, arith, append-nil}
+use Rattle.prem_text.proofs.GrammarLemmas.Complete.{reads_phrase}
+use Rattle.prem_text.proofs.GrammarLemmas.Exact.{body_frame, body_left, no_else}
+use Rattle.prem_text.proofs.GrammarLemmas.ItemTaken.{Runs, rest, forth, runs_append, quietly, row_runs, row_from, one_runs, first_word, declaration_runs, constant_runs}
+use Rattle.prem_text.proofs.GrammarLemmas.ItemWhole.{before_item, mark_runs, item_type, type_at, no_comma_at, ItemRead}
+use Rattle.prem_text.proofs.GrammarLemmas.Nested.{reads_statements}
+use Rattle.prem_text.proofs.GrammarLemmas.Steps.{Goes, done, more, Same}
+use Rattle.prem_text.proofs.GrammarLemmas.Taken.{Turns, stay, go, room_flag}
 use Rattle.std.specs.Prelude.{if◌then◌else◌}
-use Rattle.std.proofs.Common.{◌≡◌, ◌+◌, ◌-◌, ℕ, ℤ, List, [], ◌∷◌, ◌++◌, Option, None, Some, Bool, true, false, refl, ap, sym, subst, ◌∙◌, append_assoc, arith}
-use Rattle.std.proofs.lemmas.List.{append-nil}
-use Rattle.prem_syntax.specs.declared.tree.Place.{Place}
-use Rattle.prem_syntax.specs.Syntax.{Expression, no_statements, Parameter, LocalVariable, FunctionText, function_item}
 use Rattle.prem_text.specs.declared.lexing.token.token.Mark.TheVariants as m
 use Rattle.prem_text.specs.declared.lexing.token.token.Word.TheVariants as w
-use Rattle.prem_text.specs.Lexing.Token.Lexeme.{Lexeme, name, number, word, mark, end_of_text, Seen}
-use Rattle.prem_text.specs.Grammar.Expression.{bottom, State, wants, has, Move, goes, ends, stops, move}
-use Rattle.prem_text.specs.Grammar.Statement.{in_body, Point, Turn, on, turn, listed}
-use Rattle.prem_text.specs.Grammar.Item.{no_type, an_item, a_parameter, a_local, range_low, range_high, Value, local_value, result_value, body_row, range_row, local_row, end_row}
-use Rattle.prem_text.specs.Grammar.Item.{Stage, in_row, in_type, behind_item, before_constant, behind_constant, before_parameter, on_parameter, behind_parameter, before_local}
-use Rattle.prem_text.specs.Grammar.Item.{in_statements, in_value, ItemStep, ahead, made, refused, type_begins, with_parameter, with_range, parameter_ends, with_body, with_result}
-use Rattle.prem_text.specs.Grammar.Item.{body_ends, statement_step, begins_type, value_ends, step}
-use Rattle.prem_text.specs.Grammar.Phrases.{Phrase, spelled, tree, level, IsExpression, IsRow, name_at, quiet, counted}
-use Rattle.prem_text.specs.Grammar.StatementPhrases.{StatementPhrases, AreStatements, all_written, all_meant, all_past}
-use Rattle.prem_text.specs.Grammar.ProgramPhrases.{TypeForm, void_type, int_type, short_type, signed_char_type, unsigned_type, unsigned_int_type, unsigned_short_type}
-use Rattle.prem_text.specs.Grammar.ProgramPhrases.{unsigned_char_type, type_of, Declaration, IsDeclaration, declaration_tokens, constant_tree, MarkPhrase, mark_tokens, mark_tree}
-use Rattle.prem_text.specs.Grammar.ProgramPhrases.{RangePhrase, IsRange, range_tokens, range_tree, ParameterPhrase, IsParameter, parameter_tokens, parameter_tree, PartedParameter}
-use Rattle.prem_text.specs.Grammar.ProgramPhrases.{ParametersPhrase, of_void, of_parameters, is_void_form, begins_void, ArePartedParameters, AreParameters, parted_parameter_tokens}
-use Rattle.prem_text.specs.Grammar.ProgramPhrases.{parted_parameter_trees, parameters_tokens, parameters_tree, LocalPhrase, AreLocals, local_tokens, local_trees, local_past}
-use Rattle.prem_text.specs.Grammar.ProgramPhrases.{ResultPhrase, IsResult, result_tokens, result_tree, result_past, FunctionPhrase, IsFunction, of_function, item_tokens, item_past}
-use Rattle.prem_text.specs.Grammar.Slots.{Slot, left_parenthesis, right_parenthesis, left_brace, right_brace, semicolon, comma, equal_sign, the_return, the_void, the_range, fits}
-use Rattle.prem_text.specs.Grammar.Slots.{place_at, is_right_brace, is_semicolon, is_void, is_range}
-use Rattle.prem_text.specs.Grammar.Law.{body_begins}
-use Rattle.prem_text.specs.Grammar.Law.{ends_body}
-use Rattle.prem_text.proofs.GrammarLemmas.Steps.{Goes, done, more, Same}
-use Rattle.prem_text.proofs.GrammarLemmas.Complete.{reads_phrase}
-use Rattle.prem_text.proofs.GrammarLemmas.Taken.{Turns, stay, go, room_flag}
-use Rattle.prem_text.proofs.GrammarLemmas.Nested.{reads_statements}
-use Rattle.prem_text.proofs.GrammarLemmas.ItemTaken.{Runs, rest, forth, runs_append, quietly, row_runs, row_from, one_runs, first_word, declaration_runs, constant_runs}
-use Rattle.prem_text.proofs.GrammarLemmas.Exact.{body_frame, body_left, no_else}
-use Rattle.prem_text.proofs.GrammarLemmas.ItemWhole.{before_item, mark_runs, item_type, type_at, no_comma_at, ItemRead}
 
 abbrev pub opened_function : Option MarkPhrase → Declaration → List Parameter → List LocalVariable → FunctionText
 opened_function p d params locals =

@@ -1,40 +1,30 @@
 -- What the tokens of an item so far spell, wherever the reader of items stands.
-use Rattle.std.specs.Prelude.{if◌then◌else◌}
-use Rattle.std.proofs.Common.{◌≡◌, ◌-◌, ℕ, ℤ, List, [], ◌∷◌, ◌++◌, Option, None, Some, Bool, true, false, refl, ap, sym, subst, ◌∙◌, append_assoc, arith}
-use Rattle.std.proofs.lemmas.List.{append-nil}
-use Rattle.prem_syntax.specs.declared.tree.Place.{Place}
-use Rattle.prem_syntax.specs.Syntax.{Text, Expression, Statement, Parameter, LocalVariable, RegionText, absent, many, GlobalVariable, FunctionText, ItemText, global_item, function_item}
-use Rattle.prem_text.specs.declared.lexing.token.token.Mark.TheVariants as m
-use Rattle.prem_text.specs.declared.lexing.token.token.Word.TheVariants as w
-use Rattle.prem_text.specs.Lexing.Token.Lexeme.{Lexeme, name, number, word, mark, Seen}
-use Rattle.prem_text.specs.Grammar.Expression.{bottom, State, wants, Move, goes, ends, stops, move}
-use Rattle.prem_text.specs.Grammar.Statement.{in_body, Point, Turn, on, leaves, wrong, turn, listed}
-use Rattle.prem_text.specs.Grammar.Item.{global_ends, global_or, constant_ends, Typing, no_type, after_signed, after_unsigned, a_type, Declared, an_item, a_parameter, a_local}
-use Rattle.prem_text.specs.Grammar.Item.{Constant, range_low, range_high, only_value, next_value, Value, local_value, result_value, ItemRow, mark_row, region_row, length_row}
-use Rattle.prem_text.specs.Grammar.Item.{global_row, body_row, range_row, local_row, end_row, Stage, outside, marked, in_row, in_type, behind_item, behind_global, before_initial}
-use Rattle.prem_text.specs.Grammar.Item.{before_constant, behind_constant, before_parameter, on_parameter, behind_parameter, before_local, in_statements, in_value, finished}
-use Rattle.prem_text.specs.Grammar.Item.{ItemStep, ahead, made, refused, declared, type_or_name, with_initial, constant, with_parameter, parameter_ends, with_local, with_body}
-use Rattle.prem_text.specs.Grammar.Item.{with_result, body_ends, statement_step, begins_type, value_ends, with_region, row_ends, row_goes_on, step}
-use Rattle.prem_text.specs.Grammar.Phrases.{Phrase, spelled, tree, IsExpression, IsRow, name_at}
-use Rattle.prem_text.specs.Grammar.StatementPhrases.{StatementPhrases, no_phrases, AreStatements, all_written, all_meant}
-use Rattle.prem_text.specs.Grammar.ProgramPhrases.{TypeForm, void_type, int_type, short_type, signed_char_type, unsigned_type, unsigned_int_type, unsigned_short_type}
-use Rattle.prem_text.specs.Grammar.ProgramPhrases.{unsigned_char_type, type_slots, type_of, Declaration, IsDeclaration, declaration_tokens, ConstantPhrase, IsConstant}
-use Rattle.prem_text.specs.Grammar.ProgramPhrases.{constant_tree, PartedConstant, no_initial, one_initial, many_initial, ArePartedConstants, constants_tokens, constants_tree}
-use Rattle.prem_text.specs.Grammar.ProgramPhrases.{IsLength, length_tokens, length_tree, MarkPhrase, AreRegions, region_tokens, region_trees, IsMark, mark_tokens, mark_tree}
-use Rattle.prem_text.specs.Grammar.ProgramPhrases.{ParameterPhrase, IsParameter, parameter_tokens, parameter_tree, PartedParameter, ParametersPhrase, of_void, of_parameters}
-use Rattle.prem_text.specs.Grammar.ProgramPhrases.{is_void_form, begins_void, ArePartedParameters, AreParameters, parted_parameter_tokens, parted_parameter_trees}
-use Rattle.prem_text.specs.Grammar.ProgramPhrases.{parameters_tokens, parameters_tree, LocalPhrase, AreLocals, local_tokens, local_trees, ItemPhrase, of_global, of_function}
-use Rattle.prem_text.specs.Grammar.ProgramPhrases.{IsItem, item_tokens, item_tree}
-use Rattle.prem_text.specs.Grammar.Slots.{Slot, left_parenthesis, right_parenthesis, left_brace, right_brace, left_bracket, right_bracket, semicolon, comma, equal_sign, minus_sign}
-use Rattle.prem_text.specs.Grammar.Slots.{a_name, a_literal, the_return, the_range, the_predictable, the_signed, the_unsigned, the_end, fits, place_at, is_left_parenthesis}
-use Rattle.prem_text.specs.Grammar.Slots.{is_right_parenthesis, is_left_bracket, is_left_brace, is_right_brace, is_comma, is_semicolon, is_equal, is_return, is_void, is_range}
-use Rattle.prem_text.specs.Grammar.Slots.{is_predictable, is_region, is_end}
-use Rattle.prem_text.specs.Grammar.Law.{body_begins}
+use Rattle.prem_text.proofs.Prelude.{Text, Expression, Statement, Parameter, LocalVariable, RegionText, absent, many, GlobalVariable, FunctionText, ItemText, global_item, function_item}
+use Rattle.prem_text.proofs.Prelude.{Place, bottom, State, wants, Move, goes, ends, stops, move, global_ends, global_or, constant_ends, Typing, no_type, after_signed, after_unsigned, a_type}
+use Rattle.prem_text.proofs.Prelude.{Declared, an_item, a_parameter, a_local, Constant, range_low, range_high, only_value, next_value, Value, local_value, result_value, ItemRow, mark_row}
+use Rattle.prem_text.proofs.Prelude.{region_row, length_row, global_row, body_row, range_row, local_row, end_row, Stage, outside, marked, in_row, in_type, behind_item, behind_global}
+use Rattle.prem_text.proofs.Prelude.{before_initial, before_constant, behind_constant, before_parameter, on_parameter, behind_parameter, before_local, in_statements, in_value, finished}
+use Rattle.prem_text.proofs.Prelude.{ItemStep, ahead, made, refused, declared, type_or_name, with_initial, constant, with_parameter, parameter_ends, with_local, with_body, with_result}
+use Rattle.prem_text.proofs.Prelude.{body_ends, statement_step, begins_type, value_ends, with_region, row_ends, row_goes_on, step, body_begins, Phrase, spelled, tree, IsExpression, IsRow}
+use Rattle.prem_text.proofs.Prelude.{name_at, TypeForm, void_type, int_type, short_type, signed_char_type, unsigned_type, unsigned_int_type, unsigned_short_type, unsigned_char_type}
+use Rattle.prem_text.proofs.Prelude.{type_slots, type_of, Declaration, IsDeclaration, declaration_tokens, ConstantPhrase, IsConstant, constant_tree, PartedConstant, no_initial, one_initial}
+use Rattle.prem_text.proofs.Prelude.{many_initial, ArePartedConstants, constants_tokens, constants_tree, IsLength, length_tokens, length_tree, MarkPhrase, AreRegions, region_tokens}
+use Rattle.prem_text.proofs.Prelude.{region_trees, IsMark, mark_tokens, mark_tree, ParameterPhrase, IsParameter, parameter_tokens, parameter_tree, PartedParameter, ParametersPhrase, of_void}
+use Rattle.prem_text.proofs.Prelude.{of_parameters, is_void_form, begins_void, ArePartedParameters, AreParameters, parted_parameter_tokens, parted_parameter_trees, parameters_tokens}
+use Rattle.prem_text.proofs.Prelude.{parameters_tree, LocalPhrase, AreLocals, local_tokens, local_trees, ItemPhrase, of_global, of_function, IsItem, item_tokens, item_tree, Slot}
+use Rattle.prem_text.proofs.Prelude.{left_parenthesis, right_parenthesis, left_brace, right_brace, left_bracket, right_bracket, semicolon, comma, equal_sign, minus_sign, a_name, a_literal}
+use Rattle.prem_text.proofs.Prelude.{the_return, the_range, the_predictable, the_signed, the_unsigned, the_end, fits, place_at, is_left_parenthesis, is_right_parenthesis, is_left_bracket}
+use Rattle.prem_text.proofs.Prelude.{is_left_brace, is_right_brace, is_comma, is_semicolon, is_equal, is_return, is_void, is_range, is_predictable, is_region, is_end, in_body, Point, Turn}
+use Rattle.prem_text.proofs.Prelude.{on, leaves, wrong, turn, listed, StatementPhrases, no_phrases, AreStatements, all_written, all_meant, Lexeme, name, number, word, mark, Seen, ◌≡◌, ◌-◌}
+use Rattle.prem_text.proofs.Prelude.{ℕ, ℤ, List, [], ◌∷◌, ◌++◌, Option, None, Some, Bool, true, false, refl, ap, sym, subst, ◌∙◌, append_assoc, arith, append-nil}
+use Rattle.prem_text.proofs.GrammarLemmas.FunctionWhole.{opened_function, parameter_of, value_moves, value_step}
+use Rattle.prem_text.proofs.GrammarLemmas.ItemWhole.{mark_text, region_slots, region_in, region_ends, global_of}
 use Rattle.prem_text.proofs.GrammarLemmas.Sound.{StandsIn, wanting, at_bottom, Fine, move_fine}
 use Rattle.prem_text.proofs.GrammarLemmas.Stand.{StandsAt, at_between, body_opened, FineTurn}
 use Rattle.prem_text.proofs.GrammarLemmas.Turns.{turn_fine}
-use Rattle.prem_text.proofs.GrammarLemmas.ItemWhole.{mark_text, region_slots, region_in, region_ends, global_of}
-use Rattle.prem_text.proofs.GrammarLemmas.FunctionWhole.{opened_function, parameter_of, value_moves, value_step}
+use Rattle.std.specs.Prelude.{if◌then◌else◌}
+use Rattle.prem_text.specs.declared.lexing.token.token.Mark.TheVariants as m
+use Rattle.prem_text.specs.declared.lexing.token.token.Word.TheVariants as w
 
 abbrev pub FreeOf : List PartedParameter → Type 0
 FreeOf [] = Unit {0}
@@ -158,9 +148,6 @@ if_step now false x y first second = second refl
 
 stage_same : (s : Stage) (xs ys : List Seen) → xs ≡ ys → StageIs s xs → StageIs s ys
 stage_same s xs ys same is = subst (λ (l : List Seen). StageIs s l) same is
-
-whole_same : (item : ItemText) (xs ys : List Seen) → xs ≡ ys → Whole item xs → Whole item ys
-whole_same item xs ys same is = subst (λ (l : List Seen). Whole item l) same is
 
 locals_same : (f : FunctionText) (xs ys : List Seen) → xs ≡ ys → Locals f xs → Locals f ys
 locals_same f xs ys same is = subst (λ (l : List Seen). Locals f l) same is

@@ -1,15 +1,7 @@
 -- How an expression's tokens are read, one after the other.
-use Rattle.std.proofs.Common.{◌≡◌, ◌≤◌, ◌<◌, ℕ, List, [], ◌∷◌, ◌++◌, Bool, Option, None, Some, true, false, refl, arith, nat_le}
-use Rattle.std.proofs.lemmas.Bool.Decides.{nat_tests}
-use Rattle.prem_word.specs.declared.kind.BinOp.{BinOp}
-use Rattle.prem_word.specs.declared.kind.BinOp.TheVariants.{Add}
-use Rattle.prem_syntax.specs.declared.tree.Place.{Place}
-use Rattle.prem_syntax.specs.declared.tree.UnOp.{UnOp}
-use Rattle.prem_syntax.specs.Syntax.{Expression}
-use Rattle.prem_text.specs.declared.lexing.token.token.Mark.{Mark}
+use Rattle.prem_text.proofs.Prelude.{Expression, Place, UnOp, infix_of, prefix_of, level_of, Open, bottom, under, right_of, bracket, index_of, bind, State, wants, goes, move, Lexeme, mark}
+use Rattle.prem_text.proofs.Prelude.{Seen, Mark, BinOp, Add, ◌≡◌, ◌≤◌, ◌<◌, ℕ, List, [], ◌∷◌, ◌++◌, Bool, Option, None, Some, true, false, refl, arith, nat_le, nat_tests}
 use Rattle.prem_text.specs.declared.lexing.token.token.Mark.TheVariants as m
-use Rattle.prem_text.specs.Lexing.Token.Lexeme.{Lexeme, mark, Seen}
-use Rattle.prem_text.specs.Grammar.Expression.{infix_of, prefix_of, level_of, Open, bottom, under, right_of, bracket, index_of, bind, State, wants, goes, move}
 
 -- a state reads all of these tokens
 pub data Goes (least : ℕ) : State → List Seen → State → Type 0 where

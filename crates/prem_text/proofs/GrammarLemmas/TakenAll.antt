@@ -1,22 +1,16 @@
 -- Statements in statements are read as the grammar says.
-use Rattle.std.proofs.Common.{◌≡◌, suc, List, [], ◌∷◌, ◌++◌, None, Some, Bool, true, false, refl, sym, ◌∙◌}
-use Rattle.prem_syntax.specs.declared.tree.Place.{Place}
-use Rattle.prem_syntax.specs.Syntax.{Text, Statement, if_else, bounded_while, counting_for, input}
-use Rattle.prem_text.specs.declared.lexing.token.token.Mark.TheVariants as m
-use Rattle.prem_text.specs.declared.lexing.token.token.Word.TheVariants as w
-use Rattle.prem_text.specs.Lexing.Token.Lexeme.{Lexeme, name, number, word, mark, end_of_text, Seen}
-use Rattle.prem_text.specs.Grammar.Slots.{Slot, left_parenthesis, right_parenthesis, left_brace, semicolon, equal_sign, a_name, a_literal, the_if, the_for, the_while, the_bounded}
-use Rattle.prem_text.specs.Grammar.Slots.{the_in, the_out, fits, text_of, place_at, is_left_parenthesis, is_else, is_in, is_name, is_equal}
-use Rattle.prem_text.specs.Grammar.Expression.{bottom, wants, named}
-use Rattle.prem_text.specs.Grammar.Statement.{Around, in_body, in_block, in_taken, in_other, in_while, in_for, for_index, for_value, for_change, for_argument, last_row, Point}
-use Rattle.prem_text.specs.Grammar.Statement.{between, inside, on_name, on_element, on, ended, settled, begin, next, behind_name, turn, by_one}
-use Rattle.prem_text.specs.Grammar.Phrases.{Phrase, spelled, tree, IsRow, name_at, name_or_none, opening}
-use Rattle.prem_text.specs.Grammar.StatementPhrases.{Target, to_name, to_element, target_tokens, target_at, target_text, target_index, target_past, IsTarget, Direction, up, down}
-use Rattle.prem_text.specs.Grammar.StatementPhrases.{change_sign, change_op, count_sign, argument_tokens, StatementPhrase, of_block, of_if, of_else, of_for, of_while, of_output}
-use Rattle.prem_text.specs.Grammar.StatementPhrases.{of_call, of_input, of_call_to, of_assign, of_change, of_count, call_head, call_to_head, input_row, IsStatement, written}
-use Rattle.prem_text.specs.Grammar.StatementPhrases.{all_written, meant, past}
+use Rattle.prem_text.proofs.Prelude.{Text, Statement, if_else, bounded_while, counting_for, input, Place, bottom, wants, named, Phrase, spelled, tree, IsRow, name_at, name_or_none, opening}
+use Rattle.prem_text.proofs.Prelude.{Slot, left_parenthesis, right_parenthesis, left_brace, semicolon, equal_sign, a_name, a_literal, the_if, the_for, the_while, the_bounded, the_in}
+use Rattle.prem_text.proofs.Prelude.{the_out, fits, text_of, place_at, is_left_parenthesis, is_else, is_in, is_name, is_equal, Around, in_body, in_block, in_taken, in_other, in_while}
+use Rattle.prem_text.proofs.Prelude.{in_for, for_index, for_value, for_change, for_argument, last_row, Point, between, inside, on_name, on_element, on, ended, settled, begin, next}
+use Rattle.prem_text.proofs.Prelude.{behind_name, turn, by_one, Target, to_name, to_element, target_tokens, target_at, target_text, target_index, target_past, IsTarget, Direction, up, down}
+use Rattle.prem_text.proofs.Prelude.{change_sign, change_op, count_sign, argument_tokens, StatementPhrase, of_block, of_if, of_else, of_for, of_while, of_output, of_call, of_input}
+use Rattle.prem_text.proofs.Prelude.{of_call_to, of_assign, of_change, of_count, call_head, call_to_head, input_row, IsStatement, written, all_written, meant, past, Lexeme, name, number}
+use Rattle.prem_text.proofs.Prelude.{word, mark, end_of_text, Seen, ◌≡◌, suc, List, [], ◌∷◌, ◌++◌, None, Some, Bool, true, false, refl, sym, ◌∙◌}
 use Rattle.prem_text.proofs.GrammarLemmas.Taken.{Turns, stay, go, turns_append, depth_of, ended_quiet, reads_inside, row_reads, one_behind, when_fits, first_name, nest_flag}
 use Rattle.prem_text.proofs.GrammarLemmas.TakenWhole.{semicolon_reads}
+use Rattle.prem_text.specs.declared.lexing.token.token.Mark.TheVariants as m
+use Rattle.prem_text.specs.declared.lexing.token.token.Word.TheVariants as w
 
 -- ---- behind a name
 

@@ -1,29 +1,22 @@
 -- Each token that the reader of statements takes is spelled, and behind a body the body is.
+use Rattle.prem_text.proofs.Prelude.{Text, Expression, Statement, input, Place, bottom, State, wants, Move, goes, ends, stops, move, Phrase, spelled, tree, IsExpression, IsRow, name_at}
+use Rattle.prem_text.proofs.Prelude.{name_or_none, Slot, left_parenthesis, right_parenthesis, semicolon, comma, equal_sign, comparison, step_sign, a_name, a_literal, the_while, fits}
+use Rattle.prem_text.proofs.Prelude.{text_at, place_at, is_left_parenthesis, is_else, is_in, is_comma, is_right_brace, Around, in_for, Use, for_output, for_if, for_while, for_low, for_high}
+use Rattle.prem_text.proofs.Prelude.{for_index, for_value, for_change, for_argument, Row, if_row, out_row, while_row, for_row, bound_row, sign_row, step_row, last_row, Point, between}
+use Rattle.prem_text.proofs.Prelude.{filling, inside, on, wrong, expression, least_of, statement, begins_statement, without, next, else_or, rest_of_step, step_in, fourth_in, looped}
+use Rattle.prem_text.proofs.Prelude.{is_at_most, filled, filled_or, change, behind_name, used, is_start, at_start, lone_name, called, turn, StepForm, by_one_step, added_step, summed_step}
+use Rattle.prem_text.proofs.Prelude.{step_slots, step_size, fourth_name, Target, to_name, to_element, target_tokens, target_at, target_text, target_index, IsTarget, up, down, Parted}
+use Rattle.prem_text.proofs.Prelude.{AreParted, parted_tokens, parted_trees, no_arguments, arguments, StatementPhrase, of_block, of_if, of_output, of_call, of_input, of_call_to, of_assign}
+use Rattle.prem_text.proofs.Prelude.{of_change, of_count, no_phrases, if_head, for_head, for_bound, IsStatement, ends_open, written, meant, Lexeme, name, number, word, mark, end_of_text}
+use Rattle.prem_text.proofs.Prelude.{Seen, ◌≡◌, ◌≤◌, ◌-◌, ℕ, List, [], ◌∷◌, ◌++◌, Option, None, Some, true, false, refl, ap, sym, subst, ◌∙◌, append_assoc, arith, append-nil}
+use Rattle.prem_text.proofs.GrammarLemmas.Sound.{at_bottom, at_prefix, at_infix, at_bracket, at_index, StandsIn, wanting, naming, having, Fine, move_fine}
+use Rattle.prem_text.proofs.GrammarLemmas.Stand.{Opened, body_opened, block_opened, taken_opened, other_opened, while_opened, for_opened, header_of, RowIs, if_is, out_is, while_is, for_is}
+use Rattle.prem_text.proofs.GrammarLemmas.Stand.{bound_is, sign_is, step_is, last_is, UseIs, output_is, condition_is, turns_is, low_is, high_is, index_is, value_is, change_is, argument_is}
+use Rattle.prem_text.proofs.GrammarLemmas.Stand.{argument_to_is, StandsAt, at_between, at_else, at_row, at_expression, at_name, at_element, FineTurn, stands_same, if_fine, ended_stands}
+use Rattle.prem_text.proofs.GrammarLemmas.Stand.{opened_same, settled_opened}
 use Rattle.std.specs.Prelude.{if◌then◌else◌}
-use Rattle.std.proofs.Common.{◌≡◌, ◌≤◌, ◌-◌, ℕ, List, [], ◌∷◌, ◌++◌, Option, None, Some, true, false, refl, ap, sym, subst, ◌∙◌, append_assoc, arith}
-use Rattle.std.proofs.lemmas.List.{append-nil}
-use Rattle.prem_syntax.specs.declared.tree.Place.{Place}
-use Rattle.prem_syntax.specs.Syntax.{Text, Expression, Statement, input}
 use Rattle.prem_text.specs.declared.lexing.token.token.Mark.TheVariants as m
 use Rattle.prem_text.specs.declared.lexing.token.token.Word.TheVariants as w
-use Rattle.prem_text.specs.Lexing.Token.Lexeme.{Lexeme, name, number, word, mark, end_of_text, Seen}
-use Rattle.prem_text.specs.Grammar.Slots.{Slot, left_parenthesis, right_parenthesis, semicolon, comma, equal_sign, comparison, step_sign, a_name, a_literal, the_while, fits}
-use Rattle.prem_text.specs.Grammar.Slots.{text_at, place_at, is_left_parenthesis, is_else, is_in, is_comma, is_right_brace}
-use Rattle.prem_text.specs.Grammar.Expression.{bottom, State, wants, Move, goes, ends, stops, move}
-use Rattle.prem_text.specs.Grammar.Statement.{Around, in_for, Use, for_output, for_if, for_while, for_low, for_high, for_index, for_value, for_change, for_argument, Row, if_row}
-use Rattle.prem_text.specs.Grammar.Statement.{out_row, while_row, for_row, bound_row, sign_row, step_row, last_row, Point, between, filling, inside, on, wrong, expression}
-use Rattle.prem_text.specs.Grammar.Statement.{least_of, statement, begins_statement, without, next, else_or, rest_of_step, step_in, fourth_in, looped, is_at_most, filled}
-use Rattle.prem_text.specs.Grammar.Statement.{filled_or, change, behind_name, used, is_start, at_start, lone_name, called, turn}
-use Rattle.prem_text.specs.Grammar.Phrases.{Phrase, spelled, tree, IsExpression, IsRow, name_at, name_or_none}
-use Rattle.prem_text.specs.Grammar.StatementPhrases.{StepForm, by_one_step, added_step, summed_step, step_slots, step_size, fourth_name, Target, to_name, to_element, target_tokens}
-use Rattle.prem_text.specs.Grammar.StatementPhrases.{target_at, target_text, target_index, IsTarget, up, down, Parted, AreParted, parted_tokens, parted_trees, no_arguments}
-use Rattle.prem_text.specs.Grammar.StatementPhrases.{arguments, StatementPhrase, of_block, of_if, of_output, of_call, of_input, of_call_to, of_assign, of_change, of_count}
-use Rattle.prem_text.specs.Grammar.StatementPhrases.{no_phrases, if_head, for_head, for_bound, IsStatement, ends_open, written, meant}
-use Rattle.prem_text.proofs.GrammarLemmas.Sound.{at_bottom, at_prefix, at_infix, at_bracket, at_index, StandsIn, wanting, naming, having, Fine, move_fine}
-use Rattle.prem_text.proofs.GrammarLemmas.Stand.{Opened, body_opened, block_opened, taken_opened, other_opened, while_opened, for_opened, header_of, RowIs, if_is, out_is, while_is}
-use Rattle.prem_text.proofs.GrammarLemmas.Stand.{for_is, bound_is, sign_is, step_is, last_is, UseIs, output_is, condition_is, turns_is, low_is, high_is, index_is, value_is}
-use Rattle.prem_text.proofs.GrammarLemmas.Stand.{change_is, argument_is, argument_to_is, StandsAt, at_between, at_else, at_row, at_expression, at_name, at_element, FineTurn}
-use Rattle.prem_text.proofs.GrammarLemmas.Stand.{stands_same, if_fine, ended_stands, opened_same, settled_opened}
 
 begins : (least : ℕ) → StandsIn least (wants bottom) []
 begins least = wanting bottom [] at_bottom

@@ -1,14 +1,10 @@
 -- Texts and their tokens by hand.
+use Rattle.prem_text.proofs.Prelude.{literal_word, used_word, is_unused, reserved_word, longest_mark, Lexeme, name, number, word, mark, end_of_text, Seen, first_token, start, lex, tokens_of}
+use Rattle.prem_text.proofs.Prelude.{FrontFail, NotText, Token, Int, Unsigned}
+use Rattle.prem_text.specs.Lexing.Tokens.{step}
 use Rattle.std.specs.Prelude.{◌≡◌, ℕ, List, [], ◌∷◌, ◌++◌, map, Result, Ok, Err, codes, replicate, refl}
-use Rattle.prem_word.specs.declared.kind.Kind.TheVariants.{Int, Unsigned}
-use Rattle.prem_text.specs.declared.lexing.token.fail.FrontFail.{FrontFail}
-use Rattle.prem_text.specs.declared.lexing.token.fail.FrontFail.TheVariants.{NotText, Token}
 use Rattle.prem_text.specs.declared.lexing.token.token.Mark.TheVariants as m
 use Rattle.prem_text.specs.declared.lexing.token.token.Word.TheVariants as w
-use Rattle.prem_text.specs.Lexing.Token.Lexeme.{Lexeme, name, number, word, mark, end_of_text, Seen}
-use Rattle.prem_text.specs.Lexing.Spelling.{used_word, is_unused, reserved_word, longest_mark}
-use Rattle.prem_text.specs.Lexing.Literal.{literal_word}
-use Rattle.prem_text.specs.Lexing.Tokens.{first_token, start, step, lex, tokens_of}
 
 abbrev pub on : ℕ → ℕ → Lexeme → Seen
 on line col t = (t, record { line = line; col = col })

@@ -1,17 +1,8 @@
 -- How the tokens of a text follow from those of its rest.
-use Rattle.std.proofs.Common.{◌≡◌, ◌≤◌, ◌<◌, ℕ, suc, ◌+◌, List, [], ◌∷◌, ◌++◌, length, get_or, drop, Option, None, Some, Result, Ok, Err, refl, ap, ◌∙◌, arith, false, nat_lt, sym}
-use Rattle.std.proofs.Common.{append_assoc, drop-cons, add-one}
-use Rattle.std.proofs.lemmas.Bool.Decides.{nat_tests}
-use Rattle.std.proofs.lemmas.List.{drop_all}
-use Rattle.prem_syntax.specs.declared.tree.Place.{Place}
-use Rattle.prem_text.specs.declared.lexing.token.fail.FrontFail.{FrontFail}
-use Rattle.prem_text.specs.declared.lexing.token.fail.FrontFail.TheVariants.{NotText, Token, Syntax, TooLong, TooDeep, OutOfMemory}
-use Rattle.prem_text.specs.Lexing.Token.Reading.{◌>>=◌, Fails}
-use Rattle.prem_text.specs.Lexing.Token.Lexeme.{Lexeme, Seen, end_of_text}
-use Rattle.prem_text.specs.declared.lexing.lexer.Mode.{Mode}
-use Rattle.prem_text.specs.declared.lexing.lexer.Mode.TheVariants.{Skip, Line, Block}
-use Rattle.prem_text.specs.declared.lexing.lexer.Cursor.{Cursor}
-use Rattle.prem_text.specs.Lexing.Tokens.{place, behind, step, put, with_front, lex, at_end, beginning, tokens_of}
+use Rattle.prem_text.proofs.Prelude.{Place, Lexeme, Seen, end_of_text, ◌>>=◌, Fails, place, put, with_front, lex, beginning, tokens_of, Cursor, Mode, Skip, Line, Block, FrontFail, NotText}
+use Rattle.prem_text.proofs.Prelude.{Token, Syntax, TooLong, TooDeep, OutOfMemory, ◌≡◌, ◌≤◌, ◌<◌, ℕ, suc, ◌+◌, List, [], ◌∷◌, ◌++◌, length, get_or, drop, Option, None, Some, Result, Ok, Err}
+use Rattle.prem_text.proofs.Prelude.{refl, ap, ◌∙◌, arith, false, nat_lt, sym, append_assoc, drop-cons, add-one, nat_tests, drop_all}
+use Rattle.prem_text.specs.Lexing.Tokens.{behind, step, at_end}
 
 with_front_twice : (xs ys : List Seen) (r : Result (List Seen) FrontFail) → with_front xs (with_front ys r) ≡ with_front (xs ++ ys) r
 with_front_twice xs ys (Ok zs) = ap (λ (ts : List Seen). Ok ts) (sym (append_assoc xs ys zs))

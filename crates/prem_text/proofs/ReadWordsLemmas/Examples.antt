@@ -1,17 +1,10 @@
 -- The law at small texts.
-use Rattle.std.proofs.Common.{◌≡◌, ℕ, ◌^◌, List, [], ◌∷◌, None, Some, Ok, Err, codes, refl, arith}
-use Rattle.prem_word.specs.declared.kind.BinOp.TheVariants.{Add}
-use Rattle.prem_word.specs.declared.kind.Kind.TheVariants.{Int, Unsigned}
-use Rattle.prem_syntax.specs.declared.tree.Place.{Place}
-use Rattle.prem_syntax.specs.declared.tree.Ty.TheVariants as ty
-use Rattle.prem_syntax.specs.Syntax.{literal, variable, element, binary, assign, no_statements, next_statement, ProgramText, absent, global_item, function_item}
-use Rattle.prem_syntax.specs.Literals.{ProgramHasWords}
-use Rattle.prem_text.specs.declared.lexing.token.fail.FrontFail.TheVariants.{Token}
-use Rattle.prem_text.specs.Lexing.Spelling.{used_word, is_unused, reserved_word, longest_mark}
-use Rattle.prem_text.specs.Lexing.Literal.{literal_word}
-use Rattle.prem_text.specs.Lexing.Tokens.{first_token, start, step, lex, tokens_of}
-use Rattle.prem_text.specs.Texts.{reads}
+use Rattle.prem_text.proofs.Prelude.{ProgramHasWords, literal, variable, element, binary, assign, no_statements, next_statement, ProgramText, absent, global_item, function_item, Place}
+use Rattle.prem_text.proofs.Prelude.{literal_word, used_word, is_unused, reserved_word, longest_mark, first_token, start, lex, tokens_of, reads, Token, Add, Int, Unsigned, ◌≡◌, ℕ, ◌^◌, List}
+use Rattle.prem_text.proofs.Prelude.{[], ◌∷◌, None, Some, Ok, Err, codes, refl, arith}
 use Rattle.prem_text.proofs.ReadWordsLemmas.ProgramWords.{reads_have_words}
+use Rattle.prem_text.specs.Lexing.Tokens.{step}
+use Rattle.prem_syntax.specs.declared.tree.Ty.TheVariants as ty
 
 -- a place in the first line
 abbrev in_column : ℕ → Place

@@ -1,17 +1,12 @@
 -- Literals of a program that is read from a text are words.
-use Rattle.std.proofs.Common.{ℕ, List, [], ◌∷◌, ◌++◌, Option, None, Some, sym, subst}
-use Rattle.prem_syntax.specs.Syntax.{ProgramText}
-use Rattle.prem_syntax.specs.Literals.{HasWordsIf, LocalsHaveWords, ProgramHasWords}
-use Rattle.prem_text.specs.Grammar.Phrases.{spelled}
-use Rattle.prem_text.specs.Grammar.StatementPhrases.{all_written}
-use Rattle.prem_text.specs.Grammar.ProgramPhrases.{declaration_tokens, mark_tokens, parameters_tokens, LocalPhrase, local_tokens, local_trees, ResultPhrase, result_tokens}
-use Rattle.prem_text.specs.Grammar.ProgramPhrases.{result_tree, global_tokens, function_tokens, ItemPhrase, of_global, of_function, items_tokens, items_tree}
-use Rattle.prem_text.specs.Texts.{IsProgramText}
-use Rattle.prem_text.specs.ReadWords.Law.{ReadsHaveWords}
-use Rattle.prem_text.proofs.Whole.{text_sound}
+use Rattle.prem_text.proofs.Prelude.{HasWordsIf, LocalsHaveWords, ProgramHasWords, ProgramText, spelled, declaration_tokens, mark_tokens, parameters_tokens, LocalPhrase, local_tokens}
+use Rattle.prem_text.proofs.Prelude.{local_trees, ResultPhrase, result_tokens, result_tree, global_tokens, function_tokens, ItemPhrase, of_global, of_function, items_tokens, items_tree}
+use Rattle.prem_text.proofs.Prelude.{all_written, IsProgramText, ℕ, List, [], ◌∷◌, ◌++◌, Option, None, Some, sym, subst}
 use Rattle.prem_text.proofs.CanonicalLemmas.Sayable.{AreSaid, front, back, tokens_said}
 use Rattle.prem_text.proofs.ReadWordsLemmas.PhraseWords.{phrase_words}
 use Rattle.prem_text.proofs.ReadWordsLemmas.StatementWords.{statements_words}
+use Rattle.prem_text.proofs.Whole.{text_sound}
+use Rattle.prem_text.specs.ReadWords.Law.{ReadsHaveWords}
 
 locals_words : (ls : List LocalPhrase) → AreSaid (local_tokens ls) → LocalsHaveWords (local_trees ls)
 locals_words [] s = tt

@@ -1,12 +1,6 @@
 -- Single bytes, and runs of them.
-use Rattle.std.proofs.Common.{◌≡◌, ◌≤◌, ℕ, Bool, true, false, List, [], ◌∷◌, ◌++◌, length, refl, sym, ap, ◌∙◌, arith, nat_lt, ◌||◌, ◌==◌, cond, take_while, zero-le}
-use Rattle.std.proofs.lemmas.Bool.{and_parts, and_from}
-use Rattle.std.proofs.lemmas.Bool.Decides.{nat_tests}
-use Rattle.std.proofs.lemmas.List.Sums.{take_while-cons}
-use Rattle.prem_text.specs.Lexing.Literal.{digit_value, is_suffix}
-use Rattle.prem_text.specs.Lexing.Tokens.{is_digit, is_name_byte, is_blank, is_printable}
-use Rattle.prem_text.specs.Spelling.Spellings.{every, is_letter, is_hexadecimal}
-use Rattle.prem_text.specs.Spelling.Division.{goes_on}
+use Rattle.prem_text.proofs.Prelude.{digit_value, is_suffix, is_digit, is_name_byte, is_blank, is_printable, goes_on, every, is_letter, is_hexadecimal, ◌≡◌, ◌≤◌, ℕ, Bool, true, false, List}
+use Rattle.prem_text.proofs.Prelude.{[], ◌∷◌, ◌++◌, length, refl, sym, ap, ◌∙◌, arith, nat_lt, ◌||◌, ◌==◌, cond, take_while, zero-le, and_parts, and_from, nat_tests, take_while-cons}
 
 or_more : (d a b c : Bool) → (a || b || c) ≡ true → (d || a || b || c) ≡ true
 or_more true a b c is = refl

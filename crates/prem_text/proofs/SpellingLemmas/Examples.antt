@@ -1,19 +1,12 @@
 -- Small texts and their divisions by hand.
-use Rattle.std.proofs.Common.{◌≡◌, ℕ, Bool, true, false, List, [], ◌∷◌, ◌++◌, codes, refl, replicate}
-use Rattle.prem_word.specs.declared.kind.Kind.TheVariants.{Int, Unsigned}
-use Rattle.prem_syntax.specs.declared.tree.Place.{Place}
-use Rattle.prem_text.specs.declared.lexing.token.fail.FrontFail.TheVariants.{NotText, Token}
+use Rattle.prem_text.proofs.Prelude.{Place, literal_word, used_word, is_unused, reserved_word, longest_mark, name, number, word, mark, end_of_text, Seen, first_token, start, lex, tokens_of}
+use Rattle.prem_text.proofs.Prelude.{has_close, opens_comment, place_behind, AreTokens, Refused, Spelling, joined, placed, value_in, NotText, Token, Int, Unsigned, ◌≡◌, ℕ, Bool, true, false}
+use Rattle.prem_text.proofs.Prelude.{List, [], ◌∷◌, ◌++◌, codes, refl, replicate}
+use Rattle.prem_text.proofs.LexingLemmas.Examples.{on}
+use Rattle.prem_text.proofs.SpellingLemmas.Exact.{sound, refusals_sound}
+use Rattle.prem_text.specs.Lexing.Tokens.{step}
 use Rattle.prem_text.specs.declared.lexing.token.token.Mark.TheVariants as m
 use Rattle.prem_text.specs.declared.lexing.token.token.Word.TheVariants as w
-use Rattle.prem_text.specs.Lexing.Token.Lexeme.{name, number, word, mark, end_of_text, Seen}
-use Rattle.prem_text.specs.Lexing.Spelling.{used_word, is_unused, reserved_word, longest_mark}
-use Rattle.prem_text.specs.Lexing.Literal.{literal_word}
-use Rattle.prem_text.specs.Lexing.Tokens.{first_token, start, step, lex, tokens_of}
-use Rattle.prem_text.specs.Spelling.Spellings.{value_in}
-use Rattle.prem_text.specs.Spelling.Division.{has_close, opens_comment, place_behind, AreTokens, Refused}
-use Rattle.prem_text.specs.Spelling.Spelled.{Spelling, joined, placed}
-use Rattle.prem_text.proofs.SpellingLemmas.Exact.{sound, refusals_sound}
-use Rattle.prem_text.proofs.LexingLemmas.Examples.{on}
 
 abbrev at : ℕ → ℕ → Place
 at line col = record { line = line; col = col }

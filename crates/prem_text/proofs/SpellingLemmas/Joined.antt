@@ -1,19 +1,13 @@
 -- Spellings with a blank between are read back.
-use Rattle.std.proofs.Common.{◌≡◌, ◌≤◌, ℕ, suc, Bool, true, false, List, [], ◌∷◌, ◌++◌, length, Ok, refl, sym, ap, subst, ◌∙◌, arith, ◌&&◌, ◌==◌, not, append-nil, zero-le}
-use Rattle.std.proofs.lemmas.Bool.{and_parts, and_from, and_left, and_right, or_from}
-use Rattle.std.proofs.lemmas.Bool.Decides.{nat_tests}
-use Rattle.prem_text.specs.declared.lexing.token.token.Mark.{Mark}
-use Rattle.prem_text.specs.Lexing.Token.Lexeme.{Lexeme, end_of_text}
-use Rattle.prem_text.specs.Lexing.Spelling.{marks}
-use Rattle.prem_text.specs.Lexing.Tokens.{is_name_byte, is_blank, begins_with, tokens_of}
-use Rattle.prem_text.specs.Spelling.Spellings.{every, Spells}
-use Rattle.prem_text.specs.Spelling.Division.{a_blank, goes_on, opens_comment, IsToken, place_behind, Divides, up_to, gap, token}
-use Rattle.prem_text.specs.Spelling.Spelled.{Spelling, AreSpellings, joined, placed}
-use Rattle.prem_text.proofs.SpellingLemmas.Tables.{stands_every}
+use Rattle.prem_text.proofs.Prelude.{marks, Lexeme, end_of_text, is_name_byte, is_blank, begins_with, tokens_of, a_blank, goes_on, opens_comment, IsToken, place_behind, Divides, up_to, gap}
+use Rattle.prem_text.proofs.Prelude.{token, Spelling, AreSpellings, joined, placed, every, Spells, Mark, ◌≡◌, ◌≤◌, ℕ, suc, Bool, true, false, List, [], ◌∷◌, ◌++◌, length, Ok, refl, sym, ap}
+use Rattle.prem_text.proofs.Prelude.{subst, ◌∙◌, arith, ◌&&◌, ◌==◌, not, zero-le, and_parts, and_from, and_left, and_right, or_from, nat_tests}
 use Rattle.prem_text.proofs.SpellingLemmas.Bytes.{every_more, name_blank}
-use Rattle.prem_text.proofs.SpellingLemmas.Marks.{is_mark_byte, is_mark_text, mark_text}
-use Rattle.prem_text.proofs.SpellingLemmas.Front.{Shape, a_word, a_mark, shape, mark_no_blank}
 use Rattle.prem_text.proofs.SpellingLemmas.Exact.{complete}
+use Rattle.prem_text.proofs.SpellingLemmas.Front.{Shape, a_word, a_mark, shape, mark_no_blank}
+use Rattle.prem_text.proofs.SpellingLemmas.Marks.{is_mark_byte, is_mark_text, mark_text}
+use Rattle.prem_text.proofs.SpellingLemmas.Tables.{stands_every}
+use Rattle.std.proofs.Common.{append-nil}
 
 abbrev is_dark : ℕ → Bool
 is_dark b = not (is_blank b)

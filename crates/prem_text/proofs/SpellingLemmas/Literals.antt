@@ -1,16 +1,13 @@
 -- Literals: what is read is spelled so, and what is spelled so is read.
-use Rattle.std.proofs.Common.{◌≡◌, ◌≤◌, ◌<◌, ℕ, zero, suc, ◌+◌, ◌*◌, ◌^◌, Bool, true, false, List, [], ◌∷◌, ◌++◌, length, Option, None, Some, refl, sym, ap, subst, ◌∙◌, arith}
-use Rattle.std.proofs.Common.{nat_lt, ◌&&◌, ◌||◌, ◌==◌, slice_index, append-nil, add-mul, mul_assoc, add_assoc, mul-one, add-zero, option_and_then, if◌then◌else◌}
-use Rattle.std.proofs.lemmas.Bool.{and_parts, and_from}
-use Rattle.std.proofs.lemmas.Bool.Decides.{nat_tests}
-use native.Mathlib.Omega.{pow_step}
+use Rattle.prem_text.proofs.Prelude.{digit_value, is_suffix, digits, with_kind, literal_word, is_digit, is_name_byte, every, is_hexadecimal, value_in, Digits, just_zero, decimal}
+use Rattle.prem_text.proofs.Prelude.{hexadecimal, Literal, as_int, as_large, as_suffixed, Kind, Int, Unsigned, ◌≡◌, ◌≤◌, ◌<◌, ℕ, zero, suc, ◌+◌, ◌*◌, ◌^◌, Bool, true, false, List, [], ◌∷◌}
+use Rattle.prem_text.proofs.Prelude.{◌++◌, length, Option, None, Some, refl, sym, ap, subst, ◌∙◌, arith, nat_lt, ◌&&◌, ◌||◌, ◌==◌, slice_index, add-mul, mul_assoc, add_assoc, mul-one}
+use Rattle.prem_text.proofs.Prelude.{add-zero, option_and_then, if◌then◌else◌, and_parts, and_from, nat_tests}
+use Rattle.prem_text.proofs.SpellingLemmas.Bytes.{value_suffix, suffix_x, suffix_digit, suffix_name, digit_decimal, decimal_digit, digit_name, hexadecimal_name, x_name, every_append}
+use Rattle.prem_text.proofs.SpellingLemmas.Bytes.{every_more}
+use Rattle.std.proofs.Common.{append-nil}
 use native.Mathlib.Nat.{pow-zero}
-use Rattle.prem_word.specs.declared.kind.Kind.{Kind}
-use Rattle.prem_word.specs.declared.kind.Kind.TheVariants.{Int, Unsigned}
-use Rattle.prem_text.specs.Lexing.Literal.{digit_value, is_suffix, digits, with_kind, literal_word}
-use Rattle.prem_text.specs.Lexing.Tokens.{is_digit, is_name_byte}
-use Rattle.prem_text.specs.Spelling.Spellings.{every, is_hexadecimal, value_in, Digits, just_zero, decimal, hexadecimal, Literal, as_int, as_large, as_suffixed}
-use Rattle.prem_text.proofs.SpellingLemmas.Bytes.{value_suffix, suffix_x, suffix_digit, suffix_name, digit_decimal, decimal_digit, digit_name, hexadecimal_name, x_name, every_append, every_more}
+use native.Mathlib.Omega.{pow_step}
 
 -- a number, and digits behind it
 abbrev after : ℕ → ℕ → List ℕ → ℕ

@@ -1,14 +1,7 @@
 -- Marks: the one that is read is the longest.
-use Rattle.std.specs.Prelude.{◌⊎◌}
-use Rattle.std.proofs.Common.{◌≡◌, ◌≤◌, ℕ, Bool, true, false, List, [], ◌∷◌, ◌++◌, length, Option, None, Some, refl, sym, ap, subst, ◌∙◌, arith, nat_le, ◌&&◌, ◌==◌, not}
-use Rattle.std.proofs.Common.{slice_index, eq-eqb, eqb-true, leb-true, inl, inr, if◌then◌else◌}
-use Rattle.std.proofs.lemmas.Bool.{and_parts, and_from}
-use Rattle.std.proofs.lemmas.Bool.Decides.{nat_tests}
-use Rattle.prem_text.specs.declared.lexing.token.token.Mark.{Mark}
-use Rattle.prem_text.specs.Lexing.Token.Lexeme.{Lexeme, mark}
-use Rattle.prem_text.specs.Lexing.Spelling.{marks, begins, mark_in, longest_mark}
-use Rattle.prem_text.specs.Lexing.Tokens.{is_name_byte, is_blank, is_printable}
-use Rattle.prem_text.specs.Spelling.Spellings.{StandsIn, at_front, further, every, Spells, as_mark}
+use Rattle.prem_text.proofs.Prelude.{marks, begins, mark_in, longest_mark, Lexeme, mark, is_name_byte, is_blank, is_printable, StandsIn, at_front, further, every, Spells, as_mark, Mark, ◌≡◌}
+use Rattle.prem_text.proofs.Prelude.{◌≤◌, ℕ, Bool, true, false, List, [], ◌∷◌, ◌++◌, length, Option, None, Some, refl, sym, ap, subst, ◌∙◌, arith, nat_le, ◌&&◌, ◌==◌, not, slice_index}
+use Rattle.prem_text.proofs.Prelude.{eq-eqb, eqb-true, leb-true, inl, inr, if◌then◌else◌, and_parts, and_from, nat_tests, ◌⊎◌}
 use Rattle.prem_text.proofs.SpellingLemmas.Tables.{stands_every, stands_none, split, pair_is, distinct, one_value}
 
 abbrev pub is_mark_byte : ℕ → Bool

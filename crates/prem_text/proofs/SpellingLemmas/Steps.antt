@@ -1,22 +1,13 @@
 -- What the lexer does at a gap, at a token, and where neither begins.
-use Rattle.std.proofs.Common.{◌≡◌, ℕ, zero, suc, ◌+◌, ◌-◌, Bool, true, false, List, [], ◌∷◌, ◌++◌, length, None, Some, Result, Ok, Err, refl, sym, ap, subst, ◌∙◌, arith, ◌==◌, not}
-use Rattle.std.proofs.Common.{cond, reverse, take_while, count_by, append_assoc, append-nil, length-append, eqb-true, if◌then◌else◌}
-use Rattle.std.proofs.lemmas.Bool.{and_parts, or_parts, and_right}
-use Rattle.std.proofs.lemmas.List.{reverse-append}
-use Rattle.std.proofs.lemmas.List.Sums.{take_while-cons, sum_by-append, sum_by-cons}
-use Rattle.prem_syntax.specs.declared.tree.Place.{Place}
-use Rattle.prem_text.specs.declared.lexing.token.fail.FrontFail.{FrontFail}
-use Rattle.prem_text.specs.declared.lexing.token.fail.FrontFail.TheVariants.{NotText}
-use Rattle.prem_text.specs.Lexing.Token.Reading.{no_token}
-use Rattle.prem_text.specs.Lexing.Token.Lexeme.{Lexeme, Seen}
-use Rattle.prem_text.specs.declared.lexing.lexer.Mode.{Mode}
-use Rattle.prem_text.specs.declared.lexing.lexer.Mode.TheVariants.{Skip, Line, Block}
-use Rattle.prem_text.specs.declared.lexing.lexer.Cursor.{Cursor}
-use Rattle.prem_text.specs.Lexing.Tokens.{is_blank, is_printable, first_token, place, behind, begins_with, start, step, put, lex, with_front}
+use Rattle.prem_text.proofs.Prelude.{Place, Lexeme, Seen, no_token, is_blank, is_printable, first_token, place, begins_with, start, put, lex, with_front, is_feed, has_close, ends_line, Gap}
+use Rattle.prem_text.proofs.Prelude.{a_blank, a_block, a_line, opens_comment, IsToken, place_behind, every, Cursor, Mode, Skip, Line, Block, FrontFail, NotText, ◌≡◌, ℕ, zero, suc, ◌+◌, ◌-◌}
+use Rattle.prem_text.proofs.Prelude.{Bool, true, false, List, [], ◌∷◌, ◌++◌, length, None, Some, Result, Ok, Err, refl, sym, ap, subst, ◌∙◌, arith, ◌==◌, not, cond, reverse, take_while}
+use Rattle.prem_text.proofs.Prelude.{count_by, append_assoc, length-append, eqb-true, if◌then◌else◌, and_parts, or_parts, and_right, reverse-append, take_while-cons, sum_by-append}
+use Rattle.prem_text.proofs.Prelude.{sum_by-cons}
 use Rattle.prem_text.proofs.LexingLemmas.Lexing.{lex_cons}
-use Rattle.prem_text.specs.Spelling.Spellings.{every}
-use Rattle.prem_text.specs.Spelling.Division.{is_feed, has_close, ends_line, Gap, a_blank, a_block, a_line, opens_comment, IsToken, place_behind}
 use Rattle.prem_text.proofs.SpellingLemmas.Front.{token_ready}
+use Rattle.prem_text.specs.Lexing.Tokens.{behind, step}
+use Rattle.std.proofs.Common.{append-nil}
 
 -- ---- places
 

@@ -1,13 +1,10 @@
 -- Tables of spellings, and the reserved words.
-use Rattle.std.specs.Prelude.{◌⊎◌}
-use Rattle.std.proofs.Common.{◌≡◌, ℕ, Bool, true, false, List, [], ◌∷◌, Option, None, Some, refl, sym, ap, subst, ◌∙◌, not, ◌&&◌, ◌||◌, bytes_eq, is_none, inl, inr, if◌then◌else◌}
-use Rattle.std.proofs.lemmas.Bool.{and_parts, or_left, not-true}
+use Rattle.prem_text.proofs.Prelude.{words, unused, word_in, used_word, is_one_of, is_unused, reserved_word, is_name_byte, StandsIn, at_front, further, every, is_letter, Reserved}
+use Rattle.prem_text.proofs.Prelude.{without_use, Word, ◌≡◌, ℕ, Bool, true, false, List, [], ◌∷◌, Option, None, Some, refl, sym, ap, subst, ◌∙◌, not, ◌&&◌, ◌||◌, bytes_eq, is_none, inl, inr}
+use Rattle.prem_text.proofs.Prelude.{if◌then◌else◌, and_parts, or_left, not-true, ◌⊎◌}
+use Rattle.prem_text.specs.Spelling.Spellings.{used}
 use Rattle.std.proofs.lemmas.Slice.Eq.{bytes_eq-Decides}
-use Rattle.prem_text.specs.declared.lexing.token.token.Word.{Word}
 use Rattle.prem_text.specs.declared.lexing.token.token.Word.TheVariants as w
-use Rattle.prem_text.specs.Lexing.Spelling.{words, unused, word_in, used_word, is_one_of, is_unused, reserved_word}
-use Rattle.prem_text.specs.Lexing.Tokens.{is_name_byte}
-use Rattle.prem_text.specs.Spelling.Spellings.{StandsIn, at_front, further, every, is_letter, Reserved, used, without_use}
 
 pub stands_every : {X : Type 0} (p : X → Bool) (x : X) (xs : List X) → StandsIn x xs → every p xs ≡ true → p x ≡ true
 stands_every p x _ (at_front xs) all = (and_parts (p x) (every p xs) all).0

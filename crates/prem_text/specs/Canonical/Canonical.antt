@@ -1,21 +1,15 @@
 -- The canonical spelling of a program's tree, as tokens. It uses `=` for every assignment and has the fewest parentheses.
-use Rattle.std.specs.Prelude.{ℕ, ℤ, pos, ◌+◌, nat_lt, int_lt, Bool, true, false, if◌then◌else◌, List, [], ◌∷◌, ◌++◌, Option, None, Some, unsigned_abs}
-use Rattle.prem_word.specs.declared.kind.Kind.{Kind}
-use Rattle.prem_word.specs.declared.kind.Kind.TheVariants.{Int, Unsigned}
-use Rattle.prem_word.specs.declared.kind.BinOp.{BinOp}
-use Rattle.prem_word.specs.declared.kind.BinOp.TheVariants.{Add, Sub, Mul, Div, Rem, Shl, Shr, Lt, Le, Gt, Ge, Eq, Ne, And, Xor, Or, AndAlso, OrElse}
-use Rattle.prem_syntax.specs.declared.tree.Ty.{Ty}
-use Rattle.prem_syntax.specs.declared.tree.Ty.TheVariants as ty
-use Rattle.prem_syntax.specs.declared.tree.UnOp.{UnOp}
-use Rattle.prem_syntax.specs.declared.tree.UnOp.TheVariants.{Neg, Flip, Not}
-use Rattle.prem_syntax.specs.Syntax.{Text, Expression, literal, variable, element, unary, binary, Statement, block, if_then, if_else, bounded_while, counting_for, assign, output}
-use Rattle.prem_syntax.specs.Syntax.{input, call, Statements, no_statements, next_statement, Parameter, LocalVariable, RegionText, MarkText, InitialValue, absent, one, many}
-use Rattle.prem_syntax.specs.Syntax.{GlobalVariable, FunctionText, ItemText, global_item, function_item, ProgramText}
+use Rattle.prem_text.specs.Prelude.{Text, Expression, literal, variable, element, unary, binary, Statement, block, if_then, if_else, bounded_while, counting_for, assign, output, input, call}
+use Rattle.prem_text.specs.Prelude.{Statements, no_statements, next_statement, Parameter, LocalVariable, RegionText, MarkText, InitialValue, absent, one, many, GlobalVariable, FunctionText}
+use Rattle.prem_text.specs.Prelude.{ItemText, global_item, function_item, ProgramText, Ty, UnOp, Neg, Flip, Not, BinOp, Add, Sub, Mul, Div, Rem, Shl, Shr, Lt, Le, Gt, Ge, Eq, Ne, And, Xor}
+use Rattle.prem_text.specs.Prelude.{Or, AndAlso, OrElse, Kind, Int, Unsigned, ℕ, ℤ, pos, ◌+◌, nat_lt, int_lt, Bool, true, false, if◌then◌else◌, List, [], ◌∷◌, ◌++◌, Option, None, Some}
+use Rattle.prem_text.specs.Prelude.{unsigned_abs}
+use Rattle.prem_text.specs.Grammar.Expression.{level_of}
+use Rattle.prem_text.specs.Lexing.Token.Lexeme.{Lexeme, name, number, word, mark}
 use Rattle.prem_text.specs.declared.lexing.token.token.Mark.{Mark}
+use Rattle.prem_syntax.specs.declared.tree.Ty.TheVariants as ty
 use Rattle.prem_text.specs.declared.lexing.token.token.Mark.TheVariants as m
 use Rattle.prem_text.specs.declared.lexing.token.token.Word.TheVariants as w
-use Rattle.prem_text.specs.Lexing.Token.Lexeme.{Lexeme, name, number, word, mark}
-use Rattle.prem_text.specs.Grammar.Expression.{level_of}
 
 -- ---- numbers
 

@@ -1,18 +1,17 @@
 -- What holds of the canonical spelling of a text's tree.
-use Rattle.std.specs.Prelude.{◌≡◌, ℕ, ◌+◌, ◌≤◌, ◌<◌, List, [], ◌∷◌, ◌++◌, length, map, Result, Ok, Err}
-use Rattle.prem_syntax.specs.Syntax.{Expression, ProgramText}
+use Rattle.prem_text.specs.Prelude.{Expression, ProgramText, ◌≡◌, ℕ, ◌+◌, ◌≤◌, ◌<◌, List, [], ◌∷◌, ◌++◌, length, map, Result, Ok, Err}
+use Rattle.prem_text.specs.Canonical.Canonical.{program_lexemes}
+use Rattle.prem_text.specs.Canonical.Printed.{printed}
+use Rattle.prem_text.specs.Canonical.Unplaced.{unplaced_expression, unplaced}
+use Rattle.prem_text.specs.Grammar.Law.{IsPast}
+use Rattle.prem_text.specs.Grammar.Phrases.{Phrase, spelled, tree, IsExpression}
+use Rattle.prem_text.specs.Grammar.ProgramPhrases.{ProgramPhrase, IsProgram, program_tokens, program_tree}
+use Rattle.prem_text.specs.Lexing.Token.Lexeme.{Lexeme, mark, end_of_text, Seen}
+use Rattle.prem_text.specs.Spelling.Division.{Divides, AreTokens, place_behind}
+use Rattle.prem_text.specs.Texts.{IsProgramText}
 use Rattle.prem_text.specs.declared.lexing.token.fail.FrontFail.{FrontFail}
 use Rattle.prem_text.specs.declared.lexing.token.fail.FrontFail.TheVariants.{TooLong, TooDeep}
 use Rattle.prem_text.specs.declared.lexing.token.token.Mark.TheVariants as m
-use Rattle.prem_text.specs.Lexing.Token.Lexeme.{Lexeme, mark, end_of_text, Seen}
-use Rattle.prem_text.specs.Grammar.Phrases.{Phrase, spelled, tree, IsExpression}
-use Rattle.prem_text.specs.Grammar.ProgramPhrases.{ProgramPhrase, IsProgram, program_tokens, program_tree}
-use Rattle.prem_text.specs.Grammar.Law.{IsPast}
-use Rattle.prem_text.specs.Spelling.Division.{Divides, AreTokens, place_behind}
-use Rattle.prem_text.specs.Texts.{IsProgramText}
-use Rattle.prem_text.specs.Canonical.Unplaced.{unplaced_expression, unplaced}
-use Rattle.prem_text.specs.Canonical.Canonical.{program_lexemes}
-use Rattle.prem_text.specs.Canonical.Printed.{printed}
 
 -- a tree is, places aside, that of some text
 pub record IsOfText (p : ProgramText) : Type 0 where

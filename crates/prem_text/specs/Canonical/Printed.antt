@@ -1,14 +1,12 @@
 -- The canonical spelling of a program's tree, as a text.
-use Rattle.std.specs.Prelude.{ℕ, List, [], ◌++◌, map, codes, decimal}
-use Rattle.prem_word.specs.declared.kind.Kind.TheVariants.{Int, Unsigned}
-use Rattle.prem_syntax.specs.Syntax.{ProgramText}
-use Rattle.prem_text.specs.declared.lexing.token.token.Mark.{Mark}
-use Rattle.prem_text.specs.declared.lexing.token.token.Mark.TheVariants as m
-use Rattle.prem_text.specs.declared.lexing.token.token.Word.{Word}
-use Rattle.prem_text.specs.declared.lexing.token.token.Word.TheVariants as w
+use Rattle.prem_text.specs.Prelude.{ProgramText, Int, Unsigned, ℕ, List, [], ◌++◌, map, codes, decimal}
+use Rattle.prem_text.specs.Canonical.Canonical.{program_lexemes}
 use Rattle.prem_text.specs.Lexing.Token.Lexeme.{Lexeme, name, number, word, mark, end_of_text}
 use Rattle.prem_text.specs.Spelling.Spelled.{Spelling, joined}
-use Rattle.prem_text.specs.Canonical.Canonical.{program_lexemes}
+use Rattle.prem_text.specs.declared.lexing.token.token.Mark.{Mark}
+use Rattle.prem_text.specs.declared.lexing.token.token.Word.{Word}
+use Rattle.prem_text.specs.declared.lexing.token.token.Mark.TheVariants as m
+use Rattle.prem_text.specs.declared.lexing.token.token.Word.TheVariants as w
 
 -- of the keywords without use the first one stands for all, and no program has any
 abbrev pub word_bytes : Word → List ℕ

@@ -1,9 +1,7 @@
 -- Trees with all places put aside, which are those of no byte: two trees are the same, places aside, where these are equal.
-use Rattle.std.specs.Prelude.{map}
-use Rattle.std.specs.Option.{option_map}
-use Rattle.prem_syntax.specs.Syntax.{Expression, literal, variable, element, unary, binary, Statement, block, if_then, if_else, bounded_while, counting_for, assign, output, input}
-use Rattle.prem_syntax.specs.Syntax.{call, Statements, no_statements, next_statement, Parameter, LocalVariable, RegionText, MarkText, GlobalVariable, FunctionText, ItemText}
-use Rattle.prem_syntax.specs.Syntax.{global_item, function_item, ProgramText}
+use Rattle.prem_text.specs.Prelude.{Expression, literal, variable, element, unary, binary, Statement, block, if_then, if_else, bounded_while, counting_for, assign, output, input, call}
+use Rattle.prem_text.specs.Prelude.{Statements, no_statements, next_statement, Parameter, LocalVariable, RegionText, MarkText, GlobalVariable, FunctionText, ItemText, global_item}
+use Rattle.prem_text.specs.Prelude.{function_item, ProgramText, option_map, map}
 use Rattle.prem_text.specs.Grammar.Reader.{nowhere}
 
 abbrev pub unplaced_expression : Expression → Expression

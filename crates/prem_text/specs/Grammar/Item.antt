@@ -1,19 +1,17 @@
 -- Reading the items of a program, one token after the other.
-use Rattle.std.specs.Prelude.{ℕ, ◌-◌, ℤ, pos, neg_ℤ, Bool, true, false, not, nat_lt, if◌then◌else◌, List, [], ◌∷◌, ◌++◌, Option, None, Some}
-use Rattle.prem_syntax.specs.declared.tree.Place.{Place}
-use Rattle.prem_syntax.specs.declared.tree.Ty.{Ty}
-use Rattle.prem_syntax.specs.declared.tree.Ty.TheVariants.{Void, Int, Unsigned, Short, Ushort, Schar, Uchar}
-use Rattle.prem_syntax.specs.Syntax.{Text, Expression, no_statements, Statements, Parameter, LocalVariable, RegionText, MarkText, InitialValue, absent, one, many, GlobalVariable}
-use Rattle.prem_syntax.specs.Syntax.{FunctionText, ItemText, global_item, function_item}
-use Rattle.prem_text.specs.declared.lexing.token.token.Mark.TheVariants as m
-use Rattle.prem_text.specs.declared.lexing.token.token.Word.{Word}
-use Rattle.prem_text.specs.declared.lexing.token.token.Word.TheVariants as w
-use Rattle.prem_text.specs.Lexing.Token.Lexeme.{Lexeme, name, number, word, mark, Seen}
-use Rattle.prem_text.specs.Grammar.Slots.{Slot, left_parenthesis, right_parenthesis, left_brace, right_brace, right_bracket, semicolon, comma, equal_sign, a_name, a_literal, fits}
-use Rattle.prem_text.specs.Grammar.Slots.{text_at, value_at, place_at, is_left_parenthesis, is_right_parenthesis, is_left_bracket, is_left_brace, is_right_brace, is_comma}
-use Rattle.prem_text.specs.Grammar.Slots.{is_semicolon, is_equal, is_return, is_void, is_range, is_predictable, is_region, is_end}
+use Rattle.prem_text.specs.Prelude.{Text, Expression, no_statements, Statements, Parameter, LocalVariable, RegionText, MarkText, InitialValue, absent, one, many, GlobalVariable}
+use Rattle.prem_text.specs.Prelude.{FunctionText, ItemText, global_item, function_item, Place, Ty, Void, Short, Ushort, Schar, Uchar, ℕ, ◌-◌, ℤ, pos, neg_ℤ, Bool, true, false, not, nat_lt}
+use Rattle.prem_text.specs.Prelude.{if◌then◌else◌, List, [], ◌∷◌, ◌++◌, Option, None, Some}
+use Rattle.prem_syntax.specs.declared.tree.Ty.TheVariants.{Int, Unsigned}
 use Rattle.prem_text.specs.Grammar.Expression.{bottom, State, wants, goes, ends, stops, move}
+use Rattle.prem_text.specs.Grammar.Slots.{Slot, left_parenthesis, right_parenthesis, left_brace, right_brace, right_bracket, semicolon, comma, equal_sign, a_name, a_literal, fits, text_at}
+use Rattle.prem_text.specs.Grammar.Slots.{value_at, place_at, is_left_parenthesis, is_right_parenthesis, is_left_bracket, is_left_brace, is_right_brace, is_comma, is_semicolon, is_equal}
+use Rattle.prem_text.specs.Grammar.Slots.{is_return, is_void, is_range, is_predictable, is_region, is_end}
 use Rattle.prem_text.specs.Grammar.Statement.{listed, in_body, Point, between, Turn, on, leaves, wrong, turn, is_past}
+use Rattle.prem_text.specs.Lexing.Token.Lexeme.{Lexeme, name, number, word, mark, Seen}
+use Rattle.prem_text.specs.declared.lexing.token.token.Word.{Word}
+use Rattle.prem_text.specs.declared.lexing.token.token.Mark.TheVariants as m
+use Rattle.prem_text.specs.declared.lexing.token.token.Word.TheVariants as w
 
 -- ---- types
 

@@ -1,14 +1,13 @@
 -- What the reader does with a list of tokens, for the laws that hold it to the grammar.
-use Rattle.std.specs.Prelude.{◌≡◌, ℕ, Bool, true, false, List, [], ◌∷◌, ◌++◌, Option, None, Some}
-use Rattle.prem_syntax.specs.Syntax.{ItemText}
-use Rattle.prem_text.specs.declared.lexing.token.token.Mark.TheVariants as m
-use Rattle.prem_text.specs.declared.lexing.token.token.Word.TheVariants as w
-use Rattle.prem_text.specs.Lexing.Token.Lexeme.{Lexeme, word, mark, Seen}
+use Rattle.prem_text.specs.Prelude.{ItemText, ◌≡◌, ℕ, Bool, true, false, List, [], ◌∷◌, ◌++◌, Option, None, Some}
 use Rattle.prem_text.specs.Grammar.Expression.{State, goes, ends, stops, move}
 use Rattle.prem_text.specs.Grammar.Item.{Stage, outside, ahead, made, refused, step, is_too_deep}
 use Rattle.prem_text.specs.Grammar.Phrases.{quiet}
 use Rattle.prem_text.specs.Grammar.ProgramPhrases.{ProgramPhrase, IsProgram, program_tokens, program_past}
 use Rattle.prem_text.specs.Grammar.Statement.{in_body, Point, between, Turn, on, leaves, wrong, turn, is_past}
+use Rattle.prem_text.specs.Lexing.Token.Lexeme.{Lexeme, word, mark, Seen}
+use Rattle.prem_text.specs.declared.lexing.token.token.Mark.TheVariants as m
+use Rattle.prem_text.specs.declared.lexing.token.token.Word.TheVariants as w
 
 -- the state of an expression behind tokens that it has all taken
 abbrev pub moves : ℕ → State → List Seen → Option State

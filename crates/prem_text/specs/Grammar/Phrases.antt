@@ -1,15 +1,11 @@
 -- The grammar of expressions: phrases as they are spelled, with the place of each token.
-use Rattle.std.specs.Prelude.{◌≡◌, ℕ, ◌+◌, ◌≤◌, ◌<◌, nat_lt, Bool, true, false, List, [], ◌∷◌, ◌++◌, Option, None, Some}
-use Rattle.prem_word.specs.declared.kind.Kind.{Kind}
-use Rattle.prem_word.specs.declared.kind.BinOp.{BinOp}
-use Rattle.prem_syntax.specs.declared.tree.Place.{Place}
-use Rattle.prem_syntax.specs.declared.tree.UnOp.{UnOp}
-use Rattle.prem_syntax.specs.Syntax.{Text, Expression, literal, variable, element, unary, binary}
+use Rattle.prem_text.specs.Prelude.{Text, Expression, literal, variable, element, unary, binary, Place, UnOp, BinOp, Kind, ◌≡◌, ℕ, ◌+◌, ◌≤◌, ◌<◌, nat_lt, Bool, true, false, List, [], ◌∷◌}
+use Rattle.prem_text.specs.Prelude.{◌++◌, Option, None, Some}
+use Rattle.prem_text.specs.Grammar.Expression.{infix_of, prefix_of, level_of}
+use Rattle.prem_text.specs.Grammar.Slots.{Slot, fits, text_at}
+use Rattle.prem_text.specs.Lexing.Token.Lexeme.{name, number, mark, Seen}
 use Rattle.prem_text.specs.declared.lexing.token.token.Mark.{Mark}
 use Rattle.prem_text.specs.declared.lexing.token.token.Mark.TheVariants as m
-use Rattle.prem_text.specs.Lexing.Token.Lexeme.{name, number, mark, Seen}
-use Rattle.prem_text.specs.Grammar.Slots.{Slot, fits, text_at}
-use Rattle.prem_text.specs.Grammar.Expression.{infix_of, prefix_of, level_of}
 
 pub data Phrase : Type 0 where
   of_literal : (at : Place) (value : ℕ) (kind : Kind) → Phrase

@@ -1,17 +1,15 @@
 -- The grammar of items and programs: phrases as they are spelled.
-use Rattle.std.specs.Prelude.{◌≡◌, ℕ, ℤ, Bool, true, false, List, [], ◌∷◌, ◌++◌, Option, None, Some}
-use Rattle.prem_syntax.specs.declared.tree.Ty.{Ty}
-use Rattle.prem_syntax.specs.declared.tree.Ty.TheVariants.{Void, Int, Unsigned, Short, Ushort, Schar, Uchar}
-use Rattle.prem_syntax.specs.Syntax.{Expression, Parameter, LocalVariable, RegionText, MarkText, InitialValue, absent, one, many, GlobalVariable, FunctionText, ItemText}
-use Rattle.prem_syntax.specs.Syntax.{global_item, function_item, ProgramText}
-use Rattle.prem_text.specs.Lexing.Token.Lexeme.{Seen}
-use Rattle.prem_text.specs.Grammar.Slots.{Slot, left_parenthesis, right_parenthesis, left_brace, right_brace, left_bracket, right_bracket, semicolon, comma, equal_sign, minus_sign}
-use Rattle.prem_text.specs.Grammar.Slots.{a_name, a_literal, the_return, the_void, the_range, the_predictable, the_region, the_int, the_short, the_signed, the_char, the_unsigned}
-use Rattle.prem_text.specs.Grammar.Slots.{the_end, value_at, place_at}
-use Rattle.prem_text.specs.Grammar.Statement.{listed}
+use Rattle.prem_text.specs.Prelude.{Expression, Parameter, LocalVariable, RegionText, MarkText, InitialValue, absent, one, many, GlobalVariable, FunctionText, ItemText, global_item}
+use Rattle.prem_text.specs.Prelude.{function_item, ProgramText, Ty, Void, Short, Ushort, Schar, Uchar, ◌≡◌, ℕ, ℤ, Bool, true, false, List, [], ◌∷◌, ◌++◌, Option, None, Some}
+use Rattle.prem_syntax.specs.declared.tree.Ty.TheVariants.{Int, Unsigned}
 use Rattle.prem_text.specs.Grammar.Item.{constant_of}
 use Rattle.prem_text.specs.Grammar.Phrases.{Phrase, spelled, tree, IsExpression, IsRow, name_at, quiet, counted}
+use Rattle.prem_text.specs.Grammar.Slots.{Slot, left_parenthesis, right_parenthesis, left_brace, right_brace, left_bracket, right_bracket, semicolon, comma, equal_sign, minus_sign, a_name}
+use Rattle.prem_text.specs.Grammar.Slots.{a_literal, the_return, the_void, the_range, the_predictable, the_region, the_int, the_short, the_signed, the_char, the_unsigned, the_end, value_at}
+use Rattle.prem_text.specs.Grammar.Slots.{place_at}
+use Rattle.prem_text.specs.Grammar.Statement.{listed}
 use Rattle.prem_text.specs.Grammar.StatementPhrases.{StatementPhrases, AreStatements, all_written, all_meant, all_past}
+use Rattle.prem_text.specs.Lexing.Token.Lexeme.{Seen}
 
 -- ---- types and constants
 

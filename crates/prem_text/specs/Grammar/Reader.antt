@@ -1,11 +1,9 @@
 -- Reading a program, one token after the other.
-use Rattle.std.specs.Prelude.{if◌then◌else◌, List, [], ◌∷◌, ◌++◌, Result, Ok}
-use Rattle.prem_syntax.specs.declared.tree.Place.{Place}
-use Rattle.prem_syntax.specs.Syntax.{ItemText, ProgramText}
-use Rattle.prem_text.specs.declared.lexing.token.fail.FrontFail.{FrontFail}
+use Rattle.prem_text.specs.Prelude.{ItemText, ProgramText, Place, if◌then◌else◌, List, [], ◌∷◌, ◌++◌, Result, Ok}
+use Rattle.prem_text.specs.Grammar.Item.{Stage, outside, finished, ahead, made, refused, step, is_too_deep}
 use Rattle.prem_text.specs.Lexing.Token.Lexeme.{Seen}
 use Rattle.prem_text.specs.Lexing.Token.Reading.{no_program, too_deep}
-use Rattle.prem_text.specs.Grammar.Item.{Stage, outside, finished, ahead, made, refused, step, is_too_deep}
+use Rattle.prem_text.specs.declared.lexing.token.fail.FrontFail.{FrontFail}
 
 -- tokens that lack the end of the text end here, which no place of a text is
 abbrev pub nowhere : Place

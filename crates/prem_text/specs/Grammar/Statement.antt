@@ -1,18 +1,14 @@
 -- Reading the statements of a body, one token after the other.
-use Rattle.std.specs.Prelude.{ℕ, ◌-◌, Bool, true, false, ◌&&◌, not, nat_lt, if◌then◌else◌, List, [], ◌∷◌, ◌++◌, Option, None, Some}
-use Rattle.prem_word.specs.declared.kind.Kind.TheVariants.{Int}
-use Rattle.prem_word.specs.declared.kind.BinOp.{BinOp}
-use Rattle.prem_word.specs.declared.kind.BinOp.TheVariants.{Add, Sub}
-use Rattle.prem_syntax.specs.declared.tree.Place.{Place}
-use Rattle.prem_syntax.specs.Syntax.{Text, Expression, literal, variable, element, binary, LoopNames, Statement, block, if_then, if_else, bounded_while, counting_for, assign}
-use Rattle.prem_syntax.specs.Syntax.{output, input, call, Statements, no_statements, next_statement}
+use Rattle.prem_text.specs.Prelude.{Text, Expression, literal, variable, element, binary, LoopNames, Statement, block, if_then, if_else, bounded_while, counting_for, assign, output, input}
+use Rattle.prem_text.specs.Prelude.{call, Statements, no_statements, next_statement, Place, BinOp, Add, Sub, Int, ℕ, ◌-◌, Bool, true, false, ◌&&◌, not, nat_lt, if◌then◌else◌, List, [], ◌∷◌}
+use Rattle.prem_text.specs.Prelude.{◌++◌, Option, None, Some}
+use Rattle.prem_text.specs.Grammar.Expression.{bottom, State, wants, named, goes, ends, stops, move}
+use Rattle.prem_text.specs.Grammar.Slots.{Slot, left_parenthesis, right_parenthesis, right_bracket, semicolon, equal_sign, plus_sign, plus_plus, plus_equal, comparison, step_sign, a_name}
+use Rattle.prem_text.specs.Grammar.Slots.{a_literal, the_while, fits, text_at, value_at, place_at, slot_at, is_else, is_in, is_left_parenthesis, is_left_bracket, is_right_brace, is_comma}
+use Rattle.prem_text.specs.Grammar.Slots.{is_less_equal}
+use Rattle.prem_text.specs.Lexing.Token.Lexeme.{Lexeme, name, word, mark, Seen}
 use Rattle.prem_text.specs.declared.lexing.token.token.Mark.TheVariants as m
 use Rattle.prem_text.specs.declared.lexing.token.token.Word.TheVariants as w
-use Rattle.prem_text.specs.Lexing.Token.Lexeme.{Lexeme, name, word, mark, Seen}
-use Rattle.prem_text.specs.Grammar.Slots.{Slot, left_parenthesis, right_parenthesis, right_bracket, semicolon, equal_sign, plus_sign, plus_plus, plus_equal, comparison, step_sign}
-use Rattle.prem_text.specs.Grammar.Slots.{a_name, a_literal, the_while, fits, text_at, value_at, place_at, slot_at, is_else, is_in, is_left_parenthesis, is_left_bracket}
-use Rattle.prem_text.specs.Grammar.Slots.{is_right_brace, is_comma, is_less_equal}
-use Rattle.prem_text.specs.Grammar.Expression.{bottom, State, wants, named, goes, ends, stops, move}
 
 abbrev pub listed : List Statement → Statements
 listed [] = no_statements

@@ -1,16 +1,12 @@
 -- The grammar of statements: phrases as they are spelled. Between expressions and statements stand rows of tokens.
-use Rattle.std.specs.Prelude.{◌≡◌, ℕ, suc, nat_lt, Bool, true, false, List, [], ◌∷◌, ◌++◌, Option, None, Some}
-use Rattle.prem_word.specs.declared.kind.BinOp.{BinOp}
-use Rattle.prem_word.specs.declared.kind.BinOp.TheVariants.{Add, Sub}
-use Rattle.prem_syntax.specs.declared.tree.Place.{Place}
-use Rattle.prem_syntax.specs.Syntax.{Text, Expression, LoopNames, Statement, block, if_then, if_else, bounded_while, counting_for, assign, output, input, call}
-use Rattle.prem_text.specs.declared.lexing.token.token.Mark.TheVariants as m
-use Rattle.prem_text.specs.Lexing.Token.Lexeme.{name, mark, Seen}
-use Rattle.prem_text.specs.Grammar.Slots.{Slot, left_parenthesis, right_parenthesis, left_brace, right_brace, semicolon, comma, equal_sign, plus_sign, plus_plus, plus_equal}
-use Rattle.prem_text.specs.Grammar.Slots.{minus_minus, minus_equal, comparison, a_name, a_literal, the_if, the_else, the_for, the_while, the_bounded, the_in, the_out, value_at}
-use Rattle.prem_text.specs.Grammar.Slots.{place_at}
-use Rattle.prem_text.specs.Grammar.Statement.{listed, changed, by_one, is_at_most}
+use Rattle.prem_text.specs.Prelude.{Text, Expression, LoopNames, Statement, block, if_then, if_else, bounded_while, counting_for, assign, output, input, call, Place, BinOp, Add, Sub, ◌≡◌, ℕ}
+use Rattle.prem_text.specs.Prelude.{suc, nat_lt, Bool, true, false, List, [], ◌∷◌, ◌++◌, Option, None, Some}
 use Rattle.prem_text.specs.Grammar.Phrases.{Phrase, spelled, tree, IsExpression, IsRow, name_at, quiet, counted, opening}
+use Rattle.prem_text.specs.Grammar.Slots.{Slot, left_parenthesis, right_parenthesis, left_brace, right_brace, semicolon, comma, equal_sign, plus_sign, plus_plus, plus_equal, minus_minus}
+use Rattle.prem_text.specs.Grammar.Slots.{minus_equal, comparison, a_name, a_literal, the_if, the_else, the_for, the_while, the_bounded, the_in, the_out, value_at, place_at}
+use Rattle.prem_text.specs.Grammar.Statement.{listed, changed, by_one, is_at_most}
+use Rattle.prem_text.specs.Lexing.Token.Lexeme.{name, mark, Seen}
+use Rattle.prem_text.specs.declared.lexing.token.token.Mark.TheVariants as m
 
 -- the forms of a step with the token before it and the one behind it: `; i++ )`, `; i += C )`, `; i = j + C )`
 pub data StepForm : Type 0 where

@@ -1,8 +1,6 @@
 -- The spelling of literals.
-use Rattle.std.specs.Prelude.{ℕ, ◌+◌, ◌-◌, ◌*◌, ◌^◌, ◌==◌, Bool, true, false, ◌||◌, ◌&&◌, if◌then◌else◌, nat_lt, nat_le, List, [], ◌∷◌, length, Option, None, Some, slice_index, drop}
-use Rattle.std.specs.Option.{option_and_then}
-use Rattle.prem_word.specs.declared.kind.Kind.{Kind}
-use Rattle.prem_word.specs.declared.kind.Kind.TheVariants.{Int, Unsigned}
+use Rattle.prem_text.specs.Prelude.{Kind, Int, Unsigned, option_and_then, ℕ, ◌+◌, ◌-◌, ◌*◌, ◌^◌, ◌==◌, Bool, true, false, ◌||◌, ◌&&◌, if◌then◌else◌, nat_lt, nat_le, List, [], ◌∷◌, length}
+use Rattle.prem_text.specs.Prelude.{Option, None, Some, slice_index, drop}
 
 -- the value of a digit, or 16
 abbrev pub digit_value : ℕ → ℕ

@@ -1,9 +1,9 @@
 -- The spelling of the reserved words and the marks.
+use Rattle.prem_text.specs.declared.lexing.token.token.Mark.{Mark}
+use Rattle.prem_text.specs.declared.lexing.token.token.Word.{Word}
 use Rattle.std.specs.Prelude.{ℕ, Bool, false, ◌==◌, ◌&&◌, ◌||◌, if◌then◌else◌, List, [], ◌∷◌, length, Option, None, Some, codes}
 use Rattle.std.specs.Str.{bytes_eq}
-use Rattle.prem_text.specs.declared.lexing.token.token.Word.{Word}
 use Rattle.prem_text.specs.declared.lexing.token.token.Word.TheVariants as w
-use Rattle.prem_text.specs.declared.lexing.token.token.Mark.{Mark}
 use Rattle.prem_text.specs.declared.lexing.token.token.Mark.TheVariants as m
 
 abbrev pub words : List (List ℕ × Word)

@@ -1,17 +1,15 @@
 -- The tokens of a text, with their places.
-use Rattle.std.specs.Prelude.{ℕ, zero, suc, ◌+◌, ◌-◌, ◌==◌, Bool, ◌||◌, ◌&&◌, not, if◌then◌else◌, nat_lt, nat_le, List, [], ◌∷◌, length, ◌++◌, Option, None, Some, Result, Ok, Err}
-use Rattle.std.specs.Prelude.{take_while, slice_index}
-use Rattle.std.specs.Option.{option_map}
-use Rattle.prem_syntax.specs.declared.tree.Place.{Place}
-use Rattle.prem_text.specs.declared.lexing.token.fail.FrontFail.{FrontFail}
-use Rattle.prem_text.specs.declared.lexing.token.fail.FrontFail.TheVariants.{NotText, TooLong}
+use Rattle.prem_text.specs.Prelude.{Place, option_map, ℕ, zero, suc, ◌+◌, ◌-◌, ◌==◌, Bool, ◌||◌, ◌&&◌, not, if◌then◌else◌, nat_lt, nat_le, List, [], ◌∷◌, length, ◌++◌, Option, None, Some}
+use Rattle.prem_text.specs.Prelude.{Result, Ok, Err, take_while, slice_index}
+use Rattle.prem_text.specs.Lexing.Literal.{literal_word}
+use Rattle.prem_text.specs.Lexing.Spelling.{reserved_word, longest_mark}
+use Rattle.prem_text.specs.Lexing.Token.Lexeme.{Lexeme, name, number, word, mark, end_of_text, Seen}
+use Rattle.prem_text.specs.Lexing.Token.Reading.{◌>>=◌, no_token}
+use Rattle.prem_text.specs.declared.lexing.lexer.Cursor.{Cursor}
 use Rattle.prem_text.specs.declared.lexing.lexer.Mode.{Mode}
 use Rattle.prem_text.specs.declared.lexing.lexer.Mode.TheVariants.{Skip, Line, Block}
-use Rattle.prem_text.specs.declared.lexing.lexer.Cursor.{Cursor}
-use Rattle.prem_text.specs.Lexing.Token.Reading.{◌>>=◌, no_token}
-use Rattle.prem_text.specs.Lexing.Token.Lexeme.{Lexeme, name, number, word, mark, end_of_text, Seen}
-use Rattle.prem_text.specs.Lexing.Spelling.{reserved_word, longest_mark}
-use Rattle.prem_text.specs.Lexing.Literal.{literal_word}
+use Rattle.prem_text.specs.declared.lexing.token.fail.FrontFail.{FrontFail}
+use Rattle.prem_text.specs.declared.lexing.token.fail.FrontFail.TheVariants.{NotText, TooLong}
 
 abbrev pub is_digit : ℕ → Bool
 is_digit b = nat_le 48 b && nat_le b 57

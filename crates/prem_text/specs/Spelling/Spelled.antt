@@ -1,8 +1,8 @@
 -- Texts that are made of spellings.
-use Rattle.std.specs.Prelude.{ℕ, List, [], ◌∷◌, ◌++◌}
 use Rattle.prem_text.specs.Lexing.Token.Lexeme.{Lexeme, Seen}
-use Rattle.prem_text.specs.Spelling.Spellings.{Spells}
 use Rattle.prem_text.specs.Spelling.Division.{place_behind}
+use Rattle.prem_text.specs.Spelling.Spellings.{Spells}
+use Rattle.std.specs.Prelude.{ℕ, List, [], ◌∷◌, ◌++◌}
 
 -- bytes, and the token that they are to be
 abbrev pub Spelling : Type 0

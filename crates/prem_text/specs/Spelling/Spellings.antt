@@ -1,14 +1,12 @@
 -- How each token is spelled.
-use Rattle.std.specs.Prelude.{◌≡◌, ℕ, ◌+◌, ◌*◌, ◌^◌, ◌<◌, ◌≤◌, ◌==◌, Bool, true, false, ◌&&◌, ◌||◌, nat_lt, nat_le, List, [], ◌∷◌, ◌++◌, length, codes}
-use Rattle.prem_word.specs.declared.kind.Kind.{Kind}
-use Rattle.prem_word.specs.declared.kind.Kind.TheVariants.{Int, Unsigned}
+use Rattle.prem_text.specs.Prelude.{Kind, Int, Unsigned, ◌≡◌, ℕ, ◌+◌, ◌*◌, ◌^◌, ◌<◌, ◌≤◌, ◌==◌, Bool, true, false, ◌&&◌, ◌||◌, nat_lt, nat_le, List, [], ◌∷◌, ◌++◌, length, codes}
+use Rattle.prem_text.specs.Lexing.Literal.{digit_value, is_suffix}
+use Rattle.prem_text.specs.Lexing.Spelling.{words, unused, marks}
+use Rattle.prem_text.specs.Lexing.Token.Lexeme.{Lexeme, name, number, word, mark}
+use Rattle.prem_text.specs.Lexing.Tokens.{is_digit, is_name_byte}
+use Rattle.prem_text.specs.declared.lexing.token.token.Mark.{Mark}
 use Rattle.prem_text.specs.declared.lexing.token.token.Word.{Word}
 use Rattle.prem_text.specs.declared.lexing.token.token.Word.TheVariants as w
-use Rattle.prem_text.specs.declared.lexing.token.token.Mark.{Mark}
-use Rattle.prem_text.specs.Lexing.Token.Lexeme.{Lexeme, name, number, word, mark}
-use Rattle.prem_text.specs.Lexing.Spelling.{words, unused, marks}
-use Rattle.prem_text.specs.Lexing.Literal.{digit_value, is_suffix}
-use Rattle.prem_text.specs.Lexing.Tokens.{is_digit, is_name_byte}
 
 -- an element of a list
 pub data StandsIn {X : Type 0} (x : X) : List X → Type 0 where

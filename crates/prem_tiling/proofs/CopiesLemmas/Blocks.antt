@@ -1,13 +1,7 @@
 -- Statements in lists.
-use Rattle.std.proofs.Common.{◌≡◌, ◌≤◌, List, [], ◌∷◌, ◌++◌, length, refl, ap, sym, ◌∙◌, arith, None}
+use Rattle.prem_tiling.proofs.Prelude.{items_of, statement_of-Block, Statements, next_statement, block, statement_of, statements_before, statements_of, Place, Stmt, Block, only_loop, ◌≡◌}
+use Rattle.prem_tiling.proofs.Prelude.{◌≤◌, List, [], ◌∷◌, ◌++◌, length, refl, ap, sym, ◌∙◌, arith, None}
 use Rattle.prem_list.specs.declared.Sequence.{Sequence}
-use Rattle.prem_list.specs.Sequence.{items_of}
-use Rattle.prem_syntax.specs.declared.tree.Place.{Place}
-use Rattle.prem_syntax.specs.declared.tree.Stmt.{Stmt, Block}
-use Rattle.prem_syntax.specs.Syntax.{Statements, next_statement, block}
-use Rattle.prem_syntax.specs.SyntaxOf.{statement_of, statements_before, statements_of}
-use Rattle.prem_syntax.proofs.Rows.{statement_of-Block}
-use Rattle.prem_tiling.specs.Shapes.Shape.{only_loop}
 
 -- a block has the statements of its list
 pub block_is : (stmt : Stmt) (at : Place) (body : Sequence Stmt) (items : List Stmt) → stmt ≡ Block at body → items ≡ items_of body → statement_of stmt ≡ block at (statements_of items)

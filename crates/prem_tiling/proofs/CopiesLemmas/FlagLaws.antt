@@ -1,15 +1,10 @@
 -- Flags say which locals a statement assigns, and where a stale one is read.
-use Rattle.std.specs.Prelude.{slice_set}
-use Rattle.std.proofs.Common.{◌≡◌, ℕ, zero, suc, ◌<◌, ◌≤◌, Bool, true, false, cond, not, ◌&&◌, ◌||◌, List, [], ◌∷◌, length, set, replicate, refl, ap, sym, ◌∙◌, subst, arith}
-use Rattle.std.proofs.Common.{Option, None, Some, IfSome, eqb, ltb, ◌⊎◌, inl, inr, true≢false}
-use Rattle.std.proofs.lemmas.List.{length-set, get_or-set_same, get_or-set_other, get_or_past, get_or-replicate, length-replicate}
-use Rattle.std.proofs.lemmas.Bool.{cases_lt, cases_eq, eqb-true, eq-eqb, ne_eqb, lt-ltb, le-ltb}
-use Rattle.prem_syntax.specs.Syntax.{Text, Expression, literal, variable, element, unary, binary, Statement, block, if_then, if_else, bounded_while, counting_for, assign, output}
-use Rattle.prem_syntax.specs.Syntax.{input, call, Statements, no_statements, next_statement}
-use Rattle.prem_names.specs.Numbers.{number_of}
-use Rattle.prem_names.proofs.Firsts.{within_names}
-use Rattle.prem_tiling.specs.Shapes.Carried.{is_number, is_local_named, assigns, assign_within, LocalSet, first_line, is_stale, read_of, read_of_option, read_of_all, stale_first}
-use Rattle.prem_tiling.specs.Copies.Flags.{flag_at, flagged, with_flag, assigned_flags, all_assigned_flags, read_by, read_by_option, read_by_all}
+use Rattle.prem_tiling.proofs.Prelude.{within_names, number_of, Text, Expression, literal, variable, element, unary, binary, Statement, block, if_then, if_else, bounded_while, counting_for}
+use Rattle.prem_tiling.proofs.Prelude.{assign, output, input, call, Statements, no_statements, next_statement, flag_at, flagged, with_flag, assigned_flags, all_assigned_flags, read_by}
+use Rattle.prem_tiling.proofs.Prelude.{read_by_all, is_number, is_local_named, assigns, assign_within, LocalSet, first_line, is_stale, read_of, read_of_all, stale_first, ◌≡◌, ℕ, ◌<◌, ◌≤◌}
+use Rattle.prem_tiling.proofs.Prelude.{Bool, true, false, cond, not, ◌&&◌, ◌||◌, List, [], ◌∷◌, length, set, replicate, refl, ap, sym, ◌∙◌, subst, arith, Option, None, Some, IfSome, eqb}
+use Rattle.prem_tiling.proofs.Prelude.{◌⊎◌, inl, inr, true≢false, cases_lt, eqb-true, eq-eqb, length-set, get_or-set_same, get_or-set_other, get_or_past, get_or-replicate, length-replicate}
+use Rattle.prem_tiling.proofs.Prelude.{slice_set}
 
 abbrev pub Set : List Bool → LocalSet
 Set flags = λ k. flag_at flags k
@@ -56,10 +51,6 @@ read_is locals flags (variable at name) = ap (λ b. cond b (Some at.line) None) 
 read_is locals flags (element at name index) = read_is locals flags index
 read_is locals flags (unary at op operand) = read_is locals flags operand
 read_is locals flags (binary at op left right) = λ i. first_line (read_is locals flags left i) (read_is locals flags right i)
-
-pub option_is : (locals : List Text) (flags : List Bool) (e : Option Expression) → read_by_option locals flags e ≡ read_of_option locals (Set flags) e
-option_is locals flags None = refl
-option_is locals flags (Some e) = read_is locals flags e
 
 pub reads_are : (locals : List Text) (flags : List Bool) (es : List Expression) → read_by_all locals flags es ≡ read_of_all locals (Set flags) es
 reads_are locals flags [] = refl

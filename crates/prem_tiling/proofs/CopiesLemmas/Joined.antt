@@ -1,9 +1,6 @@
 -- What accesses add, joined.
-use Rattle.std.specs.Int.{int_min, int_max}
-use Rattle.std.proofs.Common.{◌≡◌, ℤ, refl, arith}
-use Rattle.std.proofs.lemmas.Bool.Decides.{nat_tests}
-use Rattle.std.proofs.lemmas.Int.{ints}
-use Rattle.prem_tiling.specs.Shapes.Narrowed.{Added, nothing, within, elsewhere, joined}
+use Rattle.prem_tiling.proofs.Prelude.{Added, nothing, within, elsewhere, joined, ◌≡◌, refl, arith, nat_tests, ints, int_min, int_max}
+use Rattle.std.proofs.Common.{ℤ}
 
 min_assoc : (a b c : ℤ) → int_min (int_min a b) c ≡ int_min a (int_min b c)
 min_assoc a b c = grind (arith, nat_tests, ints)

@@ -1,9 +1,5 @@
 -- Names that are looked for among others.
-use Rattle.std.specs.Str.{bytes_eq}
-use Rattle.std.proofs.Common.{◌≡◌, Bool, true, false, cond, ◌||◌, List, [], ◌∷◌, ◌++◌, map, refl, ap, sym, ◌∙◌, None, Some}
-use Rattle.std.proofs.lemmas.Slice.Eq.{bytes_eq-Decides}
-use Rattle.prem_syntax.specs.Syntax.{Text}
-use Rattle.prem_syntax.specs.Breaches.{has_name}
+use Rattle.prem_tiling.proofs.Prelude.{has_name, Text, ◌≡◌, Bool, true, false, cond, ◌||◌, List, [], ◌∷◌, ◌++◌, map, refl, ap, sym, ◌∙◌, None, Some, bytes_eq-Decides, bytes_eq}
 use Rattle.prem_tiling.specs.Copies.Named.{found_in}
 
 -- the first of those that are left

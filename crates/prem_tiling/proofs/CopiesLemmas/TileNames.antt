@@ -1,9 +1,5 @@
 -- The names of tiles in a list.
-use Rattle.std.proofs.Common.{◌≡◌, ℕ, zero, suc, ◌+◌, ◌<◌, List, [], ◌∷◌, map, length, get_or, refl, ap, ◌∙◌, arith}
-use Rattle.prem_syntax.specs.Name.{name_bytes}
-use Rattle.prem_syntax.specs.declared.name.Name.{Name}
-use Rattle.prem_syntax.specs.Syntax.{Text}
-use Rattle.prem_tiling.specs.Shapes.Tiled.{tile_name, tile_names}
+use Rattle.prem_tiling.proofs.Prelude.{name_bytes, Text, Name, tile_name, tile_names, ◌≡◌, ℕ, zero, suc, ◌+◌, ◌<◌, List, [], ◌∷◌, map, length, get_or, refl, ap, ◌∙◌, arith}
 
 first_same : (x y : Text) (xs ys : List Text) → x ∷ xs ≡ y ∷ ys → x ≡ y
 first_same x y xs ys e = cc

@@ -1,8 +1,6 @@
 -- Taking back the last local of a trail.
-use Rattle.std.specs.Prelude.{slice_set}
-use Rattle.std.proofs.Common.{◌≡◌, ℕ, ◌≤◌, Bool, true, List, [], ◌∷◌, ◌++◌, length, take, drop, refl, ap, sym, ◌∙◌, Option}
-use Rattle.std.proofs.lemmas.List.{drop-append-le, take-append-le, drop_all, take_all}
-use Rattle.prem_tiling.specs.Copies.Walk.{Walk, raised, undone}
+use Rattle.prem_tiling.proofs.Prelude.{Walk, raised, undone, ◌≡◌, ℕ, ◌≤◌, Bool, true, List, [], ◌∷◌, ◌++◌, length, drop, refl, ap, sym, ◌∙◌, Option, drop-append-le, take-append-le}
+use Rattle.prem_tiling.proofs.Prelude.{slice_set}
 
 abbrev pub walk_with : List Bool → List ℕ → Option ℕ → Walk
 walk_with flags trail line = record { flags = flags; trail = trail; line = line }
@@ -17,6 +15,3 @@ undone_last mark k trail flags line le =
     let back = ap (λ (t : List ℕ). raised t flags) (drop-append-le mark trail (k ∷ []) le) ∙ raised_last (drop mark trail) k flags in
     let rest = take-append-le mark trail (k ∷ []) le in
     λ i. walk_with (sym back i) (sym rest i) line
-
-undone_none : (mark : ℕ) (trail : List ℕ) (flags : List Bool) (line : Option ℕ) → length trail ≤ mark → undone mark (walk_with flags trail line) ≡ walk_with flags trail line
-undone_none mark trail flags line le = λ i. walk_with (raised (drop_all mark trail le i) flags) (take_all mark trail le i) line

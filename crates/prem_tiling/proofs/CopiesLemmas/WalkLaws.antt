@@ -1,16 +1,12 @@
 -- A walk of a turn finds the first read of a stale local, and which locals are stale behind a statement.
-use Rattle.std.specs.Prelude.{slice_set}
-use Rattle.std.proofs.Common.{◌≡◌, ℕ, Bool, true, false, not, ◌&&◌, ◌||◌, List, [], ◌∷◌, ◌++◌, length, take, drop, set, replicate, refl, ap, sym, ◌∙◌, subst, Option, None, Some, eqb, true≢false}
+use Rattle.prem_tiling.proofs.Prelude.{number_of, Text, Expression, Statement, block, if_then, if_else, bounded_while, counting_for, assign, output, input, call, Statements, no_statements}
+use Rattle.prem_tiling.proofs.Prelude.{next_statement, Place, flag_at, read_by, read_by_option, Walk, reading, reading_option, reading_all, lowered_if, lowered, lowered_all, raised, undone}
+use Rattle.prem_tiling.proofs.Prelude.{unflagged_before, unflagged, walked, all_walked, started, LocalSet, without, behind, behind_all, first_line, read_of, read_in, read_within, carried_in}
+use Rattle.prem_tiling.proofs.Prelude.{◌≡◌, ℕ, Bool, true, false, not, ◌&&◌, ◌||◌, List, [], ◌∷◌, ◌++◌, length, take, drop, set, replicate, refl, ap, sym, ◌∙◌, subst, Option, None, Some}
+use Rattle.prem_tiling.proofs.Prelude.{eqb, true≢false, eqb-true, append-nil, set-set, set-get_or, slice_set}
+use Rattle.prem_tiling.proofs.CopiesLemmas.FlagLaws.{Set, cleared_at, no_more, either_last, read_is, reads_are, started_is}
 use Rattle.std.proofs.Math.Seq.{drop-append_seam, take-append_seam}
-use Rattle.std.proofs.lemmas.List.{append-nil, append_assoc, set-set, set-get_or}
-use Rattle.std.proofs.lemmas.Bool.{eqb-true}
-use Rattle.prem_syntax.specs.declared.tree.Place.{Place}
-use Rattle.prem_syntax.specs.Syntax.{Text, Expression, Statement, block, if_then, if_else, bounded_while, counting_for, assign, output, input, call, Statements, no_statements, next_statement}
-use Rattle.prem_names.specs.Numbers.{number_of}
-use Rattle.prem_tiling.specs.Shapes.Carried.{LocalSet, without, behind, behind_all, first_line, read_of, read_of_option, read_of_all, read_in, read_within, carried_in}
-use Rattle.prem_tiling.specs.Copies.Flags.{flag_at, assigned_flags, read_by, read_by_option, read_by_all}
-use Rattle.prem_tiling.specs.Copies.Walk.{Walk, reading, reading_option, reading_all, lowered_if, lowered, lowered_all, raised, undone, unflagged_before, unflagged, walked, all_walked, started}
-use Rattle.prem_tiling.proofs.CopiesLemmas.FlagLaws.{Set, cleared_at, no_more, either_last, read_is, option_is, reads_are, started_is}
+use Rattle.std.proofs.lemmas.List.{append_assoc}
 
 -- ---- lists of numbers
 

@@ -1,26 +1,18 @@
 -- Callees stand before their callers; and those in a program with tiles are tiles, or were callees.
-use Rattle.std.specs.Prelude.{slice_get}
-use Rattle.std.specs.Str.{bytes_eq}
-use Rattle.std.proofs.Common.{◌≡◌, ℕ, zero, suc, ◌+◌, ◌<◌, ◌≤◌, Bool, true, false, cond, not, ◌&&◌, ◌||◌, List, [], ◌∷◌, ◌++◌, length, map, refl, ap, sym, ◌∙◌, subst, arith}
-use Rattle.std.proofs.Common.{Option, None, Some, eqb, ltb, is_some, ◌⊎◌, inl, inr, ⊎_elim, true≢false, slice_index_or}
-use Rattle.std.proofs.lemmas.Bool.{or_cases, eqb-true, eq-eqb, ltb-true}
-use Rattle.prem_syntax.specs.declared.tree.Place.{Place}
-use Rattle.prem_syntax.specs.declared.rules.TypeRule.TheVariants as rule
-use Rattle.prem_syntax.specs.Syntax.{Text, Expression, Statement, block, if_then, if_else, bounded_while, counting_for, assign, output, input, call, Statements, no_statements}
-use Rattle.prem_syntax.specs.Syntax.{next_statement, FunctionText, global_item, function_item, ProgramText, GlobalVariable}
-use Rattle.prem_syntax.specs.Resolve.{find_function, functions_of, scope_at, scope_in}
-use Rattle.prem_syntax.specs.Reach.{has_number, is_in_set}
-use Rattle.prem_syntax.specs.Rules.{CallOrder, MarkedCall, OfTypes, LoopForm}
-use Rattle.prem_syntax.specs.Breaches.{Around, around, if_at, in_expression, in_expressions, in_call_target, in_callee, in_names, is_between, is_loop, is_void, is_marked_text}
-use Rattle.prem_syntax.specs.Breaches.{in_statement, in_statements, in_option, in_regions, regions_of, in_heading, in_parameters, in_locals, parameter_texts, callee_number}
-use Rattle.prem_syntax.specs.Breaches.{callees, callees_within, in_function, in_global, in_items}
-use Rattle.prem_tiling.specs.Shapes.Shape.{has_call, have_call}
-use Rattle.prem_tiling.specs.Shapes.Tiled.{Cut, tile_name, calls_from, with_tiles, all_with_tiles}
-use Rattle.prem_tiling.specs.Laws.Runs.{renumbered}
+use Rattle.prem_tiling.proofs.Prelude.{Around, around, if_at, in_expression, in_expressions, in_call_target, in_callee, in_names, is_between, is_loop, is_void, is_marked_text, in_statement}
+use Rattle.prem_tiling.proofs.Prelude.{in_statements, in_option, in_regions, regions_of, in_heading, in_parameters, in_locals, parameter_texts, callee_number, callees, callees_within}
+use Rattle.prem_tiling.proofs.Prelude.{in_function, in_global, in_items, has_number, is_in_set, find_function, functions_of, scope_at, scope_in, CallOrder, OfTypes, LoopForm, Text}
+use Rattle.prem_tiling.proofs.Prelude.{Expression, Statement, block, if_then, if_else, bounded_while, counting_for, assign, output, input, call, Statements, no_statements, next_statement}
+use Rattle.prem_tiling.proofs.Prelude.{FunctionText, global_item, function_item, ProgramText, GlobalVariable, Place, renumbered, has_call, have_call, Cut, tile_name, calls_from, with_tiles}
+use Rattle.prem_tiling.proofs.Prelude.{all_with_tiles, ◌≡◌, ℕ, zero, suc, ◌+◌, ◌<◌, ◌≤◌, Bool, true, false, cond, not, ◌&&◌, ◌||◌, List, [], ◌∷◌, ◌++◌, length, map, refl, ap, sym, ◌∙◌}
+use Rattle.prem_tiling.proofs.Prelude.{subst, arith, Option, None, Some, eqb, ltb, is_some, ◌⊎◌, inl, inr, ⊎_elim, true≢false, slice_index_or, or_cases, eqb-true, eq-eqb, ltb-true}
+use Rattle.prem_tiling.proofs.Prelude.{slice_get, bytes_eq}
+use Rattle.prem_syntax.specs.Rules.{MarkedCall}
 use Rattle.prem_tiling.proofs.LawsLemmas.Formed.{none_left, none_right, kept_rule_not}
-use Rattle.prem_tiling.proofs.LawsLemmas.Tied.{neither_left, neither_right, either_left, either_right}
 use Rattle.prem_tiling.proofs.LawsLemmas.Reached.{Old, IsTile}
 use Rattle.prem_tiling.proofs.LawsLemmas.Rules.{Kept}
+use Rattle.prem_tiling.proofs.LawsLemmas.Tied.{neither_left, neither_right, either_left, either_right}
+use Rattle.prem_syntax.specs.declared.rules.TypeRule.TheVariants as rule
 
 -- ---- numbers in lists
 

@@ -1,14 +1,9 @@
 -- Calls by number: those of a program, and those of the one with tiles.
-use Rattle.std.specs.Prelude.{slice_get}
-use Rattle.std.proofs.Common.{◌≡◌, ℕ, zero, suc, ◌+◌, ◌-◌, ◌<◌, ◌≤◌, Bool, true, false, cond, List, [], ◌∷◌, length, refl, ap, sym, ◌∙◌, subst, arith, Option, None, Some, Err, ◌⊎◌, inl, inr, ⊎_elim}
-use Rattle.std.proofs.lemmas.Bool.{cases_lt, cases_eq, eq-eqb, ne_eqb, lt-ltb, le-ltb}
-use Rattle.prem_syntax.specs.Resolved.{Routine}
-use Rattle.prem_syntax.specs.Expressions.{and_then}
-use Rattle.prem_syntax.specs.Statements.{ProgramState, Calls, is_marked, enter}
-use Rattle.prem_syntax.specs.Source.{access_of, enter_if_there, this_or, calls_below, everywhere, unlimited}
-use Rattle.prem_tiling.specs.Laws.Runs.{renumbered}
-use Rattle.prem_tiling.proofs.LawsLemmas.Joint.{Joint, wrong}
+use Rattle.prem_tiling.proofs.Prelude.{and_then, Routine, access_of, enter_if_there, this_or, calls_below, everywhere, unlimited, ProgramState, Calls, is_marked, enter, renumbered, ◌≡◌, ℕ}
+use Rattle.prem_tiling.proofs.Prelude.{zero, suc, ◌+◌, ◌-◌, ◌<◌, ◌≤◌, Bool, true, false, cond, List, [], ◌∷◌, length, refl, ap, sym, ◌∙◌, subst, arith, Option, None, Some, Err, ◌⊎◌, inl}
+use Rattle.prem_tiling.proofs.Prelude.{inr, ⊎_elim, cases_lt, cases_eq, eq-eqb, ne_eqb, lt-ltb, le-ltb, slice_get}
 use Rattle.prem_tiling.proofs.LawsLemmas.Alike.{Alike, calls_all, CallsAlike}
+use Rattle.prem_tiling.proofs.LawsLemmas.Joint.{Joint, wrong}
 
 pub slice_get_there : {A : Type 0} (xs : List A) (n : ℕ) → n < length xs → (x : A) × (slice_get xs n ≡ Some x)
 slice_get_there [] n lt = absurd (omega arith)

@@ -1,18 +1,10 @@
 -- The turns of a loop are those of its tiles: one tile begins where the one before it ended.
-use Rattle.std.specs.Prelude.{slice_index}
-use Rattle.std.proofs.Common.{◌≡◌, ℕ, zero, suc, ◌+◌, ◌-◌, ◌*◌, ◌≤◌, Bool, true, false, ◌||◌, List, [], ◌∷◌, ◌++◌, length, set, refl, ap, sym, ◌∙◌, subst, arith, Ok, eqb, true≢false, append_assoc}
-use Rattle.std.proofs.lemmas.List.{length-set, get_or-set_same, append-nil}
-use Rattle.std.proofs.lemmas.Bool.{eqb-true}
-use Rattle.prem_syntax.specs.Syntax.{Text, Statement}
-use Rattle.prem_syntax.specs.Resolved.{Routine}
-use Rattle.prem_syntax.specs.Expressions.{Outcome, and_then, Access}
-use Rattle.prem_syntax.specs.Statements.{ProgramState, MarkedCall, Calls, with_local, is_marked, leave, with_mark}
-use Rattle.prem_syntax.specs.Breaches.{Around}
-use Rattle.prem_tiling.specs.Shapes.Carried.{stale_first}
-use Rattle.prem_tiling.specs.Laws.Runs.{AreTiles}
+use Rattle.prem_tiling.proofs.Prelude.{Around, Outcome, and_then, Access, Routine, ProgramState, MarkedCall, Calls, with_local, is_marked, leave, with_mark, Text, Statement, AreTiles}
+use Rattle.prem_tiling.proofs.Prelude.{stale_first, ◌≡◌, ℕ, zero, suc, ◌+◌, ◌-◌, ◌*◌, ◌≤◌, Bool, true, false, ◌||◌, List, [], ◌∷◌, ◌++◌, length, set, refl, ap, sym, ◌∙◌, subst, arith, Ok}
+use Rattle.prem_tiling.proofs.Prelude.{eqb, true≢false, append_assoc, eqb-true, length-set, get_or-set_same, append-nil, slice_index}
 use Rattle.prem_tiling.proofs.LawsLemmas.Joint.{Joint, fine, wrong, joint_then, joint_mapped}
-use Rattle.prem_tiling.proofs.LawsLemmas.Tied.{index-set_other, bare}
 use Rattle.prem_tiling.proofs.LawsLemmas.Laps.{laps, laps_add, laps_joint, Cuttable, turn_by, Lap, turn_lap}
+use Rattle.prem_tiling.proofs.LawsLemmas.Tied.{index-set_other, bare}
 
 pub joint_here : {A B : Type 0} {P : A → B → Type 0} {x : A} {y : B} → Joint P (Ok x) (Ok y) → P x y
 joint_here (fine p) = p

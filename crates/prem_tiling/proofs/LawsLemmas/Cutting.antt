@@ -1,27 +1,15 @@
 -- A call of a function does what calls of its tiles do, one behind the other.
-use Rattle.std.proofs.Common.{◌≡◌, ℕ, zero, suc, ◌+◌, ◌-◌, ◌*◌, ◌<◌, ◌≤◌, Bool, true, false, List, [], ◌∷◌, ◌++◌, refl, ap, sym, ◌∙◌, subst, arith, None, Ok, Err, eqb, ltb, true≢false}
-use Rattle.std.proofs.Math.Nat.{mul-zero}
-use Rattle.std.proofs.lemmas.List.{append-nil, length-set, get_or-set_same}
-use Rattle.prem_word.specs.declared.kind.Kind.{Kind}
-use Rattle.prem_word.specs.declared.kind.Kind.TheVariants.{Int}
-use Rattle.prem_word.specs.Words.{value_in}
-use Rattle.prem_syntax.specs.declared.tree.Place.{Place}
-use Rattle.prem_syntax.specs.Syntax.{Text, Statement}
-use Rattle.prem_syntax.specs.Resolved.{Constant, Steps, Done, For, Routine}
-use Rattle.prem_syntax.specs.Resolve.{resolve_statement}
-use Rattle.prem_syntax.specs.Expressions.{Outcome, and_then}
-use Rattle.prem_syntax.specs.Statements.{ProgramState, MarkedCall, Calls, with_local, in_bound, loop_test, loop_step, counting, run, declare, result_of, with_mark, is_marked, leave, enter}
-use Rattle.prem_syntax.specs.Source.{everywhere}
-use Rattle.prem_syntax.specs.Breaches.{Around}
-use Rattle.prem_tiling.specs.Shapes.Carried.{stale_first}
-use Rattle.prem_tiling.specs.Laws.Runs.{AreTiles, MarksTiled, no_marks, tile_marks}
-use Rattle.prem_tiling.proofs.LawsLemmas.Joint.{Joint, fine, wrong}
-use Rattle.prem_tiling.proofs.LawsLemmas.Tied.{neither_left, index-set_other}
-use Rattle.prem_tiling.proofs.LawsLemmas.Numbers.{bound_with, in_bound_is, small_is_itself}
-use Rattle.prem_tiling.proofs.LawsLemmas.Laps.{laps, counting_laps, Cuttable, turn_by, Lap, turn_lap}
-use Rattle.prem_tiling.proofs.LawsLemmas.Chain.{joint_here, fresh, Mid, tile_call, tiles_run, Ended, all_tiles}
+use Rattle.prem_tiling.proofs.Prelude.{Around, Outcome, and_then, resolve_statement, Constant, Steps, Done, For, Routine, everywhere, ProgramState, MarkedCall, Calls, with_local, in_bound}
+use Rattle.prem_tiling.proofs.Prelude.{loop_test, loop_step, counting, run, declare, result_of, with_mark, is_marked, leave, enter, Text, Statement, Place, AreTiles, MarksTiled, no_marks}
+use Rattle.prem_tiling.proofs.Prelude.{tile_marks, stale_first, value_in, Kind, Int, ◌≡◌, ℕ, zero, suc, ◌+◌, ◌-◌, ◌*◌, ◌<◌, ◌≤◌, Bool, true, false, List, [], ◌∷◌, ◌++◌, refl, ap, sym, ◌∙◌}
+use Rattle.prem_tiling.proofs.Prelude.{subst, arith, None, Ok, Err, eqb, ltb, true≢false, mul-zero, append-nil, length-set, get_or-set_same}
 use Rattle.prem_tiling.proofs.LawsLemmas.Alike.{Alike, calls_all}
+use Rattle.prem_tiling.proofs.LawsLemmas.Chain.{joint_here, fresh, Mid, tile_call, tiles_run, Ended, all_tiles}
 use Rattle.prem_tiling.proofs.LawsLemmas.Enter.{marks_append}
+use Rattle.prem_tiling.proofs.LawsLemmas.Joint.{Joint, fine, wrong}
+use Rattle.prem_tiling.proofs.LawsLemmas.Laps.{laps, counting_laps, Cuttable, turn_by, Lap, turn_lap}
+use Rattle.prem_tiling.proofs.LawsLemmas.Numbers.{bound_with, in_bound_is, small_is_itself}
+use Rattle.prem_tiling.proofs.LawsLemmas.Tied.{neither_left, index-set_other}
 
 -- a call that gives no result, and one that leaves a routine
 abbrev pub paired : ProgramState → Outcome (ℕ × ProgramState)

@@ -1,12 +1,9 @@
 -- Calls of functions: of one that has no tiles, and of the one that has.
-use Rattle.std.proofs.Common.{◌≡◌, ℕ, Bool, true, false, List, [], ◌∷◌, ◌++◌, refl, ap, sym, ◌∙◌, subst, Option, None, Some, Ok, append_assoc}
-use Rattle.prem_syntax.specs.Resolved.{Term, Routine}
-use Rattle.prem_syntax.specs.Expressions.{and_then, eval}
-use Rattle.prem_syntax.specs.Statements.{ProgramState, MarkedCall, Calls, value, run, with_new_local, declare, result_of, with_mark, is_marked, leave, enter}
-use Rattle.prem_syntax.specs.Source.{everywhere}
-use Rattle.prem_tiling.specs.Laws.Runs.{renumbered, MarksTiled, no_marks, other_mark, tile_marks}
-use Rattle.prem_tiling.proofs.LawsLemmas.Joint.{Joint, fine, joint_then, same_then}
+use Rattle.prem_tiling.proofs.Prelude.{and_then, eval, Term, Routine, everywhere, ProgramState, MarkedCall, Calls, value, run, with_new_local, declare, result_of, with_mark, is_marked}
+use Rattle.prem_tiling.proofs.Prelude.{leave, enter, renumbered, MarksTiled, no_marks, other_mark, tile_marks, ◌≡◌, ℕ, Bool, true, false, List, [], ◌∷◌, ◌++◌, refl, ap, sym, ◌∙◌, subst}
+use Rattle.prem_tiling.proofs.Prelude.{Option, None, Some, Ok, append_assoc}
 use Rattle.prem_tiling.proofs.LawsLemmas.Alike.{Alike}
+use Rattle.prem_tiling.proofs.LawsLemmas.Joint.{Joint, fine, joint_then, same_then}
 
 -- ---- marks
 

@@ -1,8 +1,5 @@
 -- A program whose function can be cut.
-use Rattle.std.specs.Fmt.{digits}
-use Rattle.std.proofs.Common.{refl, arith}
-use Rattle.prem_syntax.specs.ProgramRules.{IsWellFormed, first_breach}
-use Rattle.prem_tiling.specs.Laws.CanCut.{CanCut}
+use Rattle.prem_tiling.proofs.Prelude.{IsWellFormed, first_breach, CanCut, refl, arith, digits}
 use Rattle.prem_tiling.proofs.ShapesLemmas.Rows.{eight, eight_cut}
 
 eight_is_well_formed : IsWellFormed eight

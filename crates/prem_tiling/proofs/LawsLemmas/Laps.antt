@@ -1,23 +1,12 @@
 -- A counting loop is so many turns, one behind the other; so are its tiles, each of which begins with new locals.
-use Rattle.std.specs.Prelude.{ℤ, pos, ◌+ℤ◌, ◌≤ℤ◌, int_lt, slice_index}
-use Rattle.std.proofs.Common.{◌≡◌, ℕ, zero, suc, ◌+◌, ◌*◌, ◌<◌, ◌≤◌, Bool, true, false, cond, ◌||◌, List, [], length, refl, ap, sym, ◌∙◌, subst, arith, None, Ok, Err, eqb, ltb}
-use Rattle.std.proofs.lemmas.Int.{ints}
-use Rattle.std.proofs.lemmas.List.{length-set, get_or-set_same}
-use Rattle.std.proofs.lemmas.Bool.{lt-ltb, le-ltb}
-use Rattle.prem_word.specs.declared.kind.Kind.TheVariants.{Int}
-use Rattle.prem_word.specs.Words.{value_in, word_of}
-use Rattle.prem_syntax.specs.Syntax.{Text, Statement}
-use Rattle.prem_syntax.specs.Resolved.{Steps, Done}
-use Rattle.prem_syntax.specs.Resolve.{resolve_statement}
-use Rattle.prem_syntax.specs.Expressions.{Outcome, and_then, Access}
-use Rattle.prem_syntax.specs.Statements.{ProgramState, MarkedCall, Calls, choose, with_local, int_local, loop_step, counting, run}
-use Rattle.prem_syntax.specs.Breaches.{Around, in_statement}
-use Rattle.prem_tiling.specs.Shapes.Shape.{has_call}
-use Rattle.prem_tiling.specs.Shapes.Carried.{assigns, LocalSet, stale_first, behind, carried_in}
+use Rattle.prem_tiling.proofs.Prelude.{Around, in_statement, Outcome, and_then, Access, resolve_statement, Steps, Done, ProgramState, MarkedCall, Calls, choose, with_local, int_local}
+use Rattle.prem_tiling.proofs.Prelude.{loop_step, counting, run, Text, Statement, assigns, LocalSet, stale_first, behind, carried_in, has_call, value_in, word_of, Int, ◌≡◌, ℕ, zero, suc}
+use Rattle.prem_tiling.proofs.Prelude.{◌+◌, ◌*◌, ◌<◌, ◌≤◌, Bool, true, false, cond, ◌||◌, List, [], length, refl, ap, sym, ◌∙◌, subst, arith, None, Ok, Err, eqb, ltb, lt-ltb, le-ltb, ints}
+use Rattle.prem_tiling.proofs.Prelude.{length-set, get_or-set_same, ℤ, pos, ◌+ℤ◌, ◌≤ℤ◌, int_lt, slice_index}
 use Rattle.prem_tiling.proofs.LawsLemmas.Joint.{Joint, fine, wrong, joint_then, joint_mapped}
+use Rattle.prem_tiling.proofs.LawsLemmas.Numbers.{small_is_itself, word_is_itself, next_value}
 use Rattle.prem_tiling.proofs.LawsLemmas.Tied.{neither_left, neither_right, index-set_other, set_alike, Numbered, bare, Tied}
 use Rattle.prem_tiling.proofs.LawsLemmas.Turn.{behind_less, statement_tied}
-use Rattle.prem_tiling.proofs.LawsLemmas.Numbers.{small_is_itself, word_is_itself, next_value}
 
 -- ---- so many turns
 

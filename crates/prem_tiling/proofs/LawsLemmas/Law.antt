@@ -1,46 +1,30 @@
 -- A program with tiles does what the program did.
-use Rattle.std.specs.Prelude.{slice_get, codes}
-use Rattle.std.specs.List.{list_any}
-use Rattle.std.proofs.Common.{◌≡◌, ℕ, zero, suc, ◌+◌, ◌-◌, ◌*◌, ◌/◌, ◌^◌, ◌<◌, ◌≤◌, Bool, true, false, cond, not, ◌||◌, List, [], ◌∷◌, ◌++◌, length, map, refl, ap, sym, ◌∙◌, subst}
-use Rattle.std.proofs.Common.{arith, Option, None, Some, option_map, unwrap_or, ltb, is_some, ⊎_elim, true≢false, IfSome}
-use Rattle.std.proofs.lemmas.List.{length-map, length-append}
-use Rattle.std.proofs.lemmas.Bool.{cases_lt, lt-ltb, ltb-true, eqb-true, eq-eqb}
-use Rattle.std.proofs.Math.Nat.{mul-lt-mul_of_pos_right, mul_comm, div-lt_iff_lt-mul}
-use Rattle.prem_syntax.specs.Syntax.{Text, MarkText, LocalVariable, GlobalVariable, FunctionText, function_item, ProgramText}
-use Rattle.prem_syntax.specs.Resolved.{Constant, Steps, Done, For, Routine, Resolved}
-use Rattle.prem_syntax.specs.Resolve.{Scope, find_named, find_function, number_named, meaning_of, loop_local, resolve_term, resolve_statement, resolve_statements, parameter_names}
-use Rattle.prem_syntax.specs.Resolve.{local_names, scope_at, scope_in, resolve_function, resolve_items, resolve, globals_of, functions_of}
-use Rattle.prem_syntax.specs.Expressions.{Outcome}
-use Rattle.prem_syntax.specs.Statements.{ProgramState, Calls, enter}
-use Rattle.prem_syntax.specs.Source.{calls_below, everywhere, unlimited, start, do_jobs, source, initial_words}
-use Rattle.prem_syntax.specs.Rules.{NoJob, LoopForm}
-use Rattle.prem_syntax.specs.Reach.{is_in_set}
-use Rattle.prem_syntax.specs.Breaches.{Around, around, if_at, if_broken, is_job_name, is_loop, in_names, in_expression, in_regions, regions_of, in_heading, in_parameters}
-use Rattle.prem_syntax.specs.Breaches.{in_locals, in_statement, in_statements, in_option, parameter_texts, in_function, in_items, item_names, in_limits, has_name, reached}
-use Rattle.prem_syntax.specs.ProgramRules.{IsWellFormed}
-use Rattle.prem_names.specs.Numbers.{number_of}
-use Rattle.prem_names.proofs.Firsts.{within_names}
-use Rattle.prem_tiling.specs.Shapes.Shape.{Loop, bound_of, turns_of}
-use Rattle.prem_tiling.specs.Shapes.Carried.{names_of}
-use Rattle.prem_tiling.specs.Shapes.Tiled.{Cut, tile_name, first_turn, is_last, low_of, closed_of, high_of, tile_mark, tile_of, tiles_from, function_with_tiles, tiled, used_names}
-use Rattle.prem_tiling.specs.Laws.Runs.{renumbered, no_marks, AreSame}
-use Rattle.prem_tiling.specs.Laws.CanCut.{CanCut}
-use Rattle.prem_tiling.proofs.LawsLemmas.Joint.{Joint, fine, wrong, joint_then}
-use Rattle.prem_tiling.proofs.LawsLemmas.Standing as standing
-use Rattle.prem_tiling.proofs.LawsLemmas.Standing.{all_breaches, item_breaches, IsMarkedOne, marked_one}
-use Rattle.prem_tiling.proofs.LawsLemmas.Formed.{none_left, none_right, int_local_numbered, IsLoop}
-use Rattle.prem_tiling.proofs.LawsLemmas.Tied.{Numbered}
-use Rattle.prem_tiling.proofs.LawsLemmas.Numbers.{turn_there, few_turns, firsts_rise, first_is_none, last_is_all, turn_before, bound_with}
-use Rattle.prem_tiling.proofs.LawsLemmas.Laps.{Cuttable}
-use Rattle.prem_tiling.proofs.LawsLemmas.Terms.{with_functions, same_option, same_locals, same_variable, same_statement}
+use Rattle.prem_tiling.proofs.Prelude.{within_names, number_of, Around, around, if_at, if_broken, is_job_name, is_loop, in_names, in_expression, in_regions, regions_of, in_heading}
+use Rattle.prem_tiling.proofs.Prelude.{in_parameters, in_locals, in_statement, in_statements, in_option, parameter_texts, in_function, in_items, item_names, in_limits, has_name, reached}
+use Rattle.prem_tiling.proofs.Prelude.{Outcome, IsWellFormed, is_in_set, Scope, find_named, find_function, number_named, meaning_of, loop_local, resolve_term, resolve_statement}
+use Rattle.prem_tiling.proofs.Prelude.{resolve_statements, parameter_names, local_names, scope_at, scope_in, resolve_function, resolve_items, resolve, globals_of, functions_of, Constant}
+use Rattle.prem_tiling.proofs.Prelude.{Steps, Done, For, Routine, Resolved, NoJob, LoopForm, calls_below, everywhere, unlimited, start, do_jobs, source, initial_words, ProgramState, Calls}
+use Rattle.prem_tiling.proofs.Prelude.{enter, Text, MarkText, LocalVariable, GlobalVariable, FunctionText, function_item, ProgramText, CanCut, renumbered, no_marks, AreSame, names_of, Loop}
+use Rattle.prem_tiling.proofs.Prelude.{bound_of, turns_of, Cut, tile_name, first_turn, is_last, low_of, closed_of, high_of, tile_mark, tile_of, tiles_from, function_with_tiles, tiled}
+use Rattle.prem_tiling.proofs.Prelude.{used_names, ◌≡◌, ℕ, zero, suc, ◌+◌, ◌-◌, ◌*◌, ◌/◌, ◌^◌, ◌<◌, ◌≤◌, Bool, true, false, cond, not, ◌||◌, List, [], ◌∷◌, ◌++◌, length, map, refl, ap, sym}
+use Rattle.prem_tiling.proofs.Prelude.{◌∙◌, subst, arith, Option, None, Some, option_map, unwrap_or, ltb, is_some, ⊎_elim, true≢false, IfSome, mul-lt-mul_of_pos_right, mul_comm}
+use Rattle.prem_tiling.proofs.Prelude.{div-lt_iff_lt-mul, cases_lt, lt-ltb, ltb-true, eqb-true, eq-eqb, length-map, length-append, list_any, slice_get, codes}
 use Rattle.prem_tiling.proofs.LawsLemmas.Alike.{Alike, Renamed, CallsAlike, statements_alike}
-use Rattle.prem_tiling.proofs.LawsLemmas.Shapes.{IsShape, low_end, high_end, statement_of, are_numbered, left_alone, constant_word, constant_words, constants_declared}
-use Rattle.prem_tiling.proofs.LawsLemmas.Enter.{enter_alike}
-use Rattle.prem_tiling.proofs.LawsLemmas.Cutting.{IsLoopRoutine, IsCut, function_alike}
 use Rattle.prem_tiling.proofs.LawsLemmas.Calls.{AreCut, all_calls, renumbered_above}
+use Rattle.prem_tiling.proofs.LawsLemmas.Cutting.{IsLoopRoutine, IsCut, function_alike}
+use Rattle.prem_tiling.proofs.LawsLemmas.Enter.{enter_alike}
+use Rattle.prem_tiling.proofs.LawsLemmas.Formed.{none_left, none_right, int_local_numbered, IsLoop}
+use Rattle.prem_tiling.proofs.LawsLemmas.Joint.{Joint, fine, wrong, joint_then}
+use Rattle.prem_tiling.proofs.LawsLemmas.Laps.{Cuttable}
 use Rattle.prem_tiling.proofs.LawsLemmas.Lists.{names_of_functions, routines_count, globals_append, split_at}
+use Rattle.prem_tiling.proofs.LawsLemmas.Numbers.{turn_there, few_turns, firsts_rise, first_is_none, last_is_all, turn_before, bound_with}
 use Rattle.prem_tiling.proofs.LawsLemmas.Placed.{same_name, flipped, item_of, plain_globals, globals_of_tiles, tiles_count, tile_functions}
+use Rattle.prem_tiling.proofs.LawsLemmas.Shapes.{IsShape, low_end, high_end, statement_of, are_numbered, left_alone, constant_word, constant_words, constants_declared}
+use Rattle.prem_tiling.proofs.LawsLemmas.Standing.{all_breaches, item_breaches, IsMarkedOne}
+use Rattle.prem_tiling.proofs.LawsLemmas.Terms.{with_functions, same_option, same_locals, same_variable, same_statement}
+use Rattle.prem_tiling.proofs.LawsLemmas.Tied.{Numbered}
 use Rattle.prem_tiling.proofs.LawsLemmas.Whole.{free_of, functions_are, tiled_are, functions_tiled, renamed, Seg, function_there, tile_there, other_there}
+use Rattle.prem_tiling.proofs.LawsLemmas.Standing as standing
 
 -- ---- numbers of the cut
 
@@ -165,15 +149,8 @@ module _ (c : Cut) (front back : ProgramText) (can : CanCut (front ++ function_i
   abbrev place : Around
   place = around scope (0 + first) (is_in_set within (0 + first)) f
 
-  statements_formed : in_statements place f.body ≡ []
-  statements_formed = standing.statements_formed c front back can.shape formed
-
   loop_formed : in_statement place (statement_of l) ≡ []
   loop_formed = standing.loop_formed c front back can.shape formed
-
-  before_body : in_names l.at scope l.names ++ if_at (not (is_loop scope l.names (low_end l) (high_end l) l.step l.body)) l.at LoopForm
-      ++ in_expression scope (low_end l) ++ in_expression scope (high_end l) ≡ []
-  before_body = standing.before_body c front back can.shape formed
 
   is_a_loop : IsLoop scope l.names (low_end l) (high_end l) l.step l.body
   is_a_loop = standing.is_a_loop c front back can.shape formed

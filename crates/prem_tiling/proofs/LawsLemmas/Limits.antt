@@ -1,28 +1,18 @@
 -- Of the limits of programs, one with tiles can only be past that on functions.
-use Rattle.std.specs.Prelude.{nat_lt, nat_le}
-use Rattle.std.specs.List.{list_any}
-use Rattle.std.proofs.Common.{◌≡◌, ℕ, zero, suc, ◌+◌, ◌≤◌, Bool, true, false, not, ◌||◌, List, [], ◌∷◌, ◌++◌, length, map, refl, ap, sym, ◌∙◌, subst, Option, None, Some}
-use Rattle.std.proofs.Common.{option_map, true≢false, is_some}
-use Rattle.std.proofs.lemmas.List.{length-map}
-use Rattle.std.proofs.lemmas.Bool.{and_from, le-leb}
+use Rattle.prem_tiling.proofs.Prelude.{if_broken, is_job_name, regions_of, is_stated, is_length, in_limits, in_items, item_names, reached, IsWellFormed, globals_of, functions_of, Rule}
+use Rattle.prem_tiling.proofs.Prelude.{Limit, NoJob, Breach, MarkText, GlobalVariable, FunctionText, function_item, ProgramText, CanCut, has_breach, Cut, tile_region, tile_mark, tile_of}
+use Rattle.prem_tiling.proofs.Prelude.{function_with_tiles, tiled, ◌≡◌, ℕ, zero, suc, ◌+◌, ◌≤◌, Bool, true, false, not, ◌||◌, List, [], ◌∷◌, ◌++◌, length, map, refl, ap, sym, ◌∙◌, subst}
+use Rattle.prem_tiling.proofs.Prelude.{Option, None, Some, option_map, true≢false, is_some, and_from, le-leb, length-map, list_any, nat_lt, nat_le}
 use Rattle.prem_syntax.specs.declared.rules.Count.TheVariants.{Functions, Globals, Parameters, Regions, Length, Stated}
-use Rattle.prem_syntax.specs.Syntax.{MarkText, GlobalVariable, FunctionText, function_item, ProgramText}
-use Rattle.prem_syntax.specs.Resolve.{globals_of, functions_of}
-use Rattle.prem_syntax.specs.Rules.{Rule, Limit, NoJob, Breach}
-use Rattle.prem_syntax.specs.Breaches.{if_broken, is_job_name, regions_of, is_stated, is_length, in_limits, in_items, item_names, reached}
-use Rattle.prem_syntax.specs.ProgramRules.{IsWellFormed}
-use Rattle.prem_tiling.specs.Shapes.Tiled.{Cut, tile_region, tile_mark, tile_of, function_with_tiles, tiled}
-use Rattle.prem_tiling.specs.Shapes.Tile.{has_breach}
-use Rattle.prem_tiling.specs.Laws.CanCut.{CanCut}
 use Rattle.prem_tiling.proofs.LawsLemmas.Formed.{none_left, none_right}
-use Rattle.prem_tiling.proofs.LawsLemmas.Law as law
 use Rattle.prem_tiling.proofs.LawsLemmas.Lists.{split_at}
 use Rattle.prem_tiling.proofs.LawsLemmas.Placed.{tile_functions}
 use Rattle.prem_tiling.proofs.LawsLemmas.Shapes.{IsShape}
-use Rattle.prem_tiling.proofs.LawsLemmas.Standing as standing
 use Rattle.prem_tiling.proofs.LawsLemmas.Standing.{all_breaches, IsMarkedOne}
 use Rattle.prem_tiling.proofs.LawsLemmas.Tied.{neither_left, neither_right}
 use Rattle.prem_tiling.proofs.LawsLemmas.Whole.{functions_are, functions_tiled}
+use Rattle.prem_tiling.proofs.LawsLemmas.Law as law
+use Rattle.prem_tiling.proofs.LawsLemmas.Standing as standing
 
 unbroken : (b : Bool) (r : Rule) → if_broken b None r ≡ [] → b ≡ false
 unbroken true r e = cc

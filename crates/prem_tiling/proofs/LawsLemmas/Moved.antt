@@ -1,27 +1,17 @@
 -- Functions and items that break no rule break none in the program with tiles.
-use Rattle.std.specs.Str.{bytes_eq}
-use Rattle.std.proofs.Common.{◌≡◌, ℕ, suc, ◌+◌, ◌<◌, ◌≤◌, Bool, true, false, not, ◌&&◌, ◌||◌, List, [], ◌∷◌, ◌++◌, length, map, refl, ap, ◌∙◌, subst, arith, is_some, is_none, eqb}
-use Rattle.std.proofs.Common.{⊎_elim, ◌⊎◌, inl, inr}
-use Rattle.prem_syntax.specs.declared.tree.Place.{Place}
-use Rattle.prem_syntax.specs.declared.tree.Ty.{Ty}
-use Rattle.prem_syntax.specs.declared.rules.TypeRule.TheVariants as rule
-use Rattle.prem_syntax.specs.Syntax.{Text, Parameter, LocalVariable, GlobalVariable, FunctionText, global_item, function_item, ProgramText}
-use Rattle.prem_syntax.specs.Resolve.{Scope, declared, scope_at, scope_in}
-use Rattle.prem_syntax.specs.Rules.{Twice, OfTypes}
-use Rattle.prem_syntax.specs.Reach.{is_in_set}
-use Rattle.prem_syntax.specs.Breaches.{around, if_at, has_name, is_void, is_narrow, is_range, is_job_name, is_marked_text, is_initial, in_declared, in_parameters, in_locals}
-use Rattle.prem_syntax.specs.Breaches.{in_expression, in_regions, regions_of, in_heading, in_statements, in_option, parameter_texts, in_function, in_global, in_items}
-use Rattle.prem_syntax.specs.Resolve.{functions_of}
-use Rattle.prem_tiling.specs.Shapes.Carried.{names_of}
-use Rattle.prem_tiling.specs.Shapes.Tiled.{Cut, tile_name, function_with_tiles, used_names}
-use Rattle.prem_tiling.specs.Laws.Runs.{renumbered}
+use Rattle.prem_tiling.proofs.Prelude.{around, if_at, has_name, is_void, is_narrow, is_range, is_job_name, is_marked_text, is_initial, in_declared, in_parameters, in_locals, in_expression}
+use Rattle.prem_tiling.proofs.Prelude.{in_regions, regions_of, in_heading, in_statements, in_option, parameter_texts, in_function, in_global, in_items, is_in_set, Scope, declared, scope_at}
+use Rattle.prem_tiling.proofs.Prelude.{scope_in, functions_of, Twice, OfTypes, Text, Parameter, LocalVariable, GlobalVariable, FunctionText, global_item, function_item, ProgramText, Place}
+use Rattle.prem_tiling.proofs.Prelude.{Ty, renumbered, names_of, Cut, tile_name, function_with_tiles, used_names, ◌≡◌, ℕ, suc, ◌+◌, ◌<◌, ◌≤◌, Bool, true, false, not, ◌&&◌, ◌||◌, List, []}
+use Rattle.prem_tiling.proofs.Prelude.{◌∷◌, ◌++◌, length, map, refl, ap, ◌∙◌, subst, arith, is_some, is_none, eqb, ⊎_elim, ◌⊎◌, inl, inr, bytes_eq}
 use Rattle.prem_tiling.proofs.LawsLemmas.Calls.{renumbered_suc}
-use Rattle.prem_tiling.proofs.LawsLemmas.Tied.{neither_left, neither_right}
 use Rattle.prem_tiling.proofs.LawsLemmas.Formed.{none_left, none_right, none_both, kept_rule}
-use Rattle.prem_tiling.proofs.LawsLemmas.Terms.{with_functions}
+use Rattle.prem_tiling.proofs.LawsLemmas.Limits.{none_either}
 use Rattle.prem_tiling.proofs.LawsLemmas.Placed.{has_append, has_not_left, has_not_right, not_earlier, item_of}
 use Rattle.prem_tiling.proofs.LawsLemmas.Rules.{Kept, unbroken, expression_formed, option_formed, statements_formed}
-use Rattle.prem_tiling.proofs.LawsLemmas.Limits.{none_either}
+use Rattle.prem_tiling.proofs.LawsLemmas.Terms.{with_functions}
+use Rattle.prem_tiling.proofs.LawsLemmas.Tied.{neither_left, neither_right}
+use Rattle.prem_syntax.specs.declared.rules.TypeRule.TheVariants as rule
 
 -- a name is no tile's
 abbrev pub NoTile : Cut → Text → Type 0

@@ -1,21 +1,13 @@
 -- The functions of a program and of the one with tiles, by name and by number.
-use Rattle.std.specs.Prelude.{codes, decimal}
-use Rattle.std.specs.Str.{bytes_eq}
-use Rattle.std.proofs.Common.{◌≡◌, ℕ, zero, suc, ◌+◌, ◌^◌, ◌<◌, ◌≤◌, Bool, true, false, cond, ◌||◌, List, [], ◌∷◌, ◌++◌, length, map, refl, ap, sym, ◌∙◌, arith, None, Some}
-use Rattle.std.proofs.Common.{option_map, true≢false, append_assoc}
-use Rattle.std.proofs.lemmas.Fmt.{decimal_injective}
-use Rattle.std.proofs.lemmas.Slice.Eq.{bytes_eq-Decides}
-use Rattle.prem_syntax.specs.Syntax.{Text, GlobalVariable, FunctionText, ItemText, global_item, function_item, ProgramText}
-use Rattle.prem_syntax.specs.Resolve.{globals_of, functions_of, scope_at}
-use Rattle.prem_syntax.specs.Rules.{Twice}
-use Rattle.prem_syntax.specs.Reach.{is_in_set}
-use Rattle.prem_syntax.specs.Breaches.{has_name, in_global, in_regions, regions_of, in_heading, in_function, in_items, item_names, parameter_texts}
-use Rattle.prem_names.specs.Numbers.{number_of}
-use Rattle.prem_tiling.specs.Shapes.Carried.{names_of}
-use Rattle.prem_tiling.specs.Shapes.Tiled.{Cut, tile_name, tile_of, tiles_from, function_with_tiles, item_with_tiles, tiled, used_names}
+use Rattle.prem_tiling.proofs.Prelude.{number_of, has_name, in_global, in_regions, regions_of, in_heading, in_function, in_items, item_names, parameter_texts, is_in_set, globals_of}
+use Rattle.prem_tiling.proofs.Prelude.{functions_of, scope_at, Twice, Text, GlobalVariable, FunctionText, ItemText, global_item, function_item, ProgramText, names_of, Cut, tile_name}
+use Rattle.prem_tiling.proofs.Prelude.{tile_of, tiles_from, function_with_tiles, item_with_tiles, tiled, used_names, ◌≡◌, ℕ, zero, suc, ◌+◌, ◌^◌, ◌<◌, ◌≤◌, Bool, true, false, cond, ◌||◌}
+use Rattle.prem_tiling.proofs.Prelude.{List, [], ◌∷◌, ◌++◌, length, map, refl, ap, sym, ◌∙◌, arith, None, Some, option_map, true≢false, append_assoc, bytes_eq-Decides, codes, decimal}
+use Rattle.prem_tiling.proofs.Prelude.{bytes_eq}
 use Rattle.prem_tiling.proofs.LawsLemmas.Formed.{none_left, none_right, kept_rule}
-use Rattle.prem_tiling.proofs.LawsLemmas.Tied.{neither_left, neither_right}
 use Rattle.prem_tiling.proofs.LawsLemmas.Lists.{names_of_functions}
+use Rattle.prem_tiling.proofs.LawsLemmas.Tied.{neither_left, neither_right}
+use Rattle.std.proofs.lemmas.Fmt.{decimal_injective}
 
 -- ---- names
 

@@ -1,8 +1,6 @@
 -- What marked functions reach in a program with tiles, they reach without.
-use Rattle.std.proofs.Common.{◌≡◌, ℕ, zero, suc, ◌+◌, ◌-◌, ◌<◌, ◌≤◌, Bool, true, ◌&&◌, List, [], ◌∷◌, length, refl, ap, sym, ◌∙◌, subst, arith, ◌⊎◌, inl, inr, ⊎_elim, true≢false, slice_index_or}
-use Rattle.std.proofs.lemmas.Bool.{or_cases, and_parts, and_from}
-use Rattle.prem_syntax.specs.Reach.{has_number, is_in_set, called_by, with_called, reached_by}
-use Rattle.prem_tiling.specs.Laws.Runs.{renumbered}
+use Rattle.prem_tiling.proofs.Prelude.{has_number, is_in_set, called_by, with_called, reached_by, renumbered, ◌≡◌, ℕ, zero, suc, ◌+◌, ◌-◌, ◌<◌, ◌≤◌, Bool, true, ◌&&◌, List, [], ◌∷◌, length}
+use Rattle.prem_tiling.proofs.Prelude.{refl, ap, sym, ◌∙◌, subst, arith, ◌⊎◌, inl, inr, ⊎_elim, true≢false, slice_index_or, or_cases, and_parts, and_from}
 use Rattle.prem_tiling.proofs.LawsLemmas.Tied.{either_left, either_right}
 
 -- ---- one round

@@ -1,44 +1,31 @@
 -- A program with tiles breaks no rule.
-use Rattle.std.specs.Prelude.{codes, slice_get}
-use Rattle.std.specs.List.{list_any}
-use Rattle.std.specs.Str.{bytes_eq}
-use Rattle.std.proofs.Common.{◌≡◌, ℕ, zero, suc, ◌+◌, ◌-◌, ◌<◌, ◌≤◌, Bool, true, false, not, ◌&&◌, ◌||◌, List, [], ◌∷◌, ◌++◌, length, map, refl, ap, sym, ◌∙◌, subst, arith, Option}
-use Rattle.std.proofs.Common.{None, Some, option_map, eqb, is_some, is_none, ◌⊎◌, inl, inr, ⊎_elim, true≢false, append_assoc, slice_index_or, IsTrue}
-use Rattle.std.proofs.lemmas.List.{append-nil, length-map}
-use Rattle.std.proofs.lemmas.Bool.{cases_eq}
-use Rattle.std.proofs.lemmas.Slice.Eq.{bytes_eq-Decides}
-use Rattle.prem_syntax.specs.declared.rules.TypeRule.TheVariants as rule
-use Rattle.prem_syntax.specs.Syntax.{Text, MarkText, GlobalVariable, FunctionText, global_item, function_item, ProgramText}
-use Rattle.prem_syntax.specs.Resolve.{Scope, scope_at, scope_in, globals_of, functions_of}
-use Rattle.prem_syntax.specs.Rules.{Breach, NoJob, Twice, OfTypes, LoopForm, first_of}
-use Rattle.prem_syntax.specs.Reach.{has_number, is_in_set, reached_by}
-use Rattle.prem_syntax.specs.Breaches.{Around, around, if_at, if_broken, is_job_name, is_marked_text, is_narrow, is_void, is_loop, in_names, in_expression, in_regions, regions_of}
-use Rattle.prem_syntax.specs.Breaches.{in_heading, in_parameters, in_locals, in_statement, in_statements, in_option, parameter_texts, callees, callees_within, in_function}
-use Rattle.prem_syntax.specs.Breaches.{in_items, item_name, item_names, in_limits, has_name, breaches, reached, table_of}
-use Rattle.prem_syntax.specs.ProgramRules.{first_breach, IsWellFormed}
-use Rattle.prem_tiling.specs.Shapes.Shape.{Loop}
-use Rattle.prem_tiling.specs.Shapes.Carried.{names_of}
-use Rattle.prem_tiling.specs.Shapes.Tiled.{Cut, tile_name, tile_names, tile_mark, tile_of, tiles_from, function_with_tiles, tiled, used_names}
-use Rattle.prem_tiling.specs.Laws.Runs.{renumbered}
-use Rattle.prem_tiling.specs.Laws.CanCut.{CanCut}
+use Rattle.prem_tiling.proofs.Prelude.{Around, around, if_at, if_broken, is_job_name, is_marked_text, is_narrow, is_void, is_loop, in_names, in_expression, in_regions, regions_of}
+use Rattle.prem_tiling.proofs.Prelude.{in_heading, in_parameters, in_locals, in_statement, in_statements, in_option, parameter_texts, callees, callees_within, in_function, in_items}
+use Rattle.prem_tiling.proofs.Prelude.{item_name, item_names, in_limits, has_name, breaches, reached, table_of, first_breach, IsWellFormed, has_number, is_in_set, reached_by, Scope}
+use Rattle.prem_tiling.proofs.Prelude.{scope_at, scope_in, globals_of, functions_of, Breach, NoJob, Twice, OfTypes, LoopForm, first_of, Text, MarkText, GlobalVariable, FunctionText}
+use Rattle.prem_tiling.proofs.Prelude.{global_item, function_item, ProgramText, CanCut, renumbered, names_of, Loop, Cut, tile_name, tile_names, tile_mark, tile_of, tiles_from}
+use Rattle.prem_tiling.proofs.Prelude.{function_with_tiles, tiled, used_names, ◌≡◌, ℕ, zero, suc, ◌+◌, ◌-◌, ◌<◌, ◌≤◌, Bool, true, false, not, ◌&&◌, ◌||◌, List, [], ◌∷◌, ◌++◌, length, map}
+use Rattle.prem_tiling.proofs.Prelude.{refl, ap, sym, ◌∙◌, subst, arith, Option, None, Some, option_map, eqb, is_some, is_none, ◌⊎◌, inl, inr, ⊎_elim, true≢false, append_assoc}
+use Rattle.prem_tiling.proofs.Prelude.{slice_index_or, IsTrue, cases_eq, append-nil, length-map, bytes_eq-Decides, list_any, codes, slice_get, bytes_eq}
 use Rattle.prem_tiling.proofs.LawsLemmas.Callees.{row_of, of_row, mark_of, of_mark, Placed, placed, body_formed, all_callees_before, all_callees_moved, calls_nothing}
 use Rattle.prem_tiling.proofs.LawsLemmas.Calls.{renumbered_below, renumbered_above, renumbered_apart, renumbered_no_tile}
 use Rattle.prem_tiling.proofs.LawsLemmas.Formed.{none_left, none_right, none_both, kept_rule, IsLoop}
 use Rattle.prem_tiling.proofs.LawsLemmas.Found.{FromTile, FromOther, origin, kept as functions_kept}
-use Rattle.prem_tiling.proofs.LawsLemmas.Law as law
+use Rattle.prem_tiling.proofs.LawsLemmas.Limits.{none_either}
 use Rattle.prem_tiling.proofs.LawsLemmas.Lists.{names_of_functions, in_items_append, split_at}
 use Rattle.prem_tiling.proofs.LawsLemmas.Moved.{Fresh, fresh_all, NoTiles, locals_moved, items_moved}
-use Rattle.prem_tiling.proofs.LawsLemmas.Placed.{has_append, has_not_left, has_not_right, flipped, used_not, item_of, plain_functions, plain_globals, tile_functions}
-use Rattle.prem_tiling.proofs.LawsLemmas.Placed.{functions_of_tiles, globals_of_tiles, tiles_count, tile_names_apart}
+use Rattle.prem_tiling.proofs.LawsLemmas.Placed.{has_append, has_not_left, has_not_right, flipped, used_not, item_of, plain_functions, plain_globals, tile_functions, functions_of_tiles}
+use Rattle.prem_tiling.proofs.LawsLemmas.Placed.{globals_of_tiles, tiles_count, tile_names_apart}
 use Rattle.prem_tiling.proofs.LawsLemmas.Quiet.{quiet, regions_quiet}
 use Rattle.prem_tiling.proofs.LawsLemmas.Reached.{Old, IsTile, reached_before, later_to}
 use Rattle.prem_tiling.proofs.LawsLemmas.Rules.{Kept, unbroken, names_formed, form_kept, same_of_parts}
 use Rattle.prem_tiling.proofs.LawsLemmas.Shapes.{IsShape, low_end, high_end}
-use Rattle.prem_tiling.proofs.LawsLemmas.Standing as standing
 use Rattle.prem_tiling.proofs.LawsLemmas.Standing.{item_breaches, IsMarkedOne}
 use Rattle.prem_tiling.proofs.LawsLemmas.Tied.{neither_left, neither_right, either_right}
 use Rattle.prem_tiling.proofs.LawsLemmas.Whole.{functions_are, tiled_are, functions_tiled}
-use Rattle.prem_tiling.proofs.LawsLemmas.Limits.{none_either}
+use Rattle.prem_syntax.specs.declared.rules.TypeRule.TheVariants as rule
+use Rattle.prem_tiling.proofs.LawsLemmas.Law as law
+use Rattle.prem_tiling.proofs.LawsLemmas.Standing as standing
 
 -- ---- names of items
 

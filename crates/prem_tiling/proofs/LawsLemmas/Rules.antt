@@ -1,27 +1,19 @@
 -- Expressions and statements that break no rule break none in the program with tiles.
-use Rattle.std.specs.List.{flat_map}
-use Rattle.std.specs.Str.{bytes_eq}
-use Rattle.std.proofs.Common.{◌≡◌, ℕ, zero, suc, ◌+◌, ◌<◌, ◌≤◌, Bool, true, false, cond, not, ◌&&◌, ◌||◌, List, [], ◌∷◌, ◌++◌, length, refl, ap, sym, ◌∙◌, arith, Option, None}
-use Rattle.std.proofs.Common.{Some, eqb, ltb, is_some, ◌⊎◌, inl, inr, true≢false}
-use Rattle.std.proofs.lemmas.Bool.{and_parts, cases_lt, lt-ltb, ltb-true}
-use Rattle.std.proofs.lemmas.Slice.Eq.{bytes_eq-Decides}
-use Rattle.prem_syntax.specs.declared.tree.Place.{Place}
-use Rattle.prem_syntax.specs.declared.tree.Ty.{Ty}
-use Rattle.prem_syntax.specs.declared.rules.TypeRule.TheVariants as rule
-use Rattle.prem_syntax.specs.declared.meaning.Meaning.{Meaning}
-use Rattle.prem_syntax.specs.declared.meaning.Meaning.TheVariants.{Nothing, Local as LocalName, Scalar as ScalarName, Array as ArrayName, Function as FunctionName}
-use Rattle.prem_syntax.specs.Syntax.{Text, Expression, literal, variable, element, unary, binary, LoopNames, Statement, block, if_then, if_else, bounded_while, counting_for}
-use Rattle.prem_syntax.specs.Syntax.{assign, output, input, call, Statements, no_statements, next_statement, Parameter, GlobalVariable, FunctionText}
-use Rattle.prem_syntax.specs.Resolve.{Scope, find_local, find_global, find_function, first_meaning, meaning_of, resolve_term, kind_of}
-use Rattle.prem_syntax.specs.Rules.{Rule, Breach, OfTypes, CallOrder, MarkedCall, SystemCall, LoopForm}
-use Rattle.prem_syntax.specs.Breaches.{Around, if_at, unknown, used_plain, used_indexed, in_expression, in_expressions, in_option, in_assigned, in_target, in_call_target}
-use Rattle.prem_syntax.specs.Breaches.{in_callee, in_names, is_local, is_int_local, is_int, same_name, assigns, assigns_within, is_between, is_loop, is_void, is_marked_text}
-use Rattle.prem_syntax.specs.Breaches.{in_statement, in_statements}
-use Rattle.prem_tiling.specs.Shapes.Tiled.{Cut, tile_name, tile_of, calls_from, with_tiles, all_with_tiles, function_with_tiles}
-use Rattle.prem_tiling.specs.Laws.Runs.{renumbered}
-use Rattle.prem_tiling.proofs.LawsLemmas.Formed.{none_left, none_right, none_both, kept_rule, kept_rule_not, loop_parts}
+use Rattle.prem_tiling.proofs.Prelude.{Around, if_at, unknown, used_plain, used_indexed, in_expression, in_expressions, in_option, in_assigned, in_target, in_call_target, in_callee}
+use Rattle.prem_tiling.proofs.Prelude.{in_names, is_local, is_int_local, is_int, same_name, assigns_within, is_between, is_loop, is_void, is_marked_text, in_statement, in_statements, Scope}
+use Rattle.prem_tiling.proofs.Prelude.{find_local, find_global, find_function, first_meaning, meaning_of, resolve_term, kind_of, Rule, Breach, OfTypes, CallOrder, SystemCall, LoopForm, Text}
+use Rattle.prem_tiling.proofs.Prelude.{Expression, literal, variable, element, unary, binary, LoopNames, Statement, block, if_then, if_else, bounded_while, counting_for, assign, output}
+use Rattle.prem_tiling.proofs.Prelude.{input, call, Statements, no_statements, next_statement, Parameter, GlobalVariable, FunctionText, Meaning, Nothing, Local as LocalName}
+use Rattle.prem_tiling.proofs.Prelude.{Scalar as ScalarName, Array as ArrayName, Function as FunctionName, Place, Ty, renumbered, Cut, tile_name, tile_of, calls_from, with_tiles}
+use Rattle.prem_tiling.proofs.Prelude.{all_with_tiles, function_with_tiles, ◌≡◌, ℕ, zero, suc, ◌+◌, ◌<◌, ◌≤◌, Bool, true, false, cond, not, ◌&&◌, ◌||◌, List, [], ◌∷◌, ◌++◌, length, refl, ap}
+use Rattle.prem_tiling.proofs.Prelude.{sym, ◌∙◌, arith, Option, None, Some, eqb, ltb, is_some, ◌⊎◌, inl, inr, true≢false, and_parts, cases_lt, lt-ltb, ltb-true, bytes_eq-Decides, flat_map}
+use Rattle.prem_tiling.proofs.Prelude.{bytes_eq}
+use Rattle.prem_syntax.specs.Breaches.{assigns}
+use Rattle.prem_syntax.specs.Rules.{MarkedCall}
 use Rattle.prem_tiling.proofs.LawsLemmas.Calls.{renumbered_below, renumbered_above, above_first}
+use Rattle.prem_tiling.proofs.LawsLemmas.Formed.{none_left, none_right, none_both, kept_rule, kept_rule_not, loop_parts}
 use Rattle.prem_tiling.proofs.LawsLemmas.Terms.{with_functions, same_term, same_meaning}
+use Rattle.prem_syntax.specs.declared.rules.TypeRule.TheVariants as rule
 
 -- a rule on what a name means that no function and no unknown name keeps
 kept_meaning : (R : Meaning → List Breach) → ((n : ℕ) → R (FunctionName n) ≡ [] → ⊥) → (R Nothing ≡ [] → ⊥) →

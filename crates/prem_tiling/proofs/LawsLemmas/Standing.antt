@@ -1,25 +1,17 @@
 -- What the rules say of the function that is cut, and of its loop.
-use Rattle.std.specs.List.{list_any}
-use Rattle.std.proofs.Common.{◌≡◌, ℕ, ◌+◌, ◌<◌, Bool, true, false, not, ◌&&◌, ◌||◌, List, [], ◌∷◌, ◌++◌, length, refl, ap, sym, ◌∙◌, subst, Option, None, Some, eqb, leb, is_some}
-use Rattle.std.proofs.Common.{is_none, true≢false, IsTrue}
-use Rattle.std.proofs.lemmas.Bool.{and_parts, leb-true}
-use Rattle.prem_syntax.specs.declared.rules.TypeRule.TheVariants as rule
-use Rattle.prem_syntax.specs.Syntax.{Text, Expression, GlobalVariable, FunctionText, function_item, ProgramText}
-use Rattle.prem_syntax.specs.Resolve.{Scope, scope_at, scope_in, globals_of, functions_of}
-use Rattle.prem_syntax.specs.Rules.{Breach, NoJob, Twice, OfTypes, LoopForm}
-use Rattle.prem_syntax.specs.Reach.{is_in_set}
-use Rattle.prem_syntax.specs.Breaches.{Around, around, if_at, if_broken, is_job_name, is_marked_text, is_narrow, is_void, is_loop, in_names, in_expression, in_regions, regions_of}
-use Rattle.prem_syntax.specs.Breaches.{in_heading, in_parameters, in_locals, in_statement, in_statements, in_option, parameter_texts, in_function, in_items, item_names, in_limits}
-use Rattle.prem_syntax.specs.Breaches.{has_name, breaches, reached}
-use Rattle.prem_syntax.specs.ProgramRules.{first_breach, IsWellFormed}
-use Rattle.prem_tiling.specs.Shapes.Shape.{Loop, shape_of, marked_named}
-use Rattle.prem_tiling.specs.Shapes.Tiled.{Cut, tiled}
+use Rattle.prem_tiling.proofs.Prelude.{Around, around, if_at, if_broken, is_job_name, is_marked_text, is_narrow, is_void, is_loop, in_names, in_expression, in_regions, regions_of}
+use Rattle.prem_tiling.proofs.Prelude.{in_heading, in_parameters, in_locals, in_statement, in_statements, in_option, parameter_texts, in_function, in_items, item_names, in_limits, has_name}
+use Rattle.prem_tiling.proofs.Prelude.{breaches, reached, first_breach, IsWellFormed, is_in_set, Scope, scope_at, scope_in, globals_of, functions_of, Breach, NoJob, Twice, OfTypes, LoopForm}
+use Rattle.prem_tiling.proofs.Prelude.{Text, Expression, GlobalVariable, FunctionText, function_item, ProgramText, Loop, shape_of, marked_named, Cut, tiled, ◌≡◌, ℕ, ◌+◌, ◌<◌, Bool, true}
+use Rattle.prem_tiling.proofs.Prelude.{false, not, ◌&&◌, ◌||◌, List, [], ◌∷◌, ◌++◌, length, refl, ap, sym, ◌∙◌, subst, Option, None, Some, eqb, leb, is_some, is_none, true≢false, IsTrue}
+use Rattle.prem_tiling.proofs.Prelude.{and_parts, leb-true, list_any}
 use Rattle.prem_tiling.proofs.LawsLemmas.Formed.{none_left, none_right, kept_rule, kept_rule_not, none_broken, IsLoop, loop_parts}
-use Rattle.prem_tiling.proofs.LawsLemmas.Tied.{neither_left, neither_right, either_right}
-use Rattle.prem_tiling.proofs.LawsLemmas.Shapes.{IsShape, low_end, high_end, shape_parts, statement_of}
 use Rattle.prem_tiling.proofs.LawsLemmas.Lists.{names_of_functions, in_items_append, split_at}
 use Rattle.prem_tiling.proofs.LawsLemmas.Placed.{has_append, same_name, functions_unnamed, heading_of, not_earlier, later_apart}
 use Rattle.prem_tiling.proofs.LawsLemmas.Rules.{not_false}
+use Rattle.prem_tiling.proofs.LawsLemmas.Shapes.{IsShape, low_end, high_end, shape_parts, statement_of}
+use Rattle.prem_tiling.proofs.LawsLemmas.Tied.{neither_left, neither_right, either_right}
+use Rattle.prem_syntax.specs.declared.rules.TypeRule.TheVariants as rule
 
 is_none_means : {A : Type 0} (o : Option A) → IsTrue (is_none o) → o ≡ None
 is_none_means None e = refl

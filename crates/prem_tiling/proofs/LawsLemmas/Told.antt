@@ -1,21 +1,11 @@
 -- Where there is a program with tiles, the function could be cut.
-use Rattle.std.proofs.Common.{◌≡◌, ℕ, ◌≤◌, Bool, true, false, cond, List, [], ◌∷◌, refl, ap, sym, ◌∙◌, subst, Option, None, Some, Ok, Err, ltb}
-use Rattle.std.proofs.lemmas.Bool.{ltb-false}
-use Rattle.prem_syntax.specs.Syntax.{Text, FunctionText, ProgramText}
-use Rattle.prem_syntax.specs.Resolve.{functions_of, globals_of, number_named}
-use Rattle.prem_syntax.specs.Source.{source}
-use Rattle.prem_syntax.specs.Rules.{Breach}
-use Rattle.prem_syntax.specs.Breaches.{in_limits}
-use Rattle.prem_syntax.specs.ProgramRules.{IsWellFormed}
-use Rattle.prem_tiling.specs.Shapes.Shape.{Loop, marked_named, shape_of, turns_of}
-use Rattle.prem_tiling.specs.Shapes.Carried.{names_of, carried_in}
-use Rattle.prem_tiling.specs.Shapes.Tiled.{tiled, used_names, taken_from}
-use Rattle.prem_tiling.specs.Shapes.Tile.{limit, turns, Past, has_breach, is_past, unless_taken, unless_carried, cut_by, of_shape, of_function, tile}
-use Rattle.prem_tiling.specs.Laws.CanCut.{CanCut}
-use Rattle.prem_tiling.specs.Laws.Runs.{AreSame}
-use Rattle.prem_tiling.proofs.LawsLemmas.Tied.{neither_left}
-use Rattle.prem_tiling.proofs.LawsLemmas.Lists.{named_so}
+use Rattle.prem_tiling.proofs.Prelude.{in_limits, IsWellFormed, functions_of, globals_of, number_named, Breach, source, Text, FunctionText, ProgramText, CanCut, AreSame, names_of}
+use Rattle.prem_tiling.proofs.Prelude.{carried_in, Loop, marked_named, shape_of, turns_of, limit, turns, Past, has_breach, is_past, unless_taken, unless_carried, cut_by, of_shape}
+use Rattle.prem_tiling.proofs.Prelude.{of_function, tile, tiled, used_names, taken_from, ◌≡◌, ℕ, ◌≤◌, Bool, true, false, cond, List, [], ◌∷◌, refl, ap, sym, ◌∙◌, subst, Option, None, Some}
+use Rattle.prem_tiling.proofs.Prelude.{Ok, Err, ltb, ltb-false}
 use Rattle.prem_tiling.proofs.LawsLemmas.Law.{tiles_same}
+use Rattle.prem_tiling.proofs.LawsLemmas.Lists.{named_so}
+use Rattle.prem_tiling.proofs.LawsLemmas.Tied.{neither_left}
 
 -- how the program with tiles came about
 pub record Tiling (past : Past) (p : ProgramText) (name : Text) (tiles stated : ℕ) (q : ProgramText) : Type 0 where

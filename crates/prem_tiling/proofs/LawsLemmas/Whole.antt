@@ -1,27 +1,16 @@
 -- A program with tiles does what the program did.
-use Rattle.std.specs.Prelude.{slice_get}
-use Rattle.std.specs.Str.{bytes_eq}
-use Rattle.std.proofs.Common.{◌≡◌, ℕ, zero, suc, ◌+◌, ◌-◌, ◌<◌, ◌≤◌, Bool, true, false, cond, ◌||◌, List, [], ◌∷◌, ◌++◌, length, map, refl, ap, sym, ◌∙◌, subst, arith, Option}
-use Rattle.std.proofs.Common.{None, Some, option_map, IfSome, ◌⊎◌, inl, inr, ⊎_elim, true≢false}
-use Rattle.std.proofs.lemmas.List.{append-nil, length-map}
-use Rattle.std.proofs.lemmas.Bool.{cases_lt}
-use Rattle.std.proofs.lemmas.Slice.Eq.{bytes_eq-Decides}
-use Rattle.prem_syntax.specs.Syntax.{Text, GlobalVariable, FunctionText, global_item, function_item, ProgramText}
-use Rattle.prem_syntax.specs.Resolved.{Routine}
-use Rattle.prem_syntax.specs.Resolve.{find_named, find_function, number_named, resolve_function, resolve_items, loops_within, globals_of, functions_of}
-use Rattle.prem_syntax.specs.Reach.{is_in_set}
-use Rattle.prem_syntax.specs.Breaches.{is_void, in_function, in_items, in_global, item_names, has_name}
-use Rattle.prem_names.specs.Numbers.{number_of}
-use Rattle.prem_names.proofs.Firsts.{within_names}
-use Rattle.prem_tiling.specs.Shapes.Tiled.{Cut, tile_name, tile_of, tiles_from, function_with_tiles, tiled, used_names, taken_from}
-use Rattle.prem_tiling.specs.Laws.Runs.{renumbered}
-use Rattle.prem_tiling.proofs.LawsLemmas.Formed.{none_left, none_right}
+use Rattle.prem_tiling.proofs.Prelude.{within_names, number_of, is_void, in_function, in_items, in_global, item_names, has_name, is_in_set, find_named, find_function, number_named}
+use Rattle.prem_tiling.proofs.Prelude.{resolve_function, resolve_items, loops_within, globals_of, functions_of, Routine, Text, GlobalVariable, FunctionText, global_item, function_item}
+use Rattle.prem_tiling.proofs.Prelude.{ProgramText, renumbered, Cut, tile_name, tile_of, tiles_from, function_with_tiles, tiled, used_names, taken_from, ◌≡◌, ℕ, zero, suc, ◌+◌, ◌-◌, ◌<◌}
+use Rattle.prem_tiling.proofs.Prelude.{◌≤◌, Bool, true, false, cond, ◌||◌, List, [], ◌∷◌, ◌++◌, length, map, refl, ap, sym, ◌∙◌, subst, arith, Option, None, Some, option_map, IfSome, ◌⊎◌}
+use Rattle.prem_tiling.proofs.Prelude.{inl, inr, ⊎_elim, true≢false, cases_lt, append-nil, length-map, bytes_eq-Decides, slice_get, bytes_eq}
 use Rattle.prem_tiling.proofs.LawsLemmas.Alike.{Renamed}
 use Rattle.prem_tiling.proofs.LawsLemmas.Calls.{renumbered_below, renumbered_above, above_first}
-use Rattle.prem_tiling.proofs.LawsLemmas.Lists.{names_of_functions, or_behind, number_append, number_is, number_none, loops_of, functions_append, items_append, routines_count}
-use Rattle.prem_tiling.proofs.LawsLemmas.Lists.{function_any, in_items_append}
-use Rattle.prem_tiling.proofs.LawsLemmas.Placed.{has_not_left, flipped, same_name, used_not, item_of, tiled_append, plain_part, tiles_there, plain_functions, plain_globals}
-use Rattle.prem_tiling.proofs.LawsLemmas.Placed.{plain_names, tile_functions, functions_of_tiles, globals_of_tiles, tiles_count, tile_number, no_tile}
+use Rattle.prem_tiling.proofs.LawsLemmas.Formed.{none_left, none_right}
+use Rattle.prem_tiling.proofs.LawsLemmas.Lists.{names_of_functions, or_behind, number_append, number_is, number_none, loops_of, functions_append, items_append, routines_count, function_any}
+use Rattle.prem_tiling.proofs.LawsLemmas.Lists.{in_items_append}
+use Rattle.prem_tiling.proofs.LawsLemmas.Placed.{has_not_left, flipped, same_name, used_not, item_of, tiled_append, plain_part, tiles_there, plain_functions, plain_globals, plain_names}
+use Rattle.prem_tiling.proofs.LawsLemmas.Placed.{tile_functions, functions_of_tiles, globals_of_tiles, tiles_count, tile_number, no_tile}
 
 -- ---- finding and slicing
 

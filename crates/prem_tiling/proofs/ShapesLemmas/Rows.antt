@@ -1,20 +1,10 @@
 -- Programs and their tiles, computed; each stands below its text.
-use Rattle.std.specs.Prelude.{codes, pos, negsuc}
-use Rattle.std.specs.Fmt.{digits}
-use Rattle.std.proofs.Common.{◌≡◌, refl, ℕ, List, [], ◌∷◌, None, Some, Bool, true, false, Option, Result, Err}
-use Rattle.prem_word.specs.declared.kind.Kind.TheVariants.{Int}
-use Rattle.prem_word.specs.declared.kind.BinOp.TheVariants.{Add, Sub}
-use Rattle.prem_syntax.specs.declared.tree.Place.{Place}
-use Rattle.prem_syntax.specs.declared.tree.Ty.TheVariants.{Void, Int as IntTy}
-use Rattle.prem_syntax.specs.Syntax.{Text, Expression, literal, variable, element, binary, Statement, block, if_then, if_else, bounded_while, counting_for, assign, output, call}
-use Rattle.prem_syntax.specs.Syntax.{no_statements, absent, LocalVariable, RegionText, FunctionText, ItemText, ProgramText}
-use Rattle.prem_syntax.specs.Resolve.{functions_of}
+use Rattle.prem_tiling.proofs.Prelude.{functions_of, Text, Expression, literal, variable, element, binary, Statement, block, if_then, if_else, bounded_while, counting_for, assign, output}
+use Rattle.prem_tiling.proofs.Prelude.{call, no_statements, absent, LocalVariable, RegionText, FunctionText, ItemText, ProgramText, Place, Void, carried_in, Added, within, nothing}
+use Rattle.prem_tiling.proofs.Prelude.{elsewhere, added_in, Loop, shape_of, turns_of, marked_named, TileRule, no_function, shape, carry, turns, taken, tile, Cut, tiled, Add, Sub, Int, ◌≡◌}
+use Rattle.prem_tiling.proofs.Prelude.{refl, ℕ, List, [], ◌∷◌, None, Some, Bool, true, false, Option, Result, Err, digits, codes, pos, negsuc}
 use Rattle.prem_syntax.proofs.Samples.{at, statements, one_name, local, region, global, function, plain}
-use Rattle.prem_tiling.specs.Shapes.Shape.{Loop, shape_of, turns_of, marked_named}
-use Rattle.prem_tiling.specs.Shapes.Carried.{carried_in}
-use Rattle.prem_tiling.specs.Shapes.Narrowed.{Added, within, nothing, elsewhere, added_in}
-use Rattle.prem_tiling.specs.Shapes.Tiled.{Cut, tiled}
-use Rattle.prem_tiling.specs.Shapes.Tile.{TileRule, no_function, shape, carry, turns, taken, tile}
+use Rattle.prem_syntax.specs.declared.tree.Ty.TheVariants.{Int as IntTy}
 
 -- ---- short forms; all stands in one line, since tiles keep the places of the function
 

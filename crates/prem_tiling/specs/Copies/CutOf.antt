@@ -1,11 +1,9 @@
 -- Cuts in memory.
-use Rattle.std.specs.Prelude.{◌≡◌, ℕ, ◌≤◌, ◌<◌, ℤ, pos, map, Some}
-use Rattle.prem_syntax.specs.Syntax.{RegionText, MarkText}
-use Rattle.prem_syntax.specs.SyntaxOf.{function_of}
-use Rattle.prem_tiling.specs.Shapes.Shape.{Loop, shape_of, turns_of}
-use Rattle.prem_tiling.specs.Shapes.Narrowed.{added_in, narrowed}
-use Rattle.prem_tiling.specs.Shapes.Tiled.{Cut}
+use Rattle.prem_tiling.specs.Prelude.{RegionText, MarkText, function_of, ◌≡◌, ℕ, ◌≤◌, ◌<◌, ℤ, pos, map, Some}
 use Rattle.prem_tiling.specs.Copies.ShapeOf.{loop_in}
+use Rattle.prem_tiling.specs.Shapes.Narrowed.{added_in, narrowed}
+use Rattle.prem_tiling.specs.Shapes.Shape.{Loop, shape_of, turns_of}
+use Rattle.prem_tiling.specs.Shapes.Tiled.{Cut}
 use Rattle.prem_tiling.specs.declared.copies.cut.Cut.{Cut as CutTree}
 
 abbrev pub cut_in : CutTree → Cut

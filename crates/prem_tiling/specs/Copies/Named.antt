@@ -1,7 +1,5 @@
 -- Names that are looked for.
-use Rattle.std.specs.Prelude.{if◌then◌else◌, List, Option, None, Some}
-use Rattle.prem_syntax.specs.Syntax.{Text}
-use Rattle.prem_syntax.specs.Breaches.{has_name}
+use Rattle.prem_tiling.specs.Prelude.{has_name, Text, if◌then◌else◌, List, Option, None, Some}
 
 -- a name, where it is among others
 abbrev pub found_in : List Text → Text → Option Text

@@ -1,8 +1,8 @@
 -- Loops in memory.
 use Rattle.prem_syntax.specs.SyntaxOf.{loop_names_of, statement_of}
 use Rattle.prem_tiling.specs.Shapes.Shape.{Number, Loop}
-use Rattle.prem_tiling.specs.declared.copies.shape.Number.{Number as NumberTree}
 use Rattle.prem_tiling.specs.declared.copies.shape.Loop.{Loop as LoopTree}
+use Rattle.prem_tiling.specs.declared.copies.shape.Number.{Number as NumberTree}
 
 abbrev pub number_in : NumberTree → Number
 number_in n = record { at = n.at; value = n.value; kind = n.kind }

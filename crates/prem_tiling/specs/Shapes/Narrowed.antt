@@ -1,11 +1,9 @@
 -- Regions of a tile: where all accesses of a global follow the loop's variable, the elements that the tile's turns can reach.
-use Rattle.std.specs.Prelude.{ℕ, nat_le, ℤ, pos, neg_ℤ, ◌+ℤ◌, int_le, unsigned_abs, Bool, false, if◌then◌else◌, List, [], ◌∷◌, Option, None, Some}
-use Rattle.std.specs.Int.{int_min, int_max}
-use Rattle.std.specs.Str.{bytes_eq}
+use Rattle.prem_tiling.specs.Prelude.{Text, Expression, literal, variable, element, unary, binary, Statement, block, if_then, if_else, bounded_while, counting_for, assign, output, input}
+use Rattle.prem_tiling.specs.Prelude.{call, Statements, no_statements, next_statement, RegionText, int_min, int_max, ℕ, nat_le, ℤ, pos, neg_ℤ, ◌+ℤ◌, int_le, unsigned_abs, Bool, false}
+use Rattle.prem_tiling.specs.Prelude.{if◌then◌else◌, List, [], ◌∷◌, Option, None, Some, bytes_eq}
 use Rattle.prem_word.specs.declared.kind.BinOp.{BinOp}
 use Rattle.prem_word.specs.declared.kind.BinOp.TheVariants.{Add, Sub}
-use Rattle.prem_syntax.specs.Syntax.{Text, Expression, literal, variable, element, unary, binary, Statement, block, if_then, if_else, bounded_while, counting_for, assign, output}
-use Rattle.prem_syntax.specs.Syntax.{input, call, Statements, no_statements, next_statement, RegionText}
 
 -- what accesses of a global add to the loop's variable: there is none, or at least and at most so much, or some access has another index
 pub data Added : Type 0 where

@@ -1,12 +1,9 @@
 -- The program with tiles, or the first reason why there is none.
-use Rattle.std.specs.Prelude.{ℕ, nat_lt, Bool, true, false, ◌||◌, if◌then◌else◌, List, [], ◌∷◌, length, Option, None, Some, Result, Ok, Err}
-use Rattle.std.specs.List.{list_any}
-use Rattle.prem_syntax.specs.Syntax.{Text, FunctionText, ProgramText}
-use Rattle.prem_syntax.specs.Resolve.{functions_of, globals_of}
-use Rattle.prem_syntax.specs.Breaches.{in_limits}
+use Rattle.prem_tiling.specs.Prelude.{in_limits, functions_of, globals_of, Text, FunctionText, ProgramText, list_any, ℕ, nat_lt, Bool, true, false, ◌||◌, if◌then◌else◌, List, [], ◌∷◌}
+use Rattle.prem_tiling.specs.Prelude.{length, Option, None, Some, Result, Ok, Err}
 use Rattle.prem_syntax.specs.Rules.{Breach}
-use Rattle.prem_tiling.specs.Shapes.Shape.{Loop, marked_named, shape_of, turns_of}
 use Rattle.prem_tiling.specs.Shapes.Carried.{names_of, carried_in}
+use Rattle.prem_tiling.specs.Shapes.Shape.{Loop, marked_named, shape_of, turns_of}
 use Rattle.prem_tiling.specs.Shapes.Tiled.{Cut, tile_names, tiled, used_names, taken_from}
 
 -- why a function can't be cut; the lines are those of the function and of the first read of a carried local

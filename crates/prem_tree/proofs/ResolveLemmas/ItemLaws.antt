@@ -53,9 +53,6 @@ AreRoutines_function rs r fs items f hs h = record {
   counted = all_loops-append rs r ∙ rw (item_loops-append, hs.counted, h.counted) (omega arith);
 }
 
-AreRoutines_none : (rs : List RoutineTree) (fs : List FunctionText) → rs ≡ [] → AreRoutines rs fs []
-AreRoutines_none rs fs e = record { same = λ turns n. ap (routines_of turns n) e; counted = ap all_loops e }
-
 -- behind one more global, and behind one more function
 pub AreBehind_global : (old new : Scope) (rs qs : List RoutineTree) (fs : List FunctionText) (items : ProgramText) (g : GlobalVariable) →
     new.functions ≡ old.functions → new.globals ≡ old.globals ++ g ∷ [] → qs ≡ rs → AreBehind old rs fs items → AreBehind new qs fs (items ++ global_item g ∷ [])
@@ -72,6 +69,3 @@ AreBehind_function old new rs qs r fs items f es er hr h = record {
   globals_are = es.globals ∙ h.globals_are ∙ sym (append-nil (globals_of items)) ∙ sym (globals_of-append items (function_item f ∷ []));
   routines_are = rw er (AreRoutines_function rs r fs items f h.routines_are (rw (h.functions_are, h.globals_are) at hr));
 }
-
-AreBehind_none : (names : Scope) (rs : List RoutineTree) (fs : List FunctionText) → names.functions ≡ fs → names.globals ≡ [] → rs ≡ [] → AreBehind names rs fs []
-AreBehind_none names rs fs ef eg er = record { functions_are = ef; globals_are = eg; routines_are = AreRoutines_none rs fs er }

@@ -1,21 +1,17 @@
 -- What steps that are made of others stand for.
 use Rattle.std.specs.Option.{option_map}
-use Rattle.std.specs.declared.boxed.Box.{Box}
-use Rattle.std.specs.declared.alloc.Global.{Global}
-use Rattle.std.proofs.Common.{◌≡◌, ℕ, ◌+◌, List, [], ◌∷◌, ◌++◌, ap, ◌∙◌, arith, Bool, sym, length, take, get_or, ◌<◌, Bor, Option, map}
+use Rattle.std.proofs.Common.{◌≡◌, ℕ, ◌+◌, List, [], ◌∷◌, ◌++◌, ap, ◌∙◌, arith, sym, length, take, get_or, ◌<◌, Bor, Option, map}
 use Rattle.std.proofs.lemmas.List.{take_more}
 use Rattle.prem_list.specs.declared.Sequence.{Sequence}
 use Rattle.prem_list.specs.Sequence.{items_of}
-use Rattle.prem_syntax.specs.declared.tree.Place.{Place}
 use Rattle.prem_syntax.specs.declared.tree.Function.{Function}
 use Rattle.prem_syntax.specs.declared.tree.Stmt.{Stmt}
 use Rattle.prem_syntax.specs.Syntax.{GlobalVariable, FunctionText}
 use Rattle.prem_syntax.specs.SyntaxOf.{function_of, statement_of, statements_of}
-use Rattle.prem_syntax.specs.Resolved.{Steps, Done, If, For, While}
+use Rattle.prem_syntax.specs.Resolved.{Steps, Done}
 use Rattle.prem_syntax.specs.Resolve.{scope_at, scope_in, resolve_locals, resolve_term, Scope, loops_in, loops_within, resolve_statement, resolve_statements}
 use Rattle.prem_tree.specs.declared.resolve.resolved.Term.{Term as TermTree}
 use Rattle.prem_tree.specs.declared.resolve.resolved.Step.{Step, Block}
-use Rattle.prem_tree.specs.declared.resolve.resolved.Step.TheVariants.{If as IfTree, For as ForTree, While as WhileTree}
 use Rattle.prem_tree.specs.Resolve.ResolvedOf.{term_of, loops_of, list_loops, step_before, list_before, IsStep, AreSteps, IsRoutine}
 use Rattle.prem_tree.proofs.ResolveLemmas.StepRows.{step_before-Block, loops_of-Block}
 
@@ -47,21 +43,6 @@ AreSteps_push ss s f g j k hs h = record {
   same = λ turns n rest. list_before-append turns n ss (s ∷ []) rest ∙ rw (hs.same turns n (step_before turns (n + list_loops ss) s rest), h.same turns (n + list_loops ss) rest, hs.counted);
   counted = list_loops-append ss (s ∷ []) ∙ rw (hs.counted, h.counted) (omega arith);
 }
-
-IsStep_if : (at : Place) (c : TermTree) (taken other : Box Step Global) (f g : (ℕ → ℕ) → ℕ → Steps → Steps) (j k : ℕ) → IsStep taken.value f j → IsStep other.value g k →
-    IsStep (IfTree at c taken other) (λ turns n rest. If at (term_of c) (f turns n Done) (g turns (n + j) Done) rest) (j + k)
-IsStep_if at c taken other f g j k t o = record {
-  same = λ turns n rest. rw (t.same turns n Done, o.same turns (n + loops_of taken.value) Done, t.counted);
-  counted = rw (t.counted, o.counted);
-}
-
-IsStep_while : (at : Place) (most : ℕ) (c : TermTree) (body : Box Step Global) (f : (ℕ → ℕ) → ℕ → Steps → Steps) (j : ℕ) → IsStep body.value f j →
-    IsStep (WhileTree at most c body) (λ turns n rest. While at most (term_of c) (f turns n Done) rest) j
-IsStep_while at most c body f j h = record { same = λ turns n rest. rw (h.same turns n Done); counted = h.counted }
-
-IsStep_for : (at : Place) (k : ℕ) (low : TermTree) (closed : Bool) (high : TermTree) (step : ℕ) (body : Box Step Global) (f : (ℕ → ℕ) → ℕ → Steps → Steps) (j : ℕ) → IsStep body.value f j →
-    IsStep (ForTree at k low closed high step body) (λ turns n rest. For at k (term_of low) closed (term_of high) step (turns n) (f turns (n + 1) Done) rest) (1 + j)
-IsStep_for at k low closed high step body f j h = record { same = λ turns n rest. rw (h.same turns (n + 1) Done); counted = ap (λ i. 1 + i) h.counted }
 
 resolve_statements-push : (scope : Scope) (turns : ℕ → ℕ) (n : ℕ) (xs : List Stmt) (x : Stmt) (rest : Steps) →
     resolve_statements scope turns n (statements_of (xs ++ x ∷ [])) rest

@@ -1,15 +1,9 @@
-use Rattle.std.specs.Prelude.{All, IsTrue, is_none}
-use Rattle.std.proofs.Common.{◌≡◌, Option, None, refl, ap, ◌∙◌, ◌<◌, ◌^◌, ℕ, sym, subst}
-use Rattle.prem_syntax.specs.SyntaxOf.{program_of}
-use Rattle.prem_syntax.specs.Literals.{ProgramHasWords}
-use Rattle.prem_syntax.specs.ProgramRules.{IsWellFormed}
-use Rattle.prem_tree.specs.Checked.{checked_program}
-use Rattle.prem_ranges.specs.RangesKept.{first_range_breach, turn_bounds, StaysInRange}
-use Rattle.prem_ranges.proofs.AnalysisSound.{turns_are_words}
-use Rattle.prem_analysis.specs.declared.ranging.found.Broken.{Broken}
-use Rattle.prem_analysis.specs.Ranging.View.{breach_of, found_of}
+use Rattle.prem_analysis.proofs.Prelude.{breach_of, found_of, turns_are_words, first_range_breach, turn_bounds, StaysInRange, ProgramHasWords, IsWellFormed, program_of, ◌≡◌, Option, None}
+use Rattle.prem_analysis.proofs.Prelude.{refl, ap, ◌∙◌, ◌<◌, ◌^◌, ℕ, sym, subst, All, IsTrue, is_none}
 use Rattle.prem_analysis.proofs.Bounded.{all_below}
 use Rattle.prem_analysis.proofs.Counts.{told_named}
+use Rattle.prem_analysis.specs.declared.ranging.found.Broken.{Broken}
+use Rattle.prem_tree.specs.Checked.{checked_program}
 use Rattle.prem_analysis.proofs.analysing.bounds_of.Goals as goal
 
 pub told-requires : goal.told-requires

@@ -1,13 +1,5 @@
-use Rattle.std.specs.Prelude.{slice_get}
-use Rattle.std.specs.Option.{option_map}
-use Rattle.std.proofs.Common.{ap, ◌∙◌, map, drop, Option, arith, ◌+◌}
-use Rattle.prem_syntax.specs.SyntaxOf.{parameter_of}
-use Rattle.prem_tree.specs.Resolve.ResolvedOf.{term_of}
-use Rattle.prem_ranges.specs.RangeRules.{RangeBreach, first, first_of}
-use Rattle.prem_ranges.specs.RangeBreaches.{in_arguments, in_term}
-use Rattle.prem_analysis.specs.Ranging.View.{env_of, found_of}
-use Rattle.prem_analysis.specs.Ranging.SiteOf.{site_of}
-use Rattle.prem_analysis.specs.Arms.{in_given}
+use Rattle.prem_analysis.proofs.Prelude.{in_given, site_of, env_of, found_of, in_arguments, in_term, RangeBreach, first, first_of, parameter_of, term_of, ap, ◌∙◌, map, drop, Option, arith}
+use Rattle.prem_analysis.proofs.Prelude.{◌+◌, option_map, slice_get}
 use Rattle.prem_analysis.proofs.Arguments.{next_argument}
 use Rattle.prem_analysis.proofs.call.in_arguments.Goals as goal
 

@@ -1,10 +1,4 @@
-use Rattle.std.specs.Int.{w64}
-use Rattle.std.proofs.Common.{◌≡◌, ap, ◌∙◌, arith, to_z, of_z}
-use Rattle.std.proofs.lemmas.Int.{ints}
-use Rattle.prem_word.specs.Ranges.{Span}
-use Rattle.prem_ranges.specs.Environment.{at_local, with_range}
-use Rattle.prem_ranges.specs.After.{body_range}
-use Rattle.prem_analysis.specs.Ranging.View.{span_of, env_of}
+use Rattle.prem_analysis.proofs.Prelude.{span_of, env_of, body_range, at_local, with_range, Span, ◌≡◌, ap, ◌∙◌, arith, to_z, of_z, ints, w64}
 use Rattle.prem_analysis.proofs.InPlace.{set_again}
 use Rattle.prem_analysis.proofs.loops.enter_body.Goals as goal
 

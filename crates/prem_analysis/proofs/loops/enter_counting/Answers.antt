@@ -1,19 +1,5 @@
-use Rattle.std.specs.Int.{w64}
-use Rattle.std.proofs.Common.{◌≡◌, List, ap, ◌∙◌, ◌∷◌, arith, to_z, of_z}
-use Rattle.std.proofs.lemmas.Int.{ints}
-use Rattle.prem_tree.specs.Resolve.ResolvedOf.{term_of}
-use Rattle.prem_ranges.specs.Environment.{at_local, with_range}
-use Rattle.prem_ranges.specs.RangeOf.{range_of}
-use Rattle.prem_ranges.specs.RangeRules.{first_of}
-use Rattle.prem_ranges.specs.RangeBreaches.{in_counting_loop}
-use Rattle.prem_ranges.specs.After.{turn_bound, body_range, range_behind}
-use Rattle.prem_ranges.specs.Saves.Saves.{saved_few}
-use Rattle.prem_analysis.specs.declared.ranging.found.Known.{Known}
-use Rattle.prem_analysis.specs.Ranging.View.{span_of, env_of, found_of, saves_of}
-use Rattle.prem_analysis.specs.Ranging.SiteOf.{site_of}
-use Rattle.prem_analysis.specs.Ranging.Plain.{plain}
-use Rattle.prem_analysis.specs.Ranging.Targets.{targets}
-use Rattle.prem_analysis.specs.Seen.{seen_of}
+use Rattle.prem_analysis.proofs.Prelude.{plain, site_of, targets, span_of, env_of, found_of, saves_of, seen_of, Known, turn_bound, body_range, range_behind, at_local, with_range}
+use Rattle.prem_analysis.proofs.Prelude.{in_counting_loop, range_of, first_of, saved_few, term_of, ◌≡◌, List, ap, ◌∙◌, ◌∷◌, arith, to_z, of_z, ints, w64}
 use Rattle.prem_analysis.proofs.Heads.{head, body_known, behind_saved, head_seen}
 use Rattle.prem_analysis.proofs.loops.enter_counting.Goals as goal
 

@@ -1,9 +1,4 @@
-use Rattle.std.specs.Borrow.{Bor}
-use Rattle.std.proofs.Common.{List, ap, ◌∙◌, [], None, ℕ}
-use Rattle.prem_syntax.specs.declared.tree.Global.{Global}
-use Rattle.prem_tree.specs.declared.resolve.resolved.Routine.{Routine}
-use Rattle.prem_analysis.specs.Seen.{Seen}
-use Rattle.prem_analysis.specs.Functions.{site_at, behind_routines}
+use Rattle.prem_analysis.proofs.Prelude.{site_at, behind_routines, Seen, Global, Routine, List, ap, ◌∙◌, [], None, ℕ, Bor}
 use Rattle.prem_analysis.proofs.Behind.{seen}
 use Rattle.prem_analysis.proofs.Programs.{program_seen}
 use Rattle.prem_analysis.proofs.program.see_program.Goals as goal

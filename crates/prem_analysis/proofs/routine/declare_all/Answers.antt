@@ -1,12 +1,6 @@
-use Rattle.std.proofs.Common.{List, map, drop, ap, arith}
-use Rattle.std.proofs.lemmas.List.{drop_all}
-use Rattle.prem_syntax.specs.SyntaxOf.{local_of}
-use Rattle.prem_tree.specs.declared.resolve.resolved.Term.{Term}
-use Rattle.prem_tree.specs.Resolve.ResolvedOf.{term_of}
-use Rattle.prem_analysis.specs.Ranging.View.{env_of}
-use Rattle.prem_analysis.specs.Ranging.SiteOf.{site_of}
-use Rattle.prem_analysis.specs.Seen.{seen_of}
+use Rattle.prem_analysis.proofs.Prelude.{site_of, env_of, seen_of, local_of, term_of, List, map, drop, ap, arith, drop_all}
 use Rattle.prem_analysis.proofs.Behind.{declared_next, no_terms}
+use Rattle.prem_tree.specs.declared.resolve.resolved.Term.{Term}
 use Rattle.prem_analysis.proofs.routine.declare_all.Goals as goal
 
 pub loop-i-preserved : goal.loop-i-preserved

@@ -1,7 +1,4 @@
-use Rattle.std.proofs.Common.{drop}
-use Rattle.prem_analysis.specs.Ranging.View.{env_of}
-use Rattle.prem_analysis.specs.Ranging.SiteOf.{site_of}
-use Rattle.prem_analysis.specs.Seen.{seen_of}
+use Rattle.prem_analysis.proofs.Prelude.{site_of, env_of, seen_of, drop}
 use Rattle.prem_analysis.proofs.Behind.{Walking}
 use Rattle.prem_analysis.proofs.steps.+walking.Given as goal
 

@@ -1,9 +1,6 @@
-use Rattle.std.proofs.Common.{map, drop, arith}
-use Rattle.prem_syntax.specs.SyntaxOf.{global_of, function_of}
-use Rattle.prem_tree.specs.declared.resolve.resolved.Routine.{Routine}
-use Rattle.prem_annotate.specs.Ranges.Outlook.{outlook_of}
-use Rattle.prem_annotate.specs.Notes.{notes_of, all_notes_found}
+use Rattle.prem_annotate.proofs.Prelude.{notes_of, all_notes_found, outlook_of, global_of, function_of, map, drop, arith}
 use Rattle.prem_annotate.proofs.Noted.{notes_end}
+use Rattle.prem_tree.specs.declared.resolve.resolved.Routine.{Routine}
 use Rattle.prem_annotate.proofs.notes.all_notes.Goals as goal
 
 pub returns-then-n-outlooks : goal.returns-then-n-outlooks

@@ -1,7 +1,4 @@
-use Rattle.std.proofs.Common.{◌≡◌, ◌++◌, map, drop}
-use Rattle.prem_syntax.specs.SyntaxOf.{global_of, function_of}
-use Rattle.prem_annotate.specs.Ranges.Outlook.{outlook_of}
-use Rattle.prem_annotate.specs.Notes.{notes_of, all_notes_found}
+use Rattle.prem_annotate.proofs.Prelude.{notes_of, all_notes_found, outlook_of, global_of, function_of, ◌≡◌, ◌++◌, map, drop}
 use Rattle.prem_annotate.proofs.notes.all_notes.Given as goal
 
 abbrev pub invariant-loop-n : goal.invariant-loop-n

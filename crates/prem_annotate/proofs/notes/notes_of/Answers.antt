@@ -1,5 +1,4 @@
-use Rattle.prem_syntax.specs.SyntaxOf.{program_of}
-use Rattle.prem_analysis.proofs.Programs.{all_ranged}
+use Rattle.prem_annotate.proofs.Prelude.{all_ranged, program_of}
 use Rattle.prem_annotate.proofs.notes.notes_of.Goals as goal
 
 pub notes_of_resolved-requires : goal.notes_of_resolved-requires

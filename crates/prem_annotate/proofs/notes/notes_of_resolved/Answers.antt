@@ -1,12 +1,6 @@
-use Rattle.std.proofs.Common.{map, List, ap, ◌∙◌}
-use Rattle.prem_syntax.specs.SyntaxOf.{global_of, function_of}
-use Rattle.prem_tree.specs.declared.resolve.resolved.Routine.{Routine}
-use Rattle.prem_analysis.specs.Marks.Called.{called}
-use Rattle.prem_analysis.specs.Functions.{plain_routine}
-use Rattle.prem_annotating.specs.Inferred.{ranged_routines}
-use Rattle.prem_annotate.specs.Ranges.Outlook.{outlook_of, outlook}
-use Rattle.prem_annotate.specs.Notes.{notes_of, all_notes_found}
+use Rattle.prem_annotate.proofs.Prelude.{plain_routine, called, notes_of, all_notes_found, outlook_of, outlook, ranged_routines, global_of, function_of, map, List, ap, ◌∙◌}
 use Rattle.prem_annotate.proofs.Noted.{resolved_noted}
+use Rattle.prem_tree.specs.declared.resolve.resolved.Routine.{Routine}
 use Rattle.prem_annotate.proofs.notes.notes_of_resolved.Goals as goal
 
 pub returns : goal.returns

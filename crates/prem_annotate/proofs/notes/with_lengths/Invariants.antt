@@ -1,6 +1,5 @@
+use Rattle.prem_annotate.proofs.Prelude.{notes_of, lengthened, length_at, ◌≡◌, ◌++◌, ◌+◌, map, length}
 use Rattle.std.specs.Vec.Iter.{into_iter_items}
-use Rattle.std.proofs.Common.{◌≡◌, ◌++◌, ◌+◌, map, length}
-use Rattle.prem_annotate.specs.Notes.{notes_of, lengthened, length_at}
 use Rattle.prem_annotate.proofs.notes.with_lengths.Given as goal
 
 abbrev pub invariant-loop-one : goal.invariant-loop-one

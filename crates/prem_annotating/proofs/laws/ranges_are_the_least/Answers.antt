@@ -1,5 +1,5 @@
-use Rattle.prem_annotating.proofs.Ranges.{ranges_are_inferred, ranges_are_least}
 use Rattle.prem_annotating.proofs.Calls.{new_ranges_hold}
+use Rattle.prem_annotating.proofs.Ranges.{ranges_are_inferred, ranges_are_least}
 use Rattle.prem_annotating.proofs.laws.ranges_are_the_least.Goals as goal
 
 pub returns : goal.returns

@@ -1,20 +1,9 @@
 -- A cycle in which an instruction issues alone.
-use Rattle.std.specs.Prelude.{◌&&◌, ◌==◌}
-use Rattle.std.proofs.Common.{◌≡◌, ℕ, zero, suc, Bool, true, false, List, [], ◌∷◌, refl, ap, ◌∙◌}
-use Rattle.std.proofs.lemmas.Bool.Decides.{nat_tests}
-use Rattle.std.proofs.Common.{arith}
-use Rattle.prem_sched.specs.declared.sched.TaskJobs.{TaskJobs}
-use Rattle.prem_isa.specs.declared.effect.Change.{Change}
-use Rattle.prem_isa.specs.declared.effect.Change.TheVariants.{Stay, Memory, Execute, End, Job}
-use Rattle.prem_lru.specs.Entries.{ReplacementRule}
-use Rattle.prem_gate.specs.declared.request.Request.{Request}
-use Rattle.prem_gate.specs.declared.bus.CoreWant.TheVariants.{No}
-use Rattle.prem_gate.specs.Gates.{Turned, bus_turn, wants}
-use Rattle.prem_cycle.specs.State.{Setup, Work, CoreState, MachineState}
-use Rattle.prem_cycle.specs.Core.{is_empty, want_of, CoreMove, Issues, move_running, move_in, move_of, core_turn}
-use Rattle.prem_cycle.specs.Cycle.{Arrivals, arrivals_at, bus_at, with_memory, with_clash, move_at, core_at, joined, ticked, cycle_of}
-use Rattle.prem_cycle.specs.Runs.Dull.Issuing.{continues, idle_turn, IssuesAlone, issue_joined, issue_cycle}
+use Rattle.prem_cycle.proofs.Prelude.{is_empty, want_of, CoreMove, Issues, move_running, move_in, move_of, core_turn, Arrivals, arrivals_at, bus_at, with_memory, with_clash, move_at}
+use Rattle.prem_cycle.proofs.Prelude.{core_at, joined, ticked, cycle_of, Setup, Work, CoreState, MachineState, Turned, bus_turn, wants, No, Request, Change, Stay, Memory, Execute, End, Job}
+use Rattle.prem_cycle.proofs.Prelude.{ReplacementRule, TaskJobs, ◌≡◌, ℕ, zero, suc, Bool, true, false, List, [], ◌∷◌, refl, ap, ◌∙◌, arith, nat_tests, ◌&&◌, ◌==◌}
 use Rattle.prem_cycle.proofs.RunsLemmas.DullLemmas.Stretch.{none_arrives}
+use Rattle.prem_cycle.specs.Runs.Dull.Issuing.{continues, idle_turn, IssuesAlone, issue_joined, issue_cycle}
 
 both_true : (a b : Bool) → (a && b) ≡ true → (a ≡ true) × (b ≡ true)
 both_true true true e = (refl, refl)

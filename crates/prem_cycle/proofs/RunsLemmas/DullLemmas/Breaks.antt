@@ -1,38 +1,18 @@
 -- A dull cycle rests: what else a cycle may do changes more than the numbers that count.
-use Rattle.std.specs.Prelude.{is_some, nat_le, nat_lt, slice_set, ◌/◌, not, ◌||◌, ◌&&◌, ◌==◌}
-use Rattle.std.proofs.Common.{◌≡◌, ◌≢◌, ℕ, zero, suc, ◌+◌, ◌-◌, ◌<◌, ◌≤◌, Bool, true, false, cond, List, [], ◌∷◌, Option, Some, None, refl, ap, sym, ◌∙◌, subst, arith, length}
-use Rattle.std.proofs.lemmas.Bool.Decides.{nat_tests}
-use Rattle.prem_sched.specs.declared.sched.Choice.{Choice}
-use Rattle.prem_sched.specs.declared.sched.Choice.TheVariants.{Run, Idle as Rest, Finished}
-use Rattle.prem_sched.specs.Schedule.{Before, choice, first_ready, least_release, rest, run_or}
-use Rattle.prem_sched.proofs.Choices.{least_later}
-use Rattle.prem_isa.specs.declared.effect.Access.{Access}
-use Rattle.prem_isa.specs.declared.effect.Stored.{Stored}
-use Rattle.prem_isa.specs.declared.effect.Phase.{Phase}
-use Rattle.prem_isa.specs.declared.effect.Change.{Change}
-use Rattle.prem_isa.specs.declared.effect.Change.TheVariants.{Stay, Memory, Execute, End, Job}
-use Rattle.prem_isa.specs.Plain.{with_last}
-use Rattle.prem_lru.specs.Entries.{ReplacementRule}
-use Rattle.prem_lru.specs.CacheState.{Touched, touch_of}
-use Rattle.prem_gate.specs.declared.request.Request.{Request}
-use Rattle.prem_gate.specs.declared.bus.Window.{Window}
-use Rattle.prem_gate.specs.declared.bus.CoreWant.TheVariants.{New, Held}
-use Rattle.prem_gate.specs.Gates.{Turned, wants, with_carried}
-use Rattle.prem_gate.specs.Stretch.{transfer_left, with_transfer, StaysAbove, lesser}
-use Rattle.prem_cycle.specs.declared.state.Mode.{Mode}
-use Rattle.prem_cycle.specs.declared.state.Mode.TheVariants.{Point, Switching, Running, Idle}
-use Rattle.prem_cycle.specs.declared.state.Interval.{Interval}
-use Rattle.prem_cycle.specs.State.{Setup, Work, Task, Debt, CoreState, Counts, MachineState, record_of, task_in}
-use Rattle.prem_cycle.specs.Issue.{Attempt, Traps, Executes, attempt_behind, LineTouch, one_if, with_touch, with_touches, with_store, issued_with, issued_by, task_after}
-use Rattle.prem_cycle.specs.Core.{is_empty, is_paid, want_of, with_cost, paid_on_bus, core_pay, CoreMove, Passes, Issues, begin_switch, begin_idle, move_chosen, move_running}
-use Rattle.prem_cycle.specs.Core.{move_in, phase_in, core_issue, core_turn}
-use Rattle.prem_cycle.specs.Cycle.{Arrivals, with_memory, with_clash, move_at, core_at, joined, settle, with_now, next_cycle, ticked, cycle_with, close_interval, at_point}
-use Rattle.prem_cycle.specs.Cycle.{ends_before, is_finish, is_finished, is_finished_in, is_full}
+use Rattle.prem_cycle.proofs.Prelude.{is_empty, is_paid, want_of, with_cost, paid_on_bus, core_pay, CoreMove, Passes, Issues, begin_switch, begin_idle, move_chosen, move_running, move_in}
+use Rattle.prem_cycle.proofs.Prelude.{phase_in, core_issue, core_turn, Arrivals, with_memory, with_clash, move_at, core_at, joined, settle, with_now, next_cycle, ticked, cycle_with}
+use Rattle.prem_cycle.proofs.Prelude.{close_interval, at_point, ends_before, is_finish, is_finished, is_finished_in, is_full, Attempt, Traps, Executes, attempt_behind, LineTouch, one_if}
+use Rattle.prem_cycle.proofs.Prelude.{with_touch, with_touches, with_store, issued_with, issued_by, task_after, transaction_left, switch_left, with_transaction, with_switch, OnlyCounts}
+use Rattle.prem_cycle.proofs.Prelude.{bus_rest, idle_rest, running_rest, mode_rest, core_rest, Within, IsSteady, Setup, Work, Task, Debt, CoreState, Counts, MachineState, record_of, task_in}
+use Rattle.prem_cycle.proofs.Prelude.{Interval, Mode, Point, Switching, Running, Idle, Turned, wants, with_carried, transfer_left, with_transfer, StaysAbove, lesser, New, Held, Window}
+use Rattle.prem_cycle.proofs.Prelude.{Request, with_last, Access, Change, Stay, Memory, Execute, End, Job, Phase, Stored, Touched, touch_of, ReplacementRule, least_later, Before, choice}
+use Rattle.prem_cycle.proofs.Prelude.{first_ready, least_release, rest, run_or, Choice, Run, Finished, ◌≡◌, ◌≢◌, ℕ, zero, suc, ◌+◌, ◌-◌, ◌<◌, ◌≤◌, Bool, true, false, cond, List, [], ◌∷◌}
+use Rattle.prem_cycle.proofs.Prelude.{Option, Some, None, refl, ap, sym, ◌∙◌, subst, arith, length, nat_tests, is_some, nat_le, nat_lt, slice_set, not, ◌||◌, ◌&&◌, ◌==◌}
 use Rattle.prem_cycle.proofs.CycleParts.{cycle_trapped}
-use Rattle.prem_cycle.proofs.Time.{goes_untrapped}
-use Rattle.prem_cycle.specs.Runs.Dull.Dull.{transaction_left, switch_left, with_transaction, with_switch, OnlyCounts}
-use Rattle.prem_cycle.specs.Runs.Dull.Rest.{bus_rest, idle_rest, running_rest, mode_rest, core_rest, Within, IsSteady}
 use Rattle.prem_cycle.proofs.RunsLemmas.DullLemmas.Steps.{want_by, both_within}
+use Rattle.prem_cycle.proofs.Time.{goes_untrapped}
+use Rattle.prem_sched.specs.declared.sched.Choice.TheVariants.{Idle as Rest}
+use Rattle.std.specs.Prelude.{◌/◌}
 
 -- ---- what settling leaves
 
@@ -228,11 +208,6 @@ paid_shows m ns begun cost q is same left = by_last begun (nat_le m 1) refl is s
       let n = ap length (sym e ∙ left) in absurd (omega (arith, n))
   by_last false false last is same left =
       let e : q.begun ≡ true = ap (λ (x : Debt). x.begun) is ∙ rw last refl in absurd (cc)
-
--- ---- what the move is
-
-abbrev parts : MachineState → Work
-parts s = s.work
 
 pub move_wanting : (p : Setup) (b : Turned) (s : MachineState) → wants (want_of s.core.debt) ≡ true → move_at p b s ≡ Passes (core_pay b.turn.core s.core)
 move_wanting p b s is = rw is refl

@@ -1,35 +1,17 @@
 -- Dull cycles rest.
-use Rattle.std.specs.Prelude.{is_some, nat_lt, ◌||◌, ◌&&◌}
-use Rattle.std.proofs.Common.{◌≡◌, ℕ, zero, suc, ◌+◌, ◌-◌, ◌<◌, ◌≤◌, Bool, true, false, List, [], ◌∷◌, Option, Some, None, refl, ap, sym, ◌∙◌, subst, arith, length, ⊎_elim, ◌⊎◌, inl, inr}
-use Rattle.std.proofs.lemmas.Bool.Decides.{nat_tests}
-use Rattle.std.proofs.lemmas.List.{length_push}
-use Rattle.prem_isa.specs.Plain.{with_last}
-use Rattle.prem_isa.specs.declared.effect.Change.{Change}
-use Rattle.prem_isa.specs.declared.effect.Change.TheVariants.{Stay, Memory, Execute, End, Job}
-use Rattle.prem_lru.specs.Entries.{ReplacementRule}
-use Rattle.prem_gate.specs.declared.request.Request.{Request}
-use Rattle.prem_gate.specs.declared.bus.Transfer.{Transfer}
-use Rattle.prem_gate.specs.declared.bus.Carried.{Carried}
-use Rattle.prem_gate.specs.declared.bus.Window.{Window}
-use Rattle.prem_gate.specs.declared.bus.CoreWant.{CoreWant}
-use Rattle.prem_gate.specs.declared.bus.CoreWant.TheVariants.{No, New, Held}
-use Rattle.prem_gate.specs.Gates.{GatesState, Turned, bus_turn, wants, is_held, with_carried}
-use Rattle.prem_gate.specs.Stretch.{AreQuiet, BusRun, lesser, takes_up, is_new, has_changed, transfer_left, with_transfer, bus_run, changes, changes_behind}
-use Rattle.prem_gate.proofs.Quiet.{carried_run, quiet_carried, held_passed, free_passed, changes_same, held_has}
-use Rattle.prem_cycle.specs.declared.state.Mode.{Mode}
-use Rattle.prem_cycle.specs.declared.state.Mode.TheVariants.{Point, Switching, Running, Idle}
-use Rattle.prem_cycle.specs.declared.state.Interval.{Interval}
-use Rattle.prem_cycle.specs.State.{Setup, CoreState, MachineState}
-use Rattle.prem_cycle.specs.Core.{want_of, with_cost, core_pay, Passes}
-use Rattle.prem_cycle.specs.Cycle.{Arrivals, arrivals_at, bus_at, with_now, move_at, cycle_with}
+use Rattle.prem_cycle.proofs.Prelude.{want_of, with_cost, core_pay, Passes, Arrivals, arrivals_at, bus_at, with_now, move_at, cycle_with, OnlyCounts, IsDull, AreDull, bus_rest, idle_rest}
+use Rattle.prem_cycle.proofs.Prelude.{running_rest, mode_rest, core_rest, Within, transactions_passed, mode_passed, core_passed, passed, Rests, IsSteady, Setup, CoreState, MachineState}
+use Rattle.prem_cycle.proofs.Prelude.{Interval, Mode, Point, Switching, Running, Idle, carried_run, quiet_carried, held_passed, free_passed, changes_same, held_has, GatesState, Turned}
+use Rattle.prem_cycle.proofs.Prelude.{bus_turn, wants, is_held, with_carried, AreQuiet, BusRun, lesser, takes_up, is_new, has_changed, transfer_left, with_transfer, bus_run, changes}
+use Rattle.prem_cycle.proofs.Prelude.{changes_behind, Carried, CoreWant, No, New, Held, Transfer, Window, Request, with_last, Change, Stay, Memory, Execute, End, Job, ReplacementRule, ◌≡◌}
+use Rattle.prem_cycle.proofs.Prelude.{ℕ, zero, suc, ◌+◌, ◌-◌, ◌<◌, ◌≤◌, Bool, true, false, List, [], ◌∷◌, Option, Some, None, refl, ap, sym, ◌∙◌, subst, arith, length, ⊎_elim, ◌⊎◌, inl, inr}
+use Rattle.prem_cycle.proofs.Prelude.{nat_tests, length_push, is_some, nat_lt, ◌||◌, ◌&&◌}
 use Rattle.prem_cycle.proofs.CycleParts.{settle_keeps, cycle_gates}
-use Rattle.prem_cycle.proofs.Time.{goes_untrapped}
-use Rattle.prem_cycle.specs.Runs.Dull.Dull.{OnlyCounts, IsDull, AreDull}
-use Rattle.prem_cycle.specs.Runs.Dull.Rest.{bus_rest, idle_rest, running_rest, mode_rest, core_rest, Within, transactions_passed, mode_passed, core_passed, passed, Rests, IsSteady}
+use Rattle.prem_cycle.proofs.RunsLemmas.DullLemmas.Breaks.{moved_is, moved_as, move_wanting, turn_by, passes_debt, new_shows, core_rests_by}
+use Rattle.prem_cycle.proofs.RunsLemmas.DullLemmas.Pending.{one_carried, none_came}
 use Rattle.prem_cycle.proofs.RunsLemmas.DullLemmas.Steps.{within_both, both_within, same_want, passed_by, passed_is, mode_want, want_passed, window_passed}
 use Rattle.prem_cycle.proofs.RunsLemmas.DullLemmas.Stretch.{none_arrives, one_step, steady_later}
-use Rattle.prem_cycle.proofs.RunsLemmas.DullLemmas.Pending.{one_carried, none_came}
-use Rattle.prem_cycle.proofs.RunsLemmas.DullLemmas.Breaks.{moved_is, moved_as, move_wanting, turn_by, passes_debt, new_shows, core_rests_by}
+use Rattle.prem_cycle.proofs.Time.{goes_untrapped}
 
 none_ended : (o : Option Transfer) (ts : List Transfer) → with_last o ts ≡ ts → o ≡ None
 none_ended None ts e = refl

@@ -1,15 +1,7 @@
 -- The next event in worked states, by the definition: a wrong number is refused.
-use Rattle.std.specs.Prelude.{slice_index_or}
-use Rattle.std.proofs.Common.{◌≡◌, ℕ, zero, suc, ◌<◌, ◌≤◌, [], refl, ap, arith}
-use Rattle.prem_sched.specs.declared.sched.TaskJobs.{TaskJobs}
-use Rattle.prem_lru.specs.Entries.{to_front}
-use Rattle.prem_gate.proofs.Quiet.{next_none}
-use Rattle.prem_cycle.specs.declared.state.Mode.TheVariants.{Point, Switching}
-use Rattle.prem_cycle.specs.State.{Setup, MachineState}
-use Rattle.prem_cycle.specs.Run.{cycles_of}
+use Rattle.prem_cycle.proofs.Prelude.{cycles_of, IsNextEvent, IsSteady, Rests, Setup, MachineState, Point, Switching, next_none, to_front, TaskJobs, ◌≡◌, ℕ, zero, suc, ◌<◌, ◌≤◌, [], refl}
+use Rattle.prem_cycle.proofs.Prelude.{ap, arith, slice_index_or}
 use Rattle.prem_cycle.proofs.Images.{alone, marked, run}
-use Rattle.prem_cycle.specs.Runs.Dull.Dull.{IsNextEvent}
-use Rattle.prem_cycle.specs.Runs.Dull.Rest.{IsSteady, Rests}
 use Rattle.prem_cycle.proofs.RunsLemmas.DullLemmas.Stretch.{fewer_rest, rests_dull}
 
 -- the machine of one task with a marked function, at the start and behind the first cycle

@@ -1,21 +1,9 @@
 -- A cycle of rest, and what so many of them come to.
-use Rattle.std.specs.Prelude.{nat_lt, nat_le, ◌&&◌, ◌==◌, if◌then◌else◌}
-use Rattle.std.proofs.Common.{◌≡◌, ℕ, zero, suc, ◌+◌, ◌-◌, ◌<◌, ◌≤◌, Bool, true, false, cond, List, [], ◌∷◌, Option, Some, None, refl, ap, sym, ◌∙◌, arith}
-use Rattle.std.proofs.lemmas.Bool.Decides.{nat_tests}
-use Rattle.prem_sched.specs.declared.sched.TaskJobs.{TaskJobs}
-use Rattle.prem_isa.specs.declared.effect.Change.{Change}
-use Rattle.prem_isa.specs.declared.effect.Change.TheVariants.{Stay, Memory, Execute, End, Job}
-use Rattle.prem_gate.specs.declared.bus.CoreWant.{CoreWant}
-use Rattle.prem_gate.specs.declared.bus.CoreWant.TheVariants.{No, New, Held}
-use Rattle.prem_gate.specs.Gates.{wants, is_held}
-use Rattle.prem_gate.specs.Stretch.{lesser}
-use Rattle.prem_cycle.specs.declared.state.Mode.{Mode}
-use Rattle.prem_cycle.specs.declared.state.Mode.TheVariants.{Point, Switching, Running, Idle}
-use Rattle.prem_cycle.specs.declared.state.Interval.{Interval}
-use Rattle.prem_cycle.specs.State.{Setup, Work, CoreState, MachineState}
-use Rattle.prem_cycle.specs.Core.{is_empty, want_of, paid_on_bus, with_debt, with_cost, is_paid, core_pay, Passes, begin_switch, move_running, move_in, move_of}
-use Rattle.prem_cycle.specs.Cycle.{settle, ends_before, at_point, close_interval}
-use Rattle.prem_cycle.specs.Runs.Dull.Rest.{bus_rest, idle_rest, running_rest, mode_rest, core_rest, Within, transactions_passed, debt_passed, mode_passed, core_passed}
+use Rattle.prem_cycle.proofs.Prelude.{is_empty, want_of, paid_on_bus, with_debt, with_cost, is_paid, core_pay, Passes, begin_switch, move_running, move_in, move_of, settle, ends_before}
+use Rattle.prem_cycle.proofs.Prelude.{at_point, close_interval, bus_rest, idle_rest, running_rest, mode_rest, core_rest, Within, transactions_passed, debt_passed, mode_passed, core_passed}
+use Rattle.prem_cycle.proofs.Prelude.{Setup, Work, CoreState, MachineState, Interval, Mode, Point, Switching, Running, Idle, wants, is_held, lesser, CoreWant, No, New, Held, Change, Stay}
+use Rattle.prem_cycle.proofs.Prelude.{Memory, Execute, End, Job, TaskJobs, ◌≡◌, ℕ, zero, suc, ◌+◌, ◌-◌, ◌<◌, ◌≤◌, Bool, true, false, cond, List, [], ◌∷◌, Option, Some, None, refl, ap, sym}
+use Rattle.prem_cycle.proofs.Prelude.{◌∙◌, arith, nat_tests, nat_lt, nat_le, ◌&&◌, ◌==◌, if◌then◌else◌}
 
 -- ---- numbers of cycles
 

@@ -1,25 +1,13 @@
 -- A cycle, and any number of them, with one more input word of a task.
-use Rattle.std.specs.Prelude.{◌&&◌, ◌||◌, is_some, length, nat_lt, nat_le}
-use Rattle.std.specs.List.{list_any}
-use Rattle.std.proofs.Common.{◌≡◌, ℕ, zero, suc, ◌+◌, refl, ap, ◌∙◌, sym, cond, ⊎_elim, Bool, true, false, List, [], ◌∷◌, Option, Some, None}
-use Rattle.std.proofs.lemmas.Bool.{cases_Bool}
-use Rattle.std.proofs.lemmas.List.Folds.{list_any-append}
-use Rattle.prem_isa.specs.Plain.{with_last}
-use Rattle.prem_lru.specs.Entries.{ReplacementRule}
-use Rattle.prem_gate.specs.declared.request.Request.{Request}
-use Rattle.prem_gate.specs.Gates.{Turned}
-use Rattle.prem_cycle.specs.declared.state.Mode.{Mode}
-use Rattle.prem_cycle.specs.declared.state.Mode.TheVariants.{Point, Switching, Running, Idle}
-use Rattle.prem_cycle.specs.State.{Setup, MachineState}
-use Rattle.prem_cycle.specs.Core.{is_paid, core_turn}
-use Rattle.prem_cycle.specs.Cycle.{Arrivals, arrivals_at, bus_at, with_memory, with_clash, move_at, core_at, joined, ends_before, close_interval, at_point, settle, with_now}
-use Rattle.prem_cycle.specs.Cycle.{next_cycle, ticked, cycle_with, is_finished, log_size, is_over, step_of}
-use Rattle.prem_cycle.specs.FactsOf.{with_input}
-use Rattle.prem_cycle.specs.Run.{CycleStep, step_in, step_with, coming_step, cycles_of, steps_of}
+use Rattle.prem_cycle.proofs.Prelude.{is_paid, core_turn, Arrivals, arrivals_at, bus_at, with_memory, with_clash, move_at, core_at, joined, ends_before, close_interval, at_point, settle}
+use Rattle.prem_cycle.proofs.Prelude.{with_now, next_cycle, ticked, cycle_with, is_finished, log_size, is_over, step_of, with_input, CycleStep, step_in, step_with, coming_step, cycles_of}
+use Rattle.prem_cycle.proofs.Prelude.{steps_of, is_past_end, has_read_past_end, Setup, MachineState, Mode, Point, Switching, Running, Idle, Turned, Request, with_last, ReplacementRule, ◌≡◌}
+use Rattle.prem_cycle.proofs.Prelude.{ℕ, zero, suc, ◌+◌, refl, ap, ◌∙◌, sym, cond, ⊎_elim, Bool, true, false, List, [], ◌∷◌, Option, Some, None, cases_Bool, list_any-append, list_any, ◌&&◌}
+use Rattle.prem_cycle.proofs.Prelude.{◌||◌, is_some, nat_lt, nat_le}
 use Rattle.prem_cycle.proofs.RunLaws.{step_of-goes, step_of-stays}
-use Rattle.prem_cycle.specs.Runs.Inputs.PastEnd.{is_past_end, has_read_past_end}
-use Rattle.prem_cycle.proofs.RunsLemmas.InputsLemmas.Words.{outputs_with}
 use Rattle.prem_cycle.proofs.RunsLemmas.InputsLemmas.Turns.{turn_with, past_of, work_with, move_with, turn_same, past_same}
+use Rattle.prem_cycle.proofs.RunsLemmas.InputsLemmas.Words.{outputs_with}
+use Rattle.std.specs.Prelude.{length}
 
 -- ---- what is over
 

@@ -1,15 +1,8 @@
 -- The lists with an appended word fit the machine.
-use Rattle.std.specs.Prelude.{slice_index_or}
-use Rattle.std.proofs.Common.{◌≡◌, ℕ, ◌<◌, ◌≤◌, ◌∙◌, sym, arith, ltb-true, true, List, [], ◌∷◌, ◌++◌, length, length-append, length-set}
-use Rattle.std.proofs.lemmas.List.Elements.{All-set}
-use Rattle.prem_lru.specs.Entries.{ReplacementRule}
-use Rattle.prem_gate.specs.declared.request.Request.{Request}
-use Rattle.prem_cycle.specs.State.{Setup}
-use Rattle.prem_cycle.specs.FactsOf.{has_room_for_word, inputs_size}
-use Rattle.prem_cycle.specs.Inputs.{FitsRun}
-use Rattle.prem_cycle.specs.Run.{run_of}
-use Rattle.prem_cycle.specs.Runs.Inputs.Extended.{with_word_for}
+use Rattle.prem_cycle.proofs.Prelude.{has_room_for_word, inputs_size, FitsRun, run_of, with_word_for, Setup, Request, ReplacementRule, ◌≡◌, ℕ, ◌<◌, ◌≤◌, ◌∙◌, sym, arith, true, List, [], ◌∷◌}
+use Rattle.prem_cycle.proofs.Prelude.{◌++◌, length, All-set, slice_index_or}
 use Rattle.prem_cycle.proofs.RunsLemmas.InputsLemmas.Taken.{room_is_of_the_list}
+use Rattle.std.proofs.Common.{ltb-true, length-append, length-set}
 
 one_more : (words : List ℕ) (word size : ℕ) → length words < size → length (words ++ word ∷ []) ≤ size
 one_more words word size lt = omega (arith, length-append words (word ∷ []))

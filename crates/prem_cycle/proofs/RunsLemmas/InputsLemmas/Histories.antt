@@ -1,17 +1,11 @@
 -- A history leads to the run on the lists with all appended words.
-use Rattle.std.specs.Prelude.{◌||◌, slice_index_or}
-use Rattle.std.specs.List.{list_any}
-use Rattle.std.proofs.Common.{◌≡◌, ℕ, ◌+◌, ◌<◌, refl, ap, ◌∙◌, sym, subst, false, List, [], ◌∷◌, ◌++◌, length, length-set}
-use Rattle.std.proofs.lemmas.List.Folds.{list_any-append}
-use Rattle.prem_lru.specs.Entries.{ReplacementRule}
-use Rattle.prem_gate.specs.declared.request.Request.{Request}
-use Rattle.prem_cycle.specs.State.{Setup, MachineState, start_of}
-use Rattle.prem_cycle.specs.FactsOf.{with_input}
-use Rattle.prem_cycle.specs.Run.{cycles_of, memory_of, run_of, steps_of}
+use Rattle.prem_cycle.proofs.Prelude.{with_input, cycles_of, memory_of, run_of, steps_of, History, Begins, Appends, cycles_in, inputs_in, state_in, reads_past_end_in, IsTimely, is_past_end}
+use Rattle.prem_cycle.proofs.Prelude.{has_read_past_end, run_reads_past_end, Setup, MachineState, start_of, Request, ReplacementRule, ◌≡◌, ℕ, ◌+◌, ◌<◌, refl, ap, ◌∙◌, sym, subst, false}
+use Rattle.prem_cycle.proofs.Prelude.{List, [], ◌∷◌, ◌++◌, length, list_any-append, list_any, ◌||◌, slice_index_or}
 use Rattle.prem_cycle.proofs.RunLaws.{cycles_of-add, steps_of-add}
-use Rattle.prem_cycle.specs.Runs.Inputs.PastEnd.{is_past_end, has_read_past_end, run_reads_past_end}
-use Rattle.prem_cycle.specs.Runs.Inputs.History.{History, Begins, Passes, Appends, cycles_in, inputs_in, state_in, reads_past_end_in, IsTimely}
 use Rattle.prem_cycle.proofs.RunsLemmas.InputsLemmas.Runs.{inputs_extend, reads_stay}
+use Rattle.prem_cycle.specs.Runs.Inputs.History.{Passes}
+use Rattle.std.proofs.Common.{length-set}
 
 -- the reads past the end of m + n cycles
 has_read-add : (rule : ReplacementRule) (p : Setup) (requests : List Request) (m n : ℕ) (s : MachineState) (k : ℕ) →

@@ -1,16 +1,9 @@
 -- A run on longer lists of input words.
-use Rattle.std.proofs.Common.{◌≡◌, ℕ, zero, suc, ◌+◌, ◌<◌, refl, ap, ◌∙◌, sym, arith, false, List, [], ◌∷◌, length}
-use Rattle.prem_lru.specs.Entries.{ReplacementRule}
-use Rattle.prem_gate.specs.declared.request.Request.{Request}
-use Rattle.prem_image.specs.declared.image.TaskRecord.{TaskRecord}
-use Rattle.prem_cycle.specs.State.{Setup, MachineState, Task, first_task, first_tasks, start_of}
-use Rattle.prem_cycle.specs.FactsOf.{with_input}
-use Rattle.prem_cycle.specs.Run.{cycles_of, memory_of, run_of}
+use Rattle.prem_cycle.proofs.Prelude.{with_input, cycles_of, memory_of, run_of, with_word_for, has_read_past_end, run_reads_past_end, Setup, MachineState, Task, first_task, first_tasks}
+use Rattle.prem_cycle.proofs.Prelude.{start_of, Request, TaskRecord, ReplacementRule, ◌≡◌, ℕ, zero, suc, ◌+◌, ◌<◌, refl, ap, ◌∙◌, sym, arith, false, List, [], ◌∷◌, length}
 use Rattle.prem_cycle.proofs.RunLaws.{cycles_of-add}
-use Rattle.prem_cycle.specs.Runs.Inputs.PastEnd.{has_read_past_end, run_reads_past_end}
-use Rattle.prem_cycle.specs.Runs.Inputs.Extended.{with_word_for}
-use Rattle.prem_cycle.proofs.RunsLemmas.InputsLemmas.Words.{tasks_with}
 use Rattle.prem_cycle.proofs.RunsLemmas.InputsLemmas.Cycles.{cycles_leave_the_word, has_read_same}
+use Rattle.prem_cycle.proofs.RunsLemmas.InputsLemmas.Words.{tasks_with}
 
 -- ---- the start
 

@@ -1,29 +1,13 @@
 -- A task takes its input words in order.
-use Rattle.std.specs.Prelude.{nat_lt, slice_index_or, slice_set}
-use Rattle.std.proofs.Common.{◌≡◌, ℕ, zero, suc, ◌+◌, ◌-◌, ◌/◌, ◌<◌, ◌≤◌, refl, ap, ◌∙◌, sym, subst, arith, ⊎_elim, Bool, true, false, Option, Some, None, List, [], ◌∷◌, drop}
-use Rattle.std.proofs.Common.{length, length-drop, drop-drop}
-use Rattle.std.proofs.lemmas.Bool.{cases_Bool}
-use Rattle.prem_isa.specs.declared.effect.Access.{Access}
-use Rattle.prem_isa.specs.declared.effect.Change.{Change}
-use Rattle.prem_isa.specs.declared.effect.Change.TheVariants.{Stay, Memory, Execute, End, Job}
-use Rattle.prem_isa.specs.declared.effect.Effect.{Effect}
-use Rattle.prem_isa.specs.declared.effect.Stored.{Stored}
-use Rattle.prem_isa.specs.Plain.{left_after, used_after}
-use Rattle.prem_lru.specs.Entries.{ReplacementRule}
-use Rattle.prem_lru.specs.CacheState.{Touched, touch_of}
-use Rattle.prem_gate.specs.declared.request.Request.{Request}
-use Rattle.prem_gate.specs.Gates.{Turned}
-use Rattle.prem_image.specs.declared.image.TaskRecord.{TaskRecord}
-use Rattle.prem_cycle.specs.State.{Setup, MachineState, record_of, no_record, first_task, first_tasks, start_of, Task, Work, task_in}
-use Rattle.prem_cycle.specs.Issue.{Attempt, Traps, Executes, attempt_behind, task_moved, task_changed, task_after, issued_with}
-use Rattle.prem_cycle.specs.Core.{CoreMove, Passes, Issues, attempted, moved}
-use Rattle.prem_cycle.specs.Cycle.{arrivals_at, bus_at, with_memory, move_at, is_over, step_of}
-use Rattle.prem_cycle.specs.FactsOf.{has_room_for_word, inputs_size}
-use Rattle.prem_cycle.specs.Run.{cycles_of, memory_of, run_of}
+use Rattle.prem_cycle.proofs.Prelude.{CoreMove, Passes, Issues, attempted, moved, arrivals_at, bus_at, with_memory, move_at, is_over, step_of, has_room_for_word, inputs_size, Attempt, Traps}
+use Rattle.prem_cycle.proofs.Prelude.{Executes, attempt_behind, task_moved, task_changed, task_after, issued_with, cycles_of, memory_of, run_of, Setup, MachineState, record_of, no_record}
+use Rattle.prem_cycle.proofs.Prelude.{first_task, first_tasks, start_of, Task, Work, task_in, Turned, Request, TaskRecord, left_after, used_after, Access, Change, Stay, Memory, Execute, End}
+use Rattle.prem_cycle.proofs.Prelude.{Job, Effect, Stored, Touched, touch_of, ReplacementRule, ◌≡◌, ℕ, zero, suc, ◌+◌, ◌-◌, ◌/◌, ◌<◌, ◌≤◌, refl, ap, ◌∙◌, sym, subst, arith, ⊎_elim, Bool}
+use Rattle.prem_cycle.proofs.Prelude.{true, false, Option, Some, None, List, [], ◌∷◌, drop, length, length-drop, drop-drop, cases_Bool, nat_lt, slice_index_or, slice_set}
 use Rattle.prem_cycle.proofs.CycleParts.{cycle_work}
 use Rattle.prem_cycle.proofs.RunLaws.{step_of-goes, step_of-stays}
-use Rattle.prem_cycle.specs.Runs.Inputs.Taken.{TakesFrom}
 use Rattle.prem_cycle.proofs.RunsLemmas.InputsLemmas.Words.{no_task}
+use Rattle.prem_cycle.specs.Runs.Inputs.Taken.{TakesFrom}
 
 -- ---- one effect
 

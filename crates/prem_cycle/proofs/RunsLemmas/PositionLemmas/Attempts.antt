@@ -1,23 +1,8 @@
 -- What a task's next instruction comes to in the machine is what it comes to on its own.
-use Rattle.std.specs.Prelude.{Result, Ok, Err, slice_index}
-use Rattle.std.proofs.Common.{◌≡◌, ℕ, zero, suc, ◌+◌, ◌<◌, ◌≤◌, refl, ap, ◌∙◌, sym, subst, Bool, true, Some, None, Option}
-use Rattle.prem_plant.specs.declared.plant.Target.{Target}
-use Rattle.prem_isa.specs.declared.instr.Instr.{Instr}
-use Rattle.prem_isa.specs.declared.effect.Cause.{Cause}
-use Rattle.prem_isa.specs.declared.effect.Access.{Access}
-use Rattle.prem_isa.specs.declared.effect.Effect.{Effect}
-use Rattle.prem_isa.specs.declared.effect.Outcome.{Outcome}
-use Rattle.prem_isa.specs.declared.effect.Outcome.TheVariants.{Trap, Done}
-use Rattle.prem_isa.specs.Decode.{Fits}
-use Rattle.prem_isa.specs.Act.{act, fetch}
-use Rattle.prem_isa.specs.Bounds.{OnDone, EffectFits, EffectLawful, SameBytes, SameAccess, SameLoaded}
-use Rattle.prem_isa.specs.Plain.{TaskRun, next_input, outcome_of}
-use Rattle.prem_isa.proofs.ActLaws.{act_fits, act_lawful, act_same, fetch_same}
-use Rattle.prem_isa.proofs.PlainLaws.{fetch_fits}
-use Rattle.prem_cycle.specs.State.{Setup, Task}
-use Rattle.prem_cycle.specs.Issue.{Traps, Executes, attempt_by, attempt_fetched, attempt_in, value_of, effect_in}
-use Rattle.prem_cycle.specs.Alone.{plain_of}
-use Rattle.prem_cycle.specs.Runs.Position.Own.{AllOwn, LoadsOwn, IsOwn, IsOwnOutcome, next_outcome}
+use Rattle.prem_cycle.proofs.Prelude.{plain_of, Traps, Executes, attempt_by, attempt_fetched, attempt_in, value_of, effect_in, AllOwn, LoadsOwn, IsOwn, IsOwnOutcome, next_outcome, Setup}
+use Rattle.prem_cycle.proofs.Prelude.{Task, act_fits, act_lawful, act_same, fetch_same, fetch_fits, act, fetch, OnDone, EffectFits, EffectLawful, SameBytes, SameAccess, SameLoaded, Fits}
+use Rattle.prem_cycle.proofs.Prelude.{TaskRun, next_input, outcome_of, Access, Cause, Effect, Outcome, Trap, Done, Instr, Target, ◌≡◌, ℕ, zero, suc, ◌+◌, ◌<◌, ◌≤◌, refl, ap, ◌∙◌, sym, subst}
+use Rattle.prem_cycle.proofs.Prelude.{Bool, true, Some, None, Option, Result, Ok, Err, slice_index}
 
 -- two views agree on own bytes
 abbrev pub AgreeOn : (ℕ → Bool) → (ℕ → ℕ) → (ℕ → ℕ) → Type 0

@@ -1,22 +1,11 @@
 -- The time of a run of one task without devices: what has passed and what is owed is at most what is due.
-use Rattle.std.specs.Prelude.{All}
-use Rattle.std.proofs.Common.{◌≡◌, ℕ, zero, suc, ◌+◌, ◌-◌, ◌*◌, ◌/◌, ◌<◌, ◌≤◌, min, refl, ap, ◌∙◌, sym, subst, arith, cond, Some, None, Option, true, false, Bool, List, [], ◌∷◌, length}
-use Rattle.std.proofs.lemmas.Bool.{ltb-true, ltb-false}
-use Rattle.std.proofs.lemmas.Nat.{mul-le}
-use Rattle.std.proofs.Math.Nat.{lt-div-mul-add}
-use Rattle.prem_sched.specs.declared.sched.TaskJobs.{TaskJobs}
-use Rattle.prem_sched.specs.declared.sched.Choice.TheVariants.{Run, Idle as Rest, Finished}
-use Rattle.prem_sched.specs.Schedule.{choice, run_or, rest, least_release, earlier, has_jobs_left, is_ready, released, first_ready, task_at, IsDone}
-use Rattle.prem_sched.proofs.Choices.{least_none}
-use Rattle.prem_isa.specs.declared.effect.Change.{Change}
-use Rattle.prem_isa.specs.declared.effect.Change.TheVariants.{Stay, Memory, Execute, End, Job}
-use Rattle.prem_gate.specs.Gates.{wants}
-use Rattle.prem_cycle.specs.declared.state.Mode.{Mode}
-use Rattle.prem_cycle.specs.declared.state.Mode.TheVariants.{Point, Switching, Running, Idle}
-use Rattle.prem_cycle.specs.State.{Setup, Work, Debt, CoreState}
-use Rattle.prem_cycle.specs.Core.{want_of, paid_on_bus, is_paid, CoreMove, Passes, Issues}
+use Rattle.prem_cycle.proofs.Prelude.{want_of, paid_on_bus, is_paid, CoreMove, Passes, Issues, Setup, Work, Debt, CoreState, Mode, Point, Switching, Running, Idle, wants, Change, Stay}
+use Rattle.prem_cycle.proofs.Prelude.{Memory, Execute, End, Job, least_none, choice, run_or, rest, least_release, earlier, has_jobs_left, is_ready, released, first_ready, task_at, IsDone}
+use Rattle.prem_cycle.proofs.Prelude.{Run, Finished, TaskJobs, ◌≡◌, ℕ, zero, suc, ◌+◌, ◌-◌, ◌*◌, ◌/◌, ◌<◌, ◌≤◌, min, refl, ap, ◌∙◌, sym, subst, arith, cond, Some, None, Option, true, false}
+use Rattle.prem_cycle.proofs.Prelude.{Bool, List, [], ◌∷◌, length, lt-div-mul-add, ltb-true, ltb-false, mul-le, All}
 use Rattle.prem_cycle.proofs.CoreCases.{MoveCase, pays_on_bus, is_denied, pays_cost, waits, goes_on, switches, begins, chooses, chooses_now, begins_idle, has_finished, idles, Closes}
 use Rattle.prem_cycle.proofs.RunsLemmas.PositionLemmas.Debts.{total, ArePositive, wants_none, none_wanted, PaysOne, pays_one, paid_is}
+use Rattle.prem_sched.specs.declared.sched.Choice.TheVariants.{Idle as Rest}
 
 -- ---- what a state owes
 

@@ -1,19 +1,7 @@
 -- What an instruction makes the core owe, and how it is paid.
-use Rattle.std.specs.Prelude.{◌&&◌, ◌==◌}
-use Rattle.std.proofs.Common.{◌≡◌, ℕ, ◌+◌, ◌-◌, ◌*◌, ◌/◌, ◌<◌, ◌≤◌, refl, ap, ◌∙◌, sym, arith, cond, leb, Some, None, Option, true, false, Bool, List, [], ◌∷◌, ◌++◌}
-use Rattle.std.proofs.lemmas.Bool.{cond_both, leb-true, leb-false, and_parts}
-use Rattle.prem_plant.specs.declared.plant.Plant.{Plant}
-use Rattle.prem_plant.specs.Ranges.{IsPlant}
-use Rattle.prem_isa.specs.declared.effect.Access.{Access}
-use Rattle.prem_isa.specs.declared.effect.Stored.{Stored}
-use Rattle.prem_lru.specs.Entries.{ReplacementRule}
-use Rattle.prem_lru.specs.CacheState.{Touched, touch_of}
-use Rattle.prem_gate.specs.declared.bus.CoreWant.TheVariants.{No, New, Held}
-use Rattle.prem_gate.specs.Gates.{wants}
-use Rattle.prem_cycle.specs.State.{Task, Debt}
-use Rattle.prem_cycle.specs.Issue.{LineTouch, line_touch, issued_with, owed_for, owed_by}
-use Rattle.prem_cycle.specs.Core.{is_empty, want_of, paid_on_bus, is_paid}
-use Rattle.prem_cycle.specs.Runs.Position.Finish.{data_accesses}
+use Rattle.prem_cycle.proofs.Prelude.{is_empty, want_of, paid_on_bus, is_paid, LineTouch, line_touch, issued_with, owed_for, owed_by, data_accesses, Task, Debt, wants, No, New, Held, Access}
+use Rattle.prem_cycle.proofs.Prelude.{Stored, Touched, touch_of, ReplacementRule, IsPlant, Plant, ◌≡◌, ℕ, ◌+◌, ◌-◌, ◌*◌, ◌/◌, ◌<◌, ◌≤◌, refl, ap, ◌∙◌, sym, arith, cond, leb, Some, None}
+use Rattle.prem_cycle.proofs.Prelude.{Option, true, false, Bool, List, [], ◌∷◌, ◌++◌, cond_both, leb-true, leb-false, and_parts, ◌&&◌, ◌==◌}
 
 -- ---- lists of transactions
 

@@ -1,22 +1,8 @@
 -- What is due for the instructions of a run on its own, and what grows along it.
-use Rattle.std.specs.Prelude.{sum_by}
-use Rattle.std.proofs.Common.{◌≡◌, ℕ, zero, suc, ◌+◌, ◌-◌, ◌*◌, ◌≤◌, ap, ◌∙◌, refl, sym, subst, arith, Some, None, Option, List, [], ◌∷◌, length}
-use Rattle.std.proofs.lemmas.Bool.{cond_both}
-use Rattle.std.proofs.lemmas.List.{length-append}
-use Rattle.std.proofs.lemmas.List.Sums.{sum_by-append}
-use Rattle.std.proofs.lemmas.Nat.{mul-le}
-use Rattle.prem_plant.specs.declared.plant.Plant.{Plant}
-use Rattle.prem_isa.specs.declared.effect.Access.{Access}
-use Rattle.prem_isa.specs.declared.effect.Change.{Change}
-use Rattle.prem_isa.specs.declared.effect.Change.TheVariants.{Stay, Memory, Execute, End, Job}
-use Rattle.prem_isa.specs.declared.effect.Outcome.{Outcome}
-use Rattle.prem_isa.specs.declared.effect.Outcome.TheVariants.{Trap, Done}
-use Rattle.prem_isa.specs.Act.{fetch}
-use Rattle.prem_isa.specs.Plain.{TaskRun, PlainState, with_last, after_change, after_outcome, moved_by, is_running, outcome_of, plain_start, plain_step, plain_steps, plain_run}
-use Rattle.prem_isa.specs.Plain.{Did, plain_did, plain_trace}
-use Rattle.prem_isa.specs.Decode.{cost_of, greatest_cost}
-use Rattle.prem_isa.proofs.PlainLaws.{did_cost, plain_steps-next, plain_trace-add}
-use Rattle.prem_cycle.specs.Runs.Position.Finish.{data_accesses, due_of}
+use Rattle.prem_cycle.proofs.Prelude.{data_accesses, due_of, did_cost, plain_steps-next, plain_trace-add, fetch, cost_of, greatest_cost, TaskRun, PlainState, with_last, after_change}
+use Rattle.prem_cycle.proofs.Prelude.{after_outcome, moved_by, is_running, outcome_of, plain_start, plain_step, plain_steps, plain_run, Did, plain_did, plain_trace, Access, Change, Stay}
+use Rattle.prem_cycle.proofs.Prelude.{Memory, Execute, End, Job, Outcome, Trap, Done, Plant, ◌≡◌, ℕ, zero, suc, ◌+◌, ◌-◌, ◌*◌, ◌≤◌, ap, ◌∙◌, refl, sym, subst, arith, Some, None, Option}
+use Rattle.prem_cycle.proofs.Prelude.{List, [], ◌∷◌, length, cond_both, length-append, sum_by-append, mul-le, sum_by}
 
 -- ---- what is due
 

@@ -1,37 +1,21 @@
 -- A run of one task without devices finishes in time.
-use Rattle.std.specs.Prelude.{◌||◌, is_some}
-use Rattle.std.proofs.Common.{◌≡◌, ℕ, zero, suc, ◌+◌, ◌-◌, ◌*◌, ◌<◌, ◌≤◌, refl, ap, ◌∙◌, sym, subst, arith, leb, None, true, false, Bool, List, [], ◌∷◌, length, get_or, ⊎_elim}
-use Rattle.std.proofs.lemmas.Bool.{cases_Bool, lt-leb}
-use Rattle.std.proofs.lemmas.Nat.{mul-le}
-use Rattle.prem_plant.specs.declared.plant.Plant.{Plant}
-use Rattle.prem_sched.specs.declared.sched.TaskJobs.{TaskJobs}
-use Rattle.prem_sched.specs.declared.sched.Choice.{Choice}
-use Rattle.prem_sched.specs.declared.sched.Choice.TheVariants.{Run, Idle as Rest, Finished}
-use Rattle.prem_sched.specs.Schedule.{choice, no_task, task_at, IsDone}
-use Rattle.prem_isa.specs.Decode.{greatest_cost}
-use Rattle.prem_isa.specs.declared.effect.Change.{Change}
-use Rattle.prem_isa.specs.declared.effect.Change.TheVariants.{Stay, Memory, Execute, End, Job}
-use Rattle.prem_isa.specs.Plain.{TaskRun, PlainState, is_running, plain_start, plain_run, plain_trace}
-use Rattle.prem_lru.specs.Entries.{ReplacementRule}
-use Rattle.prem_lru.specs.Rules.{IsRule}
-use Rattle.prem_image.specs.declared.image.TaskRecord.{TaskRecord}
-use Rattle.prem_cycle.specs.declared.state.Mode.{Mode}
-use Rattle.prem_cycle.specs.declared.state.Mode.TheVariants.{Point, Switching, Running, Idle}
-use Rattle.prem_cycle.specs.State.{Setup, no_record, first_task, Task, Debt, MachineState, start_of, task_in}
-use Rattle.prem_cycle.specs.Cycle.{arrivals_at, bus_at, core_at, is_finish, is_finished_in, is_finished, output_count, log_size, is_full, is_over, cycle_of}
-use Rattle.prem_cycle.specs.Run.{memory_of, run_of}
+use Rattle.prem_cycle.proofs.Prelude.{arrivals_at, bus_at, core_at, is_finish, is_finished_in, is_finished, output_count, log_size, is_full, is_over, cycle_of, memory_of, run_of, lone}
+use Rattle.prem_cycle.proofs.Prelude.{run_alone, IsLone, finish_of, EndsIn, FinishedAs, FinishesInTime, FinishesOneJob, issued_of, AreOwn, IsRunnable, Setup, no_record, first_task, Task}
+use Rattle.prem_cycle.proofs.Prelude.{Debt, MachineState, start_of, task_in, Mode, Point, Switching, Running, Idle, TaskRecord, greatest_cost, TaskRun, PlainState, is_running, plain_start}
+use Rattle.prem_cycle.proofs.Prelude.{plain_run, plain_trace, Change, Stay, Memory, Execute, End, Job, ReplacementRule, IsRule, Plant, choice, no_task, task_at, IsDone, Choice, Run}
+use Rattle.prem_cycle.proofs.Prelude.{Finished, TaskJobs, ◌≡◌, ℕ, zero, suc, ◌+◌, ◌-◌, ◌*◌, ◌<◌, ◌≤◌, refl, ap, ◌∙◌, sym, subst, arith, leb, None, true, false, Bool, List, [], ◌∷◌, length}
+use Rattle.prem_cycle.proofs.Prelude.{get_or, ⊎_elim, cases_Bool, lt-leb, mul-le, ◌||◌, is_some}
 use Rattle.prem_cycle.proofs.CycleParts.{cycle_trapped, cycle_goes}
 use Rattle.prem_cycle.proofs.RunLaws.{cycles_of-next, step_of-goes}
-use Rattle.prem_cycle.proofs.Time.{run_of-now}
-use Rattle.prem_cycle.specs.Runs.Position.Issued.{issued_of, AreOwn, IsRunnable}
-use Rattle.prem_cycle.specs.Runs.Position.Finish.{lone, run_alone, IsLone, finish_of, EndsIn, FinishedAs, FinishesInTime, FinishesOneJob}
-use Rattle.prem_cycle.proofs.RunsLemmas.PositionLemmas.Schedules.{Schedules}
-use Rattle.prem_cycle.proofs.RunsLemmas.PositionLemmas.Runs.{AllAt}
-use Rattle.prem_cycle.proofs.RunsLemmas.PositionLemmas.Positions.{run_stands}
-use Rattle.prem_cycle.proofs.RunsLemmas.PositionLemmas.Lone.{all_whole, later_same, stopped, ends_never, lone_runnable, lone_own}
-use Rattle.prem_cycle.proofs.RunsLemmas.PositionLemmas.Dues.{dues_of, dues_grow, dues_at_most, grows}
 use Rattle.prem_cycle.proofs.RunsLemmas.PositionLemmas.Clocks.{begun_in, Waiting, finish_done}
+use Rattle.prem_cycle.proofs.RunsLemmas.PositionLemmas.Dues.{dues_of, dues_grow, dues_at_most, grows}
+use Rattle.prem_cycle.proofs.RunsLemmas.PositionLemmas.Lone.{all_whole, later_same, stopped, ends_never, lone_runnable, lone_own}
+use Rattle.prem_cycle.proofs.RunsLemmas.PositionLemmas.Positions.{run_stands}
+use Rattle.prem_cycle.proofs.RunsLemmas.PositionLemmas.Runs.{AllAt}
+use Rattle.prem_cycle.proofs.RunsLemmas.PositionLemmas.Schedules.{Schedules}
 use Rattle.prem_cycle.proofs.RunsLemmas.PositionLemmas.Settles.{Timed, run_timed}
+use Rattle.prem_cycle.proofs.Time.{run_of-now}
+use Rattle.prem_sched.specs.declared.sched.Choice.TheVariants.{Idle as Rest}
 
 -- ---- the switches that have begun are at most the jobs
 

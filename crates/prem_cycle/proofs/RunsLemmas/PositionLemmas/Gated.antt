@@ -1,33 +1,15 @@
 -- The gates write to lines of their devices alone.
-use Rattle.std.specs.Prelude.{slice_set, All}
-use Rattle.std.proofs.Common.{◌≡◌, ℕ, suc, ◌+◌, ◌*◌, ◌/◌, ◌%◌, ◌<◌, ◌≤◌, refl, ap, ◌∙◌, sym, subst, arith, eqb, leb, Some, None, Option, true, false, Bool, List, [], ◌∷◌, ◌++◌}
-use Rattle.std.proofs.Common.{length, drop, IfSome, ⊎_elim}
-use Rattle.std.proofs.lemmas.Bool.{cases_eq, cases_Bool, cond_both}
-use Rattle.std.proofs.lemmas.List.{get_or-set_same, get_or-set_other, length-set}
-use Rattle.std.proofs.lemmas.List.Elements.{All-push, All-head, All-tail}
-use Rattle.std.proofs.lemmas.Nat.{mod-mul-add, div-add-mod', mul-le}
-use Rattle.prem_plant.specs.declared.plant.Plant.{Plant}
-use Rattle.prem_lru.specs.Splice.{bytes_of, spliced}
-use Rattle.prem_lru.specs.CacheState.{CacheState, is_resident, view_of}
-use Rattle.prem_lru.proofs.Splices.{length-spliced}
-use Rattle.prem_lru.proofs.Numbers.{length-bytes_of}
-use Rattle.prem_lru.proofs.Stores.{apart_bytes}
-use Rattle.prem_lru.proofs.Words.{word_view, word_clean}
-use Rattle.prem_gate.specs.declared.request.Request.{Request}
-use Rattle.prem_gate.specs.declared.bus.Window.{Window}
-use Rattle.prem_gate.specs.declared.bus.Carried.{Carried}
-use Rattle.prem_gate.specs.declared.bus.CoreWant.{CoreWant}
-use Rattle.prem_gate.specs.declared.bus.CoreWant.TheVariants.{No, New, Held}
-use Rattle.prem_gate.specs.Gates.{GateState, GatesState, Turned, gate_at, no_gate, with_queue, with_gates, with_carried, is_full, queued, after_arrival, fits, start_of, first_of}
-use Rattle.prem_gate.specs.Gates.{startable_from, startable, taken, slot_of, memory_after, one_less, ends, goes_on, carries, wants, starts, bus_free, bus_with, bus_turn}
-use Rattle.prem_image.specs.declared.image.DeviceRecord.{DeviceRecord}
-use Rattle.prem_image.specs.Records.{IsPlaced}
-use Rattle.prem_cycle.specs.State.{Setup, Work}
-use Rattle.prem_cycle.specs.Inputs.{no_device, IsRequest}
-use Rattle.prem_cycle.specs.Cycle.{Arrivals, arrived, arrivals}
-use Rattle.prem_cycle.specs.Runs.Position.Own.{device_of, IsFree}
-use Rattle.prem_cycle.proofs.RunsLemmas.PositionLemmas.Works.{IsKept, kept_plant}
+use Rattle.prem_cycle.proofs.Prelude.{Arrivals, arrived, arrivals, no_device, IsRequest, device_of, IsFree, Setup, Work, GateState, GatesState, Turned, gate_at, no_gate, with_queue}
+use Rattle.prem_cycle.proofs.Prelude.{with_gates, with_carried, queued, after_arrival, fits, first_of, startable_from, startable, taken, slot_of, memory_after, one_less, ends, goes_on}
+use Rattle.prem_cycle.proofs.Prelude.{carries, wants, starts, bus_free, bus_with, bus_turn, Carried, CoreWant, No, New, Held, Window, Request, IsPlaced, DeviceRecord, length-bytes_of}
+use Rattle.prem_cycle.proofs.Prelude.{apart_bytes, CacheState, is_resident, view_of, bytes_of, spliced, Plant, ◌≡◌, ℕ, suc, ◌+◌, ◌*◌, ◌/◌, ◌%◌, ◌<◌, ◌≤◌, refl, ap, ◌∙◌, sym, subst, arith}
+use Rattle.prem_cycle.proofs.Prelude.{eqb, leb, Some, None, Option, true, false, Bool, List, [], ◌∷◌, ◌++◌, length, drop, IfSome, ⊎_elim, cases_eq, cases_Bool, cond_both, get_or-set_same}
+use Rattle.prem_cycle.proofs.Prelude.{get_or-set_other, length-set, All-push, All-head, All-tail, mod-mul-add, div-add-mod', mul-le, slice_set, All}
 use Rattle.prem_cycle.proofs.RunsLemmas.PositionLemmas.Turns.{BusKeeps}
+use Rattle.prem_cycle.proofs.RunsLemmas.PositionLemmas.Works.{IsKept, kept_plant}
+use Rattle.prem_gate.specs.Gates.{is_full, start_of}
+use Rattle.prem_lru.proofs.Splices.{length-spliced}
+use Rattle.prem_lru.proofs.Words.{word_view, word_clean}
 
 -- ---- the gates of the devices
 

@@ -1,20 +1,11 @@
 -- The run of an image of one task without devices.
-use Rattle.std.specs.Prelude.{All}
-use Rattle.std.proofs.Common.{◌≡◌, ℕ, ap, ◌∙◌, sym, subst, List, [], ◌∷◌}
-use Rattle.std.proofs.lemmas.List.Elements.{All-head}
-use Rattle.prem_list.specs.Sequence.{items_of}
-use Rattle.prem_lru.specs.Entries.{ReplacementRule}
+use Rattle.prem_cycle.proofs.Prelude.{setup_of, words_of, image_run, run_of, lone_run, IsLone, FinishedAs, Setup, IsTask, DeviceRecord, TaskRecord, ReplacementRule, ◌≡◌, ℕ, ap, ◌∙◌, sym}
+use Rattle.prem_cycle.proofs.Prelude.{subst, List, [], ◌∷◌, All-head, All}
+use Rattle.prem_cycle.proofs.RunsLemmas.PositionLemmas.Finishes.{finishes_in_time, finishes_one_job}
+use Rattle.prem_cycle.specs.Runs.Position.Images.{IsLoneImage, image_alone, ImageFinishesInTime, ImageFinishesOneJob}
 use Rattle.prem_gate.specs.declared.request.RunInput.{RunInput}
 use Rattle.prem_image.specs.declared.image.Image.{Image}
-use Rattle.prem_image.specs.declared.image.TaskRecord.{TaskRecord}
-use Rattle.prem_image.specs.declared.image.DeviceRecord.{DeviceRecord}
-use Rattle.prem_image.specs.Records.{IsTask}
-use Rattle.prem_cycle.specs.State.{Setup}
-use Rattle.prem_cycle.specs.Inputs.{setup_of, words_of, image_run}
-use Rattle.prem_cycle.specs.Run.{run_of}
-use Rattle.prem_cycle.specs.Runs.Position.Finish.{lone_run, IsLone, FinishedAs}
-use Rattle.prem_cycle.specs.Runs.Position.Images.{IsLoneImage, image_alone, ImageFinishesInTime, ImageFinishesOneJob}
-use Rattle.prem_cycle.proofs.RunsLemmas.PositionLemmas.Finishes.{finishes_in_time, finishes_one_job}
+use Rattle.prem_list.specs.Sequence.{items_of}
 
 image_lone : (image : Image) (input : RunInput) (task : TaskRecord) (words : List ℕ) → IsLoneImage image input task words → IsLone image.plant task (items_of image.content) words
 image_lone image input task words h =

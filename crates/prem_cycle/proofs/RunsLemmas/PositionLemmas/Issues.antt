@@ -1,32 +1,15 @@
 -- Each instruction that issues is the next one of its task's run on its own.
-use Rattle.std.specs.Prelude.{Result, Ok, Err, slice_index}
-use Rattle.std.proofs.Common.{◌≡◌, ℕ, refl, ap, ◌∙◌, sym, subst, cond, Some, None, Option, true, false, Bool, List}
-use Rattle.prem_sched.specs.declared.sched.TaskJobs.{TaskJobs}
-use Rattle.prem_isa.specs.declared.instr.Instr.{Instr}
-use Rattle.prem_isa.specs.declared.effect.Phase.{Phase}
-use Rattle.prem_isa.specs.declared.effect.Cause.{Cause}
-use Rattle.prem_isa.specs.declared.effect.Effect.{Effect}
-use Rattle.prem_isa.specs.declared.effect.Outcome.{Outcome}
-use Rattle.prem_isa.specs.declared.effect.Outcome.TheVariants.{Trap, Done}
-use Rattle.prem_isa.specs.Act.{act, fetch}
-use Rattle.prem_isa.specs.Plain.{TaskRun, PlainState, next_input, is_running, Did, did_of, did_with, did_fetched, plain_did, plain_run}
-use Rattle.prem_lru.specs.Entries.{ReplacementRule}
-use Rattle.prem_lru.specs.Rules.{IsRule}
-use Rattle.prem_gate.specs.declared.request.Request.{Request}
-use Rattle.prem_gate.specs.Gates.{Turned}
-use Rattle.prem_cycle.specs.State.{Setup, Task, Work, MachineState, start_of, task_in}
-use Rattle.prem_cycle.specs.Issue.{Traps, Executes, attempt_by, attempt_fetched, attempt_in, issued_by}
-use Rattle.prem_cycle.specs.Core.{CoreMove, Passes, Issues}
-use Rattle.prem_cycle.specs.Cycle.{arrivals_at, bus_at, with_memory, move_at, is_over}
-use Rattle.prem_cycle.specs.Run.{CycleStep, step_by, step_in, step_with, coming_step, memory_of, run_of}
-use Rattle.prem_cycle.specs.Alone.{plain_of}
+use Rattle.prem_cycle.proofs.Prelude.{plain_of, CoreMove, Passes, Issues, arrivals_at, bus_at, with_memory, move_at, is_over, Traps, Executes, attempt_by, attempt_fetched, attempt_in}
+use Rattle.prem_cycle.proofs.Prelude.{issued_by, CycleStep, step_by, step_in, step_with, coming_step, memory_of, run_of, issued_of, AreOwn, IsRunnable, IssuedAsAlone, InstructionsAreAlone}
+use Rattle.prem_cycle.proofs.Prelude.{Setup, Task, Work, MachineState, start_of, task_in, Turned, Request, act, fetch, TaskRun, PlainState, next_input, is_running, Did, did_of, did_with}
+use Rattle.prem_cycle.proofs.Prelude.{did_fetched, plain_did, plain_run, Cause, Effect, Outcome, Trap, Done, Phase, Instr, ReplacementRule, IsRule, TaskJobs, ◌≡◌, ℕ, refl, ap, ◌∙◌, sym}
+use Rattle.prem_cycle.proofs.Prelude.{subst, cond, Some, None, Option, true, false, Bool, List, Result, Ok, Err, slice_index}
 use Rattle.prem_cycle.proofs.CoreCases.{move_cases}
-use Rattle.prem_cycle.specs.Runs.Position.Issued.{issued_of, AreOwn, IsRunnable, IssuedAsAlone, InstructionsAreAlone}
-use Rattle.prem_cycle.proofs.RunsLemmas.PositionLemmas.Stands.{Stands, IsAt, Issuing}
-use Rattle.prem_cycle.proofs.RunsLemmas.PositionLemmas.Schedules.{Unfinished, Moves, moves}
-use Rattle.prem_cycle.proofs.RunsLemmas.PositionLemmas.Turns.{issuing, running_is, bus_stands}
-use Rattle.prem_cycle.proofs.RunsLemmas.PositionLemmas.Runs.{AllAt, runs_of, keeps_of}
 use Rattle.prem_cycle.proofs.RunsLemmas.PositionLemmas.Positions.{run_stands}
+use Rattle.prem_cycle.proofs.RunsLemmas.PositionLemmas.Runs.{AllAt, runs_of, keeps_of}
+use Rattle.prem_cycle.proofs.RunsLemmas.PositionLemmas.Schedules.{Unfinished, Moves, moves}
+use Rattle.prem_cycle.proofs.RunsLemmas.PositionLemmas.Stands.{Stands, IsAt, Issuing}
+use Rattle.prem_cycle.proofs.RunsLemmas.PositionLemmas.Turns.{issuing, running_is, bus_stands}
 
 -- ---- what the run on its own executes
 

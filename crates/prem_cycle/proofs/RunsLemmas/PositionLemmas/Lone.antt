@@ -1,25 +1,9 @@
 -- One task without devices: all of memory is its own.
-use Rattle.std.specs.Prelude.{All, ◌&&◌}
-use Rattle.std.proofs.Common.{◌≡◌, ℕ, zero, suc, ◌+◌, ◌-◌, ◌/◌, ◌<◌, ◌≤◌, refl, ap, ◌∙◌, sym, arith, cond, ltb, Some, None, Option, true, false, Bool, List, [], ◌∷◌, ◌++◌, length}
-use Rattle.std.proofs.Common.{get_or, replicate, IfSome, ⊎_elim, ◌⊎◌, inl, inr, is_none}
-use Rattle.std.proofs.lemmas.Bool.{cases_lt, le-ltb}
-use Rattle.std.proofs.lemmas.List.Elements.{All-nil}
-use Rattle.prem_plant.specs.declared.plant.Plant.{Plant}
-use Rattle.prem_isa.specs.declared.effect.Cause.{Cause}
-use Rattle.prem_isa.specs.declared.effect.Access.{Access}
-use Rattle.prem_isa.specs.declared.effect.Stored.{Stored}
-use Rattle.prem_isa.specs.declared.effect.Effect.{Effect}
-use Rattle.prem_isa.specs.declared.effect.Outcome.{Outcome}
-use Rattle.prem_isa.specs.declared.effect.Outcome.TheVariants.{Trap, Done}
-use Rattle.prem_isa.specs.Plain.{TaskRun, PlainState, RunFits, is_running, after_outcome, plain_start, plain_run}
-use Rattle.prem_isa.proofs.PlainLaws.{plain_steps-next, plain_stays, plain_run-add}
-use Rattle.prem_image.specs.declared.image.TaskRecord.{TaskRecord}
-use Rattle.prem_image.specs.Records.{IsPlaced}
-use Rattle.prem_cycle.specs.Inputs.{IsRequest}
-use Rattle.prem_cycle.specs.Run.{memory_of}
-use Rattle.prem_cycle.specs.Runs.Position.Own.{AllOwn, LoadsOwn, IsFree, IsOwn, IsOwnOutcome, next_outcome, StaysOwn}
-use Rattle.prem_cycle.specs.Runs.Position.Issued.{IsRunOf, AreOwn, IsRunnable}
-use Rattle.prem_cycle.specs.Runs.Position.Finish.{lone, run_alone, NeverTraps, IsLone, EndsIn}
+use Rattle.prem_cycle.proofs.Prelude.{IsRequest, memory_of, lone, run_alone, NeverTraps, IsLone, EndsIn, IsRunOf, AreOwn, IsRunnable, AllOwn, LoadsOwn, IsFree, IsOwn, IsOwnOutcome}
+use Rattle.prem_cycle.proofs.Prelude.{next_outcome, StaysOwn, IsPlaced, TaskRecord, plain_steps-next, plain_stays, plain_run-add, TaskRun, PlainState, RunFits, is_running, after_outcome}
+use Rattle.prem_cycle.proofs.Prelude.{plain_start, plain_run, Access, Cause, Effect, Outcome, Trap, Done, Stored, Plant, ◌≡◌, ℕ, zero, suc, ◌+◌, ◌-◌, ◌/◌, ◌<◌, ◌≤◌, refl, ap, ◌∙◌, sym}
+use Rattle.prem_cycle.proofs.Prelude.{arith, cond, ltb, Some, None, Option, true, false, Bool, List, [], ◌∷◌, ◌++◌, length, get_or, replicate, IfSome, ⊎_elim, ◌⊎◌, inl, inr, is_none}
+use Rattle.prem_cycle.proofs.Prelude.{cases_lt, le-ltb, All-nil, All, ◌&&◌}
 
 -- every byte
 abbrev pub whole : ℕ → Bool

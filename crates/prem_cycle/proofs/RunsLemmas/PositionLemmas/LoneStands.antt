@@ -1,14 +1,9 @@
 -- Where a run of one task without devices stands.
-use Rattle.std.proofs.Common.{◌≡◌, ℕ, zero, suc, ◌<◌, refl, ap, arith, Some, [], ◌∷◌}
-use Rattle.prem_isa.specs.Plain.{TaskRun, PlainState, Did, plain_did, plain_run}
-use Rattle.prem_cycle.specs.State.{Setup, MachineState, start_of, task_in}
-use Rattle.prem_cycle.specs.Run.{did_in, memory_of}
-use Rattle.prem_cycle.specs.Alone.{plain_of}
-use Rattle.prem_cycle.specs.Runs.Position.Issued.{issued_of, StandsAsAlone, IssuedAsAlone}
-use Rattle.prem_cycle.specs.Runs.Position.Finish.{lone, run_alone, lone_run, lone_issued, LoneStandsAsAlone, LoneIssuesAsAlone}
-use Rattle.prem_cycle.proofs.RunsLemmas.PositionLemmas.Positions.{tasks_stand_as_alone}
+use Rattle.prem_cycle.proofs.Prelude.{plain_of, did_in, memory_of, lone, run_alone, lone_run, lone_issued, LoneStandsAsAlone, LoneIssuesAsAlone, issued_of, StandsAsAlone, IssuedAsAlone}
+use Rattle.prem_cycle.proofs.Prelude.{Setup, MachineState, start_of, task_in, TaskRun, PlainState, Did, plain_did, plain_run, ◌≡◌, ℕ, zero, suc, ◌<◌, refl, ap, arith, Some, [], ◌∷◌}
 use Rattle.prem_cycle.proofs.RunsLemmas.PositionLemmas.Issues.{instructions_are_alone}
 use Rattle.prem_cycle.proofs.RunsLemmas.PositionLemmas.Lone.{all_whole, lone_runnable, lone_own}
+use Rattle.prem_cycle.proofs.RunsLemmas.PositionLemmas.Positions.{tasks_stand_as_alone}
 
 pub lone_stands_as_alone : LoneStandsAsAlone
 lone_stands_as_alone rule plant task content words n r h never =

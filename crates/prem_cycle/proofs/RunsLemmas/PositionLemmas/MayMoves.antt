@@ -1,15 +1,8 @@
 -- A core that may be kept waiting at a scheduling point: in a cycle it does what it does where it is the only one, or nothing.
-use Rattle.std.specs.Prelude.{◌≡◌, ℕ, Bool, List}
-use Rattle.prem_sched.specs.declared.sched.TaskJobs.{TaskJobs}
-use Rattle.prem_isa.specs.Plain.{TaskRun}
-use Rattle.prem_lru.specs.Entries.{ReplacementRule}
-use Rattle.prem_gate.specs.Gates.{Turned}
-use Rattle.prem_cycle.specs.declared.state.Mode.TheVariants.{Point}
-use Rattle.prem_cycle.specs.State.{Setup, Work, CoreState, MachineState}
-use Rattle.prem_cycle.specs.Core.{CoreMove, Passes, CoreTurn, core_turn}
-use Rattle.prem_cycle.specs.Cycle.{with_memory, with_clash}
+use Rattle.prem_cycle.proofs.Prelude.{CoreMove, Passes, CoreTurn, core_turn, with_memory, with_clash, Setup, Work, CoreState, MachineState, Point, Turned, TaskRun, ReplacementRule, TaskJobs}
 use Rattle.prem_cycle.proofs.CoreCases.{MoveCase}
 use Rattle.prem_cycle.proofs.RunsLemmas.PositionLemmas.Schedules.{Schedules, Moves, moves}
+use Rattle.std.specs.Prelude.{◌≡◌, ℕ, Bool, List}
 
 pub data MayMove (p : Setup) (now : ℕ) (had : Bool) (sched : List TaskJobs) (w : Work) (c : CoreState) : CoreMove → Type 0 where
   does : (m : CoreMove) → MoveCase p now had sched w c m → MayMove p now had sched w c m

@@ -1,12 +1,6 @@
 -- The law of position.
-use Rattle.std.proofs.Common.{ℕ, Bool, List}
-use Rattle.prem_isa.specs.Plain.{TaskRun}
-use Rattle.prem_lru.specs.Entries.{ReplacementRule}
-use Rattle.prem_lru.specs.Rules.{IsRule}
-use Rattle.prem_gate.specs.declared.request.Request.{Request}
-use Rattle.prem_cycle.specs.State.{Setup, MachineState, start_of}
-use Rattle.prem_cycle.specs.Run.{memory_of, run_of}
-use Rattle.prem_cycle.specs.Runs.Position.Issued.{issued_of, AreOwn, IsRunnable, StandsAsAlone, TasksStandAsAlone}
+use Rattle.prem_cycle.proofs.Prelude.{memory_of, run_of, issued_of, AreOwn, IsRunnable, StandsAsAlone, TasksStandAsAlone, Setup, MachineState, start_of, Request, TaskRun, ReplacementRule}
+use Rattle.prem_cycle.proofs.Prelude.{IsRule, ℕ, Bool, List}
 use Rattle.prem_cycle.proofs.RunsLemmas.PositionLemmas.Runs.{AllAt, run_all}
 use Rattle.prem_cycle.proofs.RunsLemmas.PositionLemmas.Starts.{start_all}
 

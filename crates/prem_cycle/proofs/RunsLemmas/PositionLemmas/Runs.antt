@@ -1,25 +1,14 @@
 -- Over a run each task stands where it stands on its own.
-use Rattle.std.proofs.Common.{◌≡◌, ℕ, zero, suc, ◌+◌, refl, ap, ◌∙◌, sym, subst, arith, cond, eqb, None, Option, true, false, Bool, List, [], ◌∷◌, ◌++◌, ⊎_elim}
-use Rattle.std.proofs.lemmas.Bool.{cases_Bool}
-use Rattle.std.proofs.lemmas.List.Sums.{sum_by-append}
-use Rattle.prem_sched.specs.declared.sched.TaskJobs.{TaskJobs}
-use Rattle.prem_isa.specs.Plain.{TaskRun, with_last}
-use Rattle.prem_lru.specs.Entries.{ReplacementRule}
-use Rattle.prem_lru.specs.Rules.{IsRule}
-use Rattle.prem_gate.specs.declared.request.Request.{Request}
-use Rattle.prem_gate.specs.Gates.{Turned}
-use Rattle.prem_cycle.specs.State.{Setup, Work, MachineState}
-use Rattle.prem_cycle.specs.Issue.{behind_touches}
-use Rattle.prem_cycle.specs.Core.{CoreMove, Passes, Issues}
-use Rattle.prem_cycle.specs.Cycle.{Arrivals, arrivals_at, bus_at, with_memory, move_at, is_over, cycle_of, step_of}
-use Rattle.prem_cycle.specs.Run.{CycleStep, step_by, step_in, step_with, coming_step, memory_of, cycles_of, steps_of}
+use Rattle.prem_cycle.proofs.Prelude.{CoreMove, Passes, Issues, Arrivals, arrivals_at, bus_at, with_memory, move_at, is_over, cycle_of, step_of, behind_touches, CycleStep, step_by, step_in}
+use Rattle.prem_cycle.proofs.Prelude.{step_with, coming_step, memory_of, cycles_of, steps_of, count_of, issued_of, IsRunOf, AreOwn, IsRunnable, Setup, Work, MachineState, Turned, Request}
+use Rattle.prem_cycle.proofs.Prelude.{TaskRun, with_last, ReplacementRule, IsRule, TaskJobs, ◌≡◌, ℕ, zero, suc, ◌+◌, refl, ap, ◌∙◌, sym, subst, arith, cond, eqb, None, Option, true, false}
+use Rattle.prem_cycle.proofs.Prelude.{Bool, List, [], ◌∷◌, ◌++◌, ⊎_elim, cases_Bool, sum_by-append}
 use Rattle.prem_cycle.proofs.CoreCases.{move_cases}
 use Rattle.prem_cycle.proofs.CycleParts.{cycle_gates}
-use Rattle.prem_cycle.specs.Runs.Position.Issued.{count_of, issued_of, IsRunOf, AreOwn, IsRunnable}
-use Rattle.prem_cycle.proofs.RunsLemmas.PositionLemmas.Stands.{bump, Stands, Issuing}
-use Rattle.prem_cycle.proofs.RunsLemmas.PositionLemmas.Schedules.{Moves, moves}
-use Rattle.prem_cycle.proofs.RunsLemmas.PositionLemmas.Turns.{Runs, bump_move, issuing, Position, BusKeeps, bus_stands, cycle_position}
 use Rattle.prem_cycle.proofs.RunsLemmas.PositionLemmas.Gated.{AreGates, arrivals_gates, Turns, bus_turns, written_keeps}
+use Rattle.prem_cycle.proofs.RunsLemmas.PositionLemmas.Schedules.{Moves, moves}
+use Rattle.prem_cycle.proofs.RunsLemmas.PositionLemmas.Stands.{bump, Stands, Issuing}
+use Rattle.prem_cycle.proofs.RunsLemmas.PositionLemmas.Turns.{Runs, bump_move, issuing, Position, BusKeeps, bus_stands, cycle_position}
 
 -- ---- how many instructions
 

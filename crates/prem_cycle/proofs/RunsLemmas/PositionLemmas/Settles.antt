@@ -1,40 +1,23 @@
 -- The end of a cycle of one task without devices, and its whole run.
-use Rattle.std.specs.Prelude.{◌&&◌, ◌||◌, is_some}
-use Rattle.std.proofs.Common.{◌≡◌, ℕ, zero, suc, ◌+◌, ◌-◌, ◌*◌, ◌<◌, ◌≤◌, refl, ap, ◌∙◌, sym, subst, arith, cond, ltb, None, Option, true, false, Bool, List, [], ◌∷◌, length, ⊎_elim}
-use Rattle.std.proofs.lemmas.Bool.{cond_both, cases_Bool, and_parts, ltb-true}
-use Rattle.std.proofs.lemmas.List.{get_or-set_same, length-append}
-use Rattle.prem_plant.specs.declared.plant.Plant.{Plant}
-use Rattle.prem_sched.specs.declared.sched.TaskJobs.{TaskJobs}
-use Rattle.prem_sched.specs.declared.sched.Choice.TheVariants.{Idle as Rest, Finished}
-use Rattle.prem_sched.specs.Schedule.{choice, no_task, task_at, with_job}
-use Rattle.prem_isa.specs.declared.effect.Change.{Change}
-use Rattle.prem_isa.specs.declared.effect.Change.TheVariants.{Stay, Memory, Execute, End, Job}
-use Rattle.prem_isa.specs.Plain.{TaskRun, with_last}
-use Rattle.prem_lru.specs.Entries.{ReplacementRule}
-use Rattle.prem_lru.specs.Rules.{IsRule}
-use Rattle.prem_gate.specs.Gates.{GatesState, Turned, wants}
-use Rattle.prem_image.specs.declared.image.TaskRecord.{TaskRecord}
-use Rattle.prem_cycle.specs.declared.state.Mode.{Mode}
-use Rattle.prem_cycle.specs.declared.state.Mode.TheVariants.{Point, Switching, Running, Idle}
-use Rattle.prem_cycle.specs.declared.state.Interval.{Interval}
-use Rattle.prem_cycle.specs.State.{Setup, Work, Debt, MachineState, start_of}
-use Rattle.prem_cycle.specs.Core.{want_of, is_paid, CoreMove, CoreTurn}
-use Rattle.prem_cycle.specs.Cycle.{Arrivals, arrivals_at, bus_at, with_memory, with_clash, move_at, core_at, joined, ends_before, sched_after, ended_interval, at_point}
-use Rattle.prem_cycle.specs.Cycle.{close_interval, settle, with_now, next_cycle, is_finish, is_finished_in, is_finished, is_full, is_over, cycle_of, step_of}
-use Rattle.prem_cycle.specs.Run.{CycleStep, step_with, coming_step, memory_of, cycles_of, steps_of}
+use Rattle.prem_cycle.proofs.Prelude.{want_of, is_paid, CoreMove, CoreTurn, Arrivals, arrivals_at, bus_at, with_memory, with_clash, move_at, core_at, joined, ends_before, sched_after}
+use Rattle.prem_cycle.proofs.Prelude.{ended_interval, at_point, close_interval, settle, with_now, next_cycle, is_finish, is_finished_in, is_finished, is_full, is_over, cycle_of, step_of}
+use Rattle.prem_cycle.proofs.Prelude.{CycleStep, step_with, coming_step, memory_of, cycles_of, steps_of, lone, run_alone, IsLone, EndsIn, count_of, issued_of, AreOwn, IsRunnable, Setup}
+use Rattle.prem_cycle.proofs.Prelude.{Work, Debt, MachineState, start_of, Interval, Mode, Point, Switching, Running, Idle, GatesState, Turned, wants, TaskRecord, TaskRun, with_last, Change}
+use Rattle.prem_cycle.proofs.Prelude.{Stay, Memory, Execute, End, Job, ReplacementRule, IsRule, Plant, choice, no_task, task_at, with_job, Finished, TaskJobs, ◌≡◌, ℕ, zero, suc, ◌+◌, ◌-◌}
+use Rattle.prem_cycle.proofs.Prelude.{◌*◌, ◌<◌, ◌≤◌, refl, ap, ◌∙◌, sym, subst, arith, cond, ltb, None, Option, true, false, Bool, List, [], ◌∷◌, length, ⊎_elim, cond_both, cases_Bool}
+use Rattle.prem_cycle.proofs.Prelude.{and_parts, ltb-true, get_or-set_same, length-append, ◌&&◌, ◌||◌, is_some}
 use Rattle.prem_cycle.proofs.CoreCases.{move_cases}
-use Rattle.prem_cycle.specs.Runs.Position.Issued.{count_of, issued_of, AreOwn, IsRunnable}
-use Rattle.prem_cycle.specs.Runs.Position.Finish.{lone, run_alone, IsLone, EndsIn}
-use Rattle.prem_cycle.proofs.RunsLemmas.PositionLemmas.Stands.{Stands}
-use Rattle.prem_cycle.proofs.RunsLemmas.PositionLemmas.Schedules.{GoesOn, Going, Schedules, Moves, moves}
-use Rattle.prem_cycle.proofs.RunsLemmas.PositionLemmas.Turns.{bump_move, Runs, TurnStands, turn_stands, bus_stands}
-use Rattle.prem_cycle.proofs.RunsLemmas.PositionLemmas.Runs.{AllAt, runs_of, keeps_of, count_move, is_issued, run_all}
-use Rattle.prem_cycle.proofs.RunsLemmas.PositionLemmas.Starts.{start_all}
-use Rattle.prem_cycle.proofs.RunsLemmas.PositionLemmas.Lone.{all_whole}
+use Rattle.prem_cycle.proofs.RunsLemmas.PositionLemmas.Clocks.{Marked, MayMark, Waiting, Clocked, Clocking, MoveClock, move_clock, rest_is}
 use Rattle.prem_cycle.proofs.RunsLemmas.PositionLemmas.Debts.{paid_none}
 use Rattle.prem_cycle.proofs.RunsLemmas.PositionLemmas.Dues.{dues_of}
-use Rattle.prem_cycle.proofs.RunsLemmas.PositionLemmas.Clocks.{Marked, MayMark, Waiting, Clocked, Clocking, MoveClock, move_clock, rest_is}
+use Rattle.prem_cycle.proofs.RunsLemmas.PositionLemmas.Lone.{all_whole}
+use Rattle.prem_cycle.proofs.RunsLemmas.PositionLemmas.Runs.{AllAt, runs_of, keeps_of, count_move, is_issued, run_all}
+use Rattle.prem_cycle.proofs.RunsLemmas.PositionLemmas.Schedules.{GoesOn, Going, Schedules, Moves, moves}
+use Rattle.prem_cycle.proofs.RunsLemmas.PositionLemmas.Stands.{Stands}
+use Rattle.prem_cycle.proofs.RunsLemmas.PositionLemmas.Starts.{start_all}
 use Rattle.prem_cycle.proofs.RunsLemmas.PositionLemmas.Times.{bus_had, bus_stays, TurnTimes, turn_times}
+use Rattle.prem_cycle.proofs.RunsLemmas.PositionLemmas.Turns.{bump_move, Runs, TurnStands, turn_stands, bus_stands}
+use Rattle.prem_sched.specs.declared.sched.Choice.TheVariants.{Idle as Rest}
 
 -- ---- what holds of each state
 

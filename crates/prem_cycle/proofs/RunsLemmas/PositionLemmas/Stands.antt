@@ -1,29 +1,14 @@
 -- Each task stands where it stands on its own, and so it does behind an instruction.
-use Rattle.std.specs.Prelude.{slice_set, replicate}
-use Rattle.std.proofs.Common.{◌≡◌, ◌≢◌, ℕ, zero, suc, ◌+◌, ◌-◌, ◌<◌, ◌≤◌, refl, ap, ◌∙◌, sym, subst, arith, cond, eqb, Some, None, Option, true, Bool, List, length, IfSome, ⊎_elim}
-use Rattle.std.proofs.lemmas.Bool.{cases_lt, eq-eqb, ne_eqb}
-use Rattle.std.proofs.lemmas.List.{length-set}
-use Rattle.prem_isa.specs.declared.instr.Instr.{Instr}
-use Rattle.prem_isa.specs.declared.effect.Change.{Change}
-use Rattle.prem_isa.specs.declared.effect.Change.TheVariants.{Stay, Memory, Execute, End, Job}
-use Rattle.prem_isa.specs.declared.effect.Stored.{Stored}
-use Rattle.prem_isa.specs.declared.effect.Effect.{Effect}
-use Rattle.prem_isa.specs.Act.{list_with_register, with_stored}
-use Rattle.prem_isa.specs.Bounds.{EffectFits, EffectLawful}
-use Rattle.prem_isa.specs.Plain.{TaskRun, PlainState, is_running, plain_step, plain_run, RunFits, StateFits}
-use Rattle.prem_isa.proofs.PlainLaws.{plain_fits, plain_steps-next}
-use Rattle.prem_lru.specs.Entries.{ReplacementRule}
-use Rattle.prem_lru.specs.CacheState.{view_of}
-use Rattle.prem_lru.specs.Rules.{IsRule}
-use Rattle.prem_lru.proofs.Numbers.{put_below, put_above}
-use Rattle.prem_image.specs.declared.image.TaskRecord.{TaskRecord}
-use Rattle.prem_cycle.specs.State.{Setup, record_of, first_list, Task, Work, task_in}
-use Rattle.prem_cycle.specs.Issue.{Executes, attempt_in, attempt_of, view_behind, behind_touches, attempt_behind, task_moved, task_changed, task_after, issued_by}
-use Rattle.prem_cycle.specs.Alone.{plain_of, ended_after}
-use Rattle.prem_cycle.proofs.SamePlain.{plain_step-same}
-use Rattle.prem_cycle.specs.Runs.Position.Own.{AllOwn, IsOwn, IsOwnOutcome, next_outcome}
+use Rattle.prem_cycle.proofs.Prelude.{plain_of, ended_after, Executes, attempt_in, attempt_of, view_behind, behind_touches, attempt_behind, task_moved, task_changed, task_after, issued_by}
+use Rattle.prem_cycle.proofs.Prelude.{AllOwn, IsOwn, IsOwnOutcome, next_outcome, Setup, record_of, first_list, Task, Work, task_in, TaskRecord, plain_fits, plain_steps-next}
+use Rattle.prem_cycle.proofs.Prelude.{list_with_register, with_stored, EffectFits, EffectLawful, TaskRun, PlainState, is_running, plain_step, plain_run, RunFits, StateFits, Change, Stay}
+use Rattle.prem_cycle.proofs.Prelude.{Memory, Execute, End, Job, Effect, Stored, Instr, put_below, put_above, view_of, ReplacementRule, IsRule, ◌≡◌, ◌≢◌, ℕ, zero, suc, ◌+◌, ◌-◌, ◌<◌, ◌≤◌}
+use Rattle.prem_cycle.proofs.Prelude.{refl, ap, ◌∙◌, sym, subst, arith, cond, eqb, Some, None, Option, true, Bool, List, length, IfSome, ⊎_elim, cases_lt, ne_eqb, length-set, slice_set}
 use Rattle.prem_cycle.proofs.RunsLemmas.PositionLemmas.Attempts.{AgreeOn, Next, next_of, seen_same}
 use Rattle.prem_cycle.proofs.RunsLemmas.PositionLemmas.Works.{IsKept, Issue, issue_facts, behind_view}
+use Rattle.prem_cycle.proofs.SamePlain.{plain_step-same}
+use Rattle.std.proofs.lemmas.Bool.{eq-eqb}
+use Rattle.std.specs.Prelude.{replicate}
 
 -- ---- what a store leaves
 

@@ -1,33 +1,16 @@
 -- At the start each task is where its run on its own starts.
-use Rattle.std.specs.Prelude.{slice_index, map, is_some}
-use Rattle.std.proofs.Common.{◌≡◌, ℕ, zero, suc, ◌+◌, ◌-◌, ◌/◌, ◌%◌, ◌<◌, ◌≤◌, refl, ap, ◌∙◌, sym, subst, arith, Some, None, true, false, Bool, List, [], ◌∷◌, ◌++◌, length, get_or, replicate}
-use Rattle.std.proofs.lemmas.List.{get_or-map, length-map, length-append, length-replicate}
-use Rattle.std.proofs.lemmas.List.Elements.{All-nil}
-use Rattle.prem_plant.specs.declared.plant.Plant.{Plant}
-use Rattle.prem_plant.specs.declared.plant.Device.{Device}
-use Rattle.prem_plant.specs.Ranges.{IsPlant}
-use Rattle.prem_sched.specs.declared.sched.TaskJobs.{TaskJobs}
-use Rattle.prem_sched.specs.Schedule.{start_of as jobs_of, starts_of, no_task, task_at}
-use Rattle.prem_isa.specs.declared.effect.Phase.TheVariants.{Compatible}
-use Rattle.prem_isa.specs.Act.{first_registers}
-use Rattle.prem_isa.specs.Plain.{TaskRun, PlainState, plain_start, plain_steps, plain_run}
-use Rattle.prem_lru.specs.Entries.{Entry, find_line}
-use Rattle.prem_lru.specs.CacheState.{empty_cache, entry_of, view_of, byte_in, IsSet, IsCache}
-use Rattle.prem_gate.specs.declared.request.Request.{Request}
-use Rattle.prem_gate.specs.Gates.{gate_of, gates_of, gate_at}
-use Rattle.prem_image.specs.declared.image.TaskRecord.{TaskRecord}
-use Rattle.prem_image.specs.declared.image.DeviceRecord.{DeviceRecord}
-use Rattle.prem_cycle.specs.State.{Setup, no_record, record_of, first_task, first_tasks, Task, start_of}
-use Rattle.prem_cycle.specs.Run.{memory_of}
-use Rattle.prem_cycle.specs.Alone.{plain_of}
-use Rattle.prem_cycle.specs.Inputs.{no_device}
-use Rattle.prem_cycle.specs.Runs.Position.Own.{device_of}
-use Rattle.prem_cycle.specs.Runs.Position.Issued.{IsRunOf, AreOwn, IsRunnable}
-use Rattle.prem_cycle.proofs.RunsLemmas.PositionLemmas.Works.{IsKept}
-use Rattle.prem_cycle.proofs.RunsLemmas.PositionLemmas.Stands.{IsAt}
+use Rattle.prem_cycle.proofs.Prelude.{plain_of, no_device, memory_of, IsRunOf, AreOwn, IsRunnable, device_of, Setup, no_record, record_of, first_task, first_tasks, Task, start_of, gate_of}
+use Rattle.prem_cycle.proofs.Prelude.{gates_of, gate_at, Request, DeviceRecord, TaskRecord, first_registers, TaskRun, PlainState, plain_start, plain_steps, plain_run, Compatible}
+use Rattle.prem_cycle.proofs.Prelude.{empty_cache, entry_of, view_of, byte_in, IsSet, IsCache, Entry, find_line, IsPlant, Device, Plant, starts_of, no_task, task_at, TaskJobs, ◌≡◌, ℕ, zero}
+use Rattle.prem_cycle.proofs.Prelude.{suc, ◌+◌, ◌-◌, ◌/◌, ◌%◌, ◌<◌, ◌≤◌, refl, ap, ◌∙◌, sym, subst, arith, Some, None, true, false, Bool, List, [], ◌∷◌, ◌++◌, length, get_or, replicate}
+use Rattle.prem_cycle.proofs.Prelude.{get_or-map, length-map, length-append, length-replicate, All-nil, slice_index, is_some}
 use Rattle.prem_cycle.proofs.RunsLemmas.PositionLemmas.Gated.{IsGateOf, AreGates}
 use Rattle.prem_cycle.proofs.RunsLemmas.PositionLemmas.Runs.{AllAt}
+use Rattle.prem_cycle.proofs.RunsLemmas.PositionLemmas.Stands.{IsAt}
+use Rattle.prem_cycle.proofs.RunsLemmas.PositionLemmas.Works.{IsKept}
 use Rattle.prem_cycle.proofs.SamePlain.{first_list_reads}
+use Rattle.prem_sched.specs.Schedule.{start_of as jobs_of}
+use Rattle.std.specs.Prelude.{map}
 
 -- ---- an empty cache
 

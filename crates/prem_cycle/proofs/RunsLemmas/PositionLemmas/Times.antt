@@ -1,40 +1,18 @@
 -- A run of one task without devices keeps to what is due.
-use Rattle.std.specs.Prelude.{slice_set}
-use Rattle.std.proofs.Common.{◌≡◌, ℕ, zero, suc, ◌+◌, ◌-◌, ◌*◌, ◌/◌, ◌<◌, ◌≤◌, refl, ap, ◌∙◌, sym, subst, arith, Some, None, true, false, List, [], ⊎_elim}
-use Rattle.std.proofs.lemmas.Bool.{cases_lt}
-use Rattle.prem_plant.specs.declared.plant.Plant.{Plant}
-use Rattle.prem_plant.specs.Ranges.{IsPlant}
-use Rattle.prem_sched.specs.declared.sched.TaskJobs.{TaskJobs}
-use Rattle.prem_isa.specs.declared.effect.Phase.{Phase}
-use Rattle.prem_isa.specs.declared.effect.Phase.TheVariants.{Compatible, Memory as MemoryPhase, Execution}
-use Rattle.prem_isa.specs.declared.effect.Change.{Change}
-use Rattle.prem_isa.specs.declared.effect.Change.TheVariants.{Stay, Memory, Execute, End, Job}
-use Rattle.prem_isa.specs.Decode.{cost_of}
-use Rattle.prem_isa.specs.Act.{phase_after}
-use Rattle.prem_isa.specs.Bounds.{IsLawful}
-use Rattle.prem_isa.specs.Plain.{TaskRun, PlainState, is_running, plain_run, Did, did_of, plain_did}
-use Rattle.prem_isa.proofs.ActLaws.{cost_bounds}
-use Rattle.prem_lru.specs.Entries.{ReplacementRule}
-use Rattle.prem_lru.specs.Rules.{IsRule}
-use Rattle.prem_lru.specs.CacheState.{touch_of}
-use Rattle.prem_gate.specs.declared.bus.Window.{Window}
-use Rattle.prem_gate.specs.declared.bus.CoreWant.{CoreWant}
-use Rattle.prem_gate.specs.declared.bus.CoreWant.TheVariants.{No, New, Held}
-use Rattle.prem_gate.specs.Gates.{GatesState, Turned, startable_from, wants, bus_with, bus_turn}
-use Rattle.prem_image.specs.declared.image.TaskRecord.{TaskRecord}
-use Rattle.prem_cycle.specs.declared.state.Interval.{Interval}
-use Rattle.prem_cycle.specs.State.{Setup, record_of, Task, Work, CoreState, Counts, task_in}
-use Rattle.prem_cycle.specs.Issue.{task_moved, task_changed, task_after, LineTouch, owed_by, issued_by}
-use Rattle.prem_cycle.specs.Core.{CoreMove, Passes, Issues, CoreTurn, core_issue, core_turn}
-use Rattle.prem_cycle.specs.Runs.Position.Finish.{lone, run_alone, EndsIn, due_of, data_accesses}
-use Rattle.prem_cycle.proofs.RunsLemmas.PositionLemmas.Stands.{Stands, IsAt, Issuing}
-use Rattle.prem_cycle.proofs.RunsLemmas.PositionLemmas.Schedules.{Unfinished, Moves}
-use Rattle.prem_cycle.proofs.RunsLemmas.PositionLemmas.Turns.{bump_move, issuing, running_is, Runs}
-use Rattle.prem_cycle.proofs.RunsLemmas.PositionLemmas.Issues.{issuing_did}
-use Rattle.prem_cycle.proofs.RunsLemmas.PositionLemmas.Lone.{all_whole, whole, later_same, ends_stopped}
+use Rattle.prem_cycle.proofs.Prelude.{CoreMove, Passes, Issues, CoreTurn, core_issue, core_turn, task_moved, task_changed, task_after, LineTouch, owed_by, issued_by, lone, run_alone, EndsIn}
+use Rattle.prem_cycle.proofs.Prelude.{due_of, data_accesses, Setup, record_of, Task, Work, CoreState, Counts, task_in, Interval, GatesState, Turned, startable_from, wants, bus_with}
+use Rattle.prem_cycle.proofs.Prelude.{bus_turn, CoreWant, No, New, Held, Window, TaskRecord, cost_bounds, phase_after, IsLawful, cost_of, TaskRun, PlainState, is_running, plain_run, Did}
+use Rattle.prem_cycle.proofs.Prelude.{did_of, plain_did, Change, Stay, Memory, Execute, End, Job, Phase, Compatible, Execution, touch_of, ReplacementRule, IsRule, IsPlant, Plant, TaskJobs}
+use Rattle.prem_cycle.proofs.Prelude.{◌≡◌, ℕ, zero, suc, ◌+◌, ◌-◌, ◌*◌, ◌/◌, ◌<◌, ◌≤◌, refl, ap, ◌∙◌, sym, subst, arith, Some, None, true, false, List, [], ⊎_elim, cases_lt, slice_set}
+use Rattle.prem_cycle.proofs.RunsLemmas.PositionLemmas.Clocks.{MayMark, Clocking, ReadyClock, MoveClock}
 use Rattle.prem_cycle.proofs.RunsLemmas.PositionLemmas.Debts.{total, owed_positive, owed_at_most}
 use Rattle.prem_cycle.proofs.RunsLemmas.PositionLemmas.Dues.{dues_of, dues_next}
-use Rattle.prem_cycle.proofs.RunsLemmas.PositionLemmas.Clocks.{MayMark, Clocking, ReadyClock, MoveClock}
+use Rattle.prem_cycle.proofs.RunsLemmas.PositionLemmas.Issues.{issuing_did}
+use Rattle.prem_cycle.proofs.RunsLemmas.PositionLemmas.Lone.{all_whole, whole, later_same, ends_stopped}
+use Rattle.prem_cycle.proofs.RunsLemmas.PositionLemmas.Schedules.{Unfinished, Moves}
+use Rattle.prem_cycle.proofs.RunsLemmas.PositionLemmas.Stands.{Stands, IsAt, Issuing}
+use Rattle.prem_cycle.proofs.RunsLemmas.PositionLemmas.Turns.{bump_move, issuing, running_is, Runs}
+use Rattle.prem_isa.specs.declared.effect.Phase.TheVariants.{Memory as MemoryPhase}
 
 -- ---- the bus without devices
 

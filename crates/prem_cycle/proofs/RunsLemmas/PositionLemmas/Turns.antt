@@ -1,32 +1,16 @@
 -- Where the tasks stand behind the core's part of a cycle, and behind the cycle.
-use Rattle.std.specs.Prelude.{slice_set, is_some, ◌&&◌}
-use Rattle.std.proofs.Common.{◌≡◌, ℕ, ◌+◌, ◌<◌, refl, ap, ◌∙◌, sym, subst, arith, cond, ltb, None, true, Bool, List, [], length, get_or, ⊎_elim}
-use Rattle.std.proofs.lemmas.Bool.{cases_eq, cond_both, lt-ltb}
-use Rattle.std.proofs.lemmas.List.{get_or-set_same, get_or-set_other, length-set}
-use Rattle.prem_sched.specs.declared.sched.TaskJobs.{TaskJobs}
-use Rattle.prem_sched.specs.Schedule.{task_at}
-use Rattle.prem_isa.specs.declared.effect.Change.{Change}
-use Rattle.prem_isa.specs.declared.effect.Change.TheVariants.{Stay, Memory, Execute, End, Job}
-use Rattle.prem_isa.specs.Act.{with_stored}
-use Rattle.prem_isa.specs.Plain.{TaskRun, PlainState, is_running, plain_run}
-use Rattle.prem_lru.specs.Entries.{ReplacementRule}
-use Rattle.prem_lru.specs.CacheState.{view_of}
-use Rattle.prem_lru.specs.Rules.{IsRule}
-use Rattle.prem_gate.specs.Gates.{Turned}
-use Rattle.prem_cycle.specs.declared.state.Mode.{Mode}
-use Rattle.prem_cycle.specs.declared.state.Mode.TheVariants.{Point, Switching, Running, Idle}
-use Rattle.prem_cycle.specs.State.{Setup, record_of, no_record, first_task, Task, Work, CoreState, Counts, MachineState, task_in}
-use Rattle.prem_cycle.specs.Issue.{task_after, issued_by}
-use Rattle.prem_cycle.specs.Alone.{plain_of, ended_after}
-use Rattle.prem_cycle.specs.Core.{is_paid, CoreMove, Passes, Issues, CoreTurn, core_issue, core_turn}
-use Rattle.prem_cycle.specs.Cycle.{Arrivals, with_memory, with_clash, move_at, core_at, joined, ends_before, at_point, close_interval, settle, with_now, next_cycle, ticked, cycle_with}
+use Rattle.prem_cycle.proofs.Prelude.{plain_of, ended_after, is_paid, CoreMove, Passes, Issues, CoreTurn, core_issue, core_turn, Arrivals, with_memory, with_clash, move_at, core_at, joined}
+use Rattle.prem_cycle.proofs.Prelude.{ends_before, at_point, close_interval, settle, with_now, next_cycle, ticked, cycle_with, task_after, issued_by, StaysOwn, Setup, record_of, no_record}
+use Rattle.prem_cycle.proofs.Prelude.{first_task, Task, Work, CoreState, Counts, MachineState, task_in, Mode, Point, Switching, Running, Idle, Turned, with_stored, TaskRun, PlainState}
+use Rattle.prem_cycle.proofs.Prelude.{is_running, plain_run, Change, Stay, Memory, Execute, End, Job, view_of, ReplacementRule, IsRule, task_at, TaskJobs, ◌≡◌, ℕ, ◌+◌, ◌<◌, refl, ap, ◌∙◌}
+use Rattle.prem_cycle.proofs.Prelude.{sym, subst, arith, cond, ltb, None, true, Bool, List, [], length, get_or, ⊎_elim, cases_eq, cond_both, lt-ltb, get_or-set_same, get_or-set_other}
+use Rattle.prem_cycle.proofs.Prelude.{length-set, slice_set, is_some, ◌&&◌}
 use Rattle.prem_cycle.proofs.CoreCases.{move_cases}
-use Rattle.prem_cycle.specs.Runs.Position.Own.{StaysOwn}
 use Rattle.prem_cycle.proofs.RunsLemmas.PositionLemmas.MayMoves.{turn_with}
-use Rattle.prem_cycle.proofs.RunsLemmas.PositionLemmas.Works.{IsKept, Issue, stored_same}
+use Rattle.prem_cycle.proofs.RunsLemmas.PositionLemmas.Schedules.{ends_job, ended_more, uncounted, uncounted_same, uncounted_other, Unfinished, GoesOn, Schedules, Ready, Moves, moves}
+use Rattle.prem_cycle.proofs.RunsLemmas.PositionLemmas.Schedules.{closes, idle_ends}
 use Rattle.prem_cycle.proofs.RunsLemmas.PositionLemmas.Stands.{stored_out, after_registers, bump, bump_same, bump_other, IsAt, Stands, Issuing, IsRun, issue_matches}
-use Rattle.prem_cycle.proofs.RunsLemmas.PositionLemmas.Schedules.{ends_job, ended_more, uncounted, uncounted_same, uncounted_other, Unfinished, GoesOn, Schedules, Ready, Moves}
-use Rattle.prem_cycle.proofs.RunsLemmas.PositionLemmas.Schedules.{moves, closes, idle_ends}
+use Rattle.prem_cycle.proofs.RunsLemmas.PositionLemmas.Works.{IsKept, Issue, stored_same}
 
 -- each task's run, and whose the bytes are
 pub record Runs (p : Setup) (own : ℕ → ℕ → Bool) (runs : ℕ → TaskRun) : Type 0 where

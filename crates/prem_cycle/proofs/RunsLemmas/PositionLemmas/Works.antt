@@ -1,28 +1,15 @@
 -- The cache and memory behind an instruction: what they keep, and what the core sees.
-use Rattle.std.specs.Prelude.{slice_set, is_some}
-use Rattle.std.proofs.Common.{◌≡◌, ℕ, zero, suc, ◌+◌, ◌*◌, ◌/◌, ◌%◌, ◌<◌, ◌≤◌, refl, ap, ◌∙◌, sym, subst, arith, cond, eqb, true, false, Some, None, Option, List, length, IfSome, ⊎_elim}
-use Rattle.std.proofs.lemmas.Bool.{cases_eq}
-use Rattle.std.proofs.Math.Nat.{div-lt_iff_lt-mul}
-use Rattle.std.proofs.lemmas.Nat.{div-add-mod'}
-use Rattle.prem_word.specs.Bytes.{put_byte, put_number}
-use Rattle.prem_plant.specs.declared.plant.Plant.{Plant}
-use Rattle.prem_plant.specs.Ranges.{IsPlant}
-use Rattle.prem_plant.proofs.Powers.{lines_whole}
-use Rattle.prem_isa.specs.declared.effect.Access.{Access}
-use Rattle.prem_isa.specs.declared.effect.Stored.{Stored}
-use Rattle.prem_isa.specs.declared.effect.Effect.{Effect}
-use Rattle.prem_isa.specs.Act.{with_stored}
-use Rattle.prem_isa.specs.Bounds.{IsPlaced, IsSize, AccessMatches, EffectFits}
-use Rattle.prem_lru.specs.Entries.{Entry, ReplacementRule}
-use Rattle.prem_lru.specs.CacheState.{CacheState, Touched, touch_of, view_of, entry_of, is_resident, IsClean, IsCache}
-use Rattle.prem_lru.specs.Rules.{IsRule}
-use Rattle.prem_lru.proofs.Touches.{touch_view, touch_clean, length-touch, touch_resident, touch_others}
-use Rattle.prem_lru.proofs.Shapes.{touch_kept}
-use Rattle.prem_lru.proofs.Stores.{store_kept, store_resident, store_clean, store_view}
+use Rattle.prem_cycle.proofs.Prelude.{task_after, stored_in, touched_with, view_behind, issued_with, issued_by, IsFree, Setup, record_of, Task, Work, task_in, with_stored, IsSize}
+use Rattle.prem_cycle.proofs.Prelude.{AccessMatches, EffectFits, Access, Effect, Stored, store_kept, store_resident, store_clean, store_view, CacheState, Touched, touch_of, view_of}
+use Rattle.prem_cycle.proofs.Prelude.{entry_of, is_resident, IsClean, IsCache, Entry, ReplacementRule, IsRule, IsPlant, Plant, ◌≡◌, ℕ, zero, suc, ◌+◌, ◌*◌, ◌/◌, ◌%◌, ◌<◌, ◌≤◌, refl, ap, ◌∙◌}
+use Rattle.prem_cycle.proofs.Prelude.{sym, subst, arith, cond, eqb, true, false, Some, None, Option, List, length, IfSome, ⊎_elim, div-lt_iff_lt-mul, cases_eq, div-add-mod', slice_set}
+use Rattle.prem_cycle.proofs.Prelude.{is_some}
+use Rattle.prem_isa.specs.Bounds.{IsPlaced}
 use Rattle.prem_lru.proofs.Caches.{access_within}
-use Rattle.prem_cycle.specs.State.{Setup, record_of, Task, Work, task_in}
-use Rattle.prem_cycle.specs.Issue.{task_after, stored_in, touched_with, view_behind, issued_with, issued_by}
-use Rattle.prem_cycle.specs.Runs.Position.Own.{IsFree}
+use Rattle.prem_lru.proofs.Shapes.{touch_kept}
+use Rattle.prem_lru.proofs.Touches.{touch_view, touch_clean, length-touch, touch_resident, touch_others}
+use Rattle.prem_plant.proofs.Powers.{lines_whole}
+use Rattle.prem_word.specs.Bytes.{put_byte, put_number}
 
 -- the cache over memory: each resident line is free, and has memory's bytes if it isn't dirty
 pub record IsKept (p : Setup) (c : CacheState) (memory : List ℕ) : Type 0 where

@@ -1,21 +1,11 @@
 -- A cycle of the bus brings the transfer that it carries one cycle nearer to its end.
-use Rattle.std.specs.Prelude.{slice_set, slice_get}
+use Rattle.prem_cycle.proofs.Prelude.{Arrivals, arrived, arrivals, device_cost, IsOnItsWay, HaveCosts, startable_is, GateState, GatesState, Turned, gate_at, with_queue, with_gates, queued}
+use Rattle.prem_cycle.proofs.Prelude.{after_arrival, startable, taken, ends, goes_on, carries, wants, starts, bus_free, bus_with, bus_turn, IsStart, Carried, CoreWant, No, New, Held, Window}
+use Rattle.prem_cycle.proofs.Prelude.{Request, DeviceRecord, ◌≡◌, ℕ, zero, suc, ◌+◌, ◌<◌, ◌≤◌, refl, ap, sym, subst, ◌∙◌, arith, eqb, leb, Some, None, Option, true, false, Bool, List, []}
+use Rattle.prem_cycle.proofs.Prelude.{◌∷◌, length, drop, map, IfSome, cond_both, leb-true, leb-false, slice_set, slice_get}
+use Rattle.prem_cycle.specs.Runs.Transfer.Lengths.{EndsIn}
+use Rattle.prem_gate.specs.Gates.{is_full}
 use Rattle.std.specs.Option.{option_map_or}
-use Rattle.std.proofs.Common.{◌≡◌, ℕ, zero, suc, ◌+◌, ◌<◌, ◌≤◌, refl, ap, sym, subst, ◌∙◌, arith, eqb, leb, Some, None, Option, true, false, Bool, List, [], ◌∷◌, length, drop, map, IfSome}
-use Rattle.std.proofs.lemmas.Bool.{cond_both, leb-true, leb-false}
-use Rattle.prem_gate.specs.declared.request.Request.{Request}
-use Rattle.prem_gate.specs.declared.bus.Window.{Window}
-use Rattle.prem_gate.specs.declared.bus.Carried.{Carried}
-use Rattle.prem_gate.specs.declared.bus.CoreWant.{CoreWant}
-use Rattle.prem_gate.specs.declared.bus.CoreWant.TheVariants.{No, New, Held}
-use Rattle.prem_gate.specs.Gates.{GateState, GatesState, Turned, gate_at, with_queue, with_gates, is_full, queued, after_arrival, startable, taken, ends, goes_on, carries, wants}
-use Rattle.prem_gate.specs.Gates.{starts, bus_free, bus_with, bus_turn}
-use Rattle.prem_gate.specs.Ranges.{IsStart}
-use Rattle.prem_gate.proofs.Places.{startable_is}
-use Rattle.prem_image.specs.declared.image.DeviceRecord.{DeviceRecord}
-use Rattle.prem_cycle.specs.Cycle.{Arrivals, arrived, arrivals}
-use Rattle.prem_cycle.specs.Runs.Window.Windows.{HaveCosts}
-use Rattle.prem_cycle.specs.Runs.Transfer.Lengths.{device_cost, IsOnItsWay, EndsIn}
 
 -- ---- costs
 

@@ -1,20 +1,9 @@
 -- So does a cycle of the machine, and a run.
-use Rattle.std.specs.Prelude.{is_some, ◌&&◌, ◌||◌}
-use Rattle.std.proofs.Common.{◌≡◌, ℕ, zero, suc, ◌+◌, refl, ap, sym, subst, ◌∙◌, arith, cond, ltb, Some, None, Option, true, false, Bool, List, [], ◌∷◌, map, IfSome}
-use Rattle.std.proofs.lemmas.Bool.{cond_both}
-use Rattle.prem_lru.specs.Entries.{ReplacementRule}
-use Rattle.prem_gate.specs.declared.request.Request.{Request}
-use Rattle.prem_gate.specs.Gates.{Turned, gates_of}
-use Rattle.prem_image.specs.declared.image.DeviceRecord.{DeviceRecord}
-use Rattle.prem_cycle.specs.declared.state.Mode.{Mode}
-use Rattle.prem_cycle.specs.declared.state.Mode.TheVariants.{Point, Switching, Running, Idle}
-use Rattle.prem_cycle.specs.State.{Setup, MachineState, start_of}
-use Rattle.prem_cycle.specs.Core.{is_paid, want_of}
-use Rattle.prem_cycle.specs.Cycle.{Arrivals, arrivals_at, bus_at, core_at, joined, ends_before, at_point, close_interval, settle, with_now, next_cycle, ticked, cycle_of}
-use Rattle.prem_cycle.specs.Cycle.{is_finished, is_full, is_over, step_of}
-use Rattle.prem_cycle.specs.Run.{memory_of, cycles_of, run_of}
-use Rattle.prem_cycle.specs.Runs.Window.Windows.{HaveCosts}
-use Rattle.prem_cycle.specs.Runs.Transfer.Lengths.{IsOnItsWay, EndsInTime, TransfersTakeTheirCycles, TransfersAreOnTheirWay}
+use Rattle.prem_cycle.proofs.Prelude.{is_paid, want_of, Arrivals, arrivals_at, bus_at, core_at, joined, ends_before, at_point, close_interval, settle, with_now, next_cycle, ticked, cycle_of}
+use Rattle.prem_cycle.proofs.Prelude.{is_finished, is_full, is_over, step_of, memory_of, cycles_of, run_of, IsOnItsWay, EndsInTime, TransfersTakeTheirCycles, TransfersAreOnTheirWay}
+use Rattle.prem_cycle.proofs.Prelude.{HaveCosts, Setup, MachineState, start_of, Mode, Point, Switching, Running, Idle, Turned, gates_of, Request, DeviceRecord, ReplacementRule, ◌≡◌, ℕ, zero}
+use Rattle.prem_cycle.proofs.Prelude.{suc, ◌+◌, refl, ap, sym, subst, ◌∙◌, arith, cond, ltb, Some, None, Option, true, false, Bool, List, [], ◌∷◌, map, IfSome, cond_both, is_some, ◌&&◌}
+use Rattle.prem_cycle.proofs.Prelude.{◌||◌}
 use Rattle.prem_cycle.proofs.RunsLemmas.TransferLemmas.Bus.{costs_of, costs_in, GatesKeep, TurnKeeps, arrivals_keep, turn_keeps}
 
 -- ---- states

@@ -1,10 +1,6 @@
 -- A transfer of two cycles by hand.
-use Rattle.std.specs.Prelude.{◌≡◌, ℕ, [], ◌∷◌, None, Some, codes, refl}
-use Rattle.prem_gate.specs.declared.request.Request.{Request}
-use Rattle.prem_gate.specs.declared.bus.CoreWant.TheVariants.{No}
-use Rattle.prem_gate.specs.Gates.{GatesState, Turned, first_gates, after_arrival, bus_turn}
-use Rattle.prem_image.specs.declared.image.DeviceRecord.{DeviceRecord}
-use Rattle.prem_cycle.specs.Runs.Transfer.Lengths.{device_cost}
+use Rattle.prem_cycle.proofs.Prelude.{device_cost, GatesState, Turned, first_gates, after_arrival, bus_turn, No, Request, DeviceRecord, codes}
+use Rattle.std.specs.Prelude.{◌≡◌, ℕ, [], ◌∷◌, None, Some, refl}
 
 dma : DeviceRecord
 dma = record { device = record { name = codes "dma"; queue = 4; cost = 2; lines = 1 }; area = 0 }

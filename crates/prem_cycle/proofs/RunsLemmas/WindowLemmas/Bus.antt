@@ -1,20 +1,9 @@
 -- What the bus carries stays inside the window, and where the window is closed it carries nothing.
-use Rattle.std.specs.Prelude.{slice_set, All}
-use Rattle.std.proofs.Common.{◌≡◌, ℕ, ◌+◌, ◌<◌, ◌≤◌, refl, ap, sym, subst, arith, eqb, leb, Some, None, Option, true, false, Bool, List, [], ◌∷◌, ◌++◌, length, drop, IfSome, ⊎_elim}
-use Rattle.std.proofs.lemmas.Bool.{cases_lt, cond_both, leb-false}
-use Rattle.std.proofs.lemmas.List.{get_or_past}
-use Rattle.std.proofs.lemmas.List.Elements.{All-set}
-use Rattle.prem_gate.specs.declared.request.Request.{Request}
-use Rattle.prem_gate.specs.declared.bus.Window.{Window}
-use Rattle.prem_gate.specs.declared.bus.Carried.{Carried}
-use Rattle.prem_gate.specs.declared.bus.CoreWant.{CoreWant}
-use Rattle.prem_gate.specs.declared.bus.CoreWant.TheVariants.{No, New, Held}
-use Rattle.prem_gate.specs.Gates.{GateState, GatesState, Turned, gate_at, no_gate, with_queue, with_gates, is_full, queued, after_arrival, startable, taken, ends, goes_on, carries}
-use Rattle.prem_gate.specs.Gates.{wants, starts, bus_free, bus_with, bus_turn}
-use Rattle.prem_gate.specs.Ranges.{IsStart}
-use Rattle.prem_gate.proofs.Places.{startable_is}
-use Rattle.prem_cycle.specs.Cycle.{Arrivals, arrived, arrivals}
-use Rattle.prem_cycle.specs.Runs.Window.Windows.{LiesInside, CarriesInside, IsQuiet}
+use Rattle.prem_cycle.proofs.Prelude.{Arrivals, arrived, arrivals, LiesInside, CarriesInside, IsQuiet, startable_is, GateState, GatesState, Turned, gate_at, no_gate, with_queue, with_gates}
+use Rattle.prem_cycle.proofs.Prelude.{queued, after_arrival, startable, taken, ends, goes_on, carries, wants, starts, bus_free, bus_with, bus_turn, IsStart, Carried, CoreWant, No, New, Held}
+use Rattle.prem_cycle.proofs.Prelude.{Window, Request, ◌≡◌, ℕ, ◌+◌, ◌<◌, ◌≤◌, refl, ap, sym, subst, arith, eqb, leb, Some, None, Option, true, false, Bool, List, [], ◌∷◌, ◌++◌, length, drop}
+use Rattle.prem_cycle.proofs.Prelude.{IfSome, ⊎_elim, cases_lt, cond_both, leb-false, get_or_past, All-set, slice_set, All}
+use Rattle.prem_gate.specs.Gates.{is_full}
 
 -- ---- costs
 

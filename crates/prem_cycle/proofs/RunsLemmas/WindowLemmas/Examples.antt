@@ -1,12 +1,7 @@
 -- When the window closes in a worked run, whose marked interval begins in cycle 111 and ends with cycle 601, and whose
 -- transfer takes 40 cycles. A second job begins in cycle 1000.
-use Rattle.std.specs.Prelude.{option_map}
-use Rattle.std.proofs.Common.{◌≡◌, ℕ, [], ◌∷◌, refl, Some}
-use Rattle.prem_cycle.specs.State.{MachineState}
-use Rattle.prem_cycle.specs.Core.{phase_in}
-use Rattle.prem_cycle.specs.Run.{cycles_of}
+use Rattle.prem_cycle.proofs.Prelude.{phase_in, cycles_of, closing_at, MachineState, ◌≡◌, ℕ, [], ◌∷◌, refl, Some, option_map}
 use Rattle.prem_cycle.proofs.Images.{marked, alone, device, put, run}
-use Rattle.prem_cycle.specs.Runs.Window.Windows.{closing_at}
 
 abbrev at : ℕ → MachineState
 at n = run (alone 368 2 304 (device 40 304 ∷ [])) marked (put 562 0 0 5 ∷ []) n

@@ -1,39 +1,14 @@
 -- The core's move keeps that its window closes.
-use Rattle.std.specs.Prelude.{slice_set, slice_index, Result, Ok, Err}
-use Rattle.std.proofs.Common.{◌≡◌, ℕ, zero, suc, ◌+◌, ◌/◌, ◌<◌, ◌≤◌, refl, ap, ◌∙◌, sym, subst, arith, cond, Some, None, Option, false, Bool, List, [], length, get_or, ⊎_elim, inl, inr, ◌⊎◌}
-use Rattle.std.proofs.lemmas.Bool.{cases_lt, cases_eq}
-use Rattle.std.proofs.lemmas.List.{get_or-set_same, get_or-set_other, get_or_past, set_past}
-use Rattle.prem_plant.specs.declared.plant.Target.{Target}
-use Rattle.prem_sched.specs.declared.sched.TaskJobs.{TaskJobs}
-use Rattle.prem_isa.specs.declared.instr.Instr.{Instr}
-use Rattle.prem_isa.specs.declared.effect.Phase.{Phase}
-use Rattle.prem_isa.specs.declared.effect.Phase.TheVariants.{Compatible, Memory as MemoryPhase, Execution}
-use Rattle.prem_isa.specs.declared.effect.Cause.{Cause}
-use Rattle.prem_isa.specs.declared.effect.Change.{Change}
-use Rattle.prem_isa.specs.declared.effect.Change.TheVariants.{Stay, Memory, Execute, End, Job}
-use Rattle.prem_isa.specs.declared.effect.Access.{Access}
-use Rattle.prem_isa.specs.declared.effect.Stored.{Stored}
-use Rattle.prem_isa.specs.declared.effect.Effect.{Effect}
-use Rattle.prem_isa.specs.declared.effect.Outcome.{Outcome}
-use Rattle.prem_isa.specs.declared.effect.Outcome.TheVariants.{Trap, Done}
-use Rattle.prem_isa.specs.Act.{act, fetch, phase_after}
-use Rattle.prem_isa.specs.Bounds.{OnDone, EffectLawful, IsLawful}
-use Rattle.prem_isa.specs.Plain.{next_input}
-use Rattle.prem_isa.proofs.ActLaws.{act_lawful}
-use Rattle.prem_lru.specs.Entries.{ReplacementRule}
-use Rattle.prem_lru.specs.CacheState.{Touched, touch_of, view_of}
-use Rattle.prem_gate.specs.declared.bus.Window.{Window}
-use Rattle.prem_image.specs.declared.image.TaskRecord.{TaskRecord}
-use Rattle.prem_cycle.specs.declared.state.Mode.{Mode}
-use Rattle.prem_cycle.specs.declared.state.Mode.TheVariants.{Point, Switching, Running, Idle}
-use Rattle.prem_cycle.specs.declared.state.Interval.{Interval}
-use Rattle.prem_cycle.specs.State.{Setup, record_of, no_record, first_task, Task, Work, CoreState, Counts, task_in}
-use Rattle.prem_cycle.specs.Issue.{Attempt, Traps, Executes, attempt_by, attempt_fetched, attempt_of, view_behind, effect_in, behind_touches, task_moved, task_after, issued_by}
-use Rattle.prem_cycle.specs.Issue.{issued_with, is_execution}
-use Rattle.prem_cycle.specs.Core.{CoreMove, Passes, Issues, phase_in, new_interval, stated_after, window_after, core_issue, CoreTurn, core_turn}
+use Rattle.prem_cycle.proofs.Prelude.{CoreMove, Passes, Issues, phase_in, new_interval, stated_after, window_after, core_issue, CoreTurn, core_turn, Attempt, Traps, Executes, attempt_by}
+use Rattle.prem_cycle.proofs.Prelude.{attempt_fetched, attempt_of, view_behind, effect_in, behind_touches, task_moved, task_after, issued_by, issued_with, is_execution, closing_in}
+use Rattle.prem_cycle.proofs.Prelude.{closing_at, is_last, WindowCloses, Setup, record_of, no_record, first_task, Task, Work, CoreState, Counts, task_in, Interval, Mode, Point, Switching}
+use Rattle.prem_cycle.proofs.Prelude.{Running, Idle, Window, TaskRecord, act_lawful, act, fetch, phase_after, OnDone, EffectLawful, IsLawful, next_input, Access, Cause, Change, Stay, Memory}
+use Rattle.prem_cycle.proofs.Prelude.{Execute, End, Job, Effect, Outcome, Trap, Done, Phase, Compatible, Execution, Stored, Instr, Touched, touch_of, view_of, ReplacementRule, Target}
+use Rattle.prem_cycle.proofs.Prelude.{TaskJobs, ◌≡◌, ℕ, zero, suc, ◌+◌, ◌/◌, ◌<◌, ◌≤◌, refl, ap, ◌∙◌, sym, subst, arith, cond, Some, None, Option, false, Bool, List, [], length, get_or}
+use Rattle.prem_cycle.proofs.Prelude.{⊎_elim, inl, inr, ◌⊎◌, cases_lt, cases_eq, get_or-set_same, get_or-set_other, get_or_past, set_past, slice_set, slice_index, Result, Ok, Err}
 use Rattle.prem_cycle.proofs.CoreCases.{Continues, MoveCase, pays_on_bus, is_denied, pays_cost, waits, goes_on, switches, begins, chooses, chooses_now, begins_idle, has_finished, idles}
-use Rattle.prem_cycle.specs.Runs.Window.Windows.{closing_in, closing_at, is_last, WindowCloses}
 use Rattle.prem_cycle.proofs.RunsLemmas.PositionLemmas.Times.{changed_phase}
+use Rattle.prem_isa.specs.declared.effect.Phase.TheVariants.{Memory as MemoryPhase}
 
 -- ---- what an instruction may do in a phase
 

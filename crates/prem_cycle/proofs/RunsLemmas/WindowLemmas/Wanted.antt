@@ -1,26 +1,12 @@
 -- The bus changes nothing before a `pm.in` issues.
-use Rattle.std.specs.Prelude.{◌&&◌, nat_le}
-use Rattle.std.proofs.Common.{◌≡◌, ℕ, zero, suc, refl, ap, ◌∙◌, sym, cond, Some, None, Option, true, false, Bool, List, length, ⊎_elim}
-use Rattle.std.proofs.lemmas.Bool.{cases_Bool}
-use Rattle.prem_sched.specs.declared.sched.TaskJobs.{TaskJobs}
-use Rattle.prem_sched.specs.declared.sched.Choice.{Choice}
-use Rattle.prem_sched.specs.declared.sched.Choice.TheVariants.{Run, Idle as Rest, Finished}
-use Rattle.prem_sched.specs.Schedule.{choice}
-use Rattle.prem_isa.specs.declared.effect.Phase.{Phase}
-use Rattle.prem_isa.specs.declared.effect.Phase.TheVariants.{Compatible}
-use Rattle.prem_lru.specs.Entries.{ReplacementRule}
-use Rattle.prem_gate.specs.Gates.{Turned, wants}
-use Rattle.prem_cycle.specs.declared.state.Mode.{Mode}
-use Rattle.prem_cycle.specs.declared.state.Mode.TheVariants.{Point, Switching, Running, Idle}
-use Rattle.prem_cycle.specs.declared.state.Interval.{Interval}
-use Rattle.prem_cycle.specs.State.{Setup, Work, CoreState, task_in}
-use Rattle.prem_cycle.specs.Issue.{Attempt, Traps, Executes, attempt_of, behind_touches, is_execution}
-use Rattle.prem_cycle.specs.Core.{want_of, core_pay, CoreMove, Passes, Issues, phase_in, move_chosen, move_in, move_of}
-use Rattle.prem_cycle.specs.Cycle.{arrivals_at, bus_at, with_memory, move_at, is_over}
-use Rattle.prem_cycle.specs.Run.{CycleStep, step_by, step_in, step_with, wants_word}
-use Rattle.prem_cycle.specs.Runs.Window.Wants.{lacks_word, wants_in, WantsAreSeen}
-use Rattle.prem_cycle.proofs.RunsLemmas.WindowLemmas.Moves.{attempt_lawful}
+use Rattle.prem_cycle.proofs.Prelude.{want_of, core_pay, CoreMove, Passes, Issues, phase_in, move_chosen, move_in, move_of, arrivals_at, bus_at, with_memory, move_at, is_over, Attempt}
+use Rattle.prem_cycle.proofs.Prelude.{Traps, Executes, attempt_of, behind_touches, is_execution, CycleStep, step_by, step_in, step_with, wants_word, Setup, Work, CoreState, task_in}
+use Rattle.prem_cycle.proofs.Prelude.{Interval, Mode, Point, Switching, Running, Idle, Turned, wants, Phase, Compatible, ReplacementRule, choice, Choice, Run, Finished, TaskJobs, ◌≡◌, ℕ}
+use Rattle.prem_cycle.proofs.Prelude.{zero, suc, refl, ap, ◌∙◌, sym, cond, Some, None, Option, true, false, Bool, List, length, ⊎_elim, cases_Bool, ◌&&◌, nat_le}
 use Rattle.prem_cycle.proofs.RunsLemmas.WindowLemmas.Cycles.{quiet_outside}
+use Rattle.prem_cycle.proofs.RunsLemmas.WindowLemmas.Moves.{attempt_lawful}
+use Rattle.prem_cycle.specs.Runs.Window.Wants.{lacks_word, wants_in, WantsAreSeen}
+use Rattle.prem_sched.specs.declared.sched.Choice.TheVariants.{Idle as Rest}
 
 -- ---- by the step
 

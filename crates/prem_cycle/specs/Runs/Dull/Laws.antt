@@ -1,11 +1,9 @@
 -- What dull cycles come to.
-use Rattle.std.specs.Prelude.{◌≡◌, ℕ, List}
-use Rattle.prem_lru.specs.Entries.{ReplacementRule}
-use Rattle.prem_gate.specs.declared.request.Request.{Request}
-use Rattle.prem_cycle.specs.State.{Setup, MachineState}
+use Rattle.prem_cycle.specs.Prelude.{Request, ReplacementRule, ◌≡◌, ℕ, List}
 use Rattle.prem_cycle.specs.Run.{cycles_of}
 use Rattle.prem_cycle.specs.Runs.Dull.Dull.{AreDull}
 use Rattle.prem_cycle.specs.Runs.Dull.Rest.{IsSteady, Rests, passed}
+use Rattle.prem_cycle.specs.State.{Setup, MachineState}
 
 -- cycles that rest are dull
 abbrev pub RestsAreDull : Type 0

@@ -1,12 +1,10 @@
 -- Words that are put behind a task's input words while its run goes on.
-use Rattle.std.specs.Prelude.{◌≡◌, ℕ, ◌+◌, ◌<◌, true, false, List, [], ◌∷◌, ◌++◌, length, slice_index_or, slice_set}
-use Rattle.prem_lru.specs.Entries.{ReplacementRule}
-use Rattle.prem_gate.specs.declared.request.Request.{Request}
-use Rattle.prem_cycle.specs.State.{Setup, MachineState}
+use Rattle.prem_cycle.specs.Prelude.{Request, ReplacementRule, ◌≡◌, ℕ, ◌+◌, ◌<◌, true, false, List, [], ◌∷◌, ◌++◌, length, slice_index_or, slice_set}
 use Rattle.prem_cycle.specs.FactsOf.{has_room_for_word, with_input}
 use Rattle.prem_cycle.specs.Inputs.{FitsRun}
 use Rattle.prem_cycle.specs.Run.{cycles_of, run_of}
 use Rattle.prem_cycle.specs.Runs.Inputs.PastEnd.{has_read_past_end, run_reads_past_end}
+use Rattle.prem_cycle.specs.State.{Setup, MachineState}
 
 -- lists of input words, with a word put behind those of a task
 abbrev pub with_word_for : ℕ → ℕ → List (List ℕ) → List (List ℕ)

@@ -1,12 +1,10 @@
 -- Runs to which words are appended time and again.
-use Rattle.std.specs.Prelude.{◌≡◌, ℕ, ◌+◌, ◌<◌, ◌||◌, Bool, false, List, length}
-use Rattle.prem_lru.specs.Entries.{ReplacementRule}
-use Rattle.prem_gate.specs.declared.request.Request.{Request}
-use Rattle.prem_cycle.specs.State.{Setup, MachineState, start_of}
+use Rattle.prem_cycle.specs.Prelude.{Request, ReplacementRule, ◌≡◌, ℕ, ◌+◌, ◌<◌, ◌||◌, Bool, false, List, length}
 use Rattle.prem_cycle.specs.FactsOf.{with_input}
 use Rattle.prem_cycle.specs.Run.{cycles_of, memory_of, run_of}
-use Rattle.prem_cycle.specs.Runs.Inputs.PastEnd.{has_read_past_end}
 use Rattle.prem_cycle.specs.Runs.Inputs.Extended.{with_word_for}
+use Rattle.prem_cycle.specs.Runs.Inputs.PastEnd.{has_read_past_end}
+use Rattle.prem_cycle.specs.State.{Setup, MachineState, start_of}
 
 -- a run begins, then cycles pass and words are put behind the tasks' lists
 pub data History : Type 0 where

@@ -1,21 +1,11 @@
 -- One task without devices: where its run stands, by when it is finished, and with what.
-use Rattle.std.specs.Prelude.{◌≡◌, ℕ, ◌+◌, ◌-◌, ◌*◌, ◌%◌, ◌^◌, ◌<◌, ◌≤◌, true, false, List, [], ◌∷◌, Option, Some, None, All, length, sum_by, slice_index}
-use Rattle.prem_plant.specs.declared.plant.Plant.{Plant}
-use Rattle.prem_plant.specs.Ranges.{IsPlant}
-use Rattle.prem_sched.specs.Schedule.{task_at}
-use Rattle.prem_isa.specs.declared.effect.Phase.TheVariants.{Compatible}
-use Rattle.prem_isa.specs.declared.effect.Access.{Access}
-use Rattle.prem_isa.specs.Decode.{cost_of, greatest_cost}
-use Rattle.prem_isa.specs.Plain.{TaskRun, plain_start, plain_run, Did, plain_did, plain_trace}
-use Rattle.prem_lru.specs.Entries.{ReplacementRule}
-use Rattle.prem_lru.specs.CacheState.{view_of}
-use Rattle.prem_lru.specs.Rules.{IsRule}
-use Rattle.prem_image.specs.declared.image.TaskRecord.{TaskRecord}
-use Rattle.prem_cycle.specs.State.{Setup, MachineState, start_of, task_in}
+use Rattle.prem_cycle.specs.Prelude.{TaskRecord, cost_of, greatest_cost, TaskRun, plain_start, plain_run, Did, plain_did, plain_trace, Access, Compatible, view_of, ReplacementRule, IsRule}
+use Rattle.prem_cycle.specs.Prelude.{IsPlant, Plant, task_at, ◌≡◌, ℕ, ◌+◌, ◌-◌, ◌*◌, ◌%◌, ◌^◌, ◌<◌, ◌≤◌, true, false, List, [], ◌∷◌, Option, Some, None, All, length, sum_by, slice_index}
+use Rattle.prem_cycle.specs.Alone.{run_in}
 use Rattle.prem_cycle.specs.Cycle.{is_finished, is_full, log_size}
 use Rattle.prem_cycle.specs.Run.{CycleStep, coming_step, did_in, memory_of, run_of}
-use Rattle.prem_cycle.specs.Alone.{run_in}
 use Rattle.prem_cycle.specs.Runs.Position.Issued.{issued_of}
+use Rattle.prem_cycle.specs.State.{Setup, MachineState, start_of, task_in}
 
 -- ---- the run
 

@@ -1,14 +1,6 @@
 -- The image of one task without devices.
-use Rattle.std.specs.Prelude.{◌≡◌, ℕ, ◌+◌, ◌*◌, ◌^◌, ◌<◌, ◌≤◌, List, [], ◌∷◌, All}
-use Rattle.prem_list.specs.Sequence.{items_of}
-use Rattle.prem_isa.specs.Decode.{greatest_cost}
-use Rattle.prem_isa.specs.Plain.{TaskRun, plain_start, plain_trace}
-use Rattle.prem_lru.specs.Entries.{ReplacementRule}
-use Rattle.prem_lru.specs.Rules.{IsRule}
-use Rattle.prem_gate.specs.declared.request.RunInput.{RunInput}
-use Rattle.prem_image.specs.declared.image.Image.{Image}
-use Rattle.prem_image.specs.declared.image.TaskRecord.{TaskRecord}
-use Rattle.prem_image.specs.Records.{IsImage}
+use Rattle.prem_cycle.specs.Prelude.{RunInput, IsImage, Image, TaskRecord, greatest_cost, TaskRun, plain_start, plain_trace, items_of, ReplacementRule, IsRule, ◌≡◌, ℕ, ◌+◌, ◌*◌, ◌^◌, ◌<◌}
+use Rattle.prem_cycle.specs.Prelude.{◌≤◌, List, [], ◌∷◌, All}
 use Rattle.prem_cycle.specs.Inputs.{words_of, image_run}
 use Rattle.prem_cycle.specs.Runs.Position.Finish.{run_alone, finish_of, EndsIn, FinishedAs}
 

@@ -1,17 +1,11 @@
 -- The tasks of a run, each with its run on its own, and what each has issued.
-use Rattle.std.specs.Prelude.{◌≡◌, ℕ, ◌/◌, ◌<◌, ◌≤◌, ◌==◌, Bool, true, List, [], length, Some, None, All, count_by, slice_index, slice_index_or}
-use Rattle.prem_plant.specs.Ranges.{IsPlant}
-use Rattle.prem_isa.specs.Plain.{TaskRun, RunFits, plain_run, plain_did}
-use Rattle.prem_lru.specs.Entries.{ReplacementRule}
-use Rattle.prem_lru.specs.CacheState.{view_of, IsClean}
-use Rattle.prem_lru.specs.Rules.{IsRule}
-use Rattle.prem_gate.specs.declared.request.Request.{Request}
-use Rattle.prem_image.specs.Records.{IsPlaced}
-use Rattle.prem_cycle.specs.State.{Setup, record_of, Work, MachineState, start_of, task_in}
-use Rattle.prem_cycle.specs.Inputs.{IsRequest}
+use Rattle.prem_cycle.specs.Prelude.{Request, IsPlaced, TaskRun, RunFits, plain_run, plain_did, view_of, IsClean, ReplacementRule, IsRule, IsPlant, ◌≡◌, ℕ, ◌/◌, ◌<◌, ◌≤◌, ◌==◌, Bool, true}
+use Rattle.prem_cycle.specs.Prelude.{List, [], length, Some, None, All, count_by, slice_index, slice_index_or}
 use Rattle.prem_cycle.specs.Alone.{plain_of}
+use Rattle.prem_cycle.specs.Inputs.{IsRequest}
 use Rattle.prem_cycle.specs.Run.{CycleStep, coming_step, did_in, memory_of, run_of, steps_of}
 use Rattle.prem_cycle.specs.Runs.Position.Own.{IsFree, StaysOwn}
+use Rattle.prem_cycle.specs.State.{Setup, record_of, Work, MachineState, start_of, task_in}
 
 -- how many of the instructions are a task's
 abbrev pub count_of : ℕ → List CycleStep → ℕ

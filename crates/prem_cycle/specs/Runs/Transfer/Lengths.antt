@@ -1,15 +1,9 @@
 -- How long the transfers of a run take.
-use Rattle.std.specs.Prelude.{◌≡◌, ℕ, ◌+◌, ◌≤◌, List, None, Option, IfSome, slice_get}
-use Rattle.std.specs.Option.{option_map_or}
-use Rattle.prem_isa.specs.Plain.{with_last}
-use Rattle.prem_lru.specs.Entries.{ReplacementRule}
-use Rattle.prem_gate.specs.declared.request.Request.{Request}
-use Rattle.prem_gate.specs.declared.bus.Carried.{Carried}
-use Rattle.prem_gate.specs.declared.bus.Transfer.{Transfer}
-use Rattle.prem_image.specs.declared.image.DeviceRecord.{DeviceRecord}
-use Rattle.prem_cycle.specs.State.{Setup, MachineState}
+use Rattle.prem_cycle.specs.Prelude.{Carried, Transfer, Request, DeviceRecord, with_last, ReplacementRule, ◌≡◌, ℕ, ◌+◌, ◌≤◌, List, None, Option, IfSome, slice_get}
 use Rattle.prem_cycle.specs.Run.{run_of}
 use Rattle.prem_cycle.specs.Runs.Window.Windows.{HaveCosts}
+use Rattle.prem_cycle.specs.State.{Setup, MachineState}
+use Rattle.std.specs.Option.{option_map_or}
 
 -- the cycles of a transfer of a device, and none where there is no such device
 abbrev pub device_cost : List DeviceRecord → ℕ → ℕ

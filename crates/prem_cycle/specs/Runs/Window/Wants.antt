@@ -1,13 +1,11 @@
 -- An input word that is wanted and isn't there, as the state before the cycle tells it.
-use Rattle.std.specs.Prelude.{◌≡◌, ℕ, ◌&&◌, nat_le, Bool, false, List, length, Option, Some, None, if◌then◌else◌}
-use Rattle.prem_lru.specs.Entries.{ReplacementRule}
-use Rattle.prem_gate.specs.declared.request.Request.{Request}
-use Rattle.prem_cycle.specs.State.{Setup, Task, Work, MachineState, task_in}
-use Rattle.prem_cycle.specs.Issue.{Attempt, Traps, Executes, attempt_of}
+use Rattle.prem_cycle.specs.Prelude.{Request, ReplacementRule, ◌≡◌, ℕ, ◌&&◌, nat_le, Bool, false, List, length, Option, Some, None, if◌then◌else◌}
 use Rattle.prem_cycle.specs.Core.{CoreMove, Passes, Issues, move_of}
 use Rattle.prem_cycle.specs.Cycle.{is_over}
+use Rattle.prem_cycle.specs.Issue.{Attempt, Traps, Executes, attempt_of}
 use Rattle.prem_cycle.specs.Run.{wants_input_of}
 use Rattle.prem_cycle.specs.Runs.Window.Windows.{WindowsHold}
+use Rattle.prem_cycle.specs.State.{Setup, Task, Work, MachineState, task_in}
 
 -- the attempted instruction of a task takes a word, and none is left
 abbrev pub lacks_word : Task → Attempt → Bool

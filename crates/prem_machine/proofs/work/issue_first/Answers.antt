@@ -1,18 +1,5 @@
-use Rattle.std.specs.Prelude.{IfNone}
-use Rattle.std.proofs.Common.{◌≡◌, ◌+◌, ◌-◌, ℕ, Option, None, false, ap, sym, ◌∙◌, subst}
-use Rattle.prem_list.specs.Sequence.{items_of}
-use Rattle.prem_isa.specs.declared.effect.Change.TheVariants.{Stay}
-use Rattle.prem_cycle.specs.declared.facts.Facts.{Facts}
-use Rattle.prem_cycle.specs.State.{Debt}
-use Rattle.prem_cycle.specs.Issue.{owed_by}
-use Rattle.prem_cycle.specs.Core.{CoreTurn, core_issued}
-use Rattle.prem_machine.specs.declared.plain.Plain.{Plain}
-use Rattle.prem_machine.specs.Issue.Cores.{CoreParts}
-use Rattle.prem_machine.specs.Issue.Counting.{counts_in}
-use Rattle.prem_machine.specs.Log.{CountsWithin, log_in}
-use Rattle.prem_machine.specs.Moment.{core_owing, core_with}
-use Rattle.prem_machine.specs.Plain.{GoesOn}
-use Rattle.prem_machine.specs.Work.{turn_of_issue, with_counts, work_in}
+use Rattle.prem_machine.proofs.Prelude.{CoreTurn, core_issued, owed_by, Debt, Facts, Stay, items_of, CoreParts, counts_in, CountsWithin, log_in, core_owing, core_with, GoesOn, turn_of_issue}
+use Rattle.prem_machine.proofs.Prelude.{with_counts, work_in, Plain, ◌≡◌, ◌+◌, ◌-◌, ℕ, Option, None, false, ap, sym, ◌∙◌, subst, IfNone}
 use Rattle.prem_machine.proofs.work.issue_first.Goals as goal
 
 -- ---- where it goes on

@@ -1,11 +1,4 @@
-use Rattle.std.proofs.Common.{◌≡◌, ℕ, ◌-◌, [], false, ap, sym, ◌∙◌, subst, refl}
-use Rattle.prem_isa.specs.declared.effect.Change.TheVariants.{Stay}
-use Rattle.prem_cycle.specs.State.{Debt, no_debt}
-use Rattle.prem_cycle.specs.Issue.{owed_by}
-use Rattle.prem_machine.specs.Issue.Cores.{CoreParts}
-use Rattle.prem_machine.specs.Moment.{core_owing, core_with}
-use Rattle.prem_machine.specs.Plain.{GoesOn}
-use Rattle.prem_machine.proofs.Stretching.{rooms_there, has_room}
+use Rattle.prem_pair.proofs.Prelude.{owed_by, Debt, no_debt, Stay, rooms_there, has_room, CoreParts, core_owing, core_with, GoesOn, ◌≡◌, ℕ, ◌-◌, [], false, ap, sym, ◌∙◌, subst, refl}
 use Rattle.prem_pair.proofs.Owning.{hit_core, issues_own, kept_goes}
 use Rattle.prem_pair.proofs.apart.issue_own.Goals as goal
 

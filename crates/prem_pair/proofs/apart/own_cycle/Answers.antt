@@ -1,8 +1,4 @@
-use Rattle.std.proofs.Common.{◌*◌, ◌+◌, ◌≤◌, ap, arith}
-use Rattle.prem_machine.proofs.Resting.{counts_more, mode_after}
-use Rattle.prem_machine.proofs.Stretching.{has_room}
-use Rattle.prem_machine.specs.Issue.Cores.{CoreParts}
-use Rattle.prem_machine.specs.Issue.Counting.{counts_in}
+use Rattle.prem_pair.proofs.Prelude.{counts_more, mode_after, has_room, CoreParts, counts_in, ◌*◌, ◌+◌, ◌≤◌, ap, arith}
 use Rattle.prem_pair.proofs.Owning.{pays_own}
 use Rattle.prem_pair.proofs.apart.own_cycle.Goals as goal
 

@@ -1,13 +1,6 @@
-use Rattle.std.specs.Prelude.{IfNone, Bool}
-use Rattle.std.proofs.Common.{◌≡◌, ◌-◌, Option, Some, ap, sym, ◌∙◌, subst, arith}
-use Rattle.prem_plant.specs.Ranges.{IsPlant}
-use Rattle.prem_cycle.specs.Cycle.{log_size}
-use Rattle.prem_machine.specs.Issue.Near.{IsNear}
-use Rattle.prem_machine.specs.Log.{put_out}
-use Rattle.prem_machine.specs.declared.parts.Parts.{Parts}
-use Rattle.prem_machine.proofs.IssueLemmas.Nearness.{near_none}
-use Rattle.prem_pair.specs.Sides.{Arrives}
+use Rattle.prem_pair.proofs.Prelude.{log_size, near_none, IsNear, put_out, Parts, Arrives, IsPlant, ◌≡◌, ◌-◌, Option, Some, ap, sym, ◌∙◌, subst, arith, IfNone}
 use Rattle.prem_pair.proofs.Owning.{own_more, own_next, own_none, rooms_left}
+use Rattle.std.specs.Prelude.{Bool}
 use Rattle.prem_pair.proofs.apart.run_own.Goals as goal
 
 pub cycles-init : goal.cycles-init

@@ -1,10 +1,4 @@
-use Rattle.std.proofs.Common.{◌+◌, ap, sym, ◌∙◌, refl, List}
-use Rattle.prem_list.specs.Sequence.{items_of}
-use Rattle.prem_cycle.specs.State.{MachineState, Task, Work}
-use Rattle.prem_cycle.specs.Cycle.{with_now}
-use Rattle.prem_machine.specs.Parts.{state_of}
-use Rattle.prem_machine.proofs.Settling.{settle_parts}
-use Rattle.prem_machine.proofs.Advancing.{mode_later, same_state, same_tasks}
+use Rattle.prem_pair.proofs.Prelude.{with_now, MachineState, Task, Work, items_of, mode_later, same_state, same_tasks, settle_parts, state_of, ◌+◌, ap, sym, ◌∙◌, refl, List}
 use Rattle.prem_pair.proofs.both.end_in_place.Goals as goal
 
 pub settle-requires-clause-ready : goal.settle-requires-clause-ready

@@ -1,12 +1,5 @@
-use Rattle.std.proofs.Common.{◌≡◌, ℕ, ◌+◌, ◌*◌, length, ap, sym, ◌∙◌, refl, subst, arith, List}
-use Rattle.prem_list.specs.Sequence.{items_of}
-use Rattle.prem_cycle.specs.State.{Counts, Log, Task, Work}
-use Rattle.prem_cycle.specs.Cycle.{with_now}
-use Rattle.prem_machine.specs.Log.{CountsWithin, dropped_in, log_in}
-use Rattle.prem_machine.specs.Moment.{core_with, over_in}
-use Rattle.prem_machine.specs.Parts.{state_of}
-use Rattle.prem_machine.proofs.Settling.{settle_parts}
-use Rattle.prem_machine.proofs.Advancing.{counts_settled, few_kept, mode_later, same_state, same_tasks, transfers-log_settled}
+use Rattle.prem_pair.proofs.Prelude.{with_now, Counts, Log, Task, Work, items_of, counts_settled, few_kept, mode_later, same_state, same_tasks, transfers-log_settled, settle_parts}
+use Rattle.prem_pair.proofs.Prelude.{CountsWithin, dropped_in, log_in, core_with, over_in, state_of, ◌≡◌, ℕ, ◌+◌, ◌*◌, length, ap, sym, ◌∙◌, refl, subst, arith, List}
 use Rattle.prem_pair.proofs.both.tick.Goals as goal
 
 pub settle-requires-clause-ready : goal.settle-requires-clause-ready

@@ -1,8 +1,6 @@
-use Rattle.std.specs.Prelude.{min}
-use Rattle.std.proofs.Common.{◌≡◌, ℕ, get_or, sym, subst}
-use Rattle.prem_machine.specs.Passing.{IsNextArrival}
+use Rattle.prem_pair.proofs.Prelude.{next_some, IsNextArrival, ◌≡◌, ℕ, get_or, sym, subst, min}
 use Rattle.prem_machine.proofs.Arriving.{no_request}
-use Rattle.prem_machine.proofs.Resting.{next_some, next_none}
+use Rattle.prem_machine.proofs.Resting.{next_none}
 use Rattle.prem_pair.proofs.passing.next_arrival.Goals as goal
 
 pub returns-then-arrived-requests : goal.returns-then-arrived-requests

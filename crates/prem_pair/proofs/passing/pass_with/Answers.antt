@@ -1,6 +1,4 @@
-use Rattle.std.proofs.Common.{◌*◌, sym, subst, refl}
-use Rattle.prem_machine.specs.declared.parts.Parts.{Parts}
-use Rattle.prem_pair.specs.Sides.{Goes}
+use Rattle.prem_pair.proofs.Prelude.{Parts, Goes, ◌*◌, sym, subst, refl}
 use Rattle.prem_pair.proofs.Passes.{goes_at}
 use Rattle.prem_pair.proofs.passing.pass_with.Goals.{then-holds, else-holds+else-not-wants_bus}
 use Rattle.prem_pair.proofs.passing.pass_with.Goals as goal

@@ -1,11 +1,5 @@
-use Rattle.std.proofs.Common.{◌≡◌, ◌+◌, ◌*◌, ◌≤◌, length, ap, sym, subst, arith, List, All}
-use Rattle.prem_list.specs.Sequence.{items_of}
-use Rattle.prem_cycle.specs.State.{Log}
-use Rattle.prem_cycle.specs.declared.facts.DeviceFacts.{DeviceFacts}
-use Rattle.prem_machine.specs.Log.{CountsWithin}
+use Rattle.prem_pair.proofs.Prelude.{Log, DeviceFacts, items_of, rooms_left, counts_in, CountsWithin, ◌≡◌, ◌+◌, ◌*◌, ◌≤◌, length, ap, sym, subst, arith, List, All}
 use Rattle.prem_machine.proofs.Told.{told_length}
-use Rattle.prem_machine.proofs.Advancing.{rooms_left}
-use Rattle.prem_machine.specs.Issue.Counting.{counts_in}
 use Rattle.prem_pair.proofs.side.act.Goals as goal
 
 pub move_core-parts-requires-clause-room : goal.move_core-parts-requires-clause-room

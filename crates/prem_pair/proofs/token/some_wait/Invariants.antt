@@ -1,5 +1,4 @@
-use Rattle.std.proofs.Common.{◌≡◌, drop}
-use Rattle.prem_pair.specs.Cycles.Token.{some_wait}
+use Rattle.prem_pair.proofs.Prelude.{some_wait, ◌≡◌, drop}
 use Rattle.prem_pair.proofs.token.some_wait.Given as goal
 
 -- those from here on wait as all do

@@ -1,24 +1,12 @@
 -- A joined image whose tasks' weaves are parted into scopes goes by what these are charged.
-use Rattle.std.proofs.Common.{◌≡◌, ℕ, zero, suc, ◌+◌, ◌*◌, ◌<◌, ◌≤◌, sym, subst, arith, Bool, List, [], length}
-use Rattle.prem_isa.specs.Plain.{TaskRun, RunFits, plain_start, plain_run, plain_trace}
-use Rattle.prem_cycle.specs.Alone.{run_in}
-use Rattle.prem_cycle.specs.State.{Setup}
-use Rattle.prem_sound.specs.Script.Script.{call_at, Script}
-use Rattle.prem_sound.specs.Script.Scripts.{Promise, AreScripts}
-use Rattle.prem_sound.specs.Script.Conforms.{Conforms}
-use Rattle.prem_sound.specs.Sound.{AreInputs}
-use Rattle.prem_sound.proofs.LastingRuns.{scripts_are_good}
-use Rattle.prem_sets_sound.specs.Weave.Weave.{Weave, ends, goes, calls, dids_of, calls_of}
-use Rattle.prem_sets_sound.specs.Weave.Pace.Pace.{AreStated}
-use Rattle.prem_sets_sound.specs.StubLaws.Join.Joined.{JobLimits, IsJoined}
-use Rattle.prem_sets_sound.proofs.WeaveLemmas.Woven.{woven_runs_conform}
+use Rattle.prem_sets_sound.proofs.Prelude.{run_in, Setup, TaskRun, RunFits, plain_start, plain_run, plain_trace, script_of, TaskCharges, JoinedImagesAreSoundByCharges, JobLimits, IsJoined}
+use Rattle.prem_sets_sound.proofs.Prelude.{AreStated, Weave, ends, goes, calls, dids_of, calls_of, scripts_finish_by_jobs, scripts_are_good, strands_are_charged, dids_along, scoping_of}
+use Rattle.prem_sets_sound.proofs.Prelude.{Conforms, call_at, Script, Promise, AreScripts, AreInputs, ◌≡◌, ℕ, zero, suc, ◌+◌, ◌*◌, ◌<◌, ◌≤◌, sym, subst, arith, Bool, List, [], length}
 use Rattle.prem_sets_sound.proofs.StubLawsLemmas.JoinLemmas.Joined.{chosen, Scripted, joined_script, joined_calls, run_fits, scripts_join, runs}
-use Rattle.prem_sound.specs.Scopes.Charged.{Scoping, IsScoped, charges_by, IsCharged}
-use Rattle.prem_sound.specs.Scopes.Strands.{ends as over, dids_along, scoping_of}
-use Rattle.prem_sound.proofs.ScopesLemmas.StrandRuns.{strands_are_charged}
+use Rattle.prem_sets_sound.proofs.WeaveLemmas.Woven.{woven_runs_conform}
 use Rattle.prem_sound.proofs.ScopesLemmas.StrandLaws.{charges_look_at_calls}
-use Rattle.prem_sound.proofs.Finishing.{scripts_finish_by_jobs}
-use Rattle.prem_sets_sound.specs.StubLaws.Charges.Charges.{script_of, TaskCharges, JoinedImagesAreSoundByCharges}
+use Rattle.prem_sound.specs.Scopes.Charged.{Scoping, IsScoped, charges_by, IsCharged}
+use Rattle.prem_sound.specs.Scopes.Strands.{ends as over}
 
 -- the lengths of a weave's calls
 stated_most : (most : ℕ) (w : Weave) → AreStated most w → (i : ℕ) → (call_at (script_of (calls_of w)) i).stated ≤ most

@@ -1,24 +1,14 @@
 -- A weave whose instructions are scopes by themselves.
-use Rattle.std.specs.Prelude.{All}
-use Rattle.std.proofs.Common.{◌≡◌, ℕ, suc, ◌+◌, ◌*◌, ◌<◌, refl, ap, ◌∙◌, sym, subst, arith, true, [], ◌∷◌, ◌++◌, length, slice_index_or, ◌%◌, eqb, leb}
-use Rattle.std.proofs.lemmas.List.Sums.{length-filter}
-use Rattle.std.proofs.lemmas.List.Elements.{All-nil, All-cons, All-append}
-use Rattle.prem_plant.specs.declared.plant.Plant.{Plant}
-use Rattle.prem_isa.specs.declared.effect.Change.{Change}
-use Rattle.prem_isa.specs.declared.effect.Change.TheVariants.{Stay, Memory, Execute, End, Job}
-use Rattle.prem_isa.specs.Plain.{Did}
-use Rattle.prem_cycle.specs.Core.{is_predictable}
-use Rattle.prem_cycle.specs.Runs.Position.Finish.{due_of}
-use Rattle.prem_sound.specs.Script.Script.{change_due, Call, no_call, call_at, Script}
-use Rattle.prem_sound.specs.Script.Conforms.{GoesOrDone}
-use Rattle.prem_sound.specs.Paced.Paced.{within_job, within_stretch}
-use Rattle.prem_sets_sound.specs.Weave.Weave.{Section, segment_of, IsSection, Weave, ends, goes, calls, dids_of, calls_of, IsWeave}
-use Rattle.prem_sets_sound.specs.Weave.Pace.Pace.{PacedFrom}
+use Rattle.prem_sets_sound.proofs.Prelude.{is_predictable, due_of, Did, Change, Stay, Memory, Execute, End, Job, Plant, script_of, PacedTasksAreCharged, RoomIsCounted, PacedFrom, Section}
+use Rattle.prem_sets_sound.proofs.Prelude.{segment_of, IsSection, Weave, ends, goes, calls, dids_of, calls_of, IsWeave, within_job, within_stretch, Strand, runs, dids_along, GoesTo}
+use Rattle.prem_sets_sound.proofs.Prelude.{IsStrand, calls_begun, scope_due, ChargedFrom, GoesOrDone, change_due, no_call, call_at, Script, ◌≡◌, ℕ, suc, ◌+◌, ◌*◌, ◌<◌, refl, ap, ◌∙◌, sym}
+use Rattle.prem_sets_sound.proofs.Prelude.{subst, arith, true, [], ◌∷◌, ◌++◌, length, ◌%◌, eqb, leb, All-nil, All-cons, All-append, length-filter, All}
 use Rattle.prem_sets_sound.proofs.WeaveLemmas.Woven.{change_free}
-use Rattle.prem_sound.specs.Scopes.Scopes.{charge_of, single}
-use Rattle.prem_sound.specs.Scopes.Strands.{Strand, ends as over, runs, calls as marks, dids_along, GoesTo, IsStrand, calls_begun, scope_due, ChargedFrom}
 use Rattle.prem_sound.proofs.ScopesLemmas.Alone.{singles_are_due}
-use Rattle.prem_sets_sound.specs.StubLaws.Charges.Charges.{script_of, PacedTasksAreCharged, RoomIsCounted}
+use Rattle.prem_sound.specs.Scopes.Scopes.{charge_of, single}
+use Rattle.prem_sound.specs.Scopes.Strands.{ends as over, calls as marks}
+use Rattle.prem_sound.specs.Script.Script.{Call}
+use Rattle.std.proofs.Common.{slice_index_or}
 
 module _ (plant : Plant) where
   abbrev pub singles : Weave → Strand

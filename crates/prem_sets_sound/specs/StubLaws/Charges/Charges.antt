@@ -1,23 +1,13 @@
 -- Images whose tasks join, each along a weave that is parted into scopes: their runs go by what the scopes are charged.
-use Rattle.std.specs.Prelude.{◌≡◌, ℕ, ◌<◌, nat_le, Bool, List, length}
-use Rattle.prem_plant.specs.declared.plant.Plant.{Plant}
-use Rattle.prem_plant.specs.Order.Order.{OrderRule}
-use Rattle.prem_isa.specs.Plain.{TaskRun}
-use Rattle.prem_lru.specs.Entries.{ReplacementRule}
-use Rattle.prem_cycle.specs.Alone.{run_in}
-use Rattle.prem_cycle.specs.State.{Setup}
-use Rattle.prem_sound.specs.Script.Script.{Call, Script}
-use Rattle.prem_sound.specs.Script.Scripts.{Promise}
-use Rattle.prem_sound.specs.Resident.Faultless.{IsPolicy}
-use Rattle.prem_sound.specs.Sound.{AreInputs, Sound}
-use Rattle.prem_layout.specs.Footprint.{count_in}
-use Rattle.prem_sets_sound.specs.Weave.Weave.{dids_of, calls_of}
-use Rattle.prem_sets_sound.specs.Weave.Pace.Pace.{AreStated}
-use Rattle.prem_sets_sound.specs.StubLaws.Join.Joined.{JobLimits, TaskJoins, IsJoined}
+use Rattle.prem_sets_sound.specs.Prelude.{run_in, Setup, TaskRun, count_in, ReplacementRule, OrderRule, Plant, IsPolicy, Call, Script, Promise, AreInputs, Sound, ◌≡◌, ℕ, ◌<◌, nat_le, Bool}
+use Rattle.prem_sets_sound.specs.Prelude.{List, length}
 use Rattle.prem_sets_sound.specs.Each.Joins.{TaskPaces}
+use Rattle.prem_sets_sound.specs.StubLaws.Join.Joined.{JobLimits, TaskJoins, IsJoined}
+use Rattle.prem_sets_sound.specs.Weave.Pace.Pace.{AreStated}
+use Rattle.prem_sets_sound.specs.Weave.Weave.{dids_of, calls_of}
+use Rattle.prem_sound.specs.Limits.{jobs_limit}
 use Rattle.prem_sound.specs.Scopes.Lines.{is_roomy}
 use Rattle.prem_sound.specs.Scopes.Strands.{Strand, dids_along, IsStrand, ChargedFrom}
-use Rattle.prem_sound.specs.Limits.{jobs_limit}
 
 -- a script of these calls
 abbrev pub script_of : List Call → Script

@@ -1,5 +1,4 @@
-use Rattle.prem_plant.specs.Order.Rules.{order_rule_of, passes_of}
-use Rattle.prem_lru.specs.Rules.{rule_of}
+use Rattle.prem_sound.proofs.Prelude.{rule_of, order_rule_of, passes_of}
 use Rattle.prem_sound.proofs.ResidentLemmas.KeptRuns.{no_faults}
 use Rattle.prem_sound.proofs.ResidentLemmas.Policies.{kind_policy}
 use Rattle.prem_sound.proofs.resident.runs_make_no_fault.Goals as goal

@@ -1,4 +1,5 @@
-use Rattle.prem_sound.proofs.ScopesLemmas.Parting.{one_is_parted, each_is_parted, parts_join, parts_grow, parts_are_strands, calls_are_strands, jobs_end_due, strands_sum_up, stretches_shrink}
+use Rattle.prem_sound.proofs.ScopesLemmas.Parting.{one_is_parted, each_is_parted, parts_join, parts_grow, parts_are_strands, calls_are_strands, jobs_end_due, strands_sum_up}
+use Rattle.prem_sound.proofs.ScopesLemmas.Parting.{stretches_shrink}
 use Rattle.prem_sound.proofs.scopes.parts_are_strands.Goals as goal
 
 pub returns-clause-one : goal.returns-clause-one

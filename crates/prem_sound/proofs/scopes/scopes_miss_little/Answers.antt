@@ -1,5 +1,5 @@
-use Rattle.prem_sound.proofs.ScopesLemmas.Misses.{scopes_miss_little, kinds_miss_little}
 use Rattle.prem_sound.proofs.ScopesLemmas.Credits.{misses_owe_little}
+use Rattle.prem_sound.proofs.ScopesLemmas.Misses.{scopes_miss_little, kinds_miss_little}
 use Rattle.prem_sound.proofs.scopes.scopes_miss_little.Goals as goal
 
 pub returns-clause-orders : goal.returns-clause-orders

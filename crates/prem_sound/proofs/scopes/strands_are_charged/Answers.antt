@@ -1,5 +1,5 @@
-use Rattle.prem_sound.proofs.ScopesLemmas.StrandRuns.{strands_are_charged}
 use Rattle.prem_sound.proofs.ScopesLemmas.StrandLaws.{strands_join, jobs_are_charged, charges_look_at_calls}
+use Rattle.prem_sound.proofs.ScopesLemmas.StrandRuns.{strands_are_charged}
 use Rattle.prem_sound.proofs.scopes.strands_are_charged.Goals as goal
 
 pub returns-clause-runs : goal.returns-clause-runs

@@ -1,14 +1,11 @@
 -- Tokens as plain data: what a token says, wherever its name lies in memory.
-use Rattle.std.specs.Prelude.{ℕ}
-use Rattle.prem_word.specs.declared.kind.Kind.{Kind}
-use Rattle.prem_syntax.specs.declared.tree.Place.{Place}
+use Rattle.prem_text.specs.Prelude.{Text, Place, Kind, ℕ}
 use Rattle.prem_syntax.specs.Name.{name_bytes}
-use Rattle.prem_syntax.specs.Syntax.{Text}
-use Rattle.prem_text.specs.declared.lexing.token.token.Word.{Word}
 use Rattle.prem_text.specs.declared.lexing.token.token.Mark.{Mark}
-use Rattle.prem_text.specs.declared.lexing.token.token.Token.{Token}
-use Rattle.prem_text.specs.declared.lexing.token.token.Token.TheVariants as code
 use Rattle.prem_text.specs.declared.lexing.token.token.Spotted.{Spotted}
+use Rattle.prem_text.specs.declared.lexing.token.token.Token.{Token}
+use Rattle.prem_text.specs.declared.lexing.token.token.Word.{Word}
+use Rattle.prem_text.specs.declared.lexing.token.token.Token.TheVariants as code
 
 pub data Lexeme : Type 0 where
   name : (text : Text) → Lexeme

@@ -1,6 +1,6 @@
 use Rattle.std.proofs.Common.{◌≡◌, ap, ◌∙◌, sym, arith, length}
 use Rattle.prem_resp.specs.Fits.{found_in}
-use Rattle.prem_time.proofs.LoadsAre.{lent_closed, lent_found, lent_long}
+use Rattle.prem_time.proofs.LoadsAre.{lent_found, lent_long}
 use Rattle.prem_time.proofs.promises.waits_by.Goals as goal
 
 pub busy_periods-requires-clause-count : goal.busy_periods-requires-clause-count

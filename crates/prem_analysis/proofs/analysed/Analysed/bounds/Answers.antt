@@ -1,8 +1,4 @@
-use Rattle.std.specs.Prelude.{All}
-use Rattle.std.proofs.Common.{◌<◌, ◌^◌, ℕ, sym, ◌∙◌, subst}
-use Rattle.prem_ranges.specs.RangesKept.{turn_bounds}
-use Rattle.prem_ranges.proofs.AnalysisSound.{turns_are_words}
-use Rattle.prem_analysis.specs.Analysed.{analysed_text}
+use Rattle.prem_analysis.proofs.Prelude.{analysed_text, turns_are_words, turn_bounds, ◌<◌, ◌^◌, ℕ, sym, ◌∙◌, subst, All}
 use Rattle.prem_analysis.proofs.Bounded.{all_below}
 use Rattle.prem_analysis.proofs.analysed.Analysed.bounds.Goals as goal
 

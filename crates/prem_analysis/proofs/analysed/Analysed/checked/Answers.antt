@@ -1,5 +1,4 @@
-use Rattle.prem_ranges.proofs.AnalysisSound.{analysis_sound}
-use Rattle.prem_analysis.specs.Analysed.{analysed_text}
+use Rattle.prem_analysis.proofs.Prelude.{analysed_text, analysis_sound}
 use Rattle.prem_analysis.proofs.analysed.Analysed.checked.Goals as goal
 
 pub returns-clause-sound : goal.returns-clause-sound

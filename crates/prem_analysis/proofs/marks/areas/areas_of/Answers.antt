@@ -1,9 +1,4 @@
-use Rattle.std.proofs.Common.{◌≡◌, ◌+◌, ◌∷◌, ◌++◌, map, drop, ap, sym, ◌∙◌, arith, List, flat_map}
-use Rattle.std.proofs.lemmas.List.{drop_more}
-use Rattle.prem_list.specs.Sequence.{items_of}
-use Rattle.prem_syntax.specs.declared.tree.Region.{Region}
-use Rattle.prem_syntax.specs.SyntaxOf.{region_of}
-use Rattle.prem_analysis.specs.Ranging.SiteOf.{area_of}
+use Rattle.prem_analysis.proofs.Prelude.{area_of, items_of, region_of, Region, ◌≡◌, ◌+◌, ◌∷◌, ◌++◌, map, drop, ap, sym, ◌∙◌, arith, List, flat_map, drop_more}
 use Rattle.prem_analysis.proofs.MarksLemmas.Stated.{stated, one_more}
 use Rattle.prem_analysis.proofs.marks.areas.areas_of.Goals as goal
 

@@ -1,7 +1,4 @@
-use Rattle.std.proofs.Common.{◌≡◌, ◌++◌, map, drop, flat_map}
-use Rattle.prem_list.specs.Sequence.{items_of}
-use Rattle.prem_syntax.specs.SyntaxOf.{region_of}
-use Rattle.prem_analysis.specs.Ranging.SiteOf.{area_of}
+use Rattle.prem_analysis.proofs.Prelude.{area_of, items_of, region_of, ◌≡◌, ◌++◌, map, drop, flat_map}
 use Rattle.prem_analysis.proofs.MarksLemmas.Stated.{stated}
 use Rattle.prem_analysis.proofs.marks.areas.areas_of.Given as goal
 

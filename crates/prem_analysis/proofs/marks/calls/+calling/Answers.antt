@@ -1,6 +1,4 @@
-use Rattle.std.proofs.Common.{List, ◌++◌, ap, sym, ◌∙◌}
-use Rattle.prem_tree.specs.declared.resolve.resolved.Step.{Step}
-use Rattle.prem_analysis.specs.Marks.Called.{called, list_called}
+use Rattle.prem_analysis.proofs.Prelude.{called, list_called, Step, List, ◌++◌, ap, sym, ◌∙◌}
 use Rattle.prem_analysis.proofs.MarksLemmas.CalledTrees.{block_called}
 use Rattle.prem_analysis.proofs.marks.calls.+calling.Goals as goal
 

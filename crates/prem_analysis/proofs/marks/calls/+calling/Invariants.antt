@@ -1,5 +1,4 @@
-use Rattle.std.proofs.Common.{◌≡◌, ◌++◌, drop}
-use Rattle.prem_analysis.specs.Marks.Called.{list_called}
+use Rattle.prem_analysis.proofs.Prelude.{list_called, ◌≡◌, ◌++◌, drop}
 use Rattle.prem_analysis.proofs.marks.calls.+calling.Given as goal
 
 abbrev pub invariant-add_all_called-loop-s : goal.invariant-add_all_called-loop-s

@@ -1,5 +1,4 @@
-use Rattle.std.proofs.Common.{◌≡◌, ◌++◌, map, drop}
-use Rattle.prem_analysis.specs.Marks.Called.{called}
+use Rattle.prem_analysis.proofs.Prelude.{called, ◌≡◌, ◌++◌, map, drop}
 use Rattle.prem_analysis.proofs.marks.calls.callee_table.Given as goal
 
 abbrev pub invariant-loop-f : goal.invariant-loop-f

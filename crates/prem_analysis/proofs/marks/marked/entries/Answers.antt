@@ -1,10 +1,4 @@
-use Rattle.std.specs.Option.{option_map}
-use Rattle.std.proofs.Common.{◌++◌, map, ap, sym, ◌∙◌, arith, List}
-use Rattle.std.proofs.lemmas.List.{append-nil}
-use Rattle.prem_syntax.specs.SyntaxOf.{global_of, mark_of}
-use Rattle.prem_syntax.specs.Source.{unlimited}
-use Rattle.prem_tree.specs.declared.resolve.resolved.Routine.{Routine}
-use Rattle.prem_analysis.specs.Marks.Entries.{Entry, entry_of, entry_if}
+use Rattle.prem_analysis.proofs.Prelude.{Entry, entry_of, entry_if, unlimited, global_of, mark_of, Routine, ◌++◌, map, ap, sym, ◌∙◌, arith, List, append-nil, option_map}
 use Rattle.prem_analysis.proofs.MarksLemmas.Watched.{one_more, none_left_over}
 use Rattle.prem_analysis.proofs.marks.marked.entries.Goals as goal
 

@@ -1,8 +1,4 @@
-use Rattle.std.proofs.Common.{◌≡◌, ◌++◌, map, drop}
-use Rattle.prem_syntax.specs.SyntaxOf.{global_of}
-use Rattle.prem_syntax.specs.Source.{unlimited}
-use Rattle.prem_tree.specs.Resolve.ResolvedOf.{routines_of}
-use Rattle.prem_analysis.specs.Marks.Entries.{entry_of, entries_from}
+use Rattle.prem_analysis.proofs.Prelude.{entry_of, entries_from, unlimited, global_of, routines_of, ◌≡◌, ◌++◌, map, drop}
 use Rattle.prem_analysis.proofs.marks.marked.entries.Given as goal
 
 abbrev pub invariant-loop-n : goal.invariant-loop-n

@@ -1,7 +1,4 @@
-use Rattle.std.proofs.Common.{◌≡◌, map, ap, ◌∙◌, List}
-use Rattle.prem_list.specs.Sequence.{items_of}
-use Rattle.prem_tree.specs.declared.resolve.resolved.Routine.{Routine}
-use Rattle.prem_analysis.specs.Marks.Called.{called}
+use Rattle.prem_analysis.proofs.Prelude.{called, items_of, Routine, ◌≡◌, map, ap, ◌∙◌, List}
 use Rattle.prem_analysis.proofs.MarksLemmas.Watched.{if_watched}
 use Rattle.prem_analysis.proofs.marks.marked.marked_of.Goals as goal
 

@@ -1,5 +1,5 @@
-use Rattle.std.proofs.Common.{sym, ◌∙◌, ◌-◌, map, arith}
 use Rattle.prem_analysis.proofs.MarksLemmas.Sets.{item_at, below_step}
+use Rattle.std.proofs.Common.{sym, ◌∙◌, ◌-◌, map, arith}
 use Rattle.prem_analysis.proofs.marks.reach.add_callees_below.Goals as goal
 
 pub loop-n-preserved-then-set-n : goal.loop-n-preserved-then-set-n

@@ -1,5 +1,4 @@
-use Rattle.std.proofs.Common.{◌≡◌, ◌≤◌, map}
-use Rattle.prem_syntax.specs.Reach.{with_callees_below}
+use Rattle.prem_analysis.proofs.Prelude.{with_callees_below, ◌≡◌, ◌≤◌, map}
 use Rattle.prem_analysis.proofs.marks.reach.add_callees_below.Given as goal
 
 abbrev pub invariant-loop-n : goal.invariant-loop-n

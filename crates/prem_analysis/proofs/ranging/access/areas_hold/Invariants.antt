@@ -1,7 +1,4 @@
-use Rattle.std.proofs.Common.{◌≡◌, map, drop}
-use Rattle.prem_ranges.specs.Regions.{areas_hold}
-use Rattle.prem_analysis.specs.Ranging.View.{span_of}
-use Rattle.prem_analysis.specs.Ranging.SiteOf.{area_of}
+use Rattle.prem_analysis.proofs.Prelude.{area_of, span_of, areas_hold, ◌≡◌, map, drop}
 use Rattle.prem_analysis.proofs.ranging.access.areas_hold.Given as goal
 
 abbrev pub invariant-loop-a : goal.invariant-loop-a

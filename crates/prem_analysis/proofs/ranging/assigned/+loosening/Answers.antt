@@ -1,11 +1,4 @@
-use Rattle.std.proofs.Common.{List, ap, sym, ◌∙◌, refl, eqb, arith}
-use Rattle.std.proofs.lemmas.List.{drop_all}
-use Rattle.prem_list.specs.Sequence.{items_of}
-use Rattle.prem_tree.specs.declared.resolve.resolved.Step.{Step}
-use Rattle.prem_ranges.specs.Environment.{loosened}
-use Rattle.prem_ranges.specs.After.{is_target, assigns}
-use Rattle.prem_analysis.specs.Ranging.View.{env_of}
-use Rattle.prem_analysis.specs.Ranging.Plain.{plain, plain_list}
+use Rattle.prem_analysis.proofs.Prelude.{plain, plain_list, env_of, items_of, is_target, assigns, loosened, Step, List, ap, sym, ◌∙◌, refl, eqb, arith, drop_all}
 use Rattle.prem_analysis.proofs.RangingLemmas.Sequences.{block_is, loosened-one, or_end, arm, local_arm, no_arm, both_arm, moved, more_loosened, loosened-none}
 use Rattle.prem_analysis.proofs.ranging.assigned.+loosening.Goals as goal
 

@@ -1,5 +1,4 @@
-use Rattle.std.proofs.Common.{sym, ◌∙◌}
-use Rattle.prem_analysis.specs.Ranging.View.{env_of}
+use Rattle.prem_analysis.proofs.Prelude.{env_of, sym, ◌∙◌}
 use Rattle.prem_analysis.proofs.RangingLemmas.Sequences.{loosened-one, loosened-none}
 use Rattle.prem_analysis.proofs.ranging.assigned.loosen_target.Goals as goal
 

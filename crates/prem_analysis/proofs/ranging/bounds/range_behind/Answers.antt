@@ -1,9 +1,4 @@
-use Rattle.std.specs.Prelude.{pos, ◌+ℤ◌, ◌-ℤ◌}
-use Rattle.std.specs.Int.{w64, int_max}
-use Rattle.std.proofs.Common.{arith, sym, ◌∙◌, to_z, of_z}
-use Rattle.std.proofs.lemmas.Int.{ints, clamps}
-use Rattle.prem_word.specs.Ranges.{from_to}
-use Rattle.prem_ranges.proofs.SavesLemmas.Ways.{ends}
+use Rattle.prem_analysis.proofs.Prelude.{ends, from_to, arith, sym, ◌∙◌, to_z, of_z, ints, clamps, w64, int_max, pos, ◌+ℤ◌, ◌-ℤ◌}
 use Rattle.prem_analysis.proofs.RangingLemmas.Locals.{within_yes, within_no, below_greatest}
 use Rattle.prem_analysis.proofs.ranging.bounds.range_behind.Goals as goal
 

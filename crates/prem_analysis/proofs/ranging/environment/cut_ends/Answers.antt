@@ -1,6 +1,4 @@
-use Rattle.std.proofs.Common.{arith}
-use Rattle.std.proofs.lemmas.Int.{ints, clamps}
-use Rattle.prem_ranges.proofs.SavesLemmas.Ways.{ends}
+use Rattle.prem_analysis.proofs.Prelude.{ends, arith, ints, clamps}
 use Rattle.prem_analysis.proofs.ranging.environment.cut_ends.Goals as goal
 
 pub returns-in-Lt : goal.returns-in-Lt

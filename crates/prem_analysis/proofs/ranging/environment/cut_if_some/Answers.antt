@@ -1,8 +1,5 @@
-use Rattle.std.proofs.Common.{arith, ap}
-use Rattle.std.proofs.lemmas.Int.{ints}
-use Rattle.prem_word.specs.Ranges.{Span}
+use Rattle.prem_analysis.proofs.Prelude.{span_of, Span, arith, ap, ints}
 use Rattle.prem_ranges.proofs.Kept.{narrower}
-use Rattle.prem_analysis.specs.Ranging.View.{span_of}
 use Rattle.prem_analysis.proofs.ranging.environment.cut_if_some.Goals as goal
 
 pub invariant_of-result : goal.invariant_of-result

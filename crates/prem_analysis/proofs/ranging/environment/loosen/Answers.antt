@@ -1,5 +1,5 @@
-use Rattle.prem_ranges.specs.Environment.{any_again}
 use Rattle.prem_analysis.proofs.RangingLemmas.Locals.{at_local_within, at_local_past}
+use Rattle.prem_ranges.specs.Environment.{any_again}
 use Rattle.prem_analysis.proofs.ranging.environment.loosen.Goals as goal
 
 pub returns-then-k-env : goal.returns-then-k-env

@@ -1,5 +1,5 @@
-use Rattle.std.proofs.Common.{sym, ◌∙◌}
 use Rattle.prem_analysis.proofs.RangingLemmas.Locals.{range_at_within, range_at_past}
+use Rattle.std.proofs.Common.{sym, ◌∙◌}
 use Rattle.prem_analysis.proofs.ranging.environment.range_at.Goals as goal
 
 pub returns-then-k-env : goal.returns-then-k-env

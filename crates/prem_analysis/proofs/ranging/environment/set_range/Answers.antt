@@ -1,5 +1,4 @@
-use Rattle.prem_ranges.specs.Environment.{with_range}
-use Rattle.prem_analysis.specs.Ranging.View.{span_of}
+use Rattle.prem_analysis.proofs.Prelude.{span_of, with_range}
 use Rattle.prem_analysis.proofs.RangingLemmas.Locals.{at_local_within, at_local_past}
 use Rattle.prem_analysis.proofs.ranging.environment.set_range.Goals as goal
 

@@ -1,6 +1,4 @@
-use Rattle.std.proofs.Common.{List, ◌++◌, ap, sym, ◌∙◌}
-use Rattle.prem_tree.specs.declared.resolve.resolved.Step.{Step}
-use Rattle.prem_analysis.specs.Ranging.Targets.{targets, list_targets}
+use Rattle.prem_analysis.proofs.Prelude.{targets, list_targets, Step, List, ◌++◌, ap, sym, ◌∙◌}
 use Rattle.prem_analysis.proofs.RangingLemmas.Sequences.{block_targets}
 use Rattle.prem_analysis.proofs.ranging.saves.+adding.Goals as goal
 

@@ -1,8 +1,4 @@
-use Rattle.std.proofs.Common.{ap, sym, ◌∙◌}
-use Rattle.prem_word.specs.declared.kind.Kind.TheVariants.{Int}
-use Rattle.prem_word.specs.Ranges.{Span}
-use Rattle.prem_ranges.specs.Environment.{any_of, with_range}
-use Rattle.prem_analysis.specs.Ranging.View.{known_of}
+use Rattle.prem_analysis.proofs.Prelude.{known_of, any_of, with_range, Span, Int, ap, sym, ◌∙◌}
 use Rattle.prem_analysis.proofs.RangingLemmas.Locals.{known_at_within, known_at_past}
 use Rattle.prem_analysis.proofs.ranging.saves.known_at.Goals as goal
 

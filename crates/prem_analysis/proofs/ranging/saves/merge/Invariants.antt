@@ -1,6 +1,4 @@
-use Rattle.std.proofs.Common.{◌≡◌, drop}
-use Rattle.prem_ranges.specs.Saves.Saves.{merged}
-use Rattle.prem_analysis.specs.Ranging.View.{env_of, saves_of}
+use Rattle.prem_analysis.proofs.Prelude.{env_of, saves_of, merged, ◌≡◌, drop}
 use Rattle.prem_analysis.proofs.ranging.saves.merge.Given as goal
 
 abbrev pub invariant-loop-s : goal.invariant-loop-s

@@ -1,5 +1,5 @@
-use Rattle.prem_analysis.specs.Ranging.View.{known_of}
 use Rattle.prem_analysis.proofs.RangingLemmas.Locals.{put_within, at_local_past}
+use Rattle.prem_analysis.specs.Ranging.View.{known_of}
 use Rattle.prem_analysis.proofs.ranging.saves.put.Goals as goal
 
 pub returns-then-s-env : goal.returns-then-s-env

@@ -1,7 +1,6 @@
-use Rattle.prem_word.specs.Ranges.{join}
-use Rattle.prem_ranges.specs.Environment.{Known, with_range}
-use Rattle.prem_analysis.specs.Ranging.View.{known_of}
+use Rattle.prem_analysis.proofs.Prelude.{known_of, with_range, join}
 use Rattle.prem_analysis.proofs.RangingLemmas.Locals.{at_local_within, at_local_past}
+use Rattle.prem_ranges.specs.Environment.{Known}
 use Rattle.prem_analysis.proofs.ranging.saves.put_either.Goals as goal
 
 pub returns-then-s-env : goal.returns-then-s-env

@@ -1,6 +1,4 @@
-use Rattle.std.proofs.Common.{◌≡◌, ◌++◌, drop}
-use Rattle.prem_ranges.specs.Saves.Saves.{saved}
-use Rattle.prem_analysis.specs.Ranging.View.{env_of, saves_of}
+use Rattle.prem_analysis.proofs.Prelude.{env_of, saves_of, saved, ◌≡◌, ◌++◌, drop}
 use Rattle.prem_analysis.proofs.ranging.saves.save.Given as goal
 
 abbrev pub invariant-loop-k : goal.invariant-loop-k

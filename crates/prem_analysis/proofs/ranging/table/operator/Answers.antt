@@ -1,9 +1,7 @@
-use Rattle.std.proofs.Common.{ap, ◌∙◌}
-use Rattle.prem_word.specs.Words.{result_kind}
-use Rattle.prem_word.specs.Ranges.{Span, range_of_op}
-use Rattle.prem_word.proofs.Kept.{range_kept}
-use Rattle.prem_analysis.specs.Ranging.View.{span_of, row_span}
+use Rattle.prem_analysis.proofs.Prelude.{span_of, row_span, Span, range_of_op, ap, ◌∙◌}
 use Rattle.prem_analysis.proofs.RangingLemmas.Bounded.{least_of_same, greatest_of_same}
+use Rattle.prem_word.proofs.Kept.{range_kept}
+use Rattle.prem_word.specs.Words.{result_kind}
 use Rattle.prem_analysis.proofs.ranging.table.operator.Goals as goal
 
 pub bounded-requires-clause-least : goal.bounded-requires-clause-least

@@ -1,11 +1,6 @@
-use Rattle.std.proofs.Common.{List, ap, ◌∙◌, ◌-◌, arith, map, refl}
-use Rattle.prem_analysis.specs.Functions.{plain_routine}
-use Rattle.prem_annotate.specs.declared.seeing.sight.Argument.{Argument}
-use Rattle.prem_annotate.specs.declared.ranges.slots.Slot.{Slot}
-use Rattle.prem_annotate.specs.Seeing.Sight.{argument_of}
-use Rattle.prem_annotate.specs.Ranges.Slots.{slot_of, row_of, with_arguments}
-use Rattle.prem_annotate.specs.Ranges.Outlook.{outlook_with}
+use Rattle.prem_annotate.proofs.Prelude.{plain_routine, outlook_with, slot_of, row_of, with_arguments, argument_of, Slot, Argument, List, ap, ◌∙◌, arith, map, refl}
 use Rattle.prem_annotate.proofs.Outlooks.{none_inferred, inferred_next, row_there, ranged_there}
+use Rattle.std.proofs.Common.{◌-◌}
 use Rattle.prem_annotate.proofs.ranges.inferring.infer.Goals as goal
 
 pub loop-n-init : goal.loop-n-init

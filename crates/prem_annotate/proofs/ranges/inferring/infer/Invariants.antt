@@ -1,9 +1,6 @@
-use mathlib.Core.List.{reverse}
-use Rattle.std.proofs.Common.{◌≤◌, length, map}
-use Rattle.prem_analysis.specs.Functions.{plain_routine}
-use Rattle.prem_annotate.specs.Ranges.Slots.{row_of}
-use Rattle.prem_annotate.specs.Ranges.Outlook.{outlook_of}
+use Rattle.prem_annotate.proofs.Prelude.{plain_routine, outlook_of, row_of, ◌≤◌, length, map}
 use Rattle.prem_annotate.proofs.Outlooks.{Inferring}
+use mathlib.Core.List.{reverse}
 use Rattle.prem_annotate.proofs.ranges.inferring.infer.Given as goal
 
 abbrev pub invariant-loop-n : goal.invariant-loop-n

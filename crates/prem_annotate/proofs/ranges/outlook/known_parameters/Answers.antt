@@ -1,9 +1,4 @@
-use Rattle.std.proofs.Common.{map, arith}
-use Rattle.prem_syntax.specs.SyntaxOf.{parameter_of}
-use Rattle.prem_ranges.specs.After.{known_parameter}
-use Rattle.prem_analysis.specs.Ranging.View.{env_of}
-use Rattle.prem_analysis.proofs.Behind.{ranged_item}
-use Rattle.prem_annotate.specs.Ranges.Slots.{slot_of, with_slots}
+use Rattle.prem_annotate.proofs.Prelude.{ranged_item, env_of, slot_of, with_slots, known_parameter, parameter_of, map, arith}
 use Rattle.prem_annotate.proofs.Outlooks.{slots_next, parameters_end}
 use Rattle.prem_annotate.proofs.ranges.outlook.known_parameters.Goals as goal
 

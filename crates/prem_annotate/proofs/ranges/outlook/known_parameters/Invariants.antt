@@ -1,8 +1,4 @@
-use Rattle.std.proofs.Common.{◌≡◌, ◌++◌, map, drop}
-use Rattle.prem_syntax.specs.SyntaxOf.{parameter_of}
-use Rattle.prem_ranges.specs.After.{known_parameter}
-use Rattle.prem_analysis.specs.Ranging.View.{env_of}
-use Rattle.prem_annotate.specs.Ranges.Slots.{slot_of, with_slots}
+use Rattle.prem_annotate.proofs.Prelude.{env_of, slot_of, with_slots, known_parameter, parameter_of, ◌≡◌, ◌++◌, map, drop}
 use Rattle.prem_annotate.proofs.ranges.outlook.known_parameters.Given as goal
 
 abbrev pub invariant-loop-i : goal.invariant-loop-i

@@ -1,7 +1,4 @@
-use Rattle.std.proofs.Common.{map, arith}
-use Rattle.prem_syntax.specs.SyntaxOf.{parameter_of}
-use Rattle.prem_syntax.specs.Syntax.{Parameter}
-use Rattle.prem_annotate.specs.Ranges.Slots.{slot_of, with_slots}
+use Rattle.prem_annotate.proofs.Prelude.{slot_of, with_slots, Parameter, parameter_of, map, arith}
 use Rattle.prem_annotate.proofs.Outlooks.{slots_next, parameters_end}
 use Rattle.prem_annotate.proofs.ranges.outlook.ranges.Goals as goal
 

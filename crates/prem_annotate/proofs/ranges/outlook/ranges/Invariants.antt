@@ -1,7 +1,4 @@
-use Rattle.std.proofs.Common.{◌≡◌, ◌++◌, map, drop}
-use Rattle.prem_syntax.specs.SyntaxOf.{parameter_of}
-use Rattle.prem_syntax.specs.Syntax.{Parameter}
-use Rattle.prem_annotate.specs.Ranges.Slots.{slot_of, with_slots}
+use Rattle.prem_annotate.proofs.Prelude.{slot_of, with_slots, Parameter, parameter_of, ◌≡◌, ◌++◌, map, drop}
 use Rattle.prem_annotate.proofs.ranges.outlook.ranges.Given as goal
 
 abbrev pub invariant-loop-i : goal.invariant-loop-i

@@ -1,9 +1,4 @@
-use Rattle.std.specs.Prelude.{Vec}
-use Rattle.std.specs.Global.{Global}
-use Rattle.std.proofs.Common.{ap, sym, ◌∙◌}
-use Rattle.prem_annotate.specs.declared.ranges.slots.Slot.{Slot}
-use Rattle.prem_analysis.specs.Ranging.View.{span_of}
-use Rattle.prem_annotate.specs.Ranges.Slots.{row_of, given, at_number}
+use Rattle.prem_annotate.proofs.Prelude.{span_of, row_of, given, at_number, Slot, ap, sym, ◌∙◌, Global, Vec}
 use Rattle.prem_annotate.proofs.Slots.{number_within, number_past}
 use Rattle.prem_annotate.proofs.ranges.slots.add.Goals as goal
 

@@ -1,5 +1,4 @@
-use Rattle.std.proofs.Common.{map, arith}
-use Rattle.prem_annotate.specs.Ranges.Slots.{row_of}
+use Rattle.prem_annotate.proofs.Prelude.{row_of, map, arith}
 use Rattle.prem_annotate.proofs.Slots.{arguments_before}
 use Rattle.prem_annotate.proofs.ranges.slots.add_to_rows.Goals as goal
 

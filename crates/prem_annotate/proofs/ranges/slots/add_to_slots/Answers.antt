@@ -1,5 +1,4 @@
-use Rattle.prem_analysis.specs.Ranging.View.{span_of}
-use Rattle.prem_annotate.specs.Ranges.Slots.{slot_of, given}
+use Rattle.prem_annotate.proofs.Prelude.{span_of, slot_of, given}
 use Rattle.prem_annotate.proofs.Slots.{number_within, number_past}
 use Rattle.prem_annotate.proofs.ranges.slots.add_to_slots.Goals as goal
 

@@ -1,6 +1,4 @@
-use Rattle.std.proofs.Common.{◌≡◌, ◌++◌, map, drop}
-use Rattle.prem_syntax.specs.SyntaxOf.{parameter_of}
-use Rattle.prem_annotate.specs.Ranges.Slots.{row_of, empty_slot}
+use Rattle.prem_annotate.proofs.Prelude.{row_of, empty_slot, parameter_of, ◌≡◌, ◌++◌, map, drop}
 use Rattle.prem_annotate.proofs.ranges.slots.empty_row.Given as goal
 
 abbrev pub invariant-loop-p : goal.invariant-loop-p

@@ -1,6 +1,4 @@
-use Rattle.std.proofs.Common.{◌≡◌, ◌++◌, map, drop}
-use Rattle.prem_analysis.specs.Functions.{plain_routine}
-use Rattle.prem_annotate.specs.Ranges.Slots.{row_of, empty_row}
+use Rattle.prem_annotate.proofs.Prelude.{plain_routine, row_of, empty_row, ◌≡◌, ◌++◌, map, drop}
 use Rattle.prem_annotate.proofs.ranges.slots.empty_rows.Given as goal
 
 abbrev pub invariant-loop-f : goal.invariant-loop-f

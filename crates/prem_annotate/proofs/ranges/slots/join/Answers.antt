@@ -1,5 +1,4 @@
-use Rattle.std.proofs.Common.{arith}
-use Rattle.std.proofs.lemmas.Int.{ints, clamps}
+use Rattle.prem_annotate.proofs.Prelude.{arith, ints, clamps}
 use Rattle.prem_annotate.proofs.ranges.slots.join.Goals as goal
 
 pub invariant_of-result : goal.invariant_of-result

@@ -1,6 +1,4 @@
-use Rattle.std.proofs.Common.{◌≡◌, ◌≤◌, length, map, drop}
-use Rattle.prem_annotate.specs.Ranges.Outlook.{outlook_of}
-use Rattle.prem_annotate.specs.Regions.Elements.{elements_of, with_members}
+use Rattle.prem_annotate.proofs.Prelude.{outlook_of, elements_of, with_members, ◌≡◌, ◌≤◌, length, map, drop}
 use Rattle.prem_annotate.proofs.regions.elements.add_members.Given as goal
 
 abbrev pub invariant-loop-n : goal.invariant-loop-n

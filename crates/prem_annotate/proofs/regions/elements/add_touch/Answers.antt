@@ -1,7 +1,4 @@
-use Rattle.std.specs.Option.{option_map}
-use Rattle.std.proofs.Common.{ap, Some}
-use Rattle.prem_analysis.specs.Ranging.View.{span_of}
-use Rattle.prem_annotate.specs.Regions.Elements.{widened}
+use Rattle.prem_annotate.proofs.Prelude.{span_of, widened, ap, Some, option_map}
 use Rattle.prem_annotate.proofs.Slots.{number_within, number_past}
 use Rattle.prem_annotate.proofs.regions.elements.add_touch.Goals as goal
 

@@ -1,6 +1,4 @@
-use Rattle.std.proofs.Common.{◌≡◌, ◌≤◌, length, map, drop}
-use Rattle.prem_annotate.specs.Seeing.Sight.{touch_of}
-use Rattle.prem_annotate.specs.Regions.Elements.{elements_of, with_touches}
+use Rattle.prem_annotate.proofs.Prelude.{elements_of, with_touches, touch_of, ◌≡◌, ◌≤◌, length, map, drop}
 use Rattle.prem_annotate.proofs.regions.elements.add_touches.Given as goal
 
 abbrev pub invariant-loop-n : goal.invariant-loop-n

@@ -1,7 +1,4 @@
-use Rattle.std.proofs.Common.{◌≡◌, ◌++◌, map, drop}
-use Rattle.prem_syntax.specs.SyntaxOf.{global_of}
-use Rattle.prem_annotate.specs.Regions.Elements.{elements_of}
-use Rattle.prem_annotate.specs.Regions.Found.{no_elements}
+use Rattle.prem_annotate.proofs.Prelude.{elements_of, no_elements, global_of, ◌≡◌, ◌++◌, map, drop}
 use Rattle.prem_annotate.proofs.regions.elements.no_elements.Given as goal
 
 abbrev pub invariant-loop-global : goal.invariant-loop-global

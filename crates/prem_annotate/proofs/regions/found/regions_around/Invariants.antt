@@ -1,8 +1,4 @@
-use Rattle.std.proofs.Common.{◌≡◌, ◌++◌, map, drop}
-use Rattle.prem_list.specs.Sequence.{items_of}
-use Rattle.prem_syntax.specs.SyntaxOf.{global_of, region_of}
-use Rattle.prem_annotate.specs.Regions.Elements.{elements_of}
-use Rattle.prem_annotate.specs.Regions.Found.{regions_around}
+use Rattle.prem_annotate.proofs.Prelude.{elements_of, regions_around, items_of, global_of, region_of, ◌≡◌, ◌++◌, map, drop}
 use Rattle.prem_annotate.proofs.regions.found.regions_around.Given as goal
 
 abbrev pub invariant-loop-k : goal.invariant-loop-k

@@ -1,22 +1,9 @@
-use Rattle.std.specs.Prelude.{Vec}
-use Rattle.std.specs.Global.{Global}
-use Rattle.std.proofs.Common.{◌≡◌, List, ap, ◌∙◌, ◌-◌, ◌<◌, length, arith, map, refl}
-use Rattle.prem_syntax.specs.SyntaxOf.{global_of}
-use Rattle.prem_syntax.specs.Source.{unlimited}
-use Rattle.prem_tree.specs.declared.resolve.resolved.Routine.{Routine}
-use Rattle.prem_tree.specs.Resolve.ResolvedOf.{routines_of}
-use Rattle.prem_ranges.specs.RangeRules.{first_of}
-use Rattle.prem_ranges.specs.RangeBreaches.{in_routine}
-use Rattle.prem_analysis.specs.Ranging.View.{found_of}
-use Rattle.prem_analysis.specs.Functions.{plain_routine}
-use Rattle.prem_annotate.specs.declared.seeing.sight.Argument.{Argument}
-use Rattle.prem_annotate.specs.declared.ranges.slots.Slot.{Slot}
-use Rattle.prem_annotate.specs.Seeing.Sight.{argument_of}
-use Rattle.prem_annotate.specs.Ranges.Slots.{slot_of, row_of, with_arguments}
-use Rattle.prem_annotate.specs.Ranges.Outlook.{outlook_with}
-use Rattle.prem_annotate.specs.Rules.First.{routine_with, unwatched_site}
+use Rattle.prem_annotate.proofs.Prelude.{plain_routine, found_of, outlook_with, slot_of, row_of, with_arguments, routine_with, unwatched_site, argument_of, Slot, Argument, in_routine}
+use Rattle.prem_annotate.proofs.Prelude.{first_of, unlimited, global_of, routines_of, ◌≡◌, List, ap, ◌∙◌, ◌<◌, length, arith, map, refl, Global, Vec}
 use Rattle.prem_annotate.proofs.Outlooks.{row_there, ranged_there}
 use Rattle.prem_annotate.proofs.RulesLemmas.Found.{none_found, found_next, same_got}
+use Rattle.prem_tree.specs.declared.resolve.resolved.Routine.{Routine}
+use Rattle.std.proofs.Common.{◌-◌}
 use Rattle.prem_annotate.proofs.rules.finding.first_among.Goals as goal
 
 pub loop-n-init : goal.loop-n-init

@@ -1,10 +1,4 @@
-use Rattle.std.proofs.Common.{◌≤◌, length, map}
-use Rattle.prem_syntax.specs.SyntaxOf.{global_of}
-use Rattle.prem_syntax.specs.Source.{unlimited}
-use Rattle.prem_tree.specs.Resolve.ResolvedOf.{routines_of}
-use Rattle.prem_analysis.specs.Ranging.View.{found_of}
-use Rattle.prem_analysis.specs.Functions.{plain_routine}
-use Rattle.prem_annotate.specs.Ranges.Slots.{row_of}
+use Rattle.prem_annotate.proofs.Prelude.{plain_routine, found_of, row_of, unlimited, global_of, routines_of, ◌≤◌, length, map}
 use Rattle.prem_annotate.proofs.RulesLemmas.Found.{Finding}
 use Rattle.prem_annotate.proofs.rules.finding.first_among.Given as goal
 

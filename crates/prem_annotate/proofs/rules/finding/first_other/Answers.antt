@@ -1,8 +1,4 @@
-use Rattle.std.proofs.Common.{ap, ◌∙◌, sym, subst}
-use Rattle.prem_syntax.specs.SyntaxOf.{program_of}
-use Rattle.prem_annotating.specs.Annotated.{first_other}
-use Rattle.prem_analysis.proofs.Programs.{all_ranged}
-use Rattle.prem_annotate.specs.Rules.First.{TellableIf}
+use Rattle.prem_annotate.proofs.Prelude.{all_ranged, TellableIf, first_other, program_of, ap, ◌∙◌, sym, subst}
 use Rattle.prem_annotate.proofs.RulesLemmas.Found.{first_other_is}
 use Rattle.prem_annotate.proofs.RulesLemmas.Tellable.{first_other_tellable}
 use Rattle.prem_annotate.proofs.rules.finding.first_other.Goals as goal

@@ -1,17 +1,8 @@
-use Rattle.std.proofs.Common.{List, map, refl, ap, ◌∙◌, None}
-use Rattle.prem_syntax.specs.declared.tree.Param.{Param}
-use Rattle.prem_syntax.specs.declared.tree.Local.{Local}
-use Rattle.prem_syntax.specs.SyntaxOf.{parameter_of, local_of}
-use Rattle.prem_tree.specs.declared.resolve.resolved.Term.{Term}
-use Rattle.prem_tree.specs.Resolve.ResolvedOf.{term_of}
-use Rattle.prem_ranges.specs.After.{known_parameter}
-use Rattle.prem_analysis.specs.Ranging.View.{env_of}
+use Rattle.prem_annotate.proofs.Prelude.{seen, routine_arm, plain_routine, env_of, slot_of, with_slots, routine_with, known_parameter, parameter_of, local_of, Local, Param, term_of, List}
+use Rattle.prem_annotate.proofs.Prelude.{map, refl, ap, ◌∙◌, None}
 use Rattle.prem_analysis.specs.Ranging.SiteOf.{site_of}
 use Rattle.prem_analysis.specs.Seen.{Seen, seen_of}
-use Rattle.prem_analysis.specs.Functions.{plain_routine}
-use Rattle.prem_analysis.proofs.Behind.{seen, routine_arm}
-use Rattle.prem_annotate.specs.Ranges.Slots.{slot_of, with_slots}
-use Rattle.prem_annotate.specs.Rules.First.{routine_with}
+use Rattle.prem_tree.specs.declared.resolve.resolved.Term.{Term}
 use Rattle.prem_annotate.proofs.rules.walking.in_routine.Goals as goal
 
 pub returns : goal.returns

@@ -1,18 +1,9 @@
-use Rattle.std.specs.Int.{w64}
-use Rattle.std.proofs.Common.{◌≡◌, List, ap, refl, ◌∙◌, ◌∷◌, arith, to_z, of_z}
-use Rattle.std.proofs.lemmas.Int.{ints}
-use Rattle.prem_tree.specs.Resolve.ResolvedOf.{term_of}
-use Rattle.prem_ranges.specs.Environment.{at_local, with_range}
-use Rattle.prem_ranges.specs.RangeOf.{range_of}
-use Rattle.prem_ranges.specs.After.{turn_bound, body_range, range_behind}
-use Rattle.prem_ranges.specs.Saves.Saves.{saved_few}
-use Rattle.prem_analysis.specs.Arms.{capped}
-use Rattle.prem_analysis.specs.declared.ranging.found.Known.{Known}
-use Rattle.prem_analysis.specs.Ranging.View.{span_of, env_of, saves_of}
-use Rattle.prem_analysis.specs.Ranging.Plain.{plain}
-use Rattle.prem_analysis.specs.Ranging.Targets.{targets}
+use Rattle.prem_annotate.proofs.Prelude.{plain, span_of, env_of, saves_of, sight_of, turn_bound, body_range, range_behind, at_local, with_range, range_of, saved_few, term_of, ◌≡◌, List, ap}
+use Rattle.prem_annotate.proofs.Prelude.{refl, ◌∙◌, ◌∷◌, arith, to_z, of_z, ints, w64}
 use Rattle.prem_analysis.proofs.Heads.{head, body_known, behind_saved}
-use Rattle.prem_annotate.specs.Seeing.Sight.{sight_of}
+use Rattle.prem_analysis.specs.Arms.{capped}
+use Rattle.prem_analysis.specs.Ranging.Targets.{targets}
+use Rattle.prem_analysis.specs.declared.ranging.found.Known.{Known}
 use Rattle.prem_annotate.proofs.Arms.{head_sight}
 use Rattle.prem_annotate.proofs.seeing.entering.enter_counting.Goals as goal
 

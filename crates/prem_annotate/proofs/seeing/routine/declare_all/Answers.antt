@@ -1,11 +1,6 @@
-use Rattle.std.proofs.Common.{List, map, drop, ap, arith}
-use Rattle.std.proofs.lemmas.List.{drop_all}
-use Rattle.prem_syntax.specs.SyntaxOf.{local_of}
-use Rattle.prem_tree.specs.declared.resolve.resolved.Term.{Term}
-use Rattle.prem_tree.specs.Resolve.ResolvedOf.{term_of}
-use Rattle.prem_analysis.specs.Ranging.View.{env_of}
-use Rattle.prem_annotate.specs.Seeing.Sight.{sight_of}
+use Rattle.prem_annotate.proofs.Prelude.{env_of, sight_of, local_of, term_of, List, map, drop, ap, arith, drop_all}
 use Rattle.prem_annotate.proofs.Arms.{declared_next, no_terms}
+use Rattle.prem_tree.specs.declared.resolve.resolved.Term.{Term}
 use Rattle.prem_annotate.proofs.seeing.routine.declare_all.Goals as goal
 
 pub loop-i-preserved : goal.loop-i-preserved

@@ -1,8 +1,4 @@
-use Rattle.std.proofs.Common.{map, drop}
-use Rattle.prem_syntax.specs.SyntaxOf.{local_of}
-use Rattle.prem_tree.specs.Resolve.ResolvedOf.{term_of}
-use Rattle.prem_analysis.specs.Ranging.View.{env_of}
-use Rattle.prem_annotate.specs.Seeing.Sight.{sight_of}
+use Rattle.prem_annotate.proofs.Prelude.{env_of, sight_of, local_of, term_of, map, drop}
 use Rattle.prem_annotate.proofs.Arms.{Declaring}
 use Rattle.prem_annotate.proofs.seeing.routine.declare_all.Given as goal
 

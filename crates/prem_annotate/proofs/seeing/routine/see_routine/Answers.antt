@@ -1,15 +1,8 @@
-use Rattle.std.proofs.Common.{List, map, ap}
-use Rattle.prem_syntax.specs.declared.tree.Local.{Local}
-use Rattle.prem_syntax.specs.SyntaxOf.{local_of}
-use Rattle.prem_tree.specs.declared.resolve.resolved.Term.{Term}
-use Rattle.prem_tree.specs.Resolve.ResolvedOf.{term_of}
-use Rattle.prem_analysis.specs.Ranging.View.{env_of}
-use Rattle.prem_analysis.specs.Functions.{plain_routine}
-use Rattle.prem_annotate.specs.declared.seeing.sight.Touch.{Touch}
-use Rattle.prem_annotate.specs.declared.seeing.sight.Argument.{Argument}
-use Rattle.prem_annotate.specs.Seeing.Sight.{touch_of, argument_of, sight_of}
-use Rattle.prem_annotate.proofs.Sights.{sight, same_sight}
+use Rattle.prem_annotate.proofs.Prelude.{plain_routine, env_of, touch_of, argument_of, sight_of, Argument, local_of, Local, term_of, List, map, ap}
 use Rattle.prem_annotate.proofs.Arms.{routine_arm}
+use Rattle.prem_annotate.proofs.Sights.{sight, same_sight}
+use Rattle.prem_annotate.specs.declared.seeing.sight.Touch.{Touch}
+use Rattle.prem_tree.specs.declared.resolve.resolved.Term.{Term}
 use Rattle.prem_annotate.proofs.seeing.routine.see_routine.Goals as goal
 
 pub returns : goal.returns

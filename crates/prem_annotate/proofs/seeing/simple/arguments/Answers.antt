@@ -1,6 +1,4 @@
-use Rattle.std.proofs.Common.{arith}
-use Rattle.prem_analysis.specs.Ranging.View.{env_of}
-use Rattle.prem_annotate.specs.Seeing.Sight.{sight_of}
+use Rattle.prem_annotate.proofs.Prelude.{env_of, sight_of, arith}
 use Rattle.prem_annotate.proofs.Sights.{passed_next, passed_all}
 use Rattle.prem_annotate.proofs.seeing.simple.arguments.Goals as goal
 

@@ -1,17 +1,8 @@
-use Rattle.std.proofs.Common.{List, ap, sym, ◌∙◌, arith}
-use Rattle.prem_tree.specs.declared.resolve.resolved.Step.{Step}
-use Rattle.prem_tree.specs.Resolve.ResolvedOf.{term_of}
-use Rattle.prem_ranges.specs.After.{after}
-use Rattle.prem_ranges.specs.Saves.Saves.{restored, merged}
+use Rattle.prem_annotate.proofs.Prelude.{if_other_known, if_known, for_known, while_known, block_is, plain, plain_list, env_of, saves_of, sight_of, behind, after, restored, merged, term_of}
+use Rattle.prem_annotate.proofs.Prelude.{Step, List, ap, sym, ◌∙◌, arith}
 use Rattle.prem_analysis.specs.declared.ranging.saves.Saved.{Saved}
-use Rattle.prem_analysis.specs.Ranging.View.{env_of, saves_of}
-use Rattle.prem_analysis.specs.Ranging.Plain.{plain, plain_list}
-use Rattle.prem_analysis.proofs.RangingLemmas.Sequences.{block_is}
-use Rattle.prem_analysis.proofs.InPlace.{if_other_known, if_known, for_known, while_known}
-use Rattle.prem_annotate.specs.Seeing.Sight.{sight_of}
-use Rattle.prem_annotate.specs.Seeing.Walk.{behind}
-use Rattle.prem_annotate.proofs.Sights.{walked_on}
 use Rattle.prem_annotate.proofs.Arms.{if_arm, for_arm, while_arm}
+use Rattle.prem_annotate.proofs.Sights.{walked_on}
 use Rattle.prem_annotate.proofs.seeing.steps.+walking.Goals as goal
 
 pub walk-returns-in_ok-walk_all-in-Block-clause-env : goal.walk-returns-in_ok-walk_all-in-Block-clause-env

@@ -1,6 +1,4 @@
-use Rattle.std.proofs.Common.{drop}
-use Rattle.prem_analysis.specs.Ranging.View.{env_of}
-use Rattle.prem_annotate.specs.Seeing.Sight.{sight_of}
+use Rattle.prem_annotate.proofs.Prelude.{env_of, sight_of, drop}
 use Rattle.prem_annotate.proofs.Sights.{Walking}
 use Rattle.prem_annotate.proofs.seeing.steps.+walking.Given as goal
 

@@ -1,12 +1,7 @@
-use Rattle.std.proofs.Common.{List, ap, ◌∙◌, map}
-use Rattle.prem_syntax.specs.declared.tree.Item.{Item}
-use Rattle.prem_syntax.specs.Resolve.{functions_of}
-use Rattle.prem_syntax.specs.SyntaxOf.{item_of, program_of}
-use Rattle.prem_annotating.specs.declared.editing.walk.Order.{Order}
-use Rattle.prem_annotating.specs.Editing.Orders.{order_of, edited_text}
-use Rattle.prem_annotate.specs.Notes.{notes_of}
-use Rattle.prem_annotate.specs.Writing.Text.{orders_from}
+use Rattle.prem_annotate.proofs.Prelude.{notes_of, orders_from, order_of, edited_text, functions_of, item_of, program_of, List, ap, ◌∙◌, map}
 use Rattle.prem_annotate.proofs.WritingLemmas.Writing.{text_is}
+use Rattle.prem_annotating.specs.declared.editing.walk.Order.{Order}
+use Rattle.prem_syntax.specs.declared.tree.Item.{Item}
 use Rattle.prem_annotate.proofs.writing.noting.annotate_text.Goals as goal
 
 pub returns : goal.returns

@@ -1,9 +1,4 @@
-use Rattle.std.proofs.Common.{◌≡◌, ◌≤◌, ◌++◌, drop, map}
-use Rattle.prem_syntax.specs.Resolve.{functions_of}
-use Rattle.prem_syntax.specs.SyntaxOf.{item_of}
-use Rattle.prem_annotating.specs.Editing.Orders.{order_of}
-use Rattle.prem_annotate.specs.Notes.{notes_of}
-use Rattle.prem_annotate.specs.Writing.Text.{orders_from}
+use Rattle.prem_annotate.proofs.Prelude.{notes_of, orders_from, order_of, functions_of, item_of, ◌≡◌, ◌≤◌, ◌++◌, drop, map}
 use Rattle.prem_annotate.proofs.writing.noting.orders.Given as goal
 
 abbrev pub invariant-loop-item : goal.invariant-loop-item

@@ -1,10 +1,6 @@
-use Rattle.std.specs.Option.{option_map}
-use Rattle.std.proofs.Common.{List, ap, ◌∙◌, ◌++◌, map}
-use Rattle.prem_syntax.specs.declared.tree.Param.{Param}
-use Rattle.prem_syntax.specs.SyntaxOf.{parameter_of, mark_of, function_of}
-use Rattle.prem_annotating.specs.Editing.Walk.{Order}
-use Rattle.prem_annotating.specs.Editing.Orders.{order_of, orders_from}
+use Rattle.prem_annotating.proofs.Prelude.{order_of, orders_from, Order, parameter_of, mark_of, function_of, List, ap, ◌∙◌, ◌++◌, map, option_map}
 use Rattle.prem_annotating.proofs.EditingLemmas.Ranges.{orders_are}
+use Rattle.prem_syntax.specs.declared.tree.Param.{Param}
 use Rattle.prem_annotating.proofs.editing.orders.push_orders.Goals as goal
 
 pub returns : goal.returns

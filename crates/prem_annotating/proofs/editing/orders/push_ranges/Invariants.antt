@@ -1,6 +1,4 @@
-use Rattle.std.proofs.Common.{◌≡◌, ◌++◌, map, drop}
-use Rattle.prem_syntax.specs.SyntaxOf.{parameter_of}
-use Rattle.prem_annotating.specs.Editing.Orders.{order_of, orders_from}
+use Rattle.prem_annotating.proofs.Prelude.{order_of, orders_from, parameter_of, ◌≡◌, ◌++◌, map, drop}
 use Rattle.prem_annotating.proofs.editing.orders.push_ranges.Given as goal
 
 abbrev pub invariant-loop-i : goal.invariant-loop-i

@@ -1,5 +1,5 @@
-use Rattle.std.proofs.Common.{arith, refl}
 use Rattle.prem_annotating.proofs.EditingLemmas.Ranges.{none_past}
+use Rattle.std.proofs.Common.{arith, refl}
 use Rattle.prem_annotating.proofs.editing.orders.range_at.Goals as goal
 
 pub returns-then-n-ranges : goal.returns-then-n-ranges

@@ -1,5 +1,5 @@
-use Rattle.prem_syntax.specs.SyntaxOf.{region_of}
 use Rattle.prem_annotating.proofs.EditingLemmas.Ranges.{lengths_differ}
+use Rattle.prem_syntax.specs.SyntaxOf.{region_of}
 use Rattle.prem_annotating.proofs.editing.orders.same_regions.Goals as goal
 
 pub returns-then-old-wanted : goal.returns-then-old-wanted

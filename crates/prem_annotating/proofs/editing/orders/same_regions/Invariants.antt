@@ -1,6 +1,5 @@
-use Rattle.std.proofs.Common.{◌≡◌, map, drop}
+use Rattle.prem_annotating.proofs.Prelude.{same_regions, ◌≡◌, map, drop}
 use Rattle.prem_syntax.specs.SyntaxOf.{region_of}
-use Rattle.prem_annotating.specs.Editing.Orders.{same_regions}
 use Rattle.prem_annotating.proofs.editing.orders.same_regions.Given as goal
 
 abbrev pub invariant-loop-i : goal.invariant-loop-i

@@ -1,6 +1,5 @@
-use Rattle.std.proofs.Common.{◌≡◌, ◌++◌, map, drop}
+use Rattle.prem_annotating.proofs.Prelude.{regions_spelled, ◌≡◌, ◌++◌, map, drop}
 use Rattle.prem_syntax.specs.SyntaxOf.{region_of}
-use Rattle.prem_annotating.specs.Editing.Orders.{regions_spelled}
 use Rattle.prem_annotating.proofs.editing.said.push_regions.Given as goal
 
 abbrev pub invariant-loop-region : goal.invariant-loop-region

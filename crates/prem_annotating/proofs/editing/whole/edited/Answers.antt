@@ -1,5 +1,4 @@
-use Rattle.std.proofs.Common.{◌++◌, List, ℕ, get_or, ap, ◌∙◌, arith}
-use Rattle.prem_annotating.specs.Editing.Standing.{over}
+use Rattle.prem_annotating.proofs.Prelude.{over, ◌++◌, List, ℕ, get_or, ap, ◌∙◌, arith}
 use Rattle.prem_annotating.proofs.EditingLemmas.Standing.{over_is, over_next, token_next, order_next, line_next, col_next}
 use Rattle.prem_annotating.proofs.editing.whole.edited.Goals as goal
 

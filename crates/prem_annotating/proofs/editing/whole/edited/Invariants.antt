@@ -1,8 +1,4 @@
-use Rattle.std.proofs.Common.{◌≡◌, ◌≤◌, ◌+◌, ◌++◌, drop, map}
-use Rattle.prem_text.specs.Lexing.Token.Lexeme.{seen_of}
-use Rattle.prem_annotating.specs.Editing.Walk.{edited}
-use Rattle.prem_annotating.specs.Editing.Orders.{order_of}
-use Rattle.prem_annotating.specs.Editing.Standing.{over}
+use Rattle.prem_annotating.proofs.Prelude.{order_of, over, edited, seen_of, ◌≡◌, ◌≤◌, ◌+◌, ◌++◌, drop, map}
 use Rattle.prem_annotating.proofs.editing.whole.edited.Given as goal
 
 abbrev pub invariant-loop-i : goal.invariant-loop-i

@@ -1,5 +1,5 @@
-use Rattle.prem_cycle.proofs.RunsLemmas.DullLemmas.Stretch.{one_step, rests_dull}
 use Rattle.prem_cycle.proofs.RunsLemmas.DullLemmas.Dull.{dull_rest}
+use Rattle.prem_cycle.proofs.RunsLemmas.DullLemmas.Stretch.{one_step, rests_dull}
 use Rattle.prem_cycle.proofs.runs.dull.dull_cycles_come_to_one_step.Goals as goal
 
 pub returns-clause-dull : goal.returns-clause-dull

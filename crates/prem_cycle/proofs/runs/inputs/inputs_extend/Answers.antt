@@ -1,5 +1,5 @@
-use Rattle.prem_cycle.proofs.RunsLemmas.InputsLemmas.Runs.{inputs_extend}
 use Rattle.prem_cycle.proofs.RunsLemmas.InputsLemmas.Fits.{lists_stay_fit}
+use Rattle.prem_cycle.proofs.RunsLemmas.InputsLemmas.Runs.{inputs_extend}
 use Rattle.prem_cycle.proofs.runs.inputs.inputs_extend.Goals as goal
 
 pub returns-clause-state : goal.returns-clause-state

@@ -1,11 +1,5 @@
-use Rattle.std.specs.Prelude.{slice_index}
-use Rattle.std.proofs.Common.{◌≡◌, ◌∙◌, ◌+◌, ◌*◌, ◌/◌, ◌%◌, ◌<◌, ◌≤◌, ap, sym, subst, length, true, false, arith}
-use Rattle.prem_word.specs.Bytes.{number_at}
-use Rattle.prem_plant.specs.Order.Orders.{after_hit_of}
-use Rattle.prem_lru.specs.CacheState.{CacheState, touch_of}
-use Rattle.prem_lru.specs.Rules.{rule_of}
-use Rattle.prem_lru.specs.Flat.{slot_entry, slot_of}
-use Rattle.prem_lru.specs.CacheFields.{IsWhole, cache_state}
+use Rattle.prem_lru.proofs.Prelude.{IsWhole, cache_state, CacheState, touch_of, slot_entry, slot_of, rule_of, after_hit_of, number_at, ◌≡◌, ◌∙◌, ◌+◌, ◌*◌, ◌/◌, ◌%◌, ◌<◌, ◌≤◌, ap, sym, subst}
+use Rattle.prem_lru.proofs.Prelude.{length, true, false, arith, slice_index}
 use Rattle.prem_lru.proofs.Caches.{access_within, line_within}
 use Rattle.prem_lru.proofs.FlatCaches.{way_at, slot_at, small_line, hit_whole, load_is}
 use Rattle.prem_lru.proofs.cache.Cache.touch_load.Goals as goal

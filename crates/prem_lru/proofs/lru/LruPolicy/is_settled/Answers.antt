@@ -1,7 +1,4 @@
-use Rattle.std.proofs.Common.{◌≡◌, ◌∙◌, ◌+◌, ◌*◌, ◌<◌, ap, sym, subst, length, get_or}
-use Rattle.std.proofs.lemmas.Bool.{eqb-true}
-use Rattle.std.proofs.lemmas.List.{get_or_default}
-use Rattle.prem_plant.specs.Order.Orders.{Orders}
+use Rattle.prem_lru.proofs.Prelude.{Orders, ◌≡◌, ◌∙◌, ◌+◌, ◌*◌, ◌<◌, ap, sym, subst, length, get_or, eqb-true, get_or_default}
 use Rattle.prem_lru.proofs.AgeSets.{slots_there, youngest_stays}
 use Rattle.prem_lru.proofs.lru.LruPolicy.is_settled.Goals as goal
 

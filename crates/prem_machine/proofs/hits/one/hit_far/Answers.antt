@@ -1,6 +1,4 @@
-use Rattle.std.proofs.Common.{subst, sym}
-use Rattle.prem_plant.specs.Ranges.{IsPlant}
-use Rattle.prem_machine.specs.Issue.Near.{IsNear}
+use Rattle.prem_machine.proofs.Prelude.{IsNear, IsPlant, subst, sym}
 use Rattle.prem_machine.proofs.IssueLemmas.Nearness.{near_none}
 use Rattle.prem_machine.proofs.hits.one.hit_far.Goals as goal
 

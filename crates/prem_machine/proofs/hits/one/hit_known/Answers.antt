@@ -1,12 +1,4 @@
-use Rattle.std.proofs.Common.{◌≡◌, ℕ, ◌/◌, List, ap, sym, ◌∙◌}
-use Rattle.prem_list.specs.Sequence.{items_of}
-use Rattle.prem_isa.specs.declared.effect.Phase.{Phase}
-use Rattle.prem_lru.specs.Rules.{rule_of}
-use Rattle.prem_lru.specs.CacheState.{touch_of, view_of}
-use Rattle.prem_cycle.specs.State.{Task}
-use Rattle.prem_cycle.specs.Issue.{Issued, issued_with}
-use Rattle.prem_machine.specs.Hits.{IsHit, stores_in}
-use Rattle.prem_machine.specs.Issue.Tasks.{with_outputs}
+use Rattle.prem_machine.proofs.Prelude.{Issued, issued_with, Task, Phase, items_of, touch_of, view_of, rule_of, IsHit, stores_in, with_outputs, ◌≡◌, ℕ, ◌/◌, List, ap, sym, ◌∙◌}
 use Rattle.prem_machine.proofs.Finding.{known_hit}
 use Rattle.prem_machine.proofs.IssueLemmas.Executed.{with_any_outputs}
 use Rattle.prem_machine.proofs.hits.one.hit_known.Goals as goal

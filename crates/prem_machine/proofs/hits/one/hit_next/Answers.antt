@@ -1,10 +1,4 @@
-use Rattle.std.proofs.Common.{◌≡◌, ◌+◌, ap, subst, sym, ◌∙◌, arith}
-use Rattle.prem_isa.specs.Bounds.{EffectFits}
-use Rattle.prem_isa.specs.declared.effect.Outcome.TheVariants.{Done}
-use Rattle.prem_isa.specs.declared.step.Upshot.TheVariants.{Loads, Moves, Puts, Stores}
-use Rattle.prem_lru.specs.CacheState.{view_of}
-use Rattle.prem_machine.specs.Hits.{ComesTo}
-use Rattle.prem_machine.specs.Plain.{putting, storing}
+use Rattle.prem_machine.proofs.Prelude.{EffectFits, Done, Loads, Moves, Puts, Stores, view_of, ComesTo, putting, storing, ◌≡◌, ◌+◌, ap, subst, sym, ◌∙◌, arith}
 use Rattle.prem_machine.proofs.Finding.{comes_to, known_does, known_ready, load_does, load_goes_on}
 use Rattle.prem_machine.proofs.hits.one.hit_next.Goals as goal
 

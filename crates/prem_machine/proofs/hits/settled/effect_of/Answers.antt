@@ -1,7 +1,4 @@
-use Rattle.std.proofs.Common.{◌≡◌, ap, ◌∙◌}
-use Rattle.prem_isa.specs.declared.effect.Outcome.TheVariants.{Done}
-use Rattle.prem_isa.specs.Act.{loads}
-use Rattle.prem_machine.specs.Issue.Coming.{load_effect}
+use Rattle.prem_machine.proofs.Prelude.{loads, Done, load_effect, ◌≡◌, ap, ◌∙◌}
 use Rattle.prem_machine.proofs.hits.settled.effect_of.Goals as goal
 
 pub returns-clause-effect : goal.returns-clause-effect

@@ -1,7 +1,4 @@
-use Rattle.std.proofs.Common.{arith}
-use Rattle.prem_list.specs.Sequence.{items_of}
-use Rattle.prem_lru.specs.CacheState.{view_of}
-use Rattle.prem_machine.specs.Issue.Tasks.{with_outputs}
+use Rattle.prem_machine.proofs.Prelude.{items_of, view_of, with_outputs, arith}
 use Rattle.prem_machine.proofs.IssueLemmas.Executed.{with_any_outputs}
 use Rattle.prem_machine.proofs.SettledHits.{none_hit}
 use Rattle.prem_machine.proofs.hits.settled.go_on.Goals as goal

@@ -1,8 +1,5 @@
+use Rattle.prem_machine.proofs.Prelude.{view_of, Finds, number_at, ◌+◌, ◌≤◌, ap, subst, ◌∙◌}
 use Rattle.std.specs.Prelude.{◌/◌}
-use Rattle.std.proofs.Common.{◌+◌, ◌≤◌, ap, subst, ◌∙◌}
-use Rattle.prem_word.specs.Bytes.{number_at}
-use Rattle.prem_lru.specs.CacheState.{view_of}
-use Rattle.prem_machine.specs.Hits.{Finds}
 use Rattle.prem_machine.proofs.hits.settled.hit_settled.Goals as goal
 
 pub hit_word-requires-clause-word : goal.hit_word-requires-clause-word

@@ -1,9 +1,4 @@
-use Rattle.std.proofs.Common.{Some, ap, ◌∙◌, arith}
-use Rattle.prem_word.specs.Bytes.{number_at}
-use Rattle.prem_list.specs.Sequence.{items_of}
-use Rattle.prem_lru.specs.CacheState.{view_of}
-use Rattle.prem_machine.specs.Issue.Coming.{load_access, load_effect}
-use Rattle.prem_machine.specs.Issue.Tasks.{with_outputs}
+use Rattle.prem_machine.proofs.Prelude.{items_of, view_of, load_access, load_effect, with_outputs, number_at, Some, ap, ◌∙◌, arith}
 use Rattle.prem_machine.proofs.IssueLemmas.Executed.{with_any_outputs}
 use Rattle.prem_machine.proofs.SettledHits.{load_found}
 use Rattle.prem_machine.proofs.hits.settled.load_on.Goals as goal

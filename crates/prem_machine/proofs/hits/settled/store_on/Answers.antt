@@ -1,14 +1,6 @@
-use Rattle.std.proofs.Common.{◌≤◌, ◌/◌, Some, refl, ap, subst, sym, ◌∙◌, arith}
-use Rattle.prem_list.specs.Sequence.{items_of}
+use Rattle.prem_machine.proofs.Prelude.{task_after, Effect, Phase, items_of, CacheState, touch_of, view_of, rule_of, IsHit, stores_in, with_outputs, storing, ◌≤◌, ◌/◌, Some, refl, ap, subst}
+use Rattle.prem_machine.proofs.Prelude.{sym, ◌∙◌, arith}
 use Rattle.prem_isa.specs.declared.effect.AccessKind.TheVariants.{Stores as StoreKind}
-use Rattle.prem_isa.specs.declared.effect.Effect.{Effect}
-use Rattle.prem_isa.specs.declared.effect.Phase.{Phase}
-use Rattle.prem_lru.specs.CacheState.{CacheState, touch_of, view_of}
-use Rattle.prem_lru.specs.Rules.{rule_of}
-use Rattle.prem_machine.specs.Hits.{IsHit, stores_in}
-use Rattle.prem_machine.specs.Issue.Tasks.{with_outputs}
-use Rattle.prem_machine.specs.Plain.{storing}
-use Rattle.prem_cycle.specs.Issue.{task_after}
 use Rattle.prem_machine.proofs.IssueLemmas.Executed.{with_any_outputs}
 use Rattle.prem_machine.proofs.SettledHits.{store_found, stores_few}
 use Rattle.prem_machine.proofs.hits.settled.store_on.Goals as goal

@@ -1,8 +1,4 @@
-use Rattle.std.proofs.Common.{◌-◌, ℕ, ap, sym, ◌∙◌, subst}
-use Rattle.prem_cycle.specs.State.{rule_in}
-use Rattle.prem_cycle.specs.Run.{cycles_of}
-use Rattle.prem_machine.specs.Silent.{AreSilent}
-use Rattle.prem_machine.specs.States.{with_state}
+use Rattle.prem_machine.proofs.Prelude.{cycles_of, rule_in, AreSilent, with_state, ◌-◌, ℕ, ap, sym, ◌∙◌, subst}
 use Rattle.prem_machine.proofs.machine.Machine.glide.Goals as goal
 
 pub returns-then-at-now-clause-new : goal.returns-then-at-now-clause-new

@@ -1,11 +1,4 @@
-use Rattle.std.proofs.Common.{◌<◌, ◌*◌, ◌^◌, List, ap, sym, subst, arith}
-use Rattle.prem_gate.specs.declared.request.Request.{Request}
-use Rattle.prem_cycle.specs.State.{rule_in}
-use Rattle.prem_cycle.specs.Runs.Window.Windows.{WindowsHold}
-use Rattle.prem_cycle.proofs.RunsLemmas.WindowLemmas.Cycles.{cycle_holds}
-use Rattle.prem_machine.specs.Parts.{Runs, Stands, state_of}
-use Rattle.prem_machine.specs.States.{Running}
-use Rattle.prem_machine.specs.Work.{setup_in}
+use Rattle.prem_machine.proofs.Prelude.{cycle_holds, WindowsHold, rule_in, Request, Runs, Stands, state_of, Running, setup_in, ◌<◌, ◌*◌, ◌^◌, List, ap, sym, subst, arith}
 use Rattle.prem_machine.proofs.Going.{within_next}
 use Rattle.prem_machine.proofs.machine.Machine.one_cycle.Goals as goal
 

@@ -1,9 +1,4 @@
-use Rattle.std.proofs.Common.{◌≡◌, ◌∙◌, ap, subst, false}
-use Rattle.prem_cycle.specs.Cycle.{is_over}
-use Rattle.prem_cycle.proofs.Time.{goes_untrapped}
-use Rattle.prem_cycle.specs.Runs.Dull.Rest.{IsSteady}
-use Rattle.prem_machine.specs.Parts.{state_of}
-use Rattle.prem_machine.specs.States.{Running}
+use Rattle.prem_machine.proofs.Prelude.{goes_untrapped, is_over, IsSteady, state_of, Running, ◌≡◌, ◌∙◌, ap, subst, false}
 use Rattle.prem_machine.proofs.Resting.{steady_parts}
 use Rattle.prem_machine.proofs.machine.Machine.parts.Goals as goal
 

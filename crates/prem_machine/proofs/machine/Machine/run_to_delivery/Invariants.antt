@@ -1,5 +1,5 @@
-use Rattle.prem_machine.specs.Deliveries.{RunsSilently}
 use Rattle.prem_machine.proofs.Going.{cycles_left}
+use Rattle.prem_machine.specs.Deliveries.{RunsSilently}
 use Rattle.prem_machine.proofs.machine.Machine.run_to_delivery.Given as goal
 
 abbrev pub invariant-cycles : goal.invariant-cycles

@@ -1,20 +1,8 @@
-use Rattle.std.proofs.Common.{◌≡◌, ◌+◌, ◌-◌, ◌<◌, ◌≤◌, ℕ, All, List, length, map, ap, sym, ◌∙◌, subst, arith}
-use Rattle.std.proofs.lemmas.List.{with_items_is}
-use Rattle.prem_list.specs.Sequence.{items_of, room_of}
-use Rattle.prem_list.specs.declared.Sequence.{Sequence}
-use Rattle.prem_cycle.specs.declared.facts.TaskFacts.{TaskFacts}
-use Rattle.prem_cycle.specs.declared.state.Mode.{Mode}
-use Rattle.prem_cycle.specs.State.{MachineState, rule_in}
-use Rattle.prem_cycle.specs.Run.{cycles_of}
-use Rattle.std.specs.Vec.{with_items}
-use Rattle.prem_machine.specs.Hits.{LeadsTo}
-use Rattle.prem_machine.specs.Log.{ended_in}
-use Rattle.prem_machine.specs.Moment.{ModeReady}
-use Rattle.prem_machine.specs.Parts.{state_of}
-use Rattle.prem_machine.specs.Work.{setup_in, work_in}
+use Rattle.prem_machine.proofs.Prelude.{cycles_of, MachineState, rule_in, TaskFacts, Mode, items_of, room_of, Sequence, LeadsTo, ended_in, ModeReady, state_of, AreSilent, setup_in, work_in}
+use Rattle.prem_machine.proofs.Prelude.{◌≡◌, ◌+◌, ◌-◌, ◌<◌, ◌≤◌, ℕ, All, List, length, map, ap, sym, ◌∙◌, subst, arith, with_items_is}
 use Rattle.prem_machine.proofs.Onward.{Leaves, onward_lone, onward_put, onward_runs, onward_silent, onward_stands, onward_state, room_for}
-use Rattle.prem_machine.specs.Silent.{AreSilent}
 use Rattle.prem_machine.proofs.Stretching.{silent_stays, stays}
+use Rattle.std.specs.Vec.{with_items}
 use Rattle.prem_machine.proofs.parts.Parts.follow.Goals as goal
 
 pub returns-then-room-le21-clause-state : goal.returns-then-room-le21-clause-state

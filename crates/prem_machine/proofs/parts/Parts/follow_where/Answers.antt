@@ -1,6 +1,4 @@
-use Rattle.prem_cycle.specs.State.{rule_in}
-use Rattle.prem_machine.specs.Parts.{state_of}
-use Rattle.prem_machine.specs.Work.{setup_in}
+use Rattle.prem_machine.proofs.Prelude.{rule_in, state_of, setup_in}
 use Rattle.prem_machine.proofs.Stretching.{silent_stays, stays}
 use Rattle.prem_machine.proofs.parts.Parts.follow_where.Goals as goal
 

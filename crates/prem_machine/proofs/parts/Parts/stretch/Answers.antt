@@ -1,11 +1,4 @@
-use Rattle.std.proofs.Common.{◌-◌, ap, sym, ◌∙◌, subst, arith}
-use Rattle.prem_plant.specs.Ranges.{IsPlant}
-use Rattle.prem_cycle.specs.State.{rule_in}
-use Rattle.prem_cycle.specs.Cycle.{log_size}
-use Rattle.prem_machine.specs.Issue.Near.{IsNear}
-use Rattle.prem_machine.specs.Log.{put_out}
-use Rattle.prem_machine.specs.Parts.{state_of}
-use Rattle.prem_machine.specs.Work.{setup_in}
+use Rattle.prem_machine.proofs.Prelude.{log_size, rule_in, IsNear, put_out, state_of, setup_in, IsPlant, ◌-◌, ap, sym, ◌∙◌, subst, arith}
 use Rattle.prem_machine.proofs.IssueLemmas.Nearness.{near_none}
 use Rattle.prem_machine.proofs.Stretching.{follows_far, follows_none, follows_on, follows_one, rooms_going, silent_on, silent_stays, stays}
 use Rattle.prem_machine.proofs.parts.Parts.stretch.Goals as goal

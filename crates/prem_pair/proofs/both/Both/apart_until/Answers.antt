@@ -1,6 +1,4 @@
-use Rattle.std.proofs.Common.{◌∙◌, ap, sym}
-use Rattle.prem_gate.specs.Stretch.{is_new}
-use Rattle.prem_pair.specs.BothOf.{pair_of}
+use Rattle.prem_pair.proofs.Prelude.{is_new, pair_of, ◌∙◌, ap, sym}
 use Rattle.prem_pair.proofs.Owning.{may_stretch}
 use Rattle.prem_pair.proofs.both.Both.apart_until.Goals as goal
 

@@ -1,13 +1,4 @@
-use Rattle.std.proofs.Common.{◌≤◌, ◌-◌, [], length, ap, sym, ◌∙◌, subst, arith}
-use Rattle.prem_plant.specs.Ranges.{IsPlant}
-use Rattle.prem_cycle.specs.State.{rule_in}
-use Rattle.prem_cycle.specs.Cycle.{log_size}
-use Rattle.prem_machine.specs.Issue.Near.{IsNear}
-use Rattle.prem_machine.specs.Log.{put_out}
-use Rattle.prem_machine.specs.Work.{setup_in}
-use Rattle.prem_machine.proofs.IssueLemmas.Nearness.{near_none}
-use Rattle.prem_pair.specs.Cycles.Pair.{pair_cycles}
-use Rattle.prem_pair.specs.BothOf.{pair_of}
+use Rattle.prem_pair.proofs.Prelude.{log_size, rule_in, near_none, IsNear, put_out, setup_in, pair_of, pair_cycles, IsPlant, ◌≤◌, ◌-◌, [], length, ap, sym, ◌∙◌, subst, arith}
 use Rattle.prem_pair.proofs.Going.{none_trapped}
 use Rattle.prem_pair.proofs.Owning.{rooms_left}
 use Rattle.prem_pair.proofs.Stretched.{none_full, none_taken}

@@ -1,14 +1,7 @@
-use Rattle.std.specs.Prelude.{is_some}
-use Rattle.std.proofs.Common.{◌≡◌, ◌-◌, false, ap, sym, ◌∙◌, arith}
-use Rattle.prem_cycle.specs.State.{MachineState, rule_in}
-use Rattle.prem_cycle.specs.Cycle.{next_cycle, with_now}
-use Rattle.prem_machine.specs.Parts.{state_of}
-use Rattle.prem_machine.specs.Work.{setup_in}
-use Rattle.prem_pair.specs.Cycles.Token.{holder_after, is_second}
-use Rattle.prem_pair.specs.Cycles.Apart.{own_cycle, own_part}
-use Rattle.prem_pair.specs.Sides.{core_done, move_had}
-use Rattle.prem_pair.proofs.CyclesLemmas.OneCycle.{paired}
+use Rattle.prem_pair.proofs.Prelude.{next_cycle, with_now, MachineState, rule_in, state_of, setup_in, own_cycle, own_part, holder_after, is_second, core_done, move_had, ◌≡◌, ◌-◌, false, ap}
+use Rattle.prem_pair.proofs.Prelude.{sym, ◌∙◌, arith, is_some}
 use Rattle.prem_pair.proofs.CyclesLemmas.Apart.{catch_goes, catch_stops}
+use Rattle.prem_pair.proofs.CyclesLemmas.OneCycle.{paired}
 use Rattle.prem_pair.proofs.Together.{own_done}
 use Rattle.prem_pair.proofs.both.Both.catch_up.Goals as goal
 

@@ -1,14 +1,5 @@
-use Rattle.std.proofs.Common.{◌≡◌, ◌-◌, ◌*◌, ap, sym, ◌∙◌, subst, arith}
-use Rattle.prem_gate.specs.Gates.{GatesState}
-use Rattle.prem_cycle.specs.State.{MachineState, rule_in}
-use Rattle.prem_cycle.specs.Runs.Dull.Rest.{Within}
-use Rattle.prem_machine.specs.Parts.{state_of}
-use Rattle.prem_machine.specs.Work.{setup_in}
-use Rattle.prem_machine.proofs.Resting.{core_within, less_arrive, behind_within}
-use Rattle.prem_pair.specs.Cycles.Token.{is_first, is_second}
-use Rattle.prem_pair.specs.Cycles.Rest.{rest_with, side_passed}
-use Rattle.prem_pair.specs.Sides.{Goes}
-use Rattle.prem_pair.specs.BothOf.{pair_of}
+use Rattle.prem_pair.proofs.Prelude.{Within, MachineState, rule_in, GatesState, core_within, less_arrive, behind_within, state_of, setup_in, pair_of, rest_with, side_passed, is_first}
+use Rattle.prem_pair.proofs.Prelude.{is_second, Goes, ◌≡◌, ◌-◌, ◌*◌, ap, sym, ◌∙◌, subst, arith}
 use Rattle.prem_pair.proofs.CyclesLemmas.OneCycle.{paired}
 use Rattle.prem_pair.proofs.Passes.{arrives_later, steady_pair}
 use Rattle.prem_pair.proofs.Stretched.{apart_first}

@@ -1,29 +1,11 @@
-use Rattle.std.specs.Prelude.{is_some, IsSome}
-use Rattle.std.proofs.Common.{◌≡◌, ℕ, true, length, ap, sym, ◌∙◌, refl, subst, arith, List, All}
-use Rattle.std.proofs.lemmas.List.{with_items_is}
-use Rattle.prem_list.specs.Sequence.{items_of}
-use Rattle.prem_list.specs.declared.Sequence.{Sequence}
-use Rattle.prem_isa.specs.Plain.{with_last}
-use Rattle.prem_gate.specs.declared.bus.BusTurn.{BusTurn}
-use Rattle.prem_gate.specs.Gates.{GatesState, Turned, bus_turn}
-use Rattle.prem_gate.specs.Ranges.{LiesIn, SamePlaces}
-use Rattle.prem_gate.proofs.Places.{turn_places}
+use Rattle.prem_pair.proofs.Prelude.{Arrivals, arrivals, arrivals_at, with_clash, devices_reported, one_if, Log, Work, DeviceFacts, turn_places, GatesState, Turned, bus_turn, LiesIn}
+use Rattle.prem_pair.proofs.Prelude.{SamePlaces, BusTurn, with_last, items_of, few_kept, rooms_kept, same_log, same_state, told_again, told_still, counts_in, arrivals_in, dropped_in}
+use Rattle.prem_pair.proofs.Prelude.{ended_in, work_in, bus_in, holder_in, pair_of, bus_first, asks, holder_with, some_wait, bus_done, ◌≡◌, ℕ, true, length, ap, sym, ◌∙◌, refl, subst, arith}
+use Rattle.prem_pair.proofs.Prelude.{List, All, with_items_is, is_some, IsSome}
 use Rattle.prem_cycle.specs.declared.facts.TaskFacts.{TaskFacts}
-use Rattle.prem_cycle.specs.declared.facts.DeviceFacts.{DeviceFacts}
-use Rattle.prem_cycle.specs.FactsOf.{devices_reported}
-use Rattle.prem_cycle.specs.State.{Log, Work}
-use Rattle.prem_cycle.specs.Issue.{one_if}
-use Rattle.prem_cycle.specs.Cycle.{Arrivals, arrivals, arrivals_at, with_clash}
-use Rattle.prem_machine.specs.Work.{work_in}
-use Rattle.prem_machine.specs.Requests.{pending}
-use Rattle.prem_machine.specs.Log.{arrivals_in, dropped_in, ended_in}
+use Rattle.prem_list.specs.declared.Sequence.{Sequence}
 use Rattle.prem_machine.proofs.Busy.{length-bus_turn, length-with_last, turn_pending}
-use Rattle.prem_machine.proofs.Advancing.{few_kept, rooms_kept, same_log, same_state, told_again, told_still}
-use Rattle.prem_machine.specs.Issue.Counting.{counts_in}
-use Rattle.prem_pair.specs.Cycles.Token.{asks, holder_with, some_wait}
-use Rattle.prem_pair.specs.Cycles.Pair.{bus_first}
-use Rattle.prem_pair.specs.BothOf.{bus_in, holder_in, pair_of}
-use Rattle.prem_pair.specs.Sides.{bus_done}
+use Rattle.prem_machine.specs.Requests.{pending}
 use Rattle.prem_pair.proofs.Meeting.{same_bus, same_clash, still_free}
 use Rattle.prem_pair.proofs.both.Both.meet.Goals as goal
 

@@ -1,10 +1,4 @@
-use Rattle.std.proofs.Common.{◌-◌, ap, sym, ◌∙◌, subst}
-use Rattle.prem_gate.specs.declared.bus.CoreWant.{CoreWant}
-use Rattle.prem_gate.specs.Stretch.{BusRun, bus_run}
-use Rattle.prem_machine.proofs.Resting.{SameQueues, quiet_queues}
-use Rattle.prem_pair.specs.Cycles.Token.{empty_window}
-use Rattle.prem_pair.specs.Cycles.Rest.{wanted}
-use Rattle.prem_pair.specs.BothOf.{pair_of}
+use Rattle.prem_pair.proofs.Prelude.{BusRun, bus_run, CoreWant, SameQueues, quiet_queues, pair_of, wanted, empty_window, ◌-◌, ap, sym, ◌∙◌, subst}
 use Rattle.prem_pair.proofs.Passes.{passed_arrives, passed_stands}
 use Rattle.prem_pair.proofs.both.Both.pass_turns.Goals as goal
 

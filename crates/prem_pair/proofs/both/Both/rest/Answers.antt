@@ -1,11 +1,4 @@
-use Rattle.std.proofs.Common.{ℕ, ◌≤◌, ◌∙◌, ap, sym, subst}
-use Rattle.prem_gate.specs.declared.bus.CoreWant.{CoreWant}
-use Rattle.prem_gate.specs.Stretch.{IsNextChange}
-use Rattle.prem_machine.specs.Passing.{cycle_behind}
-use Rattle.prem_machine.proofs.Resting.{behind_from}
-use Rattle.prem_pair.specs.Cycles.Token.{empty_window, is_first}
-use Rattle.prem_pair.specs.Cycles.Rest.{rest_with, wanted}
-use Rattle.prem_pair.specs.BothOf.{pair_of}
+use Rattle.prem_pair.proofs.Prelude.{IsNextChange, CoreWant, behind_from, cycle_behind, pair_of, rest_with, wanted, empty_window, is_first, ℕ, ◌≤◌, ◌∙◌, ap, sym, subst}
 use Rattle.prem_pair.proofs.Passes.{rests_until}
 use Rattle.prem_pair.proofs.both.Both.rest.Goals as goal
 

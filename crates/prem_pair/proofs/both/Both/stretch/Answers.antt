@@ -1,6 +1,4 @@
-use Rattle.prem_cycle.specs.State.{rule_in}
-use Rattle.prem_machine.specs.Work.{setup_in}
-use Rattle.prem_pair.specs.BothOf.{pair_of}
+use Rattle.prem_pair.proofs.Prelude.{rule_in, setup_in, pair_of}
 use Rattle.prem_pair.proofs.Going.{none_trapped}
 use Rattle.prem_pair.proofs.Together.{none_were_taken}
 use Rattle.prem_pair.proofs.both.Both.stretch.Goals as goal

@@ -1,8 +1,4 @@
-use Rattle.std.proofs.Common.{◌≡◌, List, sym, ◌∙◌, subst, arith}
-use Rattle.prem_list.specs.Sequence.{items_of}
-use Rattle.prem_gate.specs.declared.request.Request.{Request}
-use Rattle.prem_machine.specs.Parts.{IsSetting, Stands}
-use Rattle.prem_machine.proofs.Starting.{setting_first, stands_first}
+use Rattle.prem_pair.proofs.Prelude.{Request, items_of, setting_first, stands_first, IsSetting, Stands, ◌≡◌, List, sym, ◌∙◌, subst, arith}
 use Rattle.prem_pair.proofs.Beginning.{pair_first, goes_first}
 use Rattle.prem_pair.proofs.pair.Pair.new.Goals as goal
 

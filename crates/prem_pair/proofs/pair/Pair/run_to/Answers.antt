@@ -1,6 +1,4 @@
-use Rattle.std.proofs.Common.{◌≡◌, ◌<◌, None, ap, sym, ◌∙◌, subst}
-use Rattle.prem_pair.specs.Cycles.Pair.{pair_stop_of}
-use Rattle.prem_pair.specs.States.{PairRunning, with_state}
+use Rattle.prem_pair.proofs.Prelude.{pair_stop_of, PairRunning, with_state, ◌≡◌, ◌<◌, None, ap, sym, ◌∙◌, subst}
 use Rattle.prem_pair.proofs.Going.{GoesTo, cycles_left, goes_on, goes_to, ends_at, passes_to, smaller, takes_less, takes_to}
 use Rattle.prem_pair.proofs.pair.Pair.run_to.Goals as goal
 

@@ -1,10 +1,4 @@
-use Rattle.std.proofs.Common.{◌≡◌, ◌∙◌, sym, None, true, false}
-use Rattle.prem_cycle.specs.Cycle.{is_finished, is_full}
-use Rattle.prem_cycle.proofs.RunsLemmas.DullLemmas.Steps.{not_ended}
-use Rattle.prem_machine.specs.Parts.{state_of}
-use Rattle.prem_machine.proofs.Telling.{full_told}
-use Rattle.prem_pair.specs.Cycles.Pair.{both_finished}
-use Rattle.prem_pair.specs.BothOf.{pair_of}
+use Rattle.prem_pair.proofs.Prelude.{not_ended, is_finished, is_full, full_told, state_of, pair_of, both_finished, ◌≡◌, ◌∙◌, sym, None, true, false}
 use Rattle.prem_pair.proofs.Going.{one_rests, stop_full, stop_other, stop_else}
 use Rattle.prem_pair.proofs.pair.Pair.stop.Goals.{else-is_finished-via-then-is_finished+else-is_finished-2, else-is_finished-via-else-is_finished}
 use Rattle.prem_pair.proofs.pair.Pair.stop.Goals as goal

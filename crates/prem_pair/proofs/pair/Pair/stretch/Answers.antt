@@ -1,13 +1,5 @@
-use Rattle.std.proofs.Common.{◌≡◌, ◌∙◌, sym, ap, subst, false, List, ◌≤◌, arith, ltb, ℕ, ◌<◌}
-use Rattle.std.proofs.lemmas.Bool.Decides.{nat_tests}
-use Rattle.prem_gate.specs.declared.request.Request.{Request}
-use Rattle.prem_cycle.specs.State.{rule_in}
-use Rattle.prem_machine.specs.Work.{setup_in}
-use Rattle.prem_pair.specs.Cycles.Pair.{PairState, is_pair_over, one_trapped, pair_cycles}
-use Rattle.prem_pair.specs.MayStretch.{cycles_taken}
-use Rattle.prem_pair.specs.BothOf.{GoOn, pair_of}
-use Rattle.prem_pair.specs.PairFields.{running_of}
-use Rattle.prem_pair.specs.States.{PairRunning, with_state}
+use Rattle.prem_pair.proofs.Prelude.{rule_in, Request, setup_in, GoOn, pair_of, PairState, is_pair_over, one_trapped, pair_cycles, cycles_taken, running_of, PairRunning, with_state, ◌≡◌}
+use Rattle.prem_pair.proofs.Prelude.{◌∙◌, sym, ap, subst, false, List, ◌≤◌, arith, ltb, ℕ, ◌<◌, nat_tests}
 use Rattle.prem_pair.proofs.Going.{none_trapped, takes_none}
 use Rattle.prem_pair.proofs.pair.Pair.stretch.Goals.{then-now-before, else-now-before}
 use Rattle.prem_pair.proofs.pair.Pair.stretch.Goals as goal

@@ -1,13 +1,10 @@
-use Rattle.std.proofs.Common.{◌≡◌, ◌<◌, ◌-◌, ◌++◌, ◌∷◌, [], suc, Ok, Err, Some, None, length, drop, refl, sym, ap, ◌∙◌, arith, rules, vec_len, map}
-use Rattle.std.proofs.lemmas.Result.{err_from_is_err_and}
-use Rattle.std.proofs.lemmas.List.{map_push, take_rest}
-use Rattle.prem_text.specs.declared.lexing.token.fail.FrontFail.TheVariants.{Token}
-use Rattle.prem_text.specs.Lexing.Token.Reading.{Fails}
-use Rattle.prem_text.specs.Lexing.Token.Lexeme.{seen_of, lexeme_of}
-use Rattle.prem_text.specs.Lexing.Tokens.{step, place, at_end}
+use Rattle.prem_text.proofs.Prelude.{seen_of, lexeme_of, Fails, place, Token, ◌≡◌, ◌<◌, ◌-◌, ◌++◌, ◌∷◌, [], suc, Ok, Err, Some, None, length, drop, refl, sym, ap, ◌∙◌, arith, rules, vec_len}
+use Rattle.prem_text.proofs.Prelude.{map, map_push, take_rest}
 use Rattle.prem_text.proofs.LexingLemmas.Lexing.{passed, taken, full, wrong, whole, at_last, none_is, may_end}
-use Rattle.prem_text.proofs.lexing.lexer.tokens.Goals as goal
 use Rattle.prem_text.proofs.lexing.lexer.tokens.Goals.{in-Some+else-len-eq-TEXT_TOKENS+in_ok-push, in_default}
+use Rattle.prem_text.specs.Lexing.Tokens.{step, at_end}
+use Rattle.std.proofs.lemmas.Result.{err_from_is_err_and}
+use Rattle.prem_text.proofs.lexing.lexer.tokens.Goals as goal
 
 pub returns-in_err-next : goal.returns-in_err-next
 returns-in_err-next c =

@@ -1,7 +1,4 @@
-use Rattle.std.proofs.Common.{◌≡◌, ◌≤◌, ◌-◌, ◌+◌, drop, map, vec_len}
-use Rattle.prem_text.specs.declared.lexing.lexer.Mode.TheVariants.{Skip}
-use Rattle.prem_text.specs.Lexing.Token.Lexeme.{seen_of}
-use Rattle.prem_text.specs.Lexing.Tokens.{with_front, lex, beginning}
+use Rattle.prem_text.proofs.Prelude.{seen_of, with_front, lex, beginning, Skip, ◌≡◌, ◌≤◌, ◌-◌, ◌+◌, drop, map, vec_len}
 use Rattle.prem_text.proofs.lexing.lexer.tokens.Given as goal
 
 abbrev pub invariant-loop-i : goal.invariant-loop-i

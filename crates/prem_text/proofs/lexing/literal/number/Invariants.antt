@@ -1,5 +1,4 @@
-use Rattle.std.proofs.Common.{◌≡◌, ◌<◌, ◌^◌, drop}
-use Rattle.prem_text.specs.Lexing.Literal.{digits}
+use Rattle.prem_text.proofs.Prelude.{digits, ◌≡◌, ◌<◌, ◌^◌, drop}
 use Rattle.prem_text.proofs.lexing.literal.number.Given as goal
 
 abbrev pub invariant-loop-i : goal.invariant-loop-i

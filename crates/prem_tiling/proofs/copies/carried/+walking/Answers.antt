@@ -1,7 +1,4 @@
-use Rattle.std.proofs.Common.{◌≡◌, OnOk, subst, sym}
-use Rattle.prem_syntax.specs.Syntax.{Statement}
-use Rattle.prem_tiling.specs.Copies.StaleOf.{walk_of}
-use Rattle.prem_tiling.specs.Copies.Walk.{walked}
+use Rattle.prem_tiling.proofs.Prelude.{Statement, walk_of, walked, ◌≡◌, OnOk, subst, sym}
 use Rattle.prem_tiling.proofs.CopiesLemmas.Blocks.{block_is}
 use Rattle.prem_tiling.proofs.copies.carried.+walking.Goals as goal
 

@@ -1,7 +1,4 @@
-use Rattle.std.proofs.Common.{◌≡◌, drop}
-use Rattle.prem_syntax.specs.SyntaxOf.{statements_of}
-use Rattle.prem_tiling.specs.Copies.StaleOf.{walk_of}
-use Rattle.prem_tiling.specs.Copies.Walk.{all_walked}
+use Rattle.prem_tiling.proofs.Prelude.{statements_of, walk_of, all_walked, ◌≡◌, drop}
 use Rattle.prem_tiling.proofs.copies.carried.+walking.Given as goal
 
 abbrev pub invariant-walk_all-stmts : goal.invariant-walk_all-stmts

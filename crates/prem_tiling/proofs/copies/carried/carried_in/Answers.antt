@@ -1,9 +1,4 @@
-use Rattle.std.proofs.Common.{◌≡◌, Option, ℕ, IfOk, None, length, map, refl, subst, sym, ◌∙◌}
-use Rattle.std.proofs.lemmas.List.{length-map}
-use Rattle.prem_syntax.specs.Syntax.{LocalVariable}
-use Rattle.prem_syntax.specs.SyntaxOf.{statement_of, local_of}
-use Rattle.prem_tiling.specs.Shapes.Carried.{names_of}
-use Rattle.prem_tiling.specs.Copies.Walk.{Walk}
+use Rattle.prem_tiling.proofs.Prelude.{LocalVariable, statement_of, local_of, Walk, names_of, ◌≡◌, Option, ℕ, IfOk, None, length, map, refl, subst, sym, ◌∙◌, length-map}
 use Rattle.prem_tiling.proofs.CopiesLemmas.WalkLaws.{carried_is}
 use Rattle.prem_tiling.proofs.copies.carried.carried_in.Goals as goal
 

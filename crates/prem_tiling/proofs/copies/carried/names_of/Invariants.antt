@@ -1,6 +1,4 @@
-use Rattle.std.proofs.Common.{◌≡◌, take, map}
-use Rattle.prem_syntax.specs.SyntaxOf.{local_of}
-use Rattle.prem_tiling.specs.Shapes.Carried.{names_of}
+use Rattle.prem_tiling.proofs.Prelude.{local_of, names_of, ◌≡◌, take, map}
 use Rattle.prem_tiling.proofs.copies.carried.names_of.Given as goal
 
 abbrev pub invariant-loop-local : goal.invariant-loop-local

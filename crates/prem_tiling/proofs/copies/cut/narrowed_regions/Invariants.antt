@@ -1,8 +1,4 @@
-use Rattle.std.proofs.Common.{◌≡◌, take, map}
-use Rattle.prem_list.specs.Sequence.{items_of}
-use Rattle.prem_syntax.specs.SyntaxOf.{region_of}
-use Rattle.prem_tiling.specs.Copies.ShapeOf.{loop_in}
-use Rattle.prem_tiling.specs.Copies.CutOf.{narrowed_region}
+use Rattle.prem_tiling.proofs.Prelude.{items_of, region_of, narrowed_region, loop_in, ◌≡◌, take, map}
 use Rattle.prem_tiling.proofs.copies.cut.narrowed_regions.Given as goal
 
 abbrev pub invariant-loop-region : goal.invariant-loop-region

@@ -1,10 +1,4 @@
-use Rattle.std.proofs.Common.{[], ap, ◌∙◌}
-use Rattle.prem_syntax.specs.Name.{name_bytes}
-use Rattle.prem_syntax.specs.Syntax.{counting_for}
-use Rattle.prem_syntax.specs.SyntaxOf.{statement_of}
-use Rattle.prem_tiling.specs.Shapes.Tiled.{with_value}
-use Rattle.prem_tiling.specs.Copies.ShapeOf.{number_in}
-use Rattle.prem_tiling.specs.Copies.CutOf.{cut_in}
+use Rattle.prem_tiling.proofs.Prelude.{name_bytes, counting_for, statement_of, cut_in, number_in, with_value, [], ap, ◌∙◌}
 use Rattle.prem_tiling.proofs.CopiesLemmas.Sizes.{ready_uncalled, uncalled_same}
 use Rattle.prem_tiling.proofs.copies.cut.tile_loop.Goals as goal
 

@@ -1,6 +1,4 @@
-use Rattle.std.proofs.Common.{rules, ◌≡◌, map, option_map, ap, ◌∙◌}
-use Rattle.prem_syntax.specs.SyntaxOf.{parameter_of, local_of, mark_of}
-use Rattle.prem_tiling.specs.Copies.CutOf.{cut_in, narrowed_mark}
+use Rattle.prem_tiling.proofs.Prelude.{parameter_of, local_of, mark_of, cut_in, narrowed_mark, rules, ◌≡◌, map, option_map, ap, ◌∙◌}
 use Rattle.prem_tiling.proofs.copies.cut.tile_of.Goals as goal
 
 pub returns : goal.returns

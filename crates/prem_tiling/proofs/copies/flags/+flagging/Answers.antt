@@ -1,5 +1,4 @@
-use Rattle.std.proofs.Common.{ap, sym, ◌∙◌}
-use Rattle.prem_tiling.specs.Copies.Flags.{assigned_flags}
+use Rattle.prem_tiling.proofs.Prelude.{assigned_flags, ap, sym, ◌∙◌}
 use Rattle.prem_tiling.proofs.CopiesLemmas.Blocks.{block_is}
 use Rattle.prem_tiling.proofs.copies.flags.+flagging.Goals as goal
 

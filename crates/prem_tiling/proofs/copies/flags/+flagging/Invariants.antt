@@ -1,6 +1,4 @@
-use Rattle.std.proofs.Common.{◌≡◌, drop}
-use Rattle.prem_syntax.specs.SyntaxOf.{statements_of}
-use Rattle.prem_tiling.specs.Copies.Flags.{all_assigned_flags}
+use Rattle.prem_tiling.proofs.Prelude.{statements_of, all_assigned_flags, ◌≡◌, drop}
 use Rattle.prem_tiling.proofs.copies.flags.+flagging.Given as goal
 
 abbrev pub invariant-flag_all_assigned-stmts : goal.invariant-flag_all_assigned-stmts

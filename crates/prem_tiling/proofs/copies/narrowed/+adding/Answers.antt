@@ -1,10 +1,5 @@
-use Rattle.std.proofs.Common.{◌≡◌, ◌+◌, List, ◌∷◌, drop, ap, sym, ◌∙◌, arith}
-use Rattle.std.proofs.lemmas.List.{drop_more}
-use Rattle.prem_syntax.specs.Name.{name_bytes}
-use Rattle.prem_syntax.specs.declared.tree.Stmt.{Stmt}
-use Rattle.prem_syntax.specs.SyntaxOf.{statement_of, statements_of}
-use Rattle.prem_tiling.specs.Shapes.Narrowed.{Added, joined, added_in, added_within}
-use Rattle.prem_tiling.specs.Copies.AddedOf.{added_view}
+use Rattle.prem_tiling.proofs.Prelude.{name_bytes, statement_of, statements_of, Stmt, added_view, Added, joined, added_in, added_within, ◌≡◌, ◌+◌, List, ◌∷◌, drop, ap, sym, ◌∙◌, arith}
+use Rattle.prem_tiling.proofs.Prelude.{drop_more}
 use Rattle.prem_tiling.proofs.CopiesLemmas.Blocks.{block_is}
 use Rattle.prem_tiling.proofs.CopiesLemmas.Joined.{joined_assoc}
 use Rattle.prem_tiling.proofs.copies.narrowed.+adding.Goals as goal

@@ -1,8 +1,4 @@
-use Rattle.std.proofs.Common.{◌≡◌, drop}
-use Rattle.prem_syntax.specs.Name.{name_bytes}
-use Rattle.prem_syntax.specs.SyntaxOf.{statements_of}
-use Rattle.prem_tiling.specs.Shapes.Narrowed.{joined, added_within}
-use Rattle.prem_tiling.specs.Copies.AddedOf.{added_view}
+use Rattle.prem_tiling.proofs.Prelude.{name_bytes, statements_of, added_view, joined, added_within, ◌≡◌, drop}
 use Rattle.prem_tiling.proofs.copies.narrowed.+adding.Given as goal
 
 abbrev pub invariant-added_within-stmts : goal.invariant-added_within-stmts

@@ -1,10 +1,5 @@
-use Rattle.std.proofs.Common.{◌≡◌, ◌+◌, List, ◌∷◌, drop, map, ap, sym, ◌∙◌, arith}
-use Rattle.std.proofs.lemmas.List.{drop_more}
-use Rattle.prem_syntax.specs.Name.{name_bytes}
+use Rattle.prem_tiling.proofs.Prelude.{name_bytes, expression_of, added_view, Added, joined, added_of, added_of_all, ◌≡◌, ◌+◌, List, ◌∷◌, drop, map, ap, sym, ◌∙◌, arith, drop_more}
 use Rattle.prem_syntax.specs.declared.tree.Expr.{Expr}
-use Rattle.prem_syntax.specs.SyntaxOf.{expression_of}
-use Rattle.prem_tiling.specs.Shapes.Narrowed.{Added, joined, added_of, added_of_all}
-use Rattle.prem_tiling.specs.Copies.AddedOf.{added_view}
 use Rattle.prem_tiling.proofs.CopiesLemmas.Joined.{joined_assoc}
 use Rattle.prem_tiling.proofs.copies.narrowed.added_of_all.Goals as goal
 

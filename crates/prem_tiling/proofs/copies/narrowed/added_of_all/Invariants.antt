@@ -1,8 +1,4 @@
-use Rattle.std.proofs.Common.{◌≡◌, drop, map}
-use Rattle.prem_syntax.specs.Name.{name_bytes}
-use Rattle.prem_syntax.specs.SyntaxOf.{expression_of}
-use Rattle.prem_tiling.specs.Shapes.Narrowed.{joined, added_of_all}
-use Rattle.prem_tiling.specs.Copies.AddedOf.{added_view}
+use Rattle.prem_tiling.proofs.Prelude.{name_bytes, expression_of, added_view, joined, added_of_all, ◌≡◌, drop, map}
 use Rattle.prem_tiling.proofs.copies.narrowed.added_of_all.Given as goal
 
 abbrev pub invariant-terms : goal.invariant-terms

@@ -1,5 +1,4 @@
-use Rattle.std.proofs.Common.{ap, sym, ◌∙◌}
-use Rattle.prem_tiling.specs.Shapes.Shape.{has_call}
+use Rattle.prem_tiling.proofs.Prelude.{has_call, ap, sym, ◌∙◌}
 use Rattle.prem_tiling.proofs.CopiesLemmas.Blocks.{block_is}
 use Rattle.prem_tiling.proofs.copies.shape.+calling.Goals as goal
 

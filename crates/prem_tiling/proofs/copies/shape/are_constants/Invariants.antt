@@ -1,6 +1,4 @@
-use Rattle.std.proofs.Common.{◌≡◌, drop, map}
-use Rattle.prem_syntax.specs.SyntaxOf.{local_of}
-use Rattle.prem_tiling.specs.Shapes.Shape.{are_constants}
+use Rattle.prem_tiling.proofs.Prelude.{local_of, are_constants, ◌≡◌, drop, map}
 use Rattle.prem_tiling.proofs.copies.shape.are_constants.Given as goal
 
 abbrev pub invariant-locals : goal.invariant-locals

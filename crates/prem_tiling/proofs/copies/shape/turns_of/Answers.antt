@@ -1,5 +1,5 @@
-use Rattle.std.proofs.Common.{◌-◌, arith}
 use Rattle.prem_tiling.proofs.LawsLemmas.Numbers.{ceil_small}
+use Rattle.std.proofs.Common.{◌-◌, arith}
 use Rattle.prem_tiling.proofs.copies.shape.turns_of.Goals as goal
 
 pub returns-else-bound-low-clause-small : goal.returns-else-bound-low-clause-small

@@ -1,5 +1,4 @@
-use Rattle.std.proofs.Common.{◌≡◌, ◌++◌, drop}
-use Rattle.prem_tiling.specs.Copies.Walk.{unflagged}
+use Rattle.prem_tiling.proofs.Prelude.{unflagged, ◌≡◌, ◌++◌, drop}
 use Rattle.prem_tiling.proofs.copies.stale.unflagged.Given as goal
 
 abbrev pub invariant-numbers : goal.invariant-numbers

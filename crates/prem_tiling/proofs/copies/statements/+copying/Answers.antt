@@ -1,11 +1,5 @@
-use Rattle.std.proofs.Common.{◌≡◌, ◌+◌, List, ◌∷◌, drop, map, ap, sym, ◌∙◌, arith}
-use Rattle.std.proofs.lemmas.List.{drop_more}
-use Rattle.prem_list.specs.Sequence.{items_of}
-use Rattle.prem_syntax.specs.Name.{name_bytes}
-use Rattle.prem_syntax.specs.declared.tree.Stmt.{Stmt}
-use Rattle.prem_syntax.specs.Syntax.{Statement, block, next_statement}
-use Rattle.prem_syntax.specs.SyntaxOf.{statements_before, statements_of}
-use Rattle.prem_tiling.specs.Copies.Copied.{with_calls, all_with_calls}
+use Rattle.prem_tiling.proofs.Prelude.{items_of, name_bytes, Statement, block, next_statement, statements_before, statements_of, Stmt, with_calls, all_with_calls, ◌≡◌, ◌+◌, List, ◌∷◌, drop}
+use Rattle.prem_tiling.proofs.Prelude.{map, ap, sym, ◌∙◌, arith, drop_more}
 use Rattle.prem_tiling.proofs.CopiesLemmas.Blocks.{block_is, before_push}
 use Rattle.prem_tiling.proofs.copies.statements.+copying.Goals as goal
 

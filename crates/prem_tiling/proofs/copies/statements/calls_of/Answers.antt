@@ -1,12 +1,5 @@
-use Rattle.std.proofs.Common.{◌≡◌, ◌+◌, List, ◌∷◌, drop, map, ap, sym, ◌∙◌, arith}
-use Rattle.std.proofs.lemmas.List.{drop_more}
-use Rattle.prem_list.specs.Sequence.{items_of}
-use Rattle.prem_syntax.specs.Name.{name_bytes}
-use Rattle.prem_syntax.specs.declared.name.Name.{Name}
-use Rattle.prem_syntax.specs.declared.tree.Stmt.{Stmt}
-use Rattle.prem_syntax.specs.Syntax.{Statement, no_statements, next_statement}
-use Rattle.prem_syntax.specs.SyntaxOf.{statements_before}
-use Rattle.prem_tiling.specs.Copies.Copied.{calls_before}
+use Rattle.prem_tiling.proofs.Prelude.{items_of, name_bytes, Statement, no_statements, next_statement, statements_before, Name, Stmt, calls_before, ◌≡◌, ◌+◌, List, ◌∷◌, drop, map, ap, sym}
+use Rattle.prem_tiling.proofs.Prelude.{◌∙◌, arith, drop_more}
 use Rattle.prem_tiling.proofs.CopiesLemmas.Blocks.{before_push}
 use Rattle.prem_tiling.proofs.copies.statements.calls_of.Goals as goal
 

@@ -1,9 +1,4 @@
-use Rattle.std.proofs.Common.{◌≡◌, drop, map}
-use Rattle.prem_list.specs.Sequence.{items_of}
-use Rattle.prem_syntax.specs.Name.{name_bytes}
-use Rattle.prem_syntax.specs.Syntax.{no_statements}
-use Rattle.prem_syntax.specs.SyntaxOf.{statements_before}
-use Rattle.prem_tiling.specs.Copies.Copied.{calls_before}
+use Rattle.prem_tiling.proofs.Prelude.{items_of, name_bytes, no_statements, statements_before, calls_before, ◌≡◌, drop, map}
 use Rattle.prem_tiling.proofs.copies.statements.calls_of.Given as goal
 
 abbrev pub invariant-tiles : goal.invariant-tiles

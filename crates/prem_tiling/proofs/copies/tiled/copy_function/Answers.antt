@@ -1,8 +1,4 @@
-use Rattle.std.proofs.Common.{map, ap, ◌∙◌}
-use Rattle.prem_list.specs.Sequence.{items_of}
-use Rattle.prem_syntax.specs.Name.{name_bytes}
-use Rattle.prem_syntax.specs.SyntaxOf.{parameter_of, local_of, statements_of}
-use Rattle.prem_tiling.specs.Copies.Copied.{all_with_calls}
+use Rattle.prem_tiling.proofs.Prelude.{items_of, name_bytes, parameter_of, local_of, statements_of, all_with_calls, map, ap, ◌∙◌}
 use Rattle.prem_tiling.proofs.CopiesLemmas.Bridge.{all_calls_are_tiles}
 use Rattle.prem_tiling.proofs.copies.tiled.copy_function.Goals as goal
 

@@ -1,6 +1,4 @@
-use Rattle.std.proofs.Common.{◌≡◌, ◌+◌, ◌≤◌, drop, map, length}
-use Rattle.prem_syntax.specs.SyntaxOf.{item_of}
-use Rattle.prem_syntax.specs.Resolve.{functions_of}
+use Rattle.prem_tiling.proofs.Prelude.{functions_of, item_of, ◌≡◌, ◌+◌, ◌≤◌, drop, map, length}
 use Rattle.prem_tiling.proofs.copies.tiled.function_count.Given as goal
 
 abbrev pub invariant-items : goal.invariant-items

@@ -1,13 +1,8 @@
-use Rattle.std.proofs.Common.{◌≡◌, ◌+◌, ◌-◌, ◌<◌, ℕ, suc, ◌∷◌, ◌++◌, map, ap, sym, ◌∙◌, arith}
-use Rattle.prem_list.specs.Sequence.{items_of}
-use Rattle.prem_syntax.specs.Name.{name_bytes}
-use Rattle.prem_syntax.specs.declared.tree.Item.TheVariants as item
-use Rattle.prem_syntax.specs.Syntax.{FunctionText, function_item}
-use Rattle.prem_syntax.specs.SyntaxOf.{item_of}
-use Rattle.prem_tiling.specs.Shapes.Tiled.{tile_name, tiles_from}
-use Rattle.prem_tiling.specs.Copies.CutOf.{cut_in}
+use Rattle.prem_tiling.proofs.Prelude.{items_of, name_bytes, FunctionText, function_item, item_of, cut_in, tile_name, tiles_from, ◌≡◌, ◌+◌, ◌-◌, ◌<◌, ℕ, suc, ◌∷◌, ◌++◌, map, ap, sym, ◌∙◌}
+use Rattle.prem_tiling.proofs.Prelude.{arith}
 use Rattle.prem_tiling.proofs.CopiesLemmas.Looking.{map_push}
 use Rattle.prem_tiling.proofs.CopiesLemmas.TileNames.{names_count, name_at}
+use Rattle.prem_syntax.specs.declared.tree.Item.TheVariants as item
 use Rattle.prem_tiling.proofs.copies.tiled.push_tiles.Goals as goal
 
 pub bounds-names-t : goal.bounds-names-t

@@ -1,8 +1,4 @@
-use Rattle.std.proofs.Common.{◌≡◌, ◌-◌, ◌++◌, map}
-use Rattle.prem_list.specs.Sequence.{items_of}
-use Rattle.prem_syntax.specs.SyntaxOf.{item_of}
-use Rattle.prem_tiling.specs.Shapes.Tiled.{tiles_from}
-use Rattle.prem_tiling.specs.Copies.CutOf.{cut_in}
+use Rattle.prem_tiling.proofs.Prelude.{items_of, item_of, cut_in, tiles_from, ◌≡◌, ◌-◌, ◌++◌, map}
 use Rattle.prem_tiling.proofs.copies.tiled.push_tiles.Given as goal
 
 abbrev pub invariant-tiles : goal.invariant-tiles

@@ -1,8 +1,4 @@
-use Rattle.std.proofs.Common.{◌≡◌, ◌++◌, drop, map}
-use Rattle.prem_list.specs.Sequence.{items_of}
-use Rattle.prem_syntax.specs.SyntaxOf.{item_of}
-use Rattle.prem_tiling.specs.Shapes.Tiled.{tiled}
-use Rattle.prem_tiling.specs.Copies.CutOf.{cut_in}
+use Rattle.prem_tiling.proofs.Prelude.{items_of, item_of, cut_in, tiled, ◌≡◌, ◌++◌, drop, map}
 use Rattle.prem_tiling.proofs.copies.tiled.tiled.Given as goal
 
 abbrev pub invariant-items : goal.invariant-items

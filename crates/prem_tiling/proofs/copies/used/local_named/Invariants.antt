@@ -1,7 +1,4 @@
-use Rattle.std.proofs.Common.{◌≡◌, drop, map}
-use Rattle.prem_syntax.specs.SyntaxOf.{local_of}
-use Rattle.prem_syntax.specs.Breaches.{has_name}
-use Rattle.prem_tiling.specs.Shapes.Carried.{names_of}
+use Rattle.prem_tiling.proofs.Prelude.{has_name, local_of, names_of, ◌≡◌, drop, map}
 use Rattle.prem_tiling.proofs.copies.used.local_named.Given as goal
 
 abbrev pub invariant-locals : goal.invariant-locals

@@ -1,7 +1,4 @@
-use Rattle.std.proofs.Common.{◌≡◌, drop, map}
-use Rattle.prem_syntax.specs.SyntaxOf.{item_of}
-use Rattle.prem_syntax.specs.Resolve.{functions_of}
-use Rattle.prem_tiling.specs.Shapes.Shape.{marked_named}
+use Rattle.prem_tiling.proofs.Prelude.{functions_of, item_of, marked_named, ◌≡◌, drop, map}
 use Rattle.prem_tiling.proofs.copies.used.marked_named.Given as goal
 
 abbrev pub invariant-items : goal.invariant-items

@@ -1,12 +1,5 @@
-use Rattle.std.specs.Prelude.{nat_lt}
-use Rattle.std.specs.List.{list_any}
-use Rattle.std.proofs.Common.{◌≡◌, ◌+◌, ◌-◌, ◌≤◌, ℕ, suc, false, ◌||◌, List, ◌∷◌, ◌++◌, map, length, ap, sym, ◌∙◌, subst, arith}
-use Rattle.std.proofs.lemmas.Bool.{le-ltb}
-use Rattle.prem_list.specs.Sequence.{items_of}
-use Rattle.prem_syntax.specs.Name.{name_bytes}
-use Rattle.prem_syntax.specs.declared.name.Name.{Name}
-use Rattle.prem_syntax.specs.Syntax.{Text}
-use Rattle.prem_tiling.specs.Shapes.Tiled.{tile_name, tile_names}
+use Rattle.prem_tiling.proofs.Prelude.{items_of, name_bytes, Text, Name, tile_name, tile_names, ◌≡◌, ◌+◌, ◌-◌, ◌≤◌, ℕ, suc, false, ◌||◌, List, ◌∷◌, ◌++◌, map, length, ap, sym, ◌∙◌, subst}
+use Rattle.prem_tiling.proofs.Prelude.{arith, le-ltb, list_any, nat_lt}
 use Rattle.prem_tiling.proofs.CopiesLemmas.Looking.{map_push}
 use Rattle.prem_tiling.proofs.copies.used.names_of_tiles.Goals as goal
 

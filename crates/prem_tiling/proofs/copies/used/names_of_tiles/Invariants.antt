@@ -1,10 +1,4 @@
-use Rattle.std.specs.Prelude.{nat_lt}
-use Rattle.std.specs.List.{list_any}
-use Rattle.std.proofs.Common.{◌≡◌, ◌-◌, ◌++◌, map, length}
-use Rattle.prem_list.specs.Sequence.{items_of}
-use Rattle.prem_syntax.specs.Name.{name_bytes}
-use Rattle.prem_syntax.specs.Syntax.{Text}
-use Rattle.prem_tiling.specs.Shapes.Tiled.{tile_names}
+use Rattle.prem_tiling.proofs.Prelude.{items_of, name_bytes, Text, tile_names, ◌≡◌, ◌-◌, ◌++◌, map, length, list_any, nat_lt}
 use Rattle.prem_tiling.proofs.copies.used.names_of_tiles.Given as goal
 
 abbrev pub invariant-tiles : goal.invariant-tiles

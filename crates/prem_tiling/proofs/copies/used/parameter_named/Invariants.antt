@@ -1,6 +1,4 @@
-use Rattle.std.proofs.Common.{◌≡◌, drop, map}
-use Rattle.prem_syntax.specs.SyntaxOf.{parameter_of}
-use Rattle.prem_syntax.specs.Breaches.{has_name, parameter_texts}
+use Rattle.prem_tiling.proofs.Prelude.{has_name, parameter_texts, parameter_of, ◌≡◌, drop, map}
 use Rattle.prem_tiling.proofs.copies.used.parameter_named.Given as goal
 
 abbrev pub invariant-params : goal.invariant-params

@@ -1,9 +1,4 @@
-use Rattle.std.proofs.Common.{◌≡◌, ◌+◌, ◌-◌, suc, false, cond, Some, map, ap, sym, ◌∙◌, arith}
-use Rattle.prem_syntax.specs.Name.{name_bytes}
-use Rattle.prem_syntax.specs.Syntax.{Text}
-use Rattle.prem_syntax.specs.SyntaxOf.{item_of, program_of}
-use Rattle.prem_syntax.specs.Breaches.{has_name}
-use Rattle.prem_tiling.specs.Shapes.Tiled.{tile_name, used_names, taken_from}
+use Rattle.prem_tiling.proofs.Prelude.{has_name, name_bytes, Text, item_of, program_of, tile_name, used_names, taken_from, ◌≡◌, ◌+◌, ◌-◌, suc, false, cond, Some, map, ap, sym, ◌∙◌, arith}
 use Rattle.prem_tiling.proofs.CopiesLemmas.Looking.{not_found}
 use Rattle.prem_tiling.proofs.copies.used.taken.Goals as goal
 

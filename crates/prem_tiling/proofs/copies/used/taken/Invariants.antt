@@ -1,7 +1,4 @@
-use Rattle.std.proofs.Common.{◌≡◌, ◌-◌}
-use Rattle.prem_syntax.specs.Name.{name_bytes}
-use Rattle.prem_syntax.specs.SyntaxOf.{program_of}
-use Rattle.prem_tiling.specs.Shapes.Tiled.{used_names, taken_from}
+use Rattle.prem_tiling.proofs.Prelude.{name_bytes, program_of, used_names, taken_from, ◌≡◌, ◌-◌}
 use Rattle.prem_tiling.proofs.copies.used.taken.Given as goal
 
 abbrev pub invariant-tiles : goal.invariant-tiles

@@ -1,7 +1,4 @@
-use Rattle.std.proofs.Common.{◌≡◌, drop, map}
-use Rattle.prem_syntax.specs.SyntaxOf.{item_of}
-use Rattle.prem_syntax.specs.Breaches.{has_name}
-use Rattle.prem_tiling.specs.Shapes.Tiled.{used_names}
+use Rattle.prem_tiling.proofs.Prelude.{has_name, item_of, used_names, ◌≡◌, drop, map}
 use Rattle.prem_tiling.proofs.copies.used.used.Given as goal
 
 abbrev pub invariant-items : goal.invariant-items

@@ -1,13 +1,4 @@
-use Rattle.std.specs.Prelude.{IfSome, slice_index}
-use Rattle.std.proofs.Common.{◌≡◌, ℕ, subst}
-use Rattle.prem_plant.specs.declared.plant.Target.{Target}
-use Rattle.prem_isa.specs.declared.effect.Phase.{Phase}
-use Rattle.prem_isa.specs.declared.step.Upshot.TheVariants.{Stores}
-use Rattle.prem_isa.specs.Decode.{decode_of}
-use Rattle.prem_isa.specs.Step.{act_of, told_by}
-use Rattle.prem_cycle.specs.State.{Task}
-use Rattle.prem_machine.specs.declared.issue.task.TaskCore.TheInside.{Inside}
-use Rattle.prem_machine.specs.Issue.Fields.{core_task}
+use Rattle.prem_machine.proofs.Prelude.{Task, decode_of, act_of, told_by, Phase, Stores, core_task, Inside, Target, ◌≡◌, ℕ, subst, IfSome, slice_index}
 use Rattle.prem_machine.proofs.issue.task.TaskCore.stores.Goals as goal
 
 pub returns-clause-outcome : goal.returns-clause-outcome

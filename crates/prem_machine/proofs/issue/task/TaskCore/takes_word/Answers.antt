@@ -1,10 +1,4 @@
-use Rattle.std.proofs.Common.{◌≤◌, ◌+◌, ℕ, ◌∙◌, ap, arith}
-use Rattle.std.proofs.lemmas.Bool.Decides.{nat_tests}
-use Rattle.prem_word.specs.Bytes.{number_at}
-use Rattle.prem_plant.specs.declared.plant.Plant.{Plant}
-use Rattle.prem_lru.specs.CacheState.{view_of}
-use Rattle.prem_cycle.specs.Issue.{attempt_in}
-use Rattle.prem_machine.specs.Wanted.{takes_word}
+use Rattle.prem_machine.proofs.Prelude.{attempt_in, view_of, takes_word, Plant, number_at, ◌≤◌, ◌+◌, ℕ, ◌∙◌, ap, arith, nat_tests}
 use Rattle.prem_machine.proofs.Wanting.{takes_told}
 use Rattle.prem_machine.proofs.issue.task.TaskCore.takes_word.Goals as goal
 

@@ -1,6 +1,4 @@
-use Rattle.std.proofs.Common.{◌≡◌, drop}
-use Rattle.prem_tiling.specs.Copies.StaleOf.{walk_of}
-use Rattle.prem_tiling.specs.Copies.Walk.{lowered_all}
+use Rattle.prem_tiling.proofs.Prelude.{walk_of, lowered_all, ◌≡◌, drop}
 use Rattle.prem_tiling.proofs.copies.stale.Stale.settle_all.Given as goal
 
 abbrev pub invariant-numbers : goal.invariant-numbers

@@ -1,9 +1,6 @@
-use Rattle.std.specs.Prelude.{slice_set}
-use Rattle.std.specs.Vec.{with_items}
-use Rattle.std.proofs.Common.{◌≡◌, ◌∙◌, ◌+◌, ◌≤◌, ℕ, true, Bool, List, [], ◌∷◌, ◌++◌, length, ap, sym, arith}
-use Rattle.std.proofs.lemmas.List.{length-set, with_items_is}
-use Rattle.prem_tiling.specs.Copies.Walk.{undone}
+use Rattle.prem_tiling.proofs.Prelude.{undone, ◌≡◌, ◌∙◌, ◌+◌, ◌≤◌, true, Bool, List, [], ◌∷◌, ◌++◌, length, ap, sym, arith, length-set, with_items_is, slice_set}
 use Rattle.prem_tiling.proofs.CopiesLemmas.Trail.{walk_with, undone_last}
+use Rattle.std.specs.Vec.{with_items}
 use Rattle.prem_tiling.proofs.copies.stale.Stale.undo.Goals as goal
 
 pub trail-preserved-in-Some : goal.trail-preserved-in-Some

@@ -1,6 +1,4 @@
-use Rattle.std.proofs.Common.{◌≡◌}
-use Rattle.prem_tiling.specs.Copies.StaleOf.{walk_of}
-use Rattle.prem_tiling.specs.Copies.Walk.{undone}
+use Rattle.prem_tiling.proofs.Prelude.{walk_of, undone, ◌≡◌}
 use Rattle.prem_tiling.proofs.copies.stale.Stale.undo.Given as goal
 
 abbrev pub invariant-trail : goal.invariant-trail
